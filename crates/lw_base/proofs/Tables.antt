@@ -1,0 +1,91 @@
+-- Where a name stands in a table, and a table with one name more.
+use Rattle.lw_base.specs.Names.{IsLocation, EachOnce, IsTable}
+use Rattle.lw_base.specs.Tables.{is_there, with_name, place_of}
+use Rattle.std.specs.Str.{bytes_eq}
+use Rattle.std.proofs.lemmas.Bool.{false_from_ne_true, true≢false}
+use Rattle.std.specs.List.{AllByRecursion}
+use Rattle.std.proofs.lemmas.List.{map-append}
+use Rattle.std.proofs.lemmas.List.Elements.{Contains-push_cases, Contains-append_right}
+use Rattle.std.proofs.Common.{◌≤◌, ◌++◌, ◌||◌, ◌∷◌, length-append, ◌≡◌, ℕ, ◌<◌, ◌+◌, Bool, true, false, suc, zero, List, [], map, length, get_or, slice_get, Option, Some, None, MatchOption, Contains, ◌⊎◌, inl, inr, refl, ap, sym, ◌∙◌, subst, nat_eq, below_more, arith}
+use Rattle.std.specs.Option.{option_map, SomeIff}
+use Rattle.std.specs.Cmp.{unsigned_Decides}
+use Rattle.std.specs.Cmp.Lexicographic.{pointwise, pointwise_decides}
+use Rattle.std.proofs.lemmas.Option.{slice_get-map, slice_get_read, slice_get_within, get_or_from_slice_get}
+
+module _ {S : Type 0} (f : S → List ℕ) (ss : List S) (p : ℕ) (s : S) (t name : List ℕ) (lt : p < length ss) (is : s ≡ get_or ss p s) (text : t ≡ f s) where
+  at_place : slice_get (map f ss) p ≡ Some t
+  at_place = slice_get-map f ss p ∙ ap (option_map f) (slice_get_read ss (length ss) p s refl lt is) ∙ ap Some (sym text)
+
+  pub not_here : pointwise nat_eq t name ≡ false → get_or (map f ss) p [] ≡ name → ⊥
+  not_here other e =
+      let same : t ≡ name = sym (get_or_from_slice_get (map f ss) p t [] at_place) ∙ e in
+      true≢false (sym ((pointwise_decides unsigned_Decides t name).1 same) ∙ other)
+
+  pub here : (o : Option ℕ) → length ss < 9 → SomeIff o (p < 8) p → pointwise nat_eq t name ≡ true → MatchOption o (Contains (map f ss) name → ⊥) (λ loc. slice_get (map f ss) loc ≡ Some name)
+  here None few h same = absurd (h (omega arith))
+  here (Some loc) few h same =
+      subst (λ (i : ℕ). slice_get (map f ss) i ≡ Some name) (sym h.1) (at_place ∙ ap Some ((pointwise_decides unsigned_Decides t name).0 same))
+
+-- one more name that is none of them
+once_more : (ns : List (List ℕ)) (n : List ℕ) → EachOnce ns → (Contains ns n → ⊥) → EachOnce (ns ++ n ∷ [])
+once_more [] n once fresh = ((λ h. let k : h.0 < 0 = h.1 in absurd (omega arith)), tt)
+once_more (m ∷ ns) n once fresh =
+    ((λ h. apart (Contains-push_cases ns n m h)), once_more ns n once.1 (λ h. fresh (Contains-append_right (m ∷ []) ns n h)))
+  where
+    apart : Contains ns m ⊎ (n ≡ m) → ⊥
+    apart (inl h) = once.0 h
+    apart (inr e) = fresh (0, omega arith, sym e)
+
+all_more : (ns : List (List ℕ)) (n : List ℕ) → AllByRecursion IsLocation ns → IsLocation n → AllByRecursion IsLocation (ns ++ n ∷ [])
+all_more [] n all is = (is, tt)
+all_more (m ∷ ns) n all is = (all.0, all_more ns n all.1 is)
+
+pub table_more : {S : Type 0} (f : S → List ℕ) (ss ts : List S) (s : S) (name : List ℕ) → ts ≡ ss ++ s ∷ [] → f s ≡ name → length (map f ss) < 8 → IsLocation name → (Contains (map f ss) name → ⊥) → IsTable (map f ss) → IsTable (map f ts)
+table_more f ss ts s name more text few is fresh table =
+    let e : map f ts ≡ map f ss ++ name ∷ [] = ap (map f) more ∙ map-append f ss (s ∷ []) ∙ ap (λ n. map f ss ++ n ∷ []) text in
+    rw e (record {
+      few = omega (arith, length-append (map f ss) (name ∷ []));
+      all = all_more (map f ss) name table.all is;
+      once = once_more (map f ss) name table.once fresh;
+    })
+
+same_bytes : (a b : List ℕ) → a ≡ b → bytes_eq a b ≡ true
+same_bytes a b e = (pointwise_decides unsigned_Decides a b).1 e
+
+other_bytes : (a b : List ℕ) → (a ≡ b → ⊥) → bytes_eq a b ≡ false
+other_bytes a b n = false_from_ne_true (bytes_eq a b) (λ e. n ((pointwise_decides unsigned_Decides a b).0 e))
+
+or_right : (a : Bool) → (a || true) ≡ true
+or_right true = refl
+or_right false = refl
+
+-- a name that is in the table
+is_there-Contains : (names : List (List ℕ)) (n : List ℕ) → Contains names n → is_there names n ≡ true
+is_there-Contains [] n h = let k : h.0 < 0 = h.1 in absurd (omega arith)
+is_there-Contains (m ∷ names) n h = go h.0 h.1 h.2 (is_there-Contains names n)
+  where
+    go : (k : ℕ) → k < length (m ∷ names) → get_or (m ∷ names) k n ≡ n → (Contains names n → is_there names n ≡ true) → is_there (m ∷ names) n ≡ true
+    go zero l e further = rw (same_bytes m n e) refl
+    go (suc k) l e further = rw (further (k, omega arith, e)) (or_right (bytes_eq m n))
+
+is_there-not : (names : List (List ℕ)) (n : List ℕ) → (Contains names n → ⊥) → is_there names n ≡ false
+is_there-not [] n h = refl
+is_there-not (m ∷ names) n h = rw (other_bytes m n (λ e. h (0, omega arith, e)), is_there-not names n (λ k. h (Contains-append_right (m ∷ []) names n k))) refl
+
+pub with_name-there : (names : List (List ℕ)) (n : List ℕ) (l : ℕ) → slice_get names l ≡ Some n → with_name names n ≡ names
+with_name-there names n l at = rw (is_there-Contains names n (l, slice_get_within names l n at, get_or_from_slice_get names l n n at)) refl
+
+pub with_name-new : (names : List (List ℕ)) (n : List ℕ) → (Contains names n → ⊥) → with_name names n ≡ names ++ n ∷ []
+with_name-new names n fresh = rw (is_there-not names n fresh) refl
+
+pub place_of-at : (names : List (List ℕ)) (n : List ℕ) (l : ℕ) → EachOnce names → slice_get names l ≡ Some n → place_of names n ≡ l
+place_of-at [] n l once at = absurd cc
+place_of-at (m ∷ names) n zero once at = let e : m ≡ n = cc in rw (same_bytes m n e) refl
+place_of-at (m ∷ names) n (suc l) once at =
+    let other : m ≡ n → ⊥ = λ e. once.0 (l, slice_get_within names l m (at ∙ ap Some (sym e)), get_or_from_slice_get names l m m (at ∙ ap Some (sym e))) in
+    rw (other_bytes m n other) (ap (λ (k : ℕ). 1 + k) (place_of-at names n l once.1 at) ∙ omega arith)
+
+pub place_of-new : (names : List (List ℕ)) (n : List ℕ) → (Contains names n → ⊥) → place_of (names ++ n ∷ []) n ≡ length names
+place_of-new [] n fresh = rw (same_bytes n n refl) refl
+place_of-new (m ∷ names) n fresh =
+    rw (other_bytes m n (λ e. fresh (0, omega arith, e))) (ap (λ (k : ℕ). 1 + k) (place_of-new names n (λ k. fresh (Contains-append_right (m ∷ []) names n k))) ∙ omega arith)

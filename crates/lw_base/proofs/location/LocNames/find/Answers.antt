@@ -1,0 +1,17 @@
+use Rattle.std.proofs.Common.{arith, sym, ◌∙◌, below_more, length, ◌<◌}
+use Rattle.std.proofs.lemmas.List.{length-map}
+use Rattle.std.specs.String.{string_bytes}
+use Rattle.lw_base.proofs.Tables.{not_here, here}
+use Rattle.lw_base.proofs.location.LocNames.find.Goals as goal
+
+pub loop-place-preserved : goal.loop-place-preserved
+loop-place-preserved g c =
+    let within : c.loop-place.place < length c.deref-known-items.result.now = omega arith in
+    below_more _ _ c.loop-place.invariant (not_here string_bytes _ _ _ _ _ within c.known-item.is c.as_str.ensures.value (sym c.eq.ensures ∙ c.if-eq.false))
+
+pub returns-then-eq : goal.returns-then-eq
+returns-then-eq g c =
+    let within : c.loop-place.place < length c.deref-known-items.result.now = omega arith in
+    let few : length c.deref-known-items.result.now < 9 = omega (arith, length-map c.self.inside.names.items string_bytes, c.self.invariant.few, c.deref-known-items.ensures) in
+    let stands = here string_bytes _ _ _ _ _ within c.known-item.is c.as_str.ensures.value _ few c.new.ensures (sym c.eq.ensures ∙ c.if-eq.true) in
+    rw (← c.self.view_is, ← c.deref-known-items.ensures.value) stands

@@ -1,0 +1,6 @@
+use Rattle.std.proofs.Common.{◌≡◌, ℕ, ◌<◌, [], map, get_or}
+use Rattle.std.specs.String.{string_bytes}
+use Rattle.lw_base.proofs.location.LocNames.find.Given as goal
+
+abbrev pub invariant-loop-place : goal.invariant-loop-place
+invariant-loop-place g l = (k : ℕ) → k < l.place → get_or (map string_bytes l.known-items) k [] ≡ l.name → ⊥

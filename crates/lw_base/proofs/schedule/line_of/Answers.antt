@@ -1,0 +1,18 @@
+use Rattle.std.proofs.Common.{◌∙◌, ap, Some}
+use Rattle.std.proofs.lemmas.Bool.{false≢true}
+use Rattle.std.proofs.lemmas.Result.{err_from_is_err_and}
+use Rattle.lw_base.proofs.Words.{no_name, no_cpu, no_location, found}
+use Rattle.lw_base.proofs.schedule.line_of.Goals as goal
+
+pub returns-then-not-is_word_text-clause-err : goal.returns-then-not-is_word_text-clause-err
+returns-then-not-is_word_text-clause-err g c =
+    no_name _ _ _ _ c.in-Some.ensures.0 c.in-Some.ensures.1 c.len-len.ensures.table (λ l. false≢true (c.if-not-is_word_text.ensures.1 l))
+
+pub returns-in_err-cpu-clause-err : goal.returns-in_err-cpu-clause-err
+returns-in_err-cpu-clause-err g c =
+    let p = err_from_is_err_and c.from_residual.result c.from_residual.ensures.1 in
+    rw p.1 (no_cpu _ _ _ _ c.in-Some.ensures.0 c.in-Some.ensures.1 c.in_err-cpu.ensures.err)
+
+pub returns-in-Some-find-clause-ok : goal.returns-in-Some-find-clause-ok
+returns-in-Some-find-clause-ok g c =
+    found _ _ _ _ c.in-Some.ensures.0 c.in-Some.ensures.1 c.in_ok-cpu.cpu c.in-Some-find.loc c.in_ok-cpu.ensures.ok.0 c.in_ok-cpu.ensures.ok.1 (c.in-Some-find.ensures ∙ ap Some c.ascii_text.ensures)

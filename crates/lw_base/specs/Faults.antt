@@ -1,0 +1,36 @@
+-- How people are told why a cell or a schedule is refused: a number and a name.
+use Rattle.std.specs.Prelude.{ℕ, List, codes}
+use Rattle.lw_base.specs.declared.fault.CellCause.{CellCause}
+use Rattle.lw_base.specs.declared.fault.CellCause.TheVariants as cell
+use Rattle.lw_base.specs.declared.fault.ScheduleCause.{ScheduleCause}
+use Rattle.lw_base.specs.declared.fault.ScheduleCause.TheVariants as schedule
+
+abbrev pub cell_cause_number : CellCause → ℕ
+cell_cause_number cell.Form = 1
+cell_cause_number cell.Register = 2
+cell_cause_number cell.LabelMissing = 3
+cell_cause_number cell.LabelTwice = 4
+cell_cause_number cell.Backward = 5
+cell_cause_number cell.TooMany = 6
+cell_cause_number cell.Memory = 7
+
+abbrev pub cell_cause_name : CellCause → List ℕ
+cell_cause_name cell.Form = codes "Form"
+cell_cause_name cell.Register = codes "Register"
+cell_cause_name cell.LabelMissing = codes "LabelMissing"
+cell_cause_name cell.LabelTwice = codes "LabelTwice"
+cell_cause_name cell.Backward = codes "Backward"
+cell_cause_name cell.TooMany = codes "TooMany"
+cell_cause_name cell.Memory = codes "Memory"
+
+abbrev pub schedule_cause_number : ScheduleCause → ℕ
+schedule_cause_number schedule.Word = 1
+schedule_cause_number schedule.Cpu = 2
+schedule_cause_number schedule.Location = 3
+schedule_cause_number schedule.Memory = 4
+
+abbrev pub schedule_cause_name : ScheduleCause → List ℕ
+schedule_cause_name schedule.Word = codes "Word"
+schedule_cause_name schedule.Cpu = codes "Cpu"
+schedule_cause_name schedule.Location = codes "Location"
+schedule_cause_name schedule.Memory = codes "Memory"

@@ -1,0 +1,35 @@
+-- What the head of a test says.
+use Rattle.std.specs.Prelude.{ℕ, List}
+use Rattle.lw_base.specs.Formula.{Formula}
+use Rattle.lw_base.specs.Propositions.{formula_of}
+use Rattle.lw_base.specs.declared.head.Arch.{Arch}
+use Rattle.lw_base.specs.declared.head.Quant.{Quant}
+use Rattle.lw_base.specs.declared.head.Seen.{Seen}
+use Rattle.lw_base.specs.declared.head.Head.{Head}
+
+-- A name is its bytes. A location is its place in the table.
+pub record TestHead : Type 0 where
+  pub name : List ℕ
+  pub arch : Arch
+  pub threads : ℕ
+  pub locs : List (List ℕ)
+  pub init_regs : List (List ℕ)
+  pub init_words : List ℕ
+  pub listed : List Seen
+  pub quant : Quant
+  pub condition : Formula
+
+-- the head that a `Head` in memory is
+abbrev pub head_of : {A : Type 0} → Head A → TestHead
+head_of h =
+    record {
+      name = h.name;
+      arch = h.arch;
+      threads = h.threads;
+      locs = h.locs;
+      init_regs = h.init_regs;
+      init_words = h.init_words;
+      listed = h.listed;
+      quant = h.quant;
+      condition = formula_of h.prop;
+    }

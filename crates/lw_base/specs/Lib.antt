@@ -1,0 +1,11 @@
+pub mod Characters
+pub mod Names
+pub mod Tables
+pub mod Registers
+pub mod Formula
+pub mod Propositions
+pub mod Heads
+pub mod Outcomes
+pub mod Stops
+pub mod Faults
+pub mod Schedules

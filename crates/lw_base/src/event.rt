@@ -1,0 +1,15 @@
+//! What a schedule is made of.
+
+use crate::number::{Cpu, Loc};
+
+/// One act of the machine: a processor carries out its next instruction, or the oldest entry of its
+/// store buffer goes to memory, or its cache gives up a line.
+#[derive(Clone, Copy, Debug, PartialEq, Eq)]
+pub enum Event {
+    /// The next instruction (or source statement) of the processor.
+    Step(Cpu),
+    /// The oldest entry of the processor's store buffer goes to memory.
+    Drain(Cpu),
+    /// The processor's cache gives up its line of the location.
+    Evict(Cpu, Loc),
+}

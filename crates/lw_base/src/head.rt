@@ -1,0 +1,79 @@
+//! The head of a test: all that stands in it beside its threads' code.
+ghost use Rattle.std.specs.Prelude.{◌≡◌, IfOk};
+ghost use Rattle.lw_base.specs.Heads.{head_of};
+
+use crate::location::LocNames;
+use crate::number::{Cpu, Loc, Reg, Word};
+use crate::proposition::Prop;
+use crate::sequence::Sequence;
+use crate::text::Text;
+use std::alloc::{AllocError, Allocator, Global};
+
+/// The language of a test's threads.
+#[derive(Clone, Copy, Debug, PartialEq, Eq)]
+pub enum Arch {
+    /// The workbench's own source language, `SRC`.
+    Source,
+    /// x86 instructions, `X86`. Not read yet.
+    X86,
+}
+
+/// How a condition speaks of the final states.
+#[derive(Clone, Copy, Debug, PartialEq, Eq)]
+pub enum Quant {
+    /// Some final state makes the proposition true.
+    Exists,
+    /// None does. Not read yet.
+    NotExists,
+    /// All do. Not read yet.
+    Forall,
+}
+
+/// What a report shows of a final state: a thread's register, or a location.
+#[derive(Clone, Copy, Debug, PartialEq, Eq)]
+pub enum Seen {
+    Register(Cpu, Reg),
+    Location(Loc),
+}
+
+/// The head of a test.
+#[derive(Drop)]
+pub struct Head<A: Allocator = Global> {
+    /// The test's name.
+    pub name: Text<A>,
+    /// The language of its threads.
+    pub arch: Arch,
+    /// The number of its threads, 1 to 4.
+    pub threads: usize,
+    /// The table of its locations.
+    pub locs: LocNames<A>,
+    /// The initial words of the registers, six for each thread.
+    pub init_regs: Sequence<[Word; 6], A>,
+    /// The initial words of the locations, one for each name of the table.
+    pub init_words: Sequence<Word, A>,
+    /// What the line of observed names lists, each once and in order. Not read yet: empty.
+    pub listed: Sequence<Seen, A>,
+    /// How the condition speaks of the final states.
+    pub quant: Quant,
+    /// What the condition asks of a final state.
+    pub prop: Prop<A>,
+}
+
+impl<A: Allocator + Copy> Head<A> {
+    /// An equal head, over the same allocator.
+    pub fn copy(&self) -> Result<Self, AllocError>
+        ensures { IfOk result (λ h. head_of h ≡ head_of self.now) }
+    {
+        Ok(Head {
+            name: self.name.copy()?,
+            arch: self.arch,
+            threads: self.threads,
+            locs: self.locs.copy()?,
+            init_regs: self.init_regs.copy()?,
+            init_words: self.init_words.copy()?,
+            listed: self.listed.copy()?,
+            quant: self.quant,
+            prop: self.prop.copy(*self.locs.allocator())?,
+        })
+    }
+}

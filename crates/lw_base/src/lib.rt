@@ -1,0 +1,37 @@
+//! What all crates of the workbench share: the small numbers of a test (processors, locations,
+//! registers, words), outcomes, events and schedules, names, conditions and the head of a test.
+//!
+//! It names std alone. Everything here is a value; nothing here steps, reads a whole test or prints.
+//! Each type is seen by a contract as plain data of `specs/`: a number, a list, or a record of lists.
+#![tactic(auto)]
+
+mod event;
+mod fault;
+mod head;
+mod location;
+mod name;
+mod number;
+mod operand;
+mod outcome;
+mod proposition;
+mod register;
+mod schedule;
+mod sequence;
+mod stop;
+mod text;
+
+pub use event::Event;
+pub use fault::{CellCause, CellFault, ScheduleCause, ScheduleFault};
+pub use head::{Arch, Head, Quant, Seen};
+pub use location::LocNames;
+pub use name::{ascii_text, is_blank, is_location, is_name, is_numbered, is_word_byte, is_word_text};
+pub use number::{Cpu, Loc, Reg, Word};
+pub use operand::Operand;
+pub use outcome::Outcome;
+pub use proposition::Prop;
+pub use register::{reg_name, reg_named};
+pub use schedule::{a_text_has_one_schedule, read_schedule};
+pub use sequence::Sequence;
+pub use stop::{End, Replay, Stop};
+pub use text::Text;
+

@@ -1,0 +1,120 @@
+//! The table of a test's locations.
+ghost use Rattle.lw_base.specs.Names.{IsLocation, IsTable};
+ghost use Rattle.std.specs.Prelude.{◌≡◌, [], ◌∷◌, ◌++◌, ◌<◌, ◌≤◌, length, Contains, MatchOption, IfOk, OnOk, OnErr, OnSome, IfNone, Some, slice_get};
+ghost use Rattle.lw_base.specs.Tables.{with_name, place_of};
+
+use crate::number::Loc;
+use std::alloc::{AllocError, Allocator, Global};
+use std::marker::Model;
+
+/// Up to eight names of locations, each once. A location is its place in this table; a clause sees
+/// the list of the names.
+#[derive(Drop)]
+pub struct LocNames<A: Allocator = Global> {
+    names: Vec<String<A>, A>,
+}
+
+impl<A: Allocator> Model for LocNames<A> {
+    ghost use Rattle.std.specs.Prelude.{ℕ, List, map};
+    ghost use Rattle.std.specs.String.{string_bytes};
+    ghost use Rattle.lw_base.specs.Names.{IsTable};
+
+    ghost Value = { List (List ℕ) };
+
+    ghost view = { λ l. map string_bytes l.names.items };
+
+    ghost invariant = { λ l. IsTable (map string_bytes l.names.items) };
+}
+
+impl<A: Allocator> LocNames<A> {
+    /// No names. It takes no memory.
+    pub fn new(alloc: A) -> Self
+        ensures { result ≡ [] }
+    {
+        LocNames {
+            names: Vec::new(alloc),
+        }
+    }
+
+    /// The number of names.
+    pub fn len(&self) -> usize
+        ensures len { result ≡ length self.now }
+        ensures table { IsTable self.now }
+    {
+        self.names.len()
+    }
+
+    /// The name at a place.
+    pub fn name(&self, loc: Loc) -> &str
+        requires { loc < length self.now }
+        ensures { slice_get self.now loc ≡ Some result.now }
+    {
+        self.names[loc.index()].as_str()
+    }
+
+    /// The place of a name.
+    pub fn find(&self, name: &str) -> Option<Loc>
+        ensures { MatchOption result (¬ Contains self.now name.now) (λ loc. slice_get self.now loc ≡ Some name.now) }
+    {
+        for (place, known) in self.names.iter().enumerate() {
+            if known.as_str() == name {
+                return Loc::new(place as u8);
+            }
+        }
+        None
+    }
+
+    /// The allocator that holds the names.
+    pub fn allocator(&self) -> &A {
+        self.names.allocator()
+    }
+}
+
+impl<A: Allocator + Copy> LocNames<A> {
+    /// Puts a name last, and answers its place.
+    pub fn add(&mut self, name: &str) -> Result<Loc, AllocError>
+        requires few { length self.old < 8 }
+        requires name { IsLocation name.now }
+        requires fresh { ¬ Contains self.old name.now }
+        ensures place { IfOk result (λ loc. loc ≡ length self.old) }
+        ensures ok { OnOk result (self.new ≡ self.old ++ name.now ∷ []) }
+        ensures err { OnErr result (self.new ≡ self.old) }
+    {
+        let place = self.names.len();
+        let text = String::from_str(*self.names.allocator(), name)?;
+        self.names.push(text)?;
+        Ok(Loc::new(place as u8).unwrap())
+    }
+
+    /// The place of a name that appears: its own where it is there, else the last, where it is put.
+    /// `None` where it is a ninth name.
+    pub fn find_or_add(&mut self, name: &str) -> Result<Option<Loc>, AllocError>
+        requires { IsLocation name.now }
+        ensures place { IfOk result (λ o. MatchOption o (8 < length (with_name self.old name.now)) (λ loc. loc ≡ place_of self.new name.now)) }
+        ensures names { IfOk result (λ o. OnSome o (self.new ≡ with_name self.old name.now)) }
+        ensures full { IfOk result (λ o. IfNone o (self.new ≡ self.old)) }
+        ensures err { OnErr result (self.new ≡ self.old) }
+    {
+        let len = self.len();
+        if let Some(loc) = self.find(name) {
+            return Ok(Some(loc));
+        }
+        if len == 8 {
+            return Ok(None);
+        }
+        let loc = self.add(name)?;
+        Ok(Some(loc))
+    }
+
+    /// An equal table, over the same allocator.
+    pub fn copy(&self) -> Result<Self, AllocError>
+        ensures { IfOk result (λ names. names ≡ self.now) }
+    {
+        let alloc = *self.names.allocator();
+        let mut names = Vec::new(alloc);
+        for name in &self.names {
+            names.push(String::from_str(alloc, name.as_str())?)?;
+        }
+        Ok(LocNames { names })
+    }
+}

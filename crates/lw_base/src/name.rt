@@ -1,0 +1,131 @@
+//! The bytes of a text, and the names of locations and labels.
+ghost use Rattle.std.specs.Prelude.{◌≡◌, ◌↔◌, IsTrue, true, map};
+ghost use Rattle.std.specs.Str.{IsAscii, bytes_eq};
+ghost use Rattle.std.specs.Char.{to_ascii_lowercase, is_ascii_digit};
+ghost use Rattle.std.specs.List.{list_any, list_all, AllByRecursion};
+ghost use Rattle.lw_base.specs.Characters as characters;
+ghost use Rattle.lw_base.specs.Names.{IsWordText, IsName, IsLocation, keywords, x86_registers};
+ghost use Rattle.lw_base.specs.Names as names;
+
+use std::str;
+
+/// Whether the byte is a space, a tab, a line feed or a carriage return.
+pub fn is_blank(byte: u8) -> bool
+    ensures { result ≡ characters.is_blank byte }
+{
+    b" \t\n\r".contains(&byte)
+}
+
+/// Whether the byte is a letter, a digit or `_`.
+pub fn is_word_byte(byte: u8) -> bool
+    ensures { result ≡ characters.is_word_byte byte }
+{
+    byte.is_ascii_alphanumeric() || byte == b'_'
+}
+
+/// Whether the bytes are a letter or `_`, and then letters, digits and `_`.
+pub fn is_word_text(bytes: &[u8]) -> bool
+    ensures { IsTrue result ↔ IsWordText bytes.now }
+{
+    match bytes.first() {
+        None => false,
+        Some(first) if first.is_ascii_digit() => false,
+        Some(_) => are_word_bytes(bytes),
+    }
+}
+
+fn are_word_bytes(bytes: &[u8]) -> bool
+    ensures { IsTrue result ↔ AllByRecursion (λ b. characters.is_word_byte b ≡ true) bytes.now }
+{
+    bytes.iter().all(|byte| is_word_byte(*byte))
+}
+
+/// Whether the text is a name: such bytes, at most 32 of them.
+pub fn is_name(text: &str) -> bool
+    ensures { IsTrue result ↔ IsName text.now }
+{
+    text.len() <= 32 && is_word_text(text.as_bytes())
+}
+
+/// Whether the text can name a location or a label: a name that is not reserved.
+pub fn is_location(text: &str) -> bool
+    ensures { IsTrue result ↔ IsLocation text.now }
+{
+    is_name(text) && !is_reserved(text)
+}
+
+/// The text of bytes below 128.
+pub fn ascii_text(bytes: &[u8]) -> &str
+    requires { IsAscii bytes.now }
+    ensures { result.now ≡ bytes.now }
+{
+    match str::from_utf8(bytes) {
+        Ok(text) => text,
+        Err(_) => unreachable!(),
+    }
+}
+
+/// Whether two texts are equal but for the case of their letters.
+pub(crate) fn is_same_but_case(text: &str, other: &str) -> bool
+    ensures { result ≡ bytes_eq (map to_ascii_lowercase text.now) (map to_ascii_lowercase other.now) }
+{
+    text.eq_ignore_ascii_case(other)
+}
+
+fn is_reserved(text: &str) -> bool
+    ensures { result ≡ names.is_reserved text.now }
+{
+    is_numbered(text.as_bytes()) || is_keyword(text) || is_x86_register(text)
+}
+
+/// Whether the bytes are `r` and then digits alone.
+pub fn is_numbered(bytes: &[u8]) -> bool
+    ensures { result ≡ names.is_numbered bytes.now }
+{
+    let Some((first, rest)) = bytes.split_first() else {
+        return false;
+    };
+    *first == b'r' && are_digits(rest)
+}
+
+/// Whether the bytes are digits, one or more.
+pub(crate) fn are_digits(bytes: &[u8]) -> bool
+    ensures { result ≡ names.are_digits bytes.now }
+{
+    !bytes.is_empty() && are_all_digits(bytes)
+}
+
+fn are_all_digits(bytes: &[u8]) -> bool
+    ensures { result ≡ list_all is_ascii_digit bytes.now }
+{
+    bytes.iter().all(|byte| byte.is_ascii_digit())
+}
+
+fn is_keyword(text: &str) -> bool
+    ensures { result ≡ list_any (λ k. bytes_eq text.now k) keywords }
+{
+    text == "if"
+        || text == "goto"
+        || text == "swap"
+        || text == "fetchadd"
+        || text == "exists"
+        || text == "forall"
+        || text == "locations"
+        || text == "filter"
+        || text == "true"
+        || text == "false"
+        || text == "not"
+}
+
+fn is_x86_register(text: &str) -> bool
+    ensures { result ≡ list_any (λ r. bytes_eq (map to_ascii_lowercase text.now) r) x86_registers }
+{
+    is_same_but_case(text, "eax")
+        || is_same_but_case(text, "ebx")
+        || is_same_but_case(text, "ecx")
+        || is_same_but_case(text, "edx")
+        || is_same_but_case(text, "esi")
+        || is_same_but_case(text, "edi")
+        || is_same_but_case(text, "ebp")
+        || is_same_but_case(text, "esp")
+}

@@ -1,0 +1,28 @@
+//! What is left at the end of a run. A clause sees an outcome as a record of two lists.
+
+use crate::number::Word;
+use crate::sequence::Sequence;
+use std::alloc::{Allocator, Global};
+use std::marker::Model;
+
+/// The final registers and memory of a run: six words for each thread, and one word for each
+/// location of the table.
+///
+/// Outcomes are ordered by their lists of registers (the first thread's in order, then the next
+/// thread's and on), then by their words, each lexicographically, a list before its longer ones.
+#[derive(Drop)]
+#[derive_where(PartialEq, Eq, PartialOrd, Ord, Hash, Debug)]
+pub struct Outcome<A: Allocator = Global> {
+    pub regs: Sequence<[Word; 6], A>,
+    pub words: Sequence<Word, A>,
+}
+
+impl<A: Allocator> Model for Outcome<A> {
+    ghost use Rattle.lw_base.specs.Outcomes.{Final};
+
+    ghost Value = { Final };
+
+    ghost view = { λ o. record { regs = o.regs; words = o.words } };
+
+    ghost inverse = { λ f. record { regs = f.regs; words = f.words } };
+}

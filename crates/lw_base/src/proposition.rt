@@ -1,0 +1,49 @@
+//! Propositions over final states. A clause sees a proposition as a formula without boxes.
+ghost use Rattle.std.specs.Prelude.{◌≡◌, IfOk};
+ghost use Rattle.lw_base.specs.Propositions.{formula_of};
+
+use crate::number::{Cpu, Loc, Reg, Word};
+use std::alloc::{AllocError, Allocator, Global};
+
+/// What a condition asks of a final state.
+#[derive(Drop)]
+#[derive_where(PartialEq, Eq, Debug)]
+pub enum Prop<A: Allocator = Global> {
+    /// True in every state.
+    Always,
+    /// True in no state.
+    Never,
+    /// The thread's register ends with the word.
+    RegIs(Cpu, Reg, Word),
+    /// The location ends with the word.
+    WordIs(Loc, Word),
+    /// Not so.
+    Neg(Box<Prop<A>, A>),
+    /// Both are so.
+    Both(Box<Prop<A>, A>, Box<Prop<A>, A>),
+    /// One of them is so, or both.
+    Either(Box<Prop<A>, A>, Box<Prop<A>, A>),
+}
+
+impl<A: Allocator + Copy> Prop<A> {
+    /// An equal proposition.
+    pub fn copy(&self, alloc: A) -> Result<Self, AllocError>
+        ensures { IfOk result (λ p. formula_of p ≡ formula_of self.now) }
+    {
+        Ok(match self {
+            Prop::Always => Prop::Always,
+            Prop::Never => Prop::Never,
+            Prop::RegIs(cpu, reg, word) => Prop::RegIs(*cpu, *reg, *word),
+            Prop::WordIs(loc, word) => Prop::WordIs(*loc, *word),
+            Prop::Neg(prop) => Prop::Neg(Box::new(alloc, prop.copy(alloc)?)?),
+            Prop::Both(left, right) => {
+                let left = Box::new(alloc, left.copy(alloc)?)?;
+                Prop::Both(left, Box::new(alloc, right.copy(alloc)?)?)
+            }
+            Prop::Either(left, right) => {
+                let left = Box::new(alloc, left.copy(alloc)?)?;
+                Prop::Either(left, Box::new(alloc, right.copy(alloc)?)?)
+            }
+        })
+    }
+}

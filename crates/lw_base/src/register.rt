@@ -1,0 +1,52 @@
+//! The names of registers.
+ghost use Rattle.std.specs.Prelude.{◌≡◌, ◌==◌, ℕ, MatchOption};
+ghost use Rattle.std.specs.Str.{bytes_eq};
+ghost use Rattle.lw_base.specs.Registers.{register_name, without_case, IsRegister};
+
+use crate::head::Arch;
+use crate::name::is_same_but_case;
+use crate::number::Reg;
+
+/// The name of a register as it is printed: `r0` to `r5` in source tests; `EAX`, `EBX`, `ECX`,
+/// `EDX`, `ESI` and `EDI` in x86 tests.
+pub fn reg_name(arch: Arch, reg: Reg) -> &'static str
+    ensures { result.now ≡ register_name arch reg }
+{
+    match (arch, reg.index()) {
+        (Arch::Source, 0) => "r0",
+        (Arch::Source, 1) => "r1",
+        (Arch::Source, 2) => "r2",
+        (Arch::Source, 3) => "r3",
+        (Arch::Source, 4) => "r4",
+        (Arch::Source, _) => "r5",
+        (Arch::X86, 0) => "EAX",
+        (Arch::X86, 1) => "EBX",
+        (Arch::X86, 2) => "ECX",
+        (Arch::X86, 3) => "EDX",
+        (Arch::X86, 4) => "ESI",
+        (Arch::X86, _) => "EDI",
+    }
+}
+
+/// The register of that name, those of x86 in any case.
+pub fn reg_named(arch: Arch, name: &str) -> Option<Reg>
+    ensures { MatchOption result ((r : ℕ) → IsRegister arch name.now r → ⊥) (λ r. IsRegister arch name.now r) }
+{
+    for number in 0..6 {
+        let reg = Reg::new(number)?;
+        if is_named(arch, reg, name) {
+            return Some(reg);
+        }
+    }
+    None
+}
+
+fn is_named(arch: Arch, reg: Reg, name: &str) -> bool
+    ensures { result ≡ bytes_eq (without_case arch (register_name arch reg)) (without_case arch name.now) }
+{
+    let known = reg_name(arch, reg);
+    match arch {
+        Arch::Source => return known == name,
+        Arch::X86 => return is_same_but_case(known, name),
+    }
+}

@@ -1,0 +1,74 @@
+-- The text of a replay, one part more.
+use Rattle.std.proofs.Common.{◌≡◌, ℕ, zero, suc, ◌<◌, ◌+◌, Option, Some, None, List, [], ◌∷◌, ◌++◌, length, map, drop, slice_get, get_or, refl, sym, ap, ◌∙◌, subst, append_assoc, arith}
+use Rattle.std.specs.Prelude.{codes, slice_index}
+use Rattle.std.specs.List.{flat_map}
+use Rattle.std.specs.Option.{option_map}
+use Rattle.std.specs.Fmt.{decimal}
+use Rattle.std.proofs.lemmas.List.{append-nil}
+use Rattle.std.proofs.lemmas.Grind.{flat_map-append}
+use Rattle.std.proofs.lemmas.Option.{slice_get-map, slice_get_within, get_or_from_slice_get}
+use Rattle.std.proofs.Math.Seq.{drop-cons}
+use Rattle.lw_base.specs.declared.head.Arch.{Arch}
+use Rattle.lw_base.specs.Registers.{register_name}
+use Rattle.lw_source.specs.declared.thread.Thread.{Thread}
+use Rattle.lw_bench.specs.Pages.{spaced, line, assignment, registers, thread_line, thread_lines, memory_parts}
+
+drop_at : {X : Type 0} (xs : List X) (k : ℕ) (x : X) → slice_get xs k ≡ Some x → drop k xs ≡ x ∷ drop (k + 1) xs
+drop_at xs k x at =
+    let next : suc k ≡ k + 1 = omega arith in
+    drop-cons xs k x (slice_get_within xs k x at) ∙ ap (λ y. y ∷ drop (suc k) xs) (get_or_from_slice_get xs k x x at) ∙ ap (λ (n : ℕ). x ∷ drop n xs) next
+
+-- one location more
+pub memory_more : (names : List (List ℕ)) (words : List ℕ) (k w : ℕ) (name out new goal : List ℕ) → slice_get names k ≡ Some name → slice_get words k ≡ Some w → out ++ spaced (memory_parts (drop k names) (drop k words)) ≡ goal → new ≡ out ++ (32 ∷ (name ++ (61 ∷ decimal w))) → new ++ spaced (memory_parts (drop (k + 1) names) (drop (k + 1) words)) ≡ goal
+memory_more names words k w name out new goal at_name at_word before written =
+    let rest = spaced (memory_parts (drop (k + 1) names) (drop (k + 1) words)) in
+    let parts : spaced (memory_parts (drop k names) (drop k words)) ≡ (32 ∷ (name ++ (61 ∷ decimal w))) ++ rest =
+      rw (drop_at names k name at_name, drop_at words k w at_word) refl in
+    ap (λ t. t ++ rest) written ∙ append_assoc out (32 ∷ (name ++ (61 ∷ decimal w))) rest ∙ ap (λ t. out ++ t) (sym parts) ∙ before
+
+-- what is read of a thread, by a list of it for all threads
+pub at_thread : (f : Thread → ℕ) (threads : List Thread) (k w : ℕ) (th : Thread) → slice_get threads k ≡ Some th → slice_get (map f threads) k ≡ Some w → w ≡ f th
+at_thread f threads k w th at read =
+    let e : Some (f th) ≡ Some w = sym (slice_get-map f threads k ∙ ap (option_map f) at) ∙ read in
+    cc
+
+spaced-push : (parts : List (List ℕ)) (part : List ℕ) → spaced (parts ++ part ∷ []) ≡ spaced parts ++ (32 ∷ part)
+spaced-push parts part = flat_map-append (λ p. 32 ∷ p) parts (part ∷ []) ∙ ap (λ t. spaced parts ++ t) (append-nil (32 ∷ part))
+
+-- one register more
+pub registers_more : (arch : Arch) (regs : List ℕ) (n w : ℕ) (name start out new : List ℕ) → name ≡ register_name arch n → w ≡ slice_index regs n → out ≡ start ++ spaced (registers arch regs n) → new ≡ out ++ (32 ∷ (name ++ (61 ∷ decimal w))) → new ≡ start ++ spaced (registers arch regs (n + 1))
+registers_more arch regs n w name start out new named read before written =
+    let part = assignment (register_name arch n) (slice_index regs n) in
+    let next : suc n ≡ n + 1 = omega arith in
+    let more : spaced (registers arch regs (n + 1)) ≡ spaced (registers arch regs n) ++ (32 ∷ part) =
+      ap (λ (k : ℕ). spaced (registers arch regs k)) (sym next) ∙ spaced-push (registers arch regs n) part in
+    let last : new ≡ out ++ (32 ∷ part) = written ∙ rw (named, read) refl in
+    last ∙ ap (λ t. t ++ (32 ∷ part)) before ∙ append_assoc start (spaced (registers arch regs n)) (32 ∷ part) ∙ ap (λ t. start ++ t) (sym more)
+
+line_parts : (start d p s : List ℕ) → ((start ++ (80 ∷ (d ++ (32 ∷ 97 ∷ 116 ∷ 32 ∷ p)))) ++ s) ++ 10 ∷ [] ≡ start ++ ((80 ∷ d) ++ (((32 ∷ 97 ∷ 116 ∷ []) ++ ((32 ∷ p) ++ s)) ++ 10 ∷ []))
+line_parts start d p s = simp append_assoc
+
+-- a thread's line
+pub thread_written : (arch : Arch) (t n p : ℕ) (th : Thread) (start first out new : List ℕ) → n ≡ 6 → p ≡ th.position → first ≡ start ++ (80 ∷ (decimal t ++ (32 ∷ 97 ∷ 116 ∷ 32 ∷ decimal p))) → out ≡ first ++ spaced (registers arch th.regs n) → new ≡ out ++ 10 ∷ [] → new ≡ start ++ thread_line arch t th
+thread_written arch t n p th start first out new six at begun told ended =
+    let s = spaced (registers arch th.regs n) in
+    let whole : new ≡ ((start ++ (80 ∷ (decimal t ++ (32 ∷ 97 ∷ 116 ∷ 32 ∷ decimal p)))) ++ s) ++ 10 ∷ [] =
+      ended ∙ ap (λ x. x ++ 10 ∷ []) (told ∙ ap (λ x. x ++ s) begun) in
+    let told_line : List ℕ → List ℕ → List ℕ = λ q r. start ++ ((80 ∷ decimal t) ++ (((32 ∷ 97 ∷ 116 ∷ []) ++ ((32 ∷ q) ++ r)) ++ 10 ∷ [])) in
+    whole ∙ line_parts start (decimal t) (decimal p) s
+    ∙ ap (λ (q : ℕ). told_line (decimal q) s) at ∙ ap (λ (k : ℕ). told_line (decimal th.position) (spaced (registers arch th.regs k))) six
+
+there : {X : Type 0} (xs : List X) (k : ℕ) → k < length xs → (x : X) × (slice_get xs k ≡ Some x)
+there [] k h = absurd (omega arith)
+there (x ∷ xs) zero h = (x, refl)
+there (x ∷ xs) (suc k) h = there xs k (omega arith)
+
+-- one thread more
+pub threads_more : (arch : Arch) (threads : List Thread) (k : ℕ) (out new goal : List ℕ) → k < length threads → out ++ thread_lines arch k (drop k threads) ≡ goal → ((th : Thread) → slice_get threads k ≡ Some th → new ≡ out ++ thread_line arch k th) → new ++ thread_lines arch (k + 1) (drop (k + 1) threads) ≡ goal
+threads_more arch threads k out new goal within before written =
+    let here = there threads k within in
+    let next : suc k ≡ k + 1 = omega arith in
+    let rest = thread_lines arch (k + 1) (drop (k + 1) threads) in
+    let parts : thread_lines arch k (drop k threads) ≡ thread_line arch k here.0 ++ rest =
+      ap (thread_lines arch k) (drop_at threads k here.0 here.1) ∙ ap (λ (n : ℕ). thread_line arch k here.0 ++ thread_lines arch n (drop (k + 1) threads)) next in
+    ap (λ t. t ++ rest) (written here.0 here.1) ∙ append_assoc out (thread_line arch k here.0) rest ∙ ap (λ t. out ++ t) (sym parts) ∙ before

@@ -1,0 +1,8 @@
+-- The words of a command.
+use Rattle.std.specs.Prelude.{◌≡◌, ℕ, List, [], ◌∷◌, map, codes}
+use Rattle.lw_bench.specs.declared.command.Task.{Task}
+use Rattle.lw_bench.specs.declared.command.Task.TheVariants.{Replay}
+
+-- the words that give a task: `replay` and a schedule
+abbrev pub words_of : Task → List (List ℕ)
+words_of (Replay schedule) = codes "replay" ∷ schedule.now ∷ []

@@ -1,0 +1,68 @@
+-- How people are told why a run is refused, or how it ended: a line and an exit status.
+use Rattle.std.specs.Prelude.{ℕ, List, ◌++◌, codes}
+use Rattle.std.specs.Fmt.{decimal}
+use Rattle.lw_base.specs.Faults.{cell_cause_number, cell_cause_name, schedule_cause_number, schedule_cause_name}
+use Rattle.lw_base.specs.declared.fault.CellCause.{CellCause}
+use Rattle.lw_base.specs.declared.fault.CellCause.TheVariants as cell
+use Rattle.lw_base.specs.declared.fault.CellFault.{CellFault}
+use Rattle.lw_base.specs.declared.fault.ScheduleCause.{ScheduleCause}
+use Rattle.lw_base.specs.declared.fault.ScheduleCause.TheVariants as schedule
+use Rattle.lw_base.specs.declared.fault.ScheduleFault.{ScheduleFault}
+use Rattle.lw_base.specs.declared.stop.End.{End}
+use Rattle.lw_base.specs.declared.stop.End.TheVariants as at
+use Rattle.lw_text.specs.Causes.{text_cause_number, text_cause_name}
+use Rattle.lw_text.specs.declared.fault.TextCause.{TextCause}
+use Rattle.lw_text.specs.declared.fault.TextCause.TheVariants as text
+use Rattle.lw_text.specs.declared.fault.TextFault.{TextFault}
+use Rattle.lw_bench.specs.declared.fault.BenchFault.{BenchFault}
+use Rattle.lw_bench.specs.declared.fault.BenchFault.TheVariants.{Text, Cell, Schedule, Memory, Read, Write}
+
+-- every want of memory is told as that
+abbrev pub text_fault : TextFault → TextCause → BenchFault
+text_fault f text.Memory = Memory
+text_fault f _ = Text f
+
+abbrev pub told_text : TextFault → BenchFault
+told_text f = text_fault f f.cause
+
+abbrev pub cell_fault : CellFault → CellCause → BenchFault
+cell_fault f cell.Memory = Memory
+cell_fault f _ = Cell f
+
+abbrev pub told_cell : CellFault → BenchFault
+told_cell f = cell_fault f f.cause
+
+abbrev pub schedule_fault : ScheduleFault → ScheduleCause → BenchFault
+schedule_fault f schedule.Memory = Memory
+schedule_fault f _ = Schedule f
+
+abbrev pub told_schedule : ScheduleFault → BenchFault
+told_schedule f = schedule_fault f f.cause
+
+-- the kind of the fault, its number and name, and its place
+abbrev pub placed_text : List ℕ → ℕ → List ℕ → ℕ → List ℕ
+placed_text kind number name place =
+    codes "lw: " ++ (kind ++ (codes " " ++ (decimal number ++ (codes " " ++ (name ++ (codes " at " ++ decimal place))))))
+
+-- the line, without its end
+abbrev pub fault_text : BenchFault → List ℕ
+fault_text (Text f) = placed_text (codes "text") (text_cause_number f.cause) (text_cause_name f.cause) f.at
+fault_text (Cell f) = placed_text (codes "cell") (cell_cause_number f.cause) (cell_cause_name f.cause) f.at
+fault_text (Schedule f) = placed_text (codes "schedule") (schedule_cause_number f.cause) (schedule_cause_name f.cause) f.at
+fault_text Memory = codes "lw: memory"
+fault_text Read = codes "lw: read failed"
+fault_text Write = codes "lw: write failed"
+
+-- 1: what was given is refused. 4: memory or a device
+abbrev pub status : BenchFault → ℕ
+status (Text f) = 1
+status (Cell f) = 1
+status (Schedule f) = 1
+status Memory = 4
+status Read = 4
+status Write = 4
+
+abbrev pub end_status : End → ℕ
+end_status at.Final = 0
+end_status at.NotFinal = 1
+end_status (at.Stopped stop) = 1

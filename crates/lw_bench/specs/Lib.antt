@@ -1,0 +1,5 @@
+pub mod Faults
+pub mod Devices
+pub mod Pages
+pub mod Replays
+pub mod Commands

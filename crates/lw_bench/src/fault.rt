@@ -1,0 +1,117 @@
+//! Why a run of the workbench is refused, and how people are told of it.
+ghost use Rattle.std.specs.Prelude.{◌≡◌, IfOk};
+ghost use Rattle.std.specs.String.{string_bytes};
+ghost use Rattle.lw_bench.specs.declared.fault.BenchFault.TheVariants as bench;
+ghost use Rattle.lw_bench.specs.Faults as faults;
+ghost use Rattle.lw_bench.specs.Faults.{told_text, told_cell, told_schedule, fault_text};
+
+use lw_base::{CellCause, CellFault, End, ScheduleCause, ScheduleFault};
+use lw_text::{TextCause, TextFault};
+use std::alloc::{AllocError, AllocFailed, Allocator};
+
+/// Why a run is refused. Every want of memory is `Memory`.
+#[derive(Clone, Copy, Debug, PartialEq, Eq)]
+pub enum BenchFault {
+    /// The text is not in the format.
+    Text(TextFault),
+    /// A cell of the text is not in the language of its test.
+    Cell(CellFault),
+    /// The schedule is none for the test.
+    Schedule(ScheduleFault),
+    /// There was no memory.
+    Memory,
+    /// The reader failed.
+    Read,
+    /// The writer failed.
+    Write,
+}
+
+impl From<AllocError> for BenchFault {
+    ghost from_gives = { λ _ f. f ≡ bench.Memory };
+
+    fn from(_error: AllocError) -> BenchFault {
+        BenchFault::Memory
+    }
+}
+
+impl<T: Drop> From<AllocFailed<T>> for BenchFault {
+    ghost from_gives = { λ _ f. f ≡ bench.Memory };
+
+    fn from(_error: AllocFailed<T>) -> BenchFault {
+        BenchFault::Memory
+    }
+}
+
+impl From<TextFault> for BenchFault {
+    ghost from_gives = { λ e f. f ≡ told_text e };
+
+    fn from(fault: TextFault) -> BenchFault {
+        if fault.cause == TextCause::Memory {
+            return BenchFault::Memory;
+        }
+        BenchFault::Text(fault)
+    }
+}
+
+impl From<CellFault> for BenchFault {
+    ghost from_gives = { λ e f. f ≡ told_cell e };
+
+    fn from(fault: CellFault) -> BenchFault {
+        if fault.cause == CellCause::Memory {
+            return BenchFault::Memory;
+        }
+        BenchFault::Cell(fault)
+    }
+}
+
+impl From<ScheduleFault> for BenchFault {
+    ghost from_gives = { λ e f. f ≡ told_schedule e };
+
+    fn from(fault: ScheduleFault) -> BenchFault {
+        if fault.cause == ScheduleCause::Memory {
+            return BenchFault::Memory;
+        }
+        BenchFault::Schedule(fault)
+    }
+}
+
+/// The line that tells of a fault, without a line end.
+pub fn fault_line<A: Allocator + Copy>(alloc: A, fault: &BenchFault) -> Result<String<A>, AllocError>
+    ensures { IfOk result (λ line. string_bytes line ≡ fault_text fault.now) }
+{
+    match fault {
+        BenchFault::Text(fault) => {
+            format!(in alloc; "lw: text {} {} at {}", fault.cause.number(), fault.cause.name(), fault.at)
+        }
+        BenchFault::Cell(fault) => {
+            format!(in alloc; "lw: cell {} {} at {}", fault.cause.number(), fault.cause.name(), fault.at)
+        }
+        BenchFault::Schedule(fault) => {
+            format!(in alloc; "lw: schedule {} {} at {}", fault.cause.number(), fault.cause.name(), fault.at)
+        }
+        BenchFault::Memory => String::from_str(alloc, "lw: memory"),
+        BenchFault::Read => String::from_str(alloc, "lw: read failed"),
+        BenchFault::Write => String::from_str(alloc, "lw: write failed"),
+    }
+}
+
+/// The exit status that tells of a fault: 1 where the text, a cell or the schedule is refused, and 4
+/// for memory and devices.
+pub fn status_of(fault: &BenchFault) -> u8
+    ensures { result ≡ faults.status fault.now }
+{
+    match fault {
+        BenchFault::Text(_) | BenchFault::Cell(_) | BenchFault::Schedule(_) => 1,
+        BenchFault::Memory | BenchFault::Read | BenchFault::Write => 4,
+    }
+}
+
+/// The exit status of a replay: 0 where it ended in a final state, else 1.
+pub fn end_status(end: End) -> u8
+    ensures { result ≡ faults.end_status end }
+{
+    match end {
+        End::Final => 0,
+        End::NotFinal | End::Stopped(_) => 1,
+    }
+}

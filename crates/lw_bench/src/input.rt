@@ -1,0 +1,47 @@
+//! Reads all that comes, up to one byte more than a text may have.
+ghost use Rattle.std.specs.Prelude.{◌≡◌, ◌≢◌, ℕ, ◌+◌, ◌<◌, ◌≤◌, false, true, if◌then◌else◌, ◌++◌, length, take, IfOk, IfErr, OnOk, OnErr};
+ghost use Rattle.std.specs.Io.KnownBytes.{Consumes, IsAtEnd};
+ghost use Rattle.lw_bench.specs.Devices.{IsInput, Gets};
+
+use crate::device::ByteReader;
+use crate::fault::BenchFault;
+use std::alloc::Allocator;
+
+/// Reading ends once this many bytes have come: one more than a text may have.
+const END: usize = 65537;
+
+/// How many bytes are asked for at once.
+const CHUNK: usize = 4096;
+
+/// The bytes of the reader, to its end or up to 65,537.
+pub(crate) fn read_input<R: ByteReader, A: Allocator>(alloc: A, reader: &mut R) -> Result<Vec<u8, A>, BenchFault>
+    requires { R.failed reader.old ≡ false }
+    ensures bytes { IfOk result (λ bytes. IsInput (R.remaining reader.old) bytes.items) }
+    ensures failed { OnOk result (R.failed reader.new ≡ false) }
+    ensures err { IfErr result (λ f. f ≡ (if R.failed reader.new then BenchFault.Read else BenchFault.Memory)) }
+{
+    let mut bytes = Vec::new(alloc);
+    while bytes.len() < END {
+        if pull_chunk(reader, &mut bytes)? == 0 {
+            return Ok(bytes);
+        }
+    }
+    Ok(bytes)
+}
+
+/// Adds the bytes that come next, at most as many as are still to be read, and answers how many.
+fn pull_chunk<R: ByteReader, A: Allocator>(reader: &mut R, bytes: &mut Vec<u8, A>) -> Result<usize, BenchFault>
+    requires working { R.failed reader.old ≡ false }
+    requires room { length bytes.old.items < 65537 }
+    ensures bytes { IfOk result (λ n. Gets (R.remaining reader.old) (R.remaining reader.new) bytes.old.items bytes.new.items n) }
+    ensures failed { OnOk result (R.failed reader.new ≡ false) }
+    ensures err { IfErr result (λ f. f ≡ (if R.failed reader.new then BenchFault.Read else BenchFault.Memory)) }
+{
+    let mut chunk = [0; CHUNK];
+    let room = CHUNK.min(END - bytes.len());
+    let Ok(count) = reader.pull(&mut chunk[..room]) else {
+        return Err(BenchFault::Read);
+    };
+    bytes.extend_from_slice(&chunk[..count])?;
+    Ok(count)
+}

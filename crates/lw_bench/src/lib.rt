@@ -1,0 +1,15 @@
+//! The runs of the workbench: from the bytes of a test to the bytes of what is told of it.
+#![tactic(auto)]
+
+mod command;
+mod device;
+mod fault;
+mod input;
+mod output;
+mod page;
+mod replay;
+
+pub use command::{Task, command_of};
+pub use replay::replay_text;
+pub use fault::{BenchFault, end_status, fault_line, status_of};
+pub use device::{ByteReader, ByteWriter, Failed, FromRead, ToWrite};

@@ -1,0 +1,70 @@
+//! The replay of a test by a schedule, from the bytes that come in to the bytes that go out.
+ghost use Rattle.std.specs.Prelude.{◌≡◌, ◌≢◌, ◌↔◌, ℕ, List, true, false, if◌then◌else◌, Err, IfOk, IfErr, OnErr, OnOk, ◌⊎◌};
+ghost use Rattle.std.specs.String.{string_bytes};
+ghost use Rattle.lw_source.specs.Views.{source_of};
+ghost use Rattle.lw_bench.specs.Replays.{HasTest, Replayed, RefusesTest, RefusesSchedule, Written, Refuses};
+
+use crate::device::{ByteReader, ByteWriter, Failed};
+use crate::fault::BenchFault;
+use crate::input::read_input;
+use crate::output::write_output;
+use crate::page::replay_page;
+use lw_base::{End, read_schedule};
+use lw_source::{Source, SourceRun, read_source};
+use lw_text::{a_text_has_one_frame, read_frame};
+use std::alloc::Allocator;
+
+/// The test that the bytes are.
+fn read_test<A: Allocator + Copy>(alloc: A, text: &[u8]) -> Result<Source<A>, BenchFault>
+    ensures found { IfOk result (λ source. HasTest text.now (source_of source)) }
+    ensures fault { IfErr result (RefusesTest text.now) }
+{
+    let frame = read_frame(alloc, text)?;
+    // The text has no other frame, so a fault of its cells says that there is no test.
+    a_text_has_one_frame();
+    Ok(read_source(alloc, &frame)?)
+}
+
+/// The page that tells of the replay of a test by a schedule, and how the replay ended.
+fn page_of<A: Allocator + Copy>(alloc: A, source: &Source<A>, schedule: &str) -> Result<(String<A>, End), BenchFault>
+    ensures found { IfOk result (λ x. Replayed (source_of source.now) schedule.now (string_bytes x.0) x.1) }
+    ensures fault { IfErr result (RefusesSchedule (source_of source.now) schedule.now) }
+{
+    let events = read_schedule(alloc, schedule, &source.head.locs)?;
+    let mut run = SourceRun::new(alloc, source)?;
+    let replay = run.run(events.as_slice());
+    let page = replay_page(alloc, &source.head, &run, replay)?;
+    Ok((page, replay.end))
+}
+
+/// Replays the test that the reader gives by a schedule, and writes the page that tells of it.
+///
+/// The test is read whole first: its text, then its cells, then the schedule against its names. The
+/// page is made whole before the first byte of it is written, so any fault but `Write` leaves the
+/// writer as it was; after `Write` nothing is said of how much went out. The devices may not have
+/// failed before, and after a failure they are not called again.
+pub fn replay_text<R: ByteReader, W: ByteWriter, A: Allocator + Copy>(
+    alloc: A,
+    reader: &mut R,
+    schedule: &str,
+    writer: &mut W,
+) -> Result<End, BenchFault>
+    requires reader { R.failed reader.old ≡ false }
+    requires writer { W.failed writer.old ≡ false }
+    // Where it answers, the page of the replay has been written, and nothing else.
+    ensures written { IfOk result (λ end. Written (R.remaining reader.old) schedule.now (W.contents writer.old) (W.contents writer.new) end) }
+    // A text, a cell or a schedule is refused only where there is no test, or this is no schedule of it.
+    ensures refused { IfErr result (Refuses (R.remaining reader.old) schedule.now) }
+    // The devices' faults are told exactly where they failed, and else the writer is left alone.
+    ensures read { result ≡ Err BenchFault.Read ↔ R.failed reader.new ≡ true }
+    ensures write { result ≡ Err BenchFault.Write ↔ W.failed writer.new ≡ true }
+    ensures untouched { IfErr result (λ f. f ≢ BenchFault.Write → writer.new ≡ writer.old) }
+{
+    let text = read_input(alloc, reader)?;
+    let source = read_test(alloc, text.as_slice())?;
+    let (page, end) = page_of(alloc, &source, schedule)?;
+    match write_output(writer, page.as_bytes()) {
+        Ok(()) => Ok(end),
+        Err(Failed) => Err(BenchFault::Write),
+    }
+}

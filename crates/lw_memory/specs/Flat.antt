@@ -1,0 +1,30 @@
+-- A memory without caches: one word for each location.
+use Rattle.std.specs.Prelude.{◌≡◌, ℕ, List, Option}
+use Rattle.lw_memory.specs.declared.system.LineState.TheVariants.{I}
+use Rattle.lw_memory.specs.declared.system.Request.{Request}
+use Rattle.lw_memory.specs.declared.system.Request.TheVariants.{Evict}
+use Rattle.lw_memory.specs.Content.{answer_of, content_after}
+use Rattle.lw_memory.specs.Memory.{Memory}
+
+-- What a contract sees of a flat memory.
+pub record Flat : Type 0 where
+  pub cpus : ℕ
+  pub words : List ℕ
+
+-- Every request but an eviction is served by the words.
+abbrev pub WordsServe : List ℕ → Request → Option ℕ → List ℕ → Type 0
+WordsServe words (Evict t x) a after = ⊥
+WordsServe words r a after = (a ≡ answer_of words r) × (after ≡ content_after words r)
+
+abbrev pub FlatServes : Flat → Request → Option ℕ → Flat → Type 0
+FlatServes m r a n = WordsServe m.words r a n.words × (n.cpus ≡ m.cpus)
+
+-- The flat memory of an abstract machine: its words alone, under as many processors as there can be.
+abbrev pub flat : Memory (List ℕ)
+flat = record {
+  content = λ words. words;
+  cpus = λ words. 4;
+  state = λ words t x. I;
+  sound = λ words. Unit {0};
+  serves = WordsServe;
+}

@@ -1,0 +1,30 @@
+-- A flat memory keeps the laws. (It stands among the definitions because an impl cites it.)
+use Rattle.std.proofs.Common.{ℕ, Option, refl}
+use Rattle.lw_memory.specs.declared.system.LineState.TheVariants.{I}
+use Rattle.lw_memory.specs.declared.system.Request.{Request}
+use Rattle.lw_memory.specs.declared.system.Request.TheVariants.{Load, Store, Swap, Evict}
+use Rattle.lw_memory.specs.Content.{answer_of, content_after}
+use Rattle.lw_memory.specs.Flat.{Flat, FlatServes}
+use Rattle.lw_memory.specs.Memory.{Memory, memory_of, Lawful, Served, IsPossible}
+
+-- The memory system of a flat memory's states.
+abbrev pub flats : Memory Flat
+flats = memory_of (λ (m : Flat). m.words) (λ (m : Flat). m.cpus) (λ (m : Flat) t x. I) (λ (m : Flat). Unit {0}) FlatServes
+
+flat_served : (m : Flat) (r : Request) (a : Option ℕ) (n : Flat) → FlatServes m r a n → Served flats m r a n
+flat_served m (Load t x) a n s = record { possible = tt; answer = s.0.0; content = s.0.1; cpus = s.1; sound = tt }
+flat_served m (Store t x w) a n s = record { possible = tt; answer = s.0.0; content = s.0.1; cpus = s.1; sound = tt }
+flat_served m (Swap t x w) a n s = record { possible = tt; answer = s.0.0; content = s.0.1; cpus = s.1; sound = tt }
+flat_served m (Evict t x) a n s = absurd s.0
+
+flat_serves : (m : Flat) (r : Request) → IsPossible (λ t x. I) r → (n : Flat) × FlatServes m r (answer_of m.words r) n
+flat_serves m (Load t x) h = (m, ((refl, refl), refl))
+flat_serves m (Store t x w) h = (record m { words = content_after m.words (Store t x w) }, ((refl, refl), refl))
+flat_serves m (Swap t x w) h = (record m { words = content_after m.words (Swap t x w) }, ((refl, refl), refl))
+flat_serves m (Evict t x) h = cc
+
+pub flat_lawful : Lawful flats
+flat_lawful = record {
+  served = λ m r a n sound s. flat_served m r a n s;
+  serves = λ m r sound there possible. flat_serves m r possible;
+}

@@ -1,0 +1,4 @@
+pub mod Content
+pub mod Memory
+pub mod Flat
+pub mod FlatLaws

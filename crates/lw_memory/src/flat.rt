@@ -1,0 +1,100 @@
+//! A memory without caches.
+ghost use Rattle.std.specs.Prelude.{◌≡◌, ◌≤◌, length};
+ghost use Rattle.lw_memory.specs.declared.system.LineState.TheVariants.{I};
+ghost use Rattle.lw_memory.specs.Flat.{FlatServes};
+ghost use Rattle.lw_memory.specs.FlatLaws.{flat_lawful};
+
+use crate::system::{LineState, MemorySystem, NotHeld};
+use lw_base::{Cpu, Loc, Word};
+use std::marker::Model;
+
+/// One word for each location, which all processors see at once. It takes no memory.
+#[derive(Debug, Drop)]
+pub struct FlatMemory {
+    cpus: usize,
+    len: usize,
+    words: [Word; 8],
+}
+
+impl Model for FlatMemory {
+    ghost use Rattle.std.specs.Prelude.{◌≤◌, take};
+    ghost use Rattle.lw_memory.specs.Flat.{Flat};
+
+    ghost Value = { Flat };
+
+    ghost view = { λ m. record { cpus = m.cpus; words = take m.len m.words } };
+
+    ghost invariant = { λ m. (m.cpus ≤ 4) × (m.len ≤ 8) };
+}
+
+impl FlatMemory {
+    /// A memory of so many processors, with these words.
+    pub fn new(cpus: usize, words: &[Word]) -> Self
+        requires cpus { cpus ≤ 4 }
+        requires words { length words.now ≤ 8 }
+        ensures cpus { result.cpus ≡ cpus }
+        ensures words { result.words ≡ words.now }
+    {
+        let mut all = [0; 8];
+        all[..words.len()].copy_from_slice(words);
+        FlatMemory {
+            cpus,
+            len: words.len(),
+            words: all,
+        }
+    }
+}
+
+impl MemorySystem for FlatMemory {
+    ghost content = { λ m. m.words };
+
+    ghost cpus = { λ m. m.cpus };
+
+    ghost memory = { λ m. m.words };
+
+    ghost state = { λ m cpu loc. I };
+
+    ghost sound = { λ m. Unit {0} };
+
+    ghost serves = { FlatServes };
+
+    fn load(&mut self, _cpu: Cpu, loc: Loc) -> Word {
+        self.words[loc.index()]
+    }
+
+    fn store(&mut self, _cpu: Cpu, loc: Loc, word: Word) {
+        self.words[loc.index()] = word;
+    }
+
+    fn swap(&mut self, _cpu: Cpu, loc: Loc, word: Word) -> Word {
+        let old = self.words[loc.index()];
+        self.words[loc.index()] = word;
+        old
+    }
+
+    fn evict(&mut self, _cpu: Cpu, _loc: Loc) -> Result<(), NotHeld> {
+        Err(NotHeld)
+    }
+
+    fn word_at_end(&self, loc: Loc) -> Word {
+        self.words[loc.index()]
+    }
+
+    fn word_in_memory(&self, loc: Loc) -> Word {
+        self.words[loc.index()]
+    }
+
+    fn state_of(&self, _cpu: Cpu, _loc: Loc) -> LineState {
+        LineState::I
+    }
+
+    fn cpu_count(&self) -> usize {
+        self.cpus
+    }
+
+    fn location_count(&self) -> usize {
+        self.len
+    }
+
+    ghost lawful = { flat_lawful };
+}

@@ -1,0 +1,14 @@
+//! The memory under the store buffers: what every memory system promises, and one without caches.
+//!
+//! It names lw_base and std alone.
+#![tactic(auto)]
+
+mod flat;
+mod requests;
+mod system;
+#[cfg(test)]
+mod tests;
+
+pub use flat::FlatMemory;
+pub use requests::{answer, answer_all};
+pub use system::{LineState, MemorySystem, NotHeld, Request};

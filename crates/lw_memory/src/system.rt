@@ -1,0 +1,120 @@
+//! What a memory system is: its requests, how it answers them, and its laws.
+ghost use Rattle.std.specs.Prelude.{◌≡◌, ◌<◌, ◌≤◌, ℕ, List, Option, Some, None, length, slice_index, is_ok, OnOk, OnErr};
+ghost use Rattle.lw_memory.specs.declared.system.LineState.{LineState};
+ghost use Rattle.lw_memory.specs.declared.system.Request.{Request};
+ghost use Rattle.lw_memory.specs.Memory.{memory_of, is_held, Lawful};
+
+use lw_base::{Cpu, Loc, Word};
+
+/// How a cache holds a location.
+#[derive(Clone, Copy, Debug, PartialEq, Eq, Hash)]
+pub enum LineState {
+    /// Modified: the only copy, which may differ from memory.
+    M,
+    /// Exclusive: the only copy, which memory agrees with.
+    E,
+    /// Shared: other caches may hold it too.
+    S,
+    /// Invalid: not held.
+    I,
+}
+
+/// What a processor asks of the memory system.
+#[derive(Clone, Copy, Debug, PartialEq, Eq, Hash)]
+pub enum Request {
+    /// The location's word.
+    Load(Cpu, Loc),
+    /// A new word for the location.
+    Store(Cpu, Loc, Word),
+    /// A new word for the location, and the word that it replaces.
+    Swap(Cpu, Loc, Word),
+    /// The processor's cache is to let the location go.
+    Evict(Cpu, Loc),
+}
+
+/// The processor doesn't hold the location, so it can't be evicted.
+#[derive(Clone, Copy, Debug, PartialEq, Eq, Hash)]
+pub struct NotHeld;
+
+/// A memory of several processors, which answers each request as one word for each location would.
+pub trait MemorySystem {
+    /// The word of each location, as a load finds it.
+    ghost content: { Self → List ℕ };
+
+    /// How many processors there are.
+    ghost cpus: { Self → ℕ };
+
+    /// The word of each location in memory, caches left out.
+    ghost memory: { Self → List ℕ };
+
+    /// How a processor holds a location.
+    ghost state: { Self → ℕ → ℕ → LineState };
+
+    /// What is true in every state that can be reached.
+    ghost sound: { Self → Type 0 };
+
+    /// A state, a request, its answer where it has one, and the state after it: what each memory system says of its
+    /// lines.
+    ghost serves: { Self → Request → Option ℕ → Self → Type 0 };
+
+    /// The location's word.
+    fn load(&mut self, cpu: Cpu, loc: Loc) -> Word
+        requires cpu { cpu < cpus self.old }
+        requires loc { loc < length (content self.old) }
+        ensures sound { sound self.old }
+        ensures served { serves self.old (Request.Load cpu loc) (Some result) self.new };
+
+    /// Writes a word.
+    fn store(&mut self, cpu: Cpu, loc: Loc, word: Word)
+        requires cpu { cpu < cpus self.old }
+        requires loc { loc < length (content self.old) }
+        ensures sound { sound self.old }
+        ensures served { serves self.old (Request.Store cpu loc word) None self.new };
+
+    /// Writes a word, and answers the one that it replaces.
+    fn swap(&mut self, cpu: Cpu, loc: Loc, word: Word) -> Word
+        requires cpu { cpu < cpus self.old }
+        requires loc { loc < length (content self.old) }
+        ensures sound { sound self.old }
+        ensures served { serves self.old (Request.Swap cpu loc word) (Some result) self.new };
+
+    /// Lets a held location go. Refused exactly where it isn't held, and then nothing changes.
+    fn evict(&mut self, cpu: Cpu, loc: Loc) -> Result<(), NotHeld>
+        requires cpu { cpu < cpus self.old }
+        requires loc { loc < length (content self.old) }
+        ensures sound { sound self.old }
+        ensures held { is_ok result ≡ is_held (state self.old cpu loc) }
+        ensures ok { OnOk result (serves self.old (Request.Evict cpu loc) None self.new) }
+        ensures err { OnErr result (self.new ≡ self.old) };
+
+    /// The word that a location ends with, wherever it lies.
+    fn word_at_end(&self, loc: Loc) -> Word
+        requires { loc < length (content self.now) }
+        ensures { result ≡ slice_index (content self.now) loc };
+
+    /// The word that a location has in memory.
+    fn word_in_memory(&self, loc: Loc) -> Word
+        requires { loc < length (content self.now) }
+        ensures { result ≡ slice_index (memory self.now) loc };
+
+    /// How a processor holds a location.
+    fn state_of(&self, cpu: Cpu, loc: Loc) -> LineState
+        requires cpu { cpu < cpus self.now }
+        requires loc { loc < length (content self.now) }
+        ensures { result ≡ state self.now cpu loc };
+
+    /// How many processors there are.
+    fn cpu_count(&self) -> usize
+        ensures count { result ≡ cpus self.now }
+        ensures few { result ≤ 4 }
+        ensures sound { sound self.now };
+
+    /// How many locations there are.
+    fn location_count(&self) -> usize
+        ensures count { result ≡ length (content self.now) }
+        ensures few { result ≤ 8 }
+        ensures sound { sound self.now };
+
+    /// The content alone decides every answer, and a request changes it as one word for each location would.
+    ghost lawful: { Lawful (memory_of content cpus state sound serves) };
+}

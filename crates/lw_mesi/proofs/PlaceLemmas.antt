@@ -1,0 +1,19 @@
+-- What stands at each of the four processors.
+use Rattle.std.proofs.Common.{◌≡◌, ℕ, zero, suc, ◌<◌, set, get_or, refl, arith}
+use Rattle.lw_mesi.specs.Places.{at_each}
+
+-- Two functions that differ at one of them.
+pub at_each_set : {A : Type 0} (f g : ℕ → A) (t : ℕ) (a : A) → t < 4 → f t ≡ a
+    → ((u : ℕ) → u < 4 → (u ≡ t → ⊥) → f u ≡ g u) → at_each f ≡ set (at_each g) t a
+at_each_set f g zero a lt here there = grind (arith, there 1, there 2, there 3)
+at_each_set f g (suc zero) a lt here there = grind (arith, there 0, there 2, there 3)
+at_each_set f g (suc (suc zero)) a lt here there = grind (arith, there 0, there 1, there 3)
+at_each_set f g (suc (suc (suc zero))) a lt here there = grind (arith, there 0, there 1, there 2)
+at_each_set f g (suc (suc (suc (suc t)))) a lt here there = absurd (omega arith)
+
+pub at_each_get : {A : Type 0} (f : ℕ → A) (t : ℕ) (d : A) → t < 4 → get_or (at_each f) t d ≡ f t
+at_each_get f zero d lt = refl
+at_each_get f (suc zero) d lt = refl
+at_each_get f (suc (suc zero)) d lt = refl
+at_each_get f (suc (suc (suc zero))) d lt = refl
+at_each_get f (suc (suc (suc (suc t)))) d lt = absurd (omega arith)

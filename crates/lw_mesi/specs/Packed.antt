@@ -1,0 +1,34 @@
+-- What one location's packed record stands for.
+use Rattle.std.specs.Prelude.{◌≡◌, ℕ, ◌<◌, Some, None, Bool, true, false, if◌then◌else◌, slice_index_or, length}
+use Rattle.lw_mesi.specs.declared.line.PackedLine.TheInside.{Inside}
+use Rattle.lw_mesi.specs.Places.{at_each, nobody, is_owner}
+use Rattle.lw_mesi.specs.Lines.{Copy, Modified, Exclusive, Shared, Invalid, Line}
+
+-- The owner's copy, by whether it is dirty.
+abbrev pub owner_copy : Bool → ℕ → Copy
+owner_copy true w = Modified w
+owner_copy false w = Exclusive w
+
+-- The copy of a processor that isn't the owner, by whether it is a sharer.
+abbrev pub sharer_copy : Bool → ℕ → Copy
+sharer_copy true w = Shared w
+sharer_copy false w = Invalid
+
+-- The copy that a processor has.
+abbrev pub copy_at : Inside → ℕ → Copy
+copy_at p t = if is_owner p.owner t then owner_copy p.is_dirty p.word else sharer_copy (slice_index_or p.sharers t false) p.word
+
+-- The copies of all processors, with memory's word.
+abbrev pub unpacked : Inside → Line
+unpacked p = record { copies = at_each (copy_at p); memory = p.memory }
+
+-- What a packed record keeps. Without copies its word is memory's.
+pub record IsPacked (p : Inside) : Type 0 where
+  pub four : length p.sharers ≡ 4
+  -- an owner is one of the four, and has no sharer beside it
+  pub in_range : (o : ℕ) → p.owner ≡ Some o → o < 4
+  pub alone : (o : ℕ) → p.owner ≡ Some o → p.sharers ≡ nobody
+  -- only an owner is dirty
+  pub unowned : p.owner ≡ None → p.is_dirty ≡ false
+  -- memory is behind only where a copy is dirty
+  pub clean : p.is_dirty ≡ false → p.memory ≡ p.word

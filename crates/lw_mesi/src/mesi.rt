@@ -1,0 +1,119 @@
+//! Caches by the MESI protocol.
+ghost use Rattle.std.specs.Prelude.{◌≡◌, ◌<◌, ◌≤◌, length, map, IfOk};
+ghost use Rattle.lw_mesi.specs.Lines.{unheld_line, copy_of, line_at, word_of, contents_of, memory_words_of, state_in, IsCoherent};
+ghost use Rattle.lw_mesi.specs.MesiTable.{MesiServes};
+ghost use Rattle.lw_mesi.specs.MesiLaws.{mesi_lawful};
+
+use crate::line::PackedLine;
+use lw_base::{Cpu, Loc, Word};
+use lw_memory::{LineState, MemorySystem, NotHeld};
+use std::alloc::{AllocError, Allocator, Global};
+use std::marker::Model;
+
+/// A cache for each processor, which snoop on one atomic bus, over one memory.
+///
+/// A clause sees for each location the copies in the caches, with memory's word. Every call tells that they are
+/// coherent: one writer or many readers, and one word in all copies.
+#[derive(Drop)]
+#[derive_where(Debug)]
+pub struct Mesi<A: Allocator = Global> {
+    cpus: usize,
+    lines: Vec<PackedLine, A>,
+}
+
+impl<A: Allocator> Model for Mesi<A> {
+    ghost use Rattle.std.specs.Prelude.{◌≤◌, length};
+    ghost use Rattle.lw_mesi.specs.Lines.{Caches, IsCoherent};
+
+    ghost Value = { Caches };
+
+    ghost view = { λ m. record { cpus = m.cpus; lines = m.lines.items } };
+
+    ghost invariant = { λ m. (length m.lines.items ≤ 8) × IsCoherent (record { cpus = m.cpus; lines = m.lines.items }) };
+}
+
+impl<A: Allocator + Copy> Mesi<A> {
+    /// Empty caches of so many processors, over a memory with these words. An error is want of memory; no later call
+    /// takes any.
+    pub fn new(alloc: A, cpus: usize, words: &[Word]) -> Result<Self, AllocError>
+        requires cpus { cpus ≤ 4 }
+        requires words { length words.now ≤ 8 }
+        ensures cpus { IfOk result (λ m. m.cpus ≡ cpus) }
+        ensures lines { IfOk result (λ m. m.lines ≡ map unheld_line words.now) }
+        ensures coherent { IfOk result IsCoherent }
+    {
+        let lines = words
+            .iter()
+            .map(|word| PackedLine::new(*word))
+            .collect(alloc)?;
+        Ok(Mesi { cpus, lines })
+    }
+}
+
+impl<A: Allocator> Mesi<A> {
+    /// The word of a processor's copy of a location, where it has one.
+    pub fn copy(&self, cpu: Cpu, loc: Loc) -> Option<Word>
+        requires cpu { cpu < self.now.cpus }
+        requires loc { loc < length self.now.lines }
+        ensures word { result ≡ word_of (copy_of (line_at self.now.lines loc) cpu) }
+        ensures coherent { IsCoherent self.now }
+    {
+        self.lines[loc.index()].copy(cpu)
+    }
+}
+
+impl<A: Allocator> MemorySystem for Mesi<A> {
+    ghost content = { contents_of };
+
+    ghost cpus = { λ m. m.cpus };
+
+    ghost memory = { memory_words_of };
+
+    ghost state = { state_in };
+
+    ghost sound = { IsCoherent };
+
+    ghost serves = { MesiServes };
+
+    fn load(&mut self, cpu: Cpu, loc: Loc) -> Word {
+        let line = &mut self.lines[loc.index()];
+        line.load(cpu)
+    }
+
+    fn store(&mut self, cpu: Cpu, loc: Loc, word: Word) {
+        let line = &mut self.lines[loc.index()];
+        let _ = line.write(cpu, word);
+    }
+
+    fn swap(&mut self, cpu: Cpu, loc: Loc, word: Word) -> Word {
+        let line = &mut self.lines[loc.index()];
+        line.write(cpu, word)
+    }
+
+    fn evict(&mut self, cpu: Cpu, loc: Loc) -> Result<(), NotHeld> {
+        let line = &mut self.lines[loc.index()];
+        line.evict(cpu)
+    }
+
+    fn word_at_end(&self, loc: Loc) -> Word {
+        self.lines[loc.index()].word()
+    }
+
+    fn word_in_memory(&self, loc: Loc) -> Word {
+        self.lines[loc.index()].word_in_memory()
+    }
+
+    fn state_of(&self, cpu: Cpu, loc: Loc) -> LineState {
+        self.lines[loc.index()].state_of(cpu)
+    }
+
+    fn cpu_count(&self) -> usize {
+        self.cpus
+    }
+
+    fn location_count(&self) -> usize {
+        self.lines.len()
+    }
+
+    ghost lawful = { mesi_lawful };
+}

@@ -1,0 +1,5 @@
+use Rattle.lw_orders.specs.Order.{GoUp}
+use Rattle.lw_orders.proofs.tests.chain.Given as goal
+
+abbrev pub invariant-loop-second : goal.invariant-loop-second
+invariant-loop-second l = GoUp l.len l.pairs.items

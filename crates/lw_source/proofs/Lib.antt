@@ -1,0 +1,6 @@
+pub mod Runs
+pub mod Cells
+pub mod Columns
+pub mod Names
+pub mod Reading
+pub mod Sources

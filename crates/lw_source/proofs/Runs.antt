@@ -1,0 +1,71 @@
+-- Runs, one event further.
+use Rattle.std.proofs.Common.{◌≡◌, ℕ, suc, ◌<◌, ◌+◌, List, [], ◌∷◌, ◌++◌, length, take, get_or, refl, sym, ap, ◌∙◌, subst, Result, Ok, Err, arith}
+use Rattle.std.specs.Result.{MatchResult}
+use Rattle.lw_base.specs.declared.stop.Stop.{Stop}
+use Rattle.std.proofs.Math.Seq.{take-suc}
+use Rattle.std.proofs.Math.ListN.{length-set}
+use Rattle.std.specs.Prelude.{slice_set, slice_get, slice_index, Option, Some, None, Bool, true, false, if◌then◌else◌, nat_lt}
+use Rattle.lw_base.specs.declared.event.Event.TheVariants.{Step, Drain, Evict}
+use Rattle.lw_base.specs.declared.stop.Stop.TheVariants.{NoCpu, NoLocation, BufferEmpty, NotHeld}
+use Rattle.lw_source.specs.declared.stmt.Stmt.TheVariants.{Store, Load, Swap, Set, Sum, IfEq, IfNe, Goto}
+use Rattle.lw_source.specs.declared.thread.Thread.{Thread}
+use Rattle.lw_source.specs.Statements.{value_of, thread_after, words_after}
+use Rattle.lw_base.specs.declared.event.Event.{Event}
+use Rattle.lw_source.specs.declared.stmt.Stmt.{Stmt}
+use Rattle.lw_source.specs.Runs.{State, Ran, source_event, carried_out, step_of, code_of}
+
+Ran-push : (program : List (List Stmt)) (es : List Event) (e : Event) (s mid end : State) → Ran program es s mid → source_event program e mid ≡ Ok end → Ran program (es ++ e ∷ []) s end
+Ran-push program [] e s mid end ran one = (end, subst (λ (m : State). source_event program e m ≡ Ok end) ran one, refl)
+Ran-push program (d ∷ es) e s mid end ran one = (ran.0, ran.1, Ran-push program es e ran.0 mid end ran.2 one)
+
+pub Ran-more : (program : List (List Stmt)) (events : List Event) (n : ℕ) (e : Event) (s mid end : State) → n < length events → e ≡ get_or events n e → Ran program (take n events) s mid → source_event program e mid ≡ Ok end → Ran program (take (n + 1) events) s end
+Ran-more program events n e s mid end within is ran one =
+    let pushed = Ran-push program (take n events) e s mid end ran one in
+    let more : take (suc n) events ≡ take n events ++ e ∷ [] = take-suc events n e within ∙ ap (λ (x : Event). take n events ++ x ∷ []) (sym is) in
+    let next : suc n ≡ n + 1 = omega arith in
+    subst (λ (es : List Event). Ran program es s end) (sym more ∙ ap (λ (k : ℕ). take k events) next) pushed
+
+-- a call that answered Ok was a possible event
+pub possible : (Q : Type 0) (r : Result State Stop) (answer : Result (Unit {0}) Stop) (u : Unit {0}) (end : State) → MatchResult r (λ next. (answer ≡ Ok tt) × (end ≡ next)) (λ stop. (answer ≡ Err stop) × Q) → answer ≡ Ok u → r ≡ Ok end
+possible Q (Ok next) answer u end told ok = ap Ok (sym told.1)
+possible Q (Err stop) answer u end told ok = let e : answer ≡ Err stop = told.0 in absurd cc
+
+set_length : {X : Type 0} (xs : List X) (i : ℕ) (x : X) → length (slice_set xs i x) ≡ length xs
+set_length xs i x = length-set xs i x
+
+words_kept : (stmt : Stmt) (th : Thread) (words : List ℕ) → length (words_after stmt th words) ≡ length words
+words_kept (Store x v) th words = set_length words x (value_of v th.regs)
+words_kept (Load d x) th words = refl
+words_kept (Swap d x a) th words = set_length words x (slice_index th.regs a)
+words_kept (Set d v) th words = refl
+words_kept (Sum d a v) th words = refl
+words_kept (IfEq a n to) th words = refl
+words_kept (IfNe a n to) th words = refl
+words_kept (Goto to) th words = refl
+
+-- as many threads, and as many words
+abbrev pub SameSize : State → State → Type 0
+SameSize s end = (length end.threads ≡ length s.threads) × (length end.words ≡ length s.words)
+
+refused : (b : Bool) (x y : Stop) (mid : State) → (if b then Err x else Err y) ≡ Ok mid → ⊥
+refused true x y mid e = absurd cc
+refused false x y mid e = absurd cc
+
+pub event_kept : (program : List (List Stmt)) (e : Event) (s mid : State) → source_event program e s ≡ Ok mid → SameSize s mid
+event_kept program (Step t) s mid e = go (slice_get s.threads t) e
+  where
+    carried : (th : Thread) (stmt : Option Stmt) → carried_out t th s stmt ≡ Ok mid → SameSize s mid
+    carried th None e = absurd cc
+    carried th (Some stmt) e =
+        let next : State = record { threads = slice_set s.threads t (thread_after stmt th s.words); words = words_after stmt th s.words } in
+        let same : next ≡ mid = cc in
+        subst (λ (m : State). SameSize s m) same (set_length s.threads t (thread_after stmt th s.words), words_kept stmt th s.words)
+    go : (th : Option Thread) → step_of program t s th ≡ Ok mid → SameSize s mid
+    go None e = absurd cc
+    go (Some th) e = carried th (slice_get (code_of program t) th.position) e
+event_kept program (Drain t) s mid e = absurd (refused (nat_lt t (length s.threads)) BufferEmpty NoCpu mid e)
+event_kept program (Evict t x) s mid e = go (nat_lt t (length s.threads)) e
+  where
+    go : (b : Bool) → (if b then (if nat_lt x (length s.words) then Err NotHeld else Err NoLocation) else Err NoCpu) ≡ Ok mid → SameSize s mid
+    go true e = absurd (refused (nat_lt x (length s.words)) NotHeld NoLocation mid e)
+    go false e = absurd cc

@@ -1,0 +1,12 @@
+use Rattle.std.proofs.Common.{◌≡◌, length, take}
+use Rattle.lw_source.specs.Runs.{Ran}
+use Rattle.lw_source.proofs.run.SourceRun.run.Given as goal
+
+abbrev pub invariant-loop-done : goal.invariant-loop-done
+invariant-loop-done g l =
+    record {
+      program : l.self.program ≡ l.fn.self.program;
+      ran : Ran l.fn.self.program (take l.done l.events) l.fn.self.state l.self.state;
+      threads : length l.self.state.threads ≡ length l.fn.self.state.threads;
+      words : length l.self.state.words ≡ length l.fn.self.state.words;
+    }

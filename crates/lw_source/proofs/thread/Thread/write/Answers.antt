@@ -1,0 +1,9 @@
+use Rattle.std.proofs.Common.{ap}
+use Rattle.lw_source.specs.Sources.{location_of}
+use Rattle.lw_source.proofs.thread.Thread.write.Goals as goal
+
+pub set-requires : goal.set-requires
+set-requires g c = rw c.index.ensures.value (c.requires c.in-Store.loc (ap location_of c.in-Store.is))
+
+pub set-requires-in-Swap : goal.set-requires-in-Swap
+set-requires-in-Swap g c = rw c.index-in-Swap.ensures.value (c.requires c.in-Swap.loc (ap location_of c.in-Swap.is))

@@ -1,0 +1,6 @@
+pub mod Statements
+pub mod Sources
+pub mod Runs
+pub mod Views
+pub mod Cells
+pub mod Reading

@@ -1,0 +1,66 @@
+//! Reads a source test from its frame.
+ghost use Rattle.std.specs.Prelude.{◌≡◌, ◌≢◌, ℕ, ◌≤◌, ◌-◌, ◌++◌, List, length, map, replicate, All, IfOk, IfErr};
+ghost use Rattle.std.specs.List.{AllZip};
+ghost use Rattle.lw_base.specs.declared.head.Arch.TheVariants as arch;
+ghost use Rattle.lw_base.specs.declared.fault.CellCause.TheVariants.{Memory};
+ghost use Rattle.lw_base.specs.Tables.{with_names};
+ghost use Rattle.lw_text.specs.Frames.{TestFrame};
+ghost use Rattle.lw_text.specs.Places.{all_texts, IsWithin};
+ghost use Rattle.lw_text.specs.Views.{frame_of};
+ghost use Rattle.lw_source.specs.Sources.{SourceTest};
+ghost use Rattle.lw_source.specs.Cells.{Written, Column, names_of, HasSource};
+ghost use Rattle.lw_source.specs.Reading.{ColumnsRead};
+ghost use Rattle.lw_source.specs.Views.{source_of};
+
+use crate::column::read_column;
+use crate::source::Source;
+use crate::stmt::Stmt;
+use lw_base::{CellFault, LocNames, Sequence, Word};
+use lw_text::{Cell, Frame};
+use std::alloc::{AllocFailed, Allocator};
+
+/// Reads the source test of a frame whose language is the source language.
+///
+/// The threads are read one after another, each from top to bottom, and the first fault is told.
+pub fn read_source<A: Allocator + Copy>(alloc: A, frame: &Frame<'_, A>) -> Result<Source<A>, CellFault>
+    requires { frame.now.head.arch ≡ arch.Source }
+    // What is answered is the frame's test, and where it is refused it has none, unless memory ran out.
+    ensures found { IfOk result (λ s. HasSource (frame_of frame.now) (source_of s)) }
+    ensures fault { IfErr result (λ f. f.cause ≢ Memory → (s : SourceTest) → HasSource (frame_of frame.now) s → ⊥) }
+    ensures place { IfErr result (λ f. f.at ≤ frame.now.len) }
+{
+    let mut head = frame.head().copy()?;
+    let threads = read_columns(alloc, frame.cells.as_slice(), &mut head.locs)?;
+    let len = head.locs.len();
+    fill(&mut head.init_words, len)?;
+    Ok(Source { head, threads })
+}
+
+/// A frame has at most one source test.
+pub fn a_frame_has_one_source()
+    ensures { (frame : TestFrame) (s t : SourceTest) → HasSource frame s → HasSource frame t → s ≡ t }
+{}
+
+/// Reads the statements of each thread. The names of their locations go into the table.
+fn read_columns<A: Allocator + Copy>(alloc: A, columns: &[Sequence<Cell<'_, A>, A>], locs: &mut LocNames<A>) -> Result<Sequence<Sequence<Stmt, A>, A>, CellFault>
+    ensures found { IfOk result (λ threads. ColumnsRead (all_texts columns.now) locs.old threads locs.new) }
+    ensures fault { IfErr result (λ f. f.cause ≢ Memory → (t : List (List Written)) → AllZip Column (all_texts columns.now) t → length (with_names locs.old (names_of t)) ≤ 8 → ⊥) }
+    ensures place { (len : ℕ) → All (λ column. All (IsWithin len) column) columns.now → IfErr result (λ f. f.at ≤ len) }
+{
+    let mut threads = Sequence::new(alloc);
+    for column in columns {
+        let stmts = read_column(alloc, column.as_slice(), locs)?;
+        threads.push(stmts)?;
+    }
+    Ok(threads)
+}
+
+/// Puts zeros at the end, up to a length.
+fn fill<A: Allocator>(words: &mut Sequence<Word, A>, len: usize) -> Result<(), AllocFailed<Word>>
+    ensures { IfOk result (λ _. words.new ≡ words.old ++ replicate (len - length words.old) 0) }
+{
+    for _word in 0..len.saturating_sub(words.len()) {
+        words.push(0)?;
+    }
+    Ok(())
+}

@@ -1,0 +1,173 @@
+//! A run of a source test.
+ghost use Rattle.std.specs.Prelude.{◌≡◌, ℕ, ◌<◌, length, map, Some, None, Ok, Err, slice_get, slice_index, IfOk, OnOk, OnErr, MatchResult};
+ghost use Rattle.lw_base.specs.declared.stop.Stop.TheVariants.{NoCpu, Ended};
+ghost use Rattle.lw_source.specs.Views.{source_of};
+ghost use Rattle.lw_source.specs.Runs.{start_of, source_step, source_event, code_of, Replayed, outcome_of};
+ghost use Rattle.lw_source.specs.Runs as runs;
+
+use crate::source::Source;
+use crate::thread::Thread;
+use lw_base::{Cpu, End, Event, Loc, Outcome, Reg, Replay, Sequence, Stop, Word};
+use std::alloc::{AllocError, Allocator, Global};
+use std::marker::Model;
+
+/// A run of a source test: its threads take their steps one at a time, on one memory. There are no
+/// store buffers and no caches.
+#[derive(Drop)]
+pub struct SourceRun<'a, A: Allocator = Global, B: Allocator = Global> {
+    source: &'a Source<B>,
+    threads: Sequence<Thread, A>,
+    words: Sequence<Word, A>,
+}
+
+impl<'a, A: Allocator, B: Allocator> Model for SourceRun<'a, A, B> {
+    ghost use Rattle.std.specs.Prelude.{◌≡◌, length};
+    ghost use Rattle.lw_source.specs.Runs.{Running};
+
+    ghost Value = { Running };
+
+    ghost view = { λ r. record { program = r.source.now.threads; state = record { threads = r.threads; words = r.words } } };
+
+    ghost invariant = { λ r. (length r.threads ≡ length r.source.now.threads) × (length r.words ≡ length r.source.now.head.locs) };
+}
+
+impl<'a, A: Allocator + Copy, B: Allocator> SourceRun<'a, A, B> {
+    /// A run at the start of a test.
+    pub fn new(alloc: A, source: &'a Source<B>) -> Result<Self, AllocError>
+        ensures program { IfOk result (λ r. r.program ≡ source.now.threads) }
+        ensures start { IfOk result (λ r. r.state ≡ start_of (source_of source.now)) }
+    {
+        let mut threads = Sequence::new(alloc);
+        for regs in source.head.init_regs.as_slice() {
+            threads.push(Thread {
+                position: 0,
+                regs: *regs,
+            })?;
+        }
+        let words = Sequence::from_slice(alloc, source.head.init_words.as_slice())?;
+        Ok(SourceRun {
+            source,
+            threads,
+            words,
+        })
+    }
+
+    /// The registers and the memory as they are.
+    pub fn outcome(&self) -> Result<Outcome<A>, AllocError>
+        ensures { IfOk result (λ o. o ≡ outcome_of self.now.state) }
+    {
+        let alloc = *self.words.allocator();
+        let mut regs = Sequence::new(alloc);
+        for thread in self.threads.as_slice() {
+            regs.push(thread.regs)?;
+        }
+        Ok(Outcome {
+            regs,
+            words: self.words.copy()?,
+        })
+    }
+}
+
+impl<'a, A: Allocator, B: Allocator> SourceRun<'a, A, B> {
+    /// The thread carries out its next statement. A refused step changes nothing.
+    pub fn step(&mut self, cpu: Cpu) -> Result<(), Stop>
+        ensures program { self.new.program ≡ self.old.program }
+        ensures done { MatchResult (source_step self.old.program cpu self.old.state) (λ next. (result ≡ Ok tt) × (self.new.state ≡ next)) (λ stop. (result ≡ Err stop) × (self.new ≡ self.old)) }
+    {
+        let Some(thread) = self.threads.get(cpu.index()) else {
+            return Err(Stop::NoCpu);
+        };
+        let thread = *thread;
+        let code = &self.source.threads.as_slice()[cpu.index()];
+        let Some(stmt) = code.get(thread.position) else {
+            return Err(Stop::Ended);
+        };
+        let next = thread.after(stmt, self.words.as_slice());
+        thread.write(stmt, &mut self.words);
+        self.threads.set(cpu.index(), next);
+        Ok(())
+    }
+
+    /// Carries out the events before the first that is refused, or all.
+    pub fn run(&mut self, events: &[Event]) -> Replay
+        ensures program { self.new.program ≡ self.old.program }
+        ensures replayed { Replayed self.old.program events.now self.old.state result self.new.state }
+        ensures threads { length self.new.state.threads ≡ length self.old.state.threads }
+        ensures words { length self.new.state.words ≡ length self.old.state.words }
+    {
+        for (done, event) in events.iter().enumerate() {
+            if let Err(stop) = self.act(*event) {
+                return Replay {
+                    done,
+                    end: End::Stopped(stop),
+                };
+            }
+        }
+        let end = if self.is_final() { End::Final } else { End::NotFinal };
+        Replay {
+            done: events.len(),
+            end,
+        }
+    }
+
+    /// One event.
+    fn act(&mut self, event: Event) -> Result<(), Stop>
+        ensures program { self.new.program ≡ self.old.program }
+        ensures done { MatchResult (source_event self.old.program event self.old.state) (λ next. (result ≡ Ok tt) × (self.new.state ≡ next)) (λ stop. (result ≡ Err stop) × (self.new ≡ self.old)) }
+    {
+        match event {
+            Event::Step(cpu) => self.step(cpu),
+            Event::Drain(cpu) => {
+                if cpu.index() < self.threads.len() {
+                    return Err(Stop::BufferEmpty);
+                }
+                Err(Stop::NoCpu)
+            }
+            Event::Evict(cpu, loc) => {
+                if cpu.index() < self.threads.len() {
+                    if loc.index() < self.words.len() {
+                        return Err(Stop::NotHeld);
+                    }
+                    return Err(Stop::NoLocation);
+                }
+                Err(Stop::NoCpu)
+            }
+        }
+    }
+
+    /// Whether all threads are at their ends.
+    pub fn is_final(&self) -> bool
+        ensures { result ≡ runs.is_final self.now.program self.now.state }
+    {
+        self.source
+            .threads
+            .as_slice()
+            .iter()
+            .zip(self.threads.as_slice())
+            .all(|(code, thread)| code.len() <= thread.position)
+    }
+
+    /// The number of the thread's next statement.
+    pub fn position(&self, cpu: Cpu) -> usize
+        requires { cpu < length self.now.state.threads }
+        ensures { slice_get (map (λ t. t.position) self.now.state.threads) cpu ≡ Some result }
+    {
+        self.threads.as_slice()[cpu.index()].position
+    }
+
+    /// The word of a thread's register.
+    pub fn reg(&self, cpu: Cpu, reg: Reg) -> Word
+        requires { cpu < length self.now.state.threads }
+        ensures { slice_get (map (λ t. slice_index t.regs reg) self.now.state.threads) cpu ≡ Some result }
+    {
+        self.threads.as_slice()[cpu.index()].regs[reg.index()]
+    }
+
+    /// The word of a location.
+    pub fn word(&self, loc: Loc) -> Word
+        requires { loc < length self.now.state.words }
+        ensures { slice_get self.now.state.words loc ≡ Some result }
+    {
+        self.words.as_slice()[loc.index()]
+    }
+}

@@ -1,0 +1,26 @@
+//! The statements of the source language.
+
+use lw_base::{Loc, Operand, Reg, Word};
+
+/// A statement of a thread. A jump's target is the number of a statement of the same thread, or the
+/// number after the last.
+#[derive(Clone, Copy, Debug, PartialEq, Eq)]
+pub enum Stmt {
+    /// `x := n`, `x := a`: the location gets the value.
+    Store { loc: Loc, val: Operand },
+    /// `d := x`: the register gets the location's word.
+    Load { dst: Reg, loc: Loc },
+    /// `d := swap x a`: at once, the register `d` gets the location's word, and the location gets
+    /// the word that register `a` had. Not read yet.
+    Swap { dst: Reg, loc: Loc, src: Reg },
+    /// `d := n`, `d := a`: the register gets the value. Not read yet.
+    Set { dst: Reg, val: Operand },
+    /// `d := a + n`, `d := a + b`: the register gets the sum, modulo 2 to the 32. Not read yet.
+    Sum { dst: Reg, left: Reg, right: Operand },
+    /// `if a = n goto L`. Not read yet.
+    IfEq { reg: Reg, num: Word, to: usize },
+    /// `if a != n goto L`. Not read yet.
+    IfNe { reg: Reg, num: Word, to: usize },
+    /// `goto L`. Not read yet.
+    Goto { to: usize },
+}

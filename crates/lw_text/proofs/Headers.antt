@@ -1,0 +1,66 @@
+-- The header, read name by name.
+use Rattle.std.proofs.Common.{◌≡◌, ℕ, zero, suc, ◌+◌, ◌<◌, ◌≤◌, List, ◌∷◌, refl, ap, ◌∙◌, subst, arith, add-one}
+use Rattle.std.specs.Prelude.{codes}
+use Rattle.lw_text.specs.Rows.{thread_name, Names, Header}
+use Rattle.lw_text.proofs.Texts.{marks_apart}
+
+pub Names-unique : (k m n : ℕ) (ts r s : List (List ℕ)) → Names k m ts r → Names k n ts s → (m ≡ n) × (r ≡ s)
+Names-unique k zero n ts r s p q = absurd p
+Names-unique k (suc m) zero ts r s p q = absurd q
+Names-unique k (suc zero) (suc zero) ts r s p q = (refl, cc)
+Names-unique k (suc zero) (suc (suc n)) ts r s p q = absurd (let f = q.1 in marks_apart (let i : codes "|" ≡ codes ";" = cc in i))
+Names-unique k (suc (suc m)) (suc zero) ts r s p q = absurd (let f = p.1 in marks_apart (let i : codes "|" ≡ codes ";" = cc in i))
+Names-unique k (suc (suc m)) (suc (suc n)) ts r s p q =
+    let f = p.1 in
+    let g = q.1 in
+    let i : q.0 ≡ p.0 = cc in
+    let e = Names-unique (suc k) (suc m) (suc n) p.0 r s p.2 (subst (λ l. Names (suc k) (suc n) l s) i q.2) in
+    (ap suc e.0, e.1)
+
+-- k names of threads have been read, each with a `|` behind it, and then comes here
+pub record NamesTo (start : List (List ℕ)) (k : ℕ) (here : List (List ℕ)) : Type 0 where
+  pub given : (m : ℕ) (rest : List (List ℕ)) → Names k (suc m) here rest → Names 0 (k + suc m) start rest
+  pub only : (n : ℕ) (rest : List (List ℕ)) → Names 0 n start rest → (m : ℕ) × (n ≡ k + suc m) × Names k (suc m) here rest
+
+pub NamesTo-start : (start : List (List ℕ)) → NamesTo start 0 start
+NamesTo-start start = record {
+  given = λ m rest h. subst (λ x. Names 0 x start rest) (let e : suc m ≡ 0 + suc m = omega arith in e) h;
+  only = λ n rest h. at n rest h;
+}
+  where
+    at : (n : ℕ) (rest : List (List ℕ)) → Names 0 n start rest → (m : ℕ) × (n ≡ 0 + suc m) × Names 0 (suc m) start rest
+    at zero rest h = absurd h
+    at (suc n) rest h = (n, omega arith, h)
+
+module _ (start here : List (List ℕ)) (k : ℕ) (p : NamesTo start k here) where
+  -- no header where the next name isn't there
+  pub Name-fault : ((rest : List (List ℕ)) → here ≡ thread_name k ∷ rest → ⊥) → (n : ℕ) (rest : List (List ℕ)) → Header start n rest → ⊥
+  Name-fault never n rest h = let o = p.only n rest h.0 in at o.0 o.2
+    where
+      at : (m : ℕ) → Names k (suc m) here rest → ⊥
+      at zero q = never (codes ";" ∷ rest) q
+      at (suc m) q = never (codes "|" ∷ q.0) q.1
+
+  pub Names-many : 4 ≤ k → (n : ℕ) (rest : List (List ℕ)) → Header start n rest → ⊥
+  Names-many le n rest h = let o = p.only n rest h.0 in omega (arith, o.1, h.1)
+
+  module _ (l : List (List ℕ)) (e : here ≡ thread_name k ∷ l) where
+    pub Mark-fault : ((rest : List (List ℕ)) → l ≡ codes "|" ∷ rest → ⊥) → ((rest : List (List ℕ)) → l ≡ codes ";" ∷ rest → ⊥) → (n : ℕ) (rest : List (List ℕ)) → Header start n rest → ⊥
+    Mark-fault no_bar no_end n rest h = let o = p.only n rest h.0 in at o.0 o.2
+      where
+        at : (m : ℕ) → Names k (suc m) here rest → ⊥
+        at zero q = no_end rest cc
+        at (suc m) q = let f = q.1 in no_bar q.0 cc
+
+    pub Names-done : (rest : List (List ℕ)) → l ≡ codes ";" ∷ rest → k < 4 → Header start (k + 1) rest
+    Names-done rest f lt = (p.given 0 rest (e ∙ ap (λ x. thread_name k ∷ x) f), omega arith)
+
+    pub Names-more : (next : List (List ℕ)) → l ≡ codes "|" ∷ next → NamesTo start (k + 1) next
+    Names-more next f = rw add-one (record {
+      given = λ m rest h. subst (λ x. Names 0 x start rest) (let i : k + suc (suc m) ≡ suc k + suc m = omega arith in i) (p.given (suc m) rest (next, e ∙ ap (λ x. thread_name k ∷ x) f, h));
+      only = λ n rest h. let o = p.only n rest h in at n rest o.0 o.1 o.2;
+    })
+      where
+        at : (n : ℕ) (rest : List (List ℕ)) (m : ℕ) → n ≡ k + suc m → Names k (suc m) here rest → (j : ℕ) × (n ≡ suc k + suc j) × Names (suc k) (suc j) next rest
+        at n rest zero i q = absurd (marks_apart (let j : codes "|" ≡ codes ";" = cc in j))
+        at n rest (suc m) i q = let g = q.1 in let j : q.0 ≡ next = cc in (m, omega (arith, i), subst (λ x. Names (suc k) (suc m) x rest) j q.2)

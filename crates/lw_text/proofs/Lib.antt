@@ -1,0 +1,17 @@
+pub mod Elements
+pub mod Numbers
+pub mod Texts
+pub mod Lists
+pub mod Gaps
+pub mod Words
+pub mod TokenRows
+pub mod Headings
+pub mod Headers
+pub mod CellPlaces
+pub mod Cells
+pub mod NameTables
+pub mod RowColumns
+pub mod Propositions
+pub mod Atoms
+pub mod ClaimLists
+pub mod Whole

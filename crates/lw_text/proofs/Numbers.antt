@@ -1,0 +1,40 @@
+-- What digits stand for.
+use Rattle.std.proofs.Common.{◌≡◌, ℕ, ◌+◌, ◌*◌, ◌^◌, ◌<◌, ◌≤◌, List, [], ◌∷◌, sym, ◌∙◌, subst, arith}
+use Rattle.std.proofs.Math.Nat.{mul-le-mul_left}
+use Rattle.std.specs.Prelude.{Option, Some, None, IfNone}
+use Rattle.std.specs.Char.{digit_value}
+use Rattle.lw_text.specs.Tokens.{Digits}
+
+-- further digits make no number smaller
+pub Digits-grow : (base n : ℕ) (ds : List ℕ) (v : ℕ) → 1 ≤ base → Digits base n ds v → n ≤ v
+Digits-grow base n [] v h d = omega (arith, d)
+Digits-grow base n (x ∷ ds) v h d = omega (arith, Digits-grow base (base * n + digit_value x) ds v h d.1, mul-le-mul_left n h)
+
+pub Digits-unique : (base n : ℕ) (ds : List ℕ) (v w : ℕ) → Digits base n ds v → Digits base n ds w → v ≡ w
+Digits-unique base n [] v w d e = sym d ∙ e
+Digits-unique base n (x ∷ ds) v w d e = Digits-unique base (base * n + digit_value x) ds v w d.1 e.1
+
+-- n and the rest of the digits stand for what all digits do
+pub record Reads (base : ℕ) (digits : List ℕ) (n : ℕ) (rest : List ℕ) : Type 0 where
+  pub given : (v : ℕ) → Digits base n rest v → Digits base 0 digits v
+  pub only : (v : ℕ) → Digits base 0 digits v → Digits base n rest v
+
+module _ {base : ℕ} {digits : List ℕ} {n : ℕ} {rest next : List ℕ} {x : ℕ} (r : Reads base digits n rest) (e : rest ≡ x ∷ next) where
+  here : (v : ℕ) → Digits base 0 digits v → Digits base n (x ∷ next) v
+  here v d = subst (λ l. Digits base n l v) e (r.only v d)
+
+  pub Reads-more : (m : ℕ) → digit_value x < base → m ≡ base * n + digit_value x → Reads base digits m next
+  Reads-more m lt is = record {
+    given = λ v d. r.given v (rw e (lt, subst (λ k. Digits base k next v) is d));
+    only = λ v d. subst (λ k. Digits base k next v) (sym is) (here v d).1;
+  }
+
+  pub Reads-no_digit : base ≤ digit_value x → (v : ℕ) → Digits base 0 digits v → ⊥
+  Reads-no_digit le v d = omega (arith, le, (here v d).0)
+
+  pub Reads-large : 1 ≤ base → 2 ^ 32 ≤ base * n + digit_value x → (v : ℕ) → v < 2 ^ 32 → Digits base 0 digits v → ⊥
+  Reads-large pos large v lt d = omega (arith, large, lt, Digits-grow base (base * n + digit_value x) next v pos (here v d).1)
+
+pub if_none : {A : Type 0} (o : Option A) (P : Type 0) → P → IfNone o P
+if_none None P p = p
+if_none (Some x) P p = tt

@@ -1,0 +1,85 @@
+-- Columns of rows.
+use Rattle.std.proofs.Common.{◌≡◌, ℕ, zero, suc, ◌+◌, ◌<◌, ◌≤◌, List, [], ◌∷◌, ◌++◌, length, map, take, slice_get, Option, Some, None, get_or, refl, sym, ap, ◌∙◌, subst, arith}
+use Rattle.std.specs.Prelude.{All}
+use Rattle.std.specs.List.{filter_map, cons_option, range_with_len, AllByRecursion}
+use Rattle.std.proofs.lemmas.List.{take_more}
+use Rattle.std.proofs.lemmas.List.FromFn.{length-map-range_with_len}
+use Rattle.std.proofs.lemmas.List.Elements.{filter_map-append, All-from_recursion}
+use Rattle.std.proofs.lemmas.Option.{slice_get_read, slice_get_within, get_or_from_slice_get, slice_get-map}
+use Rattle.std.specs.Option.{option_map}
+use Rattle.lw_text.specs.declared.cell.Cell.{Cell}
+use Rattle.lw_text.specs.Rows.{column, columns}
+use Rattle.lw_text.proofs.Elements.{each_of}
+use Rattle.lw_text.specs.Places.{cell_texts, cells_texts, all_texts, height, IsWithin}
+
+-- one more row
+pub column-more : {X : Type 0} (rows : List (List X)) (i k : ℕ) (row : List X) (x : X) → i < length rows → row ≡ get_or rows i row → k < length row → x ≡ get_or row k x → column (take (i + 1) rows) k ≡ column (take i rows) k ++ x ∷ []
+column-more rows i k row x lt is within at =
+    let h : slice_get row k ≡ Some x = slice_get_read row (length row) k x refl within at in
+    ap (λ l. column l k) (take_more rows i row lt) ∙ filter_map-append (λ r. slice_get r k) (take i rows) (get_or rows i row ∷ []) ∙ rw (← is, h) refl
+
+-- ---- what each column is
+
+all_range : {X : Type 0} (Q : X → Type 0) (f : ℕ → X) (a n : ℕ) → ((k : ℕ) → k < a + n → Q (f k)) → AllByRecursion Q (map f (range_with_len a n))
+all_range Q f a zero h = tt
+all_range Q f a (suc n) h = (h a (omega arith), all_range Q f (a + 1) n (λ k lt. h k (omega (arith, lt))))
+
+all_columns : {X : Type 0} (Q : List X → Type 0) (n : ℕ) (rows : List (List X)) → ((k : ℕ) → k < n → Q (column rows k)) → All Q (columns n rows)
+all_columns Q n rows h = All-from_recursion Q (columns n rows) (all_range Q (column rows) 0 n (λ k lt. h k (omega (arith, lt))))
+
+slice_get-some : {X : Type 0} (xs : List X) (k : ℕ) → k < length xs → (x : X) × (slice_get xs k ≡ Some x)
+slice_get-some [] k lt = absurd (omega arith)
+slice_get-some (x ∷ xs) zero lt = (x, refl)
+slice_get-some (x ∷ xs) (suc k) lt = slice_get-some xs k (omega (arith, lt))
+
+column-length : {X : Type 0} (n k : ℕ) (rows : List (List X)) → k < n → AllByRecursion (λ row. length row ≡ n) rows → length (column rows k) ≡ length rows
+column-length n k [] lt all = refl
+column-length n k (row ∷ rows) lt all =
+    let h = slice_get-some row k (omega (arith, lt, all.0)) in
+    let e = h.1 in
+    rw e (ap suc (column-length n k rows lt all.1))
+
+cons_each : {X : Type 0} (P : X → Type 0) (row more : List X) (k : ℕ) (o : Option X) → slice_get row k ≡ o → All P row → AllByRecursion P more → AllByRecursion P (cons_option o more)
+cons_each P row more k None e all rest = rest
+cons_each P row more k (Some x) e all rest = (subst P (get_or_from_slice_get row k x x e) (all k x (slice_get_within row k x e)), rest)
+
+column-each : {X : Type 0} (P : X → Type 0) (k : ℕ) (rows : List (List X)) → AllByRecursion (λ row. All P row) rows → AllByRecursion P (column rows k)
+column-each P k [] all = tt
+column-each P k (row ∷ rows) all = cons_each P row (column rows k) k (slice_get row k) refl all.0 (column-each P k rows all.1)
+
+-- ---- columns of rows of which each has a cell for each thread
+
+module _ {X : Type 0} (n : ℕ) (rows : List (List X)) (even : All (λ row. length row ≡ n) rows) where
+  pub columns-length : length (columns n rows) ≡ n
+  columns-length = length-map-range_with_len (column rows) 0 n
+
+  pub columns-height : 1 ≤ n → height (columns n rows) ≡ length rows
+  columns-height some = at n refl some
+    where
+      at : (m : ℕ) → n ≡ m → 1 ≤ n → height (columns n rows) ≡ length rows
+      at zero e some = absurd (omega arith)
+      at (suc m) e some = rw e (column-length n 0 rows (omega (arith, some)) (each_of rows (λ row. length row ≡ n) even))
+
+  pub columns-even : 1 ≤ n → All (λ c. length c ≡ height (columns n rows)) (columns n rows)
+  columns-even some = all_columns (λ c. length c ≡ height (columns n rows)) n rows (λ k lt. column-length n k rows lt (each_of rows (λ row. length row ≡ n) even) ∙ sym (columns-height some))
+
+pub columns-each : {X : Type 0} (P : X → Type 0) (n : ℕ) (rows : List (List X)) → All (λ row. All P row) rows → All (λ c. All P c) (columns n rows)
+columns-each {X} P n rows all = all_columns (λ c. All P c) n rows (λ k lt. All-from_recursion P (column rows k) (column-each P k rows (each_of rows (λ row. All P row) all)))
+
+-- ---- columns without places
+
+cons_texts : {A : Type 0} (o : Option (Cell A)) (cells : List (Cell A)) (texts : List (List (List ℕ))) → cells_texts cells ≡ texts → cells_texts (cons_option o cells) ≡ cons_option (option_map cell_texts o) texts
+cons_texts None cells texts e = e
+cons_texts (Some x) cells texts e = ap (λ l. cell_texts x ∷ l) e
+
+column-texts : {A : Type 0} (rows : List (List (Cell A))) (k : ℕ) → cells_texts (column rows k) ≡ column (all_texts rows) k
+column-texts [] k = refl
+column-texts (row ∷ rows) k =
+    cons_texts (slice_get row k) (column rows k) (column (all_texts rows) k) (column-texts rows k) ∙ ap (λ o. cons_option o (column (all_texts rows) k)) (sym (slice_get-map cell_texts row k))
+
+range-texts : {A : Type 0} (rows : List (List (Cell A))) (a n : ℕ) → all_texts (map (column rows) (range_with_len a n)) ≡ map (column (all_texts rows)) (range_with_len a n)
+range-texts rows a zero = refl
+range-texts rows a (suc n) = let e = column-texts rows a in let f = range-texts rows (a + 1) n in cc
+
+pub columns-texts : {A : Type 0} (n : ℕ) (rows : List (List (Cell A))) → all_texts (columns n rows) ≡ columns n (all_texts rows)
+columns-texts n rows = range-texts rows 0 n

@@ -1,0 +1,163 @@
+-- Words and symbols, and what stands behind them.
+use Rattle.std.proofs.Common.{◌≡◌, ℕ, ◌<◌, inl, inr, Bool, true, false, not, List, [], ◌∷◌, ◌++◌, length, take, drop, refl, sym, ap, ◌∙◌, subst, arith}
+use Rattle.std.specs.Prelude.{◌==◌, nat_lt, Option, Some, None, MatchOption, is_some}
+use Rattle.std.specs.Str.{IsAscii, bytes_eq}
+use Rattle.std.specs.List.{AllByRecursion, list_any, list_all}
+use Rattle.std.proofs.lemmas.List.Elements.{All-from_recursion}
+use Rattle.std.proofs.lemmas.Str.Ascii.{IsAscii-from_all}
+use Rattle.std.proofs.lemmas.Slice.Eq.{bytes_eq-Decides}
+use Rattle.std.proofs.lemmas.Bool.{ltb-true, or_cases, and_parts, eqb-true, and_left, not-true, ne_eqb, cases_Bool}
+use Rattle.std.proofs.lemmas.Bool.Decides.{nat_tests}
+use Rattle.lw_base.specs.Characters.{is_blank, is_word_byte, begins}
+use Rattle.lw_base.specs.Names.{IsName}
+use Rattle.lw_text.specs.Tokens.{begins_gap, begins_pair, is_single, is_pair, pairs, singles, IsNumber, IsKind, IsWord, IsSymbol, IsToken}
+
+-- ---- rows of bytes
+
+-- Up to the first byte that fails a test, a text is read in one way.
+pub run-unique : (p : ℕ → Bool) (w r v s : List ℕ) → AllByRecursion (λ b. p b ≡ true) w → AllByRecursion (λ b. p b ≡ true) v → begins p r ≡ false → begins p s ≡ false → w ++ r ≡ v ++ s → (w ≡ v) × (r ≡ s)
+run-unique p [] r [] s a c m n e = (refl, e)
+run-unique p [] r (b ∷ v) s a c m n e = absurd (let h : begins p r ≡ p b = ap (begins p) e in cc (c.0))
+run-unique p (b ∷ w) r [] s a c m n e = absurd (let h : p b ≡ begins p s = ap (begins p) e in cc (a.0))
+run-unique p (b ∷ w) r (d ∷ v) s a c m n e =
+    let h : w ++ r ≡ v ++ s = cc in
+    let k : b ≡ d = cc in
+    let both = run-unique p w r v s a.1 c.1 m n h in
+    let i : w ≡ v = both.0 in
+    (cc, both.1)
+
+abbrev pub Words : List ℕ → Type 0
+Words w = AllByRecursion (λ b. is_word_byte b ≡ true) w
+
+-- what holds of each of a list holds of one that is found there
+any_all : {X : Type 0} (same : X → X → Bool) → ((x y : X) → same x y ≡ true → x ≡ y) → (q : X → Bool) (xs : List X) (b : X) → list_all q xs ≡ true → list_any (λ s. same s b) xs ≡ true → q b ≡ true
+any_all same decides q [] b all any = absurd cc
+any_all same decides q (x ∷ xs) b all any =
+    let each = and_parts (q x) (list_all q xs) all in
+    elim (or_cases (same x b) (list_any (λ s. same s b) xs) any) [
+      | inl e ↦ subst (λ y. q y ≡ true) (decides x b e) each.0
+      | inr h ↦ any_all same decides q xs b each.1 h
+    ]
+
+same_byte : (x y : ℕ) → (x == y) ≡ true → x ≡ y
+same_byte x y h = eqb-true x y h
+
+pub blank_all : (q : ℕ → Bool) (b : ℕ) → list_all q (32 ∷ 9 ∷ 10 ∷ 13 ∷ []) ≡ true → is_blank b ≡ true → q b ≡ true
+blank_all q b all h = any_all (λ x y. x == y) same_byte q (32 ∷ 9 ∷ 10 ∷ 13 ∷ []) b all h
+
+single_all : (q : ℕ → Bool) (b : ℕ) → list_all q singles ≡ true → is_single b ≡ true → q b ≡ true
+single_all q b all h = any_all (λ x y. x == y) same_byte q singles b all h
+
+pair_all : (q : List ℕ → Bool) (b c : ℕ) → list_all q pairs ≡ true → is_pair b c ≡ true → q (b ∷ c ∷ []) ≡ true
+pair_all q b c all h = any_all bytes_eq (λ x y e. (bytes_eq-Decides x y).0 e) q pairs (b ∷ c ∷ []) all h
+
+-- ---- what a token begins with
+
+kind_nonempty : (w : List ℕ) → IsKind w → 0 < length w
+kind_nonempty w (inl name) = name.0.some
+kind_nonempty w (inr (n, m)) = elim m.1 [ inl d ↦ d.0 | inr h ↦ omega (arith, ap length h.1) ]
+
+word_front : (w rest : List ℕ) → IsWord w rest → begins is_word_byte (w ++ rest) ≡ true
+word_front [] rest h = absurd (let n = kind_nonempty [] h.kind in omega arith)
+word_front (b ∷ w) rest h = h.all.0
+
+symbol_front : (t rest : List ℕ) → IsSymbol t rest → begins is_word_byte (t ++ rest) ≡ false
+symbol_front [] rest h = absurd h
+symbol_front (b ∷ []) rest h = not-true (is_word_byte b) (single_all (λ x. not (is_word_byte x)) b refl h.0)
+symbol_front (b ∷ c ∷ []) rest h = not-true (is_word_byte b) (pair_all (begins (λ x. not (is_word_byte x))) b c refl h)
+symbol_front (b ∷ c ∷ d ∷ more) rest h = absurd h
+
+word_no_blank : (b : ℕ) → is_word_byte b ≡ true → is_blank b ≡ false
+word_no_blank b h = elim (cases_Bool (is_blank b)) [ inl e ↦ absurd (let k = not-true (is_word_byte b) (blank_all (λ x. not (is_word_byte x)) b refl e) in cc) | inr e ↦ e ]
+
+-- no gap begins where a token does
+pub token_no_gap : (t rest : List ℕ) → IsToken t rest → begins_gap (t ++ rest) ≡ false
+token_no_gap [] rest (inl w) = absurd (let n = kind_nonempty [] w.kind in omega arith)
+token_no_gap (b ∷ t) rest (inl w) = word_no_blank b w.all.0
+token_no_gap [] rest (inr s) = absurd s
+token_no_gap (b ∷ []) rest (inr s) = not-true (is_blank b) (single_all (λ x. not (is_blank x)) b refl s.0)
+token_no_gap (b ∷ c ∷ []) rest (inr s) = not-true (is_blank b) (pair_all (begins (λ x. not (is_blank x))) b c refl s)
+token_no_gap (b ∷ c ∷ d ∷ more) rest (inr s) = absurd s
+
+pub token_nonempty : (t rest : List ℕ) → IsToken t rest → 0 < length t
+token_nonempty t rest (inl w) = kind_nonempty t w.kind
+token_nonempty [] rest (inr s) = absurd s
+token_nonempty (b ∷ t) rest (inr s) = omega arith
+
+-- ---- one token begins at a place
+
+symbol-unique : (t r u s : List ℕ) → IsSymbol t r → IsSymbol u s → t ++ r ≡ u ++ s → (t ≡ u) × (r ≡ s)
+symbol-unique [] r u s p q e = absurd p
+symbol-unique (b ∷ []) r [] s p q e = absurd q
+symbol-unique (b ∷ []) r (c ∷ []) s p q e = (cc, cc)
+symbol-unique (b ∷ []) r (c ∷ d ∷ []) s p q e =
+    let k : b ≡ c = cc in
+    absurd (let h : begins (is_pair b) r ≡ is_pair b d = ap (begins (is_pair b)) (let i : r ≡ d ∷ s = cc in i) in let i : is_pair b d ≡ true = subst (λ x. is_pair x d ≡ true) (sym k) q in cc (p.1))
+symbol-unique (b ∷ []) r (c ∷ d ∷ f ∷ u) s p q e = absurd q
+symbol-unique (a ∷ b ∷ []) r [] s p q e = absurd q
+symbol-unique (a ∷ b ∷ []) r (c ∷ []) s p q e =
+    let k : c ≡ a = cc in
+    absurd (let h : is_pair c b ≡ begins (is_pair c) s = ap (begins (is_pair c)) (let i : b ∷ r ≡ s = cc in i) in let i : is_pair c b ≡ true = subst (λ x. is_pair x b ≡ true) (sym k) p in cc (q.1))
+symbol-unique (a ∷ b ∷ []) r (c ∷ d ∷ []) s p q e = (cc, cc)
+symbol-unique (a ∷ b ∷ []) r (c ∷ d ∷ f ∷ u) s p q e = absurd q
+symbol-unique (a ∷ b ∷ c ∷ t) r u s p q e = absurd p
+
+pub token-unique : (t r u s : List ℕ) → IsToken t r → IsToken u s → t ++ r ≡ u ++ s → (t ≡ u) × (r ≡ s)
+token-unique t r u s (inl p) (inl q) e = run-unique is_word_byte t r u s p.all q.all p.longest q.longest e
+token-unique t r u s (inl p) (inr q) e = absurd (let h = word_front t r p in let k = symbol_front u s q in let i = ap (begins is_word_byte) e in cc)
+token-unique t r u s (inr p) (inl q) e = absurd (let h = symbol_front t r p in let k = word_front u s q in let i = ap (begins is_word_byte) e in cc)
+token-unique t r u s (inr p) (inr q) e = symbol-unique t r u s p q e
+
+-- ---- what the reader of one token owes
+
+-- no token stands where a word does that is neither a name nor a number
+pub no_kind : (bytes w r : List ℕ) → bytes ≡ w ++ r → Words w → begins is_word_byte r ≡ false → begins is_word_byte bytes ≡ true → (IsKind w → ⊥) → (t rest : List ℕ) → bytes ≡ t ++ rest → IsToken t rest → ⊥
+no_kind bytes w r e all longest front never t rest f (inl p) = never (subst IsKind (run-unique is_word_byte t rest w r p.all all p.longest longest (sym f ∙ e)).0 p.kind)
+no_kind bytes w r e all longest front never t rest f (inr p) = let h = symbol_front t rest p in let i = ap (begins is_word_byte) f in cc
+
+pub single_token : (bytes rest : List ℕ) (b : ℕ) → bytes ≡ b ∷ rest → is_single b ≡ true → begins_pair 40 42 bytes ≡ false → ((c d : ℕ) (more : List ℕ) → bytes ≡ c ∷ d ∷ more → is_pair c d ≡ true → ⊥) → IsToken (take 1 bytes) (drop 1 bytes)
+single_token bytes rest b e single no_comment short =
+    subst (λ l. IsToken (take 1 l) (drop 1 l)) (sym e) (inr (single, no_pair rest refl, subst (λ l. begins_pair 40 42 l ≡ false) e no_comment))
+  where
+    no_pair : (l : List ℕ) → rest ≡ l → begins (is_pair b) rest ≡ false
+    no_pair [] f = ap (begins (is_pair b)) f
+    no_pair (d ∷ more) f = elim (cases_Bool (is_pair b d)) [
+      | inl h ↦ absurd (short b d more (e ∙ ap (λ l. b ∷ l) f) h)
+      | inr h ↦ ap (begins (is_pair b)) f ∙ h
+    ]
+
+pub no_token : (bytes rest : List ℕ) (b : ℕ) → bytes ≡ b ∷ rest → is_word_byte b ≡ false → ((is_single b ≡ true) × (begins_pair 40 42 bytes ≡ false) → ⊥) → ((c d : ℕ) (more : List ℕ) → bytes ≡ c ∷ d ∷ more → is_pair c d ≡ true → ⊥) → (t more : List ℕ) → bytes ≡ t ++ more → IsToken t more → ⊥
+no_token bytes rest b e no_word no_single short t more f (inl p) = let h = word_front t more p in let i = ap (begins is_word_byte) (sym e ∙ f) in cc
+no_token bytes rest b e no_word no_single short [] more f (inr p) = p
+no_token bytes rest b e no_word no_single short (c ∷ []) more f (inr p) =
+    let k : b ≡ c = let i = sym e ∙ f in cc in
+    no_single (subst (λ x. is_single x ≡ true) (sym k) p.0, subst (λ l. begins_pair 40 42 l ≡ false) (sym f) p.2)
+no_token bytes rest b e no_word no_single short (c ∷ d ∷ []) more f (inr p) = short c d more f p
+no_token bytes rest b e no_word no_single short (c ∷ d ∷ g ∷ t) more f (inr p) = p
+
+-- a word that is no name is told by whether it is a number
+pub kind_number : (w : List ℕ) (name number : Bool) (o : Option ℕ) → (IsName w → name ≡ true) → name ≡ false → MatchOption o ((n : ℕ) → IsNumber w n → ⊥) (λ n. IsNumber w n) → number ≡ is_some o → (number ≡ true → IsKind w) × (IsKind w → number ≡ true)
+kind_number w name number None is other never e = (λ h. absurd cc, λ k. elim k [ inl n ↦ absurd (let h = is n in cc) | inr n ↦ absurd (never n.0 n.1) ])
+kind_number w name number (Some m) is other found e = (λ h. inr (m, found), λ k. e)
+
+-- ---- a token is ASCII
+
+word_byte_ascii : (b : ℕ) → is_word_byte b ≡ true → b < 128
+word_byte_ascii b h = grind (arith, nat_tests)
+
+words_ascii : (w : List ℕ) → Words w → AllByRecursion (λ b. b < 128) w
+words_ascii [] h = tt
+words_ascii (b ∷ w) h = (word_byte_ascii b h.0, words_ascii w h.1)
+
+pub Words-ascii : (w : List ℕ) → Words w → IsAscii w
+Words-ascii w all = IsAscii-from_all w (All-from_recursion (λ b. b < 128) w (words_ascii w all))
+
+symbol_ascii : (t rest : List ℕ) → IsSymbol t rest → AllByRecursion (λ b. b < 128) t
+symbol_ascii [] rest h = tt
+symbol_ascii (b ∷ []) rest h = (ltb-true b 128 (single_all (λ x. nat_lt x 128) b refl h.0), tt)
+symbol_ascii (b ∷ c ∷ []) rest h =
+    (ltb-true b 128 (pair_all (begins (λ x. nat_lt x 128)) b c refl h), (ltb-true c 128 (pair_all (λ t. begins (λ x. nat_lt x 128) (drop 1 t)) b c refl h), tt))
+symbol_ascii (b ∷ c ∷ d ∷ t) rest h = absurd h
+
+pub IsSymbol-ascii : (t rest : List ℕ) → IsSymbol t rest → IsAscii t
+IsSymbol-ascii t rest s = IsAscii-from_all t (All-from_recursion (λ b. b < 128) t (symbol_ascii t rest s))

@@ -1,0 +1,12 @@
+use Rattle.std.proofs.Common.{◌≡◌, sym, subst, length, ◌<◌, get_or}
+use Rattle.lw_text.proofs.RowColumns.{column-more}
+use Rattle.lw_text.proofs.columns.column.Goals as goal
+
+pub loop-row-preserved : goal.loop-row-preserved
+loop-row-preserved g c =
+    let row = c.row-item.result in
+    let i = c.loop-row.row-index in
+    let x = c.index-as_slice-place.result in
+    let within : c.args.place < length row = subst (λ r. c.args.place < length r) (sym c.row-item.is) (c.requires i row c.loop-row-test.true) in
+    let at : x ≡ get_or row c.args.place x = subst (λ l. x ≡ get_or l c.args.place x) c.as_slice.ensures c.index-as_slice-place.is in
+    rw (c.in_ok-push.ensures.ok, c.loop-row.invariant, c.in_ok-copy.ensures) (sym (column-more c.args.rows.now i c.args.place row x c.loop-row-test.true c.row-item.is within at))

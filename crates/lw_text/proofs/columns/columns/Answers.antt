@@ -1,0 +1,8 @@
+use Rattle.std.proofs.Common.{sym, zero-add, ◌∙◌, ap, ◌++◌, ◌∷◌, []}
+use Rattle.std.proofs.lemmas.List.FromFn.{map-range_with_len_more}
+use Rattle.lw_text.specs.Rows.{column}
+use Rattle.lw_text.proofs.columns.columns.Goals as goal
+
+pub loop-place-preserved : goal.loop-place-preserved
+loop-place-preserved g c =
+    rw (c.in_ok-push.ensures.ok, c.loop-place.invariant, c.in_ok-column.ensures) (sym (map-range_with_len_more (column c.args.rows.now) 0 c.loop-place.place c.loop-place.place (zero-add c.loop-place.place)))

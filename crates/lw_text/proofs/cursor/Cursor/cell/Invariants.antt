@@ -1,0 +1,16 @@
+use Rattle.std.proofs.Common.{◌≡◌, ◌++◌, false, length}
+use Rattle.std.specs.List.{AllByRecursion}
+use Rattle.lw_text.specs.Rows.{ends_cell}
+use Rattle.lw_text.specs.Spans.{texts}
+use Rattle.lw_text.specs.Views.{remaining}
+use Rattle.lw_text.proofs.cursor.Cursor.cell.Given as goal
+
+abbrev pub invariant-cell : goal.invariant-cell
+invariant-cell g l = record {
+  tokens : remaining l.fn.self ≡ l.cell ++ remaining l.self;
+  plain : AllByRecursion (λ t. ends_cell t ≡ false) (texts l.cell);
+  same : l.self.len ≡ l.fn.self.len;
+}
+
+abbrev pub decreases-cell : goal.decreases-cell
+decreases-cell g l = length (remaining l.self)

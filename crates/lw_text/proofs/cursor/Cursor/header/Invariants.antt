@@ -1,0 +1,12 @@
+use Rattle.std.proofs.Common.{◌≡◌}
+use Rattle.lw_text.specs.Spans.{Leaves}
+use Rattle.lw_text.specs.Views.{remaining, left}
+use Rattle.lw_text.proofs.Headers.{NamesTo}
+use Rattle.lw_text.proofs.cursor.Cursor.header.Given as goal
+
+abbrev pub invariant-loop-thread : goal.invariant-loop-thread
+invariant-loop-thread l = record {
+  names : NamesTo (left l.fn.self) l.thread (left l.self);
+  leaves : Leaves (remaining l.fn.self) (remaining l.self);
+  same : l.self.len ≡ l.fn.self.len;
+}

@@ -1,0 +1,17 @@
+use Rattle.std.proofs.Common.{◌≡◌, length}
+use Rattle.std.specs.Prelude.{codes}
+use Rattle.lw_text.specs.Rows.{Cell}
+use Rattle.lw_text.specs.Places.{cells_texts, TakesCells}
+use Rattle.lw_text.specs.Views.{remaining, left}
+use Rattle.lw_text.proofs.Lists.{Before}
+use Rattle.lw_text.proofs.cursor.Cursor.line.Given as goal
+
+abbrev pub invariant-cells : goal.invariant-cells
+invariant-cells g l = record {
+  before : Before Cell (codes "|") (codes ";") (left l.fn.self) (cells_texts l.cells) (left l.self);
+  spans : TakesCells (remaining l.fn.self) l.cells (remaining l.self);
+  same : l.self.len ≡ l.fn.self.len;
+}
+
+abbrev pub decreases-cells : goal.decreases-cells
+decreases-cells g l = length (left l.self)

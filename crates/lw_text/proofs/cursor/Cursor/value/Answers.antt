@@ -1,0 +1,5 @@
+use Rattle.lw_text.proofs.Atoms.{value_none}
+use Rattle.lw_text.proofs.cursor.Cursor.value.Goals as goal
+
+pub returns-in-None-clause-err : goal.returns-in-None-clause-err
+returns-in-None-clause-err c = value_none _ _ _ _ c.in_ok-expect.ensures.ok c.in_ok-token.ensures.ok c.in-None.ensures

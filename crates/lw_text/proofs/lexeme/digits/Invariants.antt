@@ -1,0 +1,9 @@
+use Rattle.std.proofs.Common.{length}
+use Rattle.lw_text.proofs.Numbers.{Reads}
+use Rattle.lw_text.proofs.lexeme.digits.Given as goal
+
+abbrev pub invariant-loop-first : goal.invariant-loop-first
+invariant-loop-first l = Reads l.base l.digits l.n l.rest
+
+abbrev pub decreases-loop-first : goal.decreases-loop-first
+decreases-loop-first l = length l.rest

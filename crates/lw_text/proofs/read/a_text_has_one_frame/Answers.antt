@@ -1,0 +1,5 @@
+use Rattle.lw_text.proofs.Whole.{HasFrame-unique}
+use Rattle.lw_text.proofs.read.a_text_has_one_frame.Goals as goal
+
+pub returns : goal.returns
+returns c = λ text f g p q. HasFrame-unique text f g p q

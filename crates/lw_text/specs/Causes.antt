@@ -1,0 +1,47 @@
+-- How people are told why a text is refused: a number and a name.
+use Rattle.std.specs.Prelude.{ℕ, List, codes}
+use Rattle.lw_text.specs.declared.fault.TextCause.{TextCause}
+use Rattle.lw_text.specs.declared.fault.TextCause.TheVariants as text
+use Rattle.lw_text.specs.declared.fault.Cause.{Cause}
+use Rattle.lw_text.specs.declared.fault.Cause.TheVariants as inner
+
+abbrev pub text_cause_number : TextCause → ℕ
+text_cause_number text.NotUtf8 = 1
+text_cause_number text.TooLong = 2
+text_cause_number text.Unterminated = 3
+text_cause_number text.Unexpected = 4
+text_cause_number text.Number = 5
+text_cause_number text.Name = 6
+text_cause_number text.Ragged = 7
+text_cause_number text.TooManyThreads = 8
+text_cause_number text.TooManyRows = 9
+text_cause_number text.TooManyLocations = 10
+text_cause_number text.Condition = 11
+text_cause_number text.Memory = 12
+
+abbrev pub text_cause_name : TextCause → List ℕ
+text_cause_name text.NotUtf8 = codes "NotUtf8"
+text_cause_name text.TooLong = codes "TooLong"
+text_cause_name text.Unterminated = codes "Unterminated"
+text_cause_name text.Unexpected = codes "Unexpected"
+text_cause_name text.Number = codes "Number"
+text_cause_name text.Name = codes "Name"
+text_cause_name text.Ragged = codes "Ragged"
+text_cause_name text.TooManyThreads = codes "TooManyThreads"
+text_cause_name text.TooManyRows = codes "TooManyRows"
+text_cause_name text.TooManyLocations = codes "TooManyLocations"
+text_cause_name text.Condition = codes "Condition"
+text_cause_name text.Memory = codes "Memory"
+
+-- a reader's cause, as it is told
+abbrev pub told : Cause → TextCause
+told inner.Unterminated = text.Unterminated
+told inner.Unexpected = text.Unexpected
+told inner.Number = text.Number
+told inner.Name = text.Name
+told inner.Ragged = text.Ragged
+told inner.TooManyThreads = text.TooManyThreads
+told inner.TooManyRows = text.TooManyRows
+told inner.TooManyLocations = text.TooManyLocations
+told inner.Condition = text.Condition
+told inner.Memory = text.Memory

@@ -1,0 +1,10 @@
+pub mod Tokens
+pub mod Lists
+pub mod Rows
+pub mod Conditions
+pub mod Frames
+pub mod Causes
+pub mod Spans
+pub mod Places
+pub mod Claims
+pub mod Views

@@ -1,0 +1,41 @@
+-- Where cells lie in their text.
+use Rattle.std.specs.Prelude.{◌≡◌, ℕ, ◌+◌, ◌≤◌, List, [], ◌∷◌, length, map, slice_index_or, All}
+use Rattle.lw_text.specs.declared.token.Token.{Token}
+use Rattle.lw_text.specs.declared.cell.Cell.{Cell}
+use Rattle.lw_text.specs.Spans.{texts, Spans}
+
+-- a cell without places
+abbrev pub cell_texts : {A : Type 0} → Cell A → List (List ℕ)
+cell_texts cell = texts cell.tokens
+
+abbrev pub cells_texts : {A : Type 0} → List (Cell A) → List (List (List ℕ))
+cells_texts cells = map cell_texts cells
+
+abbrev pub all_texts : {A : Type 0} → List (List (Cell A)) → List (List (List (List ℕ)))
+all_texts rows = map cells_texts rows
+
+-- The cells lie one behind another between two places, and each ends where its tokens have ended.
+abbrev pub CellSpans : {A : Type 0} → List ℕ → ℕ → List (Cell A) → ℕ → Type 0
+CellSpans text from [] to = from ≤ to
+CellSpans text from (cell ∷ cells) to = Spans text from cell.tokens cell.end × CellSpans text (cell.end + 1) cells to
+
+-- The rows' cells lie one behind another.
+abbrev pub RowSpans : {A : Type 0} → List ℕ → ℕ → List (List (Cell A)) → ℕ → Type 0
+RowSpans text from [] to = from ≤ to
+RowSpans text from (row ∷ rows) to = (mid : ℕ) × CellSpans text from row mid × RowSpans text mid rows to
+
+-- no token of the cell, and not its end, lies past this place
+abbrev pub IsWithin : {A : Type 0} → ℕ → Cell A → Type 0
+IsWithin len cell = All (λ t. t.at ≤ len) cell.tokens × (cell.end ≤ len)
+
+-- the number of rows
+abbrev pub height : {X : Type 0} → List (List X) → ℕ
+height columns = length (slice_index_or columns 0 [])
+
+-- Wherever the tokens before lie in a text, the cells lie, and behind them the tokens after.
+abbrev pub TakesCells : {A : Type 0} → List Token → List (Cell A) → List Token → Type 0
+TakesCells before cells after = (text : List ℕ) (from to : ℕ) → Spans text from before to → (mid : ℕ) × CellSpans text from cells mid × Spans text mid after to
+
+-- Wherever the tokens before lie in a text, the rows lie, and behind them the tokens after.
+abbrev pub TakesRows : {A : Type 0} → List Token → List (List (Cell A)) → List Token → Type 0
+TakesRows before rows after = (text : List ℕ) (from to : ℕ) → Spans text from before to → (mid : ℕ) × RowSpans text from rows mid × Spans text mid after to

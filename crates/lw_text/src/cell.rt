@@ -1,0 +1,25 @@
+//! A cell of a test.
+ghost use Rattle.std.specs.Prelude.{◌≡◌, IfOk};
+
+use crate::token::Token;
+use lw_base::Sequence;
+use std::alloc::{AllocError, Allocator, Global};
+
+/// The tokens of a cell, and the place of the `|` or `;` that ends it.
+#[derive(Drop)]
+pub struct Cell<'a, A: Allocator = Global> {
+    pub tokens: Sequence<Token<'a>, A>,
+    pub end: usize,
+}
+
+impl<'a, A: Allocator + Copy> Cell<'a, A> {
+    /// An equal cell, over the same allocator.
+    pub fn copy(&self) -> Result<Self, AllocError>
+        ensures { IfOk result (λ cell. cell ≡ self.now) }
+    {
+        Ok(Cell {
+            tokens: self.tokens.copy()?,
+            end: self.end,
+        })
+    }
+}

@@ -1,0 +1,41 @@
+//! The cells of each thread, from top to bottom.
+ghost use Rattle.std.specs.Prelude.{◌≡◌, ◌<◌, length, All, IfOk};
+ghost use Rattle.lw_text.specs.Rows as wanted;
+
+use crate::cell::Cell;
+use crate::rows::Cells;
+use lw_base::Sequence;
+use std::alloc::{AllocError, Allocator};
+
+/// So many columns of the rows.
+pub(crate) fn columns<'a, A: Allocator + Copy>(
+    alloc: A,
+    threads: usize,
+    rows: &[Cells<'a, A>],
+) -> Result<Sequence<Cells<'a, A>, A>, AllocError>
+    requires { All (λ row. length row ≡ threads) rows.now }
+    ensures { IfOk result (λ v. v ≡ wanted.columns threads rows.now) }
+{
+    let mut columns = Sequence::new(alloc);
+    for place in 0..threads {
+        columns.push(column(alloc, rows, place)?)?;
+    }
+    Ok(columns)
+}
+
+/// What stands in each row at this place.
+fn column<'a, A: Allocator + Copy>(
+    alloc: A,
+    rows: &[Cells<'a, A>],
+    place: usize,
+) -> Result<Cells<'a, A>, AllocError>
+    requires { All (λ row. place < length row) rows.now }
+    ensures { IfOk result (λ v. v ≡ wanted.column rows.now place) }
+{
+    let mut column = Sequence::new(alloc);
+    for row in rows {
+        let cell: &Cell<'a, A> = &row.as_slice()[place];
+        column.push(cell.copy()?)?;
+    }
+    Ok(column)
+}

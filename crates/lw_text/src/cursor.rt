@@ -1,0 +1,86 @@
+//! The tokens that are still to be read.
+ghost use Rattle.std.specs.Prelude.{◌≡◌, ℕ, ◌≤◌, List, [], ◌∷◌, length, All, OnOk, OnErr, IfOk, IfErr};
+
+use crate::fault::{Cause, Fault};
+use crate::token::Token;
+
+/// A row of tokens, of which those before `next` have been read. `end` is told where they run out,
+/// and no place is past `len`, the text's length.
+#[derive(Drop)]
+pub(crate) struct Cursor<'t, 'a> {
+    pub(crate) tokens: &'t [Token<'a>],
+    pub(crate) next: usize,
+    pub(crate) end: Fault,
+    pub(crate) len: usize,
+    ghost within: { next ≤ length tokens.now },
+    ghost places: { All (λ t. t.at ≤ len) tokens.now },
+    ghost end_place: { end.at ≤ len },
+}
+
+impl<'t, 'a> Cursor<'t, 'a> {
+    ghost use Rattle.lw_text.specs.Spans.{Leaves};
+    ghost use Rattle.lw_text.specs.Views.{remaining, left};
+
+    pub(crate) fn new(tokens: &'t [Token<'a>], end: Fault, len: usize) -> Cursor<'t, 'a>
+        requires places { All (λ t. t.at ≤ len) tokens.now }
+        requires end { end.at ≤ len }
+        ensures remaining { remaining result ≡ tokens.now }
+        ensures len { result.len ≡ len }
+    {
+        Cursor {
+            tokens,
+            next: 0,
+            end,
+            len,
+        }
+    }
+
+    /// A fault at the next token, or the row's own fault where there is none.
+    pub(crate) fn fault(&self, cause: Cause) -> Fault
+        ensures { result.at ≤ self.now.len }
+    {
+        match self.tokens.get(self.next) {
+            Some(token) => Fault {
+                at: token.at,
+                cause,
+            },
+            None => self.end,
+        }
+    }
+
+    /// Takes the next token.
+    pub(crate) fn take(&mut self) -> Result<Token<'a>, Fault>
+        ensures token { IfOk result (λ t. remaining self.old ≡ t ∷ remaining self.new) }
+        ensures ok { IfOk result (λ t. left self.old ≡ t.text.now ∷ left self.new) }
+        ensures at { IfOk result (λ t. t.at ≤ self.old.len) }
+        ensures err { OnErr result (left self.old ≡ []) }
+        ensures place { IfErr result (λ f. f.at ≤ self.old.len) }
+        ensures same { self.new.len ≡ self.old.len }
+    {
+        match self.tokens.get(self.next) {
+            Some(token) => {
+                self.next += 1;
+                Ok(*token)
+            }
+            None => Err(self.end),
+        }
+    }
+
+    /// Takes the next token, which is to be this text. Another is told with the cause.
+    pub(crate) fn expect(&mut self, text: &str, cause: Cause) -> Result<(), Fault>
+        ensures ok { OnOk result (left self.old ≡ text.now ∷ left self.new) }
+        ensures err { OnErr result ((rest : List (List ℕ)) → left self.old ≡ text.now ∷ rest → ⊥) }
+        ensures leaves { OnOk result (Leaves (remaining self.old) (remaining self.new)) }
+        ensures place { IfErr result (λ f. f.at ≤ self.old.len) }
+        ensures same { self.new.len ≡ self.old.len }
+    {
+        let token = self.take()?;
+        if token.text != text {
+            return Err(Fault {
+                at: token.at,
+                cause,
+            });
+        }
+        Ok(())
+    }
+}

@@ -1,0 +1,158 @@
+//! Why a text is refused.
+ghost use Rattle.std.specs.Prelude.{◌≡◌};
+ghost use Rattle.lw_text.specs.Causes.{text_cause_number, text_cause_name, told};
+ghost use Rattle.lw_text.specs.declared.fault.Cause.TheVariants as inner;
+
+use std::alloc::{AllocError, AllocFailed};
+
+/// What is wrong with a text.
+#[derive(Clone, Copy, Debug, PartialEq, Eq)]
+pub enum TextCause {
+    /// It is not UTF-8, from that place on.
+    NotUtf8,
+    /// It has more than 65,536 bytes.
+    TooLong,
+    /// It ends where more is needed.
+    Unterminated,
+    /// A byte that begins no token, or a token that fits nothing there.
+    Unexpected,
+    /// A number above 4294967295, one followed at once by a letter or `_`, or `0x` without digits.
+    Number,
+    /// A name of more than 32 bytes, a test name of more than 128 or with other than printing ASCII
+    /// bytes, a word that names no location or register, or a thread that there isn't.
+    Name,
+    /// A row with too few or too many cells.
+    Ragged,
+    /// A fifth thread.
+    TooManyThreads,
+    /// A 65th row.
+    TooManyRows,
+    /// A ninth location.
+    TooManyLocations,
+    /// A token that fits nothing in the condition or behind it, or the condition's 257th node.
+    Condition,
+    /// There was no memory.
+    Memory,
+}
+
+impl TextCause {
+    /// The number under which people are told of it: 1 to 12.
+    pub fn number(self) -> u8
+        ensures { result ≡ text_cause_number self }
+    {
+        match self {
+            TextCause::NotUtf8 => 1,
+            TextCause::TooLong => 2,
+            TextCause::Unterminated => 3,
+            TextCause::Unexpected => 4,
+            TextCause::Number => 5,
+            TextCause::Name => 6,
+            TextCause::Ragged => 7,
+            TextCause::TooManyThreads => 8,
+            TextCause::TooManyRows => 9,
+            TextCause::TooManyLocations => 10,
+            TextCause::Condition => 11,
+            TextCause::Memory => 12,
+        }
+    }
+
+    /// The name under which people are told of it.
+    pub fn name(self) -> &'static str
+        ensures { result.now ≡ text_cause_name self }
+    {
+        match self {
+            TextCause::NotUtf8 => "NotUtf8",
+            TextCause::TooLong => "TooLong",
+            TextCause::Unterminated => "Unterminated",
+            TextCause::Unexpected => "Unexpected",
+            TextCause::Number => "Number",
+            TextCause::Name => "Name",
+            TextCause::Ragged => "Ragged",
+            TextCause::TooManyThreads => "TooManyThreads",
+            TextCause::TooManyRows => "TooManyRows",
+            TextCause::TooManyLocations => "TooManyLocations",
+            TextCause::Condition => "Condition",
+            TextCause::Memory => "Memory",
+        }
+    }
+}
+
+/// A refused text: the cause, and the byte at which it stands. For want of memory the place is 0,
+/// and says nothing.
+#[derive(Clone, Copy, Debug, PartialEq, Eq)]
+pub struct TextFault {
+    pub at: usize,
+    pub cause: TextCause,
+}
+
+/// The causes that the readers of tokens meet: all but a text's length and its UTF-8.
+#[derive(Clone, Copy, Debug, PartialEq, Eq)]
+pub(crate) enum Cause {
+    Unterminated,
+    Unexpected,
+    Number,
+    Name,
+    Ragged,
+    TooManyThreads,
+    TooManyRows,
+    TooManyLocations,
+    Condition,
+    Memory,
+}
+
+/// A fault that a reader of tokens meets, and the place of its byte.
+#[derive(Clone, Copy, Debug, PartialEq, Eq)]
+pub(crate) struct Fault {
+    pub(crate) at: usize,
+    pub(crate) cause: Cause,
+}
+
+impl From<AllocError> for Fault {
+    ghost from_gives = { λ _ f. (f.at ≡ 0) × (f.cause ≡ inner.Memory) };
+
+    fn from(_error: AllocError) -> Fault {
+        Fault {
+            at: 0,
+            cause: Cause::Memory,
+        }
+    }
+}
+
+impl<T: Drop> From<AllocFailed<T>> for Fault {
+    ghost from_gives = { λ _ f. (f.at ≡ 0) × (f.cause ≡ inner.Memory) };
+
+    fn from(_error: AllocFailed<T>) -> Fault {
+        Fault {
+            at: 0,
+            cause: Cause::Memory,
+        }
+    }
+}
+
+impl From<Fault> for TextFault {
+    ghost from_gives = { λ f t. (t.at ≡ f.at) × (t.cause ≡ told f.cause) };
+
+    fn from(fault: Fault) -> TextFault {
+        TextFault {
+            at: fault.at,
+            cause: told(fault.cause),
+        }
+    }
+}
+
+fn told(cause: Cause) -> TextCause
+    ensures { result ≡ told cause }
+{
+    match cause {
+        Cause::Unterminated => TextCause::Unterminated,
+        Cause::Unexpected => TextCause::Unexpected,
+        Cause::Number => TextCause::Number,
+        Cause::Name => TextCause::Name,
+        Cause::Ragged => TextCause::Ragged,
+        Cause::TooManyThreads => TextCause::TooManyThreads,
+        Cause::TooManyRows => TextCause::TooManyRows,
+        Cause::TooManyLocations => TextCause::TooManyLocations,
+        Cause::Condition => TextCause::Condition,
+        Cause::Memory => TextCause::Memory,
+    }
+}

@@ -1,0 +1,42 @@
+//! The frame of a text.
+ghost use Rattle.std.specs.Prelude.{◌≡◌, ◌<◌, ◌≤◌, length, All, Some, slice_get};
+ghost use Rattle.lw_text.specs.Places.{IsWithin, height};
+
+use crate::cell::Cell;
+use lw_base::{Cpu, Head, Sequence};
+use std::alloc::{Allocator, Global};
+
+/// A test without what its cells say: its head, and for each thread its cells, one in each row.
+#[derive(Drop)]
+pub struct Frame<'a, A: Allocator = Global> {
+    pub head: Head<A>,
+    /// A column of cells for each thread, from top to bottom.
+    pub cells: Sequence<Sequence<Cell<'a, A>, A>, A>,
+    /// The length of the text, which no place in the frame is past.
+    pub len: usize,
+    pub ghost regs: { length head.init_regs ≡ head.threads },
+    pub ghost words: { length head.init_words ≡ length head.locs },
+    pub ghost some: { 1 ≤ head.threads },
+    pub ghost few: { head.threads ≤ 4 },
+    pub ghost columns: { length cells ≡ head.threads },
+    pub ghost even: { All (λ column. length column ≡ height cells) cells },
+    pub ghost low: { height cells ≤ 64 },
+    pub ghost places: { All (λ column. All (IsWithin len) column) cells },
+}
+
+impl<'a, A: Allocator> Frame<'a, A> {
+    /// The test's head.
+    pub fn head(&self) -> &Head<A>
+        ensures { result.now ≡ self.now.head }
+    {
+        &self.head
+    }
+
+    /// The thread's cells, from top to bottom.
+    pub fn cells(&self, cpu: Cpu) -> &[Cell<'a, A>]
+        requires { cpu < self.now.head.threads }
+        ensures { slice_get self.now.cells cpu ≡ Some result.now }
+    {
+        self.cells.as_slice()[cpu.index()].as_slice()
+    }
+}

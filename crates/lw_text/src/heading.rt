@@ -1,0 +1,83 @@
+//! The word of the architecture, and the name of the test.
+ghost use Rattle.std.specs.Prelude.{◌≡◌, ℕ, ◌≤◌, ◌↔◌, List, length, codes, IsTrue, IfOk, OnOk, OnErr, IfErr};
+ghost use Rattle.lw_text.specs.Tokens.{First};
+ghost use Rattle.lw_text.specs.Frames.{IsTestName, Named, Heading};
+
+use crate::fault::{Cause, Fault};
+use crate::lexer::Lexer;
+use crate::scan::{blanks, until_blank};
+use lw_base::ascii_text;
+
+impl<'a> Lexer<'a> {
+    /// Takes the word `SRC`, the blanks behind it and the test's name.
+    pub(crate) fn heading(&mut self) -> Result<&'a str, Fault>
+        ensures found { IfOk result (λ name. Heading self.old.rest.now name.now self.new.rest.now) }
+        ensures fault { OnErr result ((name rest : List ℕ) → Heading self.old.rest.now name rest → ⊥) }
+        ensures place { IfErr result (λ f. f.at ≤ length self.old.text.now) }
+        ensures same { self.new.text.now ≡ self.old.text.now }
+    {
+        self.source_word()?;
+        self.test_name()
+    }
+
+    fn source_word(&mut self) -> Result<(), Fault>
+        ensures found { OnOk result (First self.old.rest.now (codes "SRC") self.new.rest.now) }
+        ensures fault { OnErr result ((rest : List ℕ) → First self.old.rest.now (codes "SRC") rest → ⊥) }
+        ensures place { IfErr result (λ f. f.at ≤ length self.old.text.now) }
+        ensures same { self.new.text.now ≡ self.old.text.now }
+    {
+        match self.next()? {
+            Some(token) => {
+                if token.text == "SRC" {
+                    return Ok(());
+                }
+                Err(Fault {
+                    at: token.at,
+                    cause: Cause::Unexpected,
+                })
+            }
+            None => Err(Fault {
+                at: self.text.len(),
+                cause: Cause::Unterminated,
+            }),
+        }
+    }
+
+    fn test_name(&mut self) -> Result<&'a str, Fault>
+        ensures found { IfOk result (λ name. Named self.old.rest.now name.now self.new.rest.now) }
+        ensures fault { OnErr result ((name rest : List ℕ) → Named self.old.rest.now name rest → ⊥) }
+        ensures place { IfErr result (λ f. f.at ≤ length self.old.text.now) }
+        ensures same { self.new.text.now ≡ self.old.text.now }
+    {
+        let (space, after) = blanks(self.rest);
+        let (name, rest) = until_blank(after);
+        if name.is_empty() {
+            return Err(Fault {
+                at: self.text.len(),
+                cause: Cause::Unterminated,
+            });
+        }
+        let at = self.text.len() - after.len();
+        if space.is_empty() {
+            return Err(Fault {
+                at,
+                cause: Cause::Unexpected,
+            });
+        }
+        if !is_test_name(name) {
+            return Err(Fault {
+                at,
+                cause: Cause::Name,
+            });
+        }
+        self.rest = rest;
+        Ok(ascii_text(name))
+    }
+}
+
+/// Whether the bytes can name a test.
+fn is_test_name(name: &[u8]) -> bool
+    ensures { IsTrue result ↔ IsTestName name.now }
+{
+    !name.is_empty() && name.len() <= 128 && name.iter().all(|byte| byte.is_ascii_graphic())
+}

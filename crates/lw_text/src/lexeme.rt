@@ -1,0 +1,118 @@
+//! Words, numbers and symbols.
+ghost use Rattle.std.specs.Prelude.{◌≡◌, ℕ, ◌<◌, ◌≤◌, ◌^◌, List, [], ◌∷◌, ◌++◌, IfSome, IfNone, IfOk, OnErr, MatchOption, true, false, IsTrue, ◌↔◌};
+ghost use Rattle.lw_text.specs.Tokens as symbols;
+ghost use Rattle.lw_text.specs.Tokens.{begins_gap, begins_pair, Digits, IsNumber, IsKind, IsToken};
+
+use crate::fault::Cause;
+use crate::scan::{behind, split, word};
+use lw_base::{Word, ascii_text, is_name, is_word_byte};
+
+/// The number that the digits stand for.
+fn digits(base: u32, digits: &[u8]) -> Option<Word>
+    requires low { 2 ≤ base }
+    requires high { base ≤ 16 }
+    ensures found { IfSome result (λ n. Digits base 0 digits.now n) }
+    ensures none { IfNone result ((n : ℕ) → n < 2 ^ 32 → Digits base 0 digits.now n → ⊥) }
+{
+    let mut n: u32 = 0;
+    let mut rest = digits;
+    while let Some((first, next)) = split(rest) {
+        let digit = char::from(first).to_digit(base)?;
+        n = n.checked_mul(base)?.checked_add(digit)?;
+        rest = next;
+    }
+    Some(n)
+}
+
+/// The number that the token stands for, where it is one: decimal, or hexadecimal behind `0x`.
+pub fn number(text: &str) -> Option<Word>
+    ensures { MatchOption result ((n : ℕ) → IsNumber text.now n → ⊥) (λ n. IsNumber text.now n) }
+{
+    let bytes = text.as_bytes();
+    if bytes.is_empty() {
+        return None;
+    }
+    match behind(bytes, b'0', b'x') {
+        Some([]) => None,
+        Some(hex) => digits(16, hex),
+        None => digits(10, bytes),
+    }
+}
+
+fn is_pair(first: u8, second: u8) -> bool
+    ensures { result ≡ symbols.is_pair first second }
+{
+    matches!(
+        (first, second),
+        (b':', b'=') | (b'!', b'=') | (b'/', b'\\') | (b'\\', b'/')
+    )
+}
+
+fn is_single(byte: u8) -> bool
+    ensures { result ≡ symbols.is_single byte }
+{
+    b"{}[]()|;:,$=+~".contains(&byte)
+}
+
+/// Whether the two bytes at the front are a symbol.
+fn begins_long(bytes: &[u8]) -> bool
+    ensures { IsTrue result ↔ ((b c : ℕ) × (rest : List ℕ) × (bytes.now ≡ b ∷ c ∷ rest) × (symbols.is_pair b c ≡ true)) }
+{
+    let Some((first, rest)) = split(bytes) else {
+        return false;
+    };
+    match split(rest) {
+        Some((second, _)) => is_pair(first, second),
+        None => false,
+    }
+}
+
+/// Whether the first byte is a symbol, where no longer one begins.
+fn begins_short(bytes: &[u8], first: u8) -> bool
+    ensures { IsTrue result ↔ ((symbols.is_single first ≡ true) × (begins_pair 40 42 bytes.now ≡ false)) }
+{
+    is_single(first) && behind(bytes, b'(', b'*').is_none()
+}
+
+/// Whether the word is a name or a number.
+fn is_kind(word: &str) -> bool
+    ensures { IsTrue result ↔ IsKind word.now }
+{
+    is_name(word) || number(word).is_some()
+}
+
+/// The fault of a word that is neither.
+fn word_fault(first: u8) -> Cause {
+    if first.is_ascii_digit() {
+        Cause::Number
+    } else {
+        Cause::Name
+    }
+}
+
+/// The token at the front, and what stands behind it.
+pub(crate) fn token(bytes: &[u8]) -> Result<(&str, &[u8]), Cause>
+    ensures found { IfOk result (λ x. (bytes.now ≡ x.0.now ++ x.1.now) × IsToken x.0.now x.1.now) }
+    ensures none { OnErr result ((t rest : List ℕ) → bytes.now ≡ t ++ rest → IsToken t rest → ⊥) }
+{
+    let Some((first, _)) = split(bytes) else {
+        return Err(Cause::Unterminated);
+    };
+    if is_word_byte(first) {
+        let (word, rest) = word(bytes);
+        let text = ascii_text(word);
+        if !is_kind(text) {
+            return Err(word_fault(first));
+        }
+        return Ok((text, rest));
+    }
+    if begins_long(bytes) {
+        let (symbol, rest) = bytes.split_at(2);
+        return Ok((ascii_text(symbol), rest));
+    }
+    if begins_short(bytes, first) {
+        let (symbol, rest) = bytes.split_at(1);
+        return Ok((ascii_text(symbol), rest));
+    }
+    Err(Cause::Unexpected)
+}

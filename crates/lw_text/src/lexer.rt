@@ -1,0 +1,59 @@
+//! The tokens of a text, one after another.
+ghost use Rattle.std.specs.Prelude.{◌≡◌, ℕ, ◌+◌, ◌-◌, ◌≤◌, List, [], ◌++◌, length, drop, IfOk, OnErr, IfErr, IfSome, MatchOption};
+
+use crate::fault::{Cause, Fault};
+use crate::lexeme::token;
+use crate::scan::after_gap;
+use crate::token::Token;
+
+/// Reads a text from left to right.
+#[derive(Drop)]
+pub(crate) struct Lexer<'a> {
+    pub(crate) text: &'a [u8],
+    pub(crate) rest: &'a [u8],
+    ghost within: { length rest.now ≤ length text.now },
+    ghost suffix: { drop (length text.now - length rest.now) text.now ≡ rest.now },
+}
+
+impl<'a> Lexer<'a> {
+    ghost use Rattle.lw_text.specs.Tokens.{Gap, First};
+
+    pub(crate) fn new(text: &'a [u8]) -> Lexer<'a>
+        ensures text { result.text.now ≡ text.now }
+        ensures rest { result.rest.now ≡ text.now }
+    {
+        Lexer { text, rest: text }
+    }
+
+    /// The place of what is still to be read.
+    pub(crate) fn place(&self) -> usize
+        ensures { result + length self.now.rest.now ≡ length self.now.text.now }
+    {
+        self.text.len() - self.rest.len()
+    }
+
+    /// The next token, or `None` at the end of the text.
+    pub(crate) fn next(&mut self) -> Result<Option<Token<'a>>, Fault>
+        ensures end { IfOk result (λ o. MatchOption o (Gap self.old.rest.now []) (λ t. First self.old.rest.now t.text.now self.new.rest.now)) }
+        ensures no_end { OnErr result (Gap self.old.rest.now [] → ⊥) }
+        ensures no_token { OnErr result ((t rest : List ℕ) → First self.old.rest.now t rest → ⊥) }
+        ensures place { IfErr result (λ f. f.at ≤ length self.old.text.now) }
+        ensures at { IfOk result (λ o. IfSome o (λ t. t.at ≤ length self.old.text.now)) }
+        ensures after { IfOk result (λ o. IfSome o (λ t. length self.old.text.now ≤ t.at + length self.old.rest.now)) }
+        ensures slice { IfOk result (λ o. IfSome o (λ t. drop t.at self.old.text.now ≡ t.text.now ++ self.new.rest.now)) }
+        ensures same { self.new.text.now ≡ self.old.text.now }
+    {
+        let start = after_gap(self.rest);
+        let at = self.text.len() - start.len();
+        if start.is_empty() {
+            return Ok(None);
+        }
+        match token(start) {
+            Ok((text, rest)) => {
+                self.rest = rest;
+                Ok(Some(Token { at, text }))
+            }
+            Err(cause) => Err(Fault { at, cause }),
+        }
+    }
+}

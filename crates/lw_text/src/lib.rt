@@ -1,0 +1,33 @@
+//! Reads the bytes of a litmus test into tokens and a frame: the head of the test, and for each
+//! thread and row the tokens of the cell. What a cell says is read by the crates of the languages.
+//!
+//! It names lw_base. The format is that of docs/FORMAT.md.
+#![tactic(auto)]
+
+mod body;
+mod cell;
+mod claim;
+mod columns;
+mod condition;
+mod cursor;
+mod fault;
+mod frame;
+mod head;
+mod heading;
+mod lexeme;
+mod lexer;
+mod read;
+mod row;
+mod rows;
+mod scan;
+mod token;
+
+pub use cell::Cell;
+pub use fault::{TextCause, TextFault};
+pub use frame::Frame;
+pub use lexeme::number;
+pub use read::{a_text_has_one_frame, read_frame};
+pub use token::Token;
+
+#[cfg(test)]
+mod tests;

@@ -1,0 +1,181 @@
+//! The header and the rows of a test.
+ghost use Rattle.std.specs.Prelude.{◌≡◌, ◌≢◌, ℕ, ◌+◌, ◌<◌, ◌≤◌, true, false, List, ◌∷◌, ◌++◌, length, OnOk, OnErr, IfOk, IfErr, codes, if◌then◌else◌};
+ghost use Rattle.std.specs.List.{AllByRecursion};
+ghost use Rattle.lw_text.specs.declared.fault.Cause.TheVariants.{Memory};
+ghost use Rattle.lw_text.specs.Rows as words;
+ghost use Rattle.lw_text.specs.Rows.{thread_name, Header, Line, Rows, begins_stop};
+ghost use Rattle.lw_text.specs.Spans.{texts, Leaves};
+ghost use Rattle.lw_text.specs.Places.{cells_texts, all_texts, TakesCells, TakesRows};
+
+use crate::cell::Cell;
+use crate::cursor::Cursor;
+use crate::fault::{Cause, Fault};
+use crate::token::Token;
+use lw_base::Sequence;
+use std::alloc::{Allocator, Global};
+
+/// The cells of a row.
+pub(crate) type Cells<'a, A> = Sequence<Cell<'a, A>, A>;
+
+impl<'t, 'a> Cursor<'t, 'a> {
+    ghost use Rattle.lw_text.specs.Views.{remaining, left};
+
+    /// Takes the header, and counts the threads.
+    pub(crate) fn header(&mut self) -> Result<usize, Fault>
+        ensures found { IfOk result (λ n. Header (left self.old) n (left self.new)) }
+        ensures fault { OnErr result ((n : ℕ) (rest : List (List ℕ)) → Header (left self.old) n rest → ⊥) }
+        ensures leaves { OnOk result (Leaves (remaining self.old) (remaining self.new)) }
+        ensures place { IfErr result (λ f. f.at ≤ self.old.len) }
+        ensures same { self.new.len ≡ self.old.len }
+    {
+        for thread in 0..4usize {
+            self.expect(thread_name(thread), Cause::Unexpected)?;
+            if self.ends_line()? {
+                return Ok(thread + 1);
+            }
+        }
+        Err(self.fifth_thread())
+    }
+
+    /// Takes a `;`, or a `|`, and says whether it is the first.
+    fn ends_line(&mut self) -> Result<bool, Fault>
+        ensures ok { IfOk result (λ b. left self.old ≡ (if b then codes ";" else codes "|") ∷ left self.new) }
+        ensures no_end { OnErr result ((rest : List (List ℕ)) → left self.old ≡ codes ";" ∷ rest → ⊥) }
+        ensures no_bar { OnErr result ((rest : List (List ℕ)) → left self.old ≡ codes "|" ∷ rest → ⊥) }
+        ensures leaves { OnOk result (Leaves (remaining self.old) (remaining self.new)) }
+        ensures place { IfErr result (λ f. f.at ≤ self.old.len) }
+        ensures same { self.new.len ≡ self.old.len }
+    {
+        let mark = self.take()?;
+        if mark.text == ";" {
+            return Ok(true);
+        }
+        if mark.text == "|" {
+            return Ok(false);
+        }
+        Err(Fault {
+            at: mark.at,
+            cause: Cause::Unexpected,
+        })
+    }
+
+    /// The fault behind the fourth `|` of the header.
+    fn fifth_thread(&self) -> Fault
+        ensures { result.at ≤ self.now.len }
+    {
+        match self.tokens.get(self.next) {
+            Some(token) if token.text == "P4" => self.fault(Cause::TooManyThreads),
+            _ => self.fault(Cause::Unexpected),
+        }
+    }
+
+    /// Takes the rows up to a word that ends them, which stays.
+    pub(crate) fn rows<A: Allocator + Copy>(
+        &mut self,
+        alloc: A,
+        threads: usize,
+    ) -> Result<Sequence<Cells<'a, A>, A>, Fault>
+        ensures found { IfOk result (λ v. Rows threads (left self.old) (all_texts v) (left self.new)) }
+        ensures fault { IfErr result (λ f. f.cause ≢ Memory → (rows : List (List (List (List ℕ)))) (rest : List (List ℕ)) → Rows threads (left self.old) rows rest → ⊥) }
+        ensures spans { IfOk result (λ v. TakesRows (remaining self.old) v (remaining self.new)) }
+        ensures place { IfErr result (λ f. f.at ≤ self.old.len) }
+        ensures same { self.new.len ≡ self.old.len }
+    {
+        let mut rows = Sequence::new(alloc);
+        'rows: loop {
+            if self.at_stop() {
+                return Ok(rows);
+            }
+            if rows.len() == 64 {
+                return Err(self.fault(Cause::TooManyRows));
+            }
+            rows.push(self.line(alloc, threads)?)?;
+        }
+    }
+
+    /// Whether the next token is a word that ends the rows.
+    fn at_stop(&self) -> bool
+        ensures { result ≡ begins_stop (left self.now) }
+    {
+        match self.tokens.get(self.next) {
+            Some(token) => is_stop(token),
+            None => false,
+        }
+    }
+
+    /// Takes a row of so many cells.
+    fn line<A: Allocator + Copy>(&mut self, alloc: A, threads: usize) -> Result<Cells<'a, A>, Fault>
+        ensures found { IfOk result (λ v. Line threads (left self.old) (cells_texts v) (left self.new)) }
+        ensures fault { IfErr result (λ f. f.cause ≢ Memory → (cells : List (List (List ℕ))) (rest : List (List ℕ)) → Line threads (left self.old) cells rest → ⊥) }
+        ensures spans { IfOk result (λ v. TakesCells (remaining self.old) v (remaining self.new)) }
+        ensures place { IfErr result (λ f. f.at ≤ self.old.len) }
+        ensures same { self.new.len ≡ self.old.len }
+    {
+        let mut cells = Sequence::new(alloc);
+        'cells: loop {
+            let (tokens, mark) = self.cell(alloc)?;
+            cells.push(Cell {
+                tokens,
+                end: mark.at,
+            })?;
+            if mark.text == ";" {
+                if cells.len() != threads {
+                    return Err(Fault {
+                        at: mark.at,
+                        cause: Cause::Ragged,
+                    });
+                }
+                return Ok(cells);
+            }
+        }
+    }
+
+    /// Takes the tokens up to a `|` or `;`, and that mark.
+    fn cell<A: Allocator>(&mut self, alloc: A) -> Result<(Sequence<Token<'a>, A>, Token<'a>), Fault>
+        ensures tokens { IfOk result (λ x. remaining self.old ≡ x.0 ++ x.1 ∷ remaining self.new) }
+        ensures parts { IfOk result (λ x. left self.old ≡ texts x.0 ++ x.1.text.now ∷ left self.new) }
+        ensures plain { IfOk result (λ x. AllByRecursion (λ t. words.ends_cell t ≡ false) (texts x.0)) }
+        ensures mark { IfOk result (λ x. words.ends_cell x.1.text.now ≡ true) }
+        ensures mark_at { IfOk result (λ x. x.1.at ≤ self.old.len) }
+        ensures err { IfErr result (λ f. f.cause ≢ Memory → AllByRecursion (λ t. words.ends_cell t ≡ false) (left self.old)) }
+        ensures place { IfErr result (λ f. f.at ≤ self.old.len) }
+        ensures same { self.new.len ≡ self.old.len }
+    {
+        let mut cell = Sequence::new(alloc);
+        'cell: loop {
+            let token = self.take()?;
+            if ends_cell(&token) {
+                return Ok((cell, token));
+            }
+            cell.push(token)?;
+        }
+    }
+}
+
+fn thread_name(thread: usize) -> &'static str
+    requires { thread < 4 }
+    ensures { result.now ≡ thread_name thread }
+{
+    match thread {
+        0 => "P0",
+        1 => "P1",
+        2 => "P2",
+        _ => "P3",
+    }
+}
+
+fn ends_cell(token: &Token) -> bool
+    ensures { result ≡ words.ends_cell token.now.text.now }
+{
+    token.text == "|" || token.text == ";"
+}
+
+fn is_stop(token: &Token) -> bool
+    ensures { result ≡ words.is_stop token.now.text.now }
+{
+    token.text == "locations"
+        || token.text == "exists"
+        || token.text == "forall"
+        || token.text == "filter"
+        || token.text == "~"
+}

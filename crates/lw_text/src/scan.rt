@@ -1,0 +1,64 @@
+//! The bytes at the front of a text.
+ghost use Rattle.std.specs.Prelude.{◌≡◌, ℕ, not, List, [], ◌∷◌, ◌++◌, MatchOption, false, true};
+ghost use Rattle.std.specs.List.{AllByRecursion};
+ghost use Rattle.lw_base.specs.Characters as characters;
+ghost use Rattle.lw_base.specs.Characters.{begins};
+ghost use Rattle.lw_text.specs.Tokens.{begins_pair, Gap, begins_gap};
+
+use lw_base::{is_blank, is_word_byte};
+
+/// The first byte, and what stands behind it.
+pub(crate) fn split(bytes: &[u8]) -> Option<(u8, &[u8])>
+    ensures { MatchOption result (bytes.now ≡ []) (λ p. bytes.now ≡ p.0 ∷ p.1.now) }
+{
+    let (first, rest) = bytes.split_first()?;
+    Some((*first, rest))
+}
+
+/// What stands behind these two bytes, or `None` where others stand at the front.
+pub(crate) fn behind(bytes: &[u8], first: u8, second: u8) -> Option<&[u8]>
+    ensures { MatchOption result (begins_pair first second bytes.now ≡ false) (λ rest. bytes.now ≡ first ∷ second ∷ rest.now) }
+{
+    let (a, rest) = split(bytes)?;
+    let (b, rest) = split(rest)?;
+    if a == first && b == second {
+        Some(rest)
+    } else {
+        None
+    }
+}
+
+/// What stands behind the blanks at the front.
+pub(crate) fn after_gap(bytes: &[u8]) -> &[u8]
+    ensures found { Gap bytes.now result.now }
+    ensures stops { begins_gap result.now ≡ false }
+{
+    blanks(bytes).1
+}
+
+/// The blanks at the front, and what stands behind them.
+pub(crate) fn blanks(bytes: &[u8]) -> (&[u8], &[u8])
+    ensures parts { bytes.now ≡ result.0.now ++ result.1.now }
+    ensures all { AllByRecursion (λ b. characters.is_blank b ≡ true) result.0.now }
+    ensures longest { begins characters.is_blank result.1.now ≡ false }
+{
+    bytes.split_at(bytes.iter().take_while(|b| is_blank(**b)).count())
+}
+
+/// The bytes up to the first blank, and what stands behind them.
+pub(crate) fn until_blank(bytes: &[u8]) -> (&[u8], &[u8])
+    ensures parts { bytes.now ≡ result.0.now ++ result.1.now }
+    ensures all { AllByRecursion (λ b. not (characters.is_blank b) ≡ true) result.0.now }
+    ensures longest { begins (λ b. not (characters.is_blank b)) result.1.now ≡ false }
+{
+    bytes.split_at(bytes.iter().take_while(|b| !is_blank(**b)).count())
+}
+
+/// The letters, digits and `_` at the front, and what stands behind them.
+pub(crate) fn word(bytes: &[u8]) -> (&[u8], &[u8])
+    ensures parts { bytes.now ≡ result.0.now ++ result.1.now }
+    ensures all { AllByRecursion (λ b. characters.is_word_byte b ≡ true) result.0.now }
+    ensures longest { begins characters.is_word_byte result.1.now ≡ false }
+{
+    bytes.split_at(bytes.iter().take_while(|b| is_word_byte(**b)).count())
+}

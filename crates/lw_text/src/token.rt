@@ -1,0 +1,8 @@
+//! A token of a text.
+
+/// A token: the place of its first byte in the text, and its bytes.
+#[derive(Clone, Copy, Debug, PartialEq, Eq)]
+pub struct Token<'a> {
+    pub at: usize,
+    pub text: &'a str,
+}
