@@ -2,11 +2,12 @@
 //! words and streams is lw_bench's.
 #![tactic(auto)]
 
-use lw_bench::{BenchFault, FromRead, Task, ToWrite, command_of, end_status, fault_line, replay_text, status_of};
+use lw_bench::{
+    BenchFault, FromRead, Task, ToWrite, command_of, end_status, fault_line, replay_text, status_of,
+};
 use std::alloc::Global;
-use std::env;
-use std::io;
 use std::process::ExitCode;
+use std::{env, io};
 
 fn main(rt: HostRuntime) -> ExitCode {
     let status = match words_of(&rt) {
@@ -32,7 +33,9 @@ fn run(rt: &HostRuntime, words: &[String]) -> u8 {
         Ok(texts) => match command_of(&texts) {
             Some(Task::Replay(schedule)) => replay(rt, schedule),
             None => {
-                let _ = rt.eprintln("usage: lw states | lw compile | lw schedules | lw replay SCHEDULE");
+                let _ = rt.eprintln(
+                    "usage: lw states | lw compile | lw schedules | lw replay SCHEDULE",
+                );
                 2
             }
         },

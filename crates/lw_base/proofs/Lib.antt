@@ -1,3 +1,4 @@
 pub mod Tables
-pub mod Words
 pub mod Schedules
+pub mod Words
+pub mod Shapes

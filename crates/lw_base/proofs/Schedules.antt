@@ -16,7 +16,7 @@ one_place (n ∷ names) zero (suc j) once l m e = absurd (once.0 (subst (Contain
 one_place (n ∷ names) (suc i) zero once l m e = absurd (once.0 (subst (Contains names) e (Contains-get_or names i [] (omega arith))))
 one_place (n ∷ names) (suc i) (suc j) once l m e = ap suc (one_place names i j once.1 (omega arith) (omega arith) e)
 
-apart : (a b : ℕ) (u v : List ℕ) → (a ≡ b → ⊥) → a ∷ u ≡ b ∷ v → ⊥
+pub apart : (a b : ℕ) (u v : List ℕ) → (a ≡ b → ⊥) → a ∷ u ≡ b ∷ v → ⊥
 apart a b u v differ same = differ cc
 
 one_event : (names : List (List ℕ)) → EachOnce names → (e f : Event) → IsEvent names e → IsEvent names f → event_word names e ≡ event_word names f → e ≡ f

@@ -6,7 +6,7 @@ use Rattle.std.proofs.lemmas.Bool.{false_from_ne_true, true≢false}
 use Rattle.std.specs.List.{AllByRecursion}
 use Rattle.std.proofs.lemmas.List.{map-append}
 use Rattle.std.proofs.lemmas.List.Elements.{Contains-push_cases, Contains-append_right}
-use Rattle.std.proofs.Common.{◌≤◌, ◌++◌, ◌||◌, ◌∷◌, length-append, ◌≡◌, ℕ, ◌<◌, ◌+◌, Bool, true, false, suc, zero, List, [], map, length, get_or, slice_get, Option, Some, None, MatchOption, Contains, ◌⊎◌, inl, inr, refl, ap, sym, ◌∙◌, subst, nat_eq, below_more, arith}
+use Rattle.std.proofs.Common.{◌++◌, ◌||◌, ◌∷◌, length-append, ◌≡◌, ℕ, ◌<◌, ◌+◌, Bool, true, false, suc, zero, List, [], map, length, get_or, slice_get, Option, Some, None, MatchOption, Contains, ◌⊎◌, inl, inr, refl, ap, sym, ◌∙◌, subst, nat_eq, arith}
 use Rattle.std.specs.Option.{option_map, SomeIff}
 use Rattle.std.specs.Cmp.{unsigned_Decides}
 use Rattle.std.specs.Cmp.Lexicographic.{pointwise, pointwise_decides}

@@ -1,9 +1,12 @@
 -- How a schedule is written: the words of its events, between blanks.
-use Rattle.std.specs.Prelude.{◌≡◌, ℕ, ◌+◌, ◌<◌, true, if◌then◌else◌, List, [], ◌∷◌, length, map, filter, slice_index_or}
+use Rattle.std.specs.Prelude.{◌≡◌, ℕ, ◌+◌, ◌<◌, true, false, if◌then◌else◌, ◌⊎◌, List, [], ◌∷◌, ◌++◌, length, map, filter, drop, slice_index_or, Contains}
 use Rattle.std.specs.List.{AllByRecursion}
 use Rattle.lw_base.specs.Characters.{is_blank, begins}
+use Rattle.lw_base.specs.Names.{IsWordText, are_digits}
 use Rattle.lw_base.specs.declared.event.Event.{Event}
 use Rattle.lw_base.specs.declared.event.Event.TheVariants.{Step, Drain, Evict}
+use Rattle.lw_base.specs.declared.fault.ScheduleCause.{ScheduleCause}
+use Rattle.lw_base.specs.declared.fault.ScheduleCause.TheVariants.{Word, Cpu, Location, Memory}
 
 -- an event of one of four processors, on a location of the table
 abbrev pub IsEvent : List (List ℕ) → Event → Type 0
@@ -34,3 +37,33 @@ words text = filter (begins (λ b. true)) (pieces text)
 -- The text is a schedule of these events: its words are theirs.
 abbrev pub IsSchedule : List (List ℕ) → List ℕ → List Event → Type 0
 IsSchedule names text events = AllByRecursion (IsEvent names) events × (words text ≡ map (event_word names) events)
+
+-- A word of these parts: `P` or `D`, and then ds; or `E`, ds, `:` and a name of any length.
+abbrev pub HasParts : List ℕ → List ℕ → Type 0
+HasParts w ds = (w ≡ 80 ∷ ds) ⊎ ((w ≡ 68 ∷ ds) ⊎ ((n : List ℕ) × IsWordText n × (w ≡ 69 ∷ ds ++ 58 ∷ n)))
+
+-- a word of an event's shape: of such parts, where ds are digits
+abbrev pub HasShape : List ℕ → List ℕ → Type 0
+HasShape w ds = (are_digits ds ≡ true) × HasParts w ds
+
+-- the digits of a processor
+abbrev pub IsCpu : List ℕ → Type 0
+IsCpu ds = (c : ℕ) × (c < 4) × (ds ≡ (48 + c) ∷ [])
+
+-- The cause for which a word is refused: it has no event's shape; or its digits are no processor's; or they are, and its name is not in the table.
+abbrev pub IsFaulty : List (List ℕ) → List ℕ → ScheduleCause → Type 0
+IsFaulty names w Word = (ds : List ℕ) → HasShape w ds → ⊥
+IsFaulty names w Cpu = (ds : List ℕ) × HasShape w ds × (IsCpu ds → ⊥)
+IsFaulty names w Location = (ds n : List ℕ) × IsCpu ds × IsWordText n × (w ≡ 69 ∷ ds ++ 58 ∷ n) × (Contains names n → ⊥)
+IsFaulty names w Memory = ⊥
+
+-- The first faulty word of a text begins at a byte: the words before it are events', and it is refused for this cause.
+pub record IsFirstFault (names : List (List ℕ)) (text : List ℕ) (at : ℕ) (cause : ScheduleCause) : Type 0 where
+  pub before : List Event
+  pub word : List ℕ
+  pub further : List (List ℕ)
+  pub events : AllByRecursion (IsEvent names) before
+  pub place : words (drop at text) ≡ word ∷ further
+  pub front : begins is_blank (drop at text) ≡ false
+  pub whole : words text ≡ map (event_word names) before ++ word ∷ further
+  pub fault : IsFaulty names word cause

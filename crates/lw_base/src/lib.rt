@@ -15,23 +15,28 @@ mod operand;
 mod outcome;
 mod proposition;
 mod register;
+mod scan;
 mod schedule;
 mod sequence;
 mod stop;
+#[cfg(test)]
+mod tests;
 mod text;
 
 pub use event::Event;
 pub use fault::{CellCause, CellFault, ScheduleCause, ScheduleFault};
 pub use head::{Arch, Head, Quant, Seen};
 pub use location::LocNames;
-pub use name::{ascii_text, is_blank, is_location, is_name, is_numbered, is_word_byte, is_word_text};
+pub use name::{
+    ascii_text, is_blank, is_location, is_name, is_numbered, is_word_byte, is_word_text,
+};
 pub use number::{Cpu, Loc, Reg, Word};
 pub use operand::Operand;
 pub use outcome::Outcome;
 pub use proposition::Prop;
 pub use register::{reg_name, reg_named};
+pub use scan::{blanks, until_blank};
 pub use schedule::{a_text_has_one_schedule, read_schedule};
 pub use sequence::Sequence;
 pub use stop::{End, Replay, Stop};
 pub use text::Text;
-

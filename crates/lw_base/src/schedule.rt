@@ -1,17 +1,17 @@
 //! Schedules: words of events between blanks.
-ghost use Rattle.std.specs.Prelude.{◌≡◌, ◌≢◌, ℕ, ◌+◌, ◌<◌, ◌≤◌, false, List, [], ◌∷◌, ◌++◌, length, MatchOption, IfOk, IfErr, OnErr};
+ghost use Rattle.std.specs.Prelude.{◌≡◌, ◌≢◌, ℕ, ◌+◌, ◌<◌, ◌≤◌, false, List, [], ◌∷◌, ◌++◌, length, MatchOption, IfOk, IfErr, ◌⊎◌, true};
 ghost use Rattle.std.specs.List.{AllByRecursion};
-ghost use Rattle.lw_base.specs.Characters.{is_blank, begins};
-ghost use Rattle.lw_base.specs.Names.{IsTable};
-ghost use Rattle.lw_base.specs.Schedules.{IsEvent, event_word, words, IsSchedule};
+ghost use Rattle.lw_base.specs.Names.{IsTable, are_digits};
+ghost use Rattle.lw_base.specs.Schedules.{IsEvent, event_word, IsSchedule, IsCpu, IsFaulty, IsFirstFault};
 ghost use Rattle.lw_base.specs.declared.event.Event.{Event};
-ghost use Rattle.lw_base.specs.declared.fault.ScheduleCause.TheVariants.{Memory};
+ghost use Rattle.lw_base.specs.declared.fault.ScheduleCause.TheVariants as causes;
 
 use crate::event::Event;
 use crate::fault::{ScheduleCause, ScheduleFault};
 use crate::location::LocNames;
-use crate::name::{are_digits, ascii_text, is_blank, is_word_text};
+use crate::name::{are_digits, ascii_text, is_word_text};
 use crate::number::{Cpu, Loc};
+use crate::scan::{blanks, until_blank};
 use crate::sequence::Sequence;
 use std::alloc::Allocator;
 
@@ -29,57 +29,32 @@ pub fn read_schedule<A: Allocator, B: Allocator>(
     // What is read is a schedule of these events.
     ensures found { IfOk result (λ events. IsSchedule names.now text.now events) }
     // Where nothing is read, the text is no schedule, unless memory ran out.
-    ensures fault { IfErr result (λ f. f.cause ≢ Memory → (events : List Event) → IsSchedule names.now text.now events → ⊥) }
+    ensures fault { IfErr result (λ f. f.cause ≢ causes.Memory → (events : List Event) → IsSchedule names.now text.now events → ⊥) }
+    // The first faulty word is told, at its first byte, with its cause.
+    ensures first { IfErr result (λ f. f.cause ≢ causes.Memory → IsFirstFault names.now text.now f.at f.cause) }
     ensures place { IfErr result (λ f. f.at ≤ length text.now) }
+    ensures memory { IfErr result (λ f. f.cause ≡ causes.Memory → f.at ≡ 0) }
 {
+    // What the names of a table are.
+    let _len = names.len();
     let mut events = Sequence::new(alloc);
-    let mut rest = after_blanks(text.as_bytes());
+    let (_, mut rest) = blanks(text.as_bytes());
     while !rest.is_empty() {
         let at = text.len() - rest.len();
-        let (word, after) = first_word(rest);
+        let (word, after) = until_blank(rest);
         match event_of(word, names) {
             Ok(event) => events.push(event)?,
             Err(cause) => return Err(ScheduleFault { at, cause }),
         }
-        rest = after_blanks(after);
+        rest = blanks(after).1;
     }
     Ok(events)
-}
-
-/// What stands behind the blanks at the front.
-fn after_blanks(text: &[u8]) -> &[u8]
-    ensures words { words result.now ≡ words text.now }
-    ensures shorter { length result.now ≤ length text.now }
-    ensures others { begins is_blank result.now ≡ false }
-{
-    let mut rest = text;
-    while let Some((first, next)) = rest.split_first() {
-        if !is_blank(*first) {
-            return rest;
-        }
-        rest = next;
-    }
-    rest
-}
-
-/// The word at the front, and what stands behind it.
-fn first_word(text: &[u8]) -> (&[u8], &[u8])
-    requires some { 0 < length text.now }
-    requires others { begins is_blank text.now ≡ false }
-    ensures words { words text.now ≡ result.0.now ∷ words result.1.now }
-    ensures shorter { length result.1.now < length text.now }
-{
-    let mut len = 0;
-    while len < text.len() && !is_blank(text[len]) {
-        len += 1;
-    }
-    text.split_at(len)
 }
 
 /// The event that a word says.
 fn event_of<B: Allocator>(word: &[u8], names: &LocNames<B>) -> Result<Event, ScheduleCause>
     ensures ok { IfOk result (λ e. IsEvent names.now e × (event_word names.now e ≡ word.now)) }
-    ensures err { OnErr result ((e : Event) → IsEvent names.now e → event_word names.now e ≡ word.now → ⊥) }
+    ensures err { IfErr result (λ cause. IsFaulty names.now word.now cause) }
 {
     let Some((letter, rest)) = word.split_first() else {
         return Err(ScheduleCause::Word);
@@ -98,7 +73,7 @@ fn event_of<B: Allocator>(word: &[u8], names: &LocNames<B>) -> Result<Event, Sch
 /// The processor that digits name.
 fn cpu_of(digits: &[u8]) -> Result<Cpu, ScheduleCause>
     ensures ok { IfOk result (λ c. (c < 4) × (digits.now ≡ (48 + c) ∷ [])) }
-    ensures err { OnErr result ((c : ℕ) → c < 4 → digits.now ≡ (48 + c) ∷ [] → ⊥) }
+    ensures err { IfErr result (λ cause. ((cause ≡ causes.Word) × (are_digits digits.now ≡ false)) ⊎ ((cause ≡ causes.Cpu) × (are_digits digits.now ≡ true) × (IsCpu digits.now → ⊥))) }
 {
     if !are_digits(digits) {
         return Err(ScheduleCause::Word);
@@ -112,10 +87,8 @@ fn cpu_of(digits: &[u8]) -> Result<Cpu, ScheduleCause>
 /// The processor and the location that digits, a `:` and a name say.
 fn line_of<B: Allocator>(text: &[u8], names: &LocNames<B>) -> Result<(Cpu, Loc), ScheduleCause>
     ensures ok { IfOk result (λ x. IsEvent names.now (Event.Evict x.0 x.1) × (event_word names.now (Event.Evict x.0 x.1) ≡ 69 ∷ text.now)) }
-    ensures err { OnErr result ((c l : ℕ) → IsEvent names.now (Event.Evict c l) → event_word names.now (Event.Evict c l) ≡ 69 ∷ text.now → ⊥) }
+    ensures err { IfErr result (λ cause. IsFaulty names.now (69 ∷ text.now) cause) }
 {
-    // What the names of a table are.
-    let _len = names.len();
     let Some((digits, name)) = at_colon(text) else {
         return Err(ScheduleCause::Word);
     };

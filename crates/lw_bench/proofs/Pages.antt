@@ -1,7 +1,6 @@
 -- The text of a replay, one part more.
-use Rattle.std.proofs.Common.{◌≡◌, ℕ, zero, suc, ◌<◌, ◌+◌, Option, Some, None, List, [], ◌∷◌, ◌++◌, length, map, drop, slice_get, get_or, refl, sym, ap, ◌∙◌, subst, append_assoc, arith}
-use Rattle.std.specs.Prelude.{codes, slice_index}
-use Rattle.std.specs.List.{flat_map}
+use Rattle.std.proofs.Common.{◌≡◌, ℕ, zero, suc, ◌<◌, ◌+◌, Some, List, [], ◌∷◌, ◌++◌, length, map, drop, slice_get, refl, sym, ap, ◌∙◌, append_assoc, arith}
+use Rattle.std.specs.Prelude.{slice_index}
 use Rattle.std.specs.Option.{option_map}
 use Rattle.std.specs.Fmt.{decimal}
 use Rattle.std.proofs.lemmas.List.{append-nil}
@@ -11,7 +10,7 @@ use Rattle.std.proofs.Math.Seq.{drop-cons}
 use Rattle.lw_base.specs.declared.head.Arch.{Arch}
 use Rattle.lw_base.specs.Registers.{register_name}
 use Rattle.lw_source.specs.declared.thread.Thread.{Thread}
-use Rattle.lw_bench.specs.Pages.{spaced, line, assignment, registers, thread_line, thread_lines, memory_parts}
+use Rattle.lw_bench.specs.Pages.{spaced, assignment, registers, thread_line, thread_lines, memory_parts}
 
 drop_at : {X : Type 0} (xs : List X) (k : ℕ) (x : X) → slice_get xs k ≡ Some x → drop k xs ≡ x ∷ drop (k + 1) xs
 drop_at xs k x at =
@@ -23,7 +22,7 @@ pub memory_more : (names : List (List ℕ)) (words : List ℕ) (k w : ℕ) (name
 memory_more names words k w name out new goal at_name at_word before written =
     let rest = spaced (memory_parts (drop (k + 1) names) (drop (k + 1) words)) in
     let parts : spaced (memory_parts (drop k names) (drop k words)) ≡ (32 ∷ (name ++ (61 ∷ decimal w))) ++ rest =
-      rw (drop_at names k name at_name, drop_at words k w at_word) refl in
+    rw (drop_at names k name at_name, drop_at words k w at_word) refl in
     ap (λ t. t ++ rest) written ∙ append_assoc out (32 ∷ (name ++ (61 ∷ decimal w))) rest ∙ ap (λ t. out ++ t) (sym parts) ∙ before
 
 -- what is read of a thread, by a list of it for all threads
@@ -41,7 +40,7 @@ registers_more arch regs n w name start out new named read before written =
     let part = assignment (register_name arch n) (slice_index regs n) in
     let next : suc n ≡ n + 1 = omega arith in
     let more : spaced (registers arch regs (n + 1)) ≡ spaced (registers arch regs n) ++ (32 ∷ part) =
-      ap (λ (k : ℕ). spaced (registers arch regs k)) (sym next) ∙ spaced-push (registers arch regs n) part in
+    ap (λ (k : ℕ). spaced (registers arch regs k)) (sym next) ∙ spaced-push (registers arch regs n) part in
     let last : new ≡ out ++ (32 ∷ part) = written ∙ rw (named, read) refl in
     last ∙ ap (λ t. t ++ (32 ∷ part)) before ∙ append_assoc start (spaced (registers arch regs n)) (32 ∷ part) ∙ ap (λ t. start ++ t) (sym more)
 
@@ -53,7 +52,7 @@ pub thread_written : (arch : Arch) (t n p : ℕ) (th : Thread) (start first out 
 thread_written arch t n p th start first out new six at begun told ended =
     let s = spaced (registers arch th.regs n) in
     let whole : new ≡ ((start ++ (80 ∷ (decimal t ++ (32 ∷ 97 ∷ 116 ∷ 32 ∷ decimal p)))) ++ s) ++ 10 ∷ [] =
-      ended ∙ ap (λ x. x ++ 10 ∷ []) (told ∙ ap (λ x. x ++ s) begun) in
+    ended ∙ ap (λ x. x ++ 10 ∷ []) (told ∙ ap (λ x. x ++ s) begun) in
     let told_line : List ℕ → List ℕ → List ℕ = λ q r. start ++ ((80 ∷ decimal t) ++ (((32 ∷ 97 ∷ 116 ∷ []) ++ ((32 ∷ q) ++ r)) ++ 10 ∷ [])) in
     whole ∙ line_parts start (decimal t) (decimal p) s
     ∙ ap (λ (q : ℕ). told_line (decimal q) s) at ∙ ap (λ (k : ℕ). told_line (decimal th.position) (spaced (registers arch th.regs k))) six
@@ -70,5 +69,5 @@ threads_more arch threads k out new goal within before written =
     let next : suc k ≡ k + 1 = omega arith in
     let rest = thread_lines arch (k + 1) (drop (k + 1) threads) in
     let parts : thread_lines arch k (drop k threads) ≡ thread_line arch k here.0 ++ rest =
-      ap (thread_lines arch k) (drop_at threads k here.0 here.1) ∙ ap (λ (n : ℕ). thread_line arch k here.0 ++ thread_lines arch n (drop (k + 1) threads)) next in
+    ap (thread_lines arch k) (drop_at threads k here.0 here.1) ∙ ap (λ (n : ℕ). thread_line arch k here.0 ++ thread_lines arch n (drop (k + 1) threads)) next in
     ap (λ t. t ++ rest) (written here.0 here.1) ∙ append_assoc out (thread_line arch k here.0) rest ∙ ap (λ t. out ++ t) (sym parts) ∙ before

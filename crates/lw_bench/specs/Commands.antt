@@ -1,5 +1,5 @@
 -- The words of a command.
-use Rattle.std.specs.Prelude.{◌≡◌, ℕ, List, [], ◌∷◌, map, codes}
+use Rattle.std.specs.Prelude.{ℕ, List, [], ◌∷◌, codes}
 use Rattle.lw_bench.specs.declared.command.Task.{Task}
 use Rattle.lw_bench.specs.declared.command.Task.TheVariants.{Replay}
 

@@ -76,18 +76,36 @@ impl From<ScheduleFault> for BenchFault {
 }
 
 /// The line that tells of a fault, without a line end.
-pub fn fault_line<A: Allocator + Copy>(alloc: A, fault: &BenchFault) -> Result<String<A>, AllocError>
+pub fn fault_line<A: Allocator + Copy>(
+    alloc: A,
+    fault: &BenchFault,
+) -> Result<String<A>, AllocError>
     ensures { IfOk result (λ line. string_bytes line ≡ fault_text fault.now) }
 {
     match fault {
         BenchFault::Text(fault) => {
-            format!(in alloc; "lw: text {} {} at {}", fault.cause.number(), fault.cause.name(), fault.at)
+            format!(in alloc;
+                "lw: text {} {} at {}",
+                fault.cause.number(),
+                fault.cause.name(),
+                fault.at
+            )
         }
         BenchFault::Cell(fault) => {
-            format!(in alloc; "lw: cell {} {} at {}", fault.cause.number(), fault.cause.name(), fault.at)
+            format!(in alloc;
+                "lw: cell {} {} at {}",
+                fault.cause.number(),
+                fault.cause.name(),
+                fault.at
+            )
         }
         BenchFault::Schedule(fault) => {
-            format!(in alloc; "lw: schedule {} {} at {}", fault.cause.number(), fault.cause.name(), fault.at)
+            format!(in alloc;
+                "lw: schedule {} {} at {}",
+                fault.cause.number(),
+                fault.cause.name(),
+                fault.at
+            )
         }
         BenchFault::Memory => String::from_str(alloc, "lw: memory"),
         BenchFault::Read => String::from_str(alloc, "lw: read failed"),

@@ -14,7 +14,10 @@ const END: usize = 65537;
 const CHUNK: usize = 4096;
 
 /// The bytes of the reader, to its end or up to 65,537.
-pub(crate) fn read_input<R: ByteReader, A: Allocator>(alloc: A, reader: &mut R) -> Result<Vec<u8, A>, BenchFault>
+pub(crate) fn read_input<R: ByteReader, A: Allocator>(
+    alloc: A,
+    reader: &mut R,
+) -> Result<Vec<u8, A>, BenchFault>
     requires { R.failed reader.old ≡ false }
     ensures bytes { IfOk result (λ bytes. IsInput (R.remaining reader.old) bytes.items) }
     ensures failed { OnOk result (R.failed reader.new ≡ false) }
@@ -30,7 +33,10 @@ pub(crate) fn read_input<R: ByteReader, A: Allocator>(alloc: A, reader: &mut R) 
 }
 
 /// Adds the bytes that come next, at most as many as are still to be read, and answers how many.
-fn pull_chunk<R: ByteReader, A: Allocator>(reader: &mut R, bytes: &mut Vec<u8, A>) -> Result<usize, BenchFault>
+fn pull_chunk<R: ByteReader, A: Allocator>(
+    reader: &mut R,
+    bytes: &mut Vec<u8, A>,
+) -> Result<usize, BenchFault>
     requires working { R.failed reader.old ≡ false }
     requires room { length bytes.old.items < 65537 }
     ensures bytes { IfOk result (λ n. Gets (R.remaining reader.old) (R.remaining reader.new) bytes.old.items bytes.new.items n) }

@@ -8,8 +8,10 @@ mod input;
 mod output;
 mod page;
 mod replay;
+#[cfg(test)]
+mod tests;
 
 pub use command::{Task, command_of};
-pub use replay::replay_text;
-pub use fault::{BenchFault, end_status, fault_line, status_of};
 pub use device::{ByteReader, ByteWriter, Failed, FromRead, ToWrite};
+pub use fault::{BenchFault, end_status, fault_line, status_of};
+pub use replay::replay_text;

@@ -11,7 +11,12 @@ use lw_source::SourceRun;
 use std::alloc::{AllocError, Allocator};
 
 /// The text that tells of a replay and of the state that it led to.
-pub(crate) fn replay_page<A: Allocator + Copy>(alloc: A, head: &Head<A>, run: &SourceRun<'_, A, A>, replay: Replay) -> Result<String<A>, AllocError>
+pub(crate) fn replay_page<A: Allocator + Copy>(
+    alloc: A,
+    head: &Head<A>,
+    run: &SourceRun<'_, A, A>,
+    replay: Replay,
+) -> Result<String<A>, AllocError>
     requires few { head.now.threads ≤ 4 }
     requires threads { length run.now.state.threads ≡ head.now.threads }
     requires words { length run.now.state.words ≡ length head.now.locs }
@@ -34,13 +39,23 @@ fn write_end<A: Allocator>(out: &mut String<A>, replay: Replay) -> Result<(), Al
         End::Final => writeln!(out, "End Final"),
         End::NotFinal => writeln!(out, "End NotFinal"),
         End::Stopped(stop) => {
-            writeln!(out, "End Stopped at {} by {} {}", replay.done, stop.number(), stop.name())
+            writeln!(
+                out,
+                "End Stopped at {} by {} {}",
+                replay.done,
+                stop.number(),
+                stop.name()
+            )
         }
     }
 }
 
 /// A line for each thread.
-fn write_threads<A: Allocator>(out: &mut String<A>, head: &Head<A>, run: &SourceRun<'_, A, A>) -> Result<(), AllocError>
+fn write_threads<A: Allocator>(
+    out: &mut String<A>,
+    head: &Head<A>,
+    run: &SourceRun<'_, A, A>,
+) -> Result<(), AllocError>
     requires few { head.now.threads ≤ 4 }
     requires threads { length run.now.state.threads ≡ head.now.threads }
     ensures { OnOk result (string_bytes out.new ≡ string_bytes out.old ++ thread_lines head.now.arch 0 run.now.state.threads) }
@@ -55,7 +70,12 @@ fn write_threads<A: Allocator>(out: &mut String<A>, head: &Head<A>, run: &Source
 }
 
 /// The thread's position and its registers.
-fn write_thread<A: Allocator>(out: &mut String<A>, arch: Arch, cpu: Cpu, run: &SourceRun<'_, A, A>) -> Result<(), AllocError>
+fn write_thread<A: Allocator>(
+    out: &mut String<A>,
+    arch: Arch,
+    cpu: Cpu,
+    run: &SourceRun<'_, A, A>,
+) -> Result<(), AllocError>
     requires { cpu < length run.now.state.threads }
     ensures { OnOk result ((th : Thread) → slice_get run.now.state.threads cpu ≡ Some th → string_bytes out.new ≡ string_bytes out.old ++ pages.thread_line arch cpu th) }
 {
@@ -71,7 +91,11 @@ fn write_thread<A: Allocator>(out: &mut String<A>, arch: Arch, cpu: Cpu, run: &S
 }
 
 /// Each location's word.
-fn write_memory<A: Allocator>(out: &mut String<A>, locs: &LocNames<A>, run: &SourceRun<'_, A, A>) -> Result<(), AllocError>
+fn write_memory<A: Allocator>(
+    out: &mut String<A>,
+    locs: &LocNames<A>,
+    run: &SourceRun<'_, A, A>,
+) -> Result<(), AllocError>
     requires { length run.now.state.words ≡ length locs.now }
     ensures { OnOk result (string_bytes out.new ≡ string_bytes out.old ++ line (codes "Memory") (memory_parts locs.now run.now.state.words)) }
 {

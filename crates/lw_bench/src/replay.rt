@@ -26,7 +26,11 @@ fn read_test<A: Allocator + Copy>(alloc: A, text: &[u8]) -> Result<Source<A>, Be
 }
 
 /// The page that tells of the replay of a test by a schedule, and how the replay ended.
-fn page_of<A: Allocator + Copy>(alloc: A, source: &Source<A>, schedule: &str) -> Result<(String<A>, End), BenchFault>
+fn page_of<A: Allocator + Copy>(
+    alloc: A,
+    source: &Source<A>,
+    schedule: &str,
+) -> Result<(String<A>, End), BenchFault>
     ensures found { IfOk result (λ x. Replayed (source_of source.now) schedule.now (string_bytes x.0) x.1) }
     ensures fault { IfErr result (RefusesSchedule (source_of source.now) schedule.now) }
 {

@@ -1,6 +1,6 @@
 -- What a cell says, token by token.
-use Rattle.std.proofs.Common.{◌≡◌, ℕ, zero, suc, ◌<◌, ◌≤◌, ◌+◌, true, false, true≢false, List, [], ◌∷◌, length, refl, sym, ap, ◌∙◌, subst, arith}
-use Rattle.std.specs.Prelude.{slice_get, Some, None, codes, map}
+use Rattle.std.proofs.Common.{◌≡◌, ℕ, zero, suc, ◌<◌, ◌≤◌, ◌+◌, true, true≢false, List, [], ◌∷◌, length, refl, sym, ap, ◌∙◌, subst, arith}
+use Rattle.std.specs.Prelude.{slice_get, Some, codes}
 use Rattle.lw_base.specs.declared.head.Arch.TheVariants.{Source}
 use Rattle.lw_base.specs.declared.operand.Operand.{Operand}
 use Rattle.lw_base.specs.declared.operand.Operand.TheVariants.{Register, Number}
@@ -9,7 +9,7 @@ use Rattle.lw_base.specs.Registers.{IsRegister}
 use Rattle.lw_base.specs.Tables.{with_name, place_of}
 use Rattle.lw_text.specs.Tokens.{IsNumber}
 use Rattle.lw_source.specs.declared.stmt.Stmt.TheVariants.{Store, Load}
-use Rattle.lw_source.specs.Cells.{Written, Stores, Loads, IsOperand, Statement, name_of, placed}
+use Rattle.lw_source.specs.Cells.{Written, Stores, Loads, IsOperand, Statement, name_of}
 use Rattle.lw_source.specs.Reading.{CellRead}
 
 pub no_operand : (w : List ℕ) → ((r : ℕ) → IsRegister Source w r → ⊥) → ((n : ℕ) → IsNumber w n → ⊥) → (v : Operand) → IsOperand w v → ⊥

@@ -1,9 +1,8 @@
 -- The statements of a thread, cell by cell.
-use Rattle.std.proofs.Common.{◌≡◌, inl, inr, ℕ, zero, suc, ◌<◌, ◌≤◌, ◌+◌, true, false, true≢false, nat_lt, List, [], ◌∷◌, ◌++◌, length, take, drop, get_or, refl, sym, ap, ◌∙◌, subst, length-append, append_assoc, arith}
+use Rattle.std.proofs.Common.{◌≡◌, inl, inr, ℕ, suc, ◌<◌, ◌+◌, List, [], ◌∷◌, ◌++◌, length, refl, sym, ap, ◌∙◌, subst, arith}
 use Rattle.std.proofs.lemmas.List.{append-nil}
 use Rattle.std.proofs.lemmas.List.Elements.{filter-append}
-use Rattle.std.specs.Prelude.{Some, codes, map}
-use Rattle.std.specs.List.{AllZip, flat_map}
+use Rattle.std.specs.List.{AllZip}
 use Rattle.lw_base.specs.declared.head.Arch.TheVariants.{Source}
 use Rattle.lw_base.specs.declared.operand.Operand.{Operand}
 use Rattle.lw_base.specs.declared.operand.Operand.TheVariants.{Register, Number}
@@ -11,7 +10,7 @@ use Rattle.lw_base.specs.Names.{IsLocation}
 use Rattle.lw_base.specs.Registers.{IsRegister}
 use Rattle.lw_text.specs.Tokens.{IsNumber, Digits}
 use Rattle.lw_text.proofs.Atoms.{number-unique}
-use Rattle.lw_source.specs.Cells.{Written, Stores, Loads, IsOperand, Statement, is_filled, filled, Column, name_of, names_of, placed}
+use Rattle.lw_source.specs.Cells.{Written, Stores, Loads, IsOperand, Statement, is_filled, filled}
 use Rattle.lw_source.proofs.Cells.{register_apart}
 
 apart : (a b : ℕ) (u v : List ℕ) → (a ≡ b → ⊥) → a ∷ u ≡ b ∷ v → ⊥

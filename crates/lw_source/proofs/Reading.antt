@@ -10,14 +10,14 @@ use Rattle.lw_text.specs.Places.{cell_texts, cells_texts}
 use Rattle.lw_source.specs.declared.stmt.Stmt.{Stmt}
 use Rattle.lw_source.specs.Cells.{Written, Statement, filled, Column, name_of, placed}
 use Rattle.lw_source.specs.Reading.{CellRead, ColumnRead}
-use Rattle.lw_source.proofs.Columns.{statement_unique, zip_unique, zip_more, zip_length, zip_cut, filled-empty, filled-more}
+use Rattle.lw_source.proofs.Columns.{statement_unique, zip_unique, zip_more, zip_cut, filled-empty, filled-more}
 use Rattle.lw_source.proofs.Names.{with_names-append, with_names-longer, AllThere, all_there, map_placed-along}
 
 -- the cells before one, that one, and the cells behind it
 pub texts_cut : {A : Type 0} (cells : List (Cell A)) (i : ℕ) (cell : Cell A) → i < length cells → cell ≡ get_or cells i cell → cells_texts cells ≡ cells_texts (take i cells) ++ cell_texts cell ∷ cells_texts (drop (suc i) cells)
 texts_cut {A} cells i cell within is =
     let whole : cells ≡ take i cells ++ cell ∷ drop (suc i) cells =
-      sym (take-append-drop i cells) ∙ ap (λ (r : List (Cell A)). take i cells ++ r) (drop-cons cells i cell within ∙ ap (λ (c : Cell A). c ∷ drop (suc i) cells) (sym is)) in
+    sym (take-append-drop i cells) ∙ ap (λ (r : List (Cell A)). take i cells ++ r) (drop-cons cells i cell within ∙ ap (λ (c : Cell A). c ∷ drop (suc i) cells) (sym is)) in
     ap cells_texts whole ∙ map-append cell_texts (take i cells) (cell ∷ drop (suc i) cells)
 
 pub texts_more : {A : Type 0} (cells : List (Cell A)) (i : ℕ) (cell : Cell A) → i < length cells → cell ≡ get_or cells i cell → cells_texts (take (i + 1) cells) ≡ cells_texts (take i cells) ++ cell_texts cell ∷ []
@@ -51,13 +51,13 @@ module _ (front : List (List (List ℕ))) (before mid : List (List ℕ)) (stmts 
       let s = one.written in
       let old : AllThere mid read.written = subst (λ ns. AllThere ns read.written) (sym read.names) (all_there before read.written) in
       let kept : map (placed after) read.written ≡ stmts =
-        ap (λ ns. map (placed ns) read.written) one.names ∙ map_placed-along mid (name_of s ∷ []) read.written old ∙ sym read.made in
+      ap (λ ns. map (placed ns) read.written) one.names ∙ map_placed-along mid (name_of s ∷ []) read.written old ∙ sym read.made in
       record {
         written = read.written ++ one.written ∷ [];
         says = (subst (λ cs. AllZip Statement cs (read.written ++ one.written ∷ [])) (sym cells) (zip_more Statement (filled front) read.written cell one.written read.says.0 one.says), omega (arith, length-append read.written (one.written ∷ [])));
         names =
-          one.names ∙ ap (λ ns. with_name ns (name_of s)) read.names ∙ sym (with_names-append before (map name_of read.written) (name_of s ∷ []))
-          ∙ ap (with_names before) (sym (map-append name_of read.written (s ∷ [])));
+            one.names ∙ ap (λ ns. with_name ns (name_of s)) read.names ∙ sym (with_names-append before (map name_of read.written) (name_of s ∷ []))
+            ∙ ap (with_names before) (sym (map-append name_of read.written (s ∷ [])));
         made = sym (map-append (placed after) read.written (s ∷ []) ∙ ap (λ ss. ss ++ placed after s ∷ []) kept ∙ ap (λ (x : Stmt). stmts ++ x ∷ []) (sym one.made));
       }
 
@@ -70,9 +70,9 @@ module _ (front : List (List (List ℕ))) (before mid : List (List ℕ)) (stmts 
       let cut = zip_cut Statement (filled front) cell (filled rest) t (subst (λ cs. AllZip Statement cs t) (ap filled whole ∙ filled-more front cell rest some) column.0) in
       let same : read.written ≡ cut.0 = zip_unique Statement statement_unique (filled front) read.written cut.0 read.says.0 cut.4 in
       let table : with_names before (map name_of t) ≡ with_names (with_name mid (name_of cut.1)) (map name_of cut.2) =
-        ap (λ ss. with_names before (map name_of ss)) cut.3 ∙ ap (with_names before) (map-append name_of cut.0 (cut.1 ∷ cut.2))
-        ∙ with_names-append before (map name_of cut.0) (map name_of (cut.1 ∷ cut.2))
-        ∙ ap (λ ns. with_names ns (map name_of (cut.1 ∷ cut.2))) (ap (λ ss. with_names before (map name_of ss)) (sym same) ∙ sym read.names) in
+      ap (λ ss. with_names before (map name_of ss)) cut.3 ∙ ap (with_names before) (map-append name_of cut.0 (cut.1 ∷ cut.2))
+      ∙ with_names-append before (map name_of cut.0) (map name_of (cut.1 ∷ cut.2))
+      ∙ ap (λ ns. with_names ns (map name_of (cut.1 ∷ cut.2))) (ap (λ ss. with_names before (map name_of ss)) (sym same) ∙ sym read.names) in
       none cut.1 cut.5 (omega (arith, ap length table, with_names-longer (with_name mid (name_of cut.1)) (map name_of cut.2), few))
 
   -- a 17th statement

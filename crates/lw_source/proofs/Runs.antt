@@ -60,6 +60,7 @@ event_kept program (Step t) s mid e = go (slice_get s.threads t) e
         let next : State = record { threads = slice_set s.threads t (thread_after stmt th s.words); words = words_after stmt th s.words } in
         let same : next ≡ mid = cc in
         subst (λ (m : State). SameSize s m) same (set_length s.threads t (thread_after stmt th s.words), words_kept stmt th s.words)
+
     go : (th : Option Thread) → step_of program t s th ≡ Ok mid → SameSize s mid
     go None e = absurd cc
     go (Some th) e = carried th (slice_get (code_of program t) th.position) e

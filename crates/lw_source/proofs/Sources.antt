@@ -1,13 +1,13 @@
 -- Reading the threads of a test, one further.
-use Rattle.std.proofs.Common.{◌≡◌, ℕ, zero, suc, ◌<◌, ◌≤◌, ◌+◌, ◌-◌, List, [], ◌∷◌, ◌++◌, length, take, drop, get_or, refl, sym, ap, ◌∙◌, subst, length-append, arith}
-use Rattle.std.specs.Prelude.{map, All, true, replicate}
+use Rattle.std.proofs.Common.{◌≡◌, ℕ, suc, ◌<◌, ◌≤◌, ◌+◌, ◌-◌, List, [], ◌∷◌, ◌++◌, length, take, drop, get_or, refl, sym, ap, ◌∙◌, subst, arith}
+use Rattle.std.specs.Prelude.{map, All, replicate}
 use Rattle.std.proofs.lemmas.List.Elements.{All-from_recursion}
 use Rattle.lw_base.specs.Heads.{TestHead}
 use Rattle.std.specs.List.{AllZip, AllByRecursion, flat_map}
 use Rattle.std.proofs.lemmas.List.{map-append, length-map, append-nil, take-append-drop}
 use Rattle.std.proofs.lemmas.Grind.{flat_map-append}
 use Rattle.std.proofs.Math.Seq.{take-suc, drop-cons}
-use Rattle.lw_base.specs.Tables.{is_there, with_name, with_names}
+use Rattle.lw_base.specs.Tables.{with_names}
 use Rattle.lw_text.specs.declared.cell.Cell.{Cell}
 use Rattle.lw_text.specs.Frames.{TestFrame}
 use Rattle.lw_text.specs.Places.{cells_texts, all_texts}
@@ -30,7 +30,7 @@ one_source frame s t h k =
 pub columns_cut : {A : Type 0} (columns : List (List (Cell A))) (i : ℕ) (column : List (Cell A)) → i < length columns → column ≡ get_or columns i column → all_texts columns ≡ all_texts (take i columns) ++ cells_texts column ∷ all_texts (drop (suc i) columns)
 columns_cut {A} columns i column within is =
     let whole : columns ≡ take i columns ++ column ∷ drop (suc i) columns =
-      sym (take-append-drop i columns) ∙ ap (λ (r : List (List (Cell A))). take i columns ++ r) (drop-cons columns i column within ∙ ap (λ (c : List (Cell A)). c ∷ drop (suc i) columns) (sym is)) in
+    sym (take-append-drop i columns) ∙ ap (λ (r : List (List (Cell A))). take i columns ++ r) (drop-cons columns i column within ∙ ap (λ (c : List (Cell A)). c ∷ drop (suc i) columns) (sym is)) in
     ap all_texts whole ∙ map-append cells_texts (take i columns) (column ∷ drop (suc i) columns)
 
 pub columns_more : {A : Type 0} (columns : List (List (Cell A))) (i : ℕ) (column : List (Cell A)) → i < length columns → column ≡ get_or columns i column → all_texts (take (i + 1) columns) ≡ all_texts (take i columns) ++ cells_texts column ∷ []
@@ -68,14 +68,14 @@ module _ (front : List (List (List (List ℕ)))) (before mid : List (List ℕ)) 
       let t = one.written in
       let old : AllIn mid read.written = in-flat mid read.written (subst (λ ns. AllThere ns (flat_map (λ s. s) read.written)) (sym read.names) (all_there before (flat_map (λ s. s) read.written))) in
       let kept : map (λ s. map (placed after) s) read.written ≡ threads =
-        ap (λ ns. map (λ s. map (placed ns) s) read.written) one.names ∙ all_placed-along mid (map name_of t) read.written old ∙ sym read.made in
+      ap (λ ns. map (λ s. map (placed ns) s) read.written) one.names ∙ all_placed-along mid (map name_of t) read.written old ∙ sym read.made in
       let last : names_of (t ∷ []) ≡ map name_of t = names_of-one t [] ∙ append-nil (map name_of t) in
       record {
         written = read.written ++ t ∷ [];
         says = zip_more Column front read.written column t read.says one.says;
         names =
-          one.names ∙ ap (λ ns. with_names ns (map name_of t)) read.names ∙ sym (with_names-append before (names_of read.written) (map name_of t))
-          ∙ ap (with_names before) (ap (λ ns. names_of read.written ++ ns) (sym last) ∙ sym (names_of-append read.written (t ∷ [])));
+            one.names ∙ ap (λ ns. with_names ns (map name_of t)) read.names ∙ sym (with_names-append before (names_of read.written) (map name_of t))
+            ∙ ap (with_names before) (ap (λ ns. names_of read.written ++ ns) (sym last) ∙ sym (names_of-append read.written (t ∷ [])));
         made = sym (map-append (λ s. map (placed after) s) read.written (t ∷ []) ∙ ap (λ ss. ss ++ map (placed after) t ∷ []) kept ∙ ap (λ (x : List Stmt). threads ++ x ∷ []) (sym one.made));
       }
 
@@ -85,10 +85,10 @@ module _ (front : List (List (List (List ℕ)))) (before mid : List (List ℕ)) 
       let cut = zip_cut Column front column rest ts (subst (λ cs. AllZip Column cs ts) whole all) in
       let same : read.written ≡ cut.0 = zip_unique Column column_unique front read.written cut.0 read.says cut.4 in
       let table : with_names before (names_of ts) ≡ with_names (with_names mid (map name_of cut.1)) (names_of cut.2) =
-        ap (λ ss. with_names before (names_of ss)) cut.3 ∙ ap (with_names before) (names_of-append cut.0 (cut.1 ∷ cut.2))
-        ∙ with_names-append before (names_of cut.0) (names_of (cut.1 ∷ cut.2))
-        ∙ ap (λ ns. with_names ns (names_of (cut.1 ∷ cut.2))) (ap (λ ss. with_names before (names_of ss)) (sym same) ∙ sym read.names)
-        ∙ ap (with_names mid) (names_of-one cut.1 cut.2) ∙ with_names-append mid (map name_of cut.1) (names_of cut.2) in
+      ap (λ ss. with_names before (names_of ss)) cut.3 ∙ ap (with_names before) (names_of-append cut.0 (cut.1 ∷ cut.2))
+      ∙ with_names-append before (names_of cut.0) (names_of (cut.1 ∷ cut.2))
+      ∙ ap (λ ns. with_names ns (names_of (cut.1 ∷ cut.2))) (ap (λ ss. with_names before (names_of ss)) (sym same) ∙ sym read.names)
+      ∙ ap (with_names mid) (names_of-one cut.1 cut.2) ∙ with_names-append mid (map name_of cut.1) (names_of cut.2) in
       none cut.1 cut.5 (omega (arith, ap length table, with_names-longer (with_names mid (map name_of cut.1)) (names_of cut.2), few))
 
 all_fit : (names : List (List ℕ)) (columns : List (List (List (List ℕ)))) (ts : List (List Written)) → AllZip Column columns ts → AllIn names ts → AllByRecursion (IsThread (length names)) (map (λ t. map (placed names) t) ts)
@@ -133,15 +133,15 @@ module _ (frame_head head : TestHead) (same : head ≡ frame_head) (cells : List
   source_found threads names words read few filled =
       let source : SourceTest = record { head = changed head names words; threads = threads } in
       let found : HasSource (record { head = head; cells = cells }) source =
-        record {
-          threads = read.written;
-          says = read.says;
-          few = subst (λ ns. length ns ≤ 8) read.names few;
-          made =
+      record {
+        threads = read.written;
+        says = read.says;
+        few = subst (λ ns. length ns ≤ 8) read.names few;
+        made =
             ap (λ (w : List ℕ). let t : SourceTest = record { head = changed head names w; threads = threads } in t) filled
             ∙ ap (λ (ts : List (List Stmt)). let t : SourceTest = record { head = with_table head names; threads = ts } in t) read.made
             ∙ ap (λ ns. test_on head ns read.written) read.names;
-        } in
+      } in
       subst (λ (h : TestHead). HasSource (record { head = h; cells = cells }) source) same found
 
   pub source_none : ((t : List (List Written)) → AllZip Column cells t → length (with_names head.locs (names_of t)) ≤ 8 → ⊥) → (s : SourceTest) → HasSource (record { head = frame_head; cells = cells }) s → ⊥

@@ -1,6 +1,6 @@
 -- What the cells of a source test say: its statements.
 -- The source is the format of the workbench, docs/FORMAT.md.
-use Rattle.std.specs.Prelude.{◌≡◌, ◌≤◌, ℕ, Bool, true, false, List, [], ◌∷◌, length, map, replicate, filter, codes, All, ◌++◌, ◌-◌}
+use Rattle.std.specs.Prelude.{◌≡◌, ◌≤◌, ℕ, Bool, true, false, List, [], ◌∷◌, length, map, replicate, filter, codes, ◌++◌, ◌-◌}
 use Rattle.std.specs.List.{flat_map, AllZip}
 use Rattle.lw_base.specs.declared.head.Arch.TheVariants.{Source}
 use Rattle.lw_base.specs.declared.operand.Operand.{Operand}

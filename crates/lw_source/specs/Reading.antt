@@ -3,7 +3,7 @@ use Rattle.std.specs.Prelude.{◌≡◌, ℕ, List, map}
 use Rattle.std.specs.List.{AllZip}
 use Rattle.lw_base.specs.Tables.{with_name, with_names}
 use Rattle.lw_source.specs.declared.stmt.Stmt.{Stmt}
-use Rattle.lw_source.specs.Cells.{Written, Statement, Column, filled, name_of, names_of, placed}
+use Rattle.lw_source.specs.Cells.{Written, Statement, Column, name_of, names_of, placed}
 
 -- A cell says a statement, which takes one table to another.
 pub record CellRead (cell : List (List ℕ)) (before : List (List ℕ)) (stmt : Stmt) (after : List (List ℕ)) : Type 0 where

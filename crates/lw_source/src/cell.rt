@@ -9,12 +9,18 @@ ghost use Rattle.lw_source.specs.Cells.{Written, IsOperand, Statement, name_of};
 ghost use Rattle.lw_source.specs.Reading.{CellRead};
 
 use crate::stmt::Stmt;
-use lw_base::{Arch, CellCause, CellFault, Loc, LocNames, Operand, is_location, is_name, is_numbered, reg_named};
+use lw_base::{
+    Arch, CellCause, CellFault, Loc, LocNames, Operand, is_location, is_name, is_numbered,
+    reg_named,
+};
 use lw_text::{Cell, Token, number};
 use std::alloc::Allocator;
 
 /// Reads the statement of a cell that is not empty. The name of its location goes into the table.
-pub(crate) fn read_statement<A: Allocator + Copy>(cell: &Cell<'_, A>, locs: &mut LocNames<A>) -> Result<Stmt, CellFault>
+pub(crate) fn read_statement<A: Allocator + Copy>(
+    cell: &Cell<'_, A>,
+    locs: &mut LocNames<A>,
+) -> Result<Stmt, CellFault>
     ensures found { IfOk result (λ stmt. CellRead (cell_texts cell.now) locs.old stmt locs.new) }
     ensures fault { IfErr result (λ f. f.cause ≢ Memory → (s : Written) → Statement (cell_texts cell.now) s → length (with_name locs.old (name_of s)) ≤ 8 → ⊥) }
     ensures place { (len : ℕ) → IsWithin len cell.now → IfErr result (λ f. f.at ≤ len) }
@@ -94,7 +100,10 @@ fn ends<A: Allocator>(cell: &Cell<'_, A>) -> Result<(), CellFault>
 }
 
 /// The place of the location that the token names, in the table with it.
-fn location<A: Allocator + Copy>(token: &Token<'_>, locs: &mut LocNames<A>) -> Result<Loc, CellFault>
+fn location<A: Allocator + Copy>(
+    token: &Token<'_>,
+    locs: &mut LocNames<A>,
+) -> Result<Loc, CellFault>
     ensures name { OnOk result (IsLocation token.now.text.now) }
     ensures found { IfOk result (λ loc. loc ≡ place_of locs.new token.now.text.now) }
     ensures names { OnOk result (locs.new ≡ with_name locs.old token.now.text.now) }

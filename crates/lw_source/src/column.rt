@@ -16,7 +16,11 @@ use std::alloc::Allocator;
 const MAX_STATEMENTS: usize = 16;
 
 /// Reads the statements of a thread. The names of their locations go into the table.
-pub(crate) fn read_column<A: Allocator + Copy>(alloc: A, cells: &[Cell<'_, A>], locs: &mut LocNames<A>) -> Result<Sequence<Stmt, A>, CellFault>
+pub(crate) fn read_column<A: Allocator + Copy>(
+    alloc: A,
+    cells: &[Cell<'_, A>],
+    locs: &mut LocNames<A>,
+) -> Result<Sequence<Stmt, A>, CellFault>
     ensures found { IfOk result (λ stmts. ColumnRead (cells_texts cells.now) locs.old stmts locs.new) }
     ensures fault { IfErr result (λ f. f.cause ≢ Memory → (t : List Written) → Column (cells_texts cells.now) t → length (with_names locs.old (map name_of t)) ≤ 8 → ⊥) }
     ensures place { (len : ℕ) → All (IsWithin len) cells.now → IfErr result (λ f. f.at ≤ len) }

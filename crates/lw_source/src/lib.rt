@@ -19,3 +19,6 @@ pub use run::SourceRun;
 pub use source::Source;
 pub use stmt::Stmt;
 pub use thread::Thread;
+
+#[cfg(test)]
+mod tests;

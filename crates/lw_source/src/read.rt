@@ -22,7 +22,10 @@ use std::alloc::{AllocFailed, Allocator};
 /// Reads the source test of a frame whose language is the source language.
 ///
 /// The threads are read one after another, each from top to bottom, and the first fault is told.
-pub fn read_source<A: Allocator + Copy>(alloc: A, frame: &Frame<'_, A>) -> Result<Source<A>, CellFault>
+pub fn read_source<A: Allocator + Copy>(
+    alloc: A,
+    frame: &Frame<'_, A>,
+) -> Result<Source<A>, CellFault>
     requires { frame.now.head.arch ≡ arch.Source }
     // What is answered is the frame's test, and where it is refused it has none, unless memory ran out.
     ensures found { IfOk result (λ s. HasSource (frame_of frame.now) (source_of s)) }
@@ -42,7 +45,11 @@ pub fn a_frame_has_one_source()
 {}
 
 /// Reads the statements of each thread. The names of their locations go into the table.
-fn read_columns<A: Allocator + Copy>(alloc: A, columns: &[Sequence<Cell<'_, A>, A>], locs: &mut LocNames<A>) -> Result<Sequence<Sequence<Stmt, A>, A>, CellFault>
+fn read_columns<A: Allocator + Copy>(
+    alloc: A,
+    columns: &[Sequence<Cell<'_, A>, A>],
+    locs: &mut LocNames<A>,
+) -> Result<Sequence<Sequence<Stmt, A>, A>, CellFault>
     ensures found { IfOk result (λ threads. ColumnsRead (all_texts columns.now) locs.old threads locs.new) }
     ensures fault { IfErr result (λ f. f.cause ≢ Memory → (t : List (List Written)) → AllZip Column (all_texts columns.now) t → length (with_names locs.old (names_of t)) ≤ 8 → ⊥) }
     ensures place { (len : ℕ) → All (λ column. All (IsWithin len) column) columns.now → IfErr result (λ f. f.at ≤ len) }

@@ -103,7 +103,11 @@ impl<'a, A: Allocator, B: Allocator> SourceRun<'a, A, B> {
                 };
             }
         }
-        let end = if self.is_final() { End::Final } else { End::NotFinal };
+        let end = if self.is_final() {
+            End::Final
+        } else {
+            End::NotFinal
+        };
         Replay {
             done: events.len(),
             end,

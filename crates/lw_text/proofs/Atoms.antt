@@ -1,17 +1,16 @@
 -- Atoms of a condition are read in one way.
-use Rattle.std.proofs.Common.{◌≡◌, ℕ, ◌+◌, ◌*◌, ◌<◌, ◌≤◌, inl, inr, true, List, [], ◌∷◌, ◌++◌, length, map, ap, ◌∙◌, sym, subst, arith, refl}
+use Rattle.std.proofs.Common.{◌≡◌, ℕ, ◌+◌, ◌<◌, inl, inr, true, List, [], ◌∷◌, ◌++◌, length, ap, ◌∙◌, subst, arith}
 use Rattle.std.specs.Prelude.{codes}
 use Rattle.std.specs.Char.{digit_value, is_ascii_digit}
 use Rattle.std.proofs.lemmas.Bool.Decides.{nat_tests}
 use Rattle.lw_base.specs.declared.head.Arch.TheVariants.{Source}
 use Rattle.lw_base.specs.Characters.{begins}
 use Rattle.lw_base.specs.Names.{IsName, IsLocation}
-use Rattle.lw_base.specs.Registers.{register_name, IsRegister}
+use Rattle.lw_base.specs.Registers.{IsRegister}
 use Rattle.lw_text.specs.Tokens.{Digits, IsNumber}
 use Rattle.lw_text.specs.Lists.{Separated}
 use Rattle.lw_text.specs.Conditions.{Claim, WordIs, RegIs, Value, Atom}
 use Rattle.lw_text.proofs.Numbers.{Digits-unique}
-use Rattle.lw_text.proofs.Texts.{is_no_text}
 use Rattle.lw_text.proofs.Lists.{IsExact, Before, Before-push, Before-close, Before-here, exact_from_one, Separated-unique}
 
 decimal_first : (b : ℕ) → digit_value b < 10 → is_ascii_digit b ≡ true
@@ -122,9 +121,6 @@ apart e = let h = ap (λ (l : List ℕ). length l) e in absurd (omega arith)
 module _ (threads : ℕ) (ts here : List (List ℕ)) (claims : List Claim) (before : Before (Atom threads) and end ts claims here) where
   exact : IsExact (Atom threads) and end
   exact = exact_from_one (Atom threads) and end (Atom-one threads)
-
-  pub Atoms-none : ((a : Claim) (rest : List (List ℕ)) → Atom threads here a rest → ⊥) → (all : List Claim) (rest : List (List ℕ)) → Separated (Atom threads) and end ts all rest → ⊥
-  Atoms-none never all rest s = Before-here (Atom threads) and end exact apart claims all ts here rest before (λ x m l k p. never x (m ∷ l) p) s
 
   module _ (claim : Claim) where
     pub Atoms-cut : Atom threads here claim [] → (all : List Claim) (rest : List (List ℕ)) → Separated (Atom threads) and end ts all rest → ⊥

@@ -1,11 +1,11 @@
 -- Where cells and rows lie in their text.
-use Rattle.std.proofs.Common.{◌≡◌, ℕ, ◌+◌, ◌≤◌, List, [], ◌∷◌, ◌++◌, length, map, refl, sym, ap, ◌∙◌, subst, arith, append_assoc}
-use Rattle.std.specs.Prelude.{codes, All}
+use Rattle.std.proofs.Common.{◌≡◌, ℕ, ◌+◌, ◌≤◌, List, [], ◌∷◌, ◌++◌, length, sym, ap, ◌∙◌, subst, arith, append_assoc}
+use Rattle.std.specs.Prelude.{All}
 use Rattle.std.specs.List.{AllByRecursion}
 use Rattle.std.proofs.lemmas.List.Elements.{All-from_recursion}
 use Rattle.lw_text.specs.declared.token.Token.{Token}
 use Rattle.lw_text.specs.declared.cell.Cell.{Cell}
-use Rattle.lw_text.specs.Spans.{texts, Spans, Leaves}
+use Rattle.lw_text.specs.Spans.{Spans, Leaves}
 use Rattle.lw_text.specs.Places.{CellSpans, RowSpans, IsWithin, TakesCells, TakesRows}
 use Rattle.lw_text.proofs.TokenRows.{Spans-order, Spans-wider, Spans-places}
 

@@ -1,21 +1,21 @@
 -- Claims that are read one after another, with the table of their names.
-use Rattle.std.proofs.Common.{◌≡◌, ℕ, suc, ◌+◌, ◌*◌, ◌<◌, ◌≤◌, inl, inr, List, [], ◌∷◌, ◌++◌, length, map, Option, Some, None, refl, sym, ap, ◌∙◌, subst, arith, length-append}
+use Rattle.std.proofs.Common.{◌≡◌, ℕ, ◌+◌, ◌*◌, ◌<◌, ◌≤◌, inl, inr, List, [], ◌∷◌, ◌++◌, length, map, Option, Some, None, refl, sym, ap, ◌∙◌, subst, arith, length-append}
 use Rattle.std.specs.Prelude.{fold, All, is_some, if◌then◌else◌, codes}
-use Rattle.std.specs.List.{AllByRecursion, list_any}
-use Rattle.std.specs.Str.{bytes_eq}
+use Rattle.std.specs.List.{AllByRecursion}
 use Rattle.std.proofs.lemmas.Bool.{cases_Bool}
-use Rattle.std.proofs.lemmas.List.{map_push, length-map}
+use Rattle.std.proofs.lemmas.List.{map_push}
 use Rattle.std.proofs.lemmas.List.Sums.{fold-append}
 use Rattle.std.proofs.lemmas.List.Elements.{All-push, All-from_recursion}
 use Rattle.lw_base.specs.Names.{IsName, IsLocation}
+use Rattle.lw_base.specs.Tables.{is_there, with_name}
 use Rattle.lw_base.specs.Formula.{Formula, And}
 use Rattle.lw_text.specs.declared.claim.Claim.{Claim as Made}
 use Rattle.lw_text.specs.Tokens.{IsNumber}
 use Rattle.lw_text.specs.Lists.{Separated}
-use Rattle.lw_text.specs.Conditions.{Claim, WordIs, RegIs, Atom, with_name, with_claim, table, formula_in, joined, formula, node_count, Claims, Condition}
+use Rattle.lw_text.specs.Conditions.{Claim, WordIs, RegIs, Atom, with_claim, table, formula_in, joined, formula, node_count, Claims, Condition}
 use Rattle.lw_text.specs.Claims.{named, IsIn, Stands}
 use Rattle.lw_text.proofs.Elements.{each_of}
-use Rattle.lw_text.proofs.Lists.{Before, Before-peel, exact_from_one, Separated-front}
+use Rattle.lw_text.proofs.Lists.{Before, Before-peel, exact_from_one}
 use Rattle.lw_text.proofs.Atoms.{and, end, apart, Atom-one, Atoms-unique, number_no_name}
 use Rattle.lw_text.proofs.NameTables.{map-named-stable, all_in-with_name}
 
@@ -44,7 +44,7 @@ few_claims (c ∷ cs) le = omega (arith, nodes-formula (table (c ∷ cs)) c cs, 
 -- ---- tables only grow
 
 with_claim-longer : (names : List (List ℕ)) (c : Claim) → length names ≤ length (with_claim names c)
-with_claim-longer names (WordIs x n) = elim (cases_Bool (list_any (bytes_eq x) names)) [ inl e ↦ rw e (omega arith) | inr e ↦ rw e (omega (arith, length-append names (x ∷ []))) ]
+with_claim-longer names (WordIs x n) = elim (cases_Bool (is_there names x)) [ inl e ↦ rw e (omega arith) | inr e ↦ rw e (omega (arith, length-append names (x ∷ []))) ]
 with_claim-longer names (RegIs t r n) = omega arith
 
 table-longer : (cs : List Claim) (names : List (List ℕ)) → length names ≤ length (fold with_claim names cs)

@@ -1,5 +1,5 @@
 -- What holds of all elements, one by one.
-use Rattle.std.proofs.Common.{ℕ, suc, List, [], ◌∷◌, arith}
+use Rattle.std.proofs.Common.{suc, List, [], ◌∷◌, arith}
 use Rattle.std.specs.Prelude.{All}
 use Rattle.std.specs.List.{AllByRecursion}
 

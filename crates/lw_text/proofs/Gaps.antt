@@ -1,5 +1,5 @@
 -- What stands behind blanks.
-use Rattle.std.proofs.Common.{◌≡◌, ℕ, ◌⊎◌, inl, inr, true, false, List, [], ◌∷◌, ◌++◌, refl, ap, ◌∙◌, subst}
+use Rattle.std.proofs.Common.{◌≡◌, ℕ, ◌⊎◌, inl, inr, true, false, List, [], ◌∷◌, ◌++◌, refl, ap, subst}
 use Rattle.std.specs.List.{AllByRecursion}
 use Rattle.lw_base.specs.Characters.{is_blank, begins}
 use Rattle.lw_text.specs.Tokens.{begins_gap, Gap, none, blank}

@@ -33,28 +33,7 @@ NamesTo-start start = record {
     at (suc n) rest h = (n, omega arith, h)
 
 module _ (start here : List (List ℕ)) (k : ℕ) (p : NamesTo start k here) where
-  -- no header where the next name isn't there
-  pub Name-fault : ((rest : List (List ℕ)) → here ≡ thread_name k ∷ rest → ⊥) → (n : ℕ) (rest : List (List ℕ)) → Header start n rest → ⊥
-  Name-fault never n rest h = let o = p.only n rest h.0 in at o.0 o.2
-    where
-      at : (m : ℕ) → Names k (suc m) here rest → ⊥
-      at zero q = never (codes ";" ∷ rest) q
-      at (suc m) q = never (codes "|" ∷ q.0) q.1
-
-  pub Names-many : 4 ≤ k → (n : ℕ) (rest : List (List ℕ)) → Header start n rest → ⊥
-  Names-many le n rest h = let o = p.only n rest h.0 in omega (arith, o.1, h.1)
-
   module _ (l : List (List ℕ)) (e : here ≡ thread_name k ∷ l) where
-    pub Mark-fault : ((rest : List (List ℕ)) → l ≡ codes "|" ∷ rest → ⊥) → ((rest : List (List ℕ)) → l ≡ codes ";" ∷ rest → ⊥) → (n : ℕ) (rest : List (List ℕ)) → Header start n rest → ⊥
-    Mark-fault no_bar no_end n rest h = let o = p.only n rest h.0 in at o.0 o.2
-      where
-        at : (m : ℕ) → Names k (suc m) here rest → ⊥
-        at zero q = no_end rest cc
-        at (suc m) q = let f = q.1 in no_bar q.0 cc
-
-    pub Names-done : (rest : List (List ℕ)) → l ≡ codes ";" ∷ rest → k < 4 → Header start (k + 1) rest
-    Names-done rest f lt = (p.given 0 rest (e ∙ ap (λ x. thread_name k ∷ x) f), omega arith)
-
     pub Names-more : (next : List (List ℕ)) → l ≡ codes "|" ∷ next → NamesTo start (k + 1) next
     Names-more next f = rw add-one (record {
       given = λ m rest h. subst (λ x. Names 0 x start rest) (let i : k + suc (suc m) ≡ suc k + suc m = omega arith in i) (p.given (suc m) rest (next, e ∙ ap (λ x. thread_name k ∷ x) f, h));

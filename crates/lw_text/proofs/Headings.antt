@@ -41,9 +41,6 @@ module _ (text space after name rest : List ℕ) (e : text ≡ space ++ after) (
   pub bad_name : (IsTestName name → ⊥) → (n r : List ℕ) → Named text n r → ⊥
   bad_name never n r p = let k = Named-parts n r p in never (subst IsTestName k.1 p.is_name)
 
-  pub Named-found : 0 < length space → IsTestName name → Named text name rest
-  Named-found apart is = record { blanks = space; parts = e ∙ ap (λ x. space ++ x) f; apart = apart; blank = blank; is_name = is; longest = longest }
-
 pub Named-unique : (text n r m s : List ℕ) → Named text n r → Named text m s → (n ≡ m) × (r ≡ s)
 Named-unique text n r m s p q =
     let k = Named-parts text q.blanks (m ++ s) m s q.parts q.blank (name_front m s q.is_name) refl (graphic_plain m q.is_name.all) q.longest n r p in

@@ -1,76 +1,56 @@
 -- Tables of names, and places in them.
-use Rattle.std.proofs.Common.{◌≡◌, ℕ, zero, suc, ◌+◌, ◌<◌, ◌≤◌, inl, inr, true, false, List, [], ◌∷◌, ◌++◌, length, map, get_or, slice_get, Option, Some, None, Contains, refl, sym, ap, ◌∙◌, subst, arith, length-append}
+use Rattle.std.proofs.Common.{◌≡◌, ℕ, zero, suc, ◌+◌, ◌<◌, inl, inr, true, false, List, [], ◌∷◌, ◌++◌, length, map, get_or, slice_get, Option, Some, None, refl, sym, ap, subst, arith, length-append}
 use Rattle.std.specs.Prelude.{MatchOption, is_some}
 use Rattle.std.specs.Str.{bytes_eq}
-use Rattle.std.specs.List.{list_any, position_or_len, AllByRecursion}
+use Rattle.std.specs.List.{AllByRecursion}
 use Rattle.std.proofs.Math.ListN.{get_or-append}
 use Rattle.std.proofs.lemmas.Bool.{cases_Bool}
 use Rattle.std.proofs.lemmas.Slice.Eq.{bytes_eq-Decides}
 use Rattle.std.proofs.lemmas.Option.{slice_get_within, get_or_from_slice_get}
-use Rattle.std.proofs.lemmas.Map.Views.{Contains-from_any}
 use Rattle.lw_base.specs.Names.{IsLocation, EachOnce}
-use Rattle.lw_base.specs.Formula.{Formula, Word_is}
+use Rattle.lw_base.specs.Tables.{is_there, with_name, place_of}
+use Rattle.lw_base.specs.Formula.{Word_is}
+use Rattle.lw_base.proofs.Tables.{place_of-at}
 use Rattle.lw_text.specs.declared.claim.Claim.{Claim}
 use Rattle.lw_text.specs.declared.claim.Claim.TheVariants as made
 use Rattle.lw_text.specs.Tokens.{IsNumber}
-use Rattle.lw_text.specs.Conditions.{WordIs, Value, Atom, with_name, formula_in}
+use Rattle.lw_text.specs.Conditions.{WordIs, Value, Atom, formula_in}
 use Rattle.lw_text.specs.Claims.{named, placed, IsIn, Stands}
-
-Contains-from_place : (names : List (List ℕ)) (i : ℕ) (x : List ℕ) → slice_get names i ≡ Some x → Contains names x
-Contains-from_place names i x at = (i, slice_get_within names i x at, get_or_from_slice_get names i x x at)
-
--- ---- one name more
-
-any_at : (names : List (List ℕ)) (i : ℕ) (x : List ℕ) → slice_get names i ≡ Some x → list_any (bytes_eq x) names ≡ true
-any_at [] i x at = absurd cc
-any_at (y ∷ names) zero x at = let e : x ≡ y = cc in let h : bytes_eq x y ≡ true = (bytes_eq-Decides x y).1 e in rw h
-any_at (y ∷ names) (suc i) x at = let h = any_at names i x at in elim (cases_Bool (bytes_eq x y)) [ inl e ↦ rw e | inr e ↦ rw (e, h) ]
-
-pub with_name-found : (names : List (List ℕ)) (i : ℕ) (x : List ℕ) → slice_get names i ≡ Some x → with_name names x ≡ names
-with_name-found names i x at = let h = any_at names i x at in rw h
-
-no_any : (names : List (List ℕ)) (x : List ℕ) → (Contains names x → ⊥) → list_any (bytes_eq x) names ≡ false
-no_any names x fresh = elim (cases_Bool (list_any (bytes_eq x) names)) [ inl e ↦ absurd (fresh (Contains-from_any (λ y z h. (bytes_eq-Decides y z).0 h) x names e)) | inr e ↦ e ]
-
-pub with_name-fresh : (names : List (List ℕ)) (x : List ℕ) → (Contains names x → ⊥) → with_name names x ≡ names ++ x ∷ []
-with_name-fresh names x fresh = let h = no_any names x fresh in rw h
 
 pub number-none : (t : List ℕ) (o : Option ℕ) → MatchOption o ((n : ℕ) → IsNumber t n → ⊥) (λ n. IsNumber t n) → is_some o ≡ false → (n : ℕ) → IsNumber t n → ⊥
 number-none t None never h = never
 number-none t (Some m) found h = absurd cc
 
-pub number-some : (t : List ℕ) (o : Option ℕ) → MatchOption o ((n : ℕ) → IsNumber t n → ⊥) (λ n. IsNumber t n) → is_some o ≡ true → (n : ℕ) × IsNumber t n
-number-some t None never h = absurd cc
-number-some t (Some m) found h = (m, found)
-
 -- ---- the place of a name
 
-slice_get-last : (names : List (List ℕ)) (x : List ℕ) → slice_get (names ++ x ∷ []) (length names) ≡ Some x
-slice_get-last [] x = refl
-slice_get-last (y ∷ names) x = slice_get-last names x
+is_there-last : (names : List (List ℕ)) (t : List ℕ) → is_there (names ++ t ∷ []) t ≡ true
+is_there-last [] t = let h : bytes_eq t t ≡ true = (bytes_eq-Decides t t).1 refl in rw h
+is_there-last (y ∷ names) t = let h = is_there-last names t in elim (cases_Bool (bytes_eq y t)) [ inl e ↦ rw e | inr e ↦ rw (e, h) ]
 
--- a name that was put last stands at the end
-pub added_at : (before after : List (List ℕ)) (loc : ℕ) (x : List ℕ) → loc ≡ length before → after ≡ before ++ x ∷ [] → slice_get after loc ≡ Some x
-added_at before after loc x e f = rw (e, f) (slice_get-last before x)
+is_there-with_name : (names : List (List ℕ)) (t : List ℕ) → is_there (with_name names t) t ≡ true
+is_there-with_name names t = elim (cases_Bool (is_there names t)) [ inl e ↦ rw e e | inr e ↦ rw e (is_there-last names t) ]
+
+there_at : (names : List (List ℕ)) (t : List ℕ) → is_there names t ≡ true → slice_get names (place_of names t) ≡ Some t
+there_at [] t h = absurd cc
+there_at (y ∷ names) t h =
+    elim (cases_Bool (bytes_eq y t)) [
+      | inl e ↦ rw e (ap Some ((bytes_eq-Decides y t).0 e))
+      | inr e ↦ let k : is_there names t ≡ true = rw e at h in rw e (subst (λ i. slice_get (y ∷ names) i ≡ Some t) (let j : suc (place_of names t) ≡ 1 + place_of names t = omega arith in j) (there_at names t k))
+    ]
+
+-- a name that appeared stands at its place
+pub appeared_at : (before after : List (List ℕ)) (loc : ℕ) (t : List ℕ) → after ≡ with_name before t → loc ≡ place_of after t → slice_get after loc ≡ Some t
+appeared_at before after loc t e f = rw (f, e) (there_at (with_name before t) t (is_there-with_name before t))
 
 slice_get-within : (names : List (List ℕ)) (i : ℕ) → i < length names → slice_get names i ≡ Some (get_or names i [])
 slice_get-within [] i lt = absurd (omega arith)
 slice_get-within (y ∷ names) zero lt = refl
 slice_get-within (y ∷ names) (suc i) lt = slice_get-within names i (omega arith)
 
-pub position_of : (names : List (List ℕ)) (i : ℕ) (x : List ℕ) → EachOnce names → slice_get names i ≡ Some x → position_or_len (bytes_eq x) names ≡ i
-position_of [] i x once at = absurd cc
-position_of (y ∷ names) zero x once at = let e : x ≡ y = cc in let h : bytes_eq x y ≡ true = (bytes_eq-Decides x y).1 e in rw h
-position_of (y ∷ names) (suc i) x once at =
-    elim (cases_Bool (bytes_eq x y)) [
-      | inl e ↦ absurd (once.0 (subst (λ z. Contains names z) ((bytes_eq-Decides x y).0 e) (Contains-from_place names i x at)))
-      | inr e ↦ rw (e, position_of names i x once.1 at) (omega arith)
-    ]
-
 -- ---- claims in a table that grows
 
 with_name-get : (names : List (List ℕ)) (x : List ℕ) (i : ℕ) → i < length names → get_or (with_name names x) i [] ≡ get_or names i []
-with_name-get names x i lt = elim (cases_Bool (list_any (bytes_eq x) names)) [ inl e ↦ rw e | inr e ↦ rw e (get_or-append names (x ∷ []) [] i lt) ]
+with_name-get names x i lt = elim (cases_Bool (is_there names x)) [ inl e ↦ rw e | inr e ↦ rw e (get_or-append names (x ∷ []) [] i lt) ]
 
 named-stable : (names : List (List ℕ)) (x : List ℕ) (c : Claim) → IsIn names c → named (with_name names x) c ≡ named names c
 named-stable names x (made.WordIs loc n) h = ap (λ y. WordIs y n) (with_name-get names x loc h)
@@ -85,7 +65,7 @@ map-named-stable names x (c ∷ cs) h =
 
 -- a table with more names has the claim's location too
 IsIn-with_name : (names : List (List ℕ)) (x : List ℕ) (c : Claim) → IsIn names c → IsIn (with_name names x) c
-IsIn-with_name names x c h = elim (cases_Bool (list_any (bytes_eq x) names)) [ inl e ↦ rw e h | inr e ↦ rw e (omega (arith, h, length-append names (x ∷ []))) ]
+IsIn-with_name names x c h = elim (cases_Bool (is_there names x)) [ inl e ↦ rw e h | inr e ↦ rw e (omega (arith, h, length-append names (x ∷ []))) ]
 
 pub all_in-with_name : (names : List (List ℕ)) (x : List ℕ) (cs : List Claim) → AllByRecursion (IsIn names) cs → AllByRecursion (IsIn (with_name names x)) cs
 all_in-with_name names x [] h = tt
@@ -94,7 +74,7 @@ all_in-with_name names x (c ∷ cs) h = (IsIn-with_name names x c h.0, all_in-wi
 -- ---- what claims say by their places
 
 placed-named : (names : List (List ℕ)) (c : Claim) → EachOnce names → IsIn names c → formula_in names (named names c) ≡ placed c
-placed-named names (made.WordIs loc n) once h = ap (λ l. Word_is l n) (position_of names loc (get_or names loc []) once (slice_get-within names loc h))
+placed-named names (made.WordIs loc n) once h = ap (λ l. Word_is l n) (place_of-at names (get_or names loc []) loc once (slice_get-within names loc h))
 placed-named names (made.RegIs t r n) once h = refl
 
 pub map-placed-named : (names : List (List ℕ)) (cs : List Claim) → EachOnce names → AllByRecursion (IsIn names) cs → map (formula_in names) (map (named names) cs) ≡ map placed cs

@@ -23,15 +23,6 @@ module _ {base : ℕ} {digits : List ℕ} {n : ℕ} {rest next : List ℕ} {x : 
   here : (v : ℕ) → Digits base 0 digits v → Digits base n (x ∷ next) v
   here v d = subst (λ l. Digits base n l v) e (r.only v d)
 
-  pub Reads-more : (m : ℕ) → digit_value x < base → m ≡ base * n + digit_value x → Reads base digits m next
-  Reads-more m lt is = record {
-    given = λ v d. r.given v (rw e (lt, subst (λ k. Digits base k next v) is d));
-    only = λ v d. subst (λ k. Digits base k next v) (sym is) (here v d).1;
-  }
-
-  pub Reads-no_digit : base ≤ digit_value x → (v : ℕ) → Digits base 0 digits v → ⊥
-  Reads-no_digit le v d = omega (arith, le, (here v d).0)
-
   pub Reads-large : 1 ≤ base → 2 ^ 32 ≤ base * n + digit_value x → (v : ℕ) → v < 2 ^ 32 → Digits base 0 digits v → ⊥
   Reads-large pos large v lt d = omega (arith, large, lt, Digits-grow base (base * n + digit_value x) next v pos (here v d).1)
 

@@ -1,7 +1,7 @@
 -- Columns of rows.
 use Rattle.std.proofs.Common.{◌≡◌, ℕ, zero, suc, ◌+◌, ◌<◌, ◌≤◌, List, [], ◌∷◌, ◌++◌, length, map, take, slice_get, Option, Some, None, get_or, refl, sym, ap, ◌∙◌, subst, arith}
 use Rattle.std.specs.Prelude.{All}
-use Rattle.std.specs.List.{filter_map, cons_option, range_with_len, AllByRecursion}
+use Rattle.std.specs.List.{cons_option, range_with_len, AllByRecursion}
 use Rattle.std.proofs.lemmas.List.{take_more}
 use Rattle.std.proofs.lemmas.List.FromFn.{length-map-range_with_len}
 use Rattle.std.proofs.lemmas.List.Elements.{filter_map-append, All-from_recursion}
@@ -10,7 +10,7 @@ use Rattle.std.specs.Option.{option_map}
 use Rattle.lw_text.specs.declared.cell.Cell.{Cell}
 use Rattle.lw_text.specs.Rows.{column, columns}
 use Rattle.lw_text.proofs.Elements.{each_of}
-use Rattle.lw_text.specs.Places.{cell_texts, cells_texts, all_texts, height, IsWithin}
+use Rattle.lw_text.specs.Places.{cell_texts, cells_texts, all_texts, height}
 
 -- one more row
 pub column-more : {X : Type 0} (rows : List (List X)) (i k : ℕ) (row : List X) (x : X) → i < length rows → row ≡ get_or rows i row → k < length row → x ≡ get_or row k x → column (take (i + 1) rows) k ≡ column (take i rows) k ++ x ∷ []

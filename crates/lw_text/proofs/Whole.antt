@@ -1,16 +1,16 @@
 -- A text's frame is that of its one heading and its one row of tokens.
-use Rattle.std.proofs.Common.{◌≡◌, ℕ, zero, suc, ◌≤◌, List, [], ◌∷◌, length, map, refl, sym, ap, ◌∙◌, subst, arith}
-use Rattle.std.specs.Prelude.{◌≢◌, Option, Some, None, IfNone, OnSome, codes, All}
+use Rattle.std.proofs.Common.{◌≡◌, ℕ, zero, suc, ◌≤◌, List, [], ◌∷◌, length, refl, sym, ◌∙◌, subst, arith}
+use Rattle.std.specs.Prelude.{Option, Some, None, IfNone, OnSome, codes, All}
 use Rattle.std.specs.List.{AllByRecursion}
 use Rattle.std.proofs.lemmas.List.{length-map}
 use Rattle.std.proofs.lemmas.List.Elements.{All-from_recursion}
 use Rattle.lw_text.specs.declared.cell.Cell.{Cell}
 use Rattle.lw_text.specs.Tokens.{Tokens}
 use Rattle.lw_text.specs.Lists.{Until}
-use Rattle.lw_text.specs.Rows.{Names, Header, Line, Rows, begins_stop}
+use Rattle.lw_text.specs.Rows.{Header, Line, Rows, begins_stop}
 use Rattle.lw_text.specs.Conditions.{Claim, Condition}
 use Rattle.lw_text.specs.Frames.{Heading, Parts, TestFrame, HasFrame, made_of}
-use Rattle.lw_text.specs.Places.{cell_texts, cells_texts, all_texts}
+use Rattle.lw_text.specs.Places.{cell_texts, all_texts}
 use Rattle.lw_text.proofs.Headers.{Names-unique}
 use Rattle.lw_text.proofs.Cells.{Rows-unique}
 use Rattle.lw_text.proofs.ClaimLists.{Condition-unique}

@@ -6,7 +6,7 @@ use Rattle.std.specs.List.{AllByRecursion, list_any, list_all}
 use Rattle.std.proofs.lemmas.List.Elements.{All-from_recursion}
 use Rattle.std.proofs.lemmas.Str.Ascii.{IsAscii-from_all}
 use Rattle.std.proofs.lemmas.Slice.Eq.{bytes_eq-Decides}
-use Rattle.std.proofs.lemmas.Bool.{ltb-true, or_cases, and_parts, eqb-true, and_left, not-true, ne_eqb, cases_Bool}
+use Rattle.std.proofs.lemmas.Bool.{ltb-true, or_cases, and_parts, eqb-true, not-true, cases_Bool}
 use Rattle.std.proofs.lemmas.Bool.Decides.{nat_tests}
 use Rattle.lw_base.specs.Characters.{is_blank, is_word_byte, begins}
 use Rattle.lw_base.specs.Names.{IsName}
@@ -115,17 +115,6 @@ pub no_kind : (bytes w r : List ℕ) → bytes ≡ w ++ r → Words w → begins
 no_kind bytes w r e all longest front never t rest f (inl p) = never (subst IsKind (run-unique is_word_byte t rest w r p.all all p.longest longest (sym f ∙ e)).0 p.kind)
 no_kind bytes w r e all longest front never t rest f (inr p) = let h = symbol_front t rest p in let i = ap (begins is_word_byte) f in cc
 
-pub single_token : (bytes rest : List ℕ) (b : ℕ) → bytes ≡ b ∷ rest → is_single b ≡ true → begins_pair 40 42 bytes ≡ false → ((c d : ℕ) (more : List ℕ) → bytes ≡ c ∷ d ∷ more → is_pair c d ≡ true → ⊥) → IsToken (take 1 bytes) (drop 1 bytes)
-single_token bytes rest b e single no_comment short =
-    subst (λ l. IsToken (take 1 l) (drop 1 l)) (sym e) (inr (single, no_pair rest refl, subst (λ l. begins_pair 40 42 l ≡ false) e no_comment))
-  where
-    no_pair : (l : List ℕ) → rest ≡ l → begins (is_pair b) rest ≡ false
-    no_pair [] f = ap (begins (is_pair b)) f
-    no_pair (d ∷ more) f = elim (cases_Bool (is_pair b d)) [
-      | inl h ↦ absurd (short b d more (e ∙ ap (λ l. b ∷ l) f) h)
-      | inr h ↦ ap (begins (is_pair b)) f ∙ h
-    ]
-
 pub no_token : (bytes rest : List ℕ) (b : ℕ) → bytes ≡ b ∷ rest → is_word_byte b ≡ false → ((is_single b ≡ true) × (begins_pair 40 42 bytes ≡ false) → ⊥) → ((c d : ℕ) (more : List ℕ) → bytes ≡ c ∷ d ∷ more → is_pair c d ≡ true → ⊥) → (t more : List ℕ) → bytes ≡ t ++ more → IsToken t more → ⊥
 no_token bytes rest b e no_word no_single short t more f (inl p) = let h = word_front t more p in let i = ap (begins is_word_byte) (sym e ∙ f) in cc
 no_token bytes rest b e no_word no_single short [] more f (inr p) = p
@@ -139,25 +128,3 @@ no_token bytes rest b e no_word no_single short (c ∷ d ∷ g ∷ t) more f (in
 pub kind_number : (w : List ℕ) (name number : Bool) (o : Option ℕ) → (IsName w → name ≡ true) → name ≡ false → MatchOption o ((n : ℕ) → IsNumber w n → ⊥) (λ n. IsNumber w n) → number ≡ is_some o → (number ≡ true → IsKind w) × (IsKind w → number ≡ true)
 kind_number w name number None is other never e = (λ h. absurd cc, λ k. elim k [ inl n ↦ absurd (let h = is n in cc) | inr n ↦ absurd (never n.0 n.1) ])
 kind_number w name number (Some m) is other found e = (λ h. inr (m, found), λ k. e)
-
--- ---- a token is ASCII
-
-word_byte_ascii : (b : ℕ) → is_word_byte b ≡ true → b < 128
-word_byte_ascii b h = grind (arith, nat_tests)
-
-words_ascii : (w : List ℕ) → Words w → AllByRecursion (λ b. b < 128) w
-words_ascii [] h = tt
-words_ascii (b ∷ w) h = (word_byte_ascii b h.0, words_ascii w h.1)
-
-pub Words-ascii : (w : List ℕ) → Words w → IsAscii w
-Words-ascii w all = IsAscii-from_all w (All-from_recursion (λ b. b < 128) w (words_ascii w all))
-
-symbol_ascii : (t rest : List ℕ) → IsSymbol t rest → AllByRecursion (λ b. b < 128) t
-symbol_ascii [] rest h = tt
-symbol_ascii (b ∷ []) rest h = (ltb-true b 128 (single_all (λ x. nat_lt x 128) b refl h.0), tt)
-symbol_ascii (b ∷ c ∷ []) rest h =
-    (ltb-true b 128 (pair_all (begins (λ x. nat_lt x 128)) b c refl h), (ltb-true c 128 (pair_all (λ t. begins (λ x. nat_lt x 128) (drop 1 t)) b c refl h), tt))
-symbol_ascii (b ∷ c ∷ d ∷ t) rest h = absurd h
-
-pub IsSymbol-ascii : (t rest : List ℕ) → IsSymbol t rest → IsAscii t
-IsSymbol-ascii t rest s = IsAscii-from_all t (All-from_recursion (λ b. b < 128) t (symbol_ascii t rest s))

@@ -1,9 +1,8 @@
 -- The condition of a test, on the row of its tokens, and what it says.
-use Rattle.std.specs.Prelude.{◌≡◌, ℕ, ◌+◌, ◌<◌, ◌≤◌, List, [], ◌∷◌, ◌++◌, length, map, fold, codes, if◌then◌else◌}
-use Rattle.std.specs.List.{list_any, position_or_len}
-use Rattle.std.specs.Str.{bytes_eq}
+use Rattle.std.specs.Prelude.{◌≡◌, ℕ, ◌+◌, ◌<◌, ◌≤◌, List, [], ◌∷◌, length, map, fold, codes}
 use Rattle.lw_base.specs.declared.head.Arch.TheVariants.{Source}
 use Rattle.lw_base.specs.Names.{IsLocation}
+use Rattle.lw_base.specs.Tables.{with_name, place_of}
 use Rattle.lw_base.specs.Registers.{IsRegister}
 use Rattle.lw_base.specs.Formula.{Formula, Yes, No, Reg_is, Word_is, Not, And, Or}
 use Rattle.lw_text.specs.Tokens.{IsNumber}
@@ -23,10 +22,7 @@ abbrev pub Atom : ℕ → List (List ℕ) → Claim → List (List ℕ) → Type
 Atom threads ts (WordIs x n) rest = (l : List (List ℕ)) × (ts ≡ x ∷ l) × IsLocation x × Value l n rest
 Atom threads ts (RegIs t r n) rest = (p q : List ℕ) × (l : List (List ℕ)) × (ts ≡ p ∷ codes ":" ∷ q ∷ l) × IsNumber p t × (t < threads) × IsRegister Source q r × Value l n rest
 
--- the table with the name, which is put last where it isn't in it yet
-abbrev pub with_name : List (List ℕ) → List ℕ → List (List ℕ)
-with_name names x = if list_any (bytes_eq x) names then names else names ++ x ∷ []
-
+-- the table behind a claim, where its location is put last if it isn't there yet
 abbrev pub with_claim : List (List ℕ) → Claim → List (List ℕ)
 with_claim names (WordIs x n) = with_name names x
 with_claim names (RegIs t r n) = names
@@ -37,7 +33,7 @@ table claims = fold with_claim [] claims
 
 -- what a claim says, where a location is its place in the table
 abbrev pub formula_in : List (List ℕ) → Claim → Formula
-formula_in names (WordIs x n) = Word_is (position_or_len (bytes_eq x) names) n
+formula_in names (WordIs x n) = Word_is (place_of names x) n
 formula_in names (RegIs t r n) = Reg_is t r n
 
 -- all of them, joined from the left

@@ -2,10 +2,11 @@
 ghost use Rattle.std.specs.Prelude.{◌≡◌, ◌≢◌, ℕ, ◌<◌, ◌≤◌, List, ◌∷◌, length, map, All, OnOk, OnErr, IfOk, IfErr, IfSome, IfNone, MatchOption, is_some, if◌then◌else◌, codes};
 ghost use Rattle.lw_base.specs.declared.head.Arch.TheVariants.{Source};
 ghost use Rattle.lw_base.specs.Names.{IsLocation};
+ghost use Rattle.lw_base.specs.Tables.{with_name};
 ghost use Rattle.lw_base.specs.Registers.{IsRegister};
 ghost use Rattle.lw_text.specs.declared.fault.Cause.TheVariants.{Memory};
 ghost use Rattle.lw_text.specs.Tokens.{IsNumber};
-ghost use Rattle.lw_text.specs.Conditions.{Claim as SaidClaim, Value, Atom, Claims, Condition, with_name, table};
+ghost use Rattle.lw_text.specs.Conditions.{Claim as SaidClaim, Value, Atom, Claims, Condition, table};
 ghost use Rattle.lw_text.specs.Claims.{named, IsIn, Stands};
 
 use crate::claim::Claim;
@@ -15,6 +16,9 @@ use crate::lexeme::number;
 use crate::token::Token;
 use lw_base::{Arch, Cpu, Loc, LocNames, Reg, Sequence, Word, is_location, is_name, reg_named};
 use std::alloc::{Allocator, Global};
+
+/// The greatest number of atoms: joined by connectives they are 255 nodes, of at most 256.
+const MAX_ATOMS: usize = 128;
 
 /// The claims of a condition, and the table of the locations that they name.
 #[derive(Drop)]
@@ -73,7 +77,7 @@ impl<'t, 'a> Cursor<'t, 'a> {
         let mut claims = Sequence::new(alloc);
         let mut locs = LocNames::new(alloc);
         'claims: loop {
-            if claims.len() == 128 {
+            if claims.len() == MAX_ATOMS {
                 return Err(self.fault(Cause::Condition));
             }
             let first = self.take()?;
@@ -171,10 +175,8 @@ fn thread_of(text: &str, threads: usize) -> Option<Cpu>
 /// The place of the location that an atom's first token names. It is put into the table where it
 /// isn't there yet. A number names none.
 fn enter<A: Allocator + Copy>(first: Token, locs: &mut LocNames<A>) -> Result<Option<Loc>, Fault>
-    requires { length locs.old ≤ 8 }
     ensures first { IfOk result (λ place. Stands locs.new place first.entry.text.now) }
     ensures names { IfOk result (λ place. locs.new ≡ (if is_some place then with_name locs.old first.entry.text.now else locs.old)) }
-    ensures few { OnOk result (length locs.new ≤ 8) }
     ensures no_number { IfErr result (λ f. f.cause ≢ Memory → (n : ℕ) → IsNumber first.entry.text.now n → ⊥) }
     ensures no_room { IfErr result (λ f. f.cause ≢ Memory → IsLocation first.entry.text.now → length (with_name locs.old first.entry.text.now) ≤ 8 → ⊥) }
     ensures place { IfErr result (λ f. f.at ≤ first.entry.at) }
@@ -188,17 +190,13 @@ fn enter<A: Allocator + Copy>(first: Token, locs: &mut LocNames<A>) -> Result<Op
             cause: no_name(first.text),
         });
     }
-    if let Some(loc) = locs.find(first.text) {
-        return Ok(Some(loc));
-    }
-    if locs.len() == 8 {
-        return Err(Fault {
+    match locs.find_or_add(first.text)? {
+        Some(loc) => Ok(Some(loc)),
+        None => Err(Fault {
             at: first.at,
             cause: Cause::TooManyLocations,
-        });
+        }),
     }
-    let loc = locs.add(first.text)?;
-    Ok(Some(loc))
 }
 
 /// The cause where a name should stand, and this is none of them: the words of propositions are

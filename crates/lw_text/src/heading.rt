@@ -5,8 +5,7 @@ ghost use Rattle.lw_text.specs.Frames.{IsTestName, Named, Heading};
 
 use crate::fault::{Cause, Fault};
 use crate::lexer::Lexer;
-use crate::scan::{blanks, until_blank};
-use lw_base::ascii_text;
+use lw_base::{ascii_text, blanks, until_blank};
 
 impl<'a> Lexer<'a> {
     /// Takes the word `SRC`, the blanks behind it and the test's name.

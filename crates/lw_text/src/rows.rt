@@ -14,6 +14,9 @@ use crate::token::Token;
 use lw_base::Sequence;
 use std::alloc::{Allocator, Global};
 
+/// The greatest number of rows.
+const MAX_ROWS: usize = 64;
+
 /// The cells of a row.
 pub(crate) type Cells<'a, A> = Sequence<Cell<'a, A>, A>;
 
@@ -86,7 +89,7 @@ impl<'t, 'a> Cursor<'t, 'a> {
             if self.at_stop() {
                 return Ok(rows);
             }
-            if rows.len() == 64 {
+            if rows.len() == MAX_ROWS {
                 return Err(self.fault(Cause::TooManyRows));
             }
             rows.push(self.line(alloc, threads)?)?;

@@ -1,11 +1,11 @@
 //! The bytes at the front of a text.
-ghost use Rattle.std.specs.Prelude.{◌≡◌, ℕ, not, List, [], ◌∷◌, ◌++◌, MatchOption, false, true};
+ghost use Rattle.std.specs.Prelude.{◌≡◌, ℕ, List, [], ◌∷◌, ◌++◌, MatchOption, false, true};
 ghost use Rattle.std.specs.List.{AllByRecursion};
 ghost use Rattle.lw_base.specs.Characters as characters;
 ghost use Rattle.lw_base.specs.Characters.{begins};
 ghost use Rattle.lw_text.specs.Tokens.{begins_pair, Gap, begins_gap};
 
-use lw_base::{is_blank, is_word_byte};
+use lw_base::{blanks, is_word_byte};
 
 /// The first byte, and what stands behind it.
 pub(crate) fn split(bytes: &[u8]) -> Option<(u8, &[u8])>
@@ -34,24 +34,6 @@ pub(crate) fn after_gap(bytes: &[u8]) -> &[u8]
     ensures stops { begins_gap result.now ≡ false }
 {
     blanks(bytes).1
-}
-
-/// The blanks at the front, and what stands behind them.
-pub(crate) fn blanks(bytes: &[u8]) -> (&[u8], &[u8])
-    ensures parts { bytes.now ≡ result.0.now ++ result.1.now }
-    ensures all { AllByRecursion (λ b. characters.is_blank b ≡ true) result.0.now }
-    ensures longest { begins characters.is_blank result.1.now ≡ false }
-{
-    bytes.split_at(bytes.iter().take_while(|b| is_blank(**b)).count())
-}
-
-/// The bytes up to the first blank, and what stands behind them.
-pub(crate) fn until_blank(bytes: &[u8]) -> (&[u8], &[u8])
-    ensures parts { bytes.now ≡ result.0.now ++ result.1.now }
-    ensures all { AllByRecursion (λ b. not (characters.is_blank b) ≡ true) result.0.now }
-    ensures longest { begins (λ b. not (characters.is_blank b)) result.1.now ≡ false }
-{
-    bytes.split_at(bytes.iter().take_while(|b| !is_blank(**b)).count())
 }
 
 /// The letters, digits and `_` at the front, and what stands behind them.

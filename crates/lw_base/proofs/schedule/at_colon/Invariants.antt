@@ -1,4 +1,4 @@
-use Rattle.std.proofs.Common.{◌≡◌, ◌≢◌, ℕ, ◌<◌, get_or}
+use Rattle.std.proofs.Common.{◌≢◌, ℕ, ◌<◌, get_or}
 use Rattle.lw_base.proofs.schedule.at_colon.Given as goal
 
 abbrev pub invariant-loop-place : goal.invariant-loop-place

@@ -1,17 +1,24 @@
-use Rattle.std.proofs.Common.{◌∙◌, ap, Some}
+use Rattle.std.proofs.Common.{◌∙◌, ap, subst, sym, Some, Contains}
 use Rattle.std.proofs.lemmas.Bool.{false≢true}
 use Rattle.std.proofs.lemmas.Result.{err_from_is_err_and}
-use Rattle.lw_base.proofs.Words.{no_name, no_cpu, no_location, found}
+use Rattle.lw_base.proofs.Shapes.{uncut, no_name, no_cpu, no_location, found}
 use Rattle.lw_base.proofs.schedule.line_of.Goals as goal
+
+pub returns-in_default-clause-err : goal.returns-in_default-clause-err
+returns-in_default-clause-err g c = uncut c.args.names.now _ c.in_default.ensures
 
 pub returns-then-not-is_word_text-clause-err : goal.returns-then-not-is_word_text-clause-err
 returns-then-not-is_word_text-clause-err g c =
-    no_name _ _ _ _ c.in-Some.ensures.0 c.in-Some.ensures.1 c.len-len.ensures.table (λ l. false≢true (c.if-not-is_word_text.ensures.1 l))
+    no_name c.args.names.now _ _ _ c.in-Some.ensures.0 c.in-Some.ensures.1 (λ l. false≢true (c.if-not-is_word_text.ensures.1 l))
 
 pub returns-in_err-cpu-clause-err : goal.returns-in_err-cpu-clause-err
 returns-in_err-cpu-clause-err g c =
     let p = err_from_is_err_and c.from_residual.result c.from_residual.ensures.1 in
-    rw p.1 (no_cpu _ _ _ _ c.in-Some.ensures.0 c.in-Some.ensures.1 c.in_err-cpu.ensures.err)
+    rw (p.1, p.2) (no_cpu c.args.names.now _ _ _ c.in-Some.ensures.0 c.in-Some.ensures.1 (c.is_word_text.ensures.0 c.if-not-is_word_text.false) _ c.in_err-cpu.ensures.err)
+
+pub returns-in-None-clause-err : goal.returns-in-None-clause-err
+returns-in-None-clause-err g c =
+    no_location c.args.names.now _ _ _ c.in-Some.ensures.0 c.in-Some.ensures.1 (c.is_word_text.ensures.0 c.if-not-is_word_text.false) (c.in_ok-cpu.cpu, c.in_ok-cpu.ensures.ok.0, c.in_ok-cpu.ensures.ok.1) (λ h. c.in-None.ensures (subst (Contains c.args.names.now) (sym c.ascii_text.ensures) h))
 
 pub returns-in-Some-find-clause-ok : goal.returns-in-Some-find-clause-ok
 returns-in-Some-find-clause-ok g c =

@@ -1,4 +1,4 @@
-use Rattle.std.proofs.Common.{◌≡◌, ℕ, ◌≤◌, ◌++◌, List, length, map, false}
+use Rattle.std.proofs.Common.{ℕ, List, ◌≡◌, ◌≤◌, ◌++◌, length, map, false}
 use Rattle.std.specs.List.{AllByRecursion}
 use Rattle.lw_base.specs.Characters.{is_blank, begins}
 use Rattle.lw_base.specs.Schedules.{words, event_word, IsEvent}
@@ -11,6 +11,7 @@ invariant-loop-rest g l =
       words : words l.text ≡ map (event_word l.names) l.events ++ words l.rest;
       others : begins is_blank l.rest ≡ false;
       shorter : length l.rest ≤ length l.text;
+      back : (front : List ℕ) × (l.text ≡ front ++ l.rest);
     }
 
 abbrev pub decreases-loop-rest : goal.decreases-loop-rest

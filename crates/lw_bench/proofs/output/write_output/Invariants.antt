@@ -1,4 +1,4 @@
-use Rattle.std.proofs.Common.{◌≡◌, ℕ, ◌++◌, List, false, length}
+use Rattle.std.proofs.Common.{◌≡◌, false, length}
 use Rattle.lw_bench.specs.Devices.{Puts}
 use Rattle.lw_bench.proofs.output.write_output.Given as goal
 

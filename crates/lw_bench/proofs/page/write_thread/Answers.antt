@@ -1,7 +1,6 @@
-use Rattle.std.proofs.Common.{arith, sym, ◌∙◌, ap}
+use Rattle.std.proofs.Common.{arith, ◌∙◌, ap}
 use Rattle.std.specs.Prelude.{ℕ, slice_index}
 use Rattle.lw_base.specs.Registers.{register_name}
-use Rattle.lw_source.specs.declared.thread.Thread.{Thread}
 use Rattle.lw_bench.proofs.Pages.{at_thread, registers_more, thread_written}
 use Rattle.lw_bench.proofs.page.write_thread.Goals as goal
 

@@ -1,7 +1,6 @@
-use Rattle.std.proofs.Common.{◌≡◌, ◌<◌, ◌≤◌, sym, ap, ◌∙◌, subst, length, arith}
+use Rattle.std.proofs.Common.{sym, ◌∙◌, subst}
 use Rattle.std.proofs.lemmas.Result.{err_from_is_err_and}
 use Rattle.lw_text.specs.Places.{IsWithin, cell_texts}
-use Rattle.lw_source.specs.Reading.{ColumnRead}
 use Rattle.lw_source.proofs.Reading.{texts_cut, texts_more, some_texts, column_more, room_left, column_none, column_full}
 use Rattle.lw_source.proofs.column.read_column.Goals as goal
 

@@ -1,4 +1,3 @@
-use Rattle.std.proofs.Common.{◌∙◌}
 use Rattle.std.proofs.lemmas.Result.{err_from_is_err_and}
 use Rattle.lw_source.proofs.Sources.{columns_cut, columns_more, threads_more, threads_none}
 use Rattle.lw_source.proofs.read.read_columns.Goals as goal

@@ -1,6 +1,6 @@
 use Rattle.std.proofs.lemmas.List.{length-map, length-replicate}
 use Rattle.lw_text.specs.Places.{cells_texts}
-use Rattle.std.proofs.Common.{ℕ, length-append, ◌≡◌, ◌≤◌, ◌-◌, ◌++◌, sym, ap, ◌∙◌, subst, length, arith}
+use Rattle.std.proofs.Common.{ℕ, length-append, ◌≡◌, ◌-◌, ◌++◌, ap, ◌∙◌, length, arith}
 use Rattle.std.specs.Prelude.{replicate}
 use Rattle.std.proofs.lemmas.Result.{err_from_is_err_and}
 use Rattle.lw_base.specs.Heads.{TestHead, head_of}
@@ -41,5 +41,5 @@ pub returns-clause-found : goal.returns-clause-found
 returns-clause-found g c =
     let same : head_of c.in_ok-head.head ≡ head_of c.args.frame.now.head = c.in_ok-head.ensures ∙ ap head_of c.head.ensures in
     let zeros : c.len-len.result - length c.in_ok-head.head.init_words ≡ length c.read_columns.new.locs - length c.in_ok-head.head.locs =
-      omega (arith, c.len-len.ensures.len, ap (λ (h : TestHead). length h.init_words) same, ap (λ (h : TestHead). length h.locs) same, c.args.frame.now.words) in
+    omega (arith, c.len-len.ensures.len, ap (λ (h : TestHead). length h.init_words) same, ap (λ (h : TestHead). length h.locs) same, c.args.frame.now.words) in
     source_found _ _ same _ _ _ _ (rw c.as_slice.ensures at c.in_ok-threads.ensures.found) c.len-len.ensures.table.few (c.in_ok-fill.ensures ∙ ap (λ (n : ℕ). c.in_ok-head.head.init_words ++ replicate n 0) zeros)

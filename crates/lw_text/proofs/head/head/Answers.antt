@@ -1,10 +1,7 @@
-use Rattle.std.proofs.Common.{◌≡◌, ℕ, List, map, refl, sym, ◌∙◌, ap}
-use Rattle.lw_base.specs.Heads.{TestHead}
-use Rattle.lw_base.specs.Formula.{Formula}
+use Rattle.std.proofs.Common.{◌≡◌, map, refl, sym, ◌∙◌, ap}
 use Rattle.lw_base.specs.Propositions.{formula_of}
 use Rattle.lw_text.specs.Claims.{named, placed, IsIn}
-use Rattle.lw_text.specs.Conditions.{table, formula, formula_in, joined}
-use Rattle.lw_text.specs.Frames.{source_head}
+use Rattle.lw_text.specs.Conditions.{formula, formula_in, joined}
 use Rattle.lw_text.proofs.Elements.{each_of}
 use Rattle.lw_text.proofs.NameTables.{map-placed-named}
 use Rattle.lw_text.proofs.head.head.Goals as goal

@@ -1,7 +1,5 @@
-use Rattle.std.proofs.Common.{◌≡◌, ℕ, List, [], length, map, sym, ap, ◌∙◌, subst, refl}
-use Rattle.std.specs.Prelude.{All, IfNone, OnSome}
+use Rattle.std.proofs.Common.{◌≡◌, length, map, sym, ap, ◌∙◌, subst}
 use Rattle.std.proofs.lemmas.Result.{err_from_is_err_and}
-use Rattle.lw_text.specs.Tokens.{Tokens}
 use Rattle.lw_text.specs.Spans.{texts, Spans}
 use Rattle.lw_base.specs.Heads.{head_of}
 use Rattle.lw_text.specs.Rows.{columns}

@@ -1,4 +1,3 @@
-use Rattle.std.proofs.Common.{subst, sym, ◌<◌, length, Contains, List, ℕ}
 use Rattle.std.specs.String.{string_bytes}
 use Rattle.lw_base.proofs.Tables.{table_more}
 use Rattle.lw_base.proofs.location.LocNames.add.Goals as goal

@@ -1,4 +1,4 @@
-use Rattle.std.proofs.Common.{[], ◌∷◌, sym, ◌∙◌, length, length-append, arith}
+use Rattle.std.proofs.Common.{[], ◌∷◌, sym, ◌∙◌, length-append, arith}
 use Rattle.lw_base.proofs.Tables.{with_name-there, with_name-new, place_of-at, place_of-new}
 use Rattle.lw_base.proofs.location.LocNames.find_or_add.Goals as goal
 

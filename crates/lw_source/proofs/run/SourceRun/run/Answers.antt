@@ -1,15 +1,17 @@
-use Rattle.std.proofs.Common.{◌∙◌}
+use Rattle.std.proofs.Common.{◌≡◌, ◌∙◌}
 use Rattle.lw_source.proofs.Runs.{Ran-more, event_kept, possible}
+use Rattle.lw_source.specs.Runs.{Running, source_event}
 use Rattle.lw_source.proofs.run.SourceRun.run.Goals as goal
 
 pub loop-done-preserved : goal.loop-done-preserved
 loop-done-preserved g c =
+    let before : Running = record { program = c.args.self.now.program; state = c.loop-done.self.state } in
     let done = rw c.loop-done.invariant.program at c.act.ensures.done in
-    let one = possible _ _ c.act.result c.in_default.field-0 c.act.new.self.state done c.in_default.is in
-    let kept = event_kept _ _ _ _ one in
+    let one = possible (c.act.new.self ≡ before) (source_event c.args.self.now.program c.index-events-done.result c.loop-done.self.state) c.act.result c.in_default.field-0 c.act.new.self.state done c.in_default.is in
+    let kept = event_kept c.args.self.now.program c.index-events-done.result c.loop-done.self.state c.act.new.self.state one in
     record {
       program = c.act.ensures.program ∙ c.loop-done.invariant.program;
-      ran = Ran-more _ c.args.events.now c.loop-done.done c.index-events-done.result _ _ _ c.loop-done-test.true c.index-events-done.is c.loop-done.invariant.ran one;
+      ran = Ran-more c.args.self.now.program c.args.events.now c.loop-done.done c.index-events-done.result c.args.self.now.state c.loop-done.self.state c.act.new.self.state c.loop-done-test.true c.index-events-done.is c.loop-done.invariant.ran one;
       threads = kept.0 ∙ c.loop-done.invariant.threads;
       words = kept.1 ∙ c.loop-done.invariant.words;
     }

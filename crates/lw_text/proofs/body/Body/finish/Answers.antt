@@ -1,5 +1,4 @@
 use Rattle.std.proofs.Common.{◌≡◌, ◌∙◌, sym, ap, arith, ℕ, List, length, ◌≤◌}
-use Rattle.std.specs.Prelude.{All}
 use Rattle.std.proofs.lemmas.List.{length-replicate}
 use Rattle.lw_base.specs.Heads.{TestHead}
 use Rattle.lw_text.specs.Rows.{columns}

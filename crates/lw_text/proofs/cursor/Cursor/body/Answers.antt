@@ -1,4 +1,4 @@
-use Rattle.std.proofs.Common.{arith, length, subst, ◌≤◌}
+use Rattle.std.proofs.Common.{arith, subst}
 use Rattle.std.proofs.lemmas.List.{length-map}
 use Rattle.std.proofs.lemmas.Result.{err_from_is_err_and}
 use Rattle.lw_text.specs.Places.{cells_texts, all_texts}

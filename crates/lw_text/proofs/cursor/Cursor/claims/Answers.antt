@@ -1,8 +1,8 @@
-use Rattle.std.proofs.Common.{◌≡◌, ℕ, ◌∷◌, [], ◌++◌, ◌∙◌, sym, ap, subst, map, length, arith, length-append}
+use Rattle.std.proofs.Common.{◌∷◌, [], ◌++◌, ◌∙◌, sym, ap, subst, map, length, arith, length-append}
 use Rattle.std.proofs.lemmas.Result.{err_from_is_err_and}
 use Rattle.std.proofs.lemmas.List.{length-map}
 use Rattle.std.proofs.lemmas.Bool.{not-true, not-false}
-use Rattle.lw_text.specs.Conditions.{Atom, table, with_claim}
+use Rattle.lw_text.specs.Conditions.{Atom}
 use Rattle.lw_text.specs.Claims.{named}
 use Rattle.lw_text.specs.Views.{left}
 use Rattle.lw_text.proofs.Texts.{is_text, is_no_text}
@@ -10,10 +10,10 @@ use Rattle.lw_text.proofs.Atoms.{atom_none, Atom-shorter, Atoms-cut, Atoms-other
 use Rattle.lw_text.proofs.ClaimLists.{few_nodes, Claims-full, Claims-fault, atom_refused, grow}
 use Rattle.lw_text.proofs.cursor.Cursor.claims.Goals as goal
 
-pub returns-then-len-eq128-clause-fault : goal.returns-then-len-eq128-clause-fault
-returns-then-len-eq128-clause-fault g c =
+pub returns-then-len-eq-MAX_ATOMS-clause-fault : goal.returns-then-len-eq-MAX_ATOMS-clause-fault
+returns-then-len-eq-MAX_ATOMS-clause-fault g c =
     let said = map (named c.claims.locs) c.claims.claims in
-    λ _. Claims-full c.args.threads (left c.args.self.now) (left c.claims.self) said c.claims.invariant.before (length-map c.claims.claims (named c.claims.locs) ∙ sym c.len.ensures ∙ c.if-len-eq128.true)
+    λ _. Claims-full c.args.threads (left c.args.self.now) (left c.claims.self) said c.claims.invariant.before (length-map c.claims.claims (named c.claims.locs) ∙ sym c.len.ensures ∙ c.if-len-eq-MAX_ATOMS.true)
 
 pub returns-in_err-first-clause-fault : goal.returns-in_err-first-clause-fault
 returns-in_err-first-clause-fault g c =
@@ -65,8 +65,8 @@ returns-then-eq-clause-found g c =
     let all = c.claims.claims ++ c.in_ok-claim.claim ∷ [] in
     rw c.in_ok-push.ensures.ok (record {
       atoms = rw grown.said (Atoms-closed c.args.threads (left c.args.self.now) (left c.claims.self) (map (named c.claims.locs) c.claims.claims) c.claims.invariant.before claim _ _ (subst (λ l. Atom c.args.threads (left c.claims.self) claim l) c.in_ok-mark.ensures.ok atom) (is_text _ _ (sym c.eq.ensures ∙ c.if-eq.true)));
-      few_names = omega (arith, ap length grown.names_are, c.in_ok-place.ensures.few);
-      few_nodes = few_nodes (map (named after) all) (omega (arith, length-map all (named after), length-append c.claims.claims (c.in_ok-claim.claim ∷ []), c.if-len-eq128.false, c.len.ensures, c.claims.invariant.few));
+      few_names = omega (arith, ap length grown.names_are, ap length c.locs-in-claims.view_is, c.locs-in-claims.invariant.few);
+      few_nodes = few_nodes (map (named after) all) (omega (arith, length-map all (named after), length-append c.claims.claims (c.in_ok-claim.claim ∷ []), c.if-len-eq-MAX_ATOMS.false, c.len.ensures, c.claims.invariant.few));
     })
 
 pub claims-smaller : goal.claims-smaller
@@ -86,7 +86,6 @@ claims-preserved g c =
       before = rw grown.said (Atoms-more c.args.threads (left c.args.self.now) (left c.claims.self) (map (named c.claims.locs) c.claims.claims) c.claims.invariant.before claim _ _ (subst (λ l. Atom c.args.threads (left c.claims.self) claim l) c.in_ok-mark.ensures.ok atom) (is_text _ _ (not-false _ (sym c.ne.ensures ∙ c.if-ne.false))));
       names = grown.names_are;
       within = grown.within;
-      few_names = c.in_ok-place.ensures.few;
-      few = omega (arith, length-append c.claims.claims (c.in_ok-claim.claim ∷ []), c.if-len-eq128.false, c.len.ensures, c.claims.invariant.few);
+      few = omega (arith, length-append c.claims.claims (c.in_ok-claim.claim ∷ []), c.if-len-eq-MAX_ATOMS.false, c.len.ensures, c.claims.invariant.few);
       same = c.in_ok-mark.ensures.same ∙ (c.in_ok-claim.ensures.same ∙ (c.in_ok-first.ensures.same ∙ c.claims.invariant.same));
     })

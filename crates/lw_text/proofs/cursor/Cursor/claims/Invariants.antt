@@ -12,7 +12,6 @@ invariant-claims g l = record {
   before : Before (Atom l.threads) and end (left l.fn.self) (map (named l.locs) l.claims) (left l.self);
   names : l.locs ≡ table (map (named l.locs) l.claims);
   within : All (IsIn l.locs) l.claims;
-  few_names : length l.locs ≤ 8;
   few : length l.claims ≤ 128;
   same : l.self.len ≡ l.fn.self.len;
 }

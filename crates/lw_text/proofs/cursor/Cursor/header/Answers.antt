@@ -1,4 +1,4 @@
-use Rattle.std.proofs.Common.{◌≡◌, ◌∷◌, ◌++◌, [], ◌∙◌, refl, sym, ap, subst, append_assoc, Bool}
+use Rattle.std.proofs.Common.{◌≡◌, ◌∷◌, [], ◌∙◌, refl, ap, subst, Bool}
 use Rattle.std.specs.Prelude.{codes, if◌then◌else◌}
 use Rattle.lw_text.specs.Views.{left}
 use Rattle.lw_text.proofs.Headers.{NamesTo-start, Names-more}

@@ -11,9 +11,9 @@ pub returns-then-at_stop-clause-found : goal.returns-then-at_stop-clause-found
 returns-then-at_stop-clause-found g c =
     Rows-found c.args.threads (left c.args.self.now) (left c.rows.self) (all_texts c.rows.rows) c.rows.invariant.passed (sym c.at_stop.ensures ∙ c.if-at_stop.true) (omega (arith, c.rows.invariant.few, length-map c.rows.rows cells_texts))
 
-pub returns-then-len-eq64-clause-fault : goal.returns-then-len-eq64-clause-fault
-returns-then-len-eq64-clause-fault g c =
-    λ _. Rows-many c.args.threads (left c.args.self.now) (left c.rows.self) (all_texts c.rows.rows) c.rows.invariant.passed (sym c.at_stop.ensures ∙ c.if-at_stop.false) (omega (arith, c.if-len-eq64.true, c.len.ensures, length-map c.rows.rows cells_texts))
+pub returns-then-len-eq-MAX_ROWS-clause-fault : goal.returns-then-len-eq-MAX_ROWS-clause-fault
+returns-then-len-eq-MAX_ROWS-clause-fault g c =
+    λ _. Rows-many c.args.threads (left c.args.self.now) (left c.rows.self) (all_texts c.rows.rows) c.rows.invariant.passed (sym c.at_stop.ensures ∙ c.if-at_stop.false) (omega (arith, c.if-len-eq-MAX_ROWS.true, c.len.ensures, length-map c.rows.rows cells_texts))
 
 pub returns-in_err-line-clause-fault : goal.returns-in_err-line-clause-fault
 returns-in_err-line-clause-fault g c =
@@ -32,6 +32,6 @@ pub rows-preserved : goal.rows-preserved
 rows-preserved g c = record {
   passed = rw (c.in_ok-push.ensures.ok, map_push cells_texts c.rows.rows) (Rows-more c.args.threads (left c.args.self.now) (left c.rows.self) (all_texts c.rows.rows) c.rows.invariant.passed (left c.line.new.self) (cells_texts c.in_ok-line.field-0) (sym c.at_stop.ensures ∙ c.if-at_stop.false) c.in_ok-line.ensures.found);
   spans = rw c.in_ok-push.ensures.ok (TakesRows-push (remaining c.args.self.now) (remaining c.rows.self) (remaining c.line.new.self) c.rows.rows c.in_ok-line.field-0 c.rows.invariant.spans c.in_ok-line.ensures.spans);
-  few = omega (arith, ap length c.in_ok-push.ensures.ok, length-append c.rows.rows (c.in_ok-line.field-0 ∷ []), c.if-len-eq64.false, c.len.ensures, c.rows.invariant.few);
+  few = omega (arith, ap length c.in_ok-push.ensures.ok, length-append c.rows.rows (c.in_ok-line.field-0 ∷ []), c.if-len-eq-MAX_ROWS.false, c.len.ensures, c.rows.invariant.few);
   same = c.in_ok-line.ensures.same ∙ c.rows.invariant.same;
 }

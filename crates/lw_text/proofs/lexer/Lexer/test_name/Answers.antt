@@ -1,4 +1,4 @@
-use Rattle.std.proofs.Common.{arith, ap, ◌<◌, ◌++◌, length, sym, ◌∙◌, append_assoc}
+use Rattle.std.proofs.Common.{arith, ap, ◌++◌, sym, ◌∙◌, append_assoc}
 use Rattle.std.proofs.lemmas.Bool.{false≢true}
 use Rattle.std.proofs.lemmas.Bool.Decides.{nat_tests}
 use Rattle.lw_text.proofs.TokenRows.{Suffix-more}

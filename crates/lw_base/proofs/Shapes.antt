@@ -1,0 +1,144 @@
+-- Words of an event's shape, and words that are refused.
+use Rattle.std.proofs.Common.{rules, ◌≡◌, ◌≢◌, ℕ, zero, suc, ◌<◌, ◌+◌, ◌==◌, ◌⊎◌, inl, inr, true, false, List, [], ◌∷◌, ◌++◌, length, refl, sym, ap, ◌∙◌, subst, arith}
+use Rattle.std.proofs.lemmas.Bool.{true≢false}
+use Rattle.std.proofs.lemmas.List.Elements.{Contains-get_or}
+use Rattle.std.proofs.lemmas.Option.{slice_get_within, get_or_from_slice_get}
+use Rattle.std.specs.Prelude.{slice_get, slice_index_or, Some, Contains}
+use Rattle.std.specs.Char.{is_ascii_digit}
+use Rattle.std.specs.List.{AllByRecursion, list_all}
+use Rattle.lw_base.specs.Names.{IsLocation, IsWordText, IsTable, are_digits}
+use Rattle.lw_base.specs.Schedules.{HasParts, HasShape, IsCpu, IsFaulty, IsEvent, event_word}
+use Rattle.lw_base.proofs.Schedules.{apart}
+use Rattle.lw_base.specs.declared.event.Event.{Event}
+use Rattle.lw_base.specs.declared.event.Event.TheVariants.{Step, Drain, Evict}
+use Rattle.lw_base.specs.declared.fault.ScheduleCause.{ScheduleCause}
+use Rattle.lw_base.specs.declared.fault.ScheduleCause.TheVariants.{Word, Cpu, Location, Memory}
+
+behind : (a b : ℕ) (u v : List ℕ) → a ∷ u ≡ b ∷ v → u ≡ v
+behind a b u v same = cc
+
+-- digits have no `:`
+no_colon : (ds : List ℕ) → list_all is_ascii_digit ds ≡ true → AllByRecursion (λ b. b ≢ 58) ds
+no_colon [] h = tt
+no_colon (b ∷ ds) h =
+    let front : is_ascii_digit b ≡ true = search rules in
+    let rest : list_all is_ascii_digit ds ≡ true = search rules in
+    ((λ e. let k : is_ascii_digit 58 ≡ true = subst (λ c. is_ascii_digit c ≡ true) e front in absurd (true≢false (sym k))), no_colon ds rest)
+
+digits_no_colon : (ds : List ℕ) → are_digits ds ≡ true → AllByRecursion (λ b. b ≢ 58) ds
+digits_no_colon [] h = tt
+digits_no_colon (b ∷ ds) h =
+    let some : (length (b ∷ ds) == 0) ≡ false = search rules in
+    let all : list_all is_ascii_digit (b ∷ ds) ≡ true = rw some at h in
+    no_colon (b ∷ ds) all
+
+-- a text has one first `:`
+cut_once : (a c n m : List ℕ) → AllByRecursion (λ b. b ≢ 58) a → AllByRecursion (λ b. b ≢ 58) c → a ++ 58 ∷ n ≡ c ++ 58 ∷ m → (a ≡ c) × (n ≡ m)
+cut_once [] [] n m h k e = (refl, cc)
+cut_once [] (d ∷ c) n m h k e = absurd (k.0 cc)
+cut_once (b ∷ a) [] n m h k e = absurd (h.0 cc)
+cut_once (b ∷ a) (d ∷ c) n m h k e =
+    let front : b ≡ d = cc in
+    let rest : a ++ 58 ∷ n ≡ c ++ 58 ∷ m = cc in
+    let p = cut_once a c n m h.1 k.1 rest in
+    let q : a ≡ c = p.0 in
+    (cc, p.1)
+
+-- what is wrong with the digits of a word
+abbrev pub BadDigits : List ℕ → ScheduleCause → Type 0
+BadDigits ds e = ((e ≡ Word) × (are_digits ds ≡ false)) ⊎ ((e ≡ Cpu) × (are_digits ds ≡ true) × (IsCpu ds → ⊥))
+
+colon_there : (ds n : List ℕ) → AllByRecursion (λ b. b ≢ 58) (ds ++ 58 ∷ n) → ⊥
+colon_there [] n h = h.0 refl
+colon_there (b ∷ ds) n h = colon_there ds n h.1
+
+-- a text behind `E` that has no `:`
+pub uncut : (names : List (List ℕ)) (text : List ℕ) → AllByRecursion (λ b. b ≢ 58) text → IsFaulty names (69 ∷ text) Word
+uncut names text others ds shape = go shape.1
+  where
+    go : HasParts (69 ∷ text) ds → ⊥
+    go (inl e) = apart 69 80 _ _ (λ k. omega arith) e
+    go (inr (inl e)) = apart 69 68 _ _ (λ k. omega arith) e
+    go (inr (inr h)) = colon_there ds h.0 (subst (AllByRecursion (λ b. b ≢ 58)) (behind 69 69 _ _ h.2) others)
+
+-- A text behind `E`, cut at its first `:`.
+module _ (names : List (List ℕ)) (text digits name : List ℕ) (cut : text ≡ digits ++ 58 ∷ name) (others : AllByRecursion (λ b. b ≢ 58) digits) where
+  eviction : (ds : List ℕ) → HasShape (69 ∷ text) ds → (digits ≡ ds) × IsWordText name
+  eviction ds shape = go shape.1
+    where
+      go : HasParts (69 ∷ text) ds → (digits ≡ ds) × IsWordText name
+      go (inl e) = absurd (apart 69 80 _ _ (λ k. omega arith) e)
+      go (inr (inl e)) = absurd (apart 69 68 _ _ (λ k. omega arith) e)
+      go (inr (inr h)) =
+          let e : digits ++ 58 ∷ name ≡ ds ++ 58 ∷ h.0 = sym cut ∙ behind 69 69 _ _ h.2 in
+          let p = cut_once digits ds name h.0 others (digits_no_colon ds shape.0) e in
+          (p.0, subst IsWordText (sym p.1) h.1)
+
+  pub no_name : (IsWordText name → ⊥) → IsFaulty names (69 ∷ text) Word
+  no_name none ds shape = none (eviction ds shape).1
+
+  pub no_cpu : IsWordText name → (e : ScheduleCause) → BadDigits digits e → IsFaulty names (69 ∷ text) e
+  no_cpu named e (inl h) = rw h.0 (λ ds shape. true≢false (sym shape.0 ∙ ap are_digits (sym (eviction ds shape).0) ∙ h.1))
+  no_cpu named e (inr h) = rw h.0 (digits, (h.1, inr (inr (name, named, ap (λ t. 69 ∷ t) cut))), h.2)
+
+  pub no_location : IsWordText name → IsCpu digits → (Contains names name → ⊥) → IsFaulty names (69 ∷ text) Location
+  no_location named cpu missing = (digits, name, cpu, named, ap (λ t. 69 ∷ t) cut, missing)
+
+  pub found : (c l : ℕ) → c < 4 → digits ≡ (48 + c) ∷ [] → slice_get names l ≡ Some name → ((c < 4) × (l < length names)) × (69 ∷ (48 + c) ∷ 58 ∷ slice_index_or names l [] ≡ 69 ∷ text)
+  found c l h digit at =
+      let named : slice_index_or names l [] ≡ name = get_or_from_slice_get names l name [] at in
+      ((h, slice_get_within names l name at), ap (λ t. 69 ∷ t) (rw (cut, digit, named) refl))
+
+-- the names of a table
+location_at : (names : List (List ℕ)) (l : ℕ) → AllByRecursion IsLocation names → l < length names → IsLocation (slice_index_or names l [])
+location_at [] l all h = absurd (omega arith)
+location_at (n ∷ names) zero all h = all.0
+location_at (n ∷ names) (suc l) all h = location_at names l all.1 (omega arith)
+
+one_digit : (c : ℕ) → c < 4 → are_digits ((48 + c) ∷ []) ≡ true
+one_digit zero h = refl
+one_digit (suc zero) h = refl
+one_digit (suc (suc zero)) h = refl
+one_digit (suc (suc (suc zero))) h = refl
+one_digit (suc (suc (suc (suc c)))) h = absurd (omega arith)
+
+-- the shape of an event's word
+shape_of : (names : List (List ℕ)) → IsTable names → (e : Event) → IsEvent names e → (ds : List ℕ) × IsCpu ds × HasShape (event_word names e) ds
+shape_of names table (Step c) is = ((48 + c) ∷ [], (c, is, refl), (one_digit c is, inl refl))
+shape_of names table (Drain c) is = ((48 + c) ∷ [], (c, is, refl), (one_digit c is, inr (inl refl)))
+shape_of names table (Evict c l) is = ((48 + c) ∷ [], (c, is.0, refl), (one_digit c is.0, inr (inr (slice_index_or names l [], (location_at names l table.all is.1).0.0, refl))))
+
+-- a word has its shape with one row of digits
+one_shape : (w ds es : List ℕ) → HasShape w ds → HasShape w es → ds ≡ es
+one_shape w ds es shape other = go shape.1 other.1
+  where
+    go : HasParts w ds → HasParts w es → ds ≡ es
+    go (inl e) (inl f) = behind 80 80 _ _ (sym e ∙ f)
+    go (inl e) (inr (inl f)) = absurd (apart 80 68 _ _ (λ k. omega arith) (sym e ∙ f))
+    go (inl e) (inr (inr f)) = absurd (apart 80 69 _ _ (λ k. omega arith) (sym e ∙ f.2))
+    go (inr (inl e)) (inl f) = absurd (apart 68 80 _ _ (λ k. omega arith) (sym e ∙ f))
+    go (inr (inl e)) (inr (inl f)) = behind 68 68 _ _ (sym e ∙ f)
+    go (inr (inl e)) (inr (inr f)) = absurd (apart 68 69 _ _ (λ k. omega arith) (sym e ∙ f.2))
+    go (inr (inr e)) (inl f) = absurd (apart 69 80 _ _ (λ k. omega arith) (sym e.2 ∙ f))
+    go (inr (inr e)) (inr (inl f)) = absurd (apart 69 68 _ _ (λ k. omega arith) (sym e.2 ∙ f))
+    go (inr (inr e)) (inr (inr f)) =
+        let same : ds ++ 58 ∷ e.0 ≡ es ++ 58 ∷ f.0 = behind 69 69 _ _ (sym e.2 ∙ f.2) in
+        (cut_once ds es e.0 f.0 (digits_no_colon ds shape.0) (digits_no_colon es other.0) same).0
+
+-- a refused word is no event's
+pub no_event : (names : List (List ℕ)) → IsTable names → (w : List ℕ) (cause : ScheduleCause) → IsFaulty names w cause → (e : Event) → IsEvent names e → event_word names e ≡ w → ⊥
+no_event names table w Word faulty e is same =
+    let s = shape_of names table e is in
+    faulty s.0 (subst (λ v. HasShape v s.0) same s.2)
+no_event names table w Cpu faulty e is same =
+    let s = shape_of names table e is in
+    let one : s.0 ≡ faulty.0 = one_shape w s.0 faulty.0 (subst (λ v. HasShape v s.0) same s.2) faulty.1 in
+    faulty.2 (subst IsCpu one s.1)
+no_event names table w Location (ds, n, cpu, text, is_word, missing) (Step c) is same = apart 80 69 _ _ (λ k. omega arith) (same ∙ is_word)
+no_event names table w Location (ds, n, cpu, text, is_word, missing) (Drain c) is same = apart 68 69 _ _ (λ k. omega arith) (same ∙ is_word)
+no_event names table w Location (ds, n, cpu, text, is_word, missing) (Evict c l) is same =
+    let e : (48 + c) ∷ 58 ∷ slice_index_or names l [] ≡ ds ++ 58 ∷ n = behind 69 69 _ _ (same ∙ is_word) in
+    let d : ds ≡ (48 + cpu.0) ∷ [] = cpu.2 in
+    let named : slice_index_or names l [] ≡ n = cc in
+    missing (subst (Contains names) named (Contains-get_or names l [] is.1))
+no_event names table w Memory faulty e is same = absurd faulty
