@@ -1,4 +1,5 @@
 pub mod Tables
+pub mod GrowingTables
 pub mod Schedules
 pub mod Words
 pub mod Shapes

@@ -11,7 +11,8 @@ use Rattle.lw_source.specs.declared.stmt.Stmt.{Stmt}
 use Rattle.lw_source.specs.Cells.{Written, Statement, filled, Column, name_of, placed}
 use Rattle.lw_source.specs.Reading.{CellRead, ColumnRead}
 use Rattle.lw_source.proofs.Columns.{statement_unique, zip_unique, zip_more, zip_cut, filled-empty, filled-more}
-use Rattle.lw_source.proofs.Names.{with_names-append, with_names-longer, AllThere, all_there, map_placed-along}
+use Rattle.lw_base.proofs.GrowingTables.{with_names-append, with_names-longer}
+use Rattle.lw_source.proofs.Names.{AllThere, all_there, map_placed-along}
 
 -- the cells before one, that one, and the cells behind it
 pub texts_cut : {A : Type 0} (cells : List (Cell A)) (i : ℕ) (cell : Cell A) → i < length cells → cell ≡ get_or cells i cell → cells_texts cells ≡ cells_texts (take i cells) ++ cell_texts cell ∷ cells_texts (drop (suc i) cells)

@@ -16,7 +16,8 @@ use Rattle.lw_source.specs.Sources.{SourceTest, IsThread}
 use Rattle.lw_source.specs.Cells.{Written, Statement, filled, Column, name_of, names_of, placed, with_table, test_on, HasSource}
 use Rattle.lw_source.specs.Reading.{ColumnRead, ColumnsRead}
 use Rattle.lw_source.proofs.Columns.{statement_unique, zip_unique, zip_more, zip_length, zip_cut}
-use Rattle.lw_source.proofs.Names.{with_names-append, with_names-longer, AllThere, all_there, map_placed-along, thread_fits}
+use Rattle.lw_base.proofs.GrowingTables.{with_names-append, with_names-longer}
+use Rattle.lw_source.proofs.Names.{AllThere, all_there, map_placed-along, thread_fits}
 
 column_unique : (cells : List (List (List ℕ))) (s t : List Written) → Column cells s → Column cells t → s ≡ t
 column_unique cells s t h k = zip_unique Statement statement_unique (filled cells) s t h.0 k.0
