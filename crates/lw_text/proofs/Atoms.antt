@@ -1,5 +1,5 @@
--- Atoms of a condition are read in one way.
-use Rattle.std.proofs.Common.{◌≡◌, ℕ, ◌+◌, ◌<◌, inl, inr, true, List, [], ◌∷◌, ◌++◌, length, ap, ◌∙◌, subst, arith}
+-- Numbers, values and sites are read in one way.
+use Rattle.std.proofs.Common.{◌≡◌, ℕ, ◌+◌, ◌<◌, ◌⊎◌, inl, inr, true, List, [], ◌∷◌, ◌++◌, length, ap, ◌∙◌, subst, sym, arith}
 use Rattle.std.specs.Prelude.{codes}
 use Rattle.std.specs.Char.{digit_value, is_ascii_digit}
 use Rattle.std.proofs.lemmas.Bool.Decides.{nat_tests}
@@ -8,16 +8,14 @@ use Rattle.lw_base.specs.Characters.{begins}
 use Rattle.lw_base.specs.Names.{IsName, IsLocation}
 use Rattle.lw_base.specs.Registers.{IsRegister}
 use Rattle.lw_text.specs.Tokens.{Digits, IsNumber}
-use Rattle.lw_text.specs.Lists.{Separated}
-use Rattle.lw_text.specs.Conditions.{Claim, WordIs, RegIs, Value, Atom}
+use Rattle.lw_text.specs.Sites.{Site, InMemory, InThread, IsSite, Value}
 use Rattle.lw_text.proofs.Numbers.{Digits-unique}
-use Rattle.lw_text.proofs.Lists.{IsExact, Before, Before-push, Before-close, Before-here, exact_from_one, Separated-unique}
 
 decimal_first : (b : ℕ) → digit_value b < 10 → is_ascii_digit b ≡ true
 decimal_first b h = grind (arith, nat_tests)
 
 -- a number begins with a digit
-number_first : (w : List ℕ) (n : ℕ) → IsNumber w n → begins is_ascii_digit w ≡ true
+pub number_first : (w : List ℕ) (n : ℕ) → IsNumber w n → begins is_ascii_digit w ≡ true
 number_first [] n (b, inl d) = absurd (omega arith)
 number_first (x ∷ w) n (b, inl d) = decimal_first x d.1.0
 number_first w n (b, inr h) = ap (begins is_ascii_digit) h.1
@@ -45,98 +43,57 @@ value_none ts l m t e f none v rest p =
     let i : p.0 ≡ t = cc in
     none v (subst (λ w. IsNumber w v) i p.2)
 
-Value-unique : (ts r s : List (List ℕ)) (v w : ℕ) → Value ts v r → Value ts w s → (v ≡ w) × (r ≡ s)
+pub Value-unique : (ts r s : List (List ℕ)) (v w : ℕ) → Value ts v r → Value ts w s → (v ≡ w) × (r ≡ s)
 Value-unique ts r s v w p q =
     let f = p.1 in
     let g = q.1 in
     let i : q.0 ≡ p.0 = cc in
     (number-unique p.0 v w p.2 (subst (λ x. IsNumber x w) i q.2), cc)
 
-module _ (threads : ℕ) (l : List (List ℕ)) (p : List ℕ) where
-  module _ (t : ℕ) (number : IsNumber p t) where
-    -- no atom has a thread that isn't there
-    pub atom_thread : ((n : ℕ) → IsNumber p n → n < threads → ⊥) → (a : Claim) (rest : List (List ℕ)) → Atom threads (p ∷ l) a rest → ⊥
-    atom_thread never (WordIs x v) rest a = let f = a.1 in let i : x ≡ p = cc in number_no_name p t number (subst IsName i a.2.0)
-    atom_thread never (RegIs u r v) rest a = let f = a.3 in let i : a.0 ≡ p = cc in never u (subst (λ x. IsNumber x u) i a.4) a.5
-
-    module _ (k : List (List ℕ)) (g : l ≡ codes ":" ∷ k) where
-      pub atom_register : ((q : List ℕ) (r : ℕ) (rest : List (List ℕ)) → k ≡ q ∷ rest → IsRegister Source q r → ⊥) → (a : Claim) (rest : List (List ℕ)) → Atom threads (p ∷ l) a rest → ⊥
-      atom_register never (WordIs x v) rest a = let f = a.1 in let i : x ≡ p = cc in number_no_name p t number (subst IsName i a.2.0)
-      atom_register never (RegIs u r v) rest a = let f = a.3 in let i : k ≡ a.1 ∷ a.2 = cc in never a.1 r a.2 i a.6
-
-      pub atom_value : (m : List (List ℕ)) (q : List ℕ) → k ≡ q ∷ m → ((v : ℕ) (rest : List (List ℕ)) → Value m v rest → ⊥) → (a : Claim) (rest : List (List ℕ)) → Atom threads (p ∷ l) a rest → ⊥
-      atom_value m q h none (WordIs x v) rest a = let f = a.1 in let i : x ≡ p = cc in number_no_name p t number (subst IsName i a.2.0)
-      atom_value m q h none (RegIs u r v) rest a = let f = a.3 in let i : a.2 ≡ m = cc in none v rest (subst (λ x. Value x v rest) i a.7)
-
-  pub atom_word : IsLocation p → ((v : ℕ) (rest : List (List ℕ)) → Value l v rest → ⊥) → (a : Claim) (rest : List (List ℕ)) → Atom threads (p ∷ l) a rest → ⊥
-  atom_word is none (WordIs x v) rest a = let f = a.1 in let i : a.0 ≡ l = cc in none v rest (subst (λ y. Value y v rest) i a.3)
-  atom_word is none (RegIs u r v) rest a = let f = a.3 in let i : a.0 ≡ p = cc in number_no_name p u (subst (λ x. IsNumber x u) i a.4) is.0
-
-pub atom_none : (threads : ℕ) (ts : List (List ℕ)) → ts ≡ [] → (a : Claim) (rest : List (List ℕ)) → Atom threads ts a rest → ⊥
-atom_none threads ts e (WordIs x v) rest a = let f = a.1 in cc
-atom_none threads ts e (RegIs u r v) rest a = let f = a.3 in cc
-
-Value-shorter : (ts rest : List (List ℕ)) (v : ℕ) → Value ts v rest → length rest < length ts
+pub Value-shorter : (ts rest : List (List ℕ)) (v : ℕ) → Value ts v rest → length rest < length ts
 Value-shorter ts rest v p = omega (arith, ap length p.1)
-
-pub Atom-shorter : (threads : ℕ) (ts rest : List (List ℕ)) (a : Claim) → Atom threads ts a rest → length rest < length ts
-Atom-shorter threads ts rest (WordIs x v) a = omega (arith, ap length a.1, Value-shorter a.0 rest v a.3)
-Atom-shorter threads ts rest (RegIs u r v) a = omega (arith, ap length a.3, Value-shorter a.2 rest v a.7)
 
 register-unique : (q : List ℕ) (r s : ℕ) → IsRegister Source q r → IsRegister Source q s → r ≡ s
 register-unique q r s a b = let f = a.1 in let g = b.1 in let e : 48 + r ≡ 48 + s = cc in omega arith
 
-pub Atom-one : (threads : ℕ) (ts : List (List ℕ)) (a b : Claim) (r s : List (List ℕ)) → Atom threads ts a r → Atom threads ts b s → (a ≡ b) × (r ≡ s)
-Atom-one threads ts (WordIs x v) (WordIs y w) r s p q =
-    let f = p.1 in
-    let g = q.1 in
-    let i : q.0 ≡ p.0 = cc in
-    let k : x ≡ y = cc in
-    let e = Value-unique p.0 r s v w p.3 (subst (λ l. Value l w s) i q.3) in
-    let m : v ≡ w = e.0 in
-    (cc, e.1)
-Atom-one threads ts (WordIs x v) (RegIs t n w) r s p q = let f = p.1 in let g = q.3 in let i : x ≡ q.0 = cc in absurd (number_no_name q.0 t q.4 (subst IsName i p.2.0))
-Atom-one threads ts (RegIs t n w) (WordIs x v) r s p q = let f = p.3 in let g = q.1 in let i : x ≡ p.0 = cc in absurd (number_no_name p.0 t p.4 (subst IsName i q.2.0))
-Atom-one threads ts (RegIs t n v) (RegIs u m w) r s p q =
-    let f = p.3 in
-    let g = q.3 in
-    let i : q.2 ≡ p.2 = cc in
+-- ---- sites
+
+pub bracket_no_name : IsName (codes "[") → ⊥
+bracket_no_name n = let h = n.0.all.0 in cc
+
+pub bracket_no_number : (n : ℕ) → IsNumber (codes "[") n → ⊥
+bracket_no_number n h = let k = number_first (codes "[") n h in cc
+
+pub IsSite-unique : (ts : List (List ℕ)) (a b : Site) (r s : List (List ℕ)) → IsSite ts a r → IsSite ts b s → (a ≡ b) × (r ≡ s)
+IsSite-unique ts (InMemory x) (InMemory y) r s (p, inl e) (q, inl f) = let k : x ≡ y = cc in (ap InMemory k, cc)
+IsSite-unique ts (InMemory x) (InMemory y) r s (p, inl e) (q, inr f) = let k : x ≡ codes "[" = cc in absurd (bracket_no_name (subst IsName k p.0))
+IsSite-unique ts (InMemory x) (InMemory y) r s (p, inr e) (q, inl f) = let k : y ≡ codes "[" = cc in absurd (bracket_no_name (subst IsName k q.0))
+IsSite-unique ts (InMemory x) (InMemory y) r s (p, inr e) (q, inr f) = let k : x ≡ y = cc in (ap InMemory k, cc)
+IsSite-unique ts (InMemory x) (InThread t n) r s (p, inl e) q = let f = q.2 in let k : x ≡ q.0 = cc in absurd (number_no_name q.0 t q.3 (subst IsName k p.0))
+IsSite-unique ts (InMemory x) (InThread t n) r s (p, inr e) q = let f = q.2 in let k : q.0 ≡ codes "[" = cc in absurd (bracket_no_number t (subst (λ w. IsNumber w t) k q.3))
+IsSite-unique ts (InThread t n) (InMemory x) r s p (q, inl e) = let f = p.2 in let k : x ≡ p.0 = cc in absurd (number_no_name p.0 t p.3 (subst IsName k q.0))
+IsSite-unique ts (InThread t n) (InMemory x) r s p (q, inr e) = let f = p.2 in let k : p.0 ≡ codes "[" = cc in absurd (bracket_no_number t (subst (λ w. IsNumber w t) k p.3))
+IsSite-unique ts (InThread t n) (InThread u m) r s p q =
+    let f = p.2 in
+    let g = q.2 in
     let j : q.0 ≡ p.0 = cc in
     let k : q.1 ≡ p.1 = cc in
-    let e = Value-unique p.2 r s v w p.7 (subst (λ l. Value l w s) i q.7) in
-    let a : v ≡ w = e.0 in
-    let b : t ≡ u = number-unique p.0 t u p.4 (subst (λ x. IsNumber x u) j q.4) in
-    let c : n ≡ m = register-unique p.1 n m p.6 (subst (λ x. IsRegister Source x m) k q.6) in
-    (cc, e.1)
+    let a : t ≡ u = number-unique p.0 t u p.3 (subst (λ x. IsNumber x u) j q.3) in
+    let b : n ≡ m = register-unique p.1 n m p.4 (subst (λ x. IsRegister Source x m) k q.4) in
+    (cc, cc)
 
-abbrev pub and : List ℕ
-and = codes "/\\"
+pub IsSite-shorter : (ts rest : List (List ℕ)) (s : Site) → IsSite ts s rest → length rest < length ts
+IsSite-shorter ts rest (InMemory x) (p, inl e) = omega (arith, ap length e)
+IsSite-shorter ts rest (InMemory x) (p, inr e) = omega (arith, ap length e)
+IsSite-shorter ts rest (InThread t r) p = omega (arith, ap length p.2)
 
-abbrev pub end : List ℕ
-end = codes ")"
+-- a site begins with a name, a number or a `[`
+pub site_front : (ts rest : List (List ℕ)) (s : Site) → IsSite ts s rest → (t : List ℕ) (l : List (List ℕ)) → ts ≡ t ∷ l → IsName t ⊎ (((n : ℕ) × IsNumber t n) ⊎ (t ≡ codes "["))
+site_front ts rest (InMemory x) (p, inl e) t l f = let k : x ≡ t = cc in inl (subst IsName k p.0)
+site_front ts rest (InMemory x) (p, inr e) t l f = inr (inr cc)
+site_front ts rest (InThread u r) p t l f = let g = p.2 in let k : p.0 ≡ t = cc in inr (inl (u, subst (λ w. IsNumber w u) k p.3))
 
-pub apart : and ≡ end → ⊥
-apart e = let h = ap (λ (l : List ℕ). length l) e in absurd (omega arith)
-
-module _ (threads : ℕ) (ts here : List (List ℕ)) (claims : List Claim) (before : Before (Atom threads) and end ts claims here) where
-  exact : IsExact (Atom threads) and end
-  exact = exact_from_one (Atom threads) and end (Atom-one threads)
-
-  module _ (claim : Claim) where
-    pub Atoms-cut : Atom threads here claim [] → (all : List Claim) (rest : List (List ℕ)) → Separated (Atom threads) and end ts all rest → ⊥
-    Atoms-cut a all rest s = Before-here (Atom threads) and end exact apart claims all ts here rest before (λ x m l k p. let e = (Atom-one threads here claim x [] (m ∷ l) a p).1 in cc) s
-
-    module _ (mark : List ℕ) (next : List (List ℕ)) (a : Atom threads here claim (mark ∷ next)) where
-      pub Atoms-other : (mark ≡ end → ⊥) → (mark ≡ and → ⊥) → (all : List Claim) (rest : List (List ℕ)) → Separated (Atom threads) and end ts all rest → ⊥
-      Atoms-other no_end no_and all rest s =
-          Before-here (Atom threads) and end exact apart claims all ts here rest before
-          (λ x m l k p. let e = (Atom-one threads here claim x (mark ∷ next) (m ∷ l) a p).1 in let i : mark ≡ m = cc in elim k [ inl h ↦ no_and (i ∙ h) | inr h ↦ no_end (i ∙ h) ]) s
-
-      pub Atoms-more : mark ≡ and → Before (Atom threads) and end ts (claims ++ claim ∷ []) next
-      Atoms-more e = Before-push (Atom threads) and end claims ts here next claim before (subst (λ m. Atom threads here claim (m ∷ next)) e a)
-
-      pub Atoms-closed : mark ≡ end → Separated (Atom threads) and end ts (claims ++ claim ∷ []) next
-      Atoms-closed e = Before-close (Atom threads) and end claims ts here next claim before (subst (λ m. Atom threads here claim (m ∷ next)) e a)
-
-pub Atoms-unique : (threads : ℕ) (ts : List (List ℕ)) (a b : List Claim) (r s : List (List ℕ)) → Separated (Atom threads) and end ts a r → Separated (Atom threads) and end ts b s → (a ≡ b) × (r ≡ s)
-Atoms-unique threads ts a b r s p q = Separated-unique (Atom threads) and end (exact_from_one (Atom threads) and end (Atom-one threads)) apart a b ts r s p q
+pub site_none : (ts rest : List (List ℕ)) (s : Site) → ts ≡ [] → IsSite ts s rest → ⊥
+site_none ts rest (InMemory x) e (p, inl f) = cc
+site_none ts rest (InMemory x) e (p, inr f) = cc
+site_none ts rest (InThread t r) e p = let f = p.2 in cc

@@ -1,6 +1,6 @@
 -- Where cells and rows lie in their text.
 use Rattle.std.proofs.Common.{◌≡◌, ℕ, ◌+◌, ◌≤◌, List, [], ◌∷◌, ◌++◌, length, sym, ap, ◌∙◌, subst, arith, append_assoc}
-use Rattle.std.specs.Prelude.{All}
+use Rattle.std.specs.Prelude.{All, Result, Ok, Err, OnOk}
 use Rattle.std.specs.List.{AllByRecursion}
 use Rattle.std.proofs.lemmas.List.Elements.{All-from_recursion}
 use Rattle.lw_text.specs.declared.token.Token.{Token}
@@ -87,3 +87,8 @@ rows_within text from to (row ∷ rows) s =
 
 pub RowSpans-within : {A : Type 0} (text : List ℕ) (from to : ℕ) (rows : List (List (Cell A))) → RowSpans text from rows to → All (λ row. All (IsWithin to) row) rows
 RowSpans-within text from to rows s = All-from_recursion (λ row. All (IsWithin to) row) rows (rows_within text from to rows s)
+
+-- behind a token that was taken
+pub Leaves-behind : {X E : Type 0} (a b c : List Token) (r : Result X E) (t : Token) → a ≡ t ∷ b → OnOk r (Leaves b c) → OnOk r (Leaves a c)
+Leaves-behind a b c (Ok x) t e h = Leaves-join (t ∷ [], e) h
+Leaves-behind a b c (Err x) t e h = tt

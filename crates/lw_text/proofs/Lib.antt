@@ -10,8 +10,12 @@ pub mod Headers
 pub mod CellPlaces
 pub mod Cells
 pub mod NameTables
+pub mod Readings
+pub mod Blocks
+pub mod Listings
+pub mod Starts
 pub mod RowColumns
-pub mod Propositions
 pub mod Atoms
-pub mod ClaimLists
+pub mod Sites
+pub mod Entries
 pub mod Whole

@@ -1,6 +1,6 @@
 -- Lists that are written out are read in one way.
 use Rattle.std.proofs.Common.{◌≡◌, ◌⊎◌, inl, inr, Bool, true, false, List, [], ◌∷◌, ◌++◌, refl, sym, ap, ◌∙◌, subst}
-use Rattle.lw_text.specs.Lists.{Separated, Until}
+use Rattle.lw_text.specs.Lists.{Separated, Until, Ended}
 
 -- ---- with separators
 
@@ -116,3 +116,92 @@ exact_from_one P sep close one ts x y a b r s m n p q =
     let e = one ts x y (a ∷ r) (b ∷ s) p q in
     let f = e.1 in
     (e.0, cc, cc)
+
+-- ---- with an end behind each
+
+module _ {T X : Type 0} (P : List T → X → List T → Type 0) (sep close : T) where
+  -- xs have been read, each with a separator behind it, and then comes rest
+  abbrev pub Listing : List T → List X → List T → Type 0
+  Listing ts [] rest = ts ≡ rest
+  Listing ts (x ∷ xs) rest = (mid next : List T) × P ts x mid × (mid ≡ sep ∷ next) × Listing next xs rest
+
+  pub Listing-push : (xs : List X) (ts here mid next : List T) (x : X) → Listing ts xs here → P here x mid → mid ≡ sep ∷ next → Listing ts (xs ++ x ∷ []) next
+  Listing-push [] ts here mid next x b p e = (mid, next, subst (λ l. P l x mid) (sym b) p, e, refl)
+  Listing-push (y ∷ xs) ts here mid next x b p e = (b.0, b.1, b.2, b.3, Listing-push xs b.1 here mid next x b.4 p e)
+
+  -- it ends behind a separator
+  pub Listing-end : (xs : List X) (ts here rest : List T) → Listing ts xs here → here ≡ close ∷ rest → Ended P sep close ts xs rest
+  Listing-end [] ts here rest b e = b ∙ e
+  Listing-end (y ∷ xs) ts here rest b e = (b.0, b.2, inr (b.1, b.3, Listing-end xs b.1 here rest b.4 e))
+
+  -- or behind an element
+  pub Listing-last : (xs : List X) (ts here mid rest : List T) (x : X) → Listing ts xs here → P here x mid → mid ≡ close ∷ rest → Ended P sep close ts (xs ++ x ∷ []) rest
+  Listing-last [] ts here mid rest x b p e = (mid, subst (λ l. P l x mid) (sym b) p, inl (refl, e))
+  Listing-last (y ∷ xs) ts here mid rest x b p e = (b.0, b.2, inr (b.1, b.3, Listing-last xs b.1 here mid rest x b.4 p e))
+
+  module _ (one : (ts : List T) (x y : X) (r s : List T) → P ts x r → P ts y s → (x ≡ y) × (r ≡ s)) (apart : sep ≡ close → ⊥) (unlike : (ts r l : List T) (x : X) → ts ≡ close ∷ l → P ts x r → ⊥) where
+    pub Ended-unique : (xs ys : List X) (ts r s : List T) → Ended P sep close ts xs r → Ended P sep close ts ys s → (xs ≡ ys) × (r ≡ s)
+    Ended-unique [] [] ts r s p q = (refl, cc)
+    Ended-unique [] (y ∷ ys) ts r s p q = absurd (unlike ts q.0 r y p q.1)
+    Ended-unique (x ∷ xs) [] ts r s p q = absurd (unlike ts p.0 s x q p.1)
+    Ended-unique (x ∷ xs) (y ∷ ys) ts r s p q =
+        let e = one ts x y p.0 q.0 p.1 q.1 in
+        let k : x ≡ y = e.0 in
+        elim p.2 [
+          | inl f ↦ elim q.2 [
+              | inl g ↦ let a = f.0 in let b = g.0 in let c = f.1 in let d = g.1 in let m = e.1 in (cc, cc)
+              | inr g ↦ absurd (let c = f.1 in let d = g.1 in let m = e.1 in apart cc)
+            ]
+          | inr f ↦ elim q.2 [
+              | inl g ↦ absurd (let c = f.1 in let d = g.1 in let m = e.1 in apart cc)
+              | inr g ↦
+                  let c = f.1 in
+                  let d = g.1 in
+                  let m = e.1 in
+                  let n : g.0 ≡ f.0 = cc in
+                  let h = Ended-unique xs ys f.0 r s f.2 (subst (λ l. Ended P sep close l ys s) n g.2) in
+                  let i : xs ≡ ys = h.0 in
+                  (cc, h.1)
+            ]
+        ]
+
+    -- what all elements are is what has been read and what the rest is
+    pub Listing-peel : (xs ys : List X) (ts here rest : List T) → Listing ts xs here → Ended P sep close ts ys rest → (more : List X) × (ys ≡ xs ++ more) × Ended P sep close here more rest
+    Listing-peel [] ys ts here rest b s = (ys, refl, subst (λ l. Ended P sep close l ys rest) b s)
+    Listing-peel (x ∷ xs) [] ts here rest b s = absurd (unlike ts b.0 rest x s b.2)
+    Listing-peel (x ∷ xs) (y ∷ ys) ts here rest b s =
+        let e = one ts x y b.0 s.0 b.2 s.1 in
+        let k : x ≡ y = e.0 in
+        let m = e.1 in
+        let c = b.3 in
+        elim s.2 [
+          | inl f ↦ absurd (let d = f.1 in apart cc)
+          | inr f ↦
+              let d = f.1 in
+              let n : f.0 ≡ b.1 = cc in
+              let h = Listing-peel xs ys b.1 here rest b.4 (subst (λ l. Ended P sep close l ys rest) n f.2) in
+              let i : ys ≡ xs ++ h.0 = h.1 in
+              (h.0, cc, h.2)
+        ]
+
+    -- where neither the end nor an element stands, the whole is no list
+    pub Listing-here : (xs ys : List X) (ts here rest : List T) → Listing ts xs here → (here ≡ close ∷ rest → ⊥) → ((y : X) (more : List X) (mid : List T) → ys ≡ xs ++ y ∷ more → P here y mid → ⊥) → Ended P sep close ts ys rest → ⊥
+    Listing-here xs ys ts here rest b no_end never s =
+        let p = Listing-peel xs ys ts here rest b s in
+        at p.0 p.1 p.2
+      where
+        at : (more : List X) → ys ≡ xs ++ more → Ended P sep close here more rest → ⊥
+        at [] e q = no_end q
+        at (y ∷ more) e q = never y more q.0 e q.1
+
+    -- where a mark that is neither stands behind an element, the whole is no list
+    pub Listing-mark : (xs ys : List X) (ts here mid rest : List T) (x : X) → Listing ts xs here → P here x mid → ((l : List T) → mid ≡ sep ∷ l → ⊥) → ((l : List T) → mid ≡ close ∷ l → ⊥) → Ended P sep close ts ys rest → ⊥
+    Listing-mark xs ys ts here mid rest x b p no_sep no_close s =
+        let q = Listing-peel xs ys ts here rest b s in
+        at q.0 q.2
+      where
+        at : (more : List X) → Ended P sep close here more rest → ⊥
+        at [] q = unlike here mid rest x q p
+        at (y ∷ more) q =
+            let e = (one here x y mid q.0 p q.1).1 in
+            elim q.2 [ inl f ↦ no_close rest (e ∙ f.1) | inr f ↦ no_sep f.0 (e ∙ f.1) ]

@@ -1,25 +1,24 @@
--- Tables of names, and places in them.
-use Rattle.std.proofs.Common.{◌≡◌, ℕ, zero, suc, ◌+◌, ◌<◌, inl, inr, true, false, List, [], ◌∷◌, ◌++◌, length, map, get_or, slice_get, Option, Some, None, refl, sym, ap, subst, arith, length-append}
-use Rattle.std.specs.Prelude.{MatchOption, is_some}
+-- Sites in a table of names that grows, and by their places in it.
+use Rattle.std.proofs.Common.{◌≡◌, ℕ, zero, suc, ◌+◌, ◌<◌, ◌≤◌, inl, inr, Bool, true, false, List, [], ◌∷◌, ◌++◌, length, map, get_or, slice_get, Option, Some, None, refl, sym, ap, ◌∙◌, subst, arith, length-append}
+use Rattle.std.specs.Prelude.{fold, filter, if◌then◌else◌, All}
 use Rattle.std.specs.Str.{bytes_eq}
-use Rattle.std.specs.List.{AllByRecursion}
+use Rattle.std.specs.List.{AllByRecursion, list_any}
 use Rattle.std.proofs.Math.ListN.{get_or-append}
 use Rattle.std.proofs.lemmas.Bool.{cases_Bool}
 use Rattle.std.proofs.lemmas.Slice.Eq.{bytes_eq-Decides}
 use Rattle.std.proofs.lemmas.Option.{slice_get_within, get_or_from_slice_get}
 use Rattle.lw_base.specs.Names.{IsLocation, EachOnce}
-use Rattle.lw_base.specs.Tables.{is_there, with_name, place_of}
-use Rattle.lw_base.specs.Formula.{Word_is}
+use Rattle.lw_base.specs.Tables.{is_there, with_name, with_names, place_of}
+use Rattle.lw_base.specs.declared.head.Seen.{Seen}
+use Rattle.lw_base.specs.declared.head.Seen.TheVariants as seen
 use Rattle.lw_base.proofs.Tables.{place_of-at}
-use Rattle.lw_text.specs.declared.claim.Claim.{Claim}
-use Rattle.lw_text.specs.declared.claim.Claim.TheVariants as made
-use Rattle.lw_text.specs.Tokens.{IsNumber}
-use Rattle.lw_text.specs.Conditions.{WordIs, Value, Atom, formula_in}
-use Rattle.lw_text.specs.Claims.{named, placed, IsIn, Stands}
-
-pub number-none : (t : List ℕ) (o : Option ℕ) → MatchOption o ((n : ℕ) → IsNumber t n → ⊥) (λ n. IsNumber t n) → is_some o ≡ false → (n : ℕ) → IsNumber t n → ⊥
-number-none t None never h = never
-number-none t (Some m) found h = absurd cc
+use Rattle.lw_base.proofs.GrowingTables.{with_name-grows}
+use Rattle.lw_text.specs.declared.site.Site.{Site}
+use Rattle.lw_text.specs.declared.site.Site.TheVariants as made
+use Rattle.lw_text.specs.declared.block.Entry.{Entry}
+use Rattle.lw_text.specs.Sites.{InMemory, InThread, site_names, seen_in}
+use Rattle.lw_text.specs.Frames.{same_seen, word_of}
+use Rattle.lw_text.specs.Placed.{named, named_entry, seen_of, IsIn, word_at, is_listed}
 
 -- ---- the place of a name
 
@@ -47,49 +46,67 @@ slice_get-within [] i lt = absurd (omega arith)
 slice_get-within (y ∷ names) zero lt = refl
 slice_get-within (y ∷ names) (suc i) lt = slice_get-within names i (omega arith)
 
--- ---- claims in a table that grows
+-- the location at a place, by its name
+pub named-at : (names : List (List ℕ)) (loc : ℕ) (t : List ℕ) → slice_get names loc ≡ Some t → named names (made.Location loc) ≡ InMemory t
+named-at names loc t e = ap InMemory (get_or_from_slice_get names loc t [] e)
+
+pub within-at : (names : List (List ℕ)) (loc : ℕ) (t : List ℕ) → slice_get names loc ≡ Some t → IsIn names (made.Location loc)
+within-at names loc t e = slice_get_within names loc t e
+
+-- ---- in a table that grows
 
 with_name-get : (names : List (List ℕ)) (x : List ℕ) (i : ℕ) → i < length names → get_or (with_name names x) i [] ≡ get_or names i []
-with_name-get names x i lt = elim (cases_Bool (is_there names x)) [ inl e ↦ rw e | inr e ↦ rw e (get_or-append names (x ∷ []) [] i lt) ]
+with_name-get names x i lt = let g = with_name-grows names x in ap (λ l. get_or l i []) g.1 ∙ get_or-append names g.0 [] i lt
 
-named-stable : (names : List (List ℕ)) (x : List ℕ) (c : Claim) → IsIn names c → named (with_name names x) c ≡ named names c
-named-stable names x (made.WordIs loc n) h = ap (λ y. WordIs y n) (with_name-get names x loc h)
-named-stable names x (made.RegIs t r n) h = refl
+with_name-longer : (names : List (List ℕ)) (x : List ℕ) → length names ≤ length (with_name names x)
+with_name-longer names x = let g = with_name-grows names x in omega (arith, ap length g.1, length-append names g.0)
 
-pub map-named-stable : (names : List (List ℕ)) (x : List ℕ) (cs : List Claim) → AllByRecursion (IsIn names) cs → map (named (with_name names x)) cs ≡ map (named names) cs
-map-named-stable names x [] h = refl
-map-named-stable names x (c ∷ cs) h =
-    let e = named-stable names x c h.0 in
-    let f = map-named-stable names x cs h.1 in
-    cc
+with_names-get : (names ns : List (List ℕ)) (i : ℕ) → i < length names → get_or (with_names names ns) i [] ≡ get_or names i []
+with_names-get names [] i lt = refl
+with_names-get names (n ∷ ns) i lt = with_names-get (with_name names n) ns i (omega (arith, lt, with_name-longer names n)) ∙ with_name-get names n i lt
 
--- a table with more names has the claim's location too
-IsIn-with_name : (names : List (List ℕ)) (x : List ℕ) (c : Claim) → IsIn names c → IsIn (with_name names x) c
-IsIn-with_name names x c h = elim (cases_Bool (is_there names x)) [ inl e ↦ rw e h | inr e ↦ rw e (omega (arith, h, length-append names (x ∷ []))) ]
+pub with_names-longer : (names ns : List (List ℕ)) → length names ≤ length (with_names names ns)
+with_names-longer names [] = omega arith
+with_names-longer names (n ∷ ns) = omega (arith, with_name-longer names n, with_names-longer (with_name names n) ns)
 
-pub all_in-with_name : (names : List (List ℕ)) (x : List ℕ) (cs : List Claim) → AllByRecursion (IsIn names) cs → AllByRecursion (IsIn (with_name names x)) cs
-all_in-with_name names x [] h = tt
-all_in-with_name names x (c ∷ cs) h = (IsIn-with_name names x c h.0, all_in-with_name names x cs h.1)
+pub named-along : (names ns : List (List ℕ)) (s : Site) → IsIn names s → named (with_names names ns) s ≡ named names s
+named-along names ns (made.Location loc) h = ap InMemory (with_names-get names ns loc h)
+named-along names ns (made.Register t r) h = refl
 
--- ---- what claims say by their places
+pub in-along : (names ns : List (List ℕ)) (s : Site) → IsIn names s → IsIn (with_names names ns) s
+in-along names ns s h = omega (arith, h, with_names-longer names ns)
 
-placed-named : (names : List (List ℕ)) (c : Claim) → EachOnce names → IsIn names c → formula_in names (named names c) ≡ placed c
-placed-named names (made.WordIs loc n) once h = ap (λ l. Word_is l n) (place_of-at names (get_or names loc []) loc once (slice_get-within names loc h))
-placed-named names (made.RegIs t r n) once h = refl
+-- lists of what stands on sites
+module _ {X Y : Type 0} (site : X → Site) (at : List (List ℕ) → X → Y) (stable : (names ns : List (List ℕ)) (x : X) → IsIn names (site x) → at (with_names names ns) x ≡ at names x) where
+  pub all_at-along : (names ns : List (List ℕ)) (xs : List X) → AllByRecursion (λ x. IsIn names (site x)) xs → map (at (with_names names ns)) xs ≡ map (at names) xs
+  all_at-along names ns [] h = refl
+  all_at-along names ns (x ∷ xs) h =
+      let e = stable names ns x h.0 in
+      let f = all_at-along names ns xs h.1 in
+      cc
 
-pub map-placed-named : (names : List (List ℕ)) (cs : List Claim) → EachOnce names → AllByRecursion (IsIn names) cs → map (formula_in names) (map (named names) cs) ≡ map placed cs
-map-placed-named names [] once h = refl
-map-placed-named names (c ∷ cs) once h =
-    let e = placed-named names c once h.0 in
-    let f = map-placed-named names cs once h.1 in
-    cc
+  pub all_in-along : (names ns : List (List ℕ)) (xs : List X) → AllByRecursion (λ x. IsIn names (site x)) xs → AllByRecursion (λ x. IsIn (with_names names ns) (site x)) xs
+  all_in-along names ns [] h = tt
+  all_in-along names ns (x ∷ xs) h = (in-along names ns (site x) h.0, all_in-along names ns xs h.1)
 
--- ---- an atom whose first token stands in the table
+pub entry-along : (names ns : List (List ℕ)) (e : Entry) → IsIn names e.site → named_entry (with_names names ns) e ≡ named_entry names e
+entry-along names ns e h = rw (named-along names ns e.site h) refl
 
-pub word_atom : (threads : ℕ) (names : List (List ℕ)) (loc : ℕ) (t : List ℕ) (l rest : List (List ℕ)) (n : ℕ) → Stands names (Some loc) t → Value l n rest → Atom threads (t ∷ l) (named names (made.WordIs loc n)) rest
-word_atom threads names loc t l rest n s v =
-    let e = get_or_from_slice_get names loc t [] s.1 in
-    (l, ap (λ x. x ∷ l) (sym e), subst IsLocation (sym e) s.0, v)
+-- ---- by places
 
-pub word_within : (names : List (List ℕ)) (loc : ℕ) (t : List ℕ) → Stands names (Some loc) t → loc < length names
-word_within names loc t s = slice_get_within names loc t s.1
+pub placed-named : (names : List (List ℕ)) (s : Site) → EachOnce names → IsIn names s → seen_in names (named names s) ≡ seen_of s
+placed-named names (made.Location loc) once h = ap (λ (l : ℕ). seen.Location l) (place_of-at names (get_or names loc []) loc once (slice_get-within names loc h))
+placed-named names (made.Register t r) once h = refl
+
+words-step : (names : List (List ℕ)) (es : List Entry) (s : Seen) (w : ℕ) → EachOnce names → AllByRecursion (λ e. IsIn names e.site) es → fold (λ w e. if same_seen (seen_in names e.site) s then e.word else w) w (map (named_entry names) es) ≡ fold (λ w e. if same_seen (seen_of e.site) s then e.word else w) w es
+words-step names [] s w once h = refl
+words-step names (e ∷ es) s w once h =
+    words-step names es s (if same_seen (seen_in names (named names e.site)) s then e.word else w) once h.1
+    ∙ ap (λ x. fold (λ w e. if same_seen (seen_of e.site) s then e.word else w) (if same_seen x s then e.word else w) es) (placed-named names e.site once h.0)
+
+pub words-named : (names : List (List ℕ)) (es : List Entry) (s : Seen) → EachOnce names → AllByRecursion (λ e. IsIn names e.site) es → word_of names (map (named_entry names) es) s ≡ word_at es s
+words-named names es s once h = words-step names es s 0 once h
+
+pub listed-named : (names : List (List ℕ)) (sites : List Site) (s : Seen) → EachOnce names → AllByRecursion (IsIn names) sites → list_any (λ site. same_seen (seen_in names site) s) (map (named names) sites) ≡ is_listed sites s
+listed-named names [] s once h = refl
+listed-named names (x ∷ sites) s once h = rw (placed-named names x once h.0, listed-named names sites s once h.1) refl

@@ -1,10 +1,13 @@
 pub mod Tokens
+pub mod Headings
 pub mod Lists
 pub mod Rows
+pub mod Sites
+pub mod Propositions
 pub mod Conditions
 pub mod Frames
 pub mod Causes
 pub mod Spans
 pub mod Places
-pub mod Claims
+pub mod Placed
 pub mod Views

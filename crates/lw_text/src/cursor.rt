@@ -1,5 +1,6 @@
 //! The tokens that are still to be read.
-ghost use Rattle.std.specs.Prelude.{◌≡◌, ℕ, ◌≤◌, List, [], ◌∷◌, length, All, OnOk, OnErr, IfOk, IfErr};
+ghost use Rattle.std.specs.Prelude.{◌≡◌, ℕ, ◌≤◌, if◌then◌else◌, List, [], ◌∷◌, length, All, OnOk, OnErr, IfOk, IfErr};
+ghost use Rattle.lw_text.specs.Conditions.{begins_word};
 
 use crate::fault::{Cause, Fault};
 use crate::token::Token;
@@ -82,5 +83,43 @@ impl<'t, 'a> Cursor<'t, 'a> {
             });
         }
         Ok(())
+    }
+
+    /// Whether this text is next.
+    pub(crate) fn is_next(&self, text: &str) -> bool
+        ensures { result ≡ begins_word text.now (left self.now) }
+    {
+        match self.tokens.get(self.next) {
+            Some(token) => token.text == text,
+            None => false,
+        }
+    }
+
+    /// Takes the one text or the other, and says whether it is the first. Another token is told with
+    /// the cause.
+    pub(crate) fn either(
+        &mut self,
+        first: &str,
+        second: &str,
+        cause: Cause,
+    ) -> Result<bool, Fault>
+        ensures ok { IfOk result (λ b. left self.old ≡ (if b then first.now else second.now) ∷ left self.new) }
+        ensures no_first { OnErr result ((rest : List (List ℕ)) → left self.old ≡ first.now ∷ rest → ⊥) }
+        ensures no_second { OnErr result ((rest : List (List ℕ)) → left self.old ≡ second.now ∷ rest → ⊥) }
+        ensures leaves { OnOk result (Leaves (remaining self.old) (remaining self.new)) }
+        ensures place { IfErr result (λ f. f.at ≤ self.old.len) }
+        ensures same { self.new.len ≡ self.old.len }
+    {
+        let mark = self.take()?;
+        if mark.text == first {
+            return Ok(true);
+        }
+        if mark.text == second {
+            return Ok(false);
+        }
+        Err(Fault {
+            at: mark.at,
+            cause,
+        })
     }
 }

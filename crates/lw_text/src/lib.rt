@@ -4,9 +4,9 @@
 //! It names lw_base. The format is that of docs/FORMAT.md.
 #![tactic(auto)]
 
+mod block;
 mod body;
 mod cell;
-mod claim;
 mod columns;
 mod condition;
 mod cursor;
@@ -16,10 +16,14 @@ mod head;
 mod heading;
 mod lexeme;
 mod lexer;
+mod listed;
 mod read;
 mod row;
 mod rows;
+mod said;
 mod scan;
+mod site;
+mod start;
 mod token;
 
 pub use cell::Cell;

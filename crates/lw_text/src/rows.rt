@@ -33,33 +33,11 @@ impl<'t, 'a> Cursor<'t, 'a> {
     {
         for thread in 0..4usize {
             self.expect(thread_name(thread), Cause::Unexpected)?;
-            if self.ends_line()? {
+            if self.either(";", "|", Cause::Unexpected)? {
                 return Ok(thread + 1);
             }
         }
         Err(self.fifth_thread())
-    }
-
-    /// Takes a `;`, or a `|`, and says whether it is the first.
-    fn ends_line(&mut self) -> Result<bool, Fault>
-        ensures ok { IfOk result (λ b. left self.old ≡ (if b then codes ";" else codes "|") ∷ left self.new) }
-        ensures no_end { OnErr result ((rest : List (List ℕ)) → left self.old ≡ codes ";" ∷ rest → ⊥) }
-        ensures no_bar { OnErr result ((rest : List (List ℕ)) → left self.old ≡ codes "|" ∷ rest → ⊥) }
-        ensures leaves { OnOk result (Leaves (remaining self.old) (remaining self.new)) }
-        ensures place { IfErr result (λ f. f.at ≤ self.old.len) }
-        ensures same { self.new.len ≡ self.old.len }
-    {
-        let mark = self.take()?;
-        if mark.text == ";" {
-            return Ok(true);
-        }
-        if mark.text == "|" {
-            return Ok(false);
-        }
-        Err(Fault {
-            at: mark.at,
-            cause: Cause::Unexpected,
-        })
     }
 
     /// The fault behind the fourth `|` of the header.

@@ -1,0 +1,65 @@
+-- The entries of an initial block, and the elements of a list of names, are read in one way.
+use Rattle.std.proofs.Common.{◌≡◌, ℕ, suc, ◌+◌, ◌<◌, ◌≤◌, inl, inr, Bool, true, false, List, [], ◌∷◌, ◌++◌, length, map, take, drop, get_or, refl, sym, ap, ◌∙◌, subst, arith, length-append}
+use Rattle.std.specs.Prelude.{codes, All}
+use Rattle.std.specs.List.{AllByRecursion, list_all}
+use Rattle.std.proofs.lemmas.List.{take_all, take-append-drop, map-append, map_push}
+use Rattle.std.proofs.lemmas.List.Folds.{list_all-append, list_all_more}
+use Rattle.std.proofs.lemmas.List.Elements.{All-push, All-from_recursion}
+use Rattle.lw_base.specs.Names.{IsName}
+use Rattle.lw_base.specs.Tables.{with_names}
+use Rattle.lw_text.specs.Tokens.{IsNumber}
+use Rattle.lw_text.specs.Sites.{Site, IsSite, Value, site_names}
+use Rattle.lw_text.specs.Frames.{Entry, IsEntry, Block}
+use Rattle.lw_text.proofs.Atoms.{number_first, Value-unique, IsSite-unique, site_front, site_none}
+
+-- ---- what an entry is
+
+pub IsEntry-unique : (ts : List (List ℕ)) (a b : Entry) (r s : List (List ℕ)) → IsEntry ts a r → IsEntry ts b s → (a ≡ b) × (r ≡ s)
+IsEntry-unique ts a b r s p q =
+    let e = IsSite-unique ts a.site b.site p.0 q.0 p.1 q.1 in
+    let f = Value-unique p.0 r s a.word b.word p.2 (subst (λ l. Value l b.word s) (sym e.1) q.2) in
+    (ap (λ x. record { site = x; word = a.word }) e.0 ∙ ap (λ (w : ℕ). record { site = b.site; word = w }) f.0, f.1)
+
+pub value_missing : (ts mid : List (List ℕ)) (site : Site) → IsSite ts site mid → ((v : ℕ) (rest : List (List ℕ)) → Value mid v rest → ⊥) → (e : Entry) (rest : List (List ℕ)) → IsEntry ts e rest → ⊥
+value_missing ts mid site s never e rest p = never e.word rest (subst (λ l. Value l e.word rest) (IsSite-unique ts e.site site p.0 mid p.1 s).1 p.2)
+
+pub entry_none : (ts rest : List (List ℕ)) (e : Entry) → ts ≡ [] → IsEntry ts e rest → ⊥
+entry_none ts rest e f p = site_none ts p.0 e.site f p.1
+
+-- no site begins with a mark
+mark_front : (t : List ℕ) (ts l rest : List (List ℕ)) (s : Site) → (IsName t → ⊥) → ((n : ℕ) → IsNumber t n → ⊥) → (t ≡ codes "[" → ⊥) → ts ≡ t ∷ l → IsSite ts s rest → ⊥
+mark_front t ts l rest s no_name no_number no_bracket e p = elim (site_front ts rest s p t l e) [ inl h ↦ no_name h | inr h ↦ elim h [ inl k ↦ no_number k.0 k.1 | inr k ↦ no_bracket k ] ]
+
+abbrev pub brace : List ℕ
+brace = codes "}"
+
+abbrev pub bracket : List ℕ
+bracket = codes "]"
+
+abbrev pub semicolon : List ℕ
+semicolon = codes ";"
+
+pub brace_unlike : (ts r l : List (List ℕ)) (e : Entry) → ts ≡ brace ∷ l → IsEntry ts e r → ⊥
+brace_unlike ts r l e f p = mark_front brace ts l p.0 e.site (λ n. let h = n.0.all.0 in cc) (λ n h. let k = number_first brace n h in cc) (λ h. let k = ap (λ (w : List ℕ). get_or w 0 0) h in absurd (omega arith)) f p.1
+
+pub bracket_unlike : (ts r l : List (List ℕ)) (s : Site) → ts ≡ bracket ∷ l → IsSite ts s r → ⊥
+bracket_unlike ts r l s f p = mark_front bracket ts l r s (λ n. let h = n.0.all.0 in cc) (λ n h. let k = number_first bracket n h in cc) (λ h. let k = ap (λ (w : List ℕ). get_or w 0 0) h in absurd (omega arith)) f p
+
+pub brace_apart : semicolon ≡ brace → ⊥
+brace_apart h = let k = ap (λ (w : List ℕ). get_or w 0 0) h in absurd (omega arith)
+
+pub bracket_apart : semicolon ≡ bracket → ⊥
+bracket_apart h = let k = ap (λ (w : List ℕ). get_or w 0 0) h in absurd (omega arith)
+
+-- ---- all of a list
+
+pub all_more : {X : Type 0} (p : X → Bool) (xs : List X) (i : ℕ) (x : X) → i < length xs → x ≡ get_or xs i x → p x ≡ true → list_all p (take i xs) ≡ true → list_all p (take (i + 1) xs) ≡ true
+all_more p xs i x lt is h all = list_all_more p xs i x lt ∙ rw (all, ← is, h) refl
+
+pub all_taken : {X : Type 0} (p : X → Bool) (xs : List X) (i : ℕ) → length xs ≤ i → list_all p (take i xs) ≡ true → list_all p xs ≡ true
+all_taken p xs i le all = ap (list_all p) (sym (take_all i xs le)) ∙ all
+
+pub all_missed : {X : Type 0} (p : X → Bool) (xs : List X) (i : ℕ) (x : X) → i < length xs → x ≡ get_or xs i x → p x ≡ false → list_all p (take i xs) ≡ true → list_all p xs ≡ false
+all_missed p xs i x lt is h all =
+    ap (list_all p) (sym (take-append-drop (i + 1) xs)) ∙ list_all-append p (take (i + 1) xs) (drop (i + 1) xs)
+    ∙ rw (list_all_more p xs i x lt, all, ← is, h) refl

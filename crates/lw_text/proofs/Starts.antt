@@ -1,0 +1,52 @@
+-- What registers and locations begin with, one further.
+use Rattle.std.proofs.Common.{◌≡◌, ℕ, zero, suc, ◌+◌, ◌<◌, Bool, true, false, List, [], ◌∷◌, ◌++◌, length, map, take, get_or, refl, sym, ap, ◌∙◌, subst, arith, append_assoc, zero-add}
+use Rattle.std.specs.Prelude.{fold, filter, if◌then◌else◌}
+use Rattle.std.specs.List.{flat_map, range_with_len}
+use Rattle.std.proofs.lemmas.Grind.{flat_map-append}
+use Rattle.std.proofs.lemmas.List.{take_more, append-nil, map_push}
+use Rattle.std.proofs.lemmas.List.Sums.{fold-append}
+use Rattle.std.proofs.lemmas.List.Elements.{filter-append}
+use Rattle.std.proofs.lemmas.List.FromFn.{map-range_with_len_more}
+use Rattle.lw_base.specs.declared.head.Seen.{Seen}
+use Rattle.lw_base.specs.declared.head.Seen.TheVariants.{Location}
+use Rattle.lw_text.specs.declared.block.Entry.{Entry}
+use Rattle.lw_text.specs.Frames.{same_seen, registers_of, registers, locations}
+use Rattle.lw_text.specs.Placed.{seen_of, word_at}
+
+-- the word after one more entry
+pub word_more : (es : List Entry) (i : ℕ) (e : Entry) (s : Seen) → i < length es → e ≡ get_or es i e → word_at (take (i + 1) es) s ≡ (if same_seen (seen_of e.site) s then e.word else word_at (take i es) s)
+word_more es i e s lt is =
+    ap (λ l. word_at l s) (take_more es i e lt ∙ ap (λ x. take i es ++ x ∷ []) (sym is))
+    ∙ fold-append (λ w e. if same_seen (seen_of e.site) s then e.word else w) 0 (take i es) (e ∷ [])
+
+-- those among some, and one more
+pub filter_more : {X : Type 0} (p : X → Bool) (f : ℕ → X) (n : ℕ) → filter p (map f (range_with_len 0 (n + 1))) ≡ filter p (map f (range_with_len 0 n)) ++ filter p (f n ∷ [])
+filter_more p f n = ap (filter p) (map-range_with_len_more f 0 n n (zero-add n)) ∙ filter-append p (map f (range_with_len 0 n)) (f n ∷ [])
+
+-- what is put at the end of those that were seen
+pub seen_more : {X : Type 0} (p : X → Bool) (before seen after : List X) (f : ℕ → X) (n : ℕ) → seen ≡ before ++ filter p (map f (range_with_len 0 n)) → after ≡ seen ++ filter p (f n ∷ []) → after ≡ before ++ filter p (map f (range_with_len 0 (n + 1)))
+seen_more p before seen after f n e h =
+    h ∙ ap (λ l. l ++ filter p (f n ∷ [])) e ∙ append_assoc before (filter p (map f (range_with_len 0 n))) (filter p (f n ∷ [])) ∙ ap (λ l. before ++ l) (sym (filter_more p f n))
+
+pub seen_one : {X : Type 0} (p : X → Bool) (x : X) → p x ≡ true → filter p (x ∷ []) ≡ x ∷ []
+seen_one p x h = rw h refl
+
+pub seen_no : {X : Type 0} (p : X → Bool) (x : X) (seen : List X) → p x ≡ false → seen ≡ seen ++ filter p (x ∷ [])
+seen_no p x seen h = rw h (sym (append-nil seen))
+
+range-more : (a n : ℕ) → range_with_len a (n + 1) ≡ range_with_len a n ++ (a + n) ∷ []
+range-more a zero = let e : a ≡ a + 0 = omega arith in ap (λ (k : ℕ). k ∷ []) e
+range-more a (suc n) =
+    let e : (a + 1) + n ≡ a + suc n = omega arith in
+    let next : suc n + 1 ≡ suc (n + 1) = omega arith in
+    ap (range_with_len a) next ∙ ap (λ l. a ∷ l) (range-more (a + 1) n ∙ ap (λ (k : ℕ). range_with_len (a + 1) n ++ k ∷ []) e)
+
+-- the registers of one more thread
+pub registers_more : (p : Seen → Bool) (seen after : List Seen) (n : ℕ) → seen ≡ filter p (registers n) → after ≡ seen ++ filter p (registers_of n) → after ≡ filter p (registers (n + 1))
+registers_more p seen after n e f =
+    let more : registers (n + 1) ≡ registers n ++ registers_of n = ap (flat_map registers_of) (range-more 0 n ∙ ap (λ (k : ℕ). range_with_len 0 n ++ k ∷ []) (zero-add n)) ∙ flat_map-append registers_of (range_with_len 0 n) (n ∷ []) ∙ ap (λ l. registers n ++ l) (append-nil (registers_of n)) in
+    f ∙ ap (λ l. l ++ filter p (registers_of n)) e ∙ sym (ap (filter p) more ∙ filter-append p (registers n) (registers_of n))
+
+-- the words of one more location
+pub words_more : (f : Seen → ℕ) (n : ℕ) → map f (locations (n + 1)) ≡ map f (locations n) ++ f (Location n) ∷ []
+words_more f n = ap (map f) (map-range_with_len_more (λ x. Location x) 0 n n (zero-add n)) ∙ map_push f (locations n) (Location n)

@@ -1,0 +1,17 @@
+use Rattle.std.proofs.Common.{◌≡◌, ◌∷◌, ◌≤◌, length}
+use Rattle.std.specs.Prelude.{codes, All}
+use Rattle.lw_text.specs.Spans.{Leaves}
+use Rattle.lw_text.specs.Views.{remaining, left}
+use Rattle.lw_text.proofs.Blocks.{EntriesRead}
+use Rattle.lw_text.proofs.cursor.Cursor.block.Given as goal
+
+abbrev pub invariant-entries : goal.invariant-entries
+invariant-entries g l = record {
+  read : EntriesRead l.fn.locs l.locs (left l.initial.self) (left l.self) l.entries;
+  places : All (λ e. e.at ≤ l.fn.self.len) l.entries;
+  leaves : Leaves (remaining l.initial.self) (remaining l.self);
+  same : l.self.len ≡ l.fn.self.len;
+}
+
+abbrev pub decreases-entries : goal.decreases-entries
+decreases-entries g l = length (left l.self)

@@ -1,0 +1,44 @@
+use Rattle.std.proofs.Common.{◌≡◌, ◌∷◌, ◌∙◌, sym, subst, Bool}
+use Rattle.std.specs.Prelude.{codes, if◌then◌else◌}
+use Rattle.std.proofs.lemmas.Result.{err_from_is_err_and}
+use Rattle.lw_text.specs.Views.{left}
+use Rattle.lw_text.proofs.Listings.{sites_end, sites_fault, sites_there, sites_more, sites_last, sites_names, sites_within, sites_mark}
+use Rattle.lw_text.proofs.cursor.Cursor.listed.Goals as goal
+
+pub returns-then-is_next-clause-found : goal.returns-then-is_next-clause-found
+returns-then-is_next-clause-found g c = sites_end (left c.args.self.now) (left c.expect.new.self) (left c.expect-2.new.self) c.in_ok-expect.ensures.ok c.in_ok-expect-2.ensures.ok c.args.threads c.args.locs.now c.sites.locs (left c.sites.self) c.sites.sites c.sites.invariant.read c.in_ok-take.field-0.text.now (left c.take.new.self) (sym c.is_next-in-sites.ensures ∙ c.if-is_next.true) c.in_ok-take.ensures.ok
+
+pub returns-in_err-site-clause-fault : goal.returns-in_err-site-clause-fault
+returns-in_err-site-clause-fault g c =
+    let p = err_from_is_err_and c.from_residual-in_err-site.result c.from_residual-in_err-site.ensures.1 in
+    rw (p.1, p.2) (λ ne. sites_fault (left c.args.self.now) (left c.expect.new.self) (left c.expect-2.new.self) c.in_ok-expect.ensures.ok c.in_ok-expect-2.ensures.ok c.args.threads c.args.locs.now c.sites.locs (left c.sites.self) c.sites.sites c.sites.invariant.read (sym c.is_next-in-sites.ensures ∙ c.if-is_next.false) (c.in_err-site.ensures.fault ne))
+
+pub returns-in_err-either-clause-fault : goal.returns-in_err-either-clause-fault
+returns-in_err-either-clause-fault g c =
+    let p = err_from_is_err_and c.from_residual-in_err-either.result c.from_residual-in_err-either.ensures.1 in
+    rw (p.1, p.2) (λ ne all rest listed there few. sites_mark (left c.args.self.now) (left c.expect.new.self) (left c.expect-2.new.self) c.in_ok-expect.ensures.ok c.in_ok-expect-2.ensures.ok c.args.threads c.args.locs.now c.sites.locs (left c.sites.self) c.sites.sites c.sites.invariant.read c.site.new.locs c.in_ok-site.field-0 c.in_ok-site.ensures.names c.in_ok-site.ensures.within (left c.site.new.self) c.in_ok-site.ensures.found c.in_err-either.ensures.no_second c.in_err-either.ensures.no_first all rest listed)
+
+pub returns-then-branch-clause-found : goal.returns-then-branch-clause-found
+returns-then-branch-clause-found g c =
+    let mark = subst (λ (b : Bool). left c.site.new.self ≡ (if b then codes "]" else codes ";") ∷ left c.either.new.self) c.if-branch.true c.in_ok-either.ensures.ok in
+    rw c.in_ok-push.ensures.ok (sites_last (left c.args.self.now) (left c.expect.new.self) (left c.expect-2.new.self) c.in_ok-expect.ensures.ok c.in_ok-expect-2.ensures.ok c.args.threads c.args.locs.now c.sites.locs (left c.sites.self) c.sites.sites c.sites.invariant.read c.site.new.locs c.in_ok-site.field-0 c.in_ok-site.ensures.names c.in_ok-site.ensures.within (left c.site.new.self) c.in_ok-site.ensures.found (left c.either.new.self) mark)
+
+pub returns-then-branch-clause-there : goal.returns-then-branch-clause-there
+returns-then-branch-clause-there g c =
+    rw c.in_ok-push.ensures.ok (sites_there (left c.args.self.now) (left c.expect.new.self) (left c.expect-2.new.self) c.in_ok-expect.ensures.ok c.in_ok-expect-2.ensures.ok c.args.threads c.args.locs.now c.sites.locs (left c.sites.self) c.sites.sites c.sites.invariant.read c.site.new.locs c.in_ok-site.field-0 c.in_ok-site.ensures.names c.in_ok-site.ensures.within (left c.site.new.self) c.in_ok-site.ensures.found c.in_ok-site.ensures.there)
+
+pub returns-then-branch-clause-names : goal.returns-then-branch-clause-names
+returns-then-branch-clause-names g c =
+    rw c.in_ok-push.ensures.ok (sites_names (left c.args.self.now) (left c.expect.new.self) (left c.expect-2.new.self) c.in_ok-expect.ensures.ok c.in_ok-expect-2.ensures.ok c.args.threads c.args.locs.now c.sites.locs (left c.sites.self) c.sites.sites c.sites.invariant.read c.site.new.locs c.in_ok-site.field-0 c.in_ok-site.ensures.names c.in_ok-site.ensures.within (left c.site.new.self) c.in_ok-site.ensures.found)
+
+pub returns-then-branch-clause-within : goal.returns-then-branch-clause-within
+returns-then-branch-clause-within g c =
+    rw c.in_ok-push.ensures.ok (sites_within (left c.args.self.now) (left c.expect.new.self) (left c.expect-2.new.self) c.in_ok-expect.ensures.ok c.in_ok-expect-2.ensures.ok c.args.threads c.args.locs.now c.sites.locs (left c.sites.self) c.sites.sites c.sites.invariant.read c.site.new.locs c.in_ok-site.field-0 c.in_ok-site.ensures.names c.in_ok-site.ensures.within (left c.site.new.self) c.in_ok-site.ensures.found)
+
+pub sites-preserved : goal.sites-preserved
+sites-preserved g c =
+    let mark = subst (λ (b : Bool). left c.site.new.self ≡ (if b then codes "]" else codes ";") ∷ left c.either.new.self) c.if-branch.false c.in_ok-either.ensures.ok in
+    rw c.in_ok-push.ensures.ok (record {
+      read = sites_more (left c.args.self.now) (left c.expect.new.self) (left c.expect-2.new.self) c.in_ok-expect.ensures.ok c.in_ok-expect-2.ensures.ok c.args.threads c.args.locs.now c.sites.locs (left c.sites.self) c.sites.sites c.sites.invariant.read c.site.new.locs c.in_ok-site.field-0 c.in_ok-site.ensures.names c.in_ok-site.ensures.within (left c.site.new.self) c.in_ok-site.ensures.found c.in_ok-site.ensures.there (left c.either.new.self) mark;
+      same = c.in_ok-either.ensures.same ∙ (c.in_ok-site.ensures.same ∙ c.sites.invariant.same);
+    })

@@ -1,0 +1,13 @@
+use Rattle.std.proofs.Common.{◌≡◌, length}
+use Rattle.lw_text.specs.Views.{left}
+use Rattle.lw_text.proofs.Listings.{SitesRead}
+use Rattle.lw_text.proofs.cursor.Cursor.listed.Given as goal
+
+abbrev pub invariant-sites : goal.invariant-sites
+invariant-sites g l = record {
+  read : SitesRead l.threads l.fn.locs l.locs (left l.initial.self) (left l.self) l.sites;
+  same : l.self.len ≡ l.fn.self.len;
+}
+
+abbrev pub decreases-sites : goal.decreases-sites
+decreases-sites g l = length (left l.self)

@@ -1,0 +1,43 @@
+use Rattle.std.proofs.Common.{◌≡◌, ◌∷◌, [], ◌∙◌, sym, subst}
+use Rattle.std.proofs.lemmas.Result.{err_from_is_err_and}
+use Rattle.lw_text.specs.Views.{remaining, left}
+use Rattle.lw_text.proofs.CellPlaces.{Leaves-behind}
+use Rattle.lw_text.proofs.NameTables.{within-at}
+use Rattle.lw_text.proofs.Texts.{is_text, is_no_text}
+use Rattle.lw_text.proofs.Sites.{brackets_fault, thread_none, register_fault, location_none, entered_found, entered_names}
+use Rattle.lw_text.proofs.cursor.Cursor.site.Goals as goal
+
+pub returns-then-eq-clause-fault : goal.returns-then-eq-clause-fault
+returns-then-eq-clause-fault g c =
+    brackets_fault c.args.locs.now (left c.args.self.now) (left c.take.new.self) c.in_ok-first.first.text.now c.in_ok-first.ensures.ok c.in_brackets.result (is_text _ _ (sym c.eq.ensures ∙ c.if-eq.true)) c.in_brackets.ensures.fault c.args.threads
+
+pub returns-then-eq-clause-leaves : goal.returns-then-eq-clause-leaves
+returns-then-eq-clause-leaves g c = Leaves-behind (remaining c.args.self.now) (remaining c.take.new.self) (remaining c.in_brackets.new.self) c.in_brackets.result c.in_ok-first.first c.in_ok-first.ensures.token c.in_brackets.ensures.leaves
+
+pub returns-then-thread-threads-clause-fault : goal.returns-then-thread-threads-clause-fault
+returns-then-thread-threads-clause-fault g c =
+    λ ne s rest p there few. thread_none c.args.locs.now (left c.args.self.now) (left c.take.new.self) c.in_ok-first.first.text.now c.in_ok-first.ensures.ok c.in-Some.thread c.in-Some.ensures c.args.threads c.if-thread-threads.true s rest p there
+
+pub returns-in-Some-clause-fault : goal.returns-in-Some-clause-fault
+returns-in-Some-clause-fault g c =
+    register_fault c.args.locs.now (left c.args.self.now) (left c.take.new.self) c.in_ok-first.first.text.now c.in_ok-first.ensures.ok c.of_thread.result c.in-Some.thread c.in-Some.ensures c.of_thread.ensures.fault c.args.threads
+
+pub returns-in-Some-clause-leaves : goal.returns-in-Some-clause-leaves
+returns-in-Some-clause-leaves g c = Leaves-behind (remaining c.args.self.now) (remaining c.take.new.self) (remaining c.of_thread.new.self) c.of_thread.result c.in_ok-first.first c.in_ok-first.ensures.token c.of_thread.ensures.leaves
+
+pub returns-in_err-loc-clause-fault : goal.returns-in_err-loc-clause-fault
+returns-in_err-loc-clause-fault g c =
+    let p = err_from_is_err_and c.from_residual-in_err-loc.result c.from_residual-in_err-loc.ensures.1 in
+    rw (p.1, p.2) (λ ne s rest site there few. location_none c.args.locs.now (left c.args.self.now) (left c.take.new.self) c.in_ok-first.first.text.now c.in_ok-first.ensures.ok (is_no_text _ _ (sym c.eq.ensures ∙ c.if-eq.false)) c.in_default.ensures (c.in_err-loc.ensures.fault ne) s rest site few)
+
+pub returns-clause-found : goal.returns-clause-found
+returns-clause-found g c = entered_found c.args.locs.now c.enter.new.locs (left c.args.self.now) (left c.take.new.self) c.in_ok-first.first.text.now c.in_ok-loc.loc c.in_ok-first.ensures.ok c.in_ok-loc.ensures.name c.in_ok-loc.ensures.found
+
+pub returns-clause-names : goal.returns-clause-names
+returns-clause-names g c = entered_names c.args.locs.now c.enter.new.locs (left c.args.self.now) (left c.take.new.self) c.in_ok-first.first.text.now c.in_ok-loc.loc c.in_ok-first.ensures.ok c.in_ok-loc.ensures.name c.in_ok-loc.ensures.found c.in_ok-loc.ensures.names
+
+pub returns-clause-within : goal.returns-clause-within
+returns-clause-within g c = within-at c.enter.new.locs c.in_ok-loc.loc c.in_ok-first.first.text.now c.in_ok-loc.ensures.found
+
+pub returns-clause-leaves : goal.returns-clause-leaves
+returns-clause-leaves g c = (c.in_ok-first.first ∷ [], c.in_ok-first.ensures.token)

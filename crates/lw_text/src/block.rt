@@ -1,0 +1,93 @@
+//! The initial block of a test.
+ghost use Rattle.std.specs.Prelude.{◌≡◌, ◌≢◌, ℕ, ◌≤◌, true, false, List, [], ◌∷◌, length, map, All, OnOk, OnErr, IfOk, IfErr};
+ghost use Rattle.std.specs.List.{list_all};
+ghost use Rattle.lw_base.specs.Tables.{with_names};
+ghost use Rattle.lw_text.specs.declared.fault.Cause.TheVariants.{Memory};
+ghost use Rattle.lw_text.specs.Sites.{site_names};
+ghost use Rattle.lw_text.specs.Frames.{Entry as SaidEntry, IsEntry, Block};
+ghost use Rattle.lw_text.specs.Placed.{named, named_entry, is_there, IsIn};
+
+use crate::cursor::Cursor;
+use crate::fault::{Cause, Fault};
+use crate::site::Site;
+use lw_base::{LocNames, Sequence, Word};
+use std::alloc::Allocator;
+
+/// More threads than any number in a text names: those of the block are checked behind the header.
+const ANY_THREAD: usize = 1 << 32;
+
+/// An entry of the block: the place of its first token, a site, and the word that it begins with.
+#[derive(Clone, Copy, Debug)]
+pub(crate) struct Entry {
+    pub(crate) at: usize,
+    pub(crate) site: Site,
+    pub(crate) word: Word,
+}
+
+impl<'t, 'a> Cursor<'t, 'a> {
+    ghost use Rattle.lw_text.specs.Spans.{Leaves};
+    ghost use Rattle.lw_text.specs.Views.{remaining, left};
+
+    /// Takes the block. The names of its locations go into the table.
+    pub(crate) fn block<A: Allocator + Copy>(
+        &mut self,
+        alloc: A,
+        locs: &mut LocNames<A>,
+    ) -> Result<Sequence<Entry, A>, Fault>
+        ensures found { IfOk result (λ es. Block (left self.old) (map (named_entry locs.new) es) (left self.new)) }
+        ensures names { IfOk result (λ es. locs.new ≡ with_names locs.old (site_names (map (λ e. named locs.new e.site) es))) }
+        ensures within { IfOk result (λ es. All (λ e. IsIn locs.new e.site) es) }
+        ensures places { IfOk result (λ es. All (λ e. e.at ≤ self.old.len) es) }
+        ensures fault { IfErr result (λ f. f.cause ≢ Memory → (es : List SaidEntry) (rest : List (List ℕ)) → Block (left self.old) es rest → length (with_names locs.old (site_names (map (λ e. e.site) es))) ≤ 8 → ⊥) }
+        ensures leaves { OnOk result (Leaves (remaining self.old) (remaining self.new)) }
+        ensures place { IfErr result (λ f. f.at ≤ self.old.len) }
+        ensures same { self.new.len ≡ self.old.len }
+    {
+        self.expect("{", Cause::Unexpected)?;
+        let mut entries = Sequence::new(alloc);
+        'entries: loop {
+            if self.is_next("}") {
+                self.take()?;
+                return Ok(entries);
+            }
+            entries.push(self.entry(locs)?)?;
+            if self.either("}", ";", Cause::Unexpected)? {
+                return Ok(entries);
+            }
+        }
+    }
+
+    /// Takes an entry.
+    fn entry<A: Allocator + Copy>(&mut self, locs: &mut LocNames<A>) -> Result<Entry, Fault>
+        ensures found { IfOk result (λ e. IsEntry (left self.old) (named_entry locs.new e) (left self.new)) }
+        ensures names { IfOk result (λ e. locs.new ≡ with_names locs.old (site_names (named locs.new e.site ∷ []))) }
+        ensures within { IfOk result (λ e. IsIn locs.new e.site) }
+        ensures at { IfOk result (λ e. e.at ≤ self.old.len) }
+        ensures fault { IfErr result (λ f. f.cause ≢ Memory → (e : SaidEntry) (rest : List (List ℕ)) → IsEntry (left self.old) e rest → length (with_names locs.old (site_names (e.site ∷ []))) ≤ 8 → ⊥) }
+        ensures leaves { OnOk result (Leaves (remaining self.old) (remaining self.new)) }
+        ensures place { IfErr result (λ f. f.at ≤ self.old.len) }
+        ensures same { self.new.len ≡ self.old.len }
+    {
+        let at = self.fault(Cause::Unexpected).at;
+        let site = self.site(locs, ANY_THREAD, Cause::Unexpected)?;
+        let word = self.value(Cause::Unexpected)?;
+        Ok(Entry { at, site, word })
+    }
+}
+
+/// Each entry's thread is one of so many.
+pub(crate) fn check_threads(entries: &[Entry], threads: usize) -> Result<(), Fault>
+    ensures ok { OnOk result (list_all (λ e. is_there threads e.site) entries.now ≡ true) }
+    ensures err { OnErr result (list_all (λ e. is_there threads e.site) entries.now ≡ false) }
+    ensures place { (len : ℕ) → All (λ e. e.at ≤ len) entries.now → IfErr result (λ f. f.at ≤ len) }
+{
+    for entry in entries {
+        if !entry.site.is_there(threads) {
+            return Err(Fault {
+                at: entry.at,
+                cause: Cause::Name,
+            });
+        }
+    }
+    Ok(())
+}

@@ -1,0 +1,202 @@
+//! What an entry of the initial block, an element of the list of names or an atom speaks of.
+ghost use Rattle.std.specs.Prelude.{◌≡◌, ◌≢◌, ℕ, ◌≤◌, List, [], ◌∷◌, length, codes, Some, slice_get, OnOk, OnErr, IfOk, IfErr};
+ghost use Rattle.lw_base.specs.declared.head.Arch.TheVariants.{Source};
+ghost use Rattle.lw_base.specs.Names.{IsLocation};
+ghost use Rattle.lw_base.specs.Registers.{IsRegister};
+ghost use Rattle.lw_base.specs.Tables.{with_name, with_names};
+ghost use Rattle.lw_text.specs.declared.fault.Cause.TheVariants.{Memory};
+ghost use Rattle.lw_text.specs.Tokens.{IsNumber};
+ghost use Rattle.lw_text.specs.Sites.{Site as SaidSite, InMemory, InThread, IsSite, IsThere, Value, site_names};
+ghost use Rattle.lw_text.specs.Frames.{same_seen};
+ghost use Rattle.lw_text.specs.Placed as placed;
+ghost use Rattle.lw_text.specs.Placed.{named, seen_of, IsIn};
+
+use crate::cursor::Cursor;
+use crate::fault::{Cause, Fault};
+use crate::lexeme::number;
+use crate::token::Token;
+use lw_base::{Arch, Loc, LocNames, Reg, Word, is_location, is_name, reg_named};
+use std::alloc::Allocator;
+
+/// A location, by its place in the table, or a register of a thread, which the test may lack.
+#[derive(Clone, Copy, Debug)]
+pub(crate) enum Site {
+    Location(Loc),
+    Register(Word, Reg),
+}
+
+impl Site {
+    /// Whether it is the same register or location.
+    pub(crate) fn is_same(&self, other: &Site) -> bool
+        ensures { result ≡ same_seen (seen_of self.now) (seen_of other.now) }
+    {
+        match self {
+            Site::Location(mine) => match other {
+                Site::Location(its) => mine.index() == its.index(),
+                Site::Register(_, _) => false,
+            },
+            Site::Register(thread, mine) => match other {
+                Site::Location(_) => false,
+                Site::Register(its_thread, its) => {
+                    *thread == *its_thread && mine.index() == its.index()
+                }
+            },
+        }
+    }
+
+    /// Whether its thread is one of so many. A location has none.
+    pub(crate) fn is_there(&self, threads: usize) -> bool
+        ensures { result ≡ placed.is_there threads self.now }
+    {
+        match self {
+            Site::Location(_) => true,
+            Site::Register(thread, _) => (*thread as usize) < threads,
+        }
+    }
+}
+
+impl<'t, 'a> Cursor<'t, 'a> {
+    ghost use Rattle.lw_text.specs.Spans.{Leaves};
+    ghost use Rattle.lw_text.specs.Views.{remaining, left};
+
+    /// Takes a site: a location, whose name goes into the table, or a register of one of so many
+    /// threads. Tokens that don't fit are told with the cause.
+    pub(crate) fn site<A: Allocator + Copy>(
+        &mut self,
+        locs: &mut LocNames<A>,
+        threads: usize,
+        cause: Cause,
+    ) -> Result<Site, Fault>
+        ensures found { IfOk result (λ s. IsSite (left self.old) (named locs.new s) (left self.new)) }
+        ensures there { IfOk result (λ s. IsThere threads (named locs.new s)) }
+        ensures names { IfOk result (λ s. locs.new ≡ with_names locs.old (site_names (named locs.new s ∷ []))) }
+        ensures within { IfOk result (λ s. IsIn locs.new s) }
+        ensures fault { IfErr result (λ f. f.cause ≢ Memory → (s : SaidSite) (rest : List (List ℕ)) → IsSite (left self.old) s rest → IsThere threads s → length (with_names locs.old (site_names (s ∷ []))) ≤ 8 → ⊥) }
+        ensures leaves { OnOk result (Leaves (remaining self.old) (remaining self.new)) }
+        ensures place { IfErr result (λ f. f.at ≤ self.old.len) }
+        ensures same { self.new.len ≡ self.old.len }
+    {
+        let first = self.take()?;
+        if first.text == "[" {
+            return self.in_brackets(locs, cause);
+        }
+        if let Some(thread) = number(first.text) {
+            if thread as usize >= threads {
+                return Err(Fault {
+                    at: first.at,
+                    cause: Cause::Name,
+                });
+            }
+            return self.of_thread(thread, cause);
+        }
+        let loc = enter(first, locs, cause)?;
+        Ok(Site::Location(loc))
+    }
+
+    /// Takes a location and a `]`.
+    fn in_brackets<A: Allocator + Copy>(
+        &mut self,
+        locs: &mut LocNames<A>,
+        cause: Cause,
+    ) -> Result<Site, Fault>
+        ensures found { IfOk result (λ s. (x : List ℕ) × (left self.old ≡ x ∷ codes "]" ∷ left self.new) × IsLocation x × (named locs.new s ≡ InMemory x) × (locs.new ≡ with_name locs.old x)) }
+        ensures within { IfOk result (λ s. IsIn locs.new s) }
+        ensures fault { IfErr result (λ f. f.cause ≢ Memory → (x : List ℕ) (rest : List (List ℕ)) → left self.old ≡ x ∷ codes "]" ∷ rest → IsLocation x → length (with_name locs.old x) ≤ 8 → ⊥) }
+        ensures leaves { OnOk result (Leaves (remaining self.old) (remaining self.new)) }
+        ensures place { IfErr result (λ f. f.at ≤ self.old.len) }
+        ensures same { self.new.len ≡ self.old.len }
+    {
+        let name = self.take()?;
+        let loc = enter(name, locs, cause)?;
+        self.expect("]", cause)?;
+        Ok(Site::Location(loc))
+    }
+
+    /// Takes a `:` and the name of a register of the thread.
+    fn of_thread(&mut self, thread: Word, cause: Cause) -> Result<Site, Fault>
+        ensures found { IfOk result (λ s. (q : List ℕ) × (r : ℕ) × (left self.old ≡ codes ":" ∷ q ∷ left self.new) × IsRegister Source q r × ((names : List (List ℕ)) → named names s ≡ InThread thread r)) }
+        ensures within { IfOk result (λ s. (names : List (List ℕ)) → IsIn names s) }
+        ensures fault { OnErr result ((q : List ℕ) (r : ℕ) (rest : List (List ℕ)) → left self.old ≡ codes ":" ∷ q ∷ rest → IsRegister Source q r → ⊥) }
+        ensures leaves { OnOk result (Leaves (remaining self.old) (remaining self.new)) }
+        ensures place { IfErr result (λ f. f.at ≤ self.old.len) }
+        ensures same { self.new.len ≡ self.old.len }
+    {
+        self.expect(":", cause)?;
+        let reg = self.register(cause)?;
+        Ok(Site::Register(thread, reg))
+    }
+
+    /// Takes the name of a register.
+    fn register(&mut self, cause: Cause) -> Result<Reg, Fault>
+        ensures ok { IfOk result (λ r. (q : List ℕ) × (left self.old ≡ q ∷ left self.new) × IsRegister Source q r) }
+        ensures err { OnErr result ((q : List ℕ) (r : ℕ) (rest : List (List ℕ)) → left self.old ≡ q ∷ rest → IsRegister Source q r → ⊥) }
+        ensures leaves { OnOk result (Leaves (remaining self.old) (remaining self.new)) }
+        ensures place { IfErr result (λ f. f.at ≤ self.old.len) }
+        ensures same { self.new.len ≡ self.old.len }
+    {
+        let name = self.take()?;
+        match reg_named(Arch::Source, name.text) {
+            Some(reg) => Ok(reg),
+            None => Err(no_name(name, cause)),
+        }
+    }
+
+    /// Takes a `=` and a number.
+    pub(crate) fn value(&mut self, cause: Cause) -> Result<Word, Fault>
+        ensures ok { IfOk result (λ v. Value (left self.old) v (left self.new)) }
+        ensures err { OnErr result ((v : ℕ) (rest : List (List ℕ)) → Value (left self.old) v rest → ⊥) }
+        ensures leaves { OnOk result (Leaves (remaining self.old) (remaining self.new)) }
+        ensures place { IfErr result (λ f. f.at ≤ self.old.len) }
+        ensures same { self.new.len ≡ self.old.len }
+    {
+        self.expect("=", cause)?;
+        let token = self.take()?;
+        match number(token.text) {
+            Some(value) => Ok(value),
+            None => Err(Fault {
+                at: token.at,
+                cause,
+            }),
+        }
+    }
+}
+
+/// The place of the location that a token names. It is put into the table where it isn't there yet.
+fn enter<A: Allocator + Copy>(
+    name: Token<'_>,
+    locs: &mut LocNames<A>,
+    cause: Cause,
+) -> Result<Loc, Fault>
+    ensures name { OnOk result (IsLocation name.entry.text.now) }
+    ensures found { IfOk result (λ loc. slice_get locs.new loc ≡ Some name.entry.text.now) }
+    ensures names { OnOk result (locs.new ≡ with_name locs.old name.entry.text.now) }
+    ensures fault { IfErr result (λ f. f.cause ≢ Memory → IsLocation name.entry.text.now → length (with_name locs.old name.entry.text.now) ≤ 8 → ⊥) }
+    ensures place { IfErr result (λ f. f.at ≤ name.entry.at) }
+{
+    if !is_location(name.text) {
+        return Err(no_name(name, cause));
+    }
+    match locs.find_or_add(name.text)? {
+        Some(loc) => Ok(loc),
+        None => Err(Fault {
+            at: name.at,
+            cause: Cause::TooManyLocations,
+        }),
+    }
+}
+
+/// The fault where a name should stand that is free there: a name that isn't is told as that, another
+/// token with the cause.
+fn no_name(token: Token<'_>, cause: Cause) -> Fault
+    ensures { result.at ≡ token.entry.at }
+{
+    let cause = if is_name(token.text) {
+        Cause::Name
+    } else {
+        cause
+    };
+    Fault {
+        at: token.at,
+        cause,
+    }
+}
