@@ -1,6 +1,7 @@
 pub mod Tokens
 pub mod Lists
 pub mod Rows
+pub mod Propositions
 pub mod Conditions
 pub mod Frames
 pub mod Causes
