@@ -15,3 +15,5 @@ pub mod Propositions
 pub mod Atoms
 pub mod ClaimLists
 pub mod Whole
+pub mod Says
+pub mod Pending

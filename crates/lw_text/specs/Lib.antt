@@ -2,6 +2,8 @@ pub mod Tokens
 pub mod Lists
 pub mod Rows
 pub mod Propositions
+pub mod Signs
+pub mod Pending
 pub mod Conditions
 pub mod Frames
 pub mod Causes

@@ -14,12 +14,15 @@ mod fault;
 mod frame;
 mod head;
 mod heading;
+mod level;
 mod lexeme;
 mod lexer;
+mod proposition;
 mod read;
 mod row;
 mod rows;
 mod scan;
+mod sign;
 mod token;
 
 pub use cell::Cell;
