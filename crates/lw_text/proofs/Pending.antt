@@ -2,9 +2,9 @@
 use Rattle.std.proofs.Common.{◌≡◌, ◌≢◌, ℕ, zero, suc, Bool, true, false, not, List, [], ◌∷◌, Option, Some, None, MatchOption, option_map, length, map, reverse, refl, sym, ap, ◌∙◌, subst, arith}
 use Rattle.std.proofs.lemmas.List.{nil_from_length, length-reverse, length-map}
 use Rattle.std.specs.Prelude.{is_some, if◌then◌else◌}
-use Rattle.lw_base.specs.Formula.{Formula, Not, And, Or}
-use Rattle.lw_text.specs.Propositions.{Sign, Open, Close, Negation, Conjunction, Disjunction, Atom, begins_and, begins_or, Part, Ands, Ors, Says, atom, negated, parens, no_and, and, no_or, or, IsProposition}
-use Rattle.lw_text.specs.Pending.{Pending, Place, negations, after_and, after_or, ands_of, ors_of, opened, with_not, with_and, with_or, Has, Wants, Rest, GoesOn, begins_part, step_out, step_before, step_behind, step}
+use Rattle.lw_base.specs.Formula.{Formula, Not}
+use Rattle.lw_text.specs.Propositions.{Sign, Open, Close, Negation, Conjunction, Disjunction, Atom, begins_and, begins_or, Ands, Ors, Says, atom, negated, parens, no_and, and, no_or, or, IsProposition}
+use Rattle.lw_text.specs.Pending.{Pending, Place, negations, after_and, after_or, ands_of, ors_of, opened, with_not, with_and, with_or, Has, Wants, Rest, GoesOn, begins_part, step_before, step_behind, step}
 use Rattle.lw_text.proofs.Says.{Signs, part_atom, part_not, part_open, part_begins, part_end, ands_more, ands_stop, ors_more, ors_stop}
 
 negations-not : (n : ℕ) (p : Formula) → negations n (Not p) ≡ Not (negations n p)

@@ -1,5 +1,5 @@
 -- The ways in which a proposition goes on, and that it goes on in one of them alone.
-use Rattle.std.proofs.Common.{◌≡◌, Bool, true, false, List, [], ◌∷◌, refl, sym, ap, ◌∙◌, subst}
+use Rattle.std.proofs.Common.{◌≡◌, true, false, List, [], ◌∷◌, refl, sym, ap, ◌∙◌, subst}
 use Rattle.lw_base.specs.Formula.{Formula, Not, And, Or}
 use Rattle.lw_text.specs.Propositions.{Sign, Open, Close, Negation, Conjunction, Disjunction, Atom, begins_and, begins_or, Kind, Part, Ands, Ors, Says, atom, negated, parens, no_and, and, no_or, or, IsProposition}
 use Rattle.lw_text.specs.Pending.{begins_part}

@@ -6,16 +6,18 @@ use Rattle.lw_text.specs.declared.level.Level.{Level}
 use Rattle.lw_text.specs.declared.proposition.PropositionReader.{PropositionReader}
 use Rattle.lw_text.specs.Propositions.{Sign, Open, Close, Negation, Conjunction, Disjunction, Atom, Says, Part, Ands, Ors}
 
--- What stands open inside one pair of parentheses: the formula before a `\/`, the one before a `/\`, and how many `~` stand before the part that comes.
+-- What stands open inside one pair of parentheses: what stands before a `\/`, what stands before a `/\`, and how many `~` stand before the part that comes.
 pub record Pending : Type 0 where
   pub either : Option Formula
   pub both : Option Formula
   pub nots : ℕ
 
+-- a part behind so many `~`
 abbrev pub negations : ℕ → Formula → Formula
 negations zero p = p
 negations (suc n) p = Not (negations n p)
 
+-- a part behind what stands before a `/\`, and a row behind what stands before a `\/`
 abbrev pub after_and : Option Formula → Formula → Formula
 after_and None p = p
 after_and (Some a) p = And a p
@@ -60,6 +62,7 @@ Has l (o ∷ os) p ss q = (a b : Formula) × (n k : List (Sign Formula)) × Says
 abbrev pub Wants : Pending → List Pending → List (Sign Formula) → Formula → Type 0
 Wants l os ss q = (p : Formula) × (m : List (Sign Formula)) × Says Part ss p m × Has l os p m q
 
+-- the same where a part may stand last or not
 abbrev pub Rest : Option Formula → Pending → List Pending → List (Sign Formula) → Formula → Type 0
 Rest None l os ss q = Wants l os ss q
 Rest (Some p) l os ss q = Has l os p ss q
@@ -87,12 +90,12 @@ begins_part Conjunction = false
 begins_part Disjunction = false
 begins_part (Atom a) = true
 
--- where a reader stands behind one more sign, if it may come next: behind the `)` after a row that says p,
+-- Where a reader stands behind one more sign, if that may come next. First: behind a `)`, where the row inside says p.
 abbrev pub step_out : Formula → List Pending → Option Place
 step_out p [] = None
 step_out p (o ∷ os) = Some (record { part = Some p; level = o; outer = os })
 
--- behind a sign before a part,
+-- where a part has to come
 abbrev pub step_before : Pending → List Pending → Sign Formula → Option Place
 step_before l os Open = Some (record { part = None; level = opened; outer = l ∷ os })
 step_before l os Close = None
@@ -101,7 +104,7 @@ step_before l os Conjunction = None
 step_before l os Disjunction = None
 step_before l os (Atom p) = Some (record { part = Some p; level = l; outer = os })
 
--- and behind a sign behind a part that says p
+-- behind a part that says p
 abbrev pub step_behind : Formula → Pending → List Pending → Sign Formula → Option Place
 step_behind p l os Open = None
 step_behind p l os Close = step_out (ors_of l p) os

@@ -6,7 +6,7 @@ ghost use Rattle.lw_text.specs.Pending.{level_of, opened, with_not, with_and, wi
 use lw_base::Prop;
 use std::alloc::{AllocError, Allocator, Global};
 
-/// The proposition before a `\/`, the one before a `/\`, and how many `~` stand before the part that
+/// What stands before a `\/`, what stands before a `/\`, and how many `~` stand before the part that
 /// comes.
 #[derive(Drop)]
 pub(crate) struct Level<A: Allocator = Global> {
@@ -27,8 +27,8 @@ impl<A: Allocator> Level<A> {
         }
     }
 
-    /// Takes one more `~` before the part that comes. More of them than a number can count don't
-    /// fit into memory.
+    /// Takes one more `~` before the part that comes. Memory can't hold the part behind more of them
+    /// than can be counted.
     pub(crate) fn negate(&mut self) -> Result<(), AllocError>
         ensures { OnOk result (level_of self.new ≡ with_not (level_of self.old)) }
     {

@@ -21,6 +21,16 @@ fn read<A: Allocator + Copy>(alloc: A, signs: &[Sign]) -> Result<Option<Prop<A>>
     reader.finish()
 }
 
+/// Whether the signs are this proposition.
+fn is<A: Allocator + Copy>(alloc: A, signs: &[Sign], prop: Prop<A>) -> Result<bool, AllocError> {
+    Ok(read(alloc, signs)? == Some(prop))
+}
+
+/// Whether the signs are a proposition.
+fn is_any<A: Allocator + Copy>(alloc: A, signs: &[Sign]) -> Result<bool, AllocError> {
+    Ok(read(alloc, signs)?.is_some())
+}
+
 fn neg<A: Allocator + Copy>(alloc: A, prop: Prop<A>) -> Result<Prop<A>, AllocError> {
     Ok(Prop::Neg(Box::new(alloc, prop)?))
 }
@@ -47,85 +57,68 @@ fn either<A: Allocator + Copy>(
 fn conjunction_binds_before_disjunction(rt: HostRuntime) -> Result<(), Fail> {
     let alloc = rt.alloc();
     let atom = Atom::WordIs(Loc::new(1).ok_or("a location")?, 7);
-    let prop = read(
-        alloc,
-        &[YES, Disjunction, NO, Conjunction, Sign::Atom(atom)],
-    )?;
     let row = both(alloc, Prop::Never, atom.prop())?;
-    assert_eq!(rt; prop, Some(either(alloc, Prop::Always, row)?));
+    let prop = either(alloc, Prop::Always, row)?;
+    let signs = [YES, Disjunction, NO, Conjunction, Sign::Atom(atom)];
+    assert!(rt; is(alloc, &signs, prop)?);
     Ok(())
 }
 
 #[test]
 fn negation_binds_before_conjunction(rt: HostRuntime) -> Result<(), Fail> {
     let alloc = rt.alloc();
-    let prop = read(alloc, &[Negation, YES, Conjunction, NO])?;
-    let front = neg(alloc, Prop::Always)?;
-    assert_eq!(rt; prop, Some(both(alloc, front, Prop::Never)?));
+    let prop = both(alloc, neg(alloc, Prop::Always)?, Prop::Never)?;
+    assert!(rt; is(alloc, &[Negation, YES, Conjunction, NO], prop)?);
     Ok(())
 }
 
 #[test]
 fn parentheses_bind_before_all(rt: HostRuntime) -> Result<(), Fail> {
     let alloc = rt.alloc();
-    let prop = read(
-        alloc,
-        &[Open, YES, Disjunction, NO, Close, Conjunction, YES],
-    )?;
-    let front = either(alloc, Prop::Always, Prop::Never)?;
-    assert_eq!(rt; prop, Some(both(alloc, front, Prop::Always)?));
-    let prop = read(alloc, &[Negation, Open, YES, Disjunction, NO, Close])?;
     let inner = either(alloc, Prop::Always, Prop::Never)?;
-    assert_eq!(rt; prop, Some(neg(alloc, inner)?));
+    let prop = both(alloc, inner, Prop::Always)?;
+    let signs = [Open, YES, Disjunction, NO, Close, Conjunction, YES];
+    assert!(rt; is(alloc, &signs, prop)?);
     Ok(())
 }
 
 #[test]
 fn rows_are_grouped_to_the_left(rt: HostRuntime) -> Result<(), Fail> {
     let alloc = rt.alloc();
-    let prop = read(alloc, &[YES, Conjunction, YES, Conjunction, NO])?;
     let front = both(alloc, Prop::Always, Prop::Always)?;
-    assert_eq!(rt; prop, Some(both(alloc, front, Prop::Never)?));
-    let prop = read(alloc, &[YES, Disjunction, YES, Disjunction, NO])?;
-    let front = either(alloc, Prop::Always, Prop::Always)?;
-    assert_eq!(rt; prop, Some(either(alloc, front, Prop::Never)?));
+    let prop = both(alloc, front, Prop::Never)?;
+    assert!(rt; is(alloc, &[YES, Conjunction, YES, Conjunction, NO], prop)?);
     Ok(())
 }
 
 #[test]
 fn negations_add_up(rt: HostRuntime) -> Result<(), Fail> {
     let alloc = rt.alloc();
-    let prop = read(alloc, &[Negation, Negation, YES])?;
-    let inner = neg(alloc, Prop::Always)?;
-    assert_eq!(rt; prop, Some(neg(alloc, inner)?));
+    let prop = neg(alloc, neg(alloc, Prop::Always)?)?;
+    assert!(rt; is(alloc, &[Negation, Negation, YES], prop)?);
     Ok(())
 }
 
 #[test]
 fn parentheses_nest_deep(rt: HostRuntime) -> Result<(), Fail> {
-    let mut reader = PropositionReader::new(rt.alloc());
+    let mut signs = Vec::new(rt.alloc());
     for _ in 0..30_000 {
-        assert!(rt; reader.take(Open)?);
+        signs.push(Open)?;
     }
-    assert!(rt; reader.wants_part());
-    assert!(rt; reader.take(NO)?);
+    signs.push(NO)?;
     for _ in 0..30_000 {
-        assert!(rt; reader.take(Close)?);
+        signs.push(Close)?;
     }
-    assert!(rt; !reader.wants_part());
-    assert_eq!(rt; reader.finish()?, Some(Prop::Never));
+    assert!(rt; is(rt.alloc(), signs.as_slice(), Prop::Never)?);
     Ok(())
 }
 
 #[test]
 fn signs_that_are_no_proposition(rt: HostRuntime) -> Result<(), Fail> {
     let alloc = rt.alloc();
-    assert_eq!(rt; read(alloc, &[])?, None);
-    assert_eq!(rt; read(alloc, &[Open, YES, Close, Close])?, None);
-    assert_eq!(rt; read(alloc, &[Open, YES])?, None);
-    assert_eq!(rt; read(alloc, &[YES, NO])?, None);
-    assert_eq!(rt; read(alloc, &[YES, Conjunction])?, None);
-    assert_eq!(rt; read(alloc, &[YES, Negation, NO])?, None);
-    assert_eq!(rt; read(alloc, &[Open, Close])?, None);
+    assert!(rt; !is_any(alloc, &[])?);
+    assert!(rt; !is_any(alloc, &[Open, YES, Close, Close])?);
+    assert!(rt; !is_any(alloc, &[Open, YES])?);
+    assert!(rt; !is_any(alloc, &[YES, NO])?);
     Ok(())
 }

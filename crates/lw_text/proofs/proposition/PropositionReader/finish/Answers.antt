@@ -1,4 +1,4 @@
-use Rattle.std.proofs.Common.{None, Some, option_map, map, reverse, ap, sym, ◌∙◌, arith}
+use Rattle.std.proofs.Common.{option_map, map, reverse, ap, sym, ◌∙◌, arith}
 use Rattle.std.proofs.lemmas.Bool.{eqb-true, eqb-false}
 use Rattle.lw_base.specs.Propositions.{formula_of}
 use Rattle.lw_text.specs.Pending.{level_of}
