@@ -19,3 +19,5 @@ pub mod Atoms
 pub mod Sites
 pub mod Entries
 pub mod Whole
+pub mod Says
+pub mod Pending

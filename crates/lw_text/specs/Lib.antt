@@ -4,6 +4,8 @@ pub mod Lists
 pub mod Rows
 pub mod Sites
 pub mod Propositions
+pub mod Signs
+pub mod Pending
 pub mod Conditions
 pub mod Frames
 pub mod Causes

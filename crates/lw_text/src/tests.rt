@@ -1,4 +1,6 @@
 //! Texts with the answers that the format gives them, typed in.
+mod propositions;
+
 use super::*;
 use TextCause::*;
 use lw_base::{Arch, Cpu, Prop, Quant};

@@ -1,0 +1,126 @@
+//! What stands open inside one pair of parentheses of a proposition.
+ghost use Rattle.std.specs.Prelude.{◌≡◌, Some, option_map, IfOk, OnOk};
+ghost use Rattle.lw_base.specs.Propositions.{formula_of};
+ghost use Rattle.lw_text.specs.Pending.{level_of, opened, with_not, with_and, with_or, ors_of, negations, after_and, after_or};
+
+use lw_base::Prop;
+use std::alloc::{AllocError, Allocator, Global};
+
+/// What stands before a `\/`, what stands before a `/\`, and how many `~` stand before the part that
+/// comes.
+#[derive(Drop)]
+pub(crate) struct Level<A: Allocator = Global> {
+    either: Option<Prop<A>>,
+    both: Option<Prop<A>>,
+    nots: usize,
+}
+
+impl<A: Allocator> Level<A> {
+    /// What stands open behind a `(`.
+    pub(crate) fn new() -> Self
+        ensures { level_of result ≡ opened }
+    {
+        Level {
+            either: None,
+            both: None,
+            nots: 0,
+        }
+    }
+
+    /// Takes one more `~` before the part that comes. Memory can't hold the part behind more of them
+    /// than can be counted.
+    pub(crate) fn negate(&mut self) -> Result<(), AllocError>
+        ensures { OnOk result (level_of self.new ≡ with_not (level_of self.old)) }
+    {
+        let Some(nots) = self.nots.checked_add(1) else {
+            return Err(AllocError);
+        };
+        self.nots = nots;
+        Ok(())
+    }
+}
+
+impl<A: Allocator + Copy> Level<A> {
+    /// What stands open behind the part and a `/\`.
+    pub(crate) fn conjoin(self, alloc: A, part: Prop<A>) -> Result<Self, AllocError>
+        ensures { IfOk result (λ l. level_of l ≡ with_and (level_of self) (formula_of part)) }
+    {
+        let Level { either, both, nots } = self;
+        let part = negated(alloc, nots, part)?;
+        let both = behind_and(alloc, both, part)?;
+        Ok(Level {
+            either,
+            both: Some(both),
+            nots: 0,
+        })
+    }
+
+    /// What stands open behind the part and a `\/`.
+    pub(crate) fn disjoin(self, alloc: A, part: Prop<A>) -> Result<Self, AllocError>
+        ensures { IfOk result (λ l. level_of l ≡ with_or (level_of self) (formula_of part)) }
+    {
+        let either = self.close(alloc, part)?;
+        Ok(Level {
+            either: Some(either),
+            both: None,
+            nots: 0,
+        })
+    }
+
+    /// What the level says with the part as its last.
+    pub(crate) fn close(self, alloc: A, part: Prop<A>) -> Result<Prop<A>, AllocError>
+        ensures { IfOk result (λ p. formula_of p ≡ ors_of (level_of self) (formula_of part)) }
+    {
+        let Level { either, both, nots } = self;
+        let part = negated(alloc, nots, part)?;
+        let row = behind_and(alloc, both, part)?;
+        behind_or(alloc, either, row)
+    }
+}
+
+/// The part behind so many `~`.
+fn negated<A: Allocator + Copy>(alloc: A, nots: usize, part: Prop<A>) -> Result<Prop<A>, AllocError>
+    ensures { IfOk result (λ p. formula_of p ≡ negations nots (formula_of part)) }
+{
+    let mut prop = part;
+    for taken in 0..nots {
+        prop = Prop::Neg(Box::new(alloc, prop)?);
+    }
+    Ok(prop)
+}
+
+/// The part, joined to what stands before a `/\`.
+fn behind_and<A: Allocator + Copy>(
+    alloc: A,
+    before: Option<Prop<A>>,
+    part: Prop<A>,
+) -> Result<Prop<A>, AllocError>
+    ensures { IfOk result (λ p. formula_of p ≡ after_and (option_map formula_of before) (formula_of part)) }
+{
+    match before {
+        None => Ok(part),
+        Some(before) => {
+            let left = Box::new(alloc, before)?;
+            let right = Box::new(alloc, part)?;
+            Ok(Prop::Both(left, right))
+        }
+    }
+}
+
+/// The row of parts, joined to what stands before a `\/`.
+fn behind_or<A: Allocator + Copy>(
+    alloc: A,
+    before: Option<Prop<A>>,
+    row: Prop<A>,
+) -> Result<Prop<A>, AllocError>
+    ensures { IfOk result (λ p. formula_of p ≡ after_or (option_map formula_of before) (formula_of row)) }
+{
+    match before {
+        None => Ok(row),
+        Some(before) => {
+            let left = Box::new(alloc, before)?;
+            let right = Box::new(alloc, row)?;
+            Ok(Prop::Either(left, right))
+        }
+    }
+}
