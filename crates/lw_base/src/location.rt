@@ -78,6 +78,7 @@ impl<A: Allocator + Copy> LocNames<A> {
         requires fresh { ¬ Contains self.old name.now }
         ensures place { IfOk result (λ loc. loc ≡ length self.old) }
         ensures ok { OnOk result (self.new ≡ self.old ++ name.now ∷ []) }
+        ensures table { OnOk result (IsTable self.new) }
         ensures err { OnErr result (self.new ≡ self.old) }
     {
         let place = self.names.len();
@@ -93,6 +94,7 @@ impl<A: Allocator + Copy> LocNames<A> {
         ensures place { IfOk result (λ o. MatchOption o (8 < length (with_name self.old name.now)) (λ loc. loc ≡ place_of self.new name.now)) }
         ensures names { IfOk result (λ o. OnSome o (self.new ≡ with_name self.old name.now)) }
         ensures full { IfOk result (λ o. IfNone o (self.new ≡ self.old)) }
+        ensures table { OnOk result (IsTable self.new) }
         ensures err { OnErr result (self.new ≡ self.old) }
     {
         let len = self.len();

@@ -18,6 +18,7 @@ pub mod RowColumns
 pub mod Atoms
 pub mod Sites
 pub mod Entries
+pub mod SignRows
 pub mod Whole
 pub mod Says
 pub mod Pending

@@ -1,5 +1,5 @@
 -- Sites, entries and signs in memory, where a location is its place in the table of names.
-use Rattle.std.specs.Prelude.{◌≡◌, ℕ, suc, ◌≤◌, Bool, true, nat_lt, List, [], ◌++◌, length, map, filter, fold, if◌then◌else◌, slice_index_or, All}
+use Rattle.std.specs.Prelude.{◌≡◌, ℕ, suc, ◌<◌, ◌≤◌, Bool, true, nat_lt, List, [], ◌++◌, length, map, filter, fold, if◌then◌else◌, slice_index_or, All}
 use Rattle.std.specs.List.{list_any, range_with_len}
 use Rattle.lw_base.specs.declared.head.Arch.TheVariants.{Source}
 use Rattle.lw_base.specs.Propositions.{formula_of}
@@ -14,8 +14,12 @@ use Rattle.lw_text.specs.declared.said.Body.{Body}
 use Rattle.lw_text.specs.Sites as said
 use Rattle.lw_text.specs.Frames as frames
 use Rattle.lw_text.specs.Frames.{same_seen, registers_of, registers, locations, table, Parts}
-use Rattle.lw_text.specs.Propositions.{Sign, IsProposition}
-use Rattle.lw_text.specs.Conditions.{Claim, placed}
+use Rattle.lw_text.specs.declared.sign.Sign.{Sign as MadeSign}
+use Rattle.lw_text.specs.declared.sign.Sign.TheVariants as signs
+use Rattle.lw_text.specs.declared.sign.Atom.{Atom}
+use Rattle.lw_text.specs.declared.sign.Atom.TheVariants as atoms
+use Rattle.lw_text.specs.Propositions.{Sign, Open, Close, Negation, Conjunction, Disjunction, Atom as Claims, IsProposition}
+use Rattle.lw_text.specs.Conditions.{Claim, Always, Never, Holds, placed}
 use Rattle.lw_text.specs.Places.{all_texts}
 
 -- the site, by the names of this table
@@ -87,3 +91,33 @@ pub record BodySays {A : Type 0} (ts : List (List ℕ)) (b : Body A) : Type 0 wh
   pub proposition : IsProposition (map (placed b.said.locs) signs) (formula_of b.said.prop)
   pub entries_in : All (λ e. IsIn b.said.locs e.site) b.said.entries
   pub listed_in : All (IsIn b.said.locs) b.said.listed
+
+-- the signs of a proposition, by the names of this table
+abbrev pub named_claim : List (List ℕ) → Atom → Claim
+named_claim names atoms.Always = Always
+named_claim names atoms.Never = Never
+named_claim names (atoms.WordIs loc n) = Holds (said.InMemory (slice_index_or names loc [])) n
+named_claim names (atoms.RegIs t r n) = Holds (said.InThread t r) n
+
+abbrev pub named_sign : List (List ℕ) → MadeSign → Sign Claim
+named_sign names signs.Open = Open
+named_sign names signs.Close = Close
+named_sign names signs.Negation = Negation
+named_sign names signs.Conjunction = Conjunction
+named_sign names signs.Disjunction = Disjunction
+named_sign names (signs.Atom a) = Claims (named_claim names a)
+
+-- the table has the locations of these claims
+abbrev pub ClaimIn : List (List ℕ) → Atom → Type 0
+ClaimIn names atoms.Always = Unit {0}
+ClaimIn names atoms.Never = Unit {0}
+ClaimIn names (atoms.WordIs loc n) = loc < length names
+ClaimIn names (atoms.RegIs t r n) = Unit {0}
+
+abbrev pub SignIn : List (List ℕ) → MadeSign → Type 0
+SignIn names signs.Open = Unit {0}
+SignIn names signs.Close = Unit {0}
+SignIn names signs.Negation = Unit {0}
+SignIn names signs.Conjunction = Unit {0}
+SignIn names signs.Disjunction = Unit {0}
+SignIn names (signs.Atom a) = ClaimIn names a

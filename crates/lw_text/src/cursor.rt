@@ -1,5 +1,5 @@
 //! The tokens that are still to be read.
-ghost use Rattle.std.specs.Prelude.{◌≡◌, ℕ, ◌≤◌, if◌then◌else◌, List, [], ◌∷◌, length, All, OnOk, OnErr, IfOk, IfErr};
+ghost use Rattle.std.specs.Prelude.{◌≡◌, ℕ, ◌≤◌, true, false, if◌then◌else◌, List, [], ◌∷◌, length, All, OnOk, OnErr, IfOk, IfErr};
 ghost use Rattle.lw_text.specs.Conditions.{begins_word};
 
 use crate::fault::{Cause, Fault};
@@ -92,6 +92,22 @@ impl<'t, 'a> Cursor<'t, 'a> {
         match self.tokens.get(self.next) {
             Some(token) => token.text == text,
             None => false,
+        }
+    }
+
+    /// Takes this text, if it is next, and says whether it was.
+    pub(crate) fn takes(&mut self, text: &str) -> bool
+        ensures taken { result ≡ true → left self.old ≡ text.now ∷ left self.new }
+        ensures other { result ≡ false → begins_word text.now (left self.old) ≡ false }
+        ensures kept { result ≡ false → self.new ≡ self.old }
+        ensures same { self.new.len ≡ self.old.len }
+    {
+        match self.tokens.get(self.next) {
+            Some(token) if token.text == text => {
+                self.next += 1;
+                true
+            }
+            _ => false,
         }
     }
 

@@ -1,7 +1,8 @@
 //! The signs of a proposition.
-ghost use Rattle.std.specs.Prelude.{◌≡◌};
+ghost use Rattle.std.specs.Prelude.{◌≡◌, if◌then◌else◌};
 ghost use Rattle.lw_base.specs.Propositions.{formula_of};
-ghost use Rattle.lw_text.specs.Signs.{atom_formula};
+ghost use Rattle.lw_text.specs.Propositions.{is_node};
+ghost use Rattle.lw_text.specs.Signs.{atom_formula, sign_of};
 
 use lw_base::{Cpu, Loc, Prop, Reg, Word};
 use std::alloc::Allocator;
@@ -39,4 +40,16 @@ pub(crate) enum Sign {
     Conjunction,
     Disjunction,
     Atom(Atom),
+}
+
+impl Sign {
+    /// How many nodes of a proposition it makes. A parenthesis makes none.
+    pub(crate) fn nodes(&self) -> usize
+        ensures { result ≡ (if is_node (sign_of self.now) then 1 else 0) }
+    {
+        match self {
+            Sign::Open | Sign::Close => 0,
+            _ => 1,
+        }
+    }
 }

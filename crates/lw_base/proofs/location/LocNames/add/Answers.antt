@@ -7,3 +7,9 @@ invariant_of-self-2 g c =
     let few = rw (← c.self.view_is) at c.requires.few in
     let fresh = rw (← c.self.view_is) at c.requires.fresh in
     table_more string_bytes c.self.inside.names.items c.push.new.self.items c.in_ok-text.text c.args.name.now c.in_ok-push.ensures.items c.in_ok-text.ensures.ok few c.requires.name fresh c.self.invariant
+
+pub returns-clause-table : goal.returns-clause-table
+returns-clause-table g c =
+    let few = rw (← c.self.view_is) at c.requires.few in
+    let fresh = rw (← c.self.view_is) at c.requires.fresh in
+    table_more string_bytes c.self.inside.names.items c.push.new.self.items c.in_ok-text.text c.args.name.now c.in_ok-push.ensures.items c.in_ok-text.ensures.ok few c.requires.name fresh c.self.invariant
