@@ -5,7 +5,9 @@ use Rattle.std.specs.Str.{bytes_eq}
 use Rattle.std.proofs.lemmas.List.{append-nil}
 use Rattle.std.specs.Cmp.{unsigned_Decides}
 use Rattle.std.specs.Cmp.Lexicographic.{pointwise_decides}
+use Rattle.lw_base.specs.Names.{EachOnce}
 use Rattle.lw_base.specs.Tables.{is_there, with_name, with_names, place_of}
+use Rattle.lw_base.proofs.Tables.{once_more, is_there-Contains}
 
 with_name-case : (names : List (List ℕ)) (n : List ℕ) (b : Bool) → is_there names n ≡ b → with_name names n ≡ (if b then names else names ++ n ∷ [])
 with_name-case names n b e = rw e refl
@@ -84,3 +86,15 @@ place-within (m ∷ names) n e = go (bytes_eq m n) refl (place-within names n)
     go : (b : Bool) → bytes_eq m n ≡ b → (is_there names n ≡ true → place_of names n < length names) → place_of (m ∷ names) n < length (m ∷ names)
     go true f further = rw f (omega arith)
     go false f further = rw f (omega (arith, further (rw f at e)))
+
+-- each name once
+pub once-name : (names : List (List ℕ)) (n : List ℕ) → EachOnce names → EachOnce (with_name names n)
+once-name names n once = go (is_there names n) refl
+  where
+    go : (b : Bool) → is_there names n ≡ b → EachOnce (with_name names n)
+    go true e = rw (with_name-case names n true e) once
+    go false e = rw (with_name-case names n false e) (once_more names n once (λ h. let k = is_there-Contains names n h in cc))
+
+pub once-along : (names ns : List (List ℕ)) → EachOnce names → EachOnce (with_names names ns)
+once-along names [] once = once
+once-along names (n ∷ ns) once = once-along (with_name names n) ns (once-name names n once)

@@ -27,7 +27,7 @@ module _ {S : Type 0} (f : S → List ℕ) (ss : List S) (p : ℕ) (s : S) (t na
       subst (λ (i : ℕ). slice_get (map f ss) i ≡ Some name) (sym h.1) (at_place ∙ ap Some ((pointwise_decides unsigned_Decides t name).0 same))
 
 -- one more name that is none of them
-once_more : (ns : List (List ℕ)) (n : List ℕ) → EachOnce ns → (Contains ns n → ⊥) → EachOnce (ns ++ n ∷ [])
+pub once_more : (ns : List (List ℕ)) (n : List ℕ) → EachOnce ns → (Contains ns n → ⊥) → EachOnce (ns ++ n ∷ [])
 once_more [] n once fresh = ((λ h. let k : h.0 < 0 = h.1 in absurd (omega arith)), tt)
 once_more (m ∷ ns) n once fresh =
     ((λ h. apart (Contains-push_cases ns n m h)), once_more ns n once.1 (λ h. fresh (Contains-append_right (m ∷ []) ns n h)))
@@ -60,7 +60,7 @@ or_right true = refl
 or_right false = refl
 
 -- a name that is in the table
-is_there-Contains : (names : List (List ℕ)) (n : List ℕ) → Contains names n → is_there names n ≡ true
+pub is_there-Contains : (names : List (List ℕ)) (n : List ℕ) → Contains names n → is_there names n ≡ true
 is_there-Contains [] n h = let k : h.0 < 0 = h.1 in absurd (omega arith)
 is_there-Contains (m ∷ names) n h = go h.0 h.1 h.2 (is_there-Contains names n)
   where

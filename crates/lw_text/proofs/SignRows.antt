@@ -1,6 +1,7 @@
 -- The signs of a proposition are read in one way.
 use Rattle.std.proofs.Common.{◌≡◌, ℕ, zero, suc, ◌+◌, ◌<◌, ◌≤◌, inl, inr, Bool, true, false, List, [], ◌∷◌, ◌++◌, length, map, get_or, refl, sym, ap, ◌∙◌, subst, arith, length-append}
-use Rattle.std.specs.Prelude.{codes, filter, if◌then◌else◌, ◌||◌}
+use Rattle.std.specs.Prelude.{codes, filter, if◌then◌else◌, ◌||◌, ◌⊎◌, Option, Some, None}
+use Rattle.std.specs.Str.{bytes_eq}
 use Rattle.std.proofs.lemmas.List.Elements.{filter-append, filter_map-append}
 use Rattle.std.proofs.lemmas.List.{map-append}
 use Rattle.lw_base.specs.Names.{IsName, IsLocation, is_reserved, EachOnce}
@@ -65,3 +66,113 @@ site_alone threads ts mid site p never Disjunction rest e = or_no_site ts rest m
 site_alone threads ts mid site p never (Atom Always) rest e = true_no_site ts rest mid site e p
 site_alone threads ts mid site p never (Atom Never) rest e = false_no_site ts rest mid site e p
 site_alone threads ts mid site p never (Atom (Holds other n)) rest q = never n rest (subst (λ l. Value l n rest) (IsSite-unique ts other site q.0 mid q.1 p).1 q.3)
+
+-- ---- signs are read in one way
+
+-- the sign that a word is
+abbrev sign_word : List ℕ → Option (Sign Claim)
+sign_word w =
+    if bytes_eq w (codes "(") then Some Open
+    else if bytes_eq w (codes ")") then Some Close
+    else if bytes_eq w (codes "~") then Some Negation
+    else if bytes_eq w (codes "not") then Some Negation
+    else if bytes_eq w (codes "/\\") then Some Conjunction
+    else if bytes_eq w (codes "\\/") then Some Disjunction
+    else if bytes_eq w (codes "true") then Some (Atom Always)
+    else if bytes_eq w (codes "false") then Some (Atom Never)
+    else None
+
+-- a sign is a word, or a site and its value
+record Word (ts : List (List ℕ)) (s : Sign Claim) (rest : List (List ℕ)) : Type 0 where
+  word : List ℕ
+  stands : ts ≡ word ∷ rest
+  is : sign_word word ≡ Some s
+  apart : IsNoSite word
+
+record Claimed (threads : ℕ) (ts : List (List ℕ)) (s : Sign Claim) (rest : List (List ℕ)) : Type 0 where
+  site : Site
+  n : ℕ
+  mid : List (List ℕ)
+  is : s ≡ Atom (Holds site n)
+  site_is : IsSite ts site mid
+  there : IsThere threads site
+  value : Value mid n rest
+
+front : (threads : ℕ) (ts rest : List (List ℕ)) (s : Sign Claim) → IsSign threads ts s rest → Word ts s rest ⊎ Claimed threads ts s rest
+front threads ts rest Open e = inl (record { word = codes "("; stands = e; is = refl; apart = open_no_site })
+front threads ts rest Close e = inl (record { word = codes ")"; stands = e; is = refl; apart = close_no_site })
+front threads ts rest Negation (inl e) = inl (record { word = codes "~"; stands = e; is = refl; apart = tilde_no_site })
+front threads ts rest Negation (inr e) = inl (record { word = codes "not"; stands = e; is = refl; apart = not_no_site })
+front threads ts rest Conjunction e = inl (record { word = codes "/\\"; stands = e; is = refl; apart = and_no_site })
+front threads ts rest Disjunction e = inl (record { word = codes "\\/"; stands = e; is = refl; apart = or_no_site })
+front threads ts rest (Atom Always) e = inl (record { word = codes "true"; stands = e; is = refl; apart = true_no_site })
+front threads ts rest (Atom Never) e = inl (record { word = codes "false"; stands = e; is = refl; apart = false_no_site })
+front threads ts rest (Atom (Holds site n)) p = inr (record { site = site; n = n; mid = p.0; is = refl; site_is = p.1; there = p.2; value = p.3 })
+
+pub IsSign-unique : (threads : ℕ) (ts : List (List ℕ)) (a b : Sign Claim) (r s : List (List ℕ)) → IsSign threads ts a r → IsSign threads ts b s → (a ≡ b) × (r ≡ s)
+IsSign-unique threads ts a b r s p q =
+    elim (front threads ts r a p) [
+      | inl v ↦ elim (front threads ts s b q) [
+          | inl w ↦
+              let e = v.stands in
+              let f = w.stands in
+              let k : v.word ≡ w.word = cc in
+              let i : Some a ≡ Some b = sym v.is ∙ ap sign_word k ∙ w.is in
+              (cc, cc)
+          | inr w ↦ absurd (v.apart ts r w.mid w.site v.stands w.site_is)
+        ]
+      | inr v ↦ elim (front threads ts s b q) [
+          | inl w ↦ absurd (w.apart ts s v.mid v.site w.stands v.site_is)
+          | inr w ↦
+              let e = IsSite-unique ts v.site w.site v.mid w.mid v.site_is w.site_is in
+              let f = Value-unique v.mid r s v.n w.n v.value (subst (λ l. Value l w.n s) (sym e.1) w.value) in
+              let i : v.site ≡ w.site = e.0 in
+              let j : v.n ≡ w.n = f.0 in
+              (v.is ∙ ap (λ x. Atom (Holds x v.n)) i ∙ ap (λ (x : ℕ). Atom (Holds w.site x)) j ∙ sym w.is, f.1)
+        ]
+    ]
+
+pub IsSign-shorter : (threads : ℕ) (ts rest : List (List ℕ)) (s : Sign Claim) → IsSign threads ts s rest → length rest < length ts
+IsSign-shorter threads ts rest s p =
+    elim (front threads ts rest s p) [
+      | inl w ↦ omega (arith, ap length w.stands)
+      | inr w ↦ omega (arith, IsSite-shorter ts w.mid w.site w.site_is, Value-shorter w.mid rest w.n w.value)
+    ]
+
+-- ---- rows of signs
+
+-- these signs have been read, and then comes what is here
+abbrev pub Gone : ℕ → List (List ℕ) → List (Sign Claim) → List (List ℕ) → Type 0
+Gone threads ts [] here = ts ≡ here
+Gone threads ts (s ∷ ss) here = (mid : List (List ℕ)) × IsSign threads ts s mid × Gone threads mid ss here
+
+pub Gone-push : (threads : ℕ) (ss : List (Sign Claim)) (ts here next : List (List ℕ)) (s : Sign Claim) → Gone threads ts ss here → IsSign threads here s next → Gone threads ts (ss ++ s ∷ []) next
+Gone-push threads [] ts here next s g p = (next, subst (λ l. IsSign threads l s next) (sym g) p, refl)
+Gone-push threads (t ∷ ss) ts here next s g p = (g.0, g.1, Gone-push threads ss g.0 here next s g.2 p)
+
+pub Gone-end : (threads : ℕ) (ss : List (Sign Claim)) (ts here : List (List ℕ)) → Gone threads ts ss here → here ≡ [] → Signs threads ts ss
+Gone-end threads [] ts here g e = g ∙ e
+Gone-end threads (s ∷ ss) ts here g e = (g.0, g.1, Gone-end threads ss g.0 here g.2 e)
+
+no_sign : (threads : ℕ) (ts rest : List (List ℕ)) (s : Sign Claim) → ts ≡ [] → IsSign threads ts s rest → ⊥
+no_sign threads ts rest s e p = omega (arith, IsSign-shorter threads ts rest s p, ap length e)
+
+pub Gone-peel : (threads : ℕ) (ss all : List (Sign Claim)) (ts here : List (List ℕ)) → Gone threads ts ss here → Signs threads ts all → (more : List (Sign Claim)) × (all ≡ ss ++ more) × Signs threads here more
+Gone-peel threads [] all ts here g p = (all, refl, subst (λ l. Signs threads l all) g p)
+Gone-peel threads (s ∷ ss) [] ts here g p = absurd (no_sign threads ts g.0 s p g.1)
+Gone-peel threads (s ∷ ss) (t ∷ all) ts here g p =
+    let e = IsSign-unique threads ts s t g.0 p.0 g.1 p.1 in
+    let h = Gone-peel threads ss all g.0 here g.2 (subst (λ l. Signs threads l all) (sym e.1) p.2) in
+    let i : all ≡ ss ++ h.0 = h.1 in
+    let k : s ≡ t = e.0 in
+    (h.0, cc, h.2)
+
+pub Signs-unique : (threads : ℕ) (a b : List (Sign Claim)) (ts : List (List ℕ)) → Signs threads ts a → Signs threads ts b → a ≡ b
+Signs-unique threads [] [] ts p q = refl
+Signs-unique threads [] (t ∷ b) ts p q = absurd (no_sign threads ts q.0 t p q.1)
+Signs-unique threads (s ∷ a) [] ts p q = absurd (no_sign threads ts p.0 s q p.1)
+Signs-unique threads (s ∷ a) (t ∷ b) ts p q =
+    let e = IsSign-unique threads ts s t p.0 q.0 p.1 q.1 in
+    let i : a ≡ b = Signs-unique threads a b p.0 p.2 (subst (λ l. Signs threads l b) (sym e.1) q.2) in
+    let k : s ≡ t = e.0 in
+    cc
