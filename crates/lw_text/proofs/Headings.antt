@@ -6,7 +6,7 @@ use Rattle.std.specs.Char.{is_ascii_graphic}
 use Rattle.std.proofs.lemmas.Bool.{not-true, cases_Bool}
 use Rattle.lw_base.specs.Characters.{is_blank, begins}
 use Rattle.lw_text.specs.Tokens.{First}
-use Rattle.lw_text.specs.Frames.{IsTestName, Named, Heading}
+use Rattle.lw_text.specs.Headings.{IsTestName, Named, Heading}
 use Rattle.lw_text.proofs.Words.{run-unique, blank_all}
 use Rattle.lw_text.proofs.TokenRows.{First-unique}
 

@@ -9,7 +9,8 @@ use Rattle.lw_text.specs.Tokens.{Tokens}
 use Rattle.lw_text.specs.Lists.{Until}
 use Rattle.lw_text.specs.Rows.{Header, Line, Rows, begins_stop}
 use Rattle.lw_text.specs.Conditions.{Claim, Condition}
-use Rattle.lw_text.specs.Frames.{Heading, Parts, TestFrame, HasFrame, made_of}
+use Rattle.lw_text.specs.Headings.{Heading}
+use Rattle.lw_text.specs.Frames.{Parts, TestFrame, HasFrame, made_of}
 use Rattle.lw_text.specs.Places.{cell_texts, all_texts}
 use Rattle.lw_text.proofs.Headers.{Names-unique}
 use Rattle.lw_text.proofs.Cells.{Rows-unique}

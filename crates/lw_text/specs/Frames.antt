@@ -1,35 +1,14 @@
 -- A text's frame: all of a test but what its cells say.
-use Rattle.std.specs.Prelude.{◌≡◌, ℕ, ◌<◌, ◌≤◌, not, true, false, List, [], ◌∷◌, ◌++◌, length, replicate, codes}
-use Rattle.std.specs.List.{AllByRecursion}
-use Rattle.std.specs.Char.{is_ascii_graphic}
+use Rattle.std.specs.Prelude.{◌≡◌, ℕ, ◌≤◌, List, [], ◌∷◌, length, replicate, codes}
 use Rattle.std.specs.Str.{IsUtf8}
 use Rattle.lw_base.specs.declared.head.Arch.TheVariants.{Source}
 use Rattle.lw_base.specs.declared.head.Quant.TheVariants.{Exists}
-use Rattle.lw_base.specs.Characters.{is_blank, begins}
 use Rattle.lw_base.specs.Formula.{Formula}
 use Rattle.lw_base.specs.Heads.{TestHead}
-use Rattle.lw_text.specs.Tokens.{First, Tokens}
+use Rattle.lw_text.specs.Tokens.{Tokens}
+use Rattle.lw_text.specs.Headings.{Heading}
 use Rattle.lw_text.specs.Rows.{Header, Rows, columns}
 use Rattle.lw_text.specs.Conditions.{Claim, table, formula, Condition}
-
--- a test's name: 1 to 128 printing ASCII bytes
-pub record IsTestName (name : List ℕ) : Type 0 where
-  pub some : 0 < length name
-  pub short : length name ≤ 128
-  pub all : AllByRecursion (λ b. is_ascii_graphic b ≡ true) name
-
--- One or more blanks, the name, and then rest, which is empty or begins with a blank.
-pub record Named (text name rest : List ℕ) : Type 0 where
-  pub blanks : List ℕ
-  pub parts : text ≡ blanks ++ (name ++ rest)
-  pub apart : 0 < length blanks
-  pub blank : AllByRecursion (λ b. is_blank b ≡ true) blanks
-  pub is_name : IsTestName name
-  pub longest : begins (λ b. not (is_blank b)) rest ≡ false
-
--- The text is the word `SRC`, blanks and the name, and then rest.
-abbrev pub Heading : List ℕ → List ℕ → List ℕ → Type 0
-Heading text name rest = (mid : List ℕ) × First text (codes "SRC") mid × Named mid name rest
 
 -- `{ }`, the header, the rows and the condition
 abbrev pub Parts : List (List ℕ) → ℕ → List (List (List (List ℕ))) → List Claim → Type 0

@@ -1,4 +1,5 @@
 pub mod Tokens
+pub mod Headings
 pub mod Lists
 pub mod Rows
 pub mod Conditions

@@ -1,7 +1,7 @@
 //! The word of the architecture, and the name of the test.
 ghost use Rattle.std.specs.Prelude.{◌≡◌, ℕ, ◌≤◌, ◌↔◌, List, length, codes, IsTrue, IfOk, OnOk, OnErr, IfErr};
 ghost use Rattle.lw_text.specs.Tokens.{First};
-ghost use Rattle.lw_text.specs.Frames.{IsTestName, Named, Heading};
+ghost use Rattle.lw_text.specs.Headings.{IsTestName, Named, Heading};
 
 use crate::fault::{Cause, Fault};
 use crate::lexer::Lexer;
