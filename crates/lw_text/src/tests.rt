@@ -5,6 +5,8 @@ use lw_base::{Arch, Cpu, Prop, Quant};
 use std::alloc::{AllocError, Allocator};
 use std::test::Fail;
 
+mod gaps;
+
 /// Where a text is refused, and why.
 fn refused<A: Allocator + Copy>(alloc: A, text: &str) -> Option<(usize, TextCause)> {
     match read_frame(alloc, text.as_bytes()) {
@@ -118,9 +120,6 @@ fn first_word_and_name(rt: HostRuntime) -> Result<(), Fail> {
 fn block_and_header(rt: HostRuntime) {
     let alloc = rt.alloc();
     assert_eq!(rt; refused(alloc, "SRC A\n{x=1;}"), Some((7, Unexpected)));
-    assert_eq!(rt; refused(alloc, "SRC A\n\"q\" {}"), Some((6, Unexpected)));
-    assert_eq!(rt; refused(alloc, "SRC A\n(* c *) {}"), Some((6, Unexpected)));
-    assert_eq!(rt; refused(alloc, "SRC A\nKey=1\n{}"), Some((6, Unexpected)));
     assert_eq!(rt; refused(alloc, "SRC A\n{}\n P1 ;"), Some((10, Unexpected)));
     assert_eq!(rt;
         refused(alloc, "SRC A\n{}\n P0 , P1 ;"),
@@ -203,10 +202,6 @@ fn words_and_numbers(rt: HostRuntime) -> Result<(), Fail> {
         Some((15, Unexpected))
     );
     assert_eq!(rt; refused(alloc, "SRC A {} P0; x /"), Some((15, Unexpected)));
-    assert_eq!(rt;
-        refused(alloc, "SRC A {} P0; x (* c *); exists (x=1)"),
-        Some((15, Unexpected))
-    );
     let longest = repeated(alloc, "SRC A {} P0; exists (", "y", 32, "=1)")?;
     assert_eq!(rt; refused(alloc, longest.as_str()), None);
     let longer = repeated(alloc, "SRC A {} P0; exists (", "y", 33, "=1)")?;
