@@ -1,14 +1,15 @@
--- The word `SRC`, blanks and a test's name are read in one way.
-use Rattle.std.proofs.Common.{◌≡◌, ℕ, ◌<◌, inl, inr, true, false, not, List, [], ◌∷◌, ◌++◌, length, refl, sym, ap, ◌∙◌, subst, arith}
+-- The word `SRC`, blanks, a test's name and its notes are read in one way.
+use Rattle.std.proofs.Common.{◌≡◌, ℕ, inl, inr, true, false, not, List, [], ◌∷◌, ◌++◌, length, refl, sym, ap, ◌∙◌, subst, arith}
 use Rattle.std.specs.Prelude.{codes}
 use Rattle.std.specs.List.{AllByRecursion}
 use Rattle.std.specs.Char.{is_ascii_graphic}
 use Rattle.std.proofs.lemmas.Bool.{not-true, cases_Bool}
 use Rattle.lw_base.specs.Characters.{is_blank, begins}
 use Rattle.lw_text.specs.Tokens.{First}
-use Rattle.lw_text.specs.Headings.{IsTestName, Named, Heading}
+use Rattle.lw_text.specs.Headings.{IsTestName, Named, Notes, Heading}
 use Rattle.lw_text.proofs.Words.{run-unique, blank_all}
 use Rattle.lw_text.proofs.TokenRows.{First-unique}
+use Rattle.lw_text.proofs.NoteRows.{Notes-unique}
 
 abbrev Plain : List ℕ → Type 0
 Plain name = AllByRecursion (λ b. not (is_blank b) ≡ true) name
@@ -47,10 +48,18 @@ Named-unique text n r m s p q =
     (k.1, k.2)
 
 -- where no name stands behind the word there is no heading
-pub Heading-fault : (text mid : List ℕ) → First text (codes "SRC") mid → ((n r : List ℕ) → Named mid n r → ⊥) → (n r : List ℕ) → Heading text n r → ⊥
-Heading-fault text mid word never n r p = never n r (subst (λ x. Named x n r) (First-unique text (codes "SRC") p.0 (codes "SRC") mid p.1 word).1 p.2)
+pub no_named : (text mid : List ℕ) → First text (codes "SRC") mid → ((n r : List ℕ) → Named mid n r → ⊥) → (n r : List ℕ) → Heading text n r → ⊥
+no_named text mid word never n r p = never n p.1 (subst (λ x. Named x n p.1) (First-unique text (codes "SRC") p.0 (codes "SRC") mid p.2 word).1 p.3)
+
+-- nor where the notes behind the name don't come to a `{`
+pub no_notes : (text mid name after : List ℕ) → First text (codes "SRC") mid → Named mid name after → ((r : List ℕ) → Notes after r → ⊥) → (n r : List ℕ) → Heading text n r → ⊥
+no_notes text mid name after word named never n r p =
+    let e = (First-unique text (codes "SRC") p.0 (codes "SRC") mid p.2 word).1 in
+    let f = (Named-unique mid n p.1 name after (subst (λ x. Named x n p.1) e p.3) named).1 in
+    never r (subst (λ x. Notes x r) f p.4)
 
 pub Heading-unique : (text n r m s : List ℕ) → Heading text n r → Heading text m s → (n ≡ m) × (r ≡ s)
 Heading-unique text n r m s p q =
-    let e = (First-unique text (codes "SRC") p.0 (codes "SRC") q.0 p.1 q.1).1 in
-    Named-unique q.0 n r m s (subst (λ x. Named x n r) e p.2) q.2
+    let e = (First-unique text (codes "SRC") p.0 (codes "SRC") q.0 p.2 q.2).1 in
+    let f = Named-unique q.0 n p.1 m q.1 (subst (λ x. Named x n p.1) e p.3) q.3 in
+    (f.0, Notes-unique (subst (λ x. Notes x r) f.1 p.4) q.4)

@@ -2,9 +2,11 @@ pub mod Elements
 pub mod Numbers
 pub mod Texts
 pub mod Lists
+pub mod Comments
 pub mod Gaps
 pub mod Words
 pub mod TokenRows
+pub mod NoteRows
 pub mod Headings
 pub mod Headers
 pub mod CellPlaces

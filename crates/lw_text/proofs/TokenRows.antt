@@ -62,6 +62,10 @@ module _ (text start : List ℕ) (g : Gap text start) (stop : begins_gap start �
   pub no_first_from : ((t rest : List ℕ) → start ≡ t ++ rest → IsToken t rest → ⊥) → (t rest : List ℕ) → First text t rest → ⊥
   no_first_from never t rest q = never t rest (Gap-unique g q.0 stop (token_no_gap t rest q.1)) q.1
 
+-- where a comment isn't closed
+pub no_first_open : (text : List ℕ) → ((start : List ℕ) → begins_gap start ≡ false → Gap text start → ⊥) → (t rest : List ℕ) → First text t rest → ⊥
+no_first_open text never t rest q = never (t ++ rest) (token_no_gap t rest q.1) q.0
+
 -- a text that does not end and has no token first has no row of tokens
 pub Tokens-none : (text : List ℕ) → (Gap text [] → ⊥) → ((t rest : List ℕ) → First text t rest → ⊥) → (ts : List (List ℕ)) → Tokens text ts → ⊥
 Tokens-none text no_end no_token [] q = no_end q

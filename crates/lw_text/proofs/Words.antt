@@ -1,13 +1,10 @@
 -- Words and symbols, and what stands behind them.
-use Rattle.std.proofs.Common.{◌≡◌, ℕ, ◌<◌, inl, inr, Bool, true, false, not, List, [], ◌∷◌, ◌++◌, length, take, drop, refl, sym, ap, ◌∙◌, subst, arith}
-use Rattle.std.specs.Prelude.{◌==◌, nat_lt, Option, Some, None, MatchOption, is_some}
-use Rattle.std.specs.Str.{IsAscii, bytes_eq}
+use Rattle.std.proofs.Common.{◌≡◌, ℕ, ◌<◌, inl, inr, Bool, true, false, not, List, [], ◌∷◌, ◌++◌, length, refl, sym, ap, ◌∙◌, subst, arith}
+use Rattle.std.specs.Prelude.{◌==◌, Option, Some, None, MatchOption, is_some}
+use Rattle.std.specs.Str.{bytes_eq}
 use Rattle.std.specs.List.{AllByRecursion, list_any, list_all}
-use Rattle.std.proofs.lemmas.List.Elements.{All-from_recursion}
-use Rattle.std.proofs.lemmas.Str.Ascii.{IsAscii-from_all}
 use Rattle.std.proofs.lemmas.Slice.Eq.{bytes_eq-Decides}
-use Rattle.std.proofs.lemmas.Bool.{ltb-true, or_cases, and_parts, eqb-true, not-true, cases_Bool}
-use Rattle.std.proofs.lemmas.Bool.Decides.{nat_tests}
+use Rattle.std.proofs.lemmas.Bool.{or_cases, and_parts, eqb-true, not-true, cases_Bool}
 use Rattle.lw_base.specs.Characters.{is_blank, is_word_byte, begins}
 use Rattle.lw_base.specs.Names.{IsName}
 use Rattle.lw_text.specs.Tokens.{begins_gap, begins_pair, is_single, is_pair, pairs, singles, IsNumber, IsKind, IsWord, IsSymbol, IsToken}
@@ -30,7 +27,7 @@ abbrev pub Words : List ℕ → Type 0
 Words w = AllByRecursion (λ b. is_word_byte b ≡ true) w
 
 -- what holds of each of a list holds of one that is found there
-any_all : {X : Type 0} (same : X → X → Bool) → ((x y : X) → same x y ≡ true → x ≡ y) → (q : X → Bool) (xs : List X) (b : X) → list_all q xs ≡ true → list_any (λ s. same s b) xs ≡ true → q b ≡ true
+pub any_all : {X : Type 0} (same : X → X → Bool) → ((x y : X) → same x y ≡ true → x ≡ y) → (q : X → Bool) (xs : List X) (b : X) → list_all q xs ≡ true → list_any (λ s. same s b) xs ≡ true → q b ≡ true
 any_all same decides q [] b all any = absurd cc
 any_all same decides q (x ∷ xs) b all any =
     let each = and_parts (q x) (list_all q xs) all in
@@ -39,7 +36,7 @@ any_all same decides q (x ∷ xs) b all any =
       | inr h ↦ any_all same decides q xs b each.1 h
     ]
 
-same_byte : (x y : ℕ) → (x == y) ≡ true → x ≡ y
+pub same_byte : (x y : ℕ) → (x == y) ≡ true → x ≡ y
 same_byte x y h = eqb-true x y h
 
 pub blank_all : (q : ℕ → Bool) (b : ℕ) → list_all q (32 ∷ 9 ∷ 10 ∷ 13 ∷ []) ≡ true → is_blank b ≡ true → q b ≡ true
@@ -67,16 +64,26 @@ symbol_front (b ∷ []) rest h = not-true (is_word_byte b) (single_all (λ x. no
 symbol_front (b ∷ c ∷ []) rest h = not-true (is_word_byte b) (pair_all (begins (λ x. not (is_word_byte x))) b c refl h)
 symbol_front (b ∷ c ∷ d ∷ more) rest h = absurd h
 
-word_no_blank : (b : ℕ) → is_word_byte b ≡ true → is_blank b ≡ false
-word_no_blank b h = elim (cases_Bool (is_blank b)) [ inl e ↦ absurd (let k = not-true (is_word_byte b) (blank_all (λ x. not (is_word_byte x)) b refl e) in cc) | inr e ↦ e ]
+-- no gap begins with a byte that passes a test which no blank and no `(` passes
+pub no_gap_at : (p : ℕ → Bool) (b : ℕ) (text : List ℕ) → list_all (λ x. not (p x)) (32 ∷ 9 ∷ 10 ∷ 13 ∷ []) ≡ true → p 40 ≡ false → p b ≡ true → begins_gap (b ∷ text) ≡ false
+no_gap_at p b text blanks bracket h =
+    let k : is_blank b ≡ false = elim (cases_Bool (is_blank b)) [ inl e ↦ absurd (let i = not-true (p b) (blank_all (λ x. not (p x)) b blanks e) in cc) | inr e ↦ e ] in
+    let m : (b == 40) ≡ false = elim (cases_Bool (b == 40)) [ inl e ↦ absurd (let i : b ≡ 40 = eqb-true b 40 e in let j : p b ≡ p 40 = ap p i in cc) | inr e ↦ e ] in
+    rw (k, m) refl
 
 -- no gap begins where a token does
 pub token_no_gap : (t rest : List ℕ) → IsToken t rest → begins_gap (t ++ rest) ≡ false
 token_no_gap [] rest (inl w) = absurd (let n = kind_nonempty [] w.kind in omega arith)
-token_no_gap (b ∷ t) rest (inl w) = word_no_blank b w.all.0
+token_no_gap (b ∷ t) rest (inl w) = no_gap_at (is_word_byte) b (t ++ rest) refl refl w.all.0
 token_no_gap [] rest (inr s) = absurd s
-token_no_gap (b ∷ []) rest (inr s) = not-true (is_blank b) (single_all (λ x. not (is_blank x)) b refl s.0)
-token_no_gap (b ∷ c ∷ []) rest (inr s) = not-true (is_blank b) (pair_all (begins (λ x. not (is_blank x))) b c refl s)
+token_no_gap (b ∷ []) rest (inr s) =
+    let h = not-true (is_blank b) (single_all (λ x. not (is_blank x)) b refl s.0) in
+    let k = s.2 in
+    rw (h, k) refl
+token_no_gap (b ∷ c ∷ []) rest (inr s) =
+    let h = not-true (is_blank b) (pair_all (begins (λ x. not (is_blank x))) b c refl s) in
+    let k = not-true (b == 40) (pair_all (begins (λ x. not (x == 40))) b c refl s) in
+    rw (h, k) refl
 token_no_gap (b ∷ c ∷ d ∷ more) rest (inr s) = absurd s
 
 pub token_nonempty : (t rest : List ℕ) → IsToken t rest → 0 < length t

@@ -2,21 +2,37 @@
 --
 -- The form is the same throughout: `R text x rest` says that the text is an x, and then rest.
 -- The source is the format of the workbench, docs/FORMAT.md, which is close to herd's litmus tests.
-use Rattle.std.specs.Prelude.{◌≡◌, ℕ, ◌+◌, ◌*◌, ◌<◌, ◌^◌, ◌⊎◌, ◌==◌, ◌&&◌, Bool, true, false, List, [], ◌∷◌, ◌++◌, length, codes}
+use Rattle.std.specs.Prelude.{◌≡◌, ℕ, ◌+◌, ◌*◌, ◌<◌, ◌^◌, ◌⊎◌, ◌==◌, ◌&&◌, ◌||◌, Bool, true, false, List, [], ◌∷◌, ◌++◌, length, codes}
 use Rattle.std.specs.List.{list_any, AllByRecursion}
 use Rattle.std.specs.Str.{bytes_eq}
 use Rattle.std.specs.Char.{digit_value}
 use Rattle.lw_base.specs.Characters.{is_blank, is_word_byte, begins}
 use Rattle.lw_base.specs.Names.{IsName}
 
--- The text is what may stand between tokens, and then rest: blanks.
+-- whether these two bytes stand at the front
+abbrev pub begins_pair : ℕ → ℕ → List ℕ → Bool
+begins_pair a b [] = false
+begins_pair a b (c ∷ text) = c == a && begins (λ d. d == b) text
+
+-- whether a `(*` or a `*)` stands at the front
+abbrev pub begins_mark : List ℕ → Bool
+begins_mark text = begins_pair 40 42 text || begins_pair 42 41 text
+
+-- Behind a `(*`: the text goes on to the `*)` that closes it, with whole comments between, and then rest.
+pub data Comment : List ℕ → List ℕ → Type 0 where
+  closed : {rest : List ℕ} → Comment (42 ∷ 41 ∷ rest) rest
+  nested : {text inner rest : List ℕ} → Comment text inner → Comment inner rest → Comment (40 ∷ 42 ∷ text) rest
+  other : {b : ℕ} {text rest : List ℕ} → begins_mark (b ∷ text) ≡ false → Comment text rest → Comment (b ∷ text) rest
+
+-- The text is what may stand between tokens, and then rest: blanks and comments.
 pub data Gap : List ℕ → List ℕ → Type 0 where
   none : {rest : List ℕ} → Gap rest rest
   blank : {b : ℕ} {text rest : List ℕ} → is_blank b ≡ true → Gap text rest → Gap (b ∷ text) rest
+  comment : {text after rest : List ℕ} → Comment text after → Gap after rest → Gap (40 ∷ 42 ∷ text) rest
 
 -- whether something begins here that may stand between tokens
 abbrev pub begins_gap : List ℕ → Bool
-begins_gap text = begins is_blank text
+begins_gap text = begins is_blank text || begins_pair 40 42 text
 
 -- digits of this base, behind a front that stands for n, stand for v
 abbrev pub Digits : ℕ → ℕ → List ℕ → ℕ → Type 0
@@ -36,11 +52,6 @@ pub record IsWord (w rest : List ℕ) : Type 0 where
   pub all : AllByRecursion (λ b. is_word_byte b ≡ true) w
   pub longest : begins is_word_byte rest ≡ false
   pub kind : IsKind w
-
--- whether these two bytes stand at the front
-abbrev pub begins_pair : ℕ → ℕ → List ℕ → Bool
-begins_pair a b [] = false
-begins_pair a b (c ∷ text) = c == a && begins (λ d. d == b) text
 
 -- the symbols of two bytes
 abbrev pub pairs : List (List ℕ)

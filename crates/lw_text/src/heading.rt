@@ -1,4 +1,4 @@
-//! The word of the architecture, and the name of the test.
+//! What stands before a test's `{`: the word of the architecture, the test's name, and notes.
 ghost use Rattle.std.specs.Prelude.{◌≡◌, ℕ, ◌≤◌, ◌↔◌, List, length, codes, IsTrue, IfOk, OnOk, OnErr, IfErr};
 ghost use Rattle.lw_text.specs.Tokens.{First};
 ghost use Rattle.lw_text.specs.Headings.{IsTestName, Named, Heading};
@@ -8,7 +8,7 @@ use crate::lexer::Lexer;
 use lw_base::{ascii_text, blanks, until_blank};
 
 impl<'a> Lexer<'a> {
-    /// Takes the word `SRC`, the blanks behind it and the test's name.
+    /// Takes the word `SRC`, the blanks behind it, the test's name, and the notes up to a `{`.
     pub(crate) fn heading(&mut self) -> Result<&'a str, Fault>
         ensures found { IfOk result (λ name. Heading self.old.rest.now name.now self.new.rest.now) }
         ensures fault { OnErr result ((name rest : List ℕ) → Heading self.old.rest.now name rest → ⊥) }
@@ -16,7 +16,9 @@ impl<'a> Lexer<'a> {
         ensures same { self.new.text.now ≡ self.old.text.now }
     {
         self.source_word()?;
-        self.test_name()
+        let name = self.test_name()?;
+        self.notes()?;
+        Ok(name)
     }
 
     fn source_word(&mut self) -> Result<(), Fault>

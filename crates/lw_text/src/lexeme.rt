@@ -1,7 +1,7 @@
 //! Words, numbers and symbols.
 ghost use Rattle.std.specs.Prelude.{◌≡◌, ℕ, ◌<◌, ◌≤◌, ◌^◌, List, [], ◌∷◌, ◌++◌, IfSome, IfNone, IfOk, OnErr, MatchOption, true, false, IsTrue, ◌↔◌};
 ghost use Rattle.lw_text.specs.Tokens as symbols;
-ghost use Rattle.lw_text.specs.Tokens.{begins_gap, begins_pair, Digits, IsNumber, IsKind, IsToken};
+ghost use Rattle.lw_text.specs.Tokens.{begins_pair, Digits, IsNumber, IsKind, IsToken};
 
 use crate::fault::Cause;
 use crate::scan::{behind, split, word};

@@ -2,8 +2,8 @@
 ghost use Rattle.std.specs.Prelude.{◌≡◌, ℕ, ◌+◌, ◌-◌, ◌≤◌, List, [], ◌++◌, length, drop, IfOk, OnErr, IfErr, IfSome, MatchOption};
 
 use crate::fault::{Cause, Fault};
+use crate::gap::after_gap;
 use crate::lexeme::token;
-use crate::scan::after_gap;
 use crate::token::Token;
 
 /// Reads a text from left to right.
@@ -32,7 +32,7 @@ impl<'a> Lexer<'a> {
         self.text.len() - self.rest.len()
     }
 
-    /// The next token, or `None` at the end of the text.
+    /// The next token, or `None` where only blanks and comments are left.
     pub(crate) fn next(&mut self) -> Result<Option<Token<'a>>, Fault>
         ensures end { IfOk result (λ o. MatchOption o (Gap self.old.rest.now []) (λ t. First self.old.rest.now t.text.now self.new.rest.now)) }
         ensures no_end { OnErr result (Gap self.old.rest.now [] → ⊥) }
@@ -43,7 +43,12 @@ impl<'a> Lexer<'a> {
         ensures slice { IfOk result (λ o. IfSome o (λ t. drop t.at self.old.text.now ≡ t.text.now ++ self.new.rest.now)) }
         ensures same { self.new.text.now ≡ self.old.text.now }
     {
-        let start = after_gap(self.rest);
+        let Some(start) = after_gap(self.rest) else {
+            return Err(Fault {
+                at: self.text.len(),
+                cause: Cause::Unterminated,
+            });
+        };
         let at = self.text.len() - start.len();
         if start.is_empty() {
             return Ok(None);

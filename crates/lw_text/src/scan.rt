@@ -1,11 +1,11 @@
 //! The bytes at the front of a text.
-ghost use Rattle.std.specs.Prelude.{◌≡◌, ℕ, List, [], ◌∷◌, ◌++◌, MatchOption, false, true};
+ghost use Rattle.std.specs.Prelude.{◌≡◌, ◌==◌, [], ◌∷◌, ◌++◌, MatchOption, false, true};
 ghost use Rattle.std.specs.List.{AllByRecursion};
 ghost use Rattle.lw_base.specs.Characters as characters;
 ghost use Rattle.lw_base.specs.Characters.{begins};
-ghost use Rattle.lw_text.specs.Tokens.{begins_pair, Gap, begins_gap};
+ghost use Rattle.lw_text.specs.Tokens.{begins_pair};
 
-use lw_base::{blanks, is_word_byte};
+use lw_base::is_word_byte;
 
 /// The first byte, and what stands behind it.
 pub(crate) fn split(bytes: &[u8]) -> Option<(u8, &[u8])>
@@ -13,6 +13,14 @@ pub(crate) fn split(bytes: &[u8]) -> Option<(u8, &[u8])>
 {
     let (first, rest) = bytes.split_first()?;
     Some((*first, rest))
+}
+
+/// What stands behind this byte, or `None` where another stands at the front.
+pub(crate) fn behind_byte(bytes: &[u8], byte: u8) -> Option<&[u8]>
+    ensures { MatchOption result (begins (λ b. b == byte) bytes.now ≡ false) (λ rest. bytes.now ≡ byte ∷ rest.now) }
+{
+    let (first, rest) = split(bytes)?;
+    if first == byte { Some(rest) } else { None }
 }
 
 /// What stands behind these two bytes, or `None` where others stand at the front.
@@ -26,14 +34,6 @@ pub(crate) fn behind(bytes: &[u8], first: u8, second: u8) -> Option<&[u8]>
     } else {
         None
     }
-}
-
-/// What stands behind the blanks at the front.
-pub(crate) fn after_gap(bytes: &[u8]) -> &[u8]
-    ensures found { Gap bytes.now result.now }
-    ensures stops { begins_gap result.now ≡ false }
-{
-    blanks(bytes).1
 }
 
 /// The letters, digits and `_` at the front, and what stands behind them.

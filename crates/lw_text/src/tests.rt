@@ -1,4 +1,5 @@
 //! Texts with the answers that the format gives them, typed in.
+mod gaps;
 mod propositions;
 
 use super::*;
@@ -120,9 +121,6 @@ fn first_word_and_name(rt: HostRuntime) -> Result<(), Fail> {
 fn block_and_header(rt: HostRuntime) {
     let alloc = rt.alloc();
     assert_eq!(rt; refused(alloc, "SRC A\n{x=1;}"), Some((7, Unexpected)));
-    assert_eq!(rt; refused(alloc, "SRC A\n\"q\" {}"), Some((6, Unexpected)));
-    assert_eq!(rt; refused(alloc, "SRC A\n(* c *) {}"), Some((6, Unexpected)));
-    assert_eq!(rt; refused(alloc, "SRC A\nKey=1\n{}"), Some((6, Unexpected)));
     assert_eq!(rt; refused(alloc, "SRC A\n{}\n P1 ;"), Some((10, Unexpected)));
     assert_eq!(rt;
         refused(alloc, "SRC A\n{}\n P0 , P1 ;"),
@@ -205,10 +203,6 @@ fn words_and_numbers(rt: HostRuntime) -> Result<(), Fail> {
         Some((15, Unexpected))
     );
     assert_eq!(rt; refused(alloc, "SRC A {} P0; x /"), Some((15, Unexpected)));
-    assert_eq!(rt;
-        refused(alloc, "SRC A {} P0; x (* c *); exists (x=1)"),
-        Some((15, Unexpected))
-    );
     let longest = repeated(alloc, "SRC A {} P0; exists (", "y", 32, "=1)")?;
     assert_eq!(rt; refused(alloc, longest.as_str()), None);
     let longer = repeated(alloc, "SRC A {} P0; exists (", "y", 33, "=1)")?;

@@ -5,7 +5,8 @@ use Rattle.lw_base.specs.Heads.{head_of}
 use Rattle.lw_text.specs.Rows.{columns}
 use Rattle.lw_text.specs.Conditions.{table, formula}
 use Rattle.lw_text.specs.Claims.{named}
-use Rattle.lw_text.specs.Frames.{Heading, Parts, source_head}
+use Rattle.lw_text.specs.Headings.{Heading}
+use Rattle.lw_text.specs.Frames.{Parts, source_head}
 use Rattle.lw_text.specs.Places.{all_texts}
 use Rattle.lw_text.specs.Views.{left}
 use Rattle.lw_text.proofs.TokenRows.{Spans-places}
