@@ -21,6 +21,9 @@ pub mod Atoms
 pub mod Sites
 pub mod Entries
 pub mod SignRows
+pub mod PropositionRows
 pub mod Whole
+pub mod Bodies
+pub mod PlacedHeads
 pub mod Says
 pub mod Pending

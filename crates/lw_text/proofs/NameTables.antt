@@ -41,7 +41,7 @@ there_at (y ∷ names) t h =
 pub appeared_at : (before after : List (List ℕ)) (loc : ℕ) (t : List ℕ) → after ≡ with_name before t → loc ≡ place_of after t → slice_get after loc ≡ Some t
 appeared_at before after loc t e f = rw (f, e) (there_at (with_name before t) t (is_there-with_name before t))
 
-slice_get-within : (names : List (List ℕ)) (i : ℕ) → i < length names → slice_get names i ≡ Some (get_or names i [])
+pub slice_get-within : (names : List (List ℕ)) (i : ℕ) → i < length names → slice_get names i ≡ Some (get_or names i [])
 slice_get-within [] i lt = absurd (omega arith)
 slice_get-within (y ∷ names) zero lt = refl
 slice_get-within (y ∷ names) (suc i) lt = slice_get-within names i (omega arith)

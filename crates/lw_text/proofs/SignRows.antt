@@ -20,7 +20,7 @@ use Rattle.lw_text.proofs.Readings.{names_up_to}
 -- ---- a sign
 
 -- no site begins with this word
-abbrev IsNoSite : List ℕ → Type 0
+abbrev pub IsNoSite : List ℕ → Type 0
 IsNoSite w = (ts rest mid : List (List ℕ)) (site : Site) → ts ≡ w ∷ rest → IsSite ts site mid → ⊥
 
 reserved_no_site : (w : List ℕ) → is_reserved w ≡ true → ((n : ℕ) → IsNumber w n → ⊥) → (w ≡ codes "[" → ⊥) → IsNoSite w
@@ -31,10 +31,10 @@ reserved_no_site w r no_number no_bracket ts rest mid (InThread t n) e p = let f
 symbol_no_site : (w : List ℕ) → (IsName w → ⊥) → ((n : ℕ) → IsNumber w n → ⊥) → (w ≡ codes "[" → ⊥) → IsNoSite w
 symbol_no_site w no_name no_number no_bracket ts rest mid site e p = elim (site_front ts mid site p w rest e) [ inl h ↦ no_name h | inr h ↦ elim h [ inl k ↦ no_number k.0 k.1 | inr k ↦ no_bracket k ] ]
 
-open_no_site : IsNoSite (codes "(")
+pub open_no_site : IsNoSite (codes "(")
 open_no_site = symbol_no_site (codes "(") (λ n. let h = n.0.all.0 in cc) (λ n h. let k = number_first (codes "(") n h in cc) (λ e. is_no_text (codes "(") (codes "[") refl e)
 
-close_no_site : IsNoSite (codes ")")
+pub close_no_site : IsNoSite (codes ")")
 close_no_site = symbol_no_site (codes ")") (λ n. let h = n.0.all.0 in cc) (λ n h. let k = number_first (codes ")") n h in cc) (λ e. is_no_text (codes ")") (codes "[") refl e)
 
 tilde_no_site : IsNoSite (codes "~")
@@ -70,7 +70,7 @@ site_alone threads ts mid site p never (Atom (Holds other n)) rest q = never n r
 -- ---- signs are read in one way
 
 -- the sign that a word is
-abbrev sign_word : List ℕ → Option (Sign Claim)
+abbrev pub sign_word : List ℕ → Option (Sign Claim)
 sign_word w =
     if bytes_eq w (codes "(") then Some Open
     else if bytes_eq w (codes ")") then Some Close
@@ -83,22 +83,22 @@ sign_word w =
     else None
 
 -- a sign is a word, or a site and its value
-record Word (ts : List (List ℕ)) (s : Sign Claim) (rest : List (List ℕ)) : Type 0 where
-  word : List ℕ
-  stands : ts ≡ word ∷ rest
-  is : sign_word word ≡ Some s
-  apart : IsNoSite word
+pub record Word (ts : List (List ℕ)) (s : Sign Claim) (rest : List (List ℕ)) : Type 0 where
+  pub word : List ℕ
+  pub stands : ts ≡ word ∷ rest
+  pub is : sign_word word ≡ Some s
+  pub apart : IsNoSite word
 
-record Claimed (threads : ℕ) (ts : List (List ℕ)) (s : Sign Claim) (rest : List (List ℕ)) : Type 0 where
-  site : Site
-  n : ℕ
-  mid : List (List ℕ)
-  is : s ≡ Atom (Holds site n)
-  site_is : IsSite ts site mid
-  there : IsThere threads site
-  value : Value mid n rest
+pub record Claimed (threads : ℕ) (ts : List (List ℕ)) (s : Sign Claim) (rest : List (List ℕ)) : Type 0 where
+  pub site : Site
+  pub n : ℕ
+  pub mid : List (List ℕ)
+  pub is : s ≡ Atom (Holds site n)
+  pub site_is : IsSite ts site mid
+  pub there : IsThere threads site
+  pub value : Value mid n rest
 
-front : (threads : ℕ) (ts rest : List (List ℕ)) (s : Sign Claim) → IsSign threads ts s rest → Word ts s rest ⊎ Claimed threads ts s rest
+pub front : (threads : ℕ) (ts rest : List (List ℕ)) (s : Sign Claim) → IsSign threads ts s rest → Word ts s rest ⊎ Claimed threads ts s rest
 front threads ts rest Open e = inl (record { word = codes "("; stands = e; is = refl; apart = open_no_site })
 front threads ts rest Close e = inl (record { word = codes ")"; stands = e; is = refl; apart = close_no_site })
 front threads ts rest Negation (inl e) = inl (record { word = codes "~"; stands = e; is = refl; apart = tilde_no_site })

@@ -1,49 +1,188 @@
 -- A text's frame is that of its one heading and its one row of tokens.
-use Rattle.std.proofs.Common.{◌≡◌, ℕ, zero, suc, ◌≤◌, List, [], ◌∷◌, length, refl, sym, ◌∙◌, subst, arith}
-use Rattle.std.specs.Prelude.{Option, Some, None, IfNone, OnSome, codes, All}
-use Rattle.std.specs.List.{AllByRecursion}
+use Rattle.std.proofs.Common.{◌≡◌, ℕ, zero, suc, ◌+◌, ◌<◌, ◌≤◌, ◌&&◌, inl, inr, Bool, true, false, List, [], ◌∷◌, ◌++◌, length, map, refl, sym, ap, ◌∙◌, subst, arith}
+use Rattle.std.specs.Prelude.{Option, Some, None, IfNone, OnSome, codes, filter, All}
+use Rattle.std.specs.List.{AllByRecursion, list_all}
 use Rattle.std.proofs.lemmas.List.{length-map}
 use Rattle.std.proofs.lemmas.List.Elements.{All-from_recursion}
+use Rattle.lw_base.specs.declared.head.Quant.{Quant}
+use Rattle.lw_base.specs.declared.head.Quant.TheVariants.{Exists, NotExists, Forall}
+use Rattle.lw_base.specs.Formula.{Formula}
+use Rattle.lw_base.specs.Tables.{with_names}
+use Rattle.lw_base.proofs.GrowingTables.{with_names-append, with_names-longer}
 use Rattle.lw_text.specs.declared.cell.Cell.{Cell}
+use Rattle.lw_text.specs.declared.site.Site.{Site as MadeSite}
+use Rattle.lw_text.specs.declared.site.Site.TheVariants as made
+use Rattle.lw_text.specs.declared.block.Entry.{Entry as MadeEntry}
 use Rattle.lw_text.specs.Tokens.{Tokens}
+use Rattle.lw_text.specs.Headings.{Heading}
 use Rattle.lw_text.specs.Lists.{Until}
 use Rattle.lw_text.specs.Rows.{Header, Line, Rows, begins_stop}
-use Rattle.lw_text.specs.Conditions.{Claim, Condition}
-use Rattle.lw_text.specs.Frames.{Parts, TestFrame, HasFrame, made_of}
+use Rattle.lw_text.specs.Sites.{Site, IsThere, site_names}
+use Rattle.lw_text.specs.Propositions.{Sign, is_node, IsProposition}
+use Rattle.lw_text.specs.Conditions.{Claim, Listed, Quantified, Signs, Condition, sites_in, placed}
+use Rattle.lw_text.specs.Frames.{Entry, Block, Said, table, Parts, TestFrame, HasFrame, made_of}
 use Rattle.lw_text.specs.Places.{cell_texts, all_texts}
-use Rattle.lw_text.proofs.Headers.{Names-unique}
+use Rattle.lw_text.specs.Placed.{named, named_entry, is_there}
+use Rattle.lw_text.proofs.Blocks.{Block-unique}
 use Rattle.lw_text.proofs.Cells.{Rows-unique}
-use Rattle.lw_text.proofs.ClaimLists.{Condition-unique}
-use Rattle.lw_text.proofs.TokenRows.{Tokens-unique}
+use Rattle.lw_text.proofs.Headers.{Names-unique}
 use Rattle.lw_text.proofs.Headings.{Heading-unique}
+use Rattle.lw_text.proofs.Listings.{Listed-unique}
+use Rattle.lw_text.proofs.Readings.{site_names-append}
+use Rattle.lw_text.proofs.Says.{IsProposition-unique}
+use Rattle.lw_text.proofs.SignRows.{Signs-unique}
+use Rattle.lw_text.proofs.Texts.{is_no_text}
+use Rattle.lw_text.proofs.TokenRows.{Tokens-unique}
 
--- ---- the parts of a row of tokens
+-- ---- the table of names
 
-module _ (ts k a b : List (List ℕ)) (n : ℕ) (e : ts ≡ codes "{" ∷ k) (f : k ≡ codes "}" ∷ a) (header : Header a n b) where
-  -- the rest behind the header is that of all parts
-  behind_header : {A : Type 0} → ((rows : List (List (List (List ℕ)))) (c : List (List ℕ)) (claims : List Claim) → Rows n b rows c → Condition n c claims → A) → (threads : ℕ) (rows : List (List (List (List ℕ)))) (claims : List Claim) → Parts ts threads rows claims → A
-  behind_header apply threads rows claims p =
-      let g = p.3 in
-      let i : p.0 ≡ a = cc in
-      let u = Names-unique 0 threads n a p.1 b (subst (λ x. Header x threads p.1) i p.4).0 header.0 in
-      apply rows p.2 claims (subst (λ x. Rows n x rows p.2) u.1 (subst (λ x. Rows x p.1 rows p.2) u.0 p.5)) (subst (λ x. Condition x p.2 claims) u.0 p.6)
+-- the sites of the initial block
+abbrev pub block_sites : List Entry → List Site
+block_sites entries = map (λ e. e.site) entries
 
-  -- where no rows stand there are no parts
-  pub parts_rows : ((rows : List (List (List (List ℕ)))) (c : List (List ℕ)) → Rows n b rows c → ⊥) → (threads : ℕ) (rows : List (List (List (List ℕ)))) (claims : List Claim) → Parts ts threads rows claims → ⊥
-  parts_rows never = behind_header (λ rows c claims r q. never rows c r)
+pub table_parts : (s : Said) → table s ≡ with_names (with_names (with_names [] (site_names (block_sites s.entries))) (site_names s.listed)) (site_names (sites_in s.signs))
+table_parts s =
+    ap (with_names []) (site_names-append (block_sites s.entries ++ s.listed) (sites_in s.signs) ∙ ap (λ l. l ++ site_names (sites_in s.signs)) (site_names-append (block_sites s.entries) s.listed))
+    ∙ with_names-append [] (site_names (block_sites s.entries) ++ site_names s.listed) (site_names (sites_in s.signs))
+    ∙ ap (λ ns. with_names ns (site_names (sites_in s.signs))) (with_names-append [] (site_names (block_sites s.entries)) (site_names s.listed))
 
-  -- where no condition stands behind the rows there are none either
-  pub parts_condition : (rows : List (List (List (List ℕ)))) (c : List (List ℕ)) → Rows n b rows c → ((claims : List Claim) → Condition n c claims → ⊥) → (threads : ℕ) (others : List (List (List (List ℕ)))) (claims : List Claim) → Parts ts threads others claims → ⊥
-  parts_condition rows c here never = behind_header (λ others d claims r q. never claims (subst (λ x. Condition n x claims) (Rows-unique n b d c others rows r here).1 q))
+pub sites_of_block : (names : List (List ℕ)) (es : List MadeEntry) → block_sites (map (named_entry names) es) ≡ map (λ e. named names e.site) es
+sites_of_block names [] = refl
+sites_of_block names (e ∷ es) = ap (λ l. named names e.site ∷ l) (sites_of_block names es)
 
-pub Parts-unique : (ts : List (List ℕ)) (m n : ℕ) (x y : List (List (List (List ℕ)))) (a b : List Claim) → Parts ts m x a → Parts ts n y b → (m ≡ n) × (x ≡ y) × (a ≡ b)
-Parts-unique ts m n x y a b p q =
-    let f = p.3 in
-    let g = q.3 in
-    let i : q.0 ≡ p.0 = cc in
-    let u = Names-unique 0 m n p.0 p.1 q.1 p.4.0 (subst (λ l. Header l n q.1) i q.4).0 in
-    let r = Rows-unique n q.1 p.2 q.2 x y (subst (λ l. Rows n l x p.2) u.1 (subst (λ t. Rows t p.1 x p.2) u.0 p.5)) q.5 in
-    (u.0, r.0, Condition-unique n q.2 a b (subst (λ l. Condition n l a) r.1 (subst (λ t. Condition t p.2 a) u.0 p.6)) q.6)
+-- ---- threads that are there
+
+there_one : (threads : ℕ) (names : List (List ℕ)) (s : MadeSite) → is_there threads s ≡ true → IsThere threads (named names s)
+there_one threads names (made.Location loc) h = tt
+there_one threads names (made.Register t r) h = grind arith
+
+one_there : (threads : ℕ) (names : List (List ℕ)) (s : MadeSite) → IsThere threads (named names s) → is_there threads s ≡ true
+one_there threads names (made.Location loc) h = refl
+one_there threads names (made.Register t r) h = grind arith
+
+both : (a b : Bool) → (a && b) ≡ true → (a ≡ true) × (b ≡ true)
+both true b e = (refl, e)
+both false b e = absurd cc
+
+pub all_there : (threads : ℕ) (names : List (List ℕ)) (es : List MadeEntry) → list_all (λ e. is_there threads e.site) es ≡ true → AllByRecursion (λ e. IsThere threads e.site) (map (named_entry names) es)
+all_there threads names [] h = tt
+all_there threads names (e ∷ es) h =
+    let k = both (is_there threads e.site) (list_all (λ e. is_there threads e.site) es) h in
+    (there_one threads names e.site k.0, all_there threads names es k.1)
+
+pub there_all : (threads : ℕ) (names : List (List ℕ)) (es : List MadeEntry) → AllByRecursion (λ e. IsThere threads e.site) (map (named_entry names) es) → list_all (λ e. is_there threads e.site) es ≡ true
+there_all threads names [] h = refl
+there_all threads names (e ∷ es) h = rw (one_there threads names e.site h.0, there_all threads names es h.1) refl
+
+-- ---- the quantifier
+
+pub Quantified-unique : (ts : List (List ℕ)) (p q : Quant) (r s : List (List ℕ)) → Quantified ts p r → Quantified ts q s → (p ≡ q) × (r ≡ s)
+Quantified-unique ts Exists Exists r s e f = (refl, cc)
+Quantified-unique ts Exists NotExists r s e f = absurd (let k : codes "exists" ≡ codes "~" = cc in is_no_text (codes "exists") (codes "~") refl k)
+Quantified-unique ts Exists Forall r s e f = absurd (let k : codes "exists" ≡ codes "forall" = cc in is_no_text (codes "exists") (codes "forall") refl k)
+Quantified-unique ts NotExists Exists r s e f = absurd (let k : codes "exists" ≡ codes "~" = cc in is_no_text (codes "exists") (codes "~") refl k)
+Quantified-unique ts NotExists NotExists r s e f = (refl, cc)
+Quantified-unique ts NotExists Forall r s e f = absurd (let k : codes "forall" ≡ codes "~" = cc in is_no_text (codes "forall") (codes "~") refl k)
+Quantified-unique ts Forall Exists r s e f = absurd (let k : codes "exists" ≡ codes "forall" = cc in is_no_text (codes "exists") (codes "forall") refl k)
+Quantified-unique ts Forall NotExists r s e f = absurd (let k : codes "forall" ≡ codes "~" = cc in is_no_text (codes "forall") (codes "~") refl k)
+Quantified-unique ts Forall Forall r s e f = (refl, cc)
+
+-- ---- where the parts end early
+
+pub no_block : (ts : List (List ℕ)) → ((es : List Entry) (rest : List (List ℕ)) → Block ts es rest → length (with_names [] (site_names (block_sites es))) ≤ 8 → ⊥) → (s : Said) → Parts ts s → ⊥
+no_block ts never s p =
+    never s.entries p.behind_block p.block
+    (omega (arith, p.few_names, ap length (table_parts s), with_names-longer (with_names [] (site_names (block_sites s.entries))) (site_names s.listed), with_names-longer (with_names (with_names [] (site_names (block_sites s.entries))) (site_names s.listed)) (site_names (sites_in s.signs))))
+
+module _ (ts a : List (List ℕ)) (entries : List Entry) (block : Block ts entries a) where
+  at_header : (s : Said) (p : Parts ts s) → (s.entries ≡ entries) × Header a s.threads p.behind_header
+  at_header s p = let e = Block-unique ts s.entries entries p.behind_block a p.block block in (e.0, subst (λ l. Header l s.threads p.behind_header) e.1 p.header)
+
+  pub no_header : ((n : ℕ) (rest : List (List ℕ)) → Header a n rest → ⊥) → (s : Said) → Parts ts s → ⊥
+  no_header never s p = never s.threads p.behind_header (at_header s p).1
+
+  module _ (n : ℕ) (b : List (List ℕ)) (header : Header a n b) where
+    at_rows : (s : Said) (p : Parts ts s) → (s.entries ≡ entries) × (s.threads ≡ n) × Rows n b s.rows p.behind_rows × Condition n p.behind_rows s.listed s.quant s.signs
+    at_rows s p =
+        let h = at_header s p in
+        let u = Names-unique 0 s.threads n a p.behind_header b h.1.0 header.0 in
+        (h.0, u.0, subst (λ l. Rows n l s.rows p.behind_rows) u.1 (subst (λ m. Rows m p.behind_header s.rows p.behind_rows) u.0 p.rows), subst (λ m. Condition m p.behind_rows s.listed s.quant s.signs) u.0 p.condition)
+
+    pub no_thread : (names : List (List ℕ)) (es : List MadeEntry) → entries ≡ map (named_entry names) es → list_all (λ e. is_there n e.site) es ≡ false → (s : Said) → Parts ts s → ⊥
+    no_thread names es is none s p =
+        let h = at_rows s p in
+        let there = there_all n names es (subst (λ l. AllByRecursion (λ e. IsThere n e.site) l) (h.0 ∙ is) (subst (λ m. AllByRecursion (λ e. IsThere m e.site) s.entries) h.1 p.there)) in
+        cc
+
+    pub no_rows : ((rows : List (List (List (List ℕ)))) (rest : List (List ℕ)) → Rows n b rows rest → ⊥) → (s : Said) → Parts ts s → ⊥
+    no_rows never s p = never s.rows p.behind_rows (at_rows s p).2
+
+    module _ (rows : List (List (List (List ℕ)))) (c : List (List ℕ)) (are_rows : Rows n b rows c) (first : List (List ℕ)) (is_first : first ≡ with_names [] (site_names (block_sites entries))) where
+      at_condition : (s : Said) → Parts ts s → (s.entries ≡ entries) × (s.threads ≡ n) × (s.rows ≡ rows) × Condition n c s.listed s.quant s.signs
+      at_condition s p =
+          let h = at_rows s p in
+          let u = Rows-unique n b p.behind_rows c s.rows rows h.2 are_rows in
+          (h.0, h.1, u.0, subst (λ l. Condition n l s.listed s.quant s.signs) u.1 h.3)
+
+      names_of_block : (s : Said) → s.entries ≡ entries → with_names [] (site_names (block_sites s.entries)) ≡ first
+      names_of_block s e = ap (λ es. with_names [] (site_names (block_sites es))) e ∙ sym is_first
+
+      pub no_list : ((ss : List Site) (rest : List (List ℕ)) → Listed c ss rest → AllByRecursion (IsThere n) ss → length (with_names first (site_names ss)) ≤ 8 → ⊥) → (s : Said) → Parts ts s → ⊥
+      no_list never s p =
+          let h = at_condition s p in
+          never s.listed h.3.behind_list h.3.lists h.3.there
+          (omega (arith, p.few_names, ap length (table_parts s), ap (λ ns. length (with_names ns (site_names s.listed))) (names_of_block s h.0), with_names-longer (with_names (with_names [] (site_names (block_sites s.entries))) (site_names s.listed)) (site_names (sites_in s.signs))))
+
+      module _ (listed : List Site) (d : List (List ℕ)) (lists : Listed c listed d) where
+        pub no_quant : ((q : Quant) (rest : List (List ℕ)) → Quantified d q rest → ⊥) → (s : Said) → Parts ts s → ⊥
+        no_quant never s p =
+            let h = at_condition s p in
+            let u = Listed-unique c s.listed listed h.3.behind_list d h.3.lists lists in
+            never s.quant h.3.behind_quant (subst (λ l. Quantified l s.quant h.3.behind_quant) u.1 h.3.quantifies)
+
+        module _ (quant : Quant) (e : List (List ℕ)) (quantifies : Quantified d quant e) (names : List (List ℕ)) (is_names : names ≡ with_names first (site_names listed)) where
+          at_signs : (s : Said) → Parts ts s → (table s ≡ with_names names (site_names (sites_in s.signs))) × Signs n e s.signs
+          at_signs s p =
+              let h = at_condition s p in
+              let u = Listed-unique c s.listed listed h.3.behind_list d h.3.lists lists in
+              let v = Quantified-unique d s.quant quant h.3.behind_quant e (subst (λ l. Quantified l s.quant h.3.behind_quant) u.1 h.3.quantifies) quantifies in
+              let same : with_names (with_names [] (site_names (block_sites s.entries))) (site_names s.listed) ≡ names = ap (λ ns. with_names ns (site_names s.listed)) (names_of_block s h.0) ∙ ap (λ ss. with_names first (site_names ss)) u.0 ∙ sym is_names in
+              (table_parts s ∙ ap (λ ns. with_names ns (site_names (sites_in s.signs))) same, subst (λ l. Signs n l s.signs) v.1 h.3.says)
+
+          pub no_signs : ((ss : List (Sign Claim)) (p : Formula) → Signs n e ss → length (with_names names (site_names (sites_in ss))) ≤ 8 → length (filter is_node ss) ≤ 256 → IsProposition (map (placed (with_names names (site_names (sites_in ss)))) ss) p → ⊥) → (s : Said) (p : Formula) → Parts ts s → IsProposition (map (placed (table s)) s.signs) p → ⊥
+          no_signs never s f p whole =
+              let h = at_signs s p in
+              never s.signs f h.1 (omega (arith, p.few_names, ap length h.0)) p.few_nodes (subst (λ ns. IsProposition (map (placed ns) s.signs) f) h.0 whole)
+
+pub Parts-unique : (ts : List (List ℕ)) (s t : Said) → Parts ts s → Parts ts t → s ≡ t
+Parts-unique ts s t p q =
+    let h = at_condition ts q.behind_block t.entries q.block t.threads q.behind_header q.header t.rows q.behind_rows q.rows (with_names [] (site_names (block_sites t.entries))) refl s p in
+    let u = Listed-unique q.behind_rows s.listed t.listed h.3.behind_list q.condition.behind_list h.3.lists q.condition.lists in
+    let v = Quantified-unique q.condition.behind_list s.quant t.quant h.3.behind_quant q.condition.behind_quant (subst (λ l. Quantified l s.quant h.3.behind_quant) u.1 h.3.quantifies) q.condition.quantifies in
+    let w = Signs-unique t.threads s.signs t.signs q.condition.behind_quant (subst (λ l. Signs t.threads l s.signs) v.1 h.3.says) q.condition.says in
+    let a : s.entries ≡ t.entries = h.0 in
+    let b : s.threads ≡ t.threads = h.1 in
+    let c : s.rows ≡ t.rows = h.2 in
+    let d : s.listed ≡ t.listed = u.0 in
+    let e : s.quant ≡ t.quant = v.0 in
+    same_said s t a b c d e w
+  where
+    same_said : (s t : Said) → s.entries ≡ t.entries → s.threads ≡ t.threads → s.rows ≡ t.rows → s.listed ≡ t.listed → s.quant ≡ t.quant → s.signs ≡ t.signs → s ≡ t
+    same_said s t a b c d e f =
+        ap (λ x. record { entries = x; threads = s.threads; rows = s.rows; listed = s.listed; quant = s.quant; signs = s.signs }) a
+        ∙ ap (λ (x : ℕ). record { entries = t.entries; threads = x; rows = s.rows; listed = s.listed; quant = s.quant; signs = s.signs }) b
+        ∙ ap (λ x. record { entries = t.entries; threads = t.threads; rows = x; listed = s.listed; quant = s.quant; signs = s.signs }) c
+        ∙ ap (λ x. record { entries = t.entries; threads = t.threads; rows = t.rows; listed = x; quant = s.quant; signs = s.signs }) d
+        ∙ ap (λ (x : Quant). record { entries = t.entries; threads = t.threads; rows = t.rows; listed = t.listed; quant = x; signs = s.signs }) e
+        ∙ ap (λ x. record { entries = t.entries; threads = t.threads; rows = t.rows; listed = t.listed; quant = t.quant; signs = x }) f
+
+-- ---- what a body says
+
+module _ (ts a : List (List ℕ)) (names : List (List ℕ)) (es : List MadeEntry) (block : Block ts (map (named_entry names) es) a) (is_names : names ≡ with_names [] (site_names (map (λ e. named names e.site) es))) where
+  pub first_names : names ≡ with_names [] (site_names (block_sites (map (named_entry names) es)))
+  first_names = is_names ∙ ap (λ l. with_names [] (site_names l)) (sym (sites_of_block names es))
+
+-- ---- rows
 
 pub header_some : (ts rest : List (List ℕ)) (n : ℕ) → Header ts n rest → 1 ≤ n
 header_some ts rest zero h = absurd h.0
@@ -59,25 +198,26 @@ Rows-even n rows ts rest r = All-from_recursion (λ row. length row ≡ n) rows 
 
 -- ---- the text
 
+-- No parts with a proposition.
+abbrev pub NoParts : List (List ℕ) → Type 0
+NoParts ts = (s : Said) (p : Formula) → Parts ts s → IsProposition (map (placed (table s)) s.signs) p → ⊥
+
 -- where a text's tokens, if it has some, are no parts, it has no frame
-pub no_frame : (text name rest : List ℕ) → Heading text name rest → ((ts : List (List ℕ)) → Tokens rest ts → (threads : ℕ) (rows : List (List (List (List ℕ)))) (claims : List Claim) → Parts ts threads rows claims → ⊥) → (frame : TestFrame) → HasFrame text frame → ⊥
+pub no_frame : (text name rest : List ℕ) → Heading text name rest → ((ts : List (List ℕ)) → Tokens rest ts → NoParts ts) → (frame : TestFrame) → HasFrame text frame → ⊥
 no_frame text name rest heading never frame h =
     let e = (Heading-unique text h.name h.rest name rest h.heading heading).1 in
-    never h.tokens (subst (λ x. Tokens x h.tokens) e h.row) h.threads h.rows h.claims h.parts
+    never h.tokens (subst (λ x. Tokens x h.tokens) e h.row) h.said h.condition h.parts h.proposition
 
 -- the tokens up to the first lexical fault, if there is one, are no parts
-pub no_parts : {F : Type 0} (o : Option F) (rest : List ℕ) (ts : List (List ℕ)) → IfNone o (Tokens rest ts) → OnSome o ((us : List (List ℕ)) → Tokens rest us → ⊥) → ((threads : ℕ) (rows : List (List (List (List ℕ)))) (claims : List Claim) → Parts ts threads rows claims → ⊥) → (us : List (List ℕ)) → Tokens rest us → (threads : ℕ) (rows : List (List (List (List ℕ)))) (claims : List Claim) → Parts us threads rows claims → ⊥
-no_parts None rest ts row fault never us other threads rows claims p = never threads rows claims (subst (λ x. Parts x threads rows claims) (Tokens-unique us ts rest other row) p)
-no_parts (Some f) rest ts row fault never us other threads rows claims p = fault us other
+pub no_parts : {F : Type 0} (o : Option F) (rest : List ℕ) (ts : List (List ℕ)) → IfNone o (Tokens rest ts) → OnSome o ((us : List (List ℕ)) → Tokens rest us → ⊥) → NoParts ts → (us : List (List ℕ)) → Tokens rest us → NoParts us
+no_parts None rest ts row fault never us other s p parts whole = never s p (subst (λ x. Parts x s) (Tokens-unique us ts rest other row) parts) whole
+no_parts (Some f) rest ts row fault never us other s p parts whole = fault us other
 
 pub HasFrame-unique : (text : List ℕ) (f g : TestFrame) → HasFrame text f → HasFrame text g → f ≡ g
 HasFrame-unique text f g p q =
     let head = Heading-unique text p.name p.rest q.name q.rest p.heading q.heading in
     let tokens = Tokens-unique p.tokens q.tokens q.rest (subst (λ x. Tokens x p.tokens) head.1 p.row) q.row in
-    let parts = Parts-unique q.tokens p.threads q.threads p.rows q.rows p.claims q.claims (subst (λ x. Parts x p.threads p.rows p.claims) tokens p.parts) q.parts in
+    let said : p.said ≡ q.said = Parts-unique q.tokens p.said q.said (subst (λ x. Parts x p.said) tokens p.parts) q.parts in
+    let condition : p.condition ≡ q.condition = IsProposition-unique (map (placed (table q.said)) q.said.signs) p.condition q.condition (subst (λ (s : Said). IsProposition (map (placed (table s)) s.signs) p.condition) said p.proposition) q.proposition in
     let name : p.name ≡ q.name = head.0 in
-    let threads : p.threads ≡ q.threads = parts.0 in
-    let rows : p.rows ≡ q.rows = parts.1 in
-    let claims : p.claims ≡ q.claims = parts.2 in
-    let same : made_of p.name p.threads p.rows p.claims ≡ made_of q.name q.threads q.rows q.claims = rw (name, threads, rows, claims) refl in
-    p.made ∙ same ∙ sym q.made
+    p.made ∙ ap (λ n. made_of n p.said p.condition) name ∙ ap (λ (s : Said). made_of q.name s p.condition) said ∙ ap (λ (c : Formula). made_of q.name q.said c) condition ∙ sym q.made

@@ -39,6 +39,7 @@ impl<'t, 'a> Cursor<'t, 'a> {
         let listed = self.listed(alloc, threads, &mut locs)?;
         let quant = self.quantifier()?;
         let prop = self.proposition(alloc, threads, &mut locs)?;
+        let _len = locs.len();
         let said = Said {
             entries,
             threads,

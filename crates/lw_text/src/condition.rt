@@ -1,7 +1,8 @@
 //! The proposition of a test's condition.
-ghost use Rattle.std.specs.Prelude.{◌≡◌, ◌≢◌, ℕ, ◌≤◌, ◌||◌, true, false, codes, List, [], ◌∷◌, length, map, filter, OnOk, OnErr, IfOk, IfErr};
+ghost use Rattle.std.specs.Prelude.{◌≡◌, ◌≢◌, ℕ, ◌≤◌, ◌==◌, ◌||◌, not, true, false, codes, List, [], ◌∷◌, length, map, filter, OnOk, OnErr, IfOk, IfErr};
 ghost use Rattle.lw_base.specs.Formula.{Formula};
 ghost use Rattle.lw_base.specs.Propositions.{formula_of};
+ghost use Rattle.lw_base.specs.Names.{EachOnce};
 ghost use Rattle.lw_base.specs.Tables.{with_names};
 ghost use Rattle.lw_text.specs.declared.fault.Cause.TheVariants.{Memory};
 ghost use Rattle.lw_text.specs.Sites.{site_names};
@@ -32,7 +33,8 @@ impl<'t, 'a> Cursor<'t, 'a> {
         threads: usize,
         locs: &mut LocNames<A>,
     ) -> Result<Prop<A>, Fault>
-        requires { threads ≤ 4 }
+        requires threads { threads ≤ 4 }
+        requires once { EachOnce locs.old }
         ensures found { IfOk result (λ p. (ss : List (SaidSign Claim)) × Signs threads (left self.old) ss × (locs.new ≡ with_names locs.old (site_names (sites_in ss))) × (length (filter is_node ss) ≤ 256) × IsProposition (map (placed locs.new) ss) (formula_of p)) }
         ensures fault { IfErr result (λ f. f.cause ≢ Memory → (ss : List (SaidSign Claim)) (p : Formula) → Signs threads (left self.old) ss → length (with_names locs.old (site_names (sites_in ss))) ≤ 8 → length (filter is_node ss) ≤ 256 → IsProposition (map (placed (with_names locs.old (site_names (sites_in ss)))) ss) p → ⊥) }
         ensures place { IfErr result (λ f. f.at ≤ self.old.len) }
@@ -47,7 +49,7 @@ impl<'t, 'a> Cursor<'t, 'a> {
                 };
             }
             let misfit = self.fault(Cause::Condition);
-            if nodes == MAX_NODES && !self.is_parenthesis() {
+            if !self.has_room(nodes) {
                 return Err(misfit);
             }
             let sign = self.sign(reader.wants_part(), threads, locs)?;
@@ -56,6 +58,13 @@ impl<'t, 'a> Cursor<'t, 'a> {
             }
             nodes += sign.nodes();
         }
+    }
+
+    /// Whether a sign may come next behind so many nodes: a parenthesis makes none.
+    fn has_room(&self, nodes: usize) -> bool
+        ensures { result ≡ (not (nodes == 256) || (begins_word (codes "(") (left self.now) || begins_word (codes ")") (left self.now))) }
+    {
+        nodes != MAX_NODES || self.is_parenthesis()
     }
 
     /// Whether a parenthesis is next.

@@ -3,15 +3,19 @@ use Rattle.std.proofs.lemmas.Result.{err_from_is_err_and}
 use Rattle.lw_text.specs.Spans.{texts, Spans}
 use Rattle.lw_base.specs.Heads.{head_of}
 use Rattle.lw_text.specs.Rows.{columns}
-use Rattle.lw_text.specs.Conditions.{table, formula}
-use Rattle.lw_text.specs.Claims.{named}
 use Rattle.lw_text.specs.Headings.{Heading}
-use Rattle.lw_text.specs.Frames.{Parts, source_head}
+use Rattle.lw_base.specs.Propositions.{formula_of}
+use Rattle.lw_base.specs.Formula.{Formula}
+use Rattle.lw_text.specs.Propositions.{IsProposition}
+use Rattle.lw_text.specs.Conditions.{placed}
+use Rattle.lw_text.specs.Frames.{Parts, Said, head_of_said, made_of}
+use Rattle.lw_text.specs.Placed.{BodySays}
 use Rattle.lw_text.specs.Places.{all_texts}
 use Rattle.lw_text.specs.Views.{left}
 use Rattle.lw_text.proofs.TokenRows.{Spans-places}
 use Rattle.lw_text.proofs.CellPlaces.{RowSpans-within}
 use Rattle.lw_text.proofs.RowColumns.{columns-texts}
+use Rattle.lw_text.proofs.PlacedHeads.{head_made}
 use Rattle.lw_text.proofs.Whole.{no_frame, no_parts}
 use Rattle.lw_text.proofs.read.read_text.Goals as goal
 
@@ -33,13 +37,13 @@ returns-in_err-body-clause-fault g c =
     let row = c.in_ok-row.row in
     let heading = subst (λ t. Heading t c.in_ok-name.name.now c.heading.new.self.rest.now) c.new-lexer.ensures.rest c.in_ok-name.ensures.found in
     let read : left c.new-cursor.result ≡ texts row.tokens = ap texts (c.new-cursor.ensures.remaining ∙ c.as_slice.ensures) in
-    rw (p.1, p.2) (λ ne. no_frame c.args.text.now c.in_ok-name.name.now c.heading.new.self.rest.now heading (no_parts row.fault c.heading.new.self.rest.now (texts row.tokens) c.in_ok-row.ensures.found c.in_ok-row.ensures.fault (λ threads rows claims parts. c.in_err-body.ensures.fault ne threads rows claims (subst (λ ts. Parts ts threads rows claims) (sym read) parts))))
+    rw (p.1, p.2) (λ ne. no_frame c.args.text.now c.in_ok-name.name.now c.heading.new.self.rest.now heading (no_parts row.fault c.heading.new.self.rest.now (texts row.tokens) c.in_ok-row.ensures.found c.in_ok-row.ensures.fault (λ s f parts whole. c.in_err-body.ensures.fault ne s f (subst (λ ts. Parts ts s) (sym read) parts) whole)))
 
 pub returns-in-Some-clause-fault : goal.returns-in-Some-clause-fault
 returns-in-Some-clause-fault g c =
     let heading = subst (λ t. Heading t c.in_ok-name.name.now c.heading.new.self.rest.now) c.new-lexer.ensures.rest c.in_ok-name.ensures.found in
     let never = rw c.in-Some.is at c.in_ok-row.ensures.fault in
-    λ _. no_frame c.args.text.now c.in_ok-name.name.now c.heading.new.self.rest.now heading (λ ts row threads rows claims parts. never ts row)
+    λ _. no_frame c.args.text.now c.in_ok-name.name.now c.heading.new.self.rest.now heading (λ ts row s f parts whole. never ts row)
 
 pub finish-requires : goal.finish-requires
 finish-requires g c =
@@ -53,23 +57,24 @@ pub returns-clause-found : goal.returns-clause-found
 returns-clause-found g c =
     let body = c.in_ok-body.body in
     let frame = c.in_ok-finish.field-0 in
-    let claims = map (named body.said.locs) body.said.claims in
     let read : left c.new-cursor.result ≡ texts c.in_ok-row.row.tokens = ap texts (c.new-cursor.ensures.remaining ∙ c.as_slice.ensures) in
-    let head : head_of frame.head ≡ source_head c.in_ok-name.name.now body.threads (table claims) (formula claims) = c.in_ok-finish.ensures.head in
-    let cells : all_texts frame.cells ≡ columns body.threads (all_texts body.rows) = ap all_texts c.in_ok-finish.ensures.cells ∙ columns-texts body.threads body.rows in
+    let says = c.in_ok-body.ensures.found in
+    let head : head_of frame.head ≡ head_of_said c.in_ok-name.name.now says.said (formula_of body.said.prop) = c.in_ok-finish.ensures.head ∙ head_made c.in_ok-name.name.now _ body says in
+    let cells : all_texts frame.cells ≡ columns body.said.threads (all_texts body.rows) = ap all_texts c.in_ok-finish.ensures.cells ∙ columns-texts body.said.threads body.rows in
+    let same : columns body.said.threads (all_texts body.rows) ≡ columns says.said.threads says.said.rows = ap (λ (s : Said). columns s.threads s.rows) (sym says.is) in
     record {
       short = c.requires.short;
       utf8 = c.requires.utf8;
       name = c.in_ok-name.name.now;
       rest = c.heading.new.self.rest.now;
       tokens = texts c.in_ok-row.row.tokens;
-      threads = body.threads;
-      rows = all_texts body.rows;
-      claims = claims;
+      said = says.said;
+      condition = formula_of body.said.prop;
       heading = subst (λ t. Heading t c.in_ok-name.name.now c.heading.new.self.rest.now) c.new-lexer.ensures.rest c.in_ok-name.ensures.found;
       row = rw c.in_default.is at c.in_ok-row.ensures.found;
-      parts = subst (λ ts. Parts ts body.threads (all_texts body.rows) claims) read c.in_ok-body.ensures.found;
-      made = cc (head, cells);
+      parts = subst (λ ts. Parts ts says.said) read says.parts;
+      proposition = subst (λ names. IsProposition (map (placed names) says.said.signs) (formula_of body.said.prop)) says.names (subst (λ ss. IsProposition (map (placed body.said.locs) ss) (formula_of body.said.prop)) (sym (ap (λ (s : Said). s.signs) says.is)) says.proposition);
+      made = cc (head, cells, same);
     }
 
 pub returns-clause-spans : goal.returns-clause-spans
@@ -79,7 +84,7 @@ returns-clause-spans g c =
     let whole = c.in_ok-name.ensures.same ∙ c.new-lexer.ensures.text in
     let spans = subst (λ t. Spans t 0 c.in_ok-row.row.tokens (length t)) whole c.in_ok-row.ensures.spans in
     let before = subst (λ ts. Spans c.args.text.now 0 ts len) (sym (c.new-cursor.ensures.remaining ∙ c.as_slice.ensures)) spans in
-    let threads : c.in_ok-finish.field-0.head.threads ≡ body.threads = ap (λ h. h.threads) c.in_ok-finish.ensures.head in
+    let threads : c.in_ok-finish.field-0.head.threads ≡ body.said.threads = ap (λ h. h.threads) c.in_ok-finish.ensures.head in
     record {
       rows = body.rows;
       cells = c.in_ok-finish.ensures.cells ∙ ap (λ n. columns n body.rows) (sym threads);
