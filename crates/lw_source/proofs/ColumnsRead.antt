@@ -1,7 +1,6 @@
 -- A thread's cells, read and resolved.
-use Rattle.std.proofs.Common.{◌≡◌, ℕ, ◌≤◌, List, length, arith}
+use Rattle.std.proofs.Common.{◌≡◌, ℕ, List}
 use Rattle.std.specs.Prelude.{Option}
-use Rattle.lw_base.specs.Tables.{with_names}
 use Rattle.lw_text.specs.declared.cell.Cell.{Cell}
 use Rattle.lw_text.specs.Places.{cells_texts}
 use Rattle.lw_source.specs.declared.stmt.Stmt.{Stmt}

@@ -1,13 +1,13 @@
 -- Reading the cells of a thread, one further.
 use Rattle.std.proofs.Common.{◌≡◌, ℕ, zero, suc, ◌<◌, ◌≤◌, ◌+◌, Option, Some, None, List, [], ◌∷◌, ◌++◌, length, length-append, map, take, drop, get_or, refl, sym, ap, ◌∙◌, subst, arith}
-use Rattle.std.specs.Prelude.{slice_get, Contains, codes}
-use Rattle.std.specs.List.{AllZip, AllByRecursion, filter_map, flat_map, cons_option}
+use Rattle.std.specs.Prelude.{slice_get, codes}
+use Rattle.std.specs.List.{AllZip, filter_map, cons_option}
 use Rattle.std.specs.Option.{option_map, option_len, ForSome}
-use Rattle.std.proofs.lemmas.List.{map-append, append-nil, append_assoc, take-append-drop}
+use Rattle.std.proofs.lemmas.List.{map-append, append_assoc, take-append-drop}
 use Rattle.std.proofs.lemmas.List.Elements.{filter_map-append, Contains-append_left}
 use Rattle.std.proofs.Math.Seq.{take-suc, drop-cons}
 use Rattle.lw_base.specs.Names.{EachOnce}
-use Rattle.lw_base.specs.Tables.{with_name, with_names}
+use Rattle.lw_base.specs.Tables.{with_names}
 use Rattle.lw_base.proofs.GrowingTables.{with_names-append, with_names-longer}
 use Rattle.lw_text.specs.declared.cell.Cell.{Cell}
 use Rattle.lw_text.specs.declared.token.Token.{Token}
@@ -20,7 +20,7 @@ use Rattle.lw_source.specs.Reading.{AtLabel, LabelsRead, StatementRead, MaybeRea
 use Rattle.lw_source.proofs.LabelRows.{Labels-rest}
 use Rattle.lw_source.proofs.Leads.{statements-append, labels_of-append, first_names_in, leading_in-append}
 use Rattle.lw_source.proofs.OneReading.{cell_unique, Labels-unique, no_label, zip_unique, zip_more, zip_cut}
-use Rattle.lw_source.proofs.Names.{IsThere, AllThere, all_there, placed-along}
+use Rattle.lw_source.proofs.Names.{AllThere, all_there, placed-along}
 
 -- the cells before one, that one, and the cells behind it
 pub cells_cut : {A : Type 0} (cells : List (Cell A)) (i : ℕ) (cell : Cell A) → i < length cells → cell ≡ get_or cells i cell → cells ≡ take i cells ++ cell ∷ drop (suc i) cells

@@ -1,5 +1,5 @@
 -- The place of a cell's fault in its column.
-use Rattle.std.proofs.Common.{◌≡◌, ℕ, zero, suc, ◌<◌, ◌≤◌, ◌+◌, ◌⊎◌, inl, inr, Option, Some, None, List, [], ◌∷◌, ◌++◌, length, map, take, drop, refl, sym, ap, ◌∙◌, subst, arith}
+use Rattle.std.proofs.Common.{◌≡◌, ℕ, zero, suc, ◌+◌, inl, inr, Option, Some, List, [], ◌∷◌, ◌++◌, length, take, drop, refl, sym, ap, ◌∙◌, subst, arith}
 use Rattle.std.specs.Prelude.{slice_get, Contains, codes}
 use Rattle.std.specs.List.{AllZip}
 use Rattle.std.proofs.lemmas.List.{map-append, append_assoc, take-append-drop, drop-map}
@@ -10,12 +10,12 @@ use Rattle.lw_base.proofs.GrowingTables.{with_names-append}
 use Rattle.lw_text.specs.declared.cell.Cell.{Cell}
 use Rattle.lw_text.specs.declared.token.Token.{Token}
 use Rattle.lw_text.specs.Spans.{texts}
-use Rattle.lw_text.specs.Places.{cells_texts, all_texts}
+use Rattle.lw_text.specs.Places.{all_texts}
 use Rattle.lw_source.specs.declared.stmt.Stmt.{Stmt}
 use Rattle.lw_source.specs.declared.label.Label.{Label}
-use Rattle.lw_source.specs.Cells.{Line, Labels, CellSays, Column, statements, labels_of, names_in, names_of, target_in}
-use Rattle.lw_source.specs.Faults.{Standing, IsSecondLabel, IsSeventeenth, IsNinth, IsJumpLabel, IsMissing, IsBackward, Tells}
-use Rattle.lw_source.specs.Reading.{LabelCause, MaybeCause, NinthIn, LabelsRead, DraftRead, pairs, first_names}
+use Rattle.lw_source.specs.Cells.{Line, Labels, Column, statements, labels_of, names_in, names_of}
+use Rattle.lw_source.specs.Faults.{Standing, IsNinth, IsJumpLabel, Tells}
+use Rattle.lw_source.specs.Reading.{LabelCause, MaybeCause, LabelsRead, DraftRead, pairs, first_names}
 use Rattle.lw_source.proofs.LabelRows.{Labels-rest}
 use Rattle.lw_source.proofs.Leads.{first_names_in}
 
@@ -62,17 +62,18 @@ module _ {A : Type 0} (cells front rest : List (Cell A)) (cell : Cell A) (whole 
     labels_tell at LabelTwice c =
         let k = c.place in
         let colon : slice_get (texts cell.tokens) (suc k) ≡ Some (codes ":") = (let e : suc k ≡ k + 1 = omega arith in ap (slice_get (texts cell.tokens)) e ∙ c.colon) in
-        let known : first_names (pairs labels) ≡ labels_of read.lines = ap first_names read.leads ∙ first_names_in read.lines 0 in
-        (standing at (take k cell.tokens) c.token (drop (suc k) cell.tokens) (cut_at cell.tokens k c.token c.is) c.begins,
-        record {
-          lines = read.lines;
-          labels = c.names;
-          more = drop (suc (suc k)) (texts cell.tokens);
-          says = read.says;
-          in_front = c.says;
-          is_label = sym (drop-map (λ t. t.text.now) (suc k) cell.tokens) ∙ drop_at (texts cell.tokens) (suc k) (codes ":") colon;
-          there = subst (λ (ns : List (List ℕ)). Contains (ns ++ c.names) c.token.text.now) known c.there;
-        })
+        let known : first_names (pairs labels) ≡ labels_of read.lines = ap first_names read.leads ∙ first_names_in read.lines 0 in (
+          standing at (take k cell.tokens) c.token (drop (suc k) cell.tokens) (cut_at cell.tokens k c.token c.is) c.begins,
+          record {
+            lines = read.lines;
+            labels = c.names;
+            more = drop (suc (suc k)) (texts cell.tokens);
+            says = read.says;
+            in_front = c.says;
+            is_label = sym (drop-map (λ t. t.text.now) (suc k) cell.tokens) ∙ drop_at (texts cell.tokens) (suc k) (codes ":") colon;
+            there = subst (λ (ns : List (List ℕ)). Contains (ns ++ c.names) c.token.text.now) known c.there;
+          },
+        )
     labels_tell at Backward c = absurd c
     labels_tell at TooMany c = absurd c
     labels_tell at Memory c = tt
@@ -84,27 +85,29 @@ module _ {A : Type 0} (cells front rest : List (Cell A)) (cell : Cell A) (whole 
     statement_tells next more ls at LabelTwice c = absurd c
     statement_tells next more ls at Backward c = absurd c
     statement_tells next more ls at TooMany (inl c) =
-        let is : slice_get cell.tokens next ≡ Some c.1.0 = sym (get_dropped cell.tokens next) ∙ c.1.1 in
-        (standing at (take next cell.tokens) c.1.0 (drop (suc next) cell.tokens) (cut_at cell.tokens next c.1.0 is) c.1.2,
-        inl (record { lines = read.lines; labels = ls.names; says = read.says; in_front = ls.says; full = c.0 }))
+        let is : slice_get cell.tokens next ≡ Some c.1.0 = sym (get_dropped cell.tokens next) ∙ c.1.1 in (
+          standing at (take next cell.tokens) c.1.0 (drop (suc next) cell.tokens) (cut_at cell.tokens next c.1.0 is) c.1.2,
+          inl (record { lines = read.lines; labels = ls.names; says = read.says; in_front = ls.says; full = c.0 }),
+        )
     statement_tells next more ls at TooMany (inr c) =
         let tail = drop next cell.tokens in
         let inside : cell.tokens ≡ (take next cell.tokens ++ take c.place tail) ++ c.token ∷ drop (suc c.place) tail =
-        sym (take-append-drop next cell.tokens) ∙ ap (λ (ts : List Token). take next cell.tokens ++ ts) (cut_at tail c.place c.token c.is) ∙ sym (append_assoc (take next cell.tokens) (take c.place tail) (c.token ∷ drop (suc c.place) tail)) in
-        (standing at (take next cell.tokens ++ take c.place tail) c.token (drop (suc c.place) tail) inside c.ninth.0,
-        inr (record {
-          threads = [];
-          lines = read.lines;
-          labels = ls.names;
-          mid = texts (take c.place tail);
-          before_says = tt;
-          says = read.says;
-          in_front = subst (λ (ts : List (List ℕ)). Labels ts ls.names (texts (take c.place tail))) (sym (map-append (λ t. t.text.now) (take next cell.tokens) (take c.place tail))) (Labels-rest (texts (take next cell.tokens)) (texts (take c.place tail)) ls.names ls.says);
-          at_location = c.before;
-          is_location = c.ninth.1;
-          full = ap length (sym read.names) ∙ c.ninth.2;
-          new = λ there. c.ninth.3 (subst (λ (ns : List (List ℕ)). Contains ns c.token.text.now) (sym read.names) there);
-        }))
+        sym (take-append-drop next cell.tokens) ∙ ap (λ (ts : List Token). take next cell.tokens ++ ts) (cut_at tail c.place c.token c.is) ∙ sym (append_assoc (take next cell.tokens) (take c.place tail) (c.token ∷ drop (suc c.place) tail)) in (
+          standing at (take next cell.tokens ++ take c.place tail) c.token (drop (suc c.place) tail) inside c.ninth.0,
+          inr (record {
+            threads = [];
+            lines = read.lines;
+            labels = ls.names;
+            mid = texts (take c.place tail);
+            before_says = tt;
+            says = read.says;
+            in_front = subst (λ (ts : List (List ℕ)). Labels ts ls.names (texts (take c.place tail))) (sym (map-append (λ t. t.text.now) (take next cell.tokens) (take c.place tail))) (Labels-rest (texts (take next cell.tokens)) (texts (take c.place tail)) ls.names ls.says);
+            at_location = c.before;
+            is_location = c.ninth.1;
+            full = ap length (sym read.names) ∙ c.ninth.2;
+            new = λ there. c.ninth.3 (subst (λ (ns : List (List ℕ)). Contains ns c.token.text.now) (sym read.names) there);
+          }),
+        )
     statement_tells next more ls at Memory c = tt
 
 single : {X : Type 0} (c : X) (xs : List X) (y : X) (zs : List X) → c ∷ [] ≡ xs ++ y ∷ zs → (xs ≡ []) × (c ≡ y)

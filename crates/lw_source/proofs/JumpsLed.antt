@@ -1,15 +1,13 @@
 -- Leading the jumps of a thread to where their labels stand.
-use Rattle.std.proofs.Common.{◌≡◌, ℕ, zero, suc, ◌<◌, ◌≤◌, ◌+◌, Option, Some, None, List, [], ◌∷◌, ◌++◌, length, map, take, drop, refl, sym, ap, ◌∙◌, subst, arith}
-use Rattle.std.specs.Prelude.{slice_get, Contains, codes}
-use Rattle.std.specs.Option.{ForSome, option_map}
+use Rattle.std.proofs.Common.{◌≡◌, ℕ, ◌<◌, Some, None, List, [], ◌∷◌, ◌++◌, length, refl, sym, ap, ◌∙◌, subst, arith}
+use Rattle.std.specs.Prelude.{Contains}
 use Rattle.lw_base.specs.declared.fault.CellCause.{CellCause}
 use Rattle.lw_base.specs.declared.fault.CellCause.TheVariants.{Form, Register, LabelMissing, LabelTwice, Backward, TooMany, Memory}
 use Rattle.lw_text.specs.declared.token.Token.{Token}
-use Rattle.lw_text.specs.Spans.{texts}
 use Rattle.lw_source.specs.declared.stmt.Stmt.{Stmt}
 use Rattle.lw_source.specs.declared.stmt.Stmt.TheVariants.{Store, Load, Swap, Set, Sum, IfEq, IfNe, Goto}
 use Rattle.lw_source.specs.Sources.{target_of}
-use Rattle.lw_source.specs.Cells.{Written, Stores, Loads, Swaps, Sets, Sums, Jumps_if, Jumps_if_not, Jumps, Line, Statement, MaybeStatement, Labels, CellSays, statements, labels_of, label_of, target_in, placed, LeadsForward}
+use Rattle.lw_source.specs.Cells.{Written, Stores, Loads, Swaps, Sets, Sums, Jumps_if, Jumps_if_not, Jumps, Line, labels_of, label_of, target_in, placed, LeadsForward}
 use Rattle.lw_source.specs.Reading.{JumpCause, JumpFault, EndsWithLabel, leads_to, leading_in}
 use Rattle.lw_source.proofs.Leads.{leads_in, leads_nowhere}
 
@@ -71,9 +69,10 @@ module _ (names : List (List ℕ)) (lines : List Line) (labels : List (List ℕ 
   led to known found =
       let f = found at.0 at.1 at.2 in
       let here : leads_to (leading_in 0 lines) label.0 ≡ Some to = subst (λ (n : List ℕ). leads_to (leading_in 0 lines) n ≡ Some to) at.3 (subst (λ (ps : List (List ℕ × ℕ)). leads_to ps at.1.text.now ≡ Some to) known f.0) in
-      let l = leads_in lines label.0 to here in
-      (ap (λ (x : Stmt). retarget x to) made ∙ ap (retarget (placed names [] s)) l.1 ∙ retargets names lines s label.0 label.1,
-      λ m e. (let g : label.0 ≡ m = (let h : Some label.0 ≡ Some m = sym label.1 ∙ e in cc) in subst (λ (n : List ℕ). Contains (labels_of lines) n × (number < target_in lines n)) g (l.0, omega (arith, l.1, f.1))))
+      let l = leads_in lines label.0 to here in (
+        ap (λ (x : Stmt). retarget x to) made ∙ ap (retarget (placed names [] s)) l.1 ∙ retargets names lines s label.0 label.1,
+        λ m e. (let g : label.0 ≡ m = (let h : Some label.0 ≡ Some m = sym label.1 ∙ e in cc) in subst (λ (n : List ℕ). Contains (labels_of lines) n × (number < target_in lines n)) g (l.0, omega (arith, l.1, f.1))),
+      )
 
   pub jump_fault : (fault : ℕ) (cause : CellCause) → ((front : List Token) (t : Token) → tokens ≡ front ++ t ∷ [] → (fault ≡ t.at) × JumpCause labels number t.text.now cause) → JumpFault labels number tokens s fault cause
   jump_fault fault cause found =

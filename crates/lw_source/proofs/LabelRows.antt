@@ -1,14 +1,14 @@
 -- The labels at the front of a cell, one further.
-use Rattle.std.proofs.Common.{◌≡◌, ℕ, zero, suc, ◌<◌, ◌≤◌, ◌+◌, ◌||◌, Bool, true, false, true≢false, Option, Some, None, List, [], ◌∷◌, ◌++◌, ◌⊎◌, inl, inr, length, map, take, drop, refl, sym, ap, ◌∙◌, subst, arith}
-use Rattle.std.specs.Prelude.{◌↔◌, IsTrue, slice_get, slice_index_or, codes, Contains, if◌then◌else◌}
+use Rattle.std.proofs.Common.{◌≡◌, ℕ, zero, suc, ◌<◌, ◌≤◌, ◌+◌, Bool, true, false, true≢false, Option, Some, None, List, [], ◌∷◌, ◌++◌, ◌⊎◌, inl, inr, length, take, drop, refl, sym, ap, ◌∙◌, subst, arith}
+use Rattle.std.specs.Prelude.{◌↔◌, IsTrue, slice_get, slice_index_or, codes, Contains}
 use Rattle.std.specs.Option.{option_map, is_some}
 use Rattle.std.proofs.lemmas.Option.{slice_get-map, slice_get_within}
 use Rattle.std.proofs.lemmas.List.{take-map, length-map}
 use Rattle.lw_text.specs.declared.token.Token.{Token}
 use Rattle.lw_text.specs.Spans.{texts}
 use Rattle.lw_source.specs.declared.label.Label.{Label}
-use Rattle.std.proofs.lemmas.List.{map-append, append-nil, append_assoc, take-append-drop}
-use Rattle.std.proofs.lemmas.List.Elements.{Contains-push_cases, Contains-append_left, Contains-append_right, Contains-append_cases}
+use Rattle.std.proofs.lemmas.List.{map-append, append_assoc, take-append-drop}
+use Rattle.std.proofs.lemmas.List.Elements.{Contains-push_cases, Contains-append_right, Contains-append_cases}
 use Rattle.std.specs.Str.{bytes_eq}
 use Rattle.std.specs.Cmp.{unsigned_Decides}
 use Rattle.std.specs.Cmp.Lexicographic.{pointwise_decides}
@@ -182,7 +182,6 @@ module _ (tokens : List Token) (to : ℕ) (before : List Label) (next : ℕ) (la
         colon = colon;
         there = subst (λ (ns : List (List ℕ)). Contains ns token.text.now) (names_read before labels to read.names read.made) there;
       }
-
 
 pub next_within : (tokens : List Token) (next : ℕ) (w : List ℕ) → slice_get (texts tokens) (next + 1) ≡ Some w → next < length tokens
 next_within tokens next w colon = omega (arith, slice_get_within (texts tokens) (next + 1) w colon, length-map tokens (λ t. t.text.now))

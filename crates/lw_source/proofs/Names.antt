@@ -1,17 +1,16 @@
 -- Statements on a table that grows.
-use Rattle.std.proofs.Common.{◌≡◌, ℕ, zero, suc, ◌<◌, ◌≤◌, ◌+◌, true, Option, Some, None, List, [], ◌∷◌, ◌++◌, length, refl, sym, ap, ◌∙◌, subst, arith}
+use Rattle.std.proofs.Common.{◌≡◌, ℕ, zero, suc, ◌<◌, ◌≤◌, true, Option, Some, None, List, [], ◌∷◌, length, refl, sym, ap, ◌∙◌, subst, arith}
 use Rattle.std.specs.Prelude.{map, slice_get}
 use Rattle.std.specs.List.{AllByRecursion, filter_map, cons_option}
-use Rattle.std.specs.Option.{ForSome, option_map}
-use Rattle.std.proofs.lemmas.Option.{slice_get-map}
+use Rattle.std.specs.Option.{ForSome}
 use Rattle.std.proofs.lemmas.List.{length-map}
 use Rattle.std.proofs.lemmas.List.Elements.{All-from_recursion}
-use Rattle.lw_source.specs.declared.stmt.Stmt.TheVariants.{Store, Load, Swap, Set, Sum, IfEq, IfNe, Goto}
+use Rattle.lw_source.specs.declared.stmt.Stmt.TheVariants.{Store, Load, Swap}
 use Rattle.lw_source.specs.declared.stmt.Stmt.{Stmt}
 use Rattle.lw_source.specs.Sources.{IsStmt, target_of, IsThread}
 use Rattle.lw_base.specs.Tables.{is_there, with_name, with_names, place_of}
 use Rattle.lw_base.proofs.GrowingTables.{there-name, there-along, place-along, place-within}
-use Rattle.lw_source.specs.Cells.{Written, Stores, Loads, Swaps, Sets, Sums, Jumps_if, Jumps_if_not, Jumps, Line, statements, name_of, label_of, LeadsForward, target_in, placed, code_in}
+use Rattle.lw_source.specs.Cells.{Written, Stores, Loads, Swaps, Sets, Sums, Jumps_if, Jumps_if_not, Jumps, Line, statements, name_of, LeadsForward, target_in, placed, code_in}
 use Rattle.lw_source.proofs.Leads.{target_within}
 
 -- The statement's location is in the table.
@@ -90,7 +89,7 @@ thread_fits names lines all short ahead =
       short = omega (arith, short, length-map (statements lines) (placed names lines));
       there = All-from_recursion (IsStmt (length names)) (code_in names lines) (all_placed-there names lines (statements lines) all);
       forward = λ k s at to e.
-      let w = placed_from names lines (statements lines) k s at in
-      let t = target-placed names lines k w.0 to (ap target_of w.2 ∙ e) (ahead k w.0 w.1) in
-      (t.0, omega (arith, t.1, length-map (statements lines) (placed names lines)));
+          let w = placed_from names lines (statements lines) k s at in
+          let t = target-placed names lines k w.0 to (ap target_of w.2 ∙ e) (ahead k w.0 w.1) in
+          (t.0, omega (arith, t.1, length-map (statements lines) (placed names lines)));
     }

@@ -1,9 +1,9 @@
 -- Resolving the jumps of a thread, one cell further.
-use Rattle.std.proofs.Common.{◌≡◌, ℕ, zero, suc, ◌<◌, ◌≤◌, ◌+◌, Option, Some, None, List, [], ◌∷◌, ◌++◌, length, length-append, map, take, drop, get_or, refl, sym, ap, ◌∙◌, subst, arith, ◌⊎◌, inl, inr}
-use Rattle.std.specs.Prelude.{slice_get, slice_index_or, Contains, codes}
+use Rattle.std.proofs.Common.{◌≡◌, ℕ, zero, suc, ◌<◌, ◌≤◌, ◌+◌, Option, Some, None, List, [], ◌∷◌, ◌++◌, length, map, take, drop, get_or, refl, sym, ap, ◌∙◌, subst, arith, ◌⊎◌, inl, inr}
+use Rattle.std.specs.Prelude.{slice_get, Contains, codes}
 use Rattle.std.specs.List.{AllZip, cons_option}
-use Rattle.std.specs.Option.{ForSome, option_map}
-use Rattle.std.proofs.lemmas.Option.{slice_get-map, slice_get_within}
+use Rattle.std.specs.Option.{option_map}
+use Rattle.std.proofs.lemmas.Option.{slice_get-map}
 use Rattle.std.proofs.lemmas.List.{map-append, length-map, append-nil, append_assoc, take-map, drop-map}
 use Rattle.lw_base.specs.declared.fault.CellCause.{CellCause}
 use Rattle.lw_base.specs.declared.fault.CellCause.TheVariants.{Form, Register, LabelMissing, LabelTwice, Backward, TooMany, Memory}
@@ -13,9 +13,9 @@ use Rattle.lw_text.specs.Spans.{texts}
 use Rattle.lw_text.specs.Places.{cell_texts, cells_texts}
 use Rattle.lw_source.specs.declared.stmt.Stmt.{Stmt}
 use Rattle.lw_source.specs.declared.label.Label.{Label}
-use Rattle.lw_source.specs.Cells.{Written, Stores, Loads, Swaps, Sets, Sums, Jumps_if, Jumps_if_not, Jumps, Line, Statement, MaybeStatement, Labels, CellSays, Column, statements, labels_of, label_of, target_in, placed, code_in, LeadsForward}
-use Rattle.lw_source.specs.Faults.{Standing, IsJumpLabel, Tells}
-use Rattle.lw_source.specs.Reading.{DraftRead, JumpFault, EndsWithLabel, AllForward, pairs, leads_to, leading_in}
+use Rattle.lw_source.specs.Cells.{Written, Stores, Loads, Swaps, Sets, Sums, Jumps_if, Jumps_if_not, Jumps, Line, Statement, MaybeStatement, Labels, CellSays, statements, labels_of, label_of, target_in, placed, code_in, LeadsForward}
+use Rattle.lw_source.specs.Faults.{Tells}
+use Rattle.lw_source.specs.Reading.{DraftRead, JumpFault, EndsWithLabel, AllForward, pairs, leads_to}
 use Rattle.lw_source.proofs.LabelRows.{at_index}
 use Rattle.lw_source.proofs.Leads.{statements-append, leads_in, leads_nowhere}
 use Rattle.lw_source.proofs.OneReading.{zip_length}
@@ -200,9 +200,12 @@ module _ {A : Type 0} (cells : List (Cell A)) (before after : List (List ℕ)) (
     pub jump_tells : (names : List (List ℕ)) (code : List Stmt) (s : Written) (at : ℕ) (cause : CellCause) → line_at.0.stmt ≡ Some s → Resolved after draft.lines row code → JumpFault (pairs labels) (length code) cell.tokens s at cause → Tells names (cells ∷ []) at cause
     jump_tells names code s at Form is r f = tt
     jump_tells names code s at Register is r f = tt
-    jump_tells names code s at LabelMissing is r f =
-        (standing cells (take row cells) (drop (suc row) cells) cell (cut_at cells row cell cell_at) at f.front f.token [] f.last f.begins,
-        (take row draft.lines, line_at.0, drop (suc row) draft.lines,
+    jump_tells names code s at LabelMissing is r f = (
+      standing cells (take row cells) (drop (suc row) cells) cell (cut_at cells row cell cell_at) at f.front f.token [] f.last f.begins,
+      (
+        take row draft.lines,
+        line_at.0,
+        drop (suc row) draft.lines,
         record {
           above_says = above_says;
           says = says_at;
@@ -210,23 +213,30 @@ module _ {A : Type 0} (cells : List (Cell A)) (before after : List (List ℕ)) (
           last = refl;
           jump = (s, is, f.is);
         },
-        λ there. leads_nowhere draft.lines f.token.text.now (subst (λ (ps : List (List ℕ × ℕ)). leads_to ps f.token.text.now ≡ None) draft.leads f.because) (subst (λ (ls : List Line). Contains (labels_of ls) f.token.text.now) (sym (cut_at draft.lines row line_at.0 line_at.1)) there)))
+        λ there. leads_nowhere draft.lines f.token.text.now (subst (λ (ps : List (List ℕ × ℕ)). leads_to ps f.token.text.now ≡ None) draft.leads f.because) (subst (λ (ls : List Line). Contains (labels_of ls) f.token.text.now) (sym (cut_at draft.lines row line_at.0 line_at.1)) there),
+      ),
+    )
     jump_tells names code s at LabelTwice is r f = absurd f.because
     jump_tells names code s at Backward is r f =
         let b = f.because in
         let l = leads_in draft.lines f.token.text.now b.0 (subst (λ (ps : List (List ℕ × ℕ)). leads_to ps f.token.text.now ≡ Some b.0) draft.leads b.1) in
         let cut = cut_at draft.lines row line_at.0 line_at.1 in
-        let count : length code ≡ length (statements (take row draft.lines)) = ap length r.made ∙ length-map (statements (take row draft.lines)) (placed after draft.lines) in
-        (standing cells (take row cells) (drop (suc row) cells) cell (cut_at cells row cell cell_at) at f.front f.token [] f.last f.begins,
-        (take row draft.lines, line_at.0, drop (suc row) draft.lines,
-        record {
-          above_says = above_says;
-          says = says_at;
-          below_says = below_says;
-          last = refl;
-          jump = (s, is, f.is);
-        },
-        subst (λ (ls : List Line). Contains (labels_of ls) f.token.text.now) cut l.0,
-        subst (λ (ls : List Line). target_in ls f.token.text.now ≤ length (statements (take row draft.lines))) cut (omega (arith, b.2, l.1, count))))
+        let count : length code ≡ length (statements (take row draft.lines)) = ap length r.made ∙ length-map (statements (take row draft.lines)) (placed after draft.lines) in (
+          standing cells (take row cells) (drop (suc row) cells) cell (cut_at cells row cell cell_at) at f.front f.token [] f.last f.begins,
+          (
+            take row draft.lines,
+            line_at.0,
+            drop (suc row) draft.lines,
+            record {
+              above_says = above_says;
+              says = says_at;
+              below_says = below_says;
+              last = refl;
+              jump = (s, is, f.is);
+            },
+            subst (λ (ls : List Line). Contains (labels_of ls) f.token.text.now) cut l.0,
+            subst (λ (ls : List Line). target_in ls f.token.text.now ≤ length (statements (take row draft.lines))) cut (omega (arith, b.2, l.1, count)),
+          ),
+        )
     jump_tells names code s at TooMany is r f = absurd f.because
     jump_tells names code s at Memory is r f = tt

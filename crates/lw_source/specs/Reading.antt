@@ -1,6 +1,6 @@
 -- What a reader of cells has read, and why it stopped.
 use Rattle.std.specs.Prelude.{◌≡◌, ◌≤◌, ◌+◌, ◌⊎◌, ℕ, if◌then◌else◌, Option, Some, None, List, [], ◌∷◌, ◌++◌, length, map, take, codes, slice_get, All, Contains}
-use Rattle.std.specs.List.{AllZip, flat_map, filter_map}
+use Rattle.std.specs.List.{AllZip, filter_map}
 use Rattle.std.specs.Option.{option_map, ForSome}
 use Rattle.std.specs.Str.{bytes_eq}
 use Rattle.lw_base.specs.declared.fault.CellCause.{CellCause}
@@ -12,7 +12,7 @@ use Rattle.lw_base.specs.Tables.{with_names}
 use Rattle.lw_text.specs.declared.token.Token.{Token}
 use Rattle.lw_text.specs.declared.cell.Cell.{Cell}
 use Rattle.lw_text.specs.Spans.{texts}
-use Rattle.lw_text.specs.Places.{cells_texts, all_texts}
+use Rattle.lw_text.specs.Places.{cells_texts}
 use Rattle.lw_source.specs.declared.stmt.Stmt.{Stmt}
 use Rattle.lw_source.specs.declared.label.Label.{Label}
 use Rattle.lw_source.specs.declared.phrase.Phrase.{Phrase}

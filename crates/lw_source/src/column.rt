@@ -43,7 +43,12 @@ pub(crate) fn read_column<A: Allocator + Copy>(
     ensures place { (len : ℕ) → All (IsWithin len) cells.now → IfErr result (λ f. f.at ≤ len) }
 {
     let draft = read_cells(alloc, cells, locs)?;
-    resolve(alloc, cells, draft.stmts.as_slice(), draft.labels.as_slice())
+    resolve(
+        alloc,
+        cells,
+        draft.stmts.as_slice(),
+        draft.labels.as_slice(),
+    )
 }
 
 /// Reads the cells of a thread, each with its labels and its statement.

@@ -62,8 +62,7 @@ pub(crate) fn surplus(first: &Token<'_>) -> CellFault
 }
 
 /// Whether a statement can begin with the token.
-fn is_first(token: &Token<'_>) -> bool
-{
+fn is_first(token: &Token<'_>) -> bool {
     token.text == "if"
         || token.text == "goto"
         || is_location(token.text)

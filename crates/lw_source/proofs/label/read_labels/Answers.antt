@@ -1,4 +1,4 @@
-use Rattle.std.proofs.Common.{refl, sym, ◌∙◌, ◌≡◌, arith, Some}
+use Rattle.std.proofs.Common.{refl, sym, ◌∙◌}
 use Rattle.std.proofs.lemmas.Result.{err_from_is_err_and}
 use Rattle.lw_source.proofs.LabelRows.{labels_more, labels_on, labels_twice, twice_in, at_index, next_within, found_there, found_nowhere}
 use Rattle.lw_source.proofs.label.read_labels.Goals as goal

@@ -1,4 +1,4 @@
-use Rattle.std.proofs.Common.{ap, ◌∙◌, ◌≡◌, subst, sym}
+use Rattle.std.proofs.Common.{ap, ◌∙◌, ◌≡◌, subst}
 use Rattle.std.specs.Prelude.{slice_get, Some}
 use Rattle.std.proofs.lemmas.Result.{err_from_is_err_and}
 use Rattle.lw_base.specs.declared.head.Arch.TheVariants.{Source}
@@ -11,19 +11,19 @@ pub returns-in_err-reg-clause-equal : goal.returns-in_err-reg-clause-equal
 returns-in_err-reg-clause-equal c =
     let p = err_from_is_err_and c.from_residual-in_err-reg.result c.from_residual-in_err-reg.ensures.1 in
     rw p.1 (λ r n l says.
-      let e : slice_get _ 1 ≡ Some says.0 = ap (λ t. slice_get t 1) says.2 in
-      let f = c.in_ok-token.ensures.found in
-      let same : says.0 ≡ c.in_ok-token.field-0.text.now = cc in
-      c.in_err-reg.ensures.err r (subst (λ w. IsRegister Source w r) same says.3))
+    let e : slice_get _ 1 ≡ Some says.0 = ap (λ t. slice_get t 1) says.2 in
+    let f = c.in_ok-token.ensures.found in
+    let same : says.0 ≡ c.in_ok-token.field-0.text.now = cc in
+    c.in_err-reg.ensures.err r (subst (λ w. IsRegister Source w r) same says.3))
 
 pub returns-in_err-reg-clause-unequal : goal.returns-in_err-reg-clause-unequal
 returns-in_err-reg-clause-unequal c =
     let p = err_from_is_err_and c.from_residual-in_err-reg.result c.from_residual-in_err-reg.ensures.1 in
     rw p.1 (λ r n l says.
-      let e : slice_get _ 1 ≡ Some says.0 = ap (λ t. slice_get t 1) says.2 in
-      let f = c.in_ok-token.ensures.found in
-      let same : says.0 ≡ c.in_ok-token.field-0.text.now = cc in
-      c.in_err-reg.ensures.err r (subst (λ w. IsRegister Source w r) same says.3))
+    let e : slice_get _ 1 ≡ Some says.0 = ap (λ t. slice_get t 1) says.2 in
+    let f = c.in_ok-token.ensures.found in
+    let same : says.0 ≡ c.in_ok-token.field-0.text.now = cc in
+    c.in_err-reg.ensures.err r (subst (λ w. IsRegister Source w r) same says.3))
 
 pub returns-in_err-reg-clause-place : goal.returns-in_err-reg-clause-place
 returns-in_err-reg-clause-place c len within =
@@ -39,19 +39,19 @@ pub returns-in_err-num-clause-equal : goal.returns-in_err-num-clause-equal
 returns-in_err-num-clause-equal c =
     let p = err_from_is_err_and c.from_residual-in_err-num.result c.from_residual-in_err-num.ensures.1 in
     rw p.1 (λ r n l says.
-      let e : slice_get _ 3 ≡ Some says.1 = ap (λ t. slice_get t 3) says.2 in
-      let f = c.in_ok-token-3.ensures.found in
-      let same : says.1 ≡ c.in_ok-token-3.field-0.text.now = cc in
-      c.in_err-num.ensures.err n (subst (λ w. IsNumber w n) same says.4))
+    let e : slice_get _ 3 ≡ Some says.1 = ap (λ t. slice_get t 3) says.2 in
+    let f = c.in_ok-token-3.ensures.found in
+    let same : says.1 ≡ c.in_ok-token-3.field-0.text.now = cc in
+    c.in_err-num.ensures.err n (subst (λ w. IsNumber w n) same says.4))
 
 pub returns-in_err-num-clause-unequal : goal.returns-in_err-num-clause-unequal
 returns-in_err-num-clause-unequal c =
     let p = err_from_is_err_and c.from_residual-in_err-num.result c.from_residual-in_err-num.ensures.1 in
     rw p.1 (λ r n l says.
-      let e : slice_get _ 3 ≡ Some says.1 = ap (λ t. slice_get t 3) says.2 in
-      let f = c.in_ok-token-3.ensures.found in
-      let same : says.1 ≡ c.in_ok-token-3.field-0.text.now = cc in
-      c.in_err-num.ensures.err n (subst (λ w. IsNumber w n) same says.4))
+    let e : slice_get _ 3 ≡ Some says.1 = ap (λ t. slice_get t 3) says.2 in
+    let f = c.in_ok-token-3.ensures.found in
+    let same : says.1 ≡ c.in_ok-token-3.field-0.text.now = cc in
+    c.in_err-num.ensures.err n (subst (λ w. IsNumber w n) same says.4))
 
 pub returns-in_err-num-clause-place : goal.returns-in_err-num-clause-place
 returns-in_err-num-clause-place c len within =

@@ -15,10 +15,10 @@ pub returns-in_err-src-clause-fault : goal.returns-in_err-src-clause-fault
 returns-in_err-src-clause-fault g c =
     let p = err_from_is_err_and c.from_residual-in_err-src.result c.from_residual-in_err-src.ensures.1 in
     rw (p.1, p.2) (λ known d r x says few.
-      let e : slice_get _ 4 ≡ Some says.1 = ap (λ t. slice_get t 4) says.2 in
-      let f = c.in_ok-token-2.ensures.found in
-      let same : says.1 ≡ c.in_ok-token-2.field-0.text.now = cc in
-      c.in_err-src.ensures.err r (subst (λ w. IsRegister Source w r) same says.5))
+    let e : slice_get _ 4 ≡ Some says.1 = ap (λ t. slice_get t 4) says.2 in
+    let f = c.in_ok-token-2.ensures.found in
+    let same : says.1 ≡ c.in_ok-token-2.field-0.text.now = cc in
+    c.in_err-src.ensures.err r (subst (λ w. IsRegister Source w r) same says.5))
 
 pub returns-in_err-src-clause-place : goal.returns-in_err-src-clause-place
 returns-in_err-src-clause-place g c len within =

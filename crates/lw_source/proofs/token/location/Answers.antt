@@ -1,4 +1,4 @@
-use Rattle.std.proofs.Common.{refl, rules}
+use Rattle.std.proofs.Common.{refl}
 use Rattle.lw_source.proofs.NewNames.{is_ninth}
 use Rattle.lw_source.proofs.token.location.Goals as goal
 
