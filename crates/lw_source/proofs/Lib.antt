@@ -1,6 +1,13 @@
 pub mod Runs
-pub mod Cells
-pub mod Columns
+pub mod Phrases
+pub mod NewNames
+pub mod LabelRows
+pub mod Leads
+pub mod OneReading
 pub mod Names
-pub mod Reading
+pub mod Drafts
+pub mod FaultPlaces
+pub mod JumpsLed
+pub mod Resolved
+pub mod ColumnsRead
 pub mod Sources

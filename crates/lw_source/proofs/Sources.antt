@@ -3,7 +3,7 @@ use Rattle.std.proofs.Common.{◌≡◌, ℕ, suc, ◌<◌, ◌≤◌, ◌+◌, 
 use Rattle.std.specs.Prelude.{map, All, replicate}
 use Rattle.std.proofs.lemmas.List.Elements.{All-from_recursion}
 use Rattle.lw_base.specs.Heads.{TestHead}
-use Rattle.std.specs.List.{AllZip, AllByRecursion, flat_map}
+use Rattle.std.specs.List.{AllZip, AllByRecursion}
 use Rattle.std.proofs.lemmas.List.{map-append, length-map, append-nil, take-append-drop}
 use Rattle.std.proofs.lemmas.Grind.{flat_map-append}
 use Rattle.std.proofs.Math.Seq.{take-suc, drop-cons}
@@ -11,16 +11,16 @@ use Rattle.lw_base.specs.Tables.{with_names}
 use Rattle.lw_text.specs.declared.cell.Cell.{Cell}
 use Rattle.lw_text.specs.Frames.{TestFrame}
 use Rattle.lw_text.specs.Places.{cells_texts, all_texts}
+use Rattle.lw_base.specs.declared.fault.CellCause.{CellCause}
 use Rattle.lw_source.specs.declared.stmt.Stmt.{Stmt}
 use Rattle.lw_source.specs.Sources.{SourceTest, IsThread}
-use Rattle.lw_source.specs.Cells.{Written, Statement, filled, Column, name_of, names_of, placed, with_table, test_on, HasSource}
+use Rattle.lw_source.specs.Cells.{Line, Column, statements, names_in, names_of, code_in, with_table, test_on, HasSource}
+use Rattle.lw_source.specs.Faults.{Tells}
 use Rattle.lw_source.specs.Reading.{ColumnRead, ColumnsRead}
-use Rattle.lw_source.proofs.Columns.{statement_unique, zip_unique, zip_more, zip_length, zip_cut}
+use Rattle.lw_source.proofs.OneReading.{column_unique, zip_unique, zip_more, zip_length, zip_cut}
 use Rattle.lw_base.proofs.GrowingTables.{with_names-append, with_names-longer}
-use Rattle.lw_source.proofs.Names.{AllThere, all_there, map_placed-along, thread_fits}
-
-column_unique : (cells : List (List (List ℕ))) (s t : List Written) → Column cells s → Column cells t → s ≡ t
-column_unique cells s t h k = zip_unique Statement statement_unique (filled cells) s t h.0 k.0
+use Rattle.lw_source.proofs.Names.{AllThere, all_along, all_there, map_placed-along, thread_fits}
+use Rattle.lw_source.proofs.FaultPlaces.{column_tells}
 
 pub one_source : (frame : TestFrame) (s t : SourceTest) → HasSource frame s → HasSource frame t → s ≡ t
 one_source frame s t h k =
@@ -28,89 +28,88 @@ one_source frame s t h k =
     h.made ∙ ap (λ ts. test_on frame.head (with_names frame.head.locs (names_of ts)) ts) same ∙ sym k.made
 
 -- the columns before one, that one, and the columns behind it
-pub columns_cut : {A : Type 0} (columns : List (List (Cell A))) (i : ℕ) (column : List (Cell A)) → i < length columns → column ≡ get_or columns i column → all_texts columns ≡ all_texts (take i columns) ++ cells_texts column ∷ all_texts (drop (suc i) columns)
+pub columns_cut : {A : Type 0} (columns : List (List (Cell A))) (i : ℕ) (column : List (Cell A)) → i < length columns → column ≡ get_or columns i column → columns ≡ take i columns ++ column ∷ drop (suc i) columns
 columns_cut {A} columns i column within is =
-    let whole : columns ≡ take i columns ++ column ∷ drop (suc i) columns =
-    sym (take-append-drop i columns) ∙ ap (λ (r : List (List (Cell A))). take i columns ++ r) (drop-cons columns i column within ∙ ap (λ (c : List (Cell A)). c ∷ drop (suc i) columns) (sym is)) in
-    ap all_texts whole ∙ map-append cells_texts (take i columns) (column ∷ drop (suc i) columns)
+    sym (take-append-drop i columns) ∙ ap (λ (r : List (List (Cell A))). take i columns ++ r) (drop-cons columns i column within ∙ ap (λ (c : List (Cell A)). c ∷ drop (suc i) columns) (sym is))
 
 pub columns_more : {A : Type 0} (columns : List (List (Cell A))) (i : ℕ) (column : List (Cell A)) → i < length columns → column ≡ get_or columns i column → all_texts (take (i + 1) columns) ≡ all_texts (take i columns) ++ cells_texts column ∷ []
 columns_more {A} columns i column within is =
     let next : i + 1 ≡ suc i = omega arith in
     ap (λ (n : ℕ). all_texts (take n columns)) next ∙ ap all_texts (take-suc columns i column within ∙ ap (λ (c : List (Cell A)). take i columns ++ c ∷ []) (sym is)) ∙ map-append cells_texts (take i columns) (column ∷ [])
 
-names_of-append : (xs ys : List (List Written)) → names_of (xs ++ ys) ≡ names_of xs ++ names_of ys
-names_of-append xs ys = ap (map name_of) (flat_map-append (λ t. t) xs ys) ∙ map-append name_of (flat_map (λ t. t) xs) (flat_map (λ t. t) ys)
+pub texts_cut : {A : Type 0} (columns : List (List (Cell A))) (i : ℕ) (column : List (Cell A)) → i < length columns → column ≡ get_or columns i column → all_texts columns ≡ all_texts (take i columns) ++ cells_texts column ∷ all_texts (drop (suc i) columns)
+texts_cut columns i column within is = ap all_texts (columns_cut columns i column within is) ∙ map-append cells_texts (take i columns) (column ∷ drop (suc i) columns)
 
-names_of-one : (t : List Written) (ts : List (List Written)) → names_of (t ∷ ts) ≡ map name_of t ++ names_of ts
-names_of-one t ts = map-append name_of t (flat_map (λ s. s) ts)
+names_of-append : (xs ys : List (List Line)) → names_of (xs ++ ys) ≡ names_of xs ++ names_of ys
+names_of-append xs ys = flat_map-append names_in xs ys
 
 -- the names of all statements are in the table
-abbrev AllIn : List (List ℕ) → List (List Written) → Type 0
+abbrev AllIn : List (List ℕ) → List (List Line) → Type 0
 AllIn names [] = Unit {0}
-AllIn names (t ∷ ts) = AllThere names t × AllIn names ts
+AllIn names (t ∷ ts) = AllThere names (statements t) × AllIn names ts
 
-there-parts : (names : List (List ℕ)) (ss ts : List Written) → AllThere names (ss ++ ts) → AllThere names ss × AllThere names ts
-there-parts names [] ts all = (tt, all)
-there-parts names (s ∷ ss) ts all = let p = there-parts names ss ts all.1 in ((all.0, p.0), p.1)
+all_in : (names : List (List ℕ)) (ts : List (List Line)) → AllIn (with_names names (names_of ts)) ts
+all_in names [] = tt
+all_in names (t ∷ ts) =
+    subst (λ ns. AllIn ns (t ∷ ts)) (sym (with_names-append names (names_in t) (names_of ts)))
+    (all_along (with_names names (names_in t)) (names_of ts) (statements t) (all_there names (statements t)), all_in (with_names names (names_in t)) ts)
 
-in-flat : (names : List (List ℕ)) (ts : List (List Written)) → AllThere names (flat_map (λ t. t) ts) → AllIn names ts
-in-flat names [] all = tt
-in-flat names (t ∷ ts) all = let p = there-parts names t (flat_map (λ s. s) ts) all in (p.0, in-flat names ts p.1)
-
-all_placed-along : (names ns : List (List ℕ)) (ts : List (List Written)) → AllIn names ts → map (λ t. map (placed (with_names names ns)) t) ts ≡ map (λ t. map (placed names) t) ts
+all_placed-along : (names ns : List (List ℕ)) (ts : List (List Line)) → AllIn names ts → map (code_in (with_names names ns)) ts ≡ map (code_in names) ts
 all_placed-along names ns [] all = refl
-all_placed-along names ns (t ∷ ts) all = rw (map_placed-along names ns t all.0, all_placed-along names ns ts all.1) refl
+all_placed-along names ns (t ∷ ts) all = rw (map_placed-along names ns t (statements t) all.0, all_placed-along names ns ts all.1) refl
 
 -- What was read of the columns before, and this column.
 module _ (front : List (List (List (List ℕ)))) (before mid : List (List ℕ)) (threads : List (List Stmt)) (read : ColumnsRead front before threads mid) (column : List (List (List ℕ))) where
   pub threads_more : (stmts : List Stmt) (after : List (List ℕ)) → ColumnRead column mid stmts after → ColumnsRead (front ++ column ∷ []) before (threads ++ stmts ∷ []) after
   threads_more stmts after one =
-      let t = one.written in
-      let old : AllIn mid read.written = in-flat mid read.written (subst (λ ns. AllThere ns (flat_map (λ s. s) read.written)) (sym read.names) (all_there before (flat_map (λ s. s) read.written))) in
-      let kept : map (λ s. map (placed after) s) read.written ≡ threads =
-      ap (λ ns. map (λ s. map (placed ns) s) read.written) one.names ∙ all_placed-along mid (map name_of t) read.written old ∙ sym read.made in
-      let last : names_of (t ∷ []) ≡ map name_of t = names_of-one t [] ∙ append-nil (map name_of t) in
+      let t = one.lines in
+      let old : AllIn mid read.lines = subst (λ ns. AllIn ns read.lines) (sym read.names) (all_in before read.lines) in
+      let kept : map (code_in after) read.lines ≡ threads =
+      ap (λ ns. map (code_in ns) read.lines) one.names ∙ all_placed-along mid (names_in t) read.lines old ∙ sym read.made in
       record {
-        written = read.written ++ t ∷ [];
-        says = zip_more Column front read.written column t read.says one.says;
+        lines = read.lines ++ t ∷ [];
+        says = zip_more Column front read.lines column t read.says one.says;
         names =
-            one.names ∙ ap (λ ns. with_names ns (map name_of t)) read.names ∙ sym (with_names-append before (names_of read.written) (map name_of t))
-            ∙ ap (with_names before) (ap (λ ns. names_of read.written ++ ns) (sym last) ∙ sym (names_of-append read.written (t ∷ [])));
-        made = sym (map-append (λ s. map (placed after) s) read.written (t ∷ []) ∙ ap (λ ss. ss ++ map (placed after) t ∷ []) kept ∙ ap (λ (x : List Stmt). threads ++ x ∷ []) (sym one.made));
+            one.names ∙ ap (λ ns. with_names ns (names_in t)) read.names ∙ sym (with_names-append before (names_of read.lines) (names_in t))
+            ∙ ap (with_names before) (ap (λ ns. names_of read.lines ++ ns) (sym (append-nil (names_in t))) ∙ sym (names_of-append read.lines (t ∷ [])));
+        made = sym (map-append (code_in after) read.lines (t ∷ []) ∙ ap (λ ss. ss ++ code_in after t ∷ []) kept ∙ ap (λ (x : List Stmt). threads ++ x ∷ []) (sym one.made));
       }
 
   -- where the column says nothing that fits, no list of threads does
-  pub threads_none : (columns rest : List (List (List (List ℕ)))) → columns ≡ front ++ column ∷ rest → ((t : List Written) → Column column t → length (with_names mid (map name_of t)) ≤ 8 → ⊥) → (ts : List (List Written)) → AllZip Column columns ts → length (with_names before (names_of ts)) ≤ 8 → ⊥
+  pub threads_none : (columns rest : List (List (List (List ℕ)))) → columns ≡ front ++ column ∷ rest → ((t : List Line) → Column column t → length (with_names mid (names_in t)) ≤ 8 → ⊥) → (ts : List (List Line)) → AllZip Column columns ts → length (with_names before (names_of ts)) ≤ 8 → ⊥
   threads_none columns rest whole none ts all few =
       let cut = zip_cut Column front column rest ts (subst (λ cs. AllZip Column cs ts) whole all) in
-      let same : read.written ≡ cut.0 = zip_unique Column column_unique front read.written cut.0 read.says cut.4 in
-      let table : with_names before (names_of ts) ≡ with_names (with_names mid (map name_of cut.1)) (names_of cut.2) =
+      let same : read.lines ≡ cut.0 = zip_unique Column column_unique front read.lines cut.0 read.says cut.4 in
+      let table : with_names before (names_of ts) ≡ with_names (with_names mid (names_in cut.1)) (names_of cut.2) =
       ap (λ ss. with_names before (names_of ss)) cut.3 ∙ ap (with_names before) (names_of-append cut.0 (cut.1 ∷ cut.2))
       ∙ with_names-append before (names_of cut.0) (names_of (cut.1 ∷ cut.2))
       ∙ ap (λ ns. with_names ns (names_of (cut.1 ∷ cut.2))) (ap (λ ss. with_names before (names_of ss)) (sym same) ∙ sym read.names)
-      ∙ ap (with_names mid) (names_of-one cut.1 cut.2) ∙ with_names-append mid (map name_of cut.1) (names_of cut.2) in
-      none cut.1 cut.5 (omega (arith, ap length table, with_names-longer (with_names mid (map name_of cut.1)) (names_of cut.2), few))
+      ∙ with_names-append mid (names_in cut.1) (names_of cut.2) in
+      none cut.1 cut.5 (omega (arith, ap length table, with_names-longer (with_names mid (names_in cut.1)) (names_of cut.2), few))
 
-all_fit : (names : List (List ℕ)) (columns : List (List (List (List ℕ)))) (ts : List (List Written)) → AllZip Column columns ts → AllIn names ts → AllByRecursion (IsThread (length names)) (map (λ t. map (placed names) t) ts)
+-- what is told of a column holds in its columns
+pub threads_tell : {A : Type 0} (columns front rest : List (List (Cell A))) (column : List (Cell A)) (before mid : List (List ℕ)) (threads : List (List Stmt)) → columns ≡ front ++ column ∷ rest → ColumnsRead (all_texts front) before threads mid → (at : ℕ) (cause : CellCause) → Tells mid (column ∷ []) at cause → Tells before columns at cause
+threads_tell columns front rest column before mid threads whole read at cause t = column_tells before mid columns front rest column read.lines whole read.says read.names at cause t
+
+all_fit : (names : List (List ℕ)) (columns : List (List (List (List ℕ)))) (ts : List (List Line)) → AllZip Column columns ts → AllIn names ts → AllByRecursion (IsThread (length names)) (map (code_in names) ts)
 all_fit names [] [] says all = tt
 all_fit names [] (t ∷ ts) says all = absurd says
 all_fit names (c ∷ columns) [] says all = absurd says
-all_fit names (c ∷ columns) (t ∷ ts) says all = (thread_fits names t all.0 says.0.1, all_fit names columns ts says.1 all.1)
+all_fit names (c ∷ columns) (t ∷ ts) says all = (thread_fits names t all.0 says.0.few says.0.forward, all_fit names columns ts says.1 all.1)
 
 -- What was read of all columns.
 module _ (columns : List (List (List (List ℕ)))) (before after : List (List ℕ)) (threads : List (List Stmt)) (read : ColumnsRead columns before threads after) where
   pub threads_fit : All (IsThread (length after)) threads
   threads_fit =
-      let old : AllIn after read.written = in-flat after read.written (subst (λ ns. AllThere ns (flat_map (λ s. s) read.written)) (sym read.names) (all_there before (flat_map (λ s. s) read.written))) in
-      let fit : AllByRecursion (IsThread (length after)) threads = subst (λ ts. AllByRecursion (IsThread (length after)) ts) (sym read.made) (all_fit after columns read.written read.says old) in
+      let old : AllIn after read.lines = subst (λ ns. AllIn ns read.lines) (sym read.names) (all_in before read.lines) in
+      let fit : AllByRecursion (IsThread (length after)) threads = subst (λ ts. AllByRecursion (IsThread (length after)) ts) (sym read.made) (all_fit after columns read.lines read.says old) in
       All-from_recursion (IsThread (length after)) threads fit
 
   pub as_many_threads : length threads ≡ length columns
-  as_many_threads = ap length read.made ∙ length-map read.written (λ t. map (placed after) t) ∙ sym (zip_length Column columns read.written read.says)
+  as_many_threads = ap length read.made ∙ length-map read.lines (code_in after) ∙ sym (zip_length Column columns read.lines read.says)
 
   pub table_grown : length before ≤ length after
-  table_grown = omega (arith, with_names-longer before (names_of read.written), ap length read.names)
+  table_grown = omega (arith, with_names-longer before (names_of read.lines), ap length read.names)
 
 -- the head, with this table and these initial words
 abbrev changed : TestHead → List (List ℕ) → List ℕ → TestHead
@@ -135,15 +134,15 @@ module _ (frame_head head : TestHead) (same : head ≡ frame_head) (cells : List
       let source : SourceTest = record { head = changed head names words; threads = threads } in
       let found : HasSource (record { head = head; cells = cells }) source =
       record {
-        threads = read.written;
+        threads = read.lines;
         says = read.says;
         few = subst (λ ns. length ns ≤ 8) read.names few;
         made =
             ap (λ (w : List ℕ). let t : SourceTest = record { head = changed head names w; threads = threads } in t) filled
             ∙ ap (λ (ts : List (List Stmt)). let t : SourceTest = record { head = with_table head names; threads = ts } in t) read.made
-            ∙ ap (λ ns. test_on head ns read.written) read.names;
+            ∙ ap (λ ns. test_on head ns read.lines) read.names;
       } in
       subst (λ (h : TestHead). HasSource (record { head = h; cells = cells }) source) same found
 
-  pub source_none : ((t : List (List Written)) → AllZip Column cells t → length (with_names head.locs (names_of t)) ≤ 8 → ⊥) → (s : SourceTest) → HasSource (record { head = frame_head; cells = cells }) s → ⊥
+  pub source_none : ((t : List (List Line)) → AllZip Column cells t → length (with_names head.locs (names_of t)) ≤ 8 → ⊥) → (s : SourceTest) → HasSource (record { head = frame_head; cells = cells }) s → ⊥
   source_none none s has = none has.threads has.says (subst (λ (h : TestHead). length (with_names h.locs (names_of has.threads)) ≤ 8) (sym same) has.few)

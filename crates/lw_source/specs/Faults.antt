@@ -50,12 +50,12 @@ all_lines above line below = above ++ line ∷ below
 
 -- a jump to a label that its thread lacks
 abbrev pub IsMissing : {A : Type 0} {columns : List (List (Cell A))} {at : ℕ} → Standing columns at → Type 0
-IsMissing p = (above : List Line) (line : Line) (below : List Line) × IsJumpLabel p above line below × (Contains (labels_of (all_lines above line below)) p.token.text.now → ⊥)
+IsMissing p = (above : List Line) × (line : Line) × (below : List Line) × IsJumpLabel p above line below × (Contains (labels_of (all_lines above line below)) p.token.text.now → ⊥)
 
 -- a jump to a label at or before it
 abbrev pub IsBackward : {A : Type 0} {columns : List (List (Cell A))} {at : ℕ} → Standing columns at → Type 0
 IsBackward p =
-    (above : List Line) (line : Line) (below : List Line) × IsJumpLabel p above line below × Contains (labels_of (all_lines above line below)) p.token.text.now
+    (above : List Line) × (line : Line) × (below : List Line) × IsJumpLabel p above line below × Contains (labels_of (all_lines above line below)) p.token.text.now
     × (target_in (all_lines above line below) p.token.text.now ≤ length (statements above))
 
 -- The token is the first of what stands behind the labels of its cell, and 16 statements stand above.
@@ -69,7 +69,7 @@ pub record IsSeventeenth {A : Type 0} {columns : List (List (Cell A))} {at : ℕ
 -- tokens behind which a location may stand: none, `d :=`, or `d := swap`
 abbrev pub BeforeLocation : List (List ℕ) → Type 0
 BeforeLocation ts =
-    (ts ≡ []) ⊎ ((d : List ℕ) (r : ℕ) × IsRegister Source d r × ((ts ≡ d ∷ codes ":=" ∷ []) ⊎ (ts ≡ d ∷ codes ":=" ∷ codes "swap" ∷ [])))
+    (ts ≡ []) ⊎ ((d : List ℕ) × (r : ℕ) × IsRegister Source d r × ((ts ≡ d ∷ codes ":=" ∷ []) ⊎ (ts ≡ d ∷ codes ":=" ∷ codes "swap" ∷ [])))
 
 -- The token is a location that is not among the eight of the table and of what stands before.
 pub record IsNinth {A : Type 0} {columns : List (List (Cell A))} {at : ℕ} (names : List (List ℕ)) (p : Standing columns at) : Type 0 where

@@ -3,4 +3,5 @@ pub mod Sources
 pub mod Runs
 pub mod Views
 pub mod Cells
+pub mod Faults
 pub mod Reading

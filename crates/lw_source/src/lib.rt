@@ -6,13 +6,16 @@
 //! `SourceRun` is the one statement of the table in `specs/Statements.antt`.
 #![tactic(auto)]
 
-mod cell;
 mod column;
+mod label;
+mod phrase;
 mod read;
 mod run;
 mod source;
+mod statement;
 mod stmt;
 mod thread;
+mod token;
 
 pub use read::{a_frame_has_one_source, read_source};
 pub use run::SourceRun;

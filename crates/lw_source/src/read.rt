@@ -8,7 +8,8 @@ ghost use Rattle.lw_text.specs.Frames.{TestFrame};
 ghost use Rattle.lw_text.specs.Places.{all_texts, IsWithin};
 ghost use Rattle.lw_text.specs.Views.{frame_of};
 ghost use Rattle.lw_source.specs.Sources.{SourceTest};
-ghost use Rattle.lw_source.specs.Cells.{Written, Column, names_of, HasSource};
+ghost use Rattle.lw_source.specs.Cells.{Line, Column, names_of, HasSource};
+ghost use Rattle.lw_source.specs.Faults.{Tells};
 ghost use Rattle.lw_source.specs.Reading.{ColumnsRead};
 ghost use Rattle.lw_source.specs.Views.{source_of};
 
@@ -31,6 +32,8 @@ pub fn read_source<A: Allocator + Copy>(
     ensures found { IfOk result (λ s. HasSource (frame_of frame.now) (source_of s)) }
     ensures fault { IfErr result (λ f. f.cause ≢ Memory → (s : SourceTest) → HasSource (frame_of frame.now) s → ⊥) }
     ensures place { IfErr result (λ f. f.at ≤ frame.now.len) }
+    // What the cause says of the place is so.
+    ensures cause { IfErr result (λ f. Tells frame.now.head.locs frame.now.cells f.at f.cause) }
 {
     let mut head = frame.head().copy()?;
     let threads = read_columns(alloc, frame.cells.as_slice(), &mut head.locs)?;
@@ -51,7 +54,8 @@ fn read_columns<A: Allocator + Copy>(
     locs: &mut LocNames<A>,
 ) -> Result<Sequence<Sequence<Stmt, A>, A>, CellFault>
     ensures found { IfOk result (λ threads. ColumnsRead (all_texts columns.now) locs.old threads locs.new) }
-    ensures fault { IfErr result (λ f. f.cause ≢ Memory → (t : List (List Written)) → AllZip Column (all_texts columns.now) t → length (with_names locs.old (names_of t)) ≤ 8 → ⊥) }
+    ensures fault { IfErr result (λ f. f.cause ≢ Memory → (t : List (List Line)) → AllZip Column (all_texts columns.now) t → length (with_names locs.old (names_of t)) ≤ 8 → ⊥) }
+    ensures cause { IfErr result (λ f. Tells locs.old columns.now f.at f.cause) }
     ensures place { (len : ℕ) → All (λ column. All (IsWithin len) column) columns.now → IfErr result (λ f. f.at ≤ len) }
 {
     let mut threads = Sequence::new(alloc);

@@ -11,16 +11,16 @@ pub enum Stmt {
     /// `d := x`: the register gets the location's word.
     Load { dst: Reg, loc: Loc },
     /// `d := swap x a`: at once, the register `d` gets the location's word, and the location gets
-    /// the word that register `a` had. Not read yet.
+    /// the word that register `a` had.
     Swap { dst: Reg, loc: Loc, src: Reg },
-    /// `d := n`, `d := a`: the register gets the value. Not read yet.
+    /// `d := n`, `d := a`: the register gets the value.
     Set { dst: Reg, val: Operand },
-    /// `d := a + n`, `d := a + b`: the register gets the sum, modulo 2 to the 32. Not read yet.
+    /// `d := a + n`, `d := a + b`: the register gets the sum, modulo 2 to the 32.
     Sum { dst: Reg, left: Reg, right: Operand },
-    /// `if a = n goto L`. Not read yet.
+    /// `if a = n goto L`.
     IfEq { reg: Reg, num: Word, to: usize },
-    /// `if a != n goto L`. Not read yet.
+    /// `if a != n goto L`.
     IfNe { reg: Reg, num: Word, to: usize },
-    /// `goto L`. Not read yet.
+    /// `goto L`.
     Goto { to: usize },
 }

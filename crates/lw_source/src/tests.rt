@@ -115,36 +115,130 @@ fn statements_of_each_thread(rt: HostRuntime) -> Result<(), Fail> {
     Ok(())
 }
 
+/// Asserts that a thread with this one cell is refused.
+fn cell_refused<A: Allocator + Copy>(
+    rt: &impl Abort,
+    alloc: A,
+    cell: &str,
+    at: usize,
+    cause: CellCause,
+) -> Result<(), Fail> {
+    let text = format!(in alloc; "SRC A {{}} P0; {cell}; exists (x=1)")?;
+    refused(rt, alloc, text.as_str(), at, cause)
+}
+
 #[test]
-fn refused_cells(rt: HostRuntime) -> Result<(), Fail> {
-    let alloc = rt.alloc();
-    let cells = [
+fn refused_stores(rt: HostRuntime) -> Result<(), Fail> {
+    for (cell, at, cause) in [
         ("x", 14, Form),
         ("x ", 15, Form),
         ("x +", 15, Form),
         ("x :=", 17, Form),
-        ("r0", 15, Form),
         ("x := y", 18, Register),
+        ("x := if", 18, Register),
         ("x := r9", 18, Register),
         ("x := :=", 18, Form),
         ("x r9", 15, Register),
         ("r9 := 1", 13, Register),
-        ("r0 := r9", 19, Register),
-        ("r0 := r1", 19, Form),
-        ("r0 := 1", 19, Form),
-        ("r0 := swap x r1", 19, Form),
-        ("r0 := x + 1", 21, Form),
+        ("swap := 1", 13, Form),
         ("x := 1 y", 20, Form),
         ("x := 1 r1", 20, Form),
         ("x := 1 r9", 20, Register),
-        ("if r0 = 0 goto L", 13, Form),
-        ("goto L", 13, Form),
-        ("L: x := 1", 14, Form),
         ("1 := x", 13, Form),
         (":=", 13, Form),
-    ];
-    for (cell, at, cause) in cells {
-        let text = format!(in alloc; "SRC A {{}} P0; {cell}; exists (x=1)")?;
+    ] {
+        cell_refused(&rt, rt.alloc(), cell, at, cause)?;
+    }
+    Ok(())
+}
+
+#[test]
+fn refused_values(rt: HostRuntime) -> Result<(), Fail> {
+    for (cell, at, cause) in [
+        ("r0", 15, Form),
+        ("r0 :=", 18, Form),
+        ("r0 := r9", 19, Register),
+        ("r0 := if", 19, Form),
+        ("r0 := fetchadd x r1", 19, Form),
+        ("r0 := x + 1", 21, Form),
+        ("r0 := 1 + r1", 21, Form),
+        ("r0 := r1 r2", 22, Form),
+        ("r0 := r1 +", 23, Form),
+        ("r0 := r1 + x", 24, Register),
+        ("r0 := r1 + r9", 24, Register),
+        ("r0 := r1 + +", 24, Form),
+        ("r0 := r1 + 1 2", 26, Form),
+        ("r0 := swap r1 r2", 24, Form),
+        ("r0 := swap r9 r2", 24, Register),
+        ("r0 := swap x", 25, Form),
+        ("r0 := swap x y", 26, Register),
+        ("r0 := swap x if", 26, Register),
+        ("r0 := swap x 1", 26, Form),
+        ("r0 := swap x r1 y", 29, Form),
+    ] {
+        cell_refused(&rt, rt.alloc(), cell, at, cause)?;
+    }
+    Ok(())
+}
+
+#[test]
+fn refused_jumps(rt: HostRuntime) -> Result<(), Fail> {
+    for (cell, at, cause) in [
+        ("goto", 17, Form),
+        ("goto 1", 18, Form),
+        ("goto if", 18, Form),
+        ("goto r9", 18, Register),
+        ("goto L L", 20, Form),
+        ("if", 15, Form),
+        ("if 1 = 0 goto L", 16, Form),
+        ("if x = 0 goto L", 16, Register),
+        ("if goto = 0 goto L", 16, Register),
+        ("if r0 + 0 goto L", 19, Form),
+        ("if r0 = x goto L", 21, Form),
+        ("if r0 = r1 goto L", 21, Form),
+        ("if r0 != r9 goto L", 22, Register),
+        ("if r0 = 0 L", 23, Form),
+        ("if r0 = 0 goto r0", 28, Form),
+        ("if r0 = 0 goto L", 28, LabelMissing),
+    ] {
+        cell_refused(&rt, rt.alloc(), cell, at, cause)?;
+    }
+    Ok(())
+}
+
+#[test]
+fn refused_labels(rt: HostRuntime) -> Result<(), Fail> {
+    for (cell, at, cause) in [
+        ("r0 : x := 1", 13, Form),
+        ("if : x := 1", 13, Form),
+        ("goto : L", 13, Form),
+        ("r9 : x := 1", 13, Register),
+        ("1 : x := 1", 13, Form),
+        (": x := 1", 13, Form),
+        ("L : M : 2", 21, Form),
+        ("L : L : 2", 17, LabelTwice),
+    ] {
+        cell_refused(&rt, rt.alloc(), cell, at, cause)?;
+    }
+    Ok(())
+}
+
+#[test]
+fn refused_rows(rt: HostRuntime) -> Result<(), Fail> {
+    for (rows, at, cause) in [
+        (" r9 := 1 ;", 16, Register),
+        (" x + 1 ;", 18, Form),
+        (" goto L ;", 21, LabelMissing),
+        (" L: L: ;", 19, LabelTwice),
+        (" L: x := 1 ;\n L: ;", 29, LabelTwice),
+        (" L: x := 1 ;\n goto L ;", 34, Backward),
+        (" L: goto L ;", 24, Backward),
+        (" goto L ;\n x + ;", 28, Form),
+        (" goto L ;\n goto M ;\n L: ;", 31, LabelMissing),
+        (" M: goto M ;\n goto L ;", 24, Backward),
+    ] {
+        let alloc = rt.alloc();
+        let text = format!(in alloc; "SRC G\n{{}}\n P0 ;\n{rows}\nexists (x=1)\n")?;
         refused(&rt, alloc, text.as_str(), at, cause)?;
     }
     Ok(())
@@ -156,7 +250,9 @@ fn first_fault_is_told(rt: HostRuntime) -> Result<(), Fail> {
     let lower = "SRC A {} P0 | P1; x := 1 | y +; z + |; exists (x=1)";
     refused(&rt, alloc, lower, 34, Form)?;
     let other = "SRC A {} P0 | P1; x := 1 | y +; r0 := z | r9 := 1; exists (x=1)";
-    refused(&rt, alloc, other, 29, Form)
+    refused(&rt, alloc, other, 29, Form)?;
+    let jump = "SRC A {} P0 | P1; goto L | x + ; exists (x=1)";
+    refused(&rt, alloc, jump, 23, LabelMissing)
 }
 
 #[test]
@@ -192,8 +288,10 @@ fn seventeenth_statement(rt: HostRuntime) -> Result<(), Fail> {
         ("x := 1", TooMany),
         ("y +", TooMany),
         ("r0 := r9", TooMany),
+        ("goto +", TooMany),
+        ("if +", TooMany),
         ("1 := x", Form),
-        ("goto L", Form),
+        ("swap", Form),
         ("r9 := 1", Register),
     ] {
         let back = format!(in alloc; "{cell}; exists (x=1)")?;
@@ -209,7 +307,17 @@ fn buffered<A: Allocator + Copy>(
     alloc: A,
     events: &[Event],
 ) -> Result<(Replay, Outcome<A>), Fail> {
-    let source = read(rt, alloc, BUFFERING)?.ok().ok_or("a source test")?;
+    replayed(rt, alloc, BUFFERING, events)
+}
+
+/// What a run of a text answers to these events, and what it leaves.
+fn replayed<A: Allocator + Copy>(
+    rt: &impl Abort,
+    alloc: A,
+    text: &str,
+    events: &[Event],
+) -> Result<(Replay, Outcome<A>), Fail> {
+    let source = read(rt, alloc, text)?.ok().ok_or("a source test")?;
     let mut run = SourceRun::new(alloc, &source)?;
     let replay = run.run(events);
     let outcome = run.outcome()?;
@@ -326,92 +434,110 @@ fn place_and_words_of_a_run(rt: HostRuntime) -> Result<(), Fail> {
     Ok(())
 }
 
+/// Each form of statement, with jumps to the thread's end.
+const FORMS: &str =
+    "SRC F\n{}\n P0 ;\n r0 := 1 ;\n r1 := r0 ;\n r2 := r1 + r0 ;\n r3 := r2 + 4294967295 ;\n r4 := swap x r2 ;\n x := r4 ;\n A: r5 := x ;\n if r5 = 7 goto B ;\n if r5 != 8 goto C ;\n goto B ;\n C: ;\n B: x := 1 ;\n D: ;\nexists (x=1)\n";
+
 #[test]
-fn statements_that_no_text_gives(rt: HostRuntime) -> Result<(), Fail> {
-    let (x, d, a) = (loc(0)?, reg(0)?, reg(1)?);
-    let swap = Stmt::Swap {
-        dst: d,
-        loc: x,
-        src: a,
+fn values_and_swaps_are_read(rt: HostRuntime) -> Result<(), Fail> {
+    let (r0, r1, r2) = (reg(0)?, reg(1)?, reg(2)?);
+    let source = read(&rt, rt.alloc(), FORMS)?.ok().ok_or("a source test")?;
+    let [code] = source.threads.as_slice() else {
+        return Err("one thread".into());
     };
-    let same = Stmt::Swap {
-        dst: a,
-        loc: x,
-        src: a,
-    };
-    let set = Stmt::Set {
-        dst: d,
-        val: Operand::Register(a),
-    };
-    let sum = Stmt::Sum {
-        dst: a,
-        left: d,
-        right: Operand::Register(a),
-    };
-    let wrapped = Stmt::Sum {
-        dst: d,
-        left: a,
-        right: Operand::Number(4294967295),
-    };
-    let cases = [
-        (swap, 4, [9, 7], 7),
-        (same, 4, [5, 9], 7),
-        (set, 4, [7, 7], 9),
-        (sum, 4, [5, 12], 9),
-        (wrapped, 4, [6, 7], 9),
-        (
-            Stmt::IfEq {
-                reg: d,
-                num: 5,
-                to: 8,
-            },
-            8,
-            [5, 7],
-            9,
-        ),
-        (
-            Stmt::IfEq {
-                reg: a,
-                num: 5,
-                to: 8,
-            },
-            4,
-            [5, 7],
-            9,
-        ),
-        (
-            Stmt::IfNe {
-                reg: d,
-                num: 5,
-                to: 8,
-            },
-            4,
-            [5, 7],
-            9,
-        ),
-        (
-            Stmt::IfNe {
-                reg: a,
-                num: 5,
-                to: 8,
-            },
-            8,
-            [5, 7],
-            9,
-        ),
-        (Stmt::Goto { to: 8 }, 8, [5, 7], 9),
+    let expected = [
+        Stmt::Set {
+            dst: r0,
+            val: Operand::Number(1),
+        },
+        Stmt::Set {
+            dst: r1,
+            val: Operand::Register(r0),
+        },
+        Stmt::Sum {
+            dst: r2,
+            left: r1,
+            right: Operand::Register(r0),
+        },
+        Stmt::Sum {
+            dst: reg(3)?,
+            left: r2,
+            right: Operand::Number(4294967295),
+        },
+        Stmt::Swap {
+            dst: reg(4)?,
+            loc: loc(0)?,
+            src: r2,
+        },
     ];
-    let thread = Thread {
-        position: 3,
-        regs: [5, 7, 0, 0, 0, 0],
+    assert_eq!(rt; code.as_slice().get(..5), Some(expected.as_slice()));
+    Ok(())
+}
+
+#[test]
+fn jumps_are_read(rt: HostRuntime) -> Result<(), Fail> {
+    let r5 = reg(5)?;
+    let source = read(&rt, rt.alloc(), FORMS)?.ok().ok_or("a source test")?;
+    let [code] = source.threads.as_slice() else {
+        return Err("one thread".into());
     };
-    for (stmt, position, [first, second], word) in cases {
-        let mut words = Sequence::from_slice(rt.alloc(), &[9, 2])?;
-        let after = thread.after(&stmt, words.as_slice());
-        thread.write(&stmt, &mut words);
-        assert_eq!(rt; after.position, position, "{stmt:?}");
-        assert_eq!(rt; after.regs, [first, second, 0, 0, 0, 0], "{stmt:?}");
-        assert_eq!(rt; words.as_slice(), [word, 2].as_slice(), "{stmt:?}");
+    let expected = [
+        Stmt::IfEq {
+            reg: r5,
+            num: 7,
+            to: 10,
+        },
+        Stmt::IfNe {
+            reg: r5,
+            num: 8,
+            to: 10,
+        },
+        Stmt::Goto { to: 10 },
+        store(0, Operand::Number(1))?,
+    ];
+    assert_eq!(rt; code.as_slice().get(7..), Some(expected.as_slice()));
+    Ok(())
+}
+
+/// The registers of the only thread and the word of the first location, after so many steps.
+fn after_steps<A: Allocator + Copy>(
+    rt: &impl Abort,
+    alloc: A,
+    text: &str,
+    steps: usize,
+) -> Result<([u32; 6], u32), Fail> {
+    let step = Event::Step(cpu(0)?);
+    let (replay, outcome) = replayed(rt, alloc, text, [step; 16].get(..steps).ok_or("steps")?)?;
+    assert_eq!(rt; replay.end, End::Final, "{text:?}");
+    let regs = outcome.regs.get(0).ok_or("a thread")?;
+    let word = outcome.words.get(0).ok_or("a location")?;
+    Ok((*regs, *word))
+}
+
+#[test]
+fn statements_of_one_thread(rt: HostRuntime) -> Result<(), Fail> {
+    for (cells, steps, regs, word) in [
+        ("r0 := 4294967295; r0 := r0 + 2", 3, [1, 0, 0, 0, 0, 0], 5),
+        ("r1 := 4; r0 := r1 + r1", 3, [8, 4, 0, 0, 0, 0], 5),
+        ("r0 := 7; r0 := swap x r0", 3, [5, 0, 0, 0, 0, 0], 7),
+        (
+            "r0 := x; if r0 = 5 goto L; x := 1; L:",
+            3,
+            [5, 0, 0, 0, 0, 0],
+            5,
+        ),
+        (
+            "r0 := x; if r0 != 5 goto L; x := 1; L:",
+            4,
+            [5, 0, 0, 0, 0, 0],
+            1,
+        ),
+        ("goto L; x := 1; M: L: x := 2", 3, [0; 6], 2),
+    ] {
+        let alloc = rt.alloc();
+        let text = format!(in alloc; "SRC A {{}} P0; x := 5; {cells}; exists (x=1)")?;
+        let after = after_steps(&rt, alloc, text.as_str(), steps)?;
+        assert_eq!(rt; after, (regs, word), "{cells}");
     }
     Ok(())
 }

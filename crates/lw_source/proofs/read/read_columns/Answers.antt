@@ -1,12 +1,18 @@
 use Rattle.std.proofs.lemmas.Result.{err_from_is_err_and}
-use Rattle.lw_source.proofs.Sources.{columns_cut, columns_more, threads_more, threads_none}
+use Rattle.lw_source.proofs.Sources.{columns_cut, texts_cut, columns_more, threads_more, threads_none, threads_tell}
 use Rattle.lw_source.proofs.read.read_columns.Goals as goal
 
 pub returns-in_err-stmts-clause-fault : goal.returns-in_err-stmts-clause-fault
 returns-in_err-stmts-clause-fault g c =
     let p = err_from_is_err_and c.from_residual.result c.from_residual.ensures.1 in
-    let whole = columns_cut c.args.columns.now c.loop-column.column-index c.column-item.result c.loop-column-test.true c.column-item.is in
+    let whole = texts_cut c.args.columns.now c.loop-column.column-index c.column-item.result c.loop-column-test.true c.column-item.is in
     rw (p.1, p.2) (λ known. threads_none _ _ _ _ c.loop-column.invariant _ _ _ whole (rw c.as_slice.ensures at (c.in_err-stmts.ensures.fault known)))
+
+pub returns-in_err-stmts-clause-cause : goal.returns-in_err-stmts-clause-cause
+returns-in_err-stmts-clause-cause g c =
+    let p = err_from_is_err_and c.from_residual.result c.from_residual.ensures.1 in
+    let whole = columns_cut c.args.columns.now c.loop-column.column-index c.column-item.result c.loop-column-test.true c.column-item.is in
+    rw (p.1, p.2) (threads_tell _ _ _ _ _ _ _ whole c.loop-column.invariant _ _ (rw c.as_slice.ensures at c.in_err-stmts.ensures.cause))
 
 pub loop-column-preserved : goal.loop-column-preserved
 loop-column-preserved g c =

@@ -1,9 +1,10 @@
 use Rattle.std.proofs.lemmas.List.{length-map, length-replicate}
 use Rattle.lw_text.specs.Places.{cells_texts}
-use Rattle.std.proofs.Common.{ℕ, length-append, ◌≡◌, ◌-◌, ◌++◌, ap, ◌∙◌, length, arith}
+use Rattle.std.proofs.Common.{ℕ, length-append, ◌≡◌, ◌-◌, ◌++◌, ap, ◌∙◌, subst, length, arith}
 use Rattle.std.specs.Prelude.{replicate}
 use Rattle.std.proofs.lemmas.Result.{err_from_is_err_and}
 use Rattle.lw_base.specs.Heads.{TestHead, head_of}
+use Rattle.lw_source.specs.Faults.{Tells}
 use Rattle.lw_source.proofs.Sources.{threads_fit, as_many_threads, table_grown, source_found, source_none}
 use Rattle.lw_source.proofs.read.read_source.Goals as goal
 
@@ -12,6 +13,13 @@ returns-in_err-threads-clause-fault g c =
     let p = err_from_is_err_and c.from_residual-in_err-threads.result c.from_residual-in_err-threads.ensures.1 in
     let same : head_of c.in_ok-head.head ≡ head_of c.args.frame.now.head = c.in_ok-head.ensures ∙ ap head_of c.head.ensures in
     rw (p.1, p.2) (λ known. source_none _ _ same _ (rw c.as_slice.ensures at (c.in_err-threads.ensures.fault known)))
+
+pub returns-in_err-threads-clause-cause : goal.returns-in_err-threads-clause-cause
+returns-in_err-threads-clause-cause g c =
+    let p = err_from_is_err_and c.from_residual-in_err-threads.result c.from_residual-in_err-threads.ensures.1 in
+    let same : head_of c.in_ok-head.head ≡ head_of c.args.frame.now.head = c.in_ok-head.ensures ∙ ap head_of c.head.ensures in
+    let cause = rw c.as_slice.ensures at c.in_err-threads.ensures.cause in
+    rw (p.1, p.2) (subst (λ (h : TestHead). Tells h.locs c.args.frame.now.cells c.in_err-threads.field-0.0.at c.in_err-threads.field-0.0.cause) same cause)
 
 pub returns-in_err-threads-clause-place : goal.returns-in_err-threads-clause-place
 returns-in_err-threads-clause-place g c =

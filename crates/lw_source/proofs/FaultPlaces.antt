@@ -1,0 +1,173 @@
+-- The place of a cell's fault in its column.
+use Rattle.std.proofs.Common.{◌≡◌, ℕ, zero, suc, ◌+◌, inl, inr, Option, Some, List, [], ◌∷◌, ◌++◌, length, take, drop, refl, sym, ap, ◌∙◌, subst, arith}
+use Rattle.std.specs.Prelude.{slice_get, Contains, codes}
+use Rattle.std.specs.List.{AllZip}
+use Rattle.std.proofs.lemmas.List.{map-append, append_assoc, take-append-drop, drop-map}
+use Rattle.lw_base.specs.declared.fault.CellCause.{CellCause}
+use Rattle.lw_base.specs.declared.fault.CellCause.TheVariants.{Form, Register, LabelMissing, LabelTwice, Backward, TooMany, Memory}
+use Rattle.lw_base.specs.Tables.{with_names}
+use Rattle.lw_base.proofs.GrowingTables.{with_names-append}
+use Rattle.lw_text.specs.declared.cell.Cell.{Cell}
+use Rattle.lw_text.specs.declared.token.Token.{Token}
+use Rattle.lw_text.specs.Spans.{texts}
+use Rattle.lw_text.specs.Places.{all_texts}
+use Rattle.lw_source.specs.declared.stmt.Stmt.{Stmt}
+use Rattle.lw_source.specs.declared.label.Label.{Label}
+use Rattle.lw_source.specs.Cells.{Line, Labels, Column, statements, labels_of, names_in, names_of}
+use Rattle.lw_source.specs.Faults.{Standing, IsNinth, IsJumpLabel, Tells}
+use Rattle.lw_source.specs.Reading.{LabelCause, MaybeCause, LabelsRead, DraftRead, pairs, first_names}
+use Rattle.lw_source.proofs.LabelRows.{Labels-rest}
+use Rattle.lw_source.proofs.Leads.{first_names_in}
+
+-- a list, cut at a place
+pub cut_at : {X : Type 0} (xs : List X) (k : ℕ) (x : X) → slice_get xs k ≡ Some x → xs ≡ take k xs ++ x ∷ drop (suc k) xs
+cut_at [] k x e = absurd cc
+cut_at {X} (y ∷ xs) zero x e = let f : y ≡ x = cc in ap (λ (z : X). z ∷ xs) f
+cut_at {X} (y ∷ xs) (suc k) x e = ap (λ (zs : List X). y ∷ zs) (cut_at xs k x e)
+
+drop_at : {X : Type 0} (xs : List X) (k : ℕ) (x : X) → slice_get xs k ≡ Some x → drop k xs ≡ x ∷ drop (suc k) xs
+drop_at [] k x e = absurd cc
+drop_at {X} (y ∷ xs) zero x e = let f : y ≡ x = cc in ap (λ (z : X). z ∷ xs) f
+drop_at (y ∷ xs) (suc k) x e = drop_at xs k x e
+
+get_dropped : {X : Type 0} (xs : List X) (k : ℕ) → slice_get (drop k xs) 0 ≡ slice_get xs k
+get_dropped [] zero = refl
+get_dropped [] (suc k) = refl
+get_dropped (x ∷ xs) zero = refl
+get_dropped (x ∷ xs) (suc k) = get_dropped xs k
+
+-- A cell of a thread, with what was read above it.
+module _ {A : Type 0} (cells front rest : List (Cell A)) (cell : Cell A) (whole : cells ≡ front ++ cell ∷ rest) where
+  abbrev pub standing : (at : ℕ) (before : List Token) (t : Token) (back : List Token) → cell.tokens ≡ before ++ t ∷ back → t.at ≡ at → Standing (cells ∷ []) at
+  standing at before t back in_cell begins =
+      record {
+        before = [];
+        above = front;
+        cell = cell;
+        below = rest;
+        behind = [];
+        front = before;
+        token = t;
+        back = back;
+        in_columns = ap (λ (c : List (Cell A)). c ∷ []) whole;
+        in_cell = in_cell;
+        begins = begins;
+      }
+
+  module _ (names mid : List (List ℕ)) (stmts : List (Option Stmt)) (labels : List Label) (read : DraftRead front names stmts labels mid) where
+    pub labels_tell : (at : ℕ) (cause : CellCause) → LabelCause cell.tokens (first_names (pairs labels)) at cause → Tells names (cells ∷ []) at cause
+    labels_tell at Form c = tt
+    labels_tell at Register c = tt
+    labels_tell at LabelMissing c = absurd c
+    labels_tell at LabelTwice c =
+        let k = c.place in
+        let colon : slice_get (texts cell.tokens) (suc k) ≡ Some (codes ":") = (let e : suc k ≡ k + 1 = omega arith in ap (slice_get (texts cell.tokens)) e ∙ c.colon) in
+        let known : first_names (pairs labels) ≡ labels_of read.lines = ap first_names read.leads ∙ first_names_in read.lines 0 in (
+          standing at (take k cell.tokens) c.token (drop (suc k) cell.tokens) (cut_at cell.tokens k c.token c.is) c.begins,
+          record {
+            lines = read.lines;
+            labels = c.names;
+            more = drop (suc (suc k)) (texts cell.tokens);
+            says = read.says;
+            in_front = c.says;
+            is_label = sym (drop-map (λ t. t.text.now) (suc k) cell.tokens) ∙ drop_at (texts cell.tokens) (suc k) (codes ":") colon;
+            there = subst (λ (ns : List (List ℕ)). Contains (ns ++ c.names) c.token.text.now) known c.there;
+          },
+        )
+    labels_tell at Backward c = absurd c
+    labels_tell at TooMany c = absurd c
+    labels_tell at Memory c = tt
+
+    pub statement_tells : (next : ℕ) (more : List Label) → LabelsRead cell.tokens (length (statements read.lines)) labels next more → (at : ℕ) (cause : CellCause) → MaybeCause (length (statements read.lines)) (drop next cell.tokens) mid at cause → Tells names (cells ∷ []) at cause
+    statement_tells next more ls at Form c = tt
+    statement_tells next more ls at Register c = tt
+    statement_tells next more ls at LabelMissing c = absurd c
+    statement_tells next more ls at LabelTwice c = absurd c
+    statement_tells next more ls at Backward c = absurd c
+    statement_tells next more ls at TooMany (inl c) =
+        let is : slice_get cell.tokens next ≡ Some c.1.0 = sym (get_dropped cell.tokens next) ∙ c.1.1 in (
+          standing at (take next cell.tokens) c.1.0 (drop (suc next) cell.tokens) (cut_at cell.tokens next c.1.0 is) c.1.2,
+          inl (record { lines = read.lines; labels = ls.names; says = read.says; in_front = ls.says; full = c.0 }),
+        )
+    statement_tells next more ls at TooMany (inr c) =
+        let tail = drop next cell.tokens in
+        let inside : cell.tokens ≡ (take next cell.tokens ++ take c.place tail) ++ c.token ∷ drop (suc c.place) tail =
+        sym (take-append-drop next cell.tokens) ∙ ap (λ (ts : List Token). take next cell.tokens ++ ts) (cut_at tail c.place c.token c.is) ∙ sym (append_assoc (take next cell.tokens) (take c.place tail) (c.token ∷ drop (suc c.place) tail)) in (
+          standing at (take next cell.tokens ++ take c.place tail) c.token (drop (suc c.place) tail) inside c.ninth.0,
+          inr (record {
+            threads = [];
+            lines = read.lines;
+            labels = ls.names;
+            mid = texts (take c.place tail);
+            before_says = tt;
+            says = read.says;
+            in_front = subst (λ (ts : List (List ℕ)). Labels ts ls.names (texts (take c.place tail))) (sym (map-append (λ t. t.text.now) (take next cell.tokens) (take c.place tail))) (Labels-rest (texts (take next cell.tokens)) (texts (take c.place tail)) ls.names ls.says);
+            at_location = c.before;
+            is_location = c.ninth.1;
+            full = ap length (sym read.names) ∙ c.ninth.2;
+            new = λ there. c.ninth.3 (subst (λ (ns : List (List ℕ)). Contains ns c.token.text.now) (sym read.names) there);
+          }),
+        )
+    statement_tells next more ls at Memory c = tt
+
+single : {X : Type 0} (c : X) (xs : List X) (y : X) (zs : List X) → c ∷ [] ≡ xs ++ y ∷ zs → (xs ≡ []) × (c ≡ y)
+single c [] y zs e = (refl, cc)
+single c (x ∷ []) y zs e = let f : [] ≡ y ∷ zs = cc in absurd cc
+single c (x ∷ w ∷ xs) y zs e = let f : [] ≡ w ∷ xs ++ y ∷ zs = cc in absurd cc
+
+no_threads : {A : Type 0} (before : List (List (Cell A))) (threads : List (List Line)) → before ≡ [] → AllZip Column (all_texts before) threads → threads ≡ []
+no_threads [] [] e h = refl
+no_threads [] (t ∷ threads) e h = absurd h
+no_threads (b ∷ before) threads e h = absurd cc
+
+-- A fault of a column is one of the columns, of which those before were read.
+module _ {A : Type 0} (names mid : List (List ℕ)) (columns front rest : List (List (Cell A))) (column : List (Cell A)) (threads : List (List Line)) (whole : columns ≡ front ++ column ∷ rest) (says : AllZip Column (all_texts front) threads) (table : mid ≡ with_names names (names_of threads)) where
+  abbrev moved : (at : ℕ) → Standing (column ∷ []) at → Standing columns at
+  moved at p =
+      record {
+        before = front;
+        above = p.above;
+        cell = p.cell;
+        below = p.below;
+        behind = rest;
+        front = p.front;
+        token = p.token;
+        back = p.back;
+        in_columns = whole ∙ ap (λ (c : List (Cell A)). front ++ c ∷ rest) (single column p.before (p.above ++ p.cell ∷ p.below) p.behind p.in_columns).1;
+        in_cell = p.in_cell;
+        begins = p.begins;
+      }
+
+  jump_moved : (at : ℕ) (p : Standing (column ∷ []) at) (above : List Line) (line : Line) (below : List Line) → IsJumpLabel p above line below → IsJumpLabel (moved at p) above line below
+  jump_moved at p above line below j = record { above_says = j.above_says; says = j.says; below_says = j.below_says; last = j.last; jump = j.jump }
+
+  ninth_moved : (at : ℕ) (p : Standing (column ∷ []) at) → IsNinth mid p → IsNinth names (moved at p)
+  ninth_moved at p n =
+      let none : n.threads ≡ [] = no_threads p.before n.threads (single column p.before (p.above ++ p.cell ∷ p.below) p.behind p.in_columns).0 n.before_says in
+      let same : with_names mid (names_of n.threads ++ names_in n.lines) ≡ with_names names (names_of threads ++ names_in n.lines) =
+      ap (λ (ts : List (List Line)). with_names mid (names_of ts ++ names_in n.lines)) none ∙ ap (λ (ns : List (List ℕ)). with_names ns (names_in n.lines)) table ∙ sym (with_names-append names (names_of threads) (names_in n.lines)) in
+      record {
+        threads = threads;
+        lines = n.lines;
+        labels = n.labels;
+        mid = n.mid;
+        before_says = says;
+        says = n.says;
+        in_front = n.in_front;
+        at_location = n.at_location;
+        is_location = n.is_location;
+        full = ap length (sym same) ∙ n.full;
+        new = λ there. n.new (subst (λ (ns : List (List ℕ)). Contains ns p.token.text.now) (sym same) there);
+      }
+
+  pub column_tells : (at : ℕ) (cause : CellCause) → Tells mid (column ∷ []) at cause → Tells names columns at cause
+  column_tells at Form t = tt
+  column_tells at Register t = tt
+  column_tells at LabelMissing t = (moved at t.0, (t.1.0, t.1.1, t.1.2, jump_moved at t.0 t.1.0 t.1.1 t.1.2 t.1.3, t.1.4))
+  column_tells at LabelTwice t =
+      let s = t.1 in
+      (moved at t.0, record { lines = s.lines; labels = s.labels; more = s.more; says = s.says; in_front = s.in_front; is_label = s.is_label; there = s.there })
+  column_tells at Backward t = (moved at t.0, (t.1.0, t.1.1, t.1.2, jump_moved at t.0 t.1.0 t.1.1 t.1.2 t.1.3, t.1.4, t.1.5))
+  column_tells at TooMany (p, inl s) = (moved at p, inl (record { lines = s.lines; labels = s.labels; says = s.says; in_front = s.in_front; full = s.full }))
+  column_tells at TooMany (p, inr n) = (moved at p, inr (ninth_moved at p n))
+  column_tells at Memory t = tt

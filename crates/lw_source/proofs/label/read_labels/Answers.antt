@@ -1,0 +1,25 @@
+use Rattle.std.proofs.Common.{refl, sym, ◌∙◌}
+use Rattle.std.proofs.lemmas.Result.{err_from_is_err_and}
+use Rattle.lw_source.proofs.LabelRows.{labels_more, labels_on, labels_twice, twice_in, at_index, next_within, found_there, found_nowhere}
+use Rattle.lw_source.proofs.label.read_labels.Goals as goal
+
+pub returns-in_err-label-clause-fault : goal.returns-in_err-label-clause-fault
+returns-in_err-label-clause-fault g c =
+    let p = err_from_is_err_and c.from_residual.result c.from_residual.ensures.1 in
+    let colon = c.is_colon.ensures.0 c.loop-token-test.true in
+    rw (p.1, p.2) (λ known ks mid h none once. c.in_err-label.ensures.err (labels_on _ _ _ _ _ c.loop-token.invariant _ (at_index c.args.tokens.now c.loop-token.next _ (next_within _ _ _ colon)) colon ks mid h none).2)
+
+pub returns-then-is_some-clause-fault : goal.returns-then-is_some-clause-fault
+returns-then-is_some-clause-fault g c known ks mid h none once =
+    let colon = c.is_colon.ensures.0 c.loop-token-test.true in
+    labels_twice _ _ _ _ _ c.loop-token.invariant _ (at_index c.args.tokens.now c.loop-token.next _ (next_within _ _ _ colon)) colon ks mid h none once (found_there _ _ _ (rw c.as_slice.ensures at c.target.ensures) (sym c.is_some.ensures ∙ c.if-is_some.true))
+
+pub returns-then-is_some-clause-cause : goal.returns-then-is_some-clause-cause
+returns-then-is_some-clause-cause g c =
+    let colon = c.is_colon.ensures.0 c.loop-token-test.true in
+    twice_in _ _ _ _ _ c.loop-token.invariant _ (at_index c.args.tokens.now c.loop-token.next _ (next_within _ _ _ colon)) colon (found_there _ _ _ (rw c.as_slice.ensures at c.target.ensures) (sym c.is_some.ensures ∙ c.if-is_some.true))
+
+pub loop-token-preserved : goal.loop-token-preserved
+loop-token-preserved g c =
+    let colon = c.is_colon.ensures.0 c.loop-token-test.true in
+    labels_more _ _ _ _ _ c.loop-token.invariant _ (at_index c.args.tokens.now c.loop-token.next _ (next_within _ _ _ colon)) colon _ _ c.in_ok-label.ensures.ok c.in_ok-push.ensures.ok refl refl (found_nowhere _ _ _ (rw c.as_slice.ensures at c.target.ensures) (sym c.is_some.ensures ∙ c.if-is_some.false))

@@ -1,0 +1,46 @@
+use Rattle.std.proofs.Common.{◌≡◌, sym, subst, arith, length, ◌≤◌}
+use Rattle.std.specs.Prelude.{codes}
+use Rattle.std.proofs.lemmas.Result.{err_from_is_err_and, IfErr-weaker}
+use Rattle.lw_base.specs.declared.head.Arch.TheVariants.{Source}
+use Rattle.lw_base.specs.declared.operand.Operand.TheVariants.{Number}
+use Rattle.lw_base.specs.Names.{IsLocation}
+use Rattle.lw_base.specs.Registers.{IsRegister}
+use Rattle.lw_base.specs.Tables.{with_name}
+use Rattle.lw_source.specs.Cells.{IsOperand}
+use Rattle.lw_source.proofs.Phrases.{sets, loads, no_value, value_begins, swap_reserved, no_operand, swap_register, swap_number, register_apart, from_two, statement_cause, before_second, same_word, other_word, Fits}
+use Rattle.lw_source.proofs.statement.read_value.Goals as goal
+
+pub returns-then-eq-clause-fault : goal.returns-then-eq-clause-fault
+returns-then-eq-clause-fault g c =
+    let swap : c.in_ok-third.third.text.now ≡ codes "swap" = same_word _ _ c.if-eq.ensures in
+    IfErr-weaker c.read_swap.result _ _ (λ f none known s says few.
+    no_value _ c.in_ok-third.third.text.now (Fits _ _) (λ x d e loc l q. swap_reserved (subst IsLocation swap loc)) (λ d r x e q. none known d r x q.0 q.1) (λ d v is l q. no_operand _ swap_register swap_number v (subst (λ w. IsOperand w v) swap is)) (λ d l v is m q. swap_register l (subst (λ w. IsRegister Source w l) swap is)) s (value_begins _ _ c.args.dst c.requires.first.1 c.requires.first.2 _ c.in_ok-third.ensures.found s says) (says, few)) c.read_swap.ensures.fault
+
+pub returns-in-Some-clause-fault : goal.returns-in-Some-clause-fault
+returns-in-Some-clause-fault g c =
+    from_two c.read_sum.result _ c.read_sum.ensures.longer c.read_sum.ensures.fault (λ long none f known s says few.
+    no_value _ c.in_ok-third.third.text.now (Fits _ _) (λ x d e loc l q. register_apart _ _ c.in-Some.ensures loc) (λ d r x e q. swap_register _ (subst (λ w. IsRegister Source w c.in-Some.left) e c.in-Some.ensures)) (λ d v is l q. omega (arith, l, long)) (λ d l v is m q. none d l v q.0) s (value_begins _ _ c.args.dst c.requires.first.1 c.requires.first.2 _ c.in_ok-third.ensures.found s says) (says, few))
+
+pub returns-in-Some-number-clause-found : goal.returns-in-Some-number-clause-found
+returns-in-Some-number-clause-found g c =
+    sets _ _ c.args.dst (Number c.in-Some-number.word) _ _ c.requires.first.1 c.requires.sign c.in_ok-third.ensures.found c.in_ok-ends.ensures.ok c.requires.first.2 c.in-Some-number.ensures
+
+pub returns-in_err-loc-clause-fault : goal.returns-in_err-loc-clause-fault
+returns-in_err-loc-clause-fault g c =
+    let p = err_from_is_err_and c.from_residual-in_err-loc.result c.from_residual-in_err-loc.ensures.1 in
+    rw (p.1, p.2) (λ known s says few.
+    no_value _ c.in_ok-third.third.text.now (Fits _ _) (λ x d e loc l q. c.in_err-loc.ensures.fault known loc (subst (λ n. length (with_name c.args.locs.now n) ≤ 8) e q.1)) (λ d r x e q. other_word _ _ c.if-eq.ensures (sym e)) (λ d v is l q. no_operand _ c.in_default.ensures c.in_default-number.ensures v is) (λ d l v is m q. c.in_default.ensures l is) s (value_begins _ _ c.args.dst c.requires.first.1 c.requires.first.2 _ c.in_ok-third.ensures.found s says) (says, few))
+
+pub returns-in_err-loc-clause-cause : goal.returns-in_err-loc-clause-cause
+returns-in_err-loc-clause-cause g c =
+    let p = err_from_is_err_and c.from_residual-in_err-loc.result c.from_residual-in_err-loc.ensures.1 in
+    rw (p.1, p.2) (statement_cause _ _ 2 _ c.in_ok-third.ensures.is (before_second _ _ _ c.requires.first.1 c.requires.first.2 c.requires.sign) _ _ c.in_err-loc.ensures.cause)
+
+pub returns-in_err-loc-clause-place : goal.returns-in_err-loc-clause-place
+returns-in_err-loc-clause-place g c len within =
+    let p = err_from_is_err_and c.from_residual-in_err-loc.result c.from_residual-in_err-loc.ensures.1 in
+    rw (p.1, p.2) (c.in_err-loc.ensures.place len (c.in_ok-third.ensures.within len within))
+
+pub returns-clause-found : goal.returns-clause-found
+returns-clause-found g c =
+    loads _ _ _ c.in_ok-loc.loc c.args.dst _ _ c.requires.first.1 c.requires.sign c.in_ok-third.ensures.found c.in_ok-ends-2.ensures.ok c.requires.first.2 c.in_ok-loc.ensures.name c.in_ok-loc.ensures.names c.in_ok-loc.ensures.found

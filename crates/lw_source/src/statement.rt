@@ -1,0 +1,193 @@
+//! Reads the statement of a cell.
+ghost use Rattle.std.specs.Prelude.{◌≡◌, ◌≢◌, ℕ, ◌<◌, ◌≤◌, ◌⊎◌, List, [], length, Some, true, false, slice_get, codes, IfOk, IfErr, OnErr, IsTrue};
+ghost use Rattle.lw_base.specs.declared.fault.CellCause.TheVariants.{Form, TooMany, Memory};
+ghost use Rattle.lw_base.specs.declared.operand.Operand.{Operand};
+ghost use Rattle.lw_base.specs.declared.head.Arch.TheVariants as arch;
+ghost use Rattle.lw_base.specs.Names.{IsLocation};
+ghost use Rattle.lw_base.specs.Registers.{IsRegister};
+ghost use Rattle.lw_base.specs.Tables.{with_names};
+ghost use Rattle.lw_text.specs.Spans.{texts};
+ghost use Rattle.lw_source.specs.Cells.{Written, Statement, Swaps, Sets, Sums, Jumps_if, Jumps_if_not, Jumps};
+ghost use Rattle.lw_source.specs.Reading.{IsMisfit, RegisterAt, StatementRead, StatementCause, MaybeCause, LiesWithin, named_by};
+
+use crate::phrase::Phrase;
+use crate::stmt::Stmt;
+use crate::token::{label, location, misfit, operand, register, word};
+use lw_base::{Arch, CellCause, CellFault, LocNames, Operand, Reg, is_location, reg_named};
+use lw_text::{Token, number};
+use std::alloc::Allocator;
+
+/// Reads a statement that is not empty. The name of its location goes into the table; where its jump
+/// leads is not known yet, and is 0.
+pub(crate) fn read_statement<A: Allocator + Copy>(
+    phrase: &Phrase<'_, '_>,
+    locs: &mut LocNames<A>,
+) -> Result<Stmt, CellFault>
+    ensures found { IfOk result (λ stmt. StatementRead (texts phrase.now.tokens.now) locs.old stmt locs.new) }
+    ensures fault { IfErr result (λ f. f.cause ≢ Memory → (s : Written) → Statement (texts phrase.now.tokens.now) s → length (with_names locs.old (named_by s)) ≤ 8 → ⊥) }
+    ensures cause { IfErr result (λ f. StatementCause phrase.now.tokens.now locs.old f.at f.cause) }
+    ensures place { (len : ℕ) → LiesWithin len phrase.now → IfErr result (λ f. f.at ≤ len) }
+{
+    let first = phrase.token(0)?;
+    if first.text == "goto" {
+        return read_goto(phrase);
+    }
+    if first.text == "if" {
+        return read_if(phrase);
+    }
+    if let Some(dst) = reg_named(Arch::Source, first.text) {
+        phrase.expect(1, ":=")?;
+        return read_value(phrase, dst, locs);
+    }
+    let loc = location(&first, locs)?;
+    phrase.expect(1, ":=")?;
+    let val = operand(&phrase.token(2)?)?;
+    phrase.ends(3)?;
+    Ok(Stmt::Store { loc, val })
+}
+
+/// The fault of a statement that would be one too many: told at its first token, unless no statement
+/// begins with that one.
+pub(crate) fn surplus(first: &Token<'_>) -> CellFault
+    ensures place { result.at ≡ first.now.at }
+    ensures cause { IsMisfit result.cause ⊎ (result.cause ≡ TooMany) }
+{
+    if is_first(first) {
+        return CellFault {
+            at: first.at,
+            cause: CellCause::TooMany,
+        };
+    }
+    misfit(first)
+}
+
+/// Whether a statement can begin with the token.
+fn is_first(token: &Token<'_>) -> bool {
+    token.text == "if"
+        || token.text == "goto"
+        || is_location(token.text)
+        || reg_named(Arch::Source, token.text).is_some()
+}
+
+/// `goto L`
+fn read_goto(phrase: &Phrase<'_, '_>) -> Result<Stmt, CellFault>
+    requires { slice_get (texts phrase.now.tokens.now) 0 ≡ Some (codes "goto") }
+    ensures found { IfOk result (λ stmt. (names : List (List ℕ)) → StatementRead (texts phrase.now.tokens.now) names stmt names) }
+    ensures fault { OnErr result ((l : List ℕ) → Statement (texts phrase.now.tokens.now) (Jumps l) → ⊥) }
+    ensures cause { IfErr result (λ f. IsMisfit f.cause) }
+    ensures place { (len : ℕ) → LiesWithin len phrase.now → IfErr result (λ f. f.at ≤ len) }
+{
+    label(&phrase.token(1)?)?;
+    phrase.ends(2)?;
+    Ok(Stmt::Goto { to: 0 })
+}
+
+/// `if a = n goto L`, `if a != n goto L`
+fn read_if(phrase: &Phrase<'_, '_>) -> Result<Stmt, CellFault>
+    requires { slice_get (texts phrase.now.tokens.now) 0 ≡ Some (codes "if") }
+    ensures found { IfOk result (λ stmt. (names : List (List ℕ)) → StatementRead (texts phrase.now.tokens.now) names stmt names) }
+    ensures equal { OnErr result ((a n : ℕ) (l : List ℕ) → Statement (texts phrase.now.tokens.now) (Jumps_if a n l) → ⊥) }
+    ensures unequal { OnErr result ((a n : ℕ) (l : List ℕ) → Statement (texts phrase.now.tokens.now) (Jumps_if_not a n l) → ⊥) }
+    ensures cause { IfErr result (λ f. IsMisfit f.cause) }
+    ensures place { (len : ℕ) → LiesWithin len phrase.now → IfErr result (λ f. f.at ≤ len) }
+{
+    let reg = register(&phrase.token(1)?)?;
+    let is_equal = is_equals(&phrase.token(2)?)?;
+    let num = word(&phrase.token(3)?)?;
+    phrase.expect(4, "goto")?;
+    label(&phrase.token(5)?)?;
+    phrase.ends(6)?;
+    if is_equal {
+        return Ok(Stmt::IfEq { reg, num, to: 0 });
+    }
+    Ok(Stmt::IfNe { reg, num, to: 0 })
+}
+
+/// Whether the token is `=`, and not `!=`.
+fn is_equals(token: &Token<'_>) -> Result<bool, CellFault>
+    ensures equal { IfOk result (λ b. b ≡ true → token.now.text.now ≡ codes "=") }
+    ensures unequal { IfOk result (λ b. b ≡ false → token.now.text.now ≡ codes "!=") }
+    ensures not_equal { OnErr result (token.now.text.now ≢ codes "=") }
+    ensures not_unequal { OnErr result (token.now.text.now ≢ codes "!=") }
+    ensures cause { IfErr result (λ f. IsMisfit f.cause) }
+    ensures place { (len : ℕ) → token.now.at ≤ len → IfErr result (λ f. f.at ≤ len) }
+{
+    if token.text == "=" {
+        return Ok(true);
+    }
+    if token.text == "!=" {
+        return Ok(false);
+    }
+    Err(misfit(token))
+}
+
+/// What a register gets: what stands behind `d :=`.
+fn read_value<A: Allocator + Copy>(
+    phrase: &Phrase<'_, '_>,
+    dst: Reg,
+    locs: &mut LocNames<A>,
+) -> Result<Stmt, CellFault>
+    requires first { RegisterAt (texts phrase.now.tokens.now) 0 dst }
+    requires sign { slice_get (texts phrase.now.tokens.now) 1 ≡ Some (codes ":=") }
+    ensures found { IfOk result (λ stmt. StatementRead (texts phrase.now.tokens.now) locs.old stmt locs.new) }
+    ensures fault { IfErr result (λ f. f.cause ≢ Memory → (s : Written) → Statement (texts phrase.now.tokens.now) s → length (with_names locs.old (named_by s)) ≤ 8 → ⊥) }
+    ensures cause { IfErr result (λ f. StatementCause phrase.now.tokens.now locs.old f.at f.cause) }
+    ensures place { (len : ℕ) → LiesWithin len phrase.now → IfErr result (λ f. f.at ≤ len) }
+{
+    let third = phrase.token(2)?;
+    if third.text == "swap" {
+        return read_swap(phrase, dst, locs);
+    }
+    if let Some(left) = reg_named(Arch::Source, third.text) {
+        return read_sum(phrase, dst, left);
+    }
+    if let Some(word) = number(third.text) {
+        phrase.ends(3)?;
+        let val = Operand::Number(word);
+        return Ok(Stmt::Set { dst, val });
+    }
+    let loc = location(&third, locs)?;
+    phrase.ends(3)?;
+    Ok(Stmt::Load { dst, loc })
+}
+
+/// `d := swap x a`
+fn read_swap<A: Allocator + Copy>(
+    phrase: &Phrase<'_, '_>,
+    dst: Reg,
+    locs: &mut LocNames<A>,
+) -> Result<Stmt, CellFault>
+    requires first { RegisterAt (texts phrase.now.tokens.now) 0 dst }
+    requires sign { slice_get (texts phrase.now.tokens.now) 1 ≡ Some (codes ":=") }
+    requires third { slice_get (texts phrase.now.tokens.now) 2 ≡ Some (codes "swap") }
+    ensures found { IfOk result (λ stmt. StatementRead (texts phrase.now.tokens.now) locs.old stmt locs.new) }
+    ensures fault { IfErr result (λ f. f.cause ≢ Memory → (d a : ℕ) (x : List ℕ) → Statement (texts phrase.now.tokens.now) (Swaps d x a) → length (with_names locs.old (named_by (Swaps d x a))) ≤ 8 → ⊥) }
+    ensures cause { IfErr result (λ f. StatementCause phrase.now.tokens.now locs.old f.at f.cause) }
+    ensures place { (len : ℕ) → LiesWithin len phrase.now → IfErr result (λ f. f.at ≤ len) }
+{
+    let loc = location(&phrase.token(3)?, locs)?;
+    let src = register(&phrase.token(4)?)?;
+    phrase.ends(5)?;
+    Ok(Stmt::Swap { dst, loc, src })
+}
+
+/// `d := a`, `d := a + b`, `d := a + n`
+fn read_sum(phrase: &Phrase<'_, '_>, dst: Reg, left: Reg) -> Result<Stmt, CellFault>
+    requires first { RegisterAt (texts phrase.now.tokens.now) 0 dst }
+    requires sign { slice_get (texts phrase.now.tokens.now) 1 ≡ Some (codes ":=") }
+    requires third { RegisterAt (texts phrase.now.tokens.now) 2 left }
+    ensures found { IfOk result (λ stmt. (names : List (List ℕ)) → StatementRead (texts phrase.now.tokens.now) names stmt names) }
+    ensures longer { OnErr result (3 < length (texts phrase.now.tokens.now)) }
+    ensures fault { OnErr result ((d a : ℕ) (v : Operand) → Statement (texts phrase.now.tokens.now) (Sums d a v) → ⊥) }
+    ensures cause { IfErr result (λ f. IsMisfit f.cause) }
+    ensures place { (len : ℕ) → LiesWithin len phrase.now → IfErr result (λ f. f.at ≤ len) }
+{
+    if phrase.tokens.len() <= 3 {
+        let val = Operand::Register(left);
+        return Ok(Stmt::Set { dst, val });
+    }
+    phrase.expect(3, "+")?;
+    let right = operand(&phrase.token(4)?)?;
+    phrase.ends(5)?;
+    Ok(Stmt::Sum { dst, left, right })
+}
