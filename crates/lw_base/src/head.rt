@@ -23,9 +23,9 @@ pub enum Arch {
 pub enum Quant {
     /// Some final state makes the proposition true.
     Exists,
-    /// None does. Not read yet.
+    /// None does.
     NotExists,
-    /// All do. Not read yet.
+    /// All do.
     Forall,
 }
 
@@ -51,7 +51,8 @@ pub struct Head<A: Allocator = Global> {
     pub init_regs: Sequence<[Word; 6], A>,
     /// The initial words of the locations, one for each name of the table.
     pub init_words: Sequence<Word, A>,
-    /// What the line of observed names lists, each once and in order. Not read yet: empty.
+    /// What the list of names has, each once: registers by thread and number, then locations by their
+    /// places in the table.
     pub listed: Sequence<Seen, A>,
     /// How the condition speaks of the final states.
     pub quant: Quant,
