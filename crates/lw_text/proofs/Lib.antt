@@ -25,5 +25,6 @@ pub mod PropositionRows
 pub mod Whole
 pub mod Bodies
 pub mod PlacedHeads
+pub mod KeptHeads
 pub mod Says
 pub mod Pending

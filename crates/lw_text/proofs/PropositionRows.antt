@@ -50,7 +50,7 @@ there_more names ns (Atom Never) h = tt
 there_more names ns (Atom (Holds (InMemory x) n)) h = there-along names ns x h
 there_more names ns (Atom (Holds (InThread t r) n)) h = tt
 
-there_now : (names : List (List ℕ)) (s : Sign Claim) → IsThere (with_names names (site_names (sites_in (s ∷ [])))) s
+pub there_now : (names : List (List ℕ)) (s : Sign Claim) → IsThere (with_names names (site_names (sites_in (s ∷ [])))) s
 there_now names Open = tt
 there_now names Close = tt
 there_now names Negation = tt
@@ -77,7 +77,7 @@ abbrev pub AllThere : List (List ℕ) → List (Sign Claim) → Type 0
 AllThere names [] = Unit {0}
 AllThere names (s ∷ ss) = IsThere names s × AllThere names ss
 
-all_more : (names ns : List (List ℕ)) (ss : List (Sign Claim)) → AllThere names ss → AllThere (with_names names ns) ss
+pub all_more : (names ns : List (List ℕ)) (ss : List (Sign Claim)) → AllThere names ss → AllThere (with_names names ns) ss
 all_more names ns [] h = tt
 all_more names ns (s ∷ ss) h = (there_more names ns s h.0, all_more names ns ss h.1)
 
