@@ -12,7 +12,7 @@ use Rattle.lw_base.specs.Tables.{is_there, with_name, with_names, place_of}
 use Rattle.lw_base.specs.declared.head.Seen.{Seen}
 use Rattle.lw_base.specs.declared.head.Seen.TheVariants as seen
 use Rattle.lw_base.proofs.Tables.{place_of-at}
-use Rattle.lw_base.proofs.GrowingTables.{with_name-grows}
+use Rattle.lw_base.proofs.GrowingTables.{with_name-grows, with_names-longer, there-name}
 use Rattle.lw_text.specs.declared.site.Site.{Site}
 use Rattle.lw_text.specs.declared.site.Site.TheVariants as made
 use Rattle.lw_text.specs.declared.block.Entry.{Entry}
@@ -21,13 +21,6 @@ use Rattle.lw_text.specs.Frames.{same_seen, word_of}
 use Rattle.lw_text.specs.Placed.{named, named_entry, seen_of, IsIn, word_at, is_listed}
 
 -- ---- the place of a name
-
-is_there-last : (names : List (List ℕ)) (t : List ℕ) → is_there (names ++ t ∷ []) t ≡ true
-is_there-last [] t = let h : bytes_eq t t ≡ true = (bytes_eq-Decides t t).1 refl in rw h
-is_there-last (y ∷ names) t = let h = is_there-last names t in elim (cases_Bool (bytes_eq y t)) [ inl e ↦ rw e | inr e ↦ rw (e, h) ]
-
-is_there-with_name : (names : List (List ℕ)) (t : List ℕ) → is_there (with_name names t) t ≡ true
-is_there-with_name names t = elim (cases_Bool (is_there names t)) [ inl e ↦ rw e e | inr e ↦ rw e (is_there-last names t) ]
 
 there_at : (names : List (List ℕ)) (t : List ℕ) → is_there names t ≡ true → slice_get names (place_of names t) ≡ Some t
 there_at [] t h = absurd cc
@@ -39,7 +32,7 @@ there_at (y ∷ names) t h =
 
 -- a name that appeared stands at its place
 pub appeared_at : (before after : List (List ℕ)) (loc : ℕ) (t : List ℕ) → after ≡ with_name before t → loc ≡ place_of after t → slice_get after loc ≡ Some t
-appeared_at before after loc t e f = rw (f, e) (there_at (with_name before t) t (is_there-with_name before t))
+appeared_at before after loc t e f = rw (f, e) (there_at (with_name before t) t (there-name before t))
 
 pub slice_get-within : (names : List (List ℕ)) (i : ℕ) → i < length names → slice_get names i ≡ Some (get_or names i [])
 slice_get-within [] i lt = absurd (omega arith)
@@ -64,10 +57,6 @@ with_name-longer names x = let g = with_name-grows names x in omega (arith, ap l
 with_names-get : (names ns : List (List ℕ)) (i : ℕ) → i < length names → get_or (with_names names ns) i [] ≡ get_or names i []
 with_names-get names [] i lt = refl
 with_names-get names (n ∷ ns) i lt = with_names-get (with_name names n) ns i (omega (arith, lt, with_name-longer names n)) ∙ with_name-get names n i lt
-
-pub with_names-longer : (names ns : List (List ℕ)) → length names ≤ length (with_names names ns)
-with_names-longer names [] = omega arith
-with_names-longer names (n ∷ ns) = omega (arith, with_name-longer names n, with_names-longer (with_name names n) ns)
 
 pub named-along : (names ns : List (List ℕ)) (s : Site) → IsIn names s → named (with_names names ns) s ≡ named names s
 named-along names ns (made.Location loc) h = ap InMemory (with_names-get names ns loc h)
