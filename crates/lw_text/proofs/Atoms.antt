@@ -1,11 +1,11 @@
 -- Numbers, values and sites are read in one way.
-use Rattle.std.proofs.Common.{◌≡◌, ℕ, ◌+◌, ◌<◌, ◌⊎◌, inl, inr, true, List, [], ◌∷◌, ◌++◌, length, ap, ◌∙◌, subst, sym, arith}
+use Rattle.std.proofs.Common.{◌≡◌, ℕ, ◌+◌, ◌<◌, ◌⊎◌, inl, inr, true, List, [], ◌∷◌, ◌++◌, length, ap, subst, arith}
 use Rattle.std.specs.Prelude.{codes}
 use Rattle.std.specs.Char.{digit_value, is_ascii_digit}
 use Rattle.std.proofs.lemmas.Bool.Decides.{nat_tests}
 use Rattle.lw_base.specs.declared.head.Arch.TheVariants.{Source}
 use Rattle.lw_base.specs.Characters.{begins}
-use Rattle.lw_base.specs.Names.{IsName, IsLocation}
+use Rattle.lw_base.specs.Names.{IsName}
 use Rattle.lw_base.specs.Registers.{IsRegister}
 use Rattle.lw_text.specs.Tokens.{Digits, IsNumber}
 use Rattle.lw_text.specs.Sites.{Site, InMemory, InThread, IsSite, Value}

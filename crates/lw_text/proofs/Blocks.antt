@@ -1,20 +1,18 @@
 -- The entries of an initial block, read one after another.
 use Rattle.std.proofs.Common.{◌≡◌, ℕ, ◌<◌, ◌≤◌, true, false, List, [], ◌∷◌, ◌++◌, length, map, refl, sym, ap, ◌∙◌, subst, arith}
-use Rattle.std.specs.Prelude.{codes, All, if◌then◌else◌, Bool}
+use Rattle.std.specs.Prelude.{codes, All}
 use Rattle.std.specs.List.{AllByRecursion}
-use Rattle.std.specs.Str.{bytes_eq}
-use Rattle.std.proofs.lemmas.List.Elements.{All-push, All-from_recursion}
+use Rattle.std.proofs.lemmas.List.Elements.{All-from_recursion}
 use Rattle.lw_base.specs.Tables.{with_names}
 use Rattle.lw_text.specs.declared.block.Entry.{Entry as Made}
 use Rattle.lw_text.specs.declared.site.Site.{Site as MadeSite}
 use Rattle.lw_text.specs.Lists.{Ended}
-use Rattle.lw_text.specs.Sites.{Site, IsSite, site_names}
+use Rattle.lw_text.specs.Sites.{Site, site_names}
 use Rattle.lw_text.specs.Conditions.{begins_word}
 use Rattle.lw_text.specs.Frames.{Entry, IsEntry, Block}
 use Rattle.lw_text.specs.Placed.{named, named_entry, IsIn}
 use Rattle.lw_text.proofs.Atoms.{IsSite-shorter, Value-shorter}
-use Rattle.lw_text.proofs.Entries.{IsEntry-unique, brace, semicolon, brace_unlike, brace_apart, entry_none}
-use Rattle.lw_text.proofs.Elements.{each_of}
+use Rattle.lw_text.proofs.Entries.{IsEntry-unique, brace, semicolon, brace_unlike, brace_apart}
 use Rattle.lw_text.proofs.Lists.{Ended-unique}
 use Rattle.lw_text.proofs.NameTables.{entry-along}
 use Rattle.lw_text.proofs.Readings.{Read, read_none, read_more, read_last, read_end, read_none_here, read_no_mark, names_are_more, within_more}

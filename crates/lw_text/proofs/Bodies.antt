@@ -1,18 +1,17 @@
 -- What a body in memory says, by the names of its table.
-use Rattle.std.proofs.Common.{◌≡◌, ℕ, ◌≤◌, true, List, [], length, map, sym, ap, ◌∙◌, subst, arith, refl}
+use Rattle.std.proofs.Common.{◌≡◌, ℕ, ◌≤◌, true, List, [], length, map, sym, ap, ◌∙◌, subst, arith}
 use Rattle.std.specs.Prelude.{All, filter}
 use Rattle.std.specs.List.{AllByRecursion, list_all}
 use Rattle.std.proofs.lemmas.List.Elements.{All-from_recursion}
 use Rattle.lw_base.specs.declared.head.Quant.{Quant}
-use Rattle.lw_base.specs.Formula.{Formula}
 use Rattle.lw_base.specs.Tables.{with_names}
 use Rattle.lw_text.specs.declared.site.Site.{Site as MadeSite}
 use Rattle.lw_text.specs.declared.block.Entry.{Entry as MadeEntry}
 use Rattle.lw_text.specs.Rows.{Header, Rows}
-use Rattle.lw_text.specs.Sites.{Site, IsThere, site_names}
-use Rattle.lw_text.specs.Propositions.{Sign, is_node, IsProposition}
-use Rattle.lw_text.specs.Conditions.{Claim, Listed, Quantified, Signs, sites_in, placed}
-use Rattle.lw_text.specs.Frames.{Entry, Block, Said, table, Parts}
+use Rattle.lw_text.specs.Sites.{IsThere, site_names}
+use Rattle.lw_text.specs.Propositions.{Sign, is_node}
+use Rattle.lw_text.specs.Conditions.{Claim, Listed, Quantified, Signs, sites_in}
+use Rattle.lw_text.specs.Frames.{Block, Said, table, Parts}
 use Rattle.lw_text.specs.Placed.{named, named_entry, is_there, IsIn}
 use Rattle.lw_text.proofs.Elements.{each_of}
 use Rattle.lw_text.proofs.NameTables.{named-along, entry-along, all_at-along, all_in-along}
@@ -31,22 +30,21 @@ pub record Agrees (ts last : List (List ℕ)) (es : List MadeEntry) (n : ℕ) (r
 
 -- the parts of a text, read one after another with a table that grew
 module _ (ts a b c d e : List (List ℕ)) (first names last : List (List ℕ)) (es : List MadeEntry) (n : ℕ) (rows : List (List (List (List ℕ)))) (ss : List MadeSite) (quant : Quant) (signs : List (Sign Claim))
-  (block : Block ts (map (named_entry first) es) a)
-  (is_first : first ≡ with_names [] (site_names (map (λ e. named first e.site) es)))
-  (es_in : All (λ e. IsIn first e.site) es)
-  (header : Header a n b)
-  (there : list_all (λ e. is_there n e.site) es ≡ true)
-  (are_rows : Rows n b rows c)
-  (lists : Listed c (map (named names) ss) d)
-  (listed_there : AllByRecursion (IsThere n) (map (named names) ss))
-  (is_names : names ≡ with_names first (site_names (map (named names) ss)))
-  (ss_in : All (IsIn names) ss)
-  (quantifies : Quantified d quant e)
-  (says : Signs n e signs)
-  (is_last : last ≡ with_names names (site_names (sites_in signs)))
-  (few : length last ≤ 8)
-  (nodes : length (filter is_node signs) ≤ 256) where
-
+    (block : Block ts (map (named_entry first) es) a)
+    (is_first : first ≡ with_names [] (site_names (map (λ e. named first e.site) es)))
+    (es_in : All (λ e. IsIn first e.site) es)
+    (header : Header a n b)
+    (there : list_all (λ e. is_there n e.site) es ≡ true)
+    (are_rows : Rows n b rows c)
+    (lists : Listed c (map (named names) ss) d)
+    (listed_there : AllByRecursion (IsThere n) (map (named names) ss))
+    (is_names : names ≡ with_names first (site_names (map (named names) ss)))
+    (ss_in : All (IsIn names) ss)
+    (quantifies : Quantified d quant e)
+    (says : Signs n e signs)
+    (is_last : last ≡ with_names names (site_names (sites_in signs)))
+    (few : length last ≤ 8)
+    (nodes : length (filter is_node signs) ≤ 256) where
   -- the first names, and then all names behind them
   last_behind : last ≡ with_names (with_names first (site_names (map (named names) ss))) (site_names (sites_in signs))
   last_behind = is_last ∙ ap (λ ns. with_names ns (site_names (sites_in signs))) is_names

@@ -1,15 +1,13 @@
 -- The entries of an initial block, and the elements of a list of names, are read in one way.
-use Rattle.std.proofs.Common.{◌≡◌, ℕ, suc, ◌+◌, ◌<◌, ◌≤◌, inl, inr, Bool, true, false, List, [], ◌∷◌, ◌++◌, length, map, take, drop, get_or, refl, sym, ap, ◌∙◌, subst, arith, length-append}
-use Rattle.std.specs.Prelude.{codes, All}
-use Rattle.std.specs.List.{AllByRecursion, list_all}
-use Rattle.std.proofs.lemmas.List.{take_all, take-append-drop, map-append, map_push}
+use Rattle.std.proofs.Common.{◌≡◌, ℕ, ◌+◌, ◌<◌, ◌≤◌, inl, inr, Bool, true, false, List, [], ◌∷◌, length, take, drop, get_or, refl, sym, ap, ◌∙◌, subst, arith}
+use Rattle.std.specs.Prelude.{codes}
+use Rattle.std.specs.List.{list_all}
+use Rattle.std.proofs.lemmas.List.{take_all, take-append-drop}
 use Rattle.std.proofs.lemmas.List.Folds.{list_all-append, list_all_more}
-use Rattle.std.proofs.lemmas.List.Elements.{All-push, All-from_recursion}
 use Rattle.lw_base.specs.Names.{IsName}
-use Rattle.lw_base.specs.Tables.{with_names}
 use Rattle.lw_text.specs.Tokens.{IsNumber}
-use Rattle.lw_text.specs.Sites.{Site, IsSite, Value, site_names}
-use Rattle.lw_text.specs.Frames.{Entry, IsEntry, Block}
+use Rattle.lw_text.specs.Sites.{Site, IsSite, Value}
+use Rattle.lw_text.specs.Frames.{Entry, IsEntry}
 use Rattle.lw_text.proofs.Atoms.{number_first, Value-unique, IsSite-unique, site_front, site_none}
 
 -- ---- what an entry is

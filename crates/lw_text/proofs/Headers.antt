@@ -1,7 +1,7 @@
 -- The header, read name by name.
-use Rattle.std.proofs.Common.{◌≡◌, ℕ, zero, suc, ◌+◌, ◌<◌, ◌≤◌, List, ◌∷◌, refl, ap, ◌∙◌, subst, arith, add-one}
+use Rattle.std.proofs.Common.{◌≡◌, ℕ, zero, suc, ◌+◌, List, ◌∷◌, refl, ap, ◌∙◌, subst, arith, add-one}
 use Rattle.std.specs.Prelude.{codes}
-use Rattle.lw_text.specs.Rows.{thread_name, Names, Header}
+use Rattle.lw_text.specs.Rows.{thread_name, Names}
 use Rattle.lw_text.proofs.Texts.{marks_apart}
 
 pub Names-unique : (k m n : ℕ) (ts r s : List (List ℕ)) → Names k m ts r → Names k n ts s → (m ≡ n) × (r ≡ s)

@@ -1,21 +1,21 @@
 -- What always holds of the head of a text's frame.
 use Rattle.std.proofs.Common.{◌≡◌, ℕ, zero, suc, ◌+◌, ◌<◌, ◌≤◌, inl, inr, Bool, true, false, List, [], ◌∷◌, ◌++◌, length, map, refl, sym, ap, ◌∙◌, subst, arith}
-use Rattle.std.specs.Prelude.{filter, codes, Option, Some, None}
-use Rattle.std.specs.List.{AllByRecursion, flat_map, filter_map, range_with_len, list_any}
+use Rattle.std.specs.Prelude.{filter, codes}
+use Rattle.std.specs.List.{AllByRecursion, flat_map, range_with_len}
 use Rattle.std.proofs.lemmas.List.{length-map}
 use Rattle.std.proofs.lemmas.List.Elements.{filter_map-append}
 use Rattle.std.proofs.lemmas.List.FromFn.{length-map-range_with_len}
 use Rattle.lw_base.specs.declared.head.Seen.{Seen}
 use Rattle.lw_base.specs.declared.head.Seen.TheVariants.{Register, Location}
-use Rattle.lw_base.specs.Formula.{Formula, Yes, No, Reg_is, Word_is, Not, And, Or}
-use Rattle.lw_base.specs.Names.{IsLocation, EachOnce, IsTable}
-use Rattle.lw_base.specs.Tables.{is_there, with_name, with_names, place_of}
-use Rattle.lw_base.proofs.GrowingTables.{with_name-grows, once-along, place-within, with_names-append}
+use Rattle.lw_base.specs.Formula.{Formula}
+use Rattle.lw_base.specs.Names.{IsLocation}
+use Rattle.lw_base.specs.Tables.{is_there, with_name, with_names}
+use Rattle.lw_base.proofs.GrowingTables.{once-along, place-within, with_names-append}
 use Rattle.lw_text.specs.Lists.{Ended}
-use Rattle.lw_text.specs.Sites.{Site, InMemory, InThread, IsSite, IsThere, site_name, site_names}
+use Rattle.lw_text.specs.Sites.{Site, InMemory, InThread, IsSite, IsThere, site_names}
 use Rattle.lw_text.specs.Propositions.{Sign, Open, Close, Negation, Conjunction, Disjunction, Atom, Kind, Part, Ands, Ors, Says, atom, negated, parens, no_and, and, no_or, or, IsProposition}
 use Rattle.lw_text.specs.Conditions.{Claim, Always, Never, Holds, IsSign, Signs, Listed, site_of, sites_in, placed}
-use Rattle.lw_text.specs.Frames.{Entry, IsEntry, Block, registers_of, registers, locations, same_seen, word_of, table, Said, Parts, TestFrame, HasFrame, head_of_said}
+use Rattle.lw_text.specs.Frames.{Entry, IsEntry, Block, registers_of, registers, locations, word_of, table, Said, Parts, TestFrame, HasFrame, head_of_said}
 use Rattle.lw_text.specs.Kept.{IsSeen, ComesBefore, Ascending, SpeaksOf, IsKept}
 use Rattle.lw_text.proofs.PropositionRows.{IsThere as IsNamed, AllThere, there_now, all_more}
 use Rattle.lw_text.proofs.Readings.{site_names-append}
@@ -74,7 +74,7 @@ ascending_registers a zero = tt
 ascending_registers a (suc n) =
     ascending_append (registers_of a) (flat_map registers_of (range_with_len (a + 1) n)) (ascending_row a 0 6) (ascending_registers (a + 1) n)
     (all_of_range (λ x. AllByRecursion (ComesBefore x) (flat_map registers_of (range_with_len (a + 1) n))) (λ r. Register a r) 0 6
-      (λ r le lt. all_of_flat (ComesBefore (Register a r)) registers_of (a + 1) n (λ t le lt. all_of_range (ComesBefore (Register a r)) (λ s. Register t s) 0 6 (λ s le2 lt2. inl (omega (arith, le))))))
+    (λ r le lt. all_of_flat (ComesBefore (Register a r)) registers_of (a + 1) n (λ t le lt. all_of_range (ComesBefore (Register a r)) (λ s. Register t s) 0 6 (λ s le2 lt2. inl (omega (arith, le))))))
 
 all_seen : (threads locs : ℕ) → AllByRecursion (IsSeen threads locs) (registers threads ++ locations locs)
 all_seen threads locs =
@@ -86,7 +86,7 @@ all_ascending : (threads locs : ℕ) → Ascending (registers threads ++ locatio
 all_ascending threads locs =
     ascending_append (registers threads) (locations locs) (ascending_registers 0 threads) (ascending_locations 0 locs)
     (all_of_flat (λ x. AllByRecursion (ComesBefore x) (locations locs)) registers_of 0 threads
-      (λ t le lt. all_of_range (λ x. AllByRecursion (ComesBefore x) (locations locs)) (λ r. Register t r) 0 6 (λ r le2 lt2. all_of_range (ComesBefore (Register t r)) (λ x. Location x) 0 locs (λ x le3 lt3. tt))))
+    (λ t le lt. all_of_range (λ x. AllByRecursion (ComesBefore x) (locations locs)) (λ r. Register t r) 0 6 (λ r le2 lt2. all_of_range (ComesBefore (Register t r)) (λ x. Location x) 0 locs (λ x le3 lt3. tt))))
 
 -- ---- names
 

@@ -1,13 +1,13 @@
 -- Sites in a table of names that grows, and by their places in it.
-use Rattle.std.proofs.Common.{◌≡◌, ℕ, zero, suc, ◌+◌, ◌<◌, ◌≤◌, inl, inr, Bool, true, false, List, [], ◌∷◌, ◌++◌, length, map, get_or, slice_get, Option, Some, None, refl, sym, ap, ◌∙◌, subst, arith, length-append}
-use Rattle.std.specs.Prelude.{fold, filter, if◌then◌else◌, All}
+use Rattle.std.proofs.Common.{◌≡◌, ℕ, zero, suc, ◌+◌, ◌<◌, ◌≤◌, inl, inr, true, List, [], ◌∷◌, length, map, get_or, slice_get, Some, refl, ap, ◌∙◌, subst, arith, length-append}
+use Rattle.std.specs.Prelude.{fold, if◌then◌else◌}
 use Rattle.std.specs.Str.{bytes_eq}
 use Rattle.std.specs.List.{AllByRecursion, list_any}
 use Rattle.std.proofs.Math.ListN.{get_or-append}
 use Rattle.std.proofs.lemmas.Bool.{cases_Bool}
 use Rattle.std.proofs.lemmas.Slice.Eq.{bytes_eq-Decides}
 use Rattle.std.proofs.lemmas.Option.{slice_get_within, get_or_from_slice_get}
-use Rattle.lw_base.specs.Names.{IsLocation, EachOnce}
+use Rattle.lw_base.specs.Names.{EachOnce}
 use Rattle.lw_base.specs.Tables.{is_there, with_name, with_names, place_of}
 use Rattle.lw_base.specs.declared.head.Seen.{Seen}
 use Rattle.lw_base.specs.declared.head.Seen.TheVariants as seen
@@ -16,7 +16,7 @@ use Rattle.lw_base.proofs.GrowingTables.{with_name-grows, with_names-longer, the
 use Rattle.lw_text.specs.declared.site.Site.{Site}
 use Rattle.lw_text.specs.declared.site.Site.TheVariants as made
 use Rattle.lw_text.specs.declared.block.Entry.{Entry}
-use Rattle.lw_text.specs.Sites.{InMemory, InThread, site_names, seen_in}
+use Rattle.lw_text.specs.Sites.{InMemory, seen_in}
 use Rattle.lw_text.specs.Frames.{same_seen, word_of}
 use Rattle.lw_text.specs.Placed.{named, named_entry, seen_of, IsIn, word_at, is_listed}
 

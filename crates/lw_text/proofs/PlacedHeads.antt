@@ -1,11 +1,8 @@
 -- The head by places in its table is the head by names.
-use Rattle.std.proofs.Common.{◌≡◌, ℕ, Bool, true, false, List, [], ◌∷◌, ◌++◌, length, map, refl, sym, ap, ◌∙◌, subst}
-use Rattle.std.specs.Prelude.{All, filter}
+use Rattle.std.proofs.Common.{◌≡◌, ℕ, Bool, true, false, List, [], ◌∷◌, ◌++◌, length, map, refl, sym, ap, subst}
+use Rattle.std.specs.Prelude.{filter}
 use Rattle.std.specs.List.{AllByRecursion, range_with_len}
 use Rattle.lw_base.specs.Names.{EachOnce}
-use Rattle.lw_base.specs.Tables.{with_names}
-use Rattle.lw_base.specs.Heads.{TestHead}
-use Rattle.lw_base.specs.declared.head.Seen.{Seen}
 use Rattle.lw_base.specs.Propositions.{formula_of}
 use Rattle.lw_base.proofs.GrowingTables.{once-along}
 use Rattle.lw_text.specs.declared.block.Entry.{Entry}
@@ -13,7 +10,7 @@ use Rattle.lw_text.specs.declared.site.Site.{Site}
 use Rattle.lw_text.specs.declared.said.Body.{Body}
 use Rattle.lw_text.specs.Sites.{site_names}
 use Rattle.lw_text.specs.Conditions.{sites_in}
-use Rattle.lw_text.specs.Frames.{registers_of, registers, locations, word_of, listed_in, table, Said, head_of_said}
+use Rattle.lw_text.specs.Frames.{registers_of, registers, locations, word_of, listed_in, table, head_of_said}
 use Rattle.lw_text.specs.Placed.{named, named_entry, IsIn, word_at, is_listed, placed_head, BodySays}
 use Rattle.lw_text.proofs.Elements.{each_of}
 use Rattle.lw_text.proofs.NameTables.{words-named, listed-named}

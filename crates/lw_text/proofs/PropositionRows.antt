@@ -1,24 +1,23 @@
 -- A proposition that is read sign by sign, with the table of its names.
 use Rattle.std.proofs.Common.{◌≡◌, ℕ, ◌+◌, ◌<◌, ◌≤◌, inl, inr, Bool, true, false, List, [], ◌∷◌, ◌++◌, length, map, get_or, refl, sym, ap, ◌∙◌, subst, arith, length-append, append_assoc}
-use Rattle.std.specs.Prelude.{codes, filter, not, if◌then◌else◌, ◌||◌, ◌==◌, ◌⊎◌, Option, Some, None}
+use Rattle.std.specs.Prelude.{codes, filter, not, if◌then◌else◌, ◌||◌, ◌==◌, ◌⊎◌, Some}
 use Rattle.std.proofs.lemmas.Bool.{eqb-true, eqb-false, not-true, not-false}
 use Rattle.std.proofs.lemmas.List.{map-append, append-nil}
 use Rattle.std.proofs.lemmas.List.Elements.{filter-append, filter_map-append}
-use Rattle.lw_base.specs.Formula.{Formula, Yes, No, Reg_is, Word_is}
+use Rattle.lw_base.specs.Formula.{Formula, Word_is}
 use Rattle.lw_base.specs.Names.{EachOnce}
-use Rattle.lw_base.specs.Tables.{is_there, with_names, place_of}
+use Rattle.lw_base.specs.Tables.{is_there, with_names}
 use Rattle.lw_base.proofs.Tables.{place_of-at}
 use Rattle.lw_base.proofs.GrowingTables.{with_names-append, with_names-longer, there-name, there-along, place-along, once-along}
 use Rattle.lw_text.specs.declared.proposition.PropositionReader.{PropositionReader}
 use Rattle.lw_text.specs.declared.sign.Sign.{Sign as Made}
 use Rattle.lw_text.specs.declared.sign.Sign.TheVariants as made
-use Rattle.lw_text.specs.declared.sign.Atom.{Atom as MadeAtom}
 use Rattle.lw_text.specs.declared.sign.Atom.TheVariants as atoms
-use Rattle.lw_text.specs.Sites.{Site, InMemory, InThread, site_names}
+use Rattle.lw_text.specs.Sites.{InMemory, InThread, site_names}
 use Rattle.lw_text.specs.Propositions.{Sign, Open, Close, Negation, Conjunction, Disjunction, Atom, is_node, IsProposition}
 use Rattle.lw_text.specs.Pending.{Left, begins_part}
 use Rattle.lw_text.specs.Signs.{sign_of}
-use Rattle.lw_text.specs.Conditions.{Claim, Always, Never, Holds, IsSign, Signs, begins_word, site_of, sites_in, formula_in, placed}
+use Rattle.lw_text.specs.Conditions.{Claim, Always, Never, Holds, IsSign, Signs, begins_word, site_of, sites_in, placed}
 use Rattle.lw_text.specs.Placed.{named_sign, SignIn}
 use Rattle.lw_text.proofs.NameTables.{slice_get-within}
 use Rattle.lw_text.proofs.Readings.{site_names-append}

@@ -1,21 +1,14 @@
 -- The signs of a proposition are read in one way.
-use Rattle.std.proofs.Common.{◌≡◌, ℕ, zero, suc, ◌+◌, ◌<◌, ◌≤◌, inl, inr, Bool, true, false, List, [], ◌∷◌, ◌++◌, length, map, get_or, refl, sym, ap, ◌∙◌, subst, arith, length-append}
-use Rattle.std.specs.Prelude.{codes, filter, if◌then◌else◌, ◌||◌, ◌⊎◌, Option, Some, None}
+use Rattle.std.proofs.Common.{◌≡◌, ℕ, ◌<◌, inl, inr, true, false, List, [], ◌∷◌, ◌++◌, length, refl, sym, ap, ◌∙◌, subst, arith}
+use Rattle.std.specs.Prelude.{codes, if◌then◌else◌, ◌⊎◌, Option, Some, None}
 use Rattle.std.specs.Str.{bytes_eq}
-use Rattle.std.proofs.lemmas.List.Elements.{filter-append, filter_map-append}
-use Rattle.std.proofs.lemmas.List.{map-append}
-use Rattle.lw_base.specs.Names.{IsName, IsLocation, is_reserved, EachOnce}
-use Rattle.lw_base.specs.Tables.{with_names}
-use Rattle.lw_base.proofs.GrowingTables.{with_names-longer}
+use Rattle.lw_base.specs.Names.{IsName, is_reserved}
 use Rattle.lw_text.specs.Tokens.{IsNumber}
-use Rattle.lw_text.specs.Sites.{Site, InMemory, InThread, IsSite, IsThere, Value, site_names}
-use Rattle.lw_text.specs.Propositions.{Sign, Open, Close, Negation, Conjunction, Disjunction, Atom, is_node}
-use Rattle.lw_text.specs.Pending.{begins_part}
-use Rattle.lw_text.specs.Conditions.{Claim, Always, Never, Holds, IsClaim, IsSign, Signs, begins_word, site_of, sites_in}
-use Rattle.lw_text.proofs.Atoms.{number_first, number_no_name, IsSite-unique, IsSite-shorter, Value-unique, Value-shorter, site_front}
-use Rattle.lw_text.proofs.Blocks.{no_word_next}
-use Rattle.lw_text.proofs.Texts.{is_text, is_no_text}
-use Rattle.lw_text.proofs.Readings.{names_up_to}
+use Rattle.lw_text.specs.Sites.{Site, InMemory, InThread, IsSite, IsThere, Value}
+use Rattle.lw_text.specs.Propositions.{Sign, Open, Close, Negation, Conjunction, Disjunction, Atom}
+use Rattle.lw_text.specs.Conditions.{Claim, Always, Never, Holds, IsSign, Signs}
+use Rattle.lw_text.proofs.Atoms.{number_first, IsSite-unique, IsSite-shorter, Value-unique, Value-shorter, site_front}
+use Rattle.lw_text.proofs.Texts.{is_no_text}
 
 -- ---- a sign
 
@@ -113,23 +106,23 @@ pub IsSign-unique : (threads : ℕ) (ts : List (List ℕ)) (a b : Sign Claim) (r
 IsSign-unique threads ts a b r s p q =
     elim (front threads ts r a p) [
       | inl v ↦ elim (front threads ts s b q) [
-          | inl w ↦
-              let e = v.stands in
-              let f = w.stands in
-              let k : v.word ≡ w.word = cc in
-              let i : Some a ≡ Some b = sym v.is ∙ ap sign_word k ∙ w.is in
-              (cc, cc)
-          | inr w ↦ absurd (v.apart ts r w.mid w.site v.stands w.site_is)
-        ]
+        | inl w ↦
+            let e = v.stands in
+            let f = w.stands in
+            let k : v.word ≡ w.word = cc in
+            let i : Some a ≡ Some b = sym v.is ∙ ap sign_word k ∙ w.is in
+            (cc, cc)
+        | inr w ↦ absurd (v.apart ts r w.mid w.site v.stands w.site_is)
+      ]
       | inr v ↦ elim (front threads ts s b q) [
-          | inl w ↦ absurd (w.apart ts s v.mid v.site w.stands v.site_is)
-          | inr w ↦
-              let e = IsSite-unique ts v.site w.site v.mid w.mid v.site_is w.site_is in
-              let f = Value-unique v.mid r s v.n w.n v.value (subst (λ l. Value l w.n s) (sym e.1) w.value) in
-              let i : v.site ≡ w.site = e.0 in
-              let j : v.n ≡ w.n = f.0 in
-              (v.is ∙ ap (λ x. Atom (Holds x v.n)) i ∙ ap (λ (x : ℕ). Atom (Holds w.site x)) j ∙ sym w.is, f.1)
-        ]
+        | inl w ↦ absurd (w.apart ts s v.mid v.site w.stands v.site_is)
+        | inr w ↦
+            let e = IsSite-unique ts v.site w.site v.mid w.mid v.site_is w.site_is in
+            let f = Value-unique v.mid r s v.n w.n v.value (subst (λ l. Value l w.n s) (sym e.1) w.value) in
+            let i : v.site ≡ w.site = e.0 in
+            let j : v.n ≡ w.n = f.0 in
+            (v.is ∙ ap (λ x. Atom (Holds x v.n)) i ∙ ap (λ (x : ℕ). Atom (Holds w.site x)) j ∙ sym w.is, f.1)
+      ]
     ]
 
 pub IsSign-shorter : (threads : ℕ) (ts rest : List (List ℕ)) (s : Sign Claim) → IsSign threads ts s rest → length rest < length ts

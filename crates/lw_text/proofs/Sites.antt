@@ -1,5 +1,5 @@
 -- Where a site stands, and where none does.
-use Rattle.std.proofs.Common.{◌≡◌, ◌≢◌, ℕ, ◌<◌, ◌≤◌, inl, inr, List, [], ◌∷◌, length, Result, Ok, Err, Some, slice_get, subst, sym, ap, ◌∙◌, arith}
+use Rattle.std.proofs.Common.{◌≡◌, ◌≢◌, ℕ, ◌≤◌, inl, inr, List, [], ◌∷◌, length, Result, Ok, Err, Some, slice_get, subst, sym, ap, ◌∙◌, arith}
 use Rattle.std.specs.Prelude.{codes, IfErr, OnErr}
 use Rattle.lw_base.specs.declared.head.Arch.TheVariants.{Source}
 use Rattle.lw_base.specs.Names.{IsName, IsLocation}

@@ -1,5 +1,5 @@
 -- The condition of a test, on the row of its tokens: what is listed, the quantifier and the proposition.
-use Rattle.std.specs.Prelude.{◌≡◌, ℕ, ◌≤◌, ◌⊎◌, Bool, true, false, Option, Some, None, List, [], ◌∷◌, length, map, codes}
+use Rattle.std.specs.Prelude.{◌≡◌, ℕ, ◌⊎◌, Bool, false, Option, Some, None, List, [], ◌∷◌, codes}
 use Rattle.std.specs.List.{filter_map, AllByRecursion}
 use Rattle.std.specs.Str.{bytes_eq}
 use Rattle.lw_base.specs.declared.head.Quant.{Quant}
@@ -7,7 +7,7 @@ use Rattle.lw_base.specs.declared.head.Quant.TheVariants.{Exists, NotExists, For
 use Rattle.lw_base.specs.Tables.{place_of}
 use Rattle.lw_base.specs.Formula.{Formula, Yes, No, Reg_is, Word_is}
 use Rattle.lw_text.specs.Lists.{Ended}
-use Rattle.lw_text.specs.Sites.{Site, InMemory, InThread, IsSite, IsThere, Value, site_name}
+use Rattle.lw_text.specs.Sites.{Site, InMemory, InThread, IsSite, IsThere, Value}
 use Rattle.lw_text.specs.Propositions.{Sign, Open, Close, Negation, Conjunction, Disjunction, Atom}
 
 -- what an atom says

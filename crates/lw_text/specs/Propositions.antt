@@ -1,5 +1,5 @@
 -- Propositions, on a row of signs. What binds more closely is read first: `~`, then `/\`, then `\/`.
-use Rattle.std.specs.Prelude.{◌≡◌, ℕ, Bool, true, false, List, [], ◌∷◌}
+use Rattle.std.specs.Prelude.{◌≡◌, Bool, true, false, List, [], ◌∷◌}
 use Rattle.lw_base.specs.Formula.{Formula, Not, And, Or}
 
 -- an atom, or what joins atoms, for atoms that say an A

@@ -5,11 +5,9 @@ use Rattle.lw_base.specs.Heads.{head_of}
 use Rattle.lw_text.specs.Rows.{columns}
 use Rattle.lw_text.specs.Headings.{Heading}
 use Rattle.lw_base.specs.Propositions.{formula_of}
-use Rattle.lw_base.specs.Formula.{Formula}
 use Rattle.lw_text.specs.Propositions.{IsProposition}
 use Rattle.lw_text.specs.Conditions.{placed}
-use Rattle.lw_text.specs.Frames.{Parts, Said, head_of_said, made_of}
-use Rattle.lw_text.specs.Placed.{BodySays}
+use Rattle.lw_text.specs.Frames.{Parts, Said, head_of_said}
 use Rattle.lw_text.specs.Places.{all_texts}
 use Rattle.lw_text.specs.Views.{left}
 use Rattle.lw_text.proofs.TokenRows.{Spans-places}

@@ -1,8 +1,8 @@
 use Rattle.std.proofs.Common.{◌≡◌, ◌≤◌, ◌∷◌, [], ◌∙◌, refl, sym, ap, subst, length, arith, Bool}
-use Rattle.std.specs.Prelude.{codes, if◌then◌else◌, All}
+use Rattle.std.specs.Prelude.{codes, if◌then◌else◌}
 use Rattle.std.proofs.lemmas.List.Elements.{All-nil, All-push}
 use Rattle.std.proofs.lemmas.Result.{err_from_is_err_and}
-use Rattle.lw_text.specs.Views.{remaining, left}
+use Rattle.lw_text.specs.Views.{left}
 use Rattle.lw_text.proofs.CellPlaces.{Leaves-join}
 use Rattle.lw_text.proofs.Blocks.{entries_none, entries_end, entries_in, entries_fault, entries_more, entries_last, entries_names, entries_within, entries_mark, IsEntry-shorter}
 use Rattle.lw_text.proofs.cursor.Cursor.block.Goals as goal

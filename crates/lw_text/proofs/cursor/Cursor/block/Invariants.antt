@@ -1,5 +1,5 @@
-use Rattle.std.proofs.Common.{◌≡◌, ◌∷◌, ◌≤◌, length}
-use Rattle.std.specs.Prelude.{codes, All}
+use Rattle.std.proofs.Common.{◌≡◌, ◌≤◌, length}
+use Rattle.std.specs.Prelude.{All}
 use Rattle.lw_text.specs.Spans.{Leaves}
 use Rattle.lw_text.specs.Views.{remaining, left}
 use Rattle.lw_text.proofs.Blocks.{EntriesRead}

@@ -1,15 +1,8 @@
-use Rattle.std.proofs.Common.{◌≡◌, ◌≤◌, ◌++◌, [], ◌∙◌, refl, sym, ap, map, length, arith, subst, List, ℕ}
-use Rattle.std.specs.Prelude.{codes, All, filter}
+use Rattle.std.proofs.Common.{refl, arith, subst}
 use Rattle.std.proofs.lemmas.List.{length-map}
-use Rattle.std.proofs.lemmas.List.Elements.{All-from_recursion}
 use Rattle.std.proofs.lemmas.Result.{err_from_is_err_and}
-use Rattle.lw_base.specs.Tables.{with_names}
 use Rattle.lw_text.specs.Spans.{Spans}
 use Rattle.lw_text.specs.Places.{cells_texts, all_texts}
-use Rattle.lw_text.specs.Sites.{site_names}
-use Rattle.lw_text.specs.Frames.{Block}
-use Rattle.lw_text.specs.Conditions.{sites_in}
-use Rattle.lw_text.specs.Placed.{named, named_entry, IsIn, BodySays}
 use Rattle.lw_text.specs.Views.{remaining, left}
 use Rattle.lw_text.proofs.CellPlaces.{Leaves-join, Spans-behind, RowSpans-wider}
 use Rattle.lw_text.proofs.TokenRows.{Spans-order}

@@ -1,7 +1,7 @@
 use Rattle.std.proofs.lemmas.Result.{err_from_is_err_and}
 use Rattle.lw_text.specs.Views.{left}
 use Rattle.lw_text.proofs.CellPlaces.{Leaves-join}
-use Rattle.lw_text.proofs.Entries.{entry_none, value_missing}
+use Rattle.lw_text.proofs.Entries.{value_missing}
 use Rattle.lw_text.proofs.cursor.Cursor.entry.Goals as goal
 
 pub returns-in_err-word-clause-fault : goal.returns-in_err-word-clause-fault
