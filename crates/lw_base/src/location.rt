@@ -1,6 +1,6 @@
 //! The table of a test's locations.
 ghost use Rattle.lw_base.specs.Names.{IsLocation, IsTable};
-ghost use Rattle.std.specs.Prelude.{◌≡◌, [], ◌∷◌, ◌++◌, ◌<◌, ◌≤◌, length, Contains, MatchOption, IfOk, OnOk, OnErr, OnSome, IfNone, Some, slice_get};
+ghost use Rattle.std.specs.Prelude.{◌≡◌, [], ◌∷◌, ◌++◌, ◌<◌, length, Contains, MatchOption, IfOk, OnOk, OnErr, OnSome, IfNone, Some, slice_get};
 ghost use Rattle.lw_base.specs.Tables.{with_name, place_of};
 
 use crate::number::Loc;

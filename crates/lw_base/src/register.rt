@@ -1,5 +1,5 @@
 //! The names of registers.
-ghost use Rattle.std.specs.Prelude.{◌≡◌, ◌==◌, ℕ, MatchOption};
+ghost use Rattle.std.specs.Prelude.{◌≡◌, ℕ, MatchOption};
 ghost use Rattle.std.specs.Str.{bytes_eq};
 ghost use Rattle.lw_base.specs.Registers.{register_name, without_case, IsRegister};
 

@@ -1,6 +1,5 @@
 //! Reads all that comes, up to one byte more than a text may have.
-ghost use Rattle.std.specs.Prelude.{◌≡◌, ◌≢◌, ℕ, ◌+◌, ◌<◌, ◌≤◌, false, true, if◌then◌else◌, ◌++◌, length, take, IfOk, IfErr, OnOk, OnErr};
-ghost use Rattle.std.specs.Io.KnownBytes.{Consumes, IsAtEnd};
+ghost use Rattle.std.specs.Prelude.{◌≡◌, ◌<◌, false, if◌then◌else◌, length, IfOk, IfErr, OnOk};
 ghost use Rattle.lw_bench.specs.Devices.{IsInput, Gets};
 
 use crate::device::ByteReader;

@@ -1,5 +1,5 @@
 //! Writes all of some bytes.
-ghost use Rattle.std.specs.Prelude.{◌≡◌, false, is_err, OnOk, OnErr, length, ◌≤◌};
+ghost use Rattle.std.specs.Prelude.{◌≡◌, false, is_err, OnOk};
 ghost use Rattle.std.specs.Io.KnownBytes.{Appends};
 
 use crate::device::{ByteWriter, Failed};

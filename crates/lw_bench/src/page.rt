@@ -3,7 +3,7 @@ ghost use Rattle.std.specs.Prelude.{◌≡◌, ◌<◌, ◌≤◌, ◌++◌, Som
 ghost use Rattle.std.specs.String.{string_bytes};
 ghost use Rattle.lw_base.specs.Heads.{head_of};
 ghost use Rattle.lw_bench.specs.Pages as pages;
-ghost use Rattle.lw_bench.specs.Pages.{line, spaced, end_parts, registers, memory_parts, thread_lines};
+ghost use Rattle.lw_bench.specs.Pages.{line, end_parts, memory_parts, thread_lines};
 ghost use Rattle.lw_source.specs.declared.thread.Thread.{Thread};
 
 use lw_base::{Arch, Cpu, End, Head, Loc, LocNames, Reg, Replay, reg_name};

@@ -1,5 +1,5 @@
 //! The replay of a test by a schedule, from the bytes that come in to the bytes that go out.
-ghost use Rattle.std.specs.Prelude.{◌≡◌, ◌≢◌, ◌↔◌, ℕ, List, true, false, if◌then◌else◌, Err, IfOk, IfErr, OnErr, OnOk, ◌⊎◌};
+ghost use Rattle.std.specs.Prelude.{◌≡◌, ◌≢◌, ◌↔◌, true, false, Err, IfOk, IfErr};
 ghost use Rattle.std.specs.String.{string_bytes};
 ghost use Rattle.lw_source.specs.Views.{source_of};
 ghost use Rattle.lw_bench.specs.Replays.{HasTest, Replayed, RefusesTest, RefusesSchedule, Written, Refuses};
