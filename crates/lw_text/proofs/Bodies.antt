@@ -31,22 +31,21 @@ pub record Agrees (ts last : List (List ℕ)) (es : List MadeEntry) (n : ℕ) (r
 
 -- the parts of a text, read one after another with a table that grew
 module _ (ts a b c d e : List (List ℕ)) (first names last : List (List ℕ)) (es : List MadeEntry) (n : ℕ) (rows : List (List (List (List ℕ)))) (ss : List MadeSite) (quant : Quant) (signs : List (Sign Claim))
-  (block : Block ts (map (named_entry first) es) a)
-  (is_first : first ≡ with_names [] (site_names (map (λ e. named first e.site) es)))
-  (es_in : All (λ e. IsIn first e.site) es)
-  (header : Header a n b)
-  (there : list_all (λ e. is_there n e.site) es ≡ true)
-  (are_rows : Rows n b rows c)
-  (lists : Listed c (map (named names) ss) d)
-  (listed_there : AllByRecursion (IsThere n) (map (named names) ss))
-  (is_names : names ≡ with_names first (site_names (map (named names) ss)))
-  (ss_in : All (IsIn names) ss)
-  (quantifies : Quantified d quant e)
-  (says : Signs n e signs)
-  (is_last : last ≡ with_names names (site_names (sites_in signs)))
-  (few : length last ≤ 8)
-  (nodes : length (filter is_node signs) ≤ 256) where
-
+    (block : Block ts (map (named_entry first) es) a)
+    (is_first : first ≡ with_names [] (site_names (map (λ e. named first e.site) es)))
+    (es_in : All (λ e. IsIn first e.site) es)
+    (header : Header a n b)
+    (there : list_all (λ e. is_there n e.site) es ≡ true)
+    (are_rows : Rows n b rows c)
+    (lists : Listed c (map (named names) ss) d)
+    (listed_there : AllByRecursion (IsThere n) (map (named names) ss))
+    (is_names : names ≡ with_names first (site_names (map (named names) ss)))
+    (ss_in : All (IsIn names) ss)
+    (quantifies : Quantified d quant e)
+    (says : Signs n e signs)
+    (is_last : last ≡ with_names names (site_names (sites_in signs)))
+    (few : length last ≤ 8)
+    (nodes : length (filter is_node signs) ≤ 256) where
   -- the first names, and then all names behind them
   last_behind : last ≡ with_names (with_names first (site_names (map (named names) ss))) (site_names (sites_in signs))
   last_behind = is_last ∙ ap (λ ns. with_names ns (site_names (sites_in signs))) is_names

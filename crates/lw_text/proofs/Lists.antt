@@ -149,20 +149,20 @@ module _ {T X : Type 0} (P : List T → X → List T → Type 0) (sep close : T)
         let k : x ≡ y = e.0 in
         elim p.2 [
           | inl f ↦ elim q.2 [
-              | inl g ↦ let a = f.0 in let b = g.0 in let c = f.1 in let d = g.1 in let m = e.1 in (cc, cc)
-              | inr g ↦ absurd (let c = f.1 in let d = g.1 in let m = e.1 in apart cc)
-            ]
+            | inl g ↦ let a = f.0 in let b = g.0 in let c = f.1 in let d = g.1 in let m = e.1 in (cc, cc)
+            | inr g ↦ absurd (let c = f.1 in let d = g.1 in let m = e.1 in apart cc)
+          ]
           | inr f ↦ elim q.2 [
-              | inl g ↦ absurd (let c = f.1 in let d = g.1 in let m = e.1 in apart cc)
-              | inr g ↦
-                  let c = f.1 in
-                  let d = g.1 in
-                  let m = e.1 in
-                  let n : g.0 ≡ f.0 = cc in
-                  let h = Ended-unique xs ys f.0 r s f.2 (subst (λ l. Ended P sep close l ys s) n g.2) in
-                  let i : xs ≡ ys = h.0 in
-                  (cc, h.1)
-            ]
+            | inl g ↦ absurd (let c = f.1 in let d = g.1 in let m = e.1 in apart cc)
+            | inr g ↦
+                let c = f.1 in
+                let d = g.1 in
+                let m = e.1 in
+                let n : g.0 ≡ f.0 = cc in
+                let h = Ended-unique xs ys f.0 r s f.2 (subst (λ l. Ended P sep close l ys s) n g.2) in
+                let i : xs ≡ ys = h.0 in
+                (cc, h.1)
+          ]
         ]
 
     -- what all elements are is what has been read and what the rest is

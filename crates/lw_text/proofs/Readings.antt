@@ -36,9 +36,8 @@ names_up_to names front s back =
     omega (arith, ap length e, with_names-longer (with_names (with_names names (site_names front)) (site_names (s ∷ []))) (site_names back))
 
 module _ {X Y : Type 0} (P : List (List ℕ) → Y → List (List ℕ) → Type 0) (close : List ℕ) (site : X → Made) (at : List (List ℕ) → X → Y) (said : Y → Site)
-  (same : (names : List (List ℕ)) (x : X) → said (at names x) ≡ named names (site x))
-  (stable : (names ns : List (List ℕ)) (x : X) → IsIn names (site x) → at (with_names names ns) x ≡ at names x) where
-
+    (same : (names : List (List ℕ)) (x : X) → said (at names x) ≡ named names (site x))
+    (stable : (names ns : List (List ℕ)) (x : X) → IsIn names (site x) → at (with_names names ns) x ≡ at names x) where
   abbrev pub sites_of : List (List ℕ) → List X → List Site
   sites_of names xs = map (λ x. named names (site x)) xs
 
@@ -95,9 +94,9 @@ module _ {X Y : Type 0} (P : List (List ℕ) → Y → List (List ℕ) → Type 
     read_none_here R no_end never ys rest s all few =
         Listing-here P semicolon close one apart unlike (map (at names) xs) ys start here rest read.listing (no_end rest)
         (λ y more mid e p.
-          let f : map said ys ≡ sites_of names xs ++ said y ∷ map said more = ap (map said) e ∙ map-append said (map (at names) xs) (y ∷ more) ∙ ap (λ l. l ++ said y ∷ map said more) (said_sites names xs) in
-          let room = names_up_to first (sites_of names xs) (said y) (map said more) in
-          never y mid p (all_at R (map (at names) xs) y more (subst (AllByRecursion R) e all)) (omega (arith, few, room, ap (λ l. length (with_names first (site_names l))) f, ap (λ ns. length (with_names ns (site_names (said y ∷ [])))) read.names_are))) s
+        let f : map said ys ≡ sites_of names xs ++ said y ∷ map said more = ap (map said) e ∙ map-append said (map (at names) xs) (y ∷ more) ∙ ap (λ l. l ++ said y ∷ map said more) (said_sites names xs) in
+        let room = names_up_to first (sites_of names xs) (said y) (map said more) in
+        never y mid p (all_at R (map (at names) xs) y more (subst (AllByRecursion R) e all)) (omega (arith, few, room, ap (λ l. length (with_names first (site_names l))) f, ap (λ ns. length (with_names ns (site_names (said y ∷ [])))) read.names_are))) s
       where
         all_at : (R : Y → Type 0) (front : List Y) (y : Y) (more : List Y) → AllByRecursion R (front ++ y ∷ more) → R y
         all_at R [] y more all = all.0

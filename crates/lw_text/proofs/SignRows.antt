@@ -113,23 +113,23 @@ pub IsSign-unique : (threads : ℕ) (ts : List (List ℕ)) (a b : Sign Claim) (r
 IsSign-unique threads ts a b r s p q =
     elim (front threads ts r a p) [
       | inl v ↦ elim (front threads ts s b q) [
-          | inl w ↦
-              let e = v.stands in
-              let f = w.stands in
-              let k : v.word ≡ w.word = cc in
-              let i : Some a ≡ Some b = sym v.is ∙ ap sign_word k ∙ w.is in
-              (cc, cc)
-          | inr w ↦ absurd (v.apart ts r w.mid w.site v.stands w.site_is)
-        ]
+        | inl w ↦
+            let e = v.stands in
+            let f = w.stands in
+            let k : v.word ≡ w.word = cc in
+            let i : Some a ≡ Some b = sym v.is ∙ ap sign_word k ∙ w.is in
+            (cc, cc)
+        | inr w ↦ absurd (v.apart ts r w.mid w.site v.stands w.site_is)
+      ]
       | inr v ↦ elim (front threads ts s b q) [
-          | inl w ↦ absurd (w.apart ts s v.mid v.site w.stands v.site_is)
-          | inr w ↦
-              let e = IsSite-unique ts v.site w.site v.mid w.mid v.site_is w.site_is in
-              let f = Value-unique v.mid r s v.n w.n v.value (subst (λ l. Value l w.n s) (sym e.1) w.value) in
-              let i : v.site ≡ w.site = e.0 in
-              let j : v.n ≡ w.n = f.0 in
-              (v.is ∙ ap (λ x. Atom (Holds x v.n)) i ∙ ap (λ (x : ℕ). Atom (Holds w.site x)) j ∙ sym w.is, f.1)
-        ]
+        | inl w ↦ absurd (w.apart ts s v.mid v.site w.stands v.site_is)
+        | inr w ↦
+            let e = IsSite-unique ts v.site w.site v.mid w.mid v.site_is w.site_is in
+            let f = Value-unique v.mid r s v.n w.n v.value (subst (λ l. Value l w.n s) (sym e.1) w.value) in
+            let i : v.site ≡ w.site = e.0 in
+            let j : v.n ≡ w.n = f.0 in
+            (v.is ∙ ap (λ x. Atom (Holds x v.n)) i ∙ ap (λ (x : ℕ). Atom (Holds w.site x)) j ∙ sym w.is, f.1)
+      ]
     ]
 
 pub IsSign-shorter : (threads : ℕ) (ts rest : List (List ℕ)) (s : Sign Claim) → IsSign threads ts s rest → length rest < length ts

@@ -113,12 +113,7 @@ impl<'t, 'a> Cursor<'t, 'a> {
 
     /// Takes the one text or the other, and says whether it is the first. Another token is told with
     /// the cause.
-    pub(crate) fn either(
-        &mut self,
-        first: &str,
-        second: &str,
-        cause: Cause,
-    ) -> Result<bool, Fault>
+    pub(crate) fn either(&mut self, first: &str, second: &str, cause: Cause) -> Result<bool, Fault>
         ensures ok { IfOk result (λ b. left self.old ≡ (if b then first.now else second.now) ∷ left self.new) }
         ensures no_first { OnErr result ((rest : List (List ℕ)) → left self.old ≡ first.now ∷ rest → ⊥) }
         ensures no_second { OnErr result ((rest : List (List ℕ)) → left self.old ≡ second.now ∷ rest → ⊥) }
@@ -133,9 +128,6 @@ impl<'t, 'a> Cursor<'t, 'a> {
         if mark.text == second {
             return Ok(false);
         }
-        Err(Fault {
-            at: mark.at,
-            cause,
-        })
+        Err(Fault { at: mark.at, cause })
     }
 }

@@ -13,7 +13,14 @@ impl<A: Allocator + Copy> Said<A> {
     pub(crate) fn head(self, alloc: A, name: &str) -> Result<Head<A>, AllocError>
         ensures { IfOk result (λ h. head_of h ≡ placed_head name.now self) }
     {
-        let Said { entries, threads, locs, listed, quant, prop } = self;
+        let Said {
+            entries,
+            threads,
+            locs,
+            listed,
+            quant,
+            prop,
+        } = self;
         let len = locs.len();
         let init_regs = start_registers(alloc, entries.as_slice(), threads)?;
         let init_words = start_words(alloc, entries.as_slice(), len)?;

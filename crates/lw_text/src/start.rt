@@ -95,7 +95,12 @@ fn see_registers<A: Allocator>(
     let cpu = Cpu::new(thread as u8).unwrap();
     for number in 0..6 {
         let reg = register(number);
-        see(seen, sites, Site::Register(thread as Word, reg), Seen::Register(cpu, reg))?;
+        see(
+            seen,
+            sites,
+            Site::Register(thread as Word, reg),
+            Seen::Register(cpu, reg),
+        )?;
     }
     Ok(())
 }

@@ -43,9 +43,9 @@ returns-then-not-branch-clause-fault g c =
 
 pub signs-preserved : goal.signs-preserved
 signs-preserved g c =
-  let counts = ap (λ (n : ℕ). c.signs.nodes + n) c.nodes.ensures in
-  let room = subst (λ (n : ℕ). n ≤ 256) (sym counts) (room_left c.args.threads c.signs.nodes (left c.signs.self) (left c.sign.new.self) c.sign.new.locs c.in_ok-sign.sign c.signs.invariant.read.few (sym c.has_room.ensures ∙ c.if-not-has_room.false) c.in_ok-sign.ensures.found) in
-  record {
-  read = signs_more c.args.threads c.args.locs.now c.signs.locs (left c.args.self.now) (left c.signs.self) c.signs.nodes c.signs.reader c.signs.invariant.read c.sign.new.locs (left c.sign.new.self) c.in_ok-sign.sign c.in_ok-sign.ensures.names c.in_ok-sign.ensures.found c.requires.once c.in_ok-sign.ensures.within _ c.take.new.self counts room (c.in_ok-take.ensures.given c.if-not-branch.false) (c.in_ok-take.ensures.only c.if-not-branch.false);
-  same = c.in_ok-sign.ensures.same ∙ c.signs.invariant.same;
-}
+    let counts = ap (λ (n : ℕ). c.signs.nodes + n) c.nodes.ensures in
+    let room = subst (λ (n : ℕ). n ≤ 256) (sym counts) (room_left c.args.threads c.signs.nodes (left c.signs.self) (left c.sign.new.self) c.sign.new.locs c.in_ok-sign.sign c.signs.invariant.read.few (sym c.has_room.ensures ∙ c.if-not-has_room.false) c.in_ok-sign.ensures.found) in
+    record {
+      read = signs_more c.args.threads c.args.locs.now c.signs.locs (left c.args.self.now) (left c.signs.self) c.signs.nodes c.signs.reader c.signs.invariant.read c.sign.new.locs (left c.sign.new.self) c.in_ok-sign.sign c.in_ok-sign.ensures.names c.in_ok-sign.ensures.found c.requires.once c.in_ok-sign.ensures.within _ c.take.new.self counts room (c.in_ok-take.ensures.given c.if-not-branch.false) (c.in_ok-take.ensures.only c.if-not-branch.false);
+      same = c.in_ok-sign.ensures.same ∙ c.signs.invariant.same;
+    }
