@@ -1,35 +1,12 @@
 //! Comments, and notes on a test.
 use super::*;
 
-/// The first of these texts that isn't refused as it is said beside it.
-fn first_other<'a, A: Allocator + Copy>(
-    alloc: A,
-    cases: &[(&'a str, Option<(usize, TextCause)>)],
-) -> Option<&'a str> {
-    for (text, fault) in cases {
-        if refused(alloc, text) != *fault {
-            return Some(text);
-        }
-    }
-    None
-}
-
 /// Whether the text is read, and its test has this name.
 fn is_named<A: Allocator + Copy>(alloc: A, text: &str, name: &str) -> bool {
     match read_frame(alloc, text.as_bytes()) {
         Ok(frame) => frame.head.name.as_str() == name,
         Err(_) => false,
     }
-}
-
-/// A test with so many comments opened, one in another, and so many closed.
-fn nested<A: Allocator + Copy>(
-    alloc: A,
-    opened: u32,
-    closed: u32,
-) -> Result<String<A>, AllocError> {
-    let open = repeated(alloc, "SRC A ", "(*", opened, "")?;
-    repeated(alloc, open.as_str(), "*)", closed, " {} P0; exists (x=1)")
 }
 
 #[test]
@@ -77,18 +54,15 @@ fn comments_left_open(rt: HostRuntime) {
 
 #[test]
 fn comments_nested_deep(rt: HostRuntime) -> Result<(), Fail> {
-    let text = nested(rt.alloc(), 10_000, 10_000)?;
-    assert_eq!(rt; refused(rt.alloc(), text.as_str()), None);
-    Ok(())
-}
-
-#[test]
-fn comment_left_open_deep(rt: HostRuntime) -> Result<(), Fail> {
-    let text = nested(rt.alloc(), 10_001, 10_000)?;
-    assert_eq!(rt;
-        refused(rt.alloc(), text.as_str()),
-        Some((40_028, Unterminated))
-    );
+    let cases = [
+        (["SRC A {} P0; exists (x=1)", "(*", "", "*)"], 10000, None),
+        (
+            ["SRC A {} P0; exists (x=1) (*", "(*", "", "*)"],
+            10000,
+            Some((40028, Unterminated)),
+        ),
+    ];
+    assert_eq!(rt; first_other_folded(rt.alloc(), &cases)?, None);
     Ok(())
 }
 

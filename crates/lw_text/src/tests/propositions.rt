@@ -1,124 +1,82 @@
-//! Propositions, sign by sign.
-use crate::proposition::PropositionReader;
-use crate::sign::{Atom, Sign};
-use Sign::{Close, Conjunction, Disjunction, Negation, Open};
-use lw_base::{Loc, Prop};
-use std::alloc::{AllocError, Allocator};
-use std::test::Fail;
+//! What propositions say. They are spelled here with each sign before its parts: `&`, `|` and `~`, `T`
+//! and `F`, `r` with the numbers of a thread, a register and a word, and `x` with those of a location
+//! and a word.
+use super::*;
+use lw_base::Prop;
 
-const YES: Sign = Sign::Atom(Atom::Always);
+/// What stands behind a mark and these digits.
+pub(super) fn after_mark<'s>(spelled: &'s [u8], mark: u8, digits: &[usize]) -> Option<&'s [u8]> {
+    let mut rest = after_byte(spelled, mark)?;
+    for digit in digits {
+        let (first, after) = rest.split_first()?;
+        if first.checked_sub(b'0').map(usize::from) != Some(*digit) {
+            return None;
+        }
+        rest = after;
+    }
+    Some(rest)
+}
 
-const NO: Sign = Sign::Atom(Atom::Never);
+/// What stands behind this byte.
+fn after_byte(spelled: &[u8], byte: u8) -> Option<&[u8]> {
+    let (first, rest) = spelled.split_first()?;
+    if *first == byte { Some(rest) } else { None }
+}
 
-/// The proposition that the signs are, where they are one.
-fn read<A: Allocator + Copy>(alloc: A, signs: &[Sign]) -> Result<Option<Prop<A>>, AllocError> {
-    let mut reader = PropositionReader::new(alloc);
-    for sign in signs {
-        if !reader.take(*sign)? {
-            return Ok(None);
+/// What stands behind the proposition.
+fn after_prop<'s, A: Allocator>(prop: &Prop<A>, spelled: &'s [u8]) -> Option<&'s [u8]> {
+    match prop {
+        Prop::Always => after_byte(spelled, b'T'),
+        Prop::Never => after_byte(spelled, b'F'),
+        Prop::RegIs(cpu, reg, word) => after_mark(
+            spelled,
+            b'r',
+            &[cpu.index(), reg.index(), *word as usize],
+        ),
+        Prop::WordIs(loc, word) => after_mark(spelled, b'x', &[loc.index(), *word as usize]),
+        Prop::Neg(inner) => after_prop(inner, after_byte(spelled, b'~')?),
+        Prop::Both(left, right) => {
+            let rest = after_prop(left, after_byte(spelled, b'&')?)?;
+            after_prop(right, rest)
+        }
+        Prop::Either(left, right) => {
+            let rest = after_prop(left, after_byte(spelled, b'|')?)?;
+            after_prop(right, rest)
         }
     }
-    reader.finish()
 }
 
-/// Whether the signs are this proposition.
-fn is<A: Allocator + Copy>(alloc: A, signs: &[Sign], prop: Prop<A>) -> Result<bool, AllocError> {
-    Ok(read(alloc, signs)? == Some(prop))
-}
-
-/// Whether the signs are a proposition.
-fn is_any<A: Allocator + Copy>(alloc: A, signs: &[Sign]) -> Result<bool, AllocError> {
-    Ok(read(alloc, signs)?.is_some())
-}
-
-fn neg<A: Allocator + Copy>(alloc: A, prop: Prop<A>) -> Result<Prop<A>, AllocError> {
-    Ok(Prop::Neg(Box::new(alloc, prop)?))
-}
-
-fn both<A: Allocator + Copy>(
-    alloc: A,
-    left: Prop<A>,
-    right: Prop<A>,
-) -> Result<Prop<A>, AllocError> {
-    let left = Box::new(alloc, left)?;
-    Ok(Prop::Both(left, Box::new(alloc, right)?))
-}
-
-fn either<A: Allocator + Copy>(
-    alloc: A,
-    left: Prop<A>,
-    right: Prop<A>,
-) -> Result<Prop<A>, AllocError> {
-    let left = Box::new(alloc, left)?;
-    Ok(Prop::Either(left, Box::new(alloc, right)?))
-}
-
-#[test]
-fn conjunction_binds_before_disjunction(rt: HostRuntime) -> Result<(), Fail> {
-    let alloc = rt.alloc();
-    let atom = Atom::WordIs(Loc::new(1).ok_or("a location")?, 7);
-    let row = both(alloc, Prop::Never, atom.prop())?;
-    let prop = either(alloc, Prop::Always, row)?;
-    let signs = [YES, Disjunction, NO, Conjunction, Sign::Atom(atom)];
-    assert!(rt; is(alloc, &signs, prop)?);
-    Ok(())
-}
-
-#[test]
-fn negation_binds_before_conjunction(rt: HostRuntime) -> Result<(), Fail> {
-    let alloc = rt.alloc();
-    let prop = both(alloc, neg(alloc, Prop::Always)?, Prop::Never)?;
-    assert!(rt; is(alloc, &[Negation, YES, Conjunction, NO], prop)?);
-    Ok(())
-}
-
-#[test]
-fn parentheses_bind_before_all(rt: HostRuntime) -> Result<(), Fail> {
-    let alloc = rt.alloc();
-    let inner = either(alloc, Prop::Always, Prop::Never)?;
-    let prop = both(alloc, inner, Prop::Always)?;
-    let signs = [Open, YES, Disjunction, NO, Close, Conjunction, YES];
-    assert!(rt; is(alloc, &signs, prop)?);
-    Ok(())
-}
-
-#[test]
-fn rows_are_grouped_to_the_left(rt: HostRuntime) -> Result<(), Fail> {
-    let alloc = rt.alloc();
-    let front = both(alloc, Prop::Always, Prop::Always)?;
-    let prop = both(alloc, front, Prop::Never)?;
-    assert!(rt; is(alloc, &[YES, Conjunction, YES, Conjunction, NO], prop)?);
-    Ok(())
-}
-
-#[test]
-fn negations_add_up(rt: HostRuntime) -> Result<(), Fail> {
-    let alloc = rt.alloc();
-    let prop = neg(alloc, neg(alloc, Prop::Always)?)?;
-    assert!(rt; is(alloc, &[Negation, Negation, YES], prop)?);
-    Ok(())
-}
-
-#[test]
-fn parentheses_nest_deep(rt: HostRuntime) -> Result<(), Fail> {
-    let mut signs = Vec::new(rt.alloc());
-    for _ in 0..30_000 {
-        signs.push(Open)?;
+/// Whether the condition of the text is a proposition with this spelling.
+fn says<A: Allocator + Copy>(alloc: A, text: &str, spelled: &str) -> bool {
+    let Ok(frame) = read_frame(alloc, text.as_bytes()) else {
+        return false;
+    };
+    match after_prop(&frame.head.prop, spelled.as_bytes()) {
+        Some(rest) => rest.is_empty(),
+        None => false,
     }
-    signs.push(NO)?;
-    for _ in 0..30_000 {
-        signs.push(Close)?;
-    }
-    assert!(rt; is(rt.alloc(), signs.as_slice(), Prop::Never)?);
-    Ok(())
 }
 
 #[test]
-fn signs_that_are_no_proposition(rt: HostRuntime) -> Result<(), Fail> {
-    let alloc = rt.alloc();
-    assert!(rt; !is_any(alloc, &[])?);
-    assert!(rt; !is_any(alloc, &[Open, YES, Close, Close])?);
-    assert!(rt; !is_any(alloc, &[Open, YES])?);
-    assert!(rt; !is_any(alloc, &[YES, NO])?);
-    Ok(())
+fn propositions(rt: HostRuntime) {
+    let cases = [
+        ("SRC A {} P0; exists true", "T"),
+        ("SRC A {} P0; exists ((false))", "F"),
+        ("SRC A {x=1} P0; exists [y]=0x7", "x17"),
+        ("SRC A {} P0|P1; exists 1:r5=7", "r157"),
+        ("SRC A {} P0; exists not ~true", "~~T"),
+        ("SRC A {} P0; exists (true \\/ false /\\ x=1)", "|T&Fx01"),
+        ("SRC A {} P0; exists (true /\\ false \\/ x=1)", "|&TFx01"),
+        ("SRC A {} P0; exists ((true \\/ false) /\\ x=1)", "&|TFx01"),
+        ("SRC A {} P0; exists (true /\\ (false /\\ x=1))", "&T&Fx01"),
+        ("SRC A {} P0; exists (x=1 /\\ y=2 /\\ z=3)", "&&x01x12x23"),
+        ("SRC A {} P0; exists (x=1 \\/ y=2 \\/ z=3)", "||x01x12x23"),
+        (
+            "SRC A {} P0; exists (~true /\\ not false \\/ not (true /\\ false))",
+            "|&~T~F~&TF",
+        ),
+    ];
+    for (text, spelled) in cases {
+        assert!(rt; says(rt.alloc(), text, spelled));
+    }
 }
