@@ -1,5 +1,5 @@
 //! One location's copies and memory's word, packed into one record.
-ghost use Rattle.std.specs.Prelude.{◌≡◌, ◌<◌, ℕ, Option, Some, is_ok, OnOk, OnErr};
+ghost use Rattle.std.specs.Prelude.{◌≡◌, ◌<◌, Some, is_ok, OnOk, OnErr};
 ghost use Rattle.lw_memory.specs.Memory.{is_held};
 ghost use Rattle.lw_mesi.specs.Lines.{Invalid, unheld_line, copy_of, letter_of, word_of, content_of};
 ghost use Rattle.lw_mesi.specs.MesiTable.{get_s, line_to_read, line_to_write, line_with_word, on_evict};
