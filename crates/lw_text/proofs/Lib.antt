@@ -27,3 +27,4 @@ pub mod Bodies
 pub mod PlacedHeads
 pub mod Says
 pub mod Pending
+pub mod KeptHeads

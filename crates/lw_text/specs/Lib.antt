@@ -8,6 +8,7 @@ pub mod Signs
 pub mod Pending
 pub mod Conditions
 pub mod Frames
+pub mod Kept
 pub mod Causes
 pub mod Spans
 pub mod Places

@@ -4,6 +4,7 @@ ghost use Rattle.std.specs.Str.{IsUtf8, IsValidUpTo};
 ghost use Rattle.std.specs.Str.Lossy.{utf8_valid_len};
 ghost use Rattle.lw_text.specs.declared.fault.Cause.TheVariants as inner;
 ghost use Rattle.lw_text.specs.Frames.{TestFrame, HasFrame};
+ghost use Rattle.lw_text.specs.Kept.{IsKept};
 ghost use Rattle.lw_text.specs.Views.{frame_of, LiesIn};
 
 use crate::cursor::Cursor;
@@ -55,6 +56,11 @@ pub fn read_frame<'a, A: Allocator + Copy>(
 /// A text has at most one frame.
 pub fn a_text_has_one_frame()
     ensures { (text : List ℕ) (f g : TestFrame) → HasFrame text f → HasFrame text g → f ≡ g }
+{}
+
+/// What the head of a text's frame keeps to.
+pub fn what_a_frame_keeps()
+    ensures { (text : List ℕ) (f : TestFrame) → HasFrame text f → IsKept f.head }
 {}
 
 /// Reads the frame of a text that is short enough, and UTF-8.
