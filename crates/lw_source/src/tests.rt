@@ -1,10 +1,10 @@
 //! Texts with the statements that they give, the faults of cells with their places, and runs, typed in.
-ghost use Rattle.std.specs.Prelude.{◌≡◌, IfOk};
+ghost use Rattle.std.specs.Prelude.{◌≡◌, ◌<◌, length, IfOk};
 
 use super::*;
 use CellCause::*;
 use lw_base::{
-    Arch, CellCause, CellFault, Cpu, End, Event, Loc, Operand, Outcome, Reg, Replay, Sequence, Stop,
+    Arch, CellCause, CellFault, Cpu, End, Event, Loc, Operand, Outcome, Reg, Replay, Stop, Word,
 };
 use lw_text::read_frame;
 use std::alloc::{AllocError, Allocator};
@@ -14,6 +14,14 @@ use std::test::Fail;
 /// Store buffering.
 const BUFFERING: &str =
     "SRC SB\n{}\n P0 | P1 ;\n x := 1 | y := 1 ;\n r0 := y | r0 := x ;\nexists (0:r0=0 /\\ 1:r0=0)\n";
+
+/// Locations in the condition and in the cells, of which one is empty in each thread.
+const MIXED: &str =
+    "SRC T\n{}\n P0 | P1 ;\n q := 0x10 | r2 := p ;\n | s := r1 ;\n r5 := n | ;\nexists (1:r2=0 /\\ t=1 /\\ s=2)\n";
+
+/// Each form of statement, with a jump to the thread's end.
+const FORMS: &str =
+    "SRC F\n{}\n P0 ;\n r0 := 1 ;\n r1 := r0 ;\n r2 := r1 + r0 ;\n r3 := r2 + 4294967295 ;\n r4 := swap x r2 ;\n x := r4 ;\n A: r5 := x ;\n if r5 = 7 goto B ;\n if r5 != 8 goto C ;\n goto D ;\n C: ;\n B: x := 1 ;\n D: ;\nexists (x=1)\n";
 
 /// The source test of a text, or why its cells are refused.
 fn read<A: Allocator + Copy>(
@@ -26,33 +34,13 @@ fn read<A: Allocator + Copy>(
     Ok(read_source(alloc, &frame))
 }
 
-/// Asserts that the cells of a text are refused, at this byte and for this cause.
-fn refused<A: Allocator + Copy>(
+/// The source test of a text that has one.
+fn source_of_text<A: Allocator + Copy>(
     rt: &impl Abort,
     alloc: A,
     text: &str,
-    at: usize,
-    cause: CellCause,
-) -> Result<(), Fail> {
-    let fault = read(rt, alloc, text)?.err();
-    assert_eq!(rt; fault, Some(CellFault { at, cause }), "at {text:?}");
-    Ok(())
-}
-
-/// A text of these parts, the second of which stands in it so many times.
-fn repeated<A: Allocator + Copy>(
-    alloc: A,
-    front: &str,
-    part: &str,
-    count: u32,
-    back: &str,
-) -> Result<String<A>, AllocError> {
-    let mut text = String::from_str(alloc, front)?;
-    for _ in 0..count {
-        text.push_str(part)?;
-    }
-    text.push_str(back)?;
-    Ok(text)
+) -> Result<Source<A>, Fail> {
+    Ok(read(rt, alloc, text)?.ok().ok_or("a source test")?)
 }
 
 fn cpu(number: u8) -> Result<Cpu, Fail>
@@ -71,65 +59,155 @@ fn reg(number: u8) -> Result<Reg, Fail> {
     Ok(Reg::new(number).ok_or("a register")?)
 }
 
-/// `x := n` or `x := a`, on the location of a number.
-fn store(place: u8, val: Operand) -> Result<Stmt, Fail> {
-    Ok(Stmt::Store {
-        loc: loc(place)?,
-        val,
-    })
+/// Whether these statements are a thread's from this number on.
+fn has_code<A: Allocator>(
+    source: &Source<A>,
+    thread: usize,
+    number: usize,
+    stmts: &[Stmt],
+) -> bool {
+    let Some(code) = source.threads.get(thread) else {
+        return false;
+    };
+    code.as_slice().get(number..) == Some(stmts)
 }
 
-/// `d := x`, by numbers.
-fn load(dst: u8, place: u8) -> Result<Stmt, Fail> {
-    Ok(Stmt::Load {
-        dst: reg(dst)?,
-        loc: loc(place)?,
-    })
+/// Whether the locations have these names in this order, and all begin at 0.
+fn has_locations<A: Allocator>(source: &Source<A>, names: &[&str]) -> bool {
+    for (place, name) in names.iter().enumerate() {
+        let Some(loc) = source.head.locs.find(name) else {
+            return false;
+        };
+        if loc.index() != place {
+            return false;
+        }
+    }
+    let words = source.head.init_words.as_slice();
+    words.len() == names.len() && words.iter().all(|word| *word == 0)
 }
-
-/// Locations in the condition and in the cells, of which one is empty in each thread.
-const MIXED: &str =
-    "SRC T\n{}\n P0 | P1 ;\n q := 0x10 | r2 := p ;\n | s := r1 ;\n r5 := n | ;\nexists (1:r2=0 /\\ t=1 /\\ s=2)\n";
 
 #[test]
 fn locations_in_order_of_appearance(rt: HostRuntime) -> Result<(), Fail> {
-    let source = read(&rt, rt.alloc(), MIXED)?.ok().ok_or("a source test")?;
-    for (place, name) in ["t", "s", "q", "n", "p"].iter().enumerate() {
-        let found = source.head.locs.find(name).map(|loc| loc.index());
-        assert!(rt; found == Some(place), "{name}");
-    }
-    assert_eq!(rt; source.head.init_words.as_slice(), [0; 5].as_slice());
+    let source = source_of_text(&rt, rt.alloc(), MIXED)?;
+    assert!(rt; has_locations(&source, &["t", "s", "q", "n", "p"]));
     Ok(())
 }
 
 #[test]
 fn statements_of_each_thread(rt: HostRuntime) -> Result<(), Fail> {
-    let first = [store(2, Operand::Number(16))?, load(5, 3)?];
-    let second = [load(2, 4)?, store(1, Operand::Register(reg(1)?))?];
-    let source = read(&rt, rt.alloc(), MIXED)?.ok().ok_or("a source test")?;
-    let [one, other] = source.threads.as_slice() else {
-        return Err("two threads".into());
-    };
-    assert_eq!(rt; one.as_slice(), first.as_slice());
-    assert_eq!(rt; other.as_slice(), second.as_slice());
+    let (r1, r2, r5) = (reg(1)?, reg(2)?, reg(5)?);
+    let (s, q, n, p) = (loc(1)?, loc(2)?, loc(3)?, loc(4)?);
+    let source = source_of_text(&rt, rt.alloc(), MIXED)?;
+    let val = Operand::Number(16);
+    let first = [Stmt::Store { loc: q, val }, Stmt::Load { dst: r5, loc: n }];
+    let val = Operand::Register(r1);
+    let second = [Stmt::Load { dst: r2, loc: p }, Stmt::Store { loc: s, val }];
+    let threads = source.threads.len();
+    assert!(rt;
+        threads == 2 && has_code(&source, 0, 0, &first) && has_code(&source, 1, 0, &second)
+    );
     Ok(())
 }
 
-/// Asserts that a thread with this one cell is refused.
-fn cell_refused<A: Allocator + Copy>(
-    rt: &impl Abort,
-    alloc: A,
-    cell: &str,
-    at: usize,
-    cause: CellCause,
-) -> Result<(), Fail> {
-    let text = format!(in alloc; "SRC A {{}} P0; {cell}; exists (x=1)")?;
-    refused(rt, alloc, text.as_str(), at, cause)
+#[test]
+fn values_and_swaps_are_read(rt: HostRuntime) -> Result<(), Fail> {
+    let (r0, r1, r2) = (reg(0)?, reg(1)?, reg(2)?);
+    let (r3, r4, x) = (reg(3)?, reg(4)?, loc(0)?);
+    let source = source_of_text(&rt, rt.alloc(), FORMS)?;
+    let number = Operand::Number(1);
+    let register = Operand::Register(r0);
+    let greatest = Operand::Number(4294967295);
+    for (place, stmt) in [
+        Stmt::Set {
+            dst: r0,
+            val: number,
+        },
+        Stmt::Set {
+            dst: r1,
+            val: register,
+        },
+        Stmt::Sum {
+            dst: r2,
+            left: r1,
+            right: register,
+        },
+        Stmt::Sum {
+            dst: r3,
+            left: r2,
+            right: greatest,
+        },
+        Stmt::Swap {
+            dst: r4,
+            loc: x,
+            src: r2,
+        },
+    ]
+    .iter()
+    .enumerate()
+    {
+        assert!(rt; stands(&source, place, stmt), "{place}");
+    }
+    Ok(())
+}
+
+/// Whether the first thread's statement of this number is this one.
+fn stands<A: Allocator>(source: &Source<A>, number: usize, stmt: &Stmt) -> bool {
+    let Some(code) = source.threads.get(0) else {
+        return false;
+    };
+    code.get(number) == Some(stmt)
 }
 
 #[test]
+fn jumps_are_read(rt: HostRuntime) -> Result<(), Fail> {
+    let (reg, loc) = (reg(5)?, loc(0)?);
+    let source = source_of_text(&rt, rt.alloc(), FORMS)?;
+    let val = Operand::Number(1);
+    let last = [
+        Stmt::Load { dst: reg, loc },
+        Stmt::IfEq {
+            reg,
+            num: 7,
+            to: 10,
+        },
+        Stmt::IfNe {
+            reg,
+            num: 8,
+            to: 10,
+        },
+        Stmt::Goto { to: 11 },
+        Stmt::Store { loc, val },
+    ];
+    assert!(rt; source.threads.len() == 1 && has_code(&source, 0, 6, &last));
+    Ok(())
+}
+
+/// Asserts that each of these cells, between these parts of a text, is refused at its byte and for
+/// its cause.
+fn refused<A: Allocator + Copy>(
+    rt: &impl Abort,
+    alloc: A,
+    front: &str,
+    cells: &[(&str, usize, CellCause)],
+    back: &str,
+) -> Result<(), Fail> {
+    for (cell, at, cause) in cells {
+        let text = format!(in alloc; "{front}{cell}{back}")?;
+        let fault = read(rt, alloc, text.as_str())?.err();
+        let (at, cause) = (*at, *cause);
+        assert!(rt; fault == Some(CellFault { at, cause }), "{text:?}");
+    }
+    Ok(())
+}
+
+/// What stands before and behind the one cell of a text.
+const FRONT: &str = "SRC A {} P0; ";
+
+const BACK: &str = "; exists (x=1)";
+
+#[test]
 fn refused_stores(rt: HostRuntime) -> Result<(), Fail> {
-    for (cell, at, cause) in [
+    let cells = [
         ("x", 14, Form),
         ("x ", 15, Form),
         ("x +", 15, Form),
@@ -146,15 +224,13 @@ fn refused_stores(rt: HostRuntime) -> Result<(), Fail> {
         ("x := 1 r9", 20, Register),
         ("1 := x", 13, Form),
         (":=", 13, Form),
-    ] {
-        cell_refused(&rt, rt.alloc(), cell, at, cause)?;
-    }
-    Ok(())
+    ];
+    refused(&rt, rt.alloc(), FRONT, &cells, BACK)
 }
 
 #[test]
 fn refused_values(rt: HostRuntime) -> Result<(), Fail> {
-    for (cell, at, cause) in [
+    let cells = [
         ("r0", 15, Form),
         ("r0 :=", 18, Form),
         ("r0 := r9", 19, Register),
@@ -175,15 +251,13 @@ fn refused_values(rt: HostRuntime) -> Result<(), Fail> {
         ("r0 := swap x if", 26, Register),
         ("r0 := swap x 1", 26, Form),
         ("r0 := swap x r1 y", 29, Form),
-    ] {
-        cell_refused(&rt, rt.alloc(), cell, at, cause)?;
-    }
-    Ok(())
+    ];
+    refused(&rt, rt.alloc(), FRONT, &cells, BACK)
 }
 
 #[test]
 fn refused_jumps(rt: HostRuntime) -> Result<(), Fail> {
-    for (cell, at, cause) in [
+    let cells = [
         ("goto", 17, Form),
         ("goto 1", 18, Form),
         ("goto if", 18, Form),
@@ -200,15 +274,13 @@ fn refused_jumps(rt: HostRuntime) -> Result<(), Fail> {
         ("if r0 = 0 L", 23, Form),
         ("if r0 = 0 goto r0", 28, Form),
         ("if r0 = 0 goto L", 28, LabelMissing),
-    ] {
-        cell_refused(&rt, rt.alloc(), cell, at, cause)?;
-    }
-    Ok(())
+    ];
+    refused(&rt, rt.alloc(), FRONT, &cells, BACK)
 }
 
 #[test]
 fn refused_labels(rt: HostRuntime) -> Result<(), Fail> {
-    for (cell, at, cause) in [
+    let cells = [
         ("r0 : x := 1", 13, Form),
         ("if : x := 1", 13, Form),
         ("goto : L", 13, Form),
@@ -217,15 +289,13 @@ fn refused_labels(rt: HostRuntime) -> Result<(), Fail> {
         (": x := 1", 13, Form),
         ("L : M : 2", 21, Form),
         ("L : L : 2", 17, LabelTwice),
-    ] {
-        cell_refused(&rt, rt.alloc(), cell, at, cause)?;
-    }
-    Ok(())
+    ];
+    refused(&rt, rt.alloc(), FRONT, &cells, BACK)
 }
 
 #[test]
 fn refused_rows(rt: HostRuntime) -> Result<(), Fail> {
-    for (rows, at, cause) in [
+    let rows = [
         (" r9 := 1 ;", 16, Register),
         (" x + 1 ;", 18, Form),
         (" goto L ;", 21, LabelMissing),
@@ -236,152 +306,163 @@ fn refused_rows(rt: HostRuntime) -> Result<(), Fail> {
         (" goto L ;\n x + ;", 28, Form),
         (" goto L ;\n goto M ;\n L: ;", 31, LabelMissing),
         (" M: goto M ;\n goto L ;", 24, Backward),
-    ] {
-        let alloc = rt.alloc();
-        let text = format!(in alloc; "SRC G\n{{}}\n P0 ;\n{rows}\nexists (x=1)\n")?;
-        refused(&rt, alloc, text.as_str(), at, cause)?;
-    }
-    Ok(())
+    ];
+    let front = "SRC G\n{}\n P0 ;\n";
+    refused(&rt, rt.alloc(), front, &rows, "\nexists (x=1)\n")
 }
 
 #[test]
 fn first_fault_is_told(rt: HostRuntime) -> Result<(), Fail> {
-    let alloc = rt.alloc();
-    let lower = "SRC A {} P0 | P1; x := 1 | y +; z + |; exists (x=1)";
-    refused(&rt, alloc, lower, 34, Form)?;
-    let other = "SRC A {} P0 | P1; x := 1 | y +; r0 := z | r9 := 1; exists (x=1)";
-    refused(&rt, alloc, other, 29, Form)?;
-    let jump = "SRC A {} P0 | P1; goto L | x + ; exists (x=1)";
-    refused(&rt, alloc, jump, 23, LabelMissing)
+    let cells = [
+        ("x := 1 | y +; z + |", 34, Form),
+        ("x := 1 | y +; r0 := z | r9 := 1", 29, Form),
+        ("goto L | x + ", 23, LabelMissing),
+    ];
+    refused(&rt, rt.alloc(), "SRC A {} P0 | P1; ", &cells, BACK)
 }
+
+/// Eight locations in the condition.
+const EIGHT_SEEN: &str = "; exists (a=1/\\b=1/\\c=1/\\d=1/\\e=1/\\f=1/\\g=1/\\h=1)";
+
+/// Eight locations in the cells of two threads.
+const EIGHT_STORED: &str =
+    "SRC A {} P0|P1; a := 1 | e := 1; b := 1 | f := 1; c := 1 | g := 1; d := 1 | h := 1; ";
 
 #[test]
 fn ninth_location(rt: HostRuntime) -> Result<(), Fail> {
     let alloc = rt.alloc();
-    let stored = "SRC A {} P0; i +; exists (a=1/\\b=1/\\c=1/\\d=1/\\e=1/\\f=1/\\g=1/\\h=1)";
-    refused(&rt, alloc, stored, 13, TooMany)?;
-    let loaded =
-        "SRC A {} P0; a := 1; r0 := i j; exists (a=1/\\b=1/\\c=1/\\d=1/\\e=1/\\f=1/\\g=1/\\h=1)";
-    refused(&rt, alloc, loaded, 27, TooMany)?;
-    let front =
-        "SRC A {} P0|P1; a := 1 | e := 1; b := 1 | f := 1; c := 1 | g := 1; d := 1 | h := 1; ";
-    let eight = format!(in alloc; "{front}| r0 := h; exists (a=1)")?;
-    let source = read(&rt, alloc, eight.as_str())?
-        .ok()
-        .ok_or("a source test")?;
-    assert_eq!(rt; source.head.init_words.as_slice(), [0; 8].as_slice());
-    let nine = format!(in alloc; "{front}| r0 := i; | r1 := x y; exists (a=1)")?;
-    refused(&rt, alloc, nine.as_str(), 92, TooMany)
+    let cells = [("i +", 13, TooMany), ("a := 1; r0 := i j", 27, TooMany)];
+    refused(&rt, alloc, FRONT, &cells, EIGHT_SEEN)?;
+    let cells = [("| r0 := i; | r1 := x y", 92, TooMany)];
+    refused(&rt, alloc, EIGHT_STORED, &cells, "; exists (a=1)")
+}
+
+#[test]
+fn eighth_location(rt: HostRuntime) -> Result<(), Fail> {
+    let alloc = rt.alloc();
+    let text = format!(in alloc; "{EIGHT_STORED}| r0 := h; exists (a=1)")?;
+    let source = source_of_text(&rt, alloc, text.as_str())?;
+    let names = ["a", "b", "c", "d", "e", "f", "g", "h"];
+    assert!(rt; has_locations(&source, &names));
+    Ok(())
+}
+
+/// A thread of sixteen statements.
+const SIXTEEN: &str =
+    "SRC A {} P0; x := 1; x := 1; x := 1; x := 1; x := 1; x := 1; x := 1; x := 1; x := 1; x := 1; x := 1; x := 1; x := 1; x := 1; x := 1; x := 1; ";
+
+#[test]
+fn sixteenth_statement(rt: HostRuntime) -> Result<(), Fail> {
+    let alloc = rt.alloc();
+    let loc = loc(0)?;
+    let text = format!(in alloc; "{SIXTEEN}; ; exists (x=1)")?;
+    let source = source_of_text(&rt, alloc, text.as_str())?;
+    let val = Operand::Number(1);
+    let code = [Stmt::Store { loc, val }; 16];
+    assert!(rt; source.threads.len() == 1 && has_code(&source, 0, 0, &code));
+    Ok(())
 }
 
 #[test]
 fn seventeenth_statement(rt: HostRuntime) -> Result<(), Fail> {
-    let alloc = rt.alloc();
-    let most = repeated(alloc, "SRC A {} P0; ", "x := 1; ", 16, "; ; exists (x=1)")?;
-    let source = read(&rt, alloc, most.as_str())?
-        .ok()
-        .ok_or("a source test")?;
-    let threads = source.threads.as_slice();
-    assert_eq!(rt; threads.len(), 1);
-    assert_eq!(rt; threads[0].len(), 16);
-    for (cell, cause) in [
-        ("x := 1", TooMany),
-        ("y +", TooMany),
-        ("r0 := r9", TooMany),
-        ("goto +", TooMany),
-        ("if +", TooMany),
-        ("1 := x", Form),
-        ("swap", Form),
-        ("r9 := 1", Register),
+    let cells = [
+        ("x := 1", 141, TooMany),
+        ("y +", 141, TooMany),
+        ("r0 := r9", 141, TooMany),
+        ("goto +", 141, TooMany),
+        ("if +", 141, TooMany),
+        ("1 := x", 141, Form),
+        ("swap", 141, Form),
+        ("r9 := 1", 141, Register),
+    ];
+    refused(&rt, rt.alloc(), SIXTEEN, &cells, BACK)
+}
+
+/// What a run of a test answers to these events, and what it leaves.
+fn replayed<A: Allocator + Copy>(
+    alloc: A,
+    source: &Source<A>,
+    events: &[Event],
+) -> Result<(Replay, Outcome<A>), AllocError> {
+    let mut run = SourceRun::new(alloc, source)?;
+    let replay = run.run(events);
+    Ok((replay, run.outcome()?))
+}
+
+/// Whether a run of a test answers this to these events, and leaves these registers and words.
+fn leaves<A: Allocator + Copy>(
+    alloc: A,
+    source: &Source<A>,
+    events: &[Event],
+    answer: Replay,
+    regs: &[[Word; 6]],
+    words: &[Word],
+) -> Result<bool, AllocError> {
+    let (replay, outcome) = replayed(alloc, source, events)?;
+    let are_left = outcome.regs.as_slice() == regs && outcome.words.as_slice() == words;
+    Ok(replay == answer && are_left)
+}
+
+#[test]
+fn steps_of_store_buffering(rt: HostRuntime) -> Result<(), Fail> {
+    let (p0, p1) = (cpu(0)?, cpu(1)?);
+    let source = source_of_text(&rt, rt.alloc(), BUFFERING)?;
+    let regs = [[1, 0, 0, 0, 0, 0], [0; 6]];
+    for (order, done, end) in [
+        ([p0, p1, p0, p0], 3, End::NotFinal),
+        ([p1, p1, p0, p0], 4, End::Final),
     ] {
-        let back = format!(in alloc; "{cell}; exists (x=1)")?;
-        let text = repeated(alloc, "SRC A {} P0; ", "x := 1; ", 16, back.as_str())?;
-        refused(&rt, alloc, text.as_str(), 141, cause)?;
+        let steps = order.map(Event::Step);
+        let events = steps.get(..done).ok_or("events")?;
+        let answer = Replay { done, end };
+        let is_so = leaves(rt.alloc(), &source, events, answer, &regs, &[1, 1])?;
+        assert!(rt; is_so, "{done} steps");
     }
     Ok(())
 }
 
-/// What a run of store buffering answers to these events, and what it leaves.
-fn buffered<A: Allocator + Copy>(
-    rt: &impl Abort,
-    alloc: A,
-    events: &[Event],
-) -> Result<(Replay, Outcome<A>), Fail> {
-    replayed(rt, alloc, BUFFERING, events)
-}
-
-/// What a run of a text answers to these events, and what it leaves.
-fn replayed<A: Allocator + Copy>(
-    rt: &impl Abort,
-    alloc: A,
-    text: &str,
-    events: &[Event],
-) -> Result<(Replay, Outcome<A>), Fail> {
-    let source = read(rt, alloc, text)?.ok().ok_or("a source test")?;
-    let mut run = SourceRun::new(alloc, &source)?;
-    let replay = run.run(events);
-    let outcome = run.outcome()?;
-    Ok((replay, outcome))
-}
-
-#[test]
-fn three_steps_of_four(rt: HostRuntime) -> Result<(), Fail> {
-    let (p0, p1) = (Event::Step(cpu(0)?), Event::Step(cpu(1)?));
-    let (replay, outcome) = buffered(&rt, rt.alloc(), &[p0, p1, p0])?;
-    assert_eq!(rt; replay.done, 3);
-    assert_eq!(rt; replay.end, End::NotFinal);
-    let regs = [[1, 0, 0, 0, 0, 0], [0; 6]];
-    assert_eq!(rt; outcome.regs.as_slice(), regs.as_slice());
-    assert_eq!(rt; outcome.words.as_slice(), [1, 1].as_slice());
-    Ok(())
-}
-
-#[test]
-fn four_steps(rt: HostRuntime) -> Result<(), Fail> {
-    let (p0, p1) = (Event::Step(cpu(0)?), Event::Step(cpu(1)?));
-    let (replay, outcome) = buffered(&rt, rt.alloc(), &[p1, p1, p0, p0])?;
-    assert_eq!(rt; replay.done, 4);
-    assert_eq!(rt; replay.end, End::Final);
-    let regs = [[1, 0, 0, 0, 0, 0], [0; 6]];
-    assert_eq!(rt; outcome.regs.as_slice(), regs.as_slice());
-    assert_eq!(rt; outcome.words.as_slice(), [1, 1].as_slice());
-    Ok(())
-}
-
-/// Asserts that store buffering refuses the event at its start.
+/// Asserts that a run refuses the event at the start of a test of two threads and two locations.
 fn stopped<A: Allocator + Copy>(
     rt: &impl Abort,
     alloc: A,
+    source: &Source<A>,
     event: Event,
     stop: Stop,
 ) -> Result<(), Fail> {
-    let (replay, _) = buffered(rt, alloc, &[event])?;
-    assert_eq!(rt; replay.done, 0, "{event:?}");
-    assert_eq!(rt; replay.end, End::Stopped(stop), "{event:?}");
+    let end = End::Stopped(stop);
+    let answer = Replay { done: 0, end };
+    let is_so = leaves(alloc, source, &[event], answer, &[[0; 6]; 2], &[0, 0])?;
+    assert!(rt; is_so, "{event:?}");
     Ok(())
 }
 
 #[test]
 fn refused_events(rt: HostRuntime) -> Result<(), Fail> {
-    let alloc = rt.alloc();
     let (p1, p2) = (cpu(1)?, cpu(2)?);
     let (x, z) = (loc(0)?, loc(2)?);
-    stopped(&rt, alloc, Event::Step(p2), Stop::NoCpu)?;
-    stopped(&rt, alloc, Event::Drain(p2), Stop::NoCpu)?;
-    stopped(&rt, alloc, Event::Drain(p1), Stop::BufferEmpty)?;
-    stopped(&rt, alloc, Event::Evict(p2, z), Stop::NoCpu)?;
-    stopped(&rt, alloc, Event::Evict(p1, z), Stop::NoLocation)?;
-    stopped(&rt, alloc, Event::Evict(p1, x), Stop::NotHeld)
+    let source = source_of_text(&rt, rt.alloc(), BUFFERING)?;
+    for (event, stop) in [
+        (Event::Step(p2), Stop::NoCpu),
+        (Event::Drain(p2), Stop::NoCpu),
+        (Event::Drain(p1), Stop::BufferEmpty),
+        (Event::Evict(p2, z), Stop::NoCpu),
+        (Event::Evict(p1, z), Stop::NoLocation),
+        (Event::Evict(p1, x), Stop::NotHeld),
+    ] {
+        stopped(&rt, rt.alloc(), &source, event, stop)?;
+    }
+    Ok(())
 }
 
 #[test]
 fn events_before_a_refused_one(rt: HostRuntime) -> Result<(), Fail> {
     let (p0, p1) = (cpu(0)?, cpu(1)?);
     let events = [Event::Step(p0), Event::Drain(p0), Event::Step(p1)];
-    let (replay, outcome) = buffered(&rt, rt.alloc(), &events)?;
-    assert_eq!(rt; replay.done, 1);
-    assert_eq!(rt; replay.end, End::Stopped(Stop::BufferEmpty));
-    assert_eq!(rt; outcome.words.as_slice(), [1, 0].as_slice());
+    let end = End::Stopped(Stop::BufferEmpty);
+    let answer = Replay { done: 1, end };
+    let source = source_of_text(&rt, rt.alloc(), BUFFERING)?;
+    let is_so = leaves(rt.alloc(), &source, &events, answer, &[[0; 6]; 2], &[1, 0])?;
+    assert!(rt; is_so);
     Ok(())
 }
 
@@ -398,146 +479,149 @@ fn steps_until_refused<A: Allocator, B: Allocator>(
     (16, None)
 }
 
+/// What one thread's steps make of a run: their number, why the next is refused, and whether the
+/// run is final.
+#[derive(Clone, Copy, Debug, PartialEq, Eq)]
+struct Course {
+    done: usize,
+    stop: Option<Stop>,
+    is_final: bool,
+}
+
+/// The courses of these threads, one after another.
+fn courses<A: Allocator + Copy>(
+    alloc: A,
+    source: &Source<A>,
+    threads: [Cpu; 3],
+) -> Result<[Course; 3], AllocError> {
+    let mut run = SourceRun::new(alloc, source)?;
+    Ok(threads.map(|thread| course_of(&mut run, thread)))
+}
+
+fn course_of<A: Allocator, B: Allocator>(run: &mut SourceRun<'_, A, B>, thread: Cpu) -> Course {
+    let (done, stop) = steps_until_refused(run, thread);
+    let is_final = run.is_final();
+    Course {
+        done,
+        stop,
+        is_final,
+    }
+}
+
 #[test]
 fn steps_to_the_end(rt: HostRuntime) -> Result<(), Fail> {
-    let source = read(&rt, rt.alloc(), BUFFERING)?
-        .ok()
-        .ok_or("a source test")?;
-    let mut run = SourceRun::new(rt.alloc(), &source)?;
-    for (number, done, stop) in [
-        (2, 0, Stop::NoCpu),
-        (1, 2, Stop::Ended),
-        (0, 2, Stop::Ended),
-    ] {
-        assert!(rt; !run.is_final());
-        let refused = steps_until_refused(&mut run, cpu(number)?);
-        assert_eq!(rt; refused, (done, Some(stop)), "at {number}");
+    let threads = [cpu(2)?, cpu(1)?, cpu(0)?];
+    let source = source_of_text(&rt, rt.alloc(), BUFFERING)?;
+    let found = courses(rt.alloc(), &source, threads)?;
+    let expected = [
+        (0, Stop::NoCpu, false),
+        (2, Stop::Ended, false),
+        (2, Stop::Ended, true),
+    ];
+    for (course, (done, stop, is_final)) in found.iter().zip(expected) {
+        let stop = Some(stop);
+        assert!(rt;
+            *course
+                == Course {
+                    done,
+                    stop,
+                    is_final
+                },
+            "{course:?}"
+        );
     }
-    assert!(rt; run.is_final());
     Ok(())
+}
+
+/// After these events: the place of a thread, the word of its first register, and that of a
+/// location.
+fn standing<A: Allocator + Copy>(
+    alloc: A,
+    source: &Source<A>,
+    events: &[Event],
+    thread: Cpu,
+    loc: Loc,
+) -> Result<(usize, Word, Word), Fail>
+    requires thread { thread < length source.now.head.init_regs }
+    requires loc { loc < length source.now.head.init_words }
+{
+    let first = reg(0)?;
+    let mut run = SourceRun::new(alloc, source)?;
+    run.run(events);
+    Ok((run.position(thread), run.reg(thread, first), run.word(loc)))
 }
 
 #[test]
 fn place_and_words_of_a_run(rt: HostRuntime) -> Result<(), Fail> {
-    let (p0, r0, y) = (cpu(0)?, reg(0)?, loc(1)?);
+    let (p0, y) = (cpu(0)?, loc(1)?);
     let events = [Event::Step(cpu(1)?), Event::Step(p0), Event::Step(p0)];
-    let source = read(&rt, rt.alloc(), BUFFERING)?
-        .ok()
-        .ok_or("a source test")?;
-    assert_eq!(rt; source.head.init_regs.len(), 2);
-    assert_eq!(rt; source.head.init_words.len(), 2);
-    let mut run = SourceRun::new(rt.alloc(), &source)?;
-    run.run(&events);
-    assert_eq!(rt; run.position(p0), 2);
-    assert_eq!(rt; run.reg(p0, r0), 1);
-    assert_eq!(rt; run.word(y), 1);
+    let source = source_of_text(&rt, rt.alloc(), BUFFERING)?;
+    assert!(rt; source.head.init_regs.len() == 2);
+    assert!(rt; source.head.init_words.len() == 2);
+    let found = standing(rt.alloc(), &source, &events, p0, y)?;
+    assert!(rt; found == (2, 1, 1));
     Ok(())
 }
 
-/// Each form of statement, with jumps to the thread's end.
-const FORMS: &str =
-    "SRC F\n{}\n P0 ;\n r0 := 1 ;\n r1 := r0 ;\n r2 := r1 + r0 ;\n r3 := r2 + 4294967295 ;\n r4 := swap x r2 ;\n x := r4 ;\n A: r5 := x ;\n if r5 = 7 goto B ;\n if r5 != 8 goto C ;\n goto B ;\n C: ;\n B: x := 1 ;\n D: ;\nexists (x=1)\n";
-
-#[test]
-fn values_and_swaps_are_read(rt: HostRuntime) -> Result<(), Fail> {
-    let (r0, r1, r2) = (reg(0)?, reg(1)?, reg(2)?);
-    let source = read(&rt, rt.alloc(), FORMS)?.ok().ok_or("a source test")?;
-    let [code] = source.threads.as_slice() else {
-        return Err("one thread".into());
-    };
-    let expected = [
-        Stmt::Set {
-            dst: r0,
-            val: Operand::Number(1),
-        },
-        Stmt::Set {
-            dst: r1,
-            val: Operand::Register(r0),
-        },
-        Stmt::Sum {
-            dst: r2,
-            left: r1,
-            right: Operand::Register(r0),
-        },
-        Stmt::Sum {
-            dst: reg(3)?,
-            left: r2,
-            right: Operand::Number(4294967295),
-        },
-        Stmt::Swap {
-            dst: reg(4)?,
-            loc: loc(0)?,
-            src: r2,
-        },
-    ];
-    assert_eq!(rt; code.as_slice().get(..5), Some(expected.as_slice()));
-    Ok(())
-}
-
-#[test]
-fn jumps_are_read(rt: HostRuntime) -> Result<(), Fail> {
-    let r5 = reg(5)?;
-    let source = read(&rt, rt.alloc(), FORMS)?.ok().ok_or("a source test")?;
-    let [code] = source.threads.as_slice() else {
-        return Err("one thread".into());
-    };
-    let expected = [
-        Stmt::IfEq {
-            reg: r5,
-            num: 7,
-            to: 10,
-        },
-        Stmt::IfNe {
-            reg: r5,
-            num: 8,
-            to: 10,
-        },
-        Stmt::Goto { to: 10 },
-        store(0, Operand::Number(1))?,
-    ];
-    assert_eq!(rt; code.as_slice().get(7..), Some(expected.as_slice()));
-    Ok(())
-}
-
-/// The registers of the only thread and the word of the first location, after so many steps.
-fn after_steps<A: Allocator + Copy>(
+/// Asserts that these steps of a text's only thread end it, and leave these registers, and this
+/// word at its only location.
+fn ends<A: Allocator + Copy>(
     rt: &impl Abort,
     alloc: A,
     text: &str,
-    steps: usize,
-) -> Result<([u32; 6], u32), Fail> {
-    let step = Event::Step(cpu(0)?);
-    let (replay, outcome) = replayed(rt, alloc, text, [step; 16].get(..steps).ok_or("steps")?)?;
-    assert_eq!(rt; replay.end, End::Final, "{text:?}");
-    let regs = outcome.regs.get(0).ok_or("a thread")?;
-    let word = outcome.words.get(0).ok_or("a location")?;
-    Ok((*regs, *word))
+    done: usize,
+    regs: [Word; 6],
+    word: Word,
+) -> Result<(), Fail> {
+    let steps = [Event::Step(cpu(0)?); 16];
+    let events = steps.get(..done).ok_or("steps")?;
+    let end = End::Final;
+    let source = source_of_text(rt, alloc, text)?;
+    let is_so = leaves(
+        alloc,
+        &source,
+        events,
+        Replay { done, end },
+        &[regs],
+        &[word],
+    )?;
+    assert!(rt; is_so, "{text:?}");
+    Ok(())
 }
 
 #[test]
 fn statements_of_one_thread(rt: HostRuntime) -> Result<(), Fail> {
     for (cells, steps, regs, word) in [
-        ("r0 := 4294967295; r0 := r0 + 2", 3, [1, 0, 0, 0, 0, 0], 5),
-        ("r1 := 4; r0 := r1 + r1", 3, [8, 4, 0, 0, 0, 0], 5),
-        ("r0 := 7; r0 := swap x r0", 3, [5, 0, 0, 0, 0, 0], 7),
+        ("r0 := 4294967295; r0 := r0 + 2", 2, [1, 0, 0, 0, 0, 0], 5),
+        ("r1 := 4; r0 := r1 + r1", 2, [8, 4, 0, 0, 0, 0], 5),
+        ("r0 := 7; r0 := swap x r0", 2, [5, 0, 0, 0, 0, 0], 7),
+        ("r1 := 9; x := r1", 2, [0, 9, 0, 0, 0, 0], 9),
         (
             "r0 := x; if r0 = 5 goto L; x := 1; L:",
-            3,
+            2,
             [5, 0, 0, 0, 0, 0],
             5,
         ),
         (
             "r0 := x; if r0 != 5 goto L; x := 1; L:",
-            4,
+            3,
             [5, 0, 0, 0, 0, 0],
             1,
         ),
-        ("goto L; x := 1; M: L: x := 2", 3, [0; 6], 2),
+        ("goto L; x := 1; M: L: x := 2", 2, [0; 6], 2),
     ] {
         let alloc = rt.alloc();
-        let text = format!(in alloc; "SRC A {{}} P0; x := 5; {cells}; exists (x=1)")?;
-        let after = after_steps(&rt, alloc, text.as_str(), steps)?;
-        assert_eq!(rt; after, (regs, word), "{cells}");
+        let text = format!(in alloc; "SRC A {{ x=5; }} P0; {cells}; exists (x=1)")?;
+        ends(&rt, alloc, text.as_str(), steps, regs, word)?;
     }
     Ok(())
+}
+
+/// Sums of registers that begin at other words than 0, one of which wraps.
+const SUMS: &str =
+    "SRC S { 0:r0=2; 0:r1=3; 0:r3=4294967295; } P0; r1 := r0 + r1; r1 := r1 + r1; r2 := r0 + r1; r3 := r3 + 1; r4 := swap x r1; exists (x=10)";
+
+#[test]
+fn sums_of_initial_registers(rt: HostRuntime) -> Result<(), Fail> {
+    ends(&rt, rt.alloc(), SUMS, 5, [2, 10, 12, 0, 0, 0], 10)
 }

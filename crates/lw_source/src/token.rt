@@ -49,10 +49,10 @@ pub(crate) fn label(token: &Token<'_>) -> Result<(), CellFault>
     ensures cause { IfErr result (λ f. IsMisfit f.cause) }
     ensures place { (len : ℕ) → token.now.at ≤ len → IfErr result (λ f. f.at ≤ len) }
 {
-    if !is_location(token.text) {
-        return Err(misfit(token));
+    if is_location(token.text) {
+        return Ok(());
     }
-    Ok(())
+    Err(misfit(token))
 }
 
 /// The register that the token is, where nothing else may stand.
