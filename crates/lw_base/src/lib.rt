@@ -19,8 +19,6 @@ mod scan;
 mod schedule;
 mod sequence;
 mod stop;
-#[cfg(test)]
-mod tests;
 mod text;
 
 pub use event::Event;

@@ -1,3 +1,14 @@
+//! Tests of the workbench: the devices that they use, and what devices, commands and statuses do. Those
+//! of texts, cells, schedules and pages are tables in the modules.
+mod cells;
+mod heads;
+mod names;
+mod pages;
+mod runs;
+mod tables;
+mod texts;
+mod values;
+
 use super::*;
 use lw_base::{CellCause, CellFault, End, ScheduleCause, ScheduleFault, Stop};
 use lw_text::{TextCause, TextFault};
@@ -117,15 +128,6 @@ fn replay(alloc: Global, text: &[u8], schedule: &str) -> (Result<End, BenchFault
     (result, writer.writer)
 }
 
-/// Whether the replay ends so, and has written this page.
-fn is_replayed(alloc: Global, text: &str, schedule: &str, end: End, page: &str) -> bool {
-    let (result, sheet) = replay(alloc, text.as_bytes(), schedule);
-    match result {
-        Ok(ended) => ended == end && sheet.is(page),
-        Err(_) => false,
-    }
-}
-
 /// Whether the replay is refused, told by this line, and has written nothing.
 fn is_refused(alloc: Global, text: &[u8], schedule: &str, line: &str) -> bool {
     let (result, sheet) = replay(alloc, text, schedule);
@@ -140,209 +142,6 @@ fn is_told(alloc: Global, fault: &BenchFault, line: &str) -> bool {
     match fault_line(alloc, fault) {
         Ok(told) => told.as_str() == line,
         Err(_) => false,
-    }
-}
-
-#[test]
-fn states_of_store_buffering(rt: HostRuntime) {
-    for (schedule, end, page) in [
-        (
-            "P0 P0 P1 P1",
-            End::Final,
-            "Test SB\nSteps 4\nEnd Final\nP0 at 2 r0=0 r1=0 r2=0 r3=0 r4=0 r5=0\nP1 at 2 r0=1 r1=0 r2=0 r3=0 r4=0 r5=0\nMemory x=1 y=1\n",
-        ),
-        (
-            "P0 P1 P0",
-            End::NotFinal,
-            "Test SB\nSteps 3\nEnd NotFinal\nP0 at 2 r0=1 r1=0 r2=0 r3=0 r4=0 r5=0\nP1 at 1 r0=0 r1=0 r2=0 r3=0 r4=0 r5=0\nMemory x=1 y=1\n",
-        ),
-        (
-            "",
-            End::NotFinal,
-            "Test SB\nSteps 0\nEnd NotFinal\nP0 at 0 r0=0 r1=0 r2=0 r3=0 r4=0 r5=0\nP1 at 0 r0=0 r1=0 r2=0 r3=0 r4=0 r5=0\nMemory x=0 y=0\n",
-        ),
-    ] {
-        assert!(rt; is_replayed(rt.alloc(), STORE_BUFFERING, schedule, end, page));
-    }
-}
-
-/// The state is that from before the refused event, and nothing after it is carried out. A source test has no store
-/// buffers and no caches.
-#[test]
-fn refused_events(rt: HostRuntime) {
-    for (schedule, stop, page) in [
-        (
-            "D0",
-            Stop::BufferEmpty,
-            "Test SB\nSteps 0\nEnd Stopped at 0 by 6 BufferEmpty\nP0 at 0 r0=0 r1=0 r2=0 r3=0 r4=0 r5=0\nP1 at 0 r0=0 r1=0 r2=0 r3=0 r4=0 r5=0\nMemory x=0 y=0\n",
-        ),
-        (
-            "P0 P0 P0 P1",
-            Stop::Ended,
-            "Test SB\nSteps 2\nEnd Stopped at 2 by 3 Ended\nP0 at 2 r0=0 r1=0 r2=0 r3=0 r4=0 r5=0\nP1 at 0 r0=0 r1=0 r2=0 r3=0 r4=0 r5=0\nMemory x=1 y=0\n",
-        ),
-        (
-            "P1 E0:y",
-            Stop::NotHeld,
-            "Test SB\nSteps 1\nEnd Stopped at 1 by 7 NotHeld\nP0 at 0 r0=0 r1=0 r2=0 r3=0 r4=0 r5=0\nP1 at 1 r0=0 r1=0 r2=0 r3=0 r4=0 r5=0\nMemory x=0 y=1\n",
-        ),
-        (
-            "P2",
-            Stop::NoCpu,
-            "Test SB\nSteps 0\nEnd Stopped at 0 by 1 NoCpu\nP0 at 0 r0=0 r1=0 r2=0 r3=0 r4=0 r5=0\nP1 at 0 r0=0 r1=0 r2=0 r3=0 r4=0 r5=0\nMemory x=0 y=0\n",
-        ),
-    ] {
-        assert!(rt;
-            is_replayed(
-                rt.alloc(),
-                STORE_BUFFERING,
-                schedule,
-                End::Stopped(stop),
-                page
-            )
-        );
-    }
-}
-
-/// A test with no location and no row; four threads and the greatest word, with locations in the order in which they
-/// appear; the later of two initial entries for a location.
-#[test]
-fn pages_of_other_tests(rt: HostRuntime) {
-    for (text, schedule, page) in [
-        (
-            "SRC A\n{}\n P0 ;\nexists (0:r0=0)",
-            " \t\r\n",
-            "Test A\nSteps 0\nEnd Final\nP0 at 0 r0=0 r1=0 r2=0 r3=0 r4=0 r5=0\nMemory\n",
-        ),
-        (
-            "SRC W\n{}\n P0 | P1 | P2 | P3 ;\n b := 4294967295 | | | a := 0x10 ;\n r5 := b | | | ;\n c := r5 | | | ;\nexists (c=1)",
-            "P3 P0 P0 P0",
-            "Test W\nSteps 4\nEnd Final\nP0 at 3 r0=0 r1=0 r2=0 r3=0 r4=0 r5=4294967295\nP1 at 0 r0=0 r1=0 r2=0 r3=0 r4=0 r5=0\nP2 at 0 r0=0 r1=0 r2=0 r3=0 r4=0 r5=0\nP3 at 1 r0=0 r1=0 r2=0 r3=0 r4=0 r5=0\nMemory c=4294967295 b=4294967295 a=16\n",
-        ),
-        (
-            "SRC T\n{ x=1; x=2; }\n P0 ;\nexists (x=2)",
-            "",
-            "Test T\nSteps 0\nEnd Final\nP0 at 0 r0=0 r1=0 r2=0 r3=0 r4=0 r5=0\nMemory x=2\n",
-        ),
-    ] {
-        assert!(rt; is_replayed(rt.alloc(), text, schedule, End::Final, page));
-    }
-}
-
-/// Sums wrap, a sum of a register with itself reads it before it writes, and a swap stores its register's word.
-#[test]
-fn sums(rt: HostRuntime) {
-    let text =
-        "SRC SUMS\n{ 0:r0=2; 0:r1=3; 0:r3=4294967295; }\n P0 ;\n r1 := r0 + r1 ;\n r1 := r1 + r1 ;\n r2 := r0 + r1 ;\n r3 := r3 + 1 ;\n r4 := swap x r1 ;\nlocations [0:r1; 0:r2; 0:r3; 0:r4;]\nexists (x=10)\n";
-    assert!(rt;
-        is_replayed(
-            rt.alloc(),
-            text,
-            "P0 P0 P0 P0 P0",
-            End::Final,
-            "Test SUMS\nSteps 5\nEnd Final\nP0 at 5 r0=2 r1=10 r2=12 r3=0 r4=0 r5=0\nMemory x=10\n",
-        )
-    );
-}
-
-/// A lock taken by the first thread that swaps a 1 into it: the other jumps over its store, to its end.
-#[test]
-fn jumps(rt: HostRuntime) {
-    let text =
-        "SRC LOCK \"two threads\"\nKind=lock (* not a comment\n{0:r1=1;1:r1=1}\n P0 | P1 ; (* both (* alike *) *)\n r0 := swap l r1 | r0 := swap l r1 ;\n if r0 != 0 goto E | if r0 = 1 goto E ;\n x := 1 | x := 2 ;\n E: | E: ;\n~exists not (true /\\ ([l]=1 \\/ false))\n";
-    assert!(rt;
-        is_replayed(
-            rt.alloc(),
-            text,
-            "P1 P0 P0 P1 P1",
-            End::Final,
-            "Test LOCK\nSteps 5\nEnd Final\nP0 at 3 r0=1 r1=1 r2=0 r3=0 r4=0 r5=0\nP1 at 3 r0=0 r1=1 r2=0 r3=0 r4=0 r5=0\nMemory l=1 x=2\n",
-        )
-    );
-}
-
-#[test]
-fn refused_schedules(rt: HostRuntime) {
-    for (schedule, line) in [
-        ("P0 Q1", "lw: schedule 1 Word at 3"),
-        ("P7", "lw: schedule 2 Cpu at 0"),
-        ("E0:q", "lw: schedule 3 Location at 0"),
-    ] {
-        assert!(rt; is_refused(rt.alloc(), STORE_BUFFERING.as_bytes(), schedule, line));
-    }
-}
-
-#[test]
-fn refused_texts(rt: HostRuntime) {
-    let texts: [(&[u8], &str); 11] = [
-        (b"", "lw: text 3 Unterminated at 0"),
-        (b"SRC A\n{ x=0;", "lw: text 3 Unterminated at 12"),
-        (
-            b"SRC F\n{}\n P0 ;\nexists (x=1 /\\",
-            "lw: text 3 Unterminated at 29",
-        ),
-        (
-            b"SRC B\n{}\n P0 | P1 ;\n x := 1 ;\nexists (true)\n",
-            "lw: text 7 Ragged at 28",
-        ),
-        (
-            b"SRC C\n{}\n P0 ;\n L: x := 1 ;\n goto L ;\nexists (true)\n",
-            "lw: cell 5 Backward at 34",
-        ),
-        (
-            b"SRC D\n{a=0;b=0;c=0;d=0;e=0;f=0;g=0;h=0;i=0;}",
-            "lw: text 10 TooManyLocations at 39",
-        ),
-        (b"SRC E\n{x=4294967296;}", "lw: text 5 Number at 9"),
-        (b"X86_64 A\n", "lw: text 4 Unexpected at 0"),
-        (b"X86 A\n", "lw: text 4 Unexpected at 0"),
-        (b"SRC \xff", "lw: text 1 NotUtf8 at 4"),
-        (
-            b"SRC G\n{}\n P0 ;\nexists (1:r0=0)",
-            "lw: text 6 Name at 23",
-        ),
-    ];
-    for (text, line) in texts {
-        assert!(rt; is_refused(rt.alloc(), text, "", line));
-    }
-}
-
-/// Rows of one thread, told where and why they are refused.
-#[test]
-fn refused_cells(rt: HostRuntime) -> Result<(), Fail> {
-    for (row, line) in [
-        (" r9 := 1 ;", "lw: cell 2 Register at 16"),
-        (" x + 1 ;", "lw: cell 1 Form at 18"),
-        (" goto L ;", "lw: cell 3 LabelMissing at 21"),
-        (" L: L: ;", "lw: cell 4 LabelTwice at 19"),
-        (" r0 := fetchadd x r1 ;", "lw: cell 1 Form at 22"),
-    ] {
-        let mut text = Vec::from_slice(rt.alloc(), b"SRC G\n{}\n P0 ;\n")?;
-        text.extend_from_slice(row.as_bytes())?;
-        text.extend_from_slice(b"\nexists (true)")?;
-        assert!(rt; is_refused(rt.alloc(), &text, "Q", line));
-    }
-    Ok(())
-}
-
-/// The text is looked at before its cells, and both before the schedule.
-#[test]
-fn first_fault(rt: HostRuntime) {
-    for (text, line) in [
-        (
-            "SRC G\n{}\n P0 ;\n x + 1 ;\nexists (x=0)",
-            "lw: cell 1 Form at 18",
-        ),
-        (
-            "SRC G\n{}\n P0 ;\n x + 1 ;\nexists (x=0",
-            "lw: text 3 Unterminated at 35",
-        ),
-        (
-            "SRC G\n{}\n P0 ;\nexists (true) x",
-            "lw: text 11 Condition at 29",
-        ),
-    ] {
-        assert!(rt; is_refused(rt.alloc(), text.as_bytes(), "Q", line));
     }
 }
 

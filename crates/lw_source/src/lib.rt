@@ -22,6 +22,3 @@ pub use run::SourceRun;
 pub use source::Source;
 pub use stmt::Stmt;
 pub use thread::Thread;
-
-#[cfg(test)]
-mod tests;

@@ -37,6 +37,3 @@ pub use frame::Frame;
 pub use lexeme::number;
 pub use read::{a_text_has_one_frame, read_frame, what_a_frame_keeps};
 pub use token::Token;
-
-#[cfg(test)]
-mod tests;

@@ -1,0 +1,85 @@
+//! Tables of cases, a line each: a text, a schedule where it isn't empty, and what is told of them,
+//! with ` => ` between them. In texts and pages a `$` stands for a line end, and `<3 ab>` for `ababab`.
+use super::*;
+use lw_text::number;
+use std::alloc::AllocError;
+
+/// The first line of the table that doesn't hold.
+pub(super) fn first_other(alloc: Global, table: &str) -> Option<&str> {
+    for line in table.split('\n') {
+        if !line.is_empty() && !holds(alloc, line) {
+            return Some(line);
+        }
+    }
+    None
+}
+
+/// Whether the replay of the line's text by its schedule, or by the empty one, is told as the line says.
+fn holds(alloc: Global, line: &str) -> bool {
+    let mut parts = line.splitn(3, " => ");
+    match (parts.next(), parts.next(), parts.next()) {
+        (Some(text), Some(schedule), Some(told)) => is_answered(alloc, text, schedule, told),
+        (Some(text), Some(told), None) => is_answered(alloc, text, "", told),
+        _ => false,
+    }
+}
+
+/// The first line of a table of schedules for this text that doesn't hold.
+pub(super) fn first_other_schedule<'t>(
+    alloc: Global,
+    text: &str,
+    table: &'t str,
+) -> Option<&'t str> {
+    for line in table.split('\n') {
+        if !line.is_empty() && !holds_for(alloc, text, line) {
+            return Some(line);
+        }
+    }
+    None
+}
+
+/// Whether the replay of the text by the line's schedule is told as the line says.
+fn holds_for(alloc: Global, text: &str, line: &str) -> bool {
+    let mut parts = line.splitn(2, " => ");
+    match (parts.next(), parts.next()) {
+        (Some(schedule), Some(told)) => is_answered(alloc, text, schedule, told),
+        _ => false,
+    }
+}
+
+/// Whether the replay of the text by the schedule is told so: by the page that is written, by `read` for
+/// any page, or by the line of its fault, where nothing is written.
+pub(super) fn is_answered(alloc: Global, text: &str, schedule: &str, told: &str) -> bool {
+    let (Ok(text), Ok(told)) = (spelled(alloc, text), spelled(alloc, told)) else {
+        return false;
+    };
+    let (result, sheet) = replay(alloc, text.as_bytes(), schedule);
+    match result {
+        Ok(_) => told.as_str() == "read" || sheet.is(told.as_str()),
+        Err(fault) => sheet.calls == 0 && is_told(alloc, &fault, told.as_str()),
+    }
+}
+
+/// The text that these words of a table stand for.
+pub(super) fn spelled(alloc: Global, words: &str) -> Result<String, AllocError> {
+    let mut text = String::new(alloc);
+    let mut pieces = words.split('<');
+    text.push_str(pieces.next().unwrap_or(""))?;
+    for piece in pieces {
+        let mut parts = piece.splitn(2, '>');
+        push_repeated(&mut text, parts.next().unwrap_or(""))?;
+        text.push_str(parts.next().unwrap_or(""))?;
+    }
+    text.as_str().replace(alloc, '$', "\n")
+}
+
+/// Adds the words behind a number and a blank, so many times.
+fn push_repeated(text: &mut String, words: &str) -> Result<(), AllocError> {
+    let mut parts = words.splitn(2, ' ');
+    let count = number(parts.next().unwrap_or("")).unwrap_or(0);
+    let repeated = parts.next().unwrap_or("");
+    for _ in 0..count {
+        text.push_str(repeated)?;
+    }
+    Ok(())
+}
