@@ -69,34 +69,61 @@ impl Run for Sum {
     }
 }
 
-/// Asserts that these are the orders, in this sequence, and that nothing comes behind them.
-fn assert_orders(
-    rt: &impl Abort,
-    alloc: Global,
-    items: &Items,
-    wanted: &[&[u8]],
-) -> Result<(), AllocError> {
-    assert!(rt; count(alloc, items)?.is_some());
+/// Whether an order was given, and is this one.
+fn is_order(given: Option<Order>, wanted: &[u8]) -> bool {
+    match given {
+        Some(order) => order.as_slice() == wanted,
+        None => false,
+    }
+}
+
+/// Whether these are the orders, in this sequence, and nothing comes behind them.
+fn are_orders(alloc: Global, items: &Items, wanted: &[&[u8]]) -> Result<bool, AllocError> {
+    if count(alloc, items)?.is_none() {
+        return Ok(false);
+    }
     let mut orders = Orders::new(alloc, items)?;
     for order in wanted {
-        assert!(rt;
-            orders
-                .next()
-                .is_some_and(|given| given.as_slice() == *order)
-        );
+        if !is_order(orders.next(), order) {
+            return Ok(false);
+        }
     }
-    assert!(rt; orders.next().is_none());
-    assert!(rt; orders.next().is_none(), "and again");
-    Ok(())
+    Ok(orders.next().is_none() && orders.next().is_none())
+}
+
+/// Whether the items of these pairs have so many directions of open conflicts, and these orders.
+fn have_orders(
+    alloc: Global,
+    len: usize,
+    fixed: &[(u8, u8)],
+    conflicts: &[(u8, u8)],
+    directions: u64,
+    wanted: &[&[u8]],
+) -> Result<bool, AllocError>
+    requires { IsWellFormed (record { len = len; fixed = fixed.now; conflicts = conflicts.now }) }
+{
+    let items = items_of(alloc, len, fixed, conflicts)?;
+    Ok(has_directions(alloc, &items, directions)? && are_orders(alloc, &items, wanted)?)
+}
+
+/// Whether the open conflicts have so many directions.
+fn has_directions(alloc: Global, items: &Items, directions: u64) -> Result<bool, AllocError> {
+    match count(alloc, items)? {
+        Some(number) => Ok(number == directions),
+        None => Ok(false),
+    }
 }
 
 /// How many orders come.
-fn number_of(orders: Orders) -> u32 {
+fn number_of(alloc: Global, items: &Items) -> Result<u32, AllocError> {
+    if count(alloc, items)?.is_none() {
+        return Ok(0);
+    }
     let mut number = 0u32;
-    for _ in orders {
+    for _ in Orders::new(alloc, items)? {
         number = number.saturating_add(1);
     }
-    number
+    Ok(number)
 }
 
 /// Whether a walk along the pairs leads from an item to another: each round follows each pair once.
@@ -174,44 +201,32 @@ fn assert_as_plain(
         let mut pairs = directed(alloc, &open, number)?;
         pairs.extend_from_slice(fixed)?;
         if let Some(order) = plain_order(alloc, len, &pairs)? {
-            assert!(rt;
-                orders
-                    .next()
-                    .is_some_and(|next| next.as_slice() == order.as_slice())
-            );
+            assert!(rt; is_order(orders.next(), order.as_slice()));
             given = given.saturating_add(1);
         }
     }
     assert!(rt; orders.next().is_none());
-    assert_eq!(rt; given, wanted);
+    assert!(rt; given == wanted);
     Ok(())
 }
 
 #[test]
 fn no_items_have_the_empty_order(rt: HostRuntime) -> Result<(), Fail> {
-    let items = items_of(rt.alloc(), 0, &[], &[])?;
-    assert_eq!(rt; count(rt.alloc(), &items)?, Some(1));
-    assert_orders(&rt, rt.alloc(), &items, &[&[]])?;
+    assert!(rt; have_orders(rt.alloc(), 0, &[], &[], 1, &[&[]])?);
     Ok(())
 }
 
 #[test]
 fn two_threads_of_two_items(rt: HostRuntime) -> Result<(), Fail> {
-    let items = items_of(rt.alloc(), 4, &[(0, 1), (2, 3)], &[(0, 3), (1, 2)])?;
-    assert_eq!(rt; count(rt.alloc(), &items)?, Some(4));
-    assert_orders(
-        &rt,
-        rt.alloc(),
-        &items,
-        &[&[0, 1, 2, 3], &[0, 2, 1, 3], &[2, 3, 0, 1]],
-    )?;
+    let wanted: [&[u8]; 3] = [&[0, 1, 2, 3], &[0, 2, 1, 3], &[2, 3, 0, 1]];
+    let fixed = [(0, 1), (2, 3)];
+    let conflicts = [(0, 3), (1, 2)];
+    assert!(rt; have_orders(rt.alloc(), 4, &fixed, &conflicts, 4, &wanted)?);
     Ok(())
 }
 
 #[test]
 fn three_items_in_all_orders(rt: HostRuntime) -> Result<(), Fail> {
-    let items = items_of(rt.alloc(), 3, &[], &[(0, 1), (0, 2), (1, 2)])?;
-    assert_eq!(rt; count(rt.alloc(), &items)?, Some(8));
     let wanted: [&[u8]; 6] = [
         &[0, 1, 2],
         &[0, 2, 1],
@@ -220,29 +235,35 @@ fn three_items_in_all_orders(rt: HostRuntime) -> Result<(), Fail> {
         &[1, 2, 0],
         &[2, 1, 0],
     ];
-    assert_orders(&rt, rt.alloc(), &items, &wanted)?;
+    let conflicts = [(0, 1), (0, 2), (1, 2)];
+    assert!(rt; have_orders(rt.alloc(), 3, &[], &conflicts, 8, &wanted)?);
     Ok(())
 }
 
 #[test]
 fn a_fixed_pair_decides_its_conflict(rt: HostRuntime) -> Result<(), Fail> {
-    let items = items_of(rt.alloc(), 2, &[(0, 1)], &[(0, 1)])?;
-    assert_eq!(rt; count(rt.alloc(), &items)?, Some(1));
-    assert_orders(&rt, rt.alloc(), &items, &[&[0, 1]])?;
+    assert!(rt; have_orders(rt.alloc(), 2, &[(0, 1)], &[(0, 1)], 1, &[&[0, 1]])?);
     Ok(())
+}
+
+/// Whether so many directions are tried for each order in turn, and so many in all.
+fn are_tried(alloc: Global, items: &Items, tries: &[u64], in_all: u64) -> Result<bool, AllocError> {
+    if count(alloc, items)?.is_none() {
+        return Ok(false);
+    }
+    let mut orders = Orders::new(alloc, items)?;
+    for number in tries {
+        if orders.next().is_none() || orders.tries() != *number {
+            return Ok(false);
+        }
+    }
+    Ok(orders.next().is_none() && orders.tries() == in_all)
 }
 
 #[test]
 fn each_direction_tried_is_counted(rt: HostRuntime) -> Result<(), Fail> {
     let items = items_of(rt.alloc(), 4, &[(0, 1), (2, 3)], &[(0, 3), (1, 2)])?;
-    assert!(rt; count(rt.alloc(), &items)?.is_some());
-    let mut orders = Orders::new(rt.alloc(), &items)?;
-    for tries in [2, 3, 6] {
-        assert!(rt; orders.next().is_some());
-        assert_eq!(rt; orders.tries(), tries);
-    }
-    assert!(rt; orders.next().is_none());
-    assert_eq!(rt; orders.tries(), 6);
+    assert!(rt; are_tried(rt.alloc(), &items, &[2, 3, 6], 6)?);
     Ok(())
 }
 
@@ -276,8 +297,8 @@ fn twenty_open_conflicts_are_counted(rt: HostRuntime) -> Result<(), Fail> {
             (4, 8),
         ],
     )?;
-    assert_eq!(rt; count(rt.alloc(), &items)?, Some(1_048_576));
-    assert_eq!(rt; number_of(Orders::new(rt.alloc(), &items)?), 126);
+    assert!(rt; has_directions(rt.alloc(), &items, 1_048_576)?);
+    assert!(rt; number_of(rt.alloc(), &items)? == 126);
     Ok(())
 }
 
@@ -321,22 +342,26 @@ fn twenty_one_open_conflicts_are_too_many(rt: HostRuntime) -> Result<(), Fail> {
             (6, 9),
         ],
     )?;
-    assert_eq!(rt; count(rt.alloc(), &items)?, None);
+    assert!(rt; matches!(count(rt.alloc(), &items)?, None));
     Ok(())
 }
 
-/// Asserts that the items stand from 0 up to 127.
-fn assert_counts_up(rt: &impl Abort, order: Option<Order>) {
-    assert!(rt; order.is_some_and(|order| order.as_slice().iter().copied().eq(0..128)));
+/// Whether the items, with no open conflict, have one order: from 0 up to 127.
+fn count_up(alloc: Global, items: &Items) -> Result<bool, AllocError> {
+    if !has_directions(alloc, items, 1)? || count(alloc, items)?.is_none() {
+        return Ok(false);
+    }
+    let mut orders = Orders::new(alloc, items)?;
+    let Some(order) = orders.next() else {
+        return Ok(false);
+    };
+    Ok(order.as_slice().iter().copied().eq(0..128) && orders.next().is_none())
 }
 
 #[test]
 fn most_items_without_conflict(rt: HostRuntime) -> Result<(), Fail> {
     let items = items_of(rt.alloc(), 128, &[], &[])?;
-    assert_eq!(rt; count(rt.alloc(), &items)?, Some(1));
-    let mut orders = Orders::new(rt.alloc(), &items)?;
-    assert_counts_up(&rt, orders.next());
-    assert!(rt; orders.next().is_none());
+    assert!(rt; count_up(rt.alloc(), &items)?);
     Ok(())
 }
 
@@ -356,10 +381,7 @@ fn chain(alloc: Global, len: u8) -> Result<Vec<(u8, u8)>, AllocError>
 fn most_items_in_one_chain(rt: HostRuntime) -> Result<(), Fail> {
     let conflicts = [(0, 127)].to_vec(rt.alloc())?;
     let items = Items::new(128, chain(rt.alloc(), 128)?, conflicts);
-    assert_eq!(rt; count(rt.alloc(), &items)?, Some(1));
-    let mut orders = Orders::new(rt.alloc(), &items)?;
-    assert_counts_up(&rt, orders.next());
-    assert!(rt; orders.next().is_none());
+    assert!(rt; count_up(rt.alloc(), &items)?);
     Ok(())
 }
 
@@ -448,6 +470,6 @@ fn each_order_is_run(rt: HostRuntime) -> Result<(), Fail> {
     let items = items_of(rt.alloc(), 4, &[(0, 1), (2, 3)], &[(0, 3), (1, 2)])?;
     assert!(rt; count(rt.alloc(), &items)?.is_some());
     let ends = run_all(rt.alloc(), &items, &Sum)?;
-    assert_eq!(rt; ends.as_slice(), [6, 6, 6].as_slice());
+    assert!(rt; matches!(ends.as_slice(), [6, 6, 6]));
     Ok(())
 }
