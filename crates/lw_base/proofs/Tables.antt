@@ -40,14 +40,21 @@ all_more : (ns : List (List ℕ)) (n : List ℕ) → AllByRecursion IsLocation n
 all_more [] n all is = (is, tt)
 all_more (m ∷ ns) n all is = (all.0, all_more ns n all.1 is)
 
-pub table_more : {S : Type 0} (f : S → List ℕ) (ss ts : List S) (s : S) (name : List ℕ) → ts ≡ ss ++ s ∷ [] → f s ≡ name → length (map f ss) < 8 → IsLocation name → (Contains (map f ss) name → ⊥) → IsTable (map f ss) → IsTable (map f ts)
-table_more f ss ts s name more text few is fresh table =
-    let e : map f ts ≡ map f ss ++ name ∷ [] = ap (map f) more ∙ map-append f ss (s ∷ []) ∙ ap (λ n. map f ss ++ n ∷ []) text in
-    rw e (record {
-      few = omega (arith, length-append (map f ss) (name ∷ []));
-      all = all_more (map f ss) name table.all is;
-      once = once_more (map f ss) name table.once fresh;
-    })
+pub names_more : {S : Type 0} (f : S → List ℕ) (ss ts : List S) (s : S) (name : List ℕ) → ts ≡ ss ++ s ∷ [] → f s ≡ name → map f ts ≡ map f ss ++ name ∷ []
+names_more f ss ts s name more text = ap (map f) more ∙ map-append f ss (s ∷ []) ∙ ap (λ n. map f ss ++ n ∷ []) text
+
+pub table_more : (names : List (List ℕ)) (name : List ℕ) → length names < 8 → IsLocation name → (Contains names name → ⊥) → IsTable names → IsTable (names ++ name ∷ [])
+table_more names name few is fresh table =
+    record {
+      few = omega (arith, length-append names (name ∷ []));
+      all = all_more names name table.all is;
+      once = once_more names name table.once fresh;
+    }
+
+-- the place of a name that is put last
+pub last_place : (o : Option ℕ) (p at n : ℕ) → SomeIff o (p < 8) p → p ≡ n → n < 8 → o ≡ Some at → at ≡ n
+last_place None p at n is e few same = absurd (is (omega arith))
+last_place (Some loc) p at n is e few same = let h : loc ≡ at = cc in sym h ∙ is.1 ∙ e
 
 same_bytes : (a b : List ℕ) → a ≡ b → bytes_eq a b ≡ true
 same_bytes a b e = (pointwise_decides unsigned_Decides a b).1 e
