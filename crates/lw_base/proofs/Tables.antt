@@ -4,9 +4,9 @@ use Rattle.lw_base.specs.Tables.{is_there, with_name, place_of}
 use Rattle.std.specs.Str.{bytes_eq}
 use Rattle.std.proofs.lemmas.Bool.{false_from_ne_true, true≢false}
 use Rattle.std.specs.List.{AllByRecursion}
-use Rattle.std.proofs.lemmas.List.{map-append}
+use Rattle.std.proofs.lemmas.List.{map-append, take_more}
 use Rattle.std.proofs.lemmas.List.Elements.{Contains-push_cases, Contains-append_right}
-use Rattle.std.proofs.Common.{◌++◌, ◌||◌, ◌∷◌, length-append, ◌≡◌, ℕ, ◌<◌, ◌+◌, Bool, true, false, suc, zero, List, [], map, length, get_or, slice_get, Option, Some, None, MatchOption, Contains, ◌⊎◌, inl, inr, refl, ap, sym, ◌∙◌, subst, nat_eq, arith}
+use Rattle.std.proofs.Common.{◌++◌, ◌||◌, ◌∷◌, length-append, ◌≡◌, ℕ, ◌<◌, ◌+◌, Bool, true, false, suc, zero, List, [], map, length, take, get_or, slice_get, Option, Some, None, MatchOption, Contains, ◌⊎◌, inl, inr, refl, ap, sym, ◌∙◌, subst, nat_eq, arith}
 use Rattle.std.specs.Option.{option_map, SomeIff}
 use Rattle.std.specs.Cmp.{unsigned_Decides}
 use Rattle.std.specs.Cmp.Lexicographic.{pointwise, pointwise_decides}
@@ -40,14 +40,26 @@ all_more : (ns : List (List ℕ)) (n : List ℕ) → AllByRecursion IsLocation n
 all_more [] n all is = (is, tt)
 all_more (m ∷ ns) n all is = (all.0, all_more ns n all.1 is)
 
-pub table_more : {S : Type 0} (f : S → List ℕ) (ss ts : List S) (s : S) (name : List ℕ) → ts ≡ ss ++ s ∷ [] → f s ≡ name → length (map f ss) < 8 → IsLocation name → (Contains (map f ss) name → ⊥) → IsTable (map f ss) → IsTable (map f ts)
-table_more f ss ts s name more text few is fresh table =
-    let e : map f ts ≡ map f ss ++ name ∷ [] = ap (map f) more ∙ map-append f ss (s ∷ []) ∙ ap (λ n. map f ss ++ n ∷ []) text in
-    rw e (record {
-      few = omega (arith, length-append (map f ss) (name ∷ []));
-      all = all_more (map f ss) name table.all is;
-      once = once_more (map f ss) name table.once fresh;
-    })
+pub names_more : {S : Type 0} (f : S → List ℕ) (ss ts : List S) (s : S) (name : List ℕ) → ts ≡ ss ++ s ∷ [] → f s ≡ name → map f ts ≡ map f ss ++ name ∷ []
+names_more f ss ts s name more text = ap (map f) more ∙ map-append f ss (s ∷ []) ∙ ap (λ n. map f ss ++ n ∷ []) text
+
+-- a list that is copied item by item, up to and with an item
+pub copied_more : {S : Type 0} (f : S → List ℕ) (us ss ts : List S) (s t : S) (k : ℕ) → k < length us → map f ss ≡ map f (take k us) → ts ≡ ss ++ s ∷ [] → f s ≡ f t → t ≡ get_or us k t → map f ts ≡ map f (take (k + 1) us)
+copied_more f us ss ts s t k lt done more same is =
+    names_more f ss ts s (f t) more same ∙ ap (λ ns. ns ++ f t ∷ []) done ∙ sym (ap (map f) (take_more us k t lt) ∙ map-append f (take k us) (get_or us k t ∷ []) ∙ ap (λ x. map f (take k us) ++ f x ∷ []) (sym is))
+
+pub table_more : (names : List (List ℕ)) (name : List ℕ) → length names < 8 → IsLocation name → (Contains names name → ⊥) → IsTable names → IsTable (names ++ name ∷ [])
+table_more names name few is fresh table =
+    record {
+      few = omega (arith, length-append names (name ∷ []));
+      all = all_more names name table.all is;
+      once = once_more names name table.once fresh;
+    }
+
+-- the place of a name that is put last
+pub last_place : (o : Option ℕ) (p at n : ℕ) → SomeIff o (p < 8) p → p ≡ n → n < 8 → o ≡ Some at → at ≡ n
+last_place None p at n is e few same = absurd (is (omega arith))
+last_place (Some loc) p at n is e few same = let h : loc ≡ at = cc in sym h ∙ is.1 ∙ e
 
 same_bytes : (a b : List ℕ) → a ≡ b → bytes_eq a b ≡ true
 same_bytes a b e = (pointwise_decides unsigned_Decides a b).1 e

@@ -1,6 +1,7 @@
 -- The words of a text, the first of them and the rest.
-use Rattle.std.proofs.Common.{append_assoc, drop, ◌-◌, length-append, ◌≡◌, ℕ, ◌<◌, true, false, not, List, [], ◌∷◌, ◌++◌, length, refl, sym, ap, ◌∙◌, arith}
+use Rattle.std.proofs.Common.{append_assoc, drop, ◌-◌, length-append, ◌≡◌, ℕ, ◌<◌, ◌≤◌, true, false, not, List, [], ◌∷◌, ◌++◌, length, refl, sym, ap, ◌∙◌, arith}
 use Rattle.std.proofs.lemmas.Bool.{not-true, not-false, true≢false}
+use Rattle.std.proofs.lemmas.List.{map-append}
 use Rattle.std.proofs.Math.Seq.{drop-append_seam}
 use Rattle.std.specs.Prelude.{map}
 use Rattle.std.specs.List.{AllByRecursion}
@@ -54,3 +55,23 @@ pub drop-back : (text front rest : List ℕ) → text ≡ front ++ rest → drop
 drop-back text front rest e =
     let n : length text - length rest ≡ length front = omega (arith, ap length e, length-append front rest) in
     rw (n, e) (drop-append_seam front rest)
+
+-- what is left of a text is no longer than the text
+pub no_longer : (text front rest : List ℕ) → text ≡ front ++ rest → length rest ≤ length text
+no_longer text front rest e = omega (arith, ap length e, length-append front rest)
+
+-- one more event
+pub more_events : (names : List (List ℕ)) (es fs : List Event) (e : Event) → fs ≡ es ++ e ∷ [] → AllByRecursion (IsEvent names) es → IsEvent names e → AllByRecursion (IsEvent names) fs
+more_events names es fs e more all is = rw more (go es all)
+  where
+    go : (ds : List Event) → AllByRecursion (IsEvent names) ds → AllByRecursion (IsEvent names) (ds ++ e ∷ [])
+    go [] h = (is, tt)
+    go (d ∷ ds) h = (h.0, go ds h.1)
+
+-- the first word of what is left is that of one more event
+pub more_words : (names : List (List ℕ)) (text rest w after last : List ℕ) (es fs : List Event) (e : Event) → words text ≡ map (event_word names) es ++ words rest → words rest ≡ w ∷ words after → words after ≡ words last → event_word names e ≡ w → fs ≡ es ++ e ∷ [] → words text ≡ map (event_word names) fs ++ words last
+more_words names text rest w after last es fs e before first further is more =
+    let word = event_word names in
+    let one : map word fs ++ words last ≡ map word es ++ word e ∷ words last = ap (λ ds. map word ds ++ words last) more ∙ ap (λ ws. ws ++ words last) (map-append word es (e ∷ [])) ∙ append_assoc (map word es) (word e ∷ []) (words last) in
+    let two : map word es ++ words rest ≡ map word es ++ w ∷ words last = ap (λ ws. map word es ++ ws) (first ∙ ap (λ ws. w ∷ ws) further) in
+    before ∙ two ∙ ap (λ v. map word es ++ v ∷ words last) (sym is) ∙ sym one

@@ -30,7 +30,7 @@ pub use name::{
 };
 pub use number::{Cpu, Loc, Reg, Word};
 pub use operand::Operand;
-pub use outcome::Outcome;
+pub use outcome::{Outcome, registers_come_first};
 pub use proposition::Prop;
 pub use register::{reg_name, reg_named};
 pub use scan::{blanks, until_blank};

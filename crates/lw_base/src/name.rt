@@ -101,20 +101,27 @@ fn are_all_digits(bytes: &[u8]) -> bool
     bytes.iter().all(|byte| byte.is_ascii_digit())
 }
 
+/// Whether two texts are equal, as `==` is; the clause names the comparison that `names` has.
+fn is_same(text: &str, other: &str) -> bool
+    ensures { result ≡ bytes_eq text.now other.now }
+{
+    text == other
+}
+
 fn is_keyword(text: &str) -> bool
     ensures { result ≡ list_any (λ k. bytes_eq text.now k) keywords }
 {
-    text == "if"
-        || text == "goto"
-        || text == "swap"
-        || text == "fetchadd"
-        || text == "exists"
-        || text == "forall"
-        || text == "locations"
-        || text == "filter"
-        || text == "true"
-        || text == "false"
-        || text == "not"
+    is_same(text, "if")
+        || is_same(text, "goto")
+        || is_same(text, "swap")
+        || is_same(text, "fetchadd")
+        || is_same(text, "exists")
+        || is_same(text, "forall")
+        || is_same(text, "locations")
+        || is_same(text, "filter")
+        || is_same(text, "true")
+        || is_same(text, "false")
+        || is_same(text, "not")
 }
 
 fn is_x86_register(text: &str) -> bool

@@ -1,4 +1,6 @@
 //! What is left at the end of a run. A clause sees an outcome as a record of two lists.
+ghost use Rattle.std.specs.Prelude.{◌≡◌};
+ghost use Rattle.lw_base.specs.Outcomes.{Final, final_cmp};
 
 use crate::number::Word;
 use crate::sequence::Sequence;
@@ -26,3 +28,8 @@ impl<A: Allocator> Model for Outcome<A> {
 
     ghost inverse = { λ f. record { regs = f.regs; words = f.words } };
 }
+
+/// Outcomes are compared by their registers, and by their words where the registers are the same.
+pub fn registers_come_first<A: Allocator>()
+    ensures { (left right : Final) → ⟦<Outcome<A> as Ord>⟧.cmp left right ≡ final_cmp left right }
+{}

@@ -1,20 +1,19 @@
-use Rattle.std.proofs.Common.{◌++◌, ◌<◌, ◌∙◌, ap, sym, map, length, rules, arith}
-use Rattle.std.proofs.lemmas.Grind.{common_steps}
+use Rattle.std.proofs.Common.{◌++◌, ◌<◌, ◌∙◌, ap, sym, map, length, rules}
 use Rattle.lw_base.specs.Characters.{is_blank, begins}
 use Rattle.lw_base.specs.Schedules.{words, event_word}
 use Rattle.lw_base.proofs.Shapes.{no_event}
-use Rattle.lw_base.proofs.Words.{no_schedule, words-first, words-behind, behind_more, drop-back}
+use Rattle.lw_base.proofs.Words.{no_schedule, words-first, words-behind, behind_more, more_events, more_words, no_longer, drop-back}
 use Rattle.lw_base.proofs.schedule.read_schedule.Goals as goal
 
 pub loop-rest-init : goal.loop-rest-init
 loop-rest-init g c =
-    let first = words-behind _ _ _ c.blanks.ensures.parts c.blanks.ensures.all in
+    let back = sym c.as_bytes.ensures.value ∙ c.blanks.ensures.parts in
     record {
-      events = search rules;
-      words = grind (arith, common_steps, first);
+      events = rw c.new-events.ensures tt;
+      words = rw c.new-events.ensures (words-behind _ _ _ back c.blanks.ensures.all);
       others = c.blanks.ensures.longest;
-      shorter = grind (arith, common_steps);
-      back = (c.blanks.result.0.now, sym c.as_bytes.ensures.value ∙ c.blanks.ensures.parts);
+      shorter = no_longer _ _ _ back;
+      back = (c.blanks.result.0.now, back);
     }
 
 pub loop-rest-preserved : goal.loop-rest-preserved
@@ -22,12 +21,13 @@ loop-rest-preserved g c =
     let some : 0 < length c.loop-rest.rest.now = search rules in
     let first = words-first _ _ _ c.until_blank.ensures.parts some c.loop-rest.invariant.others c.until_blank.ensures.all c.until_blank.ensures.longest in
     let rest = words-behind _ _ _ c.blanks-in-loop-rest.ensures.parts c.blanks-in-loop-rest.ensures.all in
+    let back = behind_more _ _ _ _ _ _ _ c.loop-rest.invariant.back.1 c.until_blank.ensures.parts c.blanks-in-loop-rest.ensures.parts in
     record {
-      events = grind (arith, common_steps);
-      words = grind (arith, common_steps, first, rest);
+      events = more_events c.args.names.now c.loop-rest.events c.push.new.self c.in-Ok.event c.in_ok-push-in-Ok.ensures.ok c.loop-rest.invariant.events c.in-Ok.ensures.ok.0;
+      words = more_words c.args.names.now c.args.text.now c.loop-rest.rest.now c.until_blank.result.0.now c.until_blank.result.1.now c.blanks-in-loop-rest.result.1.now c.loop-rest.events c.push.new.self c.in-Ok.event c.loop-rest.invariant.words first rest c.in-Ok.ensures.ok.1 c.in_ok-push-in-Ok.ensures.ok;
       others = c.blanks-in-loop-rest.ensures.longest;
-      shorter = grind (arith, common_steps);
-      back = (c.loop-rest.invariant.back.0 ++ c.until_blank.result.0.now ++ c.blanks-in-loop-rest.result.0.now, behind_more _ _ _ _ _ _ _ c.loop-rest.invariant.back.1 c.until_blank.ensures.parts c.blanks-in-loop-rest.ensures.parts);
+      shorter = no_longer _ _ _ back;
+      back = (c.loop-rest.invariant.back.0 ++ c.until_blank.result.0.now ++ c.blanks-in-loop-rest.result.0.now, back);
     }
 
 pub returns-in-Err-clause-fault : goal.returns-in-Err-clause-fault

@@ -1,0 +1,5 @@
+use Rattle.std.proofs.Common.{refl}
+use Rattle.lw_base.proofs.sequence.Sequence.set.Goals as goal
+
+pub returns : goal.returns
+returns g c = rw c.self.view_is refl

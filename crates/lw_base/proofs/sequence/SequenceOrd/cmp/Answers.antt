@@ -1,0 +1,4 @@
+use Rattle.lw_base.proofs.sequence.SequenceOrd.cmp.Goals as goal
+
+pub returns : goal.returns
+returns g c = rw (← c.self.view_is, ← c.other.view_is) c.cmp.ensures

@@ -1,0 +1,4 @@
+use Rattle.lw_base.proofs.sequence.SequencePartialOrd.partial_cmp.Goals as goal
+
+pub returns : goal.returns
+returns g c = rw (← c.self.view_is, ← c.other.view_is) c.partial_cmp.ensures
