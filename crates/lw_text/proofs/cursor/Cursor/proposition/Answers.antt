@@ -1,4 +1,4 @@
-use Rattle.std.proofs.Common.{ℕ, ◌+◌, ◌≤◌, ◌∙◌, sym, ap, subst}
+use Rattle.std.proofs.Common.{arith, ℕ, ◌+◌, ◌≤◌, ◌∙◌, sym, ap, subst}
 use Rattle.std.proofs.lemmas.Result.{err_from_is_err_and}
 use Rattle.lw_base.specs.Propositions.{formula_of}
 use Rattle.lw_text.specs.Views.{left}
@@ -26,6 +26,11 @@ returns-in_err-sign-clause-fault g c =
     let p = err_from_is_err_and c.from_residual-in_err-sign.result c.from_residual-in_err-sign.ensures.1 in
     rw (p.1, p.2) (λ ne. signs_fault c.args.threads c.args.locs.now c.signs.locs (left c.args.self.now) (left c.signs.self) c.signs.nodes c.signs.reader c.signs.invariant.read (some_left c.signs.self.tokens.now c.signs.self.next c.signs.self.within c.if-self.false)
     (λ s rest ss p is left few fits. c.in_err-sign.ensures.fault ne s rest is (begins_wrong c.signs.reader c.wants_part.result _ s c.wants_part.ensures.next ss p left) few))
+
+pub returns-in_err-sign-clause-place : goal.returns-in_err-sign-clause-place
+returns-in_err-sign-clause-place g c =
+    let p = err_from_is_err_and c.from_residual-in_err-sign.result c.from_residual-in_err-sign.ensures.1 in
+    rw (p.1, p.2) (omega (arith, c.in_err-sign.ensures.place, c.signs.invariant.same))
 
 pub returns-in_err-take-clause-fault : goal.returns-in_err-take-clause-fault
 returns-in_err-take-clause-fault g c =
