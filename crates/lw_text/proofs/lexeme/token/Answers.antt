@@ -15,8 +15,11 @@ returns-clause-none c =
 
 pub returns-then-is_word_byte-clause-found : goal.returns-then-is_word_byte-clause-found
 returns-then-is_word_byte-clause-found c =
-    rw c.ascii_text-text.ensures (c.word.ensures.parts, inl (record {
-      all = c.word.ensures.all;
-      longest = c.word.ensures.longest;
-      kind = subst IsKind c.ascii_text-text.ensures (c.if-not-is_kind.ensures.0 refl);
-    }))
+    rw c.ascii_text-text.ensures (
+      c.word.ensures.parts,
+      inl (record {
+        all = c.word.ensures.all;
+        longest = c.word.ensures.longest;
+        kind = subst IsKind c.ascii_text-text.ensures (c.if-not-is_kind.ensures.0 refl);
+      }),
+    )
