@@ -198,10 +198,13 @@ module _ {A : Type 0} (threads : ℕ) (first names start here : List (List ℕ))
           let nodes_fit : nodes + node_count (t ∷ []) ≤ 256 = omega (arith, room, ap node_count e, nodes_append read.signs (t ∷ back), nodes_append (t ∷ []) back, read.count) in
           never t q.0 (map (placed (with_names names (site_names (sites_in (t ∷ back))))) back) p q.1 (subst (λ x. Left reader (x ∷ map (placed (with_names names (site_names (sites_in (t ∷ back))))) back) p) same left) names_fit nodes_fit
 
+  pub once_here : EachOnce first → EachOnce names
+  once_here once = subst EachOnce (sym read.names_are) (once-along first (site_names (sites_in read.signs)) once)
+
   -- one more sign
   module _ (after next : List (List ℕ)) (s : Made) (grows : after ≡ with_names names (site_names (sites_in (named_sign after s ∷ [])))) (sign : IsSign threads here (named_sign after s) next) (once : EachOnce first) (is_in : SignIn after s) where
     once_after : EachOnce after
-    once_after = subst EachOnce (sym grows) (once-along names (site_names (sites_in (named_sign after s ∷ []))) (subst EachOnce (sym read.names_are) (once-along first (site_names (sites_in read.signs)) once)))
+    once_after = subst EachOnce (sym grows) (once-along names (site_names (sites_in (named_sign after s ∷ []))) (once_here once))
 
     same_sign : placed after (named_sign after s) ≡ sign_of s
     same_sign = placed_named after s once_after is_in
@@ -228,12 +231,13 @@ module _ {A : Type 0} (threads : ℕ) (first names start here : List (List ℕ))
         joined : (ss : List (Sign Formula)) → map (placed after) (read.signs ++ named_sign after s ∷ []) ++ ss ≡ map (placed names) read.signs ++ sign_of s ∷ ss
         joined ss = ap (λ l. l ++ ss) made_more ∙ append_assoc (map (placed names) read.signs) (sign_of s ∷ []) ss
 
-    -- a sign that can't come next
-    pub signs_refused : ((ss : List (Sign Formula)) (p : Formula) → Left reader (sign_of s ∷ ss) p → ⊥) → (t : Sign Claim) (rest : List (List ℕ)) (ss : List (Sign Formula)) (p : Formula) → IsSign threads here t rest → Left reader (placed (with_names names (site_names (sites_in (t ∷ [])))) t ∷ ss) p → ⊥
-    signs_refused never t rest ss p is left =
-        let e : t ≡ named_sign after s = (IsSign-unique threads here t (named_sign after s) rest next is sign).0 in
-        let f : placed (with_names names (site_names (sites_in (t ∷ [])))) t ≡ sign_of s = ap (λ (x : Sign Claim). placed (with_names names (site_names (sites_in (x ∷ [])))) x) e ∙ ap (λ ns. placed ns (named_sign after s)) (sym grows) ∙ same_sign in
-        never ss p (subst (λ x. Left reader (x ∷ ss) p) f left)
+-- a sign that can't come next
+pub sign_refused : {A : Type 0} (reader : PropositionReader A) (threads : ℕ) (names after here next : List (List ℕ)) (s : Made) → after ≡ with_names names (site_names (sites_in (named_sign after s ∷ []))) → IsSign threads here (named_sign after s) next → EachOnce names → SignIn after s → ((ss : List (Sign Formula)) (p : Formula) → Left reader (sign_of s ∷ ss) p → ⊥) → (t : Sign Claim) (rest : List (List ℕ)) (ss : List (Sign Formula)) (p : Formula) → IsSign threads here t rest → Left reader (placed (with_names names (site_names (sites_in (t ∷ [])))) t ∷ ss) p → ⊥
+sign_refused reader threads names after here next s grows sign once is_in never t rest ss p is left =
+    let once_after : EachOnce after = subst EachOnce (sym grows) (once-along names (site_names (sites_in (named_sign after s ∷ []))) once) in
+    let e : t ≡ named_sign after s = (IsSign-unique threads here t (named_sign after s) rest next is sign).0 in
+    let f : placed (with_names names (site_names (sites_in (t ∷ [])))) t ≡ sign_of s = ap (λ (x : Sign Claim). placed (with_names names (site_names (sites_in (x ∷ [])))) x) e ∙ ap (λ ns. placed ns (named_sign after s)) (sym grows) ∙ placed_named after s once_after is_in in
+    never ss p (subst (λ x. Left reader (x ∷ ss) p) f left)
 
 -- a sign that begins as none can that may come next
 pub begins_wrong : {A : Type 0} (reader : PropositionReader A) (part : Bool) (names : List (List ℕ)) (s : Sign Claim) → ((t : Sign Formula) (ss : List (Sign Formula)) (p : Formula) → Left reader (t ∷ ss) p → begins_part t ≡ part) → (ss : List (Sign Formula)) (p : Formula) → Left reader (placed names s ∷ ss) p → begins_part s ≡ part

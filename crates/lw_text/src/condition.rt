@@ -1,5 +1,5 @@
 //! The proposition of a test's condition.
-ghost use Rattle.std.specs.Prelude.{◌≡◌, ◌≢◌, ℕ, ◌≤◌, ◌==◌, ◌||◌, not, true, false, codes, List, [], ◌∷◌, length, map, filter, OnOk, OnErr, IfOk, IfErr};
+ghost use Rattle.std.specs.Prelude.{◌≡◌, ◌≢◌, ℕ, ◌+◌, ◌≤◌, ◌==◌, ◌||◌, not, true, false, codes, List, [], ◌∷◌, length, map, filter, OnOk, OnErr, IfOk, IfErr};
 ghost use Rattle.lw_base.specs.Formula.{Formula};
 ghost use Rattle.lw_base.specs.Propositions.{formula_of};
 ghost use Rattle.lw_base.specs.Names.{EachOnce};
@@ -7,7 +7,8 @@ ghost use Rattle.lw_base.specs.Tables.{with_names};
 ghost use Rattle.lw_text.specs.declared.fault.Cause.TheVariants.{Memory};
 ghost use Rattle.lw_text.specs.Sites.{site_names};
 ghost use Rattle.lw_text.specs.Propositions.{Sign as SaidSign, is_node, IsProposition};
-ghost use Rattle.lw_text.specs.Pending.{begins_part};
+ghost use Rattle.lw_text.specs.Pending.{Left, begins_part};
+ghost use Rattle.lw_text.specs.Signs.{sign_of};
 ghost use Rattle.lw_text.specs.Conditions.{Claim, Holds, begins_word, IsSign, Signs, sites_in, placed};
 ghost use Rattle.lw_text.specs.Placed.{named, named_claim, named_sign, IsIn, ClaimIn, SignIn};
 ghost use Rattle.lw_text.specs.Placed as placed_of;
@@ -48,16 +49,41 @@ impl<'t, 'a> Cursor<'t, 'a> {
                     None => Err(self.end),
                 };
             }
-            let misfit = self.fault(Cause::Condition);
-            if !self.has_room(nodes) {
-                return Err(misfit);
-            }
-            let sign = self.sign(reader.wants_part(), threads, locs)?;
-            if !reader.take(sign)? {
-                return Err(misfit);
-            }
+            let sign = self.next_sign(&mut reader, nodes, threads, locs)?;
             nodes += sign.nodes();
         }
+    }
+
+    /// Takes a sign that may come next behind so many nodes, and gives it to the reader. The names
+    /// of its locations go into the table.
+    fn next_sign<A: Allocator + Copy>(
+        &mut self,
+        reader: &mut PropositionReader<A>,
+        nodes: usize,
+        threads: usize,
+        locs: &mut LocNames<A>,
+    ) -> Result<Sign, Fault>
+        requires threads { threads ≤ 4 }
+        requires once { EachOnce locs.old }
+        ensures room { OnOk result ((not (nodes == 256) || (begins_word (codes "(") (left self.old) || begins_word (codes ")") (left self.old))) ≡ true) }
+        ensures found { IfOk result (λ s. IsSign threads (left self.old) (named_sign locs.new s) (left self.new)) }
+        ensures names { IfOk result (λ s. locs.new ≡ with_names locs.old (site_names (sites_in (named_sign locs.new s ∷ [])))) }
+        ensures within { IfOk result (λ s. SignIn locs.new s) }
+        ensures given { IfOk result (λ s. (ss : List (SaidSign Formula)) (p : Formula) → Left reader.new ss p → Left reader.old (sign_of s ∷ ss) p) }
+        ensures only { IfOk result (λ s. (ss : List (SaidSign Formula)) (p : Formula) → Left reader.old (sign_of s ∷ ss) p → Left reader.new ss p) }
+        ensures fault { IfErr result (λ f. f.cause ≢ Memory → (s : SaidSign Claim) (rest : List (List ℕ)) (ss : List (SaidSign Formula)) (p : Formula) → IsSign threads (left self.old) s rest → Left reader.old (placed (with_names locs.old (site_names (sites_in (s ∷ [])))) s ∷ ss) p → length (with_names locs.old (site_names (sites_in (s ∷ [])))) ≤ 8 → nodes + length (filter is_node (s ∷ [])) ≤ 256 → ⊥) }
+        ensures place { IfErr result (λ f. f.at ≤ self.old.len) }
+        ensures same { self.new.len ≡ self.old.len }
+    {
+        let misfit = self.fault(Cause::Condition);
+        if !self.has_room(nodes) {
+            return Err(misfit);
+        }
+        let sign = self.sign(reader.wants_part(), threads, locs)?;
+        if !reader.take(sign)? {
+            return Err(misfit);
+        }
+        Ok(sign)
     }
 
     /// Whether a sign may come next behind so many nodes: a parenthesis makes none.

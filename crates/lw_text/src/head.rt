@@ -1,40 +1,57 @@
 //! The head of a test, made of what its text says.
-ghost use Rattle.std.specs.Prelude.{◌≡◌, ◌≤◌, IfOk};
+ghost use Rattle.std.specs.Prelude.{◌≡◌, ◌≤◌, ◌++◌, length, map, filter, IfOk};
+ghost use Rattle.std.specs.List.{range_with_len};
 ghost use Rattle.lw_base.specs.Heads.{head_of};
-ghost use Rattle.lw_text.specs.Placed.{placed_head};
+ghost use Rattle.lw_text.specs.Frames.{registers_of, registers, locations};
+ghost use Rattle.lw_text.specs.Placed.{placed_head, word_at, is_listed};
 
 use crate::said::Said;
 use crate::start::{seen_among, start_registers, start_words};
-use lw_base::{Arch, Head, Text};
-use std::alloc::{AllocError, Allocator};
+use lw_base::{Arch, Head, Seen, Sequence, Text, Word};
+use std::alloc::{AllocError, Allocator, Global};
+
+/// What of a head is made, and not taken over.
+#[derive(Drop)]
+struct Made<A: Allocator = Global> {
+    name: Text<A>,
+    init_regs: Sequence<[Word; 6], A>,
+    init_words: Sequence<Word, A>,
+    listed: Sequence<Seen, A>,
+}
 
 impl<A: Allocator + Copy> Said<A> {
     /// The head of a source test of this name.
     pub(crate) fn head(self, alloc: A, name: &str) -> Result<Head<A>, AllocError>
         ensures { IfOk result (λ h. head_of h ≡ placed_head name.now self) }
     {
-        let Said {
-            entries,
-            threads,
-            locs,
-            listed,
-            quant,
-            prop,
-        } = self;
-        let len = locs.len();
-        let init_regs = start_registers(alloc, entries.as_slice(), threads)?;
-        let init_words = start_words(alloc, entries.as_slice(), len)?;
-        let listed = seen_among(alloc, listed.as_slice(), threads, len)?;
+        let made = self.made(alloc, name)?;
         Ok(Head {
-            name: Text::from_str(alloc, name)?,
+            name: made.name,
             arch: Arch::Source,
-            threads,
-            locs,
-            init_regs,
-            init_words,
-            listed,
-            quant,
-            prop,
+            threads: self.threads,
+            locs: self.locs,
+            init_regs: made.init_regs,
+            init_words: made.init_words,
+            listed: made.listed,
+            quant: self.quant,
+            prop: self.prop,
+        })
+    }
+
+    /// What is made for the head of a source test of this name.
+    fn made(&self, alloc: A, name: &str) -> Result<Made<A>, AllocError>
+        ensures name { IfOk result (λ m. m.name ≡ name.now) }
+        ensures regs { IfOk result (λ m. m.init_regs ≡ map (λ t. map (word_at self.now.entries) (registers_of t)) (range_with_len 0 self.now.threads)) }
+        ensures words { IfOk result (λ m. m.init_words ≡ map (word_at self.now.entries) (locations (length self.now.locs))) }
+        ensures listed { IfOk result (λ m. m.listed ≡ filter (is_listed self.now.listed) (registers self.now.threads ++ locations (length self.now.locs))) }
+    {
+        let entries = self.entries.as_slice();
+        let len = self.locs.len();
+        Ok(Made {
+            name: Text::from_str(alloc, name)?,
+            init_regs: start_registers(alloc, entries, self.threads)?,
+            init_words: start_words(alloc, entries, len)?,
+            listed: seen_among(alloc, self.listed.as_slice(), self.threads, len)?,
         })
     }
 }

@@ -41,30 +41,25 @@ impl<A: Allocator> Level<A> {
 }
 
 impl<A: Allocator + Copy> Level<A> {
-    /// What stands open behind the part and a `/\`.
-    pub(crate) fn conjoin(self, alloc: A, part: Prop<A>) -> Result<Self, AllocError>
-        ensures { IfOk result (λ l. level_of l ≡ with_and (level_of self) (formula_of part)) }
+    /// Takes a part and a `/\`.
+    pub(crate) fn conjoin(&mut self, alloc: A, part: Prop<A>) -> Result<(), AllocError>
+        ensures { OnOk result (level_of self.new ≡ with_and (level_of self.old) (formula_of part)) }
     {
-        let Level { either, both, nots } = self;
-        let part = negated(alloc, nots, part)?;
-        let both = behind_and(alloc, both, part)?;
-        Ok(Level {
-            either,
-            both: Some(both),
-            nots: 0,
-        })
+        let row = row(alloc, self.both.take(), self.nots, part)?;
+        self.both = Some(row);
+        self.nots = 0;
+        Ok(())
     }
 
-    /// What stands open behind the part and a `\/`.
-    pub(crate) fn disjoin(self, alloc: A, part: Prop<A>) -> Result<Self, AllocError>
-        ensures { IfOk result (λ l. level_of l ≡ with_or (level_of self) (formula_of part)) }
+    /// Takes a part and a `\/`.
+    pub(crate) fn disjoin(&mut self, alloc: A, part: Prop<A>) -> Result<(), AllocError>
+        ensures { OnOk result (level_of self.new ≡ with_or (level_of self.old) (formula_of part)) }
     {
-        let either = self.close(alloc, part)?;
-        Ok(Level {
-            either: Some(either),
-            both: None,
-            nots: 0,
-        })
+        let row = row(alloc, self.both.take(), self.nots, part)?;
+        let either = behind_or(alloc, self.either.take(), row)?;
+        self.either = Some(either);
+        self.nots = 0;
+        Ok(())
     }
 
     /// What the level says with the part as its last.
@@ -72,10 +67,22 @@ impl<A: Allocator + Copy> Level<A> {
         ensures { IfOk result (λ p. formula_of p ≡ ors_of (level_of self) (formula_of part)) }
     {
         let Level { either, both, nots } = self;
-        let part = negated(alloc, nots, part)?;
-        let row = behind_and(alloc, both, part)?;
+        let row = row(alloc, both, nots, part)?;
         behind_or(alloc, either, row)
     }
+}
+
+/// The part behind so many `~`, joined to what stands before a `/\`.
+fn row<A: Allocator + Copy>(
+    alloc: A,
+    before: Option<Prop<A>>,
+    nots: usize,
+    part: Prop<A>,
+) -> Result<Prop<A>, AllocError>
+    ensures { IfOk result (λ p. formula_of p ≡ after_and (option_map formula_of before) (negations nots (formula_of part))) }
+{
+    let part = negated(alloc, nots, part)?;
+    behind_and(alloc, before, part)
 }
 
 /// The part behind so many `~`.

@@ -85,22 +85,21 @@ impl<A: Allocator + Copy> PropositionReader<A> {
         requires { self.old.part ≡ None }
         ensures { IfOk result (λ b. step_behind (formula_of part) (level_of self.old.level) (reverse (map level_of self.old.outer.items)) (sign_of sign) ≡ (if b then Some (place_of self.new) else None)) }
     {
-        let level = mem::replace(&mut self.level, Level::new());
         match sign {
             Sign::Conjunction => {
-                self.level = level.conjoin(self.alloc, part)?;
+                self.level.conjoin(self.alloc, part)?;
                 Ok(true)
             }
             Sign::Disjunction => {
-                self.level = level.disjoin(self.alloc, part)?;
+                self.level.disjoin(self.alloc, part)?;
                 Ok(true)
             }
             Sign::Close => {
                 let Some(outer) = self.outer.pop() else {
                     return Ok(false);
                 };
-                self.part = Some(level.close(self.alloc, part)?);
-                self.level = outer;
+                let inner = mem::replace(&mut self.level, outer);
+                self.part = Some(inner.close(self.alloc, part)?);
                 Ok(true)
             }
             Sign::Open | Sign::Negation | Sign::Atom(_) => Ok(false),

@@ -10,3 +10,6 @@ loop-row-preserved g c =
     let within : c.args.place < length row = subst (λ r. c.args.place < length r) (sym c.row-item.is) (c.requires i row c.loop-row-test.true) in
     let at : x ≡ get_or row c.args.place x = subst (λ l. x ≡ get_or l c.args.place x) c.as_slice.ensures c.index-as_slice-place.is in
     rw (c.in_ok-push.ensures.ok, c.loop-row.invariant, c.in_ok-copy.ensures) (sym (column-more c.args.rows.now i c.args.place row x c.loop-row-test.true c.row-item.is within at))
+
+pub bounds-as_slice-place : goal.bounds-as_slice-place
+bounds-as_slice-place g c = rw (c.as_slice.ensures, c.row-item.is) (c.requires c.loop-row.row-index c.row-item.result c.loop-row-test.true)

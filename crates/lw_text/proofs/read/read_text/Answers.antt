@@ -1,4 +1,4 @@
-use Rattle.std.proofs.Common.{◌≡◌, length, map, sym, ap, ◌∙◌, subst}
+use Rattle.std.proofs.Common.{◌≡◌, length, map, sym, ap, ◌∙◌, subst, arith}
 use Rattle.std.proofs.lemmas.Result.{err_from_is_err_and}
 use Rattle.lw_text.specs.Spans.{texts, Spans}
 use Rattle.lw_base.specs.Heads.{head_of}
@@ -22,6 +22,11 @@ returns-in_err-name-clause-fault g c =
     let p = err_from_is_err_and c.from_residual.result c.from_residual.ensures.1 in
     rw p.1 (λ _ frame h. c.in_err-name.ensures.fault h.name h.rest (subst (λ t. Heading t h.name h.rest) (sym c.new-lexer.ensures.rest) h.heading))
 
+pub returns-in_err-name-clause-place : goal.returns-in_err-name-clause-place
+returns-in_err-name-clause-place g c =
+    let p = err_from_is_err_and c.from_residual.result c.from_residual.ensures.1 in
+    rw (p.1, p.2) (omega (arith, c.in_err-name.ensures.place, ap length c.new-lexer.ensures.text))
+
 pub new-cursor-requires-clause-places : goal.new-cursor-requires-clause-places
 new-cursor-requires-clause-places g c =
     let len = length c.args.text.now in
@@ -36,6 +41,11 @@ returns-in_err-body-clause-fault g c =
     let heading = subst (λ t. Heading t c.in_ok-name.name.now c.heading.new.self.rest.now) c.new-lexer.ensures.rest c.in_ok-name.ensures.found in
     let read : left c.new-cursor.result ≡ texts row.tokens = ap texts (c.new-cursor.ensures.remaining ∙ c.as_slice.ensures) in
     rw (p.1, p.2) (λ ne. no_frame c.args.text.now c.in_ok-name.name.now c.heading.new.self.rest.now heading (no_parts row.fault c.heading.new.self.rest.now (texts row.tokens) c.in_ok-row.ensures.found c.in_ok-row.ensures.fault (λ s f parts whole. c.in_err-body.ensures.fault ne s f (subst (λ ts. Parts ts s) (sym read) parts) whole)))
+
+pub returns-in_err-body-clause-place : goal.returns-in_err-body-clause-place
+returns-in_err-body-clause-place g c =
+    let p = err_from_is_err_and c.from_residual-in_err-body.result c.from_residual-in_err-body.ensures.1 in
+    rw (p.1, p.2) (omega (arith, c.in_err-body.ensures.place, c.new-cursor.ensures.len))
 
 pub returns-in-Some-clause-fault : goal.returns-in-Some-clause-fault
 returns-in-Some-clause-fault g c =

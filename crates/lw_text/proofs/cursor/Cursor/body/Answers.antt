@@ -15,10 +15,20 @@ returns-in_err-entries-clause-fault g c =
     let p = err_from_is_err_and c.from_residual.result c.from_residual.ensures.1 in
     rw (p.1, p.2) (λ ne s f parts whole. no_block (left c.args.self.now) (rw c.new-locs.ensures at (c.in_err-entries.ensures.fault ne)) s parts)
 
+pub returns-in_err-entries-clause-place : goal.returns-in_err-entries-clause-place
+returns-in_err-entries-clause-place g c =
+    let p = err_from_is_err_and c.from_residual.result c.from_residual.ensures.1 in
+    rw (p.1, p.2) (c.in_err-entries.ensures.place)
+
 pub returns-in_err-threads-clause-fault : goal.returns-in_err-threads-clause-fault
 returns-in_err-threads-clause-fault g c =
     let p = err_from_is_err_and c.from_residual-in_err-threads.result c.from_residual-in_err-threads.ensures.1 in
     rw (p.1, p.2) (λ ne s f parts whole. no_header (left c.args.self.now) (left c.block.new.self) _ c.in_ok-entries.ensures.found c.in_err-threads.ensures.fault s parts)
+
+pub returns-in_err-threads-clause-place : goal.returns-in_err-threads-clause-place
+returns-in_err-threads-clause-place g c =
+    let p = err_from_is_err_and c.from_residual-in_err-threads.result c.from_residual-in_err-threads.ensures.1 in
+    rw (p.1, p.2) (omega (arith, c.in_err-threads.ensures.place, c.in_ok-entries.ensures.same))
 
 pub returns-in_err-check_threads-clause-fault : goal.returns-in_err-check_threads-clause-fault
 returns-in_err-check_threads-clause-fault g c =
@@ -35,11 +45,21 @@ returns-in_err-rows-clause-fault g c =
     let p = err_from_is_err_and c.from_residual-in_err-rows.result c.from_residual-in_err-rows.ensures.1 in
     rw (p.1, p.2) (λ ne s f parts whole. no_rows (left c.args.self.now) (left c.block.new.self) _ c.in_ok-entries.ensures.found c.in_ok-threads.threads (left c.header.new.self) c.in_ok-threads.ensures.found (c.in_err-rows.ensures.fault ne) s parts)
 
+pub returns-in_err-rows-clause-place : goal.returns-in_err-rows-clause-place
+returns-in_err-rows-clause-place g c =
+    let p = err_from_is_err_and c.from_residual-in_err-rows.result c.from_residual-in_err-rows.ensures.1 in
+    rw (p.1, p.2) (omega (arith, c.in_err-rows.ensures.place, c.in_ok-entries.ensures.same, c.in_ok-threads.ensures.same))
+
 pub returns-in_err-listed-clause-fault : goal.returns-in_err-listed-clause-fault
 returns-in_err-listed-clause-fault g c =
     let p = err_from_is_err_and c.from_residual-in_err-listed.result c.from_residual-in_err-listed.ensures.1 in
     let first = first_names (left c.args.self.now) (left c.block.new.self) c.block.new.locs c.in_ok-entries.entries c.in_ok-entries.ensures.found (rw c.new-locs.ensures at c.in_ok-entries.ensures.names) in
     rw (p.1, p.2) (λ ne s f parts whole. no_list (left c.args.self.now) (left c.block.new.self) _ c.in_ok-entries.ensures.found c.in_ok-threads.threads (left c.header.new.self) c.in_ok-threads.ensures.found _ (left c.rows.new.self) c.in_ok-rows.ensures.found c.block.new.locs first (c.in_err-listed.ensures.fault ne) s parts)
+
+pub returns-in_err-listed-clause-place : goal.returns-in_err-listed-clause-place
+returns-in_err-listed-clause-place g c =
+    let p = err_from_is_err_and c.from_residual-in_err-listed.result c.from_residual-in_err-listed.ensures.1 in
+    rw (p.1, p.2) (omega (arith, c.in_err-listed.ensures.place, c.in_ok-entries.ensures.same, c.in_ok-threads.ensures.same, c.in_ok-rows.ensures.same))
 
 pub returns-in_err-quant-clause-fault : goal.returns-in_err-quant-clause-fault
 returns-in_err-quant-clause-fault g c =
@@ -47,11 +67,21 @@ returns-in_err-quant-clause-fault g c =
     let first = first_names (left c.args.self.now) (left c.block.new.self) c.block.new.locs c.in_ok-entries.entries c.in_ok-entries.ensures.found (rw c.new-locs.ensures at c.in_ok-entries.ensures.names) in
     rw (p.1, p.2) (λ ne s f parts whole. no_quant (left c.args.self.now) (left c.block.new.self) _ c.in_ok-entries.ensures.found c.in_ok-threads.threads (left c.header.new.self) c.in_ok-threads.ensures.found _ (left c.rows.new.self) c.in_ok-rows.ensures.found c.block.new.locs first _ (left c.listed.new.self) c.in_ok-listed.ensures.found c.in_err-quant.ensures.fault s parts)
 
+pub returns-in_err-quant-clause-place : goal.returns-in_err-quant-clause-place
+returns-in_err-quant-clause-place g c =
+    let p = err_from_is_err_and c.from_residual-in_err-quant.result c.from_residual-in_err-quant.ensures.1 in
+    rw (p.1, p.2) (omega (arith, c.in_err-quant.ensures.place, c.in_ok-entries.ensures.same, c.in_ok-threads.ensures.same, c.in_ok-rows.ensures.same, c.in_ok-listed.ensures.same))
+
 pub returns-in_err-prop-clause-fault : goal.returns-in_err-prop-clause-fault
 returns-in_err-prop-clause-fault g c =
     let p = err_from_is_err_and c.from_residual-in_err-prop.result c.from_residual-in_err-prop.ensures.1 in
     let first = first_names (left c.args.self.now) (left c.block.new.self) c.block.new.locs c.in_ok-entries.entries c.in_ok-entries.ensures.found (rw c.new-locs.ensures at c.in_ok-entries.ensures.names) in
     rw (p.1, p.2) (λ ne s f parts whole. no_signs (left c.args.self.now) (left c.block.new.self) _ c.in_ok-entries.ensures.found c.in_ok-threads.threads (left c.header.new.self) c.in_ok-threads.ensures.found _ (left c.rows.new.self) c.in_ok-rows.ensures.found c.block.new.locs first _ (left c.listed.new.self) c.in_ok-listed.ensures.found c.in_ok-quant.quant (left c.quantifier.new.self) c.in_ok-quant.ensures.found c.listed.new.locs c.in_ok-listed.ensures.names (c.in_err-prop.ensures.fault ne) s f parts whole)
+
+pub returns-in_err-prop-clause-place : goal.returns-in_err-prop-clause-place
+returns-in_err-prop-clause-place g c =
+    let p = err_from_is_err_and c.from_residual-in_err-prop.result c.from_residual-in_err-prop.ensures.1 in
+    rw (p.1, p.2) (omega (arith, c.in_err-prop.ensures.place, c.in_ok-entries.ensures.same, c.in_ok-threads.ensures.same, c.in_ok-rows.ensures.same, c.in_ok-listed.ensures.same, c.in_ok-quant.ensures.same))
 
 pub invariant_of-result : goal.invariant_of-result
 invariant_of-result g c =

@@ -1,4 +1,4 @@
-use Rattle.std.proofs.Common.{◌∷◌, [], ◌∙◌, sym}
+use Rattle.std.proofs.Common.{◌∷◌, [], ◌∙◌, sym, arith}
 use Rattle.std.proofs.lemmas.Result.{err_from_is_err_and}
 use Rattle.lw_text.specs.Views.{remaining, left}
 use Rattle.lw_text.proofs.CellPlaces.{Leaves-behind}
@@ -13,6 +13,23 @@ returns-then-eq-clause-fault g c =
 
 pub returns-then-eq-clause-leaves : goal.returns-then-eq-clause-leaves
 returns-then-eq-clause-leaves g c = Leaves-behind (remaining c.args.self.now) (remaining c.take.new.self) (remaining c.in_brackets.new.self) c.in_brackets.result c.in_ok-first.first c.in_ok-first.ensures.token c.in_brackets.ensures.leaves
+
+pub returns-then-eq-clause-place : goal.returns-then-eq-clause-place
+returns-then-eq-clause-place g c = rw c.take.ensures.same at c.in_brackets.ensures.place
+
+pub returns-then-eq-clause-same : goal.returns-then-eq-clause-same
+returns-then-eq-clause-same g c = c.in_brackets.ensures.same ∙ c.take.ensures.same
+
+pub returns-in-Some-clause-place : goal.returns-in-Some-clause-place
+returns-in-Some-clause-place g c = rw c.take.ensures.same at c.of_thread.ensures.place
+
+pub returns-in-Some-clause-same : goal.returns-in-Some-clause-same
+returns-in-Some-clause-same g c = c.of_thread.ensures.same ∙ c.take.ensures.same
+
+pub returns-in_err-loc-clause-place : goal.returns-in_err-loc-clause-place
+returns-in_err-loc-clause-place g c =
+    let p = err_from_is_err_and c.from_residual-in_err-loc.result c.from_residual-in_err-loc.ensures.1 in
+    rw (p.1, p.2) (omega (arith, c.in_err-loc.ensures.place, c.in_ok-first.ensures.at))
 
 pub returns-then-thread-threads-clause-fault : goal.returns-then-thread-threads-clause-fault
 returns-then-thread-threads-clause-fault g c =

@@ -27,3 +27,9 @@ invariant_of-result g c =
       low = few;
       places = columns-each (IsWithin c.args.len) said.threads body.rows c.requires;
     })
+
+pub returns-clause-head : goal.returns-clause-head
+returns-clause-head g c = c.in_ok-head.ensures
+
+pub returns-clause-cells : goal.returns-clause-cells
+returns-clause-cells g c = c.in_ok-cells.ensures ∙ ap (columns c.args.self.said.threads) c.as_slice.ensures
