@@ -1,5 +1,5 @@
 -- Runs, one event further.
-use Rattle.std.proofs.Common.{◌≡◌, ℕ, suc, ◌<◌, ◌+◌, List, [], ◌∷◌, ◌++◌, length, take, get_or, refl, sym, ap, ◌∙◌, subst, Result, Ok, Err, arith}
+use Rattle.std.proofs.Common.{◌≡◌, ℕ, suc, ◌<◌, ◌+◌, List, [], ◌∷◌, ◌++◌, length, map, take, get_or, refl, sym, ap, ◌∙◌, subst, Result, Ok, Err, arith}
 use Rattle.std.specs.Result.{MatchResult}
 use Rattle.lw_base.specs.declared.stop.Stop.{Stop}
 use Rattle.std.proofs.Math.Seq.{take-suc}
@@ -12,7 +12,11 @@ use Rattle.lw_source.specs.declared.thread.Thread.{Thread}
 use Rattle.lw_source.specs.Statements.{value_of, thread_after, words_after}
 use Rattle.lw_base.specs.declared.event.Event.{Event}
 use Rattle.lw_source.specs.declared.stmt.Stmt.{Stmt}
-use Rattle.lw_source.specs.Runs.{State, Ran, source_event, carried_out, step_of, code_of}
+use Rattle.lw_source.specs.Runs.{State, Running, Ran, source_step, source_event, carried_out, step_of, code_of}
+use Rattle.std.proofs.lemmas.List.{map-append}
+use Rattle.std.proofs.lemmas.Option.{slice_get-map, slice_get_within}
+use Rattle.std.specs.Option.{option_map}
+use Rattle.lw_source.proofs.LabelRows.{at_index}
 
 Ran-push : (program : List (List Stmt)) (es : List Event) (e : Event) (s mid end : State) → Ran program es s mid → source_event program e mid ≡ Ok end → Ran program (es ++ e ∷ []) s end
 Ran-push program [] e s mid end ran one = (end, subst (λ (m : State). source_event program e m ≡ Ok end) ran one, refl)
@@ -70,3 +74,33 @@ event_kept program (Evict t x) s mid e = go (nat_lt t (length s.threads)) e
     go : (b : Bool) → (if b then (if nat_lt x (length s.words) then Err NotHeld else Err NoLocation) else Err NoCpu) ≡ Ok mid → SameSize s mid
     go true e = absurd (refused (nat_lt x (length s.words)) NotHeld NoLocation mid e)
     go false e = absurd cc
+
+-- what stands at a place, read of a list and of one that is equal to it
+pub found_at : {X : Type 0} (xs ys : List X) (i j : ℕ) (d : X) → ys ≡ xs → j ≡ i → i < length xs → slice_get xs i ≡ Some (get_or ys j d)
+found_at xs ys i j d same place within = rw (same, place) (at_index xs i d within)
+
+pub read_at : {X Y : Type 0} (f : X → Y) (xs ys : List X) (i j : ℕ) (d : X) → ys ≡ xs → j ≡ i → i < length xs → slice_get (map f xs) i ≡ Some (f (get_or ys j d))
+read_at f xs ys i j d same place within = slice_get-map f xs i ∙ ap (option_map f) (found_at xs ys i j d same place within)
+
+-- a list with the image of one more item
+pub mapped_on : {X Y : Type 0} (f : X → Y) (xs ys : List X) (i : ℕ) (d : X) (out next : List Y) → ys ≡ xs → i < length ys → out ≡ map f (take i xs) → next ≡ out ++ f (get_or ys i d) ∷ [] → next ≡ map f (take (i + 1) xs)
+mapped_on {X} f xs ys i d out next same within so_far pushed =
+    let more : take (suc i) ys ≡ take i ys ++ get_or ys i d ∷ [] = take-suc ys i d within in
+    let last : suc i ≡ i + 1 = omega arith in
+    pushed ∙ rw (so_far, ← same, ← last, more, map-append) refl
+
+the_code : (program : List (List Stmt)) (t : ℕ) (code : List Stmt) → t < length program → code ≡ get_or program t code → code_of program t ≡ code
+the_code program t code within is =
+    let e = at_index program t code within in
+    let f = at_index program t [] within in
+    cc
+
+made : (a b : List Thread) (u v : List ℕ) → a ≡ b → u ≡ v → (let s : State = record { threads = a; words = u } in s) ≡ record { threads = b; words = v }
+made a b u v e f = rw (e, f) refl
+
+-- a step of a thread that has a next statement
+pub stepped : (Q : Type 0) (answer : Result (Unit {0}) Stop) (before run end : Running) (t : ℕ) (th : Thread) (code : List Stmt) (stmt : Stmt) → before ≡ run → answer ≡ Ok tt → length before.state.threads ≡ length before.program → Some th ≡ slice_get before.state.threads t → code ≡ get_or before.program t code → Some stmt ≡ slice_get code th.position → end.state.threads ≡ slice_set before.state.threads t (thread_after stmt th before.state.words) → end.state.words ≡ words_after stmt th before.state.words → MatchResult (source_step run.program t run.state) (λ next. (answer ≡ Ok tt) × (end.state ≡ next)) (λ stop. (answer ≡ Err stop) × Q)
+stepped Q answer before run end t th code stmt same ok many is_thread is_code is_stmt threads words =
+    let within = slice_get_within before.state.threads t th (sym is_thread) in
+    let at_code = the_code before.program t code (omega (arith, within, many)) is_code in
+    rw (← same) (rw (← is_thread) (rw (at_code, ← is_stmt) (ok, made _ _ _ _ threads words)))
