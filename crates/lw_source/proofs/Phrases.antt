@@ -15,7 +15,7 @@ use Rattle.lw_text.proofs.Atoms.{number-unique}
 use Rattle.lw_source.specs.declared.stmt.Stmt.TheVariants.{Store, Load, Swap, Set, Sum, IfEq, IfNe, Goto}
 use Rattle.lw_source.specs.Cells.{Written, Stores, Loads, Swaps, Sets, Sums, Jumps_if, Jumps_if_not, Jumps, IsOperand, Statement}
 use Rattle.lw_source.specs.Faults.{BeforeLocation}
-use Rattle.lw_source.specs.Reading.{IsMisfit, StatementRead, NameCause, StatementCause, named_by}
+use Rattle.lw_source.specs.Reading.{IsMisfit, StatementRead, NameCause, StatementCause, MaybeCause, named_by}
 use Rattle.lw_base.specs.Tables.{with_names}
 use Rattle.lw_base.specs.declared.fault.CellCause.{CellCause}
 use Rattle.lw_base.specs.declared.fault.CellCause.TheVariants.{Form, LabelMissing, LabelTwice, Backward, TooMany, Memory}
@@ -318,6 +318,16 @@ misfit_cause tokens names at LabelTwice m = m
 misfit_cause tokens names at Backward m = m
 misfit_cause tokens names at TooMany m = absurd m
 misfit_cause tokens names at Memory m = tt
+
+-- a statement is refused behind its cell's labels as it is alone
+pub maybe_cause : (above : ℕ) (tokens : List Token) (names : List (List ℕ)) (at : ℕ) (cause : CellCause) → StatementCause tokens names at cause → MaybeCause above tokens names at cause
+maybe_cause above tokens names at Form c = tt
+maybe_cause above tokens names at cause_of.Register c = tt
+maybe_cause above tokens names at LabelMissing c = c
+maybe_cause above tokens names at LabelTwice c = c
+maybe_cause above tokens names at Backward c = c
+maybe_cause above tokens names at TooMany c = inr c
+maybe_cause above tokens names at Memory c = tt
 
 -- behind `d :=`, and behind `d := swap`, a location may stand
 pub before_second : (tokens : List Token) (w : List ℕ) (d : ℕ) → slice_get (texts tokens) 0 ≡ Some w → IsRegister Source w d → slice_get (texts tokens) 1 ≡ Some (codes ":=") → BeforeLocation (texts (take 2 tokens))
