@@ -1,7 +1,8 @@
 -- Runs, one event further.
-use Rattle.std.proofs.Common.{◌≡◌, ℕ, suc, ◌<◌, ◌+◌, List, [], ◌∷◌, ◌++◌, length, map, take, get_or, refl, sym, ap, ◌∙◌, subst, Result, Ok, Err, arith}
+use Rattle.std.proofs.Common.{◌≡◌, ℕ, suc, ◌<◌, ◌≤◌, ◌+◌, List, [], ◌∷◌, ◌++◌, length, map, take, get_or, refl, sym, ap, ◌∙◌, subst, Result, Ok, Err, arith}
 use Rattle.std.specs.Result.{MatchResult}
 use Rattle.lw_base.specs.declared.stop.Stop.{Stop}
+use Rattle.lw_base.specs.declared.stop.End.TheVariants as at
 use Rattle.std.proofs.Math.Seq.{take-suc}
 use Rattle.std.proofs.Math.ListN.{length-set}
 use Rattle.std.specs.Prelude.{slice_set, slice_get, slice_index, Option, Some, None, Bool, true, false, if◌then◌else◌, nat_lt}
@@ -12,7 +13,8 @@ use Rattle.lw_source.specs.declared.thread.Thread.{Thread}
 use Rattle.lw_source.specs.Statements.{value_of, thread_after, words_after}
 use Rattle.lw_base.specs.declared.event.Event.{Event}
 use Rattle.lw_source.specs.declared.stmt.Stmt.{Stmt}
-use Rattle.lw_source.specs.Runs.{State, Running, Ran, source_step, source_event, carried_out, step_of, code_of}
+use Rattle.lw_source.specs.Runs.{State, Running, Replayed, Ran, source_step, source_event, carried_out, step_of, code_of}
+use Rattle.std.proofs.lemmas.Bool.{lt-ltb}
 use Rattle.std.proofs.lemmas.List.{map-append}
 use Rattle.std.proofs.lemmas.Option.{slice_get-map, slice_get_within}
 use Rattle.std.specs.Option.{option_map}
@@ -33,6 +35,24 @@ Ran-more program events n e s mid end within is ran one =
 pub possible : (Q : Type 0) (r : Result State Stop) (answer : Result (Unit {0}) Stop) (u : Unit {0}) (end : State) → MatchResult r (λ next. (answer ≡ Ok tt) × (end ≡ next)) (λ stop. (answer ≡ Err stop) × Q) → answer ≡ Ok u → r ≡ Ok end
 possible Q (Ok next) answer u end told ok = ap Ok (sym told.1)
 possible Q (Err stop) answer u end told ok = let e : answer ≡ Err stop = told.0 in absurd cc
+
+refusal : (Q : Type 0) (r : Result State Stop) (answer : Result (Unit {0}) Stop) (stop : Stop) (end : State) → MatchResult r (λ next. (answer ≡ Ok tt) × (end ≡ next)) (λ s. (answer ≡ Err s) × Q) → answer ≡ Err stop → (r ≡ Err stop) × Q
+refusal Q (Ok next) answer stop end told failed = let e : answer ≡ Ok tt = told.0 in absurd cc
+refusal Q (Err s) answer stop end told failed = let e : answer ≡ Err s = told.0 in let same : s ≡ stop = cc in (ap Err same, told.1)
+
+-- a replay that meets a refused event
+pub stopped : (Q : Type 0) (program : List (List Stmt)) (events : List Event) (e : Event) (done : ℕ) (s mid end : State) (answer : Result (Unit {0}) Stop) (stop : Stop) → MatchResult (source_event program e mid) (λ next. (answer ≡ Ok tt) × (end ≡ next)) (λ x. (answer ≡ Err x) × Q) → (Q → end ≡ mid) → answer ≡ Err stop → done < length events → e ≡ get_or events done e → Ran program (take done events) s mid → Replayed program events s (record { done = done; end = at.Stopped stop }) end
+stopped Q program events e done s mid end answer stop told kept failed within is ran =
+    let r = refusal Q (source_event program e mid) answer stop end told failed in
+    record {
+      within = omega (arith, within);
+      ran = subst (λ (m : State). Ran program (take done events) s m) (sym (kept r.1)) ran;
+      ends = (e, at_index events done e within ∙ ap Some (sym is), subst (λ (m : State). source_event program e m ≡ Err stop) (sym (kept r.1)) r.0);
+    }
+
+-- no thread has a store to drain
+pub drained : (Q : Type 0) (answer : Result (Unit {0}) Stop) (s : State) (t n : ℕ) → t < n → answer ≡ Err BufferEmpty → Q → MatchResult (if nat_lt t n then Err BufferEmpty else Err NoCpu) (λ next. (answer ≡ Ok tt) × (s ≡ next)) (λ stop. (answer ≡ Err stop) × Q)
+drained Q answer s t n within failed same = rw (lt-ltb t n within) (failed, same)
 
 set_length : {X : Type 0} (xs : List X) (i : ℕ) (x : X) → length (slice_set xs i x) ≡ length xs
 set_length xs i x = length-set xs i x
