@@ -12,17 +12,7 @@ use Rattle.lw_text.specs.Tokens.{IsNumber}
 use Rattle.lw_text.proofs.Atoms.{number-unique}
 use Rattle.lw_source.specs.Cells.{Written, Stores, Loads, Swaps, Sets, Sums, Jumps_if, Jumps_if_not, Jumps, Line, IsOperand, Statement, MaybeStatement, Labels, CellSays, Column}
 use Rattle.lw_source.specs.Reading.{AtLabel}
-use Rattle.lw_source.proofs.Phrases.{other_letter, begins_as, register_apart, no_reserved, if_register, goto_register, swap_register, goto_if, if_if, register_unique, operand_unique, location_number}
-
-first_of : (ts : List (List ℕ)) (s : Written) → Statement ts s → (a : List ℕ) × (slice_get ts 0 ≡ Some a)
-first_of ts (Stores x v) h = (x, ap (λ t. slice_get t 0) h.1)
-first_of ts (Loads d x) h = (h.0, ap (λ t. slice_get t 0) h.1)
-first_of ts (Swaps d x r) h = (h.0, ap (λ t. slice_get t 0) h.2)
-first_of ts (Sets d v) h = (h.0, ap (λ t. slice_get t 0) h.2)
-first_of ts (Sums d l v) h = (h.0, ap (λ t. slice_get t 0) h.3)
-first_of ts (Jumps_if r n l) h = (codes "if", ap (λ t. slice_get t 0) h.2)
-first_of ts (Jumps_if_not r n l) h = (codes "if", ap (λ t. slice_get t 0) h.2)
-first_of ts (Jumps l) h = (codes "goto", ap (λ t. slice_get t 0) h.0)
+use Rattle.lw_source.proofs.Phrases.{first_of, other_letter, begins_as, register_apart, no_reserved, if_register, goto_register, swap_register, goto_if, if_if, register_unique, operand_unique, location_number}
 
 apart01 : (a : List ℕ) (r : ℕ) → IsLocation a → IsRegister Source a r → ⊥
 apart01 a r loc reg = register_apart a r reg loc

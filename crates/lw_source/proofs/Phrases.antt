@@ -1,6 +1,6 @@
 -- What the tokens of a statement say, one by one.
 use Rattle.std.proofs.Common.{◌≡◌, inl, inr, ℕ, zero, suc, ◌<◌, ◌≤◌, ◌+◌, true, false, true≢false, List, [], ◌∷◌, length, take, refl, sym, ap, ◌∙◌, subst, arith, Result, Ok, Err}
-use Rattle.std.specs.Prelude.{slice_get, Some, codes}
+use Rattle.std.specs.Prelude.{slice_get, Some, None, codes}
 use Rattle.lw_base.specs.declared.head.Arch.TheVariants.{Source}
 use Rattle.lw_base.specs.declared.operand.Operand.{Operand}
 use Rattle.lw_base.specs.declared.operand.Operand.TheVariants.{Register, Number}
@@ -15,7 +15,7 @@ use Rattle.lw_text.proofs.Atoms.{number-unique}
 use Rattle.lw_source.specs.declared.stmt.Stmt.TheVariants.{Store, Load, Swap, Set, Sum, IfEq, IfNe, Goto}
 use Rattle.lw_source.specs.Cells.{Written, Stores, Loads, Swaps, Sets, Sums, Jumps_if, Jumps_if_not, Jumps, IsOperand, Statement}
 use Rattle.lw_source.specs.Faults.{BeforeLocation}
-use Rattle.lw_source.specs.Reading.{StatementRead, NameCause, StatementCause, named_by}
+use Rattle.lw_source.specs.Reading.{IsMisfit, StatementRead, NameCause, StatementCause, MaybeCause, named_by}
 use Rattle.lw_base.specs.Tables.{with_names}
 use Rattle.lw_base.specs.declared.fault.CellCause.{CellCause}
 use Rattle.lw_base.specs.declared.fault.CellCause.TheVariants.{Form, LabelMissing, LabelTwice, Backward, TooMany, Memory}
@@ -87,6 +87,27 @@ operand_unique w (Register r) (Number n) h k = absurd (register_number w r n h k
 operand_unique w (Number n) (Register r) h k = absurd (register_number w r n k h)
 operand_unique w (Number n) (Number m) h k = ap Number (number-unique w n m h k)
 
+-- one place, one token
+pub same_token : (ts : List (List ℕ)) (k : ℕ) (a b : List ℕ) → slice_get ts k ≡ Some a → slice_get ts k ≡ Some b → a ≡ b
+same_token ts k a b p q = cc
+
+-- a token past the end
+pub gone : (ts : List (List ℕ)) (k : ℕ) (a : List ℕ) → length ts ≤ k → slice_get ts k ≡ Some a → ⊥
+gone [] k a h e = absurd cc
+gone (x ∷ ts) zero a h e = omega (arith, h)
+gone (x ∷ ts) (suc k) a h e = gone ts k a (omega (arith, h)) e
+
+pub past : (ts : List (List ℕ)) (k : ℕ) → k < length ts → slice_get ts k ≡ None → ⊥
+past [] k h e = omega (arith, h)
+past (x ∷ ts) zero h e = absurd cc
+past (x ∷ ts) (suc k) h e = past ts k (omega (arith, h)) e
+
+pub not_both : (a b : ℕ) → a ≤ b → b < a → ⊥
+not_both a b h k = omega (arith, h, k)
+
+pub not_longer : (n k : ℕ) → n ≡ k → k < n → ⊥
+not_longer n k e h = omega (arith, e, h)
+
 -- a phrase of so many tokens
 pub two : (ts : List (List ℕ)) (a b : List ℕ) → slice_get ts 0 ≡ Some a → slice_get ts 1 ≡ Some b → length ts ≤ 2 → ts ≡ a ∷ b ∷ []
 two [] a b p q h = absurd cc
@@ -146,6 +167,17 @@ Begins a (Sums d l v) = IsRegister Source a d
 Begins a (Jumps_if r n l) = codes "if" ≡ a
 Begins a (Jumps_if_not r n l) = codes "if" ≡ a
 Begins a (Jumps l) = codes "goto" ≡ a
+
+-- a statement has a first token
+pub first_of : (ts : List (List ℕ)) (s : Written) → Statement ts s → (a : List ℕ) × (slice_get ts 0 ≡ Some a)
+first_of ts (Stores x v) h = (x, ap (λ t. slice_get t 0) h.1)
+first_of ts (Loads d x) h = (h.0, ap (λ t. slice_get t 0) h.1)
+first_of ts (Swaps d x r) h = (h.0, ap (λ t. slice_get t 0) h.2)
+first_of ts (Sets d v) h = (h.0, ap (λ t. slice_get t 0) h.2)
+first_of ts (Sums d l v) h = (h.0, ap (λ t. slice_get t 0) h.3)
+first_of ts (Jumps_if r n l) h = (codes "if", ap (λ t. slice_get t 0) h.2)
+first_of ts (Jumps_if_not r n l) h = (codes "if", ap (λ t. slice_get t 0) h.2)
+first_of ts (Jumps l) h = (codes "goto", ap (λ t. slice_get t 0) h.0)
 
 pub begins_as : (ts : List (List ℕ)) (a : List ℕ) (s : Written) → slice_get ts 0 ≡ Some a → Statement ts s → Begins a s
 begins_as ts a (Stores x v) first says = let e : slice_get ts 0 ≡ Some x = ap (λ t. slice_get t 0) says.1 in let same : x ≡ a = cc in subst IsLocation same says.2
@@ -276,6 +308,26 @@ statement_cause tokens names k t is before at LabelTwice c = c
 statement_cause tokens names k t is before at Backward c = c
 statement_cause tokens names k t is before at TooMany c = record { place = k; token = t; is = is; before = before; ninth = c }
 statement_cause tokens names k t is before at Memory c = tt
+
+-- a token that does not fit, wherever it stands
+pub misfit_cause : (tokens : List Token) (names : List (List ℕ)) (at : ℕ) (cause : CellCause) → IsMisfit cause → StatementCause tokens names at cause
+misfit_cause tokens names at Form m = tt
+misfit_cause tokens names at cause_of.Register m = tt
+misfit_cause tokens names at LabelMissing m = m
+misfit_cause tokens names at LabelTwice m = m
+misfit_cause tokens names at Backward m = m
+misfit_cause tokens names at TooMany m = absurd m
+misfit_cause tokens names at Memory m = tt
+
+-- a statement is refused behind its cell's labels as it is alone
+pub maybe_cause : (above : ℕ) (tokens : List Token) (names : List (List ℕ)) (at : ℕ) (cause : CellCause) → StatementCause tokens names at cause → MaybeCause above tokens names at cause
+maybe_cause above tokens names at Form c = tt
+maybe_cause above tokens names at cause_of.Register c = tt
+maybe_cause above tokens names at LabelMissing c = c
+maybe_cause above tokens names at LabelTwice c = c
+maybe_cause above tokens names at Backward c = c
+maybe_cause above tokens names at TooMany c = inr c
+maybe_cause above tokens names at Memory c = tt
 
 -- behind `d :=`, and behind `d := swap`, a location may stand
 pub before_second : (tokens : List Token) (w : List ℕ) (d : ℕ) → slice_get (texts tokens) 0 ≡ Some w → IsRegister Source w d → slice_get (texts tokens) 1 ≡ Some (codes ":=") → BeforeLocation (texts (take 2 tokens))

@@ -1,7 +1,8 @@
 -- Runs, one event further.
-use Rattle.std.proofs.Common.{◌≡◌, ℕ, suc, ◌<◌, ◌+◌, List, [], ◌∷◌, ◌++◌, length, take, get_or, refl, sym, ap, ◌∙◌, subst, Result, Ok, Err, arith}
+use Rattle.std.proofs.Common.{◌≡◌, ℕ, suc, ◌<◌, ◌≤◌, ◌+◌, List, [], ◌∷◌, ◌++◌, length, map, take, get_or, refl, sym, ap, ◌∙◌, subst, Result, Ok, Err, arith}
 use Rattle.std.specs.Result.{MatchResult}
 use Rattle.lw_base.specs.declared.stop.Stop.{Stop}
+use Rattle.lw_base.specs.declared.stop.End.TheVariants as at
 use Rattle.std.proofs.Math.Seq.{take-suc}
 use Rattle.std.proofs.Math.ListN.{length-set}
 use Rattle.std.specs.Prelude.{slice_set, slice_get, slice_index, Option, Some, None, Bool, true, false, if◌then◌else◌, nat_lt}
@@ -12,7 +13,12 @@ use Rattle.lw_source.specs.declared.thread.Thread.{Thread}
 use Rattle.lw_source.specs.Statements.{value_of, thread_after, words_after}
 use Rattle.lw_base.specs.declared.event.Event.{Event}
 use Rattle.lw_source.specs.declared.stmt.Stmt.{Stmt}
-use Rattle.lw_source.specs.Runs.{State, Ran, source_event, carried_out, step_of, code_of}
+use Rattle.lw_source.specs.Runs.{State, Running, Replayed, Ran, source_step, source_event, carried_out, step_of, code_of}
+use Rattle.std.proofs.lemmas.Bool.{lt-ltb}
+use Rattle.std.proofs.lemmas.List.{map-append}
+use Rattle.std.proofs.lemmas.Option.{slice_get-map, slice_get_within}
+use Rattle.std.specs.Option.{option_map}
+use Rattle.lw_source.proofs.LabelRows.{at_index}
 
 Ran-push : (program : List (List Stmt)) (es : List Event) (e : Event) (s mid end : State) → Ran program es s mid → source_event program e mid ≡ Ok end → Ran program (es ++ e ∷ []) s end
 Ran-push program [] e s mid end ran one = (end, subst (λ (m : State). source_event program e m ≡ Ok end) ran one, refl)
@@ -29,6 +35,24 @@ Ran-more program events n e s mid end within is ran one =
 pub possible : (Q : Type 0) (r : Result State Stop) (answer : Result (Unit {0}) Stop) (u : Unit {0}) (end : State) → MatchResult r (λ next. (answer ≡ Ok tt) × (end ≡ next)) (λ stop. (answer ≡ Err stop) × Q) → answer ≡ Ok u → r ≡ Ok end
 possible Q (Ok next) answer u end told ok = ap Ok (sym told.1)
 possible Q (Err stop) answer u end told ok = let e : answer ≡ Err stop = told.0 in absurd cc
+
+refusal : (Q : Type 0) (r : Result State Stop) (answer : Result (Unit {0}) Stop) (stop : Stop) (end : State) → MatchResult r (λ next. (answer ≡ Ok tt) × (end ≡ next)) (λ s. (answer ≡ Err s) × Q) → answer ≡ Err stop → (r ≡ Err stop) × Q
+refusal Q (Ok next) answer stop end told failed = let e : answer ≡ Ok tt = told.0 in absurd cc
+refusal Q (Err s) answer stop end told failed = let e : answer ≡ Err s = told.0 in let same : s ≡ stop = cc in (ap Err same, told.1)
+
+-- a replay that meets a refused event
+pub stopped : (Q : Type 0) (program : List (List Stmt)) (events : List Event) (e : Event) (done : ℕ) (s mid end : State) (answer : Result (Unit {0}) Stop) (stop : Stop) → MatchResult (source_event program e mid) (λ next. (answer ≡ Ok tt) × (end ≡ next)) (λ x. (answer ≡ Err x) × Q) → (Q → end ≡ mid) → answer ≡ Err stop → done < length events → e ≡ get_or events done e → Ran program (take done events) s mid → Replayed program events s (record { done = done; end = at.Stopped stop }) end
+stopped Q program events e done s mid end answer stop told kept failed within is ran =
+    let r = refusal Q (source_event program e mid) answer stop end told failed in
+    record {
+      within = omega (arith, within);
+      ran = subst (λ (m : State). Ran program (take done events) s m) (sym (kept r.1)) ran;
+      ends = (e, at_index events done e within ∙ ap Some (sym is), subst (λ (m : State). source_event program e m ≡ Err stop) (sym (kept r.1)) r.0);
+    }
+
+-- no thread has a store to drain
+pub drained : (Q : Type 0) (answer : Result (Unit {0}) Stop) (s : State) (t n : ℕ) → t < n → answer ≡ Err BufferEmpty → Q → MatchResult (if nat_lt t n then Err BufferEmpty else Err NoCpu) (λ next. (answer ≡ Ok tt) × (s ≡ next)) (λ stop. (answer ≡ Err stop) × Q)
+drained Q answer s t n within failed same = rw (lt-ltb t n within) (failed, same)
 
 set_length : {X : Type 0} (xs : List X) (i : ℕ) (x : X) → length (slice_set xs i x) ≡ length xs
 set_length xs i x = length-set xs i x
@@ -70,3 +94,33 @@ event_kept program (Evict t x) s mid e = go (nat_lt t (length s.threads)) e
     go : (b : Bool) → (if b then (if nat_lt x (length s.words) then Err NotHeld else Err NoLocation) else Err NoCpu) ≡ Ok mid → SameSize s mid
     go true e = absurd (refused (nat_lt x (length s.words)) NotHeld NoLocation mid e)
     go false e = absurd cc
+
+-- what stands at a place, read of a list and of one that is equal to it
+pub found_at : {X : Type 0} (xs ys : List X) (i j : ℕ) (d : X) → ys ≡ xs → j ≡ i → i < length xs → slice_get xs i ≡ Some (get_or ys j d)
+found_at xs ys i j d same place within = rw (same, place) (at_index xs i d within)
+
+pub read_at : {X Y : Type 0} (f : X → Y) (xs ys : List X) (i j : ℕ) (d : X) → ys ≡ xs → j ≡ i → i < length xs → slice_get (map f xs) i ≡ Some (f (get_or ys j d))
+read_at f xs ys i j d same place within = slice_get-map f xs i ∙ ap (option_map f) (found_at xs ys i j d same place within)
+
+-- a list with the image of one more item
+pub mapped_on : {X Y : Type 0} (f : X → Y) (xs ys : List X) (i : ℕ) (d : X) (out next : List Y) → ys ≡ xs → i < length ys → out ≡ map f (take i xs) → next ≡ out ++ f (get_or ys i d) ∷ [] → next ≡ map f (take (i + 1) xs)
+mapped_on {X} f xs ys i d out next same within so_far pushed =
+    let more : take (suc i) ys ≡ take i ys ++ get_or ys i d ∷ [] = take-suc ys i d within in
+    let last : suc i ≡ i + 1 = omega arith in
+    pushed ∙ rw (so_far, ← same, ← last, more, map-append) refl
+
+the_code : (program : List (List Stmt)) (t : ℕ) (code : List Stmt) → t < length program → code ≡ get_or program t code → code_of program t ≡ code
+the_code program t code within is =
+    let e = at_index program t code within in
+    let f = at_index program t [] within in
+    cc
+
+made : (a b : List Thread) (u v : List ℕ) → a ≡ b → u ≡ v → (let s : State = record { threads = a; words = u } in s) ≡ record { threads = b; words = v }
+made a b u v e f = rw (e, f) refl
+
+-- a step of a thread that has a next statement
+pub stepped : (Q : Type 0) (answer : Result (Unit {0}) Stop) (before run end : Running) (t : ℕ) (th : Thread) (code : List Stmt) (stmt : Stmt) → before ≡ run → answer ≡ Ok tt → length before.state.threads ≡ length before.program → Some th ≡ slice_get before.state.threads t → code ≡ get_or before.program t code → Some stmt ≡ slice_get code th.position → end.state.threads ≡ slice_set before.state.threads t (thread_after stmt th before.state.words) → end.state.words ≡ words_after stmt th before.state.words → MatchResult (source_step run.program t run.state) (λ next. (answer ≡ Ok tt) × (end.state ≡ next)) (λ stop. (answer ≡ Err stop) × Q)
+stepped Q answer before run end t th code stmt same ok many is_thread is_code is_stmt threads words =
+    let within = slice_get_within before.state.threads t th (sym is_thread) in
+    let at_code = the_code before.program t code (omega (arith, within, many)) is_code in
+    rw (← same) (rw (← is_thread) (rw (at_code, ← is_stmt) (ok, made _ _ _ _ threads words)))

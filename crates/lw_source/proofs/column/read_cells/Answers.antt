@@ -57,3 +57,17 @@ pub returns-in_err-push-clause-fault : goal.returns-in_err-push-clause-fault
 returns-in_err-push-clause-fault g c =
     let p = err_from_is_err_and c.from_residual-in_err-push.result c.from_residual-in_err-push.ensures.1 in
     rw p.1 (λ known. absurd (known p.2.1))
+
+pub returns-in_err-start-clause-place : goal.returns-in_err-start-clause-place
+returns-in_err-start-clause-place g c len within =
+    let p = err_from_is_err_and c.from_residual.result c.from_residual.ensures.1 in
+    let cell = subst (IsWithin len) (sym c.cell-item.is) (within c.loop-cell.cell-index c.cell-item.result c.loop-cell-test.true) in
+    rw (p.1, p.2) (c.in_err-start.ensures.place len (rw c.as_slice.ensures cell.0))
+
+pub returns-in_err-push-clause-cause : goal.returns-in_err-push-clause-cause
+returns-in_err-push-clause-cause g c =
+    let p = err_from_is_err_and c.from_residual-in_err-push.result c.from_residual-in_err-push.ensures.1 in
+    rw (p.1, p.2.1) tt
+
+pub behind-phrase-requires : goal.behind-phrase-requires
+behind-phrase-requires g c = let labels = rw c.as_slice.ensures at c.in_ok-start.ensures.found in labels.within

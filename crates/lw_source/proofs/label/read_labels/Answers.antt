@@ -23,3 +23,19 @@ pub loop-token-preserved : goal.loop-token-preserved
 loop-token-preserved g c =
     let colon = c.is_colon.ensures.0 c.loop-token-test.true in
     labels_more _ _ _ _ _ c.loop-token.invariant _ (at_index c.args.tokens.now c.loop-token.next _ (next_within _ _ _ colon)) colon _ _ c.in_ok-label.ensures.ok c.in_ok-push.ensures.ok refl refl (found_nowhere _ _ _ (rw c.as_slice.ensures at c.target.ensures) (sym c.is_some.ensures ∙ c.if-is_some.false))
+
+pub bounds-tokens-next : goal.bounds-tokens-next
+bounds-tokens-next g c = next_within _ _ _ (c.is_colon.ensures.0 c.loop-token-test.true)
+
+pub returns-in_err-label-clause-place : goal.returns-in_err-label-clause-place
+returns-in_err-label-clause-place g c len within =
+    let p = err_from_is_err_and c.from_residual.result c.from_residual.ensures.1 in
+    rw (p.1, p.2) (c.in_err-label.ensures.place len (within c.loop-token.next _ (next_within _ _ _ (c.is_colon.ensures.0 c.loop-token-test.true))))
+
+pub returns-then-is_some-clause-place : goal.returns-then-is_some-clause-place
+returns-then-is_some-clause-place g c len within = within c.loop-token.next _ (next_within _ _ _ (c.is_colon.ensures.0 c.loop-token-test.true))
+
+pub returns-in_err-push-clause-fault : goal.returns-in_err-push-clause-fault
+returns-in_err-push-clause-fault g c =
+    let p = err_from_is_err_and c.from_residual-in_err-push.result c.from_residual-in_err-push.ensures.1 in
+    rw p.1 (λ known. absurd (known p.2.1))

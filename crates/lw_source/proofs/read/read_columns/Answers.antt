@@ -1,3 +1,6 @@
+use Rattle.std.proofs.Common.{sym, subst, refl, []}
+use Rattle.std.specs.Prelude.{All}
+use Rattle.lw_text.specs.Places.{IsWithin}
 use Rattle.std.proofs.lemmas.Result.{err_from_is_err_and}
 use Rattle.lw_source.proofs.Sources.{columns_cut, texts_cut, columns_more, threads_more, threads_none, threads_tell}
 use Rattle.lw_source.proofs.read.read_columns.Goals as goal
@@ -18,3 +21,21 @@ pub loop-column-preserved : goal.loop-column-preserved
 loop-column-preserved g c =
     let more = columns_more c.args.columns.now c.loop-column.column-index c.column-item.result c.loop-column-test.true c.column-item.is in
     rw (more, c.in_ok-push.ensures.ok) (threads_more _ _ _ _ c.loop-column.invariant _ _ _ (rw c.as_slice.ensures at c.in_ok-stmts.ensures.found))
+
+pub returns-in_err-stmts-clause-place : goal.returns-in_err-stmts-clause-place
+returns-in_err-stmts-clause-place g c len within =
+    let p = err_from_is_err_and c.from_residual.result c.from_residual.ensures.1 in
+    rw (p.1, p.2) (c.in_err-stmts.ensures.place len (rw c.as_slice.ensures (subst (All (IsWithin len)) (sym c.column-item.is) (within c.loop-column.column-index c.column-item.result c.loop-column-test.true))))
+
+pub returns-in_err-push-clause-fault : goal.returns-in_err-push-clause-fault
+returns-in_err-push-clause-fault g c =
+    let p = err_from_is_err_and c.from_residual-in_err-push.result c.from_residual-in_err-push.ensures.1 in
+    rw p.1 (λ known. absurd (known p.2.1))
+
+pub returns-in_err-push-clause-cause : goal.returns-in_err-push-clause-cause
+returns-in_err-push-clause-cause g c =
+    let p = err_from_is_err_and c.from_residual-in_err-push.result c.from_residual-in_err-push.ensures.1 in
+    rw (p.1, p.2.1) tt
+
+pub loop-column-init : goal.loop-column-init
+loop-column-init g c = rw c.new-threads.ensures (record { lines = []; says = tt; names = refl; made = refl })

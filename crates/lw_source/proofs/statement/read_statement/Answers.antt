@@ -1,6 +1,8 @@
-use Rattle.std.proofs.Common.{ap, ◌∙◌, Some}
+use Rattle.std.proofs.Common.{◌≡◌, ap, ◌∙◌, Some, inl, refl, subst}
+use Rattle.std.specs.Prelude.{slice_get}
 use Rattle.std.proofs.lemmas.Result.{err_from_is_err_and}
-use Rattle.lw_source.proofs.Phrases.{stores, only_if, only_store, from_two, same_word, other_word, Fits}
+use Rattle.lw_source.specs.Cells.{IsOperand}
+use Rattle.lw_source.proofs.Phrases.{becomes, first_of, same_token, gone, past, only_goto, statement_cause, stores, only_if, only_store, from_two, same_word, other_word, Fits}
 use Rattle.lw_source.proofs.statement.read_statement.Goals as goal
 
 pub returns-then-eq-2-clause-fault : goal.returns-then-eq-2-clause-fault
@@ -27,3 +29,49 @@ returns-in_err-val-clause-place g c len within =
 pub returns-clause-found : goal.returns-clause-found
 returns-clause-found g c =
     stores _ _ _ c.in_ok-loc.loc c.in_ok-val.val _ _ c.in_ok-first.ensures.found c.in_ok-expect-2.ensures.ok c.in_ok-token.ensures.found c.in_ok-ends.ensures.ok c.in_ok-loc.ensures.name c.in_ok-val.ensures.ok c.in_ok-loc.ensures.names c.in_ok-loc.ensures.found
+
+pub returns-in_err-first-clause-fault : goal.returns-in_err-first-clause-fault
+returns-in_err-first-clause-fault g c =
+    let p = err_from_is_err_and c.from_residual.result c.from_residual.ensures.1 in
+    rw (p.1, p.2) (λ known s says few. let f = first_of _ s says in gone _ 0 _ c.in_err-first.ensures.err f.1)
+
+pub returns-in_err-expect-clause-fault : goal.returns-in_err-expect-clause-fault
+returns-in_err-expect-clause-fault g c =
+    let p = err_from_is_err_and c.from_residual-in_err-expect.result c.from_residual-in_err-expect.ensures.1 in
+    rw (p.1, p.2) (λ known s says few. c.in_err-expect.ensures.err (becomes _ _ c.in-Some.dst c.in_ok-first.ensures.found c.in-Some.ensures s says).0)
+
+pub returns-in_err-expect-2-clause-fault : goal.returns-in_err-expect-2-clause-fault
+returns-in_err-expect-2-clause-fault g c =
+    let p = err_from_is_err_and c.from_residual-in_err-expect-2.result c.from_residual-in_err-expect-2.ensures.1 in
+    rw (p.1, p.2) (λ known s says few.
+    only_store _ _ (Fits _ _) c.in_ok-first.ensures.found c.in_default.ensures (other_word _ _ c.if-eq-2.ensures) (other_word _ _ c.if-eq.ensures) (λ v loc q. c.in_err-expect-2.ensures.err (ap (λ t. slice_get t 1) q.0.1)) s says (says, few))
+
+pub returns-in_err-token-clause-fault : goal.returns-in_err-token-clause-fault
+returns-in_err-token-clause-fault g c =
+    let p = err_from_is_err_and c.from_residual-in_err-token.result c.from_residual-in_err-token.ensures.1 in
+    rw (p.1, p.2) (λ known s says few.
+    only_store _ _ (Fits _ _) c.in_ok-first.ensures.found c.in_default.ensures (other_word _ _ c.if-eq-2.ensures) (other_word _ _ c.if-eq.ensures) (λ v loc q. gone _ 2 _ c.in_err-token.ensures.err (ap (λ t. slice_get t 2) q.0.1)) s says (says, few))
+
+pub returns-in_err-ends-clause-fault : goal.returns-in_err-ends-clause-fault
+returns-in_err-ends-clause-fault g c =
+    let p = err_from_is_err_and c.from_residual-in_err-ends.result c.from_residual-in_err-ends.ensures.1 in
+    rw (p.1, p.2) (λ known s says few.
+    only_store _ _ (Fits _ _) c.in_ok-first.ensures.found c.in_default.ensures (other_word _ _ c.if-eq-2.ensures) (other_word _ _ c.if-eq.ensures) (λ v loc q. past _ 3 c.in_err-ends.ensures.err (ap (λ t. slice_get t 3) q.0.1)) s says (says, few))
+
+pub returns-in_err-val-clause-fault : goal.returns-in_err-val-clause-fault
+returns-in_err-val-clause-fault g c =
+    let p = err_from_is_err_and c.from_residual-in_err-val.result c.from_residual-in_err-val.ensures.1 in
+    rw (p.1, p.2) (λ known s says few.
+    only_store _ _ (Fits _ _) c.in_ok-first.ensures.found c.in_default.ensures (other_word _ _ c.if-eq-2.ensures) (other_word _ _ c.if-eq.ensures) (λ v loc q.
+    let same : q.0.0 ≡ c.in_ok-token.field-0.text.now = same_token _ 2 _ _ (ap (λ t. slice_get t 2) q.0.1) c.in_ok-token.ensures.found in
+    c.in_err-val.ensures.err v (subst (λ w. IsOperand w v) same q.0.3)) s says (says, few))
+
+pub returns-then-eq-clause-fault : goal.returns-then-eq-clause-fault
+returns-then-eq-clause-fault g c =
+    from_two c.read_goto.result _ c.read_goto.ensures.fault c.read_goto.ensures.fault (λ none again f known s says few.
+    only_goto _ (c.in_ok-first.ensures.found ∙ ap Some (same_word _ _ c.if-eq.ensures)) none s says)
+
+pub returns-in_err-loc-clause-cause : goal.returns-in_err-loc-clause-cause
+returns-in_err-loc-clause-cause g c =
+    let p = err_from_is_err_and c.from_residual-in_err-loc.result c.from_residual-in_err-loc.ensures.1 in
+    rw (p.1, p.2) (statement_cause _ _ 0 _ c.in_ok-first.ensures.is (inl refl) _ _ c.in_err-loc.ensures.cause)

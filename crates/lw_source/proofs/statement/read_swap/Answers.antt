@@ -3,7 +3,7 @@ use Rattle.std.specs.Prelude.{slice_get, Some}
 use Rattle.std.proofs.lemmas.Result.{err_from_is_err_and}
 use Rattle.lw_base.specs.declared.head.Arch.TheVariants.{Source}
 use Rattle.lw_base.specs.Registers.{IsRegister}
-use Rattle.lw_source.proofs.Phrases.{swaps}
+use Rattle.lw_source.proofs.Phrases.{same_token, swaps}
 use Rattle.lw_source.proofs.statement.read_swap.Goals as goal
 
 pub returns-in_err-loc-clause-place : goal.returns-in_err-loc-clause-place
@@ -15,9 +15,7 @@ pub returns-in_err-src-clause-fault : goal.returns-in_err-src-clause-fault
 returns-in_err-src-clause-fault g c =
     let p = err_from_is_err_and c.from_residual-in_err-src.result c.from_residual-in_err-src.ensures.1 in
     rw (p.1, p.2) (λ known d r x says few.
-    let e : slice_get _ 4 ≡ Some says.1 = ap (λ t. slice_get t 4) says.2 in
-    let f = c.in_ok-token-2.ensures.found in
-    let same : says.1 ≡ c.in_ok-token-2.field-0.text.now = cc in
+    let same : says.1 ≡ c.in_ok-token-2.field-0.text.now = same_token _ 4 _ _ (ap (λ t. slice_get t 4) says.2) c.in_ok-token-2.ensures.found in
     c.in_err-src.ensures.err r (subst (λ w. IsRegister Source w r) same says.5))
 
 pub returns-in_err-src-clause-place : goal.returns-in_err-src-clause-place

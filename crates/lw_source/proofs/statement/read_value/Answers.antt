@@ -1,13 +1,13 @@
 use Rattle.std.proofs.Common.{◌≡◌, sym, subst, arith, length, ◌≤◌}
 use Rattle.std.specs.Prelude.{codes}
-use Rattle.std.proofs.lemmas.Result.{err_from_is_err_and, IfErr-weaker}
+use Rattle.std.proofs.lemmas.Result.{err_from_is_err_and, IfOk-weaker, IfErr-weaker}
 use Rattle.lw_base.specs.declared.head.Arch.TheVariants.{Source}
 use Rattle.lw_base.specs.declared.operand.Operand.TheVariants.{Number}
 use Rattle.lw_base.specs.Names.{IsLocation}
 use Rattle.lw_base.specs.Registers.{IsRegister}
 use Rattle.lw_base.specs.Tables.{with_name}
 use Rattle.lw_source.specs.Cells.{IsOperand}
-use Rattle.lw_source.proofs.Phrases.{sets, loads, no_value, value_begins, swap_reserved, no_operand, swap_register, swap_number, register_apart, from_two, statement_cause, before_second, same_word, other_word, Fits}
+use Rattle.lw_source.proofs.Phrases.{becomes, misfit_cause, not_both, not_longer, sets, loads, no_value, value_begins, swap_reserved, no_operand, swap_register, swap_number, register_apart, from_two, statement_cause, before_second, same_word, other_word, Fits}
 use Rattle.lw_source.proofs.statement.read_value.Goals as goal
 
 pub returns-then-eq-clause-fault : goal.returns-then-eq-clause-fault
@@ -44,3 +44,28 @@ returns-in_err-loc-clause-place g c len within =
 pub returns-clause-found : goal.returns-clause-found
 returns-clause-found g c =
     loads _ _ _ c.in_ok-loc.loc c.args.dst _ _ c.requires.first.1 c.requires.sign c.in_ok-third.ensures.found c.in_ok-ends-2.ensures.ok c.requires.first.2 c.in_ok-loc.ensures.name c.in_ok-loc.ensures.names c.in_ok-loc.ensures.found
+
+pub returns-in_err-third-clause-fault : goal.returns-in_err-third-clause-fault
+returns-in_err-third-clause-fault g c =
+    let p = err_from_is_err_and c.from_residual.result c.from_residual.ensures.1 in
+    rw (p.1, p.2) (λ known s says few. not_both _ _ c.in_err-third.ensures.err (becomes _ _ c.args.dst c.requires.first.1 c.requires.first.2 s says).1)
+
+pub returns-in_err-ends-clause-fault : goal.returns-in_err-ends-clause-fault
+returns-in_err-ends-clause-fault g c =
+    let p = err_from_is_err_and c.from_residual-in_err-ends.result c.from_residual-in_err-ends.ensures.1 in
+    rw (p.1, p.2) (λ known s says few.
+    no_value _ c.in_ok-third.third.text.now (Fits _ _) (λ x d e loc l q. not_longer _ _ l c.in_err-ends.ensures.err) (λ d r x e q. other_word _ _ c.if-eq.ensures (sym e)) (λ d v is l q. not_longer _ _ l c.in_err-ends.ensures.err) (λ d l v is m q. c.in_default.ensures l is) s (value_begins _ _ c.args.dst c.requires.first.1 c.requires.first.2 _ c.in_ok-third.ensures.found s says) (says, few))
+
+pub returns-in_err-ends-2-clause-fault : goal.returns-in_err-ends-2-clause-fault
+returns-in_err-ends-2-clause-fault g c =
+    let p = err_from_is_err_and c.from_residual-in_err-ends-2.result c.from_residual-in_err-ends-2.ensures.1 in
+    rw (p.1, p.2) (λ known s says few.
+    no_value _ c.in_ok-third.third.text.now (Fits _ _) (λ x d e loc l q. not_longer _ _ l c.in_err-ends-2.ensures.err) (λ d r x e q. other_word _ _ c.if-eq.ensures (sym e)) (λ d v is l q. not_longer _ _ l c.in_err-ends-2.ensures.err) (λ d l v is m q. c.in_default.ensures l is) s (value_begins _ _ c.args.dst c.requires.first.1 c.requires.first.2 _ c.in_ok-third.ensures.found s says) (says, few))
+
+pub returns-in-Some-clause-cause : goal.returns-in-Some-clause-cause
+returns-in-Some-clause-cause g c =
+    IfErr-weaker c.read_sum.result _ _ (λ f m. misfit_cause _ _ f.at f.cause m) c.read_sum.ensures.cause
+
+pub returns-in-Some-clause-found : goal.returns-in-Some-clause-found
+returns-in-Some-clause-found g c =
+    IfOk-weaker c.read_sum.result _ _ (λ stmt read. read c.args.locs.now) c.read_sum.ensures.found

@@ -1,5 +1,5 @@
-use Rattle.std.proofs.Common.{◌≡◌, ◌∙◌}
-use Rattle.lw_source.proofs.Runs.{Ran-more, event_kept, possible}
+use Rattle.std.proofs.Common.{◌≡◌, ◌∙◌, ap}
+use Rattle.lw_source.proofs.Runs.{Ran-more, event_kept, possible, stopped}
 use Rattle.lw_source.specs.Runs.{Running, source_event}
 use Rattle.lw_source.proofs.run.SourceRun.run.Goals as goal
 
@@ -15,3 +15,9 @@ loop-done-preserved g c =
       threads = kept.0 ∙ c.loop-done.invariant.threads;
       words = kept.1 ∙ c.loop-done.invariant.words;
     }
+
+pub returns-in-Err-clause-replayed : goal.returns-in-Err-clause-replayed
+returns-in-Err-clause-replayed g c =
+    let before : Running = record { program = c.args.self.now.program; state = c.loop-done.self.state } in
+    let done = rw c.loop-done.invariant.program at c.act.ensures.done in
+    stopped (c.act.new.self ≡ before) c.args.self.now.program c.args.events.now c.index-events-done.result c.loop-done.done c.args.self.now.state c.loop-done.self.state c.act.new.self.state c.act.result c.in-Err.stop done (λ same. ap (λ (r : Running). r.state) same) c.in-Err.is c.loop-done-test.true c.index-events-done.is c.loop-done.invariant.ran

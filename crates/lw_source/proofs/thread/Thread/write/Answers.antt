@@ -7,3 +7,6 @@ set-requires g c = rw c.index.ensures.value (c.requires c.in-Store.loc (ap locat
 
 pub set-requires-in-Swap : goal.set-requires-in-Swap
 set-requires-in-Swap g c = rw c.index-in-Swap.ensures.value (c.requires c.in-Swap.loc (ap location_of c.in-Swap.is))
+
+pub returns-in-Swap : goal.returns-in-Swap
+returns-in-Swap g c = rw c.in-Swap.is (rw (c.index-in-Swap.ensures.value, c.index-in-Swap-2.ensures.value) at c.set-in-Swap.ensures)
