@@ -5,11 +5,12 @@ use Rattle.lw_base.specs.declared.stop.Stop.{Stop}
 use Rattle.lw_base.specs.declared.stop.End.TheVariants as at
 use Rattle.std.proofs.Math.Seq.{take-suc}
 use Rattle.std.proofs.Math.ListN.{length-set}
-use Rattle.std.specs.Prelude.{slice_set, slice_get, slice_index, Option, Some, None, Bool, true, false, if◌then◌else◌, nat_lt}
+use Rattle.std.specs.Prelude.{All, ◌^◌, slice_set, slice_get, slice_index, Option, Some, None, Bool, true, false, if◌then◌else◌, nat_lt}
 use Rattle.lw_base.specs.declared.event.Event.TheVariants.{Step, Drain, Evict}
 use Rattle.lw_base.specs.declared.stop.Stop.TheVariants.{NoCpu, NoLocation, BufferEmpty, NotHeld}
 use Rattle.lw_source.specs.declared.stmt.Stmt.TheVariants.{Store, Load, Swap, Set, Sum, IfEq, IfNe, Goto}
 use Rattle.lw_source.specs.declared.thread.Thread.{Thread}
+use Rattle.lw_source.specs.Sources.{IsStmt, IsThread}
 use Rattle.lw_source.specs.Statements.{value_of, thread_after, words_after}
 use Rattle.lw_base.specs.declared.event.Event.{Event}
 use Rattle.lw_source.specs.declared.stmt.Stmt.{Stmt}
@@ -114,6 +115,16 @@ the_code program t code within is =
     let e = at_index program t code within in
     let f = at_index program t [] within in
     cc
+
+-- the next statement of a thread is on the locations of the test, and stands among at most 16
+pub next_statement : (words locs : ℕ) (threads : List Thread) (program : List (List Stmt)) (t : ℕ) (th : Thread) (code : List Stmt) (stmt : Stmt) → words ≡ locs → length threads ≡ length program → All (IsThread locs) program → Some th ≡ slice_get threads t → code ≡ get_or program t code → Some stmt ≡ slice_get code th.position → IsStmt words stmt × (th.position + 1 < 2 ^ 64)
+next_statement words locs threads program t th code stmt same many whole is_thread is_code is_stmt =
+    let there = slice_get_within threads t th (sym is_thread) in
+    let here = subst (IsThread locs) (sym is_code) (whole t code (omega (arith, there, many))) in
+    let inside = slice_get_within code th.position stmt (sym is_stmt) in
+    let found = at_index code th.position stmt inside in
+    let this : get_or code th.position stmt ≡ stmt = cc in
+    (rw same (subst (IsStmt locs) this (here.there th.position stmt inside)), omega (arith, inside, here.short))
 
 made : (a b : List Thread) (u v : List ℕ) → a ≡ b → u ≡ v → (let s : State = record { threads = a; words = u } in s) ≡ record { threads = b; words = v }
 made a b u v e f = rw (e, f) refl
