@@ -19,7 +19,7 @@ use Rattle.lw_text.specs.declared.fault.TextCause.TheVariants as text
 use Rattle.lw_text.specs.declared.fault.TextFault.{TextFault}
 use Rattle.lw_source.specs.Sources.{SourceTest}
 use Rattle.lw_bench.specs.Faults.{text_fault, told_text, cell_fault, told_cell, schedule_fault, told_schedule}
-use Rattle.lw_bench.specs.Replays.{HasTest, Replayed, RefusesTest, RefusesSchedule, Refuses, Written}
+use Rattle.lw_bench.specs.Replays.{HasTest, RefusesTest, RefusesSchedule, Replays, RefusesText, Refuses, Written}
 
 -- a text's fault, which is a want of memory or says that there is no test
 module _ (bytes : List ℕ) (f : TextFault) where
@@ -81,24 +81,50 @@ module _ (input bytes : List ℕ) (is : (rest : List ℕ) × (input ≡ bytes ++
   from_whole : (test : SourceTest) → HasTest input test → HasTest bytes test
   from_whole test has = subst (λ t. HasTest t test) (sym (whole (short_bytes test has))) has
 
-pub test_refused : (known : Option (List ℕ)) (bytes words : List ℕ) (f : BenchFault) → IsInput known bytes → RefusesTest bytes f → Refuses known words f
-test_refused None bytes words f is refuses = tt
-test_refused (Some input) bytes words (Text f) is refuses = λ test has. refuses test (from_whole input bytes is test has)
-test_refused (Some input) bytes words (Cell f) is refuses = λ test has. refuses test (from_whole input bytes is test has)
-test_refused (Some input) bytes words (Schedule f) is refuses = absurd refuses
-test_refused (Some input) bytes words Memory is refuses = tt
-test_refused (Some input) bytes words Read is refuses = tt
-test_refused (Some input) bytes words Write is refuses = tt
+-- What is said of the bytes, from what is said of their test.
+pub of_test : (bytes words : List ℕ) (f : BenchFault) → RefusesTest bytes f → RefusesText bytes words f
+of_test bytes words (Text f) refuses = refuses
+of_test bytes words (Cell f) refuses = refuses
+of_test bytes words (Schedule f) refuses = absurd refuses
+of_test bytes words Memory refuses = tt
+of_test bytes words Read refuses = tt
+of_test bytes words Write refuses = tt
 
-pub schedule_refused : (known : Option (List ℕ)) (bytes words : List ℕ) (test : SourceTest) (f : BenchFault) → IsInput known bytes → HasTest bytes test → RefusesSchedule test words f → Refuses known words f
-schedule_refused None bytes words test f is has refuses = tt
-schedule_refused (Some input) bytes words test (Text f) is has refuses = absurd refuses
-schedule_refused (Some input) bytes words test (Cell f) is has refuses = absurd refuses
-schedule_refused (Some input) bytes words test (Schedule f) is has refuses = record { test = test; has_test = in_whole input bytes is test has; none = refuses }
-schedule_refused (Some input) bytes words test Memory is has refuses = tt
-schedule_refused (Some input) bytes words test Read is has refuses = tt
-schedule_refused (Some input) bytes words test Write is has refuses = tt
+pub of_schedule : (bytes words : List ℕ) (test : SourceTest) (f : BenchFault) → HasTest bytes test → RefusesSchedule test words f → RefusesText bytes words f
+of_schedule bytes words test (Text f) has refuses = absurd refuses
+of_schedule bytes words test (Cell f) has refuses = absurd refuses
+of_schedule bytes words test (Schedule f) has refuses = record { test = test; has_test = has; none = refuses }
+of_schedule bytes words test Memory has refuses = tt
+of_schedule bytes words test Read has refuses = tt
+of_schedule bytes words test Write has refuses = tt
 
-pub page_written : (known before after : Option (List ℕ)) (bytes words page : List ℕ) (test : SourceTest) (end : End) → IsInput known bytes → HasTest bytes test → Replayed test words page end → Appends before after page → Written known words before after end
-page_written None before after bytes words page test end is has replayed put = tt
-page_written (Some input) before after bytes words page test end is has replayed put = (page, record { test = test; has_test = in_whole input bytes is test has; replayed = replayed }, put)
+-- No device is spoken of.
+pub test_apart : (bytes : List ℕ) (f : BenchFault) → RefusesTest bytes f → (f ≢ Read) × (f ≢ Write)
+test_apart bytes (Text f) refuses = (λ same. cc, λ same. cc)
+test_apart bytes (Cell f) refuses = (λ same. cc, λ same. cc)
+test_apart bytes (Schedule f) refuses = absurd refuses
+test_apart bytes Memory refuses = (λ same. cc, λ same. cc)
+test_apart bytes Read refuses = absurd refuses
+test_apart bytes Write refuses = absurd refuses
+
+pub schedule_apart : (test : SourceTest) (words : List ℕ) (f : BenchFault) → RefusesSchedule test words f → (f ≢ Read) × (f ≢ Write)
+schedule_apart test words (Text f) refuses = absurd refuses
+schedule_apart test words (Cell f) refuses = absurd refuses
+schedule_apart test words (Schedule f) refuses = (λ same. cc, λ same. cc)
+schedule_apart test words Memory refuses = (λ same. cc, λ same. cc)
+schedule_apart test words Read refuses = absurd refuses
+schedule_apart test words Write refuses = absurd refuses
+
+-- What is said of the input, from what is said of the bytes of it that were read.
+pub text_refused : (known : Option (List ℕ)) (bytes words : List ℕ) (f : BenchFault) → IsInput known bytes → RefusesText bytes words f → Refuses known words f
+text_refused None bytes words f is refuses = tt
+text_refused (Some input) bytes words (Text f) is refuses = λ test has. refuses test (from_whole input bytes is test has)
+text_refused (Some input) bytes words (Cell f) is refuses = λ test has. refuses test (from_whole input bytes is test has)
+text_refused (Some input) bytes words (Schedule f) is refuses = record { test = refuses.test; has_test = in_whole input bytes is refuses.test refuses.has_test; none = refuses.none }
+text_refused (Some input) bytes words Memory is refuses = tt
+text_refused (Some input) bytes words Read is refuses = tt
+text_refused (Some input) bytes words Write is refuses = tt
+
+pub page_written : (known before after : Option (List ℕ)) (bytes words page : List ℕ) (end : End) → IsInput known bytes → Replays bytes words page end → Appends before after page → Written known words before after end
+page_written None before after bytes words page end is replays put = tt
+page_written (Some input) before after bytes words page end is replays put = (page, record { test = replays.test; has_test = in_whole input bytes is replays.test replays.has_test; replayed = replays.replayed }, put)

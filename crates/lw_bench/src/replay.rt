@@ -2,7 +2,7 @@
 ghost use Rattle.std.specs.Prelude.{◌≡◌, ◌≢◌, ◌↔◌, true, false, Err, IfOk, IfErr};
 ghost use Rattle.std.specs.String.{string_bytes};
 ghost use Rattle.lw_source.specs.Views.{source_of};
-ghost use Rattle.lw_bench.specs.Replays.{HasTest, Replayed, RefusesTest, RefusesSchedule, Written, Refuses};
+ghost use Rattle.lw_bench.specs.Replays.{HasTest, Replayed, RefusesTest, RefusesSchedule, Replays, RefusesText, Written, Refuses};
 
 use crate::device::{ByteReader, ByteWriter, Failed};
 use crate::fault::BenchFault;
@@ -41,6 +41,20 @@ fn page_of<A: Allocator + Copy>(
     Ok((page, replay.end))
 }
 
+/// The page that tells of the replay by a schedule of the test that the bytes are, and how it ended.
+fn page_of_text<A: Allocator + Copy>(
+    alloc: A,
+    text: &[u8],
+    schedule: &str,
+) -> Result<(String<A>, End), BenchFault>
+    ensures found { IfOk result (λ x. Replays text.now schedule.now (string_bytes x.0) x.1) }
+    ensures fault { IfErr result (RefusesText text.now schedule.now) }
+    ensures device { IfErr result (λ f. (f ≢ BenchFault.Read) × (f ≢ BenchFault.Write)) }
+{
+    let source = read_test(alloc, text)?;
+    page_of(alloc, &source, schedule)
+}
+
 /// Replays the test that the reader gives by a schedule, and writes the page that tells of it.
 ///
 /// The test is read whole first: its text, then its cells, then the schedule against its names. The
@@ -65,8 +79,7 @@ pub fn replay_text<R: ByteReader, W: ByteWriter, A: Allocator + Copy>(
     ensures untouched { IfErr result (λ f. f ≢ BenchFault.Write → writer.new ≡ writer.old) }
 {
     let text = read_input(alloc, reader)?;
-    let source = read_test(alloc, text.as_slice())?;
-    let (page, end) = page_of(alloc, &source, schedule)?;
+    let (page, end) = page_of_text(alloc, text.as_slice(), schedule)?;
     match write_output(writer, page.as_bytes()) {
         Ok(()) => Ok(end),
         Err(Failed) => Err(BenchFault::Write),
