@@ -1,5 +1,5 @@
 -- The text of a replay, one part more.
-use Rattle.std.proofs.Common.{◌≡◌, ℕ, zero, suc, ◌<◌, ◌+◌, Some, List, [], ◌∷◌, ◌++◌, length, map, drop, slice_get, refl, sym, ap, ◌∙◌, append_assoc, arith}
+use Rattle.std.proofs.Common.{◌≡◌, ℕ, zero, suc, ◌<◌, ◌+◌, Some, List, [], ◌∷◌, ◌++◌, length, map, drop, slice_get, refl, sym, ap, ◌∙◌, append_assoc, codes, Result, Ok, Err, OnOk, arith}
 use Rattle.std.specs.Prelude.{slice_index}
 use Rattle.std.specs.Option.{option_map}
 use Rattle.std.specs.Fmt.{decimal}
@@ -8,9 +8,13 @@ use Rattle.std.proofs.lemmas.Grind.{flat_map-append}
 use Rattle.std.proofs.lemmas.Option.{slice_get-map, slice_get_within, get_or_from_slice_get}
 use Rattle.std.proofs.Math.Seq.{drop-cons}
 use Rattle.lw_base.specs.declared.head.Arch.{Arch}
+use Rattle.lw_base.specs.declared.stop.Stop.{Stop}
+use Rattle.lw_base.specs.declared.stop.End.{End}
+use Rattle.lw_base.specs.declared.stop.End.TheVariants.{Stopped}
 use Rattle.lw_base.specs.Registers.{register_name}
+use Rattle.lw_base.specs.Stops.{stop_number, stop_name}
 use Rattle.lw_source.specs.declared.thread.Thread.{Thread}
-use Rattle.lw_bench.specs.Pages.{spaced, assignment, registers, thread_line, thread_lines, memory_parts}
+use Rattle.lw_bench.specs.Pages.{spaced, line, assignment, registers, thread_line, thread_lines, memory_parts, end_parts}
 
 drop_at : {X : Type 0} (xs : List X) (k : ℕ) (x : X) → slice_get xs k ≡ Some x → drop k xs ≡ x ∷ drop (k + 1) xs
 drop_at xs k x at =
@@ -71,3 +75,33 @@ threads_more arch threads k out new goal within before written =
     let parts : thread_lines arch k (drop k threads) ≡ thread_line arch k here.0 ++ rest =
     ap (thread_lines arch k) (drop_at threads k here.0 here.1) ∙ ap (λ (n : ℕ). thread_line arch k here.0 ++ thread_lines arch n (drop (k + 1) threads)) next in
     ap (λ t. t ++ rest) (written here.0 here.1) ∙ append_assoc out (thread_line arch k here.0) rest ∙ ap (λ t. out ++ t) (sym parts) ∙ before
+
+-- a line of one part
+line_one : (word part : List ℕ) → word ++ (32 ∷ (part ++ 10 ∷ [])) ≡ line word (part ∷ [])
+line_one word part = ap (λ t. word ++ (t ++ 10 ∷ [])) (sym (append-nil (32 ∷ part)))
+
+in_turn : (a b c d e : List ℕ) → (((a ++ b) ++ c) ++ d) ++ e ≡ a ++ (b ++ (c ++ (d ++ e)))
+in_turn a b c d e = simp append_assoc
+
+-- the parts of a page, one behind another
+pub page_made : (name done ends threads memory begun named stepped ended listed page : List ℕ) → begun ≡ [] → named ≡ begun ++ (codes "Test" ++ (32 ∷ (name ++ 10 ∷ []))) → stepped ≡ named ++ (codes "Steps" ++ (32 ∷ (done ++ 10 ∷ []))) → ended ≡ stepped ++ ends → listed ≡ ended ++ threads → page ≡ listed ++ memory → page ≡ line (codes "Test") (name ∷ []) ++ (line (codes "Steps") (done ∷ []) ++ (ends ++ (threads ++ memory)))
+page_made name done ends threads memory begun named stepped ended listed page e0 e1 e2 e3 e4 e5 =
+    let test = line (codes "Test") (name ∷ []) in
+    let steps = line (codes "Steps") (done ∷ []) in
+    let first : named ≡ test = e1 ∙ ap (λ t. t ++ (codes "Test" ++ (32 ∷ (name ++ 10 ∷ [])))) e0 ∙ line_one (codes "Test") name in
+    let second : stepped ≡ test ++ steps = e2 ∙ ap (λ t. t ++ (codes "Steps" ++ (32 ∷ (done ++ 10 ∷ [])))) first ∙ ap (λ t. test ++ t) (line_one (codes "Steps") done) in
+    e5 ∙ ap (λ t. t ++ memory) (e4 ∙ ap (λ t. t ++ threads) (e3 ∙ ap (λ t. t ++ ends) second)) ∙ in_turn test steps ends threads memory
+
+stop_line : (done number name : List ℕ) → codes "End Stopped at " ++ (done ++ (codes " by " ++ (number ++ (32 ∷ (name ++ 10 ∷ []))))) ≡ line (codes "End") (codes "Stopped" ∷ codes "at" ∷ done ∷ codes "by" ∷ number ∷ name ∷ [])
+stop_line done number name =
+    let last = 32 ∷ (name ++ []) in
+    let by = codes " by " ++ (number ++ last) in
+    sym (ap (λ t. codes "End Stopped at " ++ t) (append_assoc done by (10 ∷ []) ∙ ap (λ t. done ++ (codes " by " ++ t)) (append_assoc number last (10 ∷ []) ∙ ap (λ t. number ++ (32 ∷ (t ++ 10 ∷ []))) (append-nil name))))
+
+-- how a replay stopped
+pub stop_told : {T E : Type 0} (answer : Result T E) (out new : List ℕ) (done number : ℕ) (name : List ℕ) (stop : Stop) (end : End) → end ≡ Stopped stop → number ≡ stop_number stop → name ≡ stop_name stop → OnOk answer (new ≡ out ++ (codes "End Stopped at " ++ (decimal done ++ (codes " by " ++ (decimal number ++ (32 ∷ (name ++ 10 ∷ []))))))) → OnOk answer (new ≡ out ++ line (codes "End") (end_parts done end))
+stop_told (Err x) out new done number name stop end e n m told = tt
+stop_told (Ok x) out new done number name stop end e n m told =
+    let whole : codes "End Stopped at " ++ (decimal done ++ (codes " by " ++ (decimal number ++ (32 ∷ (name ++ 10 ∷ []))))) ≡ line (codes "End") (end_parts done end) =
+    rw (e, n, m) (stop_line (decimal done) (decimal (stop_number stop)) (stop_name stop)) in
+    told ∙ ap (λ t. out ++ t) whole
