@@ -1,5 +1,5 @@
 -- What faults say of a test and of a schedule.
-use Rattle.std.proofs.Common.{◌≡◌, ◌≢◌, ◌≤◌, ◌⊎◌, inl, inr, ℕ, Option, Some, None, List, [], ◌++◌, length, sym, ap, ◌∙◌, subst, length-append, arith}
+use Rattle.std.proofs.Common.{◌≡◌, ◌≢◌, ◌≤◌, ◌⊎◌, inl, inr, ℕ, Option, Some, None, List, [], ◌++◌, length, sym, ap, ◌∙◌, subst, length-append, Result, Err, arith}
 use Rattle.std.proofs.lemmas.List.{append-nil}
 use Rattle.std.specs.Io.KnownBytes.{Appends}
 use Rattle.lw_base.specs.declared.stop.End.{End}
@@ -128,3 +128,6 @@ text_refused (Some input) bytes words Write is refuses = tt
 pub page_written : (known before after : Option (List ℕ)) (bytes words page : List ℕ) (end : End) → IsInput known bytes → Replays bytes words page end → Appends before after page → Written known words before after end
 page_written None before after bytes words page end is replays put = tt
 page_written (Some input) before after bytes words page end is replays put = (page, record { test = replays.test; has_test = in_whole input bytes is replays.test replays.has_test; replayed = replays.replayed }, put)
+
+pub err_is : {T E : Type 0} {a b : E} → (let e : Result T E = Err a in e) ≡ Err b → a ≡ b
+err_is same = cc
