@@ -1,6 +1,5 @@
-use Rattle.std.proofs.Common.{◌∷◌, ◌∙◌, ap, length, arith, length-append}
+use Rattle.std.proofs.Common.{◌∙◌, ap, length, arith}
 use Rattle.std.proofs.lemmas.Result.{err_from_is_err_and}
-use Rattle.lw_text.specs.Views.{remaining}
 use Rattle.lw_text.proofs.cursor.Cursor.cell.Goals as goal
 
 pub returns-in_err-token-clause-place : goal.returns-in_err-token-clause-place

@@ -1,6 +1,5 @@
 use Rattle.std.proofs.Common.{◌∙◌, sym}
 use Rattle.std.proofs.lemmas.Result.{err_from_is_err_and}
-use Rattle.lw_text.specs.Views.{left}
 use Rattle.lw_text.proofs.PropositionRows.{sign_refused, begins_wrong, no_room}
 use Rattle.lw_text.proofs.cursor.Cursor.next_sign.Goals as goal
 
