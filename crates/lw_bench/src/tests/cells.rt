@@ -80,10 +80,10 @@ SRC A {} P0; L : L : 2; exists (x=1) => lw: cell 4 LabelTwice at 17
 
 /// Statements of several rows.
 const ROWS: &str = "
-SRC G${}$ P0 ;$ r9 := 1 ;$exists (x=1)$ => lw: cell 2 Register at 16
-SRC G${}$ P0 ;$ x + 1 ;$exists (x=1)$ => lw: cell 1 Form at 18
-SRC G${}$ P0 ;$ goto L ;$exists (x=1)$ => lw: cell 3 LabelMissing at 21
-SRC G${}$ P0 ;$ L: L: ;$exists (x=1)$ => lw: cell 4 LabelTwice at 19
+SRC G${}$ P0 ;$ r9 := 1 ;$exists (true) => lw: cell 2 Register at 16
+SRC G${}$ P0 ;$ x + 1 ;$exists (true) => lw: cell 1 Form at 18
+SRC G${}$ P0 ;$ goto L ;$exists (true) => lw: cell 3 LabelMissing at 21
+SRC G${}$ P0 ;$ L: L: ;$exists (true) => lw: cell 4 LabelTwice at 19
 SRC G${}$ P0 ;$ L: x := 1 ;$ L: ;$exists (x=1)$ => lw: cell 4 LabelTwice at 29
 SRC G${}$ P0 ;$ L: x := 1 ;$ goto L ;$exists (x=1)$ => lw: cell 5 Backward at 34
 SRC G${}$ P0 ;$ L: goto L ;$exists (x=1)$ => lw: cell 5 Backward at 24

@@ -9,6 +9,7 @@ const STORE_BUFFERING_RUNS: &str = "
 P0 P0 P1 P1 => Test SB$Steps 4$End Final$P0 at 2 r0=0 r1=0 r2=0 r3=0 r4=0 r5=0$P1 at 2 r0=1 r1=0 r2=0 r3=0 r4=0 r5=0$Memory x=1 y=1$
 P1 P1 P0 P0 => Test SB$Steps 4$End Final$P0 at 2 r0=1 r1=0 r2=0 r3=0 r4=0 r5=0$P1 at 2 r0=0 r1=0 r2=0 r3=0 r4=0 r5=0$Memory x=1 y=1$
 P0 P1 P0 => Test SB$Steps 3$End NotFinal$P0 at 2 r0=1 r1=0 r2=0 r3=0 r4=0 r5=0$P1 at 1 r0=0 r1=0 r2=0 r3=0 r4=0 r5=0$Memory x=1 y=1$
+ => Test SB$Steps 0$End NotFinal$P0 at 0 r0=0 r1=0 r2=0 r3=0 r4=0 r5=0$P1 at 0 r0=0 r1=0 r2=0 r3=0 r4=0 r5=0$Memory x=0 y=0$
  \t\r => Test SB$Steps 0$End NotFinal$P0 at 0 r0=0 r1=0 r2=0 r3=0 r4=0 r5=0$P1 at 0 r0=0 r1=0 r2=0 r3=0 r4=0 r5=0$Memory x=0 y=0$
 D0 => Test SB$Steps 0$End Stopped at 0 by 6 BufferEmpty$P0 at 0 r0=0 r1=0 r2=0 r3=0 r4=0 r5=0$P1 at 0 r0=0 r1=0 r2=0 r3=0 r4=0 r5=0$Memory x=0 y=0$
 P0 D0 P1 => Test SB$Steps 1$End Stopped at 1 by 6 BufferEmpty$P0 at 1 r0=0 r1=0 r2=0 r3=0 r4=0 r5=0$P1 at 0 r0=0 r1=0 r2=0 r3=0 r4=0 r5=0$Memory x=1 y=0$
