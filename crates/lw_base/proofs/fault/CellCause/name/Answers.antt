@@ -1,0 +1,5 @@
+use Rattle.std.proofs.Common.{refl}
+use Rattle.lw_base.proofs.fault.CellCause.name.Goals as goal
+
+pub returns-in-LabelTwice : goal.returns-in-LabelTwice
+returns-in-LabelTwice c = rw c.in-LabelTwice.is refl

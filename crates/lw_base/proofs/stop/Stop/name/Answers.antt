@@ -1,0 +1,5 @@
+use Rattle.std.proofs.Common.{refl}
+use Rattle.lw_base.proofs.stop.Stop.name.Goals as goal
+
+pub returns-in-NotHeld : goal.returns-in-NotHeld
+returns-in-NotHeld c = rw c.in-NotHeld.is refl
