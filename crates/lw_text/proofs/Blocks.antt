@@ -16,7 +16,7 @@ use Rattle.lw_text.proofs.Entries.{IsEntry-unique, brace, semicolon, brace_unlik
 use Rattle.lw_text.proofs.Lists.{Ended-unique}
 use Rattle.lw_text.proofs.NameTables.{entry-along}
 use Rattle.lw_text.proofs.Readings.{Read, read_none, read_more, read_last, read_end, read_none_here, read_no_mark, names_are_more, within_more}
-use Rattle.lw_text.proofs.Texts.{is_text, is_no_text}
+use Rattle.lw_text.proofs.Texts.{is_no_text}
 
 abbrev site_of : Made → MadeSite
 site_of e = e.site
@@ -34,7 +34,8 @@ EntriesRead first names start here es = Read IsEntry brace site_of named_entry s
 pub entries_none : (names start : List (List ℕ)) → EntriesRead names names start start []
 entries_none names start = read_none IsEntry brace site_of named_entry said_of same entry-along names start
 
-ended : (ts start : List (List ℕ)) (all : List Entry) (rest : List (List ℕ)) → ts ≡ codes "{" ∷ start → Block ts all rest → Ended IsEntry semicolon brace start all rest
+-- behind the `{`
+pub ended : (ts start : List (List ℕ)) (all : List Entry) (rest : List (List ℕ)) → ts ≡ codes "{" ∷ start → Block ts all rest → Ended IsEntry semicolon brace start all rest
 ended ts start all rest head block =
     let f = block.1 in
     let i : block.0 ≡ start = cc in
@@ -45,31 +46,27 @@ all_unit [] = tt
 all_unit (e ∷ all) = (tt, all_unit all)
 
 -- whether a word is next
-pub word_next : (w : List ℕ) (ts : List (List ℕ)) (t : List ℕ) (l : List (List ℕ)) → begins_word w ts ≡ true → ts ≡ t ∷ l → ts ≡ w ∷ l
-word_next w ts t l h e = e ∙ ap (λ x. x ∷ l) (is_text t w (ap (begins_word w) (sym e) ∙ h))
-
 pub no_word_next : (w : List ℕ) (ts l : List (List ℕ)) → begins_word w ts ≡ false → ts ≡ w ∷ l → ⊥
 no_word_next w ts l h e = is_no_text w w (ap (begins_word w) (sym e) ∙ h) refl
 
 module _ (first names start here : List (List ℕ)) (es : List Made) (read : EntriesRead first names start here es) where
-  pub entries_end : (ts : List (List ℕ)) (t : List ℕ) (rest : List (List ℕ)) → ts ≡ codes "{" ∷ start → begins_word brace here ≡ true → here ≡ t ∷ rest → Block ts (map (named_entry names) es) rest
-  entries_end ts t rest head h e = (start, head, read_end IsEntry brace site_of named_entry said_of same entry-along first names start here es rest read (word_next brace here t rest h e))
+  pub entries_end : (rest : List (List ℕ)) → here ≡ brace ∷ rest → Ended IsEntry semicolon brace start (map (named_entry names) es) rest
+  entries_end rest e = read_end IsEntry brace site_of named_entry said_of same entry-along first names start here es rest read e
 
   pub entries_in : All (λ e. IsIn names e.site) es
   entries_in = All-from_recursion (λ e. IsIn names e.site) es read.within
 
   -- no entry stands here
-  pub entries_fault : (ts : List (List ℕ)) → ts ≡ codes "{" ∷ start → begins_word brace here ≡ false → ((e : Entry) (rest : List (List ℕ)) → IsEntry here e rest → length (with_names names (site_names (e.site ∷ []))) ≤ 8 → ⊥) → (all : List Entry) (rest : List (List ℕ)) → Block ts all rest → length (with_names first (site_names (map (λ e. e.site) all))) ≤ 8 → ⊥
-  entries_fault ts head h never all rest block few =
-      read_none_here IsEntry brace site_of named_entry said_of same entry-along IsEntry-unique brace_apart brace_unlike first names start here es read (λ e. Unit {0}) (λ l. no_word_next brace here l h) (λ e rest p none few. never e rest p few) all rest
-      (ended ts start all rest head block) (all_unit all) few
+  pub entries_fault : begins_word brace here ≡ false → ((e : Entry) (rest : List (List ℕ)) → IsEntry here e rest → length (with_names names (site_names (e.site ∷ []))) ≤ 8 → ⊥) → (all : List Entry) (rest : List (List ℕ)) → Ended IsEntry semicolon brace start all rest → length (with_names first (site_names (map (λ e. e.site) all))) ≤ 8 → ⊥
+  entries_fault h never all rest e few =
+      read_none_here IsEntry brace site_of named_entry said_of same entry-along IsEntry-unique brace_apart brace_unlike first names start here es read (λ e. Unit {0}) (λ l. no_word_next brace here l h) (λ e rest p none few. never e rest p few) all rest e (all_unit all) few
 
   module _ (after : List (List ℕ)) (e : Made) (grows : after ≡ with_names names (site_names (named after e.site ∷ []))) (is_in : IsIn after e.site) (mid : List (List ℕ)) (entry : IsEntry here (named_entry after e) mid) where
     pub entries_more : (next : List (List ℕ)) → mid ≡ semicolon ∷ next → EntriesRead first after start next (es ++ e ∷ [])
     entries_more next f = read_more IsEntry brace site_of named_entry said_of same entry-along first names start here es read after e grows is_in mid next entry f
 
-    pub entries_last : (ts rest : List (List ℕ)) → ts ≡ codes "{" ∷ start → mid ≡ brace ∷ rest → Block ts (map (named_entry after) (es ++ e ∷ [])) rest
-    entries_last ts rest head f = (start, head, read_last IsEntry brace site_of named_entry said_of same entry-along first names start here es read after e grows is_in mid rest entry f)
+    pub entries_last : (rest : List (List ℕ)) → mid ≡ brace ∷ rest → Ended IsEntry semicolon brace start (map (named_entry after) (es ++ e ∷ [])) rest
+    entries_last rest f = read_last IsEntry brace site_of named_entry said_of same entry-along first names start here es read after e grows is_in mid rest entry f
 
     pub entries_names : after ≡ with_names first (site_names (map (λ e. named after e.site) (es ++ e ∷ [])))
     entries_names = names_are_more IsEntry brace site_of named_entry said_of same entry-along first names start here es read after e grows is_in
@@ -77,8 +74,8 @@ module _ (first names start here : List (List ℕ)) (es : List Made) (read : Ent
     pub entries_within : All (λ e. IsIn after e.site) (es ++ e ∷ [])
     entries_within = All-from_recursion (λ e. IsIn after e.site) (es ++ e ∷ []) (within_more IsEntry brace site_of named_entry said_of same entry-along first names start here es read after e grows is_in)
 
-    pub entries_mark : (ts : List (List ℕ)) → ts ≡ codes "{" ∷ start → ((l : List (List ℕ)) → mid ≡ semicolon ∷ l → ⊥) → ((l : List (List ℕ)) → mid ≡ brace ∷ l → ⊥) → (all : List Entry) (rest : List (List ℕ)) → Block ts all rest → ⊥
-    entries_mark ts head no_sep no_close all rest block = read_no_mark IsEntry brace site_of named_entry said_of same entry-along IsEntry-unique brace_apart brace_unlike first names start here es read (named_entry after e) mid entry no_sep no_close all rest (ended ts start all rest head block)
+    pub entries_mark : ((l : List (List ℕ)) → mid ≡ semicolon ∷ l → ⊥) → ((l : List (List ℕ)) → mid ≡ brace ∷ l → ⊥) → (all : List Entry) (rest : List (List ℕ)) → Ended IsEntry semicolon brace start all rest → ⊥
+    entries_mark no_sep no_close all rest all_ended = read_no_mark IsEntry brace site_of named_entry said_of same entry-along IsEntry-unique brace_apart brace_unlike first names start here es read (named_entry after e) mid entry no_sep no_close all rest all_ended
 
 pub IsEntry-shorter : (ts rest : List (List ℕ)) (e : Entry) → IsEntry ts e rest → length rest < length ts
 IsEntry-shorter ts rest e p = omega (arith, IsSite-shorter ts p.0 e.site p.1, Value-shorter p.0 rest e.word p.2)

@@ -10,7 +10,7 @@ use Rattle.lw_text.specs.declared.block.Entry.{Entry as MadeEntry}
 use Rattle.lw_text.specs.Rows.{Header, Rows}
 use Rattle.lw_text.specs.Sites.{IsThere, site_names}
 use Rattle.lw_text.specs.Propositions.{Sign, is_node}
-use Rattle.lw_text.specs.Conditions.{Claim, Listed, Quantified, Signs, sites_in}
+use Rattle.lw_text.specs.Conditions.{Claim, Listed, Quantified, Signs, Condition, sites_in}
 use Rattle.lw_text.specs.Frames.{Block, Said, table, Parts}
 use Rattle.lw_text.specs.Placed.{named, named_entry, is_there, IsIn}
 use Rattle.lw_text.proofs.Elements.{each_of}
@@ -28,56 +28,74 @@ pub record Agrees (ts last : List (List ℕ)) (es : List MadeEntry) (n : ℕ) (r
   pub entries_in : All (λ e. IsIn last e.site) es
   pub listed_in : All (IsIn last) ss
 
+-- a condition, read part by part with a table that grew
+module _ (threads : ℕ) (ts d e : List (List ℕ)) (first names last : List (List ℕ)) (ss : List MadeSite) (quant : Quant) (signs : List (Sign Claim))
+    (lists : Listed ts (map (named names) ss) d)
+    (there : AllByRecursion (IsThere threads) (map (named names) ss))
+    (is_names : names ≡ with_names first (site_names (map (named names) ss)))
+    (ss_in : All (IsIn names) ss)
+    (quantifies : Quantified d quant e)
+    (says : Signs threads e signs)
+    (is_last : last ≡ with_names names (site_names (sites_in signs))) where
+  listed_last : map (named last) ss ≡ map (named names) ss
+  listed_last = ap (λ ns. map (named ns) ss) is_last ∙ all_at-along (λ s. s) named named-along names (site_names (sites_in signs)) ss (each_of ss (IsIn names) ss_in)
+
+  pub is_condition : Condition threads ts (map (named last) ss) quant signs
+  is_condition =
+      record {
+        behind_list = d;
+        behind_quant = e;
+        lists = subst (λ l. Listed ts l d) (sym listed_last) lists;
+        there = subst (AllByRecursion (IsThere threads)) (sym listed_last) there;
+        quantifies = quantifies;
+        says = says;
+      }
+
+  pub condition_names : last ≡ with_names (with_names first (site_names (map (named last) ss))) (site_names (sites_in signs))
+  condition_names =
+      is_last
+      ∙ ap (λ ns. with_names ns (site_names (sites_in signs))) is_names
+      ∙ ap (λ l. with_names (with_names first (site_names l)) (site_names (sites_in signs))) (sym listed_last)
+
+  pub condition_in : All (IsIn last) ss
+  condition_in = All-from_recursion (IsIn last) ss (subst (λ ns. AllByRecursion (IsIn ns) ss) (sym is_last) (all_in-along (λ s. s) named named-along names (site_names (sites_in signs)) ss (each_of ss (IsIn names) ss_in)))
+
 -- the parts of a text, read one after another with a table that grew
-module _ (ts a b c d e : List (List ℕ)) (first names last : List (List ℕ)) (es : List MadeEntry) (n : ℕ) (rows : List (List (List (List ℕ)))) (ss : List MadeSite) (quant : Quant) (signs : List (Sign Claim))
+module _ (ts a b c : List (List ℕ)) (first last : List (List ℕ)) (es : List MadeEntry) (n : ℕ) (rows : List (List (List (List ℕ)))) (ss : List MadeSite) (quant : Quant) (signs : List (Sign Claim))
     (block : Block ts (map (named_entry first) es) a)
     (is_first : first ≡ with_names [] (site_names (map (λ e. named first e.site) es)))
     (es_in : All (λ e. IsIn first e.site) es)
     (header : Header a n b)
     (there : list_all (λ e. is_there n e.site) es ≡ true)
     (are_rows : Rows n b rows c)
-    (lists : Listed c (map (named names) ss) d)
-    (listed_there : AllByRecursion (IsThere n) (map (named names) ss))
-    (is_names : names ≡ with_names first (site_names (map (named names) ss)))
-    (ss_in : All (IsIn names) ss)
-    (quantifies : Quantified d quant e)
-    (says : Signs n e signs)
-    (is_last : last ≡ with_names names (site_names (sites_in signs)))
+    (condition : Condition n c (map (named last) ss) quant signs)
+    (is_last : last ≡ with_names (with_names first (site_names (map (named last) ss))) (site_names (sites_in signs)))
+    (ss_in : All (IsIn last) ss)
     (few : length last ≤ 8)
     (nodes : length (filter is_node signs) ≤ 256) where
-  -- the first names, and then all names behind them
-  last_behind : last ≡ with_names (with_names first (site_names (map (named names) ss))) (site_names (sites_in signs))
-  last_behind = is_last ∙ ap (λ ns. with_names ns (site_names (sites_in signs))) is_names
-
-  es_names : with_names first (site_names (map (named names) ss)) ≡ names
-  es_names = sym is_names
+  -- the names of the block and of the list
+  abbrev names : List (List ℕ)
+  names = with_names first (site_names (map (named last) ss))
 
   entries_mid : map (named_entry names) es ≡ map (named_entry first) es
-  entries_mid = ap (λ ns. map (named_entry ns) es) is_names ∙ all_at-along (λ e. e.site) named_entry entry-along first (site_names (map (named names) ss)) es (each_of es (λ e. IsIn first e.site) es_in)
+  entries_mid = all_at-along (λ e. e.site) named_entry entry-along first (site_names (map (named last) ss)) es (each_of es (λ e. IsIn first e.site) es_in)
 
   entries_in_mid : AllByRecursion (λ e. IsIn names e.site) es
-  entries_in_mid = subst (λ ns. AllByRecursion (λ e. IsIn ns e.site) es) es_names (all_in-along (λ e. e.site) named_entry entry-along first (site_names (map (named names) ss)) es (each_of es (λ e. IsIn first e.site) es_in))
+  entries_in_mid = all_in-along (λ e. e.site) named_entry entry-along first (site_names (map (named last) ss)) es (each_of es (λ e. IsIn first e.site) es_in)
 
   entries_last : map (named_entry last) es ≡ map (named_entry first) es
   entries_last = ap (λ ns. map (named_entry ns) es) is_last ∙ all_at-along (λ e. e.site) named_entry entry-along names (site_names (sites_in signs)) es entries_in_mid ∙ entries_mid
 
-  listed_last : map (named last) ss ≡ map (named names) ss
-  listed_last = ap (λ ns. map (named ns) ss) is_last ∙ all_at-along (λ s. s) named named-along names (site_names (sites_in signs)) ss (each_of ss (IsIn names) ss_in)
-
   all_entries_in : All (λ e. IsIn last e.site) es
   all_entries_in = All-from_recursion (λ e. IsIn last e.site) es (subst (λ ns. AllByRecursion (λ e. IsIn ns e.site) es) (sym is_last) (all_in-along (λ e. e.site) named_entry entry-along names (site_names (sites_in signs)) es entries_in_mid))
-
-  all_listed_in : All (IsIn last) ss
-  all_listed_in = All-from_recursion (IsIn last) ss (subst (λ ns. AllByRecursion (IsIn ns) ss) (sym is_last) (all_in-along (λ s. s) named named-along names (site_names (sites_in signs)) ss (each_of ss (IsIn names) ss_in)))
 
   abbrev all_said : Said
   all_said = said_by last es n rows ss quant signs
 
   last_table : last ≡ table all_said
   last_table =
-      last_behind
-      ∙ ap (λ ns. with_names (with_names ns (site_names (map (named names) ss))) (site_names (sites_in signs))) (first_names ts a first es block is_first ∙ ap (λ l. with_names [] (site_names (block_sites l))) (sym entries_last))
-      ∙ ap (λ l. with_names (with_names (with_names [] (site_names (block_sites (map (named_entry last) es)))) (site_names l)) (site_names (sites_in signs))) (sym listed_last)
+      is_last
+      ∙ ap (λ ns. with_names (with_names ns (site_names (map (named last) ss))) (site_names (sites_in signs))) (first_names ts a first es block is_first ∙ ap (λ l. with_names [] (site_names (block_sites l))) (sym entries_last))
       ∙ sym (table_parts all_said)
 
   all_parts : Parts ts all_said
@@ -90,17 +108,10 @@ module _ (ts a b c d e : List (List ℕ)) (first names last : List (List ℕ)) (
         header = header;
         there = subst (λ l. AllByRecursion (λ e. IsThere n e.site) l) (sym entries_last) (all_there n first es there);
         rows = are_rows;
-        condition = record {
-          behind_list = d;
-          behind_quant = e;
-          lists = subst (λ l. Listed c l d) (sym listed_last) lists;
-          there = subst (AllByRecursion (IsThere n)) (sym listed_last) listed_there;
-          quantifies = quantifies;
-          says = says;
-        };
+        condition = condition;
         few_names = omega (arith, few, ap length last_table);
         few_nodes = nodes;
       }
 
   pub agrees : Agrees ts last es n rows ss quant signs
-  agrees = record { parts = all_parts; names_are = last_table; entries_in = all_entries_in; listed_in = all_listed_in }
+  agrees = record { parts = all_parts; names_are = last_table; entries_in = all_entries_in; listed_in = ss_in }

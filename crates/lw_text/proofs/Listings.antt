@@ -10,7 +10,7 @@ use Rattle.lw_text.specs.Sites.{Site, IsSite, IsThere, site_names}
 use Rattle.lw_text.specs.Conditions.{begins_word, Listed}
 use Rattle.lw_text.specs.Placed.{named, IsIn}
 use Rattle.lw_text.proofs.Atoms.{IsSite-unique}
-use Rattle.lw_text.proofs.Blocks.{word_next, no_word_next}
+use Rattle.lw_text.proofs.Blocks.{no_word_next}
 use Rattle.lw_text.proofs.Entries.{bracket, semicolon, bracket_unlike, bracket_apart}
 use Rattle.lw_text.proofs.Lists.{Ended-unique}
 use Rattle.lw_text.proofs.NameTables.{named-along}
@@ -35,55 +35,52 @@ sites_none threads names start = record { sites = read_none IsSite bracket the_s
 
 -- behind `locations [`
 module _ (ts behind start : List (List ℕ)) (word : ts ≡ codes "locations" ∷ behind) (mark : behind ≡ codes "[" ∷ start) where
-  ended : (all : List Site) (rest : List (List ℕ)) → Listed ts all rest → Ended IsSite semicolon bracket start all rest
+  pub ended : (all : List Site) (rest : List (List ℕ)) → Listed ts all rest → Ended IsSite semicolon bracket start all rest
   ended all rest (inl p) = let f = p.1 in let i : p.0 ≡ start = cc in subst (λ l. Ended IsSite semicolon bracket l all rest) i p.2
   ended all rest (inr p) = absurd (no_word_next (codes "locations") ts behind p.0 word)
 
-  listed : (all : List Site) (rest : List (List ℕ)) → Ended IsSite semicolon bracket start all rest → Listed ts all rest
+  pub listed : (all : List Site) (rest : List (List ℕ)) → Ended IsSite semicolon bracket start all rest → Listed ts all rest
   listed all rest e = inl (start, word ∙ ap (λ l. codes "locations" ∷ l) mark, e)
 
-  module _ (threads : ℕ) (first names here : List (List ℕ)) (ss : List Made) (read : SitesRead threads first names start here ss) where
-    pub sites_end : (t : List ℕ) (rest : List (List ℕ)) → begins_word bracket here ≡ true → here ≡ t ∷ rest → Listed ts (map (named names) ss) rest
-    sites_end t rest h e = listed (map (named names) ss) rest (read_end IsSite bracket the_site named the_said same named-along first names start here ss rest read.sites (word_next bracket here t rest h e))
+-- behind the `[`
+module _ (threads : ℕ) (first names start here : List (List ℕ)) (ss : List Made) (read : SitesRead threads first names start here ss) where
+  pub sites_end : (rest : List (List ℕ)) → here ≡ bracket ∷ rest → Ended IsSite semicolon bracket start (map (named names) ss) rest
+  sites_end rest e = read_end IsSite bracket the_site named the_said same named-along first names start here ss rest read.sites e
 
-    pub sites_in : All (IsIn names) ss
-    sites_in = All-from_recursion (IsIn names) ss read.sites.within
+  pub sites_in : All (IsIn names) ss
+  sites_in = All-from_recursion (IsIn names) ss read.sites.within
 
-    pub sites_fault : begins_word bracket here ≡ false → ((s : Site) (rest : List (List ℕ)) → IsSite here s rest → IsThere threads s → length (with_names names (site_names (s ∷ []))) ≤ 8 → ⊥) → (all : List Site) (rest : List (List ℕ)) → Listed ts all rest → AllByRecursion (IsThere threads) all → length (with_names first (site_names all)) ≤ 8 → ⊥
-    sites_fault h never all rest l there few =
-        read_none_here IsSite bracket the_site named the_said same named-along IsSite-unique bracket_apart bracket_unlike first names start here ss read.sites (IsThere threads) (λ l. no_word_next bracket here l h) never all rest (ended all rest l) there (subst (λ x. length (with_names first (site_names x)) ≤ 8) (sym (map_said all)) few)
-      where
-        map_said : (all : List Site) → map the_said all ≡ all
-        map_said [] = refl
-        map_said (s ∷ all) = ap (λ l. s ∷ l) (map_said all)
+  pub sites_fault : begins_word bracket here ≡ false → ((s : Site) (rest : List (List ℕ)) → IsSite here s rest → IsThere threads s → length (with_names names (site_names (s ∷ []))) ≤ 8 → ⊥) → (all : List Site) (rest : List (List ℕ)) → Ended IsSite semicolon bracket start all rest → AllByRecursion (IsThere threads) all → length (with_names first (site_names all)) ≤ 8 → ⊥
+  sites_fault h never all rest l there few =
+      read_none_here IsSite bracket the_site named the_said same named-along IsSite-unique bracket_apart bracket_unlike first names start here ss read.sites (IsThere threads) (λ l. no_word_next bracket here l h) never all rest l there (subst (λ x. length (with_names first (site_names x)) ≤ 8) (sym (map_said all)) few)
+    where
+      map_said : (all : List Site) → map the_said all ≡ all
+      map_said [] = refl
+      map_said (s ∷ all) = ap (λ l. s ∷ l) (map_said all)
 
-    module _ (after : List (List ℕ)) (s : Made) (grows : after ≡ with_names names (site_names (named after s ∷ []))) (is_in : IsIn after s) (mid : List (List ℕ)) (site : IsSite here (named after s) mid) where
-      pub sites_there : IsThere threads (named after s) → AllByRecursion (IsThere threads) (map (named after) (ss ++ s ∷ []))
-      sites_there is = subst (AllByRecursion (IsThere threads)) (sym (at_more IsSite bracket the_site named the_said same named-along first names start here ss read.sites after s grows is_in)) (all_push (IsThere threads) (map (named names) ss) (named after s) read.there is)
+  module _ (after : List (List ℕ)) (s : Made) (grows : after ≡ with_names names (site_names (named after s ∷ []))) (is_in : IsIn after s) (mid : List (List ℕ)) (site : IsSite here (named after s) mid) where
+    pub sites_there : IsThere threads (named after s) → AllByRecursion (IsThere threads) (map (named after) (ss ++ s ∷ []))
+    sites_there is = subst (AllByRecursion (IsThere threads)) (sym (at_more IsSite bracket the_site named the_said same named-along first names start here ss read.sites after s grows is_in)) (all_push (IsThere threads) (map (named names) ss) (named after s) read.there is)
 
-      pub sites_more : IsThere threads (named after s) → (next : List (List ℕ)) → mid ≡ semicolon ∷ next → SitesRead threads first after start next (ss ++ s ∷ [])
-      sites_more is next f = record { sites = read_more IsSite bracket the_site named the_said same named-along first names start here ss read.sites after s grows is_in mid next site f; there = sites_there is }
+    pub sites_more : IsThere threads (named after s) → (next : List (List ℕ)) → mid ≡ semicolon ∷ next → SitesRead threads first after start next (ss ++ s ∷ [])
+    sites_more is next f = record { sites = read_more IsSite bracket the_site named the_said same named-along first names start here ss read.sites after s grows is_in mid next site f; there = sites_there is }
 
-      pub sites_last : (rest : List (List ℕ)) → mid ≡ bracket ∷ rest → Listed ts (map (named after) (ss ++ s ∷ [])) rest
-      sites_last rest f = listed (map (named after) (ss ++ s ∷ [])) rest (read_last IsSite bracket the_site named the_said same named-along first names start here ss read.sites after s grows is_in mid rest site f)
+    pub sites_last : (rest : List (List ℕ)) → mid ≡ bracket ∷ rest → Ended IsSite semicolon bracket start (map (named after) (ss ++ s ∷ [])) rest
+    sites_last rest f = read_last IsSite bracket the_site named the_said same named-along first names start here ss read.sites after s grows is_in mid rest site f
 
-      pub sites_names : after ≡ with_names first (site_names (map (named after) (ss ++ s ∷ [])))
-      sites_names = names_are_more IsSite bracket the_site named the_said same named-along first names start here ss read.sites after s grows is_in
+    pub sites_names : after ≡ with_names first (site_names (map (named after) (ss ++ s ∷ [])))
+    sites_names = names_are_more IsSite bracket the_site named the_said same named-along first names start here ss read.sites after s grows is_in
 
-      pub sites_within : All (IsIn after) (ss ++ s ∷ [])
-      sites_within = All-from_recursion (IsIn after) (ss ++ s ∷ []) (within_more IsSite bracket the_site named the_said same named-along first names start here ss read.sites after s grows is_in)
+    pub sites_within : All (IsIn after) (ss ++ s ∷ [])
+    sites_within = All-from_recursion (IsIn after) (ss ++ s ∷ []) (within_more IsSite bracket the_site named the_said same named-along first names start here ss read.sites after s grows is_in)
 
-      pub sites_mark : ((l : List (List ℕ)) → mid ≡ semicolon ∷ l → ⊥) → ((l : List (List ℕ)) → mid ≡ bracket ∷ l → ⊥) → (all : List Site) (rest : List (List ℕ)) → Listed ts all rest → ⊥
-      sites_mark no_sep no_close all rest l = read_no_mark IsSite bracket the_site named the_said same named-along IsSite-unique bracket_apart bracket_unlike first names start here ss read.sites (named after s) mid site no_sep no_close all rest (ended all rest l)
+    pub sites_mark : ((l : List (List ℕ)) → mid ≡ semicolon ∷ l → ⊥) → ((l : List (List ℕ)) → mid ≡ bracket ∷ l → ⊥) → (all : List Site) (rest : List (List ℕ)) → Ended IsSite semicolon bracket start all rest → ⊥
+    sites_mark no_sep no_close all rest l = read_no_mark IsSite bracket the_site named the_said same named-along IsSite-unique bracket_apart bracket_unlike first names start here ss read.sites (named after s) mid site no_sep no_close all rest l
 
 -- where no `[` stands behind the word there is no list
 pub no_bracket : (ts behind : List (List ℕ)) → ts ≡ codes "locations" ∷ behind → ((rest : List (List ℕ)) → behind ≡ codes "[" ∷ rest → ⊥) → (all : List Site) (rest : List (List ℕ)) → Listed ts all rest → ⊥
 no_bracket ts behind word never all rest (inl p) = let f = p.1 in let i : behind ≡ codes "[" ∷ p.0 = cc in never p.0 i
 no_bracket ts behind word never all rest (inr p) = no_word_next (codes "locations") ts behind p.0 word
-
-pub no_word : (ts : List (List ℕ)) → begins_word (codes "locations") ts ≡ true → ((rest : List (List ℕ)) → ts ≡ codes "locations" ∷ rest → ⊥) → (all : List Site) (rest : List (List ℕ)) → Listed ts all rest → ⊥
-no_word ts h never all rest (inl p) = never (codes "[" ∷ p.0) p.1
-no_word ts h never all rest (inr p) = let k = p.0 in cc
 
 pub Listed-unique : (ts : List (List ℕ)) (a b : List Site) (r s : List (List ℕ)) → Listed ts a r → Listed ts b s → (a ≡ b) × (r ≡ s)
 Listed-unique ts a b r s (inl p) (inl q) = Ended-unique IsSite semicolon bracket IsSite-unique bracket_apart bracket_unlike a b p.0 r s p.2 (ended ts (codes "[" ∷ p.0) p.0 p.1 refl b s (inl q))

@@ -17,10 +17,13 @@ pub marks_apart : codes "|" ≡ codes ";" → ⊥
 marks_apart e = is_no_text (codes "|") (codes ";") refl e
 
 -- the next token of some
+pub token_next : (tokens : List Token) (next : ℕ) (t : Token) → next < length tokens → t ≡ get_or tokens next t → drop next tokens ≡ t ∷ drop (next + 1) tokens
+token_next [] next t lt e = absurd (omega arith)
+token_next (u ∷ tokens) zero t lt e = ap (λ x. x ∷ tokens) (sym e)
+token_next (u ∷ tokens) (suc next) t lt e = let k : suc next + 1 ≡ suc (next + 1) = omega arith in token_next tokens next t (omega (arith, lt)) e ∙ ap (λ (n : ℕ). t ∷ drop n (u ∷ tokens)) (sym k)
+
 pub texts_next : (tokens : List Token) (next : ℕ) (t : Token) (w : List ℕ) → next < length tokens → t ≡ get_or tokens next t → bytes_eq t.text.now w ≡ true → texts (drop next tokens) ≡ w ∷ texts (drop (next + 1) tokens)
-texts_next [] next t w lt e h = absurd (omega arith)
-texts_next (u ∷ tokens) zero t w lt e h = ap (λ (x : Token). x.text.now ∷ texts tokens) (sym e) ∙ ap (λ x. x ∷ texts tokens) (is_text t.text.now w h)
-texts_next (u ∷ tokens) (suc next) t w lt e h = let k : suc next + 1 ≡ suc (next + 1) = omega arith in texts_next tokens next t w (omega (arith, lt)) e h ∙ ap (λ (n : ℕ). w ∷ texts (drop n (u ∷ tokens))) (sym k)
+texts_next tokens next t w lt e h = ap texts (token_next tokens next t lt e) ∙ ap (λ x. x ∷ texts (drop (next + 1) tokens)) (is_text t.text.now w h)
 
 pub none_left : (tokens : List Token) (next : ℕ) → next ≡ length tokens → texts (drop next tokens) ≡ []
 none_left tokens next e = ap texts (drop_all next tokens (omega (arith, e)))

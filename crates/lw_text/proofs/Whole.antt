@@ -87,72 +87,70 @@ Quantified-unique ts Forall Exists r s e f = absurd (let k : codes "exists" ≡ 
 Quantified-unique ts Forall NotExists r s e f = absurd (let k : codes "forall" ≡ codes "~" = cc in is_no_text (codes "forall") (codes "~") refl k)
 Quantified-unique ts Forall Forall r s e f = (refl, cc)
 
--- ---- where the parts end early
+-- ---- where the block and the header end early
 
-pub no_block : (ts : List (List ℕ)) → ((es : List Entry) (rest : List (List ℕ)) → Block ts es rest → length (with_names [] (site_names (block_sites es))) ≤ 8 → ⊥) → (s : Said) → Parts ts s → ⊥
-no_block ts never s p =
-    never s.entries p.behind_block p.block
+-- where nothing of the front is there, no parts are
+pub no_front : (ts : List (List ℕ)) → ((es : List Entry) (n : ℕ) (mid rest : List (List ℕ)) → Block ts es mid → Header mid n rest → AllByRecursion (λ e. IsThere n e.site) es → length (with_names [] (site_names (block_sites es))) ≤ 8 → ⊥) → (s : Said) → Parts ts s → ⊥
+no_front ts never s p =
+    never s.entries s.threads p.behind_block p.behind_header p.block p.header p.there
     (omega (arith, p.few_names, ap length (table_parts s), with_names-longer (with_names [] (site_names (block_sites s.entries))) (site_names s.listed), with_names-longer (with_names (with_names [] (site_names (block_sites s.entries))) (site_names s.listed)) (site_names (sites_in s.signs))))
 
 module _ (ts a : List (List ℕ)) (entries : List Entry) (block : Block ts entries a) where
-  at_header : (s : Said) (p : Parts ts s) → (s.entries ≡ entries) × Header a s.threads p.behind_header
-  at_header s p = let e = Block-unique ts s.entries entries p.behind_block a p.block block in (e.0, subst (λ l. Header l s.threads p.behind_header) e.1 p.header)
+  pub no_header : ((n : ℕ) (rest : List (List ℕ)) → Header a n rest → ⊥) → (es : List Entry) (n : ℕ) (mid rest : List (List ℕ)) → Block ts es mid → Header mid n rest → ⊥
+  no_header never es n mid rest b h = never n rest (subst (λ l. Header l n rest) (Block-unique ts es entries mid a b block).1 h)
 
-  pub no_header : ((n : ℕ) (rest : List (List ℕ)) → Header a n rest → ⊥) → (s : Said) → Parts ts s → ⊥
-  no_header never s p = never s.threads p.behind_header (at_header s p).1
+  pub no_thread : (n : ℕ) (b : List (List ℕ)) → Header a n b → (names : List (List ℕ)) (made : List MadeEntry) → entries ≡ map (named_entry names) made → list_all (λ e. is_there n e.site) made ≡ false → (es : List Entry) (m : ℕ) (mid rest : List (List ℕ)) → Block ts es mid → Header mid m rest → AllByRecursion (λ e. IsThere m e.site) es → ⊥
+  no_thread n b header names made is none es m mid rest c h there =
+      let e = Block-unique ts es entries mid a c block in
+      let u = Names-unique 0 m n a rest b (subst (λ l. Header l m rest) e.1 h).0 header.0 in
+      let all = there_all n names made (subst (λ l. AllByRecursion (λ e. IsThere n e.site) l) (e.0 ∙ is) (subst (λ k. AllByRecursion (λ e. IsThere k e.site) es) u.0 there)) in
+      cc
 
-  module _ (n : ℕ) (b : List (List ℕ)) (header : Header a n b) where
-    at_rows : (s : Said) (p : Parts ts s) → (s.entries ≡ entries) × (s.threads ≡ n) × Rows n b s.rows p.behind_rows × Condition n p.behind_rows s.listed s.quant s.signs
-    at_rows s p =
-        let h = at_header s p in
-        let u = Names-unique 0 s.threads n a p.behind_header b h.1.0 header.0 in
-        (h.0, u.0, subst (λ l. Rows n l s.rows p.behind_rows) u.1 (subst (λ m. Rows m p.behind_header s.rows p.behind_rows) u.0 p.rows), subst (λ m. Condition m p.behind_rows s.listed s.quant s.signs) u.0 p.condition)
+-- ---- where the condition ends early
 
-    pub no_thread : (names : List (List ℕ)) (es : List MadeEntry) → entries ≡ map (named_entry names) es → list_all (λ e. is_there n e.site) es ≡ false → (s : Said) → Parts ts s → ⊥
-    no_thread names es is none s p =
+module _ (threads : ℕ) (ts first : List (List ℕ)) where
+  pub no_list : ((ss : List Site) (rest : List (List ℕ)) → Listed ts ss rest → AllByRecursion (IsThere threads) ss → length (with_names first (site_names ss)) ≤ 8 → ⊥) → (all : List Site) (q : Quant) (ss : List (Sign Claim)) → Condition threads ts all q ss → length (with_names (with_names first (site_names all)) (site_names (sites_in ss))) ≤ 8 → ⊥
+  no_list never all q ss c few = never all c.behind_list c.lists c.there (omega (arith, few, with_names-longer (with_names first (site_names all)) (site_names (sites_in ss))))
+
+  module _ (listed : List Site) (d : List (List ℕ)) (lists : Listed ts listed d) where
+    pub no_quant : ((q : Quant) (rest : List (List ℕ)) → Quantified d q rest → ⊥) → (all : List Site) (q : Quant) (ss : List (Sign Claim)) → Condition threads ts all q ss → ⊥
+    no_quant never all q ss c =
+        let u = Listed-unique ts all listed c.behind_list d c.lists lists in
+        never q c.behind_quant (subst (λ l. Quantified l q c.behind_quant) u.1 c.quantifies)
+
+    module _ (quant : Quant) (e : List (List ℕ)) (quantifies : Quantified d quant e) (names : List (List ℕ)) (is_names : names ≡ with_names first (site_names listed)) where
+      pub no_signs : ((ss : List (Sign Claim)) (p : Formula) → Signs threads e ss → length (with_names names (site_names (sites_in ss))) ≤ 8 → length (filter is_node ss) ≤ 256 → IsProposition (map (placed (with_names names (site_names (sites_in ss)))) ss) p → ⊥) → (all : List Site) (q : Quant) (ss : List (Sign Claim)) (p : Formula) → Condition threads ts all q ss → length (with_names (with_names first (site_names all)) (site_names (sites_in ss))) ≤ 8 → length (filter is_node ss) ≤ 256 → IsProposition (map (placed (with_names (with_names first (site_names all)) (site_names (sites_in ss)))) ss) p → ⊥
+      no_signs never all q ss p c few nodes whole =
+          let u = Listed-unique ts all listed c.behind_list d c.lists lists in
+          let v = Quantified-unique d q quant c.behind_quant e (subst (λ l. Quantified l q c.behind_quant) u.1 c.quantifies) quantifies in
+          let same : with_names first (site_names all) ≡ names = ap (λ l. with_names first (site_names l)) u.0 ∙ sym is_names in
+          never ss p (subst (λ l. Signs threads l ss) v.1 c.says) (subst (λ ns. length (with_names ns (site_names (sites_in ss))) ≤ 8) same few) nodes (subst (λ ns. IsProposition (map (placed (with_names ns (site_names (sites_in ss)))) ss) p) same whole)
+
+-- ---- where the parts end early
+
+module _ (ts a : List (List ℕ)) (entries : List Entry) (block : Block ts entries a) (n : ℕ) (b : List (List ℕ)) (header : Header a n b) where
+  at_rows : (s : Said) (p : Parts ts s) → (s.entries ≡ entries) × (s.threads ≡ n) × Rows n b s.rows p.behind_rows × Condition n p.behind_rows s.listed s.quant s.signs
+  at_rows s p =
+      let e = Block-unique ts s.entries entries p.behind_block a p.block block in
+      let u = Names-unique 0 s.threads n a p.behind_header b (subst (λ l. Header l s.threads p.behind_header) e.1 p.header).0 header.0 in
+      (e.0, u.0, subst (λ l. Rows n l s.rows p.behind_rows) u.1 (subst (λ m. Rows m p.behind_header s.rows p.behind_rows) u.0 p.rows), subst (λ m. Condition m p.behind_rows s.listed s.quant s.signs) u.0 p.condition)
+
+  pub no_rows : ((rows : List (List (List (List ℕ)))) (rest : List (List ℕ)) → Rows n b rows rest → ⊥) → (s : Said) → Parts ts s → ⊥
+  no_rows never s p = never s.rows p.behind_rows (at_rows s p).2
+
+  module _ (rows : List (List (List (List ℕ)))) (c : List (List ℕ)) (are_rows : Rows n b rows c) (first : List (List ℕ)) (is_first : first ≡ with_names [] (site_names (block_sites entries))) where
+    at_condition : (s : Said) → Parts ts s → (s.entries ≡ entries) × (s.threads ≡ n) × (s.rows ≡ rows) × Condition n c s.listed s.quant s.signs
+    at_condition s p =
         let h = at_rows s p in
-        let there = there_all n names es (subst (λ l. AllByRecursion (λ e. IsThere n e.site) l) (h.0 ∙ is) (subst (λ m. AllByRecursion (λ e. IsThere m e.site) s.entries) h.1 p.there)) in
-        cc
+        let u = Rows-unique n b p.behind_rows c s.rows rows h.2 are_rows in
+        (h.0, h.1, u.0, subst (λ l. Condition n l s.listed s.quant s.signs) u.1 h.3)
 
-    pub no_rows : ((rows : List (List (List (List ℕ)))) (rest : List (List ℕ)) → Rows n b rows rest → ⊥) → (s : Said) → Parts ts s → ⊥
-    no_rows never s p = never s.rows p.behind_rows (at_rows s p).2
-
-    module _ (rows : List (List (List (List ℕ)))) (c : List (List ℕ)) (are_rows : Rows n b rows c) (first : List (List ℕ)) (is_first : first ≡ with_names [] (site_names (block_sites entries))) where
-      at_condition : (s : Said) → Parts ts s → (s.entries ≡ entries) × (s.threads ≡ n) × (s.rows ≡ rows) × Condition n c s.listed s.quant s.signs
-      at_condition s p =
-          let h = at_rows s p in
-          let u = Rows-unique n b p.behind_rows c s.rows rows h.2 are_rows in
-          (h.0, h.1, u.0, subst (λ l. Condition n l s.listed s.quant s.signs) u.1 h.3)
-
-      names_of_block : (s : Said) → s.entries ≡ entries → with_names [] (site_names (block_sites s.entries)) ≡ first
-      names_of_block s e = ap (λ es. with_names [] (site_names (block_sites es))) e ∙ sym is_first
-
-      pub no_list : ((ss : List Site) (rest : List (List ℕ)) → Listed c ss rest → AllByRecursion (IsThere n) ss → length (with_names first (site_names ss)) ≤ 8 → ⊥) → (s : Said) → Parts ts s → ⊥
-      no_list never s p =
-          let h = at_condition s p in
-          never s.listed h.3.behind_list h.3.lists h.3.there
-          (omega (arith, p.few_names, ap length (table_parts s), ap (λ ns. length (with_names ns (site_names s.listed))) (names_of_block s h.0), with_names-longer (with_names (with_names [] (site_names (block_sites s.entries))) (site_names s.listed)) (site_names (sites_in s.signs))))
-
-      module _ (listed : List Site) (d : List (List ℕ)) (lists : Listed c listed d) where
-        pub no_quant : ((q : Quant) (rest : List (List ℕ)) → Quantified d q rest → ⊥) → (s : Said) → Parts ts s → ⊥
-        no_quant never s p =
-            let h = at_condition s p in
-            let u = Listed-unique c s.listed listed h.3.behind_list d h.3.lists lists in
-            never s.quant h.3.behind_quant (subst (λ l. Quantified l s.quant h.3.behind_quant) u.1 h.3.quantifies)
-
-        module _ (quant : Quant) (e : List (List ℕ)) (quantifies : Quantified d quant e) (names : List (List ℕ)) (is_names : names ≡ with_names first (site_names listed)) where
-          at_signs : (s : Said) → Parts ts s → (table s ≡ with_names names (site_names (sites_in s.signs))) × Signs n e s.signs
-          at_signs s p =
-              let h = at_condition s p in
-              let u = Listed-unique c s.listed listed h.3.behind_list d h.3.lists lists in
-              let v = Quantified-unique d s.quant quant h.3.behind_quant e (subst (λ l. Quantified l s.quant h.3.behind_quant) u.1 h.3.quantifies) quantifies in
-              let same : with_names (with_names [] (site_names (block_sites s.entries))) (site_names s.listed) ≡ names = ap (λ ns. with_names ns (site_names s.listed)) (names_of_block s h.0) ∙ ap (λ ss. with_names first (site_names ss)) u.0 ∙ sym is_names in
-              (table_parts s ∙ ap (λ ns. with_names ns (site_names (sites_in s.signs))) same, subst (λ l. Signs n l s.signs) v.1 h.3.says)
-
-          pub no_signs : ((ss : List (Sign Claim)) (p : Formula) → Signs n e ss → length (with_names names (site_names (sites_in ss))) ≤ 8 → length (filter is_node ss) ≤ 256 → IsProposition (map (placed (with_names names (site_names (sites_in ss)))) ss) p → ⊥) → (s : Said) (p : Formula) → Parts ts s → IsProposition (map (placed (table s)) s.signs) p → ⊥
-          no_signs never s f p whole =
-              let h = at_signs s p in
-              never s.signs f h.1 (omega (arith, p.few_names, ap length h.0)) p.few_nodes (subst (λ ns. IsProposition (map (placed ns) s.signs) f) h.0 whole)
+    pub no_condition : ((listed : List Site) (quant : Quant) (ss : List (Sign Claim)) (p : Formula) → Condition n c listed quant ss → length (with_names (with_names first (site_names listed)) (site_names (sites_in ss))) ≤ 8 → length (filter is_node ss) ≤ 256 → IsProposition (map (placed (with_names (with_names first (site_names listed)) (site_names (sites_in ss)))) ss) p → ⊥) → (s : Said) (p : Formula) → Parts ts s → IsProposition (map (placed (table s)) s.signs) p → ⊥
+    no_condition never s f p whole =
+        let h = at_condition s p in
+        let names : with_names [] (site_names (block_sites s.entries)) ≡ first = ap (λ es. with_names [] (site_names (block_sites es))) h.0 ∙ sym is_first in
+        let all : table s ≡ with_names (with_names first (site_names s.listed)) (site_names (sites_in s.signs)) = table_parts s ∙ ap (λ ns. with_names (with_names ns (site_names s.listed)) (site_names (sites_in s.signs))) names in
+        never s.listed s.quant s.signs f h.3 (omega (arith, p.few_names, ap length all)) p.few_nodes (subst (λ ns. IsProposition (map (placed ns) s.signs) f) all whole)
 
 pub Parts-unique : (ts : List (List ℕ)) (s t : Said) → Parts ts s → Parts ts t → s ≡ t
 Parts-unique ts s t p q =

@@ -1,8 +1,9 @@
 //! The initial block of a test.
-ghost use Rattle.std.specs.Prelude.{◌≡◌, ◌≢◌, ℕ, ◌≤◌, true, false, List, [], ◌∷◌, length, map, All, OnOk, OnErr, IfOk, IfErr};
+ghost use Rattle.std.specs.Prelude.{◌≡◌, ◌≢◌, ℕ, ◌≤◌, true, false, List, [], ◌∷◌, length, map, All, codes, OnOk, OnErr, IfOk, IfErr};
 ghost use Rattle.std.specs.List.{list_all};
 ghost use Rattle.lw_base.specs.Tables.{with_names};
 ghost use Rattle.lw_text.specs.declared.fault.Cause.TheVariants.{Memory};
+ghost use Rattle.lw_text.specs.Lists.{Ended};
 ghost use Rattle.lw_text.specs.Sites.{site_names};
 ghost use Rattle.lw_text.specs.Frames.{Entry as SaidEntry, IsEntry, Block};
 ghost use Rattle.lw_text.specs.Placed.{named, named_entry, is_there, IsIn};
@@ -45,14 +46,34 @@ impl<'t, 'a> Cursor<'t, 'a> {
     {
         self.expect("{", Cause::Unexpected)?;
         let mut entries = Sequence::new(alloc);
+        self.entries(&mut entries, locs)?;
+        Ok(entries)
+    }
+
+    /// Takes the entries of the block into a row that has none yet, and the `}` behind them. The names
+    /// of their locations go into the table.
+    fn entries<A: Allocator + Copy>(
+        &mut self,
+        entries: &mut Sequence<Entry, A>,
+        locs: &mut LocNames<A>,
+    ) -> Result<(), Fault>
+        requires { entries.old ≡ [] }
+        ensures found { OnOk result (Ended IsEntry (codes ";") (codes "}") (left self.old) (map (named_entry locs.new) entries.new) (left self.new)) }
+        ensures names { OnOk result (locs.new ≡ with_names locs.old (site_names (map (λ e. named locs.new e.site) entries.new))) }
+        ensures within { OnOk result (All (λ e. IsIn locs.new e.site) entries.new) }
+        ensures places { OnOk result (All (λ e. e.at ≤ self.old.len) entries.new) }
+        ensures fault { IfErr result (λ f. f.cause ≢ Memory → (es : List SaidEntry) (rest : List (List ℕ)) → Ended IsEntry (codes ";") (codes "}") (left self.old) es rest → length (with_names locs.old (site_names (map (λ e. e.site) es))) ≤ 8 → ⊥) }
+        ensures leaves { OnOk result (Leaves (remaining self.old) (remaining self.new)) }
+        ensures place { IfErr result (λ f. f.at ≤ self.old.len) }
+        ensures same { self.new.len ≡ self.old.len }
+    {
         'entries: loop {
-            if self.is_next("}") {
-                self.take()?;
-                return Ok(entries);
+            if self.takes("}") {
+                return Ok(());
             }
             entries.push(self.entry(locs)?)?;
             if self.either("}", ";", Cause::Unexpected)? {
-                return Ok(entries);
+                return Ok(());
             }
         }
     }

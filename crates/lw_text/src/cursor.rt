@@ -100,6 +100,7 @@ impl<'t, 'a> Cursor<'t, 'a> {
         ensures taken { result ≡ true → left self.old ≡ text.now ∷ left self.new }
         ensures other { result ≡ false → begins_word text.now (left self.old) ≡ false }
         ensures kept { result ≡ false → self.new ≡ self.old }
+        ensures leaves { Leaves (remaining self.old) (remaining self.new) }
         ensures same { self.new.len ≡ self.old.len }
     {
         match self.tokens.get(self.next) {

@@ -1,99 +1,45 @@
-use Rattle.std.proofs.Common.{◌≡◌, ◌≤◌, ◌∷◌, [], ◌∙◌, refl, sym, ap, subst, length, arith, Bool}
-use Rattle.std.specs.Prelude.{codes, if◌then◌else◌}
-use Rattle.std.proofs.lemmas.List.Elements.{All-nil, All-push}
+use Rattle.std.proofs.Common.{◌∙◌, arith}
 use Rattle.std.proofs.lemmas.Result.{err_from_is_err_and}
 use Rattle.lw_text.specs.Views.{left}
 use Rattle.lw_text.proofs.CellPlaces.{Leaves-join}
-use Rattle.lw_text.proofs.Blocks.{entries_none, entries_end, entries_in, entries_fault, entries_more, entries_last, entries_names, entries_within, entries_mark, IsEntry-shorter}
+use Rattle.lw_text.proofs.Blocks.{ended}
 use Rattle.lw_text.proofs.cursor.Cursor.block.Goals as goal
 
-pub entries-init : goal.entries-init
-entries-init g c = rw c.new-entries.ensures (record {
-  read = entries_none c.args.locs.now (left c.expect.new.self);
-  places = All-nil (λ e. e.at ≤ c.args.self.now.len);
-  leaves = ([], refl);
-  same = c.in_ok-expect.ensures.same;
-})
+pub returns-in_err-expect-clause-fault : goal.returns-in_err-expect-clause-fault
+returns-in_err-expect-clause-fault g c =
+    let p = err_from_is_err_and c.from_residual.result c.from_residual.ensures.1 in
+    rw (p.1, p.2) (λ _ es rest block few. c.in_err-expect.ensures.err block.0 block.1)
 
-pub returns-then-is_next-clause-found : goal.returns-then-is_next-clause-found
-returns-then-is_next-clause-found g c = entries_end c.args.locs.now c.entries.locs (left c.expect.new.self) (left c.entries.self) c.entries.entries c.entries.invariant.read (left c.args.self.now) c.in_ok-take.field-0.text.now (left c.take.new.self) c.in_ok-expect.ensures.ok (sym c.is_next.ensures ∙ c.if-is_next.true) c.in_ok-take.ensures.ok
+pub entries-requires : goal.entries-requires
+entries-requires g c = c.new-entries.ensures
 
-pub returns-then-is_next-clause-names : goal.returns-then-is_next-clause-names
-returns-then-is_next-clause-names g c = c.entries.invariant.read.names_are
+pub returns-in_err-entries-clause-fault : goal.returns-in_err-entries-clause-fault
+returns-in_err-entries-clause-fault g c =
+    let p = err_from_is_err_and c.from_residual-in_err-entries.result c.from_residual-in_err-entries.ensures.1 in
+    rw (p.1, p.2) (λ ne es rest block few. c.in_err-entries.ensures.fault ne es rest (ended (left c.args.self.now) (left c.expect.new.self) es rest c.in_ok-expect.ensures.ok block) few)
 
-pub returns-then-is_next-clause-within : goal.returns-then-is_next-clause-within
-returns-then-is_next-clause-within g c = entries_in c.args.locs.now c.entries.locs (left c.expect.new.self) (left c.entries.self) c.entries.entries c.entries.invariant.read
+pub returns-in_err-entries-clause-place : goal.returns-in_err-entries-clause-place
+returns-in_err-entries-clause-place g c =
+    let p = err_from_is_err_and c.from_residual-in_err-entries.result c.from_residual-in_err-entries.ensures.1 in
+    rw (p.1, p.2) (omega (arith, c.in_err-entries.ensures.place, c.in_ok-expect.ensures.same))
 
-pub returns-then-is_next-clause-places : goal.returns-then-is_next-clause-places
-returns-then-is_next-clause-places g c = c.entries.invariant.places
+pub returns-in_err-entries-clause-same : goal.returns-in_err-entries-clause-same
+returns-in_err-entries-clause-same g c = c.in_err-entries.ensures.same ∙ c.in_ok-expect.ensures.same
 
-pub returns-then-is_next-clause-leaves : goal.returns-then-is_next-clause-leaves
-returns-then-is_next-clause-leaves g c = Leaves-join c.in_ok-expect.ensures.leaves (Leaves-join c.entries.invariant.leaves (c.in_ok-take.field-0 ∷ [], c.in_ok-take.ensures.token))
+pub returns-clause-found : goal.returns-clause-found
+returns-clause-found g c = (left c.expect.new.self, c.in_ok-expect.ensures.ok, c.in_ok-entries.ensures.found)
 
-pub returns-then-is_next-clause-same : goal.returns-then-is_next-clause-same
-returns-then-is_next-clause-same g c = c.in_ok-take.ensures.same ∙ c.entries.invariant.same
+pub returns-clause-names : goal.returns-clause-names
+returns-clause-names g c = c.in_ok-entries.ensures.names
 
-pub returns-in_err-entry-clause-fault : goal.returns-in_err-entry-clause-fault
-returns-in_err-entry-clause-fault g c =
-    let p = err_from_is_err_and c.from_residual-in_err-entry.result c.from_residual-in_err-entry.ensures.1 in
-    rw (p.1, p.2) (λ ne. entries_fault c.args.locs.now c.entries.locs (left c.expect.new.self) (left c.entries.self) c.entries.entries c.entries.invariant.read (left c.args.self.now) c.in_ok-expect.ensures.ok (sym c.is_next.ensures ∙ c.if-is_next.false) (c.in_err-entry.ensures.fault ne))
+pub returns-clause-within : goal.returns-clause-within
+returns-clause-within g c = c.in_ok-entries.ensures.within
 
-pub returns-in_err-entry-clause-place : goal.returns-in_err-entry-clause-place
-returns-in_err-entry-clause-place g c =
-    let p = err_from_is_err_and c.from_residual-in_err-entry.result c.from_residual-in_err-entry.ensures.1 in
-    rw (p.1, p.2) (omega (arith, c.in_err-entry.ensures.place, c.entries.invariant.same))
+pub returns-clause-places : goal.returns-clause-places
+returns-clause-places g c = rw c.in_ok-expect.ensures.same at c.in_ok-entries.ensures.places
 
-pub returns-in_err-entry-clause-same : goal.returns-in_err-entry-clause-same
-returns-in_err-entry-clause-same g c = c.in_err-entry.ensures.same ∙ c.entries.invariant.same
+pub returns-clause-leaves : goal.returns-clause-leaves
+returns-clause-leaves g c = Leaves-join c.in_ok-expect.ensures.leaves c.in_ok-entries.ensures.leaves
 
-pub returns-in_err-push-clause-same : goal.returns-in_err-push-clause-same
-returns-in_err-push-clause-same g c = c.in_ok-entry.ensures.same ∙ c.entries.invariant.same
-
-pub returns-in_err-either-clause-fault : goal.returns-in_err-either-clause-fault
-returns-in_err-either-clause-fault g c =
-    let p = err_from_is_err_and c.from_residual-in_err-either.result c.from_residual-in_err-either.ensures.1 in
-    rw (p.1, p.2) (λ ne all rest block few. entries_mark c.args.locs.now c.entries.locs (left c.expect.new.self) (left c.entries.self) c.entries.entries c.entries.invariant.read c.entry.new.locs c.in_ok-entry.field-0 c.in_ok-entry.ensures.names c.in_ok-entry.ensures.within (left c.entry.new.self) c.in_ok-entry.ensures.found (left c.args.self.now) c.in_ok-expect.ensures.ok c.in_err-either.ensures.no_second c.in_err-either.ensures.no_first all rest block)
-
-pub returns-in_err-either-clause-place : goal.returns-in_err-either-clause-place
-returns-in_err-either-clause-place g c =
-    let p = err_from_is_err_and c.from_residual-in_err-either.result c.from_residual-in_err-either.ensures.1 in
-    rw (p.1, p.2) (omega (arith, c.in_err-either.ensures.place, c.in_ok-entry.ensures.same, c.entries.invariant.same))
-
-pub returns-in_err-either-clause-same : goal.returns-in_err-either-clause-same
-returns-in_err-either-clause-same g c = c.in_err-either.ensures.same ∙ (c.in_ok-entry.ensures.same ∙ c.entries.invariant.same)
-
-pub returns-then-branch-clause-found : goal.returns-then-branch-clause-found
-returns-then-branch-clause-found g c =
-    let mark = subst (λ (b : Bool). left c.entry.new.self ≡ (if b then codes "}" else codes ";") ∷ left c.either.new.self) c.if-branch.true c.in_ok-either.ensures.ok in
-    rw c.in_ok-push.ensures.ok (entries_last c.args.locs.now c.entries.locs (left c.expect.new.self) (left c.entries.self) c.entries.entries c.entries.invariant.read c.entry.new.locs c.in_ok-entry.field-0 c.in_ok-entry.ensures.names c.in_ok-entry.ensures.within (left c.entry.new.self) c.in_ok-entry.ensures.found (left c.args.self.now) (left c.either.new.self) c.in_ok-expect.ensures.ok mark)
-
-pub returns-then-branch-clause-names : goal.returns-then-branch-clause-names
-returns-then-branch-clause-names g c =
-    rw c.in_ok-push.ensures.ok (entries_names c.args.locs.now c.entries.locs (left c.expect.new.self) (left c.entries.self) c.entries.entries c.entries.invariant.read c.entry.new.locs c.in_ok-entry.field-0 c.in_ok-entry.ensures.names c.in_ok-entry.ensures.within (left c.entry.new.self) c.in_ok-entry.ensures.found)
-
-pub returns-then-branch-clause-within : goal.returns-then-branch-clause-within
-returns-then-branch-clause-within g c =
-    rw c.in_ok-push.ensures.ok (entries_within c.args.locs.now c.entries.locs (left c.expect.new.self) (left c.entries.self) c.entries.entries c.entries.invariant.read c.entry.new.locs c.in_ok-entry.field-0 c.in_ok-entry.ensures.names c.in_ok-entry.ensures.within (left c.entry.new.self) c.in_ok-entry.ensures.found)
-
-pub returns-then-branch-clause-places : goal.returns-then-branch-clause-places
-returns-then-branch-clause-places g c =
-    rw c.in_ok-push.ensures.ok (All-push (λ e. e.at ≤ c.args.self.now.len) c.entries.entries c.in_ok-entry.field-0 c.entries.invariant.places (omega (arith, c.in_ok-entry.ensures.at, c.entries.invariant.same)))
-
-pub returns-then-branch-clause-leaves : goal.returns-then-branch-clause-leaves
-returns-then-branch-clause-leaves g c = Leaves-join c.in_ok-expect.ensures.leaves (Leaves-join c.entries.invariant.leaves (Leaves-join c.in_ok-entry.ensures.leaves c.in_ok-either.ensures.leaves))
-
-pub returns-then-branch-clause-same : goal.returns-then-branch-clause-same
-returns-then-branch-clause-same g c = c.in_ok-either.ensures.same ∙ (c.in_ok-entry.ensures.same ∙ c.entries.invariant.same)
-
-pub entries-smaller : goal.entries-smaller
-entries-smaller g c = omega (arith, IsEntry-shorter (left c.entries.self) (left c.entry.new.self) _ c.in_ok-entry.ensures.found, ap length c.in_ok-either.ensures.ok)
-
-pub entries-preserved : goal.entries-preserved
-entries-preserved g c =
-    let mark = subst (λ (b : Bool). left c.entry.new.self ≡ (if b then codes "}" else codes ";") ∷ left c.either.new.self) c.if-branch.false c.in_ok-either.ensures.ok in
-    rw c.in_ok-push.ensures.ok (record {
-      read = entries_more c.args.locs.now c.entries.locs (left c.expect.new.self) (left c.entries.self) c.entries.entries c.entries.invariant.read c.entry.new.locs c.in_ok-entry.field-0 c.in_ok-entry.ensures.names c.in_ok-entry.ensures.within (left c.entry.new.self) c.in_ok-entry.ensures.found (left c.either.new.self) mark;
-      places = All-push (λ e. e.at ≤ c.args.self.now.len) c.entries.entries c.in_ok-entry.field-0 c.entries.invariant.places (omega (arith, c.in_ok-entry.ensures.at, c.entries.invariant.same));
-      leaves = Leaves-join c.entries.invariant.leaves (Leaves-join c.in_ok-entry.ensures.leaves c.in_ok-either.ensures.leaves);
-      same = c.in_ok-either.ensures.same ∙ (c.in_ok-entry.ensures.same ∙ c.entries.invariant.same);
-    })
+pub returns-clause-same : goal.returns-clause-same
+returns-clause-same g c = c.in_ok-entries.ensures.same ∙ c.in_ok-expect.ensures.same

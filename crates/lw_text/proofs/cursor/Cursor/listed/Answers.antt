@@ -1,69 +1,66 @@
-use Rattle.std.proofs.Common.{◌≡◌, ◌∷◌, ◌∙◌, sym, ap, subst, length, arith, Bool}
-use Rattle.std.specs.Prelude.{codes, if◌then◌else◌}
+use Rattle.std.proofs.Common.{inr, ◌∙◌, refl, ap, sym, arith}
+use Rattle.std.proofs.lemmas.List.Elements.{All-nil}
 use Rattle.std.proofs.lemmas.Result.{err_from_is_err_and}
+use Rattle.lw_text.specs.Placed.{IsIn}
 use Rattle.lw_text.specs.Views.{left}
-use Rattle.lw_text.proofs.Atoms.{IsSite-shorter}
-use Rattle.lw_text.proofs.Listings.{sites_none, sites_in, sites_end, sites_fault, sites_there, sites_more, sites_last, sites_names, sites_within, sites_mark}
+use Rattle.lw_text.proofs.Listings.{ended, listed, no_bracket}
 use Rattle.lw_text.proofs.cursor.Cursor.listed.Goals as goal
 
-pub sites-init : goal.sites-init
-sites-init g c = rw c.new-sites.ensures (record {
-  read = sites_none c.args.threads c.args.locs.now (left c.expect-2.new.self);
-  same = c.in_ok-expect-2.ensures.same ∙ c.in_ok-expect.ensures.same;
-})
+pub returns-then-not-takes-clause-found : goal.returns-then-not-takes-clause-found
+returns-then-not-takes-clause-found g c = rw c.new.ensures (inr (c.takes.ensures.other c.if-not-takes.true, refl, sym (ap left (c.takes.ensures.kept c.if-not-takes.true))))
 
-pub returns-then-is_next-clause-found : goal.returns-then-is_next-clause-found
-returns-then-is_next-clause-found g c = sites_end (left c.args.self.now) (left c.expect.new.self) (left c.expect-2.new.self) c.in_ok-expect.ensures.ok c.in_ok-expect-2.ensures.ok c.args.threads c.args.locs.now c.sites.locs (left c.sites.self) c.sites.sites c.sites.invariant.read c.in_ok-take.field-0.text.now (left c.take.new.self) (sym c.is_next-in-sites.ensures ∙ c.if-is_next.true) c.in_ok-take.ensures.ok
+pub returns-then-not-takes-clause-there : goal.returns-then-not-takes-clause-there
+returns-then-not-takes-clause-there g c = rw c.new.ensures tt
 
-pub returns-then-is_next-clause-there : goal.returns-then-is_next-clause-there
-returns-then-is_next-clause-there g c = c.sites.invariant.read.there
+pub returns-then-not-takes-clause-names : goal.returns-then-not-takes-clause-names
+returns-then-not-takes-clause-names g c = rw c.new.ensures refl
 
-pub returns-then-is_next-clause-names : goal.returns-then-is_next-clause-names
-returns-then-is_next-clause-names g c = c.sites.invariant.read.sites.names_are
+pub returns-then-not-takes-clause-within : goal.returns-then-not-takes-clause-within
+returns-then-not-takes-clause-within g c = rw c.new.ensures (All-nil (IsIn c.args.locs.now))
 
-pub returns-then-is_next-clause-within : goal.returns-then-is_next-clause-within
-returns-then-is_next-clause-within g c = sites_in (left c.args.self.now) (left c.expect.new.self) (left c.expect-2.new.self) c.in_ok-expect.ensures.ok c.in_ok-expect-2.ensures.ok c.args.threads c.args.locs.now c.sites.locs (left c.sites.self) c.sites.sites c.sites.invariant.read
+pub returns-then-not-takes-clause-same : goal.returns-then-not-takes-clause-same
+returns-then-not-takes-clause-same g c = c.takes.ensures.same
 
-pub returns-then-is_next-clause-same : goal.returns-then-is_next-clause-same
-returns-then-is_next-clause-same g c = c.in_ok-take.ensures.same ∙ c.sites.invariant.same
+pub returns-in_err-expect-clause-fault : goal.returns-in_err-expect-clause-fault
+returns-in_err-expect-clause-fault g c =
+    let p = err_from_is_err_and c.from_residual.result c.from_residual.ensures.1 in
+    rw (p.1, p.2) (λ _ ss rest all there few. no_bracket (left c.args.self.now) (left c.takes.new.self) (c.takes.ensures.taken c.if-not-takes.false) c.in_err-expect.ensures.err ss rest all)
 
-pub returns-in_err-site-clause-fault : goal.returns-in_err-site-clause-fault
-returns-in_err-site-clause-fault g c =
-    let p = err_from_is_err_and c.from_residual-in_err-site.result c.from_residual-in_err-site.ensures.1 in
-    rw (p.1, p.2) (λ ne. sites_fault (left c.args.self.now) (left c.expect.new.self) (left c.expect-2.new.self) c.in_ok-expect.ensures.ok c.in_ok-expect-2.ensures.ok c.args.threads c.args.locs.now c.sites.locs (left c.sites.self) c.sites.sites c.sites.invariant.read (sym c.is_next-in-sites.ensures ∙ c.if-is_next.false) (c.in_err-site.ensures.fault ne))
+pub returns-in_err-expect-clause-place : goal.returns-in_err-expect-clause-place
+returns-in_err-expect-clause-place g c =
+    let p = err_from_is_err_and c.from_residual.result c.from_residual.ensures.1 in
+    rw (p.1, p.2) (omega (arith, c.in_err-expect.ensures.place, c.takes.ensures.same))
 
-pub returns-in_err-either-clause-fault : goal.returns-in_err-either-clause-fault
-returns-in_err-either-clause-fault g c =
-    let p = err_from_is_err_and c.from_residual-in_err-either.result c.from_residual-in_err-either.ensures.1 in
-    rw (p.1, p.2) (λ ne all rest listed there few. sites_mark (left c.args.self.now) (left c.expect.new.self) (left c.expect-2.new.self) c.in_ok-expect.ensures.ok c.in_ok-expect-2.ensures.ok c.args.threads c.args.locs.now c.sites.locs (left c.sites.self) c.sites.sites c.sites.invariant.read c.site.new.locs c.in_ok-site.field-0 c.in_ok-site.ensures.names c.in_ok-site.ensures.within (left c.site.new.self) c.in_ok-site.ensures.found c.in_err-either.ensures.no_second c.in_err-either.ensures.no_first all rest listed)
+pub returns-in_err-expect-clause-same : goal.returns-in_err-expect-clause-same
+returns-in_err-expect-clause-same g c = c.in_err-expect.ensures.same ∙ c.takes.ensures.same
 
-pub returns-then-branch-clause-found : goal.returns-then-branch-clause-found
-returns-then-branch-clause-found g c =
-    let mark = subst (λ (b : Bool). left c.site.new.self ≡ (if b then codes "]" else codes ";") ∷ left c.either.new.self) c.if-branch.true c.in_ok-either.ensures.ok in
-    rw c.in_ok-push.ensures.ok (sites_last (left c.args.self.now) (left c.expect.new.self) (left c.expect-2.new.self) c.in_ok-expect.ensures.ok c.in_ok-expect-2.ensures.ok c.args.threads c.args.locs.now c.sites.locs (left c.sites.self) c.sites.sites c.sites.invariant.read c.site.new.locs c.in_ok-site.field-0 c.in_ok-site.ensures.names c.in_ok-site.ensures.within (left c.site.new.self) c.in_ok-site.ensures.found (left c.either.new.self) mark)
+pub sites-requires : goal.sites-requires
+sites-requires g c = c.new-sites.ensures
 
-pub returns-then-branch-clause-there : goal.returns-then-branch-clause-there
-returns-then-branch-clause-there g c =
-    rw c.in_ok-push.ensures.ok (sites_there (left c.args.self.now) (left c.expect.new.self) (left c.expect-2.new.self) c.in_ok-expect.ensures.ok c.in_ok-expect-2.ensures.ok c.args.threads c.args.locs.now c.sites.locs (left c.sites.self) c.sites.sites c.sites.invariant.read c.site.new.locs c.in_ok-site.field-0 c.in_ok-site.ensures.names c.in_ok-site.ensures.within (left c.site.new.self) c.in_ok-site.ensures.found c.in_ok-site.ensures.there)
+pub returns-in_err-sites-clause-fault : goal.returns-in_err-sites-clause-fault
+returns-in_err-sites-clause-fault g c =
+    let p = err_from_is_err_and c.from_residual-in_err-sites.result c.from_residual-in_err-sites.ensures.1 in
+    rw (p.1, p.2) (λ ne ss rest all there few. c.in_err-sites.ensures.fault ne ss rest (ended (left c.args.self.now) (left c.takes.new.self) (left c.expect.new.self) (c.takes.ensures.taken c.if-not-takes.false) c.in_ok-expect.ensures.ok ss rest all) there few)
 
-pub returns-then-branch-clause-names : goal.returns-then-branch-clause-names
-returns-then-branch-clause-names g c =
-    rw c.in_ok-push.ensures.ok (sites_names (left c.args.self.now) (left c.expect.new.self) (left c.expect-2.new.self) c.in_ok-expect.ensures.ok c.in_ok-expect-2.ensures.ok c.args.threads c.args.locs.now c.sites.locs (left c.sites.self) c.sites.sites c.sites.invariant.read c.site.new.locs c.in_ok-site.field-0 c.in_ok-site.ensures.names c.in_ok-site.ensures.within (left c.site.new.self) c.in_ok-site.ensures.found)
+pub returns-in_err-sites-clause-place : goal.returns-in_err-sites-clause-place
+returns-in_err-sites-clause-place g c =
+    let p = err_from_is_err_and c.from_residual-in_err-sites.result c.from_residual-in_err-sites.ensures.1 in
+    rw (p.1, p.2) (omega (arith, c.in_err-sites.ensures.place, c.in_ok-expect.ensures.same, c.takes.ensures.same))
 
-pub returns-then-branch-clause-within : goal.returns-then-branch-clause-within
-returns-then-branch-clause-within g c =
-    rw c.in_ok-push.ensures.ok (sites_within (left c.args.self.now) (left c.expect.new.self) (left c.expect-2.new.self) c.in_ok-expect.ensures.ok c.in_ok-expect-2.ensures.ok c.args.threads c.args.locs.now c.sites.locs (left c.sites.self) c.sites.sites c.sites.invariant.read c.site.new.locs c.in_ok-site.field-0 c.in_ok-site.ensures.names c.in_ok-site.ensures.within (left c.site.new.self) c.in_ok-site.ensures.found)
+pub returns-in_err-sites-clause-same : goal.returns-in_err-sites-clause-same
+returns-in_err-sites-clause-same g c = c.in_err-sites.ensures.same ∙ (c.in_ok-expect.ensures.same ∙ c.takes.ensures.same)
 
-pub returns-then-branch-clause-same : goal.returns-then-branch-clause-same
-returns-then-branch-clause-same g c = c.in_ok-either.ensures.same ∙ (c.in_ok-site.ensures.same ∙ c.sites.invariant.same)
+pub returns-clause-found : goal.returns-clause-found
+returns-clause-found g c = listed (left c.args.self.now) (left c.takes.new.self) (left c.expect.new.self) (c.takes.ensures.taken c.if-not-takes.false) c.in_ok-expect.ensures.ok _ _ c.in_ok-sites.ensures.found
 
-pub sites-smaller : goal.sites-smaller
-sites-smaller g c = omega (arith, IsSite-shorter (left c.sites.self) (left c.site.new.self) _ c.in_ok-site.ensures.found, ap length c.in_ok-either.ensures.ok)
+pub returns-clause-there : goal.returns-clause-there
+returns-clause-there g c = c.in_ok-sites.ensures.there
 
-pub sites-preserved : goal.sites-preserved
-sites-preserved g c =
-    let mark = subst (λ (b : Bool). left c.site.new.self ≡ (if b then codes "]" else codes ";") ∷ left c.either.new.self) c.if-branch.false c.in_ok-either.ensures.ok in
-    rw c.in_ok-push.ensures.ok (record {
-      read = sites_more (left c.args.self.now) (left c.expect.new.self) (left c.expect-2.new.self) c.in_ok-expect.ensures.ok c.in_ok-expect-2.ensures.ok c.args.threads c.args.locs.now c.sites.locs (left c.sites.self) c.sites.sites c.sites.invariant.read c.site.new.locs c.in_ok-site.field-0 c.in_ok-site.ensures.names c.in_ok-site.ensures.within (left c.site.new.self) c.in_ok-site.ensures.found c.in_ok-site.ensures.there (left c.either.new.self) mark;
-      same = c.in_ok-either.ensures.same ∙ (c.in_ok-site.ensures.same ∙ c.sites.invariant.same);
-    })
+pub returns-clause-names : goal.returns-clause-names
+returns-clause-names g c = c.in_ok-sites.ensures.names
+
+pub returns-clause-within : goal.returns-clause-within
+returns-clause-within g c = c.in_ok-sites.ensures.within
+
+pub returns-clause-same : goal.returns-clause-same
+returns-clause-same g c = c.in_ok-sites.ensures.same ∙ (c.in_ok-expect.ensures.same ∙ c.takes.ensures.same)

@@ -1,11 +1,11 @@
 use Rattle.std.proofs.Common.{◌≡◌, length}
 use Rattle.lw_text.specs.Views.{left}
 use Rattle.lw_text.proofs.Listings.{SitesRead}
-use Rattle.lw_text.proofs.cursor.Cursor.listed.Given as goal
+use Rattle.lw_text.proofs.cursor.Cursor.sites.Given as goal
 
 abbrev pub invariant-sites : goal.invariant-sites
 invariant-sites g l = record {
-  read : SitesRead l.threads l.fn.locs l.locs (left l.initial.self) (left l.self) l.sites;
+  read : SitesRead l.threads l.fn.locs l.locs (left l.fn.self) (left l.self) l.sites;
   same : l.self.len ≡ l.fn.self.len;
 }
 

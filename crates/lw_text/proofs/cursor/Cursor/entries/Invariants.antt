@@ -3,13 +3,13 @@ use Rattle.std.specs.Prelude.{All}
 use Rattle.lw_text.specs.Spans.{Leaves}
 use Rattle.lw_text.specs.Views.{remaining, left}
 use Rattle.lw_text.proofs.Blocks.{EntriesRead}
-use Rattle.lw_text.proofs.cursor.Cursor.block.Given as goal
+use Rattle.lw_text.proofs.cursor.Cursor.entries.Given as goal
 
 abbrev pub invariant-entries : goal.invariant-entries
 invariant-entries g l = record {
-  read : EntriesRead l.fn.locs l.locs (left l.initial.self) (left l.self) l.entries;
+  read : EntriesRead l.fn.locs l.locs (left l.fn.self) (left l.self) l.entries;
   places : All (λ e. e.at ≤ l.fn.self.len) l.entries;
-  leaves : Leaves (remaining l.initial.self) (remaining l.self);
+  leaves : Leaves (remaining l.fn.self) (remaining l.self);
   same : l.self.len ≡ l.fn.self.len;
 }
 
