@@ -49,23 +49,22 @@ plain_mark [] m l p e = let h = p.0 in cc
 plain_mark (t ∷ x) m l p e = plain_mark x m l p.1 e
 
 module _ (ts here : List (List ℕ)) (cells : List (List (List ℕ))) (before : Before Cell (codes "|") (codes ";") ts cells here) where
-  pub Line-open : Plain here → (threads : ℕ) (all : List (List (List ℕ))) (rest : List (List ℕ)) → Line threads ts all rest → ⊥
-  Line-open plain threads all rest line =
+  pub Cells-open : Plain here → (all : List (List (List ℕ))) (rest : List (List ℕ)) → Separated Cell (codes "|") (codes ";") ts all rest → ⊥
+  Cells-open plain all rest row =
       Before-fault Cell (codes "|") (codes ";") Cell-exact marks_apart cells all ts here rest before
       (λ zs l s. let f = Separated-front Cell (codes "|") (codes ";") zs here l s in plain_mark f.0 f.1 f.2 (subst Plain f.4.0 plain) (mark_ends f.1 f.3))
-      line.0
+      row
 
   module _ (cell : List (List ℕ)) (mark : List ℕ) (next : List (List ℕ)) (parts : here ≡ cell ++ mark ∷ next) (plain : Plain cell) where
-    pub Line-more : mark ≡ codes "|" → Before Cell (codes "|") (codes ";") ts (cells ++ cell ∷ []) next
-    Line-more e = Before-push Cell (codes "|") (codes ";") cells ts here next cell before (subst (λ m. here ≡ cell ++ m ∷ next) e parts, plain)
+    pub Cells-more : mark ≡ codes "|" → Before Cell (codes "|") (codes ";") ts (cells ++ cell ∷ []) next
+    Cells-more e = Before-push Cell (codes "|") (codes ";") cells ts here next cell before (subst (λ m. here ≡ cell ++ m ∷ next) e parts, plain)
 
-    pub Line-closed : mark ≡ codes ";" → Separated Cell (codes "|") (codes ";") ts (cells ++ cell ∷ []) next
-    Line-closed e = Before-close Cell (codes "|") (codes ";") cells ts here next cell before (subst (λ m. here ≡ cell ++ m ∷ next) e parts, plain)
+    pub Cells-closed : mark ≡ codes ";" → Separated Cell (codes "|") (codes ";") ts (cells ++ cell ∷ []) next
+    Cells-closed e = Before-close Cell (codes "|") (codes ";") cells ts here next cell before (subst (λ m. here ≡ cell ++ m ∷ next) e parts, plain)
 
-    pub Line-ragged : mark ≡ codes ";" → (threads : ℕ) → (length (cells ++ cell ∷ []) ≡ threads → ⊥) → (all : List (List (List ℕ))) (rest : List (List ℕ)) → Line threads ts all rest → ⊥
-    Line-ragged e threads ne all rest line =
-        let same = Separated-unique Cell (codes "|") (codes ";") Cell-exact marks_apart (cells ++ cell ∷ []) all ts next rest (Line-closed e) line.0 in
-        ne (ap length same.0 ∙ line.1)
+-- a row of another number of cells is no line
+pub Line-ragged : (ts next : List (List ℕ)) (cells : List (List (List ℕ))) → Separated Cell (codes "|") (codes ";") ts cells next → (threads : ℕ) → (length cells ≡ threads → ⊥) → (all : List (List (List ℕ))) (rest : List (List ℕ)) → Line threads ts all rest → ⊥
+Line-ragged ts next cells row threads ne all rest line = ne (ap length (Separated-unique Cell (codes "|") (codes ";") Cell-exact marks_apart cells all ts next rest row line.0).0 ∙ line.1)
 
 -- ---- rows
 

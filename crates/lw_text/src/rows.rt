@@ -1,7 +1,8 @@
 //! The header and the rows of a test.
-ghost use Rattle.std.specs.Prelude.{◌≡◌, ◌≢◌, ℕ, ◌+◌, ◌<◌, ◌≤◌, true, false, List, ◌∷◌, ◌++◌, length, OnOk, OnErr, IfOk, IfErr, codes, if◌then◌else◌};
+ghost use Rattle.std.specs.Prelude.{◌≡◌, ◌≢◌, ℕ, ◌+◌, ◌<◌, ◌≤◌, true, false, List, [], ◌∷◌, ◌++◌, length, OnOk, OnErr, IfOk, IfErr, codes, if◌then◌else◌};
 ghost use Rattle.std.specs.List.{AllByRecursion};
 ghost use Rattle.lw_text.specs.declared.fault.Cause.TheVariants.{Memory};
+ghost use Rattle.lw_text.specs.Lists.{Separated};
 ghost use Rattle.lw_text.specs.Rows as words;
 ghost use Rattle.lw_text.specs.Rows.{thread_name, Header, Line, Rows, begins_stop};
 ghost use Rattle.lw_text.specs.Spans.{texts, Leaves};
@@ -93,40 +94,59 @@ impl<'t, 'a> Cursor<'t, 'a> {
         ensures same { self.new.len ≡ self.old.len }
     {
         let mut cells = Sequence::new(alloc);
+        let end = self.cells(alloc, &mut cells)?;
+        if cells.len() != threads {
+            return Err(Fault {
+                at: end,
+                cause: Cause::Ragged,
+            });
+        }
+        Ok(cells)
+    }
+
+    /// Takes cells into a row that has none yet, up to a `;`, and answers the place of that.
+    fn cells<A: Allocator + Copy>(
+        &mut self,
+        alloc: A,
+        cells: &mut Cells<'a, A>,
+    ) -> Result<usize, Fault>
+        requires { cells.old ≡ [] }
+        ensures found { OnOk result (Separated words.Cell (codes "|") (codes ";") (left self.old) (cells_texts cells.new) (left self.new)) }
+        ensures fault { IfErr result (λ f. f.cause ≢ Memory → (all : List (List (List ℕ))) (rest : List (List ℕ)) → Separated words.Cell (codes "|") (codes ";") (left self.old) all rest → ⊥) }
+        ensures spans { OnOk result (TakesCells (remaining self.old) cells.new (remaining self.new)) }
+        ensures at { IfOk result (λ at. at ≤ self.old.len) }
+        ensures place { IfErr result (λ f. f.at ≤ self.old.len) }
+        ensures same { self.new.len ≡ self.old.len }
+    {
         'cells: loop {
-            let (tokens, mark) = self.cell(alloc)?;
+            let mut tokens = Sequence::new(alloc);
+            let mark = self.cell(&mut tokens)?;
             cells.push(Cell {
                 tokens,
                 end: mark.at,
             })?;
             if mark.text == ";" {
-                if cells.len() != threads {
-                    return Err(Fault {
-                        at: mark.at,
-                        cause: Cause::Ragged,
-                    });
-                }
-                return Ok(cells);
+                return Ok(mark.at);
             }
         }
     }
 
-    /// Takes the tokens up to a `|` or `;`, and that mark.
-    fn cell<A: Allocator>(&mut self, alloc: A) -> Result<(Sequence<Token<'a>, A>, Token<'a>), Fault>
-        ensures tokens { IfOk result (λ x. remaining self.old ≡ x.0 ++ x.1 ∷ remaining self.new) }
-        ensures parts { IfOk result (λ x. left self.old ≡ texts x.0 ++ x.1.text.now ∷ left self.new) }
-        ensures plain { IfOk result (λ x. AllByRecursion (λ t. words.ends_cell t ≡ false) (texts x.0)) }
-        ensures mark { IfOk result (λ x. words.ends_cell x.1.text.now ≡ true) }
-        ensures mark_at { IfOk result (λ x. x.1.at ≤ self.old.len) }
+    /// Takes tokens into a cell that has none yet, up to a `|` or `;`, and that mark.
+    fn cell<A: Allocator>(&mut self, cell: &mut Sequence<Token<'a>, A>) -> Result<Token<'a>, Fault>
+        requires { cell.old ≡ [] }
+        ensures tokens { IfOk result (λ mark. remaining self.old ≡ cell.new ++ mark ∷ remaining self.new) }
+        ensures parts { IfOk result (λ mark. left self.old ≡ texts cell.new ++ mark.text.now ∷ left self.new) }
+        ensures plain { OnOk result (AllByRecursion (λ t. words.ends_cell t ≡ false) (texts cell.new)) }
+        ensures mark { IfOk result (λ mark. words.ends_cell mark.text.now ≡ true) }
+        ensures mark_at { IfOk result (λ mark. mark.at ≤ self.old.len) }
         ensures err { IfErr result (λ f. f.cause ≢ Memory → AllByRecursion (λ t. words.ends_cell t ≡ false) (left self.old)) }
         ensures place { IfErr result (λ f. f.at ≤ self.old.len) }
         ensures same { self.new.len ≡ self.old.len }
     {
-        let mut cell = Sequence::new(alloc);
         'cell: loop {
             let token = self.take()?;
             if ends_cell(&token) {
-                return Ok((cell, token));
+                return Ok(token);
             }
             cell.push(token)?;
         }

@@ -1,5 +1,5 @@
 //! What an entry of the initial block, an element of the list of names or an atom speaks of.
-ghost use Rattle.std.specs.Prelude.{◌≡◌, ◌≢◌, ℕ, ◌≤◌, List, [], ◌∷◌, length, codes, Some, slice_get, OnOk, OnErr, IfOk, IfErr};
+ghost use Rattle.std.specs.Prelude.{◌≡◌, ◌≢◌, ℕ, ◌≤◌, List, [], ◌∷◌, length, codes, nat_lt, Some, slice_get, OnOk, OnErr, IfOk, IfErr};
 ghost use Rattle.lw_base.specs.declared.head.Arch.TheVariants.{Source};
 ghost use Rattle.lw_base.specs.Names.{IsLocation};
 ghost use Rattle.lw_base.specs.Registers.{IsRegister};
@@ -50,7 +50,7 @@ impl Site {
     {
         match self {
             Site::Location(_) => true,
-            Site::Register(thread, _) => (*thread as usize) < threads,
+            Site::Register(thread, _) => is_thread(*thread, threads),
         }
     }
 }
@@ -81,7 +81,7 @@ impl<'t, 'a> Cursor<'t, 'a> {
             return self.in_brackets(locs, cause);
         }
         if let Some(thread) = number(first.text) {
-            if thread as usize >= threads {
+            if !is_thread(thread, threads) {
                 return Err(Fault {
                     at: first.at,
                     cause: Cause::Name,
@@ -159,6 +159,13 @@ impl<'t, 'a> Cursor<'t, 'a> {
             }),
         }
     }
+}
+
+/// Whether it is the number of one of so many threads.
+fn is_thread(number: Word, threads: usize) -> bool
+    ensures { result ≡ nat_lt number threads }
+{
+    (number as usize) < threads
 }
 
 /// The place of the location that a token names. It is put into the table where it isn't there yet.

@@ -1,4 +1,5 @@
 use Rattle.std.proofs.Common.{◌∷◌, [], ◌∙◌, sym, arith}
+use Rattle.std.proofs.lemmas.Bool.{ltb-false}
 use Rattle.std.proofs.lemmas.Result.{err_from_is_err_and}
 use Rattle.lw_text.specs.Views.{remaining, left}
 use Rattle.lw_text.proofs.CellPlaces.{Leaves-behind}
@@ -31,9 +32,9 @@ returns-in_err-loc-clause-place g c =
     let p = err_from_is_err_and c.from_residual-in_err-loc.result c.from_residual-in_err-loc.ensures.1 in
     rw (p.1, p.2) (omega (arith, c.in_err-loc.ensures.place, c.in_ok-first.ensures.at))
 
-pub returns-then-thread-threads-clause-fault : goal.returns-then-thread-threads-clause-fault
-returns-then-thread-threads-clause-fault g c =
-    λ ne s rest p there few. thread_none c.args.locs.now (left c.args.self.now) (left c.take.new.self) c.in_ok-first.first.text.now c.in_ok-first.ensures.ok c.in-Some.thread c.in-Some.ensures c.args.threads c.if-thread-threads.true s rest p there
+pub returns-then-not-is_thread-clause-fault : goal.returns-then-not-is_thread-clause-fault
+returns-then-not-is_thread-clause-fault g c =
+    λ ne s rest p there few. thread_none c.args.locs.now (left c.args.self.now) (left c.take.new.self) c.in_ok-first.first.text.now c.in_ok-first.ensures.ok c.in-Some.thread c.in-Some.ensures c.args.threads (ltb-false _ _ (sym c.is_thread.ensures ∙ c.if-not-is_thread.true)) s rest p there
 
 pub returns-in-Some-clause-fault : goal.returns-in-Some-clause-fault
 returns-in-Some-clause-fault g c =

@@ -4,7 +4,7 @@ use Rattle.lw_text.specs.Rows.{Cell}
 use Rattle.lw_text.specs.Places.{cells_texts, TakesCells}
 use Rattle.lw_text.specs.Views.{remaining, left}
 use Rattle.lw_text.proofs.Lists.{Before}
-use Rattle.lw_text.proofs.cursor.Cursor.line.Given as goal
+use Rattle.lw_text.proofs.cursor.Cursor.cells.Given as goal
 
 abbrev pub invariant-cells : goal.invariant-cells
 invariant-cells g l = record {
