@@ -1,5 +1,4 @@
-use Rattle.std.proofs.Common.{rules}
 use Rattle.lw_text.proofs.level.row.Goals as goal
 
 pub returns : goal.returns
-returns g c = search rules
+returns g c = rw c.in_ok-part.ensures at c.behind_and.ensures

@@ -1,6 +1,9 @@
-use Rattle.std.proofs.Common.{arith}
-use Rattle.std.proofs.lemmas.Grind.{common_steps}
+use Rattle.std.proofs.Common.{length, refl, arith}
+use Rattle.std.proofs.lemmas.Option.{slice_get_read}
 use Rattle.lw_text.proofs.frame.Frame.cells.Goals as goal
 
 pub returns : goal.returns
-returns g c = grind (arith, common_steps)
+returns g c =
+    let cells = c.args.self.now.cells in
+    let at = rw (c.as_slice.ensures, c.index.ensures.value) at c.index-as_slice-index.is in
+    rw c.as_slice-2.ensures (slice_get_read cells (length cells) c.args.cpu c.index-as_slice-index.result refl (omega (arith, c.requires, c.args.self.now.columns)) at)

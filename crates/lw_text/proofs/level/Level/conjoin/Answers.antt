@@ -1,5 +1,5 @@
-use Rattle.std.proofs.Common.{rules}
+use Rattle.std.proofs.Common.{refl}
 use Rattle.lw_text.proofs.level.Level.conjoin.Goals as goal
 
 pub returns : goal.returns
-returns g c = search rules
+returns g c = rw (c.in_ok-row.ensures, c.take.ensures.value) refl
