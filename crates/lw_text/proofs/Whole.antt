@@ -207,7 +207,7 @@ no_frame text name rest heading never frame h =
     never h.tokens (subst (λ x. Tokens x h.tokens) e h.row) h.said h.condition h.parts h.proposition
 
 -- the tokens up to the first lexical fault, if there is one, are no parts
-pub no_parts : {F : Type 0} (o : Option F) (rest : List ℕ) (ts : List (List ℕ)) → IfNone o (Tokens rest ts) → OnSome o ((us : List (List ℕ)) → Tokens rest us → ⊥) → NoParts ts → (us : List (List ℕ)) → Tokens rest us → NoParts us
+pub no_parts : {F : Type 0} (o : Option F) (rest : List ℕ) (ts : List (List ℕ)) → IfNone o (Tokens rest ts) → OnSome o ((us : List (List ℕ)) → Tokens rest us → ⊥) → IfNone o (NoParts ts) → (us : List (List ℕ)) → Tokens rest us → NoParts us
 no_parts None rest ts row fault never us other s p parts whole = never s p (subst (λ x. Parts x s) (Tokens-unique us ts rest other row) parts) whole
 no_parts (Some f) rest ts row fault never us other s p parts whole = fault us other
 

@@ -7,8 +7,7 @@ ghost use Rattle.lw_text.specs.Frames.{TestFrame, HasFrame};
 ghost use Rattle.lw_text.specs.Kept.{IsKept};
 ghost use Rattle.lw_text.specs.Views.{frame_of, LiesIn};
 
-use crate::cursor::Cursor;
-use crate::fault::{Cause, Fault, TextCause, TextFault};
+use crate::fault::{Fault, TextCause, TextFault};
 use crate::frame::Frame;
 use crate::lexer::Lexer;
 use crate::row::Row;
@@ -76,14 +75,6 @@ fn read_text<'a, A: Allocator + Copy>(alloc: A, text: &'a [u8]) -> Result<Frame<
     let mut lexer = Lexer::new(text);
     let name = lexer.heading()?;
     let row = Row::read(alloc, lexer)?;
-    let end = row.fault.unwrap_or(Fault {
-        at: text.len(),
-        cause: Cause::Unterminated,
-    });
-    let mut cursor = Cursor::new(row.tokens.as_slice(), end, text.len());
-    let body = cursor.body(alloc)?;
-    if let Some(fault) = row.fault {
-        return Err(fault);
-    }
+    let body = row.body(alloc, text.len())?;
     Ok(body.finish(alloc, name, text.len())?)
 }

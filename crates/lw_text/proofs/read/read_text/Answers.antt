@@ -1,15 +1,16 @@
-use Rattle.std.proofs.Common.{◌≡◌, length, map, sym, ap, ◌∙◌, subst, arith}
+use Rattle.std.proofs.Common.{◌≡◌, ◌≤◌, length, map, sym, ap, ◌∙◌, subst, arith}
+use Rattle.std.specs.Prelude.{IfNone, IfSome}
 use Rattle.std.proofs.lemmas.Result.{err_from_is_err_and}
 use Rattle.lw_text.specs.Spans.{texts, Spans}
 use Rattle.lw_base.specs.Heads.{head_of}
 use Rattle.lw_text.specs.Rows.{columns}
 use Rattle.lw_text.specs.Headings.{Heading}
+use Rattle.lw_text.specs.Tokens.{Tokens}
 use Rattle.lw_base.specs.Propositions.{formula_of}
 use Rattle.lw_text.specs.Propositions.{IsProposition}
 use Rattle.lw_text.specs.Conditions.{placed}
-use Rattle.lw_text.specs.Frames.{Parts, Said, head_of_said}
+use Rattle.lw_text.specs.Frames.{Said, head_of_said}
 use Rattle.lw_text.specs.Places.{all_texts}
-use Rattle.lw_text.specs.Views.{left}
 use Rattle.lw_text.proofs.TokenRows.{Spans-places}
 use Rattle.lw_text.proofs.CellPlaces.{RowSpans-within}
 use Rattle.lw_text.proofs.RowColumns.{columns-texts}
@@ -27,45 +28,39 @@ returns-in_err-name-clause-place g c =
     let p = err_from_is_err_and c.from_residual.result c.from_residual.ensures.1 in
     rw (p.1, p.2) (omega (arith, c.in_err-name.ensures.place, ap length c.new-lexer.ensures.text))
 
-pub new-cursor-requires-clause-places : goal.new-cursor-requires-clause-places
-new-cursor-requires-clause-places g c =
+pub body-requires-clause-places : goal.body-requires-clause-places
+body-requires-clause-places g c =
     let len = length c.args.text.now in
     let whole = c.in_ok-name.ensures.same ∙ c.new-lexer.ensures.text in
     let spans = subst (λ t. Spans t 0 c.in_ok-row.row.tokens (length t)) whole c.in_ok-row.ensures.spans in
-    rw c.as_slice.ensures (Spans-places c.args.text.now 0 len c.in_ok-row.row.tokens spans)
+    Spans-places c.args.text.now 0 len c.in_ok-row.row.tokens spans
+
+pub body-requires-clause-fault : goal.body-requires-clause-fault
+body-requires-clause-fault g c = subst (λ t. IfSome c.in_ok-row.row.fault (λ f. f.at ≤ length t)) (c.in_ok-name.ensures.same ∙ c.new-lexer.ensures.text) c.in_ok-row.ensures.place
 
 pub returns-in_err-body-clause-fault : goal.returns-in_err-body-clause-fault
 returns-in_err-body-clause-fault g c =
     let p = err_from_is_err_and c.from_residual-in_err-body.result c.from_residual-in_err-body.ensures.1 in
     let row = c.in_ok-row.row in
     let heading = subst (λ t. Heading t c.in_ok-name.name.now c.heading.new.self.rest.now) c.new-lexer.ensures.rest c.in_ok-name.ensures.found in
-    let read : left c.new-cursor.result ≡ texts row.tokens = ap texts (c.new-cursor.ensures.remaining ∙ c.as_slice.ensures) in
-    rw (p.1, p.2) (λ ne. no_frame c.args.text.now c.in_ok-name.name.now c.heading.new.self.rest.now heading (no_parts row.fault c.heading.new.self.rest.now (texts row.tokens) c.in_ok-row.ensures.found c.in_ok-row.ensures.fault (λ s f parts whole. c.in_err-body.ensures.fault ne s f (subst (λ ts. Parts ts s) (sym read) parts) whole)))
+    rw (p.1, p.2) (λ ne. no_frame c.args.text.now c.in_ok-name.name.now c.heading.new.self.rest.now heading (no_parts row.fault c.heading.new.self.rest.now (texts row.tokens) c.in_ok-row.ensures.found c.in_ok-row.ensures.fault (c.in_err-body.ensures.fault ne)))
 
 pub returns-in_err-body-clause-place : goal.returns-in_err-body-clause-place
 returns-in_err-body-clause-place g c =
     let p = err_from_is_err_and c.from_residual-in_err-body.result c.from_residual-in_err-body.ensures.1 in
-    rw (p.1, p.2) (omega (arith, c.in_err-body.ensures.place, c.new-cursor.ensures.len))
-
-pub returns-in-Some-clause-fault : goal.returns-in-Some-clause-fault
-returns-in-Some-clause-fault g c =
-    let heading = subst (λ t. Heading t c.in_ok-name.name.now c.heading.new.self.rest.now) c.new-lexer.ensures.rest c.in_ok-name.ensures.found in
-    let never = rw c.in-Some.is at c.in_ok-row.ensures.fault in
-    λ _. no_frame c.args.text.now c.in_ok-name.name.now c.heading.new.self.rest.now heading (λ ts row s f parts whole. never ts row)
+    rw (p.1, p.2) c.in_err-body.ensures.place
 
 pub finish-requires : goal.finish-requires
 finish-requires g c =
     let len = length c.args.text.now in
     let whole = c.in_ok-name.ensures.same ∙ c.new-lexer.ensures.text in
     let spans = subst (λ t. Spans t 0 c.in_ok-row.row.tokens (length t)) whole c.in_ok-row.ensures.spans in
-    let before = subst (λ ts. Spans c.args.text.now 0 ts len) (sym (c.new-cursor.ensures.remaining ∙ c.as_slice.ensures)) spans in
-    RowSpans-within c.args.text.now 0 len c.in_ok-body.body.rows (c.in_ok-body.ensures.spans c.args.text.now 0 len before)
+    RowSpans-within c.args.text.now 0 len c.in_ok-body.body.rows (c.in_ok-body.ensures.spans c.args.text.now 0 len spans)
 
 pub returns-clause-found : goal.returns-clause-found
 returns-clause-found g c =
     let body = c.in_ok-body.body in
     let frame = c.in_ok-finish.field-0 in
-    let read : left c.new-cursor.result ≡ texts c.in_ok-row.row.tokens = ap texts (c.new-cursor.ensures.remaining ∙ c.as_slice.ensures) in
     let says = c.in_ok-body.ensures.found in
     let head : head_of frame.head ≡ head_of_said c.in_ok-name.name.now says.said (formula_of body.said.prop) = c.in_ok-finish.ensures.head ∙ head_made c.in_ok-name.name.now _ body says in
     let cells : all_texts frame.cells ≡ columns body.said.threads (all_texts body.rows) = ap all_texts c.in_ok-finish.ensures.cells ∙ columns-texts body.said.threads body.rows in
@@ -79,8 +74,8 @@ returns-clause-found g c =
       said = says.said;
       condition = formula_of body.said.prop;
       heading = subst (λ t. Heading t c.in_ok-name.name.now c.heading.new.self.rest.now) c.new-lexer.ensures.rest c.in_ok-name.ensures.found;
-      row = rw c.in_default.is at c.in_ok-row.ensures.found;
-      parts = subst (λ ts. Parts ts says.said) read says.parts;
+      row = subst (λ o. IfNone o (Tokens c.heading.new.self.rest.now (texts c.in_ok-row.row.tokens))) c.in_ok-body.ensures.whole c.in_ok-row.ensures.found;
+      parts = says.parts;
       proposition = subst (λ names. IsProposition (map (placed names) says.said.signs) (formula_of body.said.prop)) says.names (subst (λ ss. IsProposition (map (placed body.said.locs) ss) (formula_of body.said.prop)) (sym (ap (λ (s : Said). s.signs) says.is)) says.proposition);
       made = cc (head, cells, same);
     }
@@ -91,10 +86,9 @@ returns-clause-spans g c =
     let body = c.in_ok-body.body in
     let whole = c.in_ok-name.ensures.same ∙ c.new-lexer.ensures.text in
     let spans = subst (λ t. Spans t 0 c.in_ok-row.row.tokens (length t)) whole c.in_ok-row.ensures.spans in
-    let before = subst (λ ts. Spans c.args.text.now 0 ts len) (sym (c.new-cursor.ensures.remaining ∙ c.as_slice.ensures)) spans in
     let threads : c.in_ok-finish.field-0.head.threads ≡ body.said.threads = ap (λ h. h.threads) c.in_ok-finish.ensures.head in
     record {
       rows = body.rows;
       cells = c.in_ok-finish.ensures.cells ∙ ap (λ n. columns n body.rows) (sym threads);
-      spans = c.in_ok-body.ensures.spans c.args.text.now 0 len before;
+      spans = c.in_ok-body.ensures.spans c.args.text.now 0 len spans;
     }
