@@ -1,4 +1,4 @@
-use Rattle.std.proofs.Common.{◌∷◌, [], ◌∙◌, refl, ap, sym, length, arith, length-append}
+use Rattle.std.proofs.Common.{◌∷◌, ◌∙◌, refl, ap, sym, length, arith, length-append}
 use Rattle.std.proofs.lemmas.Result.{err_from_is_err_and}
 use Rattle.std.proofs.lemmas.List.{map_push}
 use Rattle.lw_text.specs.Spans.{texts}

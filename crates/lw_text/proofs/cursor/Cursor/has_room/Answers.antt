@@ -1,4 +1,4 @@
-use Rattle.std.proofs.Common.{◌∙◌, sym, refl}
+use Rattle.std.proofs.Common.{refl}
 use Rattle.std.proofs.lemmas.Bool.{ne_eqb}
 use Rattle.lw_text.proofs.cursor.Cursor.has_room.Goals as goal
 

@@ -1,6 +1,10 @@
-use Rattle.std.proofs.Common.{◌≡◌, ◌∙◌, refl, sym, ap, subst, arith}
+use Rattle.std.proofs.Common.{◌≡◌, ◌∷◌, [], ◌∙◌, refl, sym, ap, subst, arith}
 use Rattle.std.proofs.lemmas.Result.{err_from_is_err_and}
-use Rattle.lw_text.specs.Conditions.{IsSign}
+use Rattle.lw_base.specs.Tables.{with_names}
+use Rattle.lw_text.specs.Sites.{IsSite, site_names}
+use Rattle.lw_text.specs.Propositions.{Atom}
+use Rattle.lw_text.specs.Placed.{named}
+use Rattle.lw_text.specs.Conditions.{IsClaim, IsSign, sites_in}
 use Rattle.lw_text.specs.Views.{left}
 use Rattle.lw_text.proofs.SignRows.{site_alone}
 use Rattle.lw_text.proofs.cursor.Cursor.opening.Goals as goal
@@ -20,3 +24,40 @@ pub returns-in_err-word-clause-place : goal.returns-in_err-word-clause-place
 returns-in_err-word-clause-place g c =
     let p = err_from_is_err_and c.from_residual-in_err-word.result c.from_residual-in_err-word.ensures.1 in
     rw (p.1, p.2) (omega (arith, c.in_err-word.ensures.place, c.in_ok-site.ensures.same, c.takes.ensures.same, c.takes-2.ensures.same, c.takes-3.ensures.same, c.takes-4.ensures.same, c.takes-5.ensures.same))
+
+pub returns-then-takes-clause-same : goal.returns-then-takes-clause-same
+returns-then-takes-clause-same g c = c.takes.ensures.same
+
+pub returns-then-takes-2-clause-same : goal.returns-then-takes-2-clause-same
+returns-then-takes-2-clause-same g c = (c.takes-2.ensures.same ∙ c.takes.ensures.same)
+
+pub returns-then-takes-3-clause-same : goal.returns-then-takes-3-clause-same
+returns-then-takes-3-clause-same g c = (c.takes-3.ensures.same ∙ (c.takes-2.ensures.same ∙ c.takes.ensures.same))
+
+pub returns-then-takes-4-clause-same : goal.returns-then-takes-4-clause-same
+returns-then-takes-4-clause-same g c = (c.takes-4.ensures.same ∙ (c.takes-3.ensures.same ∙ (c.takes-2.ensures.same ∙ c.takes.ensures.same)))
+
+pub returns-then-takes-5-clause-same : goal.returns-then-takes-5-clause-same
+returns-then-takes-5-clause-same g c = (c.takes-5.ensures.same ∙ (c.takes-4.ensures.same ∙ (c.takes-3.ensures.same ∙ (c.takes-2.ensures.same ∙ c.takes.ensures.same))))
+
+pub returns-in_err-site-clause-same : goal.returns-in_err-site-clause-same
+returns-in_err-site-clause-same g c = c.in_err-site.ensures.same ∙ (c.takes-5.ensures.same ∙ (c.takes-4.ensures.same ∙ (c.takes-3.ensures.same ∙ (c.takes-2.ensures.same ∙ c.takes.ensures.same))))
+
+pub returns-in_err-word-clause-same : goal.returns-in_err-word-clause-same
+returns-in_err-word-clause-same g c = c.in_err-word.ensures.same ∙ (c.in_ok-site.ensures.same ∙ (c.takes-5.ensures.same ∙ (c.takes-4.ensures.same ∙ (c.takes-3.ensures.same ∙ (c.takes-2.ensures.same ∙ c.takes.ensures.same)))))
+
+pub returns-clause-same : goal.returns-clause-same
+returns-clause-same g c = c.in_ok-word.ensures.same ∙ (c.in_ok-site.ensures.same ∙ (c.takes-5.ensures.same ∙ (c.takes-4.ensures.same ∙ (c.takes-3.ensures.same ∙ (c.takes-2.ensures.same ∙ c.takes.ensures.same)))))
+
+pub returns-clause-found : goal.returns-clause-found
+returns-clause-found g c =
+    let kept : left c.args.self.now ≡ left c.takes-5.new.self = ap left (sym (c.if-takes-5.ensures.kept refl ∙ c.if-takes-4.ensures.kept refl ∙ c.if-takes-3.ensures.kept refl ∙ c.if-takes-2.ensures.kept refl ∙ c.if-takes.ensures.kept refl)) in
+    let site = named c.site.new.locs c.in_ok-site.site in
+    subst (λ claim. IsClaim c.args.threads (left c.args.self.now) claim (left c.value.new.self)) (sym (c.atom.ensures.said c.site.new.locs))
+    (left c.site.new.self, subst (λ l. IsSite l site (left c.site.new.self)) (sym kept) c.in_ok-site.ensures.found, c.in_ok-site.ensures.there, c.in_ok-word.ensures.ok)
+
+pub returns-clause-names : goal.returns-clause-names
+returns-clause-names g c = subst (λ claim. c.site.new.locs ≡ with_names c.args.locs.now (site_names (sites_in (Atom claim ∷ [])))) (sym (c.atom.ensures.said c.site.new.locs)) c.in_ok-site.ensures.names
+
+pub returns-clause-within : goal.returns-clause-within
+returns-clause-within g c = c.atom.ensures.within c.site.new.locs c.in_ok-site.ensures.within
