@@ -1,4 +1,11 @@
-use Rattle.std.proofs.Common.{◌∙◌, ap, length, arith}
+use Rattle.std.proofs.Common.{◌≡◌, ◌∷◌, [], ◌++◌, ◌∙◌, false, sym, ap, subst, length, arith, append_assoc}
+use Rattle.std.specs.List.{AllByRecursion}
+use Rattle.std.proofs.lemmas.List.{map_push}
+use Rattle.lw_text.specs.declared.token.Token.{Token}
+use Rattle.lw_text.specs.Rows.{ends_cell}
+use Rattle.lw_text.specs.Spans.{texts}
+use Rattle.lw_text.specs.Views.{remaining}
+use Rattle.lw_text.proofs.Readings.{all_push}
 use Rattle.std.proofs.lemmas.Result.{err_from_is_err_and}
 use Rattle.lw_text.proofs.cursor.Cursor.cell.Goals as goal
 
@@ -21,3 +28,21 @@ returns-then-ends_cell-clause-same g c = c.in_ok-token.ensures.same ∙ c.cell.i
 
 pub cell-smaller : goal.cell-smaller
 cell-smaller g c = omega (arith, ap length c.in_ok-token.ensures.token)
+
+pub cell-preserved : goal.cell-preserved
+cell-preserved g c =
+    let token = c.in_ok-token.token in
+    rw c.in_ok-push.ensures.ok (record {
+      tokens = c.cell.invariant.tokens ∙ ap (λ ts. c.cell.cell ++ ts) c.in_ok-token.ensures.token ∙ sym (append_assoc c.cell.cell (token ∷ []) (remaining c.take.new.self));
+      plain = subst (AllByRecursion (λ t. ends_cell t ≡ false)) (sym (map_push (λ (t : Token). t.text.now) c.cell.cell token)) (all_push (λ t. ends_cell t ≡ false) (texts c.cell.cell) token.text.now c.cell.invariant.plain (sym c.ends_cell.ensures ∙ c.if-ends_cell.false));
+      same = c.in_ok-token.ensures.same ∙ c.cell.invariant.same;
+    })
+
+pub returns-then-ends_cell-clause-tokens : goal.returns-then-ends_cell-clause-tokens
+returns-then-ends_cell-clause-tokens g c = c.cell.invariant.tokens ∙ ap (λ ts. c.cell.cell ++ ts) c.in_ok-token.ensures.token
+
+pub returns-then-ends_cell-clause-plain : goal.returns-then-ends_cell-clause-plain
+returns-then-ends_cell-clause-plain g c = c.cell.invariant.plain
+
+pub returns-then-ends_cell-clause-mark : goal.returns-then-ends_cell-clause-mark
+returns-then-ends_cell-clause-mark g c = sym c.ends_cell.ensures ∙ c.if-ends_cell.true

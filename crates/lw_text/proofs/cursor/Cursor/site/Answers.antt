@@ -59,3 +59,18 @@ returns-clause-within g c = within-at c.enter.new.locs c.in_ok-loc.loc c.in_ok-f
 
 pub returns-clause-leaves : goal.returns-clause-leaves
 returns-clause-leaves g c = (c.in_ok-first.first ∷ [], c.in_ok-first.ensures.token)
+
+pub returns-then-not-is_thread-clause-same : goal.returns-then-not-is_thread-clause-same
+returns-then-not-is_thread-clause-same g c = c.take.ensures.same
+
+pub returns-in_err-loc-clause-same : goal.returns-in_err-loc-clause-same
+returns-in_err-loc-clause-same g c = c.take.ensures.same
+
+pub returns-clause-same : goal.returns-clause-same
+returns-clause-same g c = c.take.ensures.same
+
+pub returns-then-not-is_thread-clause-place : goal.returns-then-not-is_thread-clause-place
+returns-then-not-is_thread-clause-place g c = c.in_ok-first.ensures.at
+
+pub returns-clause-there : goal.returns-clause-there
+returns-clause-there g c = tt
