@@ -27,6 +27,7 @@ pub enum Prop<A: Allocator = Global> {
 
 impl<A: Allocator + Copy> Prop<A> {
     /// An equal proposition.
+    #[cycle(copies)]
     pub fn copy(&self, alloc: A) -> Result<Self, AllocError>
         ensures { IfOk result (λ p. formula_of p ≡ formula_of self.now) }
     {
@@ -35,15 +36,17 @@ impl<A: Allocator + Copy> Prop<A> {
             Prop::Never => Prop::Never,
             Prop::RegIs(cpu, reg, word) => Prop::RegIs(*cpu, *reg, *word),
             Prop::WordIs(loc, word) => Prop::WordIs(*loc, *word),
-            Prop::Neg(prop) => Prop::Neg(Box::new(alloc, prop.copy(alloc)?)?),
-            Prop::Both(left, right) => {
-                let left = Box::new(alloc, left.copy(alloc)?)?;
-                Prop::Both(left, Box::new(alloc, right.copy(alloc)?)?)
-            }
-            Prop::Either(left, right) => {
-                let left = Box::new(alloc, left.copy(alloc)?)?;
-                Prop::Either(left, Box::new(alloc, right.copy(alloc)?)?)
-            }
+            Prop::Neg(prop) => Prop::Neg(prop.boxed(alloc)?),
+            Prop::Both(left, right) => Prop::Both(left.boxed(alloc)?, right.boxed(alloc)?),
+            Prop::Either(left, right) => Prop::Either(left.boxed(alloc)?, right.boxed(alloc)?),
         })
+    }
+
+    /// An equal proposition in a box of its own.
+    #[cycle(copies)]
+    fn boxed(&self, alloc: A) -> Result<Box<Self, A>, AllocError>
+        ensures { IfOk result (λ b. formula_of b.value ≡ formula_of self.now) }
+    {
+        Ok(Box::new(alloc, self.copy(alloc)?)?)
     }
 }

@@ -1,0 +1,5 @@
+use Rattle.std.proofs.Common.{rules}
+use Rattle.lw_base.proofs.name.is_name.Goals as goal
+
+pub returns-then-text-le-MAX_BYTES : goal.returns-then-text-le-MAX_BYTES
+returns-then-text-le-MAX_BYTES c = search rules

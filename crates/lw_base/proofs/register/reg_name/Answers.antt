@@ -1,0 +1,8 @@
+use Rattle.std.proofs.Common.{rules}
+use Rattle.lw_base.proofs.register.reg_name.Goals as goal
+
+pub returns-in-X86-eq1 : goal.returns-in-X86-eq1
+returns-in-X86-eq1 c = search rules
+
+pub returns-in-X86-eq2 : goal.returns-in-X86-eq2
+returns-in-X86-eq2 c = search rules

@@ -1,0 +1,5 @@
+use Rattle.std.proofs.Common.{rules}
+use Rattle.lw_base.proofs.sequence.Sequence.from_slice.Goals as goal
+
+pub returns : goal.returns
+returns g c = search rules
