@@ -173,41 +173,79 @@ fn directed(alloc: Global, open: &[(u8, u8)], number: u32) -> Result<Vec<(u8, u8
     Ok(directed)
 }
 
-/// Asserts that so many orders are given, and that they are those of the plain body: the numbers upwards from 0, each
-/// open pair a bit, the graph of each, and its order where it has no cycle.
-fn assert_as_plain(
-    rt: &impl Abort,
+/// The conflicts between whose items the fixed pairs lead no walk.
+fn left_open(
+    alloc: Global,
+    fixed: &[(u8, u8)],
+    conflicts: &[(u8, u8)],
+) -> Result<Vec<(u8, u8)>, AllocError> {
+    let mut open = Vec::new(alloc);
+    for (first, second) in conflicts {
+        if !leads(alloc, fixed, *first, *second)? {
+            open.push((*first, *second))?;
+        }
+    }
+    Ok(open)
+}
+
+/// The order of the fixed pairs and of the open ones as the number's bits direct them, where these close no cycle.
+fn order_under(
+    alloc: Global,
+    len: u8,
+    fixed: &[(u8, u8)],
+    open: &[(u8, u8)],
+    number: u32,
+) -> Result<Option<Vec<u8>>, AllocError> {
+    let mut pairs = directed(alloc, open, number)?;
+    pairs.extend_from_slice(fixed)?;
+    plain_order(alloc, len, &pairs)
+}
+
+/// How many orders are given, where they begin with those of the plain body: the numbers upwards from 0, each open pair a
+/// bit, the graph of each, and its order where it has no cycle.
+fn given_as_plain(
+    alloc: Global,
+    len: u8,
+    fixed: &[(u8, u8)],
+    open: &[(u8, u8)],
+    orders: &mut Orders,
+) -> Result<Option<u32>, AllocError> {
+    let mut numbers = 1u32;
+    for _ in open {
+        numbers = numbers.saturating_mul(2);
+    }
+    let mut given = 0u32;
+    for number in 0..numbers {
+        if let Some(order) = order_under(alloc, len, fixed, open, number)? {
+            if !is_order(orders.next(), order.as_slice()) {
+                return Ok(None);
+            }
+            given = given.saturating_add(1);
+        }
+    }
+    Ok(Some(given))
+}
+
+/// Whether so many orders are given, and they are those of the plain body.
+fn is_as_plain(
     alloc: Global,
     len: u8,
     fixed: &[(u8, u8)],
     conflicts: &[(u8, u8)],
     wanted: u32,
-) -> Result<(), AllocError>
+) -> Result<bool, AllocError>
     requires { IsWellFormed (record { len = len; fixed = fixed.now; conflicts = conflicts.now }) }
 {
     let items = items_of(alloc, usize::from(len), fixed, conflicts)?;
-    assert!(rt; count(alloc, &items)?.is_some());
+    if count(alloc, &items)?.is_none() {
+        return Ok(false);
+    }
+    let open = left_open(alloc, fixed, conflicts)?;
     let mut orders = Orders::new(alloc, &items)?;
-    let mut open = Vec::new(alloc);
-    let mut numbers = 1u32;
-    for (first, second) in conflicts {
-        if !leads(alloc, fixed, *first, *second)? {
-            open.push((*first, *second))?;
-            numbers = numbers.saturating_mul(2);
-        }
+    match given_as_plain(alloc, len, fixed, &open, &mut orders)? {
+        Some(given) => Ok(given == wanted && orders.next().is_none()),
+        None => Ok(false),
     }
-    let mut given = 0u32;
-    for number in 0..numbers {
-        let mut pairs = directed(alloc, &open, number)?;
-        pairs.extend_from_slice(fixed)?;
-        if let Some(order) = plain_order(alloc, len, &pairs)? {
-            assert!(rt; is_order(orders.next(), order.as_slice()));
-            given = given.saturating_add(1);
-        }
-    }
-    assert!(rt; orders.next().is_none());
-    assert!(rt; given == wanted);
-    Ok(())
 }
 
 #[test]
@@ -388,7 +426,7 @@ fn most_items_in_one_chain(rt: HostRuntime) -> Result<(), Fail> {
 /// Store buffering as sources: each of two threads stores to its own location, and then loads the other's.
 #[test]
 fn store_buffering_is_as_the_plain_body_has_it(rt: HostRuntime) -> Result<(), Fail> {
-    assert_as_plain(&rt, rt.alloc(), 4, &[(0, 1), (2, 3)], &[(0, 3), (1, 2)], 3)?;
+    assert!(rt; is_as_plain(rt.alloc(), 4, &[(0, 1), (2, 3)], &[(0, 3), (1, 2)], 3)?);
     Ok(())
 }
 
@@ -397,7 +435,7 @@ fn store_buffering_is_as_the_plain_body_has_it(rt: HostRuntime) -> Result<(), Fa
 #[test]
 fn drained_store_buffering_is_as_the_plain_body_has_it(rt: HostRuntime) -> Result<(), Fail> {
     let fixed = [(0, 1), (0, 2), (3, 4), (3, 5)];
-    assert_as_plain(&rt, rt.alloc(), 6, &fixed, &[(1, 5), (2, 4)], 4)?;
+    assert!(rt; is_as_plain(rt.alloc(), 6, &fixed, &[(1, 5), (2, 4)], 4)?);
     Ok(())
 }
 
@@ -406,7 +444,7 @@ fn drained_store_buffering_is_as_the_plain_body_has_it(rt: HostRuntime) -> Resul
 #[test]
 fn independent_reads_are_as_the_plain_body_has_them(rt: HostRuntime) -> Result<(), Fail> {
     let conflicts = [(0, 2), (0, 5), (1, 3), (1, 4)];
-    assert_as_plain(&rt, rt.alloc(), 6, &[(2, 3), (4, 5)], &conflicts, 15)?;
+    assert!(rt; is_as_plain(rt.alloc(), 6, &[(2, 3), (4, 5)], &conflicts, 15)?);
     Ok(())
 }
 
@@ -424,7 +462,7 @@ fn crossed_stores_are_as_the_plain_body_has_them(rt: HostRuntime) -> Result<(), 
         (5, 7),
         (6, 7),
     ];
-    assert_as_plain(&rt, rt.alloc(), 8, &fixed, &[(1, 7), (3, 5)], 3)?;
+    assert!(rt; is_as_plain(rt.alloc(), 8, &fixed, &[(1, 7), (3, 5)], 3)?);
     Ok(())
 }
 
@@ -434,7 +472,7 @@ fn crossed_stores_are_as_the_plain_body_has_them(rt: HostRuntime) -> Result<(), 
 fn own_stores_first_are_as_the_plain_body_has_them(rt: HostRuntime) -> Result<(), Fail> {
     let fixed = [(0, 1), (0, 2), (2, 3), (4, 5), (4, 6), (6, 7)];
     let conflicts = [(1, 2), (1, 7), (3, 5), (5, 6)];
-    assert_as_plain(&rt, rt.alloc(), 8, &fixed, &conflicts, 15)?;
+    assert!(rt; is_as_plain(rt.alloc(), 8, &fixed, &conflicts, 15)?);
     Ok(())
 }
 
@@ -443,25 +481,26 @@ fn own_stores_first_are_as_the_plain_body_has_them(rt: HostRuntime) -> Result<()
 /// store, the drain, the comparison, the branch and the load (6 to 10).
 #[test]
 fn a_fence_jumped_over_is_as_the_plain_body_has_it(rt: HostRuntime) -> Result<(), Fail> {
-    assert_as_plain(
-        &rt,
-        rt.alloc(),
-        11,
-        &[
-            (0, 1),
-            (0, 2),
-            (1, 4),
-            (2, 3),
-            (3, 4),
-            (4, 5),
-            (6, 7),
-            (6, 8),
-            (8, 9),
-            (9, 10),
-        ],
-        &[(1, 10), (5, 7)],
-        4,
-    )?;
+    assert!(rt;
+        is_as_plain(
+            rt.alloc(),
+            11,
+            &[
+                (0, 1),
+                (0, 2),
+                (1, 4),
+                (2, 3),
+                (3, 4),
+                (4, 5),
+                (6, 7),
+                (6, 8),
+                (8, 9),
+                (9, 10),
+            ],
+            &[(1, 10), (5, 7)],
+            4,
+        )?
+    );
     Ok(())
 }
 
