@@ -53,6 +53,17 @@ no_jump names lines k (Jumps_if r n m) e = absurd cc
 no_jump names lines k (Jumps_if_not r n m) e = absurd cc
 no_jump names lines k (Jumps m) e = absurd cc
 
+-- no branch and no `goto`
+pub no_target : (stmt : Stmt) → ((r n to : ℕ) → stmt ≡ IfEq r n to → ⊥) → ((r n to : ℕ) → stmt ≡ IfNe r n to → ⊥) → ((to : ℕ) → stmt ≡ Goto to → ⊥) → target_of stmt ≡ None
+no_target (Store x v) equal unequal goto = refl
+no_target (Load d x) equal unequal goto = refl
+no_target (Swap d x a) equal unequal goto = refl
+no_target (Set d v) equal unequal goto = refl
+no_target (Sum d a v) equal unequal goto = refl
+no_target (IfEq r n to) equal unequal goto = absurd (equal r n to refl)
+no_target (IfNe r n to) equal unequal goto = absurd (unequal r n to refl)
+no_target (Goto to) equal unequal goto = absurd (goto to refl)
+
 some_token : (tokens front : List Token) (t : Token) → tokens ≡ front ++ t ∷ [] → 0 < length tokens
 some_token tokens [] t e = omega (arith, ap length e)
 some_token tokens (x ∷ front) t e = omega (arith, ap length e)
