@@ -2,6 +2,7 @@
 use Rattle.std.proofs.Common.{◌≡◌, ℕ, suc, ◌<◌, ◌≤◌, ◌+◌, List, [], ◌∷◌, ◌++◌, length, map, take, get_or, refl, sym, ap, ◌∙◌, subst, Result, Ok, Err, arith}
 use Rattle.std.specs.Result.{MatchResult}
 use Rattle.lw_base.specs.declared.stop.Stop.{Stop}
+use Rattle.lw_base.specs.declared.stop.End.{End}
 use Rattle.lw_base.specs.declared.stop.End.TheVariants as at
 use Rattle.std.proofs.Math.Seq.{take-suc}
 use Rattle.std.proofs.Math.ListN.{length-set}
@@ -15,7 +16,7 @@ use Rattle.lw_source.specs.Statements.{value_of, thread_after, words_after}
 use Rattle.lw_base.specs.declared.event.Event.{Event}
 use Rattle.lw_source.specs.declared.stmt.Stmt.{Stmt}
 use Rattle.lw_base.specs.Outcomes.{Final}
-use Rattle.lw_source.specs.Runs.{State, Running, Replayed, outcome_of, Ran, source_step, source_event, carried_out, step_of, code_of}
+use Rattle.lw_source.specs.Runs.{State, Running, Replayed, EndsAs, outcome_of, Ran, source_step, source_event, carried_out, step_of, code_of}
 use Rattle.std.proofs.lemmas.Bool.{lt-ltb}
 use Rattle.std.proofs.lemmas.List.{map-append, take_all}
 use Rattle.std.proofs.lemmas.Option.{slice_get-map, slice_get_within}
@@ -50,6 +51,15 @@ stopped Q program events e done s mid end answer stop told kept failed within is
       within = omega (arith, within);
       ran = subst (λ (m : State). Ran program (take done events) s m) (sym (kept r.1)) ran;
       ends = (e, at_index events done e within ∙ ap Some (sym is), subst (λ (m : State). source_event program e m ≡ Err stop) (sym (kept r.1)) r.0);
+    }
+
+-- a replay that carries out all events
+pub replayed_all : (program : List (List Stmt)) (events : List Event) (k : ℕ) (s last : State) (end : End) → length events ≤ k → Ran program (take k events) s last → EndsAs program events (length events) last end → Replayed program events s (record { done = length events; end = end }) last
+replayed_all program events k s last end done ran ends =
+    record {
+      within = omega arith;
+      ran = subst (λ (es : List Event). Ran program es s last) (take_all k events done ∙ sym (take_all (length events) events (omega arith))) ran;
+      ends = ends;
     }
 
 -- no thread has a store to drain
