@@ -81,3 +81,18 @@ returns-in_default g c =
       cause = λ names lines s made ends. tt;
       place = λ len within. tt;
     }
+
+pub returns-in_err-to-in-IfEq-clause-found : goal.returns-in_err-to-in-IfEq-clause-found
+returns-in_err-to-in-IfEq-clause-found g c names lines s made known ends =
+    let p = err_from_is_err_and c.from_residual.result c.from_residual.ensures.1 in
+    rw p.1 tt
+
+pub returns-in_err-to-in-IfNe-clause-found : goal.returns-in_err-to-in-IfNe-clause-found
+returns-in_err-to-in-IfNe-clause-found g c names lines s made known ends =
+    let p = err_from_is_err_and c.from_residual-in_err-to-in-IfNe.result c.from_residual-in_err-to-in-IfNe.ensures.1 in
+    rw p.1 tt
+
+pub returns-in_err-to-in-Goto-clause-found : goal.returns-in_err-to-in-Goto-clause-found
+returns-in_err-to-in-Goto-clause-found g c names lines s made known ends =
+    let p = err_from_is_err_and c.from_residual-in_err-to-in-Goto.result c.from_residual-in_err-to-in-Goto.ensures.1 in
+    rw p.1 tt

@@ -35,3 +35,13 @@ pub returns-in_err-read_statement-clause-place : goal.returns-in_err-read_statem
 returns-in_err-read_statement-clause-place g c len within =
     let p = err_from_is_err_and c.from_residual.result c.from_residual.ensures.1 in
     rw (p.1, p.2) (c.in_err-read_statement.ensures.place len within)
+
+pub returns-in_err-read_statement-clause-found : goal.returns-in_err-read_statement-clause-found
+returns-in_err-read_statement-clause-found g c =
+    let p = err_from_is_err_and c.from_residual.result c.from_residual.ensures.1 in
+    rw p.1 tt
+
+pub returns-in_err-read_statement-clause-room : goal.returns-in_err-read_statement-clause-room
+returns-in_err-read_statement-clause-room g c =
+    let p = err_from_is_err_and c.from_residual.result c.from_residual.ensures.1 in
+    rw p.1 tt

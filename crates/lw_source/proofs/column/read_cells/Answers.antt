@@ -84,3 +84,18 @@ pub returns-in_err-push-clause-place : goal.returns-in_err-push-clause-place
 returns-in_err-push-clause-place g c len within =
     let p = err_from_is_err_and c.from_residual-in_err-push.result c.from_residual-in_err-push.ensures.1 in
     rw (p.1, p.2.0) (omega arith)
+
+pub returns-in_err-start-clause-found : goal.returns-in_err-start-clause-found
+returns-in_err-start-clause-found g c =
+    let p = err_from_is_err_and c.from_residual.result c.from_residual.ensures.1 in
+    rw p.1 tt
+
+pub returns-in_err-stmt-clause-found : goal.returns-in_err-stmt-clause-found
+returns-in_err-stmt-clause-found g c =
+    let p = err_from_is_err_and c.from_residual-in_err-stmt.result c.from_residual-in_err-stmt.ensures.1 in
+    rw p.1 tt
+
+pub returns-in_err-push-clause-found : goal.returns-in_err-push-clause-found
+returns-in_err-push-clause-found g c =
+    let p = err_from_is_err_and c.from_residual-in_err-push.result c.from_residual-in_err-push.ensures.1 in
+    rw p.1 tt

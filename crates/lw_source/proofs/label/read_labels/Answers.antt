@@ -52,3 +52,23 @@ returns-in_err-push-clause-place g c len within =
 
 pub returns-clause-found : goal.returns-clause-found
 returns-clause-found g c = c.loop-token.invariant
+
+pub returns-in_err-label-clause-found : goal.returns-in_err-label-clause-found
+returns-in_err-label-clause-found g c =
+    let p = err_from_is_err_and c.from_residual.result c.from_residual.ensures.1 in
+    rw p.1 tt
+
+pub returns-in_err-label-clause-stops : goal.returns-in_err-label-clause-stops
+returns-in_err-label-clause-stops g c =
+    let p = err_from_is_err_and c.from_residual.result c.from_residual.ensures.1 in
+    rw p.1 tt
+
+pub returns-in_err-push-clause-found : goal.returns-in_err-push-clause-found
+returns-in_err-push-clause-found g c =
+    let p = err_from_is_err_and c.from_residual-in_err-push.result c.from_residual-in_err-push.ensures.1 in
+    rw p.1 tt
+
+pub returns-in_err-push-clause-stops : goal.returns-in_err-push-clause-stops
+returns-in_err-push-clause-stops g c =
+    let p = err_from_is_err_and c.from_residual-in_err-push.result c.from_residual-in_err-push.ensures.1 in
+    rw p.1 tt

@@ -49,3 +49,13 @@ returns-in_err-push-clause-place g c len within =
 
 pub returns-clause-found : goal.returns-clause-found
 returns-clause-found g c = subst (λ columns. ColumnsRead (all_texts columns) c.args.locs.now c.loop-column.threads c.loop-column.locs) (take_all c.loop-column.column-index c.args.columns.now c.loop-column-test.false) c.loop-column.invariant
+
+pub returns-in_err-stmts-clause-found : goal.returns-in_err-stmts-clause-found
+returns-in_err-stmts-clause-found g c =
+    let p = err_from_is_err_and c.from_residual.result c.from_residual.ensures.1 in
+    rw p.1 tt
+
+pub returns-in_err-push-clause-found : goal.returns-in_err-push-clause-found
+returns-in_err-push-clause-found g c =
+    let p = err_from_is_err_and c.from_residual-in_err-push.result c.from_residual-in_err-push.ensures.1 in
+    rw p.1 tt

@@ -46,3 +46,28 @@ returns-clause-found g c =
     let zeros : length c.read_threads.new.locs - length c.in_ok-head.head.init_words ≡ length c.read_threads.new.locs - length c.in_ok-head.head.locs =
     omega (arith, ap (λ (h : TestHead). length h.init_words) same, ap (λ (h : TestHead). length h.locs) same, c.args.frame.now.words) in
     source_found _ _ same _ _ _ _ (rw c.as_slice-columns.ensures at c.in_ok-threads.ensures.found) c.in_ok-threads.ensures.few (c.in_ok-threads.ensures.words ∙ ap (λ (n : ℕ). c.in_ok-head.head.init_words ++ replicate n 0) zeros)
+
+pub returns-in_err-head-clause-found : goal.returns-in_err-head-clause-found
+returns-in_err-head-clause-found g c =
+    let p = err_from_is_err_and c.from_residual.result c.from_residual.ensures.1 in
+    rw p.1 tt
+
+pub returns-in_err-threads-clause-found : goal.returns-in_err-threads-clause-found
+returns-in_err-threads-clause-found g c =
+    let p = err_from_is_err_and c.from_residual-in_err-threads.result c.from_residual-in_err-threads.ensures.1 in
+    rw p.1 tt
+
+pub returns-in_err-head-clause-fault : goal.returns-in_err-head-clause-fault
+returns-in_err-head-clause-fault g c =
+    let p = err_from_is_err_and c.from_residual.result c.from_residual.ensures.1 in
+    rw p.1 (λ known. absurd (known p.2.1))
+
+pub returns-in_err-head-clause-cause : goal.returns-in_err-head-clause-cause
+returns-in_err-head-clause-cause g c =
+    let p = err_from_is_err_and c.from_residual.result c.from_residual.ensures.1 in
+    rw (p.1, p.2.1) tt
+
+pub returns-in_err-head-clause-place : goal.returns-in_err-head-clause-place
+returns-in_err-head-clause-place g c =
+    let p = err_from_is_err_and c.from_residual.result c.from_residual.ensures.1 in
+    rw (p.1, p.2.0) (omega arith)

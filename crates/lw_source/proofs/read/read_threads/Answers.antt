@@ -41,3 +41,33 @@ returns-clause-few g c = c.len-len.ensures.table.few
 
 pub returns-clause-words : goal.returns-clause-words
 returns-clause-words g c = c.in_ok-fill.ensures ∙ ap (λ (n : ℕ). c.args.words.now ++ replicate (n - length c.args.words.now) 0) c.len-len.ensures.len
+
+pub returns-in_err-threads-clause-found : goal.returns-in_err-threads-clause-found
+returns-in_err-threads-clause-found g c =
+    let p = err_from_is_err_and c.from_residual.result c.from_residual.ensures.1 in
+    rw p.1 tt
+
+pub returns-in_err-threads-clause-few : goal.returns-in_err-threads-clause-few
+returns-in_err-threads-clause-few g c =
+    let p = err_from_is_err_and c.from_residual.result c.from_residual.ensures.1 in
+    rw p.1 tt
+
+pub returns-in_err-threads-clause-words : goal.returns-in_err-threads-clause-words
+returns-in_err-threads-clause-words g c =
+    let p = err_from_is_err_and c.from_residual.result c.from_residual.ensures.1 in
+    rw p.1 tt
+
+pub returns-in_err-fill-clause-found : goal.returns-in_err-fill-clause-found
+returns-in_err-fill-clause-found g c =
+    let p = err_from_is_err_and c.from_residual-in_err-fill.result c.from_residual-in_err-fill.ensures.1 in
+    rw p.1 tt
+
+pub returns-in_err-fill-clause-few : goal.returns-in_err-fill-clause-few
+returns-in_err-fill-clause-few g c =
+    let p = err_from_is_err_and c.from_residual-in_err-fill.result c.from_residual-in_err-fill.ensures.1 in
+    rw p.1 tt
+
+pub returns-in_err-fill-clause-words : goal.returns-in_err-fill-clause-words
+returns-in_err-fill-clause-words g c =
+    let p = err_from_is_err_and c.from_residual-in_err-fill.result c.from_residual-in_err-fill.ensures.1 in
+    rw p.1 tt

@@ -54,3 +54,18 @@ pub returns-in_err-ends-clause-place : goal.returns-in_err-ends-clause-place
 returns-in_err-ends-clause-place c len within =
     let p = err_from_is_err_and c.from_residual-in_err-ends.result c.from_residual-in_err-ends.ensures.1 in
     rw (p.1, p.2) (c.in_err-ends.ensures.place len within)
+
+pub returns-in_err-token-clause-found : goal.returns-in_err-token-clause-found
+returns-in_err-token-clause-found c =
+    let p = err_from_is_err_and c.from_residual.result c.from_residual.ensures.1 in
+    rw p.1 tt
+
+pub returns-in_err-label-clause-found : goal.returns-in_err-label-clause-found
+returns-in_err-label-clause-found c =
+    let p = err_from_is_err_and c.from_residual-in_err-label.result c.from_residual-in_err-label.ensures.1 in
+    rw p.1 tt
+
+pub returns-in_err-ends-clause-found : goal.returns-in_err-ends-clause-found
+returns-in_err-ends-clause-found c =
+    let p = err_from_is_err_and c.from_residual-in_err-ends.result c.from_residual-in_err-ends.ensures.1 in
+    rw p.1 tt

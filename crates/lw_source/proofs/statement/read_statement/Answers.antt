@@ -160,3 +160,38 @@ pub returns-in_err-val-clause-cause : goal.returns-in_err-val-clause-cause
 returns-in_err-val-clause-cause g c =
     let p = err_from_is_err_and c.from_residual-in_err-val.result c.from_residual-in_err-val.ensures.1 in
     rw (p.1, p.2) (misfit_cause _ _ _ _ c.in_err-val.ensures.cause)
+
+pub returns-in_err-first-clause-found : goal.returns-in_err-first-clause-found
+returns-in_err-first-clause-found g c =
+    let p = err_from_is_err_and c.from_residual.result c.from_residual.ensures.1 in
+    rw p.1 tt
+
+pub returns-in_err-expect-clause-found : goal.returns-in_err-expect-clause-found
+returns-in_err-expect-clause-found g c =
+    let p = err_from_is_err_and c.from_residual-in_err-expect.result c.from_residual-in_err-expect.ensures.1 in
+    rw p.1 tt
+
+pub returns-in_err-loc-clause-found : goal.returns-in_err-loc-clause-found
+returns-in_err-loc-clause-found g c =
+    let p = err_from_is_err_and c.from_residual-in_err-loc.result c.from_residual-in_err-loc.ensures.1 in
+    rw p.1 tt
+
+pub returns-in_err-expect-2-clause-found : goal.returns-in_err-expect-2-clause-found
+returns-in_err-expect-2-clause-found g c =
+    let p = err_from_is_err_and c.from_residual-in_err-expect-2.result c.from_residual-in_err-expect-2.ensures.1 in
+    rw p.1 tt
+
+pub returns-in_err-token-clause-found : goal.returns-in_err-token-clause-found
+returns-in_err-token-clause-found g c =
+    let p = err_from_is_err_and c.from_residual-in_err-token.result c.from_residual-in_err-token.ensures.1 in
+    rw p.1 tt
+
+pub returns-in_err-val-clause-found : goal.returns-in_err-val-clause-found
+returns-in_err-val-clause-found g c =
+    let p = err_from_is_err_and c.from_residual-in_err-val.result c.from_residual-in_err-val.ensures.1 in
+    rw p.1 tt
+
+pub returns-in_err-ends-clause-found : goal.returns-in_err-ends-clause-found
+returns-in_err-ends-clause-found g c =
+    let p = err_from_is_err_and c.from_residual-in_err-ends.result c.from_residual-in_err-ends.ensures.1 in
+    rw p.1 tt

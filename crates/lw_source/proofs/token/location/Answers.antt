@@ -1,4 +1,4 @@
-use Rattle.std.proofs.Common.{refl, ◌≡◌, true, false}
+use Rattle.std.proofs.Common.{refl, ◌≡◌, true, false, arith}
 use Rattle.std.proofs.lemmas.Result.{err_from_is_err_and}
 use Rattle.lw_source.proofs.Phrases.{not_both}
 use Rattle.lw_source.proofs.NewNames.{is_ninth}
@@ -32,3 +32,28 @@ pub returns-in_err-loc-clause-fault : goal.returns-in_err-loc-clause-fault
 returns-in_err-loc-clause-fault g c =
     let p = err_from_is_err_and c.from_residual.result c.from_residual.ensures.1 in
     rw p.1 (λ known. absurd (known p.2.1))
+
+pub returns-in_err-loc-clause-name : goal.returns-in_err-loc-clause-name
+returns-in_err-loc-clause-name g c =
+    let p = err_from_is_err_and c.from_residual.result c.from_residual.ensures.1 in
+    rw p.1 tt
+
+pub returns-in_err-loc-clause-found : goal.returns-in_err-loc-clause-found
+returns-in_err-loc-clause-found g c =
+    let p = err_from_is_err_and c.from_residual.result c.from_residual.ensures.1 in
+    rw p.1 tt
+
+pub returns-in_err-loc-clause-names : goal.returns-in_err-loc-clause-names
+returns-in_err-loc-clause-names g c =
+    let p = err_from_is_err_and c.from_residual.result c.from_residual.ensures.1 in
+    rw p.1 tt
+
+pub returns-in_err-loc-clause-cause : goal.returns-in_err-loc-clause-cause
+returns-in_err-loc-clause-cause g c =
+    let p = err_from_is_err_and c.from_residual.result c.from_residual.ensures.1 in
+    rw (p.1, p.2.1) tt
+
+pub returns-in_err-loc-clause-place : goal.returns-in_err-loc-clause-place
+returns-in_err-loc-clause-place g c len within =
+    let p = err_from_is_err_and c.from_residual.result c.from_residual.ensures.1 in
+    rw (p.1, p.2.0) (omega arith)

@@ -38,3 +38,8 @@ returns-then-ne-clause-place c len within = rw c.misfit.ensures.place (c.in_ok-t
 
 pub returns-clause-ok : goal.returns-clause-ok
 returns-clause-ok c = c.in_ok-token.ensures.found ∙ ap Some (same_word _ _ (was_true _ c.if-ne.ensures))
+
+pub returns-in_err-token-clause-ok : goal.returns-in_err-token-clause-ok
+returns-in_err-token-clause-ok c =
+    let p = err_from_is_err_and c.from_residual.result c.from_residual.ensures.1 in
+    rw p.1 tt
