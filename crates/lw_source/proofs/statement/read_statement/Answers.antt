@@ -195,3 +195,12 @@ pub returns-in_err-ends-clause-found : goal.returns-in_err-ends-clause-found
 returns-in_err-ends-clause-found g c =
     let p = err_from_is_err_and c.from_residual-in_err-ends.result c.from_residual-in_err-ends.ensures.1 in
     rw p.1 tt
+
+pub read_goto-requires : goal.read_goto-requires
+read_goto-requires g c = c.in_ok-first.ensures.found ∙ ap Some (same_word _ _ c.if-eq.ensures)
+
+pub read_if-requires : goal.read_if-requires
+read_if-requires g c = c.in_ok-first.ensures.found ∙ ap Some (same_word _ _ c.if-eq-2.ensures)
+
+pub read_value-requires : goal.read_value-requires
+read_value-requires g c = record { first = (_, c.in_ok-first.ensures.found, c.in-Some.ensures); sign = c.in_ok-expect.ensures.ok }

@@ -1,4 +1,4 @@
-use Rattle.std.proofs.Common.{◌≡◌, sym, subst, arith, length, ◌≤◌}
+use Rattle.std.proofs.Common.{◌≡◌, ◌∙◌, ap, Some, sym, subst, arith, length, ◌≤◌}
 use Rattle.std.specs.Prelude.{codes}
 use Rattle.std.proofs.lemmas.Result.{err_from_is_err_and, IfOk-weaker, IfErr-weaker}
 use Rattle.lw_base.specs.declared.head.Arch.TheVariants.{Source}
@@ -131,3 +131,9 @@ pub returns-in_err-ends-2-clause-found : goal.returns-in_err-ends-2-clause-found
 returns-in_err-ends-2-clause-found g c =
     let p = err_from_is_err_and c.from_residual-in_err-ends-2.result c.from_residual-in_err-ends-2.ensures.1 in
     rw p.1 tt
+
+pub read_swap-requires : goal.read_swap-requires
+read_swap-requires g c = record { first = c.requires.first; sign = c.requires.sign; third = c.in_ok-third.ensures.found ∙ ap Some (same_word _ _ c.if-eq.ensures) }
+
+pub read_sum-requires : goal.read_sum-requires
+read_sum-requires g c = record { first = c.requires.first; sign = c.requires.sign; third = (_, c.in_ok-third.ensures.found, c.in-Some.ensures) }
