@@ -1,6 +1,7 @@
 -- Leading the jumps of a thread to where their labels stand.
-use Rattle.std.proofs.Common.{◌≡◌, ℕ, ◌<◌, Some, None, List, [], ◌∷◌, ◌++◌, length, refl, sym, ap, ◌∙◌, subst, arith}
+use Rattle.std.proofs.Common.{◌≡◌, ℕ, ◌<◌, Some, None, List, [], ◌∷◌, ◌++◌, length, length-append, get_or, ◌-◌, refl, sym, ap, ◌∙◌, subst, arith}
 use Rattle.std.specs.Prelude.{Contains}
+use Rattle.std.proofs.Math.Seq.{get_or-append_seam}
 use Rattle.lw_base.specs.declared.fault.CellCause.{CellCause}
 use Rattle.lw_base.specs.declared.fault.CellCause.TheVariants.{Form, Register, LabelMissing, LabelTwice, Backward, TooMany, Memory}
 use Rattle.lw_text.specs.declared.token.Token.{Token}
@@ -67,6 +68,13 @@ no_target (Goto to) equal unequal goto = absurd (goto to refl)
 some_token : (tokens front : List Token) (t : Token) → tokens ≡ front ++ t ∷ [] → 0 < length tokens
 some_token tokens [] t e = omega (arith, ap length e)
 some_token tokens (x ∷ front) t e = omega (arith, ap length e)
+
+-- the last of some tokens
+pub last_token : (tokens row front : List Token) (l d : Token) → tokens ≡ row → row ≡ front ++ l ∷ [] → get_or tokens (length tokens - 1) d ≡ l
+last_token tokens row front l d same last =
+    let whole : tokens ≡ front ++ l ∷ [] = same ∙ last in
+    let place : length tokens - 1 ≡ length front = omega (arith, ap length whole, length-append front (l ∷ [])) in
+    rw (place, whole) (get_or-append_seam front l [] d)
 
 -- A jump of this number, whose label is the last of these tokens.
 module _ (names : List (List ℕ)) (lines : List Line) (labels : List (List ℕ × ℕ)) (tokens : List Token) (s : Written) (number : ℕ) (stmt : Stmt) (t0 : ℕ) (made : stmt ≡ placed names [] s) (jump : target_of stmt ≡ Some t0) (ends : EndsWithLabel tokens s) where

@@ -3,6 +3,9 @@ use Rattle.std.specs.Prelude.{replicate}
 use Rattle.std.proofs.lemmas.Result.{err_from_is_err_and}
 use Rattle.lw_source.proofs.read.read_threads.Goals as goal
 
+pub returns-clause-found : goal.returns-clause-found
+returns-clause-found g c = c.in_ok-threads.ensures.found
+
 pub returns-in_err-threads-clause-fault : goal.returns-in_err-threads-clause-fault
 returns-in_err-threads-clause-fault g c =
     let p = err_from_is_err_and c.from_residual.result c.from_residual.ensures.1 in
@@ -32,9 +35,6 @@ pub returns-in_err-fill-clause-place : goal.returns-in_err-fill-clause-place
 returns-in_err-fill-clause-place g c len within =
     let p = err_from_is_err_and c.from_residual-in_err-fill.result c.from_residual-in_err-fill.ensures.1 in
     rw (p.1, p.2.0) (omega arith)
-
-pub returns-clause-found : goal.returns-clause-found
-returns-clause-found g c = c.in_ok-threads.ensures.found
 
 pub returns-clause-few : goal.returns-clause-few
 returns-clause-few g c = c.len-len.ensures.table.few
