@@ -1,6 +1,8 @@
 -- Reading the cells of a thread, one further.
-use Rattle.std.proofs.Common.{◌≡◌, ℕ, zero, suc, ◌<◌, ◌≤◌, ◌+◌, Option, Some, None, List, [], ◌∷◌, ◌++◌, length, length-append, map, take, drop, get_or, refl, sym, ap, ◌∙◌, subst, arith}
-use Rattle.std.specs.Prelude.{slice_get, codes}
+use Rattle.std.proofs.Common.{◌≡◌, ℕ, zero, suc, ◌<◌, ◌≤◌, ◌+◌, Option, Some, None, ◌⊎◌, inl, inr, List, [], ◌∷◌, ◌++◌, length, length-append, map, take, drop, get_or, refl, sym, ap, ◌∙◌, subst, arith}
+use Rattle.std.specs.Prelude.{slice_get, codes, All}
+use Rattle.lw_base.specs.declared.fault.CellCause.{CellCause}
+use Rattle.lw_base.specs.declared.fault.CellCause.TheVariants.{TooMany}
 use Rattle.std.specs.List.{AllZip, filter_map, cons_option}
 use Rattle.std.specs.Option.{option_map, option_len, ForSome}
 use Rattle.std.proofs.lemmas.List.{map-append, append_assoc, take-append-drop}
@@ -15,9 +17,10 @@ use Rattle.lw_text.specs.Spans.{texts}
 use Rattle.lw_text.specs.Places.{cell_texts, cells_texts}
 use Rattle.lw_source.specs.declared.stmt.Stmt.{Stmt}
 use Rattle.lw_source.specs.declared.label.Label.{Label}
-use Rattle.lw_source.specs.Cells.{Written, Line, MaybeStatement, Labels, CellSays, Column, statements, labels_of, name_of, names_in, placed}
-use Rattle.lw_source.specs.Reading.{AtLabel, LabelsRead, StatementRead, MaybeRead, DraftRead, bare, pairs, first_names, leading, leading_in}
+use Rattle.lw_source.specs.Cells.{Written, Line, Statement, MaybeStatement, Labels, CellSays, Column, statements, labels_of, name_of, names_in, placed}
+use Rattle.lw_source.specs.Reading.{IsMisfit, MaybeCause, named_by, AtLabel, LabelsRead, StatementRead, MaybeRead, DraftRead, bare, pairs, first_names, leading, leading_in}
 use Rattle.lw_source.proofs.LabelRows.{Labels-rest}
+use Rattle.lw_source.proofs.Phrases.{maybe_cause, misfit_cause}
 use Rattle.lw_source.proofs.Leads.{statements-append, labels_of-append, first_names_in, leading_in-append}
 use Rattle.lw_source.proofs.OneReading.{cell_unique, Labels-unique, no_label, zip_unique, zip_more, zip_cut}
 use Rattle.lw_source.proofs.Names.{AllThere, all_there, placed-along}
@@ -159,3 +162,39 @@ draft_none names = (record { lines = []; says = tt; few = omega arith; once = tt
 
 pub maybe_some : (ts : List (List ℕ)) (before : List (List ℕ)) (stmt : Stmt) (after : List (List ℕ)) → StatementRead ts before stmt after → MaybeRead ts before (Some stmt) after
 maybe_some ts before stmt after r = record { written = Some r.written; says = r.says; names = r.names; made = ap Some r.made }
+
+pub at_most_one : {X : Type 0} (o : Option X) → option_len o ≤ 1
+at_most_one None = omega arith
+at_most_one (Some x) = omega arith
+
+-- What stands behind the labels of a cell, by its first token.
+pub maybe_none : (tokens : List Token) (names : List (List ℕ)) → None ≡ slice_get tokens 0 → MaybeRead (texts tokens) names None names
+maybe_none [] names e = record { written = None; says = refl; names = refl; made = refl }
+maybe_none (t ∷ tokens) names e = absurd cc
+
+module _ (tokens : List Token) (t : Token) (first : Some t ≡ slice_get tokens 0) where
+  not_empty : texts tokens ≡ [] → ⊥
+  not_empty e = go tokens first e
+    where
+      go : (ts : List Token) → Some t ≡ slice_get ts 0 → texts ts ≡ [] → ⊥
+      go [] f e = absurd cc
+      go (u ∷ ts) f e = absurd cc
+
+  pub no_room : (above : ℕ) → above ≡ 16 → (s : Option Written) → MaybeStatement (texts tokens) s → above + length (statements (bare s ∷ [])) ≤ 16 → ⊥
+  no_room above full None says few = not_empty says
+  no_room above full (Some s) says few = omega (arith, full, few)
+
+  pub only_some : (names : List (List ℕ)) → ((s : Written) → Statement (texts tokens) s → length (with_names names (named_by s)) ≤ 8 → ⊥) → (s : Option Written) → MaybeStatement (texts tokens) s → length (with_names names (names_in (bare s ∷ []))) ≤ 8 → ⊥
+  only_some names none None says few = not_empty says
+  only_some names none (Some s) says few = none s says few
+
+  pub surplus_cause : (names : List (List ℕ)) (above at : ℕ) (cause : CellCause) → above ≡ 16 → at ≡ t.at → IsMisfit cause ⊎ (cause ≡ TooMany) → MaybeCause above tokens names at cause
+  surplus_cause names above at cause full place (inl m) = maybe_cause above tokens names at cause (misfit_cause tokens names at cause m)
+  surplus_cause names above at cause full place (inr e) = rw e (inl (full, (t, sym first, sym place)))
+
+  pub first_within : (at len : ℕ) → at ≡ t.at → All (λ (u : Token). u.at ≤ len) tokens → at ≤ len
+  first_within at len place all = go tokens first all
+    where
+      go : (ts : List Token) → Some t ≡ slice_get ts 0 → All (λ (u : Token). u.at ≤ len) ts → at ≤ len
+      go [] f all = absurd cc
+      go (u ∷ ts) f all = let h : u.at ≤ len = all 0 u (omega arith) in let e : t ≡ u = cc in omega (arith, h, place, ap (λ (v : Token). v.at) e)

@@ -1,6 +1,7 @@
 -- Leading the jumps of a thread to where their labels stand.
-use Rattle.std.proofs.Common.{◌≡◌, ℕ, ◌<◌, Some, None, List, [], ◌∷◌, ◌++◌, length, refl, sym, ap, ◌∙◌, subst, arith}
+use Rattle.std.proofs.Common.{◌≡◌, ℕ, ◌<◌, Some, None, List, [], ◌∷◌, ◌++◌, length, length-append, get_or, ◌-◌, refl, sym, ap, ◌∙◌, subst, arith}
 use Rattle.std.specs.Prelude.{Contains}
+use Rattle.std.proofs.Math.Seq.{get_or-append_seam}
 use Rattle.lw_base.specs.declared.fault.CellCause.{CellCause}
 use Rattle.lw_base.specs.declared.fault.CellCause.TheVariants.{Form, Register, LabelMissing, LabelTwice, Backward, TooMany, Memory}
 use Rattle.lw_text.specs.declared.token.Token.{Token}
@@ -53,9 +54,27 @@ no_jump names lines k (Jumps_if r n m) e = absurd cc
 no_jump names lines k (Jumps_if_not r n m) e = absurd cc
 no_jump names lines k (Jumps m) e = absurd cc
 
+-- no branch and no `goto`
+pub no_target : (stmt : Stmt) → ((r n to : ℕ) → stmt ≡ IfEq r n to → ⊥) → ((r n to : ℕ) → stmt ≡ IfNe r n to → ⊥) → ((to : ℕ) → stmt ≡ Goto to → ⊥) → target_of stmt ≡ None
+no_target (Store x v) equal unequal goto = refl
+no_target (Load d x) equal unequal goto = refl
+no_target (Swap d x a) equal unequal goto = refl
+no_target (Set d v) equal unequal goto = refl
+no_target (Sum d a v) equal unequal goto = refl
+no_target (IfEq r n to) equal unequal goto = absurd (equal r n to refl)
+no_target (IfNe r n to) equal unequal goto = absurd (unequal r n to refl)
+no_target (Goto to) equal unequal goto = absurd (goto to refl)
+
 some_token : (tokens front : List Token) (t : Token) → tokens ≡ front ++ t ∷ [] → 0 < length tokens
 some_token tokens [] t e = omega (arith, ap length e)
 some_token tokens (x ∷ front) t e = omega (arith, ap length e)
+
+-- the last of some tokens
+pub last_token : (tokens row front : List Token) (l d : Token) → tokens ≡ row → row ≡ front ++ l ∷ [] → get_or tokens (length tokens - 1) d ≡ l
+last_token tokens row front l d same last =
+    let whole : tokens ≡ front ++ l ∷ [] = same ∙ last in
+    let place : length tokens - 1 ≡ length front = omega (arith, ap length whole, length-append front (l ∷ [])) in
+    rw (place, whole) (get_or-append_seam front l [] d)
 
 -- A jump of this number, whose label is the last of these tokens.
 module _ (names : List (List ℕ)) (lines : List Line) (labels : List (List ℕ × ℕ)) (tokens : List Token) (s : Written) (number : ℕ) (stmt : Stmt) (t0 : ℕ) (made : stmt ≡ placed names [] s) (jump : target_of stmt ≡ Some t0) (ends : EndsWithLabel tokens s) where

@@ -4,6 +4,8 @@ use Rattle.std.specs.Prelude.{◌↔◌, IsTrue, slice_get, slice_index_or, code
 use Rattle.std.specs.Option.{option_map, is_some}
 use Rattle.std.proofs.lemmas.Option.{slice_get-map, slice_get_within}
 use Rattle.std.proofs.lemmas.List.{take-map, length-map}
+use Rattle.lw_base.specs.declared.fault.CellCause.{CellCause}
+use Rattle.lw_base.specs.declared.fault.CellCause.TheVariants.{Form, Register, LabelMissing, LabelTwice, Backward, TooMany, Memory}
 use Rattle.lw_text.specs.declared.token.Token.{Token}
 use Rattle.lw_text.specs.Spans.{texts}
 use Rattle.lw_source.specs.declared.label.Label.{Label}
@@ -14,7 +16,7 @@ use Rattle.std.specs.Cmp.{unsigned_Decides}
 use Rattle.std.specs.Cmp.Lexicographic.{pointwise_decides}
 use Rattle.lw_base.specs.Names.{IsLocation, EachOnce}
 use Rattle.lw_source.specs.Cells.{Labels}
-use Rattle.lw_source.specs.Reading.{AtLabel, LabelsRead, TwiceIn, pairs, leading, leads_to, first_names}
+use Rattle.lw_source.specs.Reading.{IsMisfit, AtLabel, LabelCause, LabelsRead, TwiceIn, pairs, leading, leads_to, first_names}
 
 pub Labels-more : (front : List (List ℕ)) (ls : List (List ℕ)) (l : List ℕ) → Labels front ls [] → IsLocation l → Labels (front ++ l ∷ codes ":" ∷ []) (ls ++ l ∷ []) []
 Labels-more front [] l h loc = rw h ([], refl, loc, refl)
@@ -201,3 +203,13 @@ colon_or_not ts k w b at is =
 
 pub no_colon : (ts : List (List ℕ)) (k : ℕ) → length ts ≤ k → IsTrue false ↔ (slice_get ts k ≡ Some (codes ":"))
 no_colon ts k past = (λ yes. absurd (true≢false (sym yes)), λ e. absurd (omega (arith, past, slice_get_within ts k (codes ":") e)))
+
+-- a token that does not fit, among the labels of a cell
+pub label_cause : (tokens : List Token) (before : List (List ℕ)) (at : ℕ) (cause : CellCause) → IsMisfit cause → LabelCause tokens before at cause
+label_cause tokens before at Form m = tt
+label_cause tokens before at Register m = tt
+label_cause tokens before at LabelMissing m = m
+label_cause tokens before at LabelTwice m = absurd m
+label_cause tokens before at Backward m = m
+label_cause tokens before at TooMany m = m
+label_cause tokens before at Memory m = tt

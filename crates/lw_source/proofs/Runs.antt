@@ -1,22 +1,24 @@
 -- Runs, one event further.
-use Rattle.std.proofs.Common.{◌≡◌, ℕ, suc, ◌<◌, ◌+◌, List, [], ◌∷◌, ◌++◌, length, map, take, get_or, refl, sym, ap, ◌∙◌, subst, Result, Ok, Err, arith}
+use Rattle.std.proofs.Common.{◌≡◌, ℕ, suc, ◌<◌, ◌≤◌, ◌+◌, List, [], ◌∷◌, ◌++◌, length, map, take, get_or, refl, sym, ap, ◌∙◌, subst, Result, Ok, Err, arith}
 use Rattle.std.specs.Result.{MatchResult}
 use Rattle.lw_base.specs.declared.stop.Stop.{Stop}
+use Rattle.lw_base.specs.declared.stop.End.{End}
 use Rattle.lw_base.specs.declared.stop.End.TheVariants as at
 use Rattle.std.proofs.Math.Seq.{take-suc}
 use Rattle.std.proofs.Math.ListN.{length-set}
 use Rattle.std.specs.Prelude.{All, ◌^◌, slice_set, slice_get, slice_index, Option, Some, None, Bool, true, false, if◌then◌else◌, nat_lt}
 use Rattle.lw_base.specs.declared.event.Event.TheVariants.{Step, Drain, Evict}
-use Rattle.lw_base.specs.declared.stop.Stop.TheVariants.{NoCpu, NoLocation, BufferEmpty, NotHeld}
+use Rattle.lw_base.specs.declared.stop.Stop.TheVariants.{NoCpu, NoLocation, Ended, BufferEmpty, NotHeld}
 use Rattle.lw_source.specs.declared.stmt.Stmt.TheVariants.{Store, Load, Swap, Set, Sum, IfEq, IfNe, Goto}
 use Rattle.lw_source.specs.declared.thread.Thread.{Thread}
 use Rattle.lw_source.specs.Sources.{IsStmt, IsThread}
 use Rattle.lw_source.specs.Statements.{value_of, thread_after, words_after}
 use Rattle.lw_base.specs.declared.event.Event.{Event}
 use Rattle.lw_source.specs.declared.stmt.Stmt.{Stmt}
-use Rattle.lw_source.specs.Runs.{State, Running, Replayed, Ran, source_step, source_event, carried_out, step_of, code_of}
+use Rattle.lw_base.specs.Outcomes.{Final}
+use Rattle.lw_source.specs.Runs.{State, Running, Replayed, EndsAs, outcome_of, Ran, source_step, source_event, carried_out, step_of, code_of}
 use Rattle.std.proofs.lemmas.Bool.{lt-ltb}
-use Rattle.std.proofs.lemmas.List.{map-append}
+use Rattle.std.proofs.lemmas.List.{map-append, take_all}
 use Rattle.std.proofs.lemmas.Option.{slice_get-map, slice_get_within}
 use Rattle.std.specs.Option.{option_map}
 use Rattle.lw_source.proofs.LabelRows.{at_index}
@@ -51,14 +53,23 @@ stopped Q program events e done s mid end answer stop told kept failed within is
       ends = (e, at_index events done e within ∙ ap Some (sym is), subst (λ (m : State). source_event program e m ≡ Err stop) (sym (kept r.1)) r.0);
     }
 
+-- a replay that carries out all events
+pub replayed_all : (program : List (List Stmt)) (events : List Event) (k : ℕ) (s last : State) (end : End) → length events ≤ k → Ran program (take k events) s last → EndsAs program events (length events) last end → Replayed program events s (record { done = length events; end = end }) last
+replayed_all program events k s last end done ran ends =
+    record {
+      within = omega arith;
+      ran = subst (λ (es : List Event). Ran program es s last) (take_all k events done ∙ sym (take_all (length events) events (omega arith))) ran;
+      ends = ends;
+    }
+
 -- no thread has a store to drain
 pub drained : (Q : Type 0) (answer : Result (Unit {0}) Stop) (s : State) (t n : ℕ) → t < n → answer ≡ Err BufferEmpty → Q → MatchResult (if nat_lt t n then Err BufferEmpty else Err NoCpu) (λ next. (answer ≡ Ok tt) × (s ≡ next)) (λ stop. (answer ≡ Err stop) × Q)
 drained Q answer s t n within failed same = rw (lt-ltb t n within) (failed, same)
 
-set_length : {X : Type 0} (xs : List X) (i : ℕ) (x : X) → length (slice_set xs i x) ≡ length xs
+pub set_length : {X : Type 0} (xs : List X) (i : ℕ) (x : X) → length (slice_set xs i x) ≡ length xs
 set_length xs i x = length-set xs i x
 
-words_kept : (stmt : Stmt) (th : Thread) (words : List ℕ) → length (words_after stmt th words) ≡ length words
+pub words_kept : (stmt : Stmt) (th : Thread) (words : List ℕ) → length (words_after stmt th words) ≡ length words
 words_kept (Store x v) th words = set_length words x (value_of v th.regs)
 words_kept (Load d x) th words = refl
 words_kept (Swap d x a) th words = set_length words x (slice_index th.regs a)
@@ -126,7 +137,7 @@ next_statement words locs threads program t th code stmt same many whole is_thre
     let this : get_or code th.position stmt ≡ stmt = cc in
     (rw same (subst (IsStmt locs) this (here.there th.position stmt inside)), omega (arith, inside, here.short))
 
-made : (a b : List Thread) (u v : List ℕ) → a ≡ b → u ≡ v → (let s : State = record { threads = a; words = u } in s) ≡ record { threads = b; words = v }
+pub made : (a b : List Thread) (u v : List ℕ) → a ≡ b → u ≡ v → (let s : State = record { threads = a; words = u } in s) ≡ record { threads = b; words = v }
 made a b u v e f = rw (e, f) refl
 
 -- a step of a thread that has a next statement
@@ -135,3 +146,22 @@ stepped Q answer before run end t th code stmt same ok many is_thread is_code is
     let within = slice_get_within before.state.threads t th (sym is_thread) in
     let at_code = the_code before.program t code (omega (arith, within, many)) is_code in
     rw (← same) (rw (← is_thread) (rw (at_code, ← is_stmt) (ok, made _ _ _ _ threads words)))
+
+-- a step of a thread that is not there
+pub no_thread : (Q : Type 0) (answer : Result (Unit {0}) Stop) (before run : Running) (t : ℕ) → before ≡ run → answer ≡ Err NoCpu → None ≡ slice_get before.state.threads t → Q → MatchResult (source_step run.program t run.state) (λ next. (answer ≡ Ok tt) × (run.state ≡ next)) (λ stop. (answer ≡ Err stop) × Q)
+no_thread Q answer before run t same failed is_thread kept = rw (← same) (rw (← is_thread) (failed, kept))
+
+-- a step of a thread at its end
+pub no_statement : (Q : Type 0) (answer : Result (Unit {0}) Stop) (before run : Running) (t : ℕ) (th : Thread) (code : List Stmt) → before ≡ run → answer ≡ Err Ended → length before.state.threads ≡ length before.program → Some th ≡ slice_get before.state.threads t → code ≡ get_or before.program t code → None ≡ slice_get code th.position → Q → MatchResult (source_step run.program t run.state) (λ next. (answer ≡ Ok tt) × (run.state ≡ next)) (λ stop. (answer ≡ Err stop) × Q)
+no_statement Q answer before run t th code same failed many is_thread is_code is_stmt kept =
+    let within = slice_get_within before.state.threads t th (sym is_thread) in
+    let at_code = the_code before.program t code (omega (arith, within, many)) is_code in
+    rw (← same) (rw (← is_thread) (rw (at_code, ← is_stmt) (failed, kept)))
+
+-- the images of all items
+pub mapped_all : {X Y : Type 0} (f : X → Y) (xs ys : List X) (i : ℕ) (out : List Y) → ys ≡ xs → length ys ≤ i → out ≡ map f (take i xs) → out ≡ map f xs
+mapped_all f xs ys i out same end so_far = so_far ∙ ap (map f) (take_all i xs (omega (arith, end, ap length same)))
+
+-- the outcome of a state, of which all registers are listed
+pub outcome_is : (regs : List (List ℕ)) (words : List ℕ) (s : State) → regs ≡ map (λ t. t.regs) s.threads → words ≡ s.words → (let o : Final = record { regs = regs; words = words } in o) ≡ outcome_of s
+outcome_is regs words s listed same = rw (listed, same) refl

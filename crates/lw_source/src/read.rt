@@ -1,5 +1,5 @@
 //! Reads a source test from its frame.
-ghost use Rattle.std.specs.Prelude.{◌≡◌, ◌≢◌, ℕ, ◌≤◌, ◌-◌, ◌++◌, List, length, map, replicate, All, IfOk, IfErr};
+ghost use Rattle.std.specs.Prelude.{◌≡◌, ◌≢◌, ℕ, ◌≤◌, ◌-◌, ◌++◌, List, length, map, replicate, All, IfOk, IfErr, OnOk};
 ghost use Rattle.std.specs.List.{AllZip};
 ghost use Rattle.lw_base.specs.declared.head.Arch.TheVariants as arch;
 ghost use Rattle.lw_base.specs.declared.fault.CellCause.TheVariants.{Memory};
@@ -36,9 +36,8 @@ pub fn read_source<A: Allocator + Copy>(
     ensures cause { IfErr result (λ f. Tells frame.now.head.locs frame.now.cells f.at f.cause) }
 {
     let mut head = frame.head().copy()?;
-    let threads = read_columns(alloc, frame.cells.as_slice(), &mut head.locs)?;
-    let len = head.locs.len();
-    fill(&mut head.init_words, len)?;
+    let columns = frame.cells.as_slice();
+    let threads = read_threads(alloc, columns, &mut head.locs, &mut head.init_words)?;
     Ok(Source { head, threads })
 }
 
@@ -46,6 +45,27 @@ pub fn read_source<A: Allocator + Copy>(
 pub fn a_frame_has_one_source()
     ensures { (frame : TestFrame) (s t : SourceTest) → HasSource frame s → HasSource frame t → s ≡ t }
 {}
+
+/// Reads the statements of each thread, and puts a 0 behind the initial words for each location
+/// that has none.
+fn read_threads<A: Allocator + Copy>(
+    alloc: A,
+    columns: &[Sequence<Cell<'_, A>, A>],
+    locs: &mut LocNames<A>,
+    words: &mut Sequence<Word, A>,
+) -> Result<Sequence<Sequence<Stmt, A>, A>, CellFault>
+    ensures found { IfOk result (λ threads. ColumnsRead (all_texts columns.now) locs.old threads locs.new) }
+    ensures few { OnOk result (length locs.new ≤ 8) }
+    ensures words { OnOk result (words.new ≡ words.old ++ replicate (length locs.new - length words.old) 0) }
+    ensures fault { IfErr result (λ f. f.cause ≢ Memory → (t : List (List Line)) → AllZip Column (all_texts columns.now) t → length (with_names locs.old (names_of t)) ≤ 8 → ⊥) }
+    ensures cause { IfErr result (λ f. Tells locs.old columns.now f.at f.cause) }
+    ensures place { (len : ℕ) → All (λ column. All (IsWithin len) column) columns.now → IfErr result (λ f. f.at ≤ len) }
+{
+    let threads = read_columns(alloc, columns, locs)?;
+    let len = locs.len();
+    fill(words, len)?;
+    Ok(threads)
+}
 
 /// Reads the statements of each thread. The names of their locations go into the table.
 fn read_columns<A: Allocator + Copy>(

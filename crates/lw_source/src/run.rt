@@ -63,7 +63,7 @@ impl<'a, A: Allocator + Copy, B: Allocator> SourceRun<'a, A, B> {
         }
         Ok(Outcome {
             regs,
-            words: self.words.copy()?,
+            words: Sequence::from_slice(alloc, self.words.as_slice())?,
         })
     }
 }
@@ -148,7 +148,7 @@ impl<'a, A: Allocator, B: Allocator> SourceRun<'a, A, B> {
             .as_slice()
             .iter()
             .zip(self.threads.as_slice())
-            .all(|(code, thread)| code.len() <= thread.position)
+            .all(|(code, thread)| thread.is_at_end(code.len()))
     }
 
     /// The number of the thread's next statement.

@@ -1,5 +1,5 @@
 //! What a thread of a running source test has of its own, and what a statement makes of it.
-ghost use Rattle.std.specs.Prelude.{◌≡◌, ◌+◌, ◌<◌, ◌^◌, length};
+ghost use Rattle.std.specs.Prelude.{◌≡◌, ◌+◌, ◌<◌, ◌^◌, length, nat_le};
 ghost use Rattle.lw_source.specs.Statements as table;
 ghost use Rattle.lw_source.specs.Statements.{value_of, words_after};
 ghost use Rattle.lw_source.specs.Sources.{IsStmt};
@@ -17,6 +17,13 @@ pub struct Thread {
 }
 
 impl Thread {
+    /// Whether the thread is at the end of a code of so many statements.
+    pub(crate) fn is_at_end(&self, count: usize) -> bool
+        ensures { result ≡ nat_le count self.now.position }
+    {
+        count <= self.position
+    }
+
     /// The thread after a statement, where the memory has these words.
     pub(crate) fn after(&self, stmt: &Stmt, words: &[Word]) -> Thread
         requires stmt { IsStmt (length words.now) stmt.now }
@@ -29,7 +36,7 @@ impl Thread {
             Stmt::Swap { dst, loc, .. } => self.getting(*dst, words[loc.index()]),
             Stmt::Set { dst, val } => self.getting(*dst, self.value(*val)),
             Stmt::Sum { dst, left, right } => {
-                let sum = self.regs[left.index()].wrapping_add(self.value(*right));
+                let sum = wrapping_sum(self.regs[left.index()], self.value(*right));
                 self.getting(*dst, sum)
             }
             Stmt::IfEq { reg, num, to } => self.jumping(self.regs[reg.index()] == *num, *to),
@@ -91,4 +98,10 @@ impl Thread {
             regs: self.regs,
         }
     }
+}
+
+fn wrapping_sum(left: Word, right: Word) -> Word
+    ensures { result ≡ table.sum_of left right }
+{
+    left.wrapping_add(right)
 }

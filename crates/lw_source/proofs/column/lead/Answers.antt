@@ -1,7 +1,7 @@
 use Rattle.std.proofs.Common.{ap, refl, sym, ◌∙◌}
 use Rattle.std.proofs.lemmas.Result.{err_from_is_err_and}
 use Rattle.lw_source.specs.Sources.{target_of}
-use Rattle.lw_source.proofs.JumpsLed.{led, jump_fault, not_forward}
+use Rattle.lw_source.proofs.JumpsLed.{no_jump, no_target, led, jump_fault, not_forward}
 use Rattle.lw_source.proofs.column.lead.Goals as goal
 
 pub destination-requires : goal.destination-requires
@@ -54,3 +54,45 @@ returns-in_ok-to-in-IfNe-clause-found g c names lines s made known ends =
 pub returns-in_ok-to-in-Goto-clause-found : goal.returns-in_ok-to-in-Goto-clause-found
 returns-in_ok-to-in-Goto-clause-found g c names lines s made known ends =
     led names lines _ _ s _ _ _ (sym c.in-Goto.is ∙ made) refl ends _ known c.in_ok-to-in-Goto.ensures.found
+
+pub returns-in_err-to-in-IfEq-clause-place : goal.returns-in_err-to-in-IfEq-clause-place
+returns-in_err-to-in-IfEq-clause-place g c len within =
+    let p = err_from_is_err_and c.from_residual.result c.from_residual.ensures.1 in
+    rw (p.1, p.2) (c.in_err-to-in-IfEq.ensures.place len within)
+
+pub returns-in_err-to-in-IfNe-clause-place : goal.returns-in_err-to-in-IfNe-clause-place
+returns-in_err-to-in-IfNe-clause-place g c len within =
+    let p = err_from_is_err_and c.from_residual-in_err-to-in-IfNe.result c.from_residual-in_err-to-in-IfNe.ensures.1 in
+    rw (p.1, p.2) (c.in_err-to-in-IfNe.ensures.place len within)
+
+pub returns-in_err-to-in-Goto-clause-place : goal.returns-in_err-to-in-Goto-clause-place
+returns-in_err-to-in-Goto-clause-place g c len within =
+    let p = err_from_is_err_and c.from_residual-in_err-to-in-Goto.result c.from_residual-in_err-to-in-Goto.ensures.1 in
+    rw (p.1, p.2) (c.in_err-to-in-Goto.ensures.place len within)
+
+pub returns-in_default : goal.returns-in_default
+returns-in_default g c =
+    record {
+      found = λ names lines s made known ends.
+          let none = no_target _ c.in_default.not-IfEq c.in_default.not-IfNe c.in_default.not-Goto in
+          let kept = no_jump names lines c.args.number s (sym (ap target_of made) ∙ none) in
+          (made ∙ kept.0, kept.1);
+      fault = λ names lines s made known ends. tt;
+      cause = λ names lines s made ends. tt;
+      place = λ len within. tt;
+    }
+
+pub returns-in_err-to-in-IfEq-clause-found : goal.returns-in_err-to-in-IfEq-clause-found
+returns-in_err-to-in-IfEq-clause-found g c names lines s made known ends =
+    let p = err_from_is_err_and c.from_residual.result c.from_residual.ensures.1 in
+    rw p.1 tt
+
+pub returns-in_err-to-in-IfNe-clause-found : goal.returns-in_err-to-in-IfNe-clause-found
+returns-in_err-to-in-IfNe-clause-found g c names lines s made known ends =
+    let p = err_from_is_err_and c.from_residual-in_err-to-in-IfNe.result c.from_residual-in_err-to-in-IfNe.ensures.1 in
+    rw p.1 tt
+
+pub returns-in_err-to-in-Goto-clause-found : goal.returns-in_err-to-in-Goto-clause-found
+returns-in_err-to-in-Goto-clause-found g c names lines s made known ends =
+    let p = err_from_is_err_and c.from_residual-in_err-to-in-Goto.result c.from_residual-in_err-to-in-Goto.ensures.1 in
+    rw p.1 tt

@@ -1,8 +1,10 @@
-use Rattle.std.proofs.Common.{sym, subst}
+use Rattle.std.proofs.Common.{sym, subst, arith}
+use Rattle.std.proofs.lemmas.List.{take_all}
 use Rattle.lw_text.specs.Places.{IsWithin}
 use Rattle.std.proofs.lemmas.Result.{err_from_is_err_and}
-use Rattle.lw_source.proofs.Drafts.{cells_cut, cells_more, draft_none, draft_step, labels_none, statement_none}
+use Rattle.lw_source.proofs.Drafts.{at_most_one, cells_cut, cells_more, draft_none, draft_step, labels_none, statement_none}
 use Rattle.lw_source.proofs.FaultPlaces.{labels_tell, statement_tells}
+use Rattle.lw_source.specs.Reading.{DraftRead}
 use Rattle.lw_source.proofs.column.read_cells.Goals as goal
 
 pub loop-cell-init : goal.loop-cell-init
@@ -71,3 +73,29 @@ returns-in_err-push-clause-cause g c =
 
 pub behind-phrase-requires : goal.behind-phrase-requires
 behind-phrase-requires g c = let labels = rw c.as_slice.ensures at c.in_ok-start.ensures.found in labels.within
+
+pub overflow_add-count : goal.overflow_add-count
+overflow_add-count g c = omega (arith, c.loop-cell.invariant.1, c.loop-cell.invariant.0.few, c.number_of-count.ensures, at_most_one c.in_ok-stmt.stmt)
+
+pub returns-clause-found : goal.returns-clause-found
+returns-clause-found g c = subst (λ cells. DraftRead cells c.args.locs.now c.loop-cell.stmts c.loop-cell.labels c.loop-cell.locs) (take_all c.loop-cell.cell-index c.args.cells.now c.loop-cell-test.false) c.loop-cell.invariant.0
+
+pub returns-in_err-push-clause-place : goal.returns-in_err-push-clause-place
+returns-in_err-push-clause-place g c len within =
+    let p = err_from_is_err_and c.from_residual-in_err-push.result c.from_residual-in_err-push.ensures.1 in
+    rw (p.1, p.2.0) (omega arith)
+
+pub returns-in_err-start-clause-found : goal.returns-in_err-start-clause-found
+returns-in_err-start-clause-found g c =
+    let p = err_from_is_err_and c.from_residual.result c.from_residual.ensures.1 in
+    rw p.1 tt
+
+pub returns-in_err-stmt-clause-found : goal.returns-in_err-stmt-clause-found
+returns-in_err-stmt-clause-found g c =
+    let p = err_from_is_err_and c.from_residual-in_err-stmt.result c.from_residual-in_err-stmt.ensures.1 in
+    rw p.1 tt
+
+pub returns-in_err-push-clause-found : goal.returns-in_err-push-clause-found
+returns-in_err-push-clause-found g c =
+    let p = err_from_is_err_and c.from_residual-in_err-push.result c.from_residual-in_err-push.ensures.1 in
+    rw p.1 tt

@@ -35,3 +35,8 @@ returns-clause-cause g c = c.resolve.ensures.cause c.args.locs.now
 
 pub returns-clause-place : goal.returns-clause-place
 returns-clause-place g c = c.resolve.ensures.place
+
+pub returns-in_err-draft-clause-found : goal.returns-in_err-draft-clause-found
+returns-in_err-draft-clause-found g c =
+    let p = err_from_is_err_and c.from_residual.result c.from_residual.ensures.1 in
+    rw p.1 tt

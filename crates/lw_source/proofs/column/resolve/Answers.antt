@@ -55,3 +55,28 @@ loop-row-preserved g c before after draft =
 
 pub returns-clause-found : goal.returns-clause-found
 returns-clause-found g c before after draft = resolved_all _ before after _ _ draft c.loop-row.row c.loop-row.code c.loop-row-test.false c.loop-row.auto.row-end (c.loop-row.invariant before after draft)
+
+pub returns-in_err-stmt-clause-found : goal.returns-in_err-stmt-clause-found
+returns-in_err-stmt-clause-found g c before after draft =
+    let p = err_from_is_err_and c.from_residual.result c.from_residual.ensures.1 in
+    rw p.1 tt
+
+pub returns-in_err-push-clause-found : goal.returns-in_err-push-clause-found
+returns-in_err-push-clause-found g c before after draft =
+    let p = err_from_is_err_and c.from_residual-in_err-push.result c.from_residual-in_err-push.ensures.1 in
+    rw p.1 tt
+
+pub returns-in_err-push-clause-fault : goal.returns-in_err-push-clause-fault
+returns-in_err-push-clause-fault g c before after draft =
+    let p = err_from_is_err_and c.from_residual-in_err-push.result c.from_residual-in_err-push.ensures.1 in
+    rw p.1 (λ known. absurd (known p.2.1))
+
+pub returns-in_err-push-clause-cause : goal.returns-in_err-push-clause-cause
+returns-in_err-push-clause-cause g c names =
+    let p = err_from_is_err_and c.from_residual-in_err-push.result c.from_residual-in_err-push.ensures.1 in
+    rw (p.1, p.2.1) tt
+
+pub returns-in_err-push-clause-place : goal.returns-in_err-push-clause-place
+returns-in_err-push-clause-place g c len within =
+    let p = err_from_is_err_and c.from_residual-in_err-push.result c.from_residual-in_err-push.ensures.1 in
+    rw (p.1, p.2.0) (omega arith)

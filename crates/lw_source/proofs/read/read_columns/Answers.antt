@@ -1,7 +1,9 @@
-use Rattle.std.proofs.Common.{sym, subst, refl, []}
+use Rattle.std.proofs.Common.{sym, subst, refl, [], arith}
+use Rattle.std.proofs.lemmas.List.{take_all}
 use Rattle.std.specs.Prelude.{All}
-use Rattle.lw_text.specs.Places.{IsWithin}
+use Rattle.lw_text.specs.Places.{IsWithin, all_texts}
 use Rattle.std.proofs.lemmas.Result.{err_from_is_err_and}
+use Rattle.lw_source.specs.Reading.{ColumnsRead}
 use Rattle.lw_source.proofs.Sources.{columns_cut, texts_cut, columns_more, threads_more, threads_none, threads_tell}
 use Rattle.lw_source.proofs.read.read_columns.Goals as goal
 
@@ -39,3 +41,21 @@ returns-in_err-push-clause-cause g c =
 
 pub loop-column-init : goal.loop-column-init
 loop-column-init g c = rw c.new-threads.ensures (record { lines = []; says = tt; names = refl; made = refl })
+
+pub returns-in_err-push-clause-place : goal.returns-in_err-push-clause-place
+returns-in_err-push-clause-place g c len within =
+    let p = err_from_is_err_and c.from_residual-in_err-push.result c.from_residual-in_err-push.ensures.1 in
+    rw (p.1, p.2.0) (omega arith)
+
+pub returns-clause-found : goal.returns-clause-found
+returns-clause-found g c = subst (λ columns. ColumnsRead (all_texts columns) c.args.locs.now c.loop-column.threads c.loop-column.locs) (take_all c.loop-column.column-index c.args.columns.now c.loop-column-test.false) c.loop-column.invariant
+
+pub returns-in_err-stmts-clause-found : goal.returns-in_err-stmts-clause-found
+returns-in_err-stmts-clause-found g c =
+    let p = err_from_is_err_and c.from_residual.result c.from_residual.ensures.1 in
+    rw p.1 tt
+
+pub returns-in_err-push-clause-found : goal.returns-in_err-push-clause-found
+returns-in_err-push-clause-found g c =
+    let p = err_from_is_err_and c.from_residual-in_err-push.result c.from_residual-in_err-push.ensures.1 in
+    rw p.1 tt

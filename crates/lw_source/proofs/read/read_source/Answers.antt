@@ -12,42 +12,62 @@ pub returns-in_err-threads-clause-fault : goal.returns-in_err-threads-clause-fau
 returns-in_err-threads-clause-fault g c =
     let p = err_from_is_err_and c.from_residual-in_err-threads.result c.from_residual-in_err-threads.ensures.1 in
     let same : head_of c.in_ok-head.head ≡ head_of c.args.frame.now.head = c.in_ok-head.ensures ∙ ap head_of c.head.ensures in
-    rw (p.1, p.2) (λ known. source_none _ _ same _ (rw c.as_slice.ensures at (c.in_err-threads.ensures.fault known)))
+    rw (p.1, p.2) (λ known. source_none _ _ same _ (rw c.as_slice-columns.ensures at (c.in_err-threads.ensures.fault known)))
 
 pub returns-in_err-threads-clause-cause : goal.returns-in_err-threads-clause-cause
 returns-in_err-threads-clause-cause g c =
     let p = err_from_is_err_and c.from_residual-in_err-threads.result c.from_residual-in_err-threads.ensures.1 in
     let same : head_of c.in_ok-head.head ≡ head_of c.args.frame.now.head = c.in_ok-head.ensures ∙ ap head_of c.head.ensures in
-    let cause = rw c.as_slice.ensures at c.in_err-threads.ensures.cause in
+    let cause = rw c.as_slice-columns.ensures at c.in_err-threads.ensures.cause in
     rw (p.1, p.2) (subst (λ (h : TestHead). Tells h.locs c.args.frame.now.cells c.in_err-threads.field-0.0.at c.in_err-threads.field-0.0.cause) same cause)
 
 pub returns-in_err-threads-clause-place : goal.returns-in_err-threads-clause-place
 returns-in_err-threads-clause-place g c =
     let p = err_from_is_err_and c.from_residual-in_err-threads.result c.from_residual-in_err-threads.ensures.1 in
-    rw (p.1, p.2) (c.in_err-threads.ensures.place c.args.frame.now.len (rw c.as_slice.ensures c.args.frame.now.places))
-
-pub returns-in_err-fill-clause-fault : goal.returns-in_err-fill-clause-fault
-returns-in_err-fill-clause-fault g c =
-    let p = err_from_is_err_and c.from_residual-in_err-fill.result c.from_residual-in_err-fill.ensures.1 in
-    rw p.1 (λ known. absurd (known p.2.1))
+    rw (p.1, p.2) (c.in_err-threads.ensures.place c.args.frame.now.len (rw c.as_slice-columns.ensures c.args.frame.now.places))
 
 pub invariant_of-result : goal.invariant_of-result
 invariant_of-result g c =
     let same : head_of c.in_ok-head.head ≡ head_of c.args.frame.now.head = c.in_ok-head.ensures ∙ ap head_of c.head.ensures in
-    let read = rw c.as_slice.ensures at c.in_ok-threads.ensures.found in
+    let read = rw c.as_slice-columns.ensures at c.in_ok-threads.ensures.found in
     record {
       language = ap (λ (h : TestHead). h.arch) same ∙ c.requires;
       some = omega (arith, ap (λ (h : TestHead). h.threads) same, c.args.frame.now.some);
       few = omega (arith, ap (λ (h : TestHead). h.threads) same, c.args.frame.now.few);
       as_many = omega (arith, as_many_threads _ _ _ _ read, length-map c.args.frame.now.cells cells_texts, c.args.frame.now.columns, ap (λ (h : TestHead). h.threads) same);
       regs = omega (arith, ap (λ (h : TestHead). length h.init_regs) same, ap (λ (h : TestHead). h.threads) same, c.args.frame.now.regs);
-      words = ap length c.in_ok-fill.ensures ∙ omega (arith, length-append c.in_ok-head.head.init_words (replicate (c.len-len.result - length c.in_ok-head.head.init_words) 0), length-replicate {A = ℕ} (c.len-len.result - length c.in_ok-head.head.init_words) 0, c.len-len.ensures.len, ap (λ (h : TestHead). length h.init_words) same, ap (λ (h : TestHead). length h.locs) same, c.args.frame.now.words, table_grown _ _ _ _ read);
+      words = ap length c.in_ok-threads.ensures.words ∙ omega (arith, length-append c.in_ok-head.head.init_words (replicate (length c.read_threads.new.locs - length c.in_ok-head.head.init_words) 0), length-replicate {A = ℕ} (length c.read_threads.new.locs - length c.in_ok-head.head.init_words) 0, ap (λ (h : TestHead). length h.init_words) same, ap (λ (h : TestHead). length h.locs) same, c.args.frame.now.words, table_grown _ _ _ _ read);
       code = threads_fit _ _ _ _ read;
     }
 
 pub returns-clause-found : goal.returns-clause-found
 returns-clause-found g c =
     let same : head_of c.in_ok-head.head ≡ head_of c.args.frame.now.head = c.in_ok-head.ensures ∙ ap head_of c.head.ensures in
-    let zeros : c.len-len.result - length c.in_ok-head.head.init_words ≡ length c.read_columns.new.locs - length c.in_ok-head.head.locs =
-    omega (arith, c.len-len.ensures.len, ap (λ (h : TestHead). length h.init_words) same, ap (λ (h : TestHead). length h.locs) same, c.args.frame.now.words) in
-    source_found _ _ same _ _ _ _ (rw c.as_slice.ensures at c.in_ok-threads.ensures.found) c.len-len.ensures.table.few (c.in_ok-fill.ensures ∙ ap (λ (n : ℕ). c.in_ok-head.head.init_words ++ replicate n 0) zeros)
+    let zeros : length c.read_threads.new.locs - length c.in_ok-head.head.init_words ≡ length c.read_threads.new.locs - length c.in_ok-head.head.locs =
+    omega (arith, ap (λ (h : TestHead). length h.init_words) same, ap (λ (h : TestHead). length h.locs) same, c.args.frame.now.words) in
+    source_found _ _ same _ _ _ _ (rw c.as_slice-columns.ensures at c.in_ok-threads.ensures.found) c.in_ok-threads.ensures.few (c.in_ok-threads.ensures.words ∙ ap (λ (n : ℕ). c.in_ok-head.head.init_words ++ replicate n 0) zeros)
+
+pub returns-in_err-head-clause-found : goal.returns-in_err-head-clause-found
+returns-in_err-head-clause-found g c =
+    let p = err_from_is_err_and c.from_residual.result c.from_residual.ensures.1 in
+    rw p.1 tt
+
+pub returns-in_err-threads-clause-found : goal.returns-in_err-threads-clause-found
+returns-in_err-threads-clause-found g c =
+    let p = err_from_is_err_and c.from_residual-in_err-threads.result c.from_residual-in_err-threads.ensures.1 in
+    rw p.1 tt
+
+pub returns-in_err-head-clause-fault : goal.returns-in_err-head-clause-fault
+returns-in_err-head-clause-fault g c =
+    let p = err_from_is_err_and c.from_residual.result c.from_residual.ensures.1 in
+    rw p.1 (λ known. absurd (known p.2.1))
+
+pub returns-in_err-head-clause-cause : goal.returns-in_err-head-clause-cause
+returns-in_err-head-clause-cause g c =
+    let p = err_from_is_err_and c.from_residual.result c.from_residual.ensures.1 in
+    rw (p.1, p.2.1) tt
+
+pub returns-in_err-head-clause-place : goal.returns-in_err-head-clause-place
+returns-in_err-head-clause-place g c =
+    let p = err_from_is_err_and c.from_residual.result c.from_residual.ensures.1 in
+    rw (p.1, p.2.0) (omega arith)

@@ -147,3 +147,133 @@ pub returns-in_err-is_equal-clause-unequal : goal.returns-in_err-is_equal-clause
 returns-in_err-is_equal-clause-unequal c =
     let p = err_from_is_err_and c.from_residual-in_err-is_equal.result c.from_residual-in_err-is_equal.ensures.1 in
     rw p.1 (λ r n l says. c.in_err-is_equal.ensures.not_unequal (same_token _ 2 _ _ c.in_ok-token-2.ensures.found (ap (λ t. slice_get t 2) says.2)))
+
+pub returns-in_err-token-clause-cause : goal.returns-in_err-token-clause-cause
+returns-in_err-token-clause-cause c =
+    let p = err_from_is_err_and c.from_residual.result c.from_residual.ensures.1 in
+    rw (p.1, p.2) c.in_err-token.ensures.cause
+
+pub returns-in_err-token-clause-place : goal.returns-in_err-token-clause-place
+returns-in_err-token-clause-place c len within =
+    let p = err_from_is_err_and c.from_residual.result c.from_residual.ensures.1 in
+    rw (p.1, p.2) (c.in_err-token.ensures.place len within)
+
+pub returns-in_err-token-2-clause-cause : goal.returns-in_err-token-2-clause-cause
+returns-in_err-token-2-clause-cause c =
+    let p = err_from_is_err_and c.from_residual-in_err-token-2.result c.from_residual-in_err-token-2.ensures.1 in
+    rw (p.1, p.2) c.in_err-token-2.ensures.cause
+
+pub returns-in_err-token-2-clause-place : goal.returns-in_err-token-2-clause-place
+returns-in_err-token-2-clause-place c len within =
+    let p = err_from_is_err_and c.from_residual-in_err-token-2.result c.from_residual-in_err-token-2.ensures.1 in
+    rw (p.1, p.2) (c.in_err-token-2.ensures.place len within)
+
+pub returns-in_err-token-3-clause-cause : goal.returns-in_err-token-3-clause-cause
+returns-in_err-token-3-clause-cause c =
+    let p = err_from_is_err_and c.from_residual-in_err-token-3.result c.from_residual-in_err-token-3.ensures.1 in
+    rw (p.1, p.2) c.in_err-token-3.ensures.cause
+
+pub returns-in_err-token-3-clause-place : goal.returns-in_err-token-3-clause-place
+returns-in_err-token-3-clause-place c len within =
+    let p = err_from_is_err_and c.from_residual-in_err-token-3.result c.from_residual-in_err-token-3.ensures.1 in
+    rw (p.1, p.2) (c.in_err-token-3.ensures.place len within)
+
+pub returns-in_err-token-4-clause-cause : goal.returns-in_err-token-4-clause-cause
+returns-in_err-token-4-clause-cause c =
+    let p = err_from_is_err_and c.from_residual-in_err-token-4.result c.from_residual-in_err-token-4.ensures.1 in
+    rw (p.1, p.2) c.in_err-token-4.ensures.cause
+
+pub returns-in_err-token-4-clause-place : goal.returns-in_err-token-4-clause-place
+returns-in_err-token-4-clause-place c len within =
+    let p = err_from_is_err_and c.from_residual-in_err-token-4.result c.from_residual-in_err-token-4.ensures.1 in
+    rw (p.1, p.2) (c.in_err-token-4.ensures.place len within)
+
+pub returns-in_err-expect-clause-cause : goal.returns-in_err-expect-clause-cause
+returns-in_err-expect-clause-cause c =
+    let p = err_from_is_err_and c.from_residual-in_err-expect.result c.from_residual-in_err-expect.ensures.1 in
+    rw (p.1, p.2) c.in_err-expect.ensures.cause
+
+pub returns-in_err-expect-clause-place : goal.returns-in_err-expect-clause-place
+returns-in_err-expect-clause-place c len within =
+    let p = err_from_is_err_and c.from_residual-in_err-expect.result c.from_residual-in_err-expect.ensures.1 in
+    rw (p.1, p.2) (c.in_err-expect.ensures.place len within)
+
+pub returns-in_err-ends-clause-cause : goal.returns-in_err-ends-clause-cause
+returns-in_err-ends-clause-cause c =
+    let p = err_from_is_err_and c.from_residual-in_err-ends.result c.from_residual-in_err-ends.ensures.1 in
+    rw (p.1, p.2) c.in_err-ends.ensures.cause
+
+pub returns-in_err-ends-clause-place : goal.returns-in_err-ends-clause-place
+returns-in_err-ends-clause-place c len within =
+    let p = err_from_is_err_and c.from_residual-in_err-ends.result c.from_residual-in_err-ends.ensures.1 in
+    rw (p.1, p.2) (c.in_err-ends.ensures.place len within)
+
+pub returns-in_err-reg-clause-cause : goal.returns-in_err-reg-clause-cause
+returns-in_err-reg-clause-cause c =
+    let p = err_from_is_err_and c.from_residual-in_err-reg.result c.from_residual-in_err-reg.ensures.1 in
+    rw (p.1, p.2) c.in_err-reg.ensures.cause
+
+pub returns-in_err-is_equal-clause-cause : goal.returns-in_err-is_equal-clause-cause
+returns-in_err-is_equal-clause-cause c =
+    let p = err_from_is_err_and c.from_residual-in_err-is_equal.result c.from_residual-in_err-is_equal.ensures.1 in
+    rw (p.1, p.2) c.in_err-is_equal.ensures.cause
+
+pub returns-in_err-num-clause-cause : goal.returns-in_err-num-clause-cause
+returns-in_err-num-clause-cause c =
+    let p = err_from_is_err_and c.from_residual-in_err-num.result c.from_residual-in_err-num.ensures.1 in
+    rw (p.1, p.2) c.in_err-num.ensures.cause
+
+pub returns-in_err-label-clause-cause : goal.returns-in_err-label-clause-cause
+returns-in_err-label-clause-cause c =
+    let p = err_from_is_err_and c.from_residual-in_err-label.result c.from_residual-in_err-label.ensures.1 in
+    rw (p.1, p.2) c.in_err-label.ensures.cause
+
+pub returns-in_err-token-clause-found : goal.returns-in_err-token-clause-found
+returns-in_err-token-clause-found c =
+    let p = err_from_is_err_and c.from_residual.result c.from_residual.ensures.1 in
+    rw p.1 tt
+
+pub returns-in_err-reg-clause-found : goal.returns-in_err-reg-clause-found
+returns-in_err-reg-clause-found c =
+    let p = err_from_is_err_and c.from_residual-in_err-reg.result c.from_residual-in_err-reg.ensures.1 in
+    rw p.1 tt
+
+pub returns-in_err-token-2-clause-found : goal.returns-in_err-token-2-clause-found
+returns-in_err-token-2-clause-found c =
+    let p = err_from_is_err_and c.from_residual-in_err-token-2.result c.from_residual-in_err-token-2.ensures.1 in
+    rw p.1 tt
+
+pub returns-in_err-is_equal-clause-found : goal.returns-in_err-is_equal-clause-found
+returns-in_err-is_equal-clause-found c =
+    let p = err_from_is_err_and c.from_residual-in_err-is_equal.result c.from_residual-in_err-is_equal.ensures.1 in
+    rw p.1 tt
+
+pub returns-in_err-token-3-clause-found : goal.returns-in_err-token-3-clause-found
+returns-in_err-token-3-clause-found c =
+    let p = err_from_is_err_and c.from_residual-in_err-token-3.result c.from_residual-in_err-token-3.ensures.1 in
+    rw p.1 tt
+
+pub returns-in_err-num-clause-found : goal.returns-in_err-num-clause-found
+returns-in_err-num-clause-found c =
+    let p = err_from_is_err_and c.from_residual-in_err-num.result c.from_residual-in_err-num.ensures.1 in
+    rw p.1 tt
+
+pub returns-in_err-expect-clause-found : goal.returns-in_err-expect-clause-found
+returns-in_err-expect-clause-found c =
+    let p = err_from_is_err_and c.from_residual-in_err-expect.result c.from_residual-in_err-expect.ensures.1 in
+    rw p.1 tt
+
+pub returns-in_err-token-4-clause-found : goal.returns-in_err-token-4-clause-found
+returns-in_err-token-4-clause-found c =
+    let p = err_from_is_err_and c.from_residual-in_err-token-4.result c.from_residual-in_err-token-4.ensures.1 in
+    rw p.1 tt
+
+pub returns-in_err-label-clause-found : goal.returns-in_err-label-clause-found
+returns-in_err-label-clause-found c =
+    let p = err_from_is_err_and c.from_residual-in_err-label.result c.from_residual-in_err-label.ensures.1 in
+    rw p.1 tt
+
+pub returns-in_err-ends-clause-found : goal.returns-in_err-ends-clause-found
+returns-in_err-ends-clause-found c =
+    let p = err_from_is_err_and c.from_residual-in_err-ends.result c.from_residual-in_err-ends.ensures.1 in
+    rw p.1 tt

@@ -1,8 +1,8 @@
 use Rattle.std.proofs.Common.{◌≡◌, ap, ◌∙◌, Some, inl, refl, subst}
 use Rattle.std.specs.Prelude.{slice_get}
-use Rattle.std.proofs.lemmas.Result.{err_from_is_err_and}
+use Rattle.std.proofs.lemmas.Result.{err_from_is_err_and, IfOk-weaker, IfErr-weaker}
 use Rattle.lw_source.specs.Cells.{IsOperand}
-use Rattle.lw_source.proofs.Phrases.{becomes, first_of, same_token, gone, past, only_goto, statement_cause, stores, only_if, only_store, from_two, same_word, other_word, Fits}
+use Rattle.lw_source.proofs.Phrases.{becomes, first_of, same_token, gone, past, only_goto, statement_cause, misfit_cause, stores, only_if, only_store, from_two, same_word, other_word, Fits}
 use Rattle.lw_source.proofs.statement.read_statement.Goals as goal
 
 pub returns-then-eq-2-clause-fault : goal.returns-then-eq-2-clause-fault
@@ -75,3 +75,132 @@ pub returns-in_err-loc-clause-cause : goal.returns-in_err-loc-clause-cause
 returns-in_err-loc-clause-cause g c =
     let p = err_from_is_err_and c.from_residual-in_err-loc.result c.from_residual-in_err-loc.ensures.1 in
     rw (p.1, p.2) (statement_cause _ _ 0 _ c.in_ok-first.ensures.is (inl refl) _ _ c.in_err-loc.ensures.cause)
+
+pub returns-then-eq-clause-found : goal.returns-then-eq-clause-found
+returns-then-eq-clause-found g c = IfOk-weaker c.read_goto.result _ _ (λ stmt read. read c.args.locs.now) c.read_goto.ensures.found
+
+pub returns-then-eq-clause-cause : goal.returns-then-eq-clause-cause
+returns-then-eq-clause-cause g c = IfErr-weaker c.read_goto.result _ _ (λ f m. misfit_cause _ _ f.at f.cause m) c.read_goto.ensures.cause
+
+pub returns-then-eq-clause-place : goal.returns-then-eq-clause-place
+returns-then-eq-clause-place g c = c.read_goto.ensures.place
+
+pub returns-then-eq-2-clause-found : goal.returns-then-eq-2-clause-found
+returns-then-eq-2-clause-found g c = IfOk-weaker c.read_if.result _ _ (λ stmt read. read c.args.locs.now) c.read_if.ensures.found
+
+pub returns-then-eq-2-clause-cause : goal.returns-then-eq-2-clause-cause
+returns-then-eq-2-clause-cause g c = IfErr-weaker c.read_if.result _ _ (λ f m. misfit_cause _ _ f.at f.cause m) c.read_if.ensures.cause
+
+pub returns-then-eq-2-clause-place : goal.returns-then-eq-2-clause-place
+returns-then-eq-2-clause-place g c = c.read_if.ensures.place
+
+pub returns-in-Some-clause-found : goal.returns-in-Some-clause-found
+returns-in-Some-clause-found g c = c.read_value.ensures.found
+
+pub returns-in-Some-clause-fault : goal.returns-in-Some-clause-fault
+returns-in-Some-clause-fault g c = c.read_value.ensures.fault
+
+pub returns-in-Some-clause-cause : goal.returns-in-Some-clause-cause
+returns-in-Some-clause-cause g c = c.read_value.ensures.cause
+
+pub returns-in-Some-clause-place : goal.returns-in-Some-clause-place
+returns-in-Some-clause-place g c = c.read_value.ensures.place
+
+pub returns-in_err-first-clause-cause : goal.returns-in_err-first-clause-cause
+returns-in_err-first-clause-cause g c =
+    let p = err_from_is_err_and c.from_residual.result c.from_residual.ensures.1 in
+    rw (p.1, p.2) (misfit_cause _ _ _ _ c.in_err-first.ensures.cause)
+
+pub returns-in_err-first-clause-place : goal.returns-in_err-first-clause-place
+returns-in_err-first-clause-place g c len within =
+    let p = err_from_is_err_and c.from_residual.result c.from_residual.ensures.1 in
+    rw (p.1, p.2) (c.in_err-first.ensures.place len within)
+
+pub returns-in_err-expect-clause-cause : goal.returns-in_err-expect-clause-cause
+returns-in_err-expect-clause-cause g c =
+    let p = err_from_is_err_and c.from_residual-in_err-expect.result c.from_residual-in_err-expect.ensures.1 in
+    rw (p.1, p.2) (misfit_cause _ _ _ _ c.in_err-expect.ensures.cause)
+
+pub returns-in_err-expect-clause-place : goal.returns-in_err-expect-clause-place
+returns-in_err-expect-clause-place g c len within =
+    let p = err_from_is_err_and c.from_residual-in_err-expect.result c.from_residual-in_err-expect.ensures.1 in
+    rw (p.1, p.2) (c.in_err-expect.ensures.place len within)
+
+pub returns-in_err-expect-2-clause-cause : goal.returns-in_err-expect-2-clause-cause
+returns-in_err-expect-2-clause-cause g c =
+    let p = err_from_is_err_and c.from_residual-in_err-expect-2.result c.from_residual-in_err-expect-2.ensures.1 in
+    rw (p.1, p.2) (misfit_cause _ _ _ _ c.in_err-expect-2.ensures.cause)
+
+pub returns-in_err-expect-2-clause-place : goal.returns-in_err-expect-2-clause-place
+returns-in_err-expect-2-clause-place g c len within =
+    let p = err_from_is_err_and c.from_residual-in_err-expect-2.result c.from_residual-in_err-expect-2.ensures.1 in
+    rw (p.1, p.2) (c.in_err-expect-2.ensures.place len within)
+
+pub returns-in_err-token-clause-cause : goal.returns-in_err-token-clause-cause
+returns-in_err-token-clause-cause g c =
+    let p = err_from_is_err_and c.from_residual-in_err-token.result c.from_residual-in_err-token.ensures.1 in
+    rw (p.1, p.2) (misfit_cause _ _ _ _ c.in_err-token.ensures.cause)
+
+pub returns-in_err-token-clause-place : goal.returns-in_err-token-clause-place
+returns-in_err-token-clause-place g c len within =
+    let p = err_from_is_err_and c.from_residual-in_err-token.result c.from_residual-in_err-token.ensures.1 in
+    rw (p.1, p.2) (c.in_err-token.ensures.place len within)
+
+pub returns-in_err-ends-clause-cause : goal.returns-in_err-ends-clause-cause
+returns-in_err-ends-clause-cause g c =
+    let p = err_from_is_err_and c.from_residual-in_err-ends.result c.from_residual-in_err-ends.ensures.1 in
+    rw (p.1, p.2) (misfit_cause _ _ _ _ c.in_err-ends.ensures.cause)
+
+pub returns-in_err-ends-clause-place : goal.returns-in_err-ends-clause-place
+returns-in_err-ends-clause-place g c len within =
+    let p = err_from_is_err_and c.from_residual-in_err-ends.result c.from_residual-in_err-ends.ensures.1 in
+    rw (p.1, p.2) (c.in_err-ends.ensures.place len within)
+
+pub returns-in_err-val-clause-cause : goal.returns-in_err-val-clause-cause
+returns-in_err-val-clause-cause g c =
+    let p = err_from_is_err_and c.from_residual-in_err-val.result c.from_residual-in_err-val.ensures.1 in
+    rw (p.1, p.2) (misfit_cause _ _ _ _ c.in_err-val.ensures.cause)
+
+pub returns-in_err-first-clause-found : goal.returns-in_err-first-clause-found
+returns-in_err-first-clause-found g c =
+    let p = err_from_is_err_and c.from_residual.result c.from_residual.ensures.1 in
+    rw p.1 tt
+
+pub returns-in_err-expect-clause-found : goal.returns-in_err-expect-clause-found
+returns-in_err-expect-clause-found g c =
+    let p = err_from_is_err_and c.from_residual-in_err-expect.result c.from_residual-in_err-expect.ensures.1 in
+    rw p.1 tt
+
+pub returns-in_err-loc-clause-found : goal.returns-in_err-loc-clause-found
+returns-in_err-loc-clause-found g c =
+    let p = err_from_is_err_and c.from_residual-in_err-loc.result c.from_residual-in_err-loc.ensures.1 in
+    rw p.1 tt
+
+pub returns-in_err-expect-2-clause-found : goal.returns-in_err-expect-2-clause-found
+returns-in_err-expect-2-clause-found g c =
+    let p = err_from_is_err_and c.from_residual-in_err-expect-2.result c.from_residual-in_err-expect-2.ensures.1 in
+    rw p.1 tt
+
+pub returns-in_err-token-clause-found : goal.returns-in_err-token-clause-found
+returns-in_err-token-clause-found g c =
+    let p = err_from_is_err_and c.from_residual-in_err-token.result c.from_residual-in_err-token.ensures.1 in
+    rw p.1 tt
+
+pub returns-in_err-val-clause-found : goal.returns-in_err-val-clause-found
+returns-in_err-val-clause-found g c =
+    let p = err_from_is_err_and c.from_residual-in_err-val.result c.from_residual-in_err-val.ensures.1 in
+    rw p.1 tt
+
+pub returns-in_err-ends-clause-found : goal.returns-in_err-ends-clause-found
+returns-in_err-ends-clause-found g c =
+    let p = err_from_is_err_and c.from_residual-in_err-ends.result c.from_residual-in_err-ends.ensures.1 in
+    rw p.1 tt
+
+pub read_goto-requires : goal.read_goto-requires
+read_goto-requires g c = c.in_ok-first.ensures.found ∙ ap Some (same_word _ _ c.if-eq.ensures)
+
+pub read_if-requires : goal.read_if-requires
+read_if-requires g c = c.in_ok-first.ensures.found ∙ ap Some (same_word _ _ c.if-eq-2.ensures)
+
+pub read_value-requires : goal.read_value-requires
+read_value-requires g c = record { first = (_, c.in_ok-first.ensures.found, c.in-Some.ensures); sign = c.in_ok-expect.ensures.ok }

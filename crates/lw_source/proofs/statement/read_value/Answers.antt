@@ -1,4 +1,4 @@
-use Rattle.std.proofs.Common.{◌≡◌, sym, subst, arith, length, ◌≤◌}
+use Rattle.std.proofs.Common.{◌≡◌, ◌∙◌, ap, Some, sym, subst, arith, length, ◌≤◌}
 use Rattle.std.specs.Prelude.{codes}
 use Rattle.std.proofs.lemmas.Result.{err_from_is_err_and, IfOk-weaker, IfErr-weaker}
 use Rattle.lw_base.specs.declared.head.Arch.TheVariants.{Source}
@@ -69,3 +69,71 @@ returns-in-Some-clause-cause g c =
 pub returns-in-Some-clause-found : goal.returns-in-Some-clause-found
 returns-in-Some-clause-found g c =
     IfOk-weaker c.read_sum.result _ _ (λ stmt read. read c.args.locs.now) c.read_sum.ensures.found
+
+pub returns-then-eq-clause-found : goal.returns-then-eq-clause-found
+returns-then-eq-clause-found g c = c.read_swap.ensures.found
+
+pub returns-then-eq-clause-cause : goal.returns-then-eq-clause-cause
+returns-then-eq-clause-cause g c = c.read_swap.ensures.cause
+
+pub returns-then-eq-clause-place : goal.returns-then-eq-clause-place
+returns-then-eq-clause-place g c = c.read_swap.ensures.place
+
+pub returns-in-Some-clause-place : goal.returns-in-Some-clause-place
+returns-in-Some-clause-place g c = c.read_sum.ensures.place
+
+pub returns-in_err-third-clause-cause : goal.returns-in_err-third-clause-cause
+returns-in_err-third-clause-cause g c =
+    let p = err_from_is_err_and c.from_residual.result c.from_residual.ensures.1 in
+    rw (p.1, p.2) (misfit_cause _ _ _ _ c.in_err-third.ensures.cause)
+
+pub returns-in_err-third-clause-place : goal.returns-in_err-third-clause-place
+returns-in_err-third-clause-place g c len within =
+    let p = err_from_is_err_and c.from_residual.result c.from_residual.ensures.1 in
+    rw (p.1, p.2) (c.in_err-third.ensures.place len within)
+
+pub returns-in_err-ends-clause-cause : goal.returns-in_err-ends-clause-cause
+returns-in_err-ends-clause-cause g c =
+    let p = err_from_is_err_and c.from_residual-in_err-ends.result c.from_residual-in_err-ends.ensures.1 in
+    rw (p.1, p.2) (misfit_cause _ _ _ _ c.in_err-ends.ensures.cause)
+
+pub returns-in_err-ends-clause-place : goal.returns-in_err-ends-clause-place
+returns-in_err-ends-clause-place g c len within =
+    let p = err_from_is_err_and c.from_residual-in_err-ends.result c.from_residual-in_err-ends.ensures.1 in
+    rw (p.1, p.2) (c.in_err-ends.ensures.place len within)
+
+pub returns-in_err-ends-2-clause-cause : goal.returns-in_err-ends-2-clause-cause
+returns-in_err-ends-2-clause-cause g c =
+    let p = err_from_is_err_and c.from_residual-in_err-ends-2.result c.from_residual-in_err-ends-2.ensures.1 in
+    rw (p.1, p.2) (misfit_cause _ _ _ _ c.in_err-ends-2.ensures.cause)
+
+pub returns-in_err-ends-2-clause-place : goal.returns-in_err-ends-2-clause-place
+returns-in_err-ends-2-clause-place g c len within =
+    let p = err_from_is_err_and c.from_residual-in_err-ends-2.result c.from_residual-in_err-ends-2.ensures.1 in
+    rw (p.1, p.2) (c.in_err-ends-2.ensures.place len within)
+
+pub returns-in_err-third-clause-found : goal.returns-in_err-third-clause-found
+returns-in_err-third-clause-found g c =
+    let p = err_from_is_err_and c.from_residual.result c.from_residual.ensures.1 in
+    rw p.1 tt
+
+pub returns-in_err-ends-clause-found : goal.returns-in_err-ends-clause-found
+returns-in_err-ends-clause-found g c =
+    let p = err_from_is_err_and c.from_residual-in_err-ends.result c.from_residual-in_err-ends.ensures.1 in
+    rw p.1 tt
+
+pub returns-in_err-loc-clause-found : goal.returns-in_err-loc-clause-found
+returns-in_err-loc-clause-found g c =
+    let p = err_from_is_err_and c.from_residual-in_err-loc.result c.from_residual-in_err-loc.ensures.1 in
+    rw p.1 tt
+
+pub returns-in_err-ends-2-clause-found : goal.returns-in_err-ends-2-clause-found
+returns-in_err-ends-2-clause-found g c =
+    let p = err_from_is_err_and c.from_residual-in_err-ends-2.result c.from_residual-in_err-ends-2.ensures.1 in
+    rw p.1 tt
+
+pub read_swap-requires : goal.read_swap-requires
+read_swap-requires g c = record { first = c.requires.first; sign = c.requires.sign; third = c.in_ok-third.ensures.found ∙ ap Some (same_word _ _ c.if-eq.ensures) }
+
+pub read_sum-requires : goal.read_sum-requires
+read_sum-requires g c = record { first = c.requires.first; sign = c.requires.sign; third = (_, c.in_ok-third.ensures.found, c.in-Some.ensures) }

@@ -1,6 +1,7 @@
-use Rattle.std.proofs.Common.{refl, length}
+use Rattle.std.proofs.Common.{refl, length, ap, sym, ◌∙◌, arith}
+use Rattle.std.proofs.lemmas.Option.{slice_get_within}
 use Rattle.lw_source.specs.Runs.{Running}
-use Rattle.lw_source.proofs.Runs.{next_statement, stepped}
+use Rattle.lw_source.proofs.Runs.{next_statement, stepped, no_thread, no_statement, set_length, words_kept}
 use Rattle.lw_source.proofs.run.SourceRun.step.Goals as goal
 
 pub returns-clause-done : goal.returns-clause-done
@@ -25,3 +26,36 @@ write-requires g c =
     let code = rw (c.as_slice.ensures, c.index-2.ensures.value) at c.index-as_slice-index.is in
     let next = next_statement (length c.self.inside.words) _ _ _ c.args.cpu c.in-Some.thread.now c.index-as_slice-index.result c.in-Some-get.stmt.now c.self.invariant.1 c.self.invariant.0 c.self.inside.source.now.code thread code c.in-Some-get.ensures in
     next.0
+
+pub returns-in_default-clause-program : goal.returns-in_default-clause-program
+returns-in_default-clause-program g c = refl
+
+pub returns-in_default-clause-done : goal.returns-in_default-clause-done
+returns-in_default-clause-done g c = no_thread _ _ _ c.args.self.now c.args.cpu c.self.view_is refl (rw c.index.ensures.value at c.in_default.ensures) refl
+
+pub bounds-as_slice-index : goal.bounds-as_slice-index
+bounds-as_slice-index g c =
+    let thread = rw c.index.ensures.value at c.in-Some.ensures in
+    omega (arith, slice_get_within c.self.inside.threads c.args.cpu c.in-Some.thread.now (sym thread), c.self.invariant.0, ap length c.as_slice.ensures, c.index-2.ensures.value)
+
+pub returns-in_default-get-clause-program : goal.returns-in_default-get-clause-program
+returns-in_default-get-clause-program g c = refl
+
+pub returns-in_default-get-clause-done : goal.returns-in_default-get-clause-done
+returns-in_default-get-clause-done g c =
+    let thread = rw c.index.ensures.value at c.in-Some.ensures in
+    let code = rw (c.as_slice.ensures, c.index-2.ensures.value) at c.index-as_slice-index.is in
+    no_statement _ _ _ c.args.self.now c.args.cpu c.in-Some.thread.now c.index-as_slice-index.result c.self.view_is refl c.self.invariant.0 thread code c.in_default-get.ensures refl
+
+pub set-requires : goal.set-requires
+set-requires g c =
+    let thread = rw c.index.ensures.value at c.in-Some.ensures in
+    rw c.index-3.ensures.value (slice_get_within c.self.inside.threads c.args.cpu c.in-Some.thread.now (sym thread))
+
+pub invariant_of-self : goal.invariant_of-self
+invariant_of-self g c =
+    let threads = rw c.index-3.ensures.value at c.set.ensures in
+    (ap length threads ∙ set_length _ _ _ ∙ c.self.invariant.0, ap length c.write.ensures ∙ words_kept c.in-Some-get.stmt.now c.in-Some.thread.now c.self.inside.words ∙ c.self.invariant.1)
+
+pub returns-clause-program : goal.returns-clause-program
+returns-clause-program g c = ap (λ (r : Running). r.program) c.self.view_is
