@@ -1,5 +1,5 @@
 -- What faults say of a test and of a schedule.
-use Rattle.std.proofs.Common.{◌≡◌, ◌≢◌, ◌≤◌, ◌⊎◌, inl, inr, ℕ, Option, Some, None, List, [], ◌++◌, length, sym, ap, ◌∙◌, subst, length-append, Result, Err, arith}
+use Rattle.std.proofs.Common.{Bool, true, false, ◌↔◌, ◌≡◌, ◌≢◌, ◌≤◌, ◌⊎◌, inl, inr, ℕ, Option, Some, None, List, [], ◌++◌, length, sym, ap, ◌∙◌, subst, length-append, Result, Ok, Err, refl, arith}
 use Rattle.std.proofs.lemmas.List.{append-nil}
 use Rattle.std.specs.Io.KnownBytes.{Appends}
 use Rattle.lw_base.specs.declared.stop.End.{End}
@@ -62,6 +62,9 @@ module _ (test : SourceTest) (words : List ℕ) (f : ScheduleFault) where
 
   pub schedule_refuses : (f.cause ≢ schedule.Memory → (events : List Event) → IsSchedule test.head.locs words events → ⊥) → RefusesSchedule test words (told_schedule f)
   schedule_refuses none = refuses_schedule f.cause none
+
+pub memory_refuses : (test : SourceTest) (words : List ℕ) (f : BenchFault) → f ≡ Memory → RefusesSchedule test words f
+memory_refuses test words f is = rw is tt
 
 -- Bytes that came in: the whole input, or more than a test has.
 module _ (input bytes : List ℕ) (is : (rest : List ℕ) × (input ≡ bytes ++ rest) × ((rest ≡ []) ⊎ (length bytes ≡ 65537))) where
@@ -129,5 +132,25 @@ pub page_written : (known before after : Option (List ℕ)) (bytes words page : 
 page_written None before after bytes words page end is replays put = tt
 page_written (Some input) before after bytes words page end is replays put = (page, record { test = replays.test; has_test = in_whole input bytes is replays.test replays.has_test; replayed = replays.replayed }, put)
 
-pub err_is : {T E : Type 0} {a b : E} → (let e : Result T E = Err a in e) ≡ Err b → a ≡ b
+err_is : {T E : Type 0} {a b : E} → (let e : Result T E = Err a in e) ≡ Err b → a ≡ b
 err_is same = cc
+
+ok_apart : {T E : Type 0} {a : T} {b : E} → (let r : Result T E = Ok a in r) ≡ Err b → ⊥
+ok_apart same = cc
+
+unlike : {b : Bool} → b ≡ false → b ≡ true → ⊥
+unlike is_no is_yes = cc
+
+-- no fault of a device is told, and the device has not failed
+pub fault_apart : {T : Type 0} (result : Result T BenchFault) (given fault other : BenchFault) (failed : Bool) → result ≡ Err given → given ≡ fault → fault ≢ other → failed ≡ false → result ≡ Err other ↔ failed ≡ true
+fault_apart result given fault other failed is same apart working =
+    (λ told. absurd (apart (sym same ∙ err_is (sym is ∙ told))), λ yes. absurd (unlike working yes))
+
+write_is : (let f : BenchFault = Write in f) ≢ Read
+write_is same = cc
+
+pub write_apart : {T : Type 0} (failed : Bool) → failed ≡ false → (let r : Result T BenchFault = Err Write in r) ≡ Err Read ↔ failed ≡ true
+write_apart failed working = fault_apart (Err Write) Write Write Read failed refl refl write_is working
+
+pub answer_apart : {T : Type 0} (answer : T) (other : BenchFault) (failed : Bool) → failed ≡ false → (let r : Result T BenchFault = Ok answer in r) ≡ Err other ↔ failed ≡ true
+answer_apart answer other failed working = (λ told. absurd (ok_apart told), λ yes. absurd (unlike working yes))

@@ -63,14 +63,20 @@ pub(super) fn is_answered(alloc: Global, text: &str, schedule: &str, told: &str)
 /// The text that these words of a table stand for.
 pub(super) fn spelled(alloc: Global, words: &str) -> Result<String, AllocError> {
     let mut text = String::new(alloc);
+    push_spelled(&mut text, words)?;
+    text.as_str().replace(alloc, '$', "\n")
+}
+
+/// Adds words of a table, all but their line ends as they stand for.
+fn push_spelled(text: &mut String, words: &str) -> Result<(), AllocError> {
     let mut pieces = words.split('<');
     text.push_str(pieces.next().unwrap_or(""))?;
     for piece in pieces {
         let mut parts = piece.splitn(2, '>');
-        push_repeated(&mut text, parts.next().unwrap_or(""))?;
+        push_repeated(text, parts.next().unwrap_or(""))?;
         text.push_str(parts.next().unwrap_or(""))?;
     }
-    text.as_str().replace(alloc, '$', "\n")
+    Ok(())
 }
 
 /// Adds the words behind a number and a blank, so many times.
