@@ -1,5 +1,5 @@
 -- What faults say of a test and of a schedule.
-use Rattle.std.proofs.Common.{Bool, true, false, ◌↔◌, ◌≡◌, ◌≢◌, ◌≤◌, ◌⊎◌, inl, inr, ℕ, Option, Some, None, List, [], ◌++◌, length, sym, ap, ◌∙◌, subst, length-append, Result, Ok, Err, refl, arith}
+use Rattle.std.proofs.Common.{Bool, true, false, ◌↔◌, ◌≡◌, ◌≢◌, ◌≤◌, ◌⊎◌, inl, inr, ℕ, Option, Some, None, List, [], ◌++◌, length, sym, ap, ◌∙◌, subst, length-append, Result, Ok, Err, if◌then◌else◌, refl, arith}
 use Rattle.std.proofs.lemmas.List.{append-nil}
 use Rattle.std.specs.Io.KnownBytes.{Appends}
 use Rattle.lw_base.specs.declared.stop.End.{End}
@@ -145,6 +145,24 @@ unlike is_no is_yes = cc
 pub fault_apart : {T : Type 0} (result : Result T BenchFault) (given fault other : BenchFault) (failed : Bool) → result ≡ Err given → given ≡ fault → fault ≢ other → failed ≡ false → result ≡ Err other ↔ failed ≡ true
 fault_apart result given fault other failed is same apart working =
     (λ told. absurd (apart (sym same ∙ err_is (sym is ∙ told))), λ yes. absurd (unlike working yes))
+
+memory_is : (let f : BenchFault = Memory in f) ≢ Read
+memory_is same = cc
+
+-- what an input that was not read whole tells
+pub input_told : {T : Type 0} (result : Result T BenchFault) (given fault : BenchFault) (failed : Bool) → result ≡ Err given → given ≡ fault → fault ≡ (if failed then Read else Memory) → result ≡ Err Read ↔ failed ≡ true
+input_told result given fault true is same told = (λ known. refl, λ yes. is ∙ ap (λ f. Err f) (same ∙ told))
+input_told result given fault false is same told = fault_apart result given fault Read false is same (λ other. memory_is (sym told ∙ other)) refl
+
+pub input_apart : (fault : BenchFault) (failed : Bool) → fault ≡ (if failed then Read else Memory) → fault ≢ Write
+input_apart fault true told same = read_is (sym told ∙ same)
+  where
+    read_is : (let f : BenchFault = Read in f) ≢ Write
+    read_is same = cc
+input_apart fault false told same = other (sym told ∙ same)
+  where
+    other : (let f : BenchFault = Memory in f) ≢ Write
+    other same = cc
 
 write_is : (let f : BenchFault = Write in f) ≢ Read
 write_is same = cc

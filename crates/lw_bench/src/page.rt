@@ -36,8 +36,8 @@ fn write_end<A: Allocator>(out: &mut String<A>, replay: Replay) -> Result<(), Al
     ensures { OnOk result (string_bytes out.new ≡ string_bytes out.old ++ line (codes "End") (end_parts replay.done replay.end)) }
 {
     match replay.end {
-        End::Final => writeln!(out, "End Final"),
-        End::NotFinal => writeln!(out, "End NotFinal"),
+        End::Final => out.push_str("End Final\n"),
+        End::NotFinal => out.push_str("End NotFinal\n"),
         End::Stopped(stop) => {
             writeln!(
                 out,
@@ -86,7 +86,7 @@ fn write_thread<A: Allocator>(
         };
         write!(out, " {}={}", reg_name(arch, reg), run.reg(cpu, reg))?;
     }
-    writeln!(out, "")?;
+    out.push_str("\n")?;
     Ok(())
 }
 
@@ -99,13 +99,13 @@ fn write_memory<A: Allocator>(
     requires { length run.now.state.words ≡ length locs.now }
     ensures { OnOk result (string_bytes out.new ≡ string_bytes out.old ++ line (codes "Memory") (memory_parts locs.now run.now.state.words)) }
 {
-    write!(out, "Memory")?;
+    out.push_str("Memory")?;
     for number in 0..locs.len() {
         let Some(loc) = Loc::new(number as u8) else {
             unreachable!();
         };
         write!(out, " {}={}", locs.name(loc), run.word(loc))?;
     }
-    writeln!(out, "")?;
+    out.push_str("\n")?;
     Ok(())
 }

@@ -52,8 +52,9 @@ fn page_of_events<A: Allocator + Copy>(
 {
     let mut run = SourceRun::new(alloc, source)?;
     let replay = run.run(events);
-    let page = replay_page(alloc, &source.head, &run, replay)?;
-    Ok((page, replay.end))
+    let page = replay_page(alloc, &source.head, &run, replay);
+    drop(run);
+    Ok((page?, replay.end))
 }
 
 /// The page that tells of the replay by a schedule of the test that the bytes are, and how it ended.

@@ -107,7 +107,9 @@ fn copy_says(head: &Head, spelled: &[u8]) -> bool {
     let Ok(copy) = head.copy() else {
         return false;
     };
-    begins_alike(&copy, head) && is_spelled(&copy, spelled)
+    let is_alike = begins_alike(&copy, head) && is_spelled(&copy, spelled);
+    drop(copy);
+    is_alike
 }
 
 /// Whether a text that is read says what is spelled, and so does a copy of its head.
@@ -115,7 +117,9 @@ fn says(alloc: Global, text: &str, spelled: &[u8]) -> bool {
     let Ok(frame) = read_frame(alloc, text.as_bytes()) else {
         return false;
     };
-    is_spelled(&frame.head, spelled) && copy_says(&frame.head, spelled)
+    let is_said = is_spelled(&frame.head, spelled) && copy_says(&frame.head, spelled);
+    drop(frame);
+    is_said
 }
 
 /// Texts, and what they list, the quantifier and the condition: `E`, `N` or `A`, then each sign before
@@ -143,10 +147,9 @@ SRC A {x=0} P0; locations [] exists (true) => ET
 
 /// Whether the line's text says what the line spells.
 fn is_said(alloc: Global, line: &str) -> bool {
-    let mut parts = line.splitn(2, " => ");
-    match (parts.next(), parts.next()) {
-        (Some(text), Some(spelled)) => says(alloc, text, spelled.as_bytes()),
-        _ => false,
+    match line.split_once(" => ") {
+        Some((text, spelled)) => says(alloc, text, spelled.as_bytes()),
+        None => false,
     }
 }
 

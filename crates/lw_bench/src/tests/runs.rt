@@ -27,7 +27,9 @@ fn is_left(alloc: Global, steps: [Cpu; 3]) -> bool {
     let Ok(source) = read_test(alloc, STORE_BUFFERING.as_bytes()) else {
         return false;
     };
-    leaves(alloc, &source, &steps.map(Event::Step))
+    let is_left = leaves(alloc, &source, &steps.map(Event::Step));
+    drop(source);
+    is_left
 }
 
 #[test]
