@@ -198,6 +198,15 @@ fn statuses(rt: HostRuntime) {
     }
 }
 
+/// Words that are no command.
+const OTHER_WORDS: [&[&str]; 5] = [
+    &[],
+    &["replay"],
+    &["replay", "P0", "P1"],
+    &["Replay", "P0"],
+    &["states"],
+];
+
 #[test]
 fn words_of_a_command(rt: HostRuntime) {
     for word in ["P0 D0", "", "--protocol"] {
@@ -205,11 +214,9 @@ fn words_of_a_command(rt: HostRuntime) {
             matches!(command_of(&["replay", word]), Some(Task::Replay(schedule)) if schedule == word)
         );
     }
-    assert!(rt; command_of(&[]).is_none());
-    assert!(rt; command_of(&["replay"]).is_none());
-    assert!(rt; command_of(&["replay", "P0", "P1"]).is_none());
-    assert!(rt; command_of(&["Replay", "P0"]).is_none());
-    assert!(rt; command_of(&["states"]).is_none());
+    for words in OTHER_WORDS {
+        assert!(rt; command_of(words).is_none(), "{words:?}");
+    }
 }
 
 /// Of an endless input 65,537 bytes are read, and no more, byte by byte.
