@@ -92,13 +92,15 @@ in_turn : (a b c d e : List ℕ) → (((a ++ b) ++ c) ++ d) ++ e ≡ a ++ (b ++ 
 in_turn a b c d e = simp append_assoc
 
 -- the parts of a page, one behind another
-pub page_made : (name done ends threads memory begun named stepped ended listed page : List ℕ) → begun ≡ [] → named ≡ begun ++ (codes "Test" ++ (32 ∷ (name ++ 10 ∷ []))) → stepped ≡ named ++ (codes "Steps" ++ (32 ∷ (done ++ 10 ∷ []))) → ended ≡ stepped ++ ends → listed ≡ ended ++ threads → page ≡ listed ++ memory → page ≡ line (codes "Test") (name ∷ []) ++ (line (codes "Steps") (done ∷ []) ++ (ends ++ (threads ++ memory)))
-page_made name done ends threads memory begun named stepped ended listed page e0 e1 e2 e3 e4 e5 =
+pub page_made : (name done ends threads memory begun stepped ended listed page : List ℕ) → begun ≡ [] → stepped ≡ begun ++ (codes "Test" ++ (32 ∷ (name ++ (10 ∷ (codes "Steps" ++ (32 ∷ (done ++ 10 ∷ []))))))) → ended ≡ stepped ++ ends → listed ≡ ended ++ threads → page ≡ listed ++ memory → page ≡ line (codes "Test") (name ∷ []) ++ (line (codes "Steps") (done ∷ []) ++ (ends ++ (threads ++ memory)))
+page_made name done ends threads memory begun stepped ended listed page e0 e1 e2 e3 e4 =
     let test = line (codes "Test") (name ∷ []) in
     let steps = line (codes "Steps") (done ∷ []) in
-    let first : named ≡ test = e1 ∙ ap (λ t. t ++ (codes "Test" ++ (32 ∷ (name ++ 10 ∷ [])))) e0 ∙ line_one (codes "Test") name in
-    let second : stepped ≡ test ++ steps = e2 ∙ ap (λ t. t ++ (codes "Steps" ++ (32 ∷ (done ++ 10 ∷ [])))) first ∙ ap (λ t. test ++ t) (line_one (codes "Steps") done) in
-    e5 ∙ ap (λ t. t ++ memory) (e4 ∙ ap (λ t. t ++ threads) (e3 ∙ ap (λ t. t ++ ends) second)) ∙ in_turn test steps ends threads memory
+    let count = codes "Steps" ++ (32 ∷ (done ++ 10 ∷ [])) in
+    let first : stepped ≡ (codes "Test" ++ (32 ∷ (name ++ 10 ∷ []))) ++ count =
+    e1 ∙ ap (λ t. t ++ (codes "Test" ++ (32 ∷ (name ++ (10 ∷ count))))) e0 ∙ ap (λ t. codes "Test" ++ (32 ∷ t)) (sym (append_assoc name (10 ∷ []) count)) in
+    let second : stepped ≡ test ++ steps = first ∙ ap (λ t. t ++ count) (line_one (codes "Test") name) ∙ ap (λ t. test ++ t) (line_one (codes "Steps") done) in
+    e4 ∙ ap (λ t. t ++ memory) (e3 ∙ ap (λ t. t ++ threads) (e2 ∙ ap (λ t. t ++ ends) second)) ∙ in_turn test steps ends threads memory
 
 -- words that were pushed, if there was room
 pub pushed : {T E : Type 0} (answer : Result T E) (out new words : List ℕ) → new ≡ (if is_ok answer then out ++ words else out) → OnOk answer (new ≡ out ++ words)

@@ -23,8 +23,7 @@ pub(crate) fn replay_page<A: Allocator + Copy>(
     ensures { IfOk result (λ text. string_bytes text ≡ pages.replay_text (head_of head.now) replay run.now.state) }
 {
     let mut out = String::new(alloc);
-    writeln!(out, "Test {}", head.name.as_str())?;
-    writeln!(out, "Steps {}", replay.done)?;
+    writeln!(out, "Test {}\nSteps {}", head.name.as_str(), replay.done)?;
     write_end(&mut out, replay)?;
     write_threads(&mut out, head, run)?;
     write_memory(&mut out, &head.locs, run)?;

@@ -97,9 +97,7 @@ pub fn replay_text<R: ByteReader, W: ByteWriter, A: Allocator + Copy>(
     ensures untouched { IfErr result (λ f. f ≢ BenchFault.Write → writer.new ≡ writer.old) }
 {
     let text = read_input(alloc, reader)?;
-    let page = page_of_text(alloc, text.as_slice(), schedule);
-    drop(text);
-    let (page, end) = page?;
+    let (page, end) = page_of_text(alloc, text.as_slice(), schedule)?;
     match write_output(writer, page.as_bytes()) {
         Ok(()) => Ok(end),
         Err(Failed) => Err(BenchFault::Write),
