@@ -128,6 +128,15 @@ text_refused (Some input) bytes words Memory is refuses = tt
 text_refused (Some input) bytes words Read is refuses = tt
 text_refused (Some input) bytes words Write is refuses = tt
 
+pub device_refused : (known : Option (List ℕ)) (words : List ℕ) (f : BenchFault) (failed : Bool) → f ≡ (if failed then Read else Memory) → Refuses known words f
+device_refused None words f failed is = tt
+device_refused (Some input) words f true is = rw is tt
+device_refused (Some input) words f false is = rw is tt
+
+pub write_refused : (known : Option (List ℕ)) (words : List ℕ) → Refuses known words Write
+write_refused None words = tt
+write_refused (Some input) words = tt
+
 pub page_written : (known before after : Option (List ℕ)) (bytes words page : List ℕ) (end : End) → IsInput known bytes → Replays bytes words page end → Appends before after page → Written known words before after end
 page_written None before after bytes words page end is replays put = tt
 page_written (Some input) before after bytes words page end is replays put = (page, record { test = replays.test; has_test = in_whole input bytes is replays.test replays.has_test; replayed = replays.replayed }, put)

@@ -1,4 +1,6 @@
 //! The replay of a test by a schedule, from the bytes that come in to the bytes that go out.
+//! Frames, tests and runs are dropped by calls of `drop`, which is proved once for each type: what goes at
+//! the end of a scope is proved there anew.
 ghost use Rattle.std.specs.Prelude.{◌≡◌, ◌≢◌, ◌↔◌, ℕ, List, true, false, Err, IfOk, IfErr};
 ghost use Rattle.std.specs.String.{string_bytes};
 ghost use Rattle.lw_base.specs.Schedules.{IsSchedule};

@@ -67,7 +67,7 @@ pub(super) fn spelled(alloc: Global, words: &str) -> Result<String, AllocError> 
     text.as_str().replace(alloc, '$', "\n")
 }
 
-/// Adds words of a table, all but their line ends as they stand for.
+/// Adds words of a table, with what is repeated in them written out.
 fn push_spelled(text: &mut String, words: &str) -> Result<(), AllocError> {
     let mut pieces = words.split('<');
     text.push_str(pieces.next().unwrap_or(""))?;

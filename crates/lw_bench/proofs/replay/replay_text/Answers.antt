@@ -1,7 +1,7 @@
 use Rattle.std.proofs.Common.{refl}
 use Rattle.std.proofs.lemmas.Result.{err_from_is_err_and}
 use Rattle.lw_bench.specs.declared.fault.BenchFault.TheVariants.{Read, Write}
-use Rattle.lw_bench.proofs.Replays.{input_told, input_apart, write_apart, fault_apart, answer_apart, text_refused, page_written}
+use Rattle.lw_bench.proofs.Replays.{input_told, input_apart, write_apart, fault_apart, answer_apart, device_refused, write_refused, text_refused, page_written}
 use Rattle.lw_bench.proofs.replay.replay_text.Goals as goal
 
 pub returns-in_err-page-clause-refused : goal.returns-in_err-page-clause-refused
@@ -51,3 +51,11 @@ returns-in_err-text-clause-write g c =
     let p = err_from_is_err_and c.from_residual.result c.from_residual.ensures.1 in
     let apart = input_apart c.in_err-text.field-0.0 (g.R.ByteReader.failed c.read_input.new.reader) c.in_err-text.ensures.err in
     fault_apart c.from_residual.result p.0 c.in_err-text.field-0.0 Write (g.W.ByteWriter.failed c.args.writer.now) p.1 p.2 apart c.requires.writer
+
+pub returns-in_err-text-clause-refused : goal.returns-in_err-text-clause-refused
+returns-in_err-text-clause-refused g c =
+    let p = err_from_is_err_and c.from_residual.result c.from_residual.ensures.1 in
+    rw (p.1, p.2) (device_refused (g.R.ByteReader.remaining c.args.reader.now) c.args.schedule.now c.in_err-text.field-0.0 (g.R.ByteReader.failed c.read_input.new.reader) c.in_err-text.ensures.err)
+
+pub returns-clause-refused : goal.returns-clause-refused
+returns-clause-refused g c = write_refused (g.R.ByteReader.remaining c.args.reader.now) c.args.schedule.now
