@@ -1,6 +1,6 @@
 -- Bytes that came in and went out, one piece more.
-use Rattle.std.proofs.Common.{inl, inr, ◌≡◌, ℕ, Option, Some, None, List, ◌++◌, length, take, drop, sym, ap, ◌∙◌, subst, append_assoc}
-use Rattle.std.proofs.lemmas.List.{take-append-drop}
+use Rattle.std.proofs.Common.{arith, inl, inr, ◌≡◌, ℕ, ◌-◌, ◌<◌, ◌≤◌, min, Option, Some, None, List, ◌++◌, length, length-append, take, drop, sym, ap, ◌∙◌, subst, append_assoc}
+use Rattle.std.proofs.lemmas.List.{length-take-le, take-append-drop, take-append-le}
 use Rattle.std.specs.Io.KnownBytes.{Appends, Consumes, IsAtEnd}
 use Rattle.lw_bench.specs.Devices.{IsInput, Gets, Puts}
 
@@ -22,6 +22,21 @@ puts_more a b c bytes rest n puts more =
       written = puts.written ++ take n rest;
       parts = puts.parts ∙ ap (λ r. puts.written ++ r) (sym (take-append-drop n rest)) ∙ sym (append_assoc puts.written (take n rest) (drop n rest));
       appended = Appends-more a b c puts.written (take n rest) puts.appended more;
+    }
+
+-- the front of a buffer was added, which has no more room than is still to be read
+pub gets_front : (known left : Option (List ℕ)) (before after buffer behind : List ℕ) (room count : ℕ) → length before < 65537 → room ≡ min 4096 (65537 - length before) → length buffer ≡ room → count ≤ length buffer → Consumes known left (take count buffer) × (count ≡ 0 → 0 < length buffer → IsAtEnd left) → after ≡ before ++ take count (buffer ++ behind) → Gets known left before after count
+gets_front known left before after buffer behind room count short is_room whole within consumed added =
+    let got = take count buffer in
+    let many : length got ≡ count = length-take-le count buffer within in
+    let more : after ≡ before ++ got = added ∙ ap (λ t. before ++ t) (take-append-le count buffer behind within) in
+    record {
+      got = got;
+      as_many = many;
+      added = more;
+      limit = omega (arith, ap length more, length-append before got, many, within, whole, is_room, short);
+      consumed = consumed.0;
+      ended = λ none. consumed.1 none (omega (arith, whole, is_room, short));
     }
 
 pub gets_more : (a b c : Option (List ℕ)) (before after : List ℕ) (n : ℕ) → Consumes a b before → Gets b c before after n → Consumes a c after

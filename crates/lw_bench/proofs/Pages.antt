@@ -1,9 +1,9 @@
 -- The text of a replay, one part more.
-use Rattle.std.proofs.Common.{◌≡◌, ℕ, zero, suc, ◌<◌, ◌+◌, Some, List, [], ◌∷◌, ◌++◌, length, map, drop, slice_get, refl, sym, ap, ◌∙◌, append_assoc, codes, Result, Ok, Err, OnOk, arith}
+use Rattle.std.proofs.Common.{◌≡◌, ℕ, zero, suc, ◌<◌, ◌≤◌, ◌+◌, Some, List, [], ◌∷◌, ◌++◌, length, map, drop, slice_get, refl, sym, ap, ◌∙◌, append_assoc, codes, Result, Ok, Err, OnOk, is_ok, if◌then◌else◌, arith}
 use Rattle.std.specs.Prelude.{slice_index}
 use Rattle.std.specs.Option.{option_map}
 use Rattle.std.specs.Fmt.{decimal}
-use Rattle.std.proofs.lemmas.List.{append-nil}
+use Rattle.std.proofs.lemmas.List.{append-nil, drop_all}
 use Rattle.std.proofs.lemmas.Grind.{flat_map-append}
 use Rattle.std.proofs.lemmas.Option.{slice_get-map, slice_get_within, get_or_from_slice_get}
 use Rattle.std.proofs.Math.Seq.{drop-cons}
@@ -28,6 +28,14 @@ memory_more names words k w name out new goal at_name at_word before written =
     let parts : spaced (memory_parts (drop k names) (drop k words)) ≡ (32 ∷ (name ++ (61 ∷ decimal w))) ++ rest =
     rw (drop_at names k name at_name, drop_at words k w at_word) refl in
     ap (λ t. t ++ rest) written ∙ append_assoc out (32 ∷ (name ++ (61 ∷ decimal w))) rest ∙ ap (λ t. out ++ t) (sym parts) ∙ before
+
+-- all locations
+pub memory_written : (names : List (List ℕ)) (words : List ℕ) (k : ℕ) (start first out new : List ℕ) → length names ≤ k → first ≡ start ++ codes "Memory" → out ++ spaced (memory_parts (drop k names) (drop k words)) ≡ first ++ spaced (memory_parts names words) → new ≡ out ++ 10 ∷ [] → new ≡ start ++ line (codes "Memory") (memory_parts names words)
+memory_written names words k start first out new whole begun told ended =
+    let all = spaced (memory_parts names words) in
+    let none : out ++ spaced (memory_parts (drop k names) (drop k words)) ≡ out =
+    ap (λ (rest : List (List ℕ)). out ++ spaced (memory_parts rest (drop k words))) (drop_all k names whole) ∙ append-nil out in
+    ended ∙ ap (λ t. t ++ 10 ∷ []) (sym none ∙ told ∙ ap (λ t. t ++ all) begun) ∙ append_assoc (start ++ codes "Memory") all (10 ∷ []) ∙ append_assoc start (codes "Memory") (all ++ 10 ∷ [])
 
 -- what is read of a thread, by a list of it for all threads
 pub at_thread : (f : Thread → ℕ) (threads : List Thread) (k w : ℕ) (th : Thread) → slice_get threads k ≡ Some th → slice_get (map f threads) k ≡ Some w → w ≡ f th
@@ -84,13 +92,20 @@ in_turn : (a b c d e : List ℕ) → (((a ++ b) ++ c) ++ d) ++ e ≡ a ++ (b ++ 
 in_turn a b c d e = simp append_assoc
 
 -- the parts of a page, one behind another
-pub page_made : (name done ends threads memory begun named stepped ended listed page : List ℕ) → begun ≡ [] → named ≡ begun ++ (codes "Test" ++ (32 ∷ (name ++ 10 ∷ []))) → stepped ≡ named ++ (codes "Steps" ++ (32 ∷ (done ++ 10 ∷ []))) → ended ≡ stepped ++ ends → listed ≡ ended ++ threads → page ≡ listed ++ memory → page ≡ line (codes "Test") (name ∷ []) ++ (line (codes "Steps") (done ∷ []) ++ (ends ++ (threads ++ memory)))
-page_made name done ends threads memory begun named stepped ended listed page e0 e1 e2 e3 e4 e5 =
+pub page_made : (name done ends threads memory begun stepped ended listed page : List ℕ) → begun ≡ [] → stepped ≡ begun ++ (codes "Test" ++ (32 ∷ (name ++ (10 ∷ (codes "Steps" ++ (32 ∷ (done ++ 10 ∷ []))))))) → ended ≡ stepped ++ ends → listed ≡ ended ++ threads → page ≡ listed ++ memory → page ≡ line (codes "Test") (name ∷ []) ++ (line (codes "Steps") (done ∷ []) ++ (ends ++ (threads ++ memory)))
+page_made name done ends threads memory begun stepped ended listed page e0 e1 e2 e3 e4 =
     let test = line (codes "Test") (name ∷ []) in
     let steps = line (codes "Steps") (done ∷ []) in
-    let first : named ≡ test = e1 ∙ ap (λ t. t ++ (codes "Test" ++ (32 ∷ (name ++ 10 ∷ [])))) e0 ∙ line_one (codes "Test") name in
-    let second : stepped ≡ test ++ steps = e2 ∙ ap (λ t. t ++ (codes "Steps" ++ (32 ∷ (done ++ 10 ∷ [])))) first ∙ ap (λ t. test ++ t) (line_one (codes "Steps") done) in
-    e5 ∙ ap (λ t. t ++ memory) (e4 ∙ ap (λ t. t ++ threads) (e3 ∙ ap (λ t. t ++ ends) second)) ∙ in_turn test steps ends threads memory
+    let count = codes "Steps" ++ (32 ∷ (done ++ 10 ∷ [])) in
+    let first : stepped ≡ (codes "Test" ++ (32 ∷ (name ++ 10 ∷ []))) ++ count =
+    e1 ∙ ap (λ t. t ++ (codes "Test" ++ (32 ∷ (name ++ (10 ∷ count))))) e0 ∙ ap (λ t. codes "Test" ++ (32 ∷ t)) (sym (append_assoc name (10 ∷ []) count)) in
+    let second : stepped ≡ test ++ steps = first ∙ ap (λ t. t ++ count) (line_one (codes "Test") name) ∙ ap (λ t. test ++ t) (line_one (codes "Steps") done) in
+    e4 ∙ ap (λ t. t ++ memory) (e3 ∙ ap (λ t. t ++ threads) (e2 ∙ ap (λ t. t ++ ends) second)) ∙ in_turn test steps ends threads memory
+
+-- words that were pushed, if there was room
+pub pushed : {T E : Type 0} (answer : Result T E) (out new words : List ℕ) → new ≡ (if is_ok answer then out ++ words else out) → OnOk answer (new ≡ out ++ words)
+pushed (Err x) out new words told = tt
+pushed (Ok x) out new words told = told
 
 stop_line : (done number name : List ℕ) → codes "End Stopped at " ++ (done ++ (codes " by " ++ (number ++ (32 ∷ (name ++ 10 ∷ []))))) ≡ line (codes "End") (codes "Stopped" ∷ codes "at" ∷ done ∷ codes "by" ∷ number ∷ name ∷ [])
 stop_line done number name =

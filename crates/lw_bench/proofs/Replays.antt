@@ -1,5 +1,5 @@
 -- What faults say of a test and of a schedule.
-use Rattle.std.proofs.Common.{◌≡◌, ◌≢◌, ◌≤◌, ◌⊎◌, inl, inr, ℕ, Option, Some, None, List, [], ◌++◌, length, sym, ap, ◌∙◌, subst, length-append, Result, Err, arith}
+use Rattle.std.proofs.Common.{Bool, true, false, ◌↔◌, ◌≡◌, ◌≢◌, ◌≤◌, ◌⊎◌, inl, inr, ℕ, Option, Some, None, List, [], ◌++◌, length, sym, ap, ◌∙◌, subst, length-append, Result, Ok, Err, if◌then◌else◌, refl, arith}
 use Rattle.std.proofs.lemmas.List.{append-nil}
 use Rattle.std.specs.Io.KnownBytes.{Appends}
 use Rattle.lw_base.specs.declared.stop.End.{End}
@@ -63,6 +63,9 @@ module _ (test : SourceTest) (words : List ℕ) (f : ScheduleFault) where
   pub schedule_refuses : (f.cause ≢ schedule.Memory → (events : List Event) → IsSchedule test.head.locs words events → ⊥) → RefusesSchedule test words (told_schedule f)
   schedule_refuses none = refuses_schedule f.cause none
 
+pub memory_refuses : (test : SourceTest) (words : List ℕ) (f : BenchFault) → f ≡ Memory → RefusesSchedule test words f
+memory_refuses test words f is = rw is tt
+
 -- Bytes that came in: the whole input, or more than a test has.
 module _ (input bytes : List ℕ) (is : (rest : List ℕ) × (input ≡ bytes ++ rest) × ((rest ≡ []) ⊎ (length bytes ≡ 65537))) where
   whole : length bytes ≤ 65536 → bytes ≡ input
@@ -125,9 +128,56 @@ text_refused (Some input) bytes words Memory is refuses = tt
 text_refused (Some input) bytes words Read is refuses = tt
 text_refused (Some input) bytes words Write is refuses = tt
 
+pub device_refused : (known : Option (List ℕ)) (words : List ℕ) (f : BenchFault) (failed : Bool) → f ≡ (if failed then Read else Memory) → Refuses known words f
+device_refused None words f failed is = tt
+device_refused (Some input) words f true is = rw is tt
+device_refused (Some input) words f false is = rw is tt
+
+pub write_refused : (known : Option (List ℕ)) (words : List ℕ) → Refuses known words Write
+write_refused None words = tt
+write_refused (Some input) words = tt
+
 pub page_written : (known before after : Option (List ℕ)) (bytes words page : List ℕ) (end : End) → IsInput known bytes → Replays bytes words page end → Appends before after page → Written known words before after end
 page_written None before after bytes words page end is replays put = tt
 page_written (Some input) before after bytes words page end is replays put = (page, record { test = replays.test; has_test = in_whole input bytes is replays.test replays.has_test; replayed = replays.replayed }, put)
 
-pub err_is : {T E : Type 0} {a b : E} → (let e : Result T E = Err a in e) ≡ Err b → a ≡ b
+err_is : {T E : Type 0} {a b : E} → (let e : Result T E = Err a in e) ≡ Err b → a ≡ b
 err_is same = cc
+
+ok_apart : {T E : Type 0} {a : T} {b : E} → (let r : Result T E = Ok a in r) ≡ Err b → ⊥
+ok_apart same = cc
+
+unlike : {b : Bool} → b ≡ false → b ≡ true → ⊥
+unlike is_no is_yes = cc
+
+-- no fault of a device is told, and the device has not failed
+pub fault_apart : {T : Type 0} (result : Result T BenchFault) (given fault other : BenchFault) (failed : Bool) → result ≡ Err given → given ≡ fault → fault ≢ other → failed ≡ false → result ≡ Err other ↔ failed ≡ true
+fault_apart result given fault other failed is same apart working =
+    (λ told. absurd (apart (sym same ∙ err_is (sym is ∙ told))), λ yes. absurd (unlike working yes))
+
+memory_is : (let f : BenchFault = Memory in f) ≢ Read
+memory_is same = cc
+
+-- what an input that was not read whole tells
+pub input_told : {T : Type 0} (result : Result T BenchFault) (given fault : BenchFault) (failed : Bool) → result ≡ Err given → given ≡ fault → fault ≡ (if failed then Read else Memory) → result ≡ Err Read ↔ failed ≡ true
+input_told result given fault true is same told = (λ known. refl, λ yes. is ∙ ap (λ f. Err f) (same ∙ told))
+input_told result given fault false is same told = fault_apart result given fault Read false is same (λ other. memory_is (sym told ∙ other)) refl
+
+pub input_apart : (fault : BenchFault) (failed : Bool) → fault ≡ (if failed then Read else Memory) → fault ≢ Write
+input_apart fault true told same = read_is (sym told ∙ same)
+  where
+    read_is : (let f : BenchFault = Read in f) ≢ Write
+    read_is same = cc
+input_apart fault false told same = other (sym told ∙ same)
+  where
+    other : (let f : BenchFault = Memory in f) ≢ Write
+    other same = cc
+
+write_is : (let f : BenchFault = Write in f) ≢ Read
+write_is same = cc
+
+pub write_apart : {T : Type 0} (failed : Bool) → failed ≡ false → (let r : Result T BenchFault = Err Write in r) ≡ Err Read ↔ failed ≡ true
+write_apart failed working = fault_apart (Err Write) Write Write Read failed refl refl write_is working
+
+pub answer_apart : {T : Type 0} (answer : T) (other : BenchFault) (failed : Bool) → failed ≡ false → (let r : Result T BenchFault = Ok answer in r) ≡ Err other ↔ failed ≡ true
+answer_apart answer other failed working = (λ told. absurd (ok_apart told), λ yes. absurd (unlike working yes))

@@ -3,7 +3,7 @@ ghost use Rattle.std.specs.Prelude.{◌≡◌, IfOk};
 ghost use Rattle.std.specs.String.{string_bytes};
 ghost use Rattle.lw_bench.specs.declared.fault.BenchFault.TheVariants as bench;
 ghost use Rattle.lw_bench.specs.Faults as faults;
-ghost use Rattle.lw_bench.specs.Faults.{told_text, told_cell, told_schedule, fault_text};
+ghost use Rattle.lw_bench.specs.Faults.{told_text, told_cell, told_schedule, placed_text, fault_text};
 
 use lw_base::{CellCause, CellFault, End, ScheduleCause, ScheduleFault};
 use lw_text::{TextCause, TextFault};
@@ -84,33 +84,34 @@ pub fn fault_line<A: Allocator + Copy>(
 {
     match fault {
         BenchFault::Text(fault) => {
-            format!(in alloc;
-                "lw: text {} {} at {}",
-                fault.cause.number(),
-                fault.cause.name(),
-                fault.at
-            )
+            let cause = fault.cause;
+            placed_line(alloc, "text", cause.number(), cause.name(), fault.at)
         }
         BenchFault::Cell(fault) => {
-            format!(in alloc;
-                "lw: cell {} {} at {}",
-                fault.cause.number(),
-                fault.cause.name(),
-                fault.at
-            )
+            let cause = fault.cause;
+            placed_line(alloc, "cell", cause.number(), cause.name(), fault.at)
         }
         BenchFault::Schedule(fault) => {
-            format!(in alloc;
-                "lw: schedule {} {} at {}",
-                fault.cause.number(),
-                fault.cause.name(),
-                fault.at
-            )
+            let cause = fault.cause;
+            placed_line(alloc, "schedule", cause.number(), cause.name(), fault.at)
         }
         BenchFault::Memory => String::from_str(alloc, "lw: memory"),
         BenchFault::Read => String::from_str(alloc, "lw: read failed"),
         BenchFault::Write => String::from_str(alloc, "lw: write failed"),
     }
+}
+
+/// The line that tells of a fault of this kind, with the number and the name of its cause, at this place.
+fn placed_line<A: Allocator>(
+    alloc: A,
+    kind: &str,
+    number: u8,
+    name: &str,
+    place: usize,
+) -> Result<String<A>, AllocError>
+    ensures { IfOk result (λ line. string_bytes line ≡ placed_text kind.now number name.now place) }
+{
+    format!(in alloc; "lw: {} {} {} at {}", kind, number, name, place)
 }
 
 /// The exit status that tells of a fault: 1 where the text, a cell or the schedule is refused, and 4

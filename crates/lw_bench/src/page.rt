@@ -23,8 +23,7 @@ pub(crate) fn replay_page<A: Allocator + Copy>(
     ensures { IfOk result (λ text. string_bytes text ≡ pages.replay_text (head_of head.now) replay run.now.state) }
 {
     let mut out = String::new(alloc);
-    writeln!(out, "Test {}", head.name.as_str())?;
-    writeln!(out, "Steps {}", replay.done)?;
+    writeln!(out, "Test {}\nSteps {}", head.name.as_str(), replay.done)?;
     write_end(&mut out, replay)?;
     write_threads(&mut out, head, run)?;
     write_memory(&mut out, &head.locs, run)?;
@@ -36,8 +35,8 @@ fn write_end<A: Allocator>(out: &mut String<A>, replay: Replay) -> Result<(), Al
     ensures { OnOk result (string_bytes out.new ≡ string_bytes out.old ++ line (codes "End") (end_parts replay.done replay.end)) }
 {
     match replay.end {
-        End::Final => writeln!(out, "End Final"),
-        End::NotFinal => writeln!(out, "End NotFinal"),
+        End::Final => out.push_str("End Final\n"),
+        End::NotFinal => out.push_str("End NotFinal\n"),
         End::Stopped(stop) => {
             writeln!(
                 out,
@@ -86,7 +85,7 @@ fn write_thread<A: Allocator>(
         };
         write!(out, " {}={}", reg_name(arch, reg), run.reg(cpu, reg))?;
     }
-    writeln!(out, "")?;
+    out.push_str("\n")?;
     Ok(())
 }
 
@@ -99,13 +98,13 @@ fn write_memory<A: Allocator>(
     requires { length run.now.state.words ≡ length locs.now }
     ensures { OnOk result (string_bytes out.new ≡ string_bytes out.old ++ line (codes "Memory") (memory_parts locs.now run.now.state.words)) }
 {
-    write!(out, "Memory")?;
+    out.push_str("Memory")?;
     for number in 0..locs.len() {
         let Some(loc) = Loc::new(number as u8) else {
             unreachable!();
         };
         write!(out, " {}={}", locs.name(loc), run.word(loc))?;
     }
-    writeln!(out, "")?;
+    out.push_str("\n")?;
     Ok(())
 }

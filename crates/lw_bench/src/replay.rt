@@ -1,6 +1,9 @@
 //! The replay of a test by a schedule, from the bytes that come in to the bytes that go out.
-ghost use Rattle.std.specs.Prelude.{◌≡◌, ◌≢◌, ◌↔◌, true, false, Err, IfOk, IfErr};
+//! Frames, tests and runs are dropped by calls of `drop`, which is proved once for each type: what goes at
+//! the end of a scope is proved there anew.
+ghost use Rattle.std.specs.Prelude.{◌≡◌, ◌≢◌, ◌↔◌, ℕ, List, true, false, Err, IfOk, IfErr};
 ghost use Rattle.std.specs.String.{string_bytes};
+ghost use Rattle.lw_base.specs.Schedules.{IsSchedule};
 ghost use Rattle.lw_source.specs.Views.{source_of};
 ghost use Rattle.lw_bench.specs.Replays.{HasTest, Replayed, RefusesTest, RefusesSchedule, Replays, RefusesText, Written, Refuses};
 
@@ -9,20 +12,22 @@ use crate::fault::BenchFault;
 use crate::input::read_input;
 use crate::output::write_output;
 use crate::page::replay_page;
-use lw_base::{End, read_schedule};
+use lw_base::{End, Event, read_schedule};
 use lw_source::{Source, SourceRun, read_source};
 use lw_text::{a_text_has_one_frame, read_frame};
 use std::alloc::Allocator;
 
 /// The test that the bytes are.
-fn read_test<A: Allocator + Copy>(alloc: A, text: &[u8]) -> Result<Source<A>, BenchFault>
+pub(crate) fn read_test<A: Allocator + Copy>(alloc: A, text: &[u8]) -> Result<Source<A>, BenchFault>
     ensures found { IfOk result (λ source. HasTest text.now (source_of source)) }
     ensures fault { IfErr result (RefusesTest text.now) }
 {
     let frame = read_frame(alloc, text)?;
     // The text has no other frame, so a fault of its cells says that there is no test.
     a_text_has_one_frame();
-    Ok(read_source(alloc, &frame)?)
+    let read = read_source(alloc, &frame);
+    drop(frame);
+    Ok(read?)
 }
 
 /// The page that tells of the replay of a test by a schedule, and how the replay ended.
@@ -35,10 +40,23 @@ fn page_of<A: Allocator + Copy>(
     ensures fault { IfErr result (RefusesSchedule (source_of source.now) schedule.now) }
 {
     let events = read_schedule(alloc, schedule, &source.head.locs)?;
+    page_of_events(alloc, source, events.as_slice())
+}
+
+/// The page that tells of the replay of a test by these events, and how the replay ended.
+fn page_of_events<A: Allocator + Copy>(
+    alloc: A,
+    source: &Source<A>,
+    events: &[Event],
+) -> Result<(String<A>, End), BenchFault>
+    ensures found { IfOk result (λ x. (schedule : List ℕ) → IsSchedule source.now.head.locs schedule events.now → Replayed (source_of source.now) schedule (string_bytes x.0) x.1) }
+    ensures fault { IfErr result (λ f. f ≡ BenchFault.Memory) }
+{
     let mut run = SourceRun::new(alloc, source)?;
-    let replay = run.run(events.as_slice());
-    let page = replay_page(alloc, &source.head, &run, replay)?;
-    Ok((page, replay.end))
+    let replay = run.run(events);
+    let page = replay_page(alloc, &source.head, &run, replay);
+    drop(run);
+    Ok((page?, replay.end))
 }
 
 /// The page that tells of the replay by a schedule of the test that the bytes are, and how it ended.
@@ -52,7 +70,9 @@ fn page_of_text<A: Allocator + Copy>(
     ensures device { IfErr result (λ f. (f ≢ BenchFault.Read) × (f ≢ BenchFault.Write)) }
 {
     let source = read_test(alloc, text)?;
-    page_of(alloc, &source, schedule)
+    let told = page_of(alloc, &source, schedule);
+    drop(source);
+    told
 }
 
 /// Replays the test that the reader gives by a schedule, and writes the page that tells of it.

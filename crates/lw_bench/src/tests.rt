@@ -198,6 +198,15 @@ fn statuses(rt: HostRuntime) {
     }
 }
 
+/// Words that are no command.
+const OTHER_WORDS: [&[&str]; 5] = [
+    &[],
+    &["replay"],
+    &["replay", "P0", "P1"],
+    &["Replay", "P0"],
+    &["states"],
+];
+
 #[test]
 fn words_of_a_command(rt: HostRuntime) {
     for word in ["P0 D0", "", "--protocol"] {
@@ -205,39 +214,21 @@ fn words_of_a_command(rt: HostRuntime) {
             matches!(command_of(&["replay", word]), Some(Task::Replay(schedule)) if schedule == word)
         );
     }
-    assert!(rt; command_of(&[]).is_none());
-    assert!(rt; command_of(&["replay"]).is_none());
-    assert!(rt; command_of(&["replay", "P0", "P1"]).is_none());
-    assert!(rt; command_of(&["Replay", "P0"]).is_none());
-    assert!(rt; command_of(&["states"]).is_none());
-}
-
-/// A text of 65,536 bytes that ends in line ends is read, and one of 65,537 bytes isn't, whatever they are.
-#[test]
-fn longest_text(rt: HostRuntime) -> Result<(), Fail> {
-    let mut text = Vec::from_slice(rt.alloc(), STORE_BUFFERING.as_bytes())?;
-    for _byte in 0..65449 {
-        text.push(b'\n')?;
+    for words in OTHER_WORDS {
+        assert!(rt; command_of(words).is_none(), "{words:?}");
     }
-    assert!(rt; text.len() == 65536);
-    let (result, _page) = replay(rt.alloc(), &text, "P0 P0 P1 P1");
-    assert!(rt; matches!(result, Ok(End::Final)));
-    text.push(b'\n')?;
-    assert!(rt; is_refused(rt.alloc(), &text, "", "lw: text 2 TooLong at 65536"));
-    Ok(())
 }
 
 /// Of an endless input 65,537 bytes are read, and no more, byte by byte.
 #[test]
-fn endless_input(rt: HostRuntime) -> Result<(), Fail> {
-    let text = vec![in rt.alloc(); 0xff; 70000]?;
+fn endless_input(rt: HostRuntime) {
+    let text = [0xff; 70000];
     let mut reader = FromRead::new(Tape::new(&text));
     reader.reader.step = 1;
     let mut writer = ToWrite::new(Sheet::new());
     let result = replay_text(rt.alloc(), &mut reader, "", &mut writer);
     assert!(rt; matches!(result, Err(BenchFault::Text(fault)) if fault.at == 65536));
     assert!(rt; reader.reader.calls == 65537 && reader.reader.at == 65537);
-    Ok(())
 }
 
 /// The same page comes of a reader that gives one byte at a time and a writer that takes one.

@@ -4,12 +4,12 @@ use lw_base::{Head, Prop, Quant, Seen};
 use lw_text::read_frame;
 use std::alloc::Allocator;
 
-/// What stands behind a mark and these digits.
-fn after_mark<'s>(spelled: &'s [u8], mark: u8, digits: &[usize]) -> Option<&'s [u8]> {
-    let mut rest = after_byte(spelled, mark)?;
+/// What stands behind these digits.
+fn after_digits<'s>(spelled: &'s [u8], digits: &[usize]) -> Option<&'s [u8]> {
+    let mut rest = spelled;
     for digit in digits {
         let (first, after) = rest.split_first()?;
-        if first.checked_sub(b'0').map(usize::from) != Some(*digit) {
+        if usize::from(*first) != digit.saturating_add(usize::from(b'0')) {
             return None;
         }
         rest = after;
@@ -23,25 +23,31 @@ fn after_byte(spelled: &[u8], byte: u8) -> Option<&[u8]> {
     if *first == byte { Some(rest) } else { None }
 }
 
+/// The sign that stands before the parts of a proposition.
+fn sign_of<A: Allocator>(prop: &Prop<A>) -> u8 {
+    match prop {
+        Prop::Always => b'T',
+        Prop::Never => b'F',
+        Prop::RegIs(..) => b'r',
+        Prop::WordIs(..) => b'x',
+        Prop::Neg(_) => b'~',
+        Prop::Both(..) => b'&',
+        Prop::Either(..) => b'|',
+    }
+}
+
 /// What stands behind the proposition.
 fn after_prop<'s, A: Allocator>(prop: &Prop<A>, spelled: &'s [u8]) -> Option<&'s [u8]> {
+    let rest = after_byte(spelled, sign_of(prop))?;
     match prop {
-        Prop::Always => after_byte(spelled, b'T'),
-        Prop::Never => after_byte(spelled, b'F'),
-        Prop::RegIs(cpu, reg, word) => after_mark(
-            spelled,
-            b'r',
-            &[cpu.index(), reg.index(), *word as usize],
-        ),
-        Prop::WordIs(loc, word) => after_mark(spelled, b'x', &[loc.index(), *word as usize]),
-        Prop::Neg(inner) => after_prop(inner, after_byte(spelled, b'~')?),
-        Prop::Both(left, right) => {
-            let rest = after_prop(left, after_byte(spelled, b'&')?)?;
-            after_prop(right, rest)
+        Prop::Always | Prop::Never => Some(rest),
+        Prop::RegIs(cpu, reg, word) => {
+            after_digits(rest, &[cpu.index(), reg.index(), *word as usize])
         }
-        Prop::Either(left, right) => {
-            let rest = after_prop(left, after_byte(spelled, b'|')?)?;
-            after_prop(right, rest)
+        Prop::WordIs(loc, word) => after_digits(rest, &[loc.index(), *word as usize]),
+        Prop::Neg(inner) => after_prop(inner, rest),
+        Prop::Both(left, right) | Prop::Either(left, right) => {
+            after_prop(right, after_prop(left, rest)?)
         }
     }
 }
@@ -49,8 +55,10 @@ fn after_prop<'s, A: Allocator>(prop: &Prop<A>, spelled: &'s [u8]) -> Option<&'s
 /// What stands behind a register or a location, spelled as in an atom.
 fn after_seen<'s>(seen: &Seen, spelled: &'s [u8]) -> Option<&'s [u8]> {
     match seen {
-        Seen::Register(cpu, reg) => after_mark(spelled, b'r', &[cpu.index(), reg.index()]),
-        Seen::Location(loc) => after_mark(spelled, b'x', &[loc.index()]),
+        Seen::Register(cpu, reg) => {
+            after_digits(after_byte(spelled, b'r')?, &[cpu.index(), reg.index()])
+        }
+        Seen::Location(loc) => after_digits(after_byte(spelled, b'x')?, &[loc.index()]),
     }
 }
 
@@ -94,17 +102,24 @@ fn begins_alike<A: Allocator>(head: &Head<A>, other: &Head<A>) -> bool {
         && head.init_words.as_slice() == other.init_words.as_slice()
 }
 
+/// Whether a copy of a head begins as the head does, and says what is spelled.
+fn copy_says(head: &Head, spelled: &[u8]) -> bool {
+    let Ok(copy) = head.copy() else {
+        return false;
+    };
+    let is_alike = begins_alike(&copy, head) && is_spelled(&copy, spelled);
+    drop(copy);
+    is_alike
+}
+
 /// Whether a text that is read says what is spelled, and so does a copy of its head.
 fn says(alloc: Global, text: &str, spelled: &[u8]) -> bool {
     let Ok(frame) = read_frame(alloc, text.as_bytes()) else {
         return false;
     };
-    let Ok(copy) = frame.head.copy() else {
-        return false;
-    };
-    begins_alike(&copy, &frame.head)
-        && is_spelled(&copy, spelled)
-        && is_spelled(&frame.head, spelled)
+    let is_said = is_spelled(&frame.head, spelled) && copy_says(&frame.head, spelled);
+    drop(frame);
+    is_said
 }
 
 /// Texts, and what they list, the quantifier and the condition: `E`, `N` or `A`, then each sign before
@@ -132,10 +147,9 @@ SRC A {x=0} P0; locations [] exists (true) => ET
 
 /// Whether the line's text says what the line spells.
 fn is_said(alloc: Global, line: &str) -> bool {
-    let mut parts = line.splitn(2, " => ");
-    match (parts.next(), parts.next()) {
-        (Some(text), Some(spelled)) => says(alloc, text, spelled.as_bytes()),
-        _ => false,
+    match line.split_once(" => ") {
+        Some((text, spelled)) => says(alloc, text, spelled.as_bytes()),
+        None => false,
     }
 }
 

@@ -1,4 +1,6 @@
 //! Names, registers and the table of locations.
+ghost use Rattle.std.specs.Prelude.{◌≡◌, []};
+
 use super::*;
 use lw_base::{Arch, LocNames, Reg, is_location, is_name, reg_name, reg_named};
 use std::alloc::{AllocError, Allocator};
@@ -52,62 +54,58 @@ fn grow<A: Allocator + Copy>(names: &mut LocNames<A>, words: &str) -> Result<usi
     Ok(names.len())
 }
 
-/// The place of a name, as a number.
-fn place_of<A: Allocator>(names: &LocNames<A>, word: &str) -> Option<usize> {
-    match names.find(word) {
-        Some(loc) => Some(loc.index()),
-        None => None,
-    }
-}
-
 /// Whether these are the names of the table, in their order.
 fn are_named<A: Allocator>(names: &LocNames<A>, words: &str) -> bool {
     for (place, word) in words.split(' ').enumerate() {
-        if place_of(names, word) != Some(place) {
+        if !matches!(names.find(word), Some(loc) if loc.index() == place) {
             return false;
         }
     }
     true
 }
 
-#[test]
-fn table_of_locations(rt: HostRuntime) -> Result<(), Fail> {
-    let mut names = LocNames::new(rt.alloc());
-    assert!(rt; is_location("x"));
-    let x = names.add("x")?;
-    assert!(rt; x.index() == 0 && names.name(x) == "x");
-    assert!(rt; grow(&mut names, "y x r0 a b c d y e f g")? == 8);
-    assert!(rt; are_named(&names, "x y a b c d e f"));
-    assert!(rt; place_of(&names, "g").is_none());
-    Ok(())
+/// Whether an empty table takes a name as its first.
+fn takes_first<A: Allocator + Copy>(names: &mut LocNames<A>) -> bool
+    requires { names.old ≡ [] }
+{
+    if !is_location("x") {
+        return false;
+    }
+    match names.add("x") {
+        Ok(x) => x.index() == 0 && names.name(x) == "x",
+        Err(_) => false,
+    }
 }
 
-/// The number of the register of that name.
-fn register_of(arch: Arch, word: &str) -> Option<usize> {
-    match reg_named(arch, word) {
-        Some(reg) => Some(reg.index()),
-        None => None,
-    }
+#[test]
+fn table_of_locations(rt: HostRuntime) {
+    let mut names = LocNames::new(rt.alloc());
+    assert!(rt; takes_first(&mut names));
+    assert!(rt; matches!(grow(&mut names, "y x r0 a b c d y e f g"), Ok(8)));
+    assert!(rt; are_named(&names, "x y a b c d e f") && names.find("g").is_none());
 }
 
 /// The names of an architecture's registers, in the order of their numbers.
 fn are_registers(arch: Arch, names: &str) -> bool {
     for (number, name) in names.split(' ').enumerate() {
-        if register_of(arch, name) != Some(number) {
+        if !matches!(reg_named(arch, name), Some(reg) if reg.index() == number) {
             return false;
         }
     }
     true
 }
 
+/// Whether a register has this name in the source language, and that in x86.
+fn has_names(reg: Reg, source: &str, x86: &str) -> bool {
+    reg_name(Arch::Source, reg) == source && reg_name(Arch::X86, reg) == x86
+}
+
 #[test]
-fn names_of_registers(rt: HostRuntime) -> Result<(), Fail> {
+fn names_of_registers(rt: HostRuntime) {
     assert!(rt; are_registers(Arch::Source, "r0 r1 r2 r3 r4 r5"));
     assert!(rt; are_registers(Arch::X86, "EAX EBX ECX EDX ESI EDI"));
     assert!(rt; are_registers(Arch::X86, "eax eBx Ecx edX esi EdI"));
-    let last = Reg::new(5).ok_or("a register")?;
-    assert!(rt; reg_name(Arch::Source, last) == "r5" && reg_name(Arch::X86, last) == "EDI");
-    Ok(())
+    assert!(rt; matches!(Reg::new(5), Some(last) if has_names(last, "r5", "EDI")));
 }
 
 #[test]
@@ -116,9 +114,9 @@ fn words_that_name_no_register(rt: HostRuntime) {
         (Arch::Source, "r6 r00 r R0 r0x EAX eax"),
         (Arch::X86, "r0 EBP esp AX RAX EAXX"),
     ] {
-        assert!(rt; register_of(arch, "").is_none());
+        assert!(rt; reg_named(arch, "").is_none());
         for word in words.split(' ') {
-            assert!(rt; register_of(arch, word).is_none(), "{word}");
+            assert!(rt; reg_named(arch, word).is_none(), "{word}");
         }
     }
 }

@@ -1,5 +1,5 @@
 //! Pages of replays, typed in: schedules of store buffering, and whole runs of small tests.
-use super::tables::{first_other, first_other_schedule};
+use super::tables::{first_other, first_other_schedule, is_answered};
 use super::*;
 
 /// Schedules of store buffering: whole, cut short, and empty; with an event that is refused, so that the
@@ -19,12 +19,6 @@ P2 => Test SB$Steps 0$End Stopped at 0 by 1 NoCpu$P0 at 0 r0=0 r1=0 r2=0 r3=0 r4
 D2 => Test SB$Steps 0$End Stopped at 0 by 1 NoCpu$P0 at 0 r0=0 r1=0 r2=0 r3=0 r4=0 r5=0$P1 at 0 r0=0 r1=0 r2=0 r3=0 r4=0 r5=0$Memory x=0 y=0$
 E3:x => Test SB$Steps 0$End Stopped at 0 by 1 NoCpu$P0 at 0 r0=0 r1=0 r2=0 r3=0 r4=0 r5=0$P1 at 0 r0=0 r1=0 r2=0 r3=0 r4=0 r5=0$Memory x=0 y=0$
 ";
-
-#[test]
-fn runs_of_store_buffering(rt: HostRuntime) {
-    let other = first_other_schedule(rt.alloc(), STORE_BUFFERING, STORE_BUFFERING_RUNS);
-    assert!(rt; other.is_none(), "{other:?}");
-}
 
 /// Words that are no events, with digits that are no processor's, and with names that the test hasn't;
 /// the first faulty word is told.
@@ -68,9 +62,24 @@ E0:x E0:q P7 => lw: schedule 3 Location at 5
 ";
 
 #[test]
-fn refused_schedules(rt: HostRuntime) {
-    let other = first_other_schedule(rt.alloc(), STORE_BUFFERING, REFUSED_SCHEDULES);
-    assert!(rt; other.is_none(), "{other:?}");
+fn schedules_of_store_buffering(rt: HostRuntime) {
+    for table in [STORE_BUFFERING_RUNS, REFUSED_SCHEDULES] {
+        let other = first_other_schedule(rt.alloc(), STORE_BUFFERING, table);
+        assert!(rt; other.is_none(), "{other:?}");
+    }
+}
+
+/// Line ends, which no line of a table can hold, are blanks between the words of a schedule.
+#[test]
+fn line_ends_in_a_schedule(rt: HostRuntime) {
+    assert!(rt;
+        is_answered(
+            rt.alloc(),
+            STORE_BUFFERING,
+            "P0\nP0\r\nP1 P1",
+            "Test SB$Steps 4$End Final$P0 at 2 r0=0 r1=0 r2=0 r3=0 r4=0 r5=0$P1 at 2 r0=1 r1=0 r2=0 r3=0 r4=0 r5=0$Memory x=1 y=1$"
+        )
+    );
 }
 
 /// Tests at their start: the table of locations in the order in which they appear, first in the block,
@@ -90,12 +99,6 @@ SRC T${}$ P0 | P1 ;$ q := 0x10 | r2 := p ;$ | s := r1 ;$ r5 := n | ;$exists (1:r
 SRC A {} P0|P1; a := 1 | e := 1; b := 1 | f := 1; c := 1 | g := 1; d := 1 | h := 1; | r0 := h; exists (a=1) => Test A$Steps 0$End NotFinal$P0 at 0 r0=0 r1=0 r2=0 r3=0 r4=0 r5=0$P1 at 0 r0=0 r1=0 r2=0 r3=0 r4=0 r5=0$Memory a=0 b=0 c=0 d=0 e=0 f=0 g=0 h=0$
 ";
 
-#[test]
-fn starts(rt: HostRuntime) {
-    let other = first_other(rt.alloc(), STARTS);
-    assert!(rt; other.is_none(), "{other:?}");
-}
-
 /// Runs of the first thread by so many steps: each statement; sums that wrap, and read their registers
 /// before they write; a swap that stores its register's word and takes the location's; branches taken
 /// and not taken, and jumps, one of them to the thread's end.
@@ -112,12 +115,6 @@ SRC SUMS${ 0:r0=2; 0:r1=3; 0:r3=4294967295; }$ P0 ;$ r1 := r0 + r1 ;$ r1 := r1 +
 SRC A {} P0; <16 x := 1; >; exists (x=1) => P0 P0 P0 P0 P0 P0 P0 P0 P0 P0 P0 P0 P0 P0 P0 P0 => Test A$Steps 16$End Final$P0 at 16 r0=0 r1=0 r2=0 r3=0 r4=0 r5=0$Memory x=1$
 ";
 
-#[test]
-fn runs_of_one_thread(rt: HostRuntime) {
-    let other = first_other(rt.alloc(), RUNS_OF_ONE_THREAD);
-    assert!(rt; other.is_none(), "{other:?}");
-}
-
 /// Runs of several threads: four of them, with the greatest word; statements in two columns, some cells
 /// empty; a lock that the first thread to swap a 1 into it takes, so that the other jumps over its store.
 const RUNS_OF_SEVERAL_THREADS: &str = "
@@ -127,7 +124,9 @@ SRC LOCK \"two threads\"$Kind=lock (* not a comment${0:r1=1;1:r1=1}$ P0 | P1 ; (
 ";
 
 #[test]
-fn runs_of_several_threads(rt: HostRuntime) {
-    let other = first_other(rt.alloc(), RUNS_OF_SEVERAL_THREADS);
-    assert!(rt; other.is_none(), "{other:?}");
+fn starts_and_runs(rt: HostRuntime) {
+    for table in [STARTS, RUNS_OF_ONE_THREAD, RUNS_OF_SEVERAL_THREADS] {
+        let other = first_other(rt.alloc(), table);
+        assert!(rt; other.is_none(), "{other:?}");
+    }
 }

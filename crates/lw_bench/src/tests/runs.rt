@@ -1,47 +1,43 @@
 //! The state that a run leaves, as an outcome.
 use super::*;
-use lw_base::{Cpu, Event, Outcome, Replay};
-use lw_source::{Source, SourceRun, read_source};
-use lw_text::read_frame;
-use std::alloc::AllocError;
+use crate::replay::read_test;
+use lw_base::{Cpu, Event};
+use lw_source::{Source, SourceRun};
 
-/// What a run answers to these events, and the state that it leaves.
-fn replayed(
-    alloc: Global,
-    source: &Source,
-    events: &[Event],
-) -> Result<(Replay, Outcome), AllocError> {
-    let mut run = SourceRun::new(alloc, source)?;
-    let replay = run.run(events);
-    Ok((replay, run.outcome()?))
+/// Whether a run has left a 1 in each location, and in the first thread's first register alone.
+fn has_left(run: &SourceRun<'_>) -> bool {
+    let Ok(outcome) = run.outcome() else {
+        return false;
+    };
+    outcome.regs.as_slice() == [[1, 0, 0, 0, 0, 0], [0; 6]].as_slice()
+        && outcome.words.as_slice() == [1, 1].as_slice()
 }
 
-/// What the run of a text that is read answers and leaves.
-fn replayed_text(alloc: Global, text: &str, events: &[Event]) -> Option<(Replay, Outcome)> {
-    let Ok(frame) = read_frame(alloc, text.as_bytes()) else {
-        return None;
+/// Whether these events, three of them, are all carried out, don't end the run, and leave that.
+fn leaves(alloc: Global, source: &Source, events: &[Event]) -> bool {
+    let Ok(mut run) = SourceRun::new(alloc, source) else {
+        return false;
     };
-    let Ok(source) = read_source(alloc, &frame) else {
-        return None;
-    };
-    replayed(alloc, &source, events).ok()
+    let replay = run.run(events);
+    replay.done == 3 && replay.end == End::NotFinal && has_left(&run)
 }
 
 /// Whether the run of store buffering by these steps leaves the first thread's load with a 1.
 fn is_left(alloc: Global, steps: [Cpu; 3]) -> bool {
-    let events = steps.map(Event::Step);
-    let Some((replay, outcome)) = replayed_text(alloc, STORE_BUFFERING, &events) else {
+    let Ok(source) = read_test(alloc, STORE_BUFFERING.as_bytes()) else {
         return false;
     };
-    replay.done == 3
-        && replay.end == End::NotFinal
-        && outcome.regs.as_slice() == [[1, 0, 0, 0, 0, 0], [0; 6]].as_slice()
-        && outcome.words.as_slice() == [1, 1].as_slice()
+    let is_left = leaves(alloc, &source, &steps.map(Event::Step));
+    drop(source);
+    is_left
 }
 
 #[test]
-fn outcome_of_a_run(rt: HostRuntime) -> Result<(), Fail> {
-    let (first, second) = (Cpu::new(0).ok_or("P0")?, Cpu::new(1).ok_or("P1")?);
-    assert!(rt; is_left(rt.alloc(), [first, second, first]));
-    Ok(())
+fn outcome_of_a_run(rt: HostRuntime) {
+    assert!(rt;
+        matches!(
+            (Cpu::new(0), Cpu::new(1)),
+            (Some(first), Some(second)) if is_left(rt.alloc(), [first, second, first])
+        )
+    );
 }

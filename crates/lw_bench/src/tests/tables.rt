@@ -16,11 +16,12 @@ pub(super) fn first_other(alloc: Global, table: &str) -> Option<&str> {
 
 /// Whether the replay of the line's text by its schedule, or by the empty one, is told as the line says.
 fn holds(alloc: Global, line: &str) -> bool {
-    let mut parts = line.splitn(3, " => ");
-    match (parts.next(), parts.next(), parts.next()) {
-        (Some(text), Some(schedule), Some(told)) => is_answered(alloc, text, schedule, told),
-        (Some(text), Some(told), None) => is_answered(alloc, text, "", told),
-        _ => false,
+    let Some((text, rest)) = line.split_once(" => ") else {
+        return false;
+    };
+    match rest.split_once(" => ") {
+        Some((schedule, told)) => is_answered(alloc, text, schedule, told),
+        None => is_answered(alloc, text, "", rest),
     }
 }
 
@@ -40,10 +41,9 @@ pub(super) fn first_other_schedule<'t>(
 
 /// Whether the replay of the text by the line's schedule is told as the line says.
 fn holds_for(alloc: Global, text: &str, line: &str) -> bool {
-    let mut parts = line.splitn(2, " => ");
-    match (parts.next(), parts.next()) {
-        (Some(schedule), Some(told)) => is_answered(alloc, text, schedule, told),
-        _ => false,
+    match line.split_once(" => ") {
+        Some((schedule, told)) => is_answered(alloc, text, schedule, told),
+        None => false,
     }
 }
 
@@ -63,22 +63,26 @@ pub(super) fn is_answered(alloc: Global, text: &str, schedule: &str, told: &str)
 /// The text that these words of a table stand for.
 pub(super) fn spelled(alloc: Global, words: &str) -> Result<String, AllocError> {
     let mut text = String::new(alloc);
+    push_spelled(&mut text, words)?;
+    text.as_str().replace(alloc, '$', "\n")
+}
+
+/// Adds words of a table, with what is repeated in them written out.
+fn push_spelled(text: &mut String, words: &str) -> Result<(), AllocError> {
     let mut pieces = words.split('<');
     text.push_str(pieces.next().unwrap_or(""))?;
     for piece in pieces {
-        let mut parts = piece.splitn(2, '>');
-        push_repeated(&mut text, parts.next().unwrap_or(""))?;
-        text.push_str(parts.next().unwrap_or(""))?;
+        let (repeated, rest) = piece.split_once('>').unwrap_or((piece, ""));
+        push_repeated(text, repeated)?;
+        text.push_str(rest)?;
     }
-    text.as_str().replace(alloc, '$', "\n")
+    Ok(())
 }
 
 /// Adds the words behind a number and a blank, so many times.
 fn push_repeated(text: &mut String, words: &str) -> Result<(), AllocError> {
-    let mut parts = words.splitn(2, ' ');
-    let count = number(parts.next().unwrap_or("")).unwrap_or(0);
-    let repeated = parts.next().unwrap_or("");
-    for _ in 0..count {
+    let (count, repeated) = words.split_once(' ').unwrap_or((words, ""));
+    for _ in 0..number(count).unwrap_or(0) {
         text.push_str(repeated)?;
     }
     Ok(())

@@ -229,6 +229,8 @@ SRC A {} P0; exists (<32 y>=1) => read
 SRC A {} P0; exists (<33 y>=1) => lw: text 6 Name at 21
 SRC A {} P0; exists (x=1)<65511 $> => read
 SRC A {} P0; exists (x=1)<65511 $>$ => lw: text 2 TooLong at 65536
+SRC SB${}$ P0 | P1 ;$ x := 1 | y := 1 ;$ r0 := y | r0 := x ;$exists (0:r0=0 /\\ 1:r0=0)$<65449 $> => P0 P0 P1 P1 => Test SB$Steps 4$End Final$P0 at 2 r0=0 r1=0 r2=0 r3=0 r4=0 r5=0$P1 at 2 r0=1 r1=0 r2=0 r3=0 r4=0 r5=0$Memory x=1 y=1$
+SRC SB${}$ P0 | P1 ;$ x := 1 | y := 1 ;$ r0 := y | r0 := x ;$exists (0:r0=0 /\\ 1:r0=0)$<65449 $>$ => lw: text 2 TooLong at 65536
 SRC A {} P0; <64 ; >exists (x=1) => read
 SRC A {} P0; <64 ; > x := 1 | 12a exists (x=1) => lw: text 9 TooManyRows at 142
 SRC A {} P0; <64 ; >12a => lw: text 5 Number at 141

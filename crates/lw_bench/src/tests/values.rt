@@ -73,7 +73,7 @@ fn items_of_a_list(rt: HostRuntime) -> Result<(), Fail> {
     list.push(7)?;
     list.push(9)?;
     list.set(0, 8);
-    assert!(rt; !list.is_empty() && list.len() == 2 && list.get(1) == Some(&9));
+    assert!(rt; !list.is_empty() && list.len() == 2 && matches!(list.get(1), Some(9)));
     assert!(rt; list.as_slice() == [8, 9].as_slice());
     Ok(())
 }

@@ -1,5 +1,26 @@
-use Rattle.std.proofs.Common.{refl}
+use Rattle.std.proofs.Common.{rules, arith, refl, ◌≡◌, ◌∙◌, ◌-◌, ◌≤◌, min, length}
+use Rattle.std.proofs.lemmas.Result.{err_from_is_err_and}
+use Rattle.std.proofs.lemmas.List.{length-take-le}
+use Rattle.lw_bench.proofs.Devices.{gets_front}
 use Rattle.lw_bench.proofs.input.pull_chunk.Goals as goal
 
 pub returns-in_default-clause-err : goal.returns-in_default-clause-err
 returns-in_default-clause-err g c = rw c.in_default.ensures.failed refl
+
+fits : (g : _) (c : goal.In_ok-extend_from_slice g) → c.min-room.result ≤ 4096
+fits g c = omega (arith, c.min-room.ensures)
+
+whole : (g : _) (c : goal.In_ok-extend_from_slice g) → length c.pull.new.buf ≡ c.min-room.result
+whole g c = c.pull.auto.buf ∙ length-take-le c.min-room.result _ (fits g c)
+
+is_room : (g : _) (c : goal.In_ok-extend_from_slice g) → c.min-room.result ≡ min 4096 (65537 - length c.args.bytes.now.items)
+is_room g c = search rules
+
+pub returns-clause-bytes : goal.returns-clause-bytes
+returns-clause-bytes g c =
+    gets_front _ _ _ _ c.pull.new.buf _ c.min-room.result c.in-Ok.count c.requires.room (is_room g c) (whole g c) c.in-Ok.ensures.bound c.in-Ok.ensures.bytes c.in_ok-extend_from_slice.ensures.items
+
+pub returns-in_err-extend_from_slice-clause-err : goal.returns-in_err-extend_from_slice-clause-err
+returns-in_err-extend_from_slice-clause-err g c =
+    let p = err_from_is_err_and c.from_residual.result c.from_residual.ensures.1 in
+    rw (p.1, p.2, c.in-Ok.ensures.failed) refl

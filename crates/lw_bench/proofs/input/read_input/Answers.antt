@@ -1,4 +1,5 @@
 use Rattle.std.proofs.Common.{arith}
+use Rattle.std.proofs.lemmas.Result.{err_from_is_err_and}
 use Rattle.lw_bench.proofs.Devices.{gets_more, input_ended, input_full}
 use Rattle.lw_bench.proofs.input.read_input.Goals as goal
 
@@ -8,3 +9,16 @@ returns-then-branch-eq0-clause-bytes g c =
 
 pub returns-clause-bytes : goal.returns-clause-bytes
 returns-clause-bytes g c = input_full _ _ _ c.loop-reader.invariant.bytes (omega arith)
+
+pub loop-reader-preserved : goal.loop-reader-preserved
+loop-reader-preserved g c =
+    record {
+      working = c.in_ok-pull_chunk.ensures.failed;
+      limit = c.in_ok-pull_chunk.ensures.bytes.limit;
+      bytes = gets_more _ _ _ _ _ _ c.loop-reader.invariant.bytes c.in_ok-pull_chunk.ensures.bytes;
+    }
+
+pub returns-in_err-pull_chunk-clause-err : goal.returns-in_err-pull_chunk-clause-err
+returns-in_err-pull_chunk-clause-err g c =
+    let p = err_from_is_err_and c.from_residual.result c.from_residual.ensures.1 in
+    rw (p.1, p.2) c.in_err-pull_chunk.ensures.err

@@ -1,5 +1,6 @@
 use Rattle.std.proofs.Common.{arith, ◌∙◌, ap}
 use Rattle.std.specs.Prelude.{ℕ, slice_index}
+use Rattle.std.specs.String.{string_bytes}
 use Rattle.lw_base.specs.Registers.{register_name}
 use Rattle.lw_bench.proofs.Pages.{at_thread, registers_more, thread_written}
 use Rattle.lw_bench.proofs.page.write_thread.Goals as goal
@@ -11,4 +12,4 @@ loop-number-preserved g c th at =
 pub returns : goal.returns
 returns g c th at =
     let begun = rw c.index.ensures.value at c.in_ok-write.ensures.bytes in
-    thread_written c.args.arch c.args.cpu c.loop-number.number c.position.result th _ _ _ _ (omega arith) (at_thread (λ t. t.position) c.args.run.now.state.threads c.args.cpu c.position.result th at c.position.ensures) begun (c.loop-number.invariant th at) c.in_ok-writeln.ensures.bytes
+    thread_written c.args.arch c.args.cpu c.loop-number.number c.position.result th (string_bytes c.args.out.now) (string_bytes c.write.new.self) (string_bytes c.loop-number.out) (string_bytes c.push_str.new.self) (omega arith) (at_thread (λ t. t.position) c.args.run.now.state.threads c.args.cpu c.position.result th at c.position.ensures) begun (c.loop-number.invariant th at) c.in_ok-push_str.ensures.bytes

@@ -17,12 +17,12 @@ returns-in_err-source-clause-device g c =
 
 pub returns-clause-found : goal.returns-clause-found
 returns-clause-found g c =
-    IfOk-weaker c.page_of.result (λ x. Replayed (source_of c.in_ok-source.source) c.args.schedule.now (string_bytes x.0) x.1) (λ x. Replays c.args.text.now c.args.schedule.now (string_bytes x.0) x.1) (λ x replayed. record { test = source_of c.in_ok-source.source; has_test = c.in_ok-source.ensures.found; replayed = replayed }) c.page_of.ensures.found
+    IfOk-weaker c.page_of-told.result (λ x. Replayed (source_of c.in_ok-source.source) c.args.schedule.now (string_bytes x.0) x.1) (λ x. Replays c.args.text.now c.args.schedule.now (string_bytes x.0) x.1) (λ x replayed. record { test = source_of c.in_ok-source.source; has_test = c.in_ok-source.ensures.found; replayed = replayed }) c.page_of-told.ensures.found
 
 pub returns-clause-fault : goal.returns-clause-fault
 returns-clause-fault g c =
-    IfErr-weaker _ _ _ (λ f. of_schedule _ _ (source_of c.in_ok-source.source) f c.in_ok-source.ensures.found) c.page_of.ensures.fault
+    IfErr-weaker _ _ _ (λ f. of_schedule _ _ (source_of c.in_ok-source.source) f c.in_ok-source.ensures.found) c.page_of-told.ensures.fault
 
 pub returns-clause-device : goal.returns-clause-device
 returns-clause-device g c =
-    IfErr-weaker _ _ _ (λ f. schedule_apart (source_of c.in_ok-source.source) c.args.schedule.now f) c.page_of.ensures.fault
+    IfErr-weaker _ _ _ (λ f. schedule_apart (source_of c.in_ok-source.source) c.args.schedule.now f) c.page_of-told.ensures.fault

@@ -10,7 +10,7 @@ returns-in_err-frame-clause-fault g c =
     let p = err_from_is_err_and c.from_residual.result c.from_residual.ensures.1 in
     rw (p.1, p.2) (text_refuses _ _ (λ known test has. c.in_err-frame.ensures.fault known has.frame has.has_frame))
 
-pub returns-in_err-read_source-clause-fault : goal.returns-in_err-read_source-clause-fault
-returns-in_err-read_source-clause-fault g c =
-    let p = err_from_is_err_and c.from_residual-in_err-read_source.result c.from_residual-in_err-read_source.ensures.1 in
-    rw (p.1, p.2) (cell_refuses _ _ (λ known test has. c.in_err-read_source.ensures.fault known test (subst (λ (f : TestFrame). HasSource f test) (c.a_text_has_one_frame.ensures _ _ _ has.has_frame c.in_ok-frame.ensures.found) has.has_source)))
+pub returns-in_err-read-clause-fault : goal.returns-in_err-read-clause-fault
+returns-in_err-read-clause-fault g c =
+    let p = err_from_is_err_and c.from_residual-in_err-read.result c.from_residual-in_err-read.ensures.1 in
+    rw (p.1, p.2) (cell_refuses _ _ (λ known test has. c.in_err-read.ensures.fault known test (subst (λ (f : TestFrame). HasSource f test) (c.a_text_has_one_frame.ensures _ _ _ has.has_frame c.in_ok-frame.ensures.found) has.has_source)))

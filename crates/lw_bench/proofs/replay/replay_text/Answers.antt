@@ -1,6 +1,7 @@
 use Rattle.std.proofs.Common.{refl}
 use Rattle.std.proofs.lemmas.Result.{err_from_is_err_and}
-use Rattle.lw_bench.proofs.Replays.{err_is, text_refused, page_written}
+use Rattle.lw_bench.specs.declared.fault.BenchFault.TheVariants.{Read, Write}
+use Rattle.lw_bench.proofs.Replays.{input_told, input_apart, write_apart, fault_apart, answer_apart, device_refused, write_refused, text_refused, page_written}
 use Rattle.lw_bench.proofs.replay.replay_text.Goals as goal
 
 pub returns-in_err-page-clause-refused : goal.returns-in_err-page-clause-refused
@@ -18,32 +19,43 @@ returns-in-Ok-clause-written g c =
 pub returns-in_err-page-clause-read : goal.returns-in_err-page-clause-read
 returns-in_err-page-clause-read g c =
     let p = err_from_is_err_and c.from_residual-in_err-page.result c.from_residual-in_err-page.ensures.1 in
-    let working = c.in_ok-text.ensures.failed in
-    rw (p.1, p.2) (λ same. absurd (c.in_err-page.ensures.device.0 (err_is same)), λ failed. absurd cc)
+    fault_apart c.from_residual-in_err-page.result p.0 c.in_err-page.field-0.0 Read (g.R.ByteReader.failed c.read_input.new.reader) p.1 p.2 c.in_err-page.ensures.device.0 c.in_ok-text.ensures.failed
 
 pub returns-in_err-page-clause-write : goal.returns-in_err-page-clause-write
 returns-in_err-page-clause-write g c =
     let p = err_from_is_err_and c.from_residual-in_err-page.result c.from_residual-in_err-page.ensures.1 in
-    let working = c.requires.writer in
-    rw (p.1, p.2) (λ same. absurd (c.in_err-page.ensures.device.1 (err_is same)), λ failed. absurd cc)
+    fault_apart c.from_residual-in_err-page.result p.0 c.in_err-page.field-0.0 Write (g.W.ByteWriter.failed c.args.writer.now) p.1 p.2 c.in_err-page.ensures.device.1 c.requires.writer
 
 pub returns-in-Ok-clause-read : goal.returns-in-Ok-clause-read
-returns-in-Ok-clause-read g c =
-    let working = c.in_ok-text.ensures.failed in
-    (λ same. absurd cc, λ failed. absurd cc)
+returns-in-Ok-clause-read g c = answer_apart _ Read (g.R.ByteReader.failed c.read_input.new.reader) c.in_ok-text.ensures.failed
 
 pub returns-in-Ok-clause-write : goal.returns-in-Ok-clause-write
-returns-in-Ok-clause-write g c =
-    let working = c.in-Ok.ensures.failed in
-    (λ same. absurd cc, λ failed. absurd cc)
+returns-in-Ok-clause-write g c = answer_apart _ Write (g.W.ByteWriter.failed c.write_output.new.writer) c.in-Ok.ensures.failed
 
 pub returns-clause-read : goal.returns-clause-read
-returns-clause-read g c =
-    let working = c.in_ok-text.ensures.failed in
-    (λ same. absurd cc, λ failed. absurd cc)
+returns-clause-read g c = write_apart (g.R.ByteReader.failed c.read_input.new.reader) c.in_ok-text.ensures.failed
 
 pub returns-clause-write : goal.returns-clause-write
 returns-clause-write g c = (λ same. c.in-Err.ensures.failed, λ failed. refl)
 
 pub returns-clause-untouched : goal.returns-clause-untouched
 returns-clause-untouched g c = λ other. absurd (other refl)
+
+pub returns-in_err-text-clause-read : goal.returns-in_err-text-clause-read
+returns-in_err-text-clause-read g c =
+    let p = err_from_is_err_and c.from_residual.result c.from_residual.ensures.1 in
+    input_told c.from_residual.result p.0 c.in_err-text.field-0.0 (g.R.ByteReader.failed c.read_input.new.reader) p.1 p.2 c.in_err-text.ensures.err
+
+pub returns-in_err-text-clause-write : goal.returns-in_err-text-clause-write
+returns-in_err-text-clause-write g c =
+    let p = err_from_is_err_and c.from_residual.result c.from_residual.ensures.1 in
+    let apart = input_apart c.in_err-text.field-0.0 (g.R.ByteReader.failed c.read_input.new.reader) c.in_err-text.ensures.err in
+    fault_apart c.from_residual.result p.0 c.in_err-text.field-0.0 Write (g.W.ByteWriter.failed c.args.writer.now) p.1 p.2 apart c.requires.writer
+
+pub returns-in_err-text-clause-refused : goal.returns-in_err-text-clause-refused
+returns-in_err-text-clause-refused g c =
+    let p = err_from_is_err_and c.from_residual.result c.from_residual.ensures.1 in
+    rw (p.1, p.2) (device_refused (g.R.ByteReader.remaining c.args.reader.now) c.args.schedule.now c.in_err-text.field-0.0 (g.R.ByteReader.failed c.read_input.new.reader) c.in_err-text.ensures.err)
+
+pub returns-clause-refused : goal.returns-clause-refused
+returns-clause-refused g c = write_refused (g.R.ByteReader.remaining c.args.reader.now) c.args.schedule.now

@@ -1,0 +1,5 @@
+use Rattle.std.proofs.Common.{rules}
+use Rattle.lw_bench.proofs.fault.end_status.Goals as goal
+
+pub returns-in-NotFinal : goal.returns-in-NotFinal
+returns-in-NotFinal c = search rules
