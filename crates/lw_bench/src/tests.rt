@@ -1,8 +1,12 @@
 //! Tests of the workbench: the devices that they use, and what devices, commands and statuses do. Those
-//! of texts, cells, schedules and pages are tables in the modules.
+//! of texts, cells, schedules and pages are tables in the modules, beside the tests of memories, caches and
+//! orders.
+mod caches;
 mod cells;
 mod heads;
+mod memories;
 mod names;
+mod orders;
 mod pages;
 mod runs;
 mod tables;

@@ -6,8 +6,6 @@
 mod flat;
 mod requests;
 mod system;
-#[cfg(test)]
-mod tests;
 
 pub use flat::FlatMemory;
 pub use requests::{answer, answer_all};

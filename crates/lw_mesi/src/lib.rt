@@ -6,7 +6,5 @@
 mod cpu_set;
 mod line;
 mod mesi;
-#[cfg(test)]
-mod tests;
 
 pub use mesi::Mesi;

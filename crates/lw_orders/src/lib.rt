@@ -4,7 +4,8 @@
 //! pair may stand either way round, unless the fixed pairs decide it. Two orders are alike where each conflict stands the
 //! same way round in both. `Orders` gives, of all orders that keep the fixed pairs, exactly one of each kind.
 //!
-//! How a caller covers all orders by a run of each that is given (`run_all` of the tests is such a caller):
+//! How a caller covers all orders by a run of each that is given (`run_all` in lw_bench/src/tests/orders.rt is such a
+//! caller):
 //! 1. A loop `for order in Orders::new(alloc, &items)?` runs each order. What the iterator has still to give is its
 //!    value's list `to_come`: `next` takes its head, so after the loop each order of the first list was run.
 //! 2. Take any order that keeps the fixed pairs. By the clause `exactly_one` of `Orders::new` it is alike to one in that
@@ -24,8 +25,6 @@ mod laws;
 mod order;
 mod orders;
 mod reach;
-#[cfg(test)]
-mod tests;
 
 pub use items::{Items, count};
 pub use laws::{alike_orders_agree, alike_orders_are_joined, decided_by_walks};

@@ -18,7 +18,7 @@ use std::alloc::Allocator;
 const ANY_THREAD: usize = 1 << 32;
 
 /// An entry of the block: the place of its first token, a site, and the word that it begins with.
-#[derive(Clone, Copy, Debug)]
+#[derive(Clone, Copy)]
 pub(crate) struct Entry {
     pub(crate) at: usize,
     pub(crate) site: Site,

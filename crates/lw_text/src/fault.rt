@@ -86,7 +86,7 @@ pub struct TextFault {
 }
 
 /// The causes that the readers of tokens meet: all but a text's length and its UTF-8.
-#[derive(Clone, Copy, Debug, PartialEq, Eq)]
+#[derive(Clone, Copy)]
 pub(crate) enum Cause {
     Unterminated,
     Unexpected,
@@ -101,7 +101,7 @@ pub(crate) enum Cause {
 }
 
 /// A fault that a reader of tokens meets, and the place of its byte.
-#[derive(Clone, Copy, Debug, PartialEq, Eq)]
+#[derive(Clone, Copy)]
 pub(crate) struct Fault {
     pub(crate) at: usize,
     pub(crate) cause: Cause,

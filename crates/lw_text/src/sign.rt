@@ -9,7 +9,7 @@ use std::alloc::Allocator;
 
 /// What an atom says: a location, by its place in the table, or a thread's register ends with the
 /// word; or what is true in every state, or in none.
-#[derive(Clone, Copy, Debug)]
+#[derive(Clone, Copy)]
 pub(crate) enum Atom {
     Always,
     Never,
@@ -32,7 +32,7 @@ impl Atom {
 }
 
 /// A parenthesis, a connective or an atom.
-#[derive(Clone, Copy, Debug)]
+#[derive(Clone, Copy)]
 pub(crate) enum Sign {
     Open,
     Close,

@@ -19,7 +19,7 @@ use lw_base::{Arch, Loc, LocNames, Reg, Word, is_location, is_name, reg_named};
 use std::alloc::Allocator;
 
 /// A location, by its place in the table, or a register of a thread, which the test may lack.
-#[derive(Clone, Copy, Debug)]
+#[derive(Clone, Copy)]
 pub(crate) enum Site {
     Location(Loc),
     Register(Word, Reg),

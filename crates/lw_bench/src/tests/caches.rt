@@ -1,12 +1,12 @@
 //! The protocol at work: rows from outside, and a thousand requests beside a plain table.
 mod table;
 
-use crate::Mesi;
-use crate::tests::table::Table;
+use crate::tests::caches::table::Table;
 use lw_base::{Cpu, Loc, Word};
 use lw_memory::LineState::{self, E, I, M, S};
 use lw_memory::Request::{self, Evict, Load, Store, Swap};
 use lw_memory::{FlatMemory, MemorySystem, NotHeld, answer_all};
+use lw_mesi::Mesi;
 use std::alloc::Global;
 use std::test::Fail;
 

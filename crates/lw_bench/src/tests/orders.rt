@@ -4,7 +4,7 @@ ghost use Rattle.std.specs.Prelude.{◌≡◌, ◌^◌, ◌≤◌, ℕ, List, Al
 ghost use Rattle.lw_orders.specs.Order.{IsWellFormed, IsLinearExtension, GoUp, count_of};
 ghost use Rattle.lw_orders.specs.Exchange.{IsTied, Exchanged};
 
-use super::*;
+use lw_orders::{Items, Order, Orders, alike_orders_are_joined, count};
 use std::alloc::{AllocError, Allocator, Global};
 use std::process::Abort;
 use std::test::Fail;

@@ -1,6 +1,6 @@
 //! A flat memory, and requests through the bound.
-use crate::{FlatMemory, LineState, MemorySystem, NotHeld, Request, answer, answer_all};
 use lw_base::{Cpu, Loc};
+use lw_memory::{FlatMemory, LineState, MemorySystem, NotHeld, Request, answer, answer_all};
 use std::test::Fail;
 
 #[test]
