@@ -4,13 +4,12 @@ use Rattle.std.specs.Prelude.{Option}
 use Rattle.lw_text.specs.declared.cell.Cell.{Cell}
 use Rattle.lw_text.specs.Places.{cells_texts}
 use Rattle.lw_source.specs.declared.stmt.Stmt.{Stmt}
-use Rattle.lw_source.specs.declared.label.Label.{Label}
 use Rattle.lw_source.specs.Cells.{Line, CellSays, Column, code_in}
-use Rattle.lw_source.specs.Reading.{DraftRead, ColumnRead, AllForward}
+use Rattle.lw_source.specs.Reading.{LabelMap, DraftRead, ColumnRead, AllForward}
 use Rattle.lw_source.proofs.OneReading.{cell_unique, zip_unique}
 use Rattle.std.proofs.Common.{subst}
 
-module _ {A : Type 0} (cells : List (Cell A)) (before after : List (List ℕ)) (stmts : List (Option Stmt)) (labels : List Label) (draft : DraftRead cells before stmts labels after) where
+module _ {A : Type 0} (cells : List (Cell A)) (before after : List (List ℕ)) (stmts : List (Option Stmt)) (labels : LabelMap) (draft : DraftRead cells before stmts labels after) where
   pub column_found : (code : List Stmt) → (code ≡ code_in after draft.lines) × AllForward draft.lines → ColumnRead (cells_texts cells) before code after
   column_found code done =
       record {

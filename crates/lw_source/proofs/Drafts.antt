@@ -16,10 +16,9 @@ use Rattle.lw_text.specs.declared.token.Token.{Token}
 use Rattle.lw_text.specs.Spans.{texts}
 use Rattle.lw_text.specs.Places.{cell_texts, cells_texts}
 use Rattle.lw_source.specs.declared.stmt.Stmt.{Stmt}
-use Rattle.lw_source.specs.declared.label.Label.{Label}
 use Rattle.lw_source.specs.Cells.{Written, Line, Statement, MaybeStatement, Labels, CellSays, Column, statements, labels_of, name_of, names_in, placed}
-use Rattle.lw_source.specs.Reading.{IsMisfit, MaybeCause, named_by, AtLabel, LabelsRead, StatementRead, MaybeRead, DraftRead, bare, pairs, first_names, leading, leading_in}
-use Rattle.lw_source.proofs.LabelRows.{Labels-rest}
+use Rattle.lw_source.specs.Reading.{IsMisfit, MaybeCause, named_by, AtLabel, LabelsRead, LabelMap, LeadsAs, StatementRead, MaybeRead, DraftRead, bare, first_names, leading, leading_in, leads_to}
+use Rattle.lw_source.proofs.LabelRows.{Labels-rest, names_read}
 use Rattle.lw_source.proofs.Phrases.{maybe_cause, misfit_cause}
 use Rattle.lw_source.proofs.Leads.{statements-append, labels_of-append, first_names_in, leading_in-append}
 use Rattle.lw_source.proofs.OneReading.{cell_unique, Labels-unique, no_label, zip_unique, zip_more, zip_cut}
@@ -81,17 +80,18 @@ held_by None stmt f e = ap option_len e
 held_by (Some s) stmt f e = ap option_len e
 
 -- What was read of the cells before, and this cell.
-module _ {A : Type 0} (front : List (Cell A)) (before mid : List (List ℕ)) (stmts : List (Option Stmt)) (labels : List Label) (read : DraftRead front before stmts labels mid) (cell : Cell A) where
-  abbrev pub draft_more : (next : ℕ) (after : List (List ℕ)) (more : List Label) (stmt : Option Stmt) → LabelsRead cell.tokens (length (statements read.lines)) labels next more → MaybeRead (texts (drop next cell.tokens)) mid stmt after → ForSome stmt (λ s. length (statements read.lines) ≡ 16 → ⊥) → DraftRead (front ++ cell ∷ []) before (stmts ++ stmt ∷ []) more after
+module _ {A : Type 0} (front : List (Cell A)) (before mid : List (List ℕ)) (stmts : List (Option Stmt)) (labels : LabelMap) (read : DraftRead front before stmts labels mid) (cell : Cell A) where
+  abbrev pub draft_more : (next : ℕ) (after : List (List ℕ)) (more : LabelMap) (stmt : Option Stmt) → LabelsRead cell.tokens (length (statements read.lines)) (leading_in 0 read.lines) next more → MaybeRead (texts (drop next cell.tokens)) mid stmt after → ForSome stmt (λ s. length (statements read.lines) ≡ 16 → ⊥) → DraftRead (front ++ cell ∷ []) before (stmts ++ stmt ∷ []) more after
   draft_more next after more stmt ls st free =
       let line : Line = record { labels = ls.names; stmt = st.written } in
       let n = length (statements read.lines) in
       let whole : texts (take next cell.tokens) ++ texts (drop next cell.tokens) ≡ cell_texts cell =
       sym (map-append (λ t. t.text.now) (take next cell.tokens) (drop next cell.tokens)) ∙ ap texts (take-append-drop next cell.tokens) in
       let says : CellSays (cell_texts cell) line = (texts (drop next cell.tokens), subst (λ (t : List (List ℕ)). Labels t ls.names (texts (drop next cell.tokens))) whole (Labels-rest (texts (take next cell.tokens)) (texts (drop next cell.tokens)) ls.names ls.says), st.says) in
-      let leads : pairs more ≡ leading_in 0 (read.lines ++ line ∷ []) =
-      ls.made ∙ ap (λ (ps : List (List ℕ × ℕ)). ps ++ leading n ls.names) read.leads ∙ ap (λ (k : ℕ). leading_in 0 read.lines ++ leading k ls.names) (let e : n ≡ 0 + n = omega arith in e) ∙ sym (leading_in-append read.lines 0 line) in
-      let labelled : first_names (pairs labels) ≡ labels_of read.lines = ap first_names read.leads ∙ first_names_in read.lines 0 in
+      let labelled : leading_in 0 read.lines ++ leading n ls.names ≡ leading_in 0 (read.lines ++ line ∷ []) =
+      ap (λ (k : ℕ). leading_in 0 read.lines ++ leading k ls.names) (let e : n ≡ 0 + n = omega arith in e) ∙ sym (leading_in-append read.lines 0 line) in
+      let named : first_names (leading_in 0 read.lines) ++ ls.names ≡ labels_of (read.lines ++ line ∷ []) =
+      sym (names_read (leading_in 0 read.lines) n ls.names) ∙ ap first_names labelled ∙ first_names_in (read.lines ++ line ∷ []) 0 in
       let old : AllThere mid (statements read.lines) = subst (λ ns. AllThere ns (statements read.lines)) (sym read.names) (all_there before (statements read.lines)) in
       let kept : map (λ l. option_map (placed after []) l.stmt) read.lines ≡ stmts =
       ap (λ ns. map (λ l. option_map (placed ns []) l.stmt) read.lines) st.names ∙ drafts-along mid (names_in (bare st.written ∷ [])) read.lines old ∙ sym read.made in
@@ -99,15 +99,15 @@ module _ {A : Type 0} (front : List (Cell A)) (before mid : List (List ℕ)) (st
         lines = read.lines ++ line ∷ [];
         says = subst (λ (cs : List (List (List ℕ))). AllZip CellSays cs (read.lines ++ line ∷ [])) (sym (map-append cell_texts front (cell ∷ []))) (zip_more CellSays (cells_texts front) read.lines (cell_texts cell) line read.says says);
         few = omega (arith, ap length (statements-append read.lines (line ∷ [])), length-append (statements read.lines) (statements (line ∷ [])), room n st.written stmt (placed after []) st.made free read.few);
-        once = subst EachOnce (ap first_names leads ∙ first_names_in (read.lines ++ line ∷ []) 0) (ls.once (subst EachOnce (sym labelled) read.once));
+        once = subst EachOnce named (ls.once (subst EachOnce (sym (first_names_in read.lines 0)) read.once));
         names =
             st.names ∙ ap (λ ns. with_names ns (names_in (line ∷ []))) read.names ∙ sym (with_names-append before (names_in read.lines) (names_in (line ∷ [])))
             ∙ ap (with_names before) (sym (names_in-append read.lines (line ∷ [])));
         made = sym (map-append (λ l. option_map (placed after []) l.stmt) read.lines (line ∷ []) ∙ ap (λ (ss : List (Option Stmt)). ss ++ option_map (placed after []) st.written ∷ []) kept ∙ ap (λ (x : Option Stmt). stmts ++ x ∷ []) (sym st.made));
-        leads = leads;
+        leads = λ m. ls.made m ∙ ap (λ (ps : List (List ℕ × ℕ)). leads_to ps m) labelled;
       }
 
-  pub draft_step : (next : ℕ) (after : List (List ℕ)) (more : List Label) (stmt : Option Stmt) (count k : ℕ) → LabelsRead cell.tokens (length (statements read.lines)) labels next more → MaybeRead (texts (drop next cell.tokens)) mid stmt after → ForSome stmt (λ s. length (statements read.lines) ≡ 16 → ⊥) → count ≡ length (statements read.lines) → k ≡ option_len stmt → (now : DraftRead (front ++ cell ∷ []) before (stmts ++ stmt ∷ []) more after) × (count + k ≡ length (statements now.lines))
+  pub draft_step : (next : ℕ) (after : List (List ℕ)) (more : LabelMap) (stmt : Option Stmt) (count k : ℕ) → LabelsRead cell.tokens (length (statements read.lines)) (leading_in 0 read.lines) next more → MaybeRead (texts (drop next cell.tokens)) mid stmt after → ForSome stmt (λ s. length (statements read.lines) ≡ 16 → ⊥) → count ≡ length (statements read.lines) → k ≡ option_len stmt → (now : DraftRead (front ++ cell ∷ []) before (stmts ++ stmt ∷ []) more after) × (count + k ≡ length (statements now.lines))
   draft_step next after more stmt count k ls st free counted held =
       let line : Line = record { labels = ls.names; stmt = st.written } in
       (draft_more next after more stmt ls st free, omega (arith, counted, held, held_by st.written stmt (placed after []) st.made, ap length (statements-append read.lines (line ∷ [])), length-append (statements read.lines) (statements (bare st.written ∷ []))))
@@ -136,19 +136,18 @@ module _ {A : Type 0} (front : List (Cell A)) (before mid : List (List ℕ)) (st
         ap statements row ∙ statements-append read.lines (cut.1 ∷ cut.2) ∙ ap (λ (ss : List Written). statements read.lines ++ ss) (statements-append (cut.1 ∷ []) cut.2) in
         omega (arith, ap length all, length-append (statements read.lines) (statements (cut.1 ∷ []) ++ statements cut.2), length-append (statements (cut.1 ∷ [])) (statements cut.2), column.few)
 
-    once_fits : EachOnce (first_names (pairs labels) ++ cut.1.labels)
+    once_fits : EachOnce (first_names (leading_in 0 read.lines) ++ cut.1.labels)
     once_fits =
-        let labelled : first_names (pairs labels) ≡ labels_of read.lines = ap first_names read.leads ∙ first_names_in read.lines 0 in
         let all : labels_of t ≡ (labels_of read.lines ++ cut.1.labels) ++ labels_of cut.2 =
         ap labels_of row ∙ labels_of-append read.lines (cut.1 ∷ cut.2) ∙ sym (append_assoc (labels_of read.lines) cut.1.labels (labels_of cut.2)) in
-        subst (λ (ns : List (List ℕ)). EachOnce (ns ++ cut.1.labels)) (sym labelled) (once_front (labels_of read.lines ++ cut.1.labels) (labels_of cut.2) (subst EachOnce all column.once))
+        subst (λ (ns : List (List ℕ)). EachOnce (ns ++ cut.1.labels)) (sym (first_names_in read.lines 0)) (once_front (labels_of read.lines ++ cut.1.labels) (labels_of cut.2) (subst EachOnce all column.once))
 
     -- where the labels don't fit, no lines do
-    pub labels_none : ((ls : List (List ℕ)) (m : List (List ℕ)) → Labels (cell_texts cell) ls m → (AtLabel m → ⊥) → EachOnce (first_names (pairs labels) ++ ls) → ⊥) → ⊥
+    pub labels_none : ((ls : List (List ℕ)) (m : List (List ℕ)) → Labels (cell_texts cell) ls m → (AtLabel m → ⊥) → EachOnce (first_names (leading_in 0 read.lines) ++ ls) → ⊥) → ⊥
     labels_none none = none cut.1.labels cut.5.0 cut.5.1 (no_label cut.5.0 cut.1.stmt cut.5.2) once_fits
 
     -- where what stands behind the labels doesn't fit, no lines do
-    pub statement_none : (next : ℕ) (more : List Label) → LabelsRead cell.tokens (length (statements read.lines)) labels next more → (slice_get (texts cell.tokens) (next + 1) ≡ Some (codes ":") → ⊥) → ((s : Option Written) → MaybeStatement (texts (drop next cell.tokens)) s → length (statements read.lines) + length (statements (bare s ∷ [])) ≤ 16 → length (with_names mid (names_in (bare s ∷ []))) ≤ 8 → ⊥) → ⊥
+    pub statement_none : (next : ℕ) (more : LabelMap) → LabelsRead cell.tokens (length (statements read.lines)) (leading_in 0 read.lines) next more → (slice_get (texts cell.tokens) (next + 1) ≡ Some (codes ":") → ⊥) → ((s : Option Written) → MaybeStatement (texts (drop next cell.tokens)) s → length (statements read.lines) + length (statements (bare s ∷ [])) ≤ 16 → length (with_names mid (names_in (bare s ∷ []))) ≤ 8 → ⊥) → ⊥
     statement_none next more ls stops none =
         let whole : texts (take next cell.tokens) ++ texts (drop next cell.tokens) ≡ cell_texts cell =
         sym (map-append (λ u. u.text.now) (take next cell.tokens) (drop next cell.tokens)) ∙ ap texts (take-append-drop next cell.tokens) in
@@ -157,8 +156,8 @@ module _ {A : Type 0} (front : List (Cell A)) (before mid : List (List ℕ)) (st
         none cut.1.stmt (subst (λ (u : List (List ℕ)). MaybeStatement u cut.1.stmt) one.1 cut.5.2) count_fits names_fit
 
 -- nothing is read yet
-pub draft_none : {A : Type 0} (names : List (List ℕ)) → (read : DraftRead {A = A} [] names [] [] names) × (0 ≡ length (statements read.lines))
-draft_none names = (record { lines = []; says = tt; few = omega arith; once = tt; names = refl; made = refl; leads = refl }, refl)
+pub draft_none : {A : Type 0} (names : List (List ℕ)) (labels : LabelMap) → LeadsAs labels [] → (read : DraftRead {A = A} [] names [] labels names) × (0 ≡ length (statements read.lines))
+draft_none names labels none = (record { lines = []; says = tt; few = omega arith; once = tt; names = refl; made = refl; leads = none }, refl)
 
 pub maybe_some : (ts : List (List ℕ)) (before : List (List ℕ)) (stmt : Stmt) (after : List (List ℕ)) → StatementRead ts before stmt after → MaybeRead ts before (Some stmt) after
 maybe_some ts before stmt after r = record { written = Some r.written; says = r.says; names = r.names; made = ap Some r.made }

@@ -12,10 +12,9 @@ use Rattle.lw_text.specs.declared.token.Token.{Token}
 use Rattle.lw_text.specs.Spans.{texts}
 use Rattle.lw_text.specs.Places.{all_texts}
 use Rattle.lw_source.specs.declared.stmt.Stmt.{Stmt}
-use Rattle.lw_source.specs.declared.label.Label.{Label}
-use Rattle.lw_source.specs.Cells.{Line, Labels, Column, statements, labels_of, names_in, names_of}
+use Rattle.lw_source.specs.Cells.{Line, Labels, Column, statements, names_in, names_of}
 use Rattle.lw_source.specs.Faults.{Standing, IsNinth, IsJumpLabel, Tells}
-use Rattle.lw_source.specs.Reading.{LabelCause, MaybeCause, LabelsRead, DraftRead, pairs, first_names}
+use Rattle.lw_source.specs.Reading.{LabelCause, MaybeCause, LabelsRead, LabelMap, DraftRead, first_names, leading_in}
 use Rattle.lw_source.proofs.LabelRows.{Labels-rest}
 use Rattle.lw_source.proofs.Leads.{first_names_in}
 
@@ -54,15 +53,15 @@ module _ {A : Type 0} (cells front rest : List (Cell A)) (cell : Cell A) (whole 
         begins = begins;
       }
 
-  module _ (names mid : List (List ℕ)) (stmts : List (Option Stmt)) (labels : List Label) (read : DraftRead front names stmts labels mid) where
-    pub labels_tell : (at : ℕ) (cause : CellCause) → LabelCause cell.tokens (first_names (pairs labels)) at cause → Tells names (cells ∷ []) at cause
+  module _ (names mid : List (List ℕ)) (stmts : List (Option Stmt)) (labels : LabelMap) (read : DraftRead front names stmts labels mid) where
+    pub labels_tell : (at : ℕ) (cause : CellCause) → LabelCause cell.tokens (first_names (leading_in 0 read.lines)) at cause → Tells names (cells ∷ []) at cause
     labels_tell at Form c = tt
     labels_tell at Register c = tt
     labels_tell at LabelMissing c = absurd c
     labels_tell at LabelTwice c =
         let k = c.place in
         let colon : slice_get (texts cell.tokens) (suc k) ≡ Some (codes ":") = (let e : suc k ≡ k + 1 = omega arith in ap (slice_get (texts cell.tokens)) e ∙ c.colon) in
-        let known : first_names (pairs labels) ≡ labels_of read.lines = ap first_names read.leads ∙ first_names_in read.lines 0 in (
+        let known = first_names_in read.lines 0 in (
           standing at (take k cell.tokens) c.token (drop (suc k) cell.tokens) (cut_at cell.tokens k c.token c.is) c.begins,
           record {
             lines = read.lines;
@@ -78,7 +77,7 @@ module _ {A : Type 0} (cells front rest : List (Cell A)) (cell : Cell A) (whole 
     labels_tell at TooMany c = absurd c
     labels_tell at Memory c = tt
 
-    pub statement_tells : (next : ℕ) (more : List Label) → LabelsRead cell.tokens (length (statements read.lines)) labels next more → (at : ℕ) (cause : CellCause) → MaybeCause (length (statements read.lines)) (drop next cell.tokens) mid at cause → Tells names (cells ∷ []) at cause
+    pub statement_tells : (next : ℕ) (more : LabelMap) → LabelsRead cell.tokens (length (statements read.lines)) (leading_in 0 read.lines) next more → (at : ℕ) (cause : CellCause) → MaybeCause (length (statements read.lines)) (drop next cell.tokens) mid at cause → Tells names (cells ∷ []) at cause
     statement_tells next more ls at Form c = tt
     statement_tells next more ls at Register c = tt
     statement_tells next more ls at LabelMissing c = absurd c

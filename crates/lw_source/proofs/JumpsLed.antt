@@ -9,7 +9,7 @@ use Rattle.lw_source.specs.declared.stmt.Stmt.{Stmt}
 use Rattle.lw_source.specs.declared.stmt.Stmt.TheVariants.{Store, Load, Swap, Set, Sum, IfEq, IfNe, Goto}
 use Rattle.lw_source.specs.Sources.{target_of}
 use Rattle.lw_source.specs.Cells.{Written, Stores, Loads, Swaps, Sets, Sums, Jumps_if, Jumps_if_not, Jumps, Line, labels_of, label_of, target_in, placed, LeadsForward}
-use Rattle.lw_source.specs.Reading.{JumpCause, JumpFault, EndsWithLabel, leads_to, leading_in}
+use Rattle.lw_source.specs.Reading.{JumpCause, JumpFault, EndsWithLabel, LabelMap, LeadsAs, leads_to, led_by, leading_in}
 use Rattle.lw_source.proofs.Leads.{leads_in, leads_nowhere}
 
 -- the statement, led to this one if it is a jump
@@ -77,17 +77,17 @@ last_token tokens row front l d same last =
     rw (place, whole) (get_or-append_seam front l [] d)
 
 -- A jump of this number, whose label is the last of these tokens.
-module _ (names : List (List ℕ)) (lines : List Line) (labels : List (List ℕ × ℕ)) (tokens : List Token) (s : Written) (number : ℕ) (stmt : Stmt) (t0 : ℕ) (made : stmt ≡ placed names [] s) (jump : target_of stmt ≡ Some t0) (ends : EndsWithLabel tokens s) where
+module _ (names : List (List ℕ)) (lines : List Line) (labels : LabelMap) (tokens : List Token) (s : Written) (number : ℕ) (stmt : Stmt) (t0 : ℕ) (made : stmt ≡ placed names [] s) (jump : target_of stmt ≡ Some t0) (ends : EndsWithLabel tokens s) where
   label : (l : List ℕ) × (label_of s ≡ Some l)
   label = has_label names s t0 (ap target_of (sym made) ∙ jump)
 
   at : (front : List Token) × (t : Token) × (tokens ≡ front ++ t ∷ []) × (t.text.now ≡ label.0)
   at = ends label.0 label.1
 
-  pub led : (to : ℕ) → labels ≡ leading_in 0 lines → ((front : List Token) (t : Token) → tokens ≡ front ++ t ∷ [] → (leads_to labels t.text.now ≡ Some to) × (number < to)) → (retarget stmt to ≡ placed names lines s) × LeadsForward lines number s
+  pub led : (to : ℕ) → LeadsAs labels (leading_in 0 lines) → ((front : List Token) (t : Token) → tokens ≡ front ++ t ∷ [] → (led_by labels t.text.now ≡ Some to) × (number < to)) → (retarget stmt to ≡ placed names lines s) × LeadsForward lines number s
   led to known found =
       let f = found at.0 at.1 at.2 in
-      let here : leads_to (leading_in 0 lines) label.0 ≡ Some to = subst (λ (n : List ℕ). leads_to (leading_in 0 lines) n ≡ Some to) at.3 (subst (λ (ps : List (List ℕ × ℕ)). leads_to ps at.1.text.now ≡ Some to) known f.0) in
+      let here : leads_to (leading_in 0 lines) label.0 ≡ Some to = subst (λ (n : List ℕ). leads_to (leading_in 0 lines) n ≡ Some to) at.3 (sym (known at.1.text.now) ∙ f.0) in
       let l = leads_in lines label.0 to here in (
         ap (λ (x : Stmt). retarget x to) made ∙ ap (retarget (placed names [] s)) l.1 ∙ retargets names lines s label.0 label.1,
         λ m e. (let g : label.0 ≡ m = (let h : Some label.0 ≡ Some m = sym label.1 ∙ e in cc) in subst (λ (n : List ℕ). Contains (labels_of lines) n × (number < target_in lines n)) g (l.0, omega (arith, l.1, f.1))),
@@ -102,15 +102,15 @@ module _ (names : List (List ℕ)) (lines : List Line) (labels : List (List ℕ 
   jump_tokens = some_token tokens at.0 at.1 at.2
 
 -- a jump that is refused does not lead forward
-pub not_forward : (lines : List Line) (labels : List (List ℕ × ℕ)) (number : ℕ) (tokens : List Token) (s : Written) (at : ℕ) (cause : CellCause) → labels ≡ leading_in 0 lines → JumpFault labels number tokens s at cause → LeadsForward lines number s → ⊥
+pub not_forward : (lines : List Line) (labels : LabelMap) (number : ℕ) (tokens : List Token) (s : Written) (at : ℕ) (cause : CellCause) → LeadsAs labels (leading_in 0 lines) → JumpFault labels number tokens s at cause → LeadsForward lines number s → ⊥
 not_forward lines labels number tokens s at Form known f ahead = f.because
 not_forward lines labels number tokens s at Register known f ahead = f.because
 not_forward lines labels number tokens s at LabelMissing known f ahead =
-    leads_nowhere lines f.token.text.now (subst (λ (ps : List (List ℕ × ℕ)). leads_to ps f.token.text.now ≡ None) known f.because) (ahead f.token.text.now f.is).0
+    leads_nowhere lines f.token.text.now (sym (known f.token.text.now) ∙ f.because) (ahead f.token.text.now f.is).0
 not_forward lines labels number tokens s at LabelTwice known f ahead = f.because
 not_forward lines labels number tokens s at Backward known f ahead =
     let b = f.because in
-    let l = leads_in lines f.token.text.now b.0 (subst (λ (ps : List (List ℕ × ℕ)). leads_to ps f.token.text.now ≡ Some b.0) known b.1) in
+    let l = leads_in lines f.token.text.now b.0 (sym (known f.token.text.now) ∙ b.1) in
     omega (arith, b.2, l.1, (ahead f.token.text.now f.is).1)
 not_forward lines labels number tokens s at TooMany known f ahead = f.because
 not_forward lines labels number tokens s at Memory known f ahead = f.because

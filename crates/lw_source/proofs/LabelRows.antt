@@ -1,6 +1,6 @@
 -- The labels at the front of a cell, one further.
 use Rattle.std.proofs.Common.{◌≡◌, ℕ, zero, suc, ◌<◌, ◌≤◌, ◌+◌, Bool, true, false, true≢false, Option, Some, None, List, [], ◌∷◌, ◌++◌, ◌⊎◌, inl, inr, length, take, drop, refl, sym, ap, ◌∙◌, subst, arith}
-use Rattle.std.specs.Prelude.{◌↔◌, IsTrue, slice_get, slice_index_or, codes, Contains}
+use Rattle.std.specs.Prelude.{◌↔◌, IsTrue, slice_get, slice_index_or, codes, Contains, if◌then◌else◌}
 use Rattle.std.specs.Option.{option_map, is_some}
 use Rattle.std.proofs.lemmas.Option.{slice_get-map, slice_get_within}
 use Rattle.std.proofs.lemmas.List.{take-map, length-map}
@@ -8,15 +8,15 @@ use Rattle.lw_base.specs.declared.fault.CellCause.{CellCause}
 use Rattle.lw_base.specs.declared.fault.CellCause.TheVariants.{Form, Register, LabelMissing, LabelTwice, Backward, TooMany, Memory}
 use Rattle.lw_text.specs.declared.token.Token.{Token}
 use Rattle.lw_text.specs.Spans.{texts}
-use Rattle.lw_source.specs.declared.label.Label.{Label}
-use Rattle.std.proofs.lemmas.List.{map-append, append_assoc, take-append-drop}
+use Rattle.std.specs.Map.{update}
+use Rattle.std.proofs.lemmas.List.{map-append, append-nil, append_assoc, take-append-drop}
 use Rattle.std.proofs.lemmas.List.Elements.{Contains-push_cases, Contains-append_right, Contains-append_cases}
 use Rattle.std.specs.Str.{bytes_eq}
 use Rattle.std.specs.Cmp.{unsigned_Decides}
 use Rattle.std.specs.Cmp.Lexicographic.{pointwise_decides}
 use Rattle.lw_base.specs.Names.{IsLocation, EachOnce}
 use Rattle.lw_source.specs.Cells.{Labels}
-use Rattle.lw_source.specs.Reading.{IsMisfit, AtLabel, LabelCause, LabelsRead, TwiceIn, pairs, leading, leads_to, first_names}
+use Rattle.lw_source.specs.Reading.{IsMisfit, AtLabel, LabelCause, LabelMap, LabelsRead, LeadsAs, TwiceIn, leading, leads_to, led_by, first_names}
 
 pub Labels-more : (front : List (List ℕ)) (ls : List (List ℕ)) (l : List ℕ) → Labels front ls [] → IsLocation l → Labels (front ++ l ∷ codes ":" ∷ []) (ls ++ l ∷ []) []
 Labels-more front [] l h loc = rw h ([], refl, loc, refl)
@@ -95,6 +95,25 @@ leads_not (p ∷ ps) n e h = go (bytes_eq p.0 n) refl (leads_not ps n) (Contains
     go false f further (inl c) = true≢false (sym ((pointwise_decides unsigned_Decides p.0 n).1 (one c.0 c.1 c.2)) ∙ f)
     go false f further (inr c) = further (rw f at e) c
 
+-- one pair more, of a name that led nowhere
+pub leads_to-push : (ps : List (List ℕ × ℕ)) (n : List ℕ) (to : ℕ) (m : List ℕ) → leads_to ps n ≡ None → leads_to (ps ++ (n, to) ∷ []) m ≡ (if bytes_eq n m then Some to else leads_to ps m)
+leads_to-push [] n to m none = refl
+leads_to-push (p ∷ ps) n to m none = go (bytes_eq p.0 n) refl (leads_to-push ps n to m)
+  where
+    other : (b : Bool) → bytes_eq n m ≡ b → bytes_eq p.0 n ≡ false → bytes_eq p.0 m ≡ true → Some p.1 ≡ (if bytes_eq n m then Some to else Some p.1)
+    other true e apart same =
+        let equal : p.0 ≡ n = (pointwise_decides unsigned_Decides p.0 m).0 same ∙ sym ((pointwise_decides unsigned_Decides n m).0 e) in
+        absurd (true≢false (sym ((pointwise_decides unsigned_Decides p.0 n).1 equal) ∙ apart))
+    other false e apart same = rw e refl
+
+    here : (b : Bool) → bytes_eq p.0 m ≡ b → bytes_eq p.0 n ≡ false → leads_to (ps ++ (n, to) ∷ []) m ≡ (if bytes_eq n m then Some to else leads_to ps m) → leads_to (p ∷ ps ++ (n, to) ∷ []) m ≡ (if bytes_eq n m then Some to else leads_to (p ∷ ps) m)
+    here true e apart further = rw e (other (bytes_eq n m) refl apart e)
+    here false e apart further = rw e further
+
+    go : (b : Bool) → bytes_eq p.0 n ≡ b → (leads_to ps n ≡ None → leads_to (ps ++ (n, to) ∷ []) m ≡ (if bytes_eq n m then Some to else leads_to ps m)) → leads_to (p ∷ ps ++ (n, to) ∷ []) m ≡ (if bytes_eq n m then Some to else leads_to (p ∷ ps) m)
+    go true e further = let g : Some p.1 ≡ None = rw e at none in absurd cc
+    go false e further = here (bytes_eq p.0 m) refl e (further (rw e at none))
+
 pub first_names-leading : (to : ℕ) (ns : List (List ℕ)) → first_names (leading to ns) ≡ ns
 first_names-leading to [] = refl
 first_names-leading to (n ∷ ns) = ap (λ x. n ∷ x) (first_names-leading to ns)
@@ -126,35 +145,55 @@ at_index (x ∷ xs) (suc k) d lt = at_index xs k d (omega (arith, lt))
 pub get_text : (tokens : List Token) (k : ℕ) (t : Token) → slice_get tokens k ≡ Some t → slice_get (texts tokens) k ≡ Some t.text.now
 get_text tokens k t is = slice_get-map (λ u. u.text.now) tokens k ∙ ap (option_map (λ u. u.text.now)) is
 
-pub names_read : (before labels : List Label) (to : ℕ) (names : List (List ℕ)) → pairs labels ≡ pairs before ++ leading to names → first_names (pairs labels) ≡ first_names (pairs before) ++ names
-names_read before labels to names e =
-    ap first_names e ∙ map-append (λ p. p.0) (pairs before) (leading to names) ∙ ap (λ (ns : List (List ℕ)). first_names (pairs before) ++ ns) (first_names-leading to names)
+pub names_read : (before : List (List ℕ × ℕ)) (to : ℕ) (names : List (List ℕ)) → first_names (before ++ leading to names) ≡ first_names before ++ names
+names_read before to names =
+    map-append (λ p. p.0) before (leading to names) ∙ ap (λ (ns : List (List ℕ)). first_names before ++ ns) (first_names-leading to names)
+
+-- no labels are read yet
+pub labels_start : (tokens : List Token) (to : ℕ) (before : List (List ℕ × ℕ)) (labels : LabelMap) → LeadsAs labels before → LabelsRead tokens to before 0 labels
+labels_start tokens to before labels known =
+    record {
+      names = [];
+      within = omega arith;
+      says = refl;
+      made = λ m. known m ∙ ap (λ (ps : List (List ℕ × ℕ)). leads_to ps m) (sym (append-nil before));
+      once = λ old. subst EachOnce (sym (append-nil (first_names before))) old;
+    }
+
+none_of : (o : Option ℕ) → is_some o ≡ false → o ≡ None
+none_of None e = refl
+none_of (Some to) e = absurd cc
 
 -- What was read of a cell's labels, at another that follows.
-module _ (tokens : List Token) (to : ℕ) (before : List Label) (next : ℕ) (labels : List Label) (read : LabelsRead tokens to before next labels) (token : Token) (is : slice_get tokens next ≡ Some token) (colon : slice_get (texts tokens) (next + 1) ≡ Some (codes ":")) where
+module _ (tokens : List Token) (to : ℕ) (before : List (List ℕ × ℕ)) (next : ℕ) (labels : LabelMap) (read : LabelsRead tokens to before next labels) (token : Token) (is : slice_get tokens next ≡ Some token) (colon : slice_get (texts tokens) (next + 1) ≡ Some (codes ":")) where
   colon_next : slice_get (texts tokens) (suc next) ≡ Some (codes ":")
   colon_next = let e : suc next ≡ next + 1 = omega arith in ap (slice_get (texts tokens)) e ∙ colon
 
   said : Labels (take next (texts tokens)) read.names []
   said = subst (λ (t : List (List ℕ)). Labels t read.names []) (sym (take-map (λ t. t.text.now) next tokens)) read.says
 
-  pub labels_more : (after : List Label) (label : Label) → IsLocation token.text.now → after ≡ labels ++ label ∷ [] → label.name.now ≡ token.text.now → label.to ≡ to → (Contains (first_names (pairs labels)) token.text.now → ⊥) → LabelsRead tokens to before (next + 2) after
-  labels_more after label loc pushed name leads fresh =
+  -- where the thread has this name among its labels, and where it hasn't
+  pub is_there : (o : Option ℕ) → o ≡ led_by labels token.text.now → is_some o ≡ true → Contains (first_names before ++ read.names) token.text.now
+  is_there None e some = absurd cc
+  is_there (Some k) e some =
+      subst (λ (ns : List (List ℕ)). Contains ns token.text.now) (names_read before to read.names) (leads_contains (before ++ leading to read.names) token.text.now k (sym (e ∙ read.made token.text.now)))
+
+  pub labels_more : (after : LabelMap) (o : Option ℕ) → IsLocation token.text.now → o ≡ led_by labels token.text.now → is_some o ≡ false → ((m : List ℕ) → led_by after m ≡ update bytes_eq (led_by labels) token.text.now (Some to) m) → LabelsRead tokens to before (next + 2) after
+  labels_more after o loc old fresh updated =
       let n : List ℕ = token.text.now in
+      let known : List (List ℕ × ℕ) = before ++ leading to read.names in
+      let nowhere : leads_to known n ≡ None = sym (old ∙ read.made n) ∙ none_of o fresh in
       let front : texts (take (next + 2) tokens) ≡ take next (texts tokens) ++ n ∷ codes ":" ∷ [] =
       (let e : next + 2 ≡ suc (suc next) = omega arith in ap (λ (k : ℕ). texts (take k tokens)) e) ∙ sym (take-map (λ t. t.text.now) (suc (suc next)) tokens) ∙ take_two (texts tokens) next n (codes ":") (get_text tokens next token is) colon_next in
-      let one : pairs (label ∷ []) ≡ leading to (n ∷ []) = ap (λ (p : List ℕ × ℕ). p ∷ []) (rw (name, leads) refl) in
-      let made : pairs after ≡ pairs before ++ leading to (read.names ++ n ∷ []) =
-      ap pairs pushed ∙ map-append (λ l. (l.name.now, l.to)) labels (label ∷ []) ∙ ap (λ (ps : List (List ℕ × ℕ)). ps ++ pairs (label ∷ [])) read.made ∙ ap (λ (ps : List (List ℕ × ℕ)). (pairs before ++ leading to read.names) ++ ps) one
-      ∙ append_assoc (pairs before) (leading to read.names) (leading to (n ∷ [])) ∙ ap (λ (ps : List (List ℕ × ℕ)). pairs before ++ ps) (sym (map-append (λ m. (m, to)) read.names (n ∷ []))) in
-      let all : first_names (pairs after) ≡ first_names (pairs labels) ++ n ∷ [] =
-      names_read before after to (read.names ++ n ∷ []) made ∙ sym (append_assoc (first_names (pairs before)) read.names (n ∷ [])) ∙ ap (λ (ns : List (List ℕ)). ns ++ n ∷ []) (sym (names_read before labels to read.names read.made)) in
+      let row : known ++ (n, to) ∷ [] ≡ before ++ leading to (read.names ++ n ∷ []) =
+      append_assoc before (leading to read.names) (leading to (n ∷ [])) ∙ ap (λ (ps : List (List ℕ × ℕ)). before ++ ps) (sym (map-append (λ m. (m, to)) read.names (n ∷ []))) in
+      let absent : Contains (first_names before ++ read.names) n → ⊥ = λ there. leads_not known n nowhere (subst (λ (ns : List (List ℕ)). Contains ns n) (sym (names_read before to read.names)) there) in
       record {
         names = read.names ++ n ∷ [];
         within = omega (arith, slice_get_within (texts tokens) (next + 1) (codes ":") colon, length-map tokens (λ t. t.text.now));
         says = subst (λ (t : List (List ℕ)). Labels t (read.names ++ n ∷ []) []) (sym front) (Labels-more (take next (texts tokens)) read.names n said loc);
-        made = made;
-        once = λ old. subst EachOnce (sym all) (once_more (first_names (pairs labels)) n (read.once old) fresh);
+        made = λ m. updated m ∙ ap (λ (p : Option ℕ). if bytes_eq n m then Some to else p) (read.made m) ∙ sym (leads_to-push known n to m nowhere) ∙ ap (λ (ps : List (List ℕ × ℕ)). leads_to ps m) row;
+        once = λ once. subst EachOnce (append_assoc (first_names before) read.names (n ∷ [])) (once_more (first_names before ++ read.names) n (read.once once) absent);
       }
 
   -- other labels of the cell go on with this one
@@ -164,15 +203,14 @@ module _ (tokens : List Token) (to : ℕ) (before : List Label) (next : ℕ) (la
       let go = Labels-next (drop next (texts tokens)) mid cut.0 token.text.now (drop_get (texts tokens) next ∙ get_text tokens next token is) (drop_next (texts tokens) next ∙ colon_next) cut.2 none in
       (go.0, cut.1 ∙ ap (λ (ns : List (List ℕ)). read.names ++ ns) go.1, go.2)
 
-  pub labels_twice : (ks : List (List ℕ)) (mid : List (List ℕ)) → Labels (texts tokens) ks mid → (AtLabel mid → ⊥) → EachOnce (first_names (pairs before) ++ ks) → Contains (first_names (pairs labels)) token.text.now → ⊥
+  pub labels_twice : (ks : List (List ℕ)) (mid : List (List ℕ)) → Labels (texts tokens) ks mid → (AtLabel mid → ⊥) → EachOnce (first_names before ++ ks) → Contains (first_names before ++ read.names) token.text.now → ⊥
   labels_twice ks mid h none once there =
       let on = labels_on ks mid h none in
-      let known = names_read before labels to read.names read.made in
-      let row : first_names (pairs before) ++ ks ≡ first_names (pairs labels) ++ token.text.now ∷ on.0 =
-      ap (λ (ns : List (List ℕ)). first_names (pairs before) ++ ns) on.1 ∙ sym (append_assoc (first_names (pairs before)) read.names (token.text.now ∷ on.0)) ∙ ap (λ (ns : List (List ℕ)). ns ++ token.text.now ∷ on.0) (sym known) in
-      not_twice (first_names (pairs labels)) on.0 token.text.now (subst EachOnce row once) there
+      let row : first_names before ++ ks ≡ (first_names before ++ read.names) ++ token.text.now ∷ on.0 =
+      ap (λ (ns : List (List ℕ)). first_names before ++ ns) on.1 ∙ sym (append_assoc (first_names before) read.names (token.text.now ∷ on.0)) in
+      not_twice (first_names before ++ read.names) on.0 token.text.now (subst EachOnce row once) there
 
-  pub twice_in : Contains (first_names (pairs labels)) token.text.now → TwiceIn tokens (first_names (pairs before)) token.at
+  pub twice_in : Contains (first_names before ++ read.names) token.text.now → TwiceIn tokens (first_names before) token.at
   twice_in there =
       record {
         names = read.names;
@@ -182,19 +220,15 @@ module _ (tokens : List Token) (to : ℕ) (before : List Label) (next : ℕ) (la
         begins = refl;
         says = read.says;
         colon = colon;
-        there = subst (λ (ns : List (List ℕ)). Contains ns token.text.now) (names_read before labels to read.names read.made) there;
+        there = there;
       }
 
 pub next_within : (tokens : List Token) (next : ℕ) (w : List ℕ) → slice_get (texts tokens) (next + 1) ≡ Some w → next < length tokens
 next_within tokens next w colon = omega (arith, slice_get_within (texts tokens) (next + 1) w colon, length-map tokens (λ t. t.text.now))
 
-pub found_there : (o : Option ℕ) (ps : List (List ℕ × ℕ)) (n : List ℕ) → o ≡ leads_to ps n → is_some o ≡ true → Contains (first_names ps) n
-found_there None ps n e some = absurd cc
-found_there (Some to) ps n e some = leads_contains ps n to (sym e)
-
-pub found_nowhere : (o : Option ℕ) (ps : List (List ℕ × ℕ)) (n : List ℕ) → o ≡ leads_to ps n → is_some o ≡ false → Contains (first_names ps) n → ⊥
-found_nowhere None ps n e some = leads_not ps n (sym e)
-found_nowhere (Some to) ps n e some = absurd cc
+-- behind a name and its colon the cell may end
+pub two_within : (tokens : List Token) (next : ℕ) (w : List ℕ) → slice_get (texts tokens) (next + 1) ≡ Some w → next + 2 ≤ length tokens
+two_within tokens next w colon = omega (arith, slice_get_within (texts tokens) (next + 1) w colon, length-map tokens (λ t. t.text.now))
 
 -- whether a token is a colon
 pub colon_or_not : (ts : List (List ℕ)) (k : ℕ) (w : List ℕ) (b : Bool) → slice_get ts k ≡ Some w → b ≡ bytes_eq w (codes ":") → IsTrue b ↔ (slice_get ts k ≡ Some (codes ":"))

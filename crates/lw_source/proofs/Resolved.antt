@@ -12,10 +12,9 @@ use Rattle.lw_text.specs.declared.token.Token.{Token}
 use Rattle.lw_text.specs.Spans.{texts}
 use Rattle.lw_text.specs.Places.{cell_texts, cells_texts}
 use Rattle.lw_source.specs.declared.stmt.Stmt.{Stmt}
-use Rattle.lw_source.specs.declared.label.Label.{Label}
 use Rattle.lw_source.specs.Cells.{Written, Stores, Loads, Swaps, Sets, Sums, Jumps_if, Jumps_if_not, Jumps, Line, Statement, MaybeStatement, Labels, CellSays, statements, labels_of, label_of, target_in, placed, code_in, LeadsForward}
 use Rattle.lw_source.specs.Faults.{Tells}
-use Rattle.lw_source.specs.Reading.{DraftRead, JumpFault, EndsWithLabel, AllForward, pairs, leads_to}
+use Rattle.lw_source.specs.Reading.{DraftRead, JumpFault, EndsWithLabel, AllForward, LabelMap}
 use Rattle.lw_source.proofs.LabelRows.{at_index}
 use Rattle.lw_source.proofs.Leads.{statements-append, leads_in, leads_nowhere}
 use Rattle.lw_source.proofs.OneReading.{zip_length}
@@ -111,7 +110,7 @@ get_seam (x ∷ xs) y ys zero e = absurd (omega (arith, e))
 get_seam (x ∷ xs) y ys (suc k) e = get_seam xs y ys k (omega (arith, e))
 
 -- What was drafted of a thread's cells, at the cell of this row.
-module _ {A : Type 0} (cells : List (Cell A)) (before after : List (List ℕ)) (stmts : List (Option Stmt)) (labels : List Label) (draft : DraftRead cells before stmts labels after) where
+module _ {A : Type 0} (cells : List (Cell A)) (before after : List (List ℕ)) (stmts : List (Option Stmt)) (labels : LabelMap) (draft : DraftRead cells before stmts labels after) where
   as_many_lines : length cells ≡ length draft.lines
   as_many_lines = sym (length-map cells cell_texts) ∙ zip_length CellSays (cells_texts cells) draft.lines draft.says
 
@@ -197,7 +196,7 @@ module _ {A : Type 0} (cells : List (Cell A)) (before after : List (List ℕ)) (
         ap statements (cut_at draft.lines row line_at.0 line_at.1) ∙ statements-append (take row draft.lines) (line_at.0 ∷ drop (suc row) draft.lines) ∙ ap (λ (o : Option Written). statements (take row draft.lines) ++ cons_option o (statements (drop (suc row) draft.lines))) is in
         none (all (length code) s (ap (λ (ss : List Written). slice_get ss (length code)) whole ∙ get_seam (statements (take row draft.lines)) s (statements (drop (suc row) draft.lines)) (length code) count))
 
-    pub jump_tells : (names : List (List ℕ)) (code : List Stmt) (s : Written) (at : ℕ) (cause : CellCause) → line_at.0.stmt ≡ Some s → Resolved after draft.lines row code → JumpFault (pairs labels) (length code) cell.tokens s at cause → Tells names (cells ∷ []) at cause
+    pub jump_tells : (names : List (List ℕ)) (code : List Stmt) (s : Written) (at : ℕ) (cause : CellCause) → line_at.0.stmt ≡ Some s → Resolved after draft.lines row code → JumpFault labels (length code) cell.tokens s at cause → Tells names (cells ∷ []) at cause
     jump_tells names code s at Form is r f = tt
     jump_tells names code s at Register is r f = tt
     jump_tells names code s at LabelMissing is r f = (
@@ -213,13 +212,13 @@ module _ {A : Type 0} (cells : List (Cell A)) (before after : List (List ℕ)) (
           last = refl;
           jump = (s, is, f.is);
         },
-        λ there. leads_nowhere draft.lines f.token.text.now (subst (λ (ps : List (List ℕ × ℕ)). leads_to ps f.token.text.now ≡ None) draft.leads f.because) (subst (λ (ls : List Line). Contains (labels_of ls) f.token.text.now) (sym (cut_at draft.lines row line_at.0 line_at.1)) there),
+        λ there. leads_nowhere draft.lines f.token.text.now (sym (draft.leads f.token.text.now) ∙ f.because) (subst (λ (ls : List Line). Contains (labels_of ls) f.token.text.now) (sym (cut_at draft.lines row line_at.0 line_at.1)) there),
       ),
     )
     jump_tells names code s at LabelTwice is r f = absurd f.because
     jump_tells names code s at Backward is r f =
         let b = f.because in
-        let l = leads_in draft.lines f.token.text.now b.0 (subst (λ (ps : List (List ℕ × ℕ)). leads_to ps f.token.text.now ≡ Some b.0) draft.leads b.1) in
+        let l = leads_in draft.lines f.token.text.now b.0 (sym (draft.leads f.token.text.now) ∙ b.1) in
         let cut = cut_at draft.lines row line_at.0 line_at.1 in
         let count : length code ≡ length (statements (take row draft.lines)) = ap length r.made ∙ length-map (statements (take row draft.lines)) (placed after draft.lines) in (
           standing cells (take row cells) (drop (suc row) cells) cell (cut_at cells row cell cell_at) at f.front f.token [] f.last f.begins,

@@ -3,6 +3,10 @@ use Rattle.std.specs.Prelude.{◌≡◌, ◌≤◌, ◌+◌, ◌⊎◌, ℕ, if�
 use Rattle.std.specs.List.{AllZip, filter_map}
 use Rattle.std.specs.Option.{option_map, ForSome}
 use Rattle.std.specs.Str.{bytes_eq}
+use Rattle.std.specs.BTreeMap.{BTreeMap, get_by}
+use Rattle.std.specs.Cmp.Lexicographic.{slice_cmp}
+use Rattle.std.specs.Ordering.{nat_cmp}
+use denote.Ref.{Bor}
 use Rattle.lw_base.specs.declared.fault.CellCause.{CellCause}
 use Rattle.lw_base.specs.declared.fault.CellCause.TheVariants.{Form, Register, LabelMissing, LabelTwice, Backward, TooMany, Memory}
 use Rattle.lw_base.specs.declared.head.Arch.TheVariants.{Source}
@@ -14,7 +18,6 @@ use Rattle.lw_text.specs.declared.cell.Cell.{Cell}
 use Rattle.lw_text.specs.Spans.{texts}
 use Rattle.lw_text.specs.Places.{cells_texts}
 use Rattle.lw_source.specs.declared.stmt.Stmt.{Stmt}
-use Rattle.lw_source.specs.declared.label.Label.{Label}
 use Rattle.lw_source.specs.declared.phrase.Phrase.{Phrase}
 use Rattle.lw_source.specs.Cells.{Written, Line, Statement, MaybeStatement, Labels, CellSays, Column, statements, labels_of, name_of, label_of, LeadsForward, names_in, names_of, placed, code_in}
 use Rattle.lw_source.specs.Faults.{BeforeLocation}
@@ -101,9 +104,13 @@ MaybeCause above tokens names at Backward = ⊥
 MaybeCause above tokens names at TooMany = ((above ≡ 16) × ((t : Token) × (slice_get tokens 0 ≡ Some t) × (t.at ≡ at))) ⊎ NinthIn tokens names at
 MaybeCause above tokens names at Memory = Unit {0}
 
--- labels without their places in memory: names, and the numbers of statements
-abbrev pub pairs : List Label → List (List ℕ × ℕ)
-pairs labels = map (λ l. (l.name.now, l.to)) labels
+-- a thread's labels in memory: names, and the numbers of the statements that they lead to
+abbrev pub LabelMap : Type 0
+LabelMap = BTreeMap (Bor (List ℕ)) ℕ
+
+-- where a name leads by such a map
+abbrev pub led_by : LabelMap → List ℕ → Option ℕ
+led_by labels n = get_by (λ k. slice_cmp nat_cmp n k.now) labels
 
 abbrev pub first_names : List (List ℕ × ℕ) → List (List ℕ)
 first_names ps = map (λ p. p.0) ps
@@ -122,17 +129,21 @@ abbrev pub leads_to : List (List ℕ × ℕ) → List ℕ → Option ℕ
 leads_to [] n = None
 leads_to (p ∷ ps) n = if bytes_eq p.0 n then Some p.1 else leads_to ps n
 
+-- The map leads every name where the pairs do.
+abbrev pub LeadsAs : LabelMap → List (List ℕ × ℕ) → Type 0
+LeadsAs labels ps = (n : List ℕ) → led_by labels n ≡ leads_to ps n
+
 -- a second token that makes the first a label
 abbrev pub AtLabel : List (List ℕ) → Type 0
 AtLabel ts = slice_get ts 1 ≡ Some (codes ":")
 
--- So many tokens at the front of a cell are labels, which lead to this statement.
-pub record LabelsRead (tokens : List Token) (to : ℕ) (before : List Label) (next : ℕ) (after : List Label) : Type 0 where
+-- So many tokens at the front of a cell are labels, which lead to this statement. The thread had those before.
+pub record LabelsRead (tokens : List Token) (to : ℕ) (before : List (List ℕ × ℕ)) (next : ℕ) (after : LabelMap) : Type 0 where
   pub names : List (List ℕ)
   pub within : next ≤ length tokens
   pub says : Labels (texts (take next tokens)) names []
-  pub made : pairs after ≡ pairs before ++ leading to names
-  pub once : EachOnce (first_names (pairs before)) → EachOnce (first_names (pairs after))
+  pub made : LeadsAs after (before ++ leading to names)
+  pub once : EachOnce (first_names before) → EachOnce (first_names before ++ names)
 
 -- A label stands in a cell that its thread has already.
 pub record TwiceIn (tokens : List Token) (before : List (List ℕ)) (at : ℕ) : Type 0 where
@@ -156,22 +167,22 @@ LabelCause tokens before at TooMany = ⊥
 LabelCause tokens before at Memory = Unit {0}
 
 -- The cells of a thread say lines; their jumps are not looked at yet.
-pub record DraftRead {A : Type 0} (cells : List (Cell A)) (before : List (List ℕ)) (stmts : List (Option Stmt)) (labels : List Label) (after : List (List ℕ)) : Type 0 where
+pub record DraftRead {A : Type 0} (cells : List (Cell A)) (before : List (List ℕ)) (stmts : List (Option Stmt)) (labels : LabelMap) (after : List (List ℕ)) : Type 0 where
   pub lines : List Line
   pub says : AllZip CellSays (cells_texts cells) lines
   pub few : length (statements lines) ≤ 16
   pub once : EachOnce (labels_of lines)
   pub names : after ≡ with_names before (names_in lines)
   pub made : stmts ≡ map (λ line. option_map (placed after []) line.stmt) lines
-  pub leads : pairs labels ≡ leading_in 0 lines
+  pub leads : LeadsAs labels (leading_in 0 lines)
 
 -- why the jump of this number to this label is refused
-abbrev pub JumpCause : List (List ℕ × ℕ) → ℕ → List ℕ → CellCause → Type 0
+abbrev pub JumpCause : LabelMap → ℕ → List ℕ → CellCause → Type 0
 JumpCause labels number l Form = ⊥
 JumpCause labels number l Register = ⊥
-JumpCause labels number l LabelMissing = leads_to labels l ≡ None
+JumpCause labels number l LabelMissing = led_by labels l ≡ None
 JumpCause labels number l LabelTwice = ⊥
-JumpCause labels number l Backward = (to : ℕ) × (leads_to labels l ≡ Some to) × (to ≤ number)
+JumpCause labels number l Backward = (to : ℕ) × (led_by labels l ≡ Some to) × (to ≤ number)
 JumpCause labels number l TooMany = ⊥
 JumpCause labels number l Memory = ⊥
 
@@ -180,7 +191,7 @@ abbrev pub EndsWithLabel : List Token → Written → Type 0
 EndsWithLabel tokens s = ForSome (label_of s) (λ l. (front : List Token) × (t : Token) × (tokens ≡ front ++ t ∷ []) × (t.text.now ≡ l))
 
 -- The label of the jump of this number, which is the last of these tokens, is refused.
-pub record JumpFault (labels : List (List ℕ × ℕ)) (number : ℕ) (tokens : List Token) (s : Written) (at : ℕ) (cause : CellCause) : Type 0 where
+pub record JumpFault (labels : LabelMap) (number : ℕ) (tokens : List Token) (s : Written) (at : ℕ) (cause : CellCause) : Type 0 where
   pub front : List Token
   pub token : Token
   pub last : tokens ≡ front ++ token ∷ []

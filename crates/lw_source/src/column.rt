@@ -9,25 +9,27 @@ ghost use Rattle.lw_text.specs.Spans.{texts};
 ghost use Rattle.lw_source.specs.Sources.{target_of};
 ghost use Rattle.lw_source.specs.Cells.{Written, Line, MaybeStatement, Column, placed, code_in, names_in, statements, LeadsForward};
 ghost use Rattle.lw_source.specs.Faults.{Tells};
-ghost use Rattle.lw_source.specs.Reading.{MaybeRead, MaybeCause, DraftRead, JumpCause, JumpFault, EndsWithLabel, AllForward, ColumnRead, LiesWithin, bare, pairs, leading_in, leads_to};
+ghost use Rattle.lw_source.specs.Reading.{MaybeRead, MaybeCause, DraftRead, JumpCause, JumpFault, EndsWithLabel, AllForward, ColumnRead, LiesWithin, LeadsAs, bare, leading_in, led_by};
 
-use crate::label::{Label, read_labels, target};
+use crate::label::read_labels;
 use crate::phrase::Phrase;
 use crate::statement::{read_statement, surplus};
 use crate::stmt::Stmt;
 use lw_base::{CellCause, CellFault, LocNames, Sequence};
 use lw_text::Cell;
 use std::alloc::{Allocator, Global};
+use std::collections::BTreeMap;
 
 /// The greatest number of statements of a thread.
 const MAX_STATEMENTS: usize = 16;
 
 /// What was read of a thread's cells before its jumps are looked at: for each cell its statement,
-/// where it has one, in which a jump leads to 0; and the labels.
+/// where it has one, in which a jump leads to 0; and the labels, each with the number of the statement
+/// that it leads to.
 #[derive(Drop)]
 struct Draft<'a, A: Allocator = Global> {
     stmts: Sequence<Option<Stmt>, A>,
-    labels: Sequence<Label<'a>, A>,
+    labels: BTreeMap<&'a str, usize, A>,
 }
 
 /// Reads the statements of a thread: first its cells, then its jumps. The names of their locations
@@ -43,12 +45,7 @@ pub(crate) fn read_column<A: Allocator + Copy>(
     ensures place { (len : ℕ) → All (IsWithin len) cells.now → IfErr result (λ f. f.at ≤ len) }
 {
     let draft = read_cells(alloc, cells, locs)?;
-    resolve(
-        alloc,
-        cells,
-        draft.stmts.as_slice(),
-        draft.labels.as_slice(),
-    )
+    resolve(alloc, cells, draft.stmts.as_slice(), &draft.labels)
 }
 
 /// Reads the cells of a thread, each with its labels and its statement.
@@ -63,7 +60,7 @@ fn read_cells<'a, A: Allocator + Copy>(
     ensures place { (len : ℕ) → All (IsWithin len) cells.now → IfErr result (λ f. f.at ≤ len) }
 {
     let mut stmts = Sequence::new(alloc);
-    let mut labels = Sequence::new(alloc);
+    let mut labels = BTreeMap::new(alloc);
     let mut count = 0;
     for cell in cells {
         let start = read_labels(cell.tokens.as_slice(), count, &mut labels)?;
@@ -111,7 +108,7 @@ fn resolve<A: Allocator + Copy>(
     alloc: A,
     cells: &[Cell<'_, A>],
     stmts: &[Option<Stmt>],
-    labels: &[Label<'_>],
+    labels: &BTreeMap<&str, usize, A>,
 ) -> Result<Sequence<Stmt, A>, CellFault>
     requires { (before : List (List ℕ)) × (after : List (List ℕ)) × DraftRead cells.now before stmts.now labels.now after }
     ensures found { (before after : List (List ℕ)) (draft : DraftRead cells.now before stmts.now labels.now after) → IfOk result (λ code. (code ≡ code_in after draft.lines) × AllForward draft.lines) }
@@ -135,12 +132,12 @@ fn lead<A: Allocator>(
     stmt: Stmt,
     number: usize,
     cell: &Cell<'_, A>,
-    labels: &[Label<'_>],
+    labels: &BTreeMap<&str, usize, A>,
 ) -> Result<Stmt, CellFault>
     requires { ForSome (target_of stmt) (λ _. 0 < length cell.now.tokens) }
-    ensures found { (names : List (List ℕ)) (lines : List Line) (s : Written) → stmt ≡ placed names [] s → pairs labels.now ≡ leading_in 0 lines → EndsWithLabel cell.now.tokens s → IfOk result (λ led. (led ≡ placed names lines s) × LeadsForward lines number s) }
-    ensures fault { (names : List (List ℕ)) (lines : List Line) (s : Written) → stmt ≡ placed names [] s → pairs labels.now ≡ leading_in 0 lines → EndsWithLabel cell.now.tokens s → IfErr result (λ f. LeadsForward lines number s → ⊥) }
-    ensures cause { (names : List (List ℕ)) (lines : List Line) (s : Written) → stmt ≡ placed names [] s → EndsWithLabel cell.now.tokens s → IfErr result (λ f. JumpFault (pairs labels.now) number cell.now.tokens s f.at f.cause) }
+    ensures found { (names : List (List ℕ)) (lines : List Line) (s : Written) → stmt ≡ placed names [] s → LeadsAs labels.now (leading_in 0 lines) → EndsWithLabel cell.now.tokens s → IfOk result (λ led. (led ≡ placed names lines s) × LeadsForward lines number s) }
+    ensures fault { (names : List (List ℕ)) (lines : List Line) (s : Written) → stmt ≡ placed names [] s → LeadsAs labels.now (leading_in 0 lines) → EndsWithLabel cell.now.tokens s → IfErr result (λ f. LeadsForward lines number s → ⊥) }
+    ensures cause { (names : List (List ℕ)) (lines : List Line) (s : Written) → stmt ≡ placed names [] s → EndsWithLabel cell.now.tokens s → IfErr result (λ f. JumpFault labels.now number cell.now.tokens s f.at f.cause) }
     ensures place { (len : ℕ) → IsWithin len cell.now → IfErr result (λ f. f.at ≤ len) }
 {
     match stmt {
@@ -164,16 +161,16 @@ fn lead<A: Allocator>(
 fn destination<A: Allocator>(
     number: usize,
     cell: &Cell<'_, A>,
-    labels: &[Label<'_>],
+    labels: &BTreeMap<&str, usize, A>,
 ) -> Result<usize, CellFault>
     requires { 0 < length cell.now.tokens }
-    ensures found { (front : List Token) (l : Token) → cell.now.tokens ≡ front ++ l ∷ [] → IfOk result (λ to. (leads_to (pairs labels.now) l.text.now ≡ Some to) × (number < to)) }
-    ensures cause { (front : List Token) (l : Token) → cell.now.tokens ≡ front ++ l ∷ [] → IfErr result (λ f. (f.at ≡ l.at) × JumpCause (pairs labels.now) number l.text.now f.cause) }
+    ensures found { (front : List Token) (l : Token) → cell.now.tokens ≡ front ++ l ∷ [] → IfOk result (λ to. (led_by labels.now l.text.now ≡ Some to) × (number < to)) }
+    ensures cause { (front : List Token) (l : Token) → cell.now.tokens ≡ front ++ l ∷ [] → IfErr result (λ f. (f.at ≡ l.at) × JumpCause labels.now number l.text.now f.cause) }
     ensures place { (len : ℕ) → IsWithin len cell.now → IfErr result (λ f. f.at ≤ len) }
 {
     let tokens = cell.tokens.as_slice();
     let label = tokens[tokens.len() - 1];
-    let Some(to) = target(labels, label.text) else {
+    let Some(to) = labels.get(label.text).copied() else {
         return Err(CellFault {
             at: label.at,
             cause: CellCause::LabelMissing,

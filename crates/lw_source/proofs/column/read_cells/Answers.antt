@@ -1,4 +1,4 @@
-use Rattle.std.proofs.Common.{sym, subst, arith}
+use Rattle.std.proofs.Common.{refl, sym, subst, arith}
 use Rattle.std.proofs.lemmas.List.{take_all}
 use Rattle.lw_text.specs.Places.{IsWithin}
 use Rattle.std.proofs.lemmas.Result.{err_from_is_err_and}
@@ -8,27 +8,27 @@ use Rattle.lw_source.specs.Reading.{DraftRead}
 use Rattle.lw_source.proofs.column.read_cells.Goals as goal
 
 pub loop-cell-init : goal.loop-cell-init
-loop-cell-init g c = rw (c.new-stmts.ensures, c.new-labels.ensures) (draft_none _)
+loop-cell-init g c = rw c.new-stmts.ensures (draft_none _ c.new-labels.result (λ n. rw c.new-labels.ensures.empty refl))
 
 pub returns-in_err-start-clause-fault : goal.returns-in_err-start-clause-fault
 returns-in_err-start-clause-fault g c =
     let p = err_from_is_err_and c.from_residual.result c.from_residual.ensures.1 in
     let whole = cells_cut c.args.cells.now c.loop-cell.cell-index c.cell-item.result c.loop-cell-test.true c.cell-item.is in
     let fault = rw c.as_slice.ensures at c.in_err-start.ensures.fault in
-    rw (p.1, p.2) (λ known t column few. labels_none _ _ _ _ _ c.loop-cell.invariant.0 c.cell-item.result _ _ whole t column few (fault known))
+    rw (p.1, p.2) (λ known t column few. labels_none _ _ _ _ _ c.loop-cell.invariant.0 c.cell-item.result _ _ whole t column few (fault known _ c.loop-cell.invariant.0.leads))
 
 pub returns-in_err-start-clause-cause : goal.returns-in_err-start-clause-cause
 returns-in_err-start-clause-cause g c =
     let p = err_from_is_err_and c.from_residual.result c.from_residual.ensures.1 in
     let whole = cells_cut c.args.cells.now c.loop-cell.cell-index c.cell-item.result c.loop-cell-test.true c.cell-item.is in
     let cause = rw c.as_slice.ensures at c.in_err-start.ensures.cause in
-    rw (p.1, p.2) (labels_tell _ _ _ _ whole _ _ _ _ c.loop-cell.invariant.0 _ _ cause)
+    rw (p.1, p.2) (labels_tell _ _ _ _ whole _ _ _ _ c.loop-cell.invariant.0 _ _ (cause _ c.loop-cell.invariant.0.leads))
 
 pub returns-in_err-stmt-clause-fault : goal.returns-in_err-stmt-clause-fault
 returns-in_err-stmt-clause-fault g c =
     let p = err_from_is_err_and c.from_residual-in_err-stmt.result c.from_residual-in_err-stmt.ensures.1 in
     let whole = cells_cut c.args.cells.now c.loop-cell.cell-index c.cell-item.result c.loop-cell-test.true c.cell-item.is in
-    let labels = rw (c.as_slice.ensures, c.loop-cell.invariant.1) at c.in_ok-start.ensures.found in
+    let labels = rw (c.as_slice.ensures, c.loop-cell.invariant.1) at (c.in_ok-start.ensures.found _ c.loop-cell.invariant.0.leads) in
     let stops = rw c.as_slice.ensures at c.in_ok-start.ensures.stops in
     let fault = rw (c.behind-phrase.ensures.tokens, c.loop-cell.invariant.1) at c.in_err-stmt.ensures.fault in
     rw (p.1, p.2) (λ known t column few. statement_none _ _ _ _ _ c.loop-cell.invariant.0 c.cell-item.result _ _ whole t column few _ _ labels stops (fault known))
@@ -37,14 +37,14 @@ pub returns-in_err-stmt-clause-cause : goal.returns-in_err-stmt-clause-cause
 returns-in_err-stmt-clause-cause g c =
     let p = err_from_is_err_and c.from_residual-in_err-stmt.result c.from_residual-in_err-stmt.ensures.1 in
     let whole = cells_cut c.args.cells.now c.loop-cell.cell-index c.cell-item.result c.loop-cell-test.true c.cell-item.is in
-    let labels = rw (c.as_slice.ensures, c.loop-cell.invariant.1) at c.in_ok-start.ensures.found in
+    let labels = rw (c.as_slice.ensures, c.loop-cell.invariant.1) at (c.in_ok-start.ensures.found _ c.loop-cell.invariant.0.leads) in
     let cause = rw (c.behind-phrase.ensures.tokens, c.loop-cell.invariant.1) at c.in_err-stmt.ensures.cause in
     rw (p.1, p.2) (statement_tells _ _ _ _ whole _ _ _ _ c.loop-cell.invariant.0 _ _ labels _ _ cause)
 
 pub loop-cell-preserved : goal.loop-cell-preserved
 loop-cell-preserved g c =
     let more = cells_more c.args.cells.now c.loop-cell.cell-index c.cell-item.result c.loop-cell-test.true c.cell-item.is in
-    let labels = rw (c.as_slice.ensures, c.loop-cell.invariant.1) at c.in_ok-start.ensures.found in
+    let labels = rw (c.as_slice.ensures, c.loop-cell.invariant.1) at (c.in_ok-start.ensures.found _ c.loop-cell.invariant.0.leads) in
     let stmt = rw c.behind-phrase.ensures.tokens at c.in_ok-stmt.ensures.found in
     let room = rw c.loop-cell.invariant.1 at c.in_ok-stmt.ensures.room in
     rw (more, c.in_ok-push.ensures.ok) (draft_step _ _ _ _ _ c.loop-cell.invariant.0 c.cell-item.result _ _ _ _ _ _ labels stmt room c.loop-cell.invariant.1 c.number_of-count.ensures)
@@ -72,7 +72,7 @@ returns-in_err-push-clause-cause g c =
     rw (p.1, p.2.1) tt
 
 pub behind-phrase-requires : goal.behind-phrase-requires
-behind-phrase-requires g c = let labels = rw c.as_slice.ensures at c.in_ok-start.ensures.found in labels.within
+behind-phrase-requires g c = let labels = rw c.as_slice.ensures at (c.in_ok-start.ensures.found _ c.loop-cell.invariant.0.leads) in labels.within
 
 pub overflow_add-count : goal.overflow_add-count
 overflow_add-count g c = omega (arith, c.loop-cell.invariant.1, c.loop-cell.invariant.0.few, c.number_of-count.ensures, at_most_one c.in_ok-stmt.stmt)

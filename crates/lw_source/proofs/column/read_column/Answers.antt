@@ -4,16 +4,16 @@ use Rattle.lw_source.proofs.column.read_column.Goals as goal
 
 pub returns-clause-found : goal.returns-clause-found
 returns-clause-found g c =
-    let found = rw (c.as_slice.ensures, c.as_slice-2.ensures) at c.resolve.ensures.found in
+    let found = rw c.as_slice.ensures at c.resolve.ensures.found in
     IfOk-weaker c.resolve.result _ _ (λ code done. column_found _ _ _ _ _ c.in_ok-draft.ensures.found code done) (found _ _ c.in_ok-draft.ensures.found)
 
 pub returns-clause-fault : goal.returns-clause-fault
 returns-clause-fault g c =
-    let fault = rw (c.as_slice.ensures, c.as_slice-2.ensures) at c.resolve.ensures.fault in
+    let fault = rw c.as_slice.ensures at c.resolve.ensures.fault in
     IfErr-weaker c.resolve.result _ _ (λ f none known t column few. column_none _ _ _ _ _ c.in_ok-draft.ensures.found (none known) t column) (fault _ _ c.in_ok-draft.ensures.found)
 
 pub resolve-requires : goal.resolve-requires
-resolve-requires g c = rw (c.as_slice.ensures, c.as_slice-2.ensures) (c.args.locs.now, c.read_cells.new.locs, c.in_ok-draft.ensures.found)
+resolve-requires g c = rw c.as_slice.ensures (c.args.locs.now, c.read_cells.new.locs, c.in_ok-draft.ensures.found)
 
 pub returns-in_err-draft-clause-fault : goal.returns-in_err-draft-clause-fault
 returns-in_err-draft-clause-fault g c =

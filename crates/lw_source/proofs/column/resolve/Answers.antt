@@ -25,7 +25,7 @@ loop-row-preserved-in_default g c before after draft =
 pub lead-requires : goal.lead-requires
 lead-requires g c to jump =
     let w = written_at _ _ _ _ _ c.requires.2 c.loop-row.row c.index-cells-row.result c.loop-row-test.true c.index-cells-row.is c.in-Some.stmt (at_index c.args.stmts.now c.loop-row.row _ (omega (arith, as_many_rows _ _ _ _ _ c.requires.2, c.loop-row-test.true)) ∙ ap Some c.in-Some.is) in
-    jump_tokens _ [] [] _ w.0 0 _ to w.2 jump w.3
+    jump_tokens _ [] c.args.labels.now _ w.0 0 _ to w.2 jump w.3
 
 pub returns-in_err-stmt-clause-fault : goal.returns-in_err-stmt-clause-fault
 returns-in_err-stmt-clause-fault g c before after draft =

@@ -1,28 +1,40 @@
-use Rattle.std.proofs.Common.{refl, sym, ◌∙◌, arith, true≢false}
+use Rattle.std.proofs.Common.{sym, ◌∙◌, arith, true≢false}
 use Rattle.std.proofs.lemmas.Result.{err_from_is_err_and}
-use Rattle.lw_source.proofs.LabelRows.{label_cause, labels_more, labels_on, labels_twice, twice_in, at_index, next_within, found_there, found_nowhere}
+use Rattle.std.proofs.lemmas.Map.Text.{btree_map_updates_str}
+use Rattle.lw_source.proofs.LabelRows.{label_cause, labels_start, labels_more, labels_on, labels_twice, is_there, twice_in, at_index, next_within, two_within}
 use Rattle.lw_source.proofs.label.read_labels.Goals as goal
+
+pub loop-token-init : goal.loop-token-init
+loop-token-init g c = record { within = omega arith; read = λ ps known. labels_start _ _ ps _ known }
 
 pub loop-token-preserved : goal.loop-token-preserved
 loop-token-preserved g c =
     let colon = c.is_colon.ensures.0 c.loop-token-test.true in
-    labels_more _ _ _ _ _ c.loop-token.invariant _ (at_index c.args.tokens.now c.loop-token.next _ (next_within _ _ _ colon)) colon _ _ c.in_ok-label.ensures.ok c.in_ok-push.ensures.ok refl refl (found_nowhere _ _ _ (rw c.as_slice.ensures at c.target.ensures) (sym c.is_some.ensures ∙ c.if-is_some.false))
+    record {
+      within = two_within _ _ _ colon;
+      read = λ ps known.
+          labels_more _ _ ps _ _ (c.loop-token.invariant.read ps known) _ (at_index c.args.tokens.now c.loop-token.next _ (next_within _ _ _ colon)) colon c.insert.new.self _ c.in_ok-label.ensures.ok c.in_ok-insert.ensures.old (sym c.is_some.ensures ∙ c.if-is_some.false) (btree_map_updates_str _ c.loop-token.labels c.insert.new.self _ c.in_ok-insert.ensures.updates);
+    }
 
 pub returns-in_err-label-clause-fault : goal.returns-in_err-label-clause-fault
 returns-in_err-label-clause-fault g c =
     let p = err_from_is_err_and c.from_residual.result c.from_residual.ensures.1 in
     let colon = c.is_colon.ensures.0 c.loop-token-test.true in
-    rw (p.1, p.2) (λ known ks mid h none once. c.in_err-label.ensures.err (labels_on _ _ _ _ _ c.loop-token.invariant _ (at_index c.args.tokens.now c.loop-token.next _ (next_within _ _ _ colon)) colon ks mid h none).2)
+    rw (p.1, p.2) (λ known ps leads ks mid h none once. c.in_err-label.ensures.err (labels_on _ _ ps _ _ (c.loop-token.invariant.read ps leads) _ (at_index c.args.tokens.now c.loop-token.next _ (next_within _ _ _ colon)) colon ks mid h none).2)
 
 pub returns-then-is_some-clause-fault : goal.returns-then-is_some-clause-fault
-returns-then-is_some-clause-fault g c known ks mid h none once =
+returns-then-is_some-clause-fault g c known ps leads ks mid h none once =
     let colon = c.is_colon.ensures.0 c.loop-token-test.true in
-    labels_twice _ _ _ _ _ c.loop-token.invariant _ (at_index c.args.tokens.now c.loop-token.next _ (next_within _ _ _ colon)) colon ks mid h none once (found_there _ _ _ (rw c.as_slice.ensures at c.target.ensures) (sym c.is_some.ensures ∙ c.if-is_some.true))
+    let token = at_index c.args.tokens.now c.loop-token.next _ (next_within _ _ _ colon) in
+    let read = c.loop-token.invariant.read ps leads in
+    labels_twice _ _ ps _ _ read _ token colon ks mid h none once (is_there _ _ ps _ _ read _ token colon _ c.in_ok-insert.ensures.old (sym c.is_some.ensures ∙ c.if-is_some.true))
 
 pub returns-then-is_some-clause-cause : goal.returns-then-is_some-clause-cause
-returns-then-is_some-clause-cause g c =
+returns-then-is_some-clause-cause g c ps leads =
     let colon = c.is_colon.ensures.0 c.loop-token-test.true in
-    twice_in _ _ _ _ _ c.loop-token.invariant _ (at_index c.args.tokens.now c.loop-token.next _ (next_within _ _ _ colon)) colon (found_there _ _ _ (rw c.as_slice.ensures at c.target.ensures) (sym c.is_some.ensures ∙ c.if-is_some.true))
+    let token = at_index c.args.tokens.now c.loop-token.next _ (next_within _ _ _ colon) in
+    let read = c.loop-token.invariant.read ps leads in
+    twice_in _ _ ps _ _ read _ token colon (is_there _ _ ps _ _ read _ token colon _ c.in_ok-insert.ensures.old (sym c.is_some.ensures ∙ c.if-is_some.true))
 
 pub bounds-tokens-next : goal.bounds-tokens-next
 bounds-tokens-next g c = next_within _ _ _ (c.is_colon.ensures.0 c.loop-token-test.true)
@@ -35,23 +47,23 @@ returns-in_err-label-clause-place g c len within =
 pub returns-then-is_some-clause-place : goal.returns-then-is_some-clause-place
 returns-then-is_some-clause-place g c len within = within c.loop-token.next _ (next_within _ _ _ (c.is_colon.ensures.0 c.loop-token-test.true))
 
-pub returns-in_err-push-clause-fault : goal.returns-in_err-push-clause-fault
-returns-in_err-push-clause-fault g c =
-    let p = err_from_is_err_and c.from_residual-in_err-push.result c.from_residual-in_err-push.ensures.1 in
+pub returns-in_err-insert-clause-fault : goal.returns-in_err-insert-clause-fault
+returns-in_err-insert-clause-fault g c =
+    let p = err_from_is_err_and c.from_residual-in_err-insert.result c.from_residual-in_err-insert.ensures.1 in
     rw p.1 (λ known. absurd (known p.2.1))
 
-pub returns-in_err-push-clause-cause : goal.returns-in_err-push-clause-cause
-returns-in_err-push-clause-cause g c =
-    let p = err_from_is_err_and c.from_residual-in_err-push.result c.from_residual-in_err-push.ensures.1 in
-    rw (p.1, p.2.1) tt
+pub returns-in_err-insert-clause-cause : goal.returns-in_err-insert-clause-cause
+returns-in_err-insert-clause-cause g c =
+    let p = err_from_is_err_and c.from_residual-in_err-insert.result c.from_residual-in_err-insert.ensures.1 in
+    rw (p.1, p.2.1) (λ ps leads. tt)
 
-pub returns-in_err-push-clause-place : goal.returns-in_err-push-clause-place
-returns-in_err-push-clause-place g c len within =
-    let p = err_from_is_err_and c.from_residual-in_err-push.result c.from_residual-in_err-push.ensures.1 in
+pub returns-in_err-insert-clause-place : goal.returns-in_err-insert-clause-place
+returns-in_err-insert-clause-place g c len within =
+    let p = err_from_is_err_and c.from_residual-in_err-insert.result c.from_residual-in_err-insert.ensures.1 in
     rw (p.1, p.2.0) (omega arith)
 
 pub returns-clause-found : goal.returns-clause-found
-returns-clause-found g c = c.loop-token.invariant
+returns-clause-found g c ps leads = c.loop-token.invariant.read ps leads
 
 pub returns-in_err-label-clause-found : goal.returns-in_err-label-clause-found
 returns-in_err-label-clause-found g c =
@@ -63,20 +75,20 @@ returns-in_err-label-clause-stops g c =
     let p = err_from_is_err_and c.from_residual.result c.from_residual.ensures.1 in
     rw p.1 tt
 
-pub returns-in_err-push-clause-found : goal.returns-in_err-push-clause-found
-returns-in_err-push-clause-found g c =
-    let p = err_from_is_err_and c.from_residual-in_err-push.result c.from_residual-in_err-push.ensures.1 in
+pub returns-in_err-insert-clause-found : goal.returns-in_err-insert-clause-found
+returns-in_err-insert-clause-found g c =
+    let p = err_from_is_err_and c.from_residual-in_err-insert.result c.from_residual-in_err-insert.ensures.1 in
     rw p.1 tt
 
-pub returns-in_err-push-clause-stops : goal.returns-in_err-push-clause-stops
-returns-in_err-push-clause-stops g c =
-    let p = err_from_is_err_and c.from_residual-in_err-push.result c.from_residual-in_err-push.ensures.1 in
+pub returns-in_err-insert-clause-stops : goal.returns-in_err-insert-clause-stops
+returns-in_err-insert-clause-stops g c =
+    let p = err_from_is_err_and c.from_residual-in_err-insert.result c.from_residual-in_err-insert.ensures.1 in
     rw p.1 tt
 
 pub returns-in_err-label-clause-cause : goal.returns-in_err-label-clause-cause
 returns-in_err-label-clause-cause g c =
     let p = err_from_is_err_and c.from_residual.result c.from_residual.ensures.1 in
-    rw (p.1, p.2) (label_cause _ _ _ _ c.in_err-label.ensures.cause)
+    rw (p.1, p.2) (λ ps leads. label_cause _ _ _ _ c.in_err-label.ensures.cause)
 
 pub returns-clause-stops : goal.returns-clause-stops
 returns-clause-stops g c colon = true≢false (sym (c.is_colon.ensures.1 colon) ∙ c.loop-token-test.false)
