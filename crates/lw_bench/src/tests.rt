@@ -24,6 +24,10 @@ use std::test::Fail;
 const STORE_BUFFERING: &str =
     "SRC SB\n{}\n P0 | P1 ;\n x := 1 | y := 1 ;\n r0 := y | r0 := x ;\nexists (0:r0=0 /\\ 1:r0=0)\n";
 
+/// What `P0 P0 P1 P1` makes of it.
+const STORE_BUFFERING_PAGE: &str =
+    "Test SB\nSteps 4\nEnd Final\nP0 at 2 r0=0 r1=0 r2=0 r3=0 r4=0 r5=0\nP1 at 2 r0=1 r1=0 r2=0 r3=0 r4=0 r5=0\nMemory x=1 y=1\n";
+
 /// A reader of a text: so many bytes a call, and one of its calls fails.
 #[derive(Drop)]
 struct Tape<'a> {
@@ -244,12 +248,7 @@ fn byte_by_byte(rt: HostRuntime) {
     writer.writer.step = 1;
     let result = replay_text(rt.alloc(), &mut reader, "P0 P0 P1 P1", &mut writer);
     assert!(rt; matches!(result, Ok(End::Final)));
-    assert!(rt;
-        writer.writer.is(
-            "Test SB\nSteps 4\nEnd Final\nP0 at 2 r0=0 r1=0 r2=0 r3=0 r4=0 r5=0\nP1 at 2 r0=1 r1=0 r2=0 r3=0 r4=0 r5=0\nMemory x=1 y=1\n"
-        )
-    );
-    assert!(rt; writer.writer.calls == writer.writer.len);
+    assert!(rt; writer.writer.is(STORE_BUFFERING_PAGE) && writer.writer.calls == writer.writer.len);
 }
 
 /// Whichever read fails, that is told, nothing is written, and the reader isn't called again. The text is 87 bytes, so

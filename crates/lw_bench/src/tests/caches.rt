@@ -177,8 +177,8 @@ fn one_reader_is_exclusive_and_more_share(rt: HostRuntime) -> Result<(), Fail> {
         for reader in 0..4u8 {
             let cpu = Cpu::new(reader).ok_or("a reader")?;
             if cpu.index() < cpus {
-                assert!(rt; answer_to(&mut memory, Load(cpu, x)) == Some(Ok(Some(7))));
-                assert!(rt; are_shared(&memory, x, reader.saturating_add(1)));
+                let is_seven = matches!(answer_to(&mut memory, Load(cpu, x)), Some(Ok(Some(7))));
+                assert!(rt; is_seven && are_shared(&memory, x, reader.saturating_add(1)));
             }
         }
     }
