@@ -1,4 +1,7 @@
 //! The runs of the workbench: from the bytes of a test to the bytes of what is told of it.
+//!
+//! It names lw_base, of lw_text the reading of frames and its faults, and of lw_source the reading of tests and their
+//! runs. Its tests name lw_memory, lw_mesi and lw_orders too: all tests of the workbench stand here.
 #![tactic(auto)]
 
 mod command;
