@@ -3,40 +3,48 @@
 #![tactic(auto)]
 
 use lw_bench::{
-    BenchFault, FromRead, Task, ToWrite, command_of, end_status, fault_line, replay_text, status_of,
+    BenchFault, End, FromRead, Task, ToWrite, command_of, exit_status, fault_line, memory_line,
+    replay_text, status_of, usage_line, usage_status,
 };
 use std::alloc::Global;
 use std::process::ExitCode;
 use std::{env, io};
 
 fn main(rt: HostRuntime) -> ExitCode {
-    let status = match words_of(&rt) {
-        Ok(words) => run(&rt, &words),
-        Err(fault) => tell(&rt, &fault),
-    };
-    ExitCode::from(status)
+    ExitCode::from(run(&rt))
+}
+
+/// Does what the words of the command line say, and answers the exit status.
+fn run(rt: &HostRuntime) -> u8 {
+    match words_of(rt) {
+        Ok(words) => run_words(rt, &words),
+        Err(fault) => end(rt, &Err(fault)),
+    }
 }
 
 /// The words after the program's name.
 fn words_of(rt: &HostRuntime) -> Result<Vec<String>, BenchFault> {
-    match env::args(rt) {
-        Ok(words) => Ok(words.skip(1).collect(rt.alloc())?),
-        Err(error) if error.kind() == io::ErrorKind::OutOfMemory => Err(BenchFault::Memory),
-        Err(_) => Err(BenchFault::Read),
+    let args = match env::args(rt) {
+        Ok(args) => args,
+        Err(error) if error.kind() == io::ErrorKind::OutOfMemory => return Err(BenchFault::Memory),
+        Err(_) => return Err(BenchFault::Read),
+    };
+    let mut words = Vec::new(rt.alloc());
+    for word in args.skip(1) {
+        words.push(word)?;
     }
+    Ok(words)
 }
 
 /// Does what the words say, and answers the exit status.
-fn run(rt: &HostRuntime, words: &[String]) -> u8 {
+fn run_words(rt: &HostRuntime, words: &[String]) -> u8 {
     match texts_of(rt.alloc(), words) {
-        Err(fault) => tell(rt, &fault),
+        Err(fault) => end(rt, &Err(fault)),
         Ok(texts) => match command_of(&texts) {
-            Some(Task::Replay(schedule)) => replay(rt, schedule),
+            Some(Task::Replay(schedule)) => end(rt, &replay(rt, schedule)),
             None => {
-                let _ = rt.eprintln(
-                    "usage: lw states | lw compile | lw schedules | lw replay SCHEDULE",
-                );
-                2
+                complain(rt, usage_line());
+                usage_status()
             }
         },
     }
@@ -51,25 +59,28 @@ fn texts_of(alloc: Global, words: &[String]) -> Result<Vec<&str>, BenchFault> {
     Ok(texts)
 }
 
-fn replay(rt: &HostRuntime, schedule: &str) -> u8 {
+/// Replays the test on standard input, and prints the page on standard output.
+fn replay(rt: &HostRuntime, schedule: &str) -> Result<End, BenchFault> {
     let mut reader = FromRead::new(rt.stdin());
     let mut writer = ToWrite::new(rt.stdout());
-    match replay_text(rt.alloc(), &mut reader, schedule, &mut writer) {
-        Ok(end) => end_status(end),
-        Err(fault) => tell(rt, &fault),
-    }
+    replay_text(rt.alloc(), &mut reader, schedule, &mut writer)
 }
 
-/// Prints the line that tells of the fault, and answers its status.
-fn tell(rt: &HostRuntime, fault: &BenchFault) -> u8 {
-    match fault_line(rt.alloc(), fault) {
-        Ok(line) => {
-            let _ = rt.eprintln(line.as_str());
-            status_of(fault)
-        }
-        Err(_) => {
-            let _ = rt.eprintln("lw: memory");
-            4
+/// Tells of a fault, if there is one, and answers the exit status. Where memory runs out for the fault's line, that is told.
+fn end(rt: &HostRuntime, replay: &Result<End, BenchFault>) -> u8 {
+    if let Err(fault) = replay {
+        match fault_line(rt.alloc(), fault) {
+            Ok(line) => complain(rt, line.as_str()),
+            Err(_) => {
+                complain(rt, memory_line());
+                return status_of(&BenchFault::Memory);
+            }
         }
     }
+    exit_status(replay)
+}
+
+/// Prints a line on standard error. Where that fails, nothing more can be told.
+fn complain(rt: &HostRuntime, line: &str) {
+    let _ = rt.eprintln(line);
 }

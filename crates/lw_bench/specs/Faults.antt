@@ -1,5 +1,5 @@
 -- How people are told why a run is refused, or how it ended: a line and an exit status.
-use Rattle.std.specs.Prelude.{ℕ, List, ◌++◌, codes}
+use Rattle.std.specs.Prelude.{ℕ, List, ◌++◌, codes, Result, Ok, Err}
 use Rattle.std.specs.Fmt.{decimal}
 use Rattle.lw_base.specs.Faults.{cell_cause_number, cell_cause_name, schedule_cause_number, schedule_cause_name}
 use Rattle.lw_base.specs.declared.fault.CellCause.{CellCause}
@@ -66,3 +66,14 @@ abbrev pub end_status : End → ℕ
 end_status at.Final = 0
 end_status at.NotFinal = 1
 end_status (at.Stopped stop) = 1
+
+abbrev pub exit_status : Result End BenchFault → ℕ
+exit_status (Ok end) = end_status end
+exit_status (Err fault) = status fault
+
+-- what is told of words that name no task, and the exit status
+abbrev pub usage_text : List ℕ
+usage_text = codes "usage: lw states | lw compile | lw schedules | lw replay SCHEDULE"
+
+abbrev pub usage_status : ℕ
+usage_status = 2

@@ -2,4 +2,5 @@ pub mod Faults
 pub mod Devices
 pub mod Pages
 pub mod Replays
+pub mod Told
 pub mod Commands

@@ -3,7 +3,7 @@ ghost use Rattle.std.specs.Prelude.{◌≡◌, IfOk};
 ghost use Rattle.std.specs.String.{string_bytes};
 ghost use Rattle.lw_bench.specs.declared.fault.BenchFault.TheVariants as bench;
 ghost use Rattle.lw_bench.specs.Faults as faults;
-ghost use Rattle.lw_bench.specs.Faults.{told_text, told_cell, told_schedule, placed_text, fault_text};
+ghost use Rattle.lw_bench.specs.Faults.{told_text, told_cell, told_schedule, placed_text, fault_text, usage_text};
 
 use lw_base::{CellCause, CellFault, End, ScheduleCause, ScheduleFault};
 use lw_text::{TextCause, TextFault};
@@ -83,19 +83,19 @@ pub fn fault_line<A: Allocator + Copy>(
     ensures { IfOk result (λ line. string_bytes line ≡ fault_text fault.now) }
 {
     match fault {
-        BenchFault::Text(fault) => {
-            let cause = fault.cause;
-            placed_line(alloc, "text", cause.number(), cause.name(), fault.at)
+        BenchFault::Text(text) => {
+            let cause = text.cause;
+            placed_line(alloc, "text", cause.number(), cause.name(), text.at)
         }
-        BenchFault::Cell(fault) => {
-            let cause = fault.cause;
-            placed_line(alloc, "cell", cause.number(), cause.name(), fault.at)
+        BenchFault::Cell(cell) => {
+            let cause = cell.cause;
+            placed_line(alloc, "cell", cause.number(), cause.name(), cell.at)
         }
-        BenchFault::Schedule(fault) => {
-            let cause = fault.cause;
-            placed_line(alloc, "schedule", cause.number(), cause.name(), fault.at)
+        BenchFault::Schedule(schedule) => {
+            let cause = schedule.cause;
+            placed_line(alloc, "schedule", cause.number(), cause.name(), schedule.at)
         }
-        BenchFault::Memory => String::from_str(alloc, "lw: memory"),
+        BenchFault::Memory => String::from_str(alloc, memory_line()),
         BenchFault::Read => String::from_str(alloc, "lw: read failed"),
         BenchFault::Write => String::from_str(alloc, "lw: write failed"),
     }
@@ -123,6 +123,37 @@ pub fn status_of(fault: &BenchFault) -> u8
         BenchFault::Text(_) | BenchFault::Cell(_) | BenchFault::Schedule(_) => 1,
         BenchFault::Memory | BenchFault::Read | BenchFault::Write => 4,
     }
+}
+
+/// The exit status of a replay that answered, or was refused.
+pub fn exit_status(replay: &Result<End, BenchFault>) -> u8
+    ensures { result ≡ faults.exit_status replay.now }
+{
+    match replay {
+        Ok(end) => end_status(*end),
+        Err(fault) => status_of(fault),
+    }
+}
+
+/// The line that tells that memory ran out, for where there is none for the line of a fault either.
+pub fn memory_line() -> &'static str
+    ensures { result.now ≡ fault_text bench.Memory }
+{
+    "lw: memory"
+}
+
+/// The line that tells which words the program takes.
+pub fn usage_line() -> &'static str
+    ensures { result.now ≡ usage_text }
+{
+    "usage: lw states | lw compile | lw schedules | lw replay SCHEDULE"
+}
+
+/// The exit status for words that the program does not take.
+pub fn usage_status() -> u8
+    ensures { result ≡ faults.usage_status }
+{
+    2
 }
 
 /// The exit status of a replay: 0 where it ended in a final state, else 1.

@@ -4,8 +4,10 @@
 ghost use Rattle.std.specs.Prelude.{◌≡◌, ◌≢◌, ◌↔◌, ℕ, List, true, false, Err, IfOk, IfErr};
 ghost use Rattle.std.specs.String.{string_bytes};
 ghost use Rattle.lw_base.specs.Schedules.{IsSchedule};
+ghost use Rattle.lw_source.specs.Sources.{SourceTest};
 ghost use Rattle.lw_source.specs.Views.{source_of};
-ghost use Rattle.lw_bench.specs.Replays.{HasTest, Replayed, RefusesTest, RefusesSchedule, Replays, RefusesText, Written, Refuses};
+ghost use Rattle.lw_bench.specs.Replays.{HasTest, IsReplayPage, Replays, WritesPage};
+ghost use Rattle.lw_bench.specs.Told.{TellsTest, TellsReplay, TellsSchedule, TellsInput, IsNoDevice};
 
 use crate::device::{ByteReader, ByteWriter, Failed};
 use crate::fault::BenchFault;
@@ -13,31 +15,39 @@ use crate::input::read_input;
 use crate::output::write_output;
 use crate::page::replay_page;
 use lw_base::{End, Event, read_schedule};
-use lw_source::{Source, SourceRun, read_source};
+use lw_source::{Source, SourceRun, a_frame_has_one_source, read_source};
 use lw_text::{a_text_has_one_frame, read_frame};
 use std::alloc::Allocator;
+
+/// A text has at most one test.
+pub fn a_text_has_one_test()
+    ensures { (text : List ℕ) (s t : SourceTest) → HasTest text s → HasTest text t → s ≡ t }
+{
+    a_text_has_one_frame();
+    a_frame_has_one_source();
+}
 
 /// The test that the bytes are.
 pub(crate) fn read_test<A: Allocator + Copy>(alloc: A, text: &[u8]) -> Result<Source<A>, BenchFault>
     ensures found { IfOk result (λ source. HasTest text.now (source_of source)) }
-    ensures fault { IfErr result (RefusesTest text.now) }
+    ensures told { IfErr result (TellsTest A text.now) }
+    ensures device { IfErr result IsNoDevice }
 {
     let frame = read_frame(alloc, text)?;
-    // The text has no other frame, so a fault of its cells says that there is no test.
-    a_text_has_one_frame();
     let read = read_source(alloc, &frame);
     drop(frame);
     Ok(read?)
 }
 
-/// The page that tells of the replay of a test by a schedule, and how the replay ended.
+/// The page that tells of the replay of a test by a schedule, and how the replay ended. The bytes are the test's.
 fn page_of<A: Allocator + Copy>(
     alloc: A,
     source: &Source<A>,
     schedule: &str,
 ) -> Result<(String<A>, End), BenchFault>
-    ensures found { IfOk result (λ x. Replayed (source_of source.now) schedule.now (string_bytes x.0) x.1) }
-    ensures fault { IfErr result (RefusesSchedule (source_of source.now) schedule.now) }
+    ensures found { IfOk result (λ x. IsReplayPage (source_of source.now) schedule.now (string_bytes x.0) x.1) }
+    ensures told { (text : List ℕ) → HasTest text (source_of source.now) → IfErr result (TellsReplay A text schedule.now) }
+    ensures device { IfErr result IsNoDevice }
 {
     let events = read_schedule(alloc, schedule, &source.head.locs)?;
     page_of_events(alloc, source, events.as_slice())
@@ -49,7 +59,7 @@ fn page_of_events<A: Allocator + Copy>(
     source: &Source<A>,
     events: &[Event],
 ) -> Result<(String<A>, End), BenchFault>
-    ensures found { IfOk result (λ x. (schedule : List ℕ) → IsSchedule source.now.head.locs schedule events.now → Replayed (source_of source.now) schedule (string_bytes x.0) x.1) }
+    ensures found { IfOk result (λ x. (schedule : List ℕ) → IsSchedule source.now.head.locs schedule events.now → IsReplayPage (source_of source.now) schedule (string_bytes x.0) x.1) }
     ensures fault { IfErr result (λ f. f ≡ BenchFault.Memory) }
 {
     let mut run = SourceRun::new(alloc, source)?;
@@ -66,8 +76,8 @@ fn page_of_text<A: Allocator + Copy>(
     schedule: &str,
 ) -> Result<(String<A>, End), BenchFault>
     ensures found { IfOk result (λ x. Replays text.now schedule.now (string_bytes x.0) x.1) }
-    ensures fault { IfErr result (RefusesText text.now schedule.now) }
-    ensures device { IfErr result (λ f. (f ≢ BenchFault.Read) × (f ≢ BenchFault.Write)) }
+    ensures told { IfErr result (TellsReplay A text.now schedule.now) }
+    ensures device { IfErr result IsNoDevice }
 {
     let source = read_test(alloc, text)?;
     let told = page_of(alloc, &source, schedule);
@@ -90,9 +100,9 @@ pub fn replay_text<R: ByteReader, W: ByteWriter, A: Allocator + Copy>(
     requires reader { R.failed reader.old ≡ false }
     requires writer { W.failed writer.old ≡ false }
     // Where it answers, the page of the replay has been written, and nothing else.
-    ensures written { IfOk result (λ end. Written (R.remaining reader.old) schedule.now (W.contents writer.old) (W.contents writer.new) end) }
-    // A text, a cell or a schedule is refused only where there is no test, or this is no schedule of it.
-    ensures refused { IfErr result (Refuses (R.remaining reader.old) schedule.now) }
+    ensures written { IfOk result (λ end. WritesPage (R.remaining reader.old) schedule.now (W.contents writer.old) (W.contents writer.new) end) }
+    // What a fault tells is so: of the text, of a cell, of the schedule. Nothing else is told of them.
+    ensures told { IfErr result (TellsInput A (R.remaining reader.old) schedule.now) }
     // The devices' faults are told exactly where they failed, and else the writer is left alone.
     ensures read { result ≡ Err BenchFault.Read ↔ R.failed reader.new ≡ true }
     ensures write { result ≡ Err BenchFault.Write ↔ W.failed writer.new ≡ true }

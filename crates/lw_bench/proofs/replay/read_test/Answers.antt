@@ -1,16 +1,43 @@
-use Rattle.std.proofs.Common.{subst}
 use Rattle.std.proofs.lemmas.Result.{err_from_is_err_and}
-use Rattle.lw_text.specs.Frames.{TestFrame}
-use Rattle.lw_source.specs.Cells.{HasSource}
-use Rattle.lw_bench.proofs.Replays.{text_refuses, cell_refuses}
+use Rattle.std.proofs.Common.{arith}
+use Rattle.lw_bench.proofs.DeviceFaults.{err_is}
+use Rattle.lw_bench.specs.Told.{TellsTest}
+use Rattle.lw_bench.proofs.Told.{text_is_told, cell_is_told, text_no_device, cell_no_device}
 use Rattle.lw_bench.proofs.replay.read_test.Goals as goal
 
-pub returns-in_err-frame-clause-fault : goal.returns-in_err-frame-clause-fault
-returns-in_err-frame-clause-fault g c =
+pub returns-in_err-frame-clause-told : goal.returns-in_err-frame-clause-told
+returns-in_err-frame-clause-told g c =
+    let f = c.in_err-frame in
     let p = err_from_is_err_and c.from_residual.result c.from_residual.ensures.1 in
-    rw (p.1, p.2) (text_refuses _ _ (λ known test has. c.in_err-frame.ensures.fault known has.frame has.has_frame))
+    rw (p.1, p.2) (text_is_told (TellsTest _ c.args.text.now) tt _ (λ known. record {
+      none = f.ensures.fault known;
+      place = f.ensures.place;
+      too_long = λ long. err_is (f.ensures.too_long long);
+      only_too_long = f.ensures.only_too_long;
+      not_utf8 = λ short other. err_is (f.ensures.not_utf8 short other);
+      only_not_utf8 = f.ensures.only_not_utf8;
+      in_memory = known;
+    }))
 
-pub returns-in_err-read-clause-fault : goal.returns-in_err-read-clause-fault
-returns-in_err-read-clause-fault g c =
+pub returns-in_err-frame-clause-device : goal.returns-in_err-frame-clause-device
+returns-in_err-frame-clause-device g c =
+    let p = err_from_is_err_and c.from_residual.result c.from_residual.ensures.1 in
+    rw (p.1, p.2) (text_no_device _)
+
+pub returns-in_err-read-clause-told : goal.returns-in_err-read-clause-told
+returns-in_err-read-clause-told g c =
     let p = err_from_is_err_and c.from_residual-in_err-read.result c.from_residual-in_err-read.ensures.1 in
-    rw (p.1, p.2) (cell_refuses _ _ (λ known test has. c.in_err-read.ensures.fault known test (subst (λ (f : TestFrame). HasSource f test) (c.a_text_has_one_frame.ensures _ _ _ has.has_frame c.in_ok-frame.ensures.found) has.has_source)))
+    rw (p.1, p.2) (cell_is_told (TellsTest _ c.args.text.now) tt _ (λ known. record {
+      frame = c.in_ok-frame.frame;
+      has_frame = c.in_ok-frame.ensures.found;
+      lies = c.in_ok-frame.ensures.spans;
+      none = c.in_err-read.ensures.fault known;
+      place = omega (arith, c.in_err-read.ensures.place, c.in_ok-frame.ensures.len);
+      cause = c.in_err-read.ensures.cause;
+      in_memory = known;
+    }))
+
+pub returns-in_err-read-clause-device : goal.returns-in_err-read-clause-device
+returns-in_err-read-clause-device g c =
+    let p = err_from_is_err_and c.from_residual-in_err-read.result c.from_residual-in_err-read.ensures.1 in
+    rw (p.1, p.2) (cell_no_device _)

@@ -1,14 +1,16 @@
 use Rattle.std.proofs.Common.{refl}
 use Rattle.std.proofs.lemmas.Result.{err_from_is_err_and}
 use Rattle.lw_bench.specs.declared.fault.BenchFault.TheVariants.{Read, Write}
-use Rattle.lw_bench.proofs.Replays.{input_told, input_apart, write_apart, fault_apart, answer_apart, device_refused, write_refused, text_refused, page_written}
+use Rattle.lw_bench.proofs.DeviceFaults.{input_told, input_apart, write_apart, fault_apart, answer_apart}
+use Rattle.lw_bench.proofs.Replays.{page_written}
+use Rattle.lw_bench.proofs.Told.{device_told, write_told, told_of_input}
 use Rattle.lw_bench.proofs.replay.replay_text.Goals as goal
 
-pub returns-in_err-page-clause-refused : goal.returns-in_err-page-clause-refused
-returns-in_err-page-clause-refused g c =
+pub returns-in_err-page-clause-told : goal.returns-in_err-page-clause-told
+returns-in_err-page-clause-told g c =
     let p = err_from_is_err_and c.from_residual-in_err-page.result c.from_residual-in_err-page.ensures.1 in
-    let fault = rw c.as_slice.ensures.value at c.in_err-page.ensures.fault in
-    rw (p.1, p.2) (text_refused _ _ _ _ c.in_ok-text.ensures.bytes fault)
+    let fault = rw c.as_slice.ensures.value at c.in_err-page.ensures.told in
+    rw (p.1, p.2) (told_of_input _ _ _ _ _ c.in_ok-text.ensures.bytes fault)
 
 pub returns-in-Ok-clause-written : goal.returns-in-Ok-clause-written
 returns-in-Ok-clause-written g c =
@@ -52,10 +54,10 @@ returns-in_err-text-clause-write g c =
     let apart = input_apart c.in_err-text.field-0.0 (g.R.ByteReader.failed c.read_input.new.reader) c.in_err-text.ensures.err in
     fault_apart c.from_residual.result p.0 c.in_err-text.field-0.0 Write (g.W.ByteWriter.failed c.args.writer.now) p.1 p.2 apart c.requires.writer
 
-pub returns-in_err-text-clause-refused : goal.returns-in_err-text-clause-refused
-returns-in_err-text-clause-refused g c =
+pub returns-in_err-text-clause-told : goal.returns-in_err-text-clause-told
+returns-in_err-text-clause-told g c =
     let p = err_from_is_err_and c.from_residual.result c.from_residual.ensures.1 in
-    rw (p.1, p.2) (device_refused (g.R.ByteReader.remaining c.args.reader.now) c.args.schedule.now c.in_err-text.field-0.0 (g.R.ByteReader.failed c.read_input.new.reader) c.in_err-text.ensures.err)
+    rw (p.1, p.2) (device_told _ (g.R.ByteReader.remaining c.args.reader.now) c.args.schedule.now c.in_err-text.field-0.0 (g.R.ByteReader.failed c.read_input.new.reader) c.in_err-text.ensures.err)
 
-pub returns-clause-refused : goal.returns-clause-refused
-returns-clause-refused g c = write_refused (g.R.ByteReader.remaining c.args.reader.now) c.args.schedule.now
+pub returns-clause-told : goal.returns-clause-told
+returns-clause-told g c = write_told g.row.A.Denot (g.R.ByteReader.remaining c.args.reader.now) c.args.schedule.now

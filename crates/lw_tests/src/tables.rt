@@ -1,11 +1,11 @@
 //! Tables of cases, a line each: a text, a schedule where it isn't empty, and what is told of them,
 //! with ` => ` between them. In texts and pages a `$` stands for a line end, and `<3 ab>` for `ababab`.
-use super::*;
+use crate::devices::{is_told, replay};
 use lw_text::number;
-use std::alloc::AllocError;
+use std::alloc::{AllocError, Global};
 
 /// The first line of the table that doesn't hold.
-pub(super) fn first_other(alloc: Global, table: &str) -> Option<&str> {
+pub(crate) fn first_other(alloc: Global, table: &str) -> Option<&str> {
     for line in table.split('\n') {
         if !line.is_empty() && !holds(alloc, line) {
             return Some(line);
@@ -26,7 +26,7 @@ fn holds(alloc: Global, line: &str) -> bool {
 }
 
 /// The first line of a table of schedules for this text that doesn't hold.
-pub(super) fn first_other_schedule<'t>(
+pub(crate) fn first_other_schedule<'t>(
     alloc: Global,
     text: &str,
     table: &'t str,
@@ -49,7 +49,7 @@ fn holds_for(alloc: Global, text: &str, line: &str) -> bool {
 
 /// Whether the replay of the text by the schedule is told so: by the page that is written, by `read` for
 /// any page, or by the line of its fault, where nothing is written.
-pub(super) fn is_answered(alloc: Global, text: &str, schedule: &str, told: &str) -> bool {
+pub(crate) fn is_answered(alloc: Global, text: &str, schedule: &str, told: &str) -> bool {
     let (Ok(text), Ok(told)) = (spelled(alloc, text), spelled(alloc, told)) else {
         return false;
     };
@@ -61,7 +61,7 @@ pub(super) fn is_answered(alloc: Global, text: &str, schedule: &str, told: &str)
 }
 
 /// The text that these words of a table stand for.
-pub(super) fn spelled(alloc: Global, words: &str) -> Result<String, AllocError> {
+pub(crate) fn spelled(alloc: Global, words: &str) -> Result<String, AllocError> {
     let mut text = String::new(alloc);
     push_spelled(&mut text, words)?;
     text.as_str().replace(alloc, '$', "\n")

@@ -1,7 +1,7 @@
 //! The protocol at work: rows from outside, and a thousand requests beside a plain table.
 mod table;
 
-use crate::tests::caches::table::Table;
+use crate::caches::table::Table;
 use lw_base::{Cpu, Loc, Word};
 use lw_memory::LineState::{self, E, I, M, S};
 use lw_memory::Request::{self, Evict, Load, Store, Swap};

@@ -1,7 +1,6 @@
 //! Names, registers and the table of locations.
 ghost use Rattle.std.specs.Prelude.{◌≡◌, []};
 
-use super::*;
 use lw_base::{Arch, LocNames, Reg, is_location, is_name, reg_name, reg_named};
 use std::alloc::{AllocError, Allocator};
 

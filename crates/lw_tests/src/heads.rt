@@ -1,8 +1,8 @@
 //! What a page doesn't show of a test that was read: what it lists, its quantifier and its condition.
-use super::*;
+use crate::tables::spelled;
 use lw_base::{Head, Prop, Quant, Seen};
 use lw_text::read_frame;
-use std::alloc::Allocator;
+use std::alloc::{Allocator, Global};
 
 /// What stands behind these digits.
 fn after_digits<'s>(spelled: &'s [u8], digits: &[usize]) -> Option<&'s [u8]> {

@@ -1,8 +1,9 @@
 //! The state that a run leaves, as an outcome.
-use super::*;
-use crate::replay::read_test;
-use lw_base::{Cpu, Event};
-use lw_source::{Source, SourceRun};
+use crate::devices::STORE_BUFFERING;
+use lw_base::{Cpu, End, Event};
+use lw_source::{Source, SourceRun, read_source};
+use lw_text::read_frame;
+use std::alloc::Global;
 
 /// Whether a run has left a 1 in each location, and in the first thread's first register alone.
 fn has_left(run: &SourceRun<'_>) -> bool {
@@ -24,7 +25,10 @@ fn leaves(alloc: Global, source: &Source, events: &[Event]) -> bool {
 
 /// Whether the run of store buffering by these steps leaves the first thread's load with a 1.
 fn is_left(alloc: Global, steps: [Cpu; 3]) -> bool {
-    let Ok(source) = read_test(alloc, STORE_BUFFERING.as_bytes()) else {
+    let Ok(frame) = read_frame(alloc, STORE_BUFFERING.as_bytes()) else {
+        return false;
+    };
+    let Ok(source) = read_source(alloc, &frame) else {
         return false;
     };
     let is_left = leaves(alloc, &source, &steps.map(Event::Step));

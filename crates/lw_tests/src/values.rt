@@ -1,9 +1,9 @@
 //! Outcomes and lists.
-use super::*;
 use lw_base::{Outcome, Sequence, Word};
-use std::alloc::AllocError;
+use std::alloc::{AllocError, Global};
 use std::cmp::Ordering;
 use std::collections::HashSet;
+use std::test::Fail;
 
 /// The outcome of these registers and words.
 fn outcome_of(alloc: Global, regs: &[[Word; 6]], words: &[Word]) -> Result<Outcome, AllocError> {

@@ -1,7 +1,7 @@
 use Rattle.std.proofs.Common.{ℕ, ◌≡◌, ◌∷◌, [], ◌++◌, ap, ◌∙◌, sym, subst}
 use Rattle.lw_orders.specs.Progress.{Progress}
 use Rattle.lw_orders.proofs.Runs.{Ran, Ran-start, Ran-more, Ran-end, all_found, each_found}
-use Rattle.lw_bench.proofs.tests.orders.run_all.Goals as goal
+use Rattle.lw_tests.proofs.orders.run_all.Goals as goal
 
 pub loop-order-init : goal.loop-order-init
 loop-order-init g c = Ran-start g.R.Run.end_of c.into_iter-order-iterator.result.to_come c.new-found.result.items c.new-found.ensures.items

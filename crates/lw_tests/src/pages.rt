@@ -1,6 +1,6 @@
 //! Pages of replays, typed in: schedules of store buffering, and whole runs of small tests.
-use super::tables::{first_other, first_other_schedule, is_answered};
-use super::*;
+use crate::devices::STORE_BUFFERING;
+use crate::tables::{first_other, first_other_schedule, is_answered};
 
 /// Schedules of store buffering: whole, cut short, and empty; with an event that is refused, so that the
 /// state is the one before it and nothing behind it is carried out. A source test has no store buffers

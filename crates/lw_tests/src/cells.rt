@@ -1,6 +1,5 @@
 //! Tests whose cells are refused, with the line of their fault.
-use super::tables::first_other;
-use super::*;
+use crate::tables::first_other;
 
 /// Stores and what else begins with a location or a number.
 const STORES: &str = "

@@ -1,6 +1,6 @@
 //! Texts with what is told of them: `read`, or the line of their fault.
-use super::tables::first_other;
-use super::*;
+use crate::devices::is_refused;
+use crate::tables::first_other;
 
 /// The first word, and the name of the test.
 const FIRST_WORDS: &str = "

@@ -1,0 +1,46 @@
+-- Which faults are a device's, and which are not.
+use Rattle.std.proofs.Common.{Bool, true, false, ◌↔◌, ◌≡◌, ◌≢◌, sym, ap, ◌∙◌, Result, Ok, Err, if◌then◌else◌, refl}
+use Rattle.lw_bench.specs.declared.fault.BenchFault.{BenchFault}
+use Rattle.lw_bench.specs.declared.fault.BenchFault.TheVariants.{Memory, Read, Write}
+
+-- two answers that are the same fault
+pub err_is : {T E : Type 0} {a b : E} → (let e : Result T E = Err a in e) ≡ Err b → a ≡ b
+err_is same = cc
+
+ok_apart : {T E : Type 0} {a : T} {b : E} → (let r : Result T E = Ok a in r) ≡ Err b → ⊥
+ok_apart same = cc
+
+unlike : {b : Bool} → b ≡ false → b ≡ true → ⊥
+unlike is_no is_yes = cc
+
+-- no fault of a device is told, and the device has not failed
+pub fault_apart : {T : Type 0} (result : Result T BenchFault) (given fault other : BenchFault) (failed : Bool) → result ≡ Err given → given ≡ fault → fault ≢ other → failed ≡ false → result ≡ Err other ↔ failed ≡ true
+fault_apart result given fault other failed is same apart working =
+    (λ told. absurd (apart (sym same ∙ err_is (sym is ∙ told))), λ yes. absurd (unlike working yes))
+
+memory_is : (let f : BenchFault = Memory in f) ≢ Read
+memory_is same = cc
+
+-- what an input that was not read whole tells
+pub input_told : {T : Type 0} (result : Result T BenchFault) (given fault : BenchFault) (failed : Bool) → result ≡ Err given → given ≡ fault → fault ≡ (if failed then Read else Memory) → result ≡ Err Read ↔ failed ≡ true
+input_told result given fault true is same told = (λ known. refl, λ yes. is ∙ ap (λ f. Err f) (same ∙ told))
+input_told result given fault false is same told = fault_apart result given fault Read false is same (λ other. memory_is (sym told ∙ other)) refl
+
+pub input_apart : (fault : BenchFault) (failed : Bool) → fault ≡ (if failed then Read else Memory) → fault ≢ Write
+input_apart fault true told same = read_is (sym told ∙ same)
+  where
+    read_is : (let f : BenchFault = Read in f) ≢ Write
+    read_is same = cc
+input_apart fault false told same = other (sym told ∙ same)
+  where
+    other : (let f : BenchFault = Memory in f) ≢ Write
+    other same = cc
+
+write_is : (let f : BenchFault = Write in f) ≢ Read
+write_is same = cc
+
+pub write_apart : {T : Type 0} (failed : Bool) → failed ≡ false → (let r : Result T BenchFault = Err Write in r) ≡ Err Read ↔ failed ≡ true
+write_apart failed working = fault_apart (Err Write) Write Write Read failed refl refl write_is working
+
+pub answer_apart : {T : Type 0} (answer : T) (other : BenchFault) (failed : Bool) → failed ≡ false → (let r : Result T BenchFault = Ok answer in r) ≡ Err other ↔ failed ≡ true
+answer_apart answer other failed working = (λ told. absurd (ok_apart told), λ yes. absurd (unlike working yes))

@@ -1,0 +1,74 @@
+-- What a refused run tells of its text, of a cell and of its schedule. Out of memory is told as Memory and as nothing else.
+use Rattle.std.specs.Prelude.{◌≡◌, ◌≢◌, ℕ, ◌<◌, ◌≤◌, Option, List, length}
+use Rattle.std.specs.Option.{IfSome}
+use Rattle.std.specs.Str.{IsUtf8, IsValidUpTo}
+use Rattle.std.specs.Str.Lossy.{utf8_valid_len}
+use Rattle.lw_base.specs.declared.fault.CellCause.TheVariants as cell
+use Rattle.lw_base.specs.declared.fault.CellFault.{CellFault}
+use Rattle.lw_base.specs.declared.fault.ScheduleFault.{ScheduleFault}
+use Rattle.lw_base.specs.declared.event.Event.{Event}
+use Rattle.lw_base.specs.Schedules.{IsSchedule, IsFirstFault}
+use Rattle.lw_text.specs.declared.fault.TextCause.TheVariants as text
+use Rattle.lw_text.specs.declared.fault.TextFault.{TextFault}
+use Rattle.lw_text.specs.declared.frame.Frame.{Frame}
+use Rattle.lw_text.specs.Frames.{TestFrame, HasFrame}
+use Rattle.lw_text.specs.Views.{frame_of, LiesIn}
+use Rattle.lw_source.specs.Cells.{HasSource}
+use Rattle.lw_source.specs.Faults.{Tells}
+use Rattle.lw_source.specs.Sources.{SourceTest}
+use Rattle.lw_bench.specs.declared.fault.BenchFault.{BenchFault}
+use Rattle.lw_bench.specs.declared.fault.BenchFault.TheVariants.{Text, Cell, Schedule, Memory, Read, Write}
+use Rattle.lw_bench.specs.Replays.{HasTest}
+
+-- The text has no frame, and what its length and its UTF-8 say of the fault is so.
+pub record TellsText (bytes : List ℕ) (f : TextFault) : Type 0 where
+  pub none : (frame : TestFrame) → HasFrame bytes frame → ⊥
+  pub place : f.at ≤ length bytes
+  pub too_long : 65536 < length bytes → f ≡ record { at = 65536; cause = text.TooLong }
+  pub only_too_long : f.cause ≡ text.TooLong → 65536 < length bytes
+  pub not_utf8 : length bytes ≤ 65536 → ¬ IsUtf8 bytes → f ≡ record { at = utf8_valid_len bytes; cause = text.NotUtf8 }
+  pub only_not_utf8 : f.cause ≡ text.NotUtf8 → (length bytes ≤ 65536) × (¬ IsUtf8 bytes) × IsValidUpTo bytes f.at
+  pub in_memory : f.cause ≢ text.Memory
+
+-- The text has a frame, whose cells are no test's, and what the cause says of the place is so.
+pub record TellsCell (A : Type 0) (bytes : List ℕ) (f : CellFault) : Type 0 where
+  pub frame : Frame A
+  pub has_frame : HasFrame bytes (frame_of frame)
+  pub lies : LiesIn bytes frame
+  pub none : (test : SourceTest) → HasSource (frame_of frame) test → ⊥
+  pub place : f.at ≤ length bytes
+  pub cause : Tells frame.head.locs frame.cells f.at f.cause
+  pub in_memory : f.cause ≢ cell.Memory
+
+-- The text is a test, and the first faulty word of the schedule stands at the place and is faulty for this cause.
+pub record TellsSchedule (bytes schedule : List ℕ) (f : ScheduleFault) : Type 0 where
+  pub test : SourceTest
+  pub has_test : HasTest bytes test
+  pub none : (events : List Event) → IsSchedule test.head.locs schedule events → ⊥
+  pub first : IsFirstFault test.head.locs schedule f.at f.cause
+
+-- not a device's failure
+abbrev pub IsNoDevice : BenchFault → Type 0
+IsNoDevice f = (f ≢ Read) × (f ≢ Write)
+
+-- what a run tells that reads a test: no fault of a schedule
+abbrev pub TellsTest : Type 0 → List ℕ → BenchFault → Type 0
+TellsTest A bytes (Text f) = TellsText bytes f
+TellsTest A bytes (Cell f) = TellsCell A bytes f
+TellsTest A bytes (Schedule f) = ⊥
+TellsTest A bytes Memory = Unit {0}
+TellsTest A bytes Read = Unit {0}
+TellsTest A bytes Write = Unit {0}
+
+-- what a run tells that reads a schedule too
+abbrev pub TellsReplay : Type 0 → List ℕ → List ℕ → BenchFault → Type 0
+TellsReplay A bytes schedule (Text f) = TellsText bytes f
+TellsReplay A bytes schedule (Cell f) = TellsCell A bytes f
+TellsReplay A bytes schedule (Schedule f) = TellsSchedule bytes schedule f
+TellsReplay A bytes schedule Memory = Unit {0}
+TellsReplay A bytes schedule Read = Unit {0}
+TellsReplay A bytes schedule Write = Unit {0}
+
+-- the same of the bytes of a reader, where they are known
+abbrev pub TellsInput : Type 0 → Option (List ℕ) → List ℕ → BenchFault → Type 0
+TellsInput A known schedule fault = IfSome known (λ bytes. TellsReplay A bytes schedule fault)

@@ -1,0 +1,32 @@
+//! All tests of the workbench: tables of texts, schedules and pages, and values of every crate below.
+//!
+//! It names every crate of the workbench, and only their public calls. A crate with tests is proved twice, with them and
+//! without, so they all stand here, in one crate at the top that nothing stands on.
+#![tactic(auto)]
+
+#[cfg(test)]
+mod caches;
+#[cfg(test)]
+mod cells;
+#[cfg(test)]
+mod devices;
+#[cfg(test)]
+mod heads;
+#[cfg(test)]
+mod memories;
+#[cfg(test)]
+mod names;
+#[cfg(test)]
+mod orders;
+#[cfg(test)]
+mod pages;
+#[cfg(test)]
+mod runs;
+#[cfg(test)]
+mod tables;
+#[cfg(test)]
+mod texts;
+#[cfg(test)]
+mod values;
+#[cfg(test)]
+mod workbench;
