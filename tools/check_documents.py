@@ -1,0 +1,171 @@
+#!/usr/bin/env python3
+"""Runs what the documents say of the program, and compares. The last line is 'N passed, M failed'.
+
+- Transcripts: in README.md, docs/*.md and examples/*.page, a block of lines of which the first is '$ COMMAND'. Behind a
+  command stands what it prints: lines of standard output as they are, lines of standard error behind '2> ', and the exit
+  status, where it is not 0, as '[status N]'. Commands run at the top of the repository.
+- The tables of faults in docs/FORMAT.md, whose rows have an example: what is read, and the place of its fault.
+- Each examples/NAME.litmus has its NAME.page, and docs/MAP.md lists the files as they are.
+- The program where memory is refused: for each n, a run whose nth call for memory is refused (tools/refuse_memory.c).
+"""
+import glob
+import os
+import re
+import subprocess
+import sys
+import tempfile
+
+sys.dont_write_bytecode = True
+import make_map
+
+HOME = os.path.dirname(os.path.dirname(os.path.abspath(__file__)))
+PROGRAM = f"{HOME}/crates/lw/out/lw"
+TWO_THREADS = b"SRC SB\n{}\n P0 | P1 ;\n x := 1 | y := 1 ;\n r0 := y | r0 := x ;\nexists (0:r0=0 /\\ 1:r0=0)\n"
+# Examples of the tables that are told in words.
+IN_WORDS = {
+    "a byte 255 behind `SRC `": b"SRC \xff",
+    "any 65,537 bytes": b"x" * 65537,
+    "65 rows ` ;`": b"SRC G\n{}\n P0 ;\n" + b" ;\n" * 65 + b"exists (true)\n",
+    "17 rows ` r0 := 1 ;`": b"SRC G\n{}\n P0 ;\n" + b" r0 := 1 ;\n" * 17 + b"exists (true)\n",
+}
+
+passed = failed = 0
+
+
+def compare(what, wanted, told):
+    """Counts a comparison, and prints what is wrong."""
+    global passed, failed
+    if wanted == told:
+        passed += 1
+        return
+    failed += 1
+    print(f"{what}\n  wanted: {wanted!r}\n  told:   {told!r}")
+
+
+def run(command, given=b"", **more):
+    """What a command prints on both streams, and its exit status."""
+    ran = subprocess.run(command, input=given, capture_output=True, cwd=HOME, timeout=60, **more)
+    return ran.stdout, ran.stderr, ran.returncode
+
+
+def blocks(text):
+    """The blocks of a document: fenced lines, or lines behind four spaces."""
+    fenced, block = False, []
+    for line in [*text.splitlines(), ""]:
+        if line.startswith("```"):
+            fenced = not fenced
+        elif fenced or line.startswith("    "):
+            block.append(line if fenced else line[4:])
+            continue
+        if block:
+            yield block
+        block = []
+
+
+def transcript(block):
+    """The commands of a block, each with the lines that stand behind it."""
+    commands = []
+    for line in block:
+        if line.startswith("$ "):
+            commands.append((line[2:], []))
+        elif commands:
+            commands[-1][1].append(line)
+    return commands
+
+
+def check_transcript(name, block):
+    for command, lines in transcript(block):
+        status = 0
+        if lines and re.fullmatch(r"\[status \d+\]", lines[-1]):
+            status = int(lines[-1][8:-1])
+            lines = lines[:-1]
+        out = "".join(f"{it}\n" for it in lines if not it.startswith("2> ")).encode()
+        err = "".join(f"{it[3:]}\n" for it in lines if it.startswith("2> ")).encode()
+        compare(f"{name}: {command}", (out, err, status), run(["sh", "-c", command]))
+
+
+def bytes_of(text):
+    r"""What an example of a table stands for: `\n` is a line end, and `\|` a bar."""
+    return text.replace("\\|", "|").replace("\\n", "\n").encode()
+
+
+def check_fault(kind, number, name, example):
+    """A row of a table of faults."""
+    if example in IN_WORDS:
+        given, place = IN_WORDS[example], None
+    else:
+        words = re.fullmatch(r"(.*): at (\d+)", example)
+        text = words and re.fullmatch(r"`(.*)`", words[1])
+        if not words or not text and words[1] not in IN_WORDS:
+            return compare(f"docs/FORMAT.md, {kind} {number}: an example that is not understood", "", example)
+        given, place = bytes_of(text[1]) if text else IN_WORDS[words[1]], words[2]
+    schedule = ""
+    if kind == "cell" and example not in IN_WORDS:
+        given = b"SRC G\n{}\n P0 ;\n" + given + b"\nexists (true)\n"
+    if kind == "schedule":
+        given, schedule = TWO_THREADS, given.decode()
+    out, err, status = run([PROGRAM, "replay", schedule], given)
+    line = re.sub(rb"\d+\n$", b"", err) if place is None else err
+    wanted = f"lw: {kind} {number} {name} at {place or ''}" + ("\n" if place else "")
+    compare(f"docs/FORMAT.md, {kind} fault {number}", (b"", wanted.encode(), 1), (out, line, status))
+
+
+def check_faults():
+    kind = None
+    for line in read("docs/FORMAT.md").splitlines():
+        mistake = re.fullmatch(r"\| .* \| `(.*)` \| `(lw: .*)` \|", line)
+        if mistake:
+            told = run([PROGRAM, "replay", ""], bytes_of(mistake[1]))
+            compare(f"docs/FORMAT.md, a mistake: {mistake[1]}", (b"", f"{mistake[2]}\n".encode(), 1), told)
+            continue
+        begins = re.match(r"\*\*(Text|Cell|Schedule) faults", line)
+        kind = begins[1].lower() if begins else kind
+        row = re.fullmatch(r"\| (\d+) \| (\w+) \| .* \| (.*) \|", line)
+        if kind and row:
+            check_fault(kind, row[1], row[2], row[3])
+
+
+def check_refused_memory(schedule):
+    """Every call for memory of a replay refused in turn, up to the first run that makes fewer calls."""
+    given = open(f"{HOME}/examples/Peterson.litmus", "rb").read()
+    words = [PROGRAM, "replay", schedule]
+    with tempfile.TemporaryDirectory() as room:
+        library, mark = f"{room}/refuse_memory.so", f"{room}/mark"
+        subprocess.run(["cc", "-O1", "-shared", "-fPIC", "-o", library, f"{HOME}/tools/refuse_memory.c"], check=True)
+        for nth in range(1, 10000):
+            refusing = {"LD_PRELOAD": library, "REFUSED_CALL": str(nth), "REFUSED_MARK": mark}
+            told = run(words, given, env={**os.environ, **refusing})
+            if not os.path.exists(mark):
+                break
+            os.remove(mark)
+            compare(f"{schedule}: call {nth} for memory is refused", (b"", b"lw: memory\n", 4), told)
+        compare(f"{schedule}: behind the last call none is refused", run(words, given), told)
+
+
+def read(name):
+    with open(f"{HOME}/{name}", encoding="utf-8") as it:
+        return it.read()
+
+
+def main():
+    os.chdir(HOME)
+    # Where there is no program for the sources as they are, this builds it first.
+    subprocess.run([f"{HOME}/lw"], stdin=subprocess.DEVNULL, stdout=subprocess.DEVNULL)
+    for name in ["README.md", *sorted(glob.glob("docs/*.md"))]:
+        for block in blocks(read(name)):
+            check_transcript(name, block)
+    for name in sorted(glob.glob("examples/*.litmus")):
+        page = name.removesuffix("litmus") + "page"
+        compare(f"{name} has its page", True, os.path.exists(page))
+    for name in sorted(glob.glob("examples/*.page")):
+        check_transcript(name, read(name).splitlines())
+    compare("the list of files in docs/MAP.md (tools/make_map.py writes it)", True, make_map.is_whole())
+    check_faults()
+    for schedule in ["P0 P0 P1 P1", "P0 E0:nowhere"]:
+        check_refused_memory(schedule)
+    print(f"{passed} passed, {failed} failed")
+    return 1 if failed else 0
+
+
+if __name__ == "__main__":
+    sys.exit(main())
