@@ -1,5 +1,5 @@
 -- What requests answer and change where there is one word for each location.
-use Rattle.std.specs.Prelude.{ℕ, List, [], ◌∷◌, Option, Some, None, slice_index, slice_set}
+use Rattle.std.specs.Prelude.{ℕ, List, Option, Some, None, slice_index, slice_set}
 use Rattle.lw_memory.specs.declared.system.Request.{Request}
 use Rattle.lw_memory.specs.declared.system.Request.TheVariants.{Load, Store, Swap, Evict}
 
@@ -16,13 +16,3 @@ content_after words (Load t x) = words
 content_after words (Store t x w) = slice_set words x w
 content_after words (Swap t x w) = slice_set words x w
 content_after words (Evict t x) = words
-
--- The answers of requests that are made in turn.
-abbrev pub answers_of : List ℕ → List Request → List (Option ℕ)
-answers_of words [] = []
-answers_of words (r ∷ rest) = answer_of words r ∷ answers_of (content_after words r) rest
-
--- The words after them.
-abbrev pub content_after_all : List ℕ → List Request → List ℕ
-content_after_all words [] = words
-content_after_all words (r ∷ rest) = content_after_all (content_after words r) rest

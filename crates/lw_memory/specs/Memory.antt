@@ -30,11 +30,11 @@ is_held S = true
 is_held I = false
 
 -- The processor and the location of a request are there.
-abbrev pub IsThere : ℕ → ℕ → Request → Type 0
-IsThere cpus locs (Load t x) = (t < cpus) × (x < locs)
-IsThere cpus locs (Store t x w) = (t < cpus) × (x < locs)
-IsThere cpus locs (Swap t x w) = (t < cpus) × (x < locs)
-IsThere cpus locs (Evict t x) = (t < cpus) × (x < locs)
+abbrev pub IsInRange : ℕ → ℕ → Request → Type 0
+IsInRange cpus locs (Load t x) = (t < cpus) × (x < locs)
+IsInRange cpus locs (Store t x w) = (t < cpus) × (x < locs)
+IsInRange cpus locs (Swap t x w) = (t < cpus) × (x < locs)
+IsInRange cpus locs (Evict t x) = (t < cpus) × (x < locs)
 
 -- An eviction is possible where the processor holds the location, every other request always.
 abbrev pub IsPossible : (ℕ → ℕ → LineState) → Request → Type 0
@@ -57,5 +57,5 @@ module _ {State : Type 0} (mem : Memory State) where
     pub served : (m : State) (r : Request) (a : Option ℕ) (n : State)
         → mem.sound m → mem.serves m r a n → Served m r a n
     pub serves : (m : State) (r : Request)
-        → mem.sound m → IsThere (mem.cpus m) (length (mem.content m)) r → IsPossible (mem.state m) r
+        → mem.sound m → IsInRange (mem.cpus m) (length (mem.content m)) r → IsPossible (mem.state m) r
         → (n : State) × mem.serves m r (answer_of (mem.content m) r) n

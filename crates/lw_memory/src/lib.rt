@@ -4,9 +4,7 @@
 #![tactic(auto)]
 
 mod flat;
-mod requests;
 mod system;
 
 pub use flat::FlatMemory;
-pub use requests::{answer, answer_all};
 pub use system::{LineState, MemorySystem, NotHeld, Request};

@@ -90,18 +90,21 @@ pub trait MemorySystem {
     /// The word that a location ends with, wherever it lies.
     fn word_at_end(&self, loc: Loc) -> Word
         requires { loc < length (content self.now) }
-        ensures { result ≡ slice_index (content self.now) loc };
+        ensures sound { sound self.now }
+        ensures word { result ≡ slice_index (content self.now) loc };
 
     /// The word that a location has in memory.
     fn word_in_memory(&self, loc: Loc) -> Word
         requires { loc < length (content self.now) }
-        ensures { result ≡ slice_index (memory self.now) loc };
+        ensures sound { sound self.now }
+        ensures word { result ≡ slice_index (memory self.now) loc };
 
     /// How a processor holds a location.
     fn state_of(&self, cpu: Cpu, loc: Loc) -> LineState
         requires cpu { cpu < cpus self.now }
         requires loc { loc < length (content self.now) }
-        ensures { result ≡ state self.now cpu loc };
+        ensures sound { sound self.now }
+        ensures letter { result ≡ state self.now cpu loc };
 
     /// How many processors there are.
     fn cpu_count(&self) -> usize

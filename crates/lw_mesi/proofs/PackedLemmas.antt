@@ -2,7 +2,7 @@
 use Rattle.std.proofs.Common.{◌≡◌, ℕ, zero, suc, ◌<◌, Some, true, arith}
 use Rattle.lw_mesi.specs.Places.{nobody}
 use Rattle.lw_mesi.specs.MesiTable.{line_with_word, line_to_write}
-use Rattle.lw_mesi.specs.declared.line.PackedLine.TheInside.{Inside}
+use Rattle.lw_mesi.specs.declared.cache_line.PackedCacheLine.TheInside.{Inside}
 use Rattle.lw_mesi.specs.Packed.{IsPacked, unpacked}
 
 -- One holder, in M.

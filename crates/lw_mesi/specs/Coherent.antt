@@ -2,7 +2,7 @@
 -- follows from it.)
 use Rattle.std.proofs.Common.{◌≡◌, ◌≢◌, ℕ, zero, suc, ◌<◌, List, [], ◌∷◌, length, map, set, Some, None, refl, sym, ap, ◌∙◌, subst, ⊎_elim, arith, get_or-set_same, get_or-set_other}
 use Rattle.std.proofs.lemmas.Bool.{cases_eq}
-use Rattle.lw_mesi.specs.Lines.{Copy, Modified, Exclusive, Shared, Invalid, Line, copy_of, word_of, dirty_or, content_of, IsOnlyCopy, IsDirty, IsCoherentLine}
+use Rattle.lw_mesi.specs.CacheLines.{Copy, Modified, Exclusive, Shared, Invalid, CacheLine, copy_of, word_of, dirty_or, content_of, IsOnlyCopy, IsDirty, IsCoherentCacheLine}
 
 -- A processor's copy, in a row of copies.
 abbrev pub copy_in : List Copy → ℕ → Copy
@@ -52,15 +52,15 @@ only_if_dirty (Shared w) h = h
 only_if_dirty Invalid h = h
 
 -- Every copy holds this word.
-abbrev pub AllHold : Line → ℕ → Type 0
+abbrev pub AllHold : CacheLine → ℕ → Type 0
 AllHold line v = (t w : ℕ) → word_of (copy_of line t) ≡ Some w → w ≡ v
 
 -- No other processor has a copy.
-abbrev pub NobodyElse : Line → ℕ → Type 0
+abbrev pub NobodyElse : CacheLine → ℕ → Type 0
 NobodyElse line t = (u : ℕ) → t ≢ u → copy_of line u ≡ Invalid
 
 -- Nobody has an M or E copy.
-abbrev pub NoOwner : Line → Type 0
+abbrev pub NoOwner : CacheLine → Type 0
 NoOwner line = (t : ℕ) → IsOnlyCopy (copy_of line t) → ⊥
 
 pub no_word : (c : Copy) (w v : ℕ) → c ≡ Invalid → word_of c ≡ Some w → w ≡ v
@@ -69,9 +69,9 @@ no_word c w v e h = let f : word_of c ≡ None = ap word_of e in cc
 pub one_word : (c : Copy) (w v : ℕ) → word_of c ≡ Some v → word_of c ≡ Some w → w ≡ v
 one_word c w v e h = cc
 
-coherent : (line : Line) → length line.copies ≡ 4
+coherent : (line : CacheLine) → length line.copies ≡ 4
     → ((t u : ℕ) → IsOnlyCopy (copy_of line t) → t ≢ u → copy_of line u ≡ Invalid)
-    → AllHold line (content_of line) → IsCoherentLine line
+    → AllHold line (content_of line) → IsCoherentCacheLine line
 coherent line four alone same = record {
   four = four;
   alone = alone;
@@ -81,8 +81,8 @@ coherent line four alone same = record {
 }
 
 -- One processor alone may have a copy.
-pub single : (line : Line) (t : ℕ) → length line.copies ≡ 4 → NobodyElse line t
-    → ((w : ℕ) → word_of (copy_of line t) ≡ Some w → w ≡ content_of line) → IsCoherentLine line
+pub single : (line : CacheLine) (t : ℕ) → length line.copies ≡ 4 → NobodyElse line t
+    → ((w : ℕ) → word_of (copy_of line t) ≡ Some w → w ≡ content_of line) → IsCoherentCacheLine line
 single line t four others word =
     coherent line four
     (at_place t (λ k. (u : ℕ) → IsOnlyCopy (copy_of line k) → k ≢ u → copy_of line u ≡ Invalid)
@@ -93,18 +93,18 @@ single line t four others word =
     (λ u ne w e. no_word (copy_of line u) w (content_of line) (others u ne) e))
 
 -- Nobody has an M or E copy: the content is memory's word.
-pub shared : (line : Line) → length line.copies ≡ 4 → NoOwner line → AllHold line line.memory → IsCoherentLine line
+pub shared : (line : CacheLine) → length line.copies ≡ 4 → NoOwner line → AllHold line line.memory → IsCoherentCacheLine line
 shared line four free same =
     let e : content_of line ≡ line.memory = clean line.memory line.copies (λ t d. free t (only_if_dirty (copy_of line t) d)) in
     coherent line four (λ t u own ne. absurd (free t own)) (λ t w h. same t w h ∙ sym e)
 
 -- A line after a request: its content, and that it is coherent.
-pub record After (v : ℕ) (line : Line) : Type 0 where
+pub record After (v : ℕ) (line : CacheLine) : Type 0 where
   pub content : content_of line ≡ v
-  pub sound : IsCoherentLine line
+  pub sound : IsCoherentCacheLine line
 
 -- Nobody has an M or E copy, and memory has the content.
-pub shared_after : (line : Line) → length line.copies ≡ 4 → NoOwner line → AllHold line line.memory → After line.memory line
+pub shared_after : (line : CacheLine) → length line.copies ≡ 4 → NoOwner line → AllHold line line.memory → After line.memory line
 shared_after line four free same = record {
   content = clean line.memory line.copies (λ t d. free t (only_if_dirty (copy_of line t) d));
   sound = shared line four free same;

@@ -1,7 +1,7 @@
 pub mod Places
-pub mod Lines
+pub mod CacheLines
 pub mod MesiTable
 pub mod Packed
 pub mod Coherent
-pub mod MesiLine
+pub mod MesiCacheLine
 pub mod MesiLaws

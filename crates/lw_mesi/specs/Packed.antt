@@ -1,8 +1,8 @@
 -- What one location's packed record stands for.
 use Rattle.std.specs.Prelude.{◌≡◌, ℕ, ◌<◌, Some, None, Bool, true, false, if◌then◌else◌, slice_index_or, length}
-use Rattle.lw_mesi.specs.declared.line.PackedLine.TheInside.{Inside}
+use Rattle.lw_mesi.specs.declared.cache_line.PackedCacheLine.TheInside.{Inside}
 use Rattle.lw_mesi.specs.Places.{at_each, nobody, is_owner}
-use Rattle.lw_mesi.specs.Lines.{Copy, Modified, Exclusive, Shared, Invalid, Line}
+use Rattle.lw_mesi.specs.CacheLines.{Copy, Modified, Exclusive, Shared, Invalid, CacheLine}
 
 -- The owner's copy, by whether it is dirty.
 abbrev pub owner_copy : Bool → ℕ → Copy
@@ -19,7 +19,7 @@ abbrev pub copy_at : Inside → ℕ → Copy
 copy_at p t = if is_owner p.owner t then owner_copy p.is_dirty p.word else sharer_copy (slice_index_or p.sharers t false) p.word
 
 -- The copies of all processors, with memory's word.
-abbrev pub unpacked : Inside → Line
+abbrev pub unpacked : Inside → CacheLine
 unpacked p = record { copies = at_each (copy_at p); memory = p.memory }
 
 -- What a packed record keeps. Without copies its word is memory's.

@@ -3,8 +3,10 @@
 //! It names lw_base, lw_memory and std alone.
 #![tactic(auto)]
 
+mod cache_line;
 mod cpu_set;
-mod line;
+mod laws;
 mod mesi;
 
+pub use laws::empty_caches_are_coherent;
 pub use mesi::Mesi;

@@ -1,10 +1,10 @@
 //! Caches by the MESI protocol.
 ghost use Rattle.std.specs.Prelude.{◌≡◌, ◌<◌, ◌≤◌, length, map, IfOk};
-ghost use Rattle.lw_mesi.specs.Lines.{unheld_line, copy_of, line_at, word_of, contents_of, memory_words_of, state_in, IsCoherent};
+ghost use Rattle.lw_mesi.specs.CacheLines.{unheld_line, copy_of, line_at, word_of, contents_of, memory_words_of, state_in, IsCoherent};
 ghost use Rattle.lw_mesi.specs.MesiTable.{MesiServes};
 ghost use Rattle.lw_mesi.specs.MesiLaws.{mesi_lawful};
 
-use crate::line::PackedLine;
+use crate::cache_line::PackedCacheLine;
 use lw_base::{Cpu, Loc, Word};
 use lw_memory::{LineState, MemorySystem, NotHeld};
 use std::alloc::{AllocError, Allocator, Global};
@@ -12,18 +12,18 @@ use std::marker::Model;
 
 /// A cache for each processor, which snoop on one atomic bus, over one memory.
 ///
-/// A clause sees for each location the copies in the caches, with memory's word. Every call tells that they are
-/// coherent: one writer or many readers, and one word in all copies.
+/// A clause sees for each location the copies in the caches, with memory's word. Every call of it tells that they
+/// are coherent: one writer or many readers, and one word in all copies.
 #[derive(Drop)]
 #[derive_where(Debug)]
 pub struct Mesi<A: Allocator = Global> {
     cpus: usize,
-    lines: Vec<PackedLine, A>,
+    lines: Vec<PackedCacheLine, A>,
 }
 
 impl<A: Allocator> Model for Mesi<A> {
     ghost use Rattle.std.specs.Prelude.{◌≤◌, length};
-    ghost use Rattle.lw_mesi.specs.Lines.{Caches, IsCoherent};
+    ghost use Rattle.lw_mesi.specs.CacheLines.{Caches, IsCoherent};
 
     ghost Value = { Caches };
 
@@ -33,8 +33,8 @@ impl<A: Allocator> Model for Mesi<A> {
 }
 
 impl<A: Allocator + Copy> Mesi<A> {
-    /// Empty caches of so many processors, over a memory with these words. An error is want of memory; no later call
-    /// takes any.
+    /// Empty caches of so many processors, over a memory with these words. An error is that memory ran out; no later
+    /// call takes any.
     pub fn new(alloc: A, cpus: usize, words: &[Word]) -> Result<Self, AllocError>
         requires cpus { cpus ≤ 4 }
         requires words { length words.now ≤ 8 }
@@ -44,7 +44,7 @@ impl<A: Allocator + Copy> Mesi<A> {
     {
         let lines = words
             .iter()
-            .map(|word| PackedLine::new(*word))
+            .map(|word| PackedCacheLine::new(*word))
             .collect(alloc)?;
         Ok(Mesi { cpus, lines })
     }

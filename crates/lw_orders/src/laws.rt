@@ -1,7 +1,8 @@
 //! The public laws: what holds of all orders, whoever makes them.
 
-ghost use Rattle.std.specs.Prelude.{◌≡◌, ◌↔◌, ℕ, List, Bool, IsTrue};
-ghost use Rattle.lw_orders.specs.Order.{Constraints, IsWellFormed, IsLinearExtension, Alike, is_decided, IsDecided};
+ghost use Rattle.std.specs.Prelude.{◌≡◌, ◌↔◌, ◌<◌, ◌++◌, ◌∷◌, ℕ, List, Bool, IsTrue, All, length};
+ghost use Rattle.lw_orders.specs.Order.{Constraints, IsWellFormed, IsLinearExtension, IsOrder, Once, place, Alike, ExactlyOne, is_decided, IsDecided};
+ghost use Rattle.lw_orders.specs.Sequence.{orders};
 ghost use Rattle.lw_orders.specs.Exchange.{AreJoined, IsKeptByExchanges};
 
 /// Alike orders that keep the fixed pairs are joined by exchanges of neighbours that neither conflict nor are fixed, each
@@ -23,4 +24,23 @@ pub fn alike_orders_agree()
 /// A pair is decided exactly where a walk along the fixed pairs leads from its first item to its second.
 pub fn decided_by_walks()
     ensures { (t : Constraints) → IsWellFormed t → (p : ℕ × ℕ) → IsTrue (is_decided t.fixed p) ↔ IsDecided t.fixed p }
+{}
+
+/// Of any well-formed items: the orders that `Orders` gives keep the fixed pairs, and each order that keeps them is alike
+/// to exactly one that is given.
+pub fn orders_are_complete()
+    ensures each { (t : Constraints) → IsWellFormed t → All (IsLinearExtension t) (orders t) }
+    ensures exactly_one { (t : Constraints) → IsWellFormed t
+        → (o : List ℕ) → IsLinearExtension t o → ExactlyOne (Alike t.conflicts o) (orders t) }
+{}
+
+/// In an order of n items nothing else stands, and each item at one place, where it is found. And a list of these items,
+/// in which each is found and none stands twice, is an order of them.
+pub fn items_stand_once()
+    ensures within { (n : ℕ) (order : List ℕ) → IsOrder n order → All (λ i. i < n) order }
+    ensures once { (n : ℕ) (order : List ℕ) → IsOrder n order → Once order }
+    ensures found { (n i : ℕ) (front rest : List ℕ) → IsOrder n (front ++ i ∷ rest)
+        → place (front ++ i ∷ rest) i ≡ length front }
+    ensures order { (n : ℕ) (xs : List ℕ) → All (λ i. i < n) xs → Once xs
+        → ((i : ℕ) → i < n → place xs i < length xs) → IsOrder n xs }
 {}

@@ -1,19 +1,25 @@
 //! The orders of items, some pairs of which conflict: one order for each way round in which the conflicts can stand.
 //!
-//! There are up to 128 items, numbered from 0. Of a fixed pair the first always stands before the second; a conflicting
+//! There are up to `MAX_ITEMS` items, numbered from 0. Of a fixed pair the first always stands before the second; a conflicting
 //! pair may stand either way round, unless the fixed pairs decide it. Two orders are alike where each conflict stands the
 //! same way round in both. `Orders` gives, of all orders that keep the fixed pairs, exactly one of each kind.
 //!
-//! How a caller covers all orders by a run of each that is given (`run_all` in lw_bench/src/tests/orders.rt is such a
-//! caller):
+//! How a caller covers all orders by a run of each that is given (`run_all` in the tests of orders is such a caller):
 //! 1. A loop `for order in Orders::new(alloc, &items)?` runs each order. What the iterator has still to give is its
 //!    value's list `to_come`: `next` takes its head, so after the loop each order of the first list was run.
 //! 2. Take any order that keeps the fixed pairs. By the clause `exactly_one` of `Orders::new` it is alike to one in that
-//!    list, which by the clause `each` is an order that keeps the fixed pairs too.
+//!    list, which by the clause `each` is an order that keeps the fixed pairs too. (`orders_are_complete` says so of any
+//!    well-formed items, without a call.)
 //! 3. By the law `alike_orders_are_joined` exchanges lead from the one to the other, each of two neighbours that neither
 //!    conflict nor are fixed, all along by orders that keep the fixed pairs. Where each such exchange keeps the end of a
-//!    run, the two runs end alike. So the end of every order was found. (`alike_orders_agree` is this step for a test of
-//!    an order; the lemmas of `proofs/Runs.antt` do the first step and this one for the ends of runs.)
+//!    run, the two runs end alike. So the end of every order was found.
+//!
+//! What a proof above cites in place of these steps, since no clause can speak of ends of any type:
+//! - `proofs/Runs`: `given_alike`, to any order with a property that exchanges keep (that its run stays on its paths and
+//!   has this outcome, say) there is an order that is given and has it; `covered`, what holds of the end of each order
+//!   that is given holds of every order's end; and `Ran` for the loop. `alike_orders_agree` is for a test of an order.
+//! - `proofs/Building`: pairs that a loop makes and pushes are sorted and go up, as `Items::new` requires.
+//! - The law `items_stand_once`: in an order each item stands at one place.
 //!
 //! It names std alone.
 #![tactic(auto)]
@@ -22,11 +28,17 @@ mod greedy;
 mod item_set;
 mod items;
 mod laws;
+mod limits;
 mod order;
 mod orders;
 mod reach;
+mod rows;
 
 pub use items::{Items, count};
-pub use laws::{alike_orders_agree, alike_orders_are_joined, decided_by_walks};
+pub use laws::{
+    alike_orders_agree, alike_orders_are_joined, decided_by_walks, items_stand_once,
+    orders_are_complete,
+};
+pub use limits::{MAX_ITEMS, MAX_ORDERS};
 pub use order::Order;
 pub use orders::Orders;

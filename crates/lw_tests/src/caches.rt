@@ -5,7 +5,7 @@ use crate::caches::table::Table;
 use lw_base::{Cpu, Loc, Word};
 use lw_memory::LineState::{self, E, I, M, S};
 use lw_memory::Request::{self, Evict, Load, Store, Swap};
-use lw_memory::{FlatMemory, MemorySystem, NotHeld, answer_all};
+use lw_memory::{FlatMemory, MemorySystem, NotHeld};
 use lw_mesi::Mesi;
 use std::alloc::Global;
 use std::test::Fail;
@@ -13,8 +13,8 @@ use std::test::Fail;
 /// What a request answers: a word if it has one, or that it is refused.
 type Answer = Result<Option<Word>, NotHeld>;
 
-/// What caches answer to a request of a processor that they have, for a location that they have.
-fn answer_to(memory: &mut Mesi, request: Request) -> Option<Answer> {
+/// What a memory answers to a request of a processor that it has, for a location that it has.
+fn answer_to<M: MemorySystem>(memory: &mut M, request: Request) -> Option<Answer> {
     let (cpu, loc) = match request {
         Load(cpu, loc) | Store(cpu, loc, _) | Swap(cpu, loc, _) | Evict(cpu, loc) => (cpu, loc),
     };
@@ -240,12 +240,18 @@ fn a_thousand_requests(rt: HostRuntime) -> Result<(), Fail> {
     Ok(())
 }
 
-/// Whether these are the answers to the requests of the next test, over locations that begin with 3 and 4.
-fn are_expected(answers: &[Option<Word>]) -> bool {
-    matches!(
-        answers,
-        [Some(4), None, None, Some(3), None, Some(2), Some(1)]
-    )
+/// Whether a memory gives these words to these requests.
+fn are_answered<M: MemorySystem>(memory: &mut M, requests: &[(Request, Option<Word>)]) -> bool {
+    for (request, word) in requests {
+        let given = match answer_to(memory, *request) {
+            Some(Ok(given)) => given,
+            _ => None,
+        };
+        if given != *word {
+            return false;
+        }
+    }
+    true
 }
 
 #[test]
@@ -253,21 +259,17 @@ fn caches_answer_as_flat_memory_does(rt: HostRuntime) -> Result<(), Fail> {
     let (p0, p1) = (Cpu::new(0).ok_or("P0")?, Cpu::new(1).ok_or("P1")?);
     let (x, y) = (Loc::new(0).ok_or("x")?, Loc::new(1).ok_or("y")?);
     let requests = [
-        Load(p1, y),
-        Store(p0, y, 1),
-        Evict(p0, y),
-        Swap(p1, x, 2),
-        Evict(p0, x),
-        Load(p0, x),
-        Load(p1, y),
+        (Load(p1, y), Some(4)),
+        (Store(p0, y, 1), None),
+        (Evict(p0, y), None),
+        (Swap(p1, x, 2), Some(3)),
+        (Evict(p0, x), None),
+        (Load(p0, x), Some(2)),
+        (Load(p1, y), Some(1)),
     ];
     let mut flat = FlatMemory::new(2, &[3, 4]);
-    let mut answers = [None; 7];
-    answer_all(&mut flat, &requests, &mut answers);
-    assert!(rt; are_expected(&answers));
+    assert!(rt; are_answered(&mut flat, &requests));
     let mut caches = Mesi::new(rt.alloc(), 2, &[3, 4])?;
-    let mut answers = [None; 7];
-    answer_all(&mut caches, &requests, &mut answers);
-    assert!(rt; are_expected(&answers));
+    assert!(rt; are_answered(&mut caches, &requests));
     Ok(())
 }

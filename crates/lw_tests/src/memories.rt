@@ -1,6 +1,6 @@
-//! A flat memory, and requests through the bound.
+//! A flat memory.
 use lw_base::{Cpu, Loc};
-use lw_memory::{FlatMemory, LineState, MemorySystem, NotHeld, Request, answer, answer_all};
+use lw_memory::{FlatMemory, LineState, MemorySystem, NotHeld};
 use std::test::Fail;
 
 #[test]
@@ -23,29 +23,5 @@ fn one_word_for_all_processors(rt: HostRuntime) -> Result<(), Fail> {
     assert!(rt; matches!((at_end, in_memory), ((6, 9), (6, 9))));
     let counts = (memory.cpu_count(), memory.location_count());
     assert!(rt; matches!((memory.state_of(second, x), counts), (LineState::I, (2, 2))));
-    Ok(())
-}
-
-#[test]
-fn requests_in_turn(rt: HostRuntime) -> Result<(), Fail> {
-    let first = Cpu::new(0).ok_or("processor 0")?;
-    let second = Cpu::new(1).ok_or("processor 1")?;
-    let x = Loc::new(0).ok_or("location 0")?;
-    let mut memory = FlatMemory::new(2, &[3]);
-    let mut answers = [None; 5];
-    answer_all(
-        &mut memory,
-        &[
-            Request::Load(second, x),
-            Request::Store(first, x, 4),
-            Request::Swap(second, x, 8),
-            Request::Evict(second, x),
-            Request::Load(first, x),
-        ],
-        &mut answers,
-    );
-    assert!(rt; matches!(answers, [Some(3), None, Some(4), None, Some(8)]));
-    let old = answer(&mut memory, Request::Swap(first, x, 1));
-    assert!(rt; matches!((old, memory.word_at_end(x)), (Some(8), 1)));
     Ok(())
 }

@@ -1,11 +1,11 @@
 use Rattle.std.proofs.Common.{sym, subst}
-use Rattle.lw_mesi.specs.Lines.{IsCoherentLine}
-use Rattle.lw_mesi.specs.MesiLine.{load_after}
+use Rattle.lw_mesi.specs.CacheLines.{IsCoherentCacheLine}
+use Rattle.lw_mesi.specs.MesiCacheLine.{load_after}
 use Rattle.lw_mesi.proofs.Kept.{still_kept}
 use Rattle.lw_mesi.proofs.mesi.MesiMemorySystem.load.Goals as goal
 
 pub invariant_of-self : goal.invariant_of-self
 invariant_of-self g c =
     still_kept _ _ c.args.cpu c.args.loc c.index.result _ _ c.self.view_is c.self.invariant.1 c.requires.cpu c.requires.loc c.index.ensures.value c.index_mut-line.ensures.value
-    (λ lt s. subst IsCoherentLine (sym c.load.ensures.line) (load_after c.args.cpu _ lt s).sound)
+    (λ lt s. subst IsCoherentCacheLine (sym c.load.ensures.line) (load_after c.args.cpu _ lt s).sound)
     c.self.invariant.0

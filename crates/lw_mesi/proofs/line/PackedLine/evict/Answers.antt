@@ -1,5 +1,0 @@
-use Rattle.std.proofs.Common.{rules}
-use Rattle.lw_mesi.proofs.line.PackedLine.evict.Goals as goal
-
-pub returns-in-I-clause-held : goal.returns-in-I-clause-held
-returns-in-I-clause-held c = search rules

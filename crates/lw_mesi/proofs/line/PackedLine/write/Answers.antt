@@ -1,5 +1,0 @@
-use Rattle.lw_mesi.proofs.PackedLemmas.{write_only}
-use Rattle.lw_mesi.proofs.line.PackedLine.write.Goals as goal
-
-pub returns-clause-line : goal.returns-clause-line
-returns-clause-line c = rw (← c.self.view_is, c.new-self-inside.ensures) (write_only _ c.args.cpu c.args.word c.self.invariant c.requires)

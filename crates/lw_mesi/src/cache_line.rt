@@ -1,0 +1,170 @@
+//! One location's copies and memory's word, packed into one record.
+ghost use Rattle.std.specs.Prelude.{◌≡◌, ◌<◌, Some, is_ok, OnOk, OnErr};
+ghost use Rattle.lw_memory.specs.Memory.{is_held};
+ghost use Rattle.lw_mesi.specs.CacheLines.{Invalid, unheld_line, copy_of, letter_of, word_of, content_of};
+ghost use Rattle.lw_mesi.specs.MesiTable.{get_s, line_to_read, line_to_write, line_with_word, on_evict};
+ghost use Rattle.lw_mesi.specs.Places.{is_owner};
+
+use crate::cpu_set::CpuSet;
+use lw_base::{Cpu, Word};
+use lw_memory::{LineState, NotHeld};
+use std::marker::Model;
+
+/// The copies of one location. A clause sees each processor's copy, and memory's word.
+#[derive(Debug, Drop)]
+pub struct PackedCacheLine {
+    /// Who holds the line in M or E.
+    owner: Option<Cpu>,
+    /// Whether the owner's copy is in M.
+    is_dirty: bool,
+    /// Who holds it in S.
+    sharers: CpuSet,
+    /// The word of all copies; memory's where there are none.
+    word: Word,
+    memory: Word,
+}
+
+impl Model for PackedCacheLine {
+    ghost use Rattle.lw_mesi.specs.CacheLines.{CacheLine};
+
+    ghost Value = { CacheLine };
+
+    ghost use Rattle.lw_mesi.specs.Packed.{IsPacked, unpacked};
+
+    ghost view = { unpacked };
+
+    ghost invariant = { IsPacked };
+}
+
+impl PackedCacheLine {
+    /// No copies, and this word in memory.
+    pub fn new(word: Word) -> Self
+        ensures { result ≡ unheld_line word }
+    {
+        PackedCacheLine {
+            owner: None,
+            is_dirty: false,
+            sharers: CpuSet::new(),
+            word,
+            memory: word,
+        }
+    }
+
+    /// How a processor holds the line.
+    pub fn state_of(&self, cpu: Cpu) -> LineState
+        requires { cpu < 4 }
+        ensures { result ≡ letter_of (copy_of self.now cpu) }
+    {
+        if is_owner(self.owner, cpu) {
+            if self.is_dirty {
+                LineState::M
+            } else {
+                LineState::E
+            }
+        } else if self.sharers.contains(cpu) {
+            LineState::S
+        } else {
+            LineState::I
+        }
+    }
+
+    /// The word that the location ends with.
+    pub fn word(&self) -> Word
+        ensures { result ≡ content_of self.now }
+    {
+        self.word
+    }
+
+    /// The word that the location has in memory.
+    pub fn word_in_memory(&self) -> Word
+        ensures { result ≡ self.now.memory }
+    {
+        self.memory
+    }
+
+    /// The word of a processor's copy, where it has one.
+    pub fn copy(&self, cpu: Cpu) -> Option<Word>
+        requires { cpu < 4 }
+        ensures { result ≡ word_of (copy_of self.now cpu) }
+    {
+        if is_owner(self.owner, cpu) || self.sharers.contains(cpu) {
+            Some(self.word)
+        } else {
+            None
+        }
+    }
+
+    /// The word that a processor's load takes.
+    pub fn load(&mut self, cpu: Cpu) -> Word
+        requires { cpu < 4 }
+        ensures word { Some result ≡ word_of (copy_of (line_to_read cpu self.old) cpu) }
+        ensures line { self.new ≡ line_to_read cpu self.old }
+    {
+        match self.copy(cpu) {
+            Some(word) => word,
+            None => self.get_s(cpu),
+        }
+    }
+
+    /// The bus transaction of a load without a copy, and the word that it brings.
+    fn get_s(&mut self, cpu: Cpu) -> Word
+        requires cpu { cpu < 4 }
+        requires without { copy_of self.old cpu ≡ Invalid }
+        ensures word { Some result ≡ word_of (copy_of (get_s cpu self.old) cpu) }
+        ensures line { self.new ≡ get_s cpu self.old }
+    {
+        let word = self.word;
+        match self.owner.take() {
+            Some(owner) => {
+                self.memory = self.word;
+                self.is_dirty = false;
+                self.sharers.insert(owner);
+                self.sharers.insert(cpu);
+            }
+            None if self.sharers.is_empty() => self.owner = Some(cpu),
+            None => self.sharers.insert(cpu),
+        }
+        word
+    }
+
+    /// Writes a word, and answers the one that it replaces. The writer becomes the only holder, in M.
+    pub fn write(&mut self, cpu: Cpu, word: Word) -> Word
+        requires { cpu < 4 }
+        ensures word { Some result ≡ word_of (copy_of (line_to_write cpu self.old) cpu) }
+        ensures line { self.new ≡ line_with_word cpu word (line_to_write cpu self.old) }
+    {
+        let old = self.word;
+        self.owner = Some(cpu);
+        self.is_dirty = true;
+        self.sharers = CpuSet::new();
+        self.word = word;
+        old
+    }
+
+    /// Lets a processor's copy go, the word of one in M to memory.
+    pub fn evict(&mut self, cpu: Cpu) -> Result<(), NotHeld>
+        requires { cpu < 4 }
+        ensures held { is_ok result ≡ is_held (letter_of (copy_of self.old cpu)) }
+        ensures ok { OnOk result (self.new ≡ on_evict (copy_of self.old cpu) cpu self.old) }
+        ensures err { OnErr result (self.new ≡ self.old) }
+    {
+        match self.state_of(cpu) {
+            LineState::M => {
+                self.memory = self.word;
+                self.is_dirty = false;
+                self.owner = None;
+            }
+            LineState::E => self.owner = None,
+            LineState::S => self.sharers.remove(cpu),
+            LineState::I => return Err(NotHeld),
+        }
+        Ok(())
+    }
+}
+
+/// Whether the owner is this processor.
+fn is_owner(owner: Option<Cpu>, cpu: Cpu) -> bool
+    ensures { result ≡ is_owner owner cpu }
+{
+    owner == Some(cpu)
+}

@@ -1,0 +1,41 @@
+//! Rows: a set of items for each item.
+
+ghost use Rattle.std.specs.Prelude.{◌≡◌, ℕ, ◌<◌, ◌||◌, slice_index};
+ghost use Rattle.lw_orders.specs.Sequence.{Within};
+ghost use Rattle.lw_orders.specs.Sets.{has, joins, AreRows};
+
+use crate::item_set::ItemSet;
+use crate::limits::MAX_ITEMS;
+
+/// A set for each item.
+pub type Rows = [ItemSet; MAX_ITEMS];
+
+/// The set of an item.
+pub fn row(rows: &Rows, item: usize) -> ItemSet
+    requires { item < MAX_ITEMS }
+    ensures { result ≡ slice_index rows.now item }
+{
+    rows[item]
+}
+
+/// For each item the set of those from which a pair leads to it.
+pub fn rows_of(pairs: &[(u8, u8)]) -> Rows
+    requires { Within MAX_ITEMS pairs.now }
+    ensures { AreRows pairs.now result }
+{
+    let mut rows = [ItemSet::empty(); MAX_ITEMS];
+    add_pairs(&mut rows, pairs);
+    rows
+}
+
+/// Puts the first item of each pair into the set of its second.
+pub fn add_pairs(rows: &mut Rows, pairs: &[(u8, u8)])
+    requires { Within MAX_ITEMS pairs.now }
+    ensures { (i j : ℕ) → i < MAX_ITEMS → j < MAX_ITEMS →
+        has (slice_index rows.new i) j ≡ (has (slice_index rows.old i) j || joins pairs.now j i) }
+{
+    for pair in pairs {
+        let (first, second) = *pair;
+        rows[second as usize] = row(rows, second as usize).with(first as usize);
+    }
+}
