@@ -103,12 +103,17 @@ SRC A {} P0 | P1; goto L | x + ; exists (x=1) => lw: cell 3 LabelMissing at 23
 const NINTH_LOCATION: &str = "
 SRC A {} P0; i +; exists (a=1/\\b=1/\\c=1/\\d=1/\\e=1/\\f=1/\\g=1/\\h=1) => lw: cell 6 TooMany at 13
 SRC A {} P0; a := 1; r0 := i j; exists (a=1/\\b=1/\\c=1/\\d=1/\\e=1/\\f=1/\\g=1/\\h=1) => lw: cell 6 TooMany at 27
+SRC A {} P0; r0 := swap i r1; exists (a=1/\\b=1/\\c=1/\\d=1/\\e=1/\\f=1/\\g=1/\\h=1) => lw: cell 6 TooMany at 24
+SRC A {} P0; i: a := 1; exists (a=1/\\b=1/\\c=1/\\d=1/\\e=1/\\f=1/\\g=1/\\h=1) => read
 SRC A {} P0|P1; a := 1 | e := 1; b := 1 | f := 1; c := 1 | g := 1; d := 1 | h := 1; | r0 := i; | r1 := x y; exists (a=1) => lw: cell 6 TooMany at 92
 ";
 
 /// A statement behind sixteen.
 const SEVENTEENTH_STATEMENT: &str = "
 SRC A {} P0; <16 x := 1; >x := 1; exists (x=1) => lw: cell 6 TooMany at 141
+SRC A {} P0; <16 x := 1; >L: x := 1; exists (x=1) => lw: cell 6 TooMany at 144
+SRC A {} P0; <16 x := 1; >L: M:; exists (x=1) => read
+SRC A {} P0; <16 x := 1; >+ 1; exists (x=1) => lw: cell 1 Form at 141
 SRC A {} P0; <16 x := 1; >y +; exists (x=1) => lw: cell 6 TooMany at 141
 SRC A {} P0; <16 x := 1; >r0 := r9; exists (x=1) => lw: cell 6 TooMany at 141
 SRC A {} P0; <16 x := 1; >goto +; exists (x=1) => lw: cell 6 TooMany at 141
