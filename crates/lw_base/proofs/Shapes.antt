@@ -1,31 +1,32 @@
 -- Words of an event's shape, and words that are refused.
-use Rattle.std.proofs.Common.{rules, ◌≡◌, ◌≢◌, ℕ, zero, suc, ◌<◌, ◌+◌, ◌==◌, ◌⊎◌, inl, inr, true, false, List, [], ◌∷◌, ◌++◌, length, refl, sym, ap, ◌∙◌, subst, arith}
+use Rattle.std.proofs.Common.{rules, ◌≡◌, ◌≢◌, ℕ, zero, suc, ◌<◌, ◌+◌, ◌==◌, inl, inr, true, false, [], ◌∷◌, ◌++◌, length, refl, sym, ap, ◌∙◌, subst, arith}
 use Rattle.std.proofs.lemmas.Bool.{true≢false}
 use Rattle.std.proofs.lemmas.List.Elements.{Contains-get_or}
 use Rattle.std.proofs.lemmas.Option.{slice_get_within, get_or_from_slice_get}
 use Rattle.std.specs.Prelude.{slice_get, slice_index_or, Some, Contains}
 use Rattle.std.specs.Char.{is_ascii_digit}
 use Rattle.std.specs.List.{AllByRecursion, list_all}
+use Rattle.lw_base.specs.Types.{Bytes, NameTable}
 use Rattle.lw_base.specs.Names.{IsLocation, IsWordText, IsTable, are_digits}
-use Rattle.lw_base.specs.Schedules.{HasParts, HasShape, IsCpu, IsFaulty, IsEvent, event_word}
+use Rattle.lw_base.specs.Schedules.{HasParts, HasShape, HasBadDigits, IsCpu, IsFaulty, IsEvent, event_word}
 use Rattle.lw_base.proofs.Schedules.{apart}
 use Rattle.lw_base.specs.declared.event.Event.{Event}
 use Rattle.lw_base.specs.declared.event.Event.TheVariants.{Step, Drain, Evict}
 use Rattle.lw_base.specs.declared.fault.ScheduleCause.{ScheduleCause}
 use Rattle.lw_base.specs.declared.fault.ScheduleCause.TheVariants.{Word, Cpu, Location, Memory}
 
-behind : (a b : ℕ) (u v : List ℕ) → a ∷ u ≡ b ∷ v → u ≡ v
+behind : (a b : ℕ) (u v : Bytes) → a ∷ u ≡ b ∷ v → u ≡ v
 behind a b u v same = cc
 
 -- digits have no `:`
-no_colon : (ds : List ℕ) → list_all is_ascii_digit ds ≡ true → AllByRecursion (λ b. b ≢ 58) ds
+no_colon : (ds : Bytes) → list_all is_ascii_digit ds ≡ true → AllByRecursion (λ b. b ≢ 58) ds
 no_colon [] h = tt
 no_colon (b ∷ ds) h =
     let front : is_ascii_digit b ≡ true = search rules in
     let rest : list_all is_ascii_digit ds ≡ true = search rules in
     ((λ e. let k : is_ascii_digit 58 ≡ true = subst (λ c. is_ascii_digit c ≡ true) e front in absurd (true≢false (sym k))), no_colon ds rest)
 
-digits_no_colon : (ds : List ℕ) → are_digits ds ≡ true → AllByRecursion (λ b. b ≢ 58) ds
+digits_no_colon : (ds : Bytes) → are_digits ds ≡ true → AllByRecursion (λ b. b ≢ 58) ds
 digits_no_colon [] h = tt
 digits_no_colon (b ∷ ds) h =
     let some : (length (b ∷ ds) == 0) ≡ false = search rules in
@@ -33,7 +34,7 @@ digits_no_colon (b ∷ ds) h =
     no_colon (b ∷ ds) all
 
 -- a text has one first `:`
-cut_once : (a c n m : List ℕ) → AllByRecursion (λ b. b ≢ 58) a → AllByRecursion (λ b. b ≢ 58) c → a ++ 58 ∷ n ≡ c ++ 58 ∷ m → (a ≡ c) × (n ≡ m)
+cut_once : (a c n m : Bytes) → AllByRecursion (λ b. b ≢ 58) a → AllByRecursion (λ b. b ≢ 58) c → a ++ 58 ∷ n ≡ c ++ 58 ∷ m → (a ≡ c) × (n ≡ m)
 cut_once [] [] n m h k e = (refl, cc)
 cut_once [] (d ∷ c) n m h k e = absurd (k.0 cc)
 cut_once (b ∷ a) [] n m h k e = absurd (h.0 cc)
@@ -44,16 +45,12 @@ cut_once (b ∷ a) (d ∷ c) n m h k e =
     let q : a ≡ c = p.0 in
     (cc, p.1)
 
--- what is wrong with the digits of a word
-abbrev pub BadDigits : List ℕ → ScheduleCause → Type 0
-BadDigits ds e = ((e ≡ Word) × (are_digits ds ≡ false)) ⊎ ((e ≡ Cpu) × (are_digits ds ≡ true) × (IsCpu ds → ⊥))
-
-colon_there : (ds n : List ℕ) → AllByRecursion (λ b. b ≢ 58) (ds ++ 58 ∷ n) → ⊥
+colon_there : (ds n : Bytes) → AllByRecursion (λ b. b ≢ 58) (ds ++ 58 ∷ n) → ⊥
 colon_there [] n h = h.0 refl
 colon_there (b ∷ ds) n h = colon_there ds n h.1
 
 -- a text behind `E` that has no `:`
-pub uncut : (names : List (List ℕ)) (text : List ℕ) → AllByRecursion (λ b. b ≢ 58) text → IsFaulty names (69 ∷ text) Word
+pub uncut : (names : NameTable) (text : Bytes) → AllByRecursion (λ b. b ≢ 58) text → IsFaulty names (69 ∷ text) Word
 uncut names text others ds shape = go shape.1
   where
     go : HasParts (69 ∷ text) ds → ⊥
@@ -62,8 +59,8 @@ uncut names text others ds shape = go shape.1
     go (inr (inr h)) = colon_there ds h.0 (subst (AllByRecursion (λ b. b ≢ 58)) (behind 69 69 _ _ h.2) others)
 
 -- A text behind `E`, cut at its first `:`.
-module _ (names : List (List ℕ)) (text digits name : List ℕ) (cut : text ≡ digits ++ 58 ∷ name) (others : AllByRecursion (λ b. b ≢ 58) digits) where
-  eviction : (ds : List ℕ) → HasShape (69 ∷ text) ds → (digits ≡ ds) × IsWordText name
+module _ (names : NameTable) (text digits name : Bytes) (cut : text ≡ digits ++ 58 ∷ name) (others : AllByRecursion (λ b. b ≢ 58) digits) where
+  eviction : (ds : Bytes) → HasShape (69 ∷ text) ds → (digits ≡ ds) × IsWordText name
   eviction ds shape = go shape.1
     where
       go : HasParts (69 ∷ text) ds → (digits ≡ ds) × IsWordText name
@@ -77,9 +74,11 @@ module _ (names : List (List ℕ)) (text digits name : List ℕ) (cut : text ≡
   pub no_name : (IsWordText name → ⊥) → IsFaulty names (69 ∷ text) Word
   no_name none ds shape = none (eviction ds shape).1
 
-  pub no_cpu : IsWordText name → (e : ScheduleCause) → BadDigits digits e → IsFaulty names (69 ∷ text) e
-  no_cpu named e (inl h) = rw h.0 (λ ds shape. true≢false (sym shape.0 ∙ ap are_digits (sym (eviction ds shape).0) ∙ h.1))
-  no_cpu named e (inr h) = rw h.0 (digits, (h.1, inr (inr (name, named, ap (λ t. 69 ∷ t) cut))), h.2)
+  pub no_cpu : IsWordText name → (e : ScheduleCause) → HasBadDigits digits e → IsFaulty names (69 ∷ text) e
+  no_cpu named Word bad = λ ds shape. true≢false (sym shape.0 ∙ ap are_digits (sym (eviction ds shape).0) ∙ bad)
+  no_cpu named Cpu bad = (digits, (bad.0, inr (inr (name, named, ap (λ t. 69 ∷ t) cut))), bad.1)
+  no_cpu named Location bad = absurd bad
+  no_cpu named Memory bad = absurd bad
 
   pub no_location : IsWordText name → IsCpu digits → (Contains names name → ⊥) → IsFaulty names (69 ∷ text) Location
   no_location named cpu missing = (digits, name, cpu, named, ap (λ t. 69 ∷ t) cut, missing)
@@ -90,7 +89,7 @@ module _ (names : List (List ℕ)) (text digits name : List ℕ) (cut : text ≡
       ((h, slice_get_within names l name at), ap (λ t. 69 ∷ t) (rw (cut, digit, named) refl))
 
 -- the names of a table
-location_at : (names : List (List ℕ)) (l : ℕ) → AllByRecursion IsLocation names → l < length names → IsLocation (slice_index_or names l [])
+location_at : (names : NameTable) (l : ℕ) → AllByRecursion IsLocation names → l < length names → IsLocation (slice_index_or names l [])
 location_at [] l all h = absurd (omega arith)
 location_at (n ∷ names) zero all h = all.0
 location_at (n ∷ names) (suc l) all h = location_at names l all.1 (omega arith)
@@ -103,13 +102,13 @@ one_digit (suc (suc (suc zero))) h = refl
 one_digit (suc (suc (suc (suc c)))) h = absurd (omega arith)
 
 -- the shape of an event's word
-shape_of : (names : List (List ℕ)) → IsTable names → (e : Event) → IsEvent names e → (ds : List ℕ) × IsCpu ds × HasShape (event_word names e) ds
+shape_of : (names : NameTable) → IsTable names → (e : Event) → IsEvent names e → (ds : Bytes) × IsCpu ds × HasShape (event_word names e) ds
 shape_of names table (Step c) is = ((48 + c) ∷ [], (c, is, refl), (one_digit c is, inl refl))
 shape_of names table (Drain c) is = ((48 + c) ∷ [], (c, is, refl), (one_digit c is, inr (inl refl)))
 shape_of names table (Evict c l) is = ((48 + c) ∷ [], (c, is.0, refl), (one_digit c is.0, inr (inr (slice_index_or names l [], (location_at names l table.all is.1).0.0, refl))))
 
 -- a word has its shape with one row of digits
-one_shape : (w ds es : List ℕ) → HasShape w ds → HasShape w es → ds ≡ es
+one_shape : (w ds es : Bytes) → HasShape w ds → HasShape w es → ds ≡ es
 one_shape w ds es shape other = go shape.1 other.1
   where
     go : HasParts w ds → HasParts w es → ds ≡ es
@@ -126,7 +125,7 @@ one_shape w ds es shape other = go shape.1 other.1
         (cut_once ds es e.0 f.0 (digits_no_colon ds shape.0) (digits_no_colon es other.0) same).0
 
 -- a refused word is no event's
-pub no_event : (names : List (List ℕ)) → IsTable names → (w : List ℕ) (cause : ScheduleCause) → IsFaulty names w cause → (e : Event) → IsEvent names e → event_word names e ≡ w → ⊥
+pub no_event : (names : NameTable) → IsTable names → (w : Bytes) (cause : ScheduleCause) → IsFaulty names w cause → (e : Event) → IsEvent names e → event_word names e ≡ w → ⊥
 no_event names table w Word faulty e is same =
     let s = shape_of names table e is in
     faulty s.0 (subst (λ v. HasShape v s.0) same s.2)

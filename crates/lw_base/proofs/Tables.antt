@@ -1,6 +1,7 @@
 -- Where a name stands in a table, and a table with one name more.
+use Rattle.lw_base.specs.Types.{Bytes, NameTable}
 use Rattle.lw_base.specs.Names.{IsLocation, EachOnce, IsTable}
-use Rattle.lw_base.specs.Tables.{is_there, with_name, place_of}
+use Rattle.lw_base.specs.Tables.{contains_name, with_name, index_of}
 use Rattle.std.specs.Str.{bytes_eq}
 use Rattle.std.proofs.lemmas.Bool.{false_from_ne_true, true≢false}
 use Rattle.std.specs.List.{AllByRecursion}
@@ -12,7 +13,7 @@ use Rattle.std.specs.Cmp.{unsigned_Decides}
 use Rattle.std.specs.Cmp.Lexicographic.{pointwise, pointwise_decides}
 use Rattle.std.proofs.lemmas.Option.{slice_get-map, slice_get_read, slice_get_within, get_or_from_slice_get}
 
-module _ {S : Type 0} (f : S → List ℕ) (ss : List S) (p : ℕ) (s : S) (t name : List ℕ) (lt : p < length ss) (is : s ≡ get_or ss p s) (text : t ≡ f s) where
+module _ {S : Type 0} (f : S → Bytes) (ss : List S) (p : ℕ) (s : S) (t name : Bytes) (lt : p < length ss) (is : s ≡ get_or ss p s) (text : t ≡ f s) where
   at_place : slice_get (map f ss) p ≡ Some t
   at_place = slice_get-map f ss p ∙ ap (option_map f) (slice_get_read ss (length ss) p s refl lt is) ∙ ap Some (sym text)
 
@@ -27,7 +28,7 @@ module _ {S : Type 0} (f : S → List ℕ) (ss : List S) (p : ℕ) (s : S) (t na
       subst (λ (i : ℕ). slice_get (map f ss) i ≡ Some name) (sym h.1) (at_place ∙ ap Some ((pointwise_decides unsigned_Decides t name).0 same))
 
 -- one more name that is none of them
-pub once_more : (ns : List (List ℕ)) (n : List ℕ) → EachOnce ns → (Contains ns n → ⊥) → EachOnce (ns ++ n ∷ [])
+pub once_more : (ns : NameTable) (n : Bytes) → EachOnce ns → (Contains ns n → ⊥) → EachOnce (ns ++ n ∷ [])
 once_more [] n once fresh = ((λ h. let k : h.0 < 0 = h.1 in absurd (omega arith)), tt)
 once_more (m ∷ ns) n once fresh =
     ((λ h. apart (Contains-push_cases ns n m h)), once_more ns n once.1 (λ h. fresh (Contains-append_right (m ∷ []) ns n h)))
@@ -36,19 +37,19 @@ once_more (m ∷ ns) n once fresh =
     apart (inl h) = once.0 h
     apart (inr e) = fresh (0, omega arith, sym e)
 
-all_more : (ns : List (List ℕ)) (n : List ℕ) → AllByRecursion IsLocation ns → IsLocation n → AllByRecursion IsLocation (ns ++ n ∷ [])
+all_more : (ns : NameTable) (n : Bytes) → AllByRecursion IsLocation ns → IsLocation n → AllByRecursion IsLocation (ns ++ n ∷ [])
 all_more [] n all is = (is, tt)
 all_more (m ∷ ns) n all is = (all.0, all_more ns n all.1 is)
 
-pub names_more : {S : Type 0} (f : S → List ℕ) (ss ts : List S) (s : S) (name : List ℕ) → ts ≡ ss ++ s ∷ [] → f s ≡ name → map f ts ≡ map f ss ++ name ∷ []
+pub names_more : {S : Type 0} (f : S → Bytes) (ss ts : List S) (s : S) (name : Bytes) → ts ≡ ss ++ s ∷ [] → f s ≡ name → map f ts ≡ map f ss ++ name ∷ []
 names_more f ss ts s name more text = ap (map f) more ∙ map-append f ss (s ∷ []) ∙ ap (λ n. map f ss ++ n ∷ []) text
 
 -- a list that is copied item by item, up to and with an item
-pub copied_more : {S : Type 0} (f : S → List ℕ) (us ss ts : List S) (s t : S) (k : ℕ) → k < length us → map f ss ≡ map f (take k us) → ts ≡ ss ++ s ∷ [] → f s ≡ f t → t ≡ get_or us k t → map f ts ≡ map f (take (k + 1) us)
+pub copied_more : {S : Type 0} (f : S → Bytes) (us ss ts : List S) (s t : S) (k : ℕ) → k < length us → map f ss ≡ map f (take k us) → ts ≡ ss ++ s ∷ [] → f s ≡ f t → t ≡ get_or us k t → map f ts ≡ map f (take (k + 1) us)
 copied_more f us ss ts s t k lt done more same is =
     names_more f ss ts s (f t) more same ∙ ap (λ ns. ns ++ f t ∷ []) done ∙ sym (ap (map f) (take_more us k t lt) ∙ map-append f (take k us) (get_or us k t ∷ []) ∙ ap (λ x. map f (take k us) ++ f x ∷ []) (sym is))
 
-pub table_more : (names : List (List ℕ)) (name : List ℕ) → length names < 8 → IsLocation name → (Contains names name → ⊥) → IsTable names → IsTable (names ++ name ∷ [])
+pub table_more : (names : NameTable) (name : Bytes) → length names < 8 → IsLocation name → (Contains names name → ⊥) → IsTable names → IsTable (names ++ name ∷ [])
 table_more names name few is fresh table =
     record {
       few = omega (arith, length-append names (name ∷ []));
@@ -61,10 +62,10 @@ pub last_place : (o : Option ℕ) (p at n : ℕ) → SomeIff o (p < 8) p → p �
 last_place None p at n is e few same = absurd (is (omega arith))
 last_place (Some loc) p at n is e few same = let h : loc ≡ at = cc in sym h ∙ is.1 ∙ e
 
-same_bytes : (a b : List ℕ) → a ≡ b → bytes_eq a b ≡ true
+same_bytes : (a b : Bytes) → a ≡ b → bytes_eq a b ≡ true
 same_bytes a b e = (pointwise_decides unsigned_Decides a b).1 e
 
-other_bytes : (a b : List ℕ) → (a ≡ b → ⊥) → bytes_eq a b ≡ false
+other_bytes : (a b : Bytes) → (a ≡ b → ⊥) → bytes_eq a b ≡ false
 other_bytes a b n = false_from_ne_true (bytes_eq a b) (λ e. n ((pointwise_decides unsigned_Decides a b).0 e))
 
 or_right : (a : Bool) → (a || true) ≡ true
@@ -72,32 +73,32 @@ or_right true = refl
 or_right false = refl
 
 -- a name that is in the table
-pub is_there-Contains : (names : List (List ℕ)) (n : List ℕ) → Contains names n → is_there names n ≡ true
-is_there-Contains [] n h = let k : h.0 < 0 = h.1 in absurd (omega arith)
-is_there-Contains (m ∷ names) n h = go h.0 h.1 h.2 (is_there-Contains names n)
+pub contains_name-Contains : (names : NameTable) (n : Bytes) → Contains names n → contains_name names n ≡ true
+contains_name-Contains [] n h = let k : h.0 < 0 = h.1 in absurd (omega arith)
+contains_name-Contains (m ∷ names) n h = go h.0 h.1 h.2 (contains_name-Contains names n)
   where
-    go : (k : ℕ) → k < length (m ∷ names) → get_or (m ∷ names) k n ≡ n → (Contains names n → is_there names n ≡ true) → is_there (m ∷ names) n ≡ true
+    go : (k : ℕ) → k < length (m ∷ names) → get_or (m ∷ names) k n ≡ n → (Contains names n → contains_name names n ≡ true) → contains_name (m ∷ names) n ≡ true
     go zero l e further = rw (same_bytes m n e) refl
     go (suc k) l e further = rw (further (k, omega arith, e)) (or_right (bytes_eq m n))
 
-is_there-not : (names : List (List ℕ)) (n : List ℕ) → (Contains names n → ⊥) → is_there names n ≡ false
-is_there-not [] n h = refl
-is_there-not (m ∷ names) n h = rw (other_bytes m n (λ e. h (0, omega arith, e)), is_there-not names n (λ k. h (Contains-append_right (m ∷ []) names n k))) refl
+contains_name-not : (names : NameTable) (n : Bytes) → (Contains names n → ⊥) → contains_name names n ≡ false
+contains_name-not [] n h = refl
+contains_name-not (m ∷ names) n h = rw (other_bytes m n (λ e. h (0, omega arith, e)), contains_name-not names n (λ k. h (Contains-append_right (m ∷ []) names n k))) refl
 
-pub with_name-there : (names : List (List ℕ)) (n : List ℕ) (l : ℕ) → slice_get names l ≡ Some n → with_name names n ≡ names
-with_name-there names n l at = rw (is_there-Contains names n (l, slice_get_within names l n at, get_or_from_slice_get names l n n at)) refl
+pub with_name-there : (names : NameTable) (n : Bytes) (l : ℕ) → slice_get names l ≡ Some n → with_name names n ≡ names
+with_name-there names n l at = rw (contains_name-Contains names n (l, slice_get_within names l n at, get_or_from_slice_get names l n n at)) refl
 
-pub with_name-new : (names : List (List ℕ)) (n : List ℕ) → (Contains names n → ⊥) → with_name names n ≡ names ++ n ∷ []
-with_name-new names n fresh = rw (is_there-not names n fresh) refl
+pub with_name-new : (names : NameTable) (n : Bytes) → (Contains names n → ⊥) → with_name names n ≡ names ++ n ∷ []
+with_name-new names n fresh = rw (contains_name-not names n fresh) refl
 
-pub place_of-at : (names : List (List ℕ)) (n : List ℕ) (l : ℕ) → EachOnce names → slice_get names l ≡ Some n → place_of names n ≡ l
-place_of-at [] n l once at = absurd cc
-place_of-at (m ∷ names) n zero once at = let e : m ≡ n = cc in rw (same_bytes m n e) refl
-place_of-at (m ∷ names) n (suc l) once at =
+pub index_of-at : (names : NameTable) (n : Bytes) (l : ℕ) → EachOnce names → slice_get names l ≡ Some n → index_of names n ≡ l
+index_of-at [] n l once at = absurd cc
+index_of-at (m ∷ names) n zero once at = let e : m ≡ n = cc in rw (same_bytes m n e) refl
+index_of-at (m ∷ names) n (suc l) once at =
     let other : m ≡ n → ⊥ = λ e. once.0 (l, slice_get_within names l m (at ∙ ap Some (sym e)), get_or_from_slice_get names l m m (at ∙ ap Some (sym e))) in
-    rw (other_bytes m n other) (ap (λ (k : ℕ). 1 + k) (place_of-at names n l once.1 at) ∙ omega arith)
+    rw (other_bytes m n other) (ap (λ (k : ℕ). 1 + k) (index_of-at names n l once.1 at) ∙ omega arith)
 
-pub place_of-new : (names : List (List ℕ)) (n : List ℕ) → (Contains names n → ⊥) → place_of (names ++ n ∷ []) n ≡ length names
-place_of-new [] n fresh = rw (same_bytes n n refl) refl
-place_of-new (m ∷ names) n fresh =
-    rw (other_bytes m n (λ e. fresh (0, omega arith, e))) (ap (λ (k : ℕ). 1 + k) (place_of-new names n (λ k. fresh (Contains-append_right (m ∷ []) names n k))) ∙ omega arith)
+pub index_of-new : (names : NameTable) (n : Bytes) → (Contains names n → ⊥) → index_of (names ++ n ∷ []) n ≡ length names
+index_of-new [] n fresh = rw (same_bytes n n refl) refl
+index_of-new (m ∷ names) n fresh =
+    rw (other_bytes m n (λ e. fresh (0, omega arith, e))) (ap (λ (k : ℕ). 1 + k) (index_of-new names n (λ k. fresh (Contains-append_right (m ∷ []) names n k))) ∙ omega arith)

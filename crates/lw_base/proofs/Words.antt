@@ -1,26 +1,27 @@
 -- The words of a text, the first of them and the rest.
-use Rattle.std.proofs.Common.{append_assoc, drop, ◌-◌, length-append, ◌≡◌, ℕ, ◌<◌, ◌≤◌, true, false, not, List, [], ◌∷◌, ◌++◌, length, refl, sym, ap, ◌∙◌, arith}
+use Rattle.std.proofs.Common.{append_assoc, drop, ◌-◌, length-append, ◌≡◌, ◌<◌, ◌≤◌, true, false, not, List, [], ◌∷◌, ◌++◌, length, refl, sym, ap, ◌∙◌, arith}
 use Rattle.std.proofs.lemmas.Bool.{not-true, not-false, true≢false}
 use Rattle.std.proofs.lemmas.List.{map-append}
 use Rattle.std.proofs.Math.Seq.{drop-append_seam}
 use Rattle.std.specs.Prelude.{map}
 use Rattle.std.specs.List.{AllByRecursion}
+use Rattle.lw_base.specs.Types.{Bytes, NameTable}
 use Rattle.lw_base.specs.Characters.{is_blank, begins}
 use Rattle.lw_base.specs.declared.event.Event.{Event}
 use Rattle.lw_base.specs.Schedules.{pieces, words, IsEvent, event_word, IsSchedule}
 
 -- bytes before a blank or the end are one piece
-first_piece : (w r : List ℕ) (ps : List (List ℕ)) → AllByRecursion (λ b. not (is_blank b) ≡ true) w → pieces r ≡ [] ∷ ps → pieces (w ++ r) ≡ w ∷ ps
+first_piece : (w r : Bytes) (ps : List Bytes) → AllByRecursion (λ b. not (is_blank b) ≡ true) w → pieces r ≡ [] ∷ ps → pieces (w ++ r) ≡ w ∷ ps
 first_piece [] r ps others e = e
 first_piece (b ∷ w) r ps others e = rw (not-true (is_blank b) others.0, first_piece w r ps others.1 e) refl
 
 -- blanks at the front are no part of a word
-pub words-behind : (text w r : List ℕ) → text ≡ w ++ r → AllByRecursion (λ b. is_blank b ≡ true) w → words text ≡ words r
+pub words-behind : (text w r : Bytes) → text ≡ w ++ r → AllByRecursion (λ b. is_blank b ≡ true) w → words text ≡ words r
 words-behind text [] r e all = ap words e
 words-behind text (b ∷ w) r e all = rw (e, all.0) (words-behind (w ++ r) w r refl all.1)
 
 -- a longest row of bytes that are no blanks is the first word
-pub words-first : (text w r : List ℕ) → text ≡ w ++ r → 0 < length text → begins is_blank text ≡ false → AllByRecursion (λ b. not (is_blank b) ≡ true) w → begins (λ b. not (is_blank b)) r ≡ false → words text ≡ w ∷ words r
+pub words-first : (text w r : Bytes) → text ≡ w ++ r → 0 < length text → begins is_blank text ≡ false → AllByRecursion (λ b. not (is_blank b) ≡ true) w → begins (λ b. not (is_blank b)) r ≡ false → words text ≡ w ∷ words r
 words-first text [] [] e some front others ends = absurd (omega (arith, ap length e))
 words-first text [] (c ∷ r) e some front others ends =
     let blank : is_blank c ≡ true = not-false (is_blank c) ends in
@@ -32,7 +33,7 @@ words-first text (b ∷ w) (c ∷ r) e some front others ends =
     rw (e, first_piece (b ∷ w) (c ∷ r) (pieces r) others (rw blank refl), blank) refl
 
 -- where words begin with those of some events, the word behind them is an event's
-event_at : (names : List (List ℕ)) (done events : List Event) (w : List ℕ) (ws : List (List ℕ)) → AllByRecursion (IsEvent names) events → map (event_word names) events ≡ map (event_word names) done ++ w ∷ ws → (e : Event) × IsEvent names e × (event_word names e ≡ w)
+event_at : (names : NameTable) (done events : List Event) (w : Bytes) (ws : List Bytes) → AllByRecursion (IsEvent names) events → map (event_word names) events ≡ map (event_word names) done ++ w ∷ ws → (e : Event) × IsEvent names e × (event_word names e ≡ w)
 event_at names [] [] w ws all same = absurd cc
 event_at names [] (e ∷ events) w ws all same = (e, all.0, cc)
 event_at names (d ∷ done) [] w ws all same = absurd cc
@@ -41,27 +42,27 @@ event_at names (d ∷ done) (e ∷ events) w ws all same =
     event_at names done events w ws all.1 rest
 
 -- a word that is no event's, behind the words of some events
-pub no_schedule : (names : List (List ℕ)) (text rest : List ℕ) (done : List Event) (w : List ℕ) (ws : List (List ℕ)) → words text ≡ map (event_word names) done ++ words rest → words rest ≡ w ∷ ws → ((e : Event) → IsEvent names e → event_word names e ≡ w → ⊥) → (events : List Event) → IsSchedule names text events → ⊥
+pub no_schedule : (names : NameTable) (text rest : Bytes) (done : List Event) (w : Bytes) (ws : List Bytes) → words text ≡ map (event_word names) done ++ words rest → words rest ≡ w ∷ ws → ((e : Event) → IsEvent names e → event_word names e ≡ w → ⊥) → (events : List Event) → IsSchedule names text events → ⊥
 no_schedule names text rest done w ws before first none events is =
     let e = event_at names done events w ws is.0 (sym is.1 ∙ before ∙ ap (λ v. map (event_word names) done ++ v) first) in
     none e.0 e.1 e.2
 
 -- what stands behind more of a text
-pub behind_more : (text front rest w after b last : List ℕ) → text ≡ front ++ rest → rest ≡ w ++ after → after ≡ b ++ last → text ≡ (front ++ w ++ b) ++ last
+pub behind_more : (text front rest w after b last : Bytes) → text ≡ front ++ rest → rest ≡ w ++ after → after ≡ b ++ last → text ≡ (front ++ w ++ b) ++ last
 behind_more text front rest w after b last e f g = rw (e, f, g) (sym (append_assoc (front ++ w) b last ∙ append_assoc front w (b ++ last)))
 
 -- the end of a text stands behind as many bytes as it is shorter
-pub drop-back : (text front rest : List ℕ) → text ≡ front ++ rest → drop (length text - length rest) text ≡ rest
+pub drop-back : (text front rest : Bytes) → text ≡ front ++ rest → drop (length text - length rest) text ≡ rest
 drop-back text front rest e =
     let n : length text - length rest ≡ length front = omega (arith, ap length e, length-append front rest) in
     rw (n, e) (drop-append_seam front rest)
 
 -- what is left of a text is no longer than the text
-pub no_longer : (text front rest : List ℕ) → text ≡ front ++ rest → length rest ≤ length text
+pub no_longer : (text front rest : Bytes) → text ≡ front ++ rest → length rest ≤ length text
 no_longer text front rest e = omega (arith, ap length e, length-append front rest)
 
 -- one more event
-pub more_events : (names : List (List ℕ)) (es fs : List Event) (e : Event) → fs ≡ es ++ e ∷ [] → AllByRecursion (IsEvent names) es → IsEvent names e → AllByRecursion (IsEvent names) fs
+pub more_events : (names : NameTable) (es fs : List Event) (e : Event) → fs ≡ es ++ e ∷ [] → AllByRecursion (IsEvent names) es → IsEvent names e → AllByRecursion (IsEvent names) fs
 more_events names es fs e more all is = rw more (go es all)
   where
     go : (ds : List Event) → AllByRecursion (IsEvent names) ds → AllByRecursion (IsEvent names) (ds ++ e ∷ [])
@@ -69,7 +70,7 @@ more_events names es fs e more all is = rw more (go es all)
     go (d ∷ ds) h = (h.0, go ds h.1)
 
 -- the first word of what is left is that of one more event
-pub more_words : (names : List (List ℕ)) (text rest w after last : List ℕ) (es fs : List Event) (e : Event) → words text ≡ map (event_word names) es ++ words rest → words rest ≡ w ∷ words after → words after ≡ words last → event_word names e ≡ w → fs ≡ es ++ e ∷ [] → words text ≡ map (event_word names) fs ++ words last
+pub more_words : (names : NameTable) (text rest w after last : Bytes) (es fs : List Event) (e : Event) → words text ≡ map (event_word names) es ++ words rest → words rest ≡ w ∷ words after → words after ≡ words last → event_word names e ≡ w → fs ≡ es ++ e ∷ [] → words text ≡ map (event_word names) fs ++ words last
 more_words names text rest w after last es fs e before first further is more =
     let word = event_word names in
     let one : map word fs ++ words last ≡ map word es ++ word e ∷ words last = ap (λ ds. map word ds ++ words last) more ∙ ap (λ ws. ws ++ words last) (map-append word es (e ∷ [])) ∙ append_assoc (map word es) (word e ∷ []) (words last) in

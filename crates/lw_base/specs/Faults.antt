@@ -1,5 +1,6 @@
 -- How people are told why a cell or a schedule is refused: a number and a name.
-use Rattle.std.specs.Prelude.{ℕ, List, codes}
+use Rattle.std.specs.Prelude.{ℕ, codes}
+use Rattle.lw_base.specs.Types.{Bytes}
 use Rattle.lw_base.specs.declared.fault.CellCause.{CellCause}
 use Rattle.lw_base.specs.declared.fault.CellCause.TheVariants as cell
 use Rattle.lw_base.specs.declared.fault.ScheduleCause.{ScheduleCause}
@@ -14,7 +15,7 @@ cell_cause_number cell.Backward = 5
 cell_cause_number cell.TooMany = 6
 cell_cause_number cell.Memory = 7
 
-abbrev pub cell_cause_name : CellCause → List ℕ
+abbrev pub cell_cause_name : CellCause → Bytes
 cell_cause_name cell.Form = codes "Form"
 cell_cause_name cell.Register = codes "Register"
 cell_cause_name cell.LabelMissing = codes "LabelMissing"
@@ -29,7 +30,7 @@ schedule_cause_number schedule.Cpu = 2
 schedule_cause_number schedule.Location = 3
 schedule_cause_number schedule.Memory = 4
 
-abbrev pub schedule_cause_name : ScheduleCause → List ℕ
+abbrev pub schedule_cause_name : ScheduleCause → Bytes
 schedule_cause_name schedule.Word = codes "Word"
 schedule_cause_name schedule.Cpu = codes "Cpu"
 schedule_cause_name schedule.Location = codes "Location"

@@ -1,5 +1,5 @@
 -- What a condition asks of a final state. A processor, a register and a location are their numbers.
-use Rattle.std.specs.Prelude.{ℕ}
+use Rattle.std.specs.Prelude.{ℕ, ◌+◌, suc}
 
 pub data Formula : Type 0 where
   Yes : Formula
@@ -9,3 +9,13 @@ pub data Formula : Type 0 where
   Not : (p : Formula) → Formula
   And : (p q : Formula) → Formula
   Or : (p q : Formula) → Formula
+
+-- how many atoms and connectives it has
+abbrev pub nodes : Formula → ℕ
+nodes Yes = 1
+nodes No = 1
+nodes (Reg_is cpu reg word) = 1
+nodes (Word_is loc word) = 1
+nodes (Not p) = suc (nodes p)
+nodes (And p q) = suc (nodes p + nodes q)
+nodes (Or p q) = suc (nodes p + nodes q)

@@ -1,5 +1,5 @@
 -- What the head of a test says.
-use Rattle.std.specs.Prelude.{ℕ, List}
+use Rattle.std.specs.Prelude.{ℕ, ◌-◌, ◌++◌, List, length, replicate}
 use Rattle.lw_base.specs.Formula.{Formula}
 use Rattle.lw_base.specs.Propositions.{formula_of}
 use Rattle.lw_base.specs.declared.head.Arch.{Arch}
@@ -7,7 +7,7 @@ use Rattle.lw_base.specs.declared.head.Quant.{Quant}
 use Rattle.lw_base.specs.declared.head.Seen.{Seen}
 use Rattle.lw_base.specs.declared.head.Head.{Head}
 
--- A name is its bytes. A location is its place in the table.
+-- A name is its bytes. A location is its number.
 pub record TestHead : Type 0 where
   pub name : List ℕ
   pub arch : Arch
@@ -32,4 +32,19 @@ head_of h =
       listed = h.listed;
       quant = h.quant;
       condition = formula_of h.prop;
+    }
+
+-- the head, with this table; a location that is new begins at 0
+abbrev pub with_table : TestHead → List (List ℕ) → TestHead
+with_table head names =
+    record {
+      name = head.name;
+      arch = head.arch;
+      threads = head.threads;
+      locs = names;
+      init_regs = head.init_regs;
+      init_words = head.init_words ++ replicate (length names - length head.locs) 0;
+      listed = head.listed;
+      quant = head.quant;
+      condition = head.condition;
     }

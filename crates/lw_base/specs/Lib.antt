@@ -1,10 +1,15 @@
+pub mod Types
+pub mod Refusals
 pub mod Characters
+pub mod Kinds
 pub mod Names
 pub mod Tables
 pub mod Registers
 pub mod Formula
 pub mod Propositions
 pub mod Heads
+pub mod WellFormed
+pub mod WellFormedProps
 pub mod Outcomes
 pub mod Stops
 pub mod Faults

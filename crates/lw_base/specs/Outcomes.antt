@@ -9,7 +9,9 @@ pub record Final : Type 0 where
   pub regs : List (List ℕ)
   pub words : List ℕ
 
--- The order of outcomes: by the registers, and by the words where the registers are the same. Lists go by
+-- The order of outcomes: by the registers, and by the words where the registers are the same. Lists
+-- go by
 -- the first items that differ, and a list comes before its longer ones.
 abbrev pub final_cmp : Final → Final → Ordering
-final_cmp o p = ordering_then (slice_cmp (slice_cmp nat_cmp) o.regs p.regs) (slice_cmp nat_cmp o.words p.words)
+final_cmp o p =
+    ordering_then (slice_cmp (slice_cmp nat_cmp) o.regs p.regs) (slice_cmp nat_cmp o.words p.words)

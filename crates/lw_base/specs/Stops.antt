@@ -1,5 +1,6 @@
 -- How people are told of a refused event: a number and a name.
-use Rattle.std.specs.Prelude.{ℕ, List, codes}
+use Rattle.std.specs.Prelude.{ℕ, codes}
+use Rattle.lw_base.specs.Types.{Bytes}
 use Rattle.lw_base.specs.declared.stop.Stop.{Stop}
 use Rattle.lw_base.specs.declared.stop.Stop.TheVariants.{NoCpu, NoLocation, Ended, FenceWaits, SwapWaits, BufferEmpty, NotHeld, Memory}
 
@@ -13,7 +14,7 @@ stop_number BufferEmpty = 6
 stop_number NotHeld = 7
 stop_number Memory = 8
 
-abbrev pub stop_name : Stop → List ℕ
+abbrev pub stop_name : Stop → Bytes
 stop_name NoCpu = codes "NoCpu"
 stop_name NoLocation = codes "NoLocation"
 stop_name Ended = codes "Ended"

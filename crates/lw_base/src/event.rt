@@ -1,4 +1,4 @@
-//! What a schedule is made of.
+//! The events that a schedule is made of.
 
 use crate::number::{Cpu, Loc};
 

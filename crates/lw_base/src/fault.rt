@@ -1,6 +1,7 @@
 //! Why a cell of a test, or a schedule, is refused.
 ghost use Rattle.std.specs.Prelude.{◌≡◌};
-ghost use Rattle.lw_base.specs.Faults.{cell_cause_number, cell_cause_name, schedule_cause_number, schedule_cause_name};
+ghost use Rattle.lw_base.specs.Faults.{cell_cause_number, cell_cause_name};
+ghost use Rattle.lw_base.specs.Faults.{schedule_cause_number, schedule_cause_name};
 ghost use Rattle.lw_base.specs.declared.fault.CellCause.TheVariants as cell;
 ghost use Rattle.lw_base.specs.declared.fault.ScheduleCause.TheVariants as schedule;
 
@@ -57,12 +58,13 @@ impl CellCause {
     }
 }
 
-/// A refused cell: the cause, and the byte of the test's text at which it stands. For want of
-/// memory the place is 0, and says nothing.
+/// A refused cell: the cause, and the byte of the test's text at which it stands. Where memory ran
+/// out the place is 0, and says nothing.
 #[derive(Clone, Copy, Debug, PartialEq, Eq)]
 pub struct CellFault {
     pub at: usize,
     pub cause: CellCause,
+    pub ghost memory: { cause ≡ cell.Memory → at ≡ 0 },
 }
 
 impl From<AllocError> for CellFault {
@@ -126,12 +128,13 @@ impl ScheduleCause {
     }
 }
 
-/// A refused schedule: the cause, and the byte at which the first faulty word begins. For want of
-/// memory the place is 0, and says nothing.
+/// A refused schedule: the cause, and the byte at which the first faulty word begins. Where memory
+/// ran out the place is 0, and says nothing.
 #[derive(Clone, Copy, Debug, PartialEq, Eq)]
 pub struct ScheduleFault {
     pub at: usize,
     pub cause: ScheduleCause,
+    pub ghost memory: { cause ≡ schedule.Memory → at ≡ 0 },
 }
 
 impl<T: Drop> From<AllocFailed<T>> for ScheduleFault {

@@ -51,8 +51,8 @@ pub struct Head<A: Allocator = Global> {
     pub init_regs: Sequence<[Word; 6], A>,
     /// The initial words of the locations, one for each name of the table.
     pub init_words: Sequence<Word, A>,
-    /// What the list of names has, each once: registers by thread and number, then locations by their
-    /// places in the table.
+    /// What the list of names has, each once: registers by thread and number, then locations by
+    /// number.
     pub listed: Sequence<Seen, A>,
     /// How the condition speaks of the final states.
     pub quant: Quant,

@@ -8,6 +8,7 @@
 mod event;
 mod fault;
 mod head;
+mod limits;
 mod location;
 mod name;
 mod number;
@@ -24,6 +25,10 @@ mod text;
 pub use event::Event;
 pub use fault::{CellCause, CellFault, ScheduleCause, ScheduleFault};
 pub use head::{Arch, Head, Quant, Seen};
+pub use limits::{
+    MAX_LOCATIONS, MAX_NAME_BYTES, MAX_NODES, MAX_ROWS, MAX_TEST_NAME_BYTES, MAX_TEXT_BYTES,
+    MAX_THREADS, REGISTERS,
+};
 pub use location::LocNames;
 pub use name::{
     ascii_text, is_blank, is_location, is_name, is_numbered, is_word_byte, is_word_text,
@@ -33,7 +38,7 @@ pub use operand::Operand;
 pub use outcome::{Outcome, registers_come_first};
 pub use proposition::Prop;
 pub use register::{reg_name, reg_named};
-pub use scan::{blanks, until_blank};
+pub use scan::{ByteKind, front};
 pub use schedule::{a_text_has_one_schedule, read_schedule};
 pub use sequence::Sequence;
 pub use stop::{End, Replay, Stop};

@@ -1,14 +1,15 @@
 //! The table of a test's locations.
 ghost use Rattle.lw_base.specs.Names.{IsLocation, IsTable};
 ghost use Rattle.std.specs.Prelude.{◌≡◌, [], ◌∷◌, ◌++◌, ◌<◌, length, Contains, MatchOption, IfOk, OnOk, OnErr, OnSome, IfNone, Some, slice_get};
-ghost use Rattle.lw_base.specs.Tables.{with_name, place_of};
+ghost use Rattle.lw_base.specs.Tables.{with_name, index_of};
 
+use crate::limits::MAX_LOCATIONS;
 use crate::number::Loc;
 use std::alloc::{AllocError, Allocator, Global};
 use std::marker::Model;
 
-/// Up to eight names of locations, each once. A location is its place in this table; a clause sees
-/// the list of the names.
+/// Up to eight names of locations, each once. A location's number is its name's index in this
+/// table; a clause sees the list of the names.
 #[derive(Drop)]
 pub struct LocNames<A: Allocator = Global> {
     names: Vec<String<A>, A>,
@@ -44,7 +45,7 @@ impl<A: Allocator> LocNames<A> {
         self.names.len()
     }
 
-    /// The name at a place.
+    /// The name of a location.
     pub fn name(&self, loc: Loc) -> &str
         requires { loc < length self.now }
         ensures { slice_get self.now loc ≡ Some result.now }
@@ -52,9 +53,10 @@ impl<A: Allocator> LocNames<A> {
         self.names[loc.index()].as_str()
     }
 
-    /// The place of a name.
+    /// The number of a name.
     pub fn find(&self, name: &str) -> Option<Loc>
-        ensures { MatchOption result (¬ Contains self.now name.now) (λ loc. slice_get self.now loc ≡ Some name.now) }
+        ensures { MatchOption result (¬ Contains self.now name.now)
+            (λ loc. slice_get self.now loc ≡ Some name.now) }
     {
         for (place, known) in self.names.iter().enumerate() {
             if known.as_str() == name {
@@ -71,9 +73,9 @@ impl<A: Allocator> LocNames<A> {
 }
 
 impl<A: Allocator + Copy> LocNames<A> {
-    /// Puts a name last, and answers its place.
+    /// Puts a name last, and answers its number.
     pub fn add(&mut self, name: &str) -> Result<Loc, AllocError>
-        requires few { length self.old < 8 }
+        requires few { length self.old < MAX_LOCATIONS }
         requires name { IsLocation name.now }
         requires fresh { ¬ Contains self.old name.now }
         ensures place { IfOk result (λ loc. loc ≡ length self.old) }
@@ -87,11 +89,13 @@ impl<A: Allocator + Copy> LocNames<A> {
         Ok(Loc::new(place as u8).unwrap())
     }
 
-    /// The place of a name that appears: its own where it is there, else the last, where it is put.
+    /// The number of a name that appears: its own where it is there, else the last, where it is put.
     /// `None` where it is a ninth name.
     pub fn find_or_add(&mut self, name: &str) -> Result<Option<Loc>, AllocError>
         requires { IsLocation name.now }
-        ensures place { IfOk result (λ o. MatchOption o (8 < length (with_name self.old name.now)) (λ loc. loc ≡ place_of self.new name.now)) }
+        ensures place { IfOk result
+            (λ o. MatchOption o (MAX_LOCATIONS < length (with_name self.old name.now))
+            (λ loc. loc ≡ index_of self.new name.now)) }
         ensures names { IfOk result (λ o. OnSome o (self.new ≡ with_name self.old name.now)) }
         ensures full { IfOk result (λ o. IfNone o (self.new ≡ self.old)) }
         ensures table { OnOk result (IsTable self.new) }
@@ -101,7 +105,7 @@ impl<A: Allocator + Copy> LocNames<A> {
         if let Some(loc) = self.find(name) {
             return Ok(Some(loc));
         }
-        if len == 8 {
+        if len == MAX_LOCATIONS {
             return Ok(None);
         }
         let loc = self.add(name)?;

@@ -7,10 +7,8 @@ ghost use Rattle.lw_base.specs.Characters as characters;
 ghost use Rattle.lw_base.specs.Names.{IsWordText, IsName, IsLocation, keywords, x86_registers};
 ghost use Rattle.lw_base.specs.Names as names;
 
+use crate::limits::MAX_NAME_BYTES;
 use std::str;
-
-/// The most bytes of a name.
-const MAX_BYTES: usize = 32;
 
 /// Whether the byte is a space, a tab, a line feed or a carriage return.
 pub fn is_blank(byte: u8) -> bool
@@ -47,7 +45,7 @@ fn are_word_bytes(bytes: &[u8]) -> bool
 pub fn is_name(text: &str) -> bool
     ensures { IsTrue result ↔ IsName text.now }
 {
-    text.len() <= MAX_BYTES && is_word_text(text.as_bytes())
+    text.len() <= MAX_NAME_BYTES && is_word_text(text.as_bytes())
 }
 
 /// Whether the text can name a location or a label: a name that is not reserved.

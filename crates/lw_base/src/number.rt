@@ -1,7 +1,9 @@
 //! A processor, a location, a register and a word. A clause sees each as its number.
 ghost use Rattle.std.specs.Prelude.{◌≡◌, ℕ, ◌<◌};
+ghost use Rattle.std.specs.List.{range_with_len};
 ghost use Rattle.std.specs.Option.{SomeIff};
 
+use crate::limits::{MAX_LOCATIONS, MAX_THREADS, REGISTERS};
 use std::marker::Model;
 
 /// What a register or a location holds: 32 bits, without a sign.
@@ -12,58 +14,95 @@ pub type Word = u32;
 pub struct Cpu(u8);
 
 impl Model for Cpu {
+    ghost use Rattle.std.specs.Prelude.{ℕ, ◌<◌};
+    ghost use Rattle.lw_base.specs.declared.limits.TheConstants.{MAX_THREADS};
+
     ghost Value = { ℕ };
 
     ghost view = { λ c. c.0 };
 
-    ghost invariant = { λ c. c.0 < 4 };
+    ghost invariant = { λ c. c.0 < MAX_THREADS };
 
     ghost inverse = { λ n. record { 0 = n } };
 }
 
 impl Cpu {
+    /// All processors, by their numbers.
+    pub fn all() -> [Cpu; MAX_THREADS]
+        ensures { result ≡ range_with_len 0 MAX_THREADS }
+    {
+        [Cpu(0), Cpu(1), Cpu(2), Cpu(3)]
+    }
+
     /// The processor of a number, where it is below 4.
     pub fn new(number: u8) -> Option<Self>
-        ensures { SomeIff result (number < 4) number }
+        ensures { SomeIff result (number < MAX_THREADS) number }
     {
-        if number < 4 { Some(Cpu(number)) } else { None }
+        if usize::from(number) < MAX_THREADS {
+            Some(Cpu(number))
+        } else {
+            None
+        }
     }
 
     /// Its number.
     pub fn index(self) -> usize
         ensures value { result ≡ self }
-        ensures below { result < 4 }
+        ensures below { result < MAX_THREADS }
     {
         usize::from(self.0)
     }
 }
 
-/// A place in the table of locations: 0 to 7.
+/// A location, which is its name's index in the table: 0 to 7.
 #[derive(Clone, Copy, Debug, PartialEq, Eq, PartialOrd, Ord, Hash)]
 pub struct Loc(u8);
 
 impl Model for Loc {
+    ghost use Rattle.std.specs.Prelude.{ℕ, ◌<◌};
+    ghost use Rattle.lw_base.specs.declared.limits.TheConstants.{MAX_LOCATIONS};
+
     ghost Value = { ℕ };
 
     ghost view = { λ l. l.0 };
 
-    ghost invariant = { λ l. l.0 < 8 };
+    ghost invariant = { λ l. l.0 < MAX_LOCATIONS };
 
     ghost inverse = { λ n. record { 0 = n } };
 }
 
 impl Loc {
+    /// All locations, by their numbers.
+    pub fn all() -> [Loc; MAX_LOCATIONS]
+        ensures { result ≡ range_with_len 0 MAX_LOCATIONS }
+    {
+        [
+            Loc(0),
+            Loc(1),
+            Loc(2),
+            Loc(3),
+            Loc(4),
+            Loc(5),
+            Loc(6),
+            Loc(7),
+        ]
+    }
+
     /// The location of a number, where it is below 8.
     pub fn new(number: u8) -> Option<Self>
-        ensures { SomeIff result (number < 8) number }
+        ensures { SomeIff result (number < MAX_LOCATIONS) number }
     {
-        if number < 8 { Some(Loc(number)) } else { None }
+        if usize::from(number) < MAX_LOCATIONS {
+            Some(Loc(number))
+        } else {
+            None
+        }
     }
 
     /// Its number.
     pub fn index(self) -> usize
         ensures value { result ≡ self }
-        ensures below { result < 8 }
+        ensures below { result < MAX_LOCATIONS }
     {
         usize::from(self.0)
     }
@@ -74,27 +113,41 @@ impl Loc {
 pub struct Reg(u8);
 
 impl Model for Reg {
+    ghost use Rattle.std.specs.Prelude.{ℕ, ◌<◌};
+    ghost use Rattle.lw_base.specs.declared.limits.TheConstants.{REGISTERS};
+
     ghost Value = { ℕ };
 
     ghost view = { λ r. r.0 };
 
-    ghost invariant = { λ r. r.0 < 6 };
+    ghost invariant = { λ r. r.0 < REGISTERS };
 
     ghost inverse = { λ n. record { 0 = n } };
 }
 
 impl Reg {
+    /// All registers, by their numbers.
+    pub fn all() -> [Reg; REGISTERS]
+        ensures { result ≡ range_with_len 0 REGISTERS }
+    {
+        [Reg(0), Reg(1), Reg(2), Reg(3), Reg(4), Reg(5)]
+    }
+
     /// The register of a number, where it is below 6.
     pub fn new(number: u8) -> Option<Self>
-        ensures { SomeIff result (number < 6) number }
+        ensures { SomeIff result (number < REGISTERS) number }
     {
-        if number < 6 { Some(Reg(number)) } else { None }
+        if usize::from(number) < REGISTERS {
+            Some(Reg(number))
+        } else {
+            None
+        }
     }
 
     /// Its number.
     pub fn index(self) -> usize
         ensures value { result ≡ self }
-        ensures below { result < 6 }
+        ensures below { result < REGISTERS }
     {
         usize::from(self.0)
     }

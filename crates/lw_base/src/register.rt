@@ -1,6 +1,7 @@
 //! The names of registers.
-ghost use Rattle.std.specs.Prelude.{◌≡◌, ℕ, MatchOption};
+ghost use Rattle.std.specs.Prelude.{◌≡◌, MatchOption};
 ghost use Rattle.std.specs.Str.{bytes_eq};
+ghost use Rattle.lw_base.specs.Refusals.{NoSuch};
 ghost use Rattle.lw_base.specs.Registers.{register_name, without_case, IsRegister};
 
 use crate::head::Arch;
@@ -30,19 +31,19 @@ pub fn reg_name(arch: Arch, reg: Reg) -> &'static str
 
 /// The register of that name, those of x86 in any case.
 pub fn reg_named(arch: Arch, name: &str) -> Option<Reg>
-    ensures { MatchOption result ((r : ℕ) → IsRegister arch name.now r → ⊥) (λ r. IsRegister arch name.now r) }
+    ensures { MatchOption result (NoSuch (IsRegister arch name.now)) (IsRegister arch name.now) }
 {
-    for number in 0..6 {
-        let reg = Reg::new(number)?;
-        if is_named(arch, reg, name) {
-            return Some(reg);
+    for reg in &Reg::all() {
+        if is_named(arch, *reg, name) {
+            return Some(*reg);
         }
     }
     None
 }
 
 fn is_named(arch: Arch, reg: Reg, name: &str) -> bool
-    ensures { result ≡ bytes_eq (without_case arch (register_name arch reg)) (without_case arch name.now) }
+    ensures { result ≡ bytes_eq
+        (without_case arch (register_name arch reg)) (without_case arch name.now) }
 {
     let known = reg_name(arch, reg);
     match arch {

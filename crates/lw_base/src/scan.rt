@@ -1,25 +1,53 @@
-//! The bytes at the front of a text.
-ghost use Rattle.std.specs.Prelude.{◌≡◌, ◌++◌, not, false, true};
+//! The scanner of a text: the bytes of one kind at its front.
+ghost use Rattle.std.specs.Prelude.{◌≡◌, ◌++◌, false, true};
 ghost use Rattle.std.specs.List.{AllByRecursion};
-ghost use Rattle.lw_base.specs.Characters as characters;
 ghost use Rattle.lw_base.specs.Characters.{begins};
+ghost use Rattle.lw_base.specs.Kinds.{is_of_kind};
 
-use crate::name::is_blank;
+use crate::name::{is_blank, is_word_byte};
 
-/// The blanks at the front, and what stands behind them.
-pub fn blanks(bytes: &[u8]) -> (&[u8], &[u8])
-    ensures parts { bytes.now ≡ result.0.now ++ result.1.now }
-    ensures all { AllByRecursion (λ b. characters.is_blank b ≡ true) result.0.now }
-    ensures longest { begins characters.is_blank result.1.now ≡ false }
-{
-    bytes.split_at(bytes.iter().take_while(|b| is_blank(**b)).count())
+/// A kind of bytes that stand side by side in a text.
+#[derive(Clone, Copy, Debug, PartialEq, Eq)]
+pub enum ByteKind {
+    /// Spaces, tabs, line feeds and carriage returns.
+    Blank,
+    /// All others.
+    NotBlank,
+    /// Letters, digits and `_`.
+    Word,
+    /// Those of a note's key: letters, digits, `_` and `-`.
+    Key,
+    /// Spaces and tabs.
+    Space,
+    /// All but this byte.
+    Not(u8),
 }
 
-/// The bytes up to the first blank, and what stands behind them.
-pub fn until_blank(bytes: &[u8]) -> (&[u8], &[u8])
+impl ByteKind {
+    /// Whether the byte is of the kind.
+    pub fn contains(self, byte: u8) -> bool
+        ensures { result ≡ is_of_kind self byte }
+    {
+        match self {
+            ByteKind::Blank => is_blank(byte),
+            ByteKind::NotBlank => !is_blank(byte),
+            ByteKind::Word => is_word_byte(byte),
+            ByteKind::Key => is_word_byte(byte) || byte == b'-',
+            ByteKind::Space => byte == b' ' || byte == b'\t',
+            ByteKind::Not(other) => byte != other,
+        }
+    }
+}
+
+/// The bytes of a kind at the front, and what stands behind them.
+pub fn front(bytes: &[u8], kind: ByteKind) -> (&[u8], &[u8])
     ensures parts { bytes.now ≡ result.0.now ++ result.1.now }
-    ensures all { AllByRecursion (λ b. not (characters.is_blank b) ≡ true) result.0.now }
-    ensures longest { begins (λ b. not (characters.is_blank b)) result.1.now ≡ false }
+    ensures all { AllByRecursion (λ b. is_of_kind kind b ≡ true) result.0.now }
+    ensures longest { begins (is_of_kind kind) result.1.now ≡ false }
 {
-    bytes.split_at(bytes.iter().take_while(|b| !is_blank(**b)).count())
+    let count = bytes
+        .iter()
+        .take_while(|byte| kind.contains(**byte))
+        .count();
+    bytes.split_at(count)
 }

@@ -1,17 +1,20 @@
 //! Schedules: words of events between blanks.
-ghost use Rattle.std.specs.Prelude.{◌≡◌, ◌≢◌, ℕ, ◌+◌, ◌<◌, ◌≤◌, false, List, [], ◌∷◌, ◌++◌, length, MatchOption, IfOk, IfErr, ◌⊎◌, true};
-ghost use Rattle.std.specs.List.{AllByRecursion};
-ghost use Rattle.lw_base.specs.Names.{IsTable, are_digits};
-ghost use Rattle.lw_base.specs.Schedules.{IsEvent, event_word, IsSchedule, IsCpu, IsFaulty, IsFirstFault};
+ghost use Rattle.std.specs.Prelude.{◌≡◌, ◌≢◌, ◌<◌, ◌≤◌, List, [], ◌∷◌, length, MatchOption, IfOk, IfErr};
+ghost use Rattle.lw_base.specs.Characters.{byte, digit, Lacks, IsCutAt};
+ghost use Rattle.lw_base.specs.Types.{Bytes, NameTable};
+ghost use Rattle.lw_base.specs.Names.{IsTable};
+ghost use Rattle.lw_base.specs.Refusals.{NotFound};
+ghost use Rattle.lw_base.specs.Schedules.{IsWordOf, IsSchedule, HasBadDigits, IsFaulty, IsFirstFault};
 ghost use Rattle.lw_base.specs.declared.event.Event.{Event};
 ghost use Rattle.lw_base.specs.declared.fault.ScheduleCause.TheVariants as causes;
 
 use crate::event::Event;
 use crate::fault::{ScheduleCause, ScheduleFault};
+use crate::limits::MAX_THREADS;
 use crate::location::LocNames;
 use crate::name::{are_digits, ascii_text, is_word_text};
 use crate::number::{Cpu, Loc};
-use crate::scan::{blanks, until_blank};
+use crate::scan::{ByteKind, front};
 use crate::sequence::Sequence;
 use std::alloc::Allocator;
 
@@ -29,32 +32,32 @@ pub fn read_schedule<A: Allocator, B: Allocator>(
     // What is read is a schedule of these events.
     ensures found { IfOk result (λ events. IsSchedule names.now text.now events) }
     // Where nothing is read, the text is no schedule, unless memory ran out.
-    ensures fault { IfErr result (λ f. f.cause ≢ causes.Memory → (events : List Event) → IsSchedule names.now text.now events → ⊥) }
+    ensures fault { IfErr result (λ f. NotFound causes.Memory f.cause (IsSchedule names.now text.now)) }
     // The first faulty word is told, at its first byte, with its cause.
-    ensures first { IfErr result (λ f. f.cause ≢ causes.Memory → IsFirstFault names.now text.now f.at f.cause) }
+    ensures first { IfErr result
+        (λ f. f.cause ≢ causes.Memory → IsFirstFault names.now text.now f.at f.cause) }
     ensures place { IfErr result (λ f. f.at ≤ length text.now) }
-    ensures memory { IfErr result (λ f. f.cause ≡ causes.Memory → f.at ≡ 0) }
 {
     // What the names of a table are.
     let _len = names.len();
     let mut events = Sequence::new(alloc);
-    let (_, mut rest) = blanks(text.as_bytes());
+    let (_, mut rest) = front(text.as_bytes(), ByteKind::Blank);
     while !rest.is_empty() {
         let at = text.len() - rest.len();
-        let (word, after) = until_blank(rest);
+        let (word, after) = front(rest, ByteKind::NotBlank);
         match event_of(word, names) {
             Ok(event) => events.push(event)?,
             Err(cause) => return Err(ScheduleFault { at, cause }),
         }
-        rest = blanks(after).1;
+        rest = front(after, ByteKind::Blank).1;
     }
     Ok(events)
 }
 
 /// The event that a word says.
 fn event_of<B: Allocator>(word: &[u8], names: &LocNames<B>) -> Result<Event, ScheduleCause>
-    ensures ok { IfOk result (λ e. IsEvent names.now e × (event_word names.now e ≡ word.now)) }
-    ensures err { IfErr result (λ cause. IsFaulty names.now word.now cause) }
+    ensures ok { IfOk result (λ e. IsWordOf names.now e word.now) }
+    ensures err { IfErr result (IsFaulty names.now word.now) }
 {
     let Some((letter, rest)) = word.split_first() else {
         return Err(ScheduleCause::Word);
@@ -72,8 +75,8 @@ fn event_of<B: Allocator>(word: &[u8], names: &LocNames<B>) -> Result<Event, Sch
 
 /// The processor that digits name.
 fn cpu_of(digits: &[u8]) -> Result<Cpu, ScheduleCause>
-    ensures ok { IfOk result (λ c. (c < 4) × (digits.now ≡ (48 + c) ∷ [])) }
-    ensures err { IfErr result (λ cause. ((cause ≡ causes.Word) × (are_digits digits.now ≡ false)) ⊎ ((cause ≡ causes.Cpu) × (are_digits digits.now ≡ true) × (IsCpu digits.now → ⊥))) }
+    ensures ok { IfOk result (λ c. (c < MAX_THREADS) × (digits.now ≡ digit c ∷ [])) }
+    ensures err { IfErr result (HasBadDigits digits.now) }
 {
     if !are_digits(digits) {
         return Err(ScheduleCause::Word);
@@ -86,8 +89,8 @@ fn cpu_of(digits: &[u8]) -> Result<Cpu, ScheduleCause>
 
 /// The processor and the location that digits, a `:` and a name say.
 fn line_of<B: Allocator>(text: &[u8], names: &LocNames<B>) -> Result<(Cpu, Loc), ScheduleCause>
-    ensures ok { IfOk result (λ x. IsEvent names.now (Event.Evict x.0 x.1) × (event_word names.now (Event.Evict x.0 x.1) ≡ 69 ∷ text.now)) }
-    ensures err { IfErr result (λ cause. IsFaulty names.now (69 ∷ text.now) cause) }
+    ensures ok { IfOk result (λ x. IsWordOf names.now (Event.Evict x.0 x.1) (byte "E" ∷ text.now)) }
+    ensures err { IfErr result (IsFaulty names.now (byte "E" ∷ text.now)) }
 {
     let Some((digits, name)) = at_colon(text) else {
         return Err(ScheduleCause::Word);
@@ -104,17 +107,15 @@ fn line_of<B: Allocator>(text: &[u8], names: &LocNames<B>) -> Result<(Cpu, Loc),
 
 /// What stands before the first `:`, and what behind it.
 fn at_colon(text: &[u8]) -> Option<(&[u8], &[u8])>
-    ensures { MatchOption result (AllByRecursion (λ b. b ≢ 58) text.now) (λ x. (text.now ≡ x.0.now ++ 58 ∷ x.1.now) × AllByRecursion (λ b. b ≢ 58) x.0.now) }
+    ensures { MatchOption result (Lacks (byte ":") text.now)
+        (λ x. IsCutAt (byte ":") text.now x.0.now x.1.now) }
 {
-    for place in 0..text.len() {
-        if text[place] == b':' {
-            return Some((&text[..place], &text[place + 1..]));
-        }
-    }
-    None
+    let place = text.iter().position(|byte| *byte == b':')?;
+    Some((&text[..place], &text[place + 1..]))
 }
 
 /// A text is a schedule of at most one list of events.
 pub fn a_text_has_one_schedule()
-    ensures { (names : List (List ℕ)) → IsTable names → (text : List ℕ) (events others : List Event) → IsSchedule names text events → IsSchedule names text others → events ≡ others }
+    ensures { (names : NameTable) → IsTable names → (text : Bytes) (events others : List Event)
+        → IsSchedule names text events → IsSchedule names text others → events ≡ others }
 {}

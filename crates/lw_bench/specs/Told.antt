@@ -37,7 +37,7 @@ pub record TellsCell (A : Type 0) (bytes : List ℕ) (f : CellFault) : Type 0 wh
   pub lies : LiesIn bytes frame
   pub none : (test : SourceTest) → HasSource (frame_of frame) test → ⊥
   pub place : f.at ≤ length bytes
-  pub cause : Tells frame.head.locs frame.cells f.at f.cause
+  pub cause : Tells frame.head.locs frame.cells f
   pub in_memory : f.cause ≢ cell.Memory
 
 -- The text is a test, and the first faulty word of the schedule stands at the place and is faulty for this cause.

@@ -1,11 +1,11 @@
 -- Reading the cells of a thread, one further.
-use Rattle.std.proofs.Common.{◌≡◌, ℕ, zero, suc, ◌<◌, ◌≤◌, ◌+◌, Option, Some, None, ◌⊎◌, inl, inr, List, [], ◌∷◌, ◌++◌, length, length-append, map, take, drop, get_or, refl, sym, ap, ◌∙◌, subst, arith}
+use Rattle.std.proofs.Common.{◌≡◌, ℕ, suc, ◌<◌, ◌≤◌, ◌+◌, ◌*◌, Option, Some, None, ◌⊎◌, inl, inr, List, [], ◌∷◌, ◌++◌, length, length-append, map, take, drop, get_or, refl, sym, ap, ◌∙◌, subst, arith}
 use Rattle.std.specs.Prelude.{slice_get, codes, All}
 use Rattle.lw_base.specs.declared.fault.CellCause.{CellCause}
 use Rattle.lw_base.specs.declared.fault.CellCause.TheVariants.{TooMany}
 use Rattle.std.specs.List.{AllZip, filter_map, cons_option}
 use Rattle.std.specs.Option.{option_map, option_len, ForSome}
-use Rattle.std.proofs.lemmas.List.{map-append, append_assoc, take-append-drop}
+use Rattle.std.proofs.lemmas.List.{map-append, length-map, length-take, append_assoc, take-append-drop}
 use Rattle.std.proofs.lemmas.List.Elements.{filter_map-append, Contains-append_left}
 use Rattle.std.proofs.Math.Seq.{take-suc, drop-cons}
 use Rattle.lw_base.specs.Names.{EachOnce}
@@ -15,14 +15,17 @@ use Rattle.lw_text.specs.declared.cell.Cell.{Cell}
 use Rattle.lw_text.specs.declared.token.Token.{Token}
 use Rattle.lw_text.specs.Spans.{texts}
 use Rattle.lw_text.specs.Places.{cell_texts, cells_texts}
-use Rattle.lw_source.specs.declared.stmt.Stmt.{Stmt}
-use Rattle.lw_source.specs.Cells.{Written, Line, Statement, MaybeStatement, Labels, CellSays, Column, statements, labels_of, name_of, names_in, placed}
-use Rattle.lw_source.specs.Reading.{IsMisfit, MaybeCause, named_by, AtLabel, LabelsRead, LabelMap, LeadsAs, StatementRead, MaybeRead, DraftRead, bare, first_names, leading, leading_in, leads_to}
-use Rattle.lw_source.proofs.LabelRows.{Labels-rest, names_read}
+use Rattle.lw_source.specs.declared.draft.DraftStmt.{DraftStmt}
+use Rattle.lw_source.specs.declared.draft.DraftCell.{DraftCell}
+use Rattle.lw_source.specs.Cells.{StatementSyntax, CellSyntax, MaybeStatement, Labels, CellSays, Column, statements, labels_of, name_of, names_in}
+use Rattle.lw_source.specs.Faults.{CanBegin}
+use Rattle.lw_source.specs.Drafts.{draft_of, draft_cell, LabelMap, LeadsAs, DraftRead, first_names, leading, leading_in, leads_to}
+use Rattle.lw_source.specs.Reading.{Fits, FitsBelow, IsMisfit, MaybeCause, AtLabel, LabelsRead, StatementRead, MaybeRead, bare}
+use Rattle.lw_source.proofs.Labels.{Labels-rest, names_read, behind}
 use Rattle.lw_source.proofs.Phrases.{maybe_cause, misfit_cause}
 use Rattle.lw_source.proofs.Leads.{statements-append, labels_of-append, first_names_in, leading_in-append}
 use Rattle.lw_source.proofs.OneReading.{cell_unique, Labels-unique, no_label, zip_unique, zip_more, zip_cut}
-use Rattle.lw_source.proofs.Names.{AllThere, all_there, placed-along}
+use Rattle.lw_source.proofs.ResolvedNames.{LocationsExist, all_there, draft_of-along}
 
 -- the cells before one, that one, and the cells behind it
 pub cells_cut : {A : Type 0} (cells : List (Cell A)) (i : ℕ) (cell : Cell A) → i < length cells → cell ≡ get_or cells i cell → cells ≡ take i cells ++ cell ∷ drop (suc i) cells
@@ -34,133 +37,143 @@ cells_more {A} cells i cell within is =
     let next : i + 1 ≡ suc i = omega arith in
     ap (λ (n : ℕ). take n cells) next ∙ take-suc cells i cell within ∙ ap (λ (c : Cell A). take i cells ++ c ∷ []) (sym is)
 
-pub names_in-append : (xs ys : List Line) → names_in (xs ++ ys) ≡ names_in xs ++ names_in ys
+pub names_in-append : (xs ys : List CellSyntax) → names_in (xs ++ ys) ≡ names_in xs ++ names_in ys
 names_in-append xs ys = ap (filter_map name_of) (statements-append xs ys) ∙ filter_map-append name_of (statements xs) (statements ys)
 
 -- what was drafted stays as the table grows
-pub drafts-along : (names ns : List (List ℕ)) (lines : List Line) → AllThere names (statements lines) → map (λ line. option_map (placed (with_names names ns) []) line.stmt) lines ≡ map (λ line. option_map (placed names []) line.stmt) lines
+pub drafts-along : (names ns : List (List ℕ)) (syntaxes : List CellSyntax) → LocationsExist names (statements syntaxes) → map (draft_cell (with_names names ns)) syntaxes ≡ map (draft_cell names) syntaxes
 drafts-along names ns [] all = refl
-drafts-along names ns (line ∷ lines) all = go line.stmt refl (drafts-along names ns lines)
+drafts-along names ns (syntax ∷ syntaxes) all = go syntax.stmt refl (drafts-along names ns syntaxes)
   where
-    before : Line → Option Stmt
-    before l = option_map (placed names []) l.stmt
+    before : CellSyntax → DraftCell
+    before = draft_cell names
 
-    after : Line → Option Stmt
-    after l = option_map (placed (with_names names ns) []) l.stmt
+    after : CellSyntax → DraftCell
+    after = draft_cell (with_names names ns)
 
-    go : (o : Option Written) → line.stmt ≡ o → (AllThere names (statements lines) → map after lines ≡ map before lines) → map after (line ∷ lines) ≡ map before (line ∷ lines)
+    -- the draft of the first cell, where it has this statement
+    cell : List (List ℕ) → Option StatementSyntax → DraftCell
+    cell table p = draft_cell table (record { labels = syntax.labels; stmt = p })
+
+    go : (o : Option StatementSyntax) → syntax.stmt ≡ o → (LocationsExist names (statements syntaxes) → map after syntaxes ≡ map before syntaxes) → map after (syntax ∷ syntaxes) ≡ map before (syntax ∷ syntaxes)
     go None e further =
-        let rest : AllThere names (statements lines) = subst (λ (p : Option Written). AllThere names (cons_option p (statements lines))) e all in
-        let f : map after lines ≡ map before lines = further rest in
-        ap (λ (p : Option Written). option_map (placed (with_names names ns) []) p ∷ map after lines) e ∙ ap (λ (l : List (Option Stmt)). None ∷ l) f ∙ ap (λ (p : Option Written). option_map (placed names []) p ∷ map before lines) (sym e)
+        let rest : LocationsExist names (statements syntaxes) = subst (λ (p : Option StatementSyntax). LocationsExist names (cons_option p (statements syntaxes))) e all in
+        let f : map after syntaxes ≡ map before syntaxes = further rest in
+        ap (λ (p : Option StatementSyntax). cell (with_names names ns) p ∷ map after syntaxes) e ∙ ap (λ (l : List DraftCell). cell names None ∷ l) f ∙ ap (λ (p : Option StatementSyntax). cell names p ∷ map before syntaxes) (sym e)
     go (Some s) e further =
-        let rest : AllThere names (s ∷ statements lines) = subst (λ (p : Option Written). AllThere names (cons_option p (statements lines))) e all in
-        let f : map after lines ≡ map before lines = further rest.1 in
-        ap (λ (p : Option Written). option_map (placed (with_names names ns) []) p ∷ map after lines) e ∙ ap (λ (l : List (Option Stmt)). Some (placed (with_names names ns) [] s) ∷ l) f ∙ ap (λ (x : Stmt). Some x ∷ map before lines) (placed-along names ns [] s rest.0) ∙ ap (λ (p : Option Written). option_map (placed names []) p ∷ map before lines) (sym e)
+        let rest : LocationsExist names (s ∷ statements syntaxes) = subst (λ (p : Option StatementSyntax). LocationsExist names (cons_option p (statements syntaxes))) e all in
+        let f : map after syntaxes ≡ map before syntaxes = further rest.1 in
+        let same : cell (with_names names ns) (Some s) ≡ cell names (Some s) =
+        ap (λ (d : DraftStmt). let c : DraftCell = record { start = 2 * length syntax.labels; stmt = Some d } in c) (draft_of-along names ns s rest.0) in
+        ap (λ (p : Option StatementSyntax). cell (with_names names ns) p ∷ map after syntaxes) e ∙ ap (λ (l : List DraftCell). cell (with_names names ns) (Some s) ∷ l) f ∙ ap (λ (x : DraftCell). x ∷ map before syntaxes) same ∙ ap (λ (p : Option StatementSyntax). cell names p ∷ map before syntaxes) (sym e)
+
+-- each label is two tokens
+labels_length : (ts : List (List ℕ)) (ls rest : List (List ℕ)) → Labels ts ls rest → length ts ≡ 2 * length ls + length rest
+labels_length ts [] rest h = omega (arith, ap length h)
+labels_length ts (l ∷ ls) rest h = omega (arith, ap length h.1, labels_length h.0 ls rest h.3)
+
+pub labels_end : (tokens : List Token) (next : ℕ) (ls : List (List ℕ)) → next ≤ length tokens → Labels (texts (take next tokens)) ls [] → next ≡ 2 * length ls
+labels_end tokens next ls within h = omega (arith, labels_length (texts (take next tokens)) ls [] h, length-map (take next tokens) (λ (t : Token). t.text.now), length-take next tokens)
 
 pub once_front : (xs ys : List (List ℕ)) → EachOnce (xs ++ ys) → EachOnce xs
 once_front [] ys h = tt
 once_front (x ∷ xs) ys h = ((λ there. h.0 (Contains-append_left xs ys x there)), once_front xs ys h.1)
 
-pub room : (above : ℕ) (o : Option Written) (stmt : Option Stmt) (f : Written → Stmt) → stmt ≡ option_map f o → ForSome stmt (λ s. above ≡ 16 → ⊥) → above ≤ 16 → above + length (statements (bare o ∷ [])) ≤ 16
+pub room : (above : ℕ) (o : Option StatementSyntax) (stmt : Option DraftStmt) (f : StatementSyntax → DraftStmt) → stmt ≡ option_map f o → ForSome stmt (λ s. above ≡ 16 → ⊥) → above ≤ 16 → above + length (statements (bare o ∷ [])) ≤ 16
 room above None stmt f made free few = omega (arith, few)
 room above (Some s) stmt f made free few = let full : above ≡ 16 → ⊥ = free (f s) made in omega (arith, few, full)
 
-get_next : (tokens : List Token) (k : ℕ) → slice_get (texts (drop k tokens)) 1 ≡ slice_get (texts tokens) (suc k)
-get_next [] zero = refl
-get_next [] (suc k) = refl
-get_next (x ∷ ts) zero = refl
-get_next (x ∷ ts) (suc k) = get_next ts k
-
-behind : (tokens : List Token) (k : ℕ) → AtLabel (texts (drop k tokens)) → slice_get (texts tokens) (k + 1) ≡ Some (codes ":")
-behind tokens k at = let e : k + 1 ≡ suc k = omega arith in ap (slice_get (texts tokens)) e ∙ sym (get_next tokens k) ∙ at
-
-held_by : (o : Option Written) (stmt : Option Stmt) (f : Written → Stmt) → stmt ≡ option_map f o → option_len stmt ≡ length (statements (bare o ∷ []))
+held_by : (o : Option StatementSyntax) (stmt : Option DraftStmt) (f : StatementSyntax → DraftStmt) → stmt ≡ option_map f o → option_len stmt ≡ length (statements (bare o ∷ []))
 held_by None stmt f e = ap option_len e
 held_by (Some s) stmt f e = ap option_len e
 
 -- What was read of the cells before, and this cell.
-module _ {A : Type 0} (front : List (Cell A)) (before mid : List (List ℕ)) (stmts : List (Option Stmt)) (labels : LabelMap) (read : DraftRead front before stmts labels mid) (cell : Cell A) where
-  abbrev pub draft_more : (next : ℕ) (after : List (List ℕ)) (more : LabelMap) (stmt : Option Stmt) → LabelsRead cell.tokens (length (statements read.lines)) (leading_in 0 read.lines) next more → MaybeRead (texts (drop next cell.tokens)) mid stmt after → ForSome stmt (λ s. length (statements read.lines) ≡ 16 → ⊥) → DraftRead (front ++ cell ∷ []) before (stmts ++ stmt ∷ []) more after
+module _ {A : Type 0} (front : List (Cell A)) (before mid : List (List ℕ)) (drafts : List DraftCell) (labels : LabelMap) (read : DraftRead front before drafts labels mid) (cell : Cell A) where
+  abbrev pub draft : ℕ → Option DraftStmt → DraftCell
+  draft next stmt = record { start = next; stmt = stmt }
+
+  abbrev pub draft_more : (next : ℕ) (after : List (List ℕ)) (more : LabelMap) (stmt : Option DraftStmt) → LabelsRead cell.tokens (length (statements read.syntaxes)) (leading_in 0 read.syntaxes) next more → MaybeRead (texts (drop next cell.tokens)) mid stmt after → ForSome stmt (λ s. length (statements read.syntaxes) ≡ 16 → ⊥) → DraftRead (front ++ cell ∷ []) before (drafts ++ draft next stmt ∷ []) more after
   draft_more next after more stmt ls st free =
-      let line : Line = record { labels = ls.names; stmt = st.written } in
-      let n = length (statements read.lines) in
+      let syntax : CellSyntax = record { labels = ls.names; stmt = st.syntax } in
+      let n = length (statements read.syntaxes) in
       let whole : texts (take next cell.tokens) ++ texts (drop next cell.tokens) ≡ cell_texts cell =
       sym (map-append (λ t. t.text.now) (take next cell.tokens) (drop next cell.tokens)) ∙ ap texts (take-append-drop next cell.tokens) in
-      let says : CellSays (cell_texts cell) line = (texts (drop next cell.tokens), subst (λ (t : List (List ℕ)). Labels t ls.names (texts (drop next cell.tokens))) whole (Labels-rest (texts (take next cell.tokens)) (texts (drop next cell.tokens)) ls.names ls.says), st.says) in
-      let labelled : leading_in 0 read.lines ++ leading n ls.names ≡ leading_in 0 (read.lines ++ line ∷ []) =
-      ap (λ (k : ℕ). leading_in 0 read.lines ++ leading k ls.names) (let e : n ≡ 0 + n = omega arith in e) ∙ sym (leading_in-append read.lines 0 line) in
-      let named : first_names (leading_in 0 read.lines) ++ ls.names ≡ labels_of (read.lines ++ line ∷ []) =
-      sym (names_read (leading_in 0 read.lines) n ls.names) ∙ ap first_names labelled ∙ first_names_in (read.lines ++ line ∷ []) 0 in
-      let old : AllThere mid (statements read.lines) = subst (λ ns. AllThere ns (statements read.lines)) (sym read.names) (all_there before (statements read.lines)) in
-      let kept : map (λ l. option_map (placed after []) l.stmt) read.lines ≡ stmts =
-      ap (λ ns. map (λ l. option_map (placed ns []) l.stmt) read.lines) st.names ∙ drafts-along mid (names_in (bare st.written ∷ [])) read.lines old ∙ sym read.made in
+      let says : CellSays (cell_texts cell) syntax = (texts (drop next cell.tokens), subst (λ (t : List (List ℕ)). Labels t ls.names (texts (drop next cell.tokens))) whole (Labels-rest (texts (take next cell.tokens)) (texts (drop next cell.tokens)) ls.names ls.says), st.says) in
+      let labelled : leading_in 0 read.syntaxes ++ leading n ls.names ≡ leading_in 0 (read.syntaxes ++ syntax ∷ []) =
+      ap (λ (k : ℕ). leading_in 0 read.syntaxes ++ leading k ls.names) (let e : n ≡ 0 + n = omega arith in e) ∙ sym (leading_in-append read.syntaxes 0 syntax) in
+      let named : first_names (leading_in 0 read.syntaxes) ++ ls.names ≡ labels_of (read.syntaxes ++ syntax ∷ []) =
+      sym (names_read (leading_in 0 read.syntaxes) n ls.names) ∙ ap first_names labelled ∙ first_names_in (read.syntaxes ++ syntax ∷ []) 0 in
+      let end : next ≡ 2 * length ls.names = labels_end cell.tokens next ls.names ls.within ls.says in
+      let same : draft_cell after syntax ≡ draft next stmt = ap (λ (k : ℕ). draft k (option_map (draft_of after) st.syntax)) (sym end) ∙ ap (λ (o : Option DraftStmt). draft next o) (sym st.made) in
+      let old : LocationsExist mid (statements read.syntaxes) = subst (λ ns. LocationsExist ns (statements read.syntaxes)) (sym read.names) (all_there before (statements read.syntaxes)) in
+      let kept : map (draft_cell after) read.syntaxes ≡ drafts =
+      ap (λ ns. map (draft_cell ns) read.syntaxes) st.names ∙ drafts-along mid (names_in (bare st.syntax ∷ [])) read.syntaxes old ∙ sym read.made in
       record {
-        lines = read.lines ++ line ∷ [];
-        says = subst (λ (cs : List (List (List ℕ))). AllZip CellSays cs (read.lines ++ line ∷ [])) (sym (map-append cell_texts front (cell ∷ []))) (zip_more CellSays (cells_texts front) read.lines (cell_texts cell) line read.says says);
-        few = omega (arith, ap length (statements-append read.lines (line ∷ [])), length-append (statements read.lines) (statements (line ∷ [])), room n st.written stmt (placed after []) st.made free read.few);
-        once = subst EachOnce named (ls.once (subst EachOnce (sym (first_names_in read.lines 0)) read.once));
+        syntaxes = read.syntaxes ++ syntax ∷ [];
+        says = subst (λ (cs : List (List (List ℕ))). AllZip CellSays cs (read.syntaxes ++ syntax ∷ [])) (sym (map-append cell_texts front (cell ∷ []))) (zip_more CellSays (cells_texts front) read.syntaxes (cell_texts cell) syntax read.says says);
+        few = omega (arith, ap length (statements-append read.syntaxes (syntax ∷ [])), length-append (statements read.syntaxes) (statements (syntax ∷ [])), room n st.syntax stmt (draft_of after) st.made free read.few);
+        once = subst EachOnce named (ls.once (subst EachOnce (sym (first_names_in read.syntaxes 0)) read.once));
         names =
-            st.names ∙ ap (λ ns. with_names ns (names_in (line ∷ []))) read.names ∙ sym (with_names-append before (names_in read.lines) (names_in (line ∷ [])))
-            ∙ ap (with_names before) (sym (names_in-append read.lines (line ∷ [])));
-        made = sym (map-append (λ l. option_map (placed after []) l.stmt) read.lines (line ∷ []) ∙ ap (λ (ss : List (Option Stmt)). ss ++ option_map (placed after []) st.written ∷ []) kept ∙ ap (λ (x : Option Stmt). stmts ++ x ∷ []) (sym st.made));
+            st.names ∙ ap (λ ns. with_names ns (names_in (syntax ∷ []))) read.names ∙ sym (with_names-append before (names_in read.syntaxes) (names_in (syntax ∷ [])))
+            ∙ ap (with_names before) (sym (names_in-append read.syntaxes (syntax ∷ [])));
+        made = sym (map-append (draft_cell after) read.syntaxes (syntax ∷ []) ∙ ap (λ (ds : List DraftCell). ds ++ draft_cell after syntax ∷ []) kept ∙ ap (λ (x : DraftCell). drafts ++ x ∷ []) same);
         leads = λ m. ls.made m ∙ ap (λ (ps : List (List ℕ × ℕ)). leads_to ps m) labelled;
       }
 
-  pub draft_step : (next : ℕ) (after : List (List ℕ)) (more : LabelMap) (stmt : Option Stmt) (count k : ℕ) → LabelsRead cell.tokens (length (statements read.lines)) (leading_in 0 read.lines) next more → MaybeRead (texts (drop next cell.tokens)) mid stmt after → ForSome stmt (λ s. length (statements read.lines) ≡ 16 → ⊥) → count ≡ length (statements read.lines) → k ≡ option_len stmt → (now : DraftRead (front ++ cell ∷ []) before (stmts ++ stmt ∷ []) more after) × (count + k ≡ length (statements now.lines))
+  pub draft_step : (next : ℕ) (after : List (List ℕ)) (more : LabelMap) (stmt : Option DraftStmt) (count k : ℕ) → LabelsRead cell.tokens (length (statements read.syntaxes)) (leading_in 0 read.syntaxes) next more → MaybeRead (texts (drop next cell.tokens)) mid stmt after → ForSome stmt (λ s. length (statements read.syntaxes) ≡ 16 → ⊥) → count ≡ length (statements read.syntaxes) → k ≡ option_len stmt → (now : DraftRead (front ++ cell ∷ []) before (drafts ++ draft next stmt ∷ []) more after) × (count + k ≡ length (statements now.syntaxes))
   draft_step next after more stmt count k ls st free counted held =
-      let line : Line = record { labels = ls.names; stmt = st.written } in
-      (draft_more next after more stmt ls st free, omega (arith, counted, held, held_by st.written stmt (placed after []) st.made, ap length (statements-append read.lines (line ∷ [])), length-append (statements read.lines) (statements (bare st.written ∷ []))))
+      let syntax : CellSyntax = record { labels = ls.names; stmt = st.syntax } in
+      (draft_more next after more stmt ls st free, omega (arith, counted, held, held_by st.syntax stmt (draft_of after) st.made, ap length (statements-append read.syntaxes (syntax ∷ [])), length-append (statements read.syntaxes) (statements (bare st.syntax ∷ []))))
 
   -- what lines must say of this cell, and what was read before
-  module _ (cells rest : List (Cell A)) (whole : cells ≡ front ++ cell ∷ rest) (t : List Line) (column : Column (cells_texts cells) t) (few : length (with_names before (names_in t)) ≤ 8) where
-    cut : (ys : List Line) × (y : Line) × (more : List Line) × (t ≡ ys ++ y ∷ more) × AllZip CellSays (cells_texts front) ys × CellSays (cell_texts cell) y × AllZip CellSays (cells_texts rest) more
+  module _ (cells rest : List (Cell A)) (whole : cells ≡ front ++ cell ∷ rest) (t : List CellSyntax) (column : Column (cells_texts cells) t) (few : length (with_names before (names_in t)) ≤ 8) where
+    cut : (ys : List CellSyntax) × (y : CellSyntax) × (more : List CellSyntax) × (t ≡ ys ++ y ∷ more) × AllZip CellSays (cells_texts front) ys × CellSays (cell_texts cell) y × AllZip CellSays (cells_texts rest) more
     cut = zip_cut CellSays (cells_texts front) (cell_texts cell) (cells_texts rest) t (subst (λ (cs : List (List (List ℕ))). AllZip CellSays cs t) (ap cells_texts whole ∙ map-append cell_texts front (cell ∷ rest)) column.says)
 
-    same : read.lines ≡ cut.0
-    same = zip_unique CellSays cell_unique (cells_texts front) read.lines cut.0 read.says cut.4
+    same : read.syntaxes ≡ cut.0
+    same = zip_unique CellSays cell_unique (cells_texts front) read.syntaxes cut.0 read.says cut.4
 
-    row : t ≡ read.lines ++ cut.1 ∷ cut.2
+    row : t ≡ read.syntaxes ++ cut.1 ∷ cut.2
     row = cut.3 ∙ ap (λ ls. ls ++ cut.1 ∷ cut.2) (sym same)
 
     names_fit : length (with_names mid (names_in (bare cut.1.stmt ∷ []))) ≤ 8
     names_fit =
         let table : with_names before (names_in t) ≡ with_names (with_names mid (names_in (cut.1 ∷ []))) (names_in cut.2) =
-        ap (λ ls. with_names before (names_in ls)) row ∙ ap (with_names before) (names_in-append read.lines (cut.1 ∷ cut.2)) ∙ with_names-append before (names_in read.lines) (names_in (cut.1 ∷ cut.2))
+        ap (λ ls. with_names before (names_in ls)) row ∙ ap (with_names before) (names_in-append read.syntaxes (cut.1 ∷ cut.2)) ∙ with_names-append before (names_in read.syntaxes) (names_in (cut.1 ∷ cut.2))
         ∙ ap (λ ns. with_names ns (names_in (cut.1 ∷ cut.2))) (sym read.names) ∙ ap (with_names mid) (names_in-append (cut.1 ∷ []) cut.2) ∙ with_names-append mid (names_in (cut.1 ∷ [])) (names_in cut.2) in
         omega (arith, ap length table, with_names-longer (with_names mid (names_in (cut.1 ∷ []))) (names_in cut.2), few)
 
-    count_fits : length (statements read.lines) + length (statements (bare cut.1.stmt ∷ [])) ≤ 16
+    count_fits : length (statements read.syntaxes) + length (statements (bare cut.1.stmt ∷ [])) ≤ 16
     count_fits =
-        let all : statements t ≡ statements read.lines ++ (statements (cut.1 ∷ []) ++ statements cut.2) =
-        ap statements row ∙ statements-append read.lines (cut.1 ∷ cut.2) ∙ ap (λ (ss : List Written). statements read.lines ++ ss) (statements-append (cut.1 ∷ []) cut.2) in
-        omega (arith, ap length all, length-append (statements read.lines) (statements (cut.1 ∷ []) ++ statements cut.2), length-append (statements (cut.1 ∷ [])) (statements cut.2), column.few)
+        let all : statements t ≡ statements read.syntaxes ++ (statements (cut.1 ∷ []) ++ statements cut.2) =
+        ap statements row ∙ statements-append read.syntaxes (cut.1 ∷ cut.2) ∙ ap (λ (ss : List StatementSyntax). statements read.syntaxes ++ ss) (statements-append (cut.1 ∷ []) cut.2) in
+        omega (arith, ap length all, length-append (statements read.syntaxes) (statements (cut.1 ∷ []) ++ statements cut.2), length-append (statements (cut.1 ∷ [])) (statements cut.2), column.few)
 
-    once_fits : EachOnce (first_names (leading_in 0 read.lines) ++ cut.1.labels)
+    once_fits : EachOnce (first_names (leading_in 0 read.syntaxes) ++ cut.1.labels)
     once_fits =
-        let all : labels_of t ≡ (labels_of read.lines ++ cut.1.labels) ++ labels_of cut.2 =
-        ap labels_of row ∙ labels_of-append read.lines (cut.1 ∷ cut.2) ∙ sym (append_assoc (labels_of read.lines) cut.1.labels (labels_of cut.2)) in
-        subst (λ (ns : List (List ℕ)). EachOnce (ns ++ cut.1.labels)) (sym (first_names_in read.lines 0)) (once_front (labels_of read.lines ++ cut.1.labels) (labels_of cut.2) (subst EachOnce all column.once))
+        let all : labels_of t ≡ (labels_of read.syntaxes ++ cut.1.labels) ++ labels_of cut.2 =
+        ap labels_of row ∙ labels_of-append read.syntaxes (cut.1 ∷ cut.2) ∙ sym (append_assoc (labels_of read.syntaxes) cut.1.labels (labels_of cut.2)) in
+        subst (λ (ns : List (List ℕ)). EachOnce (ns ++ cut.1.labels)) (sym (first_names_in read.syntaxes 0)) (once_front (labels_of read.syntaxes ++ cut.1.labels) (labels_of cut.2) (subst EachOnce all column.once))
 
     -- where the labels don't fit, no lines do
-    pub labels_none : ((ls : List (List ℕ)) (m : List (List ℕ)) → Labels (cell_texts cell) ls m → (AtLabel m → ⊥) → EachOnce (first_names (leading_in 0 read.lines) ++ ls) → ⊥) → ⊥
+    pub labels_none : ((ls : List (List ℕ)) (m : List (List ℕ)) → Labels (cell_texts cell) ls m → (AtLabel m → ⊥) → EachOnce (first_names (leading_in 0 read.syntaxes) ++ ls) → ⊥) → ⊥
     labels_none none = none cut.1.labels cut.5.0 cut.5.1 (no_label cut.5.0 cut.1.stmt cut.5.2) once_fits
 
     -- where what stands behind the labels doesn't fit, no lines do
-    pub statement_none : (next : ℕ) (more : LabelMap) → LabelsRead cell.tokens (length (statements read.lines)) (leading_in 0 read.lines) next more → (slice_get (texts cell.tokens) (next + 1) ≡ Some (codes ":") → ⊥) → ((s : Option Written) → MaybeStatement (texts (drop next cell.tokens)) s → length (statements read.lines) + length (statements (bare s ∷ [])) ≤ 16 → length (with_names mid (names_in (bare s ∷ []))) ≤ 8 → ⊥) → ⊥
+    pub statement_none : (next : ℕ) (more : LabelMap) → LabelsRead cell.tokens (length (statements read.syntaxes)) (leading_in 0 read.syntaxes) next more → (slice_get (texts cell.tokens) (next + 1) ≡ Some (codes ":") → ⊥) → ((s : Option StatementSyntax) → FitsBelow (length (statements read.syntaxes)) mid (texts (drop next cell.tokens)) s → ⊥) → ⊥
     statement_none next more ls stops none =
         let whole : texts (take next cell.tokens) ++ texts (drop next cell.tokens) ≡ cell_texts cell =
         sym (map-append (λ u. u.text.now) (take next cell.tokens) (drop next cell.tokens)) ∙ ap texts (take-append-drop next cell.tokens) in
         let own = subst (λ (u : List (List ℕ)). Labels u ls.names (texts (drop next cell.tokens))) whole (Labels-rest (texts (take next cell.tokens)) (texts (drop next cell.tokens)) ls.names ls.says) in
         let one = Labels-unique (cell_texts cell) cut.5.0 (texts (drop next cell.tokens)) cut.1.labels ls.names cut.5.1 own (no_label cut.5.0 cut.1.stmt cut.5.2) (λ at. stops (behind cell.tokens next at)) in
-        none cut.1.stmt (subst (λ (u : List (List ℕ)). MaybeStatement u cut.1.stmt) one.1 cut.5.2) count_fits names_fit
+        none cut.1.stmt (record { says = subst (λ (u : List (List ℕ)). MaybeStatement u cut.1.stmt) one.1 cut.5.2; few = count_fits; room = names_fit })
 
 -- nothing is read yet
-pub draft_none : {A : Type 0} (names : List (List ℕ)) (labels : LabelMap) → LeadsAs labels [] → (read : DraftRead {A = A} [] names [] labels names) × (0 ≡ length (statements read.lines))
-draft_none names labels none = (record { lines = []; says = tt; few = omega arith; once = tt; names = refl; made = refl; leads = none }, refl)
+pub draft_none : {A : Type 0} (names : List (List ℕ)) (labels : LabelMap) → LeadsAs labels [] → (read : DraftRead {A = A} [] names [] labels names) × (0 ≡ length (statements read.syntaxes))
+draft_none names labels none = (record { syntaxes = []; says = tt; few = omega arith; once = tt; names = refl; made = refl; leads = none }, refl)
 
-pub maybe_some : (ts : List (List ℕ)) (before : List (List ℕ)) (stmt : Stmt) (after : List (List ℕ)) → StatementRead ts before stmt after → MaybeRead ts before (Some stmt) after
-maybe_some ts before stmt after r = record { written = Some r.written; says = r.says; names = r.names; made = ap Some r.made }
+pub maybe_some : (ts : List (List ℕ)) (before : List (List ℕ)) (stmt : DraftStmt) (after : List (List ℕ)) → StatementRead ts before stmt after → MaybeRead ts before (Some stmt) after
+maybe_some ts before stmt after r = record { syntax = Some r.syntax; says = r.says; names = r.names; made = ap Some r.made }
 
 pub at_most_one : {X : Type 0} (o : Option X) → option_len o ≤ 1
 at_most_one None = omega arith
@@ -168,7 +181,7 @@ at_most_one (Some x) = omega arith
 
 -- What stands behind the labels of a cell, by its first token.
 pub maybe_none : (tokens : List Token) (names : List (List ℕ)) → None ≡ slice_get tokens 0 → MaybeRead (texts tokens) names None names
-maybe_none [] names e = record { written = None; says = refl; names = refl; made = refl }
+maybe_none [] names e = record { syntax = None; says = refl; names = refl; made = refl }
 maybe_none (t ∷ tokens) names e = absurd cc
 
 module _ (tokens : List Token) (t : Token) (first : Some t ≡ slice_get tokens 0) where
@@ -179,17 +192,17 @@ module _ (tokens : List Token) (t : Token) (first : Some t ≡ slice_get tokens 
       go [] f e = absurd cc
       go (u ∷ ts) f e = absurd cc
 
-  pub no_room : (above : ℕ) → above ≡ 16 → (s : Option Written) → MaybeStatement (texts tokens) s → above + length (statements (bare s ∷ [])) ≤ 16 → ⊥
-  no_room above full None says few = not_empty says
-  no_room above full (Some s) says few = omega (arith, full, few)
+  pub no_room : (names : List (List ℕ)) (above : ℕ) → above ≡ 16 → (s : Option StatementSyntax) → FitsBelow above names (texts tokens) s → ⊥
+  no_room names above full None h = not_empty h.says
+  no_room names above full (Some s) h = omega (arith, full, h.few)
 
-  pub only_some : (names : List (List ℕ)) → ((s : Written) → Statement (texts tokens) s → length (with_names names (named_by s)) ≤ 8 → ⊥) → (s : Option Written) → MaybeStatement (texts tokens) s → length (with_names names (names_in (bare s ∷ []))) ≤ 8 → ⊥
-  only_some names none None says few = not_empty says
-  only_some names none (Some s) says few = none s says few
+  pub only_some : (above : ℕ) (names : List (List ℕ)) → ((s : StatementSyntax) → Fits names (texts tokens) s → ⊥) → (s : Option StatementSyntax) → FitsBelow above names (texts tokens) s → ⊥
+  only_some above names none None h = not_empty h.says
+  only_some above names none (Some s) h = none s (h.says, h.room)
 
-  pub surplus_cause : (names : List (List ℕ)) (above at : ℕ) (cause : CellCause) → above ≡ 16 → at ≡ t.at → IsMisfit cause ⊎ (cause ≡ TooMany) → MaybeCause above tokens names at cause
+  pub surplus_cause : (names : List (List ℕ)) (above at : ℕ) (cause : CellCause) → above ≡ 16 → at ≡ t.at → IsMisfit cause ⊎ ((cause ≡ TooMany) × CanBegin t.text.now) → MaybeCause above tokens names at cause
   surplus_cause names above at cause full place (inl m) = maybe_cause above tokens names at cause (misfit_cause tokens names at cause m)
-  surplus_cause names above at cause full place (inr e) = rw e (inl (full, (t, sym first, sym place)))
+  surplus_cause names above at cause full place (inr (e, begins)) = rw e (inl (full, (t, sym first, sym place, begins)))
 
   pub first_within : (at len : ℕ) → at ≡ t.at → All (λ (u : Token). u.at ≤ len) tokens → at ≤ len
   first_within at len place all = go tokens first all

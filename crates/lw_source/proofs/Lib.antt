@@ -1,13 +1,14 @@
 pub mod Runs
 pub mod Phrases
 pub mod NewNames
-pub mod LabelRows
+pub mod Labels
 pub mod Leads
 pub mod OneReading
-pub mod Names
+pub mod ResolvedNames
 pub mod Drafts
 pub mod FaultPlaces
-pub mod JumpsLed
+pub mod JumpsResolved
 pub mod Resolved
 pub mod ColumnsRead
 pub mod Sources
+pub mod Exchange

@@ -10,7 +10,7 @@ use Rattle.lw_base.specs.Names.{IsLocation}
 use Rattle.lw_base.specs.Registers.{IsRegister}
 use Rattle.lw_text.specs.Tokens.{IsNumber}
 use Rattle.lw_text.proofs.Atoms.{number-unique}
-use Rattle.lw_source.specs.Cells.{Written, Stores, Loads, Swaps, Sets, Sums, Jumps_if, Jumps_if_not, Jumps, Line, IsOperand, Statement, MaybeStatement, Labels, CellSays, Column}
+use Rattle.lw_source.specs.Cells.{StatementSyntax, Stores, Loads, Swaps, Sets, Sums, Jumps_if, Jumps_if_not, Jumps, CellSyntax, IsOperand, Statement, MaybeStatement, Labels, CellSays, Column}
 use Rattle.lw_source.specs.Reading.{AtLabel}
 use Rattle.lw_source.proofs.Phrases.{first_of, other_letter, begins_as, register_apart, no_reserved, if_register, goto_register, swap_register, goto_if, if_if, register_unique, operand_unique, location_number}
 
@@ -49,7 +49,7 @@ six_same a b c d f g x y z t u v e = (cc, cc, cc, cc)
 two_same : (a b x y : List ℕ) → a ∷ b ∷ [] ≡ x ∷ y ∷ [] → b ≡ y
 two_same a b x y e = cc
 
-pub statement_unique : (ts : List (List ℕ)) (s t : Written) → Statement ts s → Statement ts t → s ≡ t
+pub statement_unique : (ts : List (List ℕ)) (s t : StatementSyntax) → Statement ts s → Statement ts t → s ≡ t
 statement_unique ts (Stores x v) (Stores y w) h k =
     let e = three_same x _ h.0 y _ k.0 (sym h.1 ∙ k.1) in
     let name : x ≡ y = e.0 in
@@ -168,7 +168,7 @@ register_colon : (r : ℕ) → IsRegister Source (codes ":") r → ⊥
 register_colon r reg = other_letter 58 [] r (λ e. omega arith) reg
 
 -- no statement has a `:` behind its first token
-pub no_label : (ts : List (List ℕ)) (o : Option Written) → MaybeStatement ts o → AtLabel ts → ⊥
+pub no_label : (ts : List (List ℕ)) (o : Option StatementSyntax) → MaybeStatement ts o → AtLabel ts → ⊥
 no_label ts None h at = let e : slice_get ts 1 ≡ None = ap (λ (t : List (List ℕ)). slice_get t 1) h in absurd cc
 no_label ts (Some (Stores x v)) h at = let e : slice_get ts 1 ≡ Some (codes ":=") = ap (λ t. slice_get t 1) h.1 in absurd cc
 no_label ts (Some (Loads d x)) h at = let e : slice_get ts 1 ≡ Some (codes ":=") = ap (λ t. slice_get t 1) h.1 in absurd cc
@@ -179,11 +179,11 @@ no_label ts (Some (Jumps_if r n l)) h at = let e : slice_get ts 1 ≡ Some h.0 =
 no_label ts (Some (Jumps_if_not r n l)) h at = let e : slice_get ts 1 ≡ Some h.0 = ap (λ t. slice_get t 1) h.2 in let f : h.0 ≡ codes ":" = cc in register_colon r (subst (λ w. IsRegister Source w r) f h.3)
 no_label ts (Some (Jumps l)) h at = let e : slice_get ts 1 ≡ Some l = ap (λ t. slice_get t 1) h.0 in let f : l ≡ codes ":" = cc in not_colon l h.1 f
 
-maybe_unique : (ts : List (List ℕ)) (o p : Option Written) → MaybeStatement ts o → MaybeStatement ts p → o ≡ p
+maybe_unique : (ts : List (List ℕ)) (o p : Option StatementSyntax) → MaybeStatement ts o → MaybeStatement ts p → o ≡ p
 maybe_unique ts None None h k = refl
 maybe_unique ts None (Some s) h k = absurd (some_first ts s k h)
   where
-    some_first : (ts : List (List ℕ)) (s : Written) → Statement ts s → ts ≡ [] → ⊥
+    some_first : (ts : List (List ℕ)) (s : StatementSyntax) → Statement ts s → ts ≡ [] → ⊥
     some_first ts s k h = let f = first_of ts s k in let g : slice_get ts 0 ≡ None = ap (λ (t : List (List ℕ)). slice_get t 0) h in let i : slice_get ts 0 ≡ Some f.0 = f.1 in absurd cc
 maybe_unique ts (Some s) None h k = absurd (let f = first_of ts s h in let g : slice_get ts 0 ≡ None = ap (λ (t : List (List ℕ)). slice_get t 0) k in let i : slice_get ts 0 ≡ Some f.0 = f.1 in cc)
 maybe_unique ts (Some s) (Some t) h k = ap Some (statement_unique ts s t h k)
@@ -201,13 +201,13 @@ Labels-unique ts m n (l ∷ ls) (j ∷ ks) h k p q =
     let more : ls ≡ ks = go.0 in
     (cc, go.1)
 
-pub cell_unique : (cell : List (List ℕ)) (x y : Line) → CellSays cell x → CellSays cell y → x ≡ y
+pub cell_unique : (cell : List (List ℕ)) (x y : CellSyntax) → CellSays cell x → CellSays cell y → x ≡ y
 cell_unique cell x y h k =
     let ls = Labels-unique cell h.0 k.0 x.labels y.labels h.1 k.1 (no_label h.0 x.stmt h.2) (no_label k.0 y.stmt k.2) in
     let s = maybe_unique h.0 x.stmt y.stmt h.2 (subst (λ (t : List (List ℕ)). MaybeStatement t y.stmt) (sym ls.1) k.2) in
     same x.labels y.labels x.stmt y.stmt ls.0 s
   where
-    same : (a b : List (List ℕ)) (o p : Option Written) → a ≡ b → o ≡ p → (let l : Line = record { labels = a; stmt = o } in l) ≡ record { labels = b; stmt = p }
+    same : (a b : List (List ℕ)) (o p : Option StatementSyntax) → a ≡ b → o ≡ p → (let l : CellSyntax = record { labels = a; stmt = o } in l) ≡ record { labels = b; stmt = p }
     same a b o p e f = rw (e, f) refl
 
 module _ {X Y : Type 0} (R : X → Y → Type 0) where
@@ -244,5 +244,5 @@ module _ {X Y : Type 0} (R : X → Y → Type 0) where
       let k = zip_cut front x rest zs h.1 in
       (z ∷ k.0, k.1, k.2, ap (λ ts. z ∷ ts) k.3, (h.0, k.4), k.5, k.6)
 
-pub column_unique : (cells : List (List (List ℕ))) (s t : List Line) → Column cells s → Column cells t → s ≡ t
+pub column_unique : (cells : List (List (List ℕ))) (s t : List CellSyntax) → Column cells s → Column cells t → s ≡ t
 column_unique cells s t h k = zip_unique CellSays cell_unique cells s t h.says k.says

@@ -9,14 +9,15 @@ use Rattle.std.proofs.lemmas.Str.Parse.{digit_from_value}
 use Rattle.lw_base.specs.Characters.{begins}
 use Rattle.lw_base.specs.Names.{IsLocation, is_reserved}
 use Rattle.lw_base.specs.Registers.{IsRegister}
-use Rattle.lw_base.specs.Tables.{with_name, place_of}
+use Rattle.lw_base.specs.Tables.{with_name, index_of}
 use Rattle.lw_text.specs.Tokens.{IsNumber, Digits}
 use Rattle.lw_text.proofs.Atoms.{number-unique}
-use Rattle.lw_source.specs.declared.stmt.Stmt.TheVariants.{Store, Load, Swap, Set, Sum, IfEq, IfNe, Goto}
-use Rattle.lw_source.specs.Cells.{Written, Stores, Loads, Swaps, Sets, Sums, Jumps_if, Jumps_if_not, Jumps, IsOperand, Statement}
+use Rattle.lw_source.specs.declared.stmt.Stmt.TheVariants.{Store, Load, Swap, Set, Sum}
+use Rattle.lw_source.specs.declared.draft.Jump.TheVariants.{IfEq, IfNe, Always}
+use Rattle.lw_source.specs.declared.draft.DraftStmt.TheVariants.{Whole, Jumping}
+use Rattle.lw_source.specs.Cells.{StatementSyntax, Stores, Loads, Swaps, Sets, Sums, Jumps_if, Jumps_if_not, Jumps, IsOperand, Statement}
 use Rattle.lw_source.specs.Faults.{BeforeLocation}
-use Rattle.lw_source.specs.Reading.{IsMisfit, StatementRead, NameCause, StatementCause, MaybeCause, named_by}
-use Rattle.lw_base.specs.Tables.{with_names}
+use Rattle.lw_source.specs.Reading.{IsMisfit, StatementRead, NameCause, StatementCause, MaybeCause}
 use Rattle.lw_base.specs.declared.fault.CellCause.{CellCause}
 use Rattle.lw_base.specs.declared.fault.CellCause.TheVariants.{Form, LabelMissing, LabelTwice, Backward, TooMany, Memory}
 use Rattle.lw_base.specs.declared.fault.CellCause.TheVariants as cause_of
@@ -130,35 +131,35 @@ six (x ∷ ts) a b c d e f p q r s t u h = let g : x ≡ a = cc in let rest = fi
 
 -- What a phrase says whose tokens are known.
 module _ (ts : List (List ℕ)) where
-  pub goes : (names : List (List ℕ)) (l : List ℕ) → slice_get ts 0 ≡ Some (codes "goto") → slice_get ts 1 ≡ Some l → length ts ≤ 2 → IsLocation l → StatementRead ts names (Goto 0) names
-  goes names l a b h loc = record { written = Jumps l; says = (two ts _ l a b h, loc); names = refl; made = refl }
+  pub goes : (names : List (List ℕ)) (l : List ℕ) → slice_get ts 0 ≡ Some (codes "goto") → slice_get ts 1 ≡ Some l → length ts ≤ 2 → IsLocation l → StatementRead ts names (Jumping Always 1) names
+  goes names l a b h loc = record { syntax = Jumps l; says = (two ts _ l a b h, loc); names = refl; made = refl }
 
-  pub goes_if : (names : List (List ℕ)) (r n : ℕ) (w u l : List ℕ) → slice_get ts 0 ≡ Some (codes "if") → slice_get ts 1 ≡ Some w → slice_get ts 2 ≡ Some (codes "=") → slice_get ts 3 ≡ Some u → slice_get ts 4 ≡ Some (codes "goto") → slice_get ts 5 ≡ Some l → length ts ≤ 6 → IsRegister Source w r → IsNumber u n → IsLocation l → StatementRead ts names (IfEq r n 0) names
-  goes_if names r n w u l a b c d e f h reg num loc = record { written = Jumps_if r n l; says = (w, u, six ts _ w _ u _ l a b c d e f h, reg, num, loc); names = refl; made = refl }
+  pub goes_if : (names : List (List ℕ)) (r n : ℕ) (w u l : List ℕ) → slice_get ts 0 ≡ Some (codes "if") → slice_get ts 1 ≡ Some w → slice_get ts 2 ≡ Some (codes "=") → slice_get ts 3 ≡ Some u → slice_get ts 4 ≡ Some (codes "goto") → slice_get ts 5 ≡ Some l → length ts ≤ 6 → IsRegister Source w r → IsNumber u n → IsLocation l → StatementRead ts names (Jumping (IfEq r n) 5) names
+  goes_if names r n w u l a b c d e f h reg num loc = record { syntax = Jumps_if r n l; says = (w, u, six ts _ w _ u _ l a b c d e f h, reg, num, loc); names = refl; made = refl }
 
-  pub goes_if_not : (names : List (List ℕ)) (r n : ℕ) (w u l : List ℕ) → slice_get ts 0 ≡ Some (codes "if") → slice_get ts 1 ≡ Some w → slice_get ts 2 ≡ Some (codes "!=") → slice_get ts 3 ≡ Some u → slice_get ts 4 ≡ Some (codes "goto") → slice_get ts 5 ≡ Some l → length ts ≤ 6 → IsRegister Source w r → IsNumber u n → IsLocation l → StatementRead ts names (IfNe r n 0) names
-  goes_if_not names r n w u l a b c d e f h reg num loc = record { written = Jumps_if_not r n l; says = (w, u, six ts _ w _ u _ l a b c d e f h, reg, num, loc); names = refl; made = refl }
+  pub goes_if_not : (names : List (List ℕ)) (r n : ℕ) (w u l : List ℕ) → slice_get ts 0 ≡ Some (codes "if") → slice_get ts 1 ≡ Some w → slice_get ts 2 ≡ Some (codes "!=") → slice_get ts 3 ≡ Some u → slice_get ts 4 ≡ Some (codes "goto") → slice_get ts 5 ≡ Some l → length ts ≤ 6 → IsRegister Source w r → IsNumber u n → IsLocation l → StatementRead ts names (Jumping (IfNe r n) 5) names
+  goes_if_not names r n w u l a b c d e f h reg num loc = record { syntax = Jumps_if_not r n l; says = (w, u, six ts _ w _ u _ l a b c d e f h, reg, num, loc); names = refl; made = refl }
 
-  pub sets : (names : List (List ℕ)) (d : ℕ) (v : Operand) (w u : List ℕ) → slice_get ts 0 ≡ Some w → slice_get ts 1 ≡ Some (codes ":=") → slice_get ts 2 ≡ Some u → length ts ≤ 3 → IsRegister Source w d → IsOperand u v → StatementRead ts names (Set d v) names
-  sets names d v w u a b c h reg is = record { written = Sets d v; says = (w, u, three ts w _ u a b c h, reg, is); names = refl; made = refl }
+  pub sets : (names : List (List ℕ)) (d : ℕ) (v : Operand) (w u : List ℕ) → slice_get ts 0 ≡ Some w → slice_get ts 1 ≡ Some (codes ":=") → slice_get ts 2 ≡ Some u → length ts ≤ 3 → IsRegister Source w d → IsOperand u v → StatementRead ts names (Whole (Set d v)) names
+  sets names d v w u a b c h reg is = record { syntax = Sets d v; says = (w, u, three ts w _ u a b c h, reg, is); names = refl; made = refl }
 
-  pub sums : (names : List (List ℕ)) (d l : ℕ) (v : Operand) (w u z : List ℕ) → slice_get ts 0 ≡ Some w → slice_get ts 1 ≡ Some (codes ":=") → slice_get ts 2 ≡ Some u → slice_get ts 3 ≡ Some (codes "+") → slice_get ts 4 ≡ Some z → length ts ≤ 5 → IsRegister Source w d → IsRegister Source u l → IsOperand z v → StatementRead ts names (Sum d l v) names
-  sums names d l v w u z a b c e f h reg left right = record { written = Sums d l v; says = (w, u, z, five ts w _ u _ z a b c e f h, reg, left, right); names = refl; made = refl }
+  pub sums : (names : List (List ℕ)) (d l : ℕ) (v : Operand) (w u z : List ℕ) → slice_get ts 0 ≡ Some w → slice_get ts 1 ≡ Some (codes ":=") → slice_get ts 2 ≡ Some u → slice_get ts 3 ≡ Some (codes "+") → slice_get ts 4 ≡ Some z → length ts ≤ 5 → IsRegister Source w d → IsRegister Source u l → IsOperand z v → StatementRead ts names (Whole (Sum d l v)) names
+  sums names d l v w u z a b c e f h reg left right = record { syntax = Sums d l v; says = (w, u, z, five ts w _ u _ z a b c e f h, reg, left, right); names = refl; made = refl }
 
-  pub stores : (before after : List (List ℕ)) (loc : ℕ) (o : Operand) (x w : List ℕ) → slice_get ts 0 ≡ Some x → slice_get ts 1 ≡ Some (codes ":=") → slice_get ts 2 ≡ Some w → length ts ≤ 3 → IsLocation x → IsOperand w o → after ≡ with_name before x → loc ≡ place_of after x → StatementRead ts before (Store loc o) after
+  pub stores : (before after : List (List ℕ)) (loc : ℕ) (o : Operand) (x w : List ℕ) → slice_get ts 0 ≡ Some x → slice_get ts 1 ≡ Some (codes ":=") → slice_get ts 2 ≡ Some w → length ts ≤ 3 → IsLocation x → IsOperand w o → after ≡ with_name before x → loc ≡ index_of after x → StatementRead ts before (Whole (Store loc o)) after
   stores before after loc o x w a b c h name is names place =
-      record { written = Stores x o; says = (w, three ts x _ w a b c h, name, is); names = names; made = ap (λ (l : ℕ). Store l o) place }
+      record { syntax = Stores x o; says = (w, three ts x _ w a b c h, name, is); names = names; made = ap (λ (l : ℕ). Whole (Store l o)) place }
 
-  pub loads : (before after : List (List ℕ)) (loc d : ℕ) (w x : List ℕ) → slice_get ts 0 ≡ Some w → slice_get ts 1 ≡ Some (codes ":=") → slice_get ts 2 ≡ Some x → length ts ≤ 3 → IsRegister Source w d → IsLocation x → after ≡ with_name before x → loc ≡ place_of after x → StatementRead ts before (Load d loc) after
+  pub loads : (before after : List (List ℕ)) (loc d : ℕ) (w x : List ℕ) → slice_get ts 0 ≡ Some w → slice_get ts 1 ≡ Some (codes ":=") → slice_get ts 2 ≡ Some x → length ts ≤ 3 → IsRegister Source w d → IsLocation x → after ≡ with_name before x → loc ≡ index_of after x → StatementRead ts before (Whole (Load d loc)) after
   loads before after loc d w x a b c h reg name names place =
-      record { written = Loads d x; says = (w, three ts w _ x a b c h, reg, name); names = names; made = ap (λ (l : ℕ). Load d l) place }
+      record { syntax = Loads d x; says = (w, three ts w _ x a b c h, reg, name); names = names; made = ap (λ (l : ℕ). Whole (Load d l)) place }
 
-  pub swaps : (before after : List (List ℕ)) (loc d r : ℕ) (w x u : List ℕ) → slice_get ts 0 ≡ Some w → slice_get ts 1 ≡ Some (codes ":=") → slice_get ts 2 ≡ Some (codes "swap") → slice_get ts 3 ≡ Some x → slice_get ts 4 ≡ Some u → length ts ≤ 5 → IsRegister Source w d → IsLocation x → IsRegister Source u r → after ≡ with_name before x → loc ≡ place_of after x → StatementRead ts before (Swap d loc r) after
+  pub swaps : (before after : List (List ℕ)) (loc d r : ℕ) (w x u : List ℕ) → slice_get ts 0 ≡ Some w → slice_get ts 1 ≡ Some (codes ":=") → slice_get ts 2 ≡ Some (codes "swap") → slice_get ts 3 ≡ Some x → slice_get ts 4 ≡ Some u → length ts ≤ 5 → IsRegister Source w d → IsLocation x → IsRegister Source u r → after ≡ with_name before x → loc ≡ index_of after x → StatementRead ts before (Whole (Swap d loc r)) after
   swaps before after loc d r w x u a b c e f h reg name src names place =
-      record { written = Swaps d x r; says = (w, u, five ts w _ _ x u a b c e f h, reg, name, src); names = names; made = ap (λ (l : ℕ). Swap d l r) place }
+      record { syntax = Swaps d x r; says = (w, u, five ts w _ _ x u a b c e f h, reg, name, src); names = names; made = ap (λ (l : ℕ). Whole (Swap d l r)) place }
 
 -- what the first token of a statement is
-abbrev pub Begins : List ℕ → Written → Type 0
+abbrev pub Begins : List ℕ → StatementSyntax → Type 0
 Begins a (Stores x v) = IsLocation a
 Begins a (Loads d x) = IsRegister Source a d
 Begins a (Swaps d x r) = IsRegister Source a d
@@ -169,7 +170,7 @@ Begins a (Jumps_if_not r n l) = codes "if" ≡ a
 Begins a (Jumps l) = codes "goto" ≡ a
 
 -- a statement has a first token
-pub first_of : (ts : List (List ℕ)) (s : Written) → Statement ts s → (a : List ℕ) × (slice_get ts 0 ≡ Some a)
+pub first_of : (ts : List (List ℕ)) (s : StatementSyntax) → Statement ts s → (a : List ℕ) × (slice_get ts 0 ≡ Some a)
 first_of ts (Stores x v) h = (x, ap (λ t. slice_get t 0) h.1)
 first_of ts (Loads d x) h = (h.0, ap (λ t. slice_get t 0) h.1)
 first_of ts (Swaps d x r) h = (h.0, ap (λ t. slice_get t 0) h.2)
@@ -179,7 +180,7 @@ first_of ts (Jumps_if r n l) h = (codes "if", ap (λ t. slice_get t 0) h.2)
 first_of ts (Jumps_if_not r n l) h = (codes "if", ap (λ t. slice_get t 0) h.2)
 first_of ts (Jumps l) h = (codes "goto", ap (λ t. slice_get t 0) h.0)
 
-pub begins_as : (ts : List (List ℕ)) (a : List ℕ) (s : Written) → slice_get ts 0 ≡ Some a → Statement ts s → Begins a s
+pub begins_as : (ts : List (List ℕ)) (a : List ℕ) (s : StatementSyntax) → slice_get ts 0 ≡ Some a → Statement ts s → Begins a s
 begins_as ts a (Stores x v) first says = let e : slice_get ts 0 ≡ Some x = ap (λ t. slice_get t 0) says.1 in let same : x ≡ a = cc in subst IsLocation same says.2
 begins_as ts a (Loads d x) first says = let e : slice_get ts 0 ≡ Some says.0 = ap (λ t. slice_get t 0) says.1 in let same : says.0 ≡ a = cc in subst (λ w. IsRegister Source w d) same says.2
 begins_as ts a (Swaps d x r) first says = let e : slice_get ts 0 ≡ Some says.0 = ap (λ t. slice_get t 0) says.2 in let same : says.0 ≡ a = cc in subst (λ w. IsRegister Source w d) same says.3
@@ -203,7 +204,7 @@ goto_if e = apart 103 105 _ _ (λ f. omega arith) e
 
 -- a statement whose first token is known
 module _ (ts : List (List ℕ)) where
-  pub only_goto : slice_get ts 0 ≡ Some (codes "goto") → ((l : List ℕ) → Statement ts (Jumps l) → ⊥) → (s : Written) → Statement ts s → ⊥
+  pub only_goto : slice_get ts 0 ≡ Some (codes "goto") → ((l : List ℕ) → Statement ts (Jumps l) → ⊥) → (s : StatementSyntax) → Statement ts s → ⊥
   only_goto first none (Stores x v) says = no_reserved _ refl (begins_as ts _ (Stores x v) first says)
   only_goto first none (Loads d x) says = goto_register d (begins_as ts _ (Loads d x) first says)
   only_goto first none (Swaps d x r) says = goto_register d (begins_as ts _ (Swaps d x r) first says)
@@ -213,7 +214,7 @@ module _ (ts : List (List ℕ)) where
   only_goto first none (Jumps_if_not r n l) says = goto_if (sym (begins_as ts _ (Jumps_if_not r n l) first says))
   only_goto first none (Jumps l) says = none l says
 
-  pub only_if : slice_get ts 0 ≡ Some (codes "if") → ((r n : ℕ) (l : List ℕ) → Statement ts (Jumps_if r n l) → ⊥) → ((r n : ℕ) (l : List ℕ) → Statement ts (Jumps_if_not r n l) → ⊥) → (s : Written) → Statement ts s → ⊥
+  pub only_if : slice_get ts 0 ≡ Some (codes "if") → ((r n : ℕ) (l : List ℕ) → Statement ts (Jumps_if r n l) → ⊥) → ((r n : ℕ) (l : List ℕ) → Statement ts (Jumps_if_not r n l) → ⊥) → (s : StatementSyntax) → Statement ts s → ⊥
   only_if first none not (Stores x v) says = no_reserved _ refl (begins_as ts _ (Stores x v) first says)
   only_if first none not (Loads d x) says = if_register d (begins_as ts _ (Loads d x) first says)
   only_if first none not (Swaps d x r) says = if_register d (begins_as ts _ (Swaps d x r) first says)
@@ -227,7 +228,7 @@ pub if_if : codes "=" ≡ codes "!=" → ⊥
 if_if e = apart 61 33 _ _ (λ f. omega arith) e
 
 -- A value for a register: by what its first token is.
-abbrev pub ValueBegins : List (List ℕ) → List ℕ → Written → Type 0
+abbrev pub ValueBegins : List (List ℕ) → List ℕ → StatementSyntax → Type 0
 ValueBegins ts c (Stores x v) = ⊥
 ValueBegins ts c (Loads d x) = (x ≡ c) × IsLocation c × (length ts ≡ 3)
 ValueBegins ts c (Swaps d x r) = c ≡ codes "swap"
@@ -246,7 +247,7 @@ module _ (ts : List (List ℕ)) (a : List ℕ) (d : ℕ) (first : slice_get ts 0
   not_goto e = goto_register d (subst (λ w. IsRegister Source w d) (sym e) reg)
 
   -- its second token is `:=`, and it has a third
-  pub becomes : (s : Written) → Statement ts s → (slice_get ts 1 ≡ Some (codes ":=")) × (2 < length ts)
+  pub becomes : (s : StatementSyntax) → Statement ts s → (slice_get ts 1 ≡ Some (codes ":=")) × (2 < length ts)
   becomes (Stores x v) says = absurd (register_apart a d reg (begins_as ts a (Stores x v) first says))
   becomes (Loads e x) says = (ap (λ t. slice_get t 1) says.1, omega (arith, ap length says.1))
   becomes (Swaps e x r) says = (ap (λ t. slice_get t 1) says.2, omega (arith, ap length says.2))
@@ -256,7 +257,7 @@ module _ (ts : List (List ℕ)) (a : List ℕ) (d : ℕ) (first : slice_get ts 0
   becomes (Jumps_if_not r n l) says = absurd (not_if (begins_as ts a (Jumps_if_not r n l) first says))
   becomes (Jumps l) says = absurd (not_goto (begins_as ts a (Jumps l) first says))
 
-  pub value_begins : (c : List ℕ) → slice_get ts 2 ≡ Some c → (s : Written) → Statement ts s → ValueBegins ts c s
+  pub value_begins : (c : List ℕ) → slice_get ts 2 ≡ Some c → (s : StatementSyntax) → Statement ts s → ValueBegins ts c s
   value_begins c third (Stores x v) says = register_apart a d reg (begins_as ts a (Stores x v) first says)
   value_begins c third (Loads e x) says = let f : slice_get ts 2 ≡ Some x = ap (λ t. slice_get t 2) says.1 in let same : x ≡ c = cc in (same, subst IsLocation same says.3, ap length says.1)
   value_begins c third (Swaps e x r) says = let f : slice_get ts 2 ≡ Some (codes "swap") = ap (λ t. slice_get t 2) says.2 in cc
@@ -267,7 +268,7 @@ module _ (ts : List (List ℕ)) (a : List ℕ) (d : ℕ) (first : slice_get ts 0
   value_begins c third (Jumps l) says = not_goto (begins_as ts a (Jumps l) first says)
 
 -- no value begins with a token that is none of these
-pub no_value : (ts : List (List ℕ)) (c : List ℕ) (Q : Written → Type 0) → ((x : List ℕ) (d : ℕ) → x ≡ c → IsLocation c → length ts ≡ 3 → Q (Loads d x) → ⊥) → ((d r : ℕ) (x : List ℕ) → c ≡ codes "swap" → Q (Swaps d x r) → ⊥) → ((d : ℕ) (v : Operand) → IsOperand c v → length ts ≡ 3 → Q (Sets d v) → ⊥) → ((d l : ℕ) (v : Operand) → IsRegister Source c l → length ts ≡ 5 → Q (Sums d l v) → ⊥) → (s : Written) → ValueBegins ts c s → Q s → ⊥
+pub no_value : (ts : List (List ℕ)) (c : List ℕ) (Q : StatementSyntax → Type 0) → ((x : List ℕ) (d : ℕ) → x ≡ c → IsLocation c → length ts ≡ 3 → Q (Loads d x) → ⊥) → ((d r : ℕ) (x : List ℕ) → c ≡ codes "swap" → Q (Swaps d x r) → ⊥) → ((d : ℕ) (v : Operand) → IsOperand c v → length ts ≡ 3 → Q (Sets d v) → ⊥) → ((d l : ℕ) (v : Operand) → IsRegister Source c l → length ts ≡ 5 → Q (Sums d l v) → ⊥) → (s : StatementSyntax) → ValueBegins ts c s → Q s → ⊥
 no_value ts c Q load swap set sum (Stores x v) h q = h
 no_value ts c Q load swap set sum (Loads d x) h q = load x d h.0 h.1 h.2 q
 no_value ts c Q load swap set sum (Swaps d x r) h q = swap d r x h q
@@ -281,7 +282,7 @@ pub swap_number : (n : ℕ) → IsNumber (codes "swap") n → ⊥
 swap_number n num = true≢false (sym (number_first _ n num))
 
 -- where the first token is no register and begins no jump, the statement is a store to it
-pub only_store : (ts : List (List ℕ)) (a : List ℕ) (Q : Written → Type 0) → slice_get ts 0 ≡ Some a → ((r : ℕ) → IsRegister Source a r → ⊥) → (codes "if" ≡ a → ⊥) → (codes "goto" ≡ a → ⊥) → ((v : Operand) → IsLocation a → Q (Stores a v) → ⊥) → (s : Written) → Statement ts s → Q s → ⊥
+pub only_store : (ts : List (List ℕ)) (a : List ℕ) (Q : StatementSyntax → Type 0) → slice_get ts 0 ≡ Some a → ((r : ℕ) → IsRegister Source a r → ⊥) → (codes "if" ≡ a → ⊥) → (codes "goto" ≡ a → ⊥) → ((v : Operand) → IsLocation a → Q (Stores a v) → ⊥) → (s : StatementSyntax) → Statement ts s → Q s → ⊥
 only_store ts a Q first regs ifs gotos store (Stores x v) says q =
     let e : slice_get ts 0 ≡ Some x = ap (λ t. slice_get t 0) says.1 in
     let same : x ≡ a = cc in
@@ -347,10 +348,6 @@ before_third (t ∷ u ∷ v ∷ tokens) w d a reg b c =
     let f : u.text.now ≡ codes ":=" = cc in
     let g : v.text.now ≡ codes "swap" = cc in
     inr (w, d, reg, inr (rw (e, f, g) refl))
-
--- the statement's name as a table gets it
-abbrev pub Fits : List (List ℕ) → List (List ℕ) → Written → Type 0
-Fits ts names s = Statement ts s × (length (with_names names (named_by s)) ≤ 8)
 
 -- the words of the language are reserved
 pub swap_reserved : IsLocation (codes "swap") → ⊥

@@ -21,7 +21,7 @@ use Rattle.std.proofs.lemmas.Bool.{lt-ltb}
 use Rattle.std.proofs.lemmas.List.{map-append, take_all}
 use Rattle.std.proofs.lemmas.Option.{slice_get-map, slice_get_within}
 use Rattle.std.specs.Option.{option_map}
-use Rattle.lw_source.proofs.LabelRows.{at_index}
+use Rattle.lw_source.proofs.Labels.{at_index}
 
 Ran-push : (program : List (List Stmt)) (es : List Event) (e : Event) (s mid end : State) → Ran program es s mid → source_event program e mid ≡ Ok end → Ran program (es ++ e ∷ []) s end
 Ran-push program [] e s mid end ran one = (end, subst (λ (m : State). source_event program e m ≡ Ok end) ran one, refl)

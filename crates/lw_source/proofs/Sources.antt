@@ -2,7 +2,11 @@
 use Rattle.std.proofs.Common.{◌≡◌, ℕ, suc, ◌<◌, ◌≤◌, ◌+◌, ◌-◌, List, [], ◌∷◌, ◌++◌, length, take, drop, get_or, refl, sym, ap, ◌∙◌, subst, arith}
 use Rattle.std.specs.Prelude.{map, All, replicate}
 use Rattle.std.proofs.lemmas.List.Elements.{All-from_recursion}
-use Rattle.lw_base.specs.Heads.{TestHead}
+use Rattle.lw_base.specs.Heads.{TestHead, with_table}
+use Rattle.lw_base.specs.Names.{IsTable}
+use Rattle.lw_base.specs.WellFormed.{IsWellFormedHead}
+use Rattle.lw_base.specs.declared.head.Arch.TheVariants.{Source}
+use Rattle.lw_base.proofs.WellFormedHeads.{with_table-well_formed}
 use Rattle.std.specs.List.{AllZip, AllByRecursion}
 use Rattle.std.proofs.lemmas.List.{map-append, length-map, append-nil, take-append-drop}
 use Rattle.std.proofs.lemmas.Grind.{flat_map-append}
@@ -13,13 +17,13 @@ use Rattle.lw_text.specs.Frames.{TestFrame}
 use Rattle.lw_text.specs.Places.{cells_texts, all_texts}
 use Rattle.lw_base.specs.declared.fault.CellCause.{CellCause}
 use Rattle.lw_source.specs.declared.stmt.Stmt.{Stmt}
-use Rattle.lw_source.specs.Sources.{SourceTest, IsThread}
-use Rattle.lw_source.specs.Cells.{Line, Column, statements, names_in, names_of, code_in, with_table, test_on, HasSource}
-use Rattle.lw_source.specs.Faults.{Tells}
-use Rattle.lw_source.specs.Reading.{ColumnRead, ColumnsRead}
+use Rattle.lw_source.specs.Sources.{SourceTest, IsThread, IsWellFormedSource}
+use Rattle.lw_source.specs.Cells.{CellSyntax, Column, statements, names_in, names_of, code_in, test_on, HasSource}
+use Rattle.lw_source.specs.Faults.{TellsBy}
+use Rattle.lw_source.specs.Reading.{ColumnRead, ColumnsRead, ColumnFits, ColumnsFit}
 use Rattle.lw_source.proofs.OneReading.{column_unique, zip_unique, zip_more, zip_length, zip_cut}
 use Rattle.lw_base.proofs.GrowingTables.{with_names-append, with_names-longer}
-use Rattle.lw_source.proofs.Names.{AllThere, all_along, all_there, map_placed-along, thread_fits}
+use Rattle.lw_source.proofs.ResolvedNames.{LocationsExist, all_along, all_there, map_resolved-along, thread_fits}
 use Rattle.lw_source.proofs.FaultPlaces.{column_tells}
 
 pub one_source : (frame : TestFrame) (s t : SourceTest) → HasSource frame s → HasSource frame t → s ≡ t
@@ -40,58 +44,58 @@ columns_more {A} columns i column within is =
 pub texts_cut : {A : Type 0} (columns : List (List (Cell A))) (i : ℕ) (column : List (Cell A)) → i < length columns → column ≡ get_or columns i column → all_texts columns ≡ all_texts (take i columns) ++ cells_texts column ∷ all_texts (drop (suc i) columns)
 texts_cut columns i column within is = ap all_texts (columns_cut columns i column within is) ∙ map-append cells_texts (take i columns) (column ∷ drop (suc i) columns)
 
-names_of-append : (xs ys : List (List Line)) → names_of (xs ++ ys) ≡ names_of xs ++ names_of ys
+names_of-append : (xs ys : List (List CellSyntax)) → names_of (xs ++ ys) ≡ names_of xs ++ names_of ys
 names_of-append xs ys = flat_map-append names_in xs ys
 
 -- the names of all statements are in the table
-abbrev AllIn : List (List ℕ) → List (List Line) → Type 0
+abbrev AllIn : List (List ℕ) → List (List CellSyntax) → Type 0
 AllIn names [] = Unit {0}
-AllIn names (t ∷ ts) = AllThere names (statements t) × AllIn names ts
+AllIn names (t ∷ ts) = LocationsExist names (statements t) × AllIn names ts
 
-all_in : (names : List (List ℕ)) (ts : List (List Line)) → AllIn (with_names names (names_of ts)) ts
+all_in : (names : List (List ℕ)) (ts : List (List CellSyntax)) → AllIn (with_names names (names_of ts)) ts
 all_in names [] = tt
 all_in names (t ∷ ts) =
     subst (λ ns. AllIn ns (t ∷ ts)) (sym (with_names-append names (names_in t) (names_of ts)))
     (all_along (with_names names (names_in t)) (names_of ts) (statements t) (all_there names (statements t)), all_in (with_names names (names_in t)) ts)
 
-all_placed-along : (names ns : List (List ℕ)) (ts : List (List Line)) → AllIn names ts → map (code_in (with_names names ns)) ts ≡ map (code_in names) ts
-all_placed-along names ns [] all = refl
-all_placed-along names ns (t ∷ ts) all = rw (map_placed-along names ns t (statements t) all.0, all_placed-along names ns ts all.1) refl
+all_resolved-along : (names ns : List (List ℕ)) (ts : List (List CellSyntax)) → AllIn names ts → map (code_in (with_names names ns)) ts ≡ map (code_in names) ts
+all_resolved-along names ns [] all = refl
+all_resolved-along names ns (t ∷ ts) all = rw (map_resolved-along names ns t (statements t) all.0, all_resolved-along names ns ts all.1) refl
 
 -- What was read of the columns before, and this column.
 module _ (front : List (List (List (List ℕ)))) (before mid : List (List ℕ)) (threads : List (List Stmt)) (read : ColumnsRead front before threads mid) (column : List (List (List ℕ))) where
   pub threads_more : (stmts : List Stmt) (after : List (List ℕ)) → ColumnRead column mid stmts after → ColumnsRead (front ++ column ∷ []) before (threads ++ stmts ∷ []) after
   threads_more stmts after one =
-      let t = one.lines in
-      let old : AllIn mid read.lines = subst (λ ns. AllIn ns read.lines) (sym read.names) (all_in before read.lines) in
-      let kept : map (code_in after) read.lines ≡ threads =
-      ap (λ ns. map (code_in ns) read.lines) one.names ∙ all_placed-along mid (names_in t) read.lines old ∙ sym read.made in
+      let t = one.syntaxes in
+      let old : AllIn mid read.syntaxes = subst (λ ns. AllIn ns read.syntaxes) (sym read.names) (all_in before read.syntaxes) in
+      let kept : map (code_in after) read.syntaxes ≡ threads =
+      ap (λ ns. map (code_in ns) read.syntaxes) one.names ∙ all_resolved-along mid (names_in t) read.syntaxes old ∙ sym read.made in
       record {
-        lines = read.lines ++ t ∷ [];
-        says = zip_more Column front read.lines column t read.says one.says;
+        syntaxes = read.syntaxes ++ t ∷ [];
+        says = zip_more Column front read.syntaxes column t read.says one.says;
         names =
-            one.names ∙ ap (λ ns. with_names ns (names_in t)) read.names ∙ sym (with_names-append before (names_of read.lines) (names_in t))
-            ∙ ap (with_names before) (ap (λ ns. names_of read.lines ++ ns) (sym (append-nil (names_in t))) ∙ sym (names_of-append read.lines (t ∷ [])));
-        made = sym (map-append (code_in after) read.lines (t ∷ []) ∙ ap (λ ss. ss ++ code_in after t ∷ []) kept ∙ ap (λ (x : List Stmt). threads ++ x ∷ []) (sym one.made));
+            one.names ∙ ap (λ ns. with_names ns (names_in t)) read.names ∙ sym (with_names-append before (names_of read.syntaxes) (names_in t))
+            ∙ ap (with_names before) (ap (λ ns. names_of read.syntaxes ++ ns) (sym (append-nil (names_in t))) ∙ sym (names_of-append read.syntaxes (t ∷ [])));
+        made = sym (map-append (code_in after) read.syntaxes (t ∷ []) ∙ ap (λ ss. ss ++ code_in after t ∷ []) kept ∙ ap (λ (x : List Stmt). threads ++ x ∷ []) (sym one.made));
       }
 
   -- where the column says nothing that fits, no list of threads does
-  pub threads_none : (columns rest : List (List (List (List ℕ)))) → columns ≡ front ++ column ∷ rest → ((t : List Line) → Column column t → length (with_names mid (names_in t)) ≤ 8 → ⊥) → (ts : List (List Line)) → AllZip Column columns ts → length (with_names before (names_of ts)) ≤ 8 → ⊥
-  threads_none columns rest whole none ts all few =
+  pub threads_none : (columns rest : List (List (List (List ℕ)))) → columns ≡ front ++ column ∷ rest → ((t : List CellSyntax) → ColumnFits mid column t → ⊥) → (ts : List (List CellSyntax)) → ColumnsFit before columns ts → ⊥
+  threads_none columns rest whole none ts (all, few) =
       let cut = zip_cut Column front column rest ts (subst (λ cs. AllZip Column cs ts) whole all) in
-      let same : read.lines ≡ cut.0 = zip_unique Column column_unique front read.lines cut.0 read.says cut.4 in
+      let same : read.syntaxes ≡ cut.0 = zip_unique Column column_unique front read.syntaxes cut.0 read.says cut.4 in
       let table : with_names before (names_of ts) ≡ with_names (with_names mid (names_in cut.1)) (names_of cut.2) =
       ap (λ ss. with_names before (names_of ss)) cut.3 ∙ ap (with_names before) (names_of-append cut.0 (cut.1 ∷ cut.2))
       ∙ with_names-append before (names_of cut.0) (names_of (cut.1 ∷ cut.2))
       ∙ ap (λ ns. with_names ns (names_of (cut.1 ∷ cut.2))) (ap (λ ss. with_names before (names_of ss)) (sym same) ∙ sym read.names)
       ∙ with_names-append mid (names_in cut.1) (names_of cut.2) in
-      none cut.1 cut.5 (omega (arith, ap length table, with_names-longer (with_names mid (names_in cut.1)) (names_of cut.2), few))
+      none cut.1 (cut.5, omega (arith, ap length table, with_names-longer (with_names mid (names_in cut.1)) (names_of cut.2), few))
 
 -- what is told of a column holds in its columns
-pub threads_tell : {A : Type 0} (columns front rest : List (List (Cell A))) (column : List (Cell A)) (before mid : List (List ℕ)) (threads : List (List Stmt)) → columns ≡ front ++ column ∷ rest → ColumnsRead (all_texts front) before threads mid → (at : ℕ) (cause : CellCause) → Tells mid (column ∷ []) at cause → Tells before columns at cause
-threads_tell columns front rest column before mid threads whole read at cause t = column_tells before mid columns front rest column read.lines whole read.says read.names at cause t
+pub threads_tell : {A : Type 0} (columns front rest : List (List (Cell A))) (column : List (Cell A)) (before mid : List (List ℕ)) (threads : List (List Stmt)) → columns ≡ front ++ column ∷ rest → ColumnsRead (all_texts front) before threads mid → (at : ℕ) (cause : CellCause) → TellsBy mid (column ∷ []) at cause → TellsBy before columns at cause
+threads_tell columns front rest column before mid threads whole read at cause t = column_tells before mid columns front rest column read.syntaxes whole read.says read.names at cause t
 
-all_fit : (names : List (List ℕ)) (columns : List (List (List (List ℕ)))) (ts : List (List Line)) → AllZip Column columns ts → AllIn names ts → AllByRecursion (IsThread (length names)) (map (code_in names) ts)
+all_fit : (names : List (List ℕ)) (columns : List (List (List (List ℕ)))) (ts : List (List CellSyntax)) → AllZip Column columns ts → AllIn names ts → AllByRecursion (IsThread (length names)) (map (code_in names) ts)
 all_fit names [] [] says all = tt
 all_fit names [] (t ∷ ts) says all = absurd says
 all_fit names (c ∷ columns) [] says all = absurd says
@@ -99,17 +103,17 @@ all_fit names (c ∷ columns) (t ∷ ts) says all = (thread_fits names t all.0 s
 
 -- What was read of all columns.
 module _ (columns : List (List (List (List ℕ)))) (before after : List (List ℕ)) (threads : List (List Stmt)) (read : ColumnsRead columns before threads after) where
-  pub threads_fit : All (IsThread (length after)) threads
+  threads_fit : All (IsThread (length after)) threads
   threads_fit =
-      let old : AllIn after read.lines = subst (λ ns. AllIn ns read.lines) (sym read.names) (all_in before read.lines) in
-      let fit : AllByRecursion (IsThread (length after)) threads = subst (λ ts. AllByRecursion (IsThread (length after)) ts) (sym read.made) (all_fit after columns read.lines read.says old) in
+      let old : AllIn after read.syntaxes = subst (λ ns. AllIn ns read.syntaxes) (sym read.names) (all_in before read.syntaxes) in
+      let fit : AllByRecursion (IsThread (length after)) threads = subst (λ ts. AllByRecursion (IsThread (length after)) ts) (sym read.made) (all_fit after columns read.syntaxes read.says old) in
       All-from_recursion (IsThread (length after)) threads fit
 
-  pub as_many_threads : length threads ≡ length columns
-  as_many_threads = ap length read.made ∙ length-map read.lines (code_in after) ∙ sym (zip_length Column columns read.lines read.says)
+  as_many_threads : length threads ≡ length columns
+  as_many_threads = ap length read.made ∙ length-map read.syntaxes (code_in after) ∙ sym (zip_length Column columns read.syntaxes read.says)
 
-  pub table_grown : length before ≤ length after
-  table_grown = omega (arith, with_names-longer before (names_of read.lines), ap length read.names)
+  table_grown : length before ≤ length after
+  table_grown = omega (arith, with_names-longer before (names_of read.syntaxes), ap length read.names)
 
 -- the head, with this table and these initial words
 abbrev changed : TestHead → List (List ℕ) → List ℕ → TestHead
@@ -134,15 +138,27 @@ module _ (frame_head head : TestHead) (same : head ≡ frame_head) (cells : List
       let source : SourceTest = record { head = changed head names words; threads = threads } in
       let found : HasSource (record { head = head; cells = cells }) source =
       record {
-        threads = read.lines;
+        threads = read.syntaxes;
         says = read.says;
         few = subst (λ ns. length ns ≤ 8) read.names few;
         made =
             ap (λ (w : List ℕ). let t : SourceTest = record { head = changed head names w; threads = threads } in t) filled
             ∙ ap (λ (ts : List (List Stmt)). let t : SourceTest = record { head = with_table head names; threads = ts } in t) read.made
-            ∙ ap (λ ns. test_on head ns read.lines) read.names;
+            ∙ ap (λ ns. test_on head ns read.syntaxes) read.names;
       } in
       subst (λ (h : TestHead). HasSource (record { head = h; cells = cells }) source) same found
 
-  pub source_none : ((t : List (List Line)) → AllZip Column cells t → length (with_names head.locs (names_of t)) ≤ 8 → ⊥) → (s : SourceTest) → HasSource (record { head = frame_head; cells = cells }) s → ⊥
-  source_none none s has = none has.threads has.says (subst (λ (h : TestHead). length (with_names h.locs (names_of has.threads)) ≤ 8) (sym same) has.few)
+  pub source_none : ((t : List (List CellSyntax)) → ColumnsFit head.locs cells t → ⊥) → (s : SourceTest) → HasSource (record { head = frame_head; cells = cells }) s → ⊥
+  source_none none s has = none has.threads (has.says, subst (λ (h : TestHead). length (with_names h.locs (names_of has.threads)) ≤ 8) (sym same) has.few)
+
+  pub source_well_formed : (threads : List (List Stmt)) (names : List (List ℕ)) (words : List ℕ) → IsWellFormedHead frame_head → frame_head.arch ≡ Source → length cells ≡ frame_head.threads → ColumnsRead cells head.locs threads names → IsTable names
+      → words ≡ head.init_words ++ replicate (length names - length head.locs) 0 → IsWellFormedSource (record { head = changed head names words; threads = threads })
+  source_well_formed threads names words formed language columns read table filled =
+      let grown : IsWellFormedHead (with_table head names) =
+      with_table-well_formed head names (subst IsWellFormedHead (sym same) formed) table (table_grown cells head.locs names threads read) in
+      record {
+        head = subst (λ (w : List ℕ). IsWellFormedHead (changed head names w)) (sym filled) grown;
+        language = ap (λ (h : TestHead). h.arch) same ∙ language;
+        as_many = as_many_threads cells head.locs names threads read ∙ columns ∙ sym (ap (λ (h : TestHead). h.threads) same);
+        code = threads_fit cells head.locs names threads read;
+      }

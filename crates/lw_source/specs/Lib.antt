@@ -1,7 +1,11 @@
 pub mod Statements
 pub mod Sources
+pub mod SourceProps
 pub mod Runs
 pub mod Views
 pub mod Cells
 pub mod Faults
+pub mod Drafts
 pub mod Reading
+pub mod Conflicts
+pub mod Flow

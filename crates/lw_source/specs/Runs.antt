@@ -1,5 +1,5 @@
 -- Runs of a source test: some thread's next statement at a time, on one memory.
-use Rattle.std.specs.Prelude.{◌≡◌, ℕ, ◌≤◌, Bool, nat_lt, nat_le, if◌then◌else◌, Option, Some, None, Result, Ok, Err, List, [], ◌∷◌, length, map, take, slice_get, slice_set, slice_index_or, IsTrue}
+use Rattle.std.specs.Prelude.{◌≡◌, ℕ, ◌≤◌, Bool, nat_lt, nat_le, if◌then◌else◌, Option, Some, None, Result, Ok, Err, List, [], ◌∷◌, length, map, take, slice_get, slice_set, slice_index_or, IsTrue, MatchResult}
 use Rattle.std.specs.List.{list_all, zip}
 use Rattle.lw_base.specs.Outcomes.{Final}
 use Rattle.lw_base.specs.declared.event.Event.{Event}
@@ -87,3 +87,8 @@ pub record SourceOutcome (s : SourceTest) (o : Final) : Type 0 where
 pub record Running : Type 0 where
   pub program : List (List Stmt)
   pub state : State
+
+-- What is answered where this is the state after a step, and what the run is then; a refused step changes nothing.
+abbrev pub Answers : Result State Stop → Result (Unit {0}) Stop → Running → Running → Type 0
+Answers step answer before after =
+    MatchResult step (λ next. (answer ≡ Ok tt) × (after.state ≡ next)) (λ stop. (answer ≡ Err stop) × (after ≡ before))

@@ -1,7 +1,11 @@
--- A source test, and what always holds of its threads.
+-- A source test, and what always holds of it: it is well-formed.
 use Rattle.std.specs.Prelude.{◌≡◌, ℕ, ◌<◌, ◌≤◌, Option, Some, None, List, length, slice_get, All}
 use Rattle.std.specs.Option.{ForSome}
-use Rattle.lw_base.specs.Heads.{TestHead}
+use Rattle.lw_source.specs.declared.stmt.TheConstants.{MAX_STATEMENTS}
+use Rattle.lw_base.specs.declared.head.Arch.TheVariants.{Source}
+use Rattle.lw_base.specs.declared.head.Head.{Head}
+use Rattle.lw_base.specs.Heads.{TestHead, head_of}
+use Rattle.lw_base.specs.WellFormed.{IsWellFormedHead}
 use Rattle.lw_source.specs.declared.stmt.Stmt.{Stmt}
 use Rattle.lw_source.specs.declared.stmt.Stmt.TheVariants.{Store, Load, Swap, Set, Sum, IfEq, IfNe, Goto}
 
@@ -9,6 +13,10 @@ use Rattle.lw_source.specs.declared.stmt.Stmt.TheVariants.{Store, Load, Swap, Se
 pub record SourceTest : Type 0 where
   pub head : TestHead
   pub threads : List (List Stmt)
+
+-- the test of a head in memory and statements
+abbrev pub test_of : {A : Type 0} → Head A → List (List Stmt) → SourceTest
+test_of head threads = record { head = head_of head; threads = threads }
 
 -- the location that a statement reads or writes
 abbrev pub location_of : Stmt → Option ℕ
@@ -38,6 +46,15 @@ IsStmt locs s = ForSome (location_of s) (λ x. x < locs)
 
 -- at most 16 statements, on so many locations; jumps go forward, at most to the end
 pub record IsThread (locs : ℕ) (code : List Stmt) : Type 0 where
-  pub short : length code ≤ 16
+  pub short : length code ≤ MAX_STATEMENTS
   pub there : All (IsStmt locs) code
-  pub forward : (k : ℕ) (s : Stmt) → slice_get code k ≡ Some s → ForSome (target_of s) (λ to. (k < to) × (to ≤ length code))
+  pub forward :
+      (k : ℕ) (s : Stmt) → slice_get code k ≡ Some s
+      → ForSome (target_of s) (λ to. (k < to) × (to ≤ length code))
+
+-- A well-formed head of the source language, and for each of its threads a code.
+pub record IsWellFormedSource (s : SourceTest) : Type 0 where
+  pub head : IsWellFormedHead s.head
+  pub language : s.head.arch ≡ Source
+  pub as_many : length s.threads ≡ s.head.threads
+  pub code : All (IsThread (length s.head.locs)) s.threads

@@ -1,5 +1,5 @@
--- What each statement of the source language does: interleaving on one memory (Lamport's
--- sequential consistency), one statement at once.
+-- What each statement of the source language does.
+-- Threads interleave on one memory (Lamport's sequential consistency), one statement at once.
 use Rattle.std.specs.Prelude.{ℕ, ◌+◌, ◌^◌, ◌%◌, ◌==◌, Bool, true, not, if◌then◌else◌, List, slice_index, slice_set}
 use Rattle.lw_base.specs.declared.operand.Operand.{Operand}
 use Rattle.lw_base.specs.declared.operand.Operand.TheVariants.{Register, Number}

@@ -1,10 +1,10 @@
-//! The labels of a thread.
-ghost use Rattle.std.specs.Prelude.{◌≡◌, ◌≢◌, ◌↔◌, ℕ, ◌+◌, ◌≤◌, ◌++◌, List, Some, slice_get, codes, All, IsTrue, IfOk, IfErr, OnOk};
+//! Reads the labels of a cell.
+ghost use Rattle.std.specs.Prelude.{◌≡◌, ◌≢◌, ◌↔◌, ℕ, ◌+◌, ◌≤◌, Some, slice_get, codes, All, IsTrue, IfOk, IfErr};
+ghost use Rattle.lw_base.specs.Refusals.{NotRead};
 ghost use Rattle.lw_base.specs.declared.fault.CellCause.TheVariants.{Memory};
-ghost use Rattle.lw_base.specs.Names.{EachOnce};
 ghost use Rattle.lw_text.specs.Spans.{texts};
-ghost use Rattle.lw_source.specs.Cells.{Labels};
-ghost use Rattle.lw_source.specs.Reading.{LabelsRead, LabelCause, LeadsAs, AtLabel, first_names};
+ghost use Rattle.lw_source.specs.Drafts.{Targets, LeadsAs, first_names};
+ghost use Rattle.lw_source.specs.Reading.{LabelsRead, LabelsFit, LabelFault};
 
 use crate::token::label;
 use lw_base::{CellCause, CellFault};
@@ -19,10 +19,13 @@ pub(crate) fn read_labels<'a, A: Allocator + Copy>(
     to: usize,
     labels: &mut BTreeMap<&'a str, usize, A>,
 ) -> Result<usize, CellFault>
-    ensures found { IfOk result (λ next. (ps : List (List ℕ × ℕ)) → LeadsAs labels.old ps → LabelsRead tokens.now to ps next labels.new) }
+    ensures found { IfOk result (λ next. (before : Targets) → LeadsAs labels.old before
+        → LabelsRead tokens.now to before next labels.new) }
     ensures stops { IfOk result (λ next. slice_get (texts tokens.now) (next + 1) ≡ Some (codes ":") → ⊥) }
-    ensures fault { IfErr result (λ f. f.cause ≢ Memory → (ps : List (List ℕ × ℕ)) → LeadsAs labels.old ps → (ls : List (List ℕ)) (mid : List (List ℕ)) → Labels (texts tokens.now) ls mid → (AtLabel mid → ⊥) → EachOnce (first_names ps ++ ls) → ⊥) }
-    ensures cause { IfErr result (λ f. (ps : List (List ℕ × ℕ)) → LeadsAs labels.old ps → LabelCause tokens.now (first_names ps) f.at f.cause) }
+    ensures fault { IfErr result (λ f. (before : Targets) → LeadsAs labels.old before
+        → NotRead Memory f.cause (LabelsFit before (texts tokens.now))) }
+    ensures cause { IfErr result (λ f. (before : Targets) → LeadsAs labels.old before
+        → LabelFault tokens.now (first_names before) f) }
     ensures place { (len : ℕ) → All (λ t. t.at ≤ len) tokens.now → IfErr result (λ f. f.at ≤ len) }
 {
     let mut next = 0;

@@ -1,16 +1,16 @@
 //! Reads a source test from its frame.
-ghost use Rattle.std.specs.Prelude.{◌≡◌, ◌≢◌, ℕ, ◌≤◌, ◌-◌, ◌++◌, List, length, map, replicate, All, IfOk, IfErr, OnOk};
-ghost use Rattle.std.specs.List.{AllZip};
+ghost use Rattle.std.specs.Prelude.{◌≡◌, ◌≢◌, ℕ, ◌≤◌, ◌-◌, ◌++◌, length, replicate, All, IfOk, IfErr, OnOk};
+ghost use Rattle.lw_base.specs.Refusals.{NotFound};
 ghost use Rattle.lw_base.specs.declared.head.Arch.TheVariants as arch;
 ghost use Rattle.lw_base.specs.declared.fault.CellCause.TheVariants.{Memory};
-ghost use Rattle.lw_base.specs.Tables.{with_names};
+ghost use Rattle.lw_base.specs.Names.{IsTable};
 ghost use Rattle.lw_text.specs.Frames.{TestFrame};
 ghost use Rattle.lw_text.specs.Places.{all_texts, IsWithin};
 ghost use Rattle.lw_text.specs.Views.{frame_of};
 ghost use Rattle.lw_source.specs.Sources.{SourceTest};
-ghost use Rattle.lw_source.specs.Cells.{Line, Column, names_of, HasSource};
+ghost use Rattle.lw_source.specs.Cells.{HasSource};
 ghost use Rattle.lw_source.specs.Faults.{Tells};
-ghost use Rattle.lw_source.specs.Reading.{ColumnsRead};
+ghost use Rattle.lw_source.specs.Reading.{ColumnsRead, ColumnsFit};
 ghost use Rattle.lw_source.specs.Views.{source_of};
 
 use crate::column::read_column;
@@ -30,10 +30,11 @@ pub fn read_source<A: Allocator + Copy>(
     requires { frame.now.head.arch ≡ arch.Source }
     // What is answered is the frame's test, and where it is refused it has none, unless memory ran out.
     ensures found { IfOk result (λ s. HasSource (frame_of frame.now) (source_of s)) }
-    ensures fault { IfErr result (λ f. f.cause ≢ Memory → (s : SourceTest) → HasSource (frame_of frame.now) s → ⊥) }
+    ensures fault { IfErr result (λ f. NotFound Memory f.cause (HasSource (frame_of frame.now))) }
     ensures place { IfErr result (λ f. f.at ≤ frame.now.len) }
+    ensures memory { IfErr result (λ f. f.cause ≡ Memory → f.at ≡ 0) }
     // What the cause says of the place is so.
-    ensures cause { IfErr result (λ f. Tells frame.now.head.locs frame.now.cells f.at f.cause) }
+    ensures cause { IfErr result (Tells frame.now.head.locs frame.now.cells) }
 {
     let mut head = frame.head().copy()?;
     let columns = frame.cells.as_slice();
@@ -55,10 +56,10 @@ fn read_threads<A: Allocator + Copy>(
     words: &mut Sequence<Word, A>,
 ) -> Result<Sequence<Sequence<Stmt, A>, A>, CellFault>
     ensures found { IfOk result (λ threads. ColumnsRead (all_texts columns.now) locs.old threads locs.new) }
-    ensures few { OnOk result (length locs.new ≤ 8) }
+    ensures table { OnOk result (IsTable locs.new) }
     ensures words { OnOk result (words.new ≡ words.old ++ replicate (length locs.new - length words.old) 0) }
-    ensures fault { IfErr result (λ f. f.cause ≢ Memory → (t : List (List Line)) → AllZip Column (all_texts columns.now) t → length (with_names locs.old (names_of t)) ≤ 8 → ⊥) }
-    ensures cause { IfErr result (λ f. Tells locs.old columns.now f.at f.cause) }
+    ensures fault { IfErr result (λ f. NotFound Memory f.cause (ColumnsFit locs.old (all_texts columns.now))) }
+    ensures cause { IfErr result (Tells locs.old columns.now) }
     ensures place { (len : ℕ) → All (λ column. All (IsWithin len) column) columns.now → IfErr result (λ f. f.at ≤ len) }
 {
     let threads = read_columns(alloc, columns, locs)?;
@@ -74,8 +75,8 @@ fn read_columns<A: Allocator + Copy>(
     locs: &mut LocNames<A>,
 ) -> Result<Sequence<Sequence<Stmt, A>, A>, CellFault>
     ensures found { IfOk result (λ threads. ColumnsRead (all_texts columns.now) locs.old threads locs.new) }
-    ensures fault { IfErr result (λ f. f.cause ≢ Memory → (t : List (List Line)) → AllZip Column (all_texts columns.now) t → length (with_names locs.old (names_of t)) ≤ 8 → ⊥) }
-    ensures cause { IfErr result (λ f. Tells locs.old columns.now f.at f.cause) }
+    ensures fault { IfErr result (λ f. NotFound Memory f.cause (ColumnsFit locs.old (all_texts columns.now))) }
+    ensures cause { IfErr result (Tells locs.old columns.now) }
     ensures place { (len : ℕ) → All (λ column. All (IsWithin len) column) columns.now → IfErr result (λ f. f.at ≤ len) }
 {
     let mut threads = Sequence::new(alloc);

@@ -1,8 +1,7 @@
 //! A run of a source test.
-ghost use Rattle.std.specs.Prelude.{◌≡◌, ℕ, ◌<◌, length, map, Some, None, Ok, Err, slice_get, slice_index, IfOk, OnOk, OnErr, MatchResult};
-ghost use Rattle.lw_base.specs.declared.stop.Stop.TheVariants.{NoCpu, Ended};
+ghost use Rattle.std.specs.Prelude.{◌≡◌, ◌<◌, length, map, Some, slice_get, slice_index, IfOk};
 ghost use Rattle.lw_source.specs.Views.{source_of};
-ghost use Rattle.lw_source.specs.Runs.{start_of, source_step, source_event, code_of, Replayed, outcome_of};
+ghost use Rattle.lw_source.specs.Runs.{start_of, source_step, source_event, Answers, Replayed, outcome_of};
 ghost use Rattle.lw_source.specs.Runs as runs;
 
 use crate::source::Source;
@@ -72,7 +71,9 @@ impl<'a, A: Allocator, B: Allocator> SourceRun<'a, A, B> {
     /// The thread carries out its next statement. A refused step changes nothing.
     pub fn step(&mut self, cpu: Cpu) -> Result<(), Stop>
         ensures program { self.new.program ≡ self.old.program }
-        ensures done { MatchResult (source_step self.old.program cpu self.old.state) (λ next. (result ≡ Ok tt) × (self.new.state ≡ next)) (λ stop. (result ≡ Err stop) × (self.new ≡ self.old)) }
+        ensures threads { length self.new.state.threads ≡ length self.old.state.threads }
+        ensures words { length self.new.state.words ≡ length self.old.state.words }
+        ensures done { Answers (source_step self.old.program cpu self.old.state) result self.old self.new }
     {
         let Some(thread) = self.threads.get(cpu.index()) else {
             return Err(Stop::NoCpu);
@@ -117,7 +118,7 @@ impl<'a, A: Allocator, B: Allocator> SourceRun<'a, A, B> {
     /// One event.
     fn act(&mut self, event: Event) -> Result<(), Stop>
         ensures program { self.new.program ≡ self.old.program }
-        ensures done { MatchResult (source_event self.old.program event self.old.state) (λ next. (result ≡ Ok tt) × (self.new.state ≡ next)) (λ stop. (result ≡ Err stop) × (self.new ≡ self.old)) }
+        ensures done { Answers (source_event self.old.program event self.old.state) result self.old self.new }
     {
         match event {
             Event::Step(cpu) => self.step(cpu),

@@ -1,15 +1,16 @@
 //! Reads the statement of a cell.
-ghost use Rattle.std.specs.Prelude.{◌≡◌, ◌≢◌, ℕ, ◌<◌, ◌≤◌, ◌⊎◌, List, [], length, Some, true, false, slice_get, codes, IfOk, IfErr, OnErr, IsTrue};
-ghost use Rattle.lw_base.specs.declared.fault.CellCause.TheVariants.{Form, TooMany, Memory};
+ghost use Rattle.std.specs.Prelude.{◌≡◌, ◌≢◌, ℕ, ◌<◌, ◌≤◌, ◌⊎◌, length, Some, true, false, slice_get, codes, IfOk, IfErr, OnErr, IsTrue};
+ghost use Rattle.lw_base.specs.Types.{Bytes};
+ghost use Rattle.lw_base.specs.Refusals.{NotFound};
+ghost use Rattle.lw_base.specs.declared.fault.CellCause.TheVariants.{TooMany, Memory};
 ghost use Rattle.lw_base.specs.declared.operand.Operand.{Operand};
-ghost use Rattle.lw_base.specs.declared.head.Arch.TheVariants as arch;
-ghost use Rattle.lw_base.specs.Names.{IsLocation};
-ghost use Rattle.lw_base.specs.Registers.{IsRegister};
-ghost use Rattle.lw_base.specs.Tables.{with_names};
 ghost use Rattle.lw_text.specs.Spans.{texts};
-ghost use Rattle.lw_source.specs.Cells.{Written, Statement, Swaps, Sets, Sums, Jumps_if, Jumps_if_not, Jumps};
-ghost use Rattle.lw_source.specs.Reading.{IsMisfit, RegisterAt, StatementRead, StatementCause, MaybeCause, LiesWithin, named_by};
+ghost use Rattle.lw_source.specs.Cells.{Statement, Swaps, Sums, Jumps_if, Jumps_if_not, Jumps};
+ghost use Rattle.lw_source.specs.Faults.{CanBegin};
+ghost use Rattle.lw_source.specs.Reading.{IsMisfit, RegisterAt, LiesWithin, Fits};
+ghost use Rattle.lw_source.specs.Reading.{StatementRead, PlainRead, StatementFault};
 
+use crate::draft::{DraftStmt, Jump};
 use crate::phrase::Phrase;
 use crate::stmt::Stmt;
 use crate::token::{label, location, misfit, operand, register, word};
@@ -17,15 +18,14 @@ use lw_base::{Arch, CellCause, CellFault, LocNames, Operand, Reg, is_location, r
 use lw_text::{Token, number};
 use std::alloc::Allocator;
 
-/// Reads a statement that is not empty. The name of its location goes into the table; where its jump
-/// leads is not known yet, and is 0.
+/// Reads a statement that is not empty. The name of its location goes into the table.
 pub(crate) fn read_statement<A: Allocator + Copy>(
     phrase: &Phrase<'_, '_>,
     locs: &mut LocNames<A>,
-) -> Result<Stmt, CellFault>
+) -> Result<DraftStmt, CellFault>
     ensures found { IfOk result (λ stmt. StatementRead (texts phrase.now.tokens.now) locs.old stmt locs.new) }
-    ensures fault { IfErr result (λ f. f.cause ≢ Memory → (s : Written) → Statement (texts phrase.now.tokens.now) s → length (with_names locs.old (named_by s)) ≤ 8 → ⊥) }
-    ensures cause { IfErr result (λ f. StatementCause phrase.now.tokens.now locs.old f.at f.cause) }
+    ensures fault { IfErr result (λ f. NotFound Memory f.cause (Fits locs.old (texts phrase.now.tokens.now))) }
+    ensures cause { IfErr result (StatementFault phrase.now.tokens.now locs.old) }
     ensures place { (len : ℕ) → LiesWithin len phrase.now → IfErr result (λ f. f.at ≤ len) }
 {
     let first = phrase.token(0)?;
@@ -43,14 +43,14 @@ pub(crate) fn read_statement<A: Allocator + Copy>(
     phrase.expect(1, ":=")?;
     let val = operand(&phrase.token(2)?)?;
     phrase.ends(3)?;
-    Ok(Stmt::Store { loc, val })
+    Ok(DraftStmt::Whole(Stmt::Store { loc, val }))
 }
 
 /// The fault of a statement that would be one too many: told at its first token, unless no statement
 /// begins with that one.
 pub(crate) fn surplus(first: &Token<'_>) -> CellFault
     ensures place { result.at ≡ first.now.at }
-    ensures cause { IsMisfit result.cause ⊎ (result.cause ≡ TooMany) }
+    ensures cause { IsMisfit result.cause ⊎ ((result.cause ≡ TooMany) × CanBegin first.now.text.now) }
 {
     if is_first(first) {
         return CellFault {
@@ -62,7 +62,9 @@ pub(crate) fn surplus(first: &Token<'_>) -> CellFault
 }
 
 /// Whether a statement can begin with the token.
-fn is_first(token: &Token<'_>) -> bool {
+fn is_first(token: &Token<'_>) -> bool
+    ensures { IsTrue result → CanBegin token.now.text.now }
+{
     token.text == "if"
         || token.text == "goto"
         || is_location(token.text)
@@ -70,24 +72,24 @@ fn is_first(token: &Token<'_>) -> bool {
 }
 
 /// `goto L`
-fn read_goto(phrase: &Phrase<'_, '_>) -> Result<Stmt, CellFault>
+fn read_goto(phrase: &Phrase<'_, '_>) -> Result<DraftStmt, CellFault>
     requires { slice_get (texts phrase.now.tokens.now) 0 ≡ Some (codes "goto") }
-    ensures found { IfOk result (λ stmt. (names : List (List ℕ)) → StatementRead (texts phrase.now.tokens.now) names stmt names) }
-    ensures fault { OnErr result ((l : List ℕ) → Statement (texts phrase.now.tokens.now) (Jumps l) → ⊥) }
+    ensures found { IfOk result (PlainRead (texts phrase.now.tokens.now)) }
+    ensures fault { OnErr result ((l : Bytes) → Statement (texts phrase.now.tokens.now) (Jumps l) → ⊥) }
     ensures cause { IfErr result (λ f. IsMisfit f.cause) }
     ensures place { (len : ℕ) → LiesWithin len phrase.now → IfErr result (λ f. f.at ≤ len) }
 {
     label(&phrase.token(1)?)?;
     phrase.ends(2)?;
-    Ok(Stmt::Goto { to: 0 })
+    Ok(DraftStmt::Jumping(Jump::Always, 1))
 }
 
 /// `if a = n goto L`, `if a != n goto L`
-fn read_if(phrase: &Phrase<'_, '_>) -> Result<Stmt, CellFault>
+fn read_if(phrase: &Phrase<'_, '_>) -> Result<DraftStmt, CellFault>
     requires { slice_get (texts phrase.now.tokens.now) 0 ≡ Some (codes "if") }
-    ensures found { IfOk result (λ stmt. (names : List (List ℕ)) → StatementRead (texts phrase.now.tokens.now) names stmt names) }
-    ensures equal { OnErr result ((a n : ℕ) (l : List ℕ) → Statement (texts phrase.now.tokens.now) (Jumps_if a n l) → ⊥) }
-    ensures unequal { OnErr result ((a n : ℕ) (l : List ℕ) → Statement (texts phrase.now.tokens.now) (Jumps_if_not a n l) → ⊥) }
+    ensures found { IfOk result (PlainRead (texts phrase.now.tokens.now)) }
+    ensures equal { OnErr result ((a n : ℕ) (l : Bytes) → Statement (texts phrase.now.tokens.now) (Jumps_if a n l) → ⊥) }
+    ensures unequal { OnErr result ((a n : ℕ) (l : Bytes) → Statement (texts phrase.now.tokens.now) (Jumps_if_not a n l) → ⊥) }
     ensures cause { IfErr result (λ f. IsMisfit f.cause) }
     ensures place { (len : ℕ) → LiesWithin len phrase.now → IfErr result (λ f. f.at ≤ len) }
 {
@@ -98,9 +100,9 @@ fn read_if(phrase: &Phrase<'_, '_>) -> Result<Stmt, CellFault>
     label(&phrase.token(5)?)?;
     phrase.ends(6)?;
     if is_equal {
-        return Ok(Stmt::IfEq { reg, num, to: 0 });
+        return Ok(DraftStmt::Jumping(Jump::IfEq { reg, num }, 5));
     }
-    Ok(Stmt::IfNe { reg, num, to: 0 })
+    Ok(DraftStmt::Jumping(Jump::IfNe { reg, num }, 5))
 }
 
 /// Whether the token is `=`, and not `!=`.
@@ -126,12 +128,12 @@ fn read_value<A: Allocator + Copy>(
     phrase: &Phrase<'_, '_>,
     dst: Reg,
     locs: &mut LocNames<A>,
-) -> Result<Stmt, CellFault>
+) -> Result<DraftStmt, CellFault>
     requires first { RegisterAt (texts phrase.now.tokens.now) 0 dst }
     requires sign { slice_get (texts phrase.now.tokens.now) 1 ≡ Some (codes ":=") }
     ensures found { IfOk result (λ stmt. StatementRead (texts phrase.now.tokens.now) locs.old stmt locs.new) }
-    ensures fault { IfErr result (λ f. f.cause ≢ Memory → (s : Written) → Statement (texts phrase.now.tokens.now) s → length (with_names locs.old (named_by s)) ≤ 8 → ⊥) }
-    ensures cause { IfErr result (λ f. StatementCause phrase.now.tokens.now locs.old f.at f.cause) }
+    ensures fault { IfErr result (λ f. NotFound Memory f.cause (Fits locs.old (texts phrase.now.tokens.now))) }
+    ensures cause { IfErr result (StatementFault phrase.now.tokens.now locs.old) }
     ensures place { (len : ℕ) → LiesWithin len phrase.now → IfErr result (λ f. f.at ≤ len) }
 {
     let third = phrase.token(2)?;
@@ -144,11 +146,11 @@ fn read_value<A: Allocator + Copy>(
     if let Some(word) = number(third.text) {
         phrase.ends(3)?;
         let val = Operand::Number(word);
-        return Ok(Stmt::Set { dst, val });
+        return Ok(DraftStmt::Whole(Stmt::Set { dst, val }));
     }
     let loc = location(&third, locs)?;
     phrase.ends(3)?;
-    Ok(Stmt::Load { dst, loc })
+    Ok(DraftStmt::Whole(Stmt::Load { dst, loc }))
 }
 
 /// `d := swap x a`
@@ -156,27 +158,28 @@ fn read_swap<A: Allocator + Copy>(
     phrase: &Phrase<'_, '_>,
     dst: Reg,
     locs: &mut LocNames<A>,
-) -> Result<Stmt, CellFault>
+) -> Result<DraftStmt, CellFault>
     requires first { RegisterAt (texts phrase.now.tokens.now) 0 dst }
     requires sign { slice_get (texts phrase.now.tokens.now) 1 ≡ Some (codes ":=") }
     requires third { slice_get (texts phrase.now.tokens.now) 2 ≡ Some (codes "swap") }
     ensures found { IfOk result (λ stmt. StatementRead (texts phrase.now.tokens.now) locs.old stmt locs.new) }
-    ensures fault { IfErr result (λ f. f.cause ≢ Memory → (d a : ℕ) (x : List ℕ) → Statement (texts phrase.now.tokens.now) (Swaps d x a) → length (with_names locs.old (named_by (Swaps d x a))) ≤ 8 → ⊥) }
-    ensures cause { IfErr result (λ f. StatementCause phrase.now.tokens.now locs.old f.at f.cause) }
+    ensures fault { IfErr result (λ f. f.cause ≢ Memory → (d a : ℕ) (x : Bytes)
+        → Fits locs.old (texts phrase.now.tokens.now) (Swaps d x a) → ⊥) }
+    ensures cause { IfErr result (StatementFault phrase.now.tokens.now locs.old) }
     ensures place { (len : ℕ) → LiesWithin len phrase.now → IfErr result (λ f. f.at ≤ len) }
 {
     let loc = location(&phrase.token(3)?, locs)?;
     let src = register(&phrase.token(4)?)?;
     phrase.ends(5)?;
-    Ok(Stmt::Swap { dst, loc, src })
+    Ok(DraftStmt::Whole(Stmt::Swap { dst, loc, src }))
 }
 
 /// `d := a`, `d := a + b`, `d := a + n`
-fn read_sum(phrase: &Phrase<'_, '_>, dst: Reg, left: Reg) -> Result<Stmt, CellFault>
+fn read_sum(phrase: &Phrase<'_, '_>, dst: Reg, left: Reg) -> Result<DraftStmt, CellFault>
     requires first { RegisterAt (texts phrase.now.tokens.now) 0 dst }
     requires sign { slice_get (texts phrase.now.tokens.now) 1 ≡ Some (codes ":=") }
     requires third { RegisterAt (texts phrase.now.tokens.now) 2 left }
-    ensures found { IfOk result (λ stmt. (names : List (List ℕ)) → StatementRead (texts phrase.now.tokens.now) names stmt names) }
+    ensures found { IfOk result (PlainRead (texts phrase.now.tokens.now)) }
     ensures longer { OnErr result (3 < length (texts phrase.now.tokens.now)) }
     ensures fault { OnErr result ((d a : ℕ) (v : Operand) → Statement (texts phrase.now.tokens.now) (Sums d a v) → ⊥) }
     ensures cause { IfErr result (λ f. IsMisfit f.cause) }
@@ -184,10 +187,10 @@ fn read_sum(phrase: &Phrase<'_, '_>, dst: Reg, left: Reg) -> Result<Stmt, CellFa
 {
     if phrase.tokens.len() <= 3 {
         let val = Operand::Register(left);
-        return Ok(Stmt::Set { dst, val });
+        return Ok(DraftStmt::Whole(Stmt::Set { dst, val }));
     }
     phrase.expect(3, "+")?;
     let right = operand(&phrase.token(4)?)?;
     phrase.ends(5)?;
-    Ok(Stmt::Sum { dst, left, right })
+    Ok(DraftStmt::Whole(Stmt::Sum { dst, left, right }))
 }

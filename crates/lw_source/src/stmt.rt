@@ -1,6 +1,12 @@
 //! The statements of the source language.
+ghost use Rattle.std.specs.Prelude.{◌≡◌};
+ghost use Rattle.lw_source.specs.Sources.{location_of};
+ghost use Rattle.lw_source.specs.Conflicts as conflicts;
 
 use lw_base::{Loc, Operand, Reg, Word};
+
+/// The most statements of a thread.
+pub(crate) const MAX_STATEMENTS: usize = 16;
 
 /// A statement of a thread. A jump's target is the number of a statement of the same thread, or the
 /// number after the last.
@@ -23,4 +29,23 @@ pub enum Stmt {
     IfNe { reg: Reg, num: Word, to: usize },
     /// `goto L`.
     Goto { to: usize },
+}
+
+impl Stmt {
+    /// The location that it reads or writes.
+    pub fn location(&self) -> Option<Loc>
+        ensures { result ≡ location_of self.now }
+    {
+        match self {
+            Stmt::Store { loc, .. } | Stmt::Load { loc, .. } | Stmt::Swap { loc, .. } => Some(*loc),
+            _ => None,
+        }
+    }
+
+    /// Whether it writes its location.
+    pub fn writes(&self) -> bool
+        ensures { result ≡ conflicts.writes self.now }
+    {
+        matches!(self, Stmt::Store { .. } | Stmt::Swap { .. })
+    }
 }

@@ -1,14 +1,14 @@
 //! What one token of a cell is: a register, a number, a location or a label.
 ghost use Rattle.lw_base.specs.declared.fault.CellCause.TheVariants.{Memory};
-ghost use Rattle.std.specs.Prelude.{◌≡◌, ◌≢◌, ℕ, ◌≤◌, length, IfOk, IfErr, OnOk, OnErr};
+ghost use Rattle.std.specs.Prelude.{◌≡◌, ◌≢◌, ℕ, ◌≤◌, IfOk, IfErr, OnOk, OnErr};
 ghost use Rattle.lw_base.specs.declared.operand.Operand.{Operand};
 ghost use Rattle.lw_base.specs.declared.head.Arch.TheVariants as arch;
 ghost use Rattle.lw_base.specs.Names.{IsLocation};
 ghost use Rattle.lw_base.specs.Registers.{IsRegister};
-ghost use Rattle.lw_base.specs.Tables.{with_name, place_of};
+ghost use Rattle.lw_base.specs.Tables.{with_name, index_of};
 ghost use Rattle.lw_text.specs.Tokens.{IsNumber};
 ghost use Rattle.lw_source.specs.Cells.{IsOperand};
-ghost use Rattle.lw_source.specs.Reading.{IsMisfit, NameCause};
+ghost use Rattle.lw_source.specs.Reading.{IsMisfit, FitsTable, NameFault};
 
 use lw_base::{
     Arch, CellCause, CellFault, Loc, LocNames, Operand, Reg, Word, is_location, is_name,
@@ -17,16 +17,16 @@ use lw_base::{
 use lw_text::{Token, number};
 use std::alloc::Allocator;
 
-/// The place of the location that the token names, in the table with it.
+/// The number of the location that the token names, in the table with it.
 pub(crate) fn location<A: Allocator + Copy>(
     token: &Token<'_>,
     locs: &mut LocNames<A>,
 ) -> Result<Loc, CellFault>
     ensures name { OnOk result (IsLocation token.now.text.now) }
-    ensures found { IfOk result (λ loc. loc ≡ place_of locs.new token.now.text.now) }
+    ensures found { IfOk result (λ loc. loc ≡ index_of locs.new token.now.text.now) }
     ensures names { OnOk result (locs.new ≡ with_name locs.old token.now.text.now) }
-    ensures fault { IfErr result (λ f. f.cause ≢ Memory → IsLocation token.now.text.now → length (with_name locs.old token.now.text.now) ≤ 8 → ⊥) }
-    ensures cause { IfErr result (λ f. NameCause locs.old token.now f.at f.cause) }
+    ensures fault { IfErr result (λ f. f.cause ≢ Memory → FitsTable locs.old token.now.text.now → ⊥) }
+    ensures cause { IfErr result (NameFault locs.old token.now) }
     ensures place { (len : ℕ) → token.now.at ≤ len → IfErr result (λ f. f.at ≤ len) }
 {
     if !is_location(token.text) {

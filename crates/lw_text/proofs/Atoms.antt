@@ -1,33 +1,34 @@
 -- Numbers, values and sites are read in one way.
-use Rattle.std.proofs.Common.{◌≡◌, ℕ, ◌+◌, ◌<◌, ◌⊎◌, inl, inr, true, List, [], ◌∷◌, ◌++◌, length, ap, subst, arith}
+use Rattle.std.proofs.Common.{◌≡◌, ℕ, ◌+◌, ◌<◌, ◌⊎◌, inl, inr, true, [], ◌∷◌, ◌++◌, length, ap, subst, arith}
 use Rattle.std.specs.Prelude.{codes}
 use Rattle.std.specs.Char.{digit_value, is_ascii_digit}
 use Rattle.std.proofs.lemmas.Bool.Decides.{nat_tests}
+use Rattle.lw_base.specs.Types.{Bytes, TokenList}
 use Rattle.lw_base.specs.declared.head.Arch.TheVariants.{Source}
 use Rattle.lw_base.specs.Characters.{begins}
 use Rattle.lw_base.specs.Names.{IsName}
 use Rattle.lw_base.specs.Registers.{IsRegister}
 use Rattle.lw_text.specs.Tokens.{Digits, IsNumber}
-use Rattle.lw_text.specs.Sites.{Site, InMemory, InThread, IsSite, Value}
+use Rattle.lw_text.specs.Sites.{SiteSyntax, InMemory, InThread, IsSite, Value}
 use Rattle.lw_text.proofs.Numbers.{Digits-unique}
 
 decimal_first : (b : ℕ) → digit_value b < 10 → is_ascii_digit b ≡ true
 decimal_first b h = grind (arith, nat_tests)
 
 -- a number begins with a digit
-pub number_first : (w : List ℕ) (n : ℕ) → IsNumber w n → begins is_ascii_digit w ≡ true
+pub number_first : (w : Bytes) (n : ℕ) → IsNumber w n → begins is_ascii_digit w ≡ true
 number_first [] n (b, inl d) = absurd (omega arith)
 number_first (x ∷ w) n (b, inl d) = decimal_first x d.1.0
 number_first w n (b, inr h) = ap (begins is_ascii_digit) h.1
 
-pub number_no_name : (w : List ℕ) (n : ℕ) → IsNumber w n → IsName w → ⊥
+pub number_no_name : (w : Bytes) (n : ℕ) → IsNumber w n → IsName w → ⊥
 number_no_name w n p q = let h = number_first w n p in let k = q.0.front in cc
 
 -- decimal digits don't begin with `0x`
-no_both : (w ds : List ℕ) (n : ℕ) → Digits 10 0 w n → w ≡ codes "0x" ++ ds → ⊥
+no_both : (w ds : Bytes) (n : ℕ) → Digits 10 0 w n → w ≡ codes "0x" ++ ds → ⊥
 no_both w ds n d e = let h : Digits 10 0 (48 ∷ 120 ∷ ds) n = subst (λ l. Digits 10 0 l n) e d in omega (arith, h.1.0)
 
-pub number-unique : (w : List ℕ) (m n : ℕ) → IsNumber w m → IsNumber w n → m ≡ n
+pub number-unique : (w : Bytes) (m n : ℕ) → IsNumber w m → IsNumber w n → m ≡ n
 number-unique w m n (a, inl p) (b, inl q) = Digits-unique 10 0 w m n p.1 q.1
 number-unique w m n (a, inl p) (b, inr q) = absurd (no_both w q.0 m p.1 q.1)
 number-unique w m n (a, inr p) (b, inl q) = absurd (no_both w p.0 n q.1 p.1)
@@ -37,23 +38,23 @@ number-unique w m n (a, inr p) (b, inr q) =
     let e : q.0 ≡ p.0 = cc in
     Digits-unique 16 0 p.0 m n p.3 (subst (λ l. Digits 16 0 l n) e q.3)
 
-pub value_none : (ts l m : List (List ℕ)) (t : List ℕ) → ts ≡ codes "=" ∷ l → l ≡ t ∷ m → ((n : ℕ) → IsNumber t n → ⊥) → (v : ℕ) (rest : List (List ℕ)) → Value ts v rest → ⊥
+pub value_none : (ts l m : TokenList) (t : Bytes) → ts ≡ codes "=" ∷ l → l ≡ t ∷ m → ((n : ℕ) → IsNumber t n → ⊥) → (v : ℕ) (rest : TokenList) → Value ts v rest → ⊥
 value_none ts l m t e f none v rest p =
     let g = p.1 in
     let i : p.0 ≡ t = cc in
     none v (subst (λ w. IsNumber w v) i p.2)
 
-pub Value-unique : (ts r s : List (List ℕ)) (v w : ℕ) → Value ts v r → Value ts w s → (v ≡ w) × (r ≡ s)
+pub Value-unique : (ts r s : TokenList) (v w : ℕ) → Value ts v r → Value ts w s → (v ≡ w) × (r ≡ s)
 Value-unique ts r s v w p q =
     let f = p.1 in
     let g = q.1 in
     let i : q.0 ≡ p.0 = cc in
     (number-unique p.0 v w p.2 (subst (λ x. IsNumber x w) i q.2), cc)
 
-pub Value-shorter : (ts rest : List (List ℕ)) (v : ℕ) → Value ts v rest → length rest < length ts
+pub Value-shorter : (ts rest : TokenList) (v : ℕ) → Value ts v rest → length rest < length ts
 Value-shorter ts rest v p = omega (arith, ap length p.1)
 
-register-unique : (q : List ℕ) (r s : ℕ) → IsRegister Source q r → IsRegister Source q s → r ≡ s
+register-unique : (q : Bytes) (r s : ℕ) → IsRegister Source q r → IsRegister Source q s → r ≡ s
 register-unique q r s a b = let f = a.1 in let g = b.1 in let e : 48 + r ≡ 48 + s = cc in omega arith
 
 -- ---- sites
@@ -64,7 +65,7 @@ bracket_no_name n = let h = n.0.all.0 in cc
 pub bracket_no_number : (n : ℕ) → IsNumber (codes "[") n → ⊥
 bracket_no_number n h = let k = number_first (codes "[") n h in cc
 
-pub IsSite-unique : (ts : List (List ℕ)) (a b : Site) (r s : List (List ℕ)) → IsSite ts a r → IsSite ts b s → (a ≡ b) × (r ≡ s)
+pub IsSite-unique : (ts : TokenList) (a b : SiteSyntax) (r s : TokenList) → IsSite ts a r → IsSite ts b s → (a ≡ b) × (r ≡ s)
 IsSite-unique ts (InMemory x) (InMemory y) r s (p, inl e) (q, inl f) = let k : x ≡ y = cc in (ap InMemory k, cc)
 IsSite-unique ts (InMemory x) (InMemory y) r s (p, inl e) (q, inr f) = let k : x ≡ codes "[" = cc in absurd (bracket_no_name (subst IsName k p.0))
 IsSite-unique ts (InMemory x) (InMemory y) r s (p, inr e) (q, inl f) = let k : y ≡ codes "[" = cc in absurd (bracket_no_name (subst IsName k q.0))
@@ -82,18 +83,18 @@ IsSite-unique ts (InThread t n) (InThread u m) r s p q =
     let b : n ≡ m = register-unique p.1 n m p.4 (subst (λ x. IsRegister Source x m) k q.4) in
     (cc, cc)
 
-pub IsSite-shorter : (ts rest : List (List ℕ)) (s : Site) → IsSite ts s rest → length rest < length ts
+pub IsSite-shorter : (ts rest : TokenList) (s : SiteSyntax) → IsSite ts s rest → length rest < length ts
 IsSite-shorter ts rest (InMemory x) (p, inl e) = omega (arith, ap length e)
 IsSite-shorter ts rest (InMemory x) (p, inr e) = omega (arith, ap length e)
 IsSite-shorter ts rest (InThread t r) p = omega (arith, ap length p.2)
 
 -- a site begins with a name, a number or a `[`
-pub site_front : (ts rest : List (List ℕ)) (s : Site) → IsSite ts s rest → (t : List ℕ) (l : List (List ℕ)) → ts ≡ t ∷ l → IsName t ⊎ (((n : ℕ) × IsNumber t n) ⊎ (t ≡ codes "["))
+pub site_front : (ts rest : TokenList) (s : SiteSyntax) → IsSite ts s rest → (t : Bytes) (l : TokenList) → ts ≡ t ∷ l → IsName t ⊎ (((n : ℕ) × IsNumber t n) ⊎ (t ≡ codes "["))
 site_front ts rest (InMemory x) (p, inl e) t l f = let k : x ≡ t = cc in inl (subst IsName k p.0)
 site_front ts rest (InMemory x) (p, inr e) t l f = inr (inr cc)
 site_front ts rest (InThread u r) p t l f = let g = p.2 in let k : p.0 ≡ t = cc in inr (inl (u, subst (λ w. IsNumber w u) k p.3))
 
-pub site_none : (ts rest : List (List ℕ)) (s : Site) → ts ≡ [] → IsSite ts s rest → ⊥
+pub site_none : (ts rest : TokenList) (s : SiteSyntax) → ts ≡ [] → IsSite ts s rest → ⊥
 site_none ts rest (InMemory x) e (p, inl f) = cc
 site_none ts rest (InMemory x) e (p, inr f) = cc
 site_none ts rest (InThread t r) e p = let f = p.2 in cc

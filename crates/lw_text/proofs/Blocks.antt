@@ -1,16 +1,17 @@
 -- The entries of an initial block, read one after another.
-use Rattle.std.proofs.Common.{◌≡◌, ℕ, ◌<◌, ◌≤◌, false, List, [], ◌∷◌, ◌++◌, length, map, refl, sym, ap, ◌∙◌, subst, arith}
+use Rattle.std.proofs.Common.{◌≡◌, ◌<◌, ◌≤◌, false, List, [], ◌∷◌, ◌++◌, length, map, refl, sym, ap, ◌∙◌, subst, arith}
 use Rattle.std.specs.Prelude.{codes, All}
 use Rattle.std.specs.List.{AllByRecursion}
 use Rattle.std.proofs.lemmas.List.Elements.{All-from_recursion}
+use Rattle.lw_base.specs.Types.{Bytes, NameTable, TokenList}
 use Rattle.lw_base.specs.Tables.{with_names}
 use Rattle.lw_text.specs.declared.block.Entry.{Entry as Made}
 use Rattle.lw_text.specs.declared.site.Site.{Site as MadeSite}
 use Rattle.lw_text.specs.Lists.{Ended}
-use Rattle.lw_text.specs.Sites.{Site, site_names}
+use Rattle.lw_text.specs.Sites.{SiteSyntax, site_names}
 use Rattle.lw_text.specs.Conditions.{begins_word}
-use Rattle.lw_text.specs.Frames.{Entry, IsEntry, Block}
-use Rattle.lw_text.specs.Placed.{named, named_entry, IsIn}
+use Rattle.lw_text.specs.Frames.{EntrySyntax, IsEntry, Block}
+use Rattle.lw_text.specs.Resolved.{named, named_entry, IsIn}
 use Rattle.lw_text.proofs.Atoms.{IsSite-shorter, Value-shorter}
 use Rattle.lw_text.proofs.Entries.{IsEntry-unique, brace, semicolon, brace_unlike, brace_apart}
 use Rattle.lw_text.proofs.Lists.{Ended-unique}
@@ -21,64 +22,64 @@ use Rattle.lw_text.proofs.Texts.{is_no_text}
 abbrev site_of : Made → MadeSite
 site_of e = e.site
 
-abbrev said_of : Entry → Site
-said_of e = e.site
+abbrev syntax_of : EntrySyntax → SiteSyntax
+syntax_of e = e.site
 
-pub same : (names : List (List ℕ)) (e : Made) → said_of (named_entry names e) ≡ named names (site_of e)
+pub same : (names : NameTable) (e : Made) → syntax_of (named_entry names e) ≡ named names (site_of e)
 same names e = refl
 
 -- These entries have been read, and then comes what is here.
-abbrev pub EntriesRead : List (List ℕ) → List (List ℕ) → List (List ℕ) → List (List ℕ) → List Made → Type 0
-EntriesRead first names start here es = Read IsEntry brace site_of named_entry said_of same entry-along first names start here es
+abbrev pub EntriesRead : TokenList → TokenList → TokenList → TokenList → List Made → Type 0
+EntriesRead first names start here es = Read IsEntry brace site_of named_entry syntax_of same entry-along first names start here es
 
-pub entries_none : (names start : List (List ℕ)) → EntriesRead names names start start []
-entries_none names start = read_none IsEntry brace site_of named_entry said_of same entry-along names start
+pub entries_none : (names start : TokenList) → EntriesRead names names start start []
+entries_none names start = read_none IsEntry brace site_of named_entry syntax_of same entry-along names start
 
 -- behind the `{`
-pub ended : (ts start : List (List ℕ)) (all : List Entry) (rest : List (List ℕ)) → ts ≡ codes "{" ∷ start → Block ts all rest → Ended IsEntry semicolon brace start all rest
+pub ended : (ts start : TokenList) (all : List EntrySyntax) (rest : TokenList) → ts ≡ codes "{" ∷ start → Block ts all rest → Ended IsEntry semicolon brace start all rest
 ended ts start all rest head block =
     let f = block.1 in
     let i : block.0 ≡ start = cc in
     subst (λ l. Ended IsEntry semicolon brace l all rest) i block.2
 
-all_unit : (all : List Entry) → AllByRecursion (λ e. Unit {0}) all
+all_unit : (all : List EntrySyntax) → AllByRecursion (λ e. Unit {0}) all
 all_unit [] = tt
 all_unit (e ∷ all) = (tt, all_unit all)
 
 -- whether a word is next
-pub no_word_next : (w : List ℕ) (ts l : List (List ℕ)) → begins_word w ts ≡ false → ts ≡ w ∷ l → ⊥
+pub no_word_next : (w : Bytes) (ts l : TokenList) → begins_word w ts ≡ false → ts ≡ w ∷ l → ⊥
 no_word_next w ts l h e = is_no_text w w (ap (begins_word w) (sym e) ∙ h) refl
 
-module _ (first names start here : List (List ℕ)) (es : List Made) (read : EntriesRead first names start here es) where
-  pub entries_end : (rest : List (List ℕ)) → here ≡ brace ∷ rest → Ended IsEntry semicolon brace start (map (named_entry names) es) rest
-  entries_end rest e = read_end IsEntry brace site_of named_entry said_of same entry-along first names start here es rest read e
+module _ (first names start here : TokenList) (es : List Made) (read : EntriesRead first names start here es) where
+  pub entries_end : (rest : TokenList) → here ≡ brace ∷ rest → Ended IsEntry semicolon brace start (map (named_entry names) es) rest
+  entries_end rest e = read_end IsEntry brace site_of named_entry syntax_of same entry-along first names start here es rest read e
 
   pub entries_in : All (λ e. IsIn names e.site) es
   entries_in = All-from_recursion (λ e. IsIn names e.site) es read.within
 
   -- no entry stands here
-  pub entries_fault : begins_word brace here ≡ false → ((e : Entry) (rest : List (List ℕ)) → IsEntry here e rest → length (with_names names (site_names (e.site ∷ []))) ≤ 8 → ⊥) → (all : List Entry) (rest : List (List ℕ)) → Ended IsEntry semicolon brace start all rest → length (with_names first (site_names (map (λ e. e.site) all))) ≤ 8 → ⊥
+  pub entries_fault : begins_word brace here ≡ false → ((e : EntrySyntax) (rest : TokenList) → IsEntry here e rest → length (with_names names (site_names (e.site ∷ []))) ≤ 8 → ⊥) → (all : List EntrySyntax) (rest : TokenList) → Ended IsEntry semicolon brace start all rest → length (with_names first (site_names (map (λ e. e.site) all))) ≤ 8 → ⊥
   entries_fault h never all rest e few =
-      read_none_here IsEntry brace site_of named_entry said_of same entry-along IsEntry-unique brace_apart brace_unlike first names start here es read (λ e. Unit {0}) (λ l. no_word_next brace here l h) (λ e rest p none few. never e rest p few) all rest e (all_unit all) few
+      read_none_here IsEntry brace site_of named_entry syntax_of same entry-along IsEntry-unique brace_apart brace_unlike first names start here es read (λ e. Unit {0}) (λ l. no_word_next brace here l h) (λ e rest p none few. never e rest p few) all rest e (all_unit all) few
 
-  module _ (after : List (List ℕ)) (e : Made) (grows : after ≡ with_names names (site_names (named after e.site ∷ []))) (is_in : IsIn after e.site) (mid : List (List ℕ)) (entry : IsEntry here (named_entry after e) mid) where
-    pub entries_more : (next : List (List ℕ)) → mid ≡ semicolon ∷ next → EntriesRead first after start next (es ++ e ∷ [])
-    entries_more next f = read_more IsEntry brace site_of named_entry said_of same entry-along first names start here es read after e grows is_in mid next entry f
+  module _ (after : NameTable) (e : Made) (grows : after ≡ with_names names (site_names (named after e.site ∷ []))) (is_in : IsIn after e.site) (mid : TokenList) (entry : IsEntry here (named_entry after e) mid) where
+    pub entries_more : (next : TokenList) → mid ≡ semicolon ∷ next → EntriesRead first after start next (es ++ e ∷ [])
+    entries_more next f = read_more IsEntry brace site_of named_entry syntax_of same entry-along first names start here es read after e grows is_in mid next entry f
 
-    pub entries_last : (rest : List (List ℕ)) → mid ≡ brace ∷ rest → Ended IsEntry semicolon brace start (map (named_entry after) (es ++ e ∷ [])) rest
-    entries_last rest f = read_last IsEntry brace site_of named_entry said_of same entry-along first names start here es read after e grows is_in mid rest entry f
+    pub entries_last : (rest : TokenList) → mid ≡ brace ∷ rest → Ended IsEntry semicolon brace start (map (named_entry after) (es ++ e ∷ [])) rest
+    entries_last rest f = read_last IsEntry brace site_of named_entry syntax_of same entry-along first names start here es read after e grows is_in mid rest entry f
 
     pub entries_names : after ≡ with_names first (site_names (map (λ e. named after e.site) (es ++ e ∷ [])))
-    entries_names = names_are_more IsEntry brace site_of named_entry said_of same entry-along first names start here es read after e grows is_in
+    entries_names = names_are_more IsEntry brace site_of named_entry syntax_of same entry-along first names start here es read after e grows is_in
 
     pub entries_within : All (λ e. IsIn after e.site) (es ++ e ∷ [])
-    entries_within = All-from_recursion (λ e. IsIn after e.site) (es ++ e ∷ []) (within_more IsEntry brace site_of named_entry said_of same entry-along first names start here es read after e grows is_in)
+    entries_within = All-from_recursion (λ e. IsIn after e.site) (es ++ e ∷ []) (within_more IsEntry brace site_of named_entry syntax_of same entry-along first names start here es read after e grows is_in)
 
-    pub entries_mark : ((l : List (List ℕ)) → mid ≡ semicolon ∷ l → ⊥) → ((l : List (List ℕ)) → mid ≡ brace ∷ l → ⊥) → (all : List Entry) (rest : List (List ℕ)) → Ended IsEntry semicolon brace start all rest → ⊥
-    entries_mark no_sep no_close all rest all_ended = read_no_mark IsEntry brace site_of named_entry said_of same entry-along IsEntry-unique brace_apart brace_unlike first names start here es read (named_entry after e) mid entry no_sep no_close all rest all_ended
+    pub entries_mark : ((l : TokenList) → mid ≡ semicolon ∷ l → ⊥) → ((l : TokenList) → mid ≡ brace ∷ l → ⊥) → (all : List EntrySyntax) (rest : TokenList) → Ended IsEntry semicolon brace start all rest → ⊥
+    entries_mark no_sep no_close all rest all_ended = read_no_mark IsEntry brace site_of named_entry syntax_of same entry-along IsEntry-unique brace_apart brace_unlike first names start here es read (named_entry after e) mid entry no_sep no_close all rest all_ended
 
-pub IsEntry-shorter : (ts rest : List (List ℕ)) (e : Entry) → IsEntry ts e rest → length rest < length ts
+pub IsEntry-shorter : (ts rest : TokenList) (e : EntrySyntax) → IsEntry ts e rest → length rest < length ts
 IsEntry-shorter ts rest e p = omega (arith, IsSite-shorter ts p.0 e.site p.1, Value-shorter p.0 rest e.word p.2)
 
-pub Block-unique : (ts : List (List ℕ)) (a b : List Entry) (r s : List (List ℕ)) → Block ts a r → Block ts b s → (a ≡ b) × (r ≡ s)
+pub Block-unique : (ts : TokenList) (a b : List EntrySyntax) (r s : TokenList) → Block ts a r → Block ts b s → (a ≡ b) × (r ≡ s)
 Block-unique ts a b r s p q = Ended-unique IsEntry semicolon brace IsEntry-unique brace_apart brace_unlike a b p.0 r s p.2 (ended ts p.0 b s p.1 q)

@@ -3,78 +3,79 @@ use Rattle.std.proofs.Common.{◌≡◌, ℕ, ◌≤◌, true, List, [], length,
 use Rattle.std.specs.Prelude.{All, filter}
 use Rattle.std.specs.List.{AllByRecursion, list_all}
 use Rattle.std.proofs.lemmas.List.Elements.{All-from_recursion}
+use Rattle.lw_base.specs.Types.{TokenList, CellGrid}
 use Rattle.lw_base.specs.declared.head.Quant.{Quant}
 use Rattle.lw_base.specs.Tables.{with_names}
 use Rattle.lw_text.specs.declared.site.Site.{Site as MadeSite}
 use Rattle.lw_text.specs.declared.block.Entry.{Entry as MadeEntry}
 use Rattle.lw_text.specs.Rows.{Header, Rows}
-use Rattle.lw_text.specs.Sites.{IsThere, site_names}
-use Rattle.lw_text.specs.Propositions.{Sign, is_node}
-use Rattle.lw_text.specs.Conditions.{Claim, Listed, Quantified, Signs, Condition, sites_in}
-use Rattle.lw_text.specs.Frames.{Block, Said, table, Parts}
-use Rattle.lw_text.specs.Placed.{named, named_entry, is_there, IsIn}
+use Rattle.lw_text.specs.Sites.{ThreadExists, site_names}
+use Rattle.lw_text.specs.Propositions.{Terminal, is_node}
+use Rattle.lw_text.specs.Conditions.{AtomSyntax, Listed, Quantified, Terminals, Condition, sites_in}
+use Rattle.lw_text.specs.Frames.{Block, TestSyntax, table, Parts}
+use Rattle.lw_text.specs.Resolved.{named, named_entry, thread_exists, IsIn}
 use Rattle.lw_text.proofs.Elements.{each_of}
 use Rattle.lw_text.proofs.NameTables.{named-along, entry-along, all_at-along, all_in-along}
 use Rattle.lw_text.proofs.Whole.{first_names, all_there, table_parts, block_sites}
 
 -- what the lists in memory say, by the names of a table
-abbrev pub said_by : List (List ℕ) → List MadeEntry → ℕ → List (List (List (List ℕ))) → List MadeSite → Quant → List (Sign Claim) → Said
-said_by names es n rows ss quant signs = record { entries = map (named_entry names) es; threads = n; rows = rows; listed = map (named names) ss; quant = quant; signs = signs }
+abbrev pub syntax_by : TokenList → List MadeEntry → ℕ → CellGrid → List MadeSite → Quant → List (Terminal AtomSyntax) → TestSyntax
+syntax_by names es n rows ss quant terminals = record { entries = map (named_entry names) es; threads = n; rows = rows; listed = map (named names) ss; quant = quant; terminals = terminals }
 
 -- These are the parts of the text, and the table is theirs.
-pub record Agrees (ts last : List (List ℕ)) (es : List MadeEntry) (n : ℕ) (rows : List (List (List (List ℕ)))) (ss : List MadeSite) (quant : Quant) (signs : List (Sign Claim)) : Type 0 where
-  pub parts : Parts ts (said_by last es n rows ss quant signs)
-  pub names_are : last ≡ table (said_by last es n rows ss quant signs)
+pub record Agrees (ts last : TokenList) (es : List MadeEntry) (n : ℕ) (rows : CellGrid) (ss : List MadeSite) (quant : Quant) (terminals : List (Terminal AtomSyntax)) : Type 0 where
+  pub parts : Parts ts (syntax_by last es n rows ss quant terminals)
+  pub names_are : last ≡ table (syntax_by last es n rows ss quant terminals)
   pub entries_in : All (λ e. IsIn last e.site) es
   pub listed_in : All (IsIn last) ss
 
 -- a condition, read part by part with a table that grew
-module _ (threads : ℕ) (ts d e : List (List ℕ)) (first names last : List (List ℕ)) (ss : List MadeSite) (quant : Quant) (signs : List (Sign Claim))
+module _ (threads : ℕ) (ts d e : TokenList) (first names last : TokenList) (ss : List MadeSite) (quant : Quant) (terminals : List (Terminal AtomSyntax))
     (lists : Listed ts (map (named names) ss) d)
-    (there : AllByRecursion (IsThere threads) (map (named names) ss))
+    (there : AllByRecursion (ThreadExists threads) (map (named names) ss))
     (is_names : names ≡ with_names first (site_names (map (named names) ss)))
     (ss_in : All (IsIn names) ss)
     (quantifies : Quantified d quant e)
-    (says : Signs threads e signs)
-    (is_last : last ≡ with_names names (site_names (sites_in signs))) where
+    (says : Terminals threads e terminals)
+    (is_last : last ≡ with_names names (site_names (sites_in terminals))) where
   listed_last : map (named last) ss ≡ map (named names) ss
-  listed_last = ap (λ ns. map (named ns) ss) is_last ∙ all_at-along (λ s. s) named named-along names (site_names (sites_in signs)) ss (each_of ss (IsIn names) ss_in)
+  listed_last = ap (λ ns. map (named ns) ss) is_last ∙ all_at-along (λ s. s) named named-along names (site_names (sites_in terminals)) ss (each_of ss (IsIn names) ss_in)
 
-  pub is_condition : Condition threads ts (map (named last) ss) quant signs
+  pub is_condition : Condition threads ts (map (named last) ss) quant terminals
   is_condition =
       record {
         behind_list = d;
         behind_quant = e;
         lists = subst (λ l. Listed ts l d) (sym listed_last) lists;
-        there = subst (AllByRecursion (IsThere threads)) (sym listed_last) there;
+        there = subst (AllByRecursion (ThreadExists threads)) (sym listed_last) there;
         quantifies = quantifies;
         says = says;
       }
 
-  pub condition_names : last ≡ with_names (with_names first (site_names (map (named last) ss))) (site_names (sites_in signs))
+  pub condition_names : last ≡ with_names (with_names first (site_names (map (named last) ss))) (site_names (sites_in terminals))
   condition_names =
       is_last
-      ∙ ap (λ ns. with_names ns (site_names (sites_in signs))) is_names
-      ∙ ap (λ l. with_names (with_names first (site_names l)) (site_names (sites_in signs))) (sym listed_last)
+      ∙ ap (λ ns. with_names ns (site_names (sites_in terminals))) is_names
+      ∙ ap (λ l. with_names (with_names first (site_names l)) (site_names (sites_in terminals))) (sym listed_last)
 
   pub condition_in : All (IsIn last) ss
-  condition_in = All-from_recursion (IsIn last) ss (subst (λ ns. AllByRecursion (IsIn ns) ss) (sym is_last) (all_in-along (λ s. s) named named-along names (site_names (sites_in signs)) ss (each_of ss (IsIn names) ss_in)))
+  condition_in = All-from_recursion (IsIn last) ss (subst (λ ns. AllByRecursion (IsIn ns) ss) (sym is_last) (all_in-along (λ s. s) named named-along names (site_names (sites_in terminals)) ss (each_of ss (IsIn names) ss_in)))
 
 -- the parts of a text, read one after another with a table that grew
-module _ (ts a b c : List (List ℕ)) (first last : List (List ℕ)) (es : List MadeEntry) (n : ℕ) (rows : List (List (List (List ℕ)))) (ss : List MadeSite) (quant : Quant) (signs : List (Sign Claim))
+module _ (ts a b c : TokenList) (first last : TokenList) (es : List MadeEntry) (n : ℕ) (rows : CellGrid) (ss : List MadeSite) (quant : Quant) (terminals : List (Terminal AtomSyntax))
     (block : Block ts (map (named_entry first) es) a)
     (is_first : first ≡ with_names [] (site_names (map (λ e. named first e.site) es)))
     (es_in : All (λ e. IsIn first e.site) es)
     (header : Header a n b)
-    (there : list_all (λ e. is_there n e.site) es ≡ true)
+    (there : list_all (λ e. thread_exists n e.site) es ≡ true)
     (are_rows : Rows n b rows c)
-    (condition : Condition n c (map (named last) ss) quant signs)
-    (is_last : last ≡ with_names (with_names first (site_names (map (named last) ss))) (site_names (sites_in signs)))
+    (condition : Condition n c (map (named last) ss) quant terminals)
+    (is_last : last ≡ with_names (with_names first (site_names (map (named last) ss))) (site_names (sites_in terminals)))
     (ss_in : All (IsIn last) ss)
     (few : length last ≤ 8)
-    (nodes : length (filter is_node signs) ≤ 256) where
+    (nodes : length (filter is_node terminals) ≤ 256) where
   -- the names of the block and of the list
-  abbrev names : List (List ℕ)
+  abbrev names : TokenList
   names = with_names first (site_names (map (named last) ss))
 
   entries_mid : map (named_entry names) es ≡ map (named_entry first) es
@@ -84,21 +85,21 @@ module _ (ts a b c : List (List ℕ)) (first last : List (List ℕ)) (es : List 
   entries_in_mid = all_in-along (λ e. e.site) named_entry entry-along first (site_names (map (named last) ss)) es (each_of es (λ e. IsIn first e.site) es_in)
 
   entries_last : map (named_entry last) es ≡ map (named_entry first) es
-  entries_last = ap (λ ns. map (named_entry ns) es) is_last ∙ all_at-along (λ e. e.site) named_entry entry-along names (site_names (sites_in signs)) es entries_in_mid ∙ entries_mid
+  entries_last = ap (λ ns. map (named_entry ns) es) is_last ∙ all_at-along (λ e. e.site) named_entry entry-along names (site_names (sites_in terminals)) es entries_in_mid ∙ entries_mid
 
   all_entries_in : All (λ e. IsIn last e.site) es
-  all_entries_in = All-from_recursion (λ e. IsIn last e.site) es (subst (λ ns. AllByRecursion (λ e. IsIn ns e.site) es) (sym is_last) (all_in-along (λ e. e.site) named_entry entry-along names (site_names (sites_in signs)) es entries_in_mid))
+  all_entries_in = All-from_recursion (λ e. IsIn last e.site) es (subst (λ ns. AllByRecursion (λ e. IsIn ns e.site) es) (sym is_last) (all_in-along (λ e. e.site) named_entry entry-along names (site_names (sites_in terminals)) es entries_in_mid))
 
-  abbrev all_said : Said
-  all_said = said_by last es n rows ss quant signs
+  abbrev all_syntax : TestSyntax
+  all_syntax = syntax_by last es n rows ss quant terminals
 
-  last_table : last ≡ table all_said
+  last_table : last ≡ table all_syntax
   last_table =
       is_last
-      ∙ ap (λ ns. with_names (with_names ns (site_names (map (named last) ss))) (site_names (sites_in signs))) (first_names ts a first es block is_first ∙ ap (λ l. with_names [] (site_names (block_sites l))) (sym entries_last))
-      ∙ sym (table_parts all_said)
+      ∙ ap (λ ns. with_names (with_names ns (site_names (map (named last) ss))) (site_names (sites_in terminals))) (first_names ts a first es block is_first ∙ ap (λ l. with_names [] (site_names (block_sites l))) (sym entries_last))
+      ∙ sym (table_parts all_syntax)
 
-  all_parts : Parts ts all_said
+  all_parts : Parts ts all_syntax
   all_parts =
       record {
         behind_block = a;
@@ -106,12 +107,12 @@ module _ (ts a b c : List (List ℕ)) (first last : List (List ℕ)) (es : List 
         behind_rows = c;
         block = subst (λ l. Block ts l a) (sym entries_last) block;
         header = header;
-        there = subst (λ l. AllByRecursion (λ e. IsThere n e.site) l) (sym entries_last) (all_there n first es there);
+        there = subst (λ l. AllByRecursion (λ e. ThreadExists n e.site) l) (sym entries_last) (all_there n first es there);
         rows = are_rows;
         condition = condition;
         few_names = omega (arith, few, ap length last_table);
         few_nodes = nodes;
       }
 
-  pub agrees : Agrees ts last es n rows ss quant signs
+  pub agrees : Agrees ts last es n rows ss quant terminals
   agrees = record { parts = all_parts; names_are = last_table; entries_in = all_entries_in; listed_in = ss_in }

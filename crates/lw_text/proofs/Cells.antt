@@ -1,19 +1,20 @@
 -- Cells and rows are read in one way.
-use Rattle.std.proofs.Common.{◌≡◌, ℕ, ◌<◌, ◌≤◌, inl, inr, true, false, List, [], ◌∷◌, ◌++◌, length, refl, sym, ap, ◌∙◌, subst, arith, length-append}
+use Rattle.std.proofs.Common.{◌≡◌, ℕ, ◌<◌, ◌≤◌, inl, inr, true, false, [], ◌∷◌, ◌++◌, length, refl, sym, ap, ◌∙◌, subst, arith, length-append}
 use Rattle.std.specs.Prelude.{codes}
 use Rattle.std.specs.Str.{bytes_eq}
 use Rattle.std.specs.List.{AllByRecursion}
 use Rattle.std.proofs.lemmas.Bool.{or_cases}
+use Rattle.lw_base.specs.Types.{Bytes, TokenList, Cells, CellGrid}
 use Rattle.lw_text.specs.Lists.{Separated, Until}
-use Rattle.lw_text.specs.Rows.{ends_cell, Cell, Line, begins_stop, Rows}
+use Rattle.lw_text.specs.Rows.{ends_cell, Cell, Row, begins_stop, Rows}
 use Rattle.lw_text.proofs.Texts.{is_text, marks_apart}
 use Rattle.lw_text.proofs.Lists.{Passed, Passed-push, Passed-stop, Passed-peel, Until-unique, Before, Before-push, Before-close, Before-fault, IsMark, IsExact, Separated-front, Separated-unique}
 
-abbrev pub Plain : List (List ℕ) → Type 0
+abbrev pub Plain : TokenList → Type 0
 Plain c = AllByRecursion (λ t. ends_cell t ≡ false) c
 
 -- up to its first end a row of tokens is read in one way
-split-unique : (w v : List (List ℕ)) (a b : List ℕ) (r s : List (List ℕ)) → Plain w → Plain v → ends_cell a ≡ true → ends_cell b ≡ true → w ++ a ∷ r ≡ v ++ b ∷ s → (w ≡ v) × (a ≡ b) × (r ≡ s)
+split-unique : (w v : TokenList) (a b : Bytes) (r s : TokenList) → Plain w → Plain v → ends_cell a ≡ true → ends_cell b ≡ true → w ++ a ∷ r ≡ v ++ b ∷ s → (w ≡ v) × (a ≡ b) × (r ≡ s)
 split-unique [] [] a b r s p q m n e = (refl, cc, cc)
 split-unique [] (c ∷ v) a b r s p q m n e = absurd (let k : a ≡ c = cc in let h : ends_cell a ≡ ends_cell c = ap ends_cell k in cc (q.0))
 split-unique (c ∷ w) [] a b r s p q m n e = absurd (let k : c ≡ b = cc in let h : ends_cell c ≡ ends_cell b = ap ends_cell k in cc (p.0))
@@ -24,38 +25,35 @@ split-unique (c ∷ w) (d ∷ v) a b r s p q m n e =
     let i : w ≡ v = both.0 in
     (cc, both.1, both.2)
 
-mark_ends : (a : List ℕ) → IsMark Cell (codes "|") (codes ";") a → ends_cell a ≡ true
+mark_ends : (a : Bytes) → IsMark Cell (codes "|") (codes ";") a → ends_cell a ≡ true
 mark_ends a (inl e) = ap ends_cell e
 mark_ends a (inr e) = ap ends_cell e
 
 pub Cell-exact : IsExact Cell (codes "|") (codes ";")
 Cell-exact ts x y a b r s m n p q = split-unique x y a b r s p.1 q.1 (mark_ends a m) (mark_ends b n) (sym p.0 ∙ q.0)
 
-pub Line-one : (threads : ℕ) (ts : List (List ℕ)) (x y : List (List (List ℕ))) (r s : List (List ℕ)) → Line threads ts x r → Line threads ts y s → (x ≡ y) × (r ≡ s)
-Line-one threads ts x y r s p q = Separated-unique Cell (codes "|") (codes ";") Cell-exact marks_apart x y ts r s p.0 q.0
+pub Row-one : (threads : ℕ) (ts : TokenList) (x y : Cells) (r s : TokenList) → Row threads ts x r → Row threads ts y s → (x ≡ y) × (r ≡ s)
+Row-one threads ts x y r s p q = Separated-unique Cell (codes "|") (codes ";") Cell-exact marks_apart x y ts r s p.0 q.0
 
 -- a mark that is no `;` is a `|`
-pub is_bar : (m : List ℕ) → ends_cell m ≡ true → bytes_eq m (codes ";") ≡ false → m ≡ codes "|"
+pub is_bar : (m : Bytes) → ends_cell m ≡ true → bytes_eq m (codes ";") ≡ false → m ≡ codes "|"
 is_bar m e n = elim (or_cases (bytes_eq m (codes "|")) (bytes_eq m (codes ";")) e) [ inl h ↦ is_text m (codes "|") h | inr h ↦ absurd cc ]
 
 -- a mark has a byte
-pub mark_nonempty : (m : List ℕ) → ends_cell m ≡ true → 1 ≤ length m
-mark_nonempty [] e = let k : false ≡ true = e in absurd cc
-mark_nonempty (b ∷ m) e = omega arith
 
 -- tokens in which no cell ends hold no mark
-plain_mark : (x : List (List ℕ)) (m : List ℕ) (l : List (List ℕ)) → Plain (x ++ m ∷ l) → ends_cell m ≡ true → ⊥
+plain_mark : (x : TokenList) (m : Bytes) (l : TokenList) → Plain (x ++ m ∷ l) → ends_cell m ≡ true → ⊥
 plain_mark [] m l p e = let h = p.0 in cc
 plain_mark (t ∷ x) m l p e = plain_mark x m l p.1 e
 
-module _ (ts here : List (List ℕ)) (cells : List (List (List ℕ))) (before : Before Cell (codes "|") (codes ";") ts cells here) where
-  pub Cells-open : Plain here → (all : List (List (List ℕ))) (rest : List (List ℕ)) → Separated Cell (codes "|") (codes ";") ts all rest → ⊥
+module _ (ts here : TokenList) (cells : Cells) (before : Before Cell (codes "|") (codes ";") ts cells here) where
+  pub Cells-open : Plain here → (all : Cells) (rest : TokenList) → Separated Cell (codes "|") (codes ";") ts all rest → ⊥
   Cells-open plain all rest row =
       Before-fault Cell (codes "|") (codes ";") Cell-exact marks_apart cells all ts here rest before
       (λ zs l s. let f = Separated-front Cell (codes "|") (codes ";") zs here l s in plain_mark f.0 f.1 f.2 (subst Plain f.4.0 plain) (mark_ends f.1 f.3))
       row
 
-  module _ (cell : List (List ℕ)) (mark : List ℕ) (next : List (List ℕ)) (parts : here ≡ cell ++ mark ∷ next) (plain : Plain cell) where
+  module _ (cell : TokenList) (mark : Bytes) (next : TokenList) (parts : here ≡ cell ++ mark ∷ next) (plain : Plain cell) where
     pub Cells-more : mark ≡ codes "|" → Before Cell (codes "|") (codes ";") ts (cells ++ cell ∷ []) next
     Cells-more e = Before-push Cell (codes "|") (codes ";") cells ts here next cell before (subst (λ m. here ≡ cell ++ m ∷ next) e parts, plain)
 
@@ -63,47 +61,47 @@ module _ (ts here : List (List ℕ)) (cells : List (List (List ℕ))) (before : 
     Cells-closed e = Before-close Cell (codes "|") (codes ";") cells ts here next cell before (subst (λ m. here ≡ cell ++ m ∷ next) e parts, plain)
 
 -- a row of another number of cells is no line
-pub Line-ragged : (ts next : List (List ℕ)) (cells : List (List (List ℕ))) → Separated Cell (codes "|") (codes ";") ts cells next → (threads : ℕ) → (length cells ≡ threads → ⊥) → (all : List (List (List ℕ))) (rest : List (List ℕ)) → Line threads ts all rest → ⊥
-Line-ragged ts next cells row threads ne all rest line = ne (ap length (Separated-unique Cell (codes "|") (codes ";") Cell-exact marks_apart cells all ts next rest row line.0).0 ∙ line.1)
+pub Row-ragged : (ts next : TokenList) (cells : Cells) → Separated Cell (codes "|") (codes ";") ts cells next → (threads : ℕ) → (length cells ≡ threads → ⊥) → (all : Cells) (rest : TokenList) → Row threads ts all rest → ⊥
+Row-ragged ts next cells row threads ne all rest line = ne (ap length (Separated-unique Cell (codes "|") (codes ";") Cell-exact marks_apart cells all ts next rest row line.0).0 ∙ line.1)
 
 -- ---- rows
 
-cell_shorter : (ts c : List (List ℕ)) (m : List ℕ) (rest : List (List ℕ)) → Cell ts c (m ∷ rest) → length rest < length ts
+cell_shorter : (ts c : TokenList) (m : Bytes) (rest : TokenList) → Cell ts c (m ∷ rest) → length rest < length ts
 cell_shorter ts c m rest p = omega (arith, ap length p.0, length-append c (m ∷ rest))
 
-shorter : (cells : List (List (List ℕ))) (ts rest : List (List ℕ)) → Separated Cell (codes "|") (codes ";") ts cells rest → length rest < length ts
+shorter : (cells : Cells) (ts rest : TokenList) → Separated Cell (codes "|") (codes ";") ts cells rest → length rest < length ts
 shorter [] ts rest s = absurd s
 shorter (c ∷ []) ts rest s = cell_shorter ts c (codes ";") rest s
 shorter (c ∷ d ∷ cells) ts rest s = omega (arith, cell_shorter ts c (codes "|") s.0 s.1, shorter (d ∷ cells) s.0 rest s.2)
 
-pub Line-shorter : (threads : ℕ) (cells : List (List (List ℕ))) (ts rest : List (List ℕ)) → Line threads ts cells rest → length rest < length ts
-Line-shorter threads cells ts rest l = shorter cells ts rest l.0
+pub Row-shorter : (threads : ℕ) (cells : Cells) (ts rest : TokenList) → Row threads ts cells rest → length rest < length ts
+Row-shorter threads cells ts rest l = shorter cells ts rest l.0
 
-module _ (threads : ℕ) (ts here : List (List ℕ)) (rows : List (List (List (List ℕ)))) (passed : Passed begins_stop (Line threads) ts rows here) where
+module _ (threads : ℕ) (ts here : TokenList) (rows : CellGrid) (passed : Passed begins_stop (Row threads) ts rows here) where
   pub Rows-found : begins_stop here ≡ true → length rows ≤ 64 → Rows threads ts rows here
-  Rows-found stop few = (Passed-stop begins_stop (Line threads) rows ts here passed stop, few)
+  Rows-found stop few = (Passed-stop begins_stop (Row threads) rows ts here passed stop, few)
 
-  pub Rows-more : (next : List (List ℕ)) (row : List (List (List ℕ))) → begins_stop here ≡ false → Line threads here row next → Passed begins_stop (Line threads) ts (rows ++ row ∷ []) next
-  Rows-more next row go line = Passed-push begins_stop (Line threads) rows ts here next row passed go line
+  pub Rows-more : (next : TokenList) (row : Cells) → begins_stop here ≡ false → Row threads here row next → Passed begins_stop (Row threads) ts (rows ++ row ∷ []) next
+  Rows-more next row go line = Passed-push begins_stop (Row threads) rows ts here next row passed go line
 
   -- where no row stands and none may end, there are no rows
-  pub Rows-fault : begins_stop here ≡ false → ((row : List (List (List ℕ))) (mid : List (List ℕ)) → Line threads here row mid → ⊥) → (all : List (List (List (List ℕ)))) (rest : List (List ℕ)) → Rows threads ts all rest → ⊥
+  pub Rows-fault : begins_stop here ≡ false → ((row : Cells) (mid : TokenList) → Row threads here row mid → ⊥) → (all : CellGrid) (rest : TokenList) → Rows threads ts all rest → ⊥
   Rows-fault go never all rest r =
-      let peel = Passed-peel begins_stop (Line threads) (Line-one threads) rows all ts here rest passed r.0 in
+      let peel = Passed-peel begins_stop (Row threads) (Row-one threads) rows all ts here rest passed r.0 in
       at peel.0 peel.2
     where
-      at : (more : List (List (List (List ℕ)))) → Until begins_stop (Line threads) here more rest → ⊥
+      at : (more : CellGrid) → Until begins_stop (Row threads) here more rest → ⊥
       at [] u = let h = u.1 in cc
       at (y ∷ more) u = never y u.1.0 u.1.1
 
-  pub Rows-many : begins_stop here ≡ false → length rows ≡ 64 → (all : List (List (List (List ℕ)))) (rest : List (List ℕ)) → Rows threads ts all rest → ⊥
+  pub Rows-many : begins_stop here ≡ false → length rows ≡ 64 → (all : CellGrid) (rest : TokenList) → Rows threads ts all rest → ⊥
   Rows-many go full all rest r =
-      let peel = Passed-peel begins_stop (Line threads) (Line-one threads) rows all ts here rest passed r.0 in
+      let peel = Passed-peel begins_stop (Row threads) (Row-one threads) rows all ts here rest passed r.0 in
       at peel.0 peel.2 (ap length peel.1)
     where
-      at : (more : List (List (List (List ℕ)))) → Until begins_stop (Line threads) here more rest → length all ≡ length (rows ++ more) → ⊥
+      at : (more : CellGrid) → Until begins_stop (Row threads) here more rest → length all ≡ length (rows ++ more) → ⊥
       at [] u e = let h = u.1 in cc
       at (y ∷ more) u e = omega (arith, length-append rows (y ∷ more), r.1)
 
-pub Rows-unique : (threads : ℕ) (ts a b : List (List ℕ)) (x y : List (List (List (List ℕ)))) → Rows threads ts x a → Rows threads ts y b → (x ≡ y) × (a ≡ b)
-Rows-unique threads ts a b x y p q = Until-unique begins_stop (Line threads) (Line-one threads) x y ts a b p.0 q.0
+pub Rows-unique : (threads : ℕ) (ts a b : TokenList) (x y : CellGrid) → Rows threads ts x a → Rows threads ts y b → (x ≡ y) × (a ≡ b)
+Rows-unique threads ts a b x y p q = Until-unique begins_stop (Row threads) (Row-one threads) x y ts a b p.0 q.0

@@ -1,10 +1,11 @@
 -- The header, read name by name.
-use Rattle.std.proofs.Common.{◌≡◌, ℕ, zero, suc, ◌+◌, List, ◌∷◌, refl, ap, ◌∙◌, subst, arith, add-one}
+use Rattle.std.proofs.Common.{◌≡◌, ℕ, zero, suc, ◌+◌, ◌∷◌, refl, ap, ◌∙◌, subst, arith, add-one}
 use Rattle.std.specs.Prelude.{codes}
+use Rattle.lw_base.specs.Types.{TokenList}
 use Rattle.lw_text.specs.Rows.{thread_name, Names}
 use Rattle.lw_text.proofs.Texts.{marks_apart}
 
-pub Names-unique : (k m n : ℕ) (ts r s : List (List ℕ)) → Names k m ts r → Names k n ts s → (m ≡ n) × (r ≡ s)
+pub Names-unique : (k m n : ℕ) (ts r s : TokenList) → Names k m ts r → Names k n ts s → (m ≡ n) × (r ≡ s)
 Names-unique k zero n ts r s p q = absurd p
 Names-unique k (suc m) zero ts r s p q = absurd q
 Names-unique k (suc zero) (suc zero) ts r s p q = (refl, cc)
@@ -18,28 +19,28 @@ Names-unique k (suc (suc m)) (suc (suc n)) ts r s p q =
     (ap suc e.0, e.1)
 
 -- k names of threads have been read, each with a `|` behind it, and then comes here
-pub record NamesTo (start : List (List ℕ)) (k : ℕ) (here : List (List ℕ)) : Type 0 where
-  pub given : (m : ℕ) (rest : List (List ℕ)) → Names k (suc m) here rest → Names 0 (k + suc m) start rest
-  pub only : (n : ℕ) (rest : List (List ℕ)) → Names 0 n start rest → (m : ℕ) × (n ≡ k + suc m) × Names k (suc m) here rest
+pub record NamesTo (start : TokenList) (k : ℕ) (here : TokenList) : Type 0 where
+  pub given : (m : ℕ) (rest : TokenList) → Names k (suc m) here rest → Names 0 (k + suc m) start rest
+  pub only : (n : ℕ) (rest : TokenList) → Names 0 n start rest → (m : ℕ) × (n ≡ k + suc m) × Names k (suc m) here rest
 
-pub NamesTo-start : (start : List (List ℕ)) → NamesTo start 0 start
+pub NamesTo-start : (start : TokenList) → NamesTo start 0 start
 NamesTo-start start = record {
   given = λ m rest h. subst (λ x. Names 0 x start rest) (let e : suc m ≡ 0 + suc m = omega arith in e) h;
   only = λ n rest h. at n rest h;
 }
   where
-    at : (n : ℕ) (rest : List (List ℕ)) → Names 0 n start rest → (m : ℕ) × (n ≡ 0 + suc m) × Names 0 (suc m) start rest
+    at : (n : ℕ) (rest : TokenList) → Names 0 n start rest → (m : ℕ) × (n ≡ 0 + suc m) × Names 0 (suc m) start rest
     at zero rest h = absurd h
     at (suc n) rest h = (n, omega arith, h)
 
-module _ (start here : List (List ℕ)) (k : ℕ) (p : NamesTo start k here) where
-  module _ (l : List (List ℕ)) (e : here ≡ thread_name k ∷ l) where
-    pub Names-more : (next : List (List ℕ)) → l ≡ codes "|" ∷ next → NamesTo start (k + 1) next
+module _ (start here : TokenList) (k : ℕ) (p : NamesTo start k here) where
+  module _ (l : TokenList) (e : here ≡ thread_name k ∷ l) where
+    pub Names-more : (next : TokenList) → l ≡ codes "|" ∷ next → NamesTo start (k + 1) next
     Names-more next f = rw add-one (record {
       given = λ m rest h. subst (λ x. Names 0 x start rest) (let i : k + suc (suc m) ≡ suc k + suc m = omega arith in i) (p.given (suc m) rest (next, e ∙ ap (λ x. thread_name k ∷ x) f, h));
       only = λ n rest h. let o = p.only n rest h in at n rest o.0 o.1 o.2;
     })
       where
-        at : (n : ℕ) (rest : List (List ℕ)) (m : ℕ) → n ≡ k + suc m → Names k (suc m) here rest → (j : ℕ) × (n ≡ suc k + suc j) × Names (suc k) (suc j) next rest
+        at : (n : ℕ) (rest : TokenList) (m : ℕ) → n ≡ k + suc m → Names k (suc m) here rest → (j : ℕ) × (n ≡ suc k + suc j) × Names (suc k) (suc j) next rest
         at n rest zero i q = absurd (marks_apart (let j : codes "|" ≡ codes ";" = cc in j))
         at n rest (suc m) i q = let g = q.1 in let j : q.0 ≡ next = cc in (m, omega (arith, i), subst (λ x. Names (suc k) (suc m) x rest) j q.2)

@@ -1,64 +1,66 @@
 -- The word `SRC`, blanks, a test's name and its notes are read in one way.
-use Rattle.std.proofs.Common.{◌≡◌, ℕ, inl, inr, true, false, not, List, [], ◌∷◌, ◌++◌, length, refl, sym, ap, ◌∙◌, subst, arith}
+use Rattle.std.proofs.Common.{◌≡◌, ℕ, inl, inr, true, false, not, [], ◌∷◌, ◌++◌, length, refl, sym, ap, ◌∙◌, subst, arith}
 use Rattle.std.specs.Prelude.{codes}
 use Rattle.std.specs.List.{AllByRecursion}
 use Rattle.std.specs.Char.{is_ascii_graphic}
 use Rattle.std.proofs.lemmas.Bool.{not-true, cases_Bool}
+use Rattle.lw_base.specs.Types.{Bytes}
 use Rattle.lw_base.specs.Characters.{is_blank, begins}
 use Rattle.lw_text.specs.Tokens.{First}
-use Rattle.lw_text.specs.Headings.{IsTestName, Named, Notes, Heading}
+use Rattle.lw_base.specs.Names.{IsTestName}
+use Rattle.lw_text.specs.Headings.{Named, Notes, Heading}
 use Rattle.lw_text.proofs.Words.{run-unique, blank_all}
 use Rattle.lw_text.proofs.TokenRows.{First-unique}
 use Rattle.lw_text.proofs.NoteRows.{Notes-unique}
 
-abbrev Plain : List ℕ → Type 0
+abbrev Plain : Bytes → Type 0
 Plain name = AllByRecursion (λ b. not (is_blank b) ≡ true) name
 
 graphic_no_blank : (b : ℕ) → is_ascii_graphic b ≡ true → is_blank b ≡ false
 graphic_no_blank b h = elim (cases_Bool (is_blank b)) [ inl e ↦ absurd (let k = not-true (is_ascii_graphic b) (blank_all (λ x. not (is_ascii_graphic x)) b refl e) in cc) | inr e ↦ e ]
 
-graphic_plain : (name : List ℕ) → AllByRecursion (λ b. is_ascii_graphic b ≡ true) name → Plain name
+graphic_plain : (name : Bytes) → AllByRecursion (λ b. is_ascii_graphic b ≡ true) name → Plain name
 graphic_plain [] all = tt
 graphic_plain (b ∷ name) all = (ap not (graphic_no_blank b all.0), graphic_plain name all.1)
 
-name_front : (name rest : List ℕ) → IsTestName name → begins is_blank (name ++ rest) ≡ false
+name_front : (name rest : Bytes) → IsTestName name → begins is_blank (name ++ rest) ≡ false
 name_front [] rest h = absurd (let k = h.some in omega arith)
 name_front (b ∷ name) rest h = graphic_no_blank b h.all.0
 
 -- what a text's name and its neighbours are, where it was taken apart at the blanks
-module _ (text space after name rest : List ℕ) (e : text ≡ space ++ after) (blank : AllByRecursion (λ b. is_blank b ≡ true) space) (stop : begins is_blank after ≡ false) (f : after ≡ name ++ rest) (plain : Plain name) (longest : begins (λ b. not (is_blank b)) rest ≡ false) where
-  pub Named-parts : (n r : List ℕ) → (p : Named text n r) → (p.blanks ≡ space) × (n ≡ name) × (r ≡ rest)
+module _ (text space after name rest : Bytes) (e : text ≡ space ++ after) (blank : AllByRecursion (λ b. is_blank b ≡ true) space) (stop : begins is_blank after ≡ false) (f : after ≡ name ++ rest) (plain : Plain name) (longest : begins (λ b. not (is_blank b)) rest ≡ false) where
+  pub Named-parts : (n r : Bytes) → (p : Named text n r) → (p.blanks ≡ space) × (n ≡ name) × (r ≡ rest)
   Named-parts n r p =
       let outer = run-unique is_blank p.blanks (n ++ r) space after p.blank blank (name_front n r p.is_name) stop (sym p.parts ∙ e) in
       let inner = run-unique (λ b. not (is_blank b)) n r name rest (graphic_plain n p.is_name.all) plain p.longest longest (outer.1 ∙ f) in
       (outer.0, inner.0, inner.1)
 
-  pub no_name : length name ≡ 0 → (n r : List ℕ) → Named text n r → ⊥
+  pub no_name : length name ≡ 0 → (n r : Bytes) → Named text n r → ⊥
   no_name none n r p = let k = Named-parts n r p in omega (arith, p.is_name.some, ap length k.1)
 
-  pub not_apart : length space ≡ 0 → (n r : List ℕ) → Named text n r → ⊥
+  pub not_apart : length space ≡ 0 → (n r : Bytes) → Named text n r → ⊥
   not_apart none n r p = let k = Named-parts n r p in omega (arith, p.apart, ap length k.0)
 
-  pub bad_name : (IsTestName name → ⊥) → (n r : List ℕ) → Named text n r → ⊥
+  pub bad_name : (IsTestName name → ⊥) → (n r : Bytes) → Named text n r → ⊥
   bad_name never n r p = let k = Named-parts n r p in never (subst IsTestName k.1 p.is_name)
 
-pub Named-unique : (text n r m s : List ℕ) → Named text n r → Named text m s → (n ≡ m) × (r ≡ s)
+pub Named-unique : (text n r m s : Bytes) → Named text n r → Named text m s → (n ≡ m) × (r ≡ s)
 Named-unique text n r m s p q =
     let k = Named-parts text q.blanks (m ++ s) m s q.parts q.blank (name_front m s q.is_name) refl (graphic_plain m q.is_name.all) q.longest n r p in
     (k.1, k.2)
 
 -- where no name stands behind the word there is no heading
-pub no_named : (text mid : List ℕ) → First text (codes "SRC") mid → ((n r : List ℕ) → Named mid n r → ⊥) → (n r : List ℕ) → Heading text n r → ⊥
+pub no_named : (text mid : Bytes) → First text (codes "SRC") mid → ((n r : Bytes) → Named mid n r → ⊥) → (n r : Bytes) → Heading text n r → ⊥
 no_named text mid word never n r p = never n p.1 (subst (λ x. Named x n p.1) (First-unique text (codes "SRC") p.0 (codes "SRC") mid p.2 word).1 p.3)
 
 -- nor where the notes behind the name don't come to a `{`
-pub no_notes : (text mid name after : List ℕ) → First text (codes "SRC") mid → Named mid name after → ((r : List ℕ) → Notes after r → ⊥) → (n r : List ℕ) → Heading text n r → ⊥
+pub no_notes : (text mid name after : Bytes) → First text (codes "SRC") mid → Named mid name after → ((r : Bytes) → Notes after r → ⊥) → (n r : Bytes) → Heading text n r → ⊥
 no_notes text mid name after word named never n r p =
     let e = (First-unique text (codes "SRC") p.0 (codes "SRC") mid p.2 word).1 in
     let f = (Named-unique mid n p.1 name after (subst (λ x. Named x n p.1) e p.3) named).1 in
     never r (subst (λ x. Notes x r) f p.4)
 
-pub Heading-unique : (text n r m s : List ℕ) → Heading text n r → Heading text m s → (n ≡ m) × (r ≡ s)
+pub Heading-unique : (text n r m s : Bytes) → Heading text n r → Heading text m s → (n ≡ m) × (r ≡ s)
 Heading-unique text n r m s p q =
     let e = (First-unique text (codes "SRC") p.0 (codes "SRC") q.0 p.2 q.2).1 in
     let f = Named-unique q.0 n p.1 m q.1 (subst (λ x. Named x n p.1) e p.3) q.3 in

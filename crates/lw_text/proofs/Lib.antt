@@ -1,9 +1,10 @@
+pub mod Faults
 pub mod Elements
 pub mod Numbers
 pub mod Texts
 pub mod Lists
 pub mod Comments
-pub mod Gaps
+pub mod TriviaLemmas
 pub mod Words
 pub mod TokenRows
 pub mod NoteRows
@@ -20,11 +21,11 @@ pub mod RowColumns
 pub mod Atoms
 pub mod Sites
 pub mod Entries
-pub mod SignRows
+pub mod TerminalLists
 pub mod PropositionRows
 pub mod Whole
 pub mod Bodies
-pub mod PlacedHeads
-pub mod KeptHeads
-pub mod Says
+pub mod ResolvedHeads
+pub mod WellFormedHeads
+pub mod Derivations
 pub mod Pending

@@ -7,95 +7,96 @@ use Rattle.std.proofs.Math.ListN.{get_or-append}
 use Rattle.std.proofs.lemmas.Bool.{cases_Bool}
 use Rattle.std.proofs.lemmas.Slice.Eq.{bytes_eq-Decides}
 use Rattle.std.proofs.lemmas.Option.{slice_get_within, get_or_from_slice_get}
+use Rattle.lw_base.specs.Types.{Bytes, NameTable, TokenList}
 use Rattle.lw_base.specs.Names.{EachOnce}
-use Rattle.lw_base.specs.Tables.{is_there, with_name, with_names, place_of}
+use Rattle.lw_base.specs.Tables.{contains_name, with_name, with_names, index_of}
 use Rattle.lw_base.specs.declared.head.Seen.{Seen}
 use Rattle.lw_base.specs.declared.head.Seen.TheVariants as seen
-use Rattle.lw_base.proofs.Tables.{place_of-at}
-use Rattle.lw_base.proofs.GrowingTables.{with_name-grows, with_names-longer, there-name}
+use Rattle.lw_base.proofs.Tables.{index_of-at}
+use Rattle.lw_base.proofs.GrowingTables.{with_name-grows, with_names-longer, contains_name-with_name}
 use Rattle.lw_text.specs.declared.site.Site.{Site}
 use Rattle.lw_text.specs.declared.site.Site.TheVariants as made
 use Rattle.lw_text.specs.declared.block.Entry.{Entry}
 use Rattle.lw_text.specs.Sites.{InMemory, seen_in}
 use Rattle.lw_text.specs.Frames.{same_seen, word_of}
-use Rattle.lw_text.specs.Placed.{named, named_entry, seen_of, IsIn, word_at, is_listed}
+use Rattle.lw_text.specs.Resolved.{named, named_entry, seen_of, IsIn, word_at, is_listed}
 
 -- ---- the place of a name
 
-there_at : (names : List (List ℕ)) (t : List ℕ) → is_there names t ≡ true → slice_get names (place_of names t) ≡ Some t
+there_at : (names : NameTable) (t : Bytes) → contains_name names t ≡ true → slice_get names (index_of names t) ≡ Some t
 there_at [] t h = absurd cc
 there_at (y ∷ names) t h =
     elim (cases_Bool (bytes_eq y t)) [
       | inl e ↦ rw e (ap Some ((bytes_eq-Decides y t).0 e))
-      | inr e ↦ let k : is_there names t ≡ true = rw e at h in rw e (subst (λ i. slice_get (y ∷ names) i ≡ Some t) (let j : suc (place_of names t) ≡ 1 + place_of names t = omega arith in j) (there_at names t k))
+      | inr e ↦ let k : contains_name names t ≡ true = rw e at h in rw e (subst (λ i. slice_get (y ∷ names) i ≡ Some t) (let j : suc (index_of names t) ≡ 1 + index_of names t = omega arith in j) (there_at names t k))
     ]
 
 -- a name that appeared stands at its place
-pub appeared_at : (before after : List (List ℕ)) (loc : ℕ) (t : List ℕ) → after ≡ with_name before t → loc ≡ place_of after t → slice_get after loc ≡ Some t
-appeared_at before after loc t e f = rw (f, e) (there_at (with_name before t) t (there-name before t))
+pub appeared_at : (before after : NameTable) (loc : ℕ) (t : Bytes) → after ≡ with_name before t → loc ≡ index_of after t → slice_get after loc ≡ Some t
+appeared_at before after loc t e f = rw (f, e) (there_at (with_name before t) t (contains_name-with_name before t))
 
-pub slice_get-within : (names : List (List ℕ)) (i : ℕ) → i < length names → slice_get names i ≡ Some (get_or names i [])
+pub slice_get-within : (names : NameTable) (i : ℕ) → i < length names → slice_get names i ≡ Some (get_or names i [])
 slice_get-within [] i lt = absurd (omega arith)
 slice_get-within (y ∷ names) zero lt = refl
 slice_get-within (y ∷ names) (suc i) lt = slice_get-within names i (omega arith)
 
 -- the location at a place, by its name
-pub named-at : (names : List (List ℕ)) (loc : ℕ) (t : List ℕ) → slice_get names loc ≡ Some t → named names (made.Location loc) ≡ InMemory t
+pub named-at : (names : NameTable) (loc : ℕ) (t : Bytes) → slice_get names loc ≡ Some t → named names (made.Location loc) ≡ InMemory t
 named-at names loc t e = ap InMemory (get_or_from_slice_get names loc t [] e)
 
-pub within-at : (names : List (List ℕ)) (loc : ℕ) (t : List ℕ) → slice_get names loc ≡ Some t → IsIn names (made.Location loc)
+pub within-at : (names : NameTable) (loc : ℕ) (t : Bytes) → slice_get names loc ≡ Some t → IsIn names (made.Location loc)
 within-at names loc t e = slice_get_within names loc t e
 
 -- ---- in a table that grows
 
-with_name-get : (names : List (List ℕ)) (x : List ℕ) (i : ℕ) → i < length names → get_or (with_name names x) i [] ≡ get_or names i []
+with_name-get : (names : NameTable) (x : Bytes) (i : ℕ) → i < length names → get_or (with_name names x) i [] ≡ get_or names i []
 with_name-get names x i lt = let g = with_name-grows names x in ap (λ l. get_or l i []) g.1 ∙ get_or-append names g.0 [] i lt
 
-with_name-longer : (names : List (List ℕ)) (x : List ℕ) → length names ≤ length (with_name names x)
+with_name-longer : (names : NameTable) (x : Bytes) → length names ≤ length (with_name names x)
 with_name-longer names x = let g = with_name-grows names x in omega (arith, ap length g.1, length-append names g.0)
 
-with_names-get : (names ns : List (List ℕ)) (i : ℕ) → i < length names → get_or (with_names names ns) i [] ≡ get_or names i []
+with_names-get : (names ns : NameTable) (i : ℕ) → i < length names → get_or (with_names names ns) i [] ≡ get_or names i []
 with_names-get names [] i lt = refl
 with_names-get names (n ∷ ns) i lt = with_names-get (with_name names n) ns i (omega (arith, lt, with_name-longer names n)) ∙ with_name-get names n i lt
 
-pub named-along : (names ns : List (List ℕ)) (s : Site) → IsIn names s → named (with_names names ns) s ≡ named names s
+pub named-along : (names ns : NameTable) (s : Site) → IsIn names s → named (with_names names ns) s ≡ named names s
 named-along names ns (made.Location loc) h = ap InMemory (with_names-get names ns loc h)
 named-along names ns (made.Register t r) h = refl
 
-pub in-along : (names ns : List (List ℕ)) (s : Site) → IsIn names s → IsIn (with_names names ns) s
+pub in-along : (names ns : NameTable) (s : Site) → IsIn names s → IsIn (with_names names ns) s
 in-along names ns s h = omega (arith, h, with_names-longer names ns)
 
 -- lists of what stands on sites
-module _ {X Y : Type 0} (site : X → Site) (at : List (List ℕ) → X → Y) (stable : (names ns : List (List ℕ)) (x : X) → IsIn names (site x) → at (with_names names ns) x ≡ at names x) where
-  pub all_at-along : (names ns : List (List ℕ)) (xs : List X) → AllByRecursion (λ x. IsIn names (site x)) xs → map (at (with_names names ns)) xs ≡ map (at names) xs
+module _ {X Y : Type 0} (site : X → Site) (at : TokenList → X → Y) (stable : (names ns : NameTable) (x : X) → IsIn names (site x) → at (with_names names ns) x ≡ at names x) where
+  pub all_at-along : (names ns : NameTable) (xs : List X) → AllByRecursion (λ x. IsIn names (site x)) xs → map (at (with_names names ns)) xs ≡ map (at names) xs
   all_at-along names ns [] h = refl
   all_at-along names ns (x ∷ xs) h =
       let e = stable names ns x h.0 in
       let f = all_at-along names ns xs h.1 in
       cc
 
-  pub all_in-along : (names ns : List (List ℕ)) (xs : List X) → AllByRecursion (λ x. IsIn names (site x)) xs → AllByRecursion (λ x. IsIn (with_names names ns) (site x)) xs
+  pub all_in-along : (names ns : NameTable) (xs : List X) → AllByRecursion (λ x. IsIn names (site x)) xs → AllByRecursion (λ x. IsIn (with_names names ns) (site x)) xs
   all_in-along names ns [] h = tt
   all_in-along names ns (x ∷ xs) h = (in-along names ns (site x) h.0, all_in-along names ns xs h.1)
 
-pub entry-along : (names ns : List (List ℕ)) (e : Entry) → IsIn names e.site → named_entry (with_names names ns) e ≡ named_entry names e
+pub entry-along : (names ns : NameTable) (e : Entry) → IsIn names e.site → named_entry (with_names names ns) e ≡ named_entry names e
 entry-along names ns e h = rw (named-along names ns e.site h) refl
 
 -- ---- by places
 
-pub placed-named : (names : List (List ℕ)) (s : Site) → EachOnce names → IsIn names s → seen_in names (named names s) ≡ seen_of s
-placed-named names (made.Location loc) once h = ap (λ (l : ℕ). seen.Location l) (place_of-at names (get_or names loc []) loc once (slice_get-within names loc h))
-placed-named names (made.Register t r) once h = refl
+pub resolved-named : (names : NameTable) (s : Site) → EachOnce names → IsIn names s → seen_in names (named names s) ≡ seen_of s
+resolved-named names (made.Location loc) once h = ap (λ (l : ℕ). seen.Location l) (index_of-at names (get_or names loc []) loc once (slice_get-within names loc h))
+resolved-named names (made.Register t r) once h = refl
 
-words-step : (names : List (List ℕ)) (es : List Entry) (s : Seen) (w : ℕ) → EachOnce names → AllByRecursion (λ e. IsIn names e.site) es → fold (λ w e. if same_seen (seen_in names e.site) s then e.word else w) w (map (named_entry names) es) ≡ fold (λ w e. if same_seen (seen_of e.site) s then e.word else w) w es
+words-step : (names : NameTable) (es : List Entry) (s : Seen) (w : ℕ) → EachOnce names → AllByRecursion (λ e. IsIn names e.site) es → fold (λ w e. if same_seen (seen_in names e.site) s then e.word else w) w (map (named_entry names) es) ≡ fold (λ w e. if same_seen (seen_of e.site) s then e.word else w) w es
 words-step names [] s w once h = refl
 words-step names (e ∷ es) s w once h =
     words-step names es s (if same_seen (seen_in names (named names e.site)) s then e.word else w) once h.1
-    ∙ ap (λ x. fold (λ w e. if same_seen (seen_of e.site) s then e.word else w) (if same_seen x s then e.word else w) es) (placed-named names e.site once h.0)
+    ∙ ap (λ x. fold (λ w e. if same_seen (seen_of e.site) s then e.word else w) (if same_seen x s then e.word else w) es) (resolved-named names e.site once h.0)
 
-pub words-named : (names : List (List ℕ)) (es : List Entry) (s : Seen) → EachOnce names → AllByRecursion (λ e. IsIn names e.site) es → word_of names (map (named_entry names) es) s ≡ word_at es s
+pub words-named : (names : NameTable) (es : List Entry) (s : Seen) → EachOnce names → AllByRecursion (λ e. IsIn names e.site) es → word_of names (map (named_entry names) es) s ≡ word_at es s
 words-named names es s once h = words-step names es s 0 once h
 
-pub listed-named : (names : List (List ℕ)) (sites : List Site) (s : Seen) → EachOnce names → AllByRecursion (IsIn names) sites → list_any (λ site. same_seen (seen_in names site) s) (map (named names) sites) ≡ is_listed sites s
+pub listed-named : (names : NameTable) (sites : List Site) (s : Seen) → EachOnce names → AllByRecursion (IsIn names) sites → list_any (λ site. same_seen (seen_in names site) s) (map (named names) sites) ≡ is_listed sites s
 listed-named names [] s once h = refl
-listed-named names (x ∷ sites) s once h = rw (placed-named names x once h.0, listed-named names sites s once h.1) refl
+listed-named names (x ∷ sites) s once h = rw (resolved-named names x once h.0, listed-named names sites s once h.1) refl

@@ -1,40 +1,42 @@
 -- Quoted texts and lines `Key=value` are read in one way, and so are rows of them.
-use Rattle.std.proofs.Common.{◌≡◌, ℕ, ◌<◌, ◌≤◌, ◌⊎◌, inl, inr, Bool, true, false, not, List, [], ◌∷◌, ◌++◌, length, length-append, append_assoc, refl, sym, ap, ◌∙◌, subst, arith}
+use Rattle.std.proofs.Common.{◌≡◌, ℕ, ◌<◌, ◌≤◌, ◌⊎◌, inl, inr, Bool, true, false, not, [], ◌∷◌, ◌++◌, length, length-append, append_assoc, refl, sym, ap, ◌∙◌, subst, arith}
 use Rattle.std.specs.Prelude.{◌==◌}
 use Rattle.std.specs.List.{AllByRecursion, list_all}
 use Rattle.std.proofs.lemmas.Bool.{not-true, not-false, eqb-true}
+use Rattle.lw_base.specs.Types.{Bytes}
 use Rattle.lw_base.specs.Characters.{begins}
-use Rattle.lw_text.specs.Tokens.{begins_gap, Gap}
-use Rattle.lw_text.specs.Headings.{is_key_byte, is_space, Quoted, KeyLine, Note, Notes, none, note}
-use Rattle.lw_text.proofs.Gaps.{Gap-unique, Gap-suffix}
-use Rattle.lw_text.proofs.Words.{run-unique, any_all, same_byte, no_gap_at}
+use Rattle.lw_base.specs.Characters.{is_key_byte, is_space}
+use Rattle.lw_text.specs.Tokens.{begins_trivia, Trivia}
+use Rattle.lw_text.specs.Headings.{Quoted, KeyLine, Note, Notes, none, note}
+use Rattle.lw_text.proofs.TriviaLemmas.{Trivia-unique, Trivia-suffix}
+use Rattle.lw_text.proofs.Words.{run-unique, any_all, same_byte, no_trivia_at}
 
 -- ---- quoted texts
 
 -- bytes none of which is c
-abbrev pub Without : ℕ → List ℕ → Type 0
+abbrev pub Without : ℕ → Bytes → Type 0
 Without c bytes = AllByRecursion (λ b. not (b == c) ≡ true) bytes
 
-without : (c : ℕ) (bytes : List ℕ) → AllByRecursion (λ b. (b == c) ≡ false) bytes → Without c bytes
+without : (c : ℕ) (bytes : Bytes) → AllByRecursion (λ b. (b == c) ≡ false) bytes → Without c bytes
 without c [] all = tt
 without c (b ∷ bytes) all = (ap not all.0, without c bytes all.1)
 
-with_none : (c : ℕ) (bytes : List ℕ) → Without c bytes → AllByRecursion (λ b. (b == c) ≡ false) bytes
+with_none : (c : ℕ) (bytes : Bytes) → Without c bytes → AllByRecursion (λ b. (b == c) ≡ false) bytes
 with_none c [] all = tt
 with_none c (b ∷ bytes) all = (not-true (b == c) all.0, with_none c bytes all.1)
 
 -- what a text's quote is, where it was taken apart at the quotes
-module _ (text inside quoted rest : List ℕ) (e : text ≡ 34 ∷ inside) (f : inside ≡ quoted ++ rest) (all : Without 34 quoted) (longest : begins (λ b. not (b == 34)) rest ≡ false) where
-  pub Quoted-rest : (end : List ℕ) → Quoted text end → rest ≡ 34 ∷ end
+module _ (text inside quoted rest : Bytes) (e : text ≡ 34 ∷ inside) (f : inside ≡ quoted ++ rest) (all : Without 34 quoted) (longest : begins (λ b. not (b == 34)) rest ≡ false) where
+  pub Quoted-rest : (end : Bytes) → Quoted text end → rest ≡ 34 ∷ end
   Quoted-rest end q =
       let p = q.parts in
       let g : q.inside ++ 34 ∷ end ≡ inside = cc in
       sym (run-unique (λ b. not (b == 34)) q.inside (34 ∷ end) quoted rest (without 34 q.inside q.plain) all refl longest (g ∙ f)).1
 
-  pub Quoted-open : rest ≡ [] → (end : List ℕ) → Quoted text end → ⊥
+  pub Quoted-open : rest ≡ [] → (end : Bytes) → Quoted text end → ⊥
   Quoted-open gone end q = let k = Quoted-rest end q in cc
 
-  pub Quoted-made : (b : ℕ) (after : List ℕ) → rest ≡ b ∷ after → Quoted text after
+  pub Quoted-made : (b : ℕ) (after : Bytes) → rest ≡ b ∷ after → Quoted text after
   Quoted-made b after g =
       let h : not (b == 34) ≡ false = subst (λ x. begins (λ c. not (c == 34)) x ≡ false) g longest in
       let i : b ≡ 34 = eqb-true b 34 (not-false (b == 34) h) in
@@ -45,46 +47,46 @@ module _ (text inside quoted rest : List ℕ) (e : text ≡ 34 ∷ inside) (f : 
         plain = with_none 34 quoted all;
       }
 
-pub Quoted-front : (text end : List ℕ) → Quoted text end → begins (λ b. b == 34) text ≡ true
+pub Quoted-front : (text end : Bytes) → Quoted text end → begins (λ b. b == 34) text ≡ true
 Quoted-front text end q = ap (begins (λ b. b == 34)) q.parts
 
-pub Quoted-unique : (text a b : List ℕ) → Quoted text a → Quoted text b → a ≡ b
+pub Quoted-unique : (text a b : Bytes) → Quoted text a → Quoted text b → a ≡ b
 Quoted-unique text a b p q =
     let k : 34 ∷ b ≡ 34 ∷ a = Quoted-rest text (q.inside ++ 34 ∷ b) q.inside (34 ∷ b) q.parts refl (without 34 q.inside q.plain) refl a p in
     cc
 
 -- ---- lines `Key=value`
 
-abbrev pub Keys : List ℕ → Type 0
+abbrev pub Keys : Bytes → Type 0
 Keys bytes = AllByRecursion (λ b. is_key_byte b ≡ true) bytes
 
-abbrev pub Spaces : List ℕ → Type 0
+abbrev pub Spaces : Bytes → Type 0
 Spaces bytes = AllByRecursion (λ b. is_space b ≡ true) bytes
 
 space_no_key : (b : ℕ) → is_space b ≡ true → is_key_byte b ≡ false
 space_no_key b h = not-true (is_key_byte b) (any_all (λ x y. x == y) same_byte (λ x. not (is_key_byte x)) (32 ∷ 9 ∷ []) b refl h)
 
 -- no key goes on behind a key
-behind_key : (spaces more : List ℕ) → Spaces spaces → begins is_key_byte (spaces ++ 61 ∷ more) ≡ false
+behind_key : (spaces more : Bytes) → Spaces spaces → begins is_key_byte (spaces ++ 61 ∷ more) ≡ false
 behind_key [] more all = refl
 behind_key (b ∷ spaces) more all = space_no_key b all.0
 
 -- the parts of a line, each before all that stands behind it
-line_parts : (key spaces value rest : List ℕ) → key ++ spaces ++ 61 ∷ value ++ rest ≡ key ++ (spaces ++ 61 ∷ (value ++ rest))
+line_parts : (key spaces value rest : Bytes) → key ++ spaces ++ 61 ∷ value ++ rest ≡ key ++ (spaces ++ 61 ∷ (value ++ rest))
 line_parts key spaces value rest = append_assoc (key ++ spaces) (61 ∷ value) rest ∙ append_assoc key spaces (61 ∷ (value ++ rest))
 
 -- what a text's key is, and what stands behind it, where it was taken apart behind its longest key
-module _ (text key rest spaces left : List ℕ) (e : text ≡ key ++ rest) (all : Keys key) (longest : begins is_key_byte rest ≡ false) (f : rest ≡ spaces ++ left) (spaced : Spaces spaces) (stop : begins is_space left ≡ false) where
-  pub KeyLine-parts : (end : List ℕ) → (p : KeyLine text end) → (p.key ≡ key) × (left ≡ 61 ∷ p.value ++ end)
+module _ (text key rest spaces left : Bytes) (e : text ≡ key ++ rest) (all : Keys key) (longest : begins is_key_byte rest ≡ false) (f : rest ≡ spaces ++ left) (spaced : Spaces spaces) (stop : begins is_space left ≡ false) where
+  pub KeyLine-parts : (end : Bytes) → (p : KeyLine text end) → (p.key ≡ key) × (left ≡ 61 ∷ p.value ++ end)
   KeyLine-parts end p =
       let outer = run-unique is_key_byte p.key (p.spaces ++ 61 ∷ (p.value ++ end)) key rest p.all all (behind_key p.spaces (p.value ++ end) p.spaced) longest (sym (line_parts p.key p.spaces p.value end) ∙ sym p.parts ∙ e) in
       let inner = run-unique is_space p.spaces (61 ∷ (p.value ++ end)) spaces left p.spaced spaced refl stop (outer.1 ∙ f) in
       (outer.0, sym inner.1)
 
-  pub no_equals : begins (λ b. b == 61) left ≡ false → (end : List ℕ) → KeyLine text end → ⊥
+  pub no_equals : begins (λ b. b == 61) left ≡ false → (end : Bytes) → KeyLine text end → ⊥
   no_equals other end p = let k = KeyLine-parts end p in let h = ap (begins (λ b. b == 61)) k.1 in cc
 
-  pub KeyLine-made : (more value end : List ℕ) → 0 < length key → left ≡ 61 ∷ more → more ≡ value ++ end → Without 10 value → begins (λ b. not (b == 10)) end ≡ false → KeyLine text end
+  pub KeyLine-made : (more value end : Bytes) → 0 < length key → left ≡ 61 ∷ more → more ≡ value ++ end → Without 10 value → begins (λ b. not (b == 10)) end ≡ false → KeyLine text end
   KeyLine-made more value end some g h one last = record {
     key = key;
     spaces = spaces;
@@ -97,123 +99,123 @@ module _ (text key rest spaces left : List ℕ) (e : text ≡ key ++ rest) (all 
     longest = last;
   }
 
-pub KeyLine-unique : (text a b : List ℕ) → KeyLine text a → KeyLine text b → a ≡ b
+pub KeyLine-unique : (text a b : Bytes) → KeyLine text a → KeyLine text b → a ≡ b
 KeyLine-unique text a b p q =
     let k = KeyLine-parts text q.key (q.spaces ++ 61 ∷ (q.value ++ b)) q.spaces (61 ∷ (q.value ++ b)) (q.parts ∙ line_parts q.key q.spaces q.value b) q.all (behind_key q.spaces (q.value ++ b) q.spaced) refl q.spaced refl a p in
     let e = k.1 in
     let f : p.value ++ a ≡ q.value ++ b = cc in
     (run-unique (λ x. not (x == 10)) p.value a q.value b (without 10 p.value p.one_line) (without 10 q.value q.one_line) p.longest q.longest f).1
 
-key_front : (key more : List ℕ) → 0 < length key → Keys key → begins is_key_byte (key ++ more) ≡ true
+key_front : (key more : Bytes) → 0 < length key → Keys key → begins is_key_byte (key ++ more) ≡ true
 key_front [] more some all = absurd (omega (arith, some))
 key_front (b ∷ key) more some all = all.0
 
-pub KeyLine-front : (text end : List ℕ) → KeyLine text end → begins is_key_byte text ≡ true
+pub KeyLine-front : (text end : Bytes) → KeyLine text end → begins is_key_byte text ≡ true
 KeyLine-front text end p =
     let e = p.parts ∙ line_parts p.key p.spaces p.value end in
     ap (begins is_key_byte) e ∙ key_front p.key (p.spaces ++ 61 ∷ (p.value ++ end)) p.some p.all
 
 -- where the longest key is empty
-pub no_key : (text key rest : List ℕ) → text ≡ key ++ rest → begins is_key_byte rest ≡ false → length key ≡ 0 → (end : List ℕ) → KeyLine text end → ⊥
+pub no_key : (text key rest : Bytes) → text ≡ key ++ rest → begins is_key_byte rest ≡ false → length key ≡ 0 → (end : Bytes) → KeyLine text end → ⊥
 no_key text [] rest e longest gone end p = let h = KeyLine-front text end p in let k = ap (begins is_key_byte) e in cc
 no_key text (b ∷ key) rest e longest gone end p = omega (arith, gone)
 
 -- ---- one note
 
 -- a byte that passes one test passes no other that it can't
-apart : (p q : ℕ → Bool) (text : List ℕ) → begins p text ≡ true → begins q text ≡ true → ((b : ℕ) → p b ≡ true → q b ≡ false) → ⊥
+apart : (p q : ℕ → Bool) (text : Bytes) → begins p text ≡ true → begins q text ≡ true → ((b : ℕ) → p b ≡ true → q b ≡ false) → ⊥
 apart p q [] h k never = cc
 apart p q (b ∷ text) h k never = let n = never b h in cc
 
 byte_no_key : (c b : ℕ) → is_key_byte c ≡ false → (b == c) ≡ true → is_key_byte b ≡ false
 byte_no_key c b other h = ap is_key_byte (eqb-true b c h) ∙ other
 
-pub no_quote_is_key : (text a b : List ℕ) → Quoted text a → KeyLine text b → ⊥
+pub no_quote_is_key : (text a b : Bytes) → Quoted text a → KeyLine text b → ⊥
 no_quote_is_key text a b q p = apart (λ x. x == 34) is_key_byte text (Quoted-front text a q) (KeyLine-front text b p) (λ x h. byte_no_key 34 x refl h)
 
-pub Note-unique : (text a b : List ℕ) → Note text a → Note text b → a ≡ b
+pub Note-unique : (text a b : Bytes) → Note text a → Note text b → a ≡ b
 Note-unique text a b (inl p) (inl q) = Quoted-unique text a b p q
 Note-unique text a b (inl p) (inr q) = absurd (no_quote_is_key text a b p q)
 Note-unique text a b (inr p) (inl q) = absurd (no_quote_is_key text b a q p)
 Note-unique text a b (inr p) (inr q) = KeyLine-unique text a b p q
 
-gap_free : (p : ℕ → Bool) (text : List ℕ) → list_all (λ x. not (p x)) (32 ∷ 9 ∷ 10 ∷ 13 ∷ []) ≡ true → p 40 ≡ false → begins p text ≡ true → begins_gap text ≡ false
-gap_free p [] blanks bracket h = refl
-gap_free p (b ∷ text) blanks bracket h = no_gap_at p b text blanks bracket h
+trivia_free : (p : ℕ → Bool) (text : Bytes) → list_all (λ x. not (p x)) (32 ∷ 9 ∷ 10 ∷ 13 ∷ []) ≡ true → p 40 ≡ false → begins p text ≡ true → begins_trivia text ≡ false
+trivia_free p [] blanks bracket h = refl
+trivia_free p (b ∷ text) blanks bracket h = no_trivia_at p b text blanks bracket h
 
--- no gap begins where a note does
-pub note_no_gap : (text end : List ℕ) → Note text end → begins_gap text ≡ false
-note_no_gap text end (inl q) = gap_free (λ b. b == 34) text refl refl (Quoted-front text end q)
-note_no_gap text end (inr p) = gap_free is_key_byte text refl refl (KeyLine-front text end p)
+-- no trivia begins where a note does
+pub note_no_trivia : (text end : Bytes) → Note text end → begins_trivia text ≡ false
+note_no_trivia text end (inl q) = trivia_free (λ b. b == 34) text refl refl (Quoted-front text end q)
+note_no_trivia text end (inr p) = trivia_free is_key_byte text refl refl (KeyLine-front text end p)
 
-pub block_no_gap : (text : List ℕ) → begins (λ b. b == 123) text ≡ true → begins_gap text ≡ false
-block_no_gap text h = gap_free (λ b. b == 123) text refl refl h
+pub block_no_trivia : (text : Bytes) → begins (λ b. b == 123) text ≡ true → begins_trivia text ≡ false
+block_no_trivia text h = trivia_free (λ b. b == 123) text refl refl h
 
 -- no note begins with a `{`
-pub note_no_block : (text end : List ℕ) → begins (λ b. b == 123) text ≡ true → Note text end → ⊥
+pub note_no_block : (text end : Bytes) → begins (λ b. b == 123) text ≡ true → Note text end → ⊥
 note_no_block text end h (inl q) = apart (λ b. b == 34) (λ b. b == 123) text (Quoted-front text end q) h (λ b k. ap (λ x. x == 123) (eqb-true b 34 k))
 note_no_block text end h (inr p) = apart (λ b. b == 123) is_key_byte text h (KeyLine-front text end p) (λ b k. byte_no_key 123 b refl k)
 
 -- a text that begins with no quote has a key as its note
-pub no_note : (text : List ℕ) → begins (λ b. b == 34) text ≡ false → ((end : List ℕ) → KeyLine text end → ⊥) → (end : List ℕ) → Note text end → ⊥
+pub no_note : (text : Bytes) → begins (λ b. b == 34) text ≡ false → ((end : Bytes) → KeyLine text end → ⊥) → (end : Bytes) → Note text end → ⊥
 no_note text other never end (inl q) = let h = Quoted-front text end q in cc
 no_note text other never end (inr p) = never end p
 
 -- a text that begins with a quote has a quoted text as its note
-pub no_quote : (text : List ℕ) → begins (λ b. b == 34) text ≡ true → ((end : List ℕ) → Quoted text end → ⊥) → (end : List ℕ) → Note text end → ⊥
+pub no_quote : (text : Bytes) → begins (λ b. b == 34) text ≡ true → ((end : Bytes) → Quoted text end → ⊥) → (end : Bytes) → Note text end → ⊥
 no_quote text here never end (inl q) = never end q
 no_quote text here never end (inr p) = apart (λ b. b == 34) is_key_byte text here (KeyLine-front text end p) (λ b h. byte_no_key 34 b refl h)
 
-pub Note-suffix : (text end : List ℕ) → Note text end → (front : List ℕ) × (text ≡ front ++ end) × (0 < length front)
+pub Note-suffix : (text end : Bytes) → Note text end → (front : Bytes) × (text ≡ front ++ end) × (0 < length front)
 Note-suffix text end (inl q) = (34 ∷ q.inside ++ 34 ∷ [], q.parts ∙ ap (λ x. 34 ∷ x) (sym (append_assoc q.inside (34 ∷ []) end)), omega arith)
 Note-suffix text end (inr p) = (p.key ++ p.spaces ++ 61 ∷ p.value, p.parts, omega (arith, p.some, length-append (p.key ++ p.spaces) (61 ∷ p.value)))
 
 -- ---- rows of notes
 
-record Ended (text rest : List ℕ) : Type 0 where
-  gap : Gap text rest
+record Ended (text rest : Bytes) : Type 0 where
+  trivia : Trivia text rest
   block : begins (λ b. b == 123) rest ≡ true
 
-record Noted (text rest : List ℕ) : Type 0 where
-  mid : List ℕ
-  after : List ℕ
-  gap : Gap text mid
+record Noted (text rest : Bytes) : Type 0 where
+  mid : Bytes
+  after : Bytes
+  trivia : Trivia text mid
   first : Note mid after
   more : Notes after rest
 
-ways : {text rest : List ℕ} → Notes text rest → Ended text rest ⊎ Noted text rest
-ways (none g h) = inl (record { gap = g; block = h })
-ways (note {text} {mid} {after} {rest} g n m) = inr (record { mid = mid; after = after; gap = g; first = n; more = m })
+ways : {text rest : Bytes} → Notes text rest → Ended text rest ⊎ Noted text rest
+ways (none g h) = inl (record { trivia = g; block = h })
+ways (note {text} {mid} {after} {rest} g n m) = inr (record { mid = mid; after = after; trivia = g; first = n; more = m })
 
-pub at_note : (text mid after rest : List ℕ) → Gap text mid → Note mid after → Notes text rest → Notes after rest
+pub at_note : (text mid after rest : Bytes) → Trivia text mid → Note mid after → Notes text rest → Notes after rest
 at_note text mid after rest g n m =
     elim (ways m) [
       | inl w ↦ absurd (
-          let e : mid ≡ rest = Gap-unique g w.gap (note_no_gap mid after n) (block_no_gap rest w.block) in
+          let e : mid ≡ rest = Trivia-unique g w.trivia (note_no_trivia mid after n) (block_no_trivia rest w.block) in
           note_no_block mid after (subst (λ x. begins (λ b. b == 123) x ≡ true) (sym e) w.block) n)
       | inr w ↦
-          let e : w.mid ≡ mid = Gap-unique w.gap g (note_no_gap w.mid w.after w.first) (note_no_gap mid after n) in
+          let e : w.mid ≡ mid = Trivia-unique w.trivia g (note_no_trivia w.mid w.after w.first) (note_no_trivia mid after n) in
           let f : w.after ≡ after = Note-unique mid w.after after (subst (λ x. Note x w.after) e w.first) n in
           subst (λ x. Notes x rest) f w.more
     ]
 
-pub at_block : (text start rest : List ℕ) → Gap text start → begins (λ b. b == 123) start ≡ true → Notes text rest → start ≡ rest
+pub at_block : (text start rest : Bytes) → Trivia text start → begins (λ b. b == 123) start ≡ true → Notes text rest → start ≡ rest
 at_block text start rest g h m =
     elim (ways m) [
-      | inl w ↦ Gap-unique g w.gap (block_no_gap start h) (block_no_gap rest w.block)
+      | inl w ↦ Trivia-unique g w.trivia (block_no_trivia start h) (block_no_trivia rest w.block)
       | inr w ↦ absurd (
-          let e : start ≡ w.mid = Gap-unique g w.gap (block_no_gap start h) (note_no_gap w.mid w.after w.first) in
+          let e : start ≡ w.mid = Trivia-unique g w.trivia (block_no_trivia start h) (note_no_trivia w.mid w.after w.first) in
           note_no_block w.mid w.after (subst (λ x. begins (λ b. b == 123) x ≡ true) e h) w.first)
     ]
 
-pub Notes-unique : {text a b : List ℕ} → Notes text a → Notes text b → a ≡ b
+pub Notes-unique : {text a b : Bytes} → Notes text a → Notes text b → a ≡ b
 Notes-unique {text} {a} {b} (none g h) q = at_block text a b g h q
 Notes-unique {text} {b = b} (note {mid = mid} {after = after} g n m) q = Notes-unique m (at_note text mid after b g n q)
 
-pub Notes-suffix : {text rest : List ℕ} → Notes text rest → (front : List ℕ) × (text ≡ front ++ rest)
-Notes-suffix (none g h) = Gap-suffix g
+pub Notes-suffix : {text rest : Bytes} → Notes text rest → (front : Bytes) × (text ≡ front ++ rest)
+Notes-suffix (none g h) = Trivia-suffix g
 Notes-suffix (note {mid = mid} {after = after} g n m) =
-    let s = Gap-suffix g in
+    let s = Trivia-suffix g in
     let t = Note-suffix mid after n in
     let u = Notes-suffix m in
     (s.0 ++ (t.0 ++ u.0), s.1 ∙ ap (λ x. s.0 ++ x) (t.1 ∙ ap (λ x. t.0 ++ x) u.1 ∙ sym (append_assoc t.0 u.0 _)) ∙ sym (append_assoc s.0 (t.0 ++ u.0) _))
@@ -221,14 +223,14 @@ Notes-suffix (note {mid = mid} {after = after} g n m) =
 -- ---- what the reader of notes owes
 
 -- the notes of the bytes are those that were passed, and then the rest's
-pub record Passed (bytes rest : List ℕ) : Type 0 where
-  pub given : (end : List ℕ) → Notes rest end → Notes bytes end
-  pub only : (end : List ℕ) → Notes bytes end → Notes rest end
+pub record Passed (bytes rest : Bytes) : Type 0 where
+  pub given : (end : Bytes) → Notes rest end → Notes bytes end
+  pub only : (end : Bytes) → Notes bytes end → Notes rest end
   pub bound : length rest ≤ length bytes
 
-pub Passed-note : {bytes rest start after : List ℕ} → Passed bytes rest → Gap rest start → Note start after → Passed bytes after
+pub Passed-note : {bytes rest start after : Bytes} → Passed bytes rest → Trivia rest start → Note start after → Passed bytes after
 Passed-note {bytes} {rest} {start} {after} p g n =
-    let s = Gap-suffix g in
+    let s = Trivia-suffix g in
     let t = Note-suffix start after n in
     record {
       given = λ end m. p.given end (note g n m);
@@ -236,36 +238,36 @@ Passed-note {bytes} {rest} {start} {after} p g n =
       bound = omega (arith, p.bound, ap length s.1, length-append s.0 start, ap length t.1, length-append t.0 after);
     }
 
-pub Passed-shorter : {rest start after : List ℕ} → Gap rest start → Note start after → length after < length rest
+pub Passed-shorter : {rest start after : Bytes} → Trivia rest start → Note start after → length after < length rest
 Passed-shorter {rest} {start} {after} g n =
-    let s = Gap-suffix g in
+    let s = Trivia-suffix g in
     let t = Note-suffix start after n in
     omega (arith, ap length s.1, length-append s.0 start, ap length t.1, length-append t.0 after, t.2)
 
-pub Passed-done : {bytes rest start : List ℕ} → Passed bytes rest → Gap rest start → begins (λ b. b == 123) start ≡ true → Notes bytes start
+pub Passed-done : {bytes rest start : Bytes} → Passed bytes rest → Trivia rest start → begins (λ b. b == 123) start ≡ true → Notes bytes start
 Passed-done {start = start} p g h = p.given start (none g h)
 
 -- a comment among the notes isn't closed
-pub Passed-open : {bytes rest : List ℕ} → Passed bytes rest → ((start : List ℕ) → begins_gap start ≡ false → Gap rest start → ⊥) → (end : List ℕ) → Notes bytes end → ⊥
+pub Passed-open : {bytes rest : Bytes} → Passed bytes rest → ((start : Bytes) → begins_trivia start ≡ false → Trivia rest start → ⊥) → (end : Bytes) → Notes bytes end → ⊥
 Passed-open p never end m =
     elim (ways (p.only end m)) [
-      | inl w ↦ never end (block_no_gap end w.block) w.gap
-      | inr w ↦ never w.mid (note_no_gap w.mid w.after w.first) w.gap
+      | inl w ↦ never end (block_no_trivia end w.block) w.trivia
+      | inr w ↦ never w.mid (note_no_trivia w.mid w.after w.first) w.trivia
     ]
 
--- neither a `{` nor a note stands behind the gap
-pub Passed-none : {bytes rest start : List ℕ} → Passed bytes rest → Gap rest start → begins_gap start ≡ false → begins (λ b. b == 123) start ≡ false → ((after : List ℕ) → Note start after → ⊥) → (end : List ℕ) → Notes bytes end → ⊥
+-- neither a `{` nor a note stands behind the trivia
+pub Passed-none : {bytes rest start : Bytes} → Passed bytes rest → Trivia rest start → begins_trivia start ≡ false → begins (λ b. b == 123) start ≡ false → ((after : Bytes) → Note start after → ⊥) → (end : Bytes) → Notes bytes end → ⊥
 Passed-none {bytes} {rest} {start} p g stop other never end m =
     elim (ways (p.only end m)) [
       | inl w ↦
-          let e : start ≡ end = Gap-unique g w.gap stop (block_no_gap end w.block) in
+          let e : start ≡ end = Trivia-unique g w.trivia stop (block_no_trivia end w.block) in
           let h = subst (λ x. begins (λ b. b == 123) x ≡ false) e other in
           let k = w.block in
           cc
       | inr w ↦
-          let e : w.mid ≡ start = Gap-unique w.gap g (note_no_gap w.mid w.after w.first) stop in
+          let e : w.mid ≡ start = Trivia-unique w.trivia g (note_no_trivia w.mid w.after w.first) stop in
           never w.after (subst (λ x. Note x w.after) e w.first)
     ]
 
-pub Passed-nothing : (bytes : List ℕ) → Passed bytes bytes
+pub Passed-nothing : (bytes : Bytes) → Passed bytes bytes
 Passed-nothing bytes = record { given = λ end m. m; only = λ end m. m; bound = omega arith }

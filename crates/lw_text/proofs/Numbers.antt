@@ -1,25 +1,26 @@
 -- What digits stand for.
-use Rattle.std.proofs.Common.{◌≡◌, ℕ, ◌+◌, ◌*◌, ◌^◌, ◌<◌, ◌≤◌, List, [], ◌∷◌, sym, ◌∙◌, subst, arith}
+use Rattle.std.proofs.Common.{◌≡◌, ℕ, ◌+◌, ◌*◌, ◌^◌, ◌<◌, ◌≤◌, [], ◌∷◌, sym, ◌∙◌, subst, arith}
 use Rattle.std.proofs.Math.Nat.{mul-le-mul_left}
 use Rattle.std.specs.Prelude.{Option, Some, None, IfNone}
 use Rattle.std.specs.Char.{digit_value}
+use Rattle.lw_base.specs.Types.{Bytes}
 use Rattle.lw_text.specs.Tokens.{Digits}
 
 -- further digits make no number smaller
-pub Digits-grow : (base n : ℕ) (ds : List ℕ) (v : ℕ) → 1 ≤ base → Digits base n ds v → n ≤ v
+pub Digits-grow : (base n : ℕ) (ds : Bytes) (v : ℕ) → 1 ≤ base → Digits base n ds v → n ≤ v
 Digits-grow base n [] v h d = omega (arith, d)
 Digits-grow base n (x ∷ ds) v h d = omega (arith, Digits-grow base (base * n + digit_value x) ds v h d.1, mul-le-mul_left n h)
 
-pub Digits-unique : (base n : ℕ) (ds : List ℕ) (v w : ℕ) → Digits base n ds v → Digits base n ds w → v ≡ w
+pub Digits-unique : (base n : ℕ) (ds : Bytes) (v w : ℕ) → Digits base n ds v → Digits base n ds w → v ≡ w
 Digits-unique base n [] v w d e = sym d ∙ e
 Digits-unique base n (x ∷ ds) v w d e = Digits-unique base (base * n + digit_value x) ds v w d.1 e.1
 
 -- n and the rest of the digits stand for what all digits do
-pub record Reads (base : ℕ) (digits : List ℕ) (n : ℕ) (rest : List ℕ) : Type 0 where
+pub record Reads (base : ℕ) (digits : Bytes) (n : ℕ) (rest : Bytes) : Type 0 where
   pub given : (v : ℕ) → Digits base n rest v → Digits base 0 digits v
   pub only : (v : ℕ) → Digits base 0 digits v → Digits base n rest v
 
-module _ {base : ℕ} {digits : List ℕ} {n : ℕ} {rest next : List ℕ} {x : ℕ} (r : Reads base digits n rest) (e : rest ≡ x ∷ next) where
+module _ {base : ℕ} {digits : Bytes} {n : ℕ} {rest next : Bytes} {x : ℕ} (r : Reads base digits n rest) (e : rest ≡ x ∷ next) where
   here : (v : ℕ) → Digits base 0 digits v → Digits base n (x ∷ next) v
   here v d = subst (λ l. Digits base n l v) e (r.only v d)
 

@@ -7,6 +7,7 @@ use Rattle.std.proofs.lemmas.List.FromFn.{length-map-range_with_len}
 use Rattle.std.proofs.lemmas.List.Elements.{filter_map-append, All-from_recursion}
 use Rattle.std.proofs.lemmas.Option.{slice_get_read, slice_get_within, get_or_from_slice_get, slice_get-map}
 use Rattle.std.specs.Option.{option_map}
+use Rattle.lw_base.specs.Types.{Cells}
 use Rattle.lw_text.specs.declared.cell.Cell.{Cell}
 use Rattle.lw_text.specs.Rows.{column, columns}
 use Rattle.lw_text.proofs.Elements.{each_of}
@@ -68,7 +69,7 @@ columns-each {X} P n rows all = all_columns (λ c. All P c) n rows (λ k lt. All
 
 -- ---- columns without places
 
-cons_texts : {A : Type 0} (o : Option (Cell A)) (cells : List (Cell A)) (texts : List (List (List ℕ))) → cells_texts cells ≡ texts → cells_texts (cons_option o cells) ≡ cons_option (option_map cell_texts o) texts
+cons_texts : {A : Type 0} (o : Option (Cell A)) (cells : List (Cell A)) (texts : Cells) → cells_texts cells ≡ texts → cells_texts (cons_option o cells) ≡ cons_option (option_map cell_texts o) texts
 cons_texts None cells texts e = e
 cons_texts (Some x) cells texts e = ap (λ l. cell_texts x ∷ l) e
 

@@ -1,17 +1,26 @@
 -- What registers and locations begin with, one further.
-use Rattle.std.proofs.Common.{◌≡◌, ℕ, zero, suc, ◌+◌, ◌<◌, Bool, true, false, List, [], ◌∷◌, ◌++◌, length, map, take, get_or, refl, sym, ap, ◌∙◌, arith, append_assoc, zero-add}
+use Rattle.std.proofs.Common.{◌≡◌, ℕ, zero, suc, ◌+◌, ◌<◌, ◌≤◌, Bool, true, false, List, [], ◌∷◌, ◌++◌, length, map, take, get_or, refl, sym, ap, ◌∙◌, arith, append_assoc, zero-add}
 use Rattle.std.specs.Prelude.{filter, if◌then◌else◌}
 use Rattle.std.specs.List.{flat_map, range_with_len}
 use Rattle.std.proofs.lemmas.Grind.{flat_map-append}
 use Rattle.std.proofs.lemmas.List.{take_more, append-nil, map_push}
 use Rattle.std.proofs.lemmas.List.Sums.{fold-append}
 use Rattle.std.proofs.lemmas.List.Elements.{filter-append}
-use Rattle.std.proofs.lemmas.List.FromFn.{map-range_with_len_more}
+use Rattle.std.proofs.lemmas.List.{get_or-take, length-take}
+use Rattle.std.proofs.lemmas.List.FromFn.{map-range_with_len_more, get_or-range_with_len, length-range_with_len}
 use Rattle.lw_base.specs.declared.head.Seen.{Seen}
 use Rattle.lw_base.specs.declared.head.Seen.TheVariants.{Location}
 use Rattle.lw_text.specs.declared.block.Entry.{Entry}
-use Rattle.lw_text.specs.Frames.{same_seen, registers_of, registers, locations}
-use Rattle.lw_text.specs.Placed.{seen_of, word_at}
+use Rattle.lw_text.specs.Frames.{same_seen, registers_of, all_registers, locations}
+use Rattle.lw_text.specs.Resolved.{seen_of, word_at}
+
+-- an element of the first so many numbers is its index
+pub is_index : (n len k x : ℕ) (all xs : List ℕ) → all ≡ range_with_len 0 n → xs ≡ take len all → k < length xs → x ≡ get_or xs k x → x ≡ k
+is_index n len k x all xs e f lt is =
+    let cut : xs ≡ take len (range_with_len 0 n) = f ∙ ap (take len) e in
+    let short : length xs ≤ n = omega (arith, ap length cut, length-take len (range_with_len 0 n), length-range_with_len 0 n) in
+    let at : get_or (take len (range_with_len 0 n)) k x ≡ get_or (range_with_len 0 n) k x = get_or-take len (range_with_len 0 n) k x (omega (arith, ap length cut, length-take len (range_with_len 0 n))) in
+    is ∙ ap (λ l. get_or l k x) cut ∙ at ∙ get_or-range_with_len 0 n k x (omega arith) ∙ zero-add k
 
 -- the word after one more entry
 pub word_more : (es : List Entry) (i : ℕ) (e : Entry) (s : Seen) → i < length es → e ≡ get_or es i e → word_at (take (i + 1) es) s ≡ (if same_seen (seen_of e.site) s then e.word else word_at (take i es) s)
@@ -42,10 +51,10 @@ range-more a (suc n) =
     ap (range_with_len a) next ∙ ap (λ l. a ∷ l) (range-more (a + 1) n ∙ ap (λ (k : ℕ). range_with_len (a + 1) n ++ k ∷ []) e)
 
 -- the registers of one more thread
-pub registers_more : (p : Seen → Bool) (seen after : List Seen) (n : ℕ) → seen ≡ filter p (registers n) → after ≡ seen ++ filter p (registers_of n) → after ≡ filter p (registers (n + 1))
+pub registers_more : (p : Seen → Bool) (seen after : List Seen) (n : ℕ) → seen ≡ filter p (all_registers n) → after ≡ seen ++ filter p (registers_of n) → after ≡ filter p (all_registers (n + 1))
 registers_more p seen after n e f =
-    let more : registers (n + 1) ≡ registers n ++ registers_of n = ap (flat_map registers_of) (range-more 0 n ∙ ap (λ (k : ℕ). range_with_len 0 n ++ k ∷ []) (zero-add n)) ∙ flat_map-append registers_of (range_with_len 0 n) (n ∷ []) ∙ ap (λ l. registers n ++ l) (append-nil (registers_of n)) in
-    f ∙ ap (λ l. l ++ filter p (registers_of n)) e ∙ sym (ap (filter p) more ∙ filter-append p (registers n) (registers_of n))
+    let more : all_registers (n + 1) ≡ all_registers n ++ registers_of n = ap (flat_map registers_of) (range-more 0 n ∙ ap (λ (k : ℕ). range_with_len 0 n ++ k ∷ []) (zero-add n)) ∙ flat_map-append registers_of (range_with_len 0 n) (n ∷ []) ∙ ap (λ l. all_registers n ++ l) (append-nil (registers_of n)) in
+    f ∙ ap (λ l. l ++ filter p (registers_of n)) e ∙ sym (ap (filter p) more ∙ filter-append p (all_registers n) (registers_of n))
 
 -- the words of one more location
 pub words_more : (f : Seen → ℕ) (n : ℕ) → map f (locations (n + 1)) ≡ map f (locations n) ++ f (Location n) ∷ []

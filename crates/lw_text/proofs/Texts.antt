@@ -4,13 +4,14 @@ use Rattle.std.specs.Prelude.{codes}
 use Rattle.std.specs.Str.{bytes_eq}
 use Rattle.std.proofs.lemmas.List.{drop_all, length-map}
 use Rattle.std.proofs.lemmas.Slice.Eq.{bytes_eq-Decides}
+use Rattle.lw_base.specs.Types.{Bytes}
 use Rattle.lw_text.specs.declared.token.Token.{Token}
 use Rattle.lw_text.specs.Spans.{texts}
 
-pub is_text : (t u : List ℕ) → bytes_eq t u ≡ true → t ≡ u
+pub is_text : (t u : Bytes) → bytes_eq t u ≡ true → t ≡ u
 is_text t u h = (bytes_eq-Decides t u).0 h
 
-pub is_no_text : (t u : List ℕ) → bytes_eq t u ≡ false → t ≡ u → ⊥
+pub is_no_text : (t u : Bytes) → bytes_eq t u ≡ false → t ≡ u → ⊥
 is_no_text t u h e = let k = (bytes_eq-Decides t u).1 e in cc
 
 pub marks_apart : codes "|" ≡ codes ";" → ⊥
@@ -22,7 +23,7 @@ token_next [] next t lt e = absurd (omega arith)
 token_next (u ∷ tokens) zero t lt e = ap (λ x. x ∷ tokens) (sym e)
 token_next (u ∷ tokens) (suc next) t lt e = let k : suc next + 1 ≡ suc (next + 1) = omega arith in token_next tokens next t (omega (arith, lt)) e ∙ ap (λ (n : ℕ). t ∷ drop n (u ∷ tokens)) (sym k)
 
-pub texts_next : (tokens : List Token) (next : ℕ) (t : Token) (w : List ℕ) → next < length tokens → t ≡ get_or tokens next t → bytes_eq t.text.now w ≡ true → texts (drop next tokens) ≡ w ∷ texts (drop (next + 1) tokens)
+pub texts_next : (tokens : List Token) (next : ℕ) (t : Token) (w : Bytes) → next < length tokens → t ≡ get_or tokens next t → bytes_eq t.text.now w ≡ true → texts (drop next tokens) ≡ w ∷ texts (drop (next + 1) tokens)
 texts_next tokens next t w lt e h = ap texts (token_next tokens next t lt e) ∙ ap (λ x. x ∷ texts (drop (next + 1) tokens)) (is_text t.text.now w h)
 
 pub none_left : (tokens : List Token) (next : ℕ) → next ≡ length tokens → texts (drop next tokens) ≡ []

@@ -4,6 +4,7 @@ use Rattle.std.specs.Prelude.{Option, Some, None, IfNone, OnSome, codes, filter,
 use Rattle.std.specs.List.{AllByRecursion, list_all}
 use Rattle.std.proofs.lemmas.List.{length-map}
 use Rattle.std.proofs.lemmas.List.Elements.{All-from_recursion}
+use Rattle.lw_base.specs.Types.{Bytes, NameTable, TokenList, CellGrid}
 use Rattle.lw_base.specs.declared.head.Quant.{Quant}
 use Rattle.lw_base.specs.declared.head.Quant.TheVariants.{Exists, NotExists, Forall}
 use Rattle.lw_base.specs.Formula.{Formula}
@@ -16,47 +17,47 @@ use Rattle.lw_text.specs.declared.block.Entry.{Entry as MadeEntry}
 use Rattle.lw_text.specs.Tokens.{Tokens}
 use Rattle.lw_text.specs.Headings.{Heading}
 use Rattle.lw_text.specs.Lists.{Until}
-use Rattle.lw_text.specs.Rows.{Header, Line, Rows, begins_stop}
-use Rattle.lw_text.specs.Sites.{Site, IsThere, site_names}
-use Rattle.lw_text.specs.Propositions.{Sign, is_node, IsProposition}
-use Rattle.lw_text.specs.Conditions.{Claim, Listed, Quantified, Signs, Condition, sites_in, placed}
-use Rattle.lw_text.specs.Frames.{Entry, Block, Said, table, Parts, TestFrame, HasFrame, made_of}
+use Rattle.lw_text.specs.Rows.{Header, Row, Rows, begins_stop}
+use Rattle.lw_text.specs.Sites.{SiteSyntax, ThreadExists, site_names}
+use Rattle.lw_text.specs.Propositions.{Terminal, is_node, IsProposition}
+use Rattle.lw_text.specs.Conditions.{AtomSyntax, Listed, Quantified, Terminals, Condition, sites_in, resolved}
+use Rattle.lw_text.specs.Frames.{EntrySyntax, Block, TestSyntax, table, Parts, TestFrame, HasFrame, made_of}
 use Rattle.lw_text.specs.Places.{cell_texts, all_texts}
-use Rattle.lw_text.specs.Placed.{named, named_entry, is_there}
+use Rattle.lw_text.specs.Resolved.{named, named_entry, thread_exists}
 use Rattle.lw_text.proofs.Blocks.{Block-unique}
 use Rattle.lw_text.proofs.Cells.{Rows-unique}
 use Rattle.lw_text.proofs.Headers.{Names-unique}
 use Rattle.lw_text.proofs.Headings.{Heading-unique}
 use Rattle.lw_text.proofs.Listings.{Listed-unique}
 use Rattle.lw_text.proofs.Readings.{site_names-append}
-use Rattle.lw_text.proofs.Says.{IsProposition-unique}
-use Rattle.lw_text.proofs.SignRows.{Signs-unique}
+use Rattle.lw_text.proofs.Derivations.{IsProposition-unique}
+use Rattle.lw_text.proofs.TerminalLists.{Terminals-unique}
 use Rattle.lw_text.proofs.Texts.{is_no_text}
 use Rattle.lw_text.proofs.TokenRows.{Tokens-unique}
 
 -- ---- the table of names
 
 -- the sites of the initial block
-abbrev pub block_sites : List Entry → List Site
+abbrev pub block_sites : List EntrySyntax → List SiteSyntax
 block_sites entries = map (λ e. e.site) entries
 
-pub table_parts : (s : Said) → table s ≡ with_names (with_names (with_names [] (site_names (block_sites s.entries))) (site_names s.listed)) (site_names (sites_in s.signs))
+pub table_parts : (s : TestSyntax) → table s ≡ with_names (with_names (with_names [] (site_names (block_sites s.entries))) (site_names s.listed)) (site_names (sites_in s.terminals))
 table_parts s =
-    ap (with_names []) (site_names-append (block_sites s.entries ++ s.listed) (sites_in s.signs) ∙ ap (λ l. l ++ site_names (sites_in s.signs)) (site_names-append (block_sites s.entries) s.listed))
-    ∙ with_names-append [] (site_names (block_sites s.entries) ++ site_names s.listed) (site_names (sites_in s.signs))
-    ∙ ap (λ ns. with_names ns (site_names (sites_in s.signs))) (with_names-append [] (site_names (block_sites s.entries)) (site_names s.listed))
+    ap (with_names []) (site_names-append (block_sites s.entries ++ s.listed) (sites_in s.terminals) ∙ ap (λ l. l ++ site_names (sites_in s.terminals)) (site_names-append (block_sites s.entries) s.listed))
+    ∙ with_names-append [] (site_names (block_sites s.entries) ++ site_names s.listed) (site_names (sites_in s.terminals))
+    ∙ ap (λ ns. with_names ns (site_names (sites_in s.terminals))) (with_names-append [] (site_names (block_sites s.entries)) (site_names s.listed))
 
-pub sites_of_block : (names : List (List ℕ)) (es : List MadeEntry) → block_sites (map (named_entry names) es) ≡ map (λ e. named names e.site) es
+pub sites_of_block : (names : NameTable) (es : List MadeEntry) → block_sites (map (named_entry names) es) ≡ map (λ e. named names e.site) es
 sites_of_block names [] = refl
 sites_of_block names (e ∷ es) = ap (λ l. named names e.site ∷ l) (sites_of_block names es)
 
 -- ---- threads that are there
 
-there_one : (threads : ℕ) (names : List (List ℕ)) (s : MadeSite) → is_there threads s ≡ true → IsThere threads (named names s)
+there_one : (threads : ℕ) (names : NameTable) (s : MadeSite) → thread_exists threads s ≡ true → ThreadExists threads (named names s)
 there_one threads names (made.Location loc) h = tt
 there_one threads names (made.Register t r) h = grind arith
 
-one_there : (threads : ℕ) (names : List (List ℕ)) (s : MadeSite) → IsThere threads (named names s) → is_there threads s ≡ true
+one_there : (threads : ℕ) (names : NameTable) (s : MadeSite) → ThreadExists threads (named names s) → thread_exists threads s ≡ true
 one_there threads names (made.Location loc) h = refl
 one_there threads names (made.Register t r) h = grind arith
 
@@ -64,19 +65,19 @@ both : (a b : Bool) → (a && b) ≡ true → (a ≡ true) × (b ≡ true)
 both true b e = (refl, e)
 both false b e = absurd cc
 
-pub all_there : (threads : ℕ) (names : List (List ℕ)) (es : List MadeEntry) → list_all (λ e. is_there threads e.site) es ≡ true → AllByRecursion (λ e. IsThere threads e.site) (map (named_entry names) es)
+pub all_there : (threads : ℕ) (names : NameTable) (es : List MadeEntry) → list_all (λ e. thread_exists threads e.site) es ≡ true → AllByRecursion (λ e. ThreadExists threads e.site) (map (named_entry names) es)
 all_there threads names [] h = tt
 all_there threads names (e ∷ es) h =
-    let k = both (is_there threads e.site) (list_all (λ e. is_there threads e.site) es) h in
+    let k = both (thread_exists threads e.site) (list_all (λ e. thread_exists threads e.site) es) h in
     (there_one threads names e.site k.0, all_there threads names es k.1)
 
-pub there_all : (threads : ℕ) (names : List (List ℕ)) (es : List MadeEntry) → AllByRecursion (λ e. IsThere threads e.site) (map (named_entry names) es) → list_all (λ e. is_there threads e.site) es ≡ true
+pub there_all : (threads : ℕ) (names : NameTable) (es : List MadeEntry) → AllByRecursion (λ e. ThreadExists threads e.site) (map (named_entry names) es) → list_all (λ e. thread_exists threads e.site) es ≡ true
 there_all threads names [] h = refl
 there_all threads names (e ∷ es) h = rw (one_there threads names e.site h.0, there_all threads names es h.1) refl
 
 -- ---- the quantifier
 
-pub Quantified-unique : (ts : List (List ℕ)) (p q : Quant) (r s : List (List ℕ)) → Quantified ts p r → Quantified ts q s → (p ≡ q) × (r ≡ s)
+pub Quantified-unique : (ts : TokenList) (p q : Quant) (r s : TokenList) → Quantified ts p r → Quantified ts q s → (p ≡ q) × (r ≡ s)
 Quantified-unique ts Exists Exists r s e f = (refl, cc)
 Quantified-unique ts Exists NotExists r s e f = absurd (let k : codes "exists" ≡ codes "~" = cc in is_no_text (codes "exists") (codes "~") refl k)
 Quantified-unique ts Exists Forall r s e f = absurd (let k : codes "exists" ≡ codes "forall" = cc in is_no_text (codes "exists") (codes "forall") refl k)
@@ -90,132 +91,132 @@ Quantified-unique ts Forall Forall r s e f = (refl, cc)
 -- ---- where the block and the header end early
 
 -- where nothing of the front is there, no parts are
-pub no_front : (ts : List (List ℕ)) → ((es : List Entry) (n : ℕ) (mid rest : List (List ℕ)) → Block ts es mid → Header mid n rest → AllByRecursion (λ e. IsThere n e.site) es → length (with_names [] (site_names (block_sites es))) ≤ 8 → ⊥) → (s : Said) → Parts ts s → ⊥
+pub no_front : (ts : TokenList) → ((es : List EntrySyntax) (n : ℕ) (mid rest : TokenList) → Block ts es mid → Header mid n rest → AllByRecursion (λ e. ThreadExists n e.site) es → length (with_names [] (site_names (block_sites es))) ≤ 8 → ⊥) → (s : TestSyntax) → Parts ts s → ⊥
 no_front ts never s p =
     never s.entries s.threads p.behind_block p.behind_header p.block p.header p.there
-    (omega (arith, p.few_names, ap length (table_parts s), with_names-longer (with_names [] (site_names (block_sites s.entries))) (site_names s.listed), with_names-longer (with_names (with_names [] (site_names (block_sites s.entries))) (site_names s.listed)) (site_names (sites_in s.signs))))
+    (omega (arith, p.few_names, ap length (table_parts s), with_names-longer (with_names [] (site_names (block_sites s.entries))) (site_names s.listed), with_names-longer (with_names (with_names [] (site_names (block_sites s.entries))) (site_names s.listed)) (site_names (sites_in s.terminals))))
 
-module _ (ts a : List (List ℕ)) (entries : List Entry) (block : Block ts entries a) where
-  pub no_header : ((n : ℕ) (rest : List (List ℕ)) → Header a n rest → ⊥) → (es : List Entry) (n : ℕ) (mid rest : List (List ℕ)) → Block ts es mid → Header mid n rest → ⊥
+module _ (ts a : TokenList) (entries : List EntrySyntax) (block : Block ts entries a) where
+  pub no_header : ((n : ℕ) (rest : TokenList) → Header a n rest → ⊥) → (es : List EntrySyntax) (n : ℕ) (mid rest : TokenList) → Block ts es mid → Header mid n rest → ⊥
   no_header never es n mid rest b h = never n rest (subst (λ l. Header l n rest) (Block-unique ts es entries mid a b block).1 h)
 
-  pub no_thread : (n : ℕ) (b : List (List ℕ)) → Header a n b → (names : List (List ℕ)) (made : List MadeEntry) → entries ≡ map (named_entry names) made → list_all (λ e. is_there n e.site) made ≡ false → (es : List Entry) (m : ℕ) (mid rest : List (List ℕ)) → Block ts es mid → Header mid m rest → AllByRecursion (λ e. IsThere m e.site) es → ⊥
+  pub no_thread : (n : ℕ) (b : TokenList) → Header a n b → (names : NameTable) (made : List MadeEntry) → entries ≡ map (named_entry names) made → list_all (λ e. thread_exists n e.site) made ≡ false → (es : List EntrySyntax) (m : ℕ) (mid rest : TokenList) → Block ts es mid → Header mid m rest → AllByRecursion (λ e. ThreadExists m e.site) es → ⊥
   no_thread n b header names made is none es m mid rest c h there =
       let e = Block-unique ts es entries mid a c block in
       let u = Names-unique 0 m n a rest b (subst (λ l. Header l m rest) e.1 h).0 header.0 in
-      let all = there_all n names made (subst (λ l. AllByRecursion (λ e. IsThere n e.site) l) (e.0 ∙ is) (subst (λ k. AllByRecursion (λ e. IsThere k e.site) es) u.0 there)) in
+      let all = there_all n names made (subst (λ l. AllByRecursion (λ e. ThreadExists n e.site) l) (e.0 ∙ is) (subst (λ k. AllByRecursion (λ e. ThreadExists k e.site) es) u.0 there)) in
       cc
 
 -- ---- where the condition ends early
 
-module _ (threads : ℕ) (ts first : List (List ℕ)) where
-  pub no_list : ((ss : List Site) (rest : List (List ℕ)) → Listed ts ss rest → AllByRecursion (IsThere threads) ss → length (with_names first (site_names ss)) ≤ 8 → ⊥) → (all : List Site) (q : Quant) (ss : List (Sign Claim)) → Condition threads ts all q ss → length (with_names (with_names first (site_names all)) (site_names (sites_in ss))) ≤ 8 → ⊥
+module _ (threads : ℕ) (ts first : TokenList) where
+  pub no_list : ((ss : List SiteSyntax) (rest : TokenList) → Listed ts ss rest → AllByRecursion (ThreadExists threads) ss → length (with_names first (site_names ss)) ≤ 8 → ⊥) → (all : List SiteSyntax) (q : Quant) (ss : List (Terminal AtomSyntax)) → Condition threads ts all q ss → length (with_names (with_names first (site_names all)) (site_names (sites_in ss))) ≤ 8 → ⊥
   no_list never all q ss c few = never all c.behind_list c.lists c.there (omega (arith, few, with_names-longer (with_names first (site_names all)) (site_names (sites_in ss))))
 
-  module _ (listed : List Site) (d : List (List ℕ)) (lists : Listed ts listed d) where
-    pub no_quant : ((q : Quant) (rest : List (List ℕ)) → Quantified d q rest → ⊥) → (all : List Site) (q : Quant) (ss : List (Sign Claim)) → Condition threads ts all q ss → ⊥
+  module _ (listed : List SiteSyntax) (d : TokenList) (lists : Listed ts listed d) where
+    pub no_quant : ((q : Quant) (rest : TokenList) → Quantified d q rest → ⊥) → (all : List SiteSyntax) (q : Quant) (ss : List (Terminal AtomSyntax)) → Condition threads ts all q ss → ⊥
     no_quant never all q ss c =
         let u = Listed-unique ts all listed c.behind_list d c.lists lists in
         never q c.behind_quant (subst (λ l. Quantified l q c.behind_quant) u.1 c.quantifies)
 
-    module _ (quant : Quant) (e : List (List ℕ)) (quantifies : Quantified d quant e) (names : List (List ℕ)) (is_names : names ≡ with_names first (site_names listed)) where
-      pub no_signs : ((ss : List (Sign Claim)) (p : Formula) → Signs threads e ss → length (with_names names (site_names (sites_in ss))) ≤ 8 → length (filter is_node ss) ≤ 256 → IsProposition (map (placed (with_names names (site_names (sites_in ss)))) ss) p → ⊥) → (all : List Site) (q : Quant) (ss : List (Sign Claim)) (p : Formula) → Condition threads ts all q ss → length (with_names (with_names first (site_names all)) (site_names (sites_in ss))) ≤ 8 → length (filter is_node ss) ≤ 256 → IsProposition (map (placed (with_names (with_names first (site_names all)) (site_names (sites_in ss)))) ss) p → ⊥
-      no_signs never all q ss p c few nodes whole =
+    module _ (quant : Quant) (e : TokenList) (quantifies : Quantified d quant e) (names : NameTable) (is_names : names ≡ with_names first (site_names listed)) where
+      pub no_terminals : ((ss : List (Terminal AtomSyntax)) (p : Formula) → Terminals threads e ss → length (with_names names (site_names (sites_in ss))) ≤ 8 → length (filter is_node ss) ≤ 256 → IsProposition (map (resolved (with_names names (site_names (sites_in ss)))) ss) p → ⊥) → (all : List SiteSyntax) (q : Quant) (ss : List (Terminal AtomSyntax)) (p : Formula) → Condition threads ts all q ss → length (with_names (with_names first (site_names all)) (site_names (sites_in ss))) ≤ 8 → length (filter is_node ss) ≤ 256 → IsProposition (map (resolved (with_names (with_names first (site_names all)) (site_names (sites_in ss)))) ss) p → ⊥
+      no_terminals never all q ss p c few nodes whole =
           let u = Listed-unique ts all listed c.behind_list d c.lists lists in
           let v = Quantified-unique d q quant c.behind_quant e (subst (λ l. Quantified l q c.behind_quant) u.1 c.quantifies) quantifies in
           let same : with_names first (site_names all) ≡ names = ap (λ l. with_names first (site_names l)) u.0 ∙ sym is_names in
-          never ss p (subst (λ l. Signs threads l ss) v.1 c.says) (subst (λ ns. length (with_names ns (site_names (sites_in ss))) ≤ 8) same few) nodes (subst (λ ns. IsProposition (map (placed (with_names ns (site_names (sites_in ss)))) ss) p) same whole)
+          never ss p (subst (λ l. Terminals threads l ss) v.1 c.says) (subst (λ ns. length (with_names ns (site_names (sites_in ss))) ≤ 8) same few) nodes (subst (λ ns. IsProposition (map (resolved (with_names ns (site_names (sites_in ss)))) ss) p) same whole)
 
 -- ---- where the parts end early
 
-module _ (ts a : List (List ℕ)) (entries : List Entry) (block : Block ts entries a) (n : ℕ) (b : List (List ℕ)) (header : Header a n b) where
-  at_rows : (s : Said) (p : Parts ts s) → (s.entries ≡ entries) × (s.threads ≡ n) × Rows n b s.rows p.behind_rows × Condition n p.behind_rows s.listed s.quant s.signs
+module _ (ts a : TokenList) (entries : List EntrySyntax) (block : Block ts entries a) (n : ℕ) (b : TokenList) (header : Header a n b) where
+  at_rows : (s : TestSyntax) (p : Parts ts s) → (s.entries ≡ entries) × (s.threads ≡ n) × Rows n b s.rows p.behind_rows × Condition n p.behind_rows s.listed s.quant s.terminals
   at_rows s p =
       let e = Block-unique ts s.entries entries p.behind_block a p.block block in
       let u = Names-unique 0 s.threads n a p.behind_header b (subst (λ l. Header l s.threads p.behind_header) e.1 p.header).0 header.0 in
-      (e.0, u.0, subst (λ l. Rows n l s.rows p.behind_rows) u.1 (subst (λ m. Rows m p.behind_header s.rows p.behind_rows) u.0 p.rows), subst (λ m. Condition m p.behind_rows s.listed s.quant s.signs) u.0 p.condition)
+      (e.0, u.0, subst (λ l. Rows n l s.rows p.behind_rows) u.1 (subst (λ m. Rows m p.behind_header s.rows p.behind_rows) u.0 p.rows), subst (λ m. Condition m p.behind_rows s.listed s.quant s.terminals) u.0 p.condition)
 
-  pub no_rows : ((rows : List (List (List (List ℕ)))) (rest : List (List ℕ)) → Rows n b rows rest → ⊥) → (s : Said) → Parts ts s → ⊥
+  pub no_rows : ((rows : CellGrid) (rest : TokenList) → Rows n b rows rest → ⊥) → (s : TestSyntax) → Parts ts s → ⊥
   no_rows never s p = never s.rows p.behind_rows (at_rows s p).2
 
-  module _ (rows : List (List (List (List ℕ)))) (c : List (List ℕ)) (are_rows : Rows n b rows c) (first : List (List ℕ)) (is_first : first ≡ with_names [] (site_names (block_sites entries))) where
-    at_condition : (s : Said) → Parts ts s → (s.entries ≡ entries) × (s.threads ≡ n) × (s.rows ≡ rows) × Condition n c s.listed s.quant s.signs
+  module _ (rows : CellGrid) (c : TokenList) (are_rows : Rows n b rows c) (first : TokenList) (is_first : first ≡ with_names [] (site_names (block_sites entries))) where
+    at_condition : (s : TestSyntax) → Parts ts s → (s.entries ≡ entries) × (s.threads ≡ n) × (s.rows ≡ rows) × Condition n c s.listed s.quant s.terminals
     at_condition s p =
         let h = at_rows s p in
         let u = Rows-unique n b p.behind_rows c s.rows rows h.2 are_rows in
-        (h.0, h.1, u.0, subst (λ l. Condition n l s.listed s.quant s.signs) u.1 h.3)
+        (h.0, h.1, u.0, subst (λ l. Condition n l s.listed s.quant s.terminals) u.1 h.3)
 
-    pub no_condition : ((listed : List Site) (quant : Quant) (ss : List (Sign Claim)) (p : Formula) → Condition n c listed quant ss → length (with_names (with_names first (site_names listed)) (site_names (sites_in ss))) ≤ 8 → length (filter is_node ss) ≤ 256 → IsProposition (map (placed (with_names (with_names first (site_names listed)) (site_names (sites_in ss)))) ss) p → ⊥) → (s : Said) (p : Formula) → Parts ts s → IsProposition (map (placed (table s)) s.signs) p → ⊥
+    pub no_condition : ((listed : List SiteSyntax) (quant : Quant) (ss : List (Terminal AtomSyntax)) (p : Formula) → Condition n c listed quant ss → length (with_names (with_names first (site_names listed)) (site_names (sites_in ss))) ≤ 8 → length (filter is_node ss) ≤ 256 → IsProposition (map (resolved (with_names (with_names first (site_names listed)) (site_names (sites_in ss)))) ss) p → ⊥) → (s : TestSyntax) (p : Formula) → Parts ts s → IsProposition (map (resolved (table s)) s.terminals) p → ⊥
     no_condition never s f p whole =
         let h = at_condition s p in
         let names : with_names [] (site_names (block_sites s.entries)) ≡ first = ap (λ es. with_names [] (site_names (block_sites es))) h.0 ∙ sym is_first in
-        let all : table s ≡ with_names (with_names first (site_names s.listed)) (site_names (sites_in s.signs)) = table_parts s ∙ ap (λ ns. with_names (with_names ns (site_names s.listed)) (site_names (sites_in s.signs))) names in
-        never s.listed s.quant s.signs f h.3 (omega (arith, p.few_names, ap length all)) p.few_nodes (subst (λ ns. IsProposition (map (placed ns) s.signs) f) all whole)
+        let all : table s ≡ with_names (with_names first (site_names s.listed)) (site_names (sites_in s.terminals)) = table_parts s ∙ ap (λ ns. with_names (with_names ns (site_names s.listed)) (site_names (sites_in s.terminals))) names in
+        never s.listed s.quant s.terminals f h.3 (omega (arith, p.few_names, ap length all)) p.few_nodes (subst (λ ns. IsProposition (map (resolved ns) s.terminals) f) all whole)
 
-pub Parts-unique : (ts : List (List ℕ)) (s t : Said) → Parts ts s → Parts ts t → s ≡ t
+pub Parts-unique : (ts : TokenList) (s t : TestSyntax) → Parts ts s → Parts ts t → s ≡ t
 Parts-unique ts s t p q =
     let h = at_condition ts q.behind_block t.entries q.block t.threads q.behind_header q.header t.rows q.behind_rows q.rows (with_names [] (site_names (block_sites t.entries))) refl s p in
     let u = Listed-unique q.behind_rows s.listed t.listed h.3.behind_list q.condition.behind_list h.3.lists q.condition.lists in
     let v = Quantified-unique q.condition.behind_list s.quant t.quant h.3.behind_quant q.condition.behind_quant (subst (λ l. Quantified l s.quant h.3.behind_quant) u.1 h.3.quantifies) q.condition.quantifies in
-    let w = Signs-unique t.threads s.signs t.signs q.condition.behind_quant (subst (λ l. Signs t.threads l s.signs) v.1 h.3.says) q.condition.says in
+    let w = Terminals-unique t.threads s.terminals t.terminals q.condition.behind_quant (subst (λ l. Terminals t.threads l s.terminals) v.1 h.3.says) q.condition.says in
     let a : s.entries ≡ t.entries = h.0 in
     let b : s.threads ≡ t.threads = h.1 in
     let c : s.rows ≡ t.rows = h.2 in
     let d : s.listed ≡ t.listed = u.0 in
     let e : s.quant ≡ t.quant = v.0 in
-    same_said s t a b c d e w
+    same_syntax s t a b c d e w
   where
-    same_said : (s t : Said) → s.entries ≡ t.entries → s.threads ≡ t.threads → s.rows ≡ t.rows → s.listed ≡ t.listed → s.quant ≡ t.quant → s.signs ≡ t.signs → s ≡ t
-    same_said s t a b c d e f =
-        ap (λ x. record { entries = x; threads = s.threads; rows = s.rows; listed = s.listed; quant = s.quant; signs = s.signs }) a
-        ∙ ap (λ (x : ℕ). record { entries = t.entries; threads = x; rows = s.rows; listed = s.listed; quant = s.quant; signs = s.signs }) b
-        ∙ ap (λ x. record { entries = t.entries; threads = t.threads; rows = x; listed = s.listed; quant = s.quant; signs = s.signs }) c
-        ∙ ap (λ x. record { entries = t.entries; threads = t.threads; rows = t.rows; listed = x; quant = s.quant; signs = s.signs }) d
-        ∙ ap (λ (x : Quant). record { entries = t.entries; threads = t.threads; rows = t.rows; listed = t.listed; quant = x; signs = s.signs }) e
-        ∙ ap (λ x. record { entries = t.entries; threads = t.threads; rows = t.rows; listed = t.listed; quant = t.quant; signs = x }) f
+    same_syntax : (s t : TestSyntax) → s.entries ≡ t.entries → s.threads ≡ t.threads → s.rows ≡ t.rows → s.listed ≡ t.listed → s.quant ≡ t.quant → s.terminals ≡ t.terminals → s ≡ t
+    same_syntax s t a b c d e f =
+        ap (λ x. record { entries = x; threads = s.threads; rows = s.rows; listed = s.listed; quant = s.quant; terminals = s.terminals }) a
+        ∙ ap (λ (x : ℕ). record { entries = t.entries; threads = x; rows = s.rows; listed = s.listed; quant = s.quant; terminals = s.terminals }) b
+        ∙ ap (λ x. record { entries = t.entries; threads = t.threads; rows = x; listed = s.listed; quant = s.quant; terminals = s.terminals }) c
+        ∙ ap (λ x. record { entries = t.entries; threads = t.threads; rows = t.rows; listed = x; quant = s.quant; terminals = s.terminals }) d
+        ∙ ap (λ (x : Quant). record { entries = t.entries; threads = t.threads; rows = t.rows; listed = t.listed; quant = x; terminals = s.terminals }) e
+        ∙ ap (λ x. record { entries = t.entries; threads = t.threads; rows = t.rows; listed = t.listed; quant = t.quant; terminals = x }) f
 
 -- ---- what a body says
 
-module _ (ts a : List (List ℕ)) (names : List (List ℕ)) (es : List MadeEntry) (block : Block ts (map (named_entry names) es) a) (is_names : names ≡ with_names [] (site_names (map (λ e. named names e.site) es))) where
+module _ (ts a : TokenList) (names : NameTable) (es : List MadeEntry) (block : Block ts (map (named_entry names) es) a) (is_names : names ≡ with_names [] (site_names (map (λ e. named names e.site) es))) where
   pub first_names : names ≡ with_names [] (site_names (block_sites (map (named_entry names) es)))
   first_names = is_names ∙ ap (λ l. with_names [] (site_names l)) (sym (sites_of_block names es))
 
 -- ---- rows
 
-pub header_some : (ts rest : List (List ℕ)) (n : ℕ) → Header ts n rest → 1 ≤ n
+pub header_some : (ts rest : TokenList) (n : ℕ) → Header ts n rest → 1 ≤ n
 header_some ts rest zero h = absurd h.0
 header_some ts rest (suc n) h = omega arith
 
-lines_even : {A : Type 0} (n : ℕ) (rows : List (List (Cell A))) (ts rest : List (List ℕ)) → Until begins_stop (Line n) ts (all_texts rows) rest → AllByRecursion (λ row. length row ≡ n) rows
+lines_even : {A : Type 0} (n : ℕ) (rows : List (List (Cell A))) (ts rest : TokenList) → Until begins_stop (Row n) ts (all_texts rows) rest → AllByRecursion (λ row. length row ≡ n) rows
 lines_even n [] ts rest u = tt
 lines_even n (row ∷ rows) ts rest u = (sym (length-map row cell_texts) ∙ u.1.1.1, lines_even n rows u.1.0 rest u.1.2)
 
 -- the rows have a cell for each thread
-pub Rows-even : {A : Type 0} (n : ℕ) (rows : List (List (Cell A))) (ts rest : List (List ℕ)) → Rows n ts (all_texts rows) rest → All (λ row. length row ≡ n) rows
+pub Rows-even : {A : Type 0} (n : ℕ) (rows : List (List (Cell A))) (ts rest : TokenList) → Rows n ts (all_texts rows) rest → All (λ row. length row ≡ n) rows
 Rows-even n rows ts rest r = All-from_recursion (λ row. length row ≡ n) rows (lines_even n rows ts rest r.0)
 
 -- ---- the text
 
 -- No parts with a proposition.
-abbrev pub NoParts : List (List ℕ) → Type 0
-NoParts ts = (s : Said) (p : Formula) → Parts ts s → IsProposition (map (placed (table s)) s.signs) p → ⊥
+abbrev pub NoParts : TokenList → Type 0
+NoParts ts = (s : TestSyntax) (p : Formula) → Parts ts s → IsProposition (map (resolved (table s)) s.terminals) p → ⊥
 
 -- where a text's tokens, if it has some, are no parts, it has no frame
-pub no_frame : (text name rest : List ℕ) → Heading text name rest → ((ts : List (List ℕ)) → Tokens rest ts → NoParts ts) → (frame : TestFrame) → HasFrame text frame → ⊥
+pub no_frame : (text name rest : Bytes) → Heading text name rest → ((ts : TokenList) → Tokens rest ts → NoParts ts) → (frame : TestFrame) → HasFrame text frame → ⊥
 no_frame text name rest heading never frame h =
     let e = (Heading-unique text h.name h.rest name rest h.heading heading).1 in
-    never h.tokens (subst (λ x. Tokens x h.tokens) e h.row) h.said h.condition h.parts h.proposition
+    never h.tokens (subst (λ x. Tokens x h.tokens) e h.row) h.syntax h.condition h.parts h.proposition
 
 -- the tokens up to the first lexical fault, if there is one, are no parts
-pub no_parts : {F : Type 0} (o : Option F) (rest : List ℕ) (ts : List (List ℕ)) → IfNone o (Tokens rest ts) → OnSome o ((us : List (List ℕ)) → Tokens rest us → ⊥) → IfNone o (NoParts ts) → (us : List (List ℕ)) → Tokens rest us → NoParts us
+pub no_parts : {F : Type 0} (o : Option F) (rest : Bytes) (ts : TokenList) → IfNone o (Tokens rest ts) → OnSome o ((us : TokenList) → Tokens rest us → ⊥) → IfNone o (NoParts ts) → (us : TokenList) → Tokens rest us → NoParts us
 no_parts None rest ts row fault never us other s p parts whole = never s p (subst (λ x. Parts x s) (Tokens-unique us ts rest other row) parts) whole
 no_parts (Some f) rest ts row fault never us other s p parts whole = fault us other
 
-pub HasFrame-unique : (text : List ℕ) (f g : TestFrame) → HasFrame text f → HasFrame text g → f ≡ g
+pub HasFrame-unique : (text : Bytes) (f g : TestFrame) → HasFrame text f → HasFrame text g → f ≡ g
 HasFrame-unique text f g p q =
     let head = Heading-unique text p.name p.rest q.name q.rest p.heading q.heading in
     let tokens = Tokens-unique p.tokens q.tokens q.rest (subst (λ x. Tokens x p.tokens) head.1 p.row) q.row in
-    let said : p.said ≡ q.said = Parts-unique q.tokens p.said q.said (subst (λ x. Parts x p.said) tokens p.parts) q.parts in
-    let condition : p.condition ≡ q.condition = IsProposition-unique (map (placed (table q.said)) q.said.signs) p.condition q.condition (subst (λ (s : Said). IsProposition (map (placed (table s)) s.signs) p.condition) said p.proposition) q.proposition in
+    let syntax : p.syntax ≡ q.syntax = Parts-unique q.tokens p.syntax q.syntax (subst (λ x. Parts x p.syntax) tokens p.parts) q.parts in
+    let condition : p.condition ≡ q.condition = IsProposition-unique (map (resolved (table q.syntax)) q.syntax.terminals) p.condition q.condition (subst (λ (s : TestSyntax). IsProposition (map (resolved (table s)) s.terminals) p.condition) syntax p.proposition) q.proposition in
     let name : p.name ≡ q.name = head.0 in
-    p.made ∙ ap (λ n. made_of n p.said p.condition) name ∙ ap (λ (s : Said). made_of q.name s p.condition) said ∙ ap (λ (c : Formula). made_of q.name q.said c) condition ∙ sym q.made
+    p.made ∙ ap (λ n. made_of n p.syntax p.condition) name ∙ ap (λ (s : TestSyntax). made_of q.name s p.condition) syntax ∙ ap (λ (c : Formula). made_of q.name q.syntax c) condition ∙ sym q.made

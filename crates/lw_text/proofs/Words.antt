@@ -5,14 +5,15 @@ use Rattle.std.specs.Str.{bytes_eq}
 use Rattle.std.specs.List.{AllByRecursion, list_any, list_all}
 use Rattle.std.proofs.lemmas.Slice.Eq.{bytes_eq-Decides}
 use Rattle.std.proofs.lemmas.Bool.{or_cases, and_parts, eqb-true, not-true, cases_Bool}
+use Rattle.lw_base.specs.Types.{Bytes}
 use Rattle.lw_base.specs.Characters.{is_blank, is_word_byte, begins}
 use Rattle.lw_base.specs.Names.{IsName}
-use Rattle.lw_text.specs.Tokens.{begins_gap, begins_pair, is_single, is_pair, pairs, singles, IsNumber, IsKind, IsWord, IsSymbol, IsToken}
+use Rattle.lw_text.specs.Tokens.{begins_trivia, begins_pair, is_single, is_pair, pairs, singles, IsNumber, IsKind, IsWord, IsSymbol, IsToken}
 
 -- ---- rows of bytes
 
 -- Up to the first byte that fails a test, a text is read in one way.
-pub run-unique : (p : ℕ → Bool) (w r v s : List ℕ) → AllByRecursion (λ b. p b ≡ true) w → AllByRecursion (λ b. p b ≡ true) v → begins p r ≡ false → begins p s ≡ false → w ++ r ≡ v ++ s → (w ≡ v) × (r ≡ s)
+pub run-unique : (p : ℕ → Bool) (w r v s : Bytes) → AllByRecursion (λ b. p b ≡ true) w → AllByRecursion (λ b. p b ≡ true) v → begins p r ≡ false → begins p s ≡ false → w ++ r ≡ v ++ s → (w ≡ v) × (r ≡ s)
 run-unique p [] r [] s a c m n e = (refl, e)
 run-unique p [] r (b ∷ v) s a c m n e = absurd (let h : begins p r ≡ p b = ap (begins p) e in cc (c.0))
 run-unique p (b ∷ w) r [] s a c m n e = absurd (let h : p b ≡ begins p s = ap (begins p) e in cc (a.0))
@@ -23,7 +24,7 @@ run-unique p (b ∷ w) r (d ∷ v) s a c m n e =
     let i : w ≡ v = both.0 in
     (cc, both.1)
 
-abbrev pub Words : List ℕ → Type 0
+abbrev pub Words : Bytes → Type 0
 Words w = AllByRecursion (λ b. is_word_byte b ≡ true) w
 
 -- what holds of each of a list holds of one that is found there
@@ -45,55 +46,55 @@ blank_all q b all h = any_all (λ x y. x == y) same_byte q (32 ∷ 9 ∷ 10 ∷ 
 single_all : (q : ℕ → Bool) (b : ℕ) → list_all q singles ≡ true → is_single b ≡ true → q b ≡ true
 single_all q b all h = any_all (λ x y. x == y) same_byte q singles b all h
 
-pair_all : (q : List ℕ → Bool) (b c : ℕ) → list_all q pairs ≡ true → is_pair b c ≡ true → q (b ∷ c ∷ []) ≡ true
+pair_all : (q : Bytes → Bool) (b c : ℕ) → list_all q pairs ≡ true → is_pair b c ≡ true → q (b ∷ c ∷ []) ≡ true
 pair_all q b c all h = any_all bytes_eq (λ x y e. (bytes_eq-Decides x y).0 e) q pairs (b ∷ c ∷ []) all h
 
 -- ---- what a token begins with
 
-kind_nonempty : (w : List ℕ) → IsKind w → 0 < length w
+kind_nonempty : (w : Bytes) → IsKind w → 0 < length w
 kind_nonempty w (inl name) = name.0.some
 kind_nonempty w (inr (n, m)) = elim m.1 [ inl d ↦ d.0 | inr h ↦ omega (arith, ap length h.1) ]
 
-word_front : (w rest : List ℕ) → IsWord w rest → begins is_word_byte (w ++ rest) ≡ true
+word_front : (w rest : Bytes) → IsWord w rest → begins is_word_byte (w ++ rest) ≡ true
 word_front [] rest h = absurd (let n = kind_nonempty [] h.kind in omega arith)
 word_front (b ∷ w) rest h = h.all.0
 
-symbol_front : (t rest : List ℕ) → IsSymbol t rest → begins is_word_byte (t ++ rest) ≡ false
+symbol_front : (t rest : Bytes) → IsSymbol t rest → begins is_word_byte (t ++ rest) ≡ false
 symbol_front [] rest h = absurd h
 symbol_front (b ∷ []) rest h = not-true (is_word_byte b) (single_all (λ x. not (is_word_byte x)) b refl h.0)
 symbol_front (b ∷ c ∷ []) rest h = not-true (is_word_byte b) (pair_all (begins (λ x. not (is_word_byte x))) b c refl h)
 symbol_front (b ∷ c ∷ d ∷ more) rest h = absurd h
 
--- no gap begins with a byte that passes a test which no blank and no `(` passes
-pub no_gap_at : (p : ℕ → Bool) (b : ℕ) (text : List ℕ) → list_all (λ x. not (p x)) (32 ∷ 9 ∷ 10 ∷ 13 ∷ []) ≡ true → p 40 ≡ false → p b ≡ true → begins_gap (b ∷ text) ≡ false
-no_gap_at p b text blanks bracket h =
+-- no trivia begins with a byte that passes a test which no blank and no `(` passes
+pub no_trivia_at : (p : ℕ → Bool) (b : ℕ) (text : Bytes) → list_all (λ x. not (p x)) (32 ∷ 9 ∷ 10 ∷ 13 ∷ []) ≡ true → p 40 ≡ false → p b ≡ true → begins_trivia (b ∷ text) ≡ false
+no_trivia_at p b text blanks bracket h =
     let k : is_blank b ≡ false = elim (cases_Bool (is_blank b)) [ inl e ↦ absurd (let i = not-true (p b) (blank_all (λ x. not (p x)) b blanks e) in cc) | inr e ↦ e ] in
     let m : (b == 40) ≡ false = elim (cases_Bool (b == 40)) [ inl e ↦ absurd (let i : b ≡ 40 = eqb-true b 40 e in let j : p b ≡ p 40 = ap p i in cc) | inr e ↦ e ] in
     rw (k, m) refl
 
--- no gap begins where a token does
-pub token_no_gap : (t rest : List ℕ) → IsToken t rest → begins_gap (t ++ rest) ≡ false
-token_no_gap [] rest (inl w) = absurd (let n = kind_nonempty [] w.kind in omega arith)
-token_no_gap (b ∷ t) rest (inl w) = no_gap_at (is_word_byte) b (t ++ rest) refl refl w.all.0
-token_no_gap [] rest (inr s) = absurd s
-token_no_gap (b ∷ []) rest (inr s) =
+-- no trivia begins where a token does
+pub token_no_trivia : (t rest : Bytes) → IsToken t rest → begins_trivia (t ++ rest) ≡ false
+token_no_trivia [] rest (inl w) = absurd (let n = kind_nonempty [] w.kind in omega arith)
+token_no_trivia (b ∷ t) rest (inl w) = no_trivia_at (is_word_byte) b (t ++ rest) refl refl w.all.0
+token_no_trivia [] rest (inr s) = absurd s
+token_no_trivia (b ∷ []) rest (inr s) =
     let h = not-true (is_blank b) (single_all (λ x. not (is_blank x)) b refl s.0) in
     let k = s.2 in
     rw (h, k) refl
-token_no_gap (b ∷ c ∷ []) rest (inr s) =
+token_no_trivia (b ∷ c ∷ []) rest (inr s) =
     let h = not-true (is_blank b) (pair_all (begins (λ x. not (is_blank x))) b c refl s) in
     let k = not-true (b == 40) (pair_all (begins (λ x. not (x == 40))) b c refl s) in
     rw (h, k) refl
-token_no_gap (b ∷ c ∷ d ∷ more) rest (inr s) = absurd s
+token_no_trivia (b ∷ c ∷ d ∷ more) rest (inr s) = absurd s
 
-pub token_nonempty : (t rest : List ℕ) → IsToken t rest → 0 < length t
+pub token_nonempty : (t rest : Bytes) → IsToken t rest → 0 < length t
 token_nonempty t rest (inl w) = kind_nonempty t w.kind
 token_nonempty [] rest (inr s) = absurd s
 token_nonempty (b ∷ t) rest (inr s) = omega arith
 
 -- ---- one token begins at a place
 
-symbol-unique : (t r u s : List ℕ) → IsSymbol t r → IsSymbol u s → t ++ r ≡ u ++ s → (t ≡ u) × (r ≡ s)
+symbol-unique : (t r u s : Bytes) → IsSymbol t r → IsSymbol u s → t ++ r ≡ u ++ s → (t ≡ u) × (r ≡ s)
 symbol-unique [] r u s p q e = absurd p
 symbol-unique (b ∷ []) r [] s p q e = absurd q
 symbol-unique (b ∷ []) r (c ∷ []) s p q e = (cc, cc)
@@ -109,7 +110,7 @@ symbol-unique (a ∷ b ∷ []) r (c ∷ d ∷ []) s p q e = (cc, cc)
 symbol-unique (a ∷ b ∷ []) r (c ∷ d ∷ f ∷ u) s p q e = absurd q
 symbol-unique (a ∷ b ∷ c ∷ t) r u s p q e = absurd p
 
-pub token-unique : (t r u s : List ℕ) → IsToken t r → IsToken u s → t ++ r ≡ u ++ s → (t ≡ u) × (r ≡ s)
+pub token-unique : (t r u s : Bytes) → IsToken t r → IsToken u s → t ++ r ≡ u ++ s → (t ≡ u) × (r ≡ s)
 token-unique t r u s (inl p) (inl q) e = run-unique is_word_byte t r u s p.all q.all p.longest q.longest e
 token-unique t r u s (inl p) (inr q) e = absurd (let h = word_front t r p in let k = symbol_front u s q in let i = ap (begins is_word_byte) e in cc)
 token-unique t r u s (inr p) (inl q) e = absurd (let h = symbol_front t r p in let k = word_front u s q in let i = ap (begins is_word_byte) e in cc)
@@ -118,11 +119,11 @@ token-unique t r u s (inr p) (inr q) e = symbol-unique t r u s p q e
 -- ---- what the reader of one token owes
 
 -- no token stands where a word does that is neither a name nor a number
-pub no_kind : (bytes w r : List ℕ) → bytes ≡ w ++ r → Words w → begins is_word_byte r ≡ false → begins is_word_byte bytes ≡ true → (IsKind w → ⊥) → (t rest : List ℕ) → bytes ≡ t ++ rest → IsToken t rest → ⊥
+pub no_kind : (bytes w r : Bytes) → bytes ≡ w ++ r → Words w → begins is_word_byte r ≡ false → begins is_word_byte bytes ≡ true → (IsKind w → ⊥) → (t rest : Bytes) → bytes ≡ t ++ rest → IsToken t rest → ⊥
 no_kind bytes w r e all longest front never t rest f (inl p) = never (subst IsKind (run-unique is_word_byte t rest w r p.all all p.longest longest (sym f ∙ e)).0 p.kind)
 no_kind bytes w r e all longest front never t rest f (inr p) = let h = symbol_front t rest p in let i = ap (begins is_word_byte) f in cc
 
-pub no_token : (bytes rest : List ℕ) (b : ℕ) → bytes ≡ b ∷ rest → is_word_byte b ≡ false → ((is_single b ≡ true) × (begins_pair 40 42 bytes ≡ false) → ⊥) → ((c d : ℕ) (more : List ℕ) → bytes ≡ c ∷ d ∷ more → is_pair c d ≡ true → ⊥) → (t more : List ℕ) → bytes ≡ t ++ more → IsToken t more → ⊥
+pub no_token : (bytes rest : Bytes) (b : ℕ) → bytes ≡ b ∷ rest → is_word_byte b ≡ false → ((is_single b ≡ true) × (begins_pair 40 42 bytes ≡ false) → ⊥) → ((c d : ℕ) (more : Bytes) → bytes ≡ c ∷ d ∷ more → is_pair c d ≡ true → ⊥) → (t more : Bytes) → bytes ≡ t ++ more → IsToken t more → ⊥
 no_token bytes rest b e no_word no_single short t more f (inl p) = let h = word_front t more p in let i = ap (begins is_word_byte) (sym e ∙ f) in cc
 no_token bytes rest b e no_word no_single short [] more f (inr p) = p
 no_token bytes rest b e no_word no_single short (c ∷ []) more f (inr p) =
@@ -132,6 +133,6 @@ no_token bytes rest b e no_word no_single short (c ∷ d ∷ []) more f (inr p) 
 no_token bytes rest b e no_word no_single short (c ∷ d ∷ g ∷ t) more f (inr p) = p
 
 -- a word that is no name is told by whether it is a number
-pub kind_number : (w : List ℕ) (name number : Bool) (o : Option ℕ) → (IsName w → name ≡ true) → name ≡ false → MatchOption o ((n : ℕ) → IsNumber w n → ⊥) (λ n. IsNumber w n) → number ≡ is_some o → (number ≡ true → IsKind w) × (IsKind w → number ≡ true)
+pub kind_number : (w : Bytes) (name number : Bool) (o : Option ℕ) → (IsName w → name ≡ true) → name ≡ false → MatchOption o ((n : ℕ) → IsNumber w n → ⊥) (λ n. IsNumber w n) → number ≡ is_some o → (number ≡ true → IsKind w) × (IsKind w → number ≡ true)
 kind_number w name number None is other never e = (λ h. absurd cc, λ k. elim k [ inl n ↦ absurd (let h = is n in cc) | inr n ↦ absurd (never n.0 n.1) ])
 kind_number w name number (Some m) is other found e = (λ h. inr (m, found), λ k. e)

@@ -1,5 +1,6 @@
 -- How people are told why a text is refused: a number and a name.
-use Rattle.std.specs.Prelude.{ℕ, List, codes}
+use Rattle.std.specs.Prelude.{ℕ, codes}
+use Rattle.lw_base.specs.Types.{Bytes}
 use Rattle.lw_text.specs.declared.fault.TextCause.{TextCause}
 use Rattle.lw_text.specs.declared.fault.TextCause.TheVariants as text
 use Rattle.lw_text.specs.declared.fault.Cause.{Cause}
@@ -19,7 +20,7 @@ text_cause_number text.TooManyLocations = 10
 text_cause_number text.Condition = 11
 text_cause_number text.Memory = 12
 
-abbrev pub text_cause_name : TextCause → List ℕ
+abbrev pub text_cause_name : TextCause → Bytes
 text_cause_name text.NotUtf8 = codes "NotUtf8"
 text_cause_name text.TooLong = codes "TooLong"
 text_cause_name text.Unterminated = codes "Unterminated"

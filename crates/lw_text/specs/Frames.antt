@@ -2,6 +2,8 @@
 use Rattle.std.specs.Prelude.{◌≡◌, ℕ, ◌≤◌, ◌==◌, ◌&&◌, Bool, false, if◌then◌else◌, List, [], ◌∷◌, ◌++◌, length, map, filter, fold, codes}
 use Rattle.std.specs.List.{list_any, flat_map, range_with_len, AllByRecursion}
 use Rattle.std.specs.Str.{IsUtf8}
+use Rattle.lw_base.specs.Types.{NameTable, Bytes, TokenList, CellGrid}
+use Rattle.lw_base.specs.declared.limits.TheConstants.{MAX_LOCATIONS, MAX_TEXT_BYTES, REGISTERS}
 use Rattle.lw_base.specs.declared.head.Arch.TheVariants.{Source}
 use Rattle.lw_base.specs.declared.head.Quant.{Quant}
 use Rattle.lw_base.specs.declared.head.Seen.{Seen}
@@ -13,53 +15,70 @@ use Rattle.lw_text.specs.Tokens.{Tokens}
 use Rattle.lw_text.specs.Headings.{Heading}
 use Rattle.lw_text.specs.Lists.{Ended}
 use Rattle.lw_text.specs.Rows.{Header, Rows, columns}
-use Rattle.lw_text.specs.Sites.{Site, IsSite, IsThere, Value, site_names, seen_in}
-use Rattle.lw_text.specs.Propositions.{Sign, is_node, IsProposition}
-use Rattle.lw_text.specs.Conditions.{Claim, Condition, sites_in, placed}
+use Rattle.lw_text.specs.Sites.{SiteSyntax, IsSite, ThreadExists, Value, site_names, seen_in}
+use Rattle.lw_text.specs.Propositions.{Terminal, HasFewNodes, IsProposition}
+use Rattle.lw_text.specs.Conditions.{AtomSyntax, Condition, sites_in, resolved}
 
 -- an entry of the initial block: a site, and the word that it begins with
-pub record Entry : Type 0 where
-  pub site : Site
+pub record EntrySyntax : Type 0 where
+  pub site : SiteSyntax
   pub word : ℕ
 
 -- `x = n`, `[x] = n`, `t : r = n`
-abbrev pub IsEntry : List (List ℕ) → Entry → List (List ℕ) → Type 0
-IsEntry ts e rest = (mid : List (List ℕ)) × IsSite ts e.site mid × Value mid e.word rest
+abbrev pub IsEntry : TokenList → EntrySyntax → TokenList → Type 0
+IsEntry ts e rest = (mid : TokenList) × IsSite ts e.site mid × Value mid e.word rest
+
+-- entries, each with a `;` behind it, which the last may lack, and `}`
+abbrev pub Entries : TokenList → List EntrySyntax → TokenList → Type 0
+Entries ts entries rest = Ended IsEntry (codes ";") (codes "}") ts entries rest
+
+-- the sites of entries
+abbrev pub sites_of : List EntrySyntax → List SiteSyntax
+sites_of entries = map (λ e. e.site) entries
 
 -- `{`, entries, `}`
-abbrev pub Block : List (List ℕ) → List Entry → List (List ℕ) → Type 0
-Block ts entries rest = (l : List (List ℕ)) × (ts ≡ codes "{" ∷ l) × Ended IsEntry (codes ";") (codes "}") l entries rest
+abbrev pub Block : TokenList → List EntrySyntax → TokenList → Type 0
+Block ts entries rest = (l : TokenList) × (ts ≡ codes "{" ∷ l) × Entries l entries rest
 
 -- what the tokens of a test say
-pub record Said : Type 0 where
-  pub entries : List Entry
+pub record TestSyntax : Type 0 where
+  pub entries : List EntrySyntax
   pub threads : ℕ
-  pub rows : List (List (List (List ℕ)))
-  pub listed : List Site
+  pub rows : CellGrid
+  pub listed : List SiteSyntax
   pub quant : Quant
-  pub signs : List (Sign Claim)
+  pub terminals : List (Terminal AtomSyntax)
 
 -- the names of the locations, each once, in the order of first appearance
-abbrev pub table : Said → List (List ℕ)
-table s = with_names [] (site_names (map (λ e. e.site) s.entries ++ s.listed ++ sites_in s.signs))
+abbrev pub table : TestSyntax → NameTable
+table s =
+    with_names [] (site_names (map (λ e. e.site) s.entries ++ s.listed ++ sites_in s.terminals))
 
--- The initial block, whose threads are there, the header, the rows and the condition: with at most 8 locations and 256 nodes.
-pub record Parts (ts : List (List ℕ)) (s : Said) : Type 0 where
-  pub behind_block : List (List ℕ)
-  pub behind_header : List (List ℕ)
-  pub behind_rows : List (List ℕ)
+-- The initial block, whose threads exist, the header, the rows and the condition, with no more
+-- locations
+-- and nodes than a test may have.
+pub record Parts (ts : TokenList) (s : TestSyntax) : Type 0 where
+  pub behind_block : TokenList
+  pub behind_header : TokenList
+  pub behind_rows : TokenList
   pub block : Block ts s.entries behind_block
   pub header : Header behind_block s.threads behind_header
-  pub there : AllByRecursion (λ e. IsThere s.threads e.site) s.entries
+  pub there : AllByRecursion (λ e. ThreadExists s.threads e.site) s.entries
   pub rows : Rows s.threads behind_header s.rows behind_rows
-  pub condition : Condition s.threads behind_rows s.listed s.quant s.signs
-  pub few_names : length (table s) ≤ 8
-  pub few_nodes : length (filter is_node s.signs) ≤ 256
+  pub condition : Condition s.threads behind_rows s.listed s.quant s.terminals
+  pub few_names : length (table s) ≤ MAX_LOCATIONS
+  pub few_nodes : HasFewNodes s.terminals
+
+-- The tokens are no test's.
+abbrev pub IsNoTest : TokenList → Type 0
+IsNoTest ts =
+    (s : TestSyntax) (p : Formula) → Parts ts s
+    → IsProposition (map (resolved (table s)) s.terminals) p → ⊥
 
 -- What a test says: its head, and for each thread and each row the tokens of the cell.
 pub record TestFrame : Type 0 where
   pub head : TestHead
-  pub cells : List (List (List (List ℕ)))
+  pub cells : CellGrid
 
 abbrev pub same_seen : Seen → Seen → Bool
 same_seen (Register t r) (Register u s) = (t == u) && (r == s)
@@ -68,53 +87,57 @@ same_seen (Location x) (Register t r) = false
 same_seen (Location x) (Location y) = x == y
 
 -- the word of a register or location at the start: that of the last entry for it, or 0
-abbrev pub word_of : List (List ℕ) → List Entry → Seen → ℕ
-word_of names entries s = fold (λ w e. if same_seen (seen_in names e.site) s then e.word else w) 0 entries
+abbrev pub word_of : NameTable → List EntrySyntax → Seen → ℕ
+word_of names entries s =
+    fold (λ w e. if same_seen (seen_in names e.site) s then e.word else w) 0 entries
 
 -- the registers of a thread, and those of all threads
 abbrev pub registers_of : ℕ → List Seen
-registers_of t = map (λ r. Register t r) (range_with_len 0 6)
+registers_of t = map (λ r. Register t r) (range_with_len 0 REGISTERS)
 
-abbrev pub registers : ℕ → List Seen
-registers threads = flat_map registers_of (range_with_len 0 threads)
+abbrev pub all_registers : ℕ → List Seen
+all_registers threads = flat_map registers_of (range_with_len 0 threads)
 
 -- the locations of a table of this length
 abbrev pub locations : ℕ → List Seen
 locations len = map (λ x. Location x) (range_with_len 0 len)
 
--- what is listed, each once: registers by thread and number, then locations by their places in the table
-abbrev pub listed_in : ℕ → List (List ℕ) → List Site → List Seen
-listed_in threads names sites = filter (λ s. list_any (λ site. same_seen (seen_in names site) s) sites) (registers threads ++ locations (length names))
+-- what is listed, each once: registers by thread and number, then locations by number
+abbrev pub listed_in : ℕ → NameTable → List SiteSyntax → List Seen
+listed_in threads names sites =
+    filter (λ s. list_any (λ site. same_seen (seen_in names site) s) sites) (all_registers threads ++ locations (length names))
 
 -- the head of a source test, whose proposition is a formula
-abbrev pub head_of_said : List ℕ → Said → Formula → TestHead
-head_of_said name s condition =
+abbrev pub head_of_syntax : Bytes → TestSyntax → Formula → TestHead
+head_of_syntax name s condition =
     record {
       name = name;
       arch = Source;
       threads = s.threads;
       locs = table s;
-      init_regs = map (λ t. map (word_of (table s) s.entries) (registers_of t)) (range_with_len 0 s.threads);
+      init_regs =
+          map (λ t. map (word_of (table s) s.entries) (registers_of t)) (range_with_len 0 s.threads);
       init_words = map (word_of (table s) s.entries) (locations (length (table s)));
       listed = listed_in s.threads (table s) s.listed;
       quant = s.quant;
       condition = condition;
     }
 
-abbrev pub made_of : List ℕ → Said → Formula → TestFrame
-made_of name s condition = record { head = head_of_said name s condition; cells = columns s.threads s.rows }
+abbrev pub made_of : Bytes → TestSyntax → Formula → TestFrame
+made_of name s condition =
+    record { head = head_of_syntax name s condition; cells = columns s.threads s.rows }
 
--- The text, UTF-8 and of at most 65,536 bytes, is a heading and a row of tokens, and this is what they say.
-pub record HasFrame (text : List ℕ) (frame : TestFrame) : Type 0 where
-  pub short : length text ≤ 65536
+-- The text, UTF-8 and not too long, is a heading and a list of tokens, and this is what they say.
+pub record HasFrame (text : Bytes) (frame : TestFrame) : Type 0 where
+  pub short : length text ≤ MAX_TEXT_BYTES
   pub utf8 : IsUtf8 text
-  pub name : List ℕ
-  pub rest : List ℕ
-  pub tokens : List (List ℕ)
-  pub said : Said
+  pub name : Bytes
+  pub rest : Bytes
+  pub tokens : TokenList
+  pub syntax : TestSyntax
   pub condition : Formula
   pub heading : Heading text name rest
   pub row : Tokens rest tokens
-  pub parts : Parts tokens said
-  pub proposition : IsProposition (map (placed (table said)) said.signs) condition
-  pub made : frame ≡ made_of name said condition
+  pub parts : Parts tokens syntax
+  pub proposition : IsProposition (map (resolved (table syntax)) syntax.terminals) condition
+  pub made : frame ≡ made_of name syntax condition

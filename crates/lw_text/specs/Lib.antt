@@ -4,13 +4,12 @@ pub mod Lists
 pub mod Rows
 pub mod Sites
 pub mod Propositions
-pub mod Signs
+pub mod Terminals
 pub mod Pending
 pub mod Conditions
 pub mod Frames
-pub mod Kept
 pub mod Causes
 pub mod Spans
 pub mod Places
-pub mod Placed
+pub mod Resolved
 pub mod Views

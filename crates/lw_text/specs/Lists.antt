@@ -1,18 +1,28 @@
 -- Lists that are written out, for tokens of any kind T and elements of any kind X.
 use Rattle.std.specs.Prelude.{◌≡◌, ◌⊎◌, Bool, true, false, List, [], ◌∷◌}
 
--- One or more xs stand one behind another, with sep between them and close behind the last, and then rest.
-abbrev pub Separated : {T X : Type 0} → (List T → X → List T → Type 0) → T → T → List T → List X → List T → Type 0
+-- One or more xs stand one behind another, with sep between them and close behind the last, and
+-- then rest.
+abbrev pub Separated : {T X : Type 0} → (List T → X → List T → Type 0) → T → T → List T → List X
+    → List T → Type 0
 Separated P sep close ts [] rest = ⊥
 Separated P sep close ts (x ∷ []) rest = P ts x (close ∷ rest)
-Separated {T} P sep close ts (x ∷ y ∷ xs) rest = (mid : List T) × P ts x (sep ∷ mid) × Separated P sep close mid (y ∷ xs) rest
+Separated {T} P sep close ts (x ∷ y ∷ xs) rest =
+    (mid : List T) × P ts x (sep ∷ mid) × Separated P sep close mid (y ∷ xs) rest
 
 -- Some xs stand one behind another, none of them where it is to stop, and then rest, where it is.
-abbrev pub Until : {T X : Type 0} → (List T → Bool) → (List T → X → List T → Type 0) → List T → List X → List T → Type 0
+abbrev pub Until : {T X : Type 0} → (List T → Bool) → (List T → X → List T → Type 0) → List T
+    → List X → List T → Type 0
 Until stop P ts [] rest = (ts ≡ rest) × (stop ts ≡ true)
-Until {T} stop P ts (x ∷ xs) rest = (stop ts ≡ false) × ((mid : List T) × P ts x mid × Until stop P mid xs rest)
+Until {T} stop P ts (x ∷ xs) rest =
+    (stop ts ≡ false) × ((mid : List T) × P ts x mid × Until stop P mid xs rest)
 
--- Any number of xs stand one behind another, each with sep behind it, which the last may lack, and then close, and then rest.
-abbrev pub Ended : {T X : Type 0} → (List T → X → List T → Type 0) → T → T → List T → List X → List T → Type 0
+-- Any number of xs stand one behind another, each with sep behind it, which the last may lack, and
+-- then close, and then rest.
+abbrev pub Ended : {T X : Type 0} → (List T → X → List T → Type 0) → T → T → List T → List X
+    → List T → Type 0
 Ended P sep close ts [] rest = ts ≡ close ∷ rest
-Ended {T} P sep close ts (x ∷ xs) rest = (mid : List T) × P ts x mid × (((xs ≡ []) × (mid ≡ close ∷ rest)) ⊎ ((next : List T) × (mid ≡ sep ∷ next) × Ended P sep close next xs rest))
+Ended {T} P sep close ts (x ∷ xs) rest =
+    (mid : List T) × P ts x mid
+    × (((xs ≡ []) × (mid ≡ close ∷ rest))
+    ⊎ ((next : List T) × (mid ≡ sep ∷ next) × Ended P sep close next xs rest))

@@ -1,12 +1,13 @@
--- What a reader that has taken some signs of a proposition still wants.
+-- What a reader that has taken some terminals of a proposition still wants.
 use Rattle.std.specs.Prelude.{ℕ, zero, suc, Bool, true, false, List, [], ◌∷◌, map, reverse, Option, Some, None, option_map}
 use Rattle.lw_base.specs.Formula.{Formula, Not, And, Or}
 use Rattle.lw_base.specs.Propositions.{formula_of}
-use Rattle.lw_text.specs.declared.level.Level.{Level}
-use Rattle.lw_text.specs.declared.proposition.PropositionReader.{PropositionReader}
-use Rattle.lw_text.specs.Propositions.{Sign, Open, Close, Negation, Conjunction, Disjunction, Atom, Says, Part, Ands, Ors}
+use Rattle.lw_text.specs.declared.open_group.OpenGroup.{OpenGroup}
+use Rattle.lw_text.specs.declared.proposition_reader.PropositionReader.{PropositionReader}
+use Rattle.lw_text.specs.Propositions.{Terminal, Open, Close, Negation, Conjunction, Disjunction, Atom, Derives, Part, Ands, Ors}
 
--- What stands open inside one pair of parentheses: what stands before a `\/`, what stands before a `/\`, and how many `~` stand before the part that comes.
+-- What stands open inside one pair of parentheses: what stands before a `\/`, what stands before a
+-- `/\`, and how many `~` stand before the part that comes.
 pub record Pending : Type 0 where
   pub either : Option Formula
   pub both : Option Formula
@@ -34,7 +35,8 @@ ands_of l p = after_and l.both (negations l.nots p)
 abbrev pub ors_of : Pending → Formula → Formula
 ors_of l p = after_or l.either (ands_of l p)
 
--- what stands open behind a `(`; behind one more `~`; behind a part and a `/\`; and behind a part and a `\/`
+-- what stands open behind a `(`; behind one more `~`; behind a part and a `/\`; and behind a part
+-- and a `\/`
 abbrev pub opened : Pending
 opened = record { either = None; both = None; nots = 0 }
 
@@ -47,42 +49,53 @@ with_and l p = record { either = l.either; both = Some (ands_of l p); nots = 0 }
 abbrev pub with_or : Pending → Formula → Pending
 with_or l p = record { either = Some (ors_of l p); both = None; nots = 0 }
 
--- Where a reader stands: behind a part or before one, inside some pairs of parentheses, of which the innermost are the first.
-pub record Place : Type 0 where
+-- Where a reader stands: behind a part or before one, inside some pairs of parentheses, of which
+-- the innermost are the first.
+pub record ReaderState : Type 0 where
   pub part : Option Formula
-  pub level : Pending
+  pub group : Pending
   pub outer : List Pending
 
--- The signs go on behind a part that says p, inside the parentheses of some levels, to a whole that says q.
-abbrev pub Has : Pending → List Pending → Formula → List (Sign Formula) → Formula → Type 0
-Has l [] p ss q = (a : Formula) × (n : List (Sign Formula)) × Says (Ands (ands_of l p)) ss a n × Says (Ors (after_or l.either a)) n q []
-Has l (o ∷ os) p ss q = (a b : Formula) × (n k : List (Sign Formula)) × Says (Ands (ands_of l p)) ss a n × Says (Ors (after_or l.either a)) n b (Close ∷ k) × Has o os b k q
+-- The terminals go on behind a part that says p, inside the parentheses of some groups, to a whole
+-- that says q.
+abbrev pub Has : Pending → List Pending → Formula → List (Terminal Formula) → Formula → Type 0
+Has l [] p ss q =
+    (a : Formula) × (n : List (Terminal Formula)) × Derives (Ands (ands_of l p)) ss a n
+    × Derives (Ors (after_or l.either a)) n q []
+Has l (o ∷ os) p ss q =
+    (a b : Formula) × (n k : List (Terminal Formula)) × Derives (Ands (ands_of l p)) ss a n
+    × Derives (Ors (after_or l.either a)) n b (Close ∷ k) × Has o os b k q
 
 -- The same where a part is still to come.
-abbrev pub Wants : Pending → List Pending → List (Sign Formula) → Formula → Type 0
-Wants l os ss q = (p : Formula) × (m : List (Sign Formula)) × Says Part ss p m × Has l os p m q
+abbrev pub Wants : Pending → List Pending → List (Terminal Formula) → Formula → Type 0
+Wants l os ss q =
+    (p : Formula) × (m : List (Terminal Formula)) × Derives Part ss p m × Has l os p m q
 
 -- the same where a part may stand last or not
-abbrev pub Rest : Option Formula → Pending → List Pending → List (Sign Formula) → Formula → Type 0
+abbrev pub Rest : Option Formula → Pending → List Pending → List (Terminal Formula) → Formula
+    → Type 0
 Rest None l os ss q = Wants l os ss q
 Rest (Some p) l os ss q = Has l os p ss q
 
-abbrev pub GoesOn : Place → List (Sign Formula) → Formula → Type 0
-GoesOn r ss q = Rest r.part r.level r.outer ss q
+abbrev pub GoesOn : ReaderState → List (Terminal Formula) → Formula → Type 0
+GoesOn r ss q = Rest r.part r.group r.outer ss q
 
--- what a level in memory stands for
-abbrev pub level_of : {A : Type 0} → Level A → Pending
-level_of l = record { either = option_map formula_of l.either; both = option_map formula_of l.both; nots = l.nots }
+-- what a group in memory stands for
+abbrev pub group_of : {A : Type 0} → OpenGroup A → Pending
+group_of l =
+    record { either = option_map formula_of l.either; both = option_map formula_of l.both; nots = l.nots }
 
-abbrev pub place_of : {A : Type 0} → PropositionReader A → Place
-place_of r = record { part = option_map formula_of r.part; level = level_of r.level; outer = reverse (map level_of r.outer.items) }
+abbrev pub state_of : {A : Type 0} → PropositionReader A → ReaderState
+state_of r =
+    record { part = option_map formula_of r.part; group = group_of r.group; outer = reverse (map group_of r.outer.items) }
 
--- These signs complete what the reader has taken to a proposition that says q.
-abbrev pub Left : {A : Type 0} → PropositionReader A → List (Sign Formula) → Formula → Type 0
-Left r ss q = GoesOn (place_of r) ss q
+-- These terminals complete what the reader has taken to a proposition that says q.
+abbrev pub Completes : {A : Type 0} → PropositionReader A → List (Terminal Formula) → Formula
+    → Type 0
+Completes r ss q = GoesOn (state_of r) ss q
 
--- a sign with which a part begins
-abbrev pub begins_part : {A : Type 0} → Sign A → Bool
+-- a terminal with which a part begins
+abbrev pub begins_part : {A : Type 0} → Terminal A → Bool
 begins_part Open = true
 begins_part Close = false
 begins_part Negation = true
@@ -90,29 +103,30 @@ begins_part Conjunction = false
 begins_part Disjunction = false
 begins_part (Atom a) = true
 
--- Where a reader stands behind one more sign, if that may come next. First: behind a `)`, where the row inside says p.
-abbrev pub step_out : Formula → List Pending → Option Place
+-- Where a reader stands behind one more terminal, if that may come next. First: behind a `)`, where
+-- the row inside says p.
+abbrev pub step_out : Formula → List Pending → Option ReaderState
 step_out p [] = None
-step_out p (o ∷ os) = Some (record { part = Some p; level = o; outer = os })
+step_out p (o ∷ os) = Some (record { part = Some p; group = o; outer = os })
 
 -- where a part has to come
-abbrev pub step_before : Pending → List Pending → Sign Formula → Option Place
-step_before l os Open = Some (record { part = None; level = opened; outer = l ∷ os })
+abbrev pub step_before : Pending → List Pending → Terminal Formula → Option ReaderState
+step_before l os Open = Some (record { part = None; group = opened; outer = l ∷ os })
 step_before l os Close = None
-step_before l os Negation = Some (record { part = None; level = with_not l; outer = os })
+step_before l os Negation = Some (record { part = None; group = with_not l; outer = os })
 step_before l os Conjunction = None
 step_before l os Disjunction = None
-step_before l os (Atom p) = Some (record { part = Some p; level = l; outer = os })
+step_before l os (Atom p) = Some (record { part = Some p; group = l; outer = os })
 
 -- behind a part that says p
-abbrev pub step_behind : Formula → Pending → List Pending → Sign Formula → Option Place
+abbrev pub step_behind : Formula → Pending → List Pending → Terminal Formula → Option ReaderState
 step_behind p l os Open = None
 step_behind p l os Close = step_out (ors_of l p) os
 step_behind p l os Negation = None
-step_behind p l os Conjunction = Some (record { part = None; level = with_and l p; outer = os })
-step_behind p l os Disjunction = Some (record { part = None; level = with_or l p; outer = os })
+step_behind p l os Conjunction = Some (record { part = None; group = with_and l p; outer = os })
+step_behind p l os Disjunction = Some (record { part = None; group = with_or l p; outer = os })
 step_behind p l os (Atom q) = None
 
-abbrev pub step : Option Formula → Pending → List Pending → Sign Formula → Option Place
+abbrev pub step : Option Formula → Pending → List Pending → Terminal Formula → Option ReaderState
 step None l os s = step_before l os s
 step (Some p) l os s = step_behind p l os s

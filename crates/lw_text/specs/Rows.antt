@@ -1,45 +1,55 @@
--- The header and the rows of a test, on the row of its tokens.
-use Rattle.std.specs.Prelude.{◌≡◌, ℕ, zero, suc, ◌+◌, ◌≤◌, ◌||◌, Bool, false, List, [], ◌∷◌, ◌++◌, length, map, slice_get, codes}
+-- The header and the rows of a test, on its tokens.
+use Rattle.std.specs.Prelude.{◌≡◌, ℕ, zero, suc, ◌≤◌, ◌||◌, Bool, false, List, [], ◌∷◌, ◌++◌, length, map, slice_get, codes}
 use Rattle.std.specs.List.{list_any, filter_map, range_with_len, AllByRecursion}
 use Rattle.std.specs.Str.{bytes_eq}
+use Rattle.lw_base.specs.declared.limits.TheConstants.{MAX_ROWS, MAX_THREADS}
+use Rattle.lw_base.specs.Characters.{byte, digit}
+use Rattle.lw_base.specs.Types.{Bytes, TokenList, Cells, CellGrid}
 use Rattle.lw_text.specs.Lists.{Separated, Until}
 
 -- the name of a thread, `P0` to `P3`
-abbrev pub thread_name : ℕ → List ℕ
-thread_name k = 80 ∷ (48 + k) ∷ []
+abbrev pub thread_name : ℕ → Bytes
+thread_name k = byte "P" ∷ digit k ∷ []
 
 -- so many names of threads from the k-th on, separated by `|`, ended by `;`
-abbrev pub Names : ℕ → ℕ → List (List ℕ) → List (List ℕ) → Type 0
+abbrev pub Names : ℕ → ℕ → TokenList → TokenList → Type 0
 Names k zero ts rest = ⊥
 Names k (suc zero) ts rest = ts ≡ thread_name k ∷ codes ";" ∷ rest
-Names k (suc (suc m)) ts rest = (mid : List (List ℕ)) × (ts ≡ thread_name k ∷ codes "|" ∷ mid) × Names (suc k) (suc m) mid rest
+Names k (suc (suc m)) ts rest =
+    (mid : TokenList) × (ts ≡ thread_name k ∷ codes "|" ∷ mid) × Names (suc k) (suc m) mid rest
 
--- the names of one to four threads
-abbrev pub Header : List (List ℕ) → ℕ → List (List ℕ) → Type 0
-Header ts threads rest = Names 0 threads ts rest × (threads ≤ 4)
+-- the names of the threads, of which there are not too many
+abbrev pub Header : TokenList → ℕ → TokenList → Type 0
+Header ts threads rest = Names 0 threads ts rest × (threads ≤ MAX_THREADS)
 
-abbrev pub ends_cell : List ℕ → Bool
+abbrev pub ends_cell : Bytes → Bool
 ends_cell t = bytes_eq t (codes "|") || bytes_eq t (codes ";")
 
 -- any tokens but `|` and `;`
-abbrev pub Cell : List (List ℕ) → List (List ℕ) → List (List ℕ) → Type 0
+abbrev pub Cell : TokenList → TokenList → TokenList → Type 0
 Cell ts cell rest = (ts ≡ cell ++ rest) × AllByRecursion (λ t. ends_cell t ≡ false) cell
 
+-- cells, separated by `|`, ended by `;`
+abbrev pub RowCells : TokenList → Cells → TokenList → Type 0
+RowCells ts cells rest = Separated Cell (codes "|") (codes ";") ts cells rest
+
 -- a cell for each thread, separated by `|`, ended by `;`
-abbrev pub Line : ℕ → List (List ℕ) → List (List (List ℕ)) → List (List ℕ) → Type 0
-Line threads ts cells rest = Separated Cell (codes "|") (codes ";") ts cells rest × (length cells ≡ threads)
+abbrev pub Row : ℕ → TokenList → Cells → TokenList → Type 0
+Row threads ts cells rest = RowCells ts cells rest × (length cells ≡ threads)
 
 -- the words that end the rows
-abbrev pub is_stop : List ℕ → Bool
-is_stop t = list_any (λ w. bytes_eq t w) (codes "locations" ∷ codes "exists" ∷ codes "forall" ∷ codes "filter" ∷ codes "~" ∷ [])
+abbrev pub is_stop : Bytes → Bool
+is_stop t =
+    list_any (λ w. bytes_eq t w) (codes "locations" ∷ codes "exists" ∷ codes "forall"
+    ∷ codes "filter" ∷ codes "~" ∷ [])
 
-abbrev pub begins_stop : List (List ℕ) → Bool
+abbrev pub begins_stop : TokenList → Bool
 begins_stop [] = false
 begins_stop (t ∷ ts) = is_stop t
 
--- up to 64 lines, up to a word that ends them
-abbrev pub Rows : ℕ → List (List ℕ) → List (List (List (List ℕ))) → List (List ℕ) → Type 0
-Rows threads ts rows rest = Until begins_stop (Line threads) ts rows rest × (length rows ≤ 64)
+-- rows, not too many, up to a word that ends them
+abbrev pub Rows : ℕ → TokenList → CellGrid → TokenList → Type 0
+Rows threads ts rows rest = Until begins_stop (Row threads) ts rows rest × (length rows ≤ MAX_ROWS)
 
 -- what stands in each row at this place, from top to bottom
 abbrev pub column : {X : Type 0} → List (List X) → ℕ → List X

@@ -1,42 +1,63 @@
--- What a test's initial block, its list of names and its condition speak of, on the row of its tokens.
-use Rattle.std.specs.Prelude.{◌≡◌, ℕ, ◌<◌, ◌⊎◌, Option, Some, None, List, ◌∷◌, codes}
+-- The sites that a test speaks of, on its tokens: locations, and registers of threads.
+use Rattle.std.specs.Prelude.{◌≡◌, ℕ, ◌<◌, ◌≤◌, ◌⊎◌, length, Option, Some, None, List, ◌∷◌, codes}
 use Rattle.std.specs.List.{filter_map}
+use Rattle.lw_base.specs.Types.{NameTable, Bytes, TokenList}
+use Rattle.lw_base.specs.declared.limits.TheConstants.{MAX_LOCATIONS}
 use Rattle.lw_base.specs.declared.head.Arch.TheVariants.{Source}
 use Rattle.lw_base.specs.declared.head.Seen.{Seen}
 use Rattle.lw_base.specs.declared.head.Seen.TheVariants.{Register, Location}
 use Rattle.lw_base.specs.Names.{IsLocation}
-use Rattle.lw_base.specs.Tables.{place_of}
+use Rattle.lw_base.specs.Tables.{with_name, with_names, index_of}
 use Rattle.lw_base.specs.Registers.{IsRegister}
 use Rattle.lw_text.specs.Tokens.{IsNumber}
 
 -- a location of memory, or a thread's register
-pub data Site : Type 0 where
-  InMemory : (name : List ℕ) → Site
-  InThread : (thread reg : ℕ) → Site
+pub data SiteSyntax : Type 0 where
+  InMemory : (name : Bytes) → SiteSyntax
+  InThread : (thread reg : ℕ) → SiteSyntax
 
 -- `x` or `[x]`; `t : r`
-abbrev pub IsSite : List (List ℕ) → Site → List (List ℕ) → Type 0
-IsSite ts (InMemory x) rest = IsLocation x × ((ts ≡ x ∷ rest) ⊎ (ts ≡ codes "[" ∷ x ∷ codes "]" ∷ rest))
-IsSite ts (InThread t r) rest = (p q : List ℕ) × (ts ≡ p ∷ codes ":" ∷ q ∷ rest) × IsNumber p t × IsRegister Source q r
+abbrev pub IsSite : TokenList → SiteSyntax → TokenList → Type 0
+IsSite ts (InMemory x) rest =
+    IsLocation x × ((ts ≡ x ∷ rest) ⊎ (ts ≡ codes "[" ∷ x ∷ codes "]" ∷ rest))
+IsSite ts (InThread t r) rest =
+    (p q : Bytes) × (ts ≡ p ∷ codes ":" ∷ q ∷ rest) × IsNumber p t × IsRegister Source q r
 
 -- the site's thread is one of so many
-abbrev pub IsThere : ℕ → Site → Type 0
-IsThere threads (InMemory x) = Unit {0}
-IsThere threads (InThread t r) = t < threads
+abbrev pub ThreadExists : ℕ → SiteSyntax → Type 0
+ThreadExists threads (InMemory x) = Unit {0}
+ThreadExists threads (InThread t r) = t < threads
+
+-- the same, where the number of threads is known
+abbrev pub ThreadAllowed : Option ℕ → SiteSyntax → Type 0
+ThreadAllowed None site = Unit {0}
+ThreadAllowed (Some threads) site = ThreadExists threads site
 
 -- `= n`
-abbrev pub Value : List (List ℕ) → ℕ → List (List ℕ) → Type 0
-Value ts n rest = (w : List ℕ) × (ts ≡ codes "=" ∷ w ∷ rest) × IsNumber w n
+abbrev pub Value : TokenList → ℕ → TokenList → Type 0
+Value ts n rest = (w : Bytes) × (ts ≡ codes "=" ∷ w ∷ rest) × IsNumber w n
 
 -- the name of a location
-abbrev pub site_name : Site → Option (List ℕ)
+abbrev pub site_name : SiteSyntax → Option (Bytes)
 site_name (InMemory x) = Some x
 site_name (InThread t r) = None
 
-abbrev pub site_names : List Site → List (List ℕ)
+abbrev pub site_names : List SiteSyntax → List Bytes
 site_names sites = filter_map site_name sites
 
--- the site, where a location is its place in the table
-abbrev pub seen_in : List (List ℕ) → Site → Seen
-seen_in names (InMemory x) = Location (place_of names x)
+-- the table, after the names of these sites appeared
+abbrev pub with_sites : NameTable → List SiteSyntax → NameTable
+with_sites names sites = with_names names (site_names sites)
+
+-- the table has room for the names of these sites
+abbrev pub HasRoomFor : NameTable → List SiteSyntax → Type 0
+HasRoomFor names sites = length (with_sites names sites) ≤ MAX_LOCATIONS
+
+-- the table has room for this name
+abbrev pub HasRoomForName : NameTable → Bytes → Type 0
+HasRoomForName names x = length (with_name names x) ≤ MAX_LOCATIONS
+
+-- the site, where a location is its number
+abbrev pub seen_in : NameTable → SiteSyntax → Seen
+seen_in names (InMemory x) = Location (index_of names x)
 seen_in names (InThread t r) = Register t r

@@ -1,5 +1,6 @@
 -- What a reader of tokens has before it, and what it made, without places.
-use Rattle.std.specs.Prelude.{◌≡◌, ℕ, List, length, drop}
+use Rattle.std.specs.Prelude.{◌≡◌, List, length, drop}
+use Rattle.lw_base.specs.Types.{Bytes, TokenList}
 use Rattle.lw_base.specs.Heads.{head_of}
 use Rattle.lw_text.specs.declared.token.Token.{Token}
 use Rattle.lw_text.specs.declared.cell.Cell.{Cell}
@@ -7,22 +8,26 @@ use Rattle.lw_text.specs.declared.cursor.Cursor.{Cursor}
 use Rattle.lw_text.specs.declared.frame.Frame.{Frame}
 use Rattle.lw_text.specs.Frames.{TestFrame}
 use Rattle.lw_text.specs.Rows.{columns}
-use Rattle.lw_text.specs.Spans.{texts}
+use Rattle.lw_text.specs.Spans.{texts, Leaves}
 use Rattle.lw_text.specs.Places.{all_texts, RowSpans}
 
 -- the tokens that are still to be read
 abbrev pub remaining : Cursor → List Token
 remaining c = drop c.next c.tokens.now
 
-abbrev pub left : Cursor → List (List ℕ)
+abbrev pub left : Cursor → TokenList
 left c = texts (remaining c)
+
+-- the second has what is left of the first behind some tokens
+abbrev pub MovesOn : Cursor → Cursor → Type 0
+MovesOn before after = Leaves (remaining before) (remaining after)
 
 -- the frame that a `Frame` in memory is
 abbrev pub frame_of : {A : Type 0} → Frame A → TestFrame
 frame_of f = record { head = head_of f.head; cells = all_texts f.cells }
 
 -- The frame's cells are the columns of rows that lie in the text, cell by cell and token by token.
-pub record LiesIn {A : Type 0} (text : List ℕ) (f : Frame A) : Type 0 where
+pub record LiesIn {A : Type 0} (text : Bytes) (f : Frame A) : Type 0 where
   pub rows : List (List (Cell A))
   pub cells : f.cells ≡ columns f.head.threads rows
   pub spans : RowSpans text 0 rows (length text)

@@ -1,21 +1,17 @@
-//! The initial block of a test.
-ghost use Rattle.std.specs.Prelude.{◌≡◌, ◌≢◌, ℕ, ◌≤◌, true, false, List, [], ◌∷◌, length, map, All, codes, OnOk, OnErr, IfOk, IfErr};
+//! The initial block of a test: its entries, each a site and the word that it begins with.
+ghost use Rattle.std.specs.Prelude.{◌≡◌, ℕ, ◌≤◌, true, false, [], ◌∷◌, map, All, OnOk, OnErr, IfOk, IfErr};
 ghost use Rattle.std.specs.List.{list_all};
-ghost use Rattle.lw_base.specs.Tables.{with_names};
+ghost use Rattle.lw_base.specs.Refusals.{NotReadWhere};
+ghost use Rattle.lw_text.specs.Frames.{sites_of, Entries, IsEntry, Block};
+ghost use Rattle.lw_text.specs.Sites.{HasRoomFor, with_sites};
 ghost use Rattle.lw_text.specs.declared.fault.Cause.TheVariants.{Memory};
-ghost use Rattle.lw_text.specs.Lists.{Ended};
-ghost use Rattle.lw_text.specs.Sites.{site_names};
-ghost use Rattle.lw_text.specs.Frames.{Entry as SaidEntry, IsEntry, Block};
-ghost use Rattle.lw_text.specs.Placed.{named, named_entry, is_there, IsIn};
+ghost use Rattle.lw_text.specs.Resolved.{named, named_entry, thread_exists, IsIn};
 
 use crate::cursor::Cursor;
 use crate::fault::{Cause, Fault};
 use crate::site::Site;
 use lw_base::{LocNames, Sequence, Word};
 use std::alloc::Allocator;
-
-/// More threads than any number in a text names: those of the block are checked behind the header.
-const ANY_THREAD: usize = 1 << 32;
 
 /// An entry of the block: the place of its first token, a site, and the word that it begins with.
 #[derive(Clone, Copy)]
@@ -26,8 +22,7 @@ pub(crate) struct Entry {
 }
 
 impl<'t, 'a> Cursor<'t, 'a> {
-    ghost use Rattle.lw_text.specs.Spans.{Leaves};
-    ghost use Rattle.lw_text.specs.Views.{remaining, left};
+    ghost use Rattle.lw_text.specs.Views.{left, MovesOn};
 
     /// Takes the block. The names of its locations go into the table.
     pub(crate) fn block<A: Allocator + Copy>(
@@ -35,12 +30,15 @@ impl<'t, 'a> Cursor<'t, 'a> {
         alloc: A,
         locs: &mut LocNames<A>,
     ) -> Result<Sequence<Entry, A>, Fault>
-        ensures found { IfOk result (λ es. Block (left self.old) (map (named_entry locs.new) es) (left self.new)) }
-        ensures names { IfOk result (λ es. locs.new ≡ with_names locs.old (site_names (map (λ e. named locs.new e.site) es))) }
+        ensures found { IfOk result (λ es. Block (left self.old) (map (named_entry locs.new) es)
+            (left self.new)) }
+        ensures names { IfOk result (λ es. locs.new ≡ with_sites locs.old (map
+            (λ e. named locs.new e.site) es)) }
         ensures within { IfOk result (λ es. All (λ e. IsIn locs.new e.site) es) }
         ensures places { IfOk result (λ es. All (λ e. e.at ≤ self.old.len) es) }
-        ensures fault { IfErr result (λ f. f.cause ≢ Memory → (es : List SaidEntry) (rest : List (List ℕ)) → Block (left self.old) es rest → length (with_names locs.old (site_names (map (λ e. e.site) es))) ≤ 8 → ⊥) }
-        ensures leaves { OnOk result (Leaves (remaining self.old) (remaining self.new)) }
+        ensures fault { IfErr result (λ f. NotReadWhere Memory f.cause (Block (left self.old))
+            (λ es. HasRoomFor locs.old (sites_of es))) }
+        ensures leaves { OnOk result (MovesOn self.old self.new) }
         ensures place { IfErr result (λ f. f.at ≤ self.old.len) }
         ensures same { self.new.len ≡ self.old.len }
     {
@@ -58,12 +56,15 @@ impl<'t, 'a> Cursor<'t, 'a> {
         locs: &mut LocNames<A>,
     ) -> Result<(), Fault>
         requires { entries.old ≡ [] }
-        ensures found { OnOk result (Ended IsEntry (codes ";") (codes "}") (left self.old) (map (named_entry locs.new) entries.new) (left self.new)) }
-        ensures names { OnOk result (locs.new ≡ with_names locs.old (site_names (map (λ e. named locs.new e.site) entries.new))) }
+        ensures found { OnOk result (Entries (left self.old)
+            (map (named_entry locs.new) entries.new) (left self.new)) }
+        ensures names { OnOk result (locs.new ≡ with_sites locs.old (map
+            (λ e. named locs.new e.site) entries.new)) }
         ensures within { OnOk result (All (λ e. IsIn locs.new e.site) entries.new) }
         ensures places { OnOk result (All (λ e. e.at ≤ self.old.len) entries.new) }
-        ensures fault { IfErr result (λ f. f.cause ≢ Memory → (es : List SaidEntry) (rest : List (List ℕ)) → Ended IsEntry (codes ";") (codes "}") (left self.old) es rest → length (with_names locs.old (site_names (map (λ e. e.site) es))) ≤ 8 → ⊥) }
-        ensures leaves { OnOk result (Leaves (remaining self.old) (remaining self.new)) }
+        ensures fault { IfErr result (λ f. NotReadWhere Memory f.cause (Entries (left self.old))
+            (λ es. HasRoomFor locs.old (sites_of es))) }
+        ensures leaves { OnOk result (MovesOn self.old self.new) }
         ensures place { IfErr result (λ f. f.at ≤ self.old.len) }
         ensures same { self.new.len ≡ self.old.len }
     {
@@ -78,19 +79,22 @@ impl<'t, 'a> Cursor<'t, 'a> {
         }
     }
 
-    /// Takes an entry.
+    /// Takes an entry. Its thread is looked at behind the header, which says how many there are.
     fn entry<A: Allocator + Copy>(&mut self, locs: &mut LocNames<A>) -> Result<Entry, Fault>
-        ensures found { IfOk result (λ e. IsEntry (left self.old) (named_entry locs.new e) (left self.new)) }
-        ensures names { IfOk result (λ e. locs.new ≡ with_names locs.old (site_names (named locs.new e.site ∷ []))) }
+        ensures found { IfOk result (λ e. IsEntry (left self.old) (named_entry locs.new e)
+            (left self.new)) }
+        ensures names { IfOk result (λ e. locs.new
+            ≡ with_sites locs.old (named locs.new e.site ∷ [])) }
         ensures within { IfOk result (λ e. IsIn locs.new e.site) }
         ensures at { IfOk result (λ e. e.at ≤ self.old.len) }
-        ensures fault { IfErr result (λ f. f.cause ≢ Memory → (e : SaidEntry) (rest : List (List ℕ)) → IsEntry (left self.old) e rest → length (with_names locs.old (site_names (e.site ∷ []))) ≤ 8 → ⊥) }
-        ensures leaves { OnOk result (Leaves (remaining self.old) (remaining self.new)) }
+        ensures fault { IfErr result (λ f. NotReadWhere Memory f.cause (IsEntry (left self.old))
+            (λ e. HasRoomFor locs.old (e.site ∷ []))) }
+        ensures leaves { OnOk result (MovesOn self.old self.new) }
         ensures place { IfErr result (λ f. f.at ≤ self.old.len) }
         ensures same { self.new.len ≡ self.old.len }
     {
         let at = self.fault(Cause::Unexpected).at;
-        let site = self.site(locs, ANY_THREAD, Cause::Unexpected)?;
+        let site = self.site(locs, None, Cause::Unexpected)?;
         let word = self.value(Cause::Unexpected)?;
         Ok(Entry { at, site, word })
     }
@@ -98,12 +102,12 @@ impl<'t, 'a> Cursor<'t, 'a> {
 
 /// Each entry's thread is one of so many.
 pub(crate) fn check_threads(entries: &[Entry], threads: usize) -> Result<(), Fault>
-    ensures ok { OnOk result (list_all (λ e. is_there threads e.site) entries.now ≡ true) }
-    ensures err { OnErr result (list_all (λ e. is_there threads e.site) entries.now ≡ false) }
+    ensures ok { OnOk result (list_all (λ e. thread_exists threads e.site) entries.now ≡ true) }
+    ensures err { OnErr result (list_all (λ e. thread_exists threads e.site) entries.now ≡ false) }
     ensures place { (len : ℕ) → All (λ e. e.at ≤ len) entries.now → IfErr result (λ f. f.at ≤ len) }
 {
     for entry in entries {
-        if !entry.site.is_there(threads) {
+        if !entry.site.thread_exists(threads) {
             return Err(Fault {
                 at: entry.at,
                 cause: Cause::Name,

@@ -1,40 +1,32 @@
-//! What stands behind the test's heading.
-ghost use Rattle.std.specs.Prelude.{◌≡◌, ◌≢◌, ℕ, ◌≤◌, true, List, length, map, filter, All, OnOk, IfOk, IfErr};
+//! The reader of all that stands behind a test's heading.
+ghost use Rattle.std.specs.Prelude.{◌≡◌, ◌≢◌, ℕ, ◌≤◌, true, List, map, All, OnOk, IfOk, IfErr, IfSome, IfNone, None};
 ghost use Rattle.std.specs.List.{list_all, AllByRecursion};
-ghost use Rattle.lw_base.specs.Heads.{head_of};
-ghost use Rattle.lw_base.specs.Names.{EachOnce};
-ghost use Rattle.lw_base.specs.Tables.{with_names};
-ghost use Rattle.lw_base.specs.Propositions.{formula_of};
-ghost use Rattle.lw_base.specs.Formula.{Formula};
-ghost use Rattle.lw_base.specs.declared.head.Quant.{Quant as SaidQuant};
+ghost use Rattle.lw_base.specs.Types.{Bytes, TokenList};
+ghost use Rattle.lw_text.specs.Frames.{sites_of, IsNoTest, EntrySyntax, Block};
+ghost use Rattle.lw_text.specs.Sites.{HasRoomFor, with_sites, ThreadExists};
 ghost use Rattle.lw_text.specs.declared.fault.Cause.TheVariants.{Memory};
-ghost use Rattle.lw_text.specs.Sites.{Site as SaidSite, IsThere, site_names};
-ghost use Rattle.lw_text.specs.Rows.{Header, columns};
-ghost use Rattle.lw_text.specs.Propositions.{Sign as SaidSign, is_node, IsProposition};
-ghost use Rattle.lw_text.specs.Conditions.{Claim, Condition, sites_in, placed};
-ghost use Rattle.lw_text.specs.Frames.{Entry as SaidEntry, Block, Said as SaidText, Parts, table};
-ghost use Rattle.lw_text.specs.Spans.{Spans, Leaves};
-ghost use Rattle.lw_text.specs.Places.{all_texts, IsWithin, RowSpans};
-ghost use Rattle.lw_text.specs.Placed.{named, named_entry, is_there, IsIn, BodySays, placed_head};
+ghost use Rattle.lw_text.specs.Rows.{Header};
+ghost use Rattle.lw_text.specs.Spans.{texts, Spans};
+ghost use Rattle.lw_text.specs.Places.{RowSpans};
+ghost use Rattle.lw_text.specs.Resolved.{named, named_entry, thread_exists, IsIn, HasSyntax};
 
 use crate::block::{Entry, check_threads};
-use crate::columns::columns;
 use crate::cursor::Cursor;
-use crate::fault::Fault;
-use crate::frame::Frame;
-use crate::said::{Body, Said};
-use crate::site::Site;
-use lw_base::{LocNames, Prop, Quant, Sequence};
-use std::alloc::{AllocError, Allocator};
+use crate::fault::{Cause, Fault};
+use crate::parts::{Body, HeadParts};
+use crate::token_stream::TokenStream;
+use lw_base::{LocNames, Sequence};
+use std::alloc::Allocator;
 
 impl<'t, 'a> Cursor<'t, 'a> {
-    ghost use Rattle.lw_text.specs.Views.{remaining, left};
+    ghost use Rattle.lw_text.specs.Views.{remaining, left, MovesOn};
 
     /// Takes all of it.
     pub(crate) fn body<A: Allocator + Copy>(&mut self, alloc: A) -> Result<Body<'a, A>, Fault>
-        ensures found { IfOk result (λ b. BodySays (left self.old) b) }
-        ensures fault { IfErr result (λ f. f.cause ≢ Memory → (s : SaidText) (p : Formula) → Parts (left self.old) s → IsProposition (map (placed (table s)) s.signs) p → ⊥) }
-        ensures spans { IfOk result (λ b. (text : List ℕ) (from to : ℕ) → Spans text from (remaining self.old) to → RowSpans text from b.rows to) }
+        ensures found { IfOk result (λ b. HasSyntax (left self.old) b) }
+        ensures fault { IfErr result (λ f. f.cause ≢ Memory → IsNoTest (left self.old)) }
+        ensures spans { IfOk result (λ b. (text : Bytes) (from to : ℕ)
+            → Spans text from (remaining self.old) to → RowSpans text from b.rows to) }
         ensures place { IfErr result (λ f. f.at ≤ self.old.len) }
     {
         let mut locs = LocNames::new(alloc);
@@ -42,7 +34,7 @@ impl<'t, 'a> Cursor<'t, 'a> {
         let rows = self.rows(alloc, threads)?;
         let (listed, quant, prop) = self.condition(alloc, threads, &mut locs)?;
         let _len = locs.len();
-        let said = Said {
+        let parts = HeadParts {
             entries,
             threads,
             locs,
@@ -50,7 +42,7 @@ impl<'t, 'a> Cursor<'t, 'a> {
             quant,
             prop,
         };
-        Ok(Body { said, rows })
+        Ok(Body { parts, rows })
     }
 
     /// Takes the block and the header, where the threads of the block's entries are there. The names
@@ -60,12 +52,18 @@ impl<'t, 'a> Cursor<'t, 'a> {
         alloc: A,
         locs: &mut LocNames<A>,
     ) -> Result<(Sequence<Entry, A>, usize), Fault>
-        ensures found { IfOk result (λ x. (mid : List (List ℕ)) × Block (left self.old) (map (named_entry locs.new) x.0) mid × Header mid x.1 (left self.new)) }
-        ensures there { IfOk result (λ x. list_all (λ e. is_there x.1 e.site) x.0 ≡ true) }
-        ensures names { IfOk result (λ x. locs.new ≡ with_names locs.old (site_names (map (λ e. named locs.new e.site) x.0))) }
+        ensures found { IfOk result (λ x. (mid : TokenList)
+            × Block (left self.old) (map (named_entry locs.new) x.0) mid
+            × Header mid x.1 (left self.new)) }
+        ensures there { IfOk result (λ x. list_all (λ e. thread_exists x.1 e.site) x.0 ≡ true) }
+        ensures names { IfOk result (λ x. locs.new ≡ with_sites locs.old (map
+            (λ e. named locs.new e.site) x.0)) }
         ensures within { IfOk result (λ x. All (λ e. IsIn locs.new e.site) x.0) }
-        ensures fault { IfErr result (λ f. f.cause ≢ Memory → (es : List SaidEntry) (n : ℕ) (mid rest : List (List ℕ)) → Block (left self.old) es mid → Header mid n rest → AllByRecursion (λ e. IsThere n e.site) es → length (with_names locs.old (site_names (map (λ e. e.site) es))) ≤ 8 → ⊥) }
-        ensures leaves { OnOk result (Leaves (remaining self.old) (remaining self.new)) }
+        ensures fault { IfErr result (λ f. f.cause ≢ Memory
+            → (es : List EntrySyntax) (n : ℕ) (mid rest : TokenList) → Block (left self.old) es mid
+            → Header mid n rest → AllByRecursion (λ e. ThreadExists n e.site) es
+            → HasRoomFor locs.old (sites_of es) → ⊥) }
+        ensures leaves { OnOk result (MovesOn self.old self.new) }
         ensures place { IfErr result (λ f. f.at ≤ self.old.len) }
         ensures same { OnOk result (self.new.len ≡ self.old.len) }
     {
@@ -74,40 +72,30 @@ impl<'t, 'a> Cursor<'t, 'a> {
         check_threads(entries.as_slice(), threads)?;
         Ok((entries, threads))
     }
-
-    /// Takes the list of names, the quantifier and the proposition, which ends the text. The names of
-    /// their locations go into the table.
-    fn condition<A: Allocator + Copy>(
-        &mut self,
-        alloc: A,
-        threads: usize,
-        locs: &mut LocNames<A>,
-    ) -> Result<(Sequence<Site, A>, Quant, Prop<A>), Fault>
-        requires threads { threads ≤ 4 }
-        requires once { EachOnce locs.old }
-        ensures found { IfOk result (λ x. (ss : List (SaidSign Claim)) × Condition threads (left self.old) (map (named locs.new) x.0) x.1 ss × (locs.new ≡ with_names (with_names locs.old (site_names (map (named locs.new) x.0))) (site_names (sites_in ss))) × (length (filter is_node ss) ≤ 256) × IsProposition (map (placed locs.new) ss) (formula_of x.2)) }
-        ensures within { IfOk result (λ x. All (IsIn locs.new) x.0) }
-        ensures fault { IfErr result (λ f. f.cause ≢ Memory → (listed : List SaidSite) (quant : SaidQuant) (ss : List (SaidSign Claim)) (p : Formula) → Condition threads (left self.old) listed quant ss → length (with_names (with_names locs.old (site_names listed)) (site_names (sites_in ss))) ≤ 8 → length (filter is_node ss) ≤ 256 → IsProposition (map (placed (with_names (with_names locs.old (site_names listed)) (site_names (sites_in ss)))) ss) p → ⊥) }
-        ensures place { IfErr result (λ f. f.at ≤ self.old.len) }
-    {
-        let listed = self.listed(alloc, threads, locs)?;
-        let quant = self.quantifier()?;
-        let prop = self.proposition(alloc, threads, locs)?;
-        Ok((listed, quant, prop))
-    }
 }
 
-impl<'a, A: Allocator + Copy> Body<'a, A> {
-    /// The frame, in a text of this length.
-    pub(crate) fn finish(self, alloc: A, name: &str, len: usize) -> Result<Frame<'a, A>, AllocError>
-        requires { All (λ row. All (IsWithin len) row) self.rows }
-        ensures head { IfOk result (λ f. head_of f.head ≡ placed_head name.now self.entry.said) }
-        ensures cells { IfOk result (λ f. f.cells ≡ columns self.entry.said.threads self.entry.rows) }
-        ensures len { IfOk result (λ f. f.len ≡ len) }
+impl<'a, A: Allocator + Copy> TokenStream<'a, A> {
+    /// What the tokens say, in a text of this length. Where a fault ends them they say nothing.
+    pub(crate) fn body(&self, alloc: A, len: usize) -> Result<Body<'a, A>, Fault>
+        requires places { All (λ t. t.at ≤ len) self.now.tokens }
+        requires fault { IfSome self.now.fault (λ f. f.at ≤ len) }
+        ensures whole { OnOk result (self.now.fault ≡ None) }
+        ensures found { IfOk result (λ b. HasSyntax (texts self.now.tokens) b) }
+        ensures fault { IfErr result (λ f. f.cause ≢ Memory
+            → IfNone self.now.fault (IsNoTest (texts self.now.tokens))) }
+        ensures spans { IfOk result (λ b. (text : Bytes) (from to : ℕ)
+            → Spans text from self.now.tokens to → RowSpans text from b.rows to) }
+        ensures place { IfErr result (λ f. f.at ≤ len) }
     {
-        let Body { said, rows } = self;
-        let cells = columns(alloc, said.threads, rows.as_slice())?;
-        let head = said.head(alloc, name)?;
-        Ok(Frame { head, cells, len })
+        let end = self.fault.unwrap_or(Fault {
+            at: len,
+            cause: Cause::Unterminated,
+        });
+        let mut cursor = Cursor::new(self.tokens.as_slice(), end, len);
+        let body = cursor.body(alloc)?;
+        match self.fault {
+            Some(fault) => Err(fault),
+            None => Ok(body),
+        }
     }
 }

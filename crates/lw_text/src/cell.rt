@@ -1,4 +1,4 @@
-//! A cell of a test.
+//! A cell of a test: its tokens, and where it ends.
 ghost use Rattle.std.specs.Prelude.{◌≡◌, IfOk};
 
 use crate::token::Token;

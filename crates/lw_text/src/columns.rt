@@ -1,9 +1,9 @@
-//! The cells of each thread, from top to bottom.
+//! The columns of a test: each thread's cells, from top to bottom.
 ghost use Rattle.std.specs.Prelude.{◌≡◌, ◌<◌, length, All, IfOk};
 ghost use Rattle.lw_text.specs.Rows as wanted;
 
 use crate::cell::Cell;
-use crate::rows::Cells;
+use crate::rows::CellSequence;
 use lw_base::Sequence;
 use std::alloc::{AllocError, Allocator};
 
@@ -11,8 +11,8 @@ use std::alloc::{AllocError, Allocator};
 pub(crate) fn columns<'a, A: Allocator + Copy>(
     alloc: A,
     threads: usize,
-    rows: &[Cells<'a, A>],
-) -> Result<Sequence<Cells<'a, A>, A>, AllocError>
+    rows: &[CellSequence<'a, A>],
+) -> Result<Sequence<CellSequence<'a, A>, A>, AllocError>
     requires { All (λ row. length row ≡ threads) rows.now }
     ensures { IfOk result (λ v. v ≡ wanted.columns threads rows.now) }
 {
@@ -26,9 +26,9 @@ pub(crate) fn columns<'a, A: Allocator + Copy>(
 /// What stands in each row at this place.
 fn column<'a, A: Allocator + Copy>(
     alloc: A,
-    rows: &[Cells<'a, A>],
+    rows: &[CellSequence<'a, A>],
     place: usize,
-) -> Result<Cells<'a, A>, AllocError>
+) -> Result<CellSequence<'a, A>, AllocError>
     requires { All (λ row. place < length row) rows.now }
     ensures { IfOk result (λ v. v ≡ wanted.column rows.now place) }
 {

@@ -1,11 +1,13 @@
-//! The tokens that are still to be read.
-ghost use Rattle.std.specs.Prelude.{◌≡◌, ℕ, ◌≤◌, true, false, if◌then◌else◌, List, [], ◌∷◌, length, All, OnOk, OnErr, IfOk, IfErr};
+//! The cursor over the tokens that are still to be read.
+ghost use Rattle.std.specs.Prelude.{◌≡◌, ◌≢◌, ◌≤◌, true, false, if◌then◌else◌, [], ◌∷◌, length, All, OnOk, OnErr, IfOk, IfErr};
+ghost use Rattle.lw_base.specs.Types.{TokenList};
 ghost use Rattle.lw_text.specs.Conditions.{begins_word};
+ghost use Rattle.lw_text.specs.declared.fault.Cause.TheVariants.{Memory};
 
 use crate::fault::{Cause, Fault};
 use crate::token::Token;
 
-/// A row of tokens, of which those before `next` have been read. `end` is told where they run out,
+/// A list of tokens, of which those before `next` have been read. `end` is told where they run out,
 /// and no place is past `len`, the text's length.
 #[derive(Drop)]
 pub(crate) struct Cursor<'t, 'a> {
@@ -19,8 +21,7 @@ pub(crate) struct Cursor<'t, 'a> {
 }
 
 impl<'t, 'a> Cursor<'t, 'a> {
-    ghost use Rattle.lw_text.specs.Spans.{Leaves};
-    ghost use Rattle.lw_text.specs.Views.{remaining, left};
+    ghost use Rattle.lw_text.specs.Views.{remaining, left, MovesOn};
 
     pub(crate) fn new(tokens: &'t [Token<'a>], end: Fault, len: usize) -> Cursor<'t, 'a>
         requires places { All (λ t. t.at ≤ len) tokens.now }
@@ -36,8 +37,9 @@ impl<'t, 'a> Cursor<'t, 'a> {
         }
     }
 
-    /// A fault at the next token, or the row's own fault where there is none.
+    /// A fault at the next token, or `end` where there is none.
     pub(crate) fn fault(&self, cause: Cause) -> Fault
+        requires { cause ≢ Memory }
         ensures { result.at ≤ self.now.len }
     {
         match self.tokens.get(self.next) {
@@ -69,9 +71,10 @@ impl<'t, 'a> Cursor<'t, 'a> {
 
     /// Takes the next token, which is to be this text. Another is told with the cause.
     pub(crate) fn expect(&mut self, text: &str, cause: Cause) -> Result<(), Fault>
+        requires { cause ≢ Memory }
         ensures ok { OnOk result (left self.old ≡ text.now ∷ left self.new) }
-        ensures err { OnErr result ((rest : List (List ℕ)) → left self.old ≡ text.now ∷ rest → ⊥) }
-        ensures leaves { OnOk result (Leaves (remaining self.old) (remaining self.new)) }
+        ensures err { OnErr result ((rest : TokenList) → left self.old ≡ text.now ∷ rest → ⊥) }
+        ensures leaves { OnOk result (MovesOn self.old self.new) }
         ensures place { IfErr result (λ f. f.at ≤ self.old.len) }
         ensures same { self.new.len ≡ self.old.len }
     {
@@ -100,7 +103,7 @@ impl<'t, 'a> Cursor<'t, 'a> {
         ensures taken { result ≡ true → left self.old ≡ text.now ∷ left self.new }
         ensures other { result ≡ false → begins_word text.now (left self.old) ≡ false }
         ensures kept { result ≡ false → self.new ≡ self.old }
-        ensures leaves { Leaves (remaining self.old) (remaining self.new) }
+        ensures leaves { MovesOn self.old self.new }
         ensures same { self.new.len ≡ self.old.len }
     {
         match self.tokens.get(self.next) {
@@ -115,10 +118,14 @@ impl<'t, 'a> Cursor<'t, 'a> {
     /// Takes the one text or the other, and says whether it is the first. Another token is told with
     /// the cause.
     pub(crate) fn either(&mut self, first: &str, second: &str, cause: Cause) -> Result<bool, Fault>
-        ensures ok { IfOk result (λ b. left self.old ≡ (if b then first.now else second.now) ∷ left self.new) }
-        ensures no_first { OnErr result ((rest : List (List ℕ)) → left self.old ≡ first.now ∷ rest → ⊥) }
-        ensures no_second { OnErr result ((rest : List (List ℕ)) → left self.old ≡ second.now ∷ rest → ⊥) }
-        ensures leaves { OnOk result (Leaves (remaining self.old) (remaining self.new)) }
+        requires { cause ≢ Memory }
+        ensures ok { IfOk result (λ b. left self.old
+            ≡ (if b then first.now else second.now) ∷ left self.new) }
+        ensures no_first { OnErr result ((rest : TokenList) → left self.old ≡ first.now ∷ rest
+            → ⊥) }
+        ensures no_second { OnErr result ((rest : TokenList) → left self.old ≡ second.now ∷ rest
+            → ⊥) }
+        ensures leaves { OnOk result (MovesOn self.old self.new) }
         ensures place { IfErr result (λ f. f.at ≤ self.old.len) }
         ensures same { self.new.len ≡ self.old.len }
     {

@@ -1,4 +1,4 @@
-//! Why a text is refused.
+//! The causes for which a text is refused, and the place of a fault.
 ghost use Rattle.std.specs.Prelude.{◌≡◌};
 ghost use Rattle.lw_text.specs.Causes.{text_cause_number, text_cause_name, told};
 ghost use Rattle.lw_text.specs.declared.fault.Cause.TheVariants as inner;
@@ -77,7 +77,7 @@ impl TextCause {
     }
 }
 
-/// A refused text: the cause, and the byte at which it stands. For want of memory the place is 0,
+/// A refused text: the cause, and the byte at which it stands. Where memory ran out the place is 0,
 /// and says nothing.
 #[derive(Clone, Copy, Debug, PartialEq, Eq)]
 pub struct TextFault {
@@ -105,6 +105,7 @@ pub(crate) enum Cause {
 pub(crate) struct Fault {
     pub(crate) at: usize,
     pub(crate) cause: Cause,
+    ghost memory: { cause ≡ inner.Memory → at ≡ 0 },
 }
 
 impl From<AllocError> for Fault {

@@ -1,5 +1,8 @@
 //! The frame of a text.
 ghost use Rattle.std.specs.Prelude.{◌≡◌, ◌<◌, ◌≤◌, length, All, Some, slice_get};
+ghost use Rattle.lw_base.specs.Heads.{head_of};
+ghost use Rattle.lw_base.specs.WellFormed.{IsWellFormedHead};
+ghost use Rattle.lw_base.specs.WellFormedProps.{IsWellFormedHead-prop};
 ghost use Rattle.lw_text.specs.Places.{IsWithin, height};
 
 use crate::cell::Cell;
@@ -14,10 +17,7 @@ pub struct Frame<'a, A: Allocator = Global> {
     pub cells: Sequence<Sequence<Cell<'a, A>, A>, A>,
     /// The length of the text, which no place in the frame is past.
     pub len: usize,
-    pub ghost regs: { length head.init_regs ≡ head.threads },
-    pub ghost words: { length head.init_words ≡ length head.locs },
-    pub ghost some: { 1 ≤ head.threads },
-    pub ghost few: { head.threads ≤ 4 },
+    pub ghost well_formed: { IsWellFormedHead (head_of head) } by { IsWellFormedHead-prop (head_of head) },
     pub ghost columns: { length cells ≡ head.threads },
     pub ghost even: { All (λ column. length column ≡ height cells) cells },
     pub ghost low: { height cells ≤ 64 },

@@ -1,12 +1,19 @@
-//! The head of a test, made of what its text says.
-ghost use Rattle.std.specs.Prelude.{◌≡◌, ◌≤◌, ◌++◌, length, map, filter, IfOk};
+//! The head and the frame of a test, made of what its tokens say.
+ghost use Rattle.std.specs.Prelude.{◌≡◌, ◌++◌, length, map, filter, IfOk, All};
 ghost use Rattle.std.specs.List.{range_with_len};
 ghost use Rattle.lw_base.specs.Heads.{head_of};
-ghost use Rattle.lw_text.specs.Frames.{registers_of, registers, locations};
-ghost use Rattle.lw_text.specs.Placed.{placed_head, word_at, is_listed};
+ghost use Rattle.lw_base.specs.Names.{IsTestName};
+ghost use Rattle.lw_base.specs.Types.{TokenList};
+ghost use Rattle.lw_text.specs.Frames.{registers_of, all_registers, locations};
+ghost use Rattle.lw_text.specs.Resolved.{resolved_head, word_at, is_listed, HasSyntax};
+ghost use Rattle.lw_text.specs.Rows.{columns};
+ghost use Rattle.lw_text.specs.Places.{IsWithin};
 
-use crate::said::Said;
-use crate::start::{seen_among, start_registers, start_words};
+use crate::columns::columns;
+use crate::frame::Frame;
+use crate::initial::{initial_registers, initial_words};
+use crate::parts::{Body, HeadParts};
+use crate::seen::seen_among;
 use lw_base::{Arch, Head, Seen, Sequence, Text, Word};
 use std::alloc::{AllocError, Allocator, Global};
 
@@ -19,10 +26,10 @@ struct Made<A: Allocator = Global> {
     listed: Sequence<Seen, A>,
 }
 
-impl<A: Allocator + Copy> Said<A> {
+impl<A: Allocator + Copy> HeadParts<A> {
     /// The head of a source test of this name.
     pub(crate) fn head(self, alloc: A, name: &str) -> Result<Head<A>, AllocError>
-        ensures { IfOk result (λ h. head_of h ≡ placed_head name.now self) }
+        ensures { IfOk result (λ h. head_of h ≡ resolved_head name.now self) }
     {
         let made = self.made(alloc, name)?;
         Ok(Head {
@@ -41,17 +48,40 @@ impl<A: Allocator + Copy> Said<A> {
     /// What is made for the head of a source test of this name.
     fn made(&self, alloc: A, name: &str) -> Result<Made<A>, AllocError>
         ensures name { IfOk result (λ m. m.name ≡ name.now) }
-        ensures regs { IfOk result (λ m. m.init_regs ≡ map (λ t. map (word_at self.now.entries) (registers_of t)) (range_with_len 0 self.now.threads)) }
-        ensures words { IfOk result (λ m. m.init_words ≡ map (word_at self.now.entries) (locations (length self.now.locs))) }
-        ensures listed { IfOk result (λ m. m.listed ≡ filter (is_listed self.now.listed) (registers self.now.threads ++ locations (length self.now.locs))) }
+        ensures regs { IfOk result (λ m. m.init_regs ≡ map
+            (λ t. map (word_at self.now.entries) (registers_of t))
+            (range_with_len 0 self.now.threads)) }
+        ensures words { IfOk result (λ m. m.init_words
+            ≡ map (word_at self.now.entries) (locations (length self.now.locs))) }
+        ensures listed { IfOk result (λ m. m.listed
+            ≡ filter (is_listed self.now.listed)
+            (all_registers self.now.threads ++ locations (length self.now.locs))) }
     {
         let entries = self.entries.as_slice();
         let len = self.locs.len();
         Ok(Made {
             name: Text::from_str(alloc, name)?,
-            init_regs: start_registers(alloc, entries, self.threads)?,
-            init_words: start_words(alloc, entries, len)?,
+            init_regs: initial_registers(alloc, entries, self.threads)?,
+            init_words: initial_words(alloc, entries, len)?,
             listed: seen_among(alloc, self.listed.as_slice(), self.threads, len)?,
         })
+    }
+}
+
+impl<'a, A: Allocator + Copy> Body<'a, A> {
+    /// The frame, in a text of this length.
+    pub(crate) fn finish(self, alloc: A, name: &str, len: usize) -> Result<Frame<'a, A>, AllocError>
+        requires within { All (λ row. All (IsWithin len) row) self.rows }
+        requires says { (ts : TokenList) × HasSyntax ts self }
+        requires name { IsTestName name.now }
+        ensures head { IfOk result (λ f. head_of f.head ≡ resolved_head name.now self.entry.parts) }
+        ensures cells { IfOk result (λ f. f.cells
+            ≡ columns self.entry.parts.threads self.entry.rows) }
+        ensures len { IfOk result (λ f. f.len ≡ len) }
+    {
+        let Body { parts, rows } = self;
+        let cells = columns(alloc, parts.threads, rows.as_slice())?;
+        let head = parts.head(alloc, name)?;
+        Ok(Frame { head, cells, len })
     }
 }

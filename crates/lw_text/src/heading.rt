@@ -1,17 +1,19 @@
-//! What stands before a test's `{`: the word of the architecture, the test's name, and notes.
-ghost use Rattle.std.specs.Prelude.{◌≡◌, ℕ, ◌≤◌, ◌↔◌, List, length, codes, IsTrue, IfOk, OnOk, OnErr, IfErr};
+//! The heading of a test: the word of the architecture, the test's name, and notes up to the `{`.
+ghost use Rattle.std.specs.Prelude.{◌≡◌, ◌≤◌, ◌↔◌, length, codes, IsTrue, IfOk, OnOk, OnErr, IfErr};
+ghost use Rattle.lw_base.specs.Refusals.{NoSuch, NoneRead};
 ghost use Rattle.lw_text.specs.Tokens.{First};
-ghost use Rattle.lw_text.specs.Headings.{IsTestName, Named, Heading};
+ghost use Rattle.lw_base.specs.Names.{IsTestName};
+ghost use Rattle.lw_text.specs.Headings.{Named, Heading};
 
 use crate::fault::{Cause, Fault};
 use crate::lexer::Lexer;
-use lw_base::{ascii_text, blanks, until_blank};
+use lw_base::{ByteKind, MAX_TEST_NAME_BYTES, ascii_text, front};
 
 impl<'a> Lexer<'a> {
     /// Takes the word `SRC`, the blanks behind it, the test's name, and the notes up to a `{`.
     pub(crate) fn heading(&mut self) -> Result<&'a str, Fault>
         ensures found { IfOk result (λ name. Heading self.old.rest.now name.now self.new.rest.now) }
-        ensures fault { OnErr result ((name rest : List ℕ) → Heading self.old.rest.now name rest → ⊥) }
+        ensures fault { OnErr result (NoneRead (Heading self.old.rest.now)) }
         ensures place { IfErr result (λ f. f.at ≤ length self.old.text.now) }
         ensures same { self.new.text.now ≡ self.old.text.now }
     {
@@ -23,7 +25,7 @@ impl<'a> Lexer<'a> {
 
     fn source_word(&mut self) -> Result<(), Fault>
         ensures found { OnOk result (First self.old.rest.now (codes "SRC") self.new.rest.now) }
-        ensures fault { OnErr result ((rest : List ℕ) → First self.old.rest.now (codes "SRC") rest → ⊥) }
+        ensures fault { OnErr result (NoSuch (First self.old.rest.now (codes "SRC"))) }
         ensures place { IfErr result (λ f. f.at ≤ length self.old.text.now) }
         ensures same { self.new.text.now ≡ self.old.text.now }
     {
@@ -46,12 +48,12 @@ impl<'a> Lexer<'a> {
 
     fn test_name(&mut self) -> Result<&'a str, Fault>
         ensures found { IfOk result (λ name. Named self.old.rest.now name.now self.new.rest.now) }
-        ensures fault { OnErr result ((name rest : List ℕ) → Named self.old.rest.now name rest → ⊥) }
+        ensures fault { OnErr result (NoneRead (Named self.old.rest.now)) }
         ensures place { IfErr result (λ f. f.at ≤ length self.old.text.now) }
         ensures same { self.new.text.now ≡ self.old.text.now }
     {
-        let (space, after) = blanks(self.rest);
-        let (name, rest) = until_blank(after);
+        let (space, after) = front(self.rest, ByteKind::Blank);
+        let (name, rest) = front(after, ByteKind::NotBlank);
         if name.is_empty() {
             return Err(Fault {
                 at: self.text.len(),
@@ -80,5 +82,7 @@ impl<'a> Lexer<'a> {
 fn is_test_name(name: &[u8]) -> bool
     ensures { IsTrue result ↔ IsTestName name.now }
 {
-    !name.is_empty() && name.len() <= 128 && name.iter().all(|byte| byte.is_ascii_graphic())
+    !name.is_empty()
+        && name.len() <= MAX_TEST_NAME_BYTES
+        && name.iter().all(|byte| byte.is_ascii_graphic())
 }

@@ -1,11 +1,14 @@
-//! Words, numbers and symbols.
-ghost use Rattle.std.specs.Prelude.{◌≡◌, ℕ, ◌<◌, ◌≤◌, ◌^◌, List, [], ◌∷◌, ◌++◌, IfSome, IfNone, IfOk, OnErr, MatchOption, true, false, IsTrue, ◌↔◌};
+//! The tokens that a text can begin with: words, numbers and symbols.
+ghost use Rattle.std.specs.Prelude.{◌≡◌, ◌≢◌, ℕ, ◌<◌, ◌≤◌, ◌^◌, [], ◌∷◌, ◌++◌, IfSome, IfNone, IfOk, IfErr, OnErr, MatchOption, true, false, IsTrue, ◌↔◌};
+ghost use Rattle.lw_base.specs.Refusals.{NoSuch};
+ghost use Rattle.lw_base.specs.Types.{Bytes};
+ghost use Rattle.lw_text.specs.declared.fault.Cause.TheVariants.{Memory};
+ghost use Rattle.lw_text.specs.Tokens.{opens_comment, Digits, IsNumber, IsKind, IsToken};
 ghost use Rattle.lw_text.specs.Tokens as symbols;
-ghost use Rattle.lw_text.specs.Tokens.{begins_pair, Digits, IsNumber, IsKind, IsToken};
 
 use crate::fault::Cause;
-use crate::scan::{behind, split, word};
-use lw_base::{Word, ascii_text, is_name, is_word_byte};
+use crate::scan::{behind, split};
+use lw_base::{ByteKind, Word, ascii_text, front, is_name, is_word_byte};
 
 /// The number that the digits stand for.
 fn digits(base: u32, digits: &[u8]) -> Option<Word>
@@ -26,7 +29,7 @@ fn digits(base: u32, digits: &[u8]) -> Option<Word>
 
 /// The number that the token stands for, where it is one: decimal, or hexadecimal behind `0x`.
 pub fn number(text: &str) -> Option<Word>
-    ensures { MatchOption result ((n : ℕ) → IsNumber text.now n → ⊥) (λ n. IsNumber text.now n) }
+    ensures { MatchOption result (NoSuch (IsNumber text.now)) (IsNumber text.now) }
 {
     let bytes = text.as_bytes();
     if bytes.is_empty() {
@@ -56,7 +59,8 @@ fn is_single(byte: u8) -> bool
 
 /// Whether the two bytes at the front are a symbol.
 fn begins_long(bytes: &[u8]) -> bool
-    ensures { IsTrue result ↔ ((b c : ℕ) × (rest : List ℕ) × (bytes.now ≡ b ∷ c ∷ rest) × (symbols.is_pair b c ≡ true)) }
+    ensures { IsTrue result ↔ ((b c : ℕ) × (rest : Bytes) × (bytes.now ≡ b ∷ c ∷ rest)
+        × (symbols.is_pair b c ≡ true)) }
 {
     let Some((first, rest)) = split(bytes) else {
         return false;
@@ -69,7 +73,8 @@ fn begins_long(bytes: &[u8]) -> bool
 
 /// Whether the first byte is a symbol, where no longer one begins.
 fn begins_short(bytes: &[u8], first: u8) -> bool
-    ensures { IsTrue result ↔ ((symbols.is_single first ≡ true) × (begins_pair 40 42 bytes.now ≡ false)) }
+    ensures { IsTrue result ↔ ((symbols.is_single first ≡ true)
+        × (opens_comment bytes.now ≡ false)) }
 {
     is_single(first) && behind(bytes, b'(', b'*').is_none()
 }
@@ -82,7 +87,9 @@ fn is_kind(word: &str) -> bool
 }
 
 /// The fault of a word that is neither.
-fn word_fault(first: u8) -> Cause {
+fn word_fault(first: u8) -> Cause
+    ensures { result ≢ Memory }
+{
     if first.is_ascii_digit() {
         Cause::Number
     } else {
@@ -93,13 +100,14 @@ fn word_fault(first: u8) -> Cause {
 /// The token at the front, and what stands behind it.
 pub(crate) fn token(bytes: &[u8]) -> Result<(&str, &[u8]), Cause>
     ensures found { IfOk result (λ x. (bytes.now ≡ x.0.now ++ x.1.now) × IsToken x.0.now x.1.now) }
-    ensures none { OnErr result ((t rest : List ℕ) → bytes.now ≡ t ++ rest → IsToken t rest → ⊥) }
+    ensures none { OnErr result ((t rest : Bytes) → bytes.now ≡ t ++ rest → IsToken t rest → ⊥) }
+    ensures cause { IfErr result (λ cause. cause ≢ Memory) }
 {
     let Some((first, _)) = split(bytes) else {
         return Err(Cause::Unterminated);
     };
     if is_word_byte(first) {
-        let (word, rest) = word(bytes);
+        let (word, rest) = front(bytes, ByteKind::Word);
         let text = ascii_text(word);
         if !is_kind(text) {
             return Err(word_fault(first));

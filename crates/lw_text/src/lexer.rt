@@ -1,10 +1,11 @@
-//! The tokens of a text, one after another.
-ghost use Rattle.std.specs.Prelude.{◌≡◌, ℕ, ◌+◌, ◌-◌, ◌≤◌, List, [], ◌++◌, length, drop, IfOk, OnErr, IfErr, IfSome, MatchOption};
+//! The lexer: the tokens of a text, one after another.
+ghost use Rattle.std.specs.Prelude.{◌≡◌, ◌+◌, ◌-◌, ◌≤◌, [], ◌++◌, length, drop, IfOk, OnErr, IfErr, IfSome, MatchOption};
+ghost use Rattle.lw_base.specs.Types.{Bytes};
 
 use crate::fault::{Cause, Fault};
-use crate::gap::after_gap;
 use crate::lexeme::token;
 use crate::token::Token;
+use crate::trivia::after_trivia;
 
 /// Reads a text from left to right.
 #[derive(Drop)]
@@ -16,7 +17,7 @@ pub(crate) struct Lexer<'a> {
 }
 
 impl<'a> Lexer<'a> {
-    ghost use Rattle.lw_text.specs.Tokens.{Gap, First};
+    ghost use Rattle.lw_text.specs.Tokens.{Trivia, First};
 
     pub(crate) fn new(text: &'a [u8]) -> Lexer<'a>
         ensures text { result.text.now ≡ text.now }
@@ -34,16 +35,19 @@ impl<'a> Lexer<'a> {
 
     /// The next token, or `None` where only blanks and comments are left.
     pub(crate) fn next(&mut self) -> Result<Option<Token<'a>>, Fault>
-        ensures end { IfOk result (λ o. MatchOption o (Gap self.old.rest.now []) (λ t. First self.old.rest.now t.text.now self.new.rest.now)) }
-        ensures no_end { OnErr result (Gap self.old.rest.now [] → ⊥) }
-        ensures no_token { OnErr result ((t rest : List ℕ) → First self.old.rest.now t rest → ⊥) }
+        ensures end { IfOk result (λ o. MatchOption o (Trivia self.old.rest.now [])
+            (λ t. First self.old.rest.now t.text.now self.new.rest.now)) }
+        ensures no_end { OnErr result (Trivia self.old.rest.now [] → ⊥) }
+        ensures no_token { OnErr result ((t rest : Bytes) → First self.old.rest.now t rest → ⊥) }
         ensures place { IfErr result (λ f. f.at ≤ length self.old.text.now) }
         ensures at { IfOk result (λ o. IfSome o (λ t. t.at ≤ length self.old.text.now)) }
-        ensures after { IfOk result (λ o. IfSome o (λ t. length self.old.text.now ≤ t.at + length self.old.rest.now)) }
-        ensures slice { IfOk result (λ o. IfSome o (λ t. drop t.at self.old.text.now ≡ t.text.now ++ self.new.rest.now)) }
+        ensures after { IfOk result (λ o. IfSome o
+            (λ t. length self.old.text.now ≤ t.at + length self.old.rest.now)) }
+        ensures slice { IfOk result (λ o. IfSome o
+            (λ t. drop t.at self.old.text.now ≡ t.text.now ++ self.new.rest.now)) }
         ensures same { self.new.text.now ≡ self.old.text.now }
     {
-        let Some(start) = after_gap(self.rest) else {
+        let Some(start) = after_trivia(self.rest) else {
             return Err(Fault {
                 at: self.text.len(),
                 cause: Cause::Unterminated,

@@ -1,127 +1,117 @@
-//! Reads a proposition sign by sign, with a list of what stands open in place of recursion.
-ghost use Rattle.std.specs.Prelude.{◌≡◌, true, false, List, [], ◌∷◌, map, reverse, Some, None, IfOk, MatchOption, if◌then◌else◌};
+//! The proposition of a condition, taken terminal by terminal up to the end of the text.
+ghost use Rattle.std.specs.Prelude.{◌≡◌, ◌≢◌, ◌+◌, ◌≤◌, ◌==◌, ◌||◌, not, true, codes, List, [], ◌∷◌, length, map, filter, OnOk, IfOk, IfErr};
+ghost use Rattle.lw_base.specs.Types.{TokenList};
 ghost use Rattle.lw_base.specs.Formula.{Formula};
 ghost use Rattle.lw_base.specs.Propositions.{formula_of};
-ghost use Rattle.lw_text.specs.Propositions.{Sign as SaidSign, IsProposition};
-ghost use Rattle.lw_text.specs.Signs.{sign_of};
-ghost use Rattle.lw_text.specs.Pending.{Left, begins_part, level_of, place_of, step_before, step_behind};
+ghost use Rattle.lw_base.specs.Names.{EachOnce};
+ghost use Rattle.lw_text.specs.Propositions.{HasFewNodes, Terminal as TerminalSyntax, is_node, IsProposition};
+ghost use Rattle.lw_text.specs.Sites.{HasRoomFor, with_sites};
+ghost use Rattle.lw_text.specs.declared.fault.Cause.TheVariants.{Memory};
+ghost use Rattle.lw_text.specs.Pending.{Completes};
+ghost use Rattle.lw_text.specs.Terminals.{terminal_of};
+ghost use Rattle.lw_text.specs.Conditions.{AtomSyntax, begins_word, IsTerminal, Terminals, sites_in, resolved};
+ghost use Rattle.lw_text.specs.Resolved.{named_terminal, TerminalIn};
 
-use crate::level::Level;
-use crate::sign::Sign;
-use lw_base::Prop;
-use std::alloc::{AllocError, Allocator, Global};
-use std::mem;
+use crate::cursor::Cursor;
+use crate::fault::{Cause, Fault};
+use crate::proposition_reader::PropositionReader;
+use crate::terminal::Terminal;
+use lw_base::{LocNames, MAX_NODES, MAX_THREADS, Prop};
+use std::alloc::Allocator;
 
-/// What the signs so far leave open. A clause says by `Left` which signs complete them to which
-/// proposition.
-#[derive(Drop)]
-pub(crate) struct PropositionReader<A: Allocator + Copy = Global> {
-    alloc: A,
-    part: Option<Prop<A>>,
-    level: Level<A>,
-    outer: Vec<Level<A>, A>,
-}
+impl<'t, 'a> Cursor<'t, 'a> {
+    ghost use Rattle.lw_text.specs.Views.{left};
 
-impl<A: Allocator + Copy> PropositionReader<A> {
-    /// A reader that has taken no sign. It takes no memory.
-    pub(crate) fn new(alloc: A) -> Self
-        ensures given { (ss : List (SaidSign Formula)) (p : Formula) → Left result ss p → IsProposition ss p }
-        ensures only { (ss : List (SaidSign Formula)) (p : Formula) → IsProposition ss p → Left result ss p }
+    /// Takes the proposition, which ends the text. The names of its locations go into the table.
+    pub(crate) fn proposition<A: Allocator + Copy>(
+        &mut self,
+        alloc: A,
+        threads: usize,
+        locs: &mut LocNames<A>,
+    ) -> Result<Prop<A>, Fault>
+        requires threads { threads ≤ MAX_THREADS }
+        requires once { EachOnce locs.old }
+        ensures found { IfOk result (λ p. (ss : List (TerminalSyntax AtomSyntax))
+            × Terminals threads (left self.old) ss × (locs.new ≡ with_sites locs.old (sites_in ss))
+            × HasFewNodes ss × IsProposition (map (resolved locs.new) ss) (formula_of p)) }
+        ensures fault { IfErr result (λ f. f.cause ≢ Memory
+            → (ss : List (TerminalSyntax AtomSyntax)) (p : Formula)
+            → Terminals threads (left self.old) ss → HasRoomFor locs.old (sites_in ss)
+            → HasFewNodes ss → IsProposition
+            (map (resolved (with_sites locs.old (sites_in ss))) ss) p → ⊥) }
+        ensures place { IfErr result (λ f. f.at ≤ self.old.len) }
     {
-        PropositionReader {
-            alloc,
-            part: None,
-            level: Level::new(),
-            outer: Vec::new(alloc),
-        }
-    }
-
-    /// Whether an atom, a `(` or a `~` has to come next. Otherwise none of them can.
-    pub(crate) fn wants_part(&self) -> bool
-        ensures next { (s : SaidSign Formula) (ss : List (SaidSign Formula)) (p : Formula) → Left self.now (s ∷ ss) p → begins_part s ≡ result }
-        ensures end { (p : Formula) → Left self.now [] p → result ≡ false }
-    {
-        self.part.is_none()
-    }
-
-    /// Takes the next sign, or answers that it can't come next. In that case, and where there is no
-    /// memory, the reader is of no more use.
-    pub(crate) fn take(&mut self, sign: Sign) -> Result<bool, AllocError>
-        ensures given { IfOk result (λ b. b ≡ true → (ss : List (SaidSign Formula)) (p : Formula) → Left self.new ss p → Left self.old (sign_of sign ∷ ss) p) }
-        ensures only { IfOk result (λ b. b ≡ true → (ss : List (SaidSign Formula)) (p : Formula) → Left self.old (sign_of sign ∷ ss) p → Left self.new ss p) }
-        ensures refused { IfOk result (λ b. b ≡ false → (ss : List (SaidSign Formula)) (p : Formula) → Left self.old (sign_of sign ∷ ss) p → ⊥) }
-    {
-        match self.part.take() {
-            None => self.before_part(sign),
-            Some(part) => self.behind_part(part, sign),
-        }
-    }
-
-    /// Takes a sign where a part has to come.
-    fn before_part(&mut self, sign: Sign) -> Result<bool, AllocError>
-        requires { self.old.part ≡ None }
-        ensures { IfOk result (λ b. step_before (level_of self.old.level) (reverse (map level_of self.old.outer.items)) (sign_of sign) ≡ (if b then Some (place_of self.new) else None)) }
-    {
-        match sign {
-            Sign::Open => {
-                let level = mem::replace(&mut self.level, Level::new());
-                self.outer.push(level)?;
-                Ok(true)
-            }
-            Sign::Negation => {
-                self.level.negate()?;
-                Ok(true)
-            }
-            Sign::Atom(atom) => {
-                self.part = Some(atom.prop());
-                Ok(true)
-            }
-            Sign::Close | Sign::Conjunction | Sign::Disjunction => Ok(false),
-        }
-    }
-
-    /// Takes a sign behind a part, which was taken out.
-    fn behind_part(&mut self, part: Prop<A>, sign: Sign) -> Result<bool, AllocError>
-        requires { self.old.part ≡ None }
-        ensures { IfOk result (λ b. step_behind (formula_of part) (level_of self.old.level) (reverse (map level_of self.old.outer.items)) (sign_of sign) ≡ (if b then Some (place_of self.new) else None)) }
-    {
-        match sign {
-            Sign::Conjunction => {
-                self.level.conjoin(self.alloc, part)?;
-                Ok(true)
-            }
-            Sign::Disjunction => {
-                self.level.disjoin(self.alloc, part)?;
-                Ok(true)
-            }
-            Sign::Close => {
-                let Some(outer) = self.outer.pop() else {
-                    return Ok(false);
+        let mut reader = PropositionReader::new(alloc);
+        let mut nodes = 0;
+        'terminals: loop {
+            if self.next == self.tokens.len() {
+                return match reader.finish()? {
+                    Some(prop) => Ok(prop),
+                    None => Err(self.end),
                 };
-                let inner = mem::replace(&mut self.level, outer);
-                self.part = Some(inner.close(self.alloc, part)?);
-                Ok(true)
             }
-            Sign::Open | Sign::Negation | Sign::Atom(_) => Ok(false),
+            let terminal = self.next_terminal(&mut reader, nodes, threads, locs)?;
+            nodes += terminal.nodes();
         }
     }
 
-    /// The proposition, where the signs so far are one.
-    pub(crate) fn finish(self) -> Result<Option<Prop<A>>, AllocError>
-        ensures { IfOk result (λ o. MatchOption o ((p : Formula) → Left self [] p → ⊥) (λ prop. Left self [] (formula_of prop))) }
+    /// Takes a terminal that may come next behind so many nodes, and gives it to the reader. The names
+    /// of its locations go into the table.
+    fn next_terminal<A: Allocator + Copy>(
+        &mut self,
+        reader: &mut PropositionReader<A>,
+        nodes: usize,
+        threads: usize,
+        locs: &mut LocNames<A>,
+    ) -> Result<Terminal, Fault>
+        requires threads { threads ≤ MAX_THREADS }
+        requires once { EachOnce locs.old }
+        ensures room { OnOk result ((not (nodes == MAX_NODES) ||
+            (begins_word (codes "(") (left self.old) || begins_word (codes ")") (left self.old)))
+            ≡ true) }
+        ensures found { IfOk result (λ s. IsTerminal threads (left self.old)
+            (named_terminal locs.new s) (left self.new)) }
+        ensures names { IfOk result (λ s. locs.new
+            ≡ with_sites locs.old (sites_in (named_terminal locs.new s ∷ []))) }
+        ensures within { IfOk result (λ s. TerminalIn locs.new s) }
+        ensures given { IfOk result (λ s. (ss : List (TerminalSyntax Formula)) (p : Formula)
+            → Completes reader.new ss p → Completes reader.old (terminal_of s ∷ ss) p) }
+        ensures only { IfOk result (λ s. (ss : List (TerminalSyntax Formula)) (p : Formula)
+            → Completes reader.old (terminal_of s ∷ ss) p → Completes reader.new ss p) }
+        ensures fault { IfErr result (λ f. f.cause ≢ Memory
+            → (s : TerminalSyntax AtomSyntax) (rest : TokenList)
+            (ss : List (TerminalSyntax Formula)) (p : Formula)
+            → IsTerminal threads (left self.old) s rest
+            → Completes reader.old (resolved (with_sites locs.old (sites_in (s ∷ []))) s ∷ ss) p
+            → HasRoomFor locs.old (sites_in (s ∷ []))
+            → nodes + length (filter is_node (s ∷ [])) ≤ MAX_NODES → ⊥) }
+        ensures place { IfErr result (λ f. f.at ≤ self.old.len) }
+        ensures same { self.new.len ≡ self.old.len }
     {
-        let PropositionReader {
-            alloc,
-            part,
-            level,
-            outer,
-        } = self;
-        let Some(part) = part else {
-            return Ok(None);
-        };
-        if !outer.is_empty() {
-            return Ok(None);
+        let misfit = self.fault(Cause::Condition);
+        if !self.has_room(nodes) {
+            return Err(misfit);
         }
-        Ok(Some(level.close(alloc, part)?))
+        let terminal = self.terminal(reader.wants_part(), threads, locs)?;
+        if !reader.take(terminal)? {
+            return Err(misfit);
+        }
+        Ok(terminal)
+    }
+
+    /// Whether a terminal may come next behind so many nodes: a parenthesis makes none.
+    fn has_room(&self, nodes: usize) -> bool
+        ensures { result ≡ (not (nodes == MAX_NODES) ||
+            (begins_word (codes "(") (left self.now) || begins_word (codes ")") (left self.now))) }
+    {
+        nodes != MAX_NODES || self.is_parenthesis()
+    }
+
+    /// Whether a parenthesis is next.
+    fn is_parenthesis(&self) -> bool
+        ensures { result ≡ (begins_word (codes "(") (left self.now) || begins_word (codes ")")
+            (left self.now)) }
+    {
+        self.is_next("(") || self.is_next(")")
     }
 }

@@ -1,38 +1,35 @@
 //! The header and the rows of a test.
-ghost use Rattle.std.specs.Prelude.{◌≡◌, ◌≢◌, ℕ, ◌+◌, ◌<◌, ◌≤◌, true, false, List, [], ◌∷◌, ◌++◌, length, OnOk, OnErr, IfOk, IfErr, codes, if◌then◌else◌};
+ghost use Rattle.std.specs.Prelude.{◌≡◌, ◌≢◌, ◌+◌, ◌<◌, ◌≤◌, true, false, [], ◌∷◌, ◌++◌, OnOk, OnErr, IfOk, IfErr};
 ghost use Rattle.std.specs.List.{AllByRecursion};
+ghost use Rattle.lw_base.specs.Refusals.{NoneRead, NotRead};
+ghost use Rattle.lw_text.specs.Rows.{RowCells, thread_name, Header, Row, Rows, begins_stop};
 ghost use Rattle.lw_text.specs.declared.fault.Cause.TheVariants.{Memory};
-ghost use Rattle.lw_text.specs.Lists.{Separated};
-ghost use Rattle.lw_text.specs.Rows as words;
-ghost use Rattle.lw_text.specs.Rows.{thread_name, Header, Line, Rows, begins_stop};
-ghost use Rattle.lw_text.specs.Spans.{texts, Leaves};
+ghost use Rattle.lw_text.specs.Spans.{texts};
 ghost use Rattle.lw_text.specs.Places.{cells_texts, all_texts, TakesCells, TakesRows};
+ghost use Rattle.lw_text.specs.Rows as words;
 
 use crate::cell::Cell;
 use crate::cursor::Cursor;
 use crate::fault::{Cause, Fault};
 use crate::token::Token;
-use lw_base::Sequence;
-use std::alloc::{Allocator, Global};
-
-/// The greatest number of rows.
-const MAX_ROWS: usize = 64;
+use lw_base::{MAX_ROWS, MAX_THREADS, Sequence};
+use std::alloc::Allocator;
 
 /// The cells of a row.
-pub(crate) type Cells<'a, A> = Sequence<Cell<'a, A>, A>;
+pub(crate) type CellSequence<'a, A> = Sequence<Cell<'a, A>, A>;
 
 impl<'t, 'a> Cursor<'t, 'a> {
-    ghost use Rattle.lw_text.specs.Views.{remaining, left};
+    ghost use Rattle.lw_text.specs.Views.{remaining, left, MovesOn};
 
     /// Takes the header, and counts the threads.
     pub(crate) fn header(&mut self) -> Result<usize, Fault>
         ensures found { IfOk result (λ n. Header (left self.old) n (left self.new)) }
-        ensures fault { OnErr result ((n : ℕ) (rest : List (List ℕ)) → Header (left self.old) n rest → ⊥) }
-        ensures leaves { OnOk result (Leaves (remaining self.old) (remaining self.new)) }
+        ensures fault { OnErr result (NoneRead (Header (left self.old))) }
+        ensures leaves { OnOk result (MovesOn self.old self.new) }
         ensures place { IfErr result (λ f. f.at ≤ self.old.len) }
         ensures same { self.new.len ≡ self.old.len }
     {
-        for thread in 0..4usize {
+        for thread in 0..MAX_THREADS {
             self.expect(thread_name(thread), Cause::Unexpected)?;
             if self.either(";", "|", Cause::Unexpected)? {
                 return Ok(thread + 1);
@@ -56,9 +53,10 @@ impl<'t, 'a> Cursor<'t, 'a> {
         &mut self,
         alloc: A,
         threads: usize,
-    ) -> Result<Sequence<Cells<'a, A>, A>, Fault>
-        ensures found { IfOk result (λ v. Rows threads (left self.old) (all_texts v) (left self.new)) }
-        ensures fault { IfErr result (λ f. f.cause ≢ Memory → (rows : List (List (List (List ℕ)))) (rest : List (List ℕ)) → Rows threads (left self.old) rows rest → ⊥) }
+    ) -> Result<Sequence<CellSequence<'a, A>, A>, Fault>
+        ensures found { IfOk result (λ v. Rows threads (left self.old) (all_texts v)
+            (left self.new)) }
+        ensures fault { IfErr result (λ f. NotRead Memory f.cause (Rows threads (left self.old))) }
         ensures spans { IfOk result (λ v. TakesRows (remaining self.old) v (remaining self.new)) }
         ensures place { IfErr result (λ f. f.at ≤ self.old.len) }
         ensures same { self.new.len ≡ self.old.len }
@@ -71,7 +69,7 @@ impl<'t, 'a> Cursor<'t, 'a> {
             if rows.len() == MAX_ROWS {
                 return Err(self.fault(Cause::TooManyRows));
             }
-            rows.push(self.line(alloc, threads)?)?;
+            rows.push(self.row(alloc, threads)?)?;
         }
     }
 
@@ -86,9 +84,14 @@ impl<'t, 'a> Cursor<'t, 'a> {
     }
 
     /// Takes a row of so many cells.
-    fn line<A: Allocator + Copy>(&mut self, alloc: A, threads: usize) -> Result<Cells<'a, A>, Fault>
-        ensures found { IfOk result (λ v. Line threads (left self.old) (cells_texts v) (left self.new)) }
-        ensures fault { IfErr result (λ f. f.cause ≢ Memory → (cells : List (List (List ℕ))) (rest : List (List ℕ)) → Line threads (left self.old) cells rest → ⊥) }
+    fn row<A: Allocator + Copy>(
+        &mut self,
+        alloc: A,
+        threads: usize,
+    ) -> Result<CellSequence<'a, A>, Fault>
+        ensures found { IfOk result (λ v. Row threads (left self.old) (cells_texts v)
+            (left self.new)) }
+        ensures fault { IfErr result (λ f. NotRead Memory f.cause (Row threads (left self.old))) }
         ensures spans { IfOk result (λ v. TakesCells (remaining self.old) v (remaining self.new)) }
         ensures place { IfErr result (λ f. f.at ≤ self.old.len) }
         ensures same { self.new.len ≡ self.old.len }
@@ -108,12 +111,14 @@ impl<'t, 'a> Cursor<'t, 'a> {
     fn cells<A: Allocator + Copy>(
         &mut self,
         alloc: A,
-        cells: &mut Cells<'a, A>,
+        cells: &mut CellSequence<'a, A>,
     ) -> Result<usize, Fault>
         requires { cells.old ≡ [] }
-        ensures found { OnOk result (Separated words.Cell (codes "|") (codes ";") (left self.old) (cells_texts cells.new) (left self.new)) }
-        ensures fault { IfErr result (λ f. f.cause ≢ Memory → (all : List (List (List ℕ))) (rest : List (List ℕ)) → Separated words.Cell (codes "|") (codes ";") (left self.old) all rest → ⊥) }
-        ensures spans { OnOk result (TakesCells (remaining self.old) cells.new (remaining self.new)) }
+        ensures found { OnOk result (RowCells (left self.old) (cells_texts cells.new)
+            (left self.new)) }
+        ensures fault { IfErr result (λ f. NotRead Memory f.cause (RowCells (left self.old))) }
+        ensures spans { OnOk result (TakesCells (remaining self.old) cells.new
+            (remaining self.new)) }
         ensures at { IfOk result (λ at. at ≤ self.old.len) }
         ensures place { IfErr result (λ f. f.at ≤ self.old.len) }
         ensures same { self.new.len ≡ self.old.len }
@@ -134,12 +139,16 @@ impl<'t, 'a> Cursor<'t, 'a> {
     /// Takes tokens into a cell that has none yet, up to a `|` or `;`, and that mark.
     fn cell<A: Allocator>(&mut self, cell: &mut Sequence<Token<'a>, A>) -> Result<Token<'a>, Fault>
         requires { cell.old ≡ [] }
-        ensures tokens { IfOk result (λ mark. remaining self.old ≡ cell.new ++ mark ∷ remaining self.new) }
-        ensures parts { IfOk result (λ mark. left self.old ≡ texts cell.new ++ mark.text.now ∷ left self.new) }
-        ensures plain { OnOk result (AllByRecursion (λ t. words.ends_cell t ≡ false) (texts cell.new)) }
+        ensures tokens { IfOk result (λ mark. remaining self.old
+            ≡ cell.new ++ mark ∷ remaining self.new) }
+        ensures parts { IfOk result (λ mark. left self.old
+            ≡ texts cell.new ++ mark.text.now ∷ left self.new) }
+        ensures plain { OnOk result (AllByRecursion
+            (λ t. words.ends_cell t ≡ false) (texts cell.new)) }
         ensures mark { IfOk result (λ mark. words.ends_cell mark.text.now ≡ true) }
         ensures mark_at { IfOk result (λ mark. mark.at ≤ self.old.len) }
-        ensures err { IfErr result (λ f. f.cause ≢ Memory → AllByRecursion (λ t. words.ends_cell t ≡ false) (left self.old)) }
+        ensures err { IfErr result (λ f. f.cause ≢ Memory → AllByRecursion
+            (λ t. words.ends_cell t ≡ false) (left self.old)) }
         ensures place { IfErr result (λ f. f.at ≤ self.old.len) }
         ensures same { self.new.len ≡ self.old.len }
     {
@@ -154,7 +163,7 @@ impl<'t, 'a> Cursor<'t, 'a> {
 }
 
 fn thread_name(thread: usize) -> &'static str
-    requires { thread < 4 }
+    requires { thread < MAX_THREADS }
     ensures { result.now ≡ thread_name thread }
 {
     match thread {

@@ -1,11 +1,7 @@
-//! The bytes at the front of a text.
-ghost use Rattle.std.specs.Prelude.{◌≡◌, ◌==◌, [], ◌∷◌, ◌++◌, MatchOption, false, true};
-ghost use Rattle.std.specs.List.{AllByRecursion};
-ghost use Rattle.lw_base.specs.Characters as characters;
+//! The bytes that a text begins with, one or two of them.
+ghost use Rattle.std.specs.Prelude.{◌≡◌, ◌==◌, [], ◌∷◌, MatchOption, false};
 ghost use Rattle.lw_base.specs.Characters.{begins};
 ghost use Rattle.lw_text.specs.Tokens.{begins_pair};
-
-use lw_base::is_word_byte;
 
 /// The first byte, and what stands behind it.
 pub(crate) fn split(bytes: &[u8]) -> Option<(u8, &[u8])>
@@ -17,7 +13,8 @@ pub(crate) fn split(bytes: &[u8]) -> Option<(u8, &[u8])>
 
 /// What stands behind this byte, or `None` where another stands at the front.
 pub(crate) fn behind_byte(bytes: &[u8], byte: u8) -> Option<&[u8]>
-    ensures { MatchOption result (begins (λ b. b == byte) bytes.now ≡ false) (λ rest. bytes.now ≡ byte ∷ rest.now) }
+    ensures { MatchOption result (begins (λ b. b == byte) bytes.now ≡ false)
+        (λ rest. bytes.now ≡ byte ∷ rest.now) }
 {
     let (first, rest) = split(bytes)?;
     if first == byte { Some(rest) } else { None }
@@ -25,7 +22,8 @@ pub(crate) fn behind_byte(bytes: &[u8], byte: u8) -> Option<&[u8]>
 
 /// What stands behind these two bytes, or `None` where others stand at the front.
 pub(crate) fn behind(bytes: &[u8], first: u8, second: u8) -> Option<&[u8]>
-    ensures { MatchOption result (begins_pair first second bytes.now ≡ false) (λ rest. bytes.now ≡ first ∷ second ∷ rest.now) }
+    ensures { MatchOption result (begins_pair first second bytes.now ≡ false)
+        (λ rest. bytes.now ≡ first ∷ second ∷ rest.now) }
 {
     let (a, rest) = split(bytes)?;
     let (b, rest) = split(rest)?;
@@ -34,13 +32,4 @@ pub(crate) fn behind(bytes: &[u8], first: u8, second: u8) -> Option<&[u8]>
     } else {
         None
     }
-}
-
-/// The letters, digits and `_` at the front, and what stands behind them.
-pub(crate) fn word(bytes: &[u8]) -> (&[u8], &[u8])
-    ensures parts { bytes.now ≡ result.0.now ++ result.1.now }
-    ensures all { AllByRecursion (λ b. characters.is_word_byte b ≡ true) result.0.now }
-    ensures longest { begins characters.is_word_byte result.1.now ≡ false }
-{
-    bytes.split_at(bytes.iter().take_while(|b| is_word_byte(**b)).count())
 }

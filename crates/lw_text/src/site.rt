@@ -1,15 +1,16 @@
-//! What an entry of the initial block, an element of the list of names or an atom speaks of.
-ghost use Rattle.std.specs.Prelude.{◌≡◌, ◌≢◌, ℕ, ◌≤◌, List, [], ◌∷◌, length, codes, nat_lt, Some, slice_get, OnOk, OnErr, IfOk, IfErr};
+//! A site: a location or a register of a thread, as the block, the list of names and atoms speak of.
+ghost use Rattle.std.specs.Prelude.{◌≡◌, ◌≢◌, ℕ, ◌≤◌, [], ◌∷◌, codes, nat_lt, Some, slice_get, OnOk, OnErr, IfOk, IfErr};
+ghost use Rattle.lw_base.specs.Refusals.{NoneRead};
+ghost use Rattle.lw_base.specs.Types.{Bytes, NameTable, TokenList};
 ghost use Rattle.lw_base.specs.declared.head.Arch.TheVariants.{Source};
 ghost use Rattle.lw_base.specs.Names.{IsLocation};
 ghost use Rattle.lw_base.specs.Registers.{IsRegister};
-ghost use Rattle.lw_base.specs.Tables.{with_name, with_names};
+ghost use Rattle.lw_base.specs.Tables.{with_name};
+ghost use Rattle.lw_text.specs.Sites.{HasRoomFor, HasRoomForName, with_sites, SiteSyntax, InMemory, InThread, IsSite, ThreadAllowed, Value};
 ghost use Rattle.lw_text.specs.declared.fault.Cause.TheVariants.{Memory};
-ghost use Rattle.lw_text.specs.Tokens.{IsNumber};
-ghost use Rattle.lw_text.specs.Sites.{Site as SaidSite, InMemory, InThread, IsSite, IsThere, Value, site_names};
 ghost use Rattle.lw_text.specs.Frames.{same_seen};
-ghost use Rattle.lw_text.specs.Placed as placed;
-ghost use Rattle.lw_text.specs.Placed.{named, seen_of, IsIn};
+ghost use Rattle.lw_text.specs.Resolved.{named, seen_of, IsIn};
+ghost use Rattle.lw_text.specs.Resolved as resolved;
 
 use crate::cursor::Cursor;
 use crate::fault::{Cause, Fault};
@@ -18,7 +19,7 @@ use crate::token::Token;
 use lw_base::{Arch, Loc, LocNames, Reg, Word, is_location, is_name, reg_named};
 use std::alloc::Allocator;
 
-/// A location, by its place in the table, or a register of a thread, which the test may lack.
+/// A location, by its number, or a register of a thread, which the test may lack.
 #[derive(Clone, Copy)]
 pub(crate) enum Site {
     Location(Loc),
@@ -45,8 +46,8 @@ impl Site {
     }
 
     /// Whether its thread is one of so many. A location has none.
-    pub(crate) fn is_there(&self, threads: usize) -> bool
-        ensures { result ≡ placed.is_there threads self.now }
+    pub(crate) fn thread_exists(&self, threads: usize) -> bool
+        ensures { result ≡ resolved.thread_exists threads self.now }
     {
         match self {
             Site::Location(_) => true,
@@ -56,23 +57,27 @@ impl Site {
 }
 
 impl<'t, 'a> Cursor<'t, 'a> {
-    ghost use Rattle.lw_text.specs.Spans.{Leaves};
-    ghost use Rattle.lw_text.specs.Views.{remaining, left};
+    ghost use Rattle.lw_text.specs.Views.{left, MovesOn};
 
     /// Takes a site: a location, whose name goes into the table, or a register of one of so many
-    /// threads. Tokens that don't fit are told with the cause.
+    /// threads, or of any where their number is not known yet. Tokens that don't fit are told with the
+    /// cause.
     pub(crate) fn site<A: Allocator + Copy>(
         &mut self,
         locs: &mut LocNames<A>,
-        threads: usize,
+        threads: Option<usize>,
         cause: Cause,
     ) -> Result<Site, Fault>
-        ensures found { IfOk result (λ s. IsSite (left self.old) (named locs.new s) (left self.new)) }
-        ensures there { IfOk result (λ s. IsThere threads (named locs.new s)) }
-        ensures names { IfOk result (λ s. locs.new ≡ with_names locs.old (site_names (named locs.new s ∷ []))) }
+        requires { cause ≢ Memory }
+        ensures found { IfOk result (λ s. IsSite (left self.old) (named locs.new s)
+            (left self.new)) }
+        ensures there { IfOk result (λ s. ThreadAllowed threads (named locs.new s)) }
+        ensures names { IfOk result (λ s. locs.new ≡ with_sites locs.old (named locs.new s ∷ [])) }
         ensures within { IfOk result (λ s. IsIn locs.new s) }
-        ensures fault { IfErr result (λ f. f.cause ≢ Memory → (s : SaidSite) (rest : List (List ℕ)) → IsSite (left self.old) s rest → IsThere threads s → length (with_names locs.old (site_names (s ∷ []))) ≤ 8 → ⊥) }
-        ensures leaves { OnOk result (Leaves (remaining self.old) (remaining self.new)) }
+        ensures fault { IfErr result (λ f. f.cause ≢ Memory → (s : SiteSyntax) (rest : TokenList)
+            → IsSite (left self.old) s rest → ThreadAllowed threads s → HasRoomFor locs.old (s ∷ [])
+            → ⊥) }
+        ensures leaves { OnOk result (MovesOn self.old self.new) }
         ensures place { IfErr result (λ f. f.at ≤ self.old.len) }
         ensures same { self.new.len ≡ self.old.len }
     {
@@ -81,7 +86,7 @@ impl<'t, 'a> Cursor<'t, 'a> {
             return self.in_brackets(locs, cause);
         }
         if let Some(thread) = number(first.text) {
-            if !is_thread(thread, threads) {
+            if !is_allowed(thread, threads) {
                 return Err(Fault {
                     at: first.at,
                     cause: Cause::Name,
@@ -99,10 +104,14 @@ impl<'t, 'a> Cursor<'t, 'a> {
         locs: &mut LocNames<A>,
         cause: Cause,
     ) -> Result<Site, Fault>
-        ensures found { IfOk result (λ s. (x : List ℕ) × (left self.old ≡ x ∷ codes "]" ∷ left self.new) × IsLocation x × (named locs.new s ≡ InMemory x) × (locs.new ≡ with_name locs.old x)) }
+        requires { cause ≢ Memory }
+        ensures found { IfOk result (λ s. (x : Bytes)
+            × (left self.old ≡ x ∷ codes "]" ∷ left self.new) × IsLocation x
+            × (named locs.new s ≡ InMemory x) × (locs.new ≡ with_name locs.old x)) }
         ensures within { IfOk result (λ s. IsIn locs.new s) }
-        ensures fault { IfErr result (λ f. f.cause ≢ Memory → (x : List ℕ) (rest : List (List ℕ)) → left self.old ≡ x ∷ codes "]" ∷ rest → IsLocation x → length (with_name locs.old x) ≤ 8 → ⊥) }
-        ensures leaves { OnOk result (Leaves (remaining self.old) (remaining self.new)) }
+        ensures fault { IfErr result (λ f. f.cause ≢ Memory → (x : Bytes) (rest : TokenList)
+            → left self.old ≡ x ∷ codes "]" ∷ rest → IsLocation x → HasRoomForName locs.old x → ⊥) }
+        ensures leaves { OnOk result (MovesOn self.old self.new) }
         ensures place { IfErr result (λ f. f.at ≤ self.old.len) }
         ensures same { self.new.len ≡ self.old.len }
     {
@@ -114,10 +123,14 @@ impl<'t, 'a> Cursor<'t, 'a> {
 
     /// Takes a `:` and the name of a register of the thread.
     fn of_thread(&mut self, thread: Word, cause: Cause) -> Result<Site, Fault>
-        ensures found { IfOk result (λ s. (q : List ℕ) × (r : ℕ) × (left self.old ≡ codes ":" ∷ q ∷ left self.new) × IsRegister Source q r × ((names : List (List ℕ)) → named names s ≡ InThread thread r)) }
-        ensures within { IfOk result (λ s. (names : List (List ℕ)) → IsIn names s) }
-        ensures fault { OnErr result ((q : List ℕ) (r : ℕ) (rest : List (List ℕ)) → left self.old ≡ codes ":" ∷ q ∷ rest → IsRegister Source q r → ⊥) }
-        ensures leaves { OnOk result (Leaves (remaining self.old) (remaining self.new)) }
+        requires { cause ≢ Memory }
+        ensures found { IfOk result (λ s. (q : Bytes) × (r : ℕ)
+            × (left self.old ≡ codes ":" ∷ q ∷ left self.new) × IsRegister Source q r
+            × ((names : NameTable) → named names s ≡ InThread thread r)) }
+        ensures within { IfOk result (λ s. (names : NameTable) → IsIn names s) }
+        ensures fault { OnErr result ((q : Bytes) (r : ℕ) (rest : TokenList) → left self.old
+            ≡ codes ":" ∷ q ∷ rest → IsRegister Source q r → ⊥) }
+        ensures leaves { OnOk result (MovesOn self.old self.new) }
         ensures place { IfErr result (λ f. f.at ≤ self.old.len) }
         ensures same { self.new.len ≡ self.old.len }
     {
@@ -128,9 +141,12 @@ impl<'t, 'a> Cursor<'t, 'a> {
 
     /// Takes the name of a register.
     fn register(&mut self, cause: Cause) -> Result<Reg, Fault>
-        ensures ok { IfOk result (λ r. (q : List ℕ) × (left self.old ≡ q ∷ left self.new) × IsRegister Source q r) }
-        ensures err { OnErr result ((q : List ℕ) (r : ℕ) (rest : List (List ℕ)) → left self.old ≡ q ∷ rest → IsRegister Source q r → ⊥) }
-        ensures leaves { OnOk result (Leaves (remaining self.old) (remaining self.new)) }
+        requires { cause ≢ Memory }
+        ensures ok { IfOk result (λ r. (q : Bytes) × (left self.old ≡ q ∷ left self.new)
+            × IsRegister Source q r) }
+        ensures err { OnErr result ((q : Bytes) (r : ℕ) (rest : TokenList) → left self.old
+            ≡ q ∷ rest → IsRegister Source q r → ⊥) }
+        ensures leaves { OnOk result (MovesOn self.old self.new) }
         ensures place { IfErr result (λ f. f.at ≤ self.old.len) }
         ensures same { self.new.len ≡ self.old.len }
     {
@@ -143,9 +159,10 @@ impl<'t, 'a> Cursor<'t, 'a> {
 
     /// Takes a `=` and a number.
     pub(crate) fn value(&mut self, cause: Cause) -> Result<Word, Fault>
+        requires { cause ≢ Memory }
         ensures ok { IfOk result (λ v. Value (left self.old) v (left self.new)) }
-        ensures err { OnErr result ((v : ℕ) (rest : List (List ℕ)) → Value (left self.old) v rest → ⊥) }
-        ensures leaves { OnOk result (Leaves (remaining self.old) (remaining self.new)) }
+        ensures err { OnErr result (NoneRead (Value (left self.old))) }
+        ensures leaves { OnOk result (MovesOn self.old self.new) }
         ensures place { IfErr result (λ f. f.at ≤ self.old.len) }
         ensures same { self.new.len ≡ self.old.len }
     {
@@ -168,16 +185,28 @@ fn is_thread(number: Word, threads: usize) -> bool
     (number as usize) < threads
 }
 
-/// The place of the location that a token names. It is put into the table where it isn't there yet.
+/// The same, or any number where that of the threads is not known yet.
+fn is_allowed(number: Word, threads: Option<usize>) -> bool
+    ensures { result ≡ resolved.is_allowed threads number }
+{
+    match threads {
+        Some(threads) => is_thread(number, threads),
+        None => true,
+    }
+}
+
+/// The number of the location that a token names. It is put into the table where it isn't there yet.
 fn enter<A: Allocator + Copy>(
     name: Token<'_>,
     locs: &mut LocNames<A>,
     cause: Cause,
 ) -> Result<Loc, Fault>
+    requires { cause ≢ Memory }
     ensures name { OnOk result (IsLocation name.entry.text.now) }
     ensures found { IfOk result (λ loc. slice_get locs.new loc ≡ Some name.entry.text.now) }
     ensures names { OnOk result (locs.new ≡ with_name locs.old name.entry.text.now) }
-    ensures fault { IfErr result (λ f. f.cause ≢ Memory → IsLocation name.entry.text.now → length (with_name locs.old name.entry.text.now) ≤ 8 → ⊥) }
+    ensures fault { IfErr result (λ f. f.cause ≢ Memory → IsLocation name.entry.text.now
+        → HasRoomForName locs.old name.entry.text.now → ⊥) }
     ensures place { IfErr result (λ f. f.at ≤ name.entry.at) }
 {
     if !is_location(name.text) {
@@ -195,6 +224,7 @@ fn enter<A: Allocator + Copy>(
 /// The fault where a name should stand that is free there: a name that isn't is told as that, another
 /// token with the cause.
 fn no_name(token: Token<'_>, cause: Cause) -> Fault
+    requires { cause ≢ Memory }
     ensures { result.at ≡ token.entry.at }
 {
     let cause = if is_name(token.text) {

@@ -1,4 +1,4 @@
-//! A token of a text.
+//! A token of a text: its place and its bytes.
 
 /// A token: the place of its first byte in the text, and its bytes.
 #[derive(Clone, Copy, Debug, PartialEq, Eq)]

@@ -1,5 +1,5 @@
 use Rattle.std.proofs.Common.{rules}
 use Rattle.lw_base.proofs.name.is_name.Goals as goal
 
-pub returns-then-text-le-MAX_BYTES : goal.returns-then-text-le-MAX_BYTES
-returns-then-text-le-MAX_BYTES c = search rules
+pub returns-then-text-le-MAX_NAME_BYTES : goal.returns-then-text-le-MAX_NAME_BYTES
+returns-then-text-le-MAX_NAME_BYTES c = search rules

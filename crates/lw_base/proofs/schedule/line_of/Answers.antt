@@ -1,6 +1,6 @@
 use Rattle.std.proofs.Common.{◌∙◌, ap, subst, sym, Some, Contains}
 use Rattle.std.proofs.lemmas.Bool.{false≢true}
-use Rattle.std.proofs.lemmas.Result.{err_from_is_err_and}
+use Rattle.lw_base.proofs.Returns.{passed_on}
 use Rattle.lw_base.proofs.Shapes.{uncut, no_name, no_cpu, no_location, found}
 use Rattle.lw_base.proofs.schedule.line_of.Goals as goal
 
@@ -13,8 +13,7 @@ returns-then-not-is_word_text-clause-err g c =
 
 pub returns-in_err-cpu-clause-err : goal.returns-in_err-cpu-clause-err
 returns-in_err-cpu-clause-err g c =
-    let p = err_from_is_err_and c.from_residual.result c.from_residual.ensures.1 in
-    rw (p.1, p.2) (no_cpu c.args.names.now _ _ _ c.in-Some.ensures.0 c.in-Some.ensures.1 (c.is_word_text.ensures.0 c.if-not-is_word_text.false) _ c.in_err-cpu.ensures.err)
+    passed_on _ _ c.from_residual.ensures.1 (no_cpu c.args.names.now _ _ _ c.in-Some.ensures.0 c.in-Some.ensures.1 (c.is_word_text.ensures.0 c.if-not-is_word_text.false) _ c.in_err-cpu.ensures.err)
 
 pub returns-in-None-clause-err : goal.returns-in-None-clause-err
 returns-in-None-clause-err g c =

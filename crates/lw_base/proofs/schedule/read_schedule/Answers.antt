@@ -7,44 +7,44 @@ use Rattle.lw_base.proofs.schedule.read_schedule.Goals as goal
 
 pub loop-rest-init : goal.loop-rest-init
 loop-rest-init g c =
-    let back = sym c.as_bytes.ensures.value ∙ c.blanks.ensures.parts in
+    let back = sym c.as_bytes.ensures.value ∙ c.front.ensures.parts in
     record {
       events = rw c.new-events.ensures tt;
-      words = rw c.new-events.ensures (words-behind _ _ _ back c.blanks.ensures.all);
-      others = c.blanks.ensures.longest;
+      words = rw c.new-events.ensures (words-behind _ _ _ back c.front.ensures.all);
+      others = c.front.ensures.longest;
       shorter = no_longer _ _ _ back;
-      back = (c.blanks.result.0.now, back);
+      back = (c.front.result.0.now, back);
     }
 
 pub loop-rest-preserved : goal.loop-rest-preserved
 loop-rest-preserved g c =
     let some : 0 < length c.loop-rest.rest.now = search rules in
-    let first = words-first _ _ _ c.until_blank.ensures.parts some c.loop-rest.invariant.others c.until_blank.ensures.all c.until_blank.ensures.longest in
-    let rest = words-behind _ _ _ c.blanks-in-loop-rest.ensures.parts c.blanks-in-loop-rest.ensures.all in
-    let back = behind_more _ _ _ _ _ _ _ c.loop-rest.invariant.back.1 c.until_blank.ensures.parts c.blanks-in-loop-rest.ensures.parts in
+    let first = words-first _ _ _ c.front-in-loop-rest.ensures.parts some c.loop-rest.invariant.others c.front-in-loop-rest.ensures.all c.front-in-loop-rest.ensures.longest in
+    let rest = words-behind _ _ _ c.front-in-loop-rest-2.ensures.parts c.front-in-loop-rest-2.ensures.all in
+    let back = behind_more _ _ _ _ _ _ _ c.loop-rest.invariant.back.1 c.front-in-loop-rest.ensures.parts c.front-in-loop-rest-2.ensures.parts in
     record {
       events = more_events c.args.names.now c.loop-rest.events c.push.new.self c.in-Ok.event c.in_ok-push-in-Ok.ensures.ok c.loop-rest.invariant.events c.in-Ok.ensures.ok.0;
-      words = more_words c.args.names.now c.args.text.now c.loop-rest.rest.now c.until_blank.result.0.now c.until_blank.result.1.now c.blanks-in-loop-rest.result.1.now c.loop-rest.events c.push.new.self c.in-Ok.event c.loop-rest.invariant.words first rest c.in-Ok.ensures.ok.1 c.in_ok-push-in-Ok.ensures.ok;
-      others = c.blanks-in-loop-rest.ensures.longest;
+      words = more_words c.args.names.now c.args.text.now c.loop-rest.rest.now c.front-in-loop-rest.result.0.now c.front-in-loop-rest.result.1.now c.front-in-loop-rest-2.result.1.now c.loop-rest.events c.push.new.self c.in-Ok.event c.loop-rest.invariant.words first rest c.in-Ok.ensures.ok.1 c.in_ok-push-in-Ok.ensures.ok;
+      others = c.front-in-loop-rest-2.ensures.longest;
       shorter = no_longer _ _ _ back;
-      back = (c.loop-rest.invariant.back.0 ++ c.until_blank.result.0.now ++ c.blanks-in-loop-rest.result.0.now, back);
+      back = (c.loop-rest.invariant.back.0 ++ c.front-in-loop-rest.result.0.now ++ c.front-in-loop-rest-2.result.0.now, back);
     }
 
 pub returns-in-Err-clause-fault : goal.returns-in-Err-clause-fault
 returns-in-Err-clause-fault g c known =
     let some : 0 < length c.loop-rest.rest.now = search rules in
-    let first = words-first _ _ _ c.until_blank.ensures.parts some c.loop-rest.invariant.others c.until_blank.ensures.all c.until_blank.ensures.longest in
+    let first = words-first _ _ _ c.front-in-loop-rest.ensures.parts some c.loop-rest.invariant.others c.front-in-loop-rest.ensures.all c.front-in-loop-rest.ensures.longest in
     no_schedule c.args.names.now c.args.text.now c.loop-rest.rest.now c.loop-rest.events _ _ c.loop-rest.invariant.words first (no_event _ c.len-len.ensures.table _ _ c.in-Err.ensures.err)
 
 pub returns-in-Err-clause-first : goal.returns-in-Err-clause-first
 returns-in-Err-clause-first g c known =
     let some : 0 < length c.loop-rest.rest.now = search rules in
-    let first = words-first _ _ _ c.until_blank.ensures.parts some c.loop-rest.invariant.others c.until_blank.ensures.all c.until_blank.ensures.longest in
+    let first = words-first _ _ _ c.front-in-loop-rest.ensures.parts some c.loop-rest.invariant.others c.front-in-loop-rest.ensures.all c.front-in-loop-rest.ensures.longest in
     let back = drop-back c.args.text.now c.loop-rest.invariant.back.0 c.loop-rest.rest.now c.loop-rest.invariant.back.1 in
     record {
       before = c.loop-rest.events;
-      word = c.until_blank.result.0.now;
-      further = words c.until_blank.result.1.now;
+      word = c.front-in-loop-rest.result.0.now;
+      further = words c.front-in-loop-rest.result.1.now;
       events = c.loop-rest.invariant.events;
       place = ap words back ∙ first;
       front = ap (begins is_blank) back ∙ c.loop-rest.invariant.others;

@@ -1,4 +1,5 @@
 use Rattle.std.proofs.lemmas.Result.{err_from_is_err_and}
+use Rattle.lw_base.proofs.Returns.{passed_on}
 use Rattle.lw_source.proofs.Phrases.{maybe_cause}
 use Rattle.lw_source.proofs.Drafts.{maybe_some, maybe_none, no_room, only_some, surplus_cause, first_within}
 use Rattle.lw_source.proofs.column.maybe_statement.Goals as goal
@@ -11,14 +12,13 @@ returns-clause-room g c stmt is full = c.if-above-eq-MAX_STATEMENTS.false full
 
 pub returns-in_err-read_statement-clause-cause : goal.returns-in_err-read_statement-clause-cause
 returns-in_err-read_statement-clause-cause g c =
-    let p = err_from_is_err_and c.from_residual.result c.from_residual.ensures.1 in
-    rw (p.1, p.2) (maybe_cause _ _ _ _ _ c.in_err-read_statement.ensures.cause)
+    passed_on _ _ c.from_residual.ensures.1 (maybe_cause _ _ _ _ _ c.in_err-read_statement.ensures.cause)
 
 pub returns-in_default-clause-found : goal.returns-in_default-clause-found
 returns-in_default-clause-found g c = maybe_none _ _ c.in_default.ensures.value
 
 pub returns-then-above-eq-MAX_STATEMENTS-clause-fault : goal.returns-then-above-eq-MAX_STATEMENTS-clause-fault
-returns-then-above-eq-MAX_STATEMENTS-clause-fault g c known s says few names = no_room _ c.in-Some.first.now c.in-Some.ensures.value c.args.above c.if-above-eq-MAX_STATEMENTS.true s says few
+returns-then-above-eq-MAX_STATEMENTS-clause-fault g c known = no_room _ c.in-Some.first.now c.in-Some.ensures.value _ c.args.above c.if-above-eq-MAX_STATEMENTS.true
 
 pub returns-then-above-eq-MAX_STATEMENTS-clause-cause : goal.returns-then-above-eq-MAX_STATEMENTS-clause-cause
 returns-then-above-eq-MAX_STATEMENTS-clause-cause g c = surplus_cause _ c.in-Some.first.now c.in-Some.ensures.value _ _ _ _ c.if-above-eq-MAX_STATEMENTS.true c.surplus.ensures.place c.surplus.ensures.cause
@@ -28,13 +28,11 @@ returns-then-above-eq-MAX_STATEMENTS-clause-place g c len within = first_within 
 
 pub returns-in_err-read_statement-clause-fault : goal.returns-in_err-read_statement-clause-fault
 returns-in_err-read_statement-clause-fault g c =
-    let p = err_from_is_err_and c.from_residual.result c.from_residual.ensures.1 in
-    rw (p.1, p.2) (λ known s says few names. only_some _ c.in-Some.first.now c.in-Some.ensures.value _ (c.in_err-read_statement.ensures.fault known) s says names)
+    passed_on _ _ c.from_residual.ensures.1 (λ known. only_some _ c.in-Some.first.now c.in-Some.ensures.value c.args.above _ (c.in_err-read_statement.ensures.fault known))
 
 pub returns-in_err-read_statement-clause-place : goal.returns-in_err-read_statement-clause-place
 returns-in_err-read_statement-clause-place g c len within =
-    let p = err_from_is_err_and c.from_residual.result c.from_residual.ensures.1 in
-    rw (p.1, p.2) (c.in_err-read_statement.ensures.place len within)
+    passed_on _ _ c.from_residual.ensures.1 (c.in_err-read_statement.ensures.place len within)
 
 pub returns-in_err-read_statement-clause-found : goal.returns-in_err-read_statement-clause-found
 returns-in_err-read_statement-clause-found g c =

@@ -1,4 +1,5 @@
-use Rattle.std.proofs.lemmas.Result.{IfOk-weaker, IfErr-weaker, err_from_is_err_and}
+use Rattle.std.proofs.lemmas.Result.{err_from_is_err_and, IfOk-weaker, IfErr-weaker}
+use Rattle.lw_base.proofs.Returns.{passed_on}
 use Rattle.lw_source.proofs.ColumnsRead.{column_found, column_none}
 use Rattle.lw_source.proofs.column.read_column.Goals as goal
 
@@ -10,25 +11,22 @@ returns-clause-found g c =
 pub returns-clause-fault : goal.returns-clause-fault
 returns-clause-fault g c =
     let fault = rw c.as_slice.ensures at c.resolve.ensures.fault in
-    IfErr-weaker c.resolve.result _ _ (λ f none known t column few. column_none _ _ _ _ _ c.in_ok-draft.ensures.found (none known) t column) (fault _ _ c.in_ok-draft.ensures.found)
+    IfErr-weaker c.resolve.result _ _ (λ f none known t (column, few). column_none _ _ _ _ _ c.in_ok-draft.ensures.found (none known) t column) (fault _ _ c.in_ok-draft.ensures.found)
 
 pub resolve-requires : goal.resolve-requires
 resolve-requires g c = rw c.as_slice.ensures (c.args.locs.now, c.read_cells.new.locs, c.in_ok-draft.ensures.found)
 
 pub returns-in_err-draft-clause-fault : goal.returns-in_err-draft-clause-fault
 returns-in_err-draft-clause-fault g c =
-    let p = err_from_is_err_and c.from_residual.result c.from_residual.ensures.1 in
-    rw (p.1, p.2) c.in_err-draft.ensures.fault
+    passed_on _ _ c.from_residual.ensures.1 c.in_err-draft.ensures.fault
 
 pub returns-in_err-draft-clause-cause : goal.returns-in_err-draft-clause-cause
 returns-in_err-draft-clause-cause g c =
-    let p = err_from_is_err_and c.from_residual.result c.from_residual.ensures.1 in
-    rw (p.1, p.2) c.in_err-draft.ensures.cause
+    passed_on _ _ c.from_residual.ensures.1 c.in_err-draft.ensures.cause
 
 pub returns-in_err-draft-clause-place : goal.returns-in_err-draft-clause-place
 returns-in_err-draft-clause-place g c len within =
-    let p = err_from_is_err_and c.from_residual.result c.from_residual.ensures.1 in
-    rw (p.1, p.2) (c.in_err-draft.ensures.place len within)
+    passed_on _ _ c.from_residual.ensures.1 (c.in_err-draft.ensures.place len within)
 
 pub returns-clause-cause : goal.returns-clause-cause
 returns-clause-cause g c = c.resolve.ensures.cause c.args.locs.now

@@ -1,5 +1,5 @@
 use Rattle.lw_text.specs.Spans.{texts}
-use Rattle.lw_source.proofs.LabelRows.{colon_or_not, at_index, get_text}
+use Rattle.lw_source.proofs.Labels.{colon_or_not, at_index, get_text}
 use Rattle.lw_source.proofs.label.is_colon.Goals as goal
 
 pub returns : goal.returns

@@ -1,7 +1,8 @@
 use Rattle.std.proofs.Common.{sym, ◌∙◌, arith, true≢false}
-use Rattle.std.proofs.lemmas.Result.{err_from_is_err_and}
 use Rattle.std.proofs.lemmas.Map.Text.{btree_map_updates_str}
-use Rattle.lw_source.proofs.LabelRows.{label_cause, labels_start, labels_more, labels_on, labels_twice, is_there, twice_in, at_index, next_within, two_within}
+use Rattle.std.proofs.lemmas.Result.{err_from_is_err_and}
+use Rattle.lw_base.proofs.Returns.{passed_on}
+use Rattle.lw_source.proofs.Labels.{label_cause, labels_start, labels_more, labels_on, labels_twice, label_known, twice_in, at_index, next_within, two_within}
 use Rattle.lw_source.proofs.label.read_labels.Goals as goal
 
 pub loop-token-init : goal.loop-token-init
@@ -18,31 +19,29 @@ loop-token-preserved g c =
 
 pub returns-in_err-label-clause-fault : goal.returns-in_err-label-clause-fault
 returns-in_err-label-clause-fault g c =
-    let p = err_from_is_err_and c.from_residual.result c.from_residual.ensures.1 in
     let colon = c.is_colon.ensures.0 c.loop-token-test.true in
-    rw (p.1, p.2) (λ known ps leads ks mid h none once. c.in_err-label.ensures.err (labels_on _ _ ps _ _ (c.loop-token.invariant.read ps leads) _ (at_index c.args.tokens.now c.loop-token.next _ (next_within _ _ _ colon)) colon ks mid h none).2)
+    passed_on _ _ c.from_residual.ensures.1 (λ ps leads known ks mid (h, none, once). c.in_err-label.ensures.err (labels_on _ _ ps _ _ (c.loop-token.invariant.read ps leads) _ (at_index c.args.tokens.now c.loop-token.next _ (next_within _ _ _ colon)) colon ks mid h none).2)
 
 pub returns-then-is_some-clause-fault : goal.returns-then-is_some-clause-fault
-returns-then-is_some-clause-fault g c known ps leads ks mid h none once =
+returns-then-is_some-clause-fault g c ps leads known ks mid (h, none, once) =
     let colon = c.is_colon.ensures.0 c.loop-token-test.true in
     let token = at_index c.args.tokens.now c.loop-token.next _ (next_within _ _ _ colon) in
     let read = c.loop-token.invariant.read ps leads in
-    labels_twice _ _ ps _ _ read _ token colon ks mid h none once (is_there _ _ ps _ _ read _ token colon _ c.in_ok-insert.ensures.old (sym c.is_some.ensures ∙ c.if-is_some.true))
+    labels_twice _ _ ps _ _ read _ token colon ks mid h none once (label_known _ _ ps _ _ read _ token colon _ c.in_ok-insert.ensures.old (sym c.is_some.ensures ∙ c.if-is_some.true))
 
 pub returns-then-is_some-clause-cause : goal.returns-then-is_some-clause-cause
 returns-then-is_some-clause-cause g c ps leads =
     let colon = c.is_colon.ensures.0 c.loop-token-test.true in
     let token = at_index c.args.tokens.now c.loop-token.next _ (next_within _ _ _ colon) in
     let read = c.loop-token.invariant.read ps leads in
-    twice_in _ _ ps _ _ read _ token colon (is_there _ _ ps _ _ read _ token colon _ c.in_ok-insert.ensures.old (sym c.is_some.ensures ∙ c.if-is_some.true))
+    twice_in _ _ ps _ _ read _ token colon (label_known _ _ ps _ _ read _ token colon _ c.in_ok-insert.ensures.old (sym c.is_some.ensures ∙ c.if-is_some.true))
 
 pub bounds-tokens-next : goal.bounds-tokens-next
 bounds-tokens-next g c = next_within _ _ _ (c.is_colon.ensures.0 c.loop-token-test.true)
 
 pub returns-in_err-label-clause-place : goal.returns-in_err-label-clause-place
 returns-in_err-label-clause-place g c len within =
-    let p = err_from_is_err_and c.from_residual.result c.from_residual.ensures.1 in
-    rw (p.1, p.2) (c.in_err-label.ensures.place len (within c.loop-token.next _ (next_within _ _ _ (c.is_colon.ensures.0 c.loop-token-test.true))))
+    passed_on _ _ c.from_residual.ensures.1 (c.in_err-label.ensures.place len (within c.loop-token.next _ (next_within _ _ _ (c.is_colon.ensures.0 c.loop-token-test.true))))
 
 pub returns-then-is_some-clause-place : goal.returns-then-is_some-clause-place
 returns-then-is_some-clause-place g c len within = within c.loop-token.next _ (next_within _ _ _ (c.is_colon.ensures.0 c.loop-token-test.true))
@@ -50,7 +49,7 @@ returns-then-is_some-clause-place g c len within = within c.loop-token.next _ (n
 pub returns-in_err-insert-clause-fault : goal.returns-in_err-insert-clause-fault
 returns-in_err-insert-clause-fault g c =
     let p = err_from_is_err_and c.from_residual-in_err-insert.result c.from_residual-in_err-insert.ensures.1 in
-    rw p.1 (λ known. absurd (known p.2.1))
+    rw p.1 (λ ps leads known. absurd (known p.2.1))
 
 pub returns-in_err-insert-clause-cause : goal.returns-in_err-insert-clause-cause
 returns-in_err-insert-clause-cause g c =
@@ -87,8 +86,7 @@ returns-in_err-insert-clause-stops g c =
 
 pub returns-in_err-label-clause-cause : goal.returns-in_err-label-clause-cause
 returns-in_err-label-clause-cause g c =
-    let p = err_from_is_err_and c.from_residual.result c.from_residual.ensures.1 in
-    rw (p.1, p.2) (λ ps leads. label_cause _ _ _ _ c.in_err-label.ensures.cause)
+    passed_on _ _ c.from_residual.ensures.1 (λ ps leads. label_cause _ _ _ _ c.in_err-label.ensures.cause)
 
 pub returns-clause-stops : goal.returns-clause-stops
 returns-clause-stops g c colon = true≢false (sym (c.is_colon.ensures.1 colon) ∙ c.loop-token-test.false)

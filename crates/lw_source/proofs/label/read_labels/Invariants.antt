@@ -1,5 +1,6 @@
 use Rattle.std.proofs.Common.{ℕ, List, ◌≤◌, ◌-◌, length}
-use Rattle.lw_source.specs.Reading.{LabelsRead, LeadsAs}
+use Rattle.lw_source.specs.Drafts.{LeadsAs}
+use Rattle.lw_source.specs.Reading.{LabelsRead}
 use Rattle.lw_source.proofs.label.read_labels.Given as goal
 
 abbrev pub invariant-loop-token : goal.invariant-loop-token

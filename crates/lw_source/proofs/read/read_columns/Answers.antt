@@ -1,23 +1,22 @@
 use Rattle.std.proofs.Common.{sym, subst, refl, [], arith}
 use Rattle.std.proofs.lemmas.List.{take_all}
 use Rattle.std.specs.Prelude.{All}
-use Rattle.lw_text.specs.Places.{IsWithin, all_texts}
 use Rattle.std.proofs.lemmas.Result.{err_from_is_err_and}
+use Rattle.lw_text.specs.Places.{IsWithin, all_texts}
+use Rattle.lw_base.proofs.Returns.{passed_on}
 use Rattle.lw_source.specs.Reading.{ColumnsRead}
 use Rattle.lw_source.proofs.Sources.{columns_cut, texts_cut, columns_more, threads_more, threads_none, threads_tell}
 use Rattle.lw_source.proofs.read.read_columns.Goals as goal
 
 pub returns-in_err-stmts-clause-fault : goal.returns-in_err-stmts-clause-fault
 returns-in_err-stmts-clause-fault g c =
-    let p = err_from_is_err_and c.from_residual.result c.from_residual.ensures.1 in
     let whole = texts_cut c.args.columns.now c.loop-column.column-index c.column-item.result c.loop-column-test.true c.column-item.is in
-    rw (p.1, p.2) (λ known. threads_none _ _ _ _ c.loop-column.invariant _ _ _ whole (rw c.as_slice.ensures at (c.in_err-stmts.ensures.fault known)))
+    passed_on _ _ c.from_residual.ensures.1 (λ known. threads_none _ _ _ _ c.loop-column.invariant _ _ _ whole (rw c.as_slice.ensures at (c.in_err-stmts.ensures.fault known)))
 
 pub returns-in_err-stmts-clause-cause : goal.returns-in_err-stmts-clause-cause
 returns-in_err-stmts-clause-cause g c =
-    let p = err_from_is_err_and c.from_residual.result c.from_residual.ensures.1 in
     let whole = columns_cut c.args.columns.now c.loop-column.column-index c.column-item.result c.loop-column-test.true c.column-item.is in
-    rw (p.1, p.2) (threads_tell _ _ _ _ _ _ _ whole c.loop-column.invariant _ _ (rw c.as_slice.ensures at c.in_err-stmts.ensures.cause))
+    passed_on _ _ c.from_residual.ensures.1 (threads_tell _ _ _ _ _ _ _ whole c.loop-column.invariant _ _ (rw c.as_slice.ensures at c.in_err-stmts.ensures.cause))
 
 pub loop-column-preserved : goal.loop-column-preserved
 loop-column-preserved g c =
@@ -26,8 +25,7 @@ loop-column-preserved g c =
 
 pub returns-in_err-stmts-clause-place : goal.returns-in_err-stmts-clause-place
 returns-in_err-stmts-clause-place g c len within =
-    let p = err_from_is_err_and c.from_residual.result c.from_residual.ensures.1 in
-    rw (p.1, p.2) (c.in_err-stmts.ensures.place len (rw c.as_slice.ensures (subst (All (IsWithin len)) (sym c.column-item.is) (within c.loop-column.column-index c.column-item.result c.loop-column-test.true))))
+    passed_on _ _ c.from_residual.ensures.1 (c.in_err-stmts.ensures.place len (rw c.as_slice.ensures (subst (All (IsWithin len)) (sym c.column-item.is) (within c.loop-column.column-index c.column-item.result c.loop-column-test.true))))
 
 pub returns-in_err-push-clause-fault : goal.returns-in_err-push-clause-fault
 returns-in_err-push-clause-fault g c =
@@ -40,7 +38,7 @@ returns-in_err-push-clause-cause g c =
     rw (p.1, p.2.1) tt
 
 pub loop-column-init : goal.loop-column-init
-loop-column-init g c = rw c.new-threads.ensures (record { lines = []; says = tt; names = refl; made = refl })
+loop-column-init g c = rw c.new-threads.ensures (record { syntaxes = []; says = tt; names = refl; made = refl })
 
 pub returns-in_err-push-clause-place : goal.returns-in_err-push-clause-place
 returns-in_err-push-clause-place g c len within =

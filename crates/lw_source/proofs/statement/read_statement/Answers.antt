@@ -1,30 +1,29 @@
 use Rattle.std.proofs.Common.{◌≡◌, ap, ◌∙◌, Some, inl, refl, subst}
 use Rattle.std.specs.Prelude.{slice_get}
 use Rattle.std.proofs.lemmas.Result.{err_from_is_err_and, IfOk-weaker, IfErr-weaker}
+use Rattle.lw_base.proofs.Returns.{passed_on}
 use Rattle.lw_source.specs.Cells.{IsOperand}
-use Rattle.lw_source.proofs.Phrases.{becomes, first_of, same_token, gone, past, only_goto, statement_cause, misfit_cause, stores, only_if, only_store, from_two, same_word, other_word, Fits}
+use Rattle.lw_source.specs.Reading.{Fits}
+use Rattle.lw_source.proofs.Phrases.{becomes, first_of, same_token, gone, past, only_goto, statement_cause, misfit_cause, stores, only_if, only_store, from_two, same_word, other_word}
 use Rattle.lw_source.proofs.statement.read_statement.Goals as goal
 
 pub returns-then-eq-2-clause-fault : goal.returns-then-eq-2-clause-fault
 returns-then-eq-2-clause-fault g c =
-    from_two c.read_if.result _ c.read_if.ensures.equal c.read_if.ensures.unequal (λ equal unequal f known s says few.
+    from_two c.read_if.result _ c.read_if.ensures.equal c.read_if.ensures.unequal (λ equal unequal f known s (says, few).
     only_if _ (c.in_ok-first.ensures.found ∙ ap Some (same_word _ _ c.if-eq-2.ensures)) equal unequal s says)
 
 pub returns-in_err-loc-clause-fault : goal.returns-in_err-loc-clause-fault
 returns-in_err-loc-clause-fault g c =
-    let p = err_from_is_err_and c.from_residual-in_err-loc.result c.from_residual-in_err-loc.ensures.1 in
-    rw (p.1, p.2) (λ known s says few.
-    only_store _ _ (Fits _ _) c.in_ok-first.ensures.found c.in_default.ensures (other_word _ _ c.if-eq-2.ensures) (other_word _ _ c.if-eq.ensures) (λ v loc q. c.in_err-loc.ensures.fault known loc q.1) s says (says, few))
+    passed_on _ _ c.from_residual-in_err-loc.ensures.1 (λ known s (says, few).
+    only_store _ _ (Fits _ _) c.in_ok-first.ensures.found c.in_default.ensures (other_word _ _ c.if-eq-2.ensures) (other_word _ _ c.if-eq.ensures) (λ v loc q. c.in_err-loc.ensures.fault known (loc, q.1)) s says (says, few))
 
 pub returns-in_err-loc-clause-place : goal.returns-in_err-loc-clause-place
 returns-in_err-loc-clause-place g c len within =
-    let p = err_from_is_err_and c.from_residual-in_err-loc.result c.from_residual-in_err-loc.ensures.1 in
-    rw (p.1, p.2) (c.in_err-loc.ensures.place len (c.in_ok-first.ensures.within len within))
+    passed_on _ _ c.from_residual-in_err-loc.ensures.1 (c.in_err-loc.ensures.place len (c.in_ok-first.ensures.within len within))
 
 pub returns-in_err-val-clause-place : goal.returns-in_err-val-clause-place
 returns-in_err-val-clause-place g c len within =
-    let p = err_from_is_err_and c.from_residual-in_err-val.result c.from_residual-in_err-val.ensures.1 in
-    rw (p.1, p.2) (c.in_err-val.ensures.place len (c.in_ok-token.ensures.within len within))
+    passed_on _ _ c.from_residual-in_err-val.ensures.1 (c.in_err-val.ensures.place len (c.in_ok-token.ensures.within len within))
 
 pub returns-clause-found : goal.returns-clause-found
 returns-clause-found g c =
@@ -32,49 +31,42 @@ returns-clause-found g c =
 
 pub returns-in_err-first-clause-fault : goal.returns-in_err-first-clause-fault
 returns-in_err-first-clause-fault g c =
-    let p = err_from_is_err_and c.from_residual.result c.from_residual.ensures.1 in
-    rw (p.1, p.2) (λ known s says few. let f = first_of _ s says in gone _ 0 _ c.in_err-first.ensures.err f.1)
+    passed_on _ _ c.from_residual.ensures.1 (λ known s (says, few). let f = first_of _ s says in gone _ 0 _ c.in_err-first.ensures.err f.1)
 
 pub returns-in_err-expect-clause-fault : goal.returns-in_err-expect-clause-fault
 returns-in_err-expect-clause-fault g c =
-    let p = err_from_is_err_and c.from_residual-in_err-expect.result c.from_residual-in_err-expect.ensures.1 in
-    rw (p.1, p.2) (λ known s says few. c.in_err-expect.ensures.err (becomes _ _ c.in-Some.dst c.in_ok-first.ensures.found c.in-Some.ensures s says).0)
+    passed_on _ _ c.from_residual-in_err-expect.ensures.1 (λ known s (says, few). c.in_err-expect.ensures.err (becomes _ _ c.in-Some.dst c.in_ok-first.ensures.found c.in-Some.ensures s says).0)
 
 pub returns-in_err-expect-2-clause-fault : goal.returns-in_err-expect-2-clause-fault
 returns-in_err-expect-2-clause-fault g c =
-    let p = err_from_is_err_and c.from_residual-in_err-expect-2.result c.from_residual-in_err-expect-2.ensures.1 in
-    rw (p.1, p.2) (λ known s says few.
+    passed_on _ _ c.from_residual-in_err-expect-2.ensures.1 (λ known s (says, few).
     only_store _ _ (Fits _ _) c.in_ok-first.ensures.found c.in_default.ensures (other_word _ _ c.if-eq-2.ensures) (other_word _ _ c.if-eq.ensures) (λ v loc q. c.in_err-expect-2.ensures.err (ap (λ t. slice_get t 1) q.0.1)) s says (says, few))
 
 pub returns-in_err-token-clause-fault : goal.returns-in_err-token-clause-fault
 returns-in_err-token-clause-fault g c =
-    let p = err_from_is_err_and c.from_residual-in_err-token.result c.from_residual-in_err-token.ensures.1 in
-    rw (p.1, p.2) (λ known s says few.
+    passed_on _ _ c.from_residual-in_err-token.ensures.1 (λ known s (says, few).
     only_store _ _ (Fits _ _) c.in_ok-first.ensures.found c.in_default.ensures (other_word _ _ c.if-eq-2.ensures) (other_word _ _ c.if-eq.ensures) (λ v loc q. gone _ 2 _ c.in_err-token.ensures.err (ap (λ t. slice_get t 2) q.0.1)) s says (says, few))
 
 pub returns-in_err-ends-clause-fault : goal.returns-in_err-ends-clause-fault
 returns-in_err-ends-clause-fault g c =
-    let p = err_from_is_err_and c.from_residual-in_err-ends.result c.from_residual-in_err-ends.ensures.1 in
-    rw (p.1, p.2) (λ known s says few.
+    passed_on _ _ c.from_residual-in_err-ends.ensures.1 (λ known s (says, few).
     only_store _ _ (Fits _ _) c.in_ok-first.ensures.found c.in_default.ensures (other_word _ _ c.if-eq-2.ensures) (other_word _ _ c.if-eq.ensures) (λ v loc q. past _ 3 c.in_err-ends.ensures.err (ap (λ t. slice_get t 3) q.0.1)) s says (says, few))
 
 pub returns-in_err-val-clause-fault : goal.returns-in_err-val-clause-fault
 returns-in_err-val-clause-fault g c =
-    let p = err_from_is_err_and c.from_residual-in_err-val.result c.from_residual-in_err-val.ensures.1 in
-    rw (p.1, p.2) (λ known s says few.
+    passed_on _ _ c.from_residual-in_err-val.ensures.1 (λ known s (says, few).
     only_store _ _ (Fits _ _) c.in_ok-first.ensures.found c.in_default.ensures (other_word _ _ c.if-eq-2.ensures) (other_word _ _ c.if-eq.ensures) (λ v loc q.
     let same : q.0.0 ≡ c.in_ok-token.field-0.text.now = same_token _ 2 _ _ (ap (λ t. slice_get t 2) q.0.1) c.in_ok-token.ensures.found in
     c.in_err-val.ensures.err v (subst (λ w. IsOperand w v) same q.0.3)) s says (says, few))
 
 pub returns-then-eq-clause-fault : goal.returns-then-eq-clause-fault
 returns-then-eq-clause-fault g c =
-    from_two c.read_goto.result _ c.read_goto.ensures.fault c.read_goto.ensures.fault (λ none again f known s says few.
+    from_two c.read_goto.result _ c.read_goto.ensures.fault c.read_goto.ensures.fault (λ none again f known s (says, few).
     only_goto _ (c.in_ok-first.ensures.found ∙ ap Some (same_word _ _ c.if-eq.ensures)) none s says)
 
 pub returns-in_err-loc-clause-cause : goal.returns-in_err-loc-clause-cause
 returns-in_err-loc-clause-cause g c =
-    let p = err_from_is_err_and c.from_residual-in_err-loc.result c.from_residual-in_err-loc.ensures.1 in
-    rw (p.1, p.2) (statement_cause _ _ 0 _ c.in_ok-first.ensures.is (inl refl) _ _ c.in_err-loc.ensures.cause)
+    passed_on _ _ c.from_residual-in_err-loc.ensures.1 (statement_cause _ _ 0 _ c.in_ok-first.ensures.is (inl refl) _ _ c.in_err-loc.ensures.cause)
 
 pub returns-then-eq-clause-found : goal.returns-then-eq-clause-found
 returns-then-eq-clause-found g c = IfOk-weaker c.read_goto.result _ _ (λ stmt read. read c.args.locs.now) c.read_goto.ensures.found
@@ -108,58 +100,47 @@ returns-in-Some-clause-place g c = c.read_value.ensures.place
 
 pub returns-in_err-first-clause-cause : goal.returns-in_err-first-clause-cause
 returns-in_err-first-clause-cause g c =
-    let p = err_from_is_err_and c.from_residual.result c.from_residual.ensures.1 in
-    rw (p.1, p.2) (misfit_cause _ _ _ _ c.in_err-first.ensures.cause)
+    passed_on _ _ c.from_residual.ensures.1 (misfit_cause _ _ _ _ c.in_err-first.ensures.cause)
 
 pub returns-in_err-first-clause-place : goal.returns-in_err-first-clause-place
 returns-in_err-first-clause-place g c len within =
-    let p = err_from_is_err_and c.from_residual.result c.from_residual.ensures.1 in
-    rw (p.1, p.2) (c.in_err-first.ensures.place len within)
+    passed_on _ _ c.from_residual.ensures.1 (c.in_err-first.ensures.place len within)
 
 pub returns-in_err-expect-clause-cause : goal.returns-in_err-expect-clause-cause
 returns-in_err-expect-clause-cause g c =
-    let p = err_from_is_err_and c.from_residual-in_err-expect.result c.from_residual-in_err-expect.ensures.1 in
-    rw (p.1, p.2) (misfit_cause _ _ _ _ c.in_err-expect.ensures.cause)
+    passed_on _ _ c.from_residual-in_err-expect.ensures.1 (misfit_cause _ _ _ _ c.in_err-expect.ensures.cause)
 
 pub returns-in_err-expect-clause-place : goal.returns-in_err-expect-clause-place
 returns-in_err-expect-clause-place g c len within =
-    let p = err_from_is_err_and c.from_residual-in_err-expect.result c.from_residual-in_err-expect.ensures.1 in
-    rw (p.1, p.2) (c.in_err-expect.ensures.place len within)
+    passed_on _ _ c.from_residual-in_err-expect.ensures.1 (c.in_err-expect.ensures.place len within)
 
 pub returns-in_err-expect-2-clause-cause : goal.returns-in_err-expect-2-clause-cause
 returns-in_err-expect-2-clause-cause g c =
-    let p = err_from_is_err_and c.from_residual-in_err-expect-2.result c.from_residual-in_err-expect-2.ensures.1 in
-    rw (p.1, p.2) (misfit_cause _ _ _ _ c.in_err-expect-2.ensures.cause)
+    passed_on _ _ c.from_residual-in_err-expect-2.ensures.1 (misfit_cause _ _ _ _ c.in_err-expect-2.ensures.cause)
 
 pub returns-in_err-expect-2-clause-place : goal.returns-in_err-expect-2-clause-place
 returns-in_err-expect-2-clause-place g c len within =
-    let p = err_from_is_err_and c.from_residual-in_err-expect-2.result c.from_residual-in_err-expect-2.ensures.1 in
-    rw (p.1, p.2) (c.in_err-expect-2.ensures.place len within)
+    passed_on _ _ c.from_residual-in_err-expect-2.ensures.1 (c.in_err-expect-2.ensures.place len within)
 
 pub returns-in_err-token-clause-cause : goal.returns-in_err-token-clause-cause
 returns-in_err-token-clause-cause g c =
-    let p = err_from_is_err_and c.from_residual-in_err-token.result c.from_residual-in_err-token.ensures.1 in
-    rw (p.1, p.2) (misfit_cause _ _ _ _ c.in_err-token.ensures.cause)
+    passed_on _ _ c.from_residual-in_err-token.ensures.1 (misfit_cause _ _ _ _ c.in_err-token.ensures.cause)
 
 pub returns-in_err-token-clause-place : goal.returns-in_err-token-clause-place
 returns-in_err-token-clause-place g c len within =
-    let p = err_from_is_err_and c.from_residual-in_err-token.result c.from_residual-in_err-token.ensures.1 in
-    rw (p.1, p.2) (c.in_err-token.ensures.place len within)
+    passed_on _ _ c.from_residual-in_err-token.ensures.1 (c.in_err-token.ensures.place len within)
 
 pub returns-in_err-ends-clause-cause : goal.returns-in_err-ends-clause-cause
 returns-in_err-ends-clause-cause g c =
-    let p = err_from_is_err_and c.from_residual-in_err-ends.result c.from_residual-in_err-ends.ensures.1 in
-    rw (p.1, p.2) (misfit_cause _ _ _ _ c.in_err-ends.ensures.cause)
+    passed_on _ _ c.from_residual-in_err-ends.ensures.1 (misfit_cause _ _ _ _ c.in_err-ends.ensures.cause)
 
 pub returns-in_err-ends-clause-place : goal.returns-in_err-ends-clause-place
 returns-in_err-ends-clause-place g c len within =
-    let p = err_from_is_err_and c.from_residual-in_err-ends.result c.from_residual-in_err-ends.ensures.1 in
-    rw (p.1, p.2) (c.in_err-ends.ensures.place len within)
+    passed_on _ _ c.from_residual-in_err-ends.ensures.1 (c.in_err-ends.ensures.place len within)
 
 pub returns-in_err-val-clause-cause : goal.returns-in_err-val-clause-cause
 returns-in_err-val-clause-cause g c =
-    let p = err_from_is_err_and c.from_residual-in_err-val.result c.from_residual-in_err-val.ensures.1 in
-    rw (p.1, p.2) (misfit_cause _ _ _ _ c.in_err-val.ensures.cause)
+    passed_on _ _ c.from_residual-in_err-val.ensures.1 (misfit_cause _ _ _ _ c.in_err-val.ensures.cause)
 
 pub returns-in_err-first-clause-found : goal.returns-in_err-first-clause-found
 returns-in_err-first-clause-found g c =

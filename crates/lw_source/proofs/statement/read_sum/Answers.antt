@@ -1,7 +1,8 @@
-use Rattle.std.proofs.lemmas.Result.{err_from_is_err_and}
 use Rattle.std.proofs.lemmas.List.{length-map}
 use Rattle.std.proofs.Common.{ap, arith, length, ◌≡◌, ◌≤◌, ◌<◌, List, subst}
 use Rattle.std.specs.Prelude.{slice_get}
+use Rattle.std.proofs.lemmas.Result.{err_from_is_err_and}
+use Rattle.lw_base.proofs.Returns.{passed_on}
 use Rattle.lw_text.specs.declared.token.Token.{Token}
 use Rattle.lw_text.specs.Spans.{texts}
 use Rattle.lw_source.specs.Cells.{IsOperand}
@@ -18,8 +19,7 @@ returns-then-phrase-le3-clause-found c names =
 
 pub returns-in_err-right-clause-place : goal.returns-in_err-right-clause-place
 returns-in_err-right-clause-place c len within =
-    let p = err_from_is_err_and c.from_residual-in_err-right.result c.from_residual-in_err-right.ensures.1 in
-    rw (p.1, p.2) (c.in_err-right.ensures.place len (c.in_ok-token.ensures.within len within))
+    passed_on _ _ c.from_residual-in_err-right.ensures.1 (c.in_err-right.ensures.place len (c.in_ok-token.ensures.within len within))
 
 pub returns-clause-found : goal.returns-clause-found
 returns-clause-found c names =
@@ -27,80 +27,65 @@ returns-clause-found c names =
 
 pub returns-in_err-expect-clause-longer : goal.returns-in_err-expect-clause-longer
 returns-in_err-expect-clause-longer c =
-    let p = err_from_is_err_and c.from_residual.result c.from_residual.ensures.1 in
-    rw p.1 (longer _ c.if-phrase-le3.false)
+    passed_on _ _ c.from_residual.ensures.1 (longer _ c.if-phrase-le3.false)
 
 pub returns-in_err-expect-clause-fault : goal.returns-in_err-expect-clause-fault
 returns-in_err-expect-clause-fault c =
-    let p = err_from_is_err_and c.from_residual.result c.from_residual.ensures.1 in
-    rw p.1 (λ d l v says. c.in_err-expect.ensures.err (ap (λ t. slice_get t 3) says.3))
+    passed_on _ _ c.from_residual.ensures.1 (λ d l v says. c.in_err-expect.ensures.err (ap (λ t. slice_get t 3) says.3))
 
 pub returns-in_err-expect-clause-cause : goal.returns-in_err-expect-clause-cause
 returns-in_err-expect-clause-cause c =
-    let p = err_from_is_err_and c.from_residual.result c.from_residual.ensures.1 in
-    rw (p.1, p.2) c.in_err-expect.ensures.cause
+    passed_on _ _ c.from_residual.ensures.1 c.in_err-expect.ensures.cause
 
 pub returns-in_err-expect-clause-place : goal.returns-in_err-expect-clause-place
 returns-in_err-expect-clause-place c len within =
-    let p = err_from_is_err_and c.from_residual.result c.from_residual.ensures.1 in
-    rw (p.1, p.2) (c.in_err-expect.ensures.place len within)
+    passed_on _ _ c.from_residual.ensures.1 (c.in_err-expect.ensures.place len within)
 
 pub returns-in_err-token-clause-longer : goal.returns-in_err-token-clause-longer
 returns-in_err-token-clause-longer c =
-    let p = err_from_is_err_and c.from_residual-in_err-token.result c.from_residual-in_err-token.ensures.1 in
-    rw p.1 (longer _ c.if-phrase-le3.false)
+    passed_on _ _ c.from_residual-in_err-token.ensures.1 (longer _ c.if-phrase-le3.false)
 
 pub returns-in_err-token-clause-fault : goal.returns-in_err-token-clause-fault
 returns-in_err-token-clause-fault c =
-    let p = err_from_is_err_and c.from_residual-in_err-token.result c.from_residual-in_err-token.ensures.1 in
-    rw p.1 (λ d l v says. gone _ 4 _ c.in_err-token.ensures.err (ap (λ t. slice_get t 4) says.3))
+    passed_on _ _ c.from_residual-in_err-token.ensures.1 (λ d l v says. gone _ 4 _ c.in_err-token.ensures.err (ap (λ t. slice_get t 4) says.3))
 
 pub returns-in_err-token-clause-cause : goal.returns-in_err-token-clause-cause
 returns-in_err-token-clause-cause c =
-    let p = err_from_is_err_and c.from_residual-in_err-token.result c.from_residual-in_err-token.ensures.1 in
-    rw (p.1, p.2) c.in_err-token.ensures.cause
+    passed_on _ _ c.from_residual-in_err-token.ensures.1 c.in_err-token.ensures.cause
 
 pub returns-in_err-token-clause-place : goal.returns-in_err-token-clause-place
 returns-in_err-token-clause-place c len within =
-    let p = err_from_is_err_and c.from_residual-in_err-token.result c.from_residual-in_err-token.ensures.1 in
-    rw (p.1, p.2) (c.in_err-token.ensures.place len within)
+    passed_on _ _ c.from_residual-in_err-token.ensures.1 (c.in_err-token.ensures.place len within)
 
 pub returns-in_err-right-clause-longer : goal.returns-in_err-right-clause-longer
 returns-in_err-right-clause-longer c =
-    let p = err_from_is_err_and c.from_residual-in_err-right.result c.from_residual-in_err-right.ensures.1 in
-    rw p.1 (longer _ c.if-phrase-le3.false)
+    passed_on _ _ c.from_residual-in_err-right.ensures.1 (longer _ c.if-phrase-le3.false)
 
 pub returns-in_err-right-clause-fault : goal.returns-in_err-right-clause-fault
 returns-in_err-right-clause-fault c =
-    let p = err_from_is_err_and c.from_residual-in_err-right.result c.from_residual-in_err-right.ensures.1 in
-    rw p.1 (λ d l v says.
+    passed_on _ _ c.from_residual-in_err-right.ensures.1 (λ d l v says.
     let same : says.2 ≡ c.in_ok-token.field-0.text.now = same_token _ 4 _ _ (ap (λ t. slice_get t 4) says.3) c.in_ok-token.ensures.found in
     c.in_err-right.ensures.err v (subst (λ w. IsOperand w v) same says.6))
 
 pub returns-in_err-right-clause-cause : goal.returns-in_err-right-clause-cause
 returns-in_err-right-clause-cause c =
-    let p = err_from_is_err_and c.from_residual-in_err-right.result c.from_residual-in_err-right.ensures.1 in
-    rw (p.1, p.2) c.in_err-right.ensures.cause
+    passed_on _ _ c.from_residual-in_err-right.ensures.1 c.in_err-right.ensures.cause
 
 pub returns-in_err-ends-clause-longer : goal.returns-in_err-ends-clause-longer
 returns-in_err-ends-clause-longer c =
-    let p = err_from_is_err_and c.from_residual-in_err-ends.result c.from_residual-in_err-ends.ensures.1 in
-    rw p.1 (longer _ c.if-phrase-le3.false)
+    passed_on _ _ c.from_residual-in_err-ends.ensures.1 (longer _ c.if-phrase-le3.false)
 
 pub returns-in_err-ends-clause-fault : goal.returns-in_err-ends-clause-fault
 returns-in_err-ends-clause-fault c =
-    let p = err_from_is_err_and c.from_residual-in_err-ends.result c.from_residual-in_err-ends.ensures.1 in
-    rw p.1 (λ d l v says. past _ 5 c.in_err-ends.ensures.err (ap (λ t. slice_get t 5) says.3))
+    passed_on _ _ c.from_residual-in_err-ends.ensures.1 (λ d l v says. past _ 5 c.in_err-ends.ensures.err (ap (λ t. slice_get t 5) says.3))
 
 pub returns-in_err-ends-clause-cause : goal.returns-in_err-ends-clause-cause
 returns-in_err-ends-clause-cause c =
-    let p = err_from_is_err_and c.from_residual-in_err-ends.result c.from_residual-in_err-ends.ensures.1 in
-    rw (p.1, p.2) c.in_err-ends.ensures.cause
+    passed_on _ _ c.from_residual-in_err-ends.ensures.1 c.in_err-ends.ensures.cause
 
 pub returns-in_err-ends-clause-place : goal.returns-in_err-ends-clause-place
 returns-in_err-ends-clause-place c len within =
-    let p = err_from_is_err_and c.from_residual-in_err-ends.result c.from_residual-in_err-ends.ensures.1 in
-    rw (p.1, p.2) (c.in_err-ends.ensures.place len within)
+    passed_on _ _ c.from_residual-in_err-ends.ensures.1 (c.in_err-ends.ensures.place len within)
 
 pub returns-in_err-expect-clause-found : goal.returns-in_err-expect-clause-found
 returns-in_err-expect-clause-found c =

@@ -1,24 +1,26 @@
 use Rattle.std.proofs.Common.{◌≡◌, ◌∙◌, ap, Some, sym, subst, arith, length, ◌≤◌}
 use Rattle.std.specs.Prelude.{codes}
 use Rattle.std.proofs.lemmas.Result.{err_from_is_err_and, IfOk-weaker, IfErr-weaker}
+use Rattle.lw_base.proofs.Returns.{passed_on}
 use Rattle.lw_base.specs.declared.head.Arch.TheVariants.{Source}
 use Rattle.lw_base.specs.declared.operand.Operand.TheVariants.{Number}
 use Rattle.lw_base.specs.Names.{IsLocation}
 use Rattle.lw_base.specs.Registers.{IsRegister}
 use Rattle.lw_base.specs.Tables.{with_name}
 use Rattle.lw_source.specs.Cells.{IsOperand}
-use Rattle.lw_source.proofs.Phrases.{becomes, misfit_cause, not_both, not_longer, sets, loads, no_value, value_begins, swap_reserved, no_operand, swap_register, swap_number, register_apart, from_two, statement_cause, before_second, same_word, other_word, Fits}
+use Rattle.lw_source.specs.Reading.{Fits}
+use Rattle.lw_source.proofs.Phrases.{becomes, misfit_cause, not_both, not_longer, sets, loads, no_value, value_begins, swap_reserved, no_operand, swap_register, swap_number, register_apart, from_two, statement_cause, before_second, same_word, other_word}
 use Rattle.lw_source.proofs.statement.read_value.Goals as goal
 
 pub returns-then-eq-clause-fault : goal.returns-then-eq-clause-fault
 returns-then-eq-clause-fault g c =
     let swap : c.in_ok-third.third.text.now ≡ codes "swap" = same_word _ _ c.if-eq.ensures in
-    IfErr-weaker c.read_swap.result _ _ (λ f none known s says few.
-    no_value _ c.in_ok-third.third.text.now (Fits _ _) (λ x d e loc l q. swap_reserved (subst IsLocation swap loc)) (λ d r x e q. none known d r x q.0 q.1) (λ d v is l q. no_operand _ swap_register swap_number v (subst (λ w. IsOperand w v) swap is)) (λ d l v is m q. swap_register l (subst (λ w. IsRegister Source w l) swap is)) s (value_begins _ _ c.args.dst c.requires.first.1 c.requires.first.2 _ c.in_ok-third.ensures.found s says) (says, few)) c.read_swap.ensures.fault
+    IfErr-weaker c.read_swap.result _ _ (λ f none known s (says, few).
+    no_value _ c.in_ok-third.third.text.now (Fits _ _) (λ x d e loc l q. swap_reserved (subst IsLocation swap loc)) (λ d r x e q. none known d r x q) (λ d v is l q. no_operand _ swap_register swap_number v (subst (λ w. IsOperand w v) swap is)) (λ d l v is m q. swap_register l (subst (λ w. IsRegister Source w l) swap is)) s (value_begins _ _ c.args.dst c.requires.first.1 c.requires.first.2 _ c.in_ok-third.ensures.found s says) (says, few)) c.read_swap.ensures.fault
 
 pub returns-in-Some-clause-fault : goal.returns-in-Some-clause-fault
 returns-in-Some-clause-fault g c =
-    from_two c.read_sum.result _ c.read_sum.ensures.longer c.read_sum.ensures.fault (λ long none f known s says few.
+    from_two c.read_sum.result _ c.read_sum.ensures.longer c.read_sum.ensures.fault (λ long none f known s (says, few).
     no_value _ c.in_ok-third.third.text.now (Fits _ _) (λ x d e loc l q. register_apart _ _ c.in-Some.ensures loc) (λ d r x e q. swap_register _ (subst (λ w. IsRegister Source w c.in-Some.left) e c.in-Some.ensures)) (λ d v is l q. omega (arith, l, long)) (λ d l v is m q. none d l v q.0) s (value_begins _ _ c.args.dst c.requires.first.1 c.requires.first.2 _ c.in_ok-third.ensures.found s says) (says, few))
 
 pub returns-in-Some-number-clause-found : goal.returns-in-Some-number-clause-found
@@ -27,19 +29,16 @@ returns-in-Some-number-clause-found g c =
 
 pub returns-in_err-loc-clause-fault : goal.returns-in_err-loc-clause-fault
 returns-in_err-loc-clause-fault g c =
-    let p = err_from_is_err_and c.from_residual-in_err-loc.result c.from_residual-in_err-loc.ensures.1 in
-    rw (p.1, p.2) (λ known s says few.
-    no_value _ c.in_ok-third.third.text.now (Fits _ _) (λ x d e loc l q. c.in_err-loc.ensures.fault known loc (subst (λ n. length (with_name c.args.locs.now n) ≤ 8) e q.1)) (λ d r x e q. other_word _ _ c.if-eq.ensures (sym e)) (λ d v is l q. no_operand _ c.in_default.ensures c.in_default-number.ensures v is) (λ d l v is m q. c.in_default.ensures l is) s (value_begins _ _ c.args.dst c.requires.first.1 c.requires.first.2 _ c.in_ok-third.ensures.found s says) (says, few))
+    passed_on _ _ c.from_residual-in_err-loc.ensures.1 (λ known s (says, few).
+    no_value _ c.in_ok-third.third.text.now (Fits _ _) (λ x d e loc l q. c.in_err-loc.ensures.fault known (loc, subst (λ n. length (with_name c.args.locs.now n) ≤ 8) e q.1)) (λ d r x e q. other_word _ _ c.if-eq.ensures (sym e)) (λ d v is l q. no_operand _ c.in_default.ensures c.in_default-number.ensures v is) (λ d l v is m q. c.in_default.ensures l is) s (value_begins _ _ c.args.dst c.requires.first.1 c.requires.first.2 _ c.in_ok-third.ensures.found s says) (says, few))
 
 pub returns-in_err-loc-clause-cause : goal.returns-in_err-loc-clause-cause
 returns-in_err-loc-clause-cause g c =
-    let p = err_from_is_err_and c.from_residual-in_err-loc.result c.from_residual-in_err-loc.ensures.1 in
-    rw (p.1, p.2) (statement_cause _ _ 2 _ c.in_ok-third.ensures.is (before_second _ _ _ c.requires.first.1 c.requires.first.2 c.requires.sign) _ _ c.in_err-loc.ensures.cause)
+    passed_on _ _ c.from_residual-in_err-loc.ensures.1 (statement_cause _ _ 2 _ c.in_ok-third.ensures.is (before_second _ _ _ c.requires.first.1 c.requires.first.2 c.requires.sign) _ _ c.in_err-loc.ensures.cause)
 
 pub returns-in_err-loc-clause-place : goal.returns-in_err-loc-clause-place
 returns-in_err-loc-clause-place g c len within =
-    let p = err_from_is_err_and c.from_residual-in_err-loc.result c.from_residual-in_err-loc.ensures.1 in
-    rw (p.1, p.2) (c.in_err-loc.ensures.place len (c.in_ok-third.ensures.within len within))
+    passed_on _ _ c.from_residual-in_err-loc.ensures.1 (c.in_err-loc.ensures.place len (c.in_ok-third.ensures.within len within))
 
 pub returns-clause-found : goal.returns-clause-found
 returns-clause-found g c =
@@ -47,19 +46,16 @@ returns-clause-found g c =
 
 pub returns-in_err-third-clause-fault : goal.returns-in_err-third-clause-fault
 returns-in_err-third-clause-fault g c =
-    let p = err_from_is_err_and c.from_residual.result c.from_residual.ensures.1 in
-    rw (p.1, p.2) (λ known s says few. not_both _ _ c.in_err-third.ensures.err (becomes _ _ c.args.dst c.requires.first.1 c.requires.first.2 s says).1)
+    passed_on _ _ c.from_residual.ensures.1 (λ known s (says, few). not_both _ _ c.in_err-third.ensures.err (becomes _ _ c.args.dst c.requires.first.1 c.requires.first.2 s says).1)
 
 pub returns-in_err-ends-clause-fault : goal.returns-in_err-ends-clause-fault
 returns-in_err-ends-clause-fault g c =
-    let p = err_from_is_err_and c.from_residual-in_err-ends.result c.from_residual-in_err-ends.ensures.1 in
-    rw (p.1, p.2) (λ known s says few.
+    passed_on _ _ c.from_residual-in_err-ends.ensures.1 (λ known s (says, few).
     no_value _ c.in_ok-third.third.text.now (Fits _ _) (λ x d e loc l q. not_longer _ _ l c.in_err-ends.ensures.err) (λ d r x e q. other_word _ _ c.if-eq.ensures (sym e)) (λ d v is l q. not_longer _ _ l c.in_err-ends.ensures.err) (λ d l v is m q. c.in_default.ensures l is) s (value_begins _ _ c.args.dst c.requires.first.1 c.requires.first.2 _ c.in_ok-third.ensures.found s says) (says, few))
 
 pub returns-in_err-ends-2-clause-fault : goal.returns-in_err-ends-2-clause-fault
 returns-in_err-ends-2-clause-fault g c =
-    let p = err_from_is_err_and c.from_residual-in_err-ends-2.result c.from_residual-in_err-ends-2.ensures.1 in
-    rw (p.1, p.2) (λ known s says few.
+    passed_on _ _ c.from_residual-in_err-ends-2.ensures.1 (λ known s (says, few).
     no_value _ c.in_ok-third.third.text.now (Fits _ _) (λ x d e loc l q. not_longer _ _ l c.in_err-ends-2.ensures.err) (λ d r x e q. other_word _ _ c.if-eq.ensures (sym e)) (λ d v is l q. not_longer _ _ l c.in_err-ends-2.ensures.err) (λ d l v is m q. c.in_default.ensures l is) s (value_begins _ _ c.args.dst c.requires.first.1 c.requires.first.2 _ c.in_ok-third.ensures.found s says) (says, few))
 
 pub returns-in-Some-clause-cause : goal.returns-in-Some-clause-cause
@@ -84,33 +80,27 @@ returns-in-Some-clause-place g c = c.read_sum.ensures.place
 
 pub returns-in_err-third-clause-cause : goal.returns-in_err-third-clause-cause
 returns-in_err-third-clause-cause g c =
-    let p = err_from_is_err_and c.from_residual.result c.from_residual.ensures.1 in
-    rw (p.1, p.2) (misfit_cause _ _ _ _ c.in_err-third.ensures.cause)
+    passed_on _ _ c.from_residual.ensures.1 (misfit_cause _ _ _ _ c.in_err-third.ensures.cause)
 
 pub returns-in_err-third-clause-place : goal.returns-in_err-third-clause-place
 returns-in_err-third-clause-place g c len within =
-    let p = err_from_is_err_and c.from_residual.result c.from_residual.ensures.1 in
-    rw (p.1, p.2) (c.in_err-third.ensures.place len within)
+    passed_on _ _ c.from_residual.ensures.1 (c.in_err-third.ensures.place len within)
 
 pub returns-in_err-ends-clause-cause : goal.returns-in_err-ends-clause-cause
 returns-in_err-ends-clause-cause g c =
-    let p = err_from_is_err_and c.from_residual-in_err-ends.result c.from_residual-in_err-ends.ensures.1 in
-    rw (p.1, p.2) (misfit_cause _ _ _ _ c.in_err-ends.ensures.cause)
+    passed_on _ _ c.from_residual-in_err-ends.ensures.1 (misfit_cause _ _ _ _ c.in_err-ends.ensures.cause)
 
 pub returns-in_err-ends-clause-place : goal.returns-in_err-ends-clause-place
 returns-in_err-ends-clause-place g c len within =
-    let p = err_from_is_err_and c.from_residual-in_err-ends.result c.from_residual-in_err-ends.ensures.1 in
-    rw (p.1, p.2) (c.in_err-ends.ensures.place len within)
+    passed_on _ _ c.from_residual-in_err-ends.ensures.1 (c.in_err-ends.ensures.place len within)
 
 pub returns-in_err-ends-2-clause-cause : goal.returns-in_err-ends-2-clause-cause
 returns-in_err-ends-2-clause-cause g c =
-    let p = err_from_is_err_and c.from_residual-in_err-ends-2.result c.from_residual-in_err-ends-2.ensures.1 in
-    rw (p.1, p.2) (misfit_cause _ _ _ _ c.in_err-ends-2.ensures.cause)
+    passed_on _ _ c.from_residual-in_err-ends-2.ensures.1 (misfit_cause _ _ _ _ c.in_err-ends-2.ensures.cause)
 
 pub returns-in_err-ends-2-clause-place : goal.returns-in_err-ends-2-clause-place
 returns-in_err-ends-2-clause-place g c len within =
-    let p = err_from_is_err_and c.from_residual-in_err-ends-2.result c.from_residual-in_err-ends-2.ensures.1 in
-    rw (p.1, p.2) (c.in_err-ends-2.ensures.place len within)
+    passed_on _ _ c.from_residual-in_err-ends-2.ensures.1 (c.in_err-ends-2.ensures.place len within)
 
 pub returns-in_err-third-clause-found : goal.returns-in_err-third-clause-found
 returns-in_err-third-clause-found g c =

@@ -20,13 +20,13 @@ pub returns-in-Some-clause-names : goal.returns-in-Some-clause-names
 returns-in-Some-clause-names g c = rw c.in-Some.is at c.in_ok-loc.ensures.names
 
 pub returns-then-not-is_location-clause-fault : goal.returns-then-not-is_location-clause-fault
-returns-then-not-is_location-clause-fault g c known loc few =
+returns-then-not-is_location-clause-fault g c known (loc, few) =
     let here : c.is_location.result ≡ true = c.is_location.ensures.1 loc in
     let not_here : c.is_location.result ≡ false = c.if-not-is_location.true in
     absurd cc
 
 pub returns-in-None-clause-fault : goal.returns-in-None-clause-fault
-returns-in-None-clause-fault g c known loc few = not_both _ _ few (rw c.in-None.is at c.in_ok-loc.ensures.place)
+returns-in-None-clause-fault g c known (loc, few) = not_both _ _ few (rw c.in-None.is at c.in_ok-loc.ensures.place)
 
 pub returns-in_err-loc-clause-fault : goal.returns-in_err-loc-clause-fault
 returns-in_err-loc-clause-fault g c =

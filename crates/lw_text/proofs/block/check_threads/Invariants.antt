@@ -1,7 +1,7 @@
 use Rattle.std.proofs.Common.{◌≡◌, take, true}
 use Rattle.std.specs.List.{list_all}
-use Rattle.lw_text.specs.Placed.{is_there}
+use Rattle.lw_text.specs.Resolved.{thread_exists}
 use Rattle.lw_text.proofs.block.check_threads.Given as goal
 
 abbrev pub invariant-loop-entry : goal.invariant-loop-entry
-invariant-loop-entry l = list_all (λ e. is_there l.threads e.site) (take l.entry-index l.entries) ≡ true
+invariant-loop-entry l = list_all (λ e. thread_exists l.threads e.site) (take l.entry-index l.entries) ≡ true

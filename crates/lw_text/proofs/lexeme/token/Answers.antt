@@ -7,7 +7,7 @@ use Rattle.lw_text.proofs.lexeme.token.Goals as goal
 
 pub returns-then-not-is_kind-clause-none : goal.returns-then-not-is_kind-clause-none
 returns-then-not-is_kind-clause-none c =
-    no_kind c.args.bytes.now _ _ c.word.ensures.parts c.word.ensures.all c.word.ensures.longest (ap (begins is_word_byte) c.in-Some.ensures ∙ sym c.is_word_byte.ensures ∙ c.if-is_word_byte.true) (λ k. false≢true (c.if-not-is_kind.ensures.1 (subst IsKind (sym c.ascii_text-text.ensures) k)))
+    no_kind c.args.bytes.now _ _ c.front.ensures.parts c.front.ensures.all c.front.ensures.longest (ap (begins is_word_byte) c.in-Some.ensures ∙ sym c.is_word_byte.ensures ∙ c.if-is_word_byte.true) (λ k. false≢true (c.if-not-is_kind.ensures.1 (subst IsKind (sym c.ascii_text-text.ensures) k)))
 
 pub returns-clause-none : goal.returns-clause-none
 returns-clause-none c =
@@ -16,10 +16,10 @@ returns-clause-none c =
 pub returns-then-is_word_byte-clause-found : goal.returns-then-is_word_byte-clause-found
 returns-then-is_word_byte-clause-found c =
     rw c.ascii_text-text.ensures (
-      c.word.ensures.parts,
+      c.front.ensures.parts,
       inl (record {
-        all = c.word.ensures.all;
-        longest = c.word.ensures.longest;
+        all = c.front.ensures.all;
+        longest = c.front.ensures.longest;
         kind = subst IsKind c.ascii_text-text.ensures (c.if-not-is_kind.ensures.0 refl);
       }),
     )

@@ -1,8 +1,8 @@
 use Rattle.std.proofs.Common.{arith, ap, length, length-append}
 use Rattle.std.specs.Prelude.{◌==◌}
-use Rattle.std.proofs.lemmas.Result.{err_from_is_err_and}
+use Rattle.lw_base.proofs.Returns.{passed_on}
 use Rattle.lw_base.specs.Characters.{begins}
-use Rattle.lw_text.proofs.Gaps.{Gap-suffix}
+use Rattle.lw_text.proofs.TriviaLemmas.{Trivia-suffix}
 use Rattle.lw_text.proofs.NoteRows.{Passed-note, Passed-shorter, Passed-done, Passed-open, Passed-none}
 use Rattle.lw_text.proofs.notes.after_notes.Goals as goal
 
@@ -14,14 +14,12 @@ returns-in-Some-behind_byte-clause-found c = Passed-done c.notes.invariant c.in-
 
 pub returns-in_err-rest-in-None-clause-fault : goal.returns-in_err-rest-in-None-clause-fault
 returns-in_err-rest-in-None-clause-fault c =
-    let p = err_from_is_err_and c.from_residual.result c.from_residual.ensures.1 in
-    rw p.1 (Passed-none c.notes.invariant c.in-Some.ensures.found c.in-Some.ensures.stops c.in-None.ensures c.in_err-rest-in-None.ensures.fault)
+    passed_on _ _ c.from_residual.ensures.1 (Passed-none c.notes.invariant c.in-Some.ensures.found c.in-Some.ensures.stops c.in-None.ensures c.in_err-rest-in-None.ensures.fault)
 
 pub returns-in_err-rest-in-None-clause-place : goal.returns-in_err-rest-in-None-clause-place
 returns-in_err-rest-in-None-clause-place c =
-    let p = err_from_is_err_and c.from_residual.result c.from_residual.ensures.1 in
-    let s = Gap-suffix c.in-Some.ensures.found in
-    rw (p.1, p.2) (omega (arith, c.in_err-rest-in-None.ensures.place, ap length s.1, length-append s.0 c.in-Some.start.now, c.notes.invariant.bound))
+    let s = Trivia-suffix c.in-Some.ensures.found in
+    passed_on _ _ c.from_residual.ensures.1 (omega (arith, c.in_err-rest-in-None.ensures.place, ap length s.1, length-append s.0 c.in-Some.start.now, c.notes.invariant.bound))
 
 pub notes-smaller : goal.notes-smaller
 notes-smaller c = Passed-shorter c.in-Some.ensures.found c.in_ok-rest-in-None.ensures.found

@@ -1,32 +1,29 @@
-use Rattle.std.proofs.Common.{◌≡◌, ◌≤◌, length, map, sym, ap, ◌∙◌, subst, arith}
+use Rattle.std.proofs.Common.{◌≡◌, ◌≤◌, length, sym, ap, ◌∙◌, subst, arith}
 use Rattle.std.specs.Prelude.{IfNone, IfSome}
-use Rattle.std.proofs.lemmas.Result.{err_from_is_err_and}
+use Rattle.lw_base.proofs.Returns.{passed_on}
 use Rattle.lw_text.specs.Spans.{texts, Spans}
 use Rattle.lw_base.specs.Heads.{head_of}
 use Rattle.lw_text.specs.Rows.{columns}
 use Rattle.lw_text.specs.Headings.{Heading}
 use Rattle.lw_text.specs.Tokens.{Tokens}
 use Rattle.lw_base.specs.Propositions.{formula_of}
-use Rattle.lw_text.specs.Propositions.{IsProposition}
-use Rattle.lw_text.specs.Conditions.{placed}
-use Rattle.lw_text.specs.Frames.{Said, head_of_said}
+use Rattle.lw_text.specs.Frames.{TestSyntax, head_of_syntax}
 use Rattle.lw_text.specs.Places.{all_texts}
 use Rattle.lw_text.proofs.TokenRows.{Spans-places}
 use Rattle.lw_text.proofs.CellPlaces.{RowSpans-within}
 use Rattle.lw_text.proofs.RowColumns.{columns-texts}
-use Rattle.lw_text.proofs.PlacedHeads.{head_made}
+use Rattle.lw_text.proofs.ResolvedHeads.{head_made}
+use Rattle.lw_text.proofs.WellFormedHeads.{body_proposition}
 use Rattle.lw_text.proofs.Whole.{no_frame, no_parts}
 use Rattle.lw_text.proofs.read.read_text.Goals as goal
 
 pub returns-in_err-name-clause-fault : goal.returns-in_err-name-clause-fault
 returns-in_err-name-clause-fault g c =
-    let p = err_from_is_err_and c.from_residual.result c.from_residual.ensures.1 in
-    rw p.1 (λ _ frame h. c.in_err-name.ensures.fault h.name h.rest (subst (λ t. Heading t h.name h.rest) (sym c.new-lexer.ensures.rest) h.heading))
+    passed_on _ _ c.from_residual.ensures.1 (λ _ frame h. c.in_err-name.ensures.fault h.name h.rest (subst (λ t. Heading t h.name h.rest) (sym c.new-lexer.ensures.rest) h.heading))
 
 pub returns-in_err-name-clause-place : goal.returns-in_err-name-clause-place
 returns-in_err-name-clause-place g c =
-    let p = err_from_is_err_and c.from_residual.result c.from_residual.ensures.1 in
-    rw (p.1, p.2) (omega (arith, c.in_err-name.ensures.place, ap length c.new-lexer.ensures.text))
+    passed_on _ _ c.from_residual.ensures.1 (omega (arith, c.in_err-name.ensures.place, ap length c.new-lexer.ensures.text))
 
 pub body-requires-clause-places : goal.body-requires-clause-places
 body-requires-clause-places g c =
@@ -40,18 +37,22 @@ body-requires-clause-fault g c = subst (λ t. IfSome c.in_ok-row.row.fault (λ f
 
 pub returns-in_err-body-clause-fault : goal.returns-in_err-body-clause-fault
 returns-in_err-body-clause-fault g c =
-    let p = err_from_is_err_and c.from_residual-in_err-body.result c.from_residual-in_err-body.ensures.1 in
     let row = c.in_ok-row.row in
     let heading = subst (λ t. Heading t c.in_ok-name.name.now c.heading.new.self.rest.now) c.new-lexer.ensures.rest c.in_ok-name.ensures.found in
-    rw (p.1, p.2) (λ ne. no_frame c.args.text.now c.in_ok-name.name.now c.heading.new.self.rest.now heading (no_parts row.fault c.heading.new.self.rest.now (texts row.tokens) c.in_ok-row.ensures.found c.in_ok-row.ensures.fault (c.in_err-body.ensures.fault ne)))
+    passed_on _ _ c.from_residual-in_err-body.ensures.1 (λ ne. no_frame c.args.text.now c.in_ok-name.name.now c.heading.new.self.rest.now heading (no_parts row.fault c.heading.new.self.rest.now (texts row.tokens) c.in_ok-row.ensures.found c.in_ok-row.ensures.fault (c.in_err-body.ensures.fault ne)))
 
 pub returns-in_err-body-clause-place : goal.returns-in_err-body-clause-place
 returns-in_err-body-clause-place g c =
-    let p = err_from_is_err_and c.from_residual-in_err-body.result c.from_residual-in_err-body.ensures.1 in
-    rw (p.1, p.2) c.in_err-body.ensures.place
+    passed_on _ _ c.from_residual-in_err-body.ensures.1 c.in_err-body.ensures.place
 
-pub finish-requires : goal.finish-requires
-finish-requires g c =
+pub finish-requires-clause-says : goal.finish-requires-clause-says
+finish-requires-clause-says g c = (_, c.in_ok-body.ensures.found)
+
+pub finish-requires-clause-name : goal.finish-requires-clause-name
+finish-requires-clause-name g c = c.in_ok-name.ensures.found.3.is_name
+
+pub finish-requires-clause-within : goal.finish-requires-clause-within
+finish-requires-clause-within g c =
     let len = length c.args.text.now in
     let whole = c.in_ok-name.ensures.same ∙ c.new-lexer.ensures.text in
     let spans = subst (λ t. Spans t 0 c.in_ok-row.row.tokens (length t)) whole c.in_ok-row.ensures.spans in
@@ -62,21 +63,21 @@ returns-clause-found g c =
     let body = c.in_ok-body.body in
     let frame = c.in_ok-finish.field-0 in
     let says = c.in_ok-body.ensures.found in
-    let head : head_of frame.head ≡ head_of_said c.in_ok-name.name.now says.said (formula_of body.said.prop) = c.in_ok-finish.ensures.head ∙ head_made c.in_ok-name.name.now _ body says in
-    let cells : all_texts frame.cells ≡ columns body.said.threads (all_texts body.rows) = ap all_texts c.in_ok-finish.ensures.cells ∙ columns-texts body.said.threads body.rows in
-    let same : columns body.said.threads (all_texts body.rows) ≡ columns says.said.threads says.said.rows = ap (λ (s : Said). columns s.threads s.rows) (sym says.is) in
+    let head : head_of frame.head ≡ head_of_syntax c.in_ok-name.name.now says.syntax (formula_of body.parts.prop) = c.in_ok-finish.ensures.head ∙ head_made c.in_ok-name.name.now _ body says in
+    let cells : all_texts frame.cells ≡ columns body.parts.threads (all_texts body.rows) = ap all_texts c.in_ok-finish.ensures.cells ∙ columns-texts body.parts.threads body.rows in
+    let same : columns body.parts.threads (all_texts body.rows) ≡ columns says.syntax.threads says.syntax.rows = ap (λ (s : TestSyntax). columns s.threads s.rows) (sym says.is) in
     record {
       short = c.requires.short;
       utf8 = c.requires.utf8;
       name = c.in_ok-name.name.now;
       rest = c.heading.new.self.rest.now;
       tokens = texts c.in_ok-row.row.tokens;
-      said = says.said;
-      condition = formula_of body.said.prop;
+      syntax = says.syntax;
+      condition = formula_of body.parts.prop;
       heading = subst (λ t. Heading t c.in_ok-name.name.now c.heading.new.self.rest.now) c.new-lexer.ensures.rest c.in_ok-name.ensures.found;
       row = subst (λ o. IfNone o (Tokens c.heading.new.self.rest.now (texts c.in_ok-row.row.tokens))) c.in_ok-body.ensures.whole c.in_ok-row.ensures.found;
       parts = says.parts;
-      proposition = subst (λ names. IsProposition (map (placed names) says.said.signs) (formula_of body.said.prop)) says.names (subst (λ ss. IsProposition (map (placed body.said.locs) ss) (formula_of body.said.prop)) (sym (ap (λ (s : Said). s.signs) says.is)) says.proposition);
+      proposition = body_proposition (texts c.in_ok-row.row.tokens) body says;
       made = cc (head, cells, same);
     }
 
@@ -86,7 +87,7 @@ returns-clause-spans g c =
     let body = c.in_ok-body.body in
     let whole = c.in_ok-name.ensures.same ∙ c.new-lexer.ensures.text in
     let spans = subst (λ t. Spans t 0 c.in_ok-row.row.tokens (length t)) whole c.in_ok-row.ensures.spans in
-    let threads : c.in_ok-finish.field-0.head.threads ≡ body.said.threads = ap (λ h. h.threads) c.in_ok-finish.ensures.head in
+    let threads : c.in_ok-finish.field-0.head.threads ≡ body.parts.threads = ap (λ h. h.threads) c.in_ok-finish.ensures.head in
     record {
       rows = body.rows;
       cells = c.in_ok-finish.ensures.cells ∙ ap (λ n. columns n body.rows) (sym threads);

@@ -1,5 +1,5 @@
-use Rattle.lw_text.proofs.KeptHeads.{frame_kept}
+use Rattle.lw_text.proofs.WellFormedHeads.{frame_well_formed}
 use Rattle.lw_text.proofs.read.what_a_frame_keeps.Goals as goal
 
 pub returns : goal.returns
-returns c = frame_kept
+returns c = frame_well_formed

@@ -1,20 +1,20 @@
 use Rattle.std.proofs.Common.{[], ◌∷◌, sym, ◌∙◌, length-append, arith}
-use Rattle.lw_base.proofs.Tables.{with_name-there, with_name-new, place_of-at, place_of-new}
+use Rattle.lw_base.proofs.Tables.{with_name-there, with_name-new, index_of-at, index_of-new}
 use Rattle.lw_base.proofs.location.LocNames.find_or_add.Goals as goal
 
 pub returns-in-Some-clause-place : goal.returns-in-Some-clause-place
-returns-in-Some-clause-place g c = sym (place_of-at _ _ _ c.len-len.ensures.table.once c.in-Some.ensures)
+returns-in-Some-clause-place g c = sym (index_of-at _ _ _ c.len-len.ensures.table.once c.in-Some.ensures)
 
 pub returns-in-Some-clause-names : goal.returns-in-Some-clause-names
 returns-in-Some-clause-names g c = sym (with_name-there _ _ _ c.in-Some.ensures)
 
-pub returns-then-len-eq8-clause-place : goal.returns-then-len-eq8-clause-place
-returns-then-len-eq8-clause-place g c =
+pub returns-then-len-eq-MAX_LOCATIONS-clause-place : goal.returns-then-len-eq-MAX_LOCATIONS-clause-place
+returns-then-len-eq-MAX_LOCATIONS-clause-place g c =
     rw (with_name-new c.args.self.now c.args.name.now c.in_default.ensures) (omega (arith, length-append c.args.self.now (c.args.name.now ∷ [])))
 
 pub returns-clause-place : goal.returns-clause-place
 returns-clause-place g c =
-    rw c.in_ok-loc.ensures.ok (c.in_ok-loc.ensures.place ∙ sym (place_of-new c.args.self.now c.args.name.now c.in_default.ensures))
+    rw c.in_ok-loc.ensures.ok (c.in_ok-loc.ensures.place ∙ sym (index_of-new c.args.self.now c.args.name.now c.in_default.ensures))
 
 pub returns-clause-names : goal.returns-clause-names
 returns-clause-names g c = c.in_ok-loc.ensures.ok ∙ sym (with_name-new c.args.self.now c.args.name.now c.in_default.ensures)

@@ -1,6 +1,7 @@
 use Rattle.std.proofs.Common.{ap, refl, sym, ◌≡◌, ◌∙◌, Some, Bool, true, false, true≢false}
 use Rattle.std.specs.Prelude.{not}
 use Rattle.std.proofs.lemmas.Result.{err_from_is_err_and}
+use Rattle.lw_base.proofs.Returns.{passed_on}
 use Rattle.lw_source.proofs.Phrases.{gone, same_token, same_word, other_word}
 use Rattle.lw_source.proofs.phrase.Phrase.expect.Goals as goal
 
@@ -14,18 +15,15 @@ was_true false e = absurd (true≢false (sym e))
 
 pub returns-in_err-token-clause-err : goal.returns-in_err-token-clause-err
 returns-in_err-token-clause-err c =
-    let p = err_from_is_err_and c.from_residual.result c.from_residual.ensures.1 in
-    rw p.1 (gone _ c.args.place _ c.in_err-token.ensures.err)
+    passed_on _ _ c.from_residual.ensures.1 (gone _ c.args.place _ c.in_err-token.ensures.err)
 
 pub returns-in_err-token-clause-cause : goal.returns-in_err-token-clause-cause
 returns-in_err-token-clause-cause c =
-    let p = err_from_is_err_and c.from_residual.result c.from_residual.ensures.1 in
-    rw (p.1, p.2) c.in_err-token.ensures.cause
+    passed_on _ _ c.from_residual.ensures.1 c.in_err-token.ensures.cause
 
 pub returns-in_err-token-clause-place : goal.returns-in_err-token-clause-place
 returns-in_err-token-clause-place c len within =
-    let p = err_from_is_err_and c.from_residual.result c.from_residual.ensures.1 in
-    rw (p.1, p.2) (c.in_err-token.ensures.place len within)
+    passed_on _ _ c.from_residual.ensures.1 (c.in_err-token.ensures.place len within)
 
 pub returns-then-ne-clause-err : goal.returns-then-ne-clause-err
 returns-then-ne-clause-err c e = other_word _ _ (was_false _ c.if-ne.ensures) (same_token _ c.args.place _ _ e c.in_ok-token.ensures.found)

@@ -22,4 +22,4 @@ returns-clause-start g c =
 pub invariant_of-result : goal.invariant_of-result
 invariant_of-result g c =
     let threads = mapped_all starting c.args.source.now.head.init_regs _ c.loop-regs.regs-index _ c.as_slice-regs-items.ensures c.loop-regs-test.false c.loop-regs.invariant in
-    (ap length threads ∙ length-map c.args.source.now.head.init_regs starting ∙ c.args.source.now.regs ∙ sym c.args.source.now.as_many, ap length (c.in_ok-words.ensures ∙ c.as_slice.ensures) ∙ c.args.source.now.words)
+    (ap length threads ∙ length-map c.args.source.now.head.init_regs starting ∙ c.args.source.now.well_formed.head.regs ∙ sym c.args.source.now.well_formed.as_many, ap length (c.in_ok-words.ensures ∙ c.as_slice.ensures) ∙ c.args.source.now.well_formed.head.words)

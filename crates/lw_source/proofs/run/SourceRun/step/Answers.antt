@@ -17,14 +17,14 @@ pub after-next-requires : goal.after-next-requires
 after-next-requires g c =
     let thread = rw c.index.ensures.value at c.in-Some.ensures in
     let code = rw (c.as_slice.ensures, c.index-2.ensures.value) at c.index-as_slice-index.is in
-    let next = next_statement (length c.self.inside.words) _ _ _ c.args.cpu c.in-Some.thread.now c.index-as_slice-index.result c.in-Some-get.stmt.now c.self.invariant.1 c.self.invariant.0 c.self.inside.source.now.code thread code c.in-Some-get.ensures in
+    let next = next_statement (length c.self.inside.words) _ _ _ c.args.cpu c.in-Some.thread.now c.index-as_slice-index.result c.in-Some-get.stmt.now c.self.invariant.1 c.self.invariant.0 c.self.inside.source.now.well_formed.code thread code c.in-Some-get.ensures in
     record { stmt = rw c.as_slice-2.ensures next.0; room = next.1 }
 
 pub write-requires : goal.write-requires
 write-requires g c =
     let thread = rw c.index.ensures.value at c.in-Some.ensures in
     let code = rw (c.as_slice.ensures, c.index-2.ensures.value) at c.index-as_slice-index.is in
-    let next = next_statement (length c.self.inside.words) _ _ _ c.args.cpu c.in-Some.thread.now c.index-as_slice-index.result c.in-Some-get.stmt.now c.self.invariant.1 c.self.invariant.0 c.self.inside.source.now.code thread code c.in-Some-get.ensures in
+    let next = next_statement (length c.self.inside.words) _ _ _ c.args.cpu c.in-Some.thread.now c.index-as_slice-index.result c.in-Some-get.stmt.now c.self.invariant.1 c.self.invariant.0 c.self.inside.source.now.well_formed.code thread code c.in-Some-get.ensures in
     next.0
 
 pub returns-in_default-clause-program : goal.returns-in_default-clause-program
@@ -59,3 +59,24 @@ invariant_of-self g c =
 
 pub returns-clause-program : goal.returns-clause-program
 returns-clause-program g c = ap (λ (r : Running). r.program) c.self.view_is
+
+pub returns-clause-threads : goal.returns-clause-threads
+returns-clause-threads g c =
+    let threads = rw c.index-3.ensures.value at c.set.ensures in
+    ap length threads ∙ set_length _ _ _ ∙ ap (λ (r : Running). length r.state.threads) c.self.view_is
+
+pub returns-clause-words : goal.returns-clause-words
+returns-clause-words g c =
+    ap length c.write.ensures ∙ words_kept c.in-Some-get.stmt.now c.in-Some.thread.now c.self.inside.words ∙ ap (λ (r : Running). length r.state.words) c.self.view_is
+
+pub returns-in_default-clause-threads : goal.returns-in_default-clause-threads
+returns-in_default-clause-threads g c = refl
+
+pub returns-in_default-clause-words : goal.returns-in_default-clause-words
+returns-in_default-clause-words g c = refl
+
+pub returns-in_default-get-clause-threads : goal.returns-in_default-get-clause-threads
+returns-in_default-get-clause-threads g c = refl
+
+pub returns-in_default-get-clause-words : goal.returns-in_default-get-clause-words
+returns-in_default-get-clause-words g c = refl

@@ -1,5 +1,5 @@
 use Rattle.std.proofs.Common.{◌∙◌, arith}
-use Rattle.std.proofs.lemmas.Result.{err_from_is_err_and}
+use Rattle.lw_base.proofs.Returns.{passed_on}
 use Rattle.lw_text.specs.Views.{left}
 use Rattle.lw_text.proofs.CellPlaces.{Leaves-join}
 use Rattle.lw_text.proofs.Blocks.{ended}
@@ -7,21 +7,18 @@ use Rattle.lw_text.proofs.cursor.Cursor.block.Goals as goal
 
 pub returns-in_err-expect-clause-fault : goal.returns-in_err-expect-clause-fault
 returns-in_err-expect-clause-fault g c =
-    let p = err_from_is_err_and c.from_residual.result c.from_residual.ensures.1 in
-    rw (p.1, p.2) (λ _ es rest block few. c.in_err-expect.ensures.err block.0 block.1)
+    passed_on _ _ c.from_residual.ensures.1 (λ _ es rest block few. c.in_err-expect.ensures.err block.0 block.1)
 
 pub entries-requires : goal.entries-requires
 entries-requires g c = c.new-entries.ensures
 
 pub returns-in_err-entries-clause-fault : goal.returns-in_err-entries-clause-fault
 returns-in_err-entries-clause-fault g c =
-    let p = err_from_is_err_and c.from_residual-in_err-entries.result c.from_residual-in_err-entries.ensures.1 in
-    rw (p.1, p.2) (λ ne es rest block few. c.in_err-entries.ensures.fault ne es rest (ended (left c.args.self.now) (left c.expect.new.self) es rest c.in_ok-expect.ensures.ok block) few)
+    passed_on _ _ c.from_residual-in_err-entries.ensures.1 (λ ne es rest block few. c.in_err-entries.ensures.fault ne es rest (ended (left c.args.self.now) (left c.expect.new.self) es rest c.in_ok-expect.ensures.ok block) few)
 
 pub returns-in_err-entries-clause-place : goal.returns-in_err-entries-clause-place
 returns-in_err-entries-clause-place g c =
-    let p = err_from_is_err_and c.from_residual-in_err-entries.result c.from_residual-in_err-entries.ensures.1 in
-    rw (p.1, p.2) (omega (arith, c.in_err-entries.ensures.place, c.in_ok-expect.ensures.same))
+    passed_on _ _ c.from_residual-in_err-entries.ensures.1 (omega (arith, c.in_err-entries.ensures.place, c.in_ok-expect.ensures.same))
 
 pub returns-in_err-entries-clause-same : goal.returns-in_err-entries-clause-same
 returns-in_err-entries-clause-same g c = c.in_err-entries.ensures.same ∙ c.in_ok-expect.ensures.same

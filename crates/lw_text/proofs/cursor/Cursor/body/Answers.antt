@@ -1,50 +1,44 @@
 use Rattle.std.proofs.Common.{refl, arith, subst}
 use Rattle.std.proofs.lemmas.List.{length-map}
-use Rattle.std.proofs.lemmas.Result.{err_from_is_err_and}
+use Rattle.lw_base.proofs.Returns.{passed_on}
 use Rattle.lw_text.specs.Spans.{Spans}
 use Rattle.lw_text.specs.Places.{cells_texts, all_texts}
 use Rattle.lw_text.specs.Views.{remaining, left}
 use Rattle.lw_text.proofs.CellPlaces.{Spans-behind, RowSpans-wider}
 use Rattle.lw_text.proofs.TokenRows.{Spans-order}
-use Rattle.lw_text.proofs.Bodies.{said_by, agrees}
+use Rattle.lw_text.proofs.Bodies.{syntax_by, agrees}
 use Rattle.lw_text.proofs.Whole.{first_names, no_front, no_rows, no_condition, header_some, Rows-even}
 use Rattle.lw_text.proofs.cursor.Cursor.body.Goals as goal
 
 pub returns-in_err-entries-clause-fault : goal.returns-in_err-entries-clause-fault
 returns-in_err-entries-clause-fault g c =
-    let p = err_from_is_err_and c.from_residual.result c.from_residual.ensures.1 in
-    rw (p.1, p.2) (λ ne s f parts whole. no_front (left c.args.self.now) (rw c.new-locs.ensures at (c.in_err-entries.ensures.fault ne)) s parts)
+    passed_on _ _ c.from_residual.ensures.1 (λ ne s f parts whole. no_front (left c.args.self.now) (rw c.new-locs.ensures at (c.in_err-entries.ensures.fault ne)) s parts)
 
 pub returns-in_err-entries-clause-place : goal.returns-in_err-entries-clause-place
 returns-in_err-entries-clause-place g c =
-    let p = err_from_is_err_and c.from_residual.result c.from_residual.ensures.1 in
-    rw (p.1, p.2) (c.in_err-entries.ensures.place)
+    passed_on _ _ c.from_residual.ensures.1 (c.in_err-entries.ensures.place)
 
 pub returns-in_err-rows-clause-fault : goal.returns-in_err-rows-clause-fault
 returns-in_err-rows-clause-fault g c =
-    let p = err_from_is_err_and c.from_residual-in_err-rows.result c.from_residual-in_err-rows.ensures.1 in
-    rw (p.1, p.2) (λ ne s f parts whole. let found = c.in_ok-entries.ensures.found in no_rows (left c.args.self.now) found.0 _ found.1 c.in_ok-entries.threads (left c.front.new.self) found.2 (c.in_err-rows.ensures.fault ne) s parts)
+    passed_on _ _ c.from_residual-in_err-rows.ensures.1 (λ ne s f parts whole. let found = c.in_ok-entries.ensures.found in no_rows (left c.args.self.now) found.0 _ found.1 c.in_ok-entries.threads (left c.front.new.self) found.2 (c.in_err-rows.ensures.fault ne) s parts)
 
 pub returns-in_err-rows-clause-place : goal.returns-in_err-rows-clause-place
 returns-in_err-rows-clause-place g c =
-    let p = err_from_is_err_and c.from_residual-in_err-rows.result c.from_residual-in_err-rows.ensures.1 in
-    rw (p.1, p.2) (omega (arith, c.in_err-rows.ensures.place, c.in_ok-entries.ensures.same))
+    passed_on _ _ c.from_residual-in_err-rows.ensures.1 (omega (arith, c.in_err-rows.ensures.place, c.in_ok-entries.ensures.same))
 
 pub returns-in_err-listed-clause-fault : goal.returns-in_err-listed-clause-fault
 returns-in_err-listed-clause-fault g c =
-    let p = err_from_is_err_and c.from_residual-in_err-listed.result c.from_residual-in_err-listed.ensures.1 in
-    rw (p.1, p.2) (λ ne. let found = c.in_ok-entries.ensures.found in let first = first_names (left c.args.self.now) found.0 c.front.new.locs c.in_ok-entries.entries found.1 (rw c.new-locs.ensures at c.in_ok-entries.ensures.names) in no_condition (left c.args.self.now) found.0 _ found.1 c.in_ok-entries.threads (left c.front.new.self) found.2 _ (left c.rows.new.self) c.in_ok-rows.ensures.found c.front.new.locs first (c.in_err-listed.ensures.fault ne))
+    passed_on _ _ c.from_residual-in_err-listed.ensures.1 (λ ne. let found = c.in_ok-entries.ensures.found in let first = first_names (left c.args.self.now) found.0 c.front.new.locs c.in_ok-entries.entries found.1 (rw c.new-locs.ensures at c.in_ok-entries.ensures.names) in no_condition (left c.args.self.now) found.0 _ found.1 c.in_ok-entries.threads (left c.front.new.self) found.2 _ (left c.rows.new.self) c.in_ok-rows.ensures.found c.front.new.locs first (c.in_err-listed.ensures.fault ne))
 
 pub returns-in_err-listed-clause-place : goal.returns-in_err-listed-clause-place
 returns-in_err-listed-clause-place g c =
-    let p = err_from_is_err_and c.from_residual-in_err-listed.result c.from_residual-in_err-listed.ensures.1 in
-    rw (p.1, p.2) (omega (arith, c.in_err-listed.ensures.place, c.in_ok-entries.ensures.same, c.in_ok-rows.ensures.same))
+    passed_on _ _ c.from_residual-in_err-listed.ensures.1 (omega (arith, c.in_err-listed.ensures.place, c.in_ok-entries.ensures.same, c.in_ok-rows.ensures.same))
 
 pub condition-requires-clause-threads : goal.condition-requires-clause-threads
 condition-requires-clause-threads g c = c.in_ok-entries.ensures.found.2.1
 
-pub invariant_of-said : goal.invariant_of-said
-invariant_of-said g c = record { few = c.in_ok-entries.ensures.found.2.1 }
+pub invariant_of-parts : goal.invariant_of-parts
+invariant_of-parts g c = record { few = c.in_ok-entries.ensures.found.2.1 }
 
 pub invariant_of-result : goal.invariant_of-result
 invariant_of-result g c =
@@ -59,12 +53,12 @@ pub returns-clause-found : goal.returns-clause-found
 returns-clause-found g c =
     let front = c.in_ok-entries.ensures.found in
     let found = c.in_ok-listed.ensures.found in
-    let signs = found.0 in
+    let terminals = found.0 in
     let rows = all_texts c.in_ok-rows.rows in
-    let all = agrees (left c.args.self.now) front.0 (left c.front.new.self) (left c.rows.new.self) c.front.new.locs c.condition.new.locs c.in_ok-entries.entries c.in_ok-entries.threads rows c.in_ok-listed.listed c.in_ok-listed.quant signs front.1 (rw c.new-locs.ensures at c.in_ok-entries.ensures.names) c.in_ok-entries.ensures.within front.2 c.in_ok-entries.ensures.there c.in_ok-rows.ensures.found found.1 found.2 c.in_ok-listed.ensures.within c.len-len.ensures.table.few found.3 in
+    let all = agrees (left c.args.self.now) front.0 (left c.front.new.self) (left c.rows.new.self) c.front.new.locs c.condition.new.locs c.in_ok-entries.entries c.in_ok-entries.threads rows c.in_ok-listed.listed c.in_ok-listed.quant terminals front.1 (rw c.new-locs.ensures at c.in_ok-entries.ensures.names) c.in_ok-entries.ensures.within front.2 c.in_ok-entries.ensures.there c.in_ok-rows.ensures.found found.1 found.2 c.in_ok-listed.ensures.within c.len-len.ensures.table.few found.3 in
     record {
-      signs = signs;
-      said = said_by c.condition.new.locs c.in_ok-entries.entries c.in_ok-entries.threads rows c.in_ok-listed.listed c.in_ok-listed.quant signs;
+      terminals = terminals;
+      syntax = syntax_by c.condition.new.locs c.in_ok-entries.entries c.in_ok-entries.threads rows c.in_ok-listed.listed c.in_ok-listed.quant terminals;
       is = refl;
       parts = all.parts;
       names = all.names_are;

@@ -1,18 +1,17 @@
 use Rattle.std.proofs.Common.{◌≡◌, ◌∷◌, [], ◌++◌, ◌∙◌, false, sym, ap, subst, length, arith, append_assoc}
 use Rattle.std.specs.List.{AllByRecursion}
 use Rattle.std.proofs.lemmas.List.{map_push}
+use Rattle.lw_base.proofs.Returns.{passed_on}
 use Rattle.lw_text.specs.declared.token.Token.{Token}
 use Rattle.lw_text.specs.Rows.{ends_cell}
 use Rattle.lw_text.specs.Spans.{texts}
 use Rattle.lw_text.specs.Views.{remaining}
 use Rattle.lw_text.proofs.Readings.{all_push}
-use Rattle.std.proofs.lemmas.Result.{err_from_is_err_and}
 use Rattle.lw_text.proofs.cursor.Cursor.cell.Goals as goal
 
 pub returns-in_err-token-clause-place : goal.returns-in_err-token-clause-place
 returns-in_err-token-clause-place g c =
-    let p = err_from_is_err_and c.from_residual.result c.from_residual.ensures.1 in
-    rw (p.1, p.2) (omega (arith, c.in_err-token.ensures.place, c.cell.invariant.same))
+    passed_on _ _ c.from_residual.ensures.1 (omega (arith, c.in_err-token.ensures.place, c.cell.invariant.same))
 
 pub returns-in_err-token-clause-same : goal.returns-in_err-token-clause-same
 returns-in_err-token-clause-same g c = c.in_err-token.ensures.same ∙ c.cell.invariant.same

@@ -1,11 +1,12 @@
 use Rattle.std.proofs.Common.{◌∷◌, ◌∙◌, refl, ap, sym, length, arith, length-append}
-use Rattle.std.proofs.lemmas.Result.{err_from_is_err_and}
 use Rattle.std.proofs.lemmas.List.{map_push}
+use Rattle.lw_base.proofs.Returns.{passed_on}
+use Rattle.lw_text.proofs.Faults.{memory_ran_out}
 use Rattle.lw_text.specs.Spans.{texts}
 use Rattle.lw_text.specs.Places.{cell_texts, cells_texts}
 use Rattle.lw_text.specs.Views.{remaining, left}
 use Rattle.lw_text.proofs.Texts.{is_text}
-use Rattle.lw_text.proofs.Cells.{Cells-open, Cells-more, Cells-closed, is_bar, mark_nonempty}
+use Rattle.lw_text.proofs.Cells.{Cells-open, Cells-more, Cells-closed, is_bar}
 use Rattle.lw_text.proofs.CellPlaces.{TakesCells-push}
 use Rattle.lw_text.proofs.cursor.Cursor.cells.Goals as goal
 
@@ -14,21 +15,18 @@ cell-requires g c = c.new-tokens.ensures
 
 pub returns-in_err-mark-clause-fault : goal.returns-in_err-mark-clause-fault
 returns-in_err-mark-clause-fault g c =
-    let p = err_from_is_err_and c.from_residual.result c.from_residual.ensures.1 in
-    rw (p.1, p.2) (λ ne. Cells-open (left c.args.self.now) (left c.cells.self) (cells_texts c.cells.cells) c.cells.invariant.before (c.in_err-mark.ensures.err ne))
+    passed_on _ _ c.from_residual.ensures.1 (λ ne. Cells-open (left c.args.self.now) (left c.cells.self) (cells_texts c.cells.cells) c.cells.invariant.before (c.in_err-mark.ensures.err ne))
 
 pub returns-in_err-mark-clause-place : goal.returns-in_err-mark-clause-place
 returns-in_err-mark-clause-place g c =
-    let p = err_from_is_err_and c.from_residual.result c.from_residual.ensures.1 in
-    rw (p.1, p.2) (omega (arith, c.in_err-mark.ensures.place, c.cells.invariant.same))
+    passed_on _ _ c.from_residual.ensures.1 (omega (arith, c.in_err-mark.ensures.place, c.cells.invariant.same))
 
 pub returns-in_err-mark-clause-same : goal.returns-in_err-mark-clause-same
 returns-in_err-mark-clause-same g c = c.in_err-mark.ensures.same ∙ c.cells.invariant.same
 
 pub returns-in_err-push-clause-fault : goal.returns-in_err-push-clause-fault
 returns-in_err-push-clause-fault g c =
-    let p = err_from_is_err_and c.from_residual-in_err-push.result c.from_residual-in_err-push.ensures.1 in
-    rw p.1 (λ ne. absurd (ne p.2.1))
+    memory_ran_out _ _ c.from_residual-in_err-push.ensures.1
 
 pub returns-in_err-push-clause-same : goal.returns-in_err-push-clause-same
 returns-in_err-push-clause-same g c = c.in_ok-mark.ensures.same ∙ c.cells.invariant.same
@@ -39,7 +37,7 @@ returns-then-eq-clause-found g c =
     (Cells-closed (left c.args.self.now) (left c.cells.self) (cells_texts c.cells.cells) c.cells.invariant.before (texts c.cell.new.cell) c.in_ok-mark.mark.text.now (left c.cell.new.self) c.in_ok-mark.ensures.parts c.in_ok-mark.ensures.plain (is_text _ _ (sym c.eq.ensures ∙ c.if-eq.true)))
 
 pub returns-then-eq-clause-spans : goal.returns-then-eq-clause-spans
-returns-then-eq-clause-spans g c = rw c.in_ok-push.ensures.ok (TakesCells-push (remaining c.args.self.now) (remaining c.cells.self) (remaining c.cell.new.self) c.cells.cells _ c.in_ok-mark.mark c.cells.invariant.spans c.in_ok-mark.ensures.tokens refl (mark_nonempty _ c.in_ok-mark.ensures.mark))
+returns-then-eq-clause-spans g c = rw c.in_ok-push.ensures.ok (TakesCells-push (remaining c.args.self.now) (remaining c.cells.self) (remaining c.cell.new.self) c.cells.cells _ c.in_ok-mark.mark c.cells.invariant.spans c.in_ok-mark.ensures.tokens refl c.in_ok-mark.ensures.mark)
 
 pub returns-then-eq-clause-at : goal.returns-then-eq-clause-at
 returns-then-eq-clause-at g c = omega (arith, c.in_ok-mark.ensures.mark_at, c.cells.invariant.same)
@@ -53,6 +51,6 @@ cells-smaller g c = omega (arith, ap length c.in_ok-mark.ensures.parts, length-a
 pub cells-preserved : goal.cells-preserved
 cells-preserved g c = record {
   before = rw (c.in_ok-push.ensures.ok, map_push cell_texts c.cells.cells) (Cells-more (left c.args.self.now) (left c.cells.self) (cells_texts c.cells.cells) c.cells.invariant.before (texts c.cell.new.cell) c.in_ok-mark.mark.text.now (left c.cell.new.self) c.in_ok-mark.ensures.parts c.in_ok-mark.ensures.plain (is_bar _ c.in_ok-mark.ensures.mark (sym c.eq.ensures ∙ c.if-eq.false)));
-  spans = rw c.in_ok-push.ensures.ok (TakesCells-push (remaining c.args.self.now) (remaining c.cells.self) (remaining c.cell.new.self) c.cells.cells _ c.in_ok-mark.mark c.cells.invariant.spans c.in_ok-mark.ensures.tokens refl (mark_nonempty _ c.in_ok-mark.ensures.mark));
+  spans = rw c.in_ok-push.ensures.ok (TakesCells-push (remaining c.args.self.now) (remaining c.cells.self) (remaining c.cell.new.self) c.cells.cells _ c.in_ok-mark.mark c.cells.invariant.spans c.in_ok-mark.ensures.tokens refl c.in_ok-mark.ensures.mark);
   same = c.in_ok-mark.ensures.same ∙ c.cells.invariant.same;
 }

@@ -1,28 +1,25 @@
 use Rattle.std.proofs.Common.{map, sym, subst, arith}
-use Rattle.std.proofs.lemmas.Result.{err_from_is_err_and}
+use Rattle.lw_base.proofs.Returns.{passed_on}
 use Rattle.lw_base.specs.Names.{EachOnce}
 use Rattle.lw_base.proofs.GrowingTables.{once-along}
 use Rattle.lw_text.specs.Sites.{site_names}
-use Rattle.lw_text.specs.Placed.{named}
+use Rattle.lw_text.specs.Resolved.{named}
 use Rattle.lw_text.specs.Views.{left}
 use Rattle.lw_text.proofs.Bodies.{is_condition, condition_names, condition_in}
-use Rattle.lw_text.proofs.Whole.{no_list, no_quant, no_signs}
+use Rattle.lw_text.proofs.Whole.{no_list, no_quant, no_terminals}
 use Rattle.lw_text.proofs.cursor.Cursor.condition.Goals as goal
 
 pub returns-in_err-listed-clause-fault : goal.returns-in_err-listed-clause-fault
 returns-in_err-listed-clause-fault g c =
-    let p = err_from_is_err_and c.from_residual.result c.from_residual.ensures.1 in
-    rw (p.1, p.2) (λ ne all q ss p condition few nodes whole. no_list c.args.threads (left c.args.self.now) c.args.locs.now (c.in_err-listed.ensures.fault ne) all q ss condition few)
+    passed_on _ _ c.from_residual.ensures.1 (λ ne all q ss p condition few nodes whole. no_list c.args.threads (left c.args.self.now) c.args.locs.now (c.in_err-listed.ensures.fault ne) all q ss condition few)
 
 pub returns-in_err-quant-clause-fault : goal.returns-in_err-quant-clause-fault
 returns-in_err-quant-clause-fault g c =
-    let p = err_from_is_err_and c.from_residual-in_err-quant.result c.from_residual-in_err-quant.ensures.1 in
-    rw (p.1, p.2) (λ ne all q ss p condition few nodes whole. no_quant c.args.threads (left c.args.self.now) c.args.locs.now _ (left c.listed.new.self) c.in_ok-listed.ensures.found c.in_err-quant.ensures.fault all q ss condition)
+    passed_on _ _ c.from_residual-in_err-quant.ensures.1 (λ ne all q ss p condition few nodes whole. no_quant c.args.threads (left c.args.self.now) c.args.locs.now _ (left c.listed.new.self) c.in_ok-listed.ensures.found c.in_err-quant.ensures.fault all q ss condition)
 
 pub returns-in_err-quant-clause-place : goal.returns-in_err-quant-clause-place
 returns-in_err-quant-clause-place g c =
-    let p = err_from_is_err_and c.from_residual-in_err-quant.result c.from_residual-in_err-quant.ensures.1 in
-    rw (p.1, p.2) (omega (arith, c.in_err-quant.ensures.place, c.in_ok-listed.ensures.same))
+    passed_on _ _ c.from_residual-in_err-quant.ensures.1 (omega (arith, c.in_err-quant.ensures.place, c.in_ok-listed.ensures.same))
 
 pub proposition-requires-clause-threads : goal.proposition-requires-clause-threads
 proposition-requires-clause-threads g c = c.requires.threads
@@ -32,13 +29,11 @@ proposition-requires-clause-once g c = subst EachOnce (sym c.in_ok-listed.ensure
 
 pub returns-in_err-prop-clause-fault : goal.returns-in_err-prop-clause-fault
 returns-in_err-prop-clause-fault g c =
-    let p = err_from_is_err_and c.from_residual-in_err-prop.result c.from_residual-in_err-prop.ensures.1 in
-    rw (p.1, p.2) (λ ne. no_signs c.args.threads (left c.args.self.now) c.args.locs.now _ (left c.listed.new.self) c.in_ok-listed.ensures.found c.in_ok-quant.quant (left c.quantifier.new.self) c.in_ok-quant.ensures.found c.listed.new.locs c.in_ok-listed.ensures.names (c.in_err-prop.ensures.fault ne))
+    passed_on _ _ c.from_residual-in_err-prop.ensures.1 (λ ne. no_terminals c.args.threads (left c.args.self.now) c.args.locs.now _ (left c.listed.new.self) c.in_ok-listed.ensures.found c.in_ok-quant.quant (left c.quantifier.new.self) c.in_ok-quant.ensures.found c.listed.new.locs c.in_ok-listed.ensures.names (c.in_err-prop.ensures.fault ne))
 
 pub returns-in_err-prop-clause-place : goal.returns-in_err-prop-clause-place
 returns-in_err-prop-clause-place g c =
-    let p = err_from_is_err_and c.from_residual-in_err-prop.result c.from_residual-in_err-prop.ensures.1 in
-    rw (p.1, p.2) (omega (arith, c.in_err-prop.ensures.place, c.in_ok-listed.ensures.same, c.in_ok-quant.ensures.same))
+    passed_on _ _ c.from_residual-in_err-prop.ensures.1 (omega (arith, c.in_err-prop.ensures.place, c.in_ok-listed.ensures.same, c.in_ok-quant.ensures.same))
 
 pub returns-clause-found : goal.returns-clause-found
 returns-clause-found g c =

@@ -1,7 +1,8 @@
 use Rattle.std.proofs.Common.{◌≡◌, ◌≤◌, ◌∷◌, [], ◌∙◌, refl, ap, subst, length, arith, Bool}
 use Rattle.std.specs.Prelude.{codes, if◌then◌else◌}
 use Rattle.std.proofs.lemmas.List.Elements.{All-nil, All-push}
-use Rattle.std.proofs.lemmas.Result.{err_from_is_err_and}
+use Rattle.lw_base.proofs.Returns.{passed_on}
+use Rattle.lw_text.proofs.Faults.{memory_ran_out}
 use Rattle.lw_text.specs.Views.{left}
 use Rattle.lw_text.proofs.CellPlaces.{Leaves-join}
 use Rattle.lw_text.proofs.Blocks.{entries_none, entries_end, entries_in, entries_fault, entries_more, entries_last, entries_names, entries_within, entries_mark, IsEntry-shorter}
@@ -35,36 +36,31 @@ returns-then-takes-clause-same g c = c.takes.ensures.same ∙ c.entries.invarian
 
 pub returns-in_err-entry-clause-fault : goal.returns-in_err-entry-clause-fault
 returns-in_err-entry-clause-fault g c =
-    let p = err_from_is_err_and c.from_residual.result c.from_residual.ensures.1 in
     let kept : left c.takes.new.self ≡ left c.entries.self = ap left (c.takes.ensures.kept c.if-takes.false) in
-    rw (p.1, p.2) (λ ne. entries_fault c.args.locs.now c.entries.locs (left c.args.self.now) (left c.entries.self) c.entries.entries c.entries.invariant.read (c.takes.ensures.other c.if-takes.false) (rw kept at (c.in_err-entry.ensures.fault ne)))
+    passed_on _ _ c.from_residual.ensures.1 (λ ne. entries_fault c.args.locs.now c.entries.locs (left c.args.self.now) (left c.entries.self) c.entries.entries c.entries.invariant.read (c.takes.ensures.other c.if-takes.false) (rw kept at (c.in_err-entry.ensures.fault ne)))
 
 pub returns-in_err-entry-clause-place : goal.returns-in_err-entry-clause-place
 returns-in_err-entry-clause-place g c =
-    let p = err_from_is_err_and c.from_residual.result c.from_residual.ensures.1 in
-    rw (p.1, p.2) (omega (arith, c.in_err-entry.ensures.place, c.takes.ensures.same, c.entries.invariant.same))
+    passed_on _ _ c.from_residual.ensures.1 (omega (arith, c.in_err-entry.ensures.place, c.takes.ensures.same, c.entries.invariant.same))
 
 pub returns-in_err-entry-clause-same : goal.returns-in_err-entry-clause-same
 returns-in_err-entry-clause-same g c = c.in_err-entry.ensures.same ∙ (c.takes.ensures.same ∙ c.entries.invariant.same)
 
 pub returns-in_err-push-clause-fault : goal.returns-in_err-push-clause-fault
 returns-in_err-push-clause-fault g c =
-    let p = err_from_is_err_and c.from_residual-in_err-push.result c.from_residual-in_err-push.ensures.1 in
-    rw p.1 (λ ne. absurd (ne p.2.1))
+    memory_ran_out _ _ c.from_residual-in_err-push.ensures.1
 
 pub returns-in_err-push-clause-same : goal.returns-in_err-push-clause-same
 returns-in_err-push-clause-same g c = c.in_ok-entry.ensures.same ∙ (c.takes.ensures.same ∙ c.entries.invariant.same)
 
 pub returns-in_err-either-clause-fault : goal.returns-in_err-either-clause-fault
 returns-in_err-either-clause-fault g c =
-    let p = err_from_is_err_and c.from_residual-in_err-either.result c.from_residual-in_err-either.ensures.1 in
     let kept : left c.takes.new.self ≡ left c.entries.self = ap left (c.takes.ensures.kept c.if-takes.false) in
-    rw (p.1, p.2) (λ ne all rest ended few. entries_mark c.args.locs.now c.entries.locs (left c.args.self.now) (left c.entries.self) c.entries.entries c.entries.invariant.read c.entry.new.locs c.in_ok-entry.field-0 c.in_ok-entry.ensures.names c.in_ok-entry.ensures.within (left c.entry.new.self) (rw kept at c.in_ok-entry.ensures.found) c.in_err-either.ensures.no_second c.in_err-either.ensures.no_first all rest ended)
+    passed_on _ _ c.from_residual-in_err-either.ensures.1 (λ ne all rest ended few. entries_mark c.args.locs.now c.entries.locs (left c.args.self.now) (left c.entries.self) c.entries.entries c.entries.invariant.read c.entry.new.locs c.in_ok-entry.field-0 c.in_ok-entry.ensures.names c.in_ok-entry.ensures.within (left c.entry.new.self) (rw kept at c.in_ok-entry.ensures.found) c.in_err-either.ensures.no_second c.in_err-either.ensures.no_first all rest ended)
 
 pub returns-in_err-either-clause-place : goal.returns-in_err-either-clause-place
 returns-in_err-either-clause-place g c =
-    let p = err_from_is_err_and c.from_residual-in_err-either.result c.from_residual-in_err-either.ensures.1 in
-    rw (p.1, p.2) (omega (arith, c.in_err-either.ensures.place, c.in_ok-entry.ensures.same, c.takes.ensures.same, c.entries.invariant.same))
+    passed_on _ _ c.from_residual-in_err-either.ensures.1 (omega (arith, c.in_err-either.ensures.place, c.in_ok-entry.ensures.same, c.takes.ensures.same, c.entries.invariant.same))
 
 pub returns-in_err-either-clause-same : goal.returns-in_err-either-clause-same
 returns-in_err-either-clause-same g c = c.in_err-either.ensures.same ∙ (c.in_ok-entry.ensures.same ∙ (c.takes.ensures.same ∙ c.entries.invariant.same))

@@ -1,5 +1,5 @@
 use Rattle.std.proofs.Common.{◌∙◌, refl, arith}
-use Rattle.std.proofs.lemmas.Result.{err_from_is_err_and}
+use Rattle.lw_base.proofs.Returns.{passed_on}
 use Rattle.lw_text.specs.Views.{left}
 use Rattle.lw_text.proofs.CellPlaces.{Leaves-join}
 use Rattle.lw_text.proofs.Whole.{no_header, no_thread}
@@ -7,28 +7,23 @@ use Rattle.lw_text.proofs.cursor.Cursor.front.Goals as goal
 
 pub returns-in_err-entries-clause-fault : goal.returns-in_err-entries-clause-fault
 returns-in_err-entries-clause-fault g c =
-    let p = err_from_is_err_and c.from_residual.result c.from_residual.ensures.1 in
-    rw (p.1, p.2) (λ ne es n mid rest block header there few. c.in_err-entries.ensures.fault ne es mid block few)
+    passed_on _ _ c.from_residual.ensures.1 (λ ne es n mid rest block header there few. c.in_err-entries.ensures.fault ne es mid block few)
 
 pub returns-in_err-threads-clause-fault : goal.returns-in_err-threads-clause-fault
 returns-in_err-threads-clause-fault g c =
-    let p = err_from_is_err_and c.from_residual-in_err-threads.result c.from_residual-in_err-threads.ensures.1 in
-    rw (p.1, p.2) (λ _ es n mid rest block header there few. no_header (left c.args.self.now) (left c.block.new.self) _ c.in_ok-entries.ensures.found c.in_err-threads.ensures.fault es n mid rest block header)
+    passed_on _ _ c.from_residual-in_err-threads.ensures.1 (λ _ es n mid rest block header there few. no_header (left c.args.self.now) (left c.block.new.self) _ c.in_ok-entries.ensures.found c.in_err-threads.ensures.fault es n mid rest block header)
 
 pub returns-in_err-threads-clause-place : goal.returns-in_err-threads-clause-place
 returns-in_err-threads-clause-place g c =
-    let p = err_from_is_err_and c.from_residual-in_err-threads.result c.from_residual-in_err-threads.ensures.1 in
-    rw (p.1, p.2) (omega (arith, c.in_err-threads.ensures.place, c.in_ok-entries.ensures.same))
+    passed_on _ _ c.from_residual-in_err-threads.ensures.1 (omega (arith, c.in_err-threads.ensures.place, c.in_ok-entries.ensures.same))
 
 pub returns-in_err-check_threads-clause-fault : goal.returns-in_err-check_threads-clause-fault
 returns-in_err-check_threads-clause-fault g c =
-    let p = err_from_is_err_and c.from_residual-in_err-check_threads.result c.from_residual-in_err-check_threads.ensures.1 in
-    rw (p.1, p.2) (λ _ es n mid rest block header there few. no_thread (left c.args.self.now) (left c.block.new.self) _ c.in_ok-entries.ensures.found c.in_ok-threads.threads (left c.header.new.self) c.in_ok-threads.ensures.found c.block.new.locs c.in_ok-entries.entries refl (rw c.as_slice.ensures at c.in_err-check_threads.ensures.err) es n mid rest block header there)
+    passed_on _ _ c.from_residual-in_err-check_threads.ensures.1 (λ _ es n mid rest block header there few. no_thread (left c.args.self.now) (left c.block.new.self) _ c.in_ok-entries.ensures.found c.in_ok-threads.threads (left c.header.new.self) c.in_ok-threads.ensures.found c.block.new.locs c.in_ok-entries.entries refl (rw c.as_slice.ensures at c.in_err-check_threads.ensures.err) es n mid rest block header there)
 
 pub returns-in_err-check_threads-clause-place : goal.returns-in_err-check_threads-clause-place
 returns-in_err-check_threads-clause-place g c =
-    let p = err_from_is_err_and c.from_residual-in_err-check_threads.result c.from_residual-in_err-check_threads.ensures.1 in
-    rw (p.1, p.2) (c.in_err-check_threads.ensures.place c.args.self.now.len (rw c.as_slice.ensures c.in_ok-entries.ensures.places))
+    passed_on _ _ c.from_residual-in_err-check_threads.ensures.1 (c.in_err-check_threads.ensures.place c.args.self.now.len (rw c.as_slice.ensures c.in_ok-entries.ensures.places))
 
 pub returns-clause-found : goal.returns-clause-found
 returns-clause-found g c = (left c.block.new.self, c.in_ok-entries.ensures.found, c.in_ok-threads.ensures.found)

@@ -1,7 +1,7 @@
 use Rattle.std.proofs.Common.{inr, ◌∙◌, refl, ap, sym, arith}
 use Rattle.std.proofs.lemmas.List.Elements.{All-nil}
-use Rattle.std.proofs.lemmas.Result.{err_from_is_err_and}
-use Rattle.lw_text.specs.Placed.{IsIn}
+use Rattle.lw_base.proofs.Returns.{passed_on}
+use Rattle.lw_text.specs.Resolved.{IsIn}
 use Rattle.lw_text.specs.Views.{left}
 use Rattle.lw_text.proofs.Listings.{ended, listed, no_bracket}
 use Rattle.lw_text.proofs.cursor.Cursor.listed.Goals as goal
@@ -23,13 +23,11 @@ returns-then-not-takes-clause-same g c = c.takes.ensures.same
 
 pub returns-in_err-expect-clause-fault : goal.returns-in_err-expect-clause-fault
 returns-in_err-expect-clause-fault g c =
-    let p = err_from_is_err_and c.from_residual.result c.from_residual.ensures.1 in
-    rw (p.1, p.2) (λ _ ss rest all there few. no_bracket (left c.args.self.now) (left c.takes.new.self) (c.takes.ensures.taken c.if-not-takes.false) c.in_err-expect.ensures.err ss rest all)
+    passed_on _ _ c.from_residual.ensures.1 (λ _ ss rest all there few. no_bracket (left c.args.self.now) (left c.takes.new.self) (c.takes.ensures.taken c.if-not-takes.false) c.in_err-expect.ensures.err ss rest all)
 
 pub returns-in_err-expect-clause-place : goal.returns-in_err-expect-clause-place
 returns-in_err-expect-clause-place g c =
-    let p = err_from_is_err_and c.from_residual.result c.from_residual.ensures.1 in
-    rw (p.1, p.2) (omega (arith, c.in_err-expect.ensures.place, c.takes.ensures.same))
+    passed_on _ _ c.from_residual.ensures.1 (omega (arith, c.in_err-expect.ensures.place, c.takes.ensures.same))
 
 pub returns-in_err-expect-clause-same : goal.returns-in_err-expect-clause-same
 returns-in_err-expect-clause-same g c = c.in_err-expect.ensures.same ∙ c.takes.ensures.same
@@ -39,13 +37,11 @@ sites-requires g c = c.new-sites.ensures
 
 pub returns-in_err-sites-clause-fault : goal.returns-in_err-sites-clause-fault
 returns-in_err-sites-clause-fault g c =
-    let p = err_from_is_err_and c.from_residual-in_err-sites.result c.from_residual-in_err-sites.ensures.1 in
-    rw (p.1, p.2) (λ ne ss rest all there few. c.in_err-sites.ensures.fault ne ss rest (ended (left c.args.self.now) (left c.takes.new.self) (left c.expect.new.self) (c.takes.ensures.taken c.if-not-takes.false) c.in_ok-expect.ensures.ok ss rest all) there few)
+    passed_on _ _ c.from_residual-in_err-sites.ensures.1 (λ ne ss rest all there few. c.in_err-sites.ensures.fault ne ss rest (ended (left c.args.self.now) (left c.takes.new.self) (left c.expect.new.self) (c.takes.ensures.taken c.if-not-takes.false) c.in_ok-expect.ensures.ok ss rest all) there few)
 
 pub returns-in_err-sites-clause-place : goal.returns-in_err-sites-clause-place
 returns-in_err-sites-clause-place g c =
-    let p = err_from_is_err_and c.from_residual-in_err-sites.result c.from_residual-in_err-sites.ensures.1 in
-    rw (p.1, p.2) (omega (arith, c.in_err-sites.ensures.place, c.in_ok-expect.ensures.same, c.takes.ensures.same))
+    passed_on _ _ c.from_residual-in_err-sites.ensures.1 (omega (arith, c.in_err-sites.ensures.place, c.in_ok-expect.ensures.same, c.takes.ensures.same))
 
 pub returns-in_err-sites-clause-same : goal.returns-in_err-sites-clause-same
 returns-in_err-sites-clause-same g c = c.in_err-sites.ensures.same ∙ (c.in_ok-expect.ensures.same ∙ c.takes.ensures.same)

@@ -1,29 +1,26 @@
 use Rattle.std.proofs.Common.{◌≡◌, ◌∷◌, [], ◌∙◌, refl, sym, ap, subst, arith}
-use Rattle.std.proofs.lemmas.Result.{err_from_is_err_and}
+use Rattle.lw_base.proofs.Returns.{passed_on}
 use Rattle.lw_base.specs.Tables.{with_names}
 use Rattle.lw_text.specs.Sites.{IsSite, site_names}
 use Rattle.lw_text.specs.Propositions.{Atom}
-use Rattle.lw_text.specs.Placed.{named}
-use Rattle.lw_text.specs.Conditions.{IsClaim, IsSign, sites_in}
+use Rattle.lw_text.specs.Resolved.{named}
+use Rattle.lw_text.specs.Conditions.{IsAtom, IsTerminal, sites_in}
 use Rattle.lw_text.specs.Views.{left}
-use Rattle.lw_text.proofs.SignRows.{site_alone}
+use Rattle.lw_text.proofs.TerminalLists.{site_alone}
 use Rattle.lw_text.proofs.cursor.Cursor.opening.Goals as goal
 
 pub returns-in_err-word-clause-fault : goal.returns-in_err-word-clause-fault
 returns-in_err-word-clause-fault g c =
     let kept : left c.args.self.now ≡ left c.takes-5.new.self = ap left (sym (c.if-takes-5.ensures.kept refl ∙ c.if-takes-4.ensures.kept refl ∙ c.if-takes-3.ensures.kept refl ∙ c.if-takes-2.ensures.kept refl ∙ c.if-takes.ensures.kept refl)) in
-    let p = err_from_is_err_and c.from_residual-in_err-word.result c.from_residual-in_err-word.ensures.1 in
-    rw (p.1, p.2) (λ ne s rest sign begins few. site_alone c.args.threads (left c.takes-5.new.self) (left c.site.new.self) _ c.in_ok-site.ensures.found c.in_err-word.ensures.err s rest (subst (λ l. IsSign c.args.threads l s rest) kept sign))
+    passed_on _ _ c.from_residual-in_err-word.ensures.1 (λ ne s rest terminal begins few. site_alone c.args.threads (left c.takes-5.new.self) (left c.site.new.self) _ c.in_ok-site.ensures.found c.in_err-word.ensures.err s rest (subst (λ l. IsTerminal c.args.threads l s rest) kept terminal))
 
 pub returns-in_err-site-clause-place : goal.returns-in_err-site-clause-place
 returns-in_err-site-clause-place g c =
-    let p = err_from_is_err_and c.from_residual.result c.from_residual.ensures.1 in
-    rw (p.1, p.2) (omega (arith, c.in_err-site.ensures.place, c.takes.ensures.same, c.takes-2.ensures.same, c.takes-3.ensures.same, c.takes-4.ensures.same, c.takes-5.ensures.same))
+    passed_on _ _ c.from_residual.ensures.1 (omega (arith, c.in_err-site.ensures.place, c.takes.ensures.same, c.takes-2.ensures.same, c.takes-3.ensures.same, c.takes-4.ensures.same, c.takes-5.ensures.same))
 
 pub returns-in_err-word-clause-place : goal.returns-in_err-word-clause-place
 returns-in_err-word-clause-place g c =
-    let p = err_from_is_err_and c.from_residual-in_err-word.result c.from_residual-in_err-word.ensures.1 in
-    rw (p.1, p.2) (omega (arith, c.in_err-word.ensures.place, c.in_ok-site.ensures.same, c.takes.ensures.same, c.takes-2.ensures.same, c.takes-3.ensures.same, c.takes-4.ensures.same, c.takes-5.ensures.same))
+    passed_on _ _ c.from_residual-in_err-word.ensures.1 (omega (arith, c.in_err-word.ensures.place, c.in_ok-site.ensures.same, c.takes.ensures.same, c.takes-2.ensures.same, c.takes-3.ensures.same, c.takes-4.ensures.same, c.takes-5.ensures.same))
 
 pub returns-then-takes-clause-same : goal.returns-then-takes-clause-same
 returns-then-takes-clause-same g c = c.takes.ensures.same
@@ -53,11 +50,11 @@ pub returns-clause-found : goal.returns-clause-found
 returns-clause-found g c =
     let kept : left c.args.self.now ≡ left c.takes-5.new.self = ap left (sym (c.if-takes-5.ensures.kept refl ∙ c.if-takes-4.ensures.kept refl ∙ c.if-takes-3.ensures.kept refl ∙ c.if-takes-2.ensures.kept refl ∙ c.if-takes.ensures.kept refl)) in
     let site = named c.site.new.locs c.in_ok-site.site in
-    subst (λ claim. IsClaim c.args.threads (left c.args.self.now) claim (left c.value.new.self)) (sym (c.atom.ensures.said c.site.new.locs))
+    subst (λ claim. IsAtom c.args.threads (left c.args.self.now) claim (left c.value.new.self)) (sym (c.atom_at.ensures.syntax c.site.new.locs))
     (left c.site.new.self, subst (λ l. IsSite l site (left c.site.new.self)) (sym kept) c.in_ok-site.ensures.found, c.in_ok-site.ensures.there, c.in_ok-word.ensures.ok)
 
 pub returns-clause-names : goal.returns-clause-names
-returns-clause-names g c = subst (λ claim. c.site.new.locs ≡ with_names c.args.locs.now (site_names (sites_in (Atom claim ∷ [])))) (sym (c.atom.ensures.said c.site.new.locs)) c.in_ok-site.ensures.names
+returns-clause-names g c = subst (λ claim. c.site.new.locs ≡ with_names c.args.locs.now (site_names (sites_in (Atom claim ∷ [])))) (sym (c.atom_at.ensures.syntax c.site.new.locs)) c.in_ok-site.ensures.names
 
 pub returns-clause-within : goal.returns-clause-within
-returns-clause-within g c = c.atom.ensures.within c.site.new.locs c.in_ok-site.ensures.within
+returns-clause-within g c = c.atom_at.ensures.within c.site.new.locs c.in_ok-site.ensures.within

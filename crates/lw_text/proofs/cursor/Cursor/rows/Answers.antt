@@ -1,9 +1,10 @@
 use Rattle.std.proofs.Common.{◌∷◌, [], ◌∙◌, ap, sym, length, arith, length-append}
-use Rattle.std.proofs.lemmas.Result.{err_from_is_err_and}
 use Rattle.std.proofs.lemmas.List.{map_push, length-map}
+use Rattle.lw_base.proofs.Returns.{passed_on}
+use Rattle.lw_text.proofs.Faults.{memory_ran_out}
 use Rattle.lw_text.specs.Places.{cells_texts, all_texts}
 use Rattle.lw_text.specs.Views.{remaining, left}
-use Rattle.lw_text.proofs.Cells.{Line-shorter, Rows-found, Rows-more, Rows-fault, Rows-many}
+use Rattle.lw_text.proofs.Cells.{Row-shorter, Rows-found, Rows-more, Rows-fault, Rows-many}
 use Rattle.lw_text.proofs.CellPlaces.{TakesRows-push}
 use Rattle.lw_text.proofs.cursor.Cursor.rows.Goals as goal
 
@@ -15,23 +16,21 @@ pub returns-then-len-eq-MAX_ROWS-clause-fault : goal.returns-then-len-eq-MAX_ROW
 returns-then-len-eq-MAX_ROWS-clause-fault g c =
     λ _. Rows-many c.args.threads (left c.args.self.now) (left c.rows.self) (all_texts c.rows.rows) c.rows.invariant.passed (sym c.at_stop.ensures ∙ c.if-at_stop.false) (omega (arith, c.if-len-eq-MAX_ROWS.true, c.len.ensures, length-map c.rows.rows cells_texts))
 
-pub returns-in_err-line-clause-fault : goal.returns-in_err-line-clause-fault
-returns-in_err-line-clause-fault g c =
-    let p = err_from_is_err_and c.from_residual.result c.from_residual.ensures.1 in
-    rw (p.1, p.2) (λ ne. Rows-fault c.args.threads (left c.args.self.now) (left c.rows.self) (all_texts c.rows.rows) c.rows.invariant.passed (sym c.at_stop.ensures ∙ c.if-at_stop.false) (c.in_err-line.ensures.fault ne))
+pub returns-in_err-row-clause-fault : goal.returns-in_err-row-clause-fault
+returns-in_err-row-clause-fault g c =
+    passed_on _ _ c.from_residual.ensures.1 (λ ne. Rows-fault c.args.threads (left c.args.self.now) (left c.rows.self) (all_texts c.rows.rows) c.rows.invariant.passed (sym c.at_stop.ensures ∙ c.if-at_stop.false) (c.in_err-row.ensures.fault ne))
 
 pub returns-in_err-push-clause-fault : goal.returns-in_err-push-clause-fault
 returns-in_err-push-clause-fault g c =
-    let p = err_from_is_err_and c.from_residual-in_err-push.result c.from_residual-in_err-push.ensures.1 in
-    rw p.1 (λ ne. absurd (ne p.2.1))
+    memory_ran_out _ _ c.from_residual-in_err-push.ensures.1
 
 pub rows-smaller : goal.rows-smaller
-rows-smaller g c = Line-shorter c.args.threads _ _ _ c.in_ok-line.ensures.found
+rows-smaller g c = Row-shorter c.args.threads _ _ _ c.in_ok-row.ensures.found
 
 pub rows-preserved : goal.rows-preserved
 rows-preserved g c = record {
-  passed = rw (c.in_ok-push.ensures.ok, map_push cells_texts c.rows.rows) (Rows-more c.args.threads (left c.args.self.now) (left c.rows.self) (all_texts c.rows.rows) c.rows.invariant.passed (left c.line.new.self) (cells_texts c.in_ok-line.field-0) (sym c.at_stop.ensures ∙ c.if-at_stop.false) c.in_ok-line.ensures.found);
-  spans = rw c.in_ok-push.ensures.ok (TakesRows-push (remaining c.args.self.now) (remaining c.rows.self) (remaining c.line.new.self) c.rows.rows c.in_ok-line.field-0 c.rows.invariant.spans c.in_ok-line.ensures.spans);
-  few = omega (arith, ap length c.in_ok-push.ensures.ok, length-append c.rows.rows (c.in_ok-line.field-0 ∷ []), c.if-len-eq-MAX_ROWS.false, c.len.ensures, c.rows.invariant.few);
-  same = c.in_ok-line.ensures.same ∙ c.rows.invariant.same;
+  passed = rw (c.in_ok-push.ensures.ok, map_push cells_texts c.rows.rows) (Rows-more c.args.threads (left c.args.self.now) (left c.rows.self) (all_texts c.rows.rows) c.rows.invariant.passed (left c.row.new.self) (cells_texts c.in_ok-row.field-0) (sym c.at_stop.ensures ∙ c.if-at_stop.false) c.in_ok-row.ensures.found);
+  spans = rw c.in_ok-push.ensures.ok (TakesRows-push (remaining c.args.self.now) (remaining c.rows.self) (remaining c.row.new.self) c.rows.rows c.in_ok-row.field-0 c.rows.invariant.spans c.in_ok-row.ensures.spans);
+  few = omega (arith, ap length c.in_ok-push.ensures.ok, length-append c.rows.rows (c.in_ok-row.field-0 ∷ []), c.if-len-eq-MAX_ROWS.false, c.len.ensures, c.rows.invariant.few);
+  same = c.in_ok-row.ensures.same ∙ c.rows.invariant.same;
 }

@@ -1,5 +1,5 @@
 use Rattle.std.proofs.Common.{◌≡◌, ◌≤◌, length}
-use Rattle.lw_text.specs.Rows.{Line, begins_stop}
+use Rattle.lw_text.specs.Rows.{Row, begins_stop}
 use Rattle.lw_text.specs.Places.{all_texts, TakesRows}
 use Rattle.lw_text.specs.Views.{remaining, left}
 use Rattle.lw_text.proofs.Lists.{Passed}
@@ -7,7 +7,7 @@ use Rattle.lw_text.proofs.cursor.Cursor.rows.Given as goal
 
 abbrev pub invariant-rows : goal.invariant-rows
 invariant-rows g l = record {
-  passed : Passed begins_stop (Line l.threads) (left l.fn.self) (all_texts l.rows) (left l.self);
+  passed : Passed begins_stop (Row l.threads) (left l.fn.self) (all_texts l.rows) (left l.self);
   spans : TakesRows (remaining l.fn.self) l.rows (remaining l.self);
   few : length l.rows ≤ 64;
   same : l.self.len ≡ l.fn.self.len;

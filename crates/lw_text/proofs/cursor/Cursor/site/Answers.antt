@@ -1,11 +1,10 @@
 use Rattle.std.proofs.Common.{◌∷◌, [], ◌∙◌, sym, arith}
-use Rattle.std.proofs.lemmas.Bool.{ltb-false}
-use Rattle.std.proofs.lemmas.Result.{err_from_is_err_and}
+use Rattle.lw_base.proofs.Returns.{passed_on}
 use Rattle.lw_text.specs.Views.{remaining, left}
 use Rattle.lw_text.proofs.CellPlaces.{Leaves-behind}
 use Rattle.lw_text.proofs.NameTables.{within-at}
 use Rattle.lw_text.proofs.Texts.{is_text, is_no_text}
-use Rattle.lw_text.proofs.Sites.{brackets_fault, thread_none, register_fault, location_none, entered_found, entered_names}
+use Rattle.lw_text.proofs.Sites.{allowed_location, there_in_brackets, there_of_thread, brackets_fault, thread_refused, register_fault, location_none, entered_found, entered_names}
 use Rattle.lw_text.proofs.cursor.Cursor.site.Goals as goal
 
 pub returns-then-eq-clause-fault : goal.returns-then-eq-clause-fault
@@ -29,12 +28,11 @@ returns-in-Some-clause-same g c = c.of_thread.ensures.same ∙ c.take.ensures.sa
 
 pub returns-in_err-loc-clause-place : goal.returns-in_err-loc-clause-place
 returns-in_err-loc-clause-place g c =
-    let p = err_from_is_err_and c.from_residual-in_err-loc.result c.from_residual-in_err-loc.ensures.1 in
-    rw (p.1, p.2) (omega (arith, c.in_err-loc.ensures.place, c.in_ok-first.ensures.at))
+    passed_on _ _ c.from_residual-in_err-loc.ensures.1 (omega (arith, c.in_err-loc.ensures.place, c.in_ok-first.ensures.at))
 
-pub returns-then-not-is_thread-clause-fault : goal.returns-then-not-is_thread-clause-fault
-returns-then-not-is_thread-clause-fault g c =
-    λ ne s rest p there few. thread_none c.args.locs.now (left c.args.self.now) (left c.take.new.self) c.in_ok-first.first.text.now c.in_ok-first.ensures.ok c.in-Some.thread c.in-Some.ensures c.args.threads (ltb-false _ _ (sym c.is_thread.ensures ∙ c.if-not-is_thread.true)) s rest p there
+pub returns-then-not-is_allowed-clause-fault : goal.returns-then-not-is_allowed-clause-fault
+returns-then-not-is_allowed-clause-fault g c =
+    λ ne s rest p there few. thread_refused c.args.locs.now (left c.args.self.now) (left c.take.new.self) c.in_ok-first.first.text.now c.in_ok-first.ensures.ok c.in-Some.thread c.in-Some.ensures c.args.threads (sym c.is_allowed.ensures ∙ c.if-not-is_allowed.true) s rest p there
 
 pub returns-in-Some-clause-fault : goal.returns-in-Some-clause-fault
 returns-in-Some-clause-fault g c =
@@ -45,8 +43,7 @@ returns-in-Some-clause-leaves g c = Leaves-behind (remaining c.args.self.now) (r
 
 pub returns-in_err-loc-clause-fault : goal.returns-in_err-loc-clause-fault
 returns-in_err-loc-clause-fault g c =
-    let p = err_from_is_err_and c.from_residual-in_err-loc.result c.from_residual-in_err-loc.ensures.1 in
-    rw (p.1, p.2) (λ ne s rest site there few. location_none c.args.locs.now (left c.args.self.now) (left c.take.new.self) c.in_ok-first.first.text.now c.in_ok-first.ensures.ok (is_no_text _ _ (sym c.eq.ensures ∙ c.if-eq.false)) c.in_default.ensures (c.in_err-loc.ensures.fault ne) s rest site few)
+    passed_on _ _ c.from_residual-in_err-loc.ensures.1 (λ ne s rest site there few. location_none c.args.locs.now (left c.args.self.now) (left c.take.new.self) c.in_ok-first.first.text.now c.in_ok-first.ensures.ok (is_no_text _ _ (sym c.eq.ensures ∙ c.if-eq.false)) c.in_default.ensures (c.in_err-loc.ensures.fault ne) s rest site few)
 
 pub returns-clause-found : goal.returns-clause-found
 returns-clause-found g c = entered_found c.args.locs.now c.enter.new.locs (left c.args.self.now) (left c.take.new.self) c.in_ok-first.first.text.now c.in_ok-loc.loc c.in_ok-first.ensures.ok c.in_ok-loc.ensures.name c.in_ok-loc.ensures.found
@@ -60,8 +57,8 @@ returns-clause-within g c = within-at c.enter.new.locs c.in_ok-loc.loc c.in_ok-f
 pub returns-clause-leaves : goal.returns-clause-leaves
 returns-clause-leaves g c = (c.in_ok-first.first ∷ [], c.in_ok-first.ensures.token)
 
-pub returns-then-not-is_thread-clause-same : goal.returns-then-not-is_thread-clause-same
-returns-then-not-is_thread-clause-same g c = c.take.ensures.same
+pub returns-then-not-is_allowed-clause-same : goal.returns-then-not-is_allowed-clause-same
+returns-then-not-is_allowed-clause-same g c = c.take.ensures.same
 
 pub returns-in_err-loc-clause-same : goal.returns-in_err-loc-clause-same
 returns-in_err-loc-clause-same g c = c.take.ensures.same
@@ -69,8 +66,14 @@ returns-in_err-loc-clause-same g c = c.take.ensures.same
 pub returns-clause-same : goal.returns-clause-same
 returns-clause-same g c = c.take.ensures.same
 
-pub returns-then-not-is_thread-clause-place : goal.returns-then-not-is_thread-clause-place
-returns-then-not-is_thread-clause-place g c = c.in_ok-first.ensures.at
+pub returns-then-not-is_allowed-clause-place : goal.returns-then-not-is_allowed-clause-place
+returns-then-not-is_allowed-clause-place g c = c.in_ok-first.ensures.at
 
 pub returns-clause-there : goal.returns-clause-there
-returns-clause-there g c = tt
+returns-clause-there g c = allowed_location c.args.threads _
+
+pub returns-in-Some-clause-there : goal.returns-in-Some-clause-there
+returns-in-Some-clause-there g c = there_of_thread _ (left c.take.new.self) (left c.of_thread.new.self) c.args.threads c.in-Some.thread _ (sym c.is_allowed.ensures ∙ c.if-not-is_allowed.false) c.of_thread.ensures.found
+
+pub returns-then-eq-clause-there : goal.returns-then-eq-clause-there
+returns-then-eq-clause-there g c = there_in_brackets c.args.locs.now _ (left c.take.new.self) (left c.in_brackets.new.self) c.args.threads _ c.in_brackets.ensures.found

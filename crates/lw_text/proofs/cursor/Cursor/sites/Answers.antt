@@ -1,6 +1,7 @@
 use Rattle.std.proofs.Common.{◌≡◌, ◌∷◌, ◌∙◌, refl, ap, subst, length, arith, Bool}
 use Rattle.std.specs.Prelude.{codes, if◌then◌else◌}
-use Rattle.std.proofs.lemmas.Result.{err_from_is_err_and}
+use Rattle.lw_base.proofs.Returns.{passed_on}
+use Rattle.lw_text.proofs.Faults.{memory_ran_out}
 use Rattle.lw_text.specs.Views.{left}
 use Rattle.lw_text.proofs.Atoms.{IsSite-shorter}
 use Rattle.lw_text.proofs.Listings.{sites_none, sites_in, sites_end, sites_fault, sites_there, sites_more, sites_last, sites_names, sites_within, sites_mark}
@@ -29,36 +30,31 @@ returns-then-takes-clause-same g c = c.takes.ensures.same ∙ c.sites.invariant.
 
 pub returns-in_err-site-clause-fault : goal.returns-in_err-site-clause-fault
 returns-in_err-site-clause-fault g c =
-    let p = err_from_is_err_and c.from_residual.result c.from_residual.ensures.1 in
     let kept : left c.takes.new.self ≡ left c.sites.self = ap left (c.takes.ensures.kept c.if-takes.false) in
-    rw (p.1, p.2) (λ ne. sites_fault c.args.threads c.args.locs.now c.sites.locs (left c.args.self.now) (left c.sites.self) c.sites.sites c.sites.invariant.read (c.takes.ensures.other c.if-takes.false) (rw kept at (c.in_err-site.ensures.fault ne)))
+    passed_on _ _ c.from_residual.ensures.1 (λ ne. sites_fault c.args.threads c.args.locs.now c.sites.locs (left c.args.self.now) (left c.sites.self) c.sites.sites c.sites.invariant.read (c.takes.ensures.other c.if-takes.false) (rw kept at (c.in_err-site.ensures.fault ne)))
 
 pub returns-in_err-site-clause-place : goal.returns-in_err-site-clause-place
 returns-in_err-site-clause-place g c =
-    let p = err_from_is_err_and c.from_residual.result c.from_residual.ensures.1 in
-    rw (p.1, p.2) (omega (arith, c.in_err-site.ensures.place, c.takes.ensures.same, c.sites.invariant.same))
+    passed_on _ _ c.from_residual.ensures.1 (omega (arith, c.in_err-site.ensures.place, c.takes.ensures.same, c.sites.invariant.same))
 
 pub returns-in_err-site-clause-same : goal.returns-in_err-site-clause-same
 returns-in_err-site-clause-same g c = c.in_err-site.ensures.same ∙ (c.takes.ensures.same ∙ c.sites.invariant.same)
 
 pub returns-in_err-push-clause-fault : goal.returns-in_err-push-clause-fault
 returns-in_err-push-clause-fault g c =
-    let p = err_from_is_err_and c.from_residual-in_err-push.result c.from_residual-in_err-push.ensures.1 in
-    rw p.1 (λ ne. absurd (ne p.2.1))
+    memory_ran_out _ _ c.from_residual-in_err-push.ensures.1
 
 pub returns-in_err-push-clause-same : goal.returns-in_err-push-clause-same
 returns-in_err-push-clause-same g c = c.in_ok-site.ensures.same ∙ (c.takes.ensures.same ∙ c.sites.invariant.same)
 
 pub returns-in_err-either-clause-fault : goal.returns-in_err-either-clause-fault
 returns-in_err-either-clause-fault g c =
-    let p = err_from_is_err_and c.from_residual-in_err-either.result c.from_residual-in_err-either.ensures.1 in
     let kept : left c.takes.new.self ≡ left c.sites.self = ap left (c.takes.ensures.kept c.if-takes.false) in
-    rw (p.1, p.2) (λ ne all rest listed there few. sites_mark c.args.threads c.args.locs.now c.sites.locs (left c.args.self.now) (left c.sites.self) c.sites.sites c.sites.invariant.read c.site.new.locs c.in_ok-site.field-0 c.in_ok-site.ensures.names c.in_ok-site.ensures.within (left c.site.new.self) (rw kept at c.in_ok-site.ensures.found) c.in_err-either.ensures.no_second c.in_err-either.ensures.no_first all rest listed)
+    passed_on _ _ c.from_residual-in_err-either.ensures.1 (λ ne all rest listed there few. sites_mark c.args.threads c.args.locs.now c.sites.locs (left c.args.self.now) (left c.sites.self) c.sites.sites c.sites.invariant.read c.site.new.locs c.in_ok-site.field-0 c.in_ok-site.ensures.names c.in_ok-site.ensures.within (left c.site.new.self) (rw kept at c.in_ok-site.ensures.found) c.in_err-either.ensures.no_second c.in_err-either.ensures.no_first all rest listed)
 
 pub returns-in_err-either-clause-place : goal.returns-in_err-either-clause-place
 returns-in_err-either-clause-place g c =
-    let p = err_from_is_err_and c.from_residual-in_err-either.result c.from_residual-in_err-either.ensures.1 in
-    rw (p.1, p.2) (omega (arith, c.in_err-either.ensures.place, c.in_ok-site.ensures.same, c.takes.ensures.same, c.sites.invariant.same))
+    passed_on _ _ c.from_residual-in_err-either.ensures.1 (omega (arith, c.in_err-either.ensures.place, c.in_ok-site.ensures.same, c.takes.ensures.same, c.sites.invariant.same))
 
 pub returns-in_err-either-clause-same : goal.returns-in_err-either-clause-same
 returns-in_err-either-clause-same g c = c.in_err-either.ensures.same ∙ (c.in_ok-site.ensures.same ∙ (c.takes.ensures.same ∙ c.sites.invariant.same))

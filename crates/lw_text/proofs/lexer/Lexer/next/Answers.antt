@@ -1,19 +1,19 @@
 use Rattle.std.proofs.Common.{arith, ap, sym, ◌∙◌, ◌++◌, length, length-append, append_assoc}
 use Rattle.std.proofs.lemmas.Bool.Decides.{nat_tests}
-use Rattle.lw_text.proofs.Gaps.{Gap-suffix}
+use Rattle.lw_text.proofs.TriviaLemmas.{Trivia-suffix}
 use Rattle.lw_text.proofs.TokenRows.{Suffix-more, not_ended, no_first_from, no_first_open}
 use Rattle.lw_text.proofs.lexer.Lexer.next.Goals as goal
 
 pub overflow_sub-at : goal.overflow_sub-at
 overflow_sub-at c =
     let s = c.args.self.now in
-    let g = Gap-suffix c.in-Some.ensures.found in
+    let g = Trivia-suffix c.in-Some.ensures.found in
     (Suffix-more s.text.now s.rest.now g.0 c.in-Some.start.now s.suffix g.1).0
 
 pub invariant_of-self : goal.invariant_of-self
 invariant_of-self c =
     let s = c.args.self.now in
-    let g = Gap-suffix c.in-Some.ensures.found in
+    let g = Trivia-suffix c.in-Some.ensures.found in
     let f = c.in-Ok.ensures.found in
     let m = Suffix-more s.text.now s.rest.now (g.0 ++ c.in-Ok.text.now) c.in-Ok.rest.now s.suffix (g.1 ∙ ap (λ x. g.0 ++ x) f.0 ∙ sym (append_assoc g.0 c.in-Ok.text.now c.in-Ok.rest.now)) in
     record { within = m.0; suffix = m.1 }
@@ -21,13 +21,13 @@ invariant_of-self c =
 pub returns-in-Ok-clause-after : goal.returns-in-Ok-clause-after
 returns-in-Ok-clause-after c =
     let s = c.args.self.now in
-    let g = Gap-suffix c.in-Some.ensures.found in
+    let g = Trivia-suffix c.in-Some.ensures.found in
     omega (arith, ap length g.1, length-append g.0 c.in-Some.start.now)
 
 pub returns-in-Ok-clause-slice : goal.returns-in-Ok-clause-slice
 returns-in-Ok-clause-slice c =
     let s = c.args.self.now in
-    let g = Gap-suffix c.in-Some.ensures.found in
+    let g = Trivia-suffix c.in-Some.ensures.found in
     (Suffix-more s.text.now s.rest.now g.0 c.in-Some.start.now s.suffix g.1).1 ∙ c.in-Ok.ensures.found.0
 
 pub returns-in-Err-clause-no_end : goal.returns-in-Err-clause-no_end

@@ -1,14 +1,13 @@
 use Rattle.std.proofs.Common.{sym, ◌∙◌}
 use Rattle.std.specs.Prelude.{codes}
-use Rattle.std.proofs.lemmas.Result.{err_from_is_err_and}
+use Rattle.lw_base.proofs.Returns.{passed_on}
 use Rattle.lw_text.proofs.Texts.{is_no_text}
 use Rattle.lw_text.proofs.TokenRows.{no_first, First-unique}
 use Rattle.lw_text.proofs.lexer.Lexer.source_word.Goals as goal
 
 pub returns-in_err-token-clause-fault : goal.returns-in_err-token-clause-fault
 returns-in_err-token-clause-fault c =
-    let p = err_from_is_err_and c.from_residual.result c.from_residual.ensures.1 in
-    rw p.1 (λ rest first. c.in_err-token.ensures.no_token (codes "SRC") rest first)
+    passed_on _ _ c.from_residual.ensures.1 (λ rest first. c.in_err-token.ensures.no_token (codes "SRC") rest first)
 
 pub returns-else-eq-clause-fault : goal.returns-else-eq-clause-fault
 returns-else-eq-clause-fault c =

@@ -7,27 +7,27 @@ use Rattle.lw_text.proofs.lexer.Lexer.test_name.Goals as goal
 
 pub returns-then-is_empty-clause-fault : goal.returns-then-is_empty-clause-fault
 returns-then-is_empty-clause-fault c =
-    let b = c.blanks.ensures in
-    let u = c.until_blank.ensures in
+    let b = c.front.ensures in
+    let u = c.front-2.ensures in
     no_name c.args.self.now.rest.now _ _ _ _ b.parts b.all b.longest u.parts u.all u.longest (grind (arith, nat_tests))
 
 pub returns-then-is_empty-2-clause-fault : goal.returns-then-is_empty-2-clause-fault
 returns-then-is_empty-2-clause-fault c =
-    let b = c.blanks.ensures in
-    let u = c.until_blank.ensures in
+    let b = c.front.ensures in
+    let u = c.front-2.ensures in
     not_apart c.args.self.now.rest.now _ _ _ _ b.parts b.all b.longest u.parts u.all u.longest (grind (arith, nat_tests))
 
 pub returns-then-not-is_test_name-clause-fault : goal.returns-then-not-is_test_name-clause-fault
 returns-then-not-is_test_name-clause-fault c =
-    let b = c.blanks.ensures in
-    let u = c.until_blank.ensures in
+    let b = c.front.ensures in
+    let u = c.front-2.ensures in
     bad_name c.args.self.now.rest.now _ _ _ _ b.parts b.all b.longest u.parts u.all u.longest (λ is. false≢true (c.if-not-is_test_name.ensures.1 is))
 
 pub invariant_of-self : goal.invariant_of-self
 invariant_of-self c =
     let s = c.args.self.now in
-    let space = c.blanks.result.0.now in
-    let name = c.until_blank.result.0.now in
-    let rest = c.until_blank.result.1.now in
-    let m = Suffix-more s.text.now s.rest.now (space ++ name) rest s.suffix (c.blanks.ensures.parts ∙ ap (λ x. space ++ x) c.until_blank.ensures.parts ∙ sym (append_assoc space name rest)) in
+    let space = c.front.result.0.now in
+    let name = c.front-2.result.0.now in
+    let rest = c.front-2.result.1.now in
+    let m = Suffix-more s.text.now s.rest.now (space ++ name) rest s.suffix (c.front.ensures.parts ∙ ap (λ x. space ++ x) c.front-2.ensures.parts ∙ sym (append_assoc space name rest)) in
     record { within = m.0; suffix = m.1 }

@@ -1,0 +1,19 @@
+-- What a function owes where it returns early by `?`.
+use Rattle.std.proofs.Common.{◌≡◌, ◌≢◌, sym, subst}
+use Rattle.std.specs.Prelude.{Result, Ok, Err, IfErr, IsErrAnd}
+
+-- The callee's error is returned as it is: what is known of it holds of what is returned.
+pub passed_on : {T E : Type 0} {e : E} (P : E → Type 0) (r : Result T E) → IsErrAnd r (λ y. y ≡ e) → P e → IfErr r P
+passed_on P (Ok x) h p = absurd h
+passed_on P (Err y) h p = subst P (sym h) p
+
+-- The callee's error is turned by `From`: what holds of all that it can become.
+pub turned : {T E : Type 0} {Q : E → Type 0} (P : E → Type 0) (r : Result T E) → IsErrAnd r Q → ((y : E) → Q y → P y) → IfErr r P
+turned P (Ok x) h f = absurd h
+turned P (Err y) h f = f y h
+
+-- Memory ran out: a clause on all other causes promises nothing. A crate has a lemma of its own of this for each error
+-- type, where `cause` is the type's field, and R what else `From` says.
+pub out_of_memory : {T E C : Type 0} (cause : E → C) (memory : C) (R P : E → Type 0) (r : Result T E) → IsErrAnd r (λ f. R f × (cause f ≡ memory)) → IfErr r (λ f. cause f ≢ memory → P f)
+out_of_memory cause memory R P (Ok x) h = absurd h
+out_of_memory cause memory R P (Err y) h = λ other. absurd (other h.1)

@@ -1,0 +1,44 @@
+-- A head is as well-formed with a longer table of locations.
+use Rattle.std.proofs.Common.{ℕ, ◌-◌, ◌≤◌, List, [], ◌∷◌, length, arith, length-append}
+use Rattle.std.specs.Prelude.{replicate}
+use Rattle.std.specs.List.{AllByRecursion}
+use Rattle.std.proofs.lemmas.List.{length-replicate}
+use Rattle.lw_base.specs.declared.head.Seen.{Seen}
+use Rattle.lw_base.specs.declared.head.Seen.TheVariants.{Register, Location}
+use Rattle.lw_base.specs.Formula.{Formula, Yes, No, Reg_is, Word_is, Not, And, Or}
+use Rattle.lw_base.specs.Heads.{TestHead, with_table}
+use Rattle.lw_base.specs.Names.{IsTable}
+use Rattle.lw_base.specs.WellFormed.{IsSeen, SpeaksOf, IsWellFormedHead}
+
+seen_more : (threads few more : ℕ) → few ≤ more → (s : Seen) → IsSeen threads few s → IsSeen threads more s
+seen_more threads few more le (Register t r) h = h
+seen_more threads few more le (Location x) h = omega (arith, h)
+
+all_seen_more : (threads few more : ℕ) → few ≤ more → (ss : List Seen) → AllByRecursion (IsSeen threads few) ss → AllByRecursion (IsSeen threads more) ss
+all_seen_more threads few more le [] h = tt
+all_seen_more threads few more le (s ∷ ss) h = (seen_more threads few more le s h.0, all_seen_more threads few more le ss h.1)
+
+speaks_more : (threads few more : ℕ) → few ≤ more → (p : Formula) → SpeaksOf threads few p → SpeaksOf threads more p
+speaks_more threads few more le Yes h = h
+speaks_more threads few more le No h = h
+speaks_more threads few more le (Reg_is t r n) h = h
+speaks_more threads few more le (Word_is x n) h = omega (arith, h)
+speaks_more threads few more le (Not p) h = speaks_more threads few more le p h
+speaks_more threads few more le (And p q) h = (speaks_more threads few more le p h.0, speaks_more threads few more le q h.1)
+speaks_more threads few more le (Or p q) h = (speaks_more threads few more le p h.0, speaks_more threads few more le q h.1)
+
+pub with_table-well_formed : (head : TestHead) (names : List (List ℕ)) → IsWellFormedHead head → IsTable names → length head.locs ≤ length names → IsWellFormedHead (with_table head names)
+with_table-well_formed head names h table le =
+    record {
+      name = h.name;
+      some = h.some;
+      few = h.few;
+      table = table;
+      regs = h.regs;
+      six = h.six;
+      words = omega (arith, h.words, length-append head.init_words (replicate (length names - length head.locs) 0), length-replicate {A = ℕ} (length names - length head.locs) 0);
+      there = all_seen_more head.threads (length head.locs) (length names) le head.listed h.there;
+      ascending = h.ascending;
+      nodes_few = h.nodes_few;
+      condition = speaks_more head.threads (length head.locs) (length names) le head.condition h.condition;
+    }

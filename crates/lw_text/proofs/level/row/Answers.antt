@@ -1,4 +1,0 @@
-use Rattle.lw_text.proofs.level.row.Goals as goal
-
-pub returns : goal.returns
-returns g c = rw c.in_ok-part.ensures at c.behind_and.ensures

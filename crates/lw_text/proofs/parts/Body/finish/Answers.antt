@@ -1,0 +1,28 @@
+use Rattle.std.proofs.Common.{◌≡◌, ◌∙◌, sym, ap, subst, arith, ◌≤◌}
+use Rattle.lw_base.specs.WellFormed.{IsWellFormedHead}
+use Rattle.lw_text.specs.Rows.{columns}
+use Rattle.lw_text.specs.Places.{IsWithin, height}
+use Rattle.lw_text.proofs.WellFormedHeads.{resolved_well_formed}
+use Rattle.lw_text.proofs.RowColumns.{columns-length, columns-height, columns-even, columns-each}
+use Rattle.lw_text.proofs.parts.Body.finish.Goals as goal
+
+pub invariant_of-result : goal.invariant_of-result
+invariant_of-result g c =
+    let body = c.args.self in
+    let parts = body.parts in
+    let threads : c.in_ok-head.head.threads ≡ parts.threads = ap (λ h. h.threads) c.in_ok-head.ensures in
+    let cells : c.in_ok-cells.cells ≡ columns parts.threads body.rows = c.in_ok-cells.ensures ∙ ap (columns parts.threads) c.as_slice.ensures in
+    let few : height (columns parts.threads body.rows) ≤ 64 = omega (arith, columns-height parts.threads body.rows body.even body.some, body.low) in
+    rw cells (record {
+      well_formed = subst IsWellFormedHead (sym c.in_ok-head.ensures) (resolved_well_formed c.requires.says.0 c.args.name.now body c.requires.name c.requires.says.1);
+      columns = columns-length parts.threads body.rows body.even ∙ sym threads;
+      even = columns-even parts.threads body.rows body.even body.some;
+      low = few;
+      places = columns-each (IsWithin c.args.len) parts.threads body.rows c.requires.within;
+    })
+
+pub returns-clause-head : goal.returns-clause-head
+returns-clause-head g c = c.in_ok-head.ensures
+
+pub returns-clause-cells : goal.returns-clause-cells
+returns-clause-cells g c = c.in_ok-cells.ensures ∙ ap (columns c.args.self.parts.threads) c.as_slice.ensures

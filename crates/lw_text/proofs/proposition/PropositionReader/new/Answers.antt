@@ -1,8 +1,0 @@
-use Rattle.std.proofs.Common.{map, reverse, ap}
-use Rattle.lw_text.specs.Pending.{level_of}
-use Rattle.lw_text.proofs.Pending.{begun}
-use Rattle.lw_text.proofs.proposition.PropositionReader.new.Goals as goal
-
-pub returns-clause-only : goal.returns-clause-only
-returns-clause-only g c =
-    λ ss p. begun (level_of c.new.result) (reverse (map level_of c.new-2.result.items)) ss p c.new.ensures (ap (λ x. reverse (map level_of x)) c.new-2.ensures.items)

@@ -1,0 +1,8 @@
+use Rattle.std.proofs.Common.{map, reverse, ap}
+use Rattle.lw_text.specs.Pending.{group_of}
+use Rattle.lw_text.proofs.Pending.{begun}
+use Rattle.lw_text.proofs.proposition_reader.PropositionReader.new.Goals as goal
+
+pub returns-clause-only : goal.returns-clause-only
+returns-clause-only g c =
+    λ ss p. begun (group_of c.new.result) (reverse (map group_of c.new-2.result.items)) ss p c.new.ensures (ap (λ x. reverse (map group_of x)) c.new-2.ensures.items)

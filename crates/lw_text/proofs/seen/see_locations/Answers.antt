@@ -1,0 +1,12 @@
+use Rattle.std.proofs.Common.{◌≡◌, ◌∷◌, [], ◌++◌, subst, refl, ℕ}
+use Rattle.std.specs.Prelude.{filter}
+use Rattle.lw_base.specs.declared.head.Seen.TheVariants.{Location}
+use Rattle.lw_text.specs.Resolved.{is_listed}
+use Rattle.lw_text.proofs.Starts.{is_index, seen_more}
+use Rattle.lw_text.proofs.seen.see_locations.Goals as goal
+
+pub loop-loc-preserved : goal.loop-loc-preserved
+loop-loc-preserved g c =
+    let at : c.loc-item.result ≡ c.loop-loc.loc-index = is_index 8 c.args.len _ _ c.all.result _ c.all.ensures refl c.loop-loc-test.true c.loc-item.is in
+    seen_more (is_listed c.args.sites.now) c.args.seen.now c.loop-loc.seen c.see.new.seen (λ x. Location x) c.loop-loc.loc-index c.loop-loc.invariant
+    (subst (λ (x : ℕ). c.see.new.seen ≡ c.loop-loc.seen ++ filter (is_listed c.args.sites.now) (Location x ∷ [])) at c.in_ok-see.ensures)

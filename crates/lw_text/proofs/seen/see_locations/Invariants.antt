@@ -1,0 +1,8 @@
+use Rattle.std.proofs.Common.{◌≡◌, ◌++◌}
+use Rattle.std.specs.Prelude.{filter}
+use Rattle.lw_text.specs.Frames.{locations}
+use Rattle.lw_text.specs.Resolved.{is_listed}
+use Rattle.lw_text.proofs.seen.see_locations.Given as goal
+
+abbrev pub invariant-loop-loc : goal.invariant-loop-loc
+invariant-loop-loc g l = l.seen ≡ l.fn.seen ++ filter (is_listed l.sites) (locations l.loc-index)

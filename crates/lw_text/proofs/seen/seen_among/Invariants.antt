@@ -1,0 +1,8 @@
+use Rattle.std.proofs.Common.{◌≡◌}
+use Rattle.std.specs.Prelude.{filter}
+use Rattle.lw_text.specs.Frames.{all_registers}
+use Rattle.lw_text.specs.Resolved.{is_listed}
+use Rattle.lw_text.proofs.seen.seen_among.Given as goal
+
+abbrev pub invariant-loop-cpu : goal.invariant-loop-cpu
+invariant-loop-cpu g l = l.seen ≡ filter (is_listed l.sites) (all_registers l.cpu-index)

@@ -1,6 +1,0 @@
-use Rattle.std.proofs.Common.{◌≡◌, take}
-use Rattle.lw_text.specs.Placed.{seen_of, word_at}
-use Rattle.lw_text.proofs.start.word_of.Given as goal
-
-abbrev pub invariant-loop-entry : goal.invariant-loop-entry
-invariant-loop-entry l = l.word ≡ word_at (take l.entry-index l.entries) (seen_of l.site)

@@ -1,0 +1,9 @@
+use Rattle.std.proofs.Common.{length}
+use Rattle.lw_text.proofs.Comments.{Progress}
+use Rattle.lw_text.proofs.trivia.after_comment.Given as goal
+
+abbrev pub invariant-loop-next : goal.invariant-loop-next
+invariant-loop-next l = Progress l.bytes l.depth l.rest
+
+abbrev pub decreases-loop-next : goal.decreases-loop-next
+decreases-loop-next l = length l.rest

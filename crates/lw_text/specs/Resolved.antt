@@ -1,0 +1,130 @@
+-- Sites, entries and terminals in memory, whose locations are resolved to numbers, and their names.
+use Rattle.std.specs.Prelude.{◌≡◌, ℕ, suc, ◌<◌, ◌≤◌, Bool, true, nat_lt, Option, None, Some, List, [], ◌++◌, length, map, filter, fold, if◌then◌else◌, slice_index_or, All}
+use Rattle.std.specs.List.{list_any, range_with_len}
+use Rattle.lw_base.specs.Types.{NameTable, Bytes, TokenList}
+use Rattle.lw_base.specs.declared.head.Arch.TheVariants.{Source}
+use Rattle.lw_base.specs.Propositions.{formula_of}
+use Rattle.lw_base.specs.Heads.{TestHead}
+use Rattle.lw_base.specs.declared.head.Seen.{Seen}
+use Rattle.lw_base.specs.declared.head.Seen.TheVariants as seen
+use Rattle.lw_text.specs.declared.site.Site.{Site}
+use Rattle.lw_text.specs.declared.site.Site.TheVariants as made
+use Rattle.lw_text.specs.declared.block.Entry.{Entry}
+use Rattle.lw_text.specs.declared.parts.HeadParts.{HeadParts}
+use Rattle.lw_text.specs.declared.parts.Body.{Body}
+use Rattle.lw_text.specs.Sites as syntax
+use Rattle.lw_text.specs.Frames as frames
+use Rattle.lw_text.specs.Frames.{same_seen, registers_of, all_registers, locations, table, Parts}
+use Rattle.lw_text.specs.declared.terminal.Terminal.{Terminal as MadeTerminal}
+use Rattle.lw_text.specs.declared.terminal.Terminal.TheVariants as terminals
+use Rattle.lw_text.specs.declared.terminal.Atom.{Atom}
+use Rattle.lw_text.specs.declared.terminal.Atom.TheVariants as atoms
+use Rattle.lw_text.specs.Propositions.{Terminal, Open, Close, Negation, Conjunction, Disjunction, Atom as Claims, IsProposition}
+use Rattle.lw_text.specs.Conditions.{AtomSyntax, Always, Never, Holds, resolved}
+use Rattle.lw_text.specs.Places.{all_texts}
+
+-- the site, by the names of this table
+abbrev pub named : NameTable → Site → syntax.SiteSyntax
+named names (made.Location loc) = syntax.InMemory (slice_index_or names loc [])
+named names (made.Register t r) = syntax.InThread t r
+
+-- the site, by its number
+abbrev pub seen_of : Site → Seen
+seen_of (made.Location loc) = seen.Location loc
+seen_of (made.Register t r) = seen.Register t r
+
+-- how many names a table needs so that it has the site
+abbrev pub names_needed : Site → ℕ
+names_needed (made.Location loc) = suc loc
+names_needed (made.Register t r) = 0
+
+-- whether its thread is one of so many
+abbrev pub thread_exists : ℕ → Site → Bool
+thread_exists threads (made.Location loc) = true
+thread_exists threads (made.Register t r) = nat_lt t threads
+
+-- whether this is the number of one of so many threads, or of any where their number is not known
+abbrev pub is_allowed : Option ℕ → ℕ → Bool
+is_allowed None t = true
+is_allowed (Some threads) t = nat_lt t threads
+
+-- the table has the site
+abbrev pub IsIn : NameTable → Site → Type 0
+IsIn names site = names_needed site ≤ length names
+
+-- an entry, by the names of this table
+abbrev pub named_entry : NameTable → Entry → frames.EntrySyntax
+named_entry names e = record { site = named names e.site; word = e.word }
+
+-- the word of the last entry for a register or a location, or 0
+abbrev pub word_at : List Entry → Seen → ℕ
+word_at entries s = fold (λ w e. if same_seen (seen_of e.site) s then e.word else w) 0 entries
+
+-- whether a register or a location is among the sites
+abbrev pub is_listed : List Site → Seen → Bool
+is_listed sites s = list_any (λ site. same_seen (seen_of site) s) sites
+
+-- the head of a source test, by the numbers of its locations
+abbrev pub resolved_head : {A : Type 0} → Bytes → HeadParts A → TestHead
+resolved_head name s =
+    record {
+      name = name;
+      arch = Source;
+      threads = s.threads;
+      locs = s.locs;
+      init_regs = map (λ t. map (word_at s.entries) (registers_of t)) (range_with_len 0 s.threads);
+      init_words = map (word_at s.entries) (locations (length s.locs));
+      listed = filter (is_listed s.listed) (all_registers s.threads ++ locations (length s.locs));
+      quant = s.quant;
+      condition = formula_of s.prop;
+    }
+
+-- What a `Body` in memory says of the tokens that it was made of: a text's parts and proposition,
+-- by the names of its table.
+pub record HasSyntax {A : Type 0} (ts : TokenList) (b : Body A) : Type 0 where
+  pub terminals : List (Terminal AtomSyntax)
+  pub syntax : frames.TestSyntax
+  pub is :
+      syntax ≡ record {
+        entries = map (named_entry b.parts.locs) b.parts.entries;
+        threads = b.parts.threads;
+        rows = all_texts b.rows;
+        listed = map (named b.parts.locs) b.parts.listed;
+        quant = b.parts.quant;
+        terminals = terminals;
+      }
+  pub parts : Parts ts syntax
+  pub names : b.parts.locs ≡ table syntax
+  pub proposition : IsProposition (map (resolved b.parts.locs) terminals) (formula_of b.parts.prop)
+  pub entries_in : All (λ e. IsIn b.parts.locs e.site) b.parts.entries
+  pub listed_in : All (IsIn b.parts.locs) b.parts.listed
+
+-- the terminals of a proposition, by the names of this table
+abbrev pub named_atom : NameTable → Atom → AtomSyntax
+named_atom names atoms.Always = Always
+named_atom names atoms.Never = Never
+named_atom names (atoms.WordIs loc n) = Holds (syntax.InMemory (slice_index_or names loc [])) n
+named_atom names (atoms.RegIs t r n) = Holds (syntax.InThread t r) n
+
+abbrev pub named_terminal : NameTable → MadeTerminal → Terminal AtomSyntax
+named_terminal names terminals.Open = Open
+named_terminal names terminals.Close = Close
+named_terminal names terminals.Negation = Negation
+named_terminal names terminals.Conjunction = Conjunction
+named_terminal names terminals.Disjunction = Disjunction
+named_terminal names (terminals.Atom a) = Claims (named_atom names a)
+
+-- the table has the locations of these claims
+abbrev pub AtomIn : NameTable → Atom → Type 0
+AtomIn names atoms.Always = Unit {0}
+AtomIn names atoms.Never = Unit {0}
+AtomIn names (atoms.WordIs loc n) = loc < length names
+AtomIn names (atoms.RegIs t r n) = Unit {0}
+
+abbrev pub TerminalIn : NameTable → MadeTerminal → Type 0
+TerminalIn names terminals.Open = Unit {0}
+TerminalIn names terminals.Close = Unit {0}
+TerminalIn names terminals.Negation = Unit {0}
+TerminalIn names terminals.Conjunction = Unit {0}
+TerminalIn names terminals.Disjunction = Unit {0}
+TerminalIn names (terminals.Atom a) = AtomIn names a

@@ -1,0 +1,66 @@
+//! The words that a test's registers and locations begin with.
+ghost use Rattle.std.specs.Prelude.{◌≡◌, ◌≤◌, map, IfOk};
+ghost use Rattle.std.specs.List.{range_with_len};
+ghost use Rattle.lw_text.specs.Frames.{registers_of, locations};
+ghost use Rattle.lw_text.specs.Resolved.{seen_of, word_at};
+
+use crate::block::Entry;
+use crate::site::Site;
+use lw_base::{Cpu, Loc, MAX_LOCATIONS, MAX_THREADS, Reg, Sequence, Word};
+use std::alloc::{AllocError, Allocator};
+
+/// The words of the registers of so many threads.
+pub(crate) fn initial_registers<A: Allocator>(
+    alloc: A,
+    entries: &[Entry],
+    threads: usize,
+) -> Result<Sequence<[Word; 6], A>, AllocError>
+    requires { threads ≤ MAX_THREADS }
+    ensures { IfOk result
+        (λ rows. rows ≡
+        map (λ t. map (word_at entries.now) (registers_of t)) (range_with_len 0 threads)) }
+{
+    let mut rows = Sequence::new(alloc);
+    for cpu in &Cpu::all()[..threads] {
+        rows.push(words_of_thread(entries, *cpu))?;
+    }
+    Ok(rows)
+}
+
+/// The words of a thread's registers.
+fn words_of_thread(entries: &[Entry], cpu: Cpu) -> [Word; 6]
+    ensures { result ≡ map (word_at entries.now) (registers_of cpu) }
+{
+    let word = |reg| word_of(entries, Site::Register(cpu.index() as Word, reg));
+    let [r0, r1, r2, r3, r4, r5] = Reg::all();
+    [word(r0), word(r1), word(r2), word(r3), word(r4), word(r5)]
+}
+
+/// The words of so many locations.
+pub(crate) fn initial_words<A: Allocator>(
+    alloc: A,
+    entries: &[Entry],
+    len: usize,
+) -> Result<Sequence<Word, A>, AllocError>
+    requires { len ≤ MAX_LOCATIONS }
+    ensures { IfOk result (λ words. words ≡ map (word_at entries.now) (locations len)) }
+{
+    let mut words = Sequence::new(alloc);
+    for loc in &Loc::all()[..len] {
+        words.push(word_of(entries, Site::Location(*loc)))?;
+    }
+    Ok(words)
+}
+
+/// The word of the last entry for a site, or 0.
+fn word_of(entries: &[Entry], site: Site) -> Word
+    ensures { result ≡ word_at entries.now (seen_of site) }
+{
+    let mut word = 0;
+    for entry in entries {
+        if entry.site.is_same(&site) {
+            word = entry.word;
+        }
+    }
+    word
+}

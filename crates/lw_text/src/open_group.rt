@@ -1,0 +1,136 @@
+//! The part of a proposition that stands open inside one pair of parentheses.
+ghost use Rattle.std.specs.Prelude.{◌≡◌, Some, option_map, IfOk, OnOk};
+ghost use Rattle.lw_base.specs.Propositions.{formula_of};
+ghost use Rattle.lw_text.specs.Pending.{group_of, opened, with_not, with_and, with_or, ors_of, negations, after_and, after_or};
+
+use lw_base::Prop;
+use std::alloc::{AllocError, Allocator, Global};
+
+/// What stands before a `\/`, what stands before a `/\`, and how many `~` stand before the part that
+/// comes.
+#[derive(Drop)]
+pub(crate) struct OpenGroup<A: Allocator = Global> {
+    either: Option<Prop<A>>,
+    both: Option<Prop<A>>,
+    nots: usize,
+}
+
+impl<A: Allocator> OpenGroup<A> {
+    /// What stands open behind a `(`.
+    pub(crate) fn new() -> Self
+        ensures { group_of result ≡ opened }
+    {
+        OpenGroup {
+            either: None,
+            both: None,
+            nots: 0,
+        }
+    }
+
+    /// Takes one more `~` before the part that comes. Memory can't hold the part behind more of them
+    /// than can be counted.
+    pub(crate) fn negate(&mut self) -> Result<(), AllocError>
+        ensures { OnOk result (group_of self.new ≡ with_not (group_of self.old)) }
+    {
+        let Some(nots) = self.nots.checked_add(1) else {
+            return Err(AllocError);
+        };
+        self.nots = nots;
+        Ok(())
+    }
+}
+
+impl<A: Allocator + Copy> OpenGroup<A> {
+    /// Takes a part and a `/\`.
+    pub(crate) fn conjoin(&mut self, alloc: A, part: Prop<A>) -> Result<(), AllocError>
+        ensures { OnOk result (group_of self.new ≡ with_and (group_of self.old) (formula_of part)) }
+    {
+        let row = row(alloc, self.both.take(), self.nots, part)?;
+        self.both = Some(row);
+        self.nots = 0;
+        Ok(())
+    }
+
+    /// Takes a part and a `\/`.
+    pub(crate) fn disjoin(&mut self, alloc: A, part: Prop<A>) -> Result<(), AllocError>
+        ensures { OnOk result (group_of self.new ≡ with_or (group_of self.old) (formula_of part)) }
+    {
+        let row = row(alloc, self.both.take(), self.nots, part)?;
+        let either = behind_or(alloc, self.either.take(), row)?;
+        self.either = Some(either);
+        self.nots = 0;
+        Ok(())
+    }
+
+    /// What the group says with the part as its last.
+    pub(crate) fn close(self, alloc: A, part: Prop<A>) -> Result<Prop<A>, AllocError>
+        ensures { IfOk result (λ p. formula_of p ≡ ors_of (group_of self) (formula_of part)) }
+    {
+        let OpenGroup { either, both, nots } = self;
+        let row = row(alloc, both, nots, part)?;
+        behind_or(alloc, either, row)
+    }
+}
+
+/// The part behind so many `~`, joined to what stands before a `/\`.
+fn row<A: Allocator + Copy>(
+    alloc: A,
+    before: Option<Prop<A>>,
+    nots: usize,
+    part: Prop<A>,
+) -> Result<Prop<A>, AllocError>
+    ensures { IfOk result (λ p. formula_of p
+        ≡ after_and (option_map formula_of before) (negations nots (formula_of part))) }
+{
+    let part = negated(alloc, nots, part)?;
+    behind_and(alloc, before, part)
+}
+
+/// The part behind so many `~`.
+fn negated<A: Allocator + Copy>(alloc: A, nots: usize, part: Prop<A>) -> Result<Prop<A>, AllocError>
+    ensures { IfOk result (λ p. formula_of p ≡ negations nots (formula_of part)) }
+{
+    let mut prop = part;
+    for taken in 0..nots {
+        prop = Prop::Neg(Box::new(alloc, prop)?);
+    }
+    Ok(prop)
+}
+
+/// The part, joined to what stands before a `/\`.
+fn behind_and<A: Allocator + Copy>(
+    alloc: A,
+    before: Option<Prop<A>>,
+    part: Prop<A>,
+) -> Result<Prop<A>, AllocError>
+    ensures { IfOk result (λ p. formula_of p
+        ≡ after_and (option_map formula_of before) (formula_of part)) }
+{
+    match before {
+        None => Ok(part),
+        Some(before) => {
+            let left = Box::new(alloc, before)?;
+            let right = Box::new(alloc, part)?;
+            Ok(Prop::Both(left, right))
+        }
+    }
+}
+
+/// The row of parts, joined to what stands before a `\/`.
+fn behind_or<A: Allocator + Copy>(
+    alloc: A,
+    before: Option<Prop<A>>,
+    row: Prop<A>,
+) -> Result<Prop<A>, AllocError>
+    ensures { IfOk result (λ p. formula_of p
+        ≡ after_or (option_map formula_of before) (formula_of row)) }
+{
+    match before {
+        None => Ok(row),
+        Some(before) => {
+            let left = Box::new(alloc, before)?;
+            let right = Box::new(alloc, row)?;
+            Ok(Prop::Either(left, right))
+        }
+    }
+}

@@ -1,0 +1,31 @@
+//! The parts of a test behind its heading, with locations resolved to their numbers.
+ghost use Rattle.std.specs.Prelude.{◌≡◌, ◌≤◌, length, All};
+ghost use Rattle.lw_base.specs.declared.limits.TheConstants.{MAX_ROWS, MAX_THREADS};
+
+use crate::block::Entry;
+use crate::rows::CellSequence;
+use crate::site::Site;
+use lw_base::{LocNames, Prop, Quant, Sequence};
+use std::alloc::{Allocator, Global};
+
+/// All but the cells.
+#[derive(Drop)]
+pub(crate) struct HeadParts<A: Allocator = Global> {
+    pub(crate) entries: Sequence<Entry, A>,
+    pub(crate) threads: usize,
+    pub(crate) locs: LocNames<A>,
+    pub(crate) listed: Sequence<Site, A>,
+    pub(crate) quant: Quant,
+    pub(crate) prop: Prop<A>,
+    ghost few: { threads ≤ MAX_THREADS },
+}
+
+/// All, with the rows' cells.
+#[derive(Drop)]
+pub(crate) struct Body<'a, A: Allocator = Global> {
+    pub(crate) parts: HeadParts<A>,
+    pub(crate) rows: Sequence<CellSequence<'a, A>, A>,
+    ghost some: { 1 ≤ parts.threads },
+    ghost even: { All (λ row. length row ≡ parts.threads) rows },
+    ghost low: { length rows ≤ MAX_ROWS },
+}

@@ -1,0 +1,142 @@
+//! The reader of a proposition, which keeps a list of what stands open in place of recursion.
+ghost use Rattle.std.specs.Prelude.{◌≡◌, true, false, List, [], ◌∷◌, map, reverse, Some, None, IfOk, MatchOption, if◌then◌else◌};
+ghost use Rattle.lw_base.specs.Refusals.{NoSuch};
+ghost use Rattle.lw_base.specs.Formula.{Formula};
+ghost use Rattle.lw_base.specs.Propositions.{formula_of};
+ghost use Rattle.lw_text.specs.Propositions.{Terminal as TerminalSyntax, IsProposition};
+ghost use Rattle.lw_text.specs.Terminals.{terminal_of};
+ghost use Rattle.lw_text.specs.Pending.{Completes, begins_part, group_of, state_of, step_before, step_behind};
+
+use crate::open_group::OpenGroup;
+use crate::terminal::Terminal;
+use lw_base::Prop;
+use std::alloc::{AllocError, Allocator, Global};
+use std::mem;
+
+/// What the terminals so far leave open. A clause says by `Completes` which terminals complete them to which
+/// proposition.
+#[derive(Drop)]
+pub(crate) struct PropositionReader<A: Allocator + Copy = Global> {
+    alloc: A,
+    part: Option<Prop<A>>,
+    group: OpenGroup<A>,
+    outer: Vec<OpenGroup<A>, A>,
+}
+
+impl<A: Allocator + Copy> PropositionReader<A> {
+    /// A reader that has taken no terminal. It takes no memory.
+    pub(crate) fn new(alloc: A) -> Self
+        ensures given { (ss : List (TerminalSyntax Formula)) (p : Formula) → Completes result ss p
+            → IsProposition ss p }
+        ensures only { (ss : List (TerminalSyntax Formula)) (p : Formula) → IsProposition ss p
+            → Completes result ss p }
+    {
+        PropositionReader {
+            alloc,
+            part: None,
+            group: OpenGroup::new(),
+            outer: Vec::new(alloc),
+        }
+    }
+
+    /// Whether an atom, a `(` or a `~` has to come next. Otherwise none of them can.
+    pub(crate) fn wants_part(&self) -> bool
+        ensures next { (s : TerminalSyntax Formula) (ss : List (TerminalSyntax Formula))
+            (p : Formula) → Completes self.now (s ∷ ss) p → begins_part s ≡ result }
+        ensures end { (p : Formula) → Completes self.now [] p → result ≡ false }
+    {
+        self.part.is_none()
+    }
+
+    /// Takes the next terminal, or answers that it can't come next. In that case, and where there is no
+    /// memory, the reader is of no more use.
+    pub(crate) fn take(&mut self, terminal: Terminal) -> Result<bool, AllocError>
+        ensures given { IfOk result (λ b. b ≡ true
+            → (ss : List (TerminalSyntax Formula)) (p : Formula) → Completes self.new ss p
+            → Completes self.old (terminal_of terminal ∷ ss) p) }
+        ensures only { IfOk result (λ b. b ≡ true
+            → (ss : List (TerminalSyntax Formula)) (p : Formula)
+            → Completes self.old (terminal_of terminal ∷ ss) p → Completes self.new ss p) }
+        ensures refused { IfOk result (λ b. b ≡ false
+            → (ss : List (TerminalSyntax Formula)) (p : Formula)
+            → Completes self.old (terminal_of terminal ∷ ss) p → ⊥) }
+    {
+        match self.part.take() {
+            None => self.before_part(terminal),
+            Some(part) => self.behind_part(part, terminal),
+        }
+    }
+
+    /// Takes a terminal where a part has to come.
+    fn before_part(&mut self, terminal: Terminal) -> Result<bool, AllocError>
+        requires { self.old.part ≡ None }
+        ensures { IfOk result (λ b. step_before (group_of self.old.group)
+            (reverse (map group_of self.old.outer.items)) (terminal_of terminal)
+            ≡ (if b then Some (state_of self.new) else None)) }
+    {
+        match terminal {
+            Terminal::Open => {
+                let group = mem::replace(&mut self.group, OpenGroup::new());
+                self.outer.push(group)?;
+                Ok(true)
+            }
+            Terminal::Negation => {
+                self.group.negate()?;
+                Ok(true)
+            }
+            Terminal::Atom(atom) => {
+                self.part = Some(atom.prop());
+                Ok(true)
+            }
+            Terminal::Close | Terminal::Conjunction | Terminal::Disjunction => Ok(false),
+        }
+    }
+
+    /// Takes a terminal behind a part, which was taken out.
+    fn behind_part(&mut self, part: Prop<A>, terminal: Terminal) -> Result<bool, AllocError>
+        requires { self.old.part ≡ None }
+        ensures { IfOk result (λ b. step_behind (formula_of part) (group_of self.old.group)
+            (reverse (map group_of self.old.outer.items)) (terminal_of terminal)
+            ≡ (if b then Some (state_of self.new) else None)) }
+    {
+        match terminal {
+            Terminal::Conjunction => {
+                self.group.conjoin(self.alloc, part)?;
+                Ok(true)
+            }
+            Terminal::Disjunction => {
+                self.group.disjoin(self.alloc, part)?;
+                Ok(true)
+            }
+            Terminal::Close => {
+                let Some(outer) = self.outer.pop() else {
+                    return Ok(false);
+                };
+                let inner = mem::replace(&mut self.group, outer);
+                self.part = Some(inner.close(self.alloc, part)?);
+                Ok(true)
+            }
+            Terminal::Open | Terminal::Negation | Terminal::Atom(_) => Ok(false),
+        }
+    }
+
+    /// The proposition, where the terminals so far are one.
+    pub(crate) fn finish(self) -> Result<Option<Prop<A>>, AllocError>
+        ensures { IfOk result (λ o. MatchOption o (NoSuch (Completes self []))
+            (λ prop. Completes self [] (formula_of prop))) }
+    {
+        let PropositionReader {
+            alloc,
+            part,
+            group,
+            outer,
+        } = self;
+        let Some(part) = part else {
+            return Ok(None);
+        };
+        if !outer.is_empty() {
+            return Ok(None);
+        }
+        Ok(Some(group.close(alloc, part)?))
+    }
+}

@@ -1,0 +1,85 @@
+//! What a report shows: the registers and locations that a test's list of names has, each once.
+ghost use Rattle.std.specs.Prelude.{◌≡◌, ◌≤◌, ◌<◌, ◌∷◌, [], ◌++◌, filter, IfOk, OnOk};
+ghost use Rattle.lw_text.specs.Frames.{registers_of, all_registers, locations};
+ghost use Rattle.lw_text.specs.Resolved.{seen_of, is_listed};
+
+use crate::site::Site;
+use lw_base::{Cpu, Loc, MAX_LOCATIONS, MAX_THREADS, Reg, Seen, Sequence, Word};
+use std::alloc::{AllocError, AllocFailed, Allocator};
+
+/// Which of the registers of so many threads and of so many locations are among the sites.
+pub(crate) fn seen_among<A: Allocator>(
+    alloc: A,
+    sites: &[Site],
+    threads: usize,
+    len: usize,
+) -> Result<Sequence<Seen, A>, AllocError>
+    requires threads { threads ≤ MAX_THREADS }
+    requires len { len ≤ MAX_LOCATIONS }
+    ensures { IfOk result
+        (λ seen. seen ≡ filter (is_listed sites.now) (all_registers threads ++ locations len)) }
+{
+    let mut seen = Sequence::new(alloc);
+    for cpu in &Cpu::all()[..threads] {
+        see_registers(&mut seen, sites, *cpu)?;
+    }
+    see_locations(&mut seen, sites, len)?;
+    Ok(seen)
+}
+
+/// Puts those of a thread's registers at the end that are among the sites.
+fn see_registers<A: Allocator>(
+    seen: &mut Sequence<Seen, A>,
+    sites: &[Site],
+    cpu: Cpu,
+) -> Result<(), AllocFailed<Seen>>
+    ensures { OnOk result (seen.new ≡ seen.old ++ filter (is_listed sites.now) (registers_of cpu)) }
+{
+    for reg in &Reg::all() {
+        see(
+            seen,
+            sites,
+            Site::Register(cpu.index() as Word, *reg),
+            Seen::Register(cpu, *reg),
+        )?;
+    }
+    Ok(())
+}
+
+/// Puts those of so many locations at the end that are among the sites.
+fn see_locations<A: Allocator>(
+    seen: &mut Sequence<Seen, A>,
+    sites: &[Site],
+    len: usize,
+) -> Result<(), AllocFailed<Seen>>
+    requires { len ≤ MAX_LOCATIONS }
+    ensures { OnOk result (seen.new ≡ seen.old ++ filter (is_listed sites.now) (locations len)) }
+{
+    for loc in &Loc::all()[..len] {
+        see(seen, sites, Site::Location(*loc), Seen::Location(*loc))?;
+    }
+    Ok(())
+}
+
+/// Puts a register or a location at the end, if its site is among the sites.
+fn see<A: Allocator>(
+    seen: &mut Sequence<Seen, A>,
+    sites: &[Site],
+    site: Site,
+    item: Seen,
+) -> Result<(), AllocFailed<Seen>>
+    requires { seen_of site ≡ item }
+    ensures { OnOk result (seen.new ≡ seen.old ++ filter (is_listed sites.now)
+        (seen_of site ∷ [])) }
+{
+    if is_among(sites, site) {
+        return seen.push(item);
+    }
+    Ok(())
+}
+
+fn is_among(sites: &[Site], site: Site) -> bool
+    ensures { result ≡ is_listed sites.now (seen_of site) }
+{
+    sites.iter().any(|listed| listed.is_same(&site))
+}

@@ -1,0 +1,173 @@
+//! The terminals of a proposition's grammar: parentheses, connectives and atoms.
+ghost use Rattle.std.specs.Prelude.{◌≡◌, if◌then◌else◌, ◌≢◌, ℕ, ◌+◌, ◌≤◌, not, true, false, [], ◌∷◌, OnErr, IfOk, IfErr};
+ghost use Rattle.lw_base.specs.Types.{NameTable, TokenList};
+ghost use Rattle.lw_base.specs.Propositions.{formula_of};
+ghost use Rattle.lw_text.specs.Sites.{HasRoomFor, with_sites};
+ghost use Rattle.lw_text.specs.Propositions.{is_node, Terminal as TerminalSyntax};
+ghost use Rattle.lw_text.specs.Terminals.{atom_formula, terminal_of};
+ghost use Rattle.lw_text.specs.declared.fault.Cause.TheVariants.{Memory};
+ghost use Rattle.lw_text.specs.Pending.{begins_part};
+ghost use Rattle.lw_text.specs.Conditions.{AtomSyntax, Holds, IsTerminal, sites_in};
+ghost use Rattle.lw_text.specs.Resolved.{named, named_atom, named_terminal, IsIn, AtomIn, TerminalIn};
+ghost use Rattle.lw_text.specs.Resolved as resolved_of;
+
+use crate::cursor::Cursor;
+use crate::fault::{Cause, Fault};
+use crate::site::Site;
+use lw_base::{Cpu, Loc, LocNames, MAX_THREADS, Prop, Reg, Word};
+use std::alloc::Allocator;
+
+/// What an atom says: a location, by its number, or a thread's register ends with the
+/// word; or what is true in every state, or in none.
+#[derive(Clone, Copy)]
+pub(crate) enum Atom {
+    Always,
+    Never,
+    WordIs(Loc, Word),
+    RegIs(Cpu, Reg, Word),
+}
+
+impl Atom {
+    /// The proposition that it is.
+    pub(crate) fn prop<A: Allocator>(self) -> Prop<A>
+        ensures { formula_of result ≡ atom_formula self }
+    {
+        match self {
+            Atom::Always => Prop::Always,
+            Atom::Never => Prop::Never,
+            Atom::WordIs(loc, word) => Prop::WordIs(loc, word),
+            Atom::RegIs(cpu, reg, word) => Prop::RegIs(cpu, reg, word),
+        }
+    }
+}
+
+/// A parenthesis, a connective or an atom.
+#[derive(Clone, Copy)]
+pub(crate) enum Terminal {
+    Open,
+    Close,
+    Negation,
+    Conjunction,
+    Disjunction,
+    Atom(Atom),
+}
+
+impl Terminal {
+    /// How many nodes of a proposition it makes. A parenthesis makes none.
+    pub(crate) fn nodes(&self) -> usize
+        ensures { result ≡ (if is_node (terminal_of self.now) then 1 else 0) }
+    {
+        match self {
+            Terminal::Open | Terminal::Close => 0,
+            _ => 1,
+        }
+    }
+}
+
+impl<'t, 'a> Cursor<'t, 'a> {
+    ghost use Rattle.lw_text.specs.Views.{left};
+
+    /// Takes a terminal: one with which a part begins, or one of the others. The names of its locations
+    /// go into the table.
+    pub(crate) fn terminal<A: Allocator + Copy>(
+        &mut self,
+        part: bool,
+        threads: usize,
+        locs: &mut LocNames<A>,
+    ) -> Result<Terminal, Fault>
+        requires { threads ≤ MAX_THREADS }
+        ensures found { IfOk result (λ s. IsTerminal threads (left self.old)
+            (named_terminal locs.new s) (left self.new)) }
+        ensures names { IfOk result (λ s. locs.new
+            ≡ with_sites locs.old (sites_in (named_terminal locs.new s ∷ []))) }
+        ensures within { IfOk result (λ s. TerminalIn locs.new s) }
+        ensures fault { IfErr result (λ f. f.cause ≢ Memory
+            → (s : TerminalSyntax AtomSyntax) (rest : TokenList)
+            → IsTerminal threads (left self.old) s rest → begins_part s ≡ part
+            → HasRoomFor locs.old (sites_in (s ∷ [])) → ⊥) }
+        ensures place { IfErr result (λ f. f.at ≤ self.old.len) }
+        ensures same { self.new.len ≡ self.old.len }
+    {
+        if part {
+            self.opening(threads, locs)
+        } else {
+            self.joint()
+        }
+    }
+
+    /// Takes a terminal with which a part begins.
+    fn opening<A: Allocator + Copy>(
+        &mut self,
+        threads: usize,
+        locs: &mut LocNames<A>,
+    ) -> Result<Terminal, Fault>
+        requires { threads ≤ MAX_THREADS }
+        ensures found { IfOk result (λ s. IsTerminal threads (left self.old)
+            (named_terminal locs.new s) (left self.new)) }
+        ensures names { IfOk result (λ s. locs.new
+            ≡ with_sites locs.old (sites_in (named_terminal locs.new s ∷ []))) }
+        ensures within { IfOk result (λ s. TerminalIn locs.new s) }
+        ensures fault { IfErr result (λ f. f.cause ≢ Memory
+            → (s : TerminalSyntax AtomSyntax) (rest : TokenList)
+            → IsTerminal threads (left self.old) s rest → begins_part s ≡ true
+            → HasRoomFor locs.old (sites_in (s ∷ [])) → ⊥) }
+        ensures place { IfErr result (λ f. f.at ≤ self.old.len) }
+        ensures same { self.new.len ≡ self.old.len }
+    {
+        if self.takes("(") {
+            return Ok(Terminal::Open);
+        }
+        if self.takes("~") {
+            return Ok(Terminal::Negation);
+        }
+        if self.takes("not") {
+            return Ok(Terminal::Negation);
+        }
+        if self.takes("true") {
+            return Ok(Terminal::Atom(Atom::Always));
+        }
+        if self.takes("false") {
+            return Ok(Terminal::Atom(Atom::Never));
+        }
+        let site = self.site(locs, Some(threads), Cause::Condition)?;
+        let word = self.value(Cause::Condition)?;
+        Ok(Terminal::Atom(atom_at(site, word)))
+    }
+
+    /// Takes a `)`, a `/\` or a `\/`.
+    fn joint(&mut self) -> Result<Terminal, Fault>
+        ensures found { IfOk result (λ s. (threads : ℕ) (names : NameTable)
+            → IsTerminal threads (left self.old) (named_terminal names s) (left self.new)) }
+        ensures silent { IfOk result (λ s. (names : NameTable)
+            → sites_in (named_terminal names s ∷ []) ≡ []) }
+        ensures within { IfOk result (λ s. (names : NameTable) → TerminalIn names s) }
+        ensures fault { OnErr result ((threads : ℕ) (s : TerminalSyntax AtomSyntax)
+            (rest : TokenList) → IsTerminal threads (left self.old) s rest → begins_part s ≡ false
+            → ⊥) }
+        ensures place { IfErr result (λ f. f.at ≤ self.old.len) }
+        ensures same { self.new.len ≡ self.old.len }
+    {
+        if self.takes(")") {
+            return Ok(Terminal::Close);
+        }
+        if self.takes("/\\") {
+            return Ok(Terminal::Conjunction);
+        }
+        if self.takes("\\/") {
+            return Ok(Terminal::Disjunction);
+        }
+        Err(self.fault(Cause::Condition))
+    }
+}
+
+/// The atom that a register or a location ends with this word.
+fn atom_at(site: Site, word: Word) -> Atom
+    requires { resolved_of.thread_exists MAX_THREADS site ≡ true }
+    ensures syntax { (names : NameTable) → named_atom names result ≡ Holds (named names site) word }
+    ensures within { (names : NameTable) → IsIn names site → AtomIn names result }
+{
+    match site {
+        Site::Location(loc) => Atom::WordIs(loc, word),
+        Site::Register(thread, reg) => Atom::RegIs(Cpu::new(thread as u8).unwrap(), reg, word),
+    }
+}

@@ -1,0 +1,46 @@
+//! The trivia between tokens: blanks and comments.
+ghost use Rattle.std.specs.Prelude.{◌≡◌, IfSome, IfNone, false};
+ghost use Rattle.lw_base.specs.Refusals.{NoSuch};
+ghost use Rattle.lw_base.specs.Types.{Bytes};
+ghost use Rattle.lw_text.specs.Tokens.{Comment, Trivia, begins_trivia};
+
+use crate::scan::{behind, split};
+use lw_base::{ByteKind, front};
+
+/// What stands behind the comment whose `(*` came before, or `None` where it isn't closed.
+fn after_comment(bytes: &[u8]) -> Option<&[u8]>
+    ensures found { IfSome result (λ rest. Comment bytes.now rest.now) }
+    ensures none { IfNone result (NoSuch (Comment bytes.now)) }
+{
+    let mut depth = 0usize;
+    let mut rest = bytes;
+    while let Some((_, next)) = split(rest) {
+        if let Some(after) = behind(rest, b'(', b'*') {
+            depth += 1;
+            rest = after;
+        } else if let Some(after) = behind(rest, b'*', b')') {
+            if depth == 0 {
+                return Some(after);
+            }
+            depth -= 1;
+            rest = after;
+        } else {
+            rest = next;
+        }
+    }
+    None
+}
+
+/// What stands behind the blanks and comments at the front, or `None` where a comment isn't closed.
+pub(crate) fn after_trivia(bytes: &[u8]) -> Option<&[u8]>
+    ensures found { IfSome result (λ rest. Trivia bytes.now rest.now) }
+    ensures stops { IfSome result (λ rest. begins_trivia rest.now ≡ false) }
+    ensures none { IfNone result ((rest : Bytes) → begins_trivia rest ≡ false
+        → Trivia bytes.now rest → ⊥) }
+{
+    let mut rest = front(bytes, ByteKind::Blank).1;
+    while let Some(inner) = behind(rest, b'(', b'*') {
+        rest = front(after_comment(inner)?, ByteKind::Blank).1;
+    }
+    Some(rest)
+}
