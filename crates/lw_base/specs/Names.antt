@@ -27,7 +27,7 @@ keywords =
 abbrev pub x86_registers : List Bytes
 x86_registers =
     codes "eax" ∷ codes "ebx" ∷ codes "ecx" ∷ codes "edx" ∷ codes "esi" ∷ codes "edi" ∷ codes "ebp"
-        ∷ codes "esp" ∷ []
+    ∷ codes "esp" ∷ []
 
 -- digits, one or more
 abbrev pub are_digits : Bytes → Bool

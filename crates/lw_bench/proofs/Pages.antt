@@ -14,7 +14,7 @@ use Rattle.lw_base.specs.declared.stop.End.TheVariants.{Stopped}
 use Rattle.lw_base.specs.Registers.{register_name}
 use Rattle.lw_base.specs.Stops.{stop_number, stop_name}
 use Rattle.lw_source.specs.declared.thread.Thread.{Thread}
-use Rattle.lw_bench.specs.Pages.{spaced, line, assignment, registers, thread_line, thread_lines, memory_parts, end_parts}
+use Rattle.lw_bench.specs.Pages.{spaced, line, assignment, register_parts, thread_line, thread_lines, memory_parts, end_parts}
 
 drop_at : {X : Type 0} (xs : List X) (k : ℕ) (x : X) → slice_get xs k ≡ Some x → drop k xs ≡ x ∷ drop (k + 1) xs
 drop_at xs k x at =
@@ -47,27 +47,27 @@ spaced-push : (parts : List (List ℕ)) (part : List ℕ) → spaced (parts ++ p
 spaced-push parts part = flat_map-append (λ p. 32 ∷ p) parts (part ∷ []) ∙ ap (λ t. spaced parts ++ t) (append-nil (32 ∷ part))
 
 -- one register more
-pub registers_more : (arch : Arch) (regs : List ℕ) (n w : ℕ) (name start out new : List ℕ) → name ≡ register_name arch n → w ≡ slice_index regs n → out ≡ start ++ spaced (registers arch regs n) → new ≡ out ++ (32 ∷ (name ++ (61 ∷ decimal w))) → new ≡ start ++ spaced (registers arch regs (n + 1))
+pub registers_more : (arch : Arch) (regs : List ℕ) (n w : ℕ) (name start out new : List ℕ) → name ≡ register_name arch n → w ≡ slice_index regs n → out ≡ start ++ spaced (register_parts arch regs n) → new ≡ out ++ (32 ∷ (name ++ (61 ∷ decimal w))) → new ≡ start ++ spaced (register_parts arch regs (n + 1))
 registers_more arch regs n w name start out new named read before written =
     let part = assignment (register_name arch n) (slice_index regs n) in
     let next : suc n ≡ n + 1 = omega arith in
-    let more : spaced (registers arch regs (n + 1)) ≡ spaced (registers arch regs n) ++ (32 ∷ part) =
-    ap (λ (k : ℕ). spaced (registers arch regs k)) (sym next) ∙ spaced-push (registers arch regs n) part in
+    let more : spaced (register_parts arch regs (n + 1)) ≡ spaced (register_parts arch regs n) ++ (32 ∷ part) =
+    ap (λ (k : ℕ). spaced (register_parts arch regs k)) (sym next) ∙ spaced-push (register_parts arch regs n) part in
     let last : new ≡ out ++ (32 ∷ part) = written ∙ rw (named, read) refl in
-    last ∙ ap (λ t. t ++ (32 ∷ part)) before ∙ append_assoc start (spaced (registers arch regs n)) (32 ∷ part) ∙ ap (λ t. start ++ t) (sym more)
+    last ∙ ap (λ t. t ++ (32 ∷ part)) before ∙ append_assoc start (spaced (register_parts arch regs n)) (32 ∷ part) ∙ ap (λ t. start ++ t) (sym more)
 
 line_parts : (start d p s : List ℕ) → ((start ++ (80 ∷ (d ++ (32 ∷ 97 ∷ 116 ∷ 32 ∷ p)))) ++ s) ++ 10 ∷ [] ≡ start ++ ((80 ∷ d) ++ (((32 ∷ 97 ∷ 116 ∷ []) ++ ((32 ∷ p) ++ s)) ++ 10 ∷ []))
 line_parts start d p s = simp append_assoc
 
 -- a thread's line
-pub thread_written : (arch : Arch) (t n p : ℕ) (th : Thread) (start first out new : List ℕ) → n ≡ 6 → p ≡ th.position → first ≡ start ++ (80 ∷ (decimal t ++ (32 ∷ 97 ∷ 116 ∷ 32 ∷ decimal p))) → out ≡ first ++ spaced (registers arch th.regs n) → new ≡ out ++ 10 ∷ [] → new ≡ start ++ thread_line arch t th
+pub thread_written : (arch : Arch) (t n p : ℕ) (th : Thread) (start first out new : List ℕ) → n ≡ 6 → p ≡ th.position → first ≡ start ++ (80 ∷ (decimal t ++ (32 ∷ 97 ∷ 116 ∷ 32 ∷ decimal p))) → out ≡ first ++ spaced (register_parts arch th.regs n) → new ≡ out ++ 10 ∷ [] → new ≡ start ++ thread_line arch t th
 thread_written arch t n p th start first out new six at begun told ended =
-    let s = spaced (registers arch th.regs n) in
+    let s = spaced (register_parts arch th.regs n) in
     let whole : new ≡ ((start ++ (80 ∷ (decimal t ++ (32 ∷ 97 ∷ 116 ∷ 32 ∷ decimal p)))) ++ s) ++ 10 ∷ [] =
     ended ∙ ap (λ x. x ++ 10 ∷ []) (told ∙ ap (λ x. x ++ s) begun) in
     let told_line : List ℕ → List ℕ → List ℕ = λ q r. start ++ ((80 ∷ decimal t) ++ (((32 ∷ 97 ∷ 116 ∷ []) ++ ((32 ∷ q) ++ r)) ++ 10 ∷ [])) in
     whole ∙ line_parts start (decimal t) (decimal p) s
-    ∙ ap (λ (q : ℕ). told_line (decimal q) s) at ∙ ap (λ (k : ℕ). told_line (decimal th.position) (spaced (registers arch th.regs k))) six
+    ∙ ap (λ (q : ℕ). told_line (decimal q) s) at ∙ ap (λ (k : ℕ). told_line (decimal th.position) (spaced (register_parts arch th.regs k))) six
 
 there : {X : Type 0} (xs : List X) (k : ℕ) → k < length xs → (x : X) × (slice_get xs k ≡ Some x)
 there [] k h = absurd (omega arith)

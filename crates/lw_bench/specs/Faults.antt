@@ -1,6 +1,7 @@
 -- How people are told why a run is refused, or how it ended: a line and an exit status.
 use Rattle.std.specs.Prelude.{ℕ, List, ◌++◌, codes, Result, Ok, Err}
 use Rattle.std.specs.Fmt.{decimal}
+use Rattle.lw_base.specs.Types.{Bytes}
 use Rattle.lw_base.specs.Faults.{cell_cause_number, cell_cause_name, schedule_cause_number, schedule_cause_name}
 use Rattle.lw_base.specs.declared.fault.CellCause.{CellCause}
 use Rattle.lw_base.specs.declared.fault.CellCause.TheVariants as cell
@@ -40,12 +41,12 @@ abbrev pub told_schedule : ScheduleFault → BenchFault
 told_schedule f = schedule_fault f f.cause
 
 -- the kind of the fault, its number and name, and its place
-abbrev pub placed_text : List ℕ → ℕ → List ℕ → ℕ → List ℕ
+abbrev pub placed_text : Bytes → ℕ → Bytes → ℕ → Bytes
 placed_text kind number name place =
     codes "lw: " ++ (kind ++ (codes " " ++ (decimal number ++ (codes " " ++ (name ++ (codes " at " ++ decimal place))))))
 
 -- the line, without its end
-abbrev pub fault_text : BenchFault → List ℕ
+abbrev pub fault_text : BenchFault → Bytes
 fault_text (Text f) = placed_text (codes "text") (text_cause_number f.cause) (text_cause_name f.cause) f.at
 fault_text (Cell f) = placed_text (codes "cell") (cell_cause_number f.cause) (cell_cause_name f.cause) f.at
 fault_text (Schedule f) = placed_text (codes "schedule") (schedule_cause_number f.cause) (schedule_cause_name f.cause) f.at
@@ -72,7 +73,7 @@ exit_status (Ok end) = end_status end
 exit_status (Err fault) = status fault
 
 -- what is told of words that name no task, and the exit status
-abbrev pub usage_text : List ℕ
+abbrev pub usage_text : Bytes
 usage_text = codes "usage: lw states | lw compile | lw schedules | lw replay SCHEDULE"
 
 abbrev pub usage_status : ℕ

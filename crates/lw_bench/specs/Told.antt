@@ -1,8 +1,11 @@
--- What a refused run tells of its text, of a cell and of its schedule. Out of memory is told as Memory and as nothing else.
+-- What a refused run tells of its text, of a cell and of its schedule.
+-- Out of memory is told as Memory and as nothing else.
 use Rattle.std.specs.Prelude.{◌≡◌, ◌≢◌, ℕ, ◌<◌, ◌≤◌, Option, List, length}
 use Rattle.std.specs.Option.{IfSome}
 use Rattle.std.specs.Str.{IsUtf8, IsValidUpTo}
 use Rattle.std.specs.Str.Lossy.{utf8_valid_len}
+use Rattle.lw_base.specs.Types.{Bytes}
+use Rattle.lw_base.specs.declared.limits.TheConstants.{MAX_TEXT_BYTES}
 use Rattle.lw_base.specs.declared.fault.CellCause.TheVariants as cell
 use Rattle.lw_base.specs.declared.fault.CellFault.{CellFault}
 use Rattle.lw_base.specs.declared.fault.ScheduleFault.{ScheduleFault}
@@ -21,17 +24,19 @@ use Rattle.lw_bench.specs.declared.fault.BenchFault.TheVariants.{Text, Cell, Sch
 use Rattle.lw_bench.specs.Replays.{HasTest}
 
 -- The text has no frame, and what its length and its UTF-8 say of the fault is so.
-pub record TellsText (bytes : List ℕ) (f : TextFault) : Type 0 where
+pub record TellsText (bytes : Bytes) (f : TextFault) : Type 0 where
   pub none : (frame : TestFrame) → HasFrame bytes frame → ⊥
   pub place : f.at ≤ length bytes
-  pub too_long : 65536 < length bytes → f ≡ record { at = 65536; cause = text.TooLong }
-  pub only_too_long : f.cause ≡ text.TooLong → 65536 < length bytes
-  pub not_utf8 : length bytes ≤ 65536 → ¬ IsUtf8 bytes → f ≡ record { at = utf8_valid_len bytes; cause = text.NotUtf8 }
-  pub only_not_utf8 : f.cause ≡ text.NotUtf8 → (length bytes ≤ 65536) × (¬ IsUtf8 bytes) × IsValidUpTo bytes f.at
+  pub too_long : MAX_TEXT_BYTES < length bytes → f ≡ record { at = MAX_TEXT_BYTES; cause = text.TooLong }
+  pub only_too_long : f.cause ≡ text.TooLong → MAX_TEXT_BYTES < length bytes
+  pub not_utf8 : length bytes ≤ MAX_TEXT_BYTES → ¬ IsUtf8 bytes
+      → f ≡ record { at = utf8_valid_len bytes; cause = text.NotUtf8 }
+  pub only_not_utf8 : f.cause ≡ text.NotUtf8
+      → (length bytes ≤ MAX_TEXT_BYTES) × (¬ IsUtf8 bytes) × IsValidUpTo bytes f.at
   pub in_memory : f.cause ≢ text.Memory
 
 -- The text has a frame, whose cells are no test's, and what the cause says of the place is so.
-pub record TellsCell (A : Type 0) (bytes : List ℕ) (f : CellFault) : Type 0 where
+pub record TellsCell (A : Type 0) (bytes : Bytes) (f : CellFault) : Type 0 where
   pub frame : Frame A
   pub has_frame : HasFrame bytes (frame_of frame)
   pub lies : LiesIn bytes frame
@@ -40,8 +45,8 @@ pub record TellsCell (A : Type 0) (bytes : List ℕ) (f : CellFault) : Type 0 wh
   pub cause : Tells frame.head.locs frame.cells f
   pub in_memory : f.cause ≢ cell.Memory
 
--- The text is a test, and the first faulty word of the schedule stands at the place and is faulty for this cause.
-pub record TellsSchedule (bytes schedule : List ℕ) (f : ScheduleFault) : Type 0 where
+-- The text is a test, none of whose schedules this is: its first faulty word stands at the place, for this cause.
+pub record TellsSchedule (bytes schedule : Bytes) (f : ScheduleFault) : Type 0 where
   pub test : SourceTest
   pub has_test : HasTest bytes test
   pub none : (events : List Event) → IsSchedule test.head.locs schedule events → ⊥
@@ -52,7 +57,7 @@ abbrev pub IsNoDevice : BenchFault → Type 0
 IsNoDevice f = (f ≢ Read) × (f ≢ Write)
 
 -- what a run tells that reads a test: no fault of a schedule
-abbrev pub TellsTest : Type 0 → List ℕ → BenchFault → Type 0
+abbrev pub TellsTest : Type 0 → Bytes → BenchFault → Type 0
 TellsTest A bytes (Text f) = TellsText bytes f
 TellsTest A bytes (Cell f) = TellsCell A bytes f
 TellsTest A bytes (Schedule f) = ⊥
@@ -61,7 +66,7 @@ TellsTest A bytes Read = Unit {0}
 TellsTest A bytes Write = Unit {0}
 
 -- what a run tells that reads a schedule too
-abbrev pub TellsReplay : Type 0 → List ℕ → List ℕ → BenchFault → Type 0
+abbrev pub TellsReplay : Type 0 → Bytes → Bytes → BenchFault → Type 0
 TellsReplay A bytes schedule (Text f) = TellsText bytes f
 TellsReplay A bytes schedule (Cell f) = TellsCell A bytes f
 TellsReplay A bytes schedule (Schedule f) = TellsSchedule bytes schedule f
@@ -70,5 +75,5 @@ TellsReplay A bytes schedule Read = Unit {0}
 TellsReplay A bytes schedule Write = Unit {0}
 
 -- the same of the bytes of a reader, where they are known
-abbrev pub TellsInput : Type 0 → Option (List ℕ) → List ℕ → BenchFault → Type 0
+abbrev pub TellsInput : Type 0 → Option Bytes → Bytes → BenchFault → Type 0
 TellsInput A known schedule fault = IfSome known (λ bytes. TellsReplay A bytes schedule fault)

@@ -4,10 +4,11 @@ ghost use Rattle.lw_bench.specs.Devices.{IsInput, Gets};
 
 use crate::device::ByteReader;
 use crate::fault::BenchFault;
+use lw_base::MAX_TEXT_BYTES;
 use std::alloc::Allocator;
 
 /// Reading ends once this many bytes have come: one more than a text may have.
-const END: usize = 65537;
+const MAX_READ_BYTES: usize = MAX_TEXT_BYTES + 1;
 
 /// How many bytes are asked for at once.
 const CHUNK: usize = 4096;
@@ -23,7 +24,7 @@ pub(crate) fn read_input<R: ByteReader, A: Allocator>(
     ensures err { IfErr result (λ f. f ≡ (if R.failed reader.new then BenchFault.Read else BenchFault.Memory)) }
 {
     let mut bytes = Vec::new(alloc);
-    while bytes.len() < END {
+    while bytes.len() < MAX_READ_BYTES {
         if pull_chunk(reader, &mut bytes)? == 0 {
             return Ok(bytes);
         }
@@ -37,13 +38,14 @@ fn pull_chunk<R: ByteReader, A: Allocator>(
     bytes: &mut Vec<u8, A>,
 ) -> Result<usize, BenchFault>
     requires working { R.failed reader.old ≡ false }
-    requires room { length bytes.old.items < 65537 }
-    ensures bytes { IfOk result (λ n. Gets (R.remaining reader.old) (R.remaining reader.new) bytes.old.items bytes.new.items n) }
+    requires room { length bytes.old.items < MAX_READ_BYTES }
+    ensures bytes { IfOk result
+        (Gets (R.remaining reader.old) (R.remaining reader.new) bytes.old.items bytes.new.items) }
     ensures failed { OnOk result (R.failed reader.new ≡ false) }
     ensures err { IfErr result (λ f. f ≡ (if R.failed reader.new then BenchFault.Read else BenchFault.Memory)) }
 {
     let mut chunk = [0; CHUNK];
-    let room = CHUNK.min(END - bytes.len());
+    let room = CHUNK.min(MAX_READ_BYTES - bytes.len());
     let Ok(count) = reader.pull(&mut chunk[..room]) else {
         return Err(BenchFault::Read);
     };

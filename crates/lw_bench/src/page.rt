@@ -6,7 +6,7 @@ ghost use Rattle.lw_bench.specs.Pages as pages;
 ghost use Rattle.lw_bench.specs.Pages.{line, end_parts, memory_parts, thread_lines};
 ghost use Rattle.lw_source.specs.declared.thread.Thread.{Thread};
 
-use lw_base::{Arch, Cpu, End, Head, Loc, LocNames, Reg, Replay, reg_name};
+use lw_base::{Arch, Cpu, End, Head, Loc, LocNames, MAX_THREADS, Reg, Replay, reg_name};
 use lw_source::SourceRun;
 use std::alloc::{AllocError, Allocator};
 
@@ -17,10 +17,11 @@ pub(crate) fn replay_page<A: Allocator + Copy>(
     run: &SourceRun<'_, A, A>,
     replay: Replay,
 ) -> Result<String<A>, AllocError>
-    requires few { head.now.threads ≤ 4 }
+    requires few { head.now.threads ≤ MAX_THREADS }
     requires threads { length run.now.state.threads ≡ head.now.threads }
     requires words { length run.now.state.words ≡ length head.now.locs }
-    ensures { IfOk result (λ text. string_bytes text ≡ pages.replay_text (head_of head.now) replay run.now.state) }
+    ensures { IfOk result (λ text. string_bytes text
+        ≡ pages.replay_text (head_of head.now) replay run.now.state) }
 {
     let mut out = String::new(alloc);
     writeln!(out, "Test {}\nSteps {}", head.name.as_str(), replay.done)?;
@@ -32,7 +33,8 @@ pub(crate) fn replay_page<A: Allocator + Copy>(
 
 /// How the replay ended.
 fn write_end<A: Allocator>(out: &mut String<A>, replay: Replay) -> Result<(), AllocError>
-    ensures { OnOk result (string_bytes out.new ≡ string_bytes out.old ++ line (codes "End") (end_parts replay.done replay.end)) }
+    ensures { OnOk result (string_bytes out.new
+        ≡ string_bytes out.old ++ line (codes "End") (end_parts replay.done replay.end)) }
 {
     match replay.end {
         End::Final => out.push_str("End Final\n"),
@@ -55,15 +57,13 @@ fn write_threads<A: Allocator>(
     head: &Head<A>,
     run: &SourceRun<'_, A, A>,
 ) -> Result<(), AllocError>
-    requires few { head.now.threads ≤ 4 }
+    requires few { head.now.threads ≤ MAX_THREADS }
     requires threads { length run.now.state.threads ≡ head.now.threads }
-    ensures { OnOk result (string_bytes out.new ≡ string_bytes out.old ++ thread_lines head.now.arch 0 run.now.state.threads) }
+    ensures { OnOk result (string_bytes out.new
+        ≡ string_bytes out.old ++ thread_lines head.now.arch 0 run.now.state.threads) }
 {
-    for number in 0..head.threads {
-        let Some(cpu) = Cpu::new(number as u8) else {
-            unreachable!();
-        };
-        write_thread(out, head.arch, cpu, run)?;
+    for cpu in &Cpu::all()[..head.threads] {
+        write_thread(out, head.arch, *cpu, run)?;
     }
     Ok(())
 }
@@ -76,13 +76,11 @@ fn write_thread<A: Allocator>(
     run: &SourceRun<'_, A, A>,
 ) -> Result<(), AllocError>
     requires { cpu < length run.now.state.threads }
-    ensures { OnOk result ((th : Thread) → slice_get run.now.state.threads cpu ≡ Some th → string_bytes out.new ≡ string_bytes out.old ++ pages.thread_line arch cpu th) }
+    ensures { OnOk result ((th : Thread) → slice_get run.now.state.threads cpu ≡ Some th
+        → string_bytes out.new ≡ string_bytes out.old ++ pages.thread_line arch cpu th) }
 {
     write!(out, "P{} at {}", cpu.index(), run.position(cpu))?;
-    for number in 0..6 {
-        let Some(reg) = Reg::new(number) else {
-            unreachable!();
-        };
+    for reg in Reg::all() {
         write!(out, " {}={}", reg_name(arch, reg), run.reg(cpu, reg))?;
     }
     out.push_str("\n")?;
@@ -96,14 +94,12 @@ fn write_memory<A: Allocator>(
     run: &SourceRun<'_, A, A>,
 ) -> Result<(), AllocError>
     requires { length run.now.state.words ≡ length locs.now }
-    ensures { OnOk result (string_bytes out.new ≡ string_bytes out.old ++ line (codes "Memory") (memory_parts locs.now run.now.state.words)) }
+    ensures { OnOk result (string_bytes out.new
+        ≡ string_bytes out.old ++ line (codes "Memory") (memory_parts locs.now run.now.state.words)) }
 {
     out.push_str("Memory")?;
-    for number in 0..locs.len() {
-        let Some(loc) = Loc::new(number as u8) else {
-            unreachable!();
-        };
-        write!(out, " {}={}", locs.name(loc), run.word(loc))?;
+    for loc in &Loc::all()[..locs.len()] {
+        write!(out, " {}={}", locs.name(*loc), run.word(*loc))?;
     }
     out.push_str("\n")?;
     Ok(())

@@ -1,8 +1,9 @@
 //! The replay of a test by a schedule, from the bytes that come in to the bytes that go out.
 //! Frames, tests and runs are dropped by calls of `drop`, which is proved once for each type: what goes at
 //! the end of a scope is proved there anew.
-ghost use Rattle.std.specs.Prelude.{◌≡◌, ◌≢◌, ◌↔◌, ℕ, List, true, false, Err, IfOk, IfErr};
+ghost use Rattle.std.specs.Prelude.{◌≡◌, ◌≢◌, ◌↔◌, true, false, Err, IfOk, IfErr};
 ghost use Rattle.std.specs.String.{string_bytes};
+ghost use Rattle.lw_base.specs.Types.{Bytes};
 ghost use Rattle.lw_base.specs.Schedules.{IsSchedule};
 ghost use Rattle.lw_source.specs.Sources.{SourceTest};
 ghost use Rattle.lw_source.specs.Views.{source_of};
@@ -21,7 +22,7 @@ use std::alloc::Allocator;
 
 /// A text has at most one test.
 pub fn a_text_has_one_test()
-    ensures { (text : List ℕ) (s t : SourceTest) → HasTest text s → HasTest text t → s ≡ t }
+    ensures { (text : Bytes) (s t : SourceTest) → HasTest text s → HasTest text t → s ≡ t }
 {
     a_text_has_one_frame();
     a_frame_has_one_source();
@@ -39,14 +40,15 @@ pub(crate) fn read_test<A: Allocator + Copy>(alloc: A, text: &[u8]) -> Result<So
     Ok(read?)
 }
 
-/// The page that tells of the replay of a test by a schedule, and how the replay ended. The bytes are the test's.
+/// The page that tells of the replay of a test by a schedule, and how the replay ended.
 fn page_of<A: Allocator + Copy>(
     alloc: A,
     source: &Source<A>,
     schedule: &str,
 ) -> Result<(String<A>, End), BenchFault>
     ensures found { IfOk result (λ x. IsReplayPage (source_of source.now) schedule.now (string_bytes x.0) x.1) }
-    ensures told { (text : List ℕ) → HasTest text (source_of source.now) → IfErr result (TellsReplay A text schedule.now) }
+    ensures told { (text : Bytes) → HasTest text (source_of source.now)
+        → IfErr result (TellsReplay A text schedule.now) }
     ensures device { IfErr result IsNoDevice }
 {
     let events = read_schedule(alloc, schedule, &source.head.locs)?;
@@ -59,7 +61,8 @@ fn page_of_events<A: Allocator + Copy>(
     source: &Source<A>,
     events: &[Event],
 ) -> Result<(String<A>, End), BenchFault>
-    ensures found { IfOk result (λ x. (schedule : List ℕ) → IsSchedule source.now.head.locs schedule events.now → IsReplayPage (source_of source.now) schedule (string_bytes x.0) x.1) }
+    ensures found { IfOk result (λ x. (schedule : Bytes) → IsSchedule source.now.head.locs schedule events.now
+        → IsReplayPage (source_of source.now) schedule (string_bytes x.0) x.1) }
     ensures fault { IfErr result (λ f. f ≡ BenchFault.Memory) }
 {
     let mut run = SourceRun::new(alloc, source)?;
@@ -100,7 +103,8 @@ pub fn replay_text<R: ByteReader, W: ByteWriter, A: Allocator + Copy>(
     requires reader { R.failed reader.old ≡ false }
     requires writer { W.failed writer.old ≡ false }
     // Where it answers, the page of the replay has been written, and nothing else.
-    ensures written { IfOk result (λ end. WritesPage (R.remaining reader.old) schedule.now (W.contents writer.old) (W.contents writer.new) end) }
+    ensures written { IfOk result
+        (WritesPage (R.remaining reader.old) schedule.now (W.contents writer.old) (W.contents writer.new)) }
     // What a fault tells is so: of the text, of a cell, of the schedule. Nothing else is told of them.
     ensures told { IfErr result (TellsInput A (R.remaining reader.old) schedule.now) }
     // The devices' faults are told exactly where they failed, and else the writer is left alone.

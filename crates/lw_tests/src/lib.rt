@@ -23,6 +23,8 @@ mod pages;
 #[cfg(test)]
 mod runs;
 #[cfg(test)]
+mod statements;
+#[cfg(test)]
 mod tables;
 #[cfg(test)]
 mod texts;
