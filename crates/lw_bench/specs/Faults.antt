@@ -18,7 +18,7 @@ use Rattle.lw_text.specs.declared.fault.TextFault.{TextFault}
 use Rattle.lw_bench.specs.declared.fault.BenchFault.{BenchFault}
 use Rattle.lw_bench.specs.declared.fault.BenchFault.TheVariants.{Text, Cell, Schedule, Memory, Read, Write}
 
--- every want of memory is told as that
+-- where memory ran out that is told
 abbrev pub text_fault : TextFault → TextCause → BenchFault
 text_fault f text.Memory = Memory
 text_fault f _ = Text f

@@ -9,7 +9,7 @@ use lw_base::{CellCause, CellFault, End, ScheduleCause, ScheduleFault};
 use lw_text::{TextCause, TextFault};
 use std::alloc::{AllocError, AllocFailed, Allocator};
 
-/// Why a run is refused. Every want of memory is `Memory`.
+/// Why a run is refused. `Memory` is told wherever memory ran out.
 #[derive(Clone, Copy, Debug, PartialEq, Eq)]
 pub enum BenchFault {
     /// The text is not in the format.
