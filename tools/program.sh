@@ -112,7 +112,7 @@ await_crate() {
     log=$home/crates/$1/out/log
     while kill -0 "$2" 2>/dev/null; do
         sleep 1
-        [ ! -t 2 ] || printf 'lw: %s: %s\033[K\r' "$1" "$(grep -o '[0-9]* of [0-9]*$' "$log" | tail -n 1)" >&2
+        [ ! -t 2 ] || printf 'lw: %s: %s\033[K\r' "$1" "$(grep -o '[0-9]* of [0-9]* functions' "$log" | tail -n 1)" >&2
     done
     wait "$2" && status=0 || status=$?
     # What the program itself ends with says nothing of its build.

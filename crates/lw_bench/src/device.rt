@@ -54,8 +54,7 @@ pub trait ByteWriter {
 #[derive(Drop)]
 pub struct FromRead<R: Read + Drop> {
     pub reader: R,
-    /// Whether a call has failed.
-    pub failed: bool,
+    failed: bool,
 }
 
 impl<R: Read + Drop> FromRead<R> {
@@ -96,8 +95,7 @@ impl<R: Read + Drop> ByteReader for FromRead<R> {
 #[derive(Drop)]
 pub struct ToWrite<W: Write + Drop> {
     pub writer: W,
-    /// Whether a call has failed.
-    pub failed: bool,
+    failed: bool,
 }
 
 impl<W: Write + Drop> ToWrite<W> {

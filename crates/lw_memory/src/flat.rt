@@ -5,7 +5,7 @@ ghost use Rattle.lw_memory.specs.Flat.{FlatServes};
 ghost use Rattle.lw_memory.specs.FlatLaws.{flat_lawful};
 
 use crate::system::{LineState, MemorySystem, NotHeld};
-use lw_base::{Cpu, Loc, Word};
+use lw_base::{Cpu, Loc, MAX_LOCATIONS, MAX_THREADS, Word};
 use std::marker::Model;
 
 /// One word for each location, which all processors see at once. It takes no memory.
@@ -13,29 +13,30 @@ use std::marker::Model;
 pub struct FlatMemory {
     cpus: usize,
     len: usize,
-    words: [Word; 8],
+    words: [Word; MAX_LOCATIONS],
 }
 
 impl Model for FlatMemory {
     ghost use Rattle.std.specs.Prelude.{◌≤◌, take};
     ghost use Rattle.lw_memory.specs.Flat.{Flat};
+    ghost use Rattle.lw_base.specs.declared.limits.TheConstants.{MAX_LOCATIONS, MAX_THREADS};
 
     ghost Value = { Flat };
 
     ghost view = { λ m. record { cpus = m.cpus; words = take m.len m.words } };
 
-    ghost invariant = { λ m. (m.cpus ≤ 4) × (m.len ≤ 8) };
+    ghost invariant = { λ m. (m.cpus ≤ MAX_THREADS) × (m.len ≤ MAX_LOCATIONS) };
 }
 
 impl FlatMemory {
     /// A memory of so many processors, with these words.
     pub fn new(cpus: usize, words: &[Word]) -> Self
-        requires cpus { cpus ≤ 4 }
-        requires words { length words.now ≤ 8 }
+        requires cpus { cpus ≤ MAX_THREADS }
+        requires words { length words.now ≤ MAX_LOCATIONS }
         ensures cpus { result.cpus ≡ cpus }
         ensures words { result.words ≡ words.now }
     {
-        let mut all = [0; 8];
+        let mut all = [0; MAX_LOCATIONS];
         all[..words.len()].copy_from_slice(words);
         FlatMemory {
             cpus,

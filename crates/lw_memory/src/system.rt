@@ -4,7 +4,7 @@ ghost use Rattle.lw_memory.specs.declared.system.LineState.{LineState};
 ghost use Rattle.lw_memory.specs.declared.system.Request.{Request};
 ghost use Rattle.lw_memory.specs.Memory.{memory_of, is_held, Lawful};
 
-use lw_base::{Cpu, Loc, Word};
+use lw_base::{Cpu, Loc, MAX_LOCATIONS, MAX_THREADS, Word};
 
 /// How a cache holds a location.
 #[derive(Clone, Copy, Debug, PartialEq, Eq, Hash)]
@@ -109,13 +109,13 @@ pub trait MemorySystem {
     /// How many processors there are.
     fn cpu_count(&self) -> usize
         ensures count { result ≡ cpus self.now }
-        ensures few { result ≤ 4 }
+        ensures few { result ≤ MAX_THREADS }
         ensures sound { sound self.now };
 
     /// How many locations there are.
     fn location_count(&self) -> usize
         ensures count { result ≡ length (content self.now) }
-        ensures few { result ≤ 8 }
+        ensures few { result ≤ MAX_LOCATIONS }
         ensures sound { sound self.now };
 
     /// The content alone decides every answer, and a request changes it as one word for each location would.

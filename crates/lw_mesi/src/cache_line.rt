@@ -6,7 +6,7 @@ ghost use Rattle.lw_mesi.specs.MesiTable.{get_s, line_to_read, line_to_write, li
 ghost use Rattle.lw_mesi.specs.Places.{is_owner};
 
 use crate::cpu_set::CpuSet;
-use lw_base::{Cpu, Word};
+use lw_base::{Cpu, MAX_THREADS, Word};
 use lw_memory::{LineState, NotHeld};
 use std::marker::Model;
 
@@ -52,7 +52,7 @@ impl PackedCacheLine {
 
     /// How a processor holds the line.
     pub fn state_of(&self, cpu: Cpu) -> LineState
-        requires { cpu < 4 }
+        requires { cpu < MAX_THREADS }
         ensures { result ≡ letter_of (copy_of self.now cpu) }
     {
         if is_owner(self.owner, cpu) {
@@ -84,7 +84,7 @@ impl PackedCacheLine {
 
     /// The word of a processor's copy, where it has one.
     pub fn copy(&self, cpu: Cpu) -> Option<Word>
-        requires { cpu < 4 }
+        requires { cpu < MAX_THREADS }
         ensures { result ≡ word_of (copy_of self.now cpu) }
     {
         if is_owner(self.owner, cpu) || self.sharers.contains(cpu) {
@@ -96,7 +96,7 @@ impl PackedCacheLine {
 
     /// The word that a processor's load takes.
     pub fn load(&mut self, cpu: Cpu) -> Word
-        requires { cpu < 4 }
+        requires { cpu < MAX_THREADS }
         ensures word { Some result ≡ word_of (copy_of (line_to_read cpu self.old) cpu) }
         ensures line { self.new ≡ line_to_read cpu self.old }
     {
@@ -108,7 +108,7 @@ impl PackedCacheLine {
 
     /// The bus transaction of a load without a copy, and the word that it brings.
     fn get_s(&mut self, cpu: Cpu) -> Word
-        requires cpu { cpu < 4 }
+        requires cpu { cpu < MAX_THREADS }
         requires without { copy_of self.old cpu ≡ Invalid }
         ensures word { Some result ≡ word_of (copy_of (get_s cpu self.old) cpu) }
         ensures line { self.new ≡ get_s cpu self.old }
@@ -129,7 +129,7 @@ impl PackedCacheLine {
 
     /// Writes a word, and answers the one that it replaces. The writer becomes the only holder, in M.
     pub fn write(&mut self, cpu: Cpu, word: Word) -> Word
-        requires { cpu < 4 }
+        requires { cpu < MAX_THREADS }
         ensures word { Some result ≡ word_of (copy_of (line_to_write cpu self.old) cpu) }
         ensures line { self.new ≡ line_with_word cpu word (line_to_write cpu self.old) }
     {
@@ -143,7 +143,7 @@ impl PackedCacheLine {
 
     /// Lets a processor's copy go, the word of one in M to memory.
     pub fn evict(&mut self, cpu: Cpu) -> Result<(), NotHeld>
-        requires { cpu < 4 }
+        requires { cpu < MAX_THREADS }
         ensures held { is_ok result ≡ is_held (letter_of (copy_of self.old cpu)) }
         ensures ok { OnOk result (self.new ≡ on_evict (copy_of self.old cpu) cpu self.old) }
         ensures err { OnErr result (self.new ≡ self.old) }

@@ -5,7 +5,7 @@ ghost use Rattle.lw_mesi.specs.MesiTable.{MesiServes};
 ghost use Rattle.lw_mesi.specs.MesiLaws.{mesi_lawful};
 
 use crate::cache_line::PackedCacheLine;
-use lw_base::{Cpu, Loc, Word};
+use lw_base::{Cpu, Loc, MAX_LOCATIONS, MAX_THREADS, Word};
 use lw_memory::{LineState, MemorySystem, NotHeld};
 use std::alloc::{AllocError, Allocator, Global};
 use std::marker::Model;
@@ -24,20 +24,21 @@ pub struct Mesi<A: Allocator = Global> {
 impl<A: Allocator> Model for Mesi<A> {
     ghost use Rattle.std.specs.Prelude.{◌≤◌, length};
     ghost use Rattle.lw_mesi.specs.CacheLines.{Caches, IsCoherent};
+    ghost use Rattle.lw_base.specs.declared.limits.TheConstants.{MAX_LOCATIONS};
 
     ghost Value = { Caches };
 
     ghost view = { λ m. record { cpus = m.cpus; lines = m.lines.items } };
 
-    ghost invariant = { λ m. (length m.lines.items ≤ 8) × IsCoherent (record { cpus = m.cpus; lines = m.lines.items }) };
+    ghost invariant = { λ m. (length m.lines.items ≤ MAX_LOCATIONS) × IsCoherent (record { cpus = m.cpus; lines = m.lines.items }) };
 }
 
 impl<A: Allocator + Copy> Mesi<A> {
     /// Empty caches of so many processors, over a memory with these words. An error is that memory ran out; no later
     /// call takes any.
     pub fn new(alloc: A, cpus: usize, words: &[Word]) -> Result<Self, AllocError>
-        requires cpus { cpus ≤ 4 }
-        requires words { length words.now ≤ 8 }
+        requires cpus { cpus ≤ MAX_THREADS }
+        requires words { length words.now ≤ MAX_LOCATIONS }
         ensures cpus { IfOk result (λ m. m.cpus ≡ cpus) }
         ensures lines { IfOk result (λ m. m.lines ≡ map unheld_line words.now) }
         ensures coherent { IfOk result IsCoherent }

@@ -1,6 +1,7 @@
-use Rattle.std.proofs.lemmas.Result.{err_from_is_err_and, IfOk-weaker, IfErr-weaker}
+use Rattle.std.proofs.lemmas.Result.{IfOk-weaker, IfErr-weaker}
 use Rattle.std.specs.Prelude.{ℕ, List}
 use Rattle.std.specs.String.{string_bytes}
+use Rattle.lw_base.proofs.Returns.{passed_on}
 use Rattle.lw_base.specs.Schedules.{IsSchedule}
 use Rattle.lw_source.specs.Views.{source_of}
 use Rattle.lw_bench.specs.Replays.{IsReplayPage}
@@ -10,8 +11,7 @@ use Rattle.lw_bench.proofs.replay.page_of.Goals as goal
 
 pub returns-in_err-events-clause-told : goal.returns-in_err-events-clause-told
 returns-in_err-events-clause-told g c text has =
-    let p = err_from_is_err_and c.from_residual.result c.from_residual.ensures.1 in
-    rw (p.1, p.2) (schedule_is_told (TellsReplay _ text c.args.schedule.now) tt _ (λ known. record {
+    passed_on _ _ c.from_residual.ensures.1 (schedule_is_told (TellsReplay _ text c.args.schedule.now) tt _ (λ known. record {
       test = source_of c.args.source.now;
       has_test = has;
       none = c.in_err-events.ensures.fault known;
@@ -20,8 +20,7 @@ returns-in_err-events-clause-told g c text has =
 
 pub returns-in_err-events-clause-device : goal.returns-in_err-events-clause-device
 returns-in_err-events-clause-device g c =
-    let p = err_from_is_err_and c.from_residual.result c.from_residual.ensures.1 in
-    rw (p.1, p.2) (schedule_no_device _)
+    passed_on _ _ c.from_residual.ensures.1 (schedule_no_device _)
 
 pub returns-clause-found : goal.returns-clause-found
 returns-clause-found g c =

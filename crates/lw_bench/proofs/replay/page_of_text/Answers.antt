@@ -1,5 +1,6 @@
-use Rattle.std.proofs.lemmas.Result.{err_from_is_err_and, IfOk-weaker}
+use Rattle.std.proofs.lemmas.Result.{IfOk-weaker}
 use Rattle.std.specs.String.{string_bytes}
+use Rattle.lw_base.proofs.Returns.{passed_on}
 use Rattle.lw_source.specs.Views.{source_of}
 use Rattle.lw_bench.specs.Replays.{IsReplayPage, Replays}
 use Rattle.lw_bench.proofs.Told.{by_test}
@@ -7,13 +8,11 @@ use Rattle.lw_bench.proofs.replay.page_of_text.Goals as goal
 
 pub returns-in_err-source-clause-told : goal.returns-in_err-source-clause-told
 returns-in_err-source-clause-told g c =
-    let p = err_from_is_err_and c.from_residual.result c.from_residual.ensures.1 in
-    rw (p.1, p.2) (by_test _ _ _ _ c.in_err-source.ensures.told)
+    passed_on _ _ c.from_residual.ensures.1 (by_test _ _ _ _ c.in_err-source.ensures.told)
 
 pub returns-in_err-source-clause-device : goal.returns-in_err-source-clause-device
 returns-in_err-source-clause-device g c =
-    let p = err_from_is_err_and c.from_residual.result c.from_residual.ensures.1 in
-    rw (p.1, p.2) c.in_err-source.ensures.device
+    passed_on _ _ c.from_residual.ensures.1 c.in_err-source.ensures.device
 
 pub returns-clause-found : goal.returns-clause-found
 returns-clause-found g c =

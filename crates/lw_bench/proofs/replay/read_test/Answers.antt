@@ -1,5 +1,5 @@
-use Rattle.std.proofs.lemmas.Result.{err_from_is_err_and}
 use Rattle.std.proofs.Common.{arith}
+use Rattle.lw_base.proofs.Returns.{passed_on}
 use Rattle.lw_bench.proofs.DeviceFaults.{err_is}
 use Rattle.lw_bench.specs.Told.{TellsTest}
 use Rattle.lw_bench.proofs.Told.{text_is_told, cell_is_told, text_no_device, cell_no_device}
@@ -8,8 +8,7 @@ use Rattle.lw_bench.proofs.replay.read_test.Goals as goal
 pub returns-in_err-frame-clause-told : goal.returns-in_err-frame-clause-told
 returns-in_err-frame-clause-told g c =
     let f = c.in_err-frame in
-    let p = err_from_is_err_and c.from_residual.result c.from_residual.ensures.1 in
-    rw (p.1, p.2) (text_is_told (TellsTest _ c.args.text.now) tt _ (λ known. record {
+    passed_on _ _ c.from_residual.ensures.1 (text_is_told (TellsTest _ c.args.text.now) tt _ (λ known. record {
       none = f.ensures.fault known;
       place = f.ensures.place;
       too_long = λ long. err_is (f.ensures.too_long long);
@@ -21,13 +20,11 @@ returns-in_err-frame-clause-told g c =
 
 pub returns-in_err-frame-clause-device : goal.returns-in_err-frame-clause-device
 returns-in_err-frame-clause-device g c =
-    let p = err_from_is_err_and c.from_residual.result c.from_residual.ensures.1 in
-    rw (p.1, p.2) (text_no_device _)
+    passed_on _ _ c.from_residual.ensures.1 (text_no_device _)
 
 pub returns-in_err-read-clause-told : goal.returns-in_err-read-clause-told
 returns-in_err-read-clause-told g c =
-    let p = err_from_is_err_and c.from_residual-in_err-read.result c.from_residual-in_err-read.ensures.1 in
-    rw (p.1, p.2) (cell_is_told (TellsTest _ c.args.text.now) tt _ (λ known. record {
+    passed_on _ _ c.from_residual-in_err-read.ensures.1 (cell_is_told (TellsTest _ c.args.text.now) tt _ (λ known. record {
       frame = c.in_ok-frame.frame;
       has_frame = c.in_ok-frame.ensures.found;
       lies = c.in_ok-frame.ensures.spans;
@@ -39,5 +36,4 @@ returns-in_err-read-clause-told g c =
 
 pub returns-in_err-read-clause-device : goal.returns-in_err-read-clause-device
 returns-in_err-read-clause-device g c =
-    let p = err_from_is_err_and c.from_residual-in_err-read.result c.from_residual-in_err-read.ensures.1 in
-    rw (p.1, p.2) (cell_no_device _)
+    passed_on _ _ c.from_residual-in_err-read.ensures.1 (cell_no_device _)
