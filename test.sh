@@ -10,25 +10,29 @@ cd "$home" && home=. || exit 1
 program=crates/lw/out/lw
 made_of=crates/lw/out/made-of
 
-gate=$(mktemp) && documents=$(mktemp) && sources=$(mktemp) || exit 1
-trap 'rm -f "$gate" "$documents" "$sources"' EXIT
-look_at_sources && list_sources >"$sources" || exit 1
+room=$(mktemp -d) || exit 1
+trap 'rm -rf "$room"' EXIT
+look_at_sources && list_sources >"$room/sources" || exit 1
 {
     rt ci
-    echo "status $?"
-} | tee "$gate" | grep -v '^status [0-9]*$'
-tail -n 1 "$gate" | grep -qx 'status 0' || exit 1
+    echo $? >"$room/status"
+} | tee "$room/gate"
+[ "$(cat "$room/status")" = 0 ] || exit 1
 
 # What the gate has proved and built is the program of these sources.
-mv "$sources" "$made_of"
+mv "$room/sources" "$made_of"
 is_current || {
     echo "the sources have changed during the gate"
     exit 1
 }
-python3 tools/check_documents.py >"$documents"
+python3 tools/check_documents.py >"$room/documents"
 status=$?
-sed '$d' "$documents"
-passed=$(($(sed -n 's/^\([0-9]*\) passed, .*/\1/p' "$gate" | tail -n 1) + $(sed -n 's/^\([0-9]*\) passed, .*/\1/p' "$documents" | tail -n 1)))
-failed=$(sed -n 's/^.* passed, \([0-9]*\) failed$/\1/p' "$documents" | tail -n 1)
-echo "$passed passed, $failed failed"
+sed '$d' "$room/documents"
+
+# The number of what has passed, by the last line of a log.
+passed_in() {
+    sed -n '$s/^\([0-9]*\) passed, .*/\1/p' "$1"
+}
+failed=$(sed -n '$s/^.* passed, \([0-9]*\) failed$/\1/p' "$room/documents")
+echo "$(($(passed_in "$room/gate") + $(passed_in "$room/documents"))) passed, $failed failed"
 exit $status

@@ -150,7 +150,8 @@ def read(name):
 def main():
     os.chdir(HOME)
     # Where there is no program for the sources as they are, this builds it first.
-    subprocess.run([f"{HOME}/lw"], stdin=subprocess.DEVNULL, stdout=subprocess.DEVNULL)
+    with open(f"{HOME}/examples/SB.litmus", "rb") as it:
+        subprocess.run([f"{HOME}/lw", "replay", ""], stdin=it, stdout=subprocess.DEVNULL)
     for name in ["README.md", *sorted(glob.glob("docs/*.md"))]:
         for block in blocks(read(name)):
             check_transcript(name, block)

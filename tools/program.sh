@@ -73,14 +73,26 @@ build_crates() {
     while [ -n "$left" ]; do
         turn=$(next_turn)
         started=
+        trap 'stop_crates; exit 5' INT TERM
         for crate in $turn; do
             start_crate "$crate"
             started="$started $crate:$!"
         done
         for crate in $started; do
-            await_crate "${crate%:*}" "${crate#*:}" || return 1
+            await_crate "${crate%:*}" "${crate#*:}" || {
+                stop_crates
+                return 1
+            }
         done
         left=$(echo "$left" | grep -vxF "$turn") || :
+    done
+    trap - INT TERM
+}
+
+# Stops the builds that have been started.
+stop_crates() {
+    for crate in $started; do
+        kill "${crate#*:}" 2>/dev/null
     done
 }
 
