@@ -1,4 +1,5 @@
 pub mod Types
+pub mod Sums
 pub mod Refusals
 pub mod Characters
 pub mod Kinds
@@ -11,6 +12,7 @@ pub mod Heads
 pub mod WellFormed
 pub mod WellFormedProps
 pub mod Outcomes
+pub mod ConditionTexts
 pub mod Stops
 pub mod Faults
 pub mod Schedules

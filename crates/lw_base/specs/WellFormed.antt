@@ -1,5 +1,5 @@
 -- What always holds of a test's head: it is well-formed.
-use Rattle.std.specs.Prelude.{◌≡◌, ℕ, ◌<◌, ◌≤◌, ◌⊎◌, List, [], ◌∷◌, length}
+use Rattle.std.specs.Prelude.{◌≡◌, ℕ, ◌<◌, ◌≤◌, ◌^◌, ◌⊎◌, List, [], ◌∷◌, length}
 use Rattle.std.specs.List.{AllByRecursion}
 use Rattle.lw_base.specs.declared.limits.TheConstants.{MAX_THREADS, REGISTERS, MAX_NODES}
 use Rattle.lw_base.specs.declared.head.Seen.{Seen}
@@ -7,6 +7,13 @@ use Rattle.lw_base.specs.declared.head.Seen.TheVariants.{Register, Location}
 use Rattle.lw_base.specs.Formula.{Formula, Yes, No, Reg_is, Word_is, Not, And, Or, nodes}
 use Rattle.lw_base.specs.Heads.{TestHead}
 use Rattle.lw_base.specs.Names.{IsTable, IsTestName}
+
+-- a word, and the number of a register
+abbrev pub IsWord : ℕ → Type 0
+IsWord n = n < 2 ^ 32
+
+abbrev pub IsRegisterNumber : ℕ → Type 0
+IsRegisterNumber r = r < REGISTERS
 
 -- one of so many threads, or of so many locations
 abbrev pub IsSeen : ℕ → ℕ → Seen → Type 0

@@ -5,6 +5,7 @@
 //! Each type is seen by a contract as plain data of `specs/`: a number, a list, or a record of lists.
 #![tactic(auto)]
 
+mod condition;
 mod event;
 mod fault;
 mod head;
@@ -22,6 +23,7 @@ mod sequence;
 mod stop;
 mod text;
 
+pub use condition::write_condition;
 pub use event::Event;
 pub use fault::{CellCause, CellFault, ScheduleCause, ScheduleFault};
 pub use head::{Arch, Head, Quant, Seen};
@@ -31,7 +33,8 @@ pub use limits::{
 };
 pub use location::LocNames;
 pub use name::{
-    ascii_text, is_blank, is_location, is_name, is_numbered, is_word_byte, is_word_text,
+    ascii_text, is_blank, is_location, is_name, is_numbered, is_same_but_case, is_word_byte,
+    is_word_text,
 };
 pub use number::{Cpu, Loc, Reg, Word};
 pub use operand::Operand;

@@ -67,7 +67,7 @@ pub fn ascii_text(bytes: &[u8]) -> &str
 }
 
 /// Whether two texts are equal but for the case of their letters.
-pub(crate) fn is_same_but_case(text: &str, other: &str) -> bool
+pub fn is_same_but_case(text: &str, other: &str) -> bool
     ensures { result ≡ bytes_eq (map to_ascii_lowercase text.now) (map to_ascii_lowercase other.now) }
 {
     text.eq_ignore_ascii_case(other)

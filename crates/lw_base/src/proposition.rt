@@ -1,5 +1,6 @@
 //! Propositions over final states. A clause sees a proposition as a formula without boxes.
 ghost use Rattle.std.specs.Prelude.{◌≡◌, IfOk};
+ghost use Rattle.lw_base.specs.ConditionTexts.{is_or, is_joined};
 ghost use Rattle.lw_base.specs.Propositions.{formula_of};
 
 use crate::number::{Cpu, Loc, Reg, Word};
@@ -48,5 +49,21 @@ impl<A: Allocator + Copy> Prop<A> {
         ensures { IfOk result (λ b. formula_of b.value ≡ formula_of self.now) }
     {
         Ok(Box::new(alloc, self.copy(alloc)?)?)
+    }
+}
+
+impl<A: Allocator> Prop<A> {
+    /// Whether it says that one of two is so.
+    pub(crate) fn is_either(&self) -> bool
+        ensures { result ≡ is_or (formula_of self.now) }
+    {
+        matches!(self, Prop::Either(_, _))
+    }
+
+    /// Whether it joins two.
+    pub(crate) fn is_joined(&self) -> bool
+        ensures { result ≡ is_joined (formula_of self.now) }
+    {
+        matches!(self, Prop::Both(_, _) | Prop::Either(_, _))
     }
 }

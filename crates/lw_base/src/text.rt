@@ -1,5 +1,6 @@
 //! The text type of the workbench. A clause sees it as the list of its bytes alone.
 ghost use Rattle.std.specs.Prelude.{◌≡◌, IfOk};
+ghost use Rattle.std.specs.String.{string_bytes};
 
 use std::alloc::{AllocError, Allocator, Global};
 use std::marker::Model;
@@ -43,5 +44,13 @@ impl<A: Allocator> Text<A> {
         ensures { IfOk result (λ t. t ≡ self.now) }
     {
         Text::from_str(*self.text.allocator(), self.text.as_str())
+    }
+}
+
+impl<A: Allocator> From<String<A>> for Text<A> {
+    ghost from_gives = { λ string text. text ≡ string_bytes string };
+
+    fn from(string: String<A>) -> Text<A> {
+        Text { text: string }
     }
 }

@@ -1,0 +1,75 @@
+-- How conditions are printed.
+-- The source is the format of the workbench, docs/FORMAT.md.
+use Rattle.std.specs.Prelude.{ℕ, Bool, true, false, ◌||◌, if◌then◌else◌, ◌++◌, codes, slice_index_or, []}
+use Rattle.std.specs.Fmt.{decimal}
+use Rattle.lw_base.specs.Types.{Bytes, NameTable}
+use Rattle.lw_base.specs.declared.head.Arch.{Arch}
+use Rattle.lw_base.specs.declared.head.Quant.{Quant}
+use Rattle.lw_base.specs.declared.head.Quant.TheVariants.{Exists, NotExists, Forall}
+use Rattle.lw_base.specs.declared.head.Seen.{Seen}
+use Rattle.lw_base.specs.declared.head.Seen.TheVariants.{Register, Location}
+use Rattle.lw_base.specs.Formula.{Formula, Yes, No, Reg_is, Word_is, Not, And, Or}
+use Rattle.lw_base.specs.Heads.{TestHead}
+use Rattle.lw_base.specs.Registers.{register_name}
+
+-- a thread's register, as `0:EAX`, or a location's name
+abbrev pub site_text : Arch → NameTable → Seen → Bytes
+site_text arch names (Register t r) = decimal t ++ (codes ":" ++ register_name arch r)
+site_text arch names (Location x) = slice_index_or names x []
+
+-- `name=word`
+abbrev pub assignment : Bytes → ℕ → Bytes
+assignment name word = name ++ (codes "=" ++ decimal word)
+
+abbrev pub in_parentheses : Bytes → Bytes
+in_parentheses text = codes "(" ++ (text ++ codes ")")
+
+abbrev pub parenthesized_if : Bool → Bytes → Bytes
+parenthesized_if needed text = if needed then in_parentheses text else text
+
+abbrev pub is_and : Formula → Bool
+is_and Yes = false
+is_and No = false
+is_and (Reg_is t r n) = false
+is_and (Word_is x n) = false
+is_and (Not p) = false
+is_and (And p q) = true
+is_and (Or p q) = false
+
+abbrev pub is_or : Formula → Bool
+is_or Yes = false
+is_or No = false
+is_or (Reg_is t r n) = false
+is_or (Word_is x n) = false
+is_or (Not p) = false
+is_or (And p q) = false
+is_or (Or p q) = true
+
+abbrev pub is_joined : Formula → Bool
+is_joined p = is_and p || is_or p
+
+-- A proposition. Parentheses stand round a `\/` that is a part of a `/\`, round a `/\` that is the right part of a `/\`,
+-- round a `\/` that is the right part of a `\/`, and round either behind a `~`.
+abbrev pub proposition_text : Arch → NameTable → Formula → Bytes
+proposition_text arch names Yes = codes "true"
+proposition_text arch names No = codes "false"
+proposition_text arch names (Reg_is t r n) = assignment (site_text arch names (Register t r)) n
+proposition_text arch names (Word_is x n) = assignment (site_text arch names (Location x)) n
+proposition_text arch names (Not p) =
+    codes "~" ++ parenthesized_if (is_joined p) (proposition_text arch names p)
+proposition_text arch names (And p q) =
+    parenthesized_if (is_or p) (proposition_text arch names p)
+    ++ (codes " /\\ " ++ parenthesized_if (is_joined q) (proposition_text arch names q))
+proposition_text arch names (Or p q) =
+    proposition_text arch names p
+    ++ (codes " \\/ " ++ parenthesized_if (is_or q) (proposition_text arch names q))
+
+abbrev pub quantifier_text : Quant → Bytes
+quantifier_text Exists = codes "exists"
+quantifier_text NotExists = codes "~exists"
+quantifier_text Forall = codes "forall"
+
+-- a head's condition: the quantifier, and the proposition in parentheses
+abbrev pub condition_text : TestHead → Bytes
+condition_text head =
+    quantifier_text head.quant ++ (codes " " ++ in_parentheses (proposition_text head.arch head.locs head.condition))

@@ -1,0 +1,101 @@
+//! The printing of a condition.
+ghost use Rattle.std.specs.Prelude.{◌≡◌, ◌||◌, ◌++◌, length, IfOk, OnOk};
+ghost use Rattle.std.specs.String.{string_bytes};
+ghost use Rattle.lw_base.specs.ConditionTexts as printed;
+ghost use Rattle.lw_base.specs.ConditionTexts.{condition_text, proposition_text, parenthesized_if, is_joined};
+ghost use Rattle.lw_base.specs.Heads.{head_of};
+ghost use Rattle.lw_base.specs.Propositions.{formula_of};
+ghost use Rattle.lw_base.specs.WellFormed.{SpeaksOf};
+
+use crate::head::{Head, Quant};
+use crate::proposition::Prop;
+use crate::register::reg_name;
+use crate::text::Text;
+use std::alloc::{AllocError, Allocator};
+
+/// The text of a head's condition, quantifier included, without a line's end.
+pub fn write_condition<A: Allocator, B: Allocator>(
+    alloc: A,
+    head: &Head<B>,
+) -> Result<Text<A>, AllocError>
+    // The proposition speaks of the head's threads and locations.
+    requires { SpeaksOf head.now.threads (length head.now.locs) (formula_of head.now.prop) }
+    ensures { IfOk result (λ text. text ≡ condition_text (head_of head.now)) }
+{
+    let mut out = String::new(alloc);
+    write!(out, "{} (", quantifier_word(head.quant))?;
+    write_proposition(&mut out, head, &head.prop)?;
+    out.push_str(")")?;
+    Ok(Text::from(out))
+}
+
+fn quantifier_word(quant: Quant) -> &'static str
+    ensures { result.now ≡ printed.quantifier_text quant }
+{
+    match quant {
+        Quant::Exists => "exists",
+        Quant::NotExists => "~exists",
+        Quant::Forall => "forall",
+    }
+}
+
+/// A proposition of the head, or a part of it.
+#[cycle(propositions)]
+fn write_proposition<A: Allocator, B: Allocator>(
+    out: &mut String<A>,
+    head: &Head<B>,
+    prop: &Prop<B>,
+) -> Result<(), AllocError>
+    requires { SpeaksOf head.now.threads (length head.now.locs) (formula_of prop.now) }
+    ensures { OnOk result (string_bytes out.new
+        ≡ string_bytes out.old ++ proposition_text head.now.arch head.now.locs (formula_of prop.now)) }
+{
+    match prop {
+        Prop::Always => out.push_str("true"),
+        Prop::Never => out.push_str("false"),
+        Prop::RegIs(cpu, reg, word) => {
+            write!(
+                out,
+                "{}:{}={}",
+                cpu.index(),
+                reg_name(head.arch, *reg),
+                word
+            )
+        }
+        Prop::WordIs(loc, word) => write!(out, "{}={}", head.locs.name(*loc), word),
+        Prop::Neg(part) => {
+            out.push_str("~")?;
+            write_part(out, head, part, part.is_joined())
+        }
+        Prop::Both(left, right) => {
+            write_part(out, head, left, left.is_either())?;
+            out.push_str(" /\\ ")?;
+            write_part(out, head, right, right.is_joined())
+        }
+        Prop::Either(left, right) => {
+            write_proposition(out, head, left)?;
+            out.push_str(" \\/ ")?;
+            write_part(out, head, right, right.is_either())
+        }
+    }
+}
+
+/// A part of a proposition, in parentheses where they are needed.
+#[cycle(propositions)]
+fn write_part<A: Allocator, B: Allocator>(
+    out: &mut String<A>,
+    head: &Head<B>,
+    part: &Prop<B>,
+    needs_parentheses: bool,
+) -> Result<(), AllocError>
+    requires { SpeaksOf head.now.threads (length head.now.locs) (formula_of part.now) }
+    ensures { OnOk result (string_bytes out.new ≡ string_bytes out.old
+        ++ parenthesized_if needs_parentheses (proposition_text head.now.arch head.now.locs (formula_of part.now))) }
+{
+    if !needs_parentheses {
+        return write_proposition(out, head, part);
+    }
+    out.push_str("(")?;
+    write_proposition(out, head, part)?;
+    out.push_str(")")
+}
