@@ -14,7 +14,8 @@ use Rattle.lw_base.specs.declared.stop.End.TheVariants.{Stopped}
 use Rattle.lw_base.specs.Registers.{register_name}
 use Rattle.lw_base.specs.Stops.{stop_number, stop_name}
 use Rattle.lw_source.specs.declared.thread.Thread.{Thread}
-use Rattle.lw_bench.specs.Pages.{spaced, line, assignment, register_parts, thread_line, thread_lines, memory_parts, end_parts}
+use Rattle.lw_bench.specs.Pages.{spaced, line, register_parts, thread_line, thread_lines, memory_parts, end_parts}
+use Rattle.lw_base.specs.ConditionTexts.{assignment}
 
 drop_at : {X : Type 0} (xs : List X) (k : ℕ) (x : X) → slice_get xs k ≡ Some x → drop k xs ≡ x ∷ drop (k + 1) xs
 drop_at xs k x at =

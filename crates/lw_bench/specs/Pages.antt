@@ -5,6 +5,7 @@ use Rattle.std.specs.List.{flat_map}
 use Rattle.std.specs.Fmt.{decimal}
 use Rattle.lw_base.specs.Types.{Bytes, NameTable}
 use Rattle.lw_base.specs.Characters.{byte}
+use Rattle.lw_base.specs.ConditionTexts.{assignment}
 use Rattle.lw_base.specs.declared.head.Arch.{Arch}
 use Rattle.lw_base.specs.declared.stop.End.{End}
 use Rattle.lw_base.specs.declared.stop.End.TheVariants.{Final, NotFinal, Stopped}
@@ -22,10 +23,6 @@ spaced parts = flat_map (λ part. byte " " ∷ part) parts
 -- a first word, the parts behind it, and the line's end
 abbrev pub line : Bytes → List Bytes → Bytes
 line first parts = first ++ (spaced parts ++ byte "\n" ∷ [])
-
--- `name=word`
-abbrev pub assignment : Bytes → ℕ → Bytes
-assignment name word = name ++ (codes "=" ++ decimal word)
 
 -- the first registers of a thread, so many of them
 abbrev pub register_parts : Arch → List ℕ → ℕ → List Bytes

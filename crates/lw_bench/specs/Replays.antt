@@ -8,7 +8,7 @@ use Rattle.lw_base.specs.declared.stop.End.{End}
 use Rattle.lw_base.specs.declared.stop.Replay.{Replay}
 use Rattle.lw_base.specs.Schedules.{IsSchedule}
 use Rattle.lw_text.specs.Frames.{TestFrame, HasFrame}
-use Rattle.lw_source.specs.Cells.{HasSource}
+use Rattle.lw_source.specs.Sources.{HasSource}
 use Rattle.lw_source.specs.Runs.{State, start_of, Replayed}
 use Rattle.lw_source.specs.Sources.{SourceTest}
 use Rattle.lw_bench.specs.Pages.{replay_text}

@@ -16,9 +16,8 @@ use Rattle.lw_text.specs.declared.fault.TextFault.{TextFault}
 use Rattle.lw_text.specs.declared.frame.Frame.{Frame}
 use Rattle.lw_text.specs.Frames.{TestFrame, HasFrame}
 use Rattle.lw_text.specs.Views.{frame_of, LiesIn}
-use Rattle.lw_source.specs.Cells.{HasSource}
-use Rattle.lw_source.specs.Faults.{Tells}
-use Rattle.lw_source.specs.Sources.{SourceTest}
+use Rattle.lw_cells.specs.Faults.{Tells}
+use Rattle.lw_source.specs.Sources.{SourceTest, HasSource, source}
 use Rattle.lw_bench.specs.declared.fault.BenchFault.{BenchFault}
 use Rattle.lw_bench.specs.declared.fault.BenchFault.TheVariants.{Text, Cell, Schedule, Memory, Read, Write}
 use Rattle.lw_bench.specs.Replays.{HasTest}
@@ -42,7 +41,7 @@ pub record TellsCell (A : Type 0) (bytes : Bytes) (f : CellFault) : Type 0 where
   pub lies : LiesIn bytes frame
   pub none : (test : SourceTest) → HasSource (frame_of frame) test → ⊥
   pub place : f.at ≤ length bytes
-  pub cause : Tells frame.head.locs frame.cells f
+  pub cause : Tells source frame.head.locs frame.cells f
   pub in_memory : f.cause ≢ cell.Memory
 
 -- The text is a test, none of whose schedules this is: its first faulty word stands at the place, for this cause.

@@ -4,9 +4,10 @@ use Rattle.std.specs.Option.{option_map, option_and_then}
 use Rattle.std.proofs.lemmas.Option.{slice_get-map}
 use Rattle.std.proofs.lemmas.Bool.{eq-eqb}
 use Rattle.lw_source.specs.declared.stmt.Stmt.{Stmt}
-use Rattle.lw_source.specs.declared.stmt.Stmt.TheVariants.{Store, Load, Swap, Set, Sum, IfEq, IfNe, Goto}
+use Rattle.lw_source.specs.declared.stmt.Stmt.TheVariants.{Store, Load, Swap, FetchAdd, Set, Sum, IfEq, IfNe, Goto}
 use Rattle.lw_source.specs.declared.thread.Thread.{Thread}
 use Rattle.lw_source.specs.Sources.{location_of}
+use Rattle.lw_base.specs.Sums.{sum_of}
 use Rattle.lw_source.specs.Statements.{value_of, thread_after, words_after}
 use Rattle.lw_source.specs.Runs.{State, code_of, carried_out, step_of, source_step}
 use Rattle.lw_source.specs.Flow.{Follows, FollowsFlow}
@@ -65,6 +66,7 @@ abbrev reads : Stmt → Option ℕ
 reads (Store x v) = None
 reads (Load d x) = Some x
 reads (Swap d x a) = Some x
+reads (FetchAdd d x a) = Some x
 reads (Set d v) = None
 reads (Sum d a v) = None
 reads (IfEq a n to) = None
@@ -75,6 +77,7 @@ abbrev written : Stmt → Option ℕ
 written (Store x v) = Some x
 written (Load d x) = None
 written (Swap d x a) = Some x
+written (FetchAdd d x a) = Some x
 written (Set d v) = None
 written (Sum d a v) = None
 written (IfEq a n to) = None
@@ -91,24 +94,26 @@ abbrev put : Option ℕ → ℕ → List ℕ → List ℕ
 put None w words = words
 put (Some x) w words = slice_set words x w
 
-abbrev word_put : Stmt → Thread → ℕ
-word_put (Store x v) th = value_of v th.regs
-word_put (Load d x) th = 0
-word_put (Swap d x a) th = slice_index th.regs a
-word_put (Set d v) th = 0
-word_put (Sum d a v) th = 0
-word_put (IfEq a n to) th = 0
-word_put (IfNe a n to) th = 0
-word_put (Goto to) th = 0
+abbrev word_put : Stmt → Thread → List ℕ → ℕ
+word_put (Store x v) th m = value_of v th.regs
+word_put (Load d x) th m = 0
+word_put (Swap d x a) th m = slice_index th.regs a
+word_put (FetchAdd d x a) th m = sum_of (slice_index m x) (slice_index th.regs a)
+word_put (Set d v) th m = 0
+word_put (Sum d a v) th m = 0
+word_put (IfEq a n to) th m = 0
+word_put (IfNe a n to) th m = 0
+word_put (Goto to) th m = 0
 
-words_put : (x : Stmt) (th : Thread) (m : List ℕ) → words_after x th m ≡ put (written x) (word_put x th) m
+words_put : (x : Stmt) (th : Thread) (m : List ℕ) → words_after x th m ≡ put (written x) (word_put x th m) m
 words_put (Store x v) th m = refl
 words_put (Load d x) th m = refl
 words_put (Swap d x a) th m = refl
+words_put (FetchAdd d x a) th m = refl
 words_put (Set d v) th m = refl
 words_put (Sum d a v) th m = refl
-words_put (IfEq r n to) th m = refl
-words_put (IfNe r n to) th m = refl
+words_put (IfEq a n to) th m = refl
+words_put (IfNe a n to) th m = refl
 words_put (Goto to) th m = refl
 
 index_put : (o : Option ℕ) (w x : ℕ) (m : List ℕ) → Apart (Some x) o → slice_index (put o w m) x ≡ slice_index m x
@@ -120,11 +125,23 @@ thread_same : (x : Stmt) (th : Thread) (m : List ℕ) (o : Option ℕ) (w : ℕ)
 thread_same (Store x v) th m o w a = refl
 thread_same (Load d x) th m o w a = ap (λ k. record { position = th.position + 1; regs = slice_set th.regs d k }) (index_put o w x m a)
 thread_same (Swap d x b) th m o w a = ap (λ k. record { position = th.position + 1; regs = slice_set th.regs d k }) (index_put o w x m a)
+thread_same (FetchAdd d x b) th m o w a = ap (λ k. record { position = th.position + 1; regs = slice_set th.regs d k }) (index_put o w x m a)
 thread_same (Set d v) th m o w a = refl
 thread_same (Sum d b v) th m o w a = refl
 thread_same (IfEq r n to) th m o w a = refl
 thread_same (IfNe r n to) th m o w a = refl
 thread_same (Goto to) th m o w a = refl
+
+word_same : (x : Stmt) (th : Thread) (m : List ℕ) (o : Option ℕ) (w : ℕ) → Apart (reads x) o → word_put x th (put o w m) ≡ word_put x th m
+word_same (Store x v) th m o w a = refl
+word_same (Load d x) th m o w a = refl
+word_same (Swap d x b) th m o w a = refl
+word_same (FetchAdd d x b) th m o w a = ap (λ k. sum_of k (slice_index th.regs b)) (index_put o w x m a)
+word_same (Set d v) th m o w a = refl
+word_same (Sum d b v) th m o w a = refl
+word_same (IfEq r n to) th m o w a = refl
+word_same (IfNe r n to) th m o w a = refl
+word_same (Goto to) th m o w a = refl
 
 put_exchange : (o p : Option ℕ) (v w : ℕ) (m : List ℕ) → Apart o p → put p w (put o v m) ≡ put o v (put p w m)
 put_exchange None None v w m a = refl
@@ -141,6 +158,7 @@ reads_at : (a : Stmt) (x : ℕ) → reads a ≡ Some x → location_of a ≡ Som
 reads_at (Store y v) x e = absurd cc
 reads_at (Load d y) x e = e
 reads_at (Swap d y b) x e = e
+reads_at (FetchAdd d y b) x e = e
 reads_at (Set d v) x e = absurd cc
 reads_at (Sum d b v) x e = absurd cc
 reads_at (IfEq b n to) x e = absurd cc
@@ -151,6 +169,7 @@ written_at : (a : Stmt) (x : ℕ) → written a ≡ Some x → (location_of a �
 written_at (Store y v) x e = (e, refl)
 written_at (Load d y) x e = absurd cc
 written_at (Swap d y b) x e = (e, refl)
+written_at (FetchAdd d y b) x e = (e, refl)
 written_at (Set d v) x e = absurd cc
 written_at (Sum d b v) x e = absurd cc
 written_at (IfEq b n to) x e = absurd cc
@@ -212,6 +231,7 @@ follows : (x : Stmt) (th : Thread) (m : List ℕ) → Follows (Some x) th.positi
 follows (Store x v) th m = refl
 follows (Load d x) th m = refl
 follows (Swap d x a) th m = refl
+follows (FetchAdd d x a) th m = refl
 follows (Set d v) th m = refl
 follows (Sum d a v) th m = refl
 follows (IfEq a n to) th m = jumped (slice_index th.regs a == n) to (th.position + 1)
@@ -271,17 +291,19 @@ exchange program t u s ne apart mid end step_t step_u = (other, first, second)
 
     threads_are : slice_set (slice_set s.threads u (thread_after b.stmt tu s.words)) t (thread_after a.stmt th (words_after b.stmt tu s.words)) ≡ slice_set (slice_set s.threads t (thread_after a.stmt th s.words)) u (thread_after b.stmt tu (words_after a.stmt th s.words))
     threads_are =
-        let x = ap (λ w. thread_after a.stmt th w) (words_put b.stmt tu s.words) ∙ thread_same a.stmt th s.words (written b.stmt) (word_put b.stmt tu) free.read_write in
-        let y = ap (λ w. thread_after b.stmt tu w) (words_put a.stmt th s.words) ∙ thread_same b.stmt tu s.words (written a.stmt) (word_put a.stmt th) free.write_read in
+        let x = ap (λ w. thread_after a.stmt th w) (words_put b.stmt tu s.words) ∙ thread_same a.stmt th s.words (written b.stmt) (word_put b.stmt tu s.words) free.read_write in
+        let y = ap (λ w. thread_after b.stmt tu w) (words_put a.stmt th s.words) ∙ thread_same b.stmt tu s.words (written a.stmt) (word_put a.stmt th s.words) free.write_read in
         ap (λ k. slice_set (slice_set s.threads u (thread_after b.stmt tu s.words)) t k) x
         ∙ set_exchange s.threads u t (thread_after b.stmt tu s.words) (thread_after a.stmt th s.words) (λ e. ne (sym e))
         ∙ ap (λ k. slice_set (slice_set s.threads t (thread_after a.stmt th s.words)) u k) (sym y)
 
     words_are : words_after a.stmt th (words_after b.stmt tu s.words) ≡ words_after b.stmt tu (words_after a.stmt th s.words)
     words_are =
-        words_put a.stmt th (words_after b.stmt tu s.words) ∙ ap (λ m. put (written a.stmt) (word_put a.stmt th) m) (words_put b.stmt tu s.words)
-        ∙ sym (put_exchange (written a.stmt) (written b.stmt) (word_put a.stmt th) (word_put b.stmt tu) s.words free.writes_apart)
-        ∙ sym (words_put b.stmt tu (words_after a.stmt th s.words) ∙ ap (λ m. put (written b.stmt) (word_put b.stmt tu) m) (words_put a.stmt th s.words))
+        words_put a.stmt th (words_after b.stmt tu s.words) ∙ ap (λ m. put (written a.stmt) (word_put a.stmt th m) m) (words_put b.stmt tu s.words)
+        ∙ ap (λ w. put (written a.stmt) w (put (written b.stmt) (word_put b.stmt tu s.words) s.words)) (word_same a.stmt th s.words (written b.stmt) (word_put b.stmt tu s.words) free.read_write)
+        ∙ sym (put_exchange (written a.stmt) (written b.stmt) (word_put a.stmt th s.words) (word_put b.stmt tu s.words) s.words free.writes_apart)
+        ∙ sym (words_put b.stmt tu (words_after a.stmt th s.words) ∙ ap (λ m. put (written b.stmt) (word_put b.stmt tu m) m) (words_put a.stmt th s.words)
+        ∙ ap (λ w. put (written b.stmt) w (put (written a.stmt) (word_put a.stmt th s.words) s.words)) (word_same b.stmt tu s.words (written a.stmt) (word_put a.stmt th s.words) free.write_read))
 
     end_is : end ≡ state_of (slice_set (slice_set s.threads t (thread_after a.stmt th s.words)) u (thread_after b.stmt tu (words_after a.stmt th s.words))) (words_after b.stmt tu (words_after a.stmt th s.words))
     end_is = b.is ∙ ap (λ (m : State). state_of (slice_set m.threads u (thread_after b.stmt tu m.words)) (words_after b.stmt tu m.words)) a.is

@@ -1,14 +1,5 @@
 pub mod Runs
 pub mod Phrases
-pub mod NewNames
-pub mod Labels
-pub mod Leads
 pub mod OneReading
-pub mod ResolvedNames
-pub mod Drafts
-pub mod FaultPlaces
-pub mod JumpsResolved
-pub mod Resolved
-pub mod ColumnsRead
-pub mod Sources
+pub mod SourceLaws
 pub mod Exchange

@@ -1,7 +1,6 @@
--- A cell says one thing.
-use Rattle.std.proofs.Common.{◌≡◌, ℕ, suc, true, Option, Some, None, List, [], ◌∷◌, ◌++◌, length, refl, sym, ap, ◌∙◌, subst, arith}
+-- A statement's tokens say one statement.
+use Rattle.std.proofs.Common.{◌≡◌, ℕ, true, Some, List, [], ◌∷◌, length, refl, sym, ap, ◌∙◌, subst, arith}
 use Rattle.std.specs.Prelude.{slice_get, codes}
-use Rattle.std.specs.List.{AllZip}
 use Rattle.lw_base.specs.declared.head.Arch.TheVariants.{Source}
 use Rattle.lw_base.specs.declared.operand.Operand.{Operand}
 use Rattle.lw_base.specs.declared.operand.Operand.TheVariants.{Register, Number}
@@ -10,9 +9,10 @@ use Rattle.lw_base.specs.Names.{IsLocation}
 use Rattle.lw_base.specs.Registers.{IsRegister}
 use Rattle.lw_text.specs.Tokens.{IsNumber}
 use Rattle.lw_text.proofs.Atoms.{number-unique}
-use Rattle.lw_source.specs.Cells.{StatementSyntax, Stores, Loads, Swaps, Sets, Sums, Jumps_if, Jumps_if_not, Jumps, CellSyntax, IsOperand, Statement, MaybeStatement, Labels, CellSays, Column}
-use Rattle.lw_source.specs.Reading.{AtLabel}
-use Rattle.lw_source.proofs.Phrases.{first_of, other_letter, begins_as, register_apart, no_reserved, if_register, goto_register, swap_register, goto_if, if_if, register_unique, operand_unique, location_number}
+use Rattle.lw_cells.specs.Operands.{IsOperand}
+use Rattle.lw_source.specs.Syntax.{StatementSyntax, Stores, Loads, Swaps, Fetch_adds, Sets, Sums, Jumps_if, Jumps_if_not, Jumps, StatementSays}
+use Rattle.lw_source.proofs.Phrases.{first_of, other_letter, begins_as, register_apart, no_reserved, if_register, goto_register, swap_register, fetch_add_register, swap_fetch_add, goto_if, if_if, register_unique, operand_unique}
+use Rattle.lw_cells.proofs.TokenRows.{location_number}
 
 apart01 : (a : List ℕ) (r : ℕ) → IsLocation a → IsRegister Source a r → ⊥
 apart01 a r loc reg = register_apart a r reg loc
@@ -32,7 +32,7 @@ apart13 a r reg e = goto_register r (subst (λ w. IsRegister Source w r) (sym e)
 apart23 : (a : List ℕ) → codes "if" ≡ a → codes "goto" ≡ a → ⊥
 apart23 a e f = goto_if (f ∙ sym e)
 
-location_operand : (w : List ℕ) (v : Operand) → IsLocation w → IsOperand w v → ⊥
+location_operand : (w : List ℕ) (v : Operand) → IsLocation w → IsOperand Source w v → ⊥
 location_operand w (Register r) loc is = register_apart w r is loc
 location_operand w (Number n) loc is = location_number w n loc is
 
@@ -49,14 +49,15 @@ six_same a b c d f g x y z t u v e = (cc, cc, cc, cc)
 two_same : (a b x y : List ℕ) → a ∷ b ∷ [] ≡ x ∷ y ∷ [] → b ≡ y
 two_same a b x y e = cc
 
-pub statement_unique : (ts : List (List ℕ)) (s t : StatementSyntax) → Statement ts s → Statement ts t → s ≡ t
+pub statement_unique : (ts : List (List ℕ)) (s t : StatementSyntax) → StatementSays ts s → StatementSays ts t → s ≡ t
 statement_unique ts (Stores x v) (Stores y w) h k =
     let e = three_same x _ h.0 y _ k.0 (sym h.1 ∙ k.1) in
     let name : x ≡ y = e.0 in
-    let one : v ≡ w = operand_unique h.0 v w h.3 (subst (λ u. IsOperand u w) (sym e.1) k.3) in
+    let one : v ≡ w = operand_unique h.0 v w h.3 (subst (λ u. IsOperand Source u w) (sym e.1) k.3) in
     cc
 statement_unique ts (Stores x v) (Loads e y) h k = let f = first_of ts (Stores x v) h in absurd (apart01 f.0 e (begins_as ts f.0 (Stores x v) f.1 h) (begins_as ts f.0 (Loads e y) f.1 k))
 statement_unique ts (Stores x v) (Swaps e y q) h k = let f = first_of ts (Stores x v) h in absurd (apart01 f.0 e (begins_as ts f.0 (Stores x v) f.1 h) (begins_as ts f.0 (Swaps e y q) f.1 k))
+statement_unique ts (Stores x v) (Fetch_adds e y q) h k = let f = first_of ts (Stores x v) h in absurd (apart01 f.0 e (begins_as ts f.0 (Stores x v) f.1 h) (begins_as ts f.0 (Fetch_adds e y q) f.1 k))
 statement_unique ts (Stores x v) (Sets e w) h k = let f = first_of ts (Stores x v) h in absurd (apart01 f.0 e (begins_as ts f.0 (Stores x v) f.1 h) (begins_as ts f.0 (Sets e w) f.1 k))
 statement_unique ts (Stores x v) (Sums e m w) h k = let f = first_of ts (Stores x v) h in absurd (apart01 f.0 e (begins_as ts f.0 (Stores x v) f.1 h) (begins_as ts f.0 (Sums e m w) f.1 k))
 statement_unique ts (Stores x v) (Jumps_if q m j) h k = let f = first_of ts (Stores x v) h in absurd (apart02 f.0 (begins_as ts f.0 (Stores x v) f.1 h) (begins_as ts f.0 (Jumps_if q m j) f.1 k))
@@ -69,6 +70,7 @@ statement_unique ts (Loads d x) (Loads e y) h k =
     let name : x ≡ y = f.1 in
     cc
 statement_unique ts (Loads d x) (Swaps e y q) h k = absurd (omega (arith, ap length h.1, ap length k.2))
+statement_unique ts (Loads d x) (Fetch_adds e y q) h k = absurd (omega (arith, ap length h.1, ap length k.2))
 statement_unique ts (Loads d x) (Sets e w) h k =
     let f = three_same h.0 _ x k.0 _ k.1 (sym h.1 ∙ k.2) in
     absurd (location_operand k.1 w (subst IsLocation f.1 h.3) k.4)
@@ -84,6 +86,9 @@ statement_unique ts (Swaps d x r) (Swaps e y q) h k =
     let name : x ≡ y = f.2 in
     let other : r ≡ q = register_unique h.1 r q h.5 (subst (λ u. IsRegister Source u q) (sym f.3) k.5) in
     cc
+statement_unique ts (Swaps d x r) (Fetch_adds e y q) h k =
+    let f = five_same h.0 _ (codes "swap") x h.1 k.0 _ (codes "fetchadd") y k.1 (sym h.2 ∙ k.2) in
+    absurd (swap_fetch_add f.1)
 statement_unique ts (Swaps d x r) (Sets e w) h k = absurd (omega (arith, ap length h.2, ap length k.2))
 statement_unique ts (Swaps d x r) (Sums e m w) h k =
     let f = five_same h.0 _ (codes "swap") x h.1 k.0 _ k.1 _ k.2 (sym h.2 ∙ k.3) in
@@ -91,15 +96,34 @@ statement_unique ts (Swaps d x r) (Sums e m w) h k =
 statement_unique ts (Swaps d x r) (Jumps_if q m j) h k = let f = first_of ts (Swaps d x r) h in absurd (apart12 f.0 d (begins_as ts f.0 (Swaps d x r) f.1 h) (begins_as ts f.0 (Jumps_if q m j) f.1 k))
 statement_unique ts (Swaps d x r) (Jumps_if_not q m j) h k = let f = first_of ts (Swaps d x r) h in absurd (apart12 f.0 d (begins_as ts f.0 (Swaps d x r) f.1 h) (begins_as ts f.0 (Jumps_if_not q m j) f.1 k))
 statement_unique ts (Swaps d x r) (Jumps j) h k = let f = first_of ts (Swaps d x r) h in absurd (apart13 f.0 d (begins_as ts f.0 (Swaps d x r) f.1 h) (begins_as ts f.0 (Jumps j) f.1 k))
+statement_unique ts (Fetch_adds d x r) (Stores y w) h k = let f = first_of ts (Fetch_adds d x r) h in absurd (apart01 f.0 d (begins_as ts f.0 (Stores y w) f.1 k) (begins_as ts f.0 (Fetch_adds d x r) f.1 h))
+statement_unique ts (Fetch_adds d x r) (Loads e y) h k = absurd (omega (arith, ap length h.2, ap length k.1))
+statement_unique ts (Fetch_adds d x r) (Swaps e y q) h k =
+    let f = five_same h.0 _ (codes "fetchadd") x h.1 k.0 _ (codes "swap") y k.1 (sym h.2 ∙ k.2) in
+    absurd (swap_fetch_add (sym f.1))
+statement_unique ts (Fetch_adds d x r) (Fetch_adds e y q) h k =
+    let f = five_same h.0 _ _ x h.1 k.0 _ _ y k.1 (sym h.2 ∙ k.2) in
+    let one : d ≡ e = register_unique h.0 d e h.3 (subst (λ u. IsRegister Source u e) (sym f.0) k.3) in
+    let name : x ≡ y = f.2 in
+    let other : r ≡ q = register_unique h.1 r q h.5 (subst (λ u. IsRegister Source u q) (sym f.3) k.5) in
+    cc
+statement_unique ts (Fetch_adds d x r) (Sets e w) h k = absurd (omega (arith, ap length h.2, ap length k.2))
+statement_unique ts (Fetch_adds d x r) (Sums e m w) h k =
+    let f = five_same h.0 _ (codes "fetchadd") x h.1 k.0 _ k.1 _ k.2 (sym h.2 ∙ k.3) in
+    absurd (fetch_add_register m (subst (λ u. IsRegister Source u m) (sym f.1) k.5))
+statement_unique ts (Fetch_adds d x r) (Jumps_if q m j) h k = let f = first_of ts (Fetch_adds d x r) h in absurd (apart12 f.0 d (begins_as ts f.0 (Fetch_adds d x r) f.1 h) (begins_as ts f.0 (Jumps_if q m j) f.1 k))
+statement_unique ts (Fetch_adds d x r) (Jumps_if_not q m j) h k = let f = first_of ts (Fetch_adds d x r) h in absurd (apart12 f.0 d (begins_as ts f.0 (Fetch_adds d x r) f.1 h) (begins_as ts f.0 (Jumps_if_not q m j) f.1 k))
+statement_unique ts (Fetch_adds d x r) (Jumps j) h k = let f = first_of ts (Fetch_adds d x r) h in absurd (apart13 f.0 d (begins_as ts f.0 (Fetch_adds d x r) f.1 h) (begins_as ts f.0 (Jumps j) f.1 k))
 statement_unique ts (Sets d v) (Stores y w) h k = let f = first_of ts (Sets d v) h in absurd (apart01 f.0 d (begins_as ts f.0 (Stores y w) f.1 k) (begins_as ts f.0 (Sets d v) f.1 h))
 statement_unique ts (Sets d v) (Loads e y) h k =
     let f = three_same h.0 _ h.1 k.0 _ y (sym h.2 ∙ k.1) in
     absurd (location_operand h.1 v (subst IsLocation (sym f.1) k.3) h.4)
 statement_unique ts (Sets d v) (Swaps e y q) h k = absurd (omega (arith, ap length h.2, ap length k.2))
+statement_unique ts (Sets d v) (Fetch_adds e y q) h k = absurd (omega (arith, ap length h.2, ap length k.2))
 statement_unique ts (Sets d v) (Sets e w) h k =
     let f = three_same h.0 _ h.1 k.0 _ k.1 (sym h.2 ∙ k.2) in
     let one : d ≡ e = register_unique h.0 d e h.3 (subst (λ u. IsRegister Source u e) (sym f.0) k.3) in
-    let value : v ≡ w = operand_unique h.1 v w h.4 (subst (λ u. IsOperand u w) (sym f.1) k.4) in
+    let value : v ≡ w = operand_unique h.1 v w h.4 (subst (λ u. IsOperand Source u w) (sym f.1) k.4) in
     cc
 statement_unique ts (Sets d v) (Sums e m w) h k = absurd (omega (arith, ap length h.2, ap length k.3))
 statement_unique ts (Sets d v) (Jumps_if q m j) h k = let f = first_of ts (Sets d v) h in absurd (apart12 f.0 d (begins_as ts f.0 (Sets d v) f.1 h) (begins_as ts f.0 (Jumps_if q m j) f.1 k))
@@ -110,12 +134,15 @@ statement_unique ts (Sums d l v) (Loads e y) h k = absurd (omega (arith, ap leng
 statement_unique ts (Sums d l v) (Swaps e y q) h k =
     let f = five_same h.0 _ h.1 _ h.2 k.0 _ (codes "swap") y k.1 (sym h.3 ∙ k.2) in
     absurd (swap_register l (subst (λ u. IsRegister Source u l) f.1 h.5))
+statement_unique ts (Sums d l v) (Fetch_adds e y q) h k =
+    let f = five_same h.0 _ h.1 _ h.2 k.0 _ (codes "fetchadd") y k.1 (sym h.3 ∙ k.2) in
+    absurd (fetch_add_register l (subst (λ u. IsRegister Source u l) f.1 h.5))
 statement_unique ts (Sums d l v) (Sets e w) h k = absurd (omega (arith, ap length h.3, ap length k.2))
 statement_unique ts (Sums d l v) (Sums e m w) h k =
     let f = five_same h.0 _ h.1 _ h.2 k.0 _ k.1 _ k.2 (sym h.3 ∙ k.3) in
     let one : d ≡ e = register_unique h.0 d e h.4 (subst (λ u. IsRegister Source u e) (sym f.0) k.4) in
     let other : l ≡ m = register_unique h.1 l m h.5 (subst (λ u. IsRegister Source u m) (sym f.1) k.5) in
-    let value : v ≡ w = operand_unique h.2 v w h.6 (subst (λ u. IsOperand u w) (sym f.3) k.6) in
+    let value : v ≡ w = operand_unique h.2 v w h.6 (subst (λ u. IsOperand Source u w) (sym f.3) k.6) in
     cc
 statement_unique ts (Sums d l v) (Jumps_if q m j) h k = let f = first_of ts (Sums d l v) h in absurd (apart12 f.0 d (begins_as ts f.0 (Sums d l v) f.1 h) (begins_as ts f.0 (Jumps_if q m j) f.1 k))
 statement_unique ts (Sums d l v) (Jumps_if_not q m j) h k = let f = first_of ts (Sums d l v) h in absurd (apart12 f.0 d (begins_as ts f.0 (Sums d l v) f.1 h) (begins_as ts f.0 (Jumps_if_not q m j) f.1 k))
@@ -123,6 +150,7 @@ statement_unique ts (Sums d l v) (Jumps j) h k = let f = first_of ts (Sums d l v
 statement_unique ts (Jumps_if r n l) (Stores y w) h k = let f = first_of ts (Jumps_if r n l) h in absurd (apart02 f.0 (begins_as ts f.0 (Stores y w) f.1 k) (begins_as ts f.0 (Jumps_if r n l) f.1 h))
 statement_unique ts (Jumps_if r n l) (Loads e y) h k = let f = first_of ts (Jumps_if r n l) h in absurd (apart12 f.0 e (begins_as ts f.0 (Loads e y) f.1 k) (begins_as ts f.0 (Jumps_if r n l) f.1 h))
 statement_unique ts (Jumps_if r n l) (Swaps e y q) h k = let f = first_of ts (Jumps_if r n l) h in absurd (apart12 f.0 e (begins_as ts f.0 (Swaps e y q) f.1 k) (begins_as ts f.0 (Jumps_if r n l) f.1 h))
+statement_unique ts (Jumps_if r n l) (Fetch_adds e y q) h k = let f = first_of ts (Jumps_if r n l) h in absurd (apart12 f.0 e (begins_as ts f.0 (Fetch_adds e y q) f.1 k) (begins_as ts f.0 (Jumps_if r n l) f.1 h))
 statement_unique ts (Jumps_if r n l) (Sets e w) h k = let f = first_of ts (Jumps_if r n l) h in absurd (apart12 f.0 e (begins_as ts f.0 (Sets e w) f.1 k) (begins_as ts f.0 (Jumps_if r n l) f.1 h))
 statement_unique ts (Jumps_if r n l) (Sums e m w) h k = let f = first_of ts (Jumps_if r n l) h in absurd (apart12 f.0 e (begins_as ts f.0 (Sums e m w) f.1 k) (begins_as ts f.0 (Jumps_if r n l) f.1 h))
 statement_unique ts (Jumps_if r n l) (Jumps_if q m j) h k =
@@ -138,6 +166,7 @@ statement_unique ts (Jumps_if r n l) (Jumps j) h k = let f = first_of ts (Jumps_
 statement_unique ts (Jumps_if_not r n l) (Stores y w) h k = let f = first_of ts (Jumps_if_not r n l) h in absurd (apart02 f.0 (begins_as ts f.0 (Stores y w) f.1 k) (begins_as ts f.0 (Jumps_if_not r n l) f.1 h))
 statement_unique ts (Jumps_if_not r n l) (Loads e y) h k = let f = first_of ts (Jumps_if_not r n l) h in absurd (apart12 f.0 e (begins_as ts f.0 (Loads e y) f.1 k) (begins_as ts f.0 (Jumps_if_not r n l) f.1 h))
 statement_unique ts (Jumps_if_not r n l) (Swaps e y q) h k = let f = first_of ts (Jumps_if_not r n l) h in absurd (apart12 f.0 e (begins_as ts f.0 (Swaps e y q) f.1 k) (begins_as ts f.0 (Jumps_if_not r n l) f.1 h))
+statement_unique ts (Jumps_if_not r n l) (Fetch_adds e y q) h k = let f = first_of ts (Jumps_if_not r n l) h in absurd (apart12 f.0 e (begins_as ts f.0 (Fetch_adds e y q) f.1 k) (begins_as ts f.0 (Jumps_if_not r n l) f.1 h))
 statement_unique ts (Jumps_if_not r n l) (Sets e w) h k = let f = first_of ts (Jumps_if_not r n l) h in absurd (apart12 f.0 e (begins_as ts f.0 (Sets e w) f.1 k) (begins_as ts f.0 (Jumps_if_not r n l) f.1 h))
 statement_unique ts (Jumps_if_not r n l) (Sums e m w) h k = let f = first_of ts (Jumps_if_not r n l) h in absurd (apart12 f.0 e (begins_as ts f.0 (Sums e m w) f.1 k) (begins_as ts f.0 (Jumps_if_not r n l) f.1 h))
 statement_unique ts (Jumps_if_not r n l) (Jumps_if q m j) h k =
@@ -153,6 +182,7 @@ statement_unique ts (Jumps_if_not r n l) (Jumps j) h k = let f = first_of ts (Ju
 statement_unique ts (Jumps l) (Stores y w) h k = let f = first_of ts (Jumps l) h in absurd (apart03 f.0 (begins_as ts f.0 (Stores y w) f.1 k) (begins_as ts f.0 (Jumps l) f.1 h))
 statement_unique ts (Jumps l) (Loads e y) h k = let f = first_of ts (Jumps l) h in absurd (apart13 f.0 e (begins_as ts f.0 (Loads e y) f.1 k) (begins_as ts f.0 (Jumps l) f.1 h))
 statement_unique ts (Jumps l) (Swaps e y q) h k = let f = first_of ts (Jumps l) h in absurd (apart13 f.0 e (begins_as ts f.0 (Swaps e y q) f.1 k) (begins_as ts f.0 (Jumps l) f.1 h))
+statement_unique ts (Jumps l) (Fetch_adds e y q) h k = let f = first_of ts (Jumps l) h in absurd (apart13 f.0 e (begins_as ts f.0 (Fetch_adds e y q) f.1 k) (begins_as ts f.0 (Jumps l) f.1 h))
 statement_unique ts (Jumps l) (Sets e w) h k = let f = first_of ts (Jumps l) h in absurd (apart13 f.0 e (begins_as ts f.0 (Sets e w) f.1 k) (begins_as ts f.0 (Jumps l) f.1 h))
 statement_unique ts (Jumps l) (Sums e m w) h k = let f = first_of ts (Jumps l) h in absurd (apart13 f.0 e (begins_as ts f.0 (Sums e m w) f.1 k) (begins_as ts f.0 (Jumps l) f.1 h))
 statement_unique ts (Jumps l) (Jumps_if q m j) h k = let f = first_of ts (Jumps l) h in absurd (apart23 f.0 (begins_as ts f.0 (Jumps_if q m j) f.1 k) (begins_as ts f.0 (Jumps l) f.1 h))
@@ -168,81 +198,13 @@ register_colon : (r : ℕ) → IsRegister Source (codes ":") r → ⊥
 register_colon r reg = other_letter 58 [] r (λ e. omega arith) reg
 
 -- no statement has a `:` behind its first token
-pub no_label : (ts : List (List ℕ)) (o : Option StatementSyntax) → MaybeStatement ts o → AtLabel ts → ⊥
-no_label ts None h at = let e : slice_get ts 1 ≡ None = ap (λ (t : List (List ℕ)). slice_get t 1) h in absurd cc
-no_label ts (Some (Stores x v)) h at = let e : slice_get ts 1 ≡ Some (codes ":=") = ap (λ t. slice_get t 1) h.1 in absurd cc
-no_label ts (Some (Loads d x)) h at = let e : slice_get ts 1 ≡ Some (codes ":=") = ap (λ t. slice_get t 1) h.1 in absurd cc
-no_label ts (Some (Swaps d x r)) h at = let e : slice_get ts 1 ≡ Some (codes ":=") = ap (λ t. slice_get t 1) h.2 in absurd cc
-no_label ts (Some (Sets d v)) h at = let e : slice_get ts 1 ≡ Some (codes ":=") = ap (λ t. slice_get t 1) h.2 in absurd cc
-no_label ts (Some (Sums d l v)) h at = let e : slice_get ts 1 ≡ Some (codes ":=") = ap (λ t. slice_get t 1) h.3 in absurd cc
-no_label ts (Some (Jumps_if r n l)) h at = let e : slice_get ts 1 ≡ Some h.0 = ap (λ t. slice_get t 1) h.2 in let f : h.0 ≡ codes ":" = cc in register_colon r (subst (λ w. IsRegister Source w r) f h.3)
-no_label ts (Some (Jumps_if_not r n l)) h at = let e : slice_get ts 1 ≡ Some h.0 = ap (λ t. slice_get t 1) h.2 in let f : h.0 ≡ codes ":" = cc in register_colon r (subst (λ w. IsRegister Source w r) f h.3)
-no_label ts (Some (Jumps l)) h at = let e : slice_get ts 1 ≡ Some l = ap (λ t. slice_get t 1) h.0 in let f : l ≡ codes ":" = cc in not_colon l h.1 f
-
-maybe_unique : (ts : List (List ℕ)) (o p : Option StatementSyntax) → MaybeStatement ts o → MaybeStatement ts p → o ≡ p
-maybe_unique ts None None h k = refl
-maybe_unique ts None (Some s) h k = absurd (some_first ts s k h)
-  where
-    some_first : (ts : List (List ℕ)) (s : StatementSyntax) → Statement ts s → ts ≡ [] → ⊥
-    some_first ts s k h = let f = first_of ts s k in let g : slice_get ts 0 ≡ None = ap (λ (t : List (List ℕ)). slice_get t 0) h in let i : slice_get ts 0 ≡ Some f.0 = f.1 in absurd cc
-maybe_unique ts (Some s) None h k = absurd (let f = first_of ts s h in let g : slice_get ts 0 ≡ None = ap (λ (t : List (List ℕ)). slice_get t 0) k in let i : slice_get ts 0 ≡ Some f.0 = f.1 in cc)
-maybe_unique ts (Some s) (Some t) h k = ap Some (statement_unique ts s t h k)
-
--- labels and what stands behind them
-pub Labels-unique : (ts m n : List (List ℕ)) (ls ks : List (List ℕ)) → Labels ts ls m → Labels ts ks n → (AtLabel m → ⊥) → (AtLabel n → ⊥) → (ls ≡ ks) × (m ≡ n)
-Labels-unique ts m n [] [] h k p q = (refl, sym h ∙ k)
-Labels-unique ts m n [] (l ∷ ks) h k p q = absurd (p (subst AtLabel h (ap (λ t. slice_get t 1) k.1)))
-Labels-unique ts m n (l ∷ ls) [] h k p q = absurd (q (subst AtLabel k (ap (λ t. slice_get t 1) h.1)))
-Labels-unique ts m n (l ∷ ls) (j ∷ ks) h k p q =
-    let e : l ∷ codes ":" ∷ h.0 ≡ j ∷ codes ":" ∷ k.0 = sym h.1 ∙ k.1 in
-    let rest : h.0 ≡ k.0 = cc in
-    let first : l ≡ j = cc in
-    let go = Labels-unique h.0 m n ls ks h.3 (subst (λ (t : List (List ℕ)). Labels t ks n) (sym rest) k.3) p q in
-    let more : ls ≡ ks = go.0 in
-    (cc, go.1)
-
-pub cell_unique : (cell : List (List ℕ)) (x y : CellSyntax) → CellSays cell x → CellSays cell y → x ≡ y
-cell_unique cell x y h k =
-    let ls = Labels-unique cell h.0 k.0 x.labels y.labels h.1 k.1 (no_label h.0 x.stmt h.2) (no_label k.0 y.stmt k.2) in
-    let s = maybe_unique h.0 x.stmt y.stmt h.2 (subst (λ (t : List (List ℕ)). MaybeStatement t y.stmt) (sym ls.1) k.2) in
-    same x.labels y.labels x.stmt y.stmt ls.0 s
-  where
-    same : (a b : List (List ℕ)) (o p : Option StatementSyntax) → a ≡ b → o ≡ p → (let l : CellSyntax = record { labels = a; stmt = o } in l) ≡ record { labels = b; stmt = p }
-    same a b o p e f = rw (e, f) refl
-
-module _ {X Y : Type 0} (R : X → Y → Type 0) where
-  -- where each says one thing, so do all
-  pub zip_unique : ((x : X) (y z : Y) → R x y → R x z → y ≡ z) → (xs : List X) (ys zs : List Y) → AllZip R xs ys → AllZip R xs zs → ys ≡ zs
-  zip_unique one [] [] [] h k = refl
-  zip_unique one [] [] (z ∷ zs) h k = absurd k
-  zip_unique one [] (y ∷ ys) zs h k = absurd h
-  zip_unique one (x ∷ xs) [] zs h k = absurd h
-  zip_unique one (x ∷ xs) (y ∷ ys) [] h k = absurd k
-  zip_unique one (x ∷ xs) (y ∷ ys) (z ∷ zs) h k =
-      let e = one x y z h.0 k.0 in
-      let f = zip_unique one xs ys zs h.1 k.1 in
-      cc
-
-  pub zip_more : (xs : List X) (ys : List Y) (x : X) (y : Y) → AllZip R xs ys → R x y → AllZip R (xs ++ x ∷ []) (ys ++ y ∷ [])
-  zip_more [] [] x y h k = (k, tt)
-  zip_more [] (z ∷ ys) x y h k = absurd h
-  zip_more (w ∷ xs) [] x y h k = absurd h
-  zip_more (w ∷ xs) (z ∷ ys) x y h k = (h.0, zip_more xs ys x y h.1 k)
-
-  pub zip_length : (xs : List X) (ys : List Y) → AllZip R xs ys → length xs ≡ length ys
-  zip_length [] [] h = refl
-  zip_length [] (y ∷ ys) h = absurd h
-  zip_length (x ∷ xs) [] h = absurd h
-  zip_length (x ∷ xs) (y ∷ ys) h = ap suc (zip_length xs ys h.1)
-
-  -- what the front says, what the next one says, and what the rest says
-  pub zip_cut : (front : List X) (x : X) (rest : List X) (zs : List Y) → AllZip R (front ++ x ∷ rest) zs → (ys : List Y) × (y : Y) × (more : List Y) × (zs ≡ ys ++ y ∷ more) × AllZip R front ys × R x y × AllZip R rest more
-  zip_cut [] x rest [] h = absurd h
-  zip_cut [] x rest (z ∷ zs) h = ([], z, zs, refl, tt, h.0, h.1)
-  zip_cut (w ∷ front) x rest [] h = absurd h
-  zip_cut (w ∷ front) x rest (z ∷ zs) h =
-      let k = zip_cut front x rest zs h.1 in
-      (z ∷ k.0, k.1, k.2, ap (λ ts. z ∷ ts) k.3, (h.0, k.4), k.5, k.6)
-
-pub column_unique : (cells : List (List (List ℕ))) (s t : List CellSyntax) → Column cells s → Column cells t → s ≡ t
-column_unique cells s t h k = zip_unique CellSays cell_unique cells s t h.says k.says
+pub no_label : (ts : List (List ℕ)) (s : StatementSyntax) → StatementSays ts s → slice_get ts 1 ≡ Some (codes ":") → ⊥
+no_label ts (Stores x v) h at = let e : slice_get ts 1 ≡ Some (codes ":=") = ap (λ t. slice_get t 1) h.1 in absurd cc
+no_label ts (Loads d x) h at = let e : slice_get ts 1 ≡ Some (codes ":=") = ap (λ t. slice_get t 1) h.1 in absurd cc
+no_label ts (Swaps d x r) h at = let e : slice_get ts 1 ≡ Some (codes ":=") = ap (λ t. slice_get t 1) h.2 in absurd cc
+no_label ts (Fetch_adds d x r) h at = let e : slice_get ts 1 ≡ Some (codes ":=") = ap (λ t. slice_get t 1) h.2 in absurd cc
+no_label ts (Sets d v) h at = let e : slice_get ts 1 ≡ Some (codes ":=") = ap (λ t. slice_get t 1) h.2 in absurd cc
+no_label ts (Sums d l v) h at = let e : slice_get ts 1 ≡ Some (codes ":=") = ap (λ t. slice_get t 1) h.3 in absurd cc
+no_label ts (Jumps_if r n l) h at = let e : slice_get ts 1 ≡ Some h.0 = ap (λ t. slice_get t 1) h.2 in let f : h.0 ≡ codes ":" = cc in register_colon r (subst (λ w. IsRegister Source w r) f h.3)
+no_label ts (Jumps_if_not r n l) h at = let e : slice_get ts 1 ≡ Some h.0 = ap (λ t. slice_get t 1) h.2 in let f : h.0 ≡ codes ":" = cc in register_colon r (subst (λ w. IsRegister Source w r) f h.3)
+no_label ts (Jumps l) h at = let e : slice_get ts 1 ≡ Some l = ap (λ t. slice_get t 1) h.0 in let f : l ≡ codes ":" = cc in not_colon l h.1 f

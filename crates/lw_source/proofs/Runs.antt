@@ -9,9 +9,11 @@ use Rattle.std.proofs.Math.ListN.{length-set}
 use Rattle.std.specs.Prelude.{All, ◌^◌, slice_set, slice_get, slice_index, Option, Some, None, Bool, true, false, if◌then◌else◌, nat_lt}
 use Rattle.lw_base.specs.declared.event.Event.TheVariants.{Step, Drain, Evict}
 use Rattle.lw_base.specs.declared.stop.Stop.TheVariants.{NoCpu, NoLocation, Ended, BufferEmpty, NotHeld}
-use Rattle.lw_source.specs.declared.stmt.Stmt.TheVariants.{Store, Load, Swap, Set, Sum, IfEq, IfNe, Goto}
+use Rattle.lw_source.specs.declared.stmt.Stmt.TheVariants.{Store, Load, Swap, FetchAdd, Set, Sum, IfEq, IfNe, Goto}
 use Rattle.lw_source.specs.declared.thread.Thread.{Thread}
-use Rattle.lw_source.specs.Sources.{IsStmt, IsThread}
+use Rattle.lw_cells.specs.Tests.{IsStatement, IsThread}
+use Rattle.lw_source.specs.Sources.{source}
+use Rattle.lw_base.specs.Sums.{sum_of}
 use Rattle.lw_source.specs.Statements.{value_of, thread_after, words_after}
 use Rattle.lw_base.specs.declared.event.Event.{Event}
 use Rattle.lw_source.specs.declared.stmt.Stmt.{Stmt}
@@ -21,7 +23,7 @@ use Rattle.std.proofs.lemmas.Bool.{lt-ltb}
 use Rattle.std.proofs.lemmas.List.{map-append, take_all}
 use Rattle.std.proofs.lemmas.Option.{slice_get-map, slice_get_within}
 use Rattle.std.specs.Option.{option_map}
-use Rattle.lw_source.proofs.Labels.{at_index}
+use Rattle.lw_cells.proofs.Lists.{at_index}
 
 Ran-push : (program : List (List Stmt)) (es : List Event) (e : Event) (s mid end : State) → Ran program es s mid → source_event program e mid ≡ Ok end → Ran program (es ++ e ∷ []) s end
 Ran-push program [] e s mid end ran one = (end, subst (λ (m : State). source_event program e m ≡ Ok end) ran one, refl)
@@ -73,6 +75,7 @@ pub words_kept : (stmt : Stmt) (th : Thread) (words : List ℕ) → length (word
 words_kept (Store x v) th words = set_length words x (value_of v th.regs)
 words_kept (Load d x) th words = refl
 words_kept (Swap d x a) th words = set_length words x (slice_index th.regs a)
+words_kept (FetchAdd d x a) th words = set_length words x (sum_of (slice_index words x) (slice_index th.regs a))
 words_kept (Set d v) th words = refl
 words_kept (Sum d a v) th words = refl
 words_kept (IfEq a n to) th words = refl
@@ -128,14 +131,14 @@ the_code program t code within is =
     cc
 
 -- the next statement of a thread is on the locations of the test, and stands among at most 16
-pub next_statement : (words locs : ℕ) (threads : List Thread) (program : List (List Stmt)) (t : ℕ) (th : Thread) (code : List Stmt) (stmt : Stmt) → words ≡ locs → length threads ≡ length program → All (IsThread locs) program → Some th ≡ slice_get threads t → code ≡ get_or program t code → Some stmt ≡ slice_get code th.position → IsStmt words stmt × (th.position + 1 < 2 ^ 64)
+pub next_statement : (words locs : ℕ) (threads : List Thread) (program : List (List Stmt)) (t : ℕ) (th : Thread) (code : List Stmt) (stmt : Stmt) → words ≡ locs → length threads ≡ length program → All (IsThread source locs) program → Some th ≡ slice_get threads t → code ≡ get_or program t code → Some stmt ≡ slice_get code th.position → IsStatement source words stmt × (th.position + 1 < 2 ^ 64)
 next_statement words locs threads program t th code stmt same many whole is_thread is_code is_stmt =
     let there = slice_get_within threads t th (sym is_thread) in
-    let here = subst (IsThread locs) (sym is_code) (whole t code (omega (arith, there, many))) in
+    let here = subst (IsThread source locs) (sym is_code) (whole t code (omega (arith, there, many))) in
     let inside = slice_get_within code th.position stmt (sym is_stmt) in
     let found = at_index code th.position stmt inside in
     let this : get_or code th.position stmt ≡ stmt = cc in
-    (rw same (subst (IsStmt locs) this (here.there th.position stmt inside)), omega (arith, inside, here.short))
+    (rw same (subst (IsStatement source locs) this (here.there th.position stmt inside)), omega (arith, inside, here.short))
 
 pub made : (a b : List Thread) (u v : List ℕ) → a ≡ b → u ≡ v → (let s : State = record { threads = a; words = u } in s) ≡ record { threads = b; words = v }
 made a b u v e f = rw (e, f) refl

@@ -1,7 +1,7 @@
 -- Which steps of two threads can be exchanged: those whose statements don't conflict.
 use Rattle.std.specs.Prelude.{◌≡◌, ℕ, ◌==◌, Bool, true, false, ◌&&◌, ◌||◌, Option, Some, None, option_and_then, Ok, List, map, slice_get}
 use Rattle.lw_source.specs.declared.stmt.Stmt.{Stmt}
-use Rattle.lw_source.specs.declared.stmt.Stmt.TheVariants.{Store, Load, Swap, Set, Sum, IfEq, IfNe, Goto}
+use Rattle.lw_source.specs.declared.stmt.Stmt.TheVariants.{Store, Load, Swap, FetchAdd, Set, Sum, IfEq, IfNe, Goto}
 use Rattle.lw_source.specs.Sources.{location_of}
 use Rattle.lw_source.specs.Runs.{State, code_of, source_step}
 
@@ -10,6 +10,7 @@ abbrev pub writes : Stmt → Bool
 writes (Store x v) = true
 writes (Load d x) = false
 writes (Swap d x a) = true
+writes (FetchAdd d x a) = true
 writes (Set d v) = false
 writes (Sum d a v) = false
 writes (IfEq a n to) = false

@@ -1,11 +1,8 @@
+pub mod Syntax
 pub mod Statements
 pub mod Sources
-pub mod SourceProps
+pub mod Drafts
 pub mod Runs
 pub mod Views
-pub mod Cells
-pub mod Faults
-pub mod Drafts
-pub mod Reading
 pub mod Conflicts
 pub mod Flow

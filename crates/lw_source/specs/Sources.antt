@@ -1,28 +1,22 @@
--- A source test, and what always holds of it: it is well-formed.
-use Rattle.std.specs.Prelude.{◌≡◌, ℕ, ◌<◌, ◌≤◌, Option, Some, None, List, length, slice_get, All}
-use Rattle.std.specs.Option.{ForSome}
-use Rattle.lw_source.specs.declared.stmt.TheConstants.{MAX_STATEMENTS}
+-- The source language, its tests, and what always holds of them.
+use Rattle.std.specs.Prelude.{ℕ, Option, Some, None, List, [], ◌∷◌}
 use Rattle.lw_base.specs.declared.head.Arch.TheVariants.{Source}
-use Rattle.lw_base.specs.declared.head.Head.{Head}
-use Rattle.lw_base.specs.Heads.{TestHead, head_of}
-use Rattle.lw_base.specs.WellFormed.{IsWellFormedHead}
+use Rattle.lw_text.specs.Frames.{TestFrame}
+use Rattle.lw_cells.specs.Languages.{Language}
+use Rattle.lw_cells.specs.Operands.{operand_registers, operand_numbers}
+use Rattle.lw_cells.specs.Tests.{Test, IsWellFormed}
+use Rattle.lw_cells.specs.Cells.{HasTest}
+use Rattle.lw_source.specs.declared.stmt.TheConstants.{MAX_STATEMENTS}
 use Rattle.lw_source.specs.declared.stmt.Stmt.{Stmt}
-use Rattle.lw_source.specs.declared.stmt.Stmt.TheVariants.{Store, Load, Swap, Set, Sum, IfEq, IfNe, Goto}
-
--- a head, and for each thread its statements
-pub record SourceTest : Type 0 where
-  pub head : TestHead
-  pub threads : List (List Stmt)
-
--- the test of a head in memory and statements
-abbrev pub test_of : {A : Type 0} → Head A → List (List Stmt) → SourceTest
-test_of head threads = record { head = head_of head; threads = threads }
+use Rattle.lw_source.specs.declared.stmt.Stmt.TheVariants.{Store, Load, Swap, FetchAdd, Set, Sum, IfEq, IfNe, Goto}
+use Rattle.lw_source.specs.Syntax.{StatementSyntax, Stores, Loads, Swaps, Fetch_adds, Sets, Sums, Jumps_if, Jumps_if_not, Jumps, StatementSays, name_of, label_of, CanBegin, BeforeLocation}
 
 -- the location that a statement reads or writes
 abbrev pub location_of : Stmt → Option ℕ
 location_of (Store x v) = Some x
 location_of (Load d x) = Some x
 location_of (Swap d x a) = Some x
+location_of (FetchAdd d x a) = Some x
 location_of (Set d v) = None
 location_of (Sum d a v) = None
 location_of (IfEq a n to) = None
@@ -34,27 +28,73 @@ abbrev pub target_of : Stmt → Option ℕ
 target_of (Store x v) = None
 target_of (Load d x) = None
 target_of (Swap d x a) = None
+target_of (FetchAdd d x a) = None
 target_of (Set d v) = None
 target_of (Sum d a v) = None
 target_of (IfEq a n to) = Some to
 target_of (IfNe a n to) = Some to
 target_of (Goto to) = Some to
 
--- a statement on one of so many locations
-abbrev pub IsStmt : ℕ → Stmt → Type 0
-IsStmt locs s = ForSome (location_of s) (λ x. x < locs)
+-- the registers of a statement, and its numbers
+abbrev pub registers_of : Stmt → List ℕ
+registers_of (Store x v) = operand_registers v
+registers_of (Load d x) = d ∷ []
+registers_of (Swap d x a) = d ∷ a ∷ []
+registers_of (FetchAdd d x a) = d ∷ a ∷ []
+registers_of (Set d v) = d ∷ operand_registers v
+registers_of (Sum d a v) = d ∷ a ∷ operand_registers v
+registers_of (IfEq a n to) = a ∷ []
+registers_of (IfNe a n to) = a ∷ []
+registers_of (Goto to) = []
 
--- at most 16 statements, on so many locations; jumps go forward, at most to the end
-pub record IsThread (locs : ℕ) (code : List Stmt) : Type 0 where
-  pub short : length code ≤ MAX_STATEMENTS
-  pub there : All (IsStmt locs) code
-  pub forward :
-      (k : ℕ) (s : Stmt) → slice_get code k ≡ Some s
-      → ForSome (target_of s) (λ to. (k < to) × (to ≤ length code))
+abbrev pub numbers_of : Stmt → List ℕ
+numbers_of (Store x v) = operand_numbers v
+numbers_of (Load d x) = []
+numbers_of (Swap d x a) = []
+numbers_of (FetchAdd d x a) = []
+numbers_of (Set d v) = operand_numbers v
+numbers_of (Sum d a v) = operand_numbers v
+numbers_of (IfEq a n to) = n ∷ []
+numbers_of (IfNe a n to) = n ∷ []
+numbers_of (Goto to) = []
 
--- A well-formed head of the source language, and for each of its threads a code.
-pub record IsWellFormedSource (s : SourceTest) : Type 0 where
-  pub head : IsWellFormedHead s.head
-  pub language : s.head.arch ≡ Source
-  pub as_many : length s.threads ≡ s.head.threads
-  pub code : All (IsThread (length s.head.locs)) s.threads
+-- the statement that is said, on the location of a number, with a target
+abbrev pub statement : ℕ → ℕ → StatementSyntax → Stmt
+statement x to (Stores n v) = Store x v
+statement x to (Loads d n) = Load d x
+statement x to (Swaps d n a) = Swap d x a
+statement x to (Fetch_adds d n a) = FetchAdd d x a
+statement x to (Sets d v) = Set d v
+statement x to (Sums d a v) = Sum d a v
+statement x to (Jumps_if a n l) = IfEq a n to
+statement x to (Jumps_if_not a n l) = IfNe a n to
+statement x to (Jumps l) = Goto to
+
+-- the source language
+abbrev pub source : Language StatementSyntax Stmt
+source = record {
+  arch = Source;
+  most = MAX_STATEMENTS;
+  says = StatementSays;
+  name_of = name_of;
+  label_of = label_of;
+  made = statement;
+  location_of = location_of;
+  target_of = target_of;
+  registers_of = registers_of;
+  numbers_of = numbers_of;
+  can_begin = CanBegin;
+  before_location = BeforeLocation;
+}
+
+-- a head, and for each thread its statements
+abbrev pub SourceTest : Type 0
+SourceTest = Test Stmt
+
+-- A well-formed head of the source language, and for each of its threads at most 16 statements.
+abbrev pub IsWellFormedSource : SourceTest → Type 0
+IsWellFormedSource = IsWellFormed source
+
+-- The cells of the frame say the statements of the test, on at most eight locations.
+abbrev pub HasSource : TestFrame → SourceTest → Type 0
+HasSource = HasTest source

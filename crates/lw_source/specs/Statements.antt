@@ -1,19 +1,16 @@
 -- What each statement of the source language does.
 -- Threads interleave on one memory (Lamport's sequential consistency), one statement at once.
-use Rattle.std.specs.Prelude.{ℕ, ◌+◌, ◌^◌, ◌%◌, ◌==◌, Bool, true, not, if◌then◌else◌, List, slice_index, slice_set}
+use Rattle.std.specs.Prelude.{ℕ, ◌+◌, ◌==◌, Bool, true, not, if◌then◌else◌, List, slice_index, slice_set}
+use Rattle.lw_base.specs.Sums.{sum_of}
 use Rattle.lw_base.specs.declared.operand.Operand.{Operand}
 use Rattle.lw_base.specs.declared.operand.Operand.TheVariants.{Register, Number}
 use Rattle.lw_source.specs.declared.stmt.Stmt.{Stmt}
-use Rattle.lw_source.specs.declared.stmt.Stmt.TheVariants.{Store, Load, Swap, Set, Sum, IfEq, IfNe, Goto}
+use Rattle.lw_source.specs.declared.stmt.Stmt.TheVariants.{Store, Load, Swap, FetchAdd, Set, Sum, IfEq, IfNe, Goto}
 use Rattle.lw_source.specs.declared.thread.Thread.{Thread}
 
 abbrev pub value_of : Operand → List ℕ → ℕ
 value_of (Register r) regs = slice_index regs r
 value_of (Number n) regs = n
-
--- words wrap
-abbrev pub sum_of : ℕ → ℕ → ℕ
-sum_of a b = (a + b) % 2 ^ 32
 
 -- at the next statement
 abbrev pub going_on : Thread → Thread
@@ -32,6 +29,7 @@ abbrev pub thread_after : Stmt → Thread → List ℕ → Thread
 thread_after (Store x v) t words = going_on t
 thread_after (Load d x) t words = getting t d (slice_index words x)
 thread_after (Swap d x a) t words = getting t d (slice_index words x)
+thread_after (FetchAdd d x a) t words = getting t d (slice_index words x)
 thread_after (Set d v) t words = getting t d (value_of v t.regs)
 thread_after (Sum d a v) t words = getting t d (sum_of (slice_index t.regs a) (value_of v t.regs))
 thread_after (IfEq a n to) t words = jumping t (slice_index t.regs a == n) to
@@ -43,6 +41,7 @@ abbrev pub words_after : Stmt → Thread → List ℕ → List ℕ
 words_after (Store x v) t words = slice_set words x (value_of v t.regs)
 words_after (Load d x) t words = words
 words_after (Swap d x a) t words = slice_set words x (slice_index t.regs a)
+words_after (FetchAdd d x a) t words = slice_set words x (sum_of (slice_index words x) (slice_index t.regs a))
 words_after (Set d v) t words = words
 words_after (Sum d a v) t words = words
 words_after (IfEq a n to) t words = words

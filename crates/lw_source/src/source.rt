@@ -1,6 +1,7 @@
 //! A source test.
-ghost use Rattle.lw_source.specs.Sources.{IsWellFormedSource, test_of};
-ghost use Rattle.lw_source.specs.SourceProps.{IsWellFormedSource-prop};
+ghost use Rattle.lw_cells.specs.Tests.{test_of};
+ghost use Rattle.lw_cells.specs.TestProps.{IsWellFormed-prop};
+ghost use Rattle.lw_source.specs.Sources.{IsWellFormedSource, source};
 
 use crate::stmt::Stmt;
 use lw_base::{Head, Sequence};
@@ -12,5 +13,5 @@ use std::alloc::{Allocator, Global};
 pub struct Source<A: Allocator = Global> {
     pub head: Head<A>,
     pub threads: Sequence<Sequence<Stmt, A>, A>,
-    pub ghost well_formed: { IsWellFormedSource (test_of head threads) } by { IsWellFormedSource-prop (test_of head threads) },
+    pub ghost well_formed: { IsWellFormedSource (test_of head threads) } by { IsWellFormed-prop source (test_of head threads) },
 }

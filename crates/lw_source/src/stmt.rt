@@ -19,6 +19,9 @@ pub enum Stmt {
     /// `d := swap x a`: at once, the register `d` gets the location's word, and the location gets
     /// the word that register `a` had.
     Swap { dst: Reg, loc: Loc, src: Reg },
+    /// `d := fetchadd x a`: at once, the register `d` gets the location's word, and the location gets
+    /// the sum of that word and the one that register `a` had, modulo 2 to the 32.
+    FetchAdd { dst: Reg, loc: Loc, src: Reg },
     /// `d := n`, `d := a`: the register gets the value.
     Set { dst: Reg, val: Operand },
     /// `d := a + n`, `d := a + b`: the register gets the sum, modulo 2 to the 32.
@@ -37,7 +40,8 @@ impl Stmt {
         ensures { result ≡ location_of self.now }
     {
         match self {
-            Stmt::Store { loc, .. } | Stmt::Load { loc, .. } | Stmt::Swap { loc, .. } => Some(*loc),
+            Stmt::Store { loc, .. } | Stmt::Load { loc, .. } => Some(*loc),
+            Stmt::Swap { loc, .. } | Stmt::FetchAdd { loc, .. } => Some(*loc),
             _ => None,
         }
     }
@@ -46,6 +50,9 @@ impl Stmt {
     pub fn writes(&self) -> bool
         ensures { result ≡ conflicts.writes self.now }
     {
-        matches!(self, Stmt::Store { .. } | Stmt::Swap { .. })
+        matches!(
+            self,
+            Stmt::Store { .. } | Stmt::Swap { .. } | Stmt::FetchAdd { .. }
+        )
     }
 }

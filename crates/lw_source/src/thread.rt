@@ -1,8 +1,10 @@
 //! What a thread of a running source test has of its own, and what a statement makes of it.
 ghost use Rattle.std.specs.Prelude.{◌≡◌, ◌+◌, ◌<◌, ◌^◌, length, nat_le};
+ghost use Rattle.lw_base.specs.Sums.{sum_of};
 ghost use Rattle.lw_source.specs.Statements as table;
 ghost use Rattle.lw_source.specs.Statements.{value_of, words_after};
-ghost use Rattle.lw_source.specs.Sources.{IsStmt};
+ghost use Rattle.lw_cells.specs.Tests.{IsStatement};
+ghost use Rattle.lw_source.specs.Sources.{source};
 
 use crate::stmt::Stmt;
 use lw_base::{Operand, Reg, Sequence, Word};
@@ -26,7 +28,7 @@ impl Thread {
 
     /// The thread after a statement, where the memory has these words.
     pub(crate) fn after(&self, stmt: &Stmt, words: &[Word]) -> Thread
-        requires stmt { IsStmt (length words.now) stmt.now }
+        requires stmt { IsStatement source (length words.now) stmt.now }
         requires room { self.now.position + 1 < 2 ^ 64 }
         ensures { result ≡ table.thread_after stmt.now self.now words.now }
     {
@@ -34,6 +36,7 @@ impl Thread {
             Stmt::Store { .. } => self.going_on(),
             Stmt::Load { dst, loc } => self.getting(*dst, words[loc.index()]),
             Stmt::Swap { dst, loc, .. } => self.getting(*dst, words[loc.index()]),
+            Stmt::FetchAdd { dst, loc, .. } => self.getting(*dst, words[loc.index()]),
             Stmt::Set { dst, val } => self.getting(*dst, self.value(*val)),
             Stmt::Sum { dst, left, right } => {
                 let sum = wrapping_sum(self.regs[left.index()], self.value(*right));
@@ -47,12 +50,16 @@ impl Thread {
 
     /// Puts what the statement writes into the memory.
     pub(crate) fn write<A: Allocator>(&self, stmt: &Stmt, words: &mut Sequence<Word, A>)
-        requires { IsStmt (length words.old) stmt.now }
+        requires { IsStatement source (length words.old) stmt.now }
         ensures { words.new ≡ words_after stmt.now self.now words.old }
     {
         match stmt {
             Stmt::Store { loc, val } => words.set(loc.index(), self.value(*val)),
             Stmt::Swap { loc, src, .. } => words.set(loc.index(), self.regs[src.index()]),
+            Stmt::FetchAdd { loc, src, .. } => {
+                let sum = wrapping_sum(words.as_slice()[loc.index()], self.regs[src.index()]);
+                words.set(loc.index(), sum);
+            }
             _ => {}
         }
     }
@@ -101,7 +108,7 @@ impl Thread {
 }
 
 fn wrapping_sum(left: Word, right: Word) -> Word
-    ensures { result ≡ table.sum_of left right }
+    ensures { result ≡ sum_of left right }
 {
     left.wrapping_add(right)
 }

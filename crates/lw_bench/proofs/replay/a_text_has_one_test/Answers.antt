@@ -1,6 +1,6 @@
 use Rattle.std.proofs.Common.{subst}
 use Rattle.lw_text.specs.Frames.{TestFrame}
-use Rattle.lw_source.specs.Cells.{HasSource}
+use Rattle.lw_source.specs.Sources.{HasSource}
 use Rattle.lw_bench.proofs.replay.a_text_has_one_test.Goals as goal
 
 pub returns : goal.returns

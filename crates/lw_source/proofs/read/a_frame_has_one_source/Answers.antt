@@ -1,5 +1,7 @@
-use Rattle.lw_source.proofs.Sources.{one_source}
+use Rattle.lw_cells.proofs.Threads.{one_test}
+use Rattle.lw_source.specs.Sources.{source}
+use Rattle.lw_source.proofs.SourceLaws.{source_lawful}
 use Rattle.lw_source.proofs.read.a_frame_has_one_source.Goals as goal
 
 pub returns : goal.returns
-returns c = one_source
+returns c = one_test source source_lawful

@@ -3,7 +3,8 @@ use Rattle.std.specs.Prelude.{slice_get}
 use Rattle.std.proofs.lemmas.Result.{err_from_is_err_and}
 use Rattle.lw_base.proofs.Returns.{passed_on}
 use Rattle.lw_base.specs.Names.{IsLocation}
-use Rattle.lw_source.proofs.Phrases.{same_token, gone, past, goes}
+use Rattle.lw_cells.proofs.TokenRows.{same_token, gone, past}
+use Rattle.lw_source.proofs.Phrases.{goes}
 use Rattle.lw_source.proofs.statement.read_goto.Goals as goal
 
 pub returns-clause-found : goal.returns-clause-found

@@ -6,7 +6,8 @@ use Rattle.lw_base.specs.declared.head.Arch.TheVariants.{Source}
 use Rattle.lw_base.specs.Names.{IsLocation}
 use Rattle.lw_base.specs.Registers.{IsRegister}
 use Rattle.lw_text.specs.Tokens.{IsNumber}
-use Rattle.lw_source.proofs.Phrases.{same_token, gone, past, goes_if, goes_if_not}
+use Rattle.lw_cells.proofs.TokenRows.{same_token, gone, past}
+use Rattle.lw_source.proofs.Phrases.{goes_if, goes_if_not}
 use Rattle.lw_source.proofs.statement.read_if.Goals as goal
 
 pub returns-in_err-reg-clause-equal : goal.returns-in_err-reg-clause-equal

@@ -1,3 +1,4 @@
+use Rattle.lw_base.specs.declared.head.Arch.TheVariants.{Source}
 use Rattle.std.proofs.lemmas.List.{length-map}
 use Rattle.std.proofs.Common.{ap, arith, length, ◌≡◌, ◌≤◌, ◌<◌, List, subst}
 use Rattle.std.specs.Prelude.{slice_get}
@@ -5,8 +6,9 @@ use Rattle.std.proofs.lemmas.Result.{err_from_is_err_and}
 use Rattle.lw_base.proofs.Returns.{passed_on}
 use Rattle.lw_text.specs.declared.token.Token.{Token}
 use Rattle.lw_text.specs.Spans.{texts}
-use Rattle.lw_source.specs.Cells.{IsOperand}
-use Rattle.lw_source.proofs.Phrases.{same_token, gone, past, sets, sums}
+use Rattle.lw_cells.specs.Operands.{IsOperand}
+use Rattle.lw_cells.proofs.TokenRows.{same_token, gone, past}
+use Rattle.lw_source.proofs.Phrases.{sets, sums}
 use Rattle.lw_source.proofs.statement.read_sum.Goals as goal
 
 longer : (tokens : List Token) → 3 < length tokens → 3 < length (texts tokens)
@@ -65,7 +67,7 @@ pub returns-in_err-right-clause-fault : goal.returns-in_err-right-clause-fault
 returns-in_err-right-clause-fault c =
     passed_on _ _ c.from_residual-in_err-right.ensures.1 (λ d l v says.
     let same : says.2 ≡ c.in_ok-token.field-0.text.now = same_token _ 4 _ _ (ap (λ t. slice_get t 4) says.3) c.in_ok-token.ensures.found in
-    c.in_err-right.ensures.err v (subst (λ w. IsOperand w v) same says.6))
+    c.in_err-right.ensures.err v (subst (λ w. IsOperand Source w v) same says.6))
 
 pub returns-in_err-right-clause-cause : goal.returns-in_err-right-clause-cause
 returns-in_err-right-clause-cause c =

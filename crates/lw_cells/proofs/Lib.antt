@@ -1,0 +1,14 @@
+pub mod TokenRows
+pub mod Lists
+pub mod Zips
+pub mod FrontLabels
+pub mod NewNames
+pub mod Leads
+pub mod OneReading
+pub mod ResolvedNames
+pub mod FaultPlaces
+pub mod Drafts
+pub mod JumpsResolved
+pub mod Resolved
+pub mod ColumnsRead
+pub mod Threads

@@ -1,0 +1,98 @@
+-- What the cells of a test say: its labels and statements.
+-- The source is the format of the workbench, docs/FORMAT.md.
+use Rattle.std.specs.Prelude.{◌≡◌, ◌<◌, ◌≤◌, ◌+◌, ℕ, if◌then◌else◌, Option, Some, None, List, [], ◌∷◌, length, map, codes, slice_get, Contains}
+use Rattle.std.specs.List.{flat_map, filter_map, AllZip}
+use Rattle.std.specs.Option.{ForSome}
+use Rattle.lw_base.specs.declared.limits.TheConstants.{MAX_LOCATIONS}
+use Rattle.lw_base.specs.Types.{Bytes, NameTable, TokenList, Cells}
+use Rattle.lw_base.specs.Heads.{TestHead, with_table}
+use Rattle.lw_base.specs.Names.{IsLocation, EachOnce}
+use Rattle.lw_base.specs.Tables.{contains_name, with_names, index_of}
+use Rattle.lw_text.specs.Frames.{TestFrame}
+use Rattle.lw_cells.specs.Languages.{Language}
+use Rattle.lw_cells.specs.Tests.{Test}
+
+-- what a cell says: labels, and at most one statement
+pub record CellSyntax (Syntax : Type 0) : Type 0 where
+  pub labels : List Bytes
+  pub stmt : Option Syntax
+
+-- Labels, each with a `:` behind it, and then rest. A label is a name that is not reserved, as a location is.
+abbrev pub Labels : TokenList → List Bytes → TokenList → Type 0
+Labels ts [] rest = ts ≡ rest
+Labels ts (l ∷ ls) rest = (mid : TokenList) × (ts ≡ l ∷ codes ":" ∷ mid) × IsLocation l × Labels mid ls rest
+
+-- the statements of some cells, and their labels
+abbrev pub statements : {Syntax : Type 0} → List (CellSyntax Syntax) → List Syntax
+statements {Syntax} syntaxes = filter_map (λ (syntax : CellSyntax Syntax). syntax.stmt) syntaxes
+
+abbrev pub labels_of : {Syntax : Type 0} → List (CellSyntax Syntax) → List Bytes
+labels_of {Syntax} syntaxes = flat_map (λ (syntax : CellSyntax Syntax). syntax.labels) syntaxes
+
+-- The statement that a label leads to: the first in its cell or behind it. As many stand before.
+abbrev pub target_in : {Syntax : Type 0} → List (CellSyntax Syntax) → Bytes → ℕ
+target_in [] l = 0
+target_in (syntax ∷ syntaxes) l =
+    if contains_name syntax.labels l then 0 else length (statements (syntax ∷ [])) + target_in syntaxes l
+
+-- the number of a location in a table, and of the statement that a label leads to; 0 where there is no name
+abbrev pub number_in : NameTable → Option Bytes → ℕ
+number_in names None = 0
+number_in names (Some x) = index_of names x
+
+abbrev pub led_to : {Syntax : Type 0} → List (CellSyntax Syntax) → Option Bytes → ℕ
+led_to syntaxes None = 0
+led_to syntaxes (Some l) = target_in syntaxes l
+
+module _ {Syntax Stmt : Type 0} (language : Language Syntax Stmt) where
+  -- nothing, or a statement
+  abbrev pub MaybeStatement : TokenList → Option Syntax → Type 0
+  MaybeStatement ts None = ts ≡ []
+  MaybeStatement ts (Some s) = language.says ts s
+
+  -- The cell's tokens are labels, and then nothing or a statement.
+  abbrev pub CellSays : TokenList → CellSyntax Syntax → Type 0
+  CellSays cell syntax = (mid : TokenList) × Labels cell syntax.labels mid × MaybeStatement mid syntax.stmt
+
+  -- The label of the statement of this number, if it has one, is one of the thread's, and leads to a statement
+  -- behind it or to the thread's end.
+  abbrev pub LeadsForward : List (CellSyntax Syntax) → ℕ → Syntax → Type 0
+  LeadsForward syntaxes k s =
+      ForSome (language.label_of s) (λ l. Contains (labels_of syntaxes) l × (k < target_in syntaxes l))
+
+  -- The cells of a thread say these, from top to bottom: no more statements than the language allows, each label
+  -- once, and jumps forward.
+  pub record Column (cells : Cells) (syntaxes : List (CellSyntax Syntax)) : Type 0 where
+    pub says : AllZip CellSays cells syntaxes
+    pub few : length (statements syntaxes) ≤ language.most
+    pub once : EachOnce (labels_of syntaxes)
+    pub forward :
+        (k : ℕ) (s : Syntax) → slice_get (statements syntaxes) k ≡ Some s → LeadsForward syntaxes k s
+
+  -- the names of locations in the statements of some threads, the first thread's from top to bottom, and on
+  abbrev pub names_in : List (CellSyntax Syntax) → List Bytes
+  names_in syntaxes = filter_map language.name_of (statements syntaxes)
+
+  abbrev pub names_of : List (List (CellSyntax Syntax)) → List Bytes
+  names_of threads = flat_map names_in threads
+
+  -- the statement resolved: with its location's number in a table, and the number that its label leads to
+  abbrev pub resolved : NameTable → List (CellSyntax Syntax) → Syntax → Stmt
+  resolved names syntaxes s =
+      language.made (number_in names (language.name_of s)) (led_to syntaxes (language.label_of s)) s
+
+  -- a thread's code
+  abbrev pub code_in : NameTable → List (CellSyntax Syntax) → List Stmt
+  code_in names syntaxes = map (resolved names syntaxes) (statements syntaxes)
+
+  -- the test of a head and of what its threads' cells say, on this table
+  abbrev pub test_on : TestHead → NameTable → List (List (CellSyntax Syntax)) → Test Stmt
+  test_on head names threads =
+      record { head = with_table head names; threads = map (code_in names) threads }
+
+  -- The cells of the frame say the statements of the test, on at most eight locations.
+  pub record HasTest (frame : TestFrame) (test : Test Stmt) : Type 0 where
+    pub threads : List (List (CellSyntax Syntax))
+    pub says : AllZip Column frame.cells threads
+    pub few : length (with_names frame.head.locs (names_of threads)) ≤ MAX_LOCATIONS
+    pub made : test ≡ test_on frame.head (with_names frame.head.locs (names_of threads)) threads

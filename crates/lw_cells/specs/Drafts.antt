@@ -1,0 +1,93 @@
+-- Statements that are read and not yet resolved, and what of a thread's cells is in memory then.
+use Rattle.std.specs.Prelude.{◌≡◌, ◌≤◌, ◌+◌, ◌*◌, ℕ, suc, if◌then◌else◌, Option, Some, None, List, [], ◌∷◌, ◌++◌, length, map, slice_get}
+use Rattle.std.specs.List.{AllZip}
+use Rattle.std.specs.Option.{option_map}
+use Rattle.std.specs.Str.{bytes_eq}
+use Rattle.std.specs.BTreeMap.{BTreeMap, get_by}
+use Rattle.std.specs.Cmp.Lexicographic.{slice_cmp}
+use Rattle.std.specs.Ordering.{nat_cmp}
+use denote.Ref.{Bor}
+use Rattle.lw_base.specs.Types.{Bytes, NameTable, TokenList}
+use Rattle.lw_base.specs.Names.{EachOnce}
+use Rattle.lw_base.specs.Tables.{with_names}
+use Rattle.lw_text.specs.declared.cell.Cell.{Cell}
+use Rattle.lw_text.specs.Places.{cells_texts}
+use Rattle.lw_cells.specs.declared.draft.Draft.{Draft}
+use Rattle.lw_cells.specs.declared.draft.Draft.TheVariants.{Whole, Jumping}
+use Rattle.lw_cells.specs.declared.draft.DraftCell.{DraftCell}
+use Rattle.lw_cells.specs.Languages.{Language}
+use Rattle.lw_cells.specs.Cells.{CellSyntax, CellSays, statements, labels_of, names_in, number_in}
+
+-- a thread's labels in memory: names, and the numbers of the statements that they lead to
+abbrev pub LabelMap : Type 0
+LabelMap = BTreeMap (Bor Bytes) ℕ
+
+-- where a name leads by such a map
+abbrev pub target_by : LabelMap → Bytes → Option ℕ
+target_by labels n = get_by (λ k. slice_cmp nat_cmp n k.now) labels
+
+-- names, each with the number of the statement that it leads to
+abbrev pub Targets : Type 0
+Targets = List (Bytes × ℕ)
+
+abbrev pub first_names : Targets → List Bytes
+first_names ps = map (λ p. p.0) ps
+
+-- names that lead to a statement
+abbrev pub leading : ℕ → List Bytes → Targets
+leading to names = map (λ n. (n, to)) names
+
+-- the labels of some cells, with the numbers of the statements that they lead to; so many stand above
+abbrev pub leading_in : {Syntax : Type 0} → ℕ → List (CellSyntax Syntax) → Targets
+leading_in above [] = []
+leading_in above (syntax ∷ syntaxes) =
+    leading above syntax.labels ++ leading_in (above + length (statements (syntax ∷ []))) syntaxes
+
+-- where a name leads
+abbrev pub leads_to : Targets → Bytes → Option ℕ
+leads_to [] n = None
+leads_to (p ∷ ps) n = if bytes_eq p.0 n then Some p.1 else leads_to ps n
+
+-- The map leads every name where the pairs do.
+abbrev pub LeadsAs : LabelMap → Targets → Type 0
+LeadsAs labels ps = (n : Bytes) → target_by labels n ≡ leads_to ps n
+
+module _ {Syntax Stmt Jump : Type 0} (language : Language Syntax Stmt) where
+  -- The tokens of a jump end with its label, at this index; and the jump becomes the statement, whatever its target.
+  pub record EndsWithLabel (jump_to : Jump → ℕ → Stmt) (ts : TokenList) (x : ℕ) (jump : Jump) (k : ℕ) (s : Syntax) : Type 0 where
+    pub label : Bytes
+    pub is : language.label_of s ≡ Some label
+    pub stands : slice_get ts k ≡ Some label
+    pub last : length ts ≡ suc k
+    pub becomes : (to : ℕ) → jump_to jump to ≡ language.made x to s
+
+  -- Drafts of statements on the location of a number: a whole statement has no label, and a jump ends with its label.
+  pub record AreDrafts (jump_to : Jump → ℕ → Stmt) (draft_of : ℕ → Syntax → Draft Stmt Jump) : Type 0 where
+    pub whole :
+        (x : ℕ) (s : Syntax) (stmt : Stmt) → draft_of x s ≡ Whole stmt
+        → (language.label_of s ≡ None) × (language.made x 0 s ≡ stmt)
+    pub jumping :
+        (ts : TokenList) (x : ℕ) (s : Syntax) (jump : Jump) (k : ℕ) → language.says ts s
+        → draft_of x s ≡ Jumping jump k → EndsWithLabel jump_to ts x jump k s
+
+  module _ (draft_of : ℕ → Syntax → Draft Stmt Jump) where
+    -- the draft of a statement, on a table
+    abbrev pub draft_in : NameTable → Syntax → Draft Stmt Jump
+    draft_in names s = draft_of (number_in names (language.name_of s)) s
+
+    -- the draft of a cell: each label has a `:` behind it
+    abbrev pub draft_cell : NameTable → CellSyntax Syntax → DraftCell Stmt Jump
+    draft_cell names syntax =
+        record { start = 2 * length syntax.labels; stmt = option_map (draft_in names) syntax.stmt }
+
+    -- The cells of a thread say this; their jumps are not looked at yet.
+    pub record DraftRead
+        {A : Type 0} (cells : List (Cell A)) (before : NameTable) (drafts : List (DraftCell Stmt Jump)) (labels : LabelMap)
+        (after : NameTable) : Type 0 where
+      pub syntaxes : List (CellSyntax Syntax)
+      pub says : AllZip (CellSays language) (cells_texts cells) syntaxes
+      pub few : length (statements syntaxes) ≤ language.most
+      pub once : EachOnce (labels_of syntaxes)
+      pub names : after ≡ with_names before (names_in language syntaxes)
+      pub made : drafts ≡ map (draft_cell after) syntaxes
+      pub leads : LeadsAs labels (leading_in 0 syntaxes)

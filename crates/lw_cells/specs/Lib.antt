@@ -1,0 +1,9 @@
+pub mod Languages
+pub mod Tests
+pub mod TestProps
+pub mod Cells
+pub mod Faults
+pub mod Operands
+pub mod Words
+pub mod Drafts
+pub mod Reading

@@ -1,0 +1,197 @@
+-- What a reader of cells has read, and why it stopped.
+use Rattle.std.specs.Prelude.{◌≡◌, ◌≤◌, ◌+◌, ◌⊎◌, ℕ, Option, Some, None, List, [], ◌∷◌, ◌++◌, length, map, take, codes, slice_get, Contains}
+use Rattle.std.specs.List.{AllZip, filter_map}
+use Rattle.std.specs.Option.{option_map}
+use Rattle.lw_base.specs.declared.limits.TheConstants.{MAX_LOCATIONS}
+use Rattle.lw_base.specs.Types.{Bytes, NameTable, TokenList, Cells, CellGrid}
+use Rattle.lw_base.specs.declared.fault.CellFault.{CellFault}
+use Rattle.lw_base.specs.declared.fault.CellCause.{CellCause}
+use Rattle.lw_base.specs.declared.fault.CellCause.TheVariants.{Form, Register, LabelMissing, LabelTwice, Backward, TooMany, Memory}
+use Rattle.lw_base.specs.Names.{EachOnce}
+use Rattle.lw_base.specs.Tables.{with_names}
+use Rattle.lw_text.specs.declared.token.Token.{Token}
+use Rattle.lw_text.specs.Spans.{texts}
+use Rattle.lw_cells.specs.declared.draft.Draft.{Draft}
+use Rattle.lw_cells.specs.Languages.{Language}
+use Rattle.lw_cells.specs.Cells.{CellSyntax, MaybeStatement, Labels, Column, statements, LeadsForward, names_in, names_of, code_in}
+use Rattle.lw_cells.specs.Drafts.{LabelMap, Targets, target_by, first_names, leading, LeadsAs, draft_in}
+use Rattle.lw_cells.specs.Words.{IsNinthName}
+
+-- ---- labels
+
+-- a second token that makes the first a label
+abbrev pub AtLabel : TokenList → Type 0
+AtLabel ts = slice_get ts 1 ≡ Some (codes ":")
+
+-- So many tokens at the front of a cell are labels, which lead to this statement. The thread had those before.
+pub record LabelsRead (tokens : List Token) (to : ℕ) (before : Targets) (next : ℕ) (after : LabelMap) : Type 0 where
+  pub names : List Bytes
+  pub within : next ≤ length tokens
+  pub says : Labels (texts (take next tokens)) names []
+  pub made : LeadsAs after (before ++ leading to names)
+  pub once : EachOnce (first_names before) → EachOnce (first_names before ++ names)
+
+-- All labels of a cell, and what stands behind them; none of them is one of those before, or stands twice.
+abbrev pub LabelsFit : Targets → TokenList → List Bytes → TokenList → Type 0
+LabelsFit before ts names rest =
+    Labels ts names rest × (AtLabel rest → ⊥) × EachOnce (first_names before ++ names)
+
+-- A label stands in a cell that its thread has already.
+pub record TwiceIn (tokens : List Token) (before : List Bytes) (at : ℕ) : Type 0 where
+  pub names : List Bytes
+  pub place : ℕ
+  pub token : Token
+  pub is : slice_get tokens place ≡ Some token
+  pub begins : token.at ≡ at
+  pub says : Labels (texts (take place tokens)) names []
+  pub colon : slice_get (texts tokens) (place + 1) ≡ Some (codes ":")
+  pub there : Contains (before ++ names) token.text.now
+
+-- why the labels of a cell are refused
+abbrev pub LabelCause : List Token → List Bytes → ℕ → CellCause → Type 0
+LabelCause tokens before at Form = Unit {0}
+LabelCause tokens before at Register = Unit {0}
+LabelCause tokens before at LabelMissing = ⊥
+LabelCause tokens before at LabelTwice = TwiceIn tokens before at
+LabelCause tokens before at Backward = ⊥
+LabelCause tokens before at TooMany = ⊥
+LabelCause tokens before at Memory = Unit {0}
+
+abbrev pub LabelFault : List Token → List Bytes → CellFault → Type 0
+LabelFault tokens before f = LabelCause tokens before f.at f.cause
+
+-- ---- jumps
+
+-- why the jump of this number to this label is refused
+abbrev pub JumpCause : LabelMap → ℕ → Bytes → CellCause → Type 0
+JumpCause labels number l Form = ⊥
+JumpCause labels number l Register = ⊥
+JumpCause labels number l LabelMissing = target_by labels l ≡ None
+JumpCause labels number l LabelTwice = ⊥
+JumpCause labels number l Backward = (to : ℕ) × (target_by labels l ≡ Some to) × (to ≤ number)
+JumpCause labels number l TooMany = ⊥
+JumpCause labels number l Memory = ⊥
+
+-- what a cell without labels says
+abbrev pub bare : {Syntax : Type 0} → Option Syntax → CellSyntax Syntax
+bare o = record { labels = []; stmt = o }
+
+module _ {Syntax Stmt : Type 0} (language : Language Syntax Stmt) where
+  -- The label of the jump of this number, which is the last of these tokens, is refused.
+  pub record JumpRefused
+      (labels : LabelMap) (number : ℕ) (tokens : List Token) (s : Syntax) (at : ℕ) (cause : CellCause) : Type 0 where
+    pub front : List Token
+    pub token : Token
+    pub last : tokens ≡ front ++ token ∷ []
+    pub is : language.label_of s ≡ Some token.text.now
+    pub begins : token.at ≡ at
+    pub because : JumpCause labels number token.text.now cause
+
+  abbrev pub JumpFault : LabelMap → ℕ → List Token → Syntax → CellFault → Type 0
+  JumpFault labels number tokens s f = JumpRefused labels number tokens s f.at f.cause
+
+  -- ---- statements
+
+  -- A ninth location stands in a statement, where one may stand.
+  pub record NinthIn (tokens : List Token) (names : NameTable) (at : ℕ) : Type 0 where
+    pub place : ℕ
+    pub token : Token
+    pub is : slice_get tokens place ≡ Some token
+    pub before : language.before_location (texts (take place tokens))
+    pub ninth : IsNinthName names token at
+
+  -- why a statement is refused
+  abbrev pub StatementCause : List Token → NameTable → ℕ → CellCause → Type 0
+  StatementCause tokens names at Form = Unit {0}
+  StatementCause tokens names at Register = Unit {0}
+  StatementCause tokens names at LabelMissing = ⊥
+  StatementCause tokens names at LabelTwice = ⊥
+  StatementCause tokens names at Backward = ⊥
+  StatementCause tokens names at TooMany = NinthIn tokens names at
+  StatementCause tokens names at Memory = Unit {0}
+
+  abbrev pub StatementFault : List Token → NameTable → CellFault → Type 0
+  StatementFault tokens names f = StatementCause tokens names f.at f.cause
+
+  -- the name of a statement's location, if it has one
+  abbrev pub named_by : Syntax → List Bytes
+  named_by s = filter_map language.name_of (s ∷ [])
+
+  -- The tokens say the statement, and the table has its location or room for it.
+  abbrev pub Fits : NameTable → TokenList → Syntax → Type 0
+  Fits names ts s = language.says ts s × (length (with_names names (named_by s)) ≤ MAX_LOCATIONS)
+
+  -- The tokens say this, the table has room for it, and so has the thread, in which so many statements stand above.
+  pub record FitsBelow (above : ℕ) (names : NameTable) (ts : TokenList) (o : Option Syntax) : Type 0 where
+    pub says : MaybeStatement language ts o
+    pub few : above + length (statements (bare o ∷ [])) ≤ language.most
+    pub room : length (with_names names (names_in language (bare o ∷ []))) ≤ MAX_LOCATIONS
+
+  -- The token is the first, and can begin a statement.
+  abbrev pub BeginsAt : List Token → ℕ → Type 0
+  BeginsAt tokens at = (t : Token) × (slice_get tokens 0 ≡ Some t) × (t.at ≡ at) × language.can_begin t.text.now
+
+  -- why what stands behind a cell's labels is refused, where so many statements stand above
+  abbrev pub MaybeCause : ℕ → List Token → NameTable → ℕ → CellCause → Type 0
+  MaybeCause above tokens names at Form = Unit {0}
+  MaybeCause above tokens names at Register = Unit {0}
+  MaybeCause above tokens names at LabelMissing = ⊥
+  MaybeCause above tokens names at LabelTwice = ⊥
+  MaybeCause above tokens names at Backward = ⊥
+  MaybeCause above tokens names at TooMany =
+      ((above ≡ language.most) × BeginsAt tokens at) ⊎ NinthIn tokens names at
+  MaybeCause above tokens names at Memory = Unit {0}
+
+  abbrev pub MaybeFault : ℕ → List Token → NameTable → CellFault → Type 0
+  MaybeFault above tokens names f = MaybeCause above tokens names f.at f.cause
+
+  -- ---- columns
+
+  -- All jumps lead forward.
+  abbrev pub AllForward : List (CellSyntax Syntax) → Type 0
+  AllForward syntaxes =
+      (k : ℕ) (s : Syntax) → slice_get (statements syntaxes) k ≡ Some s → LeadsForward language syntaxes k s
+
+  -- The cells of a thread say this, and the table has room for it.
+  abbrev pub ColumnFits : NameTable → Cells → List (CellSyntax Syntax) → Type 0
+  ColumnFits names cells t = Column language cells t × (length (with_names names (names_in language t)) ≤ MAX_LOCATIONS)
+
+  -- The cells of some threads say this, and the table has room for it.
+  abbrev pub ColumnsFit : NameTable → CellGrid → List (List (CellSyntax Syntax)) → Type 0
+  ColumnsFit names columns t =
+      AllZip (Column language) columns t × (length (with_names names (names_of language t)) ≤ MAX_LOCATIONS)
+
+  -- The cells of a thread say its statements.
+  pub record ColumnRead (cells : Cells) (before : NameTable) (stmts : List Stmt) (after : NameTable) : Type 0 where
+    pub syntaxes : List (CellSyntax Syntax)
+    pub says : Column language cells syntaxes
+    pub names : after ≡ with_names before (names_in language syntaxes)
+    pub made : stmts ≡ code_in language after syntaxes
+
+  -- So do those of some threads.
+  pub record ColumnsRead (columns : CellGrid) (before : NameTable) (threads : List (List Stmt)) (after : NameTable) : Type 0 where
+    pub syntaxes : List (List (CellSyntax Syntax))
+    pub says : AllZip (Column language) columns syntaxes
+    pub names : after ≡ with_names before (names_of language syntaxes)
+    pub made : threads ≡ map (code_in language after) syntaxes
+
+-- What is read on a table, drafted.
+module _ {Syntax Stmt Jump : Type 0} (language : Language Syntax Stmt) (draft_of : ℕ → Syntax → Draft Stmt Jump) where
+  -- The tokens say a statement, which takes one table to another.
+  pub record StatementRead (ts : TokenList) (before : NameTable) (draft : Draft Stmt Jump) (after : NameTable) : Type 0 where
+    pub syntax : Syntax
+    pub says : language.says ts syntax
+    pub names : after ≡ with_names before (named_by language syntax)
+    pub made : draft ≡ draft_in language draft_of after syntax
+
+  -- The tokens say nothing, or a statement.
+  pub record MaybeRead (ts : TokenList) (before : NameTable) (draft : Option (Draft Stmt Jump)) (after : NameTable) : Type 0 where
+    pub syntax : Option Syntax
+    pub says : MaybeStatement language ts syntax
+    pub names : after ≡ with_names before (names_in language (bare syntax ∷ []))
+    pub made : draft ≡ option_map (draft_in language draft_of after) syntax
+
+  -- The tokens say the statement, and this is its draft.
+  pub record IsDraft (names : NameTable) (ts : TokenList) (draft : Draft Stmt Jump) (s : Syntax) : Type 0 where
+    pub says : language.says ts s
+    pub made : draft ≡ draft_in language draft_of names s

@@ -1,0 +1,53 @@
+-- What one token of a cell is, and why it is refused.
+use Rattle.std.specs.Prelude.{◌≡◌, ◌≤◌, ℕ, Some, length, slice_get, All, Contains}
+use Rattle.lw_base.specs.declared.limits.TheConstants.{MAX_LOCATIONS}
+use Rattle.lw_base.specs.Types.{Bytes, NameTable, TokenList}
+use Rattle.lw_base.specs.declared.fault.CellFault.{CellFault}
+use Rattle.lw_base.specs.declared.fault.CellCause.{CellCause}
+use Rattle.lw_base.specs.declared.fault.CellCause.TheVariants.{Form, Register, LabelMissing, LabelTwice, Backward, TooMany, Memory}
+use Rattle.lw_base.specs.declared.head.Arch.{Arch}
+use Rattle.lw_base.specs.Names.{IsLocation}
+use Rattle.lw_base.specs.Registers.{IsRegister}
+use Rattle.lw_base.specs.Tables.{with_name}
+use Rattle.lw_text.specs.declared.token.Token.{Token}
+use Rattle.lw_cells.specs.declared.phrase.Phrase.{Phrase}
+
+-- the causes of a token that does not fit, and of a cell that ends too early
+abbrev pub IsMisfit : CellCause → Type 0
+IsMisfit Form = Unit {0}
+IsMisfit Register = Unit {0}
+IsMisfit LabelMissing = ⊥
+IsMisfit LabelTwice = ⊥
+IsMisfit Backward = ⊥
+IsMisfit TooMany = ⊥
+IsMisfit Memory = ⊥
+
+-- The token of this index names the register.
+abbrev pub RegisterAt : Arch → TokenList → ℕ → ℕ → Type 0
+RegisterAt arch ts k r = (w : Bytes) × (slice_get ts k ≡ Some w) × IsRegister arch w r
+
+-- no token, and not the cell's end, lies past this place
+abbrev pub LiesWithin : ℕ → Phrase → Type 0
+LiesWithin len p = All (λ t. t.at ≤ len) p.tokens.now × (p.end ≤ len)
+
+-- A location that the table has, or has room for.
+abbrev pub FitsTable : NameTable → Bytes → Type 0
+FitsTable names n = IsLocation n × (length (with_name names n) ≤ MAX_LOCATIONS)
+
+-- The token is a ninth location, and stands at the place.
+abbrev pub IsNinthName : NameTable → Token → ℕ → Type 0
+IsNinthName names t at =
+    (t.at ≡ at) × IsLocation t.text.now × (length names ≡ MAX_LOCATIONS) × (Contains names t.text.now → ⊥)
+
+-- why a token is refused where a location is wanted
+abbrev pub NameCause : NameTable → Token → ℕ → CellCause → Type 0
+NameCause names t at Form = Unit {0}
+NameCause names t at Register = Unit {0}
+NameCause names t at LabelMissing = ⊥
+NameCause names t at LabelTwice = ⊥
+NameCause names t at Backward = ⊥
+NameCause names t at TooMany = IsNinthName names t at
+NameCause names t at Memory = Unit {0}
+
+abbrev pub NameFault : NameTable → Token → CellFault → Type 0
+NameFault names t f = NameCause names t f.at f.cause

@@ -1,0 +1,99 @@
+//! Reads a test of either language from its frame.
+ghost use Rattle.std.specs.Prelude.{◌≡◌, ℕ, ◌≤◌, ◌-◌, ◌++◌, length, replicate, All, IfOk, IfErr, OnOk};
+ghost use Rattle.lw_base.specs.Refusals.{NotFound};
+ghost use Rattle.lw_base.specs.declared.fault.CellCause.TheVariants.{Memory};
+ghost use Rattle.lw_base.specs.Names.{IsTable};
+ghost use Rattle.lw_text.specs.Places.{all_texts, IsWithin};
+ghost use Rattle.lw_text.specs.Views.{frame_of};
+ghost use Rattle.lw_cells.specs.Languages.{IsLanguage, arch_of};
+ghost use Rattle.lw_cells.specs.Tests.{IsWellFormed, test_of};
+ghost use Rattle.lw_cells.specs.Cells.{HasTest};
+ghost use Rattle.lw_cells.specs.Drafts.{AreDrafts};
+ghost use Rattle.lw_cells.specs.Faults.{Tells};
+ghost use Rattle.lw_cells.specs.Reading.{ColumnsRead, ColumnsFit};
+
+use crate::column::read_column;
+use crate::parts::Parts;
+use crate::statement::Statement;
+use lw_base::{CellFault, LocNames, Sequence, Word};
+use lw_text::{Cell, Frame};
+use std::alloc::{AllocFailed, Allocator};
+
+/// Reads the test of a frame of the language whose statements these are.
+///
+/// The threads are read one after another, each from top to bottom, and the first fault is told.
+pub fn read_test<S: Statement + Drop, A: Allocator + Copy>(
+    alloc: A,
+    frame: &Frame<'_, A>,
+) -> Result<Parts<S, A>, CellFault>
+    requires arch { frame.now.head.arch ≡ arch_of S.language }
+    requires lawful { IsLanguage S.language }
+    requires drafted { AreDrafts S.language S.jump_to S.draft_of }
+    // What is answered is the frame's test, and where it is refused it has none, unless memory ran out.
+    ensures found { IfOk result (λ parts. HasTest S.language (frame_of frame.now) (test_of parts.head parts.threads)) }
+    ensures well_formed { IfOk result (λ parts. IsWellFormed S.language (test_of parts.head parts.threads)) }
+    ensures fault { IfErr result (λ f. NotFound Memory f.cause (HasTest S.language (frame_of frame.now))) }
+    ensures place { IfErr result (λ f. f.at ≤ frame.now.len) }
+    ensures memory { IfErr result (λ f. f.cause ≡ Memory → f.at ≡ 0) }
+    // What the cause says of the place is so.
+    ensures cause { IfErr result (Tells S.language frame.now.head.locs frame.now.cells) }
+{
+    let mut head = frame.head().copy()?;
+    let columns = frame.cells.as_slice();
+    let threads = read_threads(alloc, columns, &mut head.locs, &mut head.init_words)?;
+    Ok(Parts { head, threads })
+}
+
+/// Reads the statements of each thread, and puts a 0 behind the initial words for each location
+/// that has none.
+fn read_threads<S: Statement + Drop, A: Allocator + Copy>(
+    alloc: A,
+    columns: &[Sequence<Cell<'_, A>, A>],
+    locs: &mut LocNames<A>,
+    words: &mut Sequence<Word, A>,
+) -> Result<Sequence<Sequence<S, A>, A>, CellFault>
+    requires lawful { IsLanguage S.language }
+    requires drafted { AreDrafts S.language S.jump_to S.draft_of }
+    ensures found { IfOk result (λ threads. ColumnsRead S.language (all_texts columns.now) locs.old threads locs.new) }
+    ensures table { OnOk result (IsTable locs.new) }
+    ensures words { OnOk result (words.new ≡ words.old ++ replicate (length locs.new - length words.old) 0) }
+    ensures fault { IfErr result (λ f. NotFound Memory f.cause (ColumnsFit S.language locs.old (all_texts columns.now))) }
+    ensures cause { IfErr result (Tells S.language locs.old columns.now) }
+    ensures place { (len : ℕ) → All (λ column. All (IsWithin len) column) columns.now → IfErr result (λ f. f.at ≤ len) }
+{
+    let threads = read_columns(alloc, columns, locs)?;
+    let len = locs.len();
+    fill(words, len)?;
+    Ok(threads)
+}
+
+/// Reads the statements of each thread. The names of their locations go into the table.
+fn read_columns<S: Statement + Drop, A: Allocator + Copy>(
+    alloc: A,
+    columns: &[Sequence<Cell<'_, A>, A>],
+    locs: &mut LocNames<A>,
+) -> Result<Sequence<Sequence<S, A>, A>, CellFault>
+    requires lawful { IsLanguage S.language }
+    requires drafted { AreDrafts S.language S.jump_to S.draft_of }
+    ensures found { IfOk result (λ threads. ColumnsRead S.language (all_texts columns.now) locs.old threads locs.new) }
+    ensures fault { IfErr result (λ f. NotFound Memory f.cause (ColumnsFit S.language locs.old (all_texts columns.now))) }
+    ensures cause { IfErr result (Tells S.language locs.old columns.now) }
+    ensures place { (len : ℕ) → All (λ column. All (IsWithin len) column) columns.now → IfErr result (λ f. f.at ≤ len) }
+{
+    let mut threads = Sequence::new(alloc);
+    for column in columns {
+        let stmts = read_column(alloc, column.as_slice(), locs)?;
+        threads.push(stmts)?;
+    }
+    Ok(threads)
+}
+
+/// Puts zeros at the end, up to a length.
+fn fill<A: Allocator>(words: &mut Sequence<Word, A>, len: usize) -> Result<(), AllocFailed<Word>>
+    ensures { IfOk result (λ _. words.new ≡ words.old ++ replicate (len - length words.old) 0) }
+{
+    for _word in 0..len.saturating_sub(words.len()) {
+        words.push(0)?;
+    }
+    Ok(())
+}

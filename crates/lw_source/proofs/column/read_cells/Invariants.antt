@@ -1,7 +1,0 @@
-use Rattle.std.proofs.Common.{◌≡◌, take, length}
-use Rattle.lw_source.specs.Cells.{statements}
-use Rattle.lw_source.specs.Drafts.{DraftRead}
-use Rattle.lw_source.proofs.column.read_cells.Given as goal
-
-abbrev pub invariant-loop-cell : goal.invariant-loop-cell
-invariant-loop-cell g l = (read : DraftRead (take l.cell-index l.cells) l.fn.locs l.drafts l.labels l.locs) × (l.count ≡ length (statements read.syntaxes))

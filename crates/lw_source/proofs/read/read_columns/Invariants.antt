@@ -1,7 +1,0 @@
-use Rattle.std.proofs.Common.{take}
-use Rattle.lw_text.specs.Places.{all_texts}
-use Rattle.lw_source.specs.Reading.{ColumnsRead}
-use Rattle.lw_source.proofs.read.read_columns.Given as goal
-
-abbrev pub invariant-loop-column : goal.invariant-loop-column
-invariant-loop-column g l = ColumnsRead (all_texts (take l.column-index l.columns)) l.fn.locs l.threads l.locs
