@@ -2,7 +2,7 @@
 use Rattle.std.proofs.Common.{ℕ, Option, refl}
 use Rattle.lw_memory.specs.declared.system.LineState.TheVariants.{I}
 use Rattle.lw_memory.specs.declared.system.Request.{Request}
-use Rattle.lw_memory.specs.declared.system.Request.TheVariants.{Load, Store, Swap, Evict}
+use Rattle.lw_memory.specs.declared.system.Request.TheVariants.{Load, Store, Swap, FetchAdd, Evict}
 use Rattle.lw_memory.specs.Content.{answer_of, content_after}
 use Rattle.lw_memory.specs.Flat.{Flat, FlatServes}
 use Rattle.lw_memory.specs.Memory.{Memory, memory_of, Lawful, Served, IsPossible}
@@ -15,12 +15,14 @@ flat_served : (m : Flat) (r : Request) (a : Option ℕ) (n : Flat) → FlatServe
 flat_served m (Load t x) a n s = record { possible = tt; answer = s.0.0; content = s.0.1; cpus = s.1; sound = tt }
 flat_served m (Store t x w) a n s = record { possible = tt; answer = s.0.0; content = s.0.1; cpus = s.1; sound = tt }
 flat_served m (Swap t x w) a n s = record { possible = tt; answer = s.0.0; content = s.0.1; cpus = s.1; sound = tt }
+flat_served m (FetchAdd t x w) a n s = record { possible = tt; answer = s.0.0; content = s.0.1; cpus = s.1; sound = tt }
 flat_served m (Evict t x) a n s = absurd s.0
 
 flat_serves : (m : Flat) (r : Request) → IsPossible (λ t x. I) r → (n : Flat) × FlatServes m r (answer_of m.words r) n
 flat_serves m (Load t x) h = (m, ((refl, refl), refl))
 flat_serves m (Store t x w) h = (record m { words = content_after m.words (Store t x w) }, ((refl, refl), refl))
 flat_serves m (Swap t x w) h = (record m { words = content_after m.words (Swap t x w) }, ((refl, refl), refl))
+flat_serves m (FetchAdd t x w) h = (record m { words = content_after m.words (FetchAdd t x w) }, ((refl, refl), refl))
 flat_serves m (Evict t x) h = cc
 
 pub flat_lawful : Lawful flats

@@ -1,9 +1,9 @@
 -- What a memory system is, and the laws that every one keeps.
 use Rattle.std.specs.Prelude.{◌≡◌, ℕ, ◌<◌, List, length, Option, Bool, true, false}
 use Rattle.lw_memory.specs.declared.system.LineState.{LineState}
-use Rattle.lw_memory.specs.declared.system.LineState.TheVariants.{M, E, S, I}
+use Rattle.lw_memory.specs.declared.system.LineState.TheVariants.{M, O, E, S, I}
 use Rattle.lw_memory.specs.declared.system.Request.{Request}
-use Rattle.lw_memory.specs.declared.system.Request.TheVariants.{Load, Store, Swap, Evict}
+use Rattle.lw_memory.specs.declared.system.Request.TheVariants.{Load, Store, Swap, FetchAdd, Evict}
 use Rattle.lw_memory.specs.Content.{answer_of, content_after}
 
 -- The states of a memory system: the word of each location, the number of processors, how a processor holds a
@@ -25,6 +25,7 @@ memory_of content cpus state sound serves =
 -- Every state but I is a held line.
 abbrev pub is_held : LineState → Bool
 is_held M = true
+is_held O = true
 is_held E = true
 is_held S = true
 is_held I = false
@@ -34,6 +35,7 @@ abbrev pub IsInRange : ℕ → ℕ → Request → Type 0
 IsInRange cpus locs (Load t x) = (t < cpus) × (x < locs)
 IsInRange cpus locs (Store t x w) = (t < cpus) × (x < locs)
 IsInRange cpus locs (Swap t x w) = (t < cpus) × (x < locs)
+IsInRange cpus locs (FetchAdd t x w) = (t < cpus) × (x < locs)
 IsInRange cpus locs (Evict t x) = (t < cpus) × (x < locs)
 
 -- An eviction is possible where the processor holds the location, every other request always.
@@ -41,6 +43,7 @@ abbrev pub IsPossible : (ℕ → ℕ → LineState) → Request → Type 0
 IsPossible state (Load t x) = Unit {0}
 IsPossible state (Store t x w) = Unit {0}
 IsPossible state (Swap t x w) = Unit {0}
+IsPossible state (FetchAdd t x w) = Unit {0}
 IsPossible state (Evict t x) = is_held (state t x) ≡ true
 
 module _ {State : Type 0} (mem : Memory State) where

@@ -73,6 +73,12 @@ impl MemorySystem for FlatMemory {
         old
     }
 
+    fn fetch_add(&mut self, _cpu: Cpu, loc: Loc, word: Word) -> Word {
+        let before = self.words[loc.index()];
+        self.words[loc.index()] = before.wrapping_add(word);
+        before
+    }
+
     fn evict(&mut self, _cpu: Cpu, _loc: Loc) -> Result<(), NotHeld> {
         Err(NotHeld)
     }

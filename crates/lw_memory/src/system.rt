@@ -11,6 +11,8 @@ use lw_base::{Cpu, Loc, MAX_LOCATIONS, MAX_THREADS, Word};
 pub enum LineState {
     /// Modified: the only copy, which may differ from memory.
     M,
+    /// Owned: other caches may hold it in S, and memory may differ.
+    O,
     /// Exclusive: the only copy, which memory agrees with.
     E,
     /// Shared: other caches may hold it too.
@@ -28,6 +30,8 @@ pub enum Request {
     Store(Cpu, Loc, Word),
     /// A new word for the location, and the word that it replaces.
     Swap(Cpu, Loc, Word),
+    /// A word to add to the location's, and the location's word from before.
+    FetchAdd(Cpu, Loc, Word),
     /// The processor's cache is to let the location go.
     Evict(Cpu, Loc),
 }
@@ -77,6 +81,13 @@ pub trait MemorySystem {
         requires loc { loc < length (content self.old) }
         ensures sound { sound self.old }
         ensures served { serves self.old (Request.Swap cpu loc word) (Some result) self.new };
+
+    /// Adds to a word, modulo 2 to the 32, and answers the one from before.
+    fn fetch_add(&mut self, cpu: Cpu, loc: Loc, word: Word) -> Word
+        requires cpu { cpu < cpus self.old }
+        requires loc { loc < length (content self.old) }
+        ensures sound { sound self.old }
+        ensures served { serves self.old (Request.FetchAdd cpu loc word) (Some result) self.new };
 
     /// Lets a held location go. Refused exactly where it isn't held, and then nothing changes.
     fn evict(&mut self, cpu: Cpu, loc: Loc) -> Result<(), NotHeld>

@@ -1,34 +1,43 @@
--- Caches stay coherent, line by line.
+-- Caches go on keeping their protocol, line by line.
 use Rattle.std.proofs.Common.{◌≡◌, ℕ, suc, zero, ◌<◌, ◌≤◌, List, [], ◌∷◌, length, set, get_or, Result, Ok, Err, is_ok, OnOk, OnErr, refl, sym, ap, ◌∙◌, subst, arith, length-set}
 use Rattle.std.proofs.lemmas.List.{length-map}
 use Rattle.lw_memory.specs.Memory.{is_held}
-use Rattle.lw_mesi.specs.CacheLines.{CacheLine, Caches, unheld_line, copy_of, letter_of, line_at, content_of, contents_of, IsCoherentCacheLine, IsCoherent}
-use Rattle.lw_mesi.specs.MesiTable.{on_evict}
-use Rattle.lw_mesi.specs.MesiCacheLine.{evict_after}
-use Rattle.lw_mesi.specs.MesiLaws.{set_coherent}
+use Rattle.lw_mesi.specs.declared.protocol.Protocol.{Protocol}
+use Rattle.lw_mesi.specs.CacheLines.{CacheLine, Caches, unheld_line, copy_of, letter_of, line_at, content_of, contents_of}
+use Rattle.lw_mesi.specs.Snooping.{line_evicted}
+use Rattle.lw_mesi.specs.Protocols.{table_of, HasStatesOf, IsKeptLine, IsKept}
+use Rattle.lw_mesi.specs.ProtocolLaws.{set_kept, kept_line, evict_kept}
 
 any_default : {A : Type 0} (xs : List A) (i : ℕ) (c d : A) → i < length xs → get_or xs i c ≡ get_or xs i d
 any_default [] i c d lt = absurd (omega arith)
 any_default (x ∷ xs) zero c d lt = refl
 any_default (x ∷ xs) (suc i) c d lt = any_default xs i c d (omega arith)
 
--- The invariant of the caches after one line was changed as the protocol says.
-pub still_kept : (m now : Caches) (t x i : ℕ) (before after : CacheLine)
-    → m ≡ now → IsCoherent m → t < now.cpus → x < length (contents_of now)
-    → i ≡ x → before ≡ get_or m.lines i before → (t < 4 → IsCoherentCacheLine before → IsCoherentCacheLine after)
-    → length m.lines ≤ 8
-    → (length (set m.lines i after) ≤ 8) × IsCoherent (record { cpus = m.cpus; lines = set m.lines i after })
-still_kept m now t x i before after same ok cpu loc place found keeps few =
-    let cpus : m.cpus ≡ now.cpus = ap (λ (k : Caches). k.cpus) same in
+-- The line that is borrowed is a kept one.
+pub borrowed_kept : (p : Protocol) (m now : Caches) (x i : ℕ) (before : CacheLine)
+    → m ≡ now → IsKept p m → x < length (contents_of now) → i ≡ x → before ≡ get_or m.lines i before → IsKeptLine p before
+borrowed_kept p m now x i before same ok loc place found =
     let lt : i < length m.lines = omega (arith, ap (λ (k : Caches). length (contents_of k)) same, length-map m.lines content_of) in
-    let is : line_at m.lines i ≡ before = any_default m.lines i (unheld_line 0) before lt ∙ sym found in (
+    let is : line_at m.lines i ≡ before = any_default m.lines i (unheld_line 0) before lt ∙ sym found in
+    subst (IsKeptLine p) is (kept_line p m i ok lt)
+
+-- The invariant of the caches after one line was changed as the protocol says.
+pub still_kept : (p : Protocol) (m now : Caches) (t x i : ℕ) (before after : CacheLine)
+    → m ≡ now → IsKept p m → t < now.cpus → x < length (contents_of now)
+    → i ≡ x → before ≡ get_or m.lines i before → (t < 4 → IsKeptLine p before → IsKeptLine p after)
+    → length m.lines ≤ 8
+    → (length (set m.lines i after) ≤ 8) × IsKept p (record { cpus = m.cpus; lines = set m.lines i after })
+still_kept p m now t x i before after same ok cpu loc place found keeps few =
+    let cpus : m.cpus ≡ now.cpus = ap (λ (k : Caches). k.cpus) same in
+    let lt : i < length m.lines = omega (arith, ap (λ (k : Caches). length (contents_of k)) same, length-map m.lines content_of) in (
       omega (arith, length-set m.lines i after),
-      set_coherent m i after ok lt (keeps (omega (arith, ok.few)) (subst IsCoherentCacheLine is (ok.lines i lt))),
+      set_kept p m i after ok lt (keeps (omega (arith, ok.coherent.few)) (borrowed_kept p m now x i before same ok loc place found)),
     )
 
--- An eviction keeps a line coherent, whether it succeeds or is refused.
-pub evict_kept : {E : Type 0} (r : Result (Unit {0}) E) (t : ℕ) (before after : CacheLine)
-    → t < 4 → IsCoherentCacheLine before → is_ok r ≡ is_held (letter_of (copy_of before t))
-    → OnOk r (after ≡ on_evict (copy_of before t) t before) → OnErr r (after ≡ before) → IsCoherentCacheLine after
-evict_kept (Ok a) t before after lt s held ok err = subst IsCoherentCacheLine (sym ok) (evict_after t before lt s (sym held)).sound
-evict_kept (Err e) t before after lt s held ok err = subst IsCoherentCacheLine (sym err) s
+-- An eviction keeps a line, whether it succeeds or is refused.
+pub still_evicted : {E : Type 0} (p : Protocol) (r : Result (Unit {0}) E) (t : ℕ) (before after : CacheLine)
+    → t < 4 → IsKeptLine p before → is_ok r ≡ is_held (letter_of (copy_of before t))
+    → OnOk r ((p : Protocol) → HasStatesOf p before → after ≡ line_evicted (table_of p) t before) → OnErr r (after ≡ before)
+    → IsKeptLine p after
+still_evicted p (Ok a) t before after lt s held ok err = subst (IsKeptLine p) (sym (ok p s.states)) (evict_kept p t before lt s (sym held))
+still_evicted p (Err e) t before after lt s held ok err = subst (IsKeptLine p) (sym err) s

@@ -1,7 +1,10 @@
--- Caches that hold nothing: coherent, and with memory's words as their content.
-use Rattle.std.proofs.Common.{◌≡◌, ℕ, zero, suc, ◌<◌, ◌≤◌, List, [], ◌∷◌, length, map, refl, ap, subst, arith}
-use Rattle.lw_mesi.specs.CacheLines.{Invalid, unheld_line, empty_caches, copy_of, line_at, contents_of, IsOnlyCopy, IsCoherentCacheLine, IsCoherent}
-use Rattle.lw_mesi.specs.Coherent.{shared, no_word}
+-- Caches that hold nothing: coherent, in states of each protocol, and with memory's words as their content.
+use Rattle.std.proofs.Common.{◌≡◌, ℕ, zero, suc, ◌<◌, ◌≤◌, List, [], ◌∷◌, length, map, refl, sym, ap, subst, arith}
+use Rattle.lw_mesi.specs.declared.protocol.Protocol.{Protocol}
+use Rattle.lw_mesi.specs.declared.protocol.Protocol.TheVariants.{Mesi, Moesi}
+use Rattle.lw_mesi.specs.CacheLines.{Invalid, unheld_line, empty_caches, copy_of, line_at, content_of, contents_of, IsOnlyCopy, IsDirty}
+use Rattle.lw_mesi.specs.Coherent.{no_word}
+use Rattle.lw_mesi.specs.Protocols.{IsStateOf, HasStatesOf, IsKeptLine, IsKept}
 
 pub empty_content : (cpus : ℕ) (words : List ℕ) → contents_of (empty_caches cpus words) ≡ words
 empty_content n [] = refl
@@ -14,13 +17,28 @@ unheld w (suc (suc zero)) = refl
 unheld w (suc (suc (suc zero))) = refl
 unheld w (suc (suc (suc (suc t)))) = refl
 
-unheld_coherent : (w : ℕ) → IsCoherentCacheLine (unheld_line w)
-unheld_coherent w = shared (unheld_line w) refl (λ t own. subst IsOnlyCopy (unheld w t) own) (λ t k h. no_word (copy_of (unheld_line w) t) k w (unheld w t) h)
+unheld_states : (p : Protocol) (w : ℕ) → HasStatesOf p (unheld_line w)
+unheld_states Mesi w = λ t. subst (IsStateOf Mesi) (sym (unheld w t)) tt
+unheld_states Moesi w = λ t. tt
 
-each : (words : List ℕ) (x : ℕ) → x < length (map unheld_line words) → IsCoherentCacheLine (line_at (map unheld_line words) x)
-each [] x lt = absurd (omega arith)
-each (w ∷ ws) zero lt = unheld_coherent w
-each (w ∷ ws) (suc x) lt = each ws x (omega arith)
+unheld_kept : (p : Protocol) (w : ℕ) → IsKeptLine p (unheld_line w)
+unheld_kept p w = record {
+  coherent = record {
+    four = refl;
+    alone = λ t u own ne. absurd (subst IsOnlyCopy (unheld w t) own);
+    one_dirty = λ t u d e. absurd (subst IsDirty (unheld w t) d);
+    same_word = λ t k h. no_word (copy_of (unheld_line w) t) k (content_of (unheld_line w)) (unheld w t) h;
+  };
+  states = unheld_states p w;
+}
 
-pub empty_coherent : (cpus : ℕ) (words : List ℕ) → cpus ≤ 4 → IsCoherent (empty_caches cpus words)
-empty_coherent cpus words few = record { few = few; lines = each words }
+each : (p : Protocol) (words : List ℕ) (x : ℕ) → x < length (map unheld_line words) → IsKeptLine p (line_at (map unheld_line words) x)
+each p [] x lt = absurd (omega arith)
+each p (w ∷ ws) zero lt = unheld_kept p w
+each p (w ∷ ws) (suc x) lt = each p ws x (omega arith)
+
+pub empty_kept : (p : Protocol) (cpus : ℕ) (words : List ℕ) → cpus ≤ 4 → IsKept p (empty_caches cpus words)
+empty_kept p cpus words few = record {
+  coherent = record { few = few; lines = λ x lt. (each p words x lt).coherent };
+  states = λ x lt. (each p words x lt).states;
+}

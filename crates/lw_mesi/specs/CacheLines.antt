@@ -2,13 +2,14 @@
 use Rattle.std.specs.Prelude.{◌≡◌, ◌≢◌, ℕ, ◌<◌, ◌≤◌, List, [], ◌∷◌, map, length, Option, Some, None, slice_index_or}
 use Rattle.lw_base.specs.declared.limits.TheConstants.{MAX_THREADS}
 use Rattle.lw_memory.specs.declared.system.LineState.{LineState}
-use Rattle.lw_memory.specs.declared.system.LineState.TheVariants.{M, E, S, I}
+use Rattle.lw_memory.specs.declared.system.LineState.TheVariants.{M, O, E, S, I}
 
 -- A processor's copy of a location: its letter and its word. Invalid stands where the set has none for the two.
 pub data Copy : Type 0 where
   Modified : ℕ → Copy  -- M: the only copy, which memory may differ from
+  Owned : ℕ → Copy  -- O: perhaps beside others in S, and memory may differ
   Exclusive : ℕ → Copy  -- E: the only copy, which memory agrees with
-  Shared : ℕ → Copy  -- S: perhaps beside others, all of which memory agrees with
+  Shared : ℕ → Copy  -- S: perhaps beside others in S, which memory agrees with unless one beside them is in O
   Invalid : Copy  -- I: no copy
 
 -- One location: the copy of each of the four processors, by number, and memory's word.
@@ -40,6 +41,7 @@ line_at lines x = slice_index_or lines x (unheld_line 0)
 -- A copy's letter.
 abbrev pub letter_of : Copy → LineState
 letter_of (Modified w) = M
+letter_of (Owned w) = O
 letter_of (Exclusive w) = E
 letter_of (Shared w) = S
 letter_of Invalid = I
@@ -47,19 +49,21 @@ letter_of Invalid = I
 -- A copy's word.
 abbrev pub word_of : Copy → Option ℕ
 word_of (Modified w) = Some w
+word_of (Owned w) = Some w
 word_of (Exclusive w) = Some w
 word_of (Shared w) = Some w
 word_of Invalid = None
 
--- The word of the M copy if there is one, else the given one.
+-- The word of the M or O copy if there is one, else the given one.
 abbrev pub dirty_or : ℕ → List Copy → ℕ
 dirty_or w [] = w
 dirty_or w (Modified v ∷ copies) = v
+dirty_or w (Owned v ∷ copies) = v
 dirty_or w (Exclusive v ∷ copies) = dirty_or w copies
 dirty_or w (Shared v ∷ copies) = dirty_or w copies
 dirty_or w (Invalid ∷ copies) = dirty_or w copies
 
--- The content of a location: the word of the M copy if there is one, else memory's.
+-- The content of a location: the word of the M or O copy if there is one, else memory's.
 abbrev pub content_of : CacheLine → ℕ
 content_of line = dirty_or line.memory line.copies
 
@@ -78,13 +82,15 @@ state_in m t x = letter_of (copy_of (line_at m.lines x) t)
 -- M and E: the one copy there may be.
 abbrev pub IsOnlyCopy : Copy → Type 0
 IsOnlyCopy (Modified w) = Unit {0}
+IsOnlyCopy (Owned w) = ⊥
 IsOnlyCopy (Exclusive w) = Unit {0}
 IsOnlyCopy (Shared w) = ⊥
 IsOnlyCopy Invalid = ⊥
 
--- M: the copy that memory may differ from.
+-- M and O: the copy that memory may differ from.
 abbrev pub IsDirty : Copy → Type 0
 IsDirty (Modified w) = Unit {0}
+IsDirty (Owned w) = Unit {0}
 IsDirty (Exclusive w) = ⊥
 IsDirty (Shared w) = ⊥
 IsDirty Invalid = ⊥
@@ -94,7 +100,7 @@ pub record IsCoherentCacheLine (line : CacheLine) : Type 0 where
   pub four : length line.copies ≡ MAX_THREADS
   -- beside an M or E copy there is no other copy
   pub alone : (t u : ℕ) → IsOnlyCopy (copy_of line t) → t ≢ u → copy_of line u ≡ Invalid
-  -- at most one copy is M
+  -- at most one copy is M or O
   pub one_dirty : (t u : ℕ) → IsDirty (copy_of line t) → IsDirty (copy_of line u) → t ≡ u
   -- every copy holds the content
   pub same_word : (t w : ℕ) → word_of (copy_of line t) ≡ Some w → w ≡ content_of line

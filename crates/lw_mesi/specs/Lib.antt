@@ -1,7 +1,12 @@
 pub mod Places
 pub mod CacheLines
+pub mod Snooping
 pub mod MesiTable
+pub mod MoesiTable
+pub mod Protocols
 pub mod Packed
 pub mod Coherent
-pub mod MesiCacheLine
-pub mod MesiLaws
+pub mod Rows
+pub mod MesiRows
+pub mod MoesiRows
+pub mod ProtocolLaws

@@ -2,12 +2,13 @@
 use Rattle.std.specs.Prelude.{◌≡◌, ℕ, ◌<◌, Some, None, Bool, true, false, if◌then◌else◌, slice_index_or, length}
 use Rattle.lw_mesi.specs.declared.cache_line.PackedCacheLine.TheInside.{Inside}
 use Rattle.lw_mesi.specs.Places.{at_each, nobody, is_owner}
-use Rattle.lw_mesi.specs.CacheLines.{Copy, Modified, Exclusive, Shared, Invalid, CacheLine}
+use Rattle.lw_mesi.specs.CacheLines.{Copy, Modified, Owned, Exclusive, Shared, Invalid, CacheLine}
 
--- The owner's copy, by whether it is dirty.
-abbrev pub owner_copy : Bool → ℕ → Copy
-owner_copy true w = Modified w
-owner_copy false w = Exclusive w
+-- The owner's copy, by whether it is dirty, and whether it is then in O.
+abbrev pub owner_copy : Bool → Bool → ℕ → Copy
+owner_copy true false w = Modified w
+owner_copy true true w = Owned w
+owner_copy false o w = Exclusive w
 
 -- The copy of a processor that isn't the owner, by whether it is a sharer.
 abbrev pub sharer_copy : Bool → ℕ → Copy
@@ -16,7 +17,7 @@ sharer_copy false w = Invalid
 
 -- The copy that a processor has.
 abbrev pub copy_at : Inside → ℕ → Copy
-copy_at p t = if is_owner p.owner t then owner_copy p.is_dirty p.word else sharer_copy (slice_index_or p.sharers t false) p.word
+copy_at p t = if is_owner p.owner t then owner_copy p.is_dirty p.is_owned p.word else sharer_copy (slice_index_or p.sharers t false) p.word
 
 -- The copies of all processors, with memory's word.
 abbrev pub unpacked : Inside → CacheLine
@@ -25,10 +26,12 @@ unpacked p = record { copies = at_each (copy_at p); memory = p.memory }
 -- What a packed record keeps. Without copies its word is memory's.
 pub record IsPacked (p : Inside) : Type 0 where
   pub four : length p.sharers ≡ 4
-  -- an owner is one of the four, and has no sharer beside it
+  -- an owner is one of the four and no sharer, and has sharers beside it only in O
   pub in_range : (o : ℕ) → p.owner ≡ Some o → o < 4
-  pub alone : (o : ℕ) → p.owner ≡ Some o → p.sharers ≡ nobody
-  -- only an owner is dirty
+  pub apart : (o : ℕ) → p.owner ≡ Some o → slice_index_or p.sharers o false ≡ false
+  pub alone : (o : ℕ) → p.owner ≡ Some o → p.is_owned ≡ false → p.sharers ≡ nobody
+  -- only an owner is dirty, and only what is dirty is in O
   pub unowned : p.owner ≡ None → p.is_dirty ≡ false
+  pub owned : p.is_dirty ≡ false → p.is_owned ≡ false
   -- memory is behind only where a copy is dirty
   pub clean : p.is_dirty ≡ false → p.memory ≡ p.word

@@ -2,10 +2,13 @@
 ghost use Rattle.std.specs.Prelude.{◌≡◌, ◌<◌, Some, is_ok, OnOk, OnErr};
 ghost use Rattle.lw_memory.specs.Memory.{is_held};
 ghost use Rattle.lw_mesi.specs.CacheLines.{Invalid, unheld_line, copy_of, letter_of, word_of, content_of};
-ghost use Rattle.lw_mesi.specs.MesiTable.{get_s, line_to_read, line_to_write, line_with_word, on_evict};
+ghost use Rattle.lw_mesi.specs.declared.protocol.Protocol.{Protocol};
+ghost use Rattle.lw_mesi.specs.Snooping.{line_to_read, line_to_write, line_written, line_evicted};
+ghost use Rattle.lw_mesi.specs.Protocols.{table_of, HasStatesOf};
 ghost use Rattle.lw_mesi.specs.Places.{is_owner};
 
 use crate::cpu_set::CpuSet;
+use crate::protocol::Protocol;
 use lw_base::{Cpu, MAX_THREADS, Word};
 use lw_memory::{LineState, NotHeld};
 use std::marker::Model;
@@ -13,10 +16,12 @@ use std::marker::Model;
 /// The copies of one location. A clause sees each processor's copy, and memory's word.
 #[derive(Debug, Drop)]
 pub struct PackedCacheLine {
-    /// Who holds the line in M or E.
+    /// Who holds the line in M, O or E.
     owner: Option<Cpu>,
-    /// Whether the owner's copy is in M.
+    /// Whether the owner's copy is in M or O.
     is_dirty: bool,
+    /// Whether a dirty owner's copy is in O.
+    is_owned: bool,
     /// Who holds it in S.
     sharers: CpuSet,
     /// The word of all copies; memory's where there are none.
@@ -44,6 +49,7 @@ impl PackedCacheLine {
         PackedCacheLine {
             owner: None,
             is_dirty: false,
+            is_owned: false,
             sharers: CpuSet::new(),
             word,
             memory: word,
@@ -56,10 +62,10 @@ impl PackedCacheLine {
         ensures { result ≡ letter_of (copy_of self.now cpu) }
     {
         if is_owner(self.owner, cpu) {
-            if self.is_dirty {
-                LineState::M
-            } else {
-                LineState::E
+            match (self.is_dirty, self.is_owned) {
+                (true, false) => LineState::M,
+                (true, true) => LineState::O,
+                (false, _) => LineState::E,
             }
         } else if self.sharers.contains(cpu) {
             LineState::S
@@ -94,33 +100,44 @@ impl PackedCacheLine {
         }
     }
 
-    /// The word that a processor's load takes.
-    pub fn load(&mut self, cpu: Cpu) -> Word
-        requires { cpu < MAX_THREADS }
-        ensures word { Some result ≡ word_of (copy_of (line_to_read cpu self.old) cpu) }
-        ensures line { self.new ≡ line_to_read cpu self.old }
+    /// The word that a processor's load takes, under a protocol.
+    pub fn load(&mut self, protocol: Protocol, cpu: Cpu) -> Word
+        requires cpu { cpu < MAX_THREADS }
+        requires states { HasStatesOf protocol self.old }
+        ensures word { Some result ≡ word_of (copy_of (line_to_read (table_of protocol) cpu self.old) cpu) }
+        ensures line { self.new ≡ line_to_read (table_of protocol) cpu self.old }
     {
         match self.copy(cpu) {
             Some(word) => word,
-            None => self.get_s(cpu),
+            None => self.get_s(protocol, cpu),
         }
     }
 
     /// The bus transaction of a load without a copy, and the word that it brings.
-    fn get_s(&mut self, cpu: Cpu) -> Word
+    fn get_s(&mut self, protocol: Protocol, cpu: Cpu) -> Word
         requires cpu { cpu < MAX_THREADS }
+        requires states { HasStatesOf protocol self.old }
         requires without { copy_of self.old cpu ≡ Invalid }
-        ensures word { Some result ≡ word_of (copy_of (get_s cpu self.old) cpu) }
-        ensures line { self.new ≡ get_s cpu self.old }
+        ensures word { Some result ≡ word_of (copy_of (line_to_read (table_of protocol) cpu self.old) cpu) }
+        ensures line { self.new ≡ line_to_read (table_of protocol) cpu self.old }
     {
         let word = self.word;
-        match self.owner.take() {
-            Some(owner) => {
-                self.memory = self.word;
-                self.is_dirty = false;
-                self.sharers.insert(owner);
-                self.sharers.insert(cpu);
-            }
+        match self.owner {
+            Some(owner) => match protocol {
+                // A dirty owner shares its word, which memory doesn't get.
+                Protocol::Moesi if self.is_dirty => {
+                    self.is_owned = true;
+                    self.sharers.insert(cpu);
+                }
+                // Another owner becomes a sharer, and memory has its word.
+                _ => {
+                    self.memory = word;
+                    self.is_dirty = false;
+                    self.owner = None;
+                    self.sharers.insert(owner);
+                    self.sharers.insert(cpu);
+                }
+            },
             None if self.sharers.is_empty() => self.owner = Some(cpu),
             None => self.sharers.insert(cpu),
         }
@@ -130,28 +147,32 @@ impl PackedCacheLine {
     /// Writes a word, and answers the one that it replaces. The writer becomes the only holder, in M.
     pub fn write(&mut self, cpu: Cpu, word: Word) -> Word
         requires { cpu < MAX_THREADS }
-        ensures word { Some result ≡ word_of (copy_of (line_to_write cpu self.old) cpu) }
-        ensures line { self.new ≡ line_with_word cpu word (line_to_write cpu self.old) }
+        ensures word { (p : Protocol) → HasStatesOf p self.old
+            → Some result ≡ word_of (copy_of (line_to_write (table_of p) cpu self.old) cpu) }
+        ensures line { (p : Protocol) → HasStatesOf p self.old
+            → self.new ≡ line_written (table_of p) cpu word self.old }
     {
         let old = self.word;
         self.owner = Some(cpu);
         self.is_dirty = true;
+        self.is_owned = false;
         self.sharers = CpuSet::new();
         self.word = word;
         old
     }
 
-    /// Lets a processor's copy go, the word of one in M to memory.
+    /// Lets a processor's copy go, the word of one in M or O to memory.
     pub fn evict(&mut self, cpu: Cpu) -> Result<(), NotHeld>
         requires { cpu < MAX_THREADS }
         ensures held { is_ok result ≡ is_held (letter_of (copy_of self.old cpu)) }
-        ensures ok { OnOk result (self.new ≡ on_evict (copy_of self.old cpu) cpu self.old) }
+        ensures ok { OnOk result ((p : Protocol) → HasStatesOf p self.old → self.new ≡ line_evicted (table_of p) cpu self.old) }
         ensures err { OnErr result (self.new ≡ self.old) }
     {
         match self.state_of(cpu) {
-            LineState::M => {
+            LineState::M | LineState::O => {
                 self.memory = self.word;
                 self.is_dirty = false;
+                self.is_owned = false;
                 self.owner = None;
             }
             LineState::E => self.owner = None,

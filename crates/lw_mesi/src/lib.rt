@@ -1,12 +1,14 @@
-//! Caches that snoop on an atomic bus, over one memory.
+//! Caches that snoop on an atomic bus, over one memory: by the MESI protocol and by the MOESI protocol.
 //!
 //! It names lw_base, lw_memory and std alone.
 #![tactic(auto)]
 
 mod cache_line;
+mod caches;
 mod cpu_set;
 mod laws;
-mod mesi;
+mod protocol;
 
-pub use laws::empty_caches_are_coherent;
-pub use mesi::Mesi;
+pub use caches::{Mesi, Moesi, SnoopingCaches};
+pub use laws::empty_caches_are_kept;
+pub use protocol::{ByMesi, ByMoesi, KeptProtocol, Protocol};

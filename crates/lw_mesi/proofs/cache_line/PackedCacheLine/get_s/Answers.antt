@@ -1,8 +1,33 @@
-use Rattle.std.proofs.Common.{rules}
+use Rattle.std.proofs.Common.{◌≡◌, false, sym, ◌∙◌, subst, length-set}
+use Rattle.lw_mesi.specs.CacheLines.{Invalid, copy_of}
+use Rattle.lw_mesi.specs.Protocols.{HasStatesOf}
+use Rattle.lw_mesi.proofs.PackedLemmas.{dirty_shared, owner_shared, unowned_then, no_owner}
+use Rattle.lw_mesi.specs.declared.protocol.Protocol.TheVariants.{Moesi}
 use Rattle.lw_mesi.proofs.cache_line.PackedCacheLine.get_s.Goals as goal
+use Rattle.lw_mesi.proofs.cache_line.PackedCacheLine.get_s.Goals.{in_default-via-in-Moesi+else-self, in_default-via-in_default}
 
-pub returns-in-None-clause-word : goal.returns-in-None-clause-word
-returns-in-None-clause-word c = search rules
+clean : (c : goal.After-insert-in_default-2) → c.args.protocol ≡ Moesi → c.self.inside.is_dirty ≡ false
+clean c e = elim c.in_default.branch [ in_default-via-in-Moesi+else-self w ↦ w.if-self.false | in_default-via-in_default w ↦ absurd (w.in_default.not-Moesi e) ]
 
-pub returns-in-None-clause-line : goal.returns-in-None-clause-line
-returns-in-None-clause-line c = search rules
+unowned : (c : goal.After-insert-in_default-2) → c.self.inside.is_owned ≡ false
+unowned c =
+    unowned_then c.self.inside c.args.protocol c.self.invariant
+    (subst (HasStatesOf c.args.protocol) (sym c.self.view_is) c.requires.states)
+    (clean c)
+
+pub invariant_of-self-in_default : goal.invariant_of-self-in_default
+invariant_of-self-in_default c =
+    no_owner c.self.inside.word c.self.inside.is_owned c.insert-in_default-2.new.self (unowned c)
+    (rw (c.insert-in_default-2.ensures, c.insert-in_default.ensures) (length-set _ _ _ ∙ (length-set _ _ _ ∙ c.self.invariant.four)))
+
+pub returns-in-Moesi-clause-line : goal.returns-in-Moesi-clause-line
+returns-in-Moesi-clause-line c =
+    rw (← c.self.view_is, c.in-Moesi.is, c.insert.ensures)
+    (dirty_shared c.self.inside c.args.cpu c.in-Some.owner c.self.invariant c.requires.cpu (c.self.invariant.in_range _ c.in-Some.is) c.in-Some.is c.if-self.true
+    (subst (λ l. copy_of l c.args.cpu ≡ Invalid) (sym c.self.view_is) c.requires.without))
+
+pub returns-in_default-clause-line : goal.returns-in_default-clause-line
+returns-in_default-clause-line c =
+    rw (← c.self.view_is, c.insert-in_default-2.ensures, c.insert-in_default.ensures)
+    (owner_shared c.self.inside c.args.cpu c.in-Some.owner c.args.protocol c.self.invariant c.requires.cpu (c.self.invariant.in_range _ c.in-Some.is) c.in-Some.is (unowned c) (clean c)
+    (subst (λ l. copy_of l c.args.cpu ≡ Invalid) (sym c.self.view_is) c.requires.without))

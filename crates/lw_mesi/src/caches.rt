@@ -1,39 +1,50 @@
-//! Caches by the MESI protocol.
+//! Caches that snoop on one atomic bus, over one memory, by either protocol.
 ghost use Rattle.std.specs.Prelude.{◌≡◌, ◌<◌, ◌≤◌, length, map, IfOk};
-ghost use Rattle.lw_mesi.specs.CacheLines.{unheld_line, copy_of, line_at, word_of, contents_of, memory_words_of, state_in, IsCoherent};
-ghost use Rattle.lw_mesi.specs.MesiTable.{MesiServes};
-ghost use Rattle.lw_mesi.specs.MesiLaws.{mesi_lawful};
+ghost use Rattle.lw_mesi.specs.CacheLines.{unheld_line, copy_of, line_at, word_of, contents_of, memory_words_of, state_in};
+ghost use Rattle.lw_mesi.specs.Snooping.{Serves};
+ghost use Rattle.lw_mesi.specs.Protocols.{table_of, IsKept};
+ghost use Rattle.lw_mesi.specs.ProtocolLaws.{protocol_lawful};
 
 use crate::cache_line::PackedCacheLine;
+use crate::protocol::{ByMesi, ByMoesi, KeptProtocol};
 use lw_base::{Cpu, Loc, MAX_LOCATIONS, MAX_THREADS, Word};
 use lw_memory::{LineState, MemorySystem, NotHeld};
 use std::alloc::{AllocError, Allocator, Global};
-use std::marker::Model;
+use std::marker::{Model, PhantomData};
+
+/// Caches by the MESI protocol.
+pub type Mesi<A = Global> = SnoopingCaches<ByMesi, A>;
+
+/// Caches by the MOESI protocol.
+pub type Moesi<A = Global> = SnoopingCaches<ByMoesi, A>;
 
 /// A cache for each processor, which snoop on one atomic bus, over one memory.
 ///
 /// A clause sees for each location the copies in the caches, with memory's word. Every call of it tells that they
-/// are coherent: one writer or many readers, and one word in all copies.
+/// are coherent (one writer or many readers, and one word in all copies) and in states of their protocol.
 #[derive(Drop)]
 #[derive_where(Debug)]
-pub struct Mesi<A: Allocator = Global> {
+pub struct SnoopingCaches<P: KeptProtocol, A: Allocator = Global> {
     cpus: usize,
     lines: Vec<PackedCacheLine, A>,
+    protocol: PhantomData<P>,
 }
 
-impl<A: Allocator> Model for Mesi<A> {
+impl<P: KeptProtocol, A: Allocator> Model for SnoopingCaches<P, A> {
     ghost use Rattle.std.specs.Prelude.{◌≤◌, length};
-    ghost use Rattle.lw_mesi.specs.CacheLines.{Caches, IsCoherent};
+    ghost use Rattle.lw_mesi.specs.CacheLines.{Caches};
+    ghost use Rattle.lw_mesi.specs.Protocols.{IsKept};
     ghost use Rattle.lw_base.specs.declared.limits.TheConstants.{MAX_LOCATIONS};
 
     ghost Value = { Caches };
 
     ghost view = { λ m. record { cpus = m.cpus; lines = m.lines.items } };
 
-    ghost invariant = { λ m. (length m.lines.items ≤ MAX_LOCATIONS) × IsCoherent (record { cpus = m.cpus; lines = m.lines.items }) };
+    ghost invariant = { λ m. (length m.lines.items ≤ MAX_LOCATIONS)
+        × IsKept P.protocol (record { cpus = m.cpus; lines = m.lines.items }) };
 }
 
-impl<A: Allocator + Copy> Mesi<A> {
+impl<P: KeptProtocol, A: Allocator + Copy> SnoopingCaches<P, A> {
     /// Empty caches of so many processors, over a memory with these words. An error is that memory ran out; no later
     /// call takes any.
     pub fn new(alloc: A, cpus: usize, words: &[Word]) -> Result<Self, AllocError>
@@ -41,29 +52,33 @@ impl<A: Allocator + Copy> Mesi<A> {
         requires words { length words.now ≤ MAX_LOCATIONS }
         ensures cpus { IfOk result (λ m. m.cpus ≡ cpus) }
         ensures lines { IfOk result (λ m. m.lines ≡ map unheld_line words.now) }
-        ensures coherent { IfOk result IsCoherent }
+        ensures kept { IfOk result (IsKept P.protocol) }
     {
         let lines = words
             .iter()
             .map(|word| PackedCacheLine::new(*word))
             .collect(alloc)?;
-        Ok(Mesi { cpus, lines })
+        Ok(SnoopingCaches {
+            cpus,
+            lines,
+            protocol: PhantomData,
+        })
     }
 }
 
-impl<A: Allocator> Mesi<A> {
+impl<P: KeptProtocol, A: Allocator> SnoopingCaches<P, A> {
     /// The word of a processor's copy of a location, where it has one.
     pub fn copy(&self, cpu: Cpu, loc: Loc) -> Option<Word>
         requires cpu { cpu < self.now.cpus }
         requires loc { loc < length self.now.lines }
         ensures word { result ≡ word_of (copy_of (line_at self.now.lines loc) cpu) }
-        ensures coherent { IsCoherent self.now }
+        ensures kept { IsKept P.protocol self.now }
     {
         self.lines[loc.index()].copy(cpu)
     }
 }
 
-impl<A: Allocator> MemorySystem for Mesi<A> {
+impl<P: KeptProtocol, A: Allocator> MemorySystem for SnoopingCaches<P, A> {
     ghost content = { contents_of };
 
     ghost cpus = { λ m. m.cpus };
@@ -72,13 +87,13 @@ impl<A: Allocator> MemorySystem for Mesi<A> {
 
     ghost state = { state_in };
 
-    ghost sound = { IsCoherent };
+    ghost sound = { IsKept P.protocol };
 
-    ghost serves = { MesiServes };
+    ghost serves = { Serves (table_of P.protocol) };
 
     fn load(&mut self, cpu: Cpu, loc: Loc) -> Word {
         let line = &mut self.lines[loc.index()];
-        line.load(cpu)
+        line.load(P::protocol(), cpu)
     }
 
     fn store(&mut self, cpu: Cpu, loc: Loc, word: Word) {
@@ -89,6 +104,12 @@ impl<A: Allocator> MemorySystem for Mesi<A> {
     fn swap(&mut self, cpu: Cpu, loc: Loc, word: Word) -> Word {
         let line = &mut self.lines[loc.index()];
         line.write(cpu, word)
+    }
+
+    fn fetch_add(&mut self, cpu: Cpu, loc: Loc, word: Word) -> Word {
+        let line = &mut self.lines[loc.index()];
+        let sum = line.word().wrapping_add(word);
+        line.write(cpu, sum)
     }
 
     fn evict(&mut self, cpu: Cpu, loc: Loc) -> Result<(), NotHeld> {
@@ -116,5 +137,5 @@ impl<A: Allocator> MemorySystem for Mesi<A> {
         self.lines.len()
     }
 
-    ghost lawful = { mesi_lawful };
+    ghost lawful = { protocol_lawful P.protocol };
 }

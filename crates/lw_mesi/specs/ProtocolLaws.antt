@@ -1,0 +1,168 @@
+-- Caches that keep a protocol are a memory system that keeps the laws. (It stands among the definitions because an impl
+-- cites it.)
+use Rattle.std.proofs.Common.{◌≡◌, ℕ, zero, suc, ◌<◌, List, [], ◌∷◌, length, map, set, Some, refl, sym, ap, ◌∙◌, subst, arith, slice_index, slice_set, true, length-set, get_or-set_same, get_or-set_other}
+use Rattle.std.proofs.lemmas.List.{length-map}
+use Rattle.lw_base.specs.Sums.{sum_of}
+use Rattle.lw_memory.specs.declared.system.Request.{Request}
+use Rattle.lw_memory.specs.declared.system.Request.TheVariants.{Load, Store, Swap, FetchAdd, Evict}
+use Rattle.lw_memory.specs.Memory.{Memory, memory_of, is_held, Lawful, Served, IsInRange, IsPossible}
+use Rattle.lw_mesi.specs.CacheLines.{CacheLine, Caches, copy_of, letter_of, word_of, unheld_line, line_at, content_of, contents_of, state_in, IsCoherentCacheLine}
+use Rattle.lw_mesi.specs.declared.protocol.Protocol.{Protocol}
+use Rattle.lw_mesi.specs.declared.protocol.Protocol.TheVariants.{Mesi, Moesi}
+use Rattle.lw_mesi.specs.Snooping.{Serves, line_to_read, line_to_write, line_written, line_evicted, line_after, loc_of, answer_from, caches_after}
+use Rattle.lw_mesi.specs.Protocols.{table_of, HasStatesOf, IsKeptLine, IsKept}
+use Rattle.lw_mesi.specs.Coherent.{at_place, After}
+use Rattle.lw_mesi.specs.Rows.{written, Keeps}
+use Rattle.lw_mesi.specs.MesiRows.{mesi_keeps, mesi_states}
+use Rattle.lw_mesi.specs.MoesiRows.{moesi_keeps}
+
+-- The memory system of the caches' states.
+abbrev pub caches_by : Protocol → Memory Caches
+caches_by p = memory_of contents_of (λ (m : Caches). m.cpus) state_in (IsKept p) (Serves (table_of p))
+
+contents_set : (lines : List CacheLine) (x : ℕ) (line : CacheLine)
+    → map content_of (set lines x line) ≡ slice_set (map content_of lines) x (content_of line)
+contents_set [] x line = refl
+contents_set (l ∷ lines) zero line = refl
+contents_set (l ∷ lines) (suc x) line = ap (λ r. content_of l ∷ r) (contents_set lines x line)
+
+contents_same : (lines : List CacheLine) (x : ℕ) (line : CacheLine)
+    → content_of line ≡ content_of (line_at lines x) → map content_of (set lines x line) ≡ map content_of lines
+contents_same [] x line e = refl
+contents_same (l ∷ lines) zero line e = ap (λ c. c ∷ map content_of lines) e
+contents_same (l ∷ lines) (suc x) line e = ap (λ r. content_of l ∷ r) (contents_same lines x line e)
+
+contents_at : (lines : List CacheLine) (x : ℕ) → content_of (line_at lines x) ≡ slice_index (map content_of lines) x
+contents_at [] x = refl
+contents_at (l ∷ lines) zero = refl
+contents_at (l ∷ lines) (suc x) = contents_at lines x
+
+-- One line is changed, and the protocol is still kept.
+pub set_kept : (p : Protocol) (m : Caches) (x : ℕ) (line : CacheLine)
+    → IsKept p m → x < length m.lines → IsKeptLine p line → IsKept p (record { cpus = m.cpus; lines = set m.lines x line })
+set_kept p m x line ok lt s =
+    let each : (P : CacheLine → Type 0) → P line → ((y : ℕ) → y < length m.lines → P (line_at m.lines y))
+    → (y : ℕ) → y < length (set m.lines x line) → P (line_at (set m.lines x line) y) =
+    λ P new old y within.
+    at_place x (λ y. y < length m.lines → P (line_at (set m.lines x line) y))
+    (λ _. subst P (sym (get_or-set_same m.lines x line (unheld_line 0) lt)) new)
+    (λ y ne within. subst P (sym (get_or-set_other m.lines x y line (unheld_line 0) (λ e. ne (sym e)))) (old y within))
+    y
+    (omega (arith, length-set m.lines x line))
+    in record {
+      coherent = record { few = ok.coherent.few; lines = each IsCoherentCacheLine s.coherent ok.coherent.lines };
+      states = each (HasStatesOf p) s.states ok.states;
+    }
+
+pub kept_line : (p : Protocol) (m : Caches) (x : ℕ) → IsKept p m → x < length m.lines → IsKeptLine p (line_at m.lines x)
+kept_line p m x ok lt = record { coherent = ok.coherent.lines x lt; states = ok.states x lt }
+
+-- Each protocol's table keeps a line.
+keeps : (p : Protocol) (t : ℕ) (line : CacheLine) (lt : t < 4) (ok : IsKeptLine p line) → Keeps t line lt ok.coherent (table_of p)
+keeps Mesi t line lt ok = mesi_keeps t line lt ok.coherent ok.states
+keeps Moesi t line lt ok = moesi_keeps t line lt ok.coherent
+
+states_kept : (p : Protocol) (line : CacheLine) → HasStatesOf p line → (r : Request) → HasStatesOf p (line_after (table_of p) r line)
+states_kept Mesi line states r = mesi_states line states r
+states_kept Moesi line states r = λ u. tt
+
+-- What a line has after a request.
+module _ (p : Protocol) (t : ℕ) (line : CacheLine) (lt : t < 4) (ok : IsKeptLine p line) where
+  pub write_word : word_of (copy_of (line_to_write (table_of p) t line) t) ≡ Some (content_of line)
+  write_word = (keeps p t line lt ok).to_write.word
+
+  pub write_after : (w : ℕ) → After w (line_written (table_of p) t w line)
+  write_after w = written t line lt ok.coherent w (line_to_write (table_of p) t line) (keeps p t line lt ok).to_write
+
+  pub load_word : word_of (copy_of (line_to_read (table_of p) t line) t) ≡ Some (content_of line)
+  load_word = (keeps p t line lt ok).loaded.word
+
+  pub load_after : After (content_of line) (line_to_read (table_of p) t line)
+  load_after = (keeps p t line lt ok).loaded.after
+
+  pub evict_after : is_held (letter_of (copy_of line t)) ≡ true → After (content_of line) (line_evicted (table_of p) t line)
+  evict_after = (keeps p t line lt ok).evicted
+
+  pub load_kept : IsKeptLine p (line_to_read (table_of p) t line)
+  load_kept = record { coherent = load_after.sound; states = states_kept p line ok.states (Load t 0) }
+
+  pub write_kept : (w : ℕ) → IsKeptLine p (line_written (table_of p) t w line)
+  write_kept w = record { coherent = (write_after w).sound; states = states_kept p line ok.states (Store t 0 w) }
+
+  pub evict_kept : is_held (letter_of (copy_of line t)) ≡ true → IsKeptLine p (line_evicted (table_of p) t line)
+  evict_kept h = record { coherent = (evict_after h).sound; states = states_kept p line ok.states (Evict t 0) }
+
+-- Each row of the table keeps the laws.
+module _ (p : Protocol) (m : Caches) (ok : IsKept p m) where
+  row_served : (r : Request)
+      → IsInRange m.cpus (length m.lines) r → IsPossible (state_in m) r
+      → Served (caches_by p) m r (answer_from (table_of p) r (line_at m.lines (loc_of r))) (caches_after (table_of p) r m)
+  row_served (Load t x) there possible =
+      let line : CacheLine = line_at m.lines x in
+      let lt : t < 4 = omega (arith, ok.coherent.few, there.0) in
+      let kept : IsKeptLine p line = kept_line p m x ok there.1 in
+      record {
+        possible = tt;
+        answer = load_word p t line lt kept ∙ ap Some (contents_at m.lines x);
+        content = contents_same m.lines x _ (load_after p t line lt kept).content;
+        cpus = refl;
+        sound = set_kept p m x _ ok there.1 (load_kept p t line lt kept);
+      }
+  row_served (Store t x w) there possible =
+      let line : CacheLine = line_at m.lines x in
+      let lt : t < 4 = omega (arith, ok.coherent.few, there.0) in
+      let kept : IsKeptLine p line = kept_line p m x ok there.1 in
+      record {
+        possible = tt;
+        answer = refl;
+        content = contents_set m.lines x _ ∙ ap (λ c. slice_set (map content_of m.lines) x c) (write_after p t line lt kept w).content;
+        cpus = refl;
+        sound = set_kept p m x _ ok there.1 (write_kept p t line lt kept w);
+      }
+  row_served (Swap t x w) there possible =
+      let line : CacheLine = line_at m.lines x in
+      let lt : t < 4 = omega (arith, ok.coherent.few, there.0) in
+      let kept : IsKeptLine p line = kept_line p m x ok there.1 in
+      record {
+        possible = tt;
+        answer = write_word p t line lt kept ∙ ap Some (contents_at m.lines x);
+        content = contents_set m.lines x _ ∙ ap (λ c. slice_set (map content_of m.lines) x c) (write_after p t line lt kept w).content;
+        cpus = refl;
+        sound = set_kept p m x _ ok there.1 (write_kept p t line lt kept w);
+      }
+  row_served (FetchAdd t x w) there possible =
+      let line : CacheLine = line_at m.lines x in
+      let lt : t < 4 = omega (arith, ok.coherent.few, there.0) in
+      let kept : IsKeptLine p line = kept_line p m x ok there.1 in
+      record {
+        possible = tt;
+        answer = write_word p t line lt kept ∙ ap Some (contents_at m.lines x);
+        content = contents_set m.lines x _
+            ∙ (ap (λ c. slice_set (map content_of m.lines) x c) (write_after p t line lt kept (sum_of (content_of line) w)).content
+            ∙ ap (λ c. slice_set (map content_of m.lines) x (sum_of c w)) (contents_at m.lines x));
+        cpus = refl;
+        sound = set_kept p m x _ ok there.1 (write_kept p t line lt kept (sum_of (content_of line) w));
+      }
+  row_served (Evict t x) there possible =
+      let line : CacheLine = line_at m.lines x in
+      let lt : t < 4 = omega (arith, ok.coherent.few, there.0) in
+      let kept : IsKeptLine p line = kept_line p m x ok there.1 in
+      record {
+        possible = possible;
+        answer = refl;
+        content = contents_same m.lines x _ (evict_after p t line lt kept possible).content;
+        cpus = refl;
+        sound = set_kept p m x _ ok there.1 (evict_kept p t line lt kept possible);
+      }
+
+pub protocol_lawful : (p : Protocol) → Lawful (caches_by p)
+protocol_lawful p = record {
+  served = λ m r a n ok s.
+      subst (λ k. Served (caches_by p) m r a k) (sym s.lines)
+      (subst (λ b. Served (caches_by p) m r b (caches_after (table_of p) r m)) (sym s.answer) (row_served p m ok r s.there s.possible));
+  serves = λ m r ok there possible.
+      let inside : IsInRange m.cpus (length m.lines) r = subst (λ k. IsInRange m.cpus k r) (length-map m.lines content_of) there in (
+        caches_after (table_of p) r m,
+        record { there = inside; possible = possible; answer = sym (row_served p m ok r inside possible).answer; lines = refl },
+      );
+}

@@ -1,0 +1,177 @@
+-- What the rows of a protocol's table keep of one location's line, whatever the protocol: its content, and that it is
+-- coherent. (It stands among the definitions because an impl cites what follows from it.)
+use Rattle.std.proofs.Common.{◌≡◌, ◌≢◌, ℕ, zero, suc, ◌<◌, List, [], ◌∷◌, length, map, set, Some, Bool, true, false, refl, sym, ap, ◌∙◌, subst, arith, length-set}
+use Rattle.std.proofs.lemmas.List.{length-map}
+use Rattle.lw_memory.specs.Memory.{is_held}
+use Rattle.lw_mesi.specs.CacheLines.{Copy, Modified, Owned, Exclusive, Shared, Invalid, CacheLine, copy_of, letter_of, word_of, dirty_or, content_of, IsOnlyCopy, IsDirty, IsCoherentCacheLine}
+use Rattle.lw_mesi.specs.Snooping.{ProtocolTable, any_held, copy_from, line_to_read, line_to_write, line_with_word, line_evicted}
+use Rattle.lw_mesi.specs.Coherent.{copy_in, at_place, put_here, put_there, copy_map, clean, dirty, put_clean, NobodyElse, no_word, one_word, single, After}
+
+none_held : (copies : List Copy) → any_held copies ≡ false → (t : ℕ) → copy_in copies t ≡ Invalid
+none_held [] h t = refl
+none_held (Modified v ∷ copies) h t = cc
+none_held (Owned v ∷ copies) h t = cc
+none_held (Exclusive v ∷ copies) h t = cc
+none_held (Shared v ∷ copies) h t = cc
+none_held (Invalid ∷ copies) h zero = refl
+none_held (Invalid ∷ copies) h (suc t) = none_held copies h t
+
+from_clean : (b : Bool) (w : ℕ) → IsDirty (copy_from b w) → ⊥
+from_clean true w h = h
+from_clean false w h = h
+
+from_word : (b : Bool) (w : ℕ) → word_of (copy_from b w) ≡ Some w
+from_word true w = refl
+from_word false w = refl
+
+-- What a GetS does to the other copies, in each protocol: it keeps their words, leaves no M or E, and makes none dirty.
+pub record SharesOthers (f : Copy → Copy) (line : CacheLine) : Type 0 where
+  pub invalid : f Invalid ≡ Invalid
+  pub word : (u : ℕ) → word_of (f (copy_of line u)) ≡ word_of (copy_of line u)
+  pub free : (u : ℕ) → IsOnlyCopy (f (copy_of line u)) → ⊥
+  pub dirty : (u : ℕ) → IsDirty (f (copy_of line u)) → IsDirty (copy_of line u)
+
+module _ (t : ℕ) (line : CacheLine) (lt : t < 4) (sound : IsCoherentCacheLine line) where
+  -- What a write finds: the processor alone has a copy, which holds the content.
+  pub record ToWrite (l : CacheLine) : Type 0 where
+    pub four : length l.copies ≡ 4
+    pub word : word_of (copy_of l t) ≡ Some (content_of line)
+    pub others : NobodyElse l t
+
+  -- A write that hits, in M or E.
+  pub hit_to_write : (c : Copy) (w : ℕ) → copy_of line t ≡ c → word_of c ≡ Some w → IsOnlyCopy c → ToWrite line
+  hit_to_write c w e h own = record {
+    four = sound.four;
+    word = (ap word_of e ∙ h) ∙ ap Some (sound.same_word t w (ap word_of e ∙ h));
+    others = λ u ne. sound.alone t u (subst IsOnlyCopy (sym e) own) ne;
+  }
+
+  -- A GetM, after which the other copies are gone.
+  pub get_m_to_write : (f : Copy → Copy) → f Invalid ≡ Invalid → ((u : ℕ) → f (copy_of line u) ≡ Invalid)
+      → ToWrite (record { copies = set (map f line.copies) t (Modified (content_of line)); memory = line.memory })
+  get_m_to_write f invalid gone =
+      let four : length (map f line.copies) ≡ 4 = length-map line.copies f ∙ sound.four in
+      record {
+        four = length-set (map f line.copies) t (Modified (content_of line)) ∙ four;
+        word = ap word_of (put_here (map f line.copies) t (Modified (content_of line)) (omega (arith, four)));
+        others = λ u ne. put_there (map f line.copies) t (Modified (content_of line)) u ne ∙ (copy_map f line.copies u invalid ∙ gone u);
+      }
+
+  -- The write itself.
+  pub written : (w : ℕ) (l : CacheLine) → ToWrite l → After w (line_with_word t w l)
+  written w l h =
+      let copies : List Copy = set l.copies t (Modified w) in
+      let here : copy_in copies t ≡ Modified w = put_here l.copies t (Modified w) (omega (arith, h.four)) in
+      let others : (u : ℕ) → t ≢ u → copy_in copies u ≡ Invalid = λ u ne. put_there l.copies t (Modified w) u ne ∙ h.others u ne in
+      let d : dirty_or l.memory copies ≡ w =
+      dirty l.memory w copies t (subst IsDirty (sym here) tt) (ap word_of here) (λ u ne x. subst IsDirty (others u ne) x) in
+      record {
+        content = d;
+        sound = single (line_with_word t w l) t (length-set l.copies t (Modified w) ∙ h.four) others
+            (λ k e. one_word (copy_in copies t) k w (ap word_of here) e ∙ sym d);
+      }
+
+  -- What a load leaves: the content, and a copy that holds it.
+  pub record Loaded (l : CacheLine) : Type 0 where
+    pub after : After (content_of line) l
+    pub word : word_of (copy_of l t) ≡ Some (content_of line)
+
+  -- A load that hits.
+  pub hit_loaded : (c : Copy) (w : ℕ) → copy_of line t ≡ c → word_of c ≡ Some w → Loaded line
+  hit_loaded c w e h = record {
+    after = record { content = refl; sound = sound };
+    word = (ap word_of e ∙ h) ∙ ap Some (sound.same_word t w (ap word_of e ∙ h));
+  }
+
+  -- Where the requestor is in E after a GetS, nobody else has a copy.
+  alone_here : (f : Copy → Copy) → f Invalid ≡ Invalid → (b : Bool) → any_held line.copies ≡ b
+      → (u : ℕ) → IsOnlyCopy (copy_from b (content_of line)) → f (copy_of line u) ≡ Invalid
+  alone_here f invalid true e u own = absurd own
+  alone_here f invalid false e u own = ap f (none_held line.copies e u) ∙ invalid
+
+  -- A load without a copy: a GetS, after which the other copies are shared and the content is the same.
+  pub get_s_loaded : (f : Copy → Copy) (m : ℕ)
+      → SharesOthers f line → dirty_or m (map f line.copies) ≡ content_of line → copy_of line t ≡ Invalid
+      → (b : Bool) → any_held line.copies ≡ b
+      → Loaded (record { copies = set (map f line.copies) t (copy_from b (content_of line)); memory = m })
+  get_s_loaded f m shared same mine b held =
+      let v : ℕ = content_of line in
+      let mine_too : copy_in (map f line.copies) t ≡ Invalid = copy_map f line.copies t shared.invalid ∙ (ap f mine ∙ shared.invalid) in
+      let four : length (map f line.copies) ≡ 4 = length-map line.copies f ∙ sound.four in
+      let l : CacheLine = record { copies = set (map f line.copies) t (copy_from b v); memory = m } in
+      let here : copy_of l t ≡ copy_from b v = put_here (map f line.copies) t (copy_from b v) (omega (arith, four)) in
+      let there : (u : ℕ) → t ≢ u → copy_of l u ≡ f (copy_of line u) =
+      λ u ne. put_there (map f line.copies) t (copy_from b v) u ne ∙ copy_map f line.copies u shared.invalid in
+      let content : content_of l ≡ v =
+      put_clean m (map f line.copies) t (copy_from b v) (λ d. subst IsDirty mine_too d) (from_clean b v) ∙ same in
+      let here_clean : IsDirty (copy_of l t) → ⊥ = λ d. from_clean b v (subst IsDirty here d) in
+      let there_dirty : (u : ℕ) → t ≢ u → IsDirty (copy_of l u) → IsDirty (copy_of line u) = λ u ne d. shared.dirty u (subst IsDirty (there u ne) d) in
+      record {
+        after = record {
+          content = content;
+          sound = record {
+            four = length-set (map f line.copies) t (copy_from b v) ∙ four;
+            alone = at_place t (λ a. (u : ℕ) → IsOnlyCopy (copy_of l a) → a ≢ u → copy_of l u ≡ Invalid)
+                (λ u own ne. there u ne ∙ alone_here f shared.invalid b held u (subst IsOnlyCopy here own))
+                (λ a na u own ne. absurd (shared.free a (subst IsOnlyCopy (there a na) own)));
+            one_dirty = at_place t (λ a. (u : ℕ) → IsDirty (copy_of l a) → IsDirty (copy_of l u) → a ≡ u)
+                (λ u d e. absurd (here_clean d))
+                (λ a na. at_place t (λ u. IsDirty (copy_of l a) → IsDirty (copy_of l u) → a ≡ u)
+                (λ d e. absurd (here_clean e))
+                (λ u nu d e. sound.one_dirty a u (there_dirty a na d) (there_dirty u nu e)));
+            same_word = at_place t (λ u. (w : ℕ) → word_of (copy_of l u) ≡ Some w → w ≡ content_of l)
+                (λ w h. one_word (copy_of l t) w v (ap word_of here ∙ from_word b v) h ∙ sym content)
+                (λ u ne w h. sound.same_word u w (sym (ap word_of (there u ne) ∙ shared.word u) ∙ h) ∙ sym content);
+          };
+        };
+        word = ap word_of here ∙ from_word b v;
+      }
+
+  -- The line without the own copy, where the content is the same.
+  without_own : (m : ℕ)
+      → dirty_or m (set line.copies t Invalid) ≡ content_of line → After (content_of line) (record { copies = set line.copies t Invalid; memory = m })
+  without_own m content =
+      let l : CacheLine = record { copies = set line.copies t Invalid; memory = m } in
+      let here : copy_of l t ≡ Invalid = put_here line.copies t Invalid (omega (arith, sound.four)) in
+      let there : (u : ℕ) → t ≢ u → copy_of l u ≡ copy_of line u = put_there line.copies t Invalid in
+      record {
+        content = content;
+        sound = record {
+          four = length-set line.copies t Invalid ∙ sound.four;
+          alone = at_place t (λ a. (u : ℕ) → IsOnlyCopy (copy_of l a) → a ≢ u → copy_of l u ≡ Invalid)
+              (λ u own ne. absurd (subst IsOnlyCopy here own))
+              (λ a na. at_place t (λ u. IsOnlyCopy (copy_of l a) → a ≢ u → copy_of l u ≡ Invalid)
+              (λ own ne. here)
+              (λ u nu own ne. there u nu ∙ sound.alone a u (subst IsOnlyCopy (there a na) own) ne));
+          one_dirty = at_place t (λ a. (u : ℕ) → IsDirty (copy_of l a) → IsDirty (copy_of l u) → a ≡ u)
+              (λ u d e. absurd (subst IsDirty here d))
+              (λ a na. at_place t (λ u. IsDirty (copy_of l a) → IsDirty (copy_of l u) → a ≡ u)
+              (λ d e. absurd (subst IsDirty here e))
+              (λ u nu d e. sound.one_dirty a u (subst IsDirty (there a na) d) (subst IsDirty (there u nu) e)));
+          same_word = at_place t (λ u. (w : ℕ) → word_of (copy_of l u) ≡ Some w → w ≡ content_of l)
+              (λ w h. no_word (copy_of l t) w (content_of l) here h)
+              (λ u ne w h. sound.same_word u w (sym (ap word_of (there u ne)) ∙ h) ∙ sym content);
+        };
+      }
+
+  -- An eviction of a dirty copy, whose word goes to memory.
+  pub written_back : (c : Copy) (w : ℕ) → copy_of line t ≡ c → word_of c ≡ Some w → IsDirty c
+      → After (content_of line) (record { copies = set line.copies t Invalid; memory = w })
+  written_back c w e h own =
+      let copies : List Copy = set line.copies t Invalid in
+      let none : (u : ℕ) → IsDirty (copy_in copies u) → ⊥ =
+      at_place t (λ u. IsDirty (copy_in copies u) → ⊥)
+      (λ d. subst IsDirty (put_here line.copies t Invalid (omega (arith, sound.four))) d)
+      (λ u ne d. ne (sound.one_dirty t u (subst IsDirty (sym e) own) (subst IsDirty (put_there line.copies t Invalid u ne) d))) in
+      without_own w (clean w copies none ∙ sound.same_word t w (ap word_of e ∙ h))
+
+  -- An eviction of another copy.
+  pub let_go : (c : Copy) → copy_of line t ≡ c → (IsDirty c → ⊥)
+      → After (content_of line) (record { copies = set line.copies t Invalid; memory = line.memory })
+  let_go c e not = without_own line.memory (put_clean line.memory line.copies t Invalid (λ d. not (subst IsDirty e d)) (λ d. d))
+
+  -- What all rows of a protocol's table keep.
+  pub record Keeps (table : ProtocolTable) : Type 0 where
+    pub to_write : ToWrite (line_to_write table t line)
+    pub loaded : Loaded (line_to_read table t line)
+    pub evicted : is_held (letter_of (copy_of line t)) ≡ true → After (content_of line) (line_evicted table t line)

@@ -1,0 +1,47 @@
+//! The protocols that caches keep: by name, and as types.
+ghost use Rattle.std.specs.Prelude.{◌≡◌};
+ghost use Rattle.lw_mesi.specs.declared.protocol.Protocol.{Protocol};
+ghost use Rattle.lw_mesi.specs.declared.protocol.Protocol.TheVariants.{Mesi, Moesi};
+
+/// The protocols of snooping caches.
+#[derive(Clone, Copy, Debug, PartialEq, Eq, Hash)]
+pub enum Protocol {
+    /// A copy is modified, exclusive, shared or invalid.
+    Mesi,
+    /// Or owned: dirty, and perhaps beside shared copies.
+    Moesi,
+}
+
+/// A protocol as a type.
+pub trait KeptProtocol {
+    /// Which one it is.
+    ghost protocol: { Protocol };
+
+    /// Which one it is.
+    fn protocol() -> Protocol
+        ensures { result ≡ protocol };
+}
+
+/// The MESI protocol as a type.
+#[derive(Clone, Copy, Debug)]
+pub struct ByMesi;
+
+impl KeptProtocol for ByMesi {
+    ghost protocol = { Mesi };
+
+    fn protocol() -> Protocol {
+        Protocol::Mesi
+    }
+}
+
+/// The MOESI protocol as a type.
+#[derive(Clone, Copy, Debug)]
+pub struct ByMoesi;
+
+impl KeptProtocol for ByMoesi {
+    ghost protocol = { Moesi };
+
+    fn protocol() -> Protocol {
+        Protocol::Moesi
+    }
+}
