@@ -1,0 +1,36 @@
+-- The entries of an initial block, one by one.
+use Rattle.std.proofs.Common.{◌≡◌, ℕ, List, [], ◌∷◌, ◌++◌, map, refl, ap, ◌∙◌}
+use Rattle.std.specs.List.{flat_map, range_with_len}
+use Rattle.std.proofs.lemmas.Grind.{flat_map-append}
+use Rattle.lw_base.specs.Types.{Bytes}
+use Rattle.lw_base.specs.Heads.{TestHead}
+use Rattle.lw_base.specs.declared.head.Seen.TheVariants.{Register, Location}
+use Rattle.lw_text.specs.Frames.{registers_of, all_registers, locations}
+use Rattle.lw_x86.specs.CanonicalTexts.{entry_text, register_entry}
+
+-- of a location, of a thread's register, and of all registers of a thread
+abbrev pub location_entry : TestHead → ℕ → Bytes
+location_entry head x = entry_text head (Location x)
+
+abbrev pub entry_of : TestHead → ℕ → ℕ → Bytes
+entry_of head t r = register_entry head (Register t r)
+
+abbrev pub thread_entries : TestHead → ℕ → Bytes
+thread_entries head t = flat_map (register_entry head) (registers_of t)
+
+flat_map-map : {X Y : Type 0} (f : Y → Bytes) (g : X → Y) (xs : List X) → flat_map f (map g xs) ≡ flat_map (λ x. f (g x)) xs
+flat_map-map f g [] = refl
+flat_map-map f g (x ∷ xs) = ap (λ t. f (g x) ++ t) (flat_map-map f g xs)
+
+flat_map-flat_map : {X Y : Type 0} (f : Y → Bytes) (g : X → List Y) (xs : List X) → flat_map f (flat_map g xs) ≡ flat_map (λ x. flat_map f (g x)) xs
+flat_map-flat_map f g [] = refl
+flat_map-flat_map f g (x ∷ xs) = flat_map-append f (g x) (flat_map g xs) ∙ ap (λ t. flat_map f (g x) ++ t) (flat_map-flat_map f g xs)
+
+pub locations_are : (head : TestHead) (len : ℕ) → flat_map (entry_text head) (locations len) ≡ flat_map (location_entry head) (range_with_len 0 len)
+locations_are head len = flat_map-map (entry_text head) (λ x. Location x) (range_with_len 0 len)
+
+pub thread_is : (head : TestHead) (t : ℕ) → thread_entries head t ≡ flat_map (entry_of head t) (range_with_len 0 6)
+thread_is head t = flat_map-map (register_entry head) (λ r. Register t r) (range_with_len 0 6)
+
+pub registers_are : (head : TestHead) (threads : ℕ) → flat_map (register_entry head) (all_registers threads) ≡ flat_map (thread_entries head) (range_with_len 0 threads)
+registers_are head threads = flat_map-flat_map (register_entry head) registers_of (range_with_len 0 threads)

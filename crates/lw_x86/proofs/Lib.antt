@@ -1,0 +1,13 @@
+pub mod Openings
+pub mod Registers
+pub mod Forms
+pub mod Accesses
+pub mod Groups
+pub mod NamedMnemonics
+pub mod OneReading
+pub mod X86Laws
+pub mod Writing
+pub mod CellLists
+pub mod BlockTexts
+pub mod HeaderTexts
+pub mod ListedTexts

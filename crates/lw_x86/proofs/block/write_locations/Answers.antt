@@ -1,0 +1,21 @@
+use Rattle.std.proofs.Common.{◌<◌, ◌≤◌, ◌∙◌, ◌++◌, length, ap, refl, sym, arith, length-take}
+use Rattle.std.specs.String.{string_bytes}
+use Rattle.lw_base.specs.Heads.{head_of}
+use Rattle.lw_text.proofs.Starts.{is_index}
+use Rattle.lw_x86.proofs.BlockTexts.{location_entry, locations_are}
+use Rattle.lw_x86.proofs.Writing.{numbers_more, numbers_all}
+use Rattle.lw_x86.proofs.block.write_locations.Goals as goal
+
+pub loop-loc-preserved : goal.loop-loc-preserved
+loop-loc-preserved g c =
+    let names = length c.args.head.now.locs in
+    let is = is_index 8 c.len.result _ _ c.all.result _ c.all.ensures refl c.loop-loc-test.true c.loc-item.is in
+    let within : c.loop-loc.loc-index < names = omega (arith, c.loop-loc-test.true, length-take c.len.result c.all.result, c.len.ensures.len) in
+    numbers_more (location_entry (head_of c.args.head.now)) names c.loop-loc.loc-index _ _ c.loop-loc.invariant _ within (rw is at c.in_ok-write_location.ensures)
+
+pub returns : goal.returns
+returns g c =
+    let head = head_of c.args.head.now in
+    let names = length c.args.head.now.locs in
+    let whole : names ≤ c.loop-loc.loc-index = omega (arith, c.loop-loc-test.false, length-take c.len.result c.all.result, ap length c.all.ensures, c.len.ensures.len, c.requires.table.few) in
+    numbers_all (location_entry head) names c.loop-loc.loc-index _ _ c.loop-loc.invariant whole ∙ ap (λ t. string_bytes c.args.out.now ++ t) (sym (locations_are head names))

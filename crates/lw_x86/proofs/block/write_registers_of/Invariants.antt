@@ -1,0 +1,11 @@
+use Rattle.std.proofs.Common.{◌≡◌, ◌++◌, drop}
+use Rattle.std.specs.List.{flat_map, range_with_len}
+use Rattle.std.specs.String.{string_bytes}
+use Rattle.lw_base.specs.Heads.{head_of}
+use Rattle.lw_x86.proofs.BlockTexts.{entry_of}
+use Rattle.lw_x86.proofs.block.write_registers_of.Given as goal
+
+abbrev pub invariant-loop-reg : goal.invariant-loop-reg
+invariant-loop-reg g l =
+    string_bytes l.out ++ flat_map (entry_of (head_of l.head) l.cpu) (drop l.reg-index (range_with_len 0 6))
+    ≡ string_bytes l.fn.out ++ flat_map (entry_of (head_of l.head) l.cpu) (range_with_len 0 6)

@@ -1,0 +1,10 @@
+use Rattle.std.proofs.Common.{◌≡◌, ◌++◌, drop}
+use Rattle.std.specs.List.{flat_map}
+use Rattle.std.specs.String.{string_bytes}
+use Rattle.lw_x86.proofs.ListedTexts.{next_element}
+use Rattle.lw_x86.proofs.canonical.write_listed.Given as goal
+
+abbrev pub invariant-loop-site : goal.invariant-loop-site
+invariant-loop-site g l =
+    string_bytes l.out ++ flat_map (next_element l.names) (drop l.site-index l.others)
+    ≡ string_bytes l.initial.out ++ flat_map (next_element l.names) l.others

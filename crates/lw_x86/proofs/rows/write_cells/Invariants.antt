@@ -1,0 +1,11 @@
+use Rattle.std.proofs.Common.{◌≡◌, ◌++◌, map, drop, codes}
+use Rattle.std.specs.List.{flat_map}
+use Rattle.std.specs.String.{string_bytes}
+use Rattle.lw_x86.specs.CanonicalTexts.{cells_of, joined, row_of}
+use Rattle.lw_x86.proofs.CellLists.{next_cell}
+use Rattle.lw_x86.proofs.rows.write_cells.Given as goal
+
+abbrev pub invariant-loop-code : goal.invariant-loop-code
+invariant-loop-code g l =
+    string_bytes l.out ++ flat_map (next_cell l.names l.row) (drop l.code-index l.others)
+    ≡ string_bytes l.fn.out ++ joined (codes " | ") (row_of (map (cells_of l.names) l.threads) l.row)

@@ -1,0 +1,12 @@
+use Rattle.std.proofs.Common.{◌≡◌, ◌++◌, map, drop}
+use Rattle.std.specs.List.{flat_map, range_with_len}
+use Rattle.std.specs.String.{string_bytes}
+use Rattle.lw_x86.specs.CanonicalTexts.{cells_of, longest, rows_text}
+use Rattle.lw_x86.proofs.CellLists.{whole_row}
+use Rattle.lw_x86.proofs.rows.write_rows.Given as goal
+
+abbrev pub invariant-loop-row : goal.invariant-loop-row
+invariant-loop-row g l =
+    let threads = map (cells_of l.program.head.locs) l.program.threads in
+    string_bytes l.out ++ flat_map (whole_row threads) (drop l.row (range_with_len 0 (longest threads)))
+    ≡ string_bytes l.fn.out ++ rows_text threads

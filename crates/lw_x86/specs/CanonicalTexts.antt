@@ -1,0 +1,142 @@
+-- The canonical text of an x86 test.
+-- The source is the format of the workbench, docs/FORMAT.md, which follows the Intel syntax of herd's x86 litmus tests.
+use Rattle.std.specs.Prelude.{ℕ, suc, max, Bool, false, ◌==◌, if◌then◌else◌, List, [], ◌∷◌, ◌++◌, length, map, fold, codes, slice_index, slice_index_or}
+use Rattle.std.specs.List.{list_any, flat_map, range_with_len}
+use Rattle.std.specs.Option.{option_map_or}
+use Rattle.std.specs.Fmt.{decimal}
+use Rattle.lw_base.specs.Types.{Bytes, NameTable}
+use Rattle.lw_base.specs.declared.head.Arch.TheVariants.{X86}
+use Rattle.lw_base.specs.declared.head.Seen.{Seen}
+use Rattle.lw_base.specs.declared.head.Seen.TheVariants as seen
+use Rattle.lw_base.specs.declared.operand.Operand.{Operand}
+use Rattle.lw_base.specs.declared.operand.Operand.TheVariants.{Register, Number}
+use Rattle.lw_base.specs.ConditionTexts.{site_text, assignment, condition_text}
+use Rattle.lw_base.specs.Heads.{TestHead}
+use Rattle.lw_base.specs.Registers.{register_name}
+use Rattle.lw_text.specs.Frames.{all_registers, locations}
+use Rattle.lw_text.specs.Rows.{thread_name}
+use Rattle.lw_x86.specs.declared.instr.Instr.{Instr}
+use Rattle.lw_x86.specs.declared.instr.Instr.TheVariants.{Store, Load, Set, Add, Cmp, Xchg, Xadd, Mfence, Je, Jne, Jmp}
+use Rattle.lw_x86.specs.Programs.{ProgramTest, target_of}
+
+-- parts with a text between each and the next
+abbrev pub joined : Bytes → List Bytes → Bytes
+joined between [] = []
+joined between (part ∷ parts) = part ++ flat_map (λ next. between ++ next) parts
+
+-- ---- instructions
+
+-- a register, or a number behind a `$`
+abbrev pub operand_text : Operand → Bytes
+operand_text (Register r) = register_name X86 r
+operand_text (Number n) = codes "$" ++ decimal n
+
+-- `[x]`
+abbrev pub memory_text : NameTable → ℕ → Bytes
+memory_text names x = codes "[" ++ (slice_index_or names x [] ++ codes "]")
+
+-- a mnemonic and its two operands
+abbrev pub with_operands : Bytes → Bytes → Bytes → Bytes
+with_operands mnemonic first second = mnemonic ++ (codes " " ++ (first ++ (codes "," ++ second)))
+
+-- the label of the instruction of this number
+abbrev pub label : ℕ → Bytes
+label k = codes "L" ++ decimal k
+
+abbrev pub instruction_text : NameTable → Instr → Bytes
+instruction_text names (Store x v) = with_operands (codes "MOV") (memory_text names x) (operand_text v)
+instruction_text names (Load d x) = with_operands (codes "MOV") (register_name X86 d) (memory_text names x)
+instruction_text names (Set d v) = with_operands (codes "MOV") (register_name X86 d) (operand_text v)
+instruction_text names (Add d v) = with_operands (codes "ADD") (register_name X86 d) (operand_text v)
+instruction_text names (Cmp a v) = with_operands (codes "CMP") (register_name X86 a) (operand_text v)
+instruction_text names (Xchg x a) = with_operands (codes "XCHG") (memory_text names x) (register_name X86 a)
+instruction_text names (Xadd x a) = with_operands (codes "LOCK XADD") (memory_text names x) (register_name X86 a)
+instruction_text names Mfence = codes "MFENCE"
+instruction_text names (Je to) = codes "JE " ++ label to
+instruction_text names (Jne to) = codes "JNE " ++ label to
+instruction_text names (Jmp to) = codes "JMP " ++ label to
+
+-- ---- cells
+
+-- whether the instruction jumps to that of this number, and whether some instruction does
+abbrev pub jumps_to : ℕ → Instr → Bool
+jumps_to k i = option_map_or (λ to. to == k) (target_of i) false
+
+abbrev pub is_target : List Instr → ℕ → Bool
+is_target code k = list_any (jumps_to k) code
+
+-- a cell: the instruction, behind its label where some instruction jumps to it
+abbrev pub label_in_front : List Instr → ℕ → Bytes
+label_in_front code k = if is_target code k then label k ++ codes ": " else []
+
+abbrev pub cell_text : NameTable → List Instr → ℕ → Instr → Bytes
+cell_text names code k i = label_in_front code k ++ instruction_text names i
+
+-- the cell behind the last instruction: the label of the end, where some instruction jumps there
+abbrev pub end_cells : List Instr → ℕ → List Bytes
+end_cells code k = if is_target code k then (label k ++ codes ":") ∷ [] else []
+
+-- a thread's cells from its k-th instruction on
+abbrev pub cells_from : NameTable → List Instr → ℕ → List Instr → List Bytes
+cells_from names code k [] = end_cells code k
+cells_from names code k (i ∷ rest) = cell_text names code k i ∷ cells_from names code (suc k) rest
+
+abbrev pub cells_of : NameTable → List Instr → List Bytes
+cells_of names code = cells_from names code 0 code
+
+-- ---- lines
+
+-- cells in a row
+abbrev pub row_text : List Bytes → Bytes
+row_text cells = codes " " ++ (joined (codes " | ") cells ++ codes " ;\n")
+
+-- the row of this number: a cell for each thread, which is empty where the thread has no more
+abbrev pub row_of : List (List Bytes) → ℕ → List Bytes
+row_of threads k = map (λ cells. slice_index_or cells k []) threads
+
+-- how many cells the longest thread has
+abbrev pub longest : List (List Bytes) → ℕ
+longest threads = fold max 0 (map length threads)
+
+abbrev pub rows_text : List (List Bytes) → Bytes
+rows_text threads = flat_map (λ k. row_text (row_of threads k)) (range_with_len 0 (longest threads))
+
+abbrev pub header_text : ℕ → Bytes
+header_text threads = row_text (map thread_name (range_with_len 0 threads))
+
+-- the word that a register or a location begins with
+abbrev pub initial_word : TestHead → Seen → ℕ
+initial_word head (seen.Register t r) = slice_index (slice_index_or head.init_regs t []) r
+initial_word head (seen.Location x) = slice_index head.init_words x
+
+-- an entry of the initial block; a register has one only if it does not begin with 0
+abbrev pub entry_text : TestHead → Seen → Bytes
+entry_text head s = codes " " ++ (assignment (site_text X86 head.locs s) (initial_word head s) ++ codes ";\n")
+
+abbrev pub register_entry : TestHead → Seen → Bytes
+register_entry head s = if initial_word head s == 0 then [] else entry_text head s
+
+abbrev pub block_text : TestHead → Bytes
+block_text head =
+    codes "{\n"
+    ++ (flat_map (register_entry head) (all_registers head.threads)
+    ++ (flat_map (entry_text head) (locations (length head.locs))
+    ++ codes "}\n"))
+
+-- what is listed, if anything is
+abbrev pub element_text : NameTable → Seen → Bytes
+element_text names s = site_text X86 names s ++ codes ";"
+
+abbrev pub listed_text : NameTable → List Seen → Bytes
+listed_text names [] = []
+listed_text names (s ∷ ss) =
+    codes "locations [" ++ (joined (codes " ") (map (element_text names) (s ∷ ss)) ++ codes "]\n")
+
+abbrev pub canonical_text : ProgramTest → Bytes
+canonical_text test =
+    codes "X86 " ++ (test.head.name ++ (codes "\n"
+    ++ (block_text test.head
+    ++ (header_text test.head.threads
+    ++ (rows_text (map (cells_of test.head.locs) test.threads)
+    ++ (listed_text test.head.locs test.head.listed
+    ++ (condition_text test.head ++ codes "\n")))))))

@@ -1,0 +1,104 @@
+//! The initial block of a program's canonical text.
+ghost use Rattle.std.specs.Prelude.{◌≡◌, ◌<◌, ◌++◌, length, OnOk};
+ghost use Rattle.std.specs.List.{flat_map};
+ghost use Rattle.std.specs.String.{string_bytes};
+ghost use Rattle.lw_base.specs.Heads.{head_of};
+ghost use Rattle.lw_base.specs.WellFormed.{IsWellFormedHead};
+ghost use Rattle.lw_base.specs.declared.head.Seen.TheVariants as seen;
+ghost use Rattle.lw_text.specs.Frames.{registers_of, all_registers, locations};
+ghost use Rattle.lw_x86.specs.CanonicalTexts.{entry_text, register_entry, block_text};
+
+use lw_base::{Arch, Cpu, Head, Loc, Reg, reg_name};
+use std::alloc::{AllocError, Allocator};
+
+/// The block: an entry for each register that does not begin with 0, by thread and number, and for each location.
+pub(crate) fn write_block<A: Allocator, B: Allocator>(
+    out: &mut String<A>,
+    head: &Head<B>,
+) -> Result<(), AllocError>
+    requires { IsWellFormedHead (head_of head.now) }
+    ensures { OnOk result (string_bytes out.new ≡ string_bytes out.old ++ block_text (head_of head.now)) }
+{
+    out.push_str("{\n")?;
+    write_registers(out, head)?;
+    write_locations(out, head)?;
+    out.push_str("}\n")
+}
+
+fn write_registers<A: Allocator, B: Allocator>(
+    out: &mut String<A>,
+    head: &Head<B>,
+) -> Result<(), AllocError>
+    requires { IsWellFormedHead (head_of head.now) }
+    ensures { OnOk result (string_bytes out.new ≡ string_bytes out.old
+        ++ flat_map (register_entry (head_of head.now)) (all_registers head.now.threads)) }
+{
+    for cpu in &Cpu::all()[..head.threads] {
+        write_registers_of(out, head, *cpu)?;
+    }
+    Ok(())
+}
+
+/// The registers of a thread.
+fn write_registers_of<A: Allocator, B: Allocator>(
+    out: &mut String<A>,
+    head: &Head<B>,
+    cpu: Cpu,
+) -> Result<(), AllocError>
+    requires { cpu < length head.now.init_regs }
+    ensures { OnOk result (string_bytes out.new ≡ string_bytes out.old
+        ++ flat_map (register_entry (head_of head.now)) (registers_of cpu)) }
+{
+    for reg in Reg::all() {
+        write_register(out, head, cpu, reg)?;
+    }
+    Ok(())
+}
+
+/// A register's entry, if it does not begin with 0.
+fn write_register<A: Allocator, B: Allocator>(
+    out: &mut String<A>,
+    head: &Head<B>,
+    cpu: Cpu,
+    reg: Reg,
+) -> Result<(), AllocError>
+    requires { cpu < length head.now.init_regs }
+    ensures { OnOk result (string_bytes out.new ≡ string_bytes out.old
+        ++ register_entry (head_of head.now) (seen.Register cpu reg)) }
+{
+    let word = head.init_regs.as_slice()[cpu.index()][reg.index()];
+    if word == 0 {
+        return Ok(());
+    }
+    let name = reg_name(Arch::X86, reg);
+    writeln!(out, " {}:{}={};", cpu.index(), name, word)
+}
+
+fn write_locations<A: Allocator, B: Allocator>(
+    out: &mut String<A>,
+    head: &Head<B>,
+) -> Result<(), AllocError>
+    requires { IsWellFormedHead (head_of head.now) }
+    ensures { OnOk result (string_bytes out.new ≡ string_bytes out.old
+        ++ flat_map (entry_text (head_of head.now)) (locations (length head.now.locs))) }
+{
+    for loc in &Loc::all()[..head.locs.len()] {
+        write_location(out, head, *loc)?;
+    }
+    Ok(())
+}
+
+/// A location's entry.
+fn write_location<A: Allocator, B: Allocator>(
+    out: &mut String<A>,
+    head: &Head<B>,
+    loc: Loc,
+) -> Result<(), AllocError>
+    requires name { loc < length head.now.locs }
+    requires word { loc < length head.now.init_words }
+    ensures { OnOk result (string_bytes out.new ≡ string_bytes out.old
+        ++ entry_text (head_of head.now) (seen.Location loc)) }
+{
+    let word = head.init_words.as_slice()[loc.index()];
+    writeln!(out, " {}={};", head.locs.name(loc), word)
+}

@@ -1,0 +1,85 @@
+//! The canonical text of an x86 test.
+ghost use Rattle.std.specs.Prelude.{◌≡◌, ℕ, ◌≤◌, ◌++◌, length, IfOk, OnOk};
+ghost use Rattle.std.specs.List.{AllByRecursion};
+ghost use Rattle.std.specs.String.{string_bytes};
+ghost use Rattle.lw_base.specs.WellFormed.{IsSeen};
+ghost use Rattle.lw_cells.specs.Tests.{test_of};
+ghost use Rattle.lw_x86.specs.CanonicalTexts.{header_text, element_text, listed_text, canonical_text};
+
+use crate::block::write_block;
+use crate::program::Program;
+use crate::rows::write_rows;
+use lw_base::{Arch, Head, LocNames, MAX_THREADS, Seen, Text, reg_name, write_condition};
+use std::alloc::{AllocError, Allocator};
+
+/// The canonical text of a program.
+pub fn write_program<A: Allocator + Copy, B: Allocator>(
+    alloc: A,
+    program: &Program<B>,
+) -> Result<Text<A>, AllocError>
+    ensures { IfOk result (λ text. text ≡ canonical_text (test_of program.now.head program.now.threads)) }
+{
+    let head = &program.head;
+    let mut out = String::new(alloc);
+    writeln!(out, "X86 {}", head.name.as_str())?;
+    write_block(&mut out, head)?;
+    write_header(&mut out, head.threads)?;
+    write_rows(&mut out, program)?;
+    write_listed(&mut out, head)?;
+    let condition = write_condition(alloc, head)?;
+    writeln!(out, "{}", condition.as_str())?;
+    Ok(Text::from(out))
+}
+
+/// The line of the threads' names.
+fn write_header<A: Allocator>(out: &mut String<A>, threads: usize) -> Result<(), AllocError>
+    requires some { 1 ≤ threads }
+    requires few { threads ≤ MAX_THREADS }
+    ensures { OnOk result (string_bytes out.new ≡ string_bytes out.old ++ header_text threads) }
+{
+    out.push_str(" P0")?;
+    for thread in 1..threads {
+        write!(out, " | P{}", thread)?;
+    }
+    out.push_str(" ;\n")
+}
+
+/// The line of what is listed, if anything is.
+fn write_listed<A: Allocator, B: Allocator>(
+    out: &mut String<A>,
+    head: &Head<B>,
+) -> Result<(), AllocError>
+    requires { AllByRecursion (IsSeen head.now.threads (length head.now.locs)) head.now.listed }
+    ensures { OnOk result (string_bytes out.new
+        ≡ string_bytes out.old ++ listed_text head.now.locs head.now.listed) }
+{
+    let names = &head.locs;
+    let Some((first, others)) = head.listed.as_slice().split_first() else {
+        return Ok(());
+    };
+    out.push_str("locations [")?;
+    write_element(out, names, *first)?;
+    for site in others {
+        out.push_str(" ")?;
+        write_element(out, names, *site)?;
+    }
+    out.push_str("]\n")
+}
+
+/// An element of the list, with a `;` behind it.
+fn write_element<A: Allocator, B: Allocator>(
+    out: &mut String<A>,
+    names: &LocNames<B>,
+    site: Seen,
+) -> Result<(), AllocError>
+    requires { (threads : ℕ) × IsSeen threads (length names.now) site }
+    ensures { OnOk result (string_bytes out.new ≡ string_bytes out.old ++ element_text names.now site) }
+{
+    match site {
+        Seen::Register(cpu, reg) => {
+            let name = reg_name(Arch::X86, reg);
+            write!(out, "{}:{};", cpu.index(), name)
+        }
+        Seen::Location(loc) => write!(out, "{};", names.name(loc)),
+    }
+}

@@ -1,0 +1,44 @@
+//! Reads an x86 test from its frame.
+ghost use Rattle.std.specs.Prelude.{◌≡◌, ◌≤◌, IfOk, IfErr};
+ghost use Rattle.lw_base.specs.Refusals.{NotFound};
+ghost use Rattle.lw_base.specs.declared.head.Arch.TheVariants as arch;
+ghost use Rattle.lw_base.specs.declared.fault.CellCause.TheVariants.{Memory};
+ghost use Rattle.lw_text.specs.Frames.{TestFrame};
+ghost use Rattle.lw_text.specs.Views.{frame_of};
+ghost use Rattle.lw_cells.specs.Faults.{Tells};
+ghost use Rattle.lw_x86.specs.Programs.{ProgramTest, HasProgram, x86};
+ghost use Rattle.lw_x86.specs.Views.{program_of};
+
+use crate::program::Program;
+use lw_base::CellFault;
+use lw_cells::read_test;
+use lw_text::Frame;
+use std::alloc::Allocator;
+
+/// Reads the x86 test of a frame whose language is x86.
+///
+/// The threads are read one after another, each from top to bottom, and the first fault is told.
+pub fn read_program<A: Allocator + Copy>(
+    alloc: A,
+    frame: &Frame<'_, A>,
+) -> Result<Program<A>, CellFault>
+    requires { frame.now.head.arch ≡ arch.X86 }
+    // What is answered is the frame's test, and where it is refused it has none, unless memory ran out.
+    ensures found { IfOk result (λ p. HasProgram (frame_of frame.now) (program_of p)) }
+    ensures fault { IfErr result (λ f. NotFound Memory f.cause (HasProgram (frame_of frame.now))) }
+    ensures place { IfErr result (λ f. f.at ≤ frame.now.len) }
+    ensures memory { IfErr result (λ f. f.cause ≡ Memory → f.at ≡ 0) }
+    // What the cause says of the place is so.
+    ensures cause { IfErr result (Tells x86 frame.now.head.locs frame.now.cells) }
+{
+    let parts = read_test(alloc, frame)?;
+    Ok(Program {
+        head: parts.head,
+        threads: parts.threads,
+    })
+}
+
+/// A frame has at most one x86 test.
+pub fn a_frame_has_one_program()
+    ensures { (frame : TestFrame) (p q : ProgramTest) → HasProgram frame p → HasProgram frame q → p ≡ q }
+{}

@@ -1,0 +1,146 @@
+//! The rows of a program's canonical text.
+ghost use Rattle.std.specs.Prelude.{◌≡◌, ◌+◌, ◌++◌, [], length, map, codes, slice_index_or, All, OnOk};
+ghost use Rattle.std.specs.String.{string_bytes};
+ghost use Rattle.lw_cells.specs.Tests.{IsThread};
+ghost use Rattle.lw_x86.specs.CanonicalTexts as printed;
+ghost use Rattle.lw_x86.specs.CanonicalTexts.{label_in_front, end_cells, cells_of, joined, row_text, row_of, longest, rows_text};
+ghost use Rattle.lw_x86.specs.Programs.{x86};
+
+use crate::instr::Instr;
+use crate::instruction_text::write_instruction;
+use crate::program::Program;
+use lw_base::{LocNames, Sequence};
+use std::alloc::{AllocError, Allocator};
+
+/// The rows of a program: as many as its longest thread has cells.
+pub(crate) fn write_rows<A: Allocator, B: Allocator>(
+    out: &mut String<A>,
+    program: &Program<B>,
+) -> Result<(), AllocError>
+    ensures { OnOk result (string_bytes out.new
+        ≡ string_bytes out.old ++ rows_text (map (cells_of program.now.head.locs) program.now.threads)) }
+{
+    for row in 0..height(program) {
+        write_row(out, program, row)?;
+    }
+    Ok(())
+}
+
+/// The number of rows.
+fn height<B: Allocator>(program: &Program<B>) -> usize
+    ensures { result ≡ longest (map (cells_of program.now.head.locs) program.now.threads) }
+{
+    let mut height = 0;
+    for code in program.threads.as_slice() {
+        height = height.max(count_cells(code.as_slice()));
+    }
+    height
+}
+
+/// The number of a thread's cells.
+fn count_cells(code: &[Instr]) -> usize
+    ensures { result ≡ length code.now + length (end_cells code.now (length code.now)) }
+{
+    if is_target(code, code.len()) {
+        return code.len() + 1;
+    }
+    code.len()
+}
+
+/// The row of this number.
+fn write_row<A: Allocator, B: Allocator>(
+    out: &mut String<A>,
+    program: &Program<B>,
+    row: usize,
+) -> Result<(), AllocError>
+    ensures { OnOk result (string_bytes out.new ≡ string_bytes out.old
+        ++ row_text (row_of (map (cells_of program.now.head.locs) program.now.threads) row)) }
+{
+    out.push_str(" ")?;
+    write_cells(out, &program.head.locs, program.threads.as_slice(), row)?;
+    out.push_str(" ;\n")
+}
+
+/// The cells of some threads in the row of this number.
+fn write_cells<A: Allocator, B: Allocator>(
+    out: &mut String<A>,
+    names: &LocNames<B>,
+    threads: &[Sequence<Instr, B>],
+    row: usize,
+) -> Result<(), AllocError>
+    requires { All (IsThread x86 (length names.now)) threads.now }
+    ensures { OnOk result (string_bytes out.new ≡ string_bytes out.old
+        ++ joined (codes " | ") (row_of (map (cells_of names.now) threads.now) row)) }
+{
+    let Some((first, others)) = threads.split_first() else {
+        return Ok(());
+    };
+    write_cell(out, names, first.as_slice(), row)?;
+    for code in others {
+        out.push_str(" | ")?;
+        write_cell(out, names, code.as_slice(), row)?;
+    }
+    Ok(())
+}
+
+/// The cell of a thread in the row of this number, which is empty where the thread has no more.
+fn write_cell<A: Allocator, B: Allocator>(
+    out: &mut String<A>,
+    names: &LocNames<B>,
+    code: &[Instr],
+    row: usize,
+) -> Result<(), AllocError>
+    requires { IsThread x86 (length names.now) code.now }
+    ensures { OnOk result (string_bytes out.new
+        ≡ string_bytes out.old ++ slice_index_or (cells_of names.now code.now) row []) }
+{
+    match code.get(row) {
+        Some(instr) => {
+            write_label(out, code, row)?;
+            write_instruction(out, names, *instr)
+        }
+        None if row == code.len() => write_end(out, code),
+        None => Ok(()),
+    }
+}
+
+/// The label of an instruction, with a `:` and a space behind it, where some instruction jumps to it.
+fn write_label<A: Allocator>(
+    out: &mut String<A>,
+    code: &[Instr],
+    number: usize,
+) -> Result<(), AllocError>
+    ensures { OnOk result (string_bytes out.new ≡ string_bytes out.old ++ label_in_front code.now number) }
+{
+    if is_target(code, number) {
+        return write!(out, "L{}: ", number);
+    }
+    Ok(())
+}
+
+/// The cell behind a thread's instructions: the label of the end, where some instruction jumps there.
+fn write_end<A: Allocator>(out: &mut String<A>, code: &[Instr]) -> Result<(), AllocError>
+    ensures { OnOk result (string_bytes out.new
+        ≡ string_bytes out.old ++ slice_index_or (end_cells code.now (length code.now)) 0 []) }
+{
+    if is_target(code, code.len()) {
+        return write!(out, "L{}:", code.len());
+    }
+    Ok(())
+}
+
+/// Whether some instruction jumps to that of this number.
+fn is_target(code: &[Instr], number: usize) -> bool
+    ensures { result ≡ printed.is_target code.now number }
+{
+    code.iter().any(|instr| jumps_to(instr, number))
+}
+
+fn jumps_to(instr: &Instr, number: usize) -> bool
+    ensures { result ≡ printed.jumps_to number instr.now }
+{
+    match instr {
+        Instr::Je { to } | Instr::Jne { to } | Instr::Jmp { to } => *to == number,
+        _ => false,
+    }
+}
