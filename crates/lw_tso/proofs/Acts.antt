@@ -1,0 +1,120 @@
+-- What an act and an event leave: a refused one changes nothing, and over a memory that keeps the laws each keeps the
+-- sizes.
+use Rattle.std.proofs.Common.{◌≡◌, ℕ, Bool, true, false, List, length, Ok, Err, Option, Some, None, refl, sym, ap, ◌∙◌, subst, slice_get, slice_set}
+use Rattle.std.proofs.lemmas.List.{length-set, set-get_or}
+use Rattle.std.proofs.lemmas.Option.{get_or_from_slice_get}
+use Rattle.lw_base.specs.declared.event.Event.{Event}
+use Rattle.std.specs.Result.{OnErr}
+use Rattle.lw_base.specs.declared.stop.Stop.{Stop}
+use Rattle.lw_memory.specs.declared.system.Request.{Request}
+use Rattle.lw_memory.specs.declared.system.Request.TheVariants.{Load, Store, Swap, FetchAdd, Evict}
+use Rattle.lw_memory.specs.Content.{content_after}
+use Rattle.lw_memory.specs.Memory.{Memory, Lawful, Served, is_held}
+use Rattle.lw_x86.specs.declared.instr.Instr.{Instr}
+use Rattle.lw_tso.specs.Processors.{Processor}
+use Rattle.lw_tso.specs.Acts.{Act, Refused, Goes, Loads, Stores, Swaps, Adds, Evicts, cpu_of, event_act}
+use Rattle.lw_tso.specs.Machines.{MachineState, Answer, ActDone, EvictionDone, DoneBy, EventDone}
+use Rattle.lw_tso.specs.Runs.{Running}
+
+length-content_after : (words : List ℕ) (r : Request) → length (content_after words r) ≡ length words
+length-content_after words (Load t x) = refl
+length-content_after words (Store t x w) = length-set words x _
+length-content_after words (Swap t x w) = length-set words x _
+length-content_after words (FetchAdd t x w) = length-set words x _
+length-content_after words (Evict t x) = refl
+
+module _ {M : Type 0} (mem : Memory M) where
+  -- as many processors and locations, and sound
+  pub record IsKept (m n : M) : Type 0 where
+    pub cpus : mem.cpus n ≡ mem.cpus m
+    pub locations : length (mem.content n) ≡ length (mem.content m)
+    pub sound : mem.sound n
+
+  unchanged : (m n : M) → mem.sound m → n ≡ m → IsKept m n
+  unchanged m n sound same =
+      record {
+        cpus = ap mem.cpus same;
+        locations = ap (λ (l : M). length (mem.content l)) same;
+        sound = subst mem.sound (sym same) sound;
+      }
+
+  served : Lawful mem → (m n : M) (r : Request) (a : Option ℕ) → mem.sound m → mem.serves m r a n → IsKept m n
+  served laws m n r a sound serves =
+      let s : Served mem m r a n = laws.served m r a n sound serves in
+      record { cpus = s.cpus; locations = ap length s.content ∙ length-content_after (mem.content m) r; sound = s.sound }
+
+  evicted : Lawful mem → (held : Bool) (t x : ℕ) (p q : Processor) (m n : M) (answer : Answer) → mem.sound m → EvictionDone mem held t x p m answer q n → IsKept m n
+  evicted laws false t x p q m n answer sound done = unchanged m n sound done.2
+  evicted laws true t x p q m n answer sound done = served laws m n (Evict t x) None sound done.2
+
+  -- an act keeps the memory's size
+  pub act_kept : Lawful mem → (t : ℕ) (act : Act) (p q : Processor) (m n : M) (answer : Answer) → mem.sound m → ActDone mem t act p m answer q n → IsKept m n
+  act_kept laws t (Refused stop) p q m n answer sound done = unchanged m n sound done.2
+  act_kept laws t (Goes next) p q m n answer sound done = unchanged m n sound done.2
+  act_kept laws t (Loads x next) p q m n answer sound done = served laws m n (Load t x) (Some done.0) sound done.3
+  act_kept laws t (Stores x w next) p q m n answer sound done = served laws m n (Store t x w) None sound done.2
+  act_kept laws t (Swaps x v next) p q m n answer sound done = served laws m n (Swap t x v) (Some done.0) sound done.3
+  act_kept laws t (Adds x v next) p q m n answer sound done = served laws m n (FetchAdd t x v) (Some done.0) sound done.3
+  act_kept laws t (Evicts x) p q m n answer sound done = evicted laws (is_held (mem.state m t x)) t x p q m n answer sound done
+
+  eviction_refused : (held : Bool) (t x : ℕ) (p q : Processor) (m n : M) (stop : Stop) → EvictionDone mem held t x p m (Err stop) q n → (q ≡ p) × (n ≡ m)
+  eviction_refused false t x p q m n stop done = (done.1, done.2)
+  eviction_refused true t x p q m n stop done = absurd (let e : ◌≡◌ {A = Answer} (Err stop) (Ok tt) = done.0 in cc)
+
+  -- a refused act changes nothing
+  pub act_refused : (t : ℕ) (act : Act) (p q : Processor) (m n : M) (stop : Stop) → ActDone mem t act p m (Err stop) q n → (q ≡ p) × (n ≡ m)
+  act_refused t (Refused stop') p q m n stop done = (done.1, done.2)
+  act_refused t (Goes next) p q m n stop done = absurd (let e : ◌≡◌ {A = Answer} (Err stop) (Ok tt) = done.0 in cc)
+  act_refused t (Loads x next) p q m n stop done = absurd (let e : ◌≡◌ {A = Answer} (Err stop) (Ok tt) = done.1 in cc)
+  act_refused t (Stores x w next) p q m n stop done = absurd (let e : ◌≡◌ {A = Answer} (Err stop) (Ok tt) = done.0 in cc)
+  act_refused t (Swaps x v next) p q m n stop done = absurd (let e : ◌≡◌ {A = Answer} (Err stop) (Ok tt) = done.1 in cc)
+  act_refused t (Adds x v next) p q m n stop done = absurd (let e : ◌≡◌ {A = Answer} (Err stop) (Ok tt) = done.1 in cc)
+  act_refused t (Evicts x) p q m n stop done = eviction_refused (is_held (mem.state m t x)) t x p q m n stop done
+
+  -- a refused event changes nothing
+  pub event_refused : (program : List (List Instr)) (e : Event) (s after : MachineState M) (stop : Stop) → EventDone mem program e s (Err stop) after → after ≡ s
+  event_refused program e s after stop = go (slice_get s.processors (cpu_of e)) refl
+    where
+      go : (o : Option Processor) → slice_get s.processors (cpu_of e) ≡ o → DoneBy mem o program e s (Err stop) after → after ≡ s
+      go None at done = done.1
+      go (Some p) at done =
+          let same = act_refused (cpu_of e) (event_act program (length (mem.content s.memory)) e p) p done.0 s.memory done.1 stop done.2 in
+          let own : slice_set s.processors (cpu_of e) p ≡ s.processors =
+          ap (slice_set s.processors (cpu_of e)) (sym (get_or_from_slice_get s.processors (cpu_of e) p p at)) ∙ set-get_or s.processors (cpu_of e) p in
+          let processors : slice_set s.processors (cpu_of e) done.0 ≡ s.processors = ap (slice_set s.processors (cpu_of e)) same.0 ∙ own in
+          let left : after ≡ s = done.3 ∙ rw (processors, same.1) refl in
+          left
+
+  -- as many processors and locations, over a sound memory
+  pub record IsSameSize (s end : MachineState M) : Type 0 where
+    pub processors : length end.processors ≡ length s.processors
+    pub locations : length (mem.content end.memory) ≡ length (mem.content s.memory)
+    pub sound : mem.sound end.memory
+
+  pub event_kept : Lawful mem → (program : List (List Instr)) (e : Event) (s after : MachineState M) (answer : Answer) → mem.sound s.memory → EventDone mem program e s answer after → IsSameSize s after
+  event_kept laws program e s after answer sound = go (slice_get s.processors (cpu_of e))
+    where
+      go : (o : Option Processor) → DoneBy mem o program e s answer after → IsSameSize s after
+      go None done = subst (IsSameSize s) (sym done.1) (record { processors = refl; locations = refl; sound = sound })
+      go (Some p) done =
+          let kept = act_kept laws (cpu_of e) (event_act program (length (mem.content s.memory)) e p) p done.0 s.memory done.1 answer sound done.2 in
+          subst (IsSameSize s) (sym done.3) (record { processors = length-set s.processors (cpu_of e) done.0; locations = kept.locations; sound = kept.sound })
+
+  -- what an event leaves of a running machine
+  pub record IsLeft (before : Running M) (answer : Answer) (after : Running M) : Type 0 where
+    pub err : OnErr answer (after ≡ before)
+    pub processors : length after.state.processors ≡ length before.state.processors
+    pub words : length (mem.content after.state.memory) ≡ length (mem.content before.state.memory)
+
+  pub left : Lawful mem → (e : Event) (before after : Running M) (answer : Answer) → mem.sound before.state.memory → after.program ≡ before.program
+      → EventDone mem before.program e before.state answer after.state → IsLeft before answer after
+  left laws e before after answer sound program done =
+      let kept = event_kept laws before.program e before.state after.state answer sound done in
+      record { err = go answer done; processors = kept.processors; words = kept.locations }
+    where
+      go : (a : Answer) → EventDone mem before.program e before.state a after.state → OnErr a (after ≡ before)
+      go (Ok u) done = tt
+      go (Err stop) done =
+          let same = event_refused before.program e before.state after.state stop done in
+          let running : (let r : Running M = record { program = after.program; state = after.state } in r) ≡ record { program = before.program; state = before.state } = rw (program, same) refl in
+          running

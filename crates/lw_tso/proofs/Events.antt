@@ -1,0 +1,197 @@
+-- Events of a machine in memory, seen as events of the machine.
+use Rattle.std.proofs.Common.{◌≡◌, ℕ, [], ◌∷◌, get_or, ◌+◌, ◌<◌, ◌≤◌, ◌^◌, true, false, List, length, map, Ok, Err, Some, None, refl, sym, ap, ◌∙◌, subst, arith, slice_get, slice_set, ◌⊎◌, inl, inr}
+use Rattle.std.specs.Prelude.{All, ◌&&◌}
+use Rattle.std.specs.List.{list_all, zip}
+use Rattle.std.specs.Option.{ForSome, option_map}
+use Rattle.std.proofs.lemmas.Simd.{map-map}
+use Rattle.std.proofs.lemmas.List.{map-set, length-map, length-set, set-get_or, get_or_past}
+use Rattle.std.proofs.lemmas.Option.{slice_get-map, slice_get_within, slice_get_past, get_or_from_slice_get, slice_get_read}
+use Rattle.std.proofs.lemmas.Bool.{cases_eq, cases_lt, lt-ltb, le-ltb}
+use Rattle.circular_buffer.proofs.Places.{slice_get-set_same, slice_get-set_other}
+use Rattle.lw_base.specs.Outcomes.{Final}
+use Rattle.lw_base.specs.declared.event.Event.{Event}
+use Rattle.lw_base.specs.declared.event.Event.TheVariants.{Step, Evict}
+use Rattle.lw_base.specs.declared.stop.Stop.TheVariants.{NoCpu, NoLocation, Ended, NotHeld}
+use Rattle.lw_memory.specs.declared.system.Request.TheVariants as to
+use Rattle.lw_memory.specs.Memory.{Memory, Lawful, is_held}
+use Rattle.lw_cells.specs.Tests.{IsThread, IsStatement}
+use Rattle.lw_x86.specs.declared.instr.Instr.{Instr}
+use Rattle.lw_x86.specs.Programs.{x86, location_of}
+use Rattle.lw_tso.specs.declared.processor.Processor.{Processor as ProcessorInMemory}
+use Rattle.lw_tso.specs.Processors.{Processor}
+use Rattle.lw_tso.specs.Acts.{code_of, cpu_of, step_act, event_act}
+use Rattle.lw_tso.specs.Machines.{MachineState, Answer, buffer_of, ActDone, DoneBy, EventDone}
+use Rattle.lw_tso.specs.Runs.{Running, is_done, is_final, machine_outcome}
+use Rattle.lw_tso.specs.Rooms.{is_store, HasRoom, IsMachine}
+use Rattle.lw_tso.specs.Views.{processor_of}
+use Rattle.lw_tso.proofs.Acts.{act_kept}
+use Rattle.lw_tso.proofs.Rooms.{counted, stores_here, event_room}
+
+-- what is read at a place
+pub read : {X : Type 0} (xs ys : List X) (i t : ℕ) (x : X) → ys ≡ xs → i ≡ t → t < length xs → x ≡ get_or ys i x → slice_get xs t ≡ Some x
+read xs ys i t x same place within is = slice_get_read xs (length xs) t x refl within (rw (← same, ← place) is)
+
+-- what holds at each place of a list, where one item is set
+rooms_after : {X : Type 0} (P : ℕ → X → Type 0) (xs : List X) (i : ℕ) (x : X) → i < length xs
+    → ((u : ℕ) (y : X) → slice_get xs u ≡ Some y → P u y) → P i x
+    → (u : ℕ) (y : X) → slice_get (slice_set xs i x) u ≡ Some y → P u y
+rooms_after P xs i x within before here u y at = go (cases_eq u i)
+  where
+    go : (u ≡ i) ⊎ (u ≡ i → ⊥) → P u y
+    go (inl e) =
+        let there : slice_get (slice_set xs i x) u ≡ Some x = ap (slice_get (slice_set xs i x)) e ∙ slice_get-set_same xs i x within in
+        let same : x ≡ y = cc in
+        subst (λ (k : ℕ). P k y) (sym e) (subst (P i) same here)
+    go (inr other) = before u y (sym (slice_get-set_other xs i u x other) ∙ at)
+
+module _ {M : Type 0} (mem : Memory M) (program : List (List Instr)) where
+  -- a step of a processor that has a next instruction
+  pub step_done : (t : ℕ) (p q : Processor) (i : Instr) (m n : M) (answer : Answer) → slice_get (code_of program t) p.position ≡ Some i
+      → ActDone mem t (step_act (Some i) p) p m answer q n → ActDone mem t (event_act program (length (mem.content m)) (Step t) p) p m answer q n
+  step_done t p q i m n answer next done = subst (λ o. ActDone mem t (step_act o p) p m answer q n) (sym next) done
+
+  -- a step of a processor at the end of its code
+  pub at_end : (t : ℕ) (p : Processor) (m : M) → slice_get (code_of program t) p.position ≡ None → ActDone mem t (event_act program (length (mem.content m)) (Step t) p) p m (Err Ended) p m
+  at_end t p m next = subst (λ o. ActDone mem t (step_act o p) p m (Err Ended) p m) (sym next) (refl, refl, refl)
+
+  -- an eviction of a location that is not there
+  pub no_location : (t x : ℕ) (p : Processor) (m : M) → length (mem.content m) ≤ x
+      → ActDone mem t (event_act program (length (mem.content m)) (Evict t x) p) p m (Err NoLocation) p m
+  no_location t x p m past = rw (le-ltb x (length (mem.content m)) past) (refl, refl, refl)
+
+  -- an eviction of a line that is held
+  pub evicted : (t x : ℕ) (p : Processor) (m n : M) → x < length (mem.content m) → is_held (mem.state m t x) ≡ true → mem.serves m (to.Evict t x) None n
+      → ActDone mem t (event_act program (length (mem.content m)) (Evict t x) p) p m (Ok tt) p n
+  evicted t x p m n there held serves = rw (lt-ltb x (length (mem.content m)) there, held) (refl, refl, serves)
+
+  -- an eviction of a line that is not held
+  pub not_held : (t x : ℕ) (p : Processor) (m n : M) → x < length (mem.content m) → is_held (mem.state m t x) ≡ false → n ≡ m
+      → ActDone mem t (event_act program (length (mem.content m)) (Evict t x) p) p m (Err NotHeld) p n
+  not_held t x p m n there held same = rw (lt-ltb x (length (mem.content m)) there, held) (refl, refl, same)
+
+module _ {M : Type 0} where
+  -- where a buffer has an entry, its processor is there
+  pub buffer_there : (s : MachineState M) (t place : ℕ) → place < length (buffer_of s t) → t < length s.processors
+  buffer_there s t place there = go (cases_lt t (length s.processors))
+    where
+      go : (t < length s.processors) ⊎ (length s.processors ≤ t) → t < length s.processors
+      go (inl within) = within
+      go (inr past) =
+          let none : buffer_of s t ≡ [] = get_or_past (map (λ p. p.buffer) s.processors) t [] (omega (arith, past, length-map s.processors (λ (p : Processor). p.buffer))) in
+          absurd (omega (arith, there, ap length none))
+
+module _ {M A : Type 0} where
+  abbrev pub state_of : List (ProcessorInMemory A) → M → MachineState M
+  state_of processors m = record { processors = map processor_of processors; memory = m }
+
+  -- what is shown of a processor of a running machine
+  pub shown : {Y : Type 0} (f : Processor → Y) (run : Running M) (program : List (List Instr)) (processors : List (ProcessorInMemory A)) (m : M) (i t : ℕ) (p : ProcessorInMemory A)
+      → record { program = program; state = state_of processors m } ≡ run → i ≡ t → t < length run.state.processors → p ≡ get_or processors i p
+      → slice_get (map f run.state.processors) t ≡ Some (f (processor_of p))
+  shown {Y} f run program processors m i t p same place within is =
+      let many = ap (λ (r : Running M). length r.state.processors) same in
+      let at = read processors processors i t p refl place (omega (arith, within, many, length-map processors processor_of)) is in
+      let got = slice_get-map f (map processor_of processors) t ∙ ap (option_map f) (slice_get-map processor_of processors t ∙ ap (option_map processor_of) at) in
+      subst (λ (r : Running M). slice_get (map f r.state.processors) t ≡ Some (f (processor_of p))) same got
+
+  -- the outcome of a running machine, of which all registers and the content are listed
+  pub outcome_is : (mem : Memory M) (run : Running M) (program : List (List Instr)) (processors : List (ProcessorInMemory A)) (m : M) (regs : List (List ℕ)) (words : List ℕ)
+      → record { program = program; state = state_of processors m } ≡ run → regs ≡ map (λ p. p.regs) processors → words ≡ mem.content m
+      → record { regs = regs; words = words } ≡ machine_outcome mem run.state
+  outcome_is mem run program processors m regs words same listed content =
+      let seen : map (λ (p : ProcessorInMemory A). p.regs) processors ≡ map (λ (p : Processor). p.regs) (map processor_of processors) = sym (map-map (λ (p : Processor). p.regs) processor_of processors) in
+      let outcome : (let o : Final = record { regs = regs; words = words } in o) ≡ machine_outcome mem (state_of processors m) = rw (listed, content, seen) refl in
+      outcome ∙ ap (λ (r : Running M). machine_outcome mem r.state) same
+
+  -- whether all are done, by the processors in memory
+  pub all_done : (codes : List (List Instr)) (processors : List (ProcessorInMemory A)) (m : M)
+      → list_all (λ p. is_done p.0 (processor_of p.1)) (zip codes processors) ≡ is_final codes (state_of processors m)
+  all_done [] processors m = refl
+  all_done (code ∷ codes) [] m = refl
+  all_done (code ∷ codes) (p ∷ processors) m = ap (λ b. is_done code (processor_of p) && b) (all_done codes processors m)
+
+module _ {M A : Type 0} (mem : Memory M) (program : List (List Instr)) where
+  -- an act that a processor in memory has done is the event
+  pub done_by : (e : Event) (run : Running M) (p q : ProcessorInMemory A) (processors : List (ProcessorInMemory A)) (m n : M) (answer : Answer)
+      → record { program = program; state = state_of processors m } ≡ run → slice_get processors (cpu_of e) ≡ Some p
+      → ActDone mem (cpu_of e) (event_act program (length (mem.content m)) e (processor_of p)) (processor_of p) m answer (processor_of q) n
+      → EventDone mem run.program e run.state answer (state_of (slice_set processors (cpu_of e) q) n)
+  done_by e run p q processors m n answer same at done =
+      let there = slice_get-map processor_of processors (cpu_of e) ∙ ap (option_map processor_of) at in
+      let end : MachineState M = state_of (slice_set processors (cpu_of e) q) n in
+      let set = map-set processor_of processors (cpu_of e) q in
+      subst (λ (r : Running M). EventDone mem r.program e r.state answer end) same
+      (subst (λ o. DoneBy mem o program e (state_of processors m) answer end) (sym there)
+      (processor_of q, n, done, ap (λ (c : List Processor). let s : MachineState M = record { processors = c; memory = n } in s) set))
+
+  -- the same where the processor stays as it is
+  pub done_in_place : (e : Event) (run : Running M) (p : ProcessorInMemory A) (processors : List (ProcessorInMemory A)) (m n : M) (answer : Answer) (end : MachineState M)
+      → record { program = program; state = state_of processors m } ≡ run → state_of processors n ≡ end → slice_get processors (cpu_of e) ≡ Some p
+      → ActDone mem (cpu_of e) (event_act program (length (mem.content m)) e (processor_of p)) (processor_of p) m answer (processor_of p) n
+      → EventDone mem run.program e run.state answer end
+  done_in_place e run p processors m n answer end same is at done =
+      let own : slice_set processors (cpu_of e) p ≡ processors =
+      ap (slice_set processors (cpu_of e)) (sym (get_or_from_slice_get processors (cpu_of e) p p at)) ∙ set-get_or processors (cpu_of e) p in
+      let left : state_of (slice_set processors (cpu_of e) p) n ≡ end = ap (λ (ps : List (ProcessorInMemory A)). state_of ps n) own ∙ is in
+      subst (EventDone mem run.program e run.state answer) left (done_by e run p p processors m n answer same at done)
+
+  -- there is no such processor
+  pub no_processor : (e : Event) (processors : List (ProcessorInMemory A)) (m : M) → length processors ≤ cpu_of e
+      → EventDone mem program e (state_of processors m) (Err NoCpu) (state_of processors m)
+  no_processor e processors m past =
+      let absent = slice_get-map processor_of processors (cpu_of e) ∙ ap (option_map processor_of) (slice_get_past processors (cpu_of e) past) in
+      subst (λ o. DoneBy mem o program e (state_of processors m) (Err NoCpu) (state_of processors m)) (sym absent) (refl, refl)
+
+  -- what an instruction wants of its processor and of the memory
+  pub record CanCarryOut (locs t : ℕ) (p : ProcessorInMemory A) (m : M) (i : Instr) : Type 0 where
+    pub cpu : t < mem.cpus m
+    pub loc : ForSome (location_of i) (λ x. x < length (mem.content m))
+    pub position : p.position + 1 < 2 ^ 64
+    pub room : is_store i ≡ true → length p.buffer.entries < p.buffer.room
+
+  module _ (locs : ℕ) (threads : All (IsThread x86 locs) program) where
+    thread_at : (processors : List (ProcessorInMemory A)) (m : M) (t : ℕ) (p : ProcessorInMemory A)
+        → IsMachine mem program locs m processors → slice_get processors t ≡ Some p → IsThread x86 locs (code_of program t)
+    thread_at processors m t p ok at = threads t _ (omega (arith, slice_get_within processors t p at, ok.as_many))
+
+    pub can_carry_out : (processors : List (ProcessorInMemory A)) (m : M) (t : ℕ) (p : ProcessorInMemory A) (i : Instr)
+        → IsMachine mem program locs m processors → slice_get processors t ≡ Some p
+        → slice_get (code_of program t) p.position ≡ Some i → CanCarryOut locs t p m i
+    can_carry_out processors m t p i ok at next =
+        let thread = thread_at processors m t p ok at in
+        let within = slice_get_within (code_of program t) p.position i next in
+        let got = get_or_from_slice_get (code_of program t) p.position i i next in
+        let has = ok.rooms t p at in
+        let here = stores_here (code_of program t) p.position i next in
+        record {
+          cpu = omega (arith, slice_get_within processors t p at, ok.cpus);
+          loc = rw ok.locations ((subst (IsStatement x86 locs) got (thread.there p.position i within)).0);
+          position = omega (arith, within, thread.short);
+          room = λ store. omega (arith, has.fits, here, counted i store);
+        }
+
+    -- the entries of a buffer are for locations of the memory
+    pub entries_there : (processors : List (ProcessorInMemory A)) (m : M) (t : ℕ) (p : ProcessorInMemory A)
+        → IsMachine mem program locs m processors → slice_get processors t ≡ Some p
+        → All (λ (entry : ℕ × ℕ). entry.0 < length (mem.content m)) p.buffer.entries
+    entries_there processors m t p ok at = rw ok.locations ((ok.rooms t p at).there)
+
+    -- the parts of a machine after an event
+    pub machine_after : Lawful mem → (e : Event) (p q : ProcessorInMemory A) (processors : List (ProcessorInMemory A)) (m n : M) (answer : Answer)
+        → IsMachine mem program locs m processors → slice_get processors (cpu_of e) ≡ Some p
+        → ActDone mem (cpu_of e) (event_act program (length (mem.content m)) e (processor_of p)) (processor_of p) m answer (processor_of q) n
+        → q.buffer.room ≡ p.buffer.room
+        → IsMachine mem program locs n (slice_set processors (cpu_of e) q)
+    machine_after laws e p q processors m n answer ok at done same =
+        let kept = act_kept mem laws (cpu_of e) (event_act program (length (mem.content m)) e (processor_of p)) (processor_of p) (processor_of q) m n answer ok.sound done in
+        let longer = length-set processors (cpu_of e) q in
+        let thread = thread_at processors m (cpu_of e) p ok at in
+        let room : HasRoom locs (code_of program (cpu_of e)) (processor_of q) q.buffer.room =
+        subst (HasRoom locs (code_of program (cpu_of e)) (processor_of q)) (sym same) (event_room mem program locs p.buffer.room e (processor_of p) (processor_of q) m n answer thread done (ok.rooms (cpu_of e) p at)) in
+        record {
+          sound = kept.sound;
+          locations = kept.locations ∙ ok.locations;
+          cpus = omega (arith, longer, kept.cpus, ok.cpus);
+          as_many = longer ∙ ok.as_many;
+          rooms = rooms_after (λ u r. HasRoom locs (code_of program u) (processor_of r) r.buffer.room) processors (cpu_of e) q (slice_get_within processors (cpu_of e) p at) ok.rooms room;
+        }

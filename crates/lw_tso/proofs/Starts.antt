@@ -1,0 +1,71 @@
+-- Processors at the start of a program, and a machine of them.
+use Rattle.std.proofs.Common.{◌≡◌, ℕ, suc, ◌+◌, ◌<◌, ◌≤◌, List, [], ◌∷◌, ◌++◌, length, map, take, get_or, Option, Some, None, sym, ap, ◌∙◌, subst, arith, slice_get, inl, inr, ◌⊎◌}
+use Rattle.std.specs.Option.{option_map}
+use Rattle.std.proofs.Math.Seq.{take-suc}
+use Rattle.std.proofs.lemmas.Bool.{cases_eq}
+use Rattle.std.proofs.lemmas.List.{map-append, length-map, length-take-le}
+use Rattle.std.proofs.lemmas.List.Elements.{All-nil}
+use Rattle.std.proofs.lemmas.Option.{slice_get-map, same_Some}
+use Rattle.circular_buffer.proofs.Places.{slice_get-push, slice_get-last}
+use Rattle.lw_memory.specs.Memory.{Memory}
+use Rattle.lw_x86.specs.declared.instr.Instr.{Instr}
+use Rattle.lw_tso.specs.declared.processor.Processor.{Processor as ProcessorInMemory}
+use Rattle.lw_tso.specs.Processors.{starting}
+use Rattle.lw_tso.specs.Acts.{code_of}
+use Rattle.lw_tso.specs.Rooms.{stores_from, HasRoom, IsMachine}
+use Rattle.lw_tso.specs.Views.{processor_of}
+
+-- what holds at each place of a list, with one item more
+more_places : {X : Type 0} (P : ℕ → X → Type 0) (xs ys : List X) (x : X) → ys ≡ xs ++ x ∷ []
+    → ((t : ℕ) (y : X) → slice_get xs t ≡ Some y → P t y) → P (length xs) x
+    → (t : ℕ) (y : X) → slice_get ys t ≡ Some y → P t y
+more_places P xs ys x is before here t y at = go (cases_eq t (length xs))
+  where
+    there : slice_get (xs ++ x ∷ []) t ≡ Some y
+    there = ap (λ zs. slice_get zs t) (sym is) ∙ at
+
+    go : (t ≡ length xs) ⊎ (t ≡ length xs → ⊥) → P t y
+    go (inl e) = subst (λ k. P k y) (sym e) (subst (P (length xs)) (same_Some x y (sym (slice_get-last xs x t e) ∙ there)) here)
+    go (inr other) = before t y (sym (slice_get-push xs x t other) ∙ there)
+
+module _ {A : Type 0} (program : List (List Instr)) (regs : List (List ℕ)) where
+  -- a processor for each of the first so many threads
+  pub record AreStarted (n : ℕ) (processors : List (ProcessorInMemory A)) : Type 0 where
+    pub start : map processor_of processors ≡ map starting (take n regs)
+    pub rooms : (t : ℕ) (p : ProcessorInMemory A) → slice_get processors t ≡ Some p → stores_from 0 (code_of program t) ≤ p.buffer.room
+
+  pub one_more : (n : ℕ) (processors next : List (ProcessorInMemory A)) (p : ProcessorInMemory A)
+      → AreStarted n processors → n < length regs → next ≡ processors ++ p ∷ []
+      → processor_of p ≡ starting (get_or regs n []) → stores_from 0 (code_of program n) ≤ p.buffer.room
+      → AreStarted (n + 1) next
+  one_more n processors next p so_far within is started roomy =
+      let more : take (suc n) regs ≡ take n regs ++ get_or regs n [] ∷ [] = take-suc regs n [] within in
+      let last : suc n ≡ n + 1 = omega arith in
+      let many : length processors ≡ n = sym (length-map processors processor_of) ∙ ap length so_far.start ∙ length-map (take n regs) starting ∙ length-take-le n regs (omega (arith, within)) in
+      record {
+        start = ap (map processor_of) is ∙ map-append processor_of processors (p ∷ []) ∙ rw (so_far.start, started, ← last, more) (sym (map-append starting (take n regs) (get_or regs n [] ∷ [])));
+        rooms = more_places (λ t q. stores_from 0 (code_of program t) ≤ q.buffer.room) processors next p is so_far.rooms (rw many roomy);
+      }
+
+  module _ {M : Type 0} (mem : Memory M) (locs : ℕ) (m : M) (processors : List (ProcessorInMemory A)) where
+    starts_with : (t : ℕ) (p : ProcessorInMemory A) (o : Option (List ℕ)) → Some (processor_of p) ≡ option_map starting o → (r : List ℕ) × (processor_of p ≡ starting r)
+    starts_with t p None e = absurd cc
+    starts_with t p (Some r) e = (r, same_Some (processor_of p) (starting r) e)
+
+    -- the parts of a machine at the start
+    pub machine_made : mem.sound m → length (mem.content m) ≡ locs → length program ≤ mem.cpus m → length regs ≡ length program
+        → map processor_of processors ≡ map starting regs
+        → ((t : ℕ) (p : ProcessorInMemory A) → slice_get processors t ≡ Some p → stores_from 0 (code_of program t) ≤ p.buffer.room)
+        → IsMachine mem program locs m processors
+    machine_made sound locations cpus many started roomy =
+        let as_many : length processors ≡ length program = sym (length-map processors processor_of) ∙ ap length started ∙ length-map regs starting ∙ many in
+        record {
+          sound = sound;
+          locations = locations;
+          cpus = omega (arith, as_many, cpus);
+          as_many = as_many;
+          rooms = λ t p at.
+              let seen : Some (processor_of p) ≡ option_map starting (slice_get regs t) = sym (slice_get-map processor_of processors t ∙ ap (option_map processor_of) at) ∙ ap (λ ps. slice_get ps t) started ∙ slice_get-map starting regs t in
+              let first = starts_with t p (slice_get regs t) seen in
+              subst (λ q. HasRoom locs (code_of program t) q p.buffer.room) (sym first.1) (record { fits = omega (arith, roomy t p at); there = All-nil _ });
+        }

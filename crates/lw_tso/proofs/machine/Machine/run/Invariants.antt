@@ -1,0 +1,13 @@
+use Rattle.std.proofs.Common.{◌≡◌, length, take}
+use Rattle.lw_memory.specs.Memory.{memory_of}
+use Rattle.lw_tso.specs.Runs.{MachineRan}
+use Rattle.lw_tso.proofs.machine.Machine.run.Given as goal
+
+abbrev pub invariant-loop-done : goal.invariant-loop-done
+invariant-loop-done g l =
+    record {
+      program : l.self.program ≡ l.fn.self.program;
+      ran : MachineRan (memory_of g.M.MemorySystem.content g.M.MemorySystem.cpus g.M.MemorySystem.state g.M.MemorySystem.sound g.M.MemorySystem.serves) l.fn.self.program (take l.done l.events) l.fn.self.state l.self.state;
+      processors : length l.self.state.processors ≡ length l.fn.self.state.processors;
+      words : length (g.M.MemorySystem.content l.self.state.memory) ≡ length (g.M.MemorySystem.content l.fn.self.state.memory);
+    }

@@ -1,0 +1,90 @@
+-- What each event comes to: the table of the x86-TSO machine.
+-- An event comes to an act of one processor, which knows no memory: it says what is asked of the memory, if anything, and
+-- what the processor is then. The source is as in Processors; XCHG and LOCK XADD with memory are one step each, once the
+-- buffer is empty.
+use Rattle.std.specs.Prelude.{ℕ, ◌==◌, true, not, nat_lt, if◌then◌else◌, Option, Some, None, List, [], ◌∷◌, slice_get, slice_index, slice_index_or}
+use Rattle.lw_base.specs.Sums.{sum_of}
+use Rattle.lw_base.specs.declared.event.Event.{Event}
+use Rattle.lw_base.specs.declared.event.Event.TheVariants.{Step, Drain, Evict}
+use Rattle.lw_base.specs.declared.stop.Stop.{Stop}
+use Rattle.lw_base.specs.declared.stop.Stop.TheVariants.{NoLocation, Ended, FenceWaits, SwapWaits, BufferEmpty}
+use Rattle.lw_x86.specs.declared.instr.Instr.{Instr}
+use Rattle.lw_x86.specs.declared.instr.Instr.TheVariants.{Store, Load, Set, Add, Cmp, Xchg, Xadd, Mfence, Je, Jne, Jmp}
+use Rattle.lw_tso.specs.Processors.{Processor, value_of, newest, going_on, getting, flagging, buffering, jumping}
+
+-- What an event comes to.
+pub data Act : Type 0 where
+  -- it is refused
+  Refused : Stop → Act
+  -- the processor alone changes
+  Goes : Processor → Act
+  -- a location's word is asked for; the processor with it
+  Loads : ℕ → (ℕ → Processor) → Act
+  -- a location gets a word; the processor after it
+  Stores : ℕ → ℕ → Processor → Act
+  -- a location gets a word; the processor with the one before
+  Swaps : ℕ → ℕ → (ℕ → Processor) → Act
+  -- a word is added to a location's; the processor with the one before
+  Adds : ℕ → ℕ → (ℕ → Processor) → Act
+  -- the processor's line of a location is given up
+  Evicts : ℕ → Act
+
+-- the processor's own newest word, or else the memory's
+abbrev pub load_act : Option ℕ → ℕ → (ℕ → Processor) → Act
+load_act (Some w) x next = Goes (next w)
+load_act None x next = Loads x next
+
+-- refused while the buffer has an entry
+abbrev pub once_empty : List (ℕ × ℕ) → Stop → Act → Act
+once_empty [] stop act = act
+once_empty (entry ∷ newer) stop act = Refused stop
+
+-- What the processor's next instruction comes to: a row for each.
+abbrev pub step_act : Option Instr → Processor → Act
+-- there is none
+step_act None p = Refused Ended
+-- `MOV [x],v`: to the end of the buffer
+step_act (Some (Store x v)) p = Goes (going_on (buffering p x (value_of v p.regs)))
+-- `MOV d,[x]`
+step_act (Some (Load d x)) p = load_act (newest p.buffer x) x (λ w. going_on (getting p d w))
+-- `MOV d,v`
+step_act (Some (Set d v)) p = Goes (going_on (getting p d (value_of v p.regs)))
+-- `ADD d,v`: the flag tells whether the sum is 0
+step_act (Some (Add d v)) p =
+    let sum = sum_of (slice_index p.regs d) (value_of v p.regs) in
+    Goes (going_on (flagging (getting p d sum) (sum == 0)))
+-- `CMP a,v`: the flag tells whether they are equal
+step_act (Some (Cmp a v)) p = Goes (going_on (flagging p (slice_index p.regs a == value_of v p.regs)))
+-- `XCHG [x],a`
+step_act (Some (Xchg x a)) p =
+    once_empty p.buffer SwapWaits (Swaps x (slice_index p.regs a) (λ w. going_on (getting p a w)))
+-- `LOCK XADD [x],a`: the flag tells whether the sum is 0
+step_act (Some (Xadd x a)) p =
+    let v = slice_index p.regs a in
+    once_empty p.buffer SwapWaits (Adds x v (λ w. going_on (flagging (getting p a w) (sum_of w v == 0))))
+-- `MFENCE`
+step_act (Some Mfence) p = once_empty p.buffer FenceWaits (Goes (going_on p))
+-- `JE L`, `JNE L`, `JMP L`
+step_act (Some (Je to)) p = Goes (jumping p p.zero_flag to)
+step_act (Some (Jne to)) p = Goes (jumping p (not p.zero_flag) to)
+step_act (Some (Jmp to)) p = Goes (jumping p true to)
+
+-- the oldest entry of the buffer goes to memory
+abbrev pub drain_act : List (ℕ × ℕ) → Processor → Act
+drain_act [] p = Refused BufferEmpty
+drain_act (entry ∷ newer) p = Stores entry.0 entry.1 (record p { buffer = newer })
+
+-- the processor of an event
+abbrev pub cpu_of : Event → ℕ
+cpu_of (Step t) = t
+cpu_of (Drain t) = t
+cpu_of (Evict t x) = t
+
+abbrev pub code_of : List (List Instr) → ℕ → List Instr
+code_of program t = slice_index_or program t []
+
+-- what an event comes to for its processor, where there are so many locations
+abbrev pub event_act : List (List Instr) → ℕ → Event → Processor → Act
+event_act program locs (Step t) p = step_act (slice_get (code_of program t) p.position) p
+event_act program locs (Drain t) p = drain_act p.buffer p
+event_act program locs (Evict t x) p = if nat_lt x locs then Evicts x else Refused NoLocation

@@ -1,0 +1,46 @@
+-- How much room a store buffer needs: a place for each entry, and for each store that is still ahead. Jumps lead forward,
+-- so no flow path has more stores ahead than the code has at or behind the position. (It stands among the definitions
+-- because a model cites it.)
+use Rattle.std.specs.Prelude.{◌≡◌, ℕ, ◌+◌, ◌<◌, ◌≤◌, Bool, true, false, Some, List, length, drop, slice_get, All}
+use Rattle.std.specs.List.{count_by}
+use Rattle.lw_memory.specs.Memory.{Memory}
+use Rattle.lw_x86.specs.declared.instr.Instr.{Instr}
+use Rattle.lw_x86.specs.declared.instr.Instr.TheVariants.{Store, Load, Set, Add, Cmp, Xchg, Xadd, Mfence, Je, Jne, Jmp}
+use Rattle.lw_tso.specs.declared.processor.Processor.{Processor as ProcessorInMemory}
+use Rattle.lw_tso.specs.Processors.{Processor}
+use Rattle.lw_tso.specs.Acts.{code_of}
+use Rattle.lw_tso.specs.Views.{processor_of}
+
+abbrev pub is_store : Instr → Bool
+is_store (Store x v) = true
+is_store (Load d x) = false
+is_store (Set d v) = false
+is_store (Add d v) = false
+is_store (Cmp a v) = false
+is_store (Xchg x a) = false
+is_store (Xadd x a) = false
+is_store Mfence = false
+is_store (Je to) = false
+is_store (Jne to) = false
+is_store (Jmp to) = false
+
+-- the stores of a code from a position on
+abbrev pub stores_from : ℕ → List Instr → ℕ
+stores_from k code = count_by is_store (drop k code)
+
+-- The buffer has room for the stores that are ahead, and its entries are for locations of the test.
+pub record HasRoom (locs : ℕ) (code : List Instr) (p : Processor) (room : ℕ) : Type 0 where
+  pub fits : length p.buffer + stores_from p.position code ≤ room
+  pub there : All (λ entry. entry.0 < locs) p.buffer
+
+module _ {M A : Type 0} (mem : Memory M) where
+  -- What always holds of the parts of a machine in memory: there is a processor for each thread, which the memory system
+  -- has too, the memory has the test's locations, and each store buffer has room.
+  pub record IsMachine (program : List (List Instr)) (locs : ℕ) (m : M) (processors : List (ProcessorInMemory A)) : Type 0 where
+    pub sound : mem.sound m
+    pub locations : length (mem.content m) ≡ locs
+    pub cpus : length processors ≤ mem.cpus m
+    pub as_many : length processors ≡ length program
+    pub rooms :
+        (t : ℕ) (p : ProcessorInMemory A) → slice_get processors t ≡ Some p
+        → HasRoom locs (code_of program t) (processor_of p) p.buffer.room

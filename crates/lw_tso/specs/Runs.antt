@@ -1,0 +1,54 @@
+-- Runs of an x86 program on the machine, over any memory, and their outcomes.
+use Rattle.std.specs.Prelude.{◌≡◌, ◌==◌, Bool, nat_le, ◌&&◌, List, length, map, IsTrue}
+use Rattle.std.specs.List.{list_all, zip}
+use Rattle.lw_base.specs.Outcomes.{Final}
+use Rattle.lw_base.specs.declared.event.Event.{Event}
+use Rattle.lw_base.specs.declared.stop.Replay.{Replay}
+use Rattle.lw_memory.specs.Memory.{Memory}
+use Rattle.lw_x86.specs.declared.instr.Instr.{Instr}
+use Rattle.lw_x86.specs.Programs.{ProgramTest}
+use Rattle.lw_tso.specs.Processors.{Processor, starting}
+use Rattle.lw_tso.specs.Machines.{MachineState, EventDone}
+use Rattle.lw_tso.specs.Replays as replays
+
+-- past its last instruction, with an empty buffer
+abbrev pub is_done : List Instr → Processor → Bool
+is_done code p = nat_le (length code) p.position && (length p.buffer == 0)
+
+module _ {M : Type 0} where
+  -- all processors at their first instructions, over this memory
+  abbrev pub machine_start : ProgramTest → M → MachineState M
+  machine_start test m = record { processors = map starting test.head.init_regs; memory = m }
+
+  -- all threads are at their ends, and all buffers are empty
+  abbrev pub is_final : List (List Instr) → MachineState M → Bool
+  is_final program s = list_all (λ p. is_done p.0 p.1) (zip program s.processors)
+
+module _ {M : Type 0} (mem : Memory M) where
+  -- the registers of a state, and the memory's content
+  abbrev pub machine_outcome : MachineState M → Final
+  machine_outcome s = record { regs = map (λ p. p.regs) s.processors; words = mem.content s.memory }
+
+  -- The events lead, each possible in turn, from a state to another.
+  abbrev pub MachineRan : List (List Instr) → List Event → MachineState M → MachineState M → Type 0
+  MachineRan program = replays.Ran (EventDone mem program) (is_final program)
+
+  -- A replay carries out the events before the first that is refused, or all.
+  abbrev pub MachineReplayed : List (List Instr) → List Event → MachineState M → Replay → MachineState M → Type 0
+  MachineReplayed program = replays.Replayed (EventDone mem program) (is_final program)
+
+  -- These events lead, each possible in turn, from the start over the memory m to a final state with this outcome.
+  pub record Replays (test : ProgramTest) (m : M) (events : List Event) (o : Final) : Type 0 where
+    pub end : MachineState M
+    pub ran : MachineRan test.threads events (machine_start test m) end
+    pub final : IsTrue (is_final test.threads end)
+    pub is : o ≡ machine_outcome end
+
+  -- Some list of events does.
+  abbrev pub MachineOutcome : ProgramTest → M → Final → Type 0
+  MachineOutcome test m o = (events : List Event) × Replays test m events o
+
+-- What a `Machine` is: a program, and the state that it is in.
+pub record Running (M : Type 0) : Type 0 where
+  pub program : List (List Instr)
+  pub state : MachineState M

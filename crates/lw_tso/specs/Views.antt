@@ -1,0 +1,6 @@
+-- The processor that a `Processor` in memory is.
+use Rattle.lw_tso.specs.declared.processor.Processor.{Processor as ProcessorInMemory}
+use Rattle.lw_tso.specs.Processors.{Processor}
+
+abbrev pub processor_of : {A : Type 0} → ProcessorInMemory A → Processor
+processor_of p = record { position = p.position; regs = p.regs; zero_flag = p.zero_flag; buffer = p.buffer.entries }

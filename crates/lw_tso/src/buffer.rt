@@ -1,0 +1,97 @@
+//! A store buffer: the words that a processor has stored and that are not in memory yet.
+ghost use Rattle.std.specs.Prelude.{◌≡◌, ◌<◌, ◌≤◌, ◌==◌, [], ◌∷◌, ◌++◌, length, drop, slice_get, Some, None, IfOk};
+ghost use Rattle.lw_tso.specs.Processors as table;
+
+use circular_buffer::HeapCircularBuffer;
+use lw_base::{Loc, Word};
+use std::alloc::{AllocError, Allocator, Global};
+use std::marker::Model;
+
+/// The entries of a store buffer, the oldest first, in a ring that was made for so many. No call after `with_room` takes
+/// memory.
+#[derive(Drop)]
+pub(crate) struct StoreBuffer<A: Allocator = Global> {
+    ring: HeapCircularBuffer<(Loc, Word), A>,
+}
+
+impl<A: Allocator> Model for StoreBuffer<A> {
+    ghost use Rattle.std.specs.Prelude.{◌≤◌, length};
+    ghost use Rattle.lw_tso.specs.Buffers.{Buffered};
+
+    ghost Value = { Buffered };
+
+    ghost view = { λ b. record { entries = b.ring.items; room = b.ring.capacity } };
+
+    ghost invariant = { λ b. length b.ring.items ≤ b.ring.capacity };
+}
+
+impl<A: Allocator> StoreBuffer<A> {
+    /// An empty buffer with room for so many entries.
+    pub(crate) fn with_room(alloc: A, room: usize) -> Result<Self, AllocError>
+        ensures { IfOk result (λ b. b ≡ record { entries = []; room = room }) }
+    {
+        let ring = HeapCircularBuffer::with_capacity(alloc, room)?;
+        Ok(StoreBuffer { ring })
+    }
+
+    /// The number of entries.
+    pub(crate) fn len(&self) -> usize
+        ensures { result ≡ length self.now.entries }
+    {
+        self.ring.len()
+    }
+
+    /// Whether it has no entry.
+    pub(crate) fn is_empty(&self) -> bool
+        ensures { result ≡ (length self.now.entries == 0) }
+    {
+        self.ring.is_empty()
+    }
+
+    /// Adds an entry behind all others.
+    pub(crate) fn push(&mut self, loc: Loc, word: Word)
+        requires { length self.old.entries < self.old.room }
+        ensures entries { self.new.entries ≡ self.old.entries ++ (loc, word) ∷ [] }
+        ensures room { self.new.room ≡ self.old.room }
+    {
+        let overwritten = self.ring.push_back((loc, word));
+        prove!(overwritten.is_none());
+    }
+
+    /// Takes the oldest entry out.
+    pub(crate) fn pop(&mut self) -> Option<(Loc, Word)>
+        ensures oldest { result ≡ slice_get self.old.entries 0 }
+        ensures entries { self.new.entries ≡ drop 1 self.old.entries }
+        ensures room { self.new.room ≡ self.old.room }
+    {
+        self.ring.pop_front()
+    }
+
+    /// The entry at a place, counted from the oldest.
+    pub(crate) fn entry(&self, place: usize) -> (Loc, Word)
+        requires { place < length self.now.entries }
+        ensures { slice_get self.now.entries place ≡ Some result }
+    {
+        *self.ring.get(place).unwrap()
+    }
+
+    /// The newest word for a location.
+    pub(crate) fn newest(&self, loc: Loc) -> Option<Word>
+        ensures { result ≡ table.newest self.now.entries loc }
+    {
+        newest_in(&self.ring, loc)
+    }
+}
+
+/// The newest word for a location, looked for from the newest entry on.
+fn newest_in<A: Allocator>(ring: &HeapCircularBuffer<(Loc, Word), A>, loc: Loc) -> Option<Word>
+    ensures { result ≡ table.newest ring.now.items loc }
+{
+    for place in (0..ring.len()).rev() {
+        let (at, word) = *ring.get(place).unwrap();
+        if at == loc {
+            return Some(word);
+        }
+    }
+    None
+}

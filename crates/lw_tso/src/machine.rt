@@ -1,0 +1,288 @@
+//! The machine: an x86 program on processors with store buffers, over a memory system.
+ghost use Rattle.std.specs.Prelude.{◌≡◌, ◌<◌, ◌≤◌, ℕ, length, map, Some, slice_get, slice_index, IfOk, IfErr, OnErr};
+ghost use Rattle.std.specs.List.{list_all, zip};
+ghost use Rattle.lw_base.specs.declared.event.Event.TheVariants as of;
+ghost use Rattle.lw_memory.specs.Memory.{memory_of};
+ghost use Rattle.lw_cells.specs.Tests.{test_of};
+ghost use Rattle.lw_tso.specs.Processors.{starting};
+ghost use Rattle.lw_tso.specs.Machines.{EventDone, buffer_of};
+ghost use Rattle.lw_tso.specs.Runs.{is_done, machine_start, machine_outcome, MachineReplayed};
+ghost use Rattle.lw_tso.specs.Runs as runs;
+ghost use Rattle.lw_tso.specs.Acts.{code_of};
+ghost use Rattle.lw_tso.specs.Rooms.{stores_from};
+ghost use Rattle.lw_tso.specs.Views.{processor_of};
+ghost use Rattle.lw_tso.specs.declared.processor.Processor.{Processor as ProcessorInMemory};
+
+use crate::processor::Processor;
+use lw_base::{Cpu, End, Event, Loc, Outcome, Reg, Replay, Sequence, Stop, Word};
+use lw_memory::{MemorySystem, NotHeld};
+use lw_x86::{Instr, Program};
+use std::alloc::{AllocError, Allocator, Global};
+use std::marker::Model;
+
+/// An x86 program on the machine: for each thread a processor with a store buffer, over one memory system.
+#[derive(Drop)]
+pub struct Machine<'a, M: MemorySystem, A: Allocator = Global, B: Allocator = Global> {
+    program: &'a Program<B>,
+    processors: Vec<Processor<A>, A>,
+    memory: M,
+}
+
+impl<'a, M: MemorySystem, A: Allocator, B: Allocator> Model for Machine<'a, M, A, B> {
+    ghost use Rattle.std.specs.Prelude.{length, map};
+    ghost use Rattle.lw_tso.specs.Runs.{Running};
+    ghost use Rattle.lw_memory.specs.Memory.{memory_of};
+    ghost use Rattle.lw_tso.specs.Rooms.{IsMachine};
+    ghost use Rattle.lw_tso.specs.Views.{processor_of};
+
+    ghost Value = { Running M };
+
+    ghost view = { λ m. record {
+      program = m.program.now.threads;
+      state = record { processors = map processor_of m.processors.items; memory = m.memory };
+    } };
+
+    ghost invariant = { λ m. IsMachine (memory_of M.content M.cpus M.state M.sound M.serves)
+        m.program.now.threads (length m.program.now.head.locs) m.memory m.processors.items };
+}
+
+impl<'a, M: MemorySystem, A: Allocator + Copy, B: Allocator> Machine<'a, M, A, B> {
+    /// A program at its start, over a memory system that has a processor for each of its threads, and its initial words as
+    /// content. An error is that memory ran out: the memory system is handed back as it was. No later call but `outcome`
+    /// takes any.
+    pub fn new(alloc: A, program: &'a Program<B>, memory: M) -> Result<Self, M>
+        requires threads { length program.now.threads ≤ M.cpus memory }
+        requires words { M.content memory ≡ program.now.head.init_words }
+        ensures program { IfOk result (λ m. m.program ≡ program.now.threads) }
+        ensures start { IfOk result (λ m. m.state ≡ machine_start (test_of program.now.head program.now.threads) memory) }
+        ensures err { IfErr result (λ m. m ≡ memory) }
+    {
+        let _cpus = memory.cpu_count();
+        match processors_of(alloc, program) {
+            Ok(processors) => Ok(Machine {
+                program,
+                processors,
+                memory,
+            }),
+            Err(AllocError) => Err(memory),
+        }
+    }
+
+    /// The registers as they are, and the memory's content.
+    pub fn outcome(&self) -> Result<Outcome<A>, AllocError>
+        ensures { IfOk result (λ o. o ≡ machine_outcome (memory_of M.content M.cpus M.state M.sound M.serves) self.now.state) }
+    {
+        let alloc = *self.processors.allocator();
+        let regs = registers_of(alloc, self.processors.as_slice())?;
+        let words = content_of(alloc, &self.memory)?;
+        Ok(Outcome { regs, words })
+    }
+}
+
+impl<'a, M: MemorySystem, A: Allocator, B: Allocator> Machine<'a, M, A, B> {
+    /// The number of the processor's next instruction.
+    pub fn position(&self, cpu: Cpu) -> usize
+        requires { cpu < length self.now.state.processors }
+        ensures { slice_get (map (λ p. p.position) self.now.state.processors) cpu ≡ Some result }
+    {
+        self.processors[cpu.index()].position
+    }
+
+    /// The word of a processor's register.
+    pub fn reg(&self, cpu: Cpu, reg: Reg) -> Word
+        requires { cpu < length self.now.state.processors }
+        ensures { slice_get (map (λ p. slice_index p.regs reg) self.now.state.processors) cpu ≡ Some result }
+    {
+        self.processors[cpu.index()].regs[reg.index()]
+    }
+
+    /// The number of entries in a processor's store buffer.
+    pub fn buffered(&self, cpu: Cpu) -> usize
+        requires { cpu < length self.now.state.processors }
+        ensures { result ≡ length (buffer_of self.now.state cpu) }
+    {
+        self.processors[cpu.index()].buffer.len()
+    }
+
+    /// An entry of a processor's store buffer, counted from the oldest.
+    pub fn entry(&self, cpu: Cpu, place: usize) -> (Loc, Word)
+        requires { place < length (buffer_of self.now.state cpu) }
+        ensures { slice_get (buffer_of self.now.state cpu) place ≡ Some result }
+    {
+        self.processors[cpu.index()].buffer.entry(place)
+    }
+
+    /// The memory system.
+    pub fn memory(&self) -> &M
+        ensures memory { result.now ≡ self.now.state.memory }
+        ensures cpus { length self.now.state.processors ≤ M.cpus result.now }
+    {
+        &self.memory
+    }
+
+    /// Carries out an event. A refused one changes nothing.
+    pub fn step(&mut self, event: Event) -> Result<(), Stop>
+        ensures program { self.new.program ≡ self.old.program }
+        ensures done { EventDone (memory_of M.content M.cpus M.state M.sound M.serves)
+            self.old.program event self.old.state result self.new.state }
+        ensures err { OnErr result (self.new ≡ self.old) }
+        ensures processors { length self.new.state.processors ≡ length self.old.state.processors }
+        ensures words { length (M.content self.new.state.memory) ≡ length (M.content self.old.state.memory) }
+    {
+        match event {
+            Event::Step(cpu) => self.carry_out(cpu),
+            Event::Drain(cpu) => self.drain(cpu),
+            Event::Evict(cpu, loc) => self.evict(cpu, loc),
+        }
+    }
+
+    /// Carries out the events before the first that is refused, or all.
+    pub fn run(&mut self, events: &[Event]) -> Replay
+        ensures program { self.new.program ≡ self.old.program }
+        ensures replayed { MachineReplayed (memory_of M.content M.cpus M.state M.sound M.serves)
+            self.old.program events.now self.old.state result self.new.state }
+        ensures processors { length self.new.state.processors ≡ length self.old.state.processors }
+        ensures words { length (M.content self.new.state.memory) ≡ length (M.content self.old.state.memory) }
+    {
+        for (done, event) in events.iter().enumerate() {
+            if let Err(stop) = self.step(*event) {
+                return Replay {
+                    done,
+                    end: End::Stopped(stop),
+                };
+            }
+        }
+        let end = if self.is_final() {
+            End::Final
+        } else {
+            End::NotFinal
+        };
+        Replay {
+            done: events.len(),
+            end,
+        }
+    }
+
+    /// Whether all threads are at their ends and all store buffers are empty.
+    pub fn is_final(&self) -> bool
+        ensures { result ≡ runs.is_final self.now.program self.now.state }
+    {
+        are_done(self.program, self.processors.as_slice())
+    }
+
+    /// The next instruction of a processor.
+    fn carry_out(&mut self, cpu: Cpu) -> Result<(), Stop>
+        ensures program { self.new.program ≡ self.old.program }
+        ensures done { EventDone (memory_of M.content M.cpus M.state M.sound M.serves)
+            self.old.program (of.Step cpu) self.old.state result self.new.state }
+        ensures sound { M.sound self.old.state.memory }
+    {
+        if self.processors.len() <= cpu.index() {
+            return Err(Stop::NoCpu);
+        }
+        let processor = &mut self.processors[cpu.index()];
+        let Some(instr) = instr_at(self.program, cpu, processor.position) else {
+            return Err(Stop::Ended);
+        };
+        processor.carry_out(cpu, instr, &mut self.memory)
+    }
+
+    /// The oldest entry of a processor's store buffer goes to memory.
+    fn drain(&mut self, cpu: Cpu) -> Result<(), Stop>
+        ensures program { self.new.program ≡ self.old.program }
+        ensures done { EventDone (memory_of M.content M.cpus M.state M.sound M.serves)
+            self.old.program (of.Drain cpu) self.old.state result self.new.state }
+        ensures sound { M.sound self.old.state.memory }
+    {
+        if self.processors.len() <= cpu.index() {
+            return Err(Stop::NoCpu);
+        }
+        let processor = &mut self.processors[cpu.index()];
+        processor.drain(cpu, &mut self.memory)
+    }
+
+    /// A processor's cache gives up its line of a location.
+    fn evict(&mut self, cpu: Cpu, loc: Loc) -> Result<(), Stop>
+        ensures program { self.new.program ≡ self.old.program }
+        ensures done { EventDone (memory_of M.content M.cpus M.state M.sound M.serves)
+            self.old.program (of.Evict cpu loc) self.old.state result self.new.state }
+        ensures sound { M.sound self.old.state.memory }
+    {
+        if self.processors.len() <= cpu.index() {
+            return Err(Stop::NoCpu);
+        }
+        if self.memory.location_count() <= loc.index() {
+            return Err(Stop::NoLocation);
+        }
+        if let Err(NotHeld) = self.memory.evict(cpu, loc) {
+            return Err(Stop::NotHeld);
+        }
+        Ok(())
+    }
+}
+
+/// The processors of a program, each at its first instruction.
+fn processors_of<A: Allocator + Copy, B: Allocator>(
+    alloc: A,
+    program: &Program<B>,
+) -> Result<Vec<Processor<A>, A>, AllocError>
+    ensures start { IfOk result (λ v. map processor_of v.items ≡ map starting program.now.head.init_regs) }
+    ensures rooms { IfOk result (λ v. (t : ℕ) (p : ProcessorInMemory A) → slice_get v.items t ≡ Some p
+        → stores_from 0 (code_of program.now.threads t) ≤ p.buffer.room) }
+{
+    let mut processors = Vec::new(alloc);
+    for (thread, regs) in program.head.init_regs.as_slice().iter().enumerate() {
+        let code = &program.threads.as_slice()[thread];
+        processors.push(Processor::new(alloc, *regs, code.as_slice())?)?;
+    }
+    Ok(processors)
+}
+
+/// The instruction at a position of a thread's code, if it is not at the end.
+fn instr_at<A: Allocator>(program: &Program<A>, cpu: Cpu, position: usize) -> Option<Instr>
+    requires { cpu < length program.now.threads }
+    ensures { result ≡ slice_get (code_of program.now.threads cpu) position }
+{
+    let code = &program.threads.as_slice()[cpu.index()];
+    code.get(position).copied()
+}
+
+/// Whether all processors are at the ends of their codes, and their buffers are empty.
+fn are_done<A: Allocator, B: Allocator>(program: &Program<B>, processors: &[Processor<A>]) -> bool
+    ensures { result ≡ list_all (λ p. is_done p.0 (processor_of p.1)) (zip program.now.threads processors.now) }
+{
+    program
+        .threads
+        .as_slice()
+        .iter()
+        .zip(processors)
+        .all(|(code, processor)| processor.is_done(code.len()))
+}
+
+/// The registers of each processor.
+fn registers_of<A: Allocator, B: Allocator>(
+    alloc: A,
+    processors: &[Processor<B>],
+) -> Result<Sequence<[Word; 6], A>, AllocError>
+    ensures { IfOk result (λ regs. regs ≡ map (λ p. p.regs) processors.now) }
+{
+    let mut regs = Sequence::new(alloc);
+    for processor in processors {
+        regs.push(processor.regs)?;
+    }
+    Ok(regs)
+}
+
+/// The content of a memory system.
+fn content_of<M: MemorySystem, A: Allocator>(
+    alloc: A,
+    memory: &M,
+) -> Result<Sequence<Word, A>, AllocError>
+    ensures { IfOk result (λ words. words ≡ M.content memory.now) }
+{
+    let mut words = Sequence::new(alloc);
+    for loc in &Loc::all()[..memory.location_count()] {
+        words.push(memory.word_at_end(*loc))?;
+    }
+    Ok(words)
+}

@@ -1,0 +1,272 @@
+//! A processor of the machine: its place in its code, its registers and its store buffer, and what its events do.
+ghost use Rattle.std.specs.Prelude.{◌≡◌, ◌+◌, ◌<◌, ◌≤◌, ◌^◌, ◌==◌, ◌&&◌, nat_le, true, Some, Ok, Err, length, max, slice_index, if◌then◌else◌, All, IfOk, OnOk, OnErr};
+ghost use Rattle.std.specs.Option.{ForSome};
+ghost use Rattle.lw_base.specs.Sums.{sum_of};
+ghost use Rattle.lw_memory.specs.Memory.{memory_of};
+ghost use Rattle.lw_x86.specs.Programs.{location_of};
+ghost use Rattle.lw_tso.specs.Processors as table;
+ghost use Rattle.lw_tso.specs.Processors.{starting, going_on, getting, flagging, buffering, jumping};
+ghost use Rattle.lw_tso.specs.Acts.{step_act, drain_act};
+ghost use Rattle.lw_tso.specs.Machines.{ActDone};
+ghost use Rattle.lw_tso.specs.Rooms.{is_store, stores_from};
+ghost use Rattle.lw_tso.specs.Views.{processor_of};
+
+use crate::buffer::StoreBuffer;
+use lw_base::{Cpu, Loc, Operand, Reg, Stop, Word};
+use lw_memory::MemorySystem;
+use lw_x86::Instr;
+use std::alloc::{AllocError, Allocator, Global};
+
+/// A processor, which carries out the code of the thread of its number.
+#[derive(Drop)]
+pub(crate) struct Processor<A: Allocator = Global> {
+    /// The number of its next instruction.
+    pub(crate) position: usize,
+    pub(crate) regs: [Word; 6],
+    pub(crate) zero_flag: bool,
+    pub(crate) buffer: StoreBuffer<A>,
+}
+
+impl<A: Allocator> Processor<A> {
+    /// A processor at the first instruction of a code. Its store buffer has room for as many entries as the code has stores,
+    /// and for one at least.
+    pub(crate) fn new(alloc: A, regs: [Word; 6], code: &[Instr]) -> Result<Self, AllocError>
+        ensures processor { IfOk result (λ p. processor_of p ≡ starting regs) }
+        ensures room { IfOk result (λ p. p.buffer.room ≡ max (stores_from 0 code.now) 1) }
+    {
+        let stores = code
+            .iter()
+            .filter(|instr| matches!(instr, Instr::Store { .. }))
+            .count();
+        let buffer = StoreBuffer::with_room(alloc, stores.max(1))?;
+        Ok(Processor {
+            position: 0,
+            regs,
+            zero_flag: false,
+            buffer,
+        })
+    }
+
+    /// Whether the processor is at the end of a code of so many instructions, and its buffer is empty.
+    pub(crate) fn is_done(&self, count: usize) -> bool
+        ensures { result ≡ (nat_le count self.now.position && (length self.now.buffer.entries == 0)) }
+    {
+        count <= self.position && self.buffer.is_empty()
+    }
+
+    /// Carries out an instruction over the memory. A refused one changes nothing.
+    pub(crate) fn carry_out<M: MemorySystem>(
+        &mut self,
+        cpu: Cpu,
+        instr: Instr,
+        memory: &mut M,
+    ) -> Result<(), Stop>
+        requires cpu { cpu < M.cpus memory.old }
+        requires loc { ForSome (location_of instr) (λ x. x < length (M.content memory.old)) }
+        requires position { self.old.position + 1 < 2 ^ 64 }
+        requires room { is_store instr ≡ true → length self.old.buffer.entries < self.old.buffer.room }
+        ensures done { ActDone (memory_of M.content M.cpus M.state M.sound M.serves) cpu
+            (step_act (Some instr) (processor_of self.old)) (processor_of self.old) memory.old
+            result (processor_of self.new) memory.new }
+        ensures room { self.new.buffer.room ≡ self.old.buffer.room }
+    {
+        match instr {
+            Instr::Store { loc, val } => {
+                self.store(loc, self.value(val));
+                Ok(())
+            }
+            Instr::Load { reg, loc } => {
+                self.load(cpu, reg, loc, memory);
+                Ok(())
+            }
+            Instr::Set { reg, val } => {
+                self.go_on_with(reg, self.value(val));
+                Ok(())
+            }
+            Instr::Add { reg, val } => {
+                self.add(reg, self.value(val));
+                Ok(())
+            }
+            Instr::Cmp { reg, val } => {
+                self.compare(reg, self.value(val));
+                Ok(())
+            }
+            Instr::Xchg { loc, reg } => self.exchange(cpu, loc, reg, memory),
+            Instr::Xadd { loc, reg } => self.exchange_and_add(cpu, loc, reg, memory),
+            Instr::Mfence => self.fence(),
+            Instr::Je { to } => {
+                self.jump(self.zero_flag, to);
+                Ok(())
+            }
+            Instr::Jne { to } => {
+                self.jump(!self.zero_flag, to);
+                Ok(())
+            }
+            Instr::Jmp { to } => {
+                self.jump(true, to);
+                Ok(())
+            }
+        }
+    }
+
+    /// The word that an operand stands for.
+    fn value(&self, operand: Operand) -> Word
+        ensures { result ≡ table.value_of operand self.now.regs }
+    {
+        match operand {
+            Operand::Register(reg) => self.regs[reg.index()],
+            Operand::Number(word) => word,
+        }
+    }
+
+    /// An entry goes to the end of the store buffer.
+    fn store(&mut self, loc: Loc, word: Word)
+        requires position { self.old.position + 1 < 2 ^ 64 }
+        requires room { length self.old.buffer.entries < self.old.buffer.room }
+        ensures processor { processor_of self.new ≡ going_on (buffering (processor_of self.old) loc word) }
+        ensures room { self.new.buffer.room ≡ self.old.buffer.room }
+    {
+        self.buffer.push(loc, word);
+        self.position += 1;
+    }
+
+    /// A register gets a word.
+    fn go_on_with(&mut self, reg: Reg, word: Word)
+        requires { self.old.position + 1 < 2 ^ 64 }
+        ensures processor { processor_of self.new ≡ going_on (getting (processor_of self.old) reg word) }
+        ensures buffer { self.new.buffer ≡ self.old.buffer }
+    {
+        self.regs[reg.index()] = word;
+        self.position += 1;
+    }
+
+    /// A register gets the newest word that the store buffer has for a location, or else the memory's.
+    fn load<M: MemorySystem>(&mut self, cpu: Cpu, reg: Reg, loc: Loc, memory: &mut M)
+        requires cpu { cpu < M.cpus memory.old }
+        requires loc { loc < length (M.content memory.old) }
+        requires position { self.old.position + 1 < 2 ^ 64 }
+        ensures done { ActDone (memory_of M.content M.cpus M.state M.sound M.serves) cpu
+            (step_act (Some (Instr.Load reg loc)) (processor_of self.old)) (processor_of self.old) memory.old
+            (Ok tt) (processor_of self.new) memory.new }
+        ensures buffer { self.new.buffer ≡ self.old.buffer }
+    {
+        match self.buffer.newest(loc) {
+            Some(word) => self.go_on_with(reg, word),
+            None => self.go_on_with(reg, memory.load(cpu, loc)),
+        }
+    }
+
+    /// A word is added to a register's. The zero flag tells whether the sum is 0.
+    fn add(&mut self, reg: Reg, word: Word)
+        requires { self.old.position + 1 < 2 ^ 64 }
+        ensures processor { let sum = sum_of (slice_index self.old.regs reg) word in
+            processor_of self.new ≡ going_on (flagging (getting (processor_of self.old) reg sum) (sum == 0)) }
+        ensures buffer { self.new.buffer ≡ self.old.buffer }
+    {
+        let sum = self.regs[reg.index()].wrapping_add(word);
+        self.zero_flag = sum == 0;
+        self.go_on_with(reg, sum);
+    }
+
+    /// The zero flag tells whether a register has this word.
+    fn compare(&mut self, reg: Reg, word: Word)
+        requires { self.old.position + 1 < 2 ^ 64 }
+        ensures processor { processor_of self.new
+            ≡ going_on (flagging (processor_of self.old) (slice_index self.old.regs reg == word)) }
+        ensures buffer { self.new.buffer ≡ self.old.buffer }
+    {
+        self.zero_flag = self.regs[reg.index()] == word;
+        self.position += 1;
+    }
+
+    /// To the target where the condition holds, and else to the next instruction.
+    fn jump(&mut self, holds: bool, to: usize)
+        requires { self.old.position + 1 < 2 ^ 64 }
+        ensures processor { processor_of self.new ≡ jumping (processor_of self.old) holds to }
+        ensures buffer { self.new.buffer ≡ self.old.buffer }
+    {
+        self.position = if holds { to } else { self.position + 1 };
+    }
+
+    /// A register and a location exchange their words, once the store buffer is empty.
+    fn exchange<M: MemorySystem>(
+        &mut self,
+        cpu: Cpu,
+        loc: Loc,
+        reg: Reg,
+        memory: &mut M,
+    ) -> Result<(), Stop>
+        requires cpu { cpu < M.cpus memory.old }
+        requires loc { loc < length (M.content memory.old) }
+        requires position { self.old.position + 1 < 2 ^ 64 }
+        ensures done { ActDone (memory_of M.content M.cpus M.state M.sound M.serves) cpu
+            (step_act (Some (Instr.Xchg loc reg)) (processor_of self.old)) (processor_of self.old) memory.old
+            result (processor_of self.new) memory.new }
+        ensures buffer { self.new.buffer ≡ self.old.buffer }
+    {
+        if !self.buffer.is_empty() {
+            return Err(Stop::SwapWaits);
+        }
+        let word = self.regs[reg.index()];
+        self.go_on_with(reg, memory.swap(cpu, loc, word));
+        Ok(())
+    }
+
+    /// A register gets a location's word, and the location their sum, once the store buffer is empty. The zero flag tells
+    /// whether the sum is 0.
+    fn exchange_and_add<M: MemorySystem>(
+        &mut self,
+        cpu: Cpu,
+        loc: Loc,
+        reg: Reg,
+        memory: &mut M,
+    ) -> Result<(), Stop>
+        requires cpu { cpu < M.cpus memory.old }
+        requires loc { loc < length (M.content memory.old) }
+        requires position { self.old.position + 1 < 2 ^ 64 }
+        ensures done { ActDone (memory_of M.content M.cpus M.state M.sound M.serves) cpu
+            (step_act (Some (Instr.Xadd loc reg)) (processor_of self.old)) (processor_of self.old) memory.old
+            result (processor_of self.new) memory.new }
+        ensures buffer { self.new.buffer ≡ self.old.buffer }
+    {
+        if !self.buffer.is_empty() {
+            return Err(Stop::SwapWaits);
+        }
+        let word = self.regs[reg.index()];
+        let old = memory.fetch_add(cpu, loc, word);
+        self.zero_flag = old.wrapping_add(word) == 0;
+        self.go_on_with(reg, old);
+        Ok(())
+    }
+
+    /// Goes on, once the store buffer is empty.
+    fn fence(&mut self) -> Result<(), Stop>
+        requires { self.old.position + 1 < 2 ^ 64 }
+        ensures waits { result ≡ (if length self.old.buffer.entries == 0 then Ok tt else Err Stop.FenceWaits) }
+        ensures ok { OnOk result (processor_of self.new ≡ going_on (processor_of self.old)) }
+        ensures err { OnErr result (self.new ≡ self.old) }
+        ensures buffer { self.new.buffer ≡ self.old.buffer }
+    {
+        if !self.buffer.is_empty() {
+            return Err(Stop::FenceWaits);
+        }
+        self.position += 1;
+        Ok(())
+    }
+
+    /// The oldest entry of the store buffer goes to memory. Where there is none, nothing changes.
+    pub(crate) fn drain<M: MemorySystem>(&mut self, cpu: Cpu, memory: &mut M) -> Result<(), Stop>
+        requires cpu { cpu < M.cpus memory.old }
+        requires locs { All (λ entry. entry.0 < length (M.content memory.old)) self.old.buffer.entries }
+        ensures done { ActDone (memory_of M.content M.cpus M.state M.sound M.serves) cpu
+            (drain_act self.old.buffer.entries (processor_of self.old)) (processor_of self.old) memory.old
+            result (processor_of self.new) memory.new }
+        ensures room { self.new.buffer.room ≡ self.old.buffer.room }
+    {
+        let Some((loc, word)) = self.buffer.pop() else {
+            return Err(Stop::BufferEmpty);
+        };
+        memory.store(cpu, loc, word);
+        Ok(())
+    }
+}
