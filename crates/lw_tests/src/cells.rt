@@ -14,6 +14,7 @@ SRC A {} P0; x := :=; exists (x=1) => lw: cell 1 Form at 18
 SRC A {} P0; x r9; exists (x=1) => lw: cell 2 Register at 15
 SRC A {} P0; r9 := 1; exists (x=1) => lw: cell 2 Register at 13
 SRC A {} P0; swap := 1; exists (x=1) => lw: cell 1 Form at 13
+SRC A {} P0; fetchadd := 1; exists (x=1) => lw: cell 1 Form at 13
 SRC A {} P0; x := 1 y; exists (x=1) => lw: cell 1 Form at 20
 SRC A {} P0; x := 1 r1; exists (x=1) => lw: cell 1 Form at 20
 SRC A {} P0; x := 1 r9; exists (x=1) => lw: cell 2 Register at 20
@@ -27,7 +28,6 @@ SRC A {} P0; r0; exists (x=1) => lw: cell 1 Form at 15
 SRC A {} P0; r0 :=; exists (x=1) => lw: cell 1 Form at 18
 SRC A {} P0; r0 := r9; exists (x=1) => lw: cell 2 Register at 19
 SRC A {} P0; r0 := if; exists (x=1) => lw: cell 1 Form at 19
-SRC A {} P0; r0 := fetchadd x r1; exists (x=1) => lw: cell 1 Form at 19
 SRC A {} P0; r0 := x + 1; exists (x=1) => lw: cell 1 Form at 21
 SRC A {} P0; r0 := 1 + r1; exists (x=1) => lw: cell 1 Form at 21
 SRC A {} P0; r0 := r1 r2; exists (x=1) => lw: cell 1 Form at 22
@@ -43,6 +43,13 @@ SRC A {} P0; r0 := swap x y; exists (x=1) => lw: cell 2 Register at 26
 SRC A {} P0; r0 := swap x if; exists (x=1) => lw: cell 2 Register at 26
 SRC A {} P0; r0 := swap x 1; exists (x=1) => lw: cell 1 Form at 26
 SRC A {} P0; r0 := swap x r1 y; exists (x=1) => lw: cell 1 Form at 29
+SRC A {} P0; r0 := fetchadd; exists (x=1) => lw: cell 1 Form at 27
+SRC A {} P0; r0 := fetchadd r1 r2; exists (x=1) => lw: cell 1 Form at 28
+SRC A {} P0; r0 := fetchadd r9 r2; exists (x=1) => lw: cell 2 Register at 28
+SRC A {} P0; r0 := fetchadd x; exists (x=1) => lw: cell 1 Form at 29
+SRC A {} P0; r0 := fetchadd x y; exists (x=1) => lw: cell 2 Register at 30
+SRC A {} P0; r0 := fetchadd x 1; exists (x=1) => lw: cell 1 Form at 30
+SRC A {} P0; r0 := fetchadd x r1 y; exists (x=1) => lw: cell 1 Form at 33
 ";
 
 /// Jumps and branches.
@@ -104,6 +111,7 @@ const NINTH_LOCATION: &str = "
 SRC A {} P0; i +; exists (a=1/\\b=1/\\c=1/\\d=1/\\e=1/\\f=1/\\g=1/\\h=1) => lw: cell 6 TooMany at 13
 SRC A {} P0; a := 1; r0 := i j; exists (a=1/\\b=1/\\c=1/\\d=1/\\e=1/\\f=1/\\g=1/\\h=1) => lw: cell 6 TooMany at 27
 SRC A {} P0; r0 := swap i r1; exists (a=1/\\b=1/\\c=1/\\d=1/\\e=1/\\f=1/\\g=1/\\h=1) => lw: cell 6 TooMany at 24
+SRC A {} P0; r0 := fetchadd i r1; exists (a=1/\\b=1/\\c=1/\\d=1/\\e=1/\\f=1/\\g=1/\\h=1) => lw: cell 6 TooMany at 28
 SRC A {} P0; i: a := 1; exists (a=1/\\b=1/\\c=1/\\d=1/\\e=1/\\f=1/\\g=1/\\h=1) => read
 SRC A {} P0|P1; a := 1 | e := 1; b := 1 | f := 1; c := 1 | g := 1; d := 1 | h := 1; | r0 := i; | r1 := x y; exists (a=1) => lw: cell 6 TooMany at 92
 ";

@@ -9,6 +9,8 @@ mod caches;
 #[cfg(test)]
 mod cells;
 #[cfg(test)]
+mod conditions;
+#[cfg(test)]
 mod devices;
 #[cfg(test)]
 mod heads;

@@ -15,12 +15,13 @@ fn one_word_for_all_processors(rt: HostRuntime) -> Result<(), Fail> {
         memory.load(second, x),
         memory.load(second, y),
         memory.swap(second, x, 6),
+        memory.fetch_add(first, y, 4294967295),
         memory.evict(first, x),
     );
-    assert!(rt; matches!(answers, (5, 9, 5, Err(NotHeld))));
+    assert!(rt; matches!(answers, (5, 9, 5, 9, Err(NotHeld))));
     let at_end = (memory.word_at_end(x), memory.word_at_end(y));
     let in_memory = (memory.word_in_memory(x), memory.word_in_memory(y));
-    assert!(rt; matches!((at_end, in_memory), ((6, 9), (6, 9))));
+    assert!(rt; matches!((at_end, in_memory), ((6, 8), (6, 8))));
     let counts = (memory.cpu_count(), memory.location_count());
     assert!(rt; matches!((memory.state_of(second, x), counts), (LineState::I, (2, 2))));
     Ok(())

@@ -100,12 +100,15 @@ SRC A {} P0|P1; a := 1 | e := 1; b := 1 | f := 1; c := 1 | g := 1; d := 1 | h :=
 ";
 
 /// Runs of the first thread by so many steps: each statement; sums that wrap, and read their registers
-/// before they write; a swap that stores its register's word and takes the location's; branches taken
+/// before they write; a swap that stores its register's word and takes the location's; a fetch-and-add that
+/// takes the location's word and adds its register's from before, modulo 2 to the 32; branches taken
 /// and not taken, and jumps, one of them to the thread's end.
 const RUNS_OF_ONE_THREAD: &str = "
 SRC A { x=5; } P0; r0 := 4294967295; r0 := r0 + 2; exists (x=1) => P0 P0 => Test A$Steps 2$End Final$P0 at 2 r0=1 r1=0 r2=0 r3=0 r4=0 r5=0$Memory x=5$
 SRC A { x=5; } P0; r1 := 4; r0 := r1 + r1; exists (x=1) => P0 P0 => Test A$Steps 2$End Final$P0 at 2 r0=8 r1=4 r2=0 r3=0 r4=0 r5=0$Memory x=5$
 SRC A { x=5; } P0; r0 := 7; r0 := swap x r0; exists (x=1) => P0 P0 => Test A$Steps 2$End Final$P0 at 2 r0=5 r1=0 r2=0 r3=0 r4=0 r5=0$Memory x=7$
+SRC A { x=5; } P0; r0 := 3; r0 := fetchadd x r0; exists (x=1) => P0 P0 => Test A$Steps 2$End Final$P0 at 2 r0=5 r1=0 r2=0 r3=0 r4=0 r5=0$Memory x=8$
+SRC A { x=4294967295; 0:r1=1; } P0; r0 := fetchadd x r1; exists (x=1) => P0 => Test A$Steps 1$End Final$P0 at 1 r0=4294967295 r1=1 r2=0 r3=0 r4=0 r5=0$Memory x=0$
 SRC A { x=5; } P0; r1 := 9; x := r1; exists (x=1) => P0 P0 => Test A$Steps 2$End Final$P0 at 2 r0=0 r1=9 r2=0 r3=0 r4=0 r5=0$Memory x=9$
 SRC A { x=5; } P0; r0 := x; if r0 = 5 goto L; x := 1; L:; exists (x=1) => P0 P0 => Test A$Steps 2$End Final$P0 at 3 r0=5 r1=0 r2=0 r3=0 r4=0 r5=0$Memory x=5$
 SRC A { x=5; } P0; r0 := x; if r0 != 5 goto L; x := 1; L:; exists (x=1) => P0 P0 P0 => Test A$Steps 3$End Final$P0 at 3 r0=5 r1=0 r2=0 r3=0 r4=0 r5=0$Memory x=1$
@@ -116,10 +119,11 @@ SRC A {} P0; <16 x := 1; >; exists (x=1) => P0 P0 P0 P0 P0 P0 P0 P0 P0 P0 P0 P0 
 ";
 
 /// Runs of several threads: four of them, with the greatest word; statements in two columns, some cells
-/// empty; a lock that the first thread to swap a 1 into it takes, so that the other jumps over its store.
+/// empty; a counter that both threads add to; a lock that the first thread to swap a 1 into it takes, so that the other jumps over its store.
 const RUNS_OF_SEVERAL_THREADS: &str = "
 SRC W${}$ P0 | P1 | P2 | P3 ;$ b := 4294967295 | | | a := 0x10 ;$ r5 := b | | | ;$ c := r5 | | | ;$exists (c=1) => P3 P0 P0 P0 => Test W$Steps 4$End Final$P0 at 3 r0=0 r1=0 r2=0 r3=0 r4=0 r5=4294967295$P1 at 0 r0=0 r1=0 r2=0 r3=0 r4=0 r5=0$P2 at 0 r0=0 r1=0 r2=0 r3=0 r4=0 r5=0$P3 at 1 r0=0 r1=0 r2=0 r3=0 r4=0 r5=0$Memory c=4294967295 b=4294967295 a=16$
 SRC T${ 1:r1=5; n=7; p=9; }$ P0 | P1 ;$ q := 0x10 | r2 := p ;$ | s := r1 ;$ r5 := n | ;$exists (1:r2=0 /\\ t=1 /\\ s=2)$ => P1 P0 P1 P0 => Test T$Steps 4$End Final$P0 at 2 r0=0 r1=0 r2=0 r3=0 r4=0 r5=7$P1 at 2 r0=0 r1=5 r2=9 r3=0 r4=0 r5=0$Memory n=7 p=9 t=0 s=5 q=16$
+SRC FA${ 0:r1=1; 1:r1=1; }$ P0 | P1 ;$ r0 := fetchadd x r1 | r0 := fetchadd x r1 ;$locations [0:r0; 1:r0;]$forall (x=2)$ => P1 P0 => Test FA$Steps 2$End Final$P0 at 1 r0=1 r1=1 r2=0 r3=0 r4=0 r5=0$P1 at 1 r0=0 r1=1 r2=0 r3=0 r4=0 r5=0$Memory x=2$
 SRC LOCK \"two threads\"$Kind=lock (* not a comment${0:r1=1;1:r1=1}$ P0 | P1 ; (* both (* alike *) *)$ r0 := swap l r1 | r0 := swap l r1 ;$ if r0 != 0 goto E | if r0 = 1 goto E ;$ x := 1 | x := 2 ;$ E: | E: ;$~exists not (true /\\ ([l]=1 \\/ false))$ => P1 P0 P0 P1 P1 => Test LOCK$Steps 5$End Final$P0 at 3 r0=1 r1=1 r2=0 r3=0 r4=0 r5=0$P1 at 3 r0=0 r1=1 r2=0 r3=0 r4=0 r5=0$Memory l=1 x=2$
 ";
 

@@ -20,11 +20,21 @@ fn accesses(rt: HostRuntime) {
             loc,
             src: left,
         }),
+        access(Stmt::FetchAdd {
+            dst,
+            loc,
+            src: left,
+        }),
     );
     assert!(rt;
         matches!(
             in_memory,
-            ((Some(1), true), (Some(1), false), (Some(1), true))
+            (
+                (Some(1), true),
+                (Some(1), false),
+                (Some(1), true),
+                (Some(1), true)
+            )
         )
     );
     let in_registers = (

@@ -1,18 +1,21 @@
-//! The protocol on a plain table: a line for each cache and location, beside the memory array.
+//! The protocols on a plain table: a line for each cache and location, beside the memory array.
 use lw_base::{Cpu, Loc, Word};
-use lw_memory::LineState::{self, E, I, M, S};
+use lw_memory::LineState::{self, E, I, M, O, S};
 use lw_memory::{NotHeld, Request};
+use lw_mesi::Protocol;
 
 /// A letter and a word for each of four caches and eight locations. The word of a line in I says nothing.
 #[derive(Drop)]
 pub struct Table {
+    protocol: Protocol,
     lines: [[(LineState, Word); 8]; 4],
     memory: [Word; 8],
 }
 
 impl Table {
-    pub fn new(words: &[Word; 8]) -> Self {
+    pub fn new(protocol: Protocol, words: &[Word; 8]) -> Self {
         Table {
+            protocol,
             lines: [[(I, 0); 8]; 4],
             memory: *words,
         }
@@ -37,12 +40,12 @@ impl Table {
         self.memory[loc.index()]
     }
 
-    /// The word of the M copy if there is one, else memory's.
+    /// The word of the M or O copy if there is one, else memory's.
     pub fn content(&self, loc: Loc) -> Word {
         let mut word = self.memory[loc.index()];
         for cache in &self.lines {
             let (state, copy) = cache[loc.index()];
-            if state == M {
+            if state == M || state == O {
                 word = copy;
             }
         }
@@ -54,13 +57,16 @@ impl Table {
         let mut is_held = false;
         for cache in &mut self.lines {
             let (state, _) = cache[loc.index()];
-            if state == M {
-                self.memory[loc.index()] = word;
-            }
-            if state != I {
-                cache[loc.index()].0 = S;
-                is_held = true;
-            }
+            cache[loc.index()].0 = match (state, self.protocol) {
+                (I, _) => I,
+                (M | O, Protocol::Moesi) => O,
+                (M, Protocol::Mesi) => {
+                    self.memory[loc.index()] = word;
+                    S
+                }
+                _ => S,
+            };
+            is_held = is_held || state != I;
         }
         self.lines[cpu.index()][loc.index()] = (if is_held { S } else { E }, word);
     }
@@ -84,7 +90,7 @@ impl Table {
     /// Writes a word, and answers the one that it replaces.
     fn write(&mut self, cpu: Cpu, loc: Loc, word: Word) -> Word {
         let (state, _) = self.line(cpu, loc);
-        if state == S || state == I {
+        if state == O || state == S || state == I {
             self.get_m(cpu, loc);
         }
         let (_, old) = self.line(cpu, loc);
@@ -95,7 +101,7 @@ impl Table {
     fn evict(&mut self, cpu: Cpu, loc: Loc) -> Result<(), NotHeld> {
         let (state, word) = self.line(cpu, loc);
         match state {
-            M => self.memory[loc.index()] = word,
+            M | O => self.memory[loc.index()] = word,
             E | S => {}
             I => return Err(NotHeld),
         }
@@ -112,6 +118,10 @@ impl Table {
                 Ok(None)
             }
             Request::Swap(cpu, loc, word) => Ok(Some(self.write(cpu, loc, word))),
+            Request::FetchAdd(cpu, loc, word) => {
+                let sum = self.content(loc).wrapping_add(word);
+                Ok(Some(self.write(cpu, loc, sum)))
+            }
             Request::Evict(cpu, loc) => self.evict(cpu, loc).map(|()| None),
         }
     }
