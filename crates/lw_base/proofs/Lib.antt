@@ -1,6 +1,7 @@
 pub mod Returns
 pub mod Tables
 pub mod GrowingTables
+pub mod Registers
 pub mod Schedules
 pub mod Words
 pub mod Shapes

@@ -1,17 +1,17 @@
 -- Where a name stands in a table, and a table with one name more.
 use Rattle.lw_base.specs.Types.{Bytes, NameTable}
 use Rattle.lw_base.specs.Names.{IsLocation, EachOnce, IsTable}
-use Rattle.lw_base.specs.Tables.{contains_name, with_name, index_of}
+use Rattle.lw_base.specs.Tables.{contains_name, with_name, with_names, index_of}
 use Rattle.std.specs.Str.{bytes_eq}
 use Rattle.std.proofs.lemmas.Bool.{false_from_ne_true, true≢false}
 use Rattle.std.specs.List.{AllByRecursion}
-use Rattle.std.proofs.lemmas.List.{map-append, take_more}
+use Rattle.std.proofs.lemmas.List.{append-nil, append_assoc, map-append, take_more}
 use Rattle.std.proofs.lemmas.List.Elements.{Contains-push_cases, Contains-append_right}
 use Rattle.std.proofs.Common.{◌++◌, ◌||◌, ◌∷◌, length-append, ◌≡◌, ℕ, ◌<◌, ◌+◌, Bool, true, false, suc, zero, List, [], map, length, take, get_or, slice_get, Option, Some, None, MatchOption, Contains, ◌⊎◌, inl, inr, refl, ap, sym, ◌∙◌, subst, nat_eq, arith}
 use Rattle.std.specs.Option.{option_map, SomeIff}
 use Rattle.std.specs.Cmp.{unsigned_Decides}
 use Rattle.std.specs.Cmp.Lexicographic.{pointwise, pointwise_decides}
-use Rattle.std.proofs.lemmas.Option.{slice_get-map, slice_get_read, slice_get_within, get_or_from_slice_get}
+use Rattle.std.proofs.lemmas.Option.{slice_get-get_or, slice_get-map, slice_get_read, slice_get_within, get_or_from_slice_get}
 
 module _ {S : Type 0} (f : S → Bytes) (ss : List S) (p : ℕ) (s : S) (t name : Bytes) (lt : p < length ss) (is : s ≡ get_or ss p s) (text : t ≡ f s) where
   at_place : slice_get (map f ss) p ≡ Some t
@@ -98,7 +98,39 @@ index_of-at (m ∷ names) n (suc l) once at =
     let other : m ≡ n → ⊥ = λ e. once.0 (l, slice_get_within names l m (at ∙ ap Some (sym e)), get_or_from_slice_get names l m m (at ∙ ap Some (sym e))) in
     rw (other_bytes m n other) (ap (λ (k : ℕ). 1 + k) (index_of-at names n l once.1 at) ∙ omega arith)
 
+pub index_of-again : (names : NameTable) → EachOnce names → (x : ℕ) → x < length names → index_of names (get_or names x []) ≡ x
+index_of-again names once x h = index_of-at names (get_or names x []) x once (slice_get-get_or names x [] h)
+
 pub index_of-new : (names : NameTable) (n : Bytes) → (Contains names n → ⊥) → index_of (names ++ n ∷ []) n ≡ length names
 index_of-new [] n fresh = rw (same_bytes n n refl) refl
 index_of-new (m ∷ names) n fresh =
     rw (other_bytes m n (λ e. fresh (0, omega arith, e))) (ap (λ (k : ℕ). 1 + k) (index_of-new names n (λ k. fresh (Contains-append_right (m ∷ []) names n k))) ∙ omega arith)
+
+-- the name stands at a place of the table
+abbrev pub IsInTable : NameTable → Bytes → Type 0
+IsInTable names n = (l : ℕ) × (slice_get names l ≡ Some n)
+
+-- names that are in the table make it no longer
+pub with_names-there : (names ns : NameTable) → AllByRecursion (IsInTable names) ns → with_names names ns ≡ names
+with_names-there names [] h = refl
+with_names-there names (n ∷ ns) h = ap (λ (t : NameTable). with_names t ns) (with_name-there names n h.0.0 h.0.1) ∙ with_names-there names ns h.1
+
+-- a name that comes later does not stand before
+not_before : (before ns : NameTable) (n : Bytes) → EachOnce (before ++ (n ∷ ns)) → Contains before n → ⊥
+not_before [] ns n once there = let k : there.0 < 0 = there.1 in absurd (omega arith)
+not_before (b ∷ before) ns n once there = at there.0 there.1 there.2 (not_before before ns n once.1)
+  where
+    at : (k : ℕ) → k < length (b ∷ before) → get_or (b ∷ before) k n ≡ n → (Contains before n → ⊥) → ⊥
+    at zero lt e further = once.0 (subst (λ (m : Bytes). Contains (before ++ (n ∷ ns)) m) (sym e) (Contains-append_right before (n ∷ ns) n (0, omega arith, refl)))
+    at (suc k) lt e further = further (k, omega (arith, lt), e)
+
+-- names that each appear once are put last one by one
+with_names-new : (before ns : NameTable) → EachOnce (before ++ ns) → with_names before ns ≡ before ++ ns
+with_names-new before [] once = sym (append-nil before)
+with_names-new before (n ∷ ns) once =
+    let e : before ++ (n ∷ ns) ≡ (before ++ n ∷ []) ++ ns = sym (append_assoc before (n ∷ []) ns) in
+    ap (λ (t : NameTable). with_names t ns) (with_name-new before n (not_before before ns n once)) ∙ with_names-new (before ++ n ∷ []) ns (subst EachOnce e once) ∙ sym e
+
+-- a table's own names make it
+pub with_names-again : (names : NameTable) → EachOnce names → with_names [] names ≡ names
+with_names-again names once = with_names-new [] names once

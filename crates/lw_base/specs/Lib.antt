@@ -5,6 +5,7 @@ pub mod Characters
 pub mod Kinds
 pub mod Names
 pub mod Tables
+pub mod Languages
 pub mod Registers
 pub mod Formula
 pub mod Propositions

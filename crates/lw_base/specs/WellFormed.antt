@@ -32,12 +32,12 @@ abbrev pub Ascending : List Seen → Type 0
 Ascending [] = Unit {0}
 Ascending (s ∷ ss) = AllByRecursion (ComesBefore s) ss × Ascending ss
 
--- The formula speaks of so many threads and locations only.
+-- The formula speaks of so many threads and locations only, and of words.
 abbrev pub SpeaksOf : ℕ → ℕ → Formula → Type 0
 SpeaksOf threads locs Yes = Unit {0}
 SpeaksOf threads locs No = Unit {0}
-SpeaksOf threads locs (Reg_is t r n) = (t < threads) × (r < REGISTERS)
-SpeaksOf threads locs (Word_is x n) = x < locs
+SpeaksOf threads locs (Reg_is t r n) = (t < threads) × (r < REGISTERS) × IsWord n
+SpeaksOf threads locs (Word_is x n) = (x < locs) × IsWord n
 SpeaksOf threads locs (Not p) = SpeaksOf threads locs p
 SpeaksOf threads locs (And p q) = SpeaksOf threads locs p × SpeaksOf threads locs q
 SpeaksOf threads locs (Or p q) = SpeaksOf threads locs p × SpeaksOf threads locs q
@@ -52,7 +52,9 @@ pub record IsWellFormedHead (h : TestHead) : Type 0 where
   pub table : IsTable h.locs
   pub regs : length h.init_regs ≡ h.threads
   pub six : AllByRecursion (λ row. length row ≡ REGISTERS) h.init_regs
+  pub register_words : AllByRecursion (AllByRecursion IsWord) h.init_regs
   pub words : length h.init_words ≡ length h.locs
+  pub location_words : AllByRecursion IsWord h.init_words
   pub there : AllByRecursion (IsSeen h.threads (length h.locs)) h.listed
   pub ascending : Ascending h.listed
   pub nodes_few : nodes h.condition ≤ MAX_NODES

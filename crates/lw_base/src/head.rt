@@ -14,7 +14,7 @@ use std::alloc::{AllocError, Allocator, Global};
 pub enum Arch {
     /// The workbench's own source language, `SRC`.
     Source,
-    /// x86 instructions, `X86`. Not read yet.
+    /// x86 instructions, `X86`.
     X86,
 }
 

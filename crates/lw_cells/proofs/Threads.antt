@@ -146,12 +146,13 @@ module _ {Syntax Stmt : Type 0} (language : Language Syntax Stmt) (lawful : IsLa
 
   -- The test of a frame, of which a copy of the head was read on.
   module _ (frame_head head : TestHead) (same : head ≡ frame_head) (cells : List (List (List (List ℕ)))) where
-    pub test_found : (threads : List (List Stmt)) (names : List (List ℕ)) (words : List ℕ) → ColumnsRead language cells head.locs threads names → length names ≤ 8 → words ≡ head.init_words ++ replicate (length names - length head.locs) 0
+    pub test_found : (threads : List (List Stmt)) (names : List (List ℕ)) (words : List ℕ) → frame_head.arch ≡ language.arch → ColumnsRead language cells head.locs threads names → length names ≤ 8 → words ≡ head.init_words ++ replicate (length names - length head.locs) 0
         → HasTest language (record { head = frame_head; cells = cells }) (record { head = changed head names words; threads = threads })
-    test_found threads names words read few filled =
+    test_found threads names words word read few filled =
         let test : Test Stmt = record { head = changed head names words; threads = threads } in
         let found : HasTest language (record { head = head; cells = cells }) test =
         record {
+          arch = ap (λ (h : TestHead). h.arch) same ∙ word;
           threads = read.syntaxes;
           says = read.says;
           few = subst (λ ns. length ns ≤ 8) read.names few;

@@ -1,5 +1,5 @@
 -- Two lists of which each item of one stands to its fellow in a relation.
-use Rattle.std.proofs.Common.{◌≡◌, ℕ, zero, suc, Some, List, [], ◌∷◌, ◌++◌, length, take, drop, refl, ap, subst}
+use Rattle.std.proofs.Common.{◌≡◌, ℕ, zero, suc, Some, List, [], ◌∷◌, ◌++◌, length, take, drop, replicate, refl, ap, subst}
 use Rattle.std.specs.Prelude.{slice_get}
 use Rattle.std.specs.List.{AllZip}
 
@@ -56,3 +56,13 @@ module _ {X Y : Type 0} (R : X → Y → Type 0) where
   zip_drop [] (b ∷ ys) (suc k) h = absurd h
   zip_drop (a ∷ xs) [] (suc k) h = absurd h
   zip_drop (a ∷ xs) (b ∷ ys) (suc k) h = zip_drop xs ys k h.1
+
+  pub zip_append : (xs us : List X) (ys vs : List Y) → AllZip R xs ys → AllZip R us vs → AllZip R (xs ++ us) (ys ++ vs)
+  zip_append [] us [] vs h k = k
+  zip_append [] us (y ∷ ys) vs h k = absurd h
+  zip_append (x ∷ xs) us [] vs h k = absurd h
+  zip_append (x ∷ xs) us (y ∷ ys) vs h k = (h.0, zip_append xs us ys vs h.1 k)
+
+  pub zip_replicate : (n : ℕ) (x : X) (y : Y) → R x y → AllZip R (replicate n x) (replicate n y)
+  zip_replicate zero x y h = tt
+  zip_replicate (suc n) x y h = (h, zip_replicate n x y h)

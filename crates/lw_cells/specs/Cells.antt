@@ -90,8 +90,9 @@ module _ {Syntax Stmt : Type 0} (language : Language Syntax Stmt) where
   test_on head names threads =
       record { head = with_table head names; threads = map (code_in names) threads }
 
-  -- The cells of the frame say the statements of the test, on at most eight locations.
+  -- The frame is of the language, and its cells say the statements of the test, on at most eight locations.
   pub record HasTest (frame : TestFrame) (test : Test Stmt) : Type 0 where
+    pub arch : frame.head.arch ≡ language.arch
     pub threads : List (List (CellSyntax Syntax))
     pub says : AllZip Column frame.cells threads
     pub few : length (with_names frame.head.locs (names_of threads)) ≤ MAX_LOCATIONS

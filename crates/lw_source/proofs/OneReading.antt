@@ -7,11 +7,12 @@ use Rattle.lw_base.specs.declared.operand.Operand.TheVariants.{Register, Number}
 use Rattle.lw_base.specs.Characters.{is_word_byte}
 use Rattle.lw_base.specs.Names.{IsLocation}
 use Rattle.lw_base.specs.Registers.{IsRegister}
+use Rattle.lw_base.proofs.Registers.{register_unique}
 use Rattle.lw_text.specs.Tokens.{IsNumber}
 use Rattle.lw_text.proofs.Atoms.{number-unique}
 use Rattle.lw_cells.specs.Operands.{IsOperand}
 use Rattle.lw_source.specs.Syntax.{StatementSyntax, Stores, Loads, Swaps, Fetch_adds, Sets, Sums, Jumps_if, Jumps_if_not, Jumps, StatementSays}
-use Rattle.lw_source.proofs.Phrases.{first_of, other_letter, begins_as, register_apart, no_reserved, if_register, goto_register, swap_register, fetch_add_register, swap_fetch_add, goto_if, if_if, register_unique, operand_unique}
+use Rattle.lw_source.proofs.Phrases.{first_of, other_letter, begins_as, register_apart, no_reserved, if_register, goto_register, swap_register, fetch_add_register, swap_fetch_add, goto_if, if_if, operand_unique}
 use Rattle.lw_cells.proofs.TokenRows.{location_number}
 
 apart01 : (a : List ℕ) (r : ℕ) → IsLocation a → IsRegister Source a r → ⊥
@@ -66,7 +67,7 @@ statement_unique ts (Stores x v) (Jumps j) h k = let f = first_of ts (Stores x v
 statement_unique ts (Loads d x) (Stores y w) h k = let f = first_of ts (Loads d x) h in absurd (apart01 f.0 d (begins_as ts f.0 (Stores y w) f.1 k) (begins_as ts f.0 (Loads d x) f.1 h))
 statement_unique ts (Loads d x) (Loads e y) h k =
     let f = three_same h.0 _ x k.0 _ y (sym h.1 ∙ k.1) in
-    let one : d ≡ e = register_unique h.0 d e h.2 (subst (λ u. IsRegister Source u e) (sym f.0) k.2) in
+    let one : d ≡ e = register_unique Source h.0 d e h.2 (subst (λ u. IsRegister Source u e) (sym f.0) k.2) in
     let name : x ≡ y = f.1 in
     cc
 statement_unique ts (Loads d x) (Swaps e y q) h k = absurd (omega (arith, ap length h.1, ap length k.2))
@@ -82,9 +83,9 @@ statement_unique ts (Swaps d x r) (Stores y w) h k = let f = first_of ts (Swaps 
 statement_unique ts (Swaps d x r) (Loads e y) h k = absurd (omega (arith, ap length h.2, ap length k.1))
 statement_unique ts (Swaps d x r) (Swaps e y q) h k =
     let f = five_same h.0 _ _ x h.1 k.0 _ _ y k.1 (sym h.2 ∙ k.2) in
-    let one : d ≡ e = register_unique h.0 d e h.3 (subst (λ u. IsRegister Source u e) (sym f.0) k.3) in
+    let one : d ≡ e = register_unique Source h.0 d e h.3 (subst (λ u. IsRegister Source u e) (sym f.0) k.3) in
     let name : x ≡ y = f.2 in
-    let other : r ≡ q = register_unique h.1 r q h.5 (subst (λ u. IsRegister Source u q) (sym f.3) k.5) in
+    let other : r ≡ q = register_unique Source h.1 r q h.5 (subst (λ u. IsRegister Source u q) (sym f.3) k.5) in
     cc
 statement_unique ts (Swaps d x r) (Fetch_adds e y q) h k =
     let f = five_same h.0 _ (codes "swap") x h.1 k.0 _ (codes "fetchadd") y k.1 (sym h.2 ∙ k.2) in
@@ -103,9 +104,9 @@ statement_unique ts (Fetch_adds d x r) (Swaps e y q) h k =
     absurd (swap_fetch_add (sym f.1))
 statement_unique ts (Fetch_adds d x r) (Fetch_adds e y q) h k =
     let f = five_same h.0 _ _ x h.1 k.0 _ _ y k.1 (sym h.2 ∙ k.2) in
-    let one : d ≡ e = register_unique h.0 d e h.3 (subst (λ u. IsRegister Source u e) (sym f.0) k.3) in
+    let one : d ≡ e = register_unique Source h.0 d e h.3 (subst (λ u. IsRegister Source u e) (sym f.0) k.3) in
     let name : x ≡ y = f.2 in
-    let other : r ≡ q = register_unique h.1 r q h.5 (subst (λ u. IsRegister Source u q) (sym f.3) k.5) in
+    let other : r ≡ q = register_unique Source h.1 r q h.5 (subst (λ u. IsRegister Source u q) (sym f.3) k.5) in
     cc
 statement_unique ts (Fetch_adds d x r) (Sets e w) h k = absurd (omega (arith, ap length h.2, ap length k.2))
 statement_unique ts (Fetch_adds d x r) (Sums e m w) h k =
@@ -122,7 +123,7 @@ statement_unique ts (Sets d v) (Swaps e y q) h k = absurd (omega (arith, ap leng
 statement_unique ts (Sets d v) (Fetch_adds e y q) h k = absurd (omega (arith, ap length h.2, ap length k.2))
 statement_unique ts (Sets d v) (Sets e w) h k =
     let f = three_same h.0 _ h.1 k.0 _ k.1 (sym h.2 ∙ k.2) in
-    let one : d ≡ e = register_unique h.0 d e h.3 (subst (λ u. IsRegister Source u e) (sym f.0) k.3) in
+    let one : d ≡ e = register_unique Source h.0 d e h.3 (subst (λ u. IsRegister Source u e) (sym f.0) k.3) in
     let value : v ≡ w = operand_unique h.1 v w h.4 (subst (λ u. IsOperand Source u w) (sym f.1) k.4) in
     cc
 statement_unique ts (Sets d v) (Sums e m w) h k = absurd (omega (arith, ap length h.2, ap length k.3))
@@ -140,8 +141,8 @@ statement_unique ts (Sums d l v) (Fetch_adds e y q) h k =
 statement_unique ts (Sums d l v) (Sets e w) h k = absurd (omega (arith, ap length h.3, ap length k.2))
 statement_unique ts (Sums d l v) (Sums e m w) h k =
     let f = five_same h.0 _ h.1 _ h.2 k.0 _ k.1 _ k.2 (sym h.3 ∙ k.3) in
-    let one : d ≡ e = register_unique h.0 d e h.4 (subst (λ u. IsRegister Source u e) (sym f.0) k.4) in
-    let other : l ≡ m = register_unique h.1 l m h.5 (subst (λ u. IsRegister Source u m) (sym f.1) k.5) in
+    let one : d ≡ e = register_unique Source h.0 d e h.4 (subst (λ u. IsRegister Source u e) (sym f.0) k.4) in
+    let other : l ≡ m = register_unique Source h.1 l m h.5 (subst (λ u. IsRegister Source u m) (sym f.1) k.5) in
     let value : v ≡ w = operand_unique h.2 v w h.6 (subst (λ u. IsOperand Source u w) (sym f.3) k.6) in
     cc
 statement_unique ts (Sums d l v) (Jumps_if q m j) h k = let f = first_of ts (Sums d l v) h in absurd (apart12 f.0 d (begins_as ts f.0 (Sums d l v) f.1 h) (begins_as ts f.0 (Jumps_if q m j) f.1 k))
@@ -155,7 +156,7 @@ statement_unique ts (Jumps_if r n l) (Sets e w) h k = let f = first_of ts (Jumps
 statement_unique ts (Jumps_if r n l) (Sums e m w) h k = let f = first_of ts (Jumps_if r n l) h in absurd (apart12 f.0 e (begins_as ts f.0 (Sums e m w) f.1 k) (begins_as ts f.0 (Jumps_if r n l) f.1 h))
 statement_unique ts (Jumps_if r n l) (Jumps_if q m j) h k =
     let f = six_same _ h.0 _ h.1 _ l _ k.0 _ k.1 _ j (sym h.2 ∙ k.2) in
-    let one : r ≡ q = register_unique h.0 r q h.3 (subst (λ u. IsRegister Source u q) (sym f.0) k.3) in
+    let one : r ≡ q = register_unique Source h.0 r q h.3 (subst (λ u. IsRegister Source u q) (sym f.0) k.3) in
     let num : n ≡ m = number-unique h.1 n m h.4 (subst (λ u. IsNumber u m) (sym f.2) k.4) in
     let name : l ≡ j = f.3 in
     cc
@@ -174,7 +175,7 @@ statement_unique ts (Jumps_if_not r n l) (Jumps_if q m j) h k =
     absurd (if_if (sym f.1))
 statement_unique ts (Jumps_if_not r n l) (Jumps_if_not q m j) h k =
     let f = six_same _ h.0 _ h.1 _ l _ k.0 _ k.1 _ j (sym h.2 ∙ k.2) in
-    let one : r ≡ q = register_unique h.0 r q h.3 (subst (λ u. IsRegister Source u q) (sym f.0) k.3) in
+    let one : r ≡ q = register_unique Source h.0 r q h.3 (subst (λ u. IsRegister Source u q) (sym f.0) k.3) in
     let num : n ≡ m = number-unique h.1 n m h.4 (subst (λ u. IsNumber u m) (sym f.2) k.4) in
     let name : l ≡ j = f.3 in
     cc

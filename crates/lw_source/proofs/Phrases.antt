@@ -7,6 +7,7 @@ use Rattle.lw_base.specs.declared.operand.Operand.TheVariants.{Register, Number}
 use Rattle.lw_base.specs.Names.{IsLocation, is_reserved}
 use Rattle.lw_base.specs.Registers.{IsRegister}
 use Rattle.lw_base.specs.Tables.{with_name, index_of}
+use Rattle.lw_base.proofs.Registers.{register_unique}
 use Rattle.lw_text.specs.Tokens.{IsNumber, Digits}
 use Rattle.lw_text.specs.declared.token.Token.{Token}
 use Rattle.lw_text.specs.Spans.{texts}
@@ -53,14 +54,8 @@ register_number w r n reg (b, inr h) =
     let e : 114 ∷ (48 + r) ∷ [] ≡ 48 ∷ 120 ∷ h.0 = reg.1 ∙ h.1 in
     apart 114 48 _ _ (λ differ. omega arith) e
 
-pub register_unique : (w : List ℕ) (r q : ℕ) → IsRegister Source w r → IsRegister Source w q → r ≡ q
-register_unique w r q h k =
-    let e : 114 ∷ (48 + r) ∷ [] ≡ 114 ∷ (48 + q) ∷ [] = h.1 ∙ sym k.1 in
-    let f : 48 + r ≡ 48 + q = cc in
-    omega arith
-
 pub operand_unique : (w : List ℕ) (o p : Operand) → IsOperand Source w o → IsOperand Source w p → o ≡ p
-operand_unique w (Register r) (Register q) h k = ap Register (register_unique w r q h k)
+operand_unique w (Register r) (Register q) h k = ap Register (register_unique Source w r q h k)
 operand_unique w (Register r) (Number n) h k = absurd (register_number w r n h k)
 operand_unique w (Number n) (Register r) h k = absurd (register_number w r n k h)
 operand_unique w (Number n) (Number m) h k = ap Number (number-unique w n m h k)

@@ -1,13 +1,14 @@
 -- Numbers, values and sites are read in one way.
-use Rattle.std.proofs.Common.{◌≡◌, ℕ, ◌+◌, ◌<◌, ◌⊎◌, inl, inr, true, [], ◌∷◌, ◌++◌, length, ap, subst, arith}
+use Rattle.std.proofs.Common.{◌≡◌, ℕ, ◌<◌, ◌⊎◌, inl, inr, true, [], ◌∷◌, ◌++◌, length, ap, subst, arith}
 use Rattle.std.specs.Prelude.{codes}
 use Rattle.std.specs.Char.{digit_value, is_ascii_digit}
 use Rattle.std.proofs.lemmas.Bool.Decides.{nat_tests}
 use Rattle.lw_base.specs.Types.{Bytes, TokenList}
-use Rattle.lw_base.specs.declared.head.Arch.TheVariants.{Source}
+use Rattle.lw_base.specs.declared.head.Arch.{Arch}
 use Rattle.lw_base.specs.Characters.{begins}
 use Rattle.lw_base.specs.Names.{IsName}
 use Rattle.lw_base.specs.Registers.{IsRegister}
+use Rattle.lw_base.proofs.Registers.{register_unique}
 use Rattle.lw_text.specs.Tokens.{Digits, IsNumber}
 use Rattle.lw_text.specs.Sites.{SiteSyntax, InMemory, InThread, IsSite, Value}
 use Rattle.lw_text.proofs.Numbers.{Digits-unique}
@@ -54,9 +55,6 @@ Value-unique ts r s v w p q =
 pub Value-shorter : (ts rest : TokenList) (v : ℕ) → Value ts v rest → length rest < length ts
 Value-shorter ts rest v p = omega (arith, ap length p.1)
 
-register-unique : (q : Bytes) (r s : ℕ) → IsRegister Source q r → IsRegister Source q s → r ≡ s
-register-unique q r s a b = let f = a.1 in let g = b.1 in let e : 48 + r ≡ 48 + s = cc in omega arith
-
 -- ---- sites
 
 pub bracket_no_name : IsName (codes "[") → ⊥
@@ -65,36 +63,36 @@ bracket_no_name n = let h = n.0.all.0 in cc
 pub bracket_no_number : (n : ℕ) → IsNumber (codes "[") n → ⊥
 bracket_no_number n h = let k = number_first (codes "[") n h in cc
 
-pub IsSite-unique : (ts : TokenList) (a b : SiteSyntax) (r s : TokenList) → IsSite ts a r → IsSite ts b s → (a ≡ b) × (r ≡ s)
-IsSite-unique ts (InMemory x) (InMemory y) r s (p, inl e) (q, inl f) = let k : x ≡ y = cc in (ap InMemory k, cc)
-IsSite-unique ts (InMemory x) (InMemory y) r s (p, inl e) (q, inr f) = let k : x ≡ codes "[" = cc in absurd (bracket_no_name (subst IsName k p.0))
-IsSite-unique ts (InMemory x) (InMemory y) r s (p, inr e) (q, inl f) = let k : y ≡ codes "[" = cc in absurd (bracket_no_name (subst IsName k q.0))
-IsSite-unique ts (InMemory x) (InMemory y) r s (p, inr e) (q, inr f) = let k : x ≡ y = cc in (ap InMemory k, cc)
-IsSite-unique ts (InMemory x) (InThread t n) r s (p, inl e) q = let f = q.2 in let k : x ≡ q.0 = cc in absurd (number_no_name q.0 t q.3 (subst IsName k p.0))
-IsSite-unique ts (InMemory x) (InThread t n) r s (p, inr e) q = let f = q.2 in let k : q.0 ≡ codes "[" = cc in absurd (bracket_no_number t (subst (λ w. IsNumber w t) k q.3))
-IsSite-unique ts (InThread t n) (InMemory x) r s p (q, inl e) = let f = p.2 in let k : x ≡ p.0 = cc in absurd (number_no_name p.0 t p.3 (subst IsName k q.0))
-IsSite-unique ts (InThread t n) (InMemory x) r s p (q, inr e) = let f = p.2 in let k : p.0 ≡ codes "[" = cc in absurd (bracket_no_number t (subst (λ w. IsNumber w t) k p.3))
-IsSite-unique ts (InThread t n) (InThread u m) r s p q =
+pub IsSite-unique : (arch : Arch) (ts : TokenList) (a b : SiteSyntax) (r s : TokenList) → IsSite arch ts a r → IsSite arch ts b s → (a ≡ b) × (r ≡ s)
+IsSite-unique arch ts (InMemory x) (InMemory y) r s (p, inl e) (q, inl f) = let k : x ≡ y = cc in (ap InMemory k, cc)
+IsSite-unique arch ts (InMemory x) (InMemory y) r s (p, inl e) (q, inr f) = let k : x ≡ codes "[" = cc in absurd (bracket_no_name (subst IsName k p.0))
+IsSite-unique arch ts (InMemory x) (InMemory y) r s (p, inr e) (q, inl f) = let k : y ≡ codes "[" = cc in absurd (bracket_no_name (subst IsName k q.0))
+IsSite-unique arch ts (InMemory x) (InMemory y) r s (p, inr e) (q, inr f) = let k : x ≡ y = cc in (ap InMemory k, cc)
+IsSite-unique arch ts (InMemory x) (InThread t n) r s (p, inl e) q = let f = q.2 in let k : x ≡ q.0 = cc in absurd (number_no_name q.0 t q.3 (subst IsName k p.0))
+IsSite-unique arch ts (InMemory x) (InThread t n) r s (p, inr e) q = let f = q.2 in let k : q.0 ≡ codes "[" = cc in absurd (bracket_no_number t (subst (λ w. IsNumber w t) k q.3))
+IsSite-unique arch ts (InThread t n) (InMemory x) r s p (q, inl e) = let f = p.2 in let k : x ≡ p.0 = cc in absurd (number_no_name p.0 t p.3 (subst IsName k q.0))
+IsSite-unique arch ts (InThread t n) (InMemory x) r s p (q, inr e) = let f = p.2 in let k : p.0 ≡ codes "[" = cc in absurd (bracket_no_number t (subst (λ w. IsNumber w t) k p.3))
+IsSite-unique arch ts (InThread t n) (InThread u m) r s p q =
     let f = p.2 in
     let g = q.2 in
     let j : q.0 ≡ p.0 = cc in
     let k : q.1 ≡ p.1 = cc in
     let a : t ≡ u = number-unique p.0 t u p.3 (subst (λ x. IsNumber x u) j q.3) in
-    let b : n ≡ m = register-unique p.1 n m p.4 (subst (λ x. IsRegister Source x m) k q.4) in
+    let b : n ≡ m = register_unique arch p.1 n m p.4 (subst (λ x. IsRegister arch x m) k q.4) in
     (cc, cc)
 
-pub IsSite-shorter : (ts rest : TokenList) (s : SiteSyntax) → IsSite ts s rest → length rest < length ts
-IsSite-shorter ts rest (InMemory x) (p, inl e) = omega (arith, ap length e)
-IsSite-shorter ts rest (InMemory x) (p, inr e) = omega (arith, ap length e)
-IsSite-shorter ts rest (InThread t r) p = omega (arith, ap length p.2)
+pub IsSite-shorter : (arch : Arch) (ts rest : TokenList) (s : SiteSyntax) → IsSite arch ts s rest → length rest < length ts
+IsSite-shorter arch ts rest (InMemory x) (p, inl e) = omega (arith, ap length e)
+IsSite-shorter arch ts rest (InMemory x) (p, inr e) = omega (arith, ap length e)
+IsSite-shorter arch ts rest (InThread t r) p = omega (arith, ap length p.2)
 
 -- a site begins with a name, a number or a `[`
-pub site_front : (ts rest : TokenList) (s : SiteSyntax) → IsSite ts s rest → (t : Bytes) (l : TokenList) → ts ≡ t ∷ l → IsName t ⊎ (((n : ℕ) × IsNumber t n) ⊎ (t ≡ codes "["))
-site_front ts rest (InMemory x) (p, inl e) t l f = let k : x ≡ t = cc in inl (subst IsName k p.0)
-site_front ts rest (InMemory x) (p, inr e) t l f = inr (inr cc)
-site_front ts rest (InThread u r) p t l f = let g = p.2 in let k : p.0 ≡ t = cc in inr (inl (u, subst (λ w. IsNumber w u) k p.3))
+pub site_front : (arch : Arch) (ts rest : TokenList) (s : SiteSyntax) → IsSite arch ts s rest → (t : Bytes) (l : TokenList) → ts ≡ t ∷ l → IsName t ⊎ (((n : ℕ) × IsNumber t n) ⊎ (t ≡ codes "["))
+site_front arch ts rest (InMemory x) (p, inl e) t l f = let k : x ≡ t = cc in inl (subst IsName k p.0)
+site_front arch ts rest (InMemory x) (p, inr e) t l f = inr (inr cc)
+site_front arch ts rest (InThread u r) p t l f = let g = p.2 in let k : p.0 ≡ t = cc in inr (inl (u, subst (λ w. IsNumber w u) k p.3))
 
-pub site_none : (ts rest : TokenList) (s : SiteSyntax) → ts ≡ [] → IsSite ts s rest → ⊥
-site_none ts rest (InMemory x) e (p, inl f) = cc
-site_none ts rest (InMemory x) e (p, inr f) = cc
-site_none ts rest (InThread t r) e p = let f = p.2 in cc
+pub site_none : (arch : Arch) (ts rest : TokenList) (s : SiteSyntax) → ts ≡ [] → IsSite arch ts s rest → ⊥
+site_none arch ts rest (InMemory x) e (p, inl f) = cc
+site_none arch ts rest (InMemory x) e (p, inr f) = cc
+site_none arch ts rest (InThread t r) e p = let f = p.2 in cc

@@ -5,6 +5,7 @@ use Rattle.std.specs.List.{list_all}
 use Rattle.std.proofs.lemmas.List.{take_all, take-append-drop}
 use Rattle.std.proofs.lemmas.List.Folds.{list_all-append, list_all_more}
 use Rattle.lw_base.specs.Types.{Bytes, TokenList}
+use Rattle.lw_base.specs.declared.head.Arch.{Arch}
 use Rattle.lw_base.specs.Names.{IsName}
 use Rattle.lw_text.specs.Tokens.{IsNumber}
 use Rattle.lw_text.specs.Sites.{SiteSyntax, IsSite, Value}
@@ -13,21 +14,21 @@ use Rattle.lw_text.proofs.Atoms.{number_first, Value-unique, IsSite-unique, site
 
 -- ---- what an entry is
 
-pub IsEntry-unique : (ts : TokenList) (a b : EntrySyntax) (r s : TokenList) → IsEntry ts a r → IsEntry ts b s → (a ≡ b) × (r ≡ s)
-IsEntry-unique ts a b r s p q =
-    let e = IsSite-unique ts a.site b.site p.0 q.0 p.1 q.1 in
+pub IsEntry-unique : (arch : Arch) (ts : TokenList) (a b : EntrySyntax) (r s : TokenList) → IsEntry arch ts a r → IsEntry arch ts b s → (a ≡ b) × (r ≡ s)
+IsEntry-unique arch ts a b r s p q =
+    let e = IsSite-unique arch ts a.site b.site p.0 q.0 p.1 q.1 in
     let f = Value-unique p.0 r s a.word b.word p.2 (subst (λ l. Value l b.word s) (sym e.1) q.2) in
     (ap (λ x. record { site = x; word = a.word }) e.0 ∙ ap (λ (w : ℕ). record { site = b.site; word = w }) f.0, f.1)
 
-pub value_missing : (ts mid : TokenList) (site : SiteSyntax) → IsSite ts site mid → ((v : ℕ) (rest : TokenList) → Value mid v rest → ⊥) → (e : EntrySyntax) (rest : TokenList) → IsEntry ts e rest → ⊥
-value_missing ts mid site s never e rest p = never e.word rest (subst (λ l. Value l e.word rest) (IsSite-unique ts e.site site p.0 mid p.1 s).1 p.2)
+pub value_missing : (arch : Arch) (ts mid : TokenList) (site : SiteSyntax) → IsSite arch ts site mid → ((v : ℕ) (rest : TokenList) → Value mid v rest → ⊥) → (e : EntrySyntax) (rest : TokenList) → IsEntry arch ts e rest → ⊥
+value_missing arch ts mid site s never e rest p = never e.word rest (subst (λ l. Value l e.word rest) (IsSite-unique arch ts e.site site p.0 mid p.1 s).1 p.2)
 
-pub entry_none : (ts rest : TokenList) (e : EntrySyntax) → ts ≡ [] → IsEntry ts e rest → ⊥
-entry_none ts rest e f p = site_none ts p.0 e.site f p.1
+pub entry_none : (arch : Arch) (ts rest : TokenList) (e : EntrySyntax) → ts ≡ [] → IsEntry arch ts e rest → ⊥
+entry_none arch ts rest e f p = site_none arch ts p.0 e.site f p.1
 
 -- no site begins with a mark
-mark_front : (t : Bytes) (ts l rest : TokenList) (s : SiteSyntax) → (IsName t → ⊥) → ((n : ℕ) → IsNumber t n → ⊥) → (t ≡ codes "[" → ⊥) → ts ≡ t ∷ l → IsSite ts s rest → ⊥
-mark_front t ts l rest s no_name no_number no_bracket e p = elim (site_front ts rest s p t l e) [ inl h ↦ no_name h | inr h ↦ elim h [ inl k ↦ no_number k.0 k.1 | inr k ↦ no_bracket k ] ]
+mark_front : (arch : Arch) (t : Bytes) (ts l rest : TokenList) (s : SiteSyntax) → (IsName t → ⊥) → ((n : ℕ) → IsNumber t n → ⊥) → (t ≡ codes "[" → ⊥) → ts ≡ t ∷ l → IsSite arch ts s rest → ⊥
+mark_front arch t ts l rest s no_name no_number no_bracket e p = elim (site_front arch ts rest s p t l e) [ inl h ↦ no_name h | inr h ↦ elim h [ inl k ↦ no_number k.0 k.1 | inr k ↦ no_bracket k ] ]
 
 abbrev pub brace : Bytes
 brace = codes "}"
@@ -38,11 +39,11 @@ bracket = codes "]"
 abbrev pub semicolon : Bytes
 semicolon = codes ";"
 
-pub brace_unlike : (ts r l : TokenList) (e : EntrySyntax) → ts ≡ brace ∷ l → IsEntry ts e r → ⊥
-brace_unlike ts r l e f p = mark_front brace ts l p.0 e.site (λ n. let h = n.0.all.0 in cc) (λ n h. let k = number_first brace n h in cc) (λ h. let k = ap (λ (w : Bytes). get_or w 0 0) h in absurd (omega arith)) f p.1
+pub brace_unlike : (arch : Arch) (ts r l : TokenList) (e : EntrySyntax) → ts ≡ brace ∷ l → IsEntry arch ts e r → ⊥
+brace_unlike arch ts r l e f p = mark_front arch brace ts l p.0 e.site (λ n. let h = n.0.all.0 in cc) (λ n h. let k = number_first brace n h in cc) (λ h. let k = ap (λ (w : Bytes). get_or w 0 0) h in absurd (omega arith)) f p.1
 
-pub bracket_unlike : (ts r l : TokenList) (s : SiteSyntax) → ts ≡ bracket ∷ l → IsSite ts s r → ⊥
-bracket_unlike ts r l s f p = mark_front bracket ts l r s (λ n. let h = n.0.all.0 in cc) (λ n h. let k = number_first bracket n h in cc) (λ h. let k = ap (λ (w : Bytes). get_or w 0 0) h in absurd (omega arith)) f p
+pub bracket_unlike : (arch : Arch) (ts r l : TokenList) (s : SiteSyntax) → ts ≡ bracket ∷ l → IsSite arch ts s r → ⊥
+bracket_unlike arch ts r l s f p = mark_front arch bracket ts l r s (λ n. let h = n.0.all.0 in cc) (λ n h. let k = number_first bracket n h in cc) (λ h. let k = ap (λ (w : Bytes). get_or w 0 0) h in absurd (omega arith)) f p
 
 pub brace_apart : semicolon ≡ brace → ⊥
 brace_apart h = let k = ap (λ (w : Bytes). get_or w 0 0) h in absurd (omega arith)

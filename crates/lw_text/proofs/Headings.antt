@@ -1,14 +1,18 @@
--- The word `SRC`, blanks, a test's name and its notes are read in one way.
+-- The word of a language, blanks, a test's name and its notes are read in one way.
 use Rattle.std.proofs.Common.{◌≡◌, ℕ, inl, inr, true, false, not, [], ◌∷◌, ◌++◌, length, refl, sym, ap, ◌∙◌, subst, arith}
 use Rattle.std.specs.Prelude.{codes}
 use Rattle.std.specs.List.{AllByRecursion}
 use Rattle.std.specs.Char.{is_ascii_graphic}
 use Rattle.std.proofs.lemmas.Bool.{not-true, cases_Bool}
 use Rattle.lw_base.specs.Types.{Bytes}
+use Rattle.lw_base.specs.declared.head.Arch.{Arch}
+use Rattle.lw_base.specs.declared.head.Arch.TheVariants.{Source, X86}
+use Rattle.lw_base.specs.Languages.{arch_word}
 use Rattle.lw_base.specs.Characters.{is_blank, begins}
 use Rattle.lw_text.specs.Tokens.{First}
 use Rattle.lw_base.specs.Names.{IsTestName}
 use Rattle.lw_text.specs.Headings.{Named, Notes, Heading}
+use Rattle.lw_text.proofs.Texts.{is_no_text}
 use Rattle.lw_text.proofs.Words.{run-unique, blank_all}
 use Rattle.lw_text.proofs.TokenRows.{First-unique}
 use Rattle.lw_text.proofs.NoteRows.{Notes-unique}
@@ -49,19 +53,25 @@ Named-unique text n r m s p q =
     let k = Named-parts text q.blanks (m ++ s) m s q.parts q.blank (name_front m s q.is_name) refl (graphic_plain m q.is_name.all) q.longest n r p in
     (k.1, k.2)
 
+arch_word-unique : (a b : Arch) → arch_word a ≡ arch_word b → a ≡ b
+arch_word-unique Source Source e = refl
+arch_word-unique Source X86 e = absurd (is_no_text (codes "SRC") (codes "X86") refl e)
+arch_word-unique X86 Source e = absurd (is_no_text (codes "X86") (codes "SRC") refl e)
+arch_word-unique X86 X86 e = refl
+
 -- where no name stands behind the word there is no heading
-pub no_named : (text mid : Bytes) → First text (codes "SRC") mid → ((n r : Bytes) → Named mid n r → ⊥) → (n r : Bytes) → Heading text n r → ⊥
-no_named text mid word never n r p = never n p.1 (subst (λ x. Named x n p.1) (First-unique text (codes "SRC") p.0 (codes "SRC") mid p.2 word).1 p.3)
+pub no_named : (text mid : Bytes) (arch : Arch) → First text (arch_word arch) mid → ((n r : Bytes) → Named mid n r → ⊥) → (a : Arch) (n r : Bytes) → Heading text a n r → ⊥
+no_named text mid arch word never a n r p = never n p.1 (subst (λ x. Named x n p.1) (First-unique text (arch_word a) p.0 (arch_word arch) mid p.2 word).1 p.3)
 
 -- nor where the notes behind the name don't come to a `{`
-pub no_notes : (text mid name after : Bytes) → First text (codes "SRC") mid → Named mid name after → ((r : Bytes) → Notes after r → ⊥) → (n r : Bytes) → Heading text n r → ⊥
-no_notes text mid name after word named never n r p =
-    let e = (First-unique text (codes "SRC") p.0 (codes "SRC") mid p.2 word).1 in
+pub no_notes : (text mid name after : Bytes) (arch : Arch) → First text (arch_word arch) mid → Named mid name after → ((r : Bytes) → Notes after r → ⊥) → (a : Arch) (n r : Bytes) → Heading text a n r → ⊥
+no_notes text mid name after arch word named never a n r p =
+    let e = (First-unique text (arch_word a) p.0 (arch_word arch) mid p.2 word).1 in
     let f = (Named-unique mid n p.1 name after (subst (λ x. Named x n p.1) e p.3) named).1 in
     never r (subst (λ x. Notes x r) f p.4)
 
-pub Heading-unique : (text n r m s : Bytes) → Heading text n r → Heading text m s → (n ≡ m) × (r ≡ s)
-Heading-unique text n r m s p q =
-    let e = (First-unique text (codes "SRC") p.0 (codes "SRC") q.0 p.2 q.2).1 in
-    let f = Named-unique q.0 n p.1 m q.1 (subst (λ x. Named x n p.1) e p.3) q.3 in
-    (f.0, Notes-unique (subst (λ x. Notes x r) f.1 p.4) q.4)
+pub Heading-unique : (text : Bytes) (a : Arch) (n r : Bytes) (b : Arch) (m s : Bytes) → Heading text a n r → Heading text b m s → (a ≡ b) × (n ≡ m) × (r ≡ s)
+Heading-unique text a n r b m s p q =
+    let e = First-unique text (arch_word a) p.0 (arch_word b) q.0 p.2 q.2 in
+    let f = Named-unique q.0 n p.1 m q.1 (subst (λ x. Named x n p.1) e.1 p.3) q.3 in
+    (arch_word-unique a b e.0, f.0, Notes-unique (subst (λ x. Notes x r) f.1 p.4) q.4)

@@ -5,6 +5,7 @@ use Rattle.std.proofs.lemmas.Bool.{eqb-true, eqb-false, not-true, not-false}
 use Rattle.std.proofs.lemmas.List.{map-append, append-nil}
 use Rattle.std.proofs.lemmas.List.Elements.{filter-append, filter_map-append}
 use Rattle.lw_base.specs.Types.{Bytes, NameTable, TokenList}
+use Rattle.lw_base.specs.declared.head.Arch.{Arch}
 use Rattle.lw_base.specs.Formula.{Formula, Word_is}
 use Rattle.lw_base.specs.Names.{EachOnce}
 use Rattle.lw_base.specs.Tables.{contains_name, with_names}
@@ -137,9 +138,9 @@ nodes_one s false e = rw e refl
 -- ---- what has been read
 
 -- The reader has taken the terminals up to here. Their names went into the table.
-pub record TerminalsRead {A : Type 0} (threads : ℕ) (first names start here : TokenList) (nodes : ℕ) (reader : PropositionReader A) : Type 0 where
+pub record TerminalsRead {A : Type 0} (arch : Arch) (threads : ℕ) (first names start here : TokenList) (nodes : ℕ) (reader : PropositionReader A) : Type 0 where
   pub terminals : List (Terminal AtomSyntax)
-  pub gone : Gone threads start terminals here
+  pub gone : Gone arch threads start terminals here
   pub names_are : names ≡ with_names first (site_names (sites_in terminals))
   pub there : AllThere names terminals
   pub count : nodes ≡ node_count terminals
@@ -147,17 +148,17 @@ pub record TerminalsRead {A : Type 0} (threads : ℕ) (first names start here : 
   pub given : (ss : List (Terminal Formula)) (p : Formula) → Completes reader ss p → IsProposition (map (resolved names) terminals ++ ss) p
   pub only : (ss : List (Terminal Formula)) (p : Formula) → IsProposition (map (resolved names) terminals ++ ss) p → Completes reader ss p
 
-pub terminals_none : {A : Type 0} (threads : ℕ) (names start : TokenList) (reader : PropositionReader A) → ((ss : List (Terminal Formula)) (p : Formula) → Completes reader ss p → IsProposition ss p) → ((ss : List (Terminal Formula)) (p : Formula) → IsProposition ss p → Completes reader ss p) → TerminalsRead threads names names start start 0 reader
-terminals_none threads names start reader given only =
+pub terminals_none : {A : Type 0} (arch : Arch) (threads : ℕ) (names start : TokenList) (reader : PropositionReader A) → ((ss : List (Terminal Formula)) (p : Formula) → Completes reader ss p → IsProposition ss p) → ((ss : List (Terminal Formula)) (p : Formula) → IsProposition ss p → Completes reader ss p) → TerminalsRead arch threads names names start start 0 reader
+terminals_none arch threads names start reader given only =
     record { terminals = []; gone = refl; names_are = refl; there = tt; count = refl; few = omega arith; given = given; only = only }
 
-module _ {A : Type 0} (threads : ℕ) (first names start here : TokenList) (nodes : ℕ) (reader : PropositionReader A) (read : TerminalsRead threads first names start here nodes reader) where
+module _ {A : Type 0} (arch : Arch) (threads : ℕ) (first names start here : TokenList) (nodes : ℕ) (reader : PropositionReader A) (read : TerminalsRead arch threads first names start here nodes reader) where
   -- all terminals are those that were read, and more
   abbrev Peeled : List (Terminal AtomSyntax) → Type 0
-  Peeled all = (more : List (Terminal AtomSyntax)) × (all ≡ read.terminals ++ more) × Terminals threads here more
+  Peeled all = (more : List (Terminal AtomSyntax)) × (all ≡ read.terminals ++ more) × Terminals arch threads here more
 
-  peel : (all : List (Terminal AtomSyntax)) → Terminals threads start all → Peeled all
-  peel all p = Gone-peel threads read.terminals all start here read.gone p
+  peel : (all : List (Terminal AtomSyntax)) → Terminals arch threads start all → Peeled all
+  peel all p = Gone-peel arch threads read.terminals all start here read.gone p
 
   table_of : (more : List (Terminal AtomSyntax)) → with_names first (site_names (sites_in (read.terminals ++ more))) ≡ with_names names (site_names (sites_in more))
   table_of more = ap (with_names first) (sites_append read.terminals more) ∙ with_names-append first (site_names (sites_in read.terminals)) (site_names (sites_in more)) ∙ ap (λ ns. with_names ns (site_names (sites_in more))) (sym read.names_are)
@@ -171,24 +172,24 @@ module _ {A : Type 0} (threads : ℕ) (first names start here : TokenList) (node
       read.only (map (resolved after) more) p (subst (λ l. IsProposition l p) e whole)
 
   -- the end of the tokens
-  pub terminals_end : here ≡ [] → (p : Formula) → Completes reader [] p → (ss : List (Terminal AtomSyntax)) × Terminals threads start ss × (names ≡ with_names first (site_names (sites_in ss))) × (length (filter is_node ss) ≤ 256) × IsProposition (map (resolved names) ss) p
+  pub terminals_end : here ≡ [] → (p : Formula) → Completes reader [] p → (ss : List (Terminal AtomSyntax)) × Terminals arch threads start ss × (names ≡ with_names first (site_names (sites_in ss))) × (length (filter is_node ss) ≤ 256) × IsProposition (map (resolved names) ss) p
   terminals_end e p left =
-      (read.terminals, Gone-end threads read.terminals start here read.gone e, read.names_are, omega (arith, read.count, read.few), subst (λ l. IsProposition l p) (append-nil (map (resolved names) read.terminals)) (read.given [] p left))
+      (read.terminals, Gone-end arch threads read.terminals start here read.gone e, read.names_are, omega (arith, read.count, read.few), subst (λ l. IsProposition l p) (append-nil (map (resolved names) read.terminals)) (read.given [] p left))
 
-  pub terminals_open : here ≡ [] → ((p : Formula) → Completes reader [] p → ⊥) → (all : List (Terminal AtomSyntax)) (p : Formula) → Terminals threads start all → IsProposition (map (resolved (with_names first (site_names (sites_in all)))) all) p → ⊥
+  pub terminals_open : here ≡ [] → ((p : Formula) → Completes reader [] p → ⊥) → (all : List (Terminal AtomSyntax)) (p : Formula) → Terminals arch threads start all → IsProposition (map (resolved (with_names first (site_names (sites_in all)))) all) p → ⊥
   terminals_open e never all p s whole =
       let k = peel all s in
-      let same : [] ≡ k.0 = Terminals-unique threads [] k.0 here e k.2 in
+      let same : [] ≡ k.0 = Terminals-unique arch threads [] k.0 here e k.2 in
       let f : all ≡ read.terminals ++ [] = k.1 ∙ ap (λ l. read.terminals ++ l) (sym same) in
       never p (whole_left [] p (subst (λ l. IsProposition (map (resolved (with_names first (site_names (sites_in l)))) l) p) f whole))
 
   -- where no terminal stands that can come next and whose name has room, the whole is no proposition
-  pub terminals_fault : (here ≡ [] → ⊥) → ((s : Terminal AtomSyntax) (rest : TokenList) (ss : List (Terminal Formula)) (p : Formula) → IsTerminal threads here s rest → Completes reader (resolved (with_names names (site_names (sites_in (s ∷ [])))) s ∷ ss) p → length (with_names names (site_names (sites_in (s ∷ [])))) ≤ 8 → nodes + node_count (s ∷ []) ≤ 256 → ⊥) → (all : List (Terminal AtomSyntax)) (p : Formula) → Terminals threads start all → length (with_names first (site_names (sites_in all))) ≤ 8 → length (filter is_node all) ≤ 256 → IsProposition (map (resolved (with_names first (site_names (sites_in all)))) all) p → ⊥
+  pub terminals_fault : (here ≡ [] → ⊥) → ((s : Terminal AtomSyntax) (rest : TokenList) (ss : List (Terminal Formula)) (p : Formula) → IsTerminal arch threads here s rest → Completes reader (resolved (with_names names (site_names (sites_in (s ∷ [])))) s ∷ ss) p → length (with_names names (site_names (sites_in (s ∷ [])))) ≤ 8 → nodes + node_count (s ∷ []) ≤ 256 → ⊥) → (all : List (Terminal AtomSyntax)) (p : Formula) → Terminals arch threads start all → length (with_names first (site_names (sites_in all))) ≤ 8 → length (filter is_node all) ≤ 256 → IsProposition (map (resolved (with_names first (site_names (sites_in all)))) all) p → ⊥
   terminals_fault some never all p s few room whole =
       let k = peel all s in
       at k.0 k.1 k.2
     where
-      at : (more : List (Terminal AtomSyntax)) → all ≡ read.terminals ++ more → Terminals threads here more → ⊥
+      at : (more : List (Terminal AtomSyntax)) → all ≡ read.terminals ++ more → Terminals arch threads here more → ⊥
       at [] e q = some q
       at (t ∷ back) e q =
           let now = with_names names (site_names (sites_in (t ∷ []))) in
@@ -203,7 +204,7 @@ module _ {A : Type 0} (threads : ℕ) (first names start here : TokenList) (node
   once_here once = subst EachOnce (sym read.names_are) (once-along first (site_names (sites_in read.terminals)) once)
 
   -- one more terminal
-  module _ (after next : TokenList) (s : Made) (grows : after ≡ with_names names (site_names (sites_in (named_terminal after s ∷ [])))) (terminal : IsTerminal threads here (named_terminal after s) next) (once : EachOnce first) (is_in : TerminalIn after s) where
+  module _ (after next : TokenList) (s : Made) (grows : after ≡ with_names names (site_names (sites_in (named_terminal after s ∷ [])))) (terminal : IsTerminal arch threads here (named_terminal after s) next) (once : EachOnce first) (is_in : TerminalIn after s) where
     once_after : EachOnce after
     once_after = subst EachOnce (sym grows) (once-along names (site_names (sites_in (named_terminal after s ∷ []))) (once_here once))
 
@@ -216,11 +217,11 @@ module _ {A : Type 0} (threads : ℕ) (first names start here : TokenList) (node
         ∙ ap (λ l. l ++ resolved after (named_terminal after s) ∷ []) (ap (λ ns. map (resolved ns) read.terminals) grows ∙ map_resolved-along names (site_names (sites_in (named_terminal after s ∷ []))) read.terminals read.there)
         ∙ ap (λ (x : Terminal Formula). map (resolved names) read.terminals ++ x ∷ []) same_terminal
 
-    pub terminals_more : (nodes_after : ℕ) (reader_after : PropositionReader A) → nodes_after ≡ nodes + (if is_node (terminal_of s) then 1 else 0) → nodes_after ≤ 256 → ((ss : List (Terminal Formula)) (p : Formula) → Completes reader_after ss p → Completes reader (terminal_of s ∷ ss) p) → ((ss : List (Terminal Formula)) (p : Formula) → Completes reader (terminal_of s ∷ ss) p → Completes reader_after ss p) → TerminalsRead threads first after start next nodes_after reader_after
+    pub terminals_more : (nodes_after : ℕ) (reader_after : PropositionReader A) → nodes_after ≡ nodes + (if is_node (terminal_of s) then 1 else 0) → nodes_after ≤ 256 → ((ss : List (Terminal Formula)) (p : Formula) → Completes reader_after ss p → Completes reader (terminal_of s ∷ ss) p) → ((ss : List (Terminal Formula)) (p : Formula) → Completes reader (terminal_of s ∷ ss) p → Completes reader_after ss p) → TerminalsRead arch threads first after start next nodes_after reader_after
     terminals_more nodes_after reader_after counts few given only =
         record {
           terminals = read.terminals ++ named_terminal after s ∷ [];
-          gone = Gone-push threads read.terminals start here next (named_terminal after s) read.gone terminal;
+          gone = Gone-push arch threads read.terminals start here next (named_terminal after s) read.gone terminal;
           names_are = grows ∙ sym (table_of (named_terminal after s ∷ []));
           there = all_push after read.terminals (named_terminal after s) (subst (λ ns. AllThere ns read.terminals) (sym grows) (all_more names (site_names (sites_in (named_terminal after s ∷ []))) read.terminals read.there)) (subst (λ ns. ThreadExists ns (named_terminal after s)) (sym grows) (there_now names (named_terminal after s)));
           count = omega (arith, counts, read.count, nodes_append read.terminals (named_terminal after s ∷ []), nodes_one (named_terminal after s) (is_node (terminal_of s)) (node_named after s));
@@ -233,10 +234,10 @@ module _ {A : Type 0} (threads : ℕ) (first names start here : TokenList) (node
         joined ss = ap (λ l. l ++ ss) made_more ∙ append_assoc (map (resolved names) read.terminals) (terminal_of s ∷ []) ss
 
 -- a terminal that can't come next
-pub terminal_refused : {A : Type 0} (reader : PropositionReader A) (threads : ℕ) (names after here next : TokenList) (s : Made) → after ≡ with_names names (site_names (sites_in (named_terminal after s ∷ []))) → IsTerminal threads here (named_terminal after s) next → EachOnce names → TerminalIn after s → ((ss : List (Terminal Formula)) (p : Formula) → Completes reader (terminal_of s ∷ ss) p → ⊥) → (t : Terminal AtomSyntax) (rest : TokenList) (ss : List (Terminal Formula)) (p : Formula) → IsTerminal threads here t rest → Completes reader (resolved (with_names names (site_names (sites_in (t ∷ [])))) t ∷ ss) p → ⊥
-terminal_refused reader threads names after here next s grows terminal once is_in never t rest ss p is left =
+pub terminal_refused : {A : Type 0} (arch : Arch) (reader : PropositionReader A) (threads : ℕ) (names after here next : TokenList) (s : Made) → after ≡ with_names names (site_names (sites_in (named_terminal after s ∷ []))) → IsTerminal arch threads here (named_terminal after s) next → EachOnce names → TerminalIn after s → ((ss : List (Terminal Formula)) (p : Formula) → Completes reader (terminal_of s ∷ ss) p → ⊥) → (t : Terminal AtomSyntax) (rest : TokenList) (ss : List (Terminal Formula)) (p : Formula) → IsTerminal arch threads here t rest → Completes reader (resolved (with_names names (site_names (sites_in (t ∷ [])))) t ∷ ss) p → ⊥
+terminal_refused arch reader threads names after here next s grows terminal once is_in never t rest ss p is left =
     let once_after : EachOnce after = subst EachOnce (sym grows) (once-along names (site_names (sites_in (named_terminal after s ∷ []))) once) in
-    let e : t ≡ named_terminal after s = (IsTerminal-unique threads here t (named_terminal after s) rest next is terminal).0 in
+    let e : t ≡ named_terminal after s = (IsTerminal-unique arch threads here t (named_terminal after s) rest next is terminal).0 in
     let f : resolved (with_names names (site_names (sites_in (t ∷ [])))) t ≡ terminal_of s = ap (λ (x : Terminal AtomSyntax). resolved (with_names names (site_names (sites_in (x ∷ [])))) x) e ∙ ap (λ ns. resolved ns (named_terminal after s)) (sym grows) ∙ resolved_named after s once_after is_in in
     never ss p (subst (λ x. Completes reader (x ∷ ss) p) f left)
 
@@ -262,40 +263,40 @@ word_at w [] h = absurd cc
 word_at w (t ∷ l) h = (l, ap (λ x. x ∷ l) (is_text t w h))
 
 -- the terminal at a word that is one
-word_terminal : (threads : ℕ) (w : Bytes) (here l rest : TokenList) (s known : Terminal AtomSyntax) → IsNoSite w → terminal_word w ≡ Some known → here ≡ w ∷ l → IsTerminal threads here s rest → s ≡ known
-word_terminal threads w here l rest s known apart e at is =
-    elim (front threads here rest s is) [
+word_terminal : (arch : Arch) (threads : ℕ) (w : Bytes) (here l rest : TokenList) (s known : Terminal AtomSyntax) → IsNoSite w → terminal_word w ≡ Some known → here ≡ w ∷ l → IsTerminal arch threads here s rest → s ≡ known
+word_terminal arch threads w here l rest s known apart e at is =
+    elim (front arch threads here rest s is) [
       | inl v ↦
           let f = v.stands in
           let k : v.word ≡ w = cc in
           let i : Some s ≡ Some known = sym v.is ∙ ap terminal_word k ∙ e in
           cc
-      | inr v ↦ absurd (apart here l v.mid v.site at v.site_is)
+      | inr v ↦ absurd (apart arch here l v.mid v.site at v.site_is)
     ]
 
 -- a terminal at a parenthesis makes no node
-pub parenthesis_node : (threads : ℕ) (here rest : TokenList) (s : Terminal AtomSyntax) → at_parenthesis here ≡ true → IsTerminal threads here s rest → is_node s ≡ false
-parenthesis_node threads here rest s e is =
+pub parenthesis_node : (arch : Arch) (threads : ℕ) (here rest : TokenList) (s : Terminal AtomSyntax) → at_parenthesis here ≡ true → IsTerminal arch threads here s rest → is_node s ≡ false
+parenthesis_node arch threads here rest s e is =
     elim (or_cases (begins_word (codes "(") here) (begins_word (codes ")") here) e) [
-      | inl h ↦ let k = word_at (codes "(") here h in ap is_node (word_terminal threads (codes "(") here k.0 rest s Open open_no_site refl k.1 is)
-      | inr h ↦ let k = word_at (codes ")") here h in ap is_node (word_terminal threads (codes ")") here k.0 rest s Close close_no_site refl k.1 is)
+      | inl h ↦ let k = word_at (codes "(") here h in ap is_node (word_terminal arch threads (codes "(") here k.0 rest s Open open_no_site refl k.1 is)
+      | inr h ↦ let k = word_at (codes ")") here h in ap is_node (word_terminal arch threads (codes ")") here k.0 rest s Close close_no_site refl k.1 is)
     ]
 
 -- and another makes one
-pub other_node : (threads : ℕ) (here rest : TokenList) (s : Terminal AtomSyntax) → at_parenthesis here ≡ false → IsTerminal threads here s rest → node_count (s ∷ []) ≡ 1
-other_node threads here rest Open e is = absurd (let f : begins_word (codes "(") here ≡ true = ap (begins_word (codes "(")) is in let k = (or_false (begins_word (codes "(") here) (begins_word (codes ")") here) e).0 in cc)
-other_node threads here rest Close e is = absurd (let f : begins_word (codes ")") here ≡ true = ap (begins_word (codes ")")) is in let k = (or_false (begins_word (codes "(") here) (begins_word (codes ")") here) e).1 in cc)
-other_node threads here rest Negation e is = refl
-other_node threads here rest Conjunction e is = refl
-other_node threads here rest Disjunction e is = refl
-other_node threads here rest (Atom a) e is = refl
+pub other_node : (arch : Arch) (threads : ℕ) (here rest : TokenList) (s : Terminal AtomSyntax) → at_parenthesis here ≡ false → IsTerminal arch threads here s rest → node_count (s ∷ []) ≡ 1
+other_node arch threads here rest Open e is = absurd (let f : begins_word (codes "(") here ≡ true = ap (begins_word (codes "(")) is in let k = (or_false (begins_word (codes "(") here) (begins_word (codes ")") here) e).0 in cc)
+other_node arch threads here rest Close e is = absurd (let f : begins_word (codes ")") here ≡ true = ap (begins_word (codes ")")) is in let k = (or_false (begins_word (codes "(") here) (begins_word (codes ")") here) e).1 in cc)
+other_node arch threads here rest Negation e is = refl
+other_node arch threads here rest Conjunction e is = refl
+other_node arch threads here rest Disjunction e is = refl
+other_node arch threads here rest (Atom a) e is = refl
 
 -- where there is room, one terminal more is not too many
-pub room_left : (threads nodes : ℕ) (here rest names : TokenList) (s : Made) → nodes ≤ 256 → (not (nodes == 256) || at_parenthesis here) ≡ true → IsTerminal threads here (named_terminal names s) rest → nodes + (if is_node (terminal_of s) then 1 else 0) ≤ 256
-room_left threads nodes here rest names s few room is =
+pub room_left : (arch : Arch) (threads nodes : ℕ) (here rest names : TokenList) (s : Made) → nodes ≤ 256 → (not (nodes == 256) || at_parenthesis here) ≡ true → IsTerminal arch threads here (named_terminal names s) rest → nodes + (if is_node (terminal_of s) then 1 else 0) ≤ 256
+room_left arch threads nodes here rest names s few room is =
     elim (or_cases (not (nodes == 256)) (at_parenthesis here) room) [
       | inl h ↦ go (is_node (terminal_of s)) (omega (arith, few, eqb-false nodes 256 (not-true (nodes == 256) h)))
-      | inr h ↦ let e : is_node (terminal_of s) ≡ false = sym (node_named names s) ∙ parenthesis_node threads here rest (named_terminal names s) h is in rw e (omega (arith, few))
+      | inr h ↦ let e : is_node (terminal_of s) ≡ false = sym (node_named names s) ∙ parenthesis_node arch threads here rest (named_terminal names s) h is in rw e (omega (arith, few))
     ]
   where
     go : (b : Bool) → nodes < 256 → nodes + (if b then 1 else 0) ≤ 256
@@ -303,7 +304,7 @@ room_left threads nodes here rest names s few room is =
     go false lt = omega (arith, lt)
 
 -- where there is none, no terminal fits
-pub no_room : (threads nodes : ℕ) (here rest : TokenList) (s : Terminal AtomSyntax) → (not (nodes == 256) || at_parenthesis here) ≡ false → IsTerminal threads here s rest → nodes + node_count (s ∷ []) ≤ 256 → ⊥
-no_room threads nodes here rest s none is le =
+pub no_room : (arch : Arch) (threads nodes : ℕ) (here rest : TokenList) (s : Terminal AtomSyntax) → (not (nodes == 256) || at_parenthesis here) ≡ false → IsTerminal arch threads here s rest → nodes + node_count (s ∷ []) ≤ 256 → ⊥
+no_room arch threads nodes here rest s none is le =
     let e = or_false (not (nodes == 256)) (at_parenthesis here) none in
-    omega (arith, le, other_node threads here rest s e.1 is, eqb-true nodes 256 (not-false (nodes == 256) e.0))
+    omega (arith, le, other_node arch threads here rest s e.1 is, eqb-true nodes 256 (not-false (nodes == 256) e.0))

@@ -3,6 +3,7 @@ use Rattle.std.proofs.Common.{◌≡◌, ℕ, Bool, true, false, List, [], ◌�
 use Rattle.std.specs.Prelude.{filter}
 use Rattle.std.specs.List.{AllByRecursion, range_with_len}
 use Rattle.lw_base.specs.Types.{Bytes, NameTable, TokenList}
+use Rattle.lw_base.specs.declared.head.Arch.{Arch}
 use Rattle.lw_base.specs.Names.{EachOnce}
 use Rattle.lw_base.specs.Propositions.{formula_of}
 use Rattle.lw_base.proofs.GrowingTables.{once-along}
@@ -41,8 +42,8 @@ module _ (names : NameTable) (once : EachOnce names) where
   seen : (threads : ℕ) (ss : List Site) → AllByRecursion (IsIn names) ss → filter (is_listed ss) (all_registers threads ++ locations (length names)) ≡ listed_in threads names (map (named names) ss)
   seen threads ss ss_in = filter_same (is_listed ss) _ (λ s. sym (listed-named names ss s once ss_in)) (all_registers threads ++ locations (length names))
 
-pub head_made : {A : Type 0} (name : Bytes) (ts : TokenList) (b : Body A) (says : HasSyntax ts b) → resolved_head name b.parts ≡ head_of_syntax name says.syntax (formula_of b.parts.prop)
-head_made name ts b says =
+pub head_made : {A : Type 0} (arch : Arch) (name : Bytes) (ts : TokenList) (b : Body A) (says : HasSyntax arch ts b) → resolved_head arch name b.parts ≡ head_of_syntax arch name says.syntax (formula_of b.parts.prop)
+head_made arch name ts b says =
     let s = b.parts in
     let es_in = each_of s.entries (λ e. IsIn s.locs e.site) says.entries_in in
     let ss_in = each_of s.listed (IsIn s.locs) says.listed_in in

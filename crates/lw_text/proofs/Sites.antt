@@ -3,7 +3,7 @@ use Rattle.std.proofs.Common.{◌≡◌, ◌≢◌, ℕ, ◌≤◌, inl, inr, []
 use Rattle.std.specs.Prelude.{codes, IfOk, IfErr, OnErr}
 use Rattle.std.proofs.lemmas.Bool.{true≢false, ltb-false, ltb-true}
 use Rattle.lw_base.specs.Types.{Bytes, NameTable, TokenList}
-use Rattle.lw_base.specs.declared.head.Arch.TheVariants.{Source}
+use Rattle.lw_base.specs.declared.head.Arch.{Arch}
 use Rattle.lw_base.specs.Names.{IsName, IsLocation}
 use Rattle.lw_base.specs.Registers.{IsRegister}
 use Rattle.lw_base.specs.Tables.{with_name, with_names}
@@ -30,53 +30,53 @@ pub there_in_brackets : (names after : NameTable) (ts l : TokenList) (threads : 
 there_in_brackets names after ts l threads (Ok s) h = subst (ThreadAllowed threads) (sym h.3) (allowed_location threads h.0)
 there_in_brackets names after ts l threads (Err f) h = tt
 
-pub there_of_thread : (after : NameTable) (ts l : TokenList) (threads : Option ℕ) (t : ℕ) (r : Result Site Fault) → is_allowed threads t ≡ true → IfOk r (λ s. (q : Bytes) × (reg : ℕ) × (ts ≡ codes ":" ∷ q ∷ l) × IsRegister Source q reg × ((names : NameTable) → named names s ≡ InThread t reg)) → IfOk r (λ s. ThreadAllowed threads (named after s))
-there_of_thread after ts l threads t (Ok s) allowed h = subst (ThreadAllowed threads) (sym (h.4 after)) (allowed_thread threads t h.1 allowed)
-there_of_thread after ts l threads t (Err f) allowed h = tt
+pub there_of_thread : (arch : Arch) (after : NameTable) (ts l : TokenList) (threads : Option ℕ) (t : ℕ) (r : Result Site Fault) → is_allowed threads t ≡ true → IfOk r (λ s. (q : Bytes) × (reg : ℕ) × (ts ≡ codes ":" ∷ q ∷ l) × IsRegister arch q reg × ((names : NameTable) → named names s ≡ InThread t reg)) → IfOk r (λ s. ThreadAllowed threads (named after s))
+there_of_thread arch after ts l threads t (Ok s) allowed h = subst (ThreadAllowed threads) (sym (h.4 after)) (allowed_thread threads t h.1 allowed)
+there_of_thread arch after ts l threads t (Err f) allowed h = tt
 
-module _ (names ts l : TokenList) (t : Bytes) (e : ts ≡ t ∷ l) where
+module _ (arch : Arch) (names ts l : TokenList) (t : Bytes) (e : ts ≡ t ∷ l) where
   -- in brackets
-  pub brackets_none : t ≡ codes "[" → ((x : Bytes) (rest : TokenList) → l ≡ x ∷ codes "]" ∷ rest → IsLocation x → length (with_name names x) ≤ 8 → ⊥) → (s : SiteSyntax) (rest : TokenList) → IsSite ts s rest → length (with_names names (site_names (s ∷ []))) ≤ 8 → ⊥
+  pub brackets_none : t ≡ codes "[" → ((x : Bytes) (rest : TokenList) → l ≡ x ∷ codes "]" ∷ rest → IsLocation x → length (with_name names x) ≤ 8 → ⊥) → (s : SiteSyntax) (rest : TokenList) → IsSite arch ts s rest → length (with_names names (site_names (s ∷ []))) ≤ 8 → ⊥
   brackets_none b never (InMemory x) rest (p, inl f) few = let k : x ≡ codes "[" = cc in bracket_no_name (subst IsName k p.0)
   brackets_none b never (InMemory x) rest (p, inr f) few = let k : l ≡ x ∷ codes "]" ∷ rest = cc in never x rest k p few
   brackets_none b never (InThread u r) rest p few = let f = p.2 in let k : p.0 ≡ codes "[" = cc in bracket_no_number u (subst (λ w. IsNumber w u) k p.3)
 
   -- behind a number
   module _ (n : ℕ) (number : IsNumber t n) where
-    thread_none : (threads : ℕ) → threads ≤ n → (s : SiteSyntax) (rest : TokenList) → IsSite ts s rest → ThreadExists threads s → ⊥
+    thread_none : (threads : ℕ) → threads ≤ n → (s : SiteSyntax) (rest : TokenList) → IsSite arch ts s rest → ThreadExists threads s → ⊥
     thread_none threads le (InMemory x) rest (p, inl f) there = let k : x ≡ t = cc in number_no_name t n number (subst IsName k p.0)
     thread_none threads le (InMemory x) rest (p, inr f) there = let k : t ≡ codes "[" = cc in bracket_no_number n (subst (λ w. IsNumber w n) k number)
     thread_none threads le (InThread u r) rest p there = let f = p.2 in let k : p.0 ≡ t = cc in omega (arith, le, there, number-unique t u n (subst (λ w. IsNumber w u) k p.3) number)
 
-    pub thread_refused : (threads : Option ℕ) → is_allowed threads n ≡ false → (s : SiteSyntax) (rest : TokenList) → IsSite ts s rest → ThreadAllowed threads s → ⊥
+    pub thread_refused : (threads : Option ℕ) → is_allowed threads n ≡ false → (s : SiteSyntax) (rest : TokenList) → IsSite arch ts s rest → ThreadAllowed threads s → ⊥
     thread_refused None refused s rest p there = absurd (true≢false refused)
     thread_refused (Some threads) refused s rest p there = thread_none threads (ltb-false n threads refused) s rest p there
 
-    pub register_none : ((q : Bytes) (r : ℕ) (rest : TokenList) → l ≡ codes ":" ∷ q ∷ rest → IsRegister Source q r → ⊥) → (s : SiteSyntax) (rest : TokenList) → IsSite ts s rest → ⊥
+    pub register_none : ((q : Bytes) (r : ℕ) (rest : TokenList) → l ≡ codes ":" ∷ q ∷ rest → IsRegister arch q r → ⊥) → (s : SiteSyntax) (rest : TokenList) → IsSite arch ts s rest → ⊥
     register_none never (InMemory x) rest (p, inl f) = let k : x ≡ t = cc in number_no_name t n number (subst IsName k p.0)
     register_none never (InMemory x) rest (p, inr f) = let k : t ≡ codes "[" = cc in bracket_no_number n (subst (λ w. IsNumber w n) k number)
     register_none never (InThread u r) rest p = let f = p.2 in let k : l ≡ codes ":" ∷ p.1 ∷ rest = cc in never p.1 r rest k p.4
 
   -- at another token
-  pub location_none : (t ≡ codes "[" → ⊥) → ((n : ℕ) → IsNumber t n → ⊥) → (IsLocation t → length (with_name names t) ≤ 8 → ⊥) → (s : SiteSyntax) (rest : TokenList) → IsSite ts s rest → length (with_names names (site_names (s ∷ []))) ≤ 8 → ⊥
+  pub location_none : (t ≡ codes "[" → ⊥) → ((n : ℕ) → IsNumber t n → ⊥) → (IsLocation t → length (with_name names t) ≤ 8 → ⊥) → (s : SiteSyntax) (rest : TokenList) → IsSite arch ts s rest → length (with_names names (site_names (s ∷ []))) ≤ 8 → ⊥
   location_none no_bracket no_number never (InMemory x) rest (p, inl f) few = let k : x ≡ t = cc in never (subst IsLocation k p) (subst (λ y. length (with_name names y) ≤ 8) k few)
   location_none no_bracket no_number never (InMemory x) rest (p, inr f) few = let k : t ≡ codes "[" = cc in no_bracket k
   location_none no_bracket no_number never (InThread u r) rest p few = let f = p.2 in let k : p.0 ≡ t = cc in no_number u (subst (λ w. IsNumber w u) k p.3)
 
   -- in brackets, told of a fault
-  pub brackets_fault : {T : Type 0} (r : Result T Fault) → t ≡ codes "[" → IfErr r (λ f. f.cause ≢ Memory → (x : Bytes) (rest : TokenList) → l ≡ x ∷ codes "]" ∷ rest → IsLocation x → length (with_name names x) ≤ 8 → ⊥) → (threads : Option ℕ) → IfErr r (λ f. f.cause ≢ Memory → (s : SiteSyntax) (rest : TokenList) → IsSite ts s rest → ThreadAllowed threads s → length (with_names names (site_names (s ∷ []))) ≤ 8 → ⊥)
+  pub brackets_fault : {T : Type 0} (r : Result T Fault) → t ≡ codes "[" → IfErr r (λ f. f.cause ≢ Memory → (x : Bytes) (rest : TokenList) → l ≡ x ∷ codes "]" ∷ rest → IsLocation x → length (with_name names x) ≤ 8 → ⊥) → (threads : Option ℕ) → IfErr r (λ f. f.cause ≢ Memory → (s : SiteSyntax) (rest : TokenList) → IsSite arch ts s rest → ThreadAllowed threads s → length (with_names names (site_names (s ∷ []))) ≤ 8 → ⊥)
   brackets_fault (Ok x) b h threads = tt
   brackets_fault (Err f) b h threads = λ ne s rest p there few. brackets_none b (h ne) s rest p few
 
   -- behind a number, told of a fault
-  pub register_fault : {T : Type 0} (r : Result T Fault) (n : ℕ) → IsNumber t n → OnErr r ((q : Bytes) (r : ℕ) (rest : TokenList) → l ≡ codes ":" ∷ q ∷ rest → IsRegister Source q r → ⊥) → (threads : Option ℕ) → IfErr r (λ f. f.cause ≢ Memory → (s : SiteSyntax) (rest : TokenList) → IsSite ts s rest → ThreadAllowed threads s → length (with_names names (site_names (s ∷ []))) ≤ 8 → ⊥)
+  pub register_fault : {T : Type 0} (r : Result T Fault) (n : ℕ) → IsNumber t n → OnErr r ((q : Bytes) (r : ℕ) (rest : TokenList) → l ≡ codes ":" ∷ q ∷ rest → IsRegister arch q r → ⊥) → (threads : Option ℕ) → IfErr r (λ f. f.cause ≢ Memory → (s : SiteSyntax) (rest : TokenList) → IsSite arch ts s rest → ThreadAllowed threads s → length (with_names names (site_names (s ∷ []))) ≤ 8 → ⊥)
   register_fault (Ok x) n number h threads = tt
   register_fault (Err f) n number h threads = λ ne s rest p there few. register_none n number h s rest p
 
 -- a location that was entered
-module _ (names after ts l : TokenList) (t : Bytes) (loc : ℕ) (e : ts ≡ t ∷ l) (is : IsLocation t) (stands : slice_get after loc ≡ Some t) where
-  pub entered_found : IsSite ts (named after (made.Location loc)) l
-  entered_found = subst (λ s. IsSite ts s l) (sym (named-at after loc t stands)) (is, inl e)
+module _ (arch : Arch) (names after ts l : TokenList) (t : Bytes) (loc : ℕ) (e : ts ≡ t ∷ l) (is : IsLocation t) (stands : slice_get after loc ≡ Some t) where
+  pub entered_found : IsSite arch ts (named after (made.Location loc)) l
+  entered_found = subst (λ s. IsSite arch ts s l) (sym (named-at after loc t stands)) (is, inl e)
 
   pub entered_names : after ≡ with_name names t → after ≡ with_names names (site_names (named after (made.Location loc) ∷ []))
   entered_names more = more ∙ ap (λ s. with_names names (site_names (s ∷ []))) (sym (named-at after loc t stands))

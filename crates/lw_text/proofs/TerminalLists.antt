@@ -3,6 +3,7 @@ use Rattle.std.proofs.Common.{◌≡◌, ℕ, ◌<◌, inl, inr, true, false, Li
 use Rattle.std.specs.Prelude.{codes, if◌then◌else◌, ◌⊎◌, Option, Some, None}
 use Rattle.std.specs.Str.{bytes_eq}
 use Rattle.lw_base.specs.Types.{Bytes, TokenList}
+use Rattle.lw_base.specs.declared.head.Arch.{Arch}
 use Rattle.lw_base.specs.Names.{IsName, is_reserved}
 use Rattle.lw_text.specs.Tokens.{IsNumber}
 use Rattle.lw_text.specs.Sites.{SiteSyntax, InMemory, InThread, IsSite, ThreadExists, Value}
@@ -15,15 +16,15 @@ use Rattle.lw_text.proofs.Texts.{is_no_text}
 
 -- no site begins with this word
 abbrev pub IsNoSite : Bytes → Type 0
-IsNoSite w = (ts rest mid : TokenList) (site : SiteSyntax) → ts ≡ w ∷ rest → IsSite ts site mid → ⊥
+IsNoSite w = (arch : Arch) (ts rest mid : TokenList) (site : SiteSyntax) → ts ≡ w ∷ rest → IsSite arch ts site mid → ⊥
 
 reserved_no_site : (w : Bytes) → is_reserved w ≡ true → ((n : ℕ) → IsNumber w n → ⊥) → (w ≡ codes "[" → ⊥) → IsNoSite w
-reserved_no_site w r no_number no_bracket ts rest mid (InMemory x) e (p, inl f) = let k : x ≡ w = cc in let h : is_reserved w ≡ false = subst (λ y. is_reserved y ≡ false) k p.1 in absurd cc
-reserved_no_site w r no_number no_bracket ts rest mid (InMemory x) e (p, inr f) = no_bracket cc
-reserved_no_site w r no_number no_bracket ts rest mid (InThread t n) e p = let f = p.2 in let k : p.0 ≡ w = cc in no_number t (subst (λ y. IsNumber y t) k p.3)
+reserved_no_site w r no_number no_bracket arch ts rest mid (InMemory x) e (p, inl f) = let k : x ≡ w = cc in let h : is_reserved w ≡ false = subst (λ y. is_reserved y ≡ false) k p.1 in absurd cc
+reserved_no_site w r no_number no_bracket arch ts rest mid (InMemory x) e (p, inr f) = no_bracket cc
+reserved_no_site w r no_number no_bracket arch ts rest mid (InThread t n) e p = let f = p.2 in let k : p.0 ≡ w = cc in no_number t (subst (λ y. IsNumber y t) k p.3)
 
 symbol_no_site : (w : Bytes) → (IsName w → ⊥) → ((n : ℕ) → IsNumber w n → ⊥) → (w ≡ codes "[" → ⊥) → IsNoSite w
-symbol_no_site w no_name no_number no_bracket ts rest mid site e p = elim (site_front ts mid site p w rest e) [ inl h ↦ no_name h | inr h ↦ elim h [ inl k ↦ no_number k.0 k.1 | inr k ↦ no_bracket k ] ]
+symbol_no_site w no_name no_number no_bracket arch ts rest mid site e p = elim (site_front arch ts mid site p w rest e) [ inl h ↦ no_name h | inr h ↦ elim h [ inl k ↦ no_number k.0 k.1 | inr k ↦ no_bracket k ] ]
 
 pub open_no_site : IsNoSite (codes "(")
 open_no_site = symbol_no_site (codes "(") (λ n. let h = n.0.all.0 in cc) (λ n h. let k = number_first (codes "(") n h in cc) (λ e. is_no_text (codes "(") (codes "[") refl e)
@@ -50,16 +51,16 @@ false_no_site : IsNoSite (codes "false")
 false_no_site = reserved_no_site (codes "false") refl (λ n h. let k = number_first (codes "false") n h in cc) (λ e. is_no_text (codes "false") (codes "[") refl e)
 
 -- where a site stands and no value behind it, no terminal stands
-pub site_alone : (threads : ℕ) (ts mid : TokenList) (site : SiteSyntax) → IsSite ts site mid → ((v : ℕ) (rest : TokenList) → Value mid v rest → ⊥) → (s : Terminal AtomSyntax) (rest : TokenList) → IsTerminal threads ts s rest → ⊥
-site_alone threads ts mid site p never Open rest e = open_no_site ts rest mid site e p
-site_alone threads ts mid site p never Close rest e = close_no_site ts rest mid site e p
-site_alone threads ts mid site p never Negation rest (inl e) = tilde_no_site ts rest mid site e p
-site_alone threads ts mid site p never Negation rest (inr e) = not_no_site ts rest mid site e p
-site_alone threads ts mid site p never Conjunction rest e = and_no_site ts rest mid site e p
-site_alone threads ts mid site p never Disjunction rest e = or_no_site ts rest mid site e p
-site_alone threads ts mid site p never (Atom Always) rest e = true_no_site ts rest mid site e p
-site_alone threads ts mid site p never (Atom Never) rest e = false_no_site ts rest mid site e p
-site_alone threads ts mid site p never (Atom (Holds other n)) rest q = never n rest (subst (λ l. Value l n rest) (IsSite-unique ts other site q.0 mid q.1 p).1 q.3)
+pub site_alone : (arch : Arch) (threads : ℕ) (ts mid : TokenList) (site : SiteSyntax) → IsSite arch ts site mid → ((v : ℕ) (rest : TokenList) → Value mid v rest → ⊥) → (s : Terminal AtomSyntax) (rest : TokenList) → IsTerminal arch threads ts s rest → ⊥
+site_alone arch threads ts mid site p never Open rest e = open_no_site arch ts rest mid site e p
+site_alone arch threads ts mid site p never Close rest e = close_no_site arch ts rest mid site e p
+site_alone arch threads ts mid site p never Negation rest (inl e) = tilde_no_site arch ts rest mid site e p
+site_alone arch threads ts mid site p never Negation rest (inr e) = not_no_site arch ts rest mid site e p
+site_alone arch threads ts mid site p never Conjunction rest e = and_no_site arch ts rest mid site e p
+site_alone arch threads ts mid site p never Disjunction rest e = or_no_site arch ts rest mid site e p
+site_alone arch threads ts mid site p never (Atom Always) rest e = true_no_site arch ts rest mid site e p
+site_alone arch threads ts mid site p never (Atom Never) rest e = false_no_site arch ts rest mid site e p
+site_alone arch threads ts mid site p never (Atom (Holds other n)) rest q = never n rest (subst (λ l. Value l n rest) (IsSite-unique arch ts other site q.0 mid q.1 p).1 q.3)
 
 -- ---- terminals are read in one way
 
@@ -83,42 +84,42 @@ pub record Word (ts : TokenList) (s : Terminal AtomSyntax) (rest : TokenList) : 
   pub is : terminal_word word ≡ Some s
   pub apart : IsNoSite word
 
-pub record Claimed (threads : ℕ) (ts : TokenList) (s : Terminal AtomSyntax) (rest : TokenList) : Type 0 where
+pub record Claimed (arch : Arch) (threads : ℕ) (ts : TokenList) (s : Terminal AtomSyntax) (rest : TokenList) : Type 0 where
   pub site : SiteSyntax
   pub n : ℕ
   pub mid : TokenList
   pub is : s ≡ Atom (Holds site n)
-  pub site_is : IsSite ts site mid
+  pub site_is : IsSite arch ts site mid
   pub there : ThreadExists threads site
   pub value : Value mid n rest
 
-pub front : (threads : ℕ) (ts rest : TokenList) (s : Terminal AtomSyntax) → IsTerminal threads ts s rest → Word ts s rest ⊎ Claimed threads ts s rest
-front threads ts rest Open e = inl (record { word = codes "("; stands = e; is = refl; apart = open_no_site })
-front threads ts rest Close e = inl (record { word = codes ")"; stands = e; is = refl; apart = close_no_site })
-front threads ts rest Negation (inl e) = inl (record { word = codes "~"; stands = e; is = refl; apart = tilde_no_site })
-front threads ts rest Negation (inr e) = inl (record { word = codes "not"; stands = e; is = refl; apart = not_no_site })
-front threads ts rest Conjunction e = inl (record { word = codes "/\\"; stands = e; is = refl; apart = and_no_site })
-front threads ts rest Disjunction e = inl (record { word = codes "\\/"; stands = e; is = refl; apart = or_no_site })
-front threads ts rest (Atom Always) e = inl (record { word = codes "true"; stands = e; is = refl; apart = true_no_site })
-front threads ts rest (Atom Never) e = inl (record { word = codes "false"; stands = e; is = refl; apart = false_no_site })
-front threads ts rest (Atom (Holds site n)) p = inr (record { site = site; n = n; mid = p.0; is = refl; site_is = p.1; there = p.2; value = p.3 })
+pub front : (arch : Arch) (threads : ℕ) (ts rest : TokenList) (s : Terminal AtomSyntax) → IsTerminal arch threads ts s rest → Word ts s rest ⊎ Claimed arch threads ts s rest
+front arch threads ts rest Open e = inl (record { word = codes "("; stands = e; is = refl; apart = open_no_site })
+front arch threads ts rest Close e = inl (record { word = codes ")"; stands = e; is = refl; apart = close_no_site })
+front arch threads ts rest Negation (inl e) = inl (record { word = codes "~"; stands = e; is = refl; apart = tilde_no_site })
+front arch threads ts rest Negation (inr e) = inl (record { word = codes "not"; stands = e; is = refl; apart = not_no_site })
+front arch threads ts rest Conjunction e = inl (record { word = codes "/\\"; stands = e; is = refl; apart = and_no_site })
+front arch threads ts rest Disjunction e = inl (record { word = codes "\\/"; stands = e; is = refl; apart = or_no_site })
+front arch threads ts rest (Atom Always) e = inl (record { word = codes "true"; stands = e; is = refl; apart = true_no_site })
+front arch threads ts rest (Atom Never) e = inl (record { word = codes "false"; stands = e; is = refl; apart = false_no_site })
+front arch threads ts rest (Atom (Holds site n)) p = inr (record { site = site; n = n; mid = p.0; is = refl; site_is = p.1; there = p.2; value = p.3 })
 
-pub IsTerminal-unique : (threads : ℕ) (ts : TokenList) (a b : Terminal AtomSyntax) (r s : TokenList) → IsTerminal threads ts a r → IsTerminal threads ts b s → (a ≡ b) × (r ≡ s)
-IsTerminal-unique threads ts a b r s p q =
-    elim (front threads ts r a p) [
-      | inl v ↦ elim (front threads ts s b q) [
+pub IsTerminal-unique : (arch : Arch) (threads : ℕ) (ts : TokenList) (a b : Terminal AtomSyntax) (r s : TokenList) → IsTerminal arch threads ts a r → IsTerminal arch threads ts b s → (a ≡ b) × (r ≡ s)
+IsTerminal-unique arch threads ts a b r s p q =
+    elim (front arch threads ts r a p) [
+      | inl v ↦ elim (front arch threads ts s b q) [
         | inl w ↦
             let e = v.stands in
             let f = w.stands in
             let k : v.word ≡ w.word = cc in
             let i : Some a ≡ Some b = sym v.is ∙ ap terminal_word k ∙ w.is in
             (cc, cc)
-        | inr w ↦ absurd (v.apart ts r w.mid w.site v.stands w.site_is)
+        | inr w ↦ absurd (v.apart arch ts r w.mid w.site v.stands w.site_is)
       ]
-      | inr v ↦ elim (front threads ts s b q) [
-        | inl w ↦ absurd (w.apart ts s v.mid v.site w.stands v.site_is)
+      | inr v ↦ elim (front arch threads ts s b q) [
+        | inl w ↦ absurd (w.apart arch ts s v.mid v.site w.stands v.site_is)
         | inr w ↦
-            let e = IsSite-unique ts v.site w.site v.mid w.mid v.site_is w.site_is in
+            let e = IsSite-unique arch ts v.site w.site v.mid w.mid v.site_is w.site_is in
             let f = Value-unique v.mid r s v.n w.n v.value (subst (λ l. Value l w.n s) (sym e.1) w.value) in
             let i : v.site ≡ w.site = e.0 in
             let j : v.n ≡ w.n = f.0 in
@@ -126,47 +127,47 @@ IsTerminal-unique threads ts a b r s p q =
       ]
     ]
 
-pub IsTerminal-shorter : (threads : ℕ) (ts rest : TokenList) (s : Terminal AtomSyntax) → IsTerminal threads ts s rest → length rest < length ts
-IsTerminal-shorter threads ts rest s p =
-    elim (front threads ts rest s p) [
+pub IsTerminal-shorter : (arch : Arch) (threads : ℕ) (ts rest : TokenList) (s : Terminal AtomSyntax) → IsTerminal arch threads ts s rest → length rest < length ts
+IsTerminal-shorter arch threads ts rest s p =
+    elim (front arch threads ts rest s p) [
       | inl w ↦ omega (arith, ap length w.stands)
-      | inr w ↦ omega (arith, IsSite-shorter ts w.mid w.site w.site_is, Value-shorter w.mid rest w.n w.value)
+      | inr w ↦ omega (arith, IsSite-shorter arch ts w.mid w.site w.site_is, Value-shorter w.mid rest w.n w.value)
     ]
 
 -- ---- rows of terminals
 
 -- these terminals have been read, and then comes what is here
-abbrev pub Gone : ℕ → TokenList → List (Terminal AtomSyntax) → TokenList → Type 0
-Gone threads ts [] here = ts ≡ here
-Gone threads ts (s ∷ ss) here = (mid : TokenList) × IsTerminal threads ts s mid × Gone threads mid ss here
+abbrev pub Gone : Arch → ℕ → TokenList → List (Terminal AtomSyntax) → TokenList → Type 0
+Gone arch threads ts [] here = ts ≡ here
+Gone arch threads ts (s ∷ ss) here = (mid : TokenList) × IsTerminal arch threads ts s mid × Gone arch threads mid ss here
 
-pub Gone-push : (threads : ℕ) (ss : List (Terminal AtomSyntax)) (ts here next : TokenList) (s : Terminal AtomSyntax) → Gone threads ts ss here → IsTerminal threads here s next → Gone threads ts (ss ++ s ∷ []) next
-Gone-push threads [] ts here next s g p = (next, subst (λ l. IsTerminal threads l s next) (sym g) p, refl)
-Gone-push threads (t ∷ ss) ts here next s g p = (g.0, g.1, Gone-push threads ss g.0 here next s g.2 p)
+pub Gone-push : (arch : Arch) (threads : ℕ) (ss : List (Terminal AtomSyntax)) (ts here next : TokenList) (s : Terminal AtomSyntax) → Gone arch threads ts ss here → IsTerminal arch threads here s next → Gone arch threads ts (ss ++ s ∷ []) next
+Gone-push arch threads [] ts here next s g p = (next, subst (λ l. IsTerminal arch threads l s next) (sym g) p, refl)
+Gone-push arch threads (t ∷ ss) ts here next s g p = (g.0, g.1, Gone-push arch threads ss g.0 here next s g.2 p)
 
-pub Gone-end : (threads : ℕ) (ss : List (Terminal AtomSyntax)) (ts here : TokenList) → Gone threads ts ss here → here ≡ [] → Terminals threads ts ss
-Gone-end threads [] ts here g e = g ∙ e
-Gone-end threads (s ∷ ss) ts here g e = (g.0, g.1, Gone-end threads ss g.0 here g.2 e)
+pub Gone-end : (arch : Arch) (threads : ℕ) (ss : List (Terminal AtomSyntax)) (ts here : TokenList) → Gone arch threads ts ss here → here ≡ [] → Terminals arch threads ts ss
+Gone-end arch threads [] ts here g e = g ∙ e
+Gone-end arch threads (s ∷ ss) ts here g e = (g.0, g.1, Gone-end arch threads ss g.0 here g.2 e)
 
-no_terminal : (threads : ℕ) (ts rest : TokenList) (s : Terminal AtomSyntax) → ts ≡ [] → IsTerminal threads ts s rest → ⊥
-no_terminal threads ts rest s e p = omega (arith, IsTerminal-shorter threads ts rest s p, ap length e)
+no_terminal : (arch : Arch) (threads : ℕ) (ts rest : TokenList) (s : Terminal AtomSyntax) → ts ≡ [] → IsTerminal arch threads ts s rest → ⊥
+no_terminal arch threads ts rest s e p = omega (arith, IsTerminal-shorter arch threads ts rest s p, ap length e)
 
-pub Gone-peel : (threads : ℕ) (ss all : List (Terminal AtomSyntax)) (ts here : TokenList) → Gone threads ts ss here → Terminals threads ts all → (more : List (Terminal AtomSyntax)) × (all ≡ ss ++ more) × Terminals threads here more
-Gone-peel threads [] all ts here g p = (all, refl, subst (λ l. Terminals threads l all) g p)
-Gone-peel threads (s ∷ ss) [] ts here g p = absurd (no_terminal threads ts g.0 s p g.1)
-Gone-peel threads (s ∷ ss) (t ∷ all) ts here g p =
-    let e = IsTerminal-unique threads ts s t g.0 p.0 g.1 p.1 in
-    let h = Gone-peel threads ss all g.0 here g.2 (subst (λ l. Terminals threads l all) (sym e.1) p.2) in
+pub Gone-peel : (arch : Arch) (threads : ℕ) (ss all : List (Terminal AtomSyntax)) (ts here : TokenList) → Gone arch threads ts ss here → Terminals arch threads ts all → (more : List (Terminal AtomSyntax)) × (all ≡ ss ++ more) × Terminals arch threads here more
+Gone-peel arch threads [] all ts here g p = (all, refl, subst (λ l. Terminals arch threads l all) g p)
+Gone-peel arch threads (s ∷ ss) [] ts here g p = absurd (no_terminal arch threads ts g.0 s p g.1)
+Gone-peel arch threads (s ∷ ss) (t ∷ all) ts here g p =
+    let e = IsTerminal-unique arch threads ts s t g.0 p.0 g.1 p.1 in
+    let h = Gone-peel arch threads ss all g.0 here g.2 (subst (λ l. Terminals arch threads l all) (sym e.1) p.2) in
     let i : all ≡ ss ++ h.0 = h.1 in
     let k : s ≡ t = e.0 in
     (h.0, cc, h.2)
 
-pub Terminals-unique : (threads : ℕ) (a b : List (Terminal AtomSyntax)) (ts : TokenList) → Terminals threads ts a → Terminals threads ts b → a ≡ b
-Terminals-unique threads [] [] ts p q = refl
-Terminals-unique threads [] (t ∷ b) ts p q = absurd (no_terminal threads ts q.0 t p q.1)
-Terminals-unique threads (s ∷ a) [] ts p q = absurd (no_terminal threads ts p.0 s q p.1)
-Terminals-unique threads (s ∷ a) (t ∷ b) ts p q =
-    let e = IsTerminal-unique threads ts s t p.0 q.0 p.1 q.1 in
-    let i : a ≡ b = Terminals-unique threads a b p.0 p.2 (subst (λ l. Terminals threads l b) (sym e.1) q.2) in
+pub Terminals-unique : (arch : Arch) (threads : ℕ) (a b : List (Terminal AtomSyntax)) (ts : TokenList) → Terminals arch threads ts a → Terminals arch threads ts b → a ≡ b
+Terminals-unique arch threads [] [] ts p q = refl
+Terminals-unique arch threads [] (t ∷ b) ts p q = absurd (no_terminal arch threads ts q.0 t p q.1)
+Terminals-unique arch threads (s ∷ a) [] ts p q = absurd (no_terminal arch threads ts p.0 s q p.1)
+Terminals-unique arch threads (s ∷ a) (t ∷ b) ts p q =
+    let e = IsTerminal-unique arch threads ts s t p.0 q.0 p.1 q.1 in
+    let i : a ≡ b = Terminals-unique arch threads a b p.0 p.2 (subst (λ l. Terminals arch threads l b) (sym e.1) q.2) in
     let k : s ≡ t = e.0 in
     cc

@@ -3,6 +3,7 @@ use Rattle.std.specs.Prelude.{◌≡◌, ℕ, ◌⊎◌, Bool, false, Option, So
 use Rattle.std.specs.List.{filter_map, AllByRecursion}
 use Rattle.std.specs.Str.{bytes_eq}
 use Rattle.lw_base.specs.Types.{NameTable, Bytes, TokenList}
+use Rattle.lw_base.specs.declared.head.Arch.{Arch}
 use Rattle.lw_base.specs.declared.head.Quant.{Quant}
 use Rattle.lw_base.specs.declared.head.Quant.TheVariants.{Exists, NotExists, Forall}
 use Rattle.lw_base.specs.Tables.{index_of}
@@ -18,25 +19,25 @@ pub data AtomSyntax : Type 0 where
   Holds : (site : SiteSyntax) (word : ℕ) → AtomSyntax
 
 -- `true`, `false`, or a site of so many threads with its word, as in `x = n`
-abbrev pub IsAtom : ℕ → TokenList → AtomSyntax → TokenList → Type 0
-IsAtom threads ts Always rest = ts ≡ codes "true" ∷ rest
-IsAtom threads ts Never rest = ts ≡ codes "false" ∷ rest
-IsAtom threads ts (Holds site n) rest =
-    (mid : TokenList) × IsSite ts site mid × ThreadExists threads site × Value mid n rest
+abbrev pub IsAtom : Arch → ℕ → TokenList → AtomSyntax → TokenList → Type 0
+IsAtom arch threads ts Always rest = ts ≡ codes "true" ∷ rest
+IsAtom arch threads ts Never rest = ts ≡ codes "false" ∷ rest
+IsAtom arch threads ts (Holds site n) rest =
+    (mid : TokenList) × IsSite arch ts site mid × ThreadExists threads site × Value mid n rest
 
-abbrev pub IsTerminal : ℕ → TokenList → Terminal AtomSyntax → TokenList → Type 0
-IsTerminal threads ts Open rest = ts ≡ codes "(" ∷ rest
-IsTerminal threads ts Close rest = ts ≡ codes ")" ∷ rest
-IsTerminal threads ts Negation rest = (ts ≡ codes "~" ∷ rest) ⊎ (ts ≡ codes "not" ∷ rest)
-IsTerminal threads ts Conjunction rest = ts ≡ codes "/\\" ∷ rest
-IsTerminal threads ts Disjunction rest = ts ≡ codes "\\/" ∷ rest
-IsTerminal threads ts (Atom claim) rest = IsAtom threads ts claim rest
+abbrev pub IsTerminal : Arch → ℕ → TokenList → Terminal AtomSyntax → TokenList → Type 0
+IsTerminal arch threads ts Open rest = ts ≡ codes "(" ∷ rest
+IsTerminal arch threads ts Close rest = ts ≡ codes ")" ∷ rest
+IsTerminal arch threads ts Negation rest = (ts ≡ codes "~" ∷ rest) ⊎ (ts ≡ codes "not" ∷ rest)
+IsTerminal arch threads ts Conjunction rest = ts ≡ codes "/\\" ∷ rest
+IsTerminal arch threads ts Disjunction rest = ts ≡ codes "\\/" ∷ rest
+IsTerminal arch threads ts (Atom claim) rest = IsAtom arch threads ts claim rest
 
 -- The tokens are these terminals, to the end of the text.
-abbrev pub Terminals : ℕ → TokenList → List (Terminal AtomSyntax) → Type 0
-Terminals threads ts [] = ts ≡ []
-Terminals threads ts (s ∷ ss) =
-    (mid : TokenList) × IsTerminal threads ts s mid × Terminals threads mid ss
+abbrev pub Terminals : Arch → ℕ → TokenList → List (Terminal AtomSyntax) → Type 0
+Terminals arch threads ts [] = ts ≡ []
+Terminals arch threads ts (s ∷ ss) =
+    (mid : TokenList) × IsTerminal arch threads ts s mid × Terminals arch threads mid ss
 
 -- the sites that the atoms speak of
 abbrev pub site_of : Terminal AtomSyntax → Option SiteSyntax
@@ -73,13 +74,13 @@ begins_word w [] = false
 begins_word w (t ∷ ts) = bytes_eq t w
 
 -- sites, each with a `;` behind it, which the last may lack, and `]`
-abbrev pub Sites : TokenList → List SiteSyntax → TokenList → Type 0
-Sites ts sites rest = Ended IsSite (codes ";") (codes "]") ts sites rest
+abbrev pub Sites : Arch → TokenList → List SiteSyntax → TokenList → Type 0
+Sites arch ts sites rest = Ended (IsSite arch) (codes ";") (codes "]") ts sites rest
 
 -- `locations [`, sites, `]`; or nothing
-abbrev pub Listed : TokenList → List SiteSyntax → TokenList → Type 0
-Listed ts sites rest =
-    ((l : TokenList) × (ts ≡ codes "locations" ∷ codes "[" ∷ l) × Sites l sites rest)
+abbrev pub Listed : Arch → TokenList → List SiteSyntax → TokenList → Type 0
+Listed arch ts sites rest =
+    ((l : TokenList) × (ts ≡ codes "locations" ∷ codes "[" ∷ l) × Sites arch l sites rest)
     ⊎ ((begins_word (codes "locations") ts ≡ false) × (sites ≡ []) × (ts ≡ rest))
 
 abbrev pub Quantified : TokenList → Quant → TokenList → Type 0
@@ -88,10 +89,10 @@ Quantified ts NotExists rest = ts ≡ codes "~" ∷ codes "exists" ∷ rest
 Quantified ts Forall rest = ts ≡ codes "forall" ∷ rest
 
 -- What is listed, of so many threads, a quantifier, and the terminals of a proposition.
-pub record Condition (threads : ℕ) (ts : TokenList) (listed : List SiteSyntax) (quant : Quant) (ss : List (Terminal AtomSyntax)) : Type 0 where
+pub record Condition (arch : Arch) (threads : ℕ) (ts : TokenList) (listed : List SiteSyntax) (quant : Quant) (ss : List (Terminal AtomSyntax)) : Type 0 where
   pub behind_list : TokenList
   pub behind_quant : TokenList
-  pub lists : Listed ts listed behind_list
+  pub lists : Listed arch ts listed behind_list
   pub there : AllByRecursion (ThreadExists threads) listed
   pub quantifies : Quantified behind_list quant behind_quant
-  pub says : Terminals threads behind_quant ss
+  pub says : Terminals arch threads behind_quant ss

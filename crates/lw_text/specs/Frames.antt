@@ -4,7 +4,7 @@ use Rattle.std.specs.List.{list_any, flat_map, range_with_len, AllByRecursion}
 use Rattle.std.specs.Str.{IsUtf8}
 use Rattle.lw_base.specs.Types.{NameTable, Bytes, TokenList, CellGrid}
 use Rattle.lw_base.specs.declared.limits.TheConstants.{MAX_LOCATIONS, MAX_TEXT_BYTES, REGISTERS}
-use Rattle.lw_base.specs.declared.head.Arch.TheVariants.{Source}
+use Rattle.lw_base.specs.declared.head.Arch.{Arch}
 use Rattle.lw_base.specs.declared.head.Quant.{Quant}
 use Rattle.lw_base.specs.declared.head.Seen.{Seen}
 use Rattle.lw_base.specs.declared.head.Seen.TheVariants.{Register, Location}
@@ -25,20 +25,20 @@ pub record EntrySyntax : Type 0 where
   pub word : ℕ
 
 -- `x = n`, `[x] = n`, `t : r = n`
-abbrev pub IsEntry : TokenList → EntrySyntax → TokenList → Type 0
-IsEntry ts e rest = (mid : TokenList) × IsSite ts e.site mid × Value mid e.word rest
+abbrev pub IsEntry : Arch → TokenList → EntrySyntax → TokenList → Type 0
+IsEntry arch ts e rest = (mid : TokenList) × IsSite arch ts e.site mid × Value mid e.word rest
 
 -- entries, each with a `;` behind it, which the last may lack, and `}`
-abbrev pub Entries : TokenList → List EntrySyntax → TokenList → Type 0
-Entries ts entries rest = Ended IsEntry (codes ";") (codes "}") ts entries rest
+abbrev pub Entries : Arch → TokenList → List EntrySyntax → TokenList → Type 0
+Entries arch ts entries rest = Ended (IsEntry arch) (codes ";") (codes "}") ts entries rest
 
 -- the sites of entries
 abbrev pub sites_of : List EntrySyntax → List SiteSyntax
 sites_of entries = map (λ e. e.site) entries
 
 -- `{`, entries, `}`
-abbrev pub Block : TokenList → List EntrySyntax → TokenList → Type 0
-Block ts entries rest = (l : TokenList) × (ts ≡ codes "{" ∷ l) × Entries l entries rest
+abbrev pub Block : Arch → TokenList → List EntrySyntax → TokenList → Type 0
+Block arch ts entries rest = (l : TokenList) × (ts ≡ codes "{" ∷ l) × Entries arch l entries rest
 
 -- what the tokens of a test say
 pub record TestSyntax : Type 0 where
@@ -54,25 +54,24 @@ abbrev pub table : TestSyntax → NameTable
 table s =
     with_names [] (site_names (map (λ e. e.site) s.entries ++ s.listed ++ sites_in s.terminals))
 
--- The initial block, whose threads exist, the header, the rows and the condition, with no more
--- locations
--- and nodes than a test may have.
-pub record Parts (ts : TokenList) (s : TestSyntax) : Type 0 where
+-- The initial block, whose threads exist, the header, the rows and the condition, with the registers of the language, and
+-- with no more locations and nodes than a test may have.
+pub record Parts (arch : Arch) (ts : TokenList) (s : TestSyntax) : Type 0 where
   pub behind_block : TokenList
   pub behind_header : TokenList
   pub behind_rows : TokenList
-  pub block : Block ts s.entries behind_block
+  pub block : Block arch ts s.entries behind_block
   pub header : Header behind_block s.threads behind_header
   pub there : AllByRecursion (λ e. ThreadExists s.threads e.site) s.entries
   pub rows : Rows s.threads behind_header s.rows behind_rows
-  pub condition : Condition s.threads behind_rows s.listed s.quant s.terminals
+  pub condition : Condition arch s.threads behind_rows s.listed s.quant s.terminals
   pub few_names : length (table s) ≤ MAX_LOCATIONS
   pub few_nodes : HasFewNodes s.terminals
 
--- The tokens are no test's.
-abbrev pub IsNoTest : TokenList → Type 0
-IsNoTest ts =
-    (s : TestSyntax) (p : Formula) → Parts ts s
+-- The tokens are no test's of the language.
+abbrev pub IsNoTest : Arch → TokenList → Type 0
+IsNoTest arch ts =
+    (s : TestSyntax) (p : Formula) → Parts arch ts s
     → IsProposition (map (resolved (table s)) s.terminals) p → ⊥
 
 -- What a test says: its head, and for each thread and each row the tokens of the cell.
@@ -107,12 +106,12 @@ abbrev pub listed_in : ℕ → NameTable → List SiteSyntax → List Seen
 listed_in threads names sites =
     filter (λ s. list_any (λ site. same_seen (seen_in names site) s) sites) (all_registers threads ++ locations (length names))
 
--- the head of a source test, whose proposition is a formula
-abbrev pub head_of_syntax : Bytes → TestSyntax → Formula → TestHead
-head_of_syntax name s condition =
+-- the head of a test of the language, whose proposition is a formula
+abbrev pub head_of_syntax : Arch → Bytes → TestSyntax → Formula → TestHead
+head_of_syntax arch name s condition =
     record {
       name = name;
-      arch = Source;
+      arch = arch;
       threads = s.threads;
       locs = table s;
       init_regs =
@@ -123,21 +122,22 @@ head_of_syntax name s condition =
       condition = condition;
     }
 
-abbrev pub made_of : Bytes → TestSyntax → Formula → TestFrame
-made_of name s condition =
-    record { head = head_of_syntax name s condition; cells = columns s.threads s.rows }
+abbrev pub made_of : Arch → Bytes → TestSyntax → Formula → TestFrame
+made_of arch name s condition =
+    record { head = head_of_syntax arch name s condition; cells = columns s.threads s.rows }
 
 -- The text, UTF-8 and not too long, is a heading and a list of tokens, and this is what they say.
 pub record HasFrame (text : Bytes) (frame : TestFrame) : Type 0 where
   pub short : length text ≤ MAX_TEXT_BYTES
   pub utf8 : IsUtf8 text
+  pub arch : Arch
   pub name : Bytes
   pub rest : Bytes
   pub tokens : TokenList
   pub syntax : TestSyntax
   pub condition : Formula
-  pub heading : Heading text name rest
+  pub heading : Heading text arch name rest
   pub row : Tokens rest tokens
-  pub parts : Parts tokens syntax
+  pub parts : Parts arch tokens syntax
   pub proposition : IsProposition (map (resolved (table syntax)) syntax.terminals) condition
-  pub made : frame ≡ made_of name syntax condition
+  pub made : frame ≡ made_of arch name syntax condition

@@ -1,7 +1,9 @@
 -- What stands before a test's `{`: its language, its name, and notes on it.
-use Rattle.std.specs.Prelude.{◌≡◌, ◌<◌, ◌⊎◌, ◌==◌, not, true, false, ◌∷◌, ◌++◌, length, codes}
+use Rattle.std.specs.Prelude.{◌≡◌, ◌<◌, ◌⊎◌, ◌==◌, not, true, false, ◌∷◌, ◌++◌, length}
 use Rattle.std.specs.List.{AllByRecursion}
 use Rattle.lw_base.specs.Types.{Bytes}
+use Rattle.lw_base.specs.declared.head.Arch.{Arch}
+use Rattle.lw_base.specs.Languages.{arch_word}
 use Rattle.lw_base.specs.Characters.{byte, is_blank, is_key_byte, is_space, begins}
 use Rattle.lw_base.specs.Names.{IsTestName}
 use Rattle.lw_text.specs.Tokens.{Trivia, First}
@@ -45,7 +47,7 @@ pub data Notes : Bytes → Bytes → Type 0 where
   note : {text mid after rest : Bytes} → Trivia text mid → Note mid after → Notes after rest
       → Notes text rest
 
--- The text is the word `SRC`, blanks and the name, notes, and then rest.
-abbrev pub Heading : Bytes → Bytes → Bytes → Type 0
-Heading text name rest =
-    (mid after : Bytes) × First text (codes "SRC") mid × Named mid name after × Notes after rest
+-- The text is the word of a language, blanks and the name, notes, and then rest.
+abbrev pub Heading : Bytes → Arch → Bytes → Bytes → Type 0
+Heading text arch name rest =
+    (mid after : Bytes) × First text (arch_word arch) mid × Named mid name after × Notes after rest

@@ -2,7 +2,7 @@
 use Rattle.std.specs.Prelude.{◌≡◌, ℕ, suc, ◌<◌, ◌≤◌, Bool, true, nat_lt, Option, None, Some, List, [], ◌++◌, length, map, filter, fold, if◌then◌else◌, slice_index_or, All}
 use Rattle.std.specs.List.{list_any, range_with_len}
 use Rattle.lw_base.specs.Types.{NameTable, Bytes, TokenList}
-use Rattle.lw_base.specs.declared.head.Arch.TheVariants.{Source}
+use Rattle.lw_base.specs.declared.head.Arch.{Arch}
 use Rattle.lw_base.specs.Propositions.{formula_of}
 use Rattle.lw_base.specs.Heads.{TestHead}
 use Rattle.lw_base.specs.declared.head.Seen.{Seen}
@@ -64,12 +64,12 @@ word_at entries s = fold (λ w e. if same_seen (seen_of e.site) s then e.word el
 abbrev pub is_listed : List Site → Seen → Bool
 is_listed sites s = list_any (λ site. same_seen (seen_of site) s) sites
 
--- the head of a source test, by the numbers of its locations
-abbrev pub resolved_head : {A : Type 0} → Bytes → HeadParts A → TestHead
-resolved_head name s =
+-- the head of a test of the language, by the numbers of its locations
+abbrev pub resolved_head : {A : Type 0} → Arch → Bytes → HeadParts A → TestHead
+resolved_head arch name s =
     record {
       name = name;
-      arch = Source;
+      arch = arch;
       threads = s.threads;
       locs = s.locs;
       init_regs = map (λ t. map (word_at s.entries) (registers_of t)) (range_with_len 0 s.threads);
@@ -79,9 +79,9 @@ resolved_head name s =
       condition = formula_of s.prop;
     }
 
--- What a `Body` in memory says of the tokens that it was made of: a text's parts and proposition,
+-- What a `Body` in memory says of the tokens that it was made of: the parts and the proposition of a text of the language,
 -- by the names of its table.
-pub record HasSyntax {A : Type 0} (ts : TokenList) (b : Body A) : Type 0 where
+pub record HasSyntax {A : Type 0} (arch : Arch) (ts : TokenList) (b : Body A) : Type 0 where
   pub terminals : List (Terminal AtomSyntax)
   pub syntax : frames.TestSyntax
   pub is :
@@ -93,7 +93,7 @@ pub record HasSyntax {A : Type 0} (ts : TokenList) (b : Body A) : Type 0 where
         quant = b.parts.quant;
         terminals = terminals;
       }
-  pub parts : Parts ts syntax
+  pub parts : Parts arch ts syntax
   pub names : b.parts.locs ≡ table syntax
   pub proposition : IsProposition (map (resolved b.parts.locs) terminals) (formula_of b.parts.prop)
   pub entries_in : All (λ e. IsIn b.parts.locs e.site) b.parts.entries

@@ -3,7 +3,7 @@ use Rattle.std.specs.Prelude.{◌≡◌, ℕ, ◌<◌, ◌≤◌, ◌⊎◌, len
 use Rattle.std.specs.List.{filter_map}
 use Rattle.lw_base.specs.Types.{NameTable, Bytes, TokenList}
 use Rattle.lw_base.specs.declared.limits.TheConstants.{MAX_LOCATIONS}
-use Rattle.lw_base.specs.declared.head.Arch.TheVariants.{Source}
+use Rattle.lw_base.specs.declared.head.Arch.{Arch}
 use Rattle.lw_base.specs.declared.head.Seen.{Seen}
 use Rattle.lw_base.specs.declared.head.Seen.TheVariants.{Register, Location}
 use Rattle.lw_base.specs.Names.{IsLocation}
@@ -16,12 +16,12 @@ pub data SiteSyntax : Type 0 where
   InMemory : (name : Bytes) → SiteSyntax
   InThread : (thread reg : ℕ) → SiteSyntax
 
--- `x` or `[x]`; `t : r`
-abbrev pub IsSite : TokenList → SiteSyntax → TokenList → Type 0
-IsSite ts (InMemory x) rest =
+-- `x` or `[x]`; `t : r`, where r names a register of the language
+abbrev pub IsSite : Arch → TokenList → SiteSyntax → TokenList → Type 0
+IsSite arch ts (InMemory x) rest =
     IsLocation x × ((ts ≡ x ∷ rest) ⊎ (ts ≡ codes "[" ∷ x ∷ codes "]" ∷ rest))
-IsSite ts (InThread t r) rest =
-    (p q : Bytes) × (ts ≡ p ∷ codes ":" ∷ q ∷ rest) × IsNumber p t × IsRegister Source q r
+IsSite arch ts (InThread t r) rest =
+    (p q : Bytes) × (ts ≡ p ∷ codes ":" ∷ q ∷ rest) × IsNumber p t × IsRegister arch q r
 
 -- the site's thread is one of so many
 abbrev pub ThreadExists : ℕ → SiteSyntax → Type 0

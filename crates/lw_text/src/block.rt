@@ -10,7 +10,7 @@ ghost use Rattle.lw_text.specs.Resolved.{named, named_entry, thread_exists, IsIn
 use crate::cursor::Cursor;
 use crate::fault::{Cause, Fault};
 use crate::site::Site;
-use lw_base::{LocNames, Sequence, Word};
+use lw_base::{Arch, LocNames, Sequence, Word};
 use std::alloc::Allocator;
 
 /// An entry of the block: the place of its first token, a site, and the word that it begins with.
@@ -28,15 +28,16 @@ impl<'t, 'a> Cursor<'t, 'a> {
     pub(crate) fn block<A: Allocator + Copy>(
         &mut self,
         alloc: A,
+        arch: Arch,
         locs: &mut LocNames<A>,
     ) -> Result<Sequence<Entry, A>, Fault>
-        ensures found { IfOk result (λ es. Block (left self.old) (map (named_entry locs.new) es)
+        ensures found { IfOk result (λ es. Block arch (left self.old) (map (named_entry locs.new) es)
             (left self.new)) }
         ensures names { IfOk result (λ es. locs.new ≡ with_sites locs.old (map
             (λ e. named locs.new e.site) es)) }
         ensures within { IfOk result (λ es. All (λ e. IsIn locs.new e.site) es) }
         ensures places { IfOk result (λ es. All (λ e. e.at ≤ self.old.len) es) }
-        ensures fault { IfErr result (λ f. NotReadWhere Memory f.cause (Block (left self.old))
+        ensures fault { IfErr result (λ f. NotReadWhere Memory f.cause (Block arch (left self.old))
             (λ es. HasRoomFor locs.old (sites_of es))) }
         ensures leaves { OnOk result (MovesOn self.old self.new) }
         ensures place { IfErr result (λ f. f.at ≤ self.old.len) }
@@ -44,7 +45,7 @@ impl<'t, 'a> Cursor<'t, 'a> {
     {
         self.expect("{", Cause::Unexpected)?;
         let mut entries = Sequence::new(alloc);
-        self.entries(&mut entries, locs)?;
+        self.entries(arch, &mut entries, locs)?;
         Ok(entries)
     }
 
@@ -52,17 +53,18 @@ impl<'t, 'a> Cursor<'t, 'a> {
     /// of their locations go into the table.
     fn entries<A: Allocator + Copy>(
         &mut self,
+        arch: Arch,
         entries: &mut Sequence<Entry, A>,
         locs: &mut LocNames<A>,
     ) -> Result<(), Fault>
         requires { entries.old ≡ [] }
-        ensures found { OnOk result (Entries (left self.old)
+        ensures found { OnOk result (Entries arch (left self.old)
             (map (named_entry locs.new) entries.new) (left self.new)) }
         ensures names { OnOk result (locs.new ≡ with_sites locs.old (map
             (λ e. named locs.new e.site) entries.new)) }
         ensures within { OnOk result (All (λ e. IsIn locs.new e.site) entries.new) }
         ensures places { OnOk result (All (λ e. e.at ≤ self.old.len) entries.new) }
-        ensures fault { IfErr result (λ f. NotReadWhere Memory f.cause (Entries (left self.old))
+        ensures fault { IfErr result (λ f. NotReadWhere Memory f.cause (Entries arch (left self.old))
             (λ es. HasRoomFor locs.old (sites_of es))) }
         ensures leaves { OnOk result (MovesOn self.old self.new) }
         ensures place { IfErr result (λ f. f.at ≤ self.old.len) }
@@ -72,7 +74,7 @@ impl<'t, 'a> Cursor<'t, 'a> {
             if self.takes("}") {
                 return Ok(());
             }
-            entries.push(self.entry(locs)?)?;
+            entries.push(self.entry(arch, locs)?)?;
             if self.either("}", ";", Cause::Unexpected)? {
                 return Ok(());
             }
@@ -80,21 +82,25 @@ impl<'t, 'a> Cursor<'t, 'a> {
     }
 
     /// Takes an entry. Its thread is looked at behind the header, which says how many there are.
-    fn entry<A: Allocator + Copy>(&mut self, locs: &mut LocNames<A>) -> Result<Entry, Fault>
-        ensures found { IfOk result (λ e. IsEntry (left self.old) (named_entry locs.new e)
+    fn entry<A: Allocator + Copy>(
+        &mut self,
+        arch: Arch,
+        locs: &mut LocNames<A>,
+    ) -> Result<Entry, Fault>
+        ensures found { IfOk result (λ e. IsEntry arch (left self.old) (named_entry locs.new e)
             (left self.new)) }
         ensures names { IfOk result (λ e. locs.new
             ≡ with_sites locs.old (named locs.new e.site ∷ [])) }
         ensures within { IfOk result (λ e. IsIn locs.new e.site) }
         ensures at { IfOk result (λ e. e.at ≤ self.old.len) }
-        ensures fault { IfErr result (λ f. NotReadWhere Memory f.cause (IsEntry (left self.old))
+        ensures fault { IfErr result (λ f. NotReadWhere Memory f.cause (IsEntry arch (left self.old))
             (λ e. HasRoomFor locs.old (e.site ∷ []))) }
         ensures leaves { OnOk result (MovesOn self.old self.new) }
         ensures place { IfErr result (λ f. f.at ≤ self.old.len) }
         ensures same { self.new.len ≡ self.old.len }
     {
         let at = self.fault(Cause::Unexpected).at;
-        let site = self.site(locs, None, Cause::Unexpected)?;
+        let site = self.site(arch, locs, None, Cause::Unexpected)?;
         let word = self.value(Cause::Unexpected)?;
         Ok(Entry { at, site, word })
     }

@@ -15,24 +15,28 @@ use crate::cursor::Cursor;
 use crate::fault::{Cause, Fault};
 use crate::parts::{Body, HeadParts};
 use crate::token_stream::TokenStream;
-use lw_base::{LocNames, Sequence};
+use lw_base::{Arch, LocNames, Sequence};
 use std::alloc::Allocator;
 
 impl<'t, 'a> Cursor<'t, 'a> {
     ghost use Rattle.lw_text.specs.Views.{remaining, left, MovesOn};
 
-    /// Takes all of it.
-    pub(crate) fn body<A: Allocator + Copy>(&mut self, alloc: A) -> Result<Body<'a, A>, Fault>
-        ensures found { IfOk result (λ b. HasSyntax (left self.old) b) }
-        ensures fault { IfErr result (λ f. f.cause ≢ Memory → IsNoTest (left self.old)) }
+    /// Takes all of it, in a test of the language.
+    pub(crate) fn body<A: Allocator + Copy>(
+        &mut self,
+        alloc: A,
+        arch: Arch,
+    ) -> Result<Body<'a, A>, Fault>
+        ensures found { IfOk result (λ b. HasSyntax arch (left self.old) b) }
+        ensures fault { IfErr result (λ f. f.cause ≢ Memory → IsNoTest arch (left self.old)) }
         ensures spans { IfOk result (λ b. (text : Bytes) (from to : ℕ)
             → Spans text from (remaining self.old) to → RowSpans text from b.rows to) }
         ensures place { IfErr result (λ f. f.at ≤ self.old.len) }
     {
         let mut locs = LocNames::new(alloc);
-        let (entries, threads) = self.front(alloc, &mut locs)?;
+        let (entries, threads) = self.front(alloc, arch, &mut locs)?;
         let rows = self.rows(alloc, threads)?;
-        let (listed, quant, prop) = self.condition(alloc, threads, &mut locs)?;
+        let (listed, quant, prop) = self.condition(alloc, arch, threads, &mut locs)?;
         let _len = locs.len();
         let parts = HeadParts {
             entries,
@@ -50,24 +54,25 @@ impl<'t, 'a> Cursor<'t, 'a> {
     fn front<A: Allocator + Copy>(
         &mut self,
         alloc: A,
+        arch: Arch,
         locs: &mut LocNames<A>,
     ) -> Result<(Sequence<Entry, A>, usize), Fault>
         ensures found { IfOk result (λ x. (mid : TokenList)
-            × Block (left self.old) (map (named_entry locs.new) x.0) mid
+            × Block arch (left self.old) (map (named_entry locs.new) x.0) mid
             × Header mid x.1 (left self.new)) }
         ensures there { IfOk result (λ x. list_all (λ e. thread_exists x.1 e.site) x.0 ≡ true) }
         ensures names { IfOk result (λ x. locs.new ≡ with_sites locs.old (map
             (λ e. named locs.new e.site) x.0)) }
         ensures within { IfOk result (λ x. All (λ e. IsIn locs.new e.site) x.0) }
         ensures fault { IfErr result (λ f. f.cause ≢ Memory
-            → (es : List EntrySyntax) (n : ℕ) (mid rest : TokenList) → Block (left self.old) es mid
+            → (es : List EntrySyntax) (n : ℕ) (mid rest : TokenList) → Block arch (left self.old) es mid
             → Header mid n rest → AllByRecursion (λ e. ThreadExists n e.site) es
             → HasRoomFor locs.old (sites_of es) → ⊥) }
         ensures leaves { OnOk result (MovesOn self.old self.new) }
         ensures place { IfErr result (λ f. f.at ≤ self.old.len) }
         ensures same { OnOk result (self.new.len ≡ self.old.len) }
     {
-        let entries = self.block(alloc, locs)?;
+        let entries = self.block(alloc, arch, locs)?;
         let threads = self.header()?;
         check_threads(entries.as_slice(), threads)?;
         Ok((entries, threads))
@@ -75,14 +80,15 @@ impl<'t, 'a> Cursor<'t, 'a> {
 }
 
 impl<'a, A: Allocator + Copy> TokenStream<'a, A> {
-    /// What the tokens say, in a text of this length. Where a fault ends them they say nothing.
-    pub(crate) fn body(&self, alloc: A, len: usize) -> Result<Body<'a, A>, Fault>
+    /// What the tokens say, in a text of the language and of this length. Where a fault ends them they
+    /// say nothing.
+    pub(crate) fn body(&self, alloc: A, arch: Arch, len: usize) -> Result<Body<'a, A>, Fault>
         requires places { All (λ t. t.at ≤ len) self.now.tokens }
         requires fault { IfSome self.now.fault (λ f. f.at ≤ len) }
         ensures whole { OnOk result (self.now.fault ≡ None) }
-        ensures found { IfOk result (λ b. HasSyntax (texts self.now.tokens) b) }
+        ensures found { IfOk result (λ b. HasSyntax arch (texts self.now.tokens) b) }
         ensures fault { IfErr result (λ f. f.cause ≢ Memory
-            → IfNone self.now.fault (IsNoTest (texts self.now.tokens))) }
+            → IfNone self.now.fault (IsNoTest arch (texts self.now.tokens))) }
         ensures spans { IfOk result (λ b. (text : Bytes) (from to : ℕ)
             → Spans text from self.now.tokens to → RowSpans text from b.rows to) }
         ensures place { IfErr result (λ f. f.at ≤ len) }
@@ -92,7 +98,7 @@ impl<'a, A: Allocator + Copy> TokenStream<'a, A> {
             cause: Cause::Unterminated,
         });
         let mut cursor = Cursor::new(self.tokens.as_slice(), end, len);
-        let body = cursor.body(alloc)?;
+        let body = cursor.body(alloc, arch)?;
         match self.fault {
             Some(fault) => Err(fault),
             None => Ok(body),

@@ -14,7 +14,7 @@ ghost use Rattle.lw_text.specs.Resolved.{named, IsIn};
 use crate::cursor::Cursor;
 use crate::fault::{Cause, Fault};
 use crate::site::Site;
-use lw_base::{LocNames, MAX_THREADS, Prop, Quant, Sequence};
+use lw_base::{Arch, LocNames, MAX_THREADS, Prop, Quant, Sequence};
 use std::alloc::Allocator;
 
 impl<'t, 'a> Cursor<'t, 'a> {
@@ -25,28 +25,29 @@ impl<'t, 'a> Cursor<'t, 'a> {
     pub(crate) fn condition<A: Allocator + Copy>(
         &mut self,
         alloc: A,
+        arch: Arch,
         threads: usize,
         locs: &mut LocNames<A>,
     ) -> Result<(Sequence<Site, A>, Quant, Prop<A>), Fault>
         requires threads { threads ≤ MAX_THREADS }
         requires once { EachOnce locs.old }
         ensures found { IfOk result (λ x. (ss : List (TerminalSyntax AtomSyntax))
-            × Condition threads (left self.old) (map (named locs.new) x.0) x.1 ss
+            × Condition arch threads (left self.old) (map (named locs.new) x.0) x.1 ss
             × (locs.new ≡ with_sites (with_sites locs.old (map (named locs.new) x.0)) (sites_in ss))
             × HasFewNodes ss × IsProposition (map (resolved locs.new) ss) (formula_of x.2)) }
         ensures within { IfOk result (λ x. All (IsIn locs.new) x.0) }
         ensures fault { IfErr result (λ f. f.cause ≢ Memory
             → (listed : List SiteSyntax) (quant : QuantSyntax)
             (ss : List (TerminalSyntax AtomSyntax)) (p : Formula)
-            → Condition threads (left self.old) listed quant ss
+            → Condition arch threads (left self.old) listed quant ss
             → HasRoomFor (with_sites locs.old listed) (sites_in ss) → HasFewNodes ss
             → IsProposition (map (resolved
             (with_sites (with_sites locs.old listed) (sites_in ss))) ss) p → ⊥) }
         ensures place { IfErr result (λ f. f.at ≤ self.old.len) }
     {
-        let listed = self.listed(alloc, threads, locs)?;
+        let listed = self.listed(alloc, arch, threads, locs)?;
         let quant = self.quantifier()?;
-        let prop = self.proposition(alloc, threads, locs)?;
+        let prop = self.proposition(alloc, arch, threads, locs)?;
         Ok((listed, quant, prop))
     }
 

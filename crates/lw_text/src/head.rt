@@ -11,10 +11,11 @@ ghost use Rattle.lw_text.specs.Places.{IsWithin};
 
 use crate::columns::columns;
 use crate::frame::Frame;
+use crate::heading::Heading;
 use crate::initial::{initial_registers, initial_words};
 use crate::parts::{Body, HeadParts};
 use crate::seen::seen_among;
-use lw_base::{Arch, Head, Seen, Sequence, Text, Word};
+use lw_base::{Head, Seen, Sequence, Text, Word};
 use std::alloc::{AllocError, Allocator, Global};
 
 /// What of a head is made, and not taken over.
@@ -27,14 +28,15 @@ struct Made<A: Allocator = Global> {
 }
 
 impl<A: Allocator + Copy> HeadParts<A> {
-    /// The head of a source test of this name.
-    pub(crate) fn head(self, alloc: A, name: &str) -> Result<Head<A>, AllocError>
-        ensures { IfOk result (λ h. head_of h ≡ resolved_head name.now self) }
+    /// The head of a test of this heading.
+    pub(crate) fn head(self, alloc: A, heading: Heading<'_>) -> Result<Head<A>, AllocError>
+        ensures { IfOk result (λ h. head_of h
+            ≡ resolved_head heading.entry.arch heading.entry.name.now self) }
     {
-        let made = self.made(alloc, name)?;
+        let made = self.made(alloc, heading.name)?;
         Ok(Head {
             name: made.name,
-            arch: Arch::Source,
+            arch: heading.arch,
             threads: self.threads,
             locs: self.locs,
             init_regs: made.init_regs,
@@ -45,7 +47,7 @@ impl<A: Allocator + Copy> HeadParts<A> {
         })
     }
 
-    /// What is made for the head of a source test of this name.
+    /// What is made for the head of a test of this name.
     fn made(&self, alloc: A, name: &str) -> Result<Made<A>, AllocError>
         ensures name { IfOk result (λ m. m.name ≡ name.now) }
         ensures regs { IfOk result (λ m. m.init_regs ≡ map
@@ -69,19 +71,25 @@ impl<A: Allocator + Copy> HeadParts<A> {
 }
 
 impl<'a, A: Allocator + Copy> Body<'a, A> {
-    /// The frame, in a text of this length.
-    pub(crate) fn finish(self, alloc: A, name: &str, len: usize) -> Result<Frame<'a, A>, AllocError>
+    /// The frame, in a text of this heading and this length.
+    pub(crate) fn finish(
+        self,
+        alloc: A,
+        heading: Heading<'_>,
+        len: usize,
+    ) -> Result<Frame<'a, A>, AllocError>
         requires within { All (λ row. All (IsWithin len) row) self.rows }
-        requires says { (ts : TokenList) × HasSyntax ts self }
-        requires name { IsTestName name.now }
-        ensures head { IfOk result (λ f. head_of f.head ≡ resolved_head name.now self.entry.parts) }
+        requires says { (ts : TokenList) × HasSyntax heading.arch ts self }
+        requires name { IsTestName heading.name.now }
+        ensures head { IfOk result (λ f. head_of f.head
+            ≡ resolved_head heading.entry.arch heading.entry.name.now self.entry.parts) }
         ensures cells { IfOk result (λ f. f.cells
             ≡ columns self.entry.parts.threads self.entry.rows) }
         ensures len { IfOk result (λ f. f.len ≡ len) }
     {
         let Body { parts, rows } = self;
         let cells = columns(alloc, parts.threads, rows.as_slice())?;
-        let head = parts.head(alloc, name)?;
+        let head = parts.head(alloc, heading)?;
         Ok(Frame { head, cells, len })
     }
 }

@@ -1,47 +1,59 @@
-//! The heading of a test: the word of the architecture, the test's name, and notes up to the `{`.
-ghost use Rattle.std.specs.Prelude.{◌≡◌, ◌≤◌, ◌↔◌, length, codes, IsTrue, IfOk, OnOk, OnErr, IfErr};
+//! The heading of a test: the word of its language, its name, and notes up to the `{`.
+ghost use Rattle.std.specs.Prelude.{◌≡◌, ◌≤◌, ◌↔◌, length, IsTrue, IfOk, OnErr, IfErr, MatchOption};
 ghost use Rattle.lw_base.specs.Refusals.{NoSuch, NoneRead};
 ghost use Rattle.lw_text.specs.Tokens.{First};
 ghost use Rattle.lw_base.specs.Names.{IsTestName};
-ghost use Rattle.lw_text.specs.Headings.{Named, Heading};
+ghost use Rattle.lw_base.specs.Languages.{arch_word};
+ghost use Rattle.lw_text.specs.Headings.{Named};
+ghost use Rattle.lw_text.specs.Headings as wanted;
 
 use crate::fault::{Cause, Fault};
 use crate::lexer::Lexer;
-use lw_base::{ByteKind, MAX_TEST_NAME_BYTES, ascii_text, front};
+use lw_base::{Arch, ByteKind, MAX_TEST_NAME_BYTES, ascii_text, front};
+
+/// What a heading says of its test, besides the notes.
+#[derive(Clone, Copy)]
+pub(crate) struct Heading<'a> {
+    pub(crate) arch: Arch,
+    pub(crate) name: &'a str,
+}
 
 impl<'a> Lexer<'a> {
-    /// Takes the word `SRC`, the blanks behind it, the test's name, and the notes up to a `{`.
-    pub(crate) fn heading(&mut self) -> Result<&'a str, Fault>
-        ensures found { IfOk result (λ name. Heading self.old.rest.now name.now self.new.rest.now) }
-        ensures fault { OnErr result (NoneRead (Heading self.old.rest.now)) }
+    /// Takes the word of a language, the blanks behind it, the test's name, and the notes up to a `{`.
+    pub(crate) fn heading(&mut self) -> Result<Heading<'a>, Fault>
+        ensures found { IfOk result (λ h. wanted.Heading self.old.rest.now h.arch h.name.now
+            self.new.rest.now) }
+        ensures fault { OnErr result ((arch : Arch)
+            → NoneRead (wanted.Heading self.old.rest.now arch)) }
         ensures place { IfErr result (λ f. f.at ≤ length self.old.text.now) }
         ensures same { self.new.text.now ≡ self.old.text.now }
     {
-        self.source_word()?;
+        let arch = self.language()?;
         let name = self.test_name()?;
         self.notes()?;
-        Ok(name)
+        Ok(Heading { arch, name })
     }
 
-    fn source_word(&mut self) -> Result<(), Fault>
-        ensures found { OnOk result (First self.old.rest.now (codes "SRC") self.new.rest.now) }
-        ensures fault { OnErr result (NoSuch (First self.old.rest.now (codes "SRC"))) }
+    /// Takes the word of a language.
+    fn language(&mut self) -> Result<Arch, Fault>
+        ensures found { IfOk result (λ arch. First self.old.rest.now (arch_word arch)
+            self.new.rest.now) }
+        ensures fault { OnErr result ((arch : Arch)
+            → NoSuch (First self.old.rest.now (arch_word arch))) }
         ensures place { IfErr result (λ f. f.at ≤ length self.old.text.now) }
         ensures same { self.new.text.now ≡ self.old.text.now }
     {
-        match self.next()? {
-            Some(token) => {
-                if token.text == "SRC" {
-                    return Ok(());
-                }
-                Err(Fault {
-                    at: token.at,
-                    cause: Cause::Unexpected,
-                })
-            }
-            None => Err(Fault {
+        let Some(token) = self.next()? else {
+            return Err(Fault {
                 at: self.text.len(),
                 cause: Cause::Unterminated,
+            });
+        };
+        match arch_named(token.text) {
+            Some(arch) => Ok(arch),
+            None => Err(Fault {
+                at: token.at,
+                cause: Cause::Unexpected,
             }),
         }
     }
@@ -75,6 +87,18 @@ impl<'a> Lexer<'a> {
         }
         self.rest = rest;
         Ok(ascii_text(name))
+    }
+}
+
+/// The language of this word.
+fn arch_named(word: &str) -> Option<Arch>
+    ensures { MatchOption result (NoSuch (λ arch. arch_word arch ≡ word.now))
+        (λ arch. arch_word arch ≡ word.now) }
+{
+    match word {
+        "SRC" => Some(Arch::Source),
+        "X86" => Some(Arch::X86),
+        _ => None,
     }
 }
 

@@ -10,7 +10,7 @@ ghost use Rattle.lw_text.specs.Resolved.{named, IsIn};
 use crate::cursor::Cursor;
 use crate::fault::{Cause, Fault};
 use crate::site::Site;
-use lw_base::{LocNames, Sequence};
+use lw_base::{Arch, LocNames, Sequence};
 use std::alloc::Allocator;
 
 impl<'t, 'a> Cursor<'t, 'a> {
@@ -20,10 +20,11 @@ impl<'t, 'a> Cursor<'t, 'a> {
     pub(crate) fn listed<A: Allocator + Copy>(
         &mut self,
         alloc: A,
+        arch: Arch,
         threads: usize,
         locs: &mut LocNames<A>,
     ) -> Result<Sequence<Site, A>, Fault>
-        ensures found { IfOk result (λ ss. Listed (left self.old) (map (named locs.new) ss)
+        ensures found { IfOk result (λ ss. Listed arch (left self.old) (map (named locs.new) ss)
             (left self.new)) }
         ensures there { IfOk result (λ ss. AllByRecursion (ThreadExists threads)
             (map (named locs.new) ss)) }
@@ -31,7 +32,7 @@ impl<'t, 'a> Cursor<'t, 'a> {
             ≡ with_sites locs.old (map (named locs.new) ss)) }
         ensures within { IfOk result (λ ss. All (IsIn locs.new) ss) }
         ensures fault { IfErr result (λ f. f.cause ≢ Memory
-            → (ss : List SiteSyntax) (rest : TokenList) → Listed (left self.old) ss rest
+            → (ss : List SiteSyntax) (rest : TokenList) → Listed arch (left self.old) ss rest
             → AllByRecursion (ThreadExists threads) ss → HasRoomFor locs.old ss → ⊥) }
         ensures place { IfErr result (λ f. f.at ≤ self.old.len) }
         ensures same { self.new.len ≡ self.old.len }
@@ -41,7 +42,7 @@ impl<'t, 'a> Cursor<'t, 'a> {
         }
         self.expect("[", Cause::Condition)?;
         let mut sites = Sequence::new(alloc);
-        self.sites(&mut sites, threads, locs)?;
+        self.sites(arch, &mut sites, threads, locs)?;
         Ok(sites)
     }
 
@@ -49,12 +50,13 @@ impl<'t, 'a> Cursor<'t, 'a> {
     /// their locations go into the table.
     fn sites<A: Allocator + Copy>(
         &mut self,
+        arch: Arch,
         sites: &mut Sequence<Site, A>,
         threads: usize,
         locs: &mut LocNames<A>,
     ) -> Result<(), Fault>
         requires { sites.old ≡ [] }
-        ensures found { OnOk result (Sites (left self.old) (map (named locs.new) sites.new)
+        ensures found { OnOk result (Sites arch (left self.old) (map (named locs.new) sites.new)
             (left self.new)) }
         ensures there { OnOk result (AllByRecursion (ThreadExists threads)
             (map (named locs.new) sites.new)) }
@@ -62,7 +64,7 @@ impl<'t, 'a> Cursor<'t, 'a> {
             ≡ with_sites locs.old (map (named locs.new) sites.new)) }
         ensures within { OnOk result (All (IsIn locs.new) sites.new) }
         ensures fault { IfErr result (λ f. f.cause ≢ Memory
-            → (ss : List SiteSyntax) (rest : TokenList) → Sites (left self.old) ss rest
+            → (ss : List SiteSyntax) (rest : TokenList) → Sites arch (left self.old) ss rest
             → AllByRecursion (ThreadExists threads) ss → HasRoomFor locs.old ss → ⊥) }
         ensures place { IfErr result (λ f. f.at ≤ self.old.len) }
         ensures same { self.new.len ≡ self.old.len }
@@ -71,7 +73,7 @@ impl<'t, 'a> Cursor<'t, 'a> {
             if self.takes("]") {
                 return Ok(());
             }
-            sites.push(self.site(locs, Some(threads), Cause::Condition)?)?;
+            sites.push(self.site(arch, locs, Some(threads), Cause::Condition)?)?;
             if self.either("]", ";", Cause::Condition)? {
                 return Ok(());
             }

@@ -16,7 +16,7 @@ use crate::cursor::Cursor;
 use crate::fault::{Cause, Fault};
 use crate::proposition_reader::PropositionReader;
 use crate::terminal::Terminal;
-use lw_base::{LocNames, MAX_NODES, MAX_THREADS, Prop};
+use lw_base::{Arch, LocNames, MAX_NODES, MAX_THREADS, Prop};
 use std::alloc::Allocator;
 
 impl<'t, 'a> Cursor<'t, 'a> {
@@ -26,17 +26,18 @@ impl<'t, 'a> Cursor<'t, 'a> {
     pub(crate) fn proposition<A: Allocator + Copy>(
         &mut self,
         alloc: A,
+        arch: Arch,
         threads: usize,
         locs: &mut LocNames<A>,
     ) -> Result<Prop<A>, Fault>
         requires threads { threads ≤ MAX_THREADS }
         requires once { EachOnce locs.old }
         ensures found { IfOk result (λ p. (ss : List (TerminalSyntax AtomSyntax))
-            × Terminals threads (left self.old) ss × (locs.new ≡ with_sites locs.old (sites_in ss))
+            × Terminals arch threads (left self.old) ss × (locs.new ≡ with_sites locs.old (sites_in ss))
             × HasFewNodes ss × IsProposition (map (resolved locs.new) ss) (formula_of p)) }
         ensures fault { IfErr result (λ f. f.cause ≢ Memory
             → (ss : List (TerminalSyntax AtomSyntax)) (p : Formula)
-            → Terminals threads (left self.old) ss → HasRoomFor locs.old (sites_in ss)
+            → Terminals arch threads (left self.old) ss → HasRoomFor locs.old (sites_in ss)
             → HasFewNodes ss → IsProposition
             (map (resolved (with_sites locs.old (sites_in ss))) ss) p → ⊥) }
         ensures place { IfErr result (λ f. f.at ≤ self.old.len) }
@@ -50,7 +51,7 @@ impl<'t, 'a> Cursor<'t, 'a> {
                     None => Err(self.end),
                 };
             }
-            let terminal = self.next_terminal(&mut reader, nodes, threads, locs)?;
+            let terminal = self.next_terminal(arch, &mut reader, nodes, threads, locs)?;
             nodes += terminal.nodes();
         }
     }
@@ -59,6 +60,7 @@ impl<'t, 'a> Cursor<'t, 'a> {
     /// of its locations go into the table.
     fn next_terminal<A: Allocator + Copy>(
         &mut self,
+        arch: Arch,
         reader: &mut PropositionReader<A>,
         nodes: usize,
         threads: usize,
@@ -69,7 +71,7 @@ impl<'t, 'a> Cursor<'t, 'a> {
         ensures room { OnOk result ((not (nodes == MAX_NODES) ||
             (begins_word (codes "(") (left self.old) || begins_word (codes ")") (left self.old)))
             ≡ true) }
-        ensures found { IfOk result (λ s. IsTerminal threads (left self.old)
+        ensures found { IfOk result (λ s. IsTerminal arch threads (left self.old)
             (named_terminal locs.new s) (left self.new)) }
         ensures names { IfOk result (λ s. locs.new
             ≡ with_sites locs.old (sites_in (named_terminal locs.new s ∷ []))) }
@@ -81,7 +83,7 @@ impl<'t, 'a> Cursor<'t, 'a> {
         ensures fault { IfErr result (λ f. f.cause ≢ Memory
             → (s : TerminalSyntax AtomSyntax) (rest : TokenList)
             (ss : List (TerminalSyntax Formula)) (p : Formula)
-            → IsTerminal threads (left self.old) s rest
+            → IsTerminal arch threads (left self.old) s rest
             → Completes reader.old (resolved (with_sites locs.old (sites_in (s ∷ []))) s ∷ ss) p
             → HasRoomFor locs.old (sites_in (s ∷ []))
             → nodes + length (filter is_node (s ∷ [])) ≤ MAX_NODES → ⊥) }
@@ -92,7 +94,7 @@ impl<'t, 'a> Cursor<'t, 'a> {
         if !self.has_room(nodes) {
             return Err(misfit);
         }
-        let terminal = self.terminal(reader.wants_part(), threads, locs)?;
+        let terminal = self.terminal(arch, reader.wants_part(), threads, locs)?;
         if !reader.take(terminal)? {
             return Err(misfit);
         }

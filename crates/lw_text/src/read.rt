@@ -81,8 +81,8 @@ fn read_text<'a, A: Allocator + Copy>(alloc: A, text: &'a [u8]) -> Result<Frame<
     ensures place { IfErr result (λ f. f.at ≤ length text.now) }
 {
     let mut lexer = Lexer::new(text);
-    let name = lexer.heading()?;
+    let heading = lexer.heading()?;
     let row = TokenStream::read(alloc, lexer)?;
-    let body = row.body(alloc, text.len())?;
-    Ok(body.finish(alloc, name, text.len())?)
+    let body = row.body(alloc, heading.arch, text.len())?;
+    Ok(body.finish(alloc, heading, text.len())?)
 }

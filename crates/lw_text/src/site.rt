@@ -2,7 +2,6 @@
 ghost use Rattle.std.specs.Prelude.{◌≡◌, ◌≢◌, ℕ, ◌≤◌, [], ◌∷◌, codes, nat_lt, Some, slice_get, OnOk, OnErr, IfOk, IfErr};
 ghost use Rattle.lw_base.specs.Refusals.{NoneRead};
 ghost use Rattle.lw_base.specs.Types.{Bytes, NameTable, TokenList};
-ghost use Rattle.lw_base.specs.declared.head.Arch.TheVariants.{Source};
 ghost use Rattle.lw_base.specs.Names.{IsLocation};
 ghost use Rattle.lw_base.specs.Registers.{IsRegister};
 ghost use Rattle.lw_base.specs.Tables.{with_name};
@@ -59,23 +58,24 @@ impl Site {
 impl<'t, 'a> Cursor<'t, 'a> {
     ghost use Rattle.lw_text.specs.Views.{left, MovesOn};
 
-    /// Takes a site: a location, whose name goes into the table, or a register of one of so many
-    /// threads, or of any where their number is not known yet. Tokens that don't fit are told with the
-    /// cause.
+    /// Takes a site: a location, whose name goes into the table, or a register, by its name in the
+    /// language, of one of so many threads, or of any where their number is not known yet. Tokens that
+    /// don't fit are told with the cause.
     pub(crate) fn site<A: Allocator + Copy>(
         &mut self,
+        arch: Arch,
         locs: &mut LocNames<A>,
         threads: Option<usize>,
         cause: Cause,
     ) -> Result<Site, Fault>
         requires { cause ≢ Memory }
-        ensures found { IfOk result (λ s. IsSite (left self.old) (named locs.new s)
+        ensures found { IfOk result (λ s. IsSite arch (left self.old) (named locs.new s)
             (left self.new)) }
         ensures there { IfOk result (λ s. ThreadAllowed threads (named locs.new s)) }
         ensures names { IfOk result (λ s. locs.new ≡ with_sites locs.old (named locs.new s ∷ [])) }
         ensures within { IfOk result (λ s. IsIn locs.new s) }
         ensures fault { IfErr result (λ f. f.cause ≢ Memory → (s : SiteSyntax) (rest : TokenList)
-            → IsSite (left self.old) s rest → ThreadAllowed threads s → HasRoomFor locs.old (s ∷ [])
+            → IsSite arch (left self.old) s rest → ThreadAllowed threads s → HasRoomFor locs.old (s ∷ [])
             → ⊥) }
         ensures leaves { OnOk result (MovesOn self.old self.new) }
         ensures place { IfErr result (λ f. f.at ≤ self.old.len) }
@@ -92,7 +92,7 @@ impl<'t, 'a> Cursor<'t, 'a> {
                     cause: Cause::Name,
                 });
             }
-            return self.of_thread(thread, cause);
+            return self.of_thread(arch, thread, cause);
         }
         let loc = enter(first, locs, cause)?;
         Ok(Site::Location(loc))
@@ -122,36 +122,36 @@ impl<'t, 'a> Cursor<'t, 'a> {
     }
 
     /// Takes a `:` and the name of a register of the thread.
-    fn of_thread(&mut self, thread: Word, cause: Cause) -> Result<Site, Fault>
+    fn of_thread(&mut self, arch: Arch, thread: Word, cause: Cause) -> Result<Site, Fault>
         requires { cause ≢ Memory }
         ensures found { IfOk result (λ s. (q : Bytes) × (r : ℕ)
-            × (left self.old ≡ codes ":" ∷ q ∷ left self.new) × IsRegister Source q r
+            × (left self.old ≡ codes ":" ∷ q ∷ left self.new) × IsRegister arch q r
             × ((names : NameTable) → named names s ≡ InThread thread r)) }
         ensures within { IfOk result (λ s. (names : NameTable) → IsIn names s) }
         ensures fault { OnErr result ((q : Bytes) (r : ℕ) (rest : TokenList) → left self.old
-            ≡ codes ":" ∷ q ∷ rest → IsRegister Source q r → ⊥) }
+            ≡ codes ":" ∷ q ∷ rest → IsRegister arch q r → ⊥) }
         ensures leaves { OnOk result (MovesOn self.old self.new) }
         ensures place { IfErr result (λ f. f.at ≤ self.old.len) }
         ensures same { self.new.len ≡ self.old.len }
     {
         self.expect(":", cause)?;
-        let reg = self.register(cause)?;
+        let reg = self.register(arch, cause)?;
         Ok(Site::Register(thread, reg))
     }
 
-    /// Takes the name of a register.
-    fn register(&mut self, cause: Cause) -> Result<Reg, Fault>
+    /// Takes the name of a register of the language.
+    fn register(&mut self, arch: Arch, cause: Cause) -> Result<Reg, Fault>
         requires { cause ≢ Memory }
         ensures ok { IfOk result (λ r. (q : Bytes) × (left self.old ≡ q ∷ left self.new)
-            × IsRegister Source q r) }
+            × IsRegister arch q r) }
         ensures err { OnErr result ((q : Bytes) (r : ℕ) (rest : TokenList) → left self.old
-            ≡ q ∷ rest → IsRegister Source q r → ⊥) }
+            ≡ q ∷ rest → IsRegister arch q r → ⊥) }
         ensures leaves { OnOk result (MovesOn self.old self.new) }
         ensures place { IfErr result (λ f. f.at ≤ self.old.len) }
         ensures same { self.new.len ≡ self.old.len }
     {
         let name = self.take()?;
-        match reg_named(Arch::Source, name.text) {
+        match reg_named(arch, name.text) {
             Some(reg) => Ok(reg),
             None => Err(no_name(name, cause)),
         }

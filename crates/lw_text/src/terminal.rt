@@ -14,7 +14,7 @@ ghost use Rattle.lw_text.specs.Resolved as resolved_of;
 use crate::cursor::Cursor;
 use crate::fault::{Cause, Fault};
 use crate::site::Site;
-use lw_base::{Cpu, Loc, LocNames, MAX_THREADS, Prop, Reg, Word};
+use lw_base::{Arch, Cpu, Loc, LocNames, MAX_THREADS, Prop, Reg, Word};
 use std::alloc::Allocator;
 
 /// What an atom says: a location, by its number, or a thread's register ends with the
@@ -71,25 +71,26 @@ impl<'t, 'a> Cursor<'t, 'a> {
     /// go into the table.
     pub(crate) fn terminal<A: Allocator + Copy>(
         &mut self,
+        arch: Arch,
         part: bool,
         threads: usize,
         locs: &mut LocNames<A>,
     ) -> Result<Terminal, Fault>
         requires { threads ≤ MAX_THREADS }
-        ensures found { IfOk result (λ s. IsTerminal threads (left self.old)
+        ensures found { IfOk result (λ s. IsTerminal arch threads (left self.old)
             (named_terminal locs.new s) (left self.new)) }
         ensures names { IfOk result (λ s. locs.new
             ≡ with_sites locs.old (sites_in (named_terminal locs.new s ∷ []))) }
         ensures within { IfOk result (λ s. TerminalIn locs.new s) }
         ensures fault { IfErr result (λ f. f.cause ≢ Memory
             → (s : TerminalSyntax AtomSyntax) (rest : TokenList)
-            → IsTerminal threads (left self.old) s rest → begins_part s ≡ part
+            → IsTerminal arch threads (left self.old) s rest → begins_part s ≡ part
             → HasRoomFor locs.old (sites_in (s ∷ [])) → ⊥) }
         ensures place { IfErr result (λ f. f.at ≤ self.old.len) }
         ensures same { self.new.len ≡ self.old.len }
     {
         if part {
-            self.opening(threads, locs)
+            self.opening(arch, threads, locs)
         } else {
             self.joint()
         }
@@ -98,18 +99,19 @@ impl<'t, 'a> Cursor<'t, 'a> {
     /// Takes a terminal with which a part begins.
     fn opening<A: Allocator + Copy>(
         &mut self,
+        arch: Arch,
         threads: usize,
         locs: &mut LocNames<A>,
     ) -> Result<Terminal, Fault>
         requires { threads ≤ MAX_THREADS }
-        ensures found { IfOk result (λ s. IsTerminal threads (left self.old)
+        ensures found { IfOk result (λ s. IsTerminal arch threads (left self.old)
             (named_terminal locs.new s) (left self.new)) }
         ensures names { IfOk result (λ s. locs.new
             ≡ with_sites locs.old (sites_in (named_terminal locs.new s ∷ []))) }
         ensures within { IfOk result (λ s. TerminalIn locs.new s) }
         ensures fault { IfErr result (λ f. f.cause ≢ Memory
             → (s : TerminalSyntax AtomSyntax) (rest : TokenList)
-            → IsTerminal threads (left self.old) s rest → begins_part s ≡ true
+            → IsTerminal arch threads (left self.old) s rest → begins_part s ≡ true
             → HasRoomFor locs.old (sites_in (s ∷ [])) → ⊥) }
         ensures place { IfErr result (λ f. f.at ≤ self.old.len) }
         ensures same { self.new.len ≡ self.old.len }
@@ -129,20 +131,20 @@ impl<'t, 'a> Cursor<'t, 'a> {
         if self.takes("false") {
             return Ok(Terminal::Atom(Atom::Never));
         }
-        let site = self.site(locs, Some(threads), Cause::Condition)?;
+        let site = self.site(arch, locs, Some(threads), Cause::Condition)?;
         let word = self.value(Cause::Condition)?;
         Ok(Terminal::Atom(atom_at(site, word)))
     }
 
     /// Takes a `)`, a `/\` or a `\/`.
     fn joint(&mut self) -> Result<Terminal, Fault>
-        ensures found { IfOk result (λ s. (threads : ℕ) (names : NameTable)
-            → IsTerminal threads (left self.old) (named_terminal names s) (left self.new)) }
+        ensures found { IfOk result (λ s. (arch : Arch) (threads : ℕ) (names : NameTable)
+            → IsTerminal arch threads (left self.old) (named_terminal names s) (left self.new)) }
         ensures silent { IfOk result (λ s. (names : NameTable)
             → sites_in (named_terminal names s ∷ []) ≡ []) }
         ensures within { IfOk result (λ s. (names : NameTable) → TerminalIn names s) }
-        ensures fault { OnErr result ((threads : ℕ) (s : TerminalSyntax AtomSyntax)
-            (rest : TokenList) → IsTerminal threads (left self.old) s rest → begins_part s ≡ false
+        ensures fault { OnErr result ((arch : Arch) (threads : ℕ) (s : TerminalSyntax AtomSyntax)
+            (rest : TokenList) → IsTerminal arch threads (left self.old) s rest → begins_part s ≡ false
             → ⊥) }
         ensures place { IfErr result (λ f. f.at ≤ self.old.len) }
         ensures same { self.new.len ≡ self.old.len }

@@ -39,7 +39,7 @@ returns-clause-found g c =
     let same : head_of c.in_ok-head.head ≡ head_of c.args.frame.now.head = c.in_ok-head.ensures ∙ ap head_of c.head.ensures in
     let zeros : length c.read_threads.new.locs - length c.in_ok-head.head.init_words ≡ length c.read_threads.new.locs - length c.in_ok-head.head.locs =
     omega (arith, ap (λ (h : TestHead). length h.init_words) same, ap (λ (h : TestHead). length h.locs) same, c.args.frame.now.well_formed.words) in
-    test_found g.S.Statement.language c.requires.lawful _ _ same _ _ _ _ (rw c.as_slice-columns.ensures at c.in_ok-threads.ensures.found) c.in_ok-threads.ensures.table.few (c.in_ok-threads.ensures.words ∙ ap (λ (n : ℕ). c.in_ok-head.head.init_words ++ replicate n 0) zeros)
+    test_found g.S.Statement.language c.requires.lawful _ _ same _ _ _ _ c.requires.arch (rw c.as_slice-columns.ensures at c.in_ok-threads.ensures.found) c.in_ok-threads.ensures.table.few (c.in_ok-threads.ensures.words ∙ ap (λ (n : ℕ). c.in_ok-head.head.init_words ++ replicate n 0) zeros)
 
 pub returns-in_err-head-clause-found : goal.returns-in_err-head-clause-found
 returns-in_err-head-clause-found g c =

@@ -14,32 +14,32 @@ use Rattle.lw_text.proofs.CellPlaces.{RowSpans-within}
 use Rattle.lw_text.proofs.RowColumns.{columns-texts}
 use Rattle.lw_text.proofs.ResolvedHeads.{head_made}
 use Rattle.lw_text.proofs.WellFormedHeads.{body_proposition}
-use Rattle.lw_text.proofs.Whole.{no_frame, no_parts}
+use Rattle.lw_text.proofs.Whole.{no_frame, no_test}
 use Rattle.lw_text.proofs.read.read_text.Goals as goal
 
-pub returns-in_err-name-clause-fault : goal.returns-in_err-name-clause-fault
-returns-in_err-name-clause-fault g c =
-    passed_on _ _ c.from_residual.ensures.1 (λ _ frame h. c.in_err-name.ensures.fault h.name h.rest (subst (λ t. Heading t h.name h.rest) (sym c.new-lexer.ensures.rest) h.heading))
+pub returns-in_err-heading-clause-fault : goal.returns-in_err-heading-clause-fault
+returns-in_err-heading-clause-fault g c =
+    passed_on _ _ c.from_residual.ensures.1 (λ _ frame h. c.in_err-heading.ensures.fault h.arch h.name h.rest (subst (λ t. Heading t h.arch h.name h.rest) (sym c.new-lexer.ensures.rest) h.heading))
 
-pub returns-in_err-name-clause-place : goal.returns-in_err-name-clause-place
-returns-in_err-name-clause-place g c =
-    passed_on _ _ c.from_residual.ensures.1 (omega (arith, c.in_err-name.ensures.place, ap length c.new-lexer.ensures.text))
+pub returns-in_err-heading-clause-place : goal.returns-in_err-heading-clause-place
+returns-in_err-heading-clause-place g c =
+    passed_on _ _ c.from_residual.ensures.1 (omega (arith, c.in_err-heading.ensures.place, ap length c.new-lexer.ensures.text))
 
 pub body-requires-clause-places : goal.body-requires-clause-places
 body-requires-clause-places g c =
     let len = length c.args.text.now in
-    let whole = c.in_ok-name.ensures.same ∙ c.new-lexer.ensures.text in
+    let whole = c.in_ok-heading.ensures.same ∙ c.new-lexer.ensures.text in
     let spans = subst (λ t. Spans t 0 c.in_ok-row.row.tokens (length t)) whole c.in_ok-row.ensures.spans in
     Spans-places c.args.text.now 0 len c.in_ok-row.row.tokens spans
 
 pub body-requires-clause-fault : goal.body-requires-clause-fault
-body-requires-clause-fault g c = subst (λ t. IfSome c.in_ok-row.row.fault (λ f. f.at ≤ length t)) (c.in_ok-name.ensures.same ∙ c.new-lexer.ensures.text) c.in_ok-row.ensures.place
+body-requires-clause-fault g c = subst (λ t. IfSome c.in_ok-row.row.fault (λ f. f.at ≤ length t)) (c.in_ok-heading.ensures.same ∙ c.new-lexer.ensures.text) c.in_ok-row.ensures.place
 
 pub returns-in_err-body-clause-fault : goal.returns-in_err-body-clause-fault
 returns-in_err-body-clause-fault g c =
     let row = c.in_ok-row.row in
-    let heading = subst (λ t. Heading t c.in_ok-name.name.now c.heading.new.self.rest.now) c.new-lexer.ensures.rest c.in_ok-name.ensures.found in
-    passed_on _ _ c.from_residual-in_err-body.ensures.1 (λ ne. no_frame c.args.text.now c.in_ok-name.name.now c.heading.new.self.rest.now heading (no_parts row.fault c.heading.new.self.rest.now (texts row.tokens) c.in_ok-row.ensures.found c.in_ok-row.ensures.fault (c.in_err-body.ensures.fault ne)))
+    let heading = subst (λ t. Heading t c.in_ok-heading.heading.arch c.in_ok-heading.heading.name.now c.heading.new.self.rest.now) c.new-lexer.ensures.rest c.in_ok-heading.ensures.found in
+    passed_on _ _ c.from_residual-in_err-body.ensures.1 (λ ne. no_frame c.args.text.now c.in_ok-heading.heading.arch c.in_ok-heading.heading.name.now c.heading.new.self.rest.now heading (no_test c.in_ok-heading.heading.arch row.fault c.heading.new.self.rest.now (texts row.tokens) c.in_ok-row.ensures.found c.in_ok-row.ensures.fault (c.in_err-body.ensures.fault ne)))
 
 pub returns-in_err-body-clause-place : goal.returns-in_err-body-clause-place
 returns-in_err-body-clause-place g c =
@@ -49,12 +49,12 @@ pub finish-requires-clause-says : goal.finish-requires-clause-says
 finish-requires-clause-says g c = (_, c.in_ok-body.ensures.found)
 
 pub finish-requires-clause-name : goal.finish-requires-clause-name
-finish-requires-clause-name g c = c.in_ok-name.ensures.found.3.is_name
+finish-requires-clause-name g c = c.in_ok-heading.ensures.found.3.is_name
 
 pub finish-requires-clause-within : goal.finish-requires-clause-within
 finish-requires-clause-within g c =
     let len = length c.args.text.now in
-    let whole = c.in_ok-name.ensures.same ∙ c.new-lexer.ensures.text in
+    let whole = c.in_ok-heading.ensures.same ∙ c.new-lexer.ensures.text in
     let spans = subst (λ t. Spans t 0 c.in_ok-row.row.tokens (length t)) whole c.in_ok-row.ensures.spans in
     RowSpans-within c.args.text.now 0 len c.in_ok-body.body.rows (c.in_ok-body.ensures.spans c.args.text.now 0 len spans)
 
@@ -63,21 +63,22 @@ returns-clause-found g c =
     let body = c.in_ok-body.body in
     let frame = c.in_ok-finish.field-0 in
     let says = c.in_ok-body.ensures.found in
-    let head : head_of frame.head ≡ head_of_syntax c.in_ok-name.name.now says.syntax (formula_of body.parts.prop) = c.in_ok-finish.ensures.head ∙ head_made c.in_ok-name.name.now _ body says in
+    let head : head_of frame.head ≡ head_of_syntax c.in_ok-heading.heading.arch c.in_ok-heading.heading.name.now says.syntax (formula_of body.parts.prop) = c.in_ok-finish.ensures.head ∙ head_made c.in_ok-heading.heading.arch c.in_ok-heading.heading.name.now _ body says in
     let cells : all_texts frame.cells ≡ columns body.parts.threads (all_texts body.rows) = ap all_texts c.in_ok-finish.ensures.cells ∙ columns-texts body.parts.threads body.rows in
     let same : columns body.parts.threads (all_texts body.rows) ≡ columns says.syntax.threads says.syntax.rows = ap (λ (s : TestSyntax). columns s.threads s.rows) (sym says.is) in
     record {
       short = c.requires.short;
       utf8 = c.requires.utf8;
-      name = c.in_ok-name.name.now;
+      arch = c.in_ok-heading.heading.arch;
+      name = c.in_ok-heading.heading.name.now;
       rest = c.heading.new.self.rest.now;
       tokens = texts c.in_ok-row.row.tokens;
       syntax = says.syntax;
       condition = formula_of body.parts.prop;
-      heading = subst (λ t. Heading t c.in_ok-name.name.now c.heading.new.self.rest.now) c.new-lexer.ensures.rest c.in_ok-name.ensures.found;
+      heading = subst (λ t. Heading t c.in_ok-heading.heading.arch c.in_ok-heading.heading.name.now c.heading.new.self.rest.now) c.new-lexer.ensures.rest c.in_ok-heading.ensures.found;
       row = subst (λ o. IfNone o (Tokens c.heading.new.self.rest.now (texts c.in_ok-row.row.tokens))) c.in_ok-body.ensures.whole c.in_ok-row.ensures.found;
       parts = says.parts;
-      proposition = body_proposition (texts c.in_ok-row.row.tokens) body says;
+      proposition = body_proposition c.in_ok-heading.heading.arch (texts c.in_ok-row.row.tokens) body says;
       made = cc (head, cells, same);
     }
 
@@ -85,7 +86,7 @@ pub returns-clause-spans : goal.returns-clause-spans
 returns-clause-spans g c =
     let len = length c.args.text.now in
     let body = c.in_ok-body.body in
-    let whole = c.in_ok-name.ensures.same ∙ c.new-lexer.ensures.text in
+    let whole = c.in_ok-heading.ensures.same ∙ c.new-lexer.ensures.text in
     let spans = subst (λ t. Spans t 0 c.in_ok-row.row.tokens (length t)) whole c.in_ok-row.ensures.spans in
     let threads : c.in_ok-finish.field-0.head.threads ≡ body.parts.threads = ap (λ h. h.threads) c.in_ok-finish.ensures.head in
     record {

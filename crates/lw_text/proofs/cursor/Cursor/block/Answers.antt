@@ -14,7 +14,7 @@ entries-requires g c = c.new-entries.ensures
 
 pub returns-in_err-entries-clause-fault : goal.returns-in_err-entries-clause-fault
 returns-in_err-entries-clause-fault g c =
-    passed_on _ _ c.from_residual-in_err-entries.ensures.1 (λ ne es rest block few. c.in_err-entries.ensures.fault ne es rest (ended (left c.args.self.now) (left c.expect.new.self) es rest c.in_ok-expect.ensures.ok block) few)
+    passed_on _ _ c.from_residual-in_err-entries.ensures.1 (λ ne es rest block few. c.in_err-entries.ensures.fault ne es rest (ended c.args.arch (left c.args.self.now) (left c.expect.new.self) es rest c.in_ok-expect.ensures.ok block) few)
 
 pub returns-in_err-entries-clause-place : goal.returns-in_err-entries-clause-place
 returns-in_err-entries-clause-place g c =

@@ -12,7 +12,7 @@ use Rattle.lw_text.proofs.cursor.Cursor.body.Goals as goal
 
 pub returns-in_err-entries-clause-fault : goal.returns-in_err-entries-clause-fault
 returns-in_err-entries-clause-fault g c =
-    passed_on _ _ c.from_residual.ensures.1 (λ ne s f parts whole. no_front (left c.args.self.now) (rw c.new-locs.ensures at (c.in_err-entries.ensures.fault ne)) s parts)
+    passed_on _ _ c.from_residual.ensures.1 (λ ne s f parts whole. no_front c.args.arch (left c.args.self.now) (rw c.new-locs.ensures at (c.in_err-entries.ensures.fault ne)) s parts)
 
 pub returns-in_err-entries-clause-place : goal.returns-in_err-entries-clause-place
 returns-in_err-entries-clause-place g c =
@@ -20,7 +20,7 @@ returns-in_err-entries-clause-place g c =
 
 pub returns-in_err-rows-clause-fault : goal.returns-in_err-rows-clause-fault
 returns-in_err-rows-clause-fault g c =
-    passed_on _ _ c.from_residual-in_err-rows.ensures.1 (λ ne s f parts whole. let found = c.in_ok-entries.ensures.found in no_rows (left c.args.self.now) found.0 _ found.1 c.in_ok-entries.threads (left c.front.new.self) found.2 (c.in_err-rows.ensures.fault ne) s parts)
+    passed_on _ _ c.from_residual-in_err-rows.ensures.1 (λ ne s f parts whole. let found = c.in_ok-entries.ensures.found in no_rows c.args.arch (left c.args.self.now) found.0 _ found.1 c.in_ok-entries.threads (left c.front.new.self) found.2 (c.in_err-rows.ensures.fault ne) s parts)
 
 pub returns-in_err-rows-clause-place : goal.returns-in_err-rows-clause-place
 returns-in_err-rows-clause-place g c =
@@ -28,7 +28,7 @@ returns-in_err-rows-clause-place g c =
 
 pub returns-in_err-listed-clause-fault : goal.returns-in_err-listed-clause-fault
 returns-in_err-listed-clause-fault g c =
-    passed_on _ _ c.from_residual-in_err-listed.ensures.1 (λ ne. let found = c.in_ok-entries.ensures.found in let first = first_names (left c.args.self.now) found.0 c.front.new.locs c.in_ok-entries.entries found.1 (rw c.new-locs.ensures at c.in_ok-entries.ensures.names) in no_condition (left c.args.self.now) found.0 _ found.1 c.in_ok-entries.threads (left c.front.new.self) found.2 _ (left c.rows.new.self) c.in_ok-rows.ensures.found c.front.new.locs first (c.in_err-listed.ensures.fault ne))
+    passed_on _ _ c.from_residual-in_err-listed.ensures.1 (λ ne. let found = c.in_ok-entries.ensures.found in let first = first_names c.args.arch (left c.args.self.now) found.0 c.front.new.locs c.in_ok-entries.entries found.1 (rw c.new-locs.ensures at c.in_ok-entries.ensures.names) in no_condition c.args.arch (left c.args.self.now) found.0 _ found.1 c.in_ok-entries.threads (left c.front.new.self) found.2 _ (left c.rows.new.self) c.in_ok-rows.ensures.found c.front.new.locs first (c.in_err-listed.ensures.fault ne))
 
 pub returns-in_err-listed-clause-place : goal.returns-in_err-listed-clause-place
 returns-in_err-listed-clause-place g c =
@@ -55,7 +55,7 @@ returns-clause-found g c =
     let found = c.in_ok-listed.ensures.found in
     let terminals = found.0 in
     let rows = all_texts c.in_ok-rows.rows in
-    let all = agrees (left c.args.self.now) front.0 (left c.front.new.self) (left c.rows.new.self) c.front.new.locs c.condition.new.locs c.in_ok-entries.entries c.in_ok-entries.threads rows c.in_ok-listed.listed c.in_ok-listed.quant terminals front.1 (rw c.new-locs.ensures at c.in_ok-entries.ensures.names) c.in_ok-entries.ensures.within front.2 c.in_ok-entries.ensures.there c.in_ok-rows.ensures.found found.1 found.2 c.in_ok-listed.ensures.within c.len-len.ensures.table.few found.3 in
+    let all = agrees c.args.arch (left c.args.self.now) front.0 (left c.front.new.self) (left c.rows.new.self) c.front.new.locs c.condition.new.locs c.in_ok-entries.entries c.in_ok-entries.threads rows c.in_ok-listed.listed c.in_ok-listed.quant terminals front.1 (rw c.new-locs.ensures at c.in_ok-entries.ensures.names) c.in_ok-entries.ensures.within front.2 c.in_ok-entries.ensures.there c.in_ok-rows.ensures.found found.1 found.2 c.in_ok-listed.ensures.within c.len-len.ensures.table.few found.3 in
     record {
       terminals = terminals;
       syntax = syntax_by c.condition.new.locs c.in_ok-entries.entries c.in_ok-entries.threads rows c.in_ok-listed.listed c.in_ok-listed.quant terminals;

@@ -11,11 +11,11 @@ use Rattle.lw_text.proofs.cursor.Cursor.condition.Goals as goal
 
 pub returns-in_err-listed-clause-fault : goal.returns-in_err-listed-clause-fault
 returns-in_err-listed-clause-fault g c =
-    passed_on _ _ c.from_residual.ensures.1 (λ ne all q ss p condition few nodes whole. no_list c.args.threads (left c.args.self.now) c.args.locs.now (c.in_err-listed.ensures.fault ne) all q ss condition few)
+    passed_on _ _ c.from_residual.ensures.1 (λ ne all q ss p condition few nodes whole. no_list c.args.arch c.args.threads (left c.args.self.now) c.args.locs.now (c.in_err-listed.ensures.fault ne) all q ss condition few)
 
 pub returns-in_err-quant-clause-fault : goal.returns-in_err-quant-clause-fault
 returns-in_err-quant-clause-fault g c =
-    passed_on _ _ c.from_residual-in_err-quant.ensures.1 (λ ne all q ss p condition few nodes whole. no_quant c.args.threads (left c.args.self.now) c.args.locs.now _ (left c.listed.new.self) c.in_ok-listed.ensures.found c.in_err-quant.ensures.fault all q ss condition)
+    passed_on _ _ c.from_residual-in_err-quant.ensures.1 (λ ne all q ss p condition few nodes whole. no_quant c.args.arch c.args.threads (left c.args.self.now) c.args.locs.now _ (left c.listed.new.self) c.in_ok-listed.ensures.found c.in_err-quant.ensures.fault all q ss condition)
 
 pub returns-in_err-quant-clause-place : goal.returns-in_err-quant-clause-place
 returns-in_err-quant-clause-place g c =
@@ -29,7 +29,7 @@ proposition-requires-clause-once g c = subst EachOnce (sym c.in_ok-listed.ensure
 
 pub returns-in_err-prop-clause-fault : goal.returns-in_err-prop-clause-fault
 returns-in_err-prop-clause-fault g c =
-    passed_on _ _ c.from_residual-in_err-prop.ensures.1 (λ ne. no_terminals c.args.threads (left c.args.self.now) c.args.locs.now _ (left c.listed.new.self) c.in_ok-listed.ensures.found c.in_ok-quant.quant (left c.quantifier.new.self) c.in_ok-quant.ensures.found c.listed.new.locs c.in_ok-listed.ensures.names (c.in_err-prop.ensures.fault ne))
+    passed_on _ _ c.from_residual-in_err-prop.ensures.1 (λ ne. no_terminals c.args.arch c.args.threads (left c.args.self.now) c.args.locs.now _ (left c.listed.new.self) c.in_ok-listed.ensures.found c.in_ok-quant.quant (left c.quantifier.new.self) c.in_ok-quant.ensures.found c.listed.new.locs c.in_ok-listed.ensures.names (c.in_err-prop.ensures.fault ne))
 
 pub returns-in_err-prop-clause-place : goal.returns-in_err-prop-clause-place
 returns-in_err-prop-clause-place g c =
@@ -38,9 +38,9 @@ returns-in_err-prop-clause-place g c =
 pub returns-clause-found : goal.returns-clause-found
 returns-clause-found g c =
     let found = c.in_ok-prop.ensures.found in
-    (found.0, is_condition c.args.threads (left c.args.self.now) (left c.listed.new.self) (left c.quantifier.new.self) c.args.locs.now c.listed.new.locs c.proposition.new.locs c.in_ok-listed.listed c.in_ok-quant.quant found.0 c.in_ok-listed.ensures.found c.in_ok-listed.ensures.there c.in_ok-listed.ensures.names c.in_ok-listed.ensures.within c.in_ok-quant.ensures.found found.1 found.2, condition_names c.args.threads (left c.args.self.now) (left c.listed.new.self) (left c.quantifier.new.self) c.args.locs.now c.listed.new.locs c.proposition.new.locs c.in_ok-listed.listed c.in_ok-quant.quant found.0 c.in_ok-listed.ensures.found c.in_ok-listed.ensures.there c.in_ok-listed.ensures.names c.in_ok-listed.ensures.within c.in_ok-quant.ensures.found found.1 found.2, found.3, found.4)
+    (found.0, is_condition c.args.arch c.args.threads (left c.args.self.now) (left c.listed.new.self) (left c.quantifier.new.self) c.args.locs.now c.listed.new.locs c.proposition.new.locs c.in_ok-listed.listed c.in_ok-quant.quant found.0 c.in_ok-listed.ensures.found c.in_ok-listed.ensures.there c.in_ok-listed.ensures.names c.in_ok-listed.ensures.within c.in_ok-quant.ensures.found found.1 found.2, condition_names c.args.arch c.args.threads (left c.args.self.now) (left c.listed.new.self) (left c.quantifier.new.self) c.args.locs.now c.listed.new.locs c.proposition.new.locs c.in_ok-listed.listed c.in_ok-quant.quant found.0 c.in_ok-listed.ensures.found c.in_ok-listed.ensures.there c.in_ok-listed.ensures.names c.in_ok-listed.ensures.within c.in_ok-quant.ensures.found found.1 found.2, found.3, found.4)
 
 pub returns-clause-within : goal.returns-clause-within
 returns-clause-within g c =
     let found = c.in_ok-prop.ensures.found in
-    condition_in c.args.threads (left c.args.self.now) (left c.listed.new.self) (left c.quantifier.new.self) c.args.locs.now c.listed.new.locs c.proposition.new.locs c.in_ok-listed.listed c.in_ok-quant.quant found.0 c.in_ok-listed.ensures.found c.in_ok-listed.ensures.there c.in_ok-listed.ensures.names c.in_ok-listed.ensures.within c.in_ok-quant.ensures.found found.1 found.2
+    condition_in c.args.arch c.args.threads (left c.args.self.now) (left c.listed.new.self) (left c.quantifier.new.self) c.args.locs.now c.listed.new.locs c.proposition.new.locs c.in_ok-listed.listed c.in_ok-quant.quant found.0 c.in_ok-listed.ensures.found c.in_ok-listed.ensures.there c.in_ok-listed.ensures.names c.in_ok-listed.ensures.within c.in_ok-quant.ensures.found found.1 found.2

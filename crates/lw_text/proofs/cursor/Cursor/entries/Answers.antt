@@ -10,20 +10,20 @@ use Rattle.lw_text.proofs.cursor.Cursor.entries.Goals as goal
 
 pub entries-init : goal.entries-init
 entries-init g c = rw c.requires (record {
-  read = entries_none c.args.locs.now (left c.args.self.now);
+  read = entries_none c.args.arch c.args.locs.now (left c.args.self.now);
   places = All-nil (λ e. e.at ≤ c.args.self.now.len);
   leaves = ([], refl);
   same = refl;
 })
 
 pub returns-then-takes-clause-found : goal.returns-then-takes-clause-found
-returns-then-takes-clause-found g c = entries_end c.args.locs.now c.entries.locs (left c.args.self.now) (left c.entries.self) c.entries.entries c.entries.invariant.read (left c.takes.new.self) (c.takes.ensures.taken c.if-takes.true)
+returns-then-takes-clause-found g c = entries_end c.args.arch c.args.locs.now c.entries.locs (left c.args.self.now) (left c.entries.self) c.entries.entries c.entries.invariant.read (left c.takes.new.self) (c.takes.ensures.taken c.if-takes.true)
 
 pub returns-then-takes-clause-names : goal.returns-then-takes-clause-names
 returns-then-takes-clause-names g c = c.entries.invariant.read.names_are
 
 pub returns-then-takes-clause-within : goal.returns-then-takes-clause-within
-returns-then-takes-clause-within g c = entries_in c.args.locs.now c.entries.locs (left c.args.self.now) (left c.entries.self) c.entries.entries c.entries.invariant.read
+returns-then-takes-clause-within g c = entries_in c.args.arch c.args.locs.now c.entries.locs (left c.args.self.now) (left c.entries.self) c.entries.entries c.entries.invariant.read
 
 pub returns-then-takes-clause-places : goal.returns-then-takes-clause-places
 returns-then-takes-clause-places g c = c.entries.invariant.places
@@ -37,7 +37,7 @@ returns-then-takes-clause-same g c = c.takes.ensures.same ∙ c.entries.invarian
 pub returns-in_err-entry-clause-fault : goal.returns-in_err-entry-clause-fault
 returns-in_err-entry-clause-fault g c =
     let kept : left c.takes.new.self ≡ left c.entries.self = ap left (c.takes.ensures.kept c.if-takes.false) in
-    passed_on _ _ c.from_residual.ensures.1 (λ ne. entries_fault c.args.locs.now c.entries.locs (left c.args.self.now) (left c.entries.self) c.entries.entries c.entries.invariant.read (c.takes.ensures.other c.if-takes.false) (rw kept at (c.in_err-entry.ensures.fault ne)))
+    passed_on _ _ c.from_residual.ensures.1 (λ ne. entries_fault c.args.arch c.args.locs.now c.entries.locs (left c.args.self.now) (left c.entries.self) c.entries.entries c.entries.invariant.read (c.takes.ensures.other c.if-takes.false) (rw kept at (c.in_err-entry.ensures.fault ne)))
 
 pub returns-in_err-entry-clause-place : goal.returns-in_err-entry-clause-place
 returns-in_err-entry-clause-place g c =
@@ -56,7 +56,7 @@ returns-in_err-push-clause-same g c = c.in_ok-entry.ensures.same ∙ (c.takes.en
 pub returns-in_err-either-clause-fault : goal.returns-in_err-either-clause-fault
 returns-in_err-either-clause-fault g c =
     let kept : left c.takes.new.self ≡ left c.entries.self = ap left (c.takes.ensures.kept c.if-takes.false) in
-    passed_on _ _ c.from_residual-in_err-either.ensures.1 (λ ne all rest ended few. entries_mark c.args.locs.now c.entries.locs (left c.args.self.now) (left c.entries.self) c.entries.entries c.entries.invariant.read c.entry.new.locs c.in_ok-entry.field-0 c.in_ok-entry.ensures.names c.in_ok-entry.ensures.within (left c.entry.new.self) (rw kept at c.in_ok-entry.ensures.found) c.in_err-either.ensures.no_second c.in_err-either.ensures.no_first all rest ended)
+    passed_on _ _ c.from_residual-in_err-either.ensures.1 (λ ne all rest ended few. entries_mark c.args.arch c.args.locs.now c.entries.locs (left c.args.self.now) (left c.entries.self) c.entries.entries c.entries.invariant.read c.entry.new.locs c.in_ok-entry.field-0 c.in_ok-entry.ensures.names c.in_ok-entry.ensures.within (left c.entry.new.self) (rw kept at c.in_ok-entry.ensures.found) c.in_err-either.ensures.no_second c.in_err-either.ensures.no_first all rest ended)
 
 pub returns-in_err-either-clause-place : goal.returns-in_err-either-clause-place
 returns-in_err-either-clause-place g c =
@@ -69,17 +69,17 @@ pub returns-then-branch-clause-found : goal.returns-then-branch-clause-found
 returns-then-branch-clause-found g c =
     let mark = subst (λ (b : Bool). left c.entry.new.self ≡ (if b then codes "}" else codes ";") ∷ left c.either.new.self) c.if-branch.true c.in_ok-either.ensures.ok in
     let kept : left c.takes.new.self ≡ left c.entries.self = ap left (c.takes.ensures.kept c.if-takes.false) in
-    rw c.in_ok-push.ensures.ok (entries_last c.args.locs.now c.entries.locs (left c.args.self.now) (left c.entries.self) c.entries.entries c.entries.invariant.read c.entry.new.locs c.in_ok-entry.field-0 c.in_ok-entry.ensures.names c.in_ok-entry.ensures.within (left c.entry.new.self) (rw kept at c.in_ok-entry.ensures.found) (left c.either.new.self) mark)
+    rw c.in_ok-push.ensures.ok (entries_last c.args.arch c.args.locs.now c.entries.locs (left c.args.self.now) (left c.entries.self) c.entries.entries c.entries.invariant.read c.entry.new.locs c.in_ok-entry.field-0 c.in_ok-entry.ensures.names c.in_ok-entry.ensures.within (left c.entry.new.self) (rw kept at c.in_ok-entry.ensures.found) (left c.either.new.self) mark)
 
 pub returns-then-branch-clause-names : goal.returns-then-branch-clause-names
 returns-then-branch-clause-names g c =
     let kept : left c.takes.new.self ≡ left c.entries.self = ap left (c.takes.ensures.kept c.if-takes.false) in
-    rw c.in_ok-push.ensures.ok (entries_names c.args.locs.now c.entries.locs (left c.args.self.now) (left c.entries.self) c.entries.entries c.entries.invariant.read c.entry.new.locs c.in_ok-entry.field-0 c.in_ok-entry.ensures.names c.in_ok-entry.ensures.within (left c.entry.new.self) (rw kept at c.in_ok-entry.ensures.found))
+    rw c.in_ok-push.ensures.ok (entries_names c.args.arch c.args.locs.now c.entries.locs (left c.args.self.now) (left c.entries.self) c.entries.entries c.entries.invariant.read c.entry.new.locs c.in_ok-entry.field-0 c.in_ok-entry.ensures.names c.in_ok-entry.ensures.within (left c.entry.new.self) (rw kept at c.in_ok-entry.ensures.found))
 
 pub returns-then-branch-clause-within : goal.returns-then-branch-clause-within
 returns-then-branch-clause-within g c =
     let kept : left c.takes.new.self ≡ left c.entries.self = ap left (c.takes.ensures.kept c.if-takes.false) in
-    rw c.in_ok-push.ensures.ok (entries_within c.args.locs.now c.entries.locs (left c.args.self.now) (left c.entries.self) c.entries.entries c.entries.invariant.read c.entry.new.locs c.in_ok-entry.field-0 c.in_ok-entry.ensures.names c.in_ok-entry.ensures.within (left c.entry.new.self) (rw kept at c.in_ok-entry.ensures.found))
+    rw c.in_ok-push.ensures.ok (entries_within c.args.arch c.args.locs.now c.entries.locs (left c.args.self.now) (left c.entries.self) c.entries.entries c.entries.invariant.read c.entry.new.locs c.in_ok-entry.field-0 c.in_ok-entry.ensures.names c.in_ok-entry.ensures.within (left c.entry.new.self) (rw kept at c.in_ok-entry.ensures.found))
 
 pub returns-then-branch-clause-places : goal.returns-then-branch-clause-places
 returns-then-branch-clause-places g c =
@@ -95,14 +95,14 @@ pub entries-smaller : goal.entries-smaller
 entries-smaller g c =
     let mark : left c.entry.new.self ≡ codes ";" ∷ left c.either.new.self = subst (λ (b : Bool). left c.entry.new.self ≡ (if b then codes "}" else codes ";") ∷ left c.either.new.self) c.if-branch.false c.in_ok-either.ensures.ok in
     let kept : left c.takes.new.self ≡ left c.entries.self = ap left (c.takes.ensures.kept c.if-takes.false) in
-    omega (arith, IsEntry-shorter (left c.takes.new.self) (left c.entry.new.self) _ c.in_ok-entry.ensures.found, ap length kept, ap length mark)
+    omega (arith, IsEntry-shorter c.args.arch (left c.takes.new.self) (left c.entry.new.self) _ c.in_ok-entry.ensures.found, ap length kept, ap length mark)
 
 pub entries-preserved : goal.entries-preserved
 entries-preserved g c =
     let mark = subst (λ (b : Bool). left c.entry.new.self ≡ (if b then codes "}" else codes ";") ∷ left c.either.new.self) c.if-branch.false c.in_ok-either.ensures.ok in
     let kept : left c.takes.new.self ≡ left c.entries.self = ap left (c.takes.ensures.kept c.if-takes.false) in
     rw c.in_ok-push.ensures.ok (record {
-      read = entries_more c.args.locs.now c.entries.locs (left c.args.self.now) (left c.entries.self) c.entries.entries c.entries.invariant.read c.entry.new.locs c.in_ok-entry.field-0 c.in_ok-entry.ensures.names c.in_ok-entry.ensures.within (left c.entry.new.self) (rw kept at c.in_ok-entry.ensures.found) (left c.either.new.self) mark;
+      read = entries_more c.args.arch c.args.locs.now c.entries.locs (left c.args.self.now) (left c.entries.self) c.entries.entries c.entries.invariant.read c.entry.new.locs c.in_ok-entry.field-0 c.in_ok-entry.ensures.names c.in_ok-entry.ensures.within (left c.entry.new.self) (rw kept at c.in_ok-entry.ensures.found) (left c.either.new.self) mark;
       places = All-push (λ e. e.at ≤ c.args.self.now.len) c.entries.entries c.in_ok-entry.field-0 c.entries.invariant.places (omega (arith, c.in_ok-entry.ensures.at, c.takes.ensures.same, c.entries.invariant.same));
       leaves = Leaves-join c.entries.invariant.leaves (Leaves-join c.takes.ensures.leaves (Leaves-join c.in_ok-entry.ensures.leaves c.in_ok-either.ensures.leaves));
       same = c.in_ok-either.ensures.same ∙ (c.in_ok-entry.ensures.same ∙ (c.takes.ensures.same ∙ c.entries.invariant.same));

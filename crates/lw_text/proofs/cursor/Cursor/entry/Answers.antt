@@ -6,7 +6,7 @@ use Rattle.lw_text.proofs.cursor.Cursor.entry.Goals as goal
 
 pub returns-in_err-word-clause-fault : goal.returns-in_err-word-clause-fault
 returns-in_err-word-clause-fault g c =
-    passed_on _ _ c.from_residual-in_err-word.ensures.1 (λ ne e rest entry few. value_missing (left c.args.self.now) (left c.site.new.self) _ c.in_ok-site.ensures.found c.in_err-word.ensures.err e rest entry)
+    passed_on _ _ c.from_residual-in_err-word.ensures.1 (λ ne e rest entry few. value_missing c.args.arch (left c.args.self.now) (left c.site.new.self) _ c.in_ok-site.ensures.found c.in_err-word.ensures.err e rest entry)
 
 pub returns-clause-leaves : goal.returns-clause-leaves
 returns-clause-leaves g c = Leaves-join c.in_ok-site.ensures.leaves c.in_ok-word.ensures.leaves

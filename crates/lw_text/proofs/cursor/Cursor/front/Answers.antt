@@ -11,7 +11,7 @@ returns-in_err-entries-clause-fault g c =
 
 pub returns-in_err-threads-clause-fault : goal.returns-in_err-threads-clause-fault
 returns-in_err-threads-clause-fault g c =
-    passed_on _ _ c.from_residual-in_err-threads.ensures.1 (λ _ es n mid rest block header there few. no_header (left c.args.self.now) (left c.block.new.self) _ c.in_ok-entries.ensures.found c.in_err-threads.ensures.fault es n mid rest block header)
+    passed_on _ _ c.from_residual-in_err-threads.ensures.1 (λ _ es n mid rest block header there few. no_header c.args.arch (left c.args.self.now) (left c.block.new.self) _ c.in_ok-entries.ensures.found c.in_err-threads.ensures.fault es n mid rest block header)
 
 pub returns-in_err-threads-clause-place : goal.returns-in_err-threads-clause-place
 returns-in_err-threads-clause-place g c =
@@ -19,7 +19,7 @@ returns-in_err-threads-clause-place g c =
 
 pub returns-in_err-check_threads-clause-fault : goal.returns-in_err-check_threads-clause-fault
 returns-in_err-check_threads-clause-fault g c =
-    passed_on _ _ c.from_residual-in_err-check_threads.ensures.1 (λ _ es n mid rest block header there few. no_thread (left c.args.self.now) (left c.block.new.self) _ c.in_ok-entries.ensures.found c.in_ok-threads.threads (left c.header.new.self) c.in_ok-threads.ensures.found c.block.new.locs c.in_ok-entries.entries refl (rw c.as_slice.ensures at c.in_err-check_threads.ensures.err) es n mid rest block header there)
+    passed_on _ _ c.from_residual-in_err-check_threads.ensures.1 (λ _ es n mid rest block header there few. no_thread c.args.arch (left c.args.self.now) (left c.block.new.self) _ c.in_ok-entries.ensures.found c.in_ok-threads.threads (left c.header.new.self) c.in_ok-threads.ensures.found c.block.new.locs c.in_ok-entries.entries refl (rw c.as_slice.ensures at c.in_err-check_threads.ensures.err) es n mid rest block header there)
 
 pub returns-in_err-check_threads-clause-place : goal.returns-in_err-check_threads-clause-place
 returns-in_err-check_threads-clause-place g c =

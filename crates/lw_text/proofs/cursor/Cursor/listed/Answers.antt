@@ -23,7 +23,7 @@ returns-then-not-takes-clause-same g c = c.takes.ensures.same
 
 pub returns-in_err-expect-clause-fault : goal.returns-in_err-expect-clause-fault
 returns-in_err-expect-clause-fault g c =
-    passed_on _ _ c.from_residual.ensures.1 (λ _ ss rest all there few. no_bracket (left c.args.self.now) (left c.takes.new.self) (c.takes.ensures.taken c.if-not-takes.false) c.in_err-expect.ensures.err ss rest all)
+    passed_on _ _ c.from_residual.ensures.1 (λ _ ss rest all there few. no_bracket c.args.arch (left c.args.self.now) (left c.takes.new.self) (c.takes.ensures.taken c.if-not-takes.false) c.in_err-expect.ensures.err ss rest all)
 
 pub returns-in_err-expect-clause-place : goal.returns-in_err-expect-clause-place
 returns-in_err-expect-clause-place g c =
@@ -37,7 +37,7 @@ sites-requires g c = c.new-sites.ensures
 
 pub returns-in_err-sites-clause-fault : goal.returns-in_err-sites-clause-fault
 returns-in_err-sites-clause-fault g c =
-    passed_on _ _ c.from_residual-in_err-sites.ensures.1 (λ ne ss rest all there few. c.in_err-sites.ensures.fault ne ss rest (ended (left c.args.self.now) (left c.takes.new.self) (left c.expect.new.self) (c.takes.ensures.taken c.if-not-takes.false) c.in_ok-expect.ensures.ok ss rest all) there few)
+    passed_on _ _ c.from_residual-in_err-sites.ensures.1 (λ ne ss rest all there few. c.in_err-sites.ensures.fault ne ss rest (ended c.args.arch (left c.args.self.now) (left c.takes.new.self) (left c.expect.new.self) (c.takes.ensures.taken c.if-not-takes.false) c.in_ok-expect.ensures.ok ss rest all) there few)
 
 pub returns-in_err-sites-clause-place : goal.returns-in_err-sites-clause-place
 returns-in_err-sites-clause-place g c =
@@ -47,7 +47,7 @@ pub returns-in_err-sites-clause-same : goal.returns-in_err-sites-clause-same
 returns-in_err-sites-clause-same g c = c.in_err-sites.ensures.same ∙ (c.in_ok-expect.ensures.same ∙ c.takes.ensures.same)
 
 pub returns-clause-found : goal.returns-clause-found
-returns-clause-found g c = listed (left c.args.self.now) (left c.takes.new.self) (left c.expect.new.self) (c.takes.ensures.taken c.if-not-takes.false) c.in_ok-expect.ensures.ok _ _ c.in_ok-sites.ensures.found
+returns-clause-found g c = listed c.args.arch (left c.args.self.now) (left c.takes.new.self) (left c.expect.new.self) (c.takes.ensures.taken c.if-not-takes.false) c.in_ok-expect.ensures.ok _ _ c.in_ok-sites.ensures.found
 
 pub returns-clause-there : goal.returns-clause-there
 returns-clause-there g c = c.in_ok-sites.ensures.there

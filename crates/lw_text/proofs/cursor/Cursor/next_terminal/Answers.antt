@@ -6,7 +6,7 @@ use Rattle.lw_text.proofs.cursor.Cursor.next_terminal.Goals as goal
 
 pub returns-then-not-has_room-clause-fault : goal.returns-then-not-has_room-clause-fault
 returns-then-not-has_room-clause-fault g c =
-    λ ne s rest ss p is left few fits. no_room c.args.threads c.args.nodes _ rest s (sym c.has_room.ensures ∙ c.if-not-has_room.true) is fits
+    λ ne s rest ss p is left few fits. no_room c.args.arch c.args.threads c.args.nodes _ rest s (sym c.has_room.ensures ∙ c.if-not-has_room.true) is fits
 
 pub returns-in_err-terminal-clause-fault : goal.returns-in_err-terminal-clause-fault
 returns-in_err-terminal-clause-fault g c =
@@ -22,7 +22,7 @@ returns-in_err-take-clause-fault g c =
 
 pub returns-then-not-branch-clause-fault : goal.returns-then-not-branch-clause-fault
 returns-then-not-branch-clause-fault g c =
-    λ ne s rest ss p is left few fits. terminal_refused c.args.reader.now c.args.threads c.args.locs.now c.terminal.new.locs _ _ c.in_ok-terminal.terminal c.in_ok-terminal.ensures.names c.in_ok-terminal.ensures.found c.requires.once c.in_ok-terminal.ensures.within (c.in_ok-take.ensures.refused c.if-not-branch.true) s rest ss p is left
+    λ ne s rest ss p is left few fits. terminal_refused c.args.arch c.args.reader.now c.args.threads c.args.locs.now c.terminal.new.locs _ _ c.in_ok-terminal.terminal c.in_ok-terminal.ensures.names c.in_ok-terminal.ensures.found c.requires.once c.in_ok-terminal.ensures.within (c.in_ok-take.ensures.refused c.if-not-branch.true) s rest ss p is left
 
 pub returns-clause-room : goal.returns-clause-room
 returns-clause-room g c = sym c.has_room.ensures ∙ c.if-not-has_room.false

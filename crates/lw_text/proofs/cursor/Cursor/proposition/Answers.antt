@@ -9,19 +9,19 @@ use Rattle.lw_text.proofs.cursor.Cursor.proposition.Goals as goal
 pub returns-in-Some-clause-found : goal.returns-in-Some-clause-found
 returns-in-Some-clause-found g c =
     let found = rw c.in-Some.is at c.in_ok-prop.ensures in
-    terminals_end c.args.threads c.args.locs.now c.terminals.locs (left c.args.self.now) (left c.terminals.self) c.terminals.nodes c.terminals.reader c.terminals.invariant.read (none_left c.terminals.self.tokens.now c.terminals.self.next c.if-self.true) (formula_of c.in-Some.prop) found
+    terminals_end c.args.arch c.args.threads c.args.locs.now c.terminals.locs (left c.args.self.now) (left c.terminals.self) c.terminals.nodes c.terminals.reader c.terminals.invariant.read (none_left c.terminals.self.tokens.now c.terminals.self.next c.if-self.true) (formula_of c.in-Some.prop) found
 
 pub returns-in-None-clause-fault : goal.returns-in-None-clause-fault
 returns-in-None-clause-fault g c =
     let never = rw c.in-None.is at c.in_ok-prop.ensures in
-    λ ne ss p terminals few room whole. terminals_open c.args.threads c.args.locs.now c.terminals.locs (left c.args.self.now) (left c.terminals.self) c.terminals.nodes c.terminals.reader c.terminals.invariant.read (none_left c.terminals.self.tokens.now c.terminals.self.next c.if-self.true) never ss p terminals whole
+    λ ne ss p terminals few room whole. terminals_open c.args.arch c.args.threads c.args.locs.now c.terminals.locs (left c.args.self.now) (left c.terminals.self) c.terminals.nodes c.terminals.reader c.terminals.invariant.read (none_left c.terminals.self.tokens.now c.terminals.self.next c.if-self.true) never ss p terminals whole
 
 pub next_terminal-requires-clause-once : goal.next_terminal-requires-clause-once
-next_terminal-requires-clause-once g c = once_here c.args.threads c.args.locs.now c.terminals.locs (left c.args.self.now) (left c.terminals.self) c.terminals.nodes c.terminals.reader c.terminals.invariant.read c.requires.once
+next_terminal-requires-clause-once g c = once_here c.args.arch c.args.threads c.args.locs.now c.terminals.locs (left c.args.self.now) (left c.terminals.self) c.terminals.nodes c.terminals.reader c.terminals.invariant.read c.requires.once
 
 pub returns-in_err-terminal-clause-fault : goal.returns-in_err-terminal-clause-fault
 returns-in_err-terminal-clause-fault g c =
-    passed_on _ _ c.from_residual-in_err-terminal.ensures.1 (λ ne. terminals_fault c.args.threads c.args.locs.now c.terminals.locs (left c.args.self.now) (left c.terminals.self) c.terminals.nodes c.terminals.reader c.terminals.invariant.read (some_left c.terminals.self.tokens.now c.terminals.self.next c.terminals.self.within c.if-self.false) (c.in_err-terminal.ensures.fault ne))
+    passed_on _ _ c.from_residual-in_err-terminal.ensures.1 (λ ne. terminals_fault c.args.arch c.args.threads c.args.locs.now c.terminals.locs (left c.args.self.now) (left c.terminals.self) c.terminals.nodes c.terminals.reader c.terminals.invariant.read (some_left c.terminals.self.tokens.now c.terminals.self.next c.terminals.self.within c.if-self.false) (c.in_err-terminal.ensures.fault ne))
 
 pub returns-in_err-terminal-clause-place : goal.returns-in_err-terminal-clause-place
 returns-in_err-terminal-clause-place g c =
@@ -30,8 +30,8 @@ returns-in_err-terminal-clause-place g c =
 pub terminals-preserved : goal.terminals-preserved
 terminals-preserved g c =
     let counts = ap (λ (n : ℕ). c.terminals.nodes + n) c.nodes-nodes.ensures in
-    let room = subst (λ (n : ℕ). n ≤ 256) (sym counts) (room_left c.args.threads c.terminals.nodes (left c.terminals.self) (left c.next_terminal.new.self) c.next_terminal.new.locs c.in_ok-terminal.terminal c.terminals.invariant.read.few c.in_ok-terminal.ensures.room c.in_ok-terminal.ensures.found) in
+    let room = subst (λ (n : ℕ). n ≤ 256) (sym counts) (room_left c.args.arch c.args.threads c.terminals.nodes (left c.terminals.self) (left c.next_terminal.new.self) c.next_terminal.new.locs c.in_ok-terminal.terminal c.terminals.invariant.read.few c.in_ok-terminal.ensures.room c.in_ok-terminal.ensures.found) in
     record {
-      read = terminals_more c.args.threads c.args.locs.now c.terminals.locs (left c.args.self.now) (left c.terminals.self) c.terminals.nodes c.terminals.reader c.terminals.invariant.read c.next_terminal.new.locs (left c.next_terminal.new.self) c.in_ok-terminal.terminal c.in_ok-terminal.ensures.names c.in_ok-terminal.ensures.found c.requires.once c.in_ok-terminal.ensures.within _ c.next_terminal.new.reader counts room c.in_ok-terminal.ensures.given c.in_ok-terminal.ensures.only;
+      read = terminals_more c.args.arch c.args.threads c.args.locs.now c.terminals.locs (left c.args.self.now) (left c.terminals.self) c.terminals.nodes c.terminals.reader c.terminals.invariant.read c.next_terminal.new.locs (left c.next_terminal.new.self) c.in_ok-terminal.terminal c.in_ok-terminal.ensures.names c.in_ok-terminal.ensures.found c.requires.once c.in_ok-terminal.ensures.within _ c.next_terminal.new.reader counts room c.in_ok-terminal.ensures.given c.in_ok-terminal.ensures.only;
       same = c.in_ok-terminal.ensures.same ∙ c.terminals.invariant.same;
     }

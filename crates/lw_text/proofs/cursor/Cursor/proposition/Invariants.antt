@@ -5,7 +5,7 @@ use Rattle.lw_text.proofs.cursor.Cursor.proposition.Given as goal
 
 abbrev pub invariant-terminals : goal.invariant-terminals
 invariant-terminals g l = record {
-  read : TerminalsRead l.threads l.fn.locs l.locs (left l.fn.self) (left l.self) l.nodes l.reader;
+  read : TerminalsRead l.arch l.threads l.fn.locs l.locs (left l.fn.self) (left l.self) l.nodes l.reader;
   same : l.self.len ≡ l.fn.self.len;
 }
 

@@ -9,7 +9,7 @@ use Rattle.lw_text.proofs.cursor.Cursor.site.Goals as goal
 
 pub returns-then-eq-clause-fault : goal.returns-then-eq-clause-fault
 returns-then-eq-clause-fault g c =
-    brackets_fault c.args.locs.now (left c.args.self.now) (left c.take.new.self) c.in_ok-first.first.text.now c.in_ok-first.ensures.ok c.in_brackets.result (is_text _ _ (sym c.eq.ensures ∙ c.if-eq.true)) c.in_brackets.ensures.fault c.args.threads
+    brackets_fault c.args.arch c.args.locs.now (left c.args.self.now) (left c.take.new.self) c.in_ok-first.first.text.now c.in_ok-first.ensures.ok c.in_brackets.result (is_text _ _ (sym c.eq.ensures ∙ c.if-eq.true)) c.in_brackets.ensures.fault c.args.threads
 
 pub returns-then-eq-clause-leaves : goal.returns-then-eq-clause-leaves
 returns-then-eq-clause-leaves g c = Leaves-behind (remaining c.args.self.now) (remaining c.take.new.self) (remaining c.in_brackets.new.self) c.in_brackets.result c.in_ok-first.first c.in_ok-first.ensures.token c.in_brackets.ensures.leaves
@@ -32,24 +32,24 @@ returns-in_err-loc-clause-place g c =
 
 pub returns-then-not-is_allowed-clause-fault : goal.returns-then-not-is_allowed-clause-fault
 returns-then-not-is_allowed-clause-fault g c =
-    λ ne s rest p there few. thread_refused c.args.locs.now (left c.args.self.now) (left c.take.new.self) c.in_ok-first.first.text.now c.in_ok-first.ensures.ok c.in-Some.thread c.in-Some.ensures c.args.threads (sym c.is_allowed.ensures ∙ c.if-not-is_allowed.true) s rest p there
+    λ ne s rest p there few. thread_refused c.args.arch c.args.locs.now (left c.args.self.now) (left c.take.new.self) c.in_ok-first.first.text.now c.in_ok-first.ensures.ok c.in-Some.thread c.in-Some.ensures c.args.threads (sym c.is_allowed.ensures ∙ c.if-not-is_allowed.true) s rest p there
 
 pub returns-in-Some-clause-fault : goal.returns-in-Some-clause-fault
 returns-in-Some-clause-fault g c =
-    register_fault c.args.locs.now (left c.args.self.now) (left c.take.new.self) c.in_ok-first.first.text.now c.in_ok-first.ensures.ok c.of_thread.result c.in-Some.thread c.in-Some.ensures c.of_thread.ensures.fault c.args.threads
+    register_fault c.args.arch c.args.locs.now (left c.args.self.now) (left c.take.new.self) c.in_ok-first.first.text.now c.in_ok-first.ensures.ok c.of_thread.result c.in-Some.thread c.in-Some.ensures c.of_thread.ensures.fault c.args.threads
 
 pub returns-in-Some-clause-leaves : goal.returns-in-Some-clause-leaves
 returns-in-Some-clause-leaves g c = Leaves-behind (remaining c.args.self.now) (remaining c.take.new.self) (remaining c.of_thread.new.self) c.of_thread.result c.in_ok-first.first c.in_ok-first.ensures.token c.of_thread.ensures.leaves
 
 pub returns-in_err-loc-clause-fault : goal.returns-in_err-loc-clause-fault
 returns-in_err-loc-clause-fault g c =
-    passed_on _ _ c.from_residual-in_err-loc.ensures.1 (λ ne s rest site there few. location_none c.args.locs.now (left c.args.self.now) (left c.take.new.self) c.in_ok-first.first.text.now c.in_ok-first.ensures.ok (is_no_text _ _ (sym c.eq.ensures ∙ c.if-eq.false)) c.in_default.ensures (c.in_err-loc.ensures.fault ne) s rest site few)
+    passed_on _ _ c.from_residual-in_err-loc.ensures.1 (λ ne s rest site there few. location_none c.args.arch c.args.locs.now (left c.args.self.now) (left c.take.new.self) c.in_ok-first.first.text.now c.in_ok-first.ensures.ok (is_no_text _ _ (sym c.eq.ensures ∙ c.if-eq.false)) c.in_default.ensures (c.in_err-loc.ensures.fault ne) s rest site few)
 
 pub returns-clause-found : goal.returns-clause-found
-returns-clause-found g c = entered_found c.args.locs.now c.enter.new.locs (left c.args.self.now) (left c.take.new.self) c.in_ok-first.first.text.now c.in_ok-loc.loc c.in_ok-first.ensures.ok c.in_ok-loc.ensures.name c.in_ok-loc.ensures.found
+returns-clause-found g c = entered_found c.args.arch c.args.locs.now c.enter.new.locs (left c.args.self.now) (left c.take.new.self) c.in_ok-first.first.text.now c.in_ok-loc.loc c.in_ok-first.ensures.ok c.in_ok-loc.ensures.name c.in_ok-loc.ensures.found
 
 pub returns-clause-names : goal.returns-clause-names
-returns-clause-names g c = entered_names c.args.locs.now c.enter.new.locs (left c.args.self.now) (left c.take.new.self) c.in_ok-first.first.text.now c.in_ok-loc.loc c.in_ok-first.ensures.ok c.in_ok-loc.ensures.name c.in_ok-loc.ensures.found c.in_ok-loc.ensures.names
+returns-clause-names g c = entered_names c.args.arch c.args.locs.now c.enter.new.locs (left c.args.self.now) (left c.take.new.self) c.in_ok-first.first.text.now c.in_ok-loc.loc c.in_ok-first.ensures.ok c.in_ok-loc.ensures.name c.in_ok-loc.ensures.found c.in_ok-loc.ensures.names
 
 pub returns-clause-within : goal.returns-clause-within
 returns-clause-within g c = within-at c.enter.new.locs c.in_ok-loc.loc c.in_ok-first.first.text.now c.in_ok-loc.ensures.found
@@ -73,7 +73,7 @@ pub returns-clause-there : goal.returns-clause-there
 returns-clause-there g c = allowed_location c.args.threads _
 
 pub returns-in-Some-clause-there : goal.returns-in-Some-clause-there
-returns-in-Some-clause-there g c = there_of_thread _ (left c.take.new.self) (left c.of_thread.new.self) c.args.threads c.in-Some.thread _ (sym c.is_allowed.ensures ∙ c.if-not-is_allowed.false) c.of_thread.ensures.found
+returns-in-Some-clause-there g c = there_of_thread c.args.arch _ (left c.take.new.self) (left c.of_thread.new.self) c.args.threads c.in-Some.thread _ (sym c.is_allowed.ensures ∙ c.if-not-is_allowed.false) c.of_thread.ensures.found
 
 pub returns-then-eq-clause-there : goal.returns-then-eq-clause-there
 returns-then-eq-clause-there g c = there_in_brackets c.args.locs.now _ (left c.take.new.self) (left c.in_brackets.new.self) c.args.threads _ c.in_brackets.ensures.found

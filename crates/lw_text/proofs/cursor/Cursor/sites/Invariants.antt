@@ -5,7 +5,7 @@ use Rattle.lw_text.proofs.cursor.Cursor.sites.Given as goal
 
 abbrev pub invariant-sites : goal.invariant-sites
 invariant-sites g l = record {
-  read : SitesRead l.threads l.fn.locs l.locs (left l.fn.self) (left l.self) l.sites;
+  read : SitesRead l.arch l.threads l.fn.locs l.locs (left l.fn.self) (left l.self) l.sites;
   same : l.self.len ≡ l.fn.self.len;
 }
 

@@ -1,11 +1,10 @@
 use Rattle.std.proofs.Common.{◌≡◌, ◌∙◌, ap, subst, sym}
 use Rattle.lw_base.proofs.Returns.{passed_on}
-use Rattle.lw_text.specs.Frames.{Parts}
+use Rattle.lw_text.specs.Frames.{Parts, IsNoTest}
 use Rattle.lw_text.specs.Resolved.{HasSyntax}
 use Rattle.lw_text.specs.Spans.{texts, Spans}
 use Rattle.lw_text.specs.Views.{left}
 use Rattle.lw_text.proofs.Numbers.{if_none}
-use Rattle.lw_text.proofs.Whole.{NoParts}
 use Rattle.lw_text.proofs.token_stream.TokenStream.body.Goals as goal
 
 pub new-cursor-requires-clause-places : goal.new-cursor-requires-clause-places
@@ -14,7 +13,7 @@ new-cursor-requires-clause-places g c = rw c.as_slice.ensures c.requires.places
 pub returns-in_err-body-clause-fault : goal.returns-in_err-body-clause-fault
 returns-in_err-body-clause-fault g c =
     let read : left c.new-cursor.result ≡ texts c.args.self.now.tokens = ap texts (c.new-cursor.ensures.remaining ∙ c.as_slice.ensures) in
-    passed_on _ _ c.from_residual.ensures.1 (λ ne. if_none c.args.self.now.fault (NoParts (texts c.args.self.now.tokens)) (λ s f parts whole. c.in_err-body.ensures.fault ne s f (subst (λ ts. Parts ts s) (sym read) parts) whole))
+    passed_on _ _ c.from_residual.ensures.1 (λ ne. if_none c.args.self.now.fault (IsNoTest c.args.arch (texts c.args.self.now.tokens)) (λ s f parts whole. c.in_err-body.ensures.fault ne s f (subst (λ ts. Parts c.args.arch ts s) (sym read) parts) whole))
 
 pub returns-in_err-body-clause-place : goal.returns-in_err-body-clause-place
 returns-in_err-body-clause-place g c =
@@ -32,7 +31,7 @@ returns-clause-whole g c = c.in-None.is
 pub returns-clause-found : goal.returns-clause-found
 returns-clause-found g c =
     let read : left c.new-cursor.result ≡ texts c.args.self.now.tokens = ap texts (c.new-cursor.ensures.remaining ∙ c.as_slice.ensures) in
-    subst (λ ts. HasSyntax ts c.in_ok-body.body) read c.in_ok-body.ensures.found
+    subst (λ ts. HasSyntax c.args.arch ts c.in_ok-body.body) read c.in_ok-body.ensures.found
 
 pub returns-clause-spans : goal.returns-clause-spans
 returns-clause-spans g c = λ text from to s. c.in_ok-body.ensures.spans text from to (subst (λ ts. Spans text from ts to) (sym (c.new-cursor.ensures.remaining ∙ c.as_slice.ensures)) s)

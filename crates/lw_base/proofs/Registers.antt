@@ -1,0 +1,36 @@
+-- A word names one register at most.
+use Rattle.std.proofs.Common.{◌≡◌, ℕ, zero, suc, ◌+◌, ◌<◌, [], ◌∷◌, Some, None, Option, refl, sym, ap, ◌∙◌, arith}
+use Rattle.std.specs.Prelude.{if◌then◌else◌, codes}
+use Rattle.std.specs.Str.{bytes_eq}
+use Rattle.lw_base.specs.Types.{Bytes}
+use Rattle.lw_base.specs.declared.head.Arch.{Arch}
+use Rattle.lw_base.specs.declared.head.Arch.TheVariants.{Source, X86}
+use Rattle.lw_base.specs.Registers.{IsRegister, register_name, without_case}
+
+-- the register of x86 that a word in small letters names
+abbrev spelled : Bytes → Option ℕ
+spelled w =
+    if bytes_eq w (codes "eax") then Some 0
+    else (if bytes_eq w (codes "ebx") then Some 1
+    else (if bytes_eq w (codes "ecx") then Some 2
+    else (if bytes_eq w (codes "edx") then Some 3
+    else (if bytes_eq w (codes "esi") then Some 4
+    else (if bytes_eq w (codes "edi") then Some 5 else None)))))
+
+spelled_name : (r : ℕ) → r < 6 → spelled (without_case X86 (register_name X86 r)) ≡ Some r
+spelled_name zero h = refl
+spelled_name (suc zero) h = refl
+spelled_name (suc (suc zero)) h = refl
+spelled_name (suc (suc (suc zero))) h = refl
+spelled_name (suc (suc (suc (suc zero)))) h = refl
+spelled_name (suc (suc (suc (suc (suc zero))))) h = refl
+spelled_name (suc (suc (suc (suc (suc (suc r)))))) h = absurd (omega arith)
+
+pub register_unique : (arch : Arch) (w : Bytes) (r q : ℕ) → IsRegister arch w r → IsRegister arch w q → r ≡ q
+register_unique Source w r q h k =
+    let e : 114 ∷ (48 + r) ∷ [] ≡ 114 ∷ (48 + q) ∷ [] = h.1 ∙ sym k.1 in
+    let f : 48 + r ≡ 48 + q = cc in
+    omega arith
+register_unique X86 w r q h k =
+    let e : Some r ≡ Some q = sym (spelled_name r h.0) ∙ ap spelled (h.1 ∙ sym k.1) ∙ spelled_name q k.0 in
+    cc

@@ -1,0 +1,195 @@
+-- Sites and conditions as they are printed: their texts spell tokens. The crates above that print tests use this.
+use Rattle.std.proofs.Common.{◌≡◌, ℕ, zero, suc, ◌+◌, ◌*◌, ◌<◌, ◌≤◌, ◌^◌, Bool, true, false, not, List, [], ◌∷◌, ◌++◌, length, refl, sym, ap, ◌∙◌, subst, arith, append_assoc}
+use Rattle.std.specs.Prelude.{◌==◌, codes, slice_index_or}
+use Rattle.std.specs.List.{AllByRecursion, flat_map}
+use Rattle.std.specs.Fmt.{decimal}
+use Rattle.std.proofs.lemmas.Bool.{not-true}
+use Rattle.std.proofs.lemmas.Bool.Decides.{nat_tests}
+use Rattle.std.proofs.lemmas.Fmt.{decimal_nonempty}
+use Rattle.std.proofs.lemmas.Grind.{flat_map-append}
+use Rattle.std.proofs.lemmas.List.Elements.{All-from_recursion}
+use Rattle.lw_base.specs.Types.{Bytes, NameTable, TokenList}
+use Rattle.lw_base.specs.declared.head.Arch.{Arch}
+use Rattle.lw_base.specs.declared.head.Arch.TheVariants.{Source, X86}
+use Rattle.lw_base.specs.declared.head.Quant.{Quant}
+use Rattle.lw_base.specs.declared.head.Quant.TheVariants.{Exists, NotExists, Forall}
+use Rattle.lw_base.specs.declared.head.Seen.{Seen}
+use Rattle.lw_base.specs.declared.head.Seen.TheVariants.{Register, Location}
+use Rattle.lw_base.specs.Characters.{is_word_byte, begins}
+use Rattle.lw_base.specs.ConditionTexts.{site_text, assignment, in_parentheses, parenthesized_if, is_or, is_joined, proposition_text, quantifier_text}
+use Rattle.lw_base.specs.Formula.{Formula, Yes, No, Reg_is, Word_is, Not, And, Or, nodes}
+use Rattle.lw_base.specs.Names.{IsName, IsLocation}
+use Rattle.lw_base.specs.Registers.{register_name}
+use Rattle.lw_base.specs.WellFormed.{IsSeen, SpeaksOf}
+use Rattle.lw_text.specs.Tokens.{is_pair}
+use Rattle.lw_text.specs.Propositions.{Terminal, Close, Conjunction, Disjunction, Atom}
+use Rattle.lw_text.specs.Conditions.{AtomSyntax, Always, Never, Holds}
+use Rattle.lw_text.proofs.Words.{blank_all}
+use Rattle.lw_text.proofs.Spelling.{Anything, EndsWord, IsBlankNext, HasNoStar, HasNoEquals, Spells, name_by_test, Spells-then, Spells-on, Spells-before, Spells-within, Spells-space, Spells-symbol, Spells-mark, Spells-pair, Spells-name, Spells-number, decimal_is_word}
+use Rattle.lw_text.proofs.PrintedPropositions.{enclosed, enclosed_if, terminals_of}
+use Rattle.lw_text.proofs.ConditionTokens.{named_site, site_tokens, value_tokens, named_claim, terminal_tokens, quantifier_tokens}
+
+-- ---- registers
+
+pub register_is_name : (arch : Arch) (r : ℕ) → r < 6 → IsName (register_name arch r)
+register_is_name Source zero h = name_by_test _ refl
+register_is_name Source (suc zero) h = name_by_test _ refl
+register_is_name Source (suc (suc zero)) h = name_by_test _ refl
+register_is_name Source (suc (suc (suc zero))) h = name_by_test _ refl
+register_is_name Source (suc (suc (suc (suc zero)))) h = name_by_test _ refl
+register_is_name Source (suc (suc (suc (suc (suc zero))))) h = name_by_test _ refl
+register_is_name Source (suc (suc (suc (suc (suc (suc r)))))) h = absurd (omega arith)
+register_is_name X86 zero h = name_by_test _ refl
+register_is_name X86 (suc zero) h = name_by_test _ refl
+register_is_name X86 (suc (suc zero)) h = name_by_test _ refl
+register_is_name X86 (suc (suc (suc zero))) h = name_by_test _ refl
+register_is_name X86 (suc (suc (suc (suc zero)))) h = name_by_test _ refl
+register_is_name X86 (suc (suc (suc (suc (suc zero))))) h = name_by_test _ refl
+register_is_name X86 (suc (suc (suc (suc (suc (suc r)))))) h = absurd (omega arith)
+
+pub Spells-register : (arch : Arch) (r : ℕ) → r < 6 → Spells EndsWord 32 (register_name arch r) (register_name arch r ∷ [])
+Spells-register arch r h = Spells-name (register_name arch r) (register_is_name arch r h)
+
+-- no byte of a word makes a symbol with a `:`, and none is a `*`
+no_equals : (b : ℕ) → is_word_byte b ≡ true → is_pair 58 b ≡ false
+no_equals b h = grind (arith, nat_tests)
+
+no_star : (b : ℕ) → is_word_byte b ≡ true → (b == 42) ≡ false
+no_star b h = grind (arith, nat_tests)
+
+name_no_equals : (w rest : Bytes) → IsName w → begins (is_pair 58) (w ++ rest) ≡ false
+name_no_equals [] rest n = absurd (let h = n.0.some in omega arith)
+name_no_equals (b ∷ w) rest n = no_equals b n.0.all.0
+
+-- a `:`, where no `=` follows
+pub Spells-colon : Spells HasNoEquals 1 (58 ∷ []) ((58 ∷ []) ∷ [])
+Spells-colon = Spells-symbol 58 refl (λ rest f. f) (λ rest f. refl) (omega arith)
+
+pub blank_no_equals : (rest : Bytes) → IsBlankNext rest → begins (is_pair 58) rest ≡ false
+blank_no_equals [] h = refl
+blank_no_equals (b ∷ rest) h = not-true (is_pair 58 b) (blank_all (λ c. not (is_pair 58 c)) b refl h)
+
+-- ---- the texts
+
+abbrev pub Starts : Bytes → Type 0
+Starts text = (b : ℕ) × (more : Bytes) × (text ≡ b ∷ more) × ((b == 42) ≡ false)
+
+starts-then : (a b : Bytes) → Starts a → Starts (a ++ b)
+starts-then a b s = (s.0, s.1 ++ b, ap (λ t. t ++ b) s.2, s.3)
+
+starts_no_star : (text rest : Bytes) → Starts text → HasNoStar (text ++ rest)
+starts_no_star text rest s = ap (λ t. begins (λ b. b == 42) (t ++ rest)) s.2 ∙ s.3
+
+starts_word : (w : Bytes) → 0 < length w → AllByRecursion (λ b. is_word_byte b ≡ true) w → Starts w
+starts_word [] some all = absurd (omega arith)
+starts_word (b ∷ w) some all = (b, w, refl, no_star b all.0)
+
+module _ (arch : Arch) (threads : ℕ) (few : threads ≤ 4) (names : NameTable) (table : AllByRecursion IsLocation names) where
+  name_there : (x : ℕ) → x < length names → IsLocation (slice_index_or names x [])
+  name_there x h = All-from_recursion IsLocation names table x [] h
+
+  pub site_spelled : (s : Seen) → IsSeen threads (length names) s → Spells EndsWord 43 (site_text arch names s) (site_tokens arch (named_site names s))
+  site_spelled (Register t r) h =
+      let number = Spells-number t (omega (arith, h.0, few)) in
+      let register = Spells-register arch r h.1 in
+      (Spells-then (λ rest g. refl) number (Spells-then (λ rest g. name_no_equals (register_name arch r) rest (register_is_name arch r h.1)) Spells-colon register))
+  site_spelled (Location x) h = Spells-within 43 (omega arith) (Spells-name (slice_index_or names x []) (name_there x h).0)
+
+  site_starts : (s : Seen) → IsSeen threads (length names) s → Starts (site_text arch names s)
+  site_starts (Register t r) h =
+      let small : t < 2 ^ 32 = omega (arith, h.0, few) in
+      starts-then (decimal t) (codes ":" ++ register_name arch r) (starts_word (decimal t) (decimal_nonempty t (omega (arith, small))) (decimal_is_word t small))
+  site_starts (Location x) h = let n = (name_there x h).0 in starts_word (slice_index_or names x []) n.0.some n.0.all
+
+  -- a site with its word, as `x=1`
+  pub assignment_spelled : (s : Seen) (n : ℕ) → IsSeen threads (length names) s → n < 2 ^ 32 → Spells EndsWord 54 (assignment (site_text arch names s) n) (site_tokens arch (named_site names s) ++ value_tokens n)
+  assignment_spelled s n h small =
+      Spells-then (λ rest g. refl) (site_spelled s h) (Spells-on (Spells-mark 61 refl (λ c. refl) refl (omega arith)) (Spells-number n small))
+
+  -- ---- propositions
+
+  abbrev tokens_of : List (Terminal AtomSyntax) → TokenList
+  tokens_of ss = flat_map (terminal_tokens arch) ss
+
+  abbrev terms : Formula → List (Terminal AtomSyntax)
+  terms p = terminals_of (named_claim names) p
+
+  record IsSpelled (text : Bytes) (most : ℕ) (ss : List (Terminal AtomSyntax)) : Type 0 where
+    spells : Spells EndsWord most text (tokens_of ss)
+    starts : Starts text
+
+  enclosed_spelled : (text : Bytes) (most : ℕ) (ss : List (Terminal AtomSyntax)) → IsSpelled text most ss → Spells Anything (most + 2) (in_parentheses text) (tokens_of (enclosed ss))
+  enclosed_spelled text most ss s =
+      let opening = Spells-symbol {F = HasNoStar} 40 refl (λ rest f. alone rest) (λ rest f. f) (omega arith) in
+      let closing = Spells-mark 41 refl (λ c. refl) refl (omega arith) in
+      let whole : Spells Anything (1 + (most + 1)) (in_parentheses text) ((codes "(" ∷ []) ++ (tokens_of ss ++ (codes ")" ∷ []))) = Spells-then (λ rest g. subst HasNoStar (sym (append_assoc text (codes ")") rest)) (starts_no_star text (codes ")" ++ rest) s.starts)) opening (Spells-then (λ rest g. refl) s.spells closing) in
+      subst (λ (ts : TokenList). Spells Anything (most + 2) (in_parentheses text) (codes "(" ∷ ts)) (sym (flat_map-append (terminal_tokens arch) ss (Close ∷ []))) (Spells-within (most + 2) (omega arith) whole)
+    where
+      alone : (rest : Bytes) → begins (is_pair 40) rest ≡ false
+      alone [] = refl
+      alone (b ∷ rest) = refl
+
+  part_spelled : (needed : Bool) (text : Bytes) (most : ℕ) (ss : List (Terminal AtomSyntax)) → IsSpelled text most ss → IsSpelled (parenthesized_if needed text) (most + 2) (enclosed_if needed ss)
+  part_spelled true text most ss s = record { spells = Spells-before EndsWord (λ rest g. tt) (enclosed_spelled text most ss s); starts = (40, text ++ codes ")", refl, refl) }
+  part_spelled false text most ss s = record { spells = Spells-within (most + 2) (omega arith) s.spells; starts = s.starts }
+
+  -- two parts with a connective between
+  joined_spelled : (a b : Bytes) (m n : ℕ) (ss us : List (Terminal AtomSyntax)) (between : Bytes) (t : Terminal AtomSyntax) → ((rest : Bytes) → EndsWord (between ++ rest)) → Spells Anything 4 between (terminal_tokens arch t) → IsSpelled a m ss → IsSpelled b n us → IsSpelled (a ++ (between ++ b)) (m + (4 + n)) (ss ++ (t ∷ us))
+  joined_spelled a b m n ss us between t ends mid s u = record {
+    spells = subst (λ (ts : TokenList). Spells EndsWord (m + (4 + n)) (a ++ (between ++ b)) ts) (sym (flat_map-append (terminal_tokens arch) ss (t ∷ us))) (Spells-then (λ rest g. subst EndsWord (sym (append_assoc between b rest)) (ends (b ++ rest))) s.spells (Spells-on mid u.spells));
+    starts = starts-then a (between ++ b) s.starts;
+  }
+
+  within : (text : Bytes) (m n : ℕ) (ss : List (Terminal AtomSyntax)) → m ≤ n → IsSpelled text m ss → IsSpelled text n ss
+  within text m n ss le s = record { spells = Spells-within n le s.spells; starts = s.starts }
+
+  conjunction : Spells Anything 4 (codes " /\\ ") (codes "/\\" ∷ [])
+  conjunction = Spells-on Spells-space (Spells-on (Spells-pair 47 92 refl (omega arith) (omega arith)) Spells-space)
+
+  disjunction : Spells Anything 4 (codes " \\/ ") (codes "\\/" ∷ [])
+  disjunction = Spells-on Spells-space (Spells-on (Spells-pair 92 47 refl (omega arith) (omega arith)) Spells-space)
+
+  word_spelled : (w : Bytes) → IsName w → (ss : List (Terminal AtomSyntax)) → tokens_of ss ≡ w ∷ [] → IsSpelled w 60 ss
+  word_spelled w name ss e = record {
+    spells = Spells-within 60 (omega arith) (subst (λ (ts : TokenList). Spells EndsWord 32 w ts) (sym e) (Spells-name w name));
+    starts = starts_word w name.0.some name.0.all;
+  }
+
+  claim_spelled : (s : Seen) (n : ℕ) → IsSeen threads (length names) s → n < 2 ^ 32 → IsSpelled (assignment (site_text arch names s) n) 60 (Atom (Holds (named_site names s) n) ∷ [])
+  claim_spelled s n h small = record {
+    spells = subst (λ (ts : TokenList). Spells EndsWord 60 (assignment (site_text arch names s) n) ts) (nil_behind s) (Spells-within 60 (omega arith) (assignment_spelled s n h small));
+    starts = starts-then (site_text arch names s) (codes "=" ++ decimal n) (site_starts s h);
+  }
+    where
+      nil_behind : (s : Seen) → site_tokens arch (named_site names s) ++ value_tokens n ≡ tokens_of (Atom (Holds (named_site names s) n) ∷ [])
+      nil_behind (Register t r) = refl
+      nil_behind (Location x) = refl
+
+  proposition_spelled : (p : Formula) → SpeaksOf threads (length names) p → IsSpelled (proposition_text arch names p) (60 * nodes p) (terms p)
+  proposition_spelled Yes h = word_spelled (codes "true") (name_by_test _ refl) (Atom Always ∷ []) refl
+  proposition_spelled No h = word_spelled (codes "false") (name_by_test _ refl) (Atom Never ∷ []) refl
+  proposition_spelled (Reg_is t r n) h = claim_spelled (Register t r) n (h.0, h.1) h.2
+  proposition_spelled (Word_is x n) h = claim_spelled (Location x) n h.0 h.1
+  proposition_spelled (Not p) h =
+      let part = part_spelled (is_joined p) (proposition_text arch names p) (60 * nodes p) (terms p) (proposition_spelled p h) in
+      record {
+        spells = Spells-within (60 * suc (nodes p)) (omega arith) (Spells-on (Spells-mark 126 refl (λ c. refl) refl (omega arith)) part.spells);
+        starts = (126, parenthesized_if (is_joined p) (proposition_text arch names p), refl, refl);
+      }
+  proposition_spelled (And p q) h =
+      let left = part_spelled (is_or p) (proposition_text arch names p) (60 * nodes p) (terms p) (proposition_spelled p h.0) in
+      let right = part_spelled (is_joined q) (proposition_text arch names q) (60 * nodes q) (terms q) (proposition_spelled q h.1) in
+      within _ _ (60 * suc (nodes p + nodes q)) _ (omega arith) (joined_spelled _ _ _ _ _ _ (codes " /\\ ") Conjunction (λ rest. refl) conjunction left right)
+  proposition_spelled (Or p q) h =
+      let left = proposition_spelled p h.0 in
+      let right = part_spelled (is_or q) (proposition_text arch names q) (60 * nodes q) (terms q) (proposition_spelled q h.1) in
+      within _ _ (60 * suc (nodes p + nodes q)) _ (omega arith) (joined_spelled _ _ _ _ _ _ (codes " \\/ ") Disjunction (λ rest. refl) disjunction left right)
+
+  -- a proposition in parentheses
+  pub whole_spelled : (p : Formula) → SpeaksOf threads (length names) p → Spells Anything (60 * nodes p + 2) (in_parentheses (proposition_text arch names p)) (tokens_of (enclosed (terms p)))
+  whole_spelled p h = enclosed_spelled (proposition_text arch names p) (60 * nodes p) (terms p) (proposition_spelled p h)
+
+pub quantifier_spelled : (q : Quant) → Spells EndsWord 33 (quantifier_text q) (quantifier_tokens q)
+quantifier_spelled Exists = Spells-within 33 (omega arith) (Spells-name (codes "exists") (name_by_test _ refl))
+quantifier_spelled NotExists = Spells-on (Spells-mark 126 refl (λ c. refl) refl (omega arith)) (Spells-name (codes "exists") (name_by_test _ refl))
+quantifier_spelled Forall = Spells-within 33 (omega arith) (Spells-name (codes "forall") (name_by_test _ refl))

@@ -1,0 +1,188 @@
+-- Texts that spell tokens, before whatever may follow them. The crates above that print tests use this.
+use Rattle.std.proofs.Common.{◌≡◌, ℕ, zero, suc, ◌+◌, ◌*◌, ◌<◌, ◌≤◌, ◌^◌, inl, inr, Bool, true, false, not, [], ◌∷◌, ◌++◌, length, refl, sym, ap, ◌∙◌, subst, arith, append_assoc, append-nil, length-append}
+use Rattle.std.specs.Prelude.{◌==◌, ◌&&◌, nat_lt}
+use Rattle.std.specs.List.{AllByRecursion, list_all}
+use Rattle.std.specs.Str.{IsUtf8, IsAscii}
+use Rattle.std.specs.Str.Parse.{AllDigits, digits_value_after}
+use Rattle.std.specs.Fmt.{decimal}
+use Rattle.std.specs.Char.{digit_value, is_ascii_digit}
+use Rattle.std.proofs.lemmas.Bool.{not-true, and_parts, ltb-true}
+use Rattle.std.proofs.lemmas.Bool.Decides.{nat_tests}
+use Rattle.std.proofs.lemmas.Fmt.{decimal_is_IsNumeral, length-decimal-le}
+use Rattle.std.proofs.lemmas.Str.{IsUtf8-nil, IsUtf8-append, IsUtf8-from_ascii}
+use Rattle.std.proofs.lemmas.Str.Parse.{digit_from_value}
+use Rattle.lw_base.specs.Types.{Bytes, TokenList}
+use Rattle.lw_base.specs.Characters.{is_blank, is_word_byte, begins}
+use Rattle.lw_base.specs.Names.{IsName}
+use Rattle.lw_text.specs.Tokens.{opens_comment, none, blank, Digits, IsNumber, IsKind, is_pair, is_single, Tokens}
+use Rattle.lw_text.proofs.Words.{blank_all}
+
+-- ---- what may follow a text: anything, no byte of a word, a blank, no `*`, or nothing that makes a symbol with a `:`
+
+abbrev pub Anything : Bytes → Type 0
+Anything rest = Unit {0}
+
+abbrev pub EndsWord : Bytes → Type 0
+EndsWord rest = begins is_word_byte rest ≡ false
+
+abbrev pub IsBlankNext : Bytes → Type 0
+IsBlankNext rest = begins is_blank rest ≡ true
+
+abbrev pub HasNoStar : Bytes → Type 0
+HasNoStar rest = begins (λ b. b == 42) rest ≡ false
+
+abbrev pub HasNoEquals : Bytes → Type 0
+HasNoEquals rest = begins (is_pair 58) rest ≡ false
+
+-- A text of at most so many bytes, in UTF-8, that spells these tokens before what may follow it.
+pub record Spells (Follows : Bytes → Type 0) (most : ℕ) (text : Bytes) (tokens : TokenList) : Type 0 where
+  pub before : (rest : Bytes) (more : TokenList) → Follows rest → Tokens rest more → Tokens (text ++ rest) (tokens ++ more)
+  pub short : length text ≤ most
+  pub utf8 : IsUtf8 text
+
+pub Spells-nothing : (F : Bytes → Type 0) → Spells F 0 [] []
+Spells-nothing F = record { before = λ rest more f t. t; short = omega arith; utf8 = IsUtf8-nil }
+
+-- one text behind another
+pub Spells-then : {F G : Bytes → Type 0} {m n : ℕ} {a b : Bytes} {ts us : TokenList} → ((rest : Bytes) → G rest → F (b ++ rest)) → Spells F m a ts → Spells G n b us → Spells G (m + n) (a ++ b) (ts ++ us)
+Spells-then {F} {G} {m} {n} {a} {b} {ts} {us} joint p q = record {
+  before = λ rest more g t. rw (append_assoc a b rest, append_assoc ts us more) (p.before (b ++ rest) (us ++ more) (joint rest g) (q.before rest more g t));
+  short = omega (arith, length-append a b, p.short, q.short);
+  utf8 = IsUtf8-append a b p.utf8 q.utf8;
+}
+
+-- behind a text that anything may follow
+pub Spells-on : {G : Bytes → Type 0} {m n : ℕ} {a b : Bytes} {ts us : TokenList} → Spells Anything m a ts → Spells G n b us → Spells G (m + n) (a ++ b) (ts ++ us)
+Spells-on p q = Spells-then (λ rest g. tt) p q
+
+-- the same text, where less may follow it, or with a greater bound
+pub Spells-before : {F : Bytes → Type 0} (G : Bytes → Type 0) {m : ℕ} {a : Bytes} {ts : TokenList} → ((rest : Bytes) → G rest → F rest) → Spells F m a ts → Spells G m a ts
+Spells-before G less p = record { before = λ rest more g t. p.before rest more (less rest g) t; short = p.short; utf8 = p.utf8 }
+
+pub Spells-within : {F : Bytes → Type 0} {m : ℕ} {a : Bytes} {ts : TokenList} (n : ℕ) → m ≤ n → Spells F m a ts → Spells F n a ts
+Spells-within n le p = record { before = p.before; short = omega (arith, p.short, le); utf8 = p.utf8 }
+
+-- a whole text
+pub Spells-whole : {F : Bytes → Type 0} {m : ℕ} {a : Bytes} {ts : TokenList} → F [] → Spells F m a ts → Tokens a ts
+Spells-whole {a = a} {ts = ts} end p =
+    subst (λ (t : Bytes). Tokens t ts) (append-nil a) (subst (λ (us : TokenList). Tokens (a ++ []) us) (append-nil ts) (p.before [] [] end none))
+
+-- ---- blanks
+
+tokens-blank : (b : ℕ) (rest : Bytes) (ts : TokenList) → is_blank b ≡ true → Tokens rest ts → Tokens (b ∷ rest) ts
+tokens-blank b rest [] h t = blank h t
+tokens-blank b rest (u ∷ us) h t = (t.0, (blank h t.1.0, t.1.1), t.2)
+
+ascii_one : (b : ℕ) → b < 128 → IsAscii (b ∷ [])
+ascii_one b h zero = h
+ascii_one b h (suc i) = omega arith
+
+pub Spells-blank : (b : ℕ) → is_blank b ≡ true → b < 128 → Spells Anything 1 (b ∷ []) []
+Spells-blank b h low = record { before = λ rest more f t. tokens-blank b rest more h t; short = omega arith; utf8 = IsUtf8-from_ascii (b ∷ []) (ascii_one b low) }
+
+pub Spells-space : Spells Anything 1 (32 ∷ []) []
+Spells-space = Spells-blank 32 refl (omega arith)
+
+pub Spells-newline : Spells Anything 1 (10 ∷ []) []
+Spells-newline = Spells-blank 10 refl (omega arith)
+
+-- before a blank a word ends
+pub blank_ends_word : (rest : Bytes) → IsBlankNext rest → EndsWord rest
+blank_ends_word [] h = refl
+blank_ends_word (b ∷ rest) h = not-true (is_word_byte b) (blank_all (λ c. not (is_word_byte c)) b refl h)
+
+-- ---- symbols
+
+no_pair : (b : ℕ) → ((c : ℕ) → is_pair b c ≡ false) → (rest : Bytes) → begins (is_pair b) rest ≡ false
+no_pair b h [] = refl
+no_pair b h (c ∷ rest) = h c
+
+-- a symbol of one byte
+pub Spells-symbol : {F : Bytes → Type 0} (b : ℕ) → is_single b ≡ true → ((rest : Bytes) → F rest → begins (is_pair b) rest ≡ false) → ((rest : Bytes) → F rest → opens_comment (b ∷ rest) ≡ false) → b < 128 → Spells F 1 (b ∷ []) ((b ∷ []) ∷ [])
+Spells-symbol b single alone plain low = record {
+  before = λ rest more f t. (rest, (none, inr (single, alone rest f, plain rest f)), t);
+  short = omega arith;
+  utf8 = IsUtf8-from_ascii (b ∷ []) (ascii_one b low);
+}
+
+-- one that begins no symbol of two bytes and no comment
+pub Spells-mark : (b : ℕ) → is_single b ≡ true → ((c : ℕ) → is_pair b c ≡ false) → (b == 40) ≡ false → b < 128 → Spells Anything 1 (b ∷ []) ((b ∷ []) ∷ [])
+Spells-mark b single alone plain low = Spells-symbol b single (λ rest f. no_pair b alone rest) (λ rest f. rw plain refl) low
+
+-- a symbol of two bytes
+ascii_two : (b c : ℕ) → b < 128 → c < 128 → IsAscii (b ∷ c ∷ [])
+ascii_two b c h k zero = h
+ascii_two b c h k (suc i) = ascii_one c k i
+
+pub Spells-pair : (b c : ℕ) → is_pair b c ≡ true → b < 128 → c < 128 → Spells Anything 2 (b ∷ c ∷ []) ((b ∷ c ∷ []) ∷ [])
+Spells-pair b c pair h k = record {
+  before = λ rest more f t. (rest, (none, inr pair), t);
+  short = omega arith;
+  utf8 = IsUtf8-from_ascii (b ∷ c ∷ []) (ascii_two b c h k);
+}
+
+-- ---- words
+
+word_low : (b : ℕ) → is_word_byte b ≡ true → b < 128
+word_low b h = grind (arith, nat_tests)
+
+word_ascii : (w : Bytes) → AllByRecursion (λ b. is_word_byte b ≡ true) w → IsAscii w
+word_ascii [] h i = omega arith
+word_ascii (b ∷ w) h zero = word_low b h.0
+word_ascii (b ∷ w) h (suc i) = word_ascii w h.1 i
+
+pub Spells-word : (n : ℕ) (w : Bytes) → AllByRecursion (λ b. is_word_byte b ≡ true) w → IsKind w → length w ≤ n → Spells EndsWord n w (w ∷ [])
+Spells-word n w all kind short = record {
+  before = λ rest more f t. (rest, (none, inl (record { all = all; longest = f; kind = kind })), t);
+  short = short;
+  utf8 = IsUtf8-from_ascii w (word_ascii w all);
+}
+
+-- a name, by its bytes
+abbrev is_name_text : Bytes → Bool
+is_name_text w = (nat_lt 0 (length w) && nat_lt (length w) 33) && (list_all is_word_byte w && not (begins is_ascii_digit w))
+
+all_pass : (p : ℕ → Bool) (w : Bytes) → list_all p w ≡ true → AllByRecursion (λ b. p b ≡ true) w
+all_pass p [] h = tt
+all_pass p (b ∷ w) h = let both = and_parts (p b) (list_all p w) h in (both.0, all_pass p w both.1)
+
+pub name_by_test : (w : Bytes) → is_name_text w ≡ true → IsName w
+name_by_test w h =
+    let halves = and_parts (nat_lt 0 (length w) && nat_lt (length w) 33) (list_all is_word_byte w && not (begins is_ascii_digit w)) h in
+    let long = and_parts (nat_lt 0 (length w)) (nat_lt (length w) 33) halves.0 in
+    let bytes = and_parts (list_all is_word_byte w) (not (begins is_ascii_digit w)) halves.1 in
+    let most : length w < 33 = ltb-true (length w) 33 long.1 in
+    (record { some = ltb-true 0 (length w) long.0; all = all_pass is_word_byte w bytes.0; front = not-true (begins is_ascii_digit w) bytes.1 }, omega (arith, most))
+
+pub Spells-name : (w : Bytes) → IsName w → Spells EndsWord 32 w (w ∷ [])
+Spells-name w name = Spells-word 32 w name.0.all (inl name) name.1
+
+-- ---- numbers
+
+digits_say : (n : ℕ) (ds : Bytes) (v : ℕ) → AllDigits 10 ds → digits_value_after 10 n ds ≡ v → Digits 10 n ds v
+digits_say n [] v all e = e
+digits_say n (d ∷ ds) v all e =
+    let same : n * 10 + digit_value d ≡ 10 * n + digit_value d = omega arith in
+    (all.0, digits_say (10 * n + digit_value d) ds v all.1 (ap (λ (m : ℕ). digits_value_after 10 m ds) (sym same) ∙ e))
+
+-- a number's decimal digits are a number
+pub decimal_is_number : (n : ℕ) → n < 2 ^ 32 → IsNumber (decimal n) n
+decimal_is_number n h =
+    let is = decimal_is_IsNumeral n (omega (arith, h)) in
+    (h, inl (is.0.0, digits_say 0 (decimal n) n is.0.1 is.1))
+
+digit_word : (d : ℕ) → (48 ≤ d) × (d ≤ 57) → is_word_byte d ≡ true
+digit_word d h = grind (arith, nat_tests)
+
+digits_words : (ds : Bytes) → AllDigits 10 ds → AllByRecursion (λ b. is_word_byte b ≡ true) ds
+digits_words [] all = tt
+digits_words (d ∷ ds) all = (digit_word d (digit_from_value d all.0), digits_words ds all.1)
+
+pub decimal_is_word : (n : ℕ) → n < 2 ^ 32 → AllByRecursion (λ b. is_word_byte b ≡ true) (decimal n)
+decimal_is_word n h = digits_words (decimal n) (decimal_is_IsNumeral n (omega (arith, h))).0.1
+
+pub decimal_is_short : (n : ℕ) → n < 2 ^ 32 → length (decimal n) ≤ 10
+decimal_is_short n h = length-decimal-le 10 n (omega arith) (omega (arith, h)) (omega (arith, h))
+
+pub Spells-number : (n : ℕ) → n < 2 ^ 32 → Spells EndsWord 10 (decimal n) (decimal n ∷ [])
+Spells-number n h = Spells-word 10 (decimal n) (decimal_is_word n h) (inr (n, decimal_is_number n h)) (decimal_is_short n h)
