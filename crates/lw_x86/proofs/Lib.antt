@@ -11,3 +11,14 @@ pub mod CellLists
 pub mod BlockTexts
 pub mod HeaderTexts
 pub mod ListedTexts
+pub mod PrintedInstructions
+pub mod PrintedCells
+pub mod PrintedLabels
+pub mod PrintedColumns
+pub mod PrintedRows
+pub mod PrintedGrids
+pub mod PrintedBlocks
+pub mod PrintedHeads
+pub mod PrintedLists
+pub mod PrintedFrames
+pub mod PrintedTests

@@ -4,13 +4,14 @@ use Rattle.std.specs.Prelude.{slice_get, codes}
 use Rattle.lw_base.specs.declared.head.Arch.TheVariants.{X86}
 use Rattle.lw_base.specs.declared.operand.Operand.{Operand}
 use Rattle.lw_base.specs.Registers.{IsRegister}
+use Rattle.lw_base.proofs.Registers.{register_unique}
 use Rattle.lw_cells.proofs.TokenRows.{same_token}
 use Rattle.lw_x86.specs.declared.mnemonic.Mnemonic.{Mnemonic}
 use Rattle.lw_x86.specs.declared.mnemonic.Mnemonic.TheVariants.{Mov, Add, Cmp, Xchg, Xadd, Lock, Mfence, Je, Jne, Jmp}
 use Rattle.lw_x86.specs.Instructions.{InstructionSyntax, Stores, Loads, Sets, Adds, Compares, Exchanges, Exchanges_adding, Jumps_if_equal, Jumps_if_not_equal, Jumps, Instruction, IsValue, OnRegister, MemoryFirst, MemoryLast, JumpsBy, Locked}
 use Rattle.lw_x86.specs.Readings.{Opens}
 use Rattle.lw_x86.proofs.Openings.{by_mnemonic, some_opening, one_opening, exchange_opens, Cases}
-use Rattle.lw_x86.proofs.Registers.{register_unique, value_unique, value_length}
+use Rattle.lw_x86.proofs.Registers.{value_unique, value_length}
 use Rattle.lw_x86.proofs.Groups.{last_bracket, register_bracketed}
 
 -- the same token at a place, of two rows that are one
@@ -18,7 +19,7 @@ at : (ts us vs : List (List ℕ)) (k : ℕ) (u v : List ℕ) → ts ≡ us → t
 at ts us vs k u v e f g h = same_token ts k u v (ap (λ (t : List (List ℕ)). slice_get t k) e ∙ g) (ap (λ (t : List (List ℕ)). slice_get t k) f ∙ h)
 
 same_register : (u v : List ℕ) (d e : ℕ) → u ≡ v → IsRegister X86 u d → IsRegister X86 v e → d ≡ e
-same_register u v d e s h k = register_unique v d e (subst (λ (w : List ℕ). IsRegister X86 w d) s h) k
+same_register u v d e s h k = register_unique X86 v d e (subst (λ (w : List ℕ). IsRegister X86 w d) s h) k
 
 same_value : (ts us vs : List (List ℕ)) (k : ℕ) (v w : Operand) → drop k ts ≡ us → drop k ts ≡ vs → IsValue us v → IsValue vs w → v ≡ w
 same_value ts us vs k v w e f h g = value_unique (drop k ts) v w (subst (λ (t : List (List ℕ)). IsValue t v) (sym e) h) (subst (λ (t : List (List ℕ)). IsValue t w) (sym f) g)

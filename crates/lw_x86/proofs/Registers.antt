@@ -1,41 +1,17 @@
 -- The names of x86's registers.
-use Rattle.std.proofs.Common.{◌≡◌, ℕ, zero, suc, ◌<◌, ◌≤◌, true, List, [], ◌∷◌, Some, None, Option, inl, inr, length, map, refl, sym, ap, ◌∙◌, subst, arith}
-use Rattle.std.specs.Prelude.{if◌then◌else◌, codes}
+use Rattle.std.proofs.Common.{◌≡◌, ℕ, zero, suc, ◌<◌, ◌≤◌, true, List, [], ◌∷◌, inl, inr, length, map, refl, sym, ap, ◌∙◌, subst, arith}
+use Rattle.std.specs.Prelude.{codes}
 use Rattle.std.specs.Char.{is_ascii_digit, to_ascii_lowercase}
-use Rattle.std.specs.Str.{bytes_eq}
 use Rattle.lw_base.specs.declared.head.Arch.TheVariants.{X86}
 use Rattle.lw_base.specs.declared.operand.Operand.{Operand}
 use Rattle.lw_base.specs.declared.operand.Operand.TheVariants.{Register, Number}
 use Rattle.lw_base.specs.Characters.{begins}
 use Rattle.lw_base.specs.Registers.{IsRegister, register_name, without_case}
+use Rattle.lw_base.proofs.Registers.{register_unique}
 use Rattle.lw_text.specs.Tokens.{IsNumber}
 use Rattle.lw_text.proofs.Atoms.{number-unique}
 use Rattle.lw_cells.proofs.TokenRows.{number_first}
 use Rattle.lw_x86.specs.Instructions.{IsValue}
-
--- the register of a word in small letters
-abbrev spelled : List ℕ → Option ℕ
-spelled w =
-    if bytes_eq w (codes "eax") then Some 0
-    else (if bytes_eq w (codes "ebx") then Some 1
-    else (if bytes_eq w (codes "ecx") then Some 2
-    else (if bytes_eq w (codes "edx") then Some 3
-    else (if bytes_eq w (codes "esi") then Some 4
-    else (if bytes_eq w (codes "edi") then Some 5 else None)))))
-
-spelled_name : (r : ℕ) → r < 6 → spelled (without_case X86 (register_name X86 r)) ≡ Some r
-spelled_name zero h = refl
-spelled_name (suc zero) h = refl
-spelled_name (suc (suc zero)) h = refl
-spelled_name (suc (suc (suc zero))) h = refl
-spelled_name (suc (suc (suc (suc zero)))) h = refl
-spelled_name (suc (suc (suc (suc (suc zero))))) h = refl
-spelled_name (suc (suc (suc (suc (suc (suc r)))))) h = absurd (omega arith)
-
-pub register_unique : (w : List ℕ) (r q : ℕ) → IsRegister X86 w r → IsRegister X86 w q → r ≡ q
-register_unique w r q h k =
-    let e : Some r ≡ Some q = sym (spelled_name r h.0) ∙ ap spelled (h.1 ∙ sym k.1) ∙ spelled_name q k.0 in
-    cc
 
 -- every name begins with an E
 begins_with_e : (r : ℕ) → r < 6 → (more : List ℕ) × (without_case X86 (register_name X86 r) ≡ 101 ∷ more)
@@ -75,7 +51,7 @@ double a b c d e = cc
 pub value_unique : (ts : List (List ℕ)) (o p : Operand) → IsValue ts o → IsValue ts p → o ≡ p
 value_unique ts (Register r) (Register q) h k =
     let e = single h.0 k.0 (sym h.1 ∙ k.1) in
-    ap Register (register_unique k.0 r q (subst (λ w. IsRegister X86 w r) e h.2) k.2)
+    ap Register (register_unique X86 k.0 r q (subst (λ w. IsRegister X86 w r) e h.2) k.2)
 value_unique ts (Register r) (Number n) h (w, inl e, num) =
     let f = single h.0 w (sym h.1 ∙ e) in
     absurd (register_number w r n (subst (λ u. IsRegister X86 u r) f h.2) num)

@@ -5,3 +5,4 @@ pub mod Drafts
 pub mod Readings
 pub mod Views
 pub mod CanonicalTexts
+pub mod Texts

@@ -4,7 +4,10 @@ ghost use Rattle.std.specs.List.{AllByRecursion};
 ghost use Rattle.std.specs.String.{string_bytes};
 ghost use Rattle.lw_base.specs.WellFormed.{IsSeen};
 ghost use Rattle.lw_cells.specs.Tests.{test_of};
+ghost use Rattle.lw_base.specs.declared.limits.TheConstants.{MAX_TEXT_BYTES};
 ghost use Rattle.lw_x86.specs.CanonicalTexts.{header_text, element_text, listed_text, canonical_text};
+ghost use Rattle.lw_x86.specs.Programs.{ProgramTest, IsWellFormedProgram};
+ghost use Rattle.lw_x86.specs.Texts.{IsTextOf};
 
 use crate::block::write_block;
 use crate::program::Program;
@@ -17,7 +20,10 @@ pub fn write_program<A: Allocator + Copy, B: Allocator>(
     alloc: A,
     program: &Program<B>,
 ) -> Result<Text<A>, AllocError>
-    ensures { IfOk result (λ text. text ≡ canonical_text (test_of program.now.head program.now.threads)) }
+    ensures text { IfOk result (λ text. text ≡ canonical_text (test_of program.now.head program.now.threads)) }
+    // It can be read: it is short enough, and the program is what it says.
+    ensures short { IfOk result (λ text. length text ≤ MAX_TEXT_BYTES) }
+    ensures reads_back { IfOk result (λ text. IsTextOf text (test_of program.now.head program.now.threads)) }
 {
     let head = &program.head;
     let mut out = String::new(alloc);
@@ -30,6 +36,11 @@ pub fn write_program<A: Allocator + Copy, B: Allocator>(
     writeln!(out, "{}", condition.as_str())?;
     Ok(Text::from(out))
 }
+
+/// The canonical text of a test reads back as the same test.
+pub fn a_canonical_text_reads_back()
+    ensures { (p : ProgramTest) → IsWellFormedProgram p → IsTextOf (canonical_text p) p }
+{}
 
 /// The line of the threads' names.
 fn write_header<A: Allocator>(out: &mut String<A>, threads: usize) -> Result<(), AllocError>

@@ -2,7 +2,7 @@
 //!
 //! It names lw_base, lw_cells, and of lw_text the frame. What it reads and writes is said by
 //! docs/FORMAT.md. The promise that the crates above use: a `Program` is the test of its frame, and
-//! its canonical text is what `specs/CanonicalTexts.antt` says.
+//! its canonical text is what `specs/CanonicalTexts.antt` says, and reads back as the same program.
 #![tactic(auto)]
 
 mod access;
@@ -17,7 +17,7 @@ mod program;
 mod read;
 mod rows;
 
-pub use canonical::write_program;
+pub use canonical::{a_canonical_text_reads_back, write_program};
 pub use instr::{Instr, MAX_INSTRUCTIONS};
 pub use program::Program;
-pub use read::{a_frame_has_one_program, read_program};
+pub use read::{a_frame_has_one_program, a_text_has_one_program, read_program};

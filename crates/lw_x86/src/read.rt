@@ -1,5 +1,6 @@
 //! Reads an x86 test from its frame.
 ghost use Rattle.std.specs.Prelude.{◌≡◌, ◌≤◌, IfOk, IfErr};
+ghost use Rattle.lw_base.specs.Types.{Bytes};
 ghost use Rattle.lw_base.specs.Refusals.{NotFound};
 ghost use Rattle.lw_base.specs.declared.head.Arch.TheVariants as arch;
 ghost use Rattle.lw_base.specs.declared.fault.CellCause.TheVariants.{Memory};
@@ -7,6 +8,7 @@ ghost use Rattle.lw_text.specs.Frames.{TestFrame};
 ghost use Rattle.lw_text.specs.Views.{frame_of};
 ghost use Rattle.lw_cells.specs.Faults.{Tells};
 ghost use Rattle.lw_x86.specs.Programs.{ProgramTest, HasProgram, x86};
+ghost use Rattle.lw_x86.specs.Texts.{IsTextOf};
 ghost use Rattle.lw_x86.specs.Views.{program_of};
 
 use crate::program::Program;
@@ -41,4 +43,9 @@ pub fn read_program<A: Allocator + Copy>(
 /// A frame has at most one x86 test.
 pub fn a_frame_has_one_program()
     ensures { (frame : TestFrame) (p q : ProgramTest) → HasProgram frame p → HasProgram frame q → p ≡ q }
+{}
+
+/// A text says at most one x86 test.
+pub fn a_text_has_one_program()
+    ensures { (text : Bytes) (p q : ProgramTest) → IsTextOf text p → IsTextOf text q → p ≡ q }
 {}

@@ -1,0 +1,156 @@
+-- The head of a test as it is printed: what its text says is the head again.
+use Rattle.std.proofs.Common.{◌≡◌, ℕ, zero, suc, ◌+◌, ◌<◌, ◌||◌, ◌⊎◌, inl, inr, Bool, true, false, List, [], ◌∷◌, ◌++◌, map, length, refl, sym, ap, ◌∙◌, arith}
+use Rattle.std.specs.Prelude.{◌==◌, if◌then◌else◌, filter, fold, slice_index_or}
+use Rattle.std.specs.List.{AllByRecursion, list_any, range_with_len}
+use Rattle.std.proofs.lemmas.Bool.{eqb-true, or_cases, or_right}
+use Rattle.std.proofs.lemmas.List.{map-append}
+use Rattle.std.proofs.lemmas.List.FromFn.{fill_by_all}
+use Rattle.std.proofs.lemmas.List.Elements.{filter_map-append, filter_agree}
+use Rattle.lw_base.specs.Types.{NameTable}
+use Rattle.lw_base.specs.declared.head.Seen.{Seen}
+use Rattle.lw_base.specs.declared.head.Seen.TheVariants.{Register, Location}
+use Rattle.lw_base.specs.Heads.{TestHead}
+use Rattle.lw_base.specs.Tables.{with_names}
+use Rattle.lw_base.specs.WellFormed.{IsSeen, IsWellFormedHead}
+use Rattle.lw_base.proofs.Tables.{with_names-there, with_names-again}
+use Rattle.lw_base.proofs.GrowingTables.{with_names-append}
+use Rattle.lw_text.specs.Sites.{SiteSyntax, site_name, site_names, seen_in}
+use Rattle.lw_text.specs.Frames.{EntrySyntax, same_seen, word_of, registers_of, all_registers, locations, listed_in}
+use Rattle.lw_text.proofs.Elements.{all_filter, all_of_range, all_of_flat}
+use Rattle.lw_text.proofs.ListedAgain.{same_seen_is, has_seen, has_register, has_location, has_left, has_right, listed_again}
+use Rattle.lw_text.proofs.ConditionTokens.{named_site, IsPrintable, sites_in_table, seen_again}
+use Rattle.lw_x86.specs.CanonicalTexts.{initial_word}
+use Rattle.lw_x86.proofs.PrintedBlocks.{has_entry, entered, entry_of, entries_of, entered_seen}
+
+map_twice : {X Y Z : Type 0} (f : Y → Z) (g : X → Y) (xs : List X) → map f (map g xs) ≡ map (λ x. f (g x)) xs
+map_twice f g [] = refl
+map_twice f g (x ∷ xs) = let e = map_twice f g xs in cc
+
+module _ (head : TestHead) (well : IsWellFormedHead head) where
+  -- ---- the table
+
+  sites_are : (ss : List Seen) → map (λ e. e.site) (map (entry_of head) ss) ≡ map (named_site head.locs) ss
+  sites_are [] = refl
+  sites_are (s ∷ ss) = ap (λ (l : List SiteSyntax). named_site head.locs s ∷ l) (sites_are ss)
+
+  abbrev InNoMemory : Seen → Type 0
+  InNoMemory (Register t r) = Unit {0}
+  InNoMemory (Location x) = ⊥
+
+  no_names : (ss : List Seen) → AllByRecursion InNoMemory ss → site_names (map (named_site head.locs) ss) ≡ []
+  no_names [] h = refl
+  no_names (Register t r ∷ ss) h = no_names ss h.1
+  no_names (Location x ∷ ss) h = absurd h.0
+
+  location_names : (a n : ℕ) → site_names (map (named_site head.locs) (map (λ x. Location x) (range_with_len a n))) ≡ map (λ x. slice_index_or head.locs x []) (range_with_len a n)
+  location_names a zero = refl
+  location_names a (suc n) = ap (λ (l : NameTable). slice_index_or head.locs a [] ∷ l) (location_names (a + 1) n)
+
+  entered_names : site_names (map (λ e. e.site) (entries_of head)) ≡ head.locs
+  entered_names =
+      let registers = filter (has_entry head) (all_registers head.threads) in
+      let all = locations (length head.locs) in
+      let none = no_names registers (all_filter InNoMemory (has_entry head) (all_registers head.threads) (all_of_flat InNoMemory registers_of 0 head.threads (λ t le lt. all_of_range InNoMemory (λ r. Register t r) 0 6 (λ r le2 lt2. tt)))) in
+      ap site_names (sites_are (entered head) ∙ map-append (named_site head.locs) registers all)
+      ∙ filter_map-append site_name (map (named_site head.locs) registers) (map (named_site head.locs) all)
+      ∙ ap (λ (l : NameTable). l ++ site_names (map (named_site head.locs) all)) none
+      ∙ location_names 0 (length head.locs)
+      ∙ sym (fill_by_all (λ x. slice_index_or head.locs x []) head.locs (length head.locs) [] refl (λ k lt. refl))
+
+  pub table_again : (more : List SiteSyntax) → AllByRecursion (IsPrintable head.threads head.locs) more → with_names [] (site_names (map (λ e. e.site) (entries_of head) ++ more)) ≡ head.locs
+  table_again more h =
+      ap (with_names []) (filter_map-append site_name (map (λ e. e.site) (entries_of head)) more ∙ ap (λ (l : NameTable). l ++ site_names more) entered_names)
+      ∙ with_names-append [] head.locs (site_names more)
+      ∙ ap (λ (t : NameTable). with_names t (site_names more)) (with_names-again head.locs well.table.once)
+      ∙ with_names-there head.locs (site_names more) (sites_in_table head.threads head.locs more h)
+
+  -- ---- the words at the start
+
+  same_again : (x : Seen) → IsSeen head.threads (length head.locs) x → (s : Seen) → same_seen (seen_in head.locs (named_site head.locs x)) s ≡ same_seen x s
+  same_again x h s = ap (λ (y : Seen). same_seen y s) (seen_again head.threads head.locs well.table.once x h)
+
+  abbrev last_word : Seen → ℕ → List EntrySyntax → ℕ
+  last_word s w entries = fold (λ v e. if same_seen (seen_in head.locs e.site) s then e.word else v) w entries
+
+  abbrev word_if : Bool → Seen → ℕ → ℕ
+  word_if b s w = if b then initial_word head s else w
+
+  words_step : (ss : List Seen) (s : Seen) (w : ℕ) → AllByRecursion (IsSeen head.threads (length head.locs)) ss → last_word s w (map (entry_of head) ss) ≡ word_if (has_seen ss s) s w
+  words_step [] s w h = refl
+  words_step (x ∷ ss) s w h =
+      ap (λ (b : Bool). last_word s (word_if b x w) (map (entry_of head) ss)) (same_again x h.0 s)
+      ∙ go (same_seen x s) refl (words_step ss s (initial_word head s) h.1) (words_step ss s w h.1)
+    where
+      go : (b : Bool) → same_seen x s ≡ b
+          → last_word s (initial_word head s) (map (entry_of head) ss) ≡ word_if (has_seen ss s) s (initial_word head s)
+          → last_word s w (map (entry_of head) ss) ≡ word_if (has_seen ss s) s w
+          → last_word s (word_if (same_seen x s) x w) (map (entry_of head) ss) ≡ word_if (has_seen (x ∷ ss) s) s w
+      go true e now later =
+          ap (λ (b : Bool). last_word s (word_if b x w) (map (entry_of head) ss)) e
+          ∙ ap (λ (y : Seen). last_word s (initial_word head y) (map (entry_of head) ss)) (same_seen_is x s e)
+          ∙ now ∙ either (has_seen ss s) ∙ sym (ap (λ (b : Bool). word_if (b || has_seen ss s) s w) e)
+        where
+          either : (b : Bool) → word_if b s (initial_word head s) ≡ initial_word head s
+          either true = refl
+          either false = refl
+      go false e now later =
+          ap (λ (b : Bool). last_word s (word_if b x w) (map (entry_of head) ss)) e ∙ later ∙ sym (ap (λ (b : Bool). word_if (b || has_seen ss s) s w) e)
+
+  -- one whose word is not 0 has an entry
+  has_filtered : (p : Seen → Bool) (ss : List Seen) (s : Seen) → p s ≡ true → has_seen ss s ≡ true → has_seen (filter p ss) s ≡ true
+  has_filtered p [] s h k = k
+  has_filtered p (x ∷ ss) s h k = go (p x) refl (has_filtered p ss s h)
+    where
+      go : (b : Bool) → p x ≡ b → (has_seen ss s ≡ true → has_seen (filter p ss) s ≡ true) → has_seen (filter p (x ∷ ss)) s ≡ true
+      go true e rest = rw e (elim (or_cases (same_seen x s) (has_seen ss s) k) [ inl f ↦ rw f refl | inr g ↦ or_right (same_seen x s) (has_seen (filter p ss) s) (rest g) ])
+      go false e rest =
+          rw e (elim (or_cases (same_seen x s) (has_seen ss s) k) [
+            | inl f ↦ absurd (let g : p x ≡ p s = ap p (same_seen_is x s f) in cc)
+            | inr g ↦ rest g
+          ])
+
+  words_if : (s : Seen) (b : Bool) → (initial_word head s ≡ 0) ⊎ (b ≡ true) → word_if b s 0 ≡ initial_word head s
+  words_if s true h = refl
+  words_if s false (inl e) = sym e
+  words_if s false (inr e) = absurd cc
+
+  pub register_again : (t r : ℕ) → t < head.threads → r < 6 → word_of head.locs (entries_of head) (Register t r) ≡ initial_word head (Register t r)
+  register_again t r h k =
+      words_step (entered head) (Register t r) 0 (entered_seen head well) ∙ words_if (Register t r) (has_seen (entered head) (Register t r)) (there (initial_word head (Register t r) == 0) refl)
+    where
+      there : (b : Bool) → (initial_word head (Register t r) == 0) ≡ b → (initial_word head (Register t r) ≡ 0) ⊎ (has_seen (entered head) (Register t r) ≡ true)
+      there true e = inl (eqb-true (initial_word head (Register t r)) 0 e)
+      there false e =
+          let entry : has_entry head (Register t r) ≡ true = rw e refl in
+          inr (has_left (filter (has_entry head) (all_registers head.threads)) (locations (length head.locs)) (Register t r) (has_filtered (has_entry head) (all_registers head.threads) (Register t r) entry (has_register head.threads t r h k)))
+
+  pub location_again : (x : ℕ) → x < length head.locs → word_of head.locs (entries_of head) (Location x) ≡ initial_word head (Location x)
+  location_again x h =
+      words_step (entered head) (Location x) 0 (entered_seen head well)
+      ∙ words_if (Location x) (has_seen (entered head) (Location x)) (inr (has_right (filter (has_entry head) (all_registers head.threads)) (locations (length head.locs)) (Location x) (has_location (length head.locs) x h)))
+
+  row_long : (rows : List (List ℕ)) (t : ℕ) → t < length rows → AllByRecursion (λ row. length row ≡ 6) rows → length (slice_index_or rows t []) ≡ 6
+  row_long [] t lt h = absurd (omega arith)
+  row_long (row ∷ rows) zero lt h = h.0
+  row_long (row ∷ rows) (suc t) lt h = row_long rows t (omega (arith, lt)) h.1
+
+  pub registers_again : map (λ t. map (word_of head.locs (entries_of head)) (registers_of t)) (range_with_len 0 head.threads) ≡ head.init_regs
+  registers_again =
+      sym (fill_by_all (λ t. map (word_of head.locs (entries_of head)) (registers_of t)) head.init_regs head.threads [] well.regs
+      (λ t lt. fill_by_all (λ r. word_of head.locs (entries_of head) (Register t r)) (slice_index_or head.init_regs t []) 6 0 (row_long head.init_regs t (omega (arith, lt, well.regs)) well.six) (λ r k. sym (register_again t r lt k))))
+
+  pub words_again : map (word_of head.locs (entries_of head)) (locations (length head.locs)) ≡ head.init_words
+  words_again =
+      map_twice (word_of head.locs (entries_of head)) (λ x. Location x) (range_with_len 0 (length head.locs))
+      ∙ sym (fill_by_all (λ x. word_of head.locs (entries_of head) (Location x)) head.init_words (length head.locs) 0 well.words (λ x lt. sym (location_again x lt)))
+
+  -- ---- what is listed
+
+  listed_agrees : (ss : List Seen) → AllByRecursion (IsSeen head.threads (length head.locs)) ss → (s : Seen) → list_any (λ site. same_seen (seen_in head.locs site) s) (map (named_site head.locs) ss) ≡ has_seen ss s
+  listed_agrees [] h s = refl
+  listed_agrees (x ∷ ss) h s = rw (same_again x h.0 s, listed_agrees ss h.1 s) refl
+
+  pub list_again : listed_in head.threads head.locs (map (named_site head.locs) head.listed) ≡ head.listed
+  list_again =
+      filter_agree _ (has_seen head.listed) (listed_agrees head.listed well.there) (all_registers head.threads ++ locations (length head.locs))
+      ∙ listed_again head.threads (length head.locs) head.listed well.ascending well.there

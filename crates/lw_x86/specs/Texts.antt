@@ -1,0 +1,10 @@
+-- What a text says as an x86 test.
+use Rattle.lw_base.specs.Types.{Bytes}
+use Rattle.lw_text.specs.Frames.{TestFrame, HasFrame}
+use Rattle.lw_x86.specs.Programs.{ProgramTest, HasProgram}
+
+-- The text is a frame's, and the frame's cells say the program.
+pub record IsTextOf (text : Bytes) (program : ProgramTest) : Type 0 where
+  pub frame : TestFrame
+  pub framed : HasFrame text frame
+  pub says : HasProgram frame program
