@@ -107,7 +107,8 @@ impl<'a, M: MemorySystem, A: Allocator, B: Allocator> Machine<'a, M, A, B> {
     /// An entry of a processor's store buffer, counted from the oldest.
     pub fn entry(&self, cpu: Cpu, place: usize) -> (Loc, Word)
         requires { place < length (buffer_of self.now.state cpu) }
-        ensures { slice_get (buffer_of self.now.state cpu) place ≡ Some result }
+        ensures entry { slice_get (buffer_of self.now.state cpu) place ≡ Some result }
+        ensures location { result.0 < length (M.content self.now.state.memory) }
     {
         self.processors[cpu.index()].buffer.entry(place)
     }
