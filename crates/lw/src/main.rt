@@ -1,10 +1,11 @@
-//! The program: `lw replay SCHEDULE` replays the test on standard input. Everything but the system's
+//! The program: `lw replay SCHEDULE`, perhaps with `--protocol mesi` or `--protocol moesi` behind it, replays the test
+//! on standard input. Everything but the system's
 //! words and streams is lw_bench's.
 #![tactic(auto)]
 
 use lw_bench::{
-    BenchFault, End, FromRead, Task, ToWrite, command_of, exit_status, fault_line, memory_line,
-    replay_text, status_of, usage_line, usage_status,
+    BenchFault, End, FromRead, Protocol, Task, ToWrite, command_of, exit_status, fault_line,
+    memory_line, replay_text, status_of, usage_line, usage_status,
 };
 use std::alloc::Global;
 use std::process::ExitCode;
@@ -41,7 +42,7 @@ fn run_words(rt: &HostRuntime, words: &[String]) -> u8 {
     match texts_of(rt.alloc(), words) {
         Err(fault) => end(rt, &Err(fault)),
         Ok(texts) => match command_of(&texts) {
-            Some(Task::Replay(schedule)) => end(rt, &replay(rt, schedule)),
+            Some(Task::Replay(schedule, protocol)) => end(rt, &replay(rt, schedule, protocol)),
             None => {
                 complain(rt, usage_line());
                 usage_status()
@@ -60,10 +61,10 @@ fn texts_of(alloc: Global, words: &[String]) -> Result<Vec<&str>, BenchFault> {
 }
 
 /// Replays the test on standard input, and prints the page on standard output.
-fn replay(rt: &HostRuntime, schedule: &str) -> Result<End, BenchFault> {
+fn replay(rt: &HostRuntime, schedule: &str, protocol: Protocol) -> Result<End, BenchFault> {
     let mut reader = FromRead::new(rt.stdin());
     let mut writer = ToWrite::new(rt.stdout());
-    replay_text(rt.alloc(), &mut reader, schedule, &mut writer)
+    replay_text(rt.alloc(), &mut reader, schedule, protocol, &mut writer)
 }
 
 /// Tells of a fault, if there is one, and answers the exit status. Where memory runs out for the fault's line, that is told.

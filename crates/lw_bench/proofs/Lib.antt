@@ -1,5 +1,7 @@
+pub mod Commands
 pub mod Devices
 pub mod DeviceFaults
+pub mod LitmusTests
 pub mod Pages
 pub mod Replays
 pub mod Told

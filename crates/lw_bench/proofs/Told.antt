@@ -1,5 +1,5 @@
 -- What a refused run tells: from what the readers promise, and from the bytes that were read to the whole input.
-use Rattle.std.proofs.Common.{◌≡◌, ◌≢◌, ◌≤◌, ◌<◌, ◌⊎◌, inl, inr, Bool, true, false, ℕ, Option, Some, None, List, [], ◌++◌, length, sym, ap, ◌∙◌, subst, length-append, refl, if◌then◌else◌, arith}
+use Rattle.std.proofs.Common.{◌≡◌, ◌≢◌, ◌⊎◌, inl, inr, Bool, true, false, ℕ, Option, Some, None, List, [], ◌++◌, length, sym, ap, ◌∙◌, subst, length-append, if◌then◌else◌, arith}
 use Rattle.std.proofs.lemmas.List.{append-nil}
 use Rattle.lw_base.specs.declared.fault.CellCause.{CellCause}
 use Rattle.lw_base.specs.declared.fault.CellCause.TheVariants as cell
@@ -10,15 +10,12 @@ use Rattle.lw_base.specs.declared.fault.ScheduleFault.{ScheduleFault}
 use Rattle.lw_text.specs.declared.fault.TextCause.{TextCause}
 use Rattle.lw_text.specs.declared.fault.TextCause.TheVariants as text
 use Rattle.lw_text.specs.declared.fault.TextFault.{TextFault}
-use Rattle.lw_text.specs.Frames.{TestFrame, HasFrame}
-use Rattle.lw_source.specs.Sources.{SourceTest}
 use Rattle.lw_bench.specs.declared.fault.BenchFault.{BenchFault}
 use Rattle.lw_bench.specs.declared.fault.BenchFault.TheVariants.{Text, Cell, Schedule, Memory, Read, Write}
 use Rattle.lw_bench.specs.Devices.{IsInput}
 use Rattle.lw_bench.specs.Faults.{text_fault, told_text, cell_fault, told_cell, schedule_fault, told_schedule}
-use Rattle.lw_bench.specs.Replays.{HasTest}
 use Rattle.lw_bench.specs.Told.{TellsText, TellsCell, TellsSchedule, TellsTest, TellsReplay, TellsInput, IsNoDevice}
-use Rattle.lw_bench.proofs.Replays.{whole, in_whole}
+use Rattle.lw_bench.proofs.Replays.{whole}
 
 -- A fault that is told as it is, unless memory ran out.
 module _ (P : BenchFault → Type 0) (memory : P Memory) where

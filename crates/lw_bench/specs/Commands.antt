@@ -1,9 +1,21 @@
 -- The words of a command.
-use Rattle.std.specs.Prelude.{ℕ, List, [], ◌∷◌, codes}
+use Rattle.std.specs.Prelude.{◌≡◌, ◌⊎◌, List, [], ◌∷◌, codes}
 use Rattle.lw_base.specs.Types.{Bytes}
+use Rattle.lw_mesi.specs.declared.protocol.Protocol.{Protocol}
+use Rattle.lw_mesi.specs.declared.protocol.Protocol.TheVariants.{Mesi, Moesi}
 use Rattle.lw_bench.specs.declared.command.Task.{Task}
 use Rattle.lw_bench.specs.declared.command.Task.TheVariants.{Replay}
 
--- the words that give a task: `replay` and a schedule
-abbrev pub words_of : Task → List Bytes
-words_of (Replay schedule) = codes "replay" ∷ schedule.now ∷ []
+abbrev pub protocol_word : Protocol → Bytes
+protocol_word Mesi = codes "mesi"
+protocol_word Moesi = codes "moesi"
+
+-- `--protocol` and the protocol's word, or nothing for MESI
+abbrev pub IsProtocolOption : List Bytes → Protocol → Type 0
+IsProtocolOption words protocol =
+    (words ≡ codes "--protocol" ∷ protocol_word protocol ∷ []) ⊎ ((words ≡ []) × (protocol ≡ Mesi))
+
+-- `replay`, a schedule, and perhaps the option
+abbrev pub IsCommand : List Bytes → Task → Type 0
+IsCommand words (Replay schedule protocol) =
+    (option : List Bytes) × (words ≡ codes "replay" ∷ schedule.now ∷ option) × IsProtocolOption option protocol

@@ -1,5 +1,5 @@
 -- How people are told why a run is refused, or how it ended: a line and an exit status.
-use Rattle.std.specs.Prelude.{ℕ, List, ◌++◌, codes, Result, Ok, Err}
+use Rattle.std.specs.Prelude.{ℕ, ◌++◌, codes, Result, Ok, Err}
 use Rattle.std.specs.Fmt.{decimal}
 use Rattle.lw_base.specs.Types.{Bytes}
 use Rattle.lw_base.specs.Faults.{cell_cause_number, cell_cause_name, schedule_cause_number, schedule_cause_name}

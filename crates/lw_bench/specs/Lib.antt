@@ -1,5 +1,6 @@
 pub mod Faults
 pub mod Devices
+pub mod LitmusTests
 pub mod Pages
 pub mod Replays
 pub mod Told

@@ -1,58 +1,109 @@
 -- What is told of a replay: the test's name, the events carried out, how it ended, and the state
 -- that it led to. The source is the format of the workbench, docs/FORMAT.md.
-use Rattle.std.specs.Prelude.{ℕ, zero, suc, List, [], ◌∷◌, ◌++◌, codes, slice_index}
-use Rattle.std.specs.List.{flat_map}
+use Rattle.std.specs.Prelude.{ℕ, suc, List, [], ◌∷◌, ◌++◌, map, codes, slice_index, slice_index_or}
+use Rattle.std.specs.List.{range_with_len}
 use Rattle.std.specs.Fmt.{decimal}
 use Rattle.lw_base.specs.Types.{Bytes, NameTable}
-use Rattle.lw_base.specs.Characters.{byte}
 use Rattle.lw_base.specs.ConditionTexts.{assignment}
 use Rattle.lw_base.specs.declared.head.Arch.{Arch}
+use Rattle.lw_base.specs.declared.limits.TheConstants.{REGISTERS}
 use Rattle.lw_base.specs.declared.stop.End.{End}
 use Rattle.lw_base.specs.declared.stop.End.TheVariants.{Final, NotFinal, Stopped}
 use Rattle.lw_base.specs.declared.stop.Replay.{Replay}
 use Rattle.lw_base.specs.Heads.{TestHead}
 use Rattle.lw_base.specs.Registers.{register_name}
 use Rattle.lw_base.specs.Stops.{stop_number, stop_name}
-use Rattle.lw_source.specs.declared.thread.Thread.{Thread}
+use Rattle.lw_memory.specs.declared.system.LineState.{LineState}
+use Rattle.lw_memory.specs.declared.system.LineState.TheVariants.{M, O, E, S, I}
 use Rattle.lw_source.specs.Runs.{State}
+use Rattle.lw_tso.specs.Processors.{Processor}
 
--- each part behind a space
-abbrev pub spaced : List Bytes → Bytes
-spaced parts = flat_map (λ part. byte " " ∷ part) parts
+-- what is told of each of a list, by its number from k on
+abbrev pub numbered : {X : Type 0} → (ℕ → X → Bytes) → ℕ → List X → Bytes
+numbered tell k [] = []
+numbered tell k (x ∷ xs) = tell k x ++ numbered tell (suc k) xs
 
--- a first word, the parts behind it, and the line's end
-abbrev pub line : Bytes → List Bytes → Bytes
-line first parts = first ++ (spaced parts ++ byte "\n" ∷ [])
+-- a name with what is told of its number, behind a space
+abbrev pub named : (ℕ → Bytes) → ℕ → Bytes → Bytes
+named tell k name = codes " " ++ (name ++ (codes "=" ++ tell k))
 
--- the first registers of a thread, so many of them
-abbrev pub register_parts : Arch → List ℕ → ℕ → List Bytes
-register_parts arch regs zero = []
-register_parts arch regs (suc n) = register_parts arch regs n ++ assignment (register_name arch n) (slice_index regs n) ∷ []
-
-abbrev pub thread_line : Arch → ℕ → Thread → Bytes
-thread_line arch t th = line (codes "P" ++ decimal t) (codes "at" ∷ decimal th.position ∷ register_parts arch th.regs 6)
-
--- the lines of threads, numbered from t on
-abbrev pub thread_lines : Arch → ℕ → List Thread → Bytes
-thread_lines arch t [] = []
-thread_lines arch t (th ∷ ths) = thread_line arch t th ++ thread_lines arch (suc t) ths
-
--- each location with its word
-abbrev pub memory_parts : NameTable → List ℕ → List Bytes
-memory_parts [] words = []
-memory_parts (n ∷ names) [] = []
-memory_parts (n ∷ names) (w ∷ words) = assignment n w ∷ memory_parts names words
+-- the word of a number, of these
+abbrev pub word_at : List ℕ → ℕ → Bytes
+word_at words k = decimal (slice_index words k)
 
 -- `Final`, `NotFinal`, or `Stopped at k by c Name`
-abbrev pub end_parts : ℕ → End → List Bytes
-end_parts done Final = codes "Final" ∷ []
-end_parts done NotFinal = codes "NotFinal" ∷ []
-end_parts done (Stopped stop) = codes "Stopped" ∷ codes "at" ∷ decimal done ∷ codes "by" ∷ decimal (stop_number stop) ∷ stop_name stop ∷ []
+abbrev pub end_text : ℕ → End → Bytes
+end_text done Final = codes "Final"
+end_text done NotFinal = codes "NotFinal"
+end_text done (Stopped stop) =
+    codes "Stopped at " ++ (decimal done ++ (codes " by " ++ (decimal (stop_number stop) ++ (codes " " ++ stop_name stop))))
 
-abbrev pub replay_text : TestHead → Replay → State → Bytes
-replay_text head r s =
-    line (codes "Test") (head.name ∷ [])
-    ++ (line (codes "Steps") (decimal r.done ∷ [])
-    ++ (line (codes "End") (end_parts r.done r.end)
-    ++ (thread_lines head.arch 0 s.threads
-    ++ line (codes "Memory") (memory_parts head.locs s.words))))
+abbrev pub first_lines : TestHead → Replay → Bytes
+first_lines head r =
+    codes "Test " ++ (head.name
+    ++ (codes "\nSteps " ++ (decimal r.done
+    ++ (codes "\nEnd " ++ (end_text r.done r.end ++ codes "\n")))))
+
+-- a thread's line: its position, and its registers
+abbrev pub register_names : Arch → List Bytes
+register_names arch = map (register_name arch) (range_with_len 0 REGISTERS)
+
+abbrev pub thread_line : Arch → ℕ → ℕ → List ℕ → Bytes
+thread_line arch t position regs =
+    codes "P" ++ (decimal t ++ (codes " at " ++ (decimal position
+    ++ (numbered (named (word_at regs)) 0 (register_names arch) ++ codes "\n"))))
+
+-- a line of the locations, behind a title
+abbrev pub location_line : Bytes → (ℕ → Bytes) → NameTable → Bytes
+location_line title tell names = title ++ (numbered (named tell) 0 names ++ codes "\n")
+
+-- a line of words, one for each location
+abbrev pub word_line : Bytes → NameTable → List ℕ → Bytes
+word_line title names words = location_line title (word_at words) names
+
+-- ---- a source test
+
+abbrev pub source_page : TestHead → Replay → State → Bytes
+source_page head r s =
+    first_lines head r
+    ++ (numbered (λ t th. thread_line head.arch t th.position th.regs) 0 s.threads
+    ++ word_line (codes "Memory") head.locs s.words)
+
+-- ---- an x86 test
+
+-- the title of a processor's line
+abbrev pub processor_title : ℕ → Bytes → Bytes
+processor_title t word = codes "P" ++ (decimal t ++ word)
+
+-- an entry of a store buffer, and all entries, the oldest first
+abbrev pub entry_text : NameTable → ℕ → (ℕ × ℕ) → Bytes
+entry_text names k entry = codes " " ++ assignment (slice_index_or names entry.0 []) entry.1
+
+abbrev pub buffer_line : NameTable → ℕ → List (ℕ × ℕ) → Bytes
+buffer_line names t buffer =
+    processor_title t (codes " buffer" ++ (numbered (entry_text names) 0 buffer ++ codes "\n"))
+
+-- the letter of a cache line's state
+abbrev pub letter : LineState → Bytes
+letter M = codes "M"
+letter O = codes "O"
+letter E = codes "E"
+letter S = codes "S"
+letter I = codes "I"
+
+-- how a processor's cache holds each location
+abbrev pub cache_line : NameTable → ℕ → (ℕ → LineState) → Bytes
+cache_line names t held =
+    processor_title t (codes " lines" ++ (numbered (named (λ x. letter (held x))) 0 names ++ codes "\n"))
+
+-- the lines of a processor
+abbrev pub processor_lines : TestHead → (ℕ → ℕ → LineState) → ℕ → Processor → Bytes
+processor_lines head held t p =
+    thread_line head.arch t p.position p.regs ++ (buffer_line head.locs t p.buffer ++ cache_line head.locs t (held t))
+
+-- how each processor holds each location, the words in memory, and the content
+abbrev pub machine_page : TestHead → Replay → List Processor → (ℕ → ℕ → LineState) → List ℕ → List ℕ → Bytes
+machine_page head r processors held memory content =
+    first_lines head r
+    ++ (numbered (processor_lines head held) 0 processors
+    ++ (word_line (codes "Memory") head.locs memory ++ word_line (codes "Content") head.locs content))

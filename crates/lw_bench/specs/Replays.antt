@@ -7,35 +7,58 @@ use Rattle.lw_base.specs.declared.event.Event.{Event}
 use Rattle.lw_base.specs.declared.stop.End.{End}
 use Rattle.lw_base.specs.declared.stop.Replay.{Replay}
 use Rattle.lw_base.specs.Schedules.{IsSchedule}
-use Rattle.lw_text.specs.Frames.{TestFrame, HasFrame}
-use Rattle.lw_source.specs.Sources.{HasSource}
+use Rattle.lw_mesi.specs.declared.protocol.Protocol.{Protocol}
+use Rattle.lw_memory.specs.Memory.{Memory}
+use Rattle.lw_mesi.specs.CacheLines.{empty_caches, memory_words_of}
+use Rattle.lw_mesi.specs.ProtocolLaws.{caches_by}
 use Rattle.lw_source.specs.Runs.{State, start_of, Replayed}
 use Rattle.lw_source.specs.Sources.{SourceTest}
-use Rattle.lw_bench.specs.Pages.{replay_text}
+use Rattle.lw_tso.specs.Machines.{MachineState}
+use Rattle.lw_tso.specs.Runs.{machine_start, MachineReplayed}
+use Rattle.lw_x86.specs.Programs.{ProgramTest}
+use Rattle.lw_bench.specs.LitmusTests.{LitmusTest, Of_source, Of_x86, head_of_test, HasTest}
+use Rattle.lw_bench.specs.Pages.{source_page, machine_page}
 
--- The text is a frame, whose cells say the test.
-pub record HasTest (text : Bytes) (test : SourceTest) : Type 0 where
-  pub frame : TestFrame
-  pub has_frame : HasFrame text frame
-  pub has_source : HasSource frame test
-
--- The schedule is one of these events, and the page tells of the state that they lead to from the
--- test's start, or those before the first that is refused.
-pub record IsReplayPage (test : SourceTest) (schedule page : Bytes) (end : End) : Type 0 where
-  pub events : List Event
+-- The page tells of the state that the events lead to from a source test's start, on one memory, or those before the
+-- first that is refused.
+pub record SourcePage (test : SourceTest) (events : List Event) (page : Bytes) (end : End) : Type 0 where
   pub replay : Replay
   pub state : State
-  pub is_schedule : IsSchedule test.head.locs schedule events
   pub replayed : Replayed test.threads events (start_of test) replay state
   pub ended : replay.end ≡ end
-  pub told : page ≡ replay_text test.head replay state
+  pub told : page ≡ source_page test.head replay state
+
+-- The same of an x86 test, on the machine over the memory m. `words` tells the word of each location in memory, caches left out.
+pub record MachinePage
+    {M : Type 0} (mem : Memory M) (words : M → List ℕ) (test : ProgramTest) (m : M) (events : List Event) (page : Bytes) (end : End) : Type 0 where
+  pub replay : Replay
+  pub state : MachineState M
+  pub replayed : MachineReplayed mem test.threads events (machine_start test m) replay state
+  pub ended : replay.end ≡ end
+  pub told :
+      page ≡ machine_page test.head replay state.processors (mem.state state.memory) (words state.memory) (mem.content state.memory)
+
+-- The same over caches that keep a protocol, and hold nothing at the start.
+abbrev pub CachesPage : Protocol → ProgramTest → List Event → Bytes → End → Type 0
+CachesPage protocol test = MachinePage (caches_by protocol) memory_words_of test (empty_caches test.head.threads test.head.init_words)
+
+abbrev pub EventsTell : Protocol → LitmusTest → List Event → Bytes → End → Type 0
+EventsTell protocol (Of_source test) = SourcePage test
+EventsTell protocol (Of_x86 test) = CachesPage protocol test
+
+-- The schedule is one of these events, and the page tells of their replay.
+pub record IsReplayPage (protocol : Protocol) (test : LitmusTest) (schedule page : Bytes) (end : End) : Type 0 where
+  pub events : List Event
+  pub is_schedule : IsSchedule (head_of_test test).locs schedule events
+  pub tells : EventsTell protocol test events page end
 
 -- The text is a test, and the replay of it by the schedule tells this page.
-pub record Replays (text schedule page : Bytes) (end : End) : Type 0 where
-  pub test : SourceTest
+pub record Replays (protocol : Protocol) (text schedule page : Bytes) (end : End) : Type 0 where
+  pub test : LitmusTest
   pub has_test : HasTest text test
-  pub tells : IsReplayPage test schedule page end
+  pub tells : IsReplayPage protocol test schedule page end
 
 -- Where the bytes that come in and the bytes of the writer are known: the page of the replay was written.
-abbrev pub WritesPage : Option Bytes → Bytes → Option Bytes → Option Bytes → End → Type 0
-WritesPage known schedule before after end = IfSome known (λ text. (page : Bytes) × Replays text schedule page end × Appends before after page)
+abbrev pub WritesPage : Protocol → Option Bytes → Bytes → Option Bytes → Option Bytes → End → Type 0
+WritesPage protocol known schedule before after end =
+    IfSome known (λ text. (page : Bytes) × Replays protocol text schedule page end × Appends before after page)

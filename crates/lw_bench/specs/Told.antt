@@ -1,10 +1,10 @@
 -- What a refused run tells of its text, of a cell and of its schedule.
 -- Out of memory is told as Memory and as nothing else.
-use Rattle.std.specs.Prelude.{◌≡◌, ◌≢◌, ℕ, ◌<◌, ◌≤◌, Option, List, length}
+use Rattle.std.specs.Prelude.{◌≡◌, ◌≢◌, ◌<◌, ◌≤◌, Option, List, length}
 use Rattle.std.specs.Option.{IfSome}
 use Rattle.std.specs.Str.{IsUtf8, IsValidUpTo}
 use Rattle.std.specs.Str.Lossy.{utf8_valid_len}
-use Rattle.lw_base.specs.Types.{Bytes}
+use Rattle.lw_base.specs.Types.{Bytes, NameTable}
 use Rattle.lw_base.specs.declared.limits.TheConstants.{MAX_TEXT_BYTES}
 use Rattle.lw_base.specs.declared.fault.CellCause.TheVariants as cell
 use Rattle.lw_base.specs.declared.fault.CellFault.{CellFault}
@@ -13,14 +13,18 @@ use Rattle.lw_base.specs.declared.event.Event.{Event}
 use Rattle.lw_base.specs.Schedules.{IsSchedule, IsFirstFault}
 use Rattle.lw_text.specs.declared.fault.TextCause.TheVariants as text
 use Rattle.lw_text.specs.declared.fault.TextFault.{TextFault}
+use Rattle.lw_base.specs.declared.head.Arch.{Arch}
+use Rattle.lw_base.specs.declared.head.Arch.TheVariants.{Source, X86}
+use Rattle.lw_text.specs.declared.cell.Cell.{Cell as TextCell}
 use Rattle.lw_text.specs.declared.frame.Frame.{Frame}
 use Rattle.lw_text.specs.Frames.{TestFrame, HasFrame}
 use Rattle.lw_text.specs.Views.{frame_of, LiesIn}
 use Rattle.lw_cells.specs.Faults.{Tells}
-use Rattle.lw_source.specs.Sources.{SourceTest, HasSource, source}
+use Rattle.lw_source.specs.Sources.{source}
+use Rattle.lw_x86.specs.Programs.{x86}
 use Rattle.lw_bench.specs.declared.fault.BenchFault.{BenchFault}
 use Rattle.lw_bench.specs.declared.fault.BenchFault.TheVariants.{Text, Cell, Schedule, Memory, Read, Write}
-use Rattle.lw_bench.specs.Replays.{HasTest}
+use Rattle.lw_bench.specs.LitmusTests.{LitmusTest, head_of_test, FrameSays, HasTest}
 
 -- The text has no frame, and what its length and its UTF-8 say of the fault is so.
 pub record TellsText (bytes : Bytes) (f : TextFault) : Type 0 where
@@ -34,22 +38,27 @@ pub record TellsText (bytes : Bytes) (f : TextFault) : Type 0 where
       → (length bytes ≤ MAX_TEXT_BYTES) × (¬ IsUtf8 bytes) × IsValidUpTo bytes f.at
   pub in_memory : f.cause ≢ text.Memory
 
+-- What a language's rule of cells says of the place.
+abbrev pub TellsIn : {A : Type 0} → Arch → NameTable → List (List (TextCell A)) → CellFault → Type 0
+TellsIn Source = Tells source
+TellsIn X86 = Tells x86
+
 -- The text has a frame, whose cells are no test's, and what the cause says of the place is so.
 pub record TellsCell (A : Type 0) (bytes : Bytes) (f : CellFault) : Type 0 where
   pub frame : Frame A
   pub has_frame : HasFrame bytes (frame_of frame)
   pub lies : LiesIn bytes frame
-  pub none : (test : SourceTest) → HasSource (frame_of frame) test → ⊥
+  pub none : (test : LitmusTest) → FrameSays (frame_of frame) test → ⊥
   pub place : f.at ≤ length bytes
-  pub cause : Tells source frame.head.locs frame.cells f
+  pub cause : TellsIn frame.head.arch frame.head.locs frame.cells f
   pub in_memory : f.cause ≢ cell.Memory
 
 -- The text is a test, none of whose schedules this is: its first faulty word stands at the place, for this cause.
 pub record TellsSchedule (bytes schedule : Bytes) (f : ScheduleFault) : Type 0 where
-  pub test : SourceTest
+  pub test : LitmusTest
   pub has_test : HasTest bytes test
-  pub none : (events : List Event) → IsSchedule test.head.locs schedule events → ⊥
-  pub first : IsFirstFault test.head.locs schedule f.at f.cause
+  pub none : (events : List Event) → IsSchedule (head_of_test test).locs schedule events → ⊥
+  pub first : IsFirstFault (head_of_test test).locs schedule f.at f.cause
 
 -- not a device's failure
 abbrev pub IsNoDevice : BenchFault → Type 0

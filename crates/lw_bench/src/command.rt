@@ -2,24 +2,61 @@
 ghost use Rattle.std.specs.Prelude.{◌≡◌, MatchOption, map};
 ghost use Rattle.lw_base.specs.Refusals.{NoSuch};
 ghost use Rattle.lw_bench.specs.declared.command.Task.{Task};
-ghost use Rattle.lw_bench.specs.Commands.{words_of};
+ghost use Rattle.lw_bench.specs.Commands.{IsCommand, IsProtocolOption, protocol_word};
+
+use lw_mesi::Protocol;
 
 /// What is to be done.
 #[derive(Clone, Copy, Debug, PartialEq, Eq)]
 pub enum Task<'a> {
-    /// Run the test that is read by this schedule, and print the state that it leads to.
-    Replay(&'a str),
+    /// Run the test that is read by this schedule, an x86 test over caches that keep this protocol, and print the state
+    /// that it leads to.
+    Replay(&'a str, Protocol),
 }
 
-/// The task that the words after the program's name give: `replay` and a schedule, which may be
-/// empty. `None` for all other words. It takes no memory.
+/// The task that the words after the program's name give: `replay` and a schedule, which may be empty, and then nothing
+/// or `--protocol` and `mesi` or `moesi`. Without the option the protocol is MESI. `None` for all other words. It takes
+/// no memory.
 pub fn command_of<'a>(words: &[&'a str]) -> Option<Task<'a>>
     ensures { MatchOption result
-        (NoSuch (λ (task : Task). map (λ w. w.now) words.now ≡ words_of task))
-        (λ task. map (λ w. w.now) words.now ≡ words_of task) }
+        (NoSuch (IsCommand (map (λ w. w.now) words.now)))
+        (IsCommand (map (λ w. w.now) words.now)) }
 {
-    match words {
-        ["replay", schedule] => Some(Task::Replay(schedule)),
+    let [command, schedule, option @ ..] = words else {
+        return None;
+    };
+    if *command != "replay" {
+        return None;
+    }
+    let protocol = protocol_of(option)?;
+    Some(Task::Replay(schedule, protocol))
+}
+
+/// The protocol that the words behind the schedule give: MESI where there are none.
+fn protocol_of(option: &[&str]) -> Option<Protocol>
+    ensures { MatchOption result
+        (NoSuch (IsProtocolOption (map (λ w. w.now) option.now)))
+        (IsProtocolOption (map (λ w. w.now) option.now)) }
+{
+    if option.is_empty() {
+        return Some(Protocol::Mesi);
+    }
+    let [name, word] = option else {
+        return None;
+    };
+    if *name != "--protocol" {
+        return None;
+    }
+    protocol_named(word)
+}
+
+/// The protocol of this word.
+fn protocol_named(word: &str) -> Option<Protocol>
+    ensures { MatchOption result (NoSuch (λ p. protocol_word p ≡ word.now)) (λ p. protocol_word p ≡ word.now) }
+{
+    match word {
+        "mesi" => Some(Protocol::Mesi),
+        "moesi" => Some(Protocol::Moesi),
         _ => None,
     }
 }

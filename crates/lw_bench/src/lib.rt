@@ -1,13 +1,15 @@
 //! The runs of the workbench: from the bytes of a test to the bytes of what is told of it.
 //!
-//! It names lw_base, of lw_text the reading of frames and its faults, and of lw_source the reading of tests and their
-//! runs. Its tests, as all of the workbench's, stand in lw_tests.
+//! It names lw_base, of lw_text the reading of frames and its faults, of lw_source and lw_x86 the reading of tests, of
+//! lw_source their runs, and of lw_tso the machine, over the caches of lw_mesi, which are a memory system of lw_memory. Its
+//! tests, as all of the workbench's, stand in lw_tests.
 #![tactic(auto)]
 
 mod command;
 mod device;
 mod fault;
 mod input;
+mod litmus_test;
 mod output;
 mod page;
 mod replay;
@@ -18,5 +20,7 @@ pub use fault::{
     BenchFault, end_status, exit_status, fault_line, memory_line, status_of, usage_line,
     usage_status,
 };
+pub use litmus_test::a_text_has_one_test;
 pub use lw_base::End;
-pub use replay::{a_text_has_one_test, replay_text};
+pub use lw_mesi::Protocol;
+pub use replay::replay_text;

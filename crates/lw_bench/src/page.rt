@@ -1,17 +1,24 @@
 //! The text that tells of a replay.
-ghost use Rattle.std.specs.Prelude.{◌≡◌, ◌<◌, ◌≤◌, ◌++◌, Some, codes, length, slice_get, IfOk, OnOk};
+ghost use Rattle.std.specs.Prelude.{◌≡◌, ◌<◌, ◌≤◌, ◌++◌, ℕ, Some, codes, length, map, slice_get, slice_index, IfOk, OnOk};
 ghost use Rattle.std.specs.String.{string_bytes};
 ghost use Rattle.lw_base.specs.Heads.{head_of};
+ghost use Rattle.lw_base.specs.declared.limits.TheConstants.{REGISTERS};
 ghost use Rattle.lw_bench.specs.Pages as pages;
-ghost use Rattle.lw_bench.specs.Pages.{line, end_parts, memory_parts, thread_lines};
+ghost use Rattle.lw_bench.specs.Pages.{numbered, first_lines, word_line, buffer_line, cache_line, location_line, processor_lines};
 ghost use Rattle.lw_source.specs.declared.thread.Thread.{Thread};
+ghost use Rattle.lw_tso.specs.Machines.{buffer_of};
+ghost use Rattle.lw_tso.specs.Processors.{Processor};
 
-use lw_base::{Arch, Cpu, End, Head, Loc, LocNames, MAX_THREADS, Reg, Replay, reg_name};
+use lw_base::{
+    Arch, Cpu, End, Head, Loc, LocNames, MAX_THREADS, REGISTERS, Reg, Replay, Word, reg_name,
+};
+use lw_memory::{LineState, MemorySystem};
 use lw_source::SourceRun;
+use lw_tso::Machine;
 use std::alloc::{AllocError, Allocator};
 
-/// The text that tells of a replay and of the state that it led to.
-pub(crate) fn replay_page<A: Allocator + Copy>(
+/// The text that tells of a source test's replay and of the state that it led to.
+pub(crate) fn source_page<A: Allocator + Copy>(
     alloc: A,
     head: &Head<A>,
     run: &SourceRun<'_, A, A>,
@@ -20,29 +27,60 @@ pub(crate) fn replay_page<A: Allocator + Copy>(
     requires few { head.now.threads ≤ MAX_THREADS }
     requires threads { length run.now.state.threads ≡ head.now.threads }
     requires words { length run.now.state.words ≡ length head.now.locs }
-    ensures { IfOk result (λ text. string_bytes text
-        ≡ pages.replay_text (head_of head.now) replay run.now.state) }
+    ensures { IfOk result (λ text. string_bytes text ≡ pages.source_page (head_of head.now) replay run.now.state) }
 {
+    let state = run.outcome()?;
     let mut out = String::new(alloc);
-    writeln!(out, "Test {}\nSteps {}", head.name.as_str(), replay.done)?;
-    write_end(&mut out, replay)?;
-    write_threads(&mut out, head, run)?;
-    write_memory(&mut out, &head.locs, run)?;
+    write_first_lines(&mut out, head, replay)?;
+    write_threads(&mut out, head, run, state.regs.as_slice())?;
+    write_words(&mut out, "Memory", &head.locs, state.words.as_slice())?;
     Ok(out)
 }
 
-/// How the replay ended.
-fn write_end<A: Allocator>(out: &mut String<A>, replay: Replay) -> Result<(), AllocError>
-    ensures { OnOk result (string_bytes out.new
-        ≡ string_bytes out.old ++ line (codes "End") (end_parts replay.done replay.end)) }
+/// The text that tells of an x86 test's replay and of the state that it led to.
+pub(crate) fn machine_page<M: MemorySystem, A: Allocator + Copy>(
+    alloc: A,
+    head: &Head<A>,
+    machine: &Machine<'_, M, A, A>,
+    replay: Replay,
+) -> Result<String<A>, AllocError>
+    requires few { head.now.threads ≤ MAX_THREADS }
+    requires threads { length machine.now.state.processors ≡ head.now.threads }
+    requires words { length (M.content machine.now.state.memory) ≡ length head.now.locs }
+    ensures { IfOk result (λ text. string_bytes text
+        ≡ pages.machine_page (head_of head.now) replay machine.now.state.processors (M.state machine.now.state.memory)
+        (M.memory machine.now.state.memory) (M.content machine.now.state.memory)) }
 {
+    let state = machine.outcome()?;
+    let mut out = String::new(alloc);
+    write_first_lines(&mut out, head, replay)?;
+    write_processors(&mut out, head, machine, state.regs.as_slice())?;
+    write_memory(&mut out, &head.locs, machine.memory())?;
+    write_words(&mut out, "Content", &head.locs, state.words.as_slice())?;
+    Ok(out)
+}
+
+/// The test's name, the number of events that were carried out, and how the replay ended.
+fn write_first_lines<A: Allocator, B: Allocator>(
+    out: &mut String<A>,
+    head: &Head<B>,
+    replay: Replay,
+) -> Result<(), AllocError>
+    ensures { OnOk result (string_bytes out.new ≡ string_bytes out.old ++ first_lines (head_of head.now) replay) }
+{
+    write!(
+        out,
+        "Test {}\nSteps {}\nEnd ",
+        head.name.as_str(),
+        replay.done
+    )?;
     match replay.end {
-        End::Final => out.push_str("End Final\n"),
-        End::NotFinal => out.push_str("End NotFinal\n"),
+        End::Final => out.push_str("Final\n"),
+        End::NotFinal => out.push_str("NotFinal\n"),
         End::Stopped(stop) => {
             writeln!(
                 out,
-                "End Stopped at {} by {} {}",
+                "Stopped at {} by {} {}",
                 replay.done,
                 stop.number(),
                 stop.name()
@@ -51,56 +89,157 @@ fn write_end<A: Allocator>(out: &mut String<A>, replay: Replay) -> Result<(), Al
     }
 }
 
-/// A line for each thread.
+/// A line for each thread of a source test.
 fn write_threads<A: Allocator>(
     out: &mut String<A>,
     head: &Head<A>,
     run: &SourceRun<'_, A, A>,
+    regs: &[[Word; REGISTERS]],
 ) -> Result<(), AllocError>
     requires few { head.now.threads ≤ MAX_THREADS }
     requires threads { length run.now.state.threads ≡ head.now.threads }
-    ensures { OnOk result (string_bytes out.new
-        ≡ string_bytes out.old ++ thread_lines head.now.arch 0 run.now.state.threads) }
+    requires regs { regs.now ≡ map (λ (t : Thread). t.regs) run.now.state.threads }
+    ensures { OnOk result (string_bytes out.new ≡ string_bytes out.old
+        ++ numbered (λ t (th : Thread). pages.thread_line head.now.arch t th.position th.regs) 0 run.now.state.threads) }
 {
     for cpu in &Cpu::all()[..head.threads] {
-        write_thread(out, head.arch, *cpu, run)?;
+        write_thread(out, head.arch, *cpu, run.position(*cpu), &regs[cpu.index()])?;
     }
     Ok(())
 }
 
-/// The thread's position and its registers.
+/// A thread's position and its registers.
 fn write_thread<A: Allocator>(
     out: &mut String<A>,
     arch: Arch,
     cpu: Cpu,
-    run: &SourceRun<'_, A, A>,
+    position: usize,
+    regs: &[Word; REGISTERS],
 ) -> Result<(), AllocError>
-    requires { cpu < length run.now.state.threads }
-    ensures { OnOk result ((th : Thread) → slice_get run.now.state.threads cpu ≡ Some th
-        → string_bytes out.new ≡ string_bytes out.old ++ pages.thread_line arch cpu th) }
+    ensures { OnOk result (string_bytes out.new ≡ string_bytes out.old ++ pages.thread_line arch cpu position regs.now) }
 {
-    write!(out, "P{} at {}", cpu.index(), run.position(cpu))?;
+    write!(out, "P{} at {}", cpu.index(), position)?;
     for reg in Reg::all() {
-        write!(out, " {}={}", reg_name(arch, reg), run.reg(cpu, reg))?;
+        write!(out, " {}={}", reg_name(arch, reg), regs[reg.index()])?;
     }
-    out.push_str("\n")?;
-    Ok(())
+    out.push_str("\n")
 }
 
-/// Each location's word.
-fn write_memory<A: Allocator>(
+/// A word for each location, behind a title.
+fn write_words<A: Allocator>(
+    out: &mut String<A>,
+    title: &str,
+    locs: &LocNames<A>,
+    words: &[Word],
+) -> Result<(), AllocError>
+    requires { length words.now ≡ length locs.now }
+    ensures { OnOk result (string_bytes out.new ≡ string_bytes out.old ++ word_line title.now locs.now words.now) }
+{
+    out.push_str(title)?;
+    for loc in &Loc::all()[..locs.len()] {
+        write!(out, " {}={}", locs.name(*loc), words[loc.index()])?;
+    }
+    out.push_str("\n")
+}
+
+/// The word that each location has in memory, caches left out.
+fn write_memory<M: MemorySystem, A: Allocator>(
     out: &mut String<A>,
     locs: &LocNames<A>,
-    run: &SourceRun<'_, A, A>,
+    memory: &M,
 ) -> Result<(), AllocError>
-    requires { length run.now.state.words ≡ length locs.now }
+    requires { length (M.content memory.now) ≡ length locs.now }
     ensures { OnOk result (string_bytes out.new
-        ≡ string_bytes out.old ++ line (codes "Memory") (memory_parts locs.now run.now.state.words)) }
+        ≡ string_bytes out.old ++ word_line (codes "Memory") locs.now (M.memory memory.now)) }
 {
     out.push_str("Memory")?;
     for loc in &Loc::all()[..locs.len()] {
-        write!(out, " {}={}", locs.name(*loc), run.word(*loc))?;
+        write!(out, " {}={}", locs.name(*loc), memory.word_in_memory(*loc))?;
     }
-    out.push_str("\n")?;
+    out.push_str("\n")
+}
+
+/// The lines of each processor.
+fn write_processors<M: MemorySystem, A: Allocator>(
+    out: &mut String<A>,
+    head: &Head<A>,
+    machine: &Machine<'_, M, A, A>,
+    regs: &[[Word; REGISTERS]],
+) -> Result<(), AllocError>
+    requires few { head.now.threads ≤ MAX_THREADS }
+    requires threads { length machine.now.state.processors ≡ head.now.threads }
+    requires words { length (M.content machine.now.state.memory) ≡ length head.now.locs }
+    requires regs { regs.now ≡ map (λ (p : Processor). p.regs) machine.now.state.processors }
+    ensures { OnOk result (string_bytes out.new ≡ string_bytes out.old
+        ++ numbered (processor_lines (head_of head.now) (M.state machine.now.state.memory)) 0 machine.now.state.processors) }
+{
+    for cpu in &Cpu::all()[..head.threads] {
+        write_thread(
+            out,
+            head.arch,
+            *cpu,
+            machine.position(*cpu),
+            &regs[cpu.index()],
+        )?;
+        write_buffer(out, &head.locs, machine, *cpu)?;
+        write_cache_line(out, &head.locs, machine.memory(), *cpu)?;
+    }
     Ok(())
+}
+
+/// The entries of a processor's store buffer, the oldest first.
+fn write_buffer<M: MemorySystem, A: Allocator>(
+    out: &mut String<A>,
+    locs: &LocNames<A>,
+    machine: &Machine<'_, M, A, A>,
+    cpu: Cpu,
+) -> Result<(), AllocError>
+    requires cpu { cpu < length machine.now.state.processors }
+    requires words { length (M.content machine.now.state.memory) ≡ length locs.now }
+    ensures { OnOk result (string_bytes out.new
+        ≡ string_bytes out.old ++ buffer_line locs.now cpu (buffer_of machine.now.state cpu)) }
+{
+    write!(out, "P{} buffer", cpu.index())?;
+    for place in 0..machine.buffered(cpu) {
+        let (loc, word) = machine.entry(cpu, place);
+        write!(out, " {}={}", locs.name(loc), word)?;
+    }
+    out.push_str("\n")
+}
+
+/// How a processor's cache holds each location.
+fn write_cache_line<M: MemorySystem, A: Allocator>(
+    out: &mut String<A>,
+    locs: &LocNames<A>,
+    memory: &M,
+    cpu: Cpu,
+) -> Result<(), AllocError>
+    requires cpu { cpu < M.cpus memory.now }
+    requires words { length (M.content memory.now) ≡ length locs.now }
+    ensures { OnOk result (string_bytes out.new
+        ≡ string_bytes out.old ++ cache_line locs.now cpu (M.state memory.now cpu)) }
+{
+    write!(out, "P{} lines", cpu.index())?;
+    for loc in &Loc::all()[..locs.len()] {
+        write!(
+            out,
+            " {}={}",
+            locs.name(*loc),
+            letter(memory.state_of(cpu, *loc))
+        )?;
+    }
+    out.push_str("\n")
+}
+
+/// The letter of a cache line's state.
+fn letter(state: LineState) -> &'static str
+    ensures { result.now ≡ pages.letter state }
+{
+    match state {
+        LineState::M => "M",
+        LineState::O => "O",
+        LineState::E => "E",
+        LineState::S => "S",
+        LineState::I => "I",
+    }
 }

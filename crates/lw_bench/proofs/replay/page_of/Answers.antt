@@ -1,35 +1,50 @@
-use Rattle.std.proofs.lemmas.Result.{IfOk-weaker, IfErr-weaker}
-use Rattle.std.specs.Prelude.{ℕ, List}
+use Rattle.std.proofs.Common.{ap, refl, subst}
+use Rattle.std.proofs.lemmas.Result.{IfOk-weaker}
 use Rattle.std.specs.String.{string_bytes}
 use Rattle.lw_base.proofs.Returns.{passed_on}
-use Rattle.lw_base.specs.Schedules.{IsSchedule}
+use Rattle.lw_base.specs.Heads.{TestHead}
+use Rattle.lw_base.specs.Schedules.{IsFirstFault}
+use Rattle.lw_mesi.specs.declared.protocol.Protocol.TheVariants.{Mesi, Moesi}
 use Rattle.lw_source.specs.Views.{source_of}
-use Rattle.lw_bench.specs.Replays.{IsReplayPage}
+use Rattle.lw_x86.specs.Views.{program_of}
+use Rattle.lw_bench.specs.LitmusTests.{Of_source, Of_x86, litmus_test_of}
+use Rattle.lw_bench.specs.Replays.{EventsTell, IsReplayPage}
 use Rattle.lw_bench.specs.Told.{TellsReplay}
-use Rattle.lw_bench.proofs.Told.{schedule_is_told, schedule_no_device, memory_told, memory_is_no_device}
+use Rattle.lw_bench.proofs.Replays.{page_told}
+use Rattle.lw_bench.proofs.Told.{schedule_is_told}
 use Rattle.lw_bench.proofs.replay.page_of.Goals as goal
 
 pub returns-in_err-events-clause-told : goal.returns-in_err-events-clause-told
 returns-in_err-events-clause-told g c text has =
+    let test = litmus_test_of c.args.test.now in
+    let table = ap (λ (h : TestHead). h.locs) c.head-head.ensures in
     passed_on _ _ c.from_residual.ensures.1 (schedule_is_told (TellsReplay _ text c.args.schedule.now) tt _ (λ known. record {
-      test = source_of c.args.source.now;
+      test = test;
       has_test = has;
-      none = c.in_err-events.ensures.fault known;
-      first = c.in_err-events.ensures.first known;
+      none = λ events is. c.in_err-events.ensures.fault known events (rw table is);
+      first = subst (λ l. IsFirstFault l c.args.schedule.now c.in_err-events.field-0.0.at c.in_err-events.field-0.0.cause) table (c.in_err-events.ensures.first known);
     }))
 
-pub returns-in_err-events-clause-device : goal.returns-in_err-events-clause-device
-returns-in_err-events-clause-device g c =
-    passed_on _ _ c.from_residual.ensures.1 (schedule_no_device _)
+pub returns-in-Source-clause-found : goal.returns-in-Source-clause-found
+returns-in-Source-clause-found g c =
+    let made = Of_source (source_of c.in-Source.source) in
+    let table = ap (λ (h : TestHead). h.locs) c.head-head.ensures in
+    IfOk-weaker c.page_of_source.result (λ x. EventsTell c.args.protocol made c.as_slice-events.result.now (string_bytes x.0) x.1) (λ x. IsReplayPage c.args.protocol (litmus_test_of c.args.test.now) c.args.schedule.now (string_bytes x.0) x.1)
+    (λ x tells. page_told c.args.protocol c.args.protocol (litmus_test_of c.args.test.now) made _ c.args.schedule.now _ c.as_slice-events.result.now (string_bytes x.0) x.1 refl (ap litmus_test_of c.in-Source.is) table c.in_ok-events.ensures.found c.as_slice-events.ensures tells)
+    c.page_of_source.ensures.found
+
+pub returns-in-Mesi-clause-found : goal.returns-in-Mesi-clause-found
+returns-in-Mesi-clause-found g c =
+    let made = Of_x86 (program_of c.in-X86.program) in
+    let table = ap (λ (h : TestHead). h.locs) c.head-head.ensures in
+    IfOk-weaker c.page_of_program.result (λ x. EventsTell Mesi made c.as_slice-events.result.now (string_bytes x.0) x.1) (λ x. IsReplayPage c.args.protocol (litmus_test_of c.args.test.now) c.args.schedule.now (string_bytes x.0) x.1)
+    (λ x tells. page_told c.args.protocol Mesi (litmus_test_of c.args.test.now) made _ c.args.schedule.now _ c.as_slice-events.result.now (string_bytes x.0) x.1 c.in-Mesi.is (ap litmus_test_of c.in-X86.is) table c.in_ok-events.ensures.found c.as_slice-events.ensures tells)
+    c.page_of_program.ensures.found
 
 pub returns-clause-found : goal.returns-clause-found
 returns-clause-found g c =
-    let test = source_of c.args.source.now in
-    let found = rw c.as_slice.ensures at c.page_of_events.ensures.found in
-    IfOk-weaker c.page_of_events.result (λ x. (schedule : List ℕ) → IsSchedule test.head.locs schedule c.in_ok-events.events → IsReplayPage test schedule (string_bytes x.0) x.1) (λ x. IsReplayPage test c.args.schedule.now (string_bytes x.0) x.1) (λ x tells. tells c.args.schedule.now c.in_ok-events.ensures.found) found
-
-pub returns-clause-told : goal.returns-clause-told
-returns-clause-told g c text has = IfErr-weaker _ _ _ (λ f is. memory_told _ text c.args.schedule.now f is) c.page_of_events.ensures.fault
-
-pub returns-clause-device : goal.returns-clause-device
-returns-clause-device g c = IfErr-weaker _ _ _ (λ f is. memory_is_no_device f is) c.page_of_events.ensures.fault
+    let made = Of_x86 (program_of c.in-X86.program) in
+    let table = ap (λ (h : TestHead). h.locs) c.head-head.ensures in
+    IfOk-weaker c.page_of_program-in-Moesi.result (λ x. EventsTell Moesi made c.as_slice-events.result.now (string_bytes x.0) x.1) (λ x. IsReplayPage c.args.protocol (litmus_test_of c.args.test.now) c.args.schedule.now (string_bytes x.0) x.1)
+    (λ x tells. page_told c.args.protocol Moesi (litmus_test_of c.args.test.now) made _ c.args.schedule.now _ c.as_slice-events.result.now (string_bytes x.0) x.1 c.in-Moesi.is (ap litmus_test_of c.in-X86.is) table c.in_ok-events.ensures.found c.as_slice-events.ensures tells)
+    c.page_of_program-in-Moesi.ensures.found

@@ -16,7 +16,7 @@ pub returns-in-Ok-clause-written : goal.returns-in-Ok-clause-written
 returns-in-Ok-clause-written g c =
     let found = rw c.as_slice.ensures.value at c.in_ok-page.ensures.found in
     let put = rw c.as_bytes.ensures.value at c.in-Ok.ensures.bytes in
-    page_written _ _ _ _ _ _ _ c.in_ok-text.ensures.bytes found put
+    page_written _ _ _ _ _ _ _ _ c.in_ok-text.ensures.bytes found put
 
 pub returns-in_err-page-clause-read : goal.returns-in_err-page-clause-read
 returns-in_err-page-clause-read g c =

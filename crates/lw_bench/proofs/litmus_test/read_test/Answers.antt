@@ -3,7 +3,7 @@ use Rattle.lw_base.proofs.Returns.{passed_on}
 use Rattle.lw_bench.proofs.DeviceFaults.{err_is}
 use Rattle.lw_bench.specs.Told.{TellsTest}
 use Rattle.lw_bench.proofs.Told.{text_is_told, cell_is_told, text_no_device, cell_no_device}
-use Rattle.lw_bench.proofs.replay.read_test.Goals as goal
+use Rattle.lw_bench.proofs.litmus_test.read_test.Goals as goal
 
 pub returns-in_err-frame-clause-told : goal.returns-in_err-frame-clause-told
 returns-in_err-frame-clause-told g c =

@@ -1,0 +1,29 @@
+-- A frame says one test, of its own language.
+use Rattle.std.proofs.Common.{◌≡◌, sym, ap, ◌∙◌}
+use Rattle.lw_base.specs.declared.head.Arch.{Arch}
+use Rattle.lw_base.specs.declared.head.Arch.TheVariants.{Source, X86}
+use Rattle.lw_text.specs.Frames.{TestFrame}
+use Rattle.lw_source.specs.Sources.{SourceTest, HasSource}
+use Rattle.lw_x86.specs.Programs.{ProgramTest, HasProgram}
+use Rattle.lw_bench.specs.LitmusTests.{LitmusTest, Of_source, Of_x86, FrameSays}
+
+apart : (let arch : Arch = Source in arch) ≡ X86 → ⊥
+apart same = cc
+
+module _
+    (one_source : (frame : TestFrame) (s t : SourceTest) → HasSource frame s → HasSource frame t → s ≡ t)
+    (one_program : (frame : TestFrame) (p q : ProgramTest) → HasProgram frame p → HasProgram frame q → p ≡ q) where
+  pub one_test : (frame : TestFrame) (s t : LitmusTest) → FrameSays frame s → FrameSays frame t → s ≡ t
+  one_test frame (Of_source s) (Of_source t) says other = ap Of_source (one_source frame s t says other)
+  one_test frame (Of_source s) (Of_x86 t) says other = absurd (apart (sym says.arch ∙ other.arch))
+  one_test frame (Of_x86 s) (Of_source t) says other = absurd (apart (sym other.arch ∙ says.arch))
+  one_test frame (Of_x86 s) (Of_x86 t) says other = ap Of_x86 (one_program frame s t says other)
+
+-- A frame of a language, whose cells say no test of it, says none.
+pub no_source : (frame : TestFrame) → frame.head.arch ≡ Source → ((s : SourceTest) → HasSource frame s → ⊥) → (test : LitmusTest) → FrameSays frame test → ⊥
+no_source frame is none (Of_source s) says = none s says
+no_source frame is none (Of_x86 p) says = apart (sym is ∙ says.arch)
+
+pub no_program : (frame : TestFrame) → frame.head.arch ≡ X86 → ((p : ProgramTest) → HasProgram frame p → ⊥) → (test : LitmusTest) → FrameSays frame test → ⊥
+no_program frame is none (Of_source s) says = apart (sym says.arch ∙ is)
+no_program frame is none (Of_x86 p) says = none p says

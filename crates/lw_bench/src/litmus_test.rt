@@ -1,0 +1,82 @@
+//! A test of either language, and how it is read.
+ghost use Rattle.std.specs.Prelude.{◌≡◌, ◌≤◌, IfOk, IfErr};
+ghost use Rattle.lw_base.specs.Types.{Bytes};
+ghost use Rattle.lw_base.specs.Heads.{head_of};
+ghost use Rattle.lw_base.specs.Refusals.{NotFound};
+ghost use Rattle.lw_base.specs.declared.fault.CellCause.TheVariants.{Memory};
+ghost use Rattle.lw_text.specs.Views.{frame_of};
+ghost use Rattle.lw_bench.specs.LitmusTests as specs;
+ghost use Rattle.lw_bench.specs.LitmusTests.{FrameSays, HasTest, litmus_test_of, head_of_test};
+ghost use Rattle.lw_bench.specs.Told.{TellsTest, TellsIn, IsNoDevice};
+
+use crate::fault::BenchFault;
+use lw_base::{Arch, CellFault, Head};
+use lw_source::{Source, a_frame_has_one_source, read_source};
+use lw_text::{Frame, a_text_has_one_frame, read_frame};
+use lw_x86::{Program, a_frame_has_one_program, read_program};
+use std::alloc::Allocator;
+
+/// A test of the source language or of x86.
+#[derive(Drop)]
+pub(crate) enum LitmusTest<A: Allocator> {
+    Source(Source<A>),
+    X86(Program<A>),
+}
+
+impl<A: Allocator> LitmusTest<A> {
+    /// The test's head.
+    pub(crate) fn head(&self) -> &Head<A>
+        ensures { head_of result.now ≡ head_of_test (litmus_test_of self.now) }
+    {
+        match self {
+            LitmusTest::Source(source) => &source.head,
+            LitmusTest::X86(program) => &program.head,
+        }
+    }
+}
+
+/// A text has at most one test, of one language.
+pub fn a_text_has_one_test()
+    ensures { (text : Bytes) (s t : specs.LitmusTest) → HasTest text s → HasTest text t → s ≡ t }
+{
+    a_text_has_one_frame();
+    a_frame_has_one_source();
+    a_frame_has_one_program();
+}
+
+/// The test that the bytes are.
+pub(crate) fn read_test<A: Allocator + Copy>(
+    alloc: A,
+    text: &[u8],
+) -> Result<LitmusTest<A>, BenchFault>
+    ensures found { IfOk result (λ test. HasTest text.now (litmus_test_of test)) }
+    ensures told { IfErr result (TellsTest A text.now) }
+    ensures device { IfErr result IsNoDevice }
+{
+    let frame = read_frame(alloc, text)?;
+    let read = read_cells(alloc, &frame);
+    drop(frame);
+    Ok(read?)
+}
+
+/// The test of a frame, in the frame's language.
+fn read_cells<A: Allocator + Copy>(
+    alloc: A,
+    frame: &Frame<'_, A>,
+) -> Result<LitmusTest<A>, CellFault>
+    ensures found { IfOk result (λ test. FrameSays (frame_of frame.now) (litmus_test_of test)) }
+    ensures fault { IfErr result (λ f. NotFound Memory f.cause (FrameSays (frame_of frame.now))) }
+    ensures place { IfErr result (λ f. f.at ≤ frame.now.len) }
+    ensures cause { IfErr result (TellsIn frame.now.head.arch frame.now.head.locs frame.now.cells) }
+{
+    match frame.head().arch {
+        Arch::Source => {
+            let source = read_source(alloc, frame)?;
+            Ok(LitmusTest::Source(source))
+        }
+        Arch::X86 => {
+            let program = read_program(alloc, frame)?;
+            Ok(LitmusTest::X86(program))
+        }
+    }
+}
