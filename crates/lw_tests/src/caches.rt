@@ -1,5 +1,5 @@
 //! The protocols at work: rows from outside, and a thousand requests beside a plain table.
-mod table;
+pub(crate) mod table;
 
 use crate::caches::table::Table;
 use lw_base::{Cpu, Loc, Word};
@@ -274,8 +274,8 @@ fn is_alike<P: KeptProtocol>(
         && memory.copy(cpu, loc) == table.copy(cpu, loc)
 }
 
-/// Whether the caches hold what the table holds, at every place.
-fn are_alike<P: KeptProtocol>(memory: &SnoopingCaches<P>, table: &Table) -> bool {
+/// Whether the caches of four processors hold what the table holds, at every place.
+pub(crate) fn are_alike<P: KeptProtocol>(memory: &SnoopingCaches<P>, table: &Table) -> bool {
     for place in 0..32u8 {
         let (Some(cpu), Some(loc)) = (Cpu::new(place / 8), Loc::new(place % 8)) else {
             return false;

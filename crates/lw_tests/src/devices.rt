@@ -1,6 +1,6 @@
 //! Readers and writers that give and take little at a time and fail where they are told to, and a replay between them.
 use lw_base::End;
-use lw_bench::{BenchFault, FromRead, ToWrite, fault_line, replay_text};
+use lw_bench::{BenchFault, FromRead, Protocol, ToWrite, fault_line, replay_text};
 use std::alloc::Global;
 use std::io::{self, Read, Write};
 
@@ -112,15 +112,15 @@ impl Write for Sheet {
     }
 }
 
-/// What a replay answers, and what it writes.
-pub(crate) fn replay(
-    alloc: Global,
-    text: &[u8],
-    schedule: &str,
-) -> (Result<End, BenchFault>, Sheet) {
+/// What a replay answers, and what it writes. Behind the schedule may stand ` --protocol moesi`.
+pub(crate) fn replay(alloc: Global, text: &[u8], words: &str) -> (Result<End, BenchFault>, Sheet) {
+    let (schedule, protocol) = match words.strip_suffix(" --protocol moesi") {
+        Some(schedule) => (schedule, Protocol::Moesi),
+        None => (words, Protocol::Mesi),
+    };
     let mut reader = FromRead::new(Tape::new(text));
     let mut writer = ToWrite::new(Sheet::new());
-    let result = replay_text(alloc, &mut reader, schedule, &mut writer);
+    let result = replay_text(alloc, &mut reader, schedule, protocol, &mut writer);
     (result, writer.writer)
 }
 

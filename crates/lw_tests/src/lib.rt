@@ -15,6 +15,8 @@ mod devices;
 #[cfg(test)]
 mod heads;
 #[cfg(test)]
+mod machines;
+#[cfg(test)]
 mod memories;
 #[cfg(test)]
 mod names;
@@ -22,6 +24,8 @@ mod names;
 mod orders;
 #[cfg(test)]
 mod pages;
+#[cfg(test)]
+mod programs;
 #[cfg(test)]
 mod runs;
 #[cfg(test)]
@@ -34,3 +38,7 @@ mod texts;
 mod values;
 #[cfg(test)]
 mod workbench;
+#[cfg(test)]
+mod x86_cells;
+#[cfg(test)]
+mod x86_pages;

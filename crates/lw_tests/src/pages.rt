@@ -1,12 +1,13 @@
 //! Pages of replays, typed in: schedules of store buffering, and whole runs of small tests.
 use crate::devices::STORE_BUFFERING;
-use crate::tables::{first_other, first_other_schedule, is_answered};
+use crate::tables::{first_other, first_other_schedule};
 
 /// Schedules of store buffering: whole, cut short, and empty; with an event that is refused, so that the
 /// state is the one before it and nothing behind it is carried out. A source test has no store buffers
 /// and no caches.
 const STORE_BUFFERING_RUNS: &str = "
 P0 P0 P1 P1 => Test SB$Steps 4$End Final$P0 at 2 r0=0 r1=0 r2=0 r3=0 r4=0 r5=0$P1 at 2 r0=1 r1=0 r2=0 r3=0 r4=0 r5=0$Memory x=1 y=1$
+P0$P0\r$P1 P1 => Test SB$Steps 4$End Final$P0 at 2 r0=0 r1=0 r2=0 r3=0 r4=0 r5=0$P1 at 2 r0=1 r1=0 r2=0 r3=0 r4=0 r5=0$Memory x=1 y=1$
 P1 P1 P0 P0 => Test SB$Steps 4$End Final$P0 at 2 r0=1 r1=0 r2=0 r3=0 r4=0 r5=0$P1 at 2 r0=0 r1=0 r2=0 r3=0 r4=0 r5=0$Memory x=1 y=1$
 P0 P1 P0 => Test SB$Steps 3$End NotFinal$P0 at 2 r0=1 r1=0 r2=0 r3=0 r4=0 r5=0$P1 at 1 r0=0 r1=0 r2=0 r3=0 r4=0 r5=0$Memory x=1 y=1$
  => Test SB$Steps 0$End NotFinal$P0 at 0 r0=0 r1=0 r2=0 r3=0 r4=0 r5=0$P1 at 0 r0=0 r1=0 r2=0 r3=0 r4=0 r5=0$Memory x=0 y=0$
@@ -67,19 +68,6 @@ fn schedules_of_store_buffering(rt: HostRuntime) {
         let other = first_other_schedule(rt.alloc(), STORE_BUFFERING, table);
         assert!(rt; other.is_none(), "{other:?}");
     }
-}
-
-/// Line ends, which no line of a table can hold, are blanks between the words of a schedule.
-#[test]
-fn line_ends_in_a_schedule(rt: HostRuntime) {
-    assert!(rt;
-        is_answered(
-            rt.alloc(),
-            STORE_BUFFERING,
-            "P0\nP0\r\nP1 P1",
-            "Test SB$Steps 4$End Final$P0 at 2 r0=0 r1=0 r2=0 r3=0 r4=0 r5=0$P1 at 2 r0=1 r1=0 r2=0 r3=0 r4=0 r5=0$Memory x=1 y=1$"
-        )
-    );
 }
 
 /// Tests at their start: the table of locations in the order in which they appear, first in the block,

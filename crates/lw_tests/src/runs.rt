@@ -1,8 +1,8 @@
 //! The state that a run leaves, as an outcome.
 use crate::devices::STORE_BUFFERING;
-use lw_base::{Cpu, End, Event};
+use lw_base::{Arch, Cpu, End, Event};
 use lw_source::{Source, SourceRun, read_source};
-use lw_text::read_frame;
+use lw_text::{Frame, read_frame};
 use std::alloc::Global;
 
 /// Whether a run has left a 1 in each location, and in the first thread's first register alone.
@@ -23,12 +23,20 @@ fn leaves(alloc: Global, source: &Source, events: &[Event]) -> bool {
     replay.done == 3 && replay.end == End::NotFinal && has_left(&run)
 }
 
+/// The test of a frame whose language is the source language.
+fn source_of(alloc: Global, frame: &Frame<'_>) -> Option<Source> {
+    match frame.head.arch {
+        Arch::Source => read_source(alloc, frame).ok(),
+        Arch::X86 => None,
+    }
+}
+
 /// Whether the run of store buffering by these steps leaves the first thread's load with a 1.
 fn is_left(alloc: Global, steps: [Cpu; 3]) -> bool {
     let Ok(frame) = read_frame(alloc, STORE_BUFFERING.as_bytes()) else {
         return false;
     };
-    let Ok(source) = read_source(alloc, &frame) else {
+    let Some(source) = source_of(alloc, &frame) else {
         return false;
     };
     let is_left = leaves(alloc, &source, &steps.map(Event::Step));

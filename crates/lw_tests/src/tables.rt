@@ -1,5 +1,6 @@
-//! Tables of cases, a line each: a text, a schedule where it isn't empty, and what is told of them,
-//! with ` => ` between them. In texts and pages a `$` stands for a line end, and `<3 ab>` for `ababab`.
+//! Tables of cases, a line each: a text, a schedule where it isn't empty, and what is told of them, with ` => ` between them.
+//! Behind a schedule may stand ` --protocol moesi`. In each of them a `$` stands for a line end, an `@` for the dollar sign, and
+//! `<3 ab>` for `ababab`.
 use crate::devices::{is_told, replay};
 use lw_text::number;
 use std::alloc::{AllocError, Global};
@@ -50,13 +51,24 @@ fn holds_for(alloc: Global, text: &str, line: &str) -> bool {
 /// Whether the replay of the text by the schedule is told so: by the page that is written, by `read` for
 /// any page, or by the line of its fault, where nothing is written.
 pub(crate) fn is_answered(alloc: Global, text: &str, schedule: &str, told: &str) -> bool {
-    let (Ok(text), Ok(told)) = (spelled(alloc, text), spelled(alloc, told)) else {
-        return false;
-    };
-    let (result, sheet) = replay(alloc, text.as_bytes(), schedule);
+    match (
+        spelled(alloc, text),
+        spelled(alloc, schedule),
+        spelled(alloc, told),
+    ) {
+        (Ok(text), Ok(schedule), Ok(told)) => {
+            is_told_so(alloc, text.as_bytes(), schedule.as_str(), told.as_str())
+        }
+        _ => false,
+    }
+}
+
+/// The same where nothing is left to be spelled.
+fn is_told_so(alloc: Global, text: &[u8], schedule: &str, told: &str) -> bool {
+    let (result, sheet) = replay(alloc, text, schedule);
     match result {
-        Ok(_) => told.as_str() == "read" || sheet.is(told.as_str()),
-        Err(fault) => sheet.calls == 0 && is_told(alloc, &fault, told.as_str()),
+        Ok(_) => told == "read" || sheet.is(told),
+        Err(fault) => sheet.calls == 0 && is_told(alloc, &fault, told),
     }
 }
 
@@ -64,7 +76,8 @@ pub(crate) fn is_answered(alloc: Global, text: &str, schedule: &str, told: &str)
 pub(crate) fn spelled(alloc: Global, words: &str) -> Result<String, AllocError> {
     let mut text = String::new(alloc);
     push_spelled(&mut text, words)?;
-    text.as_str().replace(alloc, '$', "\n")
+    let lines = text.as_str().replace(alloc, '$', "\n")?;
+    lines.as_str().replace(alloc, '@', "$")
 }
 
 /// Adds words of a table, with what is repeated in them written out.

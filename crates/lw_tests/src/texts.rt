@@ -7,17 +7,24 @@ const FIRST_WORDS: &str = "
  => lw: text 3 Unterminated at 0
  $ => lw: text 3 Unterminated at 2
 X86_64 A$ => lw: text 4 Unexpected at 0
-X86 A$ => lw: text 4 Unexpected at 0
- X86 A$ => lw: text 4 Unexpected at 1
+X86 A$ => lw: text 3 Unterminated at 6
+ X86 A$ => lw: text 3 Unterminated at 7
+x86 A$ => lw: text 4 Unexpected at 0
+X86S A$ => lw: text 4 Unexpected at 0
  12a A$ => lw: text 5 Number at 1
 # A$ => lw: text 4 Unexpected at 0
 SRC => lw: text 3 Unterminated at 3
 SRC \t\r$ => lw: text 3 Unterminated at 7
 SRC(*c*) A => lw: text 4 Unexpected at 3
+X86 => lw: text 3 Unterminated at 3
+X86{ A => lw: text 4 Unexpected at 3
+X86 Aé {} => lw: text 6 Name at 4
 SRC A => lw: text 3 Unterminated at 5
 SRC A\u{7f} {} => lw: text 6 Name at 4
 SRC Aé {} => lw: text 6 Name at 4
 SRC (*c*)${} P0; exists(x=1) => read
+X86\t$SRC${} P0; exists(x=1) => read
+SRC X86 \"q\"$k=v${} P0; exists(x=1) => read
 ";
 
 /// What stands between the name and the initial block.
@@ -72,6 +79,13 @@ SRC A${[eSp]=1;} => lw: text 6 Name at 8
 SRC A${0:EAX=1;} => lw: text 6 Name at 9
 SRC A${0:r6=1;} => lw: text 6 Name at 9
 SRC A${0:x,1;} => lw: text 6 Name at 9
+X86 A${0:r0=1;} => lw: text 6 Name at 9
+X86 A${0:EBP=1;} => lw: text 6 Name at 9
+X86 A${0:RAX=1;} => lw: text 6 Name at 9
+X86 A${0:1=1;} => lw: text 4 Unexpected at 9
+X86 A${eax=1;} => lw: text 6 Name at 7
+X86 A${r0=1;} => lw: text 6 Name at 7
+X86 A { 0:eAx=1; 0:EDI=0x10; 0:Esi=3 } P0; exists (true) => read
 SRC D${a=0;b=0;c=0;d=0;e=0;f=0;g=0;h=0;i=0;} => lw: text 10 TooManyLocations at 39
 SRC D${a=0;b=0;c=0;d=0;e=0;f=0;g=0;h=0;[i, => lw: text 10 TooManyLocations at 40
 SRC A {1:r0=1;} P0; 12a => lw: text 6 Name at 7
@@ -144,6 +158,11 @@ SRC A {} P0; locations [1:r0;] => lw: text 6 Name at 24
 SRC A {} P0|P1; locations [1:r0; 2 x => lw: text 6 Name at 33
 SRC A {} P0; locations [0:EAX] => lw: text 6 Name at 26
 SRC A {} P0; locations [0:r6] => lw: text 6 Name at 26
+X86 A {} P0; locations [0:r0] => lw: text 6 Name at 26
+X86 A {} P0; locations [0:esp] => lw: text 6 Name at 26
+X86 A {} P0; locations [EDX;] => lw: text 6 Name at 24
+X86 A {} P0|P1; locations [1:Ecx; [y]; 0:EBX] exists (true) => read
+X86 A {i=0} P0; locations [a;b;c;d;e;f;g;h, => lw: text 10 TooManyLocations at 41
 SRC A {i=0} P0; locations [a;b;c;d;e;f;g;h, => lw: text 10 TooManyLocations at 41
 SRC A {} P0; filter (true) => lw: text 11 Condition at 13
 SRC A {} P0; locations [] filter (true) => lw: text 11 Condition at 26
@@ -191,6 +210,13 @@ SRC G${}$ P0 ;$exists (1:r0=0) => lw: text 6 Name at 23
 SRC A {} P0; exists (1 x => lw: text 6 Name at 21
 SRC A {} P0; exists (0:r6=1) => lw: text 6 Name at 23
 SRC A {} P0; exists (0:EAX=1) => lw: text 6 Name at 23
+X86 A {} P0; exists (0:r0=1) => lw: text 6 Name at 23
+X86 A {} P0; exists (0:EBP=1) => lw: text 6 Name at 23
+X86 A {} P0; exists (0:x=1) => lw: text 6 Name at 23
+X86 A {} P0; exists (EAX=1) => lw: text 6 Name at 21
+X86 A {} P0; exists (r5=1) => lw: text 6 Name at 21
+X86 A {} P0; exists (1:EAX=1) => lw: text 6 Name at 21
+X86 A {} P0; exists (0:EAX=1 /\\ 0:edi=2) => read
 SRC A {} P0; exists (r0=1) => lw: text 6 Name at 21
 SRC A {} P0; exists (filter=1) => lw: text 6 Name at 21
 SRC A {} P0; exists (eSp=1) => lw: text 6 Name at 21
@@ -269,6 +295,9 @@ X 12a => lw: text 4 Unexpected at 0
 SRC G${}$ P0 ;$ x + 1 ;$exists (x=0 => Q => lw: text 3 Unterminated at 35
 SRC G${}$ P0 ;$ x + 1 ;$exists (x=0) => Q => lw: cell 1 Form at 18
 SRC G${}$ P0 ;$ x := 1 ;$exists (x=0) => Q => lw: schedule 1 Word at 0
+X86 G${}$ P0 ;$ MOV x,1 ;$exists (x=0 => Q => lw: text 3 Unterminated at 37
+X86 G${}$ P0 ;$ MOV x,1 ;$exists (x=0) => Q => lw: cell 2 Register at 20
+X86 G${}$ P0 ;$ MOV [x],1 ;$exists (x=0) => Q => lw: schedule 1 Word at 0
 ";
 
 #[test]

@@ -2,7 +2,7 @@
 use crate::devices::{STORE_BUFFERING, STORE_BUFFERING_PAGE, Sheet, Tape, is_told, replay};
 use lw_base::{CellCause, CellFault, End, ScheduleCause, ScheduleFault, Stop};
 use lw_bench::{
-    BenchFault, ByteReader, ByteWriter, FromRead, Task, ToWrite, command_of, end_status,
+    BenchFault, ByteReader, ByteWriter, FromRead, Protocol, Task, ToWrite, command_of, end_status,
     exit_status, replay_text, status_of,
 };
 use lw_text::{TextCause, TextFault};
@@ -62,20 +62,42 @@ fn statuses(rt: HostRuntime) {
 }
 
 /// Words that are no command.
-const OTHER_WORDS: [&[&str]; 5] = [
+const OTHER_WORDS: [&[&str]; 10] = [
     &[],
     &["replay"],
     &["replay", "P0", "P1"],
     &["Replay", "P0"],
     &["states"],
+    &["replay", "P0", "--protocol"],
+    &["replay", "P0", "--protocol", "MESI"],
+    &["replay", "P0", "--protocol=mesi"],
+    &["replay", "--protocol", "moesi", "P0"],
+    &["replay", "P0", "--protocol", "moesi", "P0"],
 ];
+
+/// Whether the words are a replay by this schedule, over this protocol.
+fn is_replay(words: &[&str], by: &str, over: Protocol) -> bool {
+    match command_of(words) {
+        Some(Task::Replay(schedule, protocol)) => schedule == by && protocol == over,
+        None => false,
+    }
+}
 
 #[test]
 fn words_of_a_command(rt: HostRuntime) {
     for word in ["P0 D0", "", "--protocol"] {
-        assert!(rt;
-            matches!(command_of(&["replay", word]), Some(Task::Replay(schedule)) if schedule == word)
-        );
+        let are_replays = is_replay(&["replay", word], word, Protocol::Mesi)
+            && is_replay(
+                &["replay", word, "--protocol", "mesi"],
+                word,
+                Protocol::Mesi,
+            )
+            && is_replay(
+                &["replay", word, "--protocol", "moesi"],
+                word,
+                Protocol::Moesi,
+            );
+        assert!(rt; are_replays, "{word}");
     }
     for words in OTHER_WORDS {
         assert!(rt; command_of(words).is_none(), "{words:?}");
@@ -89,7 +111,7 @@ fn endless_input(rt: HostRuntime) {
     let mut reader = FromRead::new(Tape::new(&text));
     reader.reader.step = 1;
     let mut writer = ToWrite::new(Sheet::new());
-    let result = replay_text(rt.alloc(), &mut reader, "", &mut writer);
+    let result = replay_text(rt.alloc(), &mut reader, "", Protocol::Mesi, &mut writer);
     assert!(rt; matches!(result, Err(BenchFault::Text(fault)) if fault.at == 65536));
     assert!(rt; reader.reader.calls == 65537 && reader.reader.at == 65537);
 }
@@ -102,7 +124,13 @@ fn byte_by_byte(rt: HostRuntime) {
     reader.reader.step = 1;
     let mut writer = ToWrite::new(Sheet::new());
     writer.writer.step = 1;
-    let result = replay_text(rt.alloc(), &mut reader, "P0 P0 P1 P1", &mut writer);
+    let result = replay_text(
+        rt.alloc(),
+        &mut reader,
+        "P0 P0 P1 P1",
+        Protocol::Mesi,
+        &mut writer,
+    );
     assert!(rt; matches!(result, Ok(End::Final)));
     assert!(rt; writer.writer.is(STORE_BUFFERING_PAGE) && writer.writer.calls == writer.writer.len);
     assert!(rt; reader.reader.calls == 88);
@@ -117,7 +145,13 @@ fn each_read_fails(rt: HostRuntime) {
         reader.reader.step = 1;
         reader.reader.failing = failing;
         let mut writer = ToWrite::new(Sheet::new());
-        let result = replay_text(rt.alloc(), &mut reader, "P0 P0 P1 P1", &mut writer);
+        let result = replay_text(
+            rt.alloc(),
+            &mut reader,
+            "P0 P0 P1 P1",
+            Protocol::Mesi,
+            &mut writer,
+        );
         assert!(rt; matches!(result, Err(BenchFault::Read)));
         assert!(rt; reader.has_failed() && reader.reader.calls == failing);
         assert!(rt; !writer.has_failed() && writer.writer.calls == 0);
@@ -135,7 +169,13 @@ fn each_write_fails(rt: HostRuntime) {
             writer.writer.step = 1;
             writer.writer.failing = failing;
             writer.writer.takes_none = takes_none;
-            let result = replay_text(rt.alloc(), &mut reader, "P0 P0 P1 P1", &mut writer);
+            let result = replay_text(
+                rt.alloc(),
+                &mut reader,
+                "P0 P0 P1 P1",
+                Protocol::Mesi,
+                &mut writer,
+            );
             assert!(rt; matches!(result, Err(BenchFault::Write)));
             assert!(rt; writer.has_failed() && writer.writer.calls == failing);
             assert!(rt; !reader.has_failed());
