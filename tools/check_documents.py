@@ -4,7 +4,8 @@
 - Transcripts: in README.md, docs/*.md and examples/*.page, a block of lines of which the first is '$ COMMAND'. Behind a
   command stands what it prints: lines of standard output as they are, lines of standard error behind '2> ', and the exit
   status, where it is not 0, as '[status N]'. Commands run at the top of the repository.
-- The tables of faults in docs/FORMAT.md, whose rows have an example: what is read, and the place of its fault.
+- The tables of faults and ends in docs/FORMAT.md, whose rows have examples: what is read, and the place of its fault; or an
+  example of examples/ and a schedule that ends at its last event, refused.
 - Each examples/NAME.litmus has its NAME.page, and docs/MAP.md lists the files as they are.
 - The program where memory is refused: for each n, a run whose nth call for memory is refused (tools/refuse_memory.c).
 """
@@ -27,6 +28,7 @@ IN_WORDS = {
     "any 65,537 bytes": b"x" * 65537,
     "65 rows ` ;`": b"SRC G\n{}\n P0 ;\n" + b" ;\n" * 65 + b"exists (true)\n",
     "17 rows ` r0 := 1 ;`": b"SRC G\n{}\n P0 ;\n" + b" r0 := 1 ;\n" * 17 + b"exists (true)\n",
+    "33 rows ` MFENCE ;`": b"X86 G\n{}\n P0 ;\n" + b" MFENCE ;\n" * 33 + b"exists (true)\n",
 }
 
 passed = failed = 0
@@ -89,8 +91,8 @@ def bytes_of(text):
     return text.replace("\\|", "|").replace("\\n", "\n").encode()
 
 
-def check_fault(kind, number, name, example):
-    """A row of a table of faults."""
+def check_fault(kind, number, name, example, language="SRC"):
+    """An example of a row of a table of faults."""
     if example in IN_WORDS:
         given, place = IN_WORDS[example], None
     else:
@@ -101,13 +103,21 @@ def check_fault(kind, number, name, example):
         given, place = bytes_of(text[1]) if text else IN_WORDS[words[1]], words[2]
     schedule = ""
     if kind == "cell" and example not in IN_WORDS:
-        given = b"SRC G\n{}\n P0 ;\n" + given + b"\nexists (true)\n"
+        given = language.encode() + b" G\n{}\n P0 ;\n" + given + b"\nexists (true)\n"
     if kind == "schedule":
         given, schedule = TWO_THREADS, given.decode()
     out, err, status = run([PROGRAM, "replay", schedule], given)
     line = re.sub(rb"\d+\n$", b"", err) if place is None else err
     wanted = f"lw: {kind} {number} {name} at {place or ''}" + ("\n" if place else "")
     compare(f"docs/FORMAT.md, {kind} fault {number}", (b"", wanted.encode(), 1), (out, line, status))
+
+
+def check_end(number, name, schedule, test):
+    """A row of the table of ends: the schedule's last event is refused."""
+    with open(f"{HOME}/examples/{test}.litmus", "rb") as it:
+        out, _, status = run([PROGRAM, "replay", schedule], it.read())
+    wanted = f"End Stopped at {len(schedule.split()) - 1} by {number} {name}"
+    compare(f"docs/FORMAT.md, end {number}", ([wanted], 1), (out.decode().splitlines()[2:3], status))
 
 
 def check_faults():
@@ -120,15 +130,25 @@ def check_faults():
             continue
         begins = re.match(r"\*\*(Text|Cell|Schedule) faults", line)
         kind = begins[1].lower() if begins else kind
+        end = re.fullmatch(r"\| (\d+) \| (\w+) \| .* \| `(.*)` of `(.*)` \|", line)
+        if end:
+            check_end(*end.groups())
+            continue
         row = re.fullmatch(r"\| (\d+) \| (\w+) \| .* \| (.*) \|", line)
-        if kind and row:
+        if kind == "cell" and row:
+            in_both = re.fullmatch(r"\| .* \| (.*) \| (.*) \|", line)
+            check_fault(kind, row[1], row[2], in_both[1])
+            check_fault(kind, row[1], row[2], in_both[2], "X86")
+        elif kind and row:
             check_fault(kind, row[1], row[2], row[3])
 
 
-def check_refused_memory(schedule):
-    """Every call for memory of a replay refused in turn, up to the first run that makes fewer calls."""
-    given = open(f"{HOME}/examples/Peterson.litmus", "rb").read()
+def check_refused_memory(test, schedule, asks_for_less):
+    """Every call for memory of a replay refused in turn, up to the first run that makes fewer calls. Where the standard
+    library's `collect` is refused room ahead, it asks for less; then the page is the whole one."""
+    given = open(f"{HOME}/examples/{test}.litmus", "rb").read()
     words = [PROGRAM, "replay", schedule]
+    refused, whole = (b"", b"lw: memory\n", 4), run(words, given)
     with tempfile.TemporaryDirectory() as room:
         library, mark = f"{room}/refuse_memory.so", f"{room}/mark"
         subprocess.run(["cc", "-O1", "-shared", "-fPIC", "-o", library, f"{HOME}/tools/refuse_memory.c"], check=True)
@@ -138,8 +158,9 @@ def check_refused_memory(schedule):
             if not os.path.exists(mark):
                 break
             os.remove(mark)
-            compare(f"{schedule}: call {nth} for memory is refused", (b"", b"lw: memory\n", 4), told)
-        compare(f"{schedule}: behind the last call none is refused", run(words, given), told)
+            wanted = whole if asks_for_less and told == whole else refused
+            compare(f"{test}, {schedule}: call {nth} for memory is refused", wanted, told)
+        compare(f"{test}, {schedule}: behind the last call none is refused", whole, told)
 
 
 def read(name):
@@ -162,8 +183,12 @@ def main():
         check_transcript(name, read(name).splitlines())
     compare("the list of files in docs/MAP.md (tools/make_map.py writes it)", True, make_map.is_whole())
     check_faults()
-    for schedule in ["P0 P0 P1 P1", "P0 E0:nowhere"]:
-        check_refused_memory(schedule)
+    for test, schedule, asks_for_less in [
+        ("Peterson", "P0 P0 P1 P1", False),
+        ("Peterson", "P0 E0:nowhere", False),
+        ("SB+own-x86", "P0 P0 P0 P1 P1 P1 D0 D1", True),
+    ]:
+        check_refused_memory(test, schedule, asks_for_less)
     print(f"{passed} passed, {failed} failed")
     return 1 if failed else 0
 
