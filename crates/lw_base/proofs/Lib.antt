@@ -6,3 +6,4 @@ pub mod Schedules
 pub mod Words
 pub mod Shapes
 pub mod WellFormedHeads
+pub mod Replays

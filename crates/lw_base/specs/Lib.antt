@@ -17,3 +17,5 @@ pub mod ConditionTexts
 pub mod Stops
 pub mod Faults
 pub mod Schedules
+pub mod Threads
+pub mod Replays

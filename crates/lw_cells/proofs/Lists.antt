@@ -1,6 +1,9 @@
 -- Items of a list by their places.
-use Rattle.std.proofs.Common.{◌≡◌, ℕ, zero, suc, ◌<◌, ◌≤◌, Some, ◌⊎◌, inl, inr, List, [], ◌∷◌, ◌++◌, length, take, drop, refl, ap, arith}
-use Rattle.std.specs.Prelude.{slice_get, slice_index_or}
+use Rattle.std.proofs.Common.{◌≡◌, ◌≢◌, ℕ, zero, suc, ◌<◌, ◌≤◌, Some, ◌⊎◌, inl, inr, ⊎_elim, List, [], ◌∷◌, ◌++◌, length, take, drop, refl, sym, ap, ◌∙◌, subst, arith}
+use Rattle.std.specs.Prelude.{slice_get, slice_set, slice_index_or}
+use Rattle.std.proofs.lemmas.List.{set-get_or}
+use Rattle.std.proofs.lemmas.Bool.{cases_eq}
+use Rattle.std.proofs.lemmas.Option.{same_Some, get_or_from_slice_get}
 
 -- a list, cut at a place
 pub cut_at : {X : Type 0} (xs : List X) (k : ℕ) (x : X) → slice_get xs k ≡ Some x → xs ≡ take k xs ++ x ∷ drop (suc k) xs
@@ -61,3 +64,46 @@ pub at_index : {X : Type 0} (xs : List X) (k : ℕ) (d : X) → k < length xs �
 at_index [] k d lt = absurd (omega arith)
 at_index (x ∷ xs) zero d lt = refl
 at_index (x ∷ xs) (suc k) d lt = at_index xs k d (omega (arith, lt))
+
+-- what stands in a list where one item is set
+pub got_set_same : {A : Type 0} → (xs : List A) (i : ℕ) (x y : A) → slice_get xs i ≡ Some y → slice_get (slice_set xs i x) i ≡ Some x
+got_set_same [] i x y e = absurd cc
+got_set_same (z ∷ xs) zero x y e = refl
+got_set_same (z ∷ xs) (suc i) x y e = got_set_same xs i x y e
+
+pub got_set_other : {A : Type 0} → (xs : List A) (i j : ℕ) (x : A) → i ≢ j → slice_get (slice_set xs i x) j ≡ slice_get xs j
+got_set_other [] i j x ne = refl
+got_set_other (z ∷ xs) zero zero x ne = absurd (ne refl)
+got_set_other (z ∷ xs) zero (suc j) x ne = refl
+got_set_other (z ∷ xs) (suc i) zero x ne = refl
+got_set_other (z ∷ xs) (suc i) (suc j) x ne = got_set_other xs i j x (λ e. ne (ap suc e))
+
+-- an item is set that stands there
+pub set_own : {X : Type 0} (xs : List X) (i : ℕ) (x : X) → slice_get xs i ≡ Some x → slice_set xs i x ≡ xs
+set_own xs i x at = ap (slice_set xs i) (sym (get_or_from_slice_get xs i x x at)) ∙ set-get_or xs i x
+
+-- what holds at each place of a list, where one item is set
+pub each_after : {X : Type 0} (P : ℕ → X → Type 0) (xs : List X) (i : ℕ) (x : X) → i < length xs
+    → ((u : ℕ) (y : X) → slice_get xs u ≡ Some y → P u y) → P i x
+    → (u : ℕ) (y : X) → slice_get (slice_set xs i x) u ≡ Some y → P u y
+each_after P xs i x within before here u y at = go (cases_eq u i)
+  where
+    go : (u ≡ i) ⊎ (u ≡ i → ⊥) → P u y
+    go (inl e) =
+        let there : slice_get (slice_set xs i x) u ≡ Some x = ap (slice_get (slice_set xs i x)) e ∙ got_set_same xs i x (get_some xs i within).0 (get_some xs i within).1 in
+        let same : x ≡ y = cc in
+        subst (λ (k : ℕ). P k y) (sym e) (subst (P i) same here)
+    go (inr other) = before u y (sym (got_set_other xs i u x (λ e. other (sym e))) ∙ at)
+
+-- what holds of the fellows of two lists, where an item of each is set
+pub fellows_after : {X Y : Type 0} (P : ℕ → X → Y → Type 0) (xs : List X) (ys : List Y) (t : ℕ) (old x : X) (was y : Y) → slice_get xs t ≡ Some old → slice_get ys t ≡ Some was
+    → ((u : ℕ) (a : X) (b : Y) → t ≢ u → slice_get xs u ≡ Some a → slice_get ys u ≡ Some b → P u a b) → P t x y
+    → (u : ℕ) (a : X) (b : Y) → slice_get (slice_set xs t x) u ≡ Some a → slice_get (slice_set ys t y) u ≡ Some b → P u a b
+fellows_after {X} {Y} P xs ys t old x was y at there others now u a b e f =
+    ⊎_elim here (λ ne. others u a b ne (sym (got_set_other xs t u x ne) ∙ e) (sym (got_set_other ys t u y ne) ∙ f)) (cases_eq t u)
+  where
+    here : t ≡ u → P u a b
+    here same =
+        let left : x ≡ a = same_Some x a (sym (got_set_same xs t x old at) ∙ ap (λ (k : ℕ). slice_get (slice_set xs t x) k) same ∙ e) in
+        let right : y ≡ b = same_Some y b (sym (got_set_same ys t y was there) ∙ ap (λ (k : ℕ). slice_get (slice_set ys t y) k) same ∙ f) in
+        subst (λ (k : ℕ). P k a b) same (subst (λ (c : X). P t c b) left (subst (λ (d : Y). P t x d) right now))

@@ -3,13 +3,16 @@ use Rattle.std.proofs.Common.{◌≡◌, ◌≢◌, ℕ, zero, suc, ◌+◌, Boo
 use Rattle.std.specs.Option.{option_map, option_and_then}
 use Rattle.std.proofs.lemmas.Option.{slice_get-map}
 use Rattle.std.proofs.lemmas.Bool.{eq-eqb}
+use Rattle.lw_cells.proofs.Lists.{got_set_same, got_set_other}
 use Rattle.lw_source.specs.declared.stmt.Stmt.{Stmt}
 use Rattle.lw_source.specs.declared.stmt.Stmt.TheVariants.{Store, Load, Swap, FetchAdd, Set, Sum, IfEq, IfNe, Goto}
 use Rattle.lw_source.specs.declared.thread.Thread.{Thread}
 use Rattle.lw_source.specs.Sources.{location_of}
 use Rattle.lw_base.specs.Sums.{sum_of}
-use Rattle.lw_source.specs.Statements.{value_of, thread_after, words_after}
-use Rattle.lw_source.specs.Runs.{State, code_of, carried_out, step_of, source_step}
+use Rattle.lw_base.specs.Threads.{value_of}
+use Rattle.lw_source.specs.Statements.{thread_after, words_after}
+use Rattle.lw_base.specs.Threads.{code_of}
+use Rattle.lw_source.specs.Runs.{State, carried_out, step_of, source_step}
 use Rattle.lw_source.specs.Flow.{Follows, FollowsFlow}
 use Rattle.lw_source.specs.Conflicts.{writes, is_one, do_conflict, position_of, next_of, IsExchangeable}
 
@@ -34,18 +37,6 @@ stepped program t s mid a = found (slice_get s.threads t) refl a
     found : (o : Option Thread) → slice_get s.threads t ≡ o → step_of program t s o ≡ Ok mid → Stepped program t s mid
     found None e a = absurd cc
     found (Some th) e a = acted th (slice_get (code_of program t) th.position) e refl a
-
-pub got_set_same : {A : Type 0} → (xs : List A) (i : ℕ) (x y : A) → slice_get xs i ≡ Some y → slice_get (slice_set xs i x) i ≡ Some x
-got_set_same [] i x y e = absurd cc
-got_set_same (z ∷ xs) zero x y e = refl
-got_set_same (z ∷ xs) (suc i) x y e = got_set_same xs i x y e
-
-pub got_set_other : {A : Type 0} → (xs : List A) (i j : ℕ) (x : A) → i ≢ j → slice_get (slice_set xs i x) j ≡ slice_get xs j
-got_set_other [] i j x ne = refl
-got_set_other (z ∷ xs) zero zero x ne = absurd (ne refl)
-got_set_other (z ∷ xs) zero (suc j) x ne = refl
-got_set_other (z ∷ xs) (suc i) zero x ne = refl
-got_set_other (z ∷ xs) (suc i) (suc j) x ne = got_set_other xs i j x (λ e. ne (ap suc e))
 
 index_set_other : (xs : List ℕ) (i j x : ℕ) → i ≢ j → slice_index (slice_set xs i x) j ≡ slice_index xs j
 index_set_other [] i j x ne = refl
@@ -227,7 +218,8 @@ jumped : (b : Bool) (to k : ℕ) → ((if b then to else k) ≡ to) ⊎ ((if b t
 jumped true to k = inl refl
 jumped false to k = inr refl
 
-follows : (x : Stmt) (th : Thread) (m : List ℕ) → Follows (Some x) th.position (thread_after x th m).position
+-- where a statement leads
+pub follows : (x : Stmt) (th : Thread) (m : List ℕ) → Follows (Some x) th.position (thread_after x th m).position
 follows (Store x v) th m = refl
 follows (Load d x) th m = refl
 follows (Swap d x a) th m = refl

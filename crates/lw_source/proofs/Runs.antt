@@ -4,8 +4,8 @@ use Rattle.std.specs.Result.{MatchResult}
 use Rattle.lw_base.specs.declared.stop.Stop.{Stop}
 use Rattle.lw_base.specs.declared.stop.End.{End}
 use Rattle.lw_base.specs.declared.stop.End.TheVariants as at
-use Rattle.std.proofs.Math.Seq.{take-suc}
 use Rattle.std.proofs.Math.ListN.{length-set}
+use Rattle.std.proofs.Math.Seq.{take-suc}
 use Rattle.std.specs.Prelude.{All, ◌^◌, slice_set, slice_get, slice_index, Option, Some, None, Bool, true, false, if◌then◌else◌, nat_lt}
 use Rattle.lw_base.specs.declared.event.Event.TheVariants.{Step, Drain, Evict}
 use Rattle.lw_base.specs.declared.stop.Stop.TheVariants.{NoCpu, NoLocation, Ended, BufferEmpty, NotHeld}
@@ -14,27 +14,19 @@ use Rattle.lw_source.specs.declared.thread.Thread.{Thread}
 use Rattle.lw_cells.specs.Tests.{IsStatement, IsThread}
 use Rattle.lw_source.specs.Sources.{source}
 use Rattle.lw_base.specs.Sums.{sum_of}
-use Rattle.lw_source.specs.Statements.{value_of, thread_after, words_after}
+use Rattle.lw_base.specs.Threads.{value_of}
+use Rattle.lw_source.specs.Statements.{thread_after, words_after}
 use Rattle.lw_base.specs.declared.event.Event.{Event}
 use Rattle.lw_source.specs.declared.stmt.Stmt.{Stmt}
 use Rattle.lw_base.specs.Outcomes.{Final}
-use Rattle.lw_source.specs.Runs.{State, Running, Replayed, EndsAs, outcome_of, Ran, source_step, source_event, carried_out, step_of, code_of}
+use Rattle.lw_base.specs.Replays.{EndsAs}
+use Rattle.lw_base.specs.Threads.{code_of}
+use Rattle.lw_source.specs.Runs.{State, Running, EventDone, Replayed, Ran, is_final, outcome_of, source_step, source_event, carried_out, step_of}
 use Rattle.std.proofs.lemmas.Bool.{lt-ltb}
 use Rattle.std.proofs.lemmas.List.{map-append, take_all}
 use Rattle.std.proofs.lemmas.Option.{slice_get-map, slice_get_within}
 use Rattle.std.specs.Option.{option_map}
 use Rattle.lw_cells.proofs.Lists.{at_index}
-
-Ran-push : (program : List (List Stmt)) (es : List Event) (e : Event) (s mid end : State) → Ran program es s mid → source_event program e mid ≡ Ok end → Ran program (es ++ e ∷ []) s end
-Ran-push program [] e s mid end ran one = (end, subst (λ (m : State). source_event program e m ≡ Ok end) ran one, refl)
-Ran-push program (d ∷ es) e s mid end ran one = (ran.0, ran.1, Ran-push program es e ran.0 mid end ran.2 one)
-
-pub Ran-more : (program : List (List Stmt)) (events : List Event) (n : ℕ) (e : Event) (s mid end : State) → n < length events → e ≡ get_or events n e → Ran program (take n events) s mid → source_event program e mid ≡ Ok end → Ran program (take (n + 1) events) s end
-Ran-more program events n e s mid end within is ran one =
-    let pushed = Ran-push program (take n events) e s mid end ran one in
-    let more : take (suc n) events ≡ take n events ++ e ∷ [] = take-suc events n e within ∙ ap (λ (x : Event). take n events ++ x ∷ []) (sym is) in
-    let next : suc n ≡ n + 1 = omega arith in
-    subst (λ (es : List Event). Ran program es s end) (sym more ∙ ap (λ (k : ℕ). take k events) next) pushed
 
 -- a call that answered Ok was a possible event
 pub possible : (Q : Type 0) (r : Result State Stop) (answer : Result (Unit {0}) Stop) (u : Unit {0}) (end : State) → MatchResult r (λ next. (answer ≡ Ok tt) × (end ≡ next)) (λ stop. (answer ≡ Err stop) × Q) → answer ≡ Ok u → r ≡ Ok end
@@ -52,11 +44,11 @@ stopped Q program events e done s mid end answer stop told kept failed within is
     record {
       within = omega (arith, within);
       ran = subst (λ (m : State). Ran program (take done events) s m) (sym (kept r.1)) ran;
-      ends = (e, at_index events done e within ∙ ap Some (sym is), subst (λ (m : State). source_event program e m ≡ Err stop) (sym (kept r.1)) r.0);
+      ends = (e, at_index events done e within ∙ ap Some (sym is), (subst (λ (m : State). source_event program e m ≡ Err stop) (sym (kept r.1)) r.0, refl));
     }
 
 -- a replay that carries out all events
-pub replayed_all : (program : List (List Stmt)) (events : List Event) (k : ℕ) (s last : State) (end : End) → length events ≤ k → Ran program (take k events) s last → EndsAs program events (length events) last end → Replayed program events s (record { done = length events; end = end }) last
+pub replayed_all : (program : List (List Stmt)) (events : List Event) (k : ℕ) (s last : State) (end : End) → length events ≤ k → Ran program (take k events) s last → EndsAs (EventDone program) (is_final program) events (length events) last end → Replayed program events s (record { done = length events; end = end }) last
 replayed_all program events k s last end done ran ends =
     record {
       within = omega arith;

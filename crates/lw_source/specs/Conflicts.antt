@@ -3,7 +3,8 @@ use Rattle.std.specs.Prelude.{◌≡◌, ℕ, ◌==◌, Bool, true, false, ◌&&
 use Rattle.lw_source.specs.declared.stmt.Stmt.{Stmt}
 use Rattle.lw_source.specs.declared.stmt.Stmt.TheVariants.{Store, Load, Swap, FetchAdd, Set, Sum, IfEq, IfNe, Goto}
 use Rattle.lw_source.specs.Sources.{location_of}
-use Rattle.lw_source.specs.Runs.{State, code_of, source_step}
+use Rattle.lw_base.specs.Threads.{code_of}
+use Rattle.lw_source.specs.Runs.{State, source_step}
 
 -- whether a statement writes its location
 abbrev pub writes : Stmt → Bool

@@ -1,13 +1,13 @@
 -- Runs of a source test: some thread's next statement at a time, on one memory.
-use Rattle.std.specs.Prelude.{◌≡◌, ℕ, ◌≤◌, Bool, nat_lt, nat_le, if◌then◌else◌, Option, Some, None, Result, Ok, Err, List, [], ◌∷◌, length, map, take, slice_get, slice_set, slice_index_or, IsTrue, MatchResult}
+use Rattle.std.specs.Prelude.{◌≡◌, ℕ, Bool, nat_lt, nat_le, if◌then◌else◌, Option, Some, None, Result, Ok, Err, List, length, map, slice_get, slice_set, IsTrue, MatchResult}
 use Rattle.std.specs.List.{list_all, zip}
 use Rattle.lw_base.specs.Outcomes.{Final}
+use Rattle.lw_base.specs.Replays as replays
+use Rattle.lw_base.specs.Threads.{code_of}
 use Rattle.lw_base.specs.declared.event.Event.{Event}
 use Rattle.lw_base.specs.declared.event.Event.TheVariants.{Step, Drain, Evict}
 use Rattle.lw_base.specs.declared.stop.Stop.{Stop}
 use Rattle.lw_base.specs.declared.stop.Stop.TheVariants.{NoCpu, NoLocation, Ended, BufferEmpty, NotHeld}
-use Rattle.lw_base.specs.declared.stop.End.{End}
-use Rattle.lw_base.specs.declared.stop.End.TheVariants as at
 use Rattle.lw_base.specs.declared.stop.Replay.{Replay}
 use Rattle.lw_source.specs.declared.stmt.Stmt.{Stmt}
 use Rattle.lw_source.specs.declared.thread.Thread.{Thread}
@@ -25,9 +25,6 @@ starting regs = record { position = 0; regs = regs }
 
 abbrev pub start_of : SourceTest → State
 start_of s = record { threads = map starting s.head.init_regs; words = s.head.init_words }
-
-abbrev pub code_of : List (List Stmt) → ℕ → List Stmt
-code_of program t = slice_index_or program t []
 
 -- a thread carries out the statement that it is at, if it is at one
 abbrev pub carried_out : ℕ → Thread → State → Option Stmt → Result State Stop
@@ -50,38 +47,37 @@ source_event program (Drain t) s = if nat_lt t (length s.threads) then Err Buffe
 source_event program (Evict t x) s =
     if nat_lt t (length s.threads) then (if nat_lt x (length s.words) then Err NotHeld else Err NoLocation) else Err NoCpu
 
--- The events lead, each possible in turn, from a state to another.
-abbrev pub Ran : List (List Stmt) → List Event → State → State → Type 0
-Ran program [] s end = end ≡ s
-Ran program (e ∷ es) s end = (mid : State) × (source_event program e s ≡ Ok mid) × Ran program es mid end
+-- An event, from a state, is answered so and leaves a state; a refused one changes nothing.
+abbrev pub EventDone : List (List Stmt) → Event → State → Result (Unit {0}) Stop → State → Type 0
+EventDone program e s (Ok done) after = source_event program e s ≡ Ok after
+EventDone program e s (Err stop) after = (source_event program e s ≡ Err stop) × (after ≡ s)
 
 -- all threads are at their ends
 abbrev pub is_final : List (List Stmt) → State → Bool
 is_final program s = list_all (λ p. nat_le (length p.0) p.1.position) (zip program s.threads)
 
--- how a replay ends that carried out so many events
-abbrev pub EndsAs : List (List Stmt) → List Event → ℕ → State → End → Type 0
-EndsAs program events done s at.Final = (done ≡ length events) × IsTrue (is_final program s)
-EndsAs program events done s at.NotFinal = (done ≡ length events) × (IsTrue (is_final program s) → ⊥)
-EndsAs program events done s (at.Stopped stop) = (e : Event) × (slice_get events done ≡ Some e) × (source_event program e s ≡ Err stop)
+-- The events lead, each possible in turn, from a state to another.
+abbrev pub Ran : List (List Stmt) → List Event → State → State → Type 0
+Ran program = replays.Ran (EventDone program) (is_final program)
 
 -- A replay carries out the events before the first that is refused, or all.
-pub record Replayed (program : List (List Stmt)) (events : List Event) (s : State) (r : Replay) (end : State) : Type 0 where
-  pub within : r.done ≤ length events
-  pub ran : Ran program (take r.done events) s end
-  pub ends : EndsAs program events r.done end r.end
+abbrev pub Replayed : List (List Stmt) → List Event → State → Replay → State → Type 0
+Replayed program = replays.Replayed (EventDone program) (is_final program)
 
 -- the registers and the memory of a state
 abbrev pub outcome_of : State → Final
 outcome_of s = record { regs = map (λ t. t.regs) s.threads; words = s.words }
 
--- Some list of threads, each step possible in turn, leads from the start to a final state with this outcome.
-pub record SourceOutcome (s : SourceTest) (o : Final) : Type 0 where
-  pub order : List ℕ
+-- The threads of the order lead, each step possible in turn, from the start to a final state with this outcome.
+pub record RunsTo (s : SourceTest) (order : List ℕ) (o : Final) : Type 0 where
   pub end : State
   pub ran : Ran s.threads (map Step order) (start_of s) end
   pub final : IsTrue (is_final s.threads end)
   pub is : o ≡ outcome_of end
+
+-- Some list of threads does.
+abbrev pub SourceOutcome : SourceTest → Final → Type 0
+SourceOutcome s o = (order : List ℕ) × RunsTo s order o
 
 -- What a `SourceRun` is: a program, and the state that it is in.
 pub record Running : Type 0 where

@@ -2,15 +2,10 @@
 -- Threads interleave on one memory (Lamport's sequential consistency), one statement at once.
 use Rattle.std.specs.Prelude.{ℕ, ◌+◌, ◌==◌, Bool, true, not, if◌then◌else◌, List, slice_index, slice_set}
 use Rattle.lw_base.specs.Sums.{sum_of}
-use Rattle.lw_base.specs.declared.operand.Operand.{Operand}
-use Rattle.lw_base.specs.declared.operand.Operand.TheVariants.{Register, Number}
+use Rattle.lw_base.specs.Threads.{value_of}
 use Rattle.lw_source.specs.declared.stmt.Stmt.{Stmt}
 use Rattle.lw_source.specs.declared.stmt.Stmt.TheVariants.{Store, Load, Swap, FetchAdd, Set, Sum, IfEq, IfNe, Goto}
 use Rattle.lw_source.specs.declared.thread.Thread.{Thread}
-
-abbrev pub value_of : Operand → List ℕ → ℕ
-value_of (Register r) regs = slice_index regs r
-value_of (Number n) regs = n
 
 -- at the next statement
 abbrev pub going_on : Thread → Thread

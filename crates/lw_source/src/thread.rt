@@ -2,7 +2,8 @@
 ghost use Rattle.std.specs.Prelude.{◌≡◌, ◌+◌, ◌<◌, ◌^◌, length, nat_le};
 ghost use Rattle.lw_base.specs.Sums.{sum_of};
 ghost use Rattle.lw_source.specs.Statements as table;
-ghost use Rattle.lw_source.specs.Statements.{value_of, words_after};
+ghost use Rattle.lw_base.specs.Threads.{value_of};
+ghost use Rattle.lw_source.specs.Statements.{words_after};
 ghost use Rattle.lw_cells.specs.Tests.{IsStatement};
 ghost use Rattle.lw_source.specs.Sources.{source};
 

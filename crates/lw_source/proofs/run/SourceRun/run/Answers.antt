@@ -1,6 +1,7 @@
 use Rattle.std.proofs.Common.{◌≡◌, ◌∙◌, ap, refl, sym, true≢false}
-use Rattle.lw_source.proofs.Runs.{Ran-more, event_kept, possible, stopped, replayed_all}
-use Rattle.lw_source.specs.Runs.{Running, source_event}
+use Rattle.lw_base.proofs.Replays.{Ran-more}
+use Rattle.lw_source.proofs.Runs.{event_kept, possible, stopped, replayed_all}
+use Rattle.lw_source.specs.Runs.{EventDone, Running, is_final, source_event}
 use Rattle.lw_source.proofs.run.SourceRun.run.Goals as goal
 
 pub loop-done-preserved : goal.loop-done-preserved
@@ -11,7 +12,7 @@ loop-done-preserved g c =
     let kept = event_kept c.args.self.now.program c.index-events-done.result c.loop-done.self.state c.act.new.self.state one in
     record {
       program = c.act.ensures.program ∙ c.loop-done.invariant.program;
-      ran = Ran-more c.args.self.now.program c.args.events.now c.loop-done.done c.index-events-done.result c.args.self.now.state c.loop-done.self.state c.act.new.self.state c.loop-done-test.true c.index-events-done.is c.loop-done.invariant.ran one;
+      ran = Ran-more (EventDone c.args.self.now.program) (is_final c.args.self.now.program) c.args.events.now c.loop-done.done c.index-events-done.result c.args.self.now.state c.loop-done.self.state c.act.new.self.state c.loop-done-test.true c.index-events-done.is c.loop-done.invariant.ran one;
       threads = kept.0 ∙ c.loop-done.invariant.threads;
       words = kept.1 ∙ c.loop-done.invariant.words;
     }
