@@ -1,8 +1,7 @@
 -- What an act and an event leave: a refused one changes nothing, and over a memory that keeps the laws each keeps the
 -- sizes.
 use Rattle.std.proofs.Common.{◌≡◌, ℕ, Bool, true, false, List, length, Ok, Err, Option, Some, None, refl, sym, ap, ◌∙◌, subst, slice_get, slice_set}
-use Rattle.std.proofs.lemmas.List.{length-set, set-get_or}
-use Rattle.std.proofs.lemmas.Option.{get_or_from_slice_get}
+use Rattle.std.proofs.lemmas.List.{length-set}
 use Rattle.lw_base.specs.declared.event.Event.{Event}
 use Rattle.std.specs.Result.{OnErr}
 use Rattle.lw_base.specs.declared.stop.Stop.{Stop}
@@ -10,6 +9,7 @@ use Rattle.lw_memory.specs.declared.system.Request.{Request}
 use Rattle.lw_memory.specs.declared.system.Request.TheVariants.{Load, Store, Swap, FetchAdd, Evict}
 use Rattle.lw_memory.specs.Content.{content_after}
 use Rattle.lw_memory.specs.Memory.{Memory, Lawful, Served, is_held}
+use Rattle.lw_cells.proofs.Lists.{set_own}
 use Rattle.lw_x86.specs.declared.instr.Instr.{Instr}
 use Rattle.lw_tso.specs.Processors.{Processor}
 use Rattle.lw_tso.specs.Acts.{Act, Refused, Goes, Loads, Stores, Swaps, Adds, Evicts, cpu_of, event_act}
@@ -79,9 +79,7 @@ module _ {M : Type 0} (mem : Memory M) where
       go None at done = done.1
       go (Some p) at done =
           let same = act_refused (cpu_of e) (event_act program (length (mem.content s.memory)) e p) p done.0 s.memory done.1 stop done.2 in
-          let own : slice_set s.processors (cpu_of e) p ≡ s.processors =
-          ap (slice_set s.processors (cpu_of e)) (sym (get_or_from_slice_get s.processors (cpu_of e) p p at)) ∙ set-get_or s.processors (cpu_of e) p in
-          let processors : slice_set s.processors (cpu_of e) done.0 ≡ s.processors = ap (slice_set s.processors (cpu_of e)) same.0 ∙ own in
+          let processors : slice_set s.processors (cpu_of e) done.0 ≡ s.processors = ap (slice_set s.processors (cpu_of e)) same.0 ∙ set_own s.processors (cpu_of e) p at in
           let left : after ≡ s = done.3 ∙ rw (processors, same.1) refl in
           left
 

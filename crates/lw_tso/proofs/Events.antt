@@ -4,22 +4,23 @@ use Rattle.std.specs.Prelude.{All, ◌&&◌}
 use Rattle.std.specs.List.{list_all, zip}
 use Rattle.std.specs.Option.{ForSome, option_map}
 use Rattle.std.proofs.lemmas.Simd.{map-map}
-use Rattle.std.proofs.lemmas.List.{map-set, length-map, length-set, set-get_or, get_or_past}
+use Rattle.std.proofs.lemmas.List.{map-set, length-map, length-set, get_or_past}
 use Rattle.std.proofs.lemmas.Option.{slice_get-map, slice_get_within, slice_get_past, get_or_from_slice_get, slice_get_read}
-use Rattle.std.proofs.lemmas.Bool.{cases_eq, cases_lt, lt-ltb, le-ltb}
-use Rattle.circular_buffer.proofs.Places.{slice_get-set_same, slice_get-set_other}
+use Rattle.std.proofs.lemmas.Bool.{cases_lt, lt-ltb, le-ltb}
 use Rattle.lw_base.specs.Outcomes.{Final}
 use Rattle.lw_base.specs.declared.event.Event.{Event}
 use Rattle.lw_base.specs.declared.event.Event.TheVariants.{Step, Evict}
 use Rattle.lw_base.specs.declared.stop.Stop.TheVariants.{NoCpu, NoLocation, Ended, NotHeld}
 use Rattle.lw_memory.specs.declared.system.Request.TheVariants as to
 use Rattle.lw_memory.specs.Memory.{Memory, Lawful, is_held}
+use Rattle.lw_cells.proofs.Lists.{each_after, set_own}
 use Rattle.lw_cells.specs.Tests.{IsThread, IsStatement}
 use Rattle.lw_x86.specs.declared.instr.Instr.{Instr}
 use Rattle.lw_x86.specs.Programs.{x86, location_of}
 use Rattle.lw_tso.specs.declared.processor.Processor.{Processor as ProcessorInMemory}
 use Rattle.lw_tso.specs.Processors.{Processor}
-use Rattle.lw_tso.specs.Acts.{code_of, cpu_of, step_act, event_act}
+use Rattle.lw_base.specs.Threads.{code_of}
+use Rattle.lw_tso.specs.Acts.{cpu_of, step_act, event_act}
 use Rattle.lw_tso.specs.Machines.{MachineState, Answer, buffer_of, ActDone, DoneBy, EventDone}
 use Rattle.lw_tso.specs.Runs.{Running, is_done, is_final, machine_outcome}
 use Rattle.lw_tso.specs.Rooms.{is_store, HasRoom, IsMachine}
@@ -30,19 +31,6 @@ use Rattle.lw_tso.proofs.Rooms.{counted, stores_here, event_room}
 -- what is read at a place
 pub read : {X : Type 0} (xs ys : List X) (i t : ℕ) (x : X) → ys ≡ xs → i ≡ t → t < length xs → x ≡ get_or ys i x → slice_get xs t ≡ Some x
 read xs ys i t x same place within is = slice_get_read xs (length xs) t x refl within (rw (← same, ← place) is)
-
--- what holds at each place of a list, where one item is set
-rooms_after : {X : Type 0} (P : ℕ → X → Type 0) (xs : List X) (i : ℕ) (x : X) → i < length xs
-    → ((u : ℕ) (y : X) → slice_get xs u ≡ Some y → P u y) → P i x
-    → (u : ℕ) (y : X) → slice_get (slice_set xs i x) u ≡ Some y → P u y
-rooms_after P xs i x within before here u y at = go (cases_eq u i)
-  where
-    go : (u ≡ i) ⊎ (u ≡ i → ⊥) → P u y
-    go (inl e) =
-        let there : slice_get (slice_set xs i x) u ≡ Some x = ap (slice_get (slice_set xs i x)) e ∙ slice_get-set_same xs i x within in
-        let same : x ≡ y = cc in
-        subst (λ (k : ℕ). P k y) (sym e) (subst (P i) same here)
-    go (inr other) = before u y (sym (slice_get-set_other xs i u x other) ∙ at)
 
 module _ {M : Type 0} (mem : Memory M) (program : List (List Instr)) where
   -- a step of a processor that has a next instruction
@@ -130,9 +118,7 @@ module _ {M A : Type 0} (mem : Memory M) (program : List (List Instr)) where
       → ActDone mem (cpu_of e) (event_act program (length (mem.content m)) e (processor_of p)) (processor_of p) m answer (processor_of p) n
       → EventDone mem run.program e run.state answer end
   done_in_place e run p processors m n answer end same is at done =
-      let own : slice_set processors (cpu_of e) p ≡ processors =
-      ap (slice_set processors (cpu_of e)) (sym (get_or_from_slice_get processors (cpu_of e) p p at)) ∙ set-get_or processors (cpu_of e) p in
-      let left : state_of (slice_set processors (cpu_of e) p) n ≡ end = ap (λ (ps : List (ProcessorInMemory A)). state_of ps n) own ∙ is in
+      let left : state_of (slice_set processors (cpu_of e) p) n ≡ end = ap (λ (ps : List (ProcessorInMemory A)). state_of ps n) (set_own processors (cpu_of e) p at) ∙ is in
       subst (EventDone mem run.program e run.state answer) left (done_by e run p p processors m n answer same at done)
 
   -- there is no such processor
@@ -193,5 +179,5 @@ module _ {M A : Type 0} (mem : Memory M) (program : List (List Instr)) where
           locations = kept.locations ∙ ok.locations;
           cpus = omega (arith, longer, kept.cpus, ok.cpus);
           as_many = longer ∙ ok.as_many;
-          rooms = rooms_after (λ u r. HasRoom locs (code_of program u) (processor_of r) r.buffer.room) processors (cpu_of e) q (slice_get_within processors (cpu_of e) p at) ok.rooms room;
+          rooms = each_after (λ u r. HasRoom locs (code_of program u) (processor_of r) r.buffer.room) processors (cpu_of e) q (slice_get_within processors (cpu_of e) p at) ok.rooms room;
         }

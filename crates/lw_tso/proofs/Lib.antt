@@ -1,6 +1,8 @@
 pub mod Newest
-pub mod Replays
 pub mod Acts
 pub mod Rooms
 pub mod Events
 pub mod Starts
+pub mod Flatten
+pub mod Lift
+pub mod Endings

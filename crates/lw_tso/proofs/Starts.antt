@@ -11,7 +11,7 @@ use Rattle.lw_memory.specs.Memory.{Memory}
 use Rattle.lw_x86.specs.declared.instr.Instr.{Instr}
 use Rattle.lw_tso.specs.declared.processor.Processor.{Processor as ProcessorInMemory}
 use Rattle.lw_tso.specs.Processors.{starting}
-use Rattle.lw_tso.specs.Acts.{code_of}
+use Rattle.lw_base.specs.Threads.{code_of}
 use Rattle.lw_tso.specs.Rooms.{stores_from, HasRoom, IsMachine}
 use Rattle.lw_tso.specs.Views.{processor_of}
 

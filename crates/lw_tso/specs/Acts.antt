@@ -2,7 +2,7 @@
 -- An event comes to an act of one processor, which knows no memory: it says what is asked of the memory, if anything, and
 -- what the processor is then. The source is as in Processors; XCHG and LOCK XADD with memory are one step each, once the
 -- buffer is empty.
-use Rattle.std.specs.Prelude.{ℕ, ◌==◌, true, not, nat_lt, if◌then◌else◌, Option, Some, None, List, [], ◌∷◌, slice_get, slice_index, slice_index_or}
+use Rattle.std.specs.Prelude.{ℕ, ◌==◌, true, not, nat_lt, if◌then◌else◌, Option, Some, None, List, [], ◌∷◌, slice_get, slice_index}
 use Rattle.lw_base.specs.Sums.{sum_of}
 use Rattle.lw_base.specs.declared.event.Event.{Event}
 use Rattle.lw_base.specs.declared.event.Event.TheVariants.{Step, Drain, Evict}
@@ -10,7 +10,8 @@ use Rattle.lw_base.specs.declared.stop.Stop.{Stop}
 use Rattle.lw_base.specs.declared.stop.Stop.TheVariants.{NoLocation, Ended, FenceWaits, SwapWaits, BufferEmpty}
 use Rattle.lw_x86.specs.declared.instr.Instr.{Instr}
 use Rattle.lw_x86.specs.declared.instr.Instr.TheVariants.{Store, Load, Set, Add, Cmp, Xchg, Xadd, Mfence, Je, Jne, Jmp}
-use Rattle.lw_tso.specs.Processors.{Processor, value_of, newest, going_on, getting, flagging, buffering, jumping}
+use Rattle.lw_base.specs.Threads.{value_of, code_of}
+use Rattle.lw_tso.specs.Processors.{Processor, newest, going_on, getting, flagging, buffering, jumping}
 
 -- What an event comes to.
 pub data Act : Type 0 where
@@ -79,9 +80,6 @@ abbrev pub cpu_of : Event → ℕ
 cpu_of (Step t) = t
 cpu_of (Drain t) = t
 cpu_of (Evict t x) = t
-
-abbrev pub code_of : List (List Instr) → ℕ → List Instr
-code_of program t = slice_index_or program t []
 
 -- what an event comes to for its processor, where there are so many locations
 abbrev pub event_act : List (List Instr) → ℕ → Event → Processor → Act

@@ -1,10 +1,8 @@
 -- A processor of the x86-TSO machine, and what an instruction makes of it.
 -- The source is the abstract machine of 'x86-TSO: a rigorous and usable programmer's model for x86 multiprocessors' by Sewell,
 -- Sarkar, Owens, Zappa Nardelli and Myreen (CACM 2010), and for words and flags Intel's manual of the instruction set.
-use Rattle.std.specs.Prelude.{ℕ, ◌+◌, ◌==◌, Bool, false, if◌then◌else◌, Option, Some, None, List, [], ◌∷◌, ◌++◌, slice_index, slice_set}
+use Rattle.std.specs.Prelude.{ℕ, ◌+◌, ◌==◌, Bool, false, if◌then◌else◌, Option, Some, None, List, [], ◌∷◌, ◌++◌, slice_set}
 use Rattle.std.specs.Option.{option_or}
-use Rattle.lw_base.specs.declared.operand.Operand.{Operand}
-use Rattle.lw_base.specs.declared.operand.Operand.TheVariants.{Register, Number}
 
 pub record Processor : Type 0 where
   -- the number of its next instruction
@@ -17,10 +15,6 @@ pub record Processor : Type 0 where
 -- a processor at its first instruction
 abbrev pub starting : List ℕ → Processor
 starting regs = record { position = 0; regs = regs; zero_flag = false; buffer = [] }
-
-abbrev pub value_of : Operand → List ℕ → ℕ
-value_of (Register r) regs = slice_index regs r
-value_of (Number n) regs = n
 
 -- the newest word that a buffer has for a location
 abbrev pub newest : List (ℕ × ℕ) → ℕ → Option ℕ

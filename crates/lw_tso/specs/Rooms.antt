@@ -8,7 +8,7 @@ use Rattle.lw_x86.specs.declared.instr.Instr.{Instr}
 use Rattle.lw_x86.specs.declared.instr.Instr.TheVariants.{Store, Load, Set, Add, Cmp, Xchg, Xadd, Mfence, Je, Jne, Jmp}
 use Rattle.lw_tso.specs.declared.processor.Processor.{Processor as ProcessorInMemory}
 use Rattle.lw_tso.specs.Processors.{Processor}
-use Rattle.lw_tso.specs.Acts.{code_of}
+use Rattle.lw_base.specs.Threads.{code_of}
 use Rattle.lw_tso.specs.Views.{processor_of}
 
 abbrev pub is_store : Instr → Bool

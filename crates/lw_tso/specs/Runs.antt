@@ -9,7 +9,7 @@ use Rattle.lw_x86.specs.declared.instr.Instr.{Instr}
 use Rattle.lw_x86.specs.Programs.{ProgramTest}
 use Rattle.lw_tso.specs.Processors.{Processor, starting}
 use Rattle.lw_tso.specs.Machines.{MachineState, EventDone}
-use Rattle.lw_tso.specs.Replays as replays
+use Rattle.lw_base.specs.Replays as replays
 
 -- past its last instruction, with an empty buffer
 abbrev pub is_done : List Instr → Processor → Bool

@@ -6,7 +6,9 @@
 #![tactic(auto)]
 
 mod buffer;
+mod laws;
 mod machine;
 mod processor;
 
+pub use laws::{every_run_ends, outcomes_are_flat, replays_are_flat};
 pub use machine::Machine;

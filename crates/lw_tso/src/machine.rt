@@ -8,7 +8,7 @@ ghost use Rattle.lw_tso.specs.Processors.{starting};
 ghost use Rattle.lw_tso.specs.Machines.{EventDone, buffer_of};
 ghost use Rattle.lw_tso.specs.Runs.{is_done, machine_start, machine_outcome, MachineReplayed};
 ghost use Rattle.lw_tso.specs.Runs as runs;
-ghost use Rattle.lw_tso.specs.Acts.{code_of};
+ghost use Rattle.lw_base.specs.Threads.{code_of};
 ghost use Rattle.lw_tso.specs.Rooms.{stores_from};
 ghost use Rattle.lw_tso.specs.Views.{processor_of};
 ghost use Rattle.lw_tso.specs.declared.processor.Processor.{Processor as ProcessorInMemory};

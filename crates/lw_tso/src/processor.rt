@@ -4,6 +4,7 @@ ghost use Rattle.std.specs.Option.{ForSome};
 ghost use Rattle.lw_base.specs.Sums.{sum_of};
 ghost use Rattle.lw_memory.specs.Memory.{memory_of};
 ghost use Rattle.lw_x86.specs.Programs.{location_of};
+ghost use Rattle.lw_base.specs.Threads.{value_of};
 ghost use Rattle.lw_tso.specs.Processors as table;
 ghost use Rattle.lw_tso.specs.Processors.{starting, going_on, getting, flagging, buffering, jumping};
 ghost use Rattle.lw_tso.specs.Acts.{step_act, drain_act};
@@ -111,7 +112,7 @@ impl<A: Allocator> Processor<A> {
 
     /// The word that an operand stands for.
     fn value(&self, operand: Operand) -> Word
-        ensures { result ≡ table.value_of operand self.now.regs }
+        ensures { result ≡ value_of operand self.now.regs }
     {
         match operand {
             Operand::Register(reg) => self.regs[reg.index()],

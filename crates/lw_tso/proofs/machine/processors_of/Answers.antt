@@ -1,6 +1,6 @@
 use Rattle.std.proofs.Common.{◌≡◌, ◌<◌, ◌≤◌, [], get_or, length, arith, ap, sym, refl, ◌∙◌}
 use Rattle.std.proofs.lemmas.Option.{get_or_from_slice_get}
-use Rattle.lw_tso.specs.Acts.{code_of}
+use Rattle.lw_base.specs.Threads.{code_of}
 use Rattle.lw_tso.specs.Rooms.{stores_from}
 use Rattle.lw_tso.specs.Processors.{starting}
 use Rattle.lw_tso.specs.Views.{processor_of}

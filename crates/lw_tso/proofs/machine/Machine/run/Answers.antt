@@ -2,7 +2,7 @@ use Rattle.std.proofs.Common.{◌∙◌}
 use Rattle.lw_memory.specs.Memory.{memory_of}
 use Rattle.lw_tso.specs.Machines.{EventDone}
 use Rattle.lw_tso.specs.Runs.{is_final}
-use Rattle.lw_tso.proofs.Replays.{Ran-more}
+use Rattle.lw_base.proofs.Replays.{Ran-more}
 use Rattle.lw_tso.proofs.machine.Machine.run.Goals as goal
 
 pub loop-done-preserved : goal.loop-done-preserved

@@ -1,0 +1,291 @@
+-- Every run of a program can be brought to its end: each processor is led to its own, one after another, by draining its
+-- buffer and stepping on once it is empty.
+use Rattle.std.proofs.Common.{◌≡◌, ◌≢◌, ℕ, zero, suc, ◌+◌, ◌<◌, ◌≤◌, ◌==◌, nat_le, ◌&&◌, Bool, true, false, not, cond, if◌then◌else◌, List, [], ◌∷◌, ◌++◌, length, get_or, Ok, Option, Some, None, refl, sym, ap, ap₂, ◌∙◌, subst, arith, ⊎_elim, slice_get, slice_set, slice_index, ne_eqb}
+use Rattle.std.specs.Prelude.{All, IsTrue}
+use Rattle.std.specs.List.{list_all, zip}
+use Rattle.std.specs.Option.{ForSome}
+use Rattle.std.proofs.lemmas.Bool.{cases_eq, cases_lt, le-leb}
+use Rattle.std.proofs.lemmas.List.Sums.{sum_by-append, sum_by-cons, count_by-le-length}
+use Rattle.std.proofs.lemmas.Option.{slice_get_within, get_or_from_slice_get, slice_get-get_or, same_Some}
+use Rattle.circular_buffer.proofs.Places.{slice_get-set_same, slice_get-set_other}
+use Rattle.lw_base.specs.declared.event.Event.{Event}
+use Rattle.lw_base.specs.declared.event.Event.TheVariants.{Step, Drain, Evict}
+use Rattle.lw_memory.specs.declared.system.Request.TheVariants as to
+use Rattle.lw_memory.specs.Memory.{Memory, Lawful}
+use Rattle.lw_cells.specs.Tests.{IsThread, IsStatement}
+use Rattle.lw_x86.specs.declared.instr.Instr.{Instr}
+use Rattle.lw_x86.specs.declared.instr.Instr.TheVariants.{Store, Load, Set, Add, Cmp, Xchg, Xadd, Mfence, Je, Jne, Jmp}
+use Rattle.lw_x86.specs.Programs.{ProgramTest, IsWellFormedProgram, x86, target_of}
+use Rattle.lw_tso.specs.Processors.{Processor}
+use Rattle.lw_base.specs.Threads.{code_of}
+use Rattle.lw_base.proofs.Replays.{Ran-append}
+use Rattle.lw_tso.specs.Acts.{Act, cpu_of, event_act, step_act, drain_act}
+use Rattle.lw_tso.specs.Machines.{MachineState, Answer, ActDone, DoneBy, EventDone}
+use Rattle.lw_tso.specs.Rooms.{HasRoom, is_store, stores_from}
+use Rattle.lw_tso.specs.Runs.{MachineRan, machine_start, is_done, is_final}
+use Rattle.lw_tso.specs.Evictions.{without_evictions}
+use Rattle.lw_tso.specs.Endings.{events_of, CanEnd}
+use Rattle.lw_tso.specs.Starts.{CanStart}
+use Rattle.lw_tso.proofs.Rooms.{event_room}
+use Rattle.lw_tso.proofs.Lift.{IsWithin, thread_at, within_after, within_first}
+
+without_append : (es fs : List Event) → without_evictions (es ++ fs) ≡ without_evictions es ++ without_evictions fs
+without_append [] fs = refl
+without_append (Step t ∷ es) fs = ap (λ l. Step t ∷ l) (without_append es fs)
+without_append (Drain t ∷ es) fs = ap (λ l. Drain t ∷ l) (without_append es fs)
+without_append (Evict t x ∷ es) fs = without_append es fs
+
+and_true : (a b : Bool) → a ≡ true → b ≡ true → (a && b) ≡ true
+and_true a b e f = rw (e, f) refl
+
+-- past the end, with an empty buffer
+done_at : (code : List Instr) (p : Processor) → length code ≤ p.position → p.buffer ≡ [] → is_done code p ≡ true
+done_at code p past empty = and_true (nat_le (length code) p.position) (length p.buffer == 0) (le-leb (length code) p.position past) (ap (λ (b : List (ℕ × ℕ)). length b == 0) empty)
+
+-- all are done where each is
+all_done : (codes : List (List Instr)) (ps : List Processor)
+    → ((t : ℕ) (p : Processor) → slice_get ps t ≡ Some p → is_done (code_of codes t) p ≡ true)
+    → list_all (λ p. is_done p.0 p.1) (zip codes ps) ≡ true
+all_done [] ps each = refl
+all_done (code ∷ codes) [] each = refl
+all_done (code ∷ codes) (p ∷ ps) each = and_true (is_done code p) _ (each 0 p refl) (all_done codes ps (λ t q at. each (suc t) q at))
+
+forward_jump : (holds : Bool) (k to : ℕ) → k < to → k < (if holds then to else (k + 1))
+forward_jump true k to lt = lt
+forward_jump false k to lt = omega arith
+
+module _ {M : Type 0} (mem : Memory M) (laws : Lawful mem) where
+  -- an act that is done and leads forward
+  record GoesForward (t k : ℕ) (act : Act) (p : Processor) (m : M) : Type 0 where
+    processor : Processor
+    memory : M
+    done : ActDone mem t act p m (Ok tt) processor memory
+    forward : k < processor.position
+
+  -- with an empty buffer each instruction is possible, and leads forward
+  possible : (locs t k : ℕ) (regs : List ℕ) (z : Bool) (i : Instr) (m : M) → mem.sound m → t < mem.cpus m → length (mem.content m) ≡ locs
+      → IsStatement x86 locs i → ForSome (target_of i) (λ to. k < to)
+      → (let p : Processor = record { position = k; regs = regs; zero_flag = z; buffer = [] } in GoesForward t k (step_act (Some i) p) p m)
+  possible locs t k regs z (Store x v) m sound cpu many ok leads = record { processor = _; memory = m; done = (refl, refl, refl); forward = omega arith }
+  possible locs t k regs z (Load d x) m sound cpu many ok leads =
+      let lt : x < length (mem.content m) = omega (arith, many, ok.0 x refl) in
+      let g = laws.serves m (to.Load t x) sound (cpu, lt) tt in
+      record { processor = _; memory = g.0; done = (slice_index (mem.content m) x, refl, refl, g.1); forward = omega arith }
+  possible locs t k regs z (Set d v) m sound cpu many ok leads = record { processor = _; memory = m; done = (refl, refl, refl); forward = omega arith }
+  possible locs t k regs z (Add d v) m sound cpu many ok leads = record { processor = _; memory = m; done = (refl, refl, refl); forward = omega arith }
+  possible locs t k regs z (Cmp a v) m sound cpu many ok leads = record { processor = _; memory = m; done = (refl, refl, refl); forward = omega arith }
+  possible locs t k regs z (Xchg x a) m sound cpu many ok leads =
+      let lt : x < length (mem.content m) = omega (arith, many, ok.0 x refl) in
+      let g = laws.serves m (to.Swap t x (slice_index regs a)) sound (cpu, lt) tt in
+      record { processor = _; memory = g.0; done = (slice_index (mem.content m) x, refl, refl, g.1); forward = omega arith }
+  possible locs t k regs z (Xadd x a) m sound cpu many ok leads =
+      let lt : x < length (mem.content m) = omega (arith, many, ok.0 x refl) in
+      let g = laws.serves m (to.FetchAdd t x (slice_index regs a)) sound (cpu, lt) tt in
+      record { processor = _; memory = g.0; done = (slice_index (mem.content m) x, refl, refl, g.1); forward = omega arith }
+  possible locs t k regs z Mfence m sound cpu many ok leads = record { processor = _; memory = m; done = (refl, refl, refl); forward = omega arith }
+  possible locs t k regs z (Je j) m sound cpu many ok leads = record { processor = _; memory = m; done = (refl, refl, refl); forward = forward_jump z k j (leads j refl) }
+  possible locs t k regs z (Jne j) m sound cpu many ok leads = record { processor = _; memory = m; done = (refl, refl, refl); forward = forward_jump (not z) k j (leads j refl) }
+  possible locs t k regs z (Jmp j) m sound cpu many ok leads = record { processor = _; memory = m; done = (refl, refl, refl); forward = leads j refl }
+
+  module _ (program : List (List Instr)) (locs : ℕ) (threads : All (IsThread x86 locs) program) where
+    abbrev Within : MachineState M → Type 0
+    Within s = IsWithin mem laws program locs threads s
+
+    within_event : (e : Event) (s after : MachineState M) (answer : Answer) → Within s → EventDone mem program e s answer after → Within after
+    within_event e s after answer within = go (slice_get s.processors (cpu_of e)) refl
+      where
+        go : (o : Option Processor) → slice_get s.processors (cpu_of e) ≡ o → DoneBy mem o program e s answer after → Within after
+        go None at done = subst Within (sym done.1) within
+        go (Some p) at done = subst Within (sym done.3) (within_after mem laws program locs threads e s p done.0 done.1 answer within at done.2)
+
+    within_run : (es : List Event) (s end : MachineState M) → Within s → MachineRan mem program es s end → Within end
+    within_run [] s end within ran = subst Within (sym ran) within
+    within_run (e ∷ es) s end within ran = within_run es ran.0 end (within_event e s ran.0 (Ok tt) within ran.1) ran.2
+
+    -- one processor comes to its end, in at most k events of its own
+    record Finished (t k : ℕ) (s : MachineState M) : Type 0 where
+      events : List Event
+      end : MachineState M
+      ran : MachineRan mem program events s end
+      done : (p : Processor) → slice_get end.processors t ≡ Some p → is_done (code_of program t) p ≡ true
+      others : (u : ℕ) → u ≢ t → slice_get end.processors u ≡ slice_get s.processors u
+      within : Within end
+      few : length events ≤ k
+      none : (u : ℕ) → u ≢ t → events_of u events ≡ 0
+      kept : without_evictions events ≡ events
+
+    ended : (t k : ℕ) (s : MachineState M) (p : Processor) → Within s → slice_get s.processors t ≡ Some p → length (code_of program t) ≤ p.position → p.buffer ≡ [] → Finished t k s
+    ended t k s p within at past empty = record {
+      events = [];
+      end = s;
+      ran = refl;
+      done = λ q got. subst (λ (r : Processor). is_done (code_of program t) r ≡ true) (same_Some p q (sym at ∙ got)) (done_at (code_of program t) p past empty);
+      others = λ u ne. refl;
+      within = within;
+      few = omega arith;
+      none = λ u ne. refl;
+      kept = refl;
+    }
+
+    -- one event, and then the others
+    first : (e : Event) (s : MachineState M) (p q : Processor) (n : M) (k : ℕ) → Within s → slice_get s.processors (cpu_of e) ≡ Some p
+        → ActDone mem (cpu_of e) (event_act program (length (mem.content s.memory)) e p) p s.memory (Ok tt) q n
+        → ((es : List Event) → without_evictions (e ∷ es) ≡ e ∷ without_evictions es)
+        → ((mid : MachineState M) → Within mid → slice_get mid.processors (cpu_of e) ≡ Some q → Finished (cpu_of e) k mid)
+        → Finished (cpu_of e) (suc k) s
+    first e s p q n k within at done keeps rest =
+        let mid : MachineState M = record { processors = slice_set s.processors (cpu_of e) q; memory = n } in
+        let f = rest mid (within_after mem laws program locs threads e s p q n (Ok tt) within at done) (slice_get-set_same s.processors (cpu_of e) q (slice_get_within s.processors (cpu_of e) p at)) in
+        record {
+          events = e ∷ f.events;
+          end = f.end;
+          ran = (mid, subst (λ o. DoneBy mem o program e s (Ok tt) mid) (sym at) (q, n, done, refl), f.ran);
+          done = f.done;
+          others = λ u ne. f.others u ne ∙ slice_get-set_other s.processors (cpu_of e) u q ne;
+          within = f.within;
+          few = omega (arith, f.few);
+          none = λ u ne.
+              sum_by-cons (λ (d : Event). cond (cpu_of d == u) 1 0) e f.events
+              ∙ ap₂ (λ a b. a + b) (ap (λ b. cond b 1 0) (ne_eqb (cpu_of e) u (λ same. ne (sym same)))) (f.none u ne);
+          kept = keeps f.events ∙ ap (λ l. e ∷ l) f.kept;
+        }
+
+    -- the next instruction of a processor with an empty buffer
+    stepped : (t : ℕ) (s : MachineState M) (p : Processor) → Within s → slice_get s.processors t ≡ Some p → p.buffer ≡ [] → p.position < length (code_of program t)
+        → GoesForward t p.position (event_act program (length (mem.content s.memory)) (Step t) p) p s.memory
+    stepped t s p within at empty lt =
+        let code = code_of program t in
+        let thread = thread_at mem laws program locs threads s t p within at in
+        let i : Instr = get_or code p.position Mfence in
+        let next : slice_get code p.position ≡ Some i = slice_get-get_or code p.position Mfence lt in
+        let got : get_or code p.position i ≡ i = get_or_from_slice_get code p.position i i next in
+        let cpu : t < mem.cpus s.memory = omega (arith, slice_get_within s.processors t p at, within.cpus) in
+        let g = possible locs t p.position p.regs p.zero_flag i s.memory within.sound cpu within.locations
+        (subst (IsStatement x86 locs) got (thread.there p.position i lt)) (λ j is. (thread.forward p.position i next j is).0) in
+        let same : (let q : Processor = record { position = p.position; regs = p.regs; zero_flag = p.zero_flag; buffer = [] } in q) ≡ p =
+        ap (λ (b : List (ℕ × ℕ)). let q : Processor = record { position = p.position; regs = p.regs; zero_flag = p.zero_flag; buffer = b } in q) (sym empty) in
+        let here = subst (λ (q : Processor). GoesForward t p.position (step_act (Some i) q) q s.memory) same g in
+        subst (λ o. GoesForward t p.position (step_act o p) p s.memory) (sym next) here
+
+    drained : (t : ℕ) (s : MachineState M) (p : Processor) (entry : ℕ × ℕ) (newer : List (ℕ × ℕ)) → Within s → slice_get s.processors t ≡ Some p → p.buffer ≡ entry ∷ newer
+        → (n : M) × ActDone mem t (drain_act p.buffer p) p s.memory (Ok tt) (record p { buffer = newer }) n
+    drained t s p entry newer within at full =
+        let cpu : t < mem.cpus s.memory = omega (arith, slice_get_within s.processors t p at, within.cpus) in
+        let all : All (λ (e : ℕ × ℕ). e.0 < locs) (entry ∷ newer) = subst (All (λ (e : ℕ × ℕ). e.0 < locs)) full (within.rooms t p at).there in
+        let lt : entry.0 < length (mem.content s.memory) = omega (arith, within.locations, all 0 entry (omega arith)) in
+        let g = laws.serves s.memory (to.Store t entry.0 entry.1) within.sound (cpu, lt) tt in
+        (g.0, subst (λ (b : List (ℕ × ℕ)). ActDone mem t (drain_act b p) p s.memory (Ok tt) (record p { buffer = newer }) g.0) (sym full) (refl, refl, g.1))
+
+    -- with at most r steps ahead, and k events
+    finish : (t k r : ℕ) (s : MachineState M) (p : Processor) (b : List (ℕ × ℕ)) → Within s → slice_get s.processors t ≡ Some p → p.buffer ≡ b
+        → length (code_of program t) ≤ r + p.position → r + (length b + stores_from p.position (code_of program t)) ≤ k → Finished t k s
+    finish t zero r s p [] within at is ahead small = ended t 0 s p within at (omega arith) is
+    finish t zero r s p (entry ∷ newer) within at is ahead small = absurd (omega arith)
+    finish t (suc k) r s p (entry ∷ newer) within at is ahead small =
+        let d = drained t s p entry newer within at is in
+        first (Drain t) s p (record p { buffer = newer }) d.0 k within at d.1 (λ es. refl)
+        (λ mid w got. finish t k r mid (record p { buffer = newer }) newer w got refl ahead (omega arith))
+    finish t (suc k) zero s p [] within at is ahead small = ended t (suc k) s p within at (omega arith) is
+    finish t (suc k) (suc r) s p [] within at is ahead small =
+        ⊎_elim
+        (λ lt. go lt (λ mid q w got. finish t k r mid q q.buffer w got refl))
+        (λ past. ended t (suc k) s p within at past is)
+        (cases_lt p.position (length (code_of program t)))
+      where
+        go : p.position < length (code_of program t)
+            → ((mid : MachineState M) (q : Processor) → Within mid → slice_get mid.processors t ≡ Some q → length (code_of program t) ≤ r + q.position
+            → r + (length q.buffer + stores_from q.position (code_of program t)) ≤ k → Finished t k mid)
+            → Finished t (suc k) s
+        go lt later =
+            let g = stepped t s p within at is lt in
+            let had : HasRoom locs (code_of program t) p (stores_from p.position (code_of program t)) = record { fits = omega (arith, ap length is); there = (within.rooms t p at).there } in
+            let has = event_room mem program locs (stores_from p.position (code_of program t)) (Step t) p g.processor s.memory g.memory (Ok tt) (thread_at mem laws program locs threads s t p within at) g.done had in
+            first (Step t) s p g.processor g.memory k within at g.done (λ es. refl)
+            (λ mid w got. later mid g.processor w got (omega (arith, ahead, g.forward)) (omega (arith, small, has.fits)))
+
+    -- the first k processors have come to their ends
+    record Part (k : ℕ) (s : MachineState M) : Type 0 where
+      events : List Event
+      end : MachineState M
+      ran : MachineRan mem program events s end
+      within : Within end
+      done : (t : ℕ) (p : Processor) → t < k → slice_get end.processors t ≡ Some p → is_done (code_of program t) p ≡ true
+      few : (t : ℕ) → events_of t events ≤ 64
+      none : (t : ℕ) → k ≤ t → events_of t events ≡ 0
+      kept : without_evictions events ≡ events
+
+    count_append : (u : ℕ) (es fs : List Event) → events_of u (es ++ fs) ≡ events_of u es + events_of u fs
+    count_append u es fs = sum_by-append (λ (d : Event). cond (cpu_of d == u) 1 0) es fs
+
+    one_more : (k : ℕ) (s : MachineState M) (a : Part k s) → Finished k 64 a.end → Part (suc k) s
+    one_more k s a f = record {
+      events = a.events ++ f.events;
+      end = f.end;
+      ran = Ran-append (EventDone mem program) (is_final program) a.events f.events s a.end f.end a.ran f.ran;
+      within = f.within;
+      done = λ t p lt got. ⊎_elim
+          (λ same. subst (λ (u : ℕ). is_done (code_of program u) p ≡ true) (sym same) (f.done p (subst (λ (u : ℕ). slice_get f.end.processors u ≡ Some p) same got)))
+          (λ ne. a.done t p (omega arith) (sym (f.others t ne) ∙ got))
+          (cases_eq t k);
+      few = λ t. ⊎_elim (λ same. subst (λ (u : ℕ). events_of u (a.events ++ f.events) ≤ 64) (sym same) here) (λ ne. there t ne) (cases_eq t k);
+      none = λ t le. absent t le;
+      kept = without_append a.events f.events ∙ ap₂ (λ x y. x ++ y) a.kept f.kept;
+    }
+      where
+        here : events_of k (a.events ++ f.events) ≤ 64
+        here = omega (arith, count_append k a.events f.events, a.none k (omega arith), count_by-le-length (λ (d : Event). cpu_of d == k) f.events, f.few)
+
+        there : (t : ℕ) → t ≢ k → events_of t (a.events ++ f.events) ≤ 64
+        there t ne = omega (arith, count_append t a.events f.events, a.few t, f.none t ne)
+
+        absent : (t : ℕ) → suc k ≤ t → events_of t (a.events ++ f.events) ≡ 0
+        absent t le = let ne : t ≢ k = omega arith in omega (arith, count_append t a.events f.events, a.none t (omega arith), f.none t ne)
+
+    idle : (k : ℕ) (s : MachineState M) (a : Part k s) → slice_get a.end.processors k ≡ None → Finished k 64 a.end
+    idle k s a at = record {
+      events = [];
+      end = a.end;
+      ran = refl;
+      done = λ p got. absurd (let e : ◌≡◌ {A = Option Processor} None (Some p) = sym at ∙ got in cc);
+      others = λ u ne. refl;
+      within = a.within;
+      few = omega arith;
+      none = λ u ne. refl;
+      kept = refl;
+    }
+
+    parts : (k : ℕ) (s : MachineState M) → Within s → Part k s
+    parts zero s within = record { events = []; end = s; ran = refl; within = within; done = λ t p lt got. absurd (omega arith); few = λ t. omega arith; none = λ t le. refl; kept = refl }
+    parts (suc k) s within = more (parts k s within)
+      where
+        more : Part k s → Part (suc k) s
+        more a = one_more k s a (go (slice_get a.end.processors k) refl)
+          where
+            go : (o : Option Processor) → slice_get a.end.processors k ≡ o → Finished k 64 a.end
+            go None at = idle k s a at
+            go (Some p) at =
+                let code = code_of program k in
+                let thread = thread_at mem laws program locs threads a.end k p a.within at in
+                let most : stores_from 0 code ≤ length code = count_by-le-length is_store code in
+                finish k 64 (length code) a.end p p.buffer a.within at refl (omega arith) (omega (arith, thread.short, (a.within.rooms k p at).fits, most))
+
+    -- it ends from each state that runs lead to
+    ends_from : (s : MachineState M) → Within s → CanEnd mem program s
+    ends_from s within =
+        let a = parts (length program) s within in
+        let all : IsTrue (is_final program a.end) = all_done program a.end.processors (λ t p got. a.done t p (omega (arith, slice_get_within a.end.processors t p got, a.within.as_many)) got) in
+        record {
+          more = a.events;
+          end = a.end;
+          ran = a.ran;
+          final = all;
+          few = a.few;
+          no_evictions = a.kept;
+        }
+
+  -- every run can be brought to its end
+  pub can_end : (test : ProgramTest) → IsWellFormedProgram test → (m : M) (es : List Event) (s : MachineState M) → CanStart mem test m
+      → MachineRan mem test.threads es (machine_start test m) s → CanEnd mem test.threads s
+  can_end test ok m es s start ran =
+      ends_from test.threads (length test.head.locs) ok.code s
+      (within_run test.threads (length test.head.locs) ok.code es (machine_start test m) s (within_first mem laws test ok m start) ran)

@@ -1,0 +1,224 @@
+-- A run over the flat memory is a run over every memory that keeps the laws.
+use Rattle.std.proofs.Common.{◌≡◌, ◌↔◌, ℕ, ◌<◌, ◌≤◌, nat_lt, true, false, List, [], ◌∷◌, length, map, get_or, Ok, Err, Option, Some, None, refl, sym, ap, ◌∙◌, subst, arith, slice_get, slice_set}
+use Rattle.std.specs.Prelude.{All, if◌then◌else◌, IsTrue}
+use Rattle.std.specs.Option.{option_map}
+use Rattle.std.proofs.lemmas.List.{length-map, length-set}
+use Rattle.std.proofs.lemmas.List.Elements.{All-nil}
+use Rattle.std.proofs.lemmas.Option.{slice_get-map, slice_get_within, get_or_from_slice_get, same_Some}
+use Rattle.lw_base.specs.Outcomes.{Final}
+use Rattle.lw_base.specs.declared.event.Event.{Event}
+use Rattle.lw_base.specs.declared.event.Event.TheVariants.{Step, Drain, Evict}
+use Rattle.lw_base.specs.declared.stop.Stop.{Stop}
+use Rattle.lw_base.specs.declared.stop.Stop.TheVariants.{NoLocation, FenceWaits, SwapWaits}
+use Rattle.lw_memory.specs.declared.system.Request.{Request}
+use Rattle.lw_memory.specs.declared.system.Request.TheVariants as to
+use Rattle.lw_memory.specs.Content.{answer_of, content_after}
+use Rattle.lw_memory.specs.Flat.{flat}
+use Rattle.lw_memory.specs.Memory.{Memory, Lawful, IsInRange, IsPossible}
+use Rattle.lw_cells.specs.Tests.{IsThread, IsStatement}
+use Rattle.lw_cells.proofs.Lists.{each_after}
+use Rattle.lw_x86.specs.declared.instr.Instr.{Instr}
+use Rattle.lw_x86.specs.declared.instr.Instr.TheVariants.{Store, Load, Set, Add, Cmp, Xchg, Xadd, Mfence, Je, Jne, Jmp}
+use Rattle.lw_x86.specs.Programs.{ProgramTest, IsWellFormedProgram, x86}
+use Rattle.lw_tso.specs.Processors.{Processor, newest, starting}
+use Rattle.lw_base.specs.Threads.{code_of}
+use Rattle.lw_tso.specs.Acts.{Act, Refused, Goes, Loads, Stores, Swaps, Adds, Evicts, cpu_of, event_act, step_act, drain_act, load_act, once_empty}
+use Rattle.lw_tso.specs.Machines.{MachineState, Answer, ActDone, DoneBy, EventDone}
+use Rattle.lw_tso.specs.Rooms.{HasRoom, stores_from}
+use Rattle.lw_tso.specs.Runs.{MachineRan, Replays, MachineOutcome, machine_start, machine_outcome, is_final}
+use Rattle.lw_tso.specs.Evictions.{without_evictions}
+use Rattle.lw_tso.specs.Starts.{CanStart}
+use Rattle.lw_tso.proofs.Acts.{act_kept}
+use Rattle.lw_tso.proofs.Rooms.{event_room}
+use Rattle.lw_tso.proofs.Flatten.{flatten, replays_flat}
+
+-- it asks for one of so many locations, if for any
+abbrev AsksWithin : ℕ → Act → Type 0
+AsksWithin locs (Refused stop) = Unit {0}
+AsksWithin locs (Goes p) = Unit {0}
+AsksWithin locs (Loads x next) = x < locs
+AsksWithin locs (Stores x w p) = x < locs
+AsksWithin locs (Swaps x v next) = x < locs
+AsksWithin locs (Adds x v next) = x < locs
+AsksWithin locs (Evicts x) = Unit {0}
+
+load_within : (locs : ℕ) (o : Option ℕ) (x : ℕ) (next : ℕ → Processor) → x < locs → AsksWithin locs (load_act o x next)
+load_within locs None x next lt = lt
+load_within locs (Some w) x next lt = tt
+
+once_within : (locs : ℕ) (buffer : List (ℕ × ℕ)) (stop : Stop) (act : Act) → AsksWithin locs act → AsksWithin locs (once_empty buffer stop act)
+once_within locs [] stop act h = h
+once_within locs (entry ∷ newer) stop act h = tt
+
+instruction_within : (locs : ℕ) (i : Instr) (p : Processor) → IsStatement x86 locs i → AsksWithin locs (step_act (Some i) p)
+instruction_within locs (Store x v) p ok = tt
+instruction_within locs (Load d x) p ok = load_within locs (newest p.buffer x) x _ (ok.0 x refl)
+instruction_within locs (Set d v) p ok = tt
+instruction_within locs (Add d v) p ok = tt
+instruction_within locs (Cmp a v) p ok = tt
+instruction_within locs (Xchg x a) p ok = once_within locs p.buffer SwapWaits _ (ok.0 x refl)
+instruction_within locs (Xadd x a) p ok = once_within locs p.buffer SwapWaits _ (ok.0 x refl)
+instruction_within locs Mfence p ok = once_within locs p.buffer FenceWaits _ tt
+instruction_within locs (Je to) p ok = tt
+instruction_within locs (Jne to) p ok = tt
+instruction_within locs (Jmp to) p ok = tt
+
+step_within : (locs : ℕ) (code : List Instr) (o : Option Instr) (p : Processor) → IsThread x86 locs code → slice_get code p.position ≡ o → AsksWithin locs (step_act o p)
+step_within locs code None p thread at = tt
+step_within locs code (Some i) p thread at =
+    let there = thread.there p.position i (slice_get_within code p.position i at) in
+    let got : get_or code p.position i ≡ i = get_or_from_slice_get code p.position i i at in
+    instruction_within locs i p (subst (IsStatement x86 locs) got there)
+
+drain_within : (locs : ℕ) (buffer : List (ℕ × ℕ)) (p : Processor) → All (λ (e : ℕ × ℕ). e.0 < locs) buffer → AsksWithin locs (drain_act buffer p)
+drain_within locs [] p there = tt
+drain_within locs (entry ∷ newer) p there = there 0 entry (omega arith)
+
+module _ {M : Type 0} (mem : Memory M) (laws : Lawful mem) where
+  -- a request, done over the content, is done over the memory
+  served_too : (r : Request) (a : Option ℕ) (m : M) (words : List ℕ) → mem.sound m → IsInRange (mem.cpus m) (length (mem.content m)) r → IsPossible (mem.state m) r
+      → a ≡ answer_of (mem.content m) r → words ≡ content_after (mem.content m) r → (n : M) × mem.serves m r a n × (mem.content n ≡ words)
+  served_too r a m words sound there possible answer after =
+      let g = laws.serves m r sound there possible in
+      (g.0, subst (λ b. mem.serves m r b g.0) (sym answer) g.1, (laws.served m r (answer_of (mem.content m) r) g.0 sound g.1).content ∙ sym after)
+
+  act_lift : (t : ℕ) (act : Act) (p q : Processor) (m : M) (words : List ℕ) → mem.sound m → t < mem.cpus m → AsksWithin (length (mem.content m)) act
+      → ActDone flat t act p (mem.content m) (Ok tt) q words → (n : M) × ActDone mem t act p m (Ok tt) q n × (mem.content n ≡ words)
+  act_lift t (Refused stop) p q m words sound cpu within done = (m, (done.0, done.1, refl), sym done.2)
+  act_lift t (Goes next) p q m words sound cpu within done = (m, (done.0, done.1, refl), sym done.2)
+  act_lift t (Loads x next) p q m words sound cpu within done =
+      let g = served_too (to.Load t x) (Some done.0) m words sound (cpu, within) tt done.3.0 done.3.1 in
+      (g.0, (done.0, done.1, done.2, g.1), g.2)
+  act_lift t (Stores x w next) p q m words sound cpu within done =
+      let g = served_too (to.Store t x w) None m words sound (cpu, within) tt done.2.0 done.2.1 in
+      (g.0, (done.0, done.1, g.1), g.2)
+  act_lift t (Swaps x v next) p q m words sound cpu within done =
+      let g = served_too (to.Swap t x v) (Some done.0) m words sound (cpu, within) tt done.3.0 done.3.1 in
+      (g.0, (done.0, done.1, done.2, g.1), g.2)
+  act_lift t (Adds x v next) p q m words sound cpu within done =
+      let g = served_too (to.FetchAdd t x v) (Some done.0) m words sound (cpu, within) tt done.3.0 done.3.1 in
+      (g.0, (done.0, done.1, done.2, g.1), g.2)
+  act_lift t (Evicts x) p q m words sound cpu within done =
+      absurd (let e : ◌≡◌ {A = Answer} (Ok tt) (Err _) = done.0 in cc)
+
+  module _ (program : List (List Instr)) (locs : ℕ) (threads : All (IsThread x86 locs) program) where
+    -- the room that a processor's buffer never needs more of
+    abbrev HasRoomAt : ℕ → Processor → Type 0
+    HasRoomAt t p = HasRoom locs (code_of program t) p (stores_from 0 (code_of program t))
+
+    -- what every run of the program keeps
+    pub record IsWithin (s : MachineState M) : Type 0 where
+      pub sound : mem.sound s.memory
+      pub locations : length (mem.content s.memory) ≡ locs
+      pub cpus : length s.processors ≤ mem.cpus s.memory
+      pub as_many : length s.processors ≡ length program
+      pub rooms : (t : ℕ) (p : Processor) → slice_get s.processors t ≡ Some p → HasRoomAt t p
+
+    pub thread_at : (s : MachineState M) (t : ℕ) (p : Processor) → IsWithin s → slice_get s.processors t ≡ Some p → IsThread x86 locs (code_of program t)
+    thread_at s t p within at = threads t _ (omega (arith, slice_get_within s.processors t p at, within.as_many))
+
+    pub within_after : (e : Event) (s : MachineState M) (p q : Processor) (n : M) (answer : Answer) → IsWithin s → slice_get s.processors (cpu_of e) ≡ Some p
+        → ActDone mem (cpu_of e) (event_act program (length (mem.content s.memory)) e p) p s.memory answer q n
+        → IsWithin (record { processors = slice_set s.processors (cpu_of e) q; memory = n })
+    within_after e s p q n answer within at done =
+        let kept = act_kept mem laws (cpu_of e) (event_act program (length (mem.content s.memory)) e p) p q s.memory n answer within.sound done in
+        let longer = length-set s.processors (cpu_of e) q in
+        let room = event_room mem program locs (stores_from 0 (code_of program (cpu_of e))) e p q s.memory n answer (thread_at s (cpu_of e) p within at) done (within.rooms (cpu_of e) p at) in
+        record {
+          sound = kept.sound;
+          locations = kept.locations ∙ within.locations;
+          cpus = omega (arith, longer, kept.cpus, within.cpus);
+          as_many = longer ∙ within.as_many;
+          rooms = each_after HasRoomAt s.processors (cpu_of e) q (slice_get_within s.processors (cpu_of e) p at) within.rooms room;
+        }
+
+    event_within : (e : Event) (p : Processor) (s : MachineState M) → IsWithin s → slice_get s.processors (cpu_of e) ≡ Some p
+        → AsksWithin locs (event_act program (length (mem.content s.memory)) e p)
+    event_within (Step t) p s within at = step_within locs (code_of program t) (slice_get (code_of program t) p.position) p (thread_at s t p within at) refl
+    event_within (Drain t) p s within at = drain_within locs p.buffer p (within.rooms t p at).there
+    event_within (Evict t x) p s within at = go (nat_lt x (length (mem.content s.memory)))
+      where
+        go : (there : _) → AsksWithin locs (if there then Evicts x else Refused NoLocation)
+        go true = tt
+        go false = tt
+
+    -- an event, done over the content, is done over the memory
+    record LiftedEvent (e : Event) (s : MachineState M) (mid : MachineState (List ℕ)) : Type 0 where
+      after : MachineState M
+      done : EventDone mem program e s (Ok tt) after
+      is : flatten mem laws after ≡ mid
+      within : IsWithin after
+
+    event_lift : (o : Option Processor) (e : Event) (s : MachineState M) (mid : MachineState (List ℕ)) → IsWithin s → slice_get s.processors (cpu_of e) ≡ o
+        → DoneBy flat o program e (flatten mem laws s) (Ok tt) mid → LiftedEvent e s mid
+    event_lift None e s mid within at done = absurd (let e : ◌≡◌ {A = Answer} (Ok tt) (Err _) = done.0 in cc)
+    event_lift (Some p) e s mid within at done =
+        let asks = subst (λ l. AsksWithin l (event_act program (length (mem.content s.memory)) e p)) (sym within.locations) (event_within e p s within at) in
+        let cpu : cpu_of e < mem.cpus s.memory = omega (arith, slice_get_within s.processors (cpu_of e) p at, within.cpus) in
+        let g = act_lift (cpu_of e) (event_act program (length (mem.content s.memory)) e p) p done.0 s.memory done.1 within.sound cpu asks done.2 in
+        let end : MachineState M = record { processors = slice_set s.processors (cpu_of e) done.0; memory = g.0 } in
+        record {
+          after = end;
+          done = subst (λ o. DoneBy mem o program e s (Ok tt) end) (sym at) (done.0, g.0, g.1, refl);
+          is = ap (λ (words : List ℕ). let a : MachineState (List ℕ) = record { processors = slice_set s.processors (cpu_of e) done.0; memory = words } in a) g.2 ∙ sym done.3;
+          within = within_after e s p done.0 g.0 (Ok tt) within at g.1;
+        }
+
+    pub record LiftedRun (es : List Event) (s : MachineState M) (last : MachineState (List ℕ)) : Type 0 where
+      pub end : MachineState M
+      pub ran : MachineRan mem program es s end
+      pub is : flatten mem laws end ≡ last
+
+    pub run_lift : (es : List Event) (s : MachineState M) (last : MachineState (List ℕ)) → IsWithin s → MachineRan flat program es (flatten mem laws s) last → LiftedRun es s last
+    run_lift [] s last within ran = record { end = s; ran = refl; is = sym ran }
+    run_lift (e ∷ es) s last within ran =
+        let a = event_lift (slice_get s.processors (cpu_of e)) e s ran.0 within refl ran.1 in
+        let b = run_lift es a.after last a.within (subst (λ (x : MachineState (List ℕ)). MachineRan flat program es x last) (sym a.is) ran.2) in
+        record { end = b.end; ran = (a.after, a.done, b.ran); is = b.is }
+
+  module _ (test : ProgramTest) (ok : IsWellFormedProgram test) where
+    abbrev locs : ℕ
+    locs = length test.head.locs
+
+    started : (p : Processor) (o : Option (List ℕ)) → Some p ≡ option_map starting o → (r : List ℕ) × (p ≡ starting r)
+    started p None e = absurd cc
+    started p (Some r) e = (r, same_Some p (starting r) e)
+
+    pub within_first : (m : M) → CanStart mem test m → IsWithin test.threads locs ok.code (machine_start test m)
+    within_first m start =
+        let many : length (map starting test.head.init_regs) ≡ length test.threads = length-map test.head.init_regs starting ∙ ok.head.regs ∙ sym ok.as_many in
+        record {
+          sound = start.sound;
+          locations = ap length start.words ∙ ok.head.words;
+          cpus = omega (arith, many, start.cpus);
+          as_many = many;
+          rooms = λ t p at.
+              let first = started p (slice_get test.head.init_regs t) (sym at ∙ slice_get-map starting test.head.init_regs t) in
+              subst (λ q. HasRoom locs (code_of test.threads t) q (stores_from 0 (code_of test.threads t))) (sym first.1) (record { fits = omega arith; there = All-nil _ });
+        }
+
+    -- a list that replays over the flat memory replays over this one
+    pub replays_lift : (m : M) (es : List Event) (o : Final) → CanStart mem test m → Replays flat test test.head.init_words es o → Replays mem test m es o
+    replays_lift m es o start r =
+        let ran = subst (λ w. MachineRan flat test.threads es (machine_start test w) r.end) (sym start.words) r.ran in
+        let a = run_lift test.threads locs ok.code es (machine_start test m) r.end (within_first m start) ran in
+        record {
+          end = a.end;
+          ran = a.ran;
+          final = subst (λ (s : MachineState (List ℕ)). IsTrue (is_final test.threads s)) (sym a.is) r.final;
+          is = r.is ∙ ap (λ (s : MachineState (List ℕ)). machine_outcome flat s) (sym a.is);
+        }
+
+    -- the outcomes are those of the flat memory
+    pub outcomes_flat : (m : M) (o : Final) → CanStart mem test m → MachineOutcome mem test m o ↔ MachineOutcome flat test test.head.init_words o
+    outcomes_flat m o start = (
+      (λ a. (without_evictions a.0, subst (λ w. Replays flat test w (without_evictions a.0) o) start.words (replays_flat mem laws test m a.0 o start.sound a.1))),
+      (λ a. (a.0, replays_lift m a.0 o start a.1)),
+    )
+
+    -- a list without evictions replays over the one where it does over the other
+    pub replays_alike : (m : M) (es : List Event) (o : Final) → CanStart mem test m → without_evictions es ≡ es → Replays mem test m es o ↔ Replays flat test test.head.init_words es o
+    replays_alike m es o start none = (
+      (λ r. subst (λ fs. Replays flat test test.head.init_words fs o) none (subst (λ w. Replays flat test w (without_evictions es) o) start.words (replays_flat mem laws test m es o start.sound r))),
+      (λ r. replays_lift m es o start r),
+    )

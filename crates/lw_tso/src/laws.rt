@@ -1,0 +1,37 @@
+//! Laws of whole runs, over every memory system that keeps its laws.
+//! A law is a function without a body, whose contract is the law; who needs it calls the function.
+ghost use Rattle.std.specs.Prelude.{◌≡◌, ◌↔◌, List};
+ghost use Rattle.lw_base.specs.Outcomes.{Final};
+ghost use Rattle.lw_base.specs.declared.event.Event.{Event};
+ghost use Rattle.lw_memory.specs.Flat.{flat};
+ghost use Rattle.lw_memory.specs.Memory.{memory_of};
+ghost use Rattle.lw_x86.specs.Programs.{ProgramTest, IsWellFormedProgram};
+ghost use Rattle.lw_tso.specs.Endings.{CanEnd};
+ghost use Rattle.lw_tso.specs.Evictions.{without_evictions};
+ghost use Rattle.lw_tso.specs.Machines.{MachineState};
+ghost use Rattle.lw_tso.specs.Runs.{MachineRan, Replays, MachineOutcome, machine_start};
+ghost use Rattle.lw_tso.specs.Starts.{CanStart};
+
+use lw_memory::MemorySystem;
+
+/// The outcomes of a program are the same over every memory system: those over the flat one.
+pub fn outcomes_are_flat<M: MemorySystem>()
+    ensures { (test : ProgramTest) (m : M) (o : Final) → IsWellFormedProgram test
+        → CanStart (memory_of M.content M.cpus M.state M.sound M.serves) test m
+        → MachineOutcome (memory_of M.content M.cpus M.state M.sound M.serves) test m o ↔ MachineOutcome flat test test.head.init_words o }
+{}
+
+/// A list of events without evictions replays over a memory system to an outcome exactly where it does over the flat one.
+pub fn replays_are_flat<M: MemorySystem>()
+    ensures { (test : ProgramTest) (m : M) (events : List Event) (o : Final) → IsWellFormedProgram test
+        → CanStart (memory_of M.content M.cpus M.state M.sound M.serves) test m → without_evictions events ≡ events
+        → Replays (memory_of M.content M.cpus M.state M.sound M.serves) test m events o ↔ Replays flat test test.head.init_words events o }
+{}
+
+/// Every run of a program, over every memory system, can be brought to a final state, by a few more events of each thread.
+pub fn every_run_ends<M: MemorySystem>()
+    ensures { (test : ProgramTest) (m : M) (events : List Event) (s : MachineState M) → IsWellFormedProgram test
+        → CanStart (memory_of M.content M.cpus M.state M.sound M.serves) test m
+        → MachineRan (memory_of M.content M.cpus M.state M.sound M.serves) test.threads events (machine_start test m) s
+        → CanEnd (memory_of M.content M.cpus M.state M.sound M.serves) test.threads s }
+{}
