@@ -54,10 +54,10 @@ impl<P: KeptProtocol, A: Allocator + Copy> SnoopingCaches<P, A> {
         ensures lines { IfOk result (λ m. m.lines ≡ map unheld_line words.now) }
         ensures kept { IfOk result (IsKept P.protocol) }
     {
-        let lines = words
-            .iter()
-            .map(|word| PackedCacheLine::new(*word))
-            .collect(alloc)?;
+        let mut lines = Vec::new(alloc);
+        for word in words {
+            lines.push(PackedCacheLine::new(*word))?;
+        }
         Ok(SnoopingCaches {
             cpus,
             lines,
