@@ -1,0 +1,106 @@
+-- The schedule of a source run, thread by thread of its order.
+use Rattle.std.proofs.Common.{◌≡◌, ℕ, ◌+◌, ◌-◌, ◌<◌, ◌≤◌, List, [], ◌∷◌, ◌++◌, length, Result, map, drop, replicate, Option, Some, Ok, sym, ap, ap₂, ◌∙◌, subst, ◌⊎◌, inl, inr, arith, append_assoc}
+use Rattle.std.specs.Prelude.{if◌then◌else◌, slice_get, slice_index, slice_index_or}
+use Rattle.std.proofs.lemmas.Bool.{cases_lt}
+use Rattle.std.proofs.lemmas.List.{drop_more, get_or_read, get_or_past}
+use Rattle.std.proofs.lemmas.Option.{slice_get_within, same_Some}
+use Rattle.lw_base.specs.Threads.{code_of}
+use Rattle.lw_base.specs.declared.event.Event.{Event}
+use Rattle.lw_base.specs.declared.event.Event.TheVariants.{Step, Drain}
+use Rattle.lw_base.specs.declared.stop.Stop.{Stop}
+use Rattle.lw_cells.proofs.Lists.{get_some, at_index}
+use Rattle.lw_source.specs.declared.stmt.Stmt.{Stmt}
+use Rattle.lw_source.specs.declared.thread.Thread.{Thread}
+use Rattle.lw_source.specs.Sources.{SourceTest}
+use Rattle.lw_source.specs.Runs.{State, Ran, source_step}
+use Rattle.lw_source.proofs.Exchange.{stepped}
+use Rattle.lw_x86.specs.Programs.{ProgramTest}
+use Rattle.lw_fence.specs.Fences.{is_store}
+use Rattle.lw_fence.specs.Compiling.{IsCompiled}
+use Rattle.lw_fence.specs.Schedules.{statement_events, thread_events, going_on, schedule}
+use Rattle.lw_fence.proofs.Lists.{got_map}
+use Rattle.lw_fence.proofs.Placed.{placed_at}
+use Rattle.lw_fence.proofs.Walk.{starts_many}
+
+-- A statement of a compiled thread has its place among the starts.
+pub record HasStart (program : List (List Stmt)) (starts : List (List ℕ)) (t place : ℕ) : Type 0 where
+  pub within : t < length program
+  pub as_many : length starts ≡ length program
+  pub next : place + 1 < length (code_of starts t)
+  pub grows : slice_index (code_of starts t) place ≤ slice_index (code_of starts t) (place + 1)
+
+pub has_start : (s : SourceTest) (p : ProgramTest) (starts : List (List ℕ)) (t place : ℕ) → IsCompiled s p starts → place < length (code_of s.threads t) → HasStart s.threads starts t place
+has_start s p starts t place compiled there = go (cases_lt t (length s.threads))
+  where
+    go : (t < length s.threads) ⊎ (length s.threads ≤ t) → HasStart s.threads starts t place
+    go (inl within) =
+        let stmt = get_some (code_of s.threads t) place there in
+        let stands = (placed_at s p starts compiled t within).at place stmt.0 stmt.1 in
+        let thread = compiled.threads t (code_of s.threads t) (code_of p.threads t) (code_of starts t) (at_index s.threads t [] within) (at_index p.threads t [] (omega (arith, compiled.as_many))) (at_index starts t [] (omega (arith, compiled.as_many_starts))) in
+        record {
+          within = within;
+          as_many = compiled.as_many_starts;
+          next = omega (arith, there, ap length thread.starts_are, starts_many 0 thread.fences (code_of s.threads t));
+          grows = omega (arith, stands.next);
+        }
+    go (inr past) = absurd (omega (arith, there, ap length (get_or_past s.threads t [] past)))
+
+-- the code of a thread, as it is read
+pub code_read : {X : Type 0} (program lists : List (List X)) (t i : ℕ) (code list : List X) → lists ≡ program → i ≡ t → t < length program → list ≡ slice_index_or lists i list → code ≡ list → code ≡ code_of program t
+code_read {X} program lists t i code list same place within is read =
+    let at : list ≡ slice_index_or program t list = is ∙ ap₂ (λ (l : List (List X)) (k : ℕ). slice_index_or l k list) same place in
+    read ∙ get_or_read program t list within at []
+
+-- the events of a statement that is there
+pub events_of_statement : (t place : ℕ) (program : List (List Stmt)) (starts : List (List ℕ)) (code : List Stmt) (begins : List ℕ) (stmt : Stmt) → code ≡ code_of program t → begins ≡ code_of starts t → place < length code → stmt ≡ slice_index_or code place stmt → statement_events t (code_of starts t) place (slice_get (code_of program t) place) ≡ replicate (slice_index begins (place + 1) - slice_index begins place) (Step t) ++ (if is_store stmt then Drain t ∷ [] else [])
+events_of_statement t place program starts code begins stmt same begin there is =
+    let at : slice_get code place ≡ Some stmt = at_index code place stmt there ∙ ap Some (sym is) in
+    ap₂ (λ (b : List ℕ) (o : Option Stmt). statement_events t b place o) (sym begin) (ap (λ (c : List Stmt). slice_get c place) (sym same) ∙ at)
+
+-- A possible step of the order's next thread.
+pub record Turn (program : List (List Stmt)) (order : List ℕ) (i t : ℕ) (s : State) : Type 0 where
+  pub mid : State
+  pub step : source_step program t s ≡ Ok mid
+  pub more : (end : State) × Ran program (map Step (drop (i + 1) order)) mid end
+  pub thread : Thread
+  pub was : slice_get s.threads t ≡ Some thread
+  pub there : thread.position < length (code_of program t)
+
+module _ (program : List (List Stmt)) (order : List ℕ) (i t : ℕ) (within : i < length order) (is : t ≡ slice_index_or order i t) where
+  next_is : drop i order ≡ t ∷ drop (i + 1) order
+  next_is = drop_more order i t within ∙ ap (λ (u : ℕ). u ∷ drop (i + 1) order) (sym is)
+
+  pub next_turn : (s : State) → (end : State) × Ran program (map Step (drop i order)) s end → Turn program order i t s
+  next_turn s possible =
+      let ran = subst (λ (ts : List ℕ). Ran program (map Step ts) s possible.0) next_is possible.1 in
+      let d = stepped program t s ran.0 ran.1 in
+      record {
+        mid = ran.0;
+        step = ran.1;
+        more = (possible.0, ran.2);
+        thread = d.thread;
+        was = d.was;
+        there = slice_get_within (code_of program t) d.thread.position d.stmt d.at;
+      }
+
+  pub placed_in : (s : State) (turn : Turn program order i t s) (place : ℕ) → slice_get (map (λ (th : Thread). th.position) s.threads) t ≡ Some place → place ≡ turn.thread.position
+  placed_in s turn place at =
+      let a = got_map (λ (th : Thread). th.position) s.threads t place at in
+      let same : a.0 ≡ turn.thread = same_Some a.0 turn.thread (sym a.1 ∙ turn.was) in
+      a.2 ∙ ap (λ (th : Thread). th.position) same
+
+  -- the schedule from here, by this step's events
+  schedule_next : (starts : List (List ℕ)) (s mid : State) (place : ℕ) → slice_get (map (λ (th : Thread). th.position) s.threads) t ≡ Some place → source_step program t s ≡ Ok mid → schedule program starts (drop i order) s ≡ statement_events t (code_of starts t) place (slice_get (code_of program t) place) ++ schedule program starts (drop (i + 1) order) mid
+  schedule_next starts s mid place at step =
+      let a = got_map (λ (th : Thread). th.position) s.threads t place at in
+      let events : thread_events program starts t (slice_get s.threads t) ≡ statement_events t (code_of starts t) place (slice_get (code_of program t) place) =
+      ap (λ (o : Option Thread). thread_events program starts t o) a.1 ∙ ap (λ (k : ℕ). statement_events t (code_of starts t) k (slice_get (code_of program t) k)) (sym a.2) in
+      ap (λ (ts : List ℕ). schedule program starts ts s) next_is
+      ∙ ap₂ (λ (es : List Event) (o : Result State Stop). es ++ going_on o (schedule program starts (drop (i + 1) order))) events step
+
+  -- what has been pushed and what is to come are the whole, one thread further
+  pub one_further : (starts : List (List ℕ)) (s mid : State) (place : ℕ) (events more whole : List Event) → slice_get (map (λ (th : Thread). th.position) s.threads) t ≡ Some place → source_step program t s ≡ Ok mid → more ≡ events ++ statement_events t (code_of starts t) place (slice_get (code_of program t) place) → events ++ schedule program starts (drop i order) s ≡ whole → more ++ schedule program starts (drop (i + 1) order) mid ≡ whole
+  one_further starts s mid place events more whole at step pushed so_far =
+      let rest = schedule program starts (drop (i + 1) order) mid in
+      let row = statement_events t (code_of starts t) place (slice_get (code_of program t) place) in
+      ap (λ (es : List Event). es ++ rest) pushed ∙ append_assoc events row rest ∙ ap (λ (es : List Event). events ++ es) (sym (schedule_next starts s mid place at step)) ∙ so_far

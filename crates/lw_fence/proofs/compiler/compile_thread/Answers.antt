@@ -1,0 +1,19 @@
+use Rattle.std.proofs.Common.{◌≡◌, ◌+◌, length, ap, ap₂, ◌∙◌, arith}
+use Rattle.lw_fence.specs.Compiling.{rows, starts_from}
+use Rattle.lw_fence.proofs.Walk.{starts_many}
+use Rattle.lw_fence.proofs.compiler.compile_thread.Goals as goal
+
+pub rows_of-requires-clause-targets : goal.rows_of-requires-clause-targets
+rows_of-requires-clause-targets g c j s at to leads =
+    let forward = c.requires.forward j s at to leads in
+    let many : length c.as_slice-3.result.now ≡ length c.args.stmts.now + 1 = ap length (c.as_slice-3.ensures ∙ c.in_ok-starts.ensures) ∙ starts_many 0 _ c.args.stmts.now in
+    omega (arith, forward.1, many)
+
+pub returns : goal.returns
+returns g c = record {
+  fences = c.in_ok-fences.fences.items;
+  as_many = c.in_ok-fences.ensures.as_many;
+  needed = c.in_ok-fences.ensures.needed;
+  starts_are = c.in_ok-starts.ensures ∙ ap (λ fences. starts_from 0 fences c.args.stmts.now) c.as_slice.ensures.value;
+  instrs_are = c.in_ok-instrs.ensures ∙ ap₂ (λ starts fences. rows starts fences c.args.stmts.now) c.as_slice-3.ensures c.as_slice-2.ensures.value;
+}

@@ -1,0 +1,6 @@
+use Rattle.std.proofs.Common.{◌≡◌, ◌++◌, replicate}
+use Rattle.lw_base.specs.declared.event.Event.TheVariants.{Step}
+use Rattle.lw_fence.proofs.schedule.push_statement.Given as goal
+
+abbrev pub invariant-loop-instr : goal.invariant-loop-instr
+invariant-loop-instr g l = l.events.items ≡ l.fn.events.items ++ replicate l._instr (Step l.cpu)

@@ -1,0 +1,48 @@
+use Rattle.std.proofs.Common.{◌≡◌, ◌+◌, ◌++◌, ◌∙◌, ℕ, List, map, drop, ap, sym, subst}
+use Rattle.std.proofs.lemmas.List.{append-nil, drop_all}
+use Rattle.std.proofs.lemmas.Option.{slice_get_within}
+use Rattle.lw_base.specs.declared.event.Event.{Event}
+use Rattle.lw_base.specs.declared.event.Event.TheVariants.{Step}
+use Rattle.lw_memory.specs.Flat.{flat}
+use Rattle.lw_source.specs.declared.stmt.Stmt.{Stmt}
+use Rattle.lw_source.specs.Runs.{State, Ran, source_step}
+use Rattle.lw_source.specs.Views.{source_of}
+use Rattle.lw_source.proofs.Runs.{possible}
+use Rattle.lw_x86.specs.Views.{program_of}
+use Rattle.lw_tso.specs.Runs.{Replays}
+use Rattle.lw_fence.specs.Schedules.{schedule}
+use Rattle.lw_fence.proofs.Scheduling.{next_turn, placed_in, one_further}
+use Rattle.lw_fence.proofs.SourceToMachine.{schedule_replays}
+use Rattle.lw_fence.proofs.schedule.schedule_of.Goals as goal
+
+pub position-place-requires : goal.position-place-requires
+position-place-requires g c =
+    let turn = next_turn c.args.source.now.threads c.args.order.now c.loop-cpu.cpu-index c.cpu-item.result c.loop-cpu-test.true c.cpu-item.is c.loop-cpu.run.state c.loop-cpu.invariant.possible in
+    slice_get_within c.loop-cpu.run.state.threads c.cpu-item.result turn.thread turn.was
+
+pub push_next-requires-clause-there : goal.push_next-requires-clause-there
+push_next-requires-clause-there g c =
+    let turn = next_turn c.args.source.now.threads c.args.order.now c.loop-cpu.cpu-index c.cpu-item.result c.loop-cpu-test.true c.cpu-item.is c.loop-cpu.run.state c.loop-cpu.invariant.possible in
+    let place = placed_in c.args.source.now.threads c.args.order.now c.loop-cpu.cpu-index c.cpu-item.result c.loop-cpu-test.true c.cpu-item.is c.loop-cpu.run.state turn c.position-place.result c.position-place.ensures in
+    rw place turn.there
+
+pub loop-cpu-preserved : goal.loop-cpu-preserved
+loop-cpu-preserved g c =
+    let program = c.loop-cpu.invariant.program in
+    let turn = next_turn c.args.source.now.threads c.args.order.now c.loop-cpu.cpu-index c.cpu-item.result c.loop-cpu-test.true c.cpu-item.is c.loop-cpu.run.state c.loop-cpu.invariant.possible in
+    let one = possible (c.step.new.self ≡ c.loop-cpu.run) (source_step c.loop-cpu.run.program c.cpu-item.result c.loop-cpu.run.state) c.step.result c.unwrap.result c.step.new.self.state c.step.ensures.done c.unwrap.ensures in
+    let step = ap (λ (codes : List (List Stmt)). source_step codes c.cpu-item.result c.loop-cpu.run.state) (sym program) ∙ one in
+    let same : turn.mid ≡ c.step.new.self.state = cc in
+    record {
+      program = c.step.ensures.program ∙ program;
+      possible = subst (λ (s : State). (end : State) × Ran c.args.source.now.threads (map Step (drop (c.loop-cpu.cpu-index + 1) c.args.order.now)) s end) same turn.more;
+      so_far = one_further c.args.source.now.threads c.args.order.now c.loop-cpu.cpu-index c.cpu-item.result c.loop-cpu-test.true c.cpu-item.is c.args.compiled.now.starts c.loop-cpu.run.state c.step.new.self.state c.position-place.result c.loop-cpu.events.items c.push_next.new.events.items _ c.position-place.ensures step c.in_ok-push_next.ensures c.loop-cpu.invariant.so_far;
+    }
+
+pub returns-clause-replays : goal.returns-clause-replays
+returns-clause-replays g c =
+    λ o runs.
+    let none = drop_all c.loop-cpu.cpu-index c.args.order.now c.loop-cpu-test.false in
+    let all = sym (append-nil c.loop-cpu.events.items) ∙ ap (λ (order : List ℕ). c.loop-cpu.events.items ++ schedule c.args.source.now.threads c.args.compiled.now.starts order c.loop-cpu.run.state) (sym none) ∙ c.loop-cpu.invariant.so_far in
+    let replays = schedule_replays (source_of c.args.source.now) (program_of c.args.compiled.now.program) c.args.compiled.now.starts c.args.order.now o c.args.source.now.well_formed c.requires.compiled runs in
+    subst (λ (es : List Event). Replays flat (program_of c.args.compiled.now.program) c.args.compiled.now.program.head.init_words es o) (sym all) replays

@@ -1,0 +1,67 @@
+-- What the compiler makes of a source test: for each statement its row of instructions, with an MFENCE before each load that
+-- needs one, and before no other.
+-- The source is the format of the workbench, docs/FORMAT.md.
+use Rattle.std.specs.Prelude.{◌≡◌, ◌↔◌, ℕ, ◌+◌, ◌==◌, Bool, true, false, if◌then◌else◌, Some, List, [], ◌∷◌, ◌++◌, length, slice_get, slice_index}
+use Rattle.lw_base.specs.declared.head.Arch.TheVariants.{X86}
+use Rattle.lw_base.specs.declared.operand.Operand.{Operand}
+use Rattle.lw_base.specs.declared.operand.Operand.TheVariants.{Register, Number}
+use Rattle.lw_source.specs.declared.stmt.Stmt.{Stmt}
+use Rattle.lw_source.specs.declared.stmt.Stmt.TheVariants.{Store, Load, Swap, FetchAdd, Set, Sum, IfEq, IfNe, Goto}
+use Rattle.lw_source.specs.Sources.{SourceTest}
+use Rattle.lw_x86.specs.declared.instr.Instr.{Instr}
+use Rattle.lw_x86.specs.declared.instr.Instr.TheVariants as x86
+use Rattle.lw_x86.specs.Programs.{ProgramTest}
+use Rattle.lw_fence.specs.Fences.{NeedsFence}
+
+-- the register d gets the word of a, if it is another
+abbrev pub moved : ℕ → ℕ → List Instr
+moved d a = if d == a then [] else x86.Set d (Register a) ∷ []
+
+-- `d := a + v`, where d is not a
+abbrev pub summed : ℕ → ℕ → Operand → List Instr
+summed d a (Number n) = x86.Set d (Register a) ∷ x86.Add d (Number n) ∷ []
+summed d a (Register b) =
+    if d == b then x86.Add d (Register a) ∷ [] else x86.Set d (Register a) ∷ x86.Add d (Register b) ∷ []
+
+-- the row of a statement: with a fence or without, where `starts` has the first instruction of each statement
+abbrev pub row : List ℕ → Bool → Stmt → List Instr
+row starts fence (Store x v) = x86.Store x v ∷ []
+row starts fence (Load d x) = if fence then x86.Mfence ∷ x86.Load d x ∷ [] else x86.Load d x ∷ []
+row starts fence (Swap d x a) = moved d a ++ x86.Xchg x d ∷ []
+row starts fence (FetchAdd d x a) = moved d a ++ x86.Xadd x d ∷ []
+row starts fence (Set d v) = x86.Set d v ∷ []
+row starts fence (Sum d a v) = if d == a then x86.Add d v ∷ [] else summed d a v
+row starts fence (IfEq a n to) = x86.Cmp a (Number n) ∷ x86.Je (slice_index starts to) ∷ []
+row starts fence (IfNe a n to) = x86.Cmp a (Number n) ∷ x86.Jne (slice_index starts to) ∷ []
+row starts fence (Goto to) = x86.Jmp (slice_index starts to) ∷ []
+
+-- the rows of some statements, one behind another
+abbrev pub rows : List ℕ → List Bool → List Stmt → List Instr
+rows starts fences [] = []
+rows starts [] (s ∷ code) = row starts false s ++ rows starts [] code
+rows starts (fence ∷ fences) (s ∷ code) = row starts fence s ++ rows starts fences code
+
+-- the number of the first instruction of each statement, its fence included, and last the number of instructions, where the
+-- first statement begins at n
+abbrev pub starts_from : ℕ → List Bool → List Stmt → List ℕ
+starts_from n fences [] = n ∷ []
+starts_from n [] (s ∷ code) = n ∷ starts_from (n + length (row [] false s)) [] code
+starts_from n (fence ∷ fences) (s ∷ code) = n ∷ starts_from (n + length (row [] fence s)) fences code
+
+-- These are the instructions of a thread, and the first of each statement.
+pub record IsCompiledThread (code : List Stmt) (instrs : List Instr) (starts : List ℕ) : Type 0 where
+  pub fences : List Bool
+  pub as_many : length fences ≡ length code
+  pub needed : (j : ℕ) → (slice_get fences j ≡ Some true) ↔ NeedsFence code j
+  pub starts_are : starts ≡ starts_from 0 fences code
+  pub instrs_are : instrs ≡ rows starts fences code
+
+-- The program has the source's head, in x86, and for each of its threads the instructions, with these starts.
+pub record IsCompiled (source : SourceTest) (program : ProgramTest) (starts : List (List ℕ)) : Type 0 where
+  pub head : program.head ≡ record source.head { arch = X86 }
+  pub as_many : length program.threads ≡ length source.threads
+  pub as_many_starts : length starts ≡ length source.threads
+  pub threads :
+      (t : ℕ) (code : List Stmt) (instrs : List Instr) (begins : List ℕ)
+      → slice_get source.threads t ≡ Some code → slice_get program.threads t ≡ Some instrs → slice_get starts t ≡ Some begins
+      → IsCompiledThread code instrs begins

@@ -1,0 +1,4 @@
+pub mod Fences
+pub mod Compiling
+pub mod Schedules
+pub mod Marks

@@ -1,0 +1,34 @@
+-- The schedule of a source run on the compiled program: a step for each instruction of each statement, and after a store
+-- a drain, so that a store is in memory before the next statement of any thread.
+use Rattle.std.specs.Prelude.{ℕ, ◌+◌, ◌-◌, if◌then◌else◌, Option, Some, None, Result, Ok, Err, List, [], ◌∷◌, ◌++◌, replicate, slice_get, slice_index}
+use Rattle.lw_base.specs.Threads.{code_of}
+use Rattle.lw_base.specs.declared.event.Event.{Event}
+use Rattle.lw_base.specs.declared.event.Event.TheVariants.{Step, Drain}
+use Rattle.lw_base.specs.declared.stop.Stop.{Stop}
+use Rattle.lw_source.specs.declared.stmt.Stmt.{Stmt}
+use Rattle.lw_source.specs.declared.thread.Thread.{Thread}
+use Rattle.lw_source.specs.Runs.{State, source_step}
+use Rattle.lw_fence.specs.Fences.{is_store}
+
+-- the events of thread t for the statement of this number, if there is one
+abbrev pub statement_events : ℕ → List ℕ → ℕ → Option Stmt → List Event
+statement_events t starts j None = []
+statement_events t starts j (Some s) =
+    replicate (slice_index starts (j + 1) - slice_index starts j) (Step t) ++ (if is_store s then Drain t ∷ [] else [])
+
+-- the events of thread t for its next statement
+abbrev pub thread_events : List (List Stmt) → List (List ℕ) → ℕ → Option Thread → List Event
+thread_events program starts t None = []
+thread_events program starts t (Some th) =
+    statement_events t (code_of starts t) th.position (slice_get (code_of program t) th.position)
+
+-- what follows a step, if it was possible
+abbrev pub going_on : Result State Stop → (State → List Event) → List Event
+going_on (Ok next) rest = rest next
+going_on (Err stop) rest = []
+
+-- the events for these threads' steps, one after another, from a state
+abbrev pub schedule : List (List Stmt) → List (List ℕ) → List ℕ → State → List Event
+schedule program starts [] s = []
+schedule program starts (t ∷ order) s =
+    thread_events program starts t (slice_get s.threads t) ++ going_on (source_step program t s) (schedule program starts order)

@@ -1,0 +1,102 @@
+//! Compiles a source test to x86.
+ghost use Rattle.std.specs.Prelude.{◌≡◌, ◌↔◌, ℕ, ◌<◌, ◌≤◌, List, length, Some, slice_get, IfOk};
+ghost use Rattle.std.specs.Option.{ForSome};
+ghost use Rattle.lw_base.specs.Outcomes.{Final};
+ghost use Rattle.lw_base.specs.declared.event.Event.{Event};
+ghost use Rattle.lw_memory.specs.Flat.{flat};
+ghost use Rattle.lw_source.specs.declared.stmt.Stmt.{Stmt as Statement};
+ghost use Rattle.lw_source.specs.Runs.{SourceOutcome};
+ghost use Rattle.lw_source.specs.Sources.{target_of};
+ghost use Rattle.lw_source.specs.Views.{source_of};
+ghost use Rattle.lw_tso.specs.Endings.{CanEnd};
+ghost use Rattle.lw_tso.specs.Machines.{MachineState};
+ghost use Rattle.lw_tso.specs.Runs.{MachineOutcome, MachineRan, machine_start};
+ghost use Rattle.lw_x86.specs.declared.instr.Instr.{Instr as Instruction};
+ghost use Rattle.lw_x86.specs.Views.{program_of};
+ghost use Rattle.lw_fence.specs.Compiling.{IsCompiledThread, IsCompiled};
+
+use crate::compiled::Compiled;
+use crate::fences::fences_of;
+use crate::rows::rows_of;
+use crate::starts::starts_of;
+use lw_base::{Arch, Sequence};
+use lw_source::{Source, Stmt};
+use lw_x86::{Instr, Program};
+use std::alloc::{AllocError, Allocator};
+
+/// The source test in x86: of each statement its instructions, with a fence before each load that needs one,
+/// and before no other.
+pub fn compile<A: Allocator + Copy>(alloc: A, source: &Source<A>) -> Result<Compiled<A>, AllocError>
+    ensures compiled { IfOk result
+        (λ c. IsCompiled (source_of source.now) (program_of c.program) c.starts) }
+    // It means what the source means: over flat memory it has the source's outcomes, both ways.
+    ensures outcomes { IfOk result (λ c. (o : Final)
+        → MachineOutcome flat (program_of c.program) c.program.head.init_words o ↔ SourceOutcome (source_of source.now) o) }
+    // Each of its runs can be brought to a final state.
+    ensures ends { IfOk result (λ c. (events : List Event) (s : MachineState (List ℕ))
+        → MachineRan flat c.program.threads events (machine_start (program_of c.program) c.program.head.init_words) s
+        → CanEnd flat c.program.threads s) }
+{
+    let mut head = source.head.copy()?;
+    head.arch = Arch::X86;
+    let codes = compile_threads(alloc, source)?;
+    Ok(Compiled {
+        program: Program {
+            head,
+            threads: codes.instrs,
+        },
+        starts: codes.starts,
+    })
+}
+
+/// For each thread its instructions, and where its statements start.
+#[derive(Drop)]
+struct ThreadCodes<A: Allocator> {
+    instrs: Sequence<Sequence<Instr, A>, A>,
+    starts: Sequence<Sequence<usize, A>, A>,
+}
+
+/// Compiles each thread.
+fn compile_threads<A: Allocator + Copy>(
+    alloc: A,
+    source: &Source<A>,
+) -> Result<ThreadCodes<A>, AllocError>
+    ensures as_many { IfOk result (λ codes. length codes.instrs ≡ length source.now.threads) }
+    ensures as_many_starts { IfOk result (λ codes. length codes.starts ≡ length source.now.threads) }
+    ensures threads { IfOk result
+        (λ codes. (t : ℕ) (code : List Statement) (instrs : List Instruction) (begins : List ℕ)
+        → slice_get source.now.threads t ≡ Some code → slice_get codes.instrs t ≡ Some instrs
+        → slice_get codes.starts t ≡ Some begins → IsCompiledThread code instrs begins) }
+{
+    let mut instrs = Sequence::new(alloc);
+    let mut starts = Sequence::new(alloc);
+    for stmts in source.threads.as_slice() {
+        let code = compile_thread(alloc, stmts.as_slice())?;
+        instrs.push(code.instrs)?;
+        starts.push(code.starts)?;
+    }
+    Ok(ThreadCodes { instrs, starts })
+}
+
+/// The instructions of a thread, and where its statements start.
+#[derive(Drop)]
+struct ThreadCode<A: Allocator> {
+    instrs: Sequence<Instr, A>,
+    starts: Sequence<usize, A>,
+}
+
+/// Compiles a thread.
+fn compile_thread<A: Allocator + Copy>(
+    alloc: A,
+    stmts: &[Stmt],
+) -> Result<ThreadCode<A>, AllocError>
+    requires short { length stmts.now ≤ 16 }
+    requires forward { (j : ℕ) (s : Statement) → slice_get stmts.now j ≡ Some s
+        → ForSome (target_of s) (λ to. (j < to) × (to ≤ length stmts.now)) }
+    ensures { IfOk result (λ code. IsCompiledThread stmts.now code.instrs code.starts) }
+{
+    let fences = fences_of(alloc, stmts)?;
+    let starts = starts_of(alloc, stmts, fences.as_slice())?;
+    let instrs = rows_of(alloc, stmts, fences.as_slice(), starts.as_slice())?;
+    Ok(ThreadCode { instrs, starts })
+}

@@ -1,0 +1,82 @@
+//! The schedule of a compiled program that a source run stands for.
+ghost use Rattle.std.specs.Prelude.{◌≡◌, ◌<◌, ◌++◌, ◌∷◌, [], if◌then◌else◌, length, map, replicate, slice_get, IfOk};
+ghost use Rattle.lw_base.specs.Outcomes.{Final};
+ghost use Rattle.lw_base.specs.Threads.{code_of};
+ghost use Rattle.lw_base.specs.declared.event.Event.TheVariants.{Step, Drain};
+ghost use Rattle.lw_memory.specs.Flat.{flat};
+ghost use Rattle.lw_source.specs.Runs.{State, Ran, RunsTo, start_of};
+ghost use Rattle.lw_source.specs.Views.{source_of};
+ghost use Rattle.lw_x86.specs.Views.{program_of};
+ghost use Rattle.lw_tso.specs.Runs.{Replays};
+ghost use Rattle.lw_fence.specs.Fences.{is_store};
+ghost use Rattle.lw_fence.specs.Compiling.{IsCompiled};
+ghost use Rattle.lw_fence.specs.Schedules.{statement_events, schedule};
+
+use crate::compiled::Compiled;
+use lw_base::{Cpu, Event};
+use lw_source::{Source, SourceRun, Stmt};
+use std::alloc::{AllocError, Allocator};
+
+/// Pushes the events of a statement: a step for each of its instructions, and after a store a drain.
+fn push_statement<A: Allocator>(
+    events: &mut Vec<Event, A>,
+    cpu: Cpu,
+    stmt: &Stmt,
+    instructions: usize,
+) -> Result<(), AllocError>
+    ensures { IfOk result (λ _. events.new.items ≡ events.old.items
+        ++ (replicate instructions (Step cpu) ++ (if is_store stmt.now then Drain cpu ∷ [] else []))) }
+{
+    for _instr in 0..instructions {
+        events.push(Event::Step(cpu))?;
+    }
+    if let Stmt::Store { .. } = stmt {
+        events.push(Event::Drain(cpu))?;
+    }
+    Ok(())
+}
+
+/// Pushes the events of the statement at a place of a thread.
+fn push_next<A: Allocator>(
+    events: &mut Vec<Event, A>,
+    source: &Source<A>,
+    compiled: &Compiled<A>,
+    cpu: Cpu,
+    place: usize,
+) -> Result<(), AllocError>
+    requires compiled { IsCompiled (source_of source.now) (program_of compiled.now.program) compiled.now.starts }
+    requires there { place < length (code_of source.now.threads cpu) }
+    ensures { IfOk result (λ _. events.new.items ≡ events.old.items
+        ++ statement_events cpu (code_of compiled.now.starts cpu) place (slice_get (code_of source.now.threads cpu) place)) }
+{
+    let code = &source.threads.as_slice()[cpu.index()];
+    let starts = &compiled.starts.as_slice()[cpu.index()];
+    let code = code.as_slice();
+    let starts = starts.as_slice();
+    push_statement(events, cpu, &code[place], starts[place + 1] - starts[place])
+}
+
+/// The schedule of the compiled program that a run of the source stands for: for each thread of the
+/// order a step for each instruction of its next statement, and after a store a drain.
+pub fn schedule_of<A: Allocator + Copy>(
+    alloc: A,
+    source: &Source<A>,
+    compiled: &Compiled<A>,
+    order: &[Cpu],
+) -> Result<Vec<Event, A>, AllocError>
+    requires compiled { IsCompiled (source_of source.now) (program_of compiled.now.program) compiled.now.starts }
+    requires possible { (end : State) × Ran source.now.threads (map Step order.now) (start_of (source_of source.now)) end }
+    ensures schedule { IfOk result (λ v. v.items
+        ≡ schedule source.now.threads compiled.now.starts order.now (start_of (source_of source.now))) }
+    ensures replays { IfOk result (λ v. (o : Final) → RunsTo (source_of source.now) order.now o
+        → Replays flat (program_of compiled.now.program) compiled.now.program.head.init_words v.items o) }
+{
+    let mut run = SourceRun::new(alloc, source)?;
+    let mut events = Vec::new(alloc);
+    for cpu in order {
+        let place = run.position(*cpu);
+        push_next(&mut events, source, compiled, *cpu, place)?;
+        run.step(*cpu).unwrap();
+    }
+    Ok(events)
+}
