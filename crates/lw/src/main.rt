@@ -1,11 +1,10 @@
-//! The program: `lw replay SCHEDULE`, perhaps with `--protocol mesi` or `--protocol moesi` behind it, replays the test
-//! on standard input. Everything but the system's
-//! words and streams is lw_bench's.
+//! The program: `lw compile` compiles the test on standard input; `lw replay SCHEDULE`, perhaps with `--protocol mesi` or
+//! `--protocol moesi` behind it, replays it. Everything but the system's words and streams is lw_bench's.
 #![tactic(auto)]
 
 use lw_bench::{
-    BenchFault, End, FromRead, Protocol, Task, ToWrite, command_of, exit_status, fault_line,
-    memory_line, replay_text, status_of, usage_line, usage_status,
+    BenchFault, FromRead, Protocol, Task, ToWrite, command_of, compile_text, done_status,
+    end_status, fault_line, memory_line, replay_text, status_of, usage_line, usage_status,
 };
 use std::alloc::Global;
 use std::process::ExitCode;
@@ -19,7 +18,7 @@ fn main(rt: HostRuntime) -> ExitCode {
 fn run(rt: &HostRuntime) -> u8 {
     match words_of(rt) {
         Ok(words) => run_words(rt, &words),
-        Err(fault) => end(rt, &Err(fault)),
+        Err(fault) => refuse(rt, &fault),
     }
 }
 
@@ -40,14 +39,26 @@ fn words_of(rt: &HostRuntime) -> Result<Vec<String>, BenchFault> {
 /// Does what the words say, and answers the exit status.
 fn run_words(rt: &HostRuntime, words: &[String]) -> u8 {
     match texts_of(rt.alloc(), words) {
-        Err(fault) => end(rt, &Err(fault)),
+        Err(fault) => refuse(rt, &fault),
         Ok(texts) => match command_of(&texts) {
-            Some(Task::Replay(schedule, protocol)) => end(rt, &replay(rt, schedule, protocol)),
+            Some(task) => carry_out(rt, task),
             None => {
                 complain(rt, usage_line());
                 usage_status()
             }
         },
+    }
+}
+
+/// Carries a task out, and answers the exit status.
+fn carry_out(rt: &HostRuntime, task: Task<'_>) -> u8 {
+    let status = match task {
+        Task::Compile => compile(rt),
+        Task::Replay(schedule, protocol) => replay(rt, schedule, protocol),
+    };
+    match status {
+        Ok(status) => status,
+        Err(fault) => refuse(rt, &fault),
     }
 }
 
@@ -60,25 +71,34 @@ fn texts_of(alloc: Global, words: &[String]) -> Result<Vec<&str>, BenchFault> {
     Ok(texts)
 }
 
-/// Replays the test on standard input, and prints the page on standard output.
-fn replay(rt: &HostRuntime, schedule: &str, protocol: Protocol) -> Result<End, BenchFault> {
+/// Compiles the test on standard input, prints the text on standard output, and answers the exit status.
+fn compile(rt: &HostRuntime) -> Result<u8, BenchFault> {
     let mut reader = FromRead::new(rt.stdin());
     let mut writer = ToWrite::new(rt.stdout());
-    replay_text(rt.alloc(), &mut reader, schedule, protocol, &mut writer)
+    compile_text(rt.alloc(), &mut reader, &mut writer)?;
+    Ok(done_status())
 }
 
-/// Tells of a fault, if there is one, and answers the exit status. Where memory runs out for the fault's line, that is told.
-fn end(rt: &HostRuntime, replay: &Result<End, BenchFault>) -> u8 {
-    if let Err(fault) = replay {
-        match fault_line(rt.alloc(), fault) {
-            Ok(line) => complain(rt, line.as_str()),
-            Err(_) => {
-                complain(rt, memory_line());
-                return status_of(&BenchFault::Memory);
-            }
+/// Replays the test on standard input, prints the page on standard output, and answers the exit status.
+fn replay(rt: &HostRuntime, schedule: &str, protocol: Protocol) -> Result<u8, BenchFault> {
+    let mut reader = FromRead::new(rt.stdin());
+    let mut writer = ToWrite::new(rt.stdout());
+    let end = replay_text(rt.alloc(), &mut reader, schedule, protocol, &mut writer)?;
+    Ok(end_status(end))
+}
+
+/// Tells of a fault, and answers the exit status. Where memory runs out for the fault's line, that is told.
+fn refuse(rt: &HostRuntime, fault: &BenchFault) -> u8 {
+    match fault_line(rt.alloc(), fault) {
+        Ok(line) => {
+            complain(rt, line.as_str());
+            status_of(fault)
+        }
+        Err(_) => {
+            complain(rt, memory_line());
+            status_of(&BenchFault::Memory)
         }
     }
-    exit_status(replay)
 }
 
 /// Prints a line on standard error. Where that fails, nothing more can be told.

@@ -7,7 +7,7 @@ use Rattle.std.proofs.lemmas.List.{take_all}
 use Rattle.lw_base.specs.Refusals.{NoSuch}
 use Rattle.lw_mesi.specs.declared.protocol.Protocol.{Protocol}
 use Rattle.lw_bench.specs.declared.command.Task.{Task}
-use Rattle.lw_bench.specs.declared.command.Task.TheVariants.{Replay}
+use Rattle.lw_bench.specs.declared.command.Task.TheVariants.{Compile, Replay}
 use Rattle.lw_bench.specs.Commands.{protocol_word, IsProtocolOption, IsCommand}
 
 denied : (b : Bool) → not b ≡ false → b ≡ true
@@ -18,13 +18,7 @@ denied false e = cc
 word_is : (name word : List ℕ) (differs : Bool) → differs ≡ not (pointwise nat_eq name word) → differs ≡ false → name ≡ word
 word_is name word differs is same = (pointwise_decides unsigned_Decides name word).0 (denied (pointwise nat_eq name word) (sym is ∙ same))
 
--- two words, and those behind them
-two_first : (words : List (Bor (List ℕ))) (d : Bor (List ℕ)) → 2 ≤ length words
-    → map (λ (w : Bor (List ℕ)). w.now) words ≡ (slice_index_or words 0 d).now ∷ (slice_index_or words 1 d).now ∷ map (λ (w : Bor (List ℕ)). w.now) (take (length words - 2) (drop 2 words))
-two_first [] d many = absurd (omega (arith, many))
-two_first (x ∷ []) d many = absurd (omega (arith, many))
-two_first (x ∷ y ∷ rest) d many = ap (λ (l : List (Bor (List ℕ))). x.now ∷ y.now ∷ map (λ (w : Bor (List ℕ)). w.now) l) (sym (take_all (length (x ∷ y ∷ rest) - 2) rest (omega arith)))
-
+-- two words
 two : (words : List (Bor (List ℕ))) (d : Bor (List ℕ)) → 2 ≤ length words → length words < 3
     → map (λ (w : Bor (List ℕ)). w.now) words ≡ (slice_index_or words 0 d).now ∷ (slice_index_or words 1 d).now ∷ []
 two [] d many few = absurd (omega (arith, many))
@@ -55,17 +49,17 @@ option_told words d None differs many few is same none = λ p said. go p said
     go p (inl e) = none p (sym (same_second _ _ _ _ (sym (two words d many few) ∙ e)))
     go p (inr e) = not_none _ _ (sym (two words d many few) ∙ e.0)
 
--- the command, where its name is right
-pub command_told : (words : List (Bor (List ℕ))) (d : Bor (List ℕ)) (differs : Bool) (p : Protocol)
-    → 2 ≤ length words
-    → differs ≡ not (pointwise nat_eq (slice_index_or words 0 d).now (codes "replay")) → differs ≡ false
-    → IsProtocolOption (map (λ (w : Bor (List ℕ)). w.now) (take (length words - 2) (drop 2 words))) p
-    → (option : List (List ℕ)) × (map (λ (w : Bor (List ℕ)). w.now) words ≡ codes "replay" ∷ (slice_index_or words 1 d).now ∷ option) × IsProtocolOption option p
-command_told words d differs p many is same known =
-    (_, two_first words d many ∙ ap (λ (n : List ℕ). n ∷ (slice_index_or words 1 d).now ∷ map (λ (w : Bor (List ℕ)). w.now) (take (length words - 2) (drop 2 words))) (word_is _ (codes "replay") differs is same), known)
+-- a word, and those behind it
+one_first : (words : List (Bor (List ℕ))) (d : Bor (List ℕ)) → 1 ≤ length words
+    → map (λ (w : Bor (List ℕ)). w.now) words ≡ (slice_index_or words 0 d).now ∷ map (λ (w : Bor (List ℕ)). w.now) (take (length words - 1) (drop 1 words))
+one_first [] d many = absurd (omega (arith, many))
+one_first (x ∷ rest) d many = ap (λ (l : List (Bor (List ℕ))). x.now ∷ map (λ (w : Bor (List ℕ)). w.now) l) (sym (take_all (length (x ∷ rest) - 1) rest (omega arith)))
 
-pub no_command : (words : List (Bor (List ℕ))) (d : Bor (List ℕ)) → 2 ≤ length words
-    → NoSuch (IsProtocolOption (map (λ (w : Bor (List ℕ)). w.now) (take (length words - 2) (drop 2 words))))
-    → (task : Task) → IsCommand (map (λ (w : Bor (List ℕ)). w.now) words) task → ⊥
-no_command words d many none (Replay schedule protocol) said =
-    none protocol (subst (λ (l : List (List ℕ)). IsProtocolOption l protocol) (sym (same_rest _ _ _ _ _ _ (sym (two_first words d many) ∙ said.1))) said.2)
+-- no replay, where the words behind the schedule are no option
+pub no_replay : (words : List (Bor (List ℕ))) (d : Bor (List ℕ)) → 1 ≤ length words
+    → NoSuch (IsProtocolOption (map (λ (w : Bor (List ℕ)). w.now) (take (length words - 1) (drop 1 words))))
+    → (task : Task) → IsCommand (codes "replay" ∷ map (λ (w : Bor (List ℕ)). w.now) words) task → ⊥
+no_replay words d many none Compile said = let other : codes "replay" ∷ map (λ (w : Bor (List ℕ)). w.now) words ≡ codes "compile" ∷ [] = said in cc
+no_replay words d many none (Replay schedule protocol) said =
+    let behind = same_rest _ _ _ _ _ _ (sym (ap (λ (l : List (List ℕ)). codes "replay" ∷ l) (one_first words d many)) ∙ said.1) in
+    none protocol (subst (λ (l : List (List ℕ)). IsProtocolOption l protocol) (sym behind) said.2)

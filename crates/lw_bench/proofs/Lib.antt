@@ -4,4 +4,5 @@ pub mod DeviceFaults
 pub mod LitmusTests
 pub mod Pages
 pub mod Replays
+pub mod Compilations
 pub mod Told

@@ -26,11 +26,6 @@ told_of {X} {Y} f xs k x y at read =
     let e : Some (f x) ≡ Some y = sym (slice_get-map f xs k ∙ ap (option_map f) at) ∙ read in
     cc
 
-pub there : {X : Type 0} (xs : List X) (k : ℕ) → k < length xs → (x : X) × (slice_get xs k ≡ Some x)
-there [] k h = absurd (omega arith)
-there (x ∷ xs) zero h = (x, refl)
-there (x ∷ xs) (suc k) h = there xs k (omega arith)
-
 -- Parts that are told one behind another, each by its number.
 module _ {X : Type 0} (tell : ℕ → X → List ℕ) (xs : List X) where
   -- one more

@@ -1,5 +1,6 @@
 -- What a refused run tells: from what the readers promise, and from the bytes that were read to the whole input.
 use Rattle.std.proofs.Common.{◌≡◌, ◌≢◌, ◌⊎◌, inl, inr, Bool, true, false, ℕ, Option, Some, None, List, [], ◌++◌, length, sym, ap, ◌∙◌, subst, length-append, if◌then◌else◌, arith}
+use Rattle.std.specs.Option.{IfSome}
 use Rattle.std.proofs.lemmas.List.{append-nil}
 use Rattle.lw_base.specs.declared.fault.CellCause.{CellCause}
 use Rattle.lw_base.specs.declared.fault.CellCause.TheVariants as cell
@@ -14,7 +15,7 @@ use Rattle.lw_bench.specs.declared.fault.BenchFault.{BenchFault}
 use Rattle.lw_bench.specs.declared.fault.BenchFault.TheVariants.{Text, Cell, Schedule, Memory, Read, Write}
 use Rattle.lw_bench.specs.Devices.{IsInput}
 use Rattle.lw_bench.specs.Faults.{text_fault, told_text, cell_fault, told_cell, schedule_fault, told_schedule}
-use Rattle.lw_bench.specs.Told.{TellsText, TellsCell, TellsSchedule, TellsTest, TellsReplay, TellsInput, IsNoDevice}
+use Rattle.lw_bench.specs.Told.{TellsText, TellsCell, TellsSchedule, TellsTest, TellsReplay, TellsInput, TellsTestInput, IsNoDevice}
 use Rattle.lw_bench.proofs.Replays.{whole}
 
 -- A fault that is told as it is, unless memory ran out.
@@ -125,11 +126,21 @@ told_of_input A (Some input) bytes words Memory is told = tt
 told_of_input A (Some input) bytes words Read is told = tt
 told_of_input A (Some input) bytes words Write is told = tt
 
-pub device_told : (A : Type 0) (known : Option (List ℕ)) (words : List ℕ) (f : BenchFault) (failed : Bool) → f ≡ (if failed then Read else Memory) → TellsInput A known words f
-device_told A None words f failed is = tt
-device_told A (Some input) words f true is = rw is tt
-device_told A (Some input) words f false is = rw is tt
+pub told_of_test_input : (A : Type 0) (known : Option (List ℕ)) (bytes : List ℕ) (f : BenchFault) → IsInput known bytes → TellsTest A bytes f → TellsTestInput A known f
+told_of_test_input A None bytes f is told = tt
+told_of_test_input A (Some input) bytes (Text f) is told = text_in_whole A input bytes is f told
+told_of_test_input A (Some input) bytes (Cell f) is told = cell_in_whole A input bytes is f told
+told_of_test_input A (Some input) bytes (Schedule f) is told = told
+told_of_test_input A (Some input) bytes Memory is told = tt
+told_of_test_input A (Some input) bytes Read is told = tt
+told_of_test_input A (Some input) bytes Write is told = tt
 
-pub write_told : (A : Type 0) (known : Option (List ℕ)) (words : List ℕ) → TellsInput A known words Write
-write_told A None words = tt
-write_told A (Some input) words = tt
+pub some_told : (Tells : List ℕ → BenchFault → Type 0) (known : Option (List ℕ)) (f : BenchFault) → ((bytes : List ℕ) → Tells bytes f) → IfSome known (λ bytes. Tells bytes f)
+some_told Tells None f told = tt
+some_told Tells (Some input) f told = told input
+
+-- What is told of known bytes where a device failed, or memory ran out before they were read: nothing.
+module _ (Tells : List ℕ → BenchFault → Type 0) (known : Option (List ℕ)) where
+  pub device_told : (f : BenchFault) (failed : Bool) → ((bytes : List ℕ) → Tells bytes Read) → ((bytes : List ℕ) → Tells bytes Memory) → f ≡ (if failed then Read else Memory) → IfSome known (λ bytes. Tells bytes f)
+  device_told f true read memory is = rw is (some_told Tells known Read read)
+  device_told f false read memory is = rw is (some_told Tells known Memory memory)

@@ -4,7 +4,7 @@ use Rattle.lw_base.specs.Types.{Bytes}
 use Rattle.lw_mesi.specs.declared.protocol.Protocol.{Protocol}
 use Rattle.lw_mesi.specs.declared.protocol.Protocol.TheVariants.{Mesi, Moesi}
 use Rattle.lw_bench.specs.declared.command.Task.{Task}
-use Rattle.lw_bench.specs.declared.command.Task.TheVariants.{Replay}
+use Rattle.lw_bench.specs.declared.command.Task.TheVariants.{Compile, Replay}
 
 abbrev pub protocol_word : Protocol → Bytes
 protocol_word Mesi = codes "mesi"
@@ -15,7 +15,8 @@ abbrev pub IsProtocolOption : List Bytes → Protocol → Type 0
 IsProtocolOption words protocol =
     (words ≡ codes "--protocol" ∷ protocol_word protocol ∷ []) ⊎ ((words ≡ []) × (protocol ≡ Mesi))
 
--- `replay`, a schedule, and perhaps the option
+-- `compile`, or `replay`, a schedule, and perhaps the option
 abbrev pub IsCommand : List Bytes → Task → Type 0
+IsCommand words Compile = words ≡ codes "compile" ∷ []
 IsCommand words (Replay schedule protocol) =
     (option : List Bytes) × (words ≡ codes "replay" ∷ schedule.now ∷ option) × IsProtocolOption option protocol

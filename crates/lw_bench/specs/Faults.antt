@@ -1,5 +1,5 @@
 -- How people are told why a run is refused, or how it ended: a line and an exit status.
-use Rattle.std.specs.Prelude.{ℕ, ◌++◌, codes, Result, Ok, Err}
+use Rattle.std.specs.Prelude.{ℕ, ◌++◌, codes}
 use Rattle.std.specs.Fmt.{decimal}
 use Rattle.lw_base.specs.Types.{Bytes}
 use Rattle.lw_base.specs.Faults.{cell_cause_number, cell_cause_name, schedule_cause_number, schedule_cause_name}
@@ -68,9 +68,9 @@ end_status at.Final = 0
 end_status at.NotFinal = 1
 end_status (at.Stopped stop) = 1
 
-abbrev pub exit_status : Result End BenchFault → ℕ
-exit_status (Ok end) = end_status end
-exit_status (Err fault) = status fault
+-- of a run that has nothing to tell but what it wrote
+abbrev pub done_status : ℕ
+done_status = 0
 
 -- what is told of words that name no task, and the exit status
 abbrev pub usage_text : Bytes

@@ -1,6 +1,8 @@
 pub mod Faults
 pub mod Devices
 pub mod LitmusTests
+pub mod Machines
+pub mod Compilations
 pub mod Pages
 pub mod Replays
 pub mod Told

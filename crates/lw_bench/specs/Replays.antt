@@ -9,7 +9,7 @@ use Rattle.lw_base.specs.declared.stop.Replay.{Replay}
 use Rattle.lw_base.specs.Schedules.{IsSchedule}
 use Rattle.lw_mesi.specs.declared.protocol.Protocol.{Protocol}
 use Rattle.lw_memory.specs.Memory.{Memory}
-use Rattle.lw_mesi.specs.CacheLines.{empty_caches, memory_words_of}
+use Rattle.lw_mesi.specs.CacheLines.{memory_words_of}
 use Rattle.lw_mesi.specs.ProtocolLaws.{caches_by}
 use Rattle.lw_source.specs.Runs.{State, start_of, Replayed}
 use Rattle.lw_source.specs.Sources.{SourceTest}
@@ -17,6 +17,7 @@ use Rattle.lw_tso.specs.Machines.{MachineState}
 use Rattle.lw_tso.specs.Runs.{machine_start, MachineReplayed}
 use Rattle.lw_x86.specs.Programs.{ProgramTest}
 use Rattle.lw_bench.specs.LitmusTests.{LitmusTest, Of_source, Of_x86, head_of_test, HasTest}
+use Rattle.lw_bench.specs.Machines.{caches_at_start}
 use Rattle.lw_bench.specs.Pages.{source_page, machine_page}
 
 -- The page tells of the state that the events lead to from a source test's start, on one memory, or those before the
@@ -40,7 +41,7 @@ pub record MachinePage
 
 -- The same over caches that keep a protocol, and hold nothing at the start.
 abbrev pub CachesPage : Protocol → ProgramTest → List Event → Bytes → End → Type 0
-CachesPage protocol test = MachinePage (caches_by protocol) memory_words_of test (empty_caches test.head.threads test.head.init_words)
+CachesPage protocol test = MachinePage (caches_by protocol) memory_words_of test (caches_at_start test)
 
 abbrev pub EventsTell : Protocol → LitmusTest → List Event → Bytes → End → Type 0
 EventsTell protocol (Of_source test) = SourcePage test

@@ -85,3 +85,7 @@ TellsReplay A bytes schedule Write = Unit {0}
 -- the same of the bytes of a reader, where they are known
 abbrev pub TellsInput : Type 0 → Option Bytes → Bytes → BenchFault → Type 0
 TellsInput A known schedule fault = IfSome known (λ bytes. TellsReplay A bytes schedule fault)
+
+-- the same of a run that reads no schedule
+abbrev pub TellsTestInput : Type 0 → Option Bytes → BenchFault → Type 0
+TellsTestInput A known fault = IfSome known (λ bytes. TellsTest A bytes fault)

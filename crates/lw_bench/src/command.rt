@@ -1,5 +1,5 @@
 //! The words of a command.
-ghost use Rattle.std.specs.Prelude.{◌≡◌, MatchOption, map};
+ghost use Rattle.std.specs.Prelude.{◌≡◌, ◌∷◌, MatchOption, codes, map};
 ghost use Rattle.lw_base.specs.Refusals.{NoSuch};
 ghost use Rattle.lw_bench.specs.declared.command.Task.{Task};
 ghost use Rattle.lw_bench.specs.Commands.{IsCommand, IsProtocolOption, protocol_word};
@@ -9,25 +9,52 @@ use lw_mesi::Protocol;
 /// What is to be done.
 #[derive(Clone, Copy, Debug, PartialEq, Eq)]
 pub enum Task<'a> {
+    /// Write the canonical text of the test that is read, a source test compiled to x86.
+    Compile,
     /// Run the test that is read by this schedule, an x86 test over caches that keep this protocol, and print the state
     /// that it leads to.
     Replay(&'a str, Protocol),
 }
 
-/// The task that the words after the program's name give: `replay` and a schedule, which may be empty, and then nothing
-/// or `--protocol` and `mesi` or `moesi`. Without the option the protocol is MESI. `None` for all other words. It takes
-/// no memory.
+/// The task that the words after the program's name give: `compile`; or `replay` and a schedule, which may be empty, and
+/// then nothing or `--protocol` and `mesi` or `moesi`. Without the option the protocol is MESI. `None` for all other words.
+/// It takes no memory.
 pub fn command_of<'a>(words: &[&'a str]) -> Option<Task<'a>>
     ensures { MatchOption result
         (NoSuch (IsCommand (map (λ w. w.now) words.now)))
         (IsCommand (map (λ w. w.now) words.now)) }
 {
-    let [command, schedule, option @ ..] = words else {
+    let [command, others @ ..] = words else {
         return None;
     };
-    if *command != "replay" {
+    match *command {
+        "compile" => compile_command(others),
+        "replay" => replay_command(others),
+        _ => None,
+    }
+}
+
+/// The task that the words behind `compile` give, if there are none.
+fn compile_command<'a>(others: &[&'a str]) -> Option<Task<'a>>
+    ensures { MatchOption result
+        (NoSuch (IsCommand (codes "compile" ∷ map (λ w. w.now) others.now)))
+        (IsCommand (codes "compile" ∷ map (λ w. w.now) others.now)) }
+{
+    if !others.is_empty() {
         return None;
     }
+    Some(Task::Compile)
+}
+
+/// The task that the words behind `replay` give.
+fn replay_command<'a>(others: &[&'a str]) -> Option<Task<'a>>
+    ensures { MatchOption result
+        (NoSuch (IsCommand (codes "replay" ∷ map (λ w. w.now) others.now)))
+        (IsCommand (codes "replay" ∷ map (λ w. w.now) others.now)) }
+{
+    let [schedule, option @ ..] = others else {
+        return None;
+    };
     let protocol = protocol_of(option)?;
     Some(Task::Replay(schedule, protocol))
 }

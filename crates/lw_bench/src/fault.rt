@@ -125,14 +125,11 @@ pub fn status_of(fault: &BenchFault) -> u8
     }
 }
 
-/// The exit status of a replay that answered, or was refused.
-pub fn exit_status(replay: &Result<End, BenchFault>) -> u8
-    ensures { result ≡ faults.exit_status replay.now }
+/// The exit status of a run that wrote what it was to write.
+pub fn done_status() -> u8
+    ensures { result ≡ faults.done_status }
 {
-    match replay {
-        Ok(end) => end_status(*end),
-        Err(fault) => status_of(fault),
-    }
+    0
 }
 
 /// The line that tells that memory ran out, for where there is none for the line of a fault either.

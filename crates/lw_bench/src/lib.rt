@@ -1,25 +1,29 @@
 //! The runs of the workbench: from the bytes of a test to the bytes of what is told of it.
 //!
-//! It names lw_base, of lw_text the reading of frames and its faults, of lw_source and lw_x86 the reading of tests, of
-//! lw_source their runs, and of lw_tso the machine, over the caches of lw_mesi, which are a memory system of lw_memory. Its
-//! tests, as all of the workbench's, stand in lw_tests.
+//! It names lw_base, of lw_text the reading of frames and its faults, of lw_source and lw_x86 the reading of tests and
+//! the canonical text, of lw_source their runs, of lw_fence the compiler, and of lw_tso the machine, over the caches of lw_mesi,
+//! which are a memory system of lw_memory. Its tests, as all of the workbench's, stand in lw_tests.
 #![tactic(auto)]
 
 mod command;
+mod compile;
 mod device;
 mod fault;
 mod input;
+mod laws;
 mod litmus_test;
 mod output;
 mod page;
 mod replay;
 
 pub use command::{Task, command_of};
+pub use compile::compile_text;
 pub use device::{ByteReader, ByteWriter, Failed, FromRead, ToWrite};
 pub use fault::{
-    BenchFault, end_status, exit_status, fault_line, memory_line, status_of, usage_line,
+    BenchFault, done_status, end_status, fault_line, memory_line, status_of, usage_line,
     usage_status,
 };
+pub use laws::{outcomes_over_caches_are_flat, protocols_have_the_same_outcomes};
 pub use litmus_test::a_text_has_one_test;
 pub use lw_base::End;
 pub use lw_mesi::Protocol;

@@ -4,8 +4,9 @@ use Rattle.std.specs.Option.{option_map}
 use Rattle.std.proofs.lemmas.Option.{slice_get-map, get_or_from_slice_get}
 use Rattle.lw_source.specs.declared.thread.Thread.{Thread}
 use Rattle.lw_text.proofs.Starts.{is_index}
+use Rattle.lw_cells.proofs.Lists.{get_some}
 use Rattle.lw_bench.specs.Pages.{thread_line}
-use Rattle.lw_bench.proofs.Pages.{numbered_more, numbered_all, there, told_of, thread_told}
+use Rattle.lw_bench.proofs.Pages.{numbered_more, numbered_all, told_of, thread_told}
 use Rattle.lw_bench.proofs.page.write_threads.Goals as goal
 
 pub loop-cpu-init : goal.loop-cpu-init
@@ -17,7 +18,7 @@ loop-cpu-preserved g c =
     let k = c.loop-cpu.cpu-index in
     let is = is_index 4 c.args.head.now.threads _ _ c.all.result _ c.all.ensures refl c.loop-cpu-test.true c.cpu-item.is in
     let within : k < length threads = omega (arith, c.requires.threads, c.loop-cpu-test.true, length-take c.args.head.now.threads c.all.result) in
-    let here = there threads k within in
+    let here = get_some threads k within in
     let position = told_of (λ (t : Thread). t.position) threads k here.0 c.position.result here.1 (ap (slice_get (map (λ (t : Thread). t.position) threads)) (sym is) ∙ c.position.ensures) in
     let listed : slice_get c.args.regs.now k ≡ Some here.0.regs = ap (λ (l : List (List ℕ)). slice_get l k) c.requires.regs ∙ slice_get-map (λ (t : Thread). t.regs) threads k ∙ ap (option_map (λ (t : Thread). t.regs)) here.1 in
     let regs = ap (λ (i : ℕ). slice_index_or c.args.regs.now i []) (c.index.ensures.value ∙ is) ∙ get_or_from_slice_get c.args.regs.now k here.0.regs [] listed in

@@ -1,9 +1,10 @@
 use Rattle.std.proofs.Common.{refl}
 use Rattle.std.proofs.lemmas.Result.{err_from_is_err_and}
 use Rattle.lw_bench.specs.declared.fault.BenchFault.TheVariants.{Read, Write}
+use Rattle.lw_bench.specs.Told.{TellsReplay}
 use Rattle.lw_bench.proofs.DeviceFaults.{input_told, input_apart, write_apart, fault_apart, answer_apart}
 use Rattle.lw_bench.proofs.Replays.{page_written}
-use Rattle.lw_bench.proofs.Told.{device_told, write_told, told_of_input}
+use Rattle.lw_bench.proofs.Told.{device_told, some_told, told_of_input}
 use Rattle.lw_bench.proofs.replay.replay_text.Goals as goal
 
 pub returns-in_err-page-clause-told : goal.returns-in_err-page-clause-told
@@ -57,7 +58,7 @@ returns-in_err-text-clause-write g c =
 pub returns-in_err-text-clause-told : goal.returns-in_err-text-clause-told
 returns-in_err-text-clause-told g c =
     let p = err_from_is_err_and c.from_residual.result c.from_residual.ensures.1 in
-    rw (p.1, p.2) (device_told _ (g.R.ByteReader.remaining c.args.reader.now) c.args.schedule.now c.in_err-text.field-0.0 (g.R.ByteReader.failed c.read_input.new.reader) c.in_err-text.ensures.err)
+    rw (p.1, p.2) (device_told (λ bytes. TellsReplay g.row.A.Denot bytes c.args.schedule.now) (g.R.ByteReader.remaining c.args.reader.now) c.in_err-text.field-0.0 (g.R.ByteReader.failed c.read_input.new.reader) (λ bytes. tt) (λ bytes. tt) c.in_err-text.ensures.err)
 
 pub returns-clause-told : goal.returns-clause-told
-returns-clause-told g c = write_told g.row.A.Denot (g.R.ByteReader.remaining c.args.reader.now) c.args.schedule.now
+returns-clause-told g c = some_told (λ bytes. TellsReplay g.row.A.Denot bytes c.args.schedule.now) (g.R.ByteReader.remaining c.args.reader.now) Write (λ bytes. tt)

@@ -1,0 +1,86 @@
+//! The compilation of a test, from the bytes that come in to the bytes that go out.
+ghost use Rattle.std.specs.Prelude.{◌≡◌, ◌≢◌, ◌↔◌, true, false, Err, IfOk, IfErr, OnOk};
+ghost use Rattle.lw_source.specs.Views.{source_of};
+ghost use Rattle.lw_bench.specs.LitmusTests.{litmus_test_of};
+ghost use Rattle.lw_bench.specs.Compilations.{IsCompiledText, IsCompilation, Compiles, WritesCompilation};
+ghost use Rattle.lw_bench.specs.Told.{TellsTest, TellsTestInput, IsNoDevice};
+
+use crate::device::{ByteReader, ByteWriter, Failed};
+use crate::fault::BenchFault;
+use crate::input::read_input;
+use crate::laws::outcomes_over_caches_are_flat;
+use crate::litmus_test::{LitmusTest, read_test};
+use crate::output::write_output;
+use lw_base::Text;
+use lw_fence::compile;
+use lw_source::Source;
+use lw_x86::write_program;
+use std::alloc::{AllocError, Allocator};
+
+/// The canonical text of the program that a source test is compiled to.
+fn compiled_text<A: Allocator + Copy>(alloc: A, source: &Source<A>) -> Result<Text<A>, AllocError>
+    ensures { IfOk result (IsCompiledText (source_of source.now)) }
+{
+    outcomes_over_caches_are_flat();
+    let compiled = compile(alloc, source)?;
+    let text = write_program(alloc, &compiled.program);
+    drop(compiled);
+    text
+}
+
+/// The text of the compilation of a test.
+fn compilation_of<A: Allocator + Copy>(
+    alloc: A,
+    test: &LitmusTest<A>,
+) -> Result<Text<A>, AllocError>
+    ensures { IfOk result (IsCompilation (litmus_test_of test.now)) }
+{
+    match test {
+        LitmusTest::Source(source) => compiled_text(alloc, source),
+        LitmusTest::X86(program) => write_program(alloc, program),
+    }
+}
+
+/// The text of the compilation of the test that the bytes are.
+fn compilation_of_text<A: Allocator + Copy>(alloc: A, text: &[u8]) -> Result<Text<A>, BenchFault>
+    ensures found { IfOk result (Compiles text.now) }
+    ensures told { IfErr result (TellsTest A text.now) }
+    ensures device { IfErr result IsNoDevice }
+{
+    let test = read_test(alloc, text)?;
+    let compiled = compilation_of(alloc, &test);
+    drop(test);
+    Ok(compiled?)
+}
+
+/// Compiles the test that the reader gives, and writes the text of its compilation: of a source test the canonical text
+/// of an x86 test that reaches the same outcomes, with fences where they are needed; of an x86 test its own canonical
+/// text.
+///
+/// The test is read whole first: its text, then its cells. What is written is made whole before the first byte of it is
+/// written, so any fault but `Write` leaves the writer as it was; after `Write` nothing is said of how much went out. The
+/// devices may not have failed before, and after a failure they are not called again.
+pub fn compile_text<R: ByteReader, W: ByteWriter, A: Allocator + Copy>(
+    alloc: A,
+    reader: &mut R,
+    writer: &mut W,
+) -> Result<(), BenchFault>
+    requires reader { R.failed reader.old ≡ false }
+    requires writer { W.failed writer.old ≡ false }
+    // Where it answers, the compilation of the test has been written, and nothing else.
+    ensures written { OnOk result
+        (WritesCompilation (R.remaining reader.old) (W.contents writer.old) (W.contents writer.new)) }
+    // What a fault tells is so: of the text, or of a cell. Nothing else is told of them.
+    ensures told { IfErr result (TellsTestInput A (R.remaining reader.old)) }
+    // The devices' faults are told exactly where they failed, and else the writer is left alone.
+    ensures read { result ≡ Err BenchFault.Read ↔ R.failed reader.new ≡ true }
+    ensures write { result ≡ Err BenchFault.Write ↔ W.failed writer.new ≡ true }
+    ensures untouched { IfErr result (λ f. f ≢ BenchFault.Write → writer.new ≡ writer.old) }
+{
+    let text = read_input(alloc, reader)?;
+    let compiled = compilation_of_text(alloc, text.as_slice())?;
+    match write_output(writer, compiled.as_str().as_bytes()) {
+        Ok(()) => Ok(()),
+        Err(Failed) => Err(BenchFault::Write),
+    }
+}
