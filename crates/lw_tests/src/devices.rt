@@ -1,6 +1,6 @@
-//! Readers and writers that give and take little at a time and fail where they are told to, and a replay between them.
+//! Readers and writers that give and take little at a time and fail where they are told to, and a replay and a compilation between them.
 use lw_base::End;
-use lw_bench::{BenchFault, FromRead, Protocol, ToWrite, fault_line, replay_text};
+use lw_bench::{BenchFault, FromRead, Protocol, ToWrite, compile_text, fault_line, replay_text};
 use std::alloc::Global;
 use std::io::{self, Read, Write};
 
@@ -121,6 +121,14 @@ pub(crate) fn replay(alloc: Global, text: &[u8], words: &str) -> (Result<End, Be
     let mut reader = FromRead::new(Tape::new(text));
     let mut writer = ToWrite::new(Sheet::new());
     let result = replay_text(alloc, &mut reader, schedule, protocol, &mut writer);
+    (result, writer.writer)
+}
+
+/// What a compilation answers, and what it writes.
+pub(crate) fn write_compilation(alloc: Global, text: &[u8]) -> (Result<(), BenchFault>, Sheet) {
+    let mut reader = FromRead::new(Tape::new(text));
+    let mut writer = ToWrite::new(Sheet::new());
+    let result = compile_text(alloc, &mut reader, &mut writer);
     (result, writer.writer)
 }
 

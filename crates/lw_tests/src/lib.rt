@@ -9,6 +9,10 @@ mod caches;
 #[cfg(test)]
 mod cells;
 #[cfg(test)]
+mod compilations;
+#[cfg(test)]
+mod compiled_runs;
+#[cfg(test)]
 mod conditions;
 #[cfg(test)]
 mod devices;
@@ -18,6 +22,8 @@ mod heads;
 mod machines;
 #[cfg(test)]
 mod memories;
+#[cfg(test)]
+mod memory_systems;
 #[cfg(test)]
 mod names;
 #[cfg(test)]

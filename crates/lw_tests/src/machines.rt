@@ -12,36 +12,39 @@ use crate::tables::spelled;
 use linked_list_allocator::LocalHeap;
 use lw_base::{Cpu, End, Event, Loc, MAX_THREADS, Reg, Stop};
 use lw_memory::MemorySystem;
-use lw_mesi::{Mesi, empty_caches_are_kept};
+use lw_mesi::{KeptProtocol, Mesi, SnoopingCaches, empty_caches_are_kept};
 use lw_tso::Machine;
 use lw_x86::Program;
 use std::alloc::Global;
 use std::test::Fail;
 
 /// The x86 test that the words of a table stand for.
-fn program_of_words(alloc: Global, words: &str) -> Option<Program> {
+pub(crate) fn program_of_words(alloc: Global, words: &str) -> Option<Program> {
     match spelled(alloc, words) {
         Ok(text) => program_of(alloc, text.as_str()),
         Err(_) => None,
     }
 }
 
-/// Empty caches for a program, over its initial words.
-fn caches_of(alloc: Global, program: &Program) -> Option<Mesi>
+/// Empty caches for a program, by a protocol, over its initial words.
+pub(crate) fn caches_of<P: KeptProtocol>(
+    alloc: Global,
+    program: &Program,
+) -> Option<SnoopingCaches<P>>
     ensures cpus { IfSome result (λ m. m.cpus ≡ program.now.head.threads) }
     ensures threads { IfSome result (λ m. length program.now.threads ≤ m.cpus) }
     ensures words { IfSome result (λ m. contents_of m ≡ program.now.head.init_words) }
 {
     empty_caches_are_kept();
     let head = &program.head;
-    match Mesi::new(alloc, head.threads, head.init_words.as_slice()) {
+    match SnoopingCaches::new(alloc, head.threads, head.init_words.as_slice()) {
         Ok(caches) => Some(caches),
         Err(_) => None,
     }
 }
 
 /// A machine of a program, over caches.
-fn machine_of(alloc: Global, program: &Program) -> Option<Machine<'_, Mesi>>
+pub(crate) fn machine_of(alloc: Global, program: &Program) -> Option<Machine<'_, Mesi>>
     ensures { IfSome result (λ m. length m.state.processors ≡ program.now.head.threads) }
 {
     let caches = caches_of(alloc, program)?;
@@ -104,7 +107,7 @@ fn full_buffers_and_locations_that_there_are_not(rt: HostRuntime) {
 }
 
 /// The next number of a fixed generator. Its high bits are the better ones.
-fn next_random(random: u32) -> u32 {
+pub(crate) fn next_random(random: u32) -> u32 {
     random.wrapping_mul(1_664_525).wrapping_add(1_013_904_223)
 }
 
@@ -196,7 +199,7 @@ fn are_runs_alike(alloc: Global, program: &Program) -> Option<bool> {
 }
 
 /// Tests of four threads on eight locations, with each instruction, and jumps over stores, fences and locked instructions.
-const FOUR_THREADS: &str = "
+pub(crate) const FOUR_THREADS: &str = "
 X86 A {a=1;b=2;c=3;d=4;e=5;f=6;g=7;h=8} P0|P1|P2|P3; MOV [a],@1 | MOV [b],@2 | MOV EAX,[a] | MOV EAX,[b]; MOV EAX,[b] | MOV EAX,[a] | MOV [c],EAX | MOV [d],EAX; MOV [b],EAX | MOV [a],EAX | MOV EBX,[c] | MOV EBX,[d]; MOV EBX,[b] | MOV EBX,[a] | MOV [c],@9 | MOV [c],@8; exists (true)
 X86 B {a=1;b=2;c=3;d=4;e=5;f=6;g=7;h=8} P0|P1|P2|P3; MOV [a],@1 | MOV [a],@2 | MOV [a],@3 | MOV [a],@4; MFENCE | MOV EAX,[a] | MFENCE | MOV EAX,[b]; MOV EAX,[b] | MFENCE | MOV ECX,[a] | MOV [b],@5; MOV [b],EAX | MOV EBX,[b] | MOV [b],ECX | MFENCE; MFENCE | MOV [a],EBX | MOV EDX,[b] | MOV EDI,[a]; exists (true)
 X86 C {a=1;b=2;c=3;d=4;e=5;f=6;g=7;h=8; 0:EAX=7; 1:EAX=8; 2:EAX=9; 3:EAX=10} P0|P1|P2|P3; XCHG [a],EAX | MOV [a],@5 | LOCK XADD [a],EAX | MOV [b],@6; MOV EBX,[a] | XCHG [a],EAX | MOV [b],EAX | LOCK XADD [b],EAX; XCHG [b],EBX | MOV EBX,[b] | LOCK XADD [b],EAX | LOCK XADD [a],EAX; MOV [c],EBX | LOCK XADD [c],EBX | XCHG [c],EAX | MOV [c],EAX; exists (true)

@@ -1,9 +1,11 @@
 //! What devices, commands and exit statuses do to a run of the workbench.
+ghost use Rattle.std.specs.Prelude.{◌≡◌, false};
+
 use crate::devices::{STORE_BUFFERING, STORE_BUFFERING_PAGE, Sheet, Tape, is_told, replay};
 use lw_base::{CellCause, CellFault, End, ScheduleCause, ScheduleFault, Stop};
 use lw_bench::{
-    BenchFault, ByteReader, ByteWriter, FromRead, Protocol, Task, ToWrite, command_of, end_status,
-    exit_status, replay_text, status_of,
+    BenchFault, ByteReader, ByteWriter, FromRead, Protocol, Task, ToWrite, command_of,
+    compile_text, done_status, end_status, replay_text, status_of,
 };
 use lw_text::{TextCause, TextFault};
 
@@ -43,7 +45,7 @@ fn statuses(rt: HostRuntime) {
     ] {
         assert!(rt; end_status(end) == status);
     }
-    assert!(rt; exit_status(&Ok(End::Final)) == 0 && exit_status(&Err(BenchFault::Read)) == 4);
+    assert!(rt; done_status() == 0);
     let text = BenchFault::Text(TextFault {
         at: 0,
         cause: TextCause::Name,
@@ -62,7 +64,10 @@ fn statuses(rt: HostRuntime) {
 }
 
 /// Words that are no command.
-const OTHER_WORDS: [&[&str]; 10] = [
+const OTHER_WORDS: [&[&str]; 13] = [
+    &["compile", "P0"],
+    &["compile", ""],
+    &["Compile"],
     &[],
     &["replay"],
     &["replay", "P0", "P1"],
@@ -79,6 +84,7 @@ const OTHER_WORDS: [&[&str]; 10] = [
 fn is_replay(words: &[&str], by: &str, over: Protocol) -> bool {
     match command_of(words) {
         Some(Task::Replay(schedule, protocol)) => schedule == by && protocol == over,
+        Some(Task::Compile) => false,
         None => false,
     }
 }
@@ -99,6 +105,7 @@ fn words_of_a_command(rt: HostRuntime) {
             );
         assert!(rt; are_replays, "{word}");
     }
+    assert!(rt; command_of(&["compile"]) == Some(Task::Compile));
     for words in OTHER_WORDS {
         assert!(rt; command_of(words).is_none(), "{words:?}");
     }
@@ -180,5 +187,42 @@ fn each_write_fails(rt: HostRuntime) {
             assert!(rt; writer.has_failed() && writer.writer.calls == failing);
             assert!(rt; !reader.has_failed());
         }
+    }
+}
+
+/// What store buffering is compiled to.
+const STORE_BUFFERING_COMPILED: &str =
+    "X86 SB\n{\n x=0;\n y=0;\n}\n P0 | P1 ;\n MOV [x],$1 | MOV [y],$1 ;\n MFENCE | MFENCE ;\n MOV EAX,[y] | MOV EAX,[x] ;\nexists (0:EAX=0 /\\ 1:EAX=0)\n";
+
+/// The devices of a compilation: a reader that gives one byte at a time, and a writer that takes one, of which the reader's
+/// or the writer's call of this number fails.
+fn devices_failing(reading: usize, writing: usize) -> (FromRead<Tape<'static>>, ToWrite<Sheet>)
+    ensures reader { result.0.failed ≡ false }
+    ensures writer { result.1.failed ≡ false }
+{
+    let mut reader = FromRead::new(Tape::new(STORE_BUFFERING.as_bytes()));
+    reader.reader.step = 1;
+    reader.reader.failing = reading;
+    let mut writer = ToWrite::new(Sheet::new());
+    writer.writer.step = 1;
+    writer.writer.failing = writing;
+    (reader, writer)
+}
+
+/// A compilation is written byte by byte, and whichever call of a device fails, that is told.
+#[test]
+fn devices_of_a_compilation(rt: HostRuntime) {
+    let (mut reader, mut writer) = devices_failing(0, 0);
+    let result = compile_text(rt.alloc(), &mut reader, &mut writer);
+    assert!(rt; result.is_ok() && writer.writer.is(STORE_BUFFERING_COMPILED));
+    for failing in 1..89usize {
+        let (mut reader, mut writer) = devices_failing(failing, 0);
+        let result = compile_text(rt.alloc(), &mut reader, &mut writer);
+        assert!(rt; matches!(result, Err(BenchFault::Read)) && writer.writer.calls == 0);
+    }
+    for failing in 1..STORE_BUFFERING_COMPILED.len().saturating_add(1) {
+        let (mut reader, mut writer) = devices_failing(0, failing);
+        let result = compile_text(rt.alloc(), &mut reader, &mut writer);
+        assert!(rt; matches!(result, Err(BenchFault::Write)) && writer.writer.calls == failing);
     }
 }
