@@ -7,6 +7,8 @@
 - The tables of faults and ends in docs/FORMAT.md, whose rows have examples: what is read, and the place of its fault; or an
   example of examples/ and a schedule that ends at its last event, refused.
 - Each examples/NAME.litmus has its NAME.page, and docs/MAP.md lists the files as they are.
+- Each source test of examples/ beside what it is compiled to: random runs of the source, and the same runs of the compiled
+  program, statement by statement, end in the same registers and memory. The compiled text is its own canonical text.
 - The program where memory is refused: for each n, a run whose nth call for memory is refused (tools/refuse_memory.c).
 """
 import glob
@@ -15,6 +17,7 @@ import re
 import subprocess
 import sys
 import tempfile
+from random import Random
 
 sys.dont_write_bytecode = True
 import make_map
@@ -143,24 +146,77 @@ def check_faults():
             check_fault(kind, row[1], row[2], row[3])
 
 
-def check_refused_memory(test, schedule, asks_for_less):
-    """Every call for memory of a replay refused in turn, up to the first run that makes fewer calls. Where the standard
-    library's `collect` is refused room ahead, it asks for less; then the page is the whole one."""
+def sizes_of(source, compiled, thread):
+    """Of each statement of a thread: of how many instructions it is, and whether it is a store."""
+    cells = [[row.split("|")[thread] for row in rows_of(text)] for text in (source, compiled)]
+    statements = [re.sub(r"^(\s*\w+:(?!=))+", "", cell).split() for cell in cells[0]]
+    instructions = [re.sub(r"^\s*L\d+:", "", cell).split() for cell in cells[1]]
+    at, sizes = 0, []
+    for words in filter(None, statements):
+        is_two = instructions[at][0] in ("CMP", "MFENCE")
+        if words[2:3] in (["swap"], ["fetchadd"]):
+            is_two = words[0] != words[-1]
+        if "+" in words:
+            is_two = words[0] not in (words[2], words[4])
+        sizes.append((1 + is_two, words[1] == ":=" and not re.fullmatch(r"r[0-5]", words[0])))
+        at += 1 + is_two
+    return sizes
+
+
+def rows_of(text):
+    """The rows of a test, without its header."""
+    body = re.sub(r"\(\*.*?\*\)", "", text, flags=re.S).partition("}")[2]
+    rows = re.split(r";", re.split(r"\b(?:exists|forall|locations)\b|~", body)[0])
+    return [row for row in rows[1:] if row.strip()]
+
+
+def state_in(page):
+    """The positions, the registers' words and the words of memory that a page tells of."""
+    threads = re.findall(r"^P\d at (\d+)((?: \w+=\d+)+)$", page, re.M)
+    words = re.findall(r"^(?:Memory|Content)(.*)$", page, re.M)[-1]
+    return [int(at) for at, _ in threads], [re.findall(r"=(\d+)", regs) for _, regs in threads], words
+
+
+def check_compiled(name):
+    """A source test beside what it is compiled to."""
+    source = read(name)
+    given, random = source.encode(), Random(name)
+    compiled = run([PROGRAM, "compile"], given)[0]
+    compare(f"{name}, compiled twice", (compiled, b"", 0), run([PROGRAM, "compile"], compiled))
+    threads = len(state_in(run([PROGRAM, "replay", ""], given)[0].decode())[0])
+    sizes = [sizes_of(source, compiled.decode(), thread) for thread in range(threads)]
+    for _ in range(5):
+        order, events = [], []
+        while True:
+            page = run([PROGRAM, "replay", " ".join(order)], given)[0].decode()
+            at, *end = state_in(page)
+            running = [thread for thread in range(threads) if at[thread] < len(sizes[thread])]
+            if not running:
+                break
+            thread = random.choice(running)
+            size, is_store = sizes[thread][at[thread]]
+            order.append(f"P{thread}")
+            events += [f"P{thread}"] * size + [f"D{thread}"] * is_store
+        out, _, status = run([PROGRAM, "replay", " ".join(events)], compiled)
+        compare(f"{name}, compiled, by {' '.join(events)}", (end, 0), (list(state_in(out.decode())[1:]), status))
+
+
+def check_refused_memory(test, *words):
+    """Every call for memory of a run refused in turn, up to the first run that makes fewer calls."""
     given = open(f"{HOME}/examples/{test}.litmus", "rb").read()
-    words = [PROGRAM, "replay", schedule]
-    refused, whole = (b"", b"lw: memory\n", 4), run(words, given)
+    name = f"{test}, {' '.join(words)}"
+    refused, whole = (b"", b"lw: memory\n", 4), run([PROGRAM, *words], given)
     with tempfile.TemporaryDirectory() as room:
         library, mark = f"{room}/refuse_memory.so", f"{room}/mark"
         subprocess.run(["cc", "-O1", "-shared", "-fPIC", "-o", library, f"{HOME}/tools/refuse_memory.c"], check=True)
         for nth in range(1, 10000):
             refusing = {"LD_PRELOAD": library, "REFUSED_CALL": str(nth), "REFUSED_MARK": mark}
-            told = run(words, given, env={**os.environ, **refusing})
+            told = run([PROGRAM, *words], given, env={**os.environ, **refusing})
             if not os.path.exists(mark):
                 break
             os.remove(mark)
-            wanted = whole if asks_for_less and told == whole else refused
-            compare(f"{test}, {schedule}: call {nth} for memory is refused", wanted, told)
-        compare(f"{test}, {schedule}: behind the last call none is refused", whole, told)
+            compare(f"{name}: call {nth} for memory is refused", refused, told)
+        compare(f"{name}: behind the last call none is refused", whole, told)
 
 
 def read(name):
@@ -181,14 +237,19 @@ def main():
         compare(f"{name} has its page", True, os.path.exists(page))
     for name in sorted(glob.glob("examples/*.page")):
         check_transcript(name, read(name).splitlines())
+    for name in sorted(glob.glob("examples/*.litmus")):
+        if read(name).startswith("SRC"):
+            check_compiled(name)
     compare("the list of files in docs/MAP.md (tools/make_map.py writes it)", True, make_map.is_whole())
     check_faults()
-    for test, schedule, asks_for_less in [
-        ("Peterson", "P0 P0 P1 P1", False),
-        ("Peterson", "P0 E0:nowhere", False),
-        ("SB+own-x86", "P0 P0 P0 P1 P1 P1 D0 D1", True),
+    for test, *words in [
+        ("Peterson", "replay", "P0 P0 P1 P1"),
+        ("Peterson", "replay", "P0 E0:nowhere"),
+        ("Peterson", "compile"),
+        ("SB+own-x86", "replay", "P0 P0 P0 P1 P1 P1 D0 D1"),
+        ("SB+own-x86", "compile"),
     ]:
-        check_refused_memory(test, schedule, asks_for_less)
+        check_refused_memory(test, *words)
     print(f"{passed} passed, {failed} failed")
     return 1 if failed else 0
 
