@@ -103,6 +103,14 @@ impl<T: Copy, A: Allocator> Sequence<T, A> {
     {
         self.items[place] = item;
     }
+
+    /// Puts other items in the places of all. It takes no memory.
+    pub fn copy_from(&mut self, items: &[T])
+        requires { length items.now ≡ length self.old }
+        ensures { self.new ≡ items.now }
+    {
+        self.items.as_mut_slice().copy_from_slice(items);
+    }
 }
 
 impl<T: PartialEq, A: Allocator> PartialEq for Sequence<T, A> {

@@ -79,9 +79,10 @@ pub record RunsTo (s : SourceTest) (order : List ℕ) (o : Final) : Type 0 where
 abbrev pub SourceOutcome : SourceTest → Final → Type 0
 SourceOutcome s o = (order : List ℕ) × RunsTo s order o
 
--- What a `SourceRun` is: a program, and the state that it is in.
+-- What a `SourceRun` is: a program, the state at which its test starts, and the state that it is in.
 pub record Running : Type 0 where
   pub program : List (List Stmt)
+  pub start : State
   pub state : State
 
 -- What is answered where this is the state after a step, and what the run is then; a refused step changes nothing.

@@ -25,7 +25,14 @@ impl<'a, A: Allocator, B: Allocator> Model for SourceRun<'a, A, B> {
 
     ghost Value = { Running };
 
-    ghost view = { λ r. record { program = r.source.now.threads; state = record { threads = r.threads; words = r.words } } };
+    ghost use Rattle.lw_source.specs.Runs.{start_of};
+    ghost use Rattle.lw_source.specs.Views.{source_of};
+
+    ghost view = { λ r. record {
+      program = r.source.now.threads;
+      start = start_of (source_of r.source.now);
+      state = record { threads = r.threads; words = r.words };
+    } };
 
     ghost invariant = { λ r. (length r.threads ≡ length r.source.now.threads) × (length r.words ≡ length r.source.now.head.locs) };
 }
@@ -34,7 +41,8 @@ impl<'a, A: Allocator + Copy, B: Allocator> SourceRun<'a, A, B> {
     /// A run at the start of a test.
     pub fn new(alloc: A, source: &'a Source<B>) -> Result<Self, AllocError>
         ensures program { IfOk result (λ r. r.program ≡ source.now.threads) }
-        ensures start { IfOk result (λ r. r.state ≡ start_of (source_of source.now)) }
+        ensures start { IfOk result (λ r. r.start ≡ start_of (source_of source.now)) }
+        ensures state { IfOk result (λ r. r.state ≡ start_of (source_of source.now)) }
     {
         let mut threads = Sequence::new(alloc);
         for regs in source.head.init_regs.as_slice() {
@@ -68,9 +76,40 @@ impl<'a, A: Allocator + Copy, B: Allocator> SourceRun<'a, A, B> {
 }
 
 impl<'a, A: Allocator, B: Allocator> SourceRun<'a, A, B> {
+    /// Puts the run back to the start of its test. It takes no memory.
+    pub fn restart(&mut self)
+        ensures program { self.new.program ≡ self.old.program }
+        ensures start { self.new.start ≡ self.old.start }
+        ensures state { self.new.state ≡ self.old.start }
+    {
+        for (cpu, regs) in self.source.head.init_regs.as_slice().iter().enumerate() {
+            self.threads.set(
+                cpu,
+                Thread {
+                    position: 0,
+                    regs: *regs,
+                },
+            );
+        }
+        self.words.copy_from(self.source.head.init_words.as_slice());
+    }
+
+    /// Puts the registers and the memory as they are into an outcome of as many threads and locations. It takes no memory.
+    pub fn write_outcome<C: Allocator>(&self, outcome: &mut Outcome<C>)
+        requires threads { length outcome.old.regs ≡ length self.now.state.threads }
+        requires words { length outcome.old.words ≡ length self.now.state.words }
+        ensures { outcome.new ≡ outcome_of self.now.state }
+    {
+        for (cpu, thread) in self.threads.as_slice().iter().enumerate() {
+            outcome.regs.set(cpu, thread.regs);
+        }
+        outcome.words.copy_from(self.words.as_slice());
+    }
+
     /// The thread carries out its next statement. A refused step changes nothing.
     pub fn step(&mut self, cpu: Cpu) -> Result<(), Stop>
         ensures program { self.new.program ≡ self.old.program }
+        ensures start { self.new.start ≡ self.old.start }
         ensures threads { length self.new.state.threads ≡ length self.old.state.threads }
         ensures words { length self.new.state.words ≡ length self.old.state.words }
         ensures done { Answers (source_step self.old.program cpu self.old.state) result self.old self.new }
@@ -92,6 +131,7 @@ impl<'a, A: Allocator, B: Allocator> SourceRun<'a, A, B> {
     /// Carries out the events before the first that is refused, or all.
     pub fn run(&mut self, events: &[Event]) -> Replay
         ensures program { self.new.program ≡ self.old.program }
+        ensures start { self.new.start ≡ self.old.start }
         ensures replayed { Replayed self.old.program events.now self.old.state result self.new.state }
         ensures threads { length self.new.state.threads ≡ length self.old.state.threads }
         ensures words { length self.new.state.words ≡ length self.old.state.words }
@@ -118,6 +158,7 @@ impl<'a, A: Allocator, B: Allocator> SourceRun<'a, A, B> {
     /// One event.
     fn act(&mut self, event: Event) -> Result<(), Stop>
         ensures program { self.new.program ≡ self.old.program }
+        ensures start { self.new.start ≡ self.old.start }
         ensures done { Answers (source_event self.old.program event self.old.state) result self.old self.new }
     {
         match event {

@@ -15,7 +15,10 @@ pub returns-clause-program : goal.returns-clause-program
 returns-clause-program g c = refl
 
 pub returns-clause-start : goal.returns-clause-start
-returns-clause-start g c =
+returns-clause-start g c = refl
+
+pub returns-clause-state : goal.returns-clause-state
+returns-clause-state g c =
     let threads = mapped_all starting c.args.source.now.head.init_regs _ c.loop-regs.regs-index _ c.as_slice-regs-items.ensures c.loop-regs-test.false c.loop-regs.invariant in
     made _ _ _ _ threads (c.in_ok-words.ensures ∙ c.as_slice.ensures)
 

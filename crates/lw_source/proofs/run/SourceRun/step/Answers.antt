@@ -10,7 +10,7 @@ returns-clause-done g c =
     let code = rw (c.as_slice.ensures, c.index-2.ensures.value) at c.index-as_slice-index.is in
     let next = rw c.as_slice-2.ensures at c.after-next.ensures in
     let threads = rw (c.index-3.ensures.value, next) at c.set.ensures in
-    let end : Running = record { program = c.self.inside.source.now.threads; state = record { threads = c.set.new.self; words = c.write.new.words } } in
+    let end : Running = record { program = c.self.inside.source.now.threads; start = c.args.self.now.start; state = record { threads = c.set.new.self; words = c.write.new.words } } in
     stepped _ _ _ _ end c.args.cpu c.in-Some.thread.now c.index-as_slice-index.result c.in-Some-get.stmt.now c.self.view_is refl c.self.invariant.0 thread code c.in-Some-get.ensures threads c.write.ensures
 
 pub after-next-requires : goal.after-next-requires
@@ -80,3 +80,12 @@ returns-in_default-get-clause-threads g c = refl
 
 pub returns-in_default-get-clause-words : goal.returns-in_default-get-clause-words
 returns-in_default-get-clause-words g c = refl
+
+pub returns-clause-start : goal.returns-clause-start
+returns-clause-start g c = ap (λ (r : Running). r.start) c.self.view_is
+
+pub returns-in_default-clause-start : goal.returns-in_default-clause-start
+returns-in_default-clause-start g c = refl
+
+pub returns-in_default-get-clause-start : goal.returns-in_default-get-clause-start
+returns-in_default-get-clause-start g c = refl
