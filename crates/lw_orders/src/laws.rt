@@ -1,8 +1,8 @@
 //! The public laws: what holds of all orders, whoever makes them.
 
-ghost use Rattle.std.specs.Prelude.{◌≡◌, ◌↔◌, ◌<◌, ◌++◌, ◌∷◌, ℕ, List, Bool, IsTrue, All, length};
-ghost use Rattle.lw_orders.specs.Order.{Constraints, IsWellFormed, IsLinearExtension, IsOrder, Once, place, Alike, ExactlyOne, is_decided, IsDecided};
-ghost use Rattle.lw_orders.specs.Sequence.{orders};
+ghost use Rattle.std.specs.Prelude.{◌≡◌, ◌↔◌, ◌<◌, ◌++◌, [], ◌∷◌, ℕ, List, Bool, IsTrue, All, length};
+ghost use Rattle.lw_orders.specs.Order.{Constraints, IsWellFormed, IsLinearExtension, IsOrder, Once, place, Alike, ExactlyOne, open_pairs, is_decided, IsDecided};
+ghost use Rattle.lw_orders.specs.Sequence.{numbers, orders};
 ghost use Rattle.lw_orders.specs.Exchange.{AreJoined, IsKeptByExchanges};
 
 /// Alike orders that keep the fixed pairs are joined by exchanges of neighbours that neither conflict nor are fixed, each
@@ -32,6 +32,11 @@ pub fn orders_are_complete()
     ensures each { (t : Constraints) → IsWellFormed t → All (IsLinearExtension t) (orders t) }
     ensures exactly_one { (t : Constraints) → IsWellFormed t
         → (o : List ℕ) → IsLinearExtension t o → ExactlyOne (Alike t.conflicts o) (orders t) }
+{}
+
+/// Where the fixed pairs leave no conflict open, one order is given: the items going up.
+pub fn one_order_goes_up()
+    ensures { (t : Constraints) → IsWellFormed t → open_pairs t ≡ [] → orders t ≡ numbers 0 t.len ∷ [] }
 {}
 
 /// In an order of n items nothing else stands, and each item at one place, where it is found. And a list of these items,

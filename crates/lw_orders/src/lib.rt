@@ -37,7 +37,7 @@ mod rows;
 pub use items::{Items, count};
 pub use laws::{
     alike_orders_agree, alike_orders_are_joined, decided_by_walks, items_stand_once,
-    orders_are_complete,
+    one_order_goes_up, orders_are_complete,
 };
 pub use limits::{MAX_ITEMS, MAX_ORDERS};
 pub use order::Order;

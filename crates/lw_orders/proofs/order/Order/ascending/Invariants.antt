@@ -1,0 +1,6 @@
+use Rattle.std.proofs.Common.{◌≡◌, length, take}
+use Rattle.lw_orders.specs.Sequence.{numbers}
+use Rattle.lw_orders.proofs.order.Order.ascending.Given as goal
+
+abbrev pub invariant-loop-item : goal.invariant-loop-item
+invariant-loop-item l = (length l.items ≡ 128) × (take l.item l.items ≡ numbers 0 l.item)
