@@ -10,7 +10,7 @@ use Rattle.lw_x86.specs.Programs.{ProgramTest, IsWellFormedProgram}
 use Rattle.std.specs.Io.KnownBytes.{Appends}
 use Rattle.lw_bench.specs.Devices.{IsInput}
 use Rattle.lw_bench.specs.Compilations.{Compiles, WritesCompilation}
-use Rattle.lw_bench.specs.Machines.{OutcomeOverCaches}
+use Rattle.lw_finals.specs.Machines.{OutcomeOverCaches}
 use Rattle.lw_bench.proofs.Replays.{in_whole}
 
 -- what is written is the compilation of the whole input

@@ -11,7 +11,7 @@ use Rattle.lw_source.specs.Sources.{SourceTest}
 use Rattle.lw_x86.specs.CanonicalTexts.{canonical_text}
 use Rattle.lw_x86.specs.Programs.{ProgramTest}
 use Rattle.lw_bench.specs.LitmusTests.{LitmusTest, Of_source, Of_x86, HasTest}
-use Rattle.lw_bench.specs.Machines.{OutcomeOverCaches}
+use Rattle.lw_finals.specs.Machines.{OutcomeOverCaches}
 
 -- The canonical text of a source test's compiled program, which reaches on the whole machine, over all steps, drains and
 -- evictions, exactly the outcomes that the source reaches by interleaving on one memory.

@@ -1,7 +1,6 @@
 pub mod Faults
 pub mod Devices
 pub mod LitmusTests
-pub mod Machines
 pub mod Compilations
 pub mod Pages
 pub mod Replays

@@ -17,7 +17,7 @@ use Rattle.lw_tso.specs.Machines.{MachineState}
 use Rattle.lw_tso.specs.Runs.{machine_start, MachineReplayed}
 use Rattle.lw_x86.specs.Programs.{ProgramTest}
 use Rattle.lw_bench.specs.LitmusTests.{LitmusTest, Of_source, Of_x86, head_of_test, HasTest}
-use Rattle.lw_bench.specs.Machines.{caches_at_start}
+use Rattle.lw_finals.specs.Machines.{caches_at_start}
 use Rattle.lw_bench.specs.Pages.{source_page, machine_page}
 
 -- The page tells of the state that the events lead to from a source test's start, on one memory, or those before the

@@ -2,7 +2,8 @@
 //!
 //! It names lw_base, of lw_text the reading of frames and its faults, of lw_source and lw_x86 the reading of tests and
 //! the canonical text, of lw_source their runs, of lw_fence the compiler, and of lw_tso the machine, over the caches of lw_mesi,
-//! which are a memory system of lw_memory. Its tests, as all of the workbench's, stand in lw_tests.
+//! which are a memory system of lw_memory; and of lw_finals that an x86 test has over caches the outcomes that it has over flat
+//! memory. Its tests, as all of the workbench's, stand in lw_tests.
 #![tactic(auto)]
 
 mod command;
@@ -10,7 +11,6 @@ mod compile;
 mod device;
 mod fault;
 mod input;
-mod laws;
 mod litmus_test;
 mod output;
 mod page;
@@ -23,7 +23,6 @@ pub use fault::{
     BenchFault, done_status, end_status, fault_line, memory_line, status_of, usage_line,
     usage_status,
 };
-pub use laws::{outcomes_over_caches_are_flat, protocols_have_the_same_outcomes};
 pub use litmus_test::a_text_has_one_test;
 pub use lw_base::End;
 pub use lw_mesi::Protocol;

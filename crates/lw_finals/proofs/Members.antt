@@ -1,0 +1,52 @@
+-- Membership in lists: of a list with one item in front, of a `map`, of a `flat_map`, of the empty list and of a list of one.
+use Rattle.std.proofs.Common.{◌≡◌, zero, suc, List, [], ◌∷◌, map, refl, sym, ap, subst, inl, inr, ◌⊎◌, arith}
+use Rattle.std.specs.Prelude.{Contains}
+use Rattle.std.specs.List.{flat_map}
+use Rattle.std.proofs.lemmas.List.Elements.{Contains-append_left, Contains-append_right, Contains-append_cases}
+
+pub none_in : {X : Type 0} (x : X) → Contains [] x → ⊥
+none_in x (k, l, e) = absurd (omega arith)
+
+pub Contains-here : {X : Type 0} (x y : X) (xs : List X) → x ≡ y → Contains (x ∷ xs) y
+Contains-here x y xs e = (0, omega arith, e)
+
+pub Contains-there : {X : Type 0} (x y : X) (xs : List X) → Contains xs y → Contains (x ∷ xs) y
+Contains-there x y xs (k, l, e) = (suc k, omega arith, e)
+
+pub Contains-cons : {X : Type 0} (x y : X) (xs : List X) → Contains (x ∷ xs) y → (x ≡ y) ⊎ Contains xs y
+Contains-cons x y xs (zero, l, e) = inl e
+Contains-cons x y xs (suc k, l, e) = inr (k, omega arith, e)
+
+pub of_one : {X : Type 0} (x y : X) → Contains (x ∷ []) y → y ≡ x
+of_one x y c = elim (Contains-cons x y [] c) [
+  | inl e ↦ sym e
+  | inr r ↦ absurd (none_in y r)
+]
+
+pub Contains-map : {X Y : Type 0} (f : X → Y) (xs : List X) (x : X) → Contains xs x → Contains (map f xs) (f x)
+Contains-map f [] x (k, l, e) = absurd (omega arith)
+Contains-map f (z ∷ xs) x c = elim (Contains-cons z x xs c) [
+  | inl e ↦ Contains-here (f z) (f x) (map f xs) (ap f e)
+  | inr r ↦ Contains-there (f z) (f x) (map f xs) (Contains-map f xs x r)
+]
+
+pub from_map : {X Y : Type 0} (f : X → Y) (xs : List X) (y : Y) → Contains (map f xs) y → (x : X) × Contains xs x × (f x ≡ y)
+from_map f [] y (k, l, e) = absurd (omega arith)
+from_map f (z ∷ xs) y c = elim (Contains-cons (f z) y (map f xs) c) [
+  | inl e ↦ (z, Contains-here z z xs refl, e)
+  | inr r ↦ (let g : (x : _) × Contains xs x × (f x ≡ y) = from_map f xs y r in (g.0, Contains-there z g.0 xs g.1, g.2))
+]
+
+pub Contains-flat_map : {X Y : Type 0} (f : X → List Y) (xs : List X) (x : X) (y : Y) → Contains xs x → Contains (f x) y → Contains (flat_map f xs) y
+Contains-flat_map f [] x y (k, l, e) h = absurd (omega arith)
+Contains-flat_map f (z ∷ xs) x y c h = elim (Contains-cons z x xs c) [
+  | inl e ↦ Contains-append_left (f z) (flat_map f xs) y (subst (λ w. Contains (f w) y) (sym e) h)
+  | inr r ↦ Contains-append_right (f z) (flat_map f xs) y (Contains-flat_map f xs x y r h)
+]
+
+pub from_flat_map : {X Y : Type 0} (f : X → List Y) (xs : List X) (y : Y) → Contains (flat_map f xs) y → (x : X) × Contains xs x × Contains (f x) y
+from_flat_map f [] y (k, l, e) = absurd (omega arith)
+from_flat_map f (z ∷ xs) y c = elim (Contains-append_cases (f z) (flat_map f xs) y c) [
+  | inl h ↦ (z, Contains-here z z xs refl, h)
+  | inr r ↦ (let g = from_flat_map f xs y r in (g.0, Contains-there z g.0 xs g.1, g.2))
+]

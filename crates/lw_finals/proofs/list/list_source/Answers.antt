@@ -1,0 +1,42 @@
+use Rattle.std.proofs.Common.{[], refl}
+use Rattle.std.proofs.lemmas.Result.{IfErr-weaker, IfOk-weaker}
+use Rattle.lw_source.specs.Views.{source_of}
+use Rattle.lw_x86.specs.Views.{program_of}
+use Rattle.lw_finals.specs.Gathered.{Gathers, EndsOfProgram}
+use Rattle.lw_finals.specs.SourceItems.{source_language, StaysAndEnds}
+use Rattle.lw_finals.specs.SourceRuns.{leads_flat}
+use Rattle.lw_finals.proofs.SourceList.{exactly, on_machine, limit_told, gathered_of}
+use Rattle.lw_finals.proofs.Visitable.{source_visitable}
+use Rattle.lw_finals.proofs.list.list_source.Goals as goal
+
+pub list_program-requires : goal.list_program-requires
+list_program-requires g c = rw c.as_slice.ensures (source_visitable (source_of c.args.source.now) c.args.source.now.well_formed)
+
+pub returns-clause-exactly : goal.returns-clause-exactly
+returns-clause-exactly g c =
+    let s = source_of c.args.source.now in
+    let program = program_of c.in_ok-compiled.compiled.program in
+    let starts = c.in_ok-compiled.compiled.starts in
+    IfOk-weaker c.list_program.result
+    (λ l. Gathers (EndsOfProgram source_language (StaysAndEnds c.in_ok-runner.runner.test.source) c.as_slice.result.now) (leads_flat c.in_ok-runner.runner.test) [] l) _
+    (λ l h. exactly s c.args.source.now.well_formed program starts l (c.orders_are_complete.ensures.each, c.orders_are_complete.ensures.exactly_one) c.in_ok-compiled.ensures.outcomes
+    (gathered_of s c.in_ok-runner.runner.test (record { source = s; program = program; starts = starts }) c.as_slice.result.now l c.in_ok-runner.ensures.test refl c.as_slice.ensures h)) c.list_program.ensures.gathered
+
+pub returns-clause-machine : goal.returns-clause-machine
+returns-clause-machine g c =
+    let s = source_of c.args.source.now in
+    let program = program_of c.in_ok-compiled.compiled.program in
+    let starts = c.in_ok-compiled.compiled.starts in
+    let formed = c.in_ok-compiled.compiled.program.well_formed in
+    IfOk-weaker c.list_program.result
+    (λ l. Gathers (EndsOfProgram source_language (StaysAndEnds c.in_ok-runner.runner.test.source) c.as_slice.result.now) (leads_flat c.in_ok-runner.runner.test) [] l) _
+    (λ l h. on_machine s c.args.source.now.well_formed program starts l (c.orders_are_complete.ensures.each, c.orders_are_complete.ensures.exactly_one) c.in_ok-compiled.ensures.outcomes
+    (gathered_of s c.in_ok-runner.runner.test (record { source = s; program = program; starts = starts }) c.as_slice.result.now l c.in_ok-runner.ensures.test refl c.as_slice.ensures h)
+    c.in_ok-compiled.ensures.compiled
+    (λ protocol o. c.outcomes_over_caches_are_flat.ensures protocol program o formed)
+    (λ protocol events o kept. c.replays_over_caches_are_flat.ensures protocol program events o formed kept)) c.list_program.ensures.gathered
+
+pub returns-clause-limit : goal.returns-clause-limit
+returns-clause-limit g c =
+    let err = rw c.as_slice.ensures at c.list_program.ensures.err in
+    IfErr-weaker c.list_program.result _ _ (limit_told (source_of c.args.source.now) c.args.source.now.well_formed) err

@@ -1,0 +1,16 @@
+pub mod Choices
+pub mod Items
+pub mod Accesses
+pub mod Listings
+pub mod Flows
+pub mod Views
+pub mod Visits
+pub mod OrderRuns
+pub mod SourceItems
+pub mod X86Items
+pub mod Counts
+pub mod Gathered
+pub mod Codes
+pub mod SourceRuns
+pub mod Machines
+pub mod Lists

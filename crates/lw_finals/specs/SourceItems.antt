@@ -1,0 +1,34 @@
+-- The items of source tests: the statements on the chosen paths.
+use Rattle.std.specs.Prelude.{◌≡◌, ℕ, false, Some, None, Ok, List}
+use Rattle.lw_base.specs.Outcomes.{Final}
+use Rattle.lw_source.specs.declared.stmt.Stmt.{Stmt}
+use Rattle.lw_source.specs.Conflicts.{writes, position_of}
+use Rattle.lw_source.specs.Runs.{State, source_step, start_of, is_final, outcome_of}
+use Rattle.lw_source.specs.Sources.{SourceTest, location_of}
+use Rattle.lw_finals.specs.Flows.{source_flow}
+use Rattle.lw_finals.specs.declared.item.Item.{Item}
+use Rattle.lw_finals.specs.Items.{Language}
+use Rattle.lw_finals.specs.OrderRuns as runs
+
+-- a statement acts at once, and has no drain
+abbrev pub source_language : Language Stmt
+source_language = record {
+  flow = source_flow;
+  accesses = location_of;
+  writes = writes;
+  drains = λ s. None;
+  waits = λ s. false;
+}
+
+-- the item's thread is at the item's statement, and carries it out
+abbrev pub CarriedOut : List (List Stmt) → Item → State → State → Type 0
+CarriedOut program item s next =
+    (position_of s item.thread ≡ Some item.position) × (source_step program item.thread s ≡ Ok next)
+
+-- An order of items of a source test stays on the chosen paths, and ends with an outcome.
+abbrev pub StaysAndEnds : SourceTest → List Item → List ℕ → Final → Type 0
+StaysAndEnds s = runs.StaysAndEnds (CarriedOut s.threads) (is_final s.threads) outcome_of (start_of s)
+
+-- an outcome of a choice of paths of a source test
+abbrev pub ChoiceOutcome : SourceTest → List (List ℕ) → Final → Type 0
+ChoiceOutcome s = runs.ChoiceOutcome (CarriedOut s.threads) (is_final s.threads) outcome_of source_language s.threads (start_of s)

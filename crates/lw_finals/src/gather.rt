@@ -1,0 +1,171 @@
+//! The outcomes of a program are gathered, choice by choice and order by order.
+ghost use Rattle.std.specs.Prelude.{◌≡◌, ℕ, ◌<◌, ◌≤◌, [], length, All, IfOk, IfErr, OnOk};
+ghost use Rattle.lw_orders.specs.Order.{count_of};
+ghost use Rattle.lw_orders.specs.Sequence.{orders};
+ghost use Rattle.lw_orders.specs.declared.limits.TheConstants.{MAX_ITEMS, MAX_ORDERS};
+ghost use Rattle.lw_finals.specs.Counts.{total_of, HasTooManyItems, TellsOfChoice, TellsOfChoices, TellsOfGiven};
+ghost use Rattle.lw_finals.specs.Gathered.{Gathers, EndsOfOrders, EndsOfItems, EndsOfChoice, EndsOfProgram};
+ghost use Rattle.lw_finals.specs.Items.{constraints_of};
+ghost use Rattle.lw_finals.specs.Listings.{IsStrictlySorted};
+ghost use Rattle.lw_finals.specs.Visits.{IsVisitable};
+
+use crate::conflicts::conflicts_of;
+use crate::count::{Counter, constrained, fill_few_items};
+use crate::fault::ListFault;
+use crate::item::Item;
+use crate::listing::{Findings, Listing};
+use crate::path::Choice;
+use crate::runner::OrderRunner;
+use crate::statement::Statement;
+use crate::visit::{Visitor, visit_choices};
+use lw_base::Sequence;
+use lw_orders::{Items, Order, Orders, count, one_order_goes_up};
+use std::alloc::{AllocError, Allocator};
+
+/// Runs an order of items, and adds its outcome with a schedule where it is new. An outcome that was found before costs a
+/// look-up.
+fn gather_order<A: Allocator, R: OrderRunner<A> + Drop>(
+    runner: &mut R,
+    items: &[Item],
+    order: &[u8],
+    found: &mut Findings<A>,
+) -> Result<(), AllocError>
+    requires { All (λ i. i < length items.now) order.now }
+    ensures same { R.test runner.new ≡ R.test runner.old }
+    ensures gathered { OnOk result
+        (Gathers (R.ends (R.test runner.old) items.now order.now) (R.leads (R.test runner.old)) found.old found.new) }
+{
+    if !runner.run(items, order) || found.contains(runner.end()) {
+        return Ok(());
+    }
+    let (outcome, schedule) = runner.entry(items, order)?;
+    found.add(outcome, schedule)
+}
+
+/// Runs each order that is given for items with their pairs.
+fn gather_orders<A: Allocator + Copy, R: OrderRunner<A> + Drop>(
+    alloc: A,
+    runner: &mut R,
+    items: &[Item],
+    constraints: &Items<A>,
+    found: &mut Findings<A>,
+) -> Result<(), AllocError>
+    requires as_many { constraints.now.len ≡ length items.now }
+    requires few { count_of constraints.now ≤ MAX_ORDERS }
+    ensures same { R.test runner.new ≡ R.test runner.old }
+    ensures gathered { OnOk result (Gathers
+        (EndsOfOrders (R.ends (R.test runner.old) items.now) (orders constraints.now))
+        (R.leads (R.test runner.old)) found.old found.new) }
+{
+    for order in Orders::new(alloc, constraints)? {
+        gather_order(runner, items, order.as_slice(), found)?;
+    }
+    Ok(())
+}
+
+/// Runs each order that is given for items. Where nothing conflicts there is one, and no pairs are made.
+fn gather_items<S: Statement, A: Allocator + Copy, B: Allocator, R: OrderRunner<A> + Drop>(
+    alloc: A,
+    program: &[Sequence<S, B>],
+    runner: &mut R,
+    items: &[Item],
+    found: &mut Findings<A>,
+) -> Result<(), ListFault>
+    requires { length items.now ≤ MAX_ITEMS }
+    ensures same { R.test runner.new ≡ R.test runner.old }
+    ensures gathered { OnOk result (Gathers
+        (EndsOfItems S.language (R.ends (R.test runner.old)) program.now items.now)
+        (R.leads (R.test runner.old)) found.old found.new) }
+    ensures err { IfErr result (TellsOfGiven S.language program.now items.now) }
+{
+    let conflicts = conflicts_of(alloc, program, items)?;
+    if conflicts.is_empty() {
+        one_order_goes_up();
+        let order = Order::ascending(items.len());
+        gather_order(runner, items, order.as_slice(), found)?;
+        return Ok(());
+    }
+    let constraints = constrained(alloc, program, items, conflicts)?;
+    let Some(_orders) = count(alloc, &constraints)? else {
+        return Err(ListFault::TooManyOrders);
+    };
+    gather_orders(alloc, runner, items, &constraints, found)?;
+    Ok(())
+}
+
+/// The outcomes of the choices visited so far.
+#[derive(Drop)]
+struct Gatherer<'a, S: Statement, A: Allocator, B: Allocator, R> {
+    alloc: A,
+    program: &'a [Sequence<S, B>],
+    items: Vec<Item, A>,
+    runner: R,
+    found: Findings<A>,
+}
+
+impl<'a, S: Statement, A: Allocator + Copy, B: Allocator, R: OrderRunner<A> + Drop> Visitor
+    for Gatherer<'a, S, A, B, R> {
+    type Fault = ListFault;
+
+    ghost visits = { λ v paths w. (w.program.now ≡ v.program.now) × (R.test w.runner ≡ R.test v.runner)
+        × Gathers (EndsOfChoice S.language (R.ends (R.test v.runner)) v.program.now paths) (R.leads (R.test v.runner)) v.found w.found };
+
+    ghost refuses = { λ v paths e. TellsOfChoice S.language v.program.now 0 paths e };
+
+    fn visit(&mut self, choice: &Choice) -> Result<(), ListFault> {
+        fill_few_items(self.program, choice, &mut self.items)?;
+        gather_items(
+            self.alloc,
+            self.program,
+            &mut self.runner,
+            self.items.as_slice(),
+            &mut self.found,
+        )
+    }
+}
+
+/// Whether a program is within the limits of a list.
+fn check_limits<S: Statement, A: Allocator + Copy, B: Allocator>(
+    alloc: A,
+    program: &[Sequence<S, B>],
+) -> Result<(), ListFault>
+    requires { IsVisitable S.language.flow program.now }
+    ensures items { OnOk result (HasTooManyItems S.language program.now → ⊥) }
+    ensures orders { OnOk result (total_of S.language program.now ≤ MAX_ORDERS) }
+    ensures err { IfErr result (TellsOfChoices S.language program.now) }
+{
+    let mut counter = Counter {
+        alloc,
+        program,
+        items: Vec::new(alloc),
+        total: 0,
+    };
+    visit_choices(program, &mut counter)
+}
+
+/// The list of the outcomes of a program: what the orders end with that are given for its choices.
+pub(crate) fn list_program<
+    S: Statement,
+    A: Allocator + Copy,
+    B: Allocator,
+    R: OrderRunner<A> + Drop,
+>(alloc: A, program: &[Sequence<S, B>], runner: R) -> Result<Listing<A>, ListFault>
+    requires { IsVisitable S.language.flow program.now }
+    ensures items { OnOk result (HasTooManyItems S.language program.now → ⊥) }
+    ensures orders { OnOk result (total_of S.language program.now ≤ MAX_ORDERS) }
+    ensures err { IfErr result (TellsOfChoices S.language program.now) }
+    ensures sorted { IfOk result (λ l. IsStrictlySorted l) }
+    ensures gathered { IfOk result (λ l. Gathers
+        (EndsOfProgram S.language (R.ends (R.test runner)) program.now) (R.leads (R.test runner)) [] l) }
+{
+    check_limits(alloc, program)?;
+    let mut gatherer = Gatherer {
+        alloc,
+        program,
+        items: Vec::new(alloc),
+        runner,
+        found: Findings::new(alloc),
+    };
+    visit_choices(program, &mut gatherer)?;
+    Ok(gatherer.found.into_listing()?)
+}

@@ -1,0 +1,61 @@
+//! What carries out the items of a choice, in one order after another.
+ghost use Rattle.std.specs.Prelude.{◌≡◌, ◌<◌, ℕ, List, length, All, IfOk};
+ghost use Rattle.lw_base.specs.Outcomes.{Final};
+ghost use Rattle.lw_base.specs.declared.event.Event.{Event};
+ghost use Rattle.lw_finals.specs.declared.item.Item.{Item};
+ghost use Rattle.lw_finals.specs.Gathered.{RanSo};
+
+use crate::item::Item;
+use lw_base::{Event, Outcome, Sequence};
+use std::alloc::{AllocError, Allocator};
+
+/// A machine on which the orders of a test's items are run. Its room is made once: a run takes no memory.
+pub trait OrderRunner<A: Allocator> {
+    /// What a test is.
+    ghost Test: { Type 0 };
+
+    /// The test.
+    ghost test: { Self → Test };
+
+    /// The outcome with which an order of items ends that stays on its paths to a final state.
+    ghost ends: { Test → List Item → List ℕ → Final → Type 0 };
+
+    /// What a schedule leads to.
+    ghost leads: { Test → List Event → Final → Type 0 };
+
+    /// With what the last run ended.
+    ghost end: { Self → Final };
+
+    /// Runs an order of items from the start of the test. Whether it stays on its paths to a final state.
+    fn run(&mut self, items: &[Item], order: &[u8]) -> bool
+        requires { All (λ i. i < length items.now) order.now }
+        ensures same { test self.new ≡ test self.old }
+        ensures ends { RanSo (ends (test self.old) items.now order.now) result (end self.new) };
+
+    /// With what the last run ended.
+    fn end(&self) -> &Outcome<A>
+        ensures { result.now ≡ end self.now };
+
+    /// The outcome of the last run, with a schedule that leads to it.
+    fn entry(
+        &self,
+        items: &[Item],
+        order: &[u8],
+    ) -> Result<(Outcome<A>, Sequence<Event, A>), AllocError>
+        requires within { All (λ i. i < length items.now) order.now }
+        requires ran { ends (test self.now) items.now order.now (end self.now) }
+        ensures outcome { IfOk result (λ e. e.0 ≡ end self.now) }
+        ensures leads { IfOk result (λ e. leads (test self.now) e.1 e.0) };
+}
+
+/// An equal outcome.
+pub(crate) fn copy_outcome<A: Allocator + Copy>(
+    outcome: &Outcome<A>,
+) -> Result<Outcome<A>, AllocError>
+    ensures { IfOk result (λ o. o ≡ outcome.now) }
+{
+    Ok(Outcome {
+        regs: outcome.regs.copy()?,
+        words: outcome.words.copy()?,
+    })
+}

@@ -1,0 +1,155 @@
+//! Runs of the orders of a source test's items.
+ghost use Rattle.std.specs.Prelude.{◌≡◌, ◌<◌, true, false, length, All, IfOk};
+ghost use Rattle.lw_fence.specs.Compiling.{IsCompiled};
+ghost use Rattle.lw_source.specs.Runs.{State};
+ghost use Rattle.lw_source.specs.Views.{source_of};
+ghost use Rattle.lw_x86.specs.Views.{program_of};
+ghost use Rattle.lw_finals.specs.SourceItems.{CarriedOut, StaysAndEnds};
+ghost use Rattle.lw_finals.specs.SourceRuns.{CompiledSource, leads_flat, threads_of};
+
+use crate::item::Item;
+use crate::runner::{OrderRunner, copy_outcome};
+use lw_base::{Cpu, Event, Outcome, Sequence};
+use lw_fence::{Compiled, schedule_of};
+use lw_source::{Source, SourceRun};
+use std::alloc::{AllocError, Allocator};
+use std::marker::Model;
+
+/// Runs a source test, whose schedules are those of what it is compiled to.
+#[derive(Drop)]
+pub struct SourceRunner<'a, A: Allocator> {
+    alloc: A,
+    source: &'a Source<A>,
+    compiled: &'a Compiled<A>,
+    run: SourceRun<'a, A, A>,
+    end: Outcome<A>,
+}
+
+impl<'a, A: Allocator> Model for SourceRunner<'a, A> {
+    ghost use Rattle.std.specs.Prelude.{◌≡◌, length};
+    ghost use Rattle.lw_fence.specs.Compiling.{IsCompiled};
+    ghost use Rattle.lw_source.specs.Runs.{start_of};
+    ghost use Rattle.lw_source.specs.Views.{source_of};
+    ghost use Rattle.lw_x86.specs.Views.{program_of};
+    ghost use Rattle.lw_finals.specs.SourceRuns.{SourceRunning};
+    ghost use Rattle.std.specs.Coded.{codes};
+    ghost use Rattle.lw_finals.specs.Codes.{formula_code};
+
+    ghost Value = { SourceRunning };
+
+    ghost coded = { Prim.hlevel (codes, formula_code) };
+
+    ghost view = { λ r. record {
+      test = record { source = source_of r.source.now; program = program_of r.compiled.now.program; starts = r.compiled.now.starts };
+      end = r.end;
+    } };
+
+    ghost invariant = { λ r.
+        IsCompiled (source_of r.source.now) (program_of r.compiled.now.program) r.compiled.now.starts
+        × (r.run.program ≡ r.source.now.threads) × (r.run.start ≡ start_of (source_of r.source.now))
+        × (length r.run.state.threads ≡ length r.source.now.threads) × (length r.run.state.words ≡ length r.source.now.head.locs)
+        × (length r.end.regs ≡ length r.source.now.threads) × (length r.end.words ≡ length r.source.now.head.locs) };
+}
+
+/// Carries an item out, where its thread is at its statement.
+fn carry_out<A: Allocator, B: Allocator>(
+    run: &mut SourceRun<'_, A, B>,
+    threads: usize,
+    item: Item,
+) -> bool
+    requires { threads ≡ length run.old.state.threads }
+    ensures program { run.new.program ≡ run.old.program }
+    ensures start { run.new.start ≡ run.old.start }
+    ensures threads { length run.new.state.threads ≡ length run.old.state.threads }
+    ensures words { length run.new.state.words ≡ length run.old.state.words }
+    ensures done { result ≡ true → CarriedOut run.old.program item run.old.state run.new.state }
+    ensures left { result ≡ false → (next : State) → CarriedOut run.old.program item run.old.state next → ⊥ }
+{
+    item.thread.index() < threads
+        && run.position(item.thread) == usize::from(item.position)
+        && run.step(item.thread).is_ok()
+}
+
+impl<'a, A: Allocator + Copy> SourceRunner<'a, A> {
+    /// A runner of a source test with what it is compiled to.
+    pub fn new(
+        alloc: A,
+        source: &'a Source<A>,
+        compiled: &'a Compiled<A>,
+    ) -> Result<Self, AllocError>
+        requires { IsCompiled (source_of source.now) (program_of compiled.now.program) compiled.now.starts }
+        ensures test { IfOk result (λ r. r.test
+            ≡ record { source = source_of source.now; program = program_of compiled.now.program; starts = compiled.now.starts }) }
+    {
+        let run = SourceRun::new(alloc, source)?;
+        let end = run.outcome()?;
+        Ok(SourceRunner {
+            alloc,
+            source,
+            compiled,
+            run,
+            end,
+        })
+    }
+}
+
+/// The threads of an order's items.
+fn threads_of<A: Allocator>(
+    alloc: A,
+    items: &[Item],
+    order: &[u8],
+) -> Result<Vec<Cpu, A>, AllocError>
+    requires { All (λ i. i < length items.now) order.now }
+    ensures { IfOk result (λ v. v.items ≡ threads_of items.now order.now) }
+{
+    let mut threads = Vec::new(alloc);
+    for number in order {
+        threads.push(items[usize::from(*number)].thread)?;
+    }
+    Ok(threads)
+}
+
+impl<'a, A: Allocator + Copy> OrderRunner<A> for SourceRunner<'a, A> {
+    ghost Test = { CompiledSource };
+
+    ghost test = { λ r. r.test };
+
+    ghost ends = { λ t. StaysAndEnds t.source };
+
+    ghost leads = { leads_flat };
+
+    ghost end = { λ r. r.end };
+
+    fn run(&mut self, items: &[Item], order: &[u8]) -> bool {
+        let threads = self.source.threads.len();
+        self.run.restart();
+        for number in order {
+            if !carry_out(&mut self.run, threads, items[usize::from(*number)]) {
+                return false;
+            }
+        }
+        if !self.run.is_final() {
+            return false;
+        }
+        self.run.write_outcome(&mut self.end);
+        true
+    }
+
+    fn end(&self) -> &Outcome<A> {
+        &self.end
+    }
+
+    fn entry(
+        &self,
+        items: &[Item],
+        order: &[u8],
+    ) -> Result<(Outcome<A>, Sequence<Event, A>), AllocError> {
+        let threads = threads_of(self.alloc, items, order)?;
+        let events = schedule_of(self.alloc, self.source, self.compiled, threads.as_slice())?;
+        let outcome = copy_outcome(&self.end)?;
+        Ok((
+            outcome,
+            Sequence::from_slice(self.alloc, events.as_slice())?,
+        ))
+    }
+}
