@@ -53,7 +53,11 @@ fn schedule_by(
 }
 
 /// The outcome of the compiled program by this schedule, over caches.
-fn compiled_outcome(alloc: Global, compiled: &Compiled, events: &[Event]) -> Option<Outcome> {
+pub(crate) fn compiled_outcome(
+    alloc: Global,
+    compiled: &Compiled,
+    events: &[Event],
+) -> Option<Outcome> {
     let mut machine = machine_of(alloc, &compiled.program)?;
     let replay = machine.run(events);
     if replay.end != End::Final {

@@ -19,6 +19,8 @@ mod devices;
 #[cfg(test)]
 mod heads;
 #[cfg(test)]
+mod lists;
+#[cfg(test)]
 mod machines;
 #[cfg(test)]
 mod memories;
