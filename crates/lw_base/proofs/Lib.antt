@@ -3,7 +3,10 @@ pub mod Tables
 pub mod GrowingTables
 pub mod Registers
 pub mod Schedules
+pub mod Blanks
 pub mod Words
+pub mod WrittenSchedules
 pub mod Shapes
 pub mod WellFormedHeads
 pub mod Replays
+pub mod Writing

@@ -2,6 +2,7 @@ pub mod Types
 pub mod Sums
 pub mod Refusals
 pub mod Characters
+pub mod Texts
 pub mod Kinds
 pub mod Names
 pub mod Tables

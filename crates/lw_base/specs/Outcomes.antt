@@ -1,13 +1,21 @@
 -- What is left at the end of a run.
-use Rattle.std.specs.Prelude.{ℕ, List}
+use Rattle.std.specs.Prelude.{◌≡◌, ℕ, List, length}
+use Rattle.std.specs.List.{AllByRecursion}
 use Rattle.std.specs.Cmp.Lexicographic.{slice_cmp}
 use Rattle.std.specs.Ordering.{nat_cmp, ordering_then}
 use Rattle.std.specs.declared.cmp.Ordering.{Ordering}
+use Rattle.lw_base.specs.declared.limits.TheConstants.{REGISTERS}
 
 -- six words for each thread, and one word for each location
 pub record Final : Type 0 where
   pub regs : List (List ℕ)
   pub words : List ℕ
+
+-- An outcome of so many threads, each with its registers, and of so many locations.
+pub record IsOutcomeOf (threads locs : ℕ) (o : Final) : Type 0 where
+  pub regs_of : length o.regs ≡ threads
+  pub six : AllByRecursion (λ row. length row ≡ REGISTERS) o.regs
+  pub words_of : length o.words ≡ locs
 
 -- The order of outcomes: by the registers, and by the words where the registers are the same. Lists
 -- go by

@@ -1,6 +1,7 @@
 -- How a schedule is written: the words of its events, between blanks.
-use Rattle.std.specs.Prelude.{◌≡◌, ℕ, ◌<◌, true, false, if◌then◌else◌, ◌⊎◌, List, [], ◌∷◌, ◌++◌, length, map, filter, drop, slice_index_or, Contains}
+use Rattle.std.specs.Prelude.{◌≡◌, ℕ, ◌<◌, true, false, if◌then◌else◌, ◌⊎◌, List, [], ◌∷◌, ◌++◌, length, map, filter, drop, codes, slice_index_or, Contains}
 use Rattle.std.specs.List.{AllByRecursion}
+use Rattle.lw_base.specs.Texts.{joined}
 use Rattle.lw_base.specs.Types.{Bytes, NameTable}
 use Rattle.lw_base.specs.Characters.{byte, digit, is_blank, begins}
 use Rattle.lw_base.specs.Names.{IsWordText, are_digits}
@@ -39,6 +40,10 @@ pieces (b ∷ text) = if is_blank b then [] ∷ pieces text else grown b (pieces
 -- the words of a text: its pieces that begin with a byte
 abbrev pub words : Bytes → List Bytes
 words text = filter (begins (λ b. true)) (pieces text)
+
+-- the words of some events, joined by one space
+abbrev pub schedule_text : NameTable → List Event → Bytes
+schedule_text names events = joined (codes " ") (map (event_word names) events)
 
 -- The text is a schedule of these events: its words are theirs.
 abbrev pub IsSchedule : NameTable → Bytes → List Event → Type 0

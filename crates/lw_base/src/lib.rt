@@ -42,7 +42,9 @@ pub use outcome::{Outcome, registers_come_first};
 pub use proposition::Prop;
 pub use register::{reg_name, reg_named};
 pub use scan::{ByteKind, front};
-pub use schedule::{a_text_has_one_schedule, read_schedule};
+pub use schedule::{
+    a_text_has_one_schedule, a_written_schedule_is_read_back, read_schedule, write_schedule,
+};
 pub use sequence::Sequence;
 pub use stop::{End, Replay, Stop};
 pub use text::Text;

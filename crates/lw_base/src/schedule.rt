@@ -1,10 +1,12 @@
 //! Schedules: words of events between blanks.
-ghost use Rattle.std.specs.Prelude.{◌≡◌, ◌≢◌, ◌<◌, ◌≤◌, List, [], ◌∷◌, length, MatchOption, IfOk, IfErr};
+ghost use Rattle.std.specs.Prelude.{◌≡◌, ◌≢◌, ◌<◌, ◌≤◌, List, [], ◌∷◌, ◌++◌, length, MatchOption, IfOk, IfErr, OnOk};
+ghost use Rattle.std.specs.List.{AllByRecursion};
+ghost use Rattle.std.specs.String.{string_bytes};
 ghost use Rattle.lw_base.specs.Characters.{byte, digit, Lacks, IsCutAt};
 ghost use Rattle.lw_base.specs.Types.{Bytes, NameTable};
 ghost use Rattle.lw_base.specs.Names.{IsTable};
 ghost use Rattle.lw_base.specs.Refusals.{NotFound};
-ghost use Rattle.lw_base.specs.Schedules.{IsWordOf, IsSchedule, HasBadDigits, IsFaulty, IsFirstFault};
+ghost use Rattle.lw_base.specs.Schedules.{IsEvent, event_word, schedule_text, IsWordOf, IsSchedule, HasBadDigits, IsFaulty, IsFirstFault};
 ghost use Rattle.lw_base.specs.declared.event.Event.{Event};
 ghost use Rattle.lw_base.specs.declared.fault.ScheduleCause.TheVariants as causes;
 
@@ -16,7 +18,8 @@ use crate::name::{are_digits, ascii_text, is_word_text};
 use crate::number::{Cpu, Loc};
 use crate::scan::{ByteKind, front};
 use crate::sequence::Sequence;
-use std::alloc::Allocator;
+use crate::text::Text;
+use std::alloc::{AllocError, Allocator};
 
 /// Reads a schedule against a table of locations. Its words are separated by blanks: `P0` is a step
 /// of processor 0, `D0` a drain of its store buffer, and `E0:x` the eviction of its line of `x`.
@@ -113,6 +116,49 @@ fn at_colon(text: &[u8]) -> Option<(&[u8], &[u8])>
     let place = text.iter().position(|byte| *byte == b':')?;
     Some((&text[..place], &text[place + 1..]))
 }
+
+/// The text of a schedule: the words of its events, joined by one space.
+pub fn write_schedule<A: Allocator, B: Allocator>(
+    alloc: A,
+    events: &[Event],
+    names: &LocNames<B>,
+) -> Result<Text<A>, AllocError>
+    requires { AllByRecursion (IsEvent names.now) events.now }
+    ensures { IfOk result (λ text. text ≡ schedule_text names.now events.now) }
+{
+    let mut out = String::new(alloc);
+    let Some((first, others)) = events.split_first() else {
+        return Ok(Text::from(out));
+    };
+    write_event(&mut out, first, names)?;
+    for event in others {
+        out.push_str(" ")?;
+        write_event(&mut out, event, names)?;
+    }
+    Ok(Text::from(out))
+}
+
+/// The word of an event.
+fn write_event<A: Allocator, B: Allocator>(
+    out: &mut String<A>,
+    event: &Event,
+    names: &LocNames<B>,
+) -> Result<(), AllocError>
+    requires { IsEvent names.now event.now }
+    ensures { OnOk result (string_bytes out.new ≡ string_bytes out.old ++ event_word names.now event.now) }
+{
+    match event {
+        Event::Step(cpu) => write!(out, "P{}", cpu.index()),
+        Event::Drain(cpu) => write!(out, "D{}", cpu.index()),
+        Event::Evict(cpu, loc) => write!(out, "E{}:{}", cpu.index(), names.name(*loc)),
+    }
+}
+
+/// What `write_schedule` writes is a schedule of the same events; so `read_schedule` reads them again.
+pub fn a_written_schedule_is_read_back()
+    ensures { (names : NameTable) (events : List Event) → IsTable names → AllByRecursion (IsEvent names) events
+        → IsSchedule names (schedule_text names events) events }
+{}
 
 /// A text is a schedule of at most one list of events.
 pub fn a_text_has_one_schedule()

@@ -9,7 +9,8 @@ use Rattle.lw_base.specs.Characters.{is_key_byte, is_space}
 use Rattle.lw_text.specs.Tokens.{begins_trivia, Trivia}
 use Rattle.lw_text.specs.Headings.{Quoted, KeyLine, Note, Notes, none, note}
 use Rattle.lw_text.proofs.TriviaLemmas.{Trivia-unique, Trivia-suffix}
-use Rattle.lw_text.proofs.Words.{run-unique, any_all, same_byte, no_trivia_at}
+use Rattle.lw_base.proofs.Blanks.{any_all, same_byte}
+use Rattle.lw_text.proofs.Words.{run-unique, no_trivia_at}
 
 -- ---- quoted texts
 

@@ -24,7 +24,7 @@ use Rattle.lw_base.specs.WellFormed.{IsSeen, SpeaksOf}
 use Rattle.lw_text.specs.Tokens.{is_pair}
 use Rattle.lw_text.specs.Propositions.{Terminal, Close, Conjunction, Disjunction, Atom}
 use Rattle.lw_text.specs.Conditions.{AtomSyntax, Always, Never, Holds}
-use Rattle.lw_text.proofs.Words.{blank_all}
+use Rattle.lw_base.proofs.Blanks.{blank_all}
 use Rattle.lw_text.proofs.Spelling.{Anything, EndsWord, IsBlankNext, HasNoStar, HasNoEquals, Spells, name_by_test, Spells-then, Spells-on, Spells-before, Spells-within, Spells-space, Spells-symbol, Spells-mark, Spells-pair, Spells-name, Spells-number, decimal_is_word}
 use Rattle.lw_text.proofs.PrintedPropositions.{enclosed, enclosed_if, terminals_of}
 use Rattle.lw_text.proofs.ConditionTokens.{named_site, site_tokens, value_tokens, named_claim, terminal_tokens, quantifier_tokens}

@@ -11,7 +11,8 @@ use Rattle.lw_cells.specs.Tests.{IsThread}
 use Rattle.lw_base.specs.Types.{Bytes, NameTable}
 use Rattle.lw_x86.specs.declared.instr.Instr.{Instr}
 use Rattle.lw_x86.specs.Programs.{x86, location_of}
-use Rattle.lw_x86.specs.CanonicalTexts.{is_target, cell_text, end_cells, cells_from, cells_of, joined, row_text, row_of, longest}
+use Rattle.lw_base.specs.Texts.{joined}
+use Rattle.lw_x86.specs.CanonicalTexts.{is_target, cell_text, end_cells, cells_from, cells_of, row_text, row_of, longest}
 
 module _ (names : NameTable) (code : List Instr) where
   -- that of an instruction

@@ -6,7 +6,7 @@ use Rattle.std.proofs.lemmas.List.{append-nil}
 use Rattle.std.proofs.lemmas.Fmt.{decimal_digit}
 use Rattle.lw_base.specs.Types.{Bytes}
 use Rattle.lw_text.specs.Rows.{thread_name}
-use Rattle.lw_x86.specs.CanonicalTexts.{joined}
+use Rattle.lw_base.specs.Texts.{joined}
 
 -- a name with what stands between it and the one before
 abbrev pub next_name : ℕ → Bytes

@@ -6,7 +6,6 @@ pub mod Groups
 pub mod NamedMnemonics
 pub mod OneReading
 pub mod X86Laws
-pub mod Writing
 pub mod CellLists
 pub mod BlockTexts
 pub mod HeaderTexts

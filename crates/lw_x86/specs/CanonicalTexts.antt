@@ -4,6 +4,7 @@ use Rattle.std.specs.Prelude.{ℕ, suc, max, Bool, false, ◌==◌, if◌then◌
 use Rattle.std.specs.List.{list_any, flat_map, range_with_len}
 use Rattle.std.specs.Option.{option_map_or}
 use Rattle.std.specs.Fmt.{decimal}
+use Rattle.lw_base.specs.Texts.{joined}
 use Rattle.lw_base.specs.Types.{Bytes, NameTable}
 use Rattle.lw_base.specs.declared.head.Arch.TheVariants.{X86}
 use Rattle.lw_base.specs.declared.head.Seen.{Seen}
@@ -18,11 +19,6 @@ use Rattle.lw_text.specs.Rows.{thread_name}
 use Rattle.lw_x86.specs.declared.instr.Instr.{Instr}
 use Rattle.lw_x86.specs.declared.instr.Instr.TheVariants.{Store, Load, Set, Add, Cmp, Xchg, Xadd, Mfence, Je, Jne, Jmp}
 use Rattle.lw_x86.specs.Programs.{ProgramTest, target_of}
-
--- parts with a text between each and the next
-abbrev pub joined : Bytes → List Bytes → Bytes
-joined between [] = []
-joined between (part ∷ parts) = part ++ flat_map (λ next. between ++ next) parts
 
 -- ---- instructions
 

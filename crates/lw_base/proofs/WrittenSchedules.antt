@@ -1,0 +1,109 @@
+-- Schedules that are written: the words of their events, and that they are read again.
+use Rattle.std.proofs.Common.{◌≡◌, ℕ, zero, suc, ◌<◌, ◌+◌, inl, inr, true, false, not, Some, List, [], ◌∷◌, ◌++◌, length, refl, sym, ap, ◌∙◌, subst, slice_get, arith, drop}
+use Rattle.std.specs.List.{AllByRecursion, flat_map}
+use Rattle.std.specs.Fmt.{decimal}
+use Rattle.std.specs.Prelude.{map, slice_index_or, codes}
+use Rattle.std.proofs.lemmas.Bool.{not-true, cases_Bool}
+use Rattle.std.proofs.lemmas.Fmt.{decimal_digit}
+use Rattle.std.proofs.lemmas.Option.{get_or_from_slice_get}
+use Rattle.lw_base.specs.Types.{Bytes, NameTable}
+use Rattle.lw_base.specs.Characters.{digit, is_blank, is_word_byte, begins}
+use Rattle.lw_base.specs.Names.{IsLocation, IsTable}
+use Rattle.lw_base.specs.Schedules.{IsEvent, event_word, schedule_text, words, IsSchedule}
+use Rattle.lw_base.specs.declared.event.Event.{Event}
+use Rattle.lw_base.specs.declared.event.Event.TheVariants.{Step, Drain, Evict}
+use Rattle.lw_base.proofs.Blanks.{blank_all}
+use Rattle.lw_base.proofs.Words.{words-behind, words-first}
+
+-- ---- the words of events, as they are written
+
+step_word_of : (names : NameTable) (c n : ℕ) → n ≡ c → IsEvent names (Step c) → 80 ∷ decimal n ≡ event_word names (Step c)
+step_word_of names c n same is = ap (λ (m : ℕ). 80 ∷ decimal m) same ∙ ap (λ d. 80 ∷ d) (decimal_digit c (omega (arith, is)))
+
+pub step_word : (names : NameTable) (e : Event) (c n : ℕ) → e ≡ Step c → n ≡ c → IsEvent names e → 80 ∷ decimal n ≡ event_word names e
+step_word names e c n at same is = step_word_of names c n same (subst (IsEvent names) at is) ∙ ap (event_word names) (sym at)
+
+drain_word_of : (names : NameTable) (c n : ℕ) → n ≡ c → IsEvent names (Drain c) → 68 ∷ decimal n ≡ event_word names (Drain c)
+drain_word_of names c n same is = ap (λ (m : ℕ). 68 ∷ decimal m) same ∙ ap (λ d. 68 ∷ d) (decimal_digit c (omega (arith, is)))
+
+pub drain_word : (names : NameTable) (e : Event) (c n : ℕ) → e ≡ Drain c → n ≡ c → IsEvent names e → 68 ∷ decimal n ≡ event_word names e
+drain_word names e c n at same is = drain_word_of names c n same (subst (IsEvent names) at is) ∙ ap (event_word names) (sym at)
+
+evict_word_of : (names : NameTable) (c l n : ℕ) (name : Bytes) → n ≡ c → slice_get names l ≡ Some name → IsEvent names (Evict c l) → 69 ∷ (decimal n ++ (58 ∷ name)) ≡ event_word names (Evict c l)
+evict_word_of names c l n name same at is =
+    ap (λ (m : ℕ). 69 ∷ (decimal m ++ (58 ∷ name))) same
+    ∙ ap (λ d. 69 ∷ (d ++ (58 ∷ name))) (decimal_digit c (omega (arith, is.0)))
+    ∙ ap (λ t. 69 ∷ (48 + c) ∷ 58 ∷ t) (sym (get_or_from_slice_get names l name [] at))
+
+pub evict_word : (names : NameTable) (e : Event) (c l n : ℕ) (name : Bytes) → e ≡ Evict c l → n ≡ c → slice_get names l ≡ Some name → IsEvent names e → 69 ∷ (decimal n ++ (58 ∷ name)) ≡ event_word names e
+evict_word names e c l n name is same at of = evict_word_of names c l n name same at (subst (IsEvent names) is of) ∙ ap (event_word names) (sym is)
+
+-- an event's word, with the space that stands before it
+abbrev pub next_word : NameTable → Event → Bytes
+next_word names e = codes " " ++ event_word names e
+
+-- the words behind the first
+next_words : (names : NameTable) (es : List Event) → flat_map (λ next. codes " " ++ next) (map (event_word names) es) ≡ flat_map (next_word names) es
+next_words names [] = refl
+next_words names (e ∷ es) = ap (λ t. next_word names e ++ t) (next_words names es)
+
+-- the first word has been written
+pub schedule_begun : (names : NameTable) (events : List Event) (first : Event) (others : List Event) (out : Bytes) → events ≡ first ∷ others → out ≡ event_word names first → out ++ flat_map (next_word names) (drop 0 others) ≡ schedule_text names events
+schedule_begun names events first others out are written =
+    ap (λ t. t ++ flat_map (next_word names) others) written
+    ∙ ap (λ t. event_word names first ++ t) (sym (next_words names others))
+    ∙ ap (schedule_text names) (sym are)
+
+-- ---- they are read again
+
+-- a row of bytes that are no blanks
+abbrev pub Shows : Bytes → Type 0
+Shows w = AllByRecursion (λ b. not (is_blank b) ≡ true) w
+
+digit_shows : (n : ℕ) → n < 4 → not (is_blank (digit n)) ≡ true
+digit_shows zero lt = refl
+digit_shows (suc zero) lt = refl
+digit_shows (suc (suc zero)) lt = refl
+digit_shows (suc (suc (suc zero))) lt = refl
+digit_shows (suc (suc (suc (suc n)))) lt = absurd (omega (arith, lt))
+
+word_byte_shows : (b : ℕ) → is_word_byte b ≡ true → not (is_blank b) ≡ true
+word_byte_shows b is = elim (cases_Bool (is_blank b)) [
+  | inl e ↦ absurd (let k = not-true (is_word_byte b) (blank_all (λ c. not (is_word_byte c)) b refl e) in cc)
+  | inr e ↦ ap not e
+]
+
+all_show : (w : Bytes) → AllByRecursion (λ b. is_word_byte b ≡ true) w → Shows w
+all_show [] all = tt
+all_show (b ∷ w) all = (word_byte_shows b all.0, all_show w all.1)
+
+name_shows : (names : NameTable) (l : ℕ) → AllByRecursion IsLocation names → l < length names → Shows (slice_index_or names l [])
+name_shows [] l all lt = absurd (omega (arith, lt))
+name_shows (n ∷ names) zero all lt = all_show n all.0.0.0.all
+name_shows (n ∷ names) (suc l) all lt = name_shows names l all.1 (omega (arith, lt))
+
+word_shows : (names : NameTable) (e : Event) → IsTable names → IsEvent names e → Shows (event_word names e)
+word_shows names (Step c) table is = (refl, (digit_shows c is, tt))
+word_shows names (Drain c) table is = (refl, (digit_shows c is, tt))
+word_shows names (Evict c l) table is = (refl, (digit_shows c is.0, (refl, name_shows names l table.all is.1)))
+
+-- The words of a schedule, one behind another.
+module _ (names : NameTable) (table : IsTable names) where
+  -- a word, and what stands behind it
+  first_word : (e : Event) (r : Bytes) → IsEvent names e → begins (λ b. not (is_blank b)) r ≡ false → words (event_word names e ++ r) ≡ event_word names e ∷ words r
+  first_word (Step c) r is ends = words-first (event_word names (Step c) ++ r) (event_word names (Step c)) r refl (omega arith) refl (word_shows names (Step c) table is) ends
+  first_word (Drain c) r is ends = words-first (event_word names (Drain c) ++ r) (event_word names (Drain c)) r refl (omega arith) refl (word_shows names (Drain c) table is) ends
+  first_word (Evict c l) r is ends = words-first (event_word names (Evict c l) ++ r) (event_word names (Evict c l)) r refl (omega arith) refl (word_shows names (Evict c l) table is) ends
+
+  abbrev pub rest_of : List Event → Bytes
+  rest_of es = flat_map (λ next. codes " " ++ next) (map (event_word names) es)
+
+  row_read : (e : Event) (es : List Event) → IsEvent names e → AllByRecursion (IsEvent names) es → words (event_word names e ++ rest_of es) ≡ event_word names e ∷ map (event_word names) es
+  row_read e [] is all = first_word e [] is refl
+  row_read e (f ∷ es) is all =
+      let behind : words (rest_of (f ∷ es)) ≡ words (event_word names f ++ rest_of es) = words-behind (rest_of (f ∷ es)) (32 ∷ []) (event_word names f ++ rest_of es) refl (refl, tt) in
+      first_word e (rest_of (f ∷ es)) is refl ∙ ap (λ ws. event_word names e ∷ ws) (behind ∙ row_read f es all.0 all.1)
+
+pub written_is_read : (names : NameTable) (events : List Event) → IsTable names → AllByRecursion (IsEvent names) events → IsSchedule names (schedule_text names events) events
+written_is_read names [] table all = (tt, refl)
+written_is_read names (e ∷ es) table all = (all, row_read names table e es all.0 all.1)

@@ -1,0 +1,10 @@
+use Rattle.std.proofs.Common.{◌≡◌, ◌++◌, drop}
+use Rattle.std.specs.List.{flat_map}
+use Rattle.std.specs.String.{string_bytes}
+use Rattle.lw_base.specs.Schedules.{schedule_text}
+use Rattle.lw_base.proofs.WrittenSchedules.{next_word}
+use Rattle.lw_base.proofs.schedule.write_schedule.Given as goal
+
+abbrev pub invariant-loop-event : goal.invariant-loop-event
+invariant-loop-event g l =
+    string_bytes l.out ++ flat_map (next_word l.names) (drop l.event-index l.others) ≡ schedule_text l.names l.events
