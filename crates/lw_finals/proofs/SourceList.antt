@@ -2,12 +2,17 @@
 use Rattle.std.proofs.Common.{◌≡◌, ℕ, ◌≤◌, List, [], ◌∷◌, length, refl, sym, subst, arith}
 use Rattle.std.specs.Prelude.{All, Contains, ◌↔◌}
 use Rattle.std.proofs.lemmas.List.Elements.{All-nil, All-contains, All-weaker, Contains-append_right}
-use Rattle.lw_base.specs.Outcomes.{Final}
+use Rattle.std.specs.List.{AllByRecursion}
+use Rattle.lw_base.specs.Heads.{TestHead}
+use Rattle.lw_base.specs.Outcomes.{Final, IsOutcomeOf}
+use Rattle.lw_base.specs.Schedules.{IsEvent}
 use Rattle.lw_base.specs.declared.event.Event.{Event}
 use Rattle.lw_cells.specs.Tests.{IsThread}
 use Rattle.lw_fence.specs.Compiling.{IsCompiled}
 use Rattle.lw_memory.specs.Flat.{flat}
 use Rattle.lw_mesi.specs.declared.protocol.Protocol.{Protocol}
+use Rattle.lw_mesi.specs.declared.protocol.Protocol.TheVariants.{Mesi}
+use Rattle.lw_base.specs.declared.head.Arch.TheVariants.{X86}
 use Rattle.lw_orders.specs.Order.{Constraints, IsWellFormed, IsLinearExtension, Alike, ExactlyOne}
 use Rattle.lw_orders.specs.Sequence.{orders}
 use Rattle.lw_source.specs.declared.stmt.Stmt.{Stmt}
@@ -20,7 +25,7 @@ use Rattle.lw_finals.specs.Choices.{IsForward, IsChoice}
 use Rattle.lw_finals.specs.Counts.{HasTooManyItems, TellsLimit, TellsOfChoices}
 use Rattle.lw_finals.specs.Flows.{source_flow}
 use Rattle.lw_finals.specs.Gathered.{Gathers, EndsOfProgram}
-use Rattle.lw_finals.specs.Listings.{Entries, outcomes_of}
+use Rattle.lw_finals.specs.Listings.{Entries, outcomes_of, IsEntryOf}
 use Rattle.lw_finals.specs.Lists.{ListsMachine}
 use Rattle.lw_finals.specs.Machines.{ReplaysOverCaches, OutcomeOverCaches}
 use Rattle.lw_finals.specs.SourceItems.{source_language, StaysAndEnds, ChoiceOutcome}
@@ -97,6 +102,18 @@ module _ (s : SourceTest) (is : IsWellFormedSource s) where
       outcomes = λ protocol o. ((λ c. (outcomes protocol o).1 ((same o).1 (reached o c))), (λ m. gathers.covered o (given_end complete o ((same o).0 ((outcomes protocol o).0 m)))));
       replays = λ protocol. All-weaker (λ e. leads_flat (record { source = s; program = program; starts = starts }) e.1 e.0) (λ e. ReplaysOverCaches protocol program e.1 e.0) (λ e h. (replays protocol e.1 e.0 h.1).1 h.0) entries lead;
     }
+
+    -- each entry is of the test's threads and locations
+    pub of_test : program.head ≡ record s.head { arch = X86 }
+        → ((protocol : Protocol) (events : List Event) (o : Final) → without_evictions events ≡ events → ReplaysOverCaches protocol program events o ↔ Replays flat program program.head.init_words events o)
+        → ((protocol : Protocol) (events : List Event) (o : Final) → ReplaysOverCaches protocol program events o → IsEntryOf program.head (o, events))
+        → All (IsEntryOf s.head) entries
+    of_test head replays of =
+        All-weaker (λ e. leads_flat (record { source = s; program = program; starts = starts }) e.1 e.0) (IsEntryOf s.head)
+        (λ e h. let is = of Mesi e.1 e.0 ((replays Mesi e.1 e.0 h.1).1 h.0) in record {
+          outcome = subst (λ (d : TestHead). IsOutcomeOf d.threads (length d.locs) e.0) head is.outcome;
+          schedule = subst (λ (d : TestHead). AllByRecursion (IsEvent d.locs) e.1) head is.schedule;
+        }) entries lead
 
   -- of a source test only the orders can be too many
   pub limit_told : (e : ListFault) → TellsOfChoices source_language s.threads e → TellsLimit source_language s.threads e

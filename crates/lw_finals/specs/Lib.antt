@@ -2,6 +2,7 @@ pub mod Choices
 pub mod Items
 pub mod Accesses
 pub mod Listings
+pub mod Faults
 pub mod Flows
 pub mod Views
 pub mod Visits

@@ -1,5 +1,6 @@
 //! Why there is no list.
 ghost use Rattle.std.specs.Prelude.{◌≡◌};
+ghost use Rattle.lw_finals.specs.Faults.{list_fault_number, list_fault_name};
 ghost use Rattle.lw_finals.specs.declared.fault.ListFault.TheVariants.{Memory as OutOfMemory};
 
 use std::alloc::{AllocError, AllocFailed};
@@ -14,6 +15,30 @@ pub enum ListFault {
     TooManyOrders,
     /// No memory was to be had.
     Memory,
+}
+
+impl ListFault {
+    /// The number under which people are told of it: 1 to 3.
+    pub fn number(self) -> u8
+        ensures { result ≡ list_fault_number self }
+    {
+        match self {
+            ListFault::TooManyItems => 1,
+            ListFault::TooManyOrders => 2,
+            ListFault::Memory => 3,
+        }
+    }
+
+    /// The name under which people are told of it.
+    pub fn name(self) -> &'static str
+        ensures { result.now ≡ list_fault_name self }
+    {
+        match self {
+            ListFault::TooManyItems => "TooManyItems",
+            ListFault::TooManyOrders => "TooManyOrders",
+            ListFault::Memory => "Memory",
+        }
+    }
 }
 
 impl From<AllocError> for ListFault {

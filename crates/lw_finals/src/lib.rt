@@ -43,6 +43,7 @@ pub use list::list_source;
 pub use listing::{Listing, outcomes_stand_once};
 pub use machines::{
     outcomes_over_caches_are_flat, protocols_have_the_same_outcomes, replays_over_caches_are_flat,
+    replays_over_caches_are_of_their_test,
 };
 pub use path::{Choice, Path};
 pub use statement::Statement;

@@ -9,10 +9,11 @@ ghost use Rattle.lw_mesi.specs.declared.protocol.Protocol.TheVariants as by;
 ghost use Rattle.lw_tso.specs.Evictions.{without_evictions};
 ghost use Rattle.lw_tso.specs.Runs.{Replays, MachineOutcome};
 ghost use Rattle.lw_x86.specs.Programs.{ProgramTest, IsWellFormedProgram};
+ghost use Rattle.lw_finals.specs.Listings.{IsEntryOf};
 ghost use Rattle.lw_finals.specs.Machines.{ReplaysOverCaches, OutcomeOverCaches};
 
 use lw_mesi::{Mesi, Moesi, empty_caches_are_kept};
-use lw_tso::{outcomes_are_flat, replays_are_flat};
+use lw_tso::{outcomes_are_flat, replays_are_flat, replays_are_of_their_test};
 use std::alloc::Global;
 
 /// Over caches of either protocol, which hold nothing at the start, an x86 test has the outcomes that it has over flat
@@ -35,6 +36,17 @@ pub fn replays_over_caches_are_flat()
     empty_caches_are_kept();
     replays_are_flat::<Mesi<Global>>();
     replays_are_flat::<Moesi<Global>>();
+}
+
+/// What replays over such caches to an outcome speaks of the test's processors and locations alone, and the outcome is of
+/// their numbers.
+pub fn replays_over_caches_are_of_their_test()
+    ensures { (protocol : Protocol) (test : ProgramTest) (events : List Event) (o : Final) → IsWellFormedProgram test
+        → ReplaysOverCaches protocol test events o → IsEntryOf test.head (o, events) }
+{
+    empty_caches_are_kept();
+    replays_are_of_their_test::<Mesi<Global>>();
+    replays_are_of_their_test::<Moesi<Global>>();
 }
 
 /// Over MOESI caches an x86 test has the outcomes that it has over MESI caches: a protocol can be seen in lines and in

@@ -6,3 +6,4 @@ pub mod Starts
 pub mod Flatten
 pub mod Lift
 pub mod Endings
+pub mod Replaying

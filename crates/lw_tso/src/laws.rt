@@ -1,7 +1,9 @@
 //! Laws of whole runs, over every memory system that keeps its laws.
 //! A law is a function without a body, whose contract is the law; who needs it calls the function.
-ghost use Rattle.std.specs.Prelude.{◌≡◌, ◌↔◌, List};
-ghost use Rattle.lw_base.specs.Outcomes.{Final};
+ghost use Rattle.std.specs.Prelude.{◌≡◌, ◌↔◌, List, length};
+ghost use Rattle.std.specs.List.{AllByRecursion};
+ghost use Rattle.lw_base.specs.Outcomes.{Final, IsOutcomeOf};
+ghost use Rattle.lw_base.specs.Schedules.{IsEvent};
 ghost use Rattle.lw_base.specs.declared.event.Event.{Event};
 ghost use Rattle.lw_memory.specs.Flat.{flat};
 ghost use Rattle.lw_memory.specs.Memory.{memory_of};
@@ -34,4 +36,12 @@ pub fn every_run_ends<M: MemorySystem>()
         → CanStart (memory_of M.content M.cpus M.state M.sound M.serves) test m
         → MachineRan (memory_of M.content M.cpus M.state M.sound M.serves) test.threads events (machine_start test m) s
         → CanEnd (memory_of M.content M.cpus M.state M.sound M.serves) test.threads s }
+{}
+
+/// What replays to an outcome speaks of the test's processors and locations alone, and the outcome is of their numbers.
+pub fn replays_are_of_their_test<M: MemorySystem>()
+    ensures { (test : ProgramTest) (m : M) (events : List Event) (o : Final) → IsWellFormedProgram test
+        → CanStart (memory_of M.content M.cpus M.state M.sound M.serves) test m
+        → Replays (memory_of M.content M.cpus M.state M.sound M.serves) test m events o
+        → IsOutcomeOf test.head.threads (length test.head.locs) o × AllByRecursion (IsEvent test.head.locs) events }
 {}

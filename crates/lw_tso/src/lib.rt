@@ -10,5 +10,5 @@ mod laws;
 mod machine;
 mod processor;
 
-pub use laws::{every_run_ends, outcomes_are_flat, replays_are_flat};
+pub use laws::{every_run_ends, outcomes_are_flat, replays_are_flat, replays_are_of_their_test};
 pub use machine::Machine;

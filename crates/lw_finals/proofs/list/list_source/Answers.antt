@@ -5,7 +5,7 @@ use Rattle.lw_x86.specs.Views.{program_of}
 use Rattle.lw_finals.specs.Gathered.{Gathers, EndsOfProgram}
 use Rattle.lw_finals.specs.SourceItems.{source_language, StaysAndEnds}
 use Rattle.lw_finals.specs.SourceRuns.{leads_flat}
-use Rattle.lw_finals.proofs.SourceList.{exactly, on_machine, limit_told, gathered_of}
+use Rattle.lw_finals.proofs.SourceList.{exactly, on_machine, of_test, limit_told, gathered_of}
 use Rattle.lw_finals.proofs.Visitable.{source_visitable}
 use Rattle.lw_finals.proofs.list.list_source.Goals as goal
 
@@ -35,6 +35,20 @@ returns-clause-machine g c =
     c.in_ok-compiled.ensures.compiled
     (λ protocol o. c.outcomes_over_caches_are_flat.ensures protocol program o formed)
     (λ protocol events o kept. c.replays_over_caches_are_flat.ensures protocol program events o formed kept)) c.list_program.ensures.gathered
+
+pub returns-clause-of_test : goal.returns-clause-of_test
+returns-clause-of_test g c =
+    let s = source_of c.args.source.now in
+    let program = program_of c.in_ok-compiled.compiled.program in
+    let starts = c.in_ok-compiled.compiled.starts in
+    let formed = c.in_ok-compiled.compiled.program.well_formed in
+    IfOk-weaker c.list_program.result
+    (λ l. Gathers (EndsOfProgram source_language (StaysAndEnds c.in_ok-runner.runner.test.source) c.as_slice.result.now) (leads_flat c.in_ok-runner.runner.test) [] l) _
+    (λ l h. of_test s c.args.source.now.well_formed program starts l (c.orders_are_complete.ensures.each, c.orders_are_complete.ensures.exactly_one) c.in_ok-compiled.ensures.outcomes
+    (gathered_of s c.in_ok-runner.runner.test (record { source = s; program = program; starts = starts }) c.as_slice.result.now l c.in_ok-runner.ensures.test refl c.as_slice.ensures h)
+    c.in_ok-compiled.ensures.compiled.head
+    (λ protocol events o kept. c.replays_over_caches_are_flat.ensures protocol program events o formed kept)
+    (λ protocol events o. c.replays_over_caches_are_of_their_test.ensures protocol program events o formed)) c.list_program.ensures.gathered
 
 pub returns-clause-limit : goal.returns-clause-limit
 returns-clause-limit g c =

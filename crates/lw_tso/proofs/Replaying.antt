@@ -1,0 +1,182 @@
+-- A replay speaks of its test's processors and locations alone, and its outcome is of their numbers.
+use Rattle.std.proofs.Common.{◌≡◌, ℕ, zero, suc, ◌<◌, ◌≤◌, Bool, true, false, nat_lt, if◌then◌else◌, List, [], ◌∷◌, length, map, Ok, Err, Option, Some, None, refl, sym, ap, ◌∙◌, subst, slice_get, slice_set, arith}
+use Rattle.std.specs.List.{AllByRecursion}
+use Rattle.std.proofs.lemmas.List.{length-set, length-map}
+use Rattle.std.proofs.lemmas.Bool.{ltb-true}
+use Rattle.std.proofs.lemmas.Option.{slice_get_within}
+use Rattle.lw_base.specs.Outcomes.{Final, IsOutcomeOf}
+use Rattle.lw_base.specs.Schedules.{IsEvent}
+use Rattle.lw_base.specs.Threads.{value_of, code_of}
+use Rattle.lw_base.specs.Types.{NameTable}
+use Rattle.lw_base.specs.declared.event.Event.{Event}
+use Rattle.lw_base.specs.declared.event.Event.TheVariants.{Step, Drain, Evict}
+use Rattle.lw_base.specs.declared.limits.TheConstants.{MAX_THREADS, REGISTERS}
+use Rattle.lw_base.specs.declared.stop.Stop.{Stop}
+use Rattle.lw_base.specs.declared.stop.Stop.TheVariants.{NoCpu, NoLocation, FenceWaits, SwapWaits}
+use Rattle.lw_memory.specs.Memory.{Memory, Lawful, is_held}
+use Rattle.lw_x86.specs.declared.instr.Instr.{Instr}
+use Rattle.lw_x86.specs.declared.instr.Instr.TheVariants.{Store, Load, Set, Add, Cmp, Xchg, Xadd, Mfence, Je, Jne, Jmp}
+use Rattle.lw_x86.specs.Programs.{ProgramTest, IsWellFormedProgram}
+use Rattle.lw_tso.specs.Processors.{Processor, newest, starting}
+use Rattle.lw_tso.specs.Acts.{Act, Refused, Goes, Loads, Stores, Swaps, Adds, Evicts, cpu_of, event_act, step_act, drain_act, load_act, once_empty}
+use Rattle.lw_tso.specs.Machines.{MachineState, Answer, ActDone, EvictionDone, DoneBy, EventDone}
+use Rattle.lw_tso.specs.Runs.{MachineRan, Replays, machine_start}
+use Rattle.lw_tso.specs.Starts.{CanStart}
+use Rattle.lw_tso.proofs.Acts.{IsSameSize, event_kept}
+
+-- ---- lists
+
+all_at : {X : Type 0} (P : X → Type 0) (xs : List X) (i : ℕ) (x : X) → AllByRecursion P xs → slice_get xs i ≡ Some x → P x
+all_at P [] zero x all at = absurd cc
+all_at P [] (suc i) x all at = absurd cc
+all_at P (y ∷ ys) zero x all at = let e : y ≡ x = cc in subst P e all.0
+all_at P (y ∷ ys) (suc i) x all at = all_at P ys i x all.1 at
+
+all_set : {X : Type 0} (P : X → Type 0) (xs : List X) (i : ℕ) (x : X) → AllByRecursion P xs → P x → AllByRecursion P (slice_set xs i x)
+all_set P [] zero x all is = tt
+all_set P [] (suc i) x all is = tt
+all_set P (y ∷ ys) zero x all is = (is, all.1)
+all_set P (y ∷ ys) (suc i) x all is = (all.0, all_set P ys i x all.1 is)
+
+-- ---- an act leaves a processor its registers
+
+abbrev pub HasRegisters : Processor → Type 0
+HasRegisters p = length p.regs ≡ REGISTERS
+
+-- what an act makes of its processor has them
+abbrev pub LeavesRegisters : Act → Type 0
+LeavesRegisters (Refused stop) = Unit {0}
+LeavesRegisters (Goes next) = HasRegisters next
+LeavesRegisters (Loads x next) = (w : ℕ) → HasRegisters (next w)
+LeavesRegisters (Stores x w next) = HasRegisters next
+LeavesRegisters (Swaps x v next) = (w : ℕ) → HasRegisters (next w)
+LeavesRegisters (Adds x v next) = (w : ℕ) → HasRegisters (next w)
+LeavesRegisters (Evicts x) = Unit {0}
+
+load_leaves : (o : Option ℕ) (x : ℕ) (next : ℕ → Processor) → ((w : ℕ) → HasRegisters (next w)) → LeavesRegisters (load_act o x next)
+load_leaves None x next has = has
+load_leaves (Some w) x next has = has w
+
+once_leaves : (buffer : List (ℕ × ℕ)) (stop : Stop) (act : Act) → LeavesRegisters act → LeavesRegisters (once_empty buffer stop act)
+once_leaves [] stop act leaves = leaves
+once_leaves (entry ∷ newer) stop act leaves = tt
+
+step_leaves : (o : Option Instr) (p : Processor) → HasRegisters p → LeavesRegisters (step_act o p)
+step_leaves None p has = tt
+step_leaves (Some (Store x v)) p has = has
+step_leaves (Some (Load d x)) p has = load_leaves (newest p.buffer x) x _ (λ w. length-set p.regs d w ∙ has)
+step_leaves (Some (Set d v)) p has = length-set p.regs d (value_of v p.regs) ∙ has
+step_leaves (Some (Add d v)) p has = length-set p.regs d _ ∙ has
+step_leaves (Some (Cmp a v)) p has = has
+step_leaves (Some (Xchg x a)) p has = once_leaves p.buffer SwapWaits _ (λ w. length-set p.regs a w ∙ has)
+step_leaves (Some (Xadd x a)) p has = once_leaves p.buffer SwapWaits _ (λ w. length-set p.regs a w ∙ has)
+step_leaves (Some Mfence) p has = once_leaves p.buffer FenceWaits _ has
+step_leaves (Some (Je to)) p has = has
+step_leaves (Some (Jne to)) p has = has
+step_leaves (Some (Jmp to)) p has = has
+
+drain_leaves : (buffer : List (ℕ × ℕ)) (p : Processor) → HasRegisters p → LeavesRegisters (drain_act buffer p)
+drain_leaves [] p has = tt
+drain_leaves (entry ∷ newer) p has = has
+
+evict_leaves : (there : Bool) (x : ℕ) → LeavesRegisters (if there then Evicts x else Refused NoLocation)
+evict_leaves true x = tt
+evict_leaves false x = tt
+
+event_leaves : (program : List (List Instr)) (locs : ℕ) (e : Event) (p : Processor) → HasRegisters p → LeavesRegisters (event_act program locs e p)
+event_leaves program locs (Step t) p has = step_leaves (slice_get (code_of program t) p.position) p has
+event_leaves program locs (Drain t) p has = drain_leaves p.buffer p has
+event_leaves program locs (Evict t x) p has = evict_leaves (nat_lt x locs) x
+
+module _ {M : Type 0} (mem : Memory M) where
+  evicted_has : (held : Bool) (t x : ℕ) (p q : Processor) (m n : M) (answer : Answer) → HasRegisters p → EvictionDone mem held t x p m answer q n → HasRegisters q
+  evicted_has false t x p q m n answer has done = ap (λ (r : Processor). length r.regs) done.1 ∙ has
+  evicted_has true t x p q m n answer has done = ap (λ (r : Processor). length r.regs) done.1 ∙ has
+
+  act_has : (t : ℕ) (act : Act) (p q : Processor) (m n : M) (answer : Answer) → HasRegisters p → LeavesRegisters act → ActDone mem t act p m answer q n → HasRegisters q
+  act_has t (Refused stop) p q m n answer has leaves done = ap (λ (r : Processor). length r.regs) done.1 ∙ has
+  act_has t (Goes next) p q m n answer has leaves done = ap (λ (r : Processor). length r.regs) done.1 ∙ leaves
+  act_has t (Loads x next) p q m n answer has leaves done = ap (λ (r : Processor). length r.regs) done.2 ∙ leaves done.0
+  act_has t (Stores x w next) p q m n answer has leaves done = ap (λ (r : Processor). length r.regs) done.1 ∙ leaves
+  act_has t (Swaps x v next) p q m n answer has leaves done = ap (λ (r : Processor). length r.regs) done.2 ∙ leaves done.0
+  act_has t (Adds x v next) p q m n answer has leaves done = ap (λ (r : Processor). length r.regs) done.2 ∙ leaves done.0
+  act_has t (Evicts x) p q m n answer has leaves done = evicted_has (is_held (mem.state m t x)) t x p q m n answer has done
+
+  -- an eviction that is carried out is of a location that is there
+  evicted_there : (there : Bool) (t x locs : ℕ) (p q : Processor) (m n : M) → nat_lt x locs ≡ there
+      → ActDone mem t (if there then Evicts x else Refused NoLocation) p m (Ok tt) q n → x < locs
+  evicted_there true t x locs p q m n lt done = ltb-true x locs lt
+  evicted_there false t x locs p q m n lt done = absurd (let e : ◌≡◌ {A = Answer} (Ok tt) (Err NoLocation) = done.0 in cc)
+
+  -- an event that is carried out, of a processor that is there
+  there : (program : List (List Instr)) (names : NameTable) (e : Event) (p q : Processor) (m n : M) → cpu_of e < MAX_THREADS → length (mem.content m) ≡ length names
+      → ActDone mem (cpu_of e) (event_act program (length (mem.content m)) e p) p m (Ok tt) q n → IsEvent names e
+  there program names (Step t) p q m n lt locs done = lt
+  there program names (Drain t) p q m n lt locs done = lt
+  there program names (Evict t x) p q m n lt locs done = (lt, subst (λ k. x < k) locs (evicted_there (nat_lt x (length (mem.content m))) t x (length (mem.content m)) p q m n refl done))
+
+  -- ---- a machine of so many threads and locations
+
+  record IsMachineOf (threads locs : ℕ) (s : MachineState M) : Type 0 where
+    processors : length s.processors ≡ threads
+    have : AllByRecursion HasRegisters s.processors
+    words : length (mem.content s.memory) ≡ locs
+    sound : mem.sound s.memory
+
+  module _ (laws : Lawful mem) (program : List (List Instr)) (names : NameTable) (threads : ℕ) (few : threads ≤ MAX_THREADS) where
+    event_of : (e : Event) (s after : MachineState M) → IsMachineOf threads (length names) s → EventDone mem program e s (Ok tt) after → IsEvent names e × IsMachineOf threads (length names) after
+    event_of e s after is done = go (slice_get s.processors (cpu_of e)) refl done
+      where
+        kept : IsSameSize mem s after
+        kept = event_kept mem laws program e s after (Ok tt) is.sound done
+
+        go : (o : Option Processor) → slice_get s.processors (cpu_of e) ≡ o → DoneBy mem o program e s (Ok tt) after → IsEvent names e × IsMachineOf threads (length names) after
+        go None at by = absurd (let e : ◌≡◌ {A = Answer} (Ok tt) (Err NoCpu) = by.0 in cc)
+        go (Some p) at by =
+            let lt = slice_get_within s.processors (cpu_of e) p at in
+            let has = all_at HasRegisters s.processors (cpu_of e) p is.have at in
+            let locs = length (mem.content s.memory) in
+            let next = act_has (cpu_of e) (event_act program locs e p) p by.0 s.memory by.1 (Ok tt) has (event_leaves program locs e p has) by.2 in (
+              there program names e p by.0 s.memory by.1 (omega (arith, lt, is.processors, few)) is.words by.2,
+              record {
+                processors = kept.processors ∙ is.processors;
+                have = subst (λ (a : MachineState M). AllByRecursion HasRegisters a.processors) (sym by.3) (all_set HasRegisters s.processors (cpu_of e) by.0 is.have next);
+                words = kept.locations ∙ is.words;
+                sound = kept.sound;
+              },
+            )
+
+    run_of : (es : List Event) (s end : MachineState M) → IsMachineOf threads (length names) s → MachineRan mem program es s end → AllByRecursion (IsEvent names) es × IsMachineOf threads (length names) end
+    run_of [] s end is ran = (tt, subst (IsMachineOf threads (length names)) (sym ran) is)
+    run_of (e ∷ es) s end is ran =
+        let first = event_of e s ran.0 is ran.1 in
+        let rest = run_of es ran.0 end first.1 ran.2 in
+        ((first.0, rest.0), rest.1)
+
+rows_have : (ps : List Processor) → AllByRecursion HasRegisters ps → AllByRecursion (λ row. length row ≡ REGISTERS) (map (λ p. p.regs) ps)
+rows_have [] all = tt
+rows_have (p ∷ ps) all = (all.0, rows_have ps all.1)
+
+starts_have : (rows : List (List ℕ)) → AllByRecursion (λ row. length row ≡ REGISTERS) rows → AllByRecursion HasRegisters (map starting rows)
+starts_have [] all = tt
+starts_have (row ∷ rows) all = (all.0, starts_have rows all.1)
+
+pub replayed_of_test : {M : Type 0} (mem : Memory M) (laws : Lawful mem) (test : ProgramTest) (m : M) (events : List Event) (o : Final)
+    → IsWellFormedProgram test → CanStart mem test m → Replays mem test m events o
+    → IsOutcomeOf test.head.threads (length test.head.locs) o × AllByRecursion (IsEvent test.head.locs) events
+replayed_of_test mem laws test m events o ok start r =
+    let head = ok.head in
+    let first : IsMachineOf mem test.head.threads (length test.head.locs) (machine_start test m) = record {
+      processors = length-map test.head.init_regs starting ∙ head.regs;
+      have = starts_have test.head.init_regs head.six;
+      words = ap length start.words ∙ head.words;
+      sound = start.sound;
+    } in
+    let ran = run_of mem laws test.threads test.head.locs test.head.threads head.few events (machine_start test m) r.end first r.ran in (
+      subst (IsOutcomeOf test.head.threads (length test.head.locs)) (sym r.is) (record {
+        regs_of = length-map r.end.processors (λ p. p.regs) ∙ ran.1.processors;
+        six = rows_have r.end.processors ran.1.have;
+        words_of = ran.1.words;
+      }),
+      ran.0,
+    )
