@@ -1,0 +1,9 @@
+pub mod Truths
+pub mod Names
+pub mod OneList
+pub mod Verdicts
+pub mod FirstStates
+pub mod ListedStates
+pub mod Counted
+pub mod Lines
+pub mod Scheduled

@@ -1,0 +1,126 @@
+-- The states of a list of outcomes, gathered one for each.
+use Rattle.std.proofs.Common.{◌≡◌, ℕ, ◌+◌, ◌<◌, inl, inr, List, [], ◌∷◌, ◌++◌, length, map, get_or, refl, sym, ap, ◌∙◌, subst, arith}
+use Rattle.std.specs.Prelude.{All, Contains, Some, slice_get, IsPermutation}
+use Rattle.std.specs.List.{AllPairs}
+use Rattle.std.specs.Cmp.Lexicographic.{slice_cmp}
+use Rattle.std.specs.Ordering.{nat_cmp}
+use Rattle.std.specs.declared.cmp.Ordering.TheVariants.{Less}
+use Rattle.std.proofs.lemmas.Bool.{cases_lt}
+use Rattle.std.proofs.lemmas.List.{get_or-map, length-map}
+use Rattle.std.proofs.lemmas.List.Elements.{All-push, All-contains, Contains-append_left, Contains-push, Contains-get_or}
+use Rattle.std.proofs.lemmas.List.Sorted.{All-permutation, Contains-permutation}
+use Rattle.std.proofs.lemmas.Option.{same_Some, slice_get_within, slice_get-get_or, get_or_from_slice_get}
+use Rattle.lw_base.specs.Heads.{TestHead}
+use Rattle.lw_base.specs.Outcomes.{Final, IsOutcomeOf}
+use Rattle.lw_base.specs.declared.event.Event.{Event}
+use Rattle.lw_base.specs.WellFormed.{IsWellFormedHead}
+use Rattle.lw_finals.specs.Listings.{Entries, IsEntryOf, outcomes_of}
+use Rattle.lw_report.specs.Gathered.{state_at, Shows, AreStatesOfFirst, AreFirstStates}
+use Rattle.lw_report.specs.Observed.{projected}
+use Rattle.lw_report.specs.States.{Shown, ListedState, shown, shown_of, ShowsFirst, AreListedStates}
+use Rattle.lw_report.specs.Truth.{is_true}
+use Rattle.lw_report.proofs.Truths.{words_agree}
+
+-- ---- the outcomes of entries
+
+pub outcome_of_entry : (head : TestHead) (entries : Entries) (k : ℕ) (o : Final) → All (IsEntryOf head) entries → slice_get (outcomes_of entries) k ≡ Some o → IsOutcomeOf head.threads (length head.locs) o
+outcome_of_entry head entries k o each at =
+    let d : Final × List Event = (o, []) in
+    let first : Final × List Event → Final = λ e. e.0 in
+    let within : k < length entries = omega (arith, slice_get_within (outcomes_of entries) k o at, length-map entries first) in
+    let is : (get_or entries k d).0 ≡ o = sym (get_or-map first entries k d o within) ∙ get_or_from_slice_get (outcomes_of entries) k o o at in
+    subst (IsOutcomeOf head.threads (length head.locs)) is (each k d within).outcome
+
+-- ---- one for each
+
+module _ (head : TestHead) (outcomes : List Final) where
+  pub states_none : AreStatesOfFirst head outcomes 0 []
+  states_none = record { shows = λ k d lt. absurd (omega (arith, lt)); each = λ i o lt e. absurd (omega (arith, lt)) }
+
+  pub states_more : (count : ℕ) (states after : List ListedState) (o : Final) → AreStatesOfFirst head outcomes count states → slice_get outcomes count ≡ Some o → after ≡ states ++ state_at head count o ∷ [] → AreStatesOfFirst head outcomes (count + 1) after
+  states_more count states after o are at e = subst (AreStatesOfFirst head outcomes (count + 1)) (sym e) (record { shows = All-push (Shows head outcomes) states x are.shows (record { outcome = o; at = at; shows = refl }); each = found })
+    where
+      x : ListedState
+      x = state_at head count o
+
+      found : (i : ℕ) (p : Final) → i < count + 1 → slice_get outcomes i ≡ Some p → Contains (states ++ state_at head count o ∷ []) (state_at head i p)
+      found i p lt there = elim (cases_lt i count) [
+        | inl before ↦ Contains-append_left states (state_at head count o ∷ []) (state_at head i p) (are.each i p before there)
+        | inr le ↦
+            let same : count ≡ i = omega (arith, lt, le) in
+            let is : o ≡ p = same_Some o p (sym at ∙ ap (slice_get outcomes) same ∙ there) in
+            let whole : state_at head count o ≡ state_at head i p = ap (λ (n : ℕ). state_at head n o) same ∙ ap (state_at head i) is in
+            subst (Contains (states ++ state_at head count o ∷ [])) whole (Contains-push states (state_at head count o))
+      ]
+
+  pub states_in_order : (count : ℕ) (states sorted : List ListedState) → IsPermutation states sorted → AreStatesOfFirst head outcomes count states → AreStatesOfFirst head outcomes count sorted
+  states_in_order count states sorted p are = record {
+    shows = All-permutation (Shows head outcomes) states sorted p are.shows;
+    each = λ i o lt e. Contains-permutation states sorted (state_at head i o) p (are.each i o lt e);
+  }
+
+-- ---- what is shown of them
+
+module _ (states : List ListedState) where
+  shown_there : (s : ListedState) → Contains states s → Contains (map shown_of states) (shown_of s)
+  shown_there s h =
+      let within : h.0 < length (map shown_of states) = omega (arith, h.1, length-map states shown_of) in
+      (h.0, within, get_or-map shown_of states h.0 s (shown_of s) h.1 ∙ ap shown_of h.2)
+
+  there_of_shown : (s : Shown) → Contains (map shown_of states) s → (t : ListedState) × Contains states t × (shown_of t ≡ s)
+  there_of_shown s h =
+      let d : ListedState = record { words = s.words; entry = 0; holds = s.holds } in
+      let within : h.0 < length states = omega (arith, h.1, length-map states shown_of) in
+      (get_or states h.0 d, Contains-get_or states h.0 d within, sym (get_or-map shown_of states h.0 d s within) ∙ h.2)
+
+  shown_in_order : AllPairs (λ (first later : ListedState). slice_cmp nat_cmp first.words later.words ≡ Less) states → AllPairs (λ (first later : Shown). slice_cmp nat_cmp first.words later.words ≡ Less) (map shown_of states)
+  shown_in_order up i j d less lt =
+      let e : ListedState = record { words = d.words; entry = 0; holds = d.holds } in
+      let within : j < length states = omega (arith, lt, length-map states shown_of) in
+      let earlier : i < length states = omega (arith, less, within) in
+      rw (get_or-map shown_of states i e d earlier, get_or-map shown_of states j e d within) (up i j e less within)
+
+-- ---- the first of each
+
+module _ (head : TestHead) (outcomes : List Final) (all states : List ListedState) (formed : IsWellFormedHead head) (are : AreStatesOfFirst head outcomes (length outcomes) all) (firsts : AreFirstStates all states) where
+  each_there : (o : Final) → Contains outcomes o → Contains (map shown_of states) (shown head o)
+  each_there o h =
+      let at : slice_get outcomes h.0 ≡ Some o = slice_get-get_or outcomes h.0 o h.1 ∙ ap Some h.2 in
+      let found = firsts.each (state_at head h.0 o) (are.each h.0 o h.1 at) in
+      let s : ListedState = found.0 in
+      let from : Shows head outcomes s = All-contains (Shows head outcomes) all s are.shows (All-contains (λ t. Contains all t) states s firsts.among found.1) in
+      let words : projected head from.outcome ≡ projected head o = ap (λ (t : Shown). t.words) from.shows ∙ found.2 in
+      let truth : is_true head.condition from.outcome ≡ is_true head.condition o = words_agree head from.outcome o formed words in
+      let same : shown head from.outcome ≡ shown head o = cc in
+      subst (Contains (map shown_of states)) (sym from.shows ∙ same) (shown_there states s found.1)
+
+  shows_of : (s : ListedState) → Contains states s → Shows head outcomes s
+  shows_of s h = All-contains (Shows head outcomes) all s are.shows (All-contains (λ t. Contains all t) states s firsts.among h)
+
+  from_outcome : (s : Shown) → Contains (map shown_of states) s → (o : Final) × Contains outcomes o × (shown head o ≡ s)
+  from_outcome s h =
+      let found = there_of_shown states s h in
+      let from : Shows head outcomes found.0 = shows_of found.0 found.1 in
+      (from.outcome, (found.0.entry, slice_get_within outcomes found.0.entry from.outcome from.at, get_or_from_slice_get outcomes found.0.entry from.outcome from.outcome from.at), from.shows ∙ found.2)
+
+  shows_first : All (ShowsFirst head outcomes) states
+  shows_first k d lt =
+      let s : ListedState = get_or states k d in
+      let from : Shows head outcomes s = shows_of s (Contains-get_or states k d lt) in
+      record {
+        outcome = from.outcome;
+        at = from.at;
+        shows = from.shows;
+        first = λ i o before at e.
+            let le = firsts.smallest k d lt (state_at head i o) (are.each i o (slice_get_within outcomes i o at) at) e in
+            omega (arith, le, before);
+      }
+
+  pub listed_states : AreListedStates head outcomes states
+  listed_states = record {
+    are = record {
+      sorted = shown_in_order states firsts.sorted;
+      exactly = λ s. (from_outcome s, λ o. subst (Contains (map shown_of states)) o.2 (each_there o.0 o.1));
+    };
+    entries = shows_first;
+  }

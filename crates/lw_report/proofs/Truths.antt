@@ -1,0 +1,54 @@
+-- Outcomes with the same words of the observed names make a test's proposition true alike.
+use Rattle.std.proofs.Common.{◌≡◌, ℕ, ◌⊎◌, inl, inr, Bool, true, false, List, [], ◌∷◌, ◌++◌, length, map, refl, ap, ◌∙◌, subst}
+use Rattle.std.specs.Prelude.{filter, not, ◌==◌}
+use Rattle.std.proofs.lemmas.Bool.{cases_Bool, or_cases, or_right}
+use Rattle.lw_base.specs.Formula.{Formula, Yes, No, Reg_is, Word_is, Not, And, Or}
+use Rattle.lw_base.specs.Heads.{TestHead}
+use Rattle.lw_base.specs.Outcomes.{Final}
+use Rattle.lw_base.specs.WellFormed.{IsWellFormedHead, SpeaksOf}
+use Rattle.lw_base.specs.declared.head.Seen.{Seen}
+use Rattle.lw_base.specs.declared.head.Seen.TheVariants.{Register, Location}
+use Rattle.lw_text.specs.Frames.{same_seen, all_registers, locations}
+use Rattle.lw_text.proofs.ListedAgain.{has_seen, same_seen_is, same_seen_itself, has_left, has_right, has_register, has_location}
+use Rattle.lw_report.specs.Observed.{is_named, is_observed, projected}
+use Rattle.lw_report.specs.Truth.{final_word, is_true}
+
+-- where two functions give the same row of words of the names that pass, they agree at each of these
+same_word : (f g : Seen → ℕ) (p : Seen → Bool) (us : List Seen) (s : Seen) → map f (filter p us) ≡ map g (filter p us) → has_seen us s ≡ true → p s ≡ true → f s ≡ g s
+same_word f g p [] s e h k = absurd cc
+same_word f g p (u ∷ us) s e h k = go (cases_Bool (p u)) (or_cases (same_seen u s) (has_seen us s) h) (same_word f g p us s)
+  where
+    go : (p u ≡ true) ⊎ (p u ≡ false) → (same_seen u s ≡ true) ⊎ (has_seen us s ≡ true) → (map f (filter p us) ≡ map g (filter p us) → has_seen us s ≡ true → p s ≡ true → f s ≡ g s) → f s ≡ g s
+    go (inl t) (inl same) rest =
+        let both : f u ∷ map f (filter p us) ≡ g u ∷ map g (filter p us) = rw t at e in
+        let first : f u ≡ g u = cc in
+        subst (λ (x : Seen). f x ≡ g x) (same_seen_is u s same) first
+    go (inl t) (inr there) rest =
+        let both : f u ∷ map f (filter p us) ≡ g u ∷ map g (filter p us) = rw t at e in
+        let later : map f (filter p us) ≡ map g (filter p us) = cc in
+        rest later there k
+    go (inr t) (inl same) rest = let is : u ≡ s = same_seen_is u s same in let clash : p u ≡ true = ap p is ∙ k in absurd cc
+    go (inr t) (inr there) rest = let later : map f (filter p us) ≡ map g (filter p us) = rw t at e in rest later there k
+
+module _ (threads locs : ℕ) (o p : Final) where
+  same_truth : (phi : Formula) → SpeaksOf threads locs phi → ((s : Seen) → has_seen (all_registers threads ++ locations locs) s ≡ true → is_named phi s ≡ true → final_word o s ≡ final_word p s) → is_true phi o ≡ is_true phi p
+  same_truth Yes speaks same = refl
+  same_truth No speaks same = refl
+  same_truth (Reg_is t r n) speaks same =
+      ap (λ (w : ℕ). w == n) (same (Register t r) (has_left (all_registers threads) (locations locs) (Register t r) (has_register threads t r speaks.0 speaks.1)) (same_seen_itself (Register t r)))
+  same_truth (Word_is x n) speaks same =
+      ap (λ (w : ℕ). w == n) (same (Location x) (has_right (all_registers threads) (locations locs) (Location x) (has_location locs x speaks.0)) (same_seen_itself (Location x)))
+  same_truth (Not phi) speaks same = ap not (same_truth phi speaks same)
+  same_truth (And phi psi) speaks same =
+      let left : is_true phi o ≡ is_true phi p = same_truth phi speaks.0 (λ s h k. same s h (rw k refl)) in
+      let right : is_true psi o ≡ is_true psi p = same_truth psi speaks.1 (λ s h k. same s h (or_right (is_named phi s) (is_named psi s) k)) in
+      rw (left, right) refl
+  same_truth (Or phi psi) speaks same =
+      let left : is_true phi o ≡ is_true phi p = same_truth phi speaks.0 (λ s h k. same s h (rw k refl)) in
+      let right : is_true psi o ≡ is_true psi p = same_truth psi speaks.1 (λ s h k. same s h (or_right (is_named phi s) (is_named psi s) k)) in
+      rw (left, right) refl
+
+pub words_agree : (head : TestHead) (o p : Final) → IsWellFormedHead head → projected head o ≡ projected head p → is_true head.condition o ≡ is_true head.condition p
+words_agree head o p formed e =
+    same_truth head.threads (length head.locs) o p head.condition formed.condition
+    (λ s h k. same_word (final_word o) (final_word p) (is_observed head) (all_registers head.threads ++ locations (length head.locs)) s e h (rw k refl))

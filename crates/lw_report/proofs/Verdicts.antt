@@ -1,0 +1,78 @@
+-- What the numbers of states say of all outcomes.
+use Rattle.std.proofs.Common.{◌≡◌, ℕ, suc, ◌⊎◌, inl, inr, Bool, true, false, List, [], ◌∷◌, length, refl, sym, ap, ◌∙◌, arith}
+use Rattle.std.specs.Prelude.{filter, not, ◌==◌, Contains}
+use Rattle.std.proofs.lemmas.Bool.{cases_Bool, eqb-true}
+use Rattle.lw_base.specs.Heads.{TestHead}
+use Rattle.lw_base.specs.Outcomes.{Final}
+use Rattle.lw_report.specs.Judgement.{positive, negative, MeansOfAll}
+use Rattle.lw_report.specs.States.{Shown, shown, AreStatesOf}
+use Rattle.lw_report.specs.Truth.{is_true}
+use Rattle.lw_report.proofs.OneList.{at_front, behind_front, front_or_behind}
+
+-- A filter keeps nothing, and no element passes; or it keeps something, and some element passes.
+abbrev Kept : {X : Type 0} → (X → Bool) → List X → Type 0
+Kept {X} p xs =
+    ((length (filter p xs) == 0) ≡ true) × ((x : X) → Contains xs x → p x ≡ false)
+    ⊎ ((length (filter p xs) == 0) ≡ false) × ((x : X) × Contains xs x × (p x ≡ true))
+
+not_zero : (n : ℕ) → (suc n == 0) ≡ false
+not_zero n = elim (cases_Bool (suc n == 0)) [ inl e ↦ absurd (omega (arith, eqb-true (suc n) 0 e)) | inr e ↦ e ]
+
+kept : {X : Type 0} (p : X → Bool) (xs : List X) → Kept p xs
+kept {X} p [] = inl (refl, λ x h. absurd (let lt = h.1 in omega arith))
+kept {X} p (x ∷ xs) = go (cases_Bool (p x)) (kept p xs)
+  where
+    go : (p x ≡ true) ⊎ (p x ≡ false) → Kept p xs → Kept p (x ∷ xs)
+    go (inl t) rest = inr (rw t (not_zero (length (filter p xs))), (x, at_front x xs, t))
+    go (inr t) (inl nothing) = inl (rw t nothing.0, λ y h. elim (front_or_behind x xs y h) [ inl e ↦ ap p (sym e) ∙ t | inr k ↦ nothing.1 y k ])
+    go (inr t) (inr some) = inr (rw t some.0, (some.1.0, behind_front x xs some.1.0 some.1.1, some.1.2))
+
+-- the same of outcomes, where the states are theirs
+module _ (head : TestHead) (outcomes : List Final) (states : List Shown) (are : AreStatesOf head (Contains outcomes) states) (p : Bool → Bool) where
+  abbrev pub Counted : Type 0
+  Counted =
+      ((length (filter (λ (s : Shown). p s.holds) states) == 0) ≡ true) × ((o : Final) → Contains outcomes o → p (is_true head.condition o) ≡ false)
+      ⊎ ((length (filter (λ (s : Shown). p s.holds) states) == 0) ≡ false) × ((o : Final) × Contains outcomes o × (p (is_true head.condition o) ≡ true))
+
+  counted : Counted
+  counted = go (kept (λ (s : Shown). p s.holds) states)
+    where
+      go : Kept (λ (s : Shown). p s.holds) states → Counted
+      go (inl nothing) = inl (nothing.0, λ o h. nothing.1 (shown head o) ((are.exactly (shown head o)).1 (o, h, refl)))
+      go (inr some) =
+          let from = (are.exactly some.1.0).0 some.1.1 in
+          inr (some.0, (from.0, from.1, ap (λ (s : Shown). p s.holds) from.2 ∙ some.1.2))
+
+not_false : (b : Bool) → not b ≡ false → b ≡ true
+not_false true e = refl
+not_false false e = absurd cc
+
+not_true : (b : Bool) → not b ≡ true → b ≡ false
+not_true true e = absurd cc
+not_true false e = refl
+
+module _ (head : TestHead) (outcomes : List Final) (states : List Shown) (are : AreStatesOf head (Contains outcomes) states) where
+  meant : Counted head outcomes states are (λ b. b) → Counted head outcomes states are not → MeansOfAll head outcomes (positive states) (negative states)
+  meant (inl no_true) (inl no_false) = record {
+    exists_some = rw no_true.0 (λ e. absurd cc, λ s. absurd (let t = s.2 in let f = no_true.1 s.0 s.1 in cc));
+    exists_none = rw no_true.0 (λ e. no_true.1, λ f. refl);
+    all = rw no_false.0 (λ e o h. not_false (is_true head.condition o) (no_false.1 o h), λ f. refl);
+  }
+  meant (inl no_true) (inr some_false) = record {
+    exists_some = rw no_true.0 (λ e. absurd cc, λ s. absurd (let t = s.2 in let f = no_true.1 s.0 s.1 in cc));
+    exists_none = rw no_true.0 (λ e. no_true.1, λ f. refl);
+    all = rw some_false.0 (λ e. absurd cc, λ f. absurd (let t = f some_false.1.0 some_false.1.1 in let u = not_true (is_true head.condition some_false.1.0) some_false.1.2 in cc));
+  }
+  meant (inr some_true) (inl no_false) = record {
+    exists_some = rw some_true.0 (λ e. some_true.1, λ s. refl);
+    exists_none = rw some_true.0 (λ e. absurd cc, λ f. absurd (let t = f some_true.1.0 some_true.1.1 in let u = some_true.1.2 in cc));
+    all = rw no_false.0 (λ e o h. not_false (is_true head.condition o) (no_false.1 o h), λ f. refl);
+  }
+  meant (inr some_true) (inr some_false) = record {
+    exists_some = rw some_true.0 (λ e. some_true.1, λ s. refl);
+    exists_none = rw some_true.0 (λ e. absurd cc, λ f. absurd (let t = f some_true.1.0 some_true.1.1 in let u = some_true.1.2 in cc));
+    all = rw some_false.0 (λ e. absurd cc, λ f. absurd (let t = f some_false.1.0 some_false.1.1 in let u = not_true (is_true head.condition some_false.1.0) some_false.1.2 in cc));
+  }
+
+  pub means_of_all : MeansOfAll head outcomes (positive states) (negative states)
+  means_of_all = meant (counted head outcomes states are (λ b. b)) (counted head outcomes states are not)

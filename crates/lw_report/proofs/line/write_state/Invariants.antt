@@ -1,0 +1,11 @@
+use Rattle.std.proofs.Common.{◌≡◌, ◌++◌, drop}
+use Rattle.std.specs.Prelude.{zip}
+use Rattle.std.specs.List.{flat_map}
+use Rattle.std.specs.String.{string_bytes}
+use Rattle.lw_report.specs.Labels.{labelled_word, labelled_words}
+use Rattle.lw_report.proofs.line.write_state.Given as goal
+
+abbrev pub invariant-loop-place : goal.invariant-loop-place
+invariant-loop-place g l =
+    string_bytes l.out ++ flat_map labelled_word (drop l.place (zip l.labels l.words))
+    ≡ string_bytes l.initial.out ++ labelled_words l.labels l.words

@@ -1,0 +1,9 @@
+use Rattle.std.proofs.Common.{◌≡◌, ◌++◌}
+use Rattle.std.specs.Prelude.{filter}
+use Rattle.lw_base.specs.Heads.{head_of}
+use Rattle.lw_text.specs.Frames.{locations}
+use Rattle.lw_report.specs.Observed.{is_observed}
+use Rattle.lw_report.proofs.projection.push_locations.Given as goal
+
+abbrev pub invariant-loop-loc : goal.invariant-loop-loc
+invariant-loop-loc g l = l.names ≡ l.fn.names ++ filter (is_observed (head_of l.head)) (locations l.loc-index)

@@ -1,0 +1,15 @@
+use Rattle.std.proofs.Common.{◌∙◌}
+use Rattle.lw_base.specs.Heads.{head_of}
+use Rattle.lw_finals.specs.Listings.{schedules_of}
+use Rattle.lw_report.proofs.Scheduled.{entries_within, list_written}
+use Rattle.lw_report.proofs.schedules.write_schedules.Goals as goal
+
+pub write_scheduled_states-requires-clause-within : goal.write_scheduled_states-requires-clause-within
+write_scheduled_states-requires-clause-within g c =
+    let within = entries_within (head_of c.args.head.now) c.args.listing.now c.args.states.now c.requires.states in
+    rw c.as_slice.ensures within
+
+pub returns : goal.returns
+returns g c =
+    let lines = rw c.as_slice.ensures at c.in_ok-write_scheduled_states.ensures in
+    c.from.ensures ∙ list_written (head_of c.args.head.now) (schedules_of c.args.listing.now) c.args.states.now _ _ _ _ _ c.len.result c.new-out.ensures.bytes c.in_ok-writeln.ensures.bytes c.as_str.ensures c.in_ok-write_count.ensures c.len.ensures lines

@@ -1,0 +1,7 @@
+use Rattle.lw_base.specs.Heads.{head_of}
+use Rattle.lw_finals.specs.Listings.{outcomes_of}
+use Rattle.lw_report.specs.Gathered.{AreStatesOfFirst}
+use Rattle.lw_report.proofs.states.shown_by.Given as goal
+
+abbrev pub invariant-loop-entry : goal.invariant-loop-entry
+invariant-loop-entry g l = AreStatesOfFirst (head_of l.head) (outcomes_of l.listing) l.entry l.states.items

@@ -1,0 +1,42 @@
+-- What is told of a test's condition, by the numbers of the states that make its proposition true and that do not.
+use Rattle.std.specs.Prelude.{◌≡◌, ◌↔◌, ℕ, true, false, not, ◌==◌, if◌then◌else◌, List, length, filter, Contains}
+use Rattle.lw_base.specs.declared.head.Quant.{Quant}
+use Rattle.lw_base.specs.declared.head.Quant.TheVariants.{Exists, NotExists, Forall}
+use Rattle.lw_base.specs.Heads.{TestHead}
+use Rattle.lw_base.specs.Outcomes.{Final}
+use Rattle.lw_report.specs.States.{Shown}
+use Rattle.lw_report.specs.Truth.{is_true}
+use Rattle.lw_report.specs.declared.judgement.Claim.{Claim}
+use Rattle.lw_report.specs.declared.judgement.Claim.TheVariants.{Exact, Listed}
+use Rattle.lw_report.specs.declared.judgement.Verdict.{Verdict}
+use Rattle.lw_report.specs.declared.judgement.Verdict.TheVariants as verdict
+use Rattle.lw_report.specs.declared.judgement.Observation.{Observation}
+use Rattle.lw_report.specs.declared.judgement.Observation.TheVariants as seen
+
+-- the states that make the proposition true, and the others
+abbrev pub positive : List Shown → ℕ
+positive states = length (filter (λ (s : Shown). s.holds) states)
+
+abbrev pub negative : List Shown → ℕ
+negative states = length (filter (λ (s : Shown). not s.holds) states)
+
+-- Whether the condition is met. Where the states are all, one that makes the proposition true meets `exists` and breaks
+-- `~exists`, and one that does not breaks `forall`. Where there may be others, only such a state decides.
+abbrev pub verdict_of : Claim → Quant → ℕ → ℕ → Verdict
+verdict_of Exact Exists p q = if p == 0 then verdict.No else verdict.Ok
+verdict_of Exact NotExists p q = if p == 0 then verdict.Ok else verdict.No
+verdict_of Exact Forall p q = if q == 0 then verdict.Ok else verdict.No
+verdict_of Listed Exists p q = if p == 0 then verdict.Unknown else verdict.Ok
+verdict_of Listed NotExists p q = if p == 0 then verdict.Unknown else verdict.No
+verdict_of Listed Forall p q = if q == 0 then verdict.Unknown else verdict.No
+
+-- How often the proposition is true. Where there may be other states, only one of each kind decides.
+abbrev pub observation_of : Claim → ℕ → ℕ → Observation
+observation_of Exact p q = if p == 0 then seen.Never else if q == 0 then seen.Always else seen.Sometimes
+observation_of Listed p q = if p == 0 then seen.Unknown else if q == 0 then seen.Unknown else seen.Sometimes
+
+-- What an `Ok` says of all outcomes, of whose states p make the proposition true and q do not.
+pub record MeansOfAll (head : TestHead) (outcomes : List Final) (p q : ℕ) : Type 0 where
+  pub exists_some : verdict_of Exact Exists p q ≡ verdict.Ok ↔ ((o : Final) × Contains outcomes o × (is_true head.condition o ≡ true))
+  pub exists_none : verdict_of Exact NotExists p q ≡ verdict.Ok ↔ ((o : Final) → Contains outcomes o → is_true head.condition o ≡ false)
+  pub all : verdict_of Exact Forall p q ≡ verdict.Ok ↔ ((o : Final) → Contains outcomes o → is_true head.condition o ≡ true)

@@ -1,0 +1,7 @@
+pub mod Truth
+pub mod Observed
+pub mod States
+pub mod Judgement
+pub mod Labels
+pub mod Reports
+pub mod Gathered

@@ -1,0 +1,31 @@
+-- The names that a report shows: those in the condition, and those that are listed.
+use Rattle.std.specs.Prelude.{ℕ, Bool, false, ◌||◌, List, ◌++◌, length, map, filter}
+use Rattle.std.specs.List.{list_any}
+use Rattle.lw_base.specs.Formula.{Formula, Yes, No, Reg_is, Word_is, Not, And, Or}
+use Rattle.lw_base.specs.Heads.{TestHead}
+use Rattle.lw_base.specs.Outcomes.{Final}
+use Rattle.lw_base.specs.declared.head.Seen.{Seen}
+use Rattle.lw_base.specs.declared.head.Seen.TheVariants.{Register, Location}
+use Rattle.lw_text.specs.Frames.{same_seen, all_registers, locations}
+use Rattle.lw_report.specs.Truth.{final_word}
+
+-- whether a proposition names a register or a location
+abbrev pub is_named : Formula → Seen → Bool
+is_named Yes s = false
+is_named No s = false
+is_named (Reg_is t r n) s = same_seen (Register t r) s
+is_named (Word_is x n) s = same_seen (Location x) s
+is_named (Not p) s = is_named p s
+is_named (And p q) s = is_named p s || is_named q s
+is_named (Or p q) s = is_named p s || is_named q s
+
+abbrev pub is_observed : TestHead → Seen → Bool
+is_observed head s = is_named head.condition s || list_any (λ l. same_seen l s) head.listed
+
+-- the observed names: registers by thread and number, then locations by number
+abbrev pub observed : TestHead → List Seen
+observed head = filter (is_observed head) (all_registers head.threads ++ locations (length head.locs))
+
+-- an outcome's words of the observed names
+abbrev pub projected : TestHead → Final → List ℕ
+projected head o = map (final_word o) (observed head)

@@ -1,0 +1,122 @@
+-- The report of a test's states, and the list of their schedules.
+-- The source is the format of the workbench, docs/FORMAT.md, which is close to what herd prints.
+use Rattle.std.specs.Prelude.{◌≡◌, ℕ, List, [], ◌++◌, length, map, codes, zip, slice_index_or, All}
+use Rattle.std.specs.List.{flat_map}
+use Rattle.std.specs.Fmt.{decimal}
+use Rattle.lw_base.specs.Types.{Bytes}
+use Rattle.lw_base.specs.ConditionTexts.{site_text, assignment, condition_text}
+use Rattle.lw_base.specs.Heads.{TestHead}
+use Rattle.lw_base.specs.Outcomes.{Final}
+use Rattle.lw_base.specs.Schedules.{schedule_text}
+use Rattle.lw_base.specs.Texts.{joined}
+use Rattle.lw_base.specs.declared.event.Event.{Event}
+use Rattle.lw_base.specs.declared.head.Quant.{Quant}
+use Rattle.lw_base.specs.declared.head.Quant.TheVariants.{Exists, NotExists, Forall}
+use Rattle.lw_base.specs.declared.head.Seen.{Seen}
+use Rattle.lw_report.specs.Judgement.{positive, negative, verdict_of, observation_of}
+use Rattle.lw_report.specs.Observed.{observed}
+use Rattle.lw_report.specs.States.{Shown, AreStatesOf, IsSmallestOf, ListedState, shown_of}
+use Rattle.lw_report.specs.declared.judgement.Claim.{Claim}
+use Rattle.lw_report.specs.declared.judgement.Claim.TheVariants.{Exact, Listed}
+use Rattle.lw_report.specs.declared.judgement.Verdict.{Verdict}
+use Rattle.lw_report.specs.declared.judgement.Verdict.TheVariants as verdict
+use Rattle.lw_report.specs.declared.judgement.Observation.{Observation}
+use Rattle.lw_report.specs.declared.judgement.Observation.TheVariants as seen
+
+-- ---- states
+
+-- `name=word;`
+abbrev pub word_text : TestHead → (Seen × ℕ) → Bytes
+word_text head seen = assignment (site_text head.arch head.locs seen.0) seen.1 ++ codes ";"
+
+-- a state's line: the observed names with their words
+abbrev pub state_line : TestHead → List ℕ → Bytes
+state_line head words = joined (codes " ") (map (word_text head) (zip (observed head) words)) ++ codes "\n"
+
+-- how many states there are
+abbrev pub count_line : ℕ → Bytes
+count_line states = codes "States " ++ (decimal states ++ codes "\n")
+
+-- ---- the report
+
+abbrev pub kind_text : Quant → Bytes
+kind_text Exists = codes "Allowed"
+kind_text NotExists = codes "Forbidden"
+kind_text Forall = codes "Required"
+
+abbrev pub verdict_text : Verdict → Bytes
+verdict_text verdict.Ok = codes "Ok"
+verdict_text verdict.No = codes "No"
+verdict_text verdict.Unknown = codes "Unknown"
+
+abbrev pub observation_text : Observation → Bytes
+observation_text seen.Never = codes "Never"
+observation_text seen.Sometimes = codes "Sometimes"
+observation_text seen.Always = codes "Always"
+observation_text seen.Unknown = codes "Unknown"
+
+-- `Test`, the name, and what the condition says of the states where its proposition is true
+abbrev pub title_line : TestHead → Bytes
+title_line head = codes "Test " ++ (head.name ++ (codes " " ++ (kind_text head.quant ++ codes "\n")))
+
+abbrev pub verdict_line : Claim → Quant → ℕ → ℕ → Bytes
+verdict_line claim quant p q = verdict_text (verdict_of claim quant p q) ++ codes "\n"
+
+abbrev pub numbers_line : ℕ → ℕ → Bytes
+numbers_line p q = codes "Positive: " ++ (decimal p ++ (codes " Negative: " ++ (decimal q ++ codes "\n")))
+
+abbrev pub condition_line : TestHead → Bytes
+condition_line head = codes "Condition " ++ (condition_text head ++ codes "\n")
+
+abbrev pub observation_line : TestHead → Claim → ℕ → ℕ → Bytes
+observation_line head claim p q =
+    codes "Observation " ++ (head.name ++ (codes " " ++ (observation_text (observation_of claim p q)
+    ++ (codes " " ++ (decimal p ++ (codes " " ++ (decimal q ++ codes "\n")))))))
+
+-- of states that may not be all
+abbrev pub claim_line : Claim → Bytes
+claim_line Exact = []
+claim_line Listed = codes "Listed, not claimed complete\n"
+
+-- what stands behind the states, of which p make the proposition true and q do not
+abbrev pub judgement_lines : TestHead → Claim → ℕ → ℕ → Bytes
+judgement_lines head claim p q =
+    verdict_line claim head.quant p q
+    ++ (numbers_line p q
+    ++ (condition_line head
+    ++ (observation_line head claim p q ++ claim_line claim)))
+
+abbrev pub report_text : TestHead → Claim → List Shown → Bytes
+report_text head claim states =
+    title_line head
+    ++ (count_line (length states)
+    ++ (flat_map (λ (s : Shown). state_line head s.words) states
+    ++ judgement_lines head claim (positive states) (negative states)))
+
+-- The report of a set of outcomes.
+pub record IsReport (head : TestHead) (Has : Final → Type 0) (claim : Claim) (text : Bytes) : Type 0 where
+  pub states : List Shown
+  pub are : AreStatesOf head Has states
+  pub is : text ≡ report_text head claim states
+
+-- ---- the list of schedules
+
+-- a state's line, and behind a space its schedule
+abbrev pub scheduled_lines : TestHead → (Shown × List Event) → Bytes
+scheduled_lines head s = state_line head s.0.words ++ (codes " " ++ (schedule_text head.locs s.1 ++ codes "\n"))
+
+abbrev pub schedule_list_text : TestHead → List (Shown × List Event) → Bytes
+schedule_list_text head states =
+    codes "Test " ++ (head.name ++ (codes "\n" ++ (count_line (length states) ++ flat_map (scheduled_lines head) states)))
+
+-- a listed state with its schedule, of the schedules of all outcomes
+abbrev pub scheduled : List (List Event) → ListedState → Shown × List Event
+scheduled schedules s = (shown_of s, slice_index_or schedules s.entry [])
+
+-- The list of the states of a set of outcomes, each with a schedule that leads to the smallest outcome that shows it.
+pub record IsScheduleList
+    (head : TestHead) (Has : Final → Type 0) (Leads : List Event → Final → Type 0) (text : Bytes) : Type 0 where
+  pub states : List (Shown × List Event)
+  pub are : AreStatesOf head Has (map (λ s. s.0) states)
+  pub lead : All (λ s. (o : Final) × IsSmallestOf head Has s.0.words o × Leads s.1 o) states
+  pub is : text ≡ schedule_list_text head states

@@ -1,0 +1,25 @@
+//! What is told of a test's outcomes: the truth of its proposition in each, the states that are shown of them, the verdict on
+//! its condition, the report, and the list of schedules. The texts are functions of the set of outcomes; `specs/Reports.antt`
+//! says which.
+//!
+//! It names lw_base, and of lw_finals the listing; of lw_text the order in which registers and locations stand.
+#![tactic(auto)]
+
+mod judgement;
+mod laws;
+mod line;
+mod projection;
+mod report;
+mod schedules;
+mod states;
+mod truth;
+
+pub use judgement::{Claim, Observation, Verdict};
+pub use laws::{
+    exact_verdicts_are_of_all_outcomes, outcomes_have_one_list_of_states, same_words_agree,
+};
+pub use projection::project;
+pub use report::{verdict, write_report};
+pub use schedules::write_schedules;
+pub use states::{State, States, states_of};
+pub use truth::holds;

@@ -1,0 +1,163 @@
+//! The observed names of a test, and an outcome's words of them.
+ghost use Rattle.std.specs.Prelude.{◌≡◌, ◌≤◌, ◌++◌, ◌∷◌, [], length, map, filter, All, IfOk, OnOk};
+ghost use Rattle.std.specs.List.{list_any};
+ghost use Rattle.lw_base.specs.Heads.{head_of};
+ghost use Rattle.lw_base.specs.Outcomes.{IsOutcomeOf};
+ghost use Rattle.lw_base.specs.Propositions.{formula_of};
+ghost use Rattle.lw_base.specs.WellFormed.{IsSeen, IsWellFormedHead};
+ghost use Rattle.lw_text.specs.Frames.{same_seen, registers_of, locations};
+ghost use Rattle.lw_report.specs.Observed as specs;
+ghost use Rattle.lw_report.specs.Observed.{is_observed, projected};
+ghost use Rattle.lw_report.specs.Truth.{final_word};
+
+use lw_base::{Cpu, Head, Loc, MAX_LOCATIONS, Outcome, Prop, Reg, Seen, Sequence, Word};
+use std::alloc::{AllocError, AllocFailed, Allocator};
+
+/// An outcome's words of the names that are observed: those in the condition and those that are listed, registers by thread
+/// and number, then locations by number.
+pub fn project<A: Allocator + Copy, B: Allocator, C: Allocator>(
+    alloc: A,
+    head: &Head<B>,
+    outcome: &Outcome<C>,
+) -> Result<Sequence<Word, A>, AllocError>
+    requires head { IsWellFormedHead (head_of head.now) }
+    requires outcome { IsOutcomeOf head.now.threads (length head.now.locs) outcome.now }
+    ensures { IfOk result (λ words. words ≡ projected (head_of head.now) outcome.now) }
+{
+    let names = observed(alloc, head)?;
+    let words = words_of(alloc, names.as_slice(), outcome);
+    drop(names);
+    words
+}
+
+/// The observed names.
+pub(crate) fn observed<A: Allocator, B: Allocator>(
+    alloc: A,
+    head: &Head<B>,
+) -> Result<Sequence<Seen, A>, AllocError>
+    requires { IsWellFormedHead (head_of head.now) }
+    ensures names { IfOk result (λ names. names ≡ specs.observed (head_of head.now)) }
+    ensures there { IfOk result (λ names. All (IsSeen head.now.threads (length head.now.locs)) names) }
+{
+    let mut names = Sequence::new(alloc);
+    for cpu in &Cpu::all()[..head.threads] {
+        push_registers(&mut names, head, *cpu)?;
+    }
+    push_locations(&mut names, head)?;
+    Ok(names)
+}
+
+/// Puts those of a thread's registers at the end that are observed.
+fn push_registers<A: Allocator, B: Allocator>(
+    names: &mut Sequence<Seen, A>,
+    head: &Head<B>,
+    cpu: Cpu,
+) -> Result<(), AllocFailed<Seen>>
+    ensures { OnOk result (names.new ≡ names.old ++ filter (is_observed (head_of head.now)) (registers_of cpu)) }
+{
+    for reg in &Reg::all() {
+        push_observed(names, head, Seen::Register(cpu, *reg))?;
+    }
+    Ok(())
+}
+
+/// Puts those locations at the end that are observed.
+fn push_locations<A: Allocator, B: Allocator>(
+    names: &mut Sequence<Seen, A>,
+    head: &Head<B>,
+) -> Result<(), AllocFailed<Seen>>
+    requires { length head.now.locs ≤ MAX_LOCATIONS }
+    ensures { OnOk result (names.new ≡ names.old
+        ++ filter (is_observed (head_of head.now)) (locations (length head.now.locs))) }
+{
+    for loc in &Loc::all()[..head.locs.len()] {
+        push_observed(names, head, Seen::Location(*loc))?;
+    }
+    Ok(())
+}
+
+/// Puts a register or a location at the end, if it is observed.
+fn push_observed<A: Allocator, B: Allocator>(
+    names: &mut Sequence<Seen, A>,
+    head: &Head<B>,
+    name: Seen,
+) -> Result<(), AllocFailed<Seen>>
+    ensures { OnOk result (names.new ≡ names.old ++ filter (is_observed (head_of head.now)) (name ∷ [])) }
+{
+    if is_observed(head, &name) {
+        return names.push(name);
+    }
+    Ok(())
+}
+
+fn is_observed<A: Allocator>(head: &Head<A>, name: &Seen) -> bool
+    ensures { result ≡ specs.is_observed (head_of head.now) name.now }
+{
+    is_named(&head.prop, name) || is_listed(head.listed.as_slice(), name)
+}
+
+fn is_listed(listed: &[Seen], name: &Seen) -> bool
+    ensures { result ≡ list_any (λ l. same_seen l name.now) listed.now }
+{
+    listed.iter().any(|each| is_same(each, name))
+}
+
+/// Whether a proposition names a register or a location.
+fn is_named<A: Allocator>(prop: &Prop<A>, name: &Seen) -> bool
+    ensures { result ≡ specs.is_named (formula_of prop.now) name.now }
+{
+    match prop {
+        Prop::Always | Prop::Never => false,
+        Prop::RegIs(cpu, reg, _) => is_same(&Seen::Register(*cpu, *reg), name),
+        Prop::WordIs(loc, _) => is_same(&Seen::Location(*loc), name),
+        Prop::Neg(part) => is_named(part, name),
+        Prop::Both(left, right) => is_named(left, name) || is_named(right, name),
+        Prop::Either(left, right) => is_named(left, name) || is_named(right, name),
+    }
+}
+
+fn is_same(left: &Seen, right: &Seen) -> bool
+    ensures { result ≡ same_seen left.now right.now }
+{
+    match left {
+        Seen::Register(cpu, reg) => match right {
+            Seen::Register(other_cpu, other_reg) => {
+                cpu.index() == other_cpu.index() && reg.index() == other_reg.index()
+            }
+            Seen::Location(_) => false,
+        },
+        Seen::Location(loc) => match right {
+            Seen::Register(_, _) => false,
+            Seen::Location(other) => loc.index() == other.index(),
+        },
+    }
+}
+
+/// An outcome's words of these names.
+pub(crate) fn words_of<A: Allocator, B: Allocator>(
+    alloc: A,
+    names: &[Seen],
+    outcome: &Outcome<B>,
+) -> Result<Sequence<Word, A>, AllocError>
+    requires names { All (IsSeen (length outcome.now.regs) (length outcome.now.words)) names.now }
+    requires outcome { IsOutcomeOf (length outcome.now.regs) (length outcome.now.words) outcome.now }
+    ensures { IfOk result (λ words. words ≡ map (final_word outcome.now) names.now) }
+{
+    let mut words = Sequence::new(alloc);
+    for name in names {
+        words.push(word_of(outcome, *name))?;
+    }
+    Ok(words)
+}
+
+/// The word with which a register or a location ends.
+fn word_of<A: Allocator>(outcome: &Outcome<A>, name: Seen) -> Word
+    requires name { IsSeen (length outcome.now.regs) (length outcome.now.words) name }
+    requires outcome { IsOutcomeOf (length outcome.now.regs) (length outcome.now.words) outcome.now }
+    ensures { result ≡ final_word outcome.now name }
+{
+    match name {
+        Seen::Register(cpu, reg) => outcome.regs.as_slice()[cpu.index()][reg.index()],
+        Seen::Location(loc) => outcome.words.as_slice()[loc.index()],
+    }
+}

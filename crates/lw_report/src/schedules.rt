@@ -1,0 +1,73 @@
+//! The list of a test's states, each with a schedule that leads to it.
+ghost use Rattle.std.specs.Prelude.{◌≡◌, ◌<◌, ◌++◌, length, map, All, IfOk, OnOk};
+ghost use Rattle.std.specs.List.{flat_map};
+ghost use Rattle.std.specs.String.{string_bytes};
+ghost use Rattle.lw_base.specs.Heads.{head_of};
+ghost use Rattle.lw_base.specs.WellFormed.{IsWellFormedHead};
+ghost use Rattle.lw_finals.specs.Listings.{IsEntryOf, outcomes_of, schedules_of};
+ghost use Rattle.lw_report.specs.Labels.{schedule_line};
+ghost use Rattle.lw_report.specs.Reports.{schedule_list_text, scheduled, scheduled_lines};
+ghost use Rattle.lw_report.specs.States.{ListedState, AreListedStates};
+
+use crate::line::{observed_labels, write_count, write_state};
+use crate::states::{State, States};
+use lw_base::{Head, Text, write_schedule};
+use lw_finals::Listing;
+use std::alloc::{AllocError, Allocator};
+
+/// The list of these states of a test with this head, each with the schedule of its entry in the listing.
+pub fn write_schedules<A: Allocator + Copy>(
+    alloc: A,
+    head: &Head<A>,
+    states: &States<A>,
+    listing: &Listing<A>,
+) -> Result<Text<A>, AllocError>
+    requires head { IsWellFormedHead (head_of head.now) }
+    requires entries { All (IsEntryOf (head_of head.now)) listing.now }
+    requires states { AreListedStates (head_of head.now) (outcomes_of listing.now) states.now }
+    ensures { IfOk result (λ text. text ≡ schedule_list_text (head_of head.now) (map (scheduled (schedules_of listing.now)) states.now)) }
+{
+    let mut out = String::new(alloc);
+    writeln!(out, "Test {}", head.name.as_str())?;
+    write_count(&mut out, states.len())?;
+    write_scheduled_states(&mut out, alloc, head, states.as_slice(), listing)?;
+    Ok(Text::from(out))
+}
+
+/// The lines of the states, each with its schedule.
+fn write_scheduled_states<A: Allocator + Copy, B: Allocator>(
+    out: &mut String<B>,
+    alloc: A,
+    head: &Head<A>,
+    states: &[State<A>],
+    listing: &Listing<A>,
+) -> Result<(), AllocError>
+    requires head { IsWellFormedHead (head_of head.now) }
+    requires entries { All (IsEntryOf (head_of head.now)) listing.now }
+    requires within { All (λ (s : ListedState). s.entry < length listing.now) states.now }
+    ensures { OnOk result (string_bytes out.new ≡ string_bytes out.old
+        ++ flat_map (λ (s : ListedState). scheduled_lines (head_of head.now) (scheduled (schedules_of listing.now) s)) states.now) }
+{
+    let labels = observed_labels(alloc, head)?;
+    for state in states {
+        write_state(out, labels.as_slice(), state.words.as_slice())?;
+        write_schedule_of(out, alloc, head, listing, state.entry)?;
+    }
+    Ok(())
+}
+
+/// The line of the schedule of an entry, behind a space.
+fn write_schedule_of<A: Allocator, B: Allocator>(
+    out: &mut String<B>,
+    alloc: A,
+    head: &Head<A>,
+    listing: &Listing<A>,
+    entry: usize,
+) -> Result<(), AllocError>
+    requires entries { All (IsEntryOf (head_of head.now)) listing.now }
+    requires within { entry < length listing.now }
+    ensures { OnOk result (string_bytes out.new ≡ string_bytes out.old ++ schedule_line head.now.locs (schedules_of listing.now) entry) }
+{
+    let schedule = write_schedule(alloc, listing.schedule(entry), &head.locs)?;
+    writeln!(out, " {}", schedule.as_str())
+}

@@ -1,0 +1,149 @@
+//! The states that a report shows: what is shown of each outcome, sorted, each once.
+ghost use Rattle.std.specs.Prelude.{◌≡◌, ◌↔◌, ◌++◌, ◌∷◌, [], length, All, IfOk, OnOk, IsTrue};
+ghost use Rattle.std.specs.List.Sorted.{IsSorted};
+ghost use Rattle.lw_base.specs.Heads.{head_of};
+ghost use Rattle.lw_base.specs.Outcomes.{IsOutcomeOf};
+ghost use Rattle.lw_base.specs.WellFormed.{IsWellFormedHead};
+ghost use Rattle.lw_finals.specs.Listings.{IsEntryOf, outcomes_of};
+ghost use Rattle.lw_report.specs.Gathered.{state_at, state_cmp, AreStatesOfFirst, AreFirstStates, LastHas};
+ghost use Rattle.lw_report.specs.Observed as specs;
+ghost use Rattle.lw_report.specs.States.{AreListedStates};
+
+use crate::projection::{observed, words_of};
+use crate::truth::holds;
+use lw_base::{Head, Outcome, Seen, Sequence, Word};
+use lw_finals::Listing;
+use std::alloc::{AllocError, AllocFailed, Allocator, Global};
+use std::marker::Model;
+
+/// What is shown of outcomes. States are ordered by their words, and then by their numbers.
+#[derive(Drop)]
+#[derive_where(PartialEq, Eq, PartialOrd, Ord)]
+pub struct State<A: Allocator = Global> {
+    /// The words of the observed names.
+    pub words: Sequence<Word, A>,
+    /// The number of the smallest outcome with these words, in the listing.
+    pub entry: usize,
+    /// Whether the test's proposition is true in it.
+    pub holds: bool,
+}
+
+impl<A: Allocator> Model for State<A> {
+    ghost use Rattle.lw_report.specs.States.{ListedState};
+
+    ghost Value = { ListedState };
+
+    ghost view = { λ s. record { words = s.words; entry = s.entry; holds = s.holds } };
+
+    ghost inverse = { λ s. record { words = s.words; entry = s.entry; holds = s.holds } };
+}
+
+/// The states of a test, sorted by their words, each once.
+pub type States<A = Global> = Sequence<State<A>, A>;
+
+/// The states of the outcomes that are listed for a test with this head, each with the number of the smallest outcome that
+/// shows it and the truth of the test's proposition.
+pub fn states_of<A: Allocator + Copy>(
+    alloc: A,
+    head: &Head<A>,
+    listing: &Listing<A>,
+) -> Result<States<A>, AllocError>
+    requires head { IsWellFormedHead (head_of head.now) }
+    requires entries { All (IsEntryOf (head_of head.now)) listing.now }
+    ensures { IfOk result (λ states. AreListedStates (head_of head.now) (outcomes_of listing.now) states) }
+{
+    let mut states = gathered(alloc, head, listing)?;
+    states.sort()?;
+    firsts(alloc, states)
+}
+
+/// The states of all outcomes, one for each.
+fn gathered<A: Allocator + Copy>(
+    alloc: A,
+    head: &Head<A>,
+    listing: &Listing<A>,
+) -> Result<Vec<State<A>, A>, AllocError>
+    requires head { IsWellFormedHead (head_of head.now) }
+    requires entries { All (IsEntryOf (head_of head.now)) listing.now }
+    ensures { IfOk result (λ states. AreStatesOfFirst (head_of head.now) (outcomes_of listing.now) (length listing.now) states.items) }
+{
+    let names = observed(alloc, head)?;
+    let states = shown_by(alloc, head, names.as_slice(), listing);
+    drop(names);
+    states
+}
+
+/// The states of all outcomes, one for each, by the observed names.
+fn shown_by<A: Allocator + Copy>(
+    alloc: A,
+    head: &Head<A>,
+    names: &[Seen],
+    listing: &Listing<A>,
+) -> Result<Vec<State<A>, A>, AllocError>
+    requires head { IsWellFormedHead (head_of head.now) }
+    requires names { names.now ≡ specs.observed (head_of head.now) }
+    requires entries { All (IsEntryOf (head_of head.now)) listing.now }
+    ensures { IfOk result (λ states. AreStatesOfFirst (head_of head.now) (outcomes_of listing.now) (length listing.now) states.items) }
+{
+    let mut states = Vec::new(alloc);
+    for entry in 0..listing.len() {
+        states.push(state_of(alloc, head, names, listing.outcome(entry), entry)?)?;
+    }
+    Ok(states)
+}
+
+/// The state that the outcome of a number shows, by the observed names.
+fn state_of<A: Allocator + Copy>(
+    alloc: A,
+    head: &Head<A>,
+    names: &[Seen],
+    outcome: &Outcome<A>,
+    entry: usize,
+) -> Result<State<A>, AllocError>
+    requires head { IsWellFormedHead (head_of head.now) }
+    requires names { names.now ≡ specs.observed (head_of head.now) }
+    requires outcome { IsOutcomeOf head.now.threads (length head.now.locs) outcome.now }
+    ensures { IfOk result (λ state. state ≡ state_at (head_of head.now) entry outcome.now) }
+{
+    Ok(State {
+        words: words_of(alloc, names, outcome)?,
+        entry,
+        holds: holds(&head.prop, outcome),
+    })
+}
+
+/// Of the states with the same words the first.
+fn firsts<A: Allocator>(alloc: A, sorted: Vec<State<A>, A>) -> Result<States<A>, AllocError>
+    requires { IsSorted state_cmp sorted.items }
+    ensures { IfOk result (λ states. AreFirstStates sorted.items states) }
+{
+    let mut states = Sequence::new(alloc);
+    for state in sorted {
+        push_unless_shown(&mut states, state)?;
+    }
+    Ok(states)
+}
+
+/// Puts a state at the end, unless the last has its words.
+fn push_unless_shown<A: Allocator>(
+    states: &mut States<A>,
+    state: State<A>,
+) -> Result<(), AllocFailed<State<A>>>
+    ensures known { OnOk result (LastHas states.old state.words → states.new ≡ states.old) }
+    ensures added { OnOk result (¬ LastHas states.old state.words → states.new ≡ states.old ++ state ∷ []) }
+{
+    if last_has(states, &state.words) {
+        return Ok(());
+    }
+    states.push(state)
+}
+
+/// Whether the last of the states has these words.
+fn last_has<A: Allocator>(states: &States<A>, words: &Sequence<Word, A>) -> bool
+    ensures { IsTrue result ↔ LastHas states.now words.now }
+{
+    match states.as_slice().last() {
+        None => false,
+        Some(last) => last.words == *words,
+    }
+}
