@@ -1,10 +1,12 @@
-//! The program: `lw compile` compiles the test on standard input; `lw replay SCHEDULE`, perhaps with `--protocol mesi` or
+//! The program: `lw states` reports the final states of the test on standard input; `lw compile` compiles it; `lw schedules`
+//! lists a schedule for each of its final states; `lw replay SCHEDULE`, perhaps with `--protocol mesi` or
 //! `--protocol moesi` behind it, replays it. Everything but the system's words and streams is lw_bench's.
 #![tactic(auto)]
 
 use lw_bench::{
     BenchFault, FromRead, Protocol, Task, ToWrite, command_of, compile_text, done_status,
-    end_status, fault_line, memory_line, replay_text, status_of, usage_line, usage_status,
+    end_status, fault_line, memory_line, replay_text, schedules_text, states, status_of,
+    usage_line, usage_status,
 };
 use std::alloc::Global;
 use std::process::ExitCode;
@@ -53,7 +55,9 @@ fn run_words(rt: &HostRuntime, words: &[String]) -> u8 {
 /// Carries a task out, and answers the exit status.
 fn carry_out(rt: &HostRuntime, task: Task<'_>) -> u8 {
     let status = match task {
+        Task::States => report(rt),
         Task::Compile => compile(rt),
+        Task::Schedules => schedules(rt),
         Task::Replay(schedule, protocol) => replay(rt, schedule, protocol),
     };
     match status {
@@ -69,6 +73,22 @@ fn texts_of(alloc: Global, words: &[String]) -> Result<Vec<&str>, BenchFault> {
         texts.push(word.as_str())?;
     }
     Ok(texts)
+}
+
+/// Reports the final states of the test on standard input on standard output, and answers the exit status.
+fn report(rt: &HostRuntime) -> Result<u8, BenchFault> {
+    let mut reader = FromRead::new(rt.stdin());
+    let mut writer = ToWrite::new(rt.stdout());
+    states(rt.alloc(), &mut reader, &mut writer)?;
+    Ok(done_status())
+}
+
+/// Lists a schedule for each final state of the test on standard input on standard output, and answers the exit status.
+fn schedules(rt: &HostRuntime) -> Result<u8, BenchFault> {
+    let mut reader = FromRead::new(rt.stdin());
+    let mut writer = ToWrite::new(rt.stdout());
+    schedules_text(rt.alloc(), &mut reader, &mut writer)?;
+    Ok(done_status())
 }
 
 /// Compiles the test on standard input, prints the text on standard output, and answers the exit status.

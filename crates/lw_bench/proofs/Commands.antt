@@ -7,7 +7,7 @@ use Rattle.std.proofs.lemmas.List.{take_all}
 use Rattle.lw_base.specs.Refusals.{NoSuch}
 use Rattle.lw_mesi.specs.declared.protocol.Protocol.{Protocol}
 use Rattle.lw_bench.specs.declared.command.Task.{Task}
-use Rattle.lw_bench.specs.declared.command.Task.TheVariants.{Compile, Replay}
+use Rattle.lw_bench.specs.declared.command.Task.TheVariants.{States, Compile, Schedules, Replay}
 use Rattle.lw_bench.specs.Commands.{protocol_word, IsProtocolOption, IsCommand}
 
 denied : (b : Bool) → not b ≡ false → b ≡ true
@@ -55,10 +55,16 @@ one_first : (words : List (Bor (List ℕ))) (d : Bor (List ℕ)) → 1 ≤ lengt
 one_first [] d many = absurd (omega (arith, many))
 one_first (x ∷ rest) d many = ap (λ (l : List (Bor (List ℕ))). x.now ∷ map (λ (w : Bor (List ℕ)). w.now) l) (sym (take_all (length (x ∷ rest) - 1) rest (omega arith)))
 
+-- the first bytes of first words
+first_byte : (a b : ℕ) (u v : List ℕ) (l k : List (List ℕ)) → (let w : List (List ℕ) = (a ∷ u) ∷ l in w) ≡ (b ∷ v) ∷ k → a ≡ b
+first_byte a b u v l k same = cc
+
 -- no replay, where the words behind the schedule are no option
 pub no_replay : (words : List (Bor (List ℕ))) (d : Bor (List ℕ)) → 1 ≤ length words
     → NoSuch (IsProtocolOption (map (λ (w : Bor (List ℕ)). w.now) (take (length words - 1) (drop 1 words))))
     → (task : Task) → IsCommand (codes "replay" ∷ map (λ (w : Bor (List ℕ)). w.now) words) task → ⊥
+no_replay words d many none States said = absurd (omega (arith, first_byte 114 115 _ _ _ _ said))
+no_replay words d many none Schedules said = absurd (omega (arith, first_byte 114 115 _ _ _ _ said))
 no_replay words d many none Compile said = let other : codes "replay" ∷ map (λ (w : Bor (List ℕ)). w.now) words ≡ codes "compile" ∷ [] = said in cc
 no_replay words d many none (Replay schedule protocol) said =
     let behind = same_rest _ _ _ _ _ _ (sym (ap (λ (l : List (List ℕ)). codes "replay" ∷ l) (one_first words d many)) ∙ said.1) in

@@ -3,6 +3,9 @@ pub mod Devices
 pub mod DeviceFaults
 pub mod LitmusTests
 pub mod Pages
+pub mod Outputs
 pub mod Replays
 pub mod Compilations
 pub mod Told
+pub mod ListingTexts
+pub mod SourceReports

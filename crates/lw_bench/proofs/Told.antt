@@ -11,12 +11,15 @@ use Rattle.lw_base.specs.declared.fault.ScheduleFault.{ScheduleFault}
 use Rattle.lw_text.specs.declared.fault.TextCause.{TextCause}
 use Rattle.lw_text.specs.declared.fault.TextCause.TheVariants as text
 use Rattle.lw_text.specs.declared.fault.TextFault.{TextFault}
+use Rattle.lw_finals.specs.declared.fault.ListFault.{ListFault}
+use Rattle.lw_finals.specs.declared.fault.ListFault.TheVariants as list
 use Rattle.lw_bench.specs.declared.fault.BenchFault.{BenchFault}
-use Rattle.lw_bench.specs.declared.fault.BenchFault.TheVariants.{Text, Cell, Schedule, Memory, Read, Write}
+use Rattle.lw_bench.specs.declared.fault.BenchFault.TheVariants.{Text, Cell, Schedule, Limit, Memory, Read, Write}
 use Rattle.lw_bench.specs.Devices.{IsInput}
-use Rattle.lw_bench.specs.Faults.{text_fault, told_text, cell_fault, told_cell, schedule_fault, told_schedule}
-use Rattle.lw_bench.specs.Told.{TellsText, TellsCell, TellsSchedule, TellsTest, TellsReplay, TellsInput, TellsTestInput, IsNoDevice}
-use Rattle.lw_bench.proofs.Replays.{whole}
+use Rattle.lw_bench.specs.Faults.{text_fault, told_text, cell_fault, told_cell, schedule_fault, told_schedule, told_limit}
+use Rattle.lw_bench.specs.LitmusTests.{LitmusTest, HasTest}
+use Rattle.lw_bench.specs.Told.{TellsText, TellsCell, TellsTest, TellsRun, TellsInput, IsNoDevice}
+use Rattle.lw_bench.proofs.Outputs.{whole, in_whole}
 
 -- A fault that is told as it is, unless memory ran out.
 module _ (P : BenchFault → Type 0) (memory : P Memory) where
@@ -58,6 +61,12 @@ module _ (P : BenchFault → Type 0) (memory : P Memory) where
   pub schedule_is_told : (f : ScheduleFault) → (f.cause ≢ schedule.Memory → P (Schedule f)) → P (told_schedule f)
   schedule_is_told f known = schedule_by f f.cause known
 
+-- A limit, unless memory ran out.
+pub limit_is_told : (P : BenchFault → Type 0) → P Memory → (f : ListFault) → (f ≢ list.Memory → P (Limit f)) → P (told_limit f)
+limit_is_told P memory list.TooManyItems known = known (λ same. cc)
+limit_is_told P memory list.TooManyOrders known = known (λ same. cc)
+limit_is_told P memory list.Memory known = memory
+
 -- None of these is a device's.
 pub memory_no_device : IsNoDevice Memory
 memory_no_device = (λ same. cc, λ same. cc)
@@ -71,20 +80,16 @@ cell_no_device f = cell_is_told IsNoDevice memory_no_device f (λ known. (λ sam
 pub schedule_no_device : (f : ScheduleFault) → IsNoDevice (told_schedule f)
 schedule_no_device f = schedule_is_told IsNoDevice memory_no_device f (λ known. (λ same. cc, λ same. cc))
 
--- what the reading of a test tells is told by its replay
-pub by_test : (A : Type 0) (bytes words : List ℕ) (f : BenchFault) → TellsTest A bytes f → TellsReplay A bytes words f
-by_test A bytes words (Text f) told = told
-by_test A bytes words (Cell f) told = told
-by_test A bytes words (Schedule f) told = absurd told
-by_test A bytes words Memory told = tt
-by_test A bytes words Read told = tt
-by_test A bytes words Write told = tt
-
-pub memory_told : (A : Type 0) (bytes words : List ℕ) (f : BenchFault) → f ≡ Memory → TellsReplay A bytes words f
-memory_told A bytes words f is = rw is tt
+pub limit_no_device : (f : ListFault) → IsNoDevice (told_limit f)
+limit_no_device f = limit_is_told IsNoDevice memory_no_device f (λ known. (λ same. cc, λ same. cc))
 
 pub memory_is_no_device : (f : BenchFault) → f ≡ Memory → IsNoDevice f
 memory_is_no_device f is = rw is memory_no_device
+
+-- memory that ran out, or what is told of a test that was read
+pub told_of_test : (A : Type 0) (Tells : LitmusTest → BenchFault → Type 0) (bytes : List ℕ) (test : LitmusTest) (f : BenchFault) → HasTest bytes test → (f ≡ Memory) ⊎ Tells test f → TellsRun A Tells bytes f
+told_of_test A Tells bytes test f has (inl is) = rw is (inl tt)
+told_of_test A Tells bytes test f has (inr told) = inr (test, has, told)
 
 -- Bytes that came in: the whole input, or more than a test has.
 module _ (A : Type 0) (input bytes : List ℕ) (is : (rest : List ℕ) × (input ≡ bytes ++ rest) × ((rest ≡ []) ⊎ (length bytes ≡ 65537))) where
@@ -113,27 +118,25 @@ module _ (A : Type 0) (input bytes : List ℕ) (is : (rest : List ℕ) × (input
   pub cell_in_whole : (f : CellFault) → TellsCell A bytes f → TellsCell A input f
   cell_in_whole f told = subst (λ t. TellsCell A t f) (whole input bytes is told.has_frame.short) told
 
-  pub schedule_in_whole : (words : List ℕ) (f : ScheduleFault) → TellsSchedule bytes words f → TellsSchedule input words f
-  schedule_in_whole words f told = subst (λ t. TellsSchedule t words f) (whole input bytes is told.has_test.has_frame.short) told
+  -- what the reading of a test tells
+  pub test_in_whole : (f : BenchFault) → TellsTest A bytes f → TellsTest A input f
+  test_in_whole (Text f) told = text_in_whole f told
+  test_in_whole (Cell f) told = cell_in_whole f told
+  test_in_whole (Schedule f) told = told
+  test_in_whole (Limit f) told = told
+  test_in_whole Memory told = tt
+  test_in_whole Read told = tt
+  test_in_whole Write told = tt
+
+  -- what a run tells
+  pub run_in_whole : (Tells : LitmusTest → BenchFault → Type 0) (f : BenchFault) → TellsRun A Tells bytes f → TellsRun A Tells input f
+  run_in_whole Tells f (inl told) = inl (test_in_whole f told)
+  run_in_whole Tells f (inr (test, has, told)) = inr (test, in_whole input bytes is test has, told)
 
 -- What is told of the input.
-pub told_of_input : (A : Type 0) (known : Option (List ℕ)) (bytes words : List ℕ) (f : BenchFault) → IsInput known bytes → TellsReplay A bytes words f → TellsInput A known words f
-told_of_input A None bytes words f is told = tt
-told_of_input A (Some input) bytes words (Text f) is told = text_in_whole A input bytes is f told
-told_of_input A (Some input) bytes words (Cell f) is told = cell_in_whole A input bytes is f told
-told_of_input A (Some input) bytes words (Schedule f) is told = schedule_in_whole A input bytes is words f told
-told_of_input A (Some input) bytes words Memory is told = tt
-told_of_input A (Some input) bytes words Read is told = tt
-told_of_input A (Some input) bytes words Write is told = tt
-
-pub told_of_test_input : (A : Type 0) (known : Option (List ℕ)) (bytes : List ℕ) (f : BenchFault) → IsInput known bytes → TellsTest A bytes f → TellsTestInput A known f
-told_of_test_input A None bytes f is told = tt
-told_of_test_input A (Some input) bytes (Text f) is told = text_in_whole A input bytes is f told
-told_of_test_input A (Some input) bytes (Cell f) is told = cell_in_whole A input bytes is f told
-told_of_test_input A (Some input) bytes (Schedule f) is told = told
-told_of_test_input A (Some input) bytes Memory is told = tt
-told_of_test_input A (Some input) bytes Read is told = tt
-told_of_test_input A (Some input) bytes Write is told = tt
+pub told_of_input : (A : Type 0) (Tells : LitmusTest → BenchFault → Type 0) (known : Option (List ℕ)) (bytes : List ℕ) (f : BenchFault) → IsInput known bytes → TellsRun A Tells bytes f → TellsInput A Tells known f
+told_of_input A Tells None bytes f is told = tt
+told_of_input A Tells (Some input) bytes f is told = run_in_whole A input bytes is Tells f told
 
 pub some_told : (Tells : List ℕ → BenchFault → Type 0) (known : Option (List ℕ)) (f : BenchFault) → ((bytes : List ℕ) → Tells bytes f) → IfSome known (λ bytes. Tells bytes f)
 some_told Tells None f told = tt

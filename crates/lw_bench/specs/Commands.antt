@@ -4,7 +4,7 @@ use Rattle.lw_base.specs.Types.{Bytes}
 use Rattle.lw_mesi.specs.declared.protocol.Protocol.{Protocol}
 use Rattle.lw_mesi.specs.declared.protocol.Protocol.TheVariants.{Mesi, Moesi}
 use Rattle.lw_bench.specs.declared.command.Task.{Task}
-use Rattle.lw_bench.specs.declared.command.Task.TheVariants.{Compile, Replay}
+use Rattle.lw_bench.specs.declared.command.Task.TheVariants.{States, Compile, Schedules, Replay}
 
 abbrev pub protocol_word : Protocol → Bytes
 protocol_word Mesi = codes "mesi"
@@ -15,8 +15,10 @@ abbrev pub IsProtocolOption : List Bytes → Protocol → Type 0
 IsProtocolOption words protocol =
     (words ≡ codes "--protocol" ∷ protocol_word protocol ∷ []) ⊎ ((words ≡ []) × (protocol ≡ Mesi))
 
--- `compile`, or `replay`, a schedule, and perhaps the option
+-- `states`, `compile` or `schedules`; or `replay`, a schedule, and perhaps the option
 abbrev pub IsCommand : List Bytes → Task → Type 0
+IsCommand words States = words ≡ codes "states" ∷ []
 IsCommand words Compile = words ≡ codes "compile" ∷ []
+IsCommand words Schedules = words ≡ codes "schedules" ∷ []
 IsCommand words (Replay schedule protocol) =
     (option : List Bytes) × (words ≡ codes "replay" ∷ schedule.now ∷ option) × IsProtocolOption option protocol

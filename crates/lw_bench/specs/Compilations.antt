@@ -1,7 +1,5 @@
--- What the compilation of a test's bytes is.
-use Rattle.std.specs.Prelude.{◌≡◌, ◌↔◌, ℕ, Option, List}
-use Rattle.std.specs.Option.{IfSome}
-use Rattle.std.specs.Io.KnownBytes.{Appends}
+-- What the compilation of a test is.
+use Rattle.std.specs.Prelude.{◌≡◌, ◌↔◌, ℕ, List}
 use Rattle.lw_base.specs.Outcomes.{Final}
 use Rattle.lw_base.specs.Types.{Bytes}
 use Rattle.lw_fence.specs.Compiling.{IsCompiled}
@@ -10,7 +8,7 @@ use Rattle.lw_source.specs.Runs.{SourceOutcome}
 use Rattle.lw_source.specs.Sources.{SourceTest}
 use Rattle.lw_x86.specs.CanonicalTexts.{canonical_text}
 use Rattle.lw_x86.specs.Programs.{ProgramTest}
-use Rattle.lw_bench.specs.LitmusTests.{LitmusTest, Of_source, Of_x86, HasTest}
+use Rattle.lw_bench.specs.LitmusTests.{LitmusTest, Of_source, Of_x86}
 use Rattle.lw_finals.specs.Machines.{OutcomeOverCaches}
 
 -- The canonical text of a source test's compiled program, which reaches on the whole machine, over all steps, drains and
@@ -26,14 +24,3 @@ pub record IsCompiledText (test : SourceTest) (text : Bytes) : Type 0 where
 abbrev pub IsCompilation : LitmusTest → Bytes → Type 0
 IsCompilation (Of_source test) text = IsCompiledText test text
 IsCompilation (Of_x86 test) text = text ≡ canonical_text test
-
--- The text is a test, and this is its compilation.
-pub record Compiles (text compiled : Bytes) : Type 0 where
-  pub test : LitmusTest
-  pub has_test : HasTest text test
-  pub is : IsCompilation test compiled
-
--- Where the bytes that come in and the bytes of the writer are known: the compilation of the test was written.
-abbrev pub WritesCompilation : Option Bytes → Option Bytes → Option Bytes → Type 0
-WritesCompilation known before after =
-    IfSome known (λ text. (compiled : Bytes) × Compiles text compiled × Appends before after compiled)

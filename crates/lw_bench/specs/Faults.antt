@@ -15,8 +15,11 @@ use Rattle.lw_text.specs.Causes.{text_cause_number, text_cause_name}
 use Rattle.lw_text.specs.declared.fault.TextCause.{TextCause}
 use Rattle.lw_text.specs.declared.fault.TextCause.TheVariants as text
 use Rattle.lw_text.specs.declared.fault.TextFault.{TextFault}
+use Rattle.lw_finals.specs.Faults.{list_fault_number, list_fault_name}
+use Rattle.lw_finals.specs.declared.fault.ListFault.{ListFault}
+use Rattle.lw_finals.specs.declared.fault.ListFault.TheVariants as list
 use Rattle.lw_bench.specs.declared.fault.BenchFault.{BenchFault}
-use Rattle.lw_bench.specs.declared.fault.BenchFault.TheVariants.{Text, Cell, Schedule, Memory, Read, Write}
+use Rattle.lw_bench.specs.declared.fault.BenchFault.TheVariants.{Text, Cell, Schedule, Limit, Memory, Read, Write}
 
 -- where memory ran out that is told
 abbrev pub text_fault : TextFault → TextCause → BenchFault
@@ -40,6 +43,11 @@ schedule_fault f _ = Schedule f
 abbrev pub told_schedule : ScheduleFault → BenchFault
 told_schedule f = schedule_fault f f.cause
 
+abbrev pub told_limit : ListFault → BenchFault
+told_limit list.Memory = Memory
+told_limit list.TooManyItems = Limit list.TooManyItems
+told_limit list.TooManyOrders = Limit list.TooManyOrders
+
 -- the kind of the fault, its number and name, and its place
 abbrev pub placed_text : Bytes → ℕ → Bytes → ℕ → Bytes
 placed_text kind number name place =
@@ -50,15 +58,17 @@ abbrev pub fault_text : BenchFault → Bytes
 fault_text (Text f) = placed_text (codes "text") (text_cause_number f.cause) (text_cause_name f.cause) f.at
 fault_text (Cell f) = placed_text (codes "cell") (cell_cause_number f.cause) (cell_cause_name f.cause) f.at
 fault_text (Schedule f) = placed_text (codes "schedule") (schedule_cause_number f.cause) (schedule_cause_name f.cause) f.at
+fault_text (Limit f) = codes "lw: limit " ++ (decimal (list_fault_number f) ++ (codes " " ++ list_fault_name f))
 fault_text Memory = codes "lw: memory"
 fault_text Read = codes "lw: read failed"
 fault_text Write = codes "lw: write failed"
 
--- 1: what was given is refused. 4: memory or a device
+-- 1: what was given is refused. 3: it passes a limit. 4: memory or a device
 abbrev pub status : BenchFault → ℕ
 status (Text f) = 1
 status (Cell f) = 1
 status (Schedule f) = 1
+status (Limit f) = 3
 status Memory = 4
 status Read = 4
 status Write = 4

@@ -2,6 +2,8 @@ pub mod Faults
 pub mod Devices
 pub mod LitmusTests
 pub mod Compilations
+pub mod Lists
+pub mod Outputs
 pub mod Pages
 pub mod Replays
 pub mod Told

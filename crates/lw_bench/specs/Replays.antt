@@ -1,7 +1,5 @@
--- What a replay of a test's bytes is.
-use Rattle.std.specs.Prelude.{◌≡◌, ℕ, Option, List}
-use Rattle.std.specs.Option.{IfSome}
-use Rattle.std.specs.Io.KnownBytes.{Appends}
+-- What a replay of a test is.
+use Rattle.std.specs.Prelude.{◌≡◌, ℕ, List}
 use Rattle.lw_base.specs.Types.{Bytes}
 use Rattle.lw_base.specs.declared.event.Event.{Event}
 use Rattle.lw_base.specs.declared.stop.End.{End}
@@ -16,7 +14,7 @@ use Rattle.lw_source.specs.Sources.{SourceTest}
 use Rattle.lw_tso.specs.Machines.{MachineState}
 use Rattle.lw_tso.specs.Runs.{machine_start, MachineReplayed}
 use Rattle.lw_x86.specs.Programs.{ProgramTest}
-use Rattle.lw_bench.specs.LitmusTests.{LitmusTest, Of_source, Of_x86, head_of_test, HasTest}
+use Rattle.lw_bench.specs.LitmusTests.{LitmusTest, Of_source, Of_x86, head_of_test}
 use Rattle.lw_finals.specs.Machines.{caches_at_start}
 use Rattle.lw_bench.specs.Pages.{source_page, machine_page}
 
@@ -52,14 +50,3 @@ pub record IsReplayPage (protocol : Protocol) (test : LitmusTest) (schedule page
   pub events : List Event
   pub is_schedule : IsSchedule (head_of_test test).locs schedule events
   pub tells : EventsTell protocol test events page end
-
--- The text is a test, and the replay of it by the schedule tells this page.
-pub record Replays (protocol : Protocol) (text schedule page : Bytes) (end : End) : Type 0 where
-  pub test : LitmusTest
-  pub has_test : HasTest text test
-  pub tells : IsReplayPage protocol test schedule page end
-
--- Where the bytes that come in and the bytes of the writer are known: the page of the replay was written.
-abbrev pub WritesPage : Protocol → Option Bytes → Bytes → Option Bytes → Option Bytes → End → Type 0
-WritesPage protocol known schedule before after end =
-    IfSome known (λ text. (page : Bytes) × Replays protocol text schedule page end × Appends before after page)

@@ -1,6 +1,6 @@
--- What a refused run tells of its text, of a cell and of its schedule.
+-- What a refused run tells of its text, of a cell, and of its test.
 -- Out of memory is told as Memory and as nothing else.
-use Rattle.std.specs.Prelude.{◌≡◌, ◌≢◌, ◌<◌, ◌≤◌, Option, List, length}
+use Rattle.std.specs.Prelude.{◌≡◌, ◌≢◌, ◌⊎◌, ◌<◌, ◌≤◌, Option, List, length}
 use Rattle.std.specs.Option.{IfSome}
 use Rattle.std.specs.Str.{IsUtf8, IsValidUpTo}
 use Rattle.std.specs.Str.Lossy.{utf8_valid_len}
@@ -22,9 +22,13 @@ use Rattle.lw_text.specs.Views.{frame_of, LiesIn}
 use Rattle.lw_cells.specs.Faults.{Tells}
 use Rattle.lw_source.specs.Sources.{source}
 use Rattle.lw_x86.specs.Programs.{x86}
+use Rattle.lw_finals.specs.Counts.{TellsLimit}
+use Rattle.lw_finals.specs.SourceItems.{source_language}
+use Rattle.lw_finals.specs.declared.fault.ListFault.{ListFault}
+use Rattle.lw_finals.specs.declared.fault.ListFault.TheVariants as list
 use Rattle.lw_bench.specs.declared.fault.BenchFault.{BenchFault}
-use Rattle.lw_bench.specs.declared.fault.BenchFault.TheVariants.{Text, Cell, Schedule, Memory, Read, Write}
-use Rattle.lw_bench.specs.LitmusTests.{LitmusTest, head_of_test, FrameSays, HasTest}
+use Rattle.lw_bench.specs.declared.fault.BenchFault.TheVariants.{Text, Cell, Schedule, Limit, Memory, Read, Write}
+use Rattle.lw_bench.specs.LitmusTests.{LitmusTest, Of_source, Of_x86, head_of_test, FrameSays, HasTest}
 
 -- The text has no frame, and what its length and its UTF-8 say of the fault is so.
 pub record TellsText (bytes : Bytes) (f : TextFault) : Type 0 where
@@ -53,39 +57,49 @@ pub record TellsCell (A : Type 0) (bytes : Bytes) (f : CellFault) : Type 0 where
   pub cause : TellsIn frame.head.arch frame.head.locs frame.cells f
   pub in_memory : f.cause ≢ cell.Memory
 
--- The text is a test, none of whose schedules this is: its first faulty word stands at the place, for this cause.
-pub record TellsSchedule (bytes schedule : Bytes) (f : ScheduleFault) : Type 0 where
-  pub test : LitmusTest
-  pub has_test : HasTest bytes test
-  pub none : (events : List Event) → IsSchedule (head_of_test test).locs schedule events → ⊥
-  pub first : IsFirstFault (head_of_test test).locs schedule f.at f.cause
-
 -- not a device's failure
 abbrev pub IsNoDevice : BenchFault → Type 0
 IsNoDevice f = (f ≢ Read) × (f ≢ Write)
 
--- what a run tells that reads a test: no fault of a schedule
+-- what the reading of a test tells
 abbrev pub TellsTest : Type 0 → Bytes → BenchFault → Type 0
 TellsTest A bytes (Text f) = TellsText bytes f
 TellsTest A bytes (Cell f) = TellsCell A bytes f
 TellsTest A bytes (Schedule f) = ⊥
+TellsTest A bytes (Limit f) = ⊥
 TellsTest A bytes Memory = Unit {0}
 TellsTest A bytes Read = Unit {0}
 TellsTest A bytes Write = Unit {0}
 
--- what a run tells that reads a schedule too
-abbrev pub TellsReplay : Type 0 → Bytes → Bytes → BenchFault → Type 0
-TellsReplay A bytes schedule (Text f) = TellsText bytes f
-TellsReplay A bytes schedule (Cell f) = TellsCell A bytes f
-TellsReplay A bytes schedule (Schedule f) = TellsSchedule bytes schedule f
-TellsReplay A bytes schedule Memory = Unit {0}
-TellsReplay A bytes schedule Read = Unit {0}
-TellsReplay A bytes schedule Write = Unit {0}
+-- What a run tells that is refused: what the reading of a test tells, or what is told of the test that was read.
+abbrev pub TellsRun : Type 0 → (LitmusTest → BenchFault → Type 0) → Bytes → BenchFault → Type 0
+TellsRun A Tells bytes f = TellsTest A bytes f ⊎ ((test : LitmusTest) × HasTest bytes test × Tells test f)
 
 -- the same of the bytes of a reader, where they are known
-abbrev pub TellsInput : Type 0 → Option Bytes → Bytes → BenchFault → Type 0
-TellsInput A known schedule fault = IfSome known (λ bytes. TellsReplay A bytes schedule fault)
+abbrev pub TellsInput : Type 0 → (LitmusTest → BenchFault → Type 0) → Option Bytes → BenchFault → Type 0
+TellsInput A Tells known f = IfSome known (λ bytes. TellsRun A Tells bytes f)
 
--- the same of a run that reads no schedule
-abbrev pub TellsTestInput : Type 0 → Option Bytes → BenchFault → Type 0
-TellsTestInput A known fault = IfSome known (λ bytes. TellsTest A bytes fault)
+-- ---- what is told of a test that was read
+
+-- nothing
+abbrev pub TellsNothing : LitmusTest → BenchFault → Type 0
+TellsNothing test f = ⊥
+
+-- Its schedules are others: the first faulty word of this one stands at the place, for this cause.
+pub record TellsSchedule (schedule : Bytes) (test : LitmusTest) (f : ScheduleFault) : Type 0 where
+  pub none : (events : List Event) → IsSchedule (head_of_test test).locs schedule events → ⊥
+  pub first : IsFirstFault (head_of_test test).locs schedule f.at f.cause
+
+abbrev pub TellsReplay : Bytes → LitmusTest → BenchFault → Type 0
+TellsReplay schedule test (Schedule f) = TellsSchedule schedule test f
+TellsReplay schedule test (Text f) = ⊥
+TellsReplay schedule test (Cell f) = ⊥
+TellsReplay schedule test (Limit f) = ⊥
+TellsReplay schedule test Memory = ⊥
+TellsReplay schedule test Read = ⊥
+TellsReplay schedule test Write = ⊥
+
+-- No list: of an x86 test there is none yet; of a source test, which limit it passes.
+abbrev pub TellsNoList : LitmusTest → BenchFault → Type 0
+TellsNoList (Of_source test) f = (limit : ListFault) × (f ≡ Limit limit) × (limit ≢ list.Memory) × TellsLimit source_language test.threads limit
+TellsNoList (Of_x86 test) f = f ≡ Text (record { at = 0; cause = text.Unexpected })

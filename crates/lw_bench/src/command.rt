@@ -1,5 +1,5 @@
 //! The words of a command.
-ghost use Rattle.std.specs.Prelude.{◌≡◌, ◌∷◌, MatchOption, codes, map};
+ghost use Rattle.std.specs.Prelude.{◌≡◌, [], ◌∷◌, MatchOption, codes, map};
 ghost use Rattle.lw_base.specs.Refusals.{NoSuch};
 ghost use Rattle.lw_bench.specs.declared.command.Task.{Task};
 ghost use Rattle.lw_bench.specs.Commands.{IsCommand, IsProtocolOption, protocol_word};
@@ -9,14 +9,18 @@ use lw_mesi::Protocol;
 /// What is to be done.
 #[derive(Clone, Copy, Debug, PartialEq, Eq)]
 pub enum Task<'a> {
+    /// Write the report of the test that is read: its final states and the verdict on its condition.
+    States,
     /// Write the canonical text of the test that is read, a source test compiled to x86.
     Compile,
+    /// Write the list of the test's final states, each with a schedule.
+    Schedules,
     /// Run the test that is read by this schedule, an x86 test over caches that keep this protocol, and print the state
     /// that it leads to.
     Replay(&'a str, Protocol),
 }
 
-/// The task that the words after the program's name give: `compile`; or `replay` and a schedule, which may be empty, and
+/// The task that the words after the program's name give: `states`, `compile` or `schedules`; or `replay` and a schedule, which may be empty, and
 /// then nothing or `--protocol` and `mesi` or `moesi`. Without the option the protocol is MESI. `None` for all other words.
 /// It takes no memory.
 pub fn command_of<'a>(words: &[&'a str]) -> Option<Task<'a>>
@@ -28,22 +32,22 @@ pub fn command_of<'a>(words: &[&'a str]) -> Option<Task<'a>>
         return None;
     };
     match *command {
-        "compile" => compile_command(others),
+        "states" => alone(others, Task::States),
+        "compile" => alone(others, Task::Compile),
+        "schedules" => alone(others, Task::Schedules),
         "replay" => replay_command(others),
         _ => None,
     }
 }
 
-/// The task that the words behind `compile` give, if there are none.
-fn compile_command<'a>(others: &[&'a str]) -> Option<Task<'a>>
-    ensures { MatchOption result
-        (NoSuch (IsCommand (codes "compile" ∷ map (λ w. w.now) others.now)))
-        (IsCommand (codes "compile" ∷ map (λ w. w.now) others.now)) }
+/// A task that has no words behind its first, if there are none.
+fn alone<'a>(others: &[&'a str], task: Task<'a>) -> Option<Task<'a>>
+    ensures { MatchOption result (others.now ≡ [] → ⊥) (λ given. (others.now ≡ []) × (given ≡ task.entry)) }
 {
     if !others.is_empty() {
         return None;
     }
-    Some(Task::Compile)
+    Some(task)
 }
 
 /// The task that the words behind `replay` give.

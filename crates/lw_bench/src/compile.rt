@@ -2,14 +2,14 @@
 ghost use Rattle.std.specs.Prelude.{◌≡◌, ◌≢◌, ◌↔◌, true, false, Err, IfOk, IfErr, OnOk};
 ghost use Rattle.lw_source.specs.Views.{source_of};
 ghost use Rattle.lw_bench.specs.LitmusTests.{litmus_test_of};
-ghost use Rattle.lw_bench.specs.Compilations.{IsCompiledText, IsCompilation, Compiles, WritesCompilation};
-ghost use Rattle.lw_bench.specs.Told.{TellsTest, TellsTestInput, IsNoDevice};
+ghost use Rattle.lw_bench.specs.Compilations.{IsCompiledText, IsCompilation};
+ghost use Rattle.lw_bench.specs.Outputs.{Writes};
+ghost use Rattle.lw_bench.specs.Told.{TellsInput, TellsNothing};
 
-use crate::device::{ByteReader, ByteWriter, Failed};
+use crate::device::{ByteReader, ByteWriter};
 use crate::fault::BenchFault;
-use crate::input::read_input;
-use crate::litmus_test::{LitmusTest, read_test};
-use crate::output::write_output;
+use crate::litmus_test::LitmusTest;
+use crate::run::{Output, run_text};
 use lw_base::Text;
 use lw_fence::compile;
 use lw_finals::outcomes_over_caches_are_flat;
@@ -41,16 +41,19 @@ fn compilation_of<A: Allocator + Copy>(
     }
 }
 
-/// The text of the compilation of the test that the bytes are.
-fn compilation_of_text<A: Allocator + Copy>(alloc: A, text: &[u8]) -> Result<Text<A>, BenchFault>
-    ensures found { IfOk result (Compiles text.now) }
-    ensures told { IfErr result (TellsTest A text.now) }
-    ensures device { IfErr result IsNoDevice }
-{
-    let test = read_test(alloc, text)?;
-    let compiled = compilation_of(alloc, &test);
-    drop(test);
-    Ok(compiled?)
+/// The compilation of a test.
+struct Compilation;
+
+impl<A: Allocator + Copy> Output<A> for Compilation {
+    type Answer = ();
+
+    ghost is_made = { λ _ test made _. IsCompilation test made };
+
+    ghost tells = { λ _. TellsNothing };
+
+    fn make(&self, alloc: A, test: &LitmusTest<A>) -> Result<(Text<A>, ()), BenchFault> {
+        Ok((compilation_of(alloc, test)?, ()))
+    }
 }
 
 /// Compiles the test that the reader gives, and writes the text of its compilation: of a source test the canonical text
@@ -69,18 +72,13 @@ pub fn compile_text<R: ByteReader, W: ByteWriter, A: Allocator + Copy>(
     requires writer { W.failed writer.old ≡ false }
     // Where it answers, the compilation of the test has been written, and nothing else.
     ensures written { OnOk result
-        (WritesCompilation (R.remaining reader.old) (W.contents writer.old) (W.contents writer.new)) }
+        (Writes IsCompilation (R.remaining reader.old) (W.contents writer.old) (W.contents writer.new)) }
     // What a fault tells is so: of the text, or of a cell. Nothing else is told of them.
-    ensures told { IfErr result (TellsTestInput A (R.remaining reader.old)) }
+    ensures told { IfErr result (TellsInput A TellsNothing (R.remaining reader.old)) }
     // The devices' faults are told exactly where they failed, and else the writer is left alone.
     ensures read { result ≡ Err BenchFault.Read ↔ R.failed reader.new ≡ true }
     ensures write { result ≡ Err BenchFault.Write ↔ W.failed writer.new ≡ true }
     ensures untouched { IfErr result (λ f. f ≢ BenchFault.Write → writer.new ≡ writer.old) }
 {
-    let text = read_input(alloc, reader)?;
-    let compiled = compilation_of_text(alloc, text.as_slice())?;
-    match write_output(writer, compiled.as_str().as_bytes()) {
-        Ok(()) => Ok(()),
-        Err(Failed) => Err(BenchFault::Write),
-    }
+    run_text(alloc, &Compilation, reader, writer)
 }

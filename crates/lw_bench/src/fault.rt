@@ -3,9 +3,10 @@ ghost use Rattle.std.specs.Prelude.{◌≡◌, IfOk};
 ghost use Rattle.std.specs.String.{string_bytes};
 ghost use Rattle.lw_bench.specs.declared.fault.BenchFault.TheVariants as bench;
 ghost use Rattle.lw_bench.specs.Faults as faults;
-ghost use Rattle.lw_bench.specs.Faults.{told_text, told_cell, told_schedule, placed_text, fault_text, usage_text};
+ghost use Rattle.lw_bench.specs.Faults.{told_text, told_cell, told_schedule, told_limit, placed_text, fault_text, usage_text};
 
 use lw_base::{CellCause, CellFault, End, ScheduleCause, ScheduleFault};
+use lw_finals::ListFault;
 use lw_text::{TextCause, TextFault};
 use std::alloc::{AllocError, AllocFailed, Allocator};
 
@@ -18,6 +19,8 @@ pub enum BenchFault {
     Cell(CellFault),
     /// The schedule is none for the test.
     Schedule(ScheduleFault),
+    /// The test passes a limit of lists.
+    Limit(ListFault),
     /// There was no memory.
     Memory,
     /// The reader failed.
@@ -75,6 +78,17 @@ impl From<ScheduleFault> for BenchFault {
     }
 }
 
+impl From<ListFault> for BenchFault {
+    ghost from_gives = { λ e f. f ≡ told_limit e };
+
+    fn from(fault: ListFault) -> BenchFault {
+        if fault == ListFault::Memory {
+            return BenchFault::Memory;
+        }
+        BenchFault::Limit(fault)
+    }
+}
+
 /// The line that tells of a fault, without a line end.
 pub fn fault_line<A: Allocator + Copy>(
     alloc: A,
@@ -95,6 +109,9 @@ pub fn fault_line<A: Allocator + Copy>(
             let cause = schedule.cause;
             placed_line(alloc, "schedule", cause.number(), cause.name(), schedule.at)
         }
+        BenchFault::Limit(limit) => {
+            format!(in alloc; "lw: limit {} {}", limit.number(), limit.name())
+        }
         BenchFault::Memory => String::from_str(alloc, memory_line()),
         BenchFault::Read => String::from_str(alloc, "lw: read failed"),
         BenchFault::Write => String::from_str(alloc, "lw: write failed"),
@@ -114,13 +131,14 @@ fn placed_line<A: Allocator>(
     format!(in alloc; "lw: {} {} {} at {}", kind, number, name, place)
 }
 
-/// The exit status that tells of a fault: 1 where the text, a cell or the schedule is refused, and 4
-/// for memory and devices.
+/// The exit status that tells of a fault: 1 where the text, a cell or the schedule is refused, 3 where a limit is passed, and
+/// 4 for memory and devices.
 pub fn status_of(fault: &BenchFault) -> u8
     ensures { result ≡ faults.status fault.now }
 {
     match fault {
         BenchFault::Text(_) | BenchFault::Cell(_) | BenchFault::Schedule(_) => 1,
+        BenchFault::Limit(_) => 3,
         BenchFault::Memory | BenchFault::Read | BenchFault::Write => 4,
     }
 }

@@ -11,10 +11,12 @@ mod compile;
 mod device;
 mod fault;
 mod input;
+mod lists;
 mod litmus_test;
 mod output;
 mod page;
 mod replay;
+mod run;
 
 pub use command::{Task, command_of};
 pub use compile::compile_text;
@@ -23,6 +25,7 @@ pub use fault::{
     BenchFault, done_status, end_status, fault_line, memory_line, status_of, usage_line,
     usage_status,
 };
+pub use lists::{schedules_text, states};
 pub use litmus_test::a_text_has_one_test;
 pub use lw_base::End;
 pub use lw_mesi::Protocol;

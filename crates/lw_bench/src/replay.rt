@@ -1,23 +1,22 @@
 //! The replay of a test by a schedule, from the bytes that come in to the bytes that go out.
 //! Frames, tests and runs are dropped by calls of `drop`, which is proved once for each type: what goes at
 //! the end of a scope is proved there anew.
-ghost use Rattle.std.specs.Prelude.{◌≡◌, ◌≢◌, ◌≤◌, ◌↔◌, true, false, length, Err, IfOk, IfErr};
+ghost use Rattle.std.specs.Prelude.{◌≡◌, ◌≢◌, ◌⊎◌, ◌≤◌, ◌↔◌, true, false, length, Err, IfOk, IfErr};
 ghost use Rattle.std.specs.String.{string_bytes};
-ghost use Rattle.lw_base.specs.Types.{Bytes};
 ghost use Rattle.lw_memory.specs.Memory.{memory_of};
 ghost use Rattle.lw_source.specs.Views.{source_of};
 ghost use Rattle.lw_x86.specs.Views.{program_of};
-ghost use Rattle.lw_bench.specs.LitmusTests.{HasTest, litmus_test_of};
-ghost use Rattle.lw_bench.specs.Replays.{SourcePage, MachinePage, CachesPage, IsReplayPage, Replays, WritesPage};
+ghost use Rattle.lw_bench.specs.LitmusTests.{litmus_test_of};
+ghost use Rattle.lw_bench.specs.Outputs.{Writes};
+ghost use Rattle.lw_bench.specs.Replays.{SourcePage, MachinePage, CachesPage, IsReplayPage};
 ghost use Rattle.lw_bench.specs.Told.{TellsReplay, TellsInput, IsNoDevice};
 
-use crate::device::{ByteReader, ByteWriter, Failed};
+use crate::device::{ByteReader, ByteWriter};
 use crate::fault::BenchFault;
-use crate::input::read_input;
-use crate::litmus_test::{LitmusTest, read_test};
-use crate::output::write_output;
+use crate::litmus_test::LitmusTest;
 use crate::page::{machine_page, source_page};
-use lw_base::{End, Event, read_schedule};
+use crate::run::{Output, run_text};
+use lw_base::{End, Event, Text, read_schedule};
 use lw_memory::MemorySystem;
 use lw_mesi::{ByMesi, ByMoesi, KeptProtocol, Protocol, SnoopingCaches, empty_caches_are_kept};
 use lw_source::{Source, SourceRun};
@@ -87,8 +86,7 @@ fn page_of<A: Allocator + Copy>(
     protocol: Protocol,
 ) -> Result<(String<A>, End), BenchFault>
     ensures found { IfOk result (λ x. IsReplayPage protocol (litmus_test_of test.now) schedule.now (string_bytes x.0) x.1) }
-    ensures told { (text : Bytes) → HasTest text (litmus_test_of test.now)
-        → IfErr result (TellsReplay A text schedule.now) }
+    ensures told { IfErr result (λ f. (f ≡ BenchFault.Memory) ⊎ TellsReplay schedule.now (litmus_test_of test.now) f) }
     ensures device { IfErr result IsNoDevice }
 {
     let head = test.head();
@@ -103,21 +101,24 @@ fn page_of<A: Allocator + Copy>(
     }
 }
 
-/// The page that tells of the replay by a schedule of the test that the bytes are, and how it ended.
-fn page_of_text<A: Allocator + Copy>(
-    alloc: A,
-    text: &[u8],
-    schedule: &str,
+/// The replay of a test by a schedule.
+#[derive(Clone, Copy)]
+struct Replaying<'a> {
+    schedule: &'a str,
     protocol: Protocol,
-) -> Result<(String<A>, End), BenchFault>
-    ensures found { IfOk result (λ x. Replays protocol text.now schedule.now (string_bytes x.0) x.1) }
-    ensures told { IfErr result (TellsReplay A text.now schedule.now) }
-    ensures device { IfErr result IsNoDevice }
-{
-    let test = read_test(alloc, text)?;
-    let told = page_of(alloc, &test, schedule, protocol);
-    drop(test);
-    told
+}
+
+impl<'a, A: Allocator + Copy> Output<A> for Replaying<'a> {
+    type Answer = End;
+
+    ghost is_made = { λ r test page end. IsReplayPage r.protocol test r.schedule.now page end };
+
+    ghost tells = { λ r. TellsReplay r.schedule.now };
+
+    fn make(&self, alloc: A, test: &LitmusTest<A>) -> Result<(Text<A>, End), BenchFault> {
+        let (page, end) = page_of(alloc, test, self.schedule, self.protocol)?;
+        Ok((Text::from(page), end))
+    }
 }
 
 /// Replays the test that the reader gives by a schedule, and writes the page that tells of it. An x86 test runs on
@@ -137,19 +138,14 @@ pub fn replay_text<R: ByteReader, W: ByteWriter, A: Allocator + Copy>(
     requires reader { R.failed reader.old ≡ false }
     requires writer { W.failed writer.old ≡ false }
     // Where it answers, the page of the replay has been written, and nothing else.
-    ensures written { IfOk result
-        (WritesPage protocol (R.remaining reader.old) schedule.now (W.contents writer.old) (W.contents writer.new)) }
+    ensures written { IfOk result (λ end. Writes (λ test page. IsReplayPage protocol test schedule.now page end)
+        (R.remaining reader.old) (W.contents writer.old) (W.contents writer.new)) }
     // What a fault tells is so: of the text, of a cell, of the schedule. Nothing else is told of them.
-    ensures told { IfErr result (TellsInput A (R.remaining reader.old) schedule.now) }
+    ensures told { IfErr result (TellsInput A (TellsReplay schedule.now) (R.remaining reader.old)) }
     // The devices' faults are told exactly where they failed, and else the writer is left alone.
     ensures read { result ≡ Err BenchFault.Read ↔ R.failed reader.new ≡ true }
     ensures write { result ≡ Err BenchFault.Write ↔ W.failed writer.new ≡ true }
     ensures untouched { IfErr result (λ f. f ≢ BenchFault.Write → writer.new ≡ writer.old) }
 {
-    let text = read_input(alloc, reader)?;
-    let (page, end) = page_of_text(alloc, text.as_slice(), schedule, protocol)?;
-    match write_output(writer, page.as_bytes()) {
-        Ok(()) => Ok(end),
-        Err(Failed) => Err(BenchFault::Write),
-    }
+    run_text(alloc, &Replaying { schedule, protocol }, reader, writer)
 }

@@ -1,4 +1,4 @@
-use Rattle.std.proofs.Common.{ap, refl, subst}
+use Rattle.std.proofs.Common.{◌≡◌, ◌⊎◌, inl, inr, ap, refl, subst}
 use Rattle.std.proofs.lemmas.Result.{IfOk-weaker}
 use Rattle.std.specs.String.{string_bytes}
 use Rattle.lw_base.proofs.Returns.{passed_on}
@@ -10,20 +10,19 @@ use Rattle.lw_x86.specs.Views.{program_of}
 use Rattle.lw_bench.specs.LitmusTests.{Of_source, Of_x86, litmus_test_of}
 use Rattle.lw_bench.specs.Replays.{EventsTell, IsReplayPage}
 use Rattle.lw_bench.specs.Told.{TellsReplay}
+use Rattle.lw_bench.specs.declared.fault.BenchFault.TheVariants.{Memory}
 use Rattle.lw_bench.proofs.Replays.{page_told}
 use Rattle.lw_bench.proofs.Told.{schedule_is_told}
 use Rattle.lw_bench.proofs.replay.page_of.Goals as goal
 
 pub returns-in_err-events-clause-told : goal.returns-in_err-events-clause-told
-returns-in_err-events-clause-told g c text has =
+returns-in_err-events-clause-told g c =
     let test = litmus_test_of c.args.test.now in
     let table = ap (λ (h : TestHead). h.locs) c.head-head.ensures in
-    passed_on _ _ c.from_residual.ensures.1 (schedule_is_told (TellsReplay _ text c.args.schedule.now) tt _ (λ known. record {
-      test = test;
-      has_test = has;
+    passed_on _ _ c.from_residual.ensures.1 (schedule_is_told (λ f. (f ≡ Memory) ⊎ TellsReplay c.args.schedule.now test f) (inl refl) _ (λ known. inr (record {
       none = λ events is. c.in_err-events.ensures.fault known events (rw table is);
       first = subst (λ l. IsFirstFault l c.args.schedule.now c.in_err-events.field-0.0.at c.in_err-events.field-0.0.cause) table (c.in_err-events.ensures.first known);
-    }))
+    })))
 
 pub returns-in-Source-clause-found : goal.returns-in-Source-clause-found
 returns-in-Source-clause-found g c =

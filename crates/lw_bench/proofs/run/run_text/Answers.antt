@@ -1,33 +1,33 @@
-use Rattle.std.proofs.Common.{refl}
+use Rattle.std.proofs.Common.{refl, inl}
 use Rattle.std.proofs.lemmas.Result.{err_from_is_err_and}
 use Rattle.lw_bench.specs.declared.fault.BenchFault.TheVariants.{Read, Write}
-use Rattle.lw_bench.specs.Told.{TellsTest}
+use Rattle.lw_bench.specs.Told.{TellsRun}
 use Rattle.lw_bench.proofs.DeviceFaults.{input_told, input_apart, write_apart, fault_apart, answer_apart}
-use Rattle.lw_bench.proofs.Compilations.{compilation_written}
-use Rattle.lw_bench.proofs.Told.{device_told, some_told, told_of_test_input}
-use Rattle.lw_bench.proofs.compile.compile_text.Goals as goal
+use Rattle.lw_bench.proofs.Outputs.{output_written}
+use Rattle.lw_bench.proofs.Told.{device_told, some_told, told_of_input}
+use Rattle.lw_bench.proofs.run.run_text.Goals as goal
 
-pub returns-in_err-compiled-clause-told : goal.returns-in_err-compiled-clause-told
-returns-in_err-compiled-clause-told g c =
-    let p = err_from_is_err_and c.from_residual-in_err-compiled.result c.from_residual-in_err-compiled.ensures.1 in
-    let fault = rw c.as_slice.ensures.value at c.in_err-compiled.ensures.told in
-    rw (p.1, p.2) (told_of_test_input _ _ _ _ c.in_ok-text.ensures.bytes fault)
+pub returns-in_err-made-clause-told : goal.returns-in_err-made-clause-told
+returns-in_err-made-clause-told g c =
+    let p = err_from_is_err_and c.from_residual-in_err-made.result c.from_residual-in_err-made.ensures.1 in
+    let fault = rw c.as_slice.ensures.value at c.in_err-made.ensures.told in
+    rw (p.1, p.2) (told_of_input _ (g.O.Output.tells c.args.output.now) _ _ _ c.in_ok-text.ensures.bytes fault)
 
 pub returns-in-Ok-clause-written : goal.returns-in-Ok-clause-written
 returns-in-Ok-clause-written g c =
-    let found = rw c.as_slice.ensures.value at c.in_ok-compiled.ensures.found in
+    let found = rw c.as_slice.ensures.value at c.in_ok-made.ensures.found in
     let put = rw (c.as_bytes.ensures.value, c.as_str.ensures) at c.in-Ok.ensures.bytes in
-    compilation_written _ _ _ _ _ c.in_ok-text.ensures.bytes found put
+    output_written _ _ _ _ _ _ c.in_ok-text.ensures.bytes found put
 
-pub returns-in_err-compiled-clause-read : goal.returns-in_err-compiled-clause-read
-returns-in_err-compiled-clause-read g c =
-    let p = err_from_is_err_and c.from_residual-in_err-compiled.result c.from_residual-in_err-compiled.ensures.1 in
-    fault_apart c.from_residual-in_err-compiled.result p.0 c.in_err-compiled.field-0.0 Read (g.R.ByteReader.failed c.read_input.new.reader) p.1 p.2 c.in_err-compiled.ensures.device.0 c.in_ok-text.ensures.failed
+pub returns-in_err-made-clause-read : goal.returns-in_err-made-clause-read
+returns-in_err-made-clause-read g c =
+    let p = err_from_is_err_and c.from_residual-in_err-made.result c.from_residual-in_err-made.ensures.1 in
+    fault_apart c.from_residual-in_err-made.result p.0 c.in_err-made.field-0.0 Read (g.R.ByteReader.failed c.read_input.new.reader) p.1 p.2 c.in_err-made.ensures.device.0 c.in_ok-text.ensures.failed
 
-pub returns-in_err-compiled-clause-write : goal.returns-in_err-compiled-clause-write
-returns-in_err-compiled-clause-write g c =
-    let p = err_from_is_err_and c.from_residual-in_err-compiled.result c.from_residual-in_err-compiled.ensures.1 in
-    fault_apart c.from_residual-in_err-compiled.result p.0 c.in_err-compiled.field-0.0 Write (g.W.ByteWriter.failed c.args.writer.now) p.1 p.2 c.in_err-compiled.ensures.device.1 c.requires.writer
+pub returns-in_err-made-clause-write : goal.returns-in_err-made-clause-write
+returns-in_err-made-clause-write g c =
+    let p = err_from_is_err_and c.from_residual-in_err-made.result c.from_residual-in_err-made.ensures.1 in
+    fault_apart c.from_residual-in_err-made.result p.0 c.in_err-made.field-0.0 Write (g.W.ByteWriter.failed c.args.writer.now) p.1 p.2 c.in_err-made.ensures.device.1 c.requires.writer
 
 pub returns-in-Ok-clause-read : goal.returns-in-Ok-clause-read
 returns-in-Ok-clause-read g c = answer_apart _ Read (g.R.ByteReader.failed c.read_input.new.reader) c.in_ok-text.ensures.failed
@@ -58,7 +58,7 @@ returns-in_err-text-clause-write g c =
 pub returns-in_err-text-clause-told : goal.returns-in_err-text-clause-told
 returns-in_err-text-clause-told g c =
     let p = err_from_is_err_and c.from_residual.result c.from_residual.ensures.1 in
-    rw (p.1, p.2) (device_told (λ bytes. TellsTest g.row.A.Denot bytes) (g.R.ByteReader.remaining c.args.reader.now) c.in_err-text.field-0.0 (g.R.ByteReader.failed c.read_input.new.reader) (λ bytes. tt) (λ bytes. tt) c.in_err-text.ensures.err)
+    rw (p.1, p.2) (device_told (TellsRun g.row.A.Denot (g.O.Output.tells c.args.output.now)) (g.R.ByteReader.remaining c.args.reader.now) c.in_err-text.field-0.0 (g.R.ByteReader.failed c.read_input.new.reader) (λ bytes. inl tt) (λ bytes. inl tt) c.in_err-text.ensures.err)
 
 pub returns-clause-told : goal.returns-clause-told
-returns-clause-told g c = some_told (λ bytes. TellsTest g.row.A.Denot bytes) (g.R.ByteReader.remaining c.args.reader.now) Write (λ bytes. tt)
+returns-clause-told g c = some_told (TellsRun g.row.A.Denot (g.O.Output.tells c.args.output.now)) (g.R.ByteReader.remaining c.args.reader.now) Write (λ bytes. inl tt)

@@ -1,0 +1,84 @@
+-- From what is told of a listing to what is told of the set of its outcomes, whatever the set is and whatever a schedule
+-- leads to.
+use Rattle.std.proofs.Common.{◌≡◌, ◌⊎◌, inl, inr, ℕ, ◌<◌, ◌↔◌, List, [], ◌∷◌, zero, suc, Some, map, refl, sym, ap, ◌∙◌, subst, slice_get, arith}
+use Rattle.std.specs.Prelude.{All, Contains, slice_index_or}
+use Rattle.std.proofs.lemmas.Bool.{cases_lt}
+use Rattle.std.proofs.lemmas.List.Elements.{All-map, All-weaker}
+use Rattle.std.proofs.lemmas.Option.{slice_get-get_or, slice_get_within, get_or_from_slice_get}
+use Rattle.std.specs.declared.cmp.Ordering.TheVariants.{Less}
+use Rattle.lw_base.specs.Heads.{TestHead}
+use Rattle.lw_base.specs.Outcomes.{Final, final_cmp}
+use Rattle.lw_base.specs.declared.event.Event.{Event}
+use Rattle.lw_finals.specs.Listings.{Entries, outcomes_of, schedules_of, IsStrictlySorted}
+use Rattle.lw_report.specs.Reports.{IsReport, IsScheduleList, report_text, schedule_list_text, scheduled}
+use Rattle.lw_report.specs.States.{Shown, AreStatesOf, IsSmallestOf, ListedState, shown_of, ShowsFirst, AreListedStates}
+use Rattle.lw_report.specs.declared.judgement.Claim.{Claim}
+
+module _ (head : TestHead) (Has : Final → Type 0) (entries : Entries) (same : (o : Final) → Contains (outcomes_of entries) o ↔ Has o) where
+  states_of_set : (states : List Shown) → AreStatesOf head (Contains (outcomes_of entries)) states → AreStatesOf head Has states
+  states_of_set states are = record {
+    sorted = are.sorted;
+    exactly = λ s. ((λ c. let e = (are.exactly s).0 c in (e.0, (same e.0).0 e.1, e.2)), (λ h. (are.exactly s).1 (h.0, (same h.0).1 h.1, h.2)));
+  }
+
+  -- the report of the listing is that of the set
+  pub report_is : (claim : Claim) (states : List ListedState) (text : List ℕ) → AreListedStates head (outcomes_of entries) states
+      → text ≡ report_text head claim (map shown_of states) → IsReport head Has claim text
+  report_is claim states text listed is = record { states = map shown_of states; are = states_of_set (map shown_of states) listed.are; is = is }
+
+  module _ (sorted : IsStrictlySorted entries) where
+    -- what stands behind an outcome is larger
+    larger : (i j : ℕ) (o other : Final) → slice_get (outcomes_of entries) i ≡ Some o → slice_get (outcomes_of entries) j ≡ Some other → i < j → final_cmp o other ≡ Less
+    larger i j o other at to lt =
+        let first = get_or_from_slice_get (outcomes_of entries) i o o at in
+        let later = get_or_from_slice_get (outcomes_of entries) j other o to in
+        (λ k. final_cmp (sym first k) (sym later k)) ∙ sorted i j o lt (slice_get_within (outcomes_of entries) j other to)
+
+    some_same : (o other : Final) → (let a = Some o in a) ≡ Some other → o ≡ other
+    some_same o other e = cc
+
+    least : (i j : ℕ) (o other : Final) → slice_get (outcomes_of entries) i ≡ Some o → slice_get (outcomes_of entries) j ≡ Some other → (j < i → ⊥) → (o ≡ other) ⊎ (final_cmp o other ≡ Less)
+    least i j o other at to none = elim (cases_lt i j) [
+      | inl lt ↦ inr (larger i j o other at to lt)
+      | inr le ↦ elim (cases_lt j i) [
+        | inl before ↦ absurd (none before)
+        | inr ge ↦ let here : i ≡ j = omega arith in inl (some_same o other (sym at ∙ ap (slice_get (outcomes_of entries)) here ∙ to))
+      ]
+    ]
+
+    -- the first outcome that shows a state is the smallest of the set
+    smallest : (s : ListedState) (shows : ShowsFirst head (outcomes_of entries) s) → IsSmallestOf head Has s.words shows.outcome
+    smallest s shows = record {
+      has = (same shows.outcome).0 (s.entry, slice_get_within (outcomes_of entries) s.entry shows.outcome shows.at, get_or_from_slice_get (outcomes_of entries) s.entry shows.outcome shows.outcome shows.at);
+      shows = ap (λ (x : Shown). x.words) shows.shows;
+      least = λ other has words.
+          let c = (same other).1 has in
+          let to = slice_get-get_or (outcomes_of entries) c.0 other c.1 ∙ ap Some c.2 in
+          least s.entry c.0 shows.outcome other shows.at to (λ before. shows.first c.0 other before to words);
+    }
+
+    module _ (Leads : List Event → Final → Type 0) (lead : All (λ e. Leads e.1 e.0) entries) where
+      -- the schedule of an outcome's entry leads to it
+      leads_at : (i : ℕ) (o : Final) → slice_get (outcomes_of entries) i ≡ Some o → Leads (slice_index_or (schedules_of entries) i []) o
+      leads_at i o at = go entries i lead at
+        where
+          go : (es : Entries) (k : ℕ) → All (λ e. Leads e.1 e.0) es → slice_get (outcomes_of es) k ≡ Some o → Leads (slice_index_or (schedules_of es) k []) o
+          go [] k all at = absurd (omega (arith, slice_get_within (outcomes_of []) k o at))
+          go (e ∷ es) zero all at = subst (Leads e.1) (some_same e.0 o at) (all 0 e (omega arith))
+          go (e ∷ es) (suc k) all at = go es k (λ j d lt. all (suc j) d (omega (arith, lt))) at
+
+      -- the list of the schedules of the listing is that of the set
+      pub schedule_list_is : (states : List ListedState) (text : List ℕ) → AreListedStates head (outcomes_of entries) states
+          → text ≡ schedule_list_text head (map (scheduled (schedules_of entries)) states) → IsScheduleList head Has Leads text
+      schedule_list_is states text listed is = record {
+        states = map (scheduled (schedules_of entries)) states;
+        are = subst (AreStatesOf head Has) (sym (shown_again states)) (states_of_set (map shown_of states) listed.are);
+        lead = All-map (λ s. (o : Final) × IsSmallestOf head Has s.0.words o × Leads s.1 o) (scheduled (schedules_of entries)) states
+            (All-weaker (ShowsFirst head (outcomes_of entries)) (λ (s : ListedState). (o : Final) × IsSmallestOf head Has s.words o × Leads (slice_index_or (schedules_of entries) s.entry []) o)
+            (λ s shows. (shows.outcome, smallest s shows, leads_at s.entry shows.outcome shows.at)) states listed.entries);
+        is = is;
+      }
+        where
+          shown_again : (ss : List ListedState) → map (λ s. s.0) (map (scheduled (schedules_of entries)) ss) ≡ map shown_of ss
+          shown_again [] = refl
+          shown_again (s ∷ ss) = ap (λ l. shown_of s ∷ l) (shown_again ss)

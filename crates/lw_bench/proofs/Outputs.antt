@@ -1,0 +1,31 @@
+-- What is said of the input, from what is said of the bytes of it that were read.
+use Rattle.std.proofs.Common.{◌≡◌, ◌≤◌, ◌⊎◌, inl, inr, ℕ, Option, Some, None, List, [], ◌++◌, length, sym, ap, ◌∙◌, subst, length-append, arith}
+use Rattle.std.proofs.lemmas.List.{append-nil}
+use Rattle.std.specs.Io.KnownBytes.{Appends}
+use Rattle.lw_bench.specs.Devices.{IsInput}
+use Rattle.lw_bench.specs.LitmusTests.{LitmusTest, HasTest}
+use Rattle.lw_bench.specs.Outputs.{Makes, Writes}
+
+-- Bytes that came in: the whole input, or more than a test has.
+module _ (input bytes : List ℕ) (is : (rest : List ℕ) × (input ≡ bytes ++ rest) × ((rest ≡ []) ⊎ (length bytes ≡ 65537))) where
+  pub whole : length bytes ≤ 65536 → bytes ≡ input
+  whole short = go is.2
+    where
+      go : (is.0 ≡ []) ⊎ (length bytes ≡ 65537) → bytes ≡ input
+      go (inl none) = sym (is.1 ∙ ap (λ rest. bytes ++ rest) none ∙ append-nil bytes)
+      go (inr long) = absurd (omega arith)
+
+  pub short_bytes : (test : LitmusTest) → HasTest input test → length bytes ≤ 65536
+  short_bytes test has = omega (arith, has.has_frame.short, ap length is.1, length-append bytes is.0)
+
+  pub in_whole : (test : LitmusTest) → HasTest bytes test → HasTest input test
+  in_whole test has = subst (λ t. HasTest t test) (whole has.has_frame.short) has
+
+  pub from_whole : (test : LitmusTest) → HasTest input test → HasTest bytes test
+  from_whole test has = subst (λ t. HasTest t test) (sym (whole (short_bytes test has))) has
+
+-- what is written is made of the test that the whole input is
+pub output_written : (IsMade : LitmusTest → List ℕ → Type 0) (known before after : Option (List ℕ)) (bytes made : List ℕ) → IsInput known bytes → Makes IsMade bytes made → Appends before after made → Writes IsMade known before after
+output_written IsMade None before after bytes made is makes put = tt
+output_written IsMade (Some input) before after bytes made is makes put =
+    (made, record { test = makes.test; has_test = in_whole input bytes is makes.test makes.has_test; is = makes.is }, put)

@@ -1,0 +1,20 @@
+use Rattle.std.proofs.Common.{inl}
+use Rattle.std.proofs.lemmas.Result.{IfOk-weaker, IfErr-weaker}
+use Rattle.lw_base.proofs.Returns.{passed_on}
+use Rattle.lw_bench.specs.LitmusTests.{litmus_test_of}
+use Rattle.lw_bench.proofs.Told.{told_of_test}
+use Rattle.lw_bench.proofs.run.make_of_text.Goals as goal
+
+pub returns-in_err-test-clause-told : goal.returns-in_err-test-clause-told
+returns-in_err-test-clause-told g c = passed_on _ _ c.from_residual.ensures.1 (inl c.in_err-test.ensures.told)
+
+pub returns-in_err-test-clause-device : goal.returns-in_err-test-clause-device
+returns-in_err-test-clause-device g c = passed_on _ _ c.from_residual.ensures.1 c.in_err-test.ensures.device
+
+pub returns-clause-found : goal.returns-clause-found
+returns-clause-found g c =
+    IfOk-weaker c.make-made.result _ _ (λ x made. record { test = litmus_test_of c.in_ok-test.test; has_test = c.in_ok-test.ensures.found; is = made }) c.make-made.ensures.found
+
+pub returns-clause-told : goal.returns-clause-told
+returns-clause-told g c =
+    IfErr-weaker c.make-made.result _ _ (λ f told. told_of_test g.row.A.Denot (g.O.Output.tells c.args.output.now) c.args.text.now (litmus_test_of c.in_ok-test.test) f c.in_ok-test.ensures.found told) c.make-made.ensures.told

@@ -1,0 +1,143 @@
+//! The report of a test's states, and the list of their schedules, from the bytes that come in to the bytes that go out.
+ghost use Rattle.std.specs.Prelude.{◌≡◌, ◌≢◌, ◌↔◌, ◌⊎◌, true, false, Err, IfOk, IfErr, OnOk};
+ghost use Rattle.lw_source.specs.Views.{source_of};
+ghost use Rattle.lw_bench.specs.LitmusTests.{litmus_test_of, Of_source};
+ghost use Rattle.lw_bench.specs.Lists.{IsSourceReport, IsSourceScheduleList, IsStatesReport, IsScheduleReport};
+ghost use Rattle.lw_bench.specs.Outputs.{Writes};
+ghost use Rattle.lw_bench.specs.Told.{TellsInput, TellsNoList, IsNoDevice};
+
+use crate::device::{ByteReader, ByteWriter};
+use crate::fault::BenchFault;
+use crate::litmus_test::LitmusTest;
+use crate::run::{Output, run_text};
+use lw_base::Text;
+use lw_finals::{list_source, outcomes_over_caches_are_flat};
+use lw_report::{Claim, states_of, write_report, write_schedules};
+use lw_source::Source;
+use lw_text::{TextCause, TextFault};
+use std::alloc::Allocator;
+
+/// Of an x86 test there is no list yet.
+const NO_X86_LIST: BenchFault = BenchFault::Text(TextFault {
+    at: 0,
+    cause: TextCause::Unexpected,
+});
+
+/// The report of the outcomes of a source test.
+fn source_report<A: Allocator + Copy>(alloc: A, source: &Source<A>) -> Result<Text<A>, BenchFault>
+    ensures found { IfOk result (IsSourceReport (source_of source.now)) }
+    ensures told { IfErr result (λ f. (f ≡ BenchFault.Memory) ⊎ TellsNoList (Of_source (source_of source.now)) f) }
+    ensures device { IfErr result IsNoDevice }
+{
+    let listing = list_source(alloc, source)?;
+    let states = states_of(alloc, &source.head, &listing);
+    drop(listing);
+    let states = states?;
+    let report = write_report(alloc, &source.head, &states, Claim::Exact);
+    drop(states);
+    Ok(report?)
+}
+
+/// The list of the schedules of a source test.
+fn source_schedules<A: Allocator + Copy>(
+    alloc: A,
+    source: &Source<A>,
+) -> Result<Text<A>, BenchFault>
+    ensures found { IfOk result (IsSourceScheduleList (source_of source.now)) }
+    ensures told { IfErr result (λ f. (f ≡ BenchFault.Memory) ⊎ TellsNoList (Of_source (source_of source.now)) f) }
+    ensures device { IfErr result IsNoDevice }
+{
+    let listing = list_source(alloc, source)?;
+    let states = states_of(alloc, &source.head, &listing)?;
+    let list = write_schedules(alloc, &source.head, &states, &listing);
+    drop(states);
+    drop(listing);
+    Ok(list?)
+}
+
+/// The report of a test.
+struct Report;
+
+impl<A: Allocator + Copy> Output<A> for Report {
+    type Answer = ();
+
+    ghost is_made = { λ _ test made _. IsStatesReport test made };
+
+    ghost tells = { λ _. TellsNoList };
+
+    fn make(&self, alloc: A, test: &LitmusTest<A>) -> Result<(Text<A>, ()), BenchFault> {
+        match test {
+            LitmusTest::Source(source) => Ok((source_report(alloc, source)?, ())),
+            LitmusTest::X86(_) => Err(NO_X86_LIST),
+        }
+    }
+}
+
+/// The list of the schedules of a test.
+struct ScheduleList;
+
+impl<A: Allocator + Copy> Output<A> for ScheduleList {
+    type Answer = ();
+
+    ghost is_made = { λ _ test made _. IsScheduleReport test made };
+
+    ghost tells = { λ _. TellsNoList };
+
+    fn make(&self, alloc: A, test: &LitmusTest<A>) -> Result<(Text<A>, ()), BenchFault> {
+        match test {
+            LitmusTest::Source(source) => Ok((source_schedules(alloc, source)?, ())),
+            LitmusTest::X86(_) => Err(NO_X86_LIST),
+        }
+    }
+}
+
+/// Writes the report of the test that the reader gives: all its final states, the verdict on its condition, how many states
+/// make its proposition true, and how often. For a source test these are the states that it reaches by interleaving on one
+/// memory, and that its compiled program reaches on the whole machine. An x86 test is refused as yet, once it has been read.
+///
+/// The test is read whole first: its text, then its cells. What is written is made whole before the first byte of it is
+/// written, so any fault but `Write` leaves the writer as it was; after `Write` nothing is said of how much went out. The
+/// devices may not have failed before, and after a failure they are not called again.
+pub fn states<R: ByteReader, W: ByteWriter, A: Allocator + Copy>(
+    alloc: A,
+    reader: &mut R,
+    writer: &mut W,
+) -> Result<(), BenchFault>
+    requires reader { R.failed reader.old ≡ false }
+    requires writer { W.failed writer.old ≡ false }
+    // Where it answers, the report of the test has been written, and nothing else.
+    ensures written { OnOk result
+        (Writes IsStatesReport (R.remaining reader.old) (W.contents writer.old) (W.contents writer.new)) }
+    // What a fault tells is so: of the text, of a cell, or of the limit that the list passes.
+    ensures told { IfErr result (TellsInput A TellsNoList (R.remaining reader.old)) }
+    // The devices' faults are told exactly where they failed, and else the writer is left alone.
+    ensures read { result ≡ Err BenchFault.Read ↔ R.failed reader.new ≡ true }
+    ensures write { result ≡ Err BenchFault.Write ↔ W.failed writer.new ≡ true }
+    ensures untouched { IfErr result (λ f. f ≢ BenchFault.Write → writer.new ≡ writer.old) }
+{
+    run_text(alloc, &Report, reader, writer)
+}
+
+/// Writes for each final state of the test that the reader gives a schedule that leads to it: of a source test, a schedule
+/// of its compiled program. An x86 test is refused as yet, once it has been read.
+///
+/// The test is read, and the list written, as by `states`.
+pub fn schedules_text<R: ByteReader, W: ByteWriter, A: Allocator + Copy>(
+    alloc: A,
+    reader: &mut R,
+    writer: &mut W,
+) -> Result<(), BenchFault>
+    requires reader { R.failed reader.old ≡ false }
+    requires writer { W.failed writer.old ≡ false }
+    // Where it answers, the list of schedules has been written, and nothing else.
+    ensures written { OnOk result
+        (Writes IsScheduleReport (R.remaining reader.old) (W.contents writer.old) (W.contents writer.new)) }
+    // What a fault tells is so: of the text, of a cell, or of the limit that the list passes.
+    ensures told { IfErr result (TellsInput A TellsNoList (R.remaining reader.old)) }
+    // The devices' faults are told exactly where they failed, and else the writer is left alone.
+    ensures read { result ≡ Err BenchFault.Read ↔ R.failed reader.new ≡ true }
+    ensures write { result ≡ Err BenchFault.Write ↔ W.failed writer.new ≡ true }
+    ensures untouched { IfErr result (λ f. f ≢ BenchFault.Write → writer.new ≡ writer.old) }
+{
+    run_text(alloc, &ScheduleList, reader, writer)
+}
