@@ -1,40 +1,12 @@
 //! Texts that tests are compiled to, typed in, and schedules of compiled programs.
-use crate::devices::{is_told, write_compilation};
+use crate::outputs::first_other_output;
 use crate::tables::spelled;
 use lw_base::Arch;
+use lw_bench::Task;
 use lw_fence::compile;
 use lw_source::{Source, read_source};
 use lw_text::read_frame;
 use std::alloc::Global;
-
-/// Whether the test is compiled to this text, or the fault is told so and nothing is written.
-fn is_compiled_to(alloc: Global, text: &str, told: &str) -> bool {
-    match (spelled(alloc, text), spelled(alloc, told)) {
-        (Ok(text), Ok(told)) => match write_compilation(alloc, text.as_bytes()) {
-            (Ok(()), sheet) => sheet.is(told.as_str()),
-            (Err(fault), sheet) => is_told(alloc, &fault, told.as_str()) && sheet.calls == 0,
-        },
-        _ => false,
-    }
-}
-
-/// The first line of a table of tests and their compilations that doesn't hold.
-fn first_other_compilation(alloc: Global, table: &str) -> Option<&str> {
-    for line in table.split('\n') {
-        if !line.is_empty() && !holds(alloc, line) {
-            return Some(line);
-        }
-    }
-    None
-}
-
-/// Whether the line's test is compiled as the line says.
-fn holds(alloc: Global, line: &str) -> bool {
-    match line.split_once(" => ") {
-        Some((text, told)) => is_compiled_to(alloc, text, told),
-        None => false,
-    }
-}
 
 /// A fence on each path from a store to a load, none where there is no store before it, and none where a locked instruction
 /// stands between. Then fences behind jumps, where paths join; a jump to the end; each statement; and swaps and fetch-and-adds
@@ -71,7 +43,7 @@ X86 A {} P0; MOV y,1; exists (true) => lw: cell 2 Register at 17
 #[test]
 fn compiled_texts(rt: HostRuntime) {
     for table in [SOURCE_TESTS, X86_TESTS] {
-        let other = first_other_compilation(rt.alloc(), table);
+        let other = first_other_output(rt.alloc(), Task::Compile, table);
         assert!(rt; other.is_none(), "{other:?}");
     }
 }

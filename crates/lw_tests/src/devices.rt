@@ -1,6 +1,11 @@
-//! Readers and writers that give and take little at a time and fail where they are told to, and a replay and a compilation between them.
+//! Readers and writers that give and take little at a time and fail where they are told to, and the runs of the workbench between them.
+ghost use Rattle.std.specs.Prelude.{◌≡◌, false};
+
 use lw_base::End;
-use lw_bench::{BenchFault, FromRead, Protocol, ToWrite, compile_text, fault_line, replay_text};
+use lw_bench::{
+    BenchFault, FromRead, Protocol, Task, ToWrite, compile_text, fault_line, replay_text,
+    schedules_text, states,
+};
 use std::alloc::Global;
 use std::io::{self, Read, Write};
 
@@ -11,6 +16,14 @@ pub(crate) const STORE_BUFFERING: &str =
 /// What `P0 P0 P1 P1` makes of it.
 pub(crate) const STORE_BUFFERING_PAGE: &str =
     "Test SB\nSteps 4\nEnd Final\nP0 at 2 r0=0 r1=0 r2=0 r3=0 r4=0 r5=0\nP1 at 2 r0=1 r1=0 r2=0 r3=0 r4=0 r5=0\nMemory x=1 y=1\n";
+
+/// Its report.
+pub(crate) const STORE_BUFFERING_REPORT: &str =
+    "Test SB Allowed\nStates 3\n0:r0=0; 1:r0=1;\n0:r0=1; 1:r0=0;\n0:r0=1; 1:r0=1;\nNo\nPositive: 0 Negative: 3\nCondition exists (0:r0=0 /\\ 1:r0=0)\nObservation SB Never 0 3\n";
+
+/// Its list of schedules.
+pub(crate) const STORE_BUFFERING_SCHEDULES: &str =
+    "Test SB\nStates 3\n0:r0=0; 1:r0=1;\n P0 D0 P0 P0 P1 D1 P1 P1\n0:r0=1; 1:r0=0;\n P1 D1 P1 P1 P0 D0 P0 P0\n0:r0=1; 1:r0=1;\n P0 D0 P1 D1 P0 P0 P1 P1\n";
 
 /// A reader of a text: so many bytes a call, and one of its calls fails.
 #[derive(Drop)]
@@ -57,7 +70,7 @@ impl Read for Tape<'_> {
 /// A writer to a sheet of fixed size: so many bytes a call, and one of its calls fails, by an error or by taking nothing.
 #[derive(Drop)]
 pub(crate) struct Sheet {
-    pub(crate) bytes: [u8; 1024],
+    pub(crate) bytes: [u8; 4096],
     pub(crate) len: usize,
     pub(crate) step: usize,
     pub(crate) failing: usize,
@@ -68,9 +81,9 @@ pub(crate) struct Sheet {
 impl Sheet {
     pub(crate) fn new() -> Self {
         Sheet {
-            bytes: [0; 1024],
+            bytes: [0; 4096],
             len: 0,
-            step: 1024,
+            step: 4096,
             failing: 0,
             takes_none: false,
             calls: 0,
@@ -96,7 +109,7 @@ impl Write for Sheet {
             }
             return Err(io::Error::from(io::ErrorKind::Interrupted));
         }
-        let room = 1024usize.saturating_sub(self.len);
+        let room = 4096usize.saturating_sub(self.len);
         let count = buf.len().min(self.step).min(room);
         for place in 0..count {
             if let Some(byte) = self.bytes.get_mut(self.len.saturating_add(place)) {
@@ -124,11 +137,33 @@ pub(crate) fn replay(alloc: Global, text: &[u8], words: &str) -> (Result<End, Be
     (result, writer.writer)
 }
 
-/// What a compilation answers, and what it writes.
-pub(crate) fn write_compilation(alloc: Global, text: &[u8]) -> (Result<(), BenchFault>, Sheet) {
+/// Carries out a task that takes no schedule, between these devices.
+pub(crate) fn carry_out_on(
+    alloc: Global,
+    task: Task<'_>,
+    reader: &mut FromRead<Tape<'_>>,
+    writer: &mut ToWrite<Sheet>,
+) -> Result<(), BenchFault>
+    requires reader { reader.old.failed ≡ false }
+    requires writer { writer.old.failed ≡ false }
+{
+    match task {
+        Task::States => states(alloc, reader, writer),
+        Task::Compile => compile_text(alloc, reader, writer),
+        Task::Schedules => schedules_text(alloc, reader, writer),
+        Task::Replay(_, _) => Err(BenchFault::Read),
+    }
+}
+
+/// What a task that takes no schedule answers, and what it writes.
+pub(crate) fn carry_out(
+    alloc: Global,
+    task: Task<'_>,
+    text: &[u8],
+) -> (Result<(), BenchFault>, Sheet) {
     let mut reader = FromRead::new(Tape::new(text));
     let mut writer = ToWrite::new(Sheet::new());
-    let result = compile_text(alloc, &mut reader, &mut writer);
+    let result = carry_out_on(alloc, task, &mut reader, &mut writer);
     (result, writer.writer)
 }
 

@@ -1,12 +1,16 @@
 //! What devices, commands and exit statuses do to a run of the workbench.
 ghost use Rattle.std.specs.Prelude.{◌≡◌, false};
 
-use crate::devices::{STORE_BUFFERING, STORE_BUFFERING_PAGE, Sheet, Tape, is_told, replay};
+use crate::devices::{
+    STORE_BUFFERING, STORE_BUFFERING_PAGE, STORE_BUFFERING_REPORT, STORE_BUFFERING_SCHEDULES,
+    Sheet, Tape, carry_out_on, is_told, replay,
+};
 use lw_base::{CellCause, CellFault, End, ScheduleCause, ScheduleFault, Stop};
 use lw_bench::{
-    BenchFault, ByteReader, ByteWriter, FromRead, Protocol, Task, ToWrite, command_of,
-    compile_text, done_status, end_status, replay_text, status_of,
+    BenchFault, ByteReader, ByteWriter, FromRead, Protocol, Task, ToWrite, command_of, done_status,
+    end_status, replay_text, status_of,
 };
+use lw_finals::ListFault;
 use lw_text::{TextCause, TextFault};
 
 /// A text cut off is refused as a text, at a place in it, unless only the last line end is gone.
@@ -26,13 +30,20 @@ fn prefixes(rt: HostRuntime) {
 }
 
 #[test]
-fn device_and_memory_lines(rt: HostRuntime) {
+fn lines_without_a_place(rt: HostRuntime) {
     for (fault, line) in [
         (BenchFault::Memory, "lw: memory"),
         (BenchFault::Read, "lw: read failed"),
         (BenchFault::Write, "lw: write failed"),
     ] {
         assert!(rt; is_told(rt.alloc(), &fault, line) && status_of(&fault) == 4);
+    }
+    for (limit, line) in [
+        (ListFault::TooManyItems, "lw: limit 1 TooManyItems"),
+        (ListFault::TooManyOrders, "lw: limit 2 TooManyOrders"),
+    ] {
+        let fault = BenchFault::Limit(limit);
+        assert!(rt; is_told(rt.alloc(), &fault, line) && status_of(&fault) == 3);
     }
 }
 
@@ -64,7 +75,7 @@ fn statuses(rt: HostRuntime) {
 }
 
 /// Words that are no command.
-const OTHER_WORDS: [&[&str]; 13] = [
+const OTHER_WORDS: [&[&str]; 15] = [
     &["compile", "P0"],
     &["compile", ""],
     &["Compile"],
@@ -72,7 +83,9 @@ const OTHER_WORDS: [&[&str]; 13] = [
     &["replay"],
     &["replay", "P0", "P1"],
     &["Replay", "P0"],
-    &["states"],
+    &["states", ""],
+    &["schedules", "P0"],
+    &["schedule"],
     &["replay", "P0", "--protocol"],
     &["replay", "P0", "--protocol", "MESI"],
     &["replay", "P0", "--protocol=mesi"],
@@ -84,7 +97,7 @@ const OTHER_WORDS: [&[&str]; 13] = [
 fn is_replay(words: &[&str], by: &str, over: Protocol) -> bool {
     match command_of(words) {
         Some(Task::Replay(schedule, protocol)) => schedule == by && protocol == over,
-        Some(Task::Compile) => false,
+        Some(Task::States | Task::Compile | Task::Schedules) => false,
         None => false,
     }
 }
@@ -105,7 +118,9 @@ fn words_of_a_command(rt: HostRuntime) {
             );
         assert!(rt; are_replays, "{word}");
     }
+    assert!(rt; command_of(&["states"]) == Some(Task::States));
     assert!(rt; command_of(&["compile"]) == Some(Task::Compile));
+    assert!(rt; command_of(&["schedules"]) == Some(Task::Schedules));
     for words in OTHER_WORDS {
         assert!(rt; command_of(words).is_none(), "{words:?}");
     }
@@ -194,8 +209,8 @@ fn each_write_fails(rt: HostRuntime) {
 const STORE_BUFFERING_COMPILED: &str =
     "X86 SB\n{\n x=0;\n y=0;\n}\n P0 | P1 ;\n MOV [x],$1 | MOV [y],$1 ;\n MFENCE | MFENCE ;\n MOV EAX,[y] | MOV EAX,[x] ;\nexists (0:EAX=0 /\\ 1:EAX=0)\n";
 
-/// The devices of a compilation: a reader that gives one byte at a time, and a writer that takes one, of which the reader's
-/// or the writer's call of this number fails.
+/// Devices: a reader that gives one byte at a time, and a writer that takes one, of which the reader's or the writer's call of
+/// this number fails.
 fn devices_failing(reading: usize, writing: usize) -> (FromRead<Tape<'static>>, ToWrite<Sheet>)
     ensures reader { result.0.failed ≡ false }
     ensures writer { result.1.failed ≡ false }
@@ -209,20 +224,43 @@ fn devices_failing(reading: usize, writing: usize) -> (FromRead<Tape<'static>>, 
     (reader, writer)
 }
 
-/// A compilation is written byte by byte, and whichever call of a device fails, that is told.
+/// What each task but a replay writes of store buffering.
+const WRITTEN: [(Task<'static>, &str); 3] = [
+    (Task::States, STORE_BUFFERING_REPORT),
+    (Task::Compile, STORE_BUFFERING_COMPILED),
+    (Task::Schedules, STORE_BUFFERING_SCHEDULES),
+];
+
+/// Each of these is written byte by byte.
 #[test]
-fn devices_of_a_compilation(rt: HostRuntime) {
-    let (mut reader, mut writer) = devices_failing(0, 0);
-    let result = compile_text(rt.alloc(), &mut reader, &mut writer);
-    assert!(rt; result.is_ok() && writer.writer.is(STORE_BUFFERING_COMPILED));
-    for failing in 1..89usize {
-        let (mut reader, mut writer) = devices_failing(failing, 0);
-        let result = compile_text(rt.alloc(), &mut reader, &mut writer);
-        assert!(rt; matches!(result, Err(BenchFault::Read)) && writer.writer.calls == 0);
+fn tasks_byte_by_byte(rt: HostRuntime) {
+    for (task, written) in WRITTEN {
+        let (mut reader, mut writer) = devices_failing(0, 0);
+        let result = carry_out_on(rt.alloc(), task, &mut reader, &mut writer);
+        assert!(rt; result.is_ok() && writer.writer.is(written));
     }
-    for failing in 1..STORE_BUFFERING_COMPILED.len().saturating_add(1) {
-        let (mut reader, mut writer) = devices_failing(0, failing);
-        let result = compile_text(rt.alloc(), &mut reader, &mut writer);
-        assert!(rt; matches!(result, Err(BenchFault::Write)) && writer.writer.calls == failing);
+}
+
+/// Whichever read fails, that is told, and nothing is written.
+#[test]
+fn each_read_of_a_task_fails(rt: HostRuntime) {
+    for (task, _) in WRITTEN {
+        for failing in 1..89usize {
+            let (mut reader, mut writer) = devices_failing(failing, 0);
+            let result = carry_out_on(rt.alloc(), task, &mut reader, &mut writer);
+            assert!(rt; matches!(result, Err(BenchFault::Read)) && writer.writer.calls == 0);
+        }
+    }
+}
+
+/// Whichever write fails, that is told, and the writer isn't called again.
+#[test]
+fn each_write_of_a_task_fails(rt: HostRuntime) {
+    for (task, written) in WRITTEN {
+        for failing in 1..written.len().saturating_add(1) {
+            let (mut reader, mut writer) = devices_failing(0, failing);
+            let result = carry_out_on(rt.alloc(), task, &mut reader, &mut writer);
+            assert!(rt; matches!(result, Err(BenchFault::Write)) && writer.writer.calls == failing);
+        }
     }
 }
