@@ -4,9 +4,11 @@
 - Transcripts: in README.md, docs/*.md and examples/*.page, a block of lines of which the first is '$ COMMAND'. Behind a
   command stands what it prints: lines of standard output as they are, lines of standard error behind '2> ', and the exit
   status, where it is not 0, as '[status N]'. Commands run at the top of the repository.
-- The tables of faults and ends in docs/FORMAT.md, whose rows have examples: what is read, and the place of its fault; or an
-  example of examples/ and a schedule that ends at its last event, refused.
-- Each examples/NAME.litmus has its NAME.page, and docs/MAP.md lists the files as they are.
+- The tables of faults, limits and ends in docs/FORMAT.md, whose rows have examples: what is read, and the place of its fault; or
+  an example of examples/ and a schedule that ends at its last event, refused.
+- Each examples/NAME.litmus has its NAME.page, which begins with the report of a source test and the schedule that the test's
+  comment tells, and one row in examples/INDEX.md, which tells what the report and the comment tell. docs/MAP.md lists the files
+  as they are.
 - Each source test of examples/ beside what it is compiled to: random runs of the source, and the same runs of the compiled
   program, statement by statement, end in the same registers and memory. The compiled text is its own canonical text.
 - The program where memory is refused: for each n, a run whose nth call for memory is refused (tools/refuse_memory.c).
@@ -32,6 +34,7 @@ IN_WORDS = {
     "65 rows ` ;`": b"SRC G\n{}\n P0 ;\n" + b" ;\n" * 65 + b"exists (true)\n",
     "17 rows ` r0 := 1 ;`": b"SRC G\n{}\n P0 ;\n" + b" r0 := 1 ;\n" * 17 + b"exists (true)\n",
     "33 rows ` MFENCE ;`": b"X86 G\n{}\n P0 ;\n" + b" MFENCE ;\n" * 33 + b"exists (true)\n",
+    "5 rows ` x := 1 \\| x := 2 ;`": b"SRC G\n{}\n P0 | P1 ;\n" + b" x := 1 | x := 2 ;\n" * 5 + b"exists (true)\n",
 }
 
 passed = failed = 0
@@ -115,6 +118,13 @@ def check_fault(kind, number, name, example, language="SRC"):
     compare(f"docs/FORMAT.md, {kind} fault {number}", (b"", wanted.encode(), 1), (out, line, status))
 
 
+def check_limit(number, name, example):
+    """A row of the table of limits."""
+    for command in ("states", "schedules"):
+        told = run([PROGRAM, command], IN_WORDS[example])
+        compare(f"docs/FORMAT.md, limit {number}", (b"", f"lw: limit {number} {name}\n".encode(), 3), told)
+
+
 def check_end(number, name, schedule, test):
     """A row of the table of ends: the schedule's last event is refused."""
     with open(f"{HOME}/examples/{test}.litmus", "rb") as it:
@@ -131,8 +141,8 @@ def check_faults():
             told = run([PROGRAM, "replay", ""], bytes_of(mistake[1]))
             compare(f"docs/FORMAT.md, a mistake: {mistake[1]}", (b"", f"{mistake[2]}\n".encode(), 1), told)
             continue
-        begins = re.match(r"\*\*(Text|Cell|Schedule) faults", line)
-        kind = begins[1].lower() if begins else kind
+        begins = re.match(r"\*\*(Text|Cell|Schedule) faults|\*\*(Limit)s", line)
+        kind = (begins[1] or begins[2]).lower() if begins else kind
         end = re.fullmatch(r"\| (\d+) \| (\w+) \| .* \| `(.*)` of `(.*)` \|", line)
         if end:
             check_end(*end.groups())
@@ -142,8 +152,32 @@ def check_faults():
             in_both = re.fullmatch(r"\| .* \| (.*) \| (.*) \|", line)
             check_fault(kind, row[1], row[2], in_both[1])
             check_fault(kind, row[1], row[2], in_both[2], "X86")
-        elif kind and row:
+        elif kind == "limit" and row and row[3] in IN_WORDS:
+            check_limit(*row.groups())
+        elif kind and kind != "limit" and row:
             check_fault(kind, row[1], row[2], row[3])
+
+
+def check_page(name):
+    """The page beside a test: what it begins with."""
+    test, page = read(name), name.removesuffix("litmus") + "page"
+    schedule = re.search(r"A telling schedule: (.*?) \*\)", " ".join(test.split()))[1]
+    wanted = [f"./lw states < {name}"] * test.startswith("SRC") + [f'./lw replay "{schedule}" < {name}']
+    commands = [command for command, _ in transcript(read(page).splitlines())] if os.path.exists(page) else []
+    compare(f"{name} has its page", wanted, commands[: len(wanted)])
+
+
+def check_index():
+    """examples/INDEX.md: a row for each test, with what its report and its comment tell."""
+    lines = re.findall(r"^\| (?!Test )(\S+) \|.*\| (.*?) ?\| ([\w ]+) \|$", read("examples/INDEX.md"), re.M)
+    tests = [os.path.basename(name) for name in sorted(glob.glob("examples/*.litmus"))]
+    compare("examples/INDEX.md has each test once", tests, sorted(f"{name}.litmus" for name, _, _ in lines))
+    for name, observed, word in lines:
+        test = read(f"examples/{name}.litmus")
+        compare(f"examples/INDEX.md, {name} on x86-TSO", re.search(r"x86-TSO:\s+([^.]*)\.", test)[1], word)
+        report = run([PROGRAM, "states"], test.encode())[0].decode().splitlines()
+        wanted = [f"Observation {name} {observed}"] * test.startswith("SRC")
+        compare(f"examples/INDEX.md, the report of {name}", wanted, report[-1:])
 
 
 def sizes_of(source, compiled, thread):
@@ -233,8 +267,8 @@ def main():
         for block in blocks(read(name)):
             check_transcript(name, block)
     for name in sorted(glob.glob("examples/*.litmus")):
-        page = name.removesuffix("litmus") + "page"
-        compare(f"{name} has its page", True, os.path.exists(page))
+        check_page(name)
+    check_index()
     for name in sorted(glob.glob("examples/*.page")):
         check_transcript(name, read(name).splitlines())
     for name in sorted(glob.glob("examples/*.litmus")):
@@ -246,6 +280,8 @@ def main():
         ("Peterson", "replay", "P0 P0 P1 P1"),
         ("Peterson", "replay", "P0 E0:nowhere"),
         ("Peterson", "compile"),
+        ("SB", "states"),
+        ("SB", "schedules"),
         ("SB+own-x86", "replay", "P0 P0 P0 P1 P1 P1 D0 D1"),
         ("SB+own-x86", "compile"),
     ]:
