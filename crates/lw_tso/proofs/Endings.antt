@@ -20,14 +20,14 @@ use Rattle.lw_tso.specs.Processors.{Processor}
 use Rattle.lw_base.specs.Threads.{code_of}
 use Rattle.lw_base.proofs.Replays.{Ran-append}
 use Rattle.lw_tso.specs.Acts.{Act, cpu_of, event_act, step_act, drain_act}
-use Rattle.lw_tso.specs.Machines.{MachineState, Answer, ActDone, DoneBy, EventDone}
+use Rattle.lw_tso.specs.Machines.{MachineState, ActDone, DoneBy, EventDone}
 use Rattle.lw_tso.specs.Rooms.{HasRoom, is_store, stores_from}
 use Rattle.lw_tso.specs.Runs.{MachineRan, machine_start, is_done, is_final}
 use Rattle.lw_tso.specs.Evictions.{without_evictions}
 use Rattle.lw_tso.specs.Endings.{events_of, CanEnd}
 use Rattle.lw_tso.specs.Starts.{CanStart}
 use Rattle.lw_tso.proofs.Rooms.{event_room}
-use Rattle.lw_tso.proofs.Lift.{IsWithin, thread_at, within_after, within_first}
+use Rattle.lw_tso.proofs.Lift.{IsWithin, thread_at, within_after, within_reached}
 
 without_append : (es fs : List Event) → without_evictions (es ++ fs) ≡ without_evictions es ++ without_evictions fs
 without_append [] fs = refl
@@ -90,17 +90,6 @@ module _ {M : Type 0} (mem : Memory M) (laws : Lawful mem) where
   module _ (program : List (List Instr)) (locs : ℕ) (threads : All (IsThread x86 locs) program) where
     abbrev Within : MachineState M → Type 0
     Within s = IsWithin mem laws program locs threads s
-
-    within_event : (e : Event) (s after : MachineState M) (answer : Answer) → Within s → EventDone mem program e s answer after → Within after
-    within_event e s after answer within = go (slice_get s.processors (cpu_of e)) refl
-      where
-        go : (o : Option Processor) → slice_get s.processors (cpu_of e) ≡ o → DoneBy mem o program e s answer after → Within after
-        go None at done = subst Within (sym done.1) within
-        go (Some p) at done = subst Within (sym done.3) (within_after mem laws program locs threads e s p done.0 done.1 answer within at done.2)
-
-    within_run : (es : List Event) (s end : MachineState M) → Within s → MachineRan mem program es s end → Within end
-    within_run [] s end within ran = subst Within (sym ran) within
-    within_run (e ∷ es) s end within ran = within_run es ran.0 end (within_event e s ran.0 (Ok tt) within ran.1) ran.2
 
     -- one processor comes to its end, in at most k events of its own
     record Finished (t k : ℕ) (s : MachineState M) : Type 0 where
@@ -288,4 +277,4 @@ module _ {M : Type 0} (mem : Memory M) (laws : Lawful mem) where
       → MachineRan mem test.threads es (machine_start test m) s → CanEnd mem test.threads s
   can_end test ok m es s start ran =
       ends_from test.threads (length test.head.locs) ok.code s
-      (within_run test.threads (length test.head.locs) ok.code es (machine_start test m) s (within_first mem laws test ok m start) ran)
+      (within_reached mem laws test ok m es s start ran)

@@ -15,13 +15,13 @@ use Rattle.lw_x86.specs.Programs.{ProgramTest}
 use Rattle.lw_tso.specs.Processors.{Processor, newest}
 use Rattle.lw_base.specs.Threads.{code_of}
 use Rattle.lw_tso.specs.Acts.{Act, Refused, Goes, Loads, Stores, Swaps, Adds, Evicts, cpu_of, event_act, step_act, drain_act, load_act, once_empty}
-use Rattle.lw_tso.specs.Machines.{MachineState, ActDone, EvictionDone, DoneBy}
+use Rattle.lw_tso.specs.Machines.{MachineState, Answer, flatten, ActDone, EvictionDone, DoneBy, EventDone}
 use Rattle.lw_tso.specs.Runs.{MachineRan, Replays, machine_start}
 use Rattle.lw_tso.specs.Evictions.{without_evictions}
 use Rattle.lw_tso.proofs.Acts.{event_kept}
 
 -- it gives no line up
-abbrev KeepsLines : Act → Type 0
+abbrev pub KeepsLines : Act → Type 0
 KeepsLines (Refused stop) = Unit {0}
 KeepsLines (Goes p) = Unit {0}
 KeepsLines (Loads x next) = Unit {0}
@@ -56,39 +56,50 @@ drain_keeps : (buffer : List (ℕ × ℕ)) (p : Processor) → KeepsLines (drain
 drain_keeps [] p = tt
 drain_keeps (entry ∷ newer) p = tt
 
-module _ {M : Type 0} (mem : Memory M) (laws : Lawful mem) where
-  -- the same processors over the memory's content
-  abbrev pub flatten : MachineState M → MachineState (List ℕ)
-  flatten s = record { processors = s.processors; memory = mem.content s.memory }
+-- it is no eviction
+abbrev pub IsNoEviction : Event → Type 0
+IsNoEviction e = without_evictions (e ∷ []) ≡ e ∷ []
 
-  act_flat : (t : ℕ) (act : Act) (p q : Processor) (m n : M) → mem.sound m → KeepsLines act
-      → ActDone mem t act p m (Ok tt) q n → ActDone flat t act p (mem.content m) (Ok tt) q (mem.content n)
-  act_flat t (Refused stop) p q m n sound keeps done = (done.0, done.1, ap mem.content done.2)
-  act_flat t (Goes next) p q m n sound keeps done = (done.0, done.1, ap mem.content done.2)
-  act_flat t (Loads x next) p q m n sound keeps done =
+pub event_keeps : (program : List (List Instr)) (locs : ℕ) (e : Event) (p : Processor) → IsNoEviction e → KeepsLines (event_act program locs e p)
+event_keeps program locs (Step t) p none = step_keeps (slice_get (code_of program t) p.position) p
+event_keeps program locs (Drain t) p none = drain_keeps p.buffer p
+event_keeps program locs (Evict t x) p none = absurd cc
+
+module _ {M : Type 0} (mem : Memory M) (laws : Lawful mem) where
+  act_flat : (t : ℕ) (act : Act) (p q : Processor) (m n : M) (answer : Answer) → mem.sound m → KeepsLines act
+      → ActDone mem t act p m answer q n → ActDone flat t act p (mem.content m) answer q (mem.content n)
+  act_flat t (Refused stop) p q m n answer sound keeps done = (done.0, done.1, ap mem.content done.2)
+  act_flat t (Goes next) p q m n answer sound keeps done = (done.0, done.1, ap mem.content done.2)
+  act_flat t (Loads x next) p q m n answer sound keeps done =
       let s = laws.served m (to.Load t x) (Some done.0) n sound done.3 in
       (done.0, done.1, done.2, (s.answer, s.content))
-  act_flat t (Stores x w next) p q m n sound keeps done =
+  act_flat t (Stores x w next) p q m n answer sound keeps done =
       let s = laws.served m (to.Store t x w) None n sound done.2 in
       (done.0, done.1, (s.answer, s.content))
-  act_flat t (Swaps x v next) p q m n sound keeps done =
+  act_flat t (Swaps x v next) p q m n answer sound keeps done =
       let s = laws.served m (to.Swap t x v) (Some done.0) n sound done.3 in
       (done.0, done.1, done.2, (s.answer, s.content))
-  act_flat t (Adds x v next) p q m n sound keeps done =
+  act_flat t (Adds x v next) p q m n answer sound keeps done =
       let s = laws.served m (to.FetchAdd t x v) (Some done.0) n sound done.3 in
       (done.0, done.1, done.2, (s.answer, s.content))
-  act_flat t (Evicts x) p q m n sound keeps done = absurd keeps
+  act_flat t (Evicts x) p q m n answer sound keeps done = absurd keeps
 
-  by_flat : (o : Option Processor) (program : List (List Instr)) (e : Event) (s after : MachineState M) → mem.sound s.memory
+  by_flat : (o : Option Processor) (program : List (List Instr)) (e : Event) (s after : MachineState M) (answer : Answer) → mem.sound s.memory
       → ((p : Processor) → KeepsLines (event_act program (length (mem.content s.memory)) e p))
-      → DoneBy mem o program e s (Ok tt) after → DoneBy flat o program e (flatten s) (Ok tt) (flatten after)
-  by_flat None program e s after sound keeps done = (done.0, ap flatten done.1)
-  by_flat (Some p) program e s after sound keeps done = (
+      → DoneBy mem o program e s answer after → DoneBy flat o program e (flatten mem s) answer (flatten mem after)
+  by_flat None program e s after answer sound keeps done = (done.0, ap (flatten mem) done.1)
+  by_flat (Some p) program e s after answer sound keeps done = (
     done.0,
     mem.content done.1,
-    act_flat (cpu_of e) (event_act program (length (mem.content s.memory)) e p) p done.0 s.memory done.1 sound (keeps p) done.2,
-    ap flatten done.3,
+    act_flat (cpu_of e) (event_act program (length (mem.content s.memory)) e p) p done.0 s.memory done.1 answer sound (keeps p) done.2,
+    ap (flatten mem) done.3,
   )
+
+  -- an event that is no eviction has the same answer
+  pub event_flat : (program : List (List Instr)) (e : Event) (s after : MachineState M) (answer : Answer) → mem.sound s.memory → IsNoEviction e
+      → EventDone mem program e s answer after → EventDone flat program e (flatten mem s) answer (flatten mem after)
+  event_flat program e s after answer sound none done =
+      by_flat (slice_get s.processors (cpu_of e)) program e s after answer sound (λ p. event_keeps program (length (mem.content s.memory)) e p none) done
 
   evicted_flat : (held : Bool) (t x : ℕ) (p q : Processor) (m n : M) → mem.sound m
       → EvictionDone mem held t x p m (Ok tt) q n → (q ≡ p) × (mem.content n ≡ mem.content m)
@@ -101,29 +112,29 @@ module _ {M : Type 0} (mem : Memory M) (laws : Lawful mem) where
   evict_flat false t x p q m n sound done = (done.1, ap mem.content done.2)
 
   eviction_flat : (o : Option Processor) (program : List (List Instr)) (t x : ℕ) (s after : MachineState M) → mem.sound s.memory
-      → slice_get s.processors t ≡ o → DoneBy mem o program (Evict t x) s (Ok tt) after → flatten after ≡ flatten s
-  eviction_flat None program t x s after sound at done = ap flatten done.1
+      → slice_get s.processors t ≡ o → DoneBy mem o program (Evict t x) s (Ok tt) after → flatten mem after ≡ flatten mem s
+  eviction_flat None program t x s after sound at done = ap (flatten mem) done.1
   eviction_flat (Some p) program t x s after sound at done =
       let same = evict_flat (nat_lt x (length (mem.content s.memory))) t x p done.0 s.memory done.1 sound done.2 in
       let processors : slice_set s.processors t done.0 ≡ s.processors = ap (slice_set s.processors t) same.0 ∙ set_own s.processors t p at in
-      ap flatten done.3 ∙ ap₂ (λ (ps : List Processor) (words : List ℕ). let a : MachineState (List ℕ) = record { processors = ps; memory = words } in a) processors same.1
+      ap (flatten mem) done.3 ∙ ap₂ (λ (ps : List Processor) (words : List ℕ). let a : MachineState (List ℕ) = record { processors = ps; memory = words } in a) processors same.1
 
   -- a run, evictions left out
   pub run_flat : (program : List (List Instr)) (es : List Event) (s end : MachineState M) → mem.sound s.memory
-      → MachineRan mem program es s end → MachineRan flat program (without_evictions es) (flatten s) (flatten end)
-  run_flat program [] s end sound ran = ap flatten ran
+      → MachineRan mem program es s end → MachineRan flat program (without_evictions es) (flatten mem s) (flatten mem end)
+  run_flat program [] s end sound ran = ap (flatten mem) ran
   run_flat program (Step t ∷ es) s end sound ran = (
-    flatten ran.0,
-    by_flat (slice_get s.processors t) program (Step t) s ran.0 sound (λ p. step_keeps (slice_get (code_of program t) p.position) p) ran.1,
+    flatten mem ran.0,
+    event_flat program (Step t) s ran.0 (Ok tt) sound refl ran.1,
     run_flat program es ran.0 end (event_kept mem laws program (Step t) s ran.0 (Ok tt) sound ran.1).sound ran.2,
   )
   run_flat program (Drain t ∷ es) s end sound ran = (
-    flatten ran.0,
-    by_flat (slice_get s.processors t) program (Drain t) s ran.0 sound (λ p. drain_keeps p.buffer p) ran.1,
+    flatten mem ran.0,
+    event_flat program (Drain t) s ran.0 (Ok tt) sound refl ran.1,
     run_flat program es ran.0 end (event_kept mem laws program (Drain t) s ran.0 (Ok tt) sound ran.1).sound ran.2,
   )
   run_flat program (Evict t x ∷ es) s end sound ran =
-      subst (λ (a : MachineState (List ℕ)). MachineRan flat program (without_evictions es) a (flatten end))
+      subst (λ (a : MachineState (List ℕ)). MachineRan flat program (without_evictions es) a (flatten mem end))
       (eviction_flat (slice_get s.processors t) program t x s ran.0 sound refl ran.1)
       (run_flat program es ran.0 end (event_kept mem laws program (Evict t x) s ran.0 (Ok tt) sound ran.1).sound ran.2)
 
@@ -131,7 +142,7 @@ module _ {M : Type 0} (mem : Memory M) (laws : Lawful mem) where
   pub replays_flat : (test : ProgramTest) (m : M) (es : List Event) (o : Final) → mem.sound m
       → Replays mem test m es o → Replays flat test (mem.content m) (without_evictions es) o
   replays_flat test m es o sound r = record {
-    end = flatten r.end;
+    end = flatten mem r.end;
     ran = run_flat test.threads es (machine_start test m) r.end sound r.ran;
     final = r.final;
     is = r.is;

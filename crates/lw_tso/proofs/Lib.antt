@@ -4,6 +4,9 @@ pub mod Rooms
 pub mod Events
 pub mod Starts
 pub mod Flatten
+pub mod Effects
+pub mod Commuting
+pub mod Neighbours
 pub mod Lift
 pub mod Endings
 pub mod Replaying

@@ -1,5 +1,5 @@
 -- A run over the flat memory is a run over every memory that keeps the laws.
-use Rattle.std.proofs.Common.{◌≡◌, ◌↔◌, ℕ, ◌<◌, ◌≤◌, nat_lt, true, false, List, [], ◌∷◌, length, map, get_or, Ok, Err, Option, Some, None, refl, sym, ap, ◌∙◌, subst, arith, slice_get, slice_set}
+use Rattle.std.proofs.Common.{◌≡◌, ◌↔◌, ℕ, ◌<◌, ◌≤◌, nat_lt, true, false, List, [], ◌∷◌, length, map, get_or, Ok, Option, Some, None, refl, sym, ap, ◌∙◌, subst, arith, slice_get, slice_set}
 use Rattle.std.specs.Prelude.{All, if◌then◌else◌, IsTrue}
 use Rattle.std.specs.Option.{option_map}
 use Rattle.std.proofs.lemmas.List.{length-map, length-set}
@@ -23,14 +23,15 @@ use Rattle.lw_x86.specs.Programs.{ProgramTest, IsWellFormedProgram, x86}
 use Rattle.lw_tso.specs.Processors.{Processor, newest, starting}
 use Rattle.lw_base.specs.Threads.{code_of}
 use Rattle.lw_tso.specs.Acts.{Act, Refused, Goes, Loads, Stores, Swaps, Adds, Evicts, cpu_of, event_act, step_act, drain_act, load_act, once_empty}
-use Rattle.lw_tso.specs.Machines.{MachineState, Answer, ActDone, DoneBy, EventDone}
+use Rattle.lw_tso.specs.Machines.{MachineState, Answer, flatten, ActDone, DoneBy, EventDone}
 use Rattle.lw_tso.specs.Rooms.{HasRoom, stores_from}
 use Rattle.lw_tso.specs.Runs.{MachineRan, Replays, MachineOutcome, machine_start, machine_outcome, is_final}
 use Rattle.lw_tso.specs.Evictions.{without_evictions}
 use Rattle.lw_tso.specs.Starts.{CanStart}
 use Rattle.lw_tso.proofs.Acts.{act_kept}
 use Rattle.lw_tso.proofs.Rooms.{event_room}
-use Rattle.lw_tso.proofs.Flatten.{flatten, replays_flat}
+use Rattle.lw_tso.proofs.Effects.{no_eviction, leads_to}
+use Rattle.lw_tso.proofs.Flatten.{KeepsLines, IsNoEviction, event_keeps, event_flat, replays_flat}
 
 -- it asks for one of so many locations, if for any
 abbrev AsksWithin : ℕ → Act → Type 0
@@ -74,6 +75,14 @@ drain_within : (locs : ℕ) (buffer : List (ℕ × ℕ)) (p : Processor) → All
 drain_within locs [] p there = tt
 drain_within locs (entry ∷ newer) p there = there 0 entry (omega arith)
 
+-- what is possible over the flat memory is no eviction
+flat_evicts_none : (program : List (List Instr)) (e : Event) (s mid : MachineState (List ℕ)) → EventDone flat program e s (Ok tt) mid → IsNoEviction e
+flat_evicts_none program (Step t) s mid done = refl
+flat_evicts_none program (Drain t) s mid done = refl
+flat_evicts_none program (Evict t x) s mid done =
+    let d = leads_to program (Evict t x) s mid done in
+    absurd (no_eviction program (length s.memory) t x d.from d.to s.memory d.words d.does)
+
 module _ {M : Type 0} (mem : Memory M) (laws : Lawful mem) where
   -- a request, done over the content, is done over the memory
   served_too : (r : Request) (a : Option ℕ) (m : M) (words : List ℕ) → mem.sound m → IsInRange (mem.cpus m) (length (mem.content m)) r → IsPossible (mem.state m) r
@@ -82,24 +91,23 @@ module _ {M : Type 0} (mem : Memory M) (laws : Lawful mem) where
       let g = laws.serves m r sound there possible in
       (g.0, subst (λ b. mem.serves m r b g.0) (sym answer) g.1, (laws.served m r (answer_of (mem.content m) r) g.0 sound g.1).content ∙ sym after)
 
-  act_lift : (t : ℕ) (act : Act) (p q : Processor) (m : M) (words : List ℕ) → mem.sound m → t < mem.cpus m → AsksWithin (length (mem.content m)) act
-      → ActDone flat t act p (mem.content m) (Ok tt) q words → (n : M) × ActDone mem t act p m (Ok tt) q n × (mem.content n ≡ words)
-  act_lift t (Refused stop) p q m words sound cpu within done = (m, (done.0, done.1, refl), sym done.2)
-  act_lift t (Goes next) p q m words sound cpu within done = (m, (done.0, done.1, refl), sym done.2)
-  act_lift t (Loads x next) p q m words sound cpu within done =
+  act_lift : (t : ℕ) (act : Act) (p q : Processor) (m : M) (words : List ℕ) (answer : Answer) → mem.sound m → t < mem.cpus m → AsksWithin (length (mem.content m)) act → KeepsLines act
+      → ActDone flat t act p (mem.content m) answer q words → (n : M) × ActDone mem t act p m answer q n × (mem.content n ≡ words)
+  act_lift t (Refused stop) p q m words answer sound cpu within keeps done = (m, (done.0, done.1, refl), sym done.2)
+  act_lift t (Goes next) p q m words answer sound cpu within keeps done = (m, (done.0, done.1, refl), sym done.2)
+  act_lift t (Loads x next) p q m words answer sound cpu within keeps done =
       let g = served_too (to.Load t x) (Some done.0) m words sound (cpu, within) tt done.3.0 done.3.1 in
       (g.0, (done.0, done.1, done.2, g.1), g.2)
-  act_lift t (Stores x w next) p q m words sound cpu within done =
+  act_lift t (Stores x w next) p q m words answer sound cpu within keeps done =
       let g = served_too (to.Store t x w) None m words sound (cpu, within) tt done.2.0 done.2.1 in
       (g.0, (done.0, done.1, g.1), g.2)
-  act_lift t (Swaps x v next) p q m words sound cpu within done =
+  act_lift t (Swaps x v next) p q m words answer sound cpu within keeps done =
       let g = served_too (to.Swap t x v) (Some done.0) m words sound (cpu, within) tt done.3.0 done.3.1 in
       (g.0, (done.0, done.1, done.2, g.1), g.2)
-  act_lift t (Adds x v next) p q m words sound cpu within done =
+  act_lift t (Adds x v next) p q m words answer sound cpu within keeps done =
       let g = served_too (to.FetchAdd t x v) (Some done.0) m words sound (cpu, within) tt done.3.0 done.3.1 in
       (g.0, (done.0, done.1, done.2, g.1), g.2)
-  act_lift t (Evicts x) p q m words sound cpu within done =
-      absurd (let e : ◌≡◌ {A = Answer} (Ok tt) (Err _) = done.0 in cc)
+  act_lift t (Evicts x) p q m words answer sound cpu within keeps done = absurd keeps
 
   module _ (program : List (List Instr)) (locs : ℕ) (threads : All (IsThread x86 locs) program) where
     -- the room that a processor's buffer never needs more of
@@ -142,39 +150,50 @@ module _ {M : Type 0} (mem : Memory M) (laws : Lawful mem) where
         go true = tt
         go false = tt
 
-    -- an event, done over the content, is done over the memory
-    record LiftedEvent (e : Event) (s : MachineState M) (mid : MachineState (List ℕ)) : Type 0 where
-      after : MachineState M
-      done : EventDone mem program e s (Ok tt) after
-      is : flatten mem laws after ≡ mid
-      within : IsWithin after
+    within_event : (e : Event) (s after : MachineState M) (answer : Answer) → IsWithin s → EventDone mem program e s answer after → IsWithin after
+    within_event e s after answer within = go (slice_get s.processors (cpu_of e)) refl
+      where
+        go : (o : Option Processor) → slice_get s.processors (cpu_of e) ≡ o → DoneBy mem o program e s answer after → IsWithin after
+        go None at done = subst IsWithin (sym done.1) within
+        go (Some p) at done = subst IsWithin (sym done.3) (within_after e s p done.0 done.1 answer within at done.2)
 
-    event_lift : (o : Option Processor) (e : Event) (s : MachineState M) (mid : MachineState (List ℕ)) → IsWithin s → slice_get s.processors (cpu_of e) ≡ o
-        → DoneBy flat o program e (flatten mem laws s) (Ok tt) mid → LiftedEvent e s mid
-    event_lift None e s mid within at done = absurd (let e : ◌≡◌ {A = Answer} (Ok tt) (Err _) = done.0 in cc)
-    event_lift (Some p) e s mid within at done =
+    within_run : (es : List Event) (s end : MachineState M) → IsWithin s → MachineRan mem program es s end → IsWithin end
+    within_run [] s end within ran = subst IsWithin (sym ran) within
+    within_run (e ∷ es) s end within ran = within_run es ran.0 end (within_event e s ran.0 (Ok tt) within ran.1) ran.2
+
+    -- an event that is no eviction, done over the content, is done over the memory
+    abbrev pub LiftedEvent : Event → MachineState M → Answer → MachineState (List ℕ) → Type 0
+    LiftedEvent e s answer mid = (after : MachineState M) × EventDone mem program e s answer after × (flatten mem after ≡ mid)
+
+    by_lift : (o : Option Processor) (e : Event) (s : MachineState M) (answer : Answer) (mid : MachineState (List ℕ)) → IsWithin s → IsNoEviction e → slice_get s.processors (cpu_of e) ≡ o
+        → DoneBy flat o program e (flatten mem s) answer mid → LiftedEvent e s answer mid
+    by_lift None e s answer mid within none at done = (s, subst (λ o. DoneBy mem o program e s answer s) (sym at) (done.0, refl), sym done.1)
+    by_lift (Some p) e s answer mid within none at done =
         let asks = subst (λ l. AsksWithin l (event_act program (length (mem.content s.memory)) e p)) (sym within.locations) (event_within e p s within at) in
         let cpu : cpu_of e < mem.cpus s.memory = omega (arith, slice_get_within s.processors (cpu_of e) p at, within.cpus) in
-        let g = act_lift (cpu_of e) (event_act program (length (mem.content s.memory)) e p) p done.0 s.memory done.1 within.sound cpu asks done.2 in
-        let end : MachineState M = record { processors = slice_set s.processors (cpu_of e) done.0; memory = g.0 } in
-        record {
-          after = end;
-          done = subst (λ o. DoneBy mem o program e s (Ok tt) end) (sym at) (done.0, g.0, g.1, refl);
-          is = ap (λ (words : List ℕ). let a : MachineState (List ℕ) = record { processors = slice_set s.processors (cpu_of e) done.0; memory = words } in a) g.2 ∙ sym done.3;
-          within = within_after e s p done.0 g.0 (Ok tt) within at g.1;
-        }
+        let keeps = event_keeps program (length (mem.content s.memory)) e p none in
+        let g = act_lift (cpu_of e) (event_act program (length (mem.content s.memory)) e p) p done.0 s.memory done.1 answer within.sound cpu asks keeps done.2 in
+        let end : MachineState M = record { processors = slice_set s.processors (cpu_of e) done.0; memory = g.0 } in (
+          end,
+          subst (λ o. DoneBy mem o program e s answer end) (sym at) (done.0, g.0, g.1, refl),
+          ap (λ (words : List ℕ). let a : MachineState (List ℕ) = record { processors = slice_set s.processors (cpu_of e) done.0; memory = words } in a) g.2 ∙ sym done.3,
+        )
+
+    event_lift : (e : Event) (s : MachineState M) (answer : Answer) (mid : MachineState (List ℕ)) → IsWithin s → IsNoEviction e
+        → EventDone flat program e (flatten mem s) answer mid → LiftedEvent e s answer mid
+    event_lift e s answer mid within none done = by_lift (slice_get s.processors (cpu_of e)) e s answer mid within none refl done
 
     pub record LiftedRun (es : List Event) (s : MachineState M) (last : MachineState (List ℕ)) : Type 0 where
       pub end : MachineState M
       pub ran : MachineRan mem program es s end
-      pub is : flatten mem laws end ≡ last
+      pub is : flatten mem end ≡ last
 
-    pub run_lift : (es : List Event) (s : MachineState M) (last : MachineState (List ℕ)) → IsWithin s → MachineRan flat program es (flatten mem laws s) last → LiftedRun es s last
+    pub run_lift : (es : List Event) (s : MachineState M) (last : MachineState (List ℕ)) → IsWithin s → MachineRan flat program es (flatten mem s) last → LiftedRun es s last
     run_lift [] s last within ran = record { end = s; ran = refl; is = sym ran }
     run_lift (e ∷ es) s last within ran =
-        let a = event_lift (slice_get s.processors (cpu_of e)) e s ran.0 within refl ran.1 in
-        let b = run_lift es a.after last a.within (subst (λ (x : MachineState (List ℕ)). MachineRan flat program es x last) (sym a.is) ran.2) in
-        record { end = b.end; ran = (a.after, a.done, b.ran); is = b.is }
+        let a = event_lift e s (Ok tt) ran.0 within (flat_evicts_none program e (flatten mem s) ran.0 ran.1) ran.1 in
+        let b = run_lift es a.0 last (within_event e s a.0 (Ok tt) within a.1) (subst (λ (x : MachineState (List ℕ)). MachineRan flat program es x last) (sym a.2) ran.2) in
+        record { end = b.end; ran = (a.0, a.1, b.ran); is = b.is }
 
   module _ (test : ProgramTest) (ok : IsWellFormedProgram test) where
     abbrev locs : ℕ
@@ -196,6 +215,21 @@ module _ {M : Type 0} (mem : Memory M) (laws : Lawful mem) where
               let first = started p (slice_get test.head.init_regs t) (sym at ∙ slice_get-map starting test.head.init_regs t) in
               subst (λ q. HasRoom locs (code_of test.threads t) q (stores_from 0 (code_of test.threads t))) (sym first.1) (record { fits = omega arith; there = All-nil _ });
         }
+
+    pub within_reached : (m : M) (es : List Event) (s : MachineState M) → CanStart mem test m → MachineRan mem test.threads es (machine_start test m) s → IsWithin test.threads locs ok.code s
+    within_reached m es s start ran = within_run test.threads locs ok.code es (machine_start test m) s (within_first m start) ran
+
+    -- in a state that is reached, an event that is no eviction is one over the flat memory
+    pub reached_flat : (m : M) (es : List Event) (s after : MachineState M) (e : Event) (answer : Answer) → CanStart mem test m
+        → MachineRan mem test.threads es (machine_start test m) s → IsNoEviction e
+        → EventDone mem test.threads e s answer after → EventDone flat test.threads e (flatten mem s) answer (flatten mem after)
+    reached_flat m es s after e answer start ran none done = event_flat mem laws test.threads e s after answer (within_reached m es s start ran).sound none done
+
+    -- and the other way round
+    pub reached_lift : (m : M) (es : List Event) (s : MachineState M) (e : Event) (answer : Answer) (mid : MachineState (List ℕ)) → CanStart mem test m
+        → MachineRan mem test.threads es (machine_start test m) s → IsNoEviction e
+        → EventDone flat test.threads e (flatten mem s) answer mid → LiftedEvent test.threads locs ok.code e s answer mid
+    reached_lift m es s e answer mid start ran none done = event_lift test.threads locs ok.code e s answer mid (within_reached m es s start ran) none done
 
     -- a list that replays over the flat memory replays over this one
     pub replays_lift : (m : M) (es : List Event) (o : Final) → CanStart mem test m → Replays flat test test.head.init_words es o → Replays mem test m es o

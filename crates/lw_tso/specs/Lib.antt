@@ -8,3 +8,4 @@ pub mod Rooms
 pub mod Evictions
 pub mod Starts
 pub mod Endings
+pub mod Exchange

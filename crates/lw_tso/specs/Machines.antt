@@ -18,11 +18,19 @@ pub record MachineState (M : Type 0) : Type 0 where
 abbrev pub buffer_of : {M : Type 0} → MachineState M → ℕ → List (ℕ × ℕ)
 buffer_of s t = slice_index_or (map (λ p. p.buffer) s.processors) t []
 
+-- the position of a processor
+abbrev pub position_of : {M : Type 0} → MachineState M → ℕ → Option ℕ
+position_of s t = slice_get (map (λ p. p.position) s.processors) t
+
 -- what is answered: nothing, or why the event is refused
 abbrev pub Answer : Type 0
 Answer = Result (Unit {0}) Stop
 
 module _ {M : Type 0} (mem : Memory M) where
+  -- the same processors over the memory's content
+  abbrev pub flatten : MachineState M → MachineState (List ℕ)
+  flatten s = record { processors = s.processors; memory = mem.content s.memory }
+
   -- An eviction is refused where the processor doesn't hold the line.
   abbrev pub EvictionDone : Bool → ℕ → ℕ → Processor → M → Answer → Processor → M → Type 0
   EvictionDone false t x p m answer q n = (answer ≡ Err NotHeld) × (q ≡ p) × (n ≡ m)

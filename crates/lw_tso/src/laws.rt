@@ -1,16 +1,18 @@
-//! Laws of whole runs, over every memory system that keeps its laws.
+//! Laws of runs and of their events, over every memory system that keeps its laws.
 //! A law is a function without a body, whose contract is the law; who needs it calls the function.
-ghost use Rattle.std.specs.Prelude.{◌≡◌, ◌↔◌, List, length};
+ghost use Rattle.std.specs.Prelude.{◌≡◌, ◌↔◌, ℕ, List, [], ◌∷◌, length};
 ghost use Rattle.std.specs.List.{AllByRecursion};
 ghost use Rattle.lw_base.specs.Outcomes.{Final, IsOutcomeOf};
 ghost use Rattle.lw_base.specs.Schedules.{IsEvent};
 ghost use Rattle.lw_base.specs.declared.event.Event.{Event};
 ghost use Rattle.lw_memory.specs.Flat.{flat};
 ghost use Rattle.lw_memory.specs.Memory.{memory_of};
+ghost use Rattle.lw_x86.specs.declared.instr.Instr.{Instr};
 ghost use Rattle.lw_x86.specs.Programs.{ProgramTest, IsWellFormedProgram};
 ghost use Rattle.lw_tso.specs.Endings.{CanEnd};
 ghost use Rattle.lw_tso.specs.Evictions.{without_evictions};
-ghost use Rattle.lw_tso.specs.Machines.{MachineState};
+ghost use Rattle.lw_tso.specs.Exchange.{AreIndependent, IsExchangeable};
+ghost use Rattle.lw_tso.specs.Machines.{MachineState, Answer, flatten, EventDone};
 ghost use Rattle.lw_tso.specs.Runs.{MachineRan, Replays, MachineOutcome, machine_start};
 ghost use Rattle.lw_tso.specs.Starts.{CanStart};
 
@@ -44,4 +46,37 @@ pub fn replays_are_of_their_test<M: MemorySystem>()
         → CanStart (memory_of M.content M.cpus M.state M.sound M.serves) test m
         → Replays (memory_of M.content M.cpus M.state M.sound M.serves) test m events o
         → IsOutcomeOf test.head.threads (length test.head.locs) o × AllByRecursion (IsEvent test.head.locs) events }
+{}
+
+/// In a state that a run of a program reaches, an event that is no eviction is done over a memory system as it is over the
+/// flat one: with the same answer, and leaving the same processors and the same content.
+pub fn events_are_flat<M: MemorySystem>()
+    ensures over_flat { (test : ProgramTest) (m : M) (events : List Event) (s after : MachineState M) (e : Event) (answer : Answer)
+        → IsWellFormedProgram test → CanStart (memory_of M.content M.cpus M.state M.sound M.serves) test m
+        → MachineRan (memory_of M.content M.cpus M.state M.sound M.serves) test.threads events (machine_start test m) s
+        → without_evictions (e ∷ []) ≡ e ∷ []
+        → EventDone (memory_of M.content M.cpus M.state M.sound M.serves) test.threads e s answer after
+        → EventDone flat test.threads e (flatten (memory_of M.content M.cpus M.state M.sound M.serves) s) answer
+        (flatten (memory_of M.content M.cpus M.state M.sound M.serves) after) }
+    ensures over_memory { (test : ProgramTest) (m : M) (events : List Event) (s : MachineState M) (e : Event) (answer : Answer)
+        (end : MachineState (List ℕ))
+        → IsWellFormedProgram test → CanStart (memory_of M.content M.cpus M.state M.sound M.serves) test m
+        → MachineRan (memory_of M.content M.cpus M.state M.sound M.serves) test.threads events (machine_start test m) s
+        → without_evictions (e ∷ []) ≡ e ∷ []
+        → EventDone flat test.threads e (flatten (memory_of M.content M.cpus M.state M.sound M.serves) s) answer end
+        → (after : MachineState M) × EventDone (memory_of M.content M.cpus M.state M.sound M.serves) test.threads e s answer after
+        × (flatten (memory_of M.content M.cpus M.state M.sound M.serves) after ≡ end) }
+{}
+
+/// Over flat memory an event has one answer, and leaves one state.
+pub fn flat_events_are_determined()
+    ensures { (program : List (List Instr)) (e : Event) (s after other : MachineState (List ℕ)) (a b : Answer)
+        → EventDone flat program e s a after → EventDone flat program e s b other → (a ≡ b) × (after ≡ other) }
+{}
+
+/// Independent neighbouring events of the flat machine can be exchanged: the state after both is the same, and each step is
+/// one at the same position.
+pub fn independent_events_can_be_exchanged()
+    ensures { (program : List (List Instr)) (e f : Event) (s : MachineState (List ℕ)) → AreIndependent program e f s
+        → IsExchangeable program e f s }
 {}

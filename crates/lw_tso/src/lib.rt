@@ -10,5 +10,9 @@ mod laws;
 mod machine;
 mod processor;
 
-pub use laws::{every_run_ends, outcomes_are_flat, replays_are_flat, replays_are_of_their_test};
+pub use laws::{
+    events_are_flat, every_run_ends, flat_events_are_determined,
+    independent_events_can_be_exchanged, outcomes_are_flat, replays_are_flat,
+    replays_are_of_their_test,
+};
 pub use machine::Machine;

@@ -1,0 +1,108 @@
+-- What acts and events come to over the flat memory.
+use Rattle.std.proofs.Common.{◌≡◌, ℕ, List, length, Ok, Option, Some, None, Bool, true, false, refl, sym, ap, ap₂, ◌∙◌, subst, nat_lt, if◌then◌else◌, slice_get, slice_set, slice_index}
+use Rattle.lw_base.specs.Sums.{sum_of}
+use Rattle.lw_base.specs.declared.event.Event.{Event}
+use Rattle.lw_base.specs.declared.event.Event.TheVariants.{Evict}
+use Rattle.lw_base.specs.declared.stop.Stop.TheVariants.{NoLocation}
+use Rattle.lw_memory.specs.Flat.{flat}
+use Rattle.lw_x86.specs.declared.instr.Instr.{Instr}
+use Rattle.lw_tso.specs.Processors.{Processor}
+use Rattle.lw_tso.specs.Acts.{Act, Refused, Goes, Loads, Stores, Swaps, Adds, Evicts, cpu_of, event_act}
+use Rattle.lw_tso.specs.Machines.{MachineState, Answer, ActDone, DoneBy, EventDone}
+
+abbrev pub state : List Processor → List ℕ → MachineState (List ℕ)
+state processors m = record { processors = processors; memory = m }
+
+-- ---- one answer, and one state after it
+
+same_word : (m : List ℕ) (x v w : ℕ) → Some v ≡ Some (slice_index m x) → Some w ≡ Some (slice_index m x) → v ≡ w
+same_word m x v w e f = cc
+
+act_once : (t : ℕ) (act : Act) (p q r : Processor) (m n k : List ℕ) (a b : Answer) → ActDone flat t act p m a q n → ActDone flat t act p m b r k
+    → (a ≡ b) × (q ≡ r) × (n ≡ k)
+act_once t (Refused stop) p q r m n k a b d e = (d.0 ∙ sym e.0, d.1 ∙ sym e.1, d.2 ∙ sym e.2)
+act_once t (Goes next) p q r m n k a b d e = (d.0 ∙ sym e.0, d.1 ∙ sym e.1, d.2 ∙ sym e.2)
+act_once t (Loads x next) p q r m n k a b d e = (d.1 ∙ sym e.1, d.2 ∙ ap next (same_word m x d.0 e.0 d.3.0 e.3.0) ∙ sym e.2, d.3.1 ∙ sym e.3.1)
+act_once t (Stores x w next) p q r m n k a b d e = (d.0 ∙ sym e.0, d.1 ∙ sym e.1, d.2.1 ∙ sym e.2.1)
+act_once t (Swaps x v next) p q r m n k a b d e = (d.1 ∙ sym e.1, d.2 ∙ ap next (same_word m x d.0 e.0 d.3.0 e.3.0) ∙ sym e.2, d.3.1 ∙ sym e.3.1)
+act_once t (Adds x v next) p q r m n k a b d e = (d.1 ∙ sym e.1, d.2 ∙ ap next (same_word m x d.0 e.0 d.3.0 e.3.0) ∙ sym e.2, d.3.1 ∙ sym e.3.1)
+act_once t (Evicts x) p q r m n k a b d e = (d.0 ∙ sym e.0, d.1 ∙ sym e.1, d.2 ∙ sym e.2)
+
+pub event_once : (program : List (List Instr)) (e : Event) (s after other : MachineState (List ℕ)) (a b : Answer)
+    → EventDone flat program e s a after → EventDone flat program e s b other → (a ≡ b) × (after ≡ other)
+event_once program e s after other a b = go (slice_get s.processors (cpu_of e))
+  where
+    go : (o : Option Processor) → DoneBy flat o program e s a after → DoneBy flat o program e s b other → (a ≡ b) × (after ≡ other)
+    go None d f = (d.0 ∙ sym f.0, d.1 ∙ sym f.1)
+    go (Some p) d f =
+        let same = act_once (cpu_of e) (event_act program (length s.memory) e p) p d.0 f.0 s.memory d.1 f.1 a b d.2 f.2 in
+        (same.0, d.3 ∙ ap₂ (λ q n. state (slice_set s.processors (cpu_of e) q) n) same.1 same.2 ∙ sym f.3)
+
+-- ---- acts that are possible
+
+-- what an act does
+abbrev pub Does : List ℕ → Act → Processor → List ℕ → Type 0
+Does m (Refused stop) q n = ⊥
+Does m (Goes p) q n = (q ≡ p) × (n ≡ m)
+Does m (Loads x next) q n = (q ≡ next (slice_index m x)) × (n ≡ m)
+Does m (Stores x w p) q n = (q ≡ p) × (n ≡ slice_set m x w)
+Does m (Swaps x v next) q n = (q ≡ next (slice_index m x)) × (n ≡ slice_set m x v)
+Does m (Adds x v next) q n = (q ≡ next (slice_index m x)) × (n ≡ slice_set m x (sum_of (slice_index m x) v))
+Does m (Evicts x) q n = ⊥
+
+pub does_done : (t : ℕ) (act : Act) (p q : Processor) (m n : List ℕ) → Does m act q n → ActDone flat t act p m (Ok tt) q n
+does_done t (Refused stop) p q m n d = absurd d
+does_done t (Goes next) p q m n d = (refl, d.0, d.1)
+does_done t (Loads x next) p q m n d = (slice_index m x, refl, d.0, (refl, d.1))
+does_done t (Stores x w next) p q m n d = (refl, d.0, (refl, d.1))
+does_done t (Swaps x v next) p q m n d = (slice_index m x, refl, d.0, (refl, d.1))
+does_done t (Adds x v next) p q m n d = (slice_index m x, refl, d.0, (refl, d.1))
+does_done t (Evicts x) p q m n d = absurd d
+
+pub done_does : (t : ℕ) (act : Act) (p q : Processor) (m n : List ℕ) → ActDone flat t act p m (Ok tt) q n → Does m act q n
+done_does t (Refused stop) p q m n d = absurd (let e = d.0 in cc)
+done_does t (Goes next) p q m n d = (d.1, d.2)
+done_does t (Loads x next) p q m n d = (d.2 ∙ ap next (same_word m x d.0 (slice_index m x) d.3.0 refl), d.3.1)
+done_does t (Stores x w next) p q m n d = (d.1, d.2.1)
+done_does t (Swaps x v next) p q m n d = (d.2 ∙ ap next (same_word m x d.0 (slice_index m x) d.3.0 refl), d.3.1)
+done_does t (Adds x v next) p q m n d = (d.2 ∙ ap next (same_word m x d.0 (slice_index m x) d.3.0 refl), d.3.1)
+done_does t (Evicts x) p q m n d = absurd (let e = d.0 in cc)
+
+-- there is nothing to evict
+evicts_none : (m : List ℕ) (x : ℕ) (q : Processor) (n : List ℕ) (there : Bool) → Does m (if there then Evicts x else Refused NoLocation) q n → ⊥
+evicts_none m x q n true d = d
+evicts_none m x q n false d = d
+
+pub no_eviction : (program : List (List Instr)) (locs t x : ℕ) (p q : Processor) (m n : List ℕ) → Does m (event_act program locs (Evict t x) p) q n → ⊥
+no_eviction program locs t x p q m n d = evicts_none m x q n (nat_lt x locs) d
+
+-- What an event of a run was.
+pub record Did (program : List (List Instr)) (e : Event) (s mid : MachineState (List ℕ)) : Type 0 where
+  pub from : Processor
+  pub to : Processor
+  pub words : List ℕ
+  pub was : slice_get s.processors (cpu_of e) ≡ Some from
+  pub does : Does s.memory (event_act program (length s.memory) e from) to words
+  pub is : mid ≡ state (slice_set s.processors (cpu_of e) to) words
+
+module _ (program : List (List Instr)) where
+  -- an event, from what its act does
+  pub leads_from : (e : Event) (processors : List Processor) (p q : Processor) (m n : List ℕ) → slice_get processors (cpu_of e) ≡ Some p → Does m (event_act program (length m) e p) q n → EventDone flat program e (state processors m) (Ok tt) (state (slice_set processors (cpu_of e) q) n)
+  leads_from e processors p q m n was d =
+      subst (λ (o : Option Processor). DoneBy flat o program e (state processors m) (Ok tt) (state (slice_set processors (cpu_of e) q) n)) (sym was)
+      (q, n, does_done (cpu_of e) (event_act program (length m) e p) p q m n d, refl)
+
+  -- what an event's act did
+  pub leads_to : (e : Event) (s mid : MachineState (List ℕ)) → EventDone flat program e s (Ok tt) mid → Did program e s mid
+  leads_to e s mid done = go (slice_get s.processors (cpu_of e)) refl done
+    where
+      go : (o : Option Processor) → slice_get s.processors (cpu_of e) ≡ o → DoneBy flat o program e s (Ok tt) mid → Did program e s mid
+      go None was d = absurd (let f = d.0 in cc)
+      go (Some p) was d = record {
+        from = p;
+        to = d.0;
+        words = d.1;
+        was = was;
+        does = done_does (cpu_of e) (event_act program (length s.memory) e p) p d.0 s.memory d.1 d.2;
+        is = d.3;
+      }
