@@ -18,6 +18,7 @@ pub mod SourceAlike
 pub mod SourceOutcomes
 pub mod Gathering
 pub mod Counting
+pub mod Sizes
 pub mod Starts
 pub mod SourceList
 pub mod AccessPairs

@@ -10,6 +10,7 @@ pub mod OrderRuns
 pub mod SourceItems
 pub mod X86Items
 pub mod Counts
+pub mod Sizes
 pub mod Gathered
 pub mod Codes
 pub mod SourceRuns

@@ -31,6 +31,7 @@ mod machines;
 mod path;
 mod path_methods;
 mod runner;
+mod size;
 mod source_runner;
 mod statement;
 mod visit;

@@ -29,7 +29,7 @@ pub trait Visitor {
 }
 
 /// The positions that may follow a statement's: the first, and the second where there are two.
-fn successors<S: Statement>(stmt: &S, at: usize) -> (usize, Option<usize>)
+pub(crate) fn successors<S: Statement>(stmt: &S, at: usize) -> (usize, Option<usize>)
     requires { at < 32 }
     ensures { (result.0 ∷ option_to_list result.1) ≡ led S.language.flow stmt.now at }
 {

@@ -1,0 +1,87 @@
+//! How many items a choice of paths has at most, with no walk over all choices: the longest path of each thread, by items.
+ghost use Rattle.std.specs.Prelude.{◌≡◌, ◌+◌, ◌*◌, ◌<◌, ◌≤◌, ℕ, Contains, length, OnOk, IfErr, slice_get, slice_index, Some};
+ghost use Rattle.lw_orders.specs.declared.limits.TheConstants.{MAX_ITEMS};
+ghost use Rattle.lw_finals.specs.Choices.{IsForward, IsPathFrom, IsChoice, led};
+ghost use Rattle.lw_finals.specs.Counts.{HasTooManyItems, items_at_choice};
+ghost use Rattle.lw_finals.specs.Sizes.{IsMost, statement_size, path_size};
+ghost use Rattle.lw_finals.specs.Visits.{IsVisitable};
+ghost use Rattle.lw_finals.specs.declared.fault.ListFault.TheVariants.{TooManyItems as PastItems};
+
+use crate::fault::ListFault;
+use crate::statement::Statement;
+use crate::visit::successors;
+use lw_base::Sequence;
+use lw_orders::MAX_ITEMS;
+use std::alloc::Allocator;
+
+/// The number of items of a statement: itself, and its drain if it has one.
+fn count_items<S: Statement>(stmt: &S) -> usize
+    ensures { result ≡ statement_size S.language stmt.now }
+{
+    match stmt.drains() {
+        Some(_) => 2,
+        None => 1,
+    }
+}
+
+/// The most items of the paths behind a statement, given those of the paths from each position.
+fn most_behind<S: Statement>(most: &[usize; 33], stmt: &S, at: usize) -> usize
+    requires at { at < 32 }
+    requires within { (k : ℕ) → Contains (led S.language.flow stmt.now at) k → k < 33 }
+    ensures { IsMost (Contains (led S.language.flow stmt.now at)) (λ k. slice_index most.now k) result }
+{
+    let (first, second) = successors(stmt, at);
+    let most_first = most[first];
+    let Some(to) = second else {
+        return most_first;
+    };
+    let most_second = most[to];
+    if most_first < most_second {
+        return most_second;
+    }
+    most_first
+}
+
+/// The most items of the paths of a thread.
+fn most_of_thread<S: Statement, A: Allocator>(code: &Sequence<S, A>) -> usize
+    requires short { length code.now ≤ 32 }
+    requires forward { IsForward S.language.flow code.now }
+    ensures most { IsMost (IsPathFrom S.language.flow code.now 0) (path_size S.language code.now) result }
+    ensures few { result ≤ 64 }
+{
+    let stmts = code.as_slice();
+    let mut most = [0; 33];
+    for done in 0..stmts.len() {
+        let at = stmts.len() - 1 - done;
+        let stmt = &stmts[at];
+        most[at] = count_items(stmt) + most_behind(&most, stmt, at);
+    }
+    most[0]
+}
+
+/// The most items of the choices of a program.
+fn most_items<S: Statement, A: Allocator>(program: &[Sequence<S, A>]) -> usize
+    requires { IsVisitable S.language.flow program.now }
+    ensures most { IsMost (IsChoice S.language.flow program.now) (items_at_choice S.language program.now) result }
+    ensures few { result ≤ 64 * length program.now }
+{
+    match program.split_first() {
+        Some((code, others)) => most_of_thread(code) + most_items(others),
+        None => 0,
+    }
+}
+
+/// Whether no choice of a program has more items than a list takes.
+pub(crate) fn check_items<S: Statement, A: Allocator>(
+    program: &[Sequence<S, A>],
+) -> Result<(), ListFault>
+    requires { IsVisitable S.language.flow program.now }
+    ensures few { OnOk result (HasTooManyItems S.language program.now → ⊥) }
+    ensures fault { IfErr result (λ e. e ≡ PastItems) }
+    ensures many { IfErr result (λ e. HasTooManyItems S.language program.now) }
+{
+    if most_items(program) > MAX_ITEMS {
+        return Err(ListFault::TooManyItems);
+    }
+    Ok(())
+}
