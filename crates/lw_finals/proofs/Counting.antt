@@ -5,7 +5,7 @@ use Rattle.lw_orders.specs.declared.limits.TheConstants.{MAX_ITEMS, MAX_ORDERS}
 use Rattle.lw_finals.specs.declared.fault.ListFault.{ListFault}
 use Rattle.lw_finals.specs.declared.fault.ListFault.TheVariants.{TooManyItems, TooManyOrders, Memory}
 use Rattle.lw_finals.specs.Choices.{IsForward, choices_of}
-use Rattle.lw_finals.specs.Counts.{items_at_choice, orders_at_choice, orders_of, total_of, HasTooManyItems, TellsOfChoice, TellsOfItems, TellsOfGiven, TellsOfChoices}
+use Rattle.lw_finals.specs.Counts.{items_at_choice, orders_at_choice, orders_of, total_of, HasTooManyItems, TellsOfChoice, TellsOfItems, TellsOfGiven, TellsOfChoices, TellsLimit}
 use Rattle.lw_finals.specs.Items.{Language, items_of}
 use Rattle.lw_finals.specs.Visits.{Visited, Refused}
 use Rattle.lw_finals.proofs.Enumerated.{choices_are_all}
@@ -100,3 +100,9 @@ module _ {S : Type 0} (language : Language S) where
   given_refused program paths TooManyItems h = absurd h
   given_refused program paths TooManyOrders h = omega (arith, h)
   given_refused program paths Memory h = tt
+
+-- where no choice has too many items, only the orders can be too many
+pub limit_told : {S : Type 0} (language : Language S) (program : List (List S)) → (HasTooManyItems language program → ⊥) → (e : ListFault) → TellsOfChoices language program e → TellsLimit language program e
+limit_told language program few TooManyItems h = h
+limit_told language program few TooManyOrders h = (few, h)
+limit_told language program few Memory h = tt

@@ -114,9 +114,3 @@ module _ (s : SourceTest) (is : IsWellFormedSource s) where
           outcome = subst (λ (d : TestHead). IsOutcomeOf d.threads (length d.locs) e.0) head is.outcome;
           schedule = subst (λ (d : TestHead). AllByRecursion (IsEvent d.locs) e.1) head is.schedule;
         }) entries lead
-
-  -- of a source test only the orders can be too many
-  pub limit_told : (e : ListFault) → TellsOfChoices source_language s.threads e → TellsLimit source_language s.threads e
-  limit_told TooManyItems h = h
-  limit_told TooManyOrders h = (few_items, h)
-  limit_told Memory h = tt

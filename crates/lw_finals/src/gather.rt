@@ -3,7 +3,7 @@ ghost use Rattle.std.specs.Prelude.{◌≡◌, ℕ, ◌<◌, ◌≤◌, [], leng
 ghost use Rattle.lw_orders.specs.Order.{count_of};
 ghost use Rattle.lw_orders.specs.Sequence.{orders};
 ghost use Rattle.lw_orders.specs.declared.limits.TheConstants.{MAX_ITEMS, MAX_ORDERS};
-ghost use Rattle.lw_finals.specs.Counts.{total_of, HasTooManyItems, TellsOfChoice, TellsOfChoices, TellsOfGiven};
+ghost use Rattle.lw_finals.specs.Counts.{total_of, HasTooManyItems, TellsOfChoice, TellsOfChoices, TellsOfGiven, TellsLimit, IsWithinLimits};
 ghost use Rattle.lw_finals.specs.Gathered.{Gathers, EndsOfOrders, EndsOfItems, EndsOfChoice, EndsOfProgram};
 ghost use Rattle.lw_finals.specs.Items.{constraints_of};
 ghost use Rattle.lw_finals.specs.Listings.{IsStrictlySorted};
@@ -16,6 +16,7 @@ use crate::item::Item;
 use crate::listing::{Findings, Listing};
 use crate::path::Choice;
 use crate::runner::OrderRunner;
+use crate::size::check_items;
 use crate::statement::Statement;
 use crate::visit::{Visitor, visit_choices};
 use lw_base::Sequence;
@@ -124,8 +125,8 @@ impl<'a, S: Statement, A: Allocator + Copy, B: Allocator, R: OrderRunner<A> + Dr
     }
 }
 
-/// Whether a program is within the limits of a list.
-fn check_limits<S: Statement, A: Allocator + Copy, B: Allocator>(
+/// Whether the orders of a program are not too many.
+fn check_orders<S: Statement, A: Allocator + Copy, B: Allocator>(
     alloc: A,
     program: &[Sequence<S, B>],
 ) -> Result<(), ListFault>
@@ -143,6 +144,19 @@ fn check_limits<S: Statement, A: Allocator + Copy, B: Allocator>(
     visit_choices(program, &mut counter)
 }
 
+/// Whether a program is within the limits of a list: its items are looked at first.
+fn check_limits<S: Statement, A: Allocator + Copy, B: Allocator>(
+    alloc: A,
+    program: &[Sequence<S, B>],
+) -> Result<(), ListFault>
+    requires { IsVisitable S.language.flow program.now }
+    ensures within { OnOk result (IsWithinLimits S.language program.now) }
+    ensures err { IfErr result (TellsLimit S.language program.now) }
+{
+    check_items(program)?;
+    check_orders(alloc, program)
+}
+
 /// The list of the outcomes of a program: what the orders end with that are given for its choices.
 pub(crate) fn list_program<
     S: Statement,
@@ -151,9 +165,8 @@ pub(crate) fn list_program<
     R: OrderRunner<A> + Drop,
 >(alloc: A, program: &[Sequence<S, B>], runner: R) -> Result<Listing<A>, ListFault>
     requires { IsVisitable S.language.flow program.now }
-    ensures items { OnOk result (HasTooManyItems S.language program.now → ⊥) }
-    ensures orders { OnOk result (total_of S.language program.now ≤ MAX_ORDERS) }
-    ensures err { IfErr result (TellsOfChoices S.language program.now) }
+    ensures within { OnOk result (IsWithinLimits S.language program.now) }
+    ensures err { IfErr result (TellsLimit S.language program.now) }
     ensures sorted { IfOk result (λ l. IsStrictlySorted l) }
     ensures gathered { IfOk result (λ l. Gathers
         (EndsOfProgram S.language (R.ends (R.test runner)) program.now) (R.leads (R.test runner)) [] l) }

@@ -3,7 +3,7 @@ use Rattle.std.proofs.lemmas.List.Sorted.{All-permutation}
 use Rattle.std.proofs.lemmas.Result.{err_from_is_err_and}
 use Rattle.lw_finals.specs.Gathered.{Gathers, EndsOfChoice, EndsOfProgram}
 use Rattle.lw_finals.specs.declared.gather.Gatherer.{Gatherer}
-use Rattle.lw_finals.proofs.Counting.{visit_refused}
+use Rattle.lw_finals.proofs.Counting.{visit_refused, limit_told}
 use Rattle.lw_finals.proofs.Gathering.{visits_gather, gathered_sorted}
 use Rattle.lw_finals.proofs.gather.list_program.Goals as goal
 
@@ -13,7 +13,7 @@ returns-in_err-visit_choices-clause-err g c =
     let p = err_from_is_err_and c.from_residual-in_err-visit_choices.result c.from_residual-in_err-visit_choices.ensures.1 in
     let told = visit_refused g.S.Statement.language (λ (v : Gatherer g.row.S.Denot g.row.A.Denot g.row.B.Denot g.row.R.Denot). v.program.now) (λ (v : Gatherer g.row.S.Denot g.row.A.Denot g.row.B.Denot g.row.R.Denot). 0) _ _ c.args.program.now
     (λ v paths w h. h.0) (λ v paths e h. h) c.requires.forward _ c.in_err-visit_choices.field-0.0 refl refused in
-    rw (p.1, p.2) told
+    rw (p.1, p.2) (limit_told g.S.Statement.language c.args.program.now c.in_ok-check_limits.ensures.within.0 _ told)
 
 pub returns-clause-gathered : goal.returns-clause-gathered
 returns-clause-gathered g c =

@@ -1,11 +1,11 @@
 use Rattle.std.proofs.Common.{[], refl}
-use Rattle.std.proofs.lemmas.Result.{IfErr-weaker, IfOk-weaker}
+use Rattle.std.proofs.lemmas.Result.{IfOk-weaker}
 use Rattle.lw_source.specs.Views.{source_of}
 use Rattle.lw_x86.specs.Views.{program_of}
 use Rattle.lw_finals.specs.Gathered.{Gathers, EndsOfProgram}
 use Rattle.lw_finals.specs.SourceItems.{source_language, StaysAndEnds}
 use Rattle.lw_finals.specs.SourceRuns.{leads_flat}
-use Rattle.lw_finals.proofs.SourceList.{exactly, on_machine, of_test, limit_told, gathered_of}
+use Rattle.lw_finals.proofs.SourceList.{exactly, on_machine, of_test, gathered_of}
 use Rattle.lw_finals.proofs.Visitable.{source_visitable}
 use Rattle.lw_finals.proofs.list.list_source.Goals as goal
 
@@ -51,6 +51,7 @@ returns-clause-of_test g c =
     (λ protocol events o. c.replays_over_caches_are_of_their_test.ensures protocol program events o formed)) c.list_program.ensures.gathered
 
 pub returns-clause-limit : goal.returns-clause-limit
-returns-clause-limit g c =
-    let err = rw c.as_slice.ensures at c.list_program.ensures.err in
-    IfErr-weaker c.list_program.result _ _ (limit_told (source_of c.args.source.now) c.args.source.now.well_formed) err
+returns-clause-limit g c = rw c.as_slice.ensures at c.list_program.ensures.err
+
+pub returns-clause-within : goal.returns-clause-within
+returns-clause-within g c = rw c.as_slice.ensures at c.list_program.ensures.within
