@@ -57,6 +57,8 @@ impl MemorySystem for FlatMemory {
 
     ghost sound = { λ m. Unit {0} };
 
+    ghost start = { λ cpus words. record { cpus = cpus; words = words } };
+
     ghost serves = { FlatServes };
 
     fn load(&mut self, _cpu: Cpu, loc: Loc) -> Word {
@@ -101,6 +103,10 @@ impl MemorySystem for FlatMemory {
 
     fn location_count(&self) -> usize {
         self.len
+    }
+
+    fn restart(&mut self, words: &[Word]) {
+        self.words[..self.len].copy_from_slice(words);
     }
 
     ghost lawful = { flat_lawful };

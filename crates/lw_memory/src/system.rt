@@ -57,6 +57,9 @@ pub trait MemorySystem {
     /// What is true in every state that can be reached.
     ghost sound: { Self → Type 0 };
 
+    /// The system before any request: of so many processors, with these words.
+    ghost start: { ℕ → List ℕ → Self };
+
     /// A state, a request, its answer where it has one, and the state after it: what each memory system says of its
     /// lines.
     ghost serves: { Self → Request → Option ℕ → Self → Type 0 };
@@ -128,6 +131,14 @@ pub trait MemorySystem {
         ensures count { result ≡ length (content self.now) }
         ensures few { result ≤ MAX_LOCATIONS }
         ensures sound { sound self.now };
+
+    /// Puts the system back to its start, with these words. It takes no memory.
+    fn restart(&mut self, words: &[Word])
+        requires { length words.now ≡ length (content self.old) }
+        ensures start { self.new ≡ start (cpus self.old) words.now }
+        ensures sound { sound self.new }
+        ensures cpus { cpus self.new ≡ cpus self.old }
+        ensures words { content self.new ≡ words.now };
 
     /// The content alone decides every answer, and a request changes it as one word for each location would.
     ghost lawful: { Lawful (memory_of content cpus state sound serves) };

@@ -1,6 +1,6 @@
 //! Caches that snoop on one atomic bus, over one memory, by either protocol.
 ghost use Rattle.std.specs.Prelude.{◌≡◌, ◌<◌, ◌≤◌, length, map, IfOk};
-ghost use Rattle.lw_mesi.specs.CacheLines.{unheld_line, copy_of, line_at, word_of, contents_of, memory_words_of, state_in};
+ghost use Rattle.lw_mesi.specs.CacheLines.{unheld_line, empty_caches, copy_of, line_at, word_of, contents_of, memory_words_of, state_in};
 ghost use Rattle.lw_mesi.specs.Snooping.{Serves};
 ghost use Rattle.lw_mesi.specs.Protocols.{table_of, IsKept};
 ghost use Rattle.lw_mesi.specs.ProtocolLaws.{protocol_lawful};
@@ -89,6 +89,8 @@ impl<P: KeptProtocol, A: Allocator> MemorySystem for SnoopingCaches<P, A> {
 
     ghost sound = { IsKept P.protocol };
 
+    ghost start = { empty_caches };
+
     ghost serves = { Serves (table_of P.protocol) };
 
     fn load(&mut self, cpu: Cpu, loc: Loc) -> Word {
@@ -135,6 +137,12 @@ impl<P: KeptProtocol, A: Allocator> MemorySystem for SnoopingCaches<P, A> {
 
     fn location_count(&self) -> usize {
         self.lines.len()
+    }
+
+    fn restart(&mut self, words: &[Word]) {
+        for (place, word) in words.iter().enumerate() {
+            self.lines[place] = PackedCacheLine::new(*word);
+        }
     }
 
     ghost lawful = { protocol_lawful P.protocol };

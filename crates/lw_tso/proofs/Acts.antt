@@ -104,9 +104,9 @@ module _ {M : Type 0} (mem : Memory M) where
     pub processors : length after.state.processors ≡ length before.state.processors
     pub words : length (mem.content after.state.memory) ≡ length (mem.content before.state.memory)
 
-  pub left : Lawful mem → (e : Event) (before after : Running M) (answer : Answer) → mem.sound before.state.memory → after.program ≡ before.program
+  pub left : Lawful mem → (e : Event) (before after : Running M) (answer : Answer) → mem.sound before.state.memory → after.program ≡ before.program → after.initial ≡ before.initial
       → EventDone mem before.program e before.state answer after.state → IsLeft before answer after
-  left laws e before after answer sound program done =
+  left laws e before after answer sound program initial done =
       let kept = event_kept laws before.program e before.state after.state answer sound done in
       record { err = go answer done; processors = kept.processors; words = kept.locations }
     where
@@ -114,5 +114,5 @@ module _ {M : Type 0} (mem : Memory M) where
       go (Ok u) done = tt
       go (Err stop) done =
           let same = event_refused before.program e before.state after.state stop done in
-          let running : (let r : Running M = record { program = after.program; state = after.state } in r) ≡ record { program = before.program; state = before.state } = rw (program, same) refl in
+          let running : (let r : Running M = record { program = after.program; initial = after.initial; state = after.state } in r) ≡ record { program = before.program; initial = before.initial; state = before.state } = rw (program, initial, same) refl in
           running

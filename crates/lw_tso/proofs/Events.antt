@@ -22,8 +22,8 @@ use Rattle.lw_tso.specs.Processors.{Processor}
 use Rattle.lw_base.specs.Threads.{code_of}
 use Rattle.lw_tso.specs.Acts.{cpu_of, step_act, event_act}
 use Rattle.lw_tso.specs.Machines.{MachineState, Answer, buffer_of, ActDone, DoneBy, EventDone}
-use Rattle.lw_tso.specs.Runs.{Running, is_done, is_final, machine_outcome}
-use Rattle.lw_tso.specs.Rooms.{is_store, HasRoom, IsMachine}
+use Rattle.lw_tso.specs.Runs.{Running, Initial, is_done, is_final, machine_outcome}
+use Rattle.lw_tso.specs.Rooms.{is_store, stores_from, HasRoom, IsMachine}
 use Rattle.lw_tso.specs.Views.{processor_of}
 use Rattle.lw_tso.proofs.Acts.{act_kept}
 use Rattle.lw_tso.proofs.Rooms.{counted, stores_here, event_room}
@@ -73,20 +73,20 @@ module _ {M A : Type 0} where
   state_of processors m = record { processors = map processor_of processors; memory = m }
 
   -- what is shown of a processor of a running machine
-  pub shown : {Y : Type 0} (f : Processor → Y) (run : Running M) (program : List (List Instr)) (processors : List (ProcessorInMemory A)) (m : M) (i t : ℕ) (p : ProcessorInMemory A)
-      → record { program = program; state = state_of processors m } ≡ run → i ≡ t → t < length run.state.processors → p ≡ get_or processors i p
+  pub shown : {Y : Type 0} (f : Processor → Y) (run : Running M) (program : List (List Instr)) (initial : Initial) (processors : List (ProcessorInMemory A)) (m : M) (i t : ℕ) (p : ProcessorInMemory A)
+      → record { program = program; initial = initial; state = state_of processors m } ≡ run → i ≡ t → t < length run.state.processors → p ≡ get_or processors i p
       → slice_get (map f run.state.processors) t ≡ Some (f (processor_of p))
-  shown {Y} f run program processors m i t p same place within is =
+  shown {Y} f run program initial processors m i t p same place within is =
       let many = ap (λ (r : Running M). length r.state.processors) same in
       let at = read processors processors i t p refl place (omega (arith, within, many, length-map processors processor_of)) is in
       let got = slice_get-map f (map processor_of processors) t ∙ ap (option_map f) (slice_get-map processor_of processors t ∙ ap (option_map processor_of) at) in
       subst (λ (r : Running M). slice_get (map f r.state.processors) t ≡ Some (f (processor_of p))) same got
 
   -- the outcome of a running machine, of which all registers and the content are listed
-  pub outcome_is : (mem : Memory M) (run : Running M) (program : List (List Instr)) (processors : List (ProcessorInMemory A)) (m : M) (regs : List (List ℕ)) (words : List ℕ)
-      → record { program = program; state = state_of processors m } ≡ run → regs ≡ map (λ p. p.regs) processors → words ≡ mem.content m
+  pub outcome_is : (mem : Memory M) (run : Running M) (program : List (List Instr)) (initial : Initial) (processors : List (ProcessorInMemory A)) (m : M) (regs : List (List ℕ)) (words : List ℕ)
+      → record { program = program; initial = initial; state = state_of processors m } ≡ run → regs ≡ map (λ p. p.regs) processors → words ≡ mem.content m
       → record { regs = regs; words = words } ≡ machine_outcome mem run.state
-  outcome_is mem run program processors m regs words same listed content =
+  outcome_is mem run program initial processors m regs words same listed content =
       let seen : map (λ (p : ProcessorInMemory A). p.regs) processors ≡ map (λ (p : Processor). p.regs) (map processor_of processors) = sym (map-map (λ (p : Processor). p.regs) processor_of processors) in
       let outcome : (let o : Final = record { regs = regs; words = words } in o) ≡ machine_outcome mem (state_of processors m) = rw (listed, content, seen) refl in
       outcome ∙ ap (λ (r : Running M). machine_outcome mem r.state) same
@@ -100,11 +100,11 @@ module _ {M A : Type 0} where
 
 module _ {M A : Type 0} (mem : Memory M) (program : List (List Instr)) where
   -- an act that a processor in memory has done is the event
-  pub done_by : (e : Event) (run : Running M) (p q : ProcessorInMemory A) (processors : List (ProcessorInMemory A)) (m n : M) (answer : Answer)
-      → record { program = program; state = state_of processors m } ≡ run → slice_get processors (cpu_of e) ≡ Some p
+  pub done_by : (e : Event) (run : Running M) (initial : Initial) (p q : ProcessorInMemory A) (processors : List (ProcessorInMemory A)) (m n : M) (answer : Answer)
+      → record { program = program; initial = initial; state = state_of processors m } ≡ run → slice_get processors (cpu_of e) ≡ Some p
       → ActDone mem (cpu_of e) (event_act program (length (mem.content m)) e (processor_of p)) (processor_of p) m answer (processor_of q) n
       → EventDone mem run.program e run.state answer (state_of (slice_set processors (cpu_of e) q) n)
-  done_by e run p q processors m n answer same at done =
+  done_by e run initial p q processors m n answer same at done =
       let there = slice_get-map processor_of processors (cpu_of e) ∙ ap (option_map processor_of) at in
       let end : MachineState M = state_of (slice_set processors (cpu_of e) q) n in
       let set = map-set processor_of processors (cpu_of e) q in
@@ -113,13 +113,13 @@ module _ {M A : Type 0} (mem : Memory M) (program : List (List Instr)) where
       (processor_of q, n, done, ap (λ (c : List Processor). let s : MachineState M = record { processors = c; memory = n } in s) set))
 
   -- the same where the processor stays as it is
-  pub done_in_place : (e : Event) (run : Running M) (p : ProcessorInMemory A) (processors : List (ProcessorInMemory A)) (m n : M) (answer : Answer) (end : MachineState M)
-      → record { program = program; state = state_of processors m } ≡ run → state_of processors n ≡ end → slice_get processors (cpu_of e) ≡ Some p
+  pub done_in_place : (e : Event) (run : Running M) (initial : Initial) (p : ProcessorInMemory A) (processors : List (ProcessorInMemory A)) (m n : M) (answer : Answer) (end : MachineState M)
+      → record { program = program; initial = initial; state = state_of processors m } ≡ run → state_of processors n ≡ end → slice_get processors (cpu_of e) ≡ Some p
       → ActDone mem (cpu_of e) (event_act program (length (mem.content m)) e (processor_of p)) (processor_of p) m answer (processor_of p) n
       → EventDone mem run.program e run.state answer end
-  done_in_place e run p processors m n answer end same is at done =
+  done_in_place e run initial p processors m n answer end same is at done =
       let left : state_of (slice_set processors (cpu_of e) p) n ≡ end = ap (λ (ps : List (ProcessorInMemory A)). state_of ps n) (set_own processors (cpu_of e) p at) ∙ is in
-      subst (EventDone mem run.program e run.state answer) left (done_by e run p p processors m n answer same at done)
+      subst (EventDone mem run.program e run.state answer) left (done_by e run initial p p processors m n answer same at done)
 
   -- there is no such processor
   pub no_processor : (e : Event) (processors : List (ProcessorInMemory A)) (m : M) → length processors ≤ cpu_of e
@@ -180,4 +180,5 @@ module _ {M A : Type 0} (mem : Memory M) (program : List (List Instr)) where
           cpus = omega (arith, longer, kept.cpus, ok.cpus);
           as_many = longer ∙ ok.as_many;
           rooms = each_after (λ u r. HasRoom locs (code_of program u) (processor_of r) r.buffer.room) processors (cpu_of e) q (slice_get_within processors (cpu_of e) p at) ok.rooms room;
+          whole = each_after (λ u r. stores_from 0 (code_of program u) ≤ r.buffer.room) processors (cpu_of e) q (slice_get_within processors (cpu_of e) p at) ok.whole (rw same (ok.whole (cpu_of e) p at));
         }

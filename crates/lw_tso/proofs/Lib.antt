@@ -10,3 +10,4 @@ pub mod Neighbours
 pub mod Lift
 pub mod Endings
 pub mod Replaying
+pub mod Refilled

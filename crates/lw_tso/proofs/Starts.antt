@@ -1,5 +1,5 @@
 -- Processors at the start of a program, and a machine of them.
-use Rattle.std.proofs.Common.{◌≡◌, ℕ, suc, ◌+◌, ◌<◌, ◌≤◌, List, [], ◌∷◌, ◌++◌, length, map, take, get_or, Option, Some, None, sym, ap, ◌∙◌, subst, arith, slice_get, inl, inr, ◌⊎◌}
+use Rattle.std.proofs.Common.{◌≡◌, ℕ, suc, ◌+◌, ◌<◌, ◌≤◌, List, [], ◌∷◌, ◌++◌, length, map, take, get_or, Option, Some, None, refl, sym, ap, ◌∙◌, subst, arith, slice_get, inl, inr, ◌⊎◌}
 use Rattle.std.specs.Option.{option_map}
 use Rattle.std.proofs.Math.Seq.{take-suc}
 use Rattle.std.proofs.lemmas.Bool.{cases_eq}
@@ -47,6 +47,22 @@ module _ {A : Type 0} (program : List (List Instr)) (regs : List (List ℕ)) whe
         rooms = more_places (λ t q. stores_from 0 (code_of program t) ≤ q.buffer.room) processors next p is so_far.rooms (rw many roomy);
       }
 
+  -- processors with the same rooms have room for their codes too
+  pub still_roomy : (before now : List (ProcessorInMemory A)) → map (λ (p : ProcessorInMemory A). p.buffer.room) now ≡ map (λ (p : ProcessorInMemory A). p.buffer.room) before
+      → ((t : ℕ) (p : ProcessorInMemory A) → slice_get before t ≡ Some p → stores_from 0 (code_of program t) ≤ p.buffer.room)
+      → (t : ℕ) (p : ProcessorInMemory A) → slice_get now t ≡ Some p → stores_from 0 (code_of program t) ≤ p.buffer.room
+  still_roomy before now same roomy t p at = go (slice_get before t) refl
+    where
+      room : ProcessorInMemory A → ℕ
+      room q = q.buffer.room
+
+      seen : option_map room (slice_get before t) ≡ Some (room p)
+      seen = sym (slice_get-map room before t) ∙ ap (λ (rooms : List ℕ). slice_get rooms t) (sym same) ∙ slice_get-map room now t ∙ ap (option_map room) at
+
+      go : (o : Option (ProcessorInMemory A)) → slice_get before t ≡ o → stores_from 0 (code_of program t) ≤ p.buffer.room
+      go None e = absurd (let none : option_map room None ≡ Some (room p) = subst (λ o. option_map room o ≡ Some (room p)) e seen in cc)
+      go (Some q) e = subst (λ (n : ℕ). stores_from 0 (code_of program t) ≤ n) (same_Some (room q) (room p) (subst (λ o. option_map room o ≡ Some (room p)) e seen)) (roomy t q e)
+
   module _ {M : Type 0} (mem : Memory M) (locs : ℕ) (m : M) (processors : List (ProcessorInMemory A)) where
     starts_with : (t : ℕ) (p : ProcessorInMemory A) (o : Option (List ℕ)) → Some (processor_of p) ≡ option_map starting o → (r : List ℕ) × (processor_of p ≡ starting r)
     starts_with t p None e = absurd cc
@@ -68,4 +84,5 @@ module _ {A : Type 0} (program : List (List Instr)) (regs : List (List ℕ)) whe
               let seen : Some (processor_of p) ≡ option_map starting (slice_get regs t) = sym (slice_get-map processor_of processors t ∙ ap (option_map processor_of) at) ∙ ap (λ ps. slice_get ps t) started ∙ slice_get-map starting regs t in
               let first = starts_with t p (slice_get regs t) seen in
               subst (λ q. HasRoom locs (code_of program t) q p.buffer.room) (sym first.1) (record { fits = omega (arith, roomy t p at); there = All-nil _ });
+          whole = roomy;
         }

@@ -35,7 +35,7 @@ pub record HasRoom (locs : ℕ) (code : List Instr) (p : Processor) (room : ℕ)
 
 module _ {M A : Type 0} (mem : Memory M) where
   -- What always holds of the parts of a machine in memory: there is a processor for each thread, which the memory system
-  -- has too, the memory has the test's locations, and each store buffer has room.
+  -- has too, the memory has the test's locations, and each store buffer has room, for all stores of its code too.
   pub record IsMachine (program : List (List Instr)) (locs : ℕ) (m : M) (processors : List (ProcessorInMemory A)) : Type 0 where
     pub sound : mem.sound m
     pub locations : length (mem.content m) ≡ locs
@@ -44,3 +44,6 @@ module _ {M A : Type 0} (mem : Memory M) where
     pub rooms :
         (t : ℕ) (p : ProcessorInMemory A) → slice_get processors t ≡ Some p
         → HasRoom locs (code_of program t) (processor_of p) p.buffer.room
+    pub whole :
+        (t : ℕ) (p : ProcessorInMemory A) → slice_get processors t ≡ Some p
+        → stores_from 0 (code_of program t) ≤ p.buffer.room

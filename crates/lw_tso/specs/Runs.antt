@@ -1,5 +1,5 @@
 -- Runs of an x86 program on the machine, over any memory, and their outcomes.
-use Rattle.std.specs.Prelude.{◌≡◌, ◌==◌, Bool, nat_le, ◌&&◌, List, length, map, IsTrue}
+use Rattle.std.specs.Prelude.{◌≡◌, ℕ, ◌==◌, Bool, nat_le, ◌&&◌, List, length, map, IsTrue}
 use Rattle.std.specs.List.{list_all, zip}
 use Rattle.lw_base.specs.Outcomes.{Final}
 use Rattle.lw_base.specs.declared.event.Event.{Event}
@@ -16,9 +16,13 @@ abbrev pub is_done : List Instr → Processor → Bool
 is_done code p = nat_le (length code) p.position && (length p.buffer == 0)
 
 module _ {M : Type 0} where
-  -- all processors at their first instructions, over this memory
+  -- all processors at their first instructions with these registers, over this memory
+  abbrev pub start_with : List (List ℕ) → M → MachineState M
+  start_with regs m = record { processors = map starting regs; memory = m }
+
+  -- the same with a test's initial registers
   abbrev pub machine_start : ProgramTest → M → MachineState M
-  machine_start test m = record { processors = map starting test.head.init_regs; memory = m }
+  machine_start test m = start_with test.head.init_regs m
 
   -- all threads are at their ends, and all buffers are empty
   abbrev pub is_final : List (List Instr) → MachineState M → Bool
@@ -48,7 +52,13 @@ module _ {M : Type 0} (mem : Memory M) where
   abbrev pub MachineOutcome : ProgramTest → M → Final → Type 0
   MachineOutcome test m o = (events : List Event) × Replays test m events o
 
--- What a `Machine` is: a program, and the state that it is in.
+-- the registers of each thread and the words of the locations with which a test starts
+pub record Initial : Type 0 where
+  pub regs : List (List ℕ)
+  pub words : List ℕ
+
+-- What a `Machine` is: a program, with what its test starts with, and the state that it is in.
 pub record Running (M : Type 0) : Type 0 where
   pub program : List (List Instr)
+  pub initial : Initial
   pub state : MachineState M

@@ -67,6 +67,13 @@ impl<A: Allocator> StoreBuffer<A> {
         self.ring.pop_front()
     }
 
+    /// Takes all entries out.
+    pub(crate) fn clear(&mut self)
+        ensures { self.new ≡ record { entries = []; room = self.old.room } }
+    {
+        self.ring.clear();
+    }
+
     /// The entry at a place, counted from the oldest.
     pub(crate) fn entry(&self, place: usize) -> (Loc, Word)
         requires { place < length self.now.entries }

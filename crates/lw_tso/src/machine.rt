@@ -6,7 +6,7 @@ ghost use Rattle.lw_memory.specs.Memory.{memory_of};
 ghost use Rattle.lw_cells.specs.Tests.{test_of};
 ghost use Rattle.lw_tso.specs.Processors.{starting};
 ghost use Rattle.lw_tso.specs.Machines.{EventDone, buffer_of};
-ghost use Rattle.lw_tso.specs.Runs.{is_done, machine_start, machine_outcome, MachineReplayed};
+ghost use Rattle.lw_tso.specs.Runs.{is_done, start_with, machine_start, machine_outcome, MachineReplayed};
 ghost use Rattle.lw_tso.specs.Runs as runs;
 ghost use Rattle.lw_base.specs.Threads.{code_of};
 ghost use Rattle.lw_tso.specs.Rooms.{stores_from};
@@ -39,6 +39,7 @@ impl<'a, M: MemorySystem, A: Allocator, B: Allocator> Model for Machine<'a, M, A
 
     ghost view = { λ m. record {
       program = m.program.now.threads;
+      initial = record { regs = m.program.now.head.init_regs; words = m.program.now.head.init_words };
       state = record { processors = map processor_of m.processors.items; memory = m.memory };
     } };
 
@@ -54,6 +55,8 @@ impl<'a, M: MemorySystem, A: Allocator + Copy, B: Allocator> Machine<'a, M, A, B
         requires threads { length program.now.threads ≤ M.cpus memory }
         requires words { M.content memory ≡ program.now.head.init_words }
         ensures program { IfOk result (λ m. m.program ≡ program.now.threads) }
+        ensures initial { IfOk result
+            (λ m. m.initial ≡ record { regs = program.now.head.init_regs; words = program.now.head.init_words }) }
         ensures start { IfOk result (λ m. m.state ≡ machine_start (test_of program.now.head program.now.threads) memory) }
         ensures err { IfErr result (λ m. m ≡ memory) }
     {
@@ -113,6 +116,32 @@ impl<'a, M: MemorySystem, A: Allocator, B: Allocator> Machine<'a, M, A, B> {
         self.processors[cpu.index()].buffer.entry(place)
     }
 
+    /// Puts the machine back to the start of its test. It takes no memory.
+    pub fn restart(&mut self)
+        ensures program { self.new.program ≡ self.old.program }
+        ensures initial { self.new.initial ≡ self.old.initial }
+        ensures state { self.new.state
+            ≡ start_with self.old.initial.regs (M.start (M.cpus self.old.state.memory) self.old.initial.words) }
+        ensures sound { M.sound self.new.state.memory }
+        ensures cpus { length self.new.program ≤ M.cpus self.new.state.memory }
+        ensures words { M.content self.new.state.memory ≡ self.old.initial.words }
+    {
+        let head = &self.program.head;
+        restart_all(&mut self.processors, head.init_regs.as_slice());
+        self.memory.restart(head.init_words.as_slice());
+    }
+
+    /// Puts the registers as they are and the memory's content into an outcome of as many threads and locations. It takes
+    /// no memory.
+    pub fn write_outcome<C: Allocator>(&self, outcome: &mut Outcome<C>)
+        requires threads { length outcome.old.regs ≡ length self.now.state.processors }
+        requires words { length outcome.old.words ≡ length (M.content self.now.state.memory) }
+        ensures { outcome.new ≡ machine_outcome (memory_of M.content M.cpus M.state M.sound M.serves) self.now.state }
+    {
+        write_registers(self.processors.as_slice(), &mut outcome.regs);
+        write_content(&self.memory, &mut outcome.words);
+    }
+
     /// The memory system.
     pub fn memory(&self) -> &M
         ensures memory { result.now ≡ self.now.state.memory }
@@ -124,6 +153,7 @@ impl<'a, M: MemorySystem, A: Allocator, B: Allocator> Machine<'a, M, A, B> {
     /// Carries out an event. A refused one changes nothing.
     pub fn step(&mut self, event: Event) -> Result<(), Stop>
         ensures program { self.new.program ≡ self.old.program }
+        ensures initial { self.new.initial ≡ self.old.initial }
         ensures done { EventDone (memory_of M.content M.cpus M.state M.sound M.serves)
             self.old.program event self.old.state result self.new.state }
         ensures err { OnErr result (self.new ≡ self.old) }
@@ -140,6 +170,7 @@ impl<'a, M: MemorySystem, A: Allocator, B: Allocator> Machine<'a, M, A, B> {
     /// Carries out the events before the first that is refused, or all.
     pub fn run(&mut self, events: &[Event]) -> Replay
         ensures program { self.new.program ≡ self.old.program }
+        ensures initial { self.new.initial ≡ self.old.initial }
         ensures replayed { MachineReplayed (memory_of M.content M.cpus M.state M.sound M.serves)
             self.old.program events.now self.old.state result self.new.state }
         ensures processors { length self.new.state.processors ≡ length self.old.state.processors }
@@ -174,6 +205,7 @@ impl<'a, M: MemorySystem, A: Allocator, B: Allocator> Machine<'a, M, A, B> {
     /// The next instruction of a processor.
     fn carry_out(&mut self, cpu: Cpu) -> Result<(), Stop>
         ensures program { self.new.program ≡ self.old.program }
+        ensures initial { self.new.initial ≡ self.old.initial }
         ensures done { EventDone (memory_of M.content M.cpus M.state M.sound M.serves)
             self.old.program (of.Step cpu) self.old.state result self.new.state }
         ensures sound { M.sound self.old.state.memory }
@@ -191,6 +223,7 @@ impl<'a, M: MemorySystem, A: Allocator, B: Allocator> Machine<'a, M, A, B> {
     /// The oldest entry of a processor's store buffer goes to memory.
     fn drain(&mut self, cpu: Cpu) -> Result<(), Stop>
         ensures program { self.new.program ≡ self.old.program }
+        ensures initial { self.new.initial ≡ self.old.initial }
         ensures done { EventDone (memory_of M.content M.cpus M.state M.sound M.serves)
             self.old.program (of.Drain cpu) self.old.state result self.new.state }
         ensures sound { M.sound self.old.state.memory }
@@ -205,6 +238,7 @@ impl<'a, M: MemorySystem, A: Allocator, B: Allocator> Machine<'a, M, A, B> {
     /// A processor's cache gives up its line of a location.
     fn evict(&mut self, cpu: Cpu, loc: Loc) -> Result<(), Stop>
         ensures program { self.new.program ≡ self.old.program }
+        ensures initial { self.new.initial ≡ self.old.initial }
         ensures done { EventDone (memory_of M.content M.cpus M.state M.sound M.serves)
             self.old.program (of.Evict cpu loc) self.old.state result self.new.state }
         ensures sound { M.sound self.old.state.memory }
@@ -237,6 +271,18 @@ fn processors_of<A: Allocator + Copy, B: Allocator>(
         processors.push(Processor::new(alloc, *regs, code.as_slice())?)?;
     }
     Ok(processors)
+}
+
+/// Puts processors back to their first instructions, with these registers.
+fn restart_all<A: Allocator>(processors: &mut [Processor<A>], init_regs: &[[Word; 6]])
+    requires { length processors.old ≡ length init_regs.now }
+    ensures start { map processor_of processors.new ≡ map starting init_regs.now }
+    ensures rooms { map (λ p. p.buffer.room) processors.new ≡ map (λ p. p.buffer.room) processors.old }
+{
+    for (thread, regs) in init_regs.iter().enumerate() {
+        let processor = &mut processors[thread];
+        processor.restart(*regs);
+    }
 }
 
 /// The instruction at a position of a thread's code, if it is not at the end.
@@ -286,4 +332,27 @@ fn content_of<M: MemorySystem, A: Allocator>(
         words.push(memory.word_at_end(*loc))?;
     }
     Ok(words)
+}
+
+/// Puts the registers of each processor in the places of others.
+fn write_registers<A: Allocator, B: Allocator>(
+    processors: &[Processor<A>],
+    regs: &mut Sequence<[Word; 6], B>,
+)
+    requires { length regs.old ≡ length processors.now }
+    ensures { regs.new ≡ map (λ p. p.regs) processors.now }
+{
+    for (thread, processor) in processors.iter().enumerate() {
+        regs.set(thread, processor.regs);
+    }
+}
+
+/// Puts the content of a memory system in the places of other words.
+fn write_content<M: MemorySystem, A: Allocator>(memory: &M, words: &mut Sequence<Word, A>)
+    requires { length words.old ≡ length (M.content memory.now) }
+    ensures { words.new ≡ M.content memory.now }
+{
+    for loc in &Loc::all()[..memory.location_count()] {
+        words.set(loc.index(), memory.word_at_end(*loc));
+    }
 }

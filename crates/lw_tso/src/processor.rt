@@ -48,6 +48,17 @@ impl<A: Allocator> Processor<A> {
         })
     }
 
+    /// Puts the processor back to the first instruction, with these registers. It takes no memory.
+    pub(crate) fn restart(&mut self, regs: [Word; 6])
+        ensures processor { processor_of self.new ≡ starting regs }
+        ensures room { self.new.buffer.room ≡ self.old.buffer.room }
+    {
+        self.position = 0;
+        self.regs = regs;
+        self.zero_flag = false;
+        self.buffer.clear();
+    }
+
     /// Whether the processor is at the end of a code of so many instructions, and its buffer is empty.
     pub(crate) fn is_done(&self, count: usize) -> bool
         ensures { result ≡ (nat_le count self.now.position && (length self.now.buffer.entries == 0)) }

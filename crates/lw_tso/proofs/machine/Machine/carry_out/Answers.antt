@@ -20,7 +20,7 @@ returns-in_default-clause-done g c =
     let within : c.args.cpu < length c.self.inside.processors.items = omega (arith, c.len.ensures, c.index.ensures.value) in
     let at = read c.self.inside.processors.items _ _ c.args.cpu c.index_mut-processor.result.now refl c.index-2.ensures.value within c.index_mut-processor.ensures.value in
     let done = at_end mem c.self.inside.program.now.threads c.args.cpu (processor_of c.index_mut-processor.result.now) c.self.inside.memory (sym c.instr_at.ensures ∙ c.in_default.is) in
-    rw c.index-2.ensures.value (done_by mem c.self.inside.program.now.threads (of.Step c.args.cpu) c.args.self.now c.index_mut-processor.result.now c.index_mut-processor.result.now c.self.inside.processors.items c.self.inside.memory c.self.inside.memory _ c.self.view_is at done)
+    rw c.index-2.ensures.value (done_by mem c.self.inside.program.now.threads (of.Step c.args.cpu) c.args.self.now _ c.index_mut-processor.result.now c.index_mut-processor.result.now c.self.inside.processors.items c.self.inside.memory c.self.inside.memory _ c.self.view_is at done)
 
 pub invariant_of-self-2 : goal.invariant_of-self-2
 invariant_of-self-2 g c =
@@ -38,4 +38,4 @@ returns-clause-done g c =
     let at = read c.self.inside.processors.items _ _ c.args.cpu c.index_mut-processor.result.now refl c.index-2.ensures.value within c.index_mut-processor.ensures.value in
     let next = sym c.instr_at.ensures ∙ c.in-Some.is in
     let done = step_done mem c.self.inside.program.now.threads c.args.cpu (processor_of c.index_mut-processor.result.now) (processor_of c.carry_out.new.self) c.in-Some.instr c.self.inside.memory c.carry_out.new.memory c.carry_out.result next c.carry_out.ensures.done in
-    rw c.index-2.ensures.value (done_by mem c.self.inside.program.now.threads (of.Step c.args.cpu) c.args.self.now c.index_mut-processor.result.now c.carry_out.new.self c.self.inside.processors.items c.self.inside.memory c.carry_out.new.memory c.carry_out.result c.self.view_is at done)
+    rw c.index-2.ensures.value (done_by mem c.self.inside.program.now.threads (of.Step c.args.cpu) c.args.self.now _ c.index_mut-processor.result.now c.carry_out.new.self c.self.inside.processors.items c.self.inside.memory c.carry_out.new.memory c.carry_out.result c.self.view_is at done)

@@ -23,4 +23,4 @@ returns-clause-done g c =
     let mem = memory_of g.M.MemorySystem.content g.M.MemorySystem.cpus g.M.MemorySystem.state g.M.MemorySystem.sound g.M.MemorySystem.serves in
     let within : c.args.cpu < length c.self.inside.processors.items = omega (arith, c.len.ensures, c.index.ensures.value) in
     let at = read c.self.inside.processors.items _ _ c.args.cpu c.index_mut-processor.result.now refl c.index-2.ensures.value within c.index_mut-processor.ensures.value in
-    rw c.index-2.ensures.value (done_by mem c.self.inside.program.now.threads (of.Drain c.args.cpu) c.args.self.now c.index_mut-processor.result.now c.drain.new.self c.self.inside.processors.items c.self.inside.memory c.drain.new.memory c.drain.result c.self.view_is at c.drain.ensures.done)
+    rw c.index-2.ensures.value (done_by mem c.self.inside.program.now.threads (of.Drain c.args.cpu) c.args.self.now _ c.index_mut-processor.result.now c.drain.new.self c.self.inside.processors.items c.self.inside.memory c.drain.new.memory c.drain.result c.self.view_is at c.drain.ensures.done)

@@ -12,6 +12,7 @@ loop-done-preserved g c =
     let done = rw (before.program, c.in_default.is) at c.step.ensures.done in
     record {
       program = c.step.ensures.program ∙ before.program;
+      initial = c.step.ensures.initial ∙ before.initial;
       ran = Ran-more (EventDone mem c.args.self.now.program) (is_final c.args.self.now.program) c.args.events.now c.loop-done.done c.index-events-done.result c.args.self.now.state c.loop-done.self.state c.step.new.self.state c.loop-done-test.true c.index-events-done.is before.ran done;
       processors = c.step.ensures.processors ∙ before.processors;
       words = c.step.ensures.words ∙ before.words;

@@ -1,0 +1,20 @@
+-- Lists whose items are put in the places of others, one after another.
+use Rattle.std.proofs.Common.{◌≡◌, ℕ, ◌+◌, ◌<◌, ◌≤◌, List, [], ◌∷◌, length, map, set, take, get_or, Some, refl, sym, ap, ◌∙◌, arith, slice_get}
+use Rattle.std.proofs.lemmas.List.{map-append, map-set, map_more, take_all, take_more_set}
+use Rattle.lw_cells.proofs.Lists.{set_own}
+
+-- one item more
+pub refilled : {X Y Z : Type 0} (f : X → Z) (g : Y → Z) (xs : List X) (ys : List Y) (i : ℕ) (x : X) (d : Y) → i < length xs → i < length ys
+    → map f (take i xs) ≡ map g (take i ys) → f x ≡ g (get_or ys i d) → map f (take (i + 1) (set xs i x)) ≡ map g (take (i + 1) ys)
+refilled f g xs ys i x d within there so_far is =
+    ap (map f) (take_more_set xs i x within) ∙ map-append f (take i xs) (x ∷ []) ∙ rw (so_far, is) refl ∙ sym (map_more g ys i d there)
+
+-- all of them
+pub refilled_all : {X Y Z : Type 0} (f : X → Z) (g : Y → Z) (xs : List X) (ys : List Y) (k : ℕ) → map f (take k xs) ≡ map g (take k ys) → length xs ≡ length ys → length ys ≤ k
+    → map f xs ≡ map g ys
+refilled_all f g xs ys k so_far many past =
+    ap (map f) (sym (take_all k xs (omega arith))) ∙ so_far ∙ ap (map g) (take_all k ys past)
+
+-- what each item keeps
+pub kept_in_place : {X Y : Type 0} (f : X → Y) (xs : List X) (i : ℕ) (x y : X) → slice_get xs i ≡ Some y → f x ≡ f y → map f (set xs i x) ≡ map f xs
+kept_in_place f xs i x y at same = map-set f xs i x ∙ rw same (sym (map-set f xs i y) ∙ ap (map f) (set_own xs i y at))

@@ -1,0 +1,17 @@
+use Rattle.std.proofs.Common.{◌<◌, arith, length, length-set, [], refl, ◌∙◌}
+use Rattle.lw_tso.specs.declared.processor.Processor.{Processor as ProcessorInMemory}
+use Rattle.lw_tso.specs.Processors.{starting}
+use Rattle.lw_tso.specs.Views.{processor_of}
+use Rattle.lw_tso.proofs.Events.{read}
+use Rattle.lw_tso.proofs.Refilled.{refilled, kept_in_place}
+use Rattle.lw_tso.proofs.machine.restart_all.Goals as goal
+
+pub loop-thread-preserved : goal.loop-thread-preserved
+loop-thread-preserved g c =
+    let before = c.loop-thread.processors in let t = c.loop-thread.thread in
+    let within : t < length before = omega (arith, c.loop-thread.invariant.many, c.requires) in
+    record {
+      many = length-set before t c.restart.new.self ∙ c.loop-thread.invariant.many;
+      start = refilled processor_of starting before c.args.init_regs.now t c.restart.new.self [] within c.loop-thread-test.true c.loop-thread.invariant.start c.restart.ensures.processor;
+      rooms = kept_in_place (λ (p : ProcessorInMemory g.row.A.Denot). p.buffer.room) before t c.restart.new.self c.index-processors-thread.result (read before before t t c.index-processors-thread.result refl refl within c.index-processors-thread.is) (rw c.index-processors-thread.is c.restart.ensures.room) ∙ c.loop-thread.invariant.rooms;
+    }

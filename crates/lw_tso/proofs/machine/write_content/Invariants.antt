@@ -1,0 +1,9 @@
+use Rattle.std.proofs.Common.{◌≡◌, length, take}
+use Rattle.lw_tso.proofs.machine.write_content.Given as goal
+
+abbrev pub invariant-loop-loc : goal.invariant-loop-loc
+invariant-loop-loc g l =
+    record {
+      many : length l.words ≡ length l.initial.words;
+      words : take l.loc-index l.words ≡ take l.loc-index (g.M.MemorySystem.content l.memory);
+    }
