@@ -17,7 +17,8 @@ use Rattle.lw_tso.specs.Runs.{MachineRan}
 use Rattle.lw_fence.specs.Compiling.{IsCompiled}
 use Rattle.lw_fence.proofs.Lag.{Lag, Followed, drained}
 use Rattle.lw_fence.proofs.LagSteps.{stepped}
-use Rattle.lw_fence.proofs.Moves.{source_append, state, Did, leads_to, no_eviction}
+use Rattle.lw_tso.proofs.Effects.{state, Did, leads_to, no_eviction}
+use Rattle.lw_fence.proofs.Moves.{source_append}
 use Rattle.lw_fence.proofs.Placed.{placed_at}
 use Rattle.lw_fence.proofs.Steps.{allowed_at}
 

@@ -25,7 +25,8 @@ use Rattle.lw_fence.specs.Compiling.{moved, summed, row, IsCompiled}
 use Rattle.lw_fence.proofs.Behind.{LagAt, Behind, Caught, still_behind, caught_on, not_moved}
 use Rattle.lw_fence.proofs.Lag.{Stage, whole, midway}
 use Rattle.lw_fence.proofs.Lists.{zip_passes}
-use Rattle.lw_fence.proofs.Moves.{state, Turns}
+use Rattle.lw_tso.proofs.Effects.{state}
+use Rattle.lw_fence.proofs.Moves.{Turns}
 use Rattle.lw_fence.proofs.Owes.{Owes, nothing, catch_up}
 use Rattle.lw_fence.proofs.Placed.{Placed, StandsAt, placed_at}
 

@@ -24,7 +24,8 @@ use Rattle.lw_tso.specs.Processors.{Processor, newest, going_on, getting, flaggi
 use Rattle.lw_fence.specs.Compiling.{summed, row}
 use Rattle.lw_fence.specs.Fences.{is_load, Is, NeedsFence}
 use Rattle.lw_fence.proofs.Lag.{Middle, fenced, swapping, adding, summing, testing_eq, testing_ne, Stage, whole, midway, Followed}
-use Rattle.lw_fence.proofs.Moves.{Does, turns_none, turns_on, turn}
+use Rattle.lw_tso.proofs.Effects.{Does}
+use Rattle.lw_fence.proofs.Moves.{turns_none, turns_on, turn}
 use Rattle.lw_fence.proofs.Owes.{IsLocal, Owes, nothing, owes_local, owes_store, catch_up, after_store}
 use Rattle.lw_fence.proofs.Placed.{Placed, StandsAt}
 use Rattle.lw_fence.proofs.Steps.{Allowed, Sane, stays_sane, sum_comm}

@@ -24,7 +24,8 @@ use Rattle.lw_tso.specs.Runs.{MachineRan, Replays, machine_outcome, is_done, is_
 use Rattle.lw_fence.specs.Compiling.{row, IsCompiled}
 use Rattle.lw_fence.specs.Schedules.{statement_events, thread_events, going_on, schedule}
 use Rattle.lw_fence.proofs.Lists.{same_maps, zip_pass, zip_passes}
-use Rattle.lw_fence.proofs.Moves.{run_append, state}
+use Rattle.lw_tso.proofs.Effects.{state}
+use Rattle.lw_fence.proofs.Moves.{run_append}
 use Rattle.lw_fence.proofs.Placed.{Stands, placed_at}
 use Rattle.lw_fence.proofs.Statements.{standing, events_for, Turned, statement_turned}
 use Rattle.lw_fence.proofs.Steps.{Sane, allowed_at, stays_sane, compiled_start, start_is, first_pair, first_sane}

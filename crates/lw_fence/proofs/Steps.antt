@@ -24,7 +24,7 @@ use Rattle.lw_tso.specs.Machines.{MachineState}
 use Rattle.lw_tso.specs.Runs.{machine_start}
 use Rattle.lw_fence.specs.Compiling.{IsCompiled}
 use Rattle.lw_fence.proofs.Lists.{got_map}
-use Rattle.lw_fence.proofs.Moves.{state}
+use Rattle.lw_tso.proofs.Effects.{state}
 
 pub sum_comm : (x y : ℕ) → sum_of x y ≡ sum_of y x
 sum_comm x y = ap (λ (k : ℕ). k % 2 ^ 32) (add_comm x y)
