@@ -14,10 +14,10 @@ use Rattle.lw_finals.proofs.Members.{Contains-here}
 use Rattle.lw_finals.proofs.Pairs.{In, All-passing, pairs_up, pairs_have, pairs_rise, Rises-filter, Rises-sorted, Contains-filter}
 
 -- the last items, given whether they are of the thread
-last_same : (t u : ℕ) (last : Last) → t ≡ u → last_of t u last ≡ last
+pub last_same : (t u : ℕ) (last : Last) → t ≡ u → last_of t u last ≡ last
 last_same t u last e = cond-true (t == u) last none_before (eq-eqb t u e)
 
-last_other : (t u : ℕ) (last : Last) → (t ≡ u → ⊥) → last_of t u last ≡ none_before
+pub last_other : (t u : ℕ) (last : Last) → (t ≡ u → ⊥) → last_of t u last ≡ none_before
 last_other t u last ne = cond-false (t == u) last none_before (ne_eqb t u ne)
 
 module _ (whole : List Item) where

@@ -1,25 +1,52 @@
--- A run of an order of a source test's items, one item further.
-use Rattle.std.proofs.Common.{◌≡◌, ℕ, suc, ◌<◌, false, List, ◌∷◌, length, drop, Some, sym, ap, ◌∙◌, subst, get_or, drop-cons}
+-- A run of an order of items, one item further.
+use Rattle.std.proofs.Common.{◌≡◌, ℕ, suc, ◌+◌, ◌<◌, ◌≤◌, Bool, false, List, ◌∷◌, length, drop, Some, refl, sym, ap, ◌∙◌, subst, arith, get_or, drop-cons}
+use Rattle.std.proofs.lemmas.List.{drop_all}
 use Rattle.std.proofs.lemmas.Option.{slice_get-get_or, get_or_from_slice_get}
-use Rattle.lw_source.specs.declared.stmt.Stmt.{Stmt}
-use Rattle.lw_source.specs.Runs.{State}
+use Rattle.lw_base.specs.Outcomes.{Final}
 use Rattle.lw_finals.specs.declared.item.Item.{Item}
 use Rattle.lw_finals.specs.Items.{item_at}
-use Rattle.lw_finals.specs.SourceItems.{CarriedOut}
-use Rattle.lw_finals.proofs.SourceOrdered.{OrderRan}
-
--- The first k items of an order have led from a state to another, as they do in every run of it.
-pub record RanFirst (program : List (List Stmt)) (items : List Item) (order : List ℕ) (k : ℕ) (s now : State) : Type 0 where
-  pub goes : (end : State) → OrderRan program items order s end → OrderRan program items (drop k order) now end
-  pub comes : (end : State) → OrderRan program items (drop k order) now end → OrderRan program items order s end
+use Rattle.lw_finals.specs.OrderRuns.{OrderRan}
 
 -- what an index reads is the item
 read_item : (items : List Item) (n : ℕ) (x : Item) → n < length items → x ≡ get_or items n x → item_at items n ≡ x
 read_item items n x l e = get_or_from_slice_get items n x (record { thread = 0; position = 0; is_drain = false }) (slice_get-get_or items n x l ∙ ap Some (sym e))
 
--- an item that can't be carried out ends every run
-pub ran_off : (program : List (List Stmt)) (items : List Item) (order : List ℕ) (k n d : ℕ) (x : Item) (s now : State) → k < length order → n ≡ get_or order k d → n < length items → x ≡ get_or items n x → ((next : State) → CarriedOut program x now next → ⊥) → RanFirst program items order k s now → (end : State) → OrderRan program items order s end → ⊥
-ran_off program items order k n d x s now l is there read none r end o =
-    let split : drop k order ≡ n ∷ drop (suc k) order = drop-cons order k d l ∙ ap (λ (i : ℕ). i ∷ drop (suc k) order) (sym is) in
-    let m : OrderRan program items (n ∷ drop (suc k) order) now end = subst (λ (xs : List ℕ). OrderRan program items xs now end) split (r.goes end o) in
-    none m.0 (subst (λ (y : Item). CarriedOut program y now m.0) (read_item items n x there read) m.1)
+module _ {State : Type 0} (Carried : Item → State → State → Type 0) (is_final : State → Bool) (outcome_of : State → Final) (items : List Item) where
+  abbrev Ran : List ℕ → State → State → Type 0
+  Ran = OrderRan Carried is_final outcome_of items
+
+  -- The first k items of an order have led from a state to another, as they do in every run of it.
+  pub record RanFirst (order : List ℕ) (k : ℕ) (s now : State) : Type 0 where
+    pub goes : (end : State) → Ran order s end → Ran (drop k order) now end
+    pub comes : (end : State) → Ran (drop k order) now end → Ran order s end
+
+  -- the item of number n is the next one
+  next_item : (order : List ℕ) (k n d : ℕ) → k < length order → n ≡ get_or order k d → drop k order ≡ n ∷ drop (suc k) order
+  next_item order k n d l is = drop-cons order k d l ∙ ap (λ (i : ℕ). i ∷ drop (suc k) order) (sym is)
+
+  -- an item that can't be carried out ends every run
+  pub ran_off : (order : List ℕ) (k n d : ℕ) (x : Item) (s now : State) → k < length order → n ≡ get_or order k d → n < length items → x ≡ get_or items n x → ((next : State) → Carried x now next → ⊥) → RanFirst order k s now → (end : State) → Ran order s end → ⊥
+  ran_off order k n d x s now l is there reads none r end o =
+      let m : Ran (n ∷ drop (suc k) order) now end = subst (λ (xs : List ℕ). Ran xs now end) (next_item order k n d l is) (r.goes end o) in
+      none m.0 (subst (λ (y : Item). Carried y now m.0) (read_item items n x there reads) m.1)
+
+  -- one item more, which can lead to one state alone
+  pub ran_on : (order : List ℕ) (k n d : ℕ) (x : Item) (s now next : State) → k < length order → n ≡ get_or order k d → n < length items → x ≡ get_or items n x
+      → Carried x now next → ((other : State) → Carried x now other → other ≡ next) → RanFirst order k s now → RanFirst order (k + 1) s next
+  ran_on order k n d x s now next l is there reads carried alone r =
+      let split = next_item order k n d l is in
+      let more : suc k ≡ k + 1 = omega arith in
+      let item = read_item items n x there reads in
+      record {
+        goes = λ end o. let m : Ran (n ∷ drop (suc k) order) now end = subst (λ (xs : List ℕ). Ran xs now end) split (r.goes end o) in
+            subst (λ (s : State). Ran (drop (k + 1) order) s end) (alone m.0 (subst (λ (y : Item). Carried y now m.0) item m.1)) (subst (λ (j : ℕ). Ran (drop j order) m.0 end) more m.2);
+        comes = λ end o. let m : Ran (n ∷ drop (suc k) order) now end = (next, subst (λ (y : Item). Carried y now next) (sym item) carried, subst (λ (j : ℕ). Ran (drop j order) next end) (sym more) o) in
+            r.comes end (subst (λ (xs : List ℕ). Ran xs now end) (sym split) m);
+      }
+
+  -- behind the last item a run has ended
+  pub ran_out : (order : List ℕ) (k : ℕ) (s now : State) → length order ≤ k → RanFirst order k s now → (end : State) → Ran order s end → end ≡ now
+  ran_out order k s now past r end o = subst (λ (xs : List ℕ). Ran xs now end) (drop_all k order past) (r.goes end o)
+
+  pub ran_whole : (order : List ℕ) (k : ℕ) (s now : State) → length order ≤ k → RanFirst order k s now → Ran order s now
+  ran_whole order k s now past r = r.comes now (subst (λ (xs : List ℕ). Ran xs now now) (sym (drop_all k order past)) refl)

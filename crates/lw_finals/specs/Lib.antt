@@ -9,6 +9,8 @@ pub mod Visits
 pub mod OrderRuns
 pub mod SourceItems
 pub mod X86Items
+pub mod X86Runs
+pub mod X86Runners
 pub mod Counts
 pub mod Sizes
 pub mod Gathered

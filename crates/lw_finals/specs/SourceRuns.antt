@@ -1,14 +1,12 @@
 -- What runs the orders of a source test's items: the test, with what it is compiled to.
-use Rattle.std.specs.Prelude.{◌≡◌, ℕ, List, map}
+use Rattle.std.specs.Prelude.{ℕ, List, map}
 use Rattle.lw_base.specs.Outcomes.{Final}
 use Rattle.lw_base.specs.declared.event.Event.{Event}
-use Rattle.lw_memory.specs.Flat.{flat}
 use Rattle.lw_source.specs.Sources.{SourceTest}
-use Rattle.lw_tso.specs.Evictions.{without_evictions}
-use Rattle.lw_tso.specs.Runs.{Replays}
 use Rattle.lw_x86.specs.Programs.{ProgramTest}
 use Rattle.lw_finals.specs.declared.item.Item.{Item}
 use Rattle.lw_finals.specs.Items.{item_at}
+use Rattle.lw_finals.specs.X86Runs.{LeadsFlat}
 
 -- a source test, the program that it is compiled to, and where its statements start
 pub record CompiledSource : Type 0 where
@@ -27,4 +25,4 @@ threads_of items order = map (λ i. (item_at items i).thread) order
 
 -- A schedule without evictions replays over flat memory, in the compiled program, to an outcome.
 abbrev pub leads_flat : CompiledSource → List Event → Final → Type 0
-leads_flat t events o = Replays flat t.program t.program.head.init_words events o × (without_evictions events ≡ events)
+leads_flat t = LeadsFlat t.program

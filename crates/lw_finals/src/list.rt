@@ -1,25 +1,32 @@
-//! The complete list of a source test.
+//! The complete list of a test, of either language.
 ghost use Rattle.std.specs.Prelude.{◌≡◌, ◌↔◌, All, Contains, IfOk, IfErr, OnOk};
 ghost use Rattle.lw_base.specs.Heads.{head_of};
 ghost use Rattle.lw_base.specs.Outcomes.{Final};
+ghost use Rattle.lw_mesi.specs.declared.protocol.Protocol.{Protocol};
 ghost use Rattle.lw_source.specs.Runs.{SourceOutcome};
 ghost use Rattle.lw_source.specs.Views.{source_of};
+ghost use Rattle.lw_x86.specs.Views.{program_of};
 ghost use Rattle.lw_finals.specs.Counts.{TellsLimit, IsWithinLimits};
 ghost use Rattle.lw_finals.specs.Listings.{outcomes_of, IsStrictlySorted, IsEntryOf};
 ghost use Rattle.lw_finals.specs.Lists.{ListsMachine};
+ghost use Rattle.lw_finals.specs.Machines.{ReplaysOverCaches, OutcomeOverCaches};
 ghost use Rattle.lw_finals.specs.SourceItems.{source_language};
+ghost use Rattle.lw_finals.specs.X86Items.{x86_language};
 
 use crate::fault::ListFault;
 use crate::gather::list_program;
+use crate::laws::{alike_x86_orders_end_alike, x86_outcomes_are_those_of_choices};
 use crate::listing::Listing;
 use crate::machines::{
     outcomes_over_caches_are_flat, replays_over_caches_are_flat,
     replays_over_caches_are_of_their_test,
 };
 use crate::source_runner::SourceRunner;
+use crate::x86_runner::X86Runner;
 use lw_fence::compile;
 use lw_orders::orders_are_complete;
 use lw_source::Source;
+use lw_x86::Program;
 use std::alloc::Allocator;
 
 /// The list of all final states of a source test, each with a schedule of the program that it is compiled to.
@@ -46,4 +53,33 @@ pub fn list_source<A: Allocator + Copy>(
     let compiled = compile(alloc, source)?;
     let runner = SourceRunner::new(alloc, source, &compiled)?;
     list_program(alloc, source.threads.as_slice(), runner)
+}
+
+/// The list of all final states of an x86 test on the whole machine, each with a schedule of steps and drains.
+pub fn list_raw<A: Allocator + Copy>(
+    alloc: A,
+    program: &Program<A>,
+) -> Result<Listing<A>, ListFault>
+    // Each outcome stands once, and they go up.
+    ensures sorted { IfOk result (λ l. IsStrictlySorted l) }
+    // They are exactly those that the machine reaches over caches of either protocol, over all schedules of steps, drains and
+    // evictions.
+    ensures exactly { IfOk result (λ l. (protocol : Protocol) (o : Final)
+        → Contains (outcomes_of l) o ↔ OutcomeOverCaches protocol (program_of program.now) o) }
+    // Each entry's schedule replays there to its outcome.
+    ensures replays { IfOk result (λ l. (protocol : Protocol) → All (λ e. ReplaysOverCaches protocol (program_of program.now) e.1 e.0) l) }
+    // Each entry is of the test's threads and locations.
+    ensures of_test { IfOk result (λ l. All (IsEntryOf (head_of program.now.head)) l) }
+    // It is answered within the limits alone, and a limit is told where it is passed.
+    ensures within { OnOk result (IsWithinLimits x86_language program.now.threads) }
+    ensures limit { IfErr result (TellsLimit x86_language program.now.threads) }
+{
+    orders_are_complete();
+    outcomes_over_caches_are_flat();
+    replays_over_caches_are_flat();
+    replays_over_caches_are_of_their_test();
+    alike_x86_orders_end_alike();
+    x86_outcomes_are_those_of_choices();
+    let runner = X86Runner::new(alloc, program)?;
+    list_program(alloc, program.threads.as_slice(), runner)
 }

@@ -1,6 +1,6 @@
 use Rattle.std.proofs.Common.{◌<◌, List, length, ap, sym, subst}
 use Rattle.lw_source.specs.declared.stmt.Stmt.{Stmt}
-use Rattle.lw_source.specs.Runs.{State, start_of}
+use Rattle.lw_source.specs.Runs.{State, start_of, is_final, outcome_of}
 use Rattle.lw_source.specs.Sources.{SourceTest}
 use Rattle.lw_source.specs.Views.{source_of}
 use Rattle.lw_finals.specs.SourceItems.{CarriedOut, StaysAndEnds}
@@ -16,4 +16,4 @@ returns-then-not-carry_out-clause-ends g c o stays =
     let run : StaysAndEnds (source_of source) items order o = subst (λ (s : SourceTest). StaysAndEnds s items order o) (sym (ap (λ (r : SourceRunning). r.test.source) c.self.view_is)) stays in
     let none = subst (λ (p : List (List Stmt)). (next : State) → CarriedOut p c.index-items-from.result now next → ⊥) c.loop-number.invariant.program (c.carry_out.ensures.left c.if-not-carry_out.true) in
     let within : c.from.result < length items = rw c.from.ensures (c.requires k 0 c.loop-number-test.true) in
-    ran_off source.threads items order k c.from.result 0 c.index-items-from.result (start_of (source_of source)) now c.loop-number-test.true c.from.ensures within c.index-items-from.is none c.loop-number.invariant.ran run.end run.ran
+    ran_off (CarriedOut source.threads) (is_final source.threads) outcome_of items order k c.from.result 0 c.index-items-from.result (start_of (source_of source)) now c.loop-number-test.true c.from.ensures within c.index-items-from.is none c.loop-number.invariant.ran run.end run.ran

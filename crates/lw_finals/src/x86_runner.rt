@@ -1,0 +1,181 @@
+//! Runs of the orders of an x86 test's items, on the machine over MESI caches.
+ghost use Rattle.std.specs.Prelude.{◌≡◌, ◌<◌, ◌↔◌, true, false, Err, IsTrue, length, All, IfOk};
+ghost use Rattle.lw_base.specs.declared.stop.Stop.{Stop};
+ghost use Rattle.lw_memory.specs.Flat.{flat};
+ghost use Rattle.lw_memory.specs.Memory.{memory_of};
+ghost use Rattle.lw_tso.specs.Exchange.{StandsAt};
+ghost use Rattle.lw_tso.specs.Machines.{EventDone};
+ghost use Rattle.lw_x86.specs.Views.{program_of};
+ghost use Rattle.lw_finals.specs.X86Runs.{event_of, events_of, CarriedOut, StaysAndEnds, LeadsFlat};
+
+use crate::item::Item;
+use crate::runner::{OrderRunner, copy_outcome};
+use lw_base::{Event, Outcome, Sequence};
+use lw_memory::MemorySystem;
+use lw_mesi::{Mesi, empty_caches_are_kept};
+use lw_tso::{Machine, events_are_flat, flat_events_are_determined};
+use lw_x86::Program;
+use std::alloc::{AllocError, Allocator};
+use std::marker::Model;
+
+/// Runs an x86 test on the machine. Which caches are under it makes no difference to its outcomes.
+#[derive(Drop)]
+pub struct X86Runner<'a, A: Allocator> {
+    alloc: A,
+    program: &'a Program<A>,
+    machine: Machine<'a, Mesi<A>, A, A>,
+    end: Outcome<A>,
+}
+
+impl<'a, A: Allocator> Model for X86Runner<'a, A> {
+    ghost use Rattle.std.specs.Prelude.{◌≡◌, length};
+    ghost use Rattle.std.specs.Coded.{codes};
+    ghost use Rattle.lw_x86.specs.Views.{program_of};
+    ghost use Rattle.lw_finals.specs.Codes.{formula_code};
+    ghost use Rattle.lw_finals.specs.X86Runners.{X86Running};
+
+    ghost Value = { X86Running };
+
+    ghost coded = { Prim.hlevel (codes, formula_code) };
+
+    ghost view = { λ r. record { test = program_of r.program.now; end = r.end } };
+
+    ghost invariant = { λ r.
+        (r.machine.program ≡ r.program.now.threads)
+        × (r.machine.initial ≡ record { regs = r.program.now.head.init_regs; words = r.program.now.head.init_words })
+        × (length r.end.regs ≡ length r.program.now.head.init_regs) × (length r.end.words ≡ length r.program.now.head.init_words) };
+}
+
+/// What an item stands for.
+fn event_of(item: &Item) -> Event
+    ensures { result ≡ event_of item.now }
+{
+    if item.is_drain {
+        Event::Drain(item.thread)
+    } else {
+        Event::Step(item.thread)
+    }
+}
+
+/// The events of an order's items.
+fn events_of<A: Allocator>(
+    alloc: A,
+    items: &[Item],
+    order: &[u8],
+) -> Result<Sequence<Event, A>, AllocError>
+    requires { All (λ i. i < length items.now) order.now }
+    ensures { IfOk result (λ events. events ≡ events_of items.now order.now) }
+{
+    let mut events = Sequence::new(alloc);
+    for number in order {
+        events.push(event_of(&items[usize::from(*number)]))?;
+    }
+    Ok(events)
+}
+
+/// Whether an item's thread is at the item's instruction. A drain has none.
+fn stands_at<M: MemorySystem, A: Allocator, B: Allocator>(
+    machine: &Machine<'_, M, A, B>,
+    threads: usize,
+    item: &Item,
+) -> bool
+    requires { threads ≡ length machine.now.state.processors }
+    ensures { IsTrue result ↔ StandsAt (event_of item.now) item.now.position machine.now.state }
+{
+    if item.is_drain {
+        return true;
+    }
+    if threads <= item.thread.index() {
+        return false;
+    }
+    machine.position(item.thread) == usize::from(item.position)
+}
+
+/// Carries an item out, where its thread is at its instruction and its event is possible.
+fn carry_out<M: MemorySystem, A: Allocator, B: Allocator>(
+    machine: &mut Machine<'_, M, A, B>,
+    threads: usize,
+    item: &Item,
+) -> bool
+    requires { threads ≡ length machine.old.state.processors }
+    ensures program { machine.new.program ≡ machine.old.program }
+    ensures initial { machine.new.initial ≡ machine.old.initial }
+    ensures processors { length machine.new.state.processors ≡ length machine.old.state.processors }
+    ensures words { length (M.content machine.new.state.memory) ≡ length (M.content machine.old.state.memory) }
+    ensures done { result ≡ true → CarriedOut (memory_of M.content M.cpus M.state M.sound M.serves)
+        machine.old.program item.now machine.old.state machine.new.state }
+    ensures left { result ≡ false → StandsAt (event_of item.now) item.now.position machine.old.state
+        → (stop : Stop) × EventDone (memory_of M.content M.cpus M.state M.sound M.serves)
+        machine.old.program (event_of item.now) machine.old.state (Err stop) machine.new.state }
+{
+    if !stands_at(machine, threads, item) {
+        return false;
+    }
+    machine.step(event_of(item)).is_ok()
+}
+
+impl<'a, A: Allocator + Copy> X86Runner<'a, A> {
+    /// A runner of an x86 test.
+    pub fn new(alloc: A, program: &'a Program<A>) -> Result<Self, AllocError>
+        ensures test { IfOk result (λ r. r.test ≡ program_of program.now) }
+    {
+        empty_caches_are_kept();
+        let words = program.head.init_words.as_slice();
+        let caches: Mesi<A> = Mesi::new(alloc, program.head.threads, words)?;
+        let Ok(machine) = Machine::new(alloc, program, caches) else {
+            return Err(AllocError);
+        };
+        let end = machine.outcome()?;
+        Ok(X86Runner {
+            alloc,
+            program,
+            machine,
+            end,
+        })
+    }
+}
+
+impl<'a, A: Allocator + Copy> OrderRunner<A> for X86Runner<'a, A> {
+    ghost use Rattle.lw_x86.specs.Programs.{ProgramTest};
+
+    ghost Test = { ProgramTest };
+
+    ghost test = { λ r. r.test };
+
+    ghost ends = { λ t. StaysAndEnds flat t t.head.init_words };
+
+    ghost leads = { LeadsFlat };
+
+    ghost end = { λ r. r.end };
+
+    fn run(&mut self, items: &[Item], order: &[u8]) -> bool {
+        events_are_flat::<Mesi<A>>();
+        flat_events_are_determined();
+        let threads = self.program.threads.len();
+        self.machine.restart();
+        for number in order {
+            if !carry_out(&mut self.machine, threads, &items[usize::from(*number)]) {
+                return false;
+            }
+        }
+        if !self.machine.is_final() {
+            return false;
+        }
+        self.machine.write_outcome(&mut self.end);
+        true
+    }
+
+    fn end(&self) -> &Outcome<A> {
+        &self.end
+    }
+
+    fn entry(
+        &self,
+        items: &[Item],
+        order: &[u8],
+    ) -> Result<(Outcome<A>, Sequence<Event, A>), AllocError> {
+        let events = events_of(self.alloc, items, order)?;
+        let outcome = copy_outcome(&self.end)?;
+        Ok((outcome, events))
+    }
+}
