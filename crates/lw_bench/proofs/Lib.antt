@@ -8,4 +8,4 @@ pub mod Replays
 pub mod Compilations
 pub mod Told
 pub mod ListingTexts
-pub mod SourceReports
+pub mod TestReports

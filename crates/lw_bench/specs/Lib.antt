@@ -3,6 +3,7 @@ pub mod Devices
 pub mod LitmusTests
 pub mod Compilations
 pub mod Lists
+pub mod Listed
 pub mod Outputs
 pub mod Pages
 pub mod Replays

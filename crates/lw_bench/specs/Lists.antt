@@ -1,42 +1,46 @@
--- What the report of a test is, and the list of its schedules.
-use Rattle.std.specs.Prelude.{◌↔◌, ℕ, List}
+-- What the report of a test is, and the list of its schedules: of a test of either language.
+use Rattle.std.specs.Prelude.{◌≡◌, ◌↔◌, ℕ, List}
 use Rattle.lw_base.specs.Outcomes.{Final}
 use Rattle.lw_base.specs.Types.{Bytes}
+use Rattle.lw_base.specs.declared.event.Event.{Event}
 use Rattle.lw_fence.specs.Compiling.{IsCompiled}
 use Rattle.lw_finals.specs.Machines.{OutcomeOverCaches, ReplaysOverCaches}
 use Rattle.lw_mesi.specs.declared.protocol.Protocol.{Protocol}
+use Rattle.lw_mesi.specs.declared.protocol.Protocol.TheVariants.{Mesi}
 use Rattle.lw_report.specs.Reports.{IsReport, IsScheduleList}
 use Rattle.lw_report.specs.declared.judgement.Claim.TheVariants.{Exact}
 use Rattle.lw_source.specs.Runs.{SourceOutcome}
-use Rattle.lw_source.specs.Sources.{SourceTest}
 use Rattle.lw_x86.specs.Programs.{ProgramTest}
-use Rattle.lw_bench.specs.LitmusTests.{LitmusTest, Of_source, Of_x86}
+use Rattle.lw_bench.specs.LitmusTests.{LitmusTest, Of_source, Of_x86, head_of_test}
 
--- The compiled program reaches on the whole machine, over all schedules of steps, drains and evictions, exactly the outcomes
--- that the source reaches by interleaving on one memory.
-pub record IsAlikeProgram (test : SourceTest) (program : ProgramTest) : Type 0 where
-  pub starts : List (List ℕ)
-  pub compiled : IsCompiled test program starts
-  pub outcomes : (protocol : Protocol) (o : Final) → OutcomeOverCaches protocol program o ↔ SourceOutcome test o
+-- The outcomes of a test: of a source test those that it reaches by interleaving on one memory, of an x86 test those that the
+-- machine reaches, over all schedules of steps, drains and evictions.
+abbrev pub OutcomeOf : LitmusTest → Final → Type 0
+OutcomeOf (Of_source test) = SourceOutcome test
+OutcomeOf (Of_x86 test) = OutcomeOverCaches Mesi test
 
--- The report of exactly these outcomes.
-pub record IsSourceReport (test : SourceTest) (text : Bytes) : Type 0 where
+-- the program that runs for a test: what a source test is compiled to, an x86 test itself
+abbrev pub IsRunFor : LitmusTest → ProgramTest → Type 0
+IsRunFor (Of_source test) program = (starts : List (List ℕ)) × IsCompiled test program starts
+IsRunFor (Of_x86 test) program = program ≡ test
+
+-- That program reaches on the whole machine, over all schedules of steps, drains and evictions, exactly the test's outcomes.
+pub record IsProgramOf (test : LitmusTest) (program : ProgramTest) : Type 0 where
+  pub runs : IsRunFor test program
+  pub outcomes : (protocol : Protocol) (o : Final) → OutcomeOverCaches protocol program o ↔ OutcomeOf test o
+
+-- the schedule leads there to the outcome
+abbrev pub LeadsTo : ProgramTest → List Event → Final → Type 0
+LeadsTo program events o = (protocol : Protocol) → ReplaysOverCaches protocol program events o
+
+-- The report of exactly the test's outcomes.
+pub record IsStatesReport (test : LitmusTest) (text : Bytes) : Type 0 where
   pub program : ProgramTest
-  pub alike : IsAlikeProgram test program
-  pub is : IsReport test.head (SourceOutcome test) Exact text
+  pub of_test : IsProgramOf test program
+  pub is : IsReport (head_of_test test) (OutcomeOf test) Exact text
 
--- The list of their states, each with a schedule of the compiled program that leads to the smallest outcome that shows it.
-pub record IsSourceScheduleList (test : SourceTest) (text : Bytes) : Type 0 where
+-- The list of their states, each with a schedule of the program that leads to the smallest outcome that shows it.
+pub record IsScheduleReport (test : LitmusTest) (text : Bytes) : Type 0 where
   pub program : ProgramTest
-  pub alike : IsAlikeProgram test program
-  pub is :
-      IsScheduleList test.head (SourceOutcome test) (λ events o. (protocol : Protocol) → ReplaysOverCaches protocol program events o) text
-
--- Of an x86 test there is none yet.
-abbrev pub IsStatesReport : LitmusTest → Bytes → Type 0
-IsStatesReport (Of_source test) text = IsSourceReport test text
-IsStatesReport (Of_x86 test) text = ⊥
-
-abbrev pub IsScheduleReport : LitmusTest → Bytes → Type 0
-IsScheduleReport (Of_source test) text = IsSourceScheduleList test text
-IsScheduleReport (Of_x86 test) text = ⊥
+  pub of_test : IsProgramOf test program
+  pub is : IsScheduleList (head_of_test test) (OutcomeOf test) (LeadsTo program) text

@@ -24,6 +24,7 @@ use Rattle.lw_source.specs.Sources.{source}
 use Rattle.lw_x86.specs.Programs.{x86}
 use Rattle.lw_finals.specs.Counts.{TellsLimit}
 use Rattle.lw_finals.specs.SourceItems.{source_language}
+use Rattle.lw_finals.specs.X86Items.{x86_language}
 use Rattle.lw_finals.specs.declared.fault.ListFault.{ListFault}
 use Rattle.lw_finals.specs.declared.fault.ListFault.TheVariants as list
 use Rattle.lw_bench.specs.declared.fault.BenchFault.{BenchFault}
@@ -99,7 +100,10 @@ TellsReplay schedule test Memory = ⊥
 TellsReplay schedule test Read = ⊥
 TellsReplay schedule test Write = ⊥
 
--- No list: of an x86 test there is none yet; of a source test, which limit it passes.
+-- No list: which limit the test passes.
+abbrev pub TellsLimitOf : LitmusTest → ListFault → Type 0
+TellsLimitOf (Of_source test) = TellsLimit source_language test.threads
+TellsLimitOf (Of_x86 test) = TellsLimit x86_language test.threads
+
 abbrev pub TellsNoList : LitmusTest → BenchFault → Type 0
-TellsNoList (Of_source test) f = (limit : ListFault) × (f ≡ Limit limit) × (limit ≢ list.Memory) × TellsLimit source_language test.threads limit
-TellsNoList (Of_x86 test) f = f ≡ Text (record { at = 0; cause = text.Unexpected })
+TellsNoList test f = (limit : ListFault) × (f ≡ Limit limit) × (limit ≢ list.Memory) × TellsLimitOf test limit

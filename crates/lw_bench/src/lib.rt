@@ -2,8 +2,9 @@
 //!
 //! It names lw_base, of lw_text the reading of frames and its faults, of lw_source and lw_x86 the reading of tests and
 //! the canonical text, of lw_source their runs, of lw_fence the compiler, and of lw_tso the machine, over the caches of lw_mesi,
-//! which are a memory system of lw_memory; and of lw_finals that an x86 test has over caches the outcomes that it has over flat
-//! memory. Its tests, as all of the workbench's, stand in lw_tests.
+//! which are a memory system of lw_memory; of lw_finals the complete lists of tests, and that an x86 test has over caches the
+//! outcomes that it has over flat memory; and of lw_report the states of a list, its report and its schedules. Its tests, as all of
+//! the workbench's, stand in lw_tests.
 #![tactic(auto)]
 
 mod command;

@@ -1,55 +1,57 @@
 //! The report of a test's states, and the list of their schedules, from the bytes that come in to the bytes that go out.
 ghost use Rattle.std.specs.Prelude.{◌≡◌, ◌≢◌, ◌↔◌, ◌⊎◌, true, false, Err, IfOk, IfErr, OnOk};
-ghost use Rattle.lw_source.specs.Views.{source_of};
-ghost use Rattle.lw_bench.specs.LitmusTests.{litmus_test_of, Of_source};
-ghost use Rattle.lw_bench.specs.Lists.{IsSourceReport, IsSourceScheduleList, IsStatesReport, IsScheduleReport};
+ghost use Rattle.lw_bench.specs.LitmusTests.{litmus_test_of};
+ghost use Rattle.lw_bench.specs.Listed.{IsListOf};
+ghost use Rattle.lw_bench.specs.Lists.{IsStatesReport, IsScheduleReport};
 ghost use Rattle.lw_bench.specs.Outputs.{Writes};
-ghost use Rattle.lw_bench.specs.Told.{TellsInput, TellsNoList, IsNoDevice};
+ghost use Rattle.lw_bench.specs.Told.{TellsInput, TellsLimitOf, TellsNoList, IsNoDevice};
 
 use crate::device::{ByteReader, ByteWriter};
 use crate::fault::BenchFault;
 use crate::litmus_test::LitmusTest;
 use crate::run::{Output, run_text};
 use lw_base::Text;
-use lw_finals::{list_source, outcomes_over_caches_are_flat};
+use lw_finals::{ListFault, Listing, list_raw, list_source};
 use lw_report::{Claim, states_of, write_report, write_schedules};
-use lw_source::Source;
-use lw_text::{TextCause, TextFault};
 use std::alloc::Allocator;
 
-/// Of an x86 test there is no list yet.
-const NO_X86_LIST: BenchFault = BenchFault::Text(TextFault {
-    at: 0,
-    cause: TextCause::Unexpected,
-});
+/// The complete list of a test.
+fn list_test<A: Allocator + Copy>(alloc: A, test: &LitmusTest<A>) -> Result<Listing<A>, ListFault>
+    ensures listed { IfOk result (IsListOf (litmus_test_of test.now)) }
+    ensures limit { IfErr result (TellsLimitOf (litmus_test_of test.now)) }
+{
+    match test {
+        LitmusTest::Source(source) => list_source(alloc, source),
+        LitmusTest::X86(program) => list_raw(alloc, program),
+    }
+}
 
-/// The report of the outcomes of a source test.
-fn source_report<A: Allocator + Copy>(alloc: A, source: &Source<A>) -> Result<Text<A>, BenchFault>
-    ensures found { IfOk result (IsSourceReport (source_of source.now)) }
-    ensures told { IfErr result (λ f. (f ≡ BenchFault.Memory) ⊎ TellsNoList (Of_source (source_of source.now)) f) }
+/// The report of the outcomes of a test.
+fn report_of<A: Allocator + Copy>(alloc: A, test: &LitmusTest<A>) -> Result<Text<A>, BenchFault>
+    ensures found { IfOk result (IsStatesReport (litmus_test_of test.now)) }
+    ensures told { IfErr result (λ f. (f ≡ BenchFault.Memory) ⊎ TellsNoList (litmus_test_of test.now) f) }
     ensures device { IfErr result IsNoDevice }
 {
-    let listing = list_source(alloc, source)?;
-    let states = states_of(alloc, &source.head, &listing);
+    let head = test.head();
+    let listing = list_test(alloc, test)?;
+    let states = states_of(alloc, head, &listing);
     drop(listing);
     let states = states?;
-    let report = write_report(alloc, &source.head, &states, Claim::Exact);
+    let report = write_report(alloc, head, &states, Claim::Exact);
     drop(states);
     Ok(report?)
 }
 
-/// The list of the schedules of a source test.
-fn source_schedules<A: Allocator + Copy>(
-    alloc: A,
-    source: &Source<A>,
-) -> Result<Text<A>, BenchFault>
-    ensures found { IfOk result (IsSourceScheduleList (source_of source.now)) }
-    ensures told { IfErr result (λ f. (f ≡ BenchFault.Memory) ⊎ TellsNoList (Of_source (source_of source.now)) f) }
+/// The list of the schedules of a test.
+fn schedules_of<A: Allocator + Copy>(alloc: A, test: &LitmusTest<A>) -> Result<Text<A>, BenchFault>
+    ensures found { IfOk result (IsScheduleReport (litmus_test_of test.now)) }
+    ensures told { IfErr result (λ f. (f ≡ BenchFault.Memory) ⊎ TellsNoList (litmus_test_of test.now) f) }
     ensures device { IfErr result IsNoDevice }
 {
-    let listing = list_source(alloc, source)?;
-    let states = states_of(alloc, &source.head, &listing)?;
-    let list = write_schedules(alloc, &source.head, &states, &listing);
+    let head = test.head();
+    let listing = list_test(alloc, test)?;
+    let states = states_of(alloc, head, &listing)?;
+    let list = write_schedules(alloc, head, &states, &listing);
     drop(states);
     drop(listing);
     Ok(list?)
@@ -66,10 +68,7 @@ impl<A: Allocator + Copy> Output<A> for Report {
     ghost tells = { λ _. TellsNoList };
 
     fn make(&self, alloc: A, test: &LitmusTest<A>) -> Result<(Text<A>, ()), BenchFault> {
-        match test {
-            LitmusTest::Source(source) => Ok((source_report(alloc, source)?, ())),
-            LitmusTest::X86(_) => Err(NO_X86_LIST),
-        }
+        Ok((report_of(alloc, test)?, ()))
     }
 }
 
@@ -84,16 +83,14 @@ impl<A: Allocator + Copy> Output<A> for ScheduleList {
     ghost tells = { λ _. TellsNoList };
 
     fn make(&self, alloc: A, test: &LitmusTest<A>) -> Result<(Text<A>, ()), BenchFault> {
-        match test {
-            LitmusTest::Source(source) => Ok((source_schedules(alloc, source)?, ())),
-            LitmusTest::X86(_) => Err(NO_X86_LIST),
-        }
+        Ok((schedules_of(alloc, test)?, ()))
     }
 }
 
 /// Writes the report of the test that the reader gives: all its final states, the verdict on its condition, how many states
 /// make its proposition true, and how often. For a source test these are the states that it reaches by interleaving on one
-/// memory, and that its compiled program reaches on the whole machine. An x86 test is refused as yet, once it has been read.
+/// memory, and that its compiled program reaches on the whole machine; for an x86 test those that it reaches there itself, over
+/// all schedules of steps, drains and evictions.
 ///
 /// The test is read whole first: its text, then its cells. What is written is made whole before the first byte of it is
 /// written, so any fault but `Write` leaves the writer as it was; after `Write` nothing is said of how much went out. The
@@ -119,7 +116,7 @@ pub fn states<R: ByteReader, W: ByteWriter, A: Allocator + Copy>(
 }
 
 /// Writes for each final state of the test that the reader gives a schedule that leads to it: of a source test, a schedule
-/// of its compiled program. An x86 test is refused as yet, once it has been read.
+/// of its compiled program.
 ///
 /// The test is read, and the list written, as by `states`.
 pub fn schedules_text<R: ByteReader, W: ByteWriter, A: Allocator + Copy>(

@@ -2,6 +2,7 @@
 ghost use Rattle.std.specs.Prelude.{◌≡◌, ◌≤◌, IfOk, IfErr};
 ghost use Rattle.lw_base.specs.Types.{Bytes};
 ghost use Rattle.lw_base.specs.Heads.{head_of};
+ghost use Rattle.lw_base.specs.WellFormed.{IsWellFormedHead};
 ghost use Rattle.lw_base.specs.Refusals.{NotFound};
 ghost use Rattle.lw_base.specs.declared.fault.CellCause.TheVariants.{Memory};
 ghost use Rattle.lw_text.specs.Views.{frame_of};
@@ -26,7 +27,8 @@ pub(crate) enum LitmusTest<A: Allocator> {
 impl<A: Allocator> LitmusTest<A> {
     /// The test's head.
     pub(crate) fn head(&self) -> &Head<A>
-        ensures { head_of result.now ≡ head_of_test (litmus_test_of self.now) }
+        ensures head { head_of result.now ≡ head_of_test (litmus_test_of self.now) }
+        ensures formed { IsWellFormedHead (head_of result.now) }
     {
         match self {
             LitmusTest::Source(source) => &source.head,

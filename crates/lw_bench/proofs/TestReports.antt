@@ -1,0 +1,84 @@
+-- From the list of a test to its report and to its list of schedules.
+use Rattle.std.proofs.Common.{◌≡◌, ◌↔◌, ℕ, List, map, refl, subst}
+use Rattle.std.specs.Prelude.{All, Contains, Result, Ok, Err}
+use Rattle.std.specs.Result.{IfOk}
+use Rattle.lw_base.specs.Heads.{TestHead}
+use Rattle.lw_base.specs.Outcomes.{Final}
+use Rattle.lw_finals.specs.declared.fault.ListFault.{ListFault}
+use Rattle.lw_finals.specs.Listings.{Entries, outcomes_of, schedules_of, IsStrictlySorted, IsEntryOf}
+use Rattle.lw_finals.specs.Lists.{ListsMachine}
+use Rattle.lw_finals.specs.Machines.{ReplaysOverCaches, OutcomeOverCaches}
+use Rattle.lw_mesi.specs.declared.protocol.Protocol.{Protocol}
+use Rattle.lw_mesi.specs.declared.protocol.Protocol.TheVariants.{Mesi}
+use Rattle.lw_report.specs.Reports.{report_text, schedule_list_text, scheduled}
+use Rattle.lw_report.specs.States.{ListedState, shown_of, AreListedStates}
+use Rattle.lw_report.specs.declared.judgement.Claim.TheVariants.{Exact}
+use Rattle.lw_source.specs.Runs.{SourceOutcome}
+use Rattle.lw_source.specs.Sources.{SourceTest}
+use Rattle.lw_x86.specs.Programs.{ProgramTest}
+use Rattle.lw_bench.specs.LitmusTests.{LitmusTest, Of_source, Of_x86, head_of_test}
+use Rattle.lw_bench.specs.Lists.{OutcomeOf, LeadsTo, IsStatesReport, IsScheduleReport}
+use Rattle.lw_bench.specs.Listed.{IsListOf}
+use Rattle.lw_bench.proofs.ListingTexts.{report_is, schedule_list_is}
+
+-- what is told of the list of a source test
+pub source_list : (test : SourceTest) (entries : Entries) → IsStrictlySorted entries → ((o : Final) → Contains (outcomes_of entries) o ↔ SourceOutcome test o)
+    → ListsMachine test entries → All (IsEntryOf test.head) entries → IsListOf (Of_source test) entries
+source_list test entries sorted exactly lists of = record {
+  program = lists.program;
+  of_test = record {
+    runs = (lists.starts, lists.compiled);
+    outcomes = λ protocol o. ((λ reached. (exactly o).0 ((lists.outcomes protocol o).1 reached)), (λ reached. (lists.outcomes protocol o).0 ((exactly o).1 reached)));
+  };
+  sorted = sorted;
+  exactly = exactly;
+  entries_are = of;
+  lead = λ k d lt protocol. lists.replays protocol k d lt;
+}
+
+pub source_listed : (test : SourceTest) (r : Result Entries ListFault) → IfOk r IsStrictlySorted → IfOk r (λ l. (o : Final) → Contains (outcomes_of l) o ↔ SourceOutcome test o)
+    → IfOk r (ListsMachine test) → IfOk r (λ l. All (IsEntryOf test.head) l) → IfOk r (IsListOf (Of_source test))
+source_listed test (Ok l) sorted exactly lists of = source_list test l sorted exactly lists of
+source_listed test (Err e) sorted exactly lists of = tt
+
+-- and of that of an x86 test
+pub x86_list : (test : ProgramTest) (entries : Entries) → IsStrictlySorted entries → ((protocol : Protocol) (o : Final) → Contains (outcomes_of entries) o ↔ OutcomeOverCaches protocol test o)
+    → ((protocol : Protocol) → All (λ e. ReplaysOverCaches protocol test e.1 e.0) entries) → All (IsEntryOf test.head) entries → IsListOf (Of_x86 test) entries
+x86_list test entries sorted exactly replays of = record {
+  program = test;
+  of_test = record {
+    runs = refl;
+    outcomes = λ protocol o. ((λ reached. (exactly Mesi o).0 ((exactly protocol o).1 reached)), (λ reached. (exactly protocol o).0 ((exactly Mesi o).1 reached)));
+  };
+  sorted = sorted;
+  exactly = exactly Mesi;
+  entries_are = of;
+  lead = λ k d lt protocol. replays protocol k d lt;
+}
+
+pub x86_listed : (test : ProgramTest) (r : Result Entries ListFault) → IfOk r IsStrictlySorted
+    → IfOk r (λ l. (protocol : Protocol) (o : Final) → Contains (outcomes_of l) o ↔ OutcomeOverCaches protocol test o)
+    → IfOk r (λ l. (protocol : Protocol) → All (λ e. ReplaysOverCaches protocol test e.1 e.0) l) → IfOk r (λ l. All (IsEntryOf test.head) l) → IfOk r (IsListOf (Of_x86 test))
+x86_listed test (Ok l) sorted exactly replays of = x86_list test l sorted exactly replays of
+x86_listed test (Err e) sorted exactly replays of = tt
+
+module _ (test : LitmusTest) (entries : Entries) (list : IsListOf test entries) (head : TestHead) (same : head ≡ head_of_test test) where
+  pub report_of_list : (states : List ListedState) (text : List ℕ) → AreListedStates head (outcomes_of entries) states
+      → text ≡ report_text head Exact (map shown_of states) → IsStatesReport test text
+  report_of_list states text listed is = record {
+    program = list.program;
+    of_test = list.of_test;
+    is = report_is (head_of_test test) (OutcomeOf test) entries list.exactly Exact states text
+        (subst (λ (d : TestHead). AreListedStates d (outcomes_of entries) states) same listed)
+        (subst (λ (d : TestHead). text ≡ report_text d Exact (map shown_of states)) same is);
+  }
+
+  pub schedules_of_list : (states : List ListedState) (text : List ℕ) → AreListedStates head (outcomes_of entries) states
+      → text ≡ schedule_list_text head (map (scheduled (schedules_of entries)) states) → IsScheduleReport test text
+  schedules_of_list states text listed is = record {
+    program = list.program;
+    of_test = list.of_test;
+    is = schedule_list_is (head_of_test test) (OutcomeOf test) entries list.exactly list.sorted (LeadsTo list.program) list.lead states text
+        (subst (λ (d : TestHead). AreListedStates d (outcomes_of entries) states) same listed)
+        (subst (λ (d : TestHead). text ≡ schedule_list_text d (map (scheduled (schedules_of entries)) states)) same is);
+  }

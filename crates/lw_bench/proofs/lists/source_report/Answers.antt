@@ -1,8 +1,0 @@
-use Rattle.lw_source.specs.Views.{source_of}
-use Rattle.lw_bench.proofs.SourceReports.{source_report_is}
-use Rattle.lw_bench.proofs.lists.source_report.Goals as goal
-
-pub returns-clause-found : goal.returns-clause-found
-returns-clause-found g c =
-    source_report_is (source_of c.args.source.now) c.in_ok-listing.listing c.in_ok-listing.ensures.exactly c.in_ok-listing.ensures.machine c.in_ok-states.states c.in_ok-report.field-0
-    c.in_ok-states.ensures c.in_ok-report.ensures
