@@ -11,6 +11,7 @@ use crate::machines::{machine_of, next_random};
 use lw_base::{Cpu, End, Event, Outcome, read_schedule};
 use lw_fence::{Compiled, compile, schedule_of};
 use lw_source::{Source, SourceRun};
+use lw_x86::Program;
 use std::alloc::{AllocError, Global};
 
 /// A step of each of these threads, in turn.
@@ -52,13 +53,13 @@ fn schedule_by(
     Some((outcome, events))
 }
 
-/// The outcome of the compiled program by this schedule, over caches.
-pub(crate) fn compiled_outcome(
+/// The outcome of a program by this schedule, over caches.
+pub(crate) fn outcome_over_caches(
     alloc: Global,
-    compiled: &Compiled,
+    program: &Program,
     events: &[Event],
 ) -> Option<Outcome> {
-    let mut machine = machine_of(alloc, &compiled.program)?;
+    let mut machine = machine_of(alloc, program)?;
     let replay = machine.run(events);
     if replay.end != End::Final {
         return None;
@@ -88,7 +89,7 @@ fn are_alike(alloc: Global, text: &str) -> Option<bool> {
     for seed in 0..20u32 {
         let order = random_order(alloc, &source, next_random(seed))?;
         let (outcome, events) = schedule_by(alloc, &source, &compiled, order.as_slice())?;
-        if compiled_outcome(alloc, &compiled, events.as_slice())? != outcome {
+        if outcome_over_caches(alloc, &compiled.program, events.as_slice())? != outcome {
             return Some(false);
         }
     }
@@ -119,7 +120,7 @@ fn stands_for(alloc: Global, text: &str, order: &[Cpu], words: &str) -> Option<b
     let compiled = compile(alloc, &source).ok()?;
     let (outcome, events) = schedule_by(alloc, &source, &compiled, order)?;
     let wanted = read_schedule(alloc, words, &source.head.locs).ok()?;
-    let reached = compiled_outcome(alloc, &compiled, events.as_slice())?;
+    let reached = outcome_over_caches(alloc, &compiled.program, events.as_slice())?;
     Some(events.as_slice() == wanted.as_slice() && reached == outcome)
 }
 

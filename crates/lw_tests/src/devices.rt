@@ -25,6 +25,18 @@ pub(crate) const STORE_BUFFERING_REPORT: &str =
 pub(crate) const STORE_BUFFERING_SCHEDULES: &str =
     "Test SB\nStates 3\n0:r0=0; 1:r0=1;\n P0 D0 P0 P0 P1 D1 P1 P1\n0:r0=1; 1:r0=0;\n P1 D1 P1 P1 P0 D0 P0 P0\n0:r0=1; 1:r0=1;\n P0 D0 P1 D1 P0 P0 P1 P1\n";
 
+/// The same in x86 instructions.
+pub(crate) const X86_STORE_BUFFERING: &str =
+    "X86 SB\n{}\n P0 | P1 ;\n MOV [x],$1 | MOV [y],$1 ;\n MOV EAX,[y] | MOV EAX,[x] ;\nexists (0:EAX=0 /\\ 1:EAX=0)\n";
+
+/// Its report.
+pub(crate) const X86_STORE_BUFFERING_REPORT: &str =
+    "Test SB Allowed\nStates 4\n0:EAX=0; 1:EAX=0;\n0:EAX=0; 1:EAX=1;\n0:EAX=1; 1:EAX=0;\n0:EAX=1; 1:EAX=1;\nOk\nPositive: 1 Negative: 3\nCondition exists (0:EAX=0 /\\ 1:EAX=0)\nObservation SB Sometimes 1 3\n";
+
+/// Its list of schedules.
+pub(crate) const X86_STORE_BUFFERING_SCHEDULES: &str =
+    "Test SB\nStates 4\n0:EAX=0; 1:EAX=0;\n P0 P0 P1 D1 P1 D0\n0:EAX=0; 1:EAX=1;\n P0 D0 P0 P1 D1 P1\n0:EAX=1; 1:EAX=0;\n P0 P1 D1 P0 P1 D0\n0:EAX=1; 1:EAX=1;\n P0 D0 P1 D1 P0 P1\n";
+
 /// A reader of a text: so many bytes a call, and one of its calls fails.
 #[derive(Drop)]
 pub(crate) struct Tape<'a> {

@@ -17,6 +17,8 @@ mod conditions;
 #[cfg(test)]
 mod devices;
 #[cfg(test)]
+mod examples;
+#[cfg(test)]
 mod heads;
 #[cfg(test)]
 mod lists;

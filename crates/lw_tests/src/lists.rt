@@ -1,16 +1,20 @@
-//! Complete lists of source tests: tests whose outcomes and schedules are worked out by hand, the limits, the tests of the
-//! examples beside a plain walk of all interleavings, and lists that are made where memory is scarce.
+//! Complete lists of tests: source tests whose outcomes and schedules are worked out by hand, the limits, the tests of the
+//! examples beside a plain walk, of source tests and of what they are compiled to, and lists that are made where memory is
+//! scarce.
+mod compiled;
 mod limits;
+mod machine_walks;
 mod plain;
 mod scarce;
 mod walks;
 
 use crate::compilations::source_of;
-use crate::compiled_runs::compiled_outcome;
+use crate::compiled_runs::outcome_over_caches;
 use lw_base::{Arch, Head, Outcome, Sequence, read_schedule, reg_named};
-use lw_fence::{Compiled, compile};
+use lw_fence::compile;
 use lw_finals::{Listing, list_source};
 use lw_text::number;
+use lw_x86::Program;
 use std::alloc::Global;
 
 /// The outcome that these words spell, such as `1:r0=1 x=2`. A register or a location that none of them names has a 0.
@@ -84,15 +88,25 @@ fn are_missing(alloc: Global, head: &Head, listing: &Listing, outcomes: &str) ->
     Some(true)
 }
 
-/// Whether each schedule of the listing leads what the test is compiled to, over caches, to its outcome.
-fn are_replayed(alloc: Global, compiled: &Compiled, listing: &Listing) -> bool {
+/// Whether each schedule of the listing leads the program, over caches, to its outcome.
+fn are_replayed(alloc: Global, program: &Program, listing: &Listing) -> bool {
     for place in 0..listing.len() {
-        match compiled_outcome(alloc, compiled, listing.schedule(place)) {
+        match outcome_over_caches(alloc, program, listing.schedule(place)) {
             Some(outcome) if outcome == *listing.outcome(place) => {}
             _ => return false,
         }
     }
     true
+}
+
+/// Whether these are the outcomes of the listing, in its sequence.
+fn are_outcomes(listing: &Listing, outcomes: &[Outcome]) -> bool {
+    for place in 0..listing.len() {
+        if outcomes.get(place) != Some(listing.outcome(place)) {
+            return false;
+        }
+    }
+    listing.len() == outcomes.len()
 }
 
 /// Whether the list of the line's test is as the line says, and replays: its entries, and behind ` but not ` what isn't listed.
@@ -104,7 +118,7 @@ fn is_listed(alloc: Global, line: &str) -> Option<bool> {
     let listing = list_source(alloc, &source).ok()?;
     let is_told = are_entries(alloc, &source.head, &listing, entries)?
         && are_missing(alloc, &source.head, &listing, missing)?;
-    Some(is_told && are_replayed(alloc, &compiled, &listing))
+    Some(is_told && are_replayed(alloc, &compiled.program, &listing))
 }
 
 /// Store buffering; message passing; load buffering; independent reads of independent writes; two stores each to two locations;

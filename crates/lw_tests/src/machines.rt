@@ -1,6 +1,7 @@
-//! The x86-TSO machine at work: calls that no page shows, a thousand random schedules beside a plain machine, and a machine
-//! that is made where memory is scarce.
-mod plain;
+//! The x86-TSO machine at work: calls that no page shows, a thousand random schedules beside a plain machine, machines that are
+//! put back to their start, and a machine that is made where memory is scarce.
+pub(crate) mod plain;
+mod restarts;
 
 ghost use Rattle.std.specs.Prelude.{◌≡◌, ◌<◌, ◌≤◌, length, IfSome};
 ghost use Rattle.lw_mesi.specs.CacheLines.{contents_of};
@@ -11,7 +12,7 @@ use crate::programs::program_of;
 use crate::tables::spelled;
 use linked_list_allocator::LocalHeap;
 use lw_base::{Cpu, End, Event, Loc, MAX_THREADS, Reg, Stop};
-use lw_memory::MemorySystem;
+use lw_memory::{LineState, MemorySystem};
 use lw_mesi::{KeptProtocol, Mesi, SnoopingCaches, empty_caches_are_kept};
 use lw_tso::Machine;
 use lw_x86::Program;
@@ -158,7 +159,7 @@ fn are_machines_alike(machine: &Machine<'_, Mesi>, plain: &PlainMachine) -> bool
             return false;
         }
     }
-    are_alike(machine.memory(), &plain.table)
+    are_alike(machine.memory(), &plain.memory)
 }
 
 /// Whether the machine and the plain one answer these random events alike, and are alike after each.
@@ -223,18 +224,22 @@ fn a_thousand_schedules(rt: HostRuntime) {
 const STORE_BUFFERING: &str =
     "X86 SB {x=5; y=7} P0|P1; MOV [x],@1 | MOV [y],@1; MOV EAX,[y] | MOV EAX,[x]; exists (true)";
 
-/// Whether caches of store buffering are as they were made.
-fn are_untouched(caches: &Mesi) -> bool {
+/// Whether the memory system of two processors is as it was made: a 5 and a 7, and no location is held.
+fn is_untouched<M: MemorySystem>(memory: &M) -> bool {
+    if memory.cpu_count() != 2 || memory.location_count() != 2 {
+        return false;
+    }
     let [x, y, ..] = Loc::all();
     let [p0, p1, ..] = Cpu::all();
-    caches.cpu_count() == 2
-        && caches.location_count() == 2
-        && caches.word_at_end(x) == 5
-        && caches.word_at_end(y) == 7
-        && caches.copy(p0, x).is_none()
-        && caches.copy(p0, y).is_none()
-        && caches.copy(p1, x).is_none()
-        && caches.copy(p1, y).is_none()
+    let at_end = (memory.word_at_end(x), memory.word_at_end(y));
+    let in_memory = (memory.word_in_memory(x), memory.word_in_memory(y));
+    let states = [
+        memory.state_of(p0, x),
+        memory.state_of(p0, y),
+        memory.state_of(p1, x),
+        memory.state_of(p1, y),
+    ];
+    at_end == (5, 7) && in_memory == (5, 7) && states == [LineState::I; 4]
 }
 
 /// Whether store buffering runs to its end without memory, and finds none for its outcome.
@@ -258,7 +263,7 @@ fn is_made_in(alloc: Global, program: &Program, bytes: usize) -> Option<bool> {
     let caches = caches_of(alloc, program)?;
     let (is_made, is_right) = match Machine::new(&heap, program, caches) {
         Ok(mut machine) => (true, runs_without_memory(&mut machine)),
-        Err(caches) => (false, are_untouched(&caches)),
+        Err(caches) => (false, is_untouched(&caches)),
     };
     if is_right { Some(is_made) } else { None }
 }

@@ -20,6 +20,22 @@ SRC FULL {} P0|P1; x := 1 | x := 6; x := 2 | x := 7; x := 3 | x := 8; x := 4 | x
 SRC FA { 0:r1=1; 1:r1=1; } P0|P1; r0 := fetchadd x r1 | r0 := fetchadd x r1; locations [0:r0; 1:r0;] forall (x=2) => Test FA Required$States 2$0:r0=0; 1:r0=1; x=2;$0:r0=1; 1:r0=0; x=2;$Ok$Positive: 2 Negative: 0$Condition forall (x=2)$Observation FA Always 2 0$
 ";
 
+/// Classic tests in x86 instructions: store buffering, with fences, and with loads of the threads' own stores first; message
+/// passing; independent reads of independent writes; two stores each to two locations; store buffering with fences that are
+/// jumped over, and with exchanges; additions to a counter; and a test of no instruction, under quoted text and keys.
+const X86_TESTS: &str = "
+X86 SB${}$ P0 | P1 ;$ MOV [x],@1 | MOV [y],@1 ;$ MOV EAX,[y] | MOV EAX,[x] ;$exists (0:EAX=0 /\\ 1:EAX=0)$ => Test SB Allowed$States 4$0:EAX=0; 1:EAX=0;$0:EAX=0; 1:EAX=1;$0:EAX=1; 1:EAX=0;$0:EAX=1; 1:EAX=1;$Ok$Positive: 1 Negative: 3$Condition exists (0:EAX=0 /\\ 1:EAX=0)$Observation SB Sometimes 1 3$
+X86 SB${$ x=0;$ y=0;$}$ P0 | P1 ;$ MOV [x],@1 | MOV [y],@1 ;$ MFENCE | MFENCE ;$ MOV EAX,[y] | MOV EAX,[x] ;$exists (0:EAX=0 /\\ 1:EAX=0)$ => Test SB Allowed$States 3$0:EAX=0; 1:EAX=1;$0:EAX=1; 1:EAX=0;$0:EAX=1; 1:EAX=1;$No$Positive: 0 Negative: 3$Condition exists (0:EAX=0 /\\ 1:EAX=0)$Observation SB Never 0 3$
+X86 OWN {} P0|P1; MOV [x],@1 | MOV [y],@1; MOV EAX,[x] | MOV EAX,[y]; MOV EBX,[y] | MOV EBX,[x]; locations [0:EAX; 1:EAX] exists (0:EBX=0 /\\ 1:EBX=0) => Test OWN Allowed$States 4$0:EAX=1; 0:EBX=0; 1:EAX=1; 1:EBX=0;$0:EAX=1; 0:EBX=0; 1:EAX=1; 1:EBX=1;$0:EAX=1; 0:EBX=1; 1:EAX=1; 1:EBX=0;$0:EAX=1; 0:EBX=1; 1:EAX=1; 1:EBX=1;$Ok$Positive: 1 Negative: 3$Condition exists (0:EBX=0 /\\ 1:EBX=0)$Observation OWN Sometimes 1 3$
+X86 MP {} P0|P1; MOV [x],@1 | MOV EAX,[y]; MOV [y],@1 | MOV EBX,[x]; ~exists (1:EAX=1 /\\ 1:EBX=0) => Test MP Forbidden$States 3$1:EAX=0; 1:EBX=0;$1:EAX=0; 1:EBX=1;$1:EAX=1; 1:EBX=1;$Ok$Positive: 0 Negative: 3$Condition ~exists (1:EAX=1 /\\ 1:EBX=0)$Observation MP Never 0 3$
+X86 IRIW {} P0|P1|P2|P3; MOV [x],@1 | MOV [y],@1 | MOV EAX,[x] | MOV EAX,[y]; | | MOV EBX,[y] | MOV EBX,[x]; exists (2:EAX=1 /\\ 2:EBX=0 /\\ 3:EAX=1 /\\ 3:EBX=0) => Test IRIW Allowed$States 15$2:EAX=0; 2:EBX=0; 3:EAX=0; 3:EBX=0;$2:EAX=0; 2:EBX=0; 3:EAX=0; 3:EBX=1;$2:EAX=0; 2:EBX=0; 3:EAX=1; 3:EBX=0;$2:EAX=0; 2:EBX=0; 3:EAX=1; 3:EBX=1;$2:EAX=0; 2:EBX=1; 3:EAX=0; 3:EBX=0;$2:EAX=0; 2:EBX=1; 3:EAX=0; 3:EBX=1;$2:EAX=0; 2:EBX=1; 3:EAX=1; 3:EBX=0;$2:EAX=0; 2:EBX=1; 3:EAX=1; 3:EBX=1;$2:EAX=1; 2:EBX=0; 3:EAX=0; 3:EBX=0;$2:EAX=1; 2:EBX=0; 3:EAX=0; 3:EBX=1;$2:EAX=1; 2:EBX=0; 3:EAX=1; 3:EBX=1;$2:EAX=1; 2:EBX=1; 3:EAX=0; 3:EBX=0;$2:EAX=1; 2:EBX=1; 3:EAX=0; 3:EBX=1;$2:EAX=1; 2:EBX=1; 3:EAX=1; 3:EBX=0;$2:EAX=1; 2:EBX=1; 3:EAX=1; 3:EBX=1;$No$Positive: 0 Negative: 15$Condition exists (2:EAX=1 /\\ 2:EBX=0 /\\ 3:EAX=1 /\\ 3:EBX=0)$Observation IRIW Never 0 15$
+X86 2+2W {} P0|P1; MOV [x],@1 | MOV [y],@1; MOV [y],@2 | MOV [x],@2; exists (x=1 /\\ y=1) => Test 2+2W Allowed$States 3$x=1; y=2;$x=2; y=1;$x=2; y=2;$No$Positive: 0 Negative: 3$Condition exists (x=1 /\\ y=1)$Observation 2+2W Never 0 3$
+X86 SKIP {} P0|P1; MOV [x],@1 | MOV [y],@1; CMP EAX,@0 | CMP EAX,@0; JE L | JE L; MFENCE | MFENCE; L: MOV EBX,[y] | L: MOV EBX,[x]; exists (0:EBX=0 /\\ 1:EBX=0) => Test SKIP Allowed$States 4$0:EBX=0; 1:EBX=0;$0:EBX=0; 1:EBX=1;$0:EBX=1; 1:EBX=0;$0:EBX=1; 1:EBX=1;$Ok$Positive: 1 Negative: 3$Condition exists (0:EBX=0 /\\ 1:EBX=0)$Observation SKIP Sometimes 1 3$
+X86 XCHG { 0:EAX=1; 1:EAX=1; } P0|P1; XCHG [x],EAX | XCHG [y],EAX; MOV ECX,[y] | MOV ECX,[x]; exists (0:ECX=0 /\\ 1:ECX=0) => Test XCHG Allowed$States 3$0:ECX=0; 1:ECX=1;$0:ECX=1; 1:ECX=0;$0:ECX=1; 1:ECX=1;$No$Positive: 0 Negative: 3$Condition exists (0:ECX=0 /\\ 1:ECX=0)$Observation XCHG Never 0 3$
+X86 XADD { 0:EAX=1; 1:EAX=1; } P0|P1; LOCK XADD [x],EAX | LOCK XADD [x],EAX; locations [0:EAX; 1:EAX;] forall (x=2) => Test XADD Required$States 2$0:EAX=0; 1:EAX=1; x=2;$0:EAX=1; 1:EAX=0; x=2;$Ok$Positive: 2 Negative: 0$Condition forall (x=2)$Observation XADD Always 2 0$
+X86 EMPTY$\"Fre PodWR Fre PodWR\"$Cycle=Fre PodWR Fre PodWR$Prefetch=0:x=F,0:y=T,1:y=F,1:x=T$Com=Fr Fr$Orig=Fre PodWR Fre PodWR${$}$ P0 ;$exists (true)$ => Test EMPTY Allowed$States 1$$Ok$Positive: 1 Negative: 0$Condition exists (true)$Observation EMPTY Always 1 0$
+";
+
 /// No observed name: an empty line. Four threads; eight locations, in the order in which the test names them; `/\` binds closer
 /// than `\/`, `~` closest, and parentheses are printed where they are needed; a condition of 256 nodes; words
 /// are numbers, which sort as numbers; what is listed is named before the condition.
@@ -39,10 +55,12 @@ SRC WORDS {} P0; x := 4294967295; y := 10; locations [y] exists (x=4294967295) =
 SRC ORDER {} P0|P1; x := 2 | x := 10; forall (x=2) => Test ORDER Required$States 2$x=2;$x=10;$No$Positive: 1 Negative: 1$Condition forall (x=2)$Observation ORDER Sometimes 1 1$
 ";
 
-/// What is refused: too many orders; as yet, x86 tests, after their text and their cells have been read; cells; texts.
+/// What is refused: too many items, also where there are too many orders; too many orders; cells; texts.
 const REFUSED_TESTS: &str = "
+X86 ITEMS {} P0|P1|P2; MOV [x],@1 | MOV [y],@1 | MOV EAX,[z]; <31 MOV [x],@1 | MOV [y],@1 |; >exists (true) => lw: limit 1 TooManyItems
+X86 ITEMS {} P0|P1|P2|P3; <32 MOV [x],@1 | MOV [x],@2 | MOV [x],@3 | MOV [x],@4; >exists (true) => lw: limit 1 TooManyItems
+X86 SEVEN {} P0|P1; MOV [x],@1 | MOV [x],@8; MOV [x],@2 | MOV [x],@9; MOV [x],@3 | MOV [x],@10; MOV [x],@4 |; MOV [x],@5 |; MOV [x],@6 |; MOV [x],@7 |; exists (true) => lw: limit 2 TooManyOrders
 SRC SEVEN {} P0|P1; x := 1 | x := 8; x := 2 | x := 9; x := 3 | x := 10; x := 4 |; x := 5 |; x := 6 |; x := 7 |; exists (true) => lw: limit 2 TooManyOrders
-X86 SB {} P0|P1; MOV [x],1 | MOV [y],1; MOV EAX,[y] | MOV EAX,[x]; exists (0:EAX=0) => lw: text 4 Unexpected at 0
 X86 A {} P0; MOV y,1; exists (true) => lw: cell 2 Register at 17
 SRC A {} P0; x + 1; exists (true) => lw: cell 1 Form at 15
 SRC A => lw: text 3 Unterminated at 5
@@ -50,7 +68,7 @@ SRC A => lw: text 3 Unterminated at 5
 
 #[test]
 fn reports_of_tests(rt: HostRuntime) {
-    for table in [CLASSIC_TESTS, OTHER_TESTS, REFUSED_TESTS] {
+    for table in [CLASSIC_TESTS, X86_TESTS, OTHER_TESTS, REFUSED_TESTS] {
         let other = first_other_output(rt.alloc(), Task::States, table);
         assert!(rt; other.is_none(), "{other:?}");
     }

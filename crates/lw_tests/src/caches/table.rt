@@ -5,7 +5,7 @@ use lw_memory::{NotHeld, Request};
 use lw_mesi::Protocol;
 
 /// A letter and a word for each of four caches and eight locations. The word of a line in I says nothing.
-#[derive(Drop)]
+#[derive(Clone, Copy)]
 pub struct Table {
     protocol: Protocol,
     lines: [[(LineState, Word); 8]; 4],

@@ -1,14 +1,26 @@
-//! Lists at the limits: how many orders there are at most, over all choices of paths.
+//! Lists at the limits: how many items a choice of paths has at most, and how many orders there are over all choices.
 use crate::compilations::source_of;
-use lw_finals::{ListFault, list_source};
+use crate::machines::program_of_words;
+use lw_finals::{ListFault, Listing, list_raw, list_source};
 use std::alloc::Global;
 
 /// How many outcomes the list of a test has, or why there is no list.
 fn length_of(alloc: Global, text: &str) -> Option<Result<usize, ListFault>> {
     let source = source_of(alloc, text)?;
-    match list_source(alloc, &source) {
-        Ok(listing) => Some(Ok(listing.len())),
-        Err(fault) => Some(Err(fault)),
+    Some(length(list_source(alloc, &source)))
+}
+
+/// The same of an x86 test.
+fn raw_length_of(alloc: Global, words: &str) -> Option<Result<usize, ListFault>> {
+    let program = program_of_words(alloc, words)?;
+    Some(length(list_raw(alloc, &program)))
+}
+
+/// How many outcomes there are, where there is a list.
+fn length(listed: Result<Listing, ListFault>) -> Result<usize, ListFault> {
+    match listed {
+        Ok(listing) => Ok(listing.len()),
+        Err(fault) => Err(fault),
     }
 }
 
@@ -48,4 +60,60 @@ fn orders_of_all_choices(rt: HostRuntime) {
 #[test]
 fn choices_of_three_threads(rt: HostRuntime) {
     assert!(rt; length_of(rt.alloc(), THREE_THREADS) == Some(Err(ListFault::TooManyOrders)));
+}
+
+/// As many stores as two threads can have, each thread to a location of its own: 128 items, since each store is drained, and one
+/// order of them.
+const TWO_LOCATIONS: &str = "X86 A {} P0|P1; <32 MOV [x],@1 | MOV [y],@1; >exists (x=1 /\\ y=1)";
+
+/// The same, and a load by a third thread: 129 items.
+const ANOTHER_ITEM: &str =
+    "X86 A {} P0|P1|P2; MOV [x],@1 | MOV [y],@1 | MOV EAX,[z]; <31 MOV [x],@1 | MOV [y],@1 |; >exists (true)";
+
+/// 129 items on a path that no run takes, and 128 on the other.
+const ANOTHER_PATH: &str =
+    "X86 A {} P0|P1|P2; <31 MOV [x],@1 | MOV [y],@1 |; >MOV [x],@1 | | CMP EAX,@0; | | JE L; | | MOV EAX,[z]; | | L:; exists (true)";
+
+/// 256 items, all to one location: they are looked at before the orders.
+const ONE_LOCATION: &str =
+    "X86 A {} P0|P1|P2|P3; <32 MOV [x],@1 | MOV [x],@2 | MOV [x],@3 | MOV [x],@4; >exists (true)";
+
+/// 128 items of four threads, each of which has its own location: one order, though they interleave in countless ways.
+const FOUR_LOCATIONS: &str =
+    "X86 A {} P0|P1|P2|P3; <16 MOV [a],@1 | MOV [b],@2 | MOV [c],@3 | MOV [d],@4; >exists (true)";
+
+#[test]
+fn items_of_x86_tests(rt: HostRuntime) {
+    for (words, wanted) in [
+        (TWO_LOCATIONS, Ok(1)),
+        (ANOTHER_ITEM, Err(ListFault::TooManyItems)),
+        (ANOTHER_PATH, Err(ListFault::TooManyItems)),
+        (ONE_LOCATION, Err(ListFault::TooManyItems)),
+        (FOUR_LOCATIONS, Ok(1)),
+    ] {
+        assert!(rt; raw_length_of(rt.alloc(), words) == Some(wanted), "{words}");
+    }
+}
+
+/// Five stores against four in x86 instructions: it is the drains that conflict.
+const X86_FIVE_AGAINST_FOUR: &str =
+    "X86 A {} P0|P1; MOV [x],@1 | MOV [x],@6; MOV [x],@2 | MOV [x],@7; MOV [x],@3 | MOV [x],@8; MOV [x],@4 | MOV [x],@9; MOV [x],@5 |; exists (true)";
+
+/// Seven stores against three.
+const X86_SEVEN_AGAINST_THREE: &str =
+    "X86 A {} P0|P1; MOV [x],@1 | MOV [x],@8; MOV [x],@2 | MOV [x],@9; MOV [x],@3 | MOV [x],@10; MOV [x],@4 |; MOV [x],@5 |; MOV [x],@6 |; MOV [x],@7 |; exists (true)";
+
+/// Five stores against four, and the choice that skips the five.
+const X86_FIVE_OR_NONE: &str =
+    "X86 A {} P0|P1; CMP EAX,@1 | MOV [x],@6; JE E | MOV [x],@7; MOV [x],@1 | MOV [x],@8; MOV [x],@2 | MOV [x],@9; MOV [x],@3 |; MOV [x],@4 |; MOV [x],@5 |; E: |; exists (true)";
+
+#[test]
+fn orders_of_x86_tests(rt: HostRuntime) {
+    for (words, wanted) in [
+        (X86_FIVE_AGAINST_FOUR, Ok(2)),
+        (X86_SEVEN_AGAINST_THREE, Err(ListFault::TooManyOrders)),
+        (X86_FIVE_OR_NONE, Err(ListFault::TooManyOrders)),
+    ] {
+        assert!(rt; raw_length_of(rt.alloc(), words) == Some(wanted), "{words}");
+    }
 }

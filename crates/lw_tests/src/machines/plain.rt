@@ -1,12 +1,54 @@
-//! A plain machine: the x86-TSO machine on arrays, over the plain table of a protocol.
+//! A plain machine: the x86-TSO machine on arrays, over the plain table of a protocol or over words alone.
 use crate::caches::table::Table;
-use lw_base::{Cpu, Event, Loc, Operand, Reg, Stop, Word};
-use lw_memory::Request;
+use lw_base::{Cpu, Event, Loc, Operand, Outcome, Reg, Sequence, Stop, Word};
+use lw_memory::{NotHeld, Request};
 use lw_mesi::Protocol;
 use lw_x86::{Instr, Program};
+use std::alloc::Global;
+
+/// What a plain machine stands on.
+pub trait PlainMemory {
+    /// Makes a request: its word if it answers one, or that it is refused.
+    fn answer(&mut self, request: &Request) -> Result<Option<Word>, NotHeld>;
+}
+
+impl PlainMemory for Table {
+    fn answer(&mut self, request: &Request) -> Result<Option<Word>, NotHeld> {
+        self.answer_to(request)
+    }
+}
+
+/// One word for each of eight locations.
+#[derive(Clone, Copy, PartialEq, Eq)]
+pub struct Words {
+    pub words: [Word; 8],
+}
+
+impl PlainMemory for Words {
+    fn answer(&mut self, request: &Request) -> Result<Option<Word>, NotHeld> {
+        match *request {
+            Request::Load(_, loc) => Ok(Some(self.words[loc.index()])),
+            Request::Store(_, loc, word) => {
+                self.words[loc.index()] = word;
+                Ok(None)
+            }
+            Request::Swap(_, loc, word) => {
+                let old = self.words[loc.index()];
+                self.words[loc.index()] = word;
+                Ok(Some(old))
+            }
+            Request::FetchAdd(_, loc, word) => {
+                let old = self.words[loc.index()];
+                self.words[loc.index()] = old.wrapping_add(word);
+                Ok(Some(old))
+            }
+            Request::Evict(_, _) => Err(NotHeld),
+        }
+    }
+}
 
 /// A processor. Of the entries that its store buffer has ever had, the first have been drained.
-#[derive(Clone, Copy)]
+#[derive(Clone, Copy, PartialEq, Eq)]
 pub struct Core {
     pub position: usize,
     pub regs: [Word; 6],
@@ -78,28 +120,57 @@ impl Core {
     }
 }
 
-/// Four processors, of which a program uses the first, over the table.
-#[derive(Drop)]
-pub struct PlainMachine {
+/// Four processors, of which a program uses the first, over a memory.
+#[derive(Clone, Copy, PartialEq, Eq)]
+pub struct PlainMachine<M = Table> {
     cores: [Core; 4],
-    pub table: Table,
+    pub memory: M,
+}
+
+/// The words that a program starts with, and a 0 where it has no location.
+fn first_words(program: &Program) -> [Word; 8] {
+    let mut words = [0; 8];
+    for (word, initial) in words.iter_mut().zip(program.head.init_words.as_slice()) {
+        *word = *initial;
+    }
+    words
 }
 
 impl PlainMachine {
     /// A program at its start, over caches that keep the MESI protocol.
     pub fn new(program: &Program) -> Self {
-        let mut words = [0; 8];
-        for (word, initial) in words.iter_mut().zip(program.head.init_words.as_slice()) {
-            *word = *initial;
+        let words = first_words(program);
+        PlainMachine::over(program, Table::new(Protocol::Mesi, &words))
+    }
+}
+
+impl PlainMachine<Words> {
+    /// A program at its start, over words alone.
+    pub fn flat(program: &Program) -> Self {
+        let words = first_words(program);
+        PlainMachine::over(program, Words { words })
+    }
+
+    /// The registers and the words of the program that the machine was made for.
+    pub fn outcome(&self, alloc: Global, program: &Program) -> Option<Outcome> {
+        let mut regs = Sequence::new(alloc);
+        for core in self.cores.get(..program.head.threads)? {
+            regs.push(core.regs).ok()?;
         }
+        let words = self.memory.words.get(..program.head.locs.len())?;
+        let words = Sequence::from_slice(alloc, words).ok()?;
+        Some(Outcome { regs, words })
+    }
+}
+
+impl<M: PlainMemory> PlainMachine<M> {
+    /// A program at its start, over a memory.
+    fn over(program: &Program, memory: M) -> Self {
         let mut cores = [Core::new([0; 6]); 4];
         for (core, regs) in cores.iter_mut().zip(program.head.init_regs.as_slice()) {
             core.regs = *regs;
         }
-        PlainMachine {
-            cores,
-            table: Table::new(Protocol::Mesi, &words),
-        }
+        PlainMachine { cores, memory }
     }
 
     pub fn core(&self, cpu: Cpu) -> &Core {
@@ -139,7 +210,7 @@ impl PlainMachine {
     }
 
     fn evict(&mut self, cpu: Cpu, loc: Loc) -> Result<(), Stop> {
-        match self.table.answer_to(&Request::Evict(cpu, loc)) {
+        match self.memory.answer(&Request::Evict(cpu, loc)) {
             Ok(_) => Ok(()),
             Err(_) => Err(Stop::NotHeld),
         }
@@ -147,7 +218,7 @@ impl PlainMachine {
 
     /// The word that a request answers, or 0.
     fn ask(&mut self, request: Request) -> Word {
-        match self.table.answer_to(&request) {
+        match self.memory.answer(&request) {
             Ok(Some(word)) => word,
             _ => 0,
         }
