@@ -6,11 +6,11 @@
   status, where it is not 0, as '[status N]'. Commands run at the top of the repository.
 - The tables of faults, limits and ends in docs/FORMAT.md, whose rows have examples: what is read, and the place of its fault; or
   an example of examples/ and a schedule that ends at its last event, refused.
-- Each examples/NAME.litmus has its NAME.page, which begins with the report of a source test and the schedule that the test's
-  comment tells, and one row in examples/INDEX.md, which tells what the report and the comment tell. docs/MAP.md lists the files
-  as they are.
+- Each examples/NAME.litmus has its NAME.page, which begins with the test's report and the schedule that its comment tells, and
+  one row in examples/INDEX.md, which tells what the report and the comment tell. docs/MAP.md lists the files as they are.
 - Each source test of examples/ beside what it is compiled to: random runs of the source, and the same runs of the compiled
-  program, statement by statement, end in the same registers and memory. The compiled text is its own canonical text.
+  program, statement by statement, end in the same registers and memory. The compiled text is its own canonical text, and its
+  report is that of the source in the registers of x86.
 - The program where memory is refused: for each n, a run whose nth call for memory is refused (tools/refuse_memory.c).
 """
 import glob
@@ -26,6 +26,7 @@ import make_map
 
 HOME = os.path.dirname(os.path.dirname(os.path.abspath(__file__)))
 PROGRAM = f"{HOME}/crates/lw/out/lw"
+X86_REGISTERS = ("EAX", "EBX", "ECX", "EDX", "ESI", "EDI")
 TWO_THREADS = b"SRC SB\n{}\n P0 | P1 ;\n x := 1 | y := 1 ;\n r0 := y | r0 := x ;\nexists (0:r0=0 /\\ 1:r0=0)\n"
 # Examples of the tables that are told in words.
 IN_WORDS = {
@@ -34,6 +35,11 @@ IN_WORDS = {
     "65 rows ` ;`": b"SRC G\n{}\n P0 ;\n" + b" ;\n" * 65 + b"exists (true)\n",
     "17 rows ` r0 := 1 ;`": b"SRC G\n{}\n P0 ;\n" + b" r0 := 1 ;\n" * 17 + b"exists (true)\n",
     "33 rows ` MFENCE ;`": b"X86 G\n{}\n P0 ;\n" + b" MFENCE ;\n" * 33 + b"exists (true)\n",
+    "16 rows ` MOV [w],$1 \\| MOV [x],$1 \\| MOV [y],$1 \\| MOV [z],$1 ;` and one ` MFENCE \\| \\| \\| ;`": (
+        b"X86 G\n{}\n P0 | P1 | P2 | P3 ;\n"
+        + b" MOV [w],$1 | MOV [x],$1 | MOV [y],$1 | MOV [z],$1 ;\n" * 16
+        + b" MFENCE | | | ;\nexists (true)\n"
+    ),
     "5 rows ` x := 1 \\| x := 2 ;`": b"SRC G\n{}\n P0 | P1 ;\n" + b" x := 1 | x := 2 ;\n" * 5 + b"exists (true)\n",
 }
 
@@ -162,7 +168,7 @@ def check_page(name):
     """The page beside a test: what it begins with."""
     test, page = read(name), name.removesuffix("litmus") + "page"
     schedule = re.search(r"A telling schedule: (.*?) \*\)", " ".join(test.split()))[1]
-    wanted = [f"./lw states < {name}"] * test.startswith("SRC") + [f'./lw replay "{schedule}" < {name}']
+    wanted = [f"./lw states < {name}", f'./lw replay "{schedule}" < {name}']
     commands = [command for command, _ in transcript(read(page).splitlines())] if os.path.exists(page) else []
     compare(f"{name} has its page", wanted, commands[: len(wanted)])
 
@@ -176,8 +182,7 @@ def check_index():
         test = read(f"examples/{name}.litmus")
         compare(f"examples/INDEX.md, {name} on x86-TSO", re.search(r"x86-TSO:\s+([^.]*)\.", test)[1], word)
         report = run([PROGRAM, "states"], test.encode())[0].decode().splitlines()
-        wanted = [f"Observation {name} {observed}"] * test.startswith("SRC")
-        compare(f"examples/INDEX.md, the report of {name}", wanted, report[-1:])
+        compare(f"examples/INDEX.md, the report of {name}", [f"Observation {name} {observed}"], report[-1:])
 
 
 def sizes_of(source, compiled, thread):
@@ -217,6 +222,9 @@ def check_compiled(name):
     given, random = source.encode(), Random(name)
     compiled = run([PROGRAM, "compile"], given)[0]
     compare(f"{name}, compiled twice", (compiled, b"", 0), run([PROGRAM, "compile"], compiled))
+    report = run([PROGRAM, "states"], given)[0].decode()
+    in_x86 = re.sub(r"\b(\d):r([0-5])\b", lambda it: f"{it[1]}:{X86_REGISTERS[int(it[2])]}", report)
+    compare(f"{name}, compiled, its report", (in_x86.encode(), b"", 0), run([PROGRAM, "states"], compiled))
     threads = len(state_in(run([PROGRAM, "replay", ""], given)[0].decode())[0])
     sizes = [sizes_of(source, compiled.decode(), thread) for thread in range(threads)]
     for _ in range(5):
@@ -284,6 +292,8 @@ def main():
         ("SB", "schedules"),
         ("SB+own-x86", "replay", "P0 P0 P0 P1 P1 P1 D0 D1"),
         ("SB+own-x86", "compile"),
+        ("SB-x86", "states"),
+        ("SB-x86", "schedules"),
     ]:
         check_refused_memory(test, *words)
     print(f"{passed} passed, {failed} failed")
