@@ -6,12 +6,16 @@
   status, where it is not 0, as '[status N]'. Commands run at the top of the repository.
 - The tables of faults, limits and ends in docs/FORMAT.md, whose rows have examples: what is read, and the place of its fault; or
   an example of examples/ and a schedule that ends at its last event, refused.
-- Each examples/NAME.litmus has its NAME.page, which begins with the test's report and the schedule that its comment tells, and
-  one row in examples/INDEX.md, which tells what the report and the comment tell. docs/MAP.md lists the files as they are.
+- Each examples/NAME.litmus has its NAME.page, which is as tools/plain.py has it, word for word, and one row in examples/INDEX.md,
+  which tells what the report and the comment tell. The comment's words on interleaving and x86-TSO are those of tools/plain.py.
+  docs/MAP.md lists the files as they are.
 - Each source test of examples/ beside what it is compiled to: random runs of the source, and the same runs of the compiled
   program, statement by statement, end in the same registers and memory. The compiled text is its own canonical text, and its
   report is that of the source in the registers of x86.
+- A few random tests of each language: what the program says of them beside what tools/plain.py says (tools/random_tests.py).
 - The program where memory is refused: for each n, a run whose nth call for memory is refused (tools/refuse_memory.c).
+
+Commands run side by side; what differs is told in the order of the list above.
 """
 import glob
 import os
@@ -19,14 +23,18 @@ import re
 import subprocess
 import sys
 import tempfile
+from concurrent.futures import ThreadPoolExecutor
 from random import Random
 
 sys.dont_write_bytecode = True
 import make_map
+import make_pages
+import plain
+import random_tests
 
 HOME = os.path.dirname(os.path.dirname(os.path.abspath(__file__)))
 PROGRAM = f"{HOME}/crates/lw/out/lw"
-X86_REGISTERS = ("EAX", "EBX", "ECX", "EDX", "ESI", "EDI")
+RANDOM_TESTS = 25
 TWO_THREADS = b"SRC SB\n{}\n P0 | P1 ;\n x := 1 | y := 1 ;\n r0 := y | r0 := x ;\nexists (0:r0=0 /\\ 1:r0=0)\n"
 # Examples of the tables that are told in words.
 IN_WORDS = {
@@ -43,17 +51,20 @@ IN_WORDS = {
     "5 rows ` x := 1 \\| x := 2 ;`": b"SRC G\n{}\n P0 | P1 ;\n" + b" x := 1 | x := 2 ;\n" * 5 + b"exists (true)\n",
 }
 
-passed = failed = 0
+# The runs of which every call for memory is refused in turn.
+REFUSED_MEMORY = [
+    ("Peterson", "replay", "P0 P0 P1 P1"),
+    ("Peterson", "replay", "P0 E0:nowhere"),
+    ("Peterson", "compile"),
+    ("SB", "states"),
+    ("SB", "schedules"),
+    ("SB+own-x86", "replay", "P0 P0 P0 P1 P1 P1 D0 D1"),
+    ("SB+own-x86", "compile"),
+    ("SB-x86", "states"),
+    ("SB-x86", "schedules"),
+]
 
-
-def compare(what, wanted, told):
-    """Counts a comparison, and prints what is wrong."""
-    global passed, failed
-    if wanted == told:
-        passed += 1
-        return
-    failed += 1
-    print(f"{what}\n  wanted: {wanted!r}\n  told:   {told!r}")
+# Each check yields its comparisons: what is compared, what is wanted, and what is told.
 
 
 def run(command, given=b"", **more):
@@ -95,7 +106,7 @@ def check_transcript(name, block):
             lines = lines[:-1]
         out = "".join(f"{it}\n" for it in lines if not it.startswith("2> ")).encode()
         err = "".join(f"{it[3:]}\n" for it in lines if it.startswith("2> ")).encode()
-        compare(f"{name}: {command}", (out, err, status), run(["sh", "-c", command]))
+        yield f"{name}: {command}", (out, err, status), run(["sh", "-c", command])
 
 
 def bytes_of(text):
@@ -111,7 +122,8 @@ def check_fault(kind, number, name, example, language="SRC"):
         words = re.fullmatch(r"(.*): at (\d+)", example)
         text = words and re.fullmatch(r"`(.*)`", words[1])
         if not words or not text and words[1] not in IN_WORDS:
-            return compare(f"docs/FORMAT.md, {kind} {number}: an example that is not understood", "", example)
+            yield f"docs/FORMAT.md, {kind} {number}: an example that is not understood", "", example
+            return
         given, place = bytes_of(text[1]) if text else IN_WORDS[words[1]], words[2]
     schedule = ""
     if kind == "cell" and example not in IN_WORDS:
@@ -121,14 +133,14 @@ def check_fault(kind, number, name, example, language="SRC"):
     out, err, status = run([PROGRAM, "replay", schedule], given)
     line = re.sub(rb"\d+\n$", b"", err) if place is None else err
     wanted = f"lw: {kind} {number} {name} at {place or ''}" + ("\n" if place else "")
-    compare(f"docs/FORMAT.md, {kind} fault {number}", (b"", wanted.encode(), 1), (out, line, status))
+    yield f"docs/FORMAT.md, {kind} fault {number}", (b"", wanted.encode(), 1), (out, line, status)
 
 
 def check_limit(number, name, example):
     """A row of the table of limits."""
     for command in ("states", "schedules"):
         told = run([PROGRAM, command], IN_WORDS[example])
-        compare(f"docs/FORMAT.md, limit {number}", (b"", f"lw: limit {number} {name}\n".encode(), 3), told)
+        yield f"docs/FORMAT.md, limit {number}", (b"", f"lw: limit {number} {name}\n".encode(), 3), told
 
 
 def check_end(number, name, schedule, test):
@@ -136,53 +148,58 @@ def check_end(number, name, schedule, test):
     with open(f"{HOME}/examples/{test}.litmus", "rb") as it:
         out, _, status = run([PROGRAM, "replay", schedule], it.read())
     wanted = f"End Stopped at {len(schedule.split()) - 1} by {number} {name}"
-    compare(f"docs/FORMAT.md, end {number}", ([wanted], 1), (out.decode().splitlines()[2:3], status))
+    yield f"docs/FORMAT.md, end {number}", ([wanted], 1), (out.decode().splitlines()[2:3], status)
 
 
-def check_faults():
+def check_mistake(text, line):
+    """A row of the table of common mistakes."""
+    told = run([PROGRAM, "replay", ""], bytes_of(text))
+    yield f"docs/FORMAT.md, a mistake: {text}", (b"", f"{line}\n".encode(), 1), told
+
+
+def checks_of_faults():
+    """A check for each row of the tables of docs/FORMAT.md."""
     kind = None
     for line in read("docs/FORMAT.md").splitlines():
         mistake = re.fullmatch(r"\| .* \| `(.*)` \| `(lw: .*)` \|", line)
         if mistake:
-            told = run([PROGRAM, "replay", ""], bytes_of(mistake[1]))
-            compare(f"docs/FORMAT.md, a mistake: {mistake[1]}", (b"", f"{mistake[2]}\n".encode(), 1), told)
+            yield check_mistake, *mistake.groups()
             continue
         begins = re.match(r"\*\*(Text|Cell|Schedule) faults|\*\*(Limit)s", line)
         kind = (begins[1] or begins[2]).lower() if begins else kind
         end = re.fullmatch(r"\| (\d+) \| (\w+) \| .* \| `(.*)` of `(.*)` \|", line)
         if end:
-            check_end(*end.groups())
+            yield check_end, *end.groups()
             continue
         row = re.fullmatch(r"\| (\d+) \| (\w+) \| .* \| (.*) \|", line)
         if kind == "cell" and row:
             in_both = re.fullmatch(r"\| .* \| (.*) \| (.*) \|", line)
-            check_fault(kind, row[1], row[2], in_both[1])
-            check_fault(kind, row[1], row[2], in_both[2], "X86")
+            yield check_fault, kind, row[1], row[2], in_both[1]
+            yield check_fault, kind, row[1], row[2], in_both[2], "X86"
         elif kind == "limit" and row and row[3] in IN_WORDS:
-            check_limit(*row.groups())
+            yield check_limit, *row.groups()
         elif kind and kind != "limit" and row:
-            check_fault(kind, row[1], row[2], row[3])
+            yield check_fault, kind, row[1], row[2], row[3]
 
 
-def check_page(name):
-    """The page beside a test: what it begins with."""
-    test, page = read(name), name.removesuffix("litmus") + "page"
-    schedule = re.search(r"A telling schedule: (.*?) \*\)", " ".join(test.split()))[1]
-    wanted = [f"./lw states < {name}", f'./lw replay "{schedule}" < {name}']
-    commands = [command for command, _ in transcript(read(page).splitlines())] if os.path.exists(page) else []
-    compare(f"{name} has its page", wanted, commands[: len(wanted)])
+def check_example(name):
+    """A test's name, its page, and the fixed words of its comment, by tools/plain.py."""
+    text, page = read(f"examples/{name}.litmus"), f"examples/{name}.page"
+    test, words = plain.read_test(text), make_pages.fixed_words(text)
+    yield f"examples/{name}.litmus has its name", name, test.name
+    yield f"{page} is as tools/make_pages.py writes it", make_pages.page_of(name, text), read(page)
+    yield f"the words of {name}", plain.words_on(test), (words["interleaving"], words["x86"])
 
 
 def check_index():
     """examples/INDEX.md: a row for each test, with what its report and its comment tell."""
     lines = re.findall(r"^\| (?!Test )(\S+) \|.*\| (.*?) ?\| ([\w ]+) \|$", read("examples/INDEX.md"), re.M)
-    tests = [os.path.basename(name) for name in sorted(glob.glob("examples/*.litmus"))]
-    compare("examples/INDEX.md has each test once", tests, sorted(f"{name}.litmus" for name, _, _ in lines))
+    yield "examples/INDEX.md has each test once", tests(), sorted(name for name, _, _ in lines)
     for name, observed, word in lines:
         test = read(f"examples/{name}.litmus")
-        compare(f"examples/INDEX.md, {name} on x86-TSO", re.search(r"x86-TSO:\s+([^.]*)\.", test)[1], word)
+        yield f"examples/INDEX.md, {name} on x86-TSO", make_pages.fixed_words(test)["x86"], word
         report = run([PROGRAM, "states"], test.encode())[0].decode().splitlines()
-        compare(f"examples/INDEX.md, the report of {name}", [f"Observation {name} {observed}"], report[-1:])
+        yield f"examples/INDEX.md, the report of {name}", [f"Observation {name} {observed}"], report[-1:]
 
 
 def sizes_of(source, compiled, thread):
@@ -221,10 +238,10 @@ def check_compiled(name):
     source = read(name)
     given, random = source.encode(), Random(name)
     compiled = run([PROGRAM, "compile"], given)[0]
-    compare(f"{name}, compiled twice", (compiled, b"", 0), run([PROGRAM, "compile"], compiled))
+    yield f"{name}, compiled twice", (compiled, b"", 0), run([PROGRAM, "compile"], compiled)
     report = run([PROGRAM, "states"], given)[0].decode()
-    in_x86 = re.sub(r"\b(\d):r([0-5])\b", lambda it: f"{it[1]}:{X86_REGISTERS[int(it[2])]}", report)
-    compare(f"{name}, compiled, its report", (in_x86.encode(), b"", 0), run([PROGRAM, "states"], compiled))
+    in_x86 = re.sub(r"\b(\d):r([0-5])\b", lambda it: f"{it[1]}:{plain.REGISTERS['X86'][int(it[2])]}", report)
+    yield f"{name}, compiled, its report", (in_x86.encode(), b"", 0), run([PROGRAM, "states"], compiled)
     threads = len(state_in(run([PROGRAM, "replay", ""], given)[0].decode())[0])
     sizes = [sizes_of(source, compiled.decode(), thread) for thread in range(threads)]
     for _ in range(5):
@@ -240,7 +257,7 @@ def check_compiled(name):
             order.append(f"P{thread}")
             events += [f"P{thread}"] * size + [f"D{thread}"] * is_store
         out, _, status = run([PROGRAM, "replay", " ".join(events)], compiled)
-        compare(f"{name}, compiled, by {' '.join(events)}", (end, 0), (list(state_in(out.decode())[1:]), status))
+        yield f"{name}, compiled, by {' '.join(events)}", (end, 0), (list(state_in(out.decode())[1:]), status)
 
 
 def check_refused_memory(test, *words):
@@ -257,8 +274,8 @@ def check_refused_memory(test, *words):
             if not os.path.exists(mark):
                 break
             os.remove(mark)
-            compare(f"{name}: call {nth} for memory is refused", refused, told)
-        compare(f"{name}: behind the last call none is refused", whole, told)
+            yield f"{name}: call {nth} for memory is refused", refused, told
+        yield f"{name}: behind the last call none is refused", whole, told
 
 
 def read(name):
@@ -266,36 +283,47 @@ def read(name):
         return it.read()
 
 
+def tests():
+    """The names of all examples."""
+    return sorted(os.path.basename(path).removesuffix(".litmus") for path in glob.glob(f"{HOME}/examples/*.litmus"))
+
+
+def check_map():
+    yield "the list of files in docs/MAP.md (tools/make_map.py writes it)", True, make_map.is_whole()
+
+
+def checks():
+    """All checks: functions with their arguments, each of which is one thing to do."""
+    for name in ["README.md", *sorted(glob.glob("docs/*.md"))]:
+        for block in blocks(read(name)):
+            yield check_transcript, name, block
+    yield from checks_of_faults()
+    for name in tests():
+        yield check_example, name
+        yield check_transcript, f"examples/{name}.page", read(f"examples/{name}.page").splitlines()
+    yield (check_index,)
+    yield (check_map,)
+    for name in tests():
+        if read(f"examples/{name}.litmus").startswith("SRC"):
+            yield check_compiled, f"examples/{name}.litmus"
+    for language, seed in random_tests.jobs(RANDOM_TESTS):
+        yield random_tests.comparisons, language, seed
+    for test, *words in REFUSED_MEMORY:
+        yield check_refused_memory, test, *words
+
+
 def main():
     os.chdir(HOME)
     # Where there is no program for the sources as they are, this builds it first.
     with open(f"{HOME}/examples/SB.litmus", "rb") as it:
         subprocess.run([f"{HOME}/lw", "replay", ""], stdin=it, stdout=subprocess.DEVNULL)
-    for name in ["README.md", *sorted(glob.glob("docs/*.md"))]:
-        for block in blocks(read(name)):
-            check_transcript(name, block)
-    for name in sorted(glob.glob("examples/*.litmus")):
-        check_page(name)
-    check_index()
-    for name in sorted(glob.glob("examples/*.page")):
-        check_transcript(name, read(name).splitlines())
-    for name in sorted(glob.glob("examples/*.litmus")):
-        if read(name).startswith("SRC"):
-            check_compiled(name)
-    compare("the list of files in docs/MAP.md (tools/make_map.py writes it)", True, make_map.is_whole())
-    check_faults()
-    for test, *words in [
-        ("Peterson", "replay", "P0 P0 P1 P1"),
-        ("Peterson", "replay", "P0 E0:nowhere"),
-        ("Peterson", "compile"),
-        ("SB", "states"),
-        ("SB", "schedules"),
-        ("SB+own-x86", "replay", "P0 P0 P0 P1 P1 P1 D0 D1"),
-        ("SB+own-x86", "compile"),
-        ("SB-x86", "states"),
-        ("SB-x86", "schedules"),
-    ]:
-        check_refused_memory(test, *words)
+    passed = failed = 0
+    with ThreadPoolExecutor(len(os.sched_getaffinity(0))) as pool:
+        for compared in pool.map(lambda check: list(check[0](*check[1:])), checks()):
+            for what, wanted, told in compared:
+                passed, failed = passed + (wanted == told), failed + (wanted != told)
+                if wanted != told:
+                    print(f"{what}\n  wanted: {wanted!r}\n  told:   {told!r}")
     print(f"{passed} passed, {failed} failed")
     return 1 if failed else 0
 

@@ -1,0 +1,248 @@
+#!/usr/bin/env python3
+"""Makes random tests of both languages, and compares what the program and tools/plain.py say of them.
+
+    python3 tools/random_tests.py [COUNT [FIRST]]
+
+makes COUNT tests of each language (2,000 where no number is given), by the seeds from FIRST on (1). Compared are reports, compiled texts and replays, over both
+protocols; and each schedule that the program lists is replayed to its state by both. A test beyond the program's limits has to be
+refused; one of more than MOST_ORDERS orders, which would take long, is left out. The last line is 'N passed, M failed'.
+tools/check_documents.py makes a few of these tests each time.
+"""
+import os
+import subprocess
+import sys
+from concurrent.futures import ProcessPoolExecutor
+from random import Random
+
+import plain
+
+HOME = os.path.dirname(os.path.dirname(os.path.abspath(__file__)))
+PROGRAM = f"{HOME}/crates/lw/out/lw"
+MOST_ORDERS = 4096
+PROTOCOLS = ("mesi", "moesi")
+
+
+class Writer:
+    """Writes one random test."""
+
+    def __init__(self, language, seed):
+        self.random = Random(f"{language} {seed}")
+        self.language = language
+        self.threads = self.random.choice((1, 2, 2, 2, 3, 3, 4))
+        self.locations = ["x", "y", "z", "flag"][: self.random.choice((1, 2, 2, 3, 4))]
+        self.name = f"Random{seed}"
+
+    def register(self):
+        name = plain.REGISTERS[self.language][self.random.choice((0, 0, 1, 1, 2, 5))]
+        return self.random.choice((name, name, name.lower())) if self.language == "X86" else name
+
+    def number(self, numbers=(0, 1, 1, 2, 3, plain.WORD - 1)):
+        number = self.random.choice(numbers)
+        return hex(number) if self.random.random() < 0.1 else str(number)
+
+    def value(self):
+        if self.random.random() < 0.5:
+            return self.register()
+        return self.random.choice(("$", "$", "")) * (self.language == "X86") + self.number()
+
+    def location(self):
+        return self.random.choice(self.locations)
+
+    def statement(self):
+        """A statement of a source test that does not jump."""
+        make = self.random.choices(
+            (
+                lambda: f"{self.location()} := {self.value()}",
+                lambda: f"{self.register()} := {self.location()}",
+                lambda: f"{self.register()} := swap {self.location()} {self.register()}",
+                lambda: f"{self.register()} := fetchadd {self.location()} {self.register()}",
+                lambda: f"{self.register()} := {self.value()}",
+                lambda: f"{self.register()} := {self.register()} + {self.value()}",
+            ),
+            (28, 28, 8, 8, 5, 7),
+        )[0]
+        return make()
+
+    def instruction(self):
+        """An instruction of an x86 test that does not jump."""
+        make = self.random.choices(
+            (
+                lambda: f"MOV [{self.location()}],{self.value()}",
+                lambda: f"MOV {self.register()},[{self.location()}]",
+                lambda: f"XCHG [{self.location()}],{self.register()}",
+                lambda: f"lock xchg {self.register()},[{self.location()}]",
+                lambda: f"LOCK XADD [{self.location()}],{self.register()}",
+                lambda: f"mov {self.register()},{self.value()}",
+                lambda: f"ADD {self.register()},{self.value()}",
+                lambda: f"CMP {self.register()},{self.value()}",
+                lambda: "MFENCE",
+            ),
+            (28, 26, 5, 3, 8, 5, 5, 6, 6),
+        )[0]
+        return make()
+
+    def jump(self, label):
+        if self.language == "X86":
+            return f"{self.random.choice(('JE', 'JNE', 'jmp'))} {label}"
+        sign = self.random.choice(("=", "!="))
+        branch = f"if {self.register()} {sign} {self.number((0, 1, 2))} goto {label}"
+        return self.random.choice((branch, branch, f"goto {label}"))
+
+    def column(self):
+        """The cells of a thread."""
+        size = self.random.randint(0, 6 if self.threads < 4 else 3)
+        cells, targets = [], set()
+        for at in range(size):
+            if self.random.random() < 0.16:
+                target = self.random.randint(at + 1, size)
+                targets.add(target)
+                cells.append(self.jump(f"L{target}"))
+            else:
+                cells.append(self.statement() if self.language == "SRC" else self.instruction())
+        cells += [""] * (size in targets)
+        return [(f"L{at}: " if at in targets else "") + cell for at, cell in enumerate(cells)]
+
+    def sites(self):
+        names = plain.REGISTERS[self.language][:3]
+        return [*self.locations, f"[{self.locations[0]}]", *(f"{it}:{name}" for it in range(self.threads) for name in names)]
+
+    def proposition(self, depth):
+        chance = self.random.random()
+        if depth == 0 or chance < 0.4:
+            atom = f"{self.random.choice(self.sites())}={self.number((0, 1, 1, 2, 3))}"
+            return self.random.choice(("true", "false")) if chance < 0.02 else atom
+        if chance < 0.55:
+            return f"{self.random.choice(('~', 'not '))}({self.proposition(depth - 1)})"
+        parts = [self.proposition(depth - 1) for _ in range(2)]
+        parts = [f"({part})" if self.random.random() < 0.5 else part for part in parts]
+        return self.random.choice((" /\\ ", " \\/ ")).join(parts)
+
+    def some_sites(self, most):
+        sites = self.sites()
+        return self.random.sample(sites, self.random.randint(0, min(most, len(sites))))
+
+    def note(self):
+        notes = ("", "", "(* a (* nested *) comment *)\n", '"a text {"\n', "Key = (* { raw\n")
+        return self.random.choice(notes)
+
+    def test(self):
+        columns = [self.column() for _ in range(self.threads)]
+        rows = [[f"P{thread}" for thread in range(self.threads)]]
+        for at in range(max(len(column) for column in columns)):
+            rows.append([column[at] if at < len(column) else "" for column in columns])
+        initial = " ".join(f"{site}={self.number()};" for site in self.some_sites(3))
+        listed = "".join(f"{site};" for site in self.some_sites(3))
+        text = f"{self.language} {self.name}\n{self.note()}{{ {initial} }}\n"
+        text += "".join(f" {' | '.join(row)} ;\n" for row in rows)
+        text += f"locations [{listed}]\n" if listed or self.random.random() < 0.1 else ""
+        return text + f"{self.random.choice(('exists', '~exists', 'forall'))} ({self.proposition(3)})\n"
+
+    def schedule(self, test):
+        """Events of which most can be done; the first that can't be done is sometimes the last."""
+        run = plain.SourceReplay(test) if test.language == "SRC" else plain.X86Replay(test, "mesi")
+        events = []
+        for _ in range(self.random.randint(0, 30)):
+            kind = self.random.choice("PPPPDDDE" if test.language == "X86" and test.locations else "PPPD")
+            thread = self.random.randrange(len(test.threads))
+            location = self.random.randrange(len(test.locations)) if kind == "E" else None
+            word = f"{kind}{thread}" + (f":{test.locations[location]}" if kind == "E" else "")
+            try:
+                run.do(kind, thread, location)
+            except plain.Refused:
+                if self.random.random() < 0.9:
+                    continue
+                return " ".join([*events, word])
+            events.append(word)
+        return " ".join(events)
+
+
+def told(words, text):
+    """What the program prints on both streams, and its exit status."""
+    ran = subprocess.run([PROGRAM, *words], input=text.encode(), capture_output=True, timeout=120)
+    return ran.stdout.decode(), ran.stderr.decode(), ran.returncode
+
+
+def compare_replays(what, text, test, schedule):
+    """One schedule, replayed by both, over both protocols."""
+    for protocol in PROTOCOLS:
+        page, status = plain.replay(test, schedule, protocol)
+        words = ["replay", schedule, "--protocol", protocol]
+        yield f"{what}, {' '.join(words)}\n{text}", (page, "", status), told(words, text)
+
+
+def shown_at_end(test, schedule):
+    """How a replay by plain.py ends, and what its end shows of the observed names."""
+    run = plain.X86Replay(test, "mesi")
+    for event in plain.read_schedule(schedule, test.locations):
+        run.do(*event)
+    words = tuple(run.caches.content(at) for at in range(len(test.locations)))
+    outcome = tuple(it.registers for it in run.processors), words
+    return run.is_final(), outcome
+
+
+def compare_schedules(what, text, test, states):
+    """The program's list of schedules: its states, and where each schedule leads."""
+    out, err, status = told(["schedules"], text)
+    lines = out.splitlines()
+    wanted = [plain.state_line(test, words) for words, _ in states]
+    yield f"{what}, the states of its schedules\n{text}", (wanted, "", 0), (lines[2::2], err, status)
+    program = plain.compiled(test)
+    program_text = plain.canonical_text(program)
+    for (_, outcome), line in zip(states, lines[3::2]):
+        yield f"{what}, where {line} leads\n{text}", (True, outcome), shown_at_end(program, line)
+        yield from compare_replays(what, program_text, program, line)
+
+
+def compare_lists(what, text, test):
+    """The report and the list of schedules, or the limit that the test is beyond."""
+    most, orders = plain.orders_of(test)
+    if most > 128 or orders > 2**20:
+        limit = "1 TooManyItems" if most > 128 else "2 TooManyOrders"
+        for command in ("states", "schedules"):
+            yield f"{what}, {command}\n{text}", ("", f"lw: limit {limit}\n", 3), told([command], text)
+    elif orders <= MOST_ORDERS:
+        found = plain.outcomes(test)
+        yield f"{what}, states\n{text}", (plain.report(test, found), "", 0), told(["states"], text)
+        yield from compare_schedules(what, text, test, plain.states_of(test, found))
+
+
+def comparisons(language, seed):
+    """All that is compared of one random test: what, what plain.py says, what the program says."""
+    writer = Writer(language, seed)
+    what, text = f"random test {seed} of {language}", writer.test()
+    test = plain.read_test(text)
+    program = plain.compiled(test)
+    program_text = plain.canonical_text(program)
+    yield f"{what}, compile\n{text}", (program_text, "", 0), told(["compile"], text)
+    yield f"{what}, compiled twice\n{text}", (program_text, "", 0), told(["compile"], program_text)
+    yield from compare_lists(what, text, test)
+    yield from compare_replays(what, text, test, writer.schedule(test))
+    yield from compare_replays(what, program_text, program, writer.schedule(program))
+
+
+def compared_of(job):
+    """The same in a list, of a language and a seed."""
+    return list(comparisons(*job))
+
+
+def jobs(count, first=1):
+    """The random tests to be compared, each a language and a seed."""
+    return [(language, seed) for seed in range(first, first + count) for language in ("SRC", "X86")]
+
+
+def main():
+    count = int(sys.argv[1]) if len(sys.argv) > 1 else 2000
+    first = int(sys.argv[2]) if len(sys.argv) > 2 else 1
+    passed = failed = 0
+    with ProcessPoolExecutor(len(os.sched_getaffinity(0))) as pool:
+        for compared in pool.map(compared_of, jobs(count, first)):
+            for what, wanted, is_told in compared:
+                passed, failed = passed + (wanted == is_told), failed + (wanted != is_told)
+                if wanted != is_told:
+                    print(f"{what}\n  wanted: {wanted!r}\n  told:   {is_told!r}")
+    print(f"{passed} passed, {failed} failed")
+    return 1 if failed else 0
+
+
+if __name__ == "__main__":
+    sys.exit(main())
