@@ -22,27 +22,28 @@ FURTHER = {
     "Peterson+xchg-x86": [("P0 P0", "")],
     "PingPong-x86": [("P0 P0 P1 P1 E1:x", "")],
     "Sharing-x86": [("P1 P2 P0 P0 D0 P1 P2", "moesi")],
-    "SpinLock-x86": [("P0 P0 P0 P0 P0 P0 P0 P0 P1 P1 P1 D0 D0", "")],
-    "TicketLock-x86": [("P0 P1 P1 P1 P1 P0 P0 P0 P0 P0 P0 P0 P0 P0 D0 D0", "")],
+    "SpinLock-x86": [("P0 P0 P0 P0 P0 P0 P0 P0 P0 P0 P0 P0 P1 P1 P1 D0 D0", "")],
+    "TicketLock+cmp-x86": [("P0 P1 P1 P1 P1 P0 P0 P0 P0 P0 P0 P0 P0 P0 D0 D0", "")],
     "WorkStealing": [("P0 P1 P0 P0 P1 P1", "")],
     "WorkStealing+mfence-x86": [("P1 P1", "")],
     "WriteBack-x86": [("P0 P0 D0", "")],
     "Z6.0": [("P0 P0 P1 P2 P1 P2", "")],
 }
 FIXED_WORDS = re.compile(
-    r"Interleaving: (?P<interleaving>[a-z ]+)\. x86-TSO: (?P<x86>[a-z ]+)\. A telling schedule: (?P<schedule>[^()]*) \*\)"
+    r"Interleaving: (?P<interleaving>[a-z ]+)\. x86-TSO: (?P<x86>[a-z ]+)\. "
+    r"(?:A telling schedule: (?P<telling>[^.()]*)|A run: (?P<run>[^.()]*)\. (?P<shown_by>\S+) shows the outcome) \*\)"
 )
 
 
 def fixed_words(text):
-    """What the fixed words of a test's comment say, or None."""
+    """What the fixed words of a test's comment say."""
     return FIXED_WORDS.search(" ".join(text.split()))
 
 
 def commands_on(name, text):
     """The commands of a test's page, each a row of words."""
-    schedule = fixed_words(text)["schedule"]
-    replays = [["replay", schedule]]
+    words = fixed_words(text)
+    replays = [["replay", words["telling"] or words["run"]]]
     for further, protocol in FURTHER.get(name, []):
         replays.append(["replay", further] + (["--protocol", protocol] if protocol else []))
     return [["states"], *replays] + ([["compile"]] if text.startswith("SRC") else [])

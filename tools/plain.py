@@ -951,6 +951,9 @@ class SourceReplay:
     def is_final(self):
         return all(at == len(code) for (at, _), code in zip(self.places, self.test.threads))
 
+    def outcome(self):
+        return outcome_of((self.places, self.words))
+
     def thread_lines(self, thread):
         at, registers = self.places[thread]
         return [f"P{thread} at {at}" + named(REGISTERS["SRC"], registers)]
@@ -978,6 +981,12 @@ class X86Replay:
     def is_final(self):
         return all(it.at == len(code) and not it.buffer for it, code in zip(self.processors, self.test.threads))
 
+    def outcome(self):
+        return outcome_of((self.processors, self.content()))
+
+    def content(self):
+        return tuple(self.caches.content(location) for location in range(len(self.test.locations)))
+
     def thread_lines(self, cpu):
         it, names = self.processors[cpu], self.test.locations
         return [
@@ -988,17 +997,20 @@ class X86Replay:
 
     def memory_lines(self):
         names = self.test.locations
-        content = (self.caches.content(location) for location in range(len(names)))
-        return ["Memory" + named(names, self.caches.memory), "Content" + named(names, content)]
+        return ["Memory" + named(names, self.caches.memory), "Content" + named(names, self.content())]
 
 
 def named(names, words):
     return "".join(f" {name}={word}" for name, word in zip(names, words))
 
 
+def start_replay(test, protocol):
+    return SourceReplay(test) if test.language == "SRC" else X86Replay(test, protocol)
+
+
 def replay(test, schedule, protocol="mesi"):
     """The page of a replay, and its exit status."""
-    run = SourceReplay(test) if test.language == "SRC" else X86Replay(test, protocol)
+    run = start_replay(test, protocol)
     done, stopped = 0, None
     for event in read_schedule(schedule, test.locations):
         try:

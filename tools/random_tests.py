@@ -139,7 +139,7 @@ class Writer:
 
     def schedule(self, test):
         """Events of which most can be done; the first that can't be done is sometimes the last."""
-        run = plain.SourceReplay(test) if test.language == "SRC" else plain.X86Replay(test, "mesi")
+        run = plain.start_replay(test, "mesi")
         events = []
         for _ in range(self.random.randint(0, 30)):
             kind = self.random.choice("PPPPDDDE" if test.language == "X86" and test.locations else "PPPD")
@@ -170,14 +170,12 @@ def compare_replays(what, text, test, schedule):
         yield f"{what}, {' '.join(words)}\n{text}", (page, "", status), told(words, text)
 
 
-def shown_at_end(test, schedule):
-    """How a replay by plain.py ends, and what its end shows of the observed names."""
-    run = plain.X86Replay(test, "mesi")
+def end_of(test, schedule):
+    """How a replay by plain.py ends: whether it is final, and its registers and words."""
+    run = plain.start_replay(test, "mesi")
     for event in plain.read_schedule(schedule, test.locations):
         run.do(*event)
-    words = tuple(run.caches.content(at) for at in range(len(test.locations)))
-    outcome = tuple(it.registers for it in run.processors), words
-    return run.is_final(), outcome
+    return run.is_final(), run.outcome()
 
 
 def compare_schedules(what, text, test, states):
@@ -189,7 +187,7 @@ def compare_schedules(what, text, test, states):
     program = plain.compiled(test)
     program_text = plain.canonical_text(program)
     for (_, outcome), line in zip(states, lines[3::2]):
-        yield f"{what}, where {line} leads\n{text}", (True, outcome), shown_at_end(program, line)
+        yield f"{what}, where {line} leads\n{text}", (True, outcome), end_of(program, line)
         yield from compare_replays(what, program_text, program, line)
 
 
