@@ -7,13 +7,16 @@
 - The tables of faults, limits and ends in docs/FORMAT.md, whose rows have examples: what is read, and the place of its fault; or
   an example of examples/ and a schedule that ends at its last event, refused.
 - Each examples/NAME.litmus has its NAME.page, which is as tools/plain.py has it, word for word, and one row in examples/INDEX.md,
-  which tells what the report and the comment tell. The comment's words on interleaving and x86-TSO are those of tools/plain.py.
+  which tells what the report and the comment tell. The comment's words on interleaving and x86-TSO are those of tools/plain.py, and
+  where x86-TSO allows the outcome, its schedule or that of its x86 form shows it. The x86 form of a source test is what that is
+  compiled to, without fences. Shapes ask `exists` where x86-TSO allows the outcome, and `~exists` where it forbids it.
   docs/MAP.md lists the files as they are.
 - Each source test of examples/ beside what it is compiled to: random runs of the source, and the same runs of the compiled
   program, statement by statement, end in the same registers and memory. The compiled text is its own canonical text, and its
   report is that of the source in the registers of x86.
 - A few random tests of each language: what the program says of them beside what tools/plain.py says (tools/random_tests.py).
 - The program where memory is refused: for each n, a run whose nth call for memory is refused (tools/refuse_memory.c).
+- What `./lw` builds, and when, with a stand-in for `rt` (tools/check_build.py); docs/TIMES.md has the minutes of each of its crates.
 
 Commands run side by side; what differs is told in the order of the list above.
 """
@@ -27,6 +30,8 @@ from concurrent.futures import ThreadPoolExecutor
 from random import Random
 
 sys.dont_write_bytecode = True
+import build
+import check_build
 import make_map
 import make_pages
 import plain
@@ -51,6 +56,8 @@ IN_WORDS = {
     "5 rows ` x := 1 \\| x := 2 ;`": b"SRC G\n{}\n P0 | P1 ;\n" + b" x := 1 | x := 2 ;\n" * 5 + b"exists (true)\n",
 }
 
+# The families of examples/INDEX.md that are shapes, and no algorithms.
+SHAPES = ("Store buffering", "Messages", "Stores in order", "Several readers", "One location")
 # The runs of which every call for memory is refused in turn.
 REFUSED_MEMORY = [
     ("Peterson", "replay", "P0 P0 P1 P1"),
@@ -189,6 +196,23 @@ def check_example(name):
     yield f"examples/{name}.litmus has its name", name, test.name
     yield f"{page} is as tools/make_pages.py writes it", make_pages.page_of(name, text), read(page)
     yield f"the words of {name}", plain.words_on(test), (words["interleaving"], words["x86"])
+    if test.language == "SRC" and plain.words_on(test) == ("forbidden", "allowed"):
+        yield f"the x86 form that {name} points to", f"{name}-x86", words["shown_by"]
+    elif words["x86"] == "allowed":
+        yield f"the schedule of {name} shows its outcome", True, shows_outcome(test, words["telling"])
+    source = f"examples/{name.removesuffix('-x86')}.litmus"
+    if test.language == "X86" and os.path.exists(source):
+        program = plain.compiled(plain.read_test(read(source)), with_fences=False)
+        program.name = name
+        yield f"{name} is what {source} is compiled to, without its fences", plain.canonical_text(program), plain.canonical_text(test)
+
+
+def shows_outcome(test, schedule):
+    """Whether a schedule leads to a final state in which the test's proposition holds."""
+    run = plain.start_replay(test, "mesi")
+    for event in plain.read_schedule(schedule, test.locations):
+        run.do(*event)
+    return run.is_final() and plain.holds(test.proposition, run.outcome())
 
 
 def check_index():
@@ -200,6 +224,15 @@ def check_index():
         yield f"examples/INDEX.md, {name} on x86-TSO", make_pages.fixed_words(test)["x86"], word
         report = run([PROGRAM, "states"], test.encode())[0].decode().splitlines()
         yield f"examples/INDEX.md, the report of {name}", [f"Observation {name} {observed}"], report[-1:]
+
+
+def check_questions():
+    """What the shapes of examples/INDEX.md ask: `exists` where x86-TSO allows the outcome, else `~exists`."""
+    for family in read("examples/INDEX.md").split("\n## ")[1:]:
+        for name, word in re.findall(r"^\| (?!Test )(\S+) \|.*\| (allowed|forbidden) \|$", family, re.M):
+            if family.splitlines()[0] in SHAPES:
+                asked = plain.read_test(read(f"examples/{name}.litmus")).quantifier
+                yield f"what {name} asks", "exists" if word == "allowed" else "~exists", asked
 
 
 def sizes_of(source, compiled, thread):
@@ -292,8 +325,14 @@ def check_map():
     yield "the list of files in docs/MAP.md (tools/make_map.py writes it)", True, make_map.is_whole()
 
 
+def check_times():
+    yield "docs/TIMES.md has the minutes of each crate", [], [it.name for it in build.crates_of_program() if not it.minutes]
+
+
 def checks():
     """All checks: functions with their arguments, each of which is one thing to do."""
+    yield (check_build.comparisons,)
+    yield (check_times,)
     for name in ["README.md", *sorted(glob.glob("docs/*.md"))]:
         for block in blocks(read(name)):
             yield check_transcript, name, block
@@ -302,6 +341,7 @@ def checks():
         yield check_example, name
         yield check_transcript, f"examples/{name}.page", read(f"examples/{name}.page").splitlines()
     yield (check_index,)
+    yield (check_questions,)
     yield (check_map,)
     for name in tests():
         if read(f"examples/{name}.litmus").startswith("SRC"):
