@@ -1,6 +1,7 @@
 #!/bin/sh
 # Proves every crate and its tests from nothing, tries the wrong bodies that the prover must refuse, runs the tests and the
-# program, and then what the documents and the examples say of the program. The last line is 'N passed, M failed'.
+# program, and then what the documents and the examples say of the program. Near the end it prints where the time went; the last
+# line is 'N passed, M failed'.
 case $0 in
     */*) home=${0%/*} ;;
     *) home=. ;;
@@ -12,12 +13,29 @@ made_of=crates/lw/out/made-of
 
 room=$(mktemp -d) || exit 1
 trap 'rm -rf "$room"' EXIT
+
+# Runs a part of the gate by tools/gate_times.py with the words behind the first, and keeps its lines in the file $1.
+run_part() {
+    log=$room/$1
+    shift
+    {
+        python3 tools/gate_times.py "$room/times" "$@"
+        echo $? >"$log.status"
+    } | tee "$log"
+    return "$(cat "$log.status")"
+}
+
+# The number of what has passed, and of what has failed, by the last line of a log.
+passed_in() {
+    sed -n '$s/^\([0-9]*\) passed, .*/\1/p' "$room/$1"
+}
+failed_in() {
+    sed -n '$s/^.* passed, \([0-9]*\) failed$/\1/p' "$room/$1"
+}
+
+rm -rf crates/lw/out/build
 look_at_sources && list_sources >"$room/sources" || exit 1
-{
-    rt ci
-    echo $? >"$room/status"
-} | tee "$room/gate"
-[ "$(cat "$room/status")" = 0 ] || exit 1
+run_part gate rt ci || exit 1
 
 # What the gate has proved and built is the program of these sources.
 mv "$room/sources" "$made_of"
@@ -25,14 +43,12 @@ is_current || {
     echo "the sources have changed during the gate"
     exit 1
 }
-python3 tools/check_documents.py >"$room/documents"
-status=$?
-sed '$d' "$room/documents"
+python3 tools/check_edits.py "$room/gate" >"$room/edits"
+sed '$d' "$room/edits"
+run_part documents --documents python3 tools/check_documents.py
+cat "$room/times"
 
-# The number of what has passed, by the last line of a log.
-passed_in() {
-    sed -n '$s/^\([0-9]*\) passed, .*/\1/p' "$1"
-}
-failed=$(sed -n '$s/^.* passed, \([0-9]*\) failed$/\1/p' "$room/documents")
-echo "$(($(passed_in "$room/gate") + $(passed_in "$room/documents"))) passed, $failed failed"
-exit $status
+[ -n "$(failed_in edits)" ] && [ -n "$(failed_in documents)" ] || exit 1
+failed=$(($(failed_in edits) + $(failed_in documents)))
+echo "$(($(passed_in gate) + $(passed_in documents))) passed, $failed failed"
+[ "$failed" = 0 ]

@@ -14,6 +14,7 @@
 - Each source test of examples/ beside what it is compiled to: random runs of the source, and the same runs of the compiled
   program, statement by statement, end in the same registers and memory. The compiled text is its own canonical text, and its
   report is that of the source in the registers of x86.
+- The tables of `tables/`, a line a case (tools/check_tables.py).
 - A few random tests of each language: what the program says of them beside what tools/plain.py says (tools/random_tests.py).
 - The program where memory is refused: for each n, a run whose nth call for memory is refused (tools/refuse_memory.c).
 - What `./lw` builds, and when, with a stand-in for `rt` (tools/check_build.py); docs/TIMES.md has the minutes of each of its crates.
@@ -32,6 +33,7 @@ from random import Random
 sys.dont_write_bytecode = True
 import build
 import check_build
+import check_tables
 import make_map
 import make_pages
 import plain
@@ -340,6 +342,9 @@ def checks():
     for name in tests():
         yield check_example, name
         yield check_transcript, f"examples/{name}.page", read(f"examples/{name}.page").splitlines()
+    yield (check_tables.are_there,)
+    for name in check_tables.TABLES:
+        yield check_tables.comparisons, PROGRAM, name
     yield (check_index,)
     yield (check_questions,)
     yield (check_map,)

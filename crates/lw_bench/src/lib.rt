@@ -4,7 +4,7 @@
 //! the canonical text, of lw_source their runs, of lw_fence the compiler, and of lw_tso the machine, over the caches of lw_mesi,
 //! which are a memory system of lw_memory; of lw_finals the complete lists of tests, and that an x86 test has over caches the
 //! outcomes that it has over flat memory; and of lw_report the states of a list, its report and its schedules. Its tests, as all of
-//! the workbench's, stand in lw_tests.
+//! the workbench's, stand in lw_run_tests.
 #![tactic(auto)]
 
 mod command;

@@ -1,0 +1,54 @@
+//! Lists that are refused: the causes as values.
+use lw_finals::{ListFault, list_raw, list_source};
+use lw_test_reader::{program_of, source_of};
+use std::alloc::Global;
+use std::test::Fail;
+
+/// Why there is no list of a source test.
+fn fault_of(alloc: Global, text: &str) -> Option<ListFault> {
+    let source = source_of(alloc, text)?;
+    list_source(alloc, &source).err()
+}
+
+/// The same of an x86 test.
+fn raw_fault_of(alloc: Global, text: &str) -> Option<ListFault> {
+    let program = program_of(alloc, text)?;
+    list_raw(alloc, &program).err()
+}
+
+/// Seven stores against three: 2 to the 21 ways to take their conflicts.
+const SEVEN_AGAINST_THREE: &str =
+    "SRC A {} P0|P1; x := 1 | x := 8; x := 2 | x := 9; x := 3 | x := 10; x := 4 |; x := 5 |; x := 6 |; x := 7 |; exists (true)";
+
+/// The same in x86 instructions.
+const X86_SEVEN_AGAINST_THREE: &str =
+    "X86 A {} P0|P1; MOV [x],$1 | MOV [x],$8; MOV [x],$2 | MOV [x],$9; MOV [x],$3 | MOV [x],$10; MOV [x],$4 |; MOV [x],$5 |; MOV [x],$6 |; MOV [x],$7 |; exists (true)";
+
+#[test]
+fn too_many_orders(rt: HostRuntime) {
+    let faults = (
+        fault_of(rt.alloc(), SEVEN_AGAINST_THREE),
+        raw_fault_of(rt.alloc(), X86_SEVEN_AGAINST_THREE),
+    );
+    assert!(rt;
+        matches!(
+            faults,
+            (
+                Some(ListFault::TooManyOrders),
+                Some(ListFault::TooManyOrders)
+            )
+        )
+    );
+}
+
+/// Threads of as many stores as there may be, each to a location of its own, and a load by another thread.
+#[test]
+fn too_many_items(rt: HostRuntime) -> Result<(), Fail> {
+    let rows = " | MOV [x],$1 | MOV [y],$1 ;".repeat(rt.alloc(), 31)?;
+    let text = format!(in rt.alloc();
+        "X86 A {{}} P0|P1|P2; MOV EAX,[z] | MOV [x],$1 | MOV [y],$1; {rows} exists (true)"
+    )?;
+    let fault = raw_fault_of(rt.alloc(), text.as_str());
+    assert!(rt; matches!(fault, Some(ListFault::TooManyItems)));
+    Ok(())
+}

@@ -1,0 +1,138 @@
+//! Where the statements of compiled tests start, and the schedules that runs of the sources stand for.
+ghost use Rattle.std.specs.Prelude.{◌≡◌, map, true, IsTrue, IfOk};
+ghost use Rattle.lw_base.specs.declared.event.Event.TheVariants.{Step};
+ghost use Rattle.lw_fence.specs.Compiling.{IsCompiled};
+ghost use Rattle.lw_source.specs.Runs.{State, Ran, start_of};
+ghost use Rattle.lw_source.specs.Views.{source_of as test_of_source};
+ghost use Rattle.lw_x86.specs.Views.{program_of};
+
+use lw_base::{Cpu, End, Event, read_schedule};
+use lw_fence::{Compiled, compile, schedule_of};
+use lw_source::{Source, SourceRun};
+use lw_test_reader::source_of;
+use std::alloc::{AllocError, Global};
+
+/// A step of each of these threads, in turn.
+fn steps_of(alloc: Global, order: &[Cpu]) -> Result<Vec<Event>, AllocError>
+    ensures { IfOk result (λ steps. steps.items ≡ map Step order.now) }
+{
+    order.iter().map(|cpu| Event::Step(*cpu)).collect(alloc)
+}
+
+/// Whether the source runs by these threads to its end.
+fn ends_by(alloc: Global, source: &Source, order: &[Cpu]) -> bool
+    ensures { IsTrue result → (end : State)
+        × Ran source.now.threads (map Step order.now) (start_of (test_of_source source.now)) end }
+{
+    let Ok(steps) = steps_of(alloc, order) else {
+        return false;
+    };
+    let Ok(mut run) = SourceRun::new(alloc, source) else {
+        return false;
+    };
+    let replay = run.run(steps.as_slice());
+    replay.done == order.len() && replay.end == End::Final
+}
+
+/// Whether a schedule spells these events.
+fn spells(alloc: Global, source: &Source, words: &str, events: &[Event]) -> bool {
+    match read_schedule(alloc, words, &source.head.locs) {
+        Ok(wanted) => wanted.as_slice() == events,
+        Err(_) => false,
+    }
+}
+
+/// Whether the source runs by these threads to its end, and that stands for this schedule of what it is compiled to.
+fn stands_for(
+    alloc: Global,
+    source: &Source,
+    compiled: &Compiled,
+    order: &[Cpu],
+    words: &str,
+) -> bool
+    requires { IsCompiled (test_of_source source.now) (program_of compiled.now.program) compiled.now.starts }
+{
+    if !ends_by(alloc, source, order) {
+        return false;
+    }
+    match schedule_of(alloc, source, compiled, order) {
+        Ok(events) => spells(alloc, source, words, events.as_slice()),
+        Err(_) => false,
+    }
+}
+
+/// Whether the statements of a source's first thread start at these instructions when it is compiled, and its run by these threads
+/// stands for this schedule.
+fn is_compiled_so(
+    alloc: Global,
+    source: &Source,
+    starts: &[usize],
+    order: &[Cpu],
+    words: &str,
+) -> bool {
+    match compile(alloc, source) {
+        Ok(compiled) => match compiled.starts.as_slice() {
+            [first, ..] => {
+                first.as_slice() == starts && stands_for(alloc, source, &compiled, order, words)
+            }
+            [] => false,
+        },
+        Err(_) => false,
+    }
+}
+
+/// The same of the test that the text is.
+fn holds(alloc: Global, text: &str, starts: &[usize], order: &[Cpu], words: &str) -> bool {
+    match source_of(alloc, text) {
+        Some(source) => is_compiled_so(alloc, &source, starts, order, words),
+        None => false,
+    }
+}
+
+/// Fences where paths join, and before the end; a swap between registers; a test of no statement; and store buffering, with fences
+/// and by swaps.
+#[test]
+fn starts_and_schedules(rt: HostRuntime) {
+    let [p0, p1, ..] = Cpu::all();
+    for (text, starts, order, words) in [
+        (
+            "SRC A {} P0; x := 1; if r0 = 0 goto L; r1 := 5; L: r2 := y; exists (true)",
+            [0, 1, 3, 4, 6].as_slice(),
+            [p0, p0, p0].as_slice(),
+            "P0 D0 P0 P0 P0 P0",
+        ),
+        (
+            "SRC A {} P0; x := 1; if r0 = 0 goto E; r0 := y; E:; exists (0:r0=0)",
+            [0, 1, 3, 5].as_slice(),
+            [p0, p0].as_slice(),
+            "P0 D0 P0 P0",
+        ),
+        (
+            "SRC A {} P0; r0 := x; r0 := swap x r1; r0 := r0 + r1; exists (true)",
+            [0, 1, 3, 4].as_slice(),
+            [p0, p0, p0].as_slice(),
+            "P0 P0 P0 P0",
+        ),
+        (
+            "SRC A {} P0; exists (true)",
+            [0].as_slice(),
+            [].as_slice(),
+            "",
+        ),
+        (
+            "SRC SB {} P0|P1; x := 1 | y := 1; r0 := y | r0 := x; exists (true)",
+            [0, 1, 3].as_slice(),
+            [p0, p1, p0, p1].as_slice(),
+            "P0 D0 P1 D1 P0 P0 P1 P1",
+        ),
+        (
+            "SRC SBS {0:r1=1;1:r1=1} P0|P1; r0 := swap x r1 | r0 := swap y r1; r2 := y | r2 := x; exists (true)",
+            [0, 2, 3].as_slice(),
+            [p0, p0, p1, p1].as_slice(),
+            "P0 P0 P0 P1 P1 P1",
+        ),
+    ] {
+        let holds = holds(rt.alloc(), text, starts, order, words);
+        assert!(rt; holds, "{text}");
+    }
+}

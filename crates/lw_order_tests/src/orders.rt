@@ -1,0 +1,276 @@
+//! Worked orders, the limits, and the sequence of the orders beside that of a plain body.
+ghost use Rattle.std.specs.Prelude.{◌≡◌, IfOk};
+ghost use Rattle.lw_orders.specs.Order.{IsWellFormed};
+
+use crate::plain::plain_orders;
+use lw_orders::{Items, Orders, count};
+use std::alloc::{AllocError, Global};
+use std::test::Fail;
+
+/// The items of these pairs.
+fn items_of(
+    alloc: Global,
+    len: usize,
+    fixed: &[(u8, u8)],
+    conflicts: &[(u8, u8)],
+) -> Result<Items, AllocError>
+    requires { IsWellFormed (record { len = len; fixed = fixed.now; conflicts = conflicts.now }) }
+    ensures { IfOk result (λ r. r ≡ record { len = len; fixed = fixed.now; conflicts = conflicts.now }) }
+{
+    let fixed = fixed.to_vec(alloc)?;
+    let conflicts = conflicts.to_vec(alloc)?;
+    Ok(Items::new(len, fixed, conflicts))
+}
+
+/// All orders of the items in their sequence, one behind the other.
+fn given_orders(alloc: Global, items: &Items) -> Result<Vec<u8>, AllocError> {
+    let mut orders = Vec::new(alloc);
+    if count(alloc, items)?.is_some() {
+        for order in Orders::new(alloc, items)? {
+            orders.extend_from_slice(order.as_slice())?;
+        }
+    }
+    Ok(orders)
+}
+
+/// Whether the items have so many directions of open conflicts, and these orders.
+fn have_orders(
+    alloc: Global,
+    items: &Items,
+    directions: u64,
+    wanted: &[u8],
+) -> Result<bool, AllocError> {
+    let has_directions = count(alloc, items)? == Some(directions);
+    let orders = given_orders(alloc, items)?;
+    Ok(has_directions && orders.as_slice() == wanted)
+}
+
+#[test]
+fn two_threads_of_two_items(rt: HostRuntime) -> Result<(), Fail> {
+    let items = items_of(rt.alloc(), 4, &[(0, 1), (2, 3)], &[(0, 3), (1, 2)])?;
+    let wanted = [0, 1, 2, 3, 0, 2, 1, 3, 2, 3, 0, 1];
+    assert!(rt; have_orders(rt.alloc(), &items, 4, &wanted)?);
+    Ok(())
+}
+
+#[test]
+fn three_items_in_all_orders(rt: HostRuntime) -> Result<(), Fail> {
+    let items = items_of(rt.alloc(), 3, &[], &[(0, 1), (0, 2), (1, 2)])?;
+    let wanted = [0, 1, 2, 0, 2, 1, 2, 0, 1, 1, 0, 2, 1, 2, 0, 2, 1, 0];
+    assert!(rt; have_orders(rt.alloc(), &items, 8, &wanted)?);
+    Ok(())
+}
+
+#[test]
+fn a_fixed_pair_decides_its_conflict(rt: HostRuntime) -> Result<(), Fail> {
+    let items = items_of(rt.alloc(), 2, &[(0, 1)], &[(0, 1)])?;
+    assert!(rt; have_orders(rt.alloc(), &items, 1, &[0, 1])?);
+    Ok(())
+}
+
+/// How many directions are tried up to each order, and in all.
+fn tries_of(alloc: Global, items: &Items) -> Result<Vec<u64>, AllocError> {
+    let mut tries = Vec::new(alloc);
+    if count(alloc, items)?.is_some() {
+        let mut orders = Orders::new(alloc, items)?;
+        for _ in 0..4u32 {
+            let _order = orders.next();
+            tries.push(orders.tries())?;
+        }
+    }
+    Ok(tries)
+}
+
+/// Two threads of two items have three orders, and the fourth call gives none.
+#[test]
+fn each_direction_tried_is_counted(rt: HostRuntime) -> Result<(), Fail> {
+    let items = items_of(rt.alloc(), 4, &[(0, 1), (2, 3)], &[(0, 3), (1, 2)])?;
+    assert!(rt; tries_of(rt.alloc(), &items)?.as_slice() == [2, 3, 6, 6].as_slice());
+    Ok(())
+}
+
+/// No items have one order, the empty one.
+#[test]
+fn no_items_have_the_empty_order(rt: HostRuntime) -> Result<(), Fail> {
+    let none = items_of(rt.alloc(), 0, &[], &[])?;
+    let number = count(rt.alloc(), &none)?;
+    let mut orders = Orders::new(rt.alloc(), &none)?;
+    let given = (orders.next().is_some(), orders.next().is_some());
+    assert!(rt; number == Some(1) && given == (true, false));
+    Ok(())
+}
+
+/// One thread stores five times to a location, and another four times to the same.
+#[test]
+fn twenty_open_conflicts_are_counted(rt: HostRuntime) -> Result<(), Fail> {
+    let items = items_of(
+        rt.alloc(),
+        9,
+        &[(0, 1), (1, 2), (2, 3), (3, 4), (5, 6), (6, 7), (7, 8)],
+        &[
+            (0, 5),
+            (0, 6),
+            (0, 7),
+            (0, 8),
+            (1, 5),
+            (1, 6),
+            (1, 7),
+            (1, 8),
+            (2, 5),
+            (2, 6),
+            (2, 7),
+            (2, 8),
+            (3, 5),
+            (3, 6),
+            (3, 7),
+            (3, 8),
+            (4, 5),
+            (4, 6),
+            (4, 7),
+            (4, 8),
+        ],
+    )?;
+    let number = count(rt.alloc(), &items)?;
+    let orders = given_orders(rt.alloc(), &items)?;
+    assert!(rt; number == Some(1_048_576) && orders.len() == 126 * 9);
+    Ok(())
+}
+
+/// One thread stores seven times to a location, and another three times to the same.
+#[test]
+fn twenty_one_open_conflicts_are_too_many(rt: HostRuntime) -> Result<(), Fail> {
+    let items = items_of(
+        rt.alloc(),
+        10,
+        &[
+            (0, 1),
+            (1, 2),
+            (2, 3),
+            (3, 4),
+            (4, 5),
+            (5, 6),
+            (7, 8),
+            (8, 9),
+        ],
+        &[
+            (0, 7),
+            (0, 8),
+            (0, 9),
+            (1, 7),
+            (1, 8),
+            (1, 9),
+            (2, 7),
+            (2, 8),
+            (2, 9),
+            (3, 7),
+            (3, 8),
+            (3, 9),
+            (4, 7),
+            (4, 8),
+            (4, 9),
+            (5, 7),
+            (5, 8),
+            (5, 9),
+            (6, 7),
+            (6, 8),
+            (6, 9),
+        ],
+    )?;
+    assert!(rt; count(rt.alloc(), &items)?.is_none());
+    Ok(())
+}
+
+/// As many items as there may be, with one open conflict, have two orders.
+#[test]
+fn most_items(rt: HostRuntime) -> Result<(), Fail> {
+    let items = items_of(rt.alloc(), 128, &[(126, 127)], &[(0, 127)])?;
+    let orders = given_orders(rt.alloc(), &items)?;
+    let (first, second) = orders.as_slice().split_at(orders.len().min(128));
+    assert!(rt; first.iter().copied().eq(0..128) && matches!(second, [1, 2, .., 127, 0]));
+    Ok(())
+}
+
+/// How many items all orders have, one behind the other, where they are those of the plain body; else 0.
+fn items_as_plain(
+    alloc: Global,
+    len: u8,
+    fixed: &[(u8, u8)],
+    conflicts: &[(u8, u8)],
+) -> Result<usize, AllocError>
+    requires { IsWellFormed (record { len = len; fixed = fixed.now; conflicts = conflicts.now }) }
+{
+    let items = items_of(alloc, usize::from(len), fixed, conflicts)?;
+    let orders = given_orders(alloc, &items)?;
+    let plain = plain_orders(alloc, len, fixed, conflicts)?;
+    Ok(if orders == plain { orders.len() } else { 0 })
+}
+
+/// Store buffering as sources: each of two threads stores to its own location, and then loads the other's.
+#[test]
+fn store_buffering_is_as_the_plain_body_has_it(rt: HostRuntime) -> Result<(), Fail> {
+    assert!(rt; items_as_plain(rt.alloc(), 4, &[(0, 1), (2, 3)], &[(0, 3), (1, 2)])? == 3 * 4);
+    Ok(())
+}
+
+/// Store buffering on processors: the items of a thread are its store, the store's drain and its load. A store stands
+/// before its drain and its load, and each drain conflicts with the other thread's load.
+#[test]
+fn drained_store_buffering_is_as_the_plain_body_has_it(rt: HostRuntime) -> Result<(), Fail> {
+    let fixed = [(0, 1), (0, 2), (3, 4), (3, 5)];
+    assert!(rt; items_as_plain(rt.alloc(), 6, &fixed, &[(1, 5), (2, 4)])? == 4 * 6);
+    Ok(())
+}
+
+/// Two threads that each store to both locations, in opposite sequence. The items of a thread are its first store and
+/// that one's drain, its second store and that one's drain; the drains stand in sequence too.
+#[test]
+fn crossed_stores_are_as_the_plain_body_has_them(rt: HostRuntime) -> Result<(), Fail> {
+    let fixed = [
+        (0, 1),
+        (0, 2),
+        (1, 3),
+        (2, 3),
+        (4, 5),
+        (4, 6),
+        (5, 7),
+        (6, 7),
+    ];
+    assert!(rt; items_as_plain(rt.alloc(), 8, &fixed, &[(1, 7), (3, 5)])? == 3 * 8);
+    Ok(())
+}
+
+/// Each of two threads stores to its own location and loads that, and then the other's. The items of a thread are its
+/// store, the drain and the two loads; a drain conflicts with the loads of its location by both threads.
+#[test]
+fn own_stores_first_are_as_the_plain_body_has_them(rt: HostRuntime) -> Result<(), Fail> {
+    let fixed = [(0, 1), (0, 2), (2, 3), (4, 5), (4, 6), (6, 7)];
+    let conflicts = [(1, 2), (1, 7), (3, 5), (5, 6)];
+    assert!(rt; items_as_plain(rt.alloc(), 8, &fixed, &conflicts)? == 15 * 8);
+    Ok(())
+}
+
+/// Store buffering where each thread may jump over a fence. The first doesn't: its items are its store, the drain, a
+/// comparison, the branch, the fence, for which the drain must be done, and the load (0 to 5). The second does: its
+/// store, the drain, the comparison, the branch and the load (6 to 10).
+#[test]
+fn a_fence_jumped_over_is_as_the_plain_body_has_it(rt: HostRuntime) -> Result<(), Fail> {
+    let given = items_as_plain(
+        rt.alloc(),
+        11,
+        &[
+            (0, 1),
+            (0, 2),
+            (1, 4),
+            (2, 3),
+            (3, 4),
+            (4, 5),
+            (6, 7),
+            (6, 8),
+            (8, 9),
+            (9, 10),
+        ],
+        &[(1, 10), (5, 7)],
+    )?;
+    assert!(rt; given == 4 * 11);
+    Ok(())
+}

@@ -1,0 +1,104 @@
+//! A plain body of the orders: the numbers upwards from 0, each open pair a bit, and the order of each number's graph, where it has
+//! no cycle.
+use std::alloc::{AllocError, Global};
+
+/// Whether a walk along the pairs leads from an item to another: each round follows each pair once.
+fn leads(alloc: Global, pairs: &[(u8, u8)], from: u8, to: u8) -> Result<bool, AllocError> {
+    let mut reached = Vec::new(alloc);
+    reached.push(from)?;
+    for _ in pairs {
+        for (first, second) in pairs {
+            if reached.contains(first) && !reached.contains(second) {
+                reached.push(*second)?;
+            }
+        }
+    }
+    Ok(reached.contains(&to))
+}
+
+/// The conflicts between whose items the fixed pairs lead no walk.
+fn left_open(
+    alloc: Global,
+    fixed: &[(u8, u8)],
+    conflicts: &[(u8, u8)],
+) -> Result<Vec<(u8, u8)>, AllocError> {
+    let mut open = Vec::new(alloc);
+    for (first, second) in conflicts {
+        if !leads(alloc, fixed, *first, *second)? {
+            open.push((*first, *second))?;
+        }
+    }
+    Ok(open)
+}
+
+/// Adds the open pairs, turned round where their bit of the number is 1. The first has the highest bit.
+fn push_directed(
+    pairs: &mut Vec<(u8, u8)>,
+    open: &[(u8, u8)],
+    number: u32,
+) -> Result<(), AllocError> {
+    let mut bits = number;
+    for (first, second) in open.iter().rev() {
+        if bits % 2 == 0 {
+            pairs.push((*first, *second))?;
+        } else {
+            pairs.push((*second, *first))?;
+        }
+        bits /= 2;
+    }
+    Ok(())
+}
+
+/// The lowest item that is not taken, and all of whose predecessors are.
+fn free_item(len: u8, pairs: &[(u8, u8)], taken: &[u8]) -> Option<u8> {
+    (0..len).find(|item| {
+        !taken.contains(item)
+            && pairs
+                .iter()
+                .all(|(first, second)| second != item || taken.contains(first))
+    })
+}
+
+/// The order that takes a free item at each turn; None on a cycle.
+fn plain_order(alloc: Global, len: u8, pairs: &[(u8, u8)]) -> Result<Option<Vec<u8>>, AllocError> {
+    let mut taken = Vec::new(alloc);
+    for _ in 0..len {
+        match free_item(len, pairs, taken.as_slice()) {
+            Some(item) => taken.push(item)?,
+            None => return Ok(None),
+        }
+    }
+    Ok(Some(taken))
+}
+
+/// The order of the fixed pairs, and of the open ones as the number directs them.
+fn order_of_number(
+    alloc: Global,
+    len: u8,
+    fixed: &[(u8, u8)],
+    open: &[(u8, u8)],
+    number: u32,
+) -> Result<Option<Vec<u8>>, AllocError> {
+    let mut pairs = fixed.to_vec(alloc)?;
+    push_directed(&mut pairs, open, number)?;
+    plain_order(alloc, len, pairs.as_slice())
+}
+
+/// All orders in their sequence, one behind the other, of at most ten open pairs.
+pub(crate) fn plain_orders(
+    alloc: Global,
+    len: u8,
+    fixed: &[(u8, u8)],
+    conflicts: &[(u8, u8)],
+) -> Result<Vec<u8>, AllocError> {
+    let open = left_open(alloc, fixed, conflicts)?;
+    let mut orders = Vec::new(alloc);
+    for number in 0..1024u32 {
+        if number >> open.len().min(10) == 0
+            && let Some(order) = order_of_number(alloc, len, fixed, open.as_slice(), number)?
+        {
+            orders.extend_from_slice(order.as_slice())?;
+        }
+    }
+    Ok(orders)
+}

@@ -1,0 +1,15 @@
+//! Tests of the runs of the workbench: between devices that give and take little and fail, where memory is scarce, and of faults,
+//! words and statuses as values.
+//!
+//! It names lw_bench and the types that its calls take and answer. What the program writes of texts and schedules stands in the
+//! folder `tables`.
+#![tactic(auto)]
+
+#[cfg(test)]
+mod commands;
+#[cfg(test)]
+mod devices;
+#[cfg(test)]
+mod runs;
+#[cfg(test)]
+mod scarce;

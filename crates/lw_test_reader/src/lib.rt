@@ -1,0 +1,28 @@
+//! The test that a text is, for the tests crates, which share this alone.
+//!
+//! It names the readers of both languages. No library and no program stands on it.
+#![tactic(auto)]
+
+use lw_base::Arch;
+use lw_source::{Source, read_source};
+use lw_text::read_frame;
+use lw_x86::{Program, read_program};
+use std::alloc::Allocator;
+
+/// The source test that the text is, if it is one and there is memory for it.
+pub fn source_of<A: Allocator + Copy>(alloc: A, text: &str) -> Option<Source<A>> {
+    let frame = read_frame(alloc, text.as_bytes()).ok()?;
+    match frame.head.arch {
+        Arch::Source => read_source(alloc, &frame).ok(),
+        Arch::X86 => None,
+    }
+}
+
+/// The x86 test that the text is, if it is one and there is memory for it.
+pub fn program_of<A: Allocator + Copy>(alloc: A, text: &str) -> Option<Program<A>> {
+    let frame = read_frame(alloc, text.as_bytes()).ok()?;
+    match frame.head.arch {
+        Arch::Source => None,
+        Arch::X86 => read_program(alloc, &frame).ok(),
+    }
+}

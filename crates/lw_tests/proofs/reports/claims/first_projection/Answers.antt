@@ -1,7 +1,0 @@
-use Rattle.lw_base.specs.Heads.{head_of}
-use Rattle.lw_tests.proofs.Entries.{outcome_of_test}
-use Rattle.lw_tests.proofs.reports.claims.first_projection.Goals as goal
-
-pub project-requires-clause-outcome : goal.project-requires-clause-outcome
-project-requires-clause-outcome c =
-    outcome_of_test (head_of c.in_ok-source.source.head) c.in-Ok.listing 0 c.outcome.result.now c.in-Ok.ensures.of_test c.outcome.ensures

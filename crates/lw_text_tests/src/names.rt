@@ -1,0 +1,113 @@
+//! Names, registers and the table of locations.
+ghost use Rattle.std.specs.Prelude.{◌≡◌, []};
+
+use lw_base::{Arch, LocNames, Reg, is_location, is_name, reg_name, reg_named};
+use std::alloc::{AllocError, Allocator};
+
+/// Names of locations, of which the last has 32 bytes.
+const LOCATIONS: &str =
+    "x,_,x1,r,rx,r0x,R0,If,NOT,eip,ax,eaxx,goto_,a2345678901234567890123456789012";
+
+/// Names that are reserved.
+const RESERVED: &str =
+    "r0,r17,r00,if,goto,swap,fetchadd,exists,forall,locations,filter,true,false,not,eax,EAX,eBp,ebx,Ecx,eDX,ESi,edI,ESP";
+
+/// Texts that are no names, the empty one among them.
+const NO_NAMES: &str = "1x,,9,x-y,x y,x:,[x],\u{e9},a23456789012345678901234567890123";
+
+/// The first word for which it isn't so that it is a name, and one of a location.
+fn first_other(words: &str, is_of_a_name: bool, is_of_a_location: bool) -> Option<&str> {
+    words.split(',').find(|word| {
+        is_name(word) != is_of_a_name || is_location(word) != is_of_a_location
+    })
+}
+
+#[test]
+fn names_of_locations(rt: HostRuntime) {
+    let others = (
+        first_other(LOCATIONS, true, true),
+        first_other(RESERVED, true, false),
+        first_other(NO_NAMES, false, false),
+    );
+    assert!(rt; matches!(others, (None, None, None)), "{others:?}");
+}
+
+/// Adds the names of a text to a table, and tells how many there are then.
+fn grow<A: Allocator + Copy>(names: &mut LocNames<A>, words: &str) -> Result<usize, AllocError> {
+    for word in words.split(' ') {
+        if is_location(word) {
+            names.find_or_add(word)?;
+        }
+    }
+    Ok(names.len())
+}
+
+/// Whether these are the names of the table, in their order.
+fn are_named<A: Allocator>(names: &LocNames<A>, words: &str) -> bool {
+    for (place, word) in words.split(' ').enumerate() {
+        if !matches!(names.find(word), Some(loc) if loc.index() == place) {
+            return false;
+        }
+    }
+    true
+}
+
+/// Whether an empty table takes a name as its first.
+fn takes_first<A: Allocator + Copy>(names: &mut LocNames<A>) -> bool
+    requires { names.old ≡ [] }
+{
+    if !is_location("x") {
+        return false;
+    }
+    match names.add("x") {
+        Ok(x) => x.index() == 0 && names.name(x) == "x",
+        Err(_) => false,
+    }
+}
+
+#[test]
+fn table_of_locations(rt: HostRuntime) {
+    let mut names = LocNames::new(rt.alloc());
+    assert!(rt; takes_first(&mut names));
+    assert!(rt; matches!(grow(&mut names, "y x r0 a b c d y e f g"), Ok(8)));
+    assert!(rt; are_named(&names, "x y a b c d e f") && names.find("g").is_none());
+}
+
+/// The names of an architecture's registers, in the order of their numbers.
+fn are_registers(arch: Arch, names: &str) -> bool {
+    for (number, name) in names.split(' ').enumerate() {
+        if !matches!(reg_named(arch, name), Some(reg) if reg.index() == number) {
+            return false;
+        }
+    }
+    true
+}
+
+/// Whether a register has this name in the source language, and that in x86.
+fn has_names(reg: Reg, source: &str, x86: &str) -> bool {
+    reg_name(Arch::Source, reg) == source && reg_name(Arch::X86, reg) == x86
+}
+
+#[test]
+fn names_of_registers(rt: HostRuntime) {
+    assert!(rt; are_registers(Arch::Source, "r0 r1 r2 r3 r4 r5"));
+    assert!(rt; are_registers(Arch::X86, "EAX EBX ECX EDX ESI EDI"));
+    assert!(rt; are_registers(Arch::X86, "eax eBx Ecx edX esi EdI"));
+    assert!(rt; matches!(Reg::new(5), Some(last) if has_names(last, "r5", "EDI")));
+}
+
+/// The first of these words, between which stand commas, that names a register.
+fn first_register(arch: Arch, words: &str) -> Option<&str> {
+    words
+        .split(',')
+        .find(|word| reg_named(arch, word).is_some())
+}
+
+#[test]
+fn words_that_name_no_register(rt: HostRuntime) {
+    let named = (
+        first_register(Arch::Source, ",r6,r00,r,R0,r0x,EAX,eax"),
+        first_register(Arch::X86, ",r0,EBP,esp,AX,RAX,EAXX"),
+    );
+    assert!(rt; matches!(named, (None, None)), "{named:?}");
+}

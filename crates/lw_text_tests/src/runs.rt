@@ -1,0 +1,41 @@
+//! The state that a run leaves, as an outcome.
+use lw_base::{Cpu, End, Event};
+use lw_source::{Source, SourceRun};
+use lw_test_reader::source_of;
+use std::alloc::Global;
+
+/// Store buffering.
+const STORE_BUFFERING: &str =
+    "SRC SB {} P0|P1; x := 1 | y := 1; r0 := y | r0 := x; exists (0:r0=0 /\\ 1:r0=0)";
+
+/// Whether a run has left a 1 in each location, and in the first thread's first register alone.
+fn has_left(run: &SourceRun<'_>) -> bool {
+    match run.outcome() {
+        Ok(outcome) => {
+            outcome.regs.as_slice() == [[1, 0, 0, 0, 0, 0], [0; 6]].as_slice()
+                && outcome.words.as_slice() == [1, 1].as_slice()
+        }
+        Err(_) => false,
+    }
+}
+
+/// Whether these steps are all carried out, don't end the run, and leave that.
+fn leave(alloc: Global, source: &Source, steps: [Cpu; 3]) -> bool {
+    match SourceRun::new(alloc, source) {
+        Ok(mut run) => {
+            let replay = run.run(&steps.map(Event::Step));
+            replay.done == 3 && replay.end == End::NotFinal && has_left(&run)
+        }
+        Err(_) => false,
+    }
+}
+
+#[test]
+fn outcome_of_a_run(rt: HostRuntime) {
+    let [p0, p1, ..] = Cpu::all();
+    let is_left = match source_of(rt.alloc(), STORE_BUFFERING) {
+        Some(source) => leave(rt.alloc(), &source, [p0, p1, p0]),
+        None => false,
+    };
+    assert!(rt; is_left);
+}

@@ -1,0 +1,83 @@
+//! Outcomes and lists.
+use lw_base::{Outcome, Sequence, Word};
+use lw_text::number;
+use std::alloc::{AllocError, Global};
+use std::collections::HashSet;
+use std::test::Fail;
+
+/// The registers of a thread, by their digits.
+fn regs_of(digits: &str) -> [Word; 6] {
+    let mut regs = [0; 6];
+    for (reg, digit) in regs.iter_mut().zip(digits.as_bytes()) {
+        *reg = Word::from(digit.wrapping_sub(b'0'));
+    }
+    regs
+}
+
+/// The outcome that a text spells: six digits for each thread, `/`, and the words of memory.
+fn outcome_of(alloc: Global, spelled: &str) -> Result<Outcome, AllocError> {
+    let (threads, memory) = spelled.split_once('/').unwrap_or((spelled, ""));
+    let mut regs = Sequence::new(alloc);
+    for digits in threads.split(' ') {
+        if !digits.is_empty() {
+            regs.push(regs_of(digits))?;
+        }
+    }
+    let mut words = Sequence::new(alloc);
+    for digits in memory.split(' ') {
+        if let Some(word) = number(digits) {
+            words.push(word)?;
+        }
+    }
+    Ok(Outcome { regs, words })
+}
+
+/// Outcomes, each below the next: a shorter list of registers, the first thread before the second, registers before words,
+/// words in order.
+const UPWARDS: &str = "
+/9 < 000000/9 9
+000000/9 9 < 000000 000000/
+000000 000000/ < 000000 000000/1
+000000 000000/1 < 000000 000000/1 0
+000000 000000/1 0 < 000000 000000/2
+000000 000000/2 < 000000 000000/4294967295
+000000 000000/4294967295 < 000000 100000/0
+000000 100000/0 < 000001 000000/0
+000001 000000/0 < 100000 000000/0
+";
+
+/// Whether the line's first outcome is below its second.
+fn holds(alloc: Global, line: &str) -> Result<bool, AllocError> {
+    let (low, high) = line.split_once(" < ").unwrap_or((line, ""));
+    let (low, high) = (outcome_of(alloc, low)?, outcome_of(alloc, high)?);
+    Ok(low < high && high > low && low != high)
+}
+
+#[test]
+fn order_of_outcomes(rt: HostRuntime) -> Result<(), Fail> {
+    for line in UPWARDS.split('\n') {
+        assert!(rt; line.is_empty() || holds(rt.alloc(), line)?, "{line}");
+    }
+    Ok(())
+}
+
+#[test]
+fn equal_outcomes_are_one_key(rt: HostRuntime) -> Result<(), Fail> {
+    let mut seen = HashSet::new(rt.alloc());
+    let mut added = [false; 3];
+    for (is_new, spelled) in added.iter_mut().zip(["000000/1", "000000/2", "000000/1"]) {
+        *is_new = seen.insert(outcome_of(rt.alloc(), spelled)?)?;
+    }
+    assert!(rt; added == [true, true, false] && seen.len() == 2);
+    Ok(())
+}
+
+#[test]
+fn items_of_a_list(rt: HostRuntime) -> Result<(), Fail> {
+    let mut list = Sequence::new(rt.alloc());
+    list.push(7)?;
+    list.push(9)?;
+    list.set(0, 8);
+    assert!(rt; !list.is_empty() && list.as_slice() == [8, 9].as_slice());
+    Ok(())
+}
