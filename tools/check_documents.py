@@ -15,7 +15,8 @@
   program, statement by statement, end in the same registers and memory. The compiled text is its own canonical text, and its
   report is that of the source in the registers of x86.
 - The tables of `tables/`, a line a case (tools/check_tables.py).
-- A few random tests of each language: what the program says of them beside what tools/plain.py says (tools/random_tests.py).
+- The tables of docs/FENCES.md and docs/FAMILIES.md: how many fences a test needs (tools/fences.py).
+- Some random tests of each language: what the program says of them beside what tools/plain.py says (tools/random_tests.py).
 - The program where memory is refused: for each n, a run whose nth call for memory is refused (tools/refuse_memory.c).
 - What `./lw` builds, and when, with a stand-in for `rt` (tools/check_build.py); docs/TIMES.md has the minutes of each of its crates.
 
@@ -34,6 +35,7 @@ sys.dont_write_bytecode = True
 import build
 import check_build
 import check_tables
+import fences
 import make_map
 import make_pages
 import plain
@@ -41,7 +43,7 @@ import random_tests
 
 HOME = os.path.dirname(os.path.dirname(os.path.abspath(__file__)))
 PROGRAM = f"{HOME}/crates/lw/out/lw"
-RANDOM_TESTS = 25
+RANDOM_TESTS = 100
 TWO_THREADS = b"SRC SB\n{}\n P0 | P1 ;\n x := 1 | y := 1 ;\n r0 := y | r0 := x ;\nexists (0:r0=0 /\\ 1:r0=0)\n"
 # Examples of the tables that are told in words.
 IN_WORDS = {
@@ -201,20 +203,17 @@ def check_example(name):
     if test.language == "SRC" and plain.words_on(test) == ("forbidden", "allowed"):
         yield f"the x86 form that {name} points to", f"{name}-x86", words["shown_by"]
     elif words["x86"] == "allowed":
-        yield f"the schedule of {name} shows its outcome", True, shows_outcome(test, words["telling"])
-    source = f"examples/{name.removesuffix('-x86')}.litmus"
-    if test.language == "X86" and os.path.exists(source):
-        program = plain.compiled(plain.read_test(read(source)), with_fences=False)
-        program.name = name
-        yield f"{name} is what {source} is compiled to, without its fences", plain.canonical_text(program), plain.canonical_text(test)
+        is_final, outcome = random_tests.end_of(test, words["telling"])
+        yield f"the schedule of {name} shows its outcome", (True, True), (is_final, plain.holds(test.proposition, outcome))
 
 
-def shows_outcome(test, schedule):
-    """Whether a schedule leads to a final state in which the test's proposition holds."""
-    run = plain.start_replay(test, "mesi")
-    for event in plain.read_schedule(schedule, test.locations):
-        run.do(*event)
-    return run.is_final() and plain.holds(test.proposition, run.outcome())
+def check_x86_form(name):
+    """The x86 form of a source test, if it has one: what it is compiled to, without fences."""
+    form = f"examples/{name}-x86.litmus"
+    if os.path.exists(form):
+        program = plain.compiled(plain.read_test(read(f"examples/{name}.litmus")), with_fences=False)
+        program.name = f"{name}-x86"
+        yield f"{form} is the x86 form of {name}", plain.canonical_text(program), plain.canonical_text(plain.read_test(read(form)))
 
 
 def check_index():
@@ -318,6 +317,34 @@ def read(name):
         return it.read()
 
 
+def fences_by(name):
+    """How many fences a test has, compiled, and how many of them are enough for its question, with none to spare."""
+    test = plain.compiled(plain.read_test(read(f"examples/{name}.litmus")))
+    places = fences.fences_of(test)
+    return len(places), len(places) - len(fences.spared(test, places, fences.states_of(test)))
+
+
+def check_fences(names, number, needed):
+    """A row of the table of docs/FENCES.md."""
+    for name in names.split(", "):
+        yield f"docs/FENCES.md, the fences of {name}", (int(number), int(needed)), fences_by(name)
+
+
+def check_family(name, interleaving, x86, needed):
+    """A row of the table of docs/FAMILIES.md."""
+    words = make_pages.fixed_words(read(f"examples/{name}.litmus"))
+    told = words["interleaving"], words["x86"], fences_by(name)[1]
+    yield f"docs/FAMILIES.md, {name}", (interleaving, x86, int(needed)), told
+
+
+def checks_of_tables():
+    """A check for each row of the tables of docs/FENCES.md and docs/FAMILIES.md."""
+    for row in re.findall(r"^\| ([^|]+) \| (\d+) \| (\d+) \| [^|]+ \|$", read("docs/FENCES.md"), re.M):
+        yield check_fences, *row
+    for row in re.findall(r"^\| (\S+) \| .* \| (\w+) \| (\w+) \| (\d+) \|.*\|$", read("docs/FAMILIES.md"), re.M):
+        yield check_family, *row
+
+
 def tests():
     """The names of all examples."""
     return sorted(os.path.basename(path).removesuffix(".litmus") for path in glob.glob(f"{HOME}/examples/*.litmus"))
@@ -339,8 +366,10 @@ def checks():
         for block in blocks(read(name)):
             yield check_transcript, name, block
     yield from checks_of_faults()
+    yield from checks_of_tables()
     for name in tests():
         yield check_example, name
+        yield check_x86_form, name
         yield check_transcript, f"examples/{name}.page", read(f"examples/{name}.page").splitlines()
     yield (check_tables.are_there,)
     for name in check_tables.TABLES:

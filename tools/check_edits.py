@@ -34,10 +34,12 @@ def told_in(log):
 
 
 def function_at(path, line):
-    """The name of the function of a source file in which a line stands."""
+    """The name of the function of a source file in which a line stands, or before which it stands as an attribute."""
     with open(path, encoding="utf-8") as it:
-        above = it.read().split("\n")[:line]
-    names = re.findall(r"\bfn (\w+)", "\n".join(above))
+        lines = it.read().split("\n")
+    while lines[line - 1].lstrip().startswith("#["):
+        line += 1
+    names = re.findall(r"\bfn (\w+)", "\n".join(lines[:line]))
     return names[-1] if names else None
 
 
@@ -45,7 +47,8 @@ def fault_of(edit, told):
     """What is wrong with how a wrong body was refused, or None."""
     crate, name = edit.split("/")
     with open(f"{HOME}/crates/{crate}/must-fail/{name}", encoding="utf-8") as it:
-        head = re.match(r"refused at: (\w+)::([\w:]+) \S+ \((\S+)\)\n", it.read())
+        text = it.read()
+    head = re.match(r"refused at: (\w+)::([\w:]+) \S+ \((\S+)\)\n", text)
     if not head or head[1] != crate:
         return "its first line is not 'refused at: FUNCTION CLAUSE (GOAL)'"
     if told is None:
@@ -58,13 +61,8 @@ def fault_of(edit, told):
         # (of functions that call each other, the folder of the first is marked)
         is_there = os.path.dirname(at[1]).replace("+", "") == "/".join(["proofs", *modules, function])
     else:
-        is_there = at[1] in files_of(modules) and function_at(f"{HOME}/crates/{crate}/{at[1]}", int(at[2])) == function
+        is_there = f"file: {at[1]}" in text.split("\n") and function_at(f"{HOME}/crates/{crate}/{at[1]}", int(at[2])) == function
     return None if is_there else f"the prover told something else first than of {head[2]}: {told}"
-
-
-def files_of(modules):
-    """The source files in which a function of these modules and types can stand."""
-    return ["src/lib.rt", *(f"src/{'/'.join(modules[: at + 1])}.rt" for at in range(len(modules)))]
 
 
 def main():

@@ -15,6 +15,7 @@ import subprocess
 import sys
 from dataclasses import replace
 
+sys.dont_write_bytecode = True
 import plain
 
 HOME = os.path.dirname(os.path.dirname(os.path.abspath(__file__)))

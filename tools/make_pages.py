@@ -9,7 +9,9 @@ what it is compiled to.
 import glob
 import os
 import re
+import sys
 
+sys.dont_write_bytecode = True
 import plain
 
 HOME = os.path.dirname(os.path.dirname(os.path.abspath(__file__)))

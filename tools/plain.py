@@ -413,6 +413,8 @@ class Reader:
             test.listed = set(self.entries(self.site, "]"))
         test.quantifier = self.quantifier()
         test.proposition = self.either()
+        if nodes_in(test.proposition) > 256:
+            raise NoTest("the condition has more than 256 nodes")
         if self.next() is not None:
             raise NoTest(f"{self.next()!r} stands behind the condition")
         for site in [*initial, *test.listed, *sites_in(test.proposition)]:
@@ -445,6 +447,11 @@ def sites_in(proposition):
     if proposition[0] == "is":
         return {proposition[1]}
     return set().union(*(sites_in(part) for part in proposition[1:]))
+
+
+def nodes_in(proposition):
+    """The number of atoms and connectives."""
+    return 1 + (0 if proposition[0] == "is" else sum(nodes_in(part) for part in proposition[1:]))
 
 
 def holds(proposition, outcome):
@@ -699,10 +706,10 @@ def x86_moves(test, state):
     """The states behind an x86 test's state, each with its event: a step or a drain of one processor."""
     processors, words = state
     for cpu, processor in enumerate(processors):
-        for event, act in (("P", lambda memory: step(test, cpu, processor, memory)), ("D", lambda memory: drain(cpu, processor, memory))):
+        for event in "PD":
             memory = OneMemory(words)
             try:
-                after = act(memory)
+                after = step(test, cpu, processor, memory) if event == "P" else drain(cpu, processor, memory)
             except Refused:
                 continue
             yield f"{event}{cpu}", (put(processors, cpu, after), tuple(memory.words))
@@ -1040,7 +1047,7 @@ def paths(statements, at=0):
 
 
 def accesses_of(statements, path, is_x86):
-    """The accesses on a path, pairs of a location and whether it is written, with the number of its items and of conflicts within."""
+    """The accesses on a path, pairs of a location and whether it is written; its number of items; its number of conflicts within."""
     accesses, waiting, inner = [], [], 0
     for it in (statements[at] for at in path):
         if it.kind in ("mfence", "xchg", "xadd"):

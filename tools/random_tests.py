@@ -3,23 +3,32 @@
 
     python3 tools/random_tests.py [COUNT [FIRST]]
 
-makes COUNT tests of each language (2,000 where no number is given), by the seeds from FIRST on (1). Compared are reports, compiled texts and replays, over both
-protocols; and each schedule that the program lists is replayed to its state by both. A test beyond the program's limits has to be
-refused; one of more than MOST_ORDERS orders, which would take long, is left out. The last line is 'N passed, M failed'.
-tools/check_documents.py makes a few of these tests each time.
+makes COUNT tests of each language (2,000 where no number is given), by the seeds from FIRST on (1). Compared are reports, compiled
+texts and replays, over both protocols; each schedule that the program lists is replayed to its state by both; a test beyond the
+program's limits has to be refused. Of each test a text is made with a random mistake or two, and schedules have a faulty word now
+and then: both take the text, and replay it alike, or both refuse it. The last line is 'N passed, M failed'.
+tools/check_documents.py makes some of these tests each time.
 """
 import os
+import re
 import subprocess
 import sys
 from concurrent.futures import ProcessPoolExecutor
 from random import Random
 
+sys.dont_write_bytecode = True
 import plain
 
 HOME = os.path.dirname(os.path.dirname(os.path.abspath(__file__)))
 PROGRAM = f"{HOME}/crates/lw/out/lw"
-MOST_ORDERS = 4096
 PROTOCOLS = ("mesi", "moesi")
+# What a mistake puts into a text, and into a schedule.
+MISTAKES = (
+    "r0 r5 r6 r9 EAX EBX ebp x y z L1 if goto swap fetchadd exists forall locations filter true false not MOV ADD CMP XCHG LOCK "
+    "XADD MFENCE JE JMP ; | : := , $ = != + /\\ \\/ ~ ( ) { } [ ] 0 1 4294967295 4294967296 0x 0xff 00012 P0 P1 P4 (* *) \" A=b - # "
+    "a_name_that_is_longer_than_32_bytes"
+).split()
+FAULTY_WORDS = ("Q0", "P", "P4", "P00", "D7", "E0", "E0:", "E0:nowhere", "E7:x", "P0:x")
 
 
 class Writer:
@@ -137,7 +146,25 @@ class Writer:
         text += f"locations [{listed}]\n" if listed or self.random.random() < 0.1 else ""
         return text + f"{self.random.choice(('exists', '~exists', 'forall'))} ({self.proposition(3)})\n"
 
+    def with_mistakes(self, text):
+        """A text with a token or two that are left out, replaced, put in, or the last."""
+        for _ in range(self.random.choice((1, 1, 2))):
+            tokens = re.findall(r"\s+|\w+|:=|/\\|\\/|!=|.", text) or [""]
+            at = self.random.randrange(len(tokens))
+            other = self.random.choice((self.random.choice(MISTAKES), self.random.choice(tokens)))
+            behind = self.random.choice(([], [other], [tokens[at], other], [f"{other} ", tokens[at]]))
+            rest = [] if self.random.random() < 0.1 else tokens[at + 1 :]
+            text = "".join([*tokens[:at], *behind, *rest])
+        return text
+
     def schedule(self, test):
+        """Words of events; now and then one is faulty."""
+        events = self.events(test)
+        if self.random.random() < 0.05:
+            events.insert(self.random.randint(0, len(events)), self.random.choice(FAULTY_WORDS))
+        return self.random.choice((" ", " ", "  ", "\t")).join(events)
+
+    def events(self, test):
         """Events of which most can be done; the first that can't be done is sometimes the last."""
         run = plain.start_replay(test, "mesi")
         events = []
@@ -151,9 +178,9 @@ class Writer:
             except plain.Refused:
                 if self.random.random() < 0.9:
                     continue
-                return " ".join([*events, word])
+                return [*events, word]
             events.append(word)
-        return " ".join(events)
+        return events
 
 
 def told(words, text):
@@ -165,13 +192,32 @@ def told(words, text):
 def compare_replays(what, text, test, schedule):
     """One schedule, replayed by both, over both protocols."""
     for protocol in PROTOCOLS:
-        page, status = plain.replay(test, schedule, protocol)
         words = ["replay", schedule, "--protocol", protocol]
-        yield f"{what}, {' '.join(words)}\n{text}", (page, "", status), told(words, text)
+        yield f"{what}, {' '.join(words)}\n{text}", replay_by_plain(test, schedule, protocol), told(words, text)
+
+
+def replay_by_plain(test, schedule, protocol):
+    """What the program should print of a replay."""
+    try:
+        page, status = plain.replay(test, schedule, protocol)
+    except plain.NoSchedule as fault:
+        return "", "lw: schedule {} {} at {}\n".format(*fault.args), 1
+    return page, "", status
+
+
+def compare_mistaken(what, text):
+    """A text that may be no test: whether both take it, and its first page."""
+    out, err, status = told(["replay", ""], text)
+    try:
+        wanted = replay_by_plain(plain.read_test(text), "", "mesi")
+    except plain.NoTest:
+        # Which fault it is, and where, plain.py does not say.
+        wanted = "", err if re.fullmatch(r"lw: (text|cell) \d+ \w+ at \d+\n", err) else "a fault", 1
+    yield f"{what}, with mistakes\n{text}", wanted, (out, err, status)
 
 
 def end_of(test, schedule):
-    """How a replay by plain.py ends: whether it is final, and its registers and words."""
+    """How a replay by plain.py ends, where all events can be done: whether it is final, and its registers and words."""
     run = plain.start_replay(test, "mesi")
     for event in plain.read_schedule(schedule, test.locations):
         run.do(*event)
@@ -198,10 +244,10 @@ def compare_lists(what, text, test):
         limit = "1 TooManyItems" if most > 128 else "2 TooManyOrders"
         for command in ("states", "schedules"):
             yield f"{what}, {command}\n{text}", ("", f"lw: limit {limit}\n", 3), told([command], text)
-    elif orders <= MOST_ORDERS:
-        found = plain.outcomes(test)
-        yield f"{what}, states\n{text}", (plain.report(test, found), "", 0), told(["states"], text)
-        yield from compare_schedules(what, text, test, plain.states_of(test, found))
+        return
+    found = plain.outcomes(test)
+    yield f"{what}, states\n{text}", (plain.report(test, found), "", 0), told(["states"], text)
+    yield from compare_schedules(what, text, test, plain.states_of(test, found))
 
 
 def comparisons(language, seed):
@@ -216,6 +262,7 @@ def comparisons(language, seed):
     yield from compare_lists(what, text, test)
     yield from compare_replays(what, text, test, writer.schedule(test))
     yield from compare_replays(what, program_text, program, writer.schedule(program))
+    yield from compare_mistaken(what, writer.with_mistakes(text))
 
 
 def compared_of(job):

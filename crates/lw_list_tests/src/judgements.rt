@@ -88,7 +88,9 @@ fn is_first_projection(alloc: Global, source: &Source, words: &[Word]) -> bool {
 
 #[test]
 fn words_of_the_observed_names(rt: HostRuntime) {
-    let source = source_of(rt.alloc(), STORE_BUFFERING);
-    let is_first = source.is_some_and(|source| is_first_projection(rt.alloc(), &source, &[0, 1]));
+    let is_first = match source_of(rt.alloc(), STORE_BUFFERING) {
+        Some(source) => is_first_projection(rt.alloc(), &source, &[0, 1]),
+        None => false,
+    };
     assert!(rt; is_first);
 }

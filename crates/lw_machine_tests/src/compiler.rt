@@ -89,50 +89,36 @@ fn holds(alloc: Global, text: &str, starts: &[usize], order: &[Cpu], words: &str
     }
 }
 
-/// Fences where paths join, and before the end; a swap between registers; a test of no statement; and store buffering, with fences
-/// and by swaps.
+/// Fences where paths join, and at a jump to the end; a swap between registers; and a test of no statement.
 #[test]
-fn starts_and_schedules(rt: HostRuntime) {
+fn starts_of_statements(rt: HostRuntime) {
+    let [p0, ..] = Cpu::all();
+    let joins = "SRC A {} P0; x := 1; if r0 = 0 goto L; r1 := 5; L: r2 := y; exists (true)";
+    assert!(rt;
+        holds(
+            rt.alloc(),
+            joins,
+            &[0, 1, 3, 4, 6],
+            &[p0; 3],
+            "P0 D0 P0 P0 P0 P0"
+        )
+    );
+    let ends = "SRC A {} P0; x := 1; if r0 = 0 goto E; r0 := y; E:; exists (0:r0=0)";
+    assert!(rt; holds(rt.alloc(), ends, &[0, 1, 3, 5], &[p0; 2], "P0 D0 P0 P0"));
+    let swaps = "SRC A {} P0; r0 := x; r0 := swap x r1; r0 := r0 + r1; exists (true)";
+    assert!(rt; holds(rt.alloc(), swaps, &[0, 1, 3, 4], &[p0; 3], "P0 P0 P0 P0"));
+    assert!(rt; holds(rt.alloc(), "SRC A {} P0; exists (true)", &[0], &[], ""));
+}
+
+/// Store buffering, with fences and by swaps.
+#[test]
+fn schedules_of_runs(rt: HostRuntime) {
     let [p0, p1, ..] = Cpu::all();
-    for (text, starts, order, words) in [
-        (
-            "SRC A {} P0; x := 1; if r0 = 0 goto L; r1 := 5; L: r2 := y; exists (true)",
-            [0, 1, 3, 4, 6].as_slice(),
-            [p0, p0, p0].as_slice(),
-            "P0 D0 P0 P0 P0 P0",
-        ),
-        (
-            "SRC A {} P0; x := 1; if r0 = 0 goto E; r0 := y; E:; exists (0:r0=0)",
-            [0, 1, 3, 5].as_slice(),
-            [p0, p0].as_slice(),
-            "P0 D0 P0 P0",
-        ),
-        (
-            "SRC A {} P0; r0 := x; r0 := swap x r1; r0 := r0 + r1; exists (true)",
-            [0, 1, 3, 4].as_slice(),
-            [p0, p0, p0].as_slice(),
-            "P0 P0 P0 P0",
-        ),
-        (
-            "SRC A {} P0; exists (true)",
-            [0].as_slice(),
-            [].as_slice(),
-            "",
-        ),
-        (
-            "SRC SB {} P0|P1; x := 1 | y := 1; r0 := y | r0 := x; exists (true)",
-            [0, 1, 3].as_slice(),
-            [p0, p1, p0, p1].as_slice(),
-            "P0 D0 P1 D1 P0 P0 P1 P1",
-        ),
-        (
-            "SRC SBS {0:r1=1;1:r1=1} P0|P1; r0 := swap x r1 | r0 := swap y r1; r2 := y | r2 := x; exists (true)",
-            [0, 2, 3].as_slice(),
-            [p0, p0, p1, p1].as_slice(),
-            "P0 P0 P0 P1 P1 P1",
-        ),
-    ] {
-        let holds = holds(rt.alloc(), text, starts, order, words);
-        assert!(rt; holds, "{text}");
-    }
+    let plain = "SRC SB {} P0|P1; x := 1 | y := 1; r0 := y | r0 := x; exists (true)";
+    let schedule = "P0 D0 P1 D1 P0 P0 P1 P1";
+    assert!(rt; holds(rt.alloc(), plain, &[0, 1, 3], &[p0, p1, p0, p1], schedule));
+    let swaps =
+        "SRC SBS {0:r1=1;1:r1=1} P0|P1; r0 := swap x r1 | r0 := swap y r1; r2 := y | r2 := x; exists (true)";
+    let schedule = "P0 P0 P0 P1 P1 P1";
+    assert!(rt; holds(rt.alloc(), swaps, &[0, 2, 3], &[p0, p0, p1, p1], schedule));
 }

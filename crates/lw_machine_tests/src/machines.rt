@@ -65,35 +65,32 @@ fn full_store_buffers(rt: HostRuntime) {
 /// A test of two locations, whose second thread has nothing to do.
 const TWO_LOCATIONS: &str = "X86 A {x=5; y=7} P0|P1; MOV EAX,[x] |; MOV [x],$1 |; exists (true)";
 
-/// Whether a location that there is not is told as that, unless there is no such processor.
-fn misses_locations(alloc: Global, program: &Program) -> Option<bool> {
+/// What is told of locations that there are not, unless there is no such processor, of one that isn't held, and at an end.
+fn told_of_locations(alloc: Global, program: &Program) -> Option<[Result<(), Stop>; 5]> {
     let mut machine = machine_of(alloc, program)?;
     let [_, p1, p2, _] = Cpu::all();
     let [_, y, third, .., last] = Loc::all();
-    let told = (
+    Some([
         machine.step(Event::Evict(p1, third)),
         machine.step(Event::Evict(p1, last)),
         machine.step(Event::Evict(p2, last)),
         machine.step(Event::Evict(p1, y)),
         machine.step(Event::Step(p1)),
-    );
-    Some(matches!(
-        told,
-        (
-            Err(Stop::NoLocation),
-            Err(Stop::NoLocation),
-            Err(Stop::NoCpu),
-            Err(Stop::NotHeld),
-            Err(Stop::Ended)
-        )
-    ))
+    ])
 }
 
 #[test]
 fn locations_that_there_are_not(rt: HostRuntime) {
-    let is_told = match program_of(rt.alloc(), TWO_LOCATIONS) {
-        Some(program) => misses_locations(rt.alloc(), &program),
+    let told = match program_of(rt.alloc(), TWO_LOCATIONS) {
+        Some(program) => told_of_locations(rt.alloc(), &program),
         None => None,
     };
-    assert!(rt; is_told == Some(true));
+    let wanted = [
+        Err(Stop::NoLocation),
+        Err(Stop::NoLocation),
+        Err(Stop::NoCpu),
+        Err(Stop::NotHeld),
+        Err(Stop::Ended),
+    ];
+    assert!(rt; told == Some(wanted));
 }

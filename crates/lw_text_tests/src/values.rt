@@ -1,4 +1,4 @@
-//! Outcomes and lists.
+//! Outcomes: their order, and as keys.
 use lw_base::{Outcome, Sequence, Word};
 use lw_text::number;
 use std::alloc::{AllocError, Global};
@@ -50,7 +50,7 @@ const UPWARDS: &str = "
 fn holds(alloc: Global, line: &str) -> Result<bool, AllocError> {
     let (low, high) = line.split_once(" < ").unwrap_or((line, ""));
     let (low, high) = (outcome_of(alloc, low)?, outcome_of(alloc, high)?);
-    Ok(low < high && high > low && low != high)
+    Ok(low < high)
 }
 
 #[test]
@@ -69,15 +69,5 @@ fn equal_outcomes_are_one_key(rt: HostRuntime) -> Result<(), Fail> {
         *is_new = seen.insert(outcome_of(rt.alloc(), spelled)?)?;
     }
     assert!(rt; added == [true, true, false] && seen.len() == 2);
-    Ok(())
-}
-
-#[test]
-fn items_of_a_list(rt: HostRuntime) -> Result<(), Fail> {
-    let mut list = Sequence::new(rt.alloc());
-    list.push(7)?;
-    list.push(9)?;
-    list.set(0, 8);
-    assert!(rt; !list.is_empty() && list.as_slice() == [8, 9].as_slice());
     Ok(())
 }
