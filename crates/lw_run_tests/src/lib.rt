@@ -1,7 +1,7 @@
-//! Tests of the runs of the workbench: between devices that give and take little and fail, where memory is scarce, and of faults,
-//! words and statuses as values.
+//! Tests of the runs of the workbench: worked examples of each run, runs between devices that give and take little and fail, where
+//! memory is scarce, and faults, words and statuses as values.
 //!
-//! It names lw_bench and the types that its calls take and answer. What the program writes of texts and schedules stands in the
+//! It names lw_bench and the types that its calls take and answer. What else the program writes of texts and schedules stands in the
 //! folder `tables`.
 #![tactic(auto)]
 
@@ -13,3 +13,7 @@ mod devices;
 mod runs;
 #[cfg(test)]
 mod scarce;
+#[cfg(test)]
+mod spelling;
+#[cfg(test)]
+mod worked;
