@@ -7,6 +7,7 @@ pub mod Blanks
 pub mod Words
 pub mod WrittenSchedules
 pub mod Shapes
+pub mod Formulas
 pub mod WellFormedHeads
 pub mod Replays
 pub mod Writing

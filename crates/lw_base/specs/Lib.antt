@@ -1,4 +1,5 @@
 pub mod Types
+pub mod Limits
 pub mod Sums
 pub mod Refusals
 pub mod Characters

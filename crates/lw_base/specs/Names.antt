@@ -3,7 +3,7 @@ use Rattle.std.specs.Prelude.{◌≡◌, ◌<◌, ◌≤◌, ◌&&◌, ◌||◌,
 use Rattle.std.specs.List.{list_any, list_all, AllByRecursion}
 use Rattle.std.specs.Char.{is_ascii_digit, is_ascii_graphic, to_ascii_lowercase}
 use Rattle.std.specs.Str.{bytes_eq}
-use Rattle.lw_base.specs.declared.limits.TheConstants.{MAX_LOCATIONS, MAX_NAME_BYTES, MAX_TEST_NAME_BYTES}
+use Rattle.lw_base.specs.Limits.{most_locations, most_name_bytes, most_test_name_bytes}
 use Rattle.lw_base.specs.Types.{Bytes, NameTable}
 use Rattle.lw_base.specs.Characters.{byte, is_word_byte, begins}
 
@@ -15,7 +15,7 @@ pub record IsWordText (w : Bytes) : Type 0 where
 
 -- a name: no more than so many bytes of it
 abbrev pub IsName : Bytes → Type 0
-IsName w = IsWordText w × (length w ≤ MAX_NAME_BYTES)
+IsName w = IsWordText w × (length w ≤ most_name_bytes)
 
 -- the words of the two languages and of conditions
 abbrev pub keywords : List Bytes
@@ -56,12 +56,12 @@ EachOnce (n ∷ ns) = (Contains ns n → ⊥) × EachOnce ns
 
 -- A table of locations: at most eight names, each once.
 pub record IsTable (names : NameTable) : Type 0 where
-  pub few : length names ≤ MAX_LOCATIONS
+  pub few : length names ≤ most_locations
   pub all : AllByRecursion IsLocation names
   pub once : EachOnce names
 
 -- a test's name: 1 to 128 printing ASCII bytes
 pub record IsTestName (name : Bytes) : Type 0 where
   pub some : 0 < length name
-  pub short : length name ≤ MAX_TEST_NAME_BYTES
+  pub short : length name ≤ most_test_name_bytes
   pub all : AllByRecursion (λ b. is_ascii_graphic b ≡ true) name

@@ -4,7 +4,7 @@ use Rattle.std.specs.List.{AllByRecursion}
 use Rattle.std.specs.Cmp.Lexicographic.{slice_cmp}
 use Rattle.std.specs.Ordering.{nat_cmp, ordering_then}
 use Rattle.std.specs.declared.cmp.Ordering.{Ordering}
-use Rattle.lw_base.specs.declared.limits.TheConstants.{REGISTERS}
+use Rattle.lw_base.specs.Limits.{registers}
 
 -- six words for each thread, and one word for each location
 pub record Final : Type 0 where
@@ -14,7 +14,7 @@ pub record Final : Type 0 where
 -- An outcome of so many threads, each with its registers, and of so many locations.
 pub record IsOutcomeOf (threads locs : ℕ) (o : Final) : Type 0 where
   pub regs_of : length o.regs ≡ threads
-  pub six : AllByRecursion (λ row. length row ≡ REGISTERS) o.regs
+  pub six : AllByRecursion (λ row. length row ≡ registers) o.regs
   pub words_of : length o.words ≡ locs
 
 -- The order of outcomes: by the registers, and by the words where the registers are the same. Lists

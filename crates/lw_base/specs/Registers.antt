@@ -3,7 +3,7 @@ use Rattle.std.specs.Prelude.{◌≡◌, ℕ, ◌<◌, List, [], ◌∷◌, map,
 use Rattle.std.specs.Char.{to_ascii_lowercase}
 use Rattle.lw_base.specs.Types.{Bytes}
 use Rattle.lw_base.specs.Characters.{byte, digit}
-use Rattle.lw_base.specs.declared.limits.TheConstants.{REGISTERS}
+use Rattle.lw_base.specs.Limits.{registers}
 use Rattle.lw_base.specs.declared.head.Arch.{Arch}
 use Rattle.lw_base.specs.declared.head.Arch.TheVariants.{Source, X86}
 
@@ -23,4 +23,4 @@ without_case X86 w = map to_ascii_lowercase w
 -- the word names the register
 abbrev pub IsRegister : Arch → Bytes → ℕ → Type 0
 IsRegister arch w r =
-    (r < REGISTERS) × (without_case arch (register_name arch r) ≡ without_case arch w)
+    (r < registers) × (without_case arch (register_name arch r) ≡ without_case arch w)

@@ -5,7 +5,7 @@ use Rattle.lw_base.specs.Texts.{joined}
 use Rattle.lw_base.specs.Types.{Bytes, NameTable}
 use Rattle.lw_base.specs.Characters.{byte, digit, is_blank, begins}
 use Rattle.lw_base.specs.Names.{IsWordText, are_digits}
-use Rattle.lw_base.specs.declared.limits.TheConstants.{MAX_THREADS}
+use Rattle.lw_base.specs.Limits.{most_threads}
 use Rattle.lw_base.specs.declared.event.Event.{Event}
 use Rattle.lw_base.specs.declared.event.Event.TheVariants.{Step, Drain, Evict}
 use Rattle.lw_base.specs.declared.fault.ScheduleCause.{ScheduleCause}
@@ -13,9 +13,9 @@ use Rattle.lw_base.specs.declared.fault.ScheduleCause.TheVariants.{Word, Cpu, Lo
 
 -- an event of one of the processors, on a location of the table
 abbrev pub IsEvent : NameTable → Event → Type 0
-IsEvent names (Step cpu) = cpu < MAX_THREADS
-IsEvent names (Drain cpu) = cpu < MAX_THREADS
-IsEvent names (Evict cpu loc) = (cpu < MAX_THREADS) × (loc < length names)
+IsEvent names (Step cpu) = cpu < most_threads
+IsEvent names (Drain cpu) = cpu < most_threads
+IsEvent names (Evict cpu loc) = (cpu < most_threads) × (loc < length names)
 
 -- the word of an event: `P0`, `D0`, `E0:x`
 abbrev pub event_word : NameTable → Event → Bytes
@@ -66,7 +66,7 @@ HasShape w ds = (are_digits ds ≡ true) × HasParts w ds
 
 -- the digits of a processor
 abbrev pub IsCpu : Bytes → Type 0
-IsCpu ds = (c : ℕ) × (c < MAX_THREADS) × (ds ≡ digit c ∷ [])
+IsCpu ds = (c : ℕ) × (c < most_threads) × (ds ≡ digit c ∷ [])
 
 -- what is wrong with the digits of a word
 abbrev pub HasBadDigits : Bytes → ScheduleCause → Type 0

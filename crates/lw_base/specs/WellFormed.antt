@@ -1,7 +1,7 @@
 -- What always holds of a test's head: it is well-formed.
 use Rattle.std.specs.Prelude.{◌≡◌, ℕ, ◌<◌, ◌≤◌, ◌^◌, ◌⊎◌, List, [], ◌∷◌, length}
 use Rattle.std.specs.List.{AllByRecursion}
-use Rattle.lw_base.specs.declared.limits.TheConstants.{MAX_THREADS, REGISTERS, MAX_NODES}
+use Rattle.lw_base.specs.Limits.{most_threads, registers, most_nodes}
 use Rattle.lw_base.specs.declared.head.Seen.{Seen}
 use Rattle.lw_base.specs.declared.head.Seen.TheVariants.{Register, Location}
 use Rattle.lw_base.specs.Formula.{Formula, Yes, No, Reg_is, Word_is, Not, And, Or, nodes}
@@ -13,11 +13,11 @@ abbrev pub IsWord : ℕ → Type 0
 IsWord n = n < 2 ^ 32
 
 abbrev pub IsRegisterNumber : ℕ → Type 0
-IsRegisterNumber r = r < REGISTERS
+IsRegisterNumber r = r < registers
 
 -- one of so many threads, or of so many locations
 abbrev pub IsSeen : ℕ → ℕ → Seen → Type 0
-IsSeen threads locs (Register t r) = (t < threads) × (r < REGISTERS)
+IsSeen threads locs (Register t r) = (t < threads) × (r < registers)
 IsSeen threads locs (Location x) = x < locs
 
 -- registers by thread and number, then locations by number
@@ -36,11 +36,21 @@ Ascending (s ∷ ss) = AllByRecursion (ComesBefore s) ss × Ascending ss
 abbrev pub SpeaksOf : ℕ → ℕ → Formula → Type 0
 SpeaksOf threads locs Yes = Unit {0}
 SpeaksOf threads locs No = Unit {0}
-SpeaksOf threads locs (Reg_is t r n) = (t < threads) × (r < REGISTERS) × IsWord n
+SpeaksOf threads locs (Reg_is t r n) = (t < threads) × (r < registers) × IsWord n
 SpeaksOf threads locs (Word_is x n) = (x < locs) × IsWord n
 SpeaksOf threads locs (Not p) = SpeaksOf threads locs p
 SpeaksOf threads locs (And p q) = SpeaksOf threads locs p × SpeaksOf threads locs q
 SpeaksOf threads locs (Or p q) = SpeaksOf threads locs p × SpeaksOf threads locs q
+
+-- The locations that the formula speaks of are there.
+abbrev pub HasLocations : ℕ → Formula → Type 0
+HasLocations locs Yes = Unit {0}
+HasLocations locs No = Unit {0}
+HasLocations locs (Reg_is t r n) = Unit {0}
+HasLocations locs (Word_is x n) = x < locs
+HasLocations locs (Not p) = HasLocations locs p
+HasLocations locs (And p q) = HasLocations locs p × HasLocations locs q
+HasLocations locs (Or p q) = HasLocations locs p × HasLocations locs q
 
 -- An allowed name; one to four threads; a table of at most eight names, each allowed and each once; six words for each
 -- thread and one for each location; what is listed, sorted and each once; a condition of at most 256 nodes; and only
@@ -48,14 +58,14 @@ SpeaksOf threads locs (Or p q) = SpeaksOf threads locs p × SpeaksOf threads loc
 pub record IsWellFormedHead (h : TestHead) : Type 0 where
   pub name : IsTestName h.name
   pub some : 1 ≤ h.threads
-  pub few : h.threads ≤ MAX_THREADS
+  pub few : h.threads ≤ most_threads
   pub table : IsTable h.locs
   pub regs : length h.init_regs ≡ h.threads
-  pub six : AllByRecursion (λ row. length row ≡ REGISTERS) h.init_regs
+  pub six : AllByRecursion (λ row. length row ≡ registers) h.init_regs
   pub register_words : AllByRecursion (AllByRecursion IsWord) h.init_regs
   pub words : length h.init_words ≡ length h.locs
   pub location_words : AllByRecursion IsWord h.init_words
   pub there : AllByRecursion (IsSeen h.threads (length h.locs)) h.listed
   pub ascending : Ascending h.listed
-  pub nodes_few : nodes h.condition ≤ MAX_NODES
+  pub nodes_few : nodes h.condition ≤ most_nodes
   pub condition : SpeaksOf h.threads (length h.locs) h.condition

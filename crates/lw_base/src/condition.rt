@@ -1,11 +1,11 @@
 //! The printing of a condition.
-ghost use Rattle.std.specs.Prelude.{◌≡◌, ◌||◌, ◌++◌, length, IfOk, OnOk};
+ghost use Rattle.std.specs.Prelude.{◌≡◌, ◌++◌, length, IfOk, OnOk};
 ghost use Rattle.std.specs.String.{string_bytes};
 ghost use Rattle.lw_base.specs.ConditionTexts as printed;
 ghost use Rattle.lw_base.specs.ConditionTexts.{condition_text, proposition_text, parenthesized_if, is_joined};
 ghost use Rattle.lw_base.specs.Heads.{head_of};
 ghost use Rattle.lw_base.specs.Propositions.{formula_of};
-ghost use Rattle.lw_base.specs.WellFormed.{SpeaksOf};
+ghost use Rattle.lw_base.specs.WellFormed.{HasLocations};
 
 use crate::head::{Head, Quant};
 use crate::proposition::Prop;
@@ -18,8 +18,8 @@ pub fn write_condition<A: Allocator, B: Allocator>(
     alloc: A,
     head: &Head<B>,
 ) -> Result<Text<A>, AllocError>
-    // The proposition speaks of the head's threads and locations.
-    requires { SpeaksOf head.now.threads (length head.now.locs) (formula_of head.now.prop) }
+    // The table has the proposition's locations.
+    requires { HasLocations (length head.now.locs) (formula_of head.now.prop) }
     ensures { IfOk result (λ text. text ≡ condition_text (head_of head.now)) }
 {
     let mut out = String::new(alloc);
@@ -46,7 +46,7 @@ fn write_proposition<A: Allocator, B: Allocator>(
     head: &Head<B>,
     prop: &Prop<B>,
 ) -> Result<(), AllocError>
-    requires { SpeaksOf head.now.threads (length head.now.locs) (formula_of prop.now) }
+    requires { HasLocations (length head.now.locs) (formula_of prop.now) }
     ensures { OnOk result (string_bytes out.new
         ≡ string_bytes out.old ++ proposition_text head.now.arch head.now.locs (formula_of prop.now)) }
 {
@@ -88,7 +88,7 @@ fn write_part<A: Allocator, B: Allocator>(
     part: &Prop<B>,
     needs_parentheses: bool,
 ) -> Result<(), AllocError>
-    requires { SpeaksOf head.now.threads (length head.now.locs) (formula_of part.now) }
+    requires { HasLocations (length head.now.locs) (formula_of part.now) }
     ensures { OnOk result (string_bytes out.new ≡ string_bytes out.old
         ++ parenthesized_if needs_parentheses (proposition_text head.now.arch head.now.locs (formula_of part.now))) }
 {

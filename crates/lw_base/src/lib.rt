@@ -29,7 +29,7 @@ pub use fault::{CellCause, CellFault, ScheduleCause, ScheduleFault};
 pub use head::{Arch, Head, Quant, Seen};
 pub use limits::{
     MAX_LOCATIONS, MAX_NAME_BYTES, MAX_NODES, MAX_ROWS, MAX_TEST_NAME_BYTES, MAX_TEXT_BYTES,
-    MAX_THREADS, REGISTERS,
+    MAX_THREADS, REGISTERS, the_constants_are_the_limits,
 };
 pub use location::LocNames;
 pub use name::{

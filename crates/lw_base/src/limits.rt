@@ -1,4 +1,6 @@
 //! The limits of a test, each named once.
+ghost use Rattle.std.specs.Prelude.{◌≡◌};
+ghost use Rattle.lw_base.specs.Limits.{most_threads, most_locations, registers, most_name_bytes, most_test_name_bytes, most_text_bytes, most_rows, most_nodes};
 
 /// The most threads of a test, and the number of processors.
 pub const MAX_THREADS: usize = 4;
@@ -23,3 +25,15 @@ pub const MAX_ROWS: usize = 64;
 
 /// The most atoms and connectives of a test's condition.
 pub const MAX_NODES: usize = 256;
+
+/// Each constant is the number that the definitions name.
+pub fn the_constants_are_the_limits()
+    ensures threads { MAX_THREADS ≡ most_threads }
+    ensures locations { MAX_LOCATIONS ≡ most_locations }
+    ensures of_a_thread { REGISTERS ≡ registers }
+    ensures name { MAX_NAME_BYTES ≡ most_name_bytes }
+    ensures test_name { MAX_TEST_NAME_BYTES ≡ most_test_name_bytes }
+    ensures text { MAX_TEXT_BYTES ≡ most_text_bytes }
+    ensures rows { MAX_ROWS ≡ most_rows }
+    ensures nodes { MAX_NODES ≡ most_nodes }
+{}

@@ -1,4 +1,5 @@
 //! The table of a test's locations.
+ghost use Rattle.lw_base.specs.Limits.{most_locations};
 ghost use Rattle.lw_base.specs.Names.{IsLocation, IsTable};
 ghost use Rattle.std.specs.Prelude.{◌≡◌, [], ◌∷◌, ◌++◌, ◌<◌, length, Contains, MatchOption, IfOk, OnOk, OnErr, OnSome, IfNone, Some, slice_get};
 ghost use Rattle.lw_base.specs.Tables.{with_name, index_of};
@@ -75,7 +76,7 @@ impl<A: Allocator> LocNames<A> {
 impl<A: Allocator + Copy> LocNames<A> {
     /// Puts a name last, and answers its number.
     pub fn add(&mut self, name: &str) -> Result<Loc, AllocError>
-        requires few { length self.old < MAX_LOCATIONS }
+        requires few { length self.old < most_locations }
         requires name { IsLocation name.now }
         requires fresh { ¬ Contains self.old name.now }
         ensures place { IfOk result (λ loc. loc ≡ length self.old) }
@@ -94,7 +95,7 @@ impl<A: Allocator + Copy> LocNames<A> {
     pub fn find_or_add(&mut self, name: &str) -> Result<Option<Loc>, AllocError>
         requires { IsLocation name.now }
         ensures place { IfOk result
-            (λ o. MatchOption o (MAX_LOCATIONS < length (with_name self.old name.now))
+            (λ o. MatchOption o (most_locations < length (with_name self.old name.now))
             (λ loc. loc ≡ index_of self.new name.now)) }
         ensures names { IfOk result (λ o. OnSome o (self.new ≡ with_name self.old name.now)) }
         ensures full { IfOk result (λ o. IfNone o (self.new ≡ self.old)) }

@@ -2,6 +2,7 @@
 ghost use Rattle.std.specs.Prelude.{◌≡◌, ℕ, ◌<◌};
 ghost use Rattle.std.specs.List.{range_with_len};
 ghost use Rattle.std.specs.Option.{SomeIff};
+ghost use Rattle.lw_base.specs.Limits.{most_threads, most_locations, registers};
 
 use crate::limits::{MAX_LOCATIONS, MAX_THREADS, REGISTERS};
 use std::marker::Model;
@@ -15,13 +16,13 @@ pub struct Cpu(u8);
 
 impl Model for Cpu {
     ghost use Rattle.std.specs.Prelude.{ℕ, ◌<◌};
-    ghost use Rattle.lw_base.specs.declared.limits.TheConstants.{MAX_THREADS};
+    ghost use Rattle.lw_base.specs.Limits.{most_threads};
 
     ghost Value = { ℕ };
 
     ghost view = { λ c. c.0 };
 
-    ghost invariant = { λ c. c.0 < MAX_THREADS };
+    ghost invariant = { λ c. c.0 < most_threads };
 
     ghost inverse = { λ n. record { 0 = n } };
 }
@@ -29,14 +30,14 @@ impl Model for Cpu {
 impl Cpu {
     /// All processors, by their numbers.
     pub fn all() -> [Cpu; MAX_THREADS]
-        ensures { result ≡ range_with_len 0 MAX_THREADS }
+        ensures { result ≡ range_with_len 0 most_threads }
     {
         [Cpu(0), Cpu(1), Cpu(2), Cpu(3)]
     }
 
     /// The processor of a number, where it is below 4.
     pub fn new(number: u8) -> Option<Self>
-        ensures { SomeIff result (number < MAX_THREADS) number }
+        ensures { SomeIff result (number < most_threads) number }
     {
         if usize::from(number) < MAX_THREADS {
             Some(Cpu(number))
@@ -48,7 +49,7 @@ impl Cpu {
     /// Its number.
     pub fn index(self) -> usize
         ensures value { result ≡ self }
-        ensures below { result < MAX_THREADS }
+        ensures below { result < most_threads }
     {
         usize::from(self.0)
     }
@@ -60,13 +61,13 @@ pub struct Loc(u8);
 
 impl Model for Loc {
     ghost use Rattle.std.specs.Prelude.{ℕ, ◌<◌};
-    ghost use Rattle.lw_base.specs.declared.limits.TheConstants.{MAX_LOCATIONS};
+    ghost use Rattle.lw_base.specs.Limits.{most_locations};
 
     ghost Value = { ℕ };
 
     ghost view = { λ l. l.0 };
 
-    ghost invariant = { λ l. l.0 < MAX_LOCATIONS };
+    ghost invariant = { λ l. l.0 < most_locations };
 
     ghost inverse = { λ n. record { 0 = n } };
 }
@@ -74,7 +75,7 @@ impl Model for Loc {
 impl Loc {
     /// All locations, by their numbers.
     pub fn all() -> [Loc; MAX_LOCATIONS]
-        ensures { result ≡ range_with_len 0 MAX_LOCATIONS }
+        ensures { result ≡ range_with_len 0 most_locations }
     {
         [
             Loc(0),
@@ -90,7 +91,7 @@ impl Loc {
 
     /// The location of a number, where it is below 8.
     pub fn new(number: u8) -> Option<Self>
-        ensures { SomeIff result (number < MAX_LOCATIONS) number }
+        ensures { SomeIff result (number < most_locations) number }
     {
         if usize::from(number) < MAX_LOCATIONS {
             Some(Loc(number))
@@ -102,7 +103,7 @@ impl Loc {
     /// Its number.
     pub fn index(self) -> usize
         ensures value { result ≡ self }
-        ensures below { result < MAX_LOCATIONS }
+        ensures below { result < most_locations }
     {
         usize::from(self.0)
     }
@@ -114,13 +115,13 @@ pub struct Reg(u8);
 
 impl Model for Reg {
     ghost use Rattle.std.specs.Prelude.{ℕ, ◌<◌};
-    ghost use Rattle.lw_base.specs.declared.limits.TheConstants.{REGISTERS};
+    ghost use Rattle.lw_base.specs.Limits.{registers};
 
     ghost Value = { ℕ };
 
     ghost view = { λ r. r.0 };
 
-    ghost invariant = { λ r. r.0 < REGISTERS };
+    ghost invariant = { λ r. r.0 < registers };
 
     ghost inverse = { λ n. record { 0 = n } };
 }
@@ -128,14 +129,14 @@ impl Model for Reg {
 impl Reg {
     /// All registers, by their numbers.
     pub fn all() -> [Reg; REGISTERS]
-        ensures { result ≡ range_with_len 0 REGISTERS }
+        ensures { result ≡ range_with_len 0 registers }
     {
         [Reg(0), Reg(1), Reg(2), Reg(3), Reg(4), Reg(5)]
     }
 
     /// The register of a number, where it is below 6.
     pub fn new(number: u8) -> Option<Self>
-        ensures { SomeIff result (number < REGISTERS) number }
+        ensures { SomeIff result (number < registers) number }
     {
         if usize::from(number) < REGISTERS {
             Some(Reg(number))
@@ -147,7 +148,7 @@ impl Reg {
     /// Its number.
     pub fn index(self) -> usize
         ensures value { result ≡ self }
-        ensures below { result < REGISTERS }
+        ensures below { result < registers }
     {
         usize::from(self.0)
     }

@@ -4,6 +4,7 @@ ghost use Rattle.std.specs.List.{AllByRecursion};
 ghost use Rattle.std.specs.String.{string_bytes};
 ghost use Rattle.lw_base.specs.Characters.{byte, digit, Lacks, IsCutAt};
 ghost use Rattle.lw_base.specs.Types.{Bytes, NameTable};
+ghost use Rattle.lw_base.specs.Limits.{most_threads};
 ghost use Rattle.lw_base.specs.Names.{IsTable};
 ghost use Rattle.lw_base.specs.Refusals.{NotFound};
 ghost use Rattle.lw_base.specs.Schedules.{IsEvent, event_word, schedule_text, IsWordOf, IsSchedule, HasBadDigits, IsFaulty, IsFirstFault};
@@ -12,7 +13,6 @@ ghost use Rattle.lw_base.specs.declared.fault.ScheduleCause.TheVariants as cause
 
 use crate::event::Event;
 use crate::fault::{ScheduleCause, ScheduleFault};
-use crate::limits::MAX_THREADS;
 use crate::location::LocNames;
 use crate::name::{are_digits, ascii_text, is_word_text};
 use crate::number::{Cpu, Loc};
@@ -78,7 +78,7 @@ fn event_of<B: Allocator>(word: &[u8], names: &LocNames<B>) -> Result<Event, Sch
 
 /// The processor that digits name.
 fn cpu_of(digits: &[u8]) -> Result<Cpu, ScheduleCause>
-    ensures ok { IfOk result (λ c. (c < MAX_THREADS) × (digits.now ≡ digit c ∷ [])) }
+    ensures ok { IfOk result (λ c. (c < most_threads) × (digits.now ≡ digit c ∷ [])) }
     ensures err { IfErr result (HasBadDigits digits.now) }
 {
     if !are_digits(digits) {

@@ -71,9 +71,25 @@ impl<T, A: Allocator> Sequence<T, A> {
         self.items.push(item)
     }
 
+    /// The items, in their memory. It takes none.
+    pub fn into_vec(self) -> Vec<T, A>
+        ensures { result.items ≡ self }
+    {
+        self.items
+    }
+
     /// The allocator that holds the items.
     pub fn allocator(&self) -> &A {
         self.items.allocator()
+    }
+}
+
+/// The items of a `Vec`, in its memory. It takes none.
+impl<T, A: Allocator> From<Vec<T, A>> for Sequence<T, A> {
+    ghost from_gives = { λ items sequence. sequence ≡ items.items };
+
+    fn from(items: Vec<T, A>) -> Sequence<T, A> {
+        Sequence { items }
     }
 }
 

@@ -37,6 +37,13 @@ impl<A: Allocator> Text<A> {
         self.text.as_str()
     }
 
+    /// The text, in its memory. It takes none.
+    pub fn into_string(self) -> String<A>
+        ensures { string_bytes result ≡ self }
+    {
+        self.text
+    }
+
     /// An equal text, over the same allocator.
     pub fn copy(&self) -> Result<Self, AllocError>
     where
@@ -47,6 +54,7 @@ impl<A: Allocator> Text<A> {
     }
 }
 
+/// The text of a `String`, in its memory. It takes none.
 impl<A: Allocator> From<String<A>> for Text<A> {
     ghost from_gives = { λ string text. text ≡ string_bytes string };
 
