@@ -22,6 +22,7 @@ pub mod Cells
 pub mod NameTables
 pub mod Readings
 pub mod Blocks
+pub mod PlacedRows
 pub mod Listings
 pub mod Starts
 pub mod RowColumns

@@ -7,11 +7,10 @@ use Rattle.std.proofs.lemmas.List.FromFn.{length-map-range_with_len}
 use Rattle.std.proofs.lemmas.List.Elements.{filter_map-append, All-from_recursion}
 use Rattle.std.proofs.lemmas.Option.{slice_get_read, slice_get_within, get_or_from_slice_get, slice_get-map}
 use Rattle.std.specs.Option.{option_map}
-use Rattle.lw_base.specs.Types.{Cells}
 use Rattle.lw_text.specs.declared.cell.Cell.{Cell}
 use Rattle.lw_text.specs.Rows.{column, columns}
 use Rattle.lw_text.proofs.Elements.{each_of}
-use Rattle.lw_text.specs.Places.{cell_texts, cells_texts, all_texts, height}
+use Rattle.lw_text.specs.Places.{cell_texts, all_texts, placed_cell, placed_cells, height}
 
 -- one more row
 pub column-more : {X : Type 0} (rows : List (List X)) (i k : ℕ) (row : List X) (x : X) → i < length rows → row ≡ get_or rows i row → k < length row → x ≡ get_or row k x → column (take (i + 1) rows) k ≡ column (take i rows) k ++ x ∷ []
@@ -67,20 +66,26 @@ module _ {X : Type 0} (n : ℕ) (rows : List (List X)) (even : All (λ row. leng
 pub columns-each : {X : Type 0} (P : X → Type 0) (n : ℕ) (rows : List (List X)) → All (λ row. All P row) rows → All (λ c. All P c) (columns n rows)
 columns-each {X} P n rows all = all_columns (λ c. All P c) n rows (λ k lt. All-from_recursion P (column rows k) (column-each P k rows (each_of rows (λ row. All P row) all)))
 
--- ---- columns without places
+-- ---- columns of rows that are seen otherwise, as without places
 
-cons_texts : {A : Type 0} (o : Option (Cell A)) (cells : List (Cell A)) (texts : Cells) → cells_texts cells ≡ texts → cells_texts (cons_option o cells) ≡ cons_option (option_map cell_texts o) texts
-cons_texts None cells texts e = e
-cons_texts (Some x) cells texts e = ap (λ l. cell_texts x ∷ l) e
+cons_map : {X Y : Type 0} (f : X → Y) (o : Option X) (xs : List X) (ys : List Y) → map f xs ≡ ys → map f (cons_option o xs) ≡ cons_option (option_map f o) ys
+cons_map f None xs ys e = e
+cons_map f (Some x) xs ys e = ap (λ l. f x ∷ l) e
 
-column-texts : {A : Type 0} (rows : List (List (Cell A))) (k : ℕ) → cells_texts (column rows k) ≡ column (all_texts rows) k
-column-texts [] k = refl
-column-texts (row ∷ rows) k =
-    cons_texts (slice_get row k) (column rows k) (column (all_texts rows) k) (column-texts rows k) ∙ ap (λ o. cons_option o (column (all_texts rows) k)) (sym (slice_get-map cell_texts row k))
+column-map : {X Y : Type 0} (f : X → Y) (rows : List (List X)) (k : ℕ) → map f (column rows k) ≡ column (map (map f) rows) k
+column-map f [] k = refl
+column-map f (row ∷ rows) k =
+    cons_map f (slice_get row k) (column rows k) (column (map (map f) rows) k) (column-map f rows k) ∙ ap (λ o. cons_option o (column (map (map f) rows) k)) (sym (slice_get-map f row k))
 
-range-texts : {A : Type 0} (rows : List (List (Cell A))) (a n : ℕ) → all_texts (map (column rows) (range_with_len a n)) ≡ map (column (all_texts rows)) (range_with_len a n)
-range-texts rows a zero = refl
-range-texts rows a (suc n) = let e = column-texts rows a in let f = range-texts rows (a + 1) n in cc
+range-map : {X Y : Type 0} (f : X → Y) (rows : List (List X)) (a n : ℕ) → map (map f) (map (column rows) (range_with_len a n)) ≡ map (column (map (map f) rows)) (range_with_len a n)
+range-map f rows a zero = refl
+range-map f rows a (suc n) = let e = column-map f rows a in let g = range-map f rows (a + 1) n in cc
+
+pub columns-map : {X Y : Type 0} (f : X → Y) (n : ℕ) (rows : List (List X)) → map (map f) (columns n rows) ≡ columns n (map (map f) rows)
+columns-map f n rows = range-map f rows 0 n
 
 pub columns-texts : {A : Type 0} (n : ℕ) (rows : List (List (Cell A))) → all_texts (columns n rows) ≡ columns n (all_texts rows)
-columns-texts n rows = range-texts rows 0 n
+columns-texts n rows = columns-map cell_texts n rows
+
+pub columns-placed : {A : Type 0} (n : ℕ) (rows : List (List (Cell A))) → placed_cells (columns n rows) ≡ columns n (placed_cells rows)
+columns-placed n rows = columns-map placed_cell n rows

@@ -1,14 +1,13 @@
--- A text has one row of tokens, and its tokens lie in it one behind another.
-use Rattle.std.proofs.Common.{◌≡◌, ℕ, ◌+◌, ◌-◌, ◌<◌, ◌≤◌, false, List, [], ◌∷◌, ◌++◌, length, take, drop, refl, sym, ap, ◌∙◌, subst, arith, append_assoc, length-append, length-drop, take-append-drop}
-use Rattle.std.specs.Prelude.{All}
-use Rattle.std.specs.List.{AllByRecursion}
-use Rattle.std.proofs.lemmas.List.{take_at, length-map}
+-- A text has one row of tokens, each at one place.
+use Rattle.std.proofs.Common.{◌≡◌, ℕ, ◌+◌, ◌-◌, ◌<◌, ◌≤◌, false, List, [], ◌∷◌, ◌++◌, length, take, drop, Option, None, Some, refl, sym, ap, ◌∙◌, subst, arith, append_assoc, length-append, take-append-drop}
+use Rattle.std.specs.Prelude.{IfNone}
 use Rattle.std.proofs.lemmas.List.Prefix.{end_rest}
-use Rattle.std.proofs.lemmas.List.Elements.{All-from_recursion}
 use Rattle.lw_base.specs.Types.{Bytes, TokenList}
 use Rattle.lw_text.specs.declared.token.Token.{Token}
 use Rattle.lw_text.specs.Tokens.{begins_trivia, Trivia, IsToken, First, Tokens}
-use Rattle.lw_text.specs.Spans.{texts, Spans}
+use Rattle.lw_text.specs.PlacedTokens.{PlacedToken, texts_of_tokens, PlacedTokens}
+use Rattle.lw_text.specs.Spans.{texts}
+use Rattle.lw_text.specs.Places.{placed_tokens}
 use Rattle.lw_text.proofs.TriviaLemmas.{Trivia-unique, Trivia-suffix}
 use Rattle.lw_text.proofs.Words.{token-unique, token_no_trivia, token_nonempty}
 
@@ -34,25 +33,25 @@ Tokens-unique (t ∷ ts) (u ∷ us) text p q =
 
 -- ---- tokens that have been read
 
--- these tokens have been read, and then comes rest
-abbrev pub Read : Bytes → TokenList → Bytes → Type 0
-Read text [] rest = text ≡ rest
-Read text (t ∷ ts) rest = (mid : Bytes) × First text t mid × Read mid ts rest
+-- these tokens have been read, each at its place in a text of this length, and then comes rest
+abbrev pub Read : ℕ → Bytes → List PlacedToken → Bytes → Type 0
+Read len text [] rest = text ≡ rest
+Read len text (t ∷ ts) rest = (mid : Bytes) × First text t.text mid × (t.at + length t.text + length mid ≡ len) × Read len mid ts rest
 
-pub Read-push : (ts : TokenList) (text rest t more : Bytes) → Read text ts rest → First rest t more → Read text (ts ++ t ∷ []) more
-Read-push [] text rest t more p q = (more, subst (λ x. First x t more) (sym p) q, refl)
-Read-push (u ∷ ts) text rest t more p q = (p.0, p.1, Read-push ts p.0 rest t more p.2 q)
+pub Read-push : (len : ℕ) (ts : List PlacedToken) (text rest : Bytes) (t : PlacedToken) (more : Bytes) → Read len text ts rest → First rest t.text more → t.at + length t.text + length more ≡ len → Read len text (ts ++ t ∷ []) more
+Read-push len [] text rest t more p q at = (more, subst (λ x. First x t.text more) (sym p) q, at, refl)
+Read-push len (u ∷ ts) text rest t more p q at = (p.0, p.1, p.2, Read-push len ts p.0 rest t more p.3 q at)
 
-pub Read-done : (ts : TokenList) (text rest : Bytes) → Read text ts rest → Trivia rest [] → Tokens text ts
-Read-done [] text rest p g = subst (λ x. Trivia x []) (sym p) g
-Read-done (u ∷ ts) text rest p g = (p.0, p.1, Read-done ts p.0 rest p.2 g)
+pub Read-done : (len : ℕ) (ts : List PlacedToken) (text rest : Bytes) → Read len text ts rest → Trivia rest [] → PlacedTokens len text ts
+Read-done len [] text rest p g = subst (λ x. Trivia x []) (sym p) g
+Read-done len (u ∷ ts) text rest p g = (p.0, p.1, p.2, Read-done len ts p.0 rest p.3 g)
 
 -- where the rest has no row of tokens, the text has none
-pub Read-fault : (ts : TokenList) (text rest : Bytes) → Read text ts rest → ((us : TokenList) → Tokens rest us → ⊥) → (us : TokenList) → Tokens text us → ⊥
-Read-fault [] text rest p never us q = never us (subst (λ x. Tokens x us) p q)
-Read-fault (t ∷ ts) text rest p never [] q = no_first text t p.0 q p.1
-Read-fault (t ∷ ts) text rest p never (u ∷ us) q =
-    Read-fault ts p.0 rest p.2 never us (subst (λ x. Tokens x us) (sym (First-unique text t p.0 u q.0 p.1 q.1).1) q.2)
+pub Read-fault : (len : ℕ) (ts : List PlacedToken) (text rest : Bytes) → Read len text ts rest → ((us : TokenList) → Tokens rest us → ⊥) → (us : TokenList) → Tokens text us → ⊥
+Read-fault len [] text rest p never us q = never us (subst (λ x. Tokens x us) p q)
+Read-fault len (t ∷ ts) text rest p never [] q = no_first text t.text p.0 q p.1
+Read-fault len (t ∷ ts) text rest p never (u ∷ us) q =
+    Read-fault len ts p.0 rest p.3 never us (subst (λ x. Tokens x us) (sym (First-unique text t.text p.0 u q.0 p.1 q.1).1) q.2)
 
 -- ---- what the reader of the next token owes
 
@@ -85,37 +84,32 @@ First-shorter text t rest f =
     let n = token_nonempty t rest f.1 in
     omega (arith, ap length s.1, length-append s.0 (t ++ rest), length-append t rest)
 
--- ---- where tokens lie
+-- ---- tokens with and without places
 
-pub texts-append : (ts us : List Token) → texts (ts ++ us) ≡ texts ts ++ texts us
-texts-append [] us = refl
-texts-append (t ∷ ts) us = ap (λ x. t.text.now ∷ x) (texts-append ts us)
+-- tokens with places are tokens
+pub Tokens-of : (len : ℕ) (text : Bytes) (ts : List PlacedToken) → PlacedTokens len text ts → Tokens text (texts_of_tokens ts)
+Tokens-of len text [] p = p
+Tokens-of len text (t ∷ ts) p = (p.0, p.1, Tokens-of len p.0 ts p.3)
 
-pub Spans-push : (text : Bytes) (from to next : ℕ) (ts : List Token) (t : Token) → Spans text from ts to → to ≤ t.at → take (length t.text.now) (drop t.at text) ≡ t.text.now → t.at + length t.text.now ≤ next → Spans text from (ts ++ t ∷ []) next
-Spans-push text from to next [] t s a e b = (omega (arith, s, a), e, b)
-Spans-push text from to next (u ∷ ts) t s a e b = (s.0, s.1, Spans-push text (u.at + length u.text.now) to next ts t s.2 a e b)
+pub texts_placed : (ts : List Token) → texts_of_tokens (placed_tokens ts) ≡ texts ts
+texts_placed [] = refl
+texts_placed (t ∷ ts) = ap (λ x. t.text.now ∷ x) (texts_placed ts)
 
-pub Spans-wider : (text : Bytes) (from to next : ℕ) (ts : List Token) → to ≤ next → Spans text from ts to → Spans text from ts next
-Spans-wider text from to next [] le s = omega (arith, s, le)
-Spans-wider text from to next (t ∷ ts) le s = (s.0, s.1, Spans-wider text (t.at + length t.text.now) to next ts le s.2)
+-- the tokens of a text that was read to its end
+pub read_whole : {F : Type 0} (o : Option F) (len : ℕ) (rest : Bytes) (ts : List Token) → IfNone o (PlacedTokens len rest (placed_tokens ts)) → IfNone o (Tokens rest (texts ts))
+read_whole None len rest ts p = subst (Tokens rest) (texts_placed ts) (Tokens-of len rest (placed_tokens ts) p)
+read_whole (Some f) len rest ts p = tt
 
--- what drops to a token and a rest has the token as a slice, which ends where the rest begins
-pub slice_of : (text : Bytes) (at : ℕ) (t rest : Bytes) → drop at text ≡ t ++ rest → take (length t) (drop at text) ≡ t
-slice_of text at t rest e = ap (take (length t)) e ∙ take_at t rest (length t) refl
+pub same_token : (a b : PlacedToken) → a.at ≡ b.at → a.text ≡ b.text → a ≡ b
+same_token a b at text = ap (λ (n : ℕ). let t : PlacedToken = record { at = n; text = a.text } in t) at ∙ ap (λ (x : Bytes). let t : PlacedToken = record { at = b.at; text = x } in t) text
 
-pub slice_end : (text : Bytes) (at : ℕ) (t rest : Bytes) → drop at text ≡ t ++ rest → 0 < length t → at + length t ≤ length text - length rest
-slice_end text at t rest e pos = omega (arith, ap length e, length-append t rest, length-drop at text)
-
-pub Spans-order : (text : Bytes) (from to : ℕ) (ts : List Token) → Spans text from ts to → from ≤ to
-Spans-order text from to [] s = s
-Spans-order text from to (t ∷ ts) s = omega (arith, s.0, Spans-order text (t.at + length t.text.now) to ts s.2)
-
-spans_each : (text : Bytes) (from to : ℕ) (ts : List Token) → Spans text from ts to → AllByRecursion (λ t. t.at ≤ to) ts
-spans_each text from to [] s = tt
-spans_each text from to (t ∷ ts) s = (omega (arith, Spans-order text (t.at + length t.text.now) to ts s.2), spans_each text (t.at + length t.text.now) to ts s.2)
-
-pub Spans-places : (text : Bytes) (from to : ℕ) (ts : List Token) → Spans text from ts to → All (λ t. t.at ≤ to) ts
-Spans-places text from to ts s = All-from_recursion (λ t. t.at ≤ to) ts (spans_each text from to ts s)
-
-pub texts-length : (ts : List Token) → length (texts ts) ≡ length ts
-texts-length ts = length-map ts (λ t. t.text.now)
+pub PlacedTokens-unique : (len : ℕ) (ts us : List PlacedToken) (text : Bytes) → PlacedTokens len text ts → PlacedTokens len text us → ts ≡ us
+PlacedTokens-unique len [] [] text p q = refl
+PlacedTokens-unique len [] (u ∷ us) text p q = absurd (no_first text u.text q.0 p q.1)
+PlacedTokens-unique len (t ∷ ts) [] text p q = absurd (no_first text t.text p.0 q p.1)
+PlacedTokens-unique len (t ∷ ts) (u ∷ us) text p q =
+    let e = First-unique text t.text p.0 u.text q.0 p.1 q.1 in
+    let at : t.at ≡ u.at = omega (arith, p.2, q.2, ap length e.0, ap length e.1) in
+    let i : t ≡ u = same_token t u at e.0 in
+    let h : ts ≡ us = PlacedTokens-unique len ts us p.0 p.3 (subst (λ r. PlacedTokens len r us) (sym e.1) q.3) in
+    cc

@@ -3,7 +3,7 @@ use Rattle.std.specs.Prelude.{◌≡◌, ℕ, ◌≤◌, ◌==◌, ◌&&◌, Boo
 use Rattle.std.specs.List.{list_any, flat_map, range_with_len, AllByRecursion}
 use Rattle.std.specs.Str.{IsUtf8}
 use Rattle.lw_base.specs.Types.{NameTable, Bytes, TokenList, CellGrid}
-use Rattle.lw_base.specs.declared.limits.TheConstants.{MAX_LOCATIONS, MAX_TEXT_BYTES, REGISTERS}
+use Rattle.lw_base.specs.Limits.{most_locations, most_text_bytes, registers}
 use Rattle.lw_base.specs.declared.head.Arch.{Arch}
 use Rattle.lw_base.specs.declared.head.Quant.{Quant}
 use Rattle.lw_base.specs.declared.head.Seen.{Seen}
@@ -65,7 +65,7 @@ pub record Parts (arch : Arch) (ts : TokenList) (s : TestSyntax) : Type 0 where
   pub there : AllByRecursion (λ e. ThreadExists s.threads e.site) s.entries
   pub rows : Rows s.threads behind_header s.rows behind_rows
   pub condition : Condition arch s.threads behind_rows s.listed s.quant s.terminals
-  pub few_names : length (table s) ≤ MAX_LOCATIONS
+  pub few_names : length (table s) ≤ most_locations
   pub few_nodes : HasFewNodes s.terminals
 
 -- The tokens are no test's of the language.
@@ -92,7 +92,7 @@ word_of names entries s =
 
 -- the registers of a thread, and those of all threads
 abbrev pub registers_of : ℕ → List Seen
-registers_of t = map (λ r. Register t r) (range_with_len 0 REGISTERS)
+registers_of t = map (λ r. Register t r) (range_with_len 0 registers)
 
 abbrev pub all_registers : ℕ → List Seen
 all_registers threads = flat_map registers_of (range_with_len 0 threads)
@@ -128,7 +128,7 @@ made_of arch name s condition =
 
 -- The text, UTF-8 and not too long, is a heading and a list of tokens, and this is what they say.
 pub record HasFrame (text : Bytes) (frame : TestFrame) : Type 0 where
-  pub short : length text ≤ MAX_TEXT_BYTES
+  pub short : length text ≤ most_text_bytes
   pub utf8 : IsUtf8 text
   pub arch : Arch
   pub name : Bytes

@@ -8,6 +8,8 @@ pub mod Terminals
 pub mod Pending
 pub mod Conditions
 pub mod Frames
+pub mod PlacedTokens
+pub mod PlacedCells
 pub mod Causes
 pub mod Spans
 pub mod Places

@@ -1,6 +1,6 @@
 -- Propositions, as a grammar of terminals. What binds more closely is read first: `~`, `/\`, `\/`.
 use Rattle.std.specs.Prelude.{◌≡◌, ◌≤◌, length, filter, Bool, true, false, List, [], ◌∷◌}
-use Rattle.lw_base.specs.declared.limits.TheConstants.{MAX_NODES}
+use Rattle.lw_base.specs.Limits.{most_nodes}
 use Rattle.lw_base.specs.Formula.{Formula, Not, And, Or}
 
 -- an atom, or what joins atoms, for atoms that say an A
@@ -42,7 +42,7 @@ is_node (Atom a) = true
 
 -- no more nodes than a condition may have
 abbrev pub HasFewNodes : {A : Type 0} → List (Terminal A) → Type 0
-HasFewNodes ss = length (filter is_node ss) ≤ MAX_NODES
+HasFewNodes ss = length (filter is_node ss) ≤ most_nodes
 
 -- What is read: a part that no `/\` and no `\/` takes apart; or how a row of parts goes on, of
 -- which a formula stands so far.

@@ -2,7 +2,7 @@
 use Rattle.std.specs.Prelude.{◌≡◌, ℕ, zero, suc, ◌≤◌, ◌||◌, Bool, false, List, [], ◌∷◌, ◌++◌, length, map, slice_get, codes}
 use Rattle.std.specs.List.{list_any, filter_map, range_with_len, AllByRecursion}
 use Rattle.std.specs.Str.{bytes_eq}
-use Rattle.lw_base.specs.declared.limits.TheConstants.{MAX_ROWS, MAX_THREADS}
+use Rattle.lw_base.specs.Limits.{most_rows, most_threads}
 use Rattle.lw_base.specs.Characters.{byte, digit}
 use Rattle.lw_base.specs.Types.{Bytes, TokenList, Cells, CellGrid}
 use Rattle.lw_text.specs.Lists.{Separated, Until}
@@ -20,7 +20,7 @@ Names k (suc (suc m)) ts rest =
 
 -- the names of the threads, of which there are not too many
 abbrev pub Header : TokenList → ℕ → TokenList → Type 0
-Header ts threads rest = Names 0 threads ts rest × (threads ≤ MAX_THREADS)
+Header ts threads rest = Names 0 threads ts rest × (threads ≤ most_threads)
 
 abbrev pub ends_cell : Bytes → Bool
 ends_cell t = bytes_eq t (codes "|") || bytes_eq t (codes ";")
@@ -49,7 +49,7 @@ begins_stop (t ∷ ts) = is_stop t
 
 -- rows, not too many, up to a word that ends them
 abbrev pub Rows : ℕ → TokenList → CellGrid → TokenList → Type 0
-Rows threads ts rows rest = Until begins_stop (Row threads) ts rows rest × (length rows ≤ MAX_ROWS)
+Rows threads ts rows rest = Until begins_stop (Row threads) ts rows rest × (length rows ≤ most_rows)
 
 -- what stands in each row at this place, from top to bottom
 abbrev pub column : {X : Type 0} → List (List X) → ℕ → List X

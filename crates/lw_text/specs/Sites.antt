@@ -2,7 +2,7 @@
 use Rattle.std.specs.Prelude.{◌≡◌, ℕ, ◌<◌, ◌≤◌, ◌⊎◌, length, Option, Some, None, List, ◌∷◌, codes}
 use Rattle.std.specs.List.{filter_map}
 use Rattle.lw_base.specs.Types.{NameTable, Bytes, TokenList}
-use Rattle.lw_base.specs.declared.limits.TheConstants.{MAX_LOCATIONS}
+use Rattle.lw_base.specs.Limits.{most_locations}
 use Rattle.lw_base.specs.declared.head.Arch.{Arch}
 use Rattle.lw_base.specs.declared.head.Seen.{Seen}
 use Rattle.lw_base.specs.declared.head.Seen.TheVariants.{Register, Location}
@@ -51,11 +51,11 @@ with_sites names sites = with_names names (site_names sites)
 
 -- the table has room for the names of these sites
 abbrev pub HasRoomFor : NameTable → List SiteSyntax → Type 0
-HasRoomFor names sites = length (with_sites names sites) ≤ MAX_LOCATIONS
+HasRoomFor names sites = length (with_sites names sites) ≤ most_locations
 
 -- the table has room for this name
 abbrev pub HasRoomForName : NameTable → Bytes → Type 0
-HasRoomForName names x = length (with_name names x) ≤ MAX_LOCATIONS
+HasRoomForName names x = length (with_name names x) ≤ most_locations
 
 -- the site, where a location is its number
 abbrev pub seen_in : NameTable → SiteSyntax → Seen

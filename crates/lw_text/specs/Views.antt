@@ -1,15 +1,13 @@
 -- What a reader of tokens has before it, and what it made, without places.
-use Rattle.std.specs.Prelude.{◌≡◌, List, length, drop}
-use Rattle.lw_base.specs.Types.{Bytes, TokenList}
+use Rattle.std.specs.Prelude.{List, drop}
+use Rattle.lw_base.specs.Types.{TokenList}
 use Rattle.lw_base.specs.Heads.{head_of}
 use Rattle.lw_text.specs.declared.token.Token.{Token}
-use Rattle.lw_text.specs.declared.cell.Cell.{Cell}
 use Rattle.lw_text.specs.declared.cursor.Cursor.{Cursor}
 use Rattle.lw_text.specs.declared.frame.Frame.{Frame}
 use Rattle.lw_text.specs.Frames.{TestFrame}
-use Rattle.lw_text.specs.Rows.{columns}
 use Rattle.lw_text.specs.Spans.{texts, Leaves}
-use Rattle.lw_text.specs.Places.{all_texts, RowSpans}
+use Rattle.lw_text.specs.Places.{all_texts}
 
 -- the tokens that are still to be read
 abbrev pub remaining : Cursor → List Token
@@ -25,9 +23,3 @@ MovesOn before after = Leaves (remaining before) (remaining after)
 -- the frame that a `Frame` in memory is
 abbrev pub frame_of : {A : Type 0} → Frame A → TestFrame
 frame_of f = record { head = head_of f.head; cells = all_texts f.cells }
-
--- The frame's cells are the columns of rows that lie in the text, cell by cell and token by token.
-pub record LiesIn {A : Type 0} (text : Bytes) (f : Frame A) : Type 0 where
-  pub rows : List (List (Cell A))
-  pub cells : f.cells ≡ columns f.head.threads rows
-  pub spans : RowSpans text 0 rows (length text)

@@ -1,13 +1,14 @@
 //! The reader of all that stands behind a test's heading.
 ghost use Rattle.std.specs.Prelude.{◌≡◌, ◌≢◌, ℕ, ◌≤◌, true, List, map, All, OnOk, IfOk, IfErr, IfSome, IfNone, None};
 ghost use Rattle.std.specs.List.{list_all, AllByRecursion};
-ghost use Rattle.lw_base.specs.Types.{Bytes, TokenList};
+ghost use Rattle.lw_base.specs.Types.{TokenList};
 ghost use Rattle.lw_text.specs.Frames.{sites_of, IsNoTest, EntrySyntax, Block};
 ghost use Rattle.lw_text.specs.Sites.{HasRoomFor, with_sites, ThreadExists};
 ghost use Rattle.lw_text.specs.declared.fault.Cause.TheVariants.{Memory};
 ghost use Rattle.lw_text.specs.Rows.{Header};
-ghost use Rattle.lw_text.specs.Spans.{texts, Spans};
-ghost use Rattle.lw_text.specs.Places.{RowSpans};
+ghost use Rattle.lw_text.specs.Spans.{texts};
+ghost use Rattle.lw_text.specs.Places.{placed_tokens, placed_cells};
+ghost use Rattle.lw_text.specs.PlacedCells.{HasRows};
 ghost use Rattle.lw_text.specs.Resolved.{named, named_entry, thread_exists, IsIn, HasSyntax};
 
 use crate::block::{Entry, check_threads};
@@ -29,8 +30,8 @@ impl<'t, 'a> Cursor<'t, 'a> {
     ) -> Result<Body<'a, A>, Fault>
         ensures found { IfOk result (λ b. HasSyntax arch (left self.old) b) }
         ensures fault { IfErr result (λ f. f.cause ≢ Memory → IsNoTest arch (left self.old)) }
-        ensures spans { IfOk result (λ b. (text : Bytes) (from to : ℕ)
-            → Spans text from (remaining self.old) to → RowSpans text from b.rows to) }
+        ensures rows { IfOk result (λ b. HasRows arch (placed_tokens (remaining self.old))
+            b.parts.threads (placed_cells b.rows)) }
         ensures place { IfErr result (λ f. f.at ≤ self.old.len) }
     {
         let mut locs = LocNames::new(alloc);
@@ -89,8 +90,8 @@ impl<'a, A: Allocator + Copy> TokenStream<'a, A> {
         ensures found { IfOk result (λ b. HasSyntax arch (texts self.now.tokens) b) }
         ensures fault { IfErr result (λ f. f.cause ≢ Memory
             → IfNone self.now.fault (IsNoTest arch (texts self.now.tokens))) }
-        ensures spans { IfOk result (λ b. (text : Bytes) (from to : ℕ)
-            → Spans text from self.now.tokens to → RowSpans text from b.rows to) }
+        ensures rows { IfOk result (λ b. HasRows arch (placed_tokens self.now.tokens)
+            b.parts.threads (placed_cells b.rows)) }
         ensures place { IfErr result (λ f. f.at ≤ len) }
     {
         let end = self.fault.unwrap_or(Fault {

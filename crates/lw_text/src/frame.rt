@@ -1,6 +1,7 @@
 //! The frame of a text.
 ghost use Rattle.std.specs.Prelude.{◌≡◌, ◌<◌, ◌≤◌, length, All, Some, slice_get};
 ghost use Rattle.lw_base.specs.Heads.{head_of};
+ghost use Rattle.lw_base.specs.Limits.{most_rows};
 ghost use Rattle.lw_base.specs.WellFormed.{IsWellFormedHead};
 ghost use Rattle.lw_base.specs.WellFormedProps.{IsWellFormedHead-prop};
 ghost use Rattle.lw_text.specs.Places.{IsWithin, height};
@@ -20,7 +21,7 @@ pub struct Frame<'a, A: Allocator = Global> {
     pub ghost well_formed: { IsWellFormedHead (head_of head) } by { IsWellFormedHead-prop (head_of head) },
     pub ghost columns: { length cells ≡ head.threads },
     pub ghost even: { All (λ column. length column ≡ height cells) cells },
-    pub ghost low: { height cells ≤ 64 },
+    pub ghost low: { height cells ≤ most_rows },
     pub ghost places: { All (λ column. All (IsWithin len) column) cells },
 }
 

@@ -1,5 +1,5 @@
 //! The lexer: the tokens of a text, one after another.
-ghost use Rattle.std.specs.Prelude.{◌≡◌, ◌+◌, ◌-◌, ◌≤◌, [], ◌++◌, length, drop, IfOk, OnErr, IfErr, IfSome, MatchOption};
+ghost use Rattle.std.specs.Prelude.{◌≡◌, ◌+◌, ◌-◌, ◌≤◌, [], length, drop, IfOk, OnErr, IfErr, IfSome, MatchOption};
 ghost use Rattle.lw_base.specs.Types.{Bytes};
 
 use crate::fault::{Cause, Fault};
@@ -41,10 +41,8 @@ impl<'a> Lexer<'a> {
         ensures no_token { OnErr result ((t rest : Bytes) → First self.old.rest.now t rest → ⊥) }
         ensures place { IfErr result (λ f. f.at ≤ length self.old.text.now) }
         ensures at { IfOk result (λ o. IfSome o (λ t. t.at ≤ length self.old.text.now)) }
-        ensures after { IfOk result (λ o. IfSome o
-            (λ t. length self.old.text.now ≤ t.at + length self.old.rest.now)) }
-        ensures slice { IfOk result (λ o. IfSome o
-            (λ t. drop t.at self.old.text.now ≡ t.text.now ++ self.new.rest.now)) }
+        ensures stands { IfOk result (λ o. IfSome o
+            (λ t. t.at + length t.text.now + length self.new.rest.now ≡ length self.old.text.now)) }
         ensures same { self.new.text.now ≡ self.old.text.now }
     {
         let Some(start) = after_trivia(self.rest) else {

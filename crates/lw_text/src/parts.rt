@@ -1,6 +1,6 @@
 //! The parts of a test behind its heading, with locations resolved to their numbers.
 ghost use Rattle.std.specs.Prelude.{◌≡◌, ◌≤◌, length, All};
-ghost use Rattle.lw_base.specs.declared.limits.TheConstants.{MAX_ROWS, MAX_THREADS};
+ghost use Rattle.lw_base.specs.Limits.{most_rows, most_threads};
 
 use crate::block::Entry;
 use crate::rows::CellSequence;
@@ -17,7 +17,7 @@ pub(crate) struct HeadParts<A: Allocator = Global> {
     pub(crate) listed: Sequence<Site, A>,
     pub(crate) quant: Quant,
     pub(crate) prop: Prop<A>,
-    ghost few: { threads ≤ MAX_THREADS },
+    ghost few: { threads ≤ most_threads },
 }
 
 /// All, with the rows' cells.
@@ -27,5 +27,5 @@ pub(crate) struct Body<'a, A: Allocator = Global> {
     pub(crate) rows: Sequence<CellSequence<'a, A>, A>,
     ghost some: { 1 ≤ parts.threads },
     ghost even: { All (λ row. length row ≡ parts.threads) rows },
-    ghost low: { length rows ≤ MAX_ROWS },
+    ghost low: { length rows ≤ most_rows },
 }

@@ -1,12 +1,16 @@
 //! Reads a text's frame, and the laws on frames.
-ghost use Rattle.std.specs.Prelude.{◌≡◌, ◌<◌, ◌≤◌, length, Err, IfOk, IfErr};
+ghost use Rattle.std.specs.Prelude.{◌≡◌, ◌<◌, ◌≤◌, List, length, Err, IfOk, IfErr};
 ghost use Rattle.std.specs.Str.{IsUtf8, IsValidUpTo};
 ghost use Rattle.std.specs.Str.Lossy.{utf8_valid_len};
+ghost use Rattle.lw_base.specs.Limits.{most_text_bytes};
 ghost use Rattle.lw_base.specs.Refusals.{NotFound};
 ghost use Rattle.lw_base.specs.Types.{Bytes};
 ghost use Rattle.lw_base.specs.WellFormed.{IsWellFormedHead};
 ghost use Rattle.lw_text.specs.Frames.{TestFrame, HasFrame};
-ghost use Rattle.lw_text.specs.Views.{frame_of, LiesIn};
+ghost use Rattle.lw_text.specs.Views.{frame_of};
+ghost use Rattle.lw_text.specs.Places.{placed_cells};
+ghost use Rattle.lw_text.specs.PlacedCells.{PlacedCell, HasCells};
+ghost use Rattle.lw_text.specs.Spans.{Spans};
 ghost use Rattle.lw_text.specs.declared.fault.Cause.TheVariants as inner;
 
 use crate::fault::{Fault, TextCause, TextFault};
@@ -26,8 +30,8 @@ pub fn read_frame<'a, A: Allocator + Copy>(
     ensures found { IfOk result (λ f. HasFrame text.now (frame_of f)) }
     ensures fault { IfErr result (λ f. NotFound TextCause.Memory f.cause (HasFrame text.now)) }
 
-    // The cells and their tokens lie in the text one behind another, and so does the fault's place.
-    ensures spans { IfOk result (λ f. LiesIn text.now f) }
+    // Its cells are cut from the text's token stream, each token at its place, and a fault's place lies in the text.
+    ensures cells { IfOk result (λ f. HasCells text.now (placed_cells f.cells)) }
     ensures len { IfOk result (λ f. f.len ≡ length text.now) }
     ensures place { IfErr result (λ f. f.at ≤ length text.now) }
 
@@ -36,14 +40,14 @@ pub fn read_frame<'a, A: Allocator + Copy>(
 
     // A text that is too long is told as that, and one that isn't UTF-8 behind its longest front that
     // is.
-    ensures too_long { MAX_TEXT_BYTES < length text.now → result
-        ≡ Err (record { at = MAX_TEXT_BYTES; cause = TextCause.TooLong }) }
+    ensures too_long { most_text_bytes < length text.now → result
+        ≡ Err (record { at = most_text_bytes; cause = TextCause.TooLong }) }
     ensures only_too_long { IfErr result (λ f. f.cause ≡ TextCause.TooLong
-        → MAX_TEXT_BYTES < length text.now) }
-    ensures not_utf8 { length text.now ≤ MAX_TEXT_BYTES → ¬ IsUtf8 text.now → result
+        → most_text_bytes < length text.now) }
+    ensures not_utf8 { length text.now ≤ most_text_bytes → ¬ IsUtf8 text.now → result
         ≡ Err (record { at = utf8_valid_len text.now; cause = TextCause.NotUtf8 }) }
     ensures only_not_utf8 { IfErr result (λ f. f.cause ≡ TextCause.NotUtf8
-        → (length text.now ≤ MAX_TEXT_BYTES) × (¬ IsUtf8 text.now) × IsValidUpTo text.now f.at) }
+        → (length text.now ≤ most_text_bytes) × (¬ IsUtf8 text.now) × IsValidUpTo text.now f.at) }
 {
     if text.len() > MAX_TEXT_BYTES {
         return Err(TextFault {
@@ -65,6 +69,17 @@ pub fn a_text_has_one_frame()
     ensures { (text : Bytes) (f g : TestFrame) → HasFrame text f → HasFrame text g → f ≡ g }
 {}
 
+/// A text has at most one list of cells with places.
+pub fn a_text_has_its_cells_once()
+    ensures { (text : Bytes) (c d : List (List PlacedCell)) → HasCells text c → HasCells text d → c ≡ d }
+{}
+
+/// The tokens from which a text's cells are cut are the slices of their spans, which lie one behind another.
+pub fn tokens_are_slices()
+    ensures { (text : Bytes) (cells : List (List PlacedCell)) (has : HasCells text cells)
+        → Spans text 0 has.tokens (length text) }
+{}
+
 /// The head of a text's frame is well-formed.
 pub fn what_a_frame_keeps()
     ensures { (text : Bytes) (f : TestFrame) → HasFrame text f → IsWellFormedHead f.head }
@@ -72,11 +87,11 @@ pub fn what_a_frame_keeps()
 
 /// Reads the frame of a text that is short enough, and UTF-8.
 fn read_text<'a, A: Allocator + Copy>(alloc: A, text: &'a [u8]) -> Result<Frame<'a, A>, Fault>
-    requires short { length text.now ≤ MAX_TEXT_BYTES }
+    requires short { length text.now ≤ most_text_bytes }
     requires utf8 { IsUtf8 text.now }
     ensures found { IfOk result (λ f. HasFrame text.now (frame_of f)) }
     ensures fault { IfErr result (λ f. NotFound inner.Memory f.cause (HasFrame text.now)) }
-    ensures spans { IfOk result (λ f. LiesIn text.now f) }
+    ensures cells { IfOk result (λ f. HasCells text.now (placed_cells f.cells)) }
     ensures len { IfOk result (λ f. f.len ≡ length text.now) }
     ensures place { IfErr result (λ f. f.at ≤ length text.now) }
 {

@@ -5,7 +5,8 @@ ghost use Rattle.lw_base.specs.Refusals.{NoneRead, NotRead};
 ghost use Rattle.lw_text.specs.Rows.{RowCells, thread_name, Header, Row, Rows, begins_stop};
 ghost use Rattle.lw_text.specs.declared.fault.Cause.TheVariants.{Memory};
 ghost use Rattle.lw_text.specs.Spans.{texts};
-ghost use Rattle.lw_text.specs.Places.{cells_texts, all_texts, TakesCells, TakesRows};
+ghost use Rattle.lw_text.specs.Places.{cells_texts, all_texts, placed_tokens, placed_row, placed_cells};
+ghost use Rattle.lw_text.specs.PlacedCells.{CellsFrom, RowsFrom};
 ghost use Rattle.lw_text.specs.Rows as words;
 
 use crate::cell::Cell;
@@ -57,7 +58,8 @@ impl<'t, 'a> Cursor<'t, 'a> {
         ensures found { IfOk result (λ v. Rows threads (left self.old) (all_texts v)
             (left self.new)) }
         ensures fault { IfErr result (λ f. NotRead Memory f.cause (Rows threads (left self.old))) }
-        ensures spans { IfOk result (λ v. TakesRows (remaining self.old) v (remaining self.new)) }
+        ensures cut { IfOk result (λ v. RowsFrom (placed_tokens (remaining self.old)) (placed_cells v)
+            (placed_tokens (remaining self.new))) }
         ensures place { IfErr result (λ f. f.at ≤ self.old.len) }
         ensures same { self.new.len ≡ self.old.len }
     {
@@ -92,7 +94,8 @@ impl<'t, 'a> Cursor<'t, 'a> {
         ensures found { IfOk result (λ v. Row threads (left self.old) (cells_texts v)
             (left self.new)) }
         ensures fault { IfErr result (λ f. NotRead Memory f.cause (Row threads (left self.old))) }
-        ensures spans { IfOk result (λ v. TakesCells (remaining self.old) v (remaining self.new)) }
+        ensures cut { IfOk result (λ v. CellsFrom (placed_tokens (remaining self.old)) (placed_row v)
+            (placed_tokens (remaining self.new))) }
         ensures place { IfErr result (λ f. f.at ≤ self.old.len) }
         ensures same { self.new.len ≡ self.old.len }
     {
@@ -117,8 +120,8 @@ impl<'t, 'a> Cursor<'t, 'a> {
         ensures found { OnOk result (RowCells (left self.old) (cells_texts cells.new)
             (left self.new)) }
         ensures fault { IfErr result (λ f. NotRead Memory f.cause (RowCells (left self.old))) }
-        ensures spans { OnOk result (TakesCells (remaining self.old) cells.new
-            (remaining self.new)) }
+        ensures cut { OnOk result (CellsFrom (placed_tokens (remaining self.old)) (placed_row cells.new)
+            (placed_tokens (remaining self.new))) }
         ensures at { IfOk result (λ at. at ≤ self.old.len) }
         ensures place { IfErr result (λ f. f.at ≤ self.old.len) }
         ensures same { self.new.len ≡ self.old.len }

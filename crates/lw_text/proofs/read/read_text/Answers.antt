@@ -1,17 +1,18 @@
 use Rattle.std.proofs.Common.{◌≡◌, ◌≤◌, length, sym, ap, ◌∙◌, subst, arith}
-use Rattle.std.specs.Prelude.{IfNone, IfSome}
+use Rattle.std.specs.Prelude.{All, IfNone, IfSome}
 use Rattle.lw_base.proofs.Returns.{passed_on}
-use Rattle.lw_text.specs.Spans.{texts, Spans}
+use Rattle.lw_text.specs.Spans.{texts}
+use Rattle.lw_text.specs.PlacedTokens.{PlacedTokens}
 use Rattle.lw_base.specs.Heads.{head_of}
 use Rattle.lw_text.specs.Rows.{columns}
 use Rattle.lw_text.specs.Headings.{Heading}
 use Rattle.lw_text.specs.Tokens.{Tokens}
 use Rattle.lw_base.specs.Propositions.{formula_of}
 use Rattle.lw_text.specs.Frames.{TestSyntax, head_of_syntax}
-use Rattle.lw_text.specs.Places.{all_texts}
-use Rattle.lw_text.proofs.TokenRows.{Spans-places}
-use Rattle.lw_text.proofs.CellPlaces.{RowSpans-within}
-use Rattle.lw_text.proofs.RowColumns.{columns-texts}
+use Rattle.lw_text.specs.Places.{all_texts, placed_tokens, placed_cells}
+use Rattle.lw_text.proofs.TokenRows.{read_whole}
+use Rattle.lw_text.proofs.CellPlaces.{HasRows-within}
+use Rattle.lw_text.proofs.RowColumns.{columns-texts, columns-placed}
 use Rattle.lw_text.proofs.ResolvedHeads.{head_made}
 use Rattle.lw_text.proofs.WellFormedHeads.{body_proposition}
 use Rattle.lw_text.proofs.Whole.{no_frame, no_test}
@@ -27,10 +28,8 @@ returns-in_err-heading-clause-place g c =
 
 pub body-requires-clause-places : goal.body-requires-clause-places
 body-requires-clause-places g c =
-    let len = length c.args.text.now in
     let whole = c.in_ok-heading.ensures.same ∙ c.new-lexer.ensures.text in
-    let spans = subst (λ t. Spans t 0 c.in_ok-row.row.tokens (length t)) whole c.in_ok-row.ensures.spans in
-    Spans-places c.args.text.now 0 len c.in_ok-row.row.tokens spans
+    subst (λ t. All (λ token. token.at ≤ length t) c.in_ok-row.row.tokens) whole c.in_ok-row.ensures.within
 
 pub body-requires-clause-fault : goal.body-requires-clause-fault
 body-requires-clause-fault g c = subst (λ t. IfSome c.in_ok-row.row.fault (λ f. f.at ≤ length t)) (c.in_ok-heading.ensures.same ∙ c.new-lexer.ensures.text) c.in_ok-row.ensures.place
@@ -39,7 +38,7 @@ pub returns-in_err-body-clause-fault : goal.returns-in_err-body-clause-fault
 returns-in_err-body-clause-fault g c =
     let row = c.in_ok-row.row in
     let heading = subst (λ t. Heading t c.in_ok-heading.heading.arch c.in_ok-heading.heading.name.now c.heading.new.self.rest.now) c.new-lexer.ensures.rest c.in_ok-heading.ensures.found in
-    passed_on _ _ c.from_residual-in_err-body.ensures.1 (λ ne. no_frame c.args.text.now c.in_ok-heading.heading.arch c.in_ok-heading.heading.name.now c.heading.new.self.rest.now heading (no_test c.in_ok-heading.heading.arch row.fault c.heading.new.self.rest.now (texts row.tokens) c.in_ok-row.ensures.found c.in_ok-row.ensures.fault (c.in_err-body.ensures.fault ne)))
+    passed_on _ _ c.from_residual-in_err-body.ensures.1 (λ ne. no_frame c.args.text.now c.in_ok-heading.heading.arch c.in_ok-heading.heading.name.now c.heading.new.self.rest.now heading (no_test c.in_ok-heading.heading.arch row.fault c.heading.new.self.rest.now (texts row.tokens) (read_whole row.fault _ _ row.tokens c.in_ok-row.ensures.found) c.in_ok-row.ensures.fault (c.in_err-body.ensures.fault ne)))
 
 pub returns-in_err-body-clause-place : goal.returns-in_err-body-clause-place
 returns-in_err-body-clause-place g c =
@@ -53,10 +52,11 @@ finish-requires-clause-name g c = c.in_ok-heading.ensures.found.3.is_name
 
 pub finish-requires-clause-within : goal.finish-requires-clause-within
 finish-requires-clause-within g c =
+    let body = c.in_ok-body.body in
     let len = length c.args.text.now in
     let whole = c.in_ok-heading.ensures.same ∙ c.new-lexer.ensures.text in
-    let spans = subst (λ t. Spans t 0 c.in_ok-row.row.tokens (length t)) whole c.in_ok-row.ensures.spans in
-    RowSpans-within c.args.text.now 0 len c.in_ok-body.body.rows (c.in_ok-body.ensures.spans c.args.text.now 0 len spans)
+    let within = subst (λ t. All (λ token. token.at ≤ length t) c.in_ok-row.row.tokens) whole c.in_ok-row.ensures.within in
+    HasRows-within len c.in_ok-heading.heading.arch c.in_ok-row.row.tokens body.parts.threads body.rows c.in_ok-body.ensures.rows within
 
 pub returns-clause-found : goal.returns-clause-found
 returns-clause-found g c =
@@ -76,21 +76,28 @@ returns-clause-found g c =
       syntax = says.syntax;
       condition = formula_of body.parts.prop;
       heading = subst (λ t. Heading t c.in_ok-heading.heading.arch c.in_ok-heading.heading.name.now c.heading.new.self.rest.now) c.new-lexer.ensures.rest c.in_ok-heading.ensures.found;
-      row = subst (λ o. IfNone o (Tokens c.heading.new.self.rest.now (texts c.in_ok-row.row.tokens))) c.in_ok-body.ensures.whole c.in_ok-row.ensures.found;
+      row = subst (λ o. IfNone o (Tokens c.heading.new.self.rest.now (texts c.in_ok-row.row.tokens))) c.in_ok-body.ensures.whole (read_whole c.in_ok-row.row.fault _ _ c.in_ok-row.row.tokens c.in_ok-row.ensures.found);
       parts = says.parts;
       proposition = body_proposition c.in_ok-heading.heading.arch (texts c.in_ok-row.row.tokens) body says;
       made = cc (head, cells, same);
     }
 
-pub returns-clause-spans : goal.returns-clause-spans
-returns-clause-spans g c =
-    let len = length c.args.text.now in
+pub returns-clause-cells : goal.returns-clause-cells
+returns-clause-cells g c =
     let body = c.in_ok-body.body in
+    let row = c.in_ok-row.row in
+    let rest = c.heading.new.self.rest.now in
     let whole = c.in_ok-heading.ensures.same ∙ c.new-lexer.ensures.text in
-    let spans = subst (λ t. Spans t 0 c.in_ok-row.row.tokens (length t)) whole c.in_ok-row.ensures.spans in
-    let threads : c.in_ok-finish.field-0.head.threads ≡ body.parts.threads = ap (λ h. h.threads) c.in_ok-finish.ensures.head in
+    let stream = subst (λ o. IfNone o (PlacedTokens (length c.heading.new.self.text.now) rest (placed_tokens row.tokens))) c.in_ok-body.ensures.whole c.in_ok-row.ensures.found in
     record {
-      rows = body.rows;
-      cells = c.in_ok-finish.ensures.cells ∙ ap (λ n. columns n body.rows) (sym threads);
-      spans = c.in_ok-body.ensures.spans c.args.text.now 0 len spans;
+      arch = c.in_ok-heading.heading.arch;
+      name = c.in_ok-heading.heading.name.now;
+      rest = rest;
+      heading = subst (λ t. Heading t c.in_ok-heading.heading.arch c.in_ok-heading.heading.name.now rest) c.new-lexer.ensures.rest c.in_ok-heading.ensures.found;
+      tokens = placed_tokens row.tokens;
+      stream = subst (λ t. PlacedTokens (length t) rest (placed_tokens row.tokens)) whole stream;
+      threads = body.parts.threads;
+      rows = placed_cells body.rows;
+      has_rows = c.in_ok-body.ensures.rows;
+      are = ap placed_cells c.in_ok-finish.ensures.cells ∙ columns-placed body.parts.threads body.rows;
     }

@@ -1,11 +1,13 @@
-use Rattle.std.proofs.Common.{refl, arith, subst}
-use Rattle.std.proofs.lemmas.List.{length-map}
+use Rattle.std.proofs.Common.{refl, sym, ap, ◌∙◌, map, arith, subst}
+use Rattle.std.proofs.lemmas.List.{length-map, map-append}
 use Rattle.lw_base.proofs.Returns.{passed_on}
-use Rattle.lw_text.specs.Spans.{Spans}
-use Rattle.lw_text.specs.Places.{cells_texts, all_texts}
+use Rattle.lw_text.specs.Rows.{Header}
+use Rattle.lw_text.specs.Frames.{Block}
+use Rattle.lw_text.specs.Resolved.{named_entry}
+use Rattle.lw_text.specs.Places.{cells_texts, all_texts, placed, placed_tokens}
 use Rattle.lw_text.specs.Views.{remaining, left}
-use Rattle.lw_text.proofs.CellPlaces.{Spans-behind, RowSpans-wider}
-use Rattle.lw_text.proofs.TokenRows.{Spans-order}
+use Rattle.lw_text.proofs.CellPlaces.{rows_placed}
+use Rattle.lw_text.proofs.TokenRows.{texts_placed}
 use Rattle.lw_text.proofs.Bodies.{syntax_by, agrees}
 use Rattle.lw_text.proofs.Whole.{first_names, no_front, no_rows, no_condition, header_some, Rows-even}
 use Rattle.lw_text.proofs.cursor.Cursor.body.Goals as goal
@@ -67,10 +69,22 @@ returns-clause-found g c =
       listed_in = all.listed_in;
     }
 
-pub returns-clause-spans : goal.returns-clause-spans
-returns-clause-spans g c =
-    let front = c.in_ok-entries.ensures.leaves in
-    λ text from to s.
-    let behind = Spans-behind text from to front.0 (remaining c.front.new.self) (subst (λ ts. Spans text from ts to) front.1 s) in
-    let rows = c.in_ok-rows.ensures.spans text behind.0 to behind.2 in
-    RowSpans-wider text from behind.0 rows.0 to c.in_ok-rows.rows behind.1 (Spans-order text rows.0 to (remaining c.rows.new.self) rows.2) rows.1
+pub returns-clause-rows : goal.returns-clause-rows
+returns-clause-rows g c =
+    let found = c.in_ok-entries.ensures.found in
+    let leaves = c.in_ok-entries.ensures.leaves in
+    let whole = remaining c.args.self.now in
+    let behind = remaining c.front.new.self in
+    let threads = c.in_ok-entries.threads in
+    record {
+      entries = map (named_entry c.front.new.locs) c.in_ok-entries.entries;
+      behind_block = found.0;
+      front = placed_tokens leaves.0;
+      behind_header = placed_tokens behind;
+      behind_rows = placed_tokens (remaining c.rows.new.self);
+      block = subst (λ ts. Block c.args.arch ts (map (named_entry c.front.new.locs) c.in_ok-entries.entries) found.0) (sym (texts_placed whole)) found.1;
+      header = subst (λ ts. Header found.0 threads ts) (sym (texts_placed behind)) found.2;
+      parts = ap placed_tokens leaves.1 ∙ map-append placed leaves.0 behind;
+      says = rows_placed threads behind (remaining c.rows.new.self) c.in_ok-rows.rows c.in_ok-rows.ensures.found;
+      cut = c.in_ok-rows.ensures.cut;
+    }

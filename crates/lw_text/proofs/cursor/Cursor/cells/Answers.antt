@@ -7,7 +7,7 @@ use Rattle.lw_text.specs.Places.{cell_texts, cells_texts}
 use Rattle.lw_text.specs.Views.{remaining, left}
 use Rattle.lw_text.proofs.Texts.{is_text}
 use Rattle.lw_text.proofs.Cells.{Cells-open, Cells-more, Cells-closed, is_bar}
-use Rattle.lw_text.proofs.CellPlaces.{TakesCells-push}
+use Rattle.lw_text.proofs.CellPlaces.{cells_more}
 use Rattle.lw_text.proofs.cursor.Cursor.cells.Goals as goal
 
 pub cell-requires : goal.cell-requires
@@ -36,8 +36,8 @@ returns-then-eq-clause-found g c =
     rw (c.in_ok-push.ensures.ok, map_push cell_texts c.cells.cells)
     (Cells-closed (left c.args.self.now) (left c.cells.self) (cells_texts c.cells.cells) c.cells.invariant.before (texts c.cell.new.cell) c.in_ok-mark.mark.text.now (left c.cell.new.self) c.in_ok-mark.ensures.parts c.in_ok-mark.ensures.plain (is_text _ _ (sym c.eq.ensures ∙ c.if-eq.true)))
 
-pub returns-then-eq-clause-spans : goal.returns-then-eq-clause-spans
-returns-then-eq-clause-spans g c = rw c.in_ok-push.ensures.ok (TakesCells-push (remaining c.args.self.now) (remaining c.cells.self) (remaining c.cell.new.self) c.cells.cells _ c.in_ok-mark.mark c.cells.invariant.spans c.in_ok-mark.ensures.tokens refl c.in_ok-mark.ensures.mark)
+pub returns-then-eq-clause-cut : goal.returns-then-eq-clause-cut
+returns-then-eq-clause-cut g c = rw c.in_ok-push.ensures.ok (cells_more (remaining c.args.self.now) (remaining c.cells.self) (remaining c.cell.new.self) c.cells.cells _ c.in_ok-mark.mark c.cells.invariant.cut c.in_ok-mark.ensures.tokens refl c.in_ok-mark.ensures.mark)
 
 pub returns-then-eq-clause-at : goal.returns-then-eq-clause-at
 returns-then-eq-clause-at g c = omega (arith, c.in_ok-mark.ensures.mark_at, c.cells.invariant.same)
@@ -51,6 +51,6 @@ cells-smaller g c = omega (arith, ap length c.in_ok-mark.ensures.parts, length-a
 pub cells-preserved : goal.cells-preserved
 cells-preserved g c = record {
   before = rw (c.in_ok-push.ensures.ok, map_push cell_texts c.cells.cells) (Cells-more (left c.args.self.now) (left c.cells.self) (cells_texts c.cells.cells) c.cells.invariant.before (texts c.cell.new.cell) c.in_ok-mark.mark.text.now (left c.cell.new.self) c.in_ok-mark.ensures.parts c.in_ok-mark.ensures.plain (is_bar _ c.in_ok-mark.ensures.mark (sym c.eq.ensures ∙ c.if-eq.false)));
-  spans = rw c.in_ok-push.ensures.ok (TakesCells-push (remaining c.args.self.now) (remaining c.cells.self) (remaining c.cell.new.self) c.cells.cells _ c.in_ok-mark.mark c.cells.invariant.spans c.in_ok-mark.ensures.tokens refl c.in_ok-mark.ensures.mark);
+  cut = rw c.in_ok-push.ensures.ok (cells_more (remaining c.args.self.now) (remaining c.cells.self) (remaining c.cell.new.self) c.cells.cells _ c.in_ok-mark.mark c.cells.invariant.cut c.in_ok-mark.ensures.tokens refl c.in_ok-mark.ensures.mark);
   same = c.in_ok-mark.ensures.same ∙ c.cells.invariant.same;
 }

@@ -1,7 +1,8 @@
 use Rattle.std.proofs.Common.{◌≡◌, length}
 use Rattle.std.specs.Prelude.{codes}
 use Rattle.lw_text.specs.Rows.{Cell}
-use Rattle.lw_text.specs.Places.{cells_texts, TakesCells}
+use Rattle.lw_text.specs.Places.{cells_texts, placed_tokens, placed_row}
+use Rattle.lw_text.specs.PlacedCells.{CellsFrom}
 use Rattle.lw_text.specs.Views.{remaining, left}
 use Rattle.lw_text.proofs.Lists.{Before}
 use Rattle.lw_text.proofs.cursor.Cursor.cells.Given as goal
@@ -9,7 +10,7 @@ use Rattle.lw_text.proofs.cursor.Cursor.cells.Given as goal
 abbrev pub invariant-cells : goal.invariant-cells
 invariant-cells g l = record {
   before : Before Cell (codes "|") (codes ";") (left l.fn.self) (cells_texts l.cells) (left l.self);
-  spans : TakesCells (remaining l.fn.self) l.cells (remaining l.self);
+  cut : CellsFrom (placed_tokens (remaining l.fn.self)) (placed_row l.cells) (placed_tokens (remaining l.self));
   same : l.self.len ≡ l.fn.self.len;
 }
 

@@ -26,8 +26,8 @@ returns-then-len-threads-clause-same g c = c.in_ok-end.ensures.same
 pub returns-clause-found : goal.returns-clause-found
 returns-clause-found g c = (c.in_ok-end.ensures.found, omega (arith, c.if-len-threads.false, c.len.ensures, length-map c.cells.new.cells cell_texts))
 
-pub returns-clause-spans : goal.returns-clause-spans
-returns-clause-spans g c = c.in_ok-end.ensures.spans
+pub returns-clause-cut : goal.returns-clause-cut
+returns-clause-cut g c = c.in_ok-end.ensures.cut
 
 pub returns-clause-same : goal.returns-clause-same
 returns-clause-same g c = c.in_ok-end.ensures.same

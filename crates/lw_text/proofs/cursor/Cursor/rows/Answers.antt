@@ -5,7 +5,7 @@ use Rattle.lw_text.proofs.Faults.{memory_ran_out}
 use Rattle.lw_text.specs.Places.{cells_texts, all_texts}
 use Rattle.lw_text.specs.Views.{remaining, left}
 use Rattle.lw_text.proofs.Cells.{Row-shorter, Rows-found, Rows-more, Rows-fault, Rows-many}
-use Rattle.lw_text.proofs.CellPlaces.{TakesRows-push}
+use Rattle.lw_text.proofs.CellPlaces.{rows_more}
 use Rattle.lw_text.proofs.cursor.Cursor.rows.Goals as goal
 
 pub returns-then-at_stop-clause-found : goal.returns-then-at_stop-clause-found
@@ -30,7 +30,7 @@ rows-smaller g c = Row-shorter c.args.threads _ _ _ c.in_ok-row.ensures.found
 pub rows-preserved : goal.rows-preserved
 rows-preserved g c = record {
   passed = rw (c.in_ok-push.ensures.ok, map_push cells_texts c.rows.rows) (Rows-more c.args.threads (left c.args.self.now) (left c.rows.self) (all_texts c.rows.rows) c.rows.invariant.passed (left c.row.new.self) (cells_texts c.in_ok-row.field-0) (sym c.at_stop.ensures ∙ c.if-at_stop.false) c.in_ok-row.ensures.found);
-  spans = rw c.in_ok-push.ensures.ok (TakesRows-push (remaining c.args.self.now) (remaining c.rows.self) (remaining c.row.new.self) c.rows.rows c.in_ok-row.field-0 c.rows.invariant.spans c.in_ok-row.ensures.spans);
+  cut = rw c.in_ok-push.ensures.ok (rows_more (remaining c.args.self.now) (remaining c.rows.self) (remaining c.row.new.self) c.rows.rows c.in_ok-row.field-0 c.rows.invariant.cut c.in_ok-row.ensures.cut);
   few = omega (arith, ap length c.in_ok-push.ensures.ok, length-append c.rows.rows (c.in_ok-row.field-0 ∷ []), c.if-len-eq-MAX_ROWS.false, c.len.ensures, c.rows.invariant.few);
   same = c.in_ok-row.ensures.same ∙ c.rows.invariant.same;
 }

@@ -1,6 +1,7 @@
 use Rattle.std.proofs.Common.{◌≡◌, ◌≤◌, length}
 use Rattle.lw_text.specs.Rows.{Row, begins_stop}
-use Rattle.lw_text.specs.Places.{all_texts, TakesRows}
+use Rattle.lw_text.specs.Places.{all_texts, placed_tokens, placed_cells}
+use Rattle.lw_text.specs.PlacedCells.{RowsFrom}
 use Rattle.lw_text.specs.Views.{remaining, left}
 use Rattle.lw_text.proofs.Lists.{Passed}
 use Rattle.lw_text.proofs.cursor.Cursor.rows.Given as goal
@@ -8,7 +9,7 @@ use Rattle.lw_text.proofs.cursor.Cursor.rows.Given as goal
 abbrev pub invariant-rows : goal.invariant-rows
 invariant-rows g l = record {
   passed : Passed begins_stop (Row l.threads) (left l.fn.self) (all_texts l.rows) (left l.self);
-  spans : TakesRows (remaining l.fn.self) l.rows (remaining l.self);
+  cut : RowsFrom (placed_tokens (remaining l.fn.self)) (placed_cells l.rows) (placed_tokens (remaining l.self));
   few : length l.rows ≤ 64;
   same : l.self.len ≡ l.fn.self.len;
 }

@@ -18,17 +18,12 @@ invariant_of-self c =
     let m = Suffix-more s.text.now s.rest.now (g.0 ++ c.in-Ok.text.now) c.in-Ok.rest.now s.suffix (g.1 ∙ ap (λ x. g.0 ++ x) f.0 ∙ sym (append_assoc g.0 c.in-Ok.text.now c.in-Ok.rest.now)) in
     record { within = m.0; suffix = m.1 }
 
-pub returns-in-Ok-clause-after : goal.returns-in-Ok-clause-after
-returns-in-Ok-clause-after c =
+pub returns-in-Ok-clause-stands : goal.returns-in-Ok-clause-stands
+returns-in-Ok-clause-stands c =
     let s = c.args.self.now in
     let g = Trivia-suffix c.in-Some.ensures.found in
-    omega (arith, ap length g.1, length-append g.0 c.in-Some.start.now)
-
-pub returns-in-Ok-clause-slice : goal.returns-in-Ok-clause-slice
-returns-in-Ok-clause-slice c =
-    let s = c.args.self.now in
-    let g = Trivia-suffix c.in-Some.ensures.found in
-    (Suffix-more s.text.now s.rest.now g.0 c.in-Some.start.now s.suffix g.1).1 ∙ c.in-Ok.ensures.found.0
+    let within = (Suffix-more s.text.now s.rest.now g.0 c.in-Some.start.now s.suffix g.1).0 in
+    omega (arith, within, ap length c.in-Ok.ensures.found.0, length-append c.in-Ok.text.now c.in-Ok.rest.now)
 
 pub returns-in-Err-clause-no_end : goal.returns-in-Err-clause-no_end
 returns-in-Err-clause-no_end c = not_ended c.args.self.now.rest.now c.in-Some.start.now c.in-Some.ensures.found c.in-Some.ensures.stops (grind (arith, nat_tests))

@@ -2,7 +2,9 @@ use Rattle.std.proofs.Common.{◌≡◌, ◌∙◌, ap, subst, sym}
 use Rattle.lw_base.proofs.Returns.{passed_on}
 use Rattle.lw_text.specs.Frames.{Parts, IsNoTest}
 use Rattle.lw_text.specs.Resolved.{HasSyntax}
-use Rattle.lw_text.specs.Spans.{texts, Spans}
+use Rattle.lw_text.specs.Spans.{texts}
+use Rattle.lw_text.specs.Places.{placed_tokens, placed_cells}
+use Rattle.lw_text.specs.PlacedCells.{HasRows}
 use Rattle.lw_text.specs.Views.{left}
 use Rattle.lw_text.proofs.Numbers.{if_none}
 use Rattle.lw_text.proofs.token_stream.TokenStream.body.Goals as goal
@@ -33,5 +35,7 @@ returns-clause-found g c =
     let read : left c.new-cursor.result ≡ texts c.args.self.now.tokens = ap texts (c.new-cursor.ensures.remaining ∙ c.as_slice.ensures) in
     subst (λ ts. HasSyntax c.args.arch ts c.in_ok-body.body) read c.in_ok-body.ensures.found
 
-pub returns-clause-spans : goal.returns-clause-spans
-returns-clause-spans g c = λ text from to s. c.in_ok-body.ensures.spans text from to (subst (λ ts. Spans text from ts to) (sym (c.new-cursor.ensures.remaining ∙ c.as_slice.ensures)) s)
+pub returns-clause-rows : goal.returns-clause-rows
+returns-clause-rows g c =
+    let body = c.in_ok-body.body in
+    subst (λ ts. HasRows c.args.arch (placed_tokens ts) body.parts.threads (placed_cells body.rows)) (c.new-cursor.ensures.remaining ∙ c.as_slice.ensures) c.in_ok-body.ensures.rows

@@ -1,0 +1,58 @@
+-- The cells of a text with the places of their tokens: they are cut from its token stream.
+use Rattle.std.specs.Prelude.{◌≡◌, ℕ, true, List, [], ◌∷◌, ◌++◌, length, map}
+use Rattle.lw_base.specs.Types.{Bytes, TokenList, Cells, CellGrid}
+use Rattle.lw_base.specs.declared.head.Arch.{Arch}
+use Rattle.lw_text.specs.Headings.{Heading}
+use Rattle.lw_text.specs.Rows.{Header, Rows, ends_cell, columns}
+use Rattle.lw_text.specs.Frames.{EntrySyntax, Block}
+use Rattle.lw_text.specs.PlacedTokens.{PlacedToken, texts_of_tokens, PlacedTokens}
+
+-- a cell: its tokens, and the place of the `|` or `;` that ends it
+pub record PlacedCell : Type 0 where
+  pub tokens : List PlacedToken
+  pub end : ℕ
+
+-- some cells without places, and rows or columns of cells
+abbrev pub texts_of_cells : List PlacedCell → Cells
+texts_of_cells cells = map (λ cell. texts_of_tokens cell.tokens) cells
+
+abbrev pub texts_of_grid : List (List PlacedCell) → CellGrid
+texts_of_grid rows = map texts_of_cells rows
+
+-- The tokens are those of the cells, each with a mark behind it at its end, and then rest.
+abbrev pub CellsFrom : List PlacedToken → List PlacedCell → List PlacedToken → Type 0
+CellsFrom ts [] rest = ts ≡ rest
+CellsFrom ts (cell ∷ cells) rest =
+    (mark : PlacedToken) × (after : List PlacedToken) × (ts ≡ cell.tokens ++ mark ∷ after)
+    × (ends_cell mark.text ≡ true) × (mark.at ≡ cell.end) × CellsFrom after cells rest
+
+-- The tokens are those of the rows' cells, and then rest.
+abbrev pub RowsFrom : List PlacedToken → List (List PlacedCell) → List PlacedToken → Type 0
+RowsFrom ts [] rest = ts ≡ rest
+RowsFrom ts (row ∷ rows) rest = (mid : List PlacedToken) × CellsFrom ts row mid × RowsFrom mid rows rest
+
+-- The tokens are a block, the header of so many threads, and behind it these rows, whose cells are cut from them.
+pub record HasRows (arch : Arch) (tokens : List PlacedToken) (threads : ℕ) (rows : List (List PlacedCell)) : Type 0 where
+  pub entries : List EntrySyntax
+  pub behind_block : TokenList
+  pub front : List PlacedToken
+  pub behind_header : List PlacedToken
+  pub behind_rows : List PlacedToken
+  pub block : Block arch (texts_of_tokens tokens) entries behind_block
+  pub header : Header behind_block threads (texts_of_tokens behind_header)
+  pub parts : tokens ≡ front ++ behind_header
+  pub says : Rows threads (texts_of_tokens behind_header) (texts_of_grid rows) (texts_of_tokens behind_rows)
+  pub cut : RowsFrom behind_header rows behind_rows
+
+-- The cells of a text's frame, for each thread from top to bottom: the columns of the rows that its token stream has.
+pub record HasCells (text : Bytes) (cells : List (List PlacedCell)) : Type 0 where
+  pub arch : Arch
+  pub name : Bytes
+  pub rest : Bytes
+  pub heading : Heading text arch name rest
+  pub tokens : List PlacedToken
+  pub stream : PlacedTokens (length text) rest tokens
+  pub threads : ℕ
+  pub rows : List (List PlacedCell)
+  pub has_rows : HasRows arch tokens threads rows
+  pub are : cells ≡ columns threads rows
