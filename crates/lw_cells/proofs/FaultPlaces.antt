@@ -10,11 +10,15 @@ use Rattle.lw_base.proofs.GrowingTables.{with_names-append}
 use Rattle.lw_text.specs.declared.cell.Cell.{Cell}
 use Rattle.lw_text.specs.declared.token.Token.{Token}
 use Rattle.lw_text.specs.Spans.{texts}
-use Rattle.lw_text.specs.Places.{all_texts}
+use Rattle.lw_text.specs.PlacedTokens.{texts_of_tokens}
+use Rattle.lw_text.specs.PlacedCells.{PlacedCell, texts_of_cells, texts_of_grid}
+use Rattle.lw_text.specs.Places.{placed, placed_tokens, placed_cell, placed_row}
+use Rattle.lw_text.proofs.TokenRows.{texts_placed}
+use Rattle.lw_text.proofs.CellPlaces.{cells_placed}
 use Rattle.lw_cells.specs.declared.draft.Draft.{Draft}
 use Rattle.lw_cells.specs.declared.draft.DraftCell.{DraftCell}
 use Rattle.lw_cells.specs.Languages.{Language}
-use Rattle.lw_cells.specs.Cells.{CellSyntax, Labels, Column, statements, names_in, names_of}
+use Rattle.lw_cells.specs.Cells.{CellSyntax, CellSays, Labels, Column, statements, names_in, names_of}
 use Rattle.lw_cells.specs.Faults.{Standing, IsNinth, IsJumpLabel, TellsBy, BeginsWithColon}
 use Rattle.lw_cells.specs.Drafts.{LabelMap, DraftRead, first_names, leading_in}
 use Rattle.lw_cells.specs.Reading.{LabelCause, MaybeCause, LabelsRead}
@@ -42,19 +46,19 @@ single c (x ∷ w ∷ xs) y zs e = let f : [] ≡ w ∷ xs ++ y ∷ zs = cc in a
 
 -- A cell of a thread, with what was read above it.
 module _ {A : Type 0} (cells front rest : List (Cell A)) (cell : Cell A) (whole : cells ≡ front ++ cell ∷ rest) where
-  abbrev pub standing : (at : ℕ) (before : List Token) (t : Token) (back : List Token) → cell.tokens ≡ before ++ t ∷ back → t.at ≡ at → Standing (cells ∷ []) at
+  abbrev pub standing : (at : ℕ) (before : List Token) (t : Token) (back : List Token) → cell.tokens ≡ before ++ t ∷ back → t.at ≡ at → Standing (placed_row cells ∷ []) at
   standing at before t back in_cell begins =
       record {
         before = [];
-        above = front;
-        cell = cell;
-        below = rest;
+        above = placed_row front;
+        cell = placed_cell cell;
+        below = placed_row rest;
         behind = [];
-        front = before;
-        token = t;
-        back = back;
-        in_columns = ap (λ (c : List (Cell A)). c ∷ []) whole;
-        in_cell = in_cell;
+        front = placed_tokens before;
+        token = placed t;
+        back = placed_tokens back;
+        in_columns = ap (λ (c : List (Cell A)). placed_row c ∷ []) whole ∙ ap (λ (c : List PlacedCell). c ∷ []) (map-append placed_cell front (cell ∷ rest));
+        in_cell = ap placed_tokens in_cell ∙ map-append placed before (t ∷ back);
         begins = begins;
       }
 
@@ -66,7 +70,16 @@ module _ {A : Type 0} (cells front rest : List (Cell A)) (cell : Cell A) (whole 
       behind cell.tokens next one
 
   module _ {Syntax Stmt Jump : Type 0} (language : Language Syntax Stmt) (draft_of : ℕ → Syntax → Draft Stmt Jump) (names mid : List (List ℕ)) (drafts : List (DraftCell Stmt Jump)) (labels : LabelMap) (read : DraftRead language draft_of front names drafts labels mid) where
-    pub labels_tell : (at : ℕ) (cause : CellCause) → LabelCause cell.tokens (first_names (leading_in 0 read.syntaxes)) at cause → TellsBy language names (cells ∷ []) at cause
+    above_says : AllZip (CellSays language) (texts_of_cells (placed_row front)) read.syntaxes
+    above_says = subst (λ (cs : List (List (List ℕ))). AllZip (CellSays language) cs read.syntaxes) (sym (cells_placed front)) read.says
+
+    labels_placed : (ts : List Token) (ls rest : List (List ℕ)) → Labels (texts ts) ls rest → Labels (texts_of_tokens (placed_tokens ts)) ls rest
+    labels_placed ts ls rest says = subst (λ (ws : List (List ℕ)). Labels ws ls rest) (sym (texts_placed ts)) says
+
+    colon_in_memory : (ts : List Token) → BeginsWithColon (texts_of_tokens (placed_tokens ts)) → BeginsWithColon (texts ts)
+    colon_in_memory ts colon = subst BeginsWithColon (texts_placed ts) colon
+
+    pub labels_tell : (at : ℕ) (cause : CellCause) → LabelCause cell.tokens (first_names (leading_in 0 read.syntaxes)) at cause → TellsBy language names (placed_row cells ∷ []) at cause
     labels_tell at Form c = tt
     labels_tell at Register c = tt
     labels_tell at LabelMissing c = absurd c
@@ -79,9 +92,9 @@ module _ {A : Type 0} (cells front rest : List (Cell A)) (cell : Cell A) (whole 
             syntaxes = read.syntaxes;
             labels = c.names;
             more = drop (suc (suc k)) (texts cell.tokens);
-            says = read.says;
-            in_front = c.says;
-            is_label = sym (drop-map (λ t. t.text.now) (suc k) cell.tokens) ∙ drop_at (texts cell.tokens) (suc k) (codes ":") colon;
+            says = above_says;
+            in_front = labels_placed (take k cell.tokens) c.names [] c.says;
+            is_label = texts_placed (drop (suc k) cell.tokens) ∙ sym (drop-map (λ t. t.text.now) (suc k) cell.tokens) ∙ drop_at (texts cell.tokens) (suc k) (codes ":") colon;
             there = subst (λ (ns : List (List ℕ)). Contains (ns ++ c.names) c.token.text.now) known c.there;
           },
         )
@@ -89,7 +102,7 @@ module _ {A : Type 0} (cells front rest : List (Cell A)) (cell : Cell A) (whole 
     labels_tell at TooMany c = absurd c
     labels_tell at Memory c = tt
 
-    pub statement_tells : (next : ℕ) (more : LabelMap) → LabelsRead cell.tokens (length (statements read.syntaxes)) (leading_in 0 read.syntaxes) next more → (slice_get (texts cell.tokens) (next + 1) ≡ Some (codes ":") → ⊥) → (at : ℕ) (cause : CellCause) → MaybeCause language (length (statements read.syntaxes)) (drop next cell.tokens) mid at cause → TellsBy language names (cells ∷ []) at cause
+    pub statement_tells : (next : ℕ) (more : LabelMap) → LabelsRead cell.tokens (length (statements read.syntaxes)) (leading_in 0 read.syntaxes) next more → (slice_get (texts cell.tokens) (next + 1) ≡ Some (codes ":") → ⊥) → (at : ℕ) (cause : CellCause) → MaybeCause language (length (statements read.syntaxes)) (drop next cell.tokens) mid at cause → TellsBy language names (placed_row cells ∷ []) at cause
     statement_tells next more ls stops at Form c = tt
     statement_tells next more ls stops at Register c = tt
     statement_tells next more ls stops at LabelMissing c = absurd c
@@ -101,10 +114,10 @@ module _ {A : Type 0} (cells front rest : List (Cell A)) (cell : Cell A) (whole 
           inl (record {
             syntaxes = read.syntaxes;
             labels = ls.names;
-            says = read.says;
-            in_front = ls.says;
+            says = above_says;
+            in_front = labels_placed (take next cell.tokens) ls.names [] ls.says;
             begins = c.1.3;
-            no_label = λ colon. stops (colon_behind cell.tokens next colon);
+            no_label = λ colon. stops (colon_behind cell.tokens next (colon_in_memory (drop (suc next) cell.tokens) colon));
             full = c.0;
           }),
         )
@@ -119,10 +132,10 @@ module _ {A : Type 0} (cells front rest : List (Cell A)) (cell : Cell A) (whole 
             labels = ls.names;
             mid = texts (take c.place tail);
             before_says = tt;
-            says = read.says;
-            in_front = subst (λ (ts : List (List ℕ)). Labels ts ls.names (texts (take c.place tail))) (sym (map-append (λ t. t.text.now) (take next cell.tokens) (take c.place tail))) (Labels-rest (texts (take next cell.tokens)) (texts (take c.place tail)) ls.names ls.says);
+            says = above_says;
+            in_front = labels_placed (take next cell.tokens ++ take c.place tail) ls.names (texts (take c.place tail)) (subst (λ (ts : List (List ℕ)). Labels ts ls.names (texts (take c.place tail))) (sym (map-append (λ t. t.text.now) (take next cell.tokens) (take c.place tail))) (Labels-rest (texts (take next cell.tokens)) (texts (take c.place tail)) ls.names ls.says));
             at_location = c.before;
-            no_label = λ none colon. stops (first_colon next c.place c.token c.is none colon);
+            no_label = λ none colon. stops (first_colon next c.place c.token c.is none (colon_in_memory (drop (suc c.place) tail) colon));
             is_location = c.ninth.1;
             full = ap length (sym read.names) ∙ c.ninth.2;
             new = λ there. c.ninth.3 (subst (λ (ns : List (List ℕ)). Contains ns c.token.text.now) (sym read.names) there);
@@ -131,13 +144,13 @@ module _ {A : Type 0} (cells front rest : List (Cell A)) (cell : Cell A) (whole 
     statement_tells next more ls stops at Memory c = tt
 
 module _ {Syntax Stmt : Type 0} (language : Language Syntax Stmt) where
-  no_threads : {A : Type 0} (before : List (List (Cell A))) (threads : List (List (CellSyntax Syntax))) → before ≡ [] → AllZip (Column language) (all_texts before) threads → threads ≡ []
+  no_threads : (before : List (List PlacedCell)) (threads : List (List (CellSyntax Syntax))) → before ≡ [] → AllZip (Column language) (texts_of_grid before) threads → threads ≡ []
   no_threads [] [] e h = refl
   no_threads [] (t ∷ threads) e h = absurd h
   no_threads (b ∷ before) threads e h = absurd cc
 
   -- A fault of a column is one of the columns, of which those before were read.
-  module _ {A : Type 0} (names mid : List (List ℕ)) (columns front rest : List (List (Cell A))) (column : List (Cell A)) (threads : List (List (CellSyntax Syntax))) (whole : columns ≡ front ++ column ∷ rest) (says : AllZip (Column language) (all_texts front) threads) (table : mid ≡ with_names names (names_of language threads)) where
+  module _ (names mid : List (List ℕ)) (columns front rest : List (List PlacedCell)) (column : List PlacedCell) (threads : List (List (CellSyntax Syntax))) (whole : columns ≡ front ++ column ∷ rest) (says : AllZip (Column language) (texts_of_grid front) threads) (table : mid ≡ with_names names (names_of language threads)) where
     abbrev moved : (at : ℕ) → Standing (column ∷ []) at → Standing columns at
     moved at p =
         record {
@@ -149,7 +162,7 @@ module _ {Syntax Stmt : Type 0} (language : Language Syntax Stmt) where
           front = p.front;
           token = p.token;
           back = p.back;
-          in_columns = whole ∙ ap (λ (c : List (Cell A)). front ++ c ∷ rest) (single column p.before (p.above ++ p.cell ∷ p.below) p.behind p.in_columns).1;
+          in_columns = whole ∙ ap (λ (c : List PlacedCell). front ++ c ∷ rest) (single column p.before (p.above ++ p.cell ∷ p.below) p.behind p.in_columns).1;
           in_cell = p.in_cell;
           begins = p.begins;
         }
@@ -174,7 +187,7 @@ module _ {Syntax Stmt : Type 0} (language : Language Syntax Stmt) where
           no_label = n.no_label;
           is_location = n.is_location;
           full = ap length (sym same) ∙ n.full;
-          new = λ there. n.new (subst (λ (ns : List (List ℕ)). Contains ns p.token.text.now) (sym same) there);
+          new = λ there. n.new (subst (λ (ns : List (List ℕ)). Contains ns p.token.text) (sym same) there);
         }
 
     pub column_tells : (at : ℕ) (cause : CellCause) → TellsBy language mid (column ∷ []) at cause → TellsBy language names columns at cause

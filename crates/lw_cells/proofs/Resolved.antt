@@ -10,7 +10,11 @@ use Rattle.lw_base.specs.declared.fault.CellCause.TheVariants.{Form, Register, L
 use Rattle.lw_text.specs.declared.cell.Cell.{Cell}
 use Rattle.lw_text.specs.declared.token.Token.{Token}
 use Rattle.lw_text.specs.Spans.{texts}
-use Rattle.lw_text.specs.Places.{cell_texts, cells_texts}
+use Rattle.lw_text.specs.PlacedTokens.{texts_of_tokens}
+use Rattle.lw_text.specs.PlacedCells.{texts_of_cells}
+use Rattle.lw_text.specs.Places.{cell_texts, cells_texts, placed_tokens, placed_row}
+use Rattle.lw_text.proofs.TokenRows.{texts_placed}
+use Rattle.lw_text.proofs.CellPlaces.{cells_placed}
 use Rattle.lw_cells.specs.declared.draft.Draft.{Draft}
 use Rattle.lw_cells.specs.declared.draft.DraftCell.{DraftCell}
 use Rattle.lw_cells.specs.Languages.{Language}
@@ -128,6 +132,16 @@ module _ {Syntax Stmt : Type 0} (language : Language Syntax Stmt) where
         below_says : AllZip (CellSays language) (cells_texts (drop (suc row) cells)) (drop (suc row) draft.syntaxes)
         below_says = subst (λ (cs : List (List (List ℕ))). AllZip (CellSays language) cs (drop (suc row) draft.syntaxes)) (drop-map cell_texts (suc row) cells) (zip_drop (CellSays language) (cells_texts cells) draft.syntaxes (suc row) draft.says)
 
+        -- the same of the cells with their places
+        above_placed : AllZip (CellSays language) (texts_of_cells (placed_row (take row cells))) (take row draft.syntaxes)
+        above_placed = subst (λ (cs : List (List (List ℕ))). AllZip (CellSays language) cs (take row draft.syntaxes)) (sym (cells_placed (take row cells))) above_says
+
+        placed_says : CellSays language (texts_of_tokens (placed_tokens cell.tokens)) syntax_at.0
+        placed_says = subst (λ (ts : List (List ℕ)). CellSays language ts syntax_at.0) (sym (texts_placed cell.tokens)) says_at
+
+        below_placed : AllZip (CellSays language) (texts_of_cells (placed_row (drop (suc row) cells))) (drop (suc row) draft.syntaxes)
+        below_placed = subst (λ (cs : List (List (List ℕ))). AllZip (CellSays language) cs (drop (suc row) draft.syntaxes)) (sym (cells_placed (drop (suc row) cells))) below_says
+
         -- where the statement does not lead forward, not all do
         pub not_all_forward : (code : List Stmt) (s : Syntax) → syntax_at.0.stmt ≡ Some s → Resolved after draft.syntaxes row code → (LeadsForward language draft.syntaxes (length code) s → ⊥) → AllForward language draft.syntaxes → ⊥
         not_all_forward code s is r none all =
@@ -141,7 +155,7 @@ module _ {Syntax Stmt : Type 0} (language : Language Syntax Stmt) where
             sym (take-append-drop start cell.tokens) ∙ ap (λ (ts : List Token). take start cell.tokens ++ ts) last
             ∙ sym (append_assoc (take start cell.tokens) front (t ∷ []))
 
-        pub jump_tells : (names : List (List ℕ)) (code : List Stmt) (s : Syntax) (at : ℕ) (cause : CellCause) → syntax_at.0.stmt ≡ Some s → Resolved after draft.syntaxes row code → (start : ℕ) → JumpRefused language labels (length code) (drop start cell.tokens) s at cause → TellsBy language names (cells ∷ []) at cause
+        pub jump_tells : (names : List (List ℕ)) (code : List Stmt) (s : Syntax) (at : ℕ) (cause : CellCause) → syntax_at.0.stmt ≡ Some s → Resolved after draft.syntaxes row code → (start : ℕ) → JumpRefused language labels (length code) (drop start cell.tokens) s at cause → TellsBy language names (placed_row cells ∷ []) at cause
         jump_tells names code s at Form is r start f = tt
         jump_tells names code s at Register is r start f = tt
         jump_tells names code s at LabelMissing is r start f = (
@@ -151,9 +165,9 @@ module _ {Syntax Stmt : Type 0} (language : Language Syntax Stmt) where
             syntax_at.0,
             drop (suc row) draft.syntaxes,
             record {
-              above_says = above_says;
-              says = says_at;
-              below_says = below_says;
+              above_says = above_placed;
+              says = placed_says;
+              below_says = below_placed;
               last = refl;
               jump = (s, is, f.is);
             },
@@ -172,9 +186,9 @@ module _ {Syntax Stmt : Type 0} (language : Language Syntax Stmt) where
                 syntax_at.0,
                 drop (suc row) draft.syntaxes,
                 record {
-                  above_says = above_says;
-                  says = says_at;
-                  below_says = below_says;
+                  above_says = above_placed;
+                  says = placed_says;
+                  below_says = below_placed;
                   last = refl;
                   jump = (s, is, f.is);
                 },

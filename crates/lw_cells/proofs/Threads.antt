@@ -15,7 +15,8 @@ use Rattle.lw_base.proofs.GrowingTables.{with_names-append, with_names-longer}
 use Rattle.lw_base.proofs.WellFormedHeads.{with_table-well_formed}
 use Rattle.lw_text.specs.declared.cell.Cell.{Cell}
 use Rattle.lw_text.specs.Frames.{TestFrame}
-use Rattle.lw_text.specs.Places.{cells_texts, all_texts}
+use Rattle.lw_text.specs.Places.{cells_texts, all_texts, placed_row, placed_cells}
+use Rattle.lw_text.proofs.CellPlaces.{grid_placed}
 use Rattle.lw_cells.specs.Languages.{Language, IsLanguage}
 use Rattle.lw_cells.specs.Tests.{Test, IsThread, IsWellFormed}
 use Rattle.lw_cells.specs.Cells.{CellSyntax, MaybeStatement, CellSays, Column, statements, names_in, names_of, code_in, test_on, HasTest}
@@ -93,8 +94,12 @@ module _ {Syntax Stmt : Type 0} (language : Language Syntax Stmt) (lawful : IsLa
         none cut.1 (cut.5, omega (arith, ap length table, with_names-longer (with_names mid (names_in language cut.1)) (names_of language cut.2), few))
 
   -- what is told of a column holds in its columns
-  pub threads_tell : {A : Type 0} (columns front rest : List (List (Cell A))) (column : List (Cell A)) (before mid : List (List ℕ)) (threads : List (List Stmt)) → columns ≡ front ++ column ∷ rest → ColumnsRead language (all_texts front) before threads mid → (at : ℕ) (cause : CellCause) → TellsBy language mid (column ∷ []) at cause → TellsBy language before columns at cause
-  threads_tell columns front rest column before mid threads whole read at cause t = column_tells language before mid columns front rest column read.syntaxes whole read.says read.names at cause t
+  pub threads_tell : {A : Type 0} (columns front rest : List (List (Cell A))) (column : List (Cell A)) (before mid : List (List ℕ)) (threads : List (List Stmt)) → columns ≡ front ++ column ∷ rest → ColumnsRead language (all_texts front) before threads mid → (at : ℕ) (cause : CellCause) → TellsBy language mid (placed_row column ∷ []) at cause
+      → TellsBy language before (placed_cells columns) at cause
+  threads_tell columns front rest column before mid threads whole read at cause t =
+      let parts = ap placed_cells whole ∙ map-append placed_row front (column ∷ rest) in
+      let says = subst (λ (cs : List (List (List (List ℕ)))). AllZip (Column language) cs read.syntaxes) (sym (grid_placed front)) read.says in
+      column_tells language before mid (placed_cells columns) (placed_cells front) (placed_cells rest) (placed_row column) read.syntaxes parts says read.names at cause t
 
   -- what cells say is said by tokens
   column_said : (cells : List (List (List ℕ))) (t : List (CellSyntax Syntax)) → AllZip (CellSays language) cells t → AllSaid language lawful (statements t)

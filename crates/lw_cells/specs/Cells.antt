@@ -3,7 +3,7 @@
 use Rattle.std.specs.Prelude.{◌≡◌, ◌<◌, ◌≤◌, ◌+◌, ℕ, if◌then◌else◌, Option, Some, None, List, [], ◌∷◌, length, map, codes, slice_get, Contains}
 use Rattle.std.specs.List.{flat_map, filter_map, AllZip}
 use Rattle.std.specs.Option.{ForSome}
-use Rattle.lw_base.specs.declared.limits.TheConstants.{MAX_LOCATIONS}
+use Rattle.lw_base.specs.Limits.{most_locations}
 use Rattle.lw_base.specs.Types.{Bytes, NameTable, TokenList, Cells}
 use Rattle.lw_base.specs.Heads.{TestHead, with_table}
 use Rattle.lw_base.specs.Names.{IsLocation, EachOnce}
@@ -95,5 +95,5 @@ module _ {Syntax Stmt : Type 0} (language : Language Syntax Stmt) where
     pub arch : frame.head.arch ≡ language.arch
     pub threads : List (List (CellSyntax Syntax))
     pub says : AllZip Column frame.cells threads
-    pub few : length (with_names frame.head.locs (names_of threads)) ≤ MAX_LOCATIONS
+    pub few : length (with_names frame.head.locs (names_of threads)) ≤ most_locations
     pub made : test ≡ test_on frame.head (with_names frame.head.locs (names_of threads)) threads

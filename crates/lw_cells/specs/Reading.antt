@@ -2,7 +2,7 @@
 use Rattle.std.specs.Prelude.{◌≡◌, ◌≤◌, ◌+◌, ◌⊎◌, ℕ, Option, Some, None, List, [], ◌∷◌, ◌++◌, length, map, take, codes, slice_get, Contains}
 use Rattle.std.specs.List.{AllZip, filter_map}
 use Rattle.std.specs.Option.{option_map}
-use Rattle.lw_base.specs.declared.limits.TheConstants.{MAX_LOCATIONS}
+use Rattle.lw_base.specs.Limits.{most_locations}
 use Rattle.lw_base.specs.Types.{Bytes, NameTable, TokenList, Cells, CellGrid}
 use Rattle.lw_base.specs.declared.fault.CellFault.{CellFault}
 use Rattle.lw_base.specs.declared.fault.CellCause.{CellCause}
@@ -119,13 +119,13 @@ module _ {Syntax Stmt : Type 0} (language : Language Syntax Stmt) where
 
   -- The tokens say the statement, and the table has its location or room for it.
   abbrev pub Fits : NameTable → TokenList → Syntax → Type 0
-  Fits names ts s = language.says ts s × (length (with_names names (named_by s)) ≤ MAX_LOCATIONS)
+  Fits names ts s = language.says ts s × (length (with_names names (named_by s)) ≤ most_locations)
 
   -- The tokens say this, the table has room for it, and so has the thread, in which so many statements stand above.
   pub record FitsBelow (above : ℕ) (names : NameTable) (ts : TokenList) (o : Option Syntax) : Type 0 where
     pub says : MaybeStatement language ts o
     pub few : above + length (statements (bare o ∷ [])) ≤ language.most
-    pub room : length (with_names names (names_in language (bare o ∷ []))) ≤ MAX_LOCATIONS
+    pub room : length (with_names names (names_in language (bare o ∷ []))) ≤ most_locations
 
   -- The token is the first, and can begin a statement.
   abbrev pub BeginsAt : List Token → ℕ → Type 0
@@ -154,12 +154,12 @@ module _ {Syntax Stmt : Type 0} (language : Language Syntax Stmt) where
 
   -- The cells of a thread say this, and the table has room for it.
   abbrev pub ColumnFits : NameTable → Cells → List (CellSyntax Syntax) → Type 0
-  ColumnFits names cells t = Column language cells t × (length (with_names names (names_in language t)) ≤ MAX_LOCATIONS)
+  ColumnFits names cells t = Column language cells t × (length (with_names names (names_in language t)) ≤ most_locations)
 
   -- The cells of some threads say this, and the table has room for it.
   abbrev pub ColumnsFit : NameTable → CellGrid → List (List (CellSyntax Syntax)) → Type 0
   ColumnsFit names columns t =
-      AllZip (Column language) columns t × (length (with_names names (names_of language t)) ≤ MAX_LOCATIONS)
+      AllZip (Column language) columns t × (length (with_names names (names_of language t)) ≤ most_locations)
 
   -- The cells of a thread say its statements.
   pub record ColumnRead (cells : Cells) (before : NameTable) (stmts : List Stmt) (after : NameTable) : Type 0 where

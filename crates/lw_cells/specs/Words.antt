@@ -1,6 +1,6 @@
 -- What one token of a cell is, and why it is refused.
 use Rattle.std.specs.Prelude.{◌≡◌, ◌≤◌, ℕ, Some, length, slice_get, All, Contains}
-use Rattle.lw_base.specs.declared.limits.TheConstants.{MAX_LOCATIONS}
+use Rattle.lw_base.specs.Limits.{most_locations}
 use Rattle.lw_base.specs.Types.{Bytes, NameTable, TokenList}
 use Rattle.lw_base.specs.declared.fault.CellFault.{CellFault}
 use Rattle.lw_base.specs.declared.fault.CellCause.{CellCause}
@@ -32,12 +32,12 @@ LiesWithin len p = All (λ t. t.at ≤ len) p.tokens.now × (p.end ≤ len)
 
 -- A location that the table has, or has room for.
 abbrev pub FitsTable : NameTable → Bytes → Type 0
-FitsTable names n = IsLocation n × (length (with_name names n) ≤ MAX_LOCATIONS)
+FitsTable names n = IsLocation n × (length (with_name names n) ≤ most_locations)
 
 -- The token is a ninth location, and stands at the place.
 abbrev pub IsNinthName : NameTable → Token → ℕ → Type 0
 IsNinthName names t at =
-    (t.at ≡ at) × IsLocation t.text.now × (length names ≡ MAX_LOCATIONS) × (Contains names t.text.now → ⊥)
+    (t.at ≡ at) × IsLocation t.text.now × (length names ≡ most_locations) × (Contains names t.text.now → ⊥)
 
 -- why a token is refused where a location is wanted
 abbrev pub NameCause : NameTable → Token → ℕ → CellCause → Type 0

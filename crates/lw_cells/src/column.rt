@@ -4,7 +4,7 @@ ghost use Rattle.std.specs.Option.{ForSome, option_len};
 ghost use Rattle.lw_base.specs.Types.{NameTable};
 ghost use Rattle.lw_base.specs.Refusals.{NotFound};
 ghost use Rattle.lw_base.specs.declared.fault.CellCause.TheVariants.{TooMany, Memory};
-ghost use Rattle.lw_text.specs.Places.{cells_texts, IsWithin};
+ghost use Rattle.lw_text.specs.Places.{cells_texts, placed_row, IsWithin};
 ghost use Rattle.lw_text.specs.Spans.{texts};
 ghost use Rattle.lw_cells.specs.Languages.{most_of, CanBegin, IsLanguage};
 ghost use Rattle.lw_cells.specs.Cells.{CellSyntax, LeadsForward, code_in, resolved};
@@ -43,7 +43,7 @@ pub(crate) fn read_column<S: Statement, A: Allocator + Copy>(
     requires drafted { AreDrafts S.language S.jump_to S.draft_of }
     ensures found { IfOk result (λ stmts. ColumnRead S.language (cells_texts cells.now) locs.old stmts locs.new) }
     ensures fault { IfErr result (λ f. NotFound Memory f.cause (ColumnFits S.language locs.old (cells_texts cells.now))) }
-    ensures cause { IfErr result (Tells S.language locs.old (cells.now ∷ [])) }
+    ensures cause { IfErr result (Tells S.language locs.old (placed_row cells.now ∷ [])) }
     ensures place { (len : ℕ) → All (IsWithin len) cells.now → IfErr result (λ f. f.at ≤ len) }
 {
     let draft = read_cells::<S, A>(alloc, cells, locs)?;
@@ -59,7 +59,7 @@ fn read_cells<'a, S: Statement, A: Allocator + Copy>(
     requires lawful { IsLanguage S.language }
     ensures found { IfOk result (λ draft. DraftRead S.language S.draft_of cells.now locs.old draft.cells draft.labels locs.new) }
     ensures fault { IfErr result (λ f. NotFound Memory f.cause (ColumnFits S.language locs.old (cells_texts cells.now))) }
-    ensures cause { IfErr result (Tells S.language locs.old (cells.now ∷ [])) }
+    ensures cause { IfErr result (Tells S.language locs.old (placed_row cells.now ∷ [])) }
     ensures place { (len : ℕ) → All (IsWithin len) cells.now → IfErr result (λ f. f.at ≤ len) }
 {
     let mut drafts = Sequence::new(alloc);
@@ -137,7 +137,7 @@ fn resolve<S: Statement, A: Allocator + Copy>(
         → IfOk result (λ code. (code ≡ code_in S.language after read.syntaxes) × AllForward S.language read.syntaxes) }
     ensures fault { (before after : NameTable) (read : DraftRead S.language S.draft_of cells.now before drafts.now labels.now after)
         → IfErr result (λ f. f.cause ≢ Memory → AllForward S.language read.syntaxes → ⊥) }
-    ensures cause { (names : NameTable) → IfErr result (Tells S.language names (cells.now ∷ [])) }
+    ensures cause { (names : NameTable) → IfErr result (Tells S.language names (placed_row cells.now ∷ [])) }
     ensures place { (len : ℕ) → All (IsWithin len) cells.now → IfErr result (λ f. f.at ≤ len) }
 {
     let mut code = Sequence::new(alloc);

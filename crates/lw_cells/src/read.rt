@@ -3,7 +3,7 @@ ghost use Rattle.std.specs.Prelude.{◌≡◌, ℕ, ◌≤◌, ◌-◌, ◌++◌
 ghost use Rattle.lw_base.specs.Refusals.{NotFound};
 ghost use Rattle.lw_base.specs.declared.fault.CellCause.TheVariants.{Memory};
 ghost use Rattle.lw_base.specs.Names.{IsTable};
-ghost use Rattle.lw_text.specs.Places.{all_texts, IsWithin};
+ghost use Rattle.lw_text.specs.Places.{all_texts, placed_cells, IsWithin};
 ghost use Rattle.lw_text.specs.Views.{frame_of};
 ghost use Rattle.lw_cells.specs.Languages.{IsLanguage, arch_of};
 ghost use Rattle.lw_cells.specs.Tests.{IsWellFormed, test_of};
@@ -36,7 +36,7 @@ pub fn read_test<S: Statement + Drop, A: Allocator + Copy>(
     ensures place { IfErr result (λ f. f.at ≤ frame.now.len) }
     ensures memory { IfErr result (λ f. f.cause ≡ Memory → f.at ≡ 0) }
     // What the cause says of the place is so.
-    ensures cause { IfErr result (Tells S.language frame.now.head.locs frame.now.cells) }
+    ensures cause { IfErr result (Tells S.language frame.now.head.locs (placed_cells frame.now.cells)) }
 {
     let mut head = frame.head().copy()?;
     let columns = frame.cells.as_slice();
@@ -58,7 +58,7 @@ fn read_threads<S: Statement + Drop, A: Allocator + Copy>(
     ensures table { OnOk result (IsTable locs.new) }
     ensures words { OnOk result (words.new ≡ words.old ++ replicate (length locs.new - length words.old) 0) }
     ensures fault { IfErr result (λ f. NotFound Memory f.cause (ColumnsFit S.language locs.old (all_texts columns.now))) }
-    ensures cause { IfErr result (Tells S.language locs.old columns.now) }
+    ensures cause { IfErr result (Tells S.language locs.old (placed_cells columns.now)) }
     ensures place { (len : ℕ) → All (λ column. All (IsWithin len) column) columns.now → IfErr result (λ f. f.at ≤ len) }
 {
     let threads = read_columns(alloc, columns, locs)?;
@@ -77,7 +77,7 @@ fn read_columns<S: Statement + Drop, A: Allocator + Copy>(
     requires drafted { AreDrafts S.language S.jump_to S.draft_of }
     ensures found { IfOk result (λ threads. ColumnsRead S.language (all_texts columns.now) locs.old threads locs.new) }
     ensures fault { IfErr result (λ f. NotFound Memory f.cause (ColumnsFit S.language locs.old (all_texts columns.now))) }
-    ensures cause { IfErr result (Tells S.language locs.old columns.now) }
+    ensures cause { IfErr result (Tells S.language locs.old (placed_cells columns.now)) }
     ensures place { (len : ℕ) → All (λ column. All (IsWithin len) column) columns.now → IfErr result (λ f. f.at ≤ len) }
 {
     let mut threads = Sequence::new(alloc);

@@ -1,5 +1,5 @@
 use Rattle.std.proofs.lemmas.List.{length-map}
-use Rattle.lw_text.specs.Places.{cells_texts}
+use Rattle.lw_text.specs.Places.{cells_texts, placed_cells}
 use Rattle.std.proofs.Common.{ℕ, ◌≡◌, ◌-◌, ◌++◌, ap, ◌∙◌, subst, length, arith}
 use Rattle.std.specs.Prelude.{replicate}
 use Rattle.std.proofs.lemmas.Result.{err_from_is_err_and}
@@ -18,7 +18,7 @@ pub returns-in_err-threads-clause-cause : goal.returns-in_err-threads-clause-cau
 returns-in_err-threads-clause-cause g c =
     let same : head_of c.in_ok-head.head ≡ head_of c.args.frame.now.head = c.in_ok-head.ensures ∙ ap head_of c.head.ensures in
     let cause = rw c.as_slice-columns.ensures at c.in_err-threads.ensures.cause in
-    passed_on _ _ c.from_residual-in_err-threads.ensures.1 (subst (λ (h : TestHead). TellsBy g.S.Statement.language h.locs c.args.frame.now.cells c.in_err-threads.field-0.0.at c.in_err-threads.field-0.0.cause) same cause)
+    passed_on _ _ c.from_residual-in_err-threads.ensures.1 (subst (λ (h : TestHead). TellsBy g.S.Statement.language h.locs (placed_cells c.args.frame.now.cells) c.in_err-threads.field-0.0.at c.in_err-threads.field-0.0.cause) same cause)
 
 pub returns-in_err-threads-clause-place : goal.returns-in_err-threads-clause-place
 returns-in_err-threads-clause-place g c =
