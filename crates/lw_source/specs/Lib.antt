@@ -1,3 +1,4 @@
+pub mod Limits
 pub mod Syntax
 pub mod Statements
 pub mod Sources

@@ -6,7 +6,7 @@ use Rattle.lw_cells.specs.Languages.{Language}
 use Rattle.lw_cells.specs.Operands.{operand_registers, operand_numbers}
 use Rattle.lw_cells.specs.Tests.{Test, IsWellFormed}
 use Rattle.lw_cells.specs.Cells.{HasTest}
-use Rattle.lw_source.specs.declared.stmt.TheConstants.{MAX_STATEMENTS}
+use Rattle.lw_source.specs.Limits.{most_statements}
 use Rattle.lw_source.specs.declared.stmt.Stmt.{Stmt}
 use Rattle.lw_source.specs.declared.stmt.Stmt.TheVariants.{Store, Load, Swap, FetchAdd, Set, Sum, IfEq, IfNe, Goto}
 use Rattle.lw_source.specs.Syntax.{StatementSyntax, Stores, Loads, Swaps, Fetch_adds, Sets, Sums, Jumps_if, Jumps_if_not, Jumps, StatementSays, name_of, label_of, CanBegin, BeforeLocation}
@@ -74,7 +74,7 @@ statement x to (Jumps l) = Goto to
 abbrev pub source : Language StatementSyntax Stmt
 source = record {
   arch = Source;
-  most = MAX_STATEMENTS;
+  most = most_statements;
   says = StatementSays;
   name_of = name_of;
   label_of = label_of;

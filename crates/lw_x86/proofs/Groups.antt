@@ -2,7 +2,7 @@
 use Rattle.std.proofs.Common.{◌≡◌, ℕ, ◌≤◌, ◌⊎◌, inl, inr, List, [], ◌∷◌, Some, None, true≢false, suc, length, take, drop, refl, sym, ap, ◌∙◌, subst, arith}
 use Rattle.std.specs.Prelude.{slice_get, codes}
 use Rattle.std.proofs.lemmas.List.{drop-map}
-use Rattle.lw_base.specs.declared.limits.TheConstants.{MAX_LOCATIONS}
+use Rattle.lw_base.specs.Limits.{most_locations}
 use Rattle.lw_base.specs.declared.fault.CellCause.{CellCause}
 use Rattle.lw_base.specs.declared.fault.CellCause.TheVariants.{Form, LabelMissing, LabelTwice, Backward, TooMany, Memory}
 use Rattle.lw_base.specs.declared.fault.CellCause.TheVariants as cause_of
@@ -150,7 +150,7 @@ no_store names ts opens at none s fits =
     (none, ((λ d x f. last_bracket (codes "MOV") ts x d at f.0), (λ d v f. register_bracketed (codes "MOV") ts d v at f.0))) s fits.0 fits
 
 -- a `MOV` without a `[` behind it
-pub no_load : (names ts : List (List ℕ)) → Opens Mov ts → (slice_get ts 1 ≡ Some (codes "[") → ⊥) → slice_get ts 3 ≡ Some (codes "[") → ((m : Mnemonic) (x : List ℕ) (a : ℕ) → last_form m ts x a → length (with_name names x) ≤ MAX_LOCATIONS → ⊥) → (s : InstructionSyntax) → Fits x86 names ts s → ⊥
+pub no_load : (names ts : List (List ℕ)) → Opens Mov ts → (slice_get ts 1 ≡ Some (codes "[") → ⊥) → slice_get ts 3 ≡ Some (codes "[") → ((m : Mnemonic) (x : List ℕ) (a : ℕ) → last_form m ts x a → length (with_name names x) ≤ most_locations → ⊥) → (s : InstructionSyntax) → Fits x86 names ts s → ⊥
 no_load names ts opens free at none s fits =
     by_mnemonic (NoneFits names ts) Mov ts opens
     ((λ x v f. free (ap (λ (t : List (List ℕ)). slice_get t 1) f.0.2)), ((λ d x f. none Mov x d f.0 f.1), (λ d v f. value_bracketed (codes "MOV") ts d v at f.0))) s fits.0 fits
@@ -160,10 +160,10 @@ no_set names ts opens free clear none s fits =
     by_mnemonic (NoneFits names ts) Mov ts opens
     ((λ x v f. free (ap (λ (t : List (List ℕ)). slice_get t 1) f.0.2)), ((λ d x f. clear (ap (λ (t : List (List ℕ)). slice_get t 3) f.0.2)), (λ d v f. none (codes "MOV") d v f.0))) s fits.0 fits
 
-pub no_exchange : (names ts : List (List ℕ)) → Opens Xchg ts → ((m : Mnemonic) (x : List ℕ) (a : ℕ) → exchange_form m ts x a → length (with_name names x) ≤ MAX_LOCATIONS → ⊥) → (s : InstructionSyntax) → Fits x86 names ts s → ⊥
+pub no_exchange : (names ts : List (List ℕ)) → Opens Xchg ts → ((m : Mnemonic) (x : List ℕ) (a : ℕ) → exchange_form m ts x a → length (with_name names x) ≤ most_locations → ⊥) → (s : InstructionSyntax) → Fits x86 names ts s → ⊥
 no_exchange names ts opens none s fits = by_mnemonic (NoneFits names ts) Xchg ts opens (λ x a f. alone x a f.0 f.1) s fits.0 fits
   where
-    alone : (x : List ℕ) (a : ℕ) → Instruction ts (Exchanges x a) → length (with_name names x) ≤ MAX_LOCATIONS → ⊥
+    alone : (x : List ℕ) (a : ℕ) → Instruction ts (Exchanges x a) → length (with_name names x) ≤ most_locations → ⊥
     alone x a (rest, inl same, form) few = none Xchg x a (subst (λ (t : List (List ℕ)). exchange_form Xchg t x a) (sym same) form) few
     alone x a (rest, inr l, form) few =
         let e = one_opening ts Xchg Lock opens (l.0, ap (λ (t : List (List ℕ)). slice_get t 0) l.1, l.2) in absurd cc
@@ -180,20 +180,20 @@ module _ (names ts rest : List (List ℕ)) (opens : Opens Lock ts) (tail : rest 
   not_alone r x a same form =
       let e = one_opening ts Lock Xchg opens (subst (Opens Xchg) (sym same) (exchange_opens r Xchg x a form)) in absurd cc
 
-  no_locked : ((x : List ℕ) (a : ℕ) → exchange_form Xchg rest x a → length (with_name names x) ≤ MAX_LOCATIONS → ⊥) → ((x : List ℕ) (a : ℕ) → first_form Xadd rest x a → length (with_name names x) ≤ MAX_LOCATIONS → ⊥) → (s : InstructionSyntax) → Fits x86 names ts s → ⊥
+  no_locked : ((x : List ℕ) (a : ℕ) → exchange_form Xchg rest x a → length (with_name names x) ≤ most_locations → ⊥) → ((x : List ℕ) (a : ℕ) → first_form Xadd rest x a → length (with_name names x) ≤ most_locations → ⊥) → (s : InstructionSyntax) → Fits x86 names ts s → ⊥
   no_locked exchange add s fits = by_mnemonic (NoneFits names ts) Lock ts opens ((λ x a f. first x a f.0 f.1), (λ x a f. second x a f.0 f.1)) s fits.0 fits
     where
-      first : (x : List ℕ) (a : ℕ) → Instruction ts (Exchanges x a) → length (with_name names x) ≤ MAX_LOCATIONS → ⊥
+      first : (x : List ℕ) (a : ℕ) → Instruction ts (Exchanges x a) → length (with_name names x) ≤ most_locations → ⊥
       first x a (r, inl same, form) few = not_alone r x a same form
       first x a (r, inr l, form) few = exchange x a (subst (λ (t : List (List ℕ)). exchange_form Xchg t x a) (behind_lock r l) form) few
 
-      second : (x : List ℕ) (a : ℕ) → Instruction ts (Exchanges_adding x a) → length (with_name names x) ≤ MAX_LOCATIONS → ⊥
+      second : (x : List ℕ) (a : ℕ) → Instruction ts (Exchanges_adding x a) → length (with_name names x) ≤ most_locations → ⊥
       second x a h few = add x a (subst (λ (t : List (List ℕ)). first_form Xadd t x a) (behind_lock h.0 h.1) h.2) few
 
-  pub no_locked_exchange : Opens Xchg rest → ((m : Mnemonic) (x : List ℕ) (a : ℕ) → exchange_form m rest x a → length (with_name names x) ≤ MAX_LOCATIONS → ⊥) → (s : InstructionSyntax) → Fits x86 names ts s → ⊥
+  pub no_locked_exchange : Opens Xchg rest → ((m : Mnemonic) (x : List ℕ) (a : ℕ) → exchange_form m rest x a → length (with_name names x) ≤ most_locations → ⊥) → (s : InstructionSyntax) → Fits x86 names ts s → ⊥
   no_locked_exchange second none = no_locked (none Xchg) (λ x a form few. (let e = one_opening rest Xchg Xadd second (exchange_opens rest Xadd x a (inl form)) in absurd cc))
 
-  pub no_locked_add : Opens Xadd rest → ((m : Mnemonic) (x : List ℕ) (a : ℕ) → first_form m rest x a → length (with_name names x) ≤ MAX_LOCATIONS → ⊥) → (s : InstructionSyntax) → Fits x86 names ts s → ⊥
+  pub no_locked_add : Opens Xadd rest → ((m : Mnemonic) (x : List ℕ) (a : ℕ) → first_form m rest x a → length (with_name names x) ≤ most_locations → ⊥) → (s : InstructionSyntax) → Fits x86 names ts s → ⊥
   no_locked_add second none = no_locked (λ x a form few. (let e = one_opening rest Xadd Xchg second (exchange_opens rest Xchg x a form) in absurd cc)) (none Xadd)
 
   pub no_locked_other : ((m : Mnemonic) → Opens m rest → (m ≡ Xchg) ⊎ (m ≡ Xadd) → ⊥) → (s : InstructionSyntax) → Fits x86 names ts s → ⊥

@@ -8,7 +8,7 @@ use Rattle.lw_cells.specs.Tests.{Test, IsWellFormed}
 use Rattle.lw_text.specs.Frames.{TestFrame}
 use Rattle.lw_x86.specs.declared.instr.Instr.{Instr}
 use Rattle.lw_x86.specs.declared.instr.Instr.TheVariants.{Store, Load, Set, Add, Cmp, Xchg, Xadd, Mfence, Je, Jne, Jmp}
-use Rattle.lw_x86.specs.declared.instr.TheConstants.{MAX_INSTRUCTIONS}
+use Rattle.lw_x86.specs.Limits.{most_instructions}
 use Rattle.lw_x86.specs.Instructions.{InstructionSyntax, Stores, Loads, Sets, Adds, Compares, Exchanges, Exchanges_adding, Fences, Jumps_if_equal, Jumps_if_not_equal, Jumps, Instruction, name_of, label_of, CanBegin, BeforeLocation}
 
 -- the location that an instruction reads or writes
@@ -84,7 +84,7 @@ instruction x to (Jumps l) = Jmp to
 abbrev pub x86 : Language InstructionSyntax Instr
 x86 = record {
   arch = X86;
-  most = MAX_INSTRUCTIONS;
+  most = most_instructions;
   says = Instruction;
   name_of = name_of;
   label_of = label_of;

@@ -4,7 +4,7 @@ ghost use Rattle.std.specs.List.{AllByRecursion};
 ghost use Rattle.std.specs.String.{string_bytes};
 ghost use Rattle.lw_base.specs.WellFormed.{IsSeen};
 ghost use Rattle.lw_cells.specs.Tests.{test_of};
-ghost use Rattle.lw_base.specs.declared.limits.TheConstants.{MAX_TEXT_BYTES};
+ghost use Rattle.lw_base.specs.Limits.{most_threads, most_text_bytes};
 ghost use Rattle.lw_x86.specs.CanonicalTexts.{header_text, element_text, listed_text, canonical_text};
 ghost use Rattle.lw_x86.specs.Programs.{ProgramTest, IsWellFormedProgram};
 ghost use Rattle.lw_x86.specs.Texts.{IsTextOf};
@@ -12,7 +12,7 @@ ghost use Rattle.lw_x86.specs.Texts.{IsTextOf};
 use crate::block::write_block;
 use crate::program::Program;
 use crate::rows::write_rows;
-use lw_base::{Arch, Head, LocNames, MAX_THREADS, Seen, Text, reg_name, write_condition};
+use lw_base::{Arch, Head, LocNames, Seen, Text, reg_name, write_condition};
 use std::alloc::{AllocError, Allocator};
 
 /// The canonical text of a program.
@@ -22,7 +22,7 @@ pub fn write_program<A: Allocator + Copy, B: Allocator>(
 ) -> Result<Text<A>, AllocError>
     ensures text { IfOk result (λ text. text ≡ canonical_text (test_of program.now.head program.now.threads)) }
     // It can be read: it is short enough, and the program is what it says.
-    ensures short { IfOk result (λ text. length text ≤ MAX_TEXT_BYTES) }
+    ensures short { IfOk result (λ text. length text ≤ most_text_bytes) }
     ensures reads_back { IfOk result (λ text. IsTextOf text (test_of program.now.head program.now.threads)) }
 {
     let head = &program.head;
@@ -45,7 +45,7 @@ pub fn a_canonical_text_reads_back()
 /// The line of the threads' names.
 fn write_header<A: Allocator>(out: &mut String<A>, threads: usize) -> Result<(), AllocError>
     requires some { 1 ≤ threads }
-    requires few { threads ≤ MAX_THREADS }
+    requires few { threads ≤ most_threads }
     ensures { OnOk result (string_bytes out.new ≡ string_bytes out.old ++ header_text threads) }
 {
     out.push_str(" P0")?;

@@ -1,11 +1,11 @@
 //! Reads the instruction of a cell.
-ghost use Rattle.std.specs.Prelude.{◌≡◌, ◌≢◌, ℕ, ◌≤◌, length, drop, Some, slice_get, codes, IfOk, IfErr, OnOk, OnErr};
+ghost use Rattle.std.specs.Prelude.{◌≡◌, ◌≢◌, ℕ, ◌≤◌, length, drop, Some, slice_get, codes, IfOk, IfErr, OnErr};
 ghost use Rattle.lw_base.specs.Types.{Bytes};
 ghost use Rattle.lw_base.specs.Refusals.{NotFound};
 ghost use Rattle.lw_base.specs.declared.fault.CellCause.TheVariants.{Memory};
 ghost use Rattle.lw_base.specs.declared.operand.Operand.{Operand};
 ghost use Rattle.lw_base.specs.Tables.{with_name};
-ghost use Rattle.lw_base.specs.declared.limits.TheConstants.{MAX_LOCATIONS};
+ghost use Rattle.lw_base.specs.Limits.{most_locations};
 ghost use Rattle.lw_text.specs.Spans.{texts};
 ghost use Rattle.lw_cells.specs.Words.{IsMisfit, LiesWithin};
 ghost use Rattle.lw_cells.specs.Reading.{Fits, StatementRead, StatementFault};
@@ -261,7 +261,7 @@ fn read_exchange<A: Allocator + Copy>(
     ensures found { (m : Mnemonic) → Opens m (texts phrase.now.tokens.now)
         → IfOk result (λ a. AccessRead (exchange_form m (texts phrase.now.tokens.now)) locs.old a locs.new) }
     ensures fault { IfErr result (λ f. f.cause ≢ Memory → (m : Mnemonic) (x : Bytes) (a : ℕ)
-        → exchange_form m (texts phrase.now.tokens.now) x a → length (with_name locs.old x) ≤ MAX_LOCATIONS → ⊥) }
+        → exchange_form m (texts phrase.now.tokens.now) x a → length (with_name locs.old x) ≤ most_locations → ⊥) }
     ensures cause { (m : Mnemonic) → Opens m (texts phrase.now.tokens.now) → IfErr result (AccessFault m phrase.now.tokens.now locs.old) }
     ensures place { (len : ℕ) → LiesWithin len phrase.now → IfErr result (λ f. f.at ≤ len) }
 {
@@ -279,7 +279,7 @@ fn read_memory_first<A: Allocator + Copy>(
     ensures found { (m : Mnemonic) → Opens m (texts phrase.now.tokens.now)
         → IfOk result (λ a. AccessRead (first_form m (texts phrase.now.tokens.now)) locs.old a locs.new) }
     ensures fault { IfErr result (λ f. f.cause ≢ Memory → (m : Mnemonic) (x : Bytes) (a : ℕ)
-        → first_form m (texts phrase.now.tokens.now) x a → length (with_name locs.old x) ≤ MAX_LOCATIONS → ⊥) }
+        → first_form m (texts phrase.now.tokens.now) x a → length (with_name locs.old x) ≤ most_locations → ⊥) }
     ensures cause { (m : Mnemonic) → Opens m (texts phrase.now.tokens.now) → IfErr result (FirstFault m phrase.now.tokens.now locs.old) }
     ensures place { (len : ℕ) → LiesWithin len phrase.now → IfErr result (λ f. f.at ≤ len) }
 {
@@ -300,7 +300,7 @@ fn read_memory_last<A: Allocator + Copy>(
     ensures found { (m : Mnemonic) → Opens m (texts phrase.now.tokens.now)
         → IfOk result (λ a. AccessRead (last_form m (texts phrase.now.tokens.now)) locs.old a locs.new) }
     ensures fault { IfErr result (λ f. f.cause ≢ Memory → (m : Mnemonic) (x : Bytes) (a : ℕ)
-        → last_form m (texts phrase.now.tokens.now) x a → length (with_name locs.old x) ≤ MAX_LOCATIONS → ⊥) }
+        → last_form m (texts phrase.now.tokens.now) x a → length (with_name locs.old x) ≤ most_locations → ⊥) }
     ensures cause { (m : Mnemonic) → Opens m (texts phrase.now.tokens.now) → IfErr result (LastFault m phrase.now.tokens.now locs.old) }
     ensures place { (len : ℕ) → LiesWithin len phrase.now → IfErr result (λ f. f.at ≤ len) }
 {

@@ -6,6 +6,7 @@ ghost use Rattle.lw_base.specs.declared.head.Arch.TheVariants as arch;
 ghost use Rattle.lw_base.specs.declared.fault.CellCause.TheVariants.{Memory};
 ghost use Rattle.lw_text.specs.Frames.{TestFrame};
 ghost use Rattle.lw_text.specs.Views.{frame_of};
+ghost use Rattle.lw_text.specs.Places.{placed_cells};
 ghost use Rattle.lw_cells.specs.Faults.{Tells};
 ghost use Rattle.lw_x86.specs.Programs.{ProgramTest, HasProgram, x86};
 ghost use Rattle.lw_x86.specs.Texts.{IsTextOf};
@@ -31,7 +32,7 @@ pub fn read_program<A: Allocator + Copy>(
     ensures place { IfErr result (λ f. f.at ≤ frame.now.len) }
     ensures memory { IfErr result (λ f. f.cause ≡ Memory → f.at ≡ 0) }
     // What the cause says of the place is so.
-    ensures cause { IfErr result (Tells x86 frame.now.head.locs frame.now.cells) }
+    ensures cause { IfErr result (Tells x86 frame.now.head.locs (placed_cells frame.now.cells)) }
 {
     let parts = read_test(alloc, frame)?;
     Ok(Program {
