@@ -4,6 +4,7 @@ ghost use Rattle.std.specs.Option.{ForSome};
 ghost use Rattle.lw_base.specs.Outcomes.{Final};
 ghost use Rattle.lw_base.specs.declared.event.Event.{Event};
 ghost use Rattle.lw_memory.specs.Flat.{flat};
+ghost use Rattle.lw_source.specs.Limits.{most_statements};
 ghost use Rattle.lw_source.specs.declared.stmt.Stmt.{Stmt as Statement};
 ghost use Rattle.lw_source.specs.Runs.{SourceOutcome};
 ghost use Rattle.lw_source.specs.Sources.{target_of};
@@ -90,7 +91,7 @@ fn compile_thread<A: Allocator + Copy>(
     alloc: A,
     stmts: &[Stmt],
 ) -> Result<ThreadCode<A>, AllocError>
-    requires short { length stmts.now ≤ 16 }
+    requires short { length stmts.now ≤ most_statements }
     requires forward { (j : ℕ) (s : Statement) → slice_get stmts.now j ≡ Some s
         → ForSome (target_of s) (λ to. (j < to) × (to ≤ length stmts.now)) }
     ensures { IfOk result (λ code. IsCompiledThread stmts.now code.instrs code.starts) }

@@ -1,6 +1,7 @@
 //! Which statements of a thread need a fence before them, found in one pass with marks.
 ghost use Rattle.std.specs.Prelude.{◌≡◌, ◌<◌, ◌≤◌, ◌+◌, ◌↔◌, ◌&&◌, ℕ, true, false, if◌then◌else◌, Some, length, slice_get, slice_index_or, slice_set, IfOk};
 ghost use Rattle.std.specs.Option.{ForSome};
+ghost use Rattle.lw_source.specs.Limits.{most_statements};
 ghost use Rattle.lw_source.specs.declared.stmt.Stmt.{Stmt as Statement};
 ghost use Rattle.lw_source.specs.Sources.{target_of};
 ghost use Rattle.lw_fence.specs.Fences.{is_load, IsBehindStore, NeedsFence};
@@ -12,7 +13,7 @@ use std::alloc::{AllocError, Allocator};
 /// For each position of a thread's code, its end included, whether a flow path leads to it from a store that may still wait
 /// in the store buffer.
 fn marks_of<A: Allocator>(alloc: A, code: &[Stmt]) -> Result<Vec<bool, A>, AllocError>
-    requires short { length code.now ≤ 16 }
+    requires short { length code.now ≤ most_statements }
     requires forward { (j : ℕ) (s : Statement) → slice_get code.now j ≡ Some s
         → ForSome (target_of s) (λ to. (j < to) × (to ≤ length code.now)) }
     ensures as_many { IfOk result (λ v. length v.items ≡ length code.now + 1) }
@@ -74,7 +75,7 @@ pub(crate) fn fences_of<A: Allocator + Copy>(
     alloc: A,
     code: &[Stmt],
 ) -> Result<Vec<bool, A>, AllocError>
-    requires short { length code.now ≤ 16 }
+    requires short { length code.now ≤ most_statements }
     requires forward { (j : ℕ) (s : Statement) → slice_get code.now j ≡ Some s
         → ForSome (target_of s) (λ to. (j < to) × (to ≤ length code.now)) }
     ensures as_many { IfOk result (λ v. length v.items ≡ length code.now) }

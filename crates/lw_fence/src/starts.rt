@@ -1,5 +1,6 @@
 //! Where the instructions of each statement start.
 ghost use Rattle.std.specs.Prelude.{◌≡◌, ◌≤◌, false, [], length, IfOk};
+ghost use Rattle.lw_source.specs.Limits.{most_statements};
 ghost use Rattle.lw_source.specs.declared.stmt.Stmt.TheVariants.{Sum};
 ghost use Rattle.lw_fence.specs.Compiling.{row, starts_from};
 
@@ -14,7 +15,7 @@ pub(crate) fn starts_of<A: Allocator>(
     code: &[Stmt],
     fences: &[bool],
 ) -> Result<Sequence<usize, A>, AllocError>
-    requires short { length code.now ≤ 16 }
+    requires short { length code.now ≤ most_statements }
     requires as_many { length fences.now ≡ length code.now }
     ensures { IfOk result (λ starts. starts ≡ starts_from 0 fences.now code.now) }
 {

@@ -1,5 +1,6 @@
 -- A memory without caches: one word for each location.
 use Rattle.std.specs.Prelude.{◌≡◌, ℕ, List, Option}
+use Rattle.lw_base.specs.Limits.{most_threads}
 use Rattle.lw_memory.specs.declared.system.LineState.TheVariants.{I}
 use Rattle.lw_memory.specs.declared.system.Request.{Request}
 use Rattle.lw_memory.specs.declared.system.Request.TheVariants.{Evict}
@@ -23,7 +24,7 @@ FlatServes m r a n = WordsServe m.words r a n.words × (n.cpus ≡ m.cpus)
 abbrev pub flat : Memory (List ℕ)
 flat = record {
   content = λ words. words;
-  cpus = λ words. 4;
+  cpus = λ words. most_threads;
   state = λ words t x. I;
   sound = λ words. Unit {0};
   serves = WordsServe;

@@ -1,11 +1,12 @@
 //! A memory without caches.
 ghost use Rattle.std.specs.Prelude.{◌≡◌, ◌≤◌, length};
+ghost use Rattle.lw_base.specs.Limits.{most_threads, most_locations};
 ghost use Rattle.lw_memory.specs.declared.system.LineState.TheVariants.{I};
 ghost use Rattle.lw_memory.specs.Flat.{FlatServes};
 ghost use Rattle.lw_memory.specs.FlatLaws.{flat_lawful};
 
 use crate::system::{LineState, MemorySystem, NotHeld};
-use lw_base::{Cpu, Loc, MAX_LOCATIONS, MAX_THREADS, Word};
+use lw_base::{Cpu, Loc, MAX_LOCATIONS, Word};
 use std::marker::Model;
 
 /// One word for each location, which all processors see at once. It takes no memory.
@@ -19,20 +20,20 @@ pub struct FlatMemory {
 impl Model for FlatMemory {
     ghost use Rattle.std.specs.Prelude.{◌≤◌, take};
     ghost use Rattle.lw_memory.specs.Flat.{Flat};
-    ghost use Rattle.lw_base.specs.declared.limits.TheConstants.{MAX_LOCATIONS, MAX_THREADS};
+    ghost use Rattle.lw_base.specs.Limits.{most_threads, most_locations};
 
     ghost Value = { Flat };
 
     ghost view = { λ m. record { cpus = m.cpus; words = take m.len m.words } };
 
-    ghost invariant = { λ m. (m.cpus ≤ MAX_THREADS) × (m.len ≤ MAX_LOCATIONS) };
+    ghost invariant = { λ m. (m.cpus ≤ most_threads) × (m.len ≤ most_locations) };
 }
 
 impl FlatMemory {
     /// A memory of so many processors, with these words.
     pub fn new(cpus: usize, words: &[Word]) -> Self
-        requires cpus { cpus ≤ MAX_THREADS }
-        requires words { length words.now ≤ MAX_LOCATIONS }
+        requires cpus { cpus ≤ most_threads }
+        requires words { length words.now ≤ most_locations }
         ensures cpus { result.cpus ≡ cpus }
         ensures words { result.words ≡ words.now }
     {

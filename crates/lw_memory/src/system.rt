@@ -1,10 +1,11 @@
 //! What a memory system is: its requests, how it answers them, and its laws.
 ghost use Rattle.std.specs.Prelude.{◌≡◌, ◌<◌, ◌≤◌, ℕ, List, Option, Some, None, length, slice_index, is_ok, OnOk, OnErr};
+ghost use Rattle.lw_base.specs.Limits.{most_threads, most_locations};
 ghost use Rattle.lw_memory.specs.declared.system.LineState.{LineState};
 ghost use Rattle.lw_memory.specs.declared.system.Request.{Request};
 ghost use Rattle.lw_memory.specs.Memory.{memory_of, is_held, Lawful};
 
-use lw_base::{Cpu, Loc, MAX_LOCATIONS, MAX_THREADS, Word};
+use lw_base::{Cpu, Loc, Word};
 
 /// How a cache holds a location.
 #[derive(Clone, Copy, Debug, PartialEq, Eq, Hash)]
@@ -123,13 +124,13 @@ pub trait MemorySystem {
     /// How many processors there are.
     fn cpu_count(&self) -> usize
         ensures count { result ≡ cpus self.now }
-        ensures few { result ≤ MAX_THREADS }
+        ensures few { result ≤ most_threads }
         ensures sound { sound self.now };
 
     /// How many locations there are.
     fn location_count(&self) -> usize
         ensures count { result ≡ length (content self.now) }
-        ensures few { result ≤ MAX_LOCATIONS }
+        ensures few { result ≤ most_locations }
         ensures sound { sound self.now };
 
     /// Puts the system back to its start, with these words. It takes no memory.

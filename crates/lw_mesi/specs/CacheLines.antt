@@ -1,6 +1,6 @@
 -- The cache lines: a set of copies, at most one for each processor and location, and a map of memory words.
 use Rattle.std.specs.Prelude.{◌≡◌, ◌≢◌, ℕ, ◌<◌, ◌≤◌, List, [], ◌∷◌, map, length, Option, Some, None, slice_index_or}
-use Rattle.lw_base.specs.declared.limits.TheConstants.{MAX_THREADS}
+use Rattle.lw_base.specs.Limits.{most_threads}
 use Rattle.lw_memory.specs.declared.system.LineState.{LineState}
 use Rattle.lw_memory.specs.declared.system.LineState.TheVariants.{M, O, E, S, I}
 
@@ -97,7 +97,7 @@ IsDirty Invalid = ⊥
 
 -- Single writer or many readers, and one word.
 pub record IsCoherentCacheLine (line : CacheLine) : Type 0 where
-  pub four : length line.copies ≡ MAX_THREADS
+  pub four : length line.copies ≡ most_threads
   -- beside an M or E copy there is no other copy
   pub alone : (t u : ℕ) → IsOnlyCopy (copy_of line t) → t ≢ u → copy_of line u ≡ Invalid
   -- at most one copy is M or O
@@ -107,5 +107,5 @@ pub record IsCoherentCacheLine (line : CacheLine) : Type 0 where
 
 -- The same of every location.
 pub record IsCoherent (m : Caches) : Type 0 where
-  pub few : m.cpus ≤ MAX_THREADS
+  pub few : m.cpus ≤ most_threads
   pub lines : (x : ℕ) → x < length m.lines → IsCoherentCacheLine (line_at m.lines x)

@@ -1,5 +1,6 @@
 -- What one location's packed record stands for.
 use Rattle.std.specs.Prelude.{◌≡◌, ℕ, ◌<◌, Some, None, Bool, true, false, if◌then◌else◌, slice_index_or, length}
+use Rattle.lw_base.specs.Limits.{most_threads}
 use Rattle.lw_mesi.specs.declared.cache_line.PackedCacheLine.TheInside.{Inside}
 use Rattle.lw_mesi.specs.Places.{at_each, nobody, is_owner}
 use Rattle.lw_mesi.specs.CacheLines.{Copy, Modified, Owned, Exclusive, Shared, Invalid, CacheLine}
@@ -25,9 +26,9 @@ unpacked p = record { copies = at_each (copy_at p); memory = p.memory }
 
 -- What a packed record keeps. Without copies its word is memory's.
 pub record IsPacked (p : Inside) : Type 0 where
-  pub four : length p.sharers ≡ 4
+  pub four : length p.sharers ≡ most_threads
   -- an owner is one of the four and no sharer, and has sharers beside it only in O
-  pub in_range : (o : ℕ) → p.owner ≡ Some o → o < 4
+  pub in_range : (o : ℕ) → p.owner ≡ Some o → o < most_threads
   pub apart : (o : ℕ) → p.owner ≡ Some o → slice_index_or p.sharers o false ≡ false
   pub alone : (o : ℕ) → p.owner ≡ Some o → p.is_owned ≡ false → p.sharers ≡ nobody
   -- only an owner is dirty, and only what is dirty is in O

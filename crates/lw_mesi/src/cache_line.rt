@@ -1,5 +1,6 @@
 //! One location's copies and memory's word, packed into one record.
 ghost use Rattle.std.specs.Prelude.{◌≡◌, ◌<◌, Some, is_ok, OnOk, OnErr};
+ghost use Rattle.lw_base.specs.Limits.{most_threads};
 ghost use Rattle.lw_memory.specs.Memory.{is_held};
 ghost use Rattle.lw_mesi.specs.CacheLines.{Invalid, unheld_line, copy_of, letter_of, word_of, content_of};
 ghost use Rattle.lw_mesi.specs.declared.protocol.Protocol.{Protocol};
@@ -9,7 +10,7 @@ ghost use Rattle.lw_mesi.specs.Places.{is_owner};
 
 use crate::cpu_set::CpuSet;
 use crate::protocol::Protocol;
-use lw_base::{Cpu, MAX_THREADS, Word};
+use lw_base::{Cpu, Word};
 use lw_memory::{LineState, NotHeld};
 use std::marker::Model;
 
@@ -58,7 +59,7 @@ impl PackedCacheLine {
 
     /// How a processor holds the line.
     pub fn state_of(&self, cpu: Cpu) -> LineState
-        requires { cpu < MAX_THREADS }
+        requires { cpu < most_threads }
         ensures { result ≡ letter_of (copy_of self.now cpu) }
     {
         if is_owner(self.owner, cpu) {
@@ -90,7 +91,7 @@ impl PackedCacheLine {
 
     /// The word of a processor's copy, where it has one.
     pub fn copy(&self, cpu: Cpu) -> Option<Word>
-        requires { cpu < MAX_THREADS }
+        requires { cpu < most_threads }
         ensures { result ≡ word_of (copy_of self.now cpu) }
     {
         if is_owner(self.owner, cpu) || self.sharers.contains(cpu) {
@@ -102,7 +103,7 @@ impl PackedCacheLine {
 
     /// The word that a processor's load takes, under a protocol.
     pub fn load(&mut self, protocol: Protocol, cpu: Cpu) -> Word
-        requires cpu { cpu < MAX_THREADS }
+        requires cpu { cpu < most_threads }
         requires states { HasStatesOf protocol self.old }
         ensures word { Some result ≡ word_of (copy_of (line_to_read (table_of protocol) cpu self.old) cpu) }
         ensures line { self.new ≡ line_to_read (table_of protocol) cpu self.old }
@@ -115,7 +116,7 @@ impl PackedCacheLine {
 
     /// The bus transaction of a load without a copy, and the word that it brings.
     fn get_s(&mut self, protocol: Protocol, cpu: Cpu) -> Word
-        requires cpu { cpu < MAX_THREADS }
+        requires cpu { cpu < most_threads }
         requires states { HasStatesOf protocol self.old }
         requires without { copy_of self.old cpu ≡ Invalid }
         ensures word { Some result ≡ word_of (copy_of (line_to_read (table_of protocol) cpu self.old) cpu) }
@@ -146,7 +147,7 @@ impl PackedCacheLine {
 
     /// Writes a word, and answers the one that it replaces. The writer becomes the only holder, in M.
     pub fn write(&mut self, cpu: Cpu, word: Word) -> Word
-        requires { cpu < MAX_THREADS }
+        requires { cpu < most_threads }
         ensures word { (p : Protocol) → HasStatesOf p self.old
             → Some result ≡ word_of (copy_of (line_to_write (table_of p) cpu self.old) cpu) }
         ensures line { (p : Protocol) → HasStatesOf p self.old
@@ -163,7 +164,7 @@ impl PackedCacheLine {
 
     /// Lets a processor's copy go, the word of one in M or O to memory.
     pub fn evict(&mut self, cpu: Cpu) -> Result<(), NotHeld>
-        requires { cpu < MAX_THREADS }
+        requires { cpu < most_threads }
         ensures held { is_ok result ≡ is_held (letter_of (copy_of self.old cpu)) }
         ensures ok { OnOk result ((p : Protocol) → HasStatesOf p self.old → self.new ≡ line_evicted (table_of p) cpu self.old) }
         ensures err { OnErr result (self.new ≡ self.old) }

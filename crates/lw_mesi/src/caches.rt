@@ -1,5 +1,6 @@
 //! Caches that snoop on one atomic bus, over one memory, by either protocol.
 ghost use Rattle.std.specs.Prelude.{◌≡◌, ◌<◌, ◌≤◌, length, map, IfOk};
+ghost use Rattle.lw_base.specs.Limits.{most_threads, most_locations};
 ghost use Rattle.lw_mesi.specs.CacheLines.{unheld_line, empty_caches, copy_of, line_at, word_of, contents_of, memory_words_of, state_in};
 ghost use Rattle.lw_mesi.specs.Snooping.{Serves};
 ghost use Rattle.lw_mesi.specs.Protocols.{table_of, IsKept};
@@ -7,7 +8,7 @@ ghost use Rattle.lw_mesi.specs.ProtocolLaws.{protocol_lawful};
 
 use crate::cache_line::PackedCacheLine;
 use crate::protocol::{ByMesi, ByMoesi, KeptProtocol};
-use lw_base::{Cpu, Loc, MAX_LOCATIONS, MAX_THREADS, Word};
+use lw_base::{Cpu, Loc, Word};
 use lw_memory::{LineState, MemorySystem, NotHeld};
 use std::alloc::{AllocError, Allocator, Global};
 use std::marker::{Model, PhantomData};
@@ -34,13 +35,13 @@ impl<P: KeptProtocol, A: Allocator> Model for SnoopingCaches<P, A> {
     ghost use Rattle.std.specs.Prelude.{◌≤◌, length};
     ghost use Rattle.lw_mesi.specs.CacheLines.{Caches};
     ghost use Rattle.lw_mesi.specs.Protocols.{IsKept};
-    ghost use Rattle.lw_base.specs.declared.limits.TheConstants.{MAX_LOCATIONS};
+    ghost use Rattle.lw_base.specs.Limits.{most_locations};
 
     ghost Value = { Caches };
 
     ghost view = { λ m. record { cpus = m.cpus; lines = m.lines.items } };
 
-    ghost invariant = { λ m. (length m.lines.items ≤ MAX_LOCATIONS)
+    ghost invariant = { λ m. (length m.lines.items ≤ most_locations)
         × IsKept P.protocol (record { cpus = m.cpus; lines = m.lines.items }) };
 }
 
@@ -48,8 +49,8 @@ impl<P: KeptProtocol, A: Allocator + Copy> SnoopingCaches<P, A> {
     /// Empty caches of so many processors, over a memory with these words. An error is that memory ran out; no later
     /// call takes any.
     pub fn new(alloc: A, cpus: usize, words: &[Word]) -> Result<Self, AllocError>
-        requires cpus { cpus ≤ MAX_THREADS }
-        requires words { length words.now ≤ MAX_LOCATIONS }
+        requires cpus { cpus ≤ most_threads }
+        requires words { length words.now ≤ most_locations }
         ensures cpus { IfOk result (λ m. m.cpus ≡ cpus) }
         ensures lines { IfOk result (λ m. m.lines ≡ map unheld_line words.now) }
         ensures kept { IfOk result (IsKept P.protocol) }

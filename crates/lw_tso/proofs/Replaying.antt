@@ -10,7 +10,7 @@ use Rattle.lw_base.specs.Threads.{value_of, code_of}
 use Rattle.lw_base.specs.Types.{NameTable}
 use Rattle.lw_base.specs.declared.event.Event.{Event}
 use Rattle.lw_base.specs.declared.event.Event.TheVariants.{Step, Drain, Evict}
-use Rattle.lw_base.specs.declared.limits.TheConstants.{MAX_THREADS, REGISTERS}
+use Rattle.lw_base.specs.Limits.{most_threads, registers}
 use Rattle.lw_base.specs.declared.stop.Stop.{Stop}
 use Rattle.lw_base.specs.declared.stop.Stop.TheVariants.{NoCpu, NoLocation, FenceWaits, SwapWaits}
 use Rattle.lw_memory.specs.Memory.{Memory, Lawful, is_held}
@@ -41,7 +41,7 @@ all_set P (y ∷ ys) (suc i) x all is = (all.0, all_set P ys i x all.1 is)
 -- ---- an act leaves a processor its registers
 
 abbrev pub HasRegisters : Processor → Type 0
-HasRegisters p = length p.regs ≡ REGISTERS
+HasRegisters p = length p.regs ≡ registers
 
 -- what an act makes of its processor has them
 abbrev pub LeavesRegisters : Act → Type 0
@@ -109,7 +109,7 @@ module _ {M : Type 0} (mem : Memory M) where
   evicted_there false t x locs p q m n lt done = absurd (let e : ◌≡◌ {A = Answer} (Ok tt) (Err NoLocation) = done.0 in cc)
 
   -- an event that is carried out, of a processor that is there
-  there : (program : List (List Instr)) (names : NameTable) (e : Event) (p q : Processor) (m n : M) → cpu_of e < MAX_THREADS → length (mem.content m) ≡ length names
+  there : (program : List (List Instr)) (names : NameTable) (e : Event) (p q : Processor) (m n : M) → cpu_of e < most_threads → length (mem.content m) ≡ length names
       → ActDone mem (cpu_of e) (event_act program (length (mem.content m)) e p) p m (Ok tt) q n → IsEvent names e
   there program names (Step t) p q m n lt locs done = lt
   there program names (Drain t) p q m n lt locs done = lt
@@ -123,7 +123,7 @@ module _ {M : Type 0} (mem : Memory M) where
     words : length (mem.content s.memory) ≡ locs
     sound : mem.sound s.memory
 
-  module _ (laws : Lawful mem) (program : List (List Instr)) (names : NameTable) (threads : ℕ) (few : threads ≤ MAX_THREADS) where
+  module _ (laws : Lawful mem) (program : List (List Instr)) (names : NameTable) (threads : ℕ) (few : threads ≤ most_threads) where
     event_of : (e : Event) (s after : MachineState M) → IsMachineOf threads (length names) s → EventDone mem program e s (Ok tt) after → IsEvent names e × IsMachineOf threads (length names) after
     event_of e s after is done = go (slice_get s.processors (cpu_of e)) refl done
       where
@@ -153,11 +153,11 @@ module _ {M : Type 0} (mem : Memory M) where
         let rest = run_of es ran.0 end first.1 ran.2 in
         ((first.0, rest.0), rest.1)
 
-rows_have : (ps : List Processor) → AllByRecursion HasRegisters ps → AllByRecursion (λ row. length row ≡ REGISTERS) (map (λ p. p.regs) ps)
+rows_have : (ps : List Processor) → AllByRecursion HasRegisters ps → AllByRecursion (λ row. length row ≡ registers) (map (λ p. p.regs) ps)
 rows_have [] all = tt
 rows_have (p ∷ ps) all = (all.0, rows_have ps all.1)
 
-starts_have : (rows : List (List ℕ)) → AllByRecursion (λ row. length row ≡ REGISTERS) rows → AllByRecursion HasRegisters (map starting rows)
+starts_have : (rows : List (List ℕ)) → AllByRecursion (λ row. length row ≡ registers) rows → AllByRecursion HasRegisters (map starting rows)
 starts_have [] all = tt
 starts_have (row ∷ rows) all = (all.0, starts_have rows all.1)
 
