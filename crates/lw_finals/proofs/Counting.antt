@@ -1,7 +1,7 @@
 -- The orders of all choices are counted, choice by choice; and what a refusal on the way tells.
 use Rattle.std.proofs.Common.{◌≡◌, ℕ, ◌+◌, ◌<◌, ◌≤◌, List, [], ◌∷◌, refl, ◌∙◌, subst, inl, inr, arith}
 use Rattle.std.specs.Prelude.{All, Contains}
-use Rattle.lw_orders.specs.declared.limits.TheConstants.{MAX_ITEMS, MAX_ORDERS}
+use Rattle.lw_orders.specs.Limits.{most_items, most_orders}
 use Rattle.lw_finals.specs.declared.fault.ListFault.{ListFault}
 use Rattle.lw_finals.specs.declared.fault.ListFault.TheVariants.{TooManyItems, TooManyOrders, Memory}
 use Rattle.lw_finals.specs.Choices.{IsForward, choices_of}
@@ -15,13 +15,13 @@ module _ {S : Type 0} (language : Language S) where
   -- what a counter is after a visit
   abbrev pub Counts : List (List S) → ℕ → List (List ℕ) → List (List S) → ℕ → Type 0
   Counts program before paths after_program after =
-      (after_program ≡ program) × (items_at_choice language program paths ≤ MAX_ITEMS)
-      × (after ≡ before + orders_at_choice language program paths) × (after ≤ MAX_ORDERS)
+      (after_program ≡ program) × (items_at_choice language program paths ≤ most_items)
+      × (after ≡ before + orders_at_choice language program paths) × (after ≤ most_orders)
 
   -- why one of some choices was refused, where those before them have so many orders
   abbrev Tells : List (List S) → ℕ → List (List (List ℕ)) → ListFault → Type 0
-  Tells program before choices TooManyItems = (paths : List (List ℕ)) × Contains choices paths × (MAX_ITEMS < items_at_choice language program paths)
-  Tells program before choices TooManyOrders = MAX_ORDERS < before + orders_of language program choices
+  Tells program before choices TooManyItems = (paths : List (List ℕ)) × Contains choices paths × (most_items < items_at_choice language program paths)
+  Tells program before choices TooManyOrders = most_orders < before + orders_of language program choices
   Tells program before choices Memory = Unit {0}
 
   tells_here : (program : List (List S)) (before : ℕ) (paths : List (List ℕ)) (choices : List (List (List ℕ))) (e : ListFault) → TellsOfChoice language program before paths e → Tells program before (paths ∷ choices) e
@@ -41,21 +41,21 @@ module _ {S : Type 0} (language : Language S) where
     tells_all TooManyOrders h = omega (arith, h)
     tells_all Memory h = tt
 
-    pub none_too_many : ((paths : List (List ℕ)) → Contains (choices_of language.flow program) paths → items_at_choice language program paths ≤ MAX_ITEMS) → HasTooManyItems language program → ⊥
-    none_too_many all (paths, is, h) = let l : items_at_choice language program paths ≤ MAX_ITEMS = all paths ((choices_are_all language.flow program paths forward).1 is) in omega arith
+    pub none_too_many : ((paths : List (List ℕ)) → Contains (choices_of language.flow program) paths → items_at_choice language program paths ≤ most_items) → HasTooManyItems language program → ⊥
+    none_too_many all (paths, is, h) = let l : items_at_choice language program paths ≤ most_items = all paths ((choices_are_all language.flow program paths forward).1 is) in omega arith
 
   module _ {V : Type 0} (program_of : V → List (List S)) (count : V → ℕ) (visits : V → List (List ℕ) → V → Type 0) (refuses : V → List (List ℕ) → ListFault → Type 0) (program : List (List S)) where
     -- the counter counts, and refuses for its reasons
     module _ (each : (v : V) (paths : List (List ℕ)) (w : V) → visits v paths w → Counts (program_of v) (count v) paths (program_of w) (count w))
         (why : (v : V) (paths : List (List ℕ)) (e : ListFault) → refuses v paths e → TellsOfChoice language (program_of v) (count v) paths e) where
-      counted : (choices : List (List (List ℕ))) (v w : V) → program_of v ≡ program → count v ≤ MAX_ORDERS → Visited visits choices v w
-          → ((paths : List (List ℕ)) → Contains choices paths → items_at_choice language program paths ≤ MAX_ITEMS) × (count v + orders_of language program choices ≤ MAX_ORDERS)
+      counted : (choices : List (List (List ℕ))) (v w : V) → program_of v ≡ program → count v ≤ most_orders → Visited visits choices v w
+          → ((paths : List (List ℕ)) → Contains choices paths → items_at_choice language program paths ≤ most_items) × (count v + orders_of language program choices ≤ most_orders)
       counted [] v w is few h = ((λ paths c. absurd (none_in paths c)), omega arith)
       counted (paths ∷ choices) v w is few (mid, one, rest) =
           let h : Counts program (count v) paths (program_of mid) (count mid) = subst (λ (p : List (List S)). Counts p (count v) paths (program_of mid) (count mid)) is (each v paths mid one) in
           let more = counted choices mid w h.0 h.3 rest in (
             (λ p c. elim (Contains-cons paths p choices c) [
-              | inl e ↦ subst (λ (q : List (List ℕ)). items_at_choice language program q ≤ MAX_ITEMS) e h.1
+              | inl e ↦ subst (λ (q : List (List ℕ)). items_at_choice language program q ≤ most_items) e h.1
               | inr r ↦ more.0 p r
             ]),
             omega (arith, more.1, h.2),
@@ -71,7 +71,7 @@ module _ {S : Type 0} (language : Language S) where
       module _ (forward : All (IsForward language.flow) program) where
         -- all choices were counted
         pub all_counted : (v w : V) → program_of v ≡ program → count v ≡ 0 → Visited visits (choices_of language.flow program) v w
-            → (HasTooManyItems language program → ⊥) × (total_of language program ≤ MAX_ORDERS)
+            → (HasTooManyItems language program → ⊥) × (total_of language program ≤ most_orders)
         all_counted v w is none h =
             let all = counted (choices_of language.flow program) v w is (omega (arith, none)) h in
             (none_too_many program forward all.0, omega (arith, all.1, none))

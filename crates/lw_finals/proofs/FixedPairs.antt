@@ -6,7 +6,7 @@ use Rattle.std.specs.Option.{ForSome}
 use Rattle.std.proofs.lemmas.Bool.{cases_eq, eq-eqb, ne_eqb, cond-true, cond-false}
 use Rattle.std.proofs.lemmas.List.Elements.{All-nil, All-cons, All-append, All-weaker, Contains-append_left, Contains-append_right}
 use Rattle.lw_orders.specs.Order.{GoUp, IsWellFormed}
-use Rattle.lw_orders.specs.declared.limits.TheConstants.{MAX_ITEMS}
+use Rattle.lw_orders.specs.Limits.{most_items}
 use Rattle.lw_finals.specs.declared.item.Item.{Item}
 use Rattle.lw_finals.specs.declared.item.Last.{Last}
 use Rattle.lw_finals.specs.Items.{Language, item_at, none_before, behind, fixed_at, last_with, last_of, pairs_from, do_conflict, does_wait, fixed_from, constraints_of}
@@ -165,7 +165,7 @@ module _ {S : Type 0} (language : Language S) (program : List (List S)) where
   conflicts_up items = All-passing (conflict_at items) (In 0 (length items)) (λ p. (p.0 < p.1) × (p.1 < length items)) (pairs_from 0 (length items)) (pairs_up 0 (length items)) (λ p h e. (h.1, omega (arith, h.2)))
 
   -- items that aren't too many are well-formed with their pairs
-  pub constraints_well_formed : (items : List Item) → length items ≤ MAX_ITEMS → IsWellFormed (constraints_of language program items)
+  pub constraints_well_formed : (items : List Item) → length items ≤ most_items → IsWellFormed (constraints_of language program items)
   constraints_well_formed items few = record {
     few = few;
     fixed_up = All-weaker (GoesAlong items (length items)) (λ (p : ℕ × ℕ). (p.0 < p.1) × (p.1 < length items)) (λ p h. (h.0, h.1)) (constraints_of language program items).fixed (fixed_along items);
@@ -174,7 +174,7 @@ module _ {S : Type 0} (language : Language S) (program : List (List S)) where
   }
 
   -- so are items with pairs that are theirs
-  pub well_formed_with : (items : List Item) (fixed conflicts : List (ℕ × ℕ)) → length items ≤ MAX_ITEMS → fixed ≡ fixed_from language program 0 0 none_before items → conflicts ≡ (constraints_of language program items).conflicts
+  pub well_formed_with : (items : List Item) (fixed conflicts : List (ℕ × ℕ)) → length items ≤ most_items → fixed ≡ fixed_from language program 0 0 none_before items → conflicts ≡ (constraints_of language program items).conflicts
       → IsWellFormed (record { len = length items; fixed = fixed; conflicts = conflicts })
   well_formed_with items fixed conflicts few f c =
       subst (λ (ps : List (ℕ × ℕ)). IsWellFormed (record { len = length items; fixed = ps; conflicts = conflicts })) (sym f)

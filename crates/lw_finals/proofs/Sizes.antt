@@ -5,7 +5,7 @@ use Rattle.std.proofs.lemmas.Bool.{cases_lt}
 use Rattle.std.proofs.lemmas.List.{length-set, get_or-set_same, get_or-set_other}
 use Rattle.std.specs.Option.{option_to_list}
 use Rattle.std.proofs.lemmas.Option.{slice_get_within}
-use Rattle.lw_orders.specs.declared.limits.TheConstants.{MAX_ITEMS}
+use Rattle.lw_orders.specs.Limits.{most_items}
 use Rattle.lw_finals.specs.Choices.{Flow, IsForward, IsPathFrom, IsChoice, Follows, led}
 use Rattle.lw_finals.specs.Counts.{HasTooManyItems, items_at_choice}
 use Rattle.lw_finals.specs.Items.{Language, items_at, path_items, items_from}
@@ -158,10 +158,10 @@ module _ {S : Type 0} (language : Language S) where
       more [] is = absurd is
       more (path ∷ paths) is = omega (arith, together code others path paths, first.none_more path is.0, rest.none_more paths is.1)
 
-  pub too_many : (program : List (List S)) (m : ℕ) → IsMost (IsChoice language.flow program) (items_at_choice language program) m → MAX_ITEMS < m → HasTooManyItems language program
+  pub too_many : (program : List (List S)) (m : ℕ) → IsMost (IsChoice language.flow program) (items_at_choice language program) m → most_items < m → HasTooManyItems language program
   too_many program m most lt = (most.one, most.is_one, omega (arith, most.reached, lt))
 
-  pub few_enough : (program : List (List S)) (m : ℕ) → IsMost (IsChoice language.flow program) (items_at_choice language program) m → m ≤ MAX_ITEMS → HasTooManyItems language program → ⊥
+  pub few_enough : (program : List (List S)) (m : ℕ) → IsMost (IsChoice language.flow program) (items_at_choice language program) m → m ≤ most_items → HasTooManyItems language program → ⊥
   few_enough program m most le (paths, choice, lt) = omega (arith, most.none_more paths choice, le, lt)
 
 -- ---- the positions behind one

@@ -11,7 +11,7 @@ use Rattle.lw_memory.specs.Flat.{flat}
 use Rattle.lw_mesi.specs.declared.protocol.Protocol.{Protocol}
 use Rattle.lw_mesi.specs.declared.protocol.Protocol.TheVariants.{Mesi}
 use Rattle.lw_orders.specs.Order.{IsWellFormed, IsLinearExtension, Alike}
-use Rattle.lw_orders.specs.declared.limits.TheConstants.{MAX_ITEMS}
+use Rattle.lw_orders.specs.Limits.{most_items}
 use Rattle.lw_tso.specs.Evictions.{without_evictions}
 use Rattle.lw_tso.specs.Runs.{Replays, MachineOutcome}
 use Rattle.lw_x86.specs.declared.instr.Instr.{Instr}
@@ -54,7 +54,7 @@ module _ (test : ProgramTest) (is : IsWellFormedProgram test) (few : HasTooManyI
     (choices : (o : Final) → MachineOutcome flat test test.head.init_words o
     ↔ ((paths : List (List ℕ)) × IsChoice x86_flow test.threads paths × ChoiceOutcome flat test test.head.init_words paths o)) where
   formed : (paths : List (List ℕ)) → IsChoice x86_flow test.threads paths → IsWellFormed (choice_constraints x86_language test.threads (Ends test) paths)
-  formed paths choice = elim (cases_lt MAX_ITEMS (items_at_choice x86_language test.threads paths)) [
+  formed paths choice = elim (cases_lt most_items (items_at_choice x86_language test.threads paths)) [
     | inl many ↦ absurd (few (paths, choice, many))
     | inr within ↦ constraints_well_formed x86_language test.threads (items_of x86_language test.threads paths) within
   ]

@@ -1,7 +1,7 @@
 -- How many orders a test may have, and the limits of lists.
 use Rattle.std.specs.Prelude.{◌<◌, ◌≤◌, ◌+◌, ℕ, List, [], ◌∷◌, length}
 use Rattle.lw_orders.specs.Order.{count_of}
-use Rattle.lw_orders.specs.declared.limits.TheConstants.{MAX_ITEMS, MAX_ORDERS}
+use Rattle.lw_orders.specs.Limits.{most_items, most_orders}
 use Rattle.lw_finals.specs.Choices.{IsChoice, choices_of}
 use Rattle.lw_finals.specs.Items.{Language, items_of, constraints_of}
 use Rattle.lw_finals.specs.declared.fault.ListFault.{ListFault}
@@ -28,38 +28,38 @@ module _ {S : Type 0} (language : Language S) (program : List (List S)) where
 
   -- some choice has more items than a list takes
   abbrev pub HasTooManyItems : Type 0
-  HasTooManyItems = (paths : List (List ℕ)) × IsChoice language.flow program paths × (MAX_ITEMS < items_at_choice paths)
+  HasTooManyItems = (paths : List (List ℕ)) × IsChoice language.flow program paths × (most_items < items_at_choice paths)
 
   -- Why a list is refused: too many items, which is looked for first, or too many orders.
   abbrev pub TellsLimit : ListFault → Type 0
   TellsLimit TooManyItems = HasTooManyItems
-  TellsLimit TooManyOrders = (HasTooManyItems → ⊥) × (MAX_ORDERS < total_of)
+  TellsLimit TooManyOrders = (HasTooManyItems → ⊥) × (most_orders < total_of)
   TellsLimit Memory = Unit {0}
 
   -- neither
   abbrev pub IsWithinLimits : Type 0
-  IsWithinLimits = (HasTooManyItems → ⊥) × (total_of ≤ MAX_ORDERS)
+  IsWithinLimits = (HasTooManyItems → ⊥) × (total_of ≤ most_orders)
 
   -- why a choice is refused, where those before it have so many orders
   abbrev pub TellsOfChoice : ℕ → List (List ℕ) → ListFault → Type 0
-  TellsOfChoice before paths TooManyItems = MAX_ITEMS < items_at_choice paths
-  TellsOfChoice before paths TooManyOrders = MAX_ORDERS < before + orders_at_choice paths
+  TellsOfChoice before paths TooManyItems = most_items < items_at_choice paths
+  TellsOfChoice before paths TooManyOrders = most_orders < before + orders_at_choice paths
   TellsOfChoice before paths Memory = Unit {0}
 
   -- why its items are refused
   abbrev pub TellsOfItems : List (List ℕ) → ListFault → Type 0
-  TellsOfItems paths TooManyItems = MAX_ITEMS < items_at_choice paths
+  TellsOfItems paths TooManyItems = most_items < items_at_choice paths
   TellsOfItems paths TooManyOrders = ⊥
   TellsOfItems paths Memory = Unit {0}
 
   -- why there are no runs of some items' orders
   abbrev pub TellsOfGiven : List Item → ListFault → Type 0
   TellsOfGiven items TooManyItems = ⊥
-  TellsOfGiven items TooManyOrders = MAX_ORDERS < count_of (constraints_of language program items)
+  TellsOfGiven items TooManyOrders = most_orders < count_of (constraints_of language program items)
   TellsOfGiven items Memory = Unit {0}
 
   -- why a visit of all choices is refused
   abbrev pub TellsOfChoices : ListFault → Type 0
   TellsOfChoices TooManyItems = HasTooManyItems
-  TellsOfChoices TooManyOrders = MAX_ORDERS < total_of
+  TellsOfChoices TooManyOrders = most_orders < total_of
   TellsOfChoices Memory = Unit {0}

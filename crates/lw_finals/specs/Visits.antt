@@ -1,7 +1,9 @@
 -- Visits of all choices, one after another.
 use Rattle.std.specs.Prelude.{◌≡◌, ℕ, suc, ◌-◌, ◌<◌, ◌≤◌, All, ◌++◌, List, [], ◌∷◌, length, map, drop, ◌⊎◌}
 use Rattle.std.specs.List.{flat_map}
+use Rattle.lw_base.specs.Limits.{most_threads}
 use Rattle.lw_base.specs.Threads.{code_of}
+use Rattle.lw_x86.specs.Limits.{most_instructions}
 use Rattle.lw_finals.specs.Choices.{Flow, IsForward, paths_from, choices_of}
 
 -- each of the choices is visited once, in their order
@@ -18,8 +20,8 @@ module _ {S : Type 0} (flow : Flow S) where
   -- A program whose choices have room: at most four threads of at most 32 statements, whose jumps lead forward, at most to the
   -- end.
   pub record IsVisitable (program : List (List S)) : Type 0 where
-    pub few : length program ≤ 4
-    pub short : All (λ code. length code ≤ 32) program
+    pub few : length program ≤ most_threads
+    pub short : All (λ code. length code ≤ most_instructions) program
     pub forward : All (IsForward flow) program
 
   -- the whole paths from a position of a thread
@@ -38,4 +40,4 @@ module _ {S : Type 0} (flow : Flow S) where
     pub thread : length choice < length program
     pub begun : length path ≤ at
     pub within : at ≤ length (code_of program (length choice))
-    pub within_32 : at ≤ 32
+    pub within_32 : at ≤ most_instructions

@@ -1,6 +1,6 @@
 //! The conflicts of the items of a choice: only items that access a location can conflict.
 ghost use Rattle.std.specs.Prelude.{◌≡◌, ◌≤◌, ◌++◌, length, IfOk, OnOk};
-ghost use Rattle.lw_orders.specs.declared.limits.TheConstants.{MAX_ITEMS};
+ghost use Rattle.lw_orders.specs.Limits.{most_items};
 ghost use Rattle.lw_finals.specs.Accesses.{access_by, accesses_from, meets, conflicts_with};
 ghost use Rattle.lw_finals.specs.Items.{constraints_of, statement_of as stands_for};
 
@@ -61,7 +61,7 @@ fn accesses_of<S: Statement, A: Allocator, B: Allocator>(
     program: &[Sequence<S, B>],
     items: &[Item],
 ) -> Result<Vec<Access, A>, AllocError>
-    requires { length items.now ≤ MAX_ITEMS }
+    requires { length items.now ≤ most_items }
     ensures { IfOk result (λ v. v.items ≡ accesses_from S.language program.now 0 items.now) }
 {
     let mut accesses = Vec::new(alloc);
@@ -96,7 +96,7 @@ pub(crate) fn conflicts_of<S: Statement, A: Allocator + Copy, B: Allocator>(
     program: &[Sequence<S, B>],
     items: &[Item],
 ) -> Result<Vec<(u8, u8), A>, AllocError>
-    requires { length items.now ≤ MAX_ITEMS }
+    requires { length items.now ≤ most_items }
     ensures { IfOk result (λ v. v.items ≡ (constraints_of S.language program.now items.now).conflicts) }
 {
     let accesses = accesses_of(alloc, program, items)?;

@@ -1,7 +1,7 @@
 //! How many orders there may be.
 ghost use Rattle.std.specs.Prelude.{◌≡◌, ◌+◌, ◌<◌, ◌≤◌, length, IfOk, IfErr, OnOk, MatchOption};
 ghost use Rattle.lw_orders.specs.Order.{count_of};
-ghost use Rattle.lw_orders.specs.declared.limits.TheConstants.{MAX_ITEMS, MAX_ORDERS};
+ghost use Rattle.lw_orders.specs.Limits.{most_items, most_orders};
 ghost use Rattle.lw_finals.specs.Counts.{items_at_choice, orders_at_choice, TellsOfItems, TellsOfChoice};
 ghost use Rattle.lw_finals.specs.Items.{constraints_of, items_of};
 ghost use Rattle.lw_finals.specs.Views.{choice_of};
@@ -25,7 +25,7 @@ pub(crate) fn fill_few_items<S: Statement, A: Allocator, B: Allocator>(
     items: &mut Vec<Item, A>,
 ) -> Result<(), ListFault>
     ensures ok { OnOk result (items.new.items ≡ items_of S.language program.now (choice_of choice.now)) }
-    ensures few { OnOk result (length items.new.items ≤ MAX_ITEMS) }
+    ensures few { OnOk result (length items.new.items ≤ most_items) }
     ensures err { IfErr result (TellsOfItems S.language program.now (choice_of choice.now)) }
 {
     fill_items(program, choice, items)?;
@@ -42,7 +42,7 @@ pub(crate) fn constrained<S: Statement, A: Allocator, B: Allocator>(
     items: &[Item],
     conflicts: Vec<(u8, u8), A>,
 ) -> Result<Items<A>, AllocError>
-    requires few { length items.now ≤ MAX_ITEMS }
+    requires few { length items.now ≤ most_items }
     requires conflicts { conflicts.items ≡ (constraints_of S.language program.now items.now).conflicts }
     ensures { IfOk result (λ t. t ≡ constraints_of S.language program.now items.now) }
 {
@@ -57,10 +57,10 @@ fn count_orders<S: Statement, A: Allocator + Copy, B: Allocator>(
     program: &[Sequence<S, B>],
     items: &[Item],
 ) -> Result<Option<u64>, AllocError>
-    requires { length items.now ≤ MAX_ITEMS }
+    requires { length items.now ≤ most_items }
     ensures { IfOk result (λ c. MatchOption c
-        (MAX_ORDERS < count_of (constraints_of S.language program.now items.now))
-        (λ n. (n ≡ count_of (constraints_of S.language program.now items.now)) × (n ≤ MAX_ORDERS))) }
+        (most_orders < count_of (constraints_of S.language program.now items.now))
+        (λ n. (n ≡ count_of (constraints_of S.language program.now items.now)) × (n ≤ most_orders))) }
 {
     let conflicts = conflicts_of(alloc, program, items)?;
     if conflicts.is_empty() {
@@ -83,8 +83,8 @@ impl<'a, S: Statement, A: Allocator + Copy, B: Allocator> Visitor for Counter<'a
     type Fault = ListFault;
 
     ghost visits = { λ v paths w. (w.program.now ≡ v.program.now)
-        × (items_at_choice S.language v.program.now paths ≤ MAX_ITEMS)
-        × (w.total ≡ v.total + orders_at_choice S.language v.program.now paths) × (w.total ≤ MAX_ORDERS) };
+        × (items_at_choice S.language v.program.now paths ≤ most_items)
+        × (w.total ≡ v.total + orders_at_choice S.language v.program.now paths) × (w.total ≤ most_orders) };
 
     ghost refuses = { λ v paths e. TellsOfChoice S.language v.program.now v.total paths e };
 

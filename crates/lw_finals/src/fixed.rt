@@ -1,6 +1,6 @@
 //! The fixed pairs of the items of a choice.
 ghost use Rattle.std.specs.Prelude.{◌≡◌, ◌≤◌, ◌++◌, ◌||◌, [], if◌then◌else◌, length, IfOk, OnOk, option_copied};
-ghost use Rattle.lw_orders.specs.declared.limits.TheConstants.{MAX_ITEMS};
+ghost use Rattle.lw_orders.specs.Limits.{most_items};
 ghost use Rattle.lw_finals.specs.Items as choice_items;
 ghost use Rattle.lw_finals.specs.Items.{none_before, behind, last_with, last_of, does_wait, fixed_from};
 
@@ -107,7 +107,7 @@ pub(crate) fn fixed_of<S: Statement, A: Allocator, B: Allocator>(
     program: &[Sequence<S, B>],
     items: &[Item],
 ) -> Result<Vec<(u8, u8), A>, AllocError>
-    requires { length items.now ≤ MAX_ITEMS }
+    requires { length items.now ≤ most_items }
     ensures { IfOk result (λ v. v.items ≡ fixed_from S.language program.now 0 0 none_before items.now) }
 {
     let mut pairs = Vec::new(alloc);

@@ -1,11 +1,10 @@
 //! The outcomes of a program are gathered, choice by choice and order by order.
-ghost use Rattle.std.specs.Prelude.{◌≡◌, ℕ, ◌<◌, ◌≤◌, [], length, All, IfOk, IfErr, OnOk};
+ghost use Rattle.std.specs.Prelude.{◌≡◌, ◌<◌, ◌≤◌, [], length, All, IfOk, IfErr, OnOk};
 ghost use Rattle.lw_orders.specs.Order.{count_of};
 ghost use Rattle.lw_orders.specs.Sequence.{orders};
-ghost use Rattle.lw_orders.specs.declared.limits.TheConstants.{MAX_ITEMS, MAX_ORDERS};
+ghost use Rattle.lw_orders.specs.Limits.{most_items, most_orders};
 ghost use Rattle.lw_finals.specs.Counts.{total_of, HasTooManyItems, TellsOfChoice, TellsOfChoices, TellsOfGiven, TellsLimit, IsWithinLimits};
 ghost use Rattle.lw_finals.specs.Gathered.{Gathers, EndsOfOrders, EndsOfItems, EndsOfChoice, EndsOfProgram};
-ghost use Rattle.lw_finals.specs.Items.{constraints_of};
 ghost use Rattle.lw_finals.specs.Listings.{IsStrictlySorted};
 ghost use Rattle.lw_finals.specs.Visits.{IsVisitable};
 
@@ -52,7 +51,7 @@ fn gather_orders<A: Allocator + Copy, R: OrderRunner<A> + Drop>(
     found: &mut Findings<A>,
 ) -> Result<(), AllocError>
     requires as_many { constraints.now.len ≡ length items.now }
-    requires few { count_of constraints.now ≤ MAX_ORDERS }
+    requires few { count_of constraints.now ≤ most_orders }
     ensures same { R.test runner.new ≡ R.test runner.old }
     ensures gathered { OnOk result (Gathers
         (EndsOfOrders (R.ends (R.test runner.old) items.now) (orders constraints.now))
@@ -72,7 +71,7 @@ fn gather_items<S: Statement, A: Allocator + Copy, B: Allocator, R: OrderRunner<
     items: &[Item],
     found: &mut Findings<A>,
 ) -> Result<(), ListFault>
-    requires { length items.now ≤ MAX_ITEMS }
+    requires { length items.now ≤ most_items }
     ensures same { R.test runner.new ≡ R.test runner.old }
     ensures gathered { OnOk result (Gathers
         (EndsOfItems S.language (R.ends (R.test runner.old)) program.now items.now)
@@ -132,7 +131,7 @@ fn check_orders<S: Statement, A: Allocator + Copy, B: Allocator>(
 ) -> Result<(), ListFault>
     requires { IsVisitable S.language.flow program.now }
     ensures items { OnOk result (HasTooManyItems S.language program.now → ⊥) }
-    ensures orders { OnOk result (total_of S.language program.now ≤ MAX_ORDERS) }
+    ensures orders { OnOk result (total_of S.language program.now ≤ most_orders) }
     ensures err { IfErr result (TellsOfChoices S.language program.now) }
 {
     let mut counter = Counter {

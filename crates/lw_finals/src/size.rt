@@ -1,6 +1,5 @@
 //! How many items a choice of paths has at most, with no walk over all choices: the longest path of each thread, by items.
-ghost use Rattle.std.specs.Prelude.{◌≡◌, ◌+◌, ◌*◌, ◌<◌, ◌≤◌, ℕ, Contains, length, OnOk, IfErr, slice_get, slice_index, Some};
-ghost use Rattle.lw_orders.specs.declared.limits.TheConstants.{MAX_ITEMS};
+ghost use Rattle.std.specs.Prelude.{◌≡◌, ◌+◌, ◌*◌, ◌<◌, ◌≤◌, ℕ, Contains, length, OnOk, IfErr, slice_index, Some};
 ghost use Rattle.lw_finals.specs.Choices.{IsForward, IsPathFrom, IsChoice, led};
 ghost use Rattle.lw_finals.specs.Counts.{HasTooManyItems, items_at_choice};
 ghost use Rattle.lw_finals.specs.Sizes.{IsMost, statement_size, path_size};

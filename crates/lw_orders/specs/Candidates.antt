@@ -1,6 +1,6 @@
 -- Used within the crate: the search for the lowest free item, among the candidates that are left.
 use Rattle.std.specs.Prelude.{ℕ, ◌≡◌, ◌<◌, true, false, List, Option, Some, None, slice_index}
-use Rattle.lw_orders.specs.declared.limits.TheConstants.{MAX_ITEMS}
+use Rattle.lw_orders.specs.Limits.{most_items}
 use Rattle.lw_orders.specs.Sets.{has, apart, leads_by}
 
 -- no pair leads to the item from one that is left
@@ -13,8 +13,8 @@ Waits rows left i = apart (slice_index rows i) left ≡ false
 
 -- of the old candidates those are no more that are reached from one that waits
 pub record Narrowed (len : ℕ) (rows reach : List ℕ) (left old new : ℕ) : Type 0 where
-  pub kept : (k : ℕ) → k < MAX_ITEMS → has new k ≡ true → has old k ≡ true
-  pub dropped : (k : ℕ) → k < MAX_ITEMS → has old k ≡ true → has new k ≡ false
+  pub kept : (k : ℕ) → k < most_items → has new k ≡ true → has old k ≡ true
+  pub dropped : (k : ℕ) → k < most_items → has old k ≡ true → has new k ≡ false
       → (i : ℕ) × (i < len) × (has old i ≡ true) × Waits rows left i × (leads_by reach i k ≡ true)
 
 -- the lowest candidate, and it is free. None: there is no candidate

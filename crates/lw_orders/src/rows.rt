@@ -1,6 +1,7 @@
 //! Rows: a set of items for each item.
 
 ghost use Rattle.std.specs.Prelude.{◌≡◌, ℕ, ◌<◌, ◌||◌, slice_index};
+ghost use Rattle.lw_orders.specs.Limits.{most_items};
 ghost use Rattle.lw_orders.specs.Sequence.{Within};
 ghost use Rattle.lw_orders.specs.Sets.{has, joins, AreRows};
 
@@ -12,7 +13,7 @@ pub type Rows = [ItemSet; MAX_ITEMS];
 
 /// The set of an item.
 pub fn row(rows: &Rows, item: usize) -> ItemSet
-    requires { item < MAX_ITEMS }
+    requires { item < most_items }
     ensures { result ≡ slice_index rows.now item }
 {
     rows[item]
@@ -20,7 +21,7 @@ pub fn row(rows: &Rows, item: usize) -> ItemSet
 
 /// For each item the set of those from which a pair leads to it.
 pub fn rows_of(pairs: &[(u8, u8)]) -> Rows
-    requires { Within MAX_ITEMS pairs.now }
+    requires { Within most_items pairs.now }
     ensures { AreRows pairs.now result }
 {
     let mut rows = [ItemSet::empty(); MAX_ITEMS];
@@ -30,8 +31,8 @@ pub fn rows_of(pairs: &[(u8, u8)]) -> Rows
 
 /// Puts the first item of each pair into the set of its second.
 pub fn add_pairs(rows: &mut Rows, pairs: &[(u8, u8)])
-    requires { Within MAX_ITEMS pairs.now }
-    ensures { (i j : ℕ) → i < MAX_ITEMS → j < MAX_ITEMS →
+    requires { Within most_items pairs.now }
+    ensures { (i j : ℕ) → i < most_items → j < most_items →
         has (slice_index rows.new i) j ≡ (has (slice_index rows.old i) j || joins pairs.now j i) }
 {
     for pair in pairs {
