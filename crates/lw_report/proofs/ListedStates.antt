@@ -7,14 +7,13 @@ use Rattle.std.specs.Ordering.{nat_cmp}
 use Rattle.std.specs.declared.cmp.Ordering.TheVariants.{Less}
 use Rattle.std.proofs.lemmas.Bool.{cases_lt}
 use Rattle.std.proofs.lemmas.List.{get_or-map, length-map}
-use Rattle.std.proofs.lemmas.List.Elements.{All-push, All-contains, Contains-append_left, Contains-push, Contains-get_or}
+use Rattle.std.proofs.lemmas.List.Elements.{All-push, All-contains, All-get_or, Contains-append_left, Contains-push, Contains-get_or}
 use Rattle.std.proofs.lemmas.List.Sorted.{All-permutation, Contains-permutation}
 use Rattle.std.proofs.lemmas.Option.{same_Some, slice_get_within, slice_get-get_or, get_or_from_slice_get}
 use Rattle.lw_base.specs.Heads.{TestHead}
 use Rattle.lw_base.specs.Outcomes.{Final, IsOutcomeOf}
-use Rattle.lw_base.specs.declared.event.Event.{Event}
-use Rattle.lw_base.specs.WellFormed.{IsWellFormedHead}
-use Rattle.lw_finals.specs.Listings.{Entries, IsEntryOf, outcomes_of}
+use Rattle.lw_base.specs.WellFormed.{SpeaksOf}
+use Rattle.lw_finals.specs.Listings.{Entries, outcomes_of}
 use Rattle.lw_report.specs.Gathered.{state_at, Shows, AreStatesOfFirst, AreFirstStates}
 use Rattle.lw_report.specs.Observed.{projected}
 use Rattle.lw_report.specs.States.{Shown, ListedState, shown, shown_of, ShowsFirst, AreListedStates}
@@ -23,13 +22,10 @@ use Rattle.lw_report.proofs.Truths.{words_agree}
 
 -- ---- the outcomes of entries
 
-pub outcome_of_entry : (head : TestHead) (entries : Entries) (k : ℕ) (o : Final) → All (IsEntryOf head) entries → slice_get (outcomes_of entries) k ≡ Some o → IsOutcomeOf head.threads (length head.locs) o
+pub outcome_of_entry : (head : TestHead) (entries : Entries) (k : ℕ) (o : Final) → All (IsOutcomeOf head.threads (length head.locs)) (outcomes_of entries) → slice_get (outcomes_of entries) k ≡ Some o → IsOutcomeOf head.threads (length head.locs) o
 outcome_of_entry head entries k o each at =
-    let d : Final × List Event = (o, []) in
-    let first : Final × List Event → Final = λ e. e.0 in
-    let within : k < length entries = omega (arith, slice_get_within (outcomes_of entries) k o at, length-map entries first) in
-    let is : (get_or entries k d).0 ≡ o = sym (get_or-map first entries k d o within) ∙ get_or_from_slice_get (outcomes_of entries) k o o at in
-    subst (IsOutcomeOf head.threads (length head.locs)) is (each k d within).outcome
+    let P : Final → Type 0 = IsOutcomeOf head.threads (length head.locs) in
+    subst P (get_or_from_slice_get (outcomes_of entries) k o o at) (All-get_or P (outcomes_of entries) k o (slice_get_within (outcomes_of entries) k o at) each)
 
 -- ---- one for each
 
@@ -82,7 +78,7 @@ module _ (states : List ListedState) where
 
 -- ---- the first of each
 
-module _ (head : TestHead) (outcomes : List Final) (all states : List ListedState) (formed : IsWellFormedHead head) (are : AreStatesOfFirst head outcomes (length outcomes) all) (firsts : AreFirstStates all states) where
+module _ (head : TestHead) (outcomes : List Final) (all states : List ListedState) (speaks : SpeaksOf head.threads (length head.locs) head.condition) (are : AreStatesOfFirst head outcomes (length outcomes) all) (firsts : AreFirstStates all states) where
   each_there : (o : Final) → Contains outcomes o → Contains (map shown_of states) (shown head o)
   each_there o h =
       let at : slice_get outcomes h.0 ≡ Some o = slice_get-get_or outcomes h.0 o h.1 ∙ ap Some h.2 in
@@ -90,7 +86,7 @@ module _ (head : TestHead) (outcomes : List Final) (all states : List ListedStat
       let s : ListedState = found.0 in
       let from : Shows head outcomes s = All-contains (Shows head outcomes) all s are.shows (All-contains (λ t. Contains all t) states s firsts.among found.1) in
       let words : projected head from.outcome ≡ projected head o = ap (λ (t : Shown). t.words) from.shows ∙ found.2 in
-      let truth : is_true head.condition from.outcome ≡ is_true head.condition o = words_agree head from.outcome o formed words in
+      let truth : is_true head.condition from.outcome ≡ is_true head.condition o = words_agree head from.outcome o speaks words in
       let same : shown head from.outcome ≡ shown head o = cc in
       subst (Contains (map shown_of states)) (sym from.shows ∙ same) (shown_there states s found.1)
 

@@ -1,5 +1,5 @@
 -- Two lists in one strict order that have the same elements are one.
-use Rattle.std.proofs.Common.{◌≡◌, ℕ, zero, suc, ◌<◌, ◌⊎◌, inl, inr, List, [], ◌∷◌, length, refl, sym, ◌∙◌, subst, arith}
+use Rattle.std.proofs.Common.{◌≡◌, ◌↔◌, ℕ, zero, suc, ◌<◌, ◌⊎◌, inl, inr, List, [], ◌∷◌, length, refl, sym, ap, ◌∙◌, subst, arith}
 use Rattle.std.specs.Prelude.{All, Contains, slice_index_or}
 use Rattle.std.specs.List.{AllPairs}
 use Rattle.std.specs.Cmp.Lexicographic.{slice_cmp}
@@ -9,7 +9,9 @@ use Rattle.std.proofs.lemmas.Cmp.{nat_list_cmp_total, tied_itself}
 use Rattle.std.proofs.lemmas.List.Elements.{All-contains}
 use Rattle.lw_base.specs.Heads.{TestHead}
 use Rattle.lw_base.specs.Outcomes.{Final}
+use Rattle.lw_report.specs.Reports.{IsReport, report_text}
 use Rattle.lw_report.specs.States.{Shown, AreStatesOf}
+use Rattle.lw_report.specs.declared.judgement.Claim.{Claim}
 
 -- ---- members
 
@@ -75,7 +77,14 @@ not_below_itself xs h = let e = tied_itself nat_list_cmp_total xs in cc
 pub strict_words : (first later : Shown) → slice_cmp nat_cmp first.words later.words ≡ Less → slice_cmp nat_cmp later.words first.words ≡ Less → ⊥
 strict_words first later h k = not_below_itself first.words (nat_list_cmp_total.trans first.words later.words first.words h k)
 
-pub one_list_of_states : (head : TestHead) (outcomes : List Final) (states others : List Shown) → AreStatesOf head (Contains outcomes) states → AreStatesOf head (Contains outcomes) others → states ≡ others
-one_list_of_states head outcomes states others a b =
-    one_list (λ (first later : Shown). slice_cmp nat_cmp first.words later.words ≡ Less) strict_words states others a.sorted b.sorted
-    (λ s h. (b.exactly s).1 ((a.exactly s).0 h)) (λ s h. (a.exactly s).1 ((b.exactly s).0 h))
+module _ (head : TestHead) (Has Also : Final → Type 0) (same : (o : Final) → Has o ↔ Also o) where
+  -- sets with the same outcomes have the same states
+  pub one_list_of_states : (states others : List Shown) → AreStatesOf head Has states → AreStatesOf head Also others → states ≡ others
+  one_list_of_states states others a b =
+      one_list (λ (first later : Shown). slice_cmp nat_cmp first.words later.words ≡ Less) strict_words states others a.sorted b.sorted
+      (λ s h. let e = (a.exactly s).0 h in (b.exactly s).1 (e.0, (same e.0).0 e.1, e.2))
+      (λ s h. let e = (b.exactly s).0 h in (a.exactly s).1 (e.0, (same e.0).1 e.1, e.2))
+
+  -- and the same report
+  pub one_report : (claim : Claim) (text other : List ℕ) → IsReport head Has claim text → IsReport head Also claim other → text ≡ other
+  one_report claim text other a b = a.is ∙ ap (report_text head claim) (one_list_of_states a.states b.states a.are b.are) ∙ sym b.is

@@ -3,15 +3,14 @@ use Rattle.std.proofs.Common.{◌≡◌, ℕ, ◌<◌, Some, List, [], ◌∷◌
 use Rattle.std.specs.Prelude.{All, slice_index_or}
 use Rattle.std.specs.List.{AllByRecursion, flat_map}
 use Rattle.std.proofs.lemmas.List.{length-map}
-use Rattle.std.proofs.lemmas.List.Elements.{All-weaker, All-map, All-get_or}
+use Rattle.std.proofs.lemmas.List.Elements.{All-weaker, All-get_or}
 use Rattle.std.proofs.lemmas.Map.Entries.{length-keys_of}
 use Rattle.std.proofs.lemmas.Option.{slice_get_within, get_or_from_slice_get}
 use Rattle.lw_base.specs.Types.{Bytes, NameTable}
 use Rattle.lw_base.specs.Heads.{TestHead}
-use Rattle.lw_base.specs.Outcomes.{Final}
 use Rattle.lw_base.specs.Schedules.{IsEvent, schedule_text}
 use Rattle.lw_base.specs.declared.event.Event.{Event}
-use Rattle.lw_finals.specs.Listings.{Entries, IsEntryOf, outcomes_of, schedules_of}
+use Rattle.lw_finals.specs.Listings.{Entries, outcomes_of, schedules_of}
 use Rattle.lw_report.specs.Labels.{schedule_line}
 use Rattle.lw_report.specs.Reports.{state_line, scheduled, scheduled_lines, count_line, schedule_list_text}
 use Rattle.lw_report.specs.States.{ListedState, ShowsFirst, AreListedStates}
@@ -28,11 +27,10 @@ pub state_within : (len : ℕ) (states : List ListedState) (k : ℕ) (s : Listed
 state_within len states k s all lt is = subst (λ (t : ListedState). t.entry < len) (sym is) (All-get_or (λ (t : ListedState). t.entry < len) states k s lt all)
 
 -- the schedule of an entry speaks of the test's locations
-pub schedule_there : (head : TestHead) (entries : Entries) (k : ℕ) (events : List Event) → All (IsEntryOf head) entries → slice_get (schedules_of entries) k ≡ Some events → AllByRecursion (IsEvent head.locs) events
+pub schedule_there : (head : TestHead) (entries : Entries) (k : ℕ) (events : List Event) → All (AllByRecursion (IsEvent head.locs)) (schedules_of entries) → slice_get (schedules_of entries) k ≡ Some events → AllByRecursion (IsEvent head.locs) events
 schedule_there head entries k events all at =
     let P : List Event → Type 0 = AllByRecursion (IsEvent head.locs) in
-    let each : All P (schedules_of entries) = All-map P (λ (e : Final × List Event). e.1) entries (All-weaker (IsEntryOf head) (λ (e : Final × List Event). P e.1) (λ e is. is.schedule) entries all) in
-    subst P (get_or_from_slice_get (schedules_of entries) k events events at) (All-get_or P (schedules_of entries) k events (slice_get_within (schedules_of entries) k events at) each)
+    subst P (get_or_from_slice_get (schedules_of entries) k events events at) (All-get_or P (schedules_of entries) k events (slice_get_within (schedules_of entries) k events at) all)
 
 -- a schedule's line
 pub schedule_told : (names : NameTable) (schedules : List (List Event)) (k : ℕ) (events : List Event) (text : Bytes) → slice_get schedules k ≡ Some events → text ≡ schedule_text names events → codes " " ++ (text ++ codes "\n") ≡ schedule_line names schedules k

@@ -5,7 +5,7 @@ use Rattle.std.proofs.lemmas.Bool.{cases_Bool, or_cases, or_right}
 use Rattle.lw_base.specs.Formula.{Formula, Yes, No, Reg_is, Word_is, Not, And, Or}
 use Rattle.lw_base.specs.Heads.{TestHead}
 use Rattle.lw_base.specs.Outcomes.{Final}
-use Rattle.lw_base.specs.WellFormed.{IsWellFormedHead, SpeaksOf}
+use Rattle.lw_base.specs.WellFormed.{SpeaksOf}
 use Rattle.lw_base.specs.declared.head.Seen.{Seen}
 use Rattle.lw_base.specs.declared.head.Seen.TheVariants.{Register, Location}
 use Rattle.lw_text.specs.Frames.{same_seen, all_registers, locations}
@@ -48,7 +48,7 @@ module _ (threads locs : ℕ) (o p : Final) where
       let right : is_true psi o ≡ is_true psi p = same_truth psi speaks.1 (λ s h k. same s h (or_right (is_named phi s) (is_named psi s) k)) in
       rw (left, right) refl
 
-pub words_agree : (head : TestHead) (o p : Final) → IsWellFormedHead head → projected head o ≡ projected head p → is_true head.condition o ≡ is_true head.condition p
-words_agree head o p formed e =
-    same_truth head.threads (length head.locs) o p head.condition formed.condition
+pub words_agree : (head : TestHead) (o p : Final) → SpeaksOf head.threads (length head.locs) head.condition → projected head o ≡ projected head p → is_true head.condition o ≡ is_true head.condition p
+words_agree head o p speaks e =
+    same_truth head.threads (length head.locs) o p head.condition speaks
     (λ s h k. same_word (final_word o) (final_word p) (is_observed head) (all_registers head.threads ++ locations (length head.locs)) s e h (rw k refl))

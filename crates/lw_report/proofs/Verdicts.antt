@@ -28,11 +28,11 @@ kept {X} p (x ∷ xs) = go (cases_Bool (p x)) (kept p xs)
     go (inr t) (inr some) = inr (rw t some.0, (some.1.0, behind_front x xs some.1.0 some.1.1, some.1.2))
 
 -- the same of outcomes, where the states are theirs
-module _ (head : TestHead) (outcomes : List Final) (states : List Shown) (are : AreStatesOf head (Contains outcomes) states) (p : Bool → Bool) where
+module _ (head : TestHead) (Has : Final → Type 0) (states : List Shown) (are : AreStatesOf head Has states) (p : Bool → Bool) where
   abbrev pub Counted : Type 0
   Counted =
-      ((length (filter (λ (s : Shown). p s.holds) states) == 0) ≡ true) × ((o : Final) → Contains outcomes o → p (is_true head.condition o) ≡ false)
-      ⊎ ((length (filter (λ (s : Shown). p s.holds) states) == 0) ≡ false) × ((o : Final) × Contains outcomes o × (p (is_true head.condition o) ≡ true))
+      ((length (filter (λ (s : Shown). p s.holds) states) == 0) ≡ true) × ((o : Final) → Has o → p (is_true head.condition o) ≡ false)
+      ⊎ ((length (filter (λ (s : Shown). p s.holds) states) == 0) ≡ false) × ((o : Final) × Has o × (p (is_true head.condition o) ≡ true))
 
   counted : Counted
   counted = go (kept (λ (s : Shown). p s.holds) states)
@@ -51,8 +51,8 @@ not_true : (b : Bool) → not b ≡ true → b ≡ false
 not_true true e = absurd cc
 not_true false e = refl
 
-module _ (head : TestHead) (outcomes : List Final) (states : List Shown) (are : AreStatesOf head (Contains outcomes) states) where
-  meant : Counted head outcomes states are (λ b. b) → Counted head outcomes states are not → MeansOfAll head outcomes (positive states) (negative states)
+module _ (head : TestHead) (Has : Final → Type 0) (states : List Shown) (are : AreStatesOf head Has states) where
+  meant : Counted head Has states are (λ b. b) → Counted head Has states are not → MeansOfAll head Has (positive states) (negative states)
   meant (inl no_true) (inl no_false) = record {
     exists_some = rw no_true.0 (λ e. absurd cc, λ s. absurd (let t = s.2 in let f = no_true.1 s.0 s.1 in cc));
     exists_none = rw no_true.0 (λ e. no_true.1, λ f. refl);
@@ -74,5 +74,5 @@ module _ (head : TestHead) (outcomes : List Final) (states : List Shown) (are : 
     all = rw some_false.0 (λ e. absurd cc, λ f. absurd (let t = f some_false.1.0 some_false.1.1 in let u = not_true (is_true head.condition some_false.1.0) some_false.1.2 in cc));
   }
 
-  pub means_of_all : MeansOfAll head outcomes (positive states) (negative states)
-  means_of_all = meant (counted head outcomes states are (λ b. b)) (counted head outcomes states are not)
+  pub means_of_all : MeansOfAll head Has (positive states) (negative states)
+  means_of_all = meant (counted head Has states are (λ b. b)) (counted head Has states are not)

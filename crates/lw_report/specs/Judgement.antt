@@ -1,5 +1,5 @@
 -- What is told of a test's condition, by the numbers of the states that make its proposition true and that do not.
-use Rattle.std.specs.Prelude.{◌≡◌, ◌↔◌, ℕ, true, false, not, ◌==◌, if◌then◌else◌, List, length, filter, Contains}
+use Rattle.std.specs.Prelude.{◌≡◌, ◌↔◌, ℕ, true, false, not, ◌==◌, if◌then◌else◌, List, length, filter}
 use Rattle.lw_base.specs.declared.head.Quant.{Quant}
 use Rattle.lw_base.specs.declared.head.Quant.TheVariants.{Exists, NotExists, Forall}
 use Rattle.lw_base.specs.Heads.{TestHead}
@@ -35,8 +35,8 @@ abbrev pub observation_of : Claim → ℕ → ℕ → Observation
 observation_of Exact p q = if p == 0 then seen.Never else if q == 0 then seen.Always else seen.Sometimes
 observation_of Listed p q = if p == 0 then seen.Unknown else if q == 0 then seen.Unknown else seen.Sometimes
 
--- What an `Ok` says of all outcomes, of whose states p make the proposition true and q do not.
-pub record MeansOfAll (head : TestHead) (outcomes : List Final) (p q : ℕ) : Type 0 where
-  pub exists_some : verdict_of Exact Exists p q ≡ verdict.Ok ↔ ((o : Final) × Contains outcomes o × (is_true head.condition o ≡ true))
-  pub exists_none : verdict_of Exact NotExists p q ≡ verdict.Ok ↔ ((o : Final) → Contains outcomes o → is_true head.condition o ≡ false)
-  pub all : verdict_of Exact Forall p q ≡ verdict.Ok ↔ ((o : Final) → Contains outcomes o → is_true head.condition o ≡ true)
+-- What an `Ok` says of all outcomes of a set, of whose states p make the proposition true and q do not.
+pub record MeansOfAll (head : TestHead) (Has : Final → Type 0) (p q : ℕ) : Type 0 where
+  pub exists_some : verdict_of Exact Exists p q ≡ verdict.Ok ↔ ((o : Final) × Has o × (is_true head.condition o ≡ true))
+  pub exists_none : verdict_of Exact NotExists p q ≡ verdict.Ok ↔ ((o : Final) → Has o → is_true head.condition o ≡ false)
+  pub all : verdict_of Exact Forall p q ≡ verdict.Ok ↔ ((o : Final) → Has o → is_true head.condition o ≡ true)

@@ -1,29 +1,43 @@
-//! Laws of reports.
+//! Laws of reports: they are of sets of outcomes, and a set is any predicate.
 //! A law is a function without a result, whose contract is the law; who needs it calls the function.
-ghost use Rattle.std.specs.Prelude.{◌≡◌, List, Contains};
+ghost use Rattle.std.specs.Prelude.{◌≡◌, ◌↔◌, List, length};
+ghost use Rattle.lw_base.specs.Types.{Bytes};
 ghost use Rattle.lw_base.specs.Heads.{TestHead};
 ghost use Rattle.lw_base.specs.Outcomes.{Final};
-ghost use Rattle.lw_base.specs.WellFormed.{IsWellFormedHead};
+ghost use Rattle.lw_base.specs.WellFormed.{SpeaksOf};
 ghost use Rattle.lw_report.specs.Judgement.{positive, negative, MeansOfAll};
 ghost use Rattle.lw_report.specs.Observed.{projected};
+ghost use Rattle.lw_report.specs.Reports.{IsReport};
 ghost use Rattle.lw_report.specs.States.{Shown, AreStatesOf};
 ghost use Rattle.lw_report.specs.Truth.{is_true};
+ghost use Rattle.lw_report.specs.declared.judgement.Claim.{Claim};
+
+/// A set of outcomes, as a type.
+pub trait OutcomeSet {
+    ghost use Rattle.lw_base.specs.Outcomes.{Final};
+
+    /// Which outcomes it has.
+    ghost has: { Final → Type 0 };
+}
 
 /// Outcomes with the same words of the observed names agree on the test's proposition.
 pub fn same_words_agree()
-    ensures { (head : TestHead) (o p : Final) → IsWellFormedHead head → projected head o ≡ projected head p
-        → is_true head.condition o ≡ is_true head.condition p }
+    ensures { (head : TestHead) (o p : Final) → SpeaksOf head.threads (length head.locs) head.condition
+        → projected head o ≡ projected head p → is_true head.condition o ≡ is_true head.condition p }
 {}
 
-/// The outcomes of a list have one list of states.
-pub fn outcomes_have_one_list_of_states()
-    ensures { (head : TestHead) (outcomes : List Final) (states others : List Shown)
-        → AreStatesOf head (Contains outcomes) states → AreStatesOf head (Contains outcomes) others → states ≡ others }
+/// The states, and with them their numbers, the verdict and the report, depend on the set of outcomes alone: where two sets have
+/// the same outcomes, they have the same states and the same report.
+pub fn a_set_has_one_report<S: OutcomeSet, T: OutcomeSet>()
+    ensures states { (head : TestHead) (states others : List Shown) → ((o : Final) → S.has o ↔ T.has o)
+        → AreStatesOf head S.has states → AreStatesOf head T.has others → states ≡ others }
+    ensures report { (head : TestHead) (claim : Claim) (text other : Bytes) → ((o : Final) → S.has o ↔ T.has o)
+        → IsReport head S.has claim text → IsReport head T.has claim other → text ≡ other }
 {}
 
-/// Where states are those of all outcomes, an `Ok` means for `exists` that some outcome makes the proposition true, for
+/// Where states are those of all outcomes of a set, an `Ok` means for `exists` that some outcome makes the proposition true, for
 /// `~exists` that none does, and for `forall` that all do.
-pub fn exact_verdicts_are_of_all_outcomes()
-    ensures { (head : TestHead) (outcomes : List Final) (states : List Shown) → AreStatesOf head (Contains outcomes) states
-        → MeansOfAll head outcomes (positive states) (negative states) }
+pub fn exact_verdicts_are_of_all_outcomes<S: OutcomeSet>()
+    ensures { (head : TestHead) (states : List Shown) → AreStatesOf head S.has states
+        → MeansOfAll head S.has (positive states) (negative states) }
 {}

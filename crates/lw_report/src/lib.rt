@@ -16,7 +16,7 @@ mod truth;
 
 pub use judgement::{Claim, Observation, Verdict};
 pub use laws::{
-    exact_verdicts_are_of_all_outcomes, outcomes_have_one_list_of_states, same_words_agree,
+    OutcomeSet, a_set_has_one_report, exact_verdicts_are_of_all_outcomes, same_words_agree,
 };
 pub use projection::project;
 pub use report::{verdict, write_report};

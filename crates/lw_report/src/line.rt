@@ -1,9 +1,10 @@
 //! The lines that are written of a test's states: how many there are, and each one's words.
-ghost use Rattle.std.specs.Prelude.{◌≡◌, ◌++◌, length, codes, All, IfOk, OnOk};
+ghost use Rattle.std.specs.Prelude.{◌≡◌, ◌≤◌, ◌++◌, length, codes, All, IfOk, OnOk};
 ghost use Rattle.std.specs.String.{string_bytes};
 ghost use Rattle.lw_base.specs.ConditionTexts.{site_text};
 ghost use Rattle.lw_base.specs.Heads.{head_of};
-ghost use Rattle.lw_base.specs.WellFormed.{IsSeen, IsWellFormedHead};
+ghost use Rattle.lw_base.specs.Limits.{most_threads};
+ghost use Rattle.lw_base.specs.WellFormed.{IsSeen};
 ghost use Rattle.lw_report.specs.Labels.{label, labels, labelled_words};
 ghost use Rattle.lw_report.specs.Observed as specs;
 ghost use Rattle.lw_report.specs.Reports.{count_line};
@@ -20,7 +21,7 @@ pub(crate) fn observed_labels<A: Allocator + Copy>(
     alloc: A,
     head: &Head<A>,
 ) -> Result<Labels<A>, AllocError>
-    requires { IsWellFormedHead (head_of head.now) }
+    requires { head.now.threads ≤ most_threads }
     ensures { IfOk result (λ texts. texts ≡ labels (head_of head.now) (specs.observed (head_of head.now))) }
 {
     let names = observed(alloc, head)?;

@@ -2,15 +2,16 @@
 ghost use Rattle.std.specs.Prelude.{◌≡◌, ◌≤◌, ◌++◌, ◌∷◌, [], length, map, filter, All, IfOk, OnOk};
 ghost use Rattle.std.specs.List.{list_any};
 ghost use Rattle.lw_base.specs.Heads.{head_of};
+ghost use Rattle.lw_base.specs.Limits.{most_threads};
 ghost use Rattle.lw_base.specs.Outcomes.{IsOutcomeOf};
 ghost use Rattle.lw_base.specs.Propositions.{formula_of};
-ghost use Rattle.lw_base.specs.WellFormed.{IsSeen, IsWellFormedHead};
+ghost use Rattle.lw_base.specs.WellFormed.{IsSeen};
 ghost use Rattle.lw_text.specs.Frames.{same_seen, registers_of, locations};
 ghost use Rattle.lw_report.specs.Observed as specs;
 ghost use Rattle.lw_report.specs.Observed.{is_observed, projected};
 ghost use Rattle.lw_report.specs.Truth.{final_word};
 
-use lw_base::{Cpu, Head, Loc, MAX_LOCATIONS, Outcome, Prop, Reg, Seen, Sequence, Word};
+use lw_base::{Cpu, Head, Loc, Outcome, Prop, Reg, Seen, Sequence, Word};
 use std::alloc::{AllocError, AllocFailed, Allocator};
 
 /// An outcome's words of the names that are observed: those in the condition and those that are listed, registers by thread
@@ -20,7 +21,7 @@ pub fn project<A: Allocator + Copy, B: Allocator, C: Allocator>(
     head: &Head<B>,
     outcome: &Outcome<C>,
 ) -> Result<Sequence<Word, A>, AllocError>
-    requires head { IsWellFormedHead (head_of head.now) }
+    requires threads { head.now.threads ≤ most_threads }
     requires outcome { IsOutcomeOf head.now.threads (length head.now.locs) outcome.now }
     ensures { IfOk result (λ words. words ≡ projected (head_of head.now) outcome.now) }
 {
@@ -35,7 +36,7 @@ pub(crate) fn observed<A: Allocator, B: Allocator>(
     alloc: A,
     head: &Head<B>,
 ) -> Result<Sequence<Seen, A>, AllocError>
-    requires { IsWellFormedHead (head_of head.now) }
+    requires { head.now.threads ≤ most_threads }
     ensures names { IfOk result (λ names. names ≡ specs.observed (head_of head.now)) }
     ensures there { IfOk result (λ names. All (IsSeen head.now.threads (length head.now.locs)) names) }
 {
@@ -66,7 +67,6 @@ fn push_locations<A: Allocator, B: Allocator>(
     names: &mut Sequence<Seen, A>,
     head: &Head<B>,
 ) -> Result<(), AllocFailed<Seen>>
-    requires { length head.now.locs ≤ MAX_LOCATIONS }
     ensures { OnOk result (names.new ≡ names.old
         ++ filter (is_observed (head_of head.now)) (locations (length head.now.locs))) }
 {

@@ -1,15 +1,15 @@
 //! The report of a test's states.
-ghost use Rattle.std.specs.Prelude.{◌≡◌, ◌++◌, length, map, IfOk, OnOk};
+ghost use Rattle.std.specs.Prelude.{◌≡◌, ◌≤◌, ◌++◌, length, map, IfOk, OnOk};
 ghost use Rattle.std.specs.List.{flat_map};
 ghost use Rattle.std.specs.String.{string_bytes};
 ghost use Rattle.lw_base.specs.Heads.{head_of};
-ghost use Rattle.lw_base.specs.WellFormed.{IsWellFormedHead, SpeaksOf};
+ghost use Rattle.lw_base.specs.Limits.{most_threads};
+ghost use Rattle.lw_base.specs.WellFormed.{HasLocations};
 ghost use Rattle.lw_base.specs.Propositions.{formula_of};
 ghost use Rattle.lw_report.specs.Judgement as told;
 ghost use Rattle.lw_report.specs.Judgement.{positive, negative};
 ghost use Rattle.lw_report.specs.Labels.{labels};
-ghost use Rattle.lw_report.specs.Observed.{observed};
-ghost use Rattle.lw_report.specs.Reports.{title_line, state_line, verdict_line, numbers_line, condition_line, observation_line, claim_line, judgement_lines, report_text};
+ghost use Rattle.lw_report.specs.Reports.{title_line, state_line, numbers_line, condition_line, observation_line, claim_line, judgement_lines, report_text};
 ghost use Rattle.lw_report.specs.States.{ListedState, shown_of};
 
 use crate::judgement::{Claim, Counts, Verdict, kind_word, observation_of, verdict_of};
@@ -32,7 +32,8 @@ pub fn write_report<A: Allocator + Copy>(
     states: &States<A>,
     claim: Claim,
 ) -> Result<Text<A>, AllocError>
-    requires { IsWellFormedHead (head_of head.now) }
+    requires threads { head.now.threads ≤ most_threads }
+    requires locations { HasLocations (length head.now.locs) (formula_of head.now.prop) }
     ensures { IfOk result (λ text. text ≡ report_text (head_of head.now) claim (map shown_of states.now)) }
 {
     let mut out = String::new(alloc);
@@ -72,7 +73,7 @@ fn write_states<A: Allocator + Copy, B: Allocator>(
     head: &Head<A>,
     states: &[State<A>],
 ) -> Result<(), AllocError>
-    requires { IsWellFormedHead (head_of head.now) }
+    requires { head.now.threads ≤ most_threads }
     ensures { OnOk result (string_bytes out.new ≡ string_bytes out.old
         ++ flat_map (λ (s : ListedState). state_line (head_of head.now) s.words) states.now) }
 {
@@ -91,7 +92,7 @@ fn write_judgement<A: Allocator, B: Allocator, C: Allocator>(
     claim: Claim,
     counts: Counts,
 ) -> Result<(), AllocError>
-    requires { SpeaksOf head.now.threads (length head.now.locs) (formula_of head.now.prop) }
+    requires { HasLocations (length head.now.locs) (formula_of head.now.prop) }
     ensures { OnOk result (string_bytes out.new
         ≡ string_bytes out.old ++ judgement_lines (head_of head.now) claim counts.positive counts.negative) }
 {
@@ -120,7 +121,7 @@ fn write_condition_line<A: Allocator, B: Allocator, C: Allocator>(
     alloc: A,
     head: &Head<C>,
 ) -> Result<(), AllocError>
-    requires { SpeaksOf head.now.threads (length head.now.locs) (formula_of head.now.prop) }
+    requires { HasLocations (length head.now.locs) (formula_of head.now.prop) }
     ensures { OnOk result (string_bytes out.new ≡ string_bytes out.old ++ condition_line (head_of head.now)) }
 {
     let condition = write_condition(alloc, head)?;

@@ -1,10 +1,11 @@
 //! The list of a test's states, each with a schedule that leads to it.
-ghost use Rattle.std.specs.Prelude.{◌≡◌, ◌<◌, ◌++◌, length, map, All, IfOk, OnOk};
-ghost use Rattle.std.specs.List.{flat_map};
+ghost use Rattle.std.specs.Prelude.{◌≡◌, ◌<◌, ◌≤◌, ◌++◌, length, map, All, IfOk, OnOk};
+ghost use Rattle.std.specs.List.{flat_map, AllByRecursion};
 ghost use Rattle.std.specs.String.{string_bytes};
 ghost use Rattle.lw_base.specs.Heads.{head_of};
-ghost use Rattle.lw_base.specs.WellFormed.{IsWellFormedHead};
-ghost use Rattle.lw_finals.specs.Listings.{IsEntryOf, outcomes_of, schedules_of};
+ghost use Rattle.lw_base.specs.Limits.{most_threads};
+ghost use Rattle.lw_base.specs.Schedules.{IsEvent};
+ghost use Rattle.lw_finals.specs.Listings.{outcomes_of, schedules_of};
 ghost use Rattle.lw_report.specs.Labels.{schedule_line};
 ghost use Rattle.lw_report.specs.Reports.{schedule_list_text, scheduled, scheduled_lines};
 ghost use Rattle.lw_report.specs.States.{ListedState, AreListedStates};
@@ -15,15 +16,16 @@ use lw_base::{Head, Text, write_schedule};
 use lw_finals::Listing;
 use std::alloc::{AllocError, Allocator};
 
-/// The list of these states of a test with this head, each with the schedule of its entry in the listing.
+/// The list of these states of a test with this head, each with the schedule of its entry in the listing. The schedules speak of
+/// the head's locations alone, and the states are those of the listing.
 pub fn write_schedules<A: Allocator + Copy>(
     alloc: A,
     head: &Head<A>,
     states: &States<A>,
     listing: &Listing<A>,
 ) -> Result<Text<A>, AllocError>
-    requires head { IsWellFormedHead (head_of head.now) }
-    requires entries { All (IsEntryOf (head_of head.now)) listing.now }
+    requires threads { head.now.threads ≤ most_threads }
+    requires schedules { All (AllByRecursion (IsEvent head.now.locs)) (schedules_of listing.now) }
     requires states { AreListedStates (head_of head.now) (outcomes_of listing.now) states.now }
     ensures { IfOk result (λ text. text ≡ schedule_list_text (head_of head.now) (map (scheduled (schedules_of listing.now)) states.now)) }
 {
@@ -42,8 +44,8 @@ fn write_scheduled_states<A: Allocator + Copy, B: Allocator>(
     states: &[State<A>],
     listing: &Listing<A>,
 ) -> Result<(), AllocError>
-    requires head { IsWellFormedHead (head_of head.now) }
-    requires entries { All (IsEntryOf (head_of head.now)) listing.now }
+    requires threads { head.now.threads ≤ most_threads }
+    requires schedules { All (AllByRecursion (IsEvent head.now.locs)) (schedules_of listing.now) }
     requires within { All (λ (s : ListedState). s.entry < length listing.now) states.now }
     ensures { OnOk result (string_bytes out.new ≡ string_bytes out.old
         ++ flat_map (λ (s : ListedState). scheduled_lines (head_of head.now) (scheduled (schedules_of listing.now) s)) states.now) }
@@ -64,7 +66,7 @@ fn write_schedule_of<A: Allocator, B: Allocator>(
     listing: &Listing<A>,
     entry: usize,
 ) -> Result<(), AllocError>
-    requires entries { All (IsEntryOf (head_of head.now)) listing.now }
+    requires schedules { All (AllByRecursion (IsEvent head.now.locs)) (schedules_of listing.now) }
     requires within { entry < length listing.now }
     ensures { OnOk result (string_bytes out.new ≡ string_bytes out.old ++ schedule_line head.now.locs (schedules_of listing.now) entry) }
 {

@@ -1,10 +1,12 @@
 //! The states that a report shows: what is shown of each outcome, sorted, each once.
-ghost use Rattle.std.specs.Prelude.{◌≡◌, ◌↔◌, ◌++◌, ◌∷◌, [], length, All, IfOk, OnOk, IsTrue};
+ghost use Rattle.std.specs.Prelude.{◌≡◌, ◌≤◌, ◌↔◌, ◌++◌, ◌∷◌, [], length, All, IfOk, OnOk, IsTrue};
 ghost use Rattle.std.specs.List.Sorted.{IsSorted};
 ghost use Rattle.lw_base.specs.Heads.{head_of};
+ghost use Rattle.lw_base.specs.Limits.{most_threads};
 ghost use Rattle.lw_base.specs.Outcomes.{IsOutcomeOf};
-ghost use Rattle.lw_base.specs.WellFormed.{IsWellFormedHead};
-ghost use Rattle.lw_finals.specs.Listings.{IsEntryOf, outcomes_of};
+ghost use Rattle.lw_base.specs.Propositions.{formula_of};
+ghost use Rattle.lw_base.specs.WellFormed.{SpeaksOf};
+ghost use Rattle.lw_finals.specs.Listings.{outcomes_of};
 ghost use Rattle.lw_report.specs.Gathered.{state_at, state_cmp, AreStatesOfFirst, AreFirstStates, LastHas};
 ghost use Rattle.lw_report.specs.Observed as specs;
 ghost use Rattle.lw_report.specs.States.{AreListedStates};
@@ -42,14 +44,16 @@ impl<A: Allocator> Model for State<A> {
 pub type States<A = Global> = Sequence<State<A>, A>;
 
 /// The states of the outcomes that are listed for a test with this head, each with the number of the smallest outcome that
-/// shows it and the truth of the test's proposition.
+/// shows it and the truth of the test's proposition. The outcomes have the head's threads and locations, and its proposition
+/// names no others.
 pub fn states_of<A: Allocator + Copy>(
     alloc: A,
     head: &Head<A>,
     listing: &Listing<A>,
 ) -> Result<States<A>, AllocError>
-    requires head { IsWellFormedHead (head_of head.now) }
-    requires entries { All (IsEntryOf (head_of head.now)) listing.now }
+    requires threads { head.now.threads ≤ most_threads }
+    requires condition { SpeaksOf head.now.threads (length head.now.locs) (formula_of head.now.prop) }
+    requires outcomes { All (IsOutcomeOf head.now.threads (length head.now.locs)) (outcomes_of listing.now) }
     ensures { IfOk result (λ states. AreListedStates (head_of head.now) (outcomes_of listing.now) states) }
 {
     let mut states = gathered(alloc, head, listing)?;
@@ -63,8 +67,9 @@ fn gathered<A: Allocator + Copy>(
     head: &Head<A>,
     listing: &Listing<A>,
 ) -> Result<Vec<State<A>, A>, AllocError>
-    requires head { IsWellFormedHead (head_of head.now) }
-    requires entries { All (IsEntryOf (head_of head.now)) listing.now }
+    requires threads { head.now.threads ≤ most_threads }
+    requires condition { SpeaksOf head.now.threads (length head.now.locs) (formula_of head.now.prop) }
+    requires outcomes { All (IsOutcomeOf head.now.threads (length head.now.locs)) (outcomes_of listing.now) }
     ensures { IfOk result (λ states. AreStatesOfFirst (head_of head.now) (outcomes_of listing.now) (length listing.now) states.items) }
 {
     let names = observed(alloc, head)?;
@@ -80,9 +85,9 @@ fn shown_by<A: Allocator + Copy>(
     names: &[Seen],
     listing: &Listing<A>,
 ) -> Result<Vec<State<A>, A>, AllocError>
-    requires head { IsWellFormedHead (head_of head.now) }
+    requires condition { SpeaksOf head.now.threads (length head.now.locs) (formula_of head.now.prop) }
     requires names { names.now ≡ specs.observed (head_of head.now) }
-    requires entries { All (IsEntryOf (head_of head.now)) listing.now }
+    requires outcomes { All (IsOutcomeOf head.now.threads (length head.now.locs)) (outcomes_of listing.now) }
     ensures { IfOk result (λ states. AreStatesOfFirst (head_of head.now) (outcomes_of listing.now) (length listing.now) states.items) }
 {
     let mut states = Vec::new(alloc);
@@ -100,7 +105,7 @@ fn state_of<A: Allocator + Copy>(
     outcome: &Outcome<A>,
     entry: usize,
 ) -> Result<State<A>, AllocError>
-    requires head { IsWellFormedHead (head_of head.now) }
+    requires condition { SpeaksOf head.now.threads (length head.now.locs) (formula_of head.now.prop) }
     requires names { names.now ≡ specs.observed (head_of head.now) }
     requires outcome { IsOutcomeOf head.now.threads (length head.now.locs) outcome.now }
     ensures { IfOk result (λ state. state ≡ state_at (head_of head.now) entry outcome.now) }

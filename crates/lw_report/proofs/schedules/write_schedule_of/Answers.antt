@@ -7,7 +7,7 @@ use Rattle.lw_report.proofs.schedules.write_schedule_of.Goals as goal
 
 pub write_schedule-requires : goal.write_schedule-requires
 write_schedule-requires g c =
-    schedule_there (head_of c.args.head.now) c.args.listing.now c.args.entry c.schedule.result.now c.requires.entries c.schedule.ensures
+    schedule_there (head_of c.args.head.now) c.args.listing.now c.args.entry c.schedule.result.now c.requires.schedules c.schedule.ensures
 
 pub returns : goal.returns
 returns g c =

@@ -7,7 +7,7 @@ use Rattle.lw_report.proofs.ListedStates.{outcome_of_entry, states_more}
 use Rattle.lw_report.proofs.states.shown_by.Goals as goal
 
 pub state_of-requires-clause-outcome : goal.state_of-requires-clause-outcome
-state_of-requires-clause-outcome g c = outcome_of_entry (head_of c.args.head.now) c.args.listing.now c.loop-entry.entry c.outcome.result.now c.requires.entries c.outcome.ensures
+state_of-requires-clause-outcome g c = outcome_of_entry (head_of c.args.head.now) c.args.listing.now c.loop-entry.entry c.outcome.result.now c.requires.outcomes c.outcome.ensures
 
 pub loop-entry-preserved : goal.loop-entry-preserved
 loop-entry-preserved g c =
