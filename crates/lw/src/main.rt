@@ -4,8 +4,7 @@
 #![tactic(auto)]
 
 use lw_bench::{
-    BenchFault, FromRead, Protocol, Task, ToWrite, command_of, compile_text, done_status,
-    end_status, fault_line, memory_line, replay_text, schedules_text, states, status_of,
+    BenchFault, FromRead, Task, ToWrite, carry_out, command_of, fault_line, memory_line, status_of,
     usage_line, usage_status,
 };
 use std::alloc::Global;
@@ -43,7 +42,7 @@ fn run_words(rt: &HostRuntime, words: &[String]) -> u8 {
     match texts_of(rt.alloc(), words) {
         Err(fault) => refuse(rt, &fault),
         Ok(texts) => match command_of(&texts) {
-            Some(task) => carry_out(rt, task),
+            Some(task) => carry_out_task(rt, task),
             None => {
                 complain(rt, usage_line());
                 usage_status()
@@ -52,15 +51,11 @@ fn run_words(rt: &HostRuntime, words: &[String]) -> u8 {
     }
 }
 
-/// Carries a task out, and answers the exit status.
-fn carry_out(rt: &HostRuntime, task: Task<'_>) -> u8 {
-    let status = match task {
-        Task::States => report(rt),
-        Task::Compile => compile(rt),
-        Task::Schedules => schedules(rt),
-        Task::Replay(schedule, protocol) => replay(rt, schedule, protocol),
-    };
-    match status {
+/// Carries a task out on standard input, with its output on standard output, and answers the exit status.
+fn carry_out_task(rt: &HostRuntime, task: Task<'_>) -> u8 {
+    let mut reader = FromRead::new(rt.stdin());
+    let mut writer = ToWrite::new(rt.stdout());
+    match carry_out(rt.alloc(), task, &mut reader, &mut writer) {
         Ok(status) => status,
         Err(fault) => refuse(rt, &fault),
     }
@@ -73,38 +68,6 @@ fn texts_of(alloc: Global, words: &[String]) -> Result<Vec<&str>, BenchFault> {
         texts.push(word.as_str())?;
     }
     Ok(texts)
-}
-
-/// Reports the final states of the test on standard input on standard output, and answers the exit status.
-fn report(rt: &HostRuntime) -> Result<u8, BenchFault> {
-    let mut reader = FromRead::new(rt.stdin());
-    let mut writer = ToWrite::new(rt.stdout());
-    states(rt.alloc(), &mut reader, &mut writer)?;
-    Ok(done_status())
-}
-
-/// Lists a schedule for each final state of the test on standard input on standard output, and answers the exit status.
-fn schedules(rt: &HostRuntime) -> Result<u8, BenchFault> {
-    let mut reader = FromRead::new(rt.stdin());
-    let mut writer = ToWrite::new(rt.stdout());
-    schedules_text(rt.alloc(), &mut reader, &mut writer)?;
-    Ok(done_status())
-}
-
-/// Compiles the test on standard input, prints the text on standard output, and answers the exit status.
-fn compile(rt: &HostRuntime) -> Result<u8, BenchFault> {
-    let mut reader = FromRead::new(rt.stdin());
-    let mut writer = ToWrite::new(rt.stdout());
-    compile_text(rt.alloc(), &mut reader, &mut writer)?;
-    Ok(done_status())
-}
-
-/// Replays the test on standard input, prints the page on standard output, and answers the exit status.
-fn replay(rt: &HostRuntime, schedule: &str, protocol: Protocol) -> Result<u8, BenchFault> {
-    let mut reader = FromRead::new(rt.stdin());
-    let mut writer = ToWrite::new(rt.stdout());
-    let end = replay_text(rt.alloc(), &mut reader, schedule, protocol, &mut writer)?;
-    Ok(end_status(end))
 }
 
 /// Tells of a fault, and answers the exit status. Where memory runs out for the fault's line, that is told.

@@ -1,8 +1,8 @@
 -- Bytes that came in and went out, one piece more.
-use Rattle.std.proofs.Common.{arith, inl, inr, ◌≡◌, ℕ, ◌-◌, ◌<◌, ◌≤◌, min, Option, Some, None, List, ◌++◌, length, length-append, take, drop, sym, ap, ◌∙◌, subst, append_assoc}
+use Rattle.std.proofs.Common.{arith, inl, inr, refl, ◌≡◌, ℕ, zero, suc, ◌-◌, ◌<◌, ◌≤◌, min, Option, Some, None, List, [], ◌∷◌, ◌++◌, length, length-append, take, drop, sym, ap, ◌∙◌, subst, append_assoc}
 use Rattle.std.proofs.lemmas.List.{length-take-le, take-append-drop, take-append-le}
-use Rattle.std.specs.Io.KnownBytes.{Appends, Consumes, IsAtEnd}
-use Rattle.lw_bench.specs.Devices.{IsInput, Gets, Puts}
+use Rattle.std.specs.Io.KnownBytes.{Appends, Consumes, IsAtEnd, Keeps}
+use Rattle.lw_bench.specs.Devices.{IsInput, TakesInput, TakesSome, Gets, Loses, Puts}
 
 Appends-more : (a b c : Option (List ℕ)) (xs ys : List ℕ) → Appends a b xs → Appends b c ys → Appends a c (xs ++ ys)
 Appends-more None b c xs ys h k = tt
@@ -51,3 +51,62 @@ pub input_full : (a b : Option (List ℕ)) (bytes : List ℕ) → Consumes a b b
 input_full None b bytes h full = tt
 input_full (Some x) None bytes h full = absurd h
 input_full (Some x) (Some y) bytes h full = (y, h, inr full)
+
+-- ---- what was taken
+
+-- what is left behind some bytes is what stands behind so many
+behind : (bytes rest : List ℕ) → drop (length bytes) (bytes ++ rest) ≡ rest
+behind [] rest = refl
+behind (b ∷ bytes) rest = behind bytes rest
+
+left_is : (input bytes rest : List ℕ) → input ≡ bytes ++ rest → drop (length bytes) input ≡ rest
+left_is input bytes rest is = ap (drop (length bytes)) is ∙ behind bytes rest
+
+-- all that is known, where no more was there than is taken
+none_behind : (n : ℕ) (input : List ℕ) → length input ≤ n → drop n input ≡ []
+none_behind n [] le = drop_nil n
+  where
+    drop_nil : (k : ℕ) → drop k (let e : List ℕ = [] in e) ≡ []
+    drop_nil zero = refl
+    drop_nil (suc k) = refl
+none_behind zero (b ∷ input) le = absurd (omega arith)
+none_behind (suc n) (b ∷ input) le = none_behind n input (omega (arith, le))
+
+pub taken_ended : (a b : Option (List ℕ)) (bytes : List ℕ) → Consumes a b bytes → IsAtEnd b → length bytes ≤ 65537 → TakesInput a b
+taken_ended None b bytes h end le = tt
+taken_ended (Some x) None bytes h end le = absurd h
+taken_ended (Some x) (Some y) bytes h end le =
+    let short : length x ≤ 65537 = omega (arith, ap length h, length-append bytes y, ap length end, le) in
+    ap Some (end ∙ sym (none_behind 65537 x short))
+
+pub taken_full : (a b : Option (List ℕ)) (bytes : List ℕ) → Consumes a b bytes → length bytes ≡ 65537 → TakesInput a b
+taken_full None b bytes h full = tt
+taken_full (Some x) None bytes h full = absurd h
+taken_full (Some x) (Some y) bytes h full = ap Some (sym (subst (λ n. drop n x ≡ y) full (left_is x bytes y h)))
+
+taken_some : (a b : Option (List ℕ)) (bytes : List ℕ) → Consumes a b bytes → length bytes ≤ 65537 → TakesSome a b
+taken_some None b bytes h le = tt
+taken_some (Some x) None bytes h le = absurd h
+taken_some (Some x) (Some y) bytes h le = (length bytes, le, ap Some (sym (left_is x bytes y h)))
+
+pub taken_lost : (a b c : Option (List ℕ)) (bytes : List ℕ) → Consumes a b bytes → Loses b c bytes → TakesSome a c
+taken_lost a b c bytes h loses =
+    taken_some a c (bytes ++ loses.got) (Consumes-more a b c bytes loses.got h loses.consumed) (omega (arith, length-append bytes loses.got, loses.limit))
+
+pub all_is_some : (a b : Option (List ℕ)) → TakesInput a b → TakesSome a b
+all_is_some None b h = tt
+all_is_some (Some x) b h = (65537, omega arith, h)
+
+-- a reader that failed gave nothing
+kept_consumes : (a b : Option (List ℕ)) → Keeps a b → Consumes a b []
+kept_consumes None b h = tt
+kept_consumes (Some x) None h = absurd h
+kept_consumes (Some x) (Some y) h = sym h
+
+pub loses_none : (known left : Option (List ℕ)) (before : List ℕ) → length before < 65537 → Keeps known left → Loses known left before
+loses_none known left before short kept = record { got = []; limit = omega (arith, short); consumed = kept_consumes known left kept }
+
+-- the front of a buffer was lost, which has no more room than is still to be read
+pub loses_front : (known left : Option (List ℕ)) (before buffer : List ℕ) (room count : ℕ) → length before < 65537 → room ≡ min 4096 (65537 - length before) → length buffer ≡ room → count ≤ length buffer → Consumes known left (take count buffer) → Loses known left before
+loses_front known left before buffer room count short is_room whole within consumed =
+    record { got = take count buffer; limit = omega (arith, length-take-le count buffer within, within, whole, is_room, short); consumed = consumed }

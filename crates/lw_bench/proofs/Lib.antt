@@ -1,5 +1,6 @@
 pub mod Commands
 pub mod Devices
+pub mod Taken
 pub mod DeviceFaults
 pub mod LitmusTests
 pub mod Pages

@@ -1,9 +1,13 @@
 -- From the list of a test to its report and to its list of schedules.
-use Rattle.std.proofs.Common.{◌≡◌, ◌↔◌, ℕ, List, map, refl, subst}
+use Rattle.std.proofs.Common.{◌≡◌, ◌↔◌, ℕ, List, length, map, refl, sym, subst}
 use Rattle.std.specs.Prelude.{All, Contains, Result, Ok, Err}
-use Rattle.std.specs.Result.{IfOk}
+use Rattle.std.specs.List.{AllByRecursion}
+use Rattle.std.specs.Result.{IfOk, OnOk}
+use Rattle.std.proofs.lemmas.List.Elements.{All-map, All-weaker}
 use Rattle.lw_base.specs.Heads.{TestHead}
-use Rattle.lw_base.specs.Outcomes.{Final}
+use Rattle.lw_base.specs.Outcomes.{Final, IsOutcomeOf}
+use Rattle.lw_base.specs.Schedules.{IsEvent}
+use Rattle.lw_base.specs.declared.event.Event.{Event}
 use Rattle.lw_finals.specs.declared.fault.ListFault.{ListFault}
 use Rattle.lw_finals.specs.Listings.{Entries, outcomes_of, schedules_of, IsStrictlySorted, IsEntryOf}
 use Rattle.lw_finals.specs.Lists.{ListsMachine}
@@ -17,14 +21,15 @@ use Rattle.lw_source.specs.Runs.{SourceOutcome}
 use Rattle.lw_source.specs.Sources.{SourceTest}
 use Rattle.lw_x86.specs.Programs.{ProgramTest}
 use Rattle.lw_bench.specs.LitmusTests.{LitmusTest, Of_source, Of_x86, head_of_test}
-use Rattle.lw_bench.specs.Lists.{OutcomeOf, LeadsTo, IsStatesReport, IsScheduleReport}
+use Rattle.lw_bench.specs.Lists.{OutcomeOf, LeadsTo, HasList, IsStatesReport, IsScheduleReport}
 use Rattle.lw_bench.specs.Listed.{IsListOf}
 use Rattle.lw_bench.proofs.ListingTexts.{report_is, schedule_list_is}
 
 -- what is told of the list of a source test
 pub source_list : (test : SourceTest) (entries : Entries) → IsStrictlySorted entries → ((o : Final) → Contains (outcomes_of entries) o ↔ SourceOutcome test o)
-    → ListsMachine test entries → All (IsEntryOf test.head) entries → IsListOf (Of_source test) entries
-source_list test entries sorted exactly lists of = record {
+    → ListsMachine test entries → All (IsEntryOf test.head) entries → HasList (Of_source test) → IsListOf (Of_source test) entries
+source_list test entries sorted exactly lists of within = record {
+  within = within;
   program = lists.program;
   of_test = record {
     runs = (lists.starts, lists.compiled);
@@ -37,14 +42,15 @@ source_list test entries sorted exactly lists of = record {
 }
 
 pub source_listed : (test : SourceTest) (r : Result Entries ListFault) → IfOk r IsStrictlySorted → IfOk r (λ l. (o : Final) → Contains (outcomes_of l) o ↔ SourceOutcome test o)
-    → IfOk r (ListsMachine test) → IfOk r (λ l. All (IsEntryOf test.head) l) → IfOk r (IsListOf (Of_source test))
-source_listed test (Ok l) sorted exactly lists of = source_list test l sorted exactly lists of
-source_listed test (Err e) sorted exactly lists of = tt
+    → IfOk r (ListsMachine test) → IfOk r (λ l. All (IsEntryOf test.head) l) → OnOk r (HasList (Of_source test)) → IfOk r (IsListOf (Of_source test))
+source_listed test (Ok l) sorted exactly lists of within = source_list test l sorted exactly lists of within
+source_listed test (Err e) sorted exactly lists of within = tt
 
 -- and of that of an x86 test
 pub x86_list : (test : ProgramTest) (entries : Entries) → IsStrictlySorted entries → ((protocol : Protocol) (o : Final) → Contains (outcomes_of entries) o ↔ OutcomeOverCaches protocol test o)
-    → ((protocol : Protocol) → All (λ e. ReplaysOverCaches protocol test e.1 e.0) entries) → All (IsEntryOf test.head) entries → IsListOf (Of_x86 test) entries
-x86_list test entries sorted exactly replays of = record {
+    → ((protocol : Protocol) → All (λ e. ReplaysOverCaches protocol test e.1 e.0) entries) → All (IsEntryOf test.head) entries → HasList (Of_x86 test) → IsListOf (Of_x86 test) entries
+x86_list test entries sorted exactly replays of within = record {
+  within = within;
   program = test;
   of_test = record {
     runs = refl;
@@ -58,14 +64,16 @@ x86_list test entries sorted exactly replays of = record {
 
 pub x86_listed : (test : ProgramTest) (r : Result Entries ListFault) → IfOk r IsStrictlySorted
     → IfOk r (λ l. (protocol : Protocol) (o : Final) → Contains (outcomes_of l) o ↔ OutcomeOverCaches protocol test o)
-    → IfOk r (λ l. (protocol : Protocol) → All (λ e. ReplaysOverCaches protocol test e.1 e.0) l) → IfOk r (λ l. All (IsEntryOf test.head) l) → IfOk r (IsListOf (Of_x86 test))
-x86_listed test (Ok l) sorted exactly replays of = x86_list test l sorted exactly replays of
-x86_listed test (Err e) sorted exactly replays of = tt
+    → IfOk r (λ l. (protocol : Protocol) → All (λ e. ReplaysOverCaches protocol test e.1 e.0) l) → IfOk r (λ l. All (IsEntryOf test.head) l)
+    → OnOk r (HasList (Of_x86 test)) → IfOk r (IsListOf (Of_x86 test))
+x86_listed test (Ok l) sorted exactly replays of within = x86_list test l sorted exactly replays of within
+x86_listed test (Err e) sorted exactly replays of within = tt
 
 module _ (test : LitmusTest) (entries : Entries) (list : IsListOf test entries) (head : TestHead) (same : head ≡ head_of_test test) where
   pub report_of_list : (states : List ListedState) (text : List ℕ) → AreListedStates head (outcomes_of entries) states
       → text ≡ report_text head Exact (map shown_of states) → IsStatesReport test text
   report_of_list states text listed is = record {
+    within = list.within;
     program = list.program;
     of_test = list.of_test;
     is = report_is (head_of_test test) (OutcomeOf test) entries list.exactly Exact states text
@@ -76,9 +84,24 @@ module _ (test : LitmusTest) (entries : Entries) (list : IsListOf test entries) 
   pub schedules_of_list : (states : List ListedState) (text : List ℕ) → AreListedStates head (outcomes_of entries) states
       → text ≡ schedule_list_text head (map (scheduled (schedules_of entries)) states) → IsScheduleReport test text
   schedules_of_list states text listed is = record {
+    within = list.within;
     program = list.program;
     of_test = list.of_test;
     is = schedule_list_is (head_of_test test) (OutcomeOf test) entries list.exactly list.sorted (LeadsTo list.program) list.lead states text
         (subst (λ (d : TestHead). AreListedStates d (outcomes_of entries) states) same listed)
         (subst (λ (d : TestHead). text ≡ schedule_list_text d (map (scheduled (schedules_of entries)) states)) same is);
   }
+
+  -- the outcomes are of the test's threads and locations
+  pub outcomes_there : All (IsOutcomeOf head.threads (length head.locs)) (outcomes_of entries)
+  outcomes_there =
+      All-map (IsOutcomeOf head.threads (length head.locs)) (λ (e : Final × List Event). e.0) entries
+      (All-weaker (IsEntryOf (head_of_test test)) (λ (e : Final × List Event). IsOutcomeOf head.threads (length head.locs) e.0)
+      (λ e is. subst (λ (d : TestHead). IsOutcomeOf d.threads (length d.locs) e.0) (sym same) is.outcome) entries list.entries_are)
+
+  -- and the schedules speak of its locations
+  pub schedules_there : All (AllByRecursion (IsEvent head.locs)) (schedules_of entries)
+  schedules_there =
+      All-map (AllByRecursion (IsEvent head.locs)) (λ (e : Final × List Event). e.1) entries
+      (All-weaker (IsEntryOf (head_of_test test)) (λ (e : Final × List Event). AllByRecursion (IsEvent head.locs) e.1)
+      (λ e is. subst (λ (d : TestHead). AllByRecursion (IsEvent d.locs) e.1) (sym same) is.schedule) entries list.entries_are)

@@ -87,12 +87,12 @@ pub memory_is_no_device : (f : BenchFault) → f ≡ Memory → IsNoDevice f
 memory_is_no_device f is = rw is memory_no_device
 
 -- memory that ran out, or what is told of a test that was read
-pub told_of_test : (A : Type 0) (Tells : LitmusTest → BenchFault → Type 0) (bytes : List ℕ) (test : LitmusTest) (f : BenchFault) → HasTest bytes test → (f ≡ Memory) ⊎ Tells test f → TellsRun A Tells bytes f
-told_of_test A Tells bytes test f has (inl is) = rw is (inl tt)
-told_of_test A Tells bytes test f has (inr told) = inr (test, has, told)
+pub told_of_test : (Tells : LitmusTest → BenchFault → Type 0) (bytes : List ℕ) (test : LitmusTest) (f : BenchFault) → HasTest bytes test → (f ≡ Memory) ⊎ Tells test f → TellsRun Tells bytes f
+told_of_test Tells bytes test f has (inl is) = rw is (inl tt)
+told_of_test Tells bytes test f has (inr told) = inr (test, has, told)
 
 -- Bytes that came in: the whole input, or more than a test has.
-module _ (A : Type 0) (input bytes : List ℕ) (is : (rest : List ℕ) × (input ≡ bytes ++ rest) × ((rest ≡ []) ⊎ (length bytes ≡ 65537))) where
+module _ (input bytes : List ℕ) (is : (rest : List ℕ) × (input ≡ bytes ++ rest) × ((rest ≡ []) ⊎ (length bytes ≡ 65537))) where
   -- a text that is too long, whatever stands behind what was read
   long_text : (f : TextFault) → length bytes ≡ 65537 → TellsText bytes f → TellsText input f
   long_text f long told =
@@ -115,11 +115,11 @@ module _ (A : Type 0) (input bytes : List ℕ) (is : (rest : List ℕ) × (input
       go (inl none) = subst (λ t. TellsText t f) (sym (is.1 ∙ ap (λ rest. bytes ++ rest) none ∙ append-nil bytes)) told
       go (inr long) = long_text f long told
 
-  pub cell_in_whole : (f : CellFault) → TellsCell A bytes f → TellsCell A input f
-  cell_in_whole f told = subst (λ t. TellsCell A t f) (whole input bytes is told.has_frame.short) told
+  pub cell_in_whole : (f : CellFault) → TellsCell bytes f → TellsCell input f
+  cell_in_whole f told = subst (λ t. TellsCell t f) (whole input bytes is told.has_frame.short) told
 
   -- what the reading of a test tells
-  pub test_in_whole : (f : BenchFault) → TellsTest A bytes f → TellsTest A input f
+  pub test_in_whole : (f : BenchFault) → TellsTest bytes f → TellsTest input f
   test_in_whole (Text f) told = text_in_whole f told
   test_in_whole (Cell f) told = cell_in_whole f told
   test_in_whole (Schedule f) told = told
@@ -129,14 +129,14 @@ module _ (A : Type 0) (input bytes : List ℕ) (is : (rest : List ℕ) × (input
   test_in_whole Write told = tt
 
   -- what a run tells
-  pub run_in_whole : (Tells : LitmusTest → BenchFault → Type 0) (f : BenchFault) → TellsRun A Tells bytes f → TellsRun A Tells input f
+  pub run_in_whole : (Tells : LitmusTest → BenchFault → Type 0) (f : BenchFault) → TellsRun Tells bytes f → TellsRun Tells input f
   run_in_whole Tells f (inl told) = inl (test_in_whole f told)
   run_in_whole Tells f (inr (test, has, told)) = inr (test, in_whole input bytes is test has, told)
 
 -- What is told of the input.
-pub told_of_input : (A : Type 0) (Tells : LitmusTest → BenchFault → Type 0) (known : Option (List ℕ)) (bytes : List ℕ) (f : BenchFault) → IsInput known bytes → TellsRun A Tells bytes f → TellsInput A Tells known f
-told_of_input A Tells None bytes f is told = tt
-told_of_input A Tells (Some input) bytes f is told = run_in_whole A input bytes is Tells f told
+pub told_of_input : (Tells : LitmusTest → BenchFault → Type 0) (known : Option (List ℕ)) (bytes : List ℕ) (f : BenchFault) → IsInput known bytes → TellsRun Tells bytes f → TellsInput Tells known f
+told_of_input Tells None bytes f is told = tt
+told_of_input Tells (Some input) bytes f is told = run_in_whole input bytes is Tells f told
 
 pub some_told : (Tells : List ℕ → BenchFault → Type 0) (known : Option (List ℕ)) (f : BenchFault) → ((bytes : List ℕ) → Tells bytes f) → IfSome known (λ bytes. Tells bytes f)
 some_told Tells None f told = tt

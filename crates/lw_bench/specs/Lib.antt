@@ -1,4 +1,5 @@
 pub mod Faults
+pub mod Limits
 pub mod Devices
 pub mod LitmusTests
 pub mod Compilations
@@ -9,3 +10,4 @@ pub mod Pages
 pub mod Replays
 pub mod Told
 pub mod Commands
+pub mod Tasks

@@ -4,7 +4,10 @@ use Rattle.lw_base.specs.Outcomes.{Final}
 use Rattle.lw_base.specs.Types.{Bytes}
 use Rattle.lw_base.specs.declared.event.Event.{Event}
 use Rattle.lw_fence.specs.Compiling.{IsCompiled}
+use Rattle.lw_finals.specs.Counts.{IsWithinLimits}
 use Rattle.lw_finals.specs.Machines.{OutcomeOverCaches, ReplaysOverCaches}
+use Rattle.lw_finals.specs.SourceItems.{source_language}
+use Rattle.lw_finals.specs.X86Items.{x86_language}
 use Rattle.lw_mesi.specs.declared.protocol.Protocol.{Protocol}
 use Rattle.lw_mesi.specs.declared.protocol.Protocol.TheVariants.{Mesi}
 use Rattle.lw_report.specs.Reports.{IsReport, IsScheduleList}
@@ -33,14 +36,22 @@ pub record IsProgramOf (test : LitmusTest) (program : ProgramTest) : Type 0 wher
 abbrev pub LeadsTo : ProgramTest → List Event → Final → Type 0
 LeadsTo program events o = (protocol : Protocol) → ReplaysOverCaches protocol program events o
 
--- The report of exactly the test's outcomes.
+-- No choice of its flow paths has more items, and all together have no more orders, than a list takes.
+abbrev pub HasList : LitmusTest → Type 0
+HasList (Of_source test) = IsWithinLimits source_language test.threads
+HasList (Of_x86 test) = IsWithinLimits x86_language test.threads
+
+-- The report of exactly the test's outcomes, where it is within the limits of lists.
 pub record IsStatesReport (test : LitmusTest) (text : Bytes) : Type 0 where
+  pub within : HasList test
   pub program : ProgramTest
   pub of_test : IsProgramOf test program
   pub is : IsReport (head_of_test test) (OutcomeOf test) Exact text
 
--- The list of their states, each with a schedule of the program that leads to the smallest outcome that shows it.
+-- The list of their states, each with a schedule of the program that leads to the smallest outcome that shows it, within the
+-- same limits.
 pub record IsScheduleReport (test : LitmusTest) (text : Bytes) : Type 0 where
+  pub within : HasList test
   pub program : ProgramTest
   pub of_test : IsProgramOf test program
   pub is : IsScheduleList (head_of_test test) (OutcomeOf test) (LeadsTo program) text

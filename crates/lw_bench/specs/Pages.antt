@@ -6,7 +6,7 @@ use Rattle.std.specs.Fmt.{decimal}
 use Rattle.lw_base.specs.Types.{Bytes, NameTable}
 use Rattle.lw_base.specs.ConditionTexts.{assignment}
 use Rattle.lw_base.specs.declared.head.Arch.{Arch}
-use Rattle.lw_base.specs.declared.limits.TheConstants.{REGISTERS}
+use Rattle.lw_base.specs.Limits.{registers}
 use Rattle.lw_base.specs.declared.stop.End.{End}
 use Rattle.lw_base.specs.declared.stop.End.TheVariants.{Final, NotFinal, Stopped}
 use Rattle.lw_base.specs.declared.stop.Replay.{Replay}
@@ -46,7 +46,7 @@ first_lines head r =
 
 -- a thread's line: its position, and its registers
 abbrev pub register_names : Arch → List Bytes
-register_names arch = map (register_name arch) (range_with_len 0 REGISTERS)
+register_names arch = map (register_name arch) (range_with_len 0 registers)
 
 abbrev pub thread_line : Arch → ℕ → ℕ → List ℕ → Bytes
 thread_line arch t position regs =

@@ -5,7 +5,7 @@ use Rattle.std.specs.Option.{IfSome}
 use Rattle.std.specs.Str.{IsUtf8, IsValidUpTo}
 use Rattle.std.specs.Str.Lossy.{utf8_valid_len}
 use Rattle.lw_base.specs.Types.{Bytes, NameTable}
-use Rattle.lw_base.specs.declared.limits.TheConstants.{MAX_TEXT_BYTES}
+use Rattle.lw_base.specs.Limits.{most_text_bytes}
 use Rattle.lw_base.specs.declared.fault.CellCause.TheVariants as cell
 use Rattle.lw_base.specs.declared.fault.CellFault.{CellFault}
 use Rattle.lw_base.specs.declared.fault.ScheduleFault.{ScheduleFault}
@@ -15,10 +15,8 @@ use Rattle.lw_text.specs.declared.fault.TextCause.TheVariants as text
 use Rattle.lw_text.specs.declared.fault.TextFault.{TextFault}
 use Rattle.lw_base.specs.declared.head.Arch.{Arch}
 use Rattle.lw_base.specs.declared.head.Arch.TheVariants.{Source, X86}
-use Rattle.lw_text.specs.declared.cell.Cell.{Cell as TextCell}
-use Rattle.lw_text.specs.declared.frame.Frame.{Frame}
 use Rattle.lw_text.specs.Frames.{TestFrame, HasFrame}
-use Rattle.lw_text.specs.Views.{frame_of, LiesIn}
+use Rattle.lw_text.specs.PlacedCells.{PlacedCell, texts_of_grid, HasCells}
 use Rattle.lw_cells.specs.Faults.{Tells}
 use Rattle.lw_source.specs.Sources.{source}
 use Rattle.lw_x86.specs.Programs.{x86}
@@ -29,33 +27,36 @@ use Rattle.lw_finals.specs.declared.fault.ListFault.{ListFault}
 use Rattle.lw_finals.specs.declared.fault.ListFault.TheVariants as list
 use Rattle.lw_bench.specs.declared.fault.BenchFault.{BenchFault}
 use Rattle.lw_bench.specs.declared.fault.BenchFault.TheVariants.{Text, Cell, Schedule, Limit, Memory, Read, Write}
+use Rattle.lw_bench.specs.Devices.{TakesInput, TakesSome}
 use Rattle.lw_bench.specs.LitmusTests.{LitmusTest, Of_source, Of_x86, head_of_test, FrameSays, HasTest}
 
 -- The text has no frame, and what its length and its UTF-8 say of the fault is so.
 pub record TellsText (bytes : Bytes) (f : TextFault) : Type 0 where
   pub none : (frame : TestFrame) → HasFrame bytes frame → ⊥
   pub place : f.at ≤ length bytes
-  pub too_long : MAX_TEXT_BYTES < length bytes → f ≡ record { at = MAX_TEXT_BYTES; cause = text.TooLong }
-  pub only_too_long : f.cause ≡ text.TooLong → MAX_TEXT_BYTES < length bytes
-  pub not_utf8 : length bytes ≤ MAX_TEXT_BYTES → ¬ IsUtf8 bytes
+  pub too_long : most_text_bytes < length bytes → f ≡ record { at = most_text_bytes; cause = text.TooLong }
+  pub only_too_long : f.cause ≡ text.TooLong → most_text_bytes < length bytes
+  pub not_utf8 : length bytes ≤ most_text_bytes → ¬ IsUtf8 bytes
       → f ≡ record { at = utf8_valid_len bytes; cause = text.NotUtf8 }
   pub only_not_utf8 : f.cause ≡ text.NotUtf8
-      → (length bytes ≤ MAX_TEXT_BYTES) × (¬ IsUtf8 bytes) × IsValidUpTo bytes f.at
+      → (length bytes ≤ most_text_bytes) × (¬ IsUtf8 bytes) × IsValidUpTo bytes f.at
   pub in_memory : f.cause ≢ text.Memory
 
 -- What a language's rule of cells says of the place.
-abbrev pub TellsIn : {A : Type 0} → Arch → NameTable → List (List (TextCell A)) → CellFault → Type 0
+abbrev pub TellsIn : Arch → NameTable → List (List PlacedCell) → CellFault → Type 0
 TellsIn Source = Tells source
 TellsIn X86 = Tells x86
 
 -- The text has a frame, whose cells are no test's, and what the cause says of the place is so.
-pub record TellsCell (A : Type 0) (bytes : Bytes) (f : CellFault) : Type 0 where
-  pub frame : Frame A
-  pub has_frame : HasFrame bytes (frame_of frame)
-  pub lies : LiesIn bytes frame
-  pub none : (test : LitmusTest) → FrameSays (frame_of frame) test → ⊥
+pub record TellsCell (bytes : Bytes) (f : CellFault) : Type 0 where
+  pub frame : TestFrame
+  pub has_frame : HasFrame bytes frame
+  pub cells : List (List PlacedCell)
+  pub has_cells : HasCells bytes cells
+  pub are : texts_of_grid cells ≡ frame.cells
+  pub none : (test : LitmusTest) → FrameSays frame test → ⊥
   pub place : f.at ≤ length bytes
-  pub cause : TellsIn frame.head.arch frame.head.locs frame.cells f
+  pub cause : TellsIn frame.head.arch frame.head.locs cells f
   pub in_memory : f.cause ≢ cell.Memory
 
 -- not a device's failure
@@ -63,22 +64,33 @@ abbrev pub IsNoDevice : BenchFault → Type 0
 IsNoDevice f = (f ≢ Read) × (f ≢ Write)
 
 -- what the reading of a test tells
-abbrev pub TellsTest : Type 0 → Bytes → BenchFault → Type 0
-TellsTest A bytes (Text f) = TellsText bytes f
-TellsTest A bytes (Cell f) = TellsCell A bytes f
-TellsTest A bytes (Schedule f) = ⊥
-TellsTest A bytes (Limit f) = ⊥
-TellsTest A bytes Memory = Unit {0}
-TellsTest A bytes Read = Unit {0}
-TellsTest A bytes Write = Unit {0}
+abbrev pub TellsTest : Bytes → BenchFault → Type 0
+TellsTest bytes (Text f) = TellsText bytes f
+TellsTest bytes (Cell f) = TellsCell bytes f
+TellsTest bytes (Schedule f) = ⊥
+TellsTest bytes (Limit f) = ⊥
+TellsTest bytes Memory = Unit {0}
+TellsTest bytes Read = Unit {0}
+TellsTest bytes Write = Unit {0}
 
 -- What a run tells that is refused: what the reading of a test tells, or what is told of the test that was read.
-abbrev pub TellsRun : Type 0 → (LitmusTest → BenchFault → Type 0) → Bytes → BenchFault → Type 0
-TellsRun A Tells bytes f = TellsTest A bytes f ⊎ ((test : LitmusTest) × HasTest bytes test × Tells test f)
+abbrev pub TellsRun : (LitmusTest → BenchFault → Type 0) → Bytes → BenchFault → Type 0
+TellsRun Tells bytes f = TellsTest bytes f ⊎ ((test : LitmusTest) × HasTest bytes test × Tells test f)
 
 -- the same of the bytes of a reader, where they are known
-abbrev pub TellsInput : Type 0 → (LitmusTest → BenchFault → Type 0) → Option Bytes → BenchFault → Type 0
-TellsInput A Tells known f = IfSome known (λ bytes. TellsRun A Tells bytes f)
+abbrev pub TellsInput : (LitmusTest → BenchFault → Type 0) → Option Bytes → BenchFault → Type 0
+TellsInput Tells known f = IfSome known (λ bytes. TellsRun Tells bytes f)
+
+-- What a run takes from its reader: the whole input, but where the reader failed or memory ran out, which may have been before
+-- its end.
+abbrev pub TakesAt : BenchFault → Option Bytes → Option Bytes → Type 0
+TakesAt (Text f) = TakesInput
+TakesAt (Cell f) = TakesInput
+TakesAt (Schedule f) = TakesInput
+TakesAt (Limit f) = TakesInput
+TakesAt Memory = TakesSome
+TakesAt Read = TakesSome
+TakesAt Write = TakesInput
 
 -- ---- what is told of a test that was read
 

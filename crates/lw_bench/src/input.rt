@@ -1,6 +1,7 @@
 //! Reads all that comes, up to one byte more than a text may have.
-ghost use Rattle.std.specs.Prelude.{◌≡◌, ◌<◌, false, if◌then◌else◌, length, IfOk, IfErr, OnOk};
-ghost use Rattle.lw_bench.specs.Devices.{IsInput, Gets};
+ghost use Rattle.std.specs.Prelude.{◌≡◌, ◌<◌, false, if◌then◌else◌, length, IfOk, IfErr, OnOk, OnErr};
+ghost use Rattle.lw_bench.specs.Limits.{most_read_bytes};
+ghost use Rattle.lw_bench.specs.Devices.{IsInput, TakesInput, TakesSome, Gets, Loses};
 
 use crate::device::ByteReader;
 use crate::fault::BenchFault;
@@ -20,6 +21,8 @@ pub(crate) fn read_input<R: ByteReader, A: Allocator>(
 ) -> Result<Vec<u8, A>, BenchFault>
     requires { R.failed reader.old ≡ false }
     ensures bytes { IfOk result (λ bytes. IsInput (R.remaining reader.old) bytes.items) }
+    ensures taken { OnOk result (TakesInput (R.remaining reader.old) (R.remaining reader.new)) }
+    ensures left { OnErr result (TakesSome (R.remaining reader.old) (R.remaining reader.new)) }
     ensures failed { OnOk result (R.failed reader.new ≡ false) }
     ensures err { IfErr result (λ f. f ≡ (if R.failed reader.new then BenchFault.Read else BenchFault.Memory)) }
 {
@@ -38,9 +41,10 @@ fn pull_chunk<R: ByteReader, A: Allocator>(
     bytes: &mut Vec<u8, A>,
 ) -> Result<usize, BenchFault>
     requires working { R.failed reader.old ≡ false }
-    requires room { length bytes.old.items < MAX_READ_BYTES }
+    requires room { length bytes.old.items < most_read_bytes }
     ensures bytes { IfOk result
         (Gets (R.remaining reader.old) (R.remaining reader.new) bytes.old.items bytes.new.items) }
+    ensures lost { OnErr result (Loses (R.remaining reader.old) (R.remaining reader.new) bytes.old.items) }
     ensures failed { OnOk result (R.failed reader.new ≡ false) }
     ensures err { IfErr result (λ f. f ≡ (if R.failed reader.new then BenchFault.Read else BenchFault.Memory)) }
 {

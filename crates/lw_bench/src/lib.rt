@@ -18,6 +18,7 @@ mod output;
 mod page;
 mod replay;
 mod run;
+mod task;
 
 pub use command::{Task, command_of};
 pub use compile::compile_text;
@@ -31,3 +32,4 @@ pub use litmus_test::a_text_has_one_test;
 pub use lw_base::End;
 pub use lw_mesi::Protocol;
 pub use replay::replay_text;
+pub use task::carry_out;

@@ -1,10 +1,11 @@
 //! The report of a test's states, and the list of their schedules, from the bytes that come in to the bytes that go out.
 ghost use Rattle.std.specs.Prelude.{◌≡◌, ◌≢◌, ◌↔◌, ◌⊎◌, true, false, Err, IfOk, IfErr, OnOk};
+ghost use Rattle.lw_bench.specs.Devices.{TakesInput};
 ghost use Rattle.lw_bench.specs.LitmusTests.{litmus_test_of};
 ghost use Rattle.lw_bench.specs.Listed.{IsListOf};
 ghost use Rattle.lw_bench.specs.Lists.{IsStatesReport, IsScheduleReport};
 ghost use Rattle.lw_bench.specs.Outputs.{Writes};
-ghost use Rattle.lw_bench.specs.Told.{TellsInput, TellsLimitOf, TellsNoList, IsNoDevice};
+ghost use Rattle.lw_bench.specs.Told.{TellsInput, TellsLimitOf, TellsNoList, TakesAt, IsNoDevice};
 
 use crate::device::{ByteReader, ByteWriter};
 use crate::fault::BenchFault;
@@ -106,7 +107,10 @@ pub fn states<R: ByteReader, W: ByteWriter, A: Allocator + Copy>(
     ensures written { OnOk result
         (Writes IsStatesReport (R.remaining reader.old) (W.contents writer.old) (W.contents writer.new)) }
     // What a fault tells is so: of the text, of a cell, or of the limit that the list passes.
-    ensures told { IfErr result (TellsInput A TellsNoList (R.remaining reader.old)) }
+    ensures told { IfErr result (TellsInput TellsNoList (R.remaining reader.old)) }
+    // It takes the whole input, or its first 65,537 bytes; some of these where the reader failed or memory ran out.
+    ensures taken { OnOk result (TakesInput (R.remaining reader.old) (R.remaining reader.new)) }
+    ensures left { IfErr result (λ f. TakesAt f (R.remaining reader.old) (R.remaining reader.new)) }
     // The devices' faults are told exactly where they failed, and else the writer is left alone.
     ensures read { result ≡ Err BenchFault.Read ↔ R.failed reader.new ≡ true }
     ensures write { result ≡ Err BenchFault.Write ↔ W.failed writer.new ≡ true }
@@ -130,7 +134,10 @@ pub fn schedules_text<R: ByteReader, W: ByteWriter, A: Allocator + Copy>(
     ensures written { OnOk result
         (Writes IsScheduleReport (R.remaining reader.old) (W.contents writer.old) (W.contents writer.new)) }
     // What a fault tells is so: of the text, of a cell, or of the limit that the list passes.
-    ensures told { IfErr result (TellsInput A TellsNoList (R.remaining reader.old)) }
+    ensures told { IfErr result (TellsInput TellsNoList (R.remaining reader.old)) }
+    // It takes the whole input, or its first 65,537 bytes; some of these where the reader failed or memory ran out.
+    ensures taken { OnOk result (TakesInput (R.remaining reader.old) (R.remaining reader.new)) }
+    ensures left { IfErr result (λ f. TakesAt f (R.remaining reader.old) (R.remaining reader.new)) }
     // The devices' faults are told exactly where they failed, and else the writer is left alone.
     ensures read { result ≡ Err BenchFault.Read ↔ R.failed reader.new ≡ true }
     ensures write { result ≡ Err BenchFault.Write ↔ W.failed writer.new ≡ true }

@@ -5,6 +5,7 @@ ghost use Rattle.lw_base.specs.Heads.{head_of};
 ghost use Rattle.lw_base.specs.WellFormed.{IsWellFormedHead};
 ghost use Rattle.lw_base.specs.Refusals.{NotFound};
 ghost use Rattle.lw_base.specs.declared.fault.CellCause.TheVariants.{Memory};
+ghost use Rattle.lw_text.specs.Places.{placed_cells};
 ghost use Rattle.lw_text.specs.Views.{frame_of};
 ghost use Rattle.lw_bench.specs.LitmusTests as specs;
 ghost use Rattle.lw_bench.specs.LitmusTests.{FrameSays, HasTest, litmus_test_of, head_of_test};
@@ -52,7 +53,7 @@ pub(crate) fn read_test<A: Allocator + Copy>(
     text: &[u8],
 ) -> Result<LitmusTest<A>, BenchFault>
     ensures found { IfOk result (λ test. HasTest text.now (litmus_test_of test)) }
-    ensures told { IfErr result (TellsTest A text.now) }
+    ensures told { IfErr result (TellsTest text.now) }
     ensures device { IfErr result IsNoDevice }
 {
     let frame = read_frame(alloc, text)?;
@@ -69,7 +70,7 @@ fn read_cells<A: Allocator + Copy>(
     ensures found { IfOk result (λ test. FrameSays (frame_of frame.now) (litmus_test_of test)) }
     ensures fault { IfErr result (λ f. NotFound Memory f.cause (FrameSays (frame_of frame.now))) }
     ensures place { IfErr result (λ f. f.at ≤ frame.now.len) }
-    ensures cause { IfErr result (TellsIn frame.now.head.arch frame.now.head.locs frame.now.cells) }
+    ensures cause { IfErr result (TellsIn frame.now.head.arch frame.now.head.locs (placed_cells frame.now.cells)) }
 {
     match frame.head().arch {
         Arch::Source => {

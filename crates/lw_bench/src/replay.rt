@@ -1,15 +1,16 @@
 //! The replay of a test by a schedule, from the bytes that come in to the bytes that go out.
 //! Frames, tests and runs are dropped by calls of `drop`, which is proved once for each type: what goes at
 //! the end of a scope is proved there anew.
-ghost use Rattle.std.specs.Prelude.{◌≡◌, ◌≢◌, ◌⊎◌, ◌≤◌, ◌↔◌, true, false, length, Err, IfOk, IfErr};
+ghost use Rattle.std.specs.Prelude.{◌≡◌, ◌≢◌, ◌⊎◌, ◌≤◌, ◌↔◌, true, false, length, Err, IfOk, IfErr, OnOk};
 ghost use Rattle.std.specs.String.{string_bytes};
 ghost use Rattle.lw_memory.specs.Memory.{memory_of};
 ghost use Rattle.lw_source.specs.Views.{source_of};
 ghost use Rattle.lw_x86.specs.Views.{program_of};
+ghost use Rattle.lw_bench.specs.Devices.{TakesInput};
 ghost use Rattle.lw_bench.specs.LitmusTests.{litmus_test_of};
 ghost use Rattle.lw_bench.specs.Outputs.{Writes};
 ghost use Rattle.lw_bench.specs.Replays.{SourcePage, MachinePage, CachesPage, IsReplayPage};
-ghost use Rattle.lw_bench.specs.Told.{TellsReplay, TellsInput, IsNoDevice};
+ghost use Rattle.lw_bench.specs.Told.{TellsReplay, TellsInput, TakesAt, IsNoDevice};
 
 use crate::device::{ByteReader, ByteWriter};
 use crate::fault::BenchFault;
@@ -141,7 +142,10 @@ pub fn replay_text<R: ByteReader, W: ByteWriter, A: Allocator + Copy>(
     ensures written { IfOk result (λ end. Writes (λ test page. IsReplayPage protocol test schedule.now page end)
         (R.remaining reader.old) (W.contents writer.old) (W.contents writer.new)) }
     // What a fault tells is so: of the text, of a cell, of the schedule. Nothing else is told of them.
-    ensures told { IfErr result (TellsInput A (TellsReplay schedule.now) (R.remaining reader.old)) }
+    ensures told { IfErr result (TellsInput (TellsReplay schedule.now) (R.remaining reader.old)) }
+    // It takes the whole input, or its first 65,537 bytes; some of these where the reader failed or memory ran out.
+    ensures taken { OnOk result (TakesInput (R.remaining reader.old) (R.remaining reader.new)) }
+    ensures left { IfErr result (λ f. TakesAt f (R.remaining reader.old) (R.remaining reader.new)) }
     // The devices' faults are told exactly where they failed, and else the writer is left alone.
     ensures read { result ≡ Err BenchFault.Read ↔ R.failed reader.new ≡ true }
     ensures write { result ≡ Err BenchFault.Write ↔ W.failed writer.new ≡ true }

@@ -1,10 +1,11 @@
 //! The frame of all runs: a test is read, whatever is made of it is made whole, and only then written.
-ghost use Rattle.std.specs.Prelude.{◌≡◌, ◌≢◌, ◌⊎◌, ◌↔◌, true, false, Err, IfOk, IfErr};
+ghost use Rattle.std.specs.Prelude.{◌≡◌, ◌≢◌, ◌⊎◌, ◌↔◌, true, false, Err, IfOk, IfErr, OnOk};
 ghost use Rattle.lw_base.specs.Types.{Bytes};
 ghost use Rattle.lw_bench.specs.LitmusTests as specs;
 ghost use Rattle.lw_bench.specs.LitmusTests.{litmus_test_of};
 ghost use Rattle.lw_bench.specs.Outputs.{Makes, Writes};
-ghost use Rattle.lw_bench.specs.Told.{TellsRun, TellsInput, IsNoDevice};
+ghost use Rattle.lw_bench.specs.Devices.{TakesInput};
+ghost use Rattle.lw_bench.specs.Told.{TellsRun, TellsInput, TakesAt, IsNoDevice};
 ghost use Rattle.lw_bench.specs.declared.fault.BenchFault.{BenchFault as Fault};
 
 use crate::device::{ByteReader, ByteWriter, Failed};
@@ -40,7 +41,7 @@ fn make_of_text<O: Output<A>, A: Allocator + Copy>(
     text: &[u8],
 ) -> Result<(Text<A>, O::Answer), BenchFault>
     ensures found { IfOk result (λ x. Makes (λ test made. O.is_made output.now test made x.1) text.now x.0) }
-    ensures told { IfErr result (TellsRun A (O.tells output.now) text.now) }
+    ensures told { IfErr result (TellsRun (O.tells output.now) text.now) }
     ensures device { IfErr result IsNoDevice }
 {
     let test = read_test(alloc, text)?;
@@ -64,7 +65,9 @@ pub(crate) fn run_text<O: Output<A>, R: ByteReader, W: ByteWriter, A: Allocator 
     requires writer { W.failed writer.old ≡ false }
     ensures written { IfOk result (λ answer. Writes (λ test made. O.is_made output.now test made answer)
         (R.remaining reader.old) (W.contents writer.old) (W.contents writer.new)) }
-    ensures told { IfErr result (TellsInput A (O.tells output.now) (R.remaining reader.old)) }
+    ensures told { IfErr result (TellsInput (O.tells output.now) (R.remaining reader.old)) }
+    ensures taken { OnOk result (TakesInput (R.remaining reader.old) (R.remaining reader.new)) }
+    ensures left { IfErr result (λ f. TakesAt f (R.remaining reader.old) (R.remaining reader.new)) }
     ensures read { result ≡ Err Fault.Read ↔ R.failed reader.new ≡ true }
     ensures write { result ≡ Err Fault.Write ↔ W.failed writer.new ≡ true }
     ensures untouched { IfErr result (λ f. f ≢ Fault.Write → writer.new ≡ writer.old) }

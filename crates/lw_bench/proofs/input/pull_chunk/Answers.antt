@@ -1,7 +1,7 @@
 use Rattle.std.proofs.Common.{rules, arith, refl, ◌≡◌, ◌∙◌, ◌-◌, ◌≤◌, min, length}
 use Rattle.std.proofs.lemmas.Result.{err_from_is_err_and}
 use Rattle.std.proofs.lemmas.List.{length-take-le}
-use Rattle.lw_bench.proofs.Devices.{gets_front}
+use Rattle.lw_bench.proofs.Devices.{gets_front, loses_none, loses_front}
 use Rattle.lw_bench.proofs.input.pull_chunk.Goals as goal
 
 pub returns-in_default-clause-err : goal.returns-in_default-clause-err
@@ -19,6 +19,16 @@ is_room g c = search rules
 pub returns-clause-bytes : goal.returns-clause-bytes
 returns-clause-bytes g c =
     gets_front _ _ _ _ c.pull.new.buf _ c.min-room.result c.in-Ok.count c.requires.room (is_room g c) (whole g c) c.in-Ok.ensures.bound c.in-Ok.ensures.bytes c.in_ok-extend_from_slice.ensures.items
+
+pub returns-in_default-clause-lost : goal.returns-in_default-clause-lost
+returns-in_default-clause-lost g c = loses_none _ _ _ c.requires.room c.in_default.ensures.bytes
+
+pub returns-in_err-extend_from_slice-clause-lost : goal.returns-in_err-extend_from_slice-clause-lost
+returns-in_err-extend_from_slice-clause-lost g c =
+    let p = err_from_is_err_and c.from_residual.result c.from_residual.ensures.1 in
+    let room : c.min-room.result ≡ min 4096 (65537 - length c.args.bytes.now.items) = search rules in
+    let all : length c.pull.new.buf ≡ c.min-room.result = c.pull.auto.buf ∙ length-take-le c.min-room.result _ (omega (arith, c.min-room.ensures)) in
+    rw p.1 (loses_front _ _ _ c.pull.new.buf c.min-room.result c.in-Ok.count c.requires.room room all c.in-Ok.ensures.bound c.in-Ok.ensures.bytes.0)
 
 pub returns-in_err-extend_from_slice-clause-err : goal.returns-in_err-extend_from_slice-clause-err
 returns-in_err-extend_from_slice-clause-err g c =

@@ -1,11 +1,18 @@
 use Rattle.std.proofs.Common.{arith}
 use Rattle.std.proofs.lemmas.Result.{err_from_is_err_and}
-use Rattle.lw_bench.proofs.Devices.{gets_more, input_ended, input_full}
+use Rattle.lw_bench.proofs.Devices.{gets_more, input_ended, input_full, taken_ended, taken_full, taken_lost}
 use Rattle.lw_bench.proofs.input.read_input.Goals as goal
 
 pub returns-then-branch-eq0-clause-bytes : goal.returns-then-branch-eq0-clause-bytes
 returns-then-branch-eq0-clause-bytes g c =
     input_ended _ _ _ (gets_more _ _ _ _ _ _ c.loop-reader.invariant.bytes c.in_ok-pull_chunk.ensures.bytes) (c.in_ok-pull_chunk.ensures.bytes.ended c.if-branch-eq0.true)
+
+pub returns-then-branch-eq0-clause-taken : goal.returns-then-branch-eq0-clause-taken
+returns-then-branch-eq0-clause-taken g c =
+    taken_ended _ _ _ (gets_more _ _ _ _ _ _ c.loop-reader.invariant.bytes c.in_ok-pull_chunk.ensures.bytes) (c.in_ok-pull_chunk.ensures.bytes.ended c.if-branch-eq0.true) c.in_ok-pull_chunk.ensures.bytes.limit
+
+pub returns-clause-taken : goal.returns-clause-taken
+returns-clause-taken g c = taken_full _ _ _ c.loop-reader.invariant.bytes (omega arith)
 
 pub returns-clause-bytes : goal.returns-clause-bytes
 returns-clause-bytes g c = input_full _ _ _ c.loop-reader.invariant.bytes (omega arith)
@@ -17,6 +24,11 @@ loop-reader-preserved g c =
       limit = c.in_ok-pull_chunk.ensures.bytes.limit;
       bytes = gets_more _ _ _ _ _ _ c.loop-reader.invariant.bytes c.in_ok-pull_chunk.ensures.bytes;
     }
+
+pub returns-in_err-pull_chunk-clause-left : goal.returns-in_err-pull_chunk-clause-left
+returns-in_err-pull_chunk-clause-left g c =
+    let p = err_from_is_err_and c.from_residual.result c.from_residual.ensures.1 in
+    rw p.1 (taken_lost _ _ _ _ c.loop-reader.invariant.bytes c.in_err-pull_chunk.ensures.lost)
 
 pub returns-in_err-pull_chunk-clause-err : goal.returns-in_err-pull_chunk-clause-err
 returns-in_err-pull_chunk-clause-err g c =

@@ -1,6 +1,24 @@
+use Rattle.std.proofs.Common.{length}
+use Rattle.lw_base.proofs.Formulas.{has_locations}
+use Rattle.lw_base.specs.Heads.{TestHead, head_of}
 use Rattle.lw_bench.specs.LitmusTests.{litmus_test_of}
-use Rattle.lw_bench.proofs.TestReports.{report_of_list}
+use Rattle.lw_bench.proofs.TestReports.{report_of_list, outcomes_there}
 use Rattle.lw_bench.proofs.lists.report_of.Goals as goal
+
+pub states_of-states-requires-clause-threads : goal.states_of-states-requires-clause-threads
+states_of-states-requires-clause-threads g c = c.head-head.ensures.formed.few
+
+pub states_of-states-requires-clause-condition : goal.states_of-states-requires-clause-condition
+states_of-states-requires-clause-condition g c = c.head-head.ensures.formed.condition
+
+pub states_of-states-requires-clause-outcomes : goal.states_of-states-requires-clause-outcomes
+states_of-states-requires-clause-outcomes g c =
+    outcomes_there (litmus_test_of c.args.test.now) c.in_ok-listing.listing c.in_ok-listing.ensures.listed _ c.head-head.ensures.head
+
+pub write_report-report-requires-clause-locations : goal.write_report-report-requires-clause-locations
+write_report-report-requires-clause-locations g c =
+    let head : TestHead = head_of c.head-head.result.now in
+    has_locations head.threads (length head.locs) head.condition c.head-head.ensures.formed.condition
 
 pub returns-clause-found : goal.returns-clause-found
 returns-clause-found g c =

@@ -1,5 +1,8 @@
 use Rattle.std.proofs.Common.{arith}
 use Rattle.lw_base.proofs.Returns.{passed_on}
+use Rattle.lw_text.specs.Views.{frame_of}
+use Rattle.lw_text.specs.Places.{placed_cells}
+use Rattle.lw_text.proofs.CellPlaces.{grid_placed}
 use Rattle.lw_bench.proofs.DeviceFaults.{err_is}
 use Rattle.lw_bench.specs.Told.{TellsTest}
 use Rattle.lw_bench.proofs.Told.{text_is_told, cell_is_told, text_no_device, cell_no_device}
@@ -8,7 +11,7 @@ use Rattle.lw_bench.proofs.litmus_test.read_test.Goals as goal
 pub returns-in_err-frame-clause-told : goal.returns-in_err-frame-clause-told
 returns-in_err-frame-clause-told g c =
     let f = c.in_err-frame in
-    passed_on _ _ c.from_residual.ensures.1 (text_is_told (TellsTest _ c.args.text.now) tt _ (λ known. record {
+    passed_on _ _ c.from_residual.ensures.1 (text_is_told (TellsTest c.args.text.now) tt _ (λ known. record {
       none = f.ensures.fault known;
       place = f.ensures.place;
       too_long = λ long. err_is (f.ensures.too_long long);
@@ -24,10 +27,12 @@ returns-in_err-frame-clause-device g c =
 
 pub returns-in_err-read-clause-told : goal.returns-in_err-read-clause-told
 returns-in_err-read-clause-told g c =
-    passed_on _ _ c.from_residual-in_err-read.ensures.1 (cell_is_told (TellsTest _ c.args.text.now) tt _ (λ known. record {
-      frame = c.in_ok-frame.frame;
+    passed_on _ _ c.from_residual-in_err-read.ensures.1 (cell_is_told (TellsTest c.args.text.now) tt _ (λ known. record {
+      frame = frame_of c.in_ok-frame.frame;
       has_frame = c.in_ok-frame.ensures.found;
-      lies = c.in_ok-frame.ensures.spans;
+      cells = placed_cells c.in_ok-frame.frame.cells;
+      has_cells = c.in_ok-frame.ensures.cells;
+      are = grid_placed c.in_ok-frame.frame.cells;
       none = c.in_err-read.ensures.fault known;
       place = omega (arith, c.in_err-read.ensures.place, c.in_ok-frame.ensures.len);
       cause = c.in_err-read.ensures.cause;

@@ -17,4 +17,4 @@ returns-clause-found g c =
 
 pub returns-clause-told : goal.returns-clause-told
 returns-clause-told g c =
-    IfErr-weaker c.make-made.result _ _ (λ f told. told_of_test g.row.A.Denot (g.O.Output.tells c.args.output.now) c.args.text.now (litmus_test_of c.in_ok-test.test) f c.in_ok-test.ensures.found told) c.make-made.ensures.told
+    IfErr-weaker c.make-made.result _ _ (λ f told. told_of_test (g.O.Output.tells c.args.output.now) c.args.text.now (litmus_test_of c.in_ok-test.test) f c.in_ok-test.ensures.found told) c.make-made.ensures.told

@@ -1,9 +1,11 @@
 use Rattle.std.proofs.Common.{refl, inl}
 use Rattle.std.proofs.lemmas.Result.{err_from_is_err_and}
+use Rattle.lw_base.proofs.Returns.{passed_on}
 use Rattle.lw_bench.specs.declared.fault.BenchFault.TheVariants.{Read, Write}
 use Rattle.lw_bench.specs.Told.{TellsRun}
 use Rattle.lw_bench.proofs.DeviceFaults.{input_told, input_apart, write_apart, fault_apart, answer_apart}
 use Rattle.lw_bench.proofs.Outputs.{output_written}
+use Rattle.lw_bench.proofs.Taken.{taken_at, some_taken_at}
 use Rattle.lw_bench.proofs.Told.{device_told, some_told, told_of_input}
 use Rattle.lw_bench.proofs.run.run_text.Goals as goal
 
@@ -11,7 +13,7 @@ pub returns-in_err-made-clause-told : goal.returns-in_err-made-clause-told
 returns-in_err-made-clause-told g c =
     let p = err_from_is_err_and c.from_residual-in_err-made.result c.from_residual-in_err-made.ensures.1 in
     let fault = rw c.as_slice.ensures.value at c.in_err-made.ensures.told in
-    rw (p.1, p.2) (told_of_input _ (g.O.Output.tells c.args.output.now) _ _ _ c.in_ok-text.ensures.bytes fault)
+    rw (p.1, p.2) (told_of_input (g.O.Output.tells c.args.output.now) _ _ _ c.in_ok-text.ensures.bytes fault)
 
 pub returns-in-Ok-clause-written : goal.returns-in-Ok-clause-written
 returns-in-Ok-clause-written g c =
@@ -58,7 +60,15 @@ returns-in_err-text-clause-write g c =
 pub returns-in_err-text-clause-told : goal.returns-in_err-text-clause-told
 returns-in_err-text-clause-told g c =
     let p = err_from_is_err_and c.from_residual.result c.from_residual.ensures.1 in
-    rw (p.1, p.2) (device_told (TellsRun g.row.A.Denot (g.O.Output.tells c.args.output.now)) (g.R.ByteReader.remaining c.args.reader.now) c.in_err-text.field-0.0 (g.R.ByteReader.failed c.read_input.new.reader) (λ bytes. inl tt) (λ bytes. inl tt) c.in_err-text.ensures.err)
+    rw (p.1, p.2) (device_told (TellsRun (g.O.Output.tells c.args.output.now)) (g.R.ByteReader.remaining c.args.reader.now) c.in_err-text.field-0.0 (g.R.ByteReader.failed c.read_input.new.reader) (λ bytes. inl tt) (λ bytes. inl tt) c.in_err-text.ensures.err)
 
 pub returns-clause-told : goal.returns-clause-told
-returns-clause-told g c = some_told (TellsRun g.row.A.Denot (g.O.Output.tells c.args.output.now)) (g.R.ByteReader.remaining c.args.reader.now) Write (λ bytes. inl tt)
+returns-clause-told g c = some_told (TellsRun (g.O.Output.tells c.args.output.now)) (g.R.ByteReader.remaining c.args.reader.now) Write (λ bytes. inl tt)
+
+pub returns-in_err-text-clause-left : goal.returns-in_err-text-clause-left
+returns-in_err-text-clause-left g c =
+    passed_on _ _ c.from_residual.ensures.1 (some_taken_at _ _ c.in_err-text.field-0.0 (g.R.ByteReader.failed c.read_input.new.reader) c.in_err-text.ensures.err c.in_err-text.ensures.left)
+
+pub returns-in_err-made-clause-left : goal.returns-in_err-made-clause-left
+returns-in_err-made-clause-left g c =
+    passed_on _ _ c.from_residual-in_err-made.ensures.1 (taken_at _ _ c.in_err-made.field-0.0 c.in_ok-text.ensures.taken)

@@ -1,0 +1,59 @@
+//! Carries a task out, from the bytes that come in to the bytes that go out and the exit status.
+ghost use Rattle.std.specs.Prelude.{◌≡◌, ◌≢◌, ◌↔◌, true, false, Err, IfOk, IfErr, OnOk};
+ghost use Rattle.lw_bench.specs.Devices.{TakesInput};
+ghost use Rattle.lw_bench.specs.Outputs.{Writes};
+ghost use Rattle.lw_bench.specs.Tasks.{IsDone, TellsTask};
+ghost use Rattle.lw_bench.specs.Told.{TellsInput, TakesAt};
+
+use crate::command::Task;
+use crate::compile::compile_text;
+use crate::device::{ByteReader, ByteWriter};
+use crate::fault::{BenchFault, done_status, end_status};
+use crate::lists::{schedules_text, states};
+use crate::replay::replay_text;
+use std::alloc::Allocator;
+
+/// Carries a task out on the test that the reader gives, by the run of its name, writes what that makes, and answers the exit
+/// status: of a replay whether it ended in a final state, else that it is done.
+///
+/// The devices may not have failed before, and after a failure they are not called again.
+pub fn carry_out<R: ByteReader, W: ByteWriter, A: Allocator + Copy>(
+    alloc: A,
+    task: Task<'_>,
+    reader: &mut R,
+    writer: &mut W,
+) -> Result<u8, BenchFault>
+    requires reader { R.failed reader.old ≡ false }
+    requires writer { W.failed writer.old ≡ false }
+    // Where it answers, what the task makes of the test has been written, and nothing else, and the status is the task's.
+    ensures written { IfOk result (λ status. Writes (λ test made. IsDone task.entry test made status)
+        (R.remaining reader.old) (W.contents writer.old) (W.contents writer.new)) }
+    // What a fault tells is so, of what the task reads.
+    ensures told { IfErr result (TellsInput (TellsTask task.entry) (R.remaining reader.old)) }
+    // It takes the whole input, or its first 65,537 bytes; some of these where the reader failed or memory ran out.
+    ensures taken { OnOk result (TakesInput (R.remaining reader.old) (R.remaining reader.new)) }
+    ensures left { IfErr result (λ f. TakesAt f (R.remaining reader.old) (R.remaining reader.new)) }
+    // The devices' faults are told exactly where they failed, and else the writer is left alone.
+    ensures read { result ≡ Err BenchFault.Read ↔ R.failed reader.new ≡ true }
+    ensures write { result ≡ Err BenchFault.Write ↔ W.failed writer.new ≡ true }
+    ensures untouched { IfErr result (λ f. f ≢ BenchFault.Write → writer.new ≡ writer.old) }
+{
+    match task {
+        Task::States => {
+            states(alloc, reader, writer)?;
+            Ok(done_status())
+        }
+        Task::Compile => {
+            compile_text(alloc, reader, writer)?;
+            Ok(done_status())
+        }
+        Task::Schedules => {
+            schedules_text(alloc, reader, writer)?;
+            Ok(done_status())
+        }
+        Task::Replay(schedule, protocol) => {
+            let end = replay_text(alloc, reader, schedule, protocol, writer)?;
+            Ok(end_status(end))
+        }
+    }
+}
