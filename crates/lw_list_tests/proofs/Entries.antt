@@ -1,7 +1,9 @@
--- The outcome at a place of a list whose entries are of a test.
-use Rattle.std.proofs.Common.{◌≡◌, ℕ, zero, suc, Some, [], ◌∷◌, length, subst, slice_get, arith}
+-- The outcomes of a list whose entries are of a test.
+use Rattle.std.proofs.Common.{◌≡◌, ℕ, List, zero, suc, Some, [], ◌∷◌, length, subst, slice_get, arith}
 use Rattle.std.specs.Prelude.{All}
 use Rattle.std.proofs.lemmas.Option.{slice_get_within}
+use Rattle.std.proofs.lemmas.List.Elements.{All-map, All-weaker}
+use Rattle.lw_base.specs.declared.event.Event.{Event}
 use Rattle.lw_base.specs.Heads.{TestHead}
 use Rattle.lw_base.specs.Outcomes.{Final, IsOutcomeOf}
 use Rattle.lw_finals.specs.Listings.{Entries, outcomes_of, IsEntryOf}
@@ -13,3 +15,8 @@ pub outcome_of_test : (head : TestHead) (entries : Entries) (k : ℕ) (o : Final
 outcome_of_test head [] k o all at = absurd (omega (arith, slice_get_within (outcomes_of []) k o at))
 outcome_of_test head (e ∷ entries) zero o all at = subst (IsOutcomeOf head.threads (length head.locs)) (some_same e.0 o at) (all 0 e (omega arith)).outcome
 outcome_of_test head (e ∷ entries) (suc k) o all at = outcome_of_test head entries k o (λ j d lt. all (suc j) d (omega (arith, lt))) at
+
+pub outcomes_of_test : (head : TestHead) (entries : Entries) → All (IsEntryOf head) entries → All (IsOutcomeOf head.threads (length head.locs)) (outcomes_of entries)
+outcomes_of_test head entries are =
+    All-map (IsOutcomeOf head.threads (length head.locs)) (λ (e : Final × List Event). e.0) entries
+    (All-weaker (IsEntryOf head) (λ (e : Final × List Event). IsOutcomeOf head.threads (length head.locs) e.0) (λ e is. is.outcome) entries are)

@@ -16,9 +16,11 @@ fn word_of(verdict: Verdict) -> &'static str {
     }
 }
 
-/// Two stores to a location: `x` ends as 1 or as 2. So `x=0` is true in neither state, `x=1` in one, and `~x=0` in both. Behind a
-/// test stand the last lines of its report, of which the first is the verdict, where the states are claimed to be some.
+/// Message passing; and two stores to a location: `x` ends as 1 or as 2, so `x=0` is true in neither state, `x=1` in one, and
+/// `~x=0` in both. Behind a test stand the last lines of its report, of which the first is the verdict, where the states are claimed
+/// to be some.
 const LISTED: &str = "
+SRC MP {} P0|P1; x := 1 | r0 := y; y := 1 | r1 := x; ~exists (1:r0=1 /\\ 1:r1=0) => Unknown; Positive: 0 Negative: 3; Condition ~exists (1:r0=1 /\\ 1:r1=0); Observation MP Unknown 0 3; Listed, not claimed complete
 SRC A {} P0|P1; x := 1 | x := 2; exists (x=0) => Unknown; Positive: 0 Negative: 2; Condition exists (x=0); Observation A Unknown 0 2; Listed, not claimed complete
 SRC A {} P0|P1; x := 1 | x := 2; ~exists (x=0) => Unknown; Positive: 0 Negative: 2; Condition ~exists (x=0); Observation A Unknown 0 2; Listed, not claimed complete
 SRC A {} P0|P1; x := 1 | x := 2; forall (x=0) => No; Positive: 0 Negative: 2; Condition forall (x=0); Observation A Unknown 0 2; Listed, not claimed complete
@@ -35,7 +37,12 @@ fn are_judged(alloc: Global, source: &Source, states: &States, told: &str) -> bo
     let word = word_of(verdict(&source.head, states, Claim::Listed));
     match write_report(alloc, &source.head, states, Claim::Listed) {
         Ok(report) => {
-            told.starts_with(word) && report.as_str().lines().skip(4).eq(told.split("; "))
+            told.starts_with(word)
+                && report
+                    .as_str()
+                    .lines()
+                    .skip(states.len().saturating_add(2))
+                    .eq(told.split("; "))
         }
         Err(_) => false,
     }

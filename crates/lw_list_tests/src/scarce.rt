@@ -1,9 +1,7 @@
 //! Lists that are made where memory is scarce.
 use linked_list_allocator::LocalHeap;
 use lw_finals::{ListFault, Listing, list_raw, list_source};
-use lw_test_reader::{program_of, source_of};
-use std::alloc::Global;
-use std::test::Fail;
+use lw_test_reader::{Made, MadeInRoom, program_of, refusals, source_of};
 
 /// Store buffering.
 const STORE_BUFFERING: &str =
@@ -23,47 +21,47 @@ fn is_whole(listing: &Listing<&LocalHeap>, entries: usize, events: usize) -> boo
     listing.len() == entries
 }
 
-/// What becomes of a list: whether it is there whole. None where it is refused for anything but memory, or is another.
-fn is_listed(
-    listed: Result<Listing<&LocalHeap>, ListFault>,
+/// What becomes of a list, which is to have so many entries, each of so many events.
+fn listed(
+    listing: Result<Listing<&LocalHeap>, ListFault>,
     entries: usize,
     events: usize,
-) -> Option<bool> {
-    match listed {
-        Ok(listing) if is_whole(&listing, entries, events) => Some(true),
-        Err(ListFault::Memory) => Some(false),
+) -> Option<Made> {
+    match listing {
+        Ok(listing) if is_whole(&listing, entries, events) => Some(Made::Whole),
+        Err(ListFault::Memory) => Some(Made::Refused),
         _ => None,
     }
 }
 
-/// Whether there is the list of store buffering, of three entries of eight events, where there are so many bytes of memory.
-fn is_listed_in(alloc: Global, bytes: usize) -> Option<bool> {
-    let heap = LocalHeap::new(alloc, bytes).ok()?;
-    match source_of(&heap, STORE_BUFFERING) {
-        Some(source) => is_listed(list_source(&heap, &source), 3, 8),
-        None => Some(false),
+/// The list of store buffering.
+struct SourceList;
+
+impl MadeInRoom for SourceList {
+    fn make_in<'a>(roomy: &'a LocalHeap, heap: &'a LocalHeap) -> Option<Made> {
+        let source = source_of(roomy, STORE_BUFFERING)?;
+        listed(list_source(heap, &source), 3, 8)
     }
 }
 
-/// The same in x86 instructions: four entries of six events.
-fn is_raw_listed_in(alloc: Global, bytes: usize) -> Option<bool> {
-    let heap = LocalHeap::new(alloc, bytes).ok()?;
-    match program_of(&heap, X86_STORE_BUFFERING) {
-        Some(program) => is_listed(list_raw(&heap, &program), 4, 6),
-        None => Some(false),
+/// The same in x86 instructions.
+struct X86List;
+
+impl MadeInRoom for X86List {
+    fn make_in<'a>(roomy: &'a LocalHeap, heap: &'a LocalHeap) -> Option<Made> {
+        let program = program_of(roomy, X86_STORE_BUFFERING)?;
+        listed(list_raw(heap, &program), 4, 6)
     }
 }
 
-/// Memory is refused at each growth in turn, up to the first room that is enough for both.
+/// Memory is refused at each growth in turn, up to the first heap that is enough.
 #[test]
-fn lists_where_memory_is_scarce(rt: HostRuntime) -> Result<(), Fail> {
-    for units in 4..1024usize {
-        let is_listed = is_listed_in(rt.alloc(), 16 * units).ok_or("a list")?;
-        let is_raw_listed = is_raw_listed_in(rt.alloc(), 16 * units).ok_or("an x86 list")?;
-        if is_listed && is_raw_listed {
-            assert!(rt; units > 8);
-            return Ok(());
-        }
-    }
-    Err(Fail::from("no list"))
+fn lists_where_memory_is_scarce(rt: HostRuntime) {
+    let lists = refusals::<SourceList>(rt.alloc());
+    assert!(rt; matches!(lists, Some(number) if number > 3), "{lists:?}");
+    let x86_lists = refusals::<X86List>(rt.alloc());
+    assert!(rt;
+        matches!(x86_lists, Some(number) if number > 3),
+        "{x86_lists:?}"
+    );
 }

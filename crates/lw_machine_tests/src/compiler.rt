@@ -6,21 +6,22 @@ ghost use Rattle.lw_source.specs.Runs.{State, Ran, start_of};
 ghost use Rattle.lw_source.specs.Views.{source_of as test_of_source};
 ghost use Rattle.lw_x86.specs.Views.{program_of};
 
+use linked_list_allocator::LocalHeap;
 use lw_base::{Cpu, End, Event, read_schedule};
 use lw_fence::{Compiled, compile, schedule_of};
 use lw_source::{Source, SourceRun};
-use lw_test_reader::source_of;
-use std::alloc::{AllocError, Global};
+use lw_test_reader::{Made, MadeInRoom, refusals, source_of};
+use std::alloc::{AllocError, Allocator, Global};
 
 /// A step of each of these threads, in turn.
-fn steps_of(alloc: Global, order: &[Cpu]) -> Result<Vec<Event>, AllocError>
+fn steps_of<A: Allocator + Copy>(alloc: A, order: &[Cpu]) -> Result<Vec<Event, A>, AllocError>
     ensures { IfOk result (λ steps. steps.items ≡ map Step order.now) }
 {
     order.iter().map(|cpu| Event::Step(*cpu)).collect(alloc)
 }
 
 /// Whether the source runs by these threads to its end.
-fn ends_by(alloc: Global, source: &Source, order: &[Cpu]) -> bool
+fn ends_by<A: Allocator + Copy>(alloc: A, source: &Source<A>, order: &[Cpu]) -> bool
     ensures { IsTrue result → (end : State)
         × Ran source.now.threads (map Step order.now) (start_of (test_of_source source.now)) end }
 {
@@ -121,4 +122,57 @@ fn schedules_of_runs(rt: HostRuntime) {
         "SRC SBS {0:r1=1;1:r1=1} P0|P1; r0 := swap x r1 | r0 := swap y r1; r2 := y | r2 := x; exists (true)";
     let schedule = "P0 P0 P0 P1 P1 P1";
     assert!(rt; holds(rt.alloc(), swaps, &[0, 2, 3], &[p0, p0, p1, p1], schedule));
+}
+
+/// Store buffering.
+const STORE_BUFFERING: &str = "SRC SB {} P0|P1; x := 1 | y := 1; r0 := y | r0 := x; exists (true)";
+
+/// What it is compiled to.
+struct Compilation;
+
+impl MadeInRoom for Compilation {
+    fn make_in<'a>(roomy: &'a LocalHeap, heap: &'a LocalHeap) -> Option<Made> {
+        let source = source_of(roomy, STORE_BUFFERING)?;
+        match compile(heap, &source) {
+            Ok(compiled) if compiled.starts.len() == 2 => Some(Made::Whole),
+            Ok(_) => None,
+            Err(AllocError) => Some(Made::Refused),
+        }
+    }
+}
+
+/// The schedule that a run of it stands for.
+struct Schedule;
+
+impl MadeInRoom for Schedule {
+    fn make_in<'a>(roomy: &'a LocalHeap, heap: &'a LocalHeap) -> Option<Made> {
+        let [p0, p1, ..] = Cpu::all();
+        let source = source_of(roomy, STORE_BUFFERING)?;
+        let Ok(compiled) = compile(roomy, &source) else {
+            return None;
+        };
+        if !ends_by(roomy, &source, &[p0, p1, p0, p1]) {
+            return None;
+        }
+        match schedule_of(heap, &source, &compiled, &[p0, p1, p0, p1]) {
+            Ok(events) if events.len() == 8 => Some(Made::Whole),
+            Ok(_) => None,
+            Err(AllocError) => Some(Made::Refused),
+        }
+    }
+}
+
+/// Memory is refused at each growth in turn, up to the first heap that is enough.
+#[test]
+fn compiling_where_memory_is_scarce(rt: HostRuntime) {
+    let compiled = refusals::<Compilation>(rt.alloc());
+    assert!(rt;
+        matches!(compiled, Some(number) if number > 3),
+        "{compiled:?}"
+    );
+    let schedules = refusals::<Schedule>(rt.alloc());
+    assert!(rt;
+        matches!(schedules, Some(number) if number > 0),
+        "{schedules:?}"
+    );
 }

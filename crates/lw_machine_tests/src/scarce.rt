@@ -1,13 +1,14 @@
-//! A machine that is made where memory is scarce.
+//! Caches and a machine that are made where memory is scarce.
 use crate::machines::caches_of;
 use crate::restarts::is_untouched;
 use linked_list_allocator::LocalHeap;
-use lw_base::{Cpu, End, Event};
+use lw_base::{Cpu, End, Event, Loc};
+use lw_memory::MemorySystem;
 use lw_mesi::Mesi;
-use lw_test_reader::program_of;
+use lw_test_reader::{Made, MadeInRoom, program_of, refusals};
 use lw_tso::Machine;
 use lw_x86::Program;
-use std::alloc::Global;
+use std::alloc::{AllocError, Global};
 
 /// Store buffering, with words in memory.
 const STORE_BUFFERING: &str =
@@ -59,4 +60,28 @@ fn machines_where_memory_is_scarce(rt: HostRuntime) {
         None => None,
     };
     assert!(rt; matches!(refused, Some(rooms) if rooms > 3), "{refused:?}");
+}
+
+/// Empty caches.
+struct Caches;
+
+impl MadeInRoom for Caches {
+    fn make_in<'a>(_roomy: &'a LocalHeap, heap: &'a LocalHeap) -> Option<Made> {
+        let made: Result<Mesi<&LocalHeap>, AllocError> = Mesi::new(heap, 2, &[5, 7]);
+        let [x, y, ..] = Loc::all();
+        match made {
+            Ok(caches) if caches.word_at_end(x) == 5 && caches.word_in_memory(y) == 7 => Some(
+                Made::Whole,
+            ),
+            Ok(_) => None,
+            Err(AllocError) => Some(Made::Refused),
+        }
+    }
+}
+
+/// The same of caches alone.
+#[test]
+fn caches_where_memory_is_scarce(rt: HostRuntime) {
+    let caches = refusals::<Caches>(rt.alloc());
+    assert!(rt; matches!(caches, Some(number) if number > 0), "{caches:?}");
 }

@@ -3,6 +3,7 @@ ghost use Rattle.std.specs.Prelude.{◌≡◌, IfOk};
 ghost use Rattle.lw_orders.specs.Order.{IsWellFormed};
 
 use crate::plain::plain_orders;
+use linked_list_allocator::LocalHeap;
 use lw_orders::{Items, Orders, count};
 use std::alloc::{AllocError, Global};
 use std::test::Fail;
@@ -273,4 +274,88 @@ fn a_fence_jumped_over_is_as_the_plain_body_has_it(rt: HostRuntime) -> Result<()
     )?;
     assert!(rt; given == 4 * 11);
     Ok(())
+}
+
+/// Twenty pairs of items, each in a conflict of its own.
+const APART: [(u8, u8); 20] = [
+    (0, 1),
+    (2, 3),
+    (4, 5),
+    (6, 7),
+    (8, 9),
+    (10, 11),
+    (12, 13),
+    (14, 15),
+    (16, 17),
+    (18, 19),
+    (20, 21),
+    (22, 23),
+    (24, 25),
+    (26, 27),
+    (28, 29),
+    (30, 31),
+    (32, 33),
+    (34, 35),
+    (36, 37),
+    (38, 39),
+];
+
+/// How many orders are given, and how many directions are tried for them.
+fn given_and_tried(alloc: Global, items: &Items) -> Result<(u32, u64), AllocError> {
+    if count(alloc, items)?.is_none() {
+        return Ok((0, 0));
+    }
+    let mut orders = Orders::new(alloc, items)?;
+    let mut given = 0u32;
+    for _ in 0..1_048_577u32 {
+        if orders.next().is_some() {
+            given = given.saturating_add(1);
+        }
+    }
+    Ok((given, orders.tries()))
+}
+
+/// The most orders that there can be are all given, with fewer than 2 to the 21 tries.
+#[test]
+fn the_most_orders_take_few_tries(rt: HostRuntime) -> Result<(), Fail> {
+    let items = items_of(rt.alloc(), 40, &[], &APART)?;
+    let (given, tried) = given_and_tried(rt.alloc(), &items)?;
+    assert!(rt; given == 1_048_576 && tried < 2_097_152, "{given} {tried}");
+    Ok(())
+}
+
+/// How many orders of these items are given where there are so many bytes of memory. None where there is none for the iterator.
+fn given_in(alloc: Global, items: &Items, bytes: usize) -> Result<Option<u32>, AllocError> {
+    if count(alloc, items)?.is_none() {
+        return Ok(None);
+    }
+    let heap = LocalHeap::new(alloc, bytes)?;
+    match Orders::new(&heap, items) {
+        Ok(mut orders) => {
+            let mut given = 0u32;
+            for _ in 0..4u32 {
+                if orders.next().is_some() {
+                    given = given.saturating_add(1);
+                }
+            }
+            Ok(Some(given))
+        }
+        Err(AllocError) => Ok(None),
+    }
+}
+
+/// Memory for the iterator is refused at each growth in turn, up to the first room that is enough: there it gives its three orders, and
+/// takes no more.
+#[test]
+fn orders_where_memory_is_scarce(rt: HostRuntime) -> Result<(), Fail> {
+    let items = items_of(rt.alloc(), 4, &[(0, 1), (2, 3)], &[(0, 3), (1, 2)])?;
+    let mut refused = 0u32;
+    for units in 4..4096usize {
+        if let Some(given) = given_in(rt.alloc(), &items, 16 * units)? {
+            assert!(rt; given == 3 && refused > 3, "{given} {refused}");
+            return Ok(());
+        }
+        refused = refused.saturating_add(1);
+    }
+    Err(Fail::from("no orders"))
 }

@@ -1,5 +1,5 @@
 //! Readers and writers that give and take little at a time and fail where they are told to.
-use std::io::{self, Read, Write};
+use std::io::{self, ErrorKind, Read, Write};
 
 /// A reader of a text: one byte a call, and one of its calls fails.
 #[derive(Drop)]
@@ -7,16 +7,23 @@ pub(crate) struct Tape<'a> {
     text: &'a [u8],
     at: usize,
     failing: usize,
+    error: ErrorKind,
     pub(crate) calls: usize,
 }
 
 impl<'a> Tape<'a> {
-    /// A reader whose call of this number fails; none where it is 0.
-    pub(crate) fn failing(text: &'a [u8], failing: usize) -> Self {
+    /// A reader that does not fail.
+    pub(crate) fn new(text: &'a [u8]) -> Self {
+        Tape::failing(text, 0, ErrorKind::Other)
+    }
+
+    /// A reader whose call of this number fails by this error; none where it is 0.
+    pub(crate) fn failing(text: &'a [u8], failing: usize, error: ErrorKind) -> Self {
         Tape {
             text,
             at: 0,
             failing,
+            error,
             calls: 0,
         }
     }
@@ -26,7 +33,7 @@ impl Read for Tape<'_> {
     fn read(&mut self, buf: &mut [u8]) -> io::Result<usize> {
         self.calls = self.calls.saturating_add(1);
         if self.calls == self.failing {
-            return Err(io::Error::from(io::ErrorKind::Interrupted));
+            return Err(io::Error::from(self.error));
         }
         match (buf.first_mut(), self.text.get(self.at)) {
             (Some(room), Some(byte)) => {
@@ -45,18 +52,23 @@ pub(crate) struct Sheet {
     bytes: [u8; 4096],
     len: usize,
     failing: usize,
-    takes_none: bool,
+    error: Option<ErrorKind>,
     pub(crate) calls: usize,
 }
 
 impl Sheet {
-    /// A writer whose call of this number fails; none where it is 0.
-    pub(crate) fn failing(failing: usize, takes_none: bool) -> Self {
+    /// A writer that does not fail.
+    pub(crate) fn new() -> Self {
+        Sheet::failing(0, None)
+    }
+
+    /// A writer whose call of this number fails, by this error or by taking nothing; none where it is 0.
+    pub(crate) fn failing(failing: usize, error: Option<ErrorKind>) -> Self {
         Sheet {
             bytes: [0; 4096],
             len: 0,
             failing,
-            takes_none,
+            error,
             calls: 0,
         }
     }
@@ -76,10 +88,10 @@ impl Write for Sheet {
     fn write(&mut self, buf: &[u8]) -> io::Result<usize> {
         self.calls = self.calls.saturating_add(1);
         if self.calls == self.failing {
-            if self.takes_none {
-                return Ok(0);
-            }
-            return Err(io::Error::from(io::ErrorKind::Interrupted));
+            return match self.error {
+                Some(error) => Err(io::Error::from(error)),
+                None => Ok(0),
+            };
         }
         match (self.bytes.get_mut(self.len), buf.first()) {
             (Some(room), Some(byte)) => {

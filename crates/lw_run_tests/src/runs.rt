@@ -1,13 +1,12 @@
 //! The runs of the workbench on store buffering, between devices.
-ghost use Rattle.std.specs.Prelude.{◌≡◌, false};
-
 use crate::devices::{Sheet, Tape};
 use lw_base::End;
 use lw_bench::{
-    BenchFault, FromRead, Protocol, Task, ToWrite, compile_text, replay_text, schedules_text,
-    states,
+    BenchFault, FromRead, Protocol, Task, ToWrite, carry_out, compile_text, replay_text,
+    schedules_text, states,
 };
-use std::alloc::{Allocator, Global};
+use std::alloc::Global;
+use std::io::ErrorKind;
 
 /// Store buffering: each thread stores to its own location and loads the other's.
 const STORE_BUFFERING: &str =
@@ -46,7 +45,7 @@ const X86_STORE_BUFFERING_PAGE: &str =
     "Test SB\nSteps 6\nEnd Final\nP0 at 2 EAX=0 EBX=0 ECX=0 EDX=0 ESI=0 EDI=0\nP0 buffer\nP0 lines x=M y=I\nP1 at 2 EAX=0 EBX=0 ECX=0 EDX=0 ESI=0 EDI=0\nP1 buffer\nP1 lines x=I y=M\nMemory x=0 y=0\nContent x=1 y=1\n";
 
 /// Each task of store buffering, its text, and what is written.
-pub(crate) const RUNS: [(Task<'static>, &str, &str); 7] = [
+pub(crate) const RUNS: [(Task<'static>, &str, &str); 8] = [
     (Task::States, STORE_BUFFERING, STORE_BUFFERING_REPORT),
     (Task::Compile, STORE_BUFFERING, STORE_BUFFERING_COMPILED),
     (Task::Schedules, STORE_BUFFERING, STORE_BUFFERING_SCHEDULES),
@@ -61,6 +60,11 @@ pub(crate) const RUNS: [(Task<'static>, &str, &str); 7] = [
         X86_STORE_BUFFERING_REPORT,
     ),
     (
+        Task::Compile,
+        STORE_BUFFERING_COMPILED,
+        STORE_BUFFERING_COMPILED,
+    ),
+    (
         Task::Schedules,
         X86_STORE_BUFFERING,
         X86_STORE_BUFFERING_SCHEDULES,
@@ -72,49 +76,18 @@ pub(crate) const RUNS: [(Task<'static>, &str, &str); 7] = [
     ),
 ];
 
-/// Carries out a task between these devices.
-pub(crate) fn carry_out<A: Allocator + Copy>(
-    alloc: A,
-    task: Task<'_>,
-    reader: &mut FromRead<Tape<'_>>,
-    writer: &mut ToWrite<Sheet>,
-) -> Result<(), BenchFault>
-    requires reader { reader.old.failed ≡ false }
-    requires writer { writer.old.failed ≡ false }
-{
-    match task {
-        Task::States => states(alloc, reader, writer),
-        Task::Compile => compile_text(alloc, reader, writer),
-        Task::Schedules => schedules_text(alloc, reader, writer),
-        Task::Replay(schedule, protocol) => {
-            match replay_text(alloc, reader, schedule, protocol, writer) {
-                Ok(_end) => Ok(()),
-                Err(fault) => Err(fault),
-            }
-        }
-    }
-}
-
 /// What a task answers, how often it has read, and what it has written.
 #[derive(Drop)]
 struct Ran {
-    result: Result<(), BenchFault>,
+    result: Result<u8, BenchFault>,
     reads: usize,
     sheet: Sheet,
 }
 
-/// Carries out a task between a reader that gives one byte at a time and a writer that takes one, where the read of one of these
-/// numbers and the write of the other fail.
-fn run_failing(
-    alloc: Global,
-    task: Task<'_>,
-    text: &str,
-    reading: usize,
-    writing: usize,
-    takes_none: bool,
-) -> Ran {
-    let mut reader = FromRead::new(Tape::failing(text.as_bytes(), reading));
-    let mut writer = ToWrite::new(Sheet::failing(writing, takes_none));
+/// Carries out a task between a reader that gives one byte at a time and a writer that takes one.
+fn run_between(alloc: Global, task: Task<'_>, tape: Tape<'_>, sheet: Sheet) -> Ran {
+    let mut reader = FromRead::new(tape);
+    let mut writer = ToWrite::new(sheet);
     let result = carry_out(alloc, task, &mut reader, &mut writer);
     Ran {
         result,
@@ -127,20 +100,46 @@ fn run_failing(
 #[test]
 fn byte_by_byte(rt: HostRuntime) {
     for (task, text, written) in RUNS {
-        let ran = run_failing(rt.alloc(), task, text, 0, 0, false);
-        assert!(rt; ran.result.is_ok() && ran.sheet.is(written));
+        let ran = run_between(rt.alloc(), task, Tape::new(text.as_bytes()), Sheet::new());
+        assert!(rt; matches!(ran.result, Ok(0)) && ran.sheet.is(written));
         assert!(rt; ran.reads == text.len().saturating_add(1) && ran.sheet.calls == written.len());
     }
 }
 
-/// Whichever read fails, that is told, nothing is written, and the reader isn't called again.
+/// Each run by its own call writes what its task does.
+#[test]
+fn runs_by_their_names(rt: HostRuntime) {
+    for (task, text, written) in RUNS {
+        let mut reader = FromRead::new(Tape::new(text.as_bytes()));
+        let mut writer = ToWrite::new(Sheet::new());
+        let is_done = match task {
+            Task::States => states(rt.alloc(), &mut reader, &mut writer).is_ok(),
+            Task::Compile => compile_text(rt.alloc(), &mut reader, &mut writer).is_ok(),
+            Task::Schedules => schedules_text(rt.alloc(), &mut reader, &mut writer).is_ok(),
+            Task::Replay(schedule, protocol) => {
+                replay_text(rt.alloc(), &mut reader, schedule, protocol, &mut writer)
+                    == Ok(End::Final)
+            }
+        };
+        assert!(rt; is_done && writer.writer.is(written));
+    }
+}
+
+/// Whichever read fails, by whatever error, that is told, nothing is written, and the reader isn't called again.
 #[test]
 fn each_read_fails(rt: HostRuntime) {
     for (task, text, _) in RUNS {
         for failing in 1..text.len().saturating_add(2) {
-            let ran = run_failing(rt.alloc(), task, text, failing, 0, false);
-            let is_told = matches!(ran.result, Err(BenchFault::Read));
-            assert!(rt; is_told && ran.reads == failing && ran.sheet.calls == 0);
+            for error in [
+                ErrorKind::Interrupted,
+                ErrorKind::UnexpectedEof,
+                ErrorKind::Other,
+            ] {
+                let tape = Tape::failing(text.as_bytes(), failing, error);
+                let ran = run_between(rt.alloc(), task, tape, Sheet::new());
+                let is_told = matches!(ran.result, Err(BenchFault::Read));
+                assert!(rt; is_told && ran.reads == failing && ran.sheet.calls == 0);
+            }
         }
     }
 }
@@ -150,8 +149,13 @@ fn each_read_fails(rt: HostRuntime) {
 fn each_write_fails(rt: HostRuntime) {
     for (task, text, written) in RUNS {
         for failing in 1..written.len().saturating_add(1) {
-            for takes_none in [false, true] {
-                let ran = run_failing(rt.alloc(), task, text, 0, failing, takes_none);
+            for error in [
+                None,
+                Some(ErrorKind::Interrupted),
+                Some(ErrorKind::BrokenPipe),
+            ] {
+                let sheet = Sheet::failing(failing, error);
+                let ran = run_between(rt.alloc(), task, Tape::new(text.as_bytes()), sheet);
                 let is_told = matches!(ran.result, Err(BenchFault::Write));
                 assert!(rt; is_told && ran.sheet.calls == failing);
             }
@@ -159,20 +163,21 @@ fn each_write_fails(rt: HostRuntime) {
     }
 }
 
-/// What a replay answers, how often it has read, and how often it has written.
-fn replayed(alloc: Global, text: &[u8], schedule: &str) -> (Result<End, BenchFault>, usize, usize) {
-    let mut reader = FromRead::new(Tape::failing(text, 0));
-    let mut writer = ToWrite::new(Sheet::failing(0, false));
-    let result = replay_text(alloc, &mut reader, schedule, Protocol::Mesi, &mut writer);
-    (result, reader.reader.calls, writer.writer.calls)
-}
-
-/// Of an endless input 65,537 bytes are read, and no more.
+/// Of an endless input each run reads 65,537 bytes, and no more, and writes nothing.
 #[test]
 fn endless_input(rt: HostRuntime) {
-    let (result, reads, writes) = replayed(rt.alloc(), &[0xff; 70000], "");
-    assert!(rt; matches!(result, Err(BenchFault::Text(fault)) if fault.at == 65536));
-    assert!(rt; reads == 65537 && writes == 0);
+    for (task, _, _) in RUNS {
+        let ran = run_between(rt.alloc(), task, Tape::new(&[0xff; 70000]), Sheet::new());
+        assert!(rt; matches!(ran.result, Err(BenchFault::Text(fault)) if fault.at == 65536));
+        assert!(rt; ran.reads == 65537 && ran.sheet.calls == 0);
+    }
+}
+
+/// What a replay by a schedule answers, and how often it has written.
+fn replayed(alloc: Global, text: &[u8], schedule: &str) -> (Result<u8, BenchFault>, usize) {
+    let task = Task::Replay(schedule, Protocol::Mesi);
+    let ran = run_between(alloc, task, Tape::new(text), Sheet::new());
+    (ran.result, ran.sheet.calls)
 }
 
 /// A text cut off is refused as a text, at a place in it, unless only the last line end is gone.
@@ -181,12 +186,12 @@ fn prefixes(rt: HostRuntime) {
     let text = STORE_BUFFERING.as_bytes();
     for len in 0..86usize {
         let (front, _rest) = text.split_at(len);
-        let (result, _reads, writes) = replayed(rt.alloc(), front, "");
+        let (result, writes) = replayed(rt.alloc(), front, "");
         assert!(rt;
             matches!(result, Err(BenchFault::Text(fault)) if fault.at <= len) && writes == 0
         );
     }
     let (front, _rest) = text.split_at(86);
-    assert!(rt; matches!(replayed(rt.alloc(), front, "").0, Ok(End::NotFinal)));
-    assert!(rt; matches!(replayed(rt.alloc(), text, "P0 P0 P1 P1").0, Ok(End::Final)));
+    assert!(rt; matches!(replayed(rt.alloc(), front, "").0, Ok(1)));
+    assert!(rt; matches!(replayed(rt.alloc(), text, "P0 P0 P1 P1").0, Ok(0)));
 }

@@ -1,8 +1,8 @@
 //! Runs where memory is scarce.
 use crate::devices::{Sheet, Tape};
-use crate::runs::{RUNS, carry_out};
+use crate::runs::RUNS;
 use linked_list_allocator::LocalHeap;
-use lw_bench::{BenchFault, FromRead, Task, ToWrite};
+use lw_bench::{BenchFault, FromRead, Task, ToWrite, carry_out};
 use std::alloc::Global;
 use std::test::Fail;
 
@@ -16,10 +16,10 @@ fn is_written_in(
     wanted: &str,
 ) -> Option<bool> {
     let heap = LocalHeap::new(alloc, bytes).ok()?;
-    let mut reader = FromRead::new(Tape::failing(text.as_bytes(), 0));
-    let mut writer = ToWrite::new(Sheet::failing(0, false));
+    let mut reader = FromRead::new(Tape::new(text.as_bytes()));
+    let mut writer = ToWrite::new(Sheet::new());
     match carry_out(&heap, task, &mut reader, &mut writer) {
-        Ok(()) if writer.writer.is(wanted) => Some(true),
+        Ok(0) if writer.writer.is(wanted) => Some(true),
         Err(BenchFault::Memory) if writer.writer.calls == 0 => Some(false),
         _ => None,
     }

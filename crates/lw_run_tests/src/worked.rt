@@ -2,9 +2,8 @@
 //! fault, with ` => ` between them. The words are those of a command, or the schedule of a replay, behind which may stand the
 //! protocol. In each a `$` stands for a line end, an `@` for the dollar sign, and `<3 ab>` for `ababab`.
 use crate::devices::{Sheet, Tape};
-use crate::runs::carry_out;
 use crate::spelling::spelled;
-use lw_bench::{FromRead, Protocol, Task, ToWrite, fault_line};
+use lw_bench::{FromRead, Protocol, Task, ToWrite, carry_out, fault_line};
 use std::alloc::Global;
 
 /// Reports: the classic tests in both languages, store buffering under `forall` and compiled, and the empty test.
@@ -64,7 +63,7 @@ compile => SRC OWN+ {x=5; 0:r0=3} P0; r0 := fetchadd x r0; exists (true) => X86 
 compile => SRC ADDED {} P0; x := 1; r0 := fetchadd y r1; r2 := z; exists (true) => X86 ADDED${$ x=0;$ y=0;$ z=0;$}$ P0 ;$ MOV [x],@1 ;$ MOV EAX,EBX ;$ LOCK XADD [y],EAX ;$ MOV ECX,[z] ;$exists (true)$
 compile => X86 A {} P0; mov eax,0x10; LOCK XCHG EAX,[x]; exists ([x]=1) => X86 A${$ x=0;$}$ P0 ;$ MOV EAX,@16 ;$ XCHG [x],EAX ;$exists (x=1)$
 compile => X86 B { 0:EAX=1; x=2 } P0; locations [x; 0:EAX] exists (true) => X86 B${$ 0:EAX=1;$ x=2;$}$ P0 ;$locations [0:EAX; x;]$exists (true)$
-compile => X86 Right {} P0; exists <127 x=1 \\/ (>x=1<127 )> => X86 Right${$ x=0;$}$ P0 ;$exists <126 (x=1 \\/ >(x=1 \\/ x=1<126 )>)$
+compile => X86 Right {} P0; exists (not (<126 x=1 \\/ (>x=1 \\/ x=1<127 )>) => X86 Right${$ x=0;$}$ P0 ;$exists (~(<126 x=1 \\/ (>x=1 \\/ x=1<127 )>)$
 ";
 
 /// Replays of source tests, and schedules that are refused.
@@ -142,12 +141,20 @@ fn task_of(words: &str) -> Task<'_> {
     }
 }
 
-/// Whether the task writes this of the text, or its fault is told so and nothing is written.
+/// The exit status of a task that writes this: of a replay's page whether it tells of a final state.
+fn status_beside(written: &str) -> u8 {
+    match written.lines().nth(2) {
+        Some(line) if line.starts_with("End ") && line != "End Final" => 1,
+        _ => 0,
+    }
+}
+
+/// Whether the task writes this of the text, with its exit status, or its fault is told so and nothing is written.
 fn writes(alloc: Global, task: Task<'_>, text: &[u8], told: &str) -> bool {
-    let mut reader = FromRead::new(Tape::failing(text, 0));
-    let mut writer = ToWrite::new(Sheet::failing(0, false));
+    let mut reader = FromRead::new(Tape::new(text));
+    let mut writer = ToWrite::new(Sheet::new());
     match carry_out(alloc, task, &mut reader, &mut writer) {
-        Ok(()) => writer.writer.is(told),
+        Ok(status) => status == status_beside(told) && writer.writer.is(told),
         Err(fault) => match fault_line(alloc, &fault) {
             Ok(line) => line.as_str() == told && writer.writer.calls == 0,
             Err(_) => false,

@@ -13,4 +13,6 @@ mod programs;
 #[cfg(test)]
 mod runs;
 #[cfg(test)]
+mod scarce;
+#[cfg(test)]
 mod values;

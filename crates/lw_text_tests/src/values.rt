@@ -1,5 +1,5 @@
-//! Outcomes: their order, and as keys.
-use lw_base::{Outcome, Sequence, Word};
+//! Outcomes: their order, and as keys; and lists and texts in the memory of a `Vec` and a `String`.
+use lw_base::{Outcome, Sequence, Text, Word};
 use lw_text::number;
 use std::alloc::{AllocError, Global};
 use std::collections::HashSet;
@@ -69,5 +69,16 @@ fn equal_outcomes_are_one_key(rt: HostRuntime) -> Result<(), Fail> {
         *is_new = seen.insert(outcome_of(rt.alloc(), spelled)?)?;
     }
     assert!(rt; added == [true, true, false] && seen.len() == 2);
+    Ok(())
+}
+
+/// A list and a text are made of a `Vec` and a `String`, and give them back.
+#[test]
+fn lists_and_texts_give_their_memory_back(rt: HostRuntime) -> Result<(), Fail> {
+    let items = Vec::from_slice(rt.alloc(), &[3, 1, 2])?;
+    let list = Sequence::from(items);
+    assert!(rt; list.len() == 3 && list.into_vec().as_slice() == [3, 1, 2].as_slice());
+    let text = Text::from(String::from_str(rt.alloc(), "x86-TSO")?);
+    assert!(rt; text.as_str().len() == 7 && text.into_string().as_str() == "x86-TSO");
     Ok(())
 }

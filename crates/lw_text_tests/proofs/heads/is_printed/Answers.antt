@@ -1,0 +1,9 @@
+use Rattle.std.proofs.Common.{length}
+use Rattle.lw_base.specs.Propositions.{formula_of}
+use Rattle.lw_base.proofs.Formulas.{has_locations}
+use Rattle.lw_text_tests.proofs.heads.is_printed.Goals as goal
+
+pub write_condition-requires : goal.write_condition-requires
+write_condition-requires c =
+    let head = c.args.frame.now.head in
+    rw c.head.ensures (has_locations head.threads (length head.locs) (formula_of head.prop) c.args.frame.now.well_formed.condition)
