@@ -35,7 +35,10 @@ failed_in() {
 
 rm -rf crates/lw/out/build
 look_at_sources && list_sources >"$room/sources" || exit 1
-run_part gate rt ci || exit 1
+run_part gate rt ci || {
+    cat "$room/times"
+    exit 1
+}
 
 # What the gate has proved and built is the program of these sources.
 mv "$room/sources" "$made_of"

@@ -81,7 +81,8 @@ class Watch:
                 work = None
             if work is None and parent in stats:
                 work = self.works.get((parent, stats[parent][2]))
-            self.works[process, start] = work
+            # (One that has ended and is not yet fetched has no words any more.)
+            self.works[process, start] = work or self.works.get((process, start))
             self.ticks[process, start] = ticks
 
     def minutes(self):
