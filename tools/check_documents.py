@@ -18,9 +18,15 @@
 - The tables of docs/FENCES.md and docs/FAMILIES.md: how many fences a test needs (tools/fences.py).
 - Some random tests of each language: what the program says of them beside what tools/plain.py says (tools/random_tests.py).
 - The program where memory is refused: for each n, a run whose nth call for memory is refused (tools/refuse_memory.c).
+- The program where its streams fail or never end: standard output that is closed, or that nobody reads; standard input that is a
+  folder, closed or endless; words that are no UTF-8; each protocol by name.
+- HANDLES is its one line. Beside what is counted in folders and documents stand the least numbers that there must be of it, so that
+  a heading that is renamed can't leave its rows unread.
 - What `./lw` builds, and when, with a stand-in for `rt` (tools/check_build.py); docs/TIMES.md has the minutes of each of its crates.
+- The numbers of states of the tests in bench/.
+- The web page, by a plain client, and where there is a browser in that too (tools/check_page.py).
 
-Commands run side by side; what differs is told in the order of the list above.
+Commands run side by side, and the web page is tried behind them; what differs is told in the order of the list above.
 """
 import glob
 import os
@@ -34,10 +40,13 @@ from random import Random
 sys.dont_write_bytecode = True
 import build
 import check_build
+import check_edits
+import check_page
 import check_tables
 import fences
 import make_map
 import make_pages
+import measure_lists
 import plain
 import random_tests
 
@@ -67,13 +76,27 @@ REFUSED_MEMORY = [
     ("Peterson", "replay", "P0 P0 P1 P1"),
     ("Peterson", "replay", "P0 E0:nowhere"),
     ("Peterson", "compile"),
+    ("SB", "compile"),
+    ("SB", "replay", "P0 P0 P1 P1"),
     ("SB", "states"),
     ("SB", "schedules"),
     ("SB+own-x86", "replay", "P0 P0 P0 P1 P1 P1 D0 D1"),
     ("SB+own-x86", "compile"),
+    ("SB-x86", "replay", "P0 P0 P1 P1 D0 D1"),
     ("SB-x86", "states"),
     ("SB-x86", "schedules"),
 ]
+
+# The least numbers of what is looked at, a little below what there was when they were written.
+LEAST = {
+    "blocks with commands in README.md and docs/": 88,
+    "rows of the tables of docs/FORMAT.md": 90,
+    "rows of the tables of docs/FENCES.md and docs/FAMILIES.md": 44,
+    "examples": 166,
+    "wrong bodies": 130,
+    "tests of the crates": 52,
+}
+COMMANDS = (("states",), ("schedules",), ("compile",), ("replay", "P0 P0 P1 P1"))
 
 # Each check yields its comparisons: what is compared, what is wanted, and what is told.
 
@@ -312,6 +335,85 @@ def check_refused_memory(test, *words):
         yield f"{name}: behind the last call none is refused", whole, told
 
 
+def streams_of(command, **streams):
+    """What a command prints on standard error, and its exit status, between these streams."""
+    ran = subprocess.run(command, stderr=subprocess.PIPE, cwd=HOME, timeout=60, check=False, **streams)
+    return ran.stderr, ran.returncode
+
+
+def closing(stream, command):
+    """The words that run the program with a stream closed, `>&-` or `<&-`."""
+    return ["sh", "-c", f'exec "$0" "$@" {stream}', PROGRAM, *command]
+
+
+def check_output_stream(command):
+    """A command whose standard output is closed, and one whose output nobody reads."""
+    wanted = b"lw: write failed\n", 4
+    with open(f"{HOME}/examples/SB.litmus", "rb") as given:
+        yield f"lw {command[0]}, standard output closed", wanted, streams_of(closing(">&-", command), stdin=given)
+    reading, writing = os.pipe()
+    os.close(reading)
+    with open(f"{HOME}/examples/SB.litmus", "rb") as given, open(writing, "wb") as output:
+        yield f"lw {command[0]}, nobody reads standard output", wanted, streams_of([PROGRAM, *command], stdin=given, stdout=output)
+
+
+def check_input_stream(command):
+    """A command whose standard input is closed, is a folder, and never ends. Nothing is written to standard output."""
+    failed = b"lw: read failed\n", 4
+    with tempfile.TemporaryFile() as output:
+        told = streams_of(closing("<&-", command), stdout=output)
+        yield f"lw {command[0]}, standard input closed", failed, told
+        folder = os.open(HOME, os.O_RDONLY)
+        yield f"lw {command[0]}, standard input is a folder", failed, streams_of([PROGRAM, *command], stdin=folder, stdout=output)
+        os.close(folder)
+        with subprocess.Popen(["cat", "/dev/zero"], stdout=subprocess.PIPE) as endless:
+            told = streams_of([PROGRAM, *command], stdin=endless.stdout, stdout=output)
+            endless.kill()
+        yield f"lw {command[0]}, an endless pipe", (b"lw: text 2 TooLong at 65536\n", 1), told
+        yield f"lw {command[0]}, nothing is written", 0, output.tell()
+
+
+def check_words():
+    """Words that are no UTF-8, whatever the others are, and the protocols by name."""
+    for words in ([b"replay", b"\xff"], [b"\xff"], [b"states", b"P0\xc3"], [b"replay", b"P0", b"--protocol", b"me\xffsi"]):
+        yield f"lw {words}", (b"", b"lw: read failed\n", 4), run([PROGRAM, *words])
+    given = read("examples/SB-x86.litmus").encode()
+    by_default = run([PROGRAM, "replay", "P0 P0 D0 P1 P1 D1"], given)
+    yield "a replay by default", (0, b""), (by_default[2], by_default[1])
+    yield "lw replay --protocol mesi", by_default, run([PROGRAM, "replay", "P0 P0 D0 P1 P1 D1", "--protocol", "mesi"], given)
+
+
+def check_measured(name, wanted):
+    told = run([PROGRAM, "states"], read(f"bench/{name}.litmus").encode())[0]
+    number = re.search(rb"^States (\d+)$", told, re.M)
+    yield f"the states of bench/{name}.litmus", wanted, number[1].decode() if number else "-"
+
+
+def check_bench():
+    files = sorted(os.path.basename(it).removesuffix(".litmus") for it in glob.glob("bench/*.litmus"))
+    yield "bench/INDEX.md has each test", files, sorted(name for name, _ in measure_lists.tests())
+
+
+def check_handles():
+    yield "HANDLES", "Handles allowed: none.\n", read("HANDLES")
+
+
+def check_least():
+    """Whether there is as much to look at as there must be."""
+    documents = ["README.md", *sorted(glob.glob("docs/*.md"))]
+    sources = glob.glob("crates/*tests/src/*.rt")
+    numbers = {
+        "blocks with commands in README.md and docs/": sum(bool(transcript(it)) for name in documents for it in blocks(read(name))),
+        "rows of the tables of docs/FORMAT.md": len(list(checks_of_faults())),
+        "rows of the tables of docs/FENCES.md and docs/FAMILIES.md": len(list(checks_of_tables())),
+        "examples": len(tests()),
+        "wrong bodies": len(check_edits.edits()),
+        "tests of the crates": sum(read(it).count("#[test]") for it in sources),
+    }
+    for what, number in numbers.items():
+        yield f"there are at least {LEAST[what]} {what}: {number}", True, number >= LEAST[what]
+
+
 def read(name):
     with open(f"{HOME}/{name}", encoding="utf-8") as it:
         return it.read()
@@ -377,6 +479,15 @@ def checks():
     yield (check_index,)
     yield (check_questions,)
     yield (check_map,)
+    yield (check_bench,)
+    for it in measure_lists.tests():
+        yield check_measured, *it
+    yield (check_handles,)
+    yield (check_least,)
+    yield (check_words,)
+    for command in COMMANDS:
+        yield check_output_stream, command
+        yield check_input_stream, command
     for name in tests():
         if read(f"examples/{name}.litmus").startswith("SRC"):
             yield check_compiled, f"examples/{name}.litmus"
@@ -386,18 +497,33 @@ def checks():
         yield check_refused_memory, test, *words
 
 
+def last_checks():
+    """Those for which it matters how long things take: one after another, when all others are through."""
+    yield check_page.by_client()
+    yield check_page.by_browser()
+
+
+def comparisons():
+    """All comparisons: what is compared, what is wanted, and what is told."""
+    with ThreadPoolExecutor(len(os.sched_getaffinity(0))) as pool:
+        for compared in pool.map(lambda check: list(check[0](*check[1:])), checks()):
+            yield from compared
+    for compared in last_checks():
+        yield from compared
+
+
 def main():
     os.chdir(HOME)
     # Where there is no program for the sources as they are, this builds it first.
     with open(f"{HOME}/examples/SB.litmus", "rb") as it:
         subprocess.run([f"{HOME}/lw", "replay", ""], stdin=it, stdout=subprocess.DEVNULL)
     passed = failed = 0
-    with ThreadPoolExecutor(len(os.sched_getaffinity(0))) as pool:
-        for compared in pool.map(lambda check: list(check[0](*check[1:])), checks()):
-            for what, wanted, told in compared:
-                passed, failed = passed + (wanted == told), failed + (wanted != told)
-                if wanted != told:
-                    print(f"{what}\n  wanted: {wanted!r}\n  told:   {told!r}")
+    for what, wanted, told in comparisons():
+        passed, failed = passed + (wanted == told), failed + (wanted != told)
+        if wanted != told:
+            print(f"{what}\n  wanted: {wanted!r}\n  told:   {told!r}")
+    if skipped := check_page.skipped():
+        print(skipped)
     print(f"{passed} passed, {failed} failed")
     return 1 if failed else 0
 

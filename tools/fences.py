@@ -21,6 +21,8 @@ import plain
 HOME = os.path.dirname(os.path.dirname(os.path.abspath(__file__)))
 PROGRAM = f"{HOME}/crates/lw/out/lw"
 MOST_SHOWN = 4
+# Where the lists that were asked for came from: the program, or tools/plain.py.
+answered_by = set()
 
 
 def fences_of(test):
@@ -55,7 +57,9 @@ def states_of(test):
     if os.access(PROGRAM, os.X_OK):
         ran = subprocess.run([PROGRAM, "states"], input=text.encode(), capture_output=True)
         if ran.returncode == 0:
+            answered_by.add("program")
             return lines_of_states(ran.stdout.decode())
+    answered_by.add("plain")
     return lines_of_states(plain.report(test))
 
 
@@ -71,17 +75,16 @@ def place(test, fence):
     return f"P{thread} at {at}" + (f", before {behind[0]}" if behind else "")
 
 
-def tell_of(test, fence, states):
+def tell_of(row):
     """What is said of a fence that is left out alone."""
-    added = [line for line in states_of(without(test, [fence])) if line not in states]
-    if not added:
-        print(f"{place(test, fence)}: can be left out alone")
+    if not row["added"]:
+        print(f"{row['place']}: can be left out alone")
         return
-    print(f"{place(test, fence)}: needed, {len(added)} more without it")
-    for line in added[:MOST_SHOWN]:
+    print(f"{row['place']}: needed, {len(row['added'])} more without it")
+    for line in row["added"][:MOST_SHOWN]:
         print(f"  {line}")
-    if len(added) > MOST_SHOWN:
-        print(f"  and {len(added) - MOST_SHOWN} others")
+    if len(row["added"]) > MOST_SHOWN:
+        print(f"  and {len(row['added']) - MOST_SHOWN} others")
 
 
 def spared(test, fences, states):
@@ -91,6 +94,19 @@ def spared(test, fences, states):
         if states_of(without(test, [*left_out, fence])) == states:
             left_out.append(fence)
     return left_out
+
+
+def table_of(test):
+    """Of each fence its place, and the states that are there without it alone; the fences that are enough; the number of states."""
+    answered_by.clear()
+    fences, states = fences_of(test), states_of(test)
+    before, rows = set(states), []
+    for fence in fences:
+        added = [line for line in states_of(without(test, [fence])) if line not in before]
+        rows.append({"place": place(test, fence), "added": added})
+    gone = spared(test, fences, states)
+    enough = [f"P{thread} at {at}" for thread, at in fences if (thread, at) not in gone]
+    return {"rows": rows, "enough": enough, "states": len(states), "answered_by": sorted(answered_by)}
 
 
 def main():
@@ -105,13 +121,11 @@ def main():
         return 1
     asked = "all registers and locations" if words else f"its question, {plain.condition_text(test)}"
     test = showing_everything(test) if words else test
-    fences, states = fences_of(test), states_of(test)
-    print(f"{test.name}, by {asked}: fences {len(fences)}, states {len(states)}")
-    for fence in fences:
-        tell_of(test, fence, states)
-    gone = spared(test, fences, states)
-    enough = ", ".join(f"P{thread} at {at}" for thread, at in fences if (thread, at) not in gone)
-    print(f"Enough, with none to spare: {enough or 'no fence'}")
+    table = table_of(test)
+    print(f"{test.name}, by {asked}: fences {len(table['rows'])}, states {table['states']}")
+    for row in table["rows"]:
+        tell_of(row)
+    print(f"Enough, with none to spare: {', '.join(table['enough']) or 'no fence'}")
     return 0
 
 

@@ -83,6 +83,7 @@ class Test:
     listed: set = field(default_factory=set)  # sites
     quantifier: str = "exists"
     proposition: tuple = ("true",)
+    columns: list = field(default_factory=list)  # of each thread, its cells, each a list of tokens
 
 
 # Reading a test.
@@ -406,7 +407,7 @@ class Reader:
         self.take("{")
         initial = dict(self.entries(self.initial_entry, "}"))
         threads = self.header()
-        columns = self.rows(threads)
+        test.columns = self.rows(threads)
         if self.next() == "locations":
             self.take("locations")
             self.take("[")
@@ -420,23 +421,29 @@ class Reader:
         for site in [*initial, *test.listed, *sites_in(test.proposition)]:
             if site[0] == "register" and site[1] >= threads:
                 raise NoTest(f"there is no thread {site[1]}")
-        test.threads = [self.thread(cells) for cells in columns]
+        test.threads = [self.thread(cells) for cells in test.columns]
         test.registers = [tuple(initial.get(("register", it, r), 0) for r in range(6)) for it in range(threads)]
         test.words = tuple(initial.get(("location", it), 0) for it in range(len(test.locations)))
         return test
 
 
-def read_test(text):
-    """The test that a text says."""
-    if len(text.encode()) > 65536:
-        raise NoTest("the text is too long")
+def heading_of(text):
+    """The language and the name of a test, and where its heading ends."""
     at = 0
     while text[at : at + 1] and text[at] in " \t\r\n" or text.startswith("(*", at):
         at = skip_comment(text, at) if text.startswith("(*", at) else at + 1
     heading = re.compile(r"(SRC|X86)[ \t\r\n]+([!-~]{1,128})(?![^ \t\r\n])").match(text, at)
     if not heading:
         raise NoTest("there is no heading")
-    return Reader(heading[1], heading[2], tokens_of(text, skip_notes(text, heading.end()))).read()
+    return heading[1], heading[2], heading.end()
+
+
+def read_test(text):
+    """The test that a text says."""
+    if len(text.encode()) > 65536:
+        raise NoTest("the text is too long")
+    language, name, at = heading_of(text)
+    return Reader(language, name, tokens_of(text, skip_notes(text, at))).read()
 
 
 # Conditions.

@@ -1,0 +1,47 @@
+// Makes elements. Whatever a test says becomes text nodes, and nothing else.
+
+/** An element with attributes, and children that are elements, texts or lists of them. A function is a listener, `true` is set. */
+export function el(tag, attributes = {}, ...children) {
+  const made = document.createElement(tag);
+  for (const [name, value] of Object.entries(attributes)) {
+    if (typeof value === "function") made.addEventListener(name, value);
+    else if (value === true) made.setAttribute(name, "");
+    else if (value !== false && value !== null && value !== undefined) made.setAttribute(name, value);
+  }
+  made.append(...children.flat(2).filter((it) => it !== null && it !== undefined && it !== false));
+  return made;
+}
+
+export function button(text, act, attributes = {}) {
+  return el("button", { type: "button", click: act, ...attributes }, text);
+}
+
+/** A sentence of the documents: what stands between backquotes is code. */
+export function sentence(text) {
+  return text.split("`").map((part, at) => (at % 2 ? el("code", {}, part) : part));
+}
+
+/** The mark of what is not proved. */
+export function plainMark() {
+  return el("span", { class: "plain", title: "from the plain interpreter tools/plain.py, which is not proved" }, "plain");
+}
+
+export function byId(id) {
+  return document.getElementById(id);
+}
+
+/** Hands a file to the reader. */
+export function save(name, kind, content) {
+  const address = URL.createObjectURL(new Blob([content], { type: kind }));
+  el("a", { href: address, download: name }).click();
+  setTimeout(() => URL.revokeObjectURL(address), 10000);
+}
+
+export async function copy(text, said) {
+  try {
+    await navigator.clipboard.writeText(text);
+    said.textContent = "Copied.";
+  } catch {
+    said.textContent = "The browser does not let the page copy; select it by hand.";
+  }
+}

@@ -1,0 +1,75 @@
+// The editor of a test: line numbers, and the mark of a fault, on its line and below its character.
+
+import { el } from "./dom.js";
+
+export class Editor {
+  constructor(place, changed) {
+    this.numbers = el("pre", { class: "numbers", "aria-hidden": "true" });
+    this.marks = el("pre", { class: "marks", "aria-hidden": "true" });
+    this.area = el("textarea", {
+      id: "text",
+      "aria-label": "The text of the test",
+      "aria-describedby": "fault",
+      spellcheck: "false",
+      autocomplete: "off",
+      autocapitalize: "off",
+      wrap: "off",
+      rows: 14,
+      input: () => this.change(changed),
+      scroll: () => this.follow(),
+    });
+    place.append(this.numbers, el("div", { class: "sheet" }, this.marks, this.area));
+    this.fault = null;
+    this.draw();
+  }
+
+  get text() {
+    return this.area.value;
+  }
+
+  set text(text) {
+    this.area.value = text;
+    this.mark(null);
+  }
+
+  change(changed) {
+    this.mark(null);
+    changed();
+  }
+
+  /** Marks the character of a fault, or none. */
+  mark(fault) {
+    this.fault = fault;
+    this.area.setAttribute("aria-invalid", fault ? "true" : "false");
+    this.draw();
+  }
+
+  draw() {
+    const lines = this.text.split("\n").length;
+    const rows = Array.from({ length: lines }, (_, at) => {
+      const isFaulty = this.fault && this.fault.row === at + 1;
+      return el("span", { class: isFaulty ? "faulty" : "" }, `${isFaulty ? "✗ " : ""}${at + 1}\n`);
+    });
+    this.numbers.replaceChildren(...rows);
+    this.marks.replaceChildren();
+    if (this.fault) {
+      const at = this.fault.index;
+      const marked = String.fromCodePoint(this.text.codePointAt(at) ?? 32);
+      const mark = el("mark", {}, marked.trim() ? marked : " ");
+      this.marks.append(this.text.slice(0, at), mark, marked === "\n" ? "\n" : "", this.text.slice(at + marked.length));
+    }
+    this.follow();
+  }
+
+  follow() {
+    this.numbers.scrollTop = this.area.scrollTop;
+    this.marks.scrollTop = this.area.scrollTop;
+    this.marks.scrollLeft = this.area.scrollLeft;
+  }
+
+  /** Goes to the place of the fault. */
+  goToFault() {
+    this.area.focus();
+    this.area.setSelectionRange(this.fault.index, this.fault.index + 1);
+  }
+}
