@@ -490,10 +490,19 @@ class Copy:
             os.remove(f"{self.room}/started")
 
 
+def is_alive(process):
+    """Whether a process runs. (One that has ended is still seen until its parent, or the system's first process, fetches it.)"""
+    try:
+        with open(f"/proc/{process}/stat", encoding="utf-8", errors="replace") as it:
+            return it.read().rpartition(") ")[2][0] not in "ZX"
+    except OSError:
+        return False
+
+
 def are_gone(processes):
-    """Whether processes end within two seconds."""
-    for _ in range(20):
-        if processes and not any(os.path.exists(f"/proc/{it}") for it in processes):
+    """Whether processes end within two seconds, as far as these may be meant."""
+    for _ in range(20 * patience()):
+        if processes and not any(map(is_alive, processes)):
             return True
         time.sleep(0.1)
     return False
