@@ -1,4 +1,8 @@
 pub mod Returns
+pub mod Lists
+pub mod Elements
+pub mod SeenLists
+pub mod ListedAgain
 pub mod Tables
 pub mod GrowingTables
 pub mod Registers

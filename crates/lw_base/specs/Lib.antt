@@ -14,6 +14,7 @@ pub mod Propositions
 pub mod Heads
 pub mod WellFormed
 pub mod WellFormedProps
+pub mod SeenLists
 pub mod Outcomes
 pub mod ConditionTexts
 pub mod Stops

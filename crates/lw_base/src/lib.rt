@@ -1,8 +1,8 @@
 //! What all crates of the workbench share: the small numbers of a test (processors, locations,
 //! registers, words), outcomes, events and schedules, names, conditions and the head of a test.
 //!
-//! It names std alone. Everything here is a value; nothing here steps, reads a whole test or prints.
-//! Each type is seen by a contract as plain data of `specs/`: a number, a list, or a record of lists.
+//! It names std alone. Everything here is a value; nothing here steps or reads a whole test. Each type
+//! is seen by a contract as plain data of `specs/`: a number, a list, or a record of lists.
 #![tactic(auto)]
 
 mod condition;

@@ -3,10 +3,10 @@ use Rattle.std.proofs.Common.{◌↔◌}
 use Rattle.lw_base.specs.Outcomes.{Final}
 use Rattle.lw_memory.specs.Flat.{flat}
 use Rattle.lw_mesi.specs.declared.protocol.Protocol.{Protocol}
-use Rattle.lw_source.specs.Runs.{SourceOutcome}
-use Rattle.lw_source.specs.Sources.{SourceTest}
+use Rattle.lw_interleaving.specs.Runs.{SourceOutcome}
+use Rattle.lw_litmus.specs.Sources.{SourceTest}
 use Rattle.lw_tso.specs.Runs.{MachineOutcome}
-use Rattle.lw_x86.specs.Programs.{ProgramTest, IsWellFormedProgram}
+use Rattle.lw_litmus.specs.Programs.{ProgramTest, IsWellFormedProgram}
 use Rattle.lw_finals.specs.Machines.{OutcomeOverCaches}
 
 -- outcomes over caches, by those over flat memory

@@ -17,9 +17,9 @@ use Rattle.lw_mesi.specs.declared.protocol.Protocol.TheVariants.{Mesi}
 use Rattle.lw_report.specs.Reports.{report_text, schedule_list_text, scheduled}
 use Rattle.lw_report.specs.States.{ListedState, shown_of, AreListedStates}
 use Rattle.lw_report.specs.declared.judgement.Claim.TheVariants.{Exact}
-use Rattle.lw_source.specs.Runs.{SourceOutcome}
-use Rattle.lw_source.specs.Sources.{SourceTest}
-use Rattle.lw_x86.specs.Programs.{ProgramTest}
+use Rattle.lw_interleaving.specs.Runs.{SourceOutcome}
+use Rattle.lw_litmus.specs.Sources.{SourceTest}
+use Rattle.lw_litmus.specs.Programs.{ProgramTest}
 use Rattle.lw_bench.specs.LitmusTests.{LitmusTest, Of_source, Of_x86, head_of_test}
 use Rattle.lw_bench.specs.Lists.{OutcomeOf, LeadsTo, HasList, IsStatesReport, IsScheduleReport}
 use Rattle.lw_bench.specs.Listed.{IsListOf}

@@ -2,7 +2,7 @@
 use Rattle.std.specs.Prelude.{◌↔◌, All, Contains}
 use Rattle.lw_base.specs.Outcomes.{Final}
 use Rattle.lw_finals.specs.Listings.{Entries, outcomes_of, IsStrictlySorted, IsEntryOf}
-use Rattle.lw_x86.specs.Programs.{ProgramTest}
+use Rattle.lw_litmus.specs.Programs.{ProgramTest}
 use Rattle.lw_bench.specs.LitmusTests.{LitmusTest, head_of_test}
 use Rattle.lw_bench.specs.Lists.{OutcomeOf, IsProgramOf, LeadsTo, HasList}
 

@@ -12,8 +12,8 @@ use Rattle.lw_mesi.specs.declared.protocol.Protocol.{Protocol}
 use Rattle.lw_mesi.specs.declared.protocol.Protocol.TheVariants.{Mesi}
 use Rattle.lw_report.specs.Reports.{IsReport, IsScheduleList}
 use Rattle.lw_report.specs.declared.judgement.Claim.TheVariants.{Exact}
-use Rattle.lw_source.specs.Runs.{SourceOutcome}
-use Rattle.lw_x86.specs.Programs.{ProgramTest}
+use Rattle.lw_interleaving.specs.Runs.{SourceOutcome}
+use Rattle.lw_litmus.specs.Programs.{ProgramTest}
 use Rattle.lw_bench.specs.LitmusTests.{LitmusTest, Of_source, Of_x86, head_of_test}
 
 -- The outcomes of a test: of a source test those that it reaches by interleaving on one memory, of an x86 test those that the

@@ -2,10 +2,11 @@
 use Rattle.lw_base.specs.Types.{Bytes}
 use Rattle.lw_base.specs.Heads.{TestHead}
 use Rattle.lw_text.specs.Frames.{TestFrame, HasFrame}
-use Rattle.lw_source.specs.Sources.{SourceTest, HasSource}
-use Rattle.lw_source.specs.Views.{source_of}
-use Rattle.lw_x86.specs.Programs.{ProgramTest, HasProgram}
-use Rattle.lw_x86.specs.Views.{program_of}
+use Rattle.lw_litmus.specs.Sources.{SourceTest}
+use Rattle.lw_source.specs.Grammar.{HasSource}
+use Rattle.lw_litmus.specs.Views.{source_of, program_of}
+use Rattle.lw_litmus.specs.Programs.{ProgramTest}
+use Rattle.lw_x86.specs.Grammar.{HasProgram}
 use Rattle.lw_bench.specs.declared.litmus_test.LitmusTest.{LitmusTest as TestInMemory}
 use Rattle.lw_bench.specs.declared.litmus_test.LitmusTest.TheVariants as made
 

@@ -15,7 +15,7 @@ use Rattle.lw_base.specs.Registers.{register_name}
 use Rattle.lw_base.specs.Stops.{stop_number, stop_name}
 use Rattle.lw_memory.specs.declared.system.LineState.{LineState}
 use Rattle.lw_memory.specs.declared.system.LineState.TheVariants.{M, O, E, S, I}
-use Rattle.lw_source.specs.Runs.{State}
+use Rattle.lw_interleaving.specs.Runs.{State}
 use Rattle.lw_tso.specs.Processors.{Processor}
 
 -- what is told of each of a list, by its number from k on

@@ -9,11 +9,11 @@ use Rattle.lw_mesi.specs.declared.protocol.Protocol.{Protocol}
 use Rattle.lw_memory.specs.Memory.{Memory}
 use Rattle.lw_mesi.specs.CacheLines.{memory_words_of}
 use Rattle.lw_mesi.specs.ProtocolLaws.{caches_by}
-use Rattle.lw_source.specs.Runs.{State, start_of, Replayed}
-use Rattle.lw_source.specs.Sources.{SourceTest}
+use Rattle.lw_interleaving.specs.Runs.{State, start_of, Replayed}
+use Rattle.lw_litmus.specs.Sources.{SourceTest}
 use Rattle.lw_tso.specs.Machines.{MachineState}
 use Rattle.lw_tso.specs.Runs.{machine_start, MachineReplayed}
-use Rattle.lw_x86.specs.Programs.{ProgramTest}
+use Rattle.lw_litmus.specs.Programs.{ProgramTest}
 use Rattle.lw_bench.specs.LitmusTests.{LitmusTest, Of_source, Of_x86, head_of_test}
 use Rattle.lw_finals.specs.Machines.{caches_at_start}
 use Rattle.lw_bench.specs.Pages.{source_page, machine_page}

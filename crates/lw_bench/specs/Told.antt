@@ -18,8 +18,8 @@ use Rattle.lw_base.specs.declared.head.Arch.TheVariants.{Source, X86}
 use Rattle.lw_text.specs.Frames.{TestFrame, HasFrame}
 use Rattle.lw_text.specs.PlacedCells.{PlacedCell, texts_of_grid, HasCells}
 use Rattle.lw_cells.specs.Faults.{Tells}
-use Rattle.lw_source.specs.Sources.{source}
-use Rattle.lw_x86.specs.Programs.{x86}
+use Rattle.lw_source.specs.Grammar.{source_grammar}
+use Rattle.lw_x86.specs.Grammar.{x86_grammar}
 use Rattle.lw_finals.specs.Counts.{TellsLimit}
 use Rattle.lw_finals.specs.SourceItems.{source_language}
 use Rattle.lw_finals.specs.X86Items.{x86_language}
@@ -44,8 +44,8 @@ pub record TellsText (bytes : Bytes) (f : TextFault) : Type 0 where
 
 -- What a language's rule of cells says of the place.
 abbrev pub TellsIn : Arch → NameTable → List (List PlacedCell) → CellFault → Type 0
-TellsIn Source = Tells source
-TellsIn X86 = Tells x86
+TellsIn Source = Tells source_grammar
+TellsIn X86 = Tells x86_grammar
 
 -- The text has a frame, whose cells are no test's, and what the cause says of the place is so.
 pub record TellsCell (bytes : Bytes) (f : CellFault) : Type 0 where

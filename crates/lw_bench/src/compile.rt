@@ -1,6 +1,6 @@
 //! The compilation of a test, from the bytes that come in to the bytes that go out.
 ghost use Rattle.std.specs.Prelude.{◌≡◌, ◌≢◌, ◌↔◌, true, false, Err, IfOk, IfErr, OnOk};
-ghost use Rattle.lw_source.specs.Views.{source_of};
+ghost use Rattle.lw_litmus.specs.Views.{source_of};
 ghost use Rattle.lw_bench.specs.Devices.{TakesInput};
 ghost use Rattle.lw_bench.specs.LitmusTests.{litmus_test_of};
 ghost use Rattle.lw_bench.specs.Compilations.{IsCompiledText, IsCompilation};
@@ -14,7 +14,7 @@ use crate::run::{Output, run_text};
 use lw_base::Text;
 use lw_fence::compile;
 use lw_finals::outcomes_over_caches_are_flat;
-use lw_source::Source;
+use lw_litmus::Source;
 use lw_x86::write_program;
 use std::alloc::{AllocError, Allocator};
 

@@ -1,10 +1,11 @@
 //! The runs of the workbench: from the bytes of a test to the bytes of what is told of it.
 //!
-//! It names lw_base, of lw_text the reading of frames and its faults, of lw_source and lw_x86 the reading of tests and
-//! the canonical text, of lw_source their runs, of lw_fence the compiler, and of lw_tso the machine, over the caches of lw_mesi,
-//! which are a memory system of lw_memory; of lw_finals the complete lists of tests, and that an x86 test has over caches the
-//! outcomes that it has over flat memory; and of lw_report the states of a list, its report and its schedules. Its tests, as all of
-//! the workbench's, stand in lw_run_tests.
+//! It stands on both wings. Of the crates that read it names lw_text for frames and their faults, lw_cells for what the fault of
+//! a cell tells, lw_source and lw_x86 for the reading of tests and for the canonical text. Of those that say what is meant it
+//! names lw_base; lw_litmus for the tests, lw_interleaving for the runs of source tests, lw_fence for the compiler, and lw_tso for
+//! the machine, over the caches of lw_mesi, which are a memory system of lw_memory; lw_finals for the complete lists of tests, and
+//! that an x86 test has over caches the outcomes that it has over flat memory; and lw_report for the states of a list, its report
+//! and its schedules. Its tests, as all of the workbench's, stand in lw_run_tests.
 #![tactic(auto)]
 
 mod command;

@@ -13,9 +13,10 @@ ghost use Rattle.lw_bench.specs.Told.{TellsTest, TellsIn, IsNoDevice};
 
 use crate::fault::BenchFault;
 use lw_base::{Arch, CellFault, Head};
-use lw_source::{Source, a_frame_has_one_source, read_source};
+use lw_litmus::{Program, Source};
+use lw_source::{a_frame_has_one_source, read_source};
 use lw_text::{Frame, a_text_has_one_frame, read_frame};
-use lw_x86::{Program, a_frame_has_one_program, read_program};
+use lw_x86::{a_frame_has_one_program, read_program};
 use std::alloc::Allocator;
 
 /// A test of the source language or of x86.

@@ -5,15 +5,15 @@ ghost use Rattle.lw_base.specs.Heads.{head_of};
 ghost use Rattle.lw_base.specs.declared.limits.TheConstants.{REGISTERS};
 ghost use Rattle.lw_bench.specs.Pages as pages;
 ghost use Rattle.lw_bench.specs.Pages.{numbered, first_lines, word_line, buffer_line, cache_line, location_line, processor_lines};
-ghost use Rattle.lw_source.specs.declared.thread.Thread.{Thread};
+ghost use Rattle.lw_interleaving.specs.declared.thread.Thread.{Thread};
 ghost use Rattle.lw_tso.specs.Machines.{buffer_of};
 ghost use Rattle.lw_tso.specs.Processors.{Processor};
 
 use lw_base::{
     Arch, Cpu, End, Head, Loc, LocNames, MAX_THREADS, REGISTERS, Reg, Replay, Word, reg_name,
 };
+use lw_interleaving::SourceRun;
 use lw_memory::{LineState, MemorySystem};
-use lw_source::SourceRun;
 use lw_tso::Machine;
 use std::alloc::{AllocError, Allocator};
 

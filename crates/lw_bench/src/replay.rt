@@ -4,8 +4,7 @@
 ghost use Rattle.std.specs.Prelude.{◌≡◌, ◌≢◌, ◌⊎◌, ◌≤◌, ◌↔◌, true, false, length, Err, IfOk, IfErr, OnOk};
 ghost use Rattle.std.specs.String.{string_bytes};
 ghost use Rattle.lw_memory.specs.Memory.{memory_of};
-ghost use Rattle.lw_source.specs.Views.{source_of};
-ghost use Rattle.lw_x86.specs.Views.{program_of};
+ghost use Rattle.lw_litmus.specs.Views.{source_of, program_of};
 ghost use Rattle.lw_bench.specs.Devices.{TakesInput};
 ghost use Rattle.lw_bench.specs.LitmusTests.{litmus_test_of};
 ghost use Rattle.lw_bench.specs.Outputs.{Writes};
@@ -18,11 +17,11 @@ use crate::litmus_test::LitmusTest;
 use crate::page::{machine_page, source_page};
 use crate::run::{Output, run_text};
 use lw_base::{End, Event, Text, read_schedule};
+use lw_interleaving::SourceRun;
+use lw_litmus::{Program, Source};
 use lw_memory::MemorySystem;
 use lw_mesi::{ByMesi, ByMoesi, KeptProtocol, Protocol, SnoopingCaches, empty_caches_are_kept};
-use lw_source::{Source, SourceRun};
 use lw_tso::Machine;
-use lw_x86::Program;
 use std::alloc::Allocator;
 
 /// The page that tells of the replay of a source test by these events, and how the replay ended.

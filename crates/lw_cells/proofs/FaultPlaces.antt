@@ -17,14 +17,14 @@ use Rattle.lw_text.proofs.TokenRows.{texts_placed}
 use Rattle.lw_text.proofs.CellPlaces.{cells_placed}
 use Rattle.lw_cells.specs.declared.draft.Draft.{Draft}
 use Rattle.lw_cells.specs.declared.draft.DraftCell.{DraftCell}
-use Rattle.lw_cells.specs.Languages.{Language}
+use Rattle.lw_cells.specs.Grammars.{Grammar}
 use Rattle.lw_cells.specs.Cells.{CellSyntax, CellSays, Labels, Column, statements, names_in, names_of}
 use Rattle.lw_cells.specs.Faults.{Standing, IsNinth, IsJumpLabel, TellsBy, BeginsWithColon}
 use Rattle.lw_cells.specs.Drafts.{LabelMap, DraftRead, first_names, leading_in}
 use Rattle.lw_cells.specs.Reading.{LabelCause, MaybeCause, LabelsRead}
 use Rattle.lw_cells.proofs.FrontLabels.{Labels-rest, behind}
 use Rattle.lw_cells.proofs.Leads.{first_names_in}
-use Rattle.lw_cells.proofs.Lists.{cut_at, drop_at, get_dropped}
+use Rattle.lw_base.proofs.Lists.{cut_at, drop_at, get_dropped}
 
 -- the token behind one
 colon_behind : (tokens : List Token) (k : ℕ) → BeginsWithColon (texts (drop (suc k) tokens)) → slice_get (texts tokens) (k + 1) ≡ Some (codes ":")
@@ -69,9 +69,9 @@ module _ {A : Type 0} (cells front rest : List (Cell A)) (cell : Cell A) (whole 
       colon_behind (drop next cell.tokens) 0 (subst (λ (k : ℕ). BeginsWithColon (texts (drop (suc k) (drop next cell.tokens)))) front colon) in
       behind cell.tokens next one
 
-  module _ {Syntax Stmt Jump : Type 0} (language : Language Syntax Stmt) (draft_of : ℕ → Syntax → Draft Stmt Jump) (names mid : List (List ℕ)) (drafts : List (DraftCell Stmt Jump)) (labels : LabelMap) (read : DraftRead language draft_of front names drafts labels mid) where
-    above_says : AllZip (CellSays language) (texts_of_cells (placed_row front)) read.syntaxes
-    above_says = subst (λ (cs : List (List (List ℕ))). AllZip (CellSays language) cs read.syntaxes) (sym (cells_placed front)) read.says
+  module _ {Syntax Stmt Jump : Type 0} (grammar : Grammar Syntax Stmt) (draft_of : ℕ → Syntax → Draft Stmt Jump) (names mid : List (List ℕ)) (drafts : List (DraftCell Stmt Jump)) (labels : LabelMap) (read : DraftRead grammar draft_of front names drafts labels mid) where
+    above_says : AllZip (CellSays grammar) (texts_of_cells (placed_row front)) read.syntaxes
+    above_says = subst (λ (cs : List (List (List ℕ))). AllZip (CellSays grammar) cs read.syntaxes) (sym (cells_placed front)) read.says
 
     labels_placed : (ts : List Token) (ls rest : List (List ℕ)) → Labels (texts ts) ls rest → Labels (texts_of_tokens (placed_tokens ts)) ls rest
     labels_placed ts ls rest says = subst (λ (ws : List (List ℕ)). Labels ws ls rest) (sym (texts_placed ts)) says
@@ -79,7 +79,7 @@ module _ {A : Type 0} (cells front rest : List (Cell A)) (cell : Cell A) (whole 
     colon_in_memory : (ts : List Token) → BeginsWithColon (texts_of_tokens (placed_tokens ts)) → BeginsWithColon (texts ts)
     colon_in_memory ts colon = subst BeginsWithColon (texts_placed ts) colon
 
-    pub labels_tell : (at : ℕ) (cause : CellCause) → LabelCause cell.tokens (first_names (leading_in 0 read.syntaxes)) at cause → TellsBy language names (placed_row cells ∷ []) at cause
+    pub labels_tell : (at : ℕ) (cause : CellCause) → LabelCause cell.tokens (first_names (leading_in 0 read.syntaxes)) at cause → TellsBy grammar names (placed_row cells ∷ []) at cause
     labels_tell at Form c = tt
     labels_tell at Register c = tt
     labels_tell at LabelMissing c = absurd c
@@ -102,7 +102,7 @@ module _ {A : Type 0} (cells front rest : List (Cell A)) (cell : Cell A) (whole 
     labels_tell at TooMany c = absurd c
     labels_tell at Memory c = tt
 
-    pub statement_tells : (next : ℕ) (more : LabelMap) → LabelsRead cell.tokens (length (statements read.syntaxes)) (leading_in 0 read.syntaxes) next more → (slice_get (texts cell.tokens) (next + 1) ≡ Some (codes ":") → ⊥) → (at : ℕ) (cause : CellCause) → MaybeCause language (length (statements read.syntaxes)) (drop next cell.tokens) mid at cause → TellsBy language names (placed_row cells ∷ []) at cause
+    pub statement_tells : (next : ℕ) (more : LabelMap) → LabelsRead cell.tokens (length (statements read.syntaxes)) (leading_in 0 read.syntaxes) next more → (slice_get (texts cell.tokens) (next + 1) ≡ Some (codes ":") → ⊥) → (at : ℕ) (cause : CellCause) → MaybeCause grammar (length (statements read.syntaxes)) (drop next cell.tokens) mid at cause → TellsBy grammar names (placed_row cells ∷ []) at cause
     statement_tells next more ls stops at Form c = tt
     statement_tells next more ls stops at Register c = tt
     statement_tells next more ls stops at LabelMissing c = absurd c
@@ -143,14 +143,14 @@ module _ {A : Type 0} (cells front rest : List (Cell A)) (cell : Cell A) (whole 
         )
     statement_tells next more ls stops at Memory c = tt
 
-module _ {Syntax Stmt : Type 0} (language : Language Syntax Stmt) where
-  no_threads : (before : List (List PlacedCell)) (threads : List (List (CellSyntax Syntax))) → before ≡ [] → AllZip (Column language) (texts_of_grid before) threads → threads ≡ []
+module _ {Syntax Stmt : Type 0} (grammar : Grammar Syntax Stmt) where
+  no_threads : (before : List (List PlacedCell)) (threads : List (List (CellSyntax Syntax))) → before ≡ [] → AllZip (Column grammar) (texts_of_grid before) threads → threads ≡ []
   no_threads [] [] e h = refl
   no_threads [] (t ∷ threads) e h = absurd h
   no_threads (b ∷ before) threads e h = absurd cc
 
   -- A fault of a column is one of the columns, of which those before were read.
-  module _ (names mid : List (List ℕ)) (columns front rest : List (List PlacedCell)) (column : List PlacedCell) (threads : List (List (CellSyntax Syntax))) (whole : columns ≡ front ++ column ∷ rest) (says : AllZip (Column language) (texts_of_grid front) threads) (table : mid ≡ with_names names (names_of language threads)) where
+  module _ (names mid : List (List ℕ)) (columns front rest : List (List PlacedCell)) (column : List PlacedCell) (threads : List (List (CellSyntax Syntax))) (whole : columns ≡ front ++ column ∷ rest) (says : AllZip (Column grammar) (texts_of_grid front) threads) (table : mid ≡ with_names names (names_of grammar threads)) where
     abbrev moved : (at : ℕ) → Standing (column ∷ []) at → Standing columns at
     moved at p =
         record {
@@ -167,14 +167,14 @@ module _ {Syntax Stmt : Type 0} (language : Language Syntax Stmt) where
           begins = p.begins;
         }
 
-    jump_moved : (at : ℕ) (p : Standing (column ∷ []) at) (above : List (CellSyntax Syntax)) (syntax : CellSyntax Syntax) (below : List (CellSyntax Syntax)) → IsJumpLabel language p above syntax below → IsJumpLabel language (moved at p) above syntax below
+    jump_moved : (at : ℕ) (p : Standing (column ∷ []) at) (above : List (CellSyntax Syntax)) (syntax : CellSyntax Syntax) (below : List (CellSyntax Syntax)) → IsJumpLabel grammar p above syntax below → IsJumpLabel grammar (moved at p) above syntax below
     jump_moved at p above syntax below j = record { above_says = j.above_says; says = j.says; below_says = j.below_says; last = j.last; jump = j.jump }
 
-    ninth_moved : (at : ℕ) (p : Standing (column ∷ []) at) → IsNinth language mid p → IsNinth language names (moved at p)
+    ninth_moved : (at : ℕ) (p : Standing (column ∷ []) at) → IsNinth grammar mid p → IsNinth grammar names (moved at p)
     ninth_moved at p n =
         let none : n.threads ≡ [] = no_threads p.before n.threads (single column p.before (p.above ++ p.cell ∷ p.below) p.behind p.in_columns).0 n.before_says in
-        let same : with_names mid (names_of language n.threads ++ names_in language n.syntaxes) ≡ with_names names (names_of language threads ++ names_in language n.syntaxes) =
-        ap (λ (ts : List (List (CellSyntax Syntax))). with_names mid (names_of language ts ++ names_in language n.syntaxes)) none ∙ ap (λ (ns : List (List ℕ)). with_names ns (names_in language n.syntaxes)) table ∙ sym (with_names-append names (names_of language threads) (names_in language n.syntaxes)) in
+        let same : with_names mid (names_of grammar n.threads ++ names_in grammar n.syntaxes) ≡ with_names names (names_of grammar threads ++ names_in grammar n.syntaxes) =
+        ap (λ (ts : List (List (CellSyntax Syntax))). with_names mid (names_of grammar ts ++ names_in grammar n.syntaxes)) none ∙ ap (λ (ns : List (List ℕ)). with_names ns (names_in grammar n.syntaxes)) table ∙ sym (with_names-append names (names_of grammar threads) (names_in grammar n.syntaxes)) in
         record {
           threads = threads;
           syntaxes = n.syntaxes;
@@ -190,7 +190,7 @@ module _ {Syntax Stmt : Type 0} (language : Language Syntax Stmt) where
           new = λ there. n.new (subst (λ (ns : List (List ℕ)). Contains ns p.token.text) (sym same) there);
         }
 
-    pub column_tells : (at : ℕ) (cause : CellCause) → TellsBy language mid (column ∷ []) at cause → TellsBy language names columns at cause
+    pub column_tells : (at : ℕ) (cause : CellCause) → TellsBy grammar mid (column ∷ []) at cause → TellsBy grammar names columns at cause
     column_tells at Form t = tt
     column_tells at Register t = tt
     column_tells at LabelMissing t = (moved at t.0, (t.1.0, t.1.1, t.1.2, jump_moved at t.0 t.1.0 t.1.1 t.1.2 t.1.3, t.1.4))

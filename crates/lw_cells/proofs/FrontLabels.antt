@@ -3,13 +3,12 @@ use Rattle.std.proofs.Common.{◌≡◌, ℕ, zero, suc, ◌<◌, ◌≤◌, ◌
 use Rattle.std.specs.Prelude.{◌↔◌, IsTrue, slice_get, slice_index_or, codes, Contains, if◌then◌else◌}
 use Rattle.std.specs.Option.{option_map, is_some}
 use Rattle.std.proofs.lemmas.Option.{slice_get-map, slice_get_within}
-use Rattle.std.proofs.lemmas.List.{take-map, length-map}
+use Rattle.std.proofs.lemmas.List.{take-map, length-map, map-append, append-nil, append_assoc, take-append-drop}
 use Rattle.lw_base.specs.declared.fault.CellCause.{CellCause}
 use Rattle.lw_base.specs.declared.fault.CellCause.TheVariants.{Form, Register, LabelMissing, LabelTwice, Backward, TooMany, Memory}
 use Rattle.lw_text.specs.declared.token.Token.{Token}
 use Rattle.lw_text.specs.Spans.{texts}
 use Rattle.std.specs.Map.{update}
-use Rattle.std.proofs.lemmas.List.{map-append, append-nil, append_assoc, take-append-drop}
 use Rattle.std.proofs.lemmas.List.Elements.{Contains-push_cases, Contains-append_right, Contains-append_cases}
 use Rattle.std.specs.Str.{bytes_eq}
 use Rattle.std.specs.Cmp.{unsigned_Decides}

@@ -1,5 +1,4 @@
 pub mod TokenRows
-pub mod Lists
 pub mod Zips
 pub mod FrontLabels
 pub mod NewNames

@@ -17,8 +17,8 @@ use Rattle.lw_text.specs.declared.cell.Cell.{Cell}
 use Rattle.lw_text.specs.Frames.{TestFrame}
 use Rattle.lw_text.specs.Places.{cells_texts, all_texts, placed_row, placed_cells}
 use Rattle.lw_text.proofs.CellPlaces.{grid_placed}
-use Rattle.lw_cells.specs.Languages.{Language, IsLanguage}
-use Rattle.lw_cells.specs.Tests.{Test, IsThread, IsWellFormed}
+use Rattle.lw_cells.specs.Grammars.{Grammar, IsGrammar}
+use Rattle.lw_litmus.specs.Tests.{Test, IsThread, IsWellFormed}
 use Rattle.lw_cells.specs.Cells.{CellSyntax, MaybeStatement, CellSays, Column, statements, names_in, names_of, code_in, test_on, HasTest}
 use Rattle.lw_cells.specs.Faults.{TellsBy}
 use Rattle.lw_cells.specs.Reading.{ColumnRead, ColumnsRead, ColumnFits, ColumnsFit}
@@ -40,99 +40,99 @@ columns_more {A} columns i column within is =
 pub texts_cut : {A : Type 0} (columns : List (List (Cell A))) (i : ℕ) (column : List (Cell A)) → i < length columns → column ≡ get_or columns i column → all_texts columns ≡ all_texts (take i columns) ++ cells_texts column ∷ all_texts (drop (suc i) columns)
 texts_cut columns i column within is = ap all_texts (columns_cut columns i column within is) ∙ map-append cells_texts (take i columns) (column ∷ drop (suc i) columns)
 
-module _ {Syntax Stmt : Type 0} (language : Language Syntax Stmt) (lawful : IsLanguage language) where
-  pub one_test : (frame : TestFrame) (s t : Test Stmt) → HasTest language frame s → HasTest language frame t → s ≡ t
+module _ {Syntax Stmt : Type 0} (grammar : Grammar Syntax Stmt) (lawful : IsGrammar grammar) where
+  pub one_test : (frame : TestFrame) (s t : Test Stmt) → HasTest grammar frame s → HasTest grammar frame t → s ≡ t
   one_test frame s t h k =
-      let same = zip_unique (Column language) (column_unique language lawful) frame.cells h.threads k.threads h.says k.says in
-      h.made ∙ ap (λ ts. test_on language frame.head (with_names frame.head.locs (names_of language ts)) ts) same ∙ sym k.made
+      let same = zip_unique (Column grammar) (column_unique grammar lawful) frame.cells h.threads k.threads h.says k.says in
+      h.made ∙ ap (λ ts. test_on grammar frame.head (with_names frame.head.locs (names_of grammar ts)) ts) same ∙ sym k.made
 
-  names_of-append : (xs ys : List (List (CellSyntax Syntax))) → names_of language (xs ++ ys) ≡ names_of language xs ++ names_of language ys
-  names_of-append xs ys = flat_map-append (names_in language) xs ys
+  names_of-append : (xs ys : List (List (CellSyntax Syntax))) → names_of grammar (xs ++ ys) ≡ names_of grammar xs ++ names_of grammar ys
+  names_of-append xs ys = flat_map-append (names_in grammar) xs ys
 
   -- the names of all statements are in the table
   abbrev AllIn : List (List ℕ) → List (List (CellSyntax Syntax)) → Type 0
   AllIn names [] = Unit {0}
-  AllIn names (t ∷ ts) = LocationsExist language names (statements t) × AllIn names ts
+  AllIn names (t ∷ ts) = LocationsExist grammar names (statements t) × AllIn names ts
 
-  all_in : (names : List (List ℕ)) (ts : List (List (CellSyntax Syntax))) → AllIn (with_names names (names_of language ts)) ts
+  all_in : (names : List (List ℕ)) (ts : List (List (CellSyntax Syntax))) → AllIn (with_names names (names_of grammar ts)) ts
   all_in names [] = tt
   all_in names (t ∷ ts) =
-      subst (λ ns. AllIn ns (t ∷ ts)) (sym (with_names-append names (names_in language t) (names_of language ts)))
-      (all_along language (with_names names (names_in language t)) (names_of language ts) (statements t) (all_there language names (statements t)), all_in (with_names names (names_in language t)) ts)
+      subst (λ ns. AllIn ns (t ∷ ts)) (sym (with_names-append names (names_in grammar t) (names_of grammar ts)))
+      (all_along grammar (with_names names (names_in grammar t)) (names_of grammar ts) (statements t) (all_there grammar names (statements t)), all_in (with_names names (names_in grammar t)) ts)
 
-  all_resolved-along : (names ns : List (List ℕ)) (ts : List (List (CellSyntax Syntax))) → AllIn names ts → map (code_in language (with_names names ns)) ts ≡ map (code_in language names) ts
+  all_resolved-along : (names ns : List (List ℕ)) (ts : List (List (CellSyntax Syntax))) → AllIn names ts → map (code_in grammar (with_names names ns)) ts ≡ map (code_in grammar names) ts
   all_resolved-along names ns [] all = refl
-  all_resolved-along names ns (t ∷ ts) all = rw (map_resolved-along language names ns t (statements t) all.0, all_resolved-along names ns ts all.1) refl
+  all_resolved-along names ns (t ∷ ts) all = rw (map_resolved-along grammar names ns t (statements t) all.0, all_resolved-along names ns ts all.1) refl
 
   -- What was read of the columns before, and this column.
-  module _ (front : List (List (List (List ℕ)))) (before mid : List (List ℕ)) (threads : List (List Stmt)) (read : ColumnsRead language front before threads mid) (column : List (List (List ℕ))) where
-    pub threads_more : (stmts : List Stmt) (after : List (List ℕ)) → ColumnRead language column mid stmts after → ColumnsRead language (front ++ column ∷ []) before (threads ++ stmts ∷ []) after
+  module _ (front : List (List (List (List ℕ)))) (before mid : List (List ℕ)) (threads : List (List Stmt)) (read : ColumnsRead grammar front before threads mid) (column : List (List (List ℕ))) where
+    pub threads_more : (stmts : List Stmt) (after : List (List ℕ)) → ColumnRead grammar column mid stmts after → ColumnsRead grammar (front ++ column ∷ []) before (threads ++ stmts ∷ []) after
     threads_more stmts after one =
         let t = one.syntaxes in
         let old : AllIn mid read.syntaxes = subst (λ ns. AllIn ns read.syntaxes) (sym read.names) (all_in before read.syntaxes) in
-        let kept : map (code_in language after) read.syntaxes ≡ threads =
-        ap (λ ns. map (code_in language ns) read.syntaxes) one.names ∙ all_resolved-along mid (names_in language t) read.syntaxes old ∙ sym read.made in
+        let kept : map (code_in grammar after) read.syntaxes ≡ threads =
+        ap (λ ns. map (code_in grammar ns) read.syntaxes) one.names ∙ all_resolved-along mid (names_in grammar t) read.syntaxes old ∙ sym read.made in
         record {
           syntaxes = read.syntaxes ++ t ∷ [];
-          says = zip_more (Column language) front read.syntaxes column t read.says one.says;
+          says = zip_more (Column grammar) front read.syntaxes column t read.says one.says;
           names =
-              one.names ∙ ap (λ ns. with_names ns (names_in language t)) read.names ∙ sym (with_names-append before (names_of language read.syntaxes) (names_in language t))
-              ∙ ap (with_names before) (ap (λ ns. names_of language read.syntaxes ++ ns) (sym (append-nil (names_in language t))) ∙ sym (names_of-append read.syntaxes (t ∷ [])));
-          made = sym (map-append (code_in language after) read.syntaxes (t ∷ []) ∙ ap (λ ss. ss ++ code_in language after t ∷ []) kept ∙ ap (λ (x : List Stmt). threads ++ x ∷ []) (sym one.made));
+              one.names ∙ ap (λ ns. with_names ns (names_in grammar t)) read.names ∙ sym (with_names-append before (names_of grammar read.syntaxes) (names_in grammar t))
+              ∙ ap (with_names before) (ap (λ ns. names_of grammar read.syntaxes ++ ns) (sym (append-nil (names_in grammar t))) ∙ sym (names_of-append read.syntaxes (t ∷ [])));
+          made = sym (map-append (code_in grammar after) read.syntaxes (t ∷ []) ∙ ap (λ ss. ss ++ code_in grammar after t ∷ []) kept ∙ ap (λ (x : List Stmt). threads ++ x ∷ []) (sym one.made));
         }
 
     -- where the column says nothing that fits, no list of threads does
-    pub threads_none : (columns rest : List (List (List (List ℕ)))) → columns ≡ front ++ column ∷ rest → ((t : List (CellSyntax Syntax)) → ColumnFits language mid column t → ⊥) → (ts : List (List (CellSyntax Syntax))) → ColumnsFit language before columns ts → ⊥
+    pub threads_none : (columns rest : List (List (List (List ℕ)))) → columns ≡ front ++ column ∷ rest → ((t : List (CellSyntax Syntax)) → ColumnFits grammar mid column t → ⊥) → (ts : List (List (CellSyntax Syntax))) → ColumnsFit grammar before columns ts → ⊥
     threads_none columns rest whole none ts (all, few) =
-        let cut = zip_cut (Column language) front column rest ts (subst (λ cs. AllZip (Column language) cs ts) whole all) in
-        let same : read.syntaxes ≡ cut.0 = zip_unique (Column language) (column_unique language lawful) front read.syntaxes cut.0 read.says cut.4 in
-        let table : with_names before (names_of language ts) ≡ with_names (with_names mid (names_in language cut.1)) (names_of language cut.2) =
-        ap (λ ss. with_names before (names_of language ss)) cut.3 ∙ ap (with_names before) (names_of-append cut.0 (cut.1 ∷ cut.2))
-        ∙ with_names-append before (names_of language cut.0) (names_of language (cut.1 ∷ cut.2))
-        ∙ ap (λ ns. with_names ns (names_of language (cut.1 ∷ cut.2))) (ap (λ ss. with_names before (names_of language ss)) (sym same) ∙ sym read.names)
-        ∙ with_names-append mid (names_in language cut.1) (names_of language cut.2) in
-        none cut.1 (cut.5, omega (arith, ap length table, with_names-longer (with_names mid (names_in language cut.1)) (names_of language cut.2), few))
+        let cut = zip_cut (Column grammar) front column rest ts (subst (λ cs. AllZip (Column grammar) cs ts) whole all) in
+        let same : read.syntaxes ≡ cut.0 = zip_unique (Column grammar) (column_unique grammar lawful) front read.syntaxes cut.0 read.says cut.4 in
+        let table : with_names before (names_of grammar ts) ≡ with_names (with_names mid (names_in grammar cut.1)) (names_of grammar cut.2) =
+        ap (λ ss. with_names before (names_of grammar ss)) cut.3 ∙ ap (with_names before) (names_of-append cut.0 (cut.1 ∷ cut.2))
+        ∙ with_names-append before (names_of grammar cut.0) (names_of grammar (cut.1 ∷ cut.2))
+        ∙ ap (λ ns. with_names ns (names_of grammar (cut.1 ∷ cut.2))) (ap (λ ss. with_names before (names_of grammar ss)) (sym same) ∙ sym read.names)
+        ∙ with_names-append mid (names_in grammar cut.1) (names_of grammar cut.2) in
+        none cut.1 (cut.5, omega (arith, ap length table, with_names-longer (with_names mid (names_in grammar cut.1)) (names_of grammar cut.2), few))
 
   -- what is told of a column holds in its columns
-  pub threads_tell : {A : Type 0} (columns front rest : List (List (Cell A))) (column : List (Cell A)) (before mid : List (List ℕ)) (threads : List (List Stmt)) → columns ≡ front ++ column ∷ rest → ColumnsRead language (all_texts front) before threads mid → (at : ℕ) (cause : CellCause) → TellsBy language mid (placed_row column ∷ []) at cause
-      → TellsBy language before (placed_cells columns) at cause
+  pub threads_tell : {A : Type 0} (columns front rest : List (List (Cell A))) (column : List (Cell A)) (before mid : List (List ℕ)) (threads : List (List Stmt)) → columns ≡ front ++ column ∷ rest → ColumnsRead grammar (all_texts front) before threads mid → (at : ℕ) (cause : CellCause) → TellsBy grammar mid (placed_row column ∷ []) at cause
+      → TellsBy grammar before (placed_cells columns) at cause
   threads_tell columns front rest column before mid threads whole read at cause t =
       let parts = ap placed_cells whole ∙ map-append placed_row front (column ∷ rest) in
-      let says = subst (λ (cs : List (List (List (List ℕ)))). AllZip (Column language) cs read.syntaxes) (sym (grid_placed front)) read.says in
-      column_tells language before mid (placed_cells columns) (placed_cells front) (placed_cells rest) (placed_row column) read.syntaxes parts says read.names at cause t
+      let says = subst (λ (cs : List (List (List (List ℕ)))). AllZip (Column grammar) cs read.syntaxes) (sym (grid_placed front)) read.says in
+      column_tells grammar before mid (placed_cells columns) (placed_cells front) (placed_cells rest) (placed_row column) read.syntaxes parts says read.names at cause t
 
   -- what cells say is said by tokens
-  column_said : (cells : List (List (List ℕ))) (t : List (CellSyntax Syntax)) → AllZip (CellSays language) cells t → AllSaid language lawful (statements t)
+  column_said : (cells : List (List (List ℕ))) (t : List (CellSyntax Syntax)) → AllZip (CellSays grammar) cells t → AllSaid grammar lawful (statements t)
   column_said [] [] says = tt
   column_said [] (y ∷ t) says = absurd says
   column_said (c ∷ cells) [] says = absurd says
   column_said (c ∷ cells) (y ∷ t) says = go y.stmt refl (column_said cells t says.1)
     where
-      go : (o : Option Syntax) → y.stmt ≡ o → AllSaid language lawful (statements t) → AllSaid language lawful (statements (y ∷ t))
-      go None e further = subst (λ (p : Option Syntax). AllSaid language lawful (cons_option p (statements t))) (sym e) further
+      go : (o : Option Syntax) → y.stmt ≡ o → AllSaid grammar lawful (statements t) → AllSaid grammar lawful (statements (y ∷ t))
+      go None e further = subst (λ (p : Option Syntax). AllSaid grammar lawful (cons_option p (statements t))) (sym e) further
       go (Some s) e further =
-          let here : language.says says.0.0 s = subst (λ (p : Option Syntax). MaybeStatement language says.0.0 p) e says.0.2 in
-          subst (λ (p : Option Syntax). AllSaid language lawful (cons_option p (statements t))) (sym e) ((says.0.0, here), further)
+          let here : grammar.says says.0.0 s = subst (λ (p : Option Syntax). MaybeStatement grammar says.0.0 p) e says.0.2 in
+          subst (λ (p : Option Syntax). AllSaid grammar lawful (cons_option p (statements t))) (sym e) ((says.0.0, here), further)
 
-  all_fit : (names : List (List ℕ)) (columns : List (List (List (List ℕ)))) (ts : List (List (CellSyntax Syntax))) → AllZip (Column language) columns ts → AllIn names ts → AllByRecursion (IsThread language (length names)) (map (code_in language names) ts)
+  all_fit : (names : List (List ℕ)) (columns : List (List (List (List ℕ)))) (ts : List (List (CellSyntax Syntax))) → AllZip (Column grammar) columns ts → AllIn names ts → AllByRecursion (IsThread grammar.language (length names)) (map (code_in grammar names) ts)
   all_fit names [] [] says all = tt
   all_fit names [] (t ∷ ts) says all = absurd says
   all_fit names (c ∷ columns) [] says all = absurd says
-  all_fit names (c ∷ columns) (t ∷ ts) says all = (thread_fits language lawful names t (column_said c t says.0.says) all.0 says.0.few says.0.forward, all_fit names columns ts says.1 all.1)
+  all_fit names (c ∷ columns) (t ∷ ts) says all = (thread_fits grammar lawful names t (column_said c t says.0.says) all.0 says.0.few says.0.forward, all_fit names columns ts says.1 all.1)
 
   -- What was read of all columns.
-  module _ (columns : List (List (List (List ℕ)))) (before after : List (List ℕ)) (threads : List (List Stmt)) (read : ColumnsRead language columns before threads after) where
-    threads_fit : All (IsThread language (length after)) threads
+  module _ (columns : List (List (List (List ℕ)))) (before after : List (List ℕ)) (threads : List (List Stmt)) (read : ColumnsRead grammar columns before threads after) where
+    threads_fit : All (IsThread grammar.language (length after)) threads
     threads_fit =
         let old : AllIn after read.syntaxes = subst (λ ns. AllIn ns read.syntaxes) (sym read.names) (all_in before read.syntaxes) in
-        let fit : AllByRecursion (IsThread language (length after)) threads = subst (λ ts. AllByRecursion (IsThread language (length after)) ts) (sym read.made) (all_fit after columns read.syntaxes read.says old) in
-        All-from_recursion (IsThread language (length after)) threads fit
+        let fit : AllByRecursion (IsThread grammar.language (length after)) threads = subst (λ ts. AllByRecursion (IsThread grammar.language (length after)) ts) (sym read.made) (all_fit after columns read.syntaxes read.says old) in
+        All-from_recursion (IsThread grammar.language (length after)) threads fit
 
     as_many_threads : length threads ≡ length columns
-    as_many_threads = ap length read.made ∙ length-map read.syntaxes (code_in language after) ∙ sym (zip_length (Column language) columns read.syntaxes read.says)
+    as_many_threads = ap length read.made ∙ length-map read.syntaxes (code_in grammar after) ∙ sym (zip_length (Column grammar) columns read.syntaxes read.says)
 
     table_grown : length before ≤ length after
-    table_grown = omega (arith, with_names-longer before (names_of language read.syntaxes), ap length read.names)
+    table_grown = omega (arith, with_names-longer before (names_of grammar read.syntaxes), ap length read.names)
 
   -- the head, with this table and these initial words
   abbrev changed : TestHead → List (List ℕ) → List ℕ → TestHead
@@ -151,11 +151,11 @@ module _ {Syntax Stmt : Type 0} (language : Language Syntax Stmt) (lawful : IsLa
 
   -- The test of a frame, of which a copy of the head was read on.
   module _ (frame_head head : TestHead) (same : head ≡ frame_head) (cells : List (List (List (List ℕ)))) where
-    pub test_found : (threads : List (List Stmt)) (names : List (List ℕ)) (words : List ℕ) → frame_head.arch ≡ language.arch → ColumnsRead language cells head.locs threads names → length names ≤ 8 → words ≡ head.init_words ++ replicate (length names - length head.locs) 0
-        → HasTest language (record { head = frame_head; cells = cells }) (record { head = changed head names words; threads = threads })
+    pub test_found : (threads : List (List Stmt)) (names : List (List ℕ)) (words : List ℕ) → frame_head.arch ≡ grammar.language.arch → ColumnsRead grammar cells head.locs threads names → length names ≤ 8 → words ≡ head.init_words ++ replicate (length names - length head.locs) 0
+        → HasTest grammar (record { head = frame_head; cells = cells }) (record { head = changed head names words; threads = threads })
     test_found threads names words word read few filled =
         let test : Test Stmt = record { head = changed head names words; threads = threads } in
-        let found : HasTest language (record { head = head; cells = cells }) test =
+        let found : HasTest grammar (record { head = head; cells = cells }) test =
         record {
           arch = ap (λ (h : TestHead). h.arch) same ∙ word;
           threads = read.syntaxes;
@@ -164,15 +164,15 @@ module _ {Syntax Stmt : Type 0} (language : Language Syntax Stmt) (lawful : IsLa
           made =
               ap (λ (w : List ℕ). let t : Test Stmt = record { head = changed head names w; threads = threads } in t) filled
               ∙ ap (λ (ts : List (List Stmt)). let t : Test Stmt = record { head = with_table head names; threads = ts } in t) read.made
-              ∙ ap (λ ns. test_on language head ns read.syntaxes) read.names;
+              ∙ ap (λ ns. test_on grammar head ns read.syntaxes) read.names;
         } in
-        subst (λ (h : TestHead). HasTest language (record { head = h; cells = cells }) test) same found
+        subst (λ (h : TestHead). HasTest grammar (record { head = h; cells = cells }) test) same found
 
-    pub test_none : ((t : List (List (CellSyntax Syntax))) → ColumnsFit language head.locs cells t → ⊥) → (s : Test Stmt) → HasTest language (record { head = frame_head; cells = cells }) s → ⊥
-    test_none none s has = none has.threads (has.says, subst (λ (h : TestHead). length (with_names h.locs (names_of language has.threads)) ≤ 8) (sym same) has.few)
+    pub test_none : ((t : List (List (CellSyntax Syntax))) → ColumnsFit grammar head.locs cells t → ⊥) → (s : Test Stmt) → HasTest grammar (record { head = frame_head; cells = cells }) s → ⊥
+    test_none none s has = none has.threads (has.says, subst (λ (h : TestHead). length (with_names h.locs (names_of grammar has.threads)) ≤ 8) (sym same) has.few)
 
-    pub test_well_formed : (threads : List (List Stmt)) (names : List (List ℕ)) (words : List ℕ) → IsWellFormedHead frame_head → frame_head.arch ≡ language.arch → length cells ≡ frame_head.threads → ColumnsRead language cells head.locs threads names → IsTable names
-        → words ≡ head.init_words ++ replicate (length names - length head.locs) 0 → IsWellFormed language (record { head = changed head names words; threads = threads })
+    pub test_well_formed : (threads : List (List Stmt)) (names : List (List ℕ)) (words : List ℕ) → IsWellFormedHead frame_head → frame_head.arch ≡ grammar.language.arch → length cells ≡ frame_head.threads → ColumnsRead grammar cells head.locs threads names → IsTable names
+        → words ≡ head.init_words ++ replicate (length names - length head.locs) 0 → IsWellFormed grammar.language (record { head = changed head names words; threads = threads })
     test_well_formed threads names words formed word columns read table filled =
         let grown : IsWellFormedHead (with_table head names) =
         with_table-well_formed head names (subst IsWellFormedHead (sym same) formed) table (table_grown cells head.locs names threads read) in

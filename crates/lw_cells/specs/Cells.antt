@@ -9,8 +9,8 @@ use Rattle.lw_base.specs.Heads.{TestHead, with_table}
 use Rattle.lw_base.specs.Names.{IsLocation, EachOnce}
 use Rattle.lw_base.specs.Tables.{contains_name, with_names, index_of}
 use Rattle.lw_text.specs.Frames.{TestFrame}
-use Rattle.lw_cells.specs.Languages.{Language}
-use Rattle.lw_cells.specs.Tests.{Test}
+use Rattle.lw_cells.specs.Grammars.{Grammar}
+use Rattle.lw_litmus.specs.Tests.{Test}
 
 -- what a cell says: labels, and at most one statement
 pub record CellSyntax (Syntax : Type 0) : Type 0 where
@@ -44,11 +44,11 @@ abbrev pub led_to : {Syntax : Type 0} → List (CellSyntax Syntax) → Option By
 led_to syntaxes None = 0
 led_to syntaxes (Some l) = target_in syntaxes l
 
-module _ {Syntax Stmt : Type 0} (language : Language Syntax Stmt) where
+module _ {Syntax Stmt : Type 0} (grammar : Grammar Syntax Stmt) where
   -- nothing, or a statement
   abbrev pub MaybeStatement : TokenList → Option Syntax → Type 0
   MaybeStatement ts None = ts ≡ []
-  MaybeStatement ts (Some s) = language.says ts s
+  MaybeStatement ts (Some s) = grammar.says ts s
 
   -- The cell's tokens are labels, and then nothing or a statement.
   abbrev pub CellSays : TokenList → CellSyntax Syntax → Type 0
@@ -58,20 +58,20 @@ module _ {Syntax Stmt : Type 0} (language : Language Syntax Stmt) where
   -- behind it or to the thread's end.
   abbrev pub LeadsForward : List (CellSyntax Syntax) → ℕ → Syntax → Type 0
   LeadsForward syntaxes k s =
-      ForSome (language.label_of s) (λ l. Contains (labels_of syntaxes) l × (k < target_in syntaxes l))
+      ForSome (grammar.label_of s) (λ l. Contains (labels_of syntaxes) l × (k < target_in syntaxes l))
 
   -- The cells of a thread say these, from top to bottom: no more statements than the language allows, each label
   -- once, and jumps forward.
   pub record Column (cells : Cells) (syntaxes : List (CellSyntax Syntax)) : Type 0 where
     pub says : AllZip CellSays cells syntaxes
-    pub few : length (statements syntaxes) ≤ language.most
+    pub few : length (statements syntaxes) ≤ grammar.language.most
     pub once : EachOnce (labels_of syntaxes)
     pub forward :
         (k : ℕ) (s : Syntax) → slice_get (statements syntaxes) k ≡ Some s → LeadsForward syntaxes k s
 
   -- the names of locations in the statements of some threads, the first thread's from top to bottom, and on
   abbrev pub names_in : List (CellSyntax Syntax) → List Bytes
-  names_in syntaxes = filter_map language.name_of (statements syntaxes)
+  names_in syntaxes = filter_map grammar.name_of (statements syntaxes)
 
   abbrev pub names_of : List (List (CellSyntax Syntax)) → List Bytes
   names_of threads = flat_map names_in threads
@@ -79,7 +79,7 @@ module _ {Syntax Stmt : Type 0} (language : Language Syntax Stmt) where
   -- the statement resolved: with its location's number in a table, and the number that its label leads to
   abbrev pub resolved : NameTable → List (CellSyntax Syntax) → Syntax → Stmt
   resolved names syntaxes s =
-      language.made (number_in names (language.name_of s)) (led_to syntaxes (language.label_of s)) s
+      grammar.made (number_in names (grammar.name_of s)) (led_to syntaxes (grammar.label_of s)) s
 
   -- a thread's code
   abbrev pub code_in : NameTable → List (CellSyntax Syntax) → List Stmt
@@ -92,7 +92,7 @@ module _ {Syntax Stmt : Type 0} (language : Language Syntax Stmt) where
 
   -- The frame is of the language, and its cells say the statements of the test, on at most eight locations.
   pub record HasTest (frame : TestFrame) (test : Test Stmt) : Type 0 where
-    pub arch : frame.head.arch ≡ language.arch
+    pub arch : frame.head.arch ≡ grammar.language.arch
     pub threads : List (List (CellSyntax Syntax))
     pub says : AllZip Column frame.cells threads
     pub few : length (with_names frame.head.locs (names_of threads)) ≤ most_locations

@@ -15,7 +15,7 @@ use Rattle.lw_text.specs.Places.{cells_texts}
 use Rattle.lw_cells.specs.declared.draft.Draft.{Draft}
 use Rattle.lw_cells.specs.declared.draft.Draft.TheVariants.{Whole, Jumping}
 use Rattle.lw_cells.specs.declared.draft.DraftCell.{DraftCell}
-use Rattle.lw_cells.specs.Languages.{Language}
+use Rattle.lw_cells.specs.Grammars.{Grammar}
 use Rattle.lw_cells.specs.Cells.{CellSyntax, CellSays, statements, labels_of, names_in, number_in}
 
 -- a thread's labels in memory: names, and the numbers of the statements that they lead to
@@ -52,28 +52,28 @@ leads_to (p ∷ ps) n = if bytes_eq p.0 n then Some p.1 else leads_to ps n
 abbrev pub LeadsAs : LabelMap → Targets → Type 0
 LeadsAs labels ps = (n : Bytes) → target_by labels n ≡ leads_to ps n
 
-module _ {Syntax Stmt Jump : Type 0} (language : Language Syntax Stmt) where
+module _ {Syntax Stmt Jump : Type 0} (grammar : Grammar Syntax Stmt) where
   -- The tokens of a jump end with its label, at this index; and the jump becomes the statement, whatever its target.
   pub record EndsWithLabel (jump_to : Jump → ℕ → Stmt) (ts : TokenList) (x : ℕ) (jump : Jump) (k : ℕ) (s : Syntax) : Type 0 where
     pub label : Bytes
-    pub is : language.label_of s ≡ Some label
+    pub is : grammar.label_of s ≡ Some label
     pub stands : slice_get ts k ≡ Some label
     pub last : length ts ≡ suc k
-    pub becomes : (to : ℕ) → jump_to jump to ≡ language.made x to s
+    pub becomes : (to : ℕ) → jump_to jump to ≡ grammar.made x to s
 
   -- Drafts of statements on the location of a number: a whole statement has no label, and a jump ends with its label.
   pub record AreDrafts (jump_to : Jump → ℕ → Stmt) (draft_of : ℕ → Syntax → Draft Stmt Jump) : Type 0 where
     pub whole :
         (x : ℕ) (s : Syntax) (stmt : Stmt) → draft_of x s ≡ Whole stmt
-        → (language.label_of s ≡ None) × (language.made x 0 s ≡ stmt)
+        → (grammar.label_of s ≡ None) × (grammar.made x 0 s ≡ stmt)
     pub jumping :
-        (ts : TokenList) (x : ℕ) (s : Syntax) (jump : Jump) (k : ℕ) → language.says ts s
+        (ts : TokenList) (x : ℕ) (s : Syntax) (jump : Jump) (k : ℕ) → grammar.says ts s
         → draft_of x s ≡ Jumping jump k → EndsWithLabel jump_to ts x jump k s
 
   module _ (draft_of : ℕ → Syntax → Draft Stmt Jump) where
     -- the draft of a statement, on a table
     abbrev pub draft_in : NameTable → Syntax → Draft Stmt Jump
-    draft_in names s = draft_of (number_in names (language.name_of s)) s
+    draft_in names s = draft_of (number_in names (grammar.name_of s)) s
 
     -- the draft of a cell: each label has a `:` behind it
     abbrev pub draft_cell : NameTable → CellSyntax Syntax → DraftCell Stmt Jump
@@ -85,9 +85,9 @@ module _ {Syntax Stmt Jump : Type 0} (language : Language Syntax Stmt) where
         {A : Type 0} (cells : List (Cell A)) (before : NameTable) (drafts : List (DraftCell Stmt Jump)) (labels : LabelMap)
         (after : NameTable) : Type 0 where
       pub syntaxes : List (CellSyntax Syntax)
-      pub says : AllZip (CellSays language) (cells_texts cells) syntaxes
-      pub few : length (statements syntaxes) ≤ language.most
+      pub says : AllZip (CellSays grammar) (cells_texts cells) syntaxes
+      pub few : length (statements syntaxes) ≤ grammar.language.most
       pub once : EachOnce (labels_of syntaxes)
-      pub names : after ≡ with_names before (names_in language syntaxes)
+      pub names : after ≡ with_names before (names_in grammar syntaxes)
       pub made : drafts ≡ map (draft_cell after) syntaxes
       pub leads : LeadsAs labels (leading_in 0 syntaxes)

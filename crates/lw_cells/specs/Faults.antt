@@ -10,7 +10,7 @@ use Rattle.lw_base.specs.Names.{IsLocation}
 use Rattle.lw_base.specs.Tables.{with_names}
 use Rattle.lw_text.specs.PlacedTokens.{PlacedToken, texts_of_tokens}
 use Rattle.lw_text.specs.PlacedCells.{PlacedCell, texts_of_cells, texts_of_grid}
-use Rattle.lw_cells.specs.Languages.{Language}
+use Rattle.lw_cells.specs.Grammars.{Grammar}
 use Rattle.lw_cells.specs.Cells.{CellSyntax, Labels, CellSays, Column, statements, labels_of, target_in, names_in, names_of}
 
 -- A token that begins at a place, in a cell below others of its thread, which comes behind other threads.
@@ -35,14 +35,14 @@ all_syntaxes above syntax below = above ++ syntax ∷ below
 abbrev pub BeginsWithColon : TokenList → Type 0
 BeginsWithColon ts = slice_get ts 0 ≡ Some (codes ":")
 
-module _ {Syntax Stmt : Type 0} (language : Language Syntax Stmt) where
+module _ {Syntax Stmt : Type 0} (grammar : Grammar Syntax Stmt) where
   -- The token is a label that its thread has already: above, or before it in its cell.
   pub record IsSecondLabel
       {columns : List (List PlacedCell)} {at : ℕ} (p : Standing columns at) : Type 0 where
     pub syntaxes : List (CellSyntax Syntax)
     pub labels : List Bytes
     pub more : TokenList
-    pub says : AllZip (CellSays language) (texts_of_cells p.above) syntaxes
+    pub says : AllZip (CellSays grammar) (texts_of_cells p.above) syntaxes
     pub in_front : Labels (texts_of_tokens p.front) labels []
     pub is_label : texts_of_tokens p.back ≡ codes ":" ∷ more
     pub there : Contains (labels_of syntaxes ++ labels) p.token.text
@@ -51,11 +51,11 @@ module _ {Syntax Stmt : Type 0} (language : Language Syntax Stmt) where
   pub record IsJumpLabel
       {columns : List (List PlacedCell)} {at : ℕ} (p : Standing columns at)
       (above : List (CellSyntax Syntax)) (syntax : CellSyntax Syntax) (below : List (CellSyntax Syntax)) : Type 0 where
-    pub above_says : AllZip (CellSays language) (texts_of_cells p.above) above
-    pub says : CellSays language (texts_of_tokens p.cell.tokens) syntax
-    pub below_says : AllZip (CellSays language) (texts_of_cells p.below) below
+    pub above_says : AllZip (CellSays grammar) (texts_of_cells p.above) above
+    pub says : CellSays grammar (texts_of_tokens p.cell.tokens) syntax
+    pub below_says : AllZip (CellSays grammar) (texts_of_cells p.below) below
     pub last : p.back ≡ []
-    pub jump : (s : Syntax) × (syntax.stmt ≡ Some s) × (language.label_of s ≡ Some p.token.text)
+    pub jump : (s : Syntax) × (syntax.stmt ≡ Some s) × (grammar.label_of s ≡ Some p.token.text)
 
   -- a jump to a label that its thread lacks
   abbrev pub IsMissing : {columns : List (List PlacedCell)} {at : ℕ} → Standing columns at → Type 0
@@ -78,11 +78,11 @@ module _ {Syntax Stmt : Type 0} (language : Language Syntax Stmt) where
       {columns : List (List PlacedCell)} {at : ℕ} (p : Standing columns at) : Type 0 where
     pub syntaxes : List (CellSyntax Syntax)
     pub labels : List Bytes
-    pub says : AllZip (CellSays language) (texts_of_cells p.above) syntaxes
+    pub says : AllZip (CellSays grammar) (texts_of_cells p.above) syntaxes
     pub in_front : Labels (texts_of_tokens p.front) labels []
-    pub begins : language.can_begin p.token.text
+    pub begins : grammar.can_begin p.token.text
     pub no_label : BeginsWithColon (texts_of_tokens p.back) → ⊥
-    pub full : length (statements syntaxes) ≡ language.most
+    pub full : length (statements syntaxes) ≡ grammar.language.most
 
   -- The token is a location and no label, and is not among the eight locations of the table and of what stands before.
   pub record IsNinth
@@ -91,14 +91,14 @@ module _ {Syntax Stmt : Type 0} (language : Language Syntax Stmt) where
     pub syntaxes : List (CellSyntax Syntax)
     pub labels : List Bytes
     pub mid : TokenList
-    pub before_says : AllZip (Column language) (texts_of_grid p.before) threads
-    pub says : AllZip (CellSays language) (texts_of_cells p.above) syntaxes
+    pub before_says : AllZip (Column grammar) (texts_of_grid p.before) threads
+    pub says : AllZip (CellSays grammar) (texts_of_cells p.above) syntaxes
     pub in_front : Labels (texts_of_tokens p.front) labels mid
-    pub at_location : language.before_location mid
+    pub at_location : grammar.before_location mid
     pub no_label : mid ≡ [] → BeginsWithColon (texts_of_tokens p.back) → ⊥
     pub is_location : IsLocation p.token.text
-    pub full : length (with_names names (names_of language threads ++ names_in language syntaxes)) ≡ most_locations
-    pub new : Contains (with_names names (names_of language threads ++ names_in language syntaxes)) p.token.text → ⊥
+    pub full : length (with_names names (names_of grammar threads ++ names_in grammar syntaxes)) ≡ most_locations
+    pub new : Contains (with_names names (names_of grammar threads ++ names_in grammar syntaxes)) p.token.text → ⊥
 
   -- What the cause says of the place. Form and Register say only that the cells are no test's.
   abbrev pub TellsBy : NameTable → List (List PlacedCell) → ℕ → CellCause → Type 0

@@ -1,6 +1,4 @@
-pub mod Languages
-pub mod Tests
-pub mod TestProps
+pub mod Grammars
 pub mod Cells
 pub mod Faults
 pub mod Operands

@@ -1,5 +1,4 @@
--- Operands: what their tokens say, and their registers and numbers.
-use Rattle.std.specs.Prelude.{ℕ, List, [], ◌∷◌}
+-- What the tokens of operands say.
 use Rattle.lw_base.specs.Types.{Bytes}
 use Rattle.lw_base.specs.declared.head.Arch.{Arch}
 use Rattle.lw_base.specs.declared.operand.Operand.{Operand}
@@ -11,12 +10,3 @@ use Rattle.lw_text.specs.Tokens.{IsNumber}
 abbrev pub IsOperand : Arch → Bytes → Operand → Type 0
 IsOperand arch w (Register r) = IsRegister arch w r
 IsOperand arch w (Number n) = IsNumber w n
-
--- the registers of an operand, and its numbers
-abbrev pub operand_registers : Operand → List ℕ
-operand_registers (Register r) = r ∷ []
-operand_registers (Number n) = []
-
-abbrev pub operand_numbers : Operand → List ℕ
-operand_numbers (Register r) = []
-operand_numbers (Number n) = n ∷ []

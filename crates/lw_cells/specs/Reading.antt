@@ -12,7 +12,7 @@ use Rattle.lw_base.specs.Tables.{with_names}
 use Rattle.lw_text.specs.declared.token.Token.{Token}
 use Rattle.lw_text.specs.Spans.{texts}
 use Rattle.lw_cells.specs.declared.draft.Draft.{Draft}
-use Rattle.lw_cells.specs.Languages.{Language}
+use Rattle.lw_cells.specs.Grammars.{Grammar}
 use Rattle.lw_cells.specs.Cells.{CellSyntax, MaybeStatement, Labels, Column, statements, LeadsForward, names_in, names_of, code_in}
 use Rattle.lw_cells.specs.Drafts.{LabelMap, Targets, target_by, first_names, leading, LeadsAs, draft_in}
 use Rattle.lw_cells.specs.Words.{IsNinthName}
@@ -76,14 +76,14 @@ JumpCause labels number l Memory = ⊥
 abbrev pub bare : {Syntax : Type 0} → Option Syntax → CellSyntax Syntax
 bare o = record { labels = []; stmt = o }
 
-module _ {Syntax Stmt : Type 0} (language : Language Syntax Stmt) where
+module _ {Syntax Stmt : Type 0} (grammar : Grammar Syntax Stmt) where
   -- The label of the jump of this number, which is the last of these tokens, is refused.
   pub record JumpRefused
       (labels : LabelMap) (number : ℕ) (tokens : List Token) (s : Syntax) (at : ℕ) (cause : CellCause) : Type 0 where
     pub front : List Token
     pub token : Token
     pub last : tokens ≡ front ++ token ∷ []
-    pub is : language.label_of s ≡ Some token.text.now
+    pub is : grammar.label_of s ≡ Some token.text.now
     pub begins : token.at ≡ at
     pub because : JumpCause labels number token.text.now cause
 
@@ -97,7 +97,7 @@ module _ {Syntax Stmt : Type 0} (language : Language Syntax Stmt) where
     pub place : ℕ
     pub token : Token
     pub is : slice_get tokens place ≡ Some token
-    pub before : language.before_location (texts (take place tokens))
+    pub before : grammar.before_location (texts (take place tokens))
     pub ninth : IsNinthName names token at
 
   -- why a statement is refused
@@ -115,21 +115,21 @@ module _ {Syntax Stmt : Type 0} (language : Language Syntax Stmt) where
 
   -- the name of a statement's location, if it has one
   abbrev pub named_by : Syntax → List Bytes
-  named_by s = filter_map language.name_of (s ∷ [])
+  named_by s = filter_map grammar.name_of (s ∷ [])
 
   -- The tokens say the statement, and the table has its location or room for it.
   abbrev pub Fits : NameTable → TokenList → Syntax → Type 0
-  Fits names ts s = language.says ts s × (length (with_names names (named_by s)) ≤ most_locations)
+  Fits names ts s = grammar.says ts s × (length (with_names names (named_by s)) ≤ most_locations)
 
   -- The tokens say this, the table has room for it, and so has the thread, in which so many statements stand above.
   pub record FitsBelow (above : ℕ) (names : NameTable) (ts : TokenList) (o : Option Syntax) : Type 0 where
-    pub says : MaybeStatement language ts o
-    pub few : above + length (statements (bare o ∷ [])) ≤ language.most
-    pub room : length (with_names names (names_in language (bare o ∷ []))) ≤ most_locations
+    pub says : MaybeStatement grammar ts o
+    pub few : above + length (statements (bare o ∷ [])) ≤ grammar.language.most
+    pub room : length (with_names names (names_in grammar (bare o ∷ []))) ≤ most_locations
 
   -- The token is the first, and can begin a statement.
   abbrev pub BeginsAt : List Token → ℕ → Type 0
-  BeginsAt tokens at = (t : Token) × (slice_get tokens 0 ≡ Some t) × (t.at ≡ at) × language.can_begin t.text.now
+  BeginsAt tokens at = (t : Token) × (slice_get tokens 0 ≡ Some t) × (t.at ≡ at) × grammar.can_begin t.text.now
 
   -- why what stands behind a cell's labels is refused, where so many statements stand above
   abbrev pub MaybeCause : ℕ → List Token → NameTable → ℕ → CellCause → Type 0
@@ -139,7 +139,7 @@ module _ {Syntax Stmt : Type 0} (language : Language Syntax Stmt) where
   MaybeCause above tokens names at LabelTwice = ⊥
   MaybeCause above tokens names at Backward = ⊥
   MaybeCause above tokens names at TooMany =
-      ((above ≡ language.most) × BeginsAt tokens at) ⊎ NinthIn tokens names at
+      ((above ≡ grammar.language.most) × BeginsAt tokens at) ⊎ NinthIn tokens names at
   MaybeCause above tokens names at Memory = Unit {0}
 
   abbrev pub MaybeFault : ℕ → List Token → NameTable → CellFault → Type 0
@@ -150,48 +150,48 @@ module _ {Syntax Stmt : Type 0} (language : Language Syntax Stmt) where
   -- All jumps lead forward.
   abbrev pub AllForward : List (CellSyntax Syntax) → Type 0
   AllForward syntaxes =
-      (k : ℕ) (s : Syntax) → slice_get (statements syntaxes) k ≡ Some s → LeadsForward language syntaxes k s
+      (k : ℕ) (s : Syntax) → slice_get (statements syntaxes) k ≡ Some s → LeadsForward grammar syntaxes k s
 
   -- The cells of a thread say this, and the table has room for it.
   abbrev pub ColumnFits : NameTable → Cells → List (CellSyntax Syntax) → Type 0
-  ColumnFits names cells t = Column language cells t × (length (with_names names (names_in language t)) ≤ most_locations)
+  ColumnFits names cells t = Column grammar cells t × (length (with_names names (names_in grammar t)) ≤ most_locations)
 
   -- The cells of some threads say this, and the table has room for it.
   abbrev pub ColumnsFit : NameTable → CellGrid → List (List (CellSyntax Syntax)) → Type 0
   ColumnsFit names columns t =
-      AllZip (Column language) columns t × (length (with_names names (names_of language t)) ≤ most_locations)
+      AllZip (Column grammar) columns t × (length (with_names names (names_of grammar t)) ≤ most_locations)
 
   -- The cells of a thread say its statements.
   pub record ColumnRead (cells : Cells) (before : NameTable) (stmts : List Stmt) (after : NameTable) : Type 0 where
     pub syntaxes : List (CellSyntax Syntax)
-    pub says : Column language cells syntaxes
-    pub names : after ≡ with_names before (names_in language syntaxes)
-    pub made : stmts ≡ code_in language after syntaxes
+    pub says : Column grammar cells syntaxes
+    pub names : after ≡ with_names before (names_in grammar syntaxes)
+    pub made : stmts ≡ code_in grammar after syntaxes
 
   -- So do those of some threads.
   pub record ColumnsRead (columns : CellGrid) (before : NameTable) (threads : List (List Stmt)) (after : NameTable) : Type 0 where
     pub syntaxes : List (List (CellSyntax Syntax))
-    pub says : AllZip (Column language) columns syntaxes
-    pub names : after ≡ with_names before (names_of language syntaxes)
-    pub made : threads ≡ map (code_in language after) syntaxes
+    pub says : AllZip (Column grammar) columns syntaxes
+    pub names : after ≡ with_names before (names_of grammar syntaxes)
+    pub made : threads ≡ map (code_in grammar after) syntaxes
 
 -- What is read on a table, drafted.
-module _ {Syntax Stmt Jump : Type 0} (language : Language Syntax Stmt) (draft_of : ℕ → Syntax → Draft Stmt Jump) where
+module _ {Syntax Stmt Jump : Type 0} (grammar : Grammar Syntax Stmt) (draft_of : ℕ → Syntax → Draft Stmt Jump) where
   -- The tokens say a statement, which takes one table to another.
   pub record StatementRead (ts : TokenList) (before : NameTable) (draft : Draft Stmt Jump) (after : NameTable) : Type 0 where
     pub syntax : Syntax
-    pub says : language.says ts syntax
-    pub names : after ≡ with_names before (named_by language syntax)
-    pub made : draft ≡ draft_in language draft_of after syntax
+    pub says : grammar.says ts syntax
+    pub names : after ≡ with_names before (named_by grammar syntax)
+    pub made : draft ≡ draft_in grammar draft_of after syntax
 
   -- The tokens say nothing, or a statement.
   pub record MaybeRead (ts : TokenList) (before : NameTable) (draft : Option (Draft Stmt Jump)) (after : NameTable) : Type 0 where
     pub syntax : Option Syntax
-    pub says : MaybeStatement language ts syntax
-    pub names : after ≡ with_names before (names_in language (bare syntax ∷ []))
-    pub made : draft ≡ option_map (draft_in language draft_of after) syntax
+    pub says : MaybeStatement grammar ts syntax
+    pub names : after ≡ with_names before (names_in grammar (bare syntax ∷ []))
+    pub made : draft ≡ option_map (draft_in grammar draft_of after) syntax
 
   -- The tokens say the statement, and this is its draft.
   pub record IsDraft (names : NameTable) (ts : TokenList) (draft : Draft Stmt Jump) (s : Syntax) : Type 0 where
-    pub says : language.says ts s
-    pub made : draft ≡ draft_in language draft_of names s
+    pub says : grammar.says ts s
+    pub made : draft ≡ draft_in grammar draft_of names s

@@ -6,7 +6,7 @@ ghost use Rattle.lw_base.specs.Refusals.{NotFound};
 ghost use Rattle.lw_base.specs.declared.fault.CellCause.TheVariants.{TooMany, Memory};
 ghost use Rattle.lw_text.specs.Places.{cells_texts, placed_row, IsWithin};
 ghost use Rattle.lw_text.specs.Spans.{texts};
-ghost use Rattle.lw_cells.specs.Languages.{most_of, CanBegin, IsLanguage};
+ghost use Rattle.lw_cells.specs.Grammars.{most_of, CanBegin, IsGrammar};
 ghost use Rattle.lw_cells.specs.Cells.{CellSyntax, LeadsForward, code_in, resolved};
 ghost use Rattle.lw_cells.specs.Faults.{Tells};
 ghost use Rattle.lw_cells.specs.Words.{LiesWithin, IsMisfit};
@@ -17,7 +17,7 @@ ghost use Rattle.lw_cells.specs.Reading.{ColumnRead, ColumnFits};
 use crate::draft::{Draft, DraftCell};
 use crate::labels::read_labels;
 use crate::phrase::Phrase;
-use crate::statement::Statement;
+use crate::statement_reader::StatementReader;
 use crate::token::misfit;
 use lw_base::{CellCause, CellFault, LocNames, Sequence};
 use lw_text::{Cell, Token};
@@ -34,32 +34,32 @@ struct DraftColumn<'a, S, J, A: Allocator = Global> {
 
 /// Reads the statements of a thread: first its cells, then its jumps. The names of their locations
 /// go into the table.
-pub(crate) fn read_column<S: Statement, A: Allocator + Copy>(
+pub(crate) fn read_column<L: StatementReader, A: Allocator + Copy>(
     alloc: A,
     cells: &[Cell<'_, A>],
     locs: &mut LocNames<A>,
-) -> Result<Sequence<S, A>, CellFault>
-    requires lawful { IsLanguage S.language }
-    requires drafted { AreDrafts S.language S.jump_to S.draft_of }
-    ensures found { IfOk result (λ stmts. ColumnRead S.language (cells_texts cells.now) locs.old stmts locs.new) }
-    ensures fault { IfErr result (λ f. NotFound Memory f.cause (ColumnFits S.language locs.old (cells_texts cells.now))) }
-    ensures cause { IfErr result (Tells S.language locs.old (placed_row cells.now ∷ [])) }
+) -> Result<Sequence<L::Stmt, A>, CellFault>
+    requires lawful { IsGrammar L.grammar }
+    requires drafted { AreDrafts L.grammar L.jump_to L.draft_of }
+    ensures found { IfOk result (λ stmts. ColumnRead L.grammar (cells_texts cells.now) locs.old stmts locs.new) }
+    ensures fault { IfErr result (λ f. NotFound Memory f.cause (ColumnFits L.grammar locs.old (cells_texts cells.now))) }
+    ensures cause { IfErr result (Tells L.grammar locs.old (placed_row cells.now ∷ [])) }
     ensures place { (len : ℕ) → All (IsWithin len) cells.now → IfErr result (λ f. f.at ≤ len) }
 {
-    let draft = read_cells::<S, A>(alloc, cells, locs)?;
-    resolve(alloc, cells, draft.cells.as_slice(), &draft.labels)
+    let draft = read_cells::<L, A>(alloc, cells, locs)?;
+    resolve::<L, A>(alloc, cells, draft.cells.as_slice(), &draft.labels)
 }
 
 /// Reads the cells of a thread, each with its labels and its statement.
-fn read_cells<'a, S: Statement, A: Allocator + Copy>(
+fn read_cells<'a, L: StatementReader, A: Allocator + Copy>(
     alloc: A,
     cells: &[Cell<'a, A>],
     locs: &mut LocNames<A>,
-) -> Result<DraftColumn<'a, S, S::Jump, A>, CellFault>
-    requires lawful { IsLanguage S.language }
-    ensures found { IfOk result (λ draft. DraftRead S.language S.draft_of cells.now locs.old draft.cells draft.labels locs.new) }
-    ensures fault { IfErr result (λ f. NotFound Memory f.cause (ColumnFits S.language locs.old (cells_texts cells.now))) }
-    ensures cause { IfErr result (Tells S.language locs.old (placed_row cells.now ∷ [])) }
+) -> Result<DraftColumn<'a, L::Stmt, L::Jump, A>, CellFault>
+    requires lawful { IsGrammar L.grammar }
+    ensures found { IfOk result (λ draft. DraftRead L.grammar L.draft_of cells.now locs.old draft.cells draft.labels locs.new) }
+    ensures fault { IfErr result (λ f. NotFound Memory f.cause (ColumnFits L.grammar locs.old (cells_texts cells.now))) }
+    ensures cause { IfErr result (Tells L.grammar locs.old (placed_row cells.now ∷ [])) }
     ensures place { (len : ℕ) → All (IsWithin len) cells.now → IfErr result (λ f. f.at ≤ len) }
 {
     let mut drafts = Sequence::new(alloc);
@@ -68,7 +68,7 @@ fn read_cells<'a, S: Statement, A: Allocator + Copy>(
     for cell in cells {
         let start = read_labels(cell.tokens.as_slice(), count, &mut labels)?;
         let phrase = Phrase::behind(cell, start);
-        let stmt = maybe_statement::<S, A>(&phrase, count, locs)?;
+        let stmt = maybe_statement::<L, A>(&phrase, count, locs)?;
         count += number_of(&stmt);
         drafts.push(DraftCell { start, stmt })?;
     }
@@ -89,33 +89,33 @@ fn number_of<S, J>(stmt: &Option<Draft<S, J>>) -> usize
 }
 
 /// The statement behind a cell's labels, where there is one. So many stand above it.
-fn maybe_statement<S: Statement, A: Allocator + Copy>(
+fn maybe_statement<L: StatementReader, A: Allocator + Copy>(
     phrase: &Phrase<'_, '_>,
     above: usize,
     locs: &mut LocNames<A>,
-) -> Result<Option<Draft<S, S::Jump>>, CellFault>
-    ensures found { IfOk result (λ stmt. MaybeRead S.language S.draft_of (texts phrase.now.tokens.now) locs.old stmt locs.new) }
-    ensures room { IfOk result (λ stmt. ForSome stmt (λ _. above ≢ most_of S.language)) }
-    ensures fault { IfErr result (λ f. NotFound Memory f.cause (FitsBelow S.language above locs.old (texts phrase.now.tokens.now))) }
-    ensures cause { IfErr result (MaybeFault S.language above phrase.now.tokens.now locs.old) }
+) -> Result<Option<Draft<L::Stmt, L::Jump>>, CellFault>
+    ensures found { IfOk result (λ stmt. MaybeRead L.grammar L.draft_of (texts phrase.now.tokens.now) locs.old stmt locs.new) }
+    ensures room { IfOk result (λ stmt. ForSome stmt (λ _. above ≢ most_of L.grammar)) }
+    ensures fault { IfErr result (λ f. NotFound Memory f.cause (FitsBelow L.grammar above locs.old (texts phrase.now.tokens.now))) }
+    ensures cause { IfErr result (MaybeFault L.grammar above phrase.now.tokens.now locs.old) }
     ensures place { (len : ℕ) → LiesWithin len phrase.now → IfErr result (λ f. f.at ≤ len) }
 {
     let Some(first) = phrase.tokens.first() else {
         return Ok(None);
     };
-    if above == S::most() {
-        return Err(surplus::<S>(first));
+    if above == L::most() {
+        return Err(surplus::<L>(first));
     }
-    Ok(Some(S::read(phrase, locs)?))
+    Ok(Some(L::read(phrase, locs)?))
 }
 
 /// The fault of a statement that would be one too many: told at its first token, unless no statement
 /// begins with that one.
-fn surplus<S: Statement>(first: &Token<'_>) -> CellFault
+fn surplus<L: StatementReader>(first: &Token<'_>) -> CellFault
     ensures place { result.at ≡ first.now.at }
-    ensures cause { IsMisfit result.cause ⊎ ((result.cause ≡ TooMany) × CanBegin S.language first.now.text.now) }
+    ensures cause { IsMisfit result.cause ⊎ ((result.cause ≡ TooMany) × CanBegin L.grammar first.now.text.now) }
 {
-    if S::can_begin(first) {
+    if L::can_begin(first) {
         return CellFault {
             at: first.at,
             cause: CellCause::TooMany,
@@ -125,19 +125,19 @@ fn surplus<S: Statement>(first: &Token<'_>) -> CellFault
 }
 
 /// The statements of the drafts, resolved by these labels.
-fn resolve<S: Statement, A: Allocator + Copy>(
+fn resolve<L: StatementReader, A: Allocator + Copy>(
     alloc: A,
     cells: &[Cell<'_, A>],
-    drafts: &[DraftCell<S, S::Jump>],
+    drafts: &[DraftCell<L::Stmt, L::Jump>],
     labels: &BTreeMap<&str, usize, A>,
-) -> Result<Sequence<S, A>, CellFault>
-    requires drafted { AreDrafts S.language S.jump_to S.draft_of }
-    requires read { (before after : NameTable) × DraftRead S.language S.draft_of cells.now before drafts.now labels.now after }
-    ensures found { (before after : NameTable) (read : DraftRead S.language S.draft_of cells.now before drafts.now labels.now after)
-        → IfOk result (λ code. (code ≡ code_in S.language after read.syntaxes) × AllForward S.language read.syntaxes) }
-    ensures fault { (before after : NameTable) (read : DraftRead S.language S.draft_of cells.now before drafts.now labels.now after)
-        → IfErr result (λ f. f.cause ≢ Memory → AllForward S.language read.syntaxes → ⊥) }
-    ensures cause { (names : NameTable) → IfErr result (Tells S.language names (placed_row cells.now ∷ [])) }
+) -> Result<Sequence<L::Stmt, A>, CellFault>
+    requires drafted { AreDrafts L.grammar L.jump_to L.draft_of }
+    requires read { (before after : NameTable) × DraftRead L.grammar L.draft_of cells.now before drafts.now labels.now after }
+    ensures found { (before after : NameTable) (read : DraftRead L.grammar L.draft_of cells.now before drafts.now labels.now after)
+        → IfOk result (λ code. (code ≡ code_in L.grammar after read.syntaxes) × AllForward L.grammar read.syntaxes) }
+    ensures fault { (before after : NameTable) (read : DraftRead L.grammar L.draft_of cells.now before drafts.now labels.now after)
+        → IfErr result (λ f. f.cause ≢ Memory → AllForward L.grammar read.syntaxes → ⊥) }
+    ensures cause { (names : NameTable) → IfErr result (Tells L.grammar names (placed_row cells.now ∷ [])) }
     ensures place { (len : ℕ) → All (IsWithin len) cells.now → IfErr result (λ f. f.at ≤ len) }
 {
     let mut code = Sequence::new(alloc);
@@ -147,36 +147,37 @@ fn resolve<S: Statement, A: Allocator + Copy>(
             continue;
         };
         let phrase = Phrase::behind(cell, start);
-        let stmt = resolve_one::<S, A>(stmt, &phrase, code.len(), labels)?;
+        let stmt = resolve_one::<L, A>(stmt, &phrase, code.len(), labels)?;
         code.push(stmt)?;
     }
     Ok(code)
 }
 
 /// The statement of this number, resolved by the labels of its thread. The phrase is its own.
-fn resolve_one<S: Statement, A: Allocator>(
-    draft: Draft<S, S::Jump>,
+fn resolve_one<L: StatementReader, A: Allocator>(
+    draft: Draft<L::Stmt, L::Jump>,
     phrase: &Phrase<'_, '_>,
     number: usize,
     labels: &BTreeMap<&str, usize, A>,
-) -> Result<S, CellFault>
-    requires drafted { AreDrafts S.language S.jump_to S.draft_of }
-    requires draft { (names : NameTable) × (s : S.Syntax) × IsDraft S.language S.draft_of names (texts phrase.now.tokens.now) draft s }
-    ensures found { (names : NameTable) (s : S.Syntax) (syntaxes : List (CellSyntax S.Syntax))
-        → IsDraft S.language S.draft_of names (texts phrase.now.tokens.now) draft s → LeadsAs labels.now (leading_in 0 syntaxes)
-        → IfOk result (λ stmt. (stmt ≡ resolved S.language names syntaxes s) × LeadsForward S.language syntaxes number s) }
-    ensures fault { (names : NameTable) (s : S.Syntax) (syntaxes : List (CellSyntax S.Syntax))
-        → IsDraft S.language S.draft_of names (texts phrase.now.tokens.now) draft s → LeadsAs labels.now (leading_in 0 syntaxes)
-        → IfErr result (λ f. LeadsForward S.language syntaxes number s → ⊥) }
-    ensures cause { (names : NameTable) (s : S.Syntax) → IsDraft S.language S.draft_of names (texts phrase.now.tokens.now) draft s
-        → IfErr result (JumpFault S.language labels.now number phrase.now.tokens.now s) }
+) -> Result<L::Stmt, CellFault>
+    requires drafted { AreDrafts L.grammar L.jump_to L.draft_of }
+    requires draft { (names : NameTable) × (s : L.Syntax)
+        × IsDraft L.grammar L.draft_of names (texts phrase.now.tokens.now) draft s }
+    ensures found { (names : NameTable) (s : L.Syntax) (syntaxes : List (CellSyntax L.Syntax))
+        → IsDraft L.grammar L.draft_of names (texts phrase.now.tokens.now) draft s → LeadsAs labels.now (leading_in 0 syntaxes)
+        → IfOk result (λ stmt. (stmt ≡ resolved L.grammar names syntaxes s) × LeadsForward L.grammar syntaxes number s) }
+    ensures fault { (names : NameTable) (s : L.Syntax) (syntaxes : List (CellSyntax L.Syntax))
+        → IsDraft L.grammar L.draft_of names (texts phrase.now.tokens.now) draft s → LeadsAs labels.now (leading_in 0 syntaxes)
+        → IfErr result (λ f. LeadsForward L.grammar syntaxes number s → ⊥) }
+    ensures cause { (names : NameTable) (s : L.Syntax) → IsDraft L.grammar L.draft_of names (texts phrase.now.tokens.now) draft s
+        → IfErr result (JumpFault L.grammar labels.now number phrase.now.tokens.now s) }
     ensures place { (len : ℕ) → LiesWithin len phrase.now → IfErr result (λ f. f.at ≤ len) }
 {
     match draft {
         Draft::Whole(stmt) => Ok(stmt),
         Draft::Jumping(jump, label) => {
             let to = target(&phrase.tokens[label], number, labels)?;
-            Ok(S::jump(jump, to))
+            Ok(L::jump(jump, to))
         }
     }
 }

@@ -1,9 +1,9 @@
 //! The cells of a test, in either language: a thread's labels, its statements, and its jumps.
 //!
-//! A language says what one statement is, by the trait `Statement`; the rule of labels, of the table
-//! of locations that grows while cells are read, and of jumps stands here once. It names lw_base, and
-//! of lw_text the frame. What is read is said by docs/FORMAT.md. The promise that the languages use:
-//! `read_test` answers a frame's test exactly where the frame has one.
+//! A language says how one statement is read, by the trait `StatementReader`; the rule of labels, of the
+//! table of locations that grows while cells are read, and of jumps stands here once. It names lw_base,
+//! of lw_litmus what a test is, and of lw_text the frame. What is read is said by docs/FORMAT.md. The
+//! promise that the languages use: `read_test` answers a frame's test exactly where the frame has one.
 #![tactic(auto)]
 
 mod column;
@@ -12,12 +12,12 @@ mod labels;
 mod parts;
 mod phrase;
 mod read;
-mod statement;
+mod statement_reader;
 mod token;
 
 pub use draft::Draft;
 pub use parts::Parts;
 pub use phrase::Phrase;
 pub use read::read_test;
-pub use statement::Statement;
+pub use statement_reader::StatementReader;
 pub use token::{label, location, misfit, operand, register, word};

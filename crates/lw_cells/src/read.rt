@@ -5,8 +5,8 @@ ghost use Rattle.lw_base.specs.declared.fault.CellCause.TheVariants.{Memory};
 ghost use Rattle.lw_base.specs.Names.{IsTable};
 ghost use Rattle.lw_text.specs.Places.{all_texts, placed_cells, IsWithin};
 ghost use Rattle.lw_text.specs.Views.{frame_of};
-ghost use Rattle.lw_cells.specs.Languages.{IsLanguage, arch_of};
-ghost use Rattle.lw_cells.specs.Tests.{IsWellFormed, test_of};
+ghost use Rattle.lw_cells.specs.Grammars.{IsGrammar, arch_of};
+ghost use Rattle.lw_litmus.specs.Tests.{IsWellFormed, test_of};
 ghost use Rattle.lw_cells.specs.Cells.{HasTest};
 ghost use Rattle.lw_cells.specs.Drafts.{AreDrafts};
 ghost use Rattle.lw_cells.specs.Faults.{Tells};
@@ -14,75 +14,75 @@ ghost use Rattle.lw_cells.specs.Reading.{ColumnsRead, ColumnsFit};
 
 use crate::column::read_column;
 use crate::parts::Parts;
-use crate::statement::Statement;
+use crate::statement_reader::StatementReader;
 use lw_base::{CellFault, LocNames, Sequence, Word};
 use lw_text::{Cell, Frame};
 use std::alloc::{AllocFailed, Allocator};
 
-/// Reads the test of a frame of the language whose statements these are.
+/// Reads the test of a frame of the language.
 ///
 /// The threads are read one after another, each from top to bottom, and the first fault is told.
-pub fn read_test<S: Statement + Drop, A: Allocator + Copy>(
+pub fn read_test<L: StatementReader, A: Allocator + Copy>(
     alloc: A,
     frame: &Frame<'_, A>,
-) -> Result<Parts<S, A>, CellFault>
-    requires arch { frame.now.head.arch ≡ arch_of S.language }
-    requires lawful { IsLanguage S.language }
-    requires drafted { AreDrafts S.language S.jump_to S.draft_of }
+) -> Result<Parts<L::Stmt, A>, CellFault>
+    requires arch { frame.now.head.arch ≡ arch_of L.grammar }
+    requires lawful { IsGrammar L.grammar }
+    requires drafted { AreDrafts L.grammar L.jump_to L.draft_of }
     // What is answered is the frame's test, and where it is refused it has none, unless memory ran out.
-    ensures found { IfOk result (λ parts. HasTest S.language (frame_of frame.now) (test_of parts.head parts.threads)) }
-    ensures well_formed { IfOk result (λ parts. IsWellFormed S.language (test_of parts.head parts.threads)) }
-    ensures fault { IfErr result (λ f. NotFound Memory f.cause (HasTest S.language (frame_of frame.now))) }
+    ensures found { IfOk result (λ parts. HasTest L.grammar (frame_of frame.now) (test_of parts.head parts.threads)) }
+    ensures well_formed { IfOk result (λ parts. IsWellFormed L.grammar.language (test_of parts.head parts.threads)) }
+    ensures fault { IfErr result (λ f. NotFound Memory f.cause (HasTest L.grammar (frame_of frame.now))) }
     ensures place { IfErr result (λ f. f.at ≤ frame.now.len) }
     ensures memory { IfErr result (λ f. f.cause ≡ Memory → f.at ≡ 0) }
     // What the cause says of the place is so.
-    ensures cause { IfErr result (Tells S.language frame.now.head.locs (placed_cells frame.now.cells)) }
+    ensures cause { IfErr result (Tells L.grammar frame.now.head.locs (placed_cells frame.now.cells)) }
 {
     let mut head = frame.head().copy()?;
     let columns = frame.cells.as_slice();
-    let threads = read_threads(alloc, columns, &mut head.locs, &mut head.init_words)?;
+    let threads = read_threads::<L, A>(alloc, columns, &mut head.locs, &mut head.init_words)?;
     Ok(Parts { head, threads })
 }
 
 /// Reads the statements of each thread, and puts a 0 behind the initial words for each location
 /// that has none.
-fn read_threads<S: Statement + Drop, A: Allocator + Copy>(
+fn read_threads<L: StatementReader, A: Allocator + Copy>(
     alloc: A,
     columns: &[Sequence<Cell<'_, A>, A>],
     locs: &mut LocNames<A>,
     words: &mut Sequence<Word, A>,
-) -> Result<Sequence<Sequence<S, A>, A>, CellFault>
-    requires lawful { IsLanguage S.language }
-    requires drafted { AreDrafts S.language S.jump_to S.draft_of }
-    ensures found { IfOk result (λ threads. ColumnsRead S.language (all_texts columns.now) locs.old threads locs.new) }
+) -> Result<Sequence<Sequence<L::Stmt, A>, A>, CellFault>
+    requires lawful { IsGrammar L.grammar }
+    requires drafted { AreDrafts L.grammar L.jump_to L.draft_of }
+    ensures found { IfOk result (λ threads. ColumnsRead L.grammar (all_texts columns.now) locs.old threads locs.new) }
     ensures table { OnOk result (IsTable locs.new) }
     ensures words { OnOk result (words.new ≡ words.old ++ replicate (length locs.new - length words.old) 0) }
-    ensures fault { IfErr result (λ f. NotFound Memory f.cause (ColumnsFit S.language locs.old (all_texts columns.now))) }
-    ensures cause { IfErr result (Tells S.language locs.old (placed_cells columns.now)) }
+    ensures fault { IfErr result (λ f. NotFound Memory f.cause (ColumnsFit L.grammar locs.old (all_texts columns.now))) }
+    ensures cause { IfErr result (Tells L.grammar locs.old (placed_cells columns.now)) }
     ensures place { (len : ℕ) → All (λ column. All (IsWithin len) column) columns.now → IfErr result (λ f. f.at ≤ len) }
 {
-    let threads = read_columns(alloc, columns, locs)?;
+    let threads = read_columns::<L, A>(alloc, columns, locs)?;
     let len = locs.len();
     fill(words, len)?;
     Ok(threads)
 }
 
 /// Reads the statements of each thread. The names of their locations go into the table.
-fn read_columns<S: Statement + Drop, A: Allocator + Copy>(
+fn read_columns<L: StatementReader, A: Allocator + Copy>(
     alloc: A,
     columns: &[Sequence<Cell<'_, A>, A>],
     locs: &mut LocNames<A>,
-) -> Result<Sequence<Sequence<S, A>, A>, CellFault>
-    requires lawful { IsLanguage S.language }
-    requires drafted { AreDrafts S.language S.jump_to S.draft_of }
-    ensures found { IfOk result (λ threads. ColumnsRead S.language (all_texts columns.now) locs.old threads locs.new) }
-    ensures fault { IfErr result (λ f. NotFound Memory f.cause (ColumnsFit S.language locs.old (all_texts columns.now))) }
-    ensures cause { IfErr result (Tells S.language locs.old (placed_cells columns.now)) }
+) -> Result<Sequence<Sequence<L::Stmt, A>, A>, CellFault>
+    requires lawful { IsGrammar L.grammar }
+    requires drafted { AreDrafts L.grammar L.jump_to L.draft_of }
+    ensures found { IfOk result (λ threads. ColumnsRead L.grammar (all_texts columns.now) locs.old threads locs.new) }
+    ensures fault { IfErr result (λ f. NotFound Memory f.cause (ColumnsFit L.grammar locs.old (all_texts columns.now))) }
+    ensures cause { IfErr result (Tells L.grammar locs.old (placed_cells columns.now)) }
     ensures place { (len : ℕ) → All (λ column. All (IsWithin len) column) columns.now → IfErr result (λ f. f.at ≤ len) }
 {
     let mut threads = Sequence::new(alloc);
     for column in columns {
-        let stmts = read_column(alloc, column.as_slice(), locs)?;
+        let stmts = read_column::<L, A>(alloc, column.as_slice(), locs)?;
         threads.push(stmts)?;
     }
     Ok(threads)

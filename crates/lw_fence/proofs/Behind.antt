@@ -5,12 +5,12 @@ use Rattle.lw_base.specs.Threads.{code_of}
 use Rattle.lw_base.specs.declared.event.Event.{Event}
 use Rattle.lw_base.specs.declared.event.Event.TheVariants.{Step, Drain, Evict}
 use Rattle.lw_memory.specs.Flat.{flat}
-use Rattle.lw_cells.proofs.Lists.{get_some, fellows_after}
-use Rattle.lw_source.specs.declared.thread.Thread.{Thread}
-use Rattle.lw_source.specs.Sources.{SourceTest, IsWellFormedSource}
-use Rattle.lw_source.specs.Runs.{State, Ran}
-use Rattle.lw_source.proofs.Exchange.{state_of}
-use Rattle.lw_x86.specs.Programs.{ProgramTest}
+use Rattle.lw_base.proofs.Lists.{get_some, fellows_after}
+use Rattle.lw_interleaving.specs.declared.thread.Thread.{Thread}
+use Rattle.lw_litmus.specs.Sources.{SourceTest, IsWellFormedSource}
+use Rattle.lw_interleaving.specs.Runs.{State, Ran}
+use Rattle.lw_interleaving.proofs.Exchange.{state_of}
+use Rattle.lw_litmus.specs.Programs.{ProgramTest}
 use Rattle.lw_tso.specs.Processors.{Processor}
 use Rattle.lw_tso.specs.Machines.{MachineState}
 use Rattle.lw_tso.specs.Runs.{MachineRan}

@@ -8,16 +8,16 @@ use Rattle.lw_base.specs.Threads.{code_of}
 use Rattle.lw_base.specs.declared.event.Event.TheVariants.{Step}
 use Rattle.lw_base.specs.declared.operand.Operand.{Operand}
 use Rattle.lw_base.specs.declared.operand.Operand.TheVariants.{Register, Number}
-use Rattle.lw_cells.proofs.Lists.{fellows_after, get_some, at_index, set_own}
-use Rattle.lw_source.specs.declared.stmt.Stmt.{Stmt}
-use Rattle.lw_source.specs.declared.stmt.Stmt.TheVariants.{Store, Load, Swap, FetchAdd, Set, Sum, IfEq, IfNe, Goto}
-use Rattle.lw_source.specs.declared.thread.Thread.{Thread}
-use Rattle.lw_source.specs.Sources.{SourceTest}
-use Rattle.lw_source.specs.Runs.{State, Ran}
-use Rattle.lw_source.proofs.Exchange.{state_of}
-use Rattle.lw_x86.specs.declared.instr.Instr.{Instr}
-use Rattle.lw_x86.specs.declared.instr.Instr.TheVariants as x86
-use Rattle.lw_x86.specs.Programs.{ProgramTest}
+use Rattle.lw_base.proofs.Lists.{fellows_after, get_some, at_index, set_own}
+use Rattle.lw_litmus.specs.declared.stmt.Stmt.{Stmt}
+use Rattle.lw_litmus.specs.declared.stmt.Stmt.TheVariants.{Store, Load, Swap, FetchAdd, Set, Sum, IfEq, IfNe, Goto}
+use Rattle.lw_interleaving.specs.declared.thread.Thread.{Thread}
+use Rattle.lw_litmus.specs.Sources.{SourceTest}
+use Rattle.lw_interleaving.specs.Runs.{State, Ran}
+use Rattle.lw_interleaving.proofs.Exchange.{state_of}
+use Rattle.lw_litmus.specs.declared.instr.Instr.{Instr}
+use Rattle.lw_litmus.specs.declared.instr.Instr.TheVariants as x86
+use Rattle.lw_litmus.specs.Programs.{ProgramTest}
 use Rattle.lw_tso.specs.Processors.{Processor}
 use Rattle.lw_tso.specs.Machines.{MachineState}
 use Rattle.lw_tso.specs.Runs.{is_done, is_final}

@@ -1,9 +1,9 @@
 -- The threads of a test, compiled one after another.
 use Rattle.std.proofs.Common.{◌≡◌, ℕ, ◌+◌, ◌⊎◌, inl, inr, List, [], ◌∷◌, ◌++◌, length, length-append, Some, sym, ap, ◌∙◌, subst, arith, slice_get}
 use Rattle.std.proofs.lemmas.Option.{same_Some, slice_get_within}
-use Rattle.lw_cells.proofs.Lists.{get_append}
-use Rattle.lw_source.specs.declared.stmt.Stmt.{Stmt}
-use Rattle.lw_x86.specs.declared.instr.Instr.{Instr}
+use Rattle.lw_base.proofs.Lists.{get_append}
+use Rattle.lw_litmus.specs.declared.stmt.Stmt.{Stmt}
+use Rattle.lw_litmus.specs.declared.instr.Instr.{Instr}
 use Rattle.lw_fence.specs.Compiling.{IsCompiledThread}
 
 -- The first so many threads are compiled.

@@ -7,8 +7,8 @@ use Rattle.lw_memory.specs.declared.system.Request.TheVariants.{Load, Store, Swa
 use Rattle.lw_memory.specs.Content.{answer_of, content_after}
 use Rattle.lw_memory.specs.Flat.{flat, WordsServe}
 use Rattle.lw_memory.specs.Memory.{Lawful, Served, IsPossible}
-use Rattle.lw_source.specs.Sources.{SourceTest, IsWellFormedSource}
-use Rattle.lw_x86.specs.Programs.{ProgramTest, IsWellFormedProgram}
+use Rattle.lw_litmus.specs.Sources.{SourceTest, IsWellFormedSource}
+use Rattle.lw_litmus.specs.Programs.{ProgramTest, IsWellFormedProgram}
 use Rattle.lw_tso.specs.Endings.{CanEnd}
 use Rattle.lw_tso.specs.Machines.{MachineState}
 use Rattle.lw_tso.specs.Runs.{MachineRan, machine_start}

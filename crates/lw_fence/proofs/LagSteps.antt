@@ -11,14 +11,14 @@ use Rattle.lw_base.specs.declared.operand.Operand.{Operand}
 use Rattle.lw_base.specs.declared.operand.Operand.TheVariants.{Register, Number}
 use Rattle.lw_base.specs.declared.stop.Stop.TheVariants.{SwapWaits, FenceWaits}
 use Rattle.lw_base.specs.WellFormed.{IsRegisterNumber}
-use Rattle.lw_cells.proofs.Lists.{get_some}
-use Rattle.lw_source.specs.declared.stmt.Stmt.{Stmt}
-use Rattle.lw_source.specs.declared.stmt.Stmt.TheVariants.{Store, Load, Swap, FetchAdd, Set, Sum, IfEq, IfNe, Goto}
-use Rattle.lw_source.specs.declared.thread.Thread.{Thread}
-use Rattle.lw_source.specs.Sources.{registers_of}
-use Rattle.lw_source.specs.Statements.{thread_after, words_after, going_on as at_next}
-use Rattle.lw_x86.specs.declared.instr.Instr.{Instr}
-use Rattle.lw_x86.specs.declared.instr.Instr.TheVariants as x86
+use Rattle.lw_base.proofs.Lists.{get_some}
+use Rattle.lw_litmus.specs.declared.stmt.Stmt.{Stmt}
+use Rattle.lw_litmus.specs.declared.stmt.Stmt.TheVariants.{Store, Load, Swap, FetchAdd, Set, Sum, IfEq, IfNe, Goto}
+use Rattle.lw_interleaving.specs.declared.thread.Thread.{Thread}
+use Rattle.lw_litmus.specs.Sources.{registers_of}
+use Rattle.lw_interleaving.specs.Statements.{thread_after, words_after, going_on as at_next}
+use Rattle.lw_litmus.specs.declared.instr.Instr.{Instr}
+use Rattle.lw_litmus.specs.declared.instr.Instr.TheVariants as x86
 use Rattle.lw_tso.specs.Acts.{Act, Goes, Swaps, Adds, load_act, once_empty, step_act}
 use Rattle.lw_tso.specs.Processors.{Processor, newest, going_on, getting, flagging}
 use Rattle.lw_fence.specs.Compiling.{summed, row}

@@ -7,12 +7,12 @@ use Rattle.std.proofs.lemmas.Option.{slice_get_within, get_or_from_slice_get}
 use Rattle.lw_base.specs.Outcomes.{Final}
 use Rattle.lw_base.specs.Threads.{code_of}
 use Rattle.lw_memory.specs.Flat.{flat}
-use Rattle.lw_cells.proofs.Lists.{get_some}
-use Rattle.lw_source.specs.declared.stmt.Stmt.{Stmt}
-use Rattle.lw_source.specs.declared.thread.Thread.{Thread}
-use Rattle.lw_source.specs.Sources.{SourceTest, IsWellFormedSource}
-use Rattle.lw_source.specs.Runs.{State, RunsTo, SourceOutcome, start_of, starting as thread_starting, outcome_of, is_final as is_over}
-use Rattle.lw_x86.specs.Programs.{ProgramTest}
+use Rattle.lw_base.proofs.Lists.{get_some}
+use Rattle.lw_litmus.specs.declared.stmt.Stmt.{Stmt}
+use Rattle.lw_interleaving.specs.declared.thread.Thread.{Thread}
+use Rattle.lw_litmus.specs.Sources.{SourceTest, IsWellFormedSource}
+use Rattle.lw_interleaving.specs.Runs.{State, RunsTo, SourceOutcome, start_of, starting as thread_starting, outcome_of, is_final as is_over}
+use Rattle.lw_litmus.specs.Programs.{ProgramTest}
 use Rattle.lw_tso.specs.Processors.{Processor, starting}
 use Rattle.lw_tso.specs.Machines.{MachineState}
 use Rattle.lw_tso.specs.Runs.{MachineRan, MachineOutcome, machine_outcome}

@@ -6,10 +6,10 @@ use Rattle.std.proofs.lemmas.Option.{slice_get_within}
 use Rattle.std.proofs.lemmas.Bool.{cases_eq, false≢true}
 use Rattle.std.proofs.Math.ListN.{length-replicate}
 use Rattle.std.proofs.Math.Seq.{take-append_seam}
-use Rattle.lw_source.specs.declared.stmt.Stmt.{Stmt}
-use Rattle.lw_source.specs.declared.stmt.Stmt.TheVariants.{Store, Load, Swap, FetchAdd, Set, Sum, IfEq, IfNe, Goto}
-use Rattle.lw_source.specs.Flow.{Follows}
-use Rattle.lw_source.specs.Sources.{target_of}
+use Rattle.lw_litmus.specs.declared.stmt.Stmt.{Stmt}
+use Rattle.lw_litmus.specs.declared.stmt.Stmt.TheVariants.{Store, Load, Swap, FetchAdd, Set, Sum, IfEq, IfNe, Goto}
+use Rattle.lw_litmus.specs.Flow.{Follows}
+use Rattle.lw_litmus.specs.Sources.{target_of}
 use Rattle.lw_fence.specs.Marks.{may_wait, marked_behind}
 use Rattle.lw_fence.specs.Fences.{is_store, lets_stores_wait, Is, IsFlowPath, StoresWait, IsBehindStore}
 

@@ -8,13 +8,13 @@ use Rattle.lw_base.specs.declared.event.Event.{Event}
 use Rattle.lw_base.specs.declared.event.Event.TheVariants.{Step, Drain}
 use Rattle.lw_memory.specs.Flat.{flat}
 use Rattle.lw_memory.specs.Memory.{Memory}
-use Rattle.lw_cells.proofs.Lists.{got_set_same, set_own}
-use Rattle.lw_source.specs.declared.stmt.Stmt.{Stmt}
-use Rattle.lw_source.specs.declared.thread.Thread.{Thread}
-use Rattle.lw_source.specs.Statements.{thread_after, words_after}
-use Rattle.lw_source.specs.Runs.{State, EventDone as SourceDone, Ran, carried_out, step_of, is_final as is_over}
-use Rattle.lw_source.proofs.Exchange.{state_of}
-use Rattle.lw_x86.specs.declared.instr.Instr.{Instr}
+use Rattle.lw_base.proofs.Lists.{got_set_same, set_own}
+use Rattle.lw_litmus.specs.declared.stmt.Stmt.{Stmt}
+use Rattle.lw_interleaving.specs.declared.thread.Thread.{Thread}
+use Rattle.lw_interleaving.specs.Statements.{thread_after, words_after}
+use Rattle.lw_interleaving.specs.Runs.{State, EventDone as SourceDone, Ran, carried_out, step_of, is_final as is_over}
+use Rattle.lw_interleaving.proofs.Exchange.{state_of}
+use Rattle.lw_litmus.specs.declared.instr.Instr.{Instr}
 use Rattle.lw_tso.specs.Processors.{Processor}
 use Rattle.lw_tso.specs.Acts.{step_act, drain_act}
 use Rattle.lw_tso.specs.Machines.{MachineState, EventDone}

@@ -3,13 +3,13 @@
 use Rattle.std.proofs.Common.{◌≡◌, ◌≢◌, ℕ, ◌+◌, List, [], ◌∷◌, ◌++◌, Some, None, refl, sym, subst, slice_get, slice_set}
 use Rattle.lw_base.specs.Threads.{code_of, value_of}
 use Rattle.lw_base.specs.declared.operand.Operand.{Operand}
-use Rattle.lw_source.specs.declared.stmt.Stmt.{Stmt}
-use Rattle.lw_source.specs.declared.stmt.Stmt.TheVariants.{Store, Load, Swap, FetchAdd, Set, Sum, IfEq, IfNe, Goto}
-use Rattle.lw_source.specs.declared.thread.Thread.{Thread}
-use Rattle.lw_source.specs.Flow.{Follows}
-use Rattle.lw_source.specs.Sources.{location_of}
-use Rattle.lw_source.specs.Statements.{going_on, thread_after, words_after}
-use Rattle.lw_source.proofs.Exchange.{follows}
+use Rattle.lw_litmus.specs.declared.stmt.Stmt.{Stmt}
+use Rattle.lw_litmus.specs.declared.stmt.Stmt.TheVariants.{Store, Load, Swap, FetchAdd, Set, Sum, IfEq, IfNe, Goto}
+use Rattle.lw_interleaving.specs.declared.thread.Thread.{Thread}
+use Rattle.lw_litmus.specs.Flow.{Follows}
+use Rattle.lw_litmus.specs.Sources.{location_of}
+use Rattle.lw_interleaving.specs.Statements.{going_on, thread_after, words_after}
+use Rattle.lw_interleaving.proofs.Exchange.{follows}
 use Rattle.lw_fence.specs.Fences.{is_store, lets_stores_wait, Is, IsFlowPath, StoresWait, IsBehindStore}
 use Rattle.lw_fence.proofs.Moves.{Turns, turns_none, turns_on, turn}
 

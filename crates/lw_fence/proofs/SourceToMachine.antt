@@ -9,15 +9,15 @@ use Rattle.lw_base.specs.Threads.{code_of}
 use Rattle.lw_base.specs.declared.event.Event.{Event}
 use Rattle.lw_base.specs.declared.event.Event.TheVariants.{Step}
 use Rattle.lw_memory.specs.Flat.{flat}
-use Rattle.lw_cells.proofs.Lists.{each_after, fellows_after, get_some}
-use Rattle.lw_source.specs.declared.stmt.Stmt.{Stmt}
-use Rattle.lw_source.specs.declared.thread.Thread.{Thread}
-use Rattle.lw_source.specs.Sources.{SourceTest, IsWellFormedSource}
-use Rattle.lw_source.specs.Statements.{thread_after, words_after}
-use Rattle.lw_source.specs.Runs.{State, Ran, RunsTo, start_of, outcome_of, is_final as is_over}
-use Rattle.lw_source.proofs.Exchange.{state_of, Stepped, stepped}
-use Rattle.lw_x86.specs.declared.instr.Instr.{Instr}
-use Rattle.lw_x86.specs.Programs.{ProgramTest}
+use Rattle.lw_base.proofs.Lists.{each_after, fellows_after, get_some}
+use Rattle.lw_litmus.specs.declared.stmt.Stmt.{Stmt}
+use Rattle.lw_interleaving.specs.declared.thread.Thread.{Thread}
+use Rattle.lw_litmus.specs.Sources.{SourceTest, IsWellFormedSource}
+use Rattle.lw_interleaving.specs.Statements.{thread_after, words_after}
+use Rattle.lw_interleaving.specs.Runs.{State, Ran, RunsTo, start_of, outcome_of, is_final as is_over}
+use Rattle.lw_interleaving.proofs.Exchange.{state_of, Stepped, stepped}
+use Rattle.lw_litmus.specs.declared.instr.Instr.{Instr}
+use Rattle.lw_litmus.specs.Programs.{ProgramTest}
 use Rattle.lw_tso.specs.Processors.{Processor}
 use Rattle.lw_tso.specs.Machines.{MachineState}
 use Rattle.lw_tso.specs.Runs.{MachineRan, Replays, machine_outcome, is_done, is_final}

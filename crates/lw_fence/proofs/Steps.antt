@@ -11,14 +11,14 @@ use Rattle.lw_base.specs.Threads.{code_of}
 use Rattle.lw_base.specs.Heads.{TestHead}
 use Rattle.lw_base.specs.WellFormed.{IsRegisterNumber}
 use Rattle.lw_base.specs.declared.limits.TheConstants.{REGISTERS}
-use Rattle.lw_cells.specs.Tests.{IsThread, IsStatement}
-use Rattle.lw_source.specs.declared.stmt.Stmt.{Stmt}
-use Rattle.lw_source.specs.declared.stmt.Stmt.TheVariants.{Store, Load, Swap, FetchAdd, Set, Sum, IfEq, IfNe, Goto}
-use Rattle.lw_source.specs.declared.thread.Thread.{Thread}
-use Rattle.lw_source.specs.Sources.{SourceTest, IsWellFormedSource, source, registers_of, target_of}
-use Rattle.lw_source.specs.Statements.{thread_after}
-use Rattle.lw_source.specs.Runs.{start_of, starting as thread_starting}
-use Rattle.lw_x86.specs.Programs.{ProgramTest}
+use Rattle.lw_litmus.specs.Tests.{IsThread, IsStatement}
+use Rattle.lw_litmus.specs.declared.stmt.Stmt.{Stmt}
+use Rattle.lw_litmus.specs.declared.stmt.Stmt.TheVariants.{Store, Load, Swap, FetchAdd, Set, Sum, IfEq, IfNe, Goto}
+use Rattle.lw_interleaving.specs.declared.thread.Thread.{Thread}
+use Rattle.lw_litmus.specs.Sources.{SourceTest, IsWellFormedSource, source, registers_of, target_of}
+use Rattle.lw_interleaving.specs.Statements.{thread_after}
+use Rattle.lw_interleaving.specs.Runs.{start_of, starting as thread_starting}
+use Rattle.lw_litmus.specs.Programs.{ProgramTest}
 use Rattle.lw_tso.specs.Processors.{Processor, starting}
 use Rattle.lw_tso.specs.Machines.{MachineState}
 use Rattle.lw_tso.specs.Runs.{machine_start}

@@ -1,8 +1,8 @@
 -- One more statement of a thread: its row, and where it starts.
 use Rattle.std.proofs.Common.{◌≡◌, ℕ, suc, ◌+◌, ◌<◌, [], ◌∷◌, List, ◌++◌, length, drop, get_or, Bool, false, refl, sym, ap, ap₂, ◌∙◌, arith, add-one, append_assoc}
 use Rattle.std.proofs.Math.Seq.{drop-cons}
-use Rattle.lw_source.specs.declared.stmt.Stmt.{Stmt}
-use Rattle.lw_x86.specs.declared.instr.Instr.{Instr}
+use Rattle.lw_litmus.specs.declared.stmt.Stmt.{Stmt}
+use Rattle.lw_litmus.specs.declared.instr.Instr.{Instr}
 use Rattle.lw_fence.specs.Compiling.{row, rows, starts_from}
 
 -- Statement x, which stands at i, behind those that have been walked over.

@@ -1,7 +1,7 @@
 -- Used within the crate: the marks on the positions that a flow path reaches from a store that may still wait.
 use Rattle.std.specs.Prelude.{ℕ, ◌+◌, Bool, true, false, List, slice_set}
-use Rattle.lw_source.specs.declared.stmt.Stmt.{Stmt}
-use Rattle.lw_source.specs.declared.stmt.Stmt.TheVariants.{Store, Load, Swap, FetchAdd, Set, Sum, IfEq, IfNe, Goto}
+use Rattle.lw_litmus.specs.declared.stmt.Stmt.{Stmt}
+use Rattle.lw_litmus.specs.declared.stmt.Stmt.TheVariants.{Store, Load, Swap, FetchAdd, Set, Sum, IfEq, IfNe, Goto}
 
 -- whether a store may wait behind the statement, where one may before it
 abbrev pub may_wait : Stmt → Bool → Bool

@@ -5,9 +5,9 @@ use Rattle.lw_base.specs.Threads.{code_of}
 use Rattle.lw_base.specs.declared.event.Event.{Event}
 use Rattle.lw_base.specs.declared.event.Event.TheVariants.{Step, Drain}
 use Rattle.lw_base.specs.declared.stop.Stop.{Stop}
-use Rattle.lw_source.specs.declared.stmt.Stmt.{Stmt}
-use Rattle.lw_source.specs.declared.thread.Thread.{Thread}
-use Rattle.lw_source.specs.Runs.{State, source_step}
+use Rattle.lw_litmus.specs.declared.stmt.Stmt.{Stmt}
+use Rattle.lw_interleaving.specs.declared.thread.Thread.{Thread}
+use Rattle.lw_interleaving.specs.Runs.{State, source_step}
 use Rattle.lw_fence.specs.Fences.{is_store}
 
 -- the events of thread t for the statement of this number, if there is one

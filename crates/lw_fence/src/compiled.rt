@@ -1,7 +1,7 @@
 //! A source test compiled to x86.
 
 use lw_base::Sequence;
-use lw_x86::Program;
+use lw_litmus::Program;
 use std::alloc::{Allocator, Global};
 
 /// A compiled source test.

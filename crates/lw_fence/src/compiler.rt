@@ -4,16 +4,15 @@ ghost use Rattle.std.specs.Option.{ForSome};
 ghost use Rattle.lw_base.specs.Outcomes.{Final};
 ghost use Rattle.lw_base.specs.declared.event.Event.{Event};
 ghost use Rattle.lw_memory.specs.Flat.{flat};
-ghost use Rattle.lw_source.specs.Limits.{most_statements};
-ghost use Rattle.lw_source.specs.declared.stmt.Stmt.{Stmt as Statement};
-ghost use Rattle.lw_source.specs.Runs.{SourceOutcome};
-ghost use Rattle.lw_source.specs.Sources.{target_of};
-ghost use Rattle.lw_source.specs.Views.{source_of};
+ghost use Rattle.lw_litmus.specs.Limits.{most_statements};
+ghost use Rattle.lw_litmus.specs.declared.stmt.Stmt.{Stmt as Statement};
+ghost use Rattle.lw_interleaving.specs.Runs.{SourceOutcome};
+ghost use Rattle.lw_litmus.specs.Sources.{target_of};
+ghost use Rattle.lw_litmus.specs.Views.{source_of, program_of};
 ghost use Rattle.lw_tso.specs.Endings.{CanEnd};
 ghost use Rattle.lw_tso.specs.Machines.{MachineState};
 ghost use Rattle.lw_tso.specs.Runs.{MachineOutcome, MachineRan, machine_start};
-ghost use Rattle.lw_x86.specs.declared.instr.Instr.{Instr as Instruction};
-ghost use Rattle.lw_x86.specs.Views.{program_of};
+ghost use Rattle.lw_litmus.specs.declared.instr.Instr.{Instr as Instruction};
 ghost use Rattle.lw_fence.specs.Compiling.{IsCompiledThread, IsCompiled};
 
 use crate::compiled::Compiled;
@@ -21,8 +20,7 @@ use crate::fences::fences_of;
 use crate::rows::rows_of;
 use crate::starts::starts_of;
 use lw_base::{Arch, Sequence};
-use lw_source::{Source, Stmt};
-use lw_x86::{Instr, Program};
+use lw_litmus::{Instr, Program, Source, Stmt};
 use std::alloc::{AllocError, Allocator};
 
 /// The source test in x86: of each statement its instructions, with a fence before each load that needs one,

@@ -1,13 +1,13 @@
 //! Which statements of a thread need a fence before them, found in one pass with marks.
 ghost use Rattle.std.specs.Prelude.{◌≡◌, ◌<◌, ◌≤◌, ◌+◌, ◌↔◌, ◌&&◌, ℕ, true, false, if◌then◌else◌, Some, length, slice_get, slice_index_or, slice_set, IfOk};
 ghost use Rattle.std.specs.Option.{ForSome};
-ghost use Rattle.lw_source.specs.Limits.{most_statements};
-ghost use Rattle.lw_source.specs.declared.stmt.Stmt.{Stmt as Statement};
-ghost use Rattle.lw_source.specs.Sources.{target_of};
+ghost use Rattle.lw_litmus.specs.Limits.{most_statements};
+ghost use Rattle.lw_litmus.specs.declared.stmt.Stmt.{Stmt as Statement};
+ghost use Rattle.lw_litmus.specs.Sources.{target_of};
 ghost use Rattle.lw_fence.specs.Fences.{is_load, IsBehindStore, NeedsFence};
 ghost use Rattle.lw_fence.specs.Marks.{may_wait, marked_behind};
 
-use lw_source::Stmt;
+use lw_litmus::Stmt;
 use std::alloc::{AllocError, Allocator};
 
 /// For each position of a thread's code, its end included, whether a flow path leads to it from a store that may still wait

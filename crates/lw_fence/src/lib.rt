@@ -1,8 +1,9 @@
 //! The compiler from the source language to x86: of each statement its instructions, with a fence before each load that
 //! needs one, and before no other.
 //!
-//! It names lw_base, of lw_source the test, and of lw_x86 the program; its contracts name what lw_cells says of tests, and the
-//! outcomes of lw_tso over the flat memory of lw_memory. What is made is said by `specs/Compiling.antt` and docs/FORMAT.md.
+//! It names lw_base, of lw_litmus the tests of both languages, and of lw_interleaving the runs of source tests; its contracts
+//! name the outcomes of lw_tso over the flat memory of lw_memory. What is made is said by `specs/Compiling.antt` and
+//! docs/FORMAT.md.
 //! The promise that the crates above use: what `compile` makes is a well-formed program that has the source's outcomes.
 #![tactic(auto)]
 

@@ -2,15 +2,14 @@
 ghost use Rattle.std.specs.Prelude.{◌≡◌, ◌<◌, ◌++◌, [], ◌∷◌, ℕ, false, length, Some, slice_get, IfOk, OnOk};
 ghost use Rattle.std.specs.Option.{ForSome};
 ghost use Rattle.lw_base.specs.declared.operand.Operand.TheVariants as operand;
-ghost use Rattle.lw_source.specs.declared.stmt.Stmt.{Stmt as Statement};
-ghost use Rattle.lw_source.specs.declared.stmt.Stmt.TheVariants.{Load, Sum};
-ghost use Rattle.lw_source.specs.Sources.{target_of};
-ghost use Rattle.lw_x86.specs.declared.instr.Instr.TheVariants as x86;
+ghost use Rattle.lw_litmus.specs.declared.stmt.Stmt.{Stmt as Statement};
+ghost use Rattle.lw_litmus.specs.declared.stmt.Stmt.TheVariants.{Load, Sum};
+ghost use Rattle.lw_litmus.specs.Sources.{target_of};
+ghost use Rattle.lw_litmus.specs.declared.instr.Instr.TheVariants as x86;
 ghost use Rattle.lw_fence.specs.Compiling.{moved, row, rows};
 
 use lw_base::{Loc, Operand, Reg, Sequence, Word};
-use lw_source::Stmt;
-use lw_x86::Instr;
+use lw_litmus::{Instr, Stmt};
 use std::alloc::{AllocError, AllocFailed, Allocator};
 
 /// The instructions of a thread, whose statements start at these.

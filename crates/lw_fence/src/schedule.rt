@@ -4,9 +4,8 @@ ghost use Rattle.lw_base.specs.Outcomes.{Final};
 ghost use Rattle.lw_base.specs.Threads.{code_of};
 ghost use Rattle.lw_base.specs.declared.event.Event.TheVariants.{Step, Drain};
 ghost use Rattle.lw_memory.specs.Flat.{flat};
-ghost use Rattle.lw_source.specs.Runs.{State, Ran, RunsTo, start_of};
-ghost use Rattle.lw_source.specs.Views.{source_of};
-ghost use Rattle.lw_x86.specs.Views.{program_of};
+ghost use Rattle.lw_interleaving.specs.Runs.{State, Ran, RunsTo, start_of};
+ghost use Rattle.lw_litmus.specs.Views.{source_of, program_of};
 ghost use Rattle.lw_tso.specs.Runs.{Replays};
 ghost use Rattle.lw_fence.specs.Fences.{is_store};
 ghost use Rattle.lw_fence.specs.Compiling.{IsCompiled};
@@ -14,7 +13,8 @@ ghost use Rattle.lw_fence.specs.Schedules.{statement_events, schedule};
 
 use crate::compiled::Compiled;
 use lw_base::{Cpu, Event};
-use lw_source::{Source, SourceRun, Stmt};
+use lw_interleaving::SourceRun;
+use lw_litmus::{Source, Stmt};
 use std::alloc::{AllocError, Allocator};
 
 /// Pushes the events of a statement: a step for each of its instructions, and after a store a drain.

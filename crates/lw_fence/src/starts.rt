@@ -1,11 +1,11 @@
 //! Where the instructions of each statement start.
 ghost use Rattle.std.specs.Prelude.{◌≡◌, ◌≤◌, false, [], length, IfOk};
-ghost use Rattle.lw_source.specs.Limits.{most_statements};
-ghost use Rattle.lw_source.specs.declared.stmt.Stmt.TheVariants.{Sum};
+ghost use Rattle.lw_litmus.specs.Limits.{most_statements};
+ghost use Rattle.lw_litmus.specs.declared.stmt.Stmt.TheVariants.{Sum};
 ghost use Rattle.lw_fence.specs.Compiling.{row, starts_from};
 
 use lw_base::{Operand, Reg, Sequence};
-use lw_source::Stmt;
+use lw_litmus::Stmt;
 use std::alloc::{AllocError, Allocator};
 
 /// The number of the first instruction of each statement of a thread, its fence included, and last the

@@ -7,7 +7,7 @@ use Rattle.std.proofs.lemmas.List.Folds.{flat_map-map}
 use Rattle.std.proofs.lemmas.Simd.{map-map}
 use Rattle.std.proofs.lemmas.Option.{slice_get_within, slice_get_read, get_or_from_slice_get}
 use Rattle.lw_base.specs.Threads.{code_of}
-use Rattle.lw_cells.proofs.Lists.{drop_all}
+use Rattle.lw_base.proofs.Lists.{drop_all}
 use Rattle.lw_finals.specs.Choices.{Flow, IsForward, Follows, paths_on, paths_from, paths_of, choices_of, led}
 use Rattle.lw_finals.specs.Visits.{Visited, Refused, CanGoOn, paths_at, choices_along}
 use Rattle.lw_finals.proofs.Led.{follows_within}

@@ -5,7 +5,7 @@ use Rattle.std.specs.List.{flat_map}
 use Rattle.std.proofs.lemmas.Bool.{cases_lt}
 use Rattle.std.proofs.lemmas.Option.{slice_get_past}
 use Rattle.std.proofs.lemmas.List.Elements.{All-head, All-tail}
-use Rattle.lw_cells.proofs.Lists.{get_some}
+use Rattle.lw_base.proofs.Lists.{get_some}
 use Rattle.lw_finals.specs.Choices.{Flow, IsForward, Follows, IsPathFrom, IsChoice, led, paths_on, paths_from, paths_of, choices_of}
 use Rattle.lw_finals.proofs.Members.{none_in, Contains-here, Contains-cons, Contains-map, from_map, Contains-flat_map, from_flat_map}
 use Rattle.lw_finals.proofs.Led.{follows_within}

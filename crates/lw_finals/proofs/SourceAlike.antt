@@ -4,11 +4,12 @@ use Rattle.std.proofs.Common.{◌≡◌, ◌≢◌, ℕ, suc, ◌<◌, Bool, tru
 use Rattle.std.specs.Prelude.{Contains}
 use Rattle.std.proofs.lemmas.Bool.{cases_order, cases_eq, eq-eqb, ne_eqb, false_from_ne_true}
 use Rattle.std.proofs.lemmas.List.Elements.{Contains-append_right}
-use Rattle.lw_source.specs.declared.stmt.Stmt.{Stmt}
-use Rattle.lw_source.specs.Sources.{location_of}
-use Rattle.lw_source.specs.Runs.{State, source_step}
-use Rattle.lw_source.specs.Conflicts.{position_of, next_of, do_conflict, is_one, writes}
-use Rattle.lw_source.proofs.Exchange.{exchange, others_placed, next_is}
+use Rattle.lw_litmus.specs.declared.stmt.Stmt.{Stmt}
+use Rattle.lw_litmus.specs.Sources.{location_of}
+use Rattle.lw_interleaving.specs.Runs.{State, source_step}
+use Rattle.lw_interleaving.specs.Steps.{position_of, next_of}
+use Rattle.lw_litmus.specs.Conflicts.{do_conflict, is_one, writes}
+use Rattle.lw_interleaving.proofs.Exchange.{exchange, others_placed, next_is}
 use Rattle.lw_orders.specs.Order.{Constraints, place, Before, IsLinearExtension, Alike, Once}
 use Rattle.lw_orders.specs.Exchange.{IsTied, Exchanged}
 use Rattle.lw_orders.proofs.Places.{Once-order, order_below, place-split}

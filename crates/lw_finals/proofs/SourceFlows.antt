@@ -1,9 +1,9 @@
--- The flow of the source language, as lw_source says it of each statement.
+-- The flow of the source language, as lw_litmus says it of each statement.
 use Rattle.std.proofs.Common.{ℕ, ◌+◌, List, [], ◌∷◌, Option, Some, None, sym, slice_get}
 use Rattle.std.specs.Prelude.{◌↔◌}
-use Rattle.lw_source.specs.declared.stmt.Stmt.{Stmt}
-use Rattle.lw_source.specs.declared.stmt.Stmt.TheVariants.{Store, Load, Swap, FetchAdd, Set, Sum, IfEq, IfNe, Goto}
-use Rattle.lw_source.specs.Flow as source
+use Rattle.lw_litmus.specs.declared.stmt.Stmt.{Stmt}
+use Rattle.lw_litmus.specs.declared.stmt.Stmt.TheVariants.{Store, Load, Swap, FetchAdd, Set, Sum, IfEq, IfNe, Goto}
+use Rattle.lw_litmus.specs.Flow as source
 use Rattle.lw_finals.specs.Choices.{Follows, IsPathFrom}
 use Rattle.lw_finals.specs.Flows.{source_flow}
 use Rattle.lw_finals.proofs.Members.{of_one, Contains-here}
@@ -33,7 +33,7 @@ follows-here (Some (IfEq a n to)) j k c = next_or-only (j + 1) to k c
 follows-here (Some (IfNe a n to)) j k c = next_or-only (j + 1) to k c
 follows-here (Some (Goto to)) j k c = of_one to k c
 
--- the relation is lw_source's, and so are the paths
+-- the relation is lw_litmus's, and so are the paths
 pub source_follows : (o : Option Stmt) (j k : ℕ) → Follows source_flow o j k ↔ source.Follows o j k
 source_follows o j k = (follows-here o j k, follows-there o j k)
 

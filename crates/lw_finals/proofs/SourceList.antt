@@ -7,18 +7,18 @@ use Rattle.lw_base.specs.Heads.{TestHead}
 use Rattle.lw_base.specs.Outcomes.{Final, IsOutcomeOf}
 use Rattle.lw_base.specs.Schedules.{IsEvent}
 use Rattle.lw_base.specs.declared.event.Event.{Event}
-use Rattle.lw_cells.specs.Tests.{IsThread}
+use Rattle.lw_litmus.specs.Tests.{IsThread}
 use Rattle.lw_fence.specs.Compiling.{IsCompiled}
 use Rattle.lw_memory.specs.Flat.{flat}
 use Rattle.lw_mesi.specs.declared.protocol.Protocol.{Protocol}
 use Rattle.lw_mesi.specs.declared.protocol.Protocol.TheVariants.{Mesi}
 use Rattle.lw_base.specs.declared.head.Arch.TheVariants.{X86}
-use Rattle.lw_source.specs.declared.stmt.Stmt.{Stmt}
-use Rattle.lw_source.specs.Runs.{SourceOutcome}
-use Rattle.lw_source.specs.Sources.{SourceTest, IsWellFormedSource, source}
+use Rattle.lw_litmus.specs.declared.stmt.Stmt.{Stmt}
+use Rattle.lw_interleaving.specs.Runs.{SourceOutcome}
+use Rattle.lw_litmus.specs.Sources.{SourceTest, IsWellFormedSource, source}
 use Rattle.lw_tso.specs.Evictions.{without_evictions}
 use Rattle.lw_tso.specs.Runs.{Replays, MachineOutcome}
-use Rattle.lw_x86.specs.Programs.{ProgramTest}
+use Rattle.lw_litmus.specs.Programs.{ProgramTest}
 use Rattle.lw_finals.specs.Choices.{IsForward}
 use Rattle.lw_finals.specs.Counts.{HasTooManyItems}
 use Rattle.lw_finals.specs.Flows.{source_flow}

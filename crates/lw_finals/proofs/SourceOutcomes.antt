@@ -7,11 +7,11 @@ use Rattle.std.proofs.lemmas.List.Elements.{All-weaker}
 use Rattle.lw_base.specs.Outcomes.{Final}
 use Rattle.lw_base.specs.Threads.{code_of}
 use Rattle.lw_base.specs.declared.event.Event.TheVariants.{Step}
-use Rattle.lw_cells.specs.Tests.{IsThread}
-use Rattle.lw_source.specs.declared.stmt.Stmt.{Stmt}
-use Rattle.lw_source.specs.declared.thread.Thread.{Thread}
-use Rattle.lw_source.specs.Sources.{SourceTest, IsWellFormedSource, source}
-use Rattle.lw_source.specs.Runs.{State, Ran, RunsTo, start_of, starting, SourceOutcome}
+use Rattle.lw_litmus.specs.Tests.{IsThread}
+use Rattle.lw_litmus.specs.declared.stmt.Stmt.{Stmt}
+use Rattle.lw_interleaving.specs.declared.thread.Thread.{Thread}
+use Rattle.lw_litmus.specs.Sources.{SourceTest, IsWellFormedSource, source}
+use Rattle.lw_interleaving.specs.Runs.{State, Ran, RunsTo, start_of, starting, SourceOutcome}
 use Rattle.lw_orders.specs.Order.{Constraints, place, Before, Keeps, IsLinearExtension, Alike, IsWellFormed}
 use Rattle.lw_finals.specs.Choices.{IsPathFrom, IsChoice}
 use Rattle.lw_finals.specs.Flows.{source_flow}

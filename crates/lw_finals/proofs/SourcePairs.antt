@@ -5,11 +5,11 @@ use Rattle.std.specs.Prelude.{All, Contains}
 use Rattle.std.proofs.lemmas.Option.{slice_get_within}
 use Rattle.std.proofs.lemmas.Bool.{cases_eq}
 use Rattle.std.proofs.lemmas.List.Elements.{All-contains, All-head, All-tail}
-use Rattle.lw_cells.proofs.Lists.{get_some}
-use Rattle.lw_cells.specs.Tests.{IsThread}
-use Rattle.lw_source.specs.declared.stmt.Stmt.{Stmt}
-use Rattle.lw_source.specs.Conflicts as source
-use Rattle.lw_source.specs.Sources as sources
+use Rattle.lw_base.proofs.Lists.{get_some}
+use Rattle.lw_litmus.specs.Tests.{IsThread}
+use Rattle.lw_litmus.specs.declared.stmt.Stmt.{Stmt}
+use Rattle.lw_litmus.specs.Conflicts as source
+use Rattle.lw_litmus.specs.Sources as sources
 use Rattle.lw_orders.specs.Order.{Constraints, Before, Keeps, IsWellFormed}
 use Rattle.lw_finals.specs.Choices.{Flow, IsForward, IsPathFrom, IsChoice}
 use Rattle.lw_finals.specs.Flows.{source_flow}

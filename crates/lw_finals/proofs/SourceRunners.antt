@@ -6,10 +6,10 @@ use Rattle.lw_base.specs.Threads.{code_of}
 use Rattle.lw_base.specs.declared.event.Event.{Event}
 use Rattle.lw_base.specs.declared.event.Event.TheVariants.{Step, Drain, Evict}
 use Rattle.lw_base.specs.declared.stop.Stop.{Stop}
-use Rattle.lw_source.specs.declared.stmt.Stmt.{Stmt}
-use Rattle.lw_source.specs.declared.thread.Thread.{Thread}
-use Rattle.lw_source.specs.Runs.{State, Ran, RunsTo, start_of, source_step}
-use Rattle.lw_source.specs.Sources.{SourceTest}
+use Rattle.lw_litmus.specs.declared.stmt.Stmt.{Stmt}
+use Rattle.lw_interleaving.specs.declared.thread.Thread.{Thread}
+use Rattle.lw_interleaving.specs.Runs.{State, Ran, RunsTo, start_of, source_step}
+use Rattle.lw_litmus.specs.Sources.{SourceTest}
 use Rattle.lw_memory.specs.Flat.{flat}
 use Rattle.lw_tso.specs.Evictions.{without_evictions}
 use Rattle.lw_tso.specs.Runs.{Replays}

@@ -8,16 +8,16 @@ use Rattle.std.proofs.lemmas.Bool.{leb-true, cases_eq, cases_lt}
 use Rattle.std.proofs.lemmas.List.Elements.{All-nil, All-get_or}
 use Rattle.lw_base.specs.Threads.{code_of}
 use Rattle.lw_base.specs.declared.event.Event.TheVariants.{Step}
-use Rattle.lw_cells.proofs.Lists.{get_some, got_set_same, got_set_other, set_own}
-use Rattle.lw_cells.specs.Tests.{IsThread, IsStatement}
-use Rattle.lw_source.specs.declared.stmt.Stmt.{Stmt}
-use Rattle.lw_source.specs.declared.thread.Thread.{Thread}
-use Rattle.lw_source.specs.Sources.{source}
-use Rattle.lw_source.specs.Runs.{State, source_step, Ran, is_final}
-use Rattle.lw_source.specs.Flow.{Follows, FollowsFlow, IsPathFrom}
-use Rattle.lw_source.specs.Conflicts.{position_of}
-use Rattle.lw_source.proofs.Exchange.{moved, others_placed}
-use Rattle.lw_source.proofs.Runs.{event_kept, set_length}
+use Rattle.lw_base.proofs.Lists.{get_some, got_set_same, got_set_other, set_own}
+use Rattle.lw_litmus.specs.Tests.{IsThread, IsStatement}
+use Rattle.lw_litmus.specs.declared.stmt.Stmt.{Stmt}
+use Rattle.lw_interleaving.specs.declared.thread.Thread.{Thread}
+use Rattle.lw_litmus.specs.Sources.{source}
+use Rattle.lw_interleaving.specs.Runs.{State, source_step, Ran, is_final}
+use Rattle.lw_litmus.specs.Flow.{Follows, IsPathFrom}
+use Rattle.lw_interleaving.specs.Steps.{FollowsFlow, position_of}
+use Rattle.lw_interleaving.proofs.Exchange.{moved, others_placed}
+use Rattle.lw_interleaving.proofs.Runs.{event_kept, set_length}
 use Rattle.lw_finals.specs.Flows.{source_flow}
 use Rattle.lw_finals.proofs.Led as led
 use Rattle.lw_finals.proofs.SourceFlows.{source_follows}

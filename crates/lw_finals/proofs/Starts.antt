@@ -4,7 +4,7 @@ use Rattle.lw_mesi.specs.CacheLines.{contents_of, empty_caches}
 use Rattle.lw_mesi.specs.ProtocolLaws.{caches_by}
 use Rattle.lw_mesi.specs.declared.protocol.Protocol.{Protocol}
 use Rattle.lw_tso.specs.Starts.{CanStart}
-use Rattle.lw_x86.specs.Programs.{ProgramTest, IsWellFormedProgram}
+use Rattle.lw_litmus.specs.Programs.{ProgramTest, IsWellFormedProgram}
 use Rattle.lw_finals.specs.Machines.{caches_at_start}
 
 pub starts : ((p : Protocol) (cpus : ℕ) (words : List ℕ) → cpus ≤ 4 → (caches_by p).sound (empty_caches cpus words)) → ((cpus : ℕ) (words : List ℕ) → contents_of (empty_caches cpus words) ≡ words)

@@ -2,15 +2,15 @@
 use Rattle.std.proofs.Common.{ℕ, ◌≤◌, length, arith}
 use Rattle.std.specs.Prelude.{All}
 use Rattle.std.proofs.lemmas.List.Elements.{All-weaker}
-use Rattle.lw_cells.specs.Languages.{Language}
-use Rattle.lw_cells.specs.Tests.{Test, IsThread, IsWellFormed}
-use Rattle.lw_source.specs.Sources.{SourceTest, IsWellFormedSource, source}
-use Rattle.lw_x86.specs.Programs.{ProgramTest, IsWellFormedProgram, x86}
+use Rattle.lw_litmus.specs.Languages.{Language}
+use Rattle.lw_litmus.specs.Tests.{Test, IsThread, IsWellFormed}
+use Rattle.lw_litmus.specs.Sources.{SourceTest, IsWellFormedSource, source}
+use Rattle.lw_litmus.specs.Programs.{ProgramTest, IsWellFormedProgram, x86}
 use Rattle.lw_finals.specs.Choices.{IsForward}
 use Rattle.lw_finals.specs.Flows.{source_flow, x86_flow}
 use Rattle.lw_finals.specs.Visits.{IsVisitable}
 
-module _ {Syntax Stmt : Type 0} (language : Language Syntax Stmt) (test : Test Stmt) (is : IsWellFormed language test) where
+module _ {Stmt : Type 0} (language : Language Stmt) (test : Test Stmt) (is : IsWellFormed language test) where
   few_threads : length test.threads ≤ 4
   few_threads = omega (arith, is.as_many, is.head.few)
 

@@ -16,8 +16,8 @@ use Rattle.lw_tso.specs.Exchange.{AreIndependent}
 use Rattle.lw_tso.specs.Machines.{MachineState}
 use Rattle.lw_tso.specs.Runs.{is_final, machine_outcome, machine_start}
 use Rattle.lw_tso.proofs.Neighbours.{exchanged}
-use Rattle.lw_x86.specs.declared.instr.Instr.{Instr}
-use Rattle.lw_x86.specs.Programs.{ProgramTest, IsWellFormedProgram}
+use Rattle.lw_litmus.specs.declared.instr.Instr.{Instr}
+use Rattle.lw_litmus.specs.Programs.{ProgramTest, IsWellFormedProgram}
 use Rattle.lw_finals.specs.Choices.{IsForward, IsChoice}
 use Rattle.lw_finals.specs.Flows.{x86_flow}
 use Rattle.lw_finals.specs.declared.item.Item.{Item}

@@ -6,7 +6,7 @@ use Rattle.std.proofs.lemmas.Bool.{cases_lt}
 use Rattle.std.proofs.lemmas.List.Elements.{All-weaker}
 use Rattle.lw_base.specs.Outcomes.{Final}
 use Rattle.lw_base.specs.declared.event.Event.{Event}
-use Rattle.lw_cells.specs.Tests.{IsThread}
+use Rattle.lw_litmus.specs.Tests.{IsThread}
 use Rattle.lw_memory.specs.Flat.{flat}
 use Rattle.lw_mesi.specs.declared.protocol.Protocol.{Protocol}
 use Rattle.lw_mesi.specs.declared.protocol.Protocol.TheVariants.{Mesi}
@@ -14,8 +14,8 @@ use Rattle.lw_orders.specs.Order.{IsWellFormed, IsLinearExtension, Alike}
 use Rattle.lw_orders.specs.Limits.{most_items}
 use Rattle.lw_tso.specs.Evictions.{without_evictions}
 use Rattle.lw_tso.specs.Runs.{Replays, MachineOutcome}
-use Rattle.lw_x86.specs.declared.instr.Instr.{Instr}
-use Rattle.lw_x86.specs.Programs.{ProgramTest, IsWellFormedProgram, x86}
+use Rattle.lw_litmus.specs.declared.instr.Instr.{Instr}
+use Rattle.lw_litmus.specs.Programs.{ProgramTest, IsWellFormedProgram, x86}
 use Rattle.lw_finals.specs.Choices.{IsForward, IsChoice}
 use Rattle.lw_finals.specs.Counts.{HasTooManyItems, items_at_choice}
 use Rattle.lw_finals.specs.Flows.{x86_flow}

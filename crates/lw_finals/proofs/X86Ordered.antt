@@ -12,7 +12,7 @@ use Rattle.lw_orders.specs.Sequence.{numbers}
 use Rattle.lw_orders.proofs.Places.{place-same, place-other, same_place, All-stands, order_from}
 use Rattle.lw_tso.specs.Machines.{MachineState}
 use Rattle.lw_tso.specs.Runs.{is_final, machine_outcome}
-use Rattle.lw_x86.specs.declared.instr.Instr.{Instr}
+use Rattle.lw_litmus.specs.declared.instr.Instr.{Instr}
 use Rattle.lw_finals.specs.Choices.{IsForward, IsPathFrom, IsChoice}
 use Rattle.lw_finals.specs.Flows.{x86_flow}
 use Rattle.lw_finals.specs.declared.item.Item.{Item}

@@ -7,13 +7,13 @@ use Rattle.std.proofs.lemmas.Option.{same_Some, slice_get-map}
 use Rattle.lw_base.specs.Outcomes.{Final}
 use Rattle.lw_base.specs.Threads.{code_of}
 use Rattle.lw_base.specs.declared.event.Event.{Event}
-use Rattle.lw_cells.proofs.Lists.{get_some}
+use Rattle.lw_base.proofs.Lists.{get_some}
 use Rattle.lw_memory.specs.Flat.{flat}
 use Rattle.lw_tso.specs.Machines.{MachineState}
 use Rattle.lw_tso.specs.Processors.{Processor, starting}
 use Rattle.lw_tso.specs.Runs.{MachineRan, Replays, MachineOutcome, machine_start}
-use Rattle.lw_x86.specs.declared.instr.Instr.{Instr}
-use Rattle.lw_x86.specs.Programs.{ProgramTest, IsWellFormedProgram}
+use Rattle.lw_litmus.specs.declared.instr.Instr.{Instr}
+use Rattle.lw_litmus.specs.Programs.{ProgramTest, IsWellFormedProgram}
 use Rattle.lw_finals.specs.Choices.{IsForward, IsPathFrom, IsChoice}
 use Rattle.lw_finals.specs.Flows.{x86_flow}
 use Rattle.lw_finals.specs.declared.item.Item.{Item}

@@ -4,7 +4,7 @@ use Rattle.std.proofs.lemmas.Bool.{cases_eq, cases_lt, true≢false}
 use Rattle.lw_base.specs.Threads.{code_of}
 use Rattle.lw_orders.specs.Order.{place, Before, IsOrder}
 use Rattle.lw_orders.proofs.Places.{same_place}
-use Rattle.lw_x86.specs.declared.instr.Instr.{Instr}
+use Rattle.lw_litmus.specs.declared.instr.Instr.{Instr}
 use Rattle.lw_finals.specs.declared.item.Item.{Item}
 use Rattle.lw_finals.specs.Items.{item_at, statement_of}
 use Rattle.lw_finals.specs.X86Items.{x86_language, waits_for_drains}

@@ -13,8 +13,8 @@ use Rattle.lw_tso.specs.Exchange.{StandsAt}
 use Rattle.lw_tso.specs.Machines.{MachineState, Answer, EventDone, flatten}
 use Rattle.lw_tso.specs.Runs.{MachineRan, is_final, machine_start, machine_outcome}
 use Rattle.lw_tso.specs.Starts.{CanStart}
-use Rattle.lw_x86.specs.declared.instr.Instr.{Instr}
-use Rattle.lw_x86.specs.Programs.{ProgramTest}
+use Rattle.lw_litmus.specs.declared.instr.Instr.{Instr}
+use Rattle.lw_litmus.specs.Programs.{ProgramTest}
 use Rattle.lw_finals.specs.declared.item.Item.{Item}
 use Rattle.lw_finals.specs.Items.{item_at}
 use Rattle.lw_finals.specs.OrderRuns.{OrderRan}

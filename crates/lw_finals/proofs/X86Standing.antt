@@ -3,7 +3,7 @@ use Rattle.std.proofs.Common.{◌≡◌, ℕ, Bool, true, false, List, Option, S
 use Rattle.std.specs.Option.{option_map_or}
 use Rattle.lw_base.specs.Threads.{code_of}
 use Rattle.lw_orders.specs.Order.{IsLinearExtension}
-use Rattle.lw_x86.specs.declared.instr.Instr.{Instr}
+use Rattle.lw_litmus.specs.declared.instr.Instr.{Instr}
 use Rattle.lw_finals.specs.Choices.{IsForward, IsChoice}
 use Rattle.lw_finals.specs.Flows.{x86_flow}
 use Rattle.lw_finals.specs.declared.item.Item.{Item}

@@ -6,15 +6,15 @@ use Rattle.std.proofs.lemmas.Option.{same_Some, none-some}
 use Rattle.lw_base.specs.Threads.{code_of}
 use Rattle.lw_base.specs.declared.stop.Stop.{Stop}
 use Rattle.lw_base.specs.declared.stop.Stop.TheVariants.{FenceWaits, SwapWaits}
-use Rattle.lw_cells.proofs.Lists.{got_set_same, got_set_other}
+use Rattle.lw_base.proofs.Lists.{got_set_same, got_set_other}
 use Rattle.lw_tso.specs.Acts.{Act, cpu_of, event_act, step_act, drain_act, load_act, once_empty}
 use Rattle.lw_tso.specs.Exchange as machine
 use Rattle.lw_tso.specs.Exchange.{DoNotConflict, MayPass, MayPassOldest, ArePassing, AreIndependent}
 use Rattle.lw_tso.specs.Machines.{MachineState}
 use Rattle.lw_tso.specs.Processors.{Processor, newest}
 use Rattle.lw_tso.proofs.Effects.{Does}
-use Rattle.lw_x86.specs.declared.instr.Instr.{Instr}
-use Rattle.lw_x86.specs.declared.instr.Instr.TheVariants.{Store, Load, Set, Add, Cmp, Xchg, Xadd, Mfence, Je, Jne, Jmp}
+use Rattle.lw_litmus.specs.declared.instr.Instr.{Instr}
+use Rattle.lw_litmus.specs.declared.instr.Instr.TheVariants.{Store, Load, Set, Add, Cmp, Xchg, Xadd, Mfence, Je, Jne, Jmp}
 use Rattle.lw_finals.specs.declared.item.Item.{Item}
 use Rattle.lw_finals.specs.Items.{statement_of, are_one, location_by, writes_by, conflict_by, do_conflict}
 use Rattle.lw_finals.specs.X86Items.{x86_language, accessed, drained, is_locked, waits_for_drains}

@@ -10,7 +10,7 @@ use Rattle.lw_base.specs.Threads.{code_of}
 use Rattle.lw_base.specs.declared.event.Event.{Event}
 use Rattle.lw_base.specs.declared.event.Event.TheVariants.{Step, Drain, Evict}
 use Rattle.lw_base.specs.declared.operand.Operand.{Operand}
-use Rattle.lw_cells.proofs.Lists.{get_some, got_set_same, got_set_other, at_index, each_after}
+use Rattle.lw_base.proofs.Lists.{get_some, got_set_same, got_set_other, at_index, each_after}
 use Rattle.lw_fence.proofs.Lists.{zip_passes}
 use Rattle.lw_memory.specs.Flat.{flat}
 use Rattle.lw_tso.specs.Acts.{step_act}
@@ -18,8 +18,8 @@ use Rattle.lw_tso.specs.Machines.{MachineState}
 use Rattle.lw_tso.specs.Processors.{Processor}
 use Rattle.lw_tso.specs.Runs.{is_done, is_final, MachineRan}
 use Rattle.lw_tso.proofs.Effects.{Does, Did, leads_to, no_eviction}
-use Rattle.lw_x86.specs.declared.instr.Instr.{Instr}
-use Rattle.lw_x86.specs.declared.instr.Instr.TheVariants.{Store}
+use Rattle.lw_litmus.specs.declared.instr.Instr.{Instr}
+use Rattle.lw_litmus.specs.declared.instr.Instr.TheVariants.{Store}
 use Rattle.lw_finals.specs.Choices.{IsForward, Follows, IsPathFrom}
 use Rattle.lw_finals.specs.Flows.{x86_flow}
 use Rattle.lw_finals.specs.declared.item.Item.{Item}

@@ -10,8 +10,8 @@ use Rattle.lw_base.specs.Threads.{code_of, value_of}
 use Rattle.lw_base.specs.declared.operand.Operand.{Operand}
 use Rattle.lw_base.specs.declared.stop.Stop.{Stop}
 use Rattle.lw_base.specs.declared.stop.Stop.TheVariants.{FenceWaits, SwapWaits}
-use Rattle.lw_cells.proofs.Lists.{got_set_same, got_set_other}
-use Rattle.lw_cells.specs.Tests.{IsThread}
+use Rattle.lw_base.proofs.Lists.{got_set_same, got_set_other}
+use Rattle.lw_litmus.specs.Tests.{IsThread}
 use Rattle.lw_memory.specs.Flat.{flat}
 use Rattle.lw_tso.specs.Acts.{Act, step_act, drain_act, load_act, once_empty}
 use Rattle.lw_tso.specs.Exchange.{DoneAt}
@@ -19,9 +19,9 @@ use Rattle.lw_tso.specs.Machines.{MachineState}
 use Rattle.lw_tso.specs.Processors.{Processor, newest, going_on, getting, starting}
 use Rattle.lw_tso.specs.Runs.{machine_start}
 use Rattle.lw_tso.proofs.Effects.{state, Does, Did, leads_to}
-use Rattle.lw_x86.specs.declared.instr.Instr.{Instr}
-use Rattle.lw_x86.specs.declared.instr.Instr.TheVariants.{Store, Load, Set, Add, Cmp, Xchg, Xadd, Mfence, Je, Jne, Jmp}
-use Rattle.lw_x86.specs.Programs.{ProgramTest, IsWellFormedProgram, x86}
+use Rattle.lw_litmus.specs.declared.instr.Instr.{Instr}
+use Rattle.lw_litmus.specs.declared.instr.Instr.TheVariants.{Store, Load, Set, Add, Cmp, Xchg, Xadd, Mfence, Je, Jne, Jmp}
+use Rattle.lw_litmus.specs.Programs.{ProgramTest, IsWellFormedProgram, x86}
 use Rattle.lw_finals.specs.Choices.{IsForward, Follows}
 use Rattle.lw_finals.specs.Flows.{x86_flow}
 use Rattle.lw_finals.specs.declared.item.Item.{Item}

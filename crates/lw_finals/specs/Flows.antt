@@ -1,11 +1,11 @@
 -- The flows of the two languages.
 use Rattle.std.specs.Prelude.{Bool, true, false}
-use Rattle.lw_source.specs.declared.stmt.Stmt.{Stmt}
-use Rattle.lw_source.specs.declared.stmt.Stmt.TheVariants as source
-use Rattle.lw_source.specs.Sources as sources
-use Rattle.lw_x86.specs.declared.instr.Instr.{Instr}
-use Rattle.lw_x86.specs.declared.instr.Instr.TheVariants as x86
-use Rattle.lw_x86.specs.Programs as programs
+use Rattle.lw_litmus.specs.declared.stmt.Stmt.{Stmt}
+use Rattle.lw_litmus.specs.declared.stmt.Stmt.TheVariants as source
+use Rattle.lw_litmus.specs.Sources as sources
+use Rattle.lw_litmus.specs.declared.instr.Instr.{Instr}
+use Rattle.lw_litmus.specs.declared.instr.Instr.TheVariants as x86
+use Rattle.lw_litmus.specs.Programs as programs
 use Rattle.lw_finals.specs.Choices.{Flow}
 
 -- whether the next statement may follow: behind each but a jump without a condition

@@ -3,8 +3,8 @@ use Rattle.std.specs.Prelude.{◌↔◌, ℕ, All, Contains, List}
 use Rattle.lw_base.specs.Outcomes.{Final}
 use Rattle.lw_fence.specs.Compiling.{IsCompiled}
 use Rattle.lw_mesi.specs.declared.protocol.Protocol.{Protocol}
-use Rattle.lw_source.specs.Sources.{SourceTest}
-use Rattle.lw_x86.specs.Programs.{ProgramTest}
+use Rattle.lw_litmus.specs.Sources.{SourceTest}
+use Rattle.lw_litmus.specs.Programs.{ProgramTest}
 use Rattle.lw_finals.specs.Listings.{Entries, outcomes_of}
 use Rattle.lw_finals.specs.Machines.{ReplaysOverCaches, OutcomeOverCaches}
 

@@ -6,7 +6,7 @@ use Rattle.lw_mesi.specs.CacheLines.{Caches, empty_caches}
 use Rattle.lw_mesi.specs.ProtocolLaws.{caches_by}
 use Rattle.lw_mesi.specs.declared.protocol.Protocol.{Protocol}
 use Rattle.lw_tso.specs.Runs.{Replays, MachineOutcome}
-use Rattle.lw_x86.specs.Programs.{ProgramTest}
+use Rattle.lw_litmus.specs.Programs.{ProgramTest}
 
 -- the caches of a test at its start, which hold nothing
 abbrev pub caches_at_start : ProgramTest → Caches

@@ -1,10 +1,11 @@
 -- The items of source tests: the statements on the chosen paths.
 use Rattle.std.specs.Prelude.{◌≡◌, ℕ, false, Some, None, Ok, List}
 use Rattle.lw_base.specs.Outcomes.{Final}
-use Rattle.lw_source.specs.declared.stmt.Stmt.{Stmt}
-use Rattle.lw_source.specs.Conflicts.{writes, position_of}
-use Rattle.lw_source.specs.Runs.{State, source_step, start_of, is_final, outcome_of}
-use Rattle.lw_source.specs.Sources.{SourceTest, location_of}
+use Rattle.lw_litmus.specs.declared.stmt.Stmt.{Stmt}
+use Rattle.lw_litmus.specs.Conflicts.{writes}
+use Rattle.lw_interleaving.specs.Steps.{position_of}
+use Rattle.lw_interleaving.specs.Runs.{State, source_step, start_of, is_final, outcome_of}
+use Rattle.lw_litmus.specs.Sources.{SourceTest, location_of}
 use Rattle.lw_finals.specs.Flows.{source_flow}
 use Rattle.lw_finals.specs.declared.item.Item.{Item}
 use Rattle.lw_finals.specs.Items.{Language}

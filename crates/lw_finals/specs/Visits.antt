@@ -3,7 +3,7 @@ use Rattle.std.specs.Prelude.{◌≡◌, ℕ, suc, ◌-◌, ◌<◌, ◌≤◌, 
 use Rattle.std.specs.List.{flat_map}
 use Rattle.lw_base.specs.Limits.{most_threads}
 use Rattle.lw_base.specs.Threads.{code_of}
-use Rattle.lw_x86.specs.Limits.{most_instructions}
+use Rattle.lw_litmus.specs.Limits.{most_instructions}
 use Rattle.lw_finals.specs.Choices.{Flow, IsForward, paths_from, choices_of}
 
 -- each of the choices is visited once, in their order

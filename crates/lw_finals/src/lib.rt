@@ -13,9 +13,9 @@
 //! Why nothing is missing: `laws`. Any run of the test is an order of the items of a choice that keeps the fixed pairs; it is
 //! alike to one that is given; and alike orders end alike.
 //!
-//! It names lw_base; of lw_source source tests and their runs, of lw_x86 instructions and programs, of lw_cells what tests of both
-//! say; of lw_fence the compiler and its schedules; of lw_tso the machine, of lw_tso and lw_memory the outcomes over flat memory and
-//! their laws, of lw_mesi the caches; lw_orders; and indexmap, for the list of outcomes.
+//! It names lw_base; of lw_litmus the tests of both languages, of lw_interleaving the runs of source tests; of lw_fence the
+//! compiler and its schedules; of lw_tso the machine, of lw_tso and lw_memory the outcomes over flat memory and their laws, of
+//! lw_mesi the caches; lw_orders; and indexmap, for the list of outcomes.
 #![tactic(auto)]
 
 mod conflicts;

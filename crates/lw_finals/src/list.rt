@@ -3,9 +3,8 @@ ghost use Rattle.std.specs.Prelude.{◌≡◌, ◌↔◌, All, Contains, IfOk, I
 ghost use Rattle.lw_base.specs.Heads.{head_of};
 ghost use Rattle.lw_base.specs.Outcomes.{Final};
 ghost use Rattle.lw_mesi.specs.declared.protocol.Protocol.{Protocol};
-ghost use Rattle.lw_source.specs.Runs.{SourceOutcome};
-ghost use Rattle.lw_source.specs.Views.{source_of};
-ghost use Rattle.lw_x86.specs.Views.{program_of};
+ghost use Rattle.lw_interleaving.specs.Runs.{SourceOutcome};
+ghost use Rattle.lw_litmus.specs.Views.{source_of, program_of};
 ghost use Rattle.lw_finals.specs.Counts.{TellsLimit, IsWithinLimits};
 ghost use Rattle.lw_finals.specs.Listings.{outcomes_of, IsStrictlySorted, IsEntryOf};
 ghost use Rattle.lw_finals.specs.Lists.{ListsMachine};
@@ -24,9 +23,8 @@ use crate::machines::{
 use crate::source_runner::SourceRunner;
 use crate::x86_runner::X86Runner;
 use lw_fence::compile;
+use lw_litmus::{Program, Source};
 use lw_orders::orders_are_complete;
-use lw_source::Source;
-use lw_x86::Program;
 use std::alloc::Allocator;
 
 /// The list of all final states of a source test, each with a schedule of the program that it is compiled to.

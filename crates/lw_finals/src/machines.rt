@@ -8,7 +8,7 @@ ghost use Rattle.lw_mesi.specs.declared.protocol.Protocol.{Protocol};
 ghost use Rattle.lw_mesi.specs.declared.protocol.Protocol.TheVariants as by;
 ghost use Rattle.lw_tso.specs.Evictions.{without_evictions};
 ghost use Rattle.lw_tso.specs.Runs.{Replays, MachineOutcome};
-ghost use Rattle.lw_x86.specs.Programs.{ProgramTest, IsWellFormedProgram};
+ghost use Rattle.lw_litmus.specs.Programs.{ProgramTest, IsWellFormedProgram};
 ghost use Rattle.lw_finals.specs.Listings.{IsEntryOf};
 ghost use Rattle.lw_finals.specs.Machines.{ReplaysOverCaches, OutcomeOverCaches};
 

@@ -1,9 +1,8 @@
 //! Runs of the orders of a source test's items.
 ghost use Rattle.std.specs.Prelude.{◌≡◌, ◌<◌, true, false, length, All, IfOk};
 ghost use Rattle.lw_fence.specs.Compiling.{IsCompiled};
-ghost use Rattle.lw_source.specs.Runs.{State};
-ghost use Rattle.lw_source.specs.Views.{source_of};
-ghost use Rattle.lw_x86.specs.Views.{program_of};
+ghost use Rattle.lw_interleaving.specs.Runs.{State};
+ghost use Rattle.lw_litmus.specs.Views.{source_of, program_of};
 ghost use Rattle.lw_finals.specs.SourceItems.{CarriedOut, StaysAndEnds};
 ghost use Rattle.lw_finals.specs.SourceRuns.{CompiledSource, leads_flat, threads_of};
 
@@ -11,7 +10,8 @@ use crate::item::Item;
 use crate::runner::{OrderRunner, copy_outcome};
 use lw_base::{Cpu, Event, Outcome, Sequence};
 use lw_fence::{Compiled, schedule_of};
-use lw_source::{Source, SourceRun};
+use lw_interleaving::SourceRun;
+use lw_litmus::Source;
 use std::alloc::{AllocError, Allocator};
 use std::marker::Model;
 
@@ -28,9 +28,9 @@ pub struct SourceRunner<'a, A: Allocator> {
 impl<'a, A: Allocator> Model for SourceRunner<'a, A> {
     ghost use Rattle.std.specs.Prelude.{◌≡◌, length};
     ghost use Rattle.lw_fence.specs.Compiling.{IsCompiled};
-    ghost use Rattle.lw_source.specs.Runs.{start_of};
-    ghost use Rattle.lw_source.specs.Views.{source_of};
-    ghost use Rattle.lw_x86.specs.Views.{program_of};
+    ghost use Rattle.lw_interleaving.specs.Runs.{start_of};
+    ghost use Rattle.lw_litmus.specs.Views.{source_of};
+    ghost use Rattle.lw_litmus.specs.Views.{program_of};
     ghost use Rattle.lw_finals.specs.SourceRuns.{SourceRunning};
     ghost use Rattle.std.specs.Coded.{codes};
     ghost use Rattle.lw_finals.specs.Codes.{formula_code};

@@ -5,8 +5,7 @@ ghost use Rattle.lw_finals.specs.SourceItems.{source_language};
 ghost use Rattle.lw_finals.specs.X86Items.{x86_language};
 
 use lw_base::Loc;
-use lw_source::Stmt;
-use lw_x86::Instr;
+use lw_litmus::{Instr, Stmt};
 
 /// A statement of a language: it leads on to the next statement, to the target of a jump, or to either; and it acts on a
 /// location by itself, by the drain of the entry that it makes, or on none.

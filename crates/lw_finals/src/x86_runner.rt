@@ -5,16 +5,16 @@ ghost use Rattle.lw_memory.specs.Flat.{flat};
 ghost use Rattle.lw_memory.specs.Memory.{memory_of};
 ghost use Rattle.lw_tso.specs.Exchange.{StandsAt};
 ghost use Rattle.lw_tso.specs.Machines.{EventDone};
-ghost use Rattle.lw_x86.specs.Views.{program_of};
+ghost use Rattle.lw_litmus.specs.Views.{program_of};
 ghost use Rattle.lw_finals.specs.X86Runs.{event_of, events_of, CarriedOut, StaysAndEnds, LeadsFlat};
 
 use crate::item::Item;
 use crate::runner::{OrderRunner, copy_outcome};
 use lw_base::{Event, Outcome, Sequence};
+use lw_litmus::Program;
 use lw_memory::MemorySystem;
 use lw_mesi::{Mesi, empty_caches_are_kept};
 use lw_tso::{Machine, events_are_flat, flat_events_are_determined};
-use lw_x86::Program;
 use std::alloc::{AllocError, Allocator};
 use std::marker::Model;
 
@@ -30,7 +30,7 @@ pub struct X86Runner<'a, A: Allocator> {
 impl<'a, A: Allocator> Model for X86Runner<'a, A> {
     ghost use Rattle.std.specs.Prelude.{◌≡◌, length};
     ghost use Rattle.std.specs.Coded.{codes};
-    ghost use Rattle.lw_x86.specs.Views.{program_of};
+    ghost use Rattle.lw_litmus.specs.Views.{program_of};
     ghost use Rattle.lw_finals.specs.Codes.{formula_code};
     ghost use Rattle.lw_finals.specs.X86Runners.{X86Running};
 
@@ -136,7 +136,7 @@ impl<'a, A: Allocator + Copy> X86Runner<'a, A> {
 }
 
 impl<'a, A: Allocator + Copy> OrderRunner<A> for X86Runner<'a, A> {
-    ghost use Rattle.lw_x86.specs.Programs.{ProgramTest};
+    ghost use Rattle.lw_litmus.specs.Programs.{ProgramTest};
 
     ghost Test = { ProgramTest };
 

@@ -2,8 +2,8 @@
 //! folder `tables` show them too; where they are only some, these alone.
 use lw_base::Word;
 use lw_finals::list_source;
+use lw_litmus::Source;
 use lw_report::{Claim, States, Verdict, project, states_of, verdict, write_report};
-use lw_source::Source;
 use lw_test_reader::source_of;
 use std::alloc::Global;
 

@@ -2,14 +2,14 @@
 ghost use Rattle.std.specs.Prelude.{◌≡◌, map, true, IsTrue, IfOk};
 ghost use Rattle.lw_base.specs.declared.event.Event.TheVariants.{Step};
 ghost use Rattle.lw_fence.specs.Compiling.{IsCompiled};
-ghost use Rattle.lw_source.specs.Runs.{State, Ran, start_of};
-ghost use Rattle.lw_source.specs.Views.{source_of as test_of_source};
-ghost use Rattle.lw_x86.specs.Views.{program_of};
+ghost use Rattle.lw_interleaving.specs.Runs.{State, Ran, start_of};
+ghost use Rattle.lw_litmus.specs.Views.{source_of as test_of_source, program_of};
 
 use linked_list_allocator::LocalHeap;
 use lw_base::{Cpu, End, Event, read_schedule};
 use lw_fence::{Compiled, compile, schedule_of};
-use lw_source::{Source, SourceRun};
+use lw_interleaving::SourceRun;
+use lw_litmus::Source;
 use lw_test_reader::{Made, MadeInRoom, refusals, source_of};
 use std::alloc::{AllocError, Allocator, Global};
 

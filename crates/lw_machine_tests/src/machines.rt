@@ -3,10 +3,10 @@ ghost use Rattle.std.specs.Prelude.{◌≡◌, ◌≤◌, length, IfSome};
 ghost use Rattle.lw_mesi.specs.CacheLines.{contents_of};
 
 use lw_base::{Cpu, End, Event, Loc, Stop};
+use lw_litmus::Program;
 use lw_mesi::{KeptProtocol, Mesi, SnoopingCaches, empty_caches_are_kept};
 use lw_test_reader::program_of;
 use lw_tso::Machine;
-use lw_x86::Program;
 use std::alloc::Global;
 
 /// Empty caches for a program, by a protocol, over its initial words.

@@ -3,11 +3,11 @@ ghost use Rattle.std.specs.Prelude.{◌≡◌, ◌≤◌, length};
 
 use crate::machines::caches_of;
 use lw_base::{Cpu, End, Event, Loc, Outcome, Stop, Word};
+use lw_litmus::Program;
 use lw_memory::{FlatMemory, LineState, MemorySystem};
 use lw_mesi::{ByMesi, ByMoesi};
 use lw_test_reader::program_of;
 use lw_tso::{Machine, every_run_ends};
-use lw_x86::Program;
 use std::alloc::Global;
 
 /// The first thread jumps where the zero flag is set, and sets it. The second one exchanges, loads and stores.

@@ -3,11 +3,11 @@ use crate::machines::caches_of;
 use crate::restarts::is_untouched;
 use linked_list_allocator::LocalHeap;
 use lw_base::{Cpu, End, Event, Loc};
+use lw_litmus::Program;
 use lw_memory::MemorySystem;
 use lw_mesi::Mesi;
 use lw_test_reader::{Made, MadeInRoom, program_of, refusals};
 use lw_tso::Machine;
-use lw_x86::Program;
 use std::alloc::{AllocError, Global};
 
 /// Store buffering, with words in memory.

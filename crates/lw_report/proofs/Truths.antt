@@ -8,8 +8,8 @@ use Rattle.lw_base.specs.Outcomes.{Final}
 use Rattle.lw_base.specs.WellFormed.{SpeaksOf}
 use Rattle.lw_base.specs.declared.head.Seen.{Seen}
 use Rattle.lw_base.specs.declared.head.Seen.TheVariants.{Register, Location}
-use Rattle.lw_text.specs.Frames.{same_seen, all_registers, locations}
-use Rattle.lw_text.proofs.ListedAgain.{has_seen, same_seen_is, same_seen_itself, has_left, has_right, has_register, has_location}
+use Rattle.lw_base.specs.SeenLists.{same_seen, all_registers, locations}
+use Rattle.lw_base.proofs.ListedAgain.{has_seen, same_seen_is, same_seen_itself, has_left, has_right, has_register, has_location}
 use Rattle.lw_report.specs.Observed.{is_named, is_observed, projected}
 use Rattle.lw_report.specs.Truth.{final_word, is_true}
 

@@ -6,7 +6,7 @@ use Rattle.lw_base.specs.Heads.{TestHead}
 use Rattle.lw_base.specs.Outcomes.{Final}
 use Rattle.lw_base.specs.declared.head.Seen.{Seen}
 use Rattle.lw_base.specs.declared.head.Seen.TheVariants.{Register, Location}
-use Rattle.lw_text.specs.Frames.{same_seen, all_registers, locations}
+use Rattle.lw_base.specs.SeenLists.{same_seen, all_registers, locations}
 use Rattle.lw_report.specs.Truth.{final_word}
 
 -- whether a proposition names a register or a location

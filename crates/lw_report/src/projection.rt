@@ -6,7 +6,7 @@ ghost use Rattle.lw_base.specs.Limits.{most_threads};
 ghost use Rattle.lw_base.specs.Outcomes.{IsOutcomeOf};
 ghost use Rattle.lw_base.specs.Propositions.{formula_of};
 ghost use Rattle.lw_base.specs.WellFormed.{IsSeen};
-ghost use Rattle.lw_text.specs.Frames.{same_seen, registers_of, locations};
+ghost use Rattle.lw_base.specs.SeenLists.{same_seen, registers_of, locations};
 ghost use Rattle.lw_report.specs.Observed as specs;
 ghost use Rattle.lw_report.specs.Observed.{is_observed, projected};
 ghost use Rattle.lw_report.specs.Truth.{final_word};

@@ -1,5 +1,3 @@
-pub mod Runs
 pub mod Phrases
 pub mod OneReading
 pub mod SourceLaws
-pub mod Exchange

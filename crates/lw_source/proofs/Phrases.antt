@@ -16,11 +16,11 @@ use Rattle.lw_cells.specs.declared.draft.Draft.TheVariants.{Whole, Jumping}
 use Rattle.lw_cells.specs.Operands.{IsOperand}
 use Rattle.lw_cells.specs.Reading.{StatementRead}
 use Rattle.lw_cells.proofs.TokenRows.{two, three, five, six, number_first}
-use Rattle.lw_source.specs.declared.stmt.Stmt.TheVariants.{Store, Load, Swap, FetchAdd, Set, Sum}
+use Rattle.lw_litmus.specs.declared.stmt.Stmt.TheVariants.{Store, Load, Swap, FetchAdd, Set, Sum}
 use Rattle.lw_source.specs.declared.jump.Jump.TheVariants.{IfEq, IfNe, Always}
 use Rattle.lw_source.specs.Syntax.{StatementSyntax, Stores, Loads, Swaps, Fetch_adds, Sets, Sums, Jumps_if, Jumps_if_not, Jumps, StatementSays, BehindRegister, BeforeLocation}
-use Rattle.lw_source.specs.Sources.{source}
 use Rattle.lw_source.specs.Drafts.{draft_of}
+use Rattle.lw_source.specs.Grammar.{source_grammar}
 
 -- the name of a register is reserved
 reserved : (r : ℕ) → r < 6 → is_reserved (114 ∷ (48 + r) ∷ []) ≡ true
@@ -62,34 +62,34 @@ operand_unique w (Number n) (Number m) h k = ap Number (number-unique w n m h k)
 
 -- What a phrase says whose tokens are known.
 module _ (ts : List (List ℕ)) where
-  pub goes : (names : List (List ℕ)) (l : List ℕ) → slice_get ts 0 ≡ Some (codes "goto") → slice_get ts 1 ≡ Some l → length ts ≤ 2 → IsLocation l → StatementRead source draft_of ts names (Jumping Always 1) names
+  pub goes : (names : List (List ℕ)) (l : List ℕ) → slice_get ts 0 ≡ Some (codes "goto") → slice_get ts 1 ≡ Some l → length ts ≤ 2 → IsLocation l → StatementRead source_grammar draft_of ts names (Jumping Always 1) names
   goes names l a b h loc = record { syntax = Jumps l; says = (two ts _ l a b h, loc); names = refl; made = refl }
 
-  pub goes_if : (names : List (List ℕ)) (r n : ℕ) (w u l : List ℕ) → slice_get ts 0 ≡ Some (codes "if") → slice_get ts 1 ≡ Some w → slice_get ts 2 ≡ Some (codes "=") → slice_get ts 3 ≡ Some u → slice_get ts 4 ≡ Some (codes "goto") → slice_get ts 5 ≡ Some l → length ts ≤ 6 → IsRegister Source w r → IsNumber u n → IsLocation l → StatementRead source draft_of ts names (Jumping (IfEq r n) 5) names
+  pub goes_if : (names : List (List ℕ)) (r n : ℕ) (w u l : List ℕ) → slice_get ts 0 ≡ Some (codes "if") → slice_get ts 1 ≡ Some w → slice_get ts 2 ≡ Some (codes "=") → slice_get ts 3 ≡ Some u → slice_get ts 4 ≡ Some (codes "goto") → slice_get ts 5 ≡ Some l → length ts ≤ 6 → IsRegister Source w r → IsNumber u n → IsLocation l → StatementRead source_grammar draft_of ts names (Jumping (IfEq r n) 5) names
   goes_if names r n w u l a b c d e f h reg num loc = record { syntax = Jumps_if r n l; says = (w, u, six ts _ w _ u _ l a b c d e f h, reg, num, loc); names = refl; made = refl }
 
-  pub goes_if_not : (names : List (List ℕ)) (r n : ℕ) (w u l : List ℕ) → slice_get ts 0 ≡ Some (codes "if") → slice_get ts 1 ≡ Some w → slice_get ts 2 ≡ Some (codes "!=") → slice_get ts 3 ≡ Some u → slice_get ts 4 ≡ Some (codes "goto") → slice_get ts 5 ≡ Some l → length ts ≤ 6 → IsRegister Source w r → IsNumber u n → IsLocation l → StatementRead source draft_of ts names (Jumping (IfNe r n) 5) names
+  pub goes_if_not : (names : List (List ℕ)) (r n : ℕ) (w u l : List ℕ) → slice_get ts 0 ≡ Some (codes "if") → slice_get ts 1 ≡ Some w → slice_get ts 2 ≡ Some (codes "!=") → slice_get ts 3 ≡ Some u → slice_get ts 4 ≡ Some (codes "goto") → slice_get ts 5 ≡ Some l → length ts ≤ 6 → IsRegister Source w r → IsNumber u n → IsLocation l → StatementRead source_grammar draft_of ts names (Jumping (IfNe r n) 5) names
   goes_if_not names r n w u l a b c d e f h reg num loc = record { syntax = Jumps_if_not r n l; says = (w, u, six ts _ w _ u _ l a b c d e f h, reg, num, loc); names = refl; made = refl }
 
-  pub sets : (names : List (List ℕ)) (d : ℕ) (v : Operand) (w u : List ℕ) → slice_get ts 0 ≡ Some w → slice_get ts 1 ≡ Some (codes ":=") → slice_get ts 2 ≡ Some u → length ts ≤ 3 → IsRegister Source w d → IsOperand Source u v → StatementRead source draft_of ts names (Whole (Set d v)) names
+  pub sets : (names : List (List ℕ)) (d : ℕ) (v : Operand) (w u : List ℕ) → slice_get ts 0 ≡ Some w → slice_get ts 1 ≡ Some (codes ":=") → slice_get ts 2 ≡ Some u → length ts ≤ 3 → IsRegister Source w d → IsOperand Source u v → StatementRead source_grammar draft_of ts names (Whole (Set d v)) names
   sets names d v w u a b c h reg is = record { syntax = Sets d v; says = (w, u, three ts w _ u a b c h, reg, is); names = refl; made = refl }
 
-  pub sums : (names : List (List ℕ)) (d l : ℕ) (v : Operand) (w u z : List ℕ) → slice_get ts 0 ≡ Some w → slice_get ts 1 ≡ Some (codes ":=") → slice_get ts 2 ≡ Some u → slice_get ts 3 ≡ Some (codes "+") → slice_get ts 4 ≡ Some z → length ts ≤ 5 → IsRegister Source w d → IsRegister Source u l → IsOperand Source z v → StatementRead source draft_of ts names (Whole (Sum d l v)) names
+  pub sums : (names : List (List ℕ)) (d l : ℕ) (v : Operand) (w u z : List ℕ) → slice_get ts 0 ≡ Some w → slice_get ts 1 ≡ Some (codes ":=") → slice_get ts 2 ≡ Some u → slice_get ts 3 ≡ Some (codes "+") → slice_get ts 4 ≡ Some z → length ts ≤ 5 → IsRegister Source w d → IsRegister Source u l → IsOperand Source z v → StatementRead source_grammar draft_of ts names (Whole (Sum d l v)) names
   sums names d l v w u z a b c e f h reg left right = record { syntax = Sums d l v; says = (w, u, z, five ts w _ u _ z a b c e f h, reg, left, right); names = refl; made = refl }
 
-  pub stores : (before after : List (List ℕ)) (loc : ℕ) (o : Operand) (x w : List ℕ) → slice_get ts 0 ≡ Some x → slice_get ts 1 ≡ Some (codes ":=") → slice_get ts 2 ≡ Some w → length ts ≤ 3 → IsLocation x → IsOperand Source w o → after ≡ with_name before x → loc ≡ index_of after x → StatementRead source draft_of ts before (Whole (Store loc o)) after
+  pub stores : (before after : List (List ℕ)) (loc : ℕ) (o : Operand) (x w : List ℕ) → slice_get ts 0 ≡ Some x → slice_get ts 1 ≡ Some (codes ":=") → slice_get ts 2 ≡ Some w → length ts ≤ 3 → IsLocation x → IsOperand Source w o → after ≡ with_name before x → loc ≡ index_of after x → StatementRead source_grammar draft_of ts before (Whole (Store loc o)) after
   stores before after loc o x w a b c h name is names place =
       record { syntax = Stores x o; says = (w, three ts x _ w a b c h, name, is); names = names; made = ap (λ (l : ℕ). Whole (Store l o)) place }
 
-  pub loads : (before after : List (List ℕ)) (loc d : ℕ) (w x : List ℕ) → slice_get ts 0 ≡ Some w → slice_get ts 1 ≡ Some (codes ":=") → slice_get ts 2 ≡ Some x → length ts ≤ 3 → IsRegister Source w d → IsLocation x → after ≡ with_name before x → loc ≡ index_of after x → StatementRead source draft_of ts before (Whole (Load d loc)) after
+  pub loads : (before after : List (List ℕ)) (loc d : ℕ) (w x : List ℕ) → slice_get ts 0 ≡ Some w → slice_get ts 1 ≡ Some (codes ":=") → slice_get ts 2 ≡ Some x → length ts ≤ 3 → IsRegister Source w d → IsLocation x → after ≡ with_name before x → loc ≡ index_of after x → StatementRead source_grammar draft_of ts before (Whole (Load d loc)) after
   loads before after loc d w x a b c h reg name names place =
       record { syntax = Loads d x; says = (w, three ts w _ x a b c h, reg, name); names = names; made = ap (λ (l : ℕ). Whole (Load d l)) place }
 
-  pub swaps : (before after : List (List ℕ)) (loc d r : ℕ) (w x u : List ℕ) → slice_get ts 0 ≡ Some w → slice_get ts 1 ≡ Some (codes ":=") → slice_get ts 2 ≡ Some (codes "swap") → slice_get ts 3 ≡ Some x → slice_get ts 4 ≡ Some u → length ts ≤ 5 → IsRegister Source w d → IsLocation x → IsRegister Source u r → after ≡ with_name before x → loc ≡ index_of after x → StatementRead source draft_of ts before (Whole (Swap d loc r)) after
+  pub swaps : (before after : List (List ℕ)) (loc d r : ℕ) (w x u : List ℕ) → slice_get ts 0 ≡ Some w → slice_get ts 1 ≡ Some (codes ":=") → slice_get ts 2 ≡ Some (codes "swap") → slice_get ts 3 ≡ Some x → slice_get ts 4 ≡ Some u → length ts ≤ 5 → IsRegister Source w d → IsLocation x → IsRegister Source u r → after ≡ with_name before x → loc ≡ index_of after x → StatementRead source_grammar draft_of ts before (Whole (Swap d loc r)) after
   swaps before after loc d r w x u a b c e f h reg name src names place =
       record { syntax = Swaps d x r; says = (w, u, five ts w _ _ x u a b c e f h, reg, name, src); names = names; made = ap (λ (l : ℕ). Whole (Swap d l r)) place }
 
-  pub fetch_adds : (before after : List (List ℕ)) (loc d r : ℕ) (w x u : List ℕ) → slice_get ts 0 ≡ Some w → slice_get ts 1 ≡ Some (codes ":=") → slice_get ts 2 ≡ Some (codes "fetchadd") → slice_get ts 3 ≡ Some x → slice_get ts 4 ≡ Some u → length ts ≤ 5 → IsRegister Source w d → IsLocation x → IsRegister Source u r → after ≡ with_name before x → loc ≡ index_of after x → StatementRead source draft_of ts before (Whole (FetchAdd d loc r)) after
+  pub fetch_adds : (before after : List (List ℕ)) (loc d r : ℕ) (w x u : List ℕ) → slice_get ts 0 ≡ Some w → slice_get ts 1 ≡ Some (codes ":=") → slice_get ts 2 ≡ Some (codes "fetchadd") → slice_get ts 3 ≡ Some x → slice_get ts 4 ≡ Some u → length ts ≤ 5 → IsRegister Source w d → IsLocation x → IsRegister Source u r → after ≡ with_name before x → loc ≡ index_of after x → StatementRead source_grammar draft_of ts before (Whole (FetchAdd d loc r)) after
   fetch_adds before after loc d r w x u a b c e f h reg name src names place =
       record { syntax = Fetch_adds d x r; says = (w, u, five ts w _ _ x u a b c e f h, reg, name, src); names = names; made = ap (λ (l : ℕ). Whole (FetchAdd d l r)) place }
 

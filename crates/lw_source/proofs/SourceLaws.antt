@@ -9,14 +9,16 @@ use Rattle.lw_base.specs.declared.operand.Operand.{Operand}
 use Rattle.lw_base.specs.declared.operand.Operand.TheVariants.{Register, Number}
 use Rattle.lw_base.specs.WellFormed.{IsRegisterNumber, IsWord}
 use Rattle.lw_cells.specs.declared.draft.Draft.TheVariants.{Whole, Jumping}
-use Rattle.lw_cells.specs.Languages.{IsLanguage}
-use Rattle.lw_cells.specs.Operands.{IsOperand, operand_registers, operand_numbers}
+use Rattle.lw_cells.specs.Grammars.{IsGrammar}
+use Rattle.lw_cells.specs.Operands.{IsOperand}
+use Rattle.lw_litmus.specs.Operands.{operand_registers, operand_numbers}
 use Rattle.lw_cells.specs.Drafts.{EndsWithLabel, AreDrafts}
-use Rattle.lw_source.specs.declared.stmt.Stmt.{Stmt}
+use Rattle.lw_litmus.specs.declared.stmt.Stmt.{Stmt}
 use Rattle.lw_source.specs.declared.jump.Jump.{Jump}
 use Rattle.lw_source.specs.declared.jump.Jump.TheVariants.{IfEq, IfNe, Always}
 use Rattle.lw_source.specs.Syntax.{StatementSyntax, Stores, Loads, Swaps, Fetch_adds, Sets, Sums, Jumps_if, Jumps_if_not, Jumps, StatementSays, label_of}
-use Rattle.lw_source.specs.Sources.{source, statement, registers_of, numbers_of}
+use Rattle.lw_litmus.specs.Sources.{source, registers_of, numbers_of}
+use Rattle.lw_source.specs.Grammar.{statement, source_grammar}
 use Rattle.lw_source.specs.Drafts.{draft_of, jump_to}
 use Rattle.lw_source.proofs.Phrases.{first_of}
 use Rattle.lw_source.proofs.OneReading.{statement_unique, no_label}
@@ -28,7 +30,7 @@ some ts s says none =
     let gone : slice_get ts 0 ≡ None = ap (λ (t : List (List ℕ)). slice_get t 0) none in
     cc
 
-located : (x to : ℕ) (s : StatementSyntax) → source.location_of (statement x to s) ≡ option_map (λ n. x) (source.name_of s)
+located : (x to : ℕ) (s : StatementSyntax) → source.location_of (statement x to s) ≡ option_map (λ n. x) (source_grammar.name_of s)
 located x to (Stores n v) = refl
 located x to (Loads d n) = refl
 located x to (Swaps d n a) = refl
@@ -80,7 +82,7 @@ numbers ts x to (Jumps_if a n l) h = (h.4.0, tt)
 numbers ts x to (Jumps_if_not a n l) h = (h.4.0, tt)
 numbers ts x to (Jumps l) h = tt
 
-pub source_lawful : IsLanguage source
+pub source_lawful : IsGrammar source_grammar
 source_lawful = record {
   countable = omega arith;
   one = statement_unique;
@@ -103,7 +105,7 @@ whole x (Jumps_if a n l) stmt e = absurd cc
 whole x (Jumps_if_not a n l) stmt e = absurd cc
 whole x (Jumps l) stmt e = absurd cc
 
-jumping : (ts : List (List ℕ)) (x : ℕ) (s : StatementSyntax) (jump : Jump) (k : ℕ) → StatementSays ts s → draft_of x s ≡ Jumping jump k → EndsWithLabel source jump_to ts x jump k s
+jumping : (ts : List (List ℕ)) (x : ℕ) (s : StatementSyntax) (jump : Jump) (k : ℕ) → StatementSays ts s → draft_of x s ≡ Jumping jump k → EndsWithLabel source_grammar jump_to ts x jump k s
 jumping ts x (Stores n v) jump k h e = absurd cc
 jumping ts x (Loads d n) jump k h e = absurd cc
 jumping ts x (Swaps d n a) jump k h e = absurd cc
@@ -141,5 +143,5 @@ jumping ts x (Jumps l) jump k h e =
       becomes = λ to. ap (λ (j : Jump). jump_to j to) (sym p);
     }
 
-pub source_drafted : AreDrafts source jump_to draft_of
+pub source_drafted : AreDrafts source_grammar jump_to draft_of
 source_drafted = record { whole = whole; jumping = jumping }

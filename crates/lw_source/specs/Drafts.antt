@@ -4,12 +4,12 @@ use Rattle.lw_base.specs.Types.{NameTable, TokenList}
 use Rattle.lw_cells.specs.declared.draft.Draft.{Draft}
 use Rattle.lw_cells.specs.declared.draft.Draft.TheVariants.{Whole, Jumping}
 use Rattle.lw_cells.specs.Reading.{StatementRead}
-use Rattle.lw_source.specs.declared.stmt.Stmt.{Stmt}
-use Rattle.lw_source.specs.declared.stmt.Stmt.TheVariants as stmt
+use Rattle.lw_litmus.specs.declared.stmt.Stmt.{Stmt}
+use Rattle.lw_litmus.specs.declared.stmt.Stmt.TheVariants as stmt
 use Rattle.lw_source.specs.declared.jump.Jump.{Jump}
 use Rattle.lw_source.specs.declared.jump.Jump.TheVariants.{IfEq, IfNe, Always}
-use Rattle.lw_source.specs.Sources.{source}
 use Rattle.lw_source.specs.Syntax.{StatementSyntax, Stores, Loads, Swaps, Fetch_adds, Sets, Sums, Jumps_if, Jumps_if_not, Jumps}
+use Rattle.lw_source.specs.Grammar.{source_grammar}
 
 -- the statement that a jump is, where its label leads to this one
 abbrev pub jump_to : Jump → ℕ → Stmt
@@ -31,4 +31,4 @@ draft_of x (Jumps l) = Jumping Always 1
 
 -- The tokens say a statement that names no location.
 abbrev pub PlainRead : TokenList → Draft Stmt Jump → Type 0
-PlainRead ts draft = (names : NameTable) → StatementRead source draft_of ts names draft names
+PlainRead ts draft = (names : NameTable) → StatementRead source_grammar draft_of ts names draft names

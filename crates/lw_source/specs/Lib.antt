@@ -1,9 +1,5 @@
-pub mod Limits
+pub use Rattle.lw_litmus.specs.Sources
+pub use Rattle.lw_litmus.specs.Views
 pub mod Syntax
-pub mod Statements
-pub mod Sources
+pub mod Grammar
 pub mod Drafts
-pub mod Runs
-pub mod Views
-pub mod Conflicts
-pub mod Flow

@@ -7,12 +7,14 @@ ghost use Rattle.lw_text.specs.Frames.{TestFrame};
 ghost use Rattle.lw_text.specs.Views.{frame_of};
 ghost use Rattle.lw_text.specs.Places.{placed_cells};
 ghost use Rattle.lw_cells.specs.Faults.{Tells};
-ghost use Rattle.lw_source.specs.Sources.{SourceTest, HasSource, source};
-ghost use Rattle.lw_source.specs.Views.{source_of};
+ghost use Rattle.lw_litmus.specs.Sources.{SourceTest};
+ghost use Rattle.lw_source.specs.Grammar.{HasSource, source_grammar};
+ghost use Rattle.lw_litmus.specs.Views.{source_of};
 
-use crate::source::Source;
+use crate::statement::SourceLanguage;
 use lw_base::CellFault;
 use lw_cells::read_test;
+use lw_litmus::Source;
 use lw_text::Frame;
 use std::alloc::Allocator;
 
@@ -30,9 +32,9 @@ pub fn read_source<A: Allocator + Copy>(
     ensures place { IfErr result (λ f. f.at ≤ frame.now.len) }
     ensures memory { IfErr result (λ f. f.cause ≡ Memory → f.at ≡ 0) }
     // What the cause says of the place is so.
-    ensures cause { IfErr result (Tells source frame.now.head.locs (placed_cells frame.now.cells)) }
+    ensures cause { IfErr result (Tells source_grammar frame.now.head.locs (placed_cells frame.now.cells)) }
 {
-    let parts = read_test(alloc, frame)?;
+    let parts = read_test::<SourceLanguage, A>(alloc, frame)?;
     Ok(Source {
         head: parts.head,
         threads: parts.threads,

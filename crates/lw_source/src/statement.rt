@@ -9,22 +9,27 @@ ghost use Rattle.lw_text.specs.Spans.{texts};
 ghost use Rattle.lw_cells.specs.Words.{IsMisfit, RegisterAt, LiesWithin};
 ghost use Rattle.lw_cells.specs.Reading.{Fits, StatementRead, StatementFault};
 ghost use Rattle.lw_source.specs.Syntax.{StatementSyntax, StatementSays, Swaps, Fetch_adds, Sums, Jumps_if, Jumps_if_not, Jumps, CanBegin};
-ghost use Rattle.lw_source.specs.Sources.{source};
 ghost use Rattle.lw_source.specs.Drafts.{draft_of, jump_to, PlainRead};
+ghost use Rattle.lw_source.specs.Grammar.{source_grammar};
 
 use crate::jump::Jump;
-use crate::stmt::{MAX_STATEMENTS, Stmt};
 use lw_base::{Arch, CellFault, LocNames, Operand, Reg, is_location, reg_named};
-use lw_cells::{Draft, Phrase, Statement, label, location, misfit, operand, register, word};
+use lw_cells::{Draft, Phrase, StatementReader, label, location, misfit, operand, register, word};
+use lw_litmus::{MAX_STATEMENTS, Stmt};
 use lw_text::{Token, number};
 use std::alloc::Allocator;
 
-impl Statement for Stmt {
+/// The source language.
+pub(crate) enum SourceLanguage {}
+
+impl StatementReader for SourceLanguage {
+    type Stmt = Stmt;
+
     type Jump = Jump;
 
     ghost Syntax = { StatementSyntax };
 
-    ghost language = { source };
+    ghost grammar = { source_grammar };
 
     ghost jump_to = { jump_to };
 
@@ -69,9 +74,10 @@ fn read_statement<A: Allocator + Copy>(
     phrase: &Phrase<'_, '_>,
     locs: &mut LocNames<A>,
 ) -> Result<Draft<Stmt, Jump>, CellFault>
-    ensures found { IfOk result (λ stmt. StatementRead source draft_of (texts phrase.now.tokens.now) locs.old stmt locs.new) }
-    ensures fault { IfErr result (λ f. NotFound Memory f.cause (Fits source locs.old (texts phrase.now.tokens.now))) }
-    ensures cause { IfErr result (StatementFault source phrase.now.tokens.now locs.old) }
+    ensures found { IfOk result (λ stmt.
+        StatementRead source_grammar draft_of (texts phrase.now.tokens.now) locs.old stmt locs.new) }
+    ensures fault { IfErr result (λ f. NotFound Memory f.cause (Fits source_grammar locs.old (texts phrase.now.tokens.now))) }
+    ensures cause { IfErr result (StatementFault source_grammar phrase.now.tokens.now locs.old) }
     ensures place { (len : ℕ) → LiesWithin len phrase.now → IfErr result (λ f. f.at ≤ len) }
 {
     let first = phrase.token(0)?;
@@ -152,9 +158,10 @@ fn read_value<A: Allocator + Copy>(
 ) -> Result<Draft<Stmt, Jump>, CellFault>
     requires first { RegisterAt arch.Source (texts phrase.now.tokens.now) 0 dst }
     requires sign { slice_get (texts phrase.now.tokens.now) 1 ≡ Some (codes ":=") }
-    ensures found { IfOk result (λ stmt. StatementRead source draft_of (texts phrase.now.tokens.now) locs.old stmt locs.new) }
-    ensures fault { IfErr result (λ f. NotFound Memory f.cause (Fits source locs.old (texts phrase.now.tokens.now))) }
-    ensures cause { IfErr result (StatementFault source phrase.now.tokens.now locs.old) }
+    ensures found { IfOk result (λ stmt.
+        StatementRead source_grammar draft_of (texts phrase.now.tokens.now) locs.old stmt locs.new) }
+    ensures fault { IfErr result (λ f. NotFound Memory f.cause (Fits source_grammar locs.old (texts phrase.now.tokens.now))) }
+    ensures cause { IfErr result (StatementFault source_grammar phrase.now.tokens.now locs.old) }
     ensures place { (len : ℕ) → LiesWithin len phrase.now → IfErr result (λ f. f.at ≤ len) }
 {
     let third = phrase.token(2)?;
@@ -186,10 +193,11 @@ fn read_swap<A: Allocator + Copy>(
     requires first { RegisterAt arch.Source (texts phrase.now.tokens.now) 0 dst }
     requires sign { slice_get (texts phrase.now.tokens.now) 1 ≡ Some (codes ":=") }
     requires third { slice_get (texts phrase.now.tokens.now) 2 ≡ Some (codes "swap") }
-    ensures found { IfOk result (λ stmt. StatementRead source draft_of (texts phrase.now.tokens.now) locs.old stmt locs.new) }
+    ensures found { IfOk result (λ stmt.
+        StatementRead source_grammar draft_of (texts phrase.now.tokens.now) locs.old stmt locs.new) }
     ensures fault { IfErr result (λ f. f.cause ≢ Memory → (d a : ℕ) (x : Bytes)
-        → Fits source locs.old (texts phrase.now.tokens.now) (Swaps d x a) → ⊥) }
-    ensures cause { IfErr result (StatementFault source phrase.now.tokens.now locs.old) }
+        → Fits source_grammar locs.old (texts phrase.now.tokens.now) (Swaps d x a) → ⊥) }
+    ensures cause { IfErr result (StatementFault source_grammar phrase.now.tokens.now locs.old) }
     ensures place { (len : ℕ) → LiesWithin len phrase.now → IfErr result (λ f. f.at ≤ len) }
 {
     let loc = location(&phrase.token(3)?, locs)?;
@@ -207,10 +215,11 @@ fn read_fetch_add<A: Allocator + Copy>(
     requires first { RegisterAt arch.Source (texts phrase.now.tokens.now) 0 dst }
     requires sign { slice_get (texts phrase.now.tokens.now) 1 ≡ Some (codes ":=") }
     requires third { slice_get (texts phrase.now.tokens.now) 2 ≡ Some (codes "fetchadd") }
-    ensures found { IfOk result (λ stmt. StatementRead source draft_of (texts phrase.now.tokens.now) locs.old stmt locs.new) }
+    ensures found { IfOk result (λ stmt.
+        StatementRead source_grammar draft_of (texts phrase.now.tokens.now) locs.old stmt locs.new) }
     ensures fault { IfErr result (λ f. f.cause ≢ Memory → (d a : ℕ) (x : Bytes)
-        → Fits source locs.old (texts phrase.now.tokens.now) (Fetch_adds d x a) → ⊥) }
-    ensures cause { IfErr result (StatementFault source phrase.now.tokens.now locs.old) }
+        → Fits source_grammar locs.old (texts phrase.now.tokens.now) (Fetch_adds d x a) → ⊥) }
+    ensures cause { IfErr result (StatementFault source_grammar phrase.now.tokens.now locs.old) }
     ensures place { (len : ℕ) → LiesWithin len phrase.now → IfErr result (λ f. f.at ≤ len) }
 {
     let loc = location(&phrase.token(3)?, locs)?;

@@ -15,7 +15,7 @@ use Rattle.lw_text.specs.Propositions.{Terminal, is_node}
 use Rattle.lw_text.specs.Conditions.{AtomSyntax, Listed, Quantified, Terminals, Condition, sites_in}
 use Rattle.lw_text.specs.Frames.{Block, TestSyntax, table, Parts}
 use Rattle.lw_text.specs.Resolved.{named, named_entry, thread_exists, IsIn}
-use Rattle.lw_text.proofs.Elements.{each_of}
+use Rattle.lw_base.proofs.Elements.{each_of}
 use Rattle.lw_text.proofs.NameTables.{named-along, entry-along, all_at-along, all_in-along}
 use Rattle.lw_text.proofs.Whole.{first_names, all_there, table_parts, block_sites}
 

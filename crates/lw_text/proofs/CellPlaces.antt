@@ -12,7 +12,7 @@ use Rattle.lw_text.specs.Rows.{ends_cell, Rows}
 use Rattle.lw_text.specs.PlacedTokens.{PlacedToken, texts_of_tokens}
 use Rattle.lw_text.specs.PlacedCells.{PlacedCell, texts_of_cells, texts_of_grid, CellsFrom, RowsFrom, HasRows}
 use Rattle.lw_text.specs.Places.{placed, placed_tokens, placed_cell, placed_row, placed_cells, cells_texts, all_texts, IsWithin}
-use Rattle.lw_text.proofs.Elements.{each_of, all_map, all_parts, all_unmap}
+use Rattle.lw_base.proofs.Elements.{each_of, all_map, all_parts, all_unmap}
 use Rattle.lw_text.proofs.TokenRows.{texts_placed}
 
 -- what is left of what is left of some tokens is left of them

@@ -22,7 +22,7 @@ use Rattle.lw_text.specs.Sites.{SiteSyntax, InMemory, InThread, IsSite, ThreadEx
 use Rattle.lw_text.specs.Lists.{Ended}
 use Rattle.lw_text.specs.Propositions.{Terminal, Open, Close, Negation, Conjunction, Disjunction, Atom}
 use Rattle.lw_text.specs.Conditions.{AtomSyntax, Always, Never, Holds, IsTerminal, Terminals, Quantified, sites_in, resolved}
-use Rattle.lw_text.proofs.Elements.{all_append}
+use Rattle.lw_base.proofs.Elements.{all_append}
 use Rattle.lw_text.proofs.Spelling.{decimal_is_number}
 use Rattle.lw_text.proofs.PrintedPropositions.{enclosed, enclosed_if, terminals_of}
 

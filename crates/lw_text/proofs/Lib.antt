@@ -1,7 +1,4 @@
 pub mod Faults
-pub mod Elements
-pub mod SeenLists
-pub mod ListedAgain
 pub mod PropositionNodes
 pub mod Numbers
 pub mod Texts

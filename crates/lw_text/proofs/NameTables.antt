@@ -18,7 +18,8 @@ use Rattle.lw_text.specs.declared.site.Site.{Site}
 use Rattle.lw_text.specs.declared.site.Site.TheVariants as made
 use Rattle.lw_text.specs.declared.block.Entry.{Entry}
 use Rattle.lw_text.specs.Sites.{InMemory, seen_in}
-use Rattle.lw_text.specs.Frames.{same_seen, word_of}
+use Rattle.lw_base.specs.SeenLists.{same_seen}
+use Rattle.lw_text.specs.Frames.{word_of}
 use Rattle.lw_text.specs.Resolved.{named, named_entry, seen_of, IsIn, word_at, is_listed}
 
 -- ---- the place of a name

@@ -12,9 +12,10 @@ use Rattle.lw_text.specs.declared.site.Site.{Site}
 use Rattle.lw_text.specs.declared.parts.Body.{Body}
 use Rattle.lw_text.specs.Sites.{site_names}
 use Rattle.lw_text.specs.Conditions.{sites_in}
-use Rattle.lw_text.specs.Frames.{registers_of, all_registers, locations, word_of, listed_in, table, head_of_syntax}
+use Rattle.lw_base.specs.SeenLists.{registers_of, all_registers, locations}
+use Rattle.lw_text.specs.Frames.{word_of, listed_in, table, head_of_syntax}
 use Rattle.lw_text.specs.Resolved.{named, named_entry, IsIn, word_at, is_listed, resolved_head, HasSyntax}
-use Rattle.lw_text.proofs.Elements.{each_of}
+use Rattle.lw_base.proofs.Elements.{each_of}
 use Rattle.lw_text.proofs.NameTables.{words-named, listed-named}
 
 map_same : {X Y : Type 0} (f g : X → Y) → ((x : X) → f x ≡ g x) → (xs : List X) → map f xs ≡ map g xs

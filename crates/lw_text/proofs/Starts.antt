@@ -3,15 +3,14 @@ use Rattle.std.proofs.Common.{◌≡◌, ℕ, zero, suc, ◌+◌, ◌<◌, ◌�
 use Rattle.std.specs.Prelude.{filter, if◌then◌else◌}
 use Rattle.std.specs.List.{flat_map, range_with_len}
 use Rattle.std.proofs.lemmas.Grind.{flat_map-append}
-use Rattle.std.proofs.lemmas.List.{take_more, append-nil, map_push}
+use Rattle.std.proofs.lemmas.List.{take_more, append-nil, map_push, get_or-take, length-take}
 use Rattle.std.proofs.lemmas.List.Sums.{fold-append}
 use Rattle.std.proofs.lemmas.List.Elements.{filter-append}
-use Rattle.std.proofs.lemmas.List.{get_or-take, length-take}
 use Rattle.std.proofs.lemmas.List.FromFn.{map-range_with_len_more, get_or-range_with_len, length-range_with_len}
 use Rattle.lw_base.specs.declared.head.Seen.{Seen}
 use Rattle.lw_base.specs.declared.head.Seen.TheVariants.{Location}
 use Rattle.lw_text.specs.declared.block.Entry.{Entry}
-use Rattle.lw_text.specs.Frames.{same_seen, registers_of, all_registers, locations}
+use Rattle.lw_base.specs.SeenLists.{same_seen, registers_of, all_registers, locations}
 use Rattle.lw_text.specs.Resolved.{seen_of, word_at}
 
 -- an element of the first so many numbers is its index

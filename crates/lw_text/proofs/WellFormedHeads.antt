@@ -18,12 +18,13 @@ use Rattle.lw_text.specs.Lists.{Ended}
 use Rattle.lw_text.specs.Sites.{SiteSyntax, InMemory, InThread, IsSite, ThreadExists, site_names, seen_in}
 use Rattle.lw_text.specs.Propositions.{Terminal, Open, Close, Negation, Conjunction, Disjunction, Atom, Nonterminal, Part, Ands, Ors, Derives, atom, negated, parens, no_and, and, no_or, or, IsProposition}
 use Rattle.lw_text.specs.Conditions.{AtomSyntax, Always, Never, Holds, IsTerminal, Terminals, Listed, site_of, sites_in, resolved}
-use Rattle.lw_text.specs.Frames.{EntrySyntax, IsEntry, Block, same_seen, registers_of, all_registers, locations, word_of, table, TestSyntax, Parts, TestFrame, HasFrame, head_of_syntax}
+use Rattle.lw_text.specs.Frames.{EntrySyntax, IsEntry, Block, word_of, table, TestSyntax, Parts, TestFrame, HasFrame, head_of_syntax}
+use Rattle.lw_base.specs.SeenLists.{same_seen, registers_of, all_registers, locations}
 use Rattle.lw_text.specs.Headings.{Heading}
 use Rattle.lw_text.specs.declared.parts.Body.{Body}
 use Rattle.lw_text.specs.Resolved.{HasSyntax, resolved_head}
-use Rattle.lw_text.proofs.Elements.{all_append, all_filter, all_of_range, all_mapped}
-use Rattle.lw_text.proofs.SeenLists.{ascending_filter, all_seen, all_ascending}
+use Rattle.lw_base.proofs.Elements.{all_append, all_filter, all_of_range, all_mapped}
+use Rattle.lw_base.proofs.SeenLists.{ascending_filter, all_seen, all_ascending}
 use Rattle.lw_text.proofs.PropositionNodes.{proposition_nodes, resolved_single, resolved_count}
 use Rattle.lw_text.proofs.ResolvedHeads.{head_made}
 use Rattle.lw_text.proofs.PropositionRows.{ThreadExists as IsNamed, AllThere, there_now, all_more}

@@ -1,15 +1,15 @@
 -- A text's frame: all of a test but what its cells say.
-use Rattle.std.specs.Prelude.{◌≡◌, ℕ, ◌≤◌, ◌==◌, ◌&&◌, Bool, false, if◌then◌else◌, List, [], ◌∷◌, ◌++◌, length, map, filter, fold, codes}
-use Rattle.std.specs.List.{list_any, flat_map, range_with_len, AllByRecursion}
+use Rattle.std.specs.Prelude.{◌≡◌, ℕ, ◌≤◌, if◌then◌else◌, List, [], ◌∷◌, ◌++◌, length, map, filter, fold, codes}
+use Rattle.std.specs.List.{list_any, range_with_len, AllByRecursion}
 use Rattle.std.specs.Str.{IsUtf8}
 use Rattle.lw_base.specs.Types.{NameTable, Bytes, TokenList, CellGrid}
-use Rattle.lw_base.specs.Limits.{most_locations, most_text_bytes, registers}
+use Rattle.lw_base.specs.Limits.{most_locations, most_text_bytes}
 use Rattle.lw_base.specs.declared.head.Arch.{Arch}
 use Rattle.lw_base.specs.declared.head.Quant.{Quant}
 use Rattle.lw_base.specs.declared.head.Seen.{Seen}
-use Rattle.lw_base.specs.declared.head.Seen.TheVariants.{Register, Location}
 use Rattle.lw_base.specs.Formula.{Formula}
 use Rattle.lw_base.specs.Heads.{TestHead}
+use Rattle.lw_base.specs.SeenLists.{same_seen, registers_of, all_registers, locations}
 use Rattle.lw_base.specs.Tables.{with_names}
 use Rattle.lw_text.specs.Tokens.{Tokens}
 use Rattle.lw_text.specs.Headings.{Heading}
@@ -79,27 +79,10 @@ pub record TestFrame : Type 0 where
   pub head : TestHead
   pub cells : CellGrid
 
-abbrev pub same_seen : Seen → Seen → Bool
-same_seen (Register t r) (Register u s) = (t == u) && (r == s)
-same_seen (Register t r) (Location x) = false
-same_seen (Location x) (Register t r) = false
-same_seen (Location x) (Location y) = x == y
-
 -- the word of a register or location at the start: that of the last entry for it, or 0
 abbrev pub word_of : NameTable → List EntrySyntax → Seen → ℕ
 word_of names entries s =
     fold (λ w e. if same_seen (seen_in names e.site) s then e.word else w) 0 entries
-
--- the registers of a thread, and those of all threads
-abbrev pub registers_of : ℕ → List Seen
-registers_of t = map (λ r. Register t r) (range_with_len 0 registers)
-
-abbrev pub all_registers : ℕ → List Seen
-all_registers threads = flat_map registers_of (range_with_len 0 threads)
-
--- the locations of a table of this length
-abbrev pub locations : ℕ → List Seen
-locations len = map (λ x. Location x) (range_with_len 0 len)
 
 -- what is listed, each once: registers by thread and number, then locations by number
 abbrev pub listed_in : ℕ → NameTable → List SiteSyntax → List Seen

@@ -14,7 +14,8 @@ use Rattle.lw_text.specs.declared.parts.HeadParts.{HeadParts}
 use Rattle.lw_text.specs.declared.parts.Body.{Body}
 use Rattle.lw_text.specs.Sites as syntax
 use Rattle.lw_text.specs.Frames as frames
-use Rattle.lw_text.specs.Frames.{same_seen, registers_of, all_registers, locations, table, Parts}
+use Rattle.lw_base.specs.SeenLists.{same_seen, registers_of, all_registers, locations}
+use Rattle.lw_text.specs.Frames.{table, Parts}
 use Rattle.lw_text.specs.declared.terminal.Terminal.{Terminal as MadeTerminal}
 use Rattle.lw_text.specs.declared.terminal.Terminal.TheVariants as terminals
 use Rattle.lw_text.specs.declared.terminal.Atom.{Atom}

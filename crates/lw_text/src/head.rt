@@ -4,7 +4,7 @@ ghost use Rattle.std.specs.List.{range_with_len};
 ghost use Rattle.lw_base.specs.Heads.{head_of};
 ghost use Rattle.lw_base.specs.Names.{IsTestName};
 ghost use Rattle.lw_base.specs.Types.{TokenList};
-ghost use Rattle.lw_text.specs.Frames.{registers_of, all_registers, locations};
+ghost use Rattle.lw_base.specs.SeenLists.{registers_of, all_registers, locations};
 ghost use Rattle.lw_text.specs.Resolved.{resolved_head, word_at, is_listed, HasSyntax};
 ghost use Rattle.lw_text.specs.Rows.{columns};
 ghost use Rattle.lw_text.specs.Places.{IsWithin};

@@ -1,7 +1,7 @@
 //! The words that a test's registers and locations begin with.
 ghost use Rattle.std.specs.Prelude.{◌≡◌, ◌≤◌, map, IfOk};
 ghost use Rattle.std.specs.List.{range_with_len};
-ghost use Rattle.lw_text.specs.Frames.{registers_of, locations};
+ghost use Rattle.lw_base.specs.SeenLists.{registers_of, locations};
 ghost use Rattle.lw_text.specs.Resolved.{seen_of, word_at};
 
 use crate::block::Entry;

@@ -1,6 +1,6 @@
 //! What a report shows: the registers and locations that a test's list of names has, each once.
 ghost use Rattle.std.specs.Prelude.{◌≡◌, ◌≤◌, ◌<◌, ◌∷◌, [], ◌++◌, filter, IfOk, OnOk};
-ghost use Rattle.lw_text.specs.Frames.{registers_of, all_registers, locations};
+ghost use Rattle.lw_base.specs.SeenLists.{registers_of, all_registers, locations};
 ghost use Rattle.lw_text.specs.Resolved.{seen_of, is_listed};
 
 use crate::site::Site;

@@ -7,7 +7,7 @@ ghost use Rattle.lw_base.specs.Registers.{IsRegister};
 ghost use Rattle.lw_base.specs.Tables.{with_name};
 ghost use Rattle.lw_text.specs.Sites.{HasRoomFor, HasRoomForName, with_sites, SiteSyntax, InMemory, InThread, IsSite, ThreadAllowed, Value};
 ghost use Rattle.lw_text.specs.declared.fault.Cause.TheVariants.{Memory};
-ghost use Rattle.lw_text.specs.Frames.{same_seen};
+ghost use Rattle.lw_base.specs.SeenLists.{same_seen};
 ghost use Rattle.lw_text.specs.Resolved.{named, seen_of, IsIn};
 ghost use Rattle.lw_text.specs.Resolved as resolved;
 

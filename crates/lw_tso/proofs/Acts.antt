@@ -9,8 +9,8 @@ use Rattle.lw_memory.specs.declared.system.Request.{Request}
 use Rattle.lw_memory.specs.declared.system.Request.TheVariants.{Load, Store, Swap, FetchAdd, Evict}
 use Rattle.lw_memory.specs.Content.{content_after}
 use Rattle.lw_memory.specs.Memory.{Memory, Lawful, Served, is_held}
-use Rattle.lw_cells.proofs.Lists.{set_own}
-use Rattle.lw_x86.specs.declared.instr.Instr.{Instr}
+use Rattle.lw_base.proofs.Lists.{set_own}
+use Rattle.lw_litmus.specs.declared.instr.Instr.{Instr}
 use Rattle.lw_tso.specs.Processors.{Processor}
 use Rattle.lw_tso.specs.Acts.{Act, Refused, Goes, Loads, Stores, Swaps, Adds, Evicts, cpu_of, event_act}
 use Rattle.lw_tso.specs.Machines.{MachineState, Answer, ActDone, EvictionDone, DoneBy, EventDone}

@@ -12,10 +12,10 @@ use Rattle.lw_base.specs.declared.event.Event.{Event}
 use Rattle.lw_base.specs.declared.event.Event.TheVariants.{Step, Drain, Evict}
 use Rattle.lw_memory.specs.declared.system.Request.TheVariants as to
 use Rattle.lw_memory.specs.Memory.{Memory, Lawful}
-use Rattle.lw_cells.specs.Tests.{IsThread, IsStatement}
-use Rattle.lw_x86.specs.declared.instr.Instr.{Instr}
-use Rattle.lw_x86.specs.declared.instr.Instr.TheVariants.{Store, Load, Set, Add, Cmp, Xchg, Xadd, Mfence, Je, Jne, Jmp}
-use Rattle.lw_x86.specs.Programs.{ProgramTest, IsWellFormedProgram, x86, target_of}
+use Rattle.lw_litmus.specs.Tests.{IsThread, IsStatement}
+use Rattle.lw_litmus.specs.declared.instr.Instr.{Instr}
+use Rattle.lw_litmus.specs.declared.instr.Instr.TheVariants.{Store, Load, Set, Add, Cmp, Xchg, Xadd, Mfence, Je, Jne, Jmp}
+use Rattle.lw_litmus.specs.Programs.{ProgramTest, IsWellFormedProgram, x86, target_of}
 use Rattle.lw_tso.specs.Processors.{Processor}
 use Rattle.lw_base.specs.Threads.{code_of}
 use Rattle.lw_base.proofs.Replays.{Ran-append}

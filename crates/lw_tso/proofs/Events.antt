@@ -13,10 +13,10 @@ use Rattle.lw_base.specs.declared.event.Event.TheVariants.{Step, Evict}
 use Rattle.lw_base.specs.declared.stop.Stop.TheVariants.{NoCpu, NoLocation, Ended, NotHeld}
 use Rattle.lw_memory.specs.declared.system.Request.TheVariants as to
 use Rattle.lw_memory.specs.Memory.{Memory, Lawful, is_held}
-use Rattle.lw_cells.proofs.Lists.{each_after, set_own}
-use Rattle.lw_cells.specs.Tests.{IsThread, IsStatement}
-use Rattle.lw_x86.specs.declared.instr.Instr.{Instr}
-use Rattle.lw_x86.specs.Programs.{x86, location_of}
+use Rattle.lw_base.proofs.Lists.{each_after, set_own}
+use Rattle.lw_litmus.specs.Tests.{IsThread, IsStatement}
+use Rattle.lw_litmus.specs.declared.instr.Instr.{Instr}
+use Rattle.lw_litmus.specs.Programs.{x86, location_of}
 use Rattle.lw_tso.specs.declared.processor.Processor.{Processor as ProcessorInMemory}
 use Rattle.lw_tso.specs.Processors.{Processor}
 use Rattle.lw_base.specs.Threads.{code_of}

@@ -8,10 +8,10 @@ use Rattle.lw_base.specs.declared.stop.Stop.TheVariants.{NoLocation, FenceWaits,
 use Rattle.lw_memory.specs.declared.system.Request.TheVariants as to
 use Rattle.lw_memory.specs.Flat.{flat}
 use Rattle.lw_memory.specs.Memory.{Memory, Lawful, is_held}
-use Rattle.lw_cells.proofs.Lists.{set_own}
-use Rattle.lw_x86.specs.declared.instr.Instr.{Instr}
-use Rattle.lw_x86.specs.declared.instr.Instr.TheVariants.{Store, Load, Set, Add, Cmp, Xchg, Xadd, Mfence, Je, Jne, Jmp}
-use Rattle.lw_x86.specs.Programs.{ProgramTest}
+use Rattle.lw_base.proofs.Lists.{set_own}
+use Rattle.lw_litmus.specs.declared.instr.Instr.{Instr}
+use Rattle.lw_litmus.specs.declared.instr.Instr.TheVariants.{Store, Load, Set, Add, Cmp, Xchg, Xadd, Mfence, Je, Jne, Jmp}
+use Rattle.lw_litmus.specs.Programs.{ProgramTest}
 use Rattle.lw_tso.specs.Processors.{Processor, newest}
 use Rattle.lw_base.specs.Threads.{code_of}
 use Rattle.lw_tso.specs.Acts.{Act, Refused, Goes, Loads, Stores, Swaps, Adds, Evicts, cpu_of, event_act, step_act, drain_act, load_act, once_empty}

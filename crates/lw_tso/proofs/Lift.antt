@@ -15,11 +15,11 @@ use Rattle.lw_memory.specs.declared.system.Request.TheVariants as to
 use Rattle.lw_memory.specs.Content.{answer_of, content_after}
 use Rattle.lw_memory.specs.Flat.{flat}
 use Rattle.lw_memory.specs.Memory.{Memory, Lawful, IsInRange, IsPossible}
-use Rattle.lw_cells.specs.Tests.{IsThread, IsStatement}
-use Rattle.lw_cells.proofs.Lists.{each_after}
-use Rattle.lw_x86.specs.declared.instr.Instr.{Instr}
-use Rattle.lw_x86.specs.declared.instr.Instr.TheVariants.{Store, Load, Set, Add, Cmp, Xchg, Xadd, Mfence, Je, Jne, Jmp}
-use Rattle.lw_x86.specs.Programs.{ProgramTest, IsWellFormedProgram, x86}
+use Rattle.lw_litmus.specs.Tests.{IsThread, IsStatement}
+use Rattle.lw_base.proofs.Lists.{each_after}
+use Rattle.lw_litmus.specs.declared.instr.Instr.{Instr}
+use Rattle.lw_litmus.specs.declared.instr.Instr.TheVariants.{Store, Load, Set, Add, Cmp, Xchg, Xadd, Mfence, Je, Jne, Jmp}
+use Rattle.lw_litmus.specs.Programs.{ProgramTest, IsWellFormedProgram, x86}
 use Rattle.lw_tso.specs.Processors.{Processor, newest, starting}
 use Rattle.lw_base.specs.Threads.{code_of}
 use Rattle.lw_tso.specs.Acts.{Act, Refused, Goes, Loads, Stores, Swaps, Adds, Evicts, cpu_of, event_act, step_act, drain_act, load_act, once_empty}

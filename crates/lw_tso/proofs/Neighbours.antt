@@ -8,8 +8,8 @@ use Rattle.lw_base.specs.Threads.{code_of}
 use Rattle.lw_base.specs.declared.event.Event.{Event}
 use Rattle.lw_base.specs.declared.event.Event.TheVariants.{Step, Drain, Evict}
 use Rattle.lw_memory.specs.Flat.{flat}
-use Rattle.lw_cells.proofs.Lists.{got_set_same, got_set_other}
-use Rattle.lw_x86.specs.declared.instr.Instr.{Instr}
+use Rattle.lw_base.proofs.Lists.{got_set_same, got_set_other}
+use Rattle.lw_litmus.specs.declared.instr.Instr.{Instr}
 use Rattle.lw_tso.specs.Processors.{Processor}
 use Rattle.lw_tso.specs.Acts.{Act, Stores, cpu_of, event_act, step_act, drain_act}
 use Rattle.lw_tso.specs.Machines.{MachineState, position_of, EventDone}

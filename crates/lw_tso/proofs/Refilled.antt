@@ -1,7 +1,7 @@
 -- Lists whose items are put in the places of others, one after another.
 use Rattle.std.proofs.Common.{◌≡◌, ℕ, ◌+◌, ◌<◌, ◌≤◌, List, [], ◌∷◌, length, map, set, take, get_or, Some, refl, sym, ap, ◌∙◌, arith, slice_get}
 use Rattle.std.proofs.lemmas.List.{map-append, map-set, map_more, take_all, take_more_set}
-use Rattle.lw_cells.proofs.Lists.{set_own}
+use Rattle.lw_base.proofs.Lists.{set_own}
 
 -- one item more
 pub refilled : {X Y Z : Type 0} (f : X → Z) (g : Y → Z) (xs : List X) (ys : List Y) (i : ℕ) (x : X) (d : Y) → i < length xs → i < length ys

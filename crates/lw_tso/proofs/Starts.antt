@@ -8,7 +8,7 @@ use Rattle.std.proofs.lemmas.List.Elements.{All-nil}
 use Rattle.std.proofs.lemmas.Option.{slice_get-map, same_Some}
 use Rattle.circular_buffer.proofs.Places.{slice_get-push, slice_get-last}
 use Rattle.lw_memory.specs.Memory.{Memory}
-use Rattle.lw_x86.specs.declared.instr.Instr.{Instr}
+use Rattle.lw_litmus.specs.declared.instr.Instr.{Instr}
 use Rattle.lw_tso.specs.declared.processor.Processor.{Processor as ProcessorInMemory}
 use Rattle.lw_tso.specs.Processors.{starting}
 use Rattle.lw_base.specs.Threads.{code_of}

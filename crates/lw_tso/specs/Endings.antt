@@ -3,7 +3,7 @@ use Rattle.std.specs.Prelude.{◌≡◌, ℕ, ◌≤◌, ◌==◌, List, IsTrue}
 use Rattle.std.specs.List.{count_by}
 use Rattle.lw_base.specs.declared.event.Event.{Event}
 use Rattle.lw_memory.specs.Memory.{Memory}
-use Rattle.lw_x86.specs.declared.instr.Instr.{Instr}
+use Rattle.lw_litmus.specs.declared.instr.Instr.{Instr}
 use Rattle.lw_tso.specs.Acts.{cpu_of}
 use Rattle.lw_tso.specs.Machines.{MachineState}
 use Rattle.lw_tso.specs.Runs.{MachineRan, is_final}

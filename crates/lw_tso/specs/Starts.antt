@@ -1,7 +1,7 @@
 -- The memories on which a program can start.
 use Rattle.std.specs.Prelude.{◌≡◌, ◌≤◌, length}
 use Rattle.lw_memory.specs.Memory.{Memory}
-use Rattle.lw_x86.specs.Programs.{ProgramTest}
+use Rattle.lw_litmus.specs.Programs.{ProgramTest}
 
 -- A state of the memory system that can be reached, with a processor for each thread, and the test's initial words as
 -- content.

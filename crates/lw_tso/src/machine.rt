@@ -3,7 +3,7 @@ ghost use Rattle.std.specs.Prelude.{◌≡◌, ◌<◌, ◌≤◌, ℕ, length, 
 ghost use Rattle.std.specs.List.{list_all, zip};
 ghost use Rattle.lw_base.specs.declared.event.Event.TheVariants as of;
 ghost use Rattle.lw_memory.specs.Memory.{memory_of};
-ghost use Rattle.lw_cells.specs.Tests.{test_of};
+ghost use Rattle.lw_litmus.specs.Tests.{test_of};
 ghost use Rattle.lw_tso.specs.Processors.{starting};
 ghost use Rattle.lw_tso.specs.Machines.{EventDone, buffer_of};
 ghost use Rattle.lw_tso.specs.Runs.{is_done, start_with, machine_start, machine_outcome, MachineReplayed};
@@ -15,8 +15,8 @@ ghost use Rattle.lw_tso.specs.declared.processor.Processor.{Processor as Process
 
 use crate::processor::Processor;
 use lw_base::{Cpu, End, Event, Loc, Outcome, Reg, Replay, Sequence, Stop, Word};
+use lw_litmus::{Instr, Program};
 use lw_memory::{MemorySystem, NotHeld};
-use lw_x86::{Instr, Program};
 use std::alloc::{AllocError, Allocator, Global};
 use std::marker::Model;
 

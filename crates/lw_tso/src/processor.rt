@@ -3,7 +3,7 @@ ghost use Rattle.std.specs.Prelude.{◌≡◌, ◌+◌, ◌<◌, ◌≤◌, ◌^
 ghost use Rattle.std.specs.Option.{ForSome};
 ghost use Rattle.lw_base.specs.Sums.{sum_of};
 ghost use Rattle.lw_memory.specs.Memory.{memory_of};
-ghost use Rattle.lw_x86.specs.Programs.{location_of};
+ghost use Rattle.lw_litmus.specs.Programs.{location_of};
 ghost use Rattle.lw_base.specs.Threads.{value_of};
 ghost use Rattle.lw_tso.specs.Processors as table;
 ghost use Rattle.lw_tso.specs.Processors.{starting, going_on, getting, flagging, buffering, jumping};
@@ -14,8 +14,8 @@ ghost use Rattle.lw_tso.specs.Views.{processor_of};
 
 use crate::buffer::StoreBuffer;
 use lw_base::{Cpu, Loc, Operand, Reg, Stop, Word};
+use lw_litmus::Instr;
 use lw_memory::MemorySystem;
-use lw_x86::Instr;
 use std::alloc::{AllocError, Allocator, Global};
 
 /// A processor, which carries out the code of the thread of its number.

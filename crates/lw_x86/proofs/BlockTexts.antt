@@ -5,7 +5,7 @@ use Rattle.std.proofs.lemmas.Grind.{flat_map-append}
 use Rattle.lw_base.specs.Types.{Bytes}
 use Rattle.lw_base.specs.Heads.{TestHead}
 use Rattle.lw_base.specs.declared.head.Seen.TheVariants.{Register, Location}
-use Rattle.lw_text.specs.Frames.{registers_of, all_registers, locations}
+use Rattle.lw_base.specs.SeenLists.{registers_of, all_registers, locations}
 use Rattle.lw_x86.specs.CanonicalTexts.{entry_text, register_entry}
 
 -- of a location, of a thread's register, and of all registers of a thread

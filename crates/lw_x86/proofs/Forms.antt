@@ -19,9 +19,9 @@ use Rattle.lw_x86.specs.declared.mnemonic.Mnemonic.{Mnemonic}
 use Rattle.lw_x86.specs.declared.mnemonic.Mnemonic.TheVariants.{Add, Cmp, Mfence, Je, Jne, Jmp}
 use Rattle.lw_x86.specs.Instructions.{InstructionSyntax, Jumps_if_equal, Jumps_if_not_equal, Jumps, Instruction, IsValue, OnRegister, JumpsBy}
 use Rattle.lw_x86.specs.Mnemonics.{mnemonic_text, Names}
-use Rattle.lw_x86.specs.Programs.{x86}
 use Rattle.lw_x86.specs.Drafts.{draft_of}
 use Rattle.lw_x86.specs.Readings.{Opens, mnemonic_of}
+use Rattle.lw_x86.specs.Grammar.{x86_grammar}
 use Rattle.lw_x86.proofs.Openings.{by_mnemonic}
 use Rattle.lw_x86.proofs.Registers.{other_first, value_length}
 
@@ -35,7 +35,7 @@ no_fence ts opens long s says = by_mnemonic (λ i. Instruction ts i → ⊥) Mfe
 
 -- ---- jumps
 
-pub jump_read : (ts : List (List ℕ)) (jump : Jump) (names : List (List ℕ)) (l : List ℕ) → Opens (mnemonic_of jump) ts → slice_get ts 1 ≡ Some l → length ts ≤ 2 → IsLocation l → StatementRead x86 draft_of ts names (Jumping jump 1) names
+pub jump_read : (ts : List (List ℕ)) (jump : Jump) (names : List (List ℕ)) (l : List ℕ) → Opens (mnemonic_of jump) ts → slice_get ts 1 ≡ Some l → length ts ≤ 2 → IsLocation l → StatementRead x86_grammar draft_of ts names (Jumping jump 1) names
 jump_read ts Equal names l o e h loc = record { syntax = Jumps_if_equal l; says = (o.0, two ts o.0 l o.1 e h, o.2, loc); names = refl; made = refl }
 jump_read ts NotEqual names l o e h loc = record { syntax = Jumps_if_not_equal l; says = (o.0, two ts o.0 l o.1 e h, o.2, loc); names = refl; made = refl }
 jump_read ts Always names l o e h loc = record { syntax = Jumps l; says = (o.0, two ts o.0 l o.1 e h, o.2, loc); names = refl; made = refl }

@@ -19,14 +19,14 @@ use Rattle.lw_cells.specs.Reading.{Fits, StatementRead, StatementCause}
 use Rattle.lw_cells.proofs.TokenRows.{same_token, number_first}
 use Rattle.lw_text.specs.Tokens.{IsNumber}
 use Rattle.lw_x86.specs.declared.access.Access.{Access}
-use Rattle.lw_x86.specs.declared.instr.Instr.TheVariants as instr
+use Rattle.lw_litmus.specs.declared.instr.Instr.TheVariants as instr
 use Rattle.lw_x86.specs.declared.mnemonic.Mnemonic.{Mnemonic}
 use Rattle.lw_x86.specs.declared.mnemonic.Mnemonic.TheVariants.{Mov, Xchg, Xadd, Lock}
 use Rattle.lw_x86.specs.Instructions.{InstructionSyntax, Stores, Loads, Sets, Exchanges, Exchanges_adding, Instruction, IsValue, OnRegister, MemoryFirst, MemoryLast, BeforeLocation, Locked}
 use Rattle.lw_x86.specs.Mnemonics.{mnemonic_text, Names}
-use Rattle.lw_x86.specs.Programs.{x86}
 use Rattle.lw_x86.specs.Drafts.{draft_of}
 use Rattle.lw_x86.specs.Readings.{Opens, AccessRead, CauseBehind, first_form, last_form, exchange_form}
+use Rattle.lw_x86.specs.Grammar.{x86_grammar}
 use Rattle.lw_x86.proofs.Openings.{by_mnemonic, one_opening, some_opening, exchange_opens}
 use Rattle.lw_x86.proofs.Registers.{bracket_register}
 
@@ -81,7 +81,7 @@ value_bracketed m ts d v at h =
 pub access_wider : (form other : List ℕ → ℕ → Type 0) (before after : List (List ℕ)) (access : Access) → ((x : List ℕ) (a : ℕ) → form x a → other x a) → AccessRead form before access after → AccessRead other before access after
 access_wider form other before after access wide r = record { name = r.name; says = wide r.name access.reg r.says; names = r.names; placed = r.placed }
 
-pub exchange_read : (ts rest before after : List (List ℕ)) (access : Access) → ((ts ≡ rest) ⊎ Locked ts rest) → AccessRead (exchange_form Xchg rest) before access after → StatementRead x86 draft_of ts before (Whole (instr.Xchg access.loc access.reg)) after
+pub exchange_read : (ts rest before after : List (List ℕ)) (access : Access) → ((ts ≡ rest) ⊎ Locked ts rest) → AccessRead (exchange_form Xchg rest) before access after → StatementRead x86_grammar draft_of ts before (Whole (instr.Xchg access.loc access.reg)) after
 exchange_read ts rest before after access lock r =
     record {
       syntax = Exchanges r.name access.reg;
@@ -90,7 +90,7 @@ exchange_read ts rest before after access lock r =
       made = ap (λ (x : ℕ). Whole (instr.Xchg x access.reg)) r.placed;
     }
 
-pub add_read : (ts rest before after : List (List ℕ)) (access : Access) → Locked ts rest → AccessRead (first_form Xadd rest) before access after → StatementRead x86 draft_of ts before (Whole (instr.Xadd access.loc access.reg)) after
+pub add_read : (ts rest before after : List (List ℕ)) (access : Access) → Locked ts rest → AccessRead (first_form Xadd rest) before access after → StatementRead x86_grammar draft_of ts before (Whole (instr.Xadd access.loc access.reg)) after
 add_read ts rest before after access lock r =
     record {
       syntax = Exchanges_adding r.name access.reg;
@@ -99,7 +99,7 @@ add_read ts rest before after access lock r =
       made = ap (λ (x : ℕ). Whole (instr.Xadd x access.reg)) r.placed;
     }
 
-pub load_read : (ts before after : List (List ℕ)) (access : Access) → AccessRead (last_form Mov ts) before access after → StatementRead x86 draft_of ts before (Whole (instr.Load access.reg access.loc)) after
+pub load_read : (ts before after : List (List ℕ)) (access : Access) → AccessRead (last_form Mov ts) before access after → StatementRead x86_grammar draft_of ts before (Whole (instr.Load access.reg access.loc)) after
 load_read ts before after access r =
     record {
       syntax = Loads access.reg r.name;
@@ -108,7 +108,7 @@ load_read ts before after access r =
       made = ap (λ (x : ℕ). Whole (instr.Load access.reg x)) r.placed;
     }
 
-pub set_read : (ts names : List (List ℕ)) (d : ℕ) (v : Operand) → OnRegister (codes "MOV") ts d v → StatementRead x86 draft_of ts names (Whole (instr.Set d v)) names
+pub set_read : (ts names : List (List ℕ)) (d : ℕ) (v : Operand) → OnRegister (codes "MOV") ts d v → StatementRead x86_grammar draft_of ts names (Whole (instr.Set d v)) names
 set_read ts names d v h = record { syntax = Sets d v; says = h; names = refl; made = refl }
 
 -- the tokens of a store
@@ -126,7 +126,7 @@ five_first (v ∷ w ∷ x ∷ y ∷ z ∷ ts) a b c d e p q r s t =
     let j : z ≡ e = cc in
     rw (f, g, h, i, j) refl
 
-pub store_read : (ts before after : List (List ℕ)) (x : List ℕ) (loc : ℕ) (v : Operand) → Opens Mov ts → slice_get ts 1 ≡ Some (codes "[") → slice_get ts 2 ≡ Some x → slice_get ts 3 ≡ Some (codes "]") → slice_get ts 4 ≡ Some (codes ",") → IsLocation x → IsValue (drop 5 ts) v → after ≡ with_name before x → loc ≡ index_of after x → StatementRead x86 draft_of ts before (Whole (instr.Store loc v)) after
+pub store_read : (ts before after : List (List ℕ)) (x : List ℕ) (loc : ℕ) (v : Operand) → Opens Mov ts → slice_get ts 1 ≡ Some (codes "[") → slice_get ts 2 ≡ Some x → slice_get ts 3 ≡ Some (codes "]") → slice_get ts 4 ≡ Some (codes ",") → IsLocation x → IsValue (drop 5 ts) v → after ≡ with_name before x → loc ≡ index_of after x → StatementRead x86_grammar draft_of ts before (Whole (instr.Store loc v)) after
 store_read ts before after x loc v o b c d e name val names placed =
     record {
       syntax = Stores x v;
@@ -135,32 +135,32 @@ store_read ts before after x loc v o b c d e name val names placed =
       made = ap (λ (l : ℕ). Whole (instr.Store l v)) placed;
     }
 
-pub no_stored : (ts names : List (List ℕ)) → ((v : Operand) → IsValue (drop 5 ts) v → ⊥) → (x : List ℕ) (v : Operand) → Fits x86 names ts (Stores x v) → ⊥
+pub no_stored : (ts names : List (List ℕ)) → ((v : Operand) → IsValue (drop 5 ts) v → ⊥) → (x : List ℕ) (v : Operand) → Fits x86_grammar names ts (Stores x v) → ⊥
 no_stored ts names none x v (h, few) = none v (subst (λ (t : List (List ℕ)). IsValue t v) (sym (ap (drop 5) h.2)) h.5)
 
 -- ---- why nothing is said
 
 -- No instruction fits, of those that a mnemonic opens.
 abbrev pub NoneFits : List (List ℕ) → List (List ℕ) → InstructionSyntax → Type 0
-NoneFits names ts s = Fits x86 names ts s → ⊥
+NoneFits names ts s = Fits x86_grammar names ts s → ⊥
 
-pub no_store : (names ts : List (List ℕ)) → Opens Mov ts → slice_get ts 1 ≡ Some (codes "[") → ((x : List ℕ) (v : Operand) → Fits x86 names ts (Stores x v) → ⊥) → (s : InstructionSyntax) → Fits x86 names ts s → ⊥
+pub no_store : (names ts : List (List ℕ)) → Opens Mov ts → slice_get ts 1 ≡ Some (codes "[") → ((x : List ℕ) (v : Operand) → Fits x86_grammar names ts (Stores x v) → ⊥) → (s : InstructionSyntax) → Fits x86_grammar names ts s → ⊥
 no_store names ts opens at none s fits =
     by_mnemonic (NoneFits names ts) Mov ts opens
     (none, ((λ d x f. last_bracket (codes "MOV") ts x d at f.0), (λ d v f. register_bracketed (codes "MOV") ts d v at f.0))) s fits.0 fits
 
 -- a `MOV` without a `[` behind it
-pub no_load : (names ts : List (List ℕ)) → Opens Mov ts → (slice_get ts 1 ≡ Some (codes "[") → ⊥) → slice_get ts 3 ≡ Some (codes "[") → ((m : Mnemonic) (x : List ℕ) (a : ℕ) → last_form m ts x a → length (with_name names x) ≤ most_locations → ⊥) → (s : InstructionSyntax) → Fits x86 names ts s → ⊥
+pub no_load : (names ts : List (List ℕ)) → Opens Mov ts → (slice_get ts 1 ≡ Some (codes "[") → ⊥) → slice_get ts 3 ≡ Some (codes "[") → ((m : Mnemonic) (x : List ℕ) (a : ℕ) → last_form m ts x a → length (with_name names x) ≤ most_locations → ⊥) → (s : InstructionSyntax) → Fits x86_grammar names ts s → ⊥
 no_load names ts opens free at none s fits =
     by_mnemonic (NoneFits names ts) Mov ts opens
     ((λ x v f. free (ap (λ (t : List (List ℕ)). slice_get t 1) f.0.2)), ((λ d x f. none Mov x d f.0 f.1), (λ d v f. value_bracketed (codes "MOV") ts d v at f.0))) s fits.0 fits
 
-pub no_set : (names ts : List (List ℕ)) → Opens Mov ts → (slice_get ts 1 ≡ Some (codes "[") → ⊥) → (slice_get ts 3 ≡ Some (codes "[") → ⊥) → ((m : List ℕ) (d : ℕ) (v : Operand) → OnRegister m ts d v → ⊥) → (s : InstructionSyntax) → Fits x86 names ts s → ⊥
+pub no_set : (names ts : List (List ℕ)) → Opens Mov ts → (slice_get ts 1 ≡ Some (codes "[") → ⊥) → (slice_get ts 3 ≡ Some (codes "[") → ⊥) → ((m : List ℕ) (d : ℕ) (v : Operand) → OnRegister m ts d v → ⊥) → (s : InstructionSyntax) → Fits x86_grammar names ts s → ⊥
 no_set names ts opens free clear none s fits =
     by_mnemonic (NoneFits names ts) Mov ts opens
     ((λ x v f. free (ap (λ (t : List (List ℕ)). slice_get t 1) f.0.2)), ((λ d x f. clear (ap (λ (t : List (List ℕ)). slice_get t 3) f.0.2)), (λ d v f. none (codes "MOV") d v f.0))) s fits.0 fits
 
-pub no_exchange : (names ts : List (List ℕ)) → Opens Xchg ts → ((m : Mnemonic) (x : List ℕ) (a : ℕ) → exchange_form m ts x a → length (with_name names x) ≤ most_locations → ⊥) → (s : InstructionSyntax) → Fits x86 names ts s → ⊥
+pub no_exchange : (names ts : List (List ℕ)) → Opens Xchg ts → ((m : Mnemonic) (x : List ℕ) (a : ℕ) → exchange_form m ts x a → length (with_name names x) ≤ most_locations → ⊥) → (s : InstructionSyntax) → Fits x86_grammar names ts s → ⊥
 no_exchange names ts opens none s fits = by_mnemonic (NoneFits names ts) Xchg ts opens (λ x a f. alone x a f.0 f.1) s fits.0 fits
   where
     alone : (x : List ℕ) (a : ℕ) → Instruction ts (Exchanges x a) → length (with_name names x) ≤ most_locations → ⊥
@@ -180,7 +180,7 @@ module _ (names ts rest : List (List ℕ)) (opens : Opens Lock ts) (tail : rest 
   not_alone r x a same form =
       let e = one_opening ts Lock Xchg opens (subst (Opens Xchg) (sym same) (exchange_opens r Xchg x a form)) in absurd cc
 
-  no_locked : ((x : List ℕ) (a : ℕ) → exchange_form Xchg rest x a → length (with_name names x) ≤ most_locations → ⊥) → ((x : List ℕ) (a : ℕ) → first_form Xadd rest x a → length (with_name names x) ≤ most_locations → ⊥) → (s : InstructionSyntax) → Fits x86 names ts s → ⊥
+  no_locked : ((x : List ℕ) (a : ℕ) → exchange_form Xchg rest x a → length (with_name names x) ≤ most_locations → ⊥) → ((x : List ℕ) (a : ℕ) → first_form Xadd rest x a → length (with_name names x) ≤ most_locations → ⊥) → (s : InstructionSyntax) → Fits x86_grammar names ts s → ⊥
   no_locked exchange add s fits = by_mnemonic (NoneFits names ts) Lock ts opens ((λ x a f. first x a f.0 f.1), (λ x a f. second x a f.0 f.1)) s fits.0 fits
     where
       first : (x : List ℕ) (a : ℕ) → Instruction ts (Exchanges x a) → length (with_name names x) ≤ most_locations → ⊥
@@ -190,13 +190,13 @@ module _ (names ts rest : List (List ℕ)) (opens : Opens Lock ts) (tail : rest 
       second : (x : List ℕ) (a : ℕ) → Instruction ts (Exchanges_adding x a) → length (with_name names x) ≤ most_locations → ⊥
       second x a h few = add x a (subst (λ (t : List (List ℕ)). first_form Xadd t x a) (behind_lock h.0 h.1) h.2) few
 
-  pub no_locked_exchange : Opens Xchg rest → ((m : Mnemonic) (x : List ℕ) (a : ℕ) → exchange_form m rest x a → length (with_name names x) ≤ most_locations → ⊥) → (s : InstructionSyntax) → Fits x86 names ts s → ⊥
+  pub no_locked_exchange : Opens Xchg rest → ((m : Mnemonic) (x : List ℕ) (a : ℕ) → exchange_form m rest x a → length (with_name names x) ≤ most_locations → ⊥) → (s : InstructionSyntax) → Fits x86_grammar names ts s → ⊥
   no_locked_exchange second none = no_locked (none Xchg) (λ x a form few. (let e = one_opening rest Xchg Xadd second (exchange_opens rest Xadd x a (inl form)) in absurd cc))
 
-  pub no_locked_add : Opens Xadd rest → ((m : Mnemonic) (x : List ℕ) (a : ℕ) → first_form m rest x a → length (with_name names x) ≤ most_locations → ⊥) → (s : InstructionSyntax) → Fits x86 names ts s → ⊥
+  pub no_locked_add : Opens Xadd rest → ((m : Mnemonic) (x : List ℕ) (a : ℕ) → first_form m rest x a → length (with_name names x) ≤ most_locations → ⊥) → (s : InstructionSyntax) → Fits x86_grammar names ts s → ⊥
   no_locked_add second none = no_locked (λ x a form few. (let e = one_opening rest Xadd Xchg second (exchange_opens rest Xchg x a form) in absurd cc)) (none Xadd)
 
-  pub no_locked_other : ((m : Mnemonic) → Opens m rest → (m ≡ Xchg) ⊎ (m ≡ Xadd) → ⊥) → (s : InstructionSyntax) → Fits x86 names ts s → ⊥
+  pub no_locked_other : ((m : Mnemonic) → Opens m rest → (m ≡ Xchg) ⊎ (m ≡ Xadd) → ⊥) → (s : InstructionSyntax) → Fits x86_grammar names ts s → ⊥
   no_locked_other none = no_locked (λ x a form few. none Xchg (exchange_opens rest Xchg x a form) (inl refl)) (λ x a form few. none Xadd (exchange_opens rest Xadd x a (inl form)) (inr refl))
 
 -- no `LOCK` stands alone
@@ -205,7 +205,7 @@ rest_texts tokens rest e = ap texts e ∙ sym (drop-map (λ (t : Token). t.text.
 
 -- ---- why a location is refused
 
-pub statement_behind : (form : List (List ℕ) → Type 0) (tokens : List Token) (names : List (List ℕ)) (at : ℕ) (cause : CellCause) → ((ts : List (List ℕ)) → form ts → BeforeLocation ts) → CauseBehind form tokens names at cause → StatementCause x86 tokens names at cause
+pub statement_behind : (form : List (List ℕ) → Type 0) (tokens : List Token) (names : List (List ℕ)) (at : ℕ) (cause : CellCause) → ((ts : List (List ℕ)) → form ts → BeforeLocation ts) → CauseBehind form tokens names at cause → StatementCause x86_grammar tokens names at cause
 statement_behind form tokens names at Form before c = tt
 statement_behind form tokens names at cause_of.Register before c = tt
 statement_behind form tokens names at LabelMissing before c = c
@@ -215,7 +215,7 @@ statement_behind form tokens names at TooMany before c = record { place = c.plac
 statement_behind form tokens names at Memory before c = tt
 
 -- the same, of the tokens behind a `LOCK`
-pub locked_behind : (form : List (List ℕ) → Type 0) (tokens rest : List Token) (names : List (List ℕ)) (at : ℕ) (cause : CellCause) → Opens Lock (texts tokens) → rest ≡ drop 1 tokens → ((ts more : List (List ℕ)) → Locked ts more → form more → BeforeLocation ts) → CauseBehind form rest names at cause → StatementCause x86 tokens names at cause
+pub locked_behind : (form : List (List ℕ) → Type 0) (tokens rest : List Token) (names : List (List ℕ)) (at : ℕ) (cause : CellCause) → Opens Lock (texts tokens) → rest ≡ drop 1 tokens → ((ts more : List (List ℕ)) → Locked ts more → form more → BeforeLocation ts) → CauseBehind form rest names at cause → StatementCause x86_grammar tokens names at cause
 locked_behind form tokens rest names at Form opens tail before c = tt
 locked_behind form tokens rest names at cause_of.Register opens tail before c = tt
 locked_behind form tokens rest names at LabelMissing opens tail before c = c
@@ -224,7 +224,7 @@ locked_behind form tokens rest names at Backward opens tail before c = c
 locked_behind form tokens rest names at TooMany opens tail before c =
     go tokens opens tail
   where
-    go : (ts : List Token) → Opens Lock (texts ts) → rest ≡ drop 1 ts → StatementCause x86 ts names at TooMany
+    go : (ts : List Token) → Opens Lock (texts ts) → rest ≡ drop 1 ts → StatementCause x86_grammar ts names at TooMany
     go [] o e = absurd (let f : None ≡ Some o.0 = o.1 in cc)
     go (t ∷ ts) o e =
         let w : t.text.now ≡ o.0 = (let f : Some t.text.now ≡ Some o.0 = o.1 in cc) in
@@ -242,14 +242,14 @@ locked_behind form tokens rest names at Memory opens tail before c = tt
 -- ---- what a word opens
 
 -- a word that is no mnemonic begins no instruction
-pub no_mnemonic : (names ts : List (List ℕ)) (w : List ℕ) → slice_get ts 0 ≡ Some w → ((m : Mnemonic) → Names w m → ⊥) → (s : InstructionSyntax) → Fits x86 names ts s → ⊥
+pub no_mnemonic : (names ts : List (List ℕ)) (w : List ℕ) → slice_get ts 0 ≡ Some w → ((m : Mnemonic) → Names w m → ⊥) → (s : InstructionSyntax) → Fits x86_grammar names ts s → ⊥
 no_mnemonic names ts w first none s fits =
     let o = some_opening ts s fits.0 in
     let e : Some o.1.0 ≡ Some w = sym o.1.1 ∙ first in
     let same : o.1.0 ≡ w = cc in
     none o.0 (subst (λ (v : List ℕ). Names v o.0) same o.1.2)
 
-pub no_add_first : (names ts : List (List ℕ)) → Opens Xadd ts → (s : InstructionSyntax) → Fits x86 names ts s → ⊥
+pub no_add_first : (names ts : List (List ℕ)) → Opens Xadd ts → (s : InstructionSyntax) → Fits x86_grammar names ts s → ⊥
 no_add_first names ts opens s fits = by_mnemonic (NoneFits names ts) Xadd ts opens tt s fits.0 fits
 
 -- a word that is neither of the two

@@ -5,16 +5,17 @@ use Rattle.std.specs.List.{AllByRecursion, AllZip}
 use Rattle.lw_base.specs.Types.{Bytes, NameTable, TokenList, Cells}
 use Rattle.lw_base.specs.Names.{IsLocation}
 use Rattle.lw_text.specs.Rows.{begins_stop}
-use Rattle.lw_text.proofs.Elements.{all_append}
+use Rattle.lw_base.proofs.Elements.{all_append}
 use Rattle.lw_text.proofs.Spelling.{Anything, IsBlankNext, Spells, Spells-then, Spells-on, Spells-before, Spells-within, Spells-nothing, Spells-space, blank_ends_word}
 use Rattle.lw_text.proofs.PrintedConditions.{Spells-colon, blank_no_equals}
 use Rattle.lw_cells.specs.Cells.{CellSyntax, Labels, CellSays}
-use Rattle.lw_cells.specs.Tests.{IsStatement}
-use Rattle.lw_x86.specs.declared.instr.Instr.{Instr}
-use Rattle.lw_x86.specs.declared.instr.Instr.TheVariants.{Store, Load, Set, Add, Cmp, Xchg, Xadd, Mfence, Je, Jne, Jmp}
+use Rattle.lw_litmus.specs.Tests.{IsStatement}
+use Rattle.lw_litmus.specs.declared.instr.Instr.{Instr}
+use Rattle.lw_litmus.specs.declared.instr.Instr.TheVariants.{Store, Load, Set, Add, Cmp, Xchg, Xadd, Mfence, Je, Jne, Jmp}
 use Rattle.lw_x86.specs.Instructions.{InstructionSyntax}
-use Rattle.lw_x86.specs.Programs.{x86}
+use Rattle.lw_litmus.specs.Programs.{x86}
 use Rattle.lw_x86.specs.CanonicalTexts.{label, is_target, cell_text, cells_from}
+use Rattle.lw_x86.specs.Grammar.{x86_grammar}
 use Rattle.lw_x86.proofs.PrintedInstructions.{syntax_of, instruction_tokens, HasTarget, EndsNoCell, label_is_location, Spells-label, name_no_end, instruction_spelled, instruction_said, instruction_no_end}
 
 -- ---- the tokens of cells, and what they say
@@ -92,7 +93,7 @@ labels_said : (needed : Bool) (k : ℕ) (mid : TokenList) → k < 2 ^ 32 → Lab
 labels_said true k mid h = (mid, refl, label_is_location k h, refl)
 labels_said false k mid h = refl
 
-ends_said : (needed : Bool) (k : ℕ) → k < 2 ^ 32 → AllZip (CellSays x86) (end_tokens needed k) (end_syntaxes needed k)
+ends_said : (needed : Bool) (k : ℕ) → k < 2 ^ 32 → AllZip (CellSays x86_grammar) (end_tokens needed k) (end_syntaxes needed k)
 ends_said true k h = (([], (([], refl, label_is_location k h, refl)), refl), tt)
 ends_said false k h = tt
 
@@ -112,7 +113,7 @@ module _ (names : NameTable) (table : AllByRecursion IsLocation names) (code : L
   cells_printed k [] few all = ends_printed (is_target code k) k (omega (arith, few))
   cells_printed k (i ∷ rest) few all = (cell_printed k i (omega (arith, few)) all.0, cells_printed (suc k) rest (omega (arith, few)) all.1)
 
-  pub cells_said : (k : ℕ) (rest : List Instr) → k + length rest < 2 ^ 32 → AllByRecursion (IsPrintableInstruction (length names)) rest → AllZip (CellSays x86) (tokens_from names code k rest) (syntaxes_from names code k rest)
+  pub cells_said : (k : ℕ) (rest : List Instr) → k + length rest < 2 ^ 32 → AllByRecursion (IsPrintableInstruction (length names)) rest → AllZip (CellSays x86_grammar) (tokens_from names code k rest) (syntaxes_from names code k rest)
   cells_said k [] few all = ends_said (is_target code k) k (omega (arith, few))
   cells_said k (i ∷ rest) few all =
       ((instruction_tokens names i, labels_said (is_target code k) k (instruction_tokens names i) (omega (arith, few)), instruction_said names table i all.0.0 all.0.1), cells_said (suc k) rest (omega (arith, few)) all.1)

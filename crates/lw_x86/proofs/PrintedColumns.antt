@@ -12,13 +12,14 @@ use Rattle.lw_base.specs.Names.{EachOnce, IsTable}
 use Rattle.lw_base.specs.Tables.{contains_name}
 use Rattle.lw_base.proofs.Tables.{IsInTable, index_of-again}
 use Rattle.lw_cells.specs.Cells.{CellSyntax, CellSays, statements, labels_of, target_in, resolved, code_in, names_in, LeadsForward, Column}
-use Rattle.lw_cells.specs.Tests.{IsStatement, IsThread}
+use Rattle.lw_litmus.specs.Tests.{IsStatement, IsThread}
 use Rattle.lw_cells.proofs.Zips.{zip_append, zip_replicate}
-use Rattle.lw_x86.specs.declared.instr.Instr.{Instr}
-use Rattle.lw_x86.specs.declared.instr.Instr.TheVariants.{Store, Load, Set, Add, Cmp, Xchg, Xadd, Mfence, Je, Jne, Jmp}
+use Rattle.lw_litmus.specs.declared.instr.Instr.{Instr}
+use Rattle.lw_litmus.specs.declared.instr.Instr.TheVariants.{Store, Load, Set, Add, Cmp, Xchg, Xadd, Mfence, Je, Jne, Jmp}
 use Rattle.lw_x86.specs.Instructions.{InstructionSyntax, label_of, name_of}
-use Rattle.lw_x86.specs.Programs.{x86, target_of, location_of}
+use Rattle.lw_litmus.specs.Programs.{x86, target_of, location_of}
 use Rattle.lw_x86.specs.CanonicalTexts.{label}
+use Rattle.lw_x86.specs.Grammar.{x86_grammar}
 use Rattle.lw_x86.proofs.PrintedInstructions.{syntax_of, HasTarget}
 use Rattle.lw_x86.proofs.PrintedCells.{tokens_from, syntaxes_from, IsPrintableInstruction, cells_said}
 use Rattle.lw_x86.proofs.PrintedLabels.{target_is, statements_are, labels_once, label_there, label_leads}
@@ -64,7 +65,7 @@ module _ (names : NameTable) (once : EachOnce names) (syntaxes : List (CellSynta
   abbrev pub IsResolved : Instr → Type 0
   IsResolved i = ForSome (location_of i) (λ x. x < length names) × ForSome (target_of i) (λ to. target_in syntaxes (label to) ≡ to)
 
-  resolved_again : (i : Instr) → IsResolved i → resolved x86 names syntaxes (syntax_of names i) ≡ i
+  resolved_again : (i : Instr) → IsResolved i → resolved x86_grammar names syntaxes (syntax_of names i) ≡ i
   resolved_again (Store x v) h = ap (λ (y : ℕ). Store y v) (index_of-again names once x (h.0 x refl))
   resolved_again (Load d x) h = ap (λ (y : ℕ). Load d y) (index_of-again names once x (h.0 x refl))
   resolved_again (Set d v) h = refl
@@ -77,7 +78,7 @@ module _ (names : NameTable) (once : EachOnce names) (syntaxes : List (CellSynta
   resolved_again (Jne to) h = ap (λ (t : ℕ). Jne t) (h.1 to refl)
   resolved_again (Jmp to) h = ap (λ (t : ℕ). Jmp t) (h.1 to refl)
 
-  all_again : (code : List Instr) → AllByRecursion IsResolved code → map (resolved x86 names syntaxes) (map (syntax_of names) code) ≡ code
+  all_again : (code : List Instr) → AllByRecursion IsResolved code → map (resolved x86_grammar names syntaxes) (map (syntax_of names) code) ≡ code
   all_again [] h = refl
   all_again (i ∷ code) h =
       let here = resolved_again i h.0 in
@@ -155,27 +156,27 @@ module _ (names : NameTable) (table : IsTable names) (code : List Instr) (thread
   statements_all : (n : ℕ) → statements (syntaxes n) ≡ map (syntax_of names) code
   statements_all n = statements_same n (syntaxes_from names code 0 code) ∙ statements_are names code 0 code
 
-  leads_at : (n k : ℕ) (i : Instr) → slice_get code k ≡ Some i → LeadsForward x86 (syntaxes n) k (syntax_of names i)
+  leads_at : (n k : ℕ) (i : Instr) → slice_get code k ≡ Some i → LeadsForward x86_grammar (syntaxes n) k (syntax_of names i)
   leads_at n k i e =
       of_label names (λ l. Contains (labels_of (syntaxes n)) l × (k < target_in (syntaxes n) l)) i
       (λ to f. let t = target_at n k to i e f in (t.0, omega (arith, t.1, t.2)))
 
-  pub thread_column : (n : ℕ) → Column x86 (padded n (tokens_of names code)) (syntaxes n)
+  pub thread_column : (n : ℕ) → Column x86_grammar (padded n (tokens_of names code)) (syntaxes n)
   thread_column n = record {
-    says = zip_append (CellSays x86) (tokens_of names code) (replicate n []) (syntaxes_from names code 0 code) _ (cells_said names table.all code 0 code thread_small thread_printable) (zip_replicate (CellSays x86) n [] _ ([], refl, refl));
+    says = zip_append (CellSays x86_grammar) (tokens_of names code) (replicate n []) (syntaxes_from names code 0 code) _ (cells_said names table.all code 0 code thread_small thread_printable) (zip_replicate (CellSays x86_grammar) n [] _ ([], refl, refl));
     few = omega (arith, ap length (statements_all n), length-map code (syntax_of names), thread.short);
     once = subst EachOnce (sym (labels_same n (syntaxes_from names code 0 code))) (labels_once names code 0 code thread_small);
     forward = λ k s e.
         let found = from_map (syntax_of names) code k s (ap (λ l. slice_get l k) (sym (statements_all n)) ∙ e) in
-        subst (LeadsForward x86 (syntaxes n) k) found.2 (leads_at n k found.0 found.1);
+        subst (LeadsForward x86_grammar (syntaxes n) k) found.2 (leads_at n k found.0 found.1);
   }
 
-  pub thread_again : (n : ℕ) → code_in x86 names (syntaxes n) ≡ code
+  pub thread_again : (n : ℕ) → code_in x86_grammar names (syntaxes n) ≡ code
   thread_again n =
-      ap (map (resolved x86 names (syntaxes n))) (statements_all n)
+      ap (map (resolved x86_grammar names (syntaxes n))) (statements_all n)
       ∙ all_again names table.once (syntaxes n) code (all_places (IsResolved names table.once (syntaxes n)) code (λ k i e. ((statement_at k i e).0, λ to f. (target_at n k to i e f).1)))
 
-  pub thread_names : (n : ℕ) → AllByRecursion (IsInTable names) (names_in x86 (syntaxes n))
+  pub thread_names : (n : ℕ) → AllByRecursion (IsInTable names) (names_in x86_grammar (syntaxes n))
   thread_names n =
       subst (λ (ss : List InstructionSyntax). AllByRecursion (IsInTable names) (filter_map name_of ss)) (sym (statements_all n))
       (names_there names code (all_places (λ i. ForSome (location_of i) (λ x. x < length names)) code (λ k i e. (statement_at k i e).0)))

@@ -18,12 +18,12 @@ use Rattle.lw_base.specs.WellFormed.{IsRegisterNumber, IsWord}
 use Rattle.lw_text.specs.Rows.{ends_cell}
 use Rattle.lw_text.proofs.Spelling.{EndsWord, Spells, Spells-then, Spells-on, Spells-before, Spells-within, Spells-space, Spells-mark, Spells-word, Spells-name, Spells-number, name_by_test, decimal_is_number, decimal_is_word, decimal_is_short}
 use Rattle.lw_text.proofs.PrintedConditions.{Spells-register, register_is_name}
-use Rattle.lw_cells.specs.Operands.{operand_registers, operand_numbers}
-use Rattle.lw_cells.specs.Tests.{IsStatement}
-use Rattle.lw_x86.specs.declared.instr.Instr.{Instr}
-use Rattle.lw_x86.specs.declared.instr.Instr.TheVariants.{Store, Load, Set, Add, Cmp, Xchg, Xadd, Mfence, Je, Jne, Jmp}
+use Rattle.lw_litmus.specs.Operands.{operand_registers, operand_numbers}
+use Rattle.lw_litmus.specs.Tests.{IsStatement}
+use Rattle.lw_litmus.specs.declared.instr.Instr.{Instr}
+use Rattle.lw_litmus.specs.declared.instr.Instr.TheVariants.{Store, Load, Set, Add, Cmp, Xchg, Xadd, Mfence, Je, Jne, Jmp}
 use Rattle.lw_x86.specs.Instructions.{InstructionSyntax, Stores, Loads, Sets, Adds, Compares, Exchanges, Exchanges_adding, Fences, Jumps_if_equal, Jumps_if_not_equal, Jumps, Instruction, IsValue}
-use Rattle.lw_x86.specs.Programs.{x86, target_of}
+use Rattle.lw_litmus.specs.Programs.{x86, target_of}
 use Rattle.lw_x86.specs.CanonicalTexts.{operand_text, memory_text, with_operands, label, instruction_text}
 
 -- ---- tokens

@@ -12,10 +12,10 @@ use Rattle.std.proofs.lemmas.List.Elements.{All-contains, All-from_recursion, Co
 use Rattle.lw_base.specs.Types.{Bytes, NameTable}
 use Rattle.lw_base.specs.Names.{EachOnce}
 use Rattle.lw_base.specs.Tables.{contains_name}
-use Rattle.lw_text.proofs.Elements.{all_append, all_weaker}
+use Rattle.lw_base.proofs.Elements.{all_append, all_weaker}
 use Rattle.lw_cells.specs.Cells.{statements, labels_of, target_in}
-use Rattle.lw_x86.specs.declared.instr.Instr.{Instr}
-use Rattle.lw_x86.specs.Programs.{target_of}
+use Rattle.lw_litmus.specs.declared.instr.Instr.{Instr}
+use Rattle.lw_litmus.specs.Programs.{target_of}
 use Rattle.lw_x86.specs.CanonicalTexts.{label, jumps_to, is_target}
 use Rattle.lw_x86.proofs.PrintedInstructions.{syntax_of}
 use Rattle.lw_x86.proofs.PrintedCells.{front_labels, end_syntaxes, syntaxes_from}

@@ -6,12 +6,13 @@ use Rattle.lw_base.specs.Types.{NameTable}
 use Rattle.lw_base.specs.Heads.{with_table}
 use Rattle.lw_base.specs.Tables.{with_names}
 use Rattle.lw_base.proofs.Tables.{IsInTable, with_names-there}
-use Rattle.lw_text.proofs.Elements.{all_append}
+use Rattle.lw_base.proofs.Elements.{all_append}
 use Rattle.lw_cells.specs.Cells.{CellSyntax, Column, code_in, names_in, names_of, test_on}
-use Rattle.lw_cells.specs.Tests.{IsThread}
-use Rattle.lw_x86.specs.declared.instr.Instr.{Instr}
+use Rattle.lw_litmus.specs.Tests.{IsThread}
+use Rattle.lw_litmus.specs.declared.instr.Instr.{Instr}
 use Rattle.lw_x86.specs.Instructions.{InstructionSyntax}
-use Rattle.lw_x86.specs.Programs.{ProgramTest, IsWellFormedProgram, HasProgram, x86}
+use Rattle.lw_litmus.specs.Programs.{ProgramTest, IsWellFormedProgram, x86}
+use Rattle.lw_x86.specs.Grammar.{HasProgram, x86_grammar}
 use Rattle.lw_x86.specs.CanonicalTexts.{canonical_text}
 use Rattle.lw_x86.specs.Texts.{IsTextOf}
 use Rattle.lw_x86.proofs.PrintedCells.{syntaxes_from}
@@ -30,21 +31,21 @@ module _ (p : ProgramTest) (well : IsWellFormedProgram p) where
   abbrev height : ℕ
   height = height_of p
 
-  columns_say : (threads : List (List Instr)) → AllByRecursion (IsThread x86 (length locs)) threads → AllZip (Column x86) (map (padded_to height) (map (tokens_of locs) threads)) (map (thread_says locs height) threads)
+  columns_say : (threads : List (List Instr)) → AllByRecursion (IsThread x86 (length locs)) threads → AllZip (Column x86_grammar) (map (padded_to height) (map (tokens_of locs) threads)) (map (thread_says locs height) threads)
   columns_say [] h = tt
   columns_say (code ∷ threads) h = (thread_column locs well.head.table code h.0 (height - length (tokens_of locs code)), columns_say threads h.1)
 
-  threads_again : (threads : List (List Instr)) → AllByRecursion (IsThread x86 (length locs)) threads → map (code_in x86 locs) (map (thread_says locs height) threads) ≡ threads
+  threads_again : (threads : List (List Instr)) → AllByRecursion (IsThread x86 (length locs)) threads → map (code_in x86_grammar locs) (map (thread_says locs height) threads) ≡ threads
   threads_again [] h = refl
   threads_again (code ∷ threads) h =
       let here = thread_again locs well.head.table code h.0 (height - length (tokens_of locs code)) in
       let rest = threads_again threads h.1 in
       cc
 
-  names_there : (threads : List (List Instr)) → AllByRecursion (IsThread x86 (length locs)) threads → AllByRecursion (IsInTable locs) (names_of x86 (map (thread_says locs height) threads))
+  names_there : (threads : List (List Instr)) → AllByRecursion (IsThread x86 (length locs)) threads → AllByRecursion (IsInTable locs) (names_of x86_grammar (map (thread_says locs height) threads))
   names_there [] h = tt
   names_there (code ∷ threads) h =
-      all_append (IsInTable locs) (names_in x86 (thread_says locs height code)) (names_of x86 (map (thread_says locs height) threads)) (thread_names locs well.head.table code h.0 (height - length (tokens_of locs code))) (names_there threads h.1)
+      all_append (IsInTable locs) (names_in x86_grammar (thread_says locs height code)) (names_of x86_grammar (map (thread_says locs height) threads)) (thread_names locs well.head.table code h.0 (height - length (tokens_of locs code))) (names_there threads h.1)
 
   threads_are : AllByRecursion (IsThread x86 (length locs)) p.threads
   threads_are = recursion_from_All (IsThread x86 (length locs)) p.threads well.code
@@ -52,8 +53,8 @@ module _ (p : ProgramTest) (well : IsWellFormedProgram p) where
   abbrev all_say : List (List (CellSyntax InstructionSyntax))
   all_say = map (thread_says locs height) p.threads
 
-  names_are : with_names locs (names_of x86 all_say) ≡ locs
-  names_are = with_names-there locs (names_of x86 all_say) (names_there p.threads threads_are)
+  names_are : with_names locs (names_of x86_grammar all_say) ≡ locs
+  names_are = with_names-there locs (names_of x86_grammar all_say) (names_there p.threads threads_are)
 
   -- no location is new, so no word is
   words_are : p.head.init_words ++ replicate (length locs - length locs) 0 ≡ p.head.init_words
@@ -64,9 +65,9 @@ module _ (p : ProgramTest) (well : IsWellFormedProgram p) where
   head_is : with_table p.head locs ≡ p.head
   head_is = ap (λ (ws : List ℕ). record p.head { init_words = ws }) words_are
 
-  test_is : test_on x86 p.head (with_names locs (names_of x86 all_say)) all_say ≡ p
+  test_is : test_on x86_grammar p.head (with_names locs (names_of x86_grammar all_say)) all_say ≡ p
   test_is =
-      ap (λ (names : NameTable). test_on x86 p.head names all_say) names_are
+      ap (λ (names : NameTable). test_on x86_grammar p.head names all_say) names_are
       ∙ (λ i. record { head = head_is i; threads = threads_again p.threads threads_are i })
 
   frame_says : HasProgram (frame_in p) p

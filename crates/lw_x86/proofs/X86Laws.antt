@@ -12,15 +12,16 @@ use Rattle.lw_base.specs.Names.{IsLocation}
 use Rattle.lw_base.specs.Registers.{IsRegister}
 use Rattle.lw_base.specs.WellFormed.{IsRegisterNumber, IsWord}
 use Rattle.lw_cells.specs.declared.draft.Draft.TheVariants.{Whole, Jumping}
-use Rattle.lw_cells.specs.Languages.{IsLanguage}
-use Rattle.lw_cells.specs.Operands.{operand_registers, operand_numbers}
+use Rattle.lw_cells.specs.Grammars.{IsGrammar}
+use Rattle.lw_litmus.specs.Operands.{operand_registers, operand_numbers}
 use Rattle.lw_cells.specs.Drafts.{EndsWithLabel, AreDrafts}
 use Rattle.lw_cells.proofs.TokenRows.{same_token}
-use Rattle.lw_x86.specs.declared.instr.Instr.{Instr}
+use Rattle.lw_litmus.specs.declared.instr.Instr.{Instr}
 use Rattle.lw_x86.specs.declared.jump.Jump.{Jump}
 use Rattle.lw_x86.specs.declared.jump.Jump.TheVariants.{Equal, NotEqual, Always}
 use Rattle.lw_x86.specs.Instructions.{InstructionSyntax, Stores, Loads, Sets, Adds, Compares, Exchanges, Exchanges_adding, Fences, Jumps_if_equal, Jumps_if_not_equal, Jumps, Instruction, IsValue, MemoryFirst, MemoryLast, Locked, name_of, label_of}
-use Rattle.lw_x86.specs.Programs.{x86, instruction, location_of, target_of, registers_of, numbers_of}
+use Rattle.lw_litmus.specs.Programs.{location_of, target_of, registers_of, numbers_of}
+use Rattle.lw_x86.specs.Grammar.{instruction, x86_grammar}
 use Rattle.lw_x86.specs.Drafts.{draft_of, jump_to}
 use Rattle.lw_x86.specs.declared.mnemonic.Mnemonic.{Mnemonic}
 use Rattle.lw_x86.specs.declared.mnemonic.Mnemonic.TheVariants.{Mov, Add, Cmp, Xchg, Xadd, Lock, Mfence, Je, Jne, Jmp}
@@ -155,7 +156,7 @@ numbers ts x to (Jumps_if_equal l) h = tt
 numbers ts x to (Jumps_if_not_equal l) h = tt
 numbers ts x to (Jumps l) h = tt
 
-pub x86_lawful : IsLanguage x86
+pub x86_lawful : IsGrammar x86_grammar
 x86_lawful = record {
   countable = omega arith;
   one = instruction_unique;
@@ -180,7 +181,7 @@ whole x (Jumps_if_equal l) stmt e = absurd cc
 whole x (Jumps_if_not_equal l) stmt e = absurd cc
 whole x (Jumps l) stmt e = absurd cc
 
-jumping : (ts : List (List ℕ)) (x : ℕ) (s : InstructionSyntax) (jump : Jump) (k : ℕ) → Instruction ts s → draft_of x s ≡ Jumping jump k → EndsWithLabel x86 jump_to ts x jump k s
+jumping : (ts : List (List ℕ)) (x : ℕ) (s : InstructionSyntax) (jump : Jump) (k : ℕ) → Instruction ts s → draft_of x s ≡ Jumping jump k → EndsWithLabel x86_grammar jump_to ts x jump k s
 jumping ts x (Stores n v) jump k h e = absurd cc
 jumping ts x (Loads d n) jump k h e = absurd cc
 jumping ts x (Sets d v) jump k h e = absurd cc
@@ -220,5 +221,5 @@ jumping ts x (Jumps l) jump k h e =
       becomes = λ to. ap (λ (j : Jump). jump_to j to) (sym p);
     }
 
-pub x86_drafted : AreDrafts x86 jump_to draft_of
+pub x86_drafted : AreDrafts x86_grammar jump_to draft_of
 x86_drafted = record { whole = whole; jumping = jumping }

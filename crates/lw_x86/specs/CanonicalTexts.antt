@@ -14,11 +14,11 @@ use Rattle.lw_base.specs.declared.operand.Operand.TheVariants.{Register, Number}
 use Rattle.lw_base.specs.ConditionTexts.{site_text, assignment, condition_text}
 use Rattle.lw_base.specs.Heads.{TestHead}
 use Rattle.lw_base.specs.Registers.{register_name}
-use Rattle.lw_text.specs.Frames.{all_registers, locations}
+use Rattle.lw_base.specs.SeenLists.{all_registers, locations}
 use Rattle.lw_text.specs.Rows.{thread_name}
-use Rattle.lw_x86.specs.declared.instr.Instr.{Instr}
-use Rattle.lw_x86.specs.declared.instr.Instr.TheVariants.{Store, Load, Set, Add, Cmp, Xchg, Xadd, Mfence, Je, Jne, Jmp}
-use Rattle.lw_x86.specs.Programs.{ProgramTest, target_of}
+use Rattle.lw_litmus.specs.declared.instr.Instr.{Instr}
+use Rattle.lw_litmus.specs.declared.instr.Instr.TheVariants.{Store, Load, Set, Add, Cmp, Xchg, Xadd, Mfence, Je, Jne, Jmp}
+use Rattle.lw_litmus.specs.Programs.{ProgramTest, target_of}
 
 -- ---- instructions
 

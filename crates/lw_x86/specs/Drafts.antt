@@ -2,8 +2,8 @@
 use Rattle.std.specs.Prelude.{ℕ}
 use Rattle.lw_cells.specs.declared.draft.Draft.{Draft}
 use Rattle.lw_cells.specs.declared.draft.Draft.TheVariants.{Whole, Jumping}
-use Rattle.lw_x86.specs.declared.instr.Instr.{Instr}
-use Rattle.lw_x86.specs.declared.instr.Instr.TheVariants as instr
+use Rattle.lw_litmus.specs.declared.instr.Instr.{Instr}
+use Rattle.lw_litmus.specs.declared.instr.Instr.TheVariants as instr
 use Rattle.lw_x86.specs.declared.jump.Jump.{Jump}
 use Rattle.lw_x86.specs.declared.jump.Jump.TheVariants.{Equal, NotEqual, Always}
 use Rattle.lw_x86.specs.Instructions.{InstructionSyntax, Stores, Loads, Sets, Adds, Compares, Exchanges, Exchanges_adding, Fences, Jumps_if_equal, Jumps_if_not_equal, Jumps}

@@ -1,9 +1,9 @@
-pub mod Limits
+pub use Rattle.lw_litmus.specs.Programs
+pub use Rattle.lw_litmus.specs.Views
 pub mod Instructions
 pub mod Mnemonics
-pub mod Programs
+pub mod Grammar
 pub mod Drafts
 pub mod Readings
-pub mod Views
 pub mod CanonicalTexts
 pub mod Texts

@@ -11,15 +11,15 @@ use Rattle.lw_cells.specs.declared.draft.Draft.{Draft}
 use Rattle.lw_cells.specs.Words.{IsNinthName}
 use Rattle.lw_cells.specs.Reading.{StatementRead}
 use Rattle.lw_x86.specs.declared.access.Access.{Access}
-use Rattle.lw_x86.specs.declared.instr.Instr.{Instr}
+use Rattle.lw_litmus.specs.declared.instr.Instr.{Instr}
 use Rattle.lw_x86.specs.declared.jump.Jump.{Jump}
 use Rattle.lw_x86.specs.declared.jump.Jump.TheVariants.{Equal, NotEqual, Always}
 use Rattle.lw_x86.specs.declared.mnemonic.Mnemonic.{Mnemonic}
 use Rattle.lw_x86.specs.declared.mnemonic.Mnemonic.TheVariants.{Je, Jne, Jmp}
 use Rattle.lw_x86.specs.Instructions.{MemoryFirst, MemoryLast, AtFirst, AtLast}
 use Rattle.lw_x86.specs.Mnemonics.{mnemonic_text, Names}
-use Rattle.lw_x86.specs.Programs.{x86}
 use Rattle.lw_x86.specs.Drafts.{draft_of}
+use Rattle.lw_x86.specs.Grammar.{x86_grammar}
 
 -- The first token is this mnemonic.
 abbrev pub Opens : Mnemonic → TokenList → Type 0
@@ -33,7 +33,7 @@ mnemonic_of Always = Jmp
 
 -- The tokens say an instruction that names no location.
 abbrev pub PlainRead : TokenList → Draft Instr Jump → Type 0
-PlainRead ts draft = (names : NameTable) → StatementRead x86 draft_of ts names draft names
+PlainRead ts draft = (names : NameTable) → StatementRead x86_grammar draft_of ts names draft names
 
 -- a mnemonic, and `[x],a`, `a,[x]`, or either of them
 abbrev pub first_form : Mnemonic → TokenList → Bytes → ℕ → Type 0

@@ -1,7 +1,8 @@
 -- What a text says as an x86 test.
 use Rattle.lw_base.specs.Types.{Bytes}
 use Rattle.lw_text.specs.Frames.{TestFrame, HasFrame}
-use Rattle.lw_x86.specs.Programs.{ProgramTest, HasProgram}
+use Rattle.lw_litmus.specs.Programs.{ProgramTest}
+use Rattle.lw_x86.specs.Grammar.{HasProgram}
 
 -- The text is a frame's, and the frame's cells say the program.
 pub record IsTextOf (text : Bytes) (program : ProgramTest) : Type 0 where

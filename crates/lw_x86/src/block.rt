@@ -5,7 +5,7 @@ ghost use Rattle.std.specs.String.{string_bytes};
 ghost use Rattle.lw_base.specs.Heads.{head_of};
 ghost use Rattle.lw_base.specs.WellFormed.{IsWellFormedHead};
 ghost use Rattle.lw_base.specs.declared.head.Seen.TheVariants as seen;
-ghost use Rattle.lw_text.specs.Frames.{registers_of, all_registers, locations};
+ghost use Rattle.lw_base.specs.SeenLists.{registers_of, all_registers, locations};
 ghost use Rattle.lw_x86.specs.CanonicalTexts.{entry_text, register_entry, block_text};
 
 use lw_base::{Arch, Cpu, Head, Loc, Reg, reg_name};

@@ -13,26 +13,31 @@ ghost use Rattle.lw_x86.specs.declared.mnemonic.Mnemonic.{Mnemonic};
 ghost use Rattle.lw_x86.specs.declared.mnemonic.Mnemonic.TheVariants as mnemonic;
 ghost use Rattle.lw_x86.specs.Instructions.{InstructionSyntax, Instruction, IsValue, OnRegister, Stores};
 ghost use Rattle.lw_x86.specs.Mnemonics.{mnemonic_text};
-ghost use Rattle.lw_x86.specs.Programs.{x86};
 ghost use Rattle.lw_x86.specs.Drafts.{draft_of, jump_to};
 ghost use Rattle.lw_x86.specs.Readings.{Opens, PlainRead, mnemonic_of, first_form, last_form, exchange_form, AccessRead};
 ghost use Rattle.lw_x86.specs.Readings.{FirstFault, LastFault, AccessFault};
+ghost use Rattle.lw_x86.specs.Grammar.{x86_grammar};
 
 use crate::access::Access;
-use crate::instr::{Instr, MAX_INSTRUCTIONS};
 use crate::jump::Jump;
 use crate::mnemonic::Mnemonic;
 use lw_base::{Arch, CellFault, LocNames, Operand, Reg};
-use lw_cells::{Draft, Phrase, Statement, label, location, misfit, operand, register, word};
+use lw_cells::{Draft, Phrase, StatementReader, label, location, misfit, operand, register, word};
+use lw_litmus::{Instr, MAX_INSTRUCTIONS};
 use lw_text::Token;
 use std::alloc::Allocator;
 
-impl Statement for Instr {
+/// The x86 language.
+pub(crate) enum X86Language {}
+
+impl StatementReader for X86Language {
+    type Stmt = Instr;
+
     type Jump = Jump;
 
     ghost Syntax = { InstructionSyntax };
 
-    ghost language = { x86 };
+    ghost grammar = { x86_grammar };
 
     ghost jump_to = { jump_to };
 
@@ -70,9 +75,10 @@ fn read_instruction<A: Allocator + Copy>(
     phrase: &Phrase<'_, '_>,
     locs: &mut LocNames<A>,
 ) -> Result<Draft<Instr, Jump>, CellFault>
-    ensures found { IfOk result (λ draft. StatementRead x86 draft_of (texts phrase.now.tokens.now) locs.old draft locs.new) }
-    ensures fault { IfErr result (λ f. NotFound Memory f.cause (Fits x86 locs.old (texts phrase.now.tokens.now))) }
-    ensures cause { IfErr result (StatementFault x86 phrase.now.tokens.now locs.old) }
+    ensures found { IfOk result (λ draft.
+        StatementRead x86_grammar draft_of (texts phrase.now.tokens.now) locs.old draft locs.new) }
+    ensures fault { IfErr result (λ f. NotFound Memory f.cause (Fits x86_grammar locs.old (texts phrase.now.tokens.now))) }
+    ensures cause { IfErr result (StatementFault x86_grammar phrase.now.tokens.now locs.old) }
     ensures place { (len : ℕ) → LiesWithin len phrase.now → IfErr result (λ f. f.at ≤ len) }
 {
     let first = phrase.token(0)?;
@@ -97,9 +103,10 @@ fn read_mov<A: Allocator + Copy>(
     locs: &mut LocNames<A>,
 ) -> Result<Draft<Instr, Jump>, CellFault>
     requires { Opens mnemonic.Mov (texts phrase.now.tokens.now) }
-    ensures found { IfOk result (λ draft. StatementRead x86 draft_of (texts phrase.now.tokens.now) locs.old draft locs.new) }
-    ensures fault { IfErr result (λ f. NotFound Memory f.cause (Fits x86 locs.old (texts phrase.now.tokens.now))) }
-    ensures cause { IfErr result (StatementFault x86 phrase.now.tokens.now locs.old) }
+    ensures found { IfOk result (λ draft.
+        StatementRead x86_grammar draft_of (texts phrase.now.tokens.now) locs.old draft locs.new) }
+    ensures fault { IfErr result (λ f. NotFound Memory f.cause (Fits x86_grammar locs.old (texts phrase.now.tokens.now))) }
+    ensures cause { IfErr result (StatementFault x86_grammar phrase.now.tokens.now locs.old) }
     ensures place { (len : ℕ) → LiesWithin len phrase.now → IfErr result (λ f. f.at ≤ len) }
 {
     if phrase.has(1, "[") {
@@ -120,10 +127,11 @@ fn read_store<A: Allocator + Copy>(
 ) -> Result<Draft<Instr, Jump>, CellFault>
     requires first { Opens mnemonic.Mov (texts phrase.now.tokens.now) }
     requires second { slice_get (texts phrase.now.tokens.now) 1 ≡ Some (codes "[") }
-    ensures found { IfOk result (λ draft. StatementRead x86 draft_of (texts phrase.now.tokens.now) locs.old draft locs.new) }
+    ensures found { IfOk result (λ draft.
+        StatementRead x86_grammar draft_of (texts phrase.now.tokens.now) locs.old draft locs.new) }
     ensures fault { IfErr result (λ f. f.cause ≢ Memory → (x : Bytes) (v : Operand)
-        → Fits x86 locs.old (texts phrase.now.tokens.now) (Stores x v) → ⊥) }
-    ensures cause { IfErr result (StatementFault x86 phrase.now.tokens.now locs.old) }
+        → Fits x86_grammar locs.old (texts phrase.now.tokens.now) (Stores x v) → ⊥) }
+    ensures cause { IfErr result (StatementFault x86_grammar phrase.now.tokens.now locs.old) }
     ensures place { (len : ℕ) → LiesWithin len phrase.now → IfErr result (λ f. f.at ≤ len) }
 {
     let loc = location(&phrase.token(2)?, locs)?;
@@ -163,9 +171,10 @@ fn read_xchg<A: Allocator + Copy>(
     locs: &mut LocNames<A>,
 ) -> Result<Draft<Instr, Jump>, CellFault>
     requires { Opens mnemonic.Xchg (texts phrase.now.tokens.now) }
-    ensures found { IfOk result (λ draft. StatementRead x86 draft_of (texts phrase.now.tokens.now) locs.old draft locs.new) }
-    ensures fault { IfErr result (λ f. NotFound Memory f.cause (Fits x86 locs.old (texts phrase.now.tokens.now))) }
-    ensures cause { IfErr result (StatementFault x86 phrase.now.tokens.now locs.old) }
+    ensures found { IfOk result (λ draft.
+        StatementRead x86_grammar draft_of (texts phrase.now.tokens.now) locs.old draft locs.new) }
+    ensures fault { IfErr result (λ f. NotFound Memory f.cause (Fits x86_grammar locs.old (texts phrase.now.tokens.now))) }
+    ensures cause { IfErr result (StatementFault x86_grammar phrase.now.tokens.now locs.old) }
     ensures place { (len : ℕ) → LiesWithin len phrase.now → IfErr result (λ f. f.at ≤ len) }
 {
     let Access { loc, reg } = read_exchange(phrase, locs)?;
@@ -178,9 +187,10 @@ fn read_locked<A: Allocator + Copy>(
     locs: &mut LocNames<A>,
 ) -> Result<Draft<Instr, Jump>, CellFault>
     requires { Opens mnemonic.Lock (texts phrase.now.tokens.now) }
-    ensures found { IfOk result (λ draft. StatementRead x86 draft_of (texts phrase.now.tokens.now) locs.old draft locs.new) }
-    ensures fault { IfErr result (λ f. NotFound Memory f.cause (Fits x86 locs.old (texts phrase.now.tokens.now))) }
-    ensures cause { IfErr result (StatementFault x86 phrase.now.tokens.now locs.old) }
+    ensures found { IfOk result (λ draft.
+        StatementRead x86_grammar draft_of (texts phrase.now.tokens.now) locs.old draft locs.new) }
+    ensures fault { IfErr result (λ f. NotFound Memory f.cause (Fits x86_grammar locs.old (texts phrase.now.tokens.now))) }
+    ensures cause { IfErr result (StatementFault x86_grammar phrase.now.tokens.now locs.old) }
     ensures place { (len : ℕ) → LiesWithin len phrase.now → IfErr result (λ f. f.at ≤ len) }
 {
     let rest = phrase.behind_first();

@@ -5,10 +5,10 @@ ghost use Rattle.std.specs.String.{string_bytes};
 ghost use Rattle.lw_base.specs.Registers.{register_name};
 ghost use Rattle.lw_base.specs.declared.head.Arch.TheVariants.{X86};
 ghost use Rattle.lw_x86.specs.CanonicalTexts.{instruction_text, operand_text, memory_text, with_operands};
-ghost use Rattle.lw_x86.specs.Programs.{location_of};
+ghost use Rattle.lw_litmus.specs.Programs.{location_of};
 
-use crate::instr::Instr;
 use lw_base::{Arch, Loc, LocNames, Operand, Reg, reg_name};
+use lw_litmus::Instr;
 use std::alloc::{AllocError, Allocator};
 
 /// An instruction, with its location by the names of a table and a jump's target by its label.

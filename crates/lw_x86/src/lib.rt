@@ -1,23 +1,21 @@
-//! The x86 language: its instructions, the reading of an x86 test, and its canonical text.
+//! The x86 language: the reading of an x86 test from its frame, and its canonical text.
 //!
-//! It names lw_base, lw_cells, and of lw_text the frame. What it reads and writes is said by
-//! docs/FORMAT.md. The promise that the crates above use: a `Program` is the test of its frame, and
-//! its canonical text is what `specs/CanonicalTexts.antt` says, and reads back as the same program.
+//! It names lw_base, of lw_litmus the test, of lw_text the frame, and the rule of lw_cells. What it reads and writes is said by
+//! docs/FORMAT.md. It passes on the test and its instructions of lw_litmus. The promise that the crates above use: a `Program`
+//! that is read is the test of its frame, and its canonical text is what `specs/CanonicalTexts.antt` says, and reads back as
+//! the same program.
 #![tactic(auto)]
 
 mod access;
 mod block;
 mod canonical;
-mod instr;
 mod instruction;
 mod instruction_text;
 mod jump;
 mod mnemonic;
-mod program;
 mod read;
 mod rows;
 
 pub use canonical::{a_canonical_text_reads_back, write_program};
-pub use instr::{Instr, MAX_INSTRUCTIONS};
-pub use program::Program;
+pub use lw_litmus::{Instr, MAX_INSTRUCTIONS, Program};
 pub use read::{a_frame_has_one_program, a_text_has_one_program, read_program};

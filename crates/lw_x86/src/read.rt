@@ -8,13 +8,15 @@ ghost use Rattle.lw_text.specs.Frames.{TestFrame};
 ghost use Rattle.lw_text.specs.Views.{frame_of};
 ghost use Rattle.lw_text.specs.Places.{placed_cells};
 ghost use Rattle.lw_cells.specs.Faults.{Tells};
-ghost use Rattle.lw_x86.specs.Programs.{ProgramTest, HasProgram, x86};
+ghost use Rattle.lw_litmus.specs.Programs.{ProgramTest};
+ghost use Rattle.lw_x86.specs.Grammar.{HasProgram, x86_grammar};
 ghost use Rattle.lw_x86.specs.Texts.{IsTextOf};
-ghost use Rattle.lw_x86.specs.Views.{program_of};
+ghost use Rattle.lw_litmus.specs.Views.{program_of};
 
-use crate::program::Program;
+use crate::instruction::X86Language;
 use lw_base::CellFault;
 use lw_cells::read_test;
+use lw_litmus::Program;
 use lw_text::Frame;
 use std::alloc::Allocator;
 
@@ -32,9 +34,9 @@ pub fn read_program<A: Allocator + Copy>(
     ensures place { IfErr result (λ f. f.at ≤ frame.now.len) }
     ensures memory { IfErr result (λ f. f.cause ≡ Memory → f.at ≡ 0) }
     // What the cause says of the place is so.
-    ensures cause { IfErr result (Tells x86 frame.now.head.locs (placed_cells frame.now.cells)) }
+    ensures cause { IfErr result (Tells x86_grammar frame.now.head.locs (placed_cells frame.now.cells)) }
 {
-    let parts = read_test(alloc, frame)?;
+    let parts = read_test::<X86Language, A>(alloc, frame)?;
     Ok(Program {
         head: parts.head,
         threads: parts.threads,

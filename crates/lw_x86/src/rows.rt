@@ -2,15 +2,14 @@
 ghost use Rattle.std.specs.Prelude.{◌≡◌, ◌+◌, ◌++◌, [], length, map, codes, slice_index_or, All, OnOk};
 ghost use Rattle.std.specs.String.{string_bytes};
 ghost use Rattle.lw_base.specs.Texts.{joined};
-ghost use Rattle.lw_cells.specs.Tests.{IsThread};
+ghost use Rattle.lw_litmus.specs.Tests.{IsThread};
 ghost use Rattle.lw_x86.specs.CanonicalTexts as printed;
 ghost use Rattle.lw_x86.specs.CanonicalTexts.{label_in_front, end_cells, cells_of, row_text, row_of, longest, rows_text};
-ghost use Rattle.lw_x86.specs.Programs.{x86};
+ghost use Rattle.lw_litmus.specs.Programs.{x86};
 
-use crate::instr::Instr;
 use crate::instruction_text::write_instruction;
-use crate::program::Program;
 use lw_base::{LocNames, Sequence};
+use lw_litmus::{Instr, Program};
 use std::alloc::{AllocError, Allocator};
 
 /// The rows of a program: as many as its longest thread has cells.

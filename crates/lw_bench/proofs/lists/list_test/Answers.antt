@@ -1,5 +1,4 @@
-use Rattle.lw_source.specs.Views.{source_of}
-use Rattle.lw_x86.specs.Views.{program_of}
+use Rattle.lw_litmus.specs.Views.{source_of, program_of}
 use Rattle.lw_bench.proofs.TestReports.{source_listed, x86_listed}
 use Rattle.lw_bench.proofs.lists.list_test.Goals as goal
 

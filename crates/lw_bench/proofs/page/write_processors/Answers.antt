@@ -7,7 +7,7 @@ use Rattle.lw_memory.specs.declared.system.LineState.{LineState}
 use Rattle.lw_text.proofs.Starts.{is_index}
 use Rattle.lw_tso.specs.Machines.{buffer_of}
 use Rattle.lw_tso.specs.Processors.{Processor}
-use Rattle.lw_cells.proofs.Lists.{get_some}
+use Rattle.lw_base.proofs.Lists.{get_some}
 use Rattle.lw_bench.specs.Pages.{processor_lines}
 use Rattle.lw_bench.proofs.Pages.{numbered_more, numbered_all, told_of, thread_told, buffer_told, line_told, three_written}
 use Rattle.lw_bench.proofs.page.write_processors.Goals as goal

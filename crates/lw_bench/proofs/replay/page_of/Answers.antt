@@ -5,8 +5,7 @@ use Rattle.lw_base.proofs.Returns.{passed_on}
 use Rattle.lw_base.specs.Heads.{TestHead}
 use Rattle.lw_base.specs.Schedules.{IsFirstFault}
 use Rattle.lw_mesi.specs.declared.protocol.Protocol.TheVariants.{Mesi, Moesi}
-use Rattle.lw_source.specs.Views.{source_of}
-use Rattle.lw_x86.specs.Views.{program_of}
+use Rattle.lw_litmus.specs.Views.{source_of, program_of}
 use Rattle.lw_bench.specs.LitmusTests.{Of_source, Of_x86, litmus_test_of}
 use Rattle.lw_bench.specs.Replays.{EventsTell, IsReplayPage}
 use Rattle.lw_bench.specs.Told.{TellsReplay}

@@ -6,12 +6,12 @@ use Rattle.lw_cells.proofs.column.read_column.Goals as goal
 pub returns-clause-found : goal.returns-clause-found
 returns-clause-found g c =
     let found = rw c.as_slice.ensures at c.resolve.ensures.found in
-    IfOk-weaker c.resolve.result _ _ (λ code done. column_found g.S.Statement.language c.requires.lawful g.S.Statement.draft_of _ _ _ _ _ c.in_ok-draft.ensures.found code done) (found _ _ c.in_ok-draft.ensures.found)
+    IfOk-weaker c.resolve.result _ _ (λ code done. column_found g.L.StatementReader.grammar c.requires.lawful g.L.StatementReader.draft_of _ _ _ _ _ c.in_ok-draft.ensures.found code done) (found _ _ c.in_ok-draft.ensures.found)
 
 pub returns-clause-fault : goal.returns-clause-fault
 returns-clause-fault g c =
     let fault = rw c.as_slice.ensures at c.resolve.ensures.fault in
-    IfErr-weaker c.resolve.result _ _ (λ f none known t (column, few). column_none g.S.Statement.language c.requires.lawful g.S.Statement.draft_of _ _ _ _ _ c.in_ok-draft.ensures.found (none known) t column) (fault _ _ c.in_ok-draft.ensures.found)
+    IfErr-weaker c.resolve.result _ _ (λ f none known t (column, few). column_none g.L.StatementReader.grammar c.requires.lawful g.L.StatementReader.draft_of _ _ _ _ _ c.in_ok-draft.ensures.found (none known) t column) (fault _ _ c.in_ok-draft.ensures.found)
 
 pub resolve-requires : goal.resolve-requires
 resolve-requires g c = record { drafted = c.requires.drafted; read = rw c.as_slice.ensures (c.args.locs.now, c.read_cells.new.locs, c.in_ok-draft.ensures.found) }

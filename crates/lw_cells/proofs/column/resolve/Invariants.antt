@@ -4,4 +4,4 @@ use Rattle.lw_cells.proofs.Resolved.{Resolved}
 use Rattle.lw_cells.proofs.column.resolve.Given as goal
 
 abbrev pub invariant-loop-row : goal.invariant-loop-row
-invariant-loop-row g l = (before after : List (List ℕ)) (draft : DraftRead g.S.Statement.language g.S.Statement.draft_of l.cells before l.drafts l.labels after) → Resolved g.S.Statement.language after draft.syntaxes l.row l.code
+invariant-loop-row g l = (before after : List (List ℕ)) (draft : DraftRead g.L.StatementReader.grammar g.L.StatementReader.draft_of l.cells before l.drafts l.labels after) → Resolved g.L.StatementReader.grammar after draft.syntaxes l.row l.code

@@ -11,17 +11,17 @@ use Rattle.lw_cells.proofs.read.read_columns.Goals as goal
 pub returns-in_err-stmts-clause-fault : goal.returns-in_err-stmts-clause-fault
 returns-in_err-stmts-clause-fault g c =
     let whole = texts_cut c.args.columns.now c.loop-column.column-index c.column-item.result c.loop-column-test.true c.column-item.is in
-    passed_on _ _ c.from_residual.ensures.1 (λ known. threads_none g.S.Statement.language c.requires.lawful _ _ _ _ c.loop-column.invariant _ _ _ whole (rw c.as_slice.ensures at (c.in_err-stmts.ensures.fault known)))
+    passed_on _ _ c.from_residual.ensures.1 (λ known. threads_none g.L.StatementReader.grammar c.requires.lawful _ _ _ _ c.loop-column.invariant _ _ _ whole (rw c.as_slice.ensures at (c.in_err-stmts.ensures.fault known)))
 
 pub returns-in_err-stmts-clause-cause : goal.returns-in_err-stmts-clause-cause
 returns-in_err-stmts-clause-cause g c =
     let whole = columns_cut c.args.columns.now c.loop-column.column-index c.column-item.result c.loop-column-test.true c.column-item.is in
-    passed_on _ _ c.from_residual.ensures.1 (threads_tell g.S.Statement.language c.requires.lawful _ _ _ _ _ _ _ whole c.loop-column.invariant _ _ (rw c.as_slice.ensures at c.in_err-stmts.ensures.cause))
+    passed_on _ _ c.from_residual.ensures.1 (threads_tell g.L.StatementReader.grammar c.requires.lawful _ _ _ _ _ _ _ whole c.loop-column.invariant _ _ (rw c.as_slice.ensures at c.in_err-stmts.ensures.cause))
 
 pub loop-column-preserved : goal.loop-column-preserved
 loop-column-preserved g c =
     let more = columns_more c.args.columns.now c.loop-column.column-index c.column-item.result c.loop-column-test.true c.column-item.is in
-    rw (more, c.in_ok-push.ensures.ok) (threads_more g.S.Statement.language c.requires.lawful _ _ _ _ c.loop-column.invariant _ _ _ (rw c.as_slice.ensures at c.in_ok-stmts.ensures.found))
+    rw (more, c.in_ok-push.ensures.ok) (threads_more g.L.StatementReader.grammar c.requires.lawful _ _ _ _ c.loop-column.invariant _ _ _ (rw c.as_slice.ensures at c.in_ok-stmts.ensures.found))
 
 pub returns-in_err-stmts-clause-place : goal.returns-in_err-stmts-clause-place
 returns-in_err-stmts-clause-place g c len within =
@@ -46,7 +46,7 @@ returns-in_err-push-clause-place g c len within =
     rw (p.1, p.2.0) (omega arith)
 
 pub returns-clause-found : goal.returns-clause-found
-returns-clause-found g c = subst (λ columns. ColumnsRead g.S.Statement.language (all_texts columns) c.args.locs.now c.loop-column.threads c.loop-column.locs) (take_all c.loop-column.column-index c.args.columns.now c.loop-column-test.false) c.loop-column.invariant
+returns-clause-found g c = subst (λ columns. ColumnsRead g.L.StatementReader.grammar (all_texts columns) c.args.locs.now c.loop-column.threads c.loop-column.locs) (take_all c.loop-column.column-index c.args.columns.now c.loop-column-test.false) c.loop-column.invariant
 
 pub returns-in_err-stmts-clause-found : goal.returns-in_err-stmts-clause-found
 returns-in_err-stmts-clause-found g c =

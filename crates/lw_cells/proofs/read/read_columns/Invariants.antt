@@ -4,4 +4,4 @@ use Rattle.lw_cells.specs.Reading.{ColumnsRead}
 use Rattle.lw_cells.proofs.read.read_columns.Given as goal
 
 abbrev pub invariant-loop-column : goal.invariant-loop-column
-invariant-loop-column g l = ColumnsRead g.S.Statement.language (all_texts (take l.column-index l.columns)) l.fn.locs l.threads l.locs
+invariant-loop-column g l = ColumnsRead g.L.StatementReader.grammar (all_texts (take l.column-index l.columns)) l.fn.locs l.threads l.locs

@@ -1,5 +1,5 @@
 use Rattle.lw_base.specs.Heads.{head_of}
-use Rattle.lw_source.specs.Views.{source_of}
+use Rattle.lw_litmus.specs.Views.{source_of}
 use Rattle.lw_fence.proofs.Endings.{compiled_ends}
 use Rattle.lw_fence.proofs.Outcomes.{outcomes_alike}
 use Rattle.lw_fence.proofs.Programs.{compiled_of, is_program}

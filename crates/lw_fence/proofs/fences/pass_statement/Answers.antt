@@ -1,5 +1,5 @@
 use Rattle.std.proofs.Common.{ap}
-use Rattle.lw_source.specs.Sources.{target_of}
+use Rattle.lw_litmus.specs.Sources.{target_of}
 use Rattle.lw_fence.proofs.fences.pass_statement.Goals as goal
 
 pub mark_both-requires-clause-first : goal.mark_both-requires-clause-first

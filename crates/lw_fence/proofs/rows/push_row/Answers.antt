@@ -1,7 +1,7 @@
 use Rattle.std.proofs.Common.{◌≡◌, List, [], ◌∷◌, ◌++◌, Result, Ok, Err, ap, sym, ◌∙◌, arith, append_assoc}
 use Rattle.std.specs.Prelude.{OnOk}
-use Rattle.lw_source.specs.Sources.{target_of}
-use Rattle.lw_x86.specs.declared.instr.Instr.{Instr}
+use Rattle.lw_litmus.specs.Sources.{target_of}
+use Rattle.lw_litmus.specs.declared.instr.Instr.{Instr}
 use Rattle.lw_fence.specs.Compiling.{row}
 use Rattle.lw_fence.proofs.rows.push_row.Goals as goal
 

@@ -1,7 +1,6 @@
 use Rattle.std.proofs.Common.{◌≡◌, ◌++◌, List, IfOk, ap, arith, length, subst, sym}
 use Rattle.lw_base.specs.declared.event.Event.{Event}
-use Rattle.lw_source.specs.Views.{source_of}
-use Rattle.lw_x86.specs.Views.{program_of}
+use Rattle.lw_litmus.specs.Views.{source_of, program_of}
 use Rattle.lw_fence.proofs.Scheduling.{has_start, code_read, events_of_statement}
 use Rattle.lw_fence.proofs.schedule.push_next.Goals as goal
 

@@ -4,11 +4,10 @@ use Rattle.std.proofs.lemmas.Option.{slice_get_within}
 use Rattle.lw_base.specs.declared.event.Event.{Event}
 use Rattle.lw_base.specs.declared.event.Event.TheVariants.{Step}
 use Rattle.lw_memory.specs.Flat.{flat}
-use Rattle.lw_source.specs.declared.stmt.Stmt.{Stmt}
-use Rattle.lw_source.specs.Runs.{State, Ran, source_step}
-use Rattle.lw_source.specs.Views.{source_of}
-use Rattle.lw_source.proofs.Runs.{possible}
-use Rattle.lw_x86.specs.Views.{program_of}
+use Rattle.lw_litmus.specs.declared.stmt.Stmt.{Stmt}
+use Rattle.lw_interleaving.specs.Runs.{State, Ran, source_step}
+use Rattle.lw_litmus.specs.Views.{source_of, program_of}
+use Rattle.lw_interleaving.proofs.Runs.{possible}
 use Rattle.lw_tso.specs.Runs.{Replays}
 use Rattle.lw_fence.specs.Schedules.{schedule}
 use Rattle.lw_fence.proofs.Scheduling.{next_turn, placed_in, one_further}

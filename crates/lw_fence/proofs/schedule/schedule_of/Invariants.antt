@@ -1,7 +1,7 @@
 use Rattle.std.proofs.Common.{◌≡◌, ◌++◌, map, drop}
 use Rattle.lw_base.specs.declared.event.Event.TheVariants.{Step}
-use Rattle.lw_source.specs.Runs.{State, Ran, start_of}
-use Rattle.lw_source.specs.Views.{source_of}
+use Rattle.lw_interleaving.specs.Runs.{State, Ran, start_of}
+use Rattle.lw_litmus.specs.Views.{source_of}
 use Rattle.lw_fence.specs.Schedules.{schedule}
 use Rattle.lw_fence.proofs.schedule.schedule_of.Given as goal
 

@@ -1,6 +1,6 @@
 use Rattle.std.proofs.Common.{[]}
 use Rattle.std.proofs.lemmas.Result.{IfOk-weaker}
-use Rattle.lw_x86.specs.Views.{program_of}
+use Rattle.lw_litmus.specs.Views.{program_of}
 use Rattle.lw_finals.specs.Counts.{IsWithinLimits}
 use Rattle.lw_finals.specs.Gathered.{Gathers, EndsOfProgram}
 use Rattle.lw_finals.specs.X86Items.{x86_language}

@@ -1,7 +1,6 @@
 use Rattle.std.proofs.Common.{[], refl}
 use Rattle.std.proofs.lemmas.Result.{IfOk-weaker}
-use Rattle.lw_source.specs.Views.{source_of}
-use Rattle.lw_x86.specs.Views.{program_of}
+use Rattle.lw_litmus.specs.Views.{source_of, program_of}
 use Rattle.lw_finals.specs.Gathered.{Gathers, EndsOfProgram}
 use Rattle.lw_finals.specs.SourceItems.{source_language, StaysAndEnds}
 use Rattle.lw_finals.specs.SourceRuns.{leads_flat}

@@ -1,7 +1,7 @@
 use Rattle.std.proofs.Common.{◌≡◌, ◌++◌}
 use Rattle.std.specs.Prelude.{filter}
 use Rattle.lw_base.specs.Heads.{head_of}
-use Rattle.lw_text.specs.Frames.{locations}
+use Rattle.lw_base.specs.SeenLists.{locations}
 use Rattle.lw_report.specs.Observed.{is_observed}
 use Rattle.lw_report.proofs.projection.push_locations.Given as goal
 

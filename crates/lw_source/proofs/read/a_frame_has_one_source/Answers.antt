@@ -1,7 +1,7 @@
 use Rattle.lw_cells.proofs.Threads.{one_test}
-use Rattle.lw_source.specs.Sources.{source}
+use Rattle.lw_source.specs.Grammar.{source_grammar}
 use Rattle.lw_source.proofs.SourceLaws.{source_lawful}
 use Rattle.lw_source.proofs.read.a_frame_has_one_source.Goals as goal
 
 pub returns : goal.returns
-returns c = one_test source source_lawful
+returns c = one_test source_grammar source_lawful

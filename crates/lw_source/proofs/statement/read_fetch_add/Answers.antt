@@ -8,9 +8,9 @@ use Rattle.lw_base.specs.Registers.{IsRegister}
 use Rattle.lw_base.specs.Tables.{with_name}
 use Rattle.lw_cells.proofs.TokenRows.{same_token, gone, past}
 use Rattle.lw_cells.proofs.Drafts.{misfit_cause, statement_cause}
+use Rattle.lw_source.specs.Grammar.{source_grammar}
 use Rattle.lw_source.proofs.Phrases.{before_added, fetch_adds}
 use Rattle.lw_source.proofs.statement.read_fetch_add.Goals as goal
-use Rattle.lw_source.specs.Sources.{source}
 
 pub returns-in_err-loc-clause-place : goal.returns-in_err-loc-clause-place
 returns-in_err-loc-clause-place g c len within =
@@ -42,7 +42,7 @@ returns-in_err-loc-clause-fault g c =
 
 pub returns-in_err-loc-clause-cause : goal.returns-in_err-loc-clause-cause
 returns-in_err-loc-clause-cause g c =
-    passed_on _ _ c.from_residual-in_err-loc.ensures.1 (statement_cause source _ _ 3 _ c.in_ok-token.ensures.is (before_added _ _ _ c.requires.first.1 c.requires.first.2 c.requires.sign c.requires.third) _ _ c.in_err-loc.ensures.cause)
+    passed_on _ _ c.from_residual-in_err-loc.ensures.1 (statement_cause source_grammar _ _ 3 _ c.in_ok-token.ensures.is (before_added _ _ _ c.requires.first.1 c.requires.first.2 c.requires.sign c.requires.third) _ _ c.in_err-loc.ensures.cause)
 
 pub returns-in_err-token-2-clause-fault : goal.returns-in_err-token-2-clause-fault
 returns-in_err-token-2-clause-fault g c =
@@ -54,19 +54,19 @@ returns-in_err-ends-clause-fault g c =
 
 pub returns-in_err-token-clause-cause : goal.returns-in_err-token-clause-cause
 returns-in_err-token-clause-cause g c =
-    passed_on _ _ c.from_residual.ensures.1 (misfit_cause source _ _ _ _ c.in_err-token.ensures.cause)
+    passed_on _ _ c.from_residual.ensures.1 (misfit_cause source_grammar _ _ _ _ c.in_err-token.ensures.cause)
 
 pub returns-in_err-token-2-clause-cause : goal.returns-in_err-token-2-clause-cause
 returns-in_err-token-2-clause-cause g c =
-    passed_on _ _ c.from_residual-in_err-token-2.ensures.1 (misfit_cause source _ _ _ _ c.in_err-token-2.ensures.cause)
+    passed_on _ _ c.from_residual-in_err-token-2.ensures.1 (misfit_cause source_grammar _ _ _ _ c.in_err-token-2.ensures.cause)
 
 pub returns-in_err-src-clause-cause : goal.returns-in_err-src-clause-cause
 returns-in_err-src-clause-cause g c =
-    passed_on _ _ c.from_residual-in_err-src.ensures.1 (misfit_cause source _ _ _ _ c.in_err-src.ensures.cause)
+    passed_on _ _ c.from_residual-in_err-src.ensures.1 (misfit_cause source_grammar _ _ _ _ c.in_err-src.ensures.cause)
 
 pub returns-in_err-ends-clause-cause : goal.returns-in_err-ends-clause-cause
 returns-in_err-ends-clause-cause g c =
-    passed_on _ _ c.from_residual-in_err-ends.ensures.1 (misfit_cause source _ _ _ _ c.in_err-ends.ensures.cause)
+    passed_on _ _ c.from_residual-in_err-ends.ensures.1 (misfit_cause source_grammar _ _ _ _ c.in_err-ends.ensures.cause)
 
 pub returns-in_err-token-clause-place : goal.returns-in_err-token-clause-place
 returns-in_err-token-clause-place g c len within =

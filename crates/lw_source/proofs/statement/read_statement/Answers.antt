@@ -7,9 +7,9 @@ use Rattle.lw_cells.specs.Operands.{IsOperand}
 use Rattle.lw_cells.specs.Reading.{Fits}
 use Rattle.lw_cells.proofs.TokenRows.{same_token, gone, past, from_two, same_word, other_word}
 use Rattle.lw_cells.proofs.Drafts.{statement_cause, misfit_cause}
+use Rattle.lw_source.specs.Grammar.{source_grammar}
 use Rattle.lw_source.proofs.Phrases.{becomes, first_of, only_goto, stores, only_if, only_store}
 use Rattle.lw_source.proofs.statement.read_statement.Goals as goal
-use Rattle.lw_source.specs.Sources.{source}
 
 pub returns-then-eq-2-clause-fault : goal.returns-then-eq-2-clause-fault
 returns-then-eq-2-clause-fault g c =
@@ -19,7 +19,7 @@ returns-then-eq-2-clause-fault g c =
 pub returns-in_err-loc-clause-fault : goal.returns-in_err-loc-clause-fault
 returns-in_err-loc-clause-fault g c =
     passed_on _ _ c.from_residual-in_err-loc.ensures.1 (λ known s (says, few).
-    only_store _ _ (Fits source _ _) c.in_ok-first.ensures.found c.in_default.ensures (other_word _ _ c.if-eq-2.ensures) (other_word _ _ c.if-eq.ensures) (λ v loc q. c.in_err-loc.ensures.fault known (loc, q.1)) s says (says, few))
+    only_store _ _ (Fits source_grammar _ _) c.in_ok-first.ensures.found c.in_default.ensures (other_word _ _ c.if-eq-2.ensures) (other_word _ _ c.if-eq.ensures) (λ v loc q. c.in_err-loc.ensures.fault known (loc, q.1)) s says (says, few))
 
 pub returns-in_err-loc-clause-place : goal.returns-in_err-loc-clause-place
 returns-in_err-loc-clause-place g c len within =
@@ -44,22 +44,22 @@ returns-in_err-expect-clause-fault g c =
 pub returns-in_err-expect-2-clause-fault : goal.returns-in_err-expect-2-clause-fault
 returns-in_err-expect-2-clause-fault g c =
     passed_on _ _ c.from_residual-in_err-expect-2.ensures.1 (λ known s (says, few).
-    only_store _ _ (Fits source _ _) c.in_ok-first.ensures.found c.in_default.ensures (other_word _ _ c.if-eq-2.ensures) (other_word _ _ c.if-eq.ensures) (λ v loc q. c.in_err-expect-2.ensures.err (ap (λ t. slice_get t 1) q.0.1)) s says (says, few))
+    only_store _ _ (Fits source_grammar _ _) c.in_ok-first.ensures.found c.in_default.ensures (other_word _ _ c.if-eq-2.ensures) (other_word _ _ c.if-eq.ensures) (λ v loc q. c.in_err-expect-2.ensures.err (ap (λ t. slice_get t 1) q.0.1)) s says (says, few))
 
 pub returns-in_err-token-clause-fault : goal.returns-in_err-token-clause-fault
 returns-in_err-token-clause-fault g c =
     passed_on _ _ c.from_residual-in_err-token.ensures.1 (λ known s (says, few).
-    only_store _ _ (Fits source _ _) c.in_ok-first.ensures.found c.in_default.ensures (other_word _ _ c.if-eq-2.ensures) (other_word _ _ c.if-eq.ensures) (λ v loc q. gone _ 2 _ c.in_err-token.ensures.err (ap (λ t. slice_get t 2) q.0.1)) s says (says, few))
+    only_store _ _ (Fits source_grammar _ _) c.in_ok-first.ensures.found c.in_default.ensures (other_word _ _ c.if-eq-2.ensures) (other_word _ _ c.if-eq.ensures) (λ v loc q. gone _ 2 _ c.in_err-token.ensures.err (ap (λ t. slice_get t 2) q.0.1)) s says (says, few))
 
 pub returns-in_err-ends-clause-fault : goal.returns-in_err-ends-clause-fault
 returns-in_err-ends-clause-fault g c =
     passed_on _ _ c.from_residual-in_err-ends.ensures.1 (λ known s (says, few).
-    only_store _ _ (Fits source _ _) c.in_ok-first.ensures.found c.in_default.ensures (other_word _ _ c.if-eq-2.ensures) (other_word _ _ c.if-eq.ensures) (λ v loc q. past _ 3 c.in_err-ends.ensures.err (ap (λ t. slice_get t 3) q.0.1)) s says (says, few))
+    only_store _ _ (Fits source_grammar _ _) c.in_ok-first.ensures.found c.in_default.ensures (other_word _ _ c.if-eq-2.ensures) (other_word _ _ c.if-eq.ensures) (λ v loc q. past _ 3 c.in_err-ends.ensures.err (ap (λ t. slice_get t 3) q.0.1)) s says (says, few))
 
 pub returns-in_err-val-clause-fault : goal.returns-in_err-val-clause-fault
 returns-in_err-val-clause-fault g c =
     passed_on _ _ c.from_residual-in_err-val.ensures.1 (λ known s (says, few).
-    only_store _ _ (Fits source _ _) c.in_ok-first.ensures.found c.in_default.ensures (other_word _ _ c.if-eq-2.ensures) (other_word _ _ c.if-eq.ensures) (λ v loc q.
+    only_store _ _ (Fits source_grammar _ _) c.in_ok-first.ensures.found c.in_default.ensures (other_word _ _ c.if-eq-2.ensures) (other_word _ _ c.if-eq.ensures) (λ v loc q.
     let same : q.0.0 ≡ c.in_ok-token.field-0.text.now = same_token _ 2 _ _ (ap (λ t. slice_get t 2) q.0.1) c.in_ok-token.ensures.found in
     c.in_err-val.ensures.err v (subst (λ w. IsOperand Source w v) same q.0.3)) s says (says, few))
 
@@ -70,13 +70,13 @@ returns-then-eq-clause-fault g c =
 
 pub returns-in_err-loc-clause-cause : goal.returns-in_err-loc-clause-cause
 returns-in_err-loc-clause-cause g c =
-    passed_on _ _ c.from_residual-in_err-loc.ensures.1 (statement_cause source _ _ 0 _ c.in_ok-first.ensures.is (inl refl) _ _ c.in_err-loc.ensures.cause)
+    passed_on _ _ c.from_residual-in_err-loc.ensures.1 (statement_cause source_grammar _ _ 0 _ c.in_ok-first.ensures.is (inl refl) _ _ c.in_err-loc.ensures.cause)
 
 pub returns-then-eq-clause-found : goal.returns-then-eq-clause-found
 returns-then-eq-clause-found g c = IfOk-weaker c.read_goto.result _ _ (λ stmt read. read c.args.locs.now) c.read_goto.ensures.found
 
 pub returns-then-eq-clause-cause : goal.returns-then-eq-clause-cause
-returns-then-eq-clause-cause g c = IfErr-weaker c.read_goto.result _ _ (λ f m. misfit_cause source _ _ f.at f.cause m) c.read_goto.ensures.cause
+returns-then-eq-clause-cause g c = IfErr-weaker c.read_goto.result _ _ (λ f m. misfit_cause source_grammar _ _ f.at f.cause m) c.read_goto.ensures.cause
 
 pub returns-then-eq-clause-place : goal.returns-then-eq-clause-place
 returns-then-eq-clause-place g c = c.read_goto.ensures.place
@@ -85,7 +85,7 @@ pub returns-then-eq-2-clause-found : goal.returns-then-eq-2-clause-found
 returns-then-eq-2-clause-found g c = IfOk-weaker c.read_if.result _ _ (λ stmt read. read c.args.locs.now) c.read_if.ensures.found
 
 pub returns-then-eq-2-clause-cause : goal.returns-then-eq-2-clause-cause
-returns-then-eq-2-clause-cause g c = IfErr-weaker c.read_if.result _ _ (λ f m. misfit_cause source _ _ f.at f.cause m) c.read_if.ensures.cause
+returns-then-eq-2-clause-cause g c = IfErr-weaker c.read_if.result _ _ (λ f m. misfit_cause source_grammar _ _ f.at f.cause m) c.read_if.ensures.cause
 
 pub returns-then-eq-2-clause-place : goal.returns-then-eq-2-clause-place
 returns-then-eq-2-clause-place g c = c.read_if.ensures.place
@@ -104,7 +104,7 @@ returns-in-Some-clause-place g c = c.read_value.ensures.place
 
 pub returns-in_err-first-clause-cause : goal.returns-in_err-first-clause-cause
 returns-in_err-first-clause-cause g c =
-    passed_on _ _ c.from_residual.ensures.1 (misfit_cause source _ _ _ _ c.in_err-first.ensures.cause)
+    passed_on _ _ c.from_residual.ensures.1 (misfit_cause source_grammar _ _ _ _ c.in_err-first.ensures.cause)
 
 pub returns-in_err-first-clause-place : goal.returns-in_err-first-clause-place
 returns-in_err-first-clause-place g c len within =
@@ -112,7 +112,7 @@ returns-in_err-first-clause-place g c len within =
 
 pub returns-in_err-expect-clause-cause : goal.returns-in_err-expect-clause-cause
 returns-in_err-expect-clause-cause g c =
-    passed_on _ _ c.from_residual-in_err-expect.ensures.1 (misfit_cause source _ _ _ _ c.in_err-expect.ensures.cause)
+    passed_on _ _ c.from_residual-in_err-expect.ensures.1 (misfit_cause source_grammar _ _ _ _ c.in_err-expect.ensures.cause)
 
 pub returns-in_err-expect-clause-place : goal.returns-in_err-expect-clause-place
 returns-in_err-expect-clause-place g c len within =
@@ -120,7 +120,7 @@ returns-in_err-expect-clause-place g c len within =
 
 pub returns-in_err-expect-2-clause-cause : goal.returns-in_err-expect-2-clause-cause
 returns-in_err-expect-2-clause-cause g c =
-    passed_on _ _ c.from_residual-in_err-expect-2.ensures.1 (misfit_cause source _ _ _ _ c.in_err-expect-2.ensures.cause)
+    passed_on _ _ c.from_residual-in_err-expect-2.ensures.1 (misfit_cause source_grammar _ _ _ _ c.in_err-expect-2.ensures.cause)
 
 pub returns-in_err-expect-2-clause-place : goal.returns-in_err-expect-2-clause-place
 returns-in_err-expect-2-clause-place g c len within =
@@ -128,7 +128,7 @@ returns-in_err-expect-2-clause-place g c len within =
 
 pub returns-in_err-token-clause-cause : goal.returns-in_err-token-clause-cause
 returns-in_err-token-clause-cause g c =
-    passed_on _ _ c.from_residual-in_err-token.ensures.1 (misfit_cause source _ _ _ _ c.in_err-token.ensures.cause)
+    passed_on _ _ c.from_residual-in_err-token.ensures.1 (misfit_cause source_grammar _ _ _ _ c.in_err-token.ensures.cause)
 
 pub returns-in_err-token-clause-place : goal.returns-in_err-token-clause-place
 returns-in_err-token-clause-place g c len within =
@@ -136,7 +136,7 @@ returns-in_err-token-clause-place g c len within =
 
 pub returns-in_err-ends-clause-cause : goal.returns-in_err-ends-clause-cause
 returns-in_err-ends-clause-cause g c =
-    passed_on _ _ c.from_residual-in_err-ends.ensures.1 (misfit_cause source _ _ _ _ c.in_err-ends.ensures.cause)
+    passed_on _ _ c.from_residual-in_err-ends.ensures.1 (misfit_cause source_grammar _ _ _ _ c.in_err-ends.ensures.cause)
 
 pub returns-in_err-ends-clause-place : goal.returns-in_err-ends-clause-place
 returns-in_err-ends-clause-place g c len within =
@@ -144,7 +144,7 @@ returns-in_err-ends-clause-place g c len within =
 
 pub returns-in_err-val-clause-cause : goal.returns-in_err-val-clause-cause
 returns-in_err-val-clause-cause g c =
-    passed_on _ _ c.from_residual-in_err-val.ensures.1 (misfit_cause source _ _ _ _ c.in_err-val.ensures.cause)
+    passed_on _ _ c.from_residual-in_err-val.ensures.1 (misfit_cause source_grammar _ _ _ _ c.in_err-val.ensures.cause)
 
 pub returns-in_err-first-clause-found : goal.returns-in_err-first-clause-found
 returns-in_err-first-clause-found g c =

@@ -11,26 +11,26 @@ use Rattle.lw_cells.specs.Operands.{IsOperand}
 use Rattle.lw_cells.specs.Reading.{Fits}
 use Rattle.lw_cells.proofs.TokenRows.{not_both, not_longer, no_operand, from_two, same_word, other_word}
 use Rattle.lw_cells.proofs.Drafts.{misfit_cause, statement_cause}
+use Rattle.lw_source.specs.Grammar.{source_grammar}
 use Rattle.lw_source.proofs.Phrases.{becomes, sets, loads, no_value, value_begins, swap_reserved, swap_register, swap_number, fetch_add_reserved, fetch_add_register, fetch_add_number, swap_fetch_add, register_apart, before_second}
 use Rattle.lw_source.proofs.statement.read_value.Goals as goal
-use Rattle.lw_source.specs.Sources.{source}
 
 pub returns-then-eq-clause-fault : goal.returns-then-eq-clause-fault
 returns-then-eq-clause-fault g c =
     let swap : c.in_ok-third.third.text.now ≡ codes "swap" = same_word _ _ c.if-eq.ensures in
     IfErr-weaker c.read_swap.result _ _ (λ f none known s (says, few).
-    no_value _ c.in_ok-third.third.text.now (Fits source _ _) (λ x d e loc l q. swap_reserved (subst IsLocation swap loc)) (λ d r x e q. none known d r x q) (λ d r x e q. swap_fetch_add (sym swap ∙ e)) (λ d v is l q. no_operand Source _ swap_register swap_number v (subst (λ w. IsOperand Source w v) swap is)) (λ d l v is m q. swap_register l (subst (λ w. IsRegister Source w l) swap is)) s (value_begins _ _ c.args.dst c.requires.first.1 c.requires.first.2 _ c.in_ok-third.ensures.found s says) (says, few)) c.read_swap.ensures.fault
+    no_value _ c.in_ok-third.third.text.now (Fits source_grammar _ _) (λ x d e loc l q. swap_reserved (subst IsLocation swap loc)) (λ d r x e q. none known d r x q) (λ d r x e q. swap_fetch_add (sym swap ∙ e)) (λ d v is l q. no_operand Source _ swap_register swap_number v (subst (λ w. IsOperand Source w v) swap is)) (λ d l v is m q. swap_register l (subst (λ w. IsRegister Source w l) swap is)) s (value_begins _ _ c.args.dst c.requires.first.1 c.requires.first.2 _ c.in_ok-third.ensures.found s says) (says, few)) c.read_swap.ensures.fault
 
 pub returns-then-eq-2-clause-fault : goal.returns-then-eq-2-clause-fault
 returns-then-eq-2-clause-fault g c =
     let add : c.in_ok-third.third.text.now ≡ codes "fetchadd" = same_word _ _ c.if-eq-2.ensures in
     IfErr-weaker c.read_fetch_add.result _ _ (λ f none known s (says, few).
-    no_value _ c.in_ok-third.third.text.now (Fits source _ _) (λ x d e loc l q. fetch_add_reserved (subst IsLocation add loc)) (λ d r x e q. swap_fetch_add (sym e ∙ add)) (λ d r x e q. none known d r x q) (λ d v is l q. no_operand Source _ fetch_add_register fetch_add_number v (subst (λ w. IsOperand Source w v) add is)) (λ d l v is m q. fetch_add_register l (subst (λ w. IsRegister Source w l) add is)) s (value_begins _ _ c.args.dst c.requires.first.1 c.requires.first.2 _ c.in_ok-third.ensures.found s says) (says, few)) c.read_fetch_add.ensures.fault
+    no_value _ c.in_ok-third.third.text.now (Fits source_grammar _ _) (λ x d e loc l q. fetch_add_reserved (subst IsLocation add loc)) (λ d r x e q. swap_fetch_add (sym e ∙ add)) (λ d r x e q. none known d r x q) (λ d v is l q. no_operand Source _ fetch_add_register fetch_add_number v (subst (λ w. IsOperand Source w v) add is)) (λ d l v is m q. fetch_add_register l (subst (λ w. IsRegister Source w l) add is)) s (value_begins _ _ c.args.dst c.requires.first.1 c.requires.first.2 _ c.in_ok-third.ensures.found s says) (says, few)) c.read_fetch_add.ensures.fault
 
 pub returns-in-Some-clause-fault : goal.returns-in-Some-clause-fault
 returns-in-Some-clause-fault g c =
     from_two c.read_sum.result _ c.read_sum.ensures.longer c.read_sum.ensures.fault (λ long none f known s (says, few).
-    no_value _ c.in_ok-third.third.text.now (Fits source _ _) (λ x d e loc l q. register_apart _ _ c.in-Some.ensures loc) (λ d r x e q. swap_register _ (subst (λ w. IsRegister Source w c.in-Some.left) e c.in-Some.ensures)) (λ d r x e q. fetch_add_register _ (subst (λ w. IsRegister Source w c.in-Some.left) e c.in-Some.ensures)) (λ d v is l q. omega (arith, l, long)) (λ d l v is m q. none d l v q.0) s (value_begins _ _ c.args.dst c.requires.first.1 c.requires.first.2 _ c.in_ok-third.ensures.found s says) (says, few))
+    no_value _ c.in_ok-third.third.text.now (Fits source_grammar _ _) (λ x d e loc l q. register_apart _ _ c.in-Some.ensures loc) (λ d r x e q. swap_register _ (subst (λ w. IsRegister Source w c.in-Some.left) e c.in-Some.ensures)) (λ d r x e q. fetch_add_register _ (subst (λ w. IsRegister Source w c.in-Some.left) e c.in-Some.ensures)) (λ d v is l q. omega (arith, l, long)) (λ d l v is m q. none d l v q.0) s (value_begins _ _ c.args.dst c.requires.first.1 c.requires.first.2 _ c.in_ok-third.ensures.found s says) (says, few))
 
 pub returns-in-Some-number-clause-found : goal.returns-in-Some-number-clause-found
 returns-in-Some-number-clause-found g c =
@@ -39,11 +39,11 @@ returns-in-Some-number-clause-found g c =
 pub returns-in_err-loc-clause-fault : goal.returns-in_err-loc-clause-fault
 returns-in_err-loc-clause-fault g c =
     passed_on _ _ c.from_residual-in_err-loc.ensures.1 (λ known s (says, few).
-    no_value _ c.in_ok-third.third.text.now (Fits source _ _) (λ x d e loc l q. c.in_err-loc.ensures.fault known (loc, subst (λ n. length (with_name c.args.locs.now n) ≤ 8) e q.1)) (λ d r x e q. other_word _ _ c.if-eq.ensures (sym e)) (λ d r x e q. other_word _ _ c.if-eq-2.ensures (sym e)) (λ d v is l q. no_operand Source _ c.in_default.ensures c.in_default-number.ensures v is) (λ d l v is m q. c.in_default.ensures l is) s (value_begins _ _ c.args.dst c.requires.first.1 c.requires.first.2 _ c.in_ok-third.ensures.found s says) (says, few))
+    no_value _ c.in_ok-third.third.text.now (Fits source_grammar _ _) (λ x d e loc l q. c.in_err-loc.ensures.fault known (loc, subst (λ n. length (with_name c.args.locs.now n) ≤ 8) e q.1)) (λ d r x e q. other_word _ _ c.if-eq.ensures (sym e)) (λ d r x e q. other_word _ _ c.if-eq-2.ensures (sym e)) (λ d v is l q. no_operand Source _ c.in_default.ensures c.in_default-number.ensures v is) (λ d l v is m q. c.in_default.ensures l is) s (value_begins _ _ c.args.dst c.requires.first.1 c.requires.first.2 _ c.in_ok-third.ensures.found s says) (says, few))
 
 pub returns-in_err-loc-clause-cause : goal.returns-in_err-loc-clause-cause
 returns-in_err-loc-clause-cause g c =
-    passed_on _ _ c.from_residual-in_err-loc.ensures.1 (statement_cause source _ _ 2 _ c.in_ok-third.ensures.is (before_second _ _ _ c.requires.first.1 c.requires.first.2 c.requires.sign) _ _ c.in_err-loc.ensures.cause)
+    passed_on _ _ c.from_residual-in_err-loc.ensures.1 (statement_cause source_grammar _ _ 2 _ c.in_ok-third.ensures.is (before_second _ _ _ c.requires.first.1 c.requires.first.2 c.requires.sign) _ _ c.in_err-loc.ensures.cause)
 
 pub returns-in_err-loc-clause-place : goal.returns-in_err-loc-clause-place
 returns-in_err-loc-clause-place g c len within =
@@ -60,16 +60,16 @@ returns-in_err-third-clause-fault g c =
 pub returns-in_err-ends-clause-fault : goal.returns-in_err-ends-clause-fault
 returns-in_err-ends-clause-fault g c =
     passed_on _ _ c.from_residual-in_err-ends.ensures.1 (λ known s (says, few).
-    no_value _ c.in_ok-third.third.text.now (Fits source _ _) (λ x d e loc l q. not_longer _ _ l c.in_err-ends.ensures.err) (λ d r x e q. other_word _ _ c.if-eq.ensures (sym e)) (λ d r x e q. other_word _ _ c.if-eq-2.ensures (sym e)) (λ d v is l q. not_longer _ _ l c.in_err-ends.ensures.err) (λ d l v is m q. c.in_default.ensures l is) s (value_begins _ _ c.args.dst c.requires.first.1 c.requires.first.2 _ c.in_ok-third.ensures.found s says) (says, few))
+    no_value _ c.in_ok-third.third.text.now (Fits source_grammar _ _) (λ x d e loc l q. not_longer _ _ l c.in_err-ends.ensures.err) (λ d r x e q. other_word _ _ c.if-eq.ensures (sym e)) (λ d r x e q. other_word _ _ c.if-eq-2.ensures (sym e)) (λ d v is l q. not_longer _ _ l c.in_err-ends.ensures.err) (λ d l v is m q. c.in_default.ensures l is) s (value_begins _ _ c.args.dst c.requires.first.1 c.requires.first.2 _ c.in_ok-third.ensures.found s says) (says, few))
 
 pub returns-in_err-ends-2-clause-fault : goal.returns-in_err-ends-2-clause-fault
 returns-in_err-ends-2-clause-fault g c =
     passed_on _ _ c.from_residual-in_err-ends-2.ensures.1 (λ known s (says, few).
-    no_value _ c.in_ok-third.third.text.now (Fits source _ _) (λ x d e loc l q. not_longer _ _ l c.in_err-ends-2.ensures.err) (λ d r x e q. other_word _ _ c.if-eq.ensures (sym e)) (λ d r x e q. other_word _ _ c.if-eq-2.ensures (sym e)) (λ d v is l q. not_longer _ _ l c.in_err-ends-2.ensures.err) (λ d l v is m q. c.in_default.ensures l is) s (value_begins _ _ c.args.dst c.requires.first.1 c.requires.first.2 _ c.in_ok-third.ensures.found s says) (says, few))
+    no_value _ c.in_ok-third.third.text.now (Fits source_grammar _ _) (λ x d e loc l q. not_longer _ _ l c.in_err-ends-2.ensures.err) (λ d r x e q. other_word _ _ c.if-eq.ensures (sym e)) (λ d r x e q. other_word _ _ c.if-eq-2.ensures (sym e)) (λ d v is l q. not_longer _ _ l c.in_err-ends-2.ensures.err) (λ d l v is m q. c.in_default.ensures l is) s (value_begins _ _ c.args.dst c.requires.first.1 c.requires.first.2 _ c.in_ok-third.ensures.found s says) (says, few))
 
 pub returns-in-Some-clause-cause : goal.returns-in-Some-clause-cause
 returns-in-Some-clause-cause g c =
-    IfErr-weaker c.read_sum.result _ _ (λ f m. misfit_cause source _ _ f.at f.cause m) c.read_sum.ensures.cause
+    IfErr-weaker c.read_sum.result _ _ (λ f m. misfit_cause source_grammar _ _ f.at f.cause m) c.read_sum.ensures.cause
 
 pub returns-in-Some-clause-found : goal.returns-in-Some-clause-found
 returns-in-Some-clause-found g c =
@@ -89,7 +89,7 @@ returns-in-Some-clause-place g c = c.read_sum.ensures.place
 
 pub returns-in_err-third-clause-cause : goal.returns-in_err-third-clause-cause
 returns-in_err-third-clause-cause g c =
-    passed_on _ _ c.from_residual.ensures.1 (misfit_cause source _ _ _ _ c.in_err-third.ensures.cause)
+    passed_on _ _ c.from_residual.ensures.1 (misfit_cause source_grammar _ _ _ _ c.in_err-third.ensures.cause)
 
 pub returns-in_err-third-clause-place : goal.returns-in_err-third-clause-place
 returns-in_err-third-clause-place g c len within =
@@ -97,7 +97,7 @@ returns-in_err-third-clause-place g c len within =
 
 pub returns-in_err-ends-clause-cause : goal.returns-in_err-ends-clause-cause
 returns-in_err-ends-clause-cause g c =
-    passed_on _ _ c.from_residual-in_err-ends.ensures.1 (misfit_cause source _ _ _ _ c.in_err-ends.ensures.cause)
+    passed_on _ _ c.from_residual-in_err-ends.ensures.1 (misfit_cause source_grammar _ _ _ _ c.in_err-ends.ensures.cause)
 
 pub returns-in_err-ends-clause-place : goal.returns-in_err-ends-clause-place
 returns-in_err-ends-clause-place g c len within =
@@ -105,7 +105,7 @@ returns-in_err-ends-clause-place g c len within =
 
 pub returns-in_err-ends-2-clause-cause : goal.returns-in_err-ends-2-clause-cause
 returns-in_err-ends-2-clause-cause g c =
-    passed_on _ _ c.from_residual-in_err-ends-2.ensures.1 (misfit_cause source _ _ _ _ c.in_err-ends-2.ensures.cause)
+    passed_on _ _ c.from_residual-in_err-ends-2.ensures.1 (misfit_cause source_grammar _ _ _ _ c.in_err-ends-2.ensures.cause)
 
 pub returns-in_err-ends-2-clause-place : goal.returns-in_err-ends-2-clause-place
 returns-in_err-ends-2-clause-place g c len within =

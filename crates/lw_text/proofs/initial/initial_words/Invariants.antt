@@ -1,5 +1,5 @@
 use Rattle.std.proofs.Common.{◌≡◌, map}
-use Rattle.lw_text.specs.Frames.{locations}
+use Rattle.lw_base.specs.SeenLists.{locations}
 use Rattle.lw_text.specs.Resolved.{word_at}
 use Rattle.lw_text.proofs.initial.initial_words.Given as goal
 

@@ -1,6 +1,6 @@
 use Rattle.std.proofs.Common.{◌≡◌, ◌++◌}
 use Rattle.std.specs.Prelude.{filter}
-use Rattle.lw_text.specs.Frames.{locations}
+use Rattle.lw_base.specs.SeenLists.{locations}
 use Rattle.lw_text.specs.Resolved.{is_listed}
 use Rattle.lw_text.proofs.seen.see_locations.Given as goal
 

@@ -1,5 +1,5 @@
 use Rattle.std.proofs.Common.{ap}
-use Rattle.lw_x86.specs.Programs.{location_of}
+use Rattle.lw_litmus.specs.Programs.{location_of}
 use Rattle.lw_x86.proofs.instruction_text.write_instruction.Goals as goal
 
 pub write_on_memory-requires : goal.write_on_memory-requires

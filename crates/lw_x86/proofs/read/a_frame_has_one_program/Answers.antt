@@ -1,7 +1,7 @@
 use Rattle.lw_cells.proofs.Threads.{one_test}
-use Rattle.lw_x86.specs.Programs.{x86}
+use Rattle.lw_x86.specs.Grammar.{x86_grammar}
 use Rattle.lw_x86.proofs.X86Laws.{x86_lawful}
 use Rattle.lw_x86.proofs.read.a_frame_has_one_program.Goals as goal
 
 pub returns : goal.returns
-returns c = one_test x86 x86_lawful
+returns c = one_test x86_grammar x86_lawful

@@ -1,8 +1,8 @@
 use Rattle.std.proofs.Common.{◌<◌, List, length, ap, sym, subst}
-use Rattle.lw_source.specs.declared.stmt.Stmt.{Stmt}
-use Rattle.lw_source.specs.Runs.{State, start_of, is_final, outcome_of}
-use Rattle.lw_source.specs.Sources.{SourceTest}
-use Rattle.lw_source.specs.Views.{source_of}
+use Rattle.lw_litmus.specs.declared.stmt.Stmt.{Stmt}
+use Rattle.lw_interleaving.specs.Runs.{State, start_of, is_final, outcome_of}
+use Rattle.lw_litmus.specs.Sources.{SourceTest}
+use Rattle.lw_litmus.specs.Views.{source_of}
 use Rattle.lw_finals.specs.SourceItems.{CarriedOut, StaysAndEnds}
 use Rattle.lw_finals.specs.SourceRuns.{SourceRunning}
 use Rattle.lw_finals.proofs.OrderSteps.{ran_off}

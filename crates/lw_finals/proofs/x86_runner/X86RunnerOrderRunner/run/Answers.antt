@@ -8,9 +8,9 @@ use Rattle.lw_tso.specs.Exchange.{StandsAt}
 use Rattle.lw_tso.specs.Machines.{EventDone}
 use Rattle.lw_tso.specs.Runs.{Initial, is_final, machine_outcome}
 use Rattle.lw_tso.specs.Starts.{CanStart}
-use Rattle.lw_x86.specs.declared.instr.Instr.{Instr}
-use Rattle.lw_x86.specs.Programs.{ProgramTest}
-use Rattle.lw_x86.specs.Views.{program_of}
+use Rattle.lw_litmus.specs.declared.instr.Instr.{Instr}
+use Rattle.lw_litmus.specs.Programs.{ProgramTest}
+use Rattle.lw_litmus.specs.Views.{program_of}
 use Rattle.lw_finals.specs.declared.item.Item.{Item}
 use Rattle.lw_finals.specs.X86Runners.{X86Running}
 use Rattle.lw_finals.specs.X86Runs.{event_of, CarriedOut, StaysAndEnds}

@@ -1,5 +1,5 @@
 use Rattle.std.proofs.Common.{ap}
-use Rattle.lw_x86.specs.Programs.{location_of}
+use Rattle.lw_litmus.specs.Programs.{location_of}
 use Rattle.lw_tso.proofs.processor.Processor.carry_out.Goals as goal
 
 pub load-requires-clause-loc : goal.load-requires-clause-loc

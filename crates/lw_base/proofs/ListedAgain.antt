@@ -1,0 +1,193 @@
+-- A list of registers and locations in their order is what is left of all of them by asking which are in it.
+use Rattle.std.proofs.Common.{◌≡◌, ℕ, zero, suc, ◌+◌, ◌*◌, ◌<◌, ◌≤◌, ◌⊎◌, inl, inr, Bool, true, false, List, [], ◌∷◌, ◌++◌, map, length, refl, sym, ap, ◌∙◌, subst, arith, length-append}
+use Rattle.std.specs.Prelude.{◌==◌, filter}
+use Rattle.std.specs.List.{AllByRecursion, list_any, flat_map, range_with_len}
+use Rattle.std.proofs.lemmas.Bool.{cases_Bool, and_parts, or_cases, or_right, eqb-true, eqb-false, eq-eqb}
+use Rattle.std.proofs.lemmas.List.FromFn.{length-map-range_with_len}
+use Rattle.lw_base.specs.declared.head.Seen.{Seen}
+use Rattle.lw_base.specs.declared.head.Seen.TheVariants.{Register, Location}
+use Rattle.lw_base.specs.WellFormed.{IsSeen, ComesBefore, Ascending}
+use Rattle.lw_base.specs.SeenLists.{same_seen, registers_of, all_registers, locations}
+use Rattle.lw_base.proofs.SeenLists.{all_ascending}
+
+-- ---- the same register or location
+
+pub same_seen_is : (s t : Seen) → same_seen s t ≡ true → s ≡ t
+same_seen_is (Register t r) (Register u q) h =
+    let both = and_parts (t == u) (r == q) h in
+    let e : t ≡ u = eqb-true t u both.0 in
+    let f : r ≡ q = eqb-true r q both.1 in
+    cc
+same_seen_is (Register t r) (Location x) h = absurd cc
+same_seen_is (Location x) (Register t r) h = absurd cc
+same_seen_is (Location x) (Location y) h = ap (λ (z : ℕ). Location z) (eqb-true x y h)
+
+pub same_seen_itself : (s : Seen) → same_seen s s ≡ true
+same_seen_itself (Register t r) = rw (eq-eqb t t refl, eq-eqb r r refl) refl
+same_seen_itself (Location x) = eq-eqb x x refl
+
+not_itself : (s : Seen) → ComesBefore s s → ⊥
+not_itself (Register t r) (inl h) = omega (arith, h)
+not_itself (Register t r) (inr h) = omega (arith, h.1)
+not_itself (Location x) h = omega (arith, h)
+
+other_seen : (s t : Seen) → (s ≡ t → ⊥) → same_seen s t ≡ false
+other_seen s t ne = elim (cases_Bool (same_seen s t)) [ inl e ↦ absurd (ne (same_seen_is s t e)) | inr e ↦ e ]
+
+before_apart : (s t : Seen) → ComesBefore s t → same_seen s t ≡ false
+before_apart s t h = other_seen s t (λ e. not_itself t (subst (λ (x : Seen). ComesBefore x t) e h))
+
+behind_apart : (s t : Seen) → ComesBefore s t → same_seen t s ≡ false
+behind_apart s t h = other_seen t s (λ e. not_itself t (subst (λ (x : Seen). ComesBefore x t) (sym e) h))
+
+before_before : (s t u : Seen) → ComesBefore s t → ComesBefore t u → ComesBefore s u
+before_before (Register a b) (Register c d) (Register e f) (inl h) (inl k) = inl (omega (arith, h, k))
+before_before (Register a b) (Register c d) (Register e f) (inl h) (inr k) = inl (omega (arith, h, k.0))
+before_before (Register a b) (Register c d) (Register e f) (inr h) (inl k) = inl (omega (arith, h.0, k))
+before_before (Register a b) (Register c d) (Register e f) (inr h) (inr k) = inr (omega (arith, h.0, k.0), omega (arith, h.1, k.1))
+before_before (Register a b) (Register c d) (Location x) h k = tt
+before_before (Register a b) (Location x) (Register c d) h k = absurd k
+before_before (Register a b) (Location x) (Location y) h k = tt
+before_before (Location x) (Register a b) u h k = absurd h
+before_before (Location x) (Location y) (Register a b) h k = absurd k
+before_before (Location x) (Location y) (Location z) h k = omega (arith, h, k)
+
+-- ---- which are in a list
+
+abbrev pub has_seen : List Seen → Seen → Bool
+has_seen ss s = list_any (λ x. same_seen x s) ss
+
+module _ (us : List Seen) (u : Seen) where
+  none_same : (ss : List Seen) → AllByRecursion (λ x. same_seen x u ≡ false) ss → has_seen ss u ≡ false
+  none_same [] h = refl
+  none_same (s ∷ ss) h = let e = h.0 in rw (e, none_same ss h.1) refl
+
+  -- one that is behind the first of a list is in the rest
+  all_behind : (ls : List Seen) → AllByRecursion (λ x. same_seen u x ≡ false) ls → AllByRecursion (λ x. has_seen (u ∷ us) x ≡ true) ls → AllByRecursion (λ x. has_seen us x ≡ true) ls
+  all_behind [] h k = tt
+  all_behind (l ∷ ls) h k = let e = h.0 in (rw e at k.0, all_behind ls h.1 k.1)
+
+all_before : (l u : Seen) (ls : List Seen) → ComesBefore u l → AllByRecursion (ComesBefore l) ls → AllByRecursion (ComesBefore u) (l ∷ ls)
+all_before l u ls h all = (h, go ls all)
+  where
+    go : (xs : List Seen) → AllByRecursion (ComesBefore l) xs → AllByRecursion (ComesBefore u) xs
+    go [] a = tt
+    go (x ∷ xs) a = (before_before u l x h a.0, go xs a.1)
+
+all_apart : (u : Seen) (ls : List Seen) → AllByRecursion (ComesBefore u) ls → AllByRecursion (λ x. same_seen u x ≡ false) ls
+all_apart u [] h = tt
+all_apart u (l ∷ ls) h = (before_apart u l h.0, all_apart u ls h.1)
+
+all_apart_from : (u : Seen) (ls : List Seen) → AllByRecursion (ComesBefore u) ls → AllByRecursion (λ x. same_seen x u ≡ false) ls
+all_apart_from u [] h = tt
+all_apart_from u (l ∷ ls) h = (behind_apart u l h.0, all_apart_from u ls h.1)
+
+-- one that is in a list behind another stands behind it
+found_behind : (u l : Seen) (us : List Seen) → AllByRecursion (ComesBefore u) us → has_seen us l ≡ true → ComesBefore u l
+found_behind u l [] all h = absurd cc
+found_behind u l (x ∷ us) all h =
+    elim (or_cases (same_seen x l) (has_seen us l) h) [
+      | inl e ↦ subst (ComesBefore u) (same_seen_is x l e) all.0
+      | inr k ↦ found_behind u l us all.1 k
+    ]
+
+filter_agrees : (p q : Seen → Bool) (us : List Seen) → AllByRecursion (λ s. p s ≡ q s) us → filter p us ≡ filter q us
+filter_agrees p q [] h = refl
+filter_agrees p q (u ∷ us) h = go (q u) refl (filter_agrees p q us h.1)
+  where
+    go : (b : Bool) → q u ≡ b → filter p us ≡ filter q us → filter p (u ∷ us) ≡ filter q (u ∷ us)
+    go true e rest = rw (h.0 ∙ e, e) (ap (λ (l : List Seen). u ∷ l) rest)
+    go false e rest = rw (h.0 ∙ e, e) rest
+
+filter_nothing : (us : List Seen) → filter (has_seen []) us ≡ []
+filter_nothing [] = refl
+filter_nothing (u ∷ us) = filter_nothing us
+
+without_first : (l : Seen) (ls us : List Seen) → AllByRecursion (ComesBefore l) us → AllByRecursion (λ s. has_seen (l ∷ ls) s ≡ has_seen ls s) us
+without_first l ls [] h = tt
+without_first l ls (u ∷ us) h = let e = before_apart l u h.0 in (rw e refl, without_first l ls us h.1)
+
+pub filtered_again : (us ls : List Seen) → Ascending us → Ascending ls → AllByRecursion (λ l. has_seen us l ≡ true) ls → filter (has_seen ls) us ≡ ls
+filtered_again [] [] au al all = refl
+filtered_again [] (l ∷ ls) au al all = absurd (let h = all.0 in cc)
+filtered_again (u ∷ us) [] au al all = filter_nothing us
+filtered_again (u ∷ us) (l ∷ ls) au al all = go (cases_Bool (same_seen l u)) (filtered_again us ls au.1 al.1) (filtered_again us (l ∷ ls) au.1 al)
+  where
+    go : (same_seen l u ≡ true) ⊎ (same_seen l u ≡ false) → (AllByRecursion (λ x. has_seen us x ≡ true) ls → filter (has_seen ls) us ≡ ls) → (AllByRecursion (λ x. has_seen us x ≡ true) (l ∷ ls) → filter (has_seen (l ∷ ls)) us ≡ l ∷ ls) → filter (has_seen (l ∷ ls)) (u ∷ us) ≡ l ∷ ls
+    go (inl e) first whole =
+        let same : l ≡ u = same_seen_is l u e in
+        let behind : AllByRecursion (ComesBefore u) ls = subst (λ (x : Seen). AllByRecursion (ComesBefore x) ls) same al.0 in
+        let ahead : AllByRecursion (ComesBefore l) us = subst (λ (x : Seen). AllByRecursion (ComesBefore x) us) (sym same) au.0 in
+        let rest : filter (has_seen (l ∷ ls)) us ≡ ls = filter_agrees (has_seen (l ∷ ls)) (has_seen ls) us (without_first l ls us ahead) ∙ first (all_behind us u ls (all_apart u ls behind) all.1) in
+        rw e (ap (λ (x : Seen). x ∷ filter (has_seen (l ∷ ls)) us) (sym same) ∙ ap (λ (xs : List Seen). l ∷ xs) rest)
+    go (inr e) first whole =
+        let apart : same_seen u l ≡ false = other_seen u l (λ f. let g : same_seen l u ≡ true = subst (λ (x : Seen). same_seen l x ≡ true) (sym f) (same_seen_itself l) in cc) in
+        let here : has_seen us l ≡ true = rw apart at all.0 in
+        let before : ComesBefore u l = found_behind u l us au.0 here in
+        let behind : AllByRecursion (ComesBefore u) (l ∷ ls) = all_before l u ls before al.0 in
+        let none : has_seen (l ∷ ls) u ≡ false = none_same us u (l ∷ ls) (all_apart_from u (l ∷ ls) behind) in
+        rw none (whole (all_behind us u (l ∷ ls) (all_apart u (l ∷ ls) behind) all))
+
+-- ---- all registers and locations
+
+pub has_left : (ss us : List Seen) (s : Seen) → has_seen ss s ≡ true → has_seen (ss ++ us) s ≡ true
+has_left [] us s h = absurd cc
+has_left (x ∷ ss) us s h = elim (or_cases (same_seen x s) (has_seen ss s) h) [ inl e ↦ rw e refl | inr k ↦ or_right (same_seen x s) (has_seen (ss ++ us) s) (has_left ss us s k) ]
+
+pub has_right : (ss us : List Seen) (s : Seen) → has_seen us s ≡ true → has_seen (ss ++ us) s ≡ true
+has_right [] us s h = h
+has_right (x ∷ ss) us s h = or_right (same_seen x s) (has_seen (ss ++ us) s) (has_right ss us s h)
+
+has_mapped : (f : ℕ → Seen) (a n k : ℕ) → a ≤ k → k < a + n → has_seen (map f (range_with_len a n)) (f k) ≡ true
+has_mapped f a zero k le lt = absurd (omega (arith, le, lt))
+has_mapped f a (suc n) k le lt =
+    elim (cases_Bool (a == k)) [
+      | inl e ↦ let same : same_seen (f a) (f k) ≡ true = subst (λ (j : ℕ). same_seen (f a) (f j) ≡ true) (eqb-true a k e) (same_seen_itself (f a)) in rw same refl
+      | inr e ↦ or_right (same_seen (f a) (f k)) (has_seen (map f (range_with_len (a + 1) n)) (f k)) (has_mapped f (a + 1) n k (omega (arith, le, eqb-false a k e)) (omega (arith, lt)))
+    ]
+
+has_joined : (f : ℕ → List Seen) (a n k : ℕ) (s : Seen) → a ≤ k → k < a + n → has_seen (f k) s ≡ true → has_seen (flat_map f (range_with_len a n)) s ≡ true
+has_joined f a zero k s le lt h = absurd (omega (arith, le, lt))
+has_joined f a (suc n) k s le lt h =
+    elim (cases_Bool (a == k)) [
+      | inl e ↦ has_left (f a) (flat_map f (range_with_len (a + 1) n)) s (subst (λ (j : ℕ). has_seen (f j) s ≡ true) (sym (eqb-true a k e)) h)
+      | inr e ↦ has_right (f a) (flat_map f (range_with_len (a + 1) n)) s (has_joined f (a + 1) n k s (omega (arith, le, eqb-false a k e)) (omega (arith, lt)) h)
+    ]
+
+pub has_register : (threads t r : ℕ) → t < threads → r < 6 → has_seen (all_registers threads) (Register t r) ≡ true
+has_register threads t r h k = has_joined registers_of 0 threads t (Register t r) (omega arith) (omega (arith, h)) (has_mapped (λ q. Register t q) 0 6 r (omega arith) (omega (arith, k)))
+
+pub has_location : (locs x : ℕ) → x < locs → has_seen (locations locs) (Location x) ≡ true
+has_location locs x h = has_mapped (λ y. Location y) 0 locs x (omega arith) (omega (arith, h))
+
+has_all : (threads locs : ℕ) (s : Seen) → IsSeen threads locs s → has_seen (all_registers threads ++ locations locs) s ≡ true
+has_all threads locs (Register t r) h = has_left (all_registers threads) (locations locs) (Register t r) (has_register threads t r h.0 h.1)
+has_all threads locs (Location x) h = has_right (all_registers threads) (locations locs) (Location x) (has_location locs x h)
+
+has_each : (threads locs : ℕ) (ss : List Seen) → AllByRecursion (IsSeen threads locs) ss → AllByRecursion (λ s. has_seen (all_registers threads ++ locations locs) s ≡ true) ss
+has_each threads locs [] h = tt
+has_each threads locs (s ∷ ss) h = (has_all threads locs s h.0, has_each threads locs ss h.1)
+
+pub listed_again : (threads locs : ℕ) (ss : List Seen) → Ascending ss → AllByRecursion (IsSeen threads locs) ss → filter (has_seen ss) (all_registers threads ++ locations locs) ≡ ss
+listed_again threads locs ss ascending there = filtered_again (all_registers threads ++ locations locs) ss (all_ascending threads locs) ascending (has_each threads locs ss there)
+
+-- ---- how many there are
+
+pub filter_shorter : (p : Seen → Bool) (us : List Seen) → length (filter p us) ≤ length us
+filter_shorter p [] = omega arith
+filter_shorter p (u ∷ us) = go (p u) refl (filter_shorter p us)
+  where
+    go : (b : Bool) → p u ≡ b → length (filter p us) ≤ length us → length (filter p (u ∷ us)) ≤ suc (length us)
+    go true e h = rw e (omega (arith, h))
+    go false e h = rw e (omega (arith, h))
+
+registers_length : (a n : ℕ) → length (flat_map registers_of (range_with_len a n)) ≡ 6 * n
+registers_length a zero = omega arith
+registers_length a (suc n) = omega (arith, length-append (registers_of a) (flat_map registers_of (range_with_len (a + 1) n)), registers_length (a + 1) n)
+
+pub seen_length : (threads locs : ℕ) → length (all_registers threads ++ locations locs) ≡ 6 * threads + locs
+seen_length threads locs = omega (arith, length-append (all_registers threads) (locations locs), registers_length 0 threads, length-map-range_with_len (λ x. Location x) 0 locs)
+
+pub listed_few : (threads locs : ℕ) (ss : List Seen) → Ascending ss → AllByRecursion (IsSeen threads locs) ss → length ss ≤ 6 * threads + locs
+listed_few threads locs ss ascending there =
+    omega (arith, ap length (listed_again threads locs ss ascending there), filter_shorter (has_seen ss) (all_registers threads ++ locations locs), seen_length threads locs)

@@ -1,0 +1,161 @@
+-- Runs, one event further.
+use Rattle.std.proofs.Common.{◌≡◌, ℕ, suc, ◌<◌, ◌≤◌, ◌+◌, List, [], ◌∷◌, ◌++◌, length, map, take, get_or, refl, sym, ap, ◌∙◌, subst, Result, Ok, Err, arith}
+use Rattle.std.specs.Result.{MatchResult}
+use Rattle.lw_base.specs.declared.stop.Stop.{Stop}
+use Rattle.lw_base.specs.declared.stop.End.{End}
+use Rattle.lw_base.specs.declared.stop.End.TheVariants as at
+use Rattle.std.proofs.Math.ListN.{length-set}
+use Rattle.std.proofs.Math.Seq.{take-suc}
+use Rattle.std.specs.Prelude.{All, ◌^◌, slice_set, slice_get, slice_index, Option, Some, None, Bool, true, false, if◌then◌else◌, nat_lt}
+use Rattle.lw_base.specs.declared.event.Event.TheVariants.{Step, Drain, Evict}
+use Rattle.lw_base.specs.declared.stop.Stop.TheVariants.{NoCpu, NoLocation, Ended, BufferEmpty, NotHeld}
+use Rattle.lw_litmus.specs.declared.stmt.Stmt.TheVariants.{Store, Load, Swap, FetchAdd, Set, Sum, IfEq, IfNe, Goto}
+use Rattle.lw_interleaving.specs.declared.thread.Thread.{Thread}
+use Rattle.lw_litmus.specs.Tests.{IsStatement, IsThread}
+use Rattle.lw_litmus.specs.Sources.{source}
+use Rattle.lw_base.specs.Sums.{sum_of}
+use Rattle.lw_base.specs.Threads.{value_of, code_of}
+use Rattle.lw_interleaving.specs.Statements.{thread_after, words_after}
+use Rattle.lw_base.specs.declared.event.Event.{Event}
+use Rattle.lw_litmus.specs.declared.stmt.Stmt.{Stmt}
+use Rattle.lw_base.specs.Outcomes.{Final}
+use Rattle.lw_base.specs.Replays.{EndsAs}
+use Rattle.lw_interleaving.specs.Runs.{State, Running, EventDone, Replayed, Ran, is_final, outcome_of, source_step, source_event, carried_out, step_of}
+use Rattle.std.proofs.lemmas.Bool.{lt-ltb}
+use Rattle.std.proofs.lemmas.List.{map-append, take_all}
+use Rattle.std.proofs.lemmas.Option.{slice_get-map, slice_get_within}
+use Rattle.std.specs.Option.{option_map}
+use Rattle.lw_base.proofs.Lists.{at_index}
+
+-- a call that answered Ok was a possible event
+pub possible : (Q : Type 0) (r : Result State Stop) (answer : Result (Unit {0}) Stop) (u : Unit {0}) (end : State) → MatchResult r (λ next. (answer ≡ Ok tt) × (end ≡ next)) (λ stop. (answer ≡ Err stop) × Q) → answer ≡ Ok u → r ≡ Ok end
+possible Q (Ok next) answer u end told ok = ap Ok (sym told.1)
+possible Q (Err stop) answer u end told ok = let e : answer ≡ Err stop = told.0 in absurd cc
+
+refusal : (Q : Type 0) (r : Result State Stop) (answer : Result (Unit {0}) Stop) (stop : Stop) (end : State) → MatchResult r (λ next. (answer ≡ Ok tt) × (end ≡ next)) (λ s. (answer ≡ Err s) × Q) → answer ≡ Err stop → (r ≡ Err stop) × Q
+refusal Q (Ok next) answer stop end told failed = let e : answer ≡ Ok tt = told.0 in absurd cc
+refusal Q (Err s) answer stop end told failed = let e : answer ≡ Err s = told.0 in let same : s ≡ stop = cc in (ap Err same, told.1)
+
+-- a replay that meets a refused event
+pub stopped : (Q : Type 0) (program : List (List Stmt)) (events : List Event) (e : Event) (done : ℕ) (s mid end : State) (answer : Result (Unit {0}) Stop) (stop : Stop) → MatchResult (source_event program e mid) (λ next. (answer ≡ Ok tt) × (end ≡ next)) (λ x. (answer ≡ Err x) × Q) → (Q → end ≡ mid) → answer ≡ Err stop → done < length events → e ≡ get_or events done e → Ran program (take done events) s mid → Replayed program events s (record { done = done; end = at.Stopped stop }) end
+stopped Q program events e done s mid end answer stop told kept failed within is ran =
+    let r = refusal Q (source_event program e mid) answer stop end told failed in
+    record {
+      within = omega (arith, within);
+      ran = subst (λ (m : State). Ran program (take done events) s m) (sym (kept r.1)) ran;
+      ends = (e, at_index events done e within ∙ ap Some (sym is), (subst (λ (m : State). source_event program e m ≡ Err stop) (sym (kept r.1)) r.0, refl));
+    }
+
+-- a replay that carries out all events
+pub replayed_all : (program : List (List Stmt)) (events : List Event) (k : ℕ) (s last : State) (end : End) → length events ≤ k → Ran program (take k events) s last → EndsAs (EventDone program) (is_final program) events (length events) last end → Replayed program events s (record { done = length events; end = end }) last
+replayed_all program events k s last end done ran ends =
+    record {
+      within = omega arith;
+      ran = subst (λ (es : List Event). Ran program es s last) (take_all k events done ∙ sym (take_all (length events) events (omega arith))) ran;
+      ends = ends;
+    }
+
+-- no thread has a store to drain
+pub drained : (Q : Type 0) (answer : Result (Unit {0}) Stop) (s : State) (t n : ℕ) → t < n → answer ≡ Err BufferEmpty → Q → MatchResult (if nat_lt t n then Err BufferEmpty else Err NoCpu) (λ next. (answer ≡ Ok tt) × (s ≡ next)) (λ stop. (answer ≡ Err stop) × Q)
+drained Q answer s t n within failed same = rw (lt-ltb t n within) (failed, same)
+
+pub set_length : {X : Type 0} (xs : List X) (i : ℕ) (x : X) → length (slice_set xs i x) ≡ length xs
+set_length xs i x = length-set xs i x
+
+pub words_kept : (stmt : Stmt) (th : Thread) (words : List ℕ) → length (words_after stmt th words) ≡ length words
+words_kept (Store x v) th words = set_length words x (value_of v th.regs)
+words_kept (Load d x) th words = refl
+words_kept (Swap d x a) th words = set_length words x (slice_index th.regs a)
+words_kept (FetchAdd d x a) th words = set_length words x (sum_of (slice_index words x) (slice_index th.regs a))
+words_kept (Set d v) th words = refl
+words_kept (Sum d a v) th words = refl
+words_kept (IfEq a n to) th words = refl
+words_kept (IfNe a n to) th words = refl
+words_kept (Goto to) th words = refl
+
+-- as many threads, and as many words
+abbrev pub SameSize : State → State → Type 0
+SameSize s end = (length end.threads ≡ length s.threads) × (length end.words ≡ length s.words)
+
+refused : (b : Bool) (x y : Stop) (mid : State) → (if b then Err x else Err y) ≡ Ok mid → ⊥
+refused true x y mid e = absurd cc
+refused false x y mid e = absurd cc
+
+pub event_kept : (program : List (List Stmt)) (e : Event) (s mid : State) → source_event program e s ≡ Ok mid → SameSize s mid
+event_kept program (Step t) s mid e = go (slice_get s.threads t) e
+  where
+    carried : (th : Thread) (stmt : Option Stmt) → carried_out t th s stmt ≡ Ok mid → SameSize s mid
+    carried th None e = absurd cc
+    carried th (Some stmt) e =
+        let next : State = record { threads = slice_set s.threads t (thread_after stmt th s.words); words = words_after stmt th s.words } in
+        let same : next ≡ mid = cc in
+        subst (λ (m : State). SameSize s m) same (set_length s.threads t (thread_after stmt th s.words), words_kept stmt th s.words)
+
+    go : (th : Option Thread) → step_of program t s th ≡ Ok mid → SameSize s mid
+    go None e = absurd cc
+    go (Some th) e = carried th (slice_get (code_of program t) th.position) e
+event_kept program (Drain t) s mid e = absurd (refused (nat_lt t (length s.threads)) BufferEmpty NoCpu mid e)
+event_kept program (Evict t x) s mid e = go (nat_lt t (length s.threads)) e
+  where
+    go : (b : Bool) → (if b then (if nat_lt x (length s.words) then Err NotHeld else Err NoLocation) else Err NoCpu) ≡ Ok mid → SameSize s mid
+    go true e = absurd (refused (nat_lt x (length s.words)) NotHeld NoLocation mid e)
+    go false e = absurd cc
+
+-- what stands at a place, read of a list and of one that is equal to it
+pub found_at : {X : Type 0} (xs ys : List X) (i j : ℕ) (d : X) → ys ≡ xs → j ≡ i → i < length xs → slice_get xs i ≡ Some (get_or ys j d)
+found_at xs ys i j d same place within = rw (same, place) (at_index xs i d within)
+
+pub read_at : {X Y : Type 0} (f : X → Y) (xs ys : List X) (i j : ℕ) (d : X) → ys ≡ xs → j ≡ i → i < length xs → slice_get (map f xs) i ≡ Some (f (get_or ys j d))
+read_at f xs ys i j d same place within = slice_get-map f xs i ∙ ap (option_map f) (found_at xs ys i j d same place within)
+
+-- a list with the image of one more item
+pub mapped_on : {X Y : Type 0} (f : X → Y) (xs ys : List X) (i : ℕ) (d : X) (out next : List Y) → ys ≡ xs → i < length ys → out ≡ map f (take i xs) → next ≡ out ++ f (get_or ys i d) ∷ [] → next ≡ map f (take (i + 1) xs)
+mapped_on {X} f xs ys i d out next same within so_far pushed =
+    let more : take (suc i) ys ≡ take i ys ++ get_or ys i d ∷ [] = take-suc ys i d within in
+    let last : suc i ≡ i + 1 = omega arith in
+    pushed ∙ rw (so_far, ← same, ← last, more, map-append) refl
+
+the_code : (program : List (List Stmt)) (t : ℕ) (code : List Stmt) → t < length program → code ≡ get_or program t code → code_of program t ≡ code
+the_code program t code within is =
+    let e = at_index program t code within in
+    let f = at_index program t [] within in
+    cc
+
+-- the next statement of a thread is on the locations of the test, and stands among at most 16
+pub next_statement : (words locs : ℕ) (threads : List Thread) (program : List (List Stmt)) (t : ℕ) (th : Thread) (code : List Stmt) (stmt : Stmt) → words ≡ locs → length threads ≡ length program → All (IsThread source locs) program → Some th ≡ slice_get threads t → code ≡ get_or program t code → Some stmt ≡ slice_get code th.position → IsStatement source words stmt × (th.position + 1 < 2 ^ 64)
+next_statement words locs threads program t th code stmt same many whole is_thread is_code is_stmt =
+    let there = slice_get_within threads t th (sym is_thread) in
+    let here = subst (IsThread source locs) (sym is_code) (whole t code (omega (arith, there, many))) in
+    let inside = slice_get_within code th.position stmt (sym is_stmt) in
+    let found = at_index code th.position stmt inside in
+    let this : get_or code th.position stmt ≡ stmt = cc in
+    (rw same (subst (IsStatement source locs) this (here.there th.position stmt inside)), omega (arith, inside, here.short))
+
+pub made : (a b : List Thread) (u v : List ℕ) → a ≡ b → u ≡ v → (let s : State = record { threads = a; words = u } in s) ≡ record { threads = b; words = v }
+made a b u v e f = rw (e, f) refl
+
+-- a step of a thread that has a next statement
+pub stepped : (Q : Type 0) (answer : Result (Unit {0}) Stop) (before run end : Running) (t : ℕ) (th : Thread) (code : List Stmt) (stmt : Stmt) → before ≡ run → answer ≡ Ok tt → length before.state.threads ≡ length before.program → Some th ≡ slice_get before.state.threads t → code ≡ get_or before.program t code → Some stmt ≡ slice_get code th.position → end.state.threads ≡ slice_set before.state.threads t (thread_after stmt th before.state.words) → end.state.words ≡ words_after stmt th before.state.words → MatchResult (source_step run.program t run.state) (λ next. (answer ≡ Ok tt) × (end.state ≡ next)) (λ stop. (answer ≡ Err stop) × Q)
+stepped Q answer before run end t th code stmt same ok many is_thread is_code is_stmt threads words =
+    let within = slice_get_within before.state.threads t th (sym is_thread) in
+    let at_code = the_code before.program t code (omega (arith, within, many)) is_code in
+    rw (← same) (rw (← is_thread) (rw (at_code, ← is_stmt) (ok, made _ _ _ _ threads words)))
+
+-- a step of a thread that is not there
+pub no_thread : (Q : Type 0) (answer : Result (Unit {0}) Stop) (before run : Running) (t : ℕ) → before ≡ run → answer ≡ Err NoCpu → None ≡ slice_get before.state.threads t → Q → MatchResult (source_step run.program t run.state) (λ next. (answer ≡ Ok tt) × (run.state ≡ next)) (λ stop. (answer ≡ Err stop) × Q)
+no_thread Q answer before run t same failed is_thread kept = rw (← same) (rw (← is_thread) (failed, kept))
+
+-- a step of a thread at its end
+pub no_statement : (Q : Type 0) (answer : Result (Unit {0}) Stop) (before run : Running) (t : ℕ) (th : Thread) (code : List Stmt) → before ≡ run → answer ≡ Err Ended → length before.state.threads ≡ length before.program → Some th ≡ slice_get before.state.threads t → code ≡ get_or before.program t code → None ≡ slice_get code th.position → Q → MatchResult (source_step run.program t run.state) (λ next. (answer ≡ Ok tt) × (run.state ≡ next)) (λ stop. (answer ≡ Err stop) × Q)
+no_statement Q answer before run t th code same failed many is_thread is_code is_stmt kept =
+    let within = slice_get_within before.state.threads t th (sym is_thread) in
+    let at_code = the_code before.program t code (omega (arith, within, many)) is_code in
+    rw (← same) (rw (← is_thread) (rw (at_code, ← is_stmt) (failed, kept)))
+
+-- the images of all items
+pub mapped_all : {X Y : Type 0} (f : X → Y) (xs ys : List X) (i : ℕ) (out : List Y) → ys ≡ xs → length ys ≤ i → out ≡ map f (take i xs) → out ≡ map f xs
+mapped_all f xs ys i out same end so_far = so_far ∙ ap (map f) (take_all i xs (omega (arith, end, ap length same)))
+
+-- the outcome of a state, of which all registers are listed
+pub outcome_is : (regs : List (List ℕ)) (words : List ℕ) (s : State) → regs ≡ map (λ t. t.regs) s.threads → words ≡ s.words → (let o : Final = record { regs = regs; words = words } in o) ≡ outcome_of s
+outcome_is regs words s listed same = rw (listed, same) refl

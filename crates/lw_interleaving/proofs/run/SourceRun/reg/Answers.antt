@@ -1,0 +1,10 @@
+use Rattle.std.proofs.Common.{ap, ◌∙◌}
+use Rattle.std.specs.Prelude.{slice_index}
+use Rattle.lw_interleaving.specs.declared.thread.Thread.{Thread}
+use Rattle.lw_interleaving.specs.Runs.{Running}
+use Rattle.lw_interleaving.proofs.Runs.{read_at}
+use Rattle.lw_interleaving.proofs.run.SourceRun.reg.Goals as goal
+
+pub returns : goal.returns
+returns g c =
+    rw c.index-2.ensures.value (read_at (λ (t : Thread). slice_index t.regs c.args.reg) c.args.self.now.state.threads _ c.args.cpu _ _ (c.as_slice.ensures ∙ ap (λ (r : Running). r.state.threads) c.self.view_is) c.index.ensures.value c.requires)

@@ -1,0 +1,219 @@
+//! A run of a source test.
+ghost use Rattle.std.specs.Prelude.{◌≡◌, ◌<◌, length, map, Some, slice_get, slice_index, IfOk};
+ghost use Rattle.lw_litmus.specs.Views.{source_of};
+ghost use Rattle.lw_interleaving.specs.Runs.{start_of, source_step, source_event, Answers, Replayed, outcome_of};
+ghost use Rattle.lw_interleaving.specs.Runs as runs;
+
+use crate::thread::Thread;
+use lw_base::{Cpu, End, Event, Loc, Outcome, Reg, Replay, Sequence, Stop, Word};
+use lw_litmus::Source;
+use std::alloc::{AllocError, Allocator, Global};
+use std::marker::Model;
+
+/// A run of a source test: its threads take their steps one at a time, on one memory. There are no
+/// store buffers and no caches.
+#[derive(Drop)]
+pub struct SourceRun<'a, A: Allocator = Global, B: Allocator = Global> {
+    source: &'a Source<B>,
+    threads: Sequence<Thread, A>,
+    words: Sequence<Word, A>,
+}
+
+impl<'a, A: Allocator, B: Allocator> Model for SourceRun<'a, A, B> {
+    ghost use Rattle.std.specs.Prelude.{◌≡◌, length};
+    ghost use Rattle.lw_interleaving.specs.Runs.{Running};
+
+    ghost Value = { Running };
+
+    ghost use Rattle.lw_interleaving.specs.Runs.{start_of};
+    ghost use Rattle.lw_litmus.specs.Views.{source_of};
+
+    ghost view = { λ r. record {
+      program = r.source.now.threads;
+      start = start_of (source_of r.source.now);
+      state = record { threads = r.threads; words = r.words };
+    } };
+
+    ghost invariant = { λ r. (length r.threads ≡ length r.source.now.threads) × (length r.words ≡ length r.source.now.head.locs) };
+}
+
+impl<'a, A: Allocator + Copy, B: Allocator> SourceRun<'a, A, B> {
+    /// A run at the start of a test.
+    pub fn new(alloc: A, source: &'a Source<B>) -> Result<Self, AllocError>
+        ensures program { IfOk result (λ r. r.program ≡ source.now.threads) }
+        ensures start { IfOk result (λ r. r.start ≡ start_of (source_of source.now)) }
+        ensures state { IfOk result (λ r. r.state ≡ start_of (source_of source.now)) }
+    {
+        let mut threads = Sequence::new(alloc);
+        for regs in source.head.init_regs.as_slice() {
+            threads.push(Thread {
+                position: 0,
+                regs: *regs,
+            })?;
+        }
+        let words = Sequence::from_slice(alloc, source.head.init_words.as_slice())?;
+        Ok(SourceRun {
+            source,
+            threads,
+            words,
+        })
+    }
+
+    /// The registers and the memory as they are.
+    pub fn outcome(&self) -> Result<Outcome<A>, AllocError>
+        ensures { IfOk result (λ o. o ≡ outcome_of self.now.state) }
+    {
+        let alloc = *self.words.allocator();
+        let mut regs = Sequence::new(alloc);
+        for thread in self.threads.as_slice() {
+            regs.push(thread.regs)?;
+        }
+        Ok(Outcome {
+            regs,
+            words: Sequence::from_slice(alloc, self.words.as_slice())?,
+        })
+    }
+}
+
+impl<'a, A: Allocator, B: Allocator> SourceRun<'a, A, B> {
+    /// Puts the run back to the start of its test. It takes no memory.
+    pub fn restart(&mut self)
+        ensures program { self.new.program ≡ self.old.program }
+        ensures start { self.new.start ≡ self.old.start }
+        ensures state { self.new.state ≡ self.old.start }
+    {
+        for (cpu, regs) in self.source.head.init_regs.as_slice().iter().enumerate() {
+            self.threads.set(
+                cpu,
+                Thread {
+                    position: 0,
+                    regs: *regs,
+                },
+            );
+        }
+        self.words.copy_from(self.source.head.init_words.as_slice());
+    }
+
+    /// Puts the registers and the memory as they are into an outcome of as many threads and locations. It takes no memory.
+    pub fn write_outcome<C: Allocator>(&self, outcome: &mut Outcome<C>)
+        requires threads { length outcome.old.regs ≡ length self.now.state.threads }
+        requires words { length outcome.old.words ≡ length self.now.state.words }
+        ensures { outcome.new ≡ outcome_of self.now.state }
+    {
+        for (cpu, thread) in self.threads.as_slice().iter().enumerate() {
+            outcome.regs.set(cpu, thread.regs);
+        }
+        outcome.words.copy_from(self.words.as_slice());
+    }
+
+    /// The thread carries out its next statement. A refused step changes nothing.
+    pub fn step(&mut self, cpu: Cpu) -> Result<(), Stop>
+        ensures program { self.new.program ≡ self.old.program }
+        ensures start { self.new.start ≡ self.old.start }
+        ensures threads { length self.new.state.threads ≡ length self.old.state.threads }
+        ensures words { length self.new.state.words ≡ length self.old.state.words }
+        ensures done { Answers (source_step self.old.program cpu self.old.state) result self.old self.new }
+    {
+        let Some(thread) = self.threads.get(cpu.index()) else {
+            return Err(Stop::NoCpu);
+        };
+        let thread = *thread;
+        let code = &self.source.threads.as_slice()[cpu.index()];
+        let Some(stmt) = code.get(thread.position) else {
+            return Err(Stop::Ended);
+        };
+        let next = thread.after(stmt, self.words.as_slice());
+        thread.write(stmt, &mut self.words);
+        self.threads.set(cpu.index(), next);
+        Ok(())
+    }
+
+    /// Carries out the events before the first that is refused, or all.
+    pub fn run(&mut self, events: &[Event]) -> Replay
+        ensures program { self.new.program ≡ self.old.program }
+        ensures start { self.new.start ≡ self.old.start }
+        ensures replayed { Replayed self.old.program events.now self.old.state result self.new.state }
+        ensures threads { length self.new.state.threads ≡ length self.old.state.threads }
+        ensures words { length self.new.state.words ≡ length self.old.state.words }
+    {
+        for (done, event) in events.iter().enumerate() {
+            if let Err(stop) = self.act(*event) {
+                return Replay {
+                    done,
+                    end: End::Stopped(stop),
+                };
+            }
+        }
+        let end = if self.is_final() {
+            End::Final
+        } else {
+            End::NotFinal
+        };
+        Replay {
+            done: events.len(),
+            end,
+        }
+    }
+
+    /// One event.
+    fn act(&mut self, event: Event) -> Result<(), Stop>
+        ensures program { self.new.program ≡ self.old.program }
+        ensures start { self.new.start ≡ self.old.start }
+        ensures done { Answers (source_event self.old.program event self.old.state) result self.old self.new }
+    {
+        match event {
+            Event::Step(cpu) => self.step(cpu),
+            Event::Drain(cpu) => {
+                if cpu.index() < self.threads.len() {
+                    return Err(Stop::BufferEmpty);
+                }
+                Err(Stop::NoCpu)
+            }
+            Event::Evict(cpu, loc) => {
+                if cpu.index() < self.threads.len() {
+                    if loc.index() < self.words.len() {
+                        return Err(Stop::NotHeld);
+                    }
+                    return Err(Stop::NoLocation);
+                }
+                Err(Stop::NoCpu)
+            }
+        }
+    }
+
+    /// Whether all threads are at their ends.
+    pub fn is_final(&self) -> bool
+        ensures { result ≡ runs.is_final self.now.program self.now.state }
+    {
+        self.source
+            .threads
+            .as_slice()
+            .iter()
+            .zip(self.threads.as_slice())
+            .all(|(code, thread)| thread.is_at_end(code.len()))
+    }
+
+    /// The number of the thread's next statement.
+    pub fn position(&self, cpu: Cpu) -> usize
+        requires { cpu < length self.now.state.threads }
+        ensures { slice_get (map (λ t. t.position) self.now.state.threads) cpu ≡ Some result }
+    {
+        self.threads.as_slice()[cpu.index()].position
+    }
+
+    /// The word of a thread's register.
+    pub fn reg(&self, cpu: Cpu, reg: Reg) -> Word
+        requires { cpu < length self.now.state.threads }
+        ensures { slice_get (map (λ t. slice_index t.regs reg) self.now.state.threads) cpu ≡ Some result }
+    {
+        self.threads.as_slice()[cpu.index()].regs[reg.index()]
+    }
+
+    /// The word of a location.
+    pub fn word(&self, loc: Loc) -> Word
+        requires { loc < length self.now.state.words }
+        ensures { slice_get self.now.state.words loc ≡ Some result }
+    {
+        self.words.as_slice()[loc.index()]
+    }
+}

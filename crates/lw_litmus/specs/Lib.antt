@@ -1,0 +1,10 @@
+pub mod Limits
+pub mod Languages
+pub mod Tests
+pub mod TestProps
+pub mod Operands
+pub mod Sources
+pub mod Programs
+pub mod Views
+pub mod Flow
+pub mod Conflicts

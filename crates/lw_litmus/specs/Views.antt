@@ -1,0 +1,12 @@
+-- The tests that a `Source` and a `Program` in memory are.
+use Rattle.lw_litmus.specs.declared.source.Source.{Source}
+use Rattle.lw_litmus.specs.declared.program.Program.{Program}
+use Rattle.lw_litmus.specs.Tests.{test_of}
+use Rattle.lw_litmus.specs.Sources.{SourceTest}
+use Rattle.lw_litmus.specs.Programs.{ProgramTest}
+
+abbrev pub source_of : {A : Type 0} → Source A → SourceTest
+source_of s = test_of s.head s.threads
+
+abbrev pub program_of : {A : Type 0} → Program A → ProgramTest
+program_of p = test_of p.head p.threads

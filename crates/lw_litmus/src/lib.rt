@@ -1,0 +1,18 @@
+//! Litmus tests as values, in both languages: a head, and for each thread its statements or instructions; what always holds
+//! of them, where each statement leads, what it accesses, and which statements conflict.
+//!
+//! It names lw_base alone: nothing here reads a text, and nothing here steps. The promise that the crates above use: a
+//! `Source` and a `Program` are well-formed, whoever made them.
+#![tactic(auto)]
+
+mod instr;
+mod limits;
+mod program;
+mod source;
+mod stmt;
+
+pub use instr::Instr;
+pub use limits::{MAX_INSTRUCTIONS, MAX_STATEMENTS, the_constants_are_the_limits};
+pub use program::Program;
+pub use source::Source;
+pub use stmt::Stmt;

@@ -1,0 +1,17 @@
+//! An x86 test.
+ghost use Rattle.lw_litmus.specs.Tests.{test_of};
+ghost use Rattle.lw_litmus.specs.TestProps.{IsWellFormed-prop};
+ghost use Rattle.lw_litmus.specs.Programs.{IsWellFormedProgram, x86};
+
+use crate::instr::Instr;
+use lw_base::{Head, Sequence};
+use std::alloc::{Allocator, Global};
+
+/// An x86 test: its head, and the instructions of each thread. It is well-formed: one to four threads of at
+/// most 32 instructions, on locations of its table, with jumps forward, at most to the thread's end.
+#[derive(Drop)]
+pub struct Program<A: Allocator = Global> {
+    pub head: Head<A>,
+    pub threads: Sequence<Sequence<Instr, A>, A>,
+    pub ghost well_formed: { IsWellFormedProgram (test_of head threads) } by { IsWellFormed-prop x86 (test_of head threads) },
+}

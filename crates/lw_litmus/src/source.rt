@@ -1,0 +1,17 @@
+//! A source test.
+ghost use Rattle.lw_litmus.specs.Tests.{test_of};
+ghost use Rattle.lw_litmus.specs.TestProps.{IsWellFormed-prop};
+ghost use Rattle.lw_litmus.specs.Sources.{IsWellFormedSource, source};
+
+use crate::stmt::Stmt;
+use lw_base::{Head, Sequence};
+use std::alloc::{Allocator, Global};
+
+/// A source test: its head, and the statements of each thread. It is well-formed: one to four threads of at
+/// most 16 statements, on locations of its table, with jumps forward, at most to the thread's end.
+#[derive(Drop)]
+pub struct Source<A: Allocator = Global> {
+    pub head: Head<A>,
+    pub threads: Sequence<Sequence<Stmt, A>, A>,
+    pub ghost well_formed: { IsWellFormedSource (test_of head threads) } by { IsWellFormed-prop source (test_of head threads) },
+}

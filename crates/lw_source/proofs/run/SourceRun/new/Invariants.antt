@@ -1,6 +1,0 @@
-use Rattle.std.proofs.Common.{◌≡◌, map, take}
-use Rattle.lw_source.specs.Runs.{starting}
-use Rattle.lw_source.proofs.run.SourceRun.new.Given as goal
-
-abbrev pub invariant-loop-regs : goal.invariant-loop-regs
-invariant-loop-regs g l = l.threads ≡ map starting (take l.regs-index l.source.head.init_regs)

@@ -1,7 +1,0 @@
-use Rattle.std.proofs.Common.{ap, ◌∙◌}
-use Rattle.lw_source.specs.Runs.{Running}
-use Rattle.lw_source.proofs.Runs.{found_at}
-use Rattle.lw_source.proofs.run.SourceRun.word.Goals as goal
-
-pub returns : goal.returns
-returns g c = found_at c.args.self.now.state.words _ c.args.loc _ _ (c.as_slice.ensures ∙ ap (λ (r : Running). r.state.words) c.self.view_is) c.index.ensures.value c.requires

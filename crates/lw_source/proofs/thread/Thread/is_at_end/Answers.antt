@@ -1,5 +1,0 @@
-use Rattle.std.proofs.Common.{rules}
-use Rattle.lw_source.proofs.thread.Thread.is_at_end.Goals as goal
-
-pub returns : goal.returns
-returns c = search rules

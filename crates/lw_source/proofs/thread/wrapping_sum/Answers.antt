@@ -1,5 +1,0 @@
-use Rattle.std.proofs.Common.{rules}
-use Rattle.lw_source.proofs.thread.wrapping_sum.Goals as goal
-
-pub returns : goal.returns
-returns c = search rules
