@@ -156,8 +156,8 @@ module _ {Syntax Stmt : Type 0} (grammar : Grammar Syntax Stmt) where
       only_some above names none None h = not_empty h.says
       only_some above names none (Some s) h = none s (h.says, h.room)
 
-      pub surplus_cause : (names : List (List ℕ)) (above at : ℕ) (cause : CellCause) → above ≡ grammar.language.most → at ≡ t.at → IsMisfit cause ⊎ ((cause ≡ TooMany) × grammar.can_begin t.text.now) → MaybeCause grammar above tokens names at cause
-      surplus_cause names above at cause full place (inl m) = maybe_cause above tokens names at cause (misfit_cause tokens names at cause m)
+      pub surplus_cause : (names : List (List ℕ)) (above at : ℕ) (cause : CellCause) → above ≡ grammar.language.most → at ≡ t.at → (IsMisfit cause × (grammar.can_begin t.text.now → ⊥)) ⊎ ((cause ≡ TooMany) × grammar.can_begin t.text.now) → MaybeCause grammar above tokens names at cause
+      surplus_cause names above at cause full place (inl m) = maybe_cause above tokens names at cause (misfit_cause tokens names at cause m.0)
       surplus_cause names above at cause full place (inr (e, begins)) = rw e (inl (full, (t, sym first, sym place, begins)))
 
       pub first_within : (at len : ℕ) → at ≡ t.at → All (λ (u : Token). u.at ≤ len) tokens → at ≤ len

@@ -113,7 +113,8 @@ fn maybe_statement<L: StatementReader, A: Allocator + Copy>(
 /// begins with that one.
 fn surplus<L: StatementReader>(first: &Token<'_>) -> CellFault
     ensures place { result.at ≡ first.now.at }
-    ensures cause { IsMisfit result.cause ⊎ ((result.cause ≡ TooMany) × CanBegin L.grammar first.now.text.now) }
+    ensures cause { (IsMisfit result.cause × (CanBegin L.grammar first.now.text.now → ⊥))
+        ⊎ ((result.cause ≡ TooMany) × CanBegin L.grammar first.now.text.now) }
 {
     if L::can_begin(first) {
         return CellFault {

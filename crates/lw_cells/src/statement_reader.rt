@@ -1,5 +1,5 @@
 //! What a language gives to the rule of cells.
-ghost use Rattle.std.specs.Prelude.{◌≡◌, ℕ, ◌≤◌, IsTrue, IfOk, IfErr};
+ghost use Rattle.std.specs.Prelude.{◌≡◌, ◌↔◌, ℕ, ◌≤◌, IsTrue, IfOk, IfErr};
 ghost use Rattle.lw_base.specs.Refusals.{NotFound};
 ghost use Rattle.lw_base.specs.declared.fault.CellCause.TheVariants.{Memory};
 ghost use Rattle.lw_text.specs.Spans.{texts};
@@ -40,7 +40,7 @@ pub trait StatementReader {
 
     /// Whether a statement can begin with the token.
     fn can_begin(token: &Token<'_>) -> bool
-        ensures { IsTrue result → CanBegin grammar token.now.text.now };
+        ensures { IsTrue result ↔ CanBegin grammar token.now.text.now };
 
     /// Reads a statement that is not empty. The name of its location goes into the table.
     fn read<A: Allocator + Copy>(

@@ -1,5 +1,5 @@
 //! Reads the statement of a cell.
-ghost use Rattle.std.specs.Prelude.{◌≡◌, ◌≢◌, ℕ, ◌<◌, ◌≤◌, length, Some, true, false, slice_get, codes, IfOk, IfErr, OnErr, IsTrue};
+ghost use Rattle.std.specs.Prelude.{◌≡◌, ◌≢◌, ◌↔◌, ℕ, ◌<◌, ◌≤◌, length, Some, true, false, slice_get, codes, IfOk, IfErr, OnErr, IsTrue};
 ghost use Rattle.lw_base.specs.Types.{Bytes};
 ghost use Rattle.lw_base.specs.Refusals.{NotFound};
 ghost use Rattle.lw_base.specs.declared.fault.CellCause.TheVariants.{Memory};
@@ -61,7 +61,7 @@ impl StatementReader for SourceLanguage {
 
 /// Whether a statement can begin with the token.
 fn is_first(token: &Token<'_>) -> bool
-    ensures { IsTrue result → CanBegin token.now.text.now }
+    ensures { IsTrue result ↔ CanBegin token.now.text.now }
 {
     token.text == "if"
         || token.text == "goto"

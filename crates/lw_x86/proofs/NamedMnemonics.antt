@@ -1,14 +1,15 @@
 -- Looking a word up among the mnemonics.
 use Rattle.std.proofs.Common.{◌≡◌, ℕ, Bool, true, false, not, true≢false, zero, suc, ◌<◌, ◌≤◌, ◌+◌, ◌⊎◌, inl, inr, List, Some, refl, sym, ap, ◌∙◌, subst, arith}
-use Rattle.std.specs.Prelude.{◌↔◌, IsTrue, Contains, codes, slice_get}
+use Rattle.std.specs.Prelude.{◌↔◌, IsTrue, Contains, codes, slice_get, slice_index_or}
 use Rattle.std.specs.Str.{bytes_eq}
 use Rattle.std.specs.Cmp.{unsigned_Decides}
 use Rattle.std.specs.Cmp.Lexicographic.{pointwise_decides}
 use Rattle.lw_base.specs.declared.head.Arch.TheVariants.{X86}
 use Rattle.lw_base.specs.Registers.{without_case}
+use Rattle.lw_cells.proofs.TokenRows.{other_word}
 use Rattle.lw_x86.specs.declared.mnemonic.Mnemonic.{Mnemonic}
 use Rattle.lw_x86.specs.declared.mnemonic.Mnemonic.TheVariants.{Mov, Add, Cmp, Xchg, Xadd, Lock, Mfence, Je, Jne, Jmp}
-use Rattle.lw_x86.specs.Instructions.{mnemonics}
+use Rattle.lw_x86.specs.Instructions.{mnemonics, CanBegin}
 use Rattle.lw_x86.specs.Mnemonics.{all_mnemonics, mnemonic_text, Names}
 
 split : (k i : ℕ) → k < i + 1 → (k < i) ⊎ (k ≡ i)
@@ -70,3 +71,32 @@ begins_one Jmp differ = (8, omega arith, refl)
 pub begins_unless : (m : Mnemonic) (b : Bool) → IsTrue b ↔ Names (codes "XADD") m → IsTrue (not b) → Contains mnemonics (mnemonic_text m)
 begins_unless m true names holds = absurd (true≢false (sym holds))
 begins_unless m false names holds = begins_one m (λ e. true≢false (sym (names.1 (subst (λ (n : Mnemonic). Names (codes "XADD") n) (sym e) refl))))
+
+abbrev small_xadd : List ℕ
+small_xadd = without_case X86 (codes "XADD")
+
+-- the mnemonic of a word that an instruction can begin with: it is not `XADD`, which stands behind a `LOCK`
+pub begins_by : (t : List ℕ) (k : ℕ) → k < 9 → slice_index_or mnemonics k t ≡ t → (m : Mnemonic) × (mnemonic_text m ≡ t) × (without_case X86 (mnemonic_text m) ≡ small_xadd → ⊥)
+begins_by t zero lt e = (Mov, e, other_word small_xadd (without_case X86 (codes "MOV")) refl)
+begins_by t (suc zero) lt e = (Add, e, other_word small_xadd (without_case X86 (codes "ADD")) refl)
+begins_by t (suc (suc zero)) lt e = (Cmp, e, other_word small_xadd (without_case X86 (codes "CMP")) refl)
+begins_by t (suc (suc (suc zero))) lt e = (Xchg, e, other_word small_xadd (without_case X86 (codes "XCHG")) refl)
+begins_by t (suc (suc (suc (suc zero)))) lt e = (Lock, e, other_word small_xadd (without_case X86 (codes "LOCK")) refl)
+begins_by t (suc (suc (suc (suc (suc zero))))) lt e = (Mfence, e, other_word small_xadd (without_case X86 (codes "MFENCE")) refl)
+begins_by t (suc (suc (suc (suc (suc (suc zero)))))) lt e = (Je, e, other_word small_xadd (without_case X86 (codes "JE")) refl)
+begins_by t (suc (suc (suc (suc (suc (suc (suc zero))))))) lt e = (Jne, e, other_word small_xadd (without_case X86 (codes "JNE")) refl)
+begins_by t (suc (suc (suc (suc (suc (suc (suc (suc zero)))))))) lt e = (Jmp, e, other_word small_xadd (without_case X86 (codes "JMP")) refl)
+begins_by t (suc (suc (suc (suc (suc (suc (suc (suc (suc k))))))))) lt e = absurd (omega (arith, lt))
+
+pub begins_exactly : (m : Mnemonic) (b : Bool) → IsTrue b ↔ Names (codes "XADD") m → IsTrue (not b) ↔ Contains mnemonics (mnemonic_text m)
+begins_exactly m b names = (begins_unless m b names, λ there. no_xadd b names (begins_by (mnemonic_text m) there.0 there.1 there.2))
+  where
+    no_xadd : (b : Bool) → IsTrue b ↔ Names (codes "XADD") m → (n : Mnemonic) × (mnemonic_text n ≡ mnemonic_text m) × (without_case X86 (mnemonic_text n) ≡ small_xadd → ⊥) → IsTrue (not b)
+    no_xadd false names found = refl
+    no_xadd true names found = absurd (found.2 (ap (without_case X86) found.1 ∙ names.0 refl))
+
+-- no instruction begins with a word that no mnemonic names
+pub unnamed_begins_none : (w : List ℕ) → ((m : Mnemonic) → Names w m → ⊥) → CanBegin w → ⊥
+unnamed_begins_none w none (t, there, is) =
+    let found = begins_by t there.0 there.1 there.2 in
+    none found.0 (ap (without_case X86) found.1 ∙ is)

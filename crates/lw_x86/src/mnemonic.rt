@@ -60,7 +60,7 @@ impl Mnemonic {
 
     /// Whether an instruction can begin with it: all but `XADD`, which stands behind a `LOCK`.
     pub(crate) fn can_begin(self) -> bool
-        ensures { IsTrue result → Contains mnemonics (mnemonic_text self) }
+        ensures { IsTrue result ↔ Contains mnemonics (mnemonic_text self) }
     {
         !self.names("XADD")
     }
