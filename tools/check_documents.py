@@ -22,6 +22,7 @@
   folder, closed or endless; words that are no UTF-8; each protocol by name.
 - HANDLES is its one line. Beside what is counted in folders and documents stand the least numbers that there must be of it, so that
   a heading that is renamed can't leave its rows unread.
+- No crate that says what tests mean names one that reads texts (tools/check_wings.py).
 - What `./lw` builds, and when, with a stand-in for `rt` (tools/check_build.py); docs/TIMES.md has the minutes of each of its crates.
 - The numbers of states of the tests in bench/.
 - The web page, by a plain client, and where there is a browser in that too (tools/check_page.py).
@@ -43,6 +44,7 @@ import check_build
 import check_edits
 import check_page
 import check_tables
+import check_wings
 import fences
 import make_map
 import make_pages
@@ -460,10 +462,15 @@ def check_times():
     yield "docs/TIMES.md has the minutes of each crate", [], [it.name for it in build.crates_of_program() if not it.minutes]
 
 
+def check_wings_apart():
+    yield "no crate that says what tests mean names one that reads texts", [], check_wings.faults()
+
+
 def checks():
     """All checks: functions with their arguments, each of which is one thing to do."""
     yield (check_build.comparisons,)
     yield (check_times,)
+    yield (check_wings_apart,)
     for name in ["README.md", *sorted(glob.glob("docs/*.md"))]:
         for block in blocks(read(name)):
             yield check_transcript, name, block
