@@ -1,17 +1,5 @@
-pub mod Returns
-pub mod Lists
-pub mod Elements
-pub mod SeenLists
-pub mod ListedAgain
-pub mod Tables
-pub mod GrowingTables
-pub mod Registers
-pub mod Schedules
-pub mod Blanks
-pub mod Words
-pub mod WrittenSchedules
-pub mod Shapes
-pub mod Formulas
-pub mod WellFormedHeads
-pub mod Replays
-pub mod Writing
+pub mod api
+mod Schedules
+mod Words
+mod WrittenSchedules
+mod Shapes

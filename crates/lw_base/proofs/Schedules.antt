@@ -4,7 +4,9 @@ use Rattle.std.specs.List.{AllByRecursion}
 use Rattle.std.specs.Prelude.{map, slice_index_or, Contains}
 use Rattle.std.proofs.lemmas.List.Elements.{Contains-get_or}
 use Rattle.lw_base.specs.Types.{Bytes, NameTable}
-use Rattle.lw_base.specs.Names.{EachOnce, IsTable}
+use Rattle.lw_base.specs.Lists.{EachOnce}
+use Rattle.lw_base.specs.Names.{IsTable}
+use Rattle.lw_base.proofs.api.Lists.{apart}
 use Rattle.lw_base.specs.Schedules.{IsEvent, event_word, IsSchedule}
 use Rattle.lw_base.specs.declared.event.Event.{Event}
 use Rattle.lw_base.specs.declared.event.Event.TheVariants.{Step, Drain, Evict}
@@ -16,9 +18,6 @@ one_place (n ∷ names) zero zero once l m e = refl
 one_place (n ∷ names) zero (suc j) once l m e = absurd (once.0 (subst (Contains names) (sym e) (Contains-get_or names j [] (omega arith))))
 one_place (n ∷ names) (suc i) zero once l m e = absurd (once.0 (subst (Contains names) e (Contains-get_or names i [] (omega arith))))
 one_place (n ∷ names) (suc i) (suc j) once l m e = ap suc (one_place names i j once.1 (omega arith) (omega arith) e)
-
-pub apart : (a b : ℕ) (u v : Bytes) → (a ≡ b → ⊥) → a ∷ u ≡ b ∷ v → ⊥
-apart a b u v differ same = differ cc
 
 one_event : (names : NameTable) → EachOnce names → (e f : Event) → IsEvent names e → IsEvent names f → event_word names e ≡ event_word names f → e ≡ f
 one_event names once (Step c) (Step d) h k same = let e : 48 + c ≡ 48 + d = cc in let g : c ≡ d = omega arith in ap Step g

@@ -8,8 +8,9 @@ use Rattle.std.specs.Char.{is_ascii_digit}
 use Rattle.std.specs.List.{AllByRecursion, list_all}
 use Rattle.lw_base.specs.Types.{Bytes, NameTable}
 use Rattle.lw_base.specs.Names.{IsLocation, IsWordText, IsTable, are_digits}
-use Rattle.lw_base.specs.Schedules.{HasParts, HasShape, HasBadDigits, IsCpu, IsFaulty, IsEvent, event_word}
-use Rattle.lw_base.proofs.Schedules.{apart}
+use Rattle.lw_base.specs.Schedules.{HasParts, HasShape, IsCpu, IsFaulty, IsEvent, event_word}
+use Rattle.lw_base.proofs.api.Lists.{apart}
+use Rattle.lw_base.specs.inner.Digits.{HasBadDigits}
 use Rattle.lw_base.specs.declared.event.Event.{Event}
 use Rattle.lw_base.specs.declared.event.Event.TheVariants.{Step, Drain, Evict}
 use Rattle.lw_base.specs.declared.fault.ScheduleCause.{ScheduleCause}

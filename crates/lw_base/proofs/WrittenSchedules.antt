@@ -12,7 +12,7 @@ use Rattle.lw_base.specs.Names.{IsLocation, IsTable}
 use Rattle.lw_base.specs.Schedules.{IsEvent, event_word, schedule_text, words, IsSchedule}
 use Rattle.lw_base.specs.declared.event.Event.{Event}
 use Rattle.lw_base.specs.declared.event.Event.TheVariants.{Step, Drain, Evict}
-use Rattle.lw_base.proofs.Blanks.{blank_all}
+use Rattle.lw_base.proofs.api.Blanks.{blank_all}
 use Rattle.lw_base.proofs.Words.{words-behind, words-first}
 
 -- ---- the words of events, as they are written

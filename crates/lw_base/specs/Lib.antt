@@ -1,10 +1,10 @@
 pub mod Types
 pub mod Limits
+pub mod Lists
 pub mod Sums
 pub mod Refusals
 pub mod Characters
 pub mod Texts
-pub mod Kinds
 pub mod Names
 pub mod Tables
 pub mod Languages
@@ -22,3 +22,5 @@ pub mod Faults
 pub mod Schedules
 pub mod Threads
 pub mod Replays
+pub mod Entries
+pub mod inner

@@ -1,8 +1,9 @@
 -- The names of locations and labels.
-use Rattle.std.specs.Prelude.{◌≡◌, ◌<◌, ◌≤◌, ◌&&◌, ◌||◌, ◌==◌, not, Bool, true, false, List, [], ◌∷◌, length, map, codes, Contains}
+use Rattle.std.specs.Prelude.{◌≡◌, ◌<◌, ◌≤◌, ◌&&◌, ◌||◌, ◌==◌, not, Bool, true, false, List, [], ◌∷◌, length, map, codes}
 use Rattle.std.specs.List.{list_any, list_all, AllByRecursion}
 use Rattle.std.specs.Char.{is_ascii_digit, is_ascii_graphic, to_ascii_lowercase}
 use Rattle.std.specs.Str.{bytes_eq}
+use Rattle.lw_base.specs.Lists.{EachOnce}
 use Rattle.lw_base.specs.Limits.{most_locations, most_name_bytes, most_test_name_bytes}
 use Rattle.lw_base.specs.Types.{Bytes, NameTable}
 use Rattle.lw_base.specs.Characters.{byte, is_word_byte, begins}
@@ -48,11 +49,6 @@ is_reserved w =
 -- a name that is not reserved
 abbrev pub IsLocation : Bytes → Type 0
 IsLocation w = IsName w × (is_reserved w ≡ false)
-
--- each name once
-abbrev pub EachOnce : NameTable → Type 0
-EachOnce [] = Unit {0}
-EachOnce (n ∷ ns) = (Contains ns n → ⊥) × EachOnce ns
 
 -- A table of locations: at most eight names, each once.
 pub record IsTable (names : NameTable) : Type 0 where

@@ -68,13 +68,6 @@ HasShape w ds = (are_digits ds ≡ true) × HasParts w ds
 abbrev pub IsCpu : Bytes → Type 0
 IsCpu ds = (c : ℕ) × (c < most_threads) × (ds ≡ digit c ∷ [])
 
--- what is wrong with the digits of a word
-abbrev pub HasBadDigits : Bytes → ScheduleCause → Type 0
-HasBadDigits ds Word = are_digits ds ≡ false
-HasBadDigits ds Cpu = (are_digits ds ≡ true) × (IsCpu ds → ⊥)
-HasBadDigits ds Location = ⊥
-HasBadDigits ds Memory = ⊥
-
 -- The cause for which a word is refused: it has no event's shape; or its digits are no processor's; or
 -- they are, and its name is not in the table.
 abbrev pub IsFaulty : NameTable → Bytes → ScheduleCause → Type 0

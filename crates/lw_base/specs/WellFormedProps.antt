@@ -8,7 +8,8 @@ use Rattle.lw_base.specs.declared.head.Seen.{Seen}
 use Rattle.lw_base.specs.declared.head.Seen.TheVariants.{Register, Location}
 use Rattle.lw_base.specs.Formula.{Formula, Yes, No, Reg_is, Word_is, Not, And, Or}
 use Rattle.lw_base.specs.Heads.{TestHead}
-use Rattle.lw_base.specs.Names.{IsLocation, IsTable, EachOnce}
+use Rattle.lw_base.specs.Lists.{EachOnce}
+use Rattle.lw_base.specs.Names.{IsLocation, IsTable}
 use Rattle.lw_base.specs.WellFormed.{IsSeen, ComesBefore, Ascending, SpeaksOf, IsWellFormedHead}
 
 -- two facts that exclude each other

@@ -1,7 +1,6 @@
 //! Why a cell of a test, or a schedule, is refused.
 ghost use Rattle.std.specs.Prelude.{◌≡◌};
-ghost use Rattle.lw_base.specs.Faults.{cell_cause_number, cell_cause_name};
-ghost use Rattle.lw_base.specs.Faults.{schedule_cause_number, schedule_cause_name};
+ghost use Rattle.lw_base.specs.Faults.{cell_cause_number, cell_cause_name, schedule_cause_number, schedule_cause_name};
 ghost use Rattle.lw_base.specs.declared.fault.CellCause.TheVariants as cell;
 ghost use Rattle.lw_base.specs.declared.fault.ScheduleCause.TheVariants as schedule;
 

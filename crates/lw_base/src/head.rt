@@ -2,6 +2,7 @@
 ghost use Rattle.std.specs.Prelude.{◌≡◌, IfOk};
 ghost use Rattle.lw_base.specs.Heads.{head_of};
 
+use crate::limits::REGISTERS;
 use crate::location::LocNames;
 use crate::number::{Cpu, Loc, Reg, Word};
 use crate::proposition::Prop;
@@ -48,7 +49,7 @@ pub struct Head<A: Allocator = Global> {
     /// The table of its locations.
     pub locs: LocNames<A>,
     /// The initial words of the registers, six for each thread.
-    pub init_regs: Sequence<[Word; 6], A>,
+    pub init_regs: Sequence<[Word; REGISTERS], A>,
     /// The initial words of the locations, one for each name of the table.
     pub init_words: Sequence<Word, A>,
     /// What the list of names has, each once: registers by thread and number, then locations by

@@ -1,8 +1,9 @@
 //! What all crates of the workbench share: the small numbers of a test (processors, locations,
 //! registers, words), outcomes, events and schedules, names, conditions and the head of a test.
 //!
-//! It names std alone. Everything here is a value; nothing here steps or reads a whole test. Each type
-//! is seen by a contract as plain data of `specs/`: a number, a list, or a record of lists.
+//! It names std alone. What is here is a value, or reads or prints one: a schedule, a condition, the names of registers
+//! and causes. Nothing here steps or reads a whole test. Each type is seen by a contract as plain data of `specs/`: a
+//! number, a list, or a record of lists. What proofs of other crates cite stands in `proofs/api/`.
 #![tactic(auto)]
 
 mod condition;

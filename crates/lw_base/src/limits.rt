@@ -26,7 +26,7 @@ pub const MAX_ROWS: usize = 64;
 /// The most atoms and connectives of a test's condition.
 pub const MAX_NODES: usize = 256;
 
-/// Each constant is the number that the definitions name.
+/// A theorem for readers: each constant is the number that the definitions name.
 pub fn the_constants_are_the_limits()
     ensures threads { MAX_THREADS ≡ most_threads }
     ensures locations { MAX_LOCATIONS ≡ most_locations }

@@ -1,5 +1,8 @@
 //! What a statement or an instruction takes its value from.
+ghost use Rattle.std.specs.Prelude.{◌≡◌};
+ghost use Rattle.lw_base.specs.Threads.{value_of};
 
+use crate::limits::REGISTERS;
 use crate::number::{Reg, Word};
 
 /// A register's word, or a number that stands in the text.
@@ -7,4 +10,16 @@ use crate::number::{Reg, Word};
 pub enum Operand {
     Register(Reg),
     Number(Word),
+}
+
+impl Operand {
+    /// Its word, where a thread's registers have these.
+    pub fn value(self, regs: &[Word; REGISTERS]) -> Word
+        ensures { result ≡ value_of self regs.now }
+    {
+        match self {
+            Operand::Register(reg) => regs[reg.index()],
+            Operand::Number(word) => word,
+        }
+    }
 }

@@ -2,6 +2,7 @@
 ghost use Rattle.std.specs.Prelude.{◌≡◌};
 ghost use Rattle.lw_base.specs.Outcomes.{Final, final_cmp};
 
+use crate::limits::REGISTERS;
 use crate::number::Word;
 use crate::sequence::Sequence;
 use std::alloc::{Allocator, Global};
@@ -15,7 +16,7 @@ use std::marker::Model;
 #[derive(Drop)]
 #[derive_where(PartialEq, Eq, PartialOrd, Ord, Hash, Debug)]
 pub struct Outcome<A: Allocator = Global> {
-    pub regs: Sequence<[Word; 6], A>,
+    pub regs: Sequence<[Word; REGISTERS], A>,
     pub words: Sequence<Word, A>,
 }
 
@@ -29,7 +30,8 @@ impl<A: Allocator> Model for Outcome<A> {
     ghost inverse = { λ f. record { regs = f.regs; words = f.words } };
 }
 
-/// Outcomes are compared by their registers, and by their words where the registers are the same.
+/// A theorem for readers: outcomes are compared by their registers, and by their words where the registers are the
+/// same.
 pub fn registers_come_first<A: Allocator>()
     ensures { (left right : Final) → ⟦<Outcome<A> as Ord>⟧.cmp left right ≡ final_cmp left right }
 {}

@@ -2,7 +2,7 @@
 ghost use Rattle.std.specs.Prelude.{◌≡◌, ◌++◌, false, true};
 ghost use Rattle.std.specs.List.{AllByRecursion};
 ghost use Rattle.lw_base.specs.Characters.{begins};
-ghost use Rattle.lw_base.specs.Kinds.{is_of_kind};
+ghost use Rattle.lw_base.specs.inner.Kinds.{is_of_kind};
 
 use crate::name::{is_blank, is_word_byte};
 

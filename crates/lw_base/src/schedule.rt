@@ -7,7 +7,8 @@ ghost use Rattle.lw_base.specs.Types.{Bytes, NameTable};
 ghost use Rattle.lw_base.specs.Limits.{most_threads};
 ghost use Rattle.lw_base.specs.Names.{IsTable};
 ghost use Rattle.lw_base.specs.Refusals.{NotFound};
-ghost use Rattle.lw_base.specs.Schedules.{IsEvent, event_word, schedule_text, IsWordOf, IsSchedule, HasBadDigits, IsFaulty, IsFirstFault};
+ghost use Rattle.lw_base.specs.Schedules.{IsEvent, event_word, schedule_text, IsWordOf, IsSchedule, IsFaulty, IsFirstFault};
+ghost use Rattle.lw_base.specs.inner.Digits.{HasBadDigits};
 ghost use Rattle.lw_base.specs.declared.event.Event.{Event};
 ghost use Rattle.lw_base.specs.declared.fault.ScheduleCause.TheVariants as causes;
 
@@ -154,13 +155,14 @@ fn write_event<A: Allocator, B: Allocator>(
     }
 }
 
-/// What `write_schedule` writes is a schedule of the same events; so `read_schedule` reads them again.
+/// A theorem for readers: what `write_schedule` writes is a schedule of the same events; so `read_schedule` reads them
+/// again.
 pub fn a_written_schedule_is_read_back()
     ensures { (names : NameTable) (events : List Event) → IsTable names → AllByRecursion (IsEvent names) events
         → IsSchedule names (schedule_text names events) events }
 {}
 
-/// A text is a schedule of at most one list of events.
+/// A theorem for readers: a text is a schedule of at most one list of events.
 pub fn a_text_has_one_schedule()
     ensures { (names : NameTable) → IsTable names → (text : Bytes) (events others : List Event)
         → IsSchedule names text events → IsSchedule names text others → events ≡ others }

@@ -11,7 +11,7 @@ use Rattle.lw_base.specs.declared.stop.Stop.TheVariants.{NoCpu, NoLocation, Ende
 use Rattle.lw_base.specs.declared.stop.Replay.{Replay}
 use Rattle.lw_litmus.specs.declared.stmt.Stmt.{Stmt}
 use Rattle.lw_interleaving.specs.declared.thread.Thread.{Thread}
-use Rattle.lw_litmus.specs.Sources.{SourceTest}
+use Rattle.lw_litmus.specs.Tests.{SourceTest}
 use Rattle.lw_interleaving.specs.Statements.{thread_after, words_after}
 
 -- the threads, and one map from locations to words

@@ -2,12 +2,11 @@
 ghost use Rattle.std.specs.Prelude.{◌≡◌, ◌+◌, ◌<◌, ◌^◌, length, nat_le};
 ghost use Rattle.lw_base.specs.Sums.{sum_of};
 ghost use Rattle.lw_interleaving.specs.Statements as table;
-ghost use Rattle.lw_base.specs.Threads.{value_of};
 ghost use Rattle.lw_interleaving.specs.Statements.{words_after};
-ghost use Rattle.lw_litmus.specs.Tests.{IsStatement};
+ghost use Rattle.lw_litmus.specs.WellFormed.{IsStatement};
 ghost use Rattle.lw_litmus.specs.Sources.{source};
 
-use lw_base::{Operand, Reg, Sequence, Word};
+use lw_base::{REGISTERS, Reg, Sequence, Word};
 use lw_litmus::Stmt;
 use std::alloc::Allocator;
 
@@ -16,7 +15,7 @@ use std::alloc::Allocator;
 pub struct Thread {
     /// The number of its next statement.
     pub position: usize,
-    pub regs: [Word; 6],
+    pub regs: [Word; REGISTERS],
 }
 
 impl Thread {
@@ -38,9 +37,9 @@ impl Thread {
             Stmt::Load { dst, loc } => self.getting(*dst, words[loc.index()]),
             Stmt::Swap { dst, loc, .. } => self.getting(*dst, words[loc.index()]),
             Stmt::FetchAdd { dst, loc, .. } => self.getting(*dst, words[loc.index()]),
-            Stmt::Set { dst, val } => self.getting(*dst, self.value(*val)),
+            Stmt::Set { dst, val } => self.getting(*dst, val.value(&self.regs)),
             Stmt::Sum { dst, left, right } => {
-                let sum = wrapping_sum(self.regs[left.index()], self.value(*right));
+                let sum = wrapping_sum(self.regs[left.index()], right.value(&self.regs));
                 self.getting(*dst, sum)
             }
             Stmt::IfEq { reg, num, to } => self.jumping(self.regs[reg.index()] == *num, *to),
@@ -55,22 +54,13 @@ impl Thread {
         ensures { words.new ≡ words_after stmt.now self.now words.old }
     {
         match stmt {
-            Stmt::Store { loc, val } => words.set(loc.index(), self.value(*val)),
+            Stmt::Store { loc, val } => words.set(loc.index(), val.value(&self.regs)),
             Stmt::Swap { loc, src, .. } => words.set(loc.index(), self.regs[src.index()]),
             Stmt::FetchAdd { loc, src, .. } => {
                 let sum = wrapping_sum(words.as_slice()[loc.index()], self.regs[src.index()]);
                 words.set(loc.index(), sum);
             }
             _ => {}
-        }
-    }
-
-    fn value(&self, operand: Operand) -> Word
-        ensures { result ≡ value_of operand self.now.regs }
-    {
-        match operand {
-            Operand::Register(reg) => self.regs[reg.index()],
-            Operand::Number(word) => word,
         }
     }
 

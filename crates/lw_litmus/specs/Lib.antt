@@ -1,10 +1,11 @@
 pub mod Limits
 pub mod Languages
 pub mod Tests
+pub mod Views
 pub mod TestProps
 pub mod Operands
 pub mod Sources
 pub mod Programs
-pub mod Views
+pub mod WellFormed
 pub mod Flow
 pub mod Conflicts

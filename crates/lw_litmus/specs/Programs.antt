@@ -6,7 +6,8 @@ use Rattle.lw_litmus.specs.declared.instr.Instr.TheVariants.{Store, Load, Set, A
 use Rattle.lw_litmus.specs.Limits.{most_instructions}
 use Rattle.lw_litmus.specs.Languages.{Language}
 use Rattle.lw_litmus.specs.Operands.{operand_registers, operand_numbers}
-use Rattle.lw_litmus.specs.Tests.{Test, IsWellFormed}
+use Rattle.lw_litmus.specs.Tests.{ProgramTest}
+use Rattle.lw_litmus.specs.WellFormed.{IsWellFormed}
 
 -- the location that an instruction reads or writes
 abbrev pub location_of : Instr → Option ℕ
@@ -73,10 +74,6 @@ x86 = record {
   registers_of = registers_of;
   numbers_of = numbers_of;
 }
-
--- a head, and for each thread its instructions
-abbrev pub ProgramTest : Type 0
-ProgramTest = Test Instr
 
 -- A well-formed head of x86, and for each of its threads at most 32 instructions.
 abbrev pub IsWellFormedProgram : ProgramTest → Type 0

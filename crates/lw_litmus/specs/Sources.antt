@@ -6,7 +6,8 @@ use Rattle.lw_litmus.specs.declared.stmt.Stmt.TheVariants.{Store, Load, Swap, Fe
 use Rattle.lw_litmus.specs.Limits.{most_statements}
 use Rattle.lw_litmus.specs.Languages.{Language}
 use Rattle.lw_litmus.specs.Operands.{operand_registers, operand_numbers}
-use Rattle.lw_litmus.specs.Tests.{Test, IsWellFormed}
+use Rattle.lw_litmus.specs.Tests.{SourceTest}
+use Rattle.lw_litmus.specs.WellFormed.{IsWellFormed}
 
 -- the location that a statement reads or writes
 abbrev pub location_of : Stmt → Option ℕ
@@ -65,10 +66,6 @@ source = record {
   registers_of = registers_of;
   numbers_of = numbers_of;
 }
-
--- a head, and for each thread its statements
-abbrev pub SourceTest : Type 0
-SourceTest = Test Stmt
 
 -- A well-formed head of the source language, and for each of its threads at most 16 statements.
 abbrev pub IsWellFormedSource : SourceTest → Type 0

@@ -3,7 +3,8 @@
 use Rattle.std.proofs.Props.{props}
 use Rattle.lw_base.specs.WellFormedProps.{IsWellFormedHead-prop}
 use Rattle.lw_litmus.specs.Languages.{Language}
-use Rattle.lw_litmus.specs.Tests.{Test, IsWellFormed}
+use Rattle.lw_litmus.specs.Tests.{Test}
+use Rattle.lw_litmus.specs.WellFormed.{IsWellFormed}
 
 pub IsWellFormed-prop : {Stmt : Type 0} (language : Language Stmt) (test : Test Stmt) → IsProp (IsWellFormed language test)
 IsWellFormed-prop language test = hlevel (props, IsWellFormedHead-prop)

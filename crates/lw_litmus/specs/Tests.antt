@@ -1,38 +1,22 @@
--- A test of a language, and what always holds of it: it is well-formed.
-use Rattle.std.specs.Prelude.{◌≡◌, ℕ, ◌<◌, ◌≤◌, Some, List, length, slice_get, All}
-use Rattle.std.specs.Option.{ForSome}
+-- A test of a language: what every run of it begins with.
+use Rattle.std.specs.Prelude.{List}
 use Rattle.lw_base.specs.declared.head.Head.{Head}
 use Rattle.lw_base.specs.Heads.{TestHead, head_of}
-use Rattle.lw_base.specs.WellFormed.{IsRegisterNumber, IsWord, IsWellFormedHead}
-use Rattle.lw_litmus.specs.Languages.{Language}
+use Rattle.lw_litmus.specs.declared.instr.Instr.{Instr}
+use Rattle.lw_litmus.specs.declared.stmt.Stmt.{Stmt}
 
 -- a head, and for each thread its statements
 pub record Test (Stmt : Type 0) : Type 0 where
   pub head : TestHead
   pub threads : List (List Stmt)
 
+abbrev pub SourceTest : Type 0
+SourceTest = Test Stmt
+
+-- An x86 instruction is a statement of its language.
+abbrev pub ProgramTest : Type 0
+ProgramTest = Test Instr
+
 -- the test of a head in memory and statements
 abbrev pub test_of : {A Stmt : Type 0} → Head A → List (List Stmt) → Test Stmt
 test_of head threads = record { head = head_of head; threads = threads }
-
-module _ {Stmt : Type 0} (language : Language Stmt) where
-  -- The statement's location is one of so many, its registers are registers, and its numbers words.
-  abbrev pub IsStatement : ℕ → Stmt → Type 0
-  IsStatement locs s =
-      ForSome (language.location_of s) (λ x. x < locs)
-      × All IsRegisterNumber (language.registers_of s) × All IsWord (language.numbers_of s)
-
-  -- As many statements as the language allows a thread, on so many locations; jumps go forward, at most to the end.
-  pub record IsThread (locs : ℕ) (code : List Stmt) : Type 0 where
-    pub short : length code ≤ language.most
-    pub there : All (IsStatement locs) code
-    pub forward :
-        (k : ℕ) (s : Stmt) → slice_get code k ≡ Some s
-        → ForSome (language.target_of s) (λ to. (k < to) × (to ≤ length code))
-
-  -- A well-formed head of the language, and for each of its threads a code.
-  pub record IsWellFormed (test : Test Stmt) : Type 0 where
-    pub head : IsWellFormedHead test.head
-    pub arch : test.head.arch ≡ language.arch
-    pub as_many : length test.threads ≡ test.head.threads
-    pub code : All (IsThread (length test.head.locs)) test.threads

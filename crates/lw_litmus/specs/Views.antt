@@ -1,9 +1,7 @@
 -- The tests that a `Source` and a `Program` in memory are.
 use Rattle.lw_litmus.specs.declared.source.Source.{Source}
 use Rattle.lw_litmus.specs.declared.program.Program.{Program}
-use Rattle.lw_litmus.specs.Tests.{test_of}
-use Rattle.lw_litmus.specs.Sources.{SourceTest}
-use Rattle.lw_litmus.specs.Programs.{ProgramTest}
+use Rattle.lw_litmus.specs.Tests.{SourceTest, ProgramTest, test_of}
 
 abbrev pub source_of : {A : Type 0} → Source A → SourceTest
 source_of s = test_of s.head s.threads

@@ -8,7 +8,7 @@ pub const MAX_STATEMENTS: usize = 16;
 /// The most instructions of a thread of an x86 test.
 pub const MAX_INSTRUCTIONS: usize = 32;
 
-/// Each constant is the number that the definitions name.
+/// A theorem for readers: each constant is the number that the definitions name.
 pub fn the_constants_are_the_limits()
     ensures statements { MAX_STATEMENTS ≡ most_statements }
     ensures instructions { MAX_INSTRUCTIONS ≡ most_instructions }

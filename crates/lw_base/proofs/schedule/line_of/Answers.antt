@@ -1,6 +1,6 @@
 use Rattle.std.proofs.Common.{◌∙◌, ap, subst, sym, Some, Contains}
 use Rattle.std.proofs.lemmas.Bool.{false≢true}
-use Rattle.lw_base.proofs.Returns.{passed_on}
+use Rattle.lw_base.proofs.api.Returns.{passed_on}
 use Rattle.lw_base.proofs.Shapes.{uncut, no_name, no_cpu, no_location, found}
 use Rattle.lw_base.proofs.schedule.line_of.Goals as goal
 

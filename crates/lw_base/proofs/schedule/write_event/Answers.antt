@@ -1,5 +1,5 @@
 use Rattle.lw_base.proofs.WrittenSchedules.{step_word, drain_word, evict_word}
-use Rattle.lw_base.proofs.Writing.{written_as}
+use Rattle.lw_base.proofs.api.Writing.{written_as}
 use Rattle.lw_base.proofs.schedule.write_event.Goals as goal
 
 pub returns-in-Step : goal.returns-in-Step

@@ -1,7 +1,7 @@
 use Rattle.std.proofs.Common.{sym, ◌∙◌, ap, ◌++◌, ◌∷◌, [], length}
 use Rattle.std.proofs.lemmas.List.{length-map}
 use Rattle.std.specs.String.{string_bytes}
-use Rattle.lw_base.proofs.Tables.{names_more, table_more, last_place}
+use Rattle.lw_base.proofs.api.Tables.{names_more, table_more, last_place}
 use Rattle.lw_base.proofs.location.LocNames.add.Goals as goal
 
 pub invariant_of-self : goal.invariant_of-self

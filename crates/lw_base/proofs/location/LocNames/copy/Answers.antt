@@ -1,6 +1,6 @@
 use Rattle.std.proofs.Common.{◌∙◌, ◌<◌, length, arith}
 use Rattle.std.specs.String.{string_bytes}
-use Rattle.lw_base.proofs.Tables.{copied_more}
+use Rattle.lw_base.proofs.api.Tables.{copied_more}
 use Rattle.lw_base.proofs.location.LocNames.copy.Goals as goal
 
 pub loop-name-preserved : goal.loop-name-preserved

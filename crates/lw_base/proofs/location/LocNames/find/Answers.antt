@@ -1,7 +1,7 @@
 use Rattle.std.proofs.Common.{arith, sym, ◌∙◌, below_more, length, ◌<◌}
 use Rattle.std.proofs.lemmas.List.{length-map}
 use Rattle.std.specs.String.{string_bytes}
-use Rattle.lw_base.proofs.Tables.{not_here, here}
+use Rattle.lw_base.proofs.api.Tables.{not_here, here}
 use Rattle.lw_base.proofs.location.LocNames.find.Goals as goal
 
 pub loop-place-preserved : goal.loop-place-preserved

@@ -1,5 +1,5 @@
 use Rattle.std.proofs.Common.{[], ◌∷◌, sym, ◌∙◌, length-append, arith}
-use Rattle.lw_base.proofs.Tables.{with_name-there, with_name-new, index_of-at, index_of-new}
+use Rattle.lw_base.proofs.api.Tables.{with_name-there, with_name-new, index_of-at, index_of-new}
 use Rattle.lw_base.proofs.location.LocNames.find_or_add.Goals as goal
 
 pub returns-in-Some-clause-place : goal.returns-in-Some-clause-place

@@ -1,6 +1,6 @@
 use Rattle.std.proofs.Common.{ap, refl, length}
 use Rattle.lw_interleaving.specs.Runs.{Running}
-use Rattle.lw_interleaving.proofs.Runs.{drained}
+use Rattle.lw_interleaving.proofs.api.Runs.{drained}
 use Rattle.lw_interleaving.proofs.run.SourceRun.act.Goals as goal
 
 pub returns-then-index-len-clause-done : goal.returns-then-index-len-clause-done

@@ -1,7 +1,7 @@
 use Rattle.std.proofs.Common.{ap, refl, sym, ◌∙◌, length}
 use Rattle.std.proofs.lemmas.List.{length-map}
 use Rattle.lw_interleaving.specs.Runs.{starting}
-use Rattle.lw_interleaving.proofs.Runs.{made, mapped_on, mapped_all}
+use Rattle.lw_interleaving.proofs.api.Runs.{made, mapped_on, mapped_all}
 use Rattle.lw_interleaving.proofs.run.SourceRun.new.Goals as goal
 
 pub loop-regs-preserved : goal.loop-regs-preserved

@@ -1,7 +1,7 @@
 use Rattle.std.proofs.Common.{ap, ◌∙◌}
 use Rattle.lw_interleaving.specs.declared.thread.Thread.{Thread}
 use Rattle.lw_interleaving.specs.Runs.{Running}
-use Rattle.lw_interleaving.proofs.Runs.{mapped_on, mapped_all, outcome_is}
+use Rattle.lw_interleaving.proofs.api.Runs.{mapped_on, mapped_all, outcome_is}
 use Rattle.lw_interleaving.proofs.run.SourceRun.outcome.Goals as goal
 
 pub loop-thread-init : goal.loop-thread-init

@@ -2,7 +2,7 @@ use Rattle.std.proofs.Common.{ap, ◌∙◌}
 use Rattle.std.specs.Prelude.{slice_index}
 use Rattle.lw_interleaving.specs.declared.thread.Thread.{Thread}
 use Rattle.lw_interleaving.specs.Runs.{Running}
-use Rattle.lw_interleaving.proofs.Runs.{read_at}
+use Rattle.lw_interleaving.proofs.api.Runs.{read_at}
 use Rattle.lw_interleaving.proofs.run.SourceRun.reg.Goals as goal
 
 pub returns : goal.returns

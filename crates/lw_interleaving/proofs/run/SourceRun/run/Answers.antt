@@ -1,6 +1,6 @@
 use Rattle.std.proofs.Common.{◌≡◌, ◌∙◌, ap, refl, sym, true≢false}
-use Rattle.lw_base.proofs.Replays.{Ran-more}
-use Rattle.lw_interleaving.proofs.Runs.{event_kept, possible, stopped, replayed_all}
+use Rattle.lw_base.proofs.api.Replays.{Ran-more}
+use Rattle.lw_interleaving.proofs.api.Runs.{event_kept, possible, stopped, replayed_all}
 use Rattle.lw_interleaving.specs.Runs.{EventDone, Running, is_final, source_event}
 use Rattle.lw_interleaving.proofs.run.SourceRun.run.Goals as goal
 

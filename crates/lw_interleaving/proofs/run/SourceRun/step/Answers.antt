@@ -1,7 +1,7 @@
 use Rattle.std.proofs.Common.{refl, length, ap, sym, ◌∙◌, arith}
 use Rattle.std.proofs.lemmas.Option.{slice_get_within}
 use Rattle.lw_interleaving.specs.Runs.{Running}
-use Rattle.lw_interleaving.proofs.Runs.{next_statement, stepped, no_thread, no_statement, set_length, words_kept}
+use Rattle.lw_interleaving.proofs.api.Runs.{next_statement, stepped, no_thread, no_statement, set_length, words_kept}
 use Rattle.lw_interleaving.proofs.run.SourceRun.step.Goals as goal
 
 pub returns-clause-done : goal.returns-clause-done

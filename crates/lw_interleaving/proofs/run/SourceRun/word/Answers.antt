@@ -1,6 +1,6 @@
 use Rattle.std.proofs.Common.{ap, ◌∙◌}
 use Rattle.lw_interleaving.specs.Runs.{Running}
-use Rattle.lw_interleaving.proofs.Runs.{found_at}
+use Rattle.lw_interleaving.proofs.api.Runs.{found_at}
 use Rattle.lw_interleaving.proofs.run.SourceRun.word.Goals as goal
 
 pub returns : goal.returns

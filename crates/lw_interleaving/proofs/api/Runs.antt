@@ -1,5 +1,5 @@
 -- Runs, one event further.
-use Rattle.std.proofs.Common.{◌≡◌, ℕ, suc, ◌<◌, ◌≤◌, ◌+◌, List, [], ◌∷◌, ◌++◌, length, map, take, get_or, refl, sym, ap, ◌∙◌, subst, Result, Ok, Err, arith}
+use Rattle.std.proofs.Common.{◌≡◌, ℕ, suc, ◌<◌, ◌≤◌, ◌+◌, List, [], ◌∷◌, ◌++◌, length, map, take, drop, get_or, refl, sym, ap, ◌∙◌, subst, Result, Ok, Err, arith}
 use Rattle.std.specs.Result.{MatchResult}
 use Rattle.lw_base.specs.declared.stop.Stop.{Stop}
 use Rattle.lw_base.specs.declared.stop.End.{End}
@@ -11,7 +11,7 @@ use Rattle.lw_base.specs.declared.event.Event.TheVariants.{Step, Drain, Evict}
 use Rattle.lw_base.specs.declared.stop.Stop.TheVariants.{NoCpu, NoLocation, Ended, BufferEmpty, NotHeld}
 use Rattle.lw_litmus.specs.declared.stmt.Stmt.TheVariants.{Store, Load, Swap, FetchAdd, Set, Sum, IfEq, IfNe, Goto}
 use Rattle.lw_interleaving.specs.declared.thread.Thread.{Thread}
-use Rattle.lw_litmus.specs.Tests.{IsStatement, IsThread}
+use Rattle.lw_litmus.specs.WellFormed.{IsStatement, IsThread}
 use Rattle.lw_litmus.specs.Sources.{source}
 use Rattle.lw_base.specs.Sums.{sum_of}
 use Rattle.lw_base.specs.Threads.{value_of, code_of}
@@ -22,10 +22,10 @@ use Rattle.lw_base.specs.Outcomes.{Final}
 use Rattle.lw_base.specs.Replays.{EndsAs}
 use Rattle.lw_interleaving.specs.Runs.{State, Running, EventDone, Replayed, Ran, is_final, outcome_of, source_step, source_event, carried_out, step_of}
 use Rattle.std.proofs.lemmas.Bool.{lt-ltb}
-use Rattle.std.proofs.lemmas.List.{map-append, take_all}
+use Rattle.std.proofs.lemmas.List.{append_assoc, drop_more, length-map, length-take-le, map-append, map_more, set_at, take_all}
 use Rattle.std.proofs.lemmas.Option.{slice_get-map, slice_get_within}
 use Rattle.std.specs.Option.{option_map}
-use Rattle.lw_base.proofs.Lists.{at_index}
+use Rattle.lw_base.proofs.api.Lists.{at_index}
 
 -- a call that answered Ok was a possible event
 pub possible : (Q : Type 0) (r : Result State Stop) (answer : Result (Unit {0}) Stop) (u : Unit {0}) (end : State) → MatchResult r (λ next. (answer ≡ Ok tt) × (end ≡ next)) (λ stop. (answer ≡ Err stop) × Q) → answer ≡ Ok u → r ≡ Ok end
@@ -159,3 +159,13 @@ mapped_all f xs ys i out same end so_far = so_far ∙ ap (map f) (take_all i xs 
 -- the outcome of a state, of which all registers are listed
 pub outcome_is : (regs : List (List ℕ)) (words : List ℕ) (s : State) → regs ≡ map (λ t. t.regs) s.threads → words ≡ s.words → (let o : Final = record { regs = regs; words = words } in o) ≡ outcome_of s
 outcome_is regs words s listed same = rw (listed, same) refl
+
+-- a list with the image of one more item in the place of another
+pub written_on : {X Z : Type 0} (f : X → Z) (items ys : List X) (old xs : List Z) (i : ℕ) (d : X) → items ≡ ys → xs ≡ map f (take i ys) ++ drop i old → i < length items → i < length old → slice_set xs i (f (get_or items i d)) ≡ map f (take (i + 1) ys) ++ drop (i + 1) old
+written_on f items ys old xs i d same is within there =
+    let here : i < length ys = omega (arith, within, ap length same) in
+    let front = length-map (take i ys) f ∙ length-take-le i ys (omega (arith, here)) in
+    let new = f (get_or ys i d) in
+    ap (λ zs. slice_set xs i (f (get_or zs i d))) same ∙ ap (λ zs. slice_set zs i new) (is ∙ ap (λ zs. map f (take i ys) ++ zs) (drop_more old i new there))
+    ∙ set_at (map f (take i ys)) (get_or old i new) (drop (i + 1) old) new i front
+    ∙ sym (ap (λ zs. zs ++ drop (i + 1) old) (map_more f ys i d here) ∙ append_assoc (map f (take i ys)) (new ∷ []) (drop (i + 1) old))

@@ -1,13 +1,14 @@
 -- Where a name stands in a table, and a table with one name more.
 use Rattle.lw_base.specs.Types.{Bytes, NameTable}
-use Rattle.lw_base.specs.Names.{IsLocation, EachOnce, IsTable}
+use Rattle.lw_base.specs.Lists.{EachOnce}
+use Rattle.lw_base.specs.Names.{IsLocation, IsTable}
 use Rattle.lw_base.specs.Tables.{contains_name, with_name, with_names, index_of}
 use Rattle.std.specs.Str.{bytes_eq}
-use Rattle.std.proofs.lemmas.Bool.{false_from_ne_true, true≢false}
+use Rattle.std.proofs.lemmas.Bool.{false_from_ne_true, true≢false, or_right}
 use Rattle.std.specs.List.{AllByRecursion}
 use Rattle.std.proofs.lemmas.List.{append-nil, append_assoc, map-append, take_more}
 use Rattle.std.proofs.lemmas.List.Elements.{Contains-push_cases, Contains-append_right}
-use Rattle.std.proofs.Common.{◌++◌, ◌||◌, ◌∷◌, length-append, ◌≡◌, ℕ, ◌<◌, ◌+◌, Bool, true, false, suc, zero, List, [], map, length, take, get_or, slice_get, Option, Some, None, MatchOption, Contains, ◌⊎◌, inl, inr, refl, ap, sym, ◌∙◌, subst, nat_eq, arith}
+use Rattle.std.proofs.Common.{◌++◌, ◌∷◌, length-append, ◌≡◌, ℕ, ◌<◌, ◌+◌, true, false, suc, zero, List, [], map, length, take, get_or, slice_get, Option, Some, None, MatchOption, Contains, ◌⊎◌, inl, inr, refl, ap, sym, ◌∙◌, subst, nat_eq, arith}
 use Rattle.std.specs.Option.{option_map, SomeIff}
 use Rattle.std.specs.Cmp.{unsigned_Decides}
 use Rattle.std.specs.Cmp.Lexicographic.{pointwise, pointwise_decides}
@@ -68,10 +69,6 @@ same_bytes a b e = (pointwise_decides unsigned_Decides a b).1 e
 other_bytes : (a b : Bytes) → (a ≡ b → ⊥) → bytes_eq a b ≡ false
 other_bytes a b n = false_from_ne_true (bytes_eq a b) (λ e. n ((pointwise_decides unsigned_Decides a b).0 e))
 
-or_right : (a : Bool) → (a || true) ≡ true
-or_right true = refl
-or_right false = refl
-
 -- a name that is in the table
 pub contains_name-Contains : (names : NameTable) (n : Bytes) → Contains names n → contains_name names n ≡ true
 contains_name-Contains [] n h = let k : h.0 < 0 = h.1 in absurd (omega arith)
@@ -79,7 +76,7 @@ contains_name-Contains (m ∷ names) n h = go h.0 h.1 h.2 (contains_name-Contain
   where
     go : (k : ℕ) → k < length (m ∷ names) → get_or (m ∷ names) k n ≡ n → (Contains names n → contains_name names n ≡ true) → contains_name (m ∷ names) n ≡ true
     go zero l e further = rw (same_bytes m n e) refl
-    go (suc k) l e further = rw (further (k, omega arith, e)) (or_right (bytes_eq m n))
+    go (suc k) l e further = rw (further (k, omega arith, e)) (or_right (bytes_eq m n) true refl)
 
 contains_name-not : (names : NameTable) (n : Bytes) → (Contains names n → ⊥) → contains_name names n ≡ false
 contains_name-not [] n h = refl

@@ -6,7 +6,7 @@ use Rattle.lw_base.specs.declared.head.Seen.{Seen}
 use Rattle.lw_base.specs.declared.head.Seen.TheVariants.{Register, Location}
 use Rattle.lw_base.specs.WellFormed.{IsSeen, ComesBefore, Ascending}
 use Rattle.lw_base.specs.SeenLists.{registers_of, all_registers, locations}
-use Rattle.lw_base.proofs.Elements.{all_append, all_filter, all_of_range, all_of_flat}
+use Rattle.lw_base.proofs.api.Elements.{all_append, all_filter, all_of_range, all_of_flat}
 
 pub ascending_append : (xs ys : List Seen) → Ascending xs → Ascending ys → AllByRecursion (λ x. AllByRecursion (ComesBefore x) ys) xs → Ascending (xs ++ ys)
 ascending_append [] ys h k all = k

@@ -8,7 +8,7 @@ use Rattle.lw_base.specs.declared.head.Seen.{Seen}
 use Rattle.lw_base.specs.declared.head.Seen.TheVariants.{Register, Location}
 use Rattle.lw_base.specs.WellFormed.{IsSeen, ComesBefore, Ascending}
 use Rattle.lw_base.specs.SeenLists.{same_seen, registers_of, all_registers, locations}
-use Rattle.lw_base.proofs.SeenLists.{all_ascending}
+use Rattle.lw_base.proofs.api.SeenLists.{all_ascending}
 
 -- ---- the same register or location
 

@@ -1,14 +1,15 @@
 -- Tables that grow: what is in one stays at its place.
-use Rattle.std.proofs.Common.{◌≡◌, ℕ, ◌<◌, ◌≤◌, ◌+◌, ◌||◌, Bool, true, false, [], ◌∷◌, ◌++◌, length, refl, sym, ap, ◌∙◌, length-append, arith}
+use Rattle.std.proofs.Common.{◌≡◌, ℕ, ◌<◌, ◌≤◌, ◌+◌, Bool, true, false, [], ◌∷◌, ◌++◌, length, refl, sym, ap, ◌∙◌, length-append, arith}
 use Rattle.std.specs.Prelude.{if◌then◌else◌}
 use Rattle.std.specs.Str.{bytes_eq}
+use Rattle.std.proofs.lemmas.Bool.{or_left, or_right}
 use Rattle.std.proofs.lemmas.List.{append-nil}
 use Rattle.std.specs.Cmp.{unsigned_Decides}
 use Rattle.std.specs.Cmp.Lexicographic.{pointwise_decides}
 use Rattle.lw_base.specs.Types.{Bytes, NameTable}
-use Rattle.lw_base.specs.Names.{EachOnce}
+use Rattle.lw_base.specs.Lists.{EachOnce}
 use Rattle.lw_base.specs.Tables.{contains_name, with_name, with_names, index_of}
-use Rattle.lw_base.proofs.Tables.{once_more, contains_name-Contains}
+use Rattle.lw_base.proofs.api.Tables.{once_more, contains_name-Contains}
 
 with_name-case : (names : NameTable) (n : Bytes) (b : Bool) → contains_name names n ≡ b → with_name names n ≡ (if b then names else names ++ n ∷ [])
 with_name-case names n b e = rw e refl
@@ -31,14 +32,6 @@ with_names-longer names (n ∷ ns) =
     let grows = with_name-grows names n in
     let longer : length names ≤ length (with_name names n) = omega (arith, ap length grows.1, length-append names grows.0) in
     omega (arith, with_names-longer (with_name names n) ns)
-
-or_left : (a b : Bool) → a ≡ true → (a || b) ≡ true
-or_left true b e = refl
-or_left false b e = absurd cc
-
-or_right : (a b : Bool) → b ≡ true → (a || b) ≡ true
-or_right true b e = refl
-or_right false b e = e
 
 pub contains_name-append : (names more : NameTable) (n : Bytes) → contains_name names n ≡ true → contains_name (names ++ more) n ≡ true
 contains_name-append [] more n e = absurd cc

@@ -1,9 +1,18 @@
 -- Items of a list by their places.
 use Rattle.std.proofs.Common.{◌≡◌, ◌≢◌, ℕ, zero, suc, ◌<◌, ◌≤◌, Some, ◌⊎◌, inl, inr, ⊎_elim, List, [], ◌∷◌, ◌++◌, length, take, drop, refl, sym, ap, ◌∙◌, subst, arith}
-use Rattle.std.specs.Prelude.{slice_get, slice_set, slice_index_or}
+use Rattle.std.specs.Prelude.{slice_get, slice_set}
 use Rattle.std.proofs.lemmas.List.{set-get_or}
 use Rattle.std.proofs.lemmas.Bool.{cases_eq}
 use Rattle.std.proofs.lemmas.Option.{same_Some, get_or_from_slice_get}
+-- the item at a place that is there
+pub use Rattle.std.proofs.lemmas.Option.{slice_get-get_or as at_index}
+
+-- lists with other first items differ, and equal lists have one first item
+pub apart : {X : Type 0} (a b : X) (u v : List X) → (a ≡ b → ⊥) → a ∷ u ≡ b ∷ v → ⊥
+apart a b u v differ same = differ cc
+
+pub cons_head : {X : Type 0} (a b : X) (u v : List X) → a ∷ u ≡ b ∷ v → a ≡ b
+cons_head a b u v same = cc
 
 -- a list, cut at a place
 pub cut_at : {X : Type 0} (xs : List X) (k : ℕ) (x : X) → slice_get xs k ≡ Some x → xs ≡ take k xs ++ x ∷ drop (suc k) xs
@@ -59,11 +68,6 @@ pub get_seam : {X : Type 0} (xs : List X) (y : X) (ys : List X) (k : ℕ) → k 
 get_seam {X} [] y ys k e = ap (slice_get (y ∷ ys)) e
 get_seam (x ∷ xs) y ys zero e = absurd (omega (arith, e))
 get_seam (x ∷ xs) y ys (suc k) e = get_seam xs y ys k (omega (arith, e))
-
-pub at_index : {X : Type 0} (xs : List X) (k : ℕ) (d : X) → k < length xs → slice_get xs k ≡ Some (slice_index_or xs k d)
-at_index [] k d lt = absurd (omega arith)
-at_index (x ∷ xs) zero d lt = refl
-at_index (x ∷ xs) (suc k) d lt = at_index xs k d (omega (arith, lt))
 
 -- what stands in a list where one item is set
 pub got_set_same : {A : Type 0} → (xs : List A) (i : ℕ) (x y : A) → slice_get xs i ≡ Some y → slice_get (slice_set xs i x) i ≡ Some x
