@@ -5,19 +5,19 @@ use Rattle.lw_base.specs.Threads.{code_of}
 use Rattle.lw_base.specs.declared.event.Event.{Event}
 use Rattle.lw_base.specs.declared.event.Event.TheVariants.{Step, Drain, Evict}
 use Rattle.lw_memory.specs.Flat.{flat}
-use Rattle.lw_base.proofs.Lists.{get_some, fellows_after}
+use Rattle.lw_base.proofs.api.Lists.{get_some, fellows_after}
 use Rattle.lw_interleaving.specs.declared.thread.Thread.{Thread}
-use Rattle.lw_litmus.specs.Sources.{SourceTest, IsWellFormedSource}
+use Rattle.lw_litmus.specs.Sources.{IsWellFormedSource}
+use Rattle.lw_litmus.specs.Tests.{SourceTest, ProgramTest}
 use Rattle.lw_interleaving.specs.Runs.{State, Ran}
-use Rattle.lw_interleaving.proofs.Exchange.{state_of}
-use Rattle.lw_litmus.specs.Programs.{ProgramTest}
+use Rattle.lw_interleaving.proofs.api.Exchange.{state_of}
 use Rattle.lw_tso.specs.Processors.{Processor}
 use Rattle.lw_tso.specs.Machines.{MachineState}
 use Rattle.lw_tso.specs.Runs.{MachineRan}
 use Rattle.lw_fence.specs.Compiling.{IsCompiled}
 use Rattle.lw_fence.proofs.Lag.{Lag, Followed, drained}
 use Rattle.lw_fence.proofs.LagSteps.{stepped}
-use Rattle.lw_tso.proofs.Effects.{state, Did, leads_to, no_eviction}
+use Rattle.lw_tso.proofs.api.Effects.{state, Did, leads_to, no_eviction}
 use Rattle.lw_fence.proofs.Moves.{source_append}
 use Rattle.lw_fence.proofs.Placed.{placed_at}
 use Rattle.lw_fence.proofs.Steps.{allowed_at}

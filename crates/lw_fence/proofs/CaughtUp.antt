@@ -8,24 +8,23 @@ use Rattle.lw_base.specs.Threads.{code_of}
 use Rattle.lw_base.specs.declared.event.Event.TheVariants.{Step}
 use Rattle.lw_base.specs.declared.operand.Operand.{Operand}
 use Rattle.lw_base.specs.declared.operand.Operand.TheVariants.{Register, Number}
-use Rattle.lw_base.proofs.Lists.{fellows_after, get_some, at_index, set_own}
+use Rattle.lw_base.proofs.api.Lists.{fellows_after, get_some, at_index, set_own}
 use Rattle.lw_litmus.specs.declared.stmt.Stmt.{Stmt}
 use Rattle.lw_litmus.specs.declared.stmt.Stmt.TheVariants.{Store, Load, Swap, FetchAdd, Set, Sum, IfEq, IfNe, Goto}
 use Rattle.lw_interleaving.specs.declared.thread.Thread.{Thread}
-use Rattle.lw_litmus.specs.Sources.{SourceTest}
+use Rattle.lw_litmus.specs.Tests.{SourceTest, ProgramTest}
 use Rattle.lw_interleaving.specs.Runs.{State, Ran}
-use Rattle.lw_interleaving.proofs.Exchange.{state_of}
+use Rattle.lw_interleaving.proofs.api.Exchange.{state_of}
 use Rattle.lw_litmus.specs.declared.instr.Instr.{Instr}
 use Rattle.lw_litmus.specs.declared.instr.Instr.TheVariants as x86
-use Rattle.lw_litmus.specs.Programs.{ProgramTest}
 use Rattle.lw_tso.specs.Processors.{Processor}
 use Rattle.lw_tso.specs.Machines.{MachineState}
 use Rattle.lw_tso.specs.Runs.{is_done, is_final}
 use Rattle.lw_fence.specs.Compiling.{moved, summed, row, IsCompiled}
 use Rattle.lw_fence.proofs.Behind.{LagAt, Behind, Caught, still_behind, caught_on, not_moved}
 use Rattle.lw_fence.proofs.Lag.{Stage, whole, midway}
-use Rattle.lw_fence.proofs.Lists.{zip_passes}
-use Rattle.lw_tso.proofs.Effects.{state}
+use Rattle.lw_base.proofs.api.SideBySide.{zip_passes}
+use Rattle.lw_tso.proofs.api.Effects.{state}
 use Rattle.lw_fence.proofs.Moves.{Turns}
 use Rattle.lw_fence.proofs.Owes.{Owes, nothing, catch_up}
 use Rattle.lw_fence.proofs.Placed.{Placed, StandsAt, placed_at}

@@ -1,22 +1,29 @@
 -- Each run of the compiled program over flat memory can be brought to its end.
 use Rattle.std.proofs.Common.{ℕ, List, Option, refl, arith}
+use Rattle.lw_base.specs.Limits.{most_threads}
 use Rattle.lw_base.specs.declared.event.Event.{Event}
 use Rattle.lw_memory.specs.declared.system.LineState.TheVariants.{I}
 use Rattle.lw_memory.specs.declared.system.Request.{Request}
 use Rattle.lw_memory.specs.declared.system.Request.TheVariants.{Load, Store, Swap, FetchAdd, Evict}
 use Rattle.lw_memory.specs.Content.{answer_of, content_after}
 use Rattle.lw_memory.specs.Flat.{flat, WordsServe}
-use Rattle.lw_memory.specs.Memory.{Lawful, Served, IsPossible}
-use Rattle.lw_litmus.specs.Sources.{SourceTest, IsWellFormedSource}
-use Rattle.lw_litmus.specs.Programs.{ProgramTest, IsWellFormedProgram}
+use Rattle.lw_memory.specs.MemoryLaws.{Invariant, Lawful, Served}
+use Rattle.lw_memory.specs.Memory.{IsPossible}
+use Rattle.lw_litmus.specs.Sources.{IsWellFormedSource}
+use Rattle.lw_litmus.specs.Tests.{SourceTest, ProgramTest}
+use Rattle.lw_litmus.specs.Programs.{IsWellFormedProgram}
 use Rattle.lw_tso.specs.Endings.{CanEnd}
 use Rattle.lw_tso.specs.Machines.{MachineState}
 use Rattle.lw_tso.specs.Runs.{MachineRan, machine_start}
-use Rattle.lw_tso.proofs.Endings.{can_end}
+use Rattle.lw_tso.proofs.api.Endings.{can_end}
 use Rattle.lw_fence.specs.Compiling.{IsCompiled}
 use Rattle.lw_fence.proofs.Programs.{is_program}
 
-words_served : (m : List ℕ) (r : Request) (a : Option ℕ) (n : List ℕ) → WordsServe m r a n → Served flat m r a n
+-- As many processors as there can be.
+abbrev flat_invariant : Invariant (List ℕ)
+flat_invariant = record { cpus = λ words. most_threads; sound = λ words. Unit {0} }
+
+words_served : (m : List ℕ) (r : Request) (a : Option ℕ) (n : List ℕ) → WordsServe m r a n → Served flat flat_invariant m r a n
 words_served m (Load t x) a n s = record { possible = tt; answer = s.0; content = s.1; cpus = refl; sound = tt }
 words_served m (Store t x w) a n s = record { possible = tt; answer = s.0; content = s.1; cpus = refl; sound = tt }
 words_served m (Swap t x w) a n s = record { possible = tt; answer = s.0; content = s.1; cpus = refl; sound = tt }
@@ -31,7 +38,7 @@ words_serve m (FetchAdd t x w) h = (content_after m (FetchAdd t x w), (refl, ref
 words_serve m (Evict t x) h = cc
 
 -- The flat memory keeps the laws.
-words_lawful : Lawful flat
+words_lawful : Lawful flat flat_invariant
 words_lawful = record {
   served = λ m r a n sound s. words_served m r a n s;
   serves = λ m r sound there possible. words_serve m r possible;
@@ -40,7 +47,7 @@ words_lawful = record {
 program_ends : (p : ProgramTest) → IsWellFormedProgram p → (events : List Event) (s : MachineState (List ℕ))
     → MachineRan flat p.threads events (machine_start p p.head.init_words) s → CanEnd flat p.threads s
 program_ends p ok events s ran =
-    can_end flat words_lawful p ok p.head.init_words events s (record { sound = tt; cpus = omega (arith, ok.as_many, ok.head.few); words = refl }) ran
+    can_end flat flat_invariant words_lawful p ok p.head.init_words events s (record { sound = tt; cpus = omega (arith, ok.as_many, ok.head.few); words = refl }) ran
 
 pub compiled_ends : (s : SourceTest) (p : ProgramTest) (starts : List (List ℕ)) → IsWellFormedSource s → IsCompiled s p starts → (events : List Event) (end : MachineState (List ℕ))
     → MachineRan flat p.threads events (machine_start p p.head.init_words) end → CanEnd flat p.threads end

@@ -10,7 +10,7 @@ use Rattle.lw_litmus.specs.declared.instr.Instr.{Instr}
 use Rattle.lw_litmus.specs.declared.instr.Instr.TheVariants as x86
 use Rattle.lw_tso.specs.Processors.{Processor}
 use Rattle.lw_tso.specs.Acts.{drain_act}
-use Rattle.lw_tso.proofs.Effects.{Does}
+use Rattle.lw_tso.proofs.api.Effects.{Does}
 use Rattle.lw_fence.proofs.Moves.{Turns}
 use Rattle.lw_fence.proofs.Owes.{Owes, first_store}
 use Rattle.lw_fence.proofs.Steps.{Sane}

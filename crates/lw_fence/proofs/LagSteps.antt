@@ -11,7 +11,7 @@ use Rattle.lw_base.specs.declared.operand.Operand.{Operand}
 use Rattle.lw_base.specs.declared.operand.Operand.TheVariants.{Register, Number}
 use Rattle.lw_base.specs.declared.stop.Stop.TheVariants.{SwapWaits, FenceWaits}
 use Rattle.lw_base.specs.WellFormed.{IsRegisterNumber}
-use Rattle.lw_base.proofs.Lists.{get_some}
+use Rattle.lw_base.proofs.api.Lists.{get_some}
 use Rattle.lw_litmus.specs.declared.stmt.Stmt.{Stmt}
 use Rattle.lw_litmus.specs.declared.stmt.Stmt.TheVariants.{Store, Load, Swap, FetchAdd, Set, Sum, IfEq, IfNe, Goto}
 use Rattle.lw_interleaving.specs.declared.thread.Thread.{Thread}
@@ -24,7 +24,7 @@ use Rattle.lw_tso.specs.Processors.{Processor, newest, going_on, getting, flaggi
 use Rattle.lw_fence.specs.Compiling.{summed, row}
 use Rattle.lw_fence.specs.Fences.{is_load, Is, NeedsFence}
 use Rattle.lw_fence.proofs.Lag.{Middle, fenced, swapping, adding, summing, testing_eq, testing_ne, Stage, whole, midway, Followed}
-use Rattle.lw_tso.proofs.Effects.{Does}
+use Rattle.lw_tso.proofs.api.Effects.{Does}
 use Rattle.lw_fence.proofs.Moves.{turns_none, turns_on, turn}
 use Rattle.lw_fence.proofs.Owes.{IsLocal, Owes, nothing, owes_local, owes_store, catch_up, after_store}
 use Rattle.lw_fence.proofs.Placed.{Placed, StandsAt}

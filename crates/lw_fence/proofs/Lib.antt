@@ -1,20 +1,19 @@
-pub mod Marks
-pub mod FencesFound
-pub mod Placed
-pub mod Lists
-pub mod Moves
-pub mod Steps
-pub mod Statements
-pub mod SourceToMachine
-pub mod Owes
-pub mod Lag
-pub mod LagSteps
-pub mod Behind
-pub mod CaughtUp
-pub mod MachineToSource
-pub mod Outcomes
-pub mod Walk
-pub mod Programs
-pub mod CompiledThreads
-pub mod Endings
-pub mod Scheduling
+mod Marks
+mod FencesFound
+mod Placed
+mod Moves
+mod Steps
+mod Statements
+mod SourceToMachine
+mod Owes
+mod Lag
+mod LagSteps
+mod Behind
+mod CaughtUp
+mod MachineToSource
+mod Outcomes
+mod Walk
+mod Programs
+mod CompiledThreads
+mod Endings
+mod Scheduling

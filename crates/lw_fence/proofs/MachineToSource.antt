@@ -7,12 +7,12 @@ use Rattle.std.proofs.lemmas.Option.{slice_get_within, get_or_from_slice_get}
 use Rattle.lw_base.specs.Outcomes.{Final}
 use Rattle.lw_base.specs.Threads.{code_of}
 use Rattle.lw_memory.specs.Flat.{flat}
-use Rattle.lw_base.proofs.Lists.{get_some}
+use Rattle.lw_base.proofs.api.Lists.{get_some}
 use Rattle.lw_litmus.specs.declared.stmt.Stmt.{Stmt}
 use Rattle.lw_interleaving.specs.declared.thread.Thread.{Thread}
-use Rattle.lw_litmus.specs.Sources.{SourceTest, IsWellFormedSource}
+use Rattle.lw_litmus.specs.Sources.{IsWellFormedSource}
+use Rattle.lw_litmus.specs.Tests.{SourceTest, ProgramTest}
 use Rattle.lw_interleaving.specs.Runs.{State, RunsTo, SourceOutcome, start_of, starting as thread_starting, outcome_of, is_final as is_over}
-use Rattle.lw_litmus.specs.Programs.{ProgramTest}
 use Rattle.lw_tso.specs.Processors.{Processor, starting}
 use Rattle.lw_tso.specs.Machines.{MachineState}
 use Rattle.lw_tso.specs.Runs.{MachineRan, MachineOutcome, machine_outcome}
@@ -20,7 +20,7 @@ use Rattle.lw_fence.specs.Compiling.{IsCompiled}
 use Rattle.lw_fence.proofs.Behind.{LagAt, Behind, all_caught, caught_on}
 use Rattle.lw_fence.proofs.CaughtUp.{HasEnded, first_caught_up}
 use Rattle.lw_fence.proofs.Lag.{whole}
-use Rattle.lw_fence.proofs.Lists.{same_maps, zip_pass}
+use Rattle.lw_base.proofs.api.SideBySide.{same_maps, zip_pass}
 use Rattle.lw_fence.proofs.Owes.{nothing}
 use Rattle.lw_fence.proofs.Placed.{placed_at}
 use Rattle.lw_fence.proofs.Steps.{Sane, compiled_start, start_is, first_pair, first_sane}

@@ -10,7 +10,7 @@ use Rattle.lw_litmus.specs.declared.stmt.Stmt.{Stmt}
 use Rattle.lw_litmus.specs.declared.stmt.Stmt.TheVariants.{Store, Load, Swap, FetchAdd, Set, Sum, IfEq, IfNe, Goto}
 use Rattle.lw_litmus.specs.Flow.{Follows}
 use Rattle.lw_litmus.specs.Sources.{target_of}
-use Rattle.lw_fence.specs.Marks.{may_wait, marked_behind}
+use Rattle.lw_fence.specs.inner.Marks.{may_wait, marked_behind}
 use Rattle.lw_fence.specs.Fences.{is_store, lets_stores_wait, Is, IsFlowPath, StoresWait, IsBehindStore}
 
 -- A flow path leads from a store that may wait to the position, by its last step.

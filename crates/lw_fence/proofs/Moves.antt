@@ -2,24 +2,24 @@
 use Rattle.std.proofs.Common.{◌≡◌, ℕ, List, [], ◌∷◌, ◌++◌, map, Some, refl, sym, ap, ◌∙◌, subst}
 use Rattle.std.specs.Prelude.{slice_get, slice_set}
 use Rattle.std.proofs.lemmas.List.{map-append, set-set}
-use Rattle.lw_base.proofs.Replays.{Ran-append}
+use Rattle.lw_base.proofs.api.Replays.{Ran-append}
 use Rattle.lw_base.specs.Threads.{code_of}
 use Rattle.lw_base.specs.declared.event.Event.{Event}
 use Rattle.lw_base.specs.declared.event.Event.TheVariants.{Step, Drain}
 use Rattle.lw_memory.specs.Flat.{flat}
 use Rattle.lw_memory.specs.Memory.{Memory}
-use Rattle.lw_base.proofs.Lists.{got_set_same, set_own}
+use Rattle.lw_base.proofs.api.Lists.{got_set_same, set_own}
 use Rattle.lw_litmus.specs.declared.stmt.Stmt.{Stmt}
 use Rattle.lw_interleaving.specs.declared.thread.Thread.{Thread}
 use Rattle.lw_interleaving.specs.Statements.{thread_after, words_after}
 use Rattle.lw_interleaving.specs.Runs.{State, EventDone as SourceDone, Ran, carried_out, step_of, is_final as is_over}
-use Rattle.lw_interleaving.proofs.Exchange.{state_of}
+use Rattle.lw_interleaving.proofs.api.Exchange.{state_of}
 use Rattle.lw_litmus.specs.declared.instr.Instr.{Instr}
 use Rattle.lw_tso.specs.Processors.{Processor}
 use Rattle.lw_tso.specs.Acts.{step_act, drain_act}
 use Rattle.lw_tso.specs.Machines.{MachineState, EventDone}
 use Rattle.lw_tso.specs.Runs.{MachineRan, is_final}
-use Rattle.lw_tso.proofs.Effects.{Does, state, leads_from}
+use Rattle.lw_tso.proofs.api.Effects.{Does, state, leads_from}
 
 -- one list of events after another
 pub run_append : {M : Type 0} (mem : Memory M) (program : List (List Instr)) (es fs : List Event) (s mid end : MachineState M) → MachineRan mem program es s mid → MachineRan mem program fs mid end → MachineRan mem program (es ++ fs) s end

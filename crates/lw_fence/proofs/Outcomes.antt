@@ -2,9 +2,9 @@
 use Rattle.std.proofs.Common.{◌↔◌, ℕ, List}
 use Rattle.lw_base.specs.Outcomes.{Final}
 use Rattle.lw_memory.specs.Flat.{flat}
-use Rattle.lw_litmus.specs.Sources.{SourceTest, IsWellFormedSource}
+use Rattle.lw_litmus.specs.Sources.{IsWellFormedSource}
+use Rattle.lw_litmus.specs.Tests.{SourceTest, ProgramTest}
 use Rattle.lw_interleaving.specs.Runs.{SourceOutcome, start_of}
-use Rattle.lw_litmus.specs.Programs.{ProgramTest}
 use Rattle.lw_tso.specs.Runs.{MachineOutcome}
 use Rattle.lw_fence.specs.Compiling.{IsCompiled}
 use Rattle.lw_fence.specs.Schedules.{schedule}

@@ -9,7 +9,7 @@ use Rattle.lw_interleaving.specs.declared.thread.Thread.{Thread}
 use Rattle.lw_litmus.specs.Flow.{Follows}
 use Rattle.lw_litmus.specs.Sources.{location_of}
 use Rattle.lw_interleaving.specs.Statements.{going_on, thread_after, words_after}
-use Rattle.lw_interleaving.proofs.Exchange.{follows}
+use Rattle.lw_interleaving.proofs.api.Exchange.{follows}
 use Rattle.lw_fence.specs.Fences.{is_store, lets_stores_wait, Is, IsFlowPath, StoresWait, IsBehindStore}
 use Rattle.lw_fence.proofs.Moves.{Turns, turns_none, turns_on, turn}
 

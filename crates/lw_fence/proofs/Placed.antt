@@ -3,12 +3,11 @@ use Rattle.std.proofs.Common.{◌≡◌, ◌↔◌, ℕ, zero, suc, ◌+◌, ◌
 use Rattle.std.proofs.Math.Seq.{get_or-append_seam}
 use Rattle.std.proofs.lemmas.Option.{same_Some, none-some, slice_get_within, slice_get-get_or}
 use Rattle.lw_base.specs.Threads.{code_of}
-use Rattle.lw_base.proofs.Lists.{get_some, at_index}
+use Rattle.lw_base.proofs.api.Lists.{get_some, at_index}
 use Rattle.lw_litmus.specs.declared.stmt.Stmt.{Stmt}
 use Rattle.lw_litmus.specs.declared.stmt.Stmt.TheVariants.{Store, Load, Swap, FetchAdd, Set, Sum, IfEq, IfNe, Goto}
-use Rattle.lw_litmus.specs.Sources.{SourceTest}
+use Rattle.lw_litmus.specs.Tests.{SourceTest, ProgramTest}
 use Rattle.lw_litmus.specs.declared.instr.Instr.{Instr}
-use Rattle.lw_litmus.specs.Programs.{ProgramTest}
 use Rattle.lw_fence.specs.Fences.{NeedsFence}
 use Rattle.lw_fence.specs.Compiling.{row, rows, starts_from, IsCompiledThread, IsCompiled}
 

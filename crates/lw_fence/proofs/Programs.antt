@@ -10,14 +10,15 @@ use Rattle.lw_base.specs.WellFormed.{IsWord, IsRegisterNumber, IsWellFormedHead}
 use Rattle.lw_base.specs.declared.head.Arch.TheVariants.{X86}
 use Rattle.lw_base.specs.declared.operand.Operand.{Operand}
 use Rattle.lw_base.specs.declared.operand.Operand.TheVariants.{Register, Number}
-use Rattle.lw_litmus.specs.Tests.{IsStatement, IsThread}
-use Rattle.lw_base.proofs.Lists.{get_some, at_index}
+use Rattle.lw_litmus.specs.WellFormed.{IsStatement, IsThread}
+use Rattle.lw_base.proofs.api.Lists.{get_some, at_index}
 use Rattle.lw_litmus.specs.declared.stmt.Stmt.{Stmt}
 use Rattle.lw_litmus.specs.declared.stmt.Stmt.TheVariants.{Store, Load, Swap, FetchAdd, Set, Sum, IfEq, IfNe, Goto}
-use Rattle.lw_litmus.specs.Sources.{SourceTest, IsWellFormedSource, source, target_of}
+use Rattle.lw_litmus.specs.Sources.{IsWellFormedSource, source, target_of}
+use Rattle.lw_litmus.specs.Tests.{SourceTest, ProgramTest}
 use Rattle.lw_litmus.specs.declared.instr.Instr.{Instr}
 use Rattle.lw_litmus.specs.declared.instr.Instr.TheVariants as instr
-use Rattle.lw_litmus.specs.Programs.{ProgramTest, IsWellFormedProgram, x86}
+use Rattle.lw_litmus.specs.Programs.{IsWellFormedProgram, x86}
 use Rattle.lw_litmus.specs.Programs as programs
 use Rattle.lw_fence.specs.Compiling.{row, rows, summed, IsCompiledThread, IsCompiled}
 use Rattle.lw_fence.proofs.Placed.{StandsAt, Placed, placed}

@@ -8,17 +8,16 @@ use Rattle.lw_base.specs.Threads.{code_of}
 use Rattle.lw_base.specs.declared.event.Event.{Event}
 use Rattle.lw_base.specs.declared.event.Event.TheVariants.{Step, Drain}
 use Rattle.lw_base.specs.declared.stop.Stop.{Stop}
-use Rattle.lw_base.proofs.Lists.{get_some, at_index}
+use Rattle.lw_base.proofs.api.Lists.{get_some, at_index}
 use Rattle.lw_litmus.specs.declared.stmt.Stmt.{Stmt}
 use Rattle.lw_interleaving.specs.declared.thread.Thread.{Thread}
-use Rattle.lw_litmus.specs.Sources.{SourceTest}
+use Rattle.lw_litmus.specs.Tests.{SourceTest, ProgramTest}
 use Rattle.lw_interleaving.specs.Runs.{State, Ran, source_step}
-use Rattle.lw_interleaving.proofs.Exchange.{stepped}
-use Rattle.lw_litmus.specs.Programs.{ProgramTest}
+use Rattle.lw_interleaving.proofs.api.Exchange.{stepped}
 use Rattle.lw_fence.specs.Fences.{is_store}
 use Rattle.lw_fence.specs.Compiling.{IsCompiled}
 use Rattle.lw_fence.specs.Schedules.{statement_events, thread_events, going_on, schedule}
-use Rattle.lw_fence.proofs.Lists.{got_map}
+use Rattle.lw_base.proofs.api.SideBySide.{got_map}
 use Rattle.lw_fence.proofs.Placed.{placed_at}
 use Rattle.lw_fence.proofs.Walk.{starts_many}
 

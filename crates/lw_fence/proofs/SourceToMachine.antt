@@ -9,22 +9,22 @@ use Rattle.lw_base.specs.Threads.{code_of}
 use Rattle.lw_base.specs.declared.event.Event.{Event}
 use Rattle.lw_base.specs.declared.event.Event.TheVariants.{Step}
 use Rattle.lw_memory.specs.Flat.{flat}
-use Rattle.lw_base.proofs.Lists.{each_after, fellows_after, get_some}
+use Rattle.lw_base.proofs.api.Lists.{each_after, fellows_after, get_some}
 use Rattle.lw_litmus.specs.declared.stmt.Stmt.{Stmt}
 use Rattle.lw_interleaving.specs.declared.thread.Thread.{Thread}
-use Rattle.lw_litmus.specs.Sources.{SourceTest, IsWellFormedSource}
+use Rattle.lw_litmus.specs.Sources.{IsWellFormedSource}
+use Rattle.lw_litmus.specs.Tests.{SourceTest, ProgramTest}
 use Rattle.lw_interleaving.specs.Statements.{thread_after, words_after}
 use Rattle.lw_interleaving.specs.Runs.{State, Ran, RunsTo, start_of, outcome_of, is_final as is_over}
-use Rattle.lw_interleaving.proofs.Exchange.{state_of, Stepped, stepped}
+use Rattle.lw_interleaving.proofs.api.Exchange.{state_of, Stepped, stepped}
 use Rattle.lw_litmus.specs.declared.instr.Instr.{Instr}
-use Rattle.lw_litmus.specs.Programs.{ProgramTest}
 use Rattle.lw_tso.specs.Processors.{Processor}
 use Rattle.lw_tso.specs.Machines.{MachineState}
 use Rattle.lw_tso.specs.Runs.{MachineRan, Replays, machine_outcome, is_done, is_final}
 use Rattle.lw_fence.specs.Compiling.{row, IsCompiled}
 use Rattle.lw_fence.specs.Schedules.{statement_events, thread_events, going_on, schedule}
-use Rattle.lw_fence.proofs.Lists.{same_maps, zip_pass, zip_passes}
-use Rattle.lw_tso.proofs.Effects.{state}
+use Rattle.lw_base.proofs.api.SideBySide.{same_maps, zip_pass, zip_passes}
+use Rattle.lw_tso.proofs.api.Effects.{state}
 use Rattle.lw_fence.proofs.Moves.{run_append}
 use Rattle.lw_fence.proofs.Placed.{Stands, placed_at}
 use Rattle.lw_fence.proofs.Statements.{standing, events_for, Turned, statement_turned}

@@ -21,7 +21,7 @@ use Rattle.lw_fence.specs.Fences.{is_store}
 use Rattle.lw_fence.specs.Compiling.{summed, row}
 use Rattle.lw_fence.proofs.Placed.{StandsAt, Stands}
 use Rattle.lw_fence.proofs.Steps.{Allowed, sum_comm}
-use Rattle.lw_tso.proofs.Effects.{Does}
+use Rattle.lw_tso.proofs.api.Effects.{Does}
 use Rattle.lw_fence.proofs.Moves.{Moves, moves_on, step_moves, drain_moves}
 
 -- a processor at this instruction, with a thread's registers and an empty buffer

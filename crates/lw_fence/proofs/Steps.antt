@@ -11,20 +11,20 @@ use Rattle.lw_base.specs.Threads.{code_of}
 use Rattle.lw_base.specs.Heads.{TestHead}
 use Rattle.lw_base.specs.WellFormed.{IsRegisterNumber}
 use Rattle.lw_base.specs.declared.limits.TheConstants.{REGISTERS}
-use Rattle.lw_litmus.specs.Tests.{IsThread, IsStatement}
+use Rattle.lw_litmus.specs.WellFormed.{IsThread, IsStatement}
 use Rattle.lw_litmus.specs.declared.stmt.Stmt.{Stmt}
 use Rattle.lw_litmus.specs.declared.stmt.Stmt.TheVariants.{Store, Load, Swap, FetchAdd, Set, Sum, IfEq, IfNe, Goto}
 use Rattle.lw_interleaving.specs.declared.thread.Thread.{Thread}
-use Rattle.lw_litmus.specs.Sources.{SourceTest, IsWellFormedSource, source, registers_of, target_of}
+use Rattle.lw_litmus.specs.Sources.{IsWellFormedSource, source, registers_of, target_of}
+use Rattle.lw_litmus.specs.Tests.{SourceTest, ProgramTest}
 use Rattle.lw_interleaving.specs.Statements.{thread_after}
 use Rattle.lw_interleaving.specs.Runs.{start_of, starting as thread_starting}
-use Rattle.lw_litmus.specs.Programs.{ProgramTest}
 use Rattle.lw_tso.specs.Processors.{Processor, starting}
 use Rattle.lw_tso.specs.Machines.{MachineState}
 use Rattle.lw_tso.specs.Runs.{machine_start}
 use Rattle.lw_fence.specs.Compiling.{IsCompiled}
-use Rattle.lw_fence.proofs.Lists.{got_map}
-use Rattle.lw_tso.proofs.Effects.{state}
+use Rattle.lw_base.proofs.api.SideBySide.{got_map}
+use Rattle.lw_tso.proofs.api.Effects.{state}
 
 pub sum_comm : (x y : ℕ) → sum_of x y ≡ sum_of y x
 sum_comm x y = ap (λ (k : ℕ). k % 2 ^ 32) (add_comm x y)

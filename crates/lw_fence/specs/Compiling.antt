@@ -7,10 +7,9 @@ use Rattle.lw_base.specs.declared.operand.Operand.{Operand}
 use Rattle.lw_base.specs.declared.operand.Operand.TheVariants.{Register, Number}
 use Rattle.lw_litmus.specs.declared.stmt.Stmt.{Stmt}
 use Rattle.lw_litmus.specs.declared.stmt.Stmt.TheVariants.{Store, Load, Swap, FetchAdd, Set, Sum, IfEq, IfNe, Goto}
-use Rattle.lw_litmus.specs.Sources.{SourceTest}
+use Rattle.lw_litmus.specs.Tests.{SourceTest, ProgramTest}
 use Rattle.lw_litmus.specs.declared.instr.Instr.{Instr}
 use Rattle.lw_litmus.specs.declared.instr.Instr.TheVariants as x86
-use Rattle.lw_litmus.specs.Programs.{ProgramTest}
 use Rattle.lw_fence.specs.Fences.{NeedsFence}
 
 -- the register d gets the word of a, if it is another

@@ -1,4 +1,4 @@
 pub mod Fences
 pub mod Compiling
 pub mod Schedules
-pub mod Marks
+pub mod inner

@@ -5,7 +5,7 @@ ghost use Rattle.lw_litmus.specs.Limits.{most_statements};
 ghost use Rattle.lw_litmus.specs.declared.stmt.Stmt.{Stmt as Statement};
 ghost use Rattle.lw_litmus.specs.Sources.{target_of};
 ghost use Rattle.lw_fence.specs.Fences.{is_load, IsBehindStore, NeedsFence};
-ghost use Rattle.lw_fence.specs.Marks.{may_wait, marked_behind};
+ghost use Rattle.lw_fence.specs.inner.Marks.{may_wait, marked_behind};
 
 use lw_litmus::Stmt;
 use std::alloc::{AllocError, Allocator};

@@ -1,6 +1,5 @@
 -- A memory without caches: one word for each location.
 use Rattle.std.specs.Prelude.{◌≡◌, ℕ, List, Option}
-use Rattle.lw_base.specs.Limits.{most_threads}
 use Rattle.lw_memory.specs.declared.system.LineState.TheVariants.{I}
 use Rattle.lw_memory.specs.declared.system.Request.{Request}
 use Rattle.lw_memory.specs.declared.system.Request.TheVariants.{Evict}
@@ -20,12 +19,6 @@ WordsServe words r a after = (a ≡ answer_of words r) × (after ≡ content_aft
 abbrev pub FlatServes : Flat → Request → Option ℕ → Flat → Type 0
 FlatServes m r a n = WordsServe m.words r a n.words × (n.cpus ≡ m.cpus)
 
--- The flat memory of an abstract machine: its words alone, under as many processors as there can be.
+-- The flat memory of an abstract machine: its words alone.
 abbrev pub flat : Memory (List ℕ)
-flat = record {
-  content = λ words. words;
-  cpus = λ words. most_threads;
-  state = λ words t x. I;
-  sound = λ words. Unit {0};
-  serves = WordsServe;
-}
+flat = record { content = λ words. words; state = λ words t x. I; serves = WordsServe }

@@ -1,4 +1,5 @@
 pub mod Content
 pub mod Memory
+pub mod MemoryLaws
 pub mod Flat
-pub mod FlatLaws
+pub mod laws

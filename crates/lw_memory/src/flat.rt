@@ -3,7 +3,7 @@ ghost use Rattle.std.specs.Prelude.{◌≡◌, ◌≤◌, length};
 ghost use Rattle.lw_base.specs.Limits.{most_threads, most_locations};
 ghost use Rattle.lw_memory.specs.declared.system.LineState.TheVariants.{I};
 ghost use Rattle.lw_memory.specs.Flat.{FlatServes};
-ghost use Rattle.lw_memory.specs.FlatLaws.{flat_lawful};
+ghost use Rattle.lw_memory.specs.laws.FlatLaws.{flat_lawful};
 
 use crate::system::{LineState, MemorySystem, NotHeld};
 use lw_base::{Cpu, Loc, MAX_LOCATIONS, Word};

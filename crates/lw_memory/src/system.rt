@@ -3,7 +3,8 @@ ghost use Rattle.std.specs.Prelude.{◌≡◌, ◌<◌, ◌≤◌, ℕ, List, Op
 ghost use Rattle.lw_base.specs.Limits.{most_threads, most_locations};
 ghost use Rattle.lw_memory.specs.declared.system.LineState.{LineState};
 ghost use Rattle.lw_memory.specs.declared.system.Request.{Request};
-ghost use Rattle.lw_memory.specs.Memory.{memory_of, is_held, Lawful};
+ghost use Rattle.lw_memory.specs.MemoryLaws.{invariant_of, Lawful};
+ghost use Rattle.lw_memory.specs.Memory.{memory_of, is_held};
 
 use lw_base::{Cpu, Loc, Word};
 
@@ -142,5 +143,5 @@ pub trait MemorySystem {
         ensures words { content self.new ≡ words.now };
 
     /// The content alone decides every answer, and a request changes it as one word for each location would.
-    ghost lawful: { Lawful (memory_of content cpus state sound serves) };
+    ghost lawful: { Lawful (memory_of content state serves) (invariant_of cpus sound) };
 }

@@ -5,8 +5,9 @@ use Rattle.lw_memory.specs.Memory.{is_held}
 use Rattle.lw_mesi.specs.declared.protocol.Protocol.{Protocol}
 use Rattle.lw_mesi.specs.CacheLines.{CacheLine, Caches, unheld_line, copy_of, letter_of, line_at, content_of, contents_of}
 use Rattle.lw_mesi.specs.Snooping.{line_evicted}
-use Rattle.lw_mesi.specs.Protocols.{table_of, HasStatesOf, IsKeptLine, IsKept}
-use Rattle.lw_mesi.specs.ProtocolLaws.{set_kept, kept_line, evict_kept}
+use Rattle.lw_mesi.specs.Protocols.{table_of}
+use Rattle.lw_mesi.specs.Coherence.{HasStatesOf, IsKeptLine, IsKept}
+use Rattle.lw_mesi.specs.laws.ProtocolLaws.{set_kept, kept_line, evict_kept}
 
 any_default : {A : Type 0} (xs : List A) (i : ℕ) (c d : A) → i < length xs → get_or xs i c ≡ get_or xs i d
 any_default [] i c d lt = absurd (omega arith)

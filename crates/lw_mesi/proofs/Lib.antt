@@ -1,5 +1,5 @@
-pub mod PlaceLemmas
-pub mod SetLemmas
-pub mod PackedLemmas
-pub mod Kept
-pub mod Start
+mod PlaceLemmas
+mod SetLemmas
+mod PackedLemmas
+mod Kept
+mod Start

@@ -4,11 +4,12 @@ use Rattle.lw_memory.specs.declared.system.LineState.TheVariants.{S}
 use Rattle.lw_mesi.specs.declared.protocol.Protocol.{Protocol}
 use Rattle.lw_mesi.specs.declared.protocol.Protocol.TheVariants.{Mesi, Moesi}
 use Rattle.lw_mesi.specs.CacheLines.{Copy, Modified, Owned, Exclusive, Shared, Invalid, CacheLine, copy_of, letter_of}
-use Rattle.lw_mesi.specs.Places.{nobody}
+use Rattle.lw_mesi.specs.inner.Places.{nobody}
 use Rattle.lw_mesi.specs.Snooping.{line_to_read, line_written, line_evicted}
-use Rattle.lw_mesi.specs.Protocols.{table_of, IsStateOf, HasStatesOf}
+use Rattle.lw_mesi.specs.Protocols.{table_of}
+use Rattle.lw_mesi.specs.Coherence.{IsStateOf, HasStatesOf}
 use Rattle.lw_mesi.specs.declared.cache_line.PackedCacheLine.TheInside.{Inside}
-use Rattle.lw_mesi.specs.Packed.{IsPacked, copy_at, unpacked}
+use Rattle.lw_mesi.specs.inner.Packed.{IsPacked, copy_at, unpacked}
 use Rattle.lw_mesi.proofs.PlaceLemmas.{at_four, at_each_get}
 
 -- Four bits are these four.

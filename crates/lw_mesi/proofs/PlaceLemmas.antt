@@ -1,6 +1,6 @@
 -- What stands at each of the four processors.
 use Rattle.std.proofs.Common.{◌≡◌, ℕ, zero, suc, ◌<◌, set, get_or, refl, arith}
-use Rattle.lw_mesi.specs.Places.{at_each}
+use Rattle.lw_mesi.specs.inner.Places.{at_each}
 
 -- What holds at each of them.
 pub at_four : (P : ℕ → Type 0) → P 0 → P 1 → P 2 → P 3 → (t : ℕ) → t < 4 → P t

@@ -3,7 +3,7 @@ use Rattle.std.proofs.Common.{◌≡◌, ℕ, zero, suc, ◌-◌, ◌*◌, ◌/�
 use Rattle.std.specs.Int.{bit_at, w8}
 use Rattle.std.proofs.lemmas.Bool.{ltb-true, agree_below_at}
 use Rattle.std.proofs.lemmas.Nat.Bits.{shr_and_one, bit_at_set_same, bit_at_set_other, bit_at_clear_same, bit_at_clear_other}
-use Rattle.lw_mesi.specs.Places.{members_of}
+use Rattle.lw_mesi.specs.inner.Places.{members_of}
 use Rattle.lw_mesi.proofs.PlaceLemmas.{at_each_set, at_each_get}
 
 pub bit_is_member : (n t : ℕ) → t < 4 → eqb (bit_and (n / 2 ^ t) 1) 1 ≡ get_or (members_of n) t false

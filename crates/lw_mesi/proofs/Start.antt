@@ -2,9 +2,9 @@
 use Rattle.std.proofs.Common.{◌≡◌, ℕ, zero, suc, ◌<◌, ◌≤◌, List, [], ◌∷◌, length, map, refl, sym, ap, subst, arith}
 use Rattle.lw_mesi.specs.declared.protocol.Protocol.{Protocol}
 use Rattle.lw_mesi.specs.declared.protocol.Protocol.TheVariants.{Mesi, Moesi}
-use Rattle.lw_mesi.specs.CacheLines.{Invalid, unheld_line, empty_caches, copy_of, line_at, content_of, contents_of, IsOnlyCopy, IsDirty}
-use Rattle.lw_mesi.specs.Coherent.{no_word}
-use Rattle.lw_mesi.specs.Protocols.{IsStateOf, HasStatesOf, IsKeptLine, IsKept}
+use Rattle.lw_mesi.specs.CacheLines.{Invalid, unheld_line, empty_caches, copy_of, line_at, content_of, contents_of}
+use Rattle.lw_mesi.specs.Coherence.{IsOnlyCopy, IsDirty, IsStateOf, HasStatesOf, IsKeptLine, IsKept}
+use Rattle.lw_mesi.specs.laws.Coherent.{no_word}
 
 pub empty_content : (cpus : ℕ) (words : List ℕ) → contents_of (empty_caches cpus words) ≡ words
 empty_content n [] = refl

@@ -1,6 +1,5 @@
 -- The cache lines: a set of copies, at most one for each processor and location, and a map of memory words.
-use Rattle.std.specs.Prelude.{◌≡◌, ◌≢◌, ℕ, ◌<◌, ◌≤◌, List, [], ◌∷◌, map, length, Option, Some, None, slice_index_or}
-use Rattle.lw_base.specs.Limits.{most_threads}
+use Rattle.std.specs.Prelude.{ℕ, List, [], ◌∷◌, map, Option, Some, None, slice_index_or}
 use Rattle.lw_memory.specs.declared.system.LineState.{LineState}
 use Rattle.lw_memory.specs.declared.system.LineState.TheVariants.{M, O, E, S, I}
 
@@ -78,34 +77,3 @@ memory_words_of m = map (λ (line : CacheLine). line.memory) m.lines
 -- How a processor holds a location.
 abbrev pub state_in : Caches → ℕ → ℕ → LineState
 state_in m t x = letter_of (copy_of (line_at m.lines x) t)
-
--- M and E: the one copy there may be.
-abbrev pub IsOnlyCopy : Copy → Type 0
-IsOnlyCopy (Modified w) = Unit {0}
-IsOnlyCopy (Owned w) = ⊥
-IsOnlyCopy (Exclusive w) = Unit {0}
-IsOnlyCopy (Shared w) = ⊥
-IsOnlyCopy Invalid = ⊥
-
--- M and O: the copy that memory may differ from.
-abbrev pub IsDirty : Copy → Type 0
-IsDirty (Modified w) = Unit {0}
-IsDirty (Owned w) = Unit {0}
-IsDirty (Exclusive w) = ⊥
-IsDirty (Shared w) = ⊥
-IsDirty Invalid = ⊥
-
--- Single writer or many readers, and one word.
-pub record IsCoherentCacheLine (line : CacheLine) : Type 0 where
-  pub four : length line.copies ≡ most_threads
-  -- beside an M or E copy there is no other copy
-  pub alone : (t u : ℕ) → IsOnlyCopy (copy_of line t) → t ≢ u → copy_of line u ≡ Invalid
-  -- at most one copy is M or O
-  pub one_dirty : (t u : ℕ) → IsDirty (copy_of line t) → IsDirty (copy_of line u) → t ≡ u
-  -- every copy holds the content
-  pub same_word : (t w : ℕ) → word_of (copy_of line t) ≡ Some w → w ≡ content_of line
-
--- The same of every location.
-pub record IsCoherent (m : Caches) : Type 0 where
-  pub few : m.cpus ≤ most_threads
-  pub lines : (x : ℕ) → x < length m.lines → IsCoherentCacheLine (line_at m.lines x)

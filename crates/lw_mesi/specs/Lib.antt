@@ -1,12 +1,8 @@
-pub mod Places
 pub mod CacheLines
 pub mod Snooping
 pub mod MesiTable
 pub mod MoesiTable
 pub mod Protocols
-pub mod Packed
-pub mod Coherent
-pub mod Rows
-pub mod MesiRows
-pub mod MoesiRows
-pub mod ProtocolLaws
+pub mod Coherence
+pub mod inner
+pub mod laws

@@ -5,8 +5,9 @@ ghost use Rattle.lw_memory.specs.Memory.{is_held};
 ghost use Rattle.lw_mesi.specs.CacheLines.{Invalid, unheld_line, copy_of, letter_of, word_of, content_of};
 ghost use Rattle.lw_mesi.specs.declared.protocol.Protocol.{Protocol};
 ghost use Rattle.lw_mesi.specs.Snooping.{line_to_read, line_to_write, line_written, line_evicted};
-ghost use Rattle.lw_mesi.specs.Protocols.{table_of, HasStatesOf};
-ghost use Rattle.lw_mesi.specs.Places.{is_owner};
+ghost use Rattle.lw_mesi.specs.Protocols.{table_of};
+ghost use Rattle.lw_mesi.specs.Coherence.{HasStatesOf};
+ghost use Rattle.lw_mesi.specs.inner.Places.{is_owner};
 
 use crate::cpu_set::CpuSet;
 use crate::protocol::Protocol;
@@ -16,7 +17,7 @@ use std::marker::Model;
 
 /// The copies of one location. A clause sees each processor's copy, and memory's word.
 #[derive(Debug, Drop)]
-pub struct PackedCacheLine {
+pub(crate) struct PackedCacheLine {
     /// Who holds the line in M, O or E.
     owner: Option<Cpu>,
     /// Whether the owner's copy is in M or O.
@@ -35,7 +36,7 @@ impl Model for PackedCacheLine {
 
     ghost Value = { CacheLine };
 
-    ghost use Rattle.lw_mesi.specs.Packed.{IsPacked, unpacked};
+    ghost use Rattle.lw_mesi.specs.inner.Packed.{IsPacked, unpacked};
 
     ghost view = { unpacked };
 
@@ -44,7 +45,7 @@ impl Model for PackedCacheLine {
 
 impl PackedCacheLine {
     /// No copies, and this word in memory.
-    pub fn new(word: Word) -> Self
+    pub(crate) fn new(word: Word) -> Self
         ensures { result ≡ unheld_line word }
     {
         PackedCacheLine {
@@ -58,7 +59,7 @@ impl PackedCacheLine {
     }
 
     /// How a processor holds the line.
-    pub fn state_of(&self, cpu: Cpu) -> LineState
+    pub(crate) fn state_of(&self, cpu: Cpu) -> LineState
         requires { cpu < most_threads }
         ensures { result ≡ letter_of (copy_of self.now cpu) }
     {
@@ -76,21 +77,21 @@ impl PackedCacheLine {
     }
 
     /// The word that the location ends with.
-    pub fn word(&self) -> Word
+    pub(crate) fn word(&self) -> Word
         ensures { result ≡ content_of self.now }
     {
         self.word
     }
 
     /// The word that the location has in memory.
-    pub fn word_in_memory(&self) -> Word
+    pub(crate) fn word_in_memory(&self) -> Word
         ensures { result ≡ self.now.memory }
     {
         self.memory
     }
 
     /// The word of a processor's copy, where it has one.
-    pub fn copy(&self, cpu: Cpu) -> Option<Word>
+    pub(crate) fn copy(&self, cpu: Cpu) -> Option<Word>
         requires { cpu < most_threads }
         ensures { result ≡ word_of (copy_of self.now cpu) }
     {
@@ -102,7 +103,7 @@ impl PackedCacheLine {
     }
 
     /// The word that a processor's load takes, under a protocol.
-    pub fn load(&mut self, protocol: Protocol, cpu: Cpu) -> Word
+    pub(crate) fn load(&mut self, protocol: Protocol, cpu: Cpu) -> Word
         requires cpu { cpu < most_threads }
         requires states { HasStatesOf protocol self.old }
         ensures word { Some result ≡ word_of (copy_of (line_to_read (table_of protocol) cpu self.old) cpu) }
@@ -146,7 +147,7 @@ impl PackedCacheLine {
     }
 
     /// Writes a word, and answers the one that it replaces. The writer becomes the only holder, in M.
-    pub fn write(&mut self, cpu: Cpu, word: Word) -> Word
+    pub(crate) fn write(&mut self, cpu: Cpu, word: Word) -> Word
         requires { cpu < most_threads }
         ensures word { (p : Protocol) → HasStatesOf p self.old
             → Some result ≡ word_of (copy_of (line_to_write (table_of p) cpu self.old) cpu) }
@@ -163,7 +164,7 @@ impl PackedCacheLine {
     }
 
     /// Lets a processor's copy go, the word of one in M or O to memory.
-    pub fn evict(&mut self, cpu: Cpu) -> Result<(), NotHeld>
+    pub(crate) fn evict(&mut self, cpu: Cpu) -> Result<(), NotHeld>
         requires { cpu < most_threads }
         ensures held { is_ok result ≡ is_held (letter_of (copy_of self.old cpu)) }
         ensures ok { OnOk result ((p : Protocol) → HasStatesOf p self.old → self.new ≡ line_evicted (table_of p) cpu self.old) }

@@ -3,8 +3,9 @@ ghost use Rattle.std.specs.Prelude.{◌≡◌, ◌<◌, ◌≤◌, length, map, 
 ghost use Rattle.lw_base.specs.Limits.{most_threads, most_locations};
 ghost use Rattle.lw_mesi.specs.CacheLines.{unheld_line, empty_caches, copy_of, line_at, word_of, contents_of, memory_words_of, state_in};
 ghost use Rattle.lw_mesi.specs.Snooping.{Serves};
-ghost use Rattle.lw_mesi.specs.Protocols.{table_of, IsKept};
-ghost use Rattle.lw_mesi.specs.ProtocolLaws.{protocol_lawful};
+ghost use Rattle.lw_mesi.specs.Protocols.{table_of};
+ghost use Rattle.lw_mesi.specs.Coherence.{IsKept};
+ghost use Rattle.lw_mesi.specs.laws.ProtocolLaws.{protocol_lawful};
 
 use crate::cache_line::PackedCacheLine;
 use crate::protocol::{ByMesi, ByMoesi, KeptProtocol};
@@ -34,7 +35,7 @@ pub struct SnoopingCaches<P: KeptProtocol, A: Allocator = Global> {
 impl<P: KeptProtocol, A: Allocator> Model for SnoopingCaches<P, A> {
     ghost use Rattle.std.specs.Prelude.{◌≤◌, length};
     ghost use Rattle.lw_mesi.specs.CacheLines.{Caches};
-    ghost use Rattle.lw_mesi.specs.Protocols.{IsKept};
+    ghost use Rattle.lw_mesi.specs.Coherence.{IsKept};
     ghost use Rattle.lw_base.specs.Limits.{most_locations};
 
     ghost Value = { Caches };

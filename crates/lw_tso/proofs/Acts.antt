@@ -8,8 +8,9 @@ use Rattle.lw_base.specs.declared.stop.Stop.{Stop}
 use Rattle.lw_memory.specs.declared.system.Request.{Request}
 use Rattle.lw_memory.specs.declared.system.Request.TheVariants.{Load, Store, Swap, FetchAdd, Evict}
 use Rattle.lw_memory.specs.Content.{content_after}
-use Rattle.lw_memory.specs.Memory.{Memory, Lawful, Served, is_held}
-use Rattle.lw_base.proofs.Lists.{set_own}
+use Rattle.lw_memory.specs.Memory.{Memory, is_held}
+use Rattle.lw_memory.specs.MemoryLaws.{Lawful, Served, Invariant}
+use Rattle.lw_base.proofs.api.Lists.{set_own}
 use Rattle.lw_litmus.specs.declared.instr.Instr.{Instr}
 use Rattle.lw_tso.specs.Processors.{Processor}
 use Rattle.lw_tso.specs.Acts.{Act, Refused, Goes, Loads, Stores, Swaps, Adds, Evicts, cpu_of, event_act}
@@ -23,32 +24,32 @@ length-content_after words (Swap t x w) = length-set words x _
 length-content_after words (FetchAdd t x w) = length-set words x _
 length-content_after words (Evict t x) = refl
 
-module _ {M : Type 0} (mem : Memory M) where
+module _ {M : Type 0} (mem : Memory M) (inv : Invariant M) where
   -- as many processors and locations, and sound
   pub record IsKept (m n : M) : Type 0 where
-    pub cpus : mem.cpus n ≡ mem.cpus m
+    pub cpus : inv.cpus n ≡ inv.cpus m
     pub locations : length (mem.content n) ≡ length (mem.content m)
-    pub sound : mem.sound n
+    pub sound : inv.sound n
 
-  unchanged : (m n : M) → mem.sound m → n ≡ m → IsKept m n
+  unchanged : (m n : M) → inv.sound m → n ≡ m → IsKept m n
   unchanged m n sound same =
       record {
-        cpus = ap mem.cpus same;
+        cpus = ap inv.cpus same;
         locations = ap (λ (l : M). length (mem.content l)) same;
-        sound = subst mem.sound (sym same) sound;
+        sound = subst inv.sound (sym same) sound;
       }
 
-  served : Lawful mem → (m n : M) (r : Request) (a : Option ℕ) → mem.sound m → mem.serves m r a n → IsKept m n
+  served : Lawful mem inv → (m n : M) (r : Request) (a : Option ℕ) → inv.sound m → mem.serves m r a n → IsKept m n
   served laws m n r a sound serves =
-      let s : Served mem m r a n = laws.served m r a n sound serves in
+      let s : Served mem inv m r a n = laws.served m r a n sound serves in
       record { cpus = s.cpus; locations = ap length s.content ∙ length-content_after (mem.content m) r; sound = s.sound }
 
-  evicted : Lawful mem → (held : Bool) (t x : ℕ) (p q : Processor) (m n : M) (answer : Answer) → mem.sound m → EvictionDone mem held t x p m answer q n → IsKept m n
+  evicted : Lawful mem inv → (held : Bool) (t x : ℕ) (p q : Processor) (m n : M) (answer : Answer) → inv.sound m → EvictionDone mem held t x p m answer q n → IsKept m n
   evicted laws false t x p q m n answer sound done = unchanged m n sound done.2
   evicted laws true t x p q m n answer sound done = served laws m n (Evict t x) None sound done.2
 
   -- an act keeps the memory's size
-  pub act_kept : Lawful mem → (t : ℕ) (act : Act) (p q : Processor) (m n : M) (answer : Answer) → mem.sound m → ActDone mem t act p m answer q n → IsKept m n
+  pub act_kept : Lawful mem inv → (t : ℕ) (act : Act) (p q : Processor) (m n : M) (answer : Answer) → inv.sound m → ActDone mem t act p m answer q n → IsKept m n
   act_kept laws t (Refused stop) p q m n answer sound done = unchanged m n sound done.2
   act_kept laws t (Goes next) p q m n answer sound done = unchanged m n sound done.2
   act_kept laws t (Loads x next) p q m n answer sound done = served laws m n (Load t x) (Some done.0) sound done.3
@@ -87,9 +88,9 @@ module _ {M : Type 0} (mem : Memory M) where
   pub record IsSameSize (s end : MachineState M) : Type 0 where
     pub processors : length end.processors ≡ length s.processors
     pub locations : length (mem.content end.memory) ≡ length (mem.content s.memory)
-    pub sound : mem.sound end.memory
+    pub sound : inv.sound end.memory
 
-  pub event_kept : Lawful mem → (program : List (List Instr)) (e : Event) (s after : MachineState M) (answer : Answer) → mem.sound s.memory → EventDone mem program e s answer after → IsSameSize s after
+  pub event_kept : Lawful mem inv → (program : List (List Instr)) (e : Event) (s after : MachineState M) (answer : Answer) → inv.sound s.memory → EventDone mem program e s answer after → IsSameSize s after
   event_kept laws program e s after answer sound = go (slice_get s.processors (cpu_of e))
     where
       go : (o : Option Processor) → DoneBy mem o program e s answer after → IsSameSize s after
@@ -104,7 +105,7 @@ module _ {M : Type 0} (mem : Memory M) where
     pub processors : length after.state.processors ≡ length before.state.processors
     pub words : length (mem.content after.state.memory) ≡ length (mem.content before.state.memory)
 
-  pub left : Lawful mem → (e : Event) (before after : Running M) (answer : Answer) → mem.sound before.state.memory → after.program ≡ before.program → after.initial ≡ before.initial
+  pub left : Lawful mem inv → (e : Event) (before after : Running M) (answer : Answer) → inv.sound before.state.memory → after.program ≡ before.program → after.initial ≡ before.initial
       → EventDone mem before.program e before.state answer after.state → IsLeft before answer after
   left laws e before after answer sound program initial done =
       let kept = event_kept laws before.program e before.state after.state answer sound done in

@@ -10,7 +10,7 @@ use Rattle.lw_litmus.specs.declared.instr.Instr.TheVariants.{Store, Load, Set, A
 use Rattle.lw_tso.specs.Processors.{Processor, newest}
 use Rattle.lw_tso.specs.Acts.{Act, Refused, Goes, Loads, Stores, Swaps, Adds, Evicts, step_act, load_act}
 use Rattle.lw_tso.specs.Exchange.{accessed, writes, DoNotConflict, MayPass}
-use Rattle.lw_tso.proofs.Effects.{Does}
+use Rattle.lw_tso.proofs.api.Effects.{Does}
 
 -- ---- two acts
 

@@ -12,9 +12,10 @@ use Rattle.lw_base.specs.declared.event.Event.{Event}
 use Rattle.lw_base.specs.declared.event.Event.TheVariants.{Step, Evict}
 use Rattle.lw_base.specs.declared.stop.Stop.TheVariants.{NoCpu, NoLocation, Ended, NotHeld}
 use Rattle.lw_memory.specs.declared.system.Request.TheVariants as to
-use Rattle.lw_memory.specs.Memory.{Memory, Lawful, is_held}
-use Rattle.lw_base.proofs.Lists.{each_after, set_own}
-use Rattle.lw_litmus.specs.Tests.{IsThread, IsStatement}
+use Rattle.lw_memory.specs.Memory.{Memory, is_held}
+use Rattle.lw_memory.specs.MemoryLaws.{Lawful, Invariant}
+use Rattle.lw_base.proofs.api.Lists.{each_after, set_own}
+use Rattle.lw_litmus.specs.WellFormed.{IsThread, IsStatement}
 use Rattle.lw_litmus.specs.declared.instr.Instr.{Instr}
 use Rattle.lw_litmus.specs.Programs.{x86, location_of}
 use Rattle.lw_tso.specs.declared.processor.Processor.{Processor as ProcessorInMemory}
@@ -23,8 +24,8 @@ use Rattle.lw_base.specs.Threads.{code_of}
 use Rattle.lw_tso.specs.Acts.{cpu_of, step_act, event_act}
 use Rattle.lw_tso.specs.Machines.{MachineState, Answer, buffer_of, ActDone, DoneBy, EventDone}
 use Rattle.lw_tso.specs.Runs.{Running, Initial, is_done, is_final, machine_outcome}
-use Rattle.lw_tso.specs.Rooms.{is_store, stores_from, HasRoom, IsMachine}
-use Rattle.lw_tso.specs.Views.{processor_of}
+use Rattle.lw_tso.specs.inner.Rooms.{is_store, stores_from, HasRoom, IsMachine}
+use Rattle.lw_tso.specs.inner.Views.{processor_of}
 use Rattle.lw_tso.proofs.Acts.{act_kept}
 use Rattle.lw_tso.proofs.Rooms.{counted, stores_here, event_room}
 
@@ -128,20 +129,21 @@ module _ {M A : Type 0} (mem : Memory M) (program : List (List Instr)) where
       let absent = slice_get-map processor_of processors (cpu_of e) ∙ ap (option_map processor_of) (slice_get_past processors (cpu_of e) past) in
       subst (λ o. DoneBy mem o program e (state_of processors m) (Err NoCpu) (state_of processors m)) (sym absent) (refl, refl)
 
+module _ {M A : Type 0} (mem : Memory M) (inv : Invariant M) (program : List (List Instr)) where
   -- what an instruction wants of its processor and of the memory
   pub record CanCarryOut (locs t : ℕ) (p : ProcessorInMemory A) (m : M) (i : Instr) : Type 0 where
-    pub cpu : t < mem.cpus m
+    pub cpu : t < inv.cpus m
     pub loc : ForSome (location_of i) (λ x. x < length (mem.content m))
     pub position : p.position + 1 < 2 ^ 64
     pub room : is_store i ≡ true → length p.buffer.entries < p.buffer.room
 
   module _ (locs : ℕ) (threads : All (IsThread x86 locs) program) where
     thread_at : (processors : List (ProcessorInMemory A)) (m : M) (t : ℕ) (p : ProcessorInMemory A)
-        → IsMachine mem program locs m processors → slice_get processors t ≡ Some p → IsThread x86 locs (code_of program t)
+        → IsMachine mem inv program locs m processors → slice_get processors t ≡ Some p → IsThread x86 locs (code_of program t)
     thread_at processors m t p ok at = threads t _ (omega (arith, slice_get_within processors t p at, ok.as_many))
 
     pub can_carry_out : (processors : List (ProcessorInMemory A)) (m : M) (t : ℕ) (p : ProcessorInMemory A) (i : Instr)
-        → IsMachine mem program locs m processors → slice_get processors t ≡ Some p
+        → IsMachine mem inv program locs m processors → slice_get processors t ≡ Some p
         → slice_get (code_of program t) p.position ≡ Some i → CanCarryOut locs t p m i
     can_carry_out processors m t p i ok at next =
         let thread = thread_at processors m t p ok at in
@@ -158,18 +160,18 @@ module _ {M A : Type 0} (mem : Memory M) (program : List (List Instr)) where
 
     -- the entries of a buffer are for locations of the memory
     pub entries_there : (processors : List (ProcessorInMemory A)) (m : M) (t : ℕ) (p : ProcessorInMemory A)
-        → IsMachine mem program locs m processors → slice_get processors t ≡ Some p
+        → IsMachine mem inv program locs m processors → slice_get processors t ≡ Some p
         → All (λ (entry : ℕ × ℕ). entry.0 < length (mem.content m)) p.buffer.entries
     entries_there processors m t p ok at = rw ok.locations ((ok.rooms t p at).there)
 
     -- the parts of a machine after an event
-    pub machine_after : Lawful mem → (e : Event) (p q : ProcessorInMemory A) (processors : List (ProcessorInMemory A)) (m n : M) (answer : Answer)
-        → IsMachine mem program locs m processors → slice_get processors (cpu_of e) ≡ Some p
+    pub machine_after : Lawful mem inv → (e : Event) (p q : ProcessorInMemory A) (processors : List (ProcessorInMemory A)) (m n : M) (answer : Answer)
+        → IsMachine mem inv program locs m processors → slice_get processors (cpu_of e) ≡ Some p
         → ActDone mem (cpu_of e) (event_act program (length (mem.content m)) e (processor_of p)) (processor_of p) m answer (processor_of q) n
         → q.buffer.room ≡ p.buffer.room
-        → IsMachine mem program locs n (slice_set processors (cpu_of e) q)
+        → IsMachine mem inv program locs n (slice_set processors (cpu_of e) q)
     machine_after laws e p q processors m n answer ok at done same =
-        let kept = act_kept mem laws (cpu_of e) (event_act program (length (mem.content m)) e (processor_of p)) (processor_of p) (processor_of q) m n answer ok.sound done in
+        let kept = act_kept mem inv laws (cpu_of e) (event_act program (length (mem.content m)) e (processor_of p)) (processor_of p) (processor_of q) m n answer ok.sound done in
         let longer = length-set processors (cpu_of e) q in
         let thread = thread_at processors m (cpu_of e) p ok at in
         let room : HasRoom locs (code_of program (cpu_of e)) (processor_of q) q.buffer.room =

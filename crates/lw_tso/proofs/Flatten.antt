@@ -7,11 +7,12 @@ use Rattle.lw_base.specs.declared.stop.Stop.{Stop}
 use Rattle.lw_base.specs.declared.stop.Stop.TheVariants.{NoLocation, FenceWaits, SwapWaits}
 use Rattle.lw_memory.specs.declared.system.Request.TheVariants as to
 use Rattle.lw_memory.specs.Flat.{flat}
-use Rattle.lw_memory.specs.Memory.{Memory, Lawful, is_held}
-use Rattle.lw_base.proofs.Lists.{set_own}
+use Rattle.lw_memory.specs.Memory.{Memory, is_held}
+use Rattle.lw_memory.specs.MemoryLaws.{Lawful, Invariant}
+use Rattle.lw_base.proofs.api.Lists.{set_own}
 use Rattle.lw_litmus.specs.declared.instr.Instr.{Instr}
 use Rattle.lw_litmus.specs.declared.instr.Instr.TheVariants.{Store, Load, Set, Add, Cmp, Xchg, Xadd, Mfence, Je, Jne, Jmp}
-use Rattle.lw_litmus.specs.Programs.{ProgramTest}
+use Rattle.lw_litmus.specs.Tests.{ProgramTest}
 use Rattle.lw_tso.specs.Processors.{Processor, newest}
 use Rattle.lw_base.specs.Threads.{code_of}
 use Rattle.lw_tso.specs.Acts.{Act, Refused, Goes, Loads, Stores, Swaps, Adds, Evicts, cpu_of, event_act, step_act, drain_act, load_act, once_empty}
@@ -65,8 +66,8 @@ event_keeps program locs (Step t) p none = step_keeps (slice_get (code_of progra
 event_keeps program locs (Drain t) p none = drain_keeps p.buffer p
 event_keeps program locs (Evict t x) p none = absurd cc
 
-module _ {M : Type 0} (mem : Memory M) (laws : Lawful mem) where
-  act_flat : (t : ℕ) (act : Act) (p q : Processor) (m n : M) (answer : Answer) → mem.sound m → KeepsLines act
+module _ {M : Type 0} (mem : Memory M) (inv : Invariant M) (laws : Lawful mem inv) where
+  act_flat : (t : ℕ) (act : Act) (p q : Processor) (m n : M) (answer : Answer) → inv.sound m → KeepsLines act
       → ActDone mem t act p m answer q n → ActDone flat t act p (mem.content m) answer q (mem.content n)
   act_flat t (Refused stop) p q m n answer sound keeps done = (done.0, done.1, ap mem.content done.2)
   act_flat t (Goes next) p q m n answer sound keeps done = (done.0, done.1, ap mem.content done.2)
@@ -84,7 +85,7 @@ module _ {M : Type 0} (mem : Memory M) (laws : Lawful mem) where
       (done.0, done.1, done.2, (s.answer, s.content))
   act_flat t (Evicts x) p q m n answer sound keeps done = absurd keeps
 
-  by_flat : (o : Option Processor) (program : List (List Instr)) (e : Event) (s after : MachineState M) (answer : Answer) → mem.sound s.memory
+  by_flat : (o : Option Processor) (program : List (List Instr)) (e : Event) (s after : MachineState M) (answer : Answer) → inv.sound s.memory
       → ((p : Processor) → KeepsLines (event_act program (length (mem.content s.memory)) e p))
       → DoneBy mem o program e s answer after → DoneBy flat o program e (flatten mem s) answer (flatten mem after)
   by_flat None program e s after answer sound keeps done = (done.0, ap (flatten mem) done.1)
@@ -96,22 +97,22 @@ module _ {M : Type 0} (mem : Memory M) (laws : Lawful mem) where
   )
 
   -- an event that is no eviction has the same answer
-  pub event_flat : (program : List (List Instr)) (e : Event) (s after : MachineState M) (answer : Answer) → mem.sound s.memory → IsNoEviction e
+  pub event_flat : (program : List (List Instr)) (e : Event) (s after : MachineState M) (answer : Answer) → inv.sound s.memory → IsNoEviction e
       → EventDone mem program e s answer after → EventDone flat program e (flatten mem s) answer (flatten mem after)
   event_flat program e s after answer sound none done =
       by_flat (slice_get s.processors (cpu_of e)) program e s after answer sound (λ p. event_keeps program (length (mem.content s.memory)) e p none) done
 
-  evicted_flat : (held : Bool) (t x : ℕ) (p q : Processor) (m n : M) → mem.sound m
+  evicted_flat : (held : Bool) (t x : ℕ) (p q : Processor) (m n : M) → inv.sound m
       → EvictionDone mem held t x p m (Ok tt) q n → (q ≡ p) × (mem.content n ≡ mem.content m)
   evicted_flat false t x p q m n sound done = (done.1, ap mem.content done.2)
   evicted_flat true t x p q m n sound done = (done.1, (laws.served m (to.Evict t x) None n sound done.2).content)
 
-  evict_flat : (there : Bool) (t x : ℕ) (p q : Processor) (m n : M) → mem.sound m
+  evict_flat : (there : Bool) (t x : ℕ) (p q : Processor) (m n : M) → inv.sound m
       → ActDone mem t (if there then Evicts x else Refused NoLocation) p m (Ok tt) q n → (q ≡ p) × (mem.content n ≡ mem.content m)
   evict_flat true t x p q m n sound done = evicted_flat (is_held (mem.state m t x)) t x p q m n sound done
   evict_flat false t x p q m n sound done = (done.1, ap mem.content done.2)
 
-  eviction_flat : (o : Option Processor) (program : List (List Instr)) (t x : ℕ) (s after : MachineState M) → mem.sound s.memory
+  eviction_flat : (o : Option Processor) (program : List (List Instr)) (t x : ℕ) (s after : MachineState M) → inv.sound s.memory
       → slice_get s.processors t ≡ o → DoneBy mem o program (Evict t x) s (Ok tt) after → flatten mem after ≡ flatten mem s
   eviction_flat None program t x s after sound at done = ap (flatten mem) done.1
   eviction_flat (Some p) program t x s after sound at done =
@@ -120,26 +121,26 @@ module _ {M : Type 0} (mem : Memory M) (laws : Lawful mem) where
       ap (flatten mem) done.3 ∙ ap₂ (λ (ps : List Processor) (words : List ℕ). let a : MachineState (List ℕ) = record { processors = ps; memory = words } in a) processors same.1
 
   -- a run, evictions left out
-  pub run_flat : (program : List (List Instr)) (es : List Event) (s end : MachineState M) → mem.sound s.memory
+  pub run_flat : (program : List (List Instr)) (es : List Event) (s end : MachineState M) → inv.sound s.memory
       → MachineRan mem program es s end → MachineRan flat program (without_evictions es) (flatten mem s) (flatten mem end)
   run_flat program [] s end sound ran = ap (flatten mem) ran
   run_flat program (Step t ∷ es) s end sound ran = (
     flatten mem ran.0,
     event_flat program (Step t) s ran.0 (Ok tt) sound refl ran.1,
-    run_flat program es ran.0 end (event_kept mem laws program (Step t) s ran.0 (Ok tt) sound ran.1).sound ran.2,
+    run_flat program es ran.0 end (event_kept mem inv laws program (Step t) s ran.0 (Ok tt) sound ran.1).sound ran.2,
   )
   run_flat program (Drain t ∷ es) s end sound ran = (
     flatten mem ran.0,
     event_flat program (Drain t) s ran.0 (Ok tt) sound refl ran.1,
-    run_flat program es ran.0 end (event_kept mem laws program (Drain t) s ran.0 (Ok tt) sound ran.1).sound ran.2,
+    run_flat program es ran.0 end (event_kept mem inv laws program (Drain t) s ran.0 (Ok tt) sound ran.1).sound ran.2,
   )
   run_flat program (Evict t x ∷ es) s end sound ran =
       subst (λ (a : MachineState (List ℕ)). MachineRan flat program (without_evictions es) a (flatten mem end))
       (eviction_flat (slice_get s.processors t) program t x s ran.0 sound refl ran.1)
-      (run_flat program es ran.0 end (event_kept mem laws program (Evict t x) s ran.0 (Ok tt) sound ran.1).sound ran.2)
+      (run_flat program es ran.0 end (event_kept mem inv laws program (Evict t x) s ran.0 (Ok tt) sound ran.1).sound ran.2)
 
   -- a replay, evictions left out
-  pub replays_flat : (test : ProgramTest) (m : M) (es : List Event) (o : Final) → mem.sound m
+  pub replays_flat : (test : ProgramTest) (m : M) (es : List Event) (o : Final) → inv.sound m
       → Replays mem test m es o → Replays flat test (mem.content m) (without_evictions es) o
   replays_flat test m es o sound r = record {
     end = flatten mem r.end;

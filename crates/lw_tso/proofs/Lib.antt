@@ -1,13 +1,11 @@
-pub mod Newest
-pub mod Acts
-pub mod Rooms
-pub mod Events
-pub mod Starts
-pub mod Flatten
-pub mod Effects
-pub mod Commuting
-pub mod Neighbours
-pub mod Lift
-pub mod Endings
-pub mod Replaying
-pub mod Refilled
+pub mod api
+mod Newest
+mod Acts
+mod Rooms
+mod Events
+mod Starts
+mod Flatten
+mod Commuting
+mod Lift
+mod Replaying
+mod Refilled

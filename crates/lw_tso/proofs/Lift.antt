@@ -14,23 +14,25 @@ use Rattle.lw_memory.specs.declared.system.Request.{Request}
 use Rattle.lw_memory.specs.declared.system.Request.TheVariants as to
 use Rattle.lw_memory.specs.Content.{answer_of, content_after}
 use Rattle.lw_memory.specs.Flat.{flat}
-use Rattle.lw_memory.specs.Memory.{Memory, Lawful, IsInRange, IsPossible}
-use Rattle.lw_litmus.specs.Tests.{IsThread, IsStatement}
-use Rattle.lw_base.proofs.Lists.{each_after}
+use Rattle.lw_memory.specs.Memory.{Memory, IsInRange, IsPossible}
+use Rattle.lw_memory.specs.MemoryLaws.{Lawful, Invariant}
+use Rattle.lw_litmus.specs.WellFormed.{IsThread, IsStatement}
+use Rattle.lw_base.proofs.api.Lists.{each_after}
 use Rattle.lw_litmus.specs.declared.instr.Instr.{Instr}
 use Rattle.lw_litmus.specs.declared.instr.Instr.TheVariants.{Store, Load, Set, Add, Cmp, Xchg, Xadd, Mfence, Je, Jne, Jmp}
-use Rattle.lw_litmus.specs.Programs.{ProgramTest, IsWellFormedProgram, x86}
+use Rattle.lw_litmus.specs.Programs.{IsWellFormedProgram, x86}
+use Rattle.lw_litmus.specs.Tests.{ProgramTest}
 use Rattle.lw_tso.specs.Processors.{Processor, newest, starting}
 use Rattle.lw_base.specs.Threads.{code_of}
 use Rattle.lw_tso.specs.Acts.{Act, Refused, Goes, Loads, Stores, Swaps, Adds, Evicts, cpu_of, event_act, step_act, drain_act, load_act, once_empty}
 use Rattle.lw_tso.specs.Machines.{MachineState, Answer, flatten, ActDone, DoneBy, EventDone}
-use Rattle.lw_tso.specs.Rooms.{HasRoom, stores_from}
+use Rattle.lw_tso.specs.inner.Rooms.{HasRoom, stores_from}
 use Rattle.lw_tso.specs.Runs.{MachineRan, Replays, MachineOutcome, machine_start, machine_outcome, is_final}
 use Rattle.lw_tso.specs.Evictions.{without_evictions}
 use Rattle.lw_tso.specs.Starts.{CanStart}
 use Rattle.lw_tso.proofs.Acts.{act_kept}
 use Rattle.lw_tso.proofs.Rooms.{event_room}
-use Rattle.lw_tso.proofs.Effects.{no_eviction, leads_to}
+use Rattle.lw_tso.proofs.api.Effects.{no_eviction, leads_to}
 use Rattle.lw_tso.proofs.Flatten.{KeepsLines, IsNoEviction, event_keeps, event_flat, replays_flat}
 
 -- it asks for one of so many locations, if for any
@@ -83,15 +85,15 @@ flat_evicts_none program (Evict t x) s mid done =
     let d = leads_to program (Evict t x) s mid done in
     absurd (no_eviction program (length s.memory) t x d.from d.to s.memory d.words d.does)
 
-module _ {M : Type 0} (mem : Memory M) (laws : Lawful mem) where
+module _ {M : Type 0} (mem : Memory M) (inv : Invariant M) (laws : Lawful mem inv) where
   -- a request, done over the content, is done over the memory
-  served_too : (r : Request) (a : Option ℕ) (m : M) (words : List ℕ) → mem.sound m → IsInRange (mem.cpus m) (length (mem.content m)) r → IsPossible (mem.state m) r
+  served_too : (r : Request) (a : Option ℕ) (m : M) (words : List ℕ) → inv.sound m → IsInRange (inv.cpus m) (length (mem.content m)) r → IsPossible (mem.state m) r
       → a ≡ answer_of (mem.content m) r → words ≡ content_after (mem.content m) r → (n : M) × mem.serves m r a n × (mem.content n ≡ words)
   served_too r a m words sound there possible answer after =
       let g = laws.serves m r sound there possible in
       (g.0, subst (λ b. mem.serves m r b g.0) (sym answer) g.1, (laws.served m r (answer_of (mem.content m) r) g.0 sound g.1).content ∙ sym after)
 
-  act_lift : (t : ℕ) (act : Act) (p q : Processor) (m : M) (words : List ℕ) (answer : Answer) → mem.sound m → t < mem.cpus m → AsksWithin (length (mem.content m)) act → KeepsLines act
+  act_lift : (t : ℕ) (act : Act) (p q : Processor) (m : M) (words : List ℕ) (answer : Answer) → inv.sound m → t < inv.cpus m → AsksWithin (length (mem.content m)) act → KeepsLines act
       → ActDone flat t act p (mem.content m) answer q words → (n : M) × ActDone mem t act p m answer q n × (mem.content n ≡ words)
   act_lift t (Refused stop) p q m words answer sound cpu within keeps done = (m, (done.0, done.1, refl), sym done.2)
   act_lift t (Goes next) p q m words answer sound cpu within keeps done = (m, (done.0, done.1, refl), sym done.2)
@@ -116,9 +118,9 @@ module _ {M : Type 0} (mem : Memory M) (laws : Lawful mem) where
 
     -- what every run of the program keeps
     pub record IsWithin (s : MachineState M) : Type 0 where
-      pub sound : mem.sound s.memory
+      pub sound : inv.sound s.memory
       pub locations : length (mem.content s.memory) ≡ locs
-      pub cpus : length s.processors ≤ mem.cpus s.memory
+      pub cpus : length s.processors ≤ inv.cpus s.memory
       pub as_many : length s.processors ≡ length program
       pub rooms : (t : ℕ) (p : Processor) → slice_get s.processors t ≡ Some p → HasRoomAt t p
 
@@ -129,7 +131,7 @@ module _ {M : Type 0} (mem : Memory M) (laws : Lawful mem) where
         → ActDone mem (cpu_of e) (event_act program (length (mem.content s.memory)) e p) p s.memory answer q n
         → IsWithin (record { processors = slice_set s.processors (cpu_of e) q; memory = n })
     within_after e s p q n answer within at done =
-        let kept = act_kept mem laws (cpu_of e) (event_act program (length (mem.content s.memory)) e p) p q s.memory n answer within.sound done in
+        let kept = act_kept mem inv laws (cpu_of e) (event_act program (length (mem.content s.memory)) e p) p q s.memory n answer within.sound done in
         let longer = length-set s.processors (cpu_of e) q in
         let room = event_room mem program locs (stores_from 0 (code_of program (cpu_of e))) e p q s.memory n answer (thread_at s (cpu_of e) p within at) done (within.rooms (cpu_of e) p at) in
         record {
@@ -170,7 +172,7 @@ module _ {M : Type 0} (mem : Memory M) (laws : Lawful mem) where
     by_lift None e s answer mid within none at done = (s, subst (λ o. DoneBy mem o program e s answer s) (sym at) (done.0, refl), sym done.1)
     by_lift (Some p) e s answer mid within none at done =
         let asks = subst (λ l. AsksWithin l (event_act program (length (mem.content s.memory)) e p)) (sym within.locations) (event_within e p s within at) in
-        let cpu : cpu_of e < mem.cpus s.memory = omega (arith, slice_get_within s.processors (cpu_of e) p at, within.cpus) in
+        let cpu : cpu_of e < inv.cpus s.memory = omega (arith, slice_get_within s.processors (cpu_of e) p at, within.cpus) in
         let keeps = event_keeps program (length (mem.content s.memory)) e p none in
         let g = act_lift (cpu_of e) (event_act program (length (mem.content s.memory)) e p) p done.0 s.memory done.1 answer within.sound cpu asks keeps done.2 in
         let end : MachineState M = record { processors = slice_set s.processors (cpu_of e) done.0; memory = g.0 } in (
@@ -203,7 +205,7 @@ module _ {M : Type 0} (mem : Memory M) (laws : Lawful mem) where
     started p None e = absurd cc
     started p (Some r) e = (r, same_Some p (starting r) e)
 
-    pub within_first : (m : M) → CanStart mem test m → IsWithin test.threads locs ok.code (machine_start test m)
+    pub within_first : (m : M) → CanStart mem inv test m → IsWithin test.threads locs ok.code (machine_start test m)
     within_first m start =
         let many : length (map starting test.head.init_regs) ≡ length test.threads = length-map test.head.init_regs starting ∙ ok.head.regs ∙ sym ok.as_many in
         record {
@@ -216,23 +218,23 @@ module _ {M : Type 0} (mem : Memory M) (laws : Lawful mem) where
               subst (λ q. HasRoom locs (code_of test.threads t) q (stores_from 0 (code_of test.threads t))) (sym first.1) (record { fits = omega arith; there = All-nil _ });
         }
 
-    pub within_reached : (m : M) (es : List Event) (s : MachineState M) → CanStart mem test m → MachineRan mem test.threads es (machine_start test m) s → IsWithin test.threads locs ok.code s
+    pub within_reached : (m : M) (es : List Event) (s : MachineState M) → CanStart mem inv test m → MachineRan mem test.threads es (machine_start test m) s → IsWithin test.threads locs ok.code s
     within_reached m es s start ran = within_run test.threads locs ok.code es (machine_start test m) s (within_first m start) ran
 
     -- in a state that is reached, an event that is no eviction is one over the flat memory
-    pub reached_flat : (m : M) (es : List Event) (s after : MachineState M) (e : Event) (answer : Answer) → CanStart mem test m
+    pub reached_flat : (m : M) (es : List Event) (s after : MachineState M) (e : Event) (answer : Answer) → CanStart mem inv test m
         → MachineRan mem test.threads es (machine_start test m) s → IsNoEviction e
         → EventDone mem test.threads e s answer after → EventDone flat test.threads e (flatten mem s) answer (flatten mem after)
-    reached_flat m es s after e answer start ran none done = event_flat mem laws test.threads e s after answer (within_reached m es s start ran).sound none done
+    reached_flat m es s after e answer start ran none done = event_flat mem inv laws test.threads e s after answer (within_reached m es s start ran).sound none done
 
     -- and the other way round
-    pub reached_lift : (m : M) (es : List Event) (s : MachineState M) (e : Event) (answer : Answer) (mid : MachineState (List ℕ)) → CanStart mem test m
+    pub reached_lift : (m : M) (es : List Event) (s : MachineState M) (e : Event) (answer : Answer) (mid : MachineState (List ℕ)) → CanStart mem inv test m
         → MachineRan mem test.threads es (machine_start test m) s → IsNoEviction e
         → EventDone flat test.threads e (flatten mem s) answer mid → LiftedEvent test.threads locs ok.code e s answer mid
     reached_lift m es s e answer mid start ran none done = event_lift test.threads locs ok.code e s answer mid (within_reached m es s start ran) none done
 
     -- a list that replays over the flat memory replays over this one
-    pub replays_lift : (m : M) (es : List Event) (o : Final) → CanStart mem test m → Replays flat test test.head.init_words es o → Replays mem test m es o
+    pub replays_lift : (m : M) (es : List Event) (o : Final) → CanStart mem inv test m → Replays flat test test.head.init_words es o → Replays mem test m es o
     replays_lift m es o start r =
         let ran = subst (λ w. MachineRan flat test.threads es (machine_start test w) r.end) (sym start.words) r.ran in
         let a = run_lift test.threads locs ok.code es (machine_start test m) r.end (within_first m start) ran in
@@ -244,15 +246,15 @@ module _ {M : Type 0} (mem : Memory M) (laws : Lawful mem) where
         }
 
     -- the outcomes are those of the flat memory
-    pub outcomes_flat : (m : M) (o : Final) → CanStart mem test m → MachineOutcome mem test m o ↔ MachineOutcome flat test test.head.init_words o
+    pub outcomes_flat : (m : M) (o : Final) → CanStart mem inv test m → MachineOutcome mem test m o ↔ MachineOutcome flat test test.head.init_words o
     outcomes_flat m o start = (
-      (λ a. (without_evictions a.0, subst (λ w. Replays flat test w (without_evictions a.0) o) start.words (replays_flat mem laws test m a.0 o start.sound a.1))),
+      (λ a. (without_evictions a.0, subst (λ w. Replays flat test w (without_evictions a.0) o) start.words (replays_flat mem inv laws test m a.0 o start.sound a.1))),
       (λ a. (a.0, replays_lift m a.0 o start a.1)),
     )
 
     -- a list without evictions replays over the one where it does over the other
-    pub replays_alike : (m : M) (es : List Event) (o : Final) → CanStart mem test m → without_evictions es ≡ es → Replays mem test m es o ↔ Replays flat test test.head.init_words es o
+    pub replays_alike : (m : M) (es : List Event) (o : Final) → CanStart mem inv test m → without_evictions es ≡ es → Replays mem test m es o ↔ Replays flat test test.head.init_words es o
     replays_alike m es o start none = (
-      (λ r. subst (λ fs. Replays flat test test.head.init_words fs o) none (subst (λ w. Replays flat test w (without_evictions es) o) start.words (replays_flat mem laws test m es o start.sound r))),
+      (λ r. subst (λ fs. Replays flat test test.head.init_words fs o) none (subst (λ w. Replays flat test w (without_evictions es) o) start.words (replays_flat mem inv laws test m es o start.sound r))),
       (λ r. replays_lift m es o start r),
     )

@@ -1,7 +1,9 @@
 -- Lists whose items are put in the places of others, one after another.
-use Rattle.std.proofs.Common.{◌≡◌, ℕ, ◌+◌, ◌<◌, ◌≤◌, List, [], ◌∷◌, length, map, set, take, get_or, Some, refl, sym, ap, ◌∙◌, arith, slice_get}
-use Rattle.std.proofs.lemmas.List.{map-append, map-set, map_more, take_all, take_more_set}
-use Rattle.lw_base.proofs.Lists.{set_own}
+use Rattle.std.proofs.Common.{◌≡◌, ℕ, ◌+◌, ◌<◌, ◌≤◌, List, [], ◌∷◌, ◌++◌, length, map, set, take, get_or, Some, refl, sym, ap, ap₂, ◌∙◌, arith, slice_get}
+use Rattle.std.proofs.lemmas.List.{get_or-take, length-take, map-append, map-set, map_more, take_all, take_more, take_more_set}
+use Rattle.std.proofs.lemmas.List.FromFn.{get_or-range_with_len}
+use Rattle.std.specs.List.{range_with_len}
+use Rattle.lw_base.proofs.api.Lists.{set_own}
 
 -- one item more
 pub refilled : {X Y Z : Type 0} (f : X → Z) (g : Y → Z) (xs : List X) (ys : List Y) (i : ℕ) (x : X) (d : Y) → i < length xs → i < length ys
@@ -18,3 +20,15 @@ refilled_all f g xs ys k so_far many past =
 -- what each item keeps
 pub kept_in_place : {X Y : Type 0} (f : X → Y) (xs : List X) (i : ℕ) (x y : X) → slice_get xs i ≡ Some y → f x ≡ f y → map f (set xs i x) ≡ map f xs
 kept_in_place f xs i x y at same = map-set f xs i x ∙ rw same (sym (map-set f xs i y) ∙ ap (map f) (set_own xs i y at))
+
+-- the location at a place of all locations, or of the first of them
+pub location_at : (n i l : ℕ) (all : List ℕ) → all ≡ range_with_len 0 8 → i < length (take n all) → l ≡ get_or (take n all) i l → l ≡ i
+location_at n i l all are within is =
+    let inside = length-take n all in
+    let same : 0 + i ≡ i = omega arith in
+    is ∙ get_or-take n all i l (omega (arith, within, inside)) ∙ ap (λ (xs : List ℕ). get_or xs i l) are ∙ get_or-range_with_len 0 8 i l (omega (arith, within, inside, ap length are)) ∙ same
+
+-- one word more is that of the other list
+pub written_on : (xs ys : List ℕ) (i j w : ℕ) → j ≡ i → i < length xs → i < length ys → take i xs ≡ take i ys → w ≡ get_or ys i 0 → take (i + 1) (set xs j w) ≡ take (i + 1) ys
+written_on xs ys i j w place within there so_far is =
+    ap (λ k. take (i + 1) (set xs k w)) place ∙ take_more_set xs i w within ∙ ap₂ (λ zs z. zs ++ z ∷ []) so_far is ∙ sym (take_more ys i 0 there)

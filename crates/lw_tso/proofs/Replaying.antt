@@ -13,10 +13,12 @@ use Rattle.lw_base.specs.declared.event.Event.TheVariants.{Step, Drain, Evict}
 use Rattle.lw_base.specs.Limits.{most_threads, registers}
 use Rattle.lw_base.specs.declared.stop.Stop.{Stop}
 use Rattle.lw_base.specs.declared.stop.Stop.TheVariants.{NoCpu, NoLocation, FenceWaits, SwapWaits}
-use Rattle.lw_memory.specs.Memory.{Memory, Lawful, is_held}
+use Rattle.lw_memory.specs.MemoryLaws.{Invariant, Lawful}
+use Rattle.lw_memory.specs.Memory.{Memory, is_held}
 use Rattle.lw_litmus.specs.declared.instr.Instr.{Instr}
 use Rattle.lw_litmus.specs.declared.instr.Instr.TheVariants.{Store, Load, Set, Add, Cmp, Xchg, Xadd, Mfence, Je, Jne, Jmp}
-use Rattle.lw_litmus.specs.Programs.{ProgramTest, IsWellFormedProgram}
+use Rattle.lw_litmus.specs.Programs.{IsWellFormedProgram}
+use Rattle.lw_litmus.specs.Tests.{ProgramTest}
 use Rattle.lw_tso.specs.Processors.{Processor, newest, starting}
 use Rattle.lw_tso.specs.Acts.{Act, Refused, Goes, Loads, Stores, Swaps, Adds, Evicts, cpu_of, event_act, step_act, drain_act, load_act, once_empty}
 use Rattle.lw_tso.specs.Machines.{MachineState, Answer, ActDone, EvictionDone, DoneBy, EventDone}
@@ -88,7 +90,7 @@ event_leaves program locs (Step t) p has = step_leaves (slice_get (code_of progr
 event_leaves program locs (Drain t) p has = drain_leaves p.buffer p has
 event_leaves program locs (Evict t x) p has = evict_leaves (nat_lt x locs) x
 
-module _ {M : Type 0} (mem : Memory M) where
+module _ {M : Type 0} (mem : Memory M) (inv : Invariant M) where
   evicted_has : (held : Bool) (t x : ℕ) (p q : Processor) (m n : M) (answer : Answer) → HasRegisters p → EvictionDone mem held t x p m answer q n → HasRegisters q
   evicted_has false t x p q m n answer has done = ap (λ (r : Processor). length r.regs) done.1 ∙ has
   evicted_has true t x p q m n answer has done = ap (λ (r : Processor). length r.regs) done.1 ∙ has
@@ -121,14 +123,14 @@ module _ {M : Type 0} (mem : Memory M) where
     processors : length s.processors ≡ threads
     have : AllByRecursion HasRegisters s.processors
     words : length (mem.content s.memory) ≡ locs
-    sound : mem.sound s.memory
+    sound : inv.sound s.memory
 
-  module _ (laws : Lawful mem) (program : List (List Instr)) (names : NameTable) (threads : ℕ) (few : threads ≤ most_threads) where
+  module _ (laws : Lawful mem inv) (program : List (List Instr)) (names : NameTable) (threads : ℕ) (few : threads ≤ most_threads) where
     event_of : (e : Event) (s after : MachineState M) → IsMachineOf threads (length names) s → EventDone mem program e s (Ok tt) after → IsEvent names e × IsMachineOf threads (length names) after
     event_of e s after is done = go (slice_get s.processors (cpu_of e)) refl done
       where
-        kept : IsSameSize mem s after
-        kept = event_kept mem laws program e s after (Ok tt) is.sound done
+        kept : IsSameSize mem inv s after
+        kept = event_kept mem inv laws program e s after (Ok tt) is.sound done
 
         go : (o : Option Processor) → slice_get s.processors (cpu_of e) ≡ o → DoneBy mem o program e s (Ok tt) after → IsEvent names e × IsMachineOf threads (length names) after
         go None at by = absurd (let e : ◌≡◌ {A = Answer} (Ok tt) (Err NoCpu) = by.0 in cc)
@@ -161,18 +163,18 @@ starts_have : (rows : List (List ℕ)) → AllByRecursion (λ row. length row �
 starts_have [] all = tt
 starts_have (row ∷ rows) all = (all.0, starts_have rows all.1)
 
-pub replayed_of_test : {M : Type 0} (mem : Memory M) (laws : Lawful mem) (test : ProgramTest) (m : M) (events : List Event) (o : Final)
-    → IsWellFormedProgram test → CanStart mem test m → Replays mem test m events o
+pub replayed_of_test : {M : Type 0} (mem : Memory M) (inv : Invariant M) (laws : Lawful mem inv) (test : ProgramTest) (m : M) (events : List Event) (o : Final)
+    → IsWellFormedProgram test → CanStart mem inv test m → Replays mem test m events o
     → IsOutcomeOf test.head.threads (length test.head.locs) o × AllByRecursion (IsEvent test.head.locs) events
-replayed_of_test mem laws test m events o ok start r =
+replayed_of_test mem inv laws test m events o ok start r =
     let head = ok.head in
-    let first : IsMachineOf mem test.head.threads (length test.head.locs) (machine_start test m) = record {
+    let first : IsMachineOf mem inv test.head.threads (length test.head.locs) (machine_start test m) = record {
       processors = length-map test.head.init_regs starting ∙ head.regs;
       have = starts_have test.head.init_regs head.six;
       words = ap length start.words ∙ head.words;
       sound = start.sound;
     } in
-    let ran = run_of mem laws test.threads test.head.locs test.head.threads head.few events (machine_start test m) r.end first r.ran in (
+    let ran = run_of mem inv laws test.threads test.head.locs test.head.threads head.few events (machine_start test m) r.end first r.ran in (
       subst (IsOutcomeOf test.head.threads (length test.head.locs)) (sym r.is) (record {
         regs_of = length-map r.end.processors (λ p. p.regs) ∙ ran.1.processors;
         six = rows_have r.end.processors ran.1.have;

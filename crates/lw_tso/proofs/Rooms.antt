@@ -10,7 +10,7 @@ use Rattle.lw_base.specs.declared.stop.Stop.{Stop}
 use Rattle.lw_base.specs.declared.stop.Stop.TheVariants.{NoLocation}
 use Rattle.lw_base.specs.Sums.{sum_of}
 use Rattle.lw_memory.specs.Memory.{Memory, is_held}
-use Rattle.lw_litmus.specs.Tests.{IsThread, IsStatement}
+use Rattle.lw_litmus.specs.WellFormed.{IsThread, IsStatement}
 use Rattle.lw_litmus.specs.declared.instr.Instr.{Instr}
 use Rattle.lw_litmus.specs.declared.instr.Instr.TheVariants.{Store, Load, Set, Add, Cmp, Xchg, Xadd, Mfence, Je, Jne, Jmp}
 use Rattle.lw_litmus.specs.Programs.{x86}
@@ -18,7 +18,7 @@ use Rattle.lw_base.specs.Threads.{value_of, code_of}
 use Rattle.lw_tso.specs.Processors.{Processor, newest, going_on, jumping, getting, flagging, buffering}
 use Rattle.lw_tso.specs.Acts.{Act, Evicts, Refused, cpu_of, event_act, step_act, drain_act, load_act, once_empty}
 use Rattle.lw_tso.specs.Machines.{Answer, ActDone, EvictionDone}
-use Rattle.lw_tso.specs.Rooms.{is_store, stores_from, HasRoom}
+use Rattle.lw_tso.specs.inner.Rooms.{is_store, stores_from, HasRoom}
 
 -- one, where the instruction is a store
 abbrev pub one : Instr → ℕ

@@ -7,13 +7,14 @@ use Rattle.std.proofs.lemmas.List.{map-append, length-map, length-take-le}
 use Rattle.std.proofs.lemmas.List.Elements.{All-nil}
 use Rattle.std.proofs.lemmas.Option.{slice_get-map, same_Some}
 use Rattle.circular_buffer.proofs.Places.{slice_get-push, slice_get-last}
+use Rattle.lw_memory.specs.MemoryLaws.{Invariant}
 use Rattle.lw_memory.specs.Memory.{Memory}
 use Rattle.lw_litmus.specs.declared.instr.Instr.{Instr}
 use Rattle.lw_tso.specs.declared.processor.Processor.{Processor as ProcessorInMemory}
 use Rattle.lw_tso.specs.Processors.{starting}
 use Rattle.lw_base.specs.Threads.{code_of}
-use Rattle.lw_tso.specs.Rooms.{stores_from, HasRoom, IsMachine}
-use Rattle.lw_tso.specs.Views.{processor_of}
+use Rattle.lw_tso.specs.inner.Rooms.{stores_from, HasRoom, IsMachine}
+use Rattle.lw_tso.specs.inner.Views.{processor_of}
 
 -- what holds at each place of a list, with one item more
 more_places : {X : Type 0} (P : ℕ → X → Type 0) (xs ys : List X) (x : X) → ys ≡ xs ++ x ∷ []
@@ -63,16 +64,16 @@ module _ {A : Type 0} (program : List (List Instr)) (regs : List (List ℕ)) whe
       go None e = absurd (let none : option_map room None ≡ Some (room p) = subst (λ o. option_map room o ≡ Some (room p)) e seen in cc)
       go (Some q) e = subst (λ (n : ℕ). stores_from 0 (code_of program t) ≤ n) (same_Some (room q) (room p) (subst (λ o. option_map room o ≡ Some (room p)) e seen)) (roomy t q e)
 
-  module _ {M : Type 0} (mem : Memory M) (locs : ℕ) (m : M) (processors : List (ProcessorInMemory A)) where
+  module _ {M : Type 0} (mem : Memory M) (inv : Invariant M) (locs : ℕ) (m : M) (processors : List (ProcessorInMemory A)) where
     starts_with : (t : ℕ) (p : ProcessorInMemory A) (o : Option (List ℕ)) → Some (processor_of p) ≡ option_map starting o → (r : List ℕ) × (processor_of p ≡ starting r)
     starts_with t p None e = absurd cc
     starts_with t p (Some r) e = (r, same_Some (processor_of p) (starting r) e)
 
     -- the parts of a machine at the start
-    pub machine_made : mem.sound m → length (mem.content m) ≡ locs → length program ≤ mem.cpus m → length regs ≡ length program
+    pub machine_made : inv.sound m → length (mem.content m) ≡ locs → length program ≤ inv.cpus m → length regs ≡ length program
         → map processor_of processors ≡ map starting regs
         → ((t : ℕ) (p : ProcessorInMemory A) → slice_get processors t ≡ Some p → stores_from 0 (code_of program t) ≤ p.buffer.room)
-        → IsMachine mem program locs m processors
+        → IsMachine mem inv program locs m processors
     machine_made sound locations cpus many started roomy =
         let as_many : length processors ≡ length program = sym (length-map processors processor_of) ∙ ap length started ∙ length-map regs starting ∙ many in
         record {

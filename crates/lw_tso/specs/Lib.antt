@@ -2,10 +2,8 @@ pub mod Processors
 pub mod Acts
 pub mod Machines
 pub mod Runs
-pub mod Buffers
-pub mod Views
-pub mod Rooms
 pub mod Evictions
 pub mod Starts
 pub mod Endings
 pub mod Exchange
+pub mod inner

@@ -6,7 +6,7 @@ use Rattle.lw_base.specs.declared.event.Event.{Event}
 use Rattle.lw_base.specs.declared.stop.Replay.{Replay}
 use Rattle.lw_memory.specs.Memory.{Memory}
 use Rattle.lw_litmus.specs.declared.instr.Instr.{Instr}
-use Rattle.lw_litmus.specs.Programs.{ProgramTest}
+use Rattle.lw_litmus.specs.Tests.{ProgramTest}
 use Rattle.lw_tso.specs.Processors.{Processor, starting}
 use Rattle.lw_tso.specs.Machines.{MachineState, EventDone}
 use Rattle.lw_base.specs.Replays as replays

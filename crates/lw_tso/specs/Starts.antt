@@ -1,11 +1,12 @@
 -- The memories on which a program can start.
 use Rattle.std.specs.Prelude.{◌≡◌, ◌≤◌, length}
+use Rattle.lw_memory.specs.MemoryLaws.{Invariant}
 use Rattle.lw_memory.specs.Memory.{Memory}
-use Rattle.lw_litmus.specs.Programs.{ProgramTest}
+use Rattle.lw_litmus.specs.Tests.{ProgramTest}
 
 -- A state of the memory system that can be reached, with a processor for each thread, and the test's initial words as
 -- content.
-pub record CanStart {M : Type 0} (mem : Memory M) (test : ProgramTest) (m : M) : Type 0 where
-  pub sound : mem.sound m
-  pub cpus : length test.threads ≤ mem.cpus m
+pub record CanStart {M : Type 0} (mem : Memory M) (inv : Invariant M) (test : ProgramTest) (m : M) : Type 0 where
+  pub sound : inv.sound m
+  pub cpus : length test.threads ≤ inv.cpus m
   pub words : mem.content m ≡ test.head.init_words

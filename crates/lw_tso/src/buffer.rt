@@ -16,7 +16,7 @@ pub(crate) struct StoreBuffer<A: Allocator = Global> {
 
 impl<A: Allocator> Model for StoreBuffer<A> {
     ghost use Rattle.std.specs.Prelude.{◌≤◌, length};
-    ghost use Rattle.lw_tso.specs.Buffers.{Buffered};
+    ghost use Rattle.lw_tso.specs.inner.Buffers.{Buffered};
 
     ghost Value = { Buffered };
 

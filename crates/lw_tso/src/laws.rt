@@ -6,9 +6,11 @@ ghost use Rattle.lw_base.specs.Outcomes.{Final, IsOutcomeOf};
 ghost use Rattle.lw_base.specs.Schedules.{IsEvent};
 ghost use Rattle.lw_base.specs.declared.event.Event.{Event};
 ghost use Rattle.lw_memory.specs.Flat.{flat};
+ghost use Rattle.lw_memory.specs.MemoryLaws.{invariant_of};
 ghost use Rattle.lw_memory.specs.Memory.{memory_of};
 ghost use Rattle.lw_litmus.specs.declared.instr.Instr.{Instr};
-ghost use Rattle.lw_litmus.specs.Programs.{ProgramTest, IsWellFormedProgram};
+ghost use Rattle.lw_litmus.specs.Programs.{IsWellFormedProgram};
+ghost use Rattle.lw_litmus.specs.Tests.{ProgramTest};
 ghost use Rattle.lw_tso.specs.Endings.{CanEnd};
 ghost use Rattle.lw_tso.specs.Evictions.{without_evictions};
 ghost use Rattle.lw_tso.specs.Exchange.{AreIndependent, IsExchangeable};
@@ -21,30 +23,31 @@ use lw_memory::MemorySystem;
 /// The outcomes of a program are the same over every memory system: those over the flat one.
 pub fn outcomes_are_flat<M: MemorySystem>()
     ensures { (test : ProgramTest) (m : M) (o : Final) → IsWellFormedProgram test
-        → CanStart (memory_of M.content M.cpus M.state M.sound M.serves) test m
-        → MachineOutcome (memory_of M.content M.cpus M.state M.sound M.serves) test m o ↔ MachineOutcome flat test test.head.init_words o }
+        → CanStart (memory_of M.content M.state M.serves) (invariant_of M.cpus M.sound) test m
+        → MachineOutcome (memory_of M.content M.state M.serves) test m o ↔ MachineOutcome flat test test.head.init_words o }
 {}
 
 /// A list of events without evictions replays over a memory system to an outcome exactly where it does over the flat one.
 pub fn replays_are_flat<M: MemorySystem>()
     ensures { (test : ProgramTest) (m : M) (events : List Event) (o : Final) → IsWellFormedProgram test
-        → CanStart (memory_of M.content M.cpus M.state M.sound M.serves) test m → without_evictions events ≡ events
-        → Replays (memory_of M.content M.cpus M.state M.sound M.serves) test m events o ↔ Replays flat test test.head.init_words events o }
+        → CanStart (memory_of M.content M.state M.serves) (invariant_of M.cpus M.sound) test m → without_evictions events ≡ events
+        → Replays (memory_of M.content M.state M.serves) test m events o ↔ Replays flat test test.head.init_words events o }
 {}
 
-/// Every run of a program, over every memory system, can be brought to a final state, by a few more events of each thread.
+/// A theorem for readers: every run of a program, over every memory system, can be brought to a final state, by a few
+/// more events of each thread.
 pub fn every_run_ends<M: MemorySystem>()
     ensures { (test : ProgramTest) (m : M) (events : List Event) (s : MachineState M) → IsWellFormedProgram test
-        → CanStart (memory_of M.content M.cpus M.state M.sound M.serves) test m
-        → MachineRan (memory_of M.content M.cpus M.state M.sound M.serves) test.threads events (machine_start test m) s
-        → CanEnd (memory_of M.content M.cpus M.state M.sound M.serves) test.threads s }
+        → CanStart (memory_of M.content M.state M.serves) (invariant_of M.cpus M.sound) test m
+        → MachineRan (memory_of M.content M.state M.serves) test.threads events (machine_start test m) s
+        → CanEnd (memory_of M.content M.state M.serves) test.threads s }
 {}
 
 /// What replays to an outcome speaks of the test's processors and locations alone, and the outcome is of their numbers.
 pub fn replays_are_of_their_test<M: MemorySystem>()
     ensures { (test : ProgramTest) (m : M) (events : List Event) (o : Final) → IsWellFormedProgram test
-        → CanStart (memory_of M.content M.cpus M.state M.sound M.serves) test m
-        → Replays (memory_of M.content M.cpus M.state M.sound M.serves) test m events o
+        → CanStart (memory_of M.content M.state M.serves) (invariant_of M.cpus M.sound) test m
+        → Replays (memory_of M.content M.state M.serves) test m events o
         → IsOutcomeOf test.head.threads (length test.head.locs) o × AllByRecursion (IsEvent test.head.locs) events }
 {}
 
@@ -52,20 +55,20 @@ pub fn replays_are_of_their_test<M: MemorySystem>()
 /// flat one: with the same answer, and leaving the same processors and the same content.
 pub fn events_are_flat<M: MemorySystem>()
     ensures over_flat { (test : ProgramTest) (m : M) (events : List Event) (s after : MachineState M) (e : Event) (answer : Answer)
-        → IsWellFormedProgram test → CanStart (memory_of M.content M.cpus M.state M.sound M.serves) test m
-        → MachineRan (memory_of M.content M.cpus M.state M.sound M.serves) test.threads events (machine_start test m) s
+        → IsWellFormedProgram test → CanStart (memory_of M.content M.state M.serves) (invariant_of M.cpus M.sound) test m
+        → MachineRan (memory_of M.content M.state M.serves) test.threads events (machine_start test m) s
         → without_evictions (e ∷ []) ≡ e ∷ []
-        → EventDone (memory_of M.content M.cpus M.state M.sound M.serves) test.threads e s answer after
-        → EventDone flat test.threads e (flatten (memory_of M.content M.cpus M.state M.sound M.serves) s) answer
-        (flatten (memory_of M.content M.cpus M.state M.sound M.serves) after) }
+        → EventDone (memory_of M.content M.state M.serves) test.threads e s answer after
+        → EventDone flat test.threads e (flatten (memory_of M.content M.state M.serves) s) answer
+        (flatten (memory_of M.content M.state M.serves) after) }
     ensures over_memory { (test : ProgramTest) (m : M) (events : List Event) (s : MachineState M) (e : Event) (answer : Answer)
         (end : MachineState (List ℕ))
-        → IsWellFormedProgram test → CanStart (memory_of M.content M.cpus M.state M.sound M.serves) test m
-        → MachineRan (memory_of M.content M.cpus M.state M.sound M.serves) test.threads events (machine_start test m) s
+        → IsWellFormedProgram test → CanStart (memory_of M.content M.state M.serves) (invariant_of M.cpus M.sound) test m
+        → MachineRan (memory_of M.content M.state M.serves) test.threads events (machine_start test m) s
         → without_evictions (e ∷ []) ≡ e ∷ []
-        → EventDone flat test.threads e (flatten (memory_of M.content M.cpus M.state M.sound M.serves) s) answer end
-        → (after : MachineState M) × EventDone (memory_of M.content M.cpus M.state M.sound M.serves) test.threads e s answer after
-        × (flatten (memory_of M.content M.cpus M.state M.sound M.serves) after ≡ end) }
+        → EventDone flat test.threads e (flatten (memory_of M.content M.state M.serves) s) answer end
+        → (after : MachineState M) × EventDone (memory_of M.content M.state M.serves) test.threads e s answer after
+        × (flatten (memory_of M.content M.state M.serves) after ≡ end) }
 {}
 
 /// Over flat memory an event has one answer, and leaves one state.
@@ -74,8 +77,8 @@ pub fn flat_events_are_determined()
         → EventDone flat program e s a after → EventDone flat program e s b other → (a ≡ b) × (after ≡ other) }
 {}
 
-/// Independent neighbouring events of the flat machine can be exchanged: the state after both is the same, and each step is
-/// one at the same position.
+/// A theorem for readers: independent neighbouring events of the flat machine can be exchanged: the state after both is
+/// the same, and each step is one at the same position.
 pub fn independent_events_can_be_exchanged()
     ensures { (program : List (List Instr)) (e f : Event) (s : MachineState (List ℕ)) → AreIndependent program e f s
         → IsExchangeable program e f s }

@@ -9,12 +9,12 @@ ghost use Rattle.lw_tso.specs.Machines.{EventDone, buffer_of};
 ghost use Rattle.lw_tso.specs.Runs.{is_done, start_with, machine_start, machine_outcome, MachineReplayed};
 ghost use Rattle.lw_tso.specs.Runs as runs;
 ghost use Rattle.lw_base.specs.Threads.{code_of};
-ghost use Rattle.lw_tso.specs.Rooms.{stores_from};
-ghost use Rattle.lw_tso.specs.Views.{processor_of};
+ghost use Rattle.lw_tso.specs.inner.Rooms.{stores_from};
+ghost use Rattle.lw_tso.specs.inner.Views.{processor_of};
 ghost use Rattle.lw_tso.specs.declared.processor.Processor.{Processor as ProcessorInMemory};
 
 use crate::processor::Processor;
-use lw_base::{Cpu, End, Event, Loc, Outcome, Reg, Replay, Sequence, Stop, Word};
+use lw_base::{Cpu, End, Event, Loc, Outcome, REGISTERS, Reg, Replay, Sequence, Stop, Word};
 use lw_litmus::{Instr, Program};
 use lw_memory::{MemorySystem, NotHeld};
 use std::alloc::{AllocError, Allocator, Global};
@@ -31,9 +31,10 @@ pub struct Machine<'a, M: MemorySystem, A: Allocator = Global, B: Allocator = Gl
 impl<'a, M: MemorySystem, A: Allocator, B: Allocator> Model for Machine<'a, M, A, B> {
     ghost use Rattle.std.specs.Prelude.{length, map};
     ghost use Rattle.lw_tso.specs.Runs.{Running};
+    ghost use Rattle.lw_memory.specs.MemoryLaws.{invariant_of};
     ghost use Rattle.lw_memory.specs.Memory.{memory_of};
-    ghost use Rattle.lw_tso.specs.Rooms.{IsMachine};
-    ghost use Rattle.lw_tso.specs.Views.{processor_of};
+    ghost use Rattle.lw_tso.specs.inner.Rooms.{IsMachine};
+    ghost use Rattle.lw_tso.specs.inner.Views.{processor_of};
 
     ghost Value = { Running M };
 
@@ -43,7 +44,7 @@ impl<'a, M: MemorySystem, A: Allocator, B: Allocator> Model for Machine<'a, M, A
       state = record { processors = map processor_of m.processors.items; memory = m.memory };
     } };
 
-    ghost invariant = { λ m. IsMachine (memory_of M.content M.cpus M.state M.sound M.serves)
+    ghost invariant = { λ m. IsMachine (memory_of M.content M.state M.serves) (invariant_of M.cpus M.sound)
         m.program.now.threads (length m.program.now.head.locs) m.memory m.processors.items };
 }
 
@@ -73,7 +74,7 @@ impl<'a, M: MemorySystem, A: Allocator + Copy, B: Allocator> Machine<'a, M, A, B
 
     /// The registers as they are, and the memory's content.
     pub fn outcome(&self) -> Result<Outcome<A>, AllocError>
-        ensures { IfOk result (λ o. o ≡ machine_outcome (memory_of M.content M.cpus M.state M.sound M.serves) self.now.state) }
+        ensures { IfOk result (λ o. o ≡ machine_outcome (memory_of M.content M.state M.serves) self.now.state) }
     {
         let alloc = *self.processors.allocator();
         let regs = registers_of(alloc, self.processors.as_slice())?;
@@ -136,7 +137,7 @@ impl<'a, M: MemorySystem, A: Allocator, B: Allocator> Machine<'a, M, A, B> {
     pub fn write_outcome<C: Allocator>(&self, outcome: &mut Outcome<C>)
         requires threads { length outcome.old.regs ≡ length self.now.state.processors }
         requires words { length outcome.old.words ≡ length (M.content self.now.state.memory) }
-        ensures { outcome.new ≡ machine_outcome (memory_of M.content M.cpus M.state M.sound M.serves) self.now.state }
+        ensures { outcome.new ≡ machine_outcome (memory_of M.content M.state M.serves) self.now.state }
     {
         write_registers(self.processors.as_slice(), &mut outcome.regs);
         write_content(&self.memory, &mut outcome.words);
@@ -154,7 +155,7 @@ impl<'a, M: MemorySystem, A: Allocator, B: Allocator> Machine<'a, M, A, B> {
     pub fn step(&mut self, event: Event) -> Result<(), Stop>
         ensures program { self.new.program ≡ self.old.program }
         ensures initial { self.new.initial ≡ self.old.initial }
-        ensures done { EventDone (memory_of M.content M.cpus M.state M.sound M.serves)
+        ensures done { EventDone (memory_of M.content M.state M.serves)
             self.old.program event self.old.state result self.new.state }
         ensures err { OnErr result (self.new ≡ self.old) }
         ensures processors { length self.new.state.processors ≡ length self.old.state.processors }
@@ -171,7 +172,7 @@ impl<'a, M: MemorySystem, A: Allocator, B: Allocator> Machine<'a, M, A, B> {
     pub fn run(&mut self, events: &[Event]) -> Replay
         ensures program { self.new.program ≡ self.old.program }
         ensures initial { self.new.initial ≡ self.old.initial }
-        ensures replayed { MachineReplayed (memory_of M.content M.cpus M.state M.sound M.serves)
+        ensures replayed { MachineReplayed (memory_of M.content M.state M.serves)
             self.old.program events.now self.old.state result self.new.state }
         ensures processors { length self.new.state.processors ≡ length self.old.state.processors }
         ensures words { length (M.content self.new.state.memory) ≡ length (M.content self.old.state.memory) }
@@ -206,7 +207,7 @@ impl<'a, M: MemorySystem, A: Allocator, B: Allocator> Machine<'a, M, A, B> {
     fn carry_out(&mut self, cpu: Cpu) -> Result<(), Stop>
         ensures program { self.new.program ≡ self.old.program }
         ensures initial { self.new.initial ≡ self.old.initial }
-        ensures done { EventDone (memory_of M.content M.cpus M.state M.sound M.serves)
+        ensures done { EventDone (memory_of M.content M.state M.serves)
             self.old.program (of.Step cpu) self.old.state result self.new.state }
         ensures sound { M.sound self.old.state.memory }
     {
@@ -224,7 +225,7 @@ impl<'a, M: MemorySystem, A: Allocator, B: Allocator> Machine<'a, M, A, B> {
     fn drain(&mut self, cpu: Cpu) -> Result<(), Stop>
         ensures program { self.new.program ≡ self.old.program }
         ensures initial { self.new.initial ≡ self.old.initial }
-        ensures done { EventDone (memory_of M.content M.cpus M.state M.sound M.serves)
+        ensures done { EventDone (memory_of M.content M.state M.serves)
             self.old.program (of.Drain cpu) self.old.state result self.new.state }
         ensures sound { M.sound self.old.state.memory }
     {
@@ -239,7 +240,7 @@ impl<'a, M: MemorySystem, A: Allocator, B: Allocator> Machine<'a, M, A, B> {
     fn evict(&mut self, cpu: Cpu, loc: Loc) -> Result<(), Stop>
         ensures program { self.new.program ≡ self.old.program }
         ensures initial { self.new.initial ≡ self.old.initial }
-        ensures done { EventDone (memory_of M.content M.cpus M.state M.sound M.serves)
+        ensures done { EventDone (memory_of M.content M.state M.serves)
             self.old.program (of.Evict cpu loc) self.old.state result self.new.state }
         ensures sound { M.sound self.old.state.memory }
     {
@@ -274,7 +275,7 @@ fn processors_of<A: Allocator + Copy, B: Allocator>(
 }
 
 /// Puts processors back to their first instructions, with these registers.
-fn restart_all<A: Allocator>(processors: &mut [Processor<A>], init_regs: &[[Word; 6]])
+fn restart_all<A: Allocator>(processors: &mut [Processor<A>], init_regs: &[[Word; REGISTERS]])
     requires { length processors.old ≡ length init_regs.now }
     ensures start { map processor_of processors.new ≡ map starting init_regs.now }
     ensures rooms { map (λ p. p.buffer.room) processors.new ≡ map (λ p. p.buffer.room) processors.old }
@@ -310,7 +311,7 @@ fn are_done<A: Allocator, B: Allocator>(program: &Program<B>, processors: &[Proc
 fn registers_of<A: Allocator, B: Allocator>(
     alloc: A,
     processors: &[Processor<B>],
-) -> Result<Sequence<[Word; 6], A>, AllocError>
+) -> Result<Sequence<[Word; REGISTERS], A>, AllocError>
     ensures { IfOk result (λ regs. regs ≡ map (λ p. p.regs) processors.now) }
 {
     let mut regs = Sequence::new(alloc);
@@ -337,7 +338,7 @@ fn content_of<M: MemorySystem, A: Allocator>(
 /// Puts the registers of each processor in the places of others.
 fn write_registers<A: Allocator, B: Allocator>(
     processors: &[Processor<A>],
-    regs: &mut Sequence<[Word; 6], B>,
+    regs: &mut Sequence<[Word; REGISTERS], B>,
 )
     requires { length regs.old ≡ length processors.now }
     ensures { regs.new ≡ map (λ p. p.regs) processors.now }

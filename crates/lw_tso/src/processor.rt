@@ -9,11 +9,11 @@ ghost use Rattle.lw_tso.specs.Processors as table;
 ghost use Rattle.lw_tso.specs.Processors.{starting, going_on, getting, flagging, buffering, jumping};
 ghost use Rattle.lw_tso.specs.Acts.{step_act, drain_act};
 ghost use Rattle.lw_tso.specs.Machines.{ActDone};
-ghost use Rattle.lw_tso.specs.Rooms.{is_store, stores_from};
-ghost use Rattle.lw_tso.specs.Views.{processor_of};
+ghost use Rattle.lw_tso.specs.inner.Rooms.{is_store, stores_from};
+ghost use Rattle.lw_tso.specs.inner.Views.{processor_of};
 
 use crate::buffer::StoreBuffer;
-use lw_base::{Cpu, Loc, Operand, Reg, Stop, Word};
+use lw_base::{Cpu, Loc, Operand, REGISTERS, Reg, Stop, Word};
 use lw_litmus::Instr;
 use lw_memory::MemorySystem;
 use std::alloc::{AllocError, Allocator, Global};
@@ -23,7 +23,7 @@ use std::alloc::{AllocError, Allocator, Global};
 pub(crate) struct Processor<A: Allocator = Global> {
     /// The number of its next instruction.
     pub(crate) position: usize,
-    pub(crate) regs: [Word; 6],
+    pub(crate) regs: [Word; REGISTERS],
     pub(crate) zero_flag: bool,
     pub(crate) buffer: StoreBuffer<A>,
 }
@@ -31,7 +31,7 @@ pub(crate) struct Processor<A: Allocator = Global> {
 impl<A: Allocator> Processor<A> {
     /// A processor at the first instruction of a code. Its store buffer has room for as many entries as the code has stores,
     /// and for one at least.
-    pub(crate) fn new(alloc: A, regs: [Word; 6], code: &[Instr]) -> Result<Self, AllocError>
+    pub(crate) fn new(alloc: A, regs: [Word; REGISTERS], code: &[Instr]) -> Result<Self, AllocError>
         ensures processor { IfOk result (λ p. processor_of p ≡ starting regs) }
         ensures room { IfOk result (λ p. p.buffer.room ≡ max (stores_from 0 code.now) 1) }
     {
@@ -49,7 +49,7 @@ impl<A: Allocator> Processor<A> {
     }
 
     /// Puts the processor back to the first instruction, with these registers. It takes no memory.
-    pub(crate) fn restart(&mut self, regs: [Word; 6])
+    pub(crate) fn restart(&mut self, regs: [Word; REGISTERS])
         ensures processor { processor_of self.new ≡ starting regs }
         ensures room { self.new.buffer.room ≡ self.old.buffer.room }
     {
@@ -77,7 +77,7 @@ impl<A: Allocator> Processor<A> {
         requires loc { ForSome (location_of instr) (λ x. x < length (M.content memory.old)) }
         requires position { self.old.position + 1 < 2 ^ 64 }
         requires room { is_store instr ≡ true → length self.old.buffer.entries < self.old.buffer.room }
-        ensures done { ActDone (memory_of M.content M.cpus M.state M.sound M.serves) cpu
+        ensures done { ActDone (memory_of M.content M.state M.serves) cpu
             (step_act (Some instr) (processor_of self.old)) (processor_of self.old) memory.old
             result (processor_of self.new) memory.new }
         ensures room { self.new.buffer.room ≡ self.old.buffer.room }
@@ -125,10 +125,7 @@ impl<A: Allocator> Processor<A> {
     fn value(&self, operand: Operand) -> Word
         ensures { result ≡ value_of operand self.now.regs }
     {
-        match operand {
-            Operand::Register(reg) => self.regs[reg.index()],
-            Operand::Number(word) => word,
-        }
+        operand.value(&self.regs)
     }
 
     /// An entry goes to the end of the store buffer.
@@ -157,7 +154,7 @@ impl<A: Allocator> Processor<A> {
         requires cpu { cpu < M.cpus memory.old }
         requires loc { loc < length (M.content memory.old) }
         requires position { self.old.position + 1 < 2 ^ 64 }
-        ensures done { ActDone (memory_of M.content M.cpus M.state M.sound M.serves) cpu
+        ensures done { ActDone (memory_of M.content M.state M.serves) cpu
             (step_act (Some (Instr.Load reg loc)) (processor_of self.old)) (processor_of self.old) memory.old
             (Ok tt) (processor_of self.new) memory.new }
         ensures buffer { self.new.buffer ≡ self.old.buffer }
@@ -211,7 +208,7 @@ impl<A: Allocator> Processor<A> {
         requires cpu { cpu < M.cpus memory.old }
         requires loc { loc < length (M.content memory.old) }
         requires position { self.old.position + 1 < 2 ^ 64 }
-        ensures done { ActDone (memory_of M.content M.cpus M.state M.sound M.serves) cpu
+        ensures done { ActDone (memory_of M.content M.state M.serves) cpu
             (step_act (Some (Instr.Xchg loc reg)) (processor_of self.old)) (processor_of self.old) memory.old
             result (processor_of self.new) memory.new }
         ensures buffer { self.new.buffer ≡ self.old.buffer }
@@ -236,7 +233,7 @@ impl<A: Allocator> Processor<A> {
         requires cpu { cpu < M.cpus memory.old }
         requires loc { loc < length (M.content memory.old) }
         requires position { self.old.position + 1 < 2 ^ 64 }
-        ensures done { ActDone (memory_of M.content M.cpus M.state M.sound M.serves) cpu
+        ensures done { ActDone (memory_of M.content M.state M.serves) cpu
             (step_act (Some (Instr.Xadd loc reg)) (processor_of self.old)) (processor_of self.old) memory.old
             result (processor_of self.new) memory.new }
         ensures buffer { self.new.buffer ≡ self.old.buffer }
@@ -270,7 +267,7 @@ impl<A: Allocator> Processor<A> {
     pub(crate) fn drain<M: MemorySystem>(&mut self, cpu: Cpu, memory: &mut M) -> Result<(), Stop>
         requires cpu { cpu < M.cpus memory.old }
         requires locs { All (λ entry. entry.0 < length (M.content memory.old)) self.old.buffer.entries }
-        ensures done { ActDone (memory_of M.content M.cpus M.state M.sound M.serves) cpu
+        ensures done { ActDone (memory_of M.content M.state M.serves) cpu
             (drain_act self.old.buffer.entries (processor_of self.old)) (processor_of self.old) memory.old
             result (processor_of self.new) memory.new }
         ensures room { self.new.buffer.room ≡ self.old.buffer.room }

@@ -1,7 +1,7 @@
 use Rattle.std.proofs.Common.{◌≡◌, ◌+◌, ℕ, arith, length, refl, sym, ◌∙◌, subst}
 use Rattle.std.specs.Prelude.{false, slice_index_or}
 use Rattle.std.proofs.lemmas.Option.{slice_get_read}
-use Rattle.lw_fence.specs.Marks.{may_wait}
+use Rattle.lw_fence.specs.inner.Marks.{may_wait}
 use Rattle.lw_fence.proofs.Marks.{Marked, mark_step, marked_behind_stores, given_back}
 use Rattle.lw_fence.proofs.fences.marks_of.Goals as goal
 

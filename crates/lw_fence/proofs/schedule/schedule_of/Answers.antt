@@ -7,7 +7,7 @@ use Rattle.lw_memory.specs.Flat.{flat}
 use Rattle.lw_litmus.specs.declared.stmt.Stmt.{Stmt}
 use Rattle.lw_interleaving.specs.Runs.{State, Ran, source_step}
 use Rattle.lw_litmus.specs.Views.{source_of, program_of}
-use Rattle.lw_interleaving.proofs.Runs.{possible}
+use Rattle.lw_interleaving.proofs.api.Runs.{possible}
 use Rattle.lw_tso.specs.Runs.{Replays}
 use Rattle.lw_fence.specs.Schedules.{schedule}
 use Rattle.lw_fence.proofs.Scheduling.{next_turn, placed_in, one_further}

@@ -1,4 +1,4 @@
-use Rattle.lw_tso.proofs.Effects.{event_once}
+use Rattle.lw_tso.proofs.api.Effects.{event_once}
 use Rattle.lw_tso.proofs.laws.flat_events_are_determined.Goals as goal
 
 pub returns : goal.returns

@@ -1,9 +1,9 @@
 use Rattle.std.proofs.Common.{◌≡◌, ◌<◌, ◌≤◌, [], get_or, length, arith, ap, sym, refl, ◌∙◌}
 use Rattle.std.proofs.lemmas.Option.{get_or_from_slice_get}
 use Rattle.lw_base.specs.Threads.{code_of}
-use Rattle.lw_tso.specs.Rooms.{stores_from}
+use Rattle.lw_tso.specs.inner.Rooms.{stores_from}
 use Rattle.lw_tso.specs.Processors.{starting}
-use Rattle.lw_tso.specs.Views.{processor_of}
+use Rattle.lw_tso.specs.inner.Views.{processor_of}
 use Rattle.lw_tso.proofs.Events.{read}
 use Rattle.lw_tso.proofs.Starts.{one_more}
 use Rattle.lw_tso.proofs.machine.processors_of.Goals as goal

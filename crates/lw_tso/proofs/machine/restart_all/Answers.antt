@@ -1,7 +1,7 @@
 use Rattle.std.proofs.Common.{◌<◌, arith, length, length-set, [], refl, ◌∙◌}
 use Rattle.lw_tso.specs.declared.processor.Processor.{Processor as ProcessorInMemory}
 use Rattle.lw_tso.specs.Processors.{starting}
-use Rattle.lw_tso.specs.Views.{processor_of}
+use Rattle.lw_tso.specs.inner.Views.{processor_of}
 use Rattle.lw_tso.proofs.Events.{read}
 use Rattle.lw_tso.proofs.Refilled.{refilled, kept_in_place}
 use Rattle.lw_tso.proofs.machine.restart_all.Goals as goal

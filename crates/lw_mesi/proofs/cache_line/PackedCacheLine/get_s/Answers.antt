@@ -1,6 +1,6 @@
 use Rattle.std.proofs.Common.{◌≡◌, false, sym, ◌∙◌, subst, length-set}
 use Rattle.lw_mesi.specs.CacheLines.{Invalid, copy_of}
-use Rattle.lw_mesi.specs.Protocols.{HasStatesOf}
+use Rattle.lw_mesi.specs.Coherence.{HasStatesOf}
 use Rattle.lw_mesi.proofs.PackedLemmas.{dirty_shared, owner_shared, unowned_then, no_owner}
 use Rattle.lw_mesi.specs.declared.protocol.Protocol.TheVariants.{Moesi}
 use Rattle.lw_mesi.proofs.cache_line.PackedCacheLine.get_s.Goals as goal

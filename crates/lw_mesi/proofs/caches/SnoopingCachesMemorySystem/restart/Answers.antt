@@ -1,7 +1,7 @@
 use Rattle.std.proofs.Common.{◌≡◌, ◌≤◌, ◌<◌, ◌∙◌, ℕ, List, arith, length, length-set, map, take, refl, sym, ap, subst}
 use Rattle.std.proofs.lemmas.List.{length-map, map_more, take_all, take_more_set}
 use Rattle.lw_mesi.specs.CacheLines.{Caches, CacheLine, unheld_line, empty_caches, content_of, contents_of}
-use Rattle.lw_mesi.specs.Protocols.{IsKept}
+use Rattle.lw_mesi.specs.Coherence.{IsKept}
 use Rattle.lw_mesi.proofs.Start.{empty_content, empty_kept}
 use Rattle.lw_mesi.proofs.caches.SnoopingCachesMemorySystem.restart.Goals as goal
 

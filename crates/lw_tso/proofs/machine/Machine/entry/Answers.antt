@@ -4,7 +4,7 @@ use Rattle.std.proofs.lemmas.Option.{get_or_from_slice_get, slice_get_within}
 use Rattle.lw_memory.specs.Memory.{memory_of}
 use Rattle.lw_tso.specs.Processors.{Processor}
 use Rattle.lw_tso.specs.Machines.{buffer_of}
-use Rattle.lw_tso.specs.Views.{processor_of}
+use Rattle.lw_tso.specs.inner.Views.{processor_of}
 use Rattle.lw_tso.proofs.Events.{read, shown, buffer_there, entries_there}
 use Rattle.lw_tso.proofs.machine.Machine.entry.Goals as goal
 
@@ -17,12 +17,12 @@ returns-clause-entry g c =
 
 pub returns-clause-location : goal.returns-clause-location
 returns-clause-location g c =
-    let mem = memory_of g.M.MemorySystem.content g.M.MemorySystem.cpus g.M.MemorySystem.state g.M.MemorySystem.sound g.M.MemorySystem.serves in
+    let mem = memory_of g.M.MemorySystem.content g.M.MemorySystem.state g.M.MemorySystem.serves in
     let there = buffer_there c.args.self.now.state c.args.cpu c.args.place c.requires in
     let many = ap length (ap (λ r. r.state.processors) c.self.view_is) in
     let within : c.args.cpu < length c.self.inside.processors.items = omega (arith, there, many, length-map c.self.inside.processors.items processor_of) in
     let at = read c.self.inside.processors.items _ _ c.args.cpu c.index-2.result.now refl c.index.ensures.value within c.index-2.ensures in
-    let all = entries_there mem c.self.inside.program.now.threads _ c.self.inside.program.now.well_formed.code c.self.inside.processors.items c.self.inside.memory c.args.cpu c.index-2.result.now c.self.invariant at in
+    let all = entries_there mem _ c.self.inside.program.now.threads _ c.self.inside.program.now.well_formed.code c.self.inside.processors.items c.self.inside.memory c.args.cpu c.index-2.result.now c.self.invariant at in
     let entries = c.index-2.result.now.buffer.entries in
     let got = get_or_from_slice_get entries c.args.place c.entry.result c.entry.result c.entry.ensures in
     let known = all c.args.place c.entry.result (slice_get_within entries c.args.place c.entry.result c.entry.ensures) in

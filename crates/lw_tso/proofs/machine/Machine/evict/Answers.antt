@@ -3,13 +3,13 @@ use Rattle.circular_buffer.proofs.Places.{slice_get-some}
 use Rattle.lw_base.specs.declared.event.Event.TheVariants as of
 use Rattle.lw_memory.specs.Memory.{memory_of}
 use Rattle.lw_tso.specs.Runs.{Running}
-use Rattle.lw_tso.specs.Views.{processor_of}
+use Rattle.lw_tso.specs.inner.Views.{processor_of}
 use Rattle.lw_tso.proofs.Events.{no_location, evicted, not_held, done_in_place}
 use Rattle.lw_tso.proofs.machine.Machine.evict.Goals as goal
 
 pub returns-then-location_count-index-clause-done : goal.returns-then-location_count-index-clause-done
 returns-then-location_count-index-clause-done g c =
-    let mem = memory_of g.M.MemorySystem.content g.M.MemorySystem.cpus g.M.MemorySystem.state g.M.MemorySystem.sound g.M.MemorySystem.serves in
+    let mem = memory_of g.M.MemorySystem.content g.M.MemorySystem.state g.M.MemorySystem.serves in
     let within : c.args.cpu < length c.self.inside.processors.items = omega (arith, c.len.ensures, c.index.ensures.value) in
     let p = slice_get-some c.self.inside.processors.items c.args.cpu within in
     let past : length (g.M.MemorySystem.content c.self.inside.memory) ≤ c.args.loc = omega (arith, c.location_count.ensures.count, c.index-2.ensures.value) in
@@ -18,7 +18,7 @@ returns-then-location_count-index-clause-done g c =
 
 pub returns-clause-done : goal.returns-clause-done
 returns-clause-done g c =
-    let mem = memory_of g.M.MemorySystem.content g.M.MemorySystem.cpus g.M.MemorySystem.state g.M.MemorySystem.sound g.M.MemorySystem.serves in
+    let mem = memory_of g.M.MemorySystem.content g.M.MemorySystem.state g.M.MemorySystem.serves in
     let within : c.args.cpu < length c.self.inside.processors.items = omega (arith, c.len.ensures, c.index.ensures.value) in
     let p = slice_get-some c.self.inside.processors.items c.args.cpu within in
     let there : c.args.loc < length (g.M.MemorySystem.content c.self.inside.memory) = omega (arith, c.location_count.ensures.count, c.index-2.ensures.value) in
@@ -27,7 +27,7 @@ returns-clause-done g c =
 
 pub returns-in-Err-clause-done : goal.returns-in-Err-clause-done
 returns-in-Err-clause-done g c =
-    let mem = memory_of g.M.MemorySystem.content g.M.MemorySystem.cpus g.M.MemorySystem.state g.M.MemorySystem.sound g.M.MemorySystem.serves in
+    let mem = memory_of g.M.MemorySystem.content g.M.MemorySystem.state g.M.MemorySystem.serves in
     let within : c.args.cpu < length c.self.inside.processors.items = omega (arith, c.len.ensures, c.index.ensures.value) in
     let p = slice_get-some c.self.inside.processors.items c.args.cpu within in
     let there : c.args.loc < length (g.M.MemorySystem.content c.self.inside.memory) = omega (arith, c.location_count.ensures.count, c.index-2.ensures.value) in

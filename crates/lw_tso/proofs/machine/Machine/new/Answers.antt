@@ -1,11 +1,13 @@
 use Rattle.std.proofs.Common.{ap, sym, length, ◌∙◌}
+use Rattle.lw_memory.specs.MemoryLaws.{invariant_of}
 use Rattle.lw_memory.specs.Memory.{memory_of}
 use Rattle.lw_tso.proofs.Starts.{machine_made}
 use Rattle.lw_tso.proofs.machine.Machine.new.Goals as goal
 
 pub invariant_of-result : goal.invariant_of-result
 invariant_of-result g c =
-    let mem = memory_of g.M.MemorySystem.content g.M.MemorySystem.cpus g.M.MemorySystem.state g.M.MemorySystem.sound g.M.MemorySystem.serves in
+    let mem = memory_of g.M.MemorySystem.content g.M.MemorySystem.state g.M.MemorySystem.serves in
+    let inv = invariant_of g.M.MemorySystem.cpus g.M.MemorySystem.sound in
     let known = c.args.program.now.well_formed in
     let locations = ap length c.requires.words ∙ known.head.words in
-    machine_made c.args.program.now.threads c.args.program.now.head.init_regs mem (length c.args.program.now.head.locs) c.args.memory c.in-Ok.processors.items c.cpu_count-cpus.ensures.sound locations c.requires.threads (known.head.regs ∙ sym known.as_many) c.in-Ok.ensures.start c.in-Ok.ensures.rooms
+    machine_made c.args.program.now.threads c.args.program.now.head.init_regs mem inv (length c.args.program.now.head.locs) c.args.memory c.in-Ok.processors.items c.cpu_count-cpus.ensures.sound locations c.requires.threads (known.head.regs ∙ sym known.as_many) c.in-Ok.ensures.start c.in-Ok.ensures.rooms

@@ -1,9 +1,10 @@
 use Rattle.std.proofs.Common.{◌≡◌, ◌≤◌, ◌++◌, ℕ, List, ap, arith, drop, length, map, subst, sym, take, ◌∙◌}
 use Rattle.std.proofs.lemmas.List.{append-nil, drop_all, take_all}
+use Rattle.lw_memory.specs.MemoryLaws.{invariant_of}
 use Rattle.lw_memory.specs.Memory.{memory_of}
 use Rattle.lw_tso.specs.declared.processor.Processor.{Processor as ProcessorInMemory}
 use Rattle.lw_tso.specs.Processors.{starting}
-use Rattle.lw_tso.specs.Rooms.{IsMachine}
+use Rattle.lw_tso.specs.inner.Rooms.{IsMachine}
 use Rattle.lw_tso.proofs.Starts.{machine_made, still_roomy}
 use Rattle.lw_tso.proofs.machine.Machine.restart.Goals as goal
 
@@ -14,7 +15,8 @@ all_written xs ys n many is =
 
 pub invariant_of-self : goal.invariant_of-self
 invariant_of-self g c =
-    let mem = memory_of g.M.MemorySystem.content g.M.MemorySystem.cpus g.M.MemorySystem.state g.M.MemorySystem.sound g.M.MemorySystem.serves in
+    let mem = memory_of g.M.MemorySystem.content g.M.MemorySystem.state g.M.MemorySystem.serves in
+    let inv = invariant_of g.M.MemorySystem.cpus g.M.MemorySystem.sound in
     let known = c.self.inside.program.now.well_formed in
     let program = c.self.inside.program.now.threads in
     let regs = c.self.inside.program.now.head.init_regs in
@@ -23,9 +25,9 @@ invariant_of-self g c =
     let locs = length c.self.inside.program.now.head.locs in
     let m = c.restart.new.self in
     let locations : length (mem.content m) ≡ locs = ap length (c.restart.ensures.words ∙ c.as_slice-2.ensures) ∙ known.head.words in
-    let cpus : length program ≤ mem.cpus m = omega (arith, c.restart.ensures.cpus, c.self.invariant.cpus, c.self.invariant.as_many) in
+    let cpus : length program ≤ inv.cpus m = omega (arith, c.restart.ensures.cpus, c.self.invariant.cpus, c.self.invariant.as_many) in
     let rooms = c.restart_all.ensures.rooms ∙ ap (map (λ (p : ProcessorInMemory g.row.A.Denot). p.buffer.room)) c.deref_mut.ensures.value in
     let roomy = still_roomy program regs before now rooms c.self.invariant.whole in
-    let made : IsMachine mem program locs m now = machine_made program regs mem locs m now c.restart.ensures.sound locations cpus (known.head.regs ∙ sym known.as_many) (c.restart_all.ensures.start ∙ ap (map starting) c.as_slice.ensures) roomy in
+    let made : IsMachine mem inv program locs m now = machine_made program regs mem inv locs m now c.restart.ensures.sound locations cpus (known.head.regs ∙ sym known.as_many) (c.restart_all.ensures.start ∙ ap (map starting) c.as_slice.ensures) roomy in
     let many : length now ≡ length before = c.restart_all.auto.processors ∙ ap length c.deref_mut.ensures.value in
-    subst (IsMachine mem program locs m) (sym (all_written now before c.self.inside.processors.len many c.self.inside.processors.ok.0)) made
+    subst (IsMachine mem inv program locs m) (sym (all_written now before c.self.inside.processors.len many c.self.inside.processors.ok.0)) made

@@ -11,17 +11,19 @@ use Rattle.circular_buffer.proofs.Places.{slice_get-set_same, slice_get-set_othe
 use Rattle.lw_base.specs.declared.event.Event.{Event}
 use Rattle.lw_base.specs.declared.event.Event.TheVariants.{Step, Drain, Evict}
 use Rattle.lw_memory.specs.declared.system.Request.TheVariants as to
-use Rattle.lw_memory.specs.Memory.{Memory, Lawful}
-use Rattle.lw_litmus.specs.Tests.{IsThread, IsStatement}
+use Rattle.lw_memory.specs.MemoryLaws.{Invariant, Lawful}
+use Rattle.lw_memory.specs.Memory.{Memory}
+use Rattle.lw_litmus.specs.WellFormed.{IsThread, IsStatement}
 use Rattle.lw_litmus.specs.declared.instr.Instr.{Instr}
 use Rattle.lw_litmus.specs.declared.instr.Instr.TheVariants.{Store, Load, Set, Add, Cmp, Xchg, Xadd, Mfence, Je, Jne, Jmp}
-use Rattle.lw_litmus.specs.Programs.{ProgramTest, IsWellFormedProgram, x86, target_of}
+use Rattle.lw_litmus.specs.Programs.{IsWellFormedProgram, x86, target_of}
+use Rattle.lw_litmus.specs.Tests.{ProgramTest}
 use Rattle.lw_tso.specs.Processors.{Processor}
 use Rattle.lw_base.specs.Threads.{code_of}
-use Rattle.lw_base.proofs.Replays.{Ran-append}
+use Rattle.lw_base.proofs.api.Replays.{Ran-append}
 use Rattle.lw_tso.specs.Acts.{Act, cpu_of, event_act, step_act, drain_act}
 use Rattle.lw_tso.specs.Machines.{MachineState, ActDone, DoneBy, EventDone}
-use Rattle.lw_tso.specs.Rooms.{HasRoom, is_store, stores_from}
+use Rattle.lw_tso.specs.inner.Rooms.{HasRoom, is_store, stores_from}
 use Rattle.lw_tso.specs.Runs.{MachineRan, machine_start, is_done, is_final}
 use Rattle.lw_tso.specs.Evictions.{without_evictions}
 use Rattle.lw_tso.specs.Endings.{events_of, CanEnd}
@@ -54,7 +56,7 @@ forward_jump : (holds : Bool) (k to : ℕ) → k < to → k < (if holds then to 
 forward_jump true k to lt = lt
 forward_jump false k to lt = omega arith
 
-module _ {M : Type 0} (mem : Memory M) (laws : Lawful mem) where
+module _ {M : Type 0} (mem : Memory M) (inv : Invariant M) (laws : Lawful mem inv) where
   -- an act that is done and leads forward
   record GoesForward (t k : ℕ) (act : Act) (p : Processor) (m : M) : Type 0 where
     processor : Processor
@@ -63,7 +65,7 @@ module _ {M : Type 0} (mem : Memory M) (laws : Lawful mem) where
     forward : k < processor.position
 
   -- with an empty buffer each instruction is possible, and leads forward
-  possible : (locs t k : ℕ) (regs : List ℕ) (z : Bool) (i : Instr) (m : M) → mem.sound m → t < mem.cpus m → length (mem.content m) ≡ locs
+  possible : (locs t k : ℕ) (regs : List ℕ) (z : Bool) (i : Instr) (m : M) → inv.sound m → t < inv.cpus m → length (mem.content m) ≡ locs
       → IsStatement x86 locs i → ForSome (target_of i) (λ to. k < to)
       → (let p : Processor = record { position = k; regs = regs; zero_flag = z; buffer = [] } in GoesForward t k (step_act (Some i) p) p m)
   possible locs t k regs z (Store x v) m sound cpu many ok leads = record { processor = _; memory = m; done = (refl, refl, refl); forward = omega arith }
@@ -89,7 +91,7 @@ module _ {M : Type 0} (mem : Memory M) (laws : Lawful mem) where
 
   module _ (program : List (List Instr)) (locs : ℕ) (threads : All (IsThread x86 locs) program) where
     abbrev Within : MachineState M → Type 0
-    Within s = IsWithin mem laws program locs threads s
+    Within s = IsWithin mem inv laws program locs threads s
 
     -- one processor comes to its end, in at most k events of its own
     record Finished (t k : ℕ) (s : MachineState M) : Type 0 where
@@ -124,7 +126,7 @@ module _ {M : Type 0} (mem : Memory M) (laws : Lawful mem) where
         → Finished (cpu_of e) (suc k) s
     first e s p q n k within at done keeps rest =
         let mid : MachineState M = record { processors = slice_set s.processors (cpu_of e) q; memory = n } in
-        let f = rest mid (within_after mem laws program locs threads e s p q n (Ok tt) within at done) (slice_get-set_same s.processors (cpu_of e) q (slice_get_within s.processors (cpu_of e) p at)) in
+        let f = rest mid (within_after mem inv laws program locs threads e s p q n (Ok tt) within at done) (slice_get-set_same s.processors (cpu_of e) q (slice_get_within s.processors (cpu_of e) p at)) in
         record {
           events = e ∷ f.events;
           end = f.end;
@@ -144,11 +146,11 @@ module _ {M : Type 0} (mem : Memory M) (laws : Lawful mem) where
         → GoesForward t p.position (event_act program (length (mem.content s.memory)) (Step t) p) p s.memory
     stepped t s p within at empty lt =
         let code = code_of program t in
-        let thread = thread_at mem laws program locs threads s t p within at in
+        let thread = thread_at mem inv laws program locs threads s t p within at in
         let i : Instr = get_or code p.position Mfence in
         let next : slice_get code p.position ≡ Some i = slice_get-get_or code p.position Mfence lt in
         let got : get_or code p.position i ≡ i = get_or_from_slice_get code p.position i i next in
-        let cpu : t < mem.cpus s.memory = omega (arith, slice_get_within s.processors t p at, within.cpus) in
+        let cpu : t < inv.cpus s.memory = omega (arith, slice_get_within s.processors t p at, within.cpus) in
         let g = possible locs t p.position p.regs p.zero_flag i s.memory within.sound cpu within.locations
         (subst (IsStatement x86 locs) got (thread.there p.position i lt)) (λ j is. (thread.forward p.position i next j is).0) in
         let same : (let q : Processor = record { position = p.position; regs = p.regs; zero_flag = p.zero_flag; buffer = [] } in q) ≡ p =
@@ -159,7 +161,7 @@ module _ {M : Type 0} (mem : Memory M) (laws : Lawful mem) where
     drained : (t : ℕ) (s : MachineState M) (p : Processor) (entry : ℕ × ℕ) (newer : List (ℕ × ℕ)) → Within s → slice_get s.processors t ≡ Some p → p.buffer ≡ entry ∷ newer
         → (n : M) × ActDone mem t (drain_act p.buffer p) p s.memory (Ok tt) (record p { buffer = newer }) n
     drained t s p entry newer within at full =
-        let cpu : t < mem.cpus s.memory = omega (arith, slice_get_within s.processors t p at, within.cpus) in
+        let cpu : t < inv.cpus s.memory = omega (arith, slice_get_within s.processors t p at, within.cpus) in
         let all : All (λ (e : ℕ × ℕ). e.0 < locs) (entry ∷ newer) = subst (All (λ (e : ℕ × ℕ). e.0 < locs)) full (within.rooms t p at).there in
         let lt : entry.0 < length (mem.content s.memory) = omega (arith, within.locations, all 0 entry (omega arith)) in
         let g = laws.serves s.memory (to.Store t entry.0 entry.1) within.sound (cpu, lt) tt in
@@ -188,7 +190,7 @@ module _ {M : Type 0} (mem : Memory M) (laws : Lawful mem) where
         go lt later =
             let g = stepped t s p within at is lt in
             let had : HasRoom locs (code_of program t) p (stores_from p.position (code_of program t)) = record { fits = omega (arith, ap length is); there = (within.rooms t p at).there } in
-            let has = event_room mem program locs (stores_from p.position (code_of program t)) (Step t) p g.processor s.memory g.memory (Ok tt) (thread_at mem laws program locs threads s t p within at) g.done had in
+            let has = event_room mem program locs (stores_from p.position (code_of program t)) (Step t) p g.processor s.memory g.memory (Ok tt) (thread_at mem inv laws program locs threads s t p within at) g.done had in
             first (Step t) s p g.processor g.memory k within at g.done (λ es. refl)
             (λ mid w got. later mid g.processor w got (omega (arith, ahead, g.forward)) (omega (arith, small, has.fits)))
 
@@ -254,7 +256,7 @@ module _ {M : Type 0} (mem : Memory M) (laws : Lawful mem) where
             go None at = idle k s a at
             go (Some p) at =
                 let code = code_of program k in
-                let thread = thread_at mem laws program locs threads a.end k p a.within at in
+                let thread = thread_at mem inv laws program locs threads a.end k p a.within at in
                 let most : stores_from 0 code ≤ length code = count_by-le-length is_store code in
                 finish k 64 (length code) a.end p p.buffer a.within at refl (omega arith) (omega (arith, thread.short, (a.within.rooms k p at).fits, most))
 
@@ -273,8 +275,8 @@ module _ {M : Type 0} (mem : Memory M) (laws : Lawful mem) where
         }
 
   -- every run can be brought to its end
-  pub can_end : (test : ProgramTest) → IsWellFormedProgram test → (m : M) (es : List Event) (s : MachineState M) → CanStart mem test m
+  pub can_end : (test : ProgramTest) → IsWellFormedProgram test → (m : M) (es : List Event) (s : MachineState M) → CanStart mem inv test m
       → MachineRan mem test.threads es (machine_start test m) s → CanEnd mem test.threads s
   can_end test ok m es s start ran =
       ends_from test.threads (length test.head.locs) ok.code s
-      (within_reached mem laws test ok m es s start ran)
+      (within_reached mem inv laws test ok m es s start ran)

@@ -3,13 +3,14 @@
 -- because a model cites it.)
 use Rattle.std.specs.Prelude.{◌≡◌, ℕ, ◌+◌, ◌<◌, ◌≤◌, Bool, true, false, Some, List, length, drop, slice_get, All}
 use Rattle.std.specs.List.{count_by}
+use Rattle.lw_memory.specs.MemoryLaws.{Invariant}
 use Rattle.lw_memory.specs.Memory.{Memory}
 use Rattle.lw_litmus.specs.declared.instr.Instr.{Instr}
 use Rattle.lw_litmus.specs.declared.instr.Instr.TheVariants.{Store, Load, Set, Add, Cmp, Xchg, Xadd, Mfence, Je, Jne, Jmp}
 use Rattle.lw_tso.specs.declared.processor.Processor.{Processor as ProcessorInMemory}
 use Rattle.lw_tso.specs.Processors.{Processor}
 use Rattle.lw_base.specs.Threads.{code_of}
-use Rattle.lw_tso.specs.Views.{processor_of}
+use Rattle.lw_tso.specs.inner.Views.{processor_of}
 
 abbrev pub is_store : Instr → Bool
 is_store (Store x v) = true
@@ -33,13 +34,13 @@ pub record HasRoom (locs : ℕ) (code : List Instr) (p : Processor) (room : ℕ)
   pub fits : length p.buffer + stores_from p.position code ≤ room
   pub there : All (λ entry. entry.0 < locs) p.buffer
 
-module _ {M A : Type 0} (mem : Memory M) where
+module _ {M A : Type 0} (mem : Memory M) (inv : Invariant M) where
   -- What always holds of the parts of a machine in memory: there is a processor for each thread, which the memory system
   -- has too, the memory has the test's locations, and each store buffer has room, for all stores of its code too.
   pub record IsMachine (program : List (List Instr)) (locs : ℕ) (m : M) (processors : List (ProcessorInMemory A)) : Type 0 where
-    pub sound : mem.sound m
+    pub sound : inv.sound m
     pub locations : length (mem.content m) ≡ locs
-    pub cpus : length processors ≤ mem.cpus m
+    pub cpus : length processors ≤ inv.cpus m
     pub as_many : length processors ≡ length program
     pub rooms :
         (t : ℕ) (p : ProcessorInMemory A) → slice_get processors t ≡ Some p

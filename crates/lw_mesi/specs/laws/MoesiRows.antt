@@ -1,12 +1,13 @@
--- What each row of MOESI's table keeps of one location's line: its content, and that it is coherent. (It stands among the
--- definitions because an impl cites what follows from it.)
+-- What each row of MOESI's table keeps of one location's line, its content, and that it is coherent: proofs that an impl
+-- cites, and no definition of the protocol.
 use Rattle.std.proofs.Common.{◌≡◌, ℕ, ◌<◌, List, [], ◌∷◌, map, true, refl}
 use Rattle.lw_memory.specs.Memory.{is_held}
-use Rattle.lw_mesi.specs.CacheLines.{Copy, Modified, Owned, Exclusive, Shared, Invalid, CacheLine, copy_of, letter_of, word_of, dirty_or, content_of, IsOnlyCopy, IsDirty, IsCoherentCacheLine}
+use Rattle.lw_mesi.specs.CacheLines.{Copy, Modified, Owned, Exclusive, Shared, Invalid, CacheLine, copy_of, letter_of, word_of, dirty_or, content_of}
+use Rattle.lw_mesi.specs.Coherence.{IsOnlyCopy, IsDirty, IsCoherentCacheLine}
 use Rattle.lw_mesi.specs.Snooping.{any_held}
 use Rattle.lw_mesi.specs.MoesiTable.{on_other_get_s, on_other_get_m, get_m, on_load, on_write, on_evict, moesi}
-use Rattle.lw_mesi.specs.Coherent.{After}
-use Rattle.lw_mesi.specs.Rows.{SharesOthers, ToWrite, hit_to_write, get_m_to_write, Loaded, hit_loaded, get_s_loaded, written_back, let_go, Keeps}
+use Rattle.lw_mesi.specs.laws.Coherent.{After}
+use Rattle.lw_mesi.specs.laws.Rows.{SharesOthers, ToWrite, hit_to_write, get_m_to_write, Loaded, hit_loaded, get_s_loaded, written_back, let_go, Keeps}
 
 shared_word : (c : Copy) → word_of (on_other_get_s c) ≡ word_of c
 shared_word (Modified w) = refl

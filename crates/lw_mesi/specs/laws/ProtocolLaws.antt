@@ -1,24 +1,21 @@
--- Caches that keep a protocol are a memory system that keeps the laws. (It stands among the definitions because an impl
--- cites it.)
+-- Caches that keep a protocol are a memory system that keeps the laws: proofs that their impl cites, and no definition.
 use Rattle.std.proofs.Common.{◌≡◌, ℕ, zero, suc, ◌<◌, List, [], ◌∷◌, length, map, set, Some, refl, sym, ap, ◌∙◌, subst, arith, slice_index, slice_set, true, length-set, get_or-set_same, get_or-set_other}
 use Rattle.std.proofs.lemmas.List.{length-map}
 use Rattle.lw_base.specs.Sums.{sum_of}
 use Rattle.lw_memory.specs.declared.system.Request.{Request}
 use Rattle.lw_memory.specs.declared.system.Request.TheVariants.{Load, Store, Swap, FetchAdd, Evict}
-use Rattle.lw_memory.specs.Memory.{Memory, memory_of, is_held, Lawful, Served, IsInRange, IsPossible}
-use Rattle.lw_mesi.specs.CacheLines.{CacheLine, Caches, copy_of, letter_of, word_of, unheld_line, line_at, content_of, contents_of, state_in, IsCoherentCacheLine}
+use Rattle.lw_memory.specs.Memory.{is_held, IsInRange, IsPossible}
+use Rattle.lw_memory.specs.MemoryLaws.{Lawful, Served}
+use Rattle.lw_mesi.specs.CacheLines.{CacheLine, Caches, copy_of, letter_of, word_of, unheld_line, line_at, content_of, state_in}
+use Rattle.lw_mesi.specs.Coherence.{IsCoherentCacheLine, HasStatesOf, IsKeptLine, IsKept, caches_invariant}
 use Rattle.lw_mesi.specs.declared.protocol.Protocol.{Protocol}
 use Rattle.lw_mesi.specs.declared.protocol.Protocol.TheVariants.{Mesi, Moesi}
-use Rattle.lw_mesi.specs.Snooping.{Serves, line_to_read, line_to_write, line_written, line_evicted, line_after, loc_of, answer_from, caches_after}
-use Rattle.lw_mesi.specs.Protocols.{table_of, HasStatesOf, IsKeptLine, IsKept}
-use Rattle.lw_mesi.specs.Coherent.{at_place, After}
-use Rattle.lw_mesi.specs.Rows.{written, Keeps}
-use Rattle.lw_mesi.specs.MesiRows.{mesi_keeps, mesi_states}
-use Rattle.lw_mesi.specs.MoesiRows.{moesi_keeps}
-
--- The memory system of the caches' states.
-abbrev pub caches_by : Protocol → Memory Caches
-caches_by p = memory_of contents_of (λ (m : Caches). m.cpus) state_in (IsKept p) (Serves (table_of p))
+use Rattle.lw_mesi.specs.Snooping.{line_to_read, line_to_write, line_written, line_evicted, line_after, loc_of, answer_from, caches_after}
+use Rattle.lw_mesi.specs.Protocols.{table_of, caches_by}
+use Rattle.lw_mesi.specs.laws.Coherent.{at_place, After}
+use Rattle.lw_mesi.specs.laws.Rows.{written, Keeps}
+use Rattle.lw_mesi.specs.laws.MesiRows.{mesi_keeps, mesi_states}
+use Rattle.lw_mesi.specs.laws.MoesiRows.{moesi_keeps}
 
 contents_set : (lines : List CacheLine) (x : ℕ) (line : CacheLine)
     → map content_of (set lines x line) ≡ slice_set (map content_of lines) x (content_of line)
@@ -96,7 +93,7 @@ module _ (p : Protocol) (t : ℕ) (line : CacheLine) (lt : t < 4) (ok : IsKeptLi
 module _ (p : Protocol) (m : Caches) (ok : IsKept p m) where
   row_served : (r : Request)
       → IsInRange m.cpus (length m.lines) r → IsPossible (state_in m) r
-      → Served (caches_by p) m r (answer_from (table_of p) r (line_at m.lines (loc_of r))) (caches_after (table_of p) r m)
+      → Served (caches_by p) (caches_invariant p) m r (answer_from (table_of p) r (line_at m.lines (loc_of r))) (caches_after (table_of p) r m)
   row_served (Load t x) there possible =
       let line : CacheLine = line_at m.lines x in
       let lt : t < 4 = omega (arith, ok.coherent.few, there.0) in
@@ -155,11 +152,11 @@ module _ (p : Protocol) (m : Caches) (ok : IsKept p m) where
         sound = set_kept p m x _ ok there.1 (evict_kept p t line lt kept possible);
       }
 
-pub protocol_lawful : (p : Protocol) → Lawful (caches_by p)
+pub protocol_lawful : (p : Protocol) → Lawful (caches_by p) (caches_invariant p)
 protocol_lawful p = record {
   served = λ m r a n ok s.
-      subst (λ k. Served (caches_by p) m r a k) (sym s.lines)
-      (subst (λ b. Served (caches_by p) m r b (caches_after (table_of p) r m)) (sym s.answer) (row_served p m ok r s.there s.possible));
+      subst (λ k. Served (caches_by p) (caches_invariant p) m r a k) (sym s.lines)
+      (subst (λ b. Served (caches_by p) (caches_invariant p) m r b (caches_after (table_of p) r m)) (sym s.answer) (row_served p m ok r s.there s.possible));
   serves = λ m r ok there possible.
       let inside : IsInRange m.cpus (length m.lines) r = subst (λ k. IsInRange m.cpus k r) (length-map m.lines content_of) there in (
         caches_after (table_of p) r m,

@@ -1,11 +1,12 @@
--- What the rows of a protocol's table keep of one location's line, whatever the protocol: its content, and that it is
--- coherent. (It stands among the definitions because an impl cites what follows from it.)
+-- What the rows of a protocol's table keep of one location's line, whatever the protocol, its content, and that it is
+-- coherent: proofs that an impl cites, and no definition of the protocols.
 use Rattle.std.proofs.Common.{◌≡◌, ◌≢◌, ℕ, zero, suc, ◌<◌, List, [], ◌∷◌, length, map, set, Some, Bool, true, false, refl, sym, ap, ◌∙◌, subst, arith, length-set}
 use Rattle.std.proofs.lemmas.List.{length-map}
 use Rattle.lw_memory.specs.Memory.{is_held}
-use Rattle.lw_mesi.specs.CacheLines.{Copy, Modified, Owned, Exclusive, Shared, Invalid, CacheLine, copy_of, letter_of, word_of, dirty_or, content_of, IsOnlyCopy, IsDirty, IsCoherentCacheLine}
+use Rattle.lw_mesi.specs.CacheLines.{Copy, Modified, Owned, Exclusive, Shared, Invalid, CacheLine, copy_of, letter_of, word_of, dirty_or, content_of}
+use Rattle.lw_mesi.specs.Coherence.{IsOnlyCopy, IsDirty, IsCoherentCacheLine}
 use Rattle.lw_mesi.specs.Snooping.{ProtocolTable, any_held, copy_from, line_to_read, line_to_write, line_with_word, line_evicted}
-use Rattle.lw_mesi.specs.Coherent.{copy_in, at_place, put_here, put_there, copy_map, clean, dirty, put_clean, NobodyElse, no_word, one_word, single, After}
+use Rattle.lw_mesi.specs.laws.Coherent.{copy_in, at_place, put_here, put_there, copy_map, clean, dirty, put_clean, NobodyElse, no_word, one_word, single, After}
 
 none_held : (copies : List Copy) → any_held copies ≡ false → (t : ℕ) → copy_in copies t ≡ Invalid
 none_held [] h t = refl

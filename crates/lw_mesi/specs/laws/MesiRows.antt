@@ -1,17 +1,17 @@
--- What each row of MESI's table keeps of one location's line: its content, and that it is coherent. (It stands among the
--- definitions because an impl cites what follows from it.)
+-- What each row of MESI's table keeps of one location's line, its content, and that it is coherent: proofs that an impl
+-- cites, and no definition of the protocol.
 use Rattle.std.proofs.Common.{◌≡◌, ℕ, zero, suc, ◌<◌, List, [], ◌∷◌, map, set, Bool, true, false, refl, sym, subst}
 use Rattle.lw_base.specs.Sums.{sum_of}
 use Rattle.lw_memory.specs.declared.system.Request.{Request}
 use Rattle.lw_memory.specs.declared.system.Request.TheVariants.{Load, Store, Swap, FetchAdd, Evict}
 use Rattle.lw_memory.specs.Memory.{is_held}
 use Rattle.lw_mesi.specs.declared.protocol.Protocol.TheVariants.{Mesi}
-use Rattle.lw_mesi.specs.CacheLines.{Copy, Modified, Owned, Exclusive, Shared, Invalid, CacheLine, copy_of, letter_of, word_of, content_of, IsOnlyCopy, IsDirty, IsCoherentCacheLine}
+use Rattle.lw_mesi.specs.CacheLines.{Copy, Modified, Owned, Exclusive, Shared, Invalid, CacheLine, copy_of, letter_of, word_of, content_of}
+use Rattle.lw_mesi.specs.Coherence.{IsOnlyCopy, IsDirty, IsCoherentCacheLine, IsStateOf, HasStatesOf}
 use Rattle.lw_mesi.specs.Snooping.{any_held, copy_from, line_after, line_to_write}
 use Rattle.lw_mesi.specs.MesiTable.{on_other_get_s, on_other_get_m, get_m, on_load, on_write, on_evict, mesi}
-use Rattle.lw_mesi.specs.Protocols.{IsStateOf, HasStatesOf}
-use Rattle.lw_mesi.specs.Coherent.{copy_in, copy_map, clean, After}
-use Rattle.lw_mesi.specs.Rows.{SharesOthers, ToWrite, hit_to_write, get_m_to_write, Loaded, hit_loaded, get_s_loaded, written_back, let_go, Keeps}
+use Rattle.lw_mesi.specs.laws.Coherent.{copy_in, copy_map, clean, After}
+use Rattle.lw_mesi.specs.laws.Rows.{SharesOthers, ToWrite, hit_to_write, get_m_to_write, Loaded, hit_loaded, get_s_loaded, written_back, let_go, Keeps}
 
 shared_word : (c : Copy) → word_of (on_other_get_s c) ≡ word_of c
 shared_word (Modified w) = refl

@@ -8,14 +8,14 @@ use Rattle.lw_base.specs.Threads.{code_of}
 use Rattle.lw_base.specs.declared.event.Event.{Event}
 use Rattle.lw_base.specs.declared.event.Event.TheVariants.{Step, Drain, Evict}
 use Rattle.lw_memory.specs.Flat.{flat}
-use Rattle.lw_base.proofs.Lists.{got_set_same, got_set_other}
+use Rattle.lw_base.proofs.api.Lists.{got_set_same, got_set_other}
 use Rattle.lw_litmus.specs.declared.instr.Instr.{Instr}
 use Rattle.lw_tso.specs.Processors.{Processor}
 use Rattle.lw_tso.specs.Acts.{Act, Stores, cpu_of, event_act, step_act, drain_act}
 use Rattle.lw_tso.specs.Machines.{MachineState, position_of, EventDone}
 use Rattle.lw_tso.specs.Exchange.{MayPass, MayPassOldest, ArePassing, AreIndependent, StandsAt, DoneAt, IsExchangeable}
 use Rattle.lw_tso.proofs.Commuting.{acts_exchange, with_oldest, keeping, keeping_does, does_kept, LeavesAlone, step_alone}
-use Rattle.lw_tso.proofs.Effects.{state, Does, no_eviction, Did, leads_from, leads_to}
+use Rattle.lw_tso.proofs.api.Effects.{state, Does, no_eviction, Did, leads_from, leads_to}
 
 -- ---- positions
 

@@ -1,0 +1,2 @@
+-- Proofs that an impl cites.
+pub mod FlatLaws

@@ -1,0 +1,62 @@
+-- When cache lines are coherent, and in the states of a protocol: what is true of the caches after any requests.
+use Rattle.std.specs.Prelude.{◌≡◌, ◌≢◌, ℕ, ◌<◌, ◌≤◌, length, Some}
+use Rattle.lw_base.specs.Limits.{most_threads}
+use Rattle.lw_memory.specs.MemoryLaws.{Invariant, invariant_of}
+use Rattle.lw_mesi.specs.declared.protocol.Protocol.{Protocol}
+use Rattle.lw_mesi.specs.declared.protocol.Protocol.TheVariants.{Mesi, Moesi}
+use Rattle.lw_mesi.specs.CacheLines.{Copy, Modified, Owned, Exclusive, Shared, Invalid, CacheLine, Caches, copy_of, word_of, line_at, content_of}
+
+-- M and E: the one copy there may be.
+abbrev pub IsOnlyCopy : Copy → Type 0
+IsOnlyCopy (Modified w) = Unit {0}
+IsOnlyCopy (Owned w) = ⊥
+IsOnlyCopy (Exclusive w) = Unit {0}
+IsOnlyCopy (Shared w) = ⊥
+IsOnlyCopy Invalid = ⊥
+
+-- M and O: the copy that memory may differ from.
+abbrev pub IsDirty : Copy → Type 0
+IsDirty (Modified w) = Unit {0}
+IsDirty (Owned w) = Unit {0}
+IsDirty (Exclusive w) = ⊥
+IsDirty (Shared w) = ⊥
+IsDirty Invalid = ⊥
+
+-- Single writer or many readers, and one word.
+pub record IsCoherentCacheLine (line : CacheLine) : Type 0 where
+  pub four : length line.copies ≡ most_threads
+  -- beside an M or E copy there is no other copy
+  pub alone : (t u : ℕ) → IsOnlyCopy (copy_of line t) → t ≢ u → copy_of line u ≡ Invalid
+  -- at most one copy is M or O
+  pub one_dirty : (t u : ℕ) → IsDirty (copy_of line t) → IsDirty (copy_of line u) → t ≡ u
+  -- every copy holds the content
+  pub same_word : (t w : ℕ) → word_of (copy_of line t) ≡ Some w → w ≡ content_of line
+
+-- The same of every location.
+pub record IsCoherent (m : Caches) : Type 0 where
+  pub few : m.cpus ≤ most_threads
+  pub lines : (x : ℕ) → x < length m.lines → IsCoherentCacheLine (line_at m.lines x)
+
+-- O is a state of MOESI alone.
+abbrev pub IsStateOf : Protocol → Copy → Type 0
+IsStateOf Mesi (Owned w) = ⊥
+IsStateOf Mesi c = Unit {0}
+IsStateOf Moesi c = Unit {0}
+
+-- Every copy of a line is in a state of the protocol.
+abbrev pub HasStatesOf : Protocol → CacheLine → Type 0
+HasStatesOf p line = (t : ℕ) → IsStateOf p (copy_of line t)
+
+-- A line of caches that keep the protocol is coherent, and in its states.
+pub record IsKeptLine (p : Protocol) (line : CacheLine) : Type 0 where
+  pub coherent : IsCoherentCacheLine line
+  pub states : HasStatesOf p line
+
+-- The same of every location: what is true of the caches after any requests.
+pub record IsKept (p : Protocol) (m : Caches) : Type 0 where
+  pub coherent : IsCoherent m
+  pub states : (x : ℕ) → x < length m.lines → HasStatesOf p (line_at m.lines x)
+
+-- What requests keep of the caches' states.
+abbrev pub caches_invariant : Protocol → Invariant Caches
+caches_invariant p = invariant_of (λ (m : Caches). m.cpus) (IsKept p)

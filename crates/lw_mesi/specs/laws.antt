@@ -1,0 +1,6 @@
+-- Proofs that an impl cites.
+pub mod Coherent
+pub mod Rows
+pub mod MesiRows
+pub mod MoesiRows
+pub mod ProtocolLaws
