@@ -6,7 +6,7 @@ use Rattle.std.proofs.lemmas.List.{append-nil}
 use Rattle.std.proofs.lemmas.List.Elements.{All-weaker}
 use Rattle.lw_orders.specs.Order.{Constraints, GoUp, open_pairs}
 use Rattle.lw_orders.specs.Sequence.{directions, numbers, without, is_free, in_turn, lowest_order, orders}
-use Rattle.lw_orders.proofs.Places.{place-numbers_within, without-same}
+use Rattle.lw_orders.proofs.api.Places.{place-numbers_within, without-same}
 use Rattle.lw_orders.proofs.LowestOrder.{Ranks, least_is_free}
 
 -- at each turn the first item that is left is free

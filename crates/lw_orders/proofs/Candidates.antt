@@ -1,8 +1,8 @@
 -- What a search among the candidates leaves of them.
 use Rattle.std.proofs.Common.{ℕ, ◌≡◌, ◌<◌, ◌≤◌, List, get_or, ap, sym, ◌∙◌, refl, inl, inr, arith, true, false, not, ◌&&◌}
 use Rattle.std.proofs.lemmas.Bool.{cases_Bool, cases_order, and_parts, both_ways, false≢true}
-use Rattle.lw_orders.specs.Sets.{has, leads_by}
-use Rattle.lw_orders.specs.Candidates.{Waits, Narrowed}
+use Rattle.lw_orders.specs.inner.Sets.{has, leads_by}
+use Rattle.lw_orders.specs.inner.Candidates.{Waits, Narrowed}
 
 pub Narrowed-start : (len : ℕ) (rows reach : List ℕ) (left old : ℕ) → Narrowed len rows reach left old old
 Narrowed-start len rows reach left old = record { kept = λ k l h. h; dropped = λ k l h gone. absurd (both_ways (has old k) gone h) }

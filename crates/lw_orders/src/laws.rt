@@ -5,23 +5,24 @@ ghost use Rattle.lw_orders.specs.Order.{Constraints, IsWellFormed, IsLinearExten
 ghost use Rattle.lw_orders.specs.Sequence.{numbers, orders};
 ghost use Rattle.lw_orders.specs.Exchange.{AreJoined, IsKeptByExchanges};
 
-/// Alike orders that keep the fixed pairs are joined by exchanges of neighbours that neither conflict nor are fixed, each
-/// order on the way keeping the fixed pairs.
+/// A theorem for readers: alike orders that keep the fixed pairs are joined by exchanges of neighbours that neither
+/// conflict nor are fixed, each order on the way keeping the fixed pairs.
 pub fn alike_orders_are_joined()
     ensures { (t : Constraints) → IsWellFormed t
         → (xs ys : List ℕ) → IsLinearExtension t xs → IsLinearExtension t ys → Alike t.conflicts xs ys
         → AreJoined t xs ys }
 {}
 
-/// So whatever each such exchange keeps is the same for two alike orders: any test of an order, such as whether its run
-/// ends in a given way.
+/// A theorem for readers: so whatever each such exchange keeps is the same for two alike orders: any test of an order,
+/// such as whether its run ends in a given way.
 pub fn alike_orders_agree()
     ensures { (t : Constraints) → IsWellFormed t → (test : List ℕ → Bool) → IsKeptByExchanges t test
         → (xs ys : List ℕ) → IsLinearExtension t xs → IsLinearExtension t ys → Alike t.conflicts xs ys
         → test xs ≡ test ys }
 {}
 
-/// A pair is decided exactly where a walk along the fixed pairs leads from its first item to its second.
+/// A theorem for readers: a pair is decided exactly where a walk along the fixed pairs leads from its first item to its
+/// second.
 pub fn decided_by_walks()
     ensures { (t : Constraints) → IsWellFormed t → (p : ℕ × ℕ) → IsTrue (is_decided t.fixed p) ↔ IsDecided t.fixed p }
 {}
@@ -39,8 +40,8 @@ pub fn one_order_goes_up()
     ensures { (t : Constraints) → IsWellFormed t → open_pairs t ≡ [] → orders t ≡ numbers 0 t.len ∷ [] }
 {}
 
-/// In an order of n items nothing else stands, and each item at one place, where it is found. And a list of these items,
-/// in which each is found and none stands twice, is an order of them.
+/// A theorem for readers: in an order of n items nothing else stands, and each item at one place, where it is found.
+/// And a list of these items, in which each is found and none stands twice, is an order of them.
 pub fn items_stand_once()
     ensures within { (n : ℕ) (order : List ℕ) → IsOrder n order → All (λ i. i < n) order }
     ensures once { (n : ℕ) (order : List ℕ) → IsOrder n order → Once order }

@@ -14,12 +14,9 @@
 //!    conflict nor are fixed, all along by orders that keep the fixed pairs. Where each such exchange keeps the end of a
 //!    run, the two runs end alike. So the end of every order was found.
 //!
-//! What a proof above cites in place of these steps, since no clause can speak of ends of any type:
-//! - `proofs/Runs`: `given_alike`, to any order with a property that exchanges keep (that its run stays on its paths and
-//!   has this outcome, say) there is an order that is given and has it; `covered`, what holds of the end of each order
-//!   that is given holds of every order's end; and `Ran` for the loop. `alike_orders_agree` is for a test of an order.
-//! - `proofs/Building`: pairs that a loop makes and pushes are sorted and go up, as `Items::new` requires.
-//! - The law `items_stand_once`: in an order each item stands at one place.
+//! A clause cannot speak of ends of any type: what a proof above cites for that stands in `proofs/api/`. `Kept` has what
+//! exchanges keep (`kept_along`: what each exchange keeps is kept from an order to each that it is joined with), `Places` has
+//! where items stand. The law `alike_orders_agree` says it for a test of an order.
 //!
 //! It names std alone.
 #![tactic(auto)]

@@ -11,7 +11,7 @@ pub const MAX_OPEN: usize = 20;
 /// The most orders that are given: each open conflict can be taken one way round or the other.
 pub const MAX_ORDERS: u64 = 1 << MAX_OPEN;
 
-/// Each constant is the number that the definitions name.
+/// A theorem for readers: each constant is the number that the definitions name.
 pub fn the_constants_are_the_limits()
     ensures items { MAX_ITEMS ≡ most_items }
     ensures open_conflicts { MAX_OPEN ≡ most_open }

@@ -3,16 +3,16 @@
 ghost use Rattle.std.specs.Prelude.{◌≡◌, ℕ, ◌<◌, ◌||◌, slice_index};
 ghost use Rattle.lw_orders.specs.Limits.{most_items};
 ghost use Rattle.lw_orders.specs.Sequence.{Within};
-ghost use Rattle.lw_orders.specs.Sets.{has, joins, AreRows};
+ghost use Rattle.lw_orders.specs.inner.Sets.{has, joins, AreRows};
 
 use crate::item_set::ItemSet;
 use crate::limits::MAX_ITEMS;
 
 /// A set for each item.
-pub type Rows = [ItemSet; MAX_ITEMS];
+pub(crate) type Rows = [ItemSet; MAX_ITEMS];
 
 /// The set of an item.
-pub fn row(rows: &Rows, item: usize) -> ItemSet
+pub(crate) fn row(rows: &Rows, item: usize) -> ItemSet
     requires { item < most_items }
     ensures { result ≡ slice_index rows.now item }
 {
@@ -20,7 +20,7 @@ pub fn row(rows: &Rows, item: usize) -> ItemSet
 }
 
 /// For each item the set of those from which a pair leads to it.
-pub fn rows_of(pairs: &[(u8, u8)]) -> Rows
+pub(crate) fn rows_of(pairs: &[(u8, u8)]) -> Rows
     requires { Within most_items pairs.now }
     ensures { AreRows pairs.now result }
 {
@@ -30,7 +30,7 @@ pub fn rows_of(pairs: &[(u8, u8)]) -> Rows
 }
 
 /// Puts the first item of each pair into the set of its second.
-pub fn add_pairs(rows: &mut Rows, pairs: &[(u8, u8)])
+pub(crate) fn add_pairs(rows: &mut Rows, pairs: &[(u8, u8)])
     requires { Within most_items pairs.now }
     ensures { (i j : ℕ) → i < most_items → j < most_items →
         has (slice_index rows.new i) j ≡ (has (slice_index rows.old i) j || joins pairs.now j i) }

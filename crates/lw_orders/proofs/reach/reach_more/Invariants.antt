@@ -1,5 +1,5 @@
 use Rattle.std.proofs.Common.{ℕ, ◌≡◌, ◌<◌, ◌≤◌, ◌||◌, ◌&&◌, length, slice_index}
-use Rattle.lw_orders.specs.Sets.{leads_by}
+use Rattle.lw_orders.specs.inner.Sets.{leads_by}
 use Rattle.lw_orders.proofs.reach.reach_more.Given as goal
 
 abbrev pub invariant-loop-item : goal.invariant-loop-item

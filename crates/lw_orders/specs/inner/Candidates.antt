@@ -1,7 +1,7 @@
--- Used within the crate: the search for the lowest free item, among the candidates that are left.
+-- The search for the lowest free item, among the candidates that are left.
 use Rattle.std.specs.Prelude.{ℕ, ◌≡◌, ◌<◌, true, false, List, Option, Some, None, slice_index}
 use Rattle.lw_orders.specs.Limits.{most_items}
-use Rattle.lw_orders.specs.Sets.{has, apart, leads_by}
+use Rattle.lw_orders.specs.inner.Sets.{has, apart, leads_by}
 
 -- no pair leads to the item from one that is left
 abbrev pub IsFree : List ℕ → ℕ → ℕ → Type 0
