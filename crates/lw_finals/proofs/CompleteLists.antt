@@ -6,13 +6,13 @@ use Rattle.lw_base.specs.Outcomes.{Final}
 use Rattle.lw_base.specs.declared.event.Event.{Event}
 use Rattle.lw_orders.specs.Order.{Constraints, IsWellFormed, IsLinearExtension, Alike, ExactlyOne}
 use Rattle.lw_orders.specs.Sequence.{orders}
-use Rattle.lw_finals.specs.Choices.{IsForward, IsChoice}
-use Rattle.lw_finals.specs.Gathered.{Gathers, EndsOfProgram}
-use Rattle.lw_finals.specs.Items.{Language, items_of, constraints_of}
-use Rattle.lw_finals.specs.Listings.{Entries, outcomes_of}
-use Rattle.lw_finals.specs.declared.item.Item.{Item}
-use Rattle.lw_finals.proofs.Enumerated.{choices_are_all}
-use Rattle.lw_finals.proofs.Members.{Contains-here, from_map}
+use Rattle.lw_choices.specs.Choices.{IsForward, IsChoice}
+use Rattle.lw_finals.specs.inner.Gathered.{Gathers, EndsOfProgram}
+use Rattle.lw_choices.specs.Items.{Behaviour, items_of, constraints_of}
+use Rattle.lw_listing.specs.Listings.{Entries, outcomes_of}
+use Rattle.lw_choices.specs.declared.item.Item.{Item}
+use Rattle.lw_choices.proofs.api.Enumerated.{choices_are_all}
+use Rattle.lw_choices.proofs.api.Members.{Contains-here, from_map}
 
 -- of items with their pairs, the orders that are given keep the fixed pairs, and each order that keeps them is alike to one
 abbrev pub AreComplete : Type 0
@@ -20,32 +20,32 @@ AreComplete =
     ((t : Constraints) → IsWellFormed t → All (IsLinearExtension t) (orders t))
     × ((t : Constraints) → IsWellFormed t → (o : List ℕ) → IsLinearExtension t o → ExactlyOne (Alike t.conflicts o) (orders t))
 
-module _ {S : Type 0} (language : Language S) (program : List (List S)) (Ends : List Item → List ℕ → Final → Type 0) where
+module _ {S : Type 0} (behaviour : Behaviour S) (program : List (List S)) (Ends : List Item → List ℕ → Final → Type 0) where
   abbrev pub choice_items : List (List ℕ) → List Item
-  choice_items paths = items_of language program paths
+  choice_items paths = items_of behaviour program paths
 
   abbrev pub choice_constraints : List (List ℕ) → Constraints
-  choice_constraints paths = constraints_of language program (choice_items paths)
+  choice_constraints paths = constraints_of behaviour program (choice_items paths)
 
   -- an order of the items of a choice that keeps the fixed pairs ends with the outcome
   pub record EndsChoice (o : Final) : Type 0 where
     pub paths : List (List ℕ)
-    pub choice : IsChoice language.flow program paths
+    pub choice : IsChoice behaviour.flow program paths
     pub order : List ℕ
     pub keeps : IsLinearExtension (choice_constraints paths) order
     pub run : Ends (choice_items paths) order o
 
   -- The choices are well-formed, and alike orders of one end alike.
   pub record AreSound : Type 0 where
-    pub forward : All (IsForward language.flow) program
-    pub formed : (paths : List (List ℕ)) → IsChoice language.flow program paths → IsWellFormed (choice_constraints paths)
-    pub alike : (paths : List (List ℕ)) (xs ys : List ℕ) (o : Final) → IsChoice language.flow program paths
+    pub forward : All (IsForward behaviour.flow) program
+    pub formed : (paths : List (List ℕ)) → IsChoice behaviour.flow program paths → IsWellFormed (choice_constraints paths)
+    pub alike : (paths : List (List ℕ)) (xs ys : List ℕ) (o : Final) → IsChoice behaviour.flow program paths
         → IsLinearExtension (choice_constraints paths) xs → IsLinearExtension (choice_constraints paths) ys
         → Alike (choice_constraints paths).conflicts xs ys → Ends (choice_items paths) xs o → Ends (choice_items paths) ys o
 
   module _ (sound : AreSound) (complete : AreComplete) where
     -- what an order of a choice ends with, one ends with that is given
-    pub given_end : (o : Final) → EndsChoice o → EndsOfProgram language Ends program o
+    pub given_end : (o : Final) → EndsChoice o → EndsOfProgram behaviour Ends program o
     given_end o c =
         let t : Constraints = choice_constraints c.paths in
         let formed : IsWellFormed t = sound.formed c.paths c.choice in
@@ -54,10 +54,10 @@ module _ {S : Type 0} (language : Language S) (program : List (List S)) (Ends : 
         subst (λ (xs : List (List ℕ)). Contains xs given.one) (sym given.split)
         (Contains-append_right given.before (given.one ∷ given.behind) given.one (Contains-here given.one given.one given.behind refl)) in
         let keeps : IsLinearExtension t given.one = All-contains (IsLinearExtension t) (orders t) given.one (complete.0 t formed) there in
-        (c.paths, (choices_are_all language.flow program c.paths sound.forward).1 c.choice, (given.one, there, sound.alike c.paths c.order given.one o c.choice c.keeps keeps given.has c.run))
+        (c.paths, (choices_are_all behaviour.flow program c.paths sound.forward).1 c.choice, (given.one, there, sound.alike c.paths c.order given.one o c.choice c.keeps keeps given.has c.run))
 
     module _ (Has : Final → Type 0) (Leads : List Event → Final → Type 0) (chosen : (o : Final) → Has o → EndsChoice o) (reaches : (events : List Event) (o : Final) → Leads events o → Has o)
-        (entries : Entries) (gathers : Gathers (EndsOfProgram language Ends program) Leads [] entries) where
+        (entries : Entries) (gathers : Gathers (EndsOfProgram behaviour Ends program) Leads [] entries) where
       -- each schedule leads to its outcome
       pub lead : All (λ e. Leads e.1 e.0) entries
       lead = gathers.lead (All-nil (λ e. Leads e.1 e.0))

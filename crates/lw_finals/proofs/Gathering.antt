@@ -7,12 +7,12 @@ use Rattle.std.proofs.lemmas.List.Elements.{All-nil, All-cons, All-append, All-w
 use Rattle.lw_base.specs.Outcomes.{Final}
 use Rattle.lw_base.specs.declared.event.Event.{Event}
 use Rattle.lw_orders.specs.Sequence.{numbers}
-use Rattle.lw_finals.specs.Gathered.{Gathers, EndsOfOrders}
-use Rattle.lw_finals.specs.Listings.{Entries, outcomes_of}
-use Rattle.lw_finals.specs.Visits.{Visited}
-use Rattle.lw_finals.proofs.Listings.{stays_listed}
-use Rattle.lw_finals.proofs.Members.{Contains-here, Contains-there, Contains-cons, none_in, of_one}
-use Rattle.lw_finals.proofs.Pairs.{numbers_up}
+use Rattle.lw_finals.specs.inner.Gathered.{Gathers, EndsOfOrders}
+use Rattle.lw_listing.specs.Listings.{Entries, outcomes_of}
+use Rattle.lw_choices.specs.Visits.{Visited}
+use Rattle.lw_listing.proofs.api.Listings.{stays_listed}
+use Rattle.lw_choices.proofs.api.Members.{Contains-here, Contains-there, Contains-cons, none_in, of_one}
+use Rattle.lw_choices.proofs.api.Pairs.{numbers_up}
 
 module _ (Leads : List Event → Final → Type 0) where
   -- whatever has no end gathers nothing

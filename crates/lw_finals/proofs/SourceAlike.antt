@@ -1,30 +1,30 @@
 -- Alike orders of the items of a source test that keep the fixed pairs: where one stays on the paths the other does, and ends in
 -- the same state.
-use Rattle.std.proofs.Common.{◌≡◌, ◌≢◌, ℕ, suc, ◌<◌, Bool, true, false, ◌&&◌, ◌||◌, List, [], ◌∷◌, ◌++◌, length, Option, Some, None, Ok, refl, sym, ap, ap₂, ◌∙◌, subst, inl, inr, arith, append_assoc, length-append}
+use Rattle.std.proofs.Common.{◌≡◌, ◌≢◌, ℕ, suc, ◌<◌, Bool, true, false, List, [], ◌∷◌, ◌++◌, length, Option, Some, Ok, sym, ap, ap₂, ◌∙◌, subst, inl, inr, arith, append_assoc, length-append}
 use Rattle.std.specs.Prelude.{Contains}
-use Rattle.std.proofs.lemmas.Bool.{cases_order, cases_eq, eq-eqb, ne_eqb, false_from_ne_true}
+use Rattle.std.proofs.lemmas.Bool.{cases_order, false_from_ne_true}
 use Rattle.std.proofs.lemmas.List.Elements.{Contains-append_right}
 use Rattle.lw_litmus.specs.declared.stmt.Stmt.{Stmt}
-use Rattle.lw_litmus.specs.Sources.{location_of}
 use Rattle.lw_interleaving.specs.Runs.{State, source_step}
 use Rattle.lw_interleaving.specs.Steps.{position_of, next_of}
-use Rattle.lw_litmus.specs.Conflicts.{do_conflict, is_one, writes}
-use Rattle.lw_interleaving.proofs.Exchange.{exchange, others_placed, next_is}
+use Rattle.lw_litmus.specs.Conflicts.{do_conflict}
+use Rattle.lw_interleaving.proofs.api.Exchange.{exchange, others_placed, next_is}
 use Rattle.lw_orders.specs.Order.{Constraints, place, Before, IsLinearExtension, Alike, Once}
 use Rattle.lw_orders.specs.Exchange.{IsTied, Exchanged}
-use Rattle.lw_orders.proofs.Places.{Once-order, order_below, place-split}
-use Rattle.lw_orders.proofs.Kept.{alike_orders_are_joined, kept_along}
-use Rattle.lw_finals.specs.declared.item.Item.{Item}
-use Rattle.lw_finals.specs.Items.{item_at, items_of, statement_of, constraints_of}
-use Rattle.lw_finals.specs.SourceItems.{source_language}
-use Rattle.lw_finals.proofs.FixedPairs.{conflict_there, conflicts_up}
+use Rattle.lw_orders.proofs.api.Places.{Once-order, order_below, place-split}
+use Rattle.lw_orders.proofs.api.Kept.{alike_orders_are_joined, kept_along}
+use Rattle.lw_choices.specs.declared.item.Item.{Item}
+use Rattle.lw_choices.specs.Items.{item_at, items_of, statement_of, constraints_of}
+use Rattle.lw_choices.proofs.api.FixedPairs.{conflict_there, conflicts_up}
+use Rattle.lw_choices.specs.SourceItems.{source_behaviour}
+use Rattle.lw_choices.proofs.api.Mutual.{conflict_mutual}
 use Rattle.lw_finals.proofs.SourceOrdered.{OrderRan}
-use Rattle.lw_finals.proofs.SourcePairs.{conflict_is, not_drain, thread_order}
+use Rattle.lw_choices.proofs.api.SourcePairs.{statements_conflict, conflict_is, not_drain, thread_order}
 
 module _ (program : List (List Stmt)) (items : List Item) where
   -- the statements of two items are in conflict
   abbrev are_in_conflict : ℕ → ℕ → Bool
-  are_in_conflict x y = do_conflict (statement_of source_language program (item_at items x)) (statement_of source_language program (item_at items y))
+  are_in_conflict x y = do_conflict (statement_of source_behaviour program (item_at items x)) (statement_of source_behaviour program (item_at items y))
 
   -- two neighbours of different threads that don't conflict
   swapped : (x y : ℕ) (rest : List ℕ) (s end : State) → (item_at items x).thread ≢ (item_at items y).thread → are_in_conflict x y ≡ false
@@ -43,26 +43,8 @@ module _ (program : List (List Stmt)) (items : List Item) where
   swapped_within [] x y rest s end ne free ran = swapped x y rest s end ne free ran
   swapped_within (z ∷ front) x y rest s end ne free (mid, at, ran) = (mid, at, swapped_within front x y rest mid end ne free ran)
 
-one_sym : (o p : Option ℕ) → is_one o p ≡ is_one p o
-one_sym None None = refl
-one_sym None (Some y) = refl
-one_sym (Some x) None = refl
-one_sym (Some x) (Some y) = elim (cases_eq x y) [
-  | inl e ↦ eq-eqb x y e ∙ sym (eq-eqb y x (sym e))
-  | inr ne ↦ ne_eqb x y ne ∙ sym (ne_eqb y x (λ e. ne (sym e)))
-]
-
-or_sym : (a b : Bool) → (a || b) ≡ (b || a)
-or_sym true true = refl
-or_sym true false = refl
-or_sym false true = refl
-or_sym false false = refl
-
 conflict_sym : (a b : Option Stmt) → do_conflict a b ≡ do_conflict b a
-conflict_sym None None = refl
-conflict_sym None (Some b) = refl
-conflict_sym (Some a) None = refl
-conflict_sym (Some a) (Some b) = ap₂ (λ (p q : Bool). p && q) (one_sym (location_of a) (location_of b)) (or_sym (writes a) (writes b))
+conflict_sym a b = sym (statements_conflict a b) ∙ (conflict_mutual source_behaviour false false a b ∙ statements_conflict b a)
 
 next_place : (front : List ℕ) (x y : ℕ) (rest : List ℕ) → Once (front ++ x ∷ y ∷ rest) → place (front ++ x ∷ y ∷ rest) y ≡ suc (length front)
 next_place front x y rest once =
@@ -72,10 +54,10 @@ next_place front x y rest once =
 
 module _ (program : List (List Stmt)) (paths : List (List ℕ)) where
   abbrev items : List Item
-  items = items_of source_language program paths
+  items = items_of source_behaviour program paths
 
   abbrev t : Constraints
-  t = constraints_of source_language program items
+  t = constraints_of source_behaviour program items
 
   -- two neighbours that may change places are of different threads, and don't conflict
   free : (xs ys : List ℕ) → IsLinearExtension t xs → IsLinearExtension t ys → (e : Exchanged (IsTied t) xs ys)
@@ -124,7 +106,7 @@ module _ (program : List (List Stmt)) (paths : List (List ℕ)) where
       tied : (i j : ℕ) → i < j → i < length items → j < length items → are_in_conflict program items i j ≡ true → Contains (t.fixed ++ t.conflicts) (i, j)
       tied i j less in_i in_j c =
           Contains-append_right t.fixed t.conflicts (i, j)
-          (conflict_there source_language program items i j less in_j
+          (conflict_there source_behaviour program items i j less in_j
           (conflict_is program (item_at items i) (item_at items j) (not_drain program paths i in_i) (not_drain program paths j in_j) ∙ c))
 
       never : are_in_conflict program items e.x e.y ≡ true → ⊥
@@ -132,7 +114,7 @@ module _ (program : List (List Stmt)) (paths : List (List ℕ)) where
         | inl is ↦ other is
         | inr o ↦ elim o [
           | inl less ↦ e.free (inl (tied e.x e.y less in_x in_y c))
-          | inr more ↦ e.free (inr (tied e.y e.x more in_y in_x (conflict_sym (statement_of source_language program (item_at items e.y)) (statement_of source_language program (item_at items e.x)) ∙ c)))
+          | inr more ↦ e.free (inr (tied e.y e.x more in_y in_x (conflict_sym (statement_of source_behaviour program (item_at items e.y)) (statement_of source_behaviour program (item_at items e.x)) ∙ c)))
         ]
       ]
 
@@ -142,7 +124,7 @@ module _ (program : List (List Stmt)) (paths : List (List ℕ)) where
   -- the one order stays on the paths where the other does, and ends in the same state
   pub alike_orders_ran : (xs ys : List ℕ) → IsLinearExtension t xs → IsLinearExtension t ys → Alike t.conflicts xs ys → (s end : State) → OrderRan program items xs s end → OrderRan program items ys s end
   alike_orders_ran xs ys ix iy alike s end ran =
-      let joined = alike_orders_are_joined t (conflicts_up source_language program items) xs ys ix iy alike in
+      let joined = alike_orders_are_joined t (conflicts_up source_behaviour program items) xs ys ix iy alike in
       kept_along t (λ zs. OrderRan program items zs s end) exchanged joined.0 xs ys ix joined.1 ran
     where
       exchanged : (us vs : List ℕ) → IsLinearExtension t us → IsLinearExtension t vs → Exchanged (IsTied t) us vs → OrderRan program items us s end → OrderRan program items vs s end

@@ -1,5 +1,5 @@
 -- What is gathered from all choices of a source test is its complete list.
-use Rattle.std.proofs.Common.{◌≡◌, ℕ, ◌≤◌, List, [], length, subst, arith}
+use Rattle.std.proofs.Common.{◌≡◌, ℕ, List, [], length, subst}
 use Rattle.std.specs.Prelude.{All, Contains, ◌↔◌}
 use Rattle.std.proofs.lemmas.List.Elements.{All-weaker}
 use Rattle.std.specs.List.{AllByRecursion}
@@ -7,7 +7,7 @@ use Rattle.lw_base.specs.Heads.{TestHead}
 use Rattle.lw_base.specs.Outcomes.{Final, IsOutcomeOf}
 use Rattle.lw_base.specs.Schedules.{IsEvent}
 use Rattle.lw_base.specs.declared.event.Event.{Event}
-use Rattle.lw_litmus.specs.Tests.{IsThread}
+use Rattle.lw_litmus.specs.WellFormed.{IsThread}
 use Rattle.lw_fence.specs.Compiling.{IsCompiled}
 use Rattle.lw_memory.specs.Flat.{flat}
 use Rattle.lw_mesi.specs.declared.protocol.Protocol.{Protocol}
@@ -15,36 +15,34 @@ use Rattle.lw_mesi.specs.declared.protocol.Protocol.TheVariants.{Mesi}
 use Rattle.lw_base.specs.declared.head.Arch.TheVariants.{X86}
 use Rattle.lw_litmus.specs.declared.stmt.Stmt.{Stmt}
 use Rattle.lw_interleaving.specs.Runs.{SourceOutcome}
-use Rattle.lw_litmus.specs.Sources.{SourceTest, IsWellFormedSource, source}
+use Rattle.lw_litmus.specs.Sources.{IsWellFormedSource, source}
+use Rattle.lw_litmus.specs.Tests.{SourceTest, ProgramTest}
 use Rattle.lw_tso.specs.Evictions.{without_evictions}
 use Rattle.lw_tso.specs.Runs.{Replays, MachineOutcome}
-use Rattle.lw_litmus.specs.Programs.{ProgramTest}
-use Rattle.lw_finals.specs.Choices.{IsForward}
-use Rattle.lw_finals.specs.Counts.{HasTooManyItems}
-use Rattle.lw_finals.specs.Flows.{source_flow}
-use Rattle.lw_finals.specs.Gathered.{Gathers, EndsOfProgram}
-use Rattle.lw_finals.specs.Listings.{Entries, outcomes_of, IsEntryOf}
+use Rattle.lw_choices.specs.Choices.{IsForward}
+use Rattle.lw_choices.specs.Flows.{source_flow}
+use Rattle.lw_finals.specs.inner.Gathered.{Gathers, EndsOfProgram}
+use Rattle.lw_listing.specs.Listings.{Entries, outcomes_of}
+use Rattle.lw_base.specs.Entries.{IsEntryOf}
 use Rattle.lw_finals.specs.Lists.{ListsMachine}
-use Rattle.lw_finals.specs.Machines.{ReplaysOverCaches, OutcomeOverCaches}
-use Rattle.lw_finals.specs.SourceItems.{source_language, StaysAndEnds, ChoiceOutcome}
-use Rattle.lw_finals.specs.SourceRuns.{CompiledSource, leads_flat}
+use Rattle.lw_whole.specs.OverCaches.{ReplaysOverCaches, OutcomeOverCaches}
+use Rattle.lw_choices.specs.SourceItems.{source_behaviour}
+use Rattle.lw_finals.specs.SourceRuns.{StaysAndEnds, ChoiceOutcome}
+use Rattle.lw_finals.specs.inner.SourceRunners.{CompiledSource, leads_flat}
 use Rattle.lw_finals.proofs.CompleteLists.{AreComplete, AreSound, EndsChoice, lead, listed}
-use Rattle.lw_finals.proofs.SourceOutcomes.{source_items, alike_orders_end_alike, choices_are_well_formed, outcomes_are_those_of_choices}
+use Rattle.lw_finals.proofs.SourceOutcomes.{alike_orders_end_alike, outcomes_are_those_of_choices}
+use Rattle.lw_choices.proofs.api.SourcePairs.{choices_are_well_formed}
 
 -- what is gathered for the test and the threads that these are
 pub gathered_of : (s : SourceTest) (given test : CompiledSource) (threads : List (List Stmt)) (l : Entries) → given ≡ test → test.source ≡ s → threads ≡ s.threads
-    → Gathers (EndsOfProgram source_language (StaysAndEnds given.source) threads) (leads_flat given) [] l → Gathers (EndsOfProgram source_language (StaysAndEnds s) s.threads) (leads_flat test) [] l
+    → Gathers (EndsOfProgram source_behaviour (StaysAndEnds given.source) threads) (leads_flat given) [] l → Gathers (EndsOfProgram source_behaviour (StaysAndEnds s) s.threads) (leads_flat test) [] l
 gathered_of s given test threads l same source_is threads_are h =
-    subst (λ (q : SourceTest). Gathers (EndsOfProgram source_language (StaysAndEnds q) s.threads) (leads_flat test) [] l) source_is
-    (subst (λ (t : CompiledSource). Gathers (EndsOfProgram source_language (StaysAndEnds t.source) s.threads) (leads_flat t) [] l) same
-    (subst (λ (p : List (List Stmt)). Gathers (EndsOfProgram source_language (StaysAndEnds given.source) p) (leads_flat given) [] l) threads_are h))
+    subst (λ (q : SourceTest). Gathers (EndsOfProgram source_behaviour (StaysAndEnds q) s.threads) (leads_flat test) [] l) source_is
+    (subst (λ (t : CompiledSource). Gathers (EndsOfProgram source_behaviour (StaysAndEnds t.source) s.threads) (leads_flat t) [] l) same
+    (subst (λ (p : List (List Stmt)). Gathers (EndsOfProgram source_behaviour (StaysAndEnds given.source) p) (leads_flat given) [] l) threads_are h))
 
 module _ (s : SourceTest) (is : IsWellFormedSource s) where
-  -- no choice has too many items
-  pub few_items : HasTooManyItems source_language s.threads → ⊥
-  few_items (paths, choice, many) = let few : length (source_items s paths) ≤ 128 = (choices_are_well_formed s paths is choice).few in omega arith
-
-  sound : AreSound source_language s.threads (StaysAndEnds s)
+  sound : AreSound source_behaviour s.threads (StaysAndEnds s)
   sound = record {
     forward = All-weaker (IsThread source (length s.head.locs)) (IsForward source_flow) (λ code t. t.forward) s.threads is.code;
     formed = λ paths choice. choices_are_well_formed s paths is choice;
@@ -52,7 +50,7 @@ module _ (s : SourceTest) (is : IsWellFormedSource s) where
   }
 
   -- each outcome is one that an order of a choice ends with
-  chosen : (o : Final) → SourceOutcome s o → EndsChoice source_language s.threads (StaysAndEnds s) o
+  chosen : (o : Final) → SourceOutcome s o → EndsChoice source_behaviour s.threads (StaysAndEnds s) o
   chosen o reached =
       let h = (outcomes_are_those_of_choices s o is).0 reached in
       let outcome : ChoiceOutcome s h.0 o = h.2 in
@@ -61,7 +59,7 @@ module _ (s : SourceTest) (is : IsWellFormedSource s) where
   module _ (program : ProgramTest) (starts : List (List ℕ)) (entries : Entries)
       (complete : AreComplete)
       (same : (o : Final) → MachineOutcome flat program program.head.init_words o ↔ SourceOutcome s o)
-      (gathers : Gathers (EndsOfProgram source_language (StaysAndEnds s) s.threads) (leads_flat (record { source = s; program = program; starts = starts })) [] entries) where
+      (gathers : Gathers (EndsOfProgram source_behaviour (StaysAndEnds s) s.threads) (leads_flat (record { source = s; program = program; starts = starts })) [] entries) where
     abbrev Leads : List Event → Final → Type 0
     Leads = leads_flat (record { source = s; program = program; starts = starts })
 
@@ -70,10 +68,10 @@ module _ (s : SourceTest) (is : IsWellFormedSource s) where
 
     -- the list has exactly the outcomes
     pub exactly : (o : Final) → Contains (outcomes_of entries) o ↔ SourceOutcome s o
-    exactly = listed source_language s.threads (StaysAndEnds s) sound complete (SourceOutcome s) Leads chosen reaches entries gathers
+    exactly = listed source_behaviour s.threads (StaysAndEnds s) sound complete (SourceOutcome s) Leads chosen reaches entries gathers
 
     leads : All (λ e. Leads e.1 e.0) entries
-    leads = lead source_language s.threads (StaysAndEnds s) sound complete (SourceOutcome s) Leads chosen reaches entries gathers
+    leads = lead source_behaviour s.threads (StaysAndEnds s) sound complete (SourceOutcome s) Leads chosen reaches entries gathers
 
     -- the same on the whole machine
     pub on_machine : IsCompiled s program starts

@@ -2,17 +2,17 @@
 use Rattle.std.proofs.Common.{◌≡◌, ℕ, zero, suc, ◌+◌, ◌-◌, ◌<◌, List, [], ◌∷◌, length, Some, refl, sym, ap, ◌∙◌, subst, inl, inr, slice_get, slice_set, arith, length-append}
 use Rattle.std.specs.Prelude.{◌==◌, if◌then◌else◌}
 use Rattle.std.proofs.lemmas.Bool.{cases_eq, eq-eqb, ne_eqb, cond-true, cond-false}
-use Rattle.lw_base.proofs.Lists.{get_some, got_set_same, got_set_other}
+use Rattle.lw_base.proofs.api.Lists.{get_some, got_set_same, got_set_other}
 use Rattle.lw_litmus.specs.declared.stmt.Stmt.{Stmt}
 use Rattle.lw_interleaving.specs.Runs.{State, is_final, outcome_of}
 use Rattle.lw_orders.specs.Order.{place}
-use Rattle.lw_orders.proofs.Places.{place-same, place-other}
-use Rattle.lw_finals.specs.declared.item.Item.{Item}
-use Rattle.lw_finals.specs.Items.{item_at}
-use Rattle.lw_finals.specs.SourceItems.{CarriedOut}
+use Rattle.lw_orders.proofs.api.Places.{place-same, place-other}
+use Rattle.lw_choices.specs.declared.item.Item.{Item}
+use Rattle.lw_choices.specs.Items.{item_at}
+use Rattle.lw_finals.specs.SourceRuns.{CarriedOut}
 use Rattle.lw_finals.specs.OrderRuns as runs
-use Rattle.lw_finals.proofs.Numbering.{joined}
-use Rattle.lw_finals.proofs.SourceNumbering.{item}
+use Rattle.lw_choices.proofs.api.Numbering.{joined}
+use Rattle.lw_choices.proofs.api.SourceNumbering.{item}
 use Rattle.lw_finals.proofs.SourceTaken.{Took}
 
 -- the items of an order of a source program are carried out, one after another

@@ -1,5 +1,5 @@
 -- The outcomes of the orders of all choices of paths are exactly the outcomes of a source test, and alike orders end alike.
-use Rattle.std.proofs.Common.{◌≡◌, ℕ, zero, suc, ◌<◌, ◌≤◌, List, [], ◌∷◌, map, length, Some, refl, sym, ap, ◌∙◌, subst, slice_get, arith}
+use Rattle.std.proofs.Common.{◌≡◌, ℕ, zero, suc, ◌<◌, List, [], ◌∷◌, map, length, Some, refl, sym, ap, ◌∙◌, subst, slice_get, arith}
 use Rattle.std.specs.Prelude.{◌↔◌}
 use Rattle.std.proofs.lemmas.List.{length-map}
 use Rattle.std.proofs.lemmas.Option.{slice_get_within}
@@ -7,33 +7,28 @@ use Rattle.std.proofs.lemmas.List.Elements.{All-weaker}
 use Rattle.lw_base.specs.Outcomes.{Final}
 use Rattle.lw_base.specs.Threads.{code_of}
 use Rattle.lw_base.specs.declared.event.Event.TheVariants.{Step}
-use Rattle.lw_litmus.specs.Tests.{IsThread}
+use Rattle.lw_litmus.specs.WellFormed.{IsThread}
 use Rattle.lw_litmus.specs.declared.stmt.Stmt.{Stmt}
 use Rattle.lw_interleaving.specs.declared.thread.Thread.{Thread}
-use Rattle.lw_litmus.specs.Sources.{SourceTest, IsWellFormedSource, source}
+use Rattle.lw_litmus.specs.Sources.{IsWellFormedSource, source}
+use Rattle.lw_litmus.specs.Tests.{SourceTest}
 use Rattle.lw_interleaving.specs.Runs.{State, Ran, RunsTo, start_of, starting, SourceOutcome}
-use Rattle.lw_orders.specs.Order.{Constraints, place, Before, Keeps, IsLinearExtension, Alike, IsWellFormed}
-use Rattle.lw_finals.specs.Choices.{IsPathFrom, IsChoice}
-use Rattle.lw_finals.specs.Flows.{source_flow}
-use Rattle.lw_finals.specs.declared.item.Item.{Item}
-use Rattle.lw_finals.specs.Items.{item_at, items_of, constraints_of}
-use Rattle.lw_finals.specs.SourceRuns.{threads_of}
-use Rattle.lw_finals.specs.SourceItems.{source_language, StaysAndEnds, ChoiceOutcome}
-use Rattle.lw_finals.proofs.Numbering.{start_at, Stands, rows_of, item_stands, its_thread}
-use Rattle.lw_finals.proofs.FixedPairs.{GoesAlong, fixed_along}
-use Rattle.lw_finals.proofs.SourceFlows.{source_paths}
-use Rattle.lw_finals.proofs.SourceNumbering.{item, path_there, path_item, many_items}
+use Rattle.lw_orders.specs.Order.{place, Before, Keeps, IsLinearExtension, Alike}
+use Rattle.lw_choices.specs.Choices.{IsPathFrom, IsChoice}
+use Rattle.lw_choices.specs.Flows.{source_flow}
+use Rattle.lw_choices.specs.declared.item.Item.{Item}
+use Rattle.lw_choices.specs.Items.{item_at, items_of, constraints_of}
+use Rattle.lw_finals.specs.inner.SourceRunners.{threads_of}
+use Rattle.lw_choices.specs.SourceItems.{source_behaviour}
+use Rattle.lw_finals.specs.SourceRuns.{StaysAndEnds, ChoiceOutcome}
+use Rattle.lw_choices.proofs.api.Numbering.{start_at, Stands, rows_of, item_stands, its_thread}
+use Rattle.lw_choices.proofs.api.FixedPairs.{GoesAlong, fixed_along}
+use Rattle.lw_choices.proofs.api.SourceFlows.{source_paths}
+use Rattle.lw_choices.proofs.api.SourceNumbering.{item, path_there, path_item, many_items}
 use Rattle.lw_finals.proofs.SourceTaken.{Took, Paths, paths_taken, each_thread}
 use Rattle.lw_finals.proofs.SourceOrdered.{OrderRan, Numbered, Ahead, order_along, length-order_along, order_ran, ahead_stands, ahead_before, as_many_steps}
-use Rattle.lw_finals.proofs.SourcePairs.{source_well_formed}
+use Rattle.lw_choices.proofs.api.SourcePairs.{source_items, source_constraints}
 use Rattle.lw_finals.proofs.SourceAlike.{alike_orders_ran}
-
--- the items of a choice of a source test, with their fixed pairs and conflicts
-abbrev pub source_items : SourceTest → List (List ℕ) → List Item
-source_items s paths = items_of source_language s.threads paths
-
-abbrev pub source_constraints : SourceTest → List (List ℕ) → Constraints
-source_constraints s paths = constraints_of source_language s.threads (source_items s paths)
 
 -- the steps of an order that stays on its paths are possible, one after another
 scheduled : (program : List (List Stmt)) (items : List Item) (order : List ℕ) (s end : State) → OrderRan program items order s end → Ran program (map Step (threads_of items order)) s end
@@ -67,10 +62,10 @@ choice_from (code ∷ program) (path ∷ paths) len each = (each 0 path refl, ch
 
 module _ (program : List (List Stmt)) (paths : List (List ℕ)) (choice : IsChoice source_flow program paths) where
   abbrev items : List Item
-  items = items_of source_language program paths
+  items = items_of source_behaviour program paths
 
   abbrev rows : List (List Item)
-  rows = rows_of source_language program paths
+  rows = rows_of source_behaviour program paths
 
   -- the items from a thread's first on are those of its path
   numbered : Numbered items (start_at rows) paths
@@ -83,7 +78,7 @@ module _ (program : List (List Stmt)) (paths : List (List ℕ)) (choice : IsChoi
       record { path = p.0; k = a.at; has = p.1; below = omega (arith, below, ap length p.2, length-map p.0 (item a.thread)); number = a.number }
 
   -- the order of a run's items keeps the fixed pairs
-  extends : (ts : List ℕ) (s end : State) → Took program ts s paths end → IsLinearExtension (constraints_of source_language program items) (order_along (start_at rows) ts)
+  extends : (ts : List ℕ) (s end : State) → Took program ts s paths end → IsLinearExtension (constraints_of source_behaviour program items) (order_along (start_at rows) ts)
   extends ts s end took = ((length-order_along (start_at rows) ts ∙ sym many, there), keeps)
     where
       many : length items ≡ length ts
@@ -93,17 +88,17 @@ module _ (program : List (List Stmt)) (paths : List (List ℕ)) (choice : IsChoi
       order = order_along (start_at rows) ts
 
       there : (i : ℕ) → i < length items → place order i < length items
-      there i l = let a : Stands rows i = item_stands source_language program paths i l in omega (arith, many, ahead_stands program ts (start_at rows) s paths end a.thread i took (ahead i a))
+      there i l = let a : Stands rows i = item_stands source_behaviour program paths i l in omega (arith, many, ahead_stands program ts (start_at rows) s paths end a.thread i took (ahead i a))
 
       keeps_pair : (p : ℕ × ℕ) → GoesAlong items (length items) p → Before order p.0 p.1
       keeps_pair p up =
-          let a : Stands rows p.0 = item_stands source_language program paths p.0 (omega (arith, up.0, up.1)) in
-          let b : Stands rows p.1 = item_stands source_language program paths p.1 up.1 in
-          let one : b.thread ≡ a.thread = sym (its_thread source_language program paths p.1 b) ∙ (sym up.2 ∙ its_thread source_language program paths p.0 a) in
+          let a : Stands rows p.0 = item_stands source_behaviour program paths p.0 (omega (arith, up.0, up.1)) in
+          let b : Stands rows p.1 = item_stands source_behaviour program paths p.1 up.1 in
+          let one : b.thread ≡ a.thread = sym (its_thread source_behaviour program paths p.1 b) ∙ (sym up.2 ∙ its_thread source_behaviour program paths p.0 a) in
           ahead_before program items ts (start_at rows) s paths end a.thread p.0 p.1 numbered took (ahead p.0 a) (subst (λ (u : ℕ). Ahead (start_at rows) paths u p.1) one (ahead p.1 b)) up.0
 
-      keeps : Keeps (constraints_of source_language program items).fixed order
-      keeps = All-weaker (GoesAlong items (length items)) (λ (p : ℕ × ℕ). Before order p.0 p.1) keeps_pair (constraints_of source_language program items).fixed (fixed_along source_language program items)
+      keeps : Keeps (constraints_of source_behaviour program items).fixed order
+      keeps = All-weaker (GoesAlong items (length items)) (λ (p : ℕ × ℕ). Before order p.0 p.1) keeps_pair (constraints_of source_behaviour program items).fixed (fixed_along source_behaviour program items)
 
 -- every outcome is that of a choice of paths
 record Chosen (s : SourceTest) (o : Final) : Type 0 where
@@ -132,7 +127,7 @@ complete s o order is u = record { paths = p.paths; choice = choice; outcome = r
         (source_paths (code_of s.threads t) 0 path).1 (p.lead t 0 path (starts s.head.init_regs t (omega (arith, there, as_many, regs))) e)))
 
     next : ℕ → ℕ
-    next = start_at (rows_of source_language s.threads p.paths)
+    next = start_at (rows_of source_behaviour s.threads p.paths)
 
     run : StaysAndEnds s (source_items s p.paths) (order_along next order) o
     run = record { end = u.end; ran = order_ran s.threads (source_items s p.paths) order next (start_of s) p.paths u.end (numbered s.threads p.paths choice) p.took; final = u.final; is = u.is }
@@ -143,12 +138,6 @@ pub alike_orders_end_alike : (s : SourceTest) (paths : List (List ℕ)) (xs ys :
     → Alike (source_constraints s paths).conflicts xs ys
     → StaysAndEnds s (source_items s paths) xs o → StaysAndEnds s (source_items s paths) ys o
 alike_orders_end_alike s paths xs ys o ix iy same r = record { end = r.end; ran = alike_orders_ran s.threads paths xs ys ix iy same (start_of s) r.end r.ran; final = r.final; is = r.is }
-
--- The items of each choice of a well-formed test are few enough, and well-formed with their pairs.
-pub choices_are_well_formed : (s : SourceTest) (paths : List (List ℕ)) → IsWellFormedSource s → IsChoice source_flow s.threads paths → IsWellFormed (source_constraints s paths)
-choices_are_well_formed s paths is choice =
-    let four : s.head.threads ≤ 4 = is.head.few in
-    source_well_formed (length s.head.locs) s.threads paths is.code (omega (arith, four, is.as_many)) choice
 
 -- The outcomes of a well-formed test are those of its choices of paths.
 pub outcomes_are_those_of_choices : (s : SourceTest) (o : Final) → IsWellFormedSource s

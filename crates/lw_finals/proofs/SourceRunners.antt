@@ -9,15 +9,15 @@ use Rattle.lw_base.specs.declared.stop.Stop.{Stop}
 use Rattle.lw_litmus.specs.declared.stmt.Stmt.{Stmt}
 use Rattle.lw_interleaving.specs.declared.thread.Thread.{Thread}
 use Rattle.lw_interleaving.specs.Runs.{State, Ran, RunsTo, start_of, source_step}
-use Rattle.lw_litmus.specs.Sources.{SourceTest}
+use Rattle.lw_litmus.specs.Tests.{SourceTest}
 use Rattle.lw_memory.specs.Flat.{flat}
 use Rattle.lw_tso.specs.Evictions.{without_evictions}
 use Rattle.lw_tso.specs.Runs.{Replays}
 use Rattle.lw_fence.specs.Fences.{is_store}
 use Rattle.lw_fence.specs.Schedules.{statement_events, thread_events, going_on, schedule}
-use Rattle.lw_finals.specs.declared.item.Item.{Item}
-use Rattle.lw_finals.specs.SourceItems.{StaysAndEnds}
-use Rattle.lw_finals.specs.SourceRuns.{CompiledSource, leads_flat, threads_of}
+use Rattle.lw_choices.specs.declared.item.Item.{Item}
+use Rattle.lw_finals.specs.SourceRuns.{StaysAndEnds}
+use Rattle.lw_finals.specs.inner.SourceRunners.{CompiledSource, leads_flat, threads_of}
 use Rattle.lw_finals.proofs.SourceOutcomes.{order_runs_to}
 
 -- two lists without evictions, one behind the other

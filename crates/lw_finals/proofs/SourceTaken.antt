@@ -8,19 +8,19 @@ use Rattle.std.proofs.lemmas.Bool.{leb-true, cases_eq, cases_lt}
 use Rattle.std.proofs.lemmas.List.Elements.{All-nil, All-get_or}
 use Rattle.lw_base.specs.Threads.{code_of}
 use Rattle.lw_base.specs.declared.event.Event.TheVariants.{Step}
-use Rattle.lw_base.proofs.Lists.{get_some, got_set_same, got_set_other, set_own}
-use Rattle.lw_litmus.specs.Tests.{IsThread, IsStatement}
+use Rattle.lw_base.proofs.api.Lists.{get_some, got_set_same, got_set_other, set_own}
+use Rattle.lw_litmus.specs.WellFormed.{IsThread, IsStatement}
 use Rattle.lw_litmus.specs.declared.stmt.Stmt.{Stmt}
 use Rattle.lw_interleaving.specs.declared.thread.Thread.{Thread}
 use Rattle.lw_litmus.specs.Sources.{source}
 use Rattle.lw_interleaving.specs.Runs.{State, source_step, Ran, is_final}
 use Rattle.lw_litmus.specs.Flow.{Follows, IsPathFrom}
 use Rattle.lw_interleaving.specs.Steps.{FollowsFlow, position_of}
-use Rattle.lw_interleaving.proofs.Exchange.{moved, others_placed}
-use Rattle.lw_interleaving.proofs.Runs.{event_kept, set_length}
-use Rattle.lw_finals.specs.Flows.{source_flow}
-use Rattle.lw_finals.proofs.Led as led
-use Rattle.lw_finals.proofs.SourceFlows.{source_follows}
+use Rattle.lw_interleaving.proofs.api.Exchange.{moved, others_placed}
+use Rattle.lw_interleaving.proofs.api.Runs.{event_kept, set_length}
+use Rattle.lw_choices.specs.Flows.{source_flow}
+use Rattle.lw_choices.proofs.api.Led as led
+use Rattle.lw_choices.proofs.api.SourceFlows.{source_follows}
 
 -- the paths that the threads have before them, along a list of steps
 abbrev pub Took : List (List Stmt) → List ℕ → State → List (List ℕ) → State → Type 0
@@ -33,7 +33,7 @@ Within program s = (t p : ℕ) → position_of s t ≡ Some p → p ≤ length (
 
 -- each path leads from where its thread is to the end
 abbrev pub Lead : List (List Stmt) → State → List (List ℕ) → Type 0
-Lead program s paths = (t p : ℕ) (path : List ℕ) → position_of s t ≡ Some p → slice_get paths t ≡ Some path → IsPathFrom (code_of program t) p path
+Lead program s paths = (t p : ℕ) (path : List ℕ) → position_of s t ≡ Some p → slice_get paths t ≡ Some path → IsPathFrom Follows (code_of program t) p path
 
 pub record Paths (program : List (List Stmt)) (ts : List ℕ) (s end : State) : Type 0 where
   pub paths : List (List ℕ)
@@ -130,10 +130,10 @@ module _ (locs : ℕ) (program : List (List Stmt)) (sound : (t : ℕ) → IsThre
             let is_path : m.from ∷ rest.0 ≡ path = let q : Some (m.from ∷ rest.0) ≡ Some path = sym here ∙ e in cc in
             let from : position_of s u ≡ Some m.from = subst (λ (v : ℕ). position_of s v ≡ Some m.from) same m.was in
             let is_from : m.from ≡ p = let q : Some m.from ≡ Some p = sym from ∙ at in cc in
-            let goes : IsPathFrom (code_of program t) m.from (m.from ∷ rest.0) = (refl, m.to, m.follows, r.lead t m.to rest.0 m.now rest.1) in
-            subst (λ (v : ℕ). IsPathFrom (code_of program v) p path) same
-            (subst (λ (q : List ℕ). IsPathFrom (code_of program t) p q) is_path
-            (subst (λ (q : ℕ). IsPathFrom (code_of program t) q (m.from ∷ rest.0)) is_from goes)))
+            let goes : IsPathFrom Follows (code_of program t) m.from (m.from ∷ rest.0) = (refl, m.to, m.follows, r.lead t m.to rest.0 m.now rest.1) in
+            subst (λ (v : ℕ). IsPathFrom Follows (code_of program v) p path) same
+            (subst (λ (q : List ℕ). IsPathFrom Follows (code_of program t) p q) is_path
+            (subst (λ (q : ℕ). IsPathFrom Follows (code_of program t) q (m.from ∷ rest.0)) is_from goes)))
         | inr ne ↦ r.lead u p path (others_placed program t u s next ne step ∙ at) (sym (got_set_other r.paths t u (m.from ∷ rest.0) ne) ∙ e)
       ]
 
@@ -148,7 +148,7 @@ module _ (locs : ℕ) (program : List (List Stmt)) (sound : (t : ℕ) → IsThre
         let th : (th : Thread) × (slice_get s.threads t ≡ Some th) × (th.position ≡ p) = at_position s.threads t p at in
         let past : length (code_of program t) ≤ th.0.position = ended program s.threads t th.0 (subst (λ (x : State). IsTrue (is_final program x)) ran final) th.1 in
         let last : p ≡ length (code_of program t) = omega (arith, w t p at, past, th.2) in
-        subst (λ (q : List ℕ). IsPathFrom (code_of program t) p q) (sym none) last);
+        subst (λ (q : List ℕ). IsPathFrom Follows (code_of program t) p q) (sym none) last);
   }
     where
       empty : (threads : List Thread) (t : ℕ) (path : List ℕ) → slice_get (map (λ (x : Thread). []) threads) t ≡ Some path → path ≡ []

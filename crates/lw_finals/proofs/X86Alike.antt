@@ -1,56 +1,40 @@
 -- Alike orders of the items of an x86 test that keep the fixed pairs: where one stays on the paths the other does, and ends in the
 -- same state.
-use Rattle.std.proofs.Common.{◌≡◌, ◌≢◌, ℕ, suc, ◌+◌, ◌<◌, Bool, true, false, ◌&&◌, List, [], ◌∷◌, ◌++◌, length, Option, Some, None, refl, sym, ap, ap₂, ◌∙◌, subst, inl, inr, arith, append_assoc, length-append}
+use Rattle.std.proofs.Common.{◌≡◌, ◌≢◌, ℕ, suc, ◌+◌, ◌<◌, true, false, List, [], ◌∷◌, ◌++◌, length, Some, refl, sym, ap, ◌∙◌, subst, inl, inr, arith, append_assoc, length-append}
 use Rattle.std.specs.Prelude.{Contains}
-use Rattle.std.proofs.Math.Bool.{or_comm}
-use Rattle.std.proofs.lemmas.Bool.{cases_order, cases_eq, cases_Bool, eq-eqb, ne_eqb}
+use Rattle.std.proofs.lemmas.Bool.{cases_order, cases_Bool}
 use Rattle.std.proofs.lemmas.List.Elements.{Contains-append_right}
 use Rattle.lw_base.specs.Outcomes.{Final}
 use Rattle.lw_base.specs.Threads.{code_of}
 use Rattle.lw_memory.specs.Flat.{flat}
 use Rattle.lw_orders.specs.Order.{Constraints, place, Before, IsOrder, IsLinearExtension, Alike}
 use Rattle.lw_orders.specs.Exchange.{IsTied, Exchanged}
-use Rattle.lw_orders.proofs.Places.{order_split}
-use Rattle.lw_orders.proofs.Kept.{alike_orders_are_joined, kept_along}
+use Rattle.lw_orders.proofs.api.Places.{order_split}
+use Rattle.lw_orders.proofs.api.Kept.{alike_orders_are_joined, kept_along}
 use Rattle.lw_tso.specs.Exchange.{AreIndependent}
 use Rattle.lw_tso.specs.Machines.{MachineState}
 use Rattle.lw_tso.specs.Runs.{is_final, machine_outcome, machine_start}
-use Rattle.lw_tso.proofs.Neighbours.{exchanged}
+use Rattle.lw_tso.proofs.api.Neighbours.{exchanged}
 use Rattle.lw_litmus.specs.declared.instr.Instr.{Instr}
-use Rattle.lw_litmus.specs.Programs.{ProgramTest, IsWellFormedProgram}
-use Rattle.lw_finals.specs.Choices.{IsForward, IsChoice}
-use Rattle.lw_finals.specs.Flows.{x86_flow}
-use Rattle.lw_finals.specs.declared.item.Item.{Item}
-use Rattle.lw_finals.specs.Items.{Language, item_at, items_of, statement_of, are_one, location_by, writes_by, conflict_by, do_conflict, constraints_of}
-use Rattle.lw_finals.specs.X86Items.{x86_language}
+use Rattle.lw_litmus.specs.Programs.{IsWellFormedProgram}
+use Rattle.lw_litmus.specs.Tests.{ProgramTest}
+use Rattle.lw_choices.specs.Choices.{IsForward, IsChoice}
+use Rattle.lw_choices.specs.Flows.{x86_flow}
+use Rattle.lw_choices.specs.declared.item.Item.{Item}
+use Rattle.lw_choices.specs.Items.{item_at, items_of, statement_of, do_conflict, constraints_of}
+use Rattle.lw_choices.specs.X86Items.{x86_behaviour}
 use Rattle.lw_finals.specs.X86Runs.{event_of, CarriedOut, StaysAndEnds}
 use Rattle.lw_finals.specs.OrderRuns as runs
-use Rattle.lw_finals.proofs.FixedPairs.{conflict_there, conflicts_up}
+use Rattle.lw_choices.proofs.api.Mutual.{conflict_mutual}
+use Rattle.lw_choices.proofs.api.FixedPairs.{conflict_there, conflicts_up}
 use Rattle.lw_finals.proofs.X86Waiting.{Holds, AllHold, waits_after, all_hold, hold_first, forward_of, CarriedItem, carried}
 use Rattle.lw_finals.proofs.X86Prefix.{Partner, Standing, Waiting, waiting_first, oldest, waiting_next}
 use Rattle.lw_finals.proofs.X86Swap.{Unfixed, independent}
 use Rattle.lw_finals.proofs.X86Standing.{standing}
 
--- ---- conflicts are mutual
-
-one_sym : (o p : Option ℕ) → are_one o p ≡ are_one p o
-one_sym None None = refl
-one_sym None (Some y) = refl
-one_sym (Some x) None = refl
-one_sym (Some x) (Some y) = elim (cases_eq x y) [
-  | inl e ↦ eq-eqb x y e ∙ sym (eq-eqb y x (sym e))
-  | inr ne ↦ ne_eqb x y ne ∙ sym (ne_eqb y x (λ e. ne (sym e)))
-]
-
-conflict_sym : {S : Type 0} (language : Language S) (d e : Bool) (a b : Option S) → conflict_by language d e a b ≡ conflict_by language e d b a
-conflict_sym language d e None None = refl
-conflict_sym language d e None (Some b) = refl
-conflict_sym language d e (Some a) None = refl
-conflict_sym language d e (Some a) (Some b) = ap₂ (λ (p q : Bool). p && q) (one_sym (location_by language d a) (location_by language e b)) (or_comm (writes_by language d a) (writes_by language e b))
-
 module _ (program : List (List Instr)) (items : List Item) where
   abbrev t : Constraints
-  t = constraints_of x86_language program items
+  t = constraints_of x86_behaviour program items
 
   abbrev at : ℕ → Item
   at i = item_at items i
@@ -73,7 +57,7 @@ module _ (program : List (List Instr)) (items : List Item) where
     below : i < length items
     place_is : place order i ≡ k
     instr : Instr
-    statement : statement_of x86_language program (at i) ≡ Some instr
+    statement : statement_of x86_behaviour program (at i) ≡ Some instr
     mid : MachineState (List ℕ)
     done : CarriedOut flat program (at i) s mid
     did : CarriedItem program (at i) s mid
@@ -152,18 +136,18 @@ module _ (program : List (List Instr)) (items : List Item) where
       not_back : Before xs e.y e.x → ⊥
       not_back b = omega (arith, b, x_in_xs, y_in_xs)
 
-      tied : (i j : ℕ) → i < j → j < length items → do_conflict x86_language program (at i) (at j) ≡ true → Contains (t.fixed ++ t.conflicts) (i, j)
-      tied i j less l c = Contains-append_right t.fixed t.conflicts (i, j) (conflict_there x86_language program items i j less l c)
+      tied : (i j : ℕ) → i < j → j < length items → do_conflict x86_behaviour program (at i) (at j) ≡ true → Contains (t.fixed ++ t.conflicts) (i, j)
+      tied i j less l c = Contains-append_right t.fixed t.conflicts (i, j) (conflict_there x86_behaviour program items i j less l c)
 
-      no_conflict : e.x < length items → e.y < length items → do_conflict x86_language program (at e.x) (at e.y) ≡ true → ⊥
+      no_conflict : e.x < length items → e.y < length items → do_conflict x86_behaviour program (at e.x) (at e.y) ≡ true → ⊥
       no_conflict lx ly c = elim (cases_order e.x e.y) [
         | inl is ↦ differ is
         | inr (inl less) ↦ e.free (inl (tied e.x e.y less ly c))
         | inr (inr more) ↦ e.free (inr (tied e.y e.x more lx
-            (conflict_sym x86_language (at e.y).is_drain (at e.x).is_drain (statement_of x86_language program (at e.y)) (statement_of x86_language program (at e.x)) ∙ c)))
+            (conflict_mutual x86_behaviour (at e.y).is_drain (at e.x).is_drain (statement_of x86_behaviour program (at e.y)) (statement_of x86_behaviour program (at e.x)) ∙ c)))
       ]
 
-      unfixed : (h : Instr) → e.x < length items → e.y < length items → statement_of x86_language program (at e.y) ≡ Some h → (at e.x).thread ≡ (at e.y).thread → Unfixed (at e.x).is_drain (at e.y).is_drain h (at e.x).position (at e.y).position
+      unfixed : (h : Instr) → e.x < length items → e.y < length items → statement_of x86_behaviour program (at e.y) ≡ Some h → (at e.x).thread ≡ (at e.y).thread → Unfixed (at e.x).is_drain (at e.y).is_drain h (at e.x).position (at e.y).position
       unfixed h lx ly is same = record {
         unlike = λ kind. elim (cases_order (at e.x).position (at e.y).position) [
           | inl p ↦ differ (sx.one_item e.x e.y lx ly same p kind)
@@ -207,18 +191,18 @@ module _ (program : List (List Instr)) (items : List Item) where
 -- Where one of two alike orders stays on the paths the other does, with the same outcome.
 pub x86_orders_end_alike : (test : ProgramTest) (paths : List (List ℕ)) (xs ys : List ℕ) (o : Final)
     → IsWellFormedProgram test → IsChoice x86_flow test.threads paths
-    → IsLinearExtension (constraints_of x86_language test.threads (items_of x86_language test.threads paths)) xs
-    → IsLinearExtension (constraints_of x86_language test.threads (items_of x86_language test.threads paths)) ys
-    → Alike (constraints_of x86_language test.threads (items_of x86_language test.threads paths)).conflicts xs ys
-    → StaysAndEnds flat test test.head.init_words (items_of x86_language test.threads paths) xs o
-    → StaysAndEnds flat test test.head.init_words (items_of x86_language test.threads paths) ys o
+    → IsLinearExtension (constraints_of x86_behaviour test.threads (items_of x86_behaviour test.threads paths)) xs
+    → IsLinearExtension (constraints_of x86_behaviour test.threads (items_of x86_behaviour test.threads paths)) ys
+    → Alike (constraints_of x86_behaviour test.threads (items_of x86_behaviour test.threads paths)).conflicts xs ys
+    → StaysAndEnds flat test test.head.init_words (items_of x86_behaviour test.threads paths) xs o
+    → StaysAndEnds flat test test.head.init_words (items_of x86_behaviour test.threads paths) ys o
 x86_orders_end_alike test paths xs ys o ok choice ix iy alike r =
     let program : List (List Instr) = test.threads in
-    let items : List Item = items_of x86_language program paths in
+    let items : List Item = items_of x86_behaviour program paths in
     let start : MachineState (List ℕ) = machine_start test test.head.init_words in
     let forward : (u : ℕ) → IsForward x86_flow (code_of program u) = forward_of test ok in
-    let joined = alike_orders_are_joined (constraints_of x86_language program items) (conflicts_up x86_language program items) xs ys ix iy alike in
-    let ran : OrderRan program items ys start r.end = kept_along (constraints_of x86_language program items) (λ zs. OrderRan program items zs start r.end)
+    let joined = alike_orders_are_joined (constraints_of x86_behaviour program items) (conflicts_up x86_behaviour program items) xs ys ix iy alike in
+    let ran : OrderRan program items ys start r.end = kept_along (constraints_of x86_behaviour program items) (λ zs. OrderRan program items zs start r.end)
     (λ us vs iu iv e run. exchange program items forward us vs (standing program forward paths choice us iu) (standing program forward paths choice vs iv) e start r.end (hold_first test test.head.init_words) run)
     joined.0 xs ys ix joined.1 r.ran in
     record { end = r.end; ran = ran; final = r.final; is = r.is }

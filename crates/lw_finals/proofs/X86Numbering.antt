@@ -8,13 +8,13 @@ use Rattle.std.proofs.lemmas.List.{get_or_default}
 use Rattle.std.proofs.lemmas.List.Elements.{All-nil, All-cons, All-append, All-weaker, All-get_or, Contains-append_left, Contains-append_right}
 use Rattle.lw_base.specs.Threads.{code_of}
 use Rattle.lw_litmus.specs.declared.instr.Instr.{Instr}
-use Rattle.lw_finals.specs.Choices.{IsForward, IsPathFrom, IsChoice}
-use Rattle.lw_finals.specs.Flows.{x86_flow}
-use Rattle.lw_finals.specs.declared.item.Item.{Item}
-use Rattle.lw_finals.specs.Items.{item_at, items_at, path_items, items_from, items_of, statement_of}
-use Rattle.lw_finals.specs.X86Items.{drained, x86_language}
-use Rattle.lw_finals.proofs.Led.{follows_within}
-use Rattle.lw_finals.proofs.Members.{Contains-here, Contains-there}
+use Rattle.lw_choices.specs.Choices.{IsForward, IsPathFrom, IsChoice}
+use Rattle.lw_choices.specs.Flows.{x86_flow}
+use Rattle.lw_choices.specs.declared.item.Item.{Item}
+use Rattle.lw_choices.specs.Items.{item_at, items_at, path_items, items_from, items_of, statement_of}
+use Rattle.lw_choices.specs.X86Items.{drained, x86_behaviour}
+use Rattle.lw_choices.proofs.api.Led.{follows_within}
+use Rattle.lw_choices.proofs.api.Members.{Contains-here, Contains-there}
 use Rattle.lw_finals.proofs.X86Waiting.{In}
 
 -- each item is related to all behind it
@@ -54,7 +54,7 @@ abbrev pub IsStoring : Instr → Type 0
 IsStoring i = (x : ℕ) × (drained i ≡ Some x)
 
 -- what holds of each step on the paths, and of each drain of a store there, holds of each item
-each_here : (P : Item → Type 0) (t j : ℕ) (o : Option Instr) → ((i : Instr) → o ≡ Some i → P (step_at t j)) → ((i : Instr) → IsStoring i → o ≡ Some i → P (drain_at t j)) → All P (items_at x86_language t j o)
+each_here : (P : Item → Type 0) (t j : ℕ) (o : Option Instr) → ((i : Instr) → o ≡ Some i → P (step_at t j)) → ((i : Instr) → IsStoring i → o ≡ Some i → P (drain_at t j)) → All P (items_at x86_behaviour t j o)
 each_here P t j None f g = All-nil P
 each_here P t j (Some i) f g = All-cons P (step_at t j) _ (f i refl) (go (drained i) refl)
   where
@@ -62,22 +62,22 @@ each_here P t j (Some i) f g = All-cons P (step_at t j) _ (f i refl) (go (draine
     go None e = All-nil P
     go (Some x) e = All-cons P (drain_at t j) [] (g i (x, e) refl) (All-nil P)
 
-each_thread : (P : Item → Type 0) (t : ℕ) (code : List Instr) (path : List ℕ) → ((j : ℕ) (i : Instr) → In j path → slice_get code j ≡ Some i → P (step_at t j)) → ((j : ℕ) (i : Instr) → IsStoring i → In j path → slice_get code j ≡ Some i → P (drain_at t j)) → All P (path_items x86_language t code path)
+each_thread : (P : Item → Type 0) (t : ℕ) (code : List Instr) (path : List ℕ) → ((j : ℕ) (i : Instr) → In j path → slice_get code j ≡ Some i → P (step_at t j)) → ((j : ℕ) (i : Instr) → IsStoring i → In j path → slice_get code j ≡ Some i → P (drain_at t j)) → All P (path_items x86_behaviour t code path)
 each_thread P t code [] f g = All-nil P
 each_thread P t code (j ∷ path) f g =
-    All-append P (items_at x86_language t j (slice_get code j)) (path_items x86_language t code path)
+    All-append P (items_at x86_behaviour t j (slice_get code j)) (path_items x86_behaviour t code path)
     (each_here P t j (slice_get code j) (λ i e. f j i (inl refl) e) (λ i s e. g j i s (inl refl) e))
     (each_thread P t code path (λ k i h e. f k i (inr h) e) (λ k i s h e. g k i s (inr h) e))
 
 pub each_item : (P : Item → Type 0) (t : ℕ) (program : List (List Instr)) (paths : List (List ℕ))
     → ((k j : ℕ) (i : Instr) → k < length program → In j (code_of paths k) → slice_get (code_of program k) j ≡ Some i → P (step_at (t + k) j))
     → ((k j : ℕ) (i : Instr) → k < length program → IsStoring i → In j (code_of paths k) → slice_get (code_of program k) j ≡ Some i → P (drain_at (t + k) j))
-    → All P (items_from x86_language t program paths)
+    → All P (items_from x86_behaviour t program paths)
 each_item P t [] paths f g = All-nil P
 each_item P t (code ∷ program) [] f g = All-nil P
 each_item P t (code ∷ program) (path ∷ paths) f g =
     let here : t + 0 ≡ t = omega arith in
-    All-append P (path_items x86_language t code path) (items_from x86_language (suc t) program paths)
+    All-append P (path_items x86_behaviour t code path) (items_from x86_behaviour (suc t) program paths)
     (each_thread P t code path (λ j i h e. subst (λ k. P (step_at k j)) here (f 0 j i (omega arith) h e)) (λ j i s h e. subst (λ k. P (drain_at k j)) here (g 0 j i (omega arith) s h e)))
     (each_item P (suc t) program paths
     (λ k j i l h e. subst (λ k. P (step_at k j)) (next k) (f (suc k) j i (omega arith) h e))
@@ -87,48 +87,48 @@ each_item P t (code ∷ program) (path ∷ paths) f g =
     next k = omega arith
 
 -- and each step on the paths, and each drain of a store there, is an item
-has_step : (t j : ℕ) (i : Instr) → Contains (items_at x86_language t j (Some i)) (step_at t j)
+has_step : (t j : ℕ) (i : Instr) → Contains (items_at x86_behaviour t j (Some i)) (step_at t j)
 has_step t j i = Contains-here (step_at t j) (step_at t j) _ refl
 
-has_drain : (t j : ℕ) (i : Instr) → IsStoring i → Contains (items_at x86_language t j (Some i)) (drain_at t j)
+has_drain : (t j : ℕ) (i : Instr) → IsStoring i → Contains (items_at x86_behaviour t j (Some i)) (drain_at t j)
 has_drain t j i s = Contains-there (step_at t j) (drain_at t j) _ (go (drained i) s.1)
   where
     go : (d : Option ℕ) → d ≡ Some s.0 → Contains (option_map_or (λ x. drain_at t j ∷ []) d []) (drain_at t j)
     go None e = absurd cc
     go (Some x) e = Contains-here (drain_at t j) (drain_at t j) [] refl
 
-has_thread : (t : ℕ) (code : List Instr) (path : List ℕ) (j : ℕ) (i : Instr) (a : Item) → In j path → slice_get code j ≡ Some i → Contains (items_at x86_language t j (Some i)) a → Contains (path_items x86_language t code path) a
+has_thread : (t : ℕ) (code : List Instr) (path : List ℕ) (j : ℕ) (i : Instr) (a : Item) → In j path → slice_get code j ≡ Some i → Contains (items_at x86_behaviour t j (Some i)) a → Contains (path_items x86_behaviour t code path) a
 has_thread t code [] j i a h e g = absurd h
 has_thread t code (k ∷ path) j i a (inl same) e g =
-    Contains-append_left (items_at x86_language t k (slice_get code k)) (path_items x86_language t code path) a
-    (subst (λ o. Contains (items_at x86_language t k o) a) (sym (ap (λ k. slice_get code k) same ∙ e)) (subst (λ k. Contains (items_at x86_language t k (Some i)) a) (sym same) g))
+    Contains-append_left (items_at x86_behaviour t k (slice_get code k)) (path_items x86_behaviour t code path) a
+    (subst (λ o. Contains (items_at x86_behaviour t k o) a) (sym (ap (λ k. slice_get code k) same ∙ e)) (subst (λ k. Contains (items_at x86_behaviour t k (Some i)) a) (sym same) g))
 has_thread t code (k ∷ path) j i a (inr h) e g =
-    Contains-append_right (items_at x86_language t k (slice_get code k)) (path_items x86_language t code path) a (has_thread t code path j i a h e g)
+    Contains-append_right (items_at x86_behaviour t k (slice_get code k)) (path_items x86_behaviour t code path) a (has_thread t code path j i a h e g)
 
-has_from : (t : ℕ) (program : List (List Instr)) (paths : List (List ℕ)) (k j : ℕ) (i : Instr) (a : Item) → length paths ≡ length program → k < length program → In j (code_of paths k) → slice_get (code_of program k) j ≡ Some i → Contains (items_at x86_language (t + k) j (Some i)) a → Contains (items_from x86_language t program paths) a
+has_from : (t : ℕ) (program : List (List Instr)) (paths : List (List ℕ)) (k j : ℕ) (i : Instr) (a : Item) → length paths ≡ length program → k < length program → In j (code_of paths k) → slice_get (code_of program k) j ≡ Some i → Contains (items_at x86_behaviour (t + k) j (Some i)) a → Contains (items_from x86_behaviour t program paths) a
 has_from t [] paths k j i a len l h e g = absurd (omega arith)
 has_from t (code ∷ program) [] k j i a len l h e g = absurd (omega arith)
 has_from t (code ∷ program) (path ∷ paths) zero j i a len l h e g =
     let here : t + 0 ≡ t = omega arith in
-    Contains-append_left (path_items x86_language t code path) (items_from x86_language (suc t) program paths) a
-    (has_thread t code path j i a h e (subst (λ k. Contains (items_at x86_language k j (Some i)) a) here g))
+    Contains-append_left (path_items x86_behaviour t code path) (items_from x86_behaviour (suc t) program paths) a
+    (has_thread t code path j i a h e (subst (λ k. Contains (items_at x86_behaviour k j (Some i)) a) here g))
 has_from t (code ∷ program) (path ∷ paths) (suc k) j i a len l h e g =
     let next : t + suc k ≡ suc t + k = omega arith in
-    Contains-append_right (path_items x86_language t code path) (items_from x86_language (suc t) program paths) a
-    (has_from (suc t) program paths k j i a (omega arith) (omega arith) h e (subst (λ k. Contains (items_at x86_language k j (Some i)) a) next g))
+    Contains-append_right (path_items x86_behaviour t code path) (items_from x86_behaviour (suc t) program paths) a
+    (has_from (suc t) program paths k j i a (omega arith) (omega arith) h e (subst (λ k. Contains (items_at x86_behaviour k j (Some i)) a) next g))
 
 module _ (program : List (List Instr)) (paths : List (List ℕ)) where
-  pub step_there : (t j : ℕ) (i : Instr) → length paths ≡ length program → t < length program → In j (code_of paths t) → slice_get (code_of program t) j ≡ Some i → Has (items_of x86_language program paths) (step_at t j)
+  pub step_there : (t j : ℕ) (i : Instr) → length paths ≡ length program → t < length program → In j (code_of paths t) → slice_get (code_of program t) j ≡ Some i → Has (items_of x86_behaviour program paths) (step_at t j)
   step_there t j i len l h e =
       let z : 0 + t ≡ t = omega arith in
-      number_of (items_of x86_language program paths) (step_at t j)
-      (has_from 0 program paths t j i (step_at t j) len l h e (subst (λ k. Contains (items_at x86_language k j (Some i)) (step_at t j)) (sym z) (has_step t j i)))
+      number_of (items_of x86_behaviour program paths) (step_at t j)
+      (has_from 0 program paths t j i (step_at t j) len l h e (subst (λ k. Contains (items_at x86_behaviour k j (Some i)) (step_at t j)) (sym z) (has_step t j i)))
 
-  pub drain_there : (t j : ℕ) (i : Instr) → length paths ≡ length program → t < length program → IsStoring i → In j (code_of paths t) → slice_get (code_of program t) j ≡ Some i → Has (items_of x86_language program paths) (drain_at t j)
+  pub drain_there : (t j : ℕ) (i : Instr) → length paths ≡ length program → t < length program → IsStoring i → In j (code_of paths t) → slice_get (code_of program t) j ≡ Some i → Has (items_of x86_behaviour program paths) (drain_at t j)
   drain_there t j i len l s h e =
       let z : 0 + t ≡ t = omega arith in
-      number_of (items_of x86_language program paths) (drain_at t j)
-      (has_from 0 program paths t j i (drain_at t j) len l h e (subst (λ k. Contains (items_at x86_language k j (Some i)) (drain_at t j)) (sym z) (has_drain t j i s)))
+      number_of (items_of x86_behaviour program paths) (drain_at t j)
+      (has_from 0 program paths t j i (drain_at t j) len l h e (subst (λ k. Contains (items_at x86_behaviour k j (Some i)) (drain_at t j)) (sym z) (has_drain t j i s)))
 
   -- what an item of a choice is
   pub record IsReal (a : Item) : Type 0 where
@@ -138,7 +138,7 @@ module _ (program : List (List Instr)) (paths : List (List ℕ)) where
     pub at : slice_get (code_of program a.thread) a.position ≡ Some instr
     pub store : a.is_drain ≡ true → IsStoring instr
 
-  all_real : All IsReal (items_of x86_language program paths)
+  all_real : All IsReal (items_of x86_behaviour program paths)
   all_real =
       each_item IsReal 0 program paths
       (λ k j i l h e. let z : k ≡ 0 + k = omega arith in subst (λ k. IsReal (step_at k j)) z (record { instr = i; within = l; on = h; at = e; store = λ f. absurd (true≢false (sym f)) }))
@@ -182,7 +182,7 @@ path_up code j (k ∷ path) forward (same, next, follows, rest) =
     let w : (j < next) × (next ≤ length code) = follows_within x86_flow code j next forward follows in
     (omega arith, goes_up_less next (suc k) path (omega (arith, w.0)) (path_up code next path forward rest))
 
-here_sorted : (t j : ℕ) (o : Option Instr) → Pairwise IsLower (items_at x86_language t j o)
+here_sorted : (t j : ℕ) (o : Option Instr) → Pairwise IsLower (items_at x86_behaviour t j o)
 here_sorted t j None = tt
 here_sorted t j (Some i) = go (drained i)
   where
@@ -190,30 +190,30 @@ here_sorted t j (Some i) = go (drained i)
     go None = (All-nil (IsLower (step_at t j)), tt)
     go (Some x) = (All-cons (IsLower (step_at t j)) (drain_at t j) [] (inr (refl, omega arith)) (All-nil (IsLower (step_at t j))), (All-nil (IsLower (drain_at t j)), tt))
 
-thread_sorted : (t low : ℕ) (code : List Instr) (path : List ℕ) → GoesUp low path → Pairwise IsLower (path_items x86_language t code path)
+thread_sorted : (t low : ℕ) (code : List Instr) (path : List ℕ) → GoesUp low path → Pairwise IsLower (path_items x86_behaviour t code path)
 thread_sorted t low code [] u = tt
 thread_sorted t low code (j ∷ path) u =
-    pairwise_append IsLower (items_at x86_language t j (slice_get code j)) (path_items x86_language t code path) (here_sorted t j (slice_get code j)) (thread_sorted t (suc j) code path u.1)
-    (All-weaker (λ (a : Item). (a.thread ≡ t) × (a.position ≡ j)) (λ (a : Item). All (IsLower a) (path_items x86_language t code path))
-    (λ a f. All-weaker (λ (b : Item). (b.thread ≡ t) × (j < b.position)) (IsLower a) (λ b g. inr (f.0 ∙ sym g.0, slot_less a.is_drain b.is_drain a.position b.position (omega (arith, f.1, g.1)))) (path_items x86_language t code path) later)
-    (items_at x86_language t j (slice_get code j))
+    pairwise_append IsLower (items_at x86_behaviour t j (slice_get code j)) (path_items x86_behaviour t code path) (here_sorted t j (slice_get code j)) (thread_sorted t (suc j) code path u.1)
+    (All-weaker (λ (a : Item). (a.thread ≡ t) × (a.position ≡ j)) (λ (a : Item). All (IsLower a) (path_items x86_behaviour t code path))
+    (λ a f. All-weaker (λ (b : Item). (b.thread ≡ t) × (j < b.position)) (IsLower a) (λ b g. inr (f.0 ∙ sym g.0, slot_less a.is_drain b.is_drain a.position b.position (omega (arith, f.1, g.1)))) (path_items x86_behaviour t code path) later)
+    (items_at x86_behaviour t j (slice_get code j))
     (each_here (λ (a : Item). (a.thread ≡ t) × (a.position ≡ j)) t j (slice_get code j) (λ i e. (refl, refl)) (λ i s e. (refl, refl))))
   where
-    later : All (λ (b : Item). (b.thread ≡ t) × (j < b.position)) (path_items x86_language t code path)
+    later : All (λ (b : Item). (b.thread ≡ t) × (j < b.position)) (path_items x86_behaviour t code path)
     later = each_thread (λ (b : Item). (b.thread ≡ t) × (j < b.position)) t code path (λ k i h e. (refl, goes_up_in (suc j) k path u.1 h)) (λ k i s h e. (refl, goes_up_in (suc j) k path u.1 h))
 
-all_sorted : (t : ℕ) (program : List (List Instr)) (paths : List (List ℕ)) → length paths ≡ length program → ((k : ℕ) → k < length program → GoesUp 0 (code_of paths k)) → Pairwise IsLower (items_from x86_language t program paths)
+all_sorted : (t : ℕ) (program : List (List Instr)) (paths : List (List ℕ)) → length paths ≡ length program → ((k : ℕ) → k < length program → GoesUp 0 (code_of paths k)) → Pairwise IsLower (items_from x86_behaviour t program paths)
 all_sorted t [] paths len u = tt
 all_sorted t (code ∷ program) [] len u = tt
 all_sorted t (code ∷ program) (path ∷ paths) len u =
-    pairwise_append IsLower (path_items x86_language t code path) (items_from x86_language (suc t) program paths) (thread_sorted t 0 code path (u 0 (omega arith)))
+    pairwise_append IsLower (path_items x86_behaviour t code path) (items_from x86_behaviour (suc t) program paths) (thread_sorted t 0 code path (u 0 (omega arith)))
     (all_sorted (suc t) program paths (omega arith) (λ k l. u (suc k) (omega arith)))
-    (All-weaker (λ (a : Item). a.thread ≡ t) (λ (a : Item). All (IsLower a) (items_from x86_language (suc t) program paths))
-    (λ a f. All-weaker (λ (b : Item). suc t ≤ b.thread) (IsLower a) (λ b g. inl (omega (arith, f, g))) (items_from x86_language (suc t) program paths) later)
-    (path_items x86_language t code path)
+    (All-weaker (λ (a : Item). a.thread ≡ t) (λ (a : Item). All (IsLower a) (items_from x86_behaviour (suc t) program paths))
+    (λ a f. All-weaker (λ (b : Item). suc t ≤ b.thread) (IsLower a) (λ b g. inl (omega (arith, f, g))) (items_from x86_behaviour (suc t) program paths) later)
+    (path_items x86_behaviour t code path)
     (each_thread (λ (a : Item). a.thread ≡ t) t code path (λ j i h e. refl) (λ j i s h e. refl)))
   where
-    later : All (λ (b : Item). suc t ≤ b.thread) (items_from x86_language (suc t) program paths)
+    later : All (λ (b : Item). suc t ≤ b.thread) (items_from x86_behaviour (suc t) program paths)
     later = each_item (λ (b : Item). suc t ≤ b.thread) (suc t) program paths (λ k j i l h e. omega arith) (λ k j i l s h e. omega arith)
 
 -- a choice has a path for each thread, and it is whole
@@ -231,7 +231,7 @@ whole (code ∷ program) (path ∷ paths) c (suc t) l = whole program paths c.1 
 
 module _ (program : List (List Instr)) (forward : (t : ℕ) → IsForward x86_flow (code_of program t)) (paths : List (List ℕ)) (choice : IsChoice x86_flow program paths) where
   abbrev pub items : List Item
-  items = items_of x86_language program paths
+  items = items_of x86_behaviour program paths
 
   sorted : Pairwise IsLower items
   sorted = all_sorted 0 program paths (as_many program paths choice) (λ t l. path_up (code_of program t) 0 (code_of paths t) (forward t) (whole program paths choice t l))
@@ -283,7 +283,7 @@ module _ (program : List (List Instr)) (forward : (t : ℕ) → IsForward x86_fl
       let r : IsReal program paths (item_at items i) = real i l in
       step_there program paths (item_at items i).thread (item_at items i).position r.instr (as_many program paths choice) r.within r.on r.at
 
-  pub the_drain : (i x : ℕ) (c : Instr) → i < length items → statement_of x86_language program (item_at items i) ≡ Some c → drained c ≡ Some x → Has items (drain_at (item_at items i).thread (item_at items i).position)
+  pub the_drain : (i x : ℕ) (c : Instr) → i < length items → statement_of x86_behaviour program (item_at items i) ≡ Some c → drained c ≡ Some x → Has items (drain_at (item_at items i).thread (item_at items i).position)
   the_drain i x c l at e =
       let r : IsReal program paths (item_at items i) = real i l in
       drain_there program paths (item_at items i).thread (item_at items i).position c (as_many program paths choice) r.within (x, e) r.on at

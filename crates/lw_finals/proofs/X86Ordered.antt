@@ -9,21 +9,21 @@ use Rattle.lw_base.specs.Threads.{code_of}
 use Rattle.lw_memory.specs.Flat.{flat}
 use Rattle.lw_orders.specs.Order.{place, Before, Once, Keeps, IsLinearExtension}
 use Rattle.lw_orders.specs.Sequence.{numbers}
-use Rattle.lw_orders.proofs.Places.{place-same, place-other, same_place, All-stands, order_from}
+use Rattle.lw_orders.proofs.api.Places.{place-same, place-other, same_place, All-stands, order_from}
 use Rattle.lw_tso.specs.Machines.{MachineState}
 use Rattle.lw_tso.specs.Runs.{is_final, machine_outcome}
 use Rattle.lw_litmus.specs.declared.instr.Instr.{Instr}
-use Rattle.lw_finals.specs.Choices.{IsForward, IsPathFrom, IsChoice}
-use Rattle.lw_finals.specs.Flows.{x86_flow}
-use Rattle.lw_finals.specs.declared.item.Item.{Item}
-use Rattle.lw_finals.specs.Items.{item_at, items_of, constraints_of}
+use Rattle.lw_choices.specs.Choices.{IsForward, IsPathFrom, IsChoice}
+use Rattle.lw_choices.specs.Flows.{x86_flow}
+use Rattle.lw_choices.specs.declared.item.Item.{Item}
+use Rattle.lw_choices.specs.Items.{item_at, items_of, constraints_of}
 use Rattle.lw_finals.specs.OrderRuns as runs
-use Rattle.lw_finals.specs.X86Items.{x86_language}
+use Rattle.lw_choices.specs.X86Items.{x86_behaviour}
 use Rattle.lw_finals.specs.X86Runs.{CarriedOut}
-use Rattle.lw_finals.proofs.Members.{none_in, Contains-cons, from_map}
+use Rattle.lw_choices.proofs.api.Members.{none_in, Contains-cons, from_map}
 use Rattle.lw_finals.proofs.X86Waiting.{In}
 use Rattle.lw_finals.proofs.X86Numbering.{Pairwise, Has, step_there, drain_there, IsReal, as_many, real, slot_goes_up, same_number}
-use Rattle.lw_finals.proofs.X86Pairs.{AreOrdered, keeps_all}
+use Rattle.lw_choices.proofs.api.FixedOrder.{AreOrdered, keeps_all}
 use Rattle.lw_finals.proofs.X86Taken.{IsRight, ItemsRan, IsAhead, Completed}
 
 -- the items of an order of an x86 program are carried out over the flat memory, one after another
@@ -115,8 +115,8 @@ pub record Ordered (program : List (List Instr)) (s end : MachineState (List ℕ
   pub paths : List (List ℕ)
   pub choice : IsChoice x86_flow program paths
   pub order : List ℕ
-  pub keeps : IsLinearExtension (constraints_of x86_language program (items_of x86_language program paths)) order
-  pub ran : OrderRan program (items_of x86_language program paths) order s end
+  pub keeps : IsLinearExtension (constraints_of x86_behaviour program (items_of x86_behaviour program paths)) order
+  pub ran : OrderRan program (items_of x86_behaviour program paths) order s end
 
 module _ (program : List (List Instr)) (forward : (t : ℕ) → IsForward x86_flow (code_of program t)) (s end : MachineState (List ℕ)) (many : length s.processors ≡ length program) (c : Completed program (λ t. []) s end)
     (starts : (t : ℕ) → t < length program → IsPathFrom x86_flow (code_of program t) 0 (c.paths t)) where
@@ -124,7 +124,7 @@ module _ (program : List (List Instr)) (forward : (t : ℕ) → IsForward x86_fl
   paths = map c.paths (numbers 0 (length program))
 
   abbrev its : List Item
-  its = items_of x86_language program paths
+  its = items_of x86_behaviour program paths
 
   path_is : (t : ℕ) → t < length program → code_of paths t ≡ c.paths t
   path_is t l = let e : 0 + t ≡ t = omega arith in code_listed c.paths 0 (length program) t l ∙ ap c.paths e
@@ -171,10 +171,10 @@ module _ (program : List (List Instr)) (forward : (t : ℕ) → IsForward x86_fl
       let same : m.0 ≡ i = same_number program forward paths choice m.0 i below l (ap (λ (x : Item). x.thread) m.2) (ap (λ (x : Item). x.position) m.2) (ap (λ (x : Item). x.is_drain) m.2) in
       subst (λ k. place names.order k < length names.order) same found
 
-  keeps : Keeps (constraints_of x86_language program its).fixed names.order
-  keeps = keeps_all x86_language program its names.order in_order
+  keeps : Keeps (constraints_of x86_behaviour program its).fixed names.order
+  keeps = keeps_all x86_behaviour program its names.order in_order
     where
-      in_order : (i j : ℕ) → i < j → j < length its → (item_at its i).thread ≡ (item_at its j).thread → AreOrdered x86_language program (item_at its i) (item_at its j) → Before names.order i j
+      in_order : (i j : ℕ) → i < j → j < length its → (item_at its i).thread ≡ (item_at its j).thread → AreOrdered x86_behaviour program (item_at its i) (item_at its j) → Before names.order i j
       in_order i j less l same ordered = elim (cases_order (place names.order i) (place names.order j)) [
         | inl e ↦ absurd (let g : i ≡ j = same_place names.order i j e (stands i (omega arith)) in omega arith)
         | inr (inl b) ↦ b

@@ -7,18 +7,19 @@ use Rattle.std.proofs.lemmas.Option.{same_Some, slice_get-map}
 use Rattle.lw_base.specs.Outcomes.{Final}
 use Rattle.lw_base.specs.Threads.{code_of}
 use Rattle.lw_base.specs.declared.event.Event.{Event}
-use Rattle.lw_base.proofs.Lists.{get_some}
+use Rattle.lw_base.proofs.api.Lists.{get_some}
 use Rattle.lw_memory.specs.Flat.{flat}
 use Rattle.lw_tso.specs.Machines.{MachineState}
 use Rattle.lw_tso.specs.Processors.{Processor, starting}
 use Rattle.lw_tso.specs.Runs.{MachineRan, Replays, MachineOutcome, machine_start}
 use Rattle.lw_litmus.specs.declared.instr.Instr.{Instr}
-use Rattle.lw_litmus.specs.Programs.{ProgramTest, IsWellFormedProgram}
-use Rattle.lw_finals.specs.Choices.{IsForward, IsPathFrom, IsChoice}
-use Rattle.lw_finals.specs.Flows.{x86_flow}
-use Rattle.lw_finals.specs.declared.item.Item.{Item}
-use Rattle.lw_finals.specs.Items.{items_of}
-use Rattle.lw_finals.specs.X86Items.{x86_language}
+use Rattle.lw_litmus.specs.Programs.{IsWellFormedProgram}
+use Rattle.lw_litmus.specs.Tests.{ProgramTest}
+use Rattle.lw_choices.specs.Choices.{IsForward, IsPathFrom, IsChoice}
+use Rattle.lw_choices.specs.Flows.{x86_flow}
+use Rattle.lw_choices.specs.declared.item.Item.{Item}
+use Rattle.lw_choices.specs.Items.{items_of}
+use Rattle.lw_choices.specs.X86Items.{x86_behaviour}
 use Rattle.lw_finals.specs.X86Runs.{events_of, StaysAndEnds, ChoiceOutcome}
 use Rattle.lw_finals.proofs.X86Waiting.{hold_first, forward_of}
 use Rattle.lw_finals.proofs.X86Taken.{Completed, IsSound, completed}
@@ -86,5 +87,5 @@ pub x86_outcomes : (test : ProgramTest) (o : Final) → IsWellFormedProgram test
     → MachineOutcome flat test test.head.init_words o ↔ ((paths : List (List ℕ)) × IsChoice x86_flow test.threads paths × ChoiceOutcome flat test test.head.init_words paths o)
 x86_outcomes test o ok = (
   λ (events, r). (let c : Chosen test o = complete test o events ok r in (c.paths, c.choice, c.outcome)),
-  λ (paths, choice, c). (events_of (items_of x86_language test.threads paths) c.order, order_replays test (items_of x86_language test.threads paths) c.order o c.run),
+  λ (paths, choice, c). (events_of (items_of x86_behaviour test.threads paths) c.order, order_replays test (items_of x86_behaviour test.threads paths) c.order o c.run),
 )

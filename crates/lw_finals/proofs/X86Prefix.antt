@@ -3,11 +3,11 @@ use Rattle.std.proofs.Common.{◌≡◌, ◌≢◌, ℕ, suc, ◌<◌, ◌≤◌
 use Rattle.std.proofs.lemmas.Bool.{cases_eq, cases_lt, true≢false}
 use Rattle.lw_base.specs.Threads.{code_of}
 use Rattle.lw_orders.specs.Order.{place, Before, IsOrder}
-use Rattle.lw_orders.proofs.Places.{same_place}
+use Rattle.lw_orders.proofs.api.Places.{same_place}
 use Rattle.lw_litmus.specs.declared.instr.Instr.{Instr}
-use Rattle.lw_finals.specs.declared.item.Item.{Item}
-use Rattle.lw_finals.specs.Items.{item_at, statement_of}
-use Rattle.lw_finals.specs.X86Items.{x86_language, waits_for_drains}
+use Rattle.lw_choices.specs.declared.item.Item.{Item}
+use Rattle.lw_choices.specs.Items.{item_at, statement_of}
+use Rattle.lw_choices.specs.X86Items.{x86_behaviour, waits_for_drains}
 use Rattle.lw_finals.proofs.X86Waiting.{In, in_pushed, in_last, in_cases, Climbs, climbs_in, stored, own_waits, waits_after, waits_same, waits_other}
 
 -- what waits after an item: it waited before and is not what is drained, or it is the store
@@ -46,7 +46,7 @@ module _ (program : List (List Instr)) (items : List Item) where
 
   -- the location of the entry that an item's statement makes
   abbrev pub entry_at : ℕ → Option ℕ
-  entry_at i = stored (statement_of x86_language program (it i))
+  entry_at i = stored (statement_of x86_behaviour program (it i))
 
   -- the other item of a store
   pub record Partner (i : ℕ) (b : Bool) : Type 0 where
@@ -59,7 +59,7 @@ module _ (program : List (List Instr)) (items : List Item) where
   -- What an order that keeps the fixed pairs of a choice keeps.
   pub record Standing (order : List ℕ) : Type 0 where
     pub is : IsOrder (length items) order
-    pub statement : (i : ℕ) → i < length items → (c : Instr) × (statement_of x86_language program (it i) ≡ Some c)
+    pub statement : (i : ℕ) → i < length items → (c : Instr) × (statement_of x86_behaviour program (it i) ≡ Some c)
     pub drains_entry : (d : ℕ) → d < length items → (it d).is_drain ≡ true → (x : ℕ) × (entry_at d ≡ Some x)
     pub one_item : (i j : ℕ) → i < length items → j < length items → (it i).thread ≡ (it j).thread → (it i).position ≡ (it j).position → (it i).is_drain ≡ (it j).is_drain → i ≡ j
     -- each drain has its store before it, and each store its drain behind it
@@ -69,7 +69,7 @@ module _ (program : List (List Instr)) (items : List Item) where
     pub statements : (i j : ℕ) → i < length items → j < length items → (it i).thread ≡ (it j).thread → (it i).is_drain ≡ false → (it j).is_drain ≡ false → (it i).position < (it j).position → Before order i j
     pub drains : (i j : ℕ) → i < length items → j < length items → (it i).thread ≡ (it j).thread → (it i).is_drain ≡ true → (it j).is_drain ≡ true → (it i).position < (it j).position → Before order i j
     -- and what waits for drains stands behind those before it
-    pub waiting : (d i : ℕ) (c : Instr) → d < length items → i < length items → (it d).thread ≡ (it i).thread → (it d).is_drain ≡ true → (it i).is_drain ≡ false → statement_of x86_language program (it i) ≡ Some c → waits_for_drains c ≡ true → (it d).position < (it i).position → Before order d i
+    pub waiting : (d i : ℕ) (c : Instr) → d < length items → i < length items → (it d).thread ≡ (it i).thread → (it d).is_drain ≡ true → (it i).is_drain ≡ false → statement_of x86_behaviour program (it i) ≡ Some c → waits_for_drains c ≡ true → (it d).position < (it i).position → Before order d i
 
   -- a drain that is still to come
   pub record Coming (order : List ℕ) (k t w : ℕ) : Type 0 where

@@ -1,25 +1,35 @@
 -- Runs of the orders of an x86 test's items over any memory, seen over the flat one; and their events, which lead where they do.
-use Rattle.std.proofs.Common.{◌≡◌, ℕ, ◌+◌, ◌<◌, ◌≤◌, Bool, true, false, List, [], ◌∷◌, ◌++◌, length, get_or, Ok, Err, refl, sym, ap, ◌∙◌, subst}
+use Rattle.std.proofs.Common.{◌≡◌, ℕ, ◌+◌, ◌<◌, ◌≤◌, Bool, true, false, List, [], ◌∷◌, ◌++◌, length, get_or, Some, ◌↔◌, ◌==◌, Ok, Err, refl, sym, ap, ◌∙◌, subst}
 use Rattle.std.specs.Prelude.{IsTrue}
-use Rattle.lw_base.proofs.Replays.{Ran-append}
+use Rattle.lw_base.proofs.api.Replays.{Ran-append}
+use Rattle.std.proofs.lemmas.Bool.{eqb-true, eq-eqb}
+use Rattle.std.proofs.lemmas.Option.{same_Some}
 use Rattle.lw_base.specs.Outcomes.{Final}
 use Rattle.lw_base.specs.declared.event.Event.{Event}
 use Rattle.lw_base.specs.declared.event.Event.TheVariants.{Step, Drain, Evict}
 use Rattle.lw_base.specs.declared.stop.Stop.{Stop}
 use Rattle.lw_memory.specs.Flat.{flat}
+use Rattle.lw_memory.specs.MemoryLaws.{Invariant}
 use Rattle.lw_memory.specs.Memory.{Memory}
 use Rattle.lw_tso.specs.Evictions.{without_evictions}
 use Rattle.lw_tso.specs.Exchange.{StandsAt}
-use Rattle.lw_tso.specs.Machines.{MachineState, Answer, EventDone, flatten}
+use Rattle.lw_tso.specs.Machines.{MachineState, position_of, Answer, EventDone, flatten}
 use Rattle.lw_tso.specs.Runs.{MachineRan, is_final, machine_start, machine_outcome}
 use Rattle.lw_tso.specs.Starts.{CanStart}
 use Rattle.lw_litmus.specs.declared.instr.Instr.{Instr}
-use Rattle.lw_litmus.specs.Programs.{ProgramTest}
-use Rattle.lw_finals.specs.declared.item.Item.{Item}
-use Rattle.lw_finals.specs.Items.{item_at}
+use Rattle.lw_litmus.specs.Tests.{ProgramTest}
+use Rattle.lw_choices.specs.declared.item.Item.{Item}
+use Rattle.lw_choices.specs.Items.{item_at}
 use Rattle.lw_finals.specs.OrderRuns.{OrderRan}
 use Rattle.lw_finals.specs.X86Runs.{event_by, event_of, events_of, CarriedOut, StaysAndEnds, LeadsFlat}
 use Rattle.lw_finals.proofs.OrderSteps.{RanFirst, ran_off, ran_on, ran_out, ran_whole}
+
+-- a thread that is at a position stands where an item of its statements is exactly where that is the item's
+pub item_stands : {M : Type 0} (a : Item) (s : MachineState M) (p q : ℕ) → a.is_drain ≡ false → q ≡ a.position → position_of s a.thread ≡ Some p
+    → IsTrue (p == q) ↔ StandsAt (event_of a) a.position s
+item_stands a s p q step same at =
+    subst (λ (d : Bool). IsTrue (p == q) ↔ StandsAt (event_by d a.thread) a.position s) (sym step)
+    ((λ t. at ∙ ap Some (eqb-true p q t ∙ same)), (λ h. eq-eqb p q (same_Some p a.position (sym at ∙ h) ∙ sym same)))
 
 -- an item stands for no eviction
 no_eviction : (b : Bool) (t : ℕ) (es : List Event) → without_evictions es ≡ es → without_evictions (event_by b t ∷ es) ≡ event_by b t ∷ es
@@ -63,10 +73,10 @@ module _ {M : Type 0} (mem : Memory M) where
       pub first : RanFirst (CarriedOut flat test.threads) (is_final test.threads) (machine_outcome flat) items order k (machine_start test test.head.init_words) (flatten mem now)
 
     -- the memory on which a machine was put back to the start of the test
-    pub can_start : (program threads : List (List Instr)) (words : List ℕ) → mem.sound m → length program ≤ mem.cpus m → mem.content m ≡ words → program ≡ threads → threads ≡ test.threads → words ≡ test.head.init_words
-        → CanStart mem test m
-    can_start program threads words sound cpus content same is initial =
-        record { sound = sound; cpus = subst (λ (p : List (List Instr)). length p ≤ mem.cpus m) (same ∙ is) cpus; words = content ∙ initial }
+    pub can_start : (inv : Invariant M) (program threads : List (List Instr)) (words : List ℕ) → inv.sound m → length program ≤ inv.cpus m → mem.content m ≡ words → program ≡ threads → threads ≡ test.threads → words ≡ test.head.init_words
+        → CanStart mem inv test m
+    can_start inv program threads words sound cpus content same is initial =
+        record { sound = sound; cpus = subst (λ (p : List (List Instr)). length p ≤ inv.cpus m) (same ∙ is) cpus; words = content ∙ initial }
 
     -- at the start
     pub ran_none : (order : List ℕ) (s : MachineState M) → s ≡ machine_start test m → mem.content m ≡ test.head.init_words → RanFlat order 0 s

@@ -4,11 +4,11 @@ use Rattle.std.specs.Option.{option_map_or}
 use Rattle.lw_base.specs.Threads.{code_of}
 use Rattle.lw_orders.specs.Order.{IsLinearExtension}
 use Rattle.lw_litmus.specs.declared.instr.Instr.{Instr}
-use Rattle.lw_finals.specs.Choices.{IsForward, IsChoice}
-use Rattle.lw_finals.specs.Flows.{x86_flow}
-use Rattle.lw_finals.specs.declared.item.Item.{Item}
-use Rattle.lw_finals.specs.Items.{item_at, items_of, statement_of, constraints_of}
-use Rattle.lw_finals.specs.X86Items.{x86_language, drained, waits_for_drains}
+use Rattle.lw_choices.specs.Choices.{IsForward, IsChoice}
+use Rattle.lw_choices.specs.Flows.{x86_flow}
+use Rattle.lw_choices.specs.declared.item.Item.{Item}
+use Rattle.lw_choices.specs.Items.{item_at, items_of, statement_of, constraints_of}
+use Rattle.lw_choices.specs.X86Items.{x86_behaviour, drained, waits_for_drains}
 use Rattle.lw_finals.proofs.X86Waiting.{stored}
 use Rattle.lw_finals.proofs.X86Numbering.{Has, IsReal, real, same_number, the_step, the_drain}
 use Rattle.lw_finals.proofs.X86Pairs.{statements_stand, drains_stand, drain_stands_behind, waiting_stands_behind}
@@ -16,7 +16,7 @@ use Rattle.lw_finals.proofs.X86Prefix.{Partner, Standing}
 
 module _ (program : List (List Instr)) (forward : (t : ℕ) → IsForward x86_flow (code_of program t)) (paths : List (List ℕ)) (choice : IsChoice x86_flow program paths) where
   abbrev items : List Item
-  items = items_of x86_language program paths
+  items = items_of x86_behaviour program paths
 
   abbrev at : ℕ → Item
   at i = item_at items i
@@ -35,7 +35,7 @@ module _ (program : List (List Instr)) (forward : (t : ℕ) → IsForward x86_fl
   storing None x e = absurd cc
   storing (Some c) x e = (c, refl, e)
 
-  pub standing : (order : List ℕ) → IsLinearExtension (constraints_of x86_language program items) order → Standing program items order
+  pub standing : (order : List ℕ) → IsLinearExtension (constraints_of x86_behaviour program items) order → Standing program items order
   standing order is = record {
     is = is.0;
     statement = λ i l. (let r : IsReal program paths (at i) = real program forward paths choice i l in (r.instr, r.at));
@@ -45,7 +45,7 @@ module _ (program : List (List Instr)) (forward : (t : ℕ) → IsForward x86_fl
         (let p : Partner program items d false = partner d false (the_step program forward paths choice d l) in
         (p, drain_stands_behind program forward paths choice order is.1 p.number d p.below l p.thread p.position p.is_drain f));
     drain_of = λ s x l f e.
-        (let c = storing (statement_of x86_language program (at s)) x e in
+        (let c = storing (statement_of x86_behaviour program (at s)) x e in
         let p : Partner program items s true = partner s true (the_drain program forward paths choice s x c.0 l c.1 c.2) in
         (p, drain_stands_behind program forward paths choice order is.1 s p.number l p.below (sym p.thread) (sym p.position) f p.is_drain));
     statements = statements_stand program forward paths choice order is.1;

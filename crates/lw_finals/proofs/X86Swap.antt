@@ -6,18 +6,19 @@ use Rattle.std.proofs.lemmas.Option.{same_Some, none-some}
 use Rattle.lw_base.specs.Threads.{code_of}
 use Rattle.lw_base.specs.declared.stop.Stop.{Stop}
 use Rattle.lw_base.specs.declared.stop.Stop.TheVariants.{FenceWaits, SwapWaits}
-use Rattle.lw_base.proofs.Lists.{got_set_same, got_set_other}
+use Rattle.lw_base.proofs.api.Lists.{got_set_same, got_set_other}
 use Rattle.lw_tso.specs.Acts.{Act, cpu_of, event_act, step_act, drain_act, load_act, once_empty}
 use Rattle.lw_tso.specs.Exchange as machine
 use Rattle.lw_tso.specs.Exchange.{DoNotConflict, MayPass, MayPassOldest, ArePassing, AreIndependent}
 use Rattle.lw_tso.specs.Machines.{MachineState}
 use Rattle.lw_tso.specs.Processors.{Processor, newest}
-use Rattle.lw_tso.proofs.Effects.{Does}
+use Rattle.lw_tso.proofs.api.Effects.{Does}
 use Rattle.lw_litmus.specs.declared.instr.Instr.{Instr}
 use Rattle.lw_litmus.specs.declared.instr.Instr.TheVariants.{Store, Load, Set, Add, Cmp, Xchg, Xadd, Mfence, Je, Jne, Jmp}
-use Rattle.lw_finals.specs.declared.item.Item.{Item}
-use Rattle.lw_finals.specs.Items.{statement_of, are_one, location_by, writes_by, conflict_by, do_conflict}
-use Rattle.lw_finals.specs.X86Items.{x86_language, accessed, drained, is_locked, waits_for_drains}
+use Rattle.lw_choices.specs.declared.item.Item.{Item}
+use Rattle.lw_litmus.specs.Conflicts.{is_one}
+use Rattle.lw_choices.specs.Items.{statement_of, location_by, writes_by, conflict_by, do_conflict}
+use Rattle.lw_choices.specs.X86Items.{x86_behaviour, accessed, drained, is_locked, waits_for_drains}
 use Rattle.lw_finals.specs.X86Runs.{event_by, event_of}
 use Rattle.lw_finals.proofs.X86Waiting.{In, Climbs, climbs_in, act_by, Carried, CarriedItem, Shape, step_shape, DrainShape, drain_shape, Waits, stored, own_waits, waits_after, waits_same, AllHold}
 use Rattle.lw_finals.proofs.X86Prefix.{own_in}
@@ -56,7 +57,7 @@ drain_touches code k ws (f ∷ b) q z h w at e = ap drained (same_Some _ _ (sym 
 
 touches : (program : List (List Instr)) (t j : ℕ) (i : Instr) (s mid : MachineState (List ℕ)) (W : ℕ → List ℕ) → slice_get (code_of program t) j ≡ Some i → AllHold program W s
     → (b : Bool) (c : Carried program t j b s mid) → (b ≡ true → (rest : List ℕ) × (W t ≡ j ∷ rest)) → (z : ℕ) → machine.accessed (act_by program t b c.old) ≡ Some z
-    → (location_by x86_language b i ≡ Some z) × (machine.writes (act_by program t b c.old) ≡ true → writes_by x86_language b i ≡ true)
+    → (location_by x86_behaviour b i ≡ Some z) × (machine.writes (act_by program t b c.old) ≡ true → writes_by x86_behaviour b i ≡ true)
 touches program t j i s mid W at hold true c head z e =
     let h = head refl in
     (drain_touches (code_of program t) j h.0 c.old.buffer c.old z i (subst (λ ws. Waits (code_of program t) ws c.old.buffer) h.1 (hold t c.old c.was).waits) at e, λ f. refl)
@@ -66,11 +67,11 @@ touches program t j i s mid W at hold false c head z e =
     (r.0, λ f. r.1 (ap (λ o. machine.writes (step_act o c.old)) (sym here) ∙ f))
 
 -- items on one location of which one writes conflict
-conflicting : (b c : Bool) (i h : Instr) (z : ℕ) → location_by x86_language b i ≡ Some z → location_by x86_language c h ≡ Some z → (writes_by x86_language b i || writes_by x86_language c h) ≡ true
-    → conflict_by x86_language b c (Some i) (Some h) ≡ true
+conflicting : (b c : Bool) (i h : Instr) (z : ℕ) → location_by x86_behaviour b i ≡ Some z → location_by x86_behaviour c h ≡ Some z → (writes_by x86_behaviour b i || writes_by x86_behaviour c h) ≡ true
+    → conflict_by x86_behaviour b c (Some i) (Some h) ≡ true
 conflicting b c i h z e f w =
-    and_from (are_one (location_by x86_language b i) (location_by x86_language c h)) (writes_by x86_language b i || writes_by x86_language c h)
-    (ap (λ o. are_one o (location_by x86_language c h)) e ∙ (ap (λ o. are_one (Some z) o) f ∙ eq-eqb z z refl)) w
+    and_from (is_one (location_by x86_behaviour b i) (location_by x86_behaviour c h)) (writes_by x86_behaviour b i || writes_by x86_behaviour c h)
+    (ap (λ o. is_one o (location_by x86_behaviour c h)) e ∙ (ap (λ o. is_one (Some z) o) f ∙ eq-eqb z z refl)) w
 
 -- ---- an instruction beside a drain
 
@@ -108,7 +109,7 @@ module _ (program : List (List Instr)) (W : ℕ → List ℕ) (s m1 m2 : Machine
   -- of one thread
   passing : (t j k : ℕ) (i h : Instr) (o : Option ℕ) (b c : Bool) → slice_get (code_of program t) j ≡ Some i → slice_get (code_of program t) k ≡ Some h
       → (b ≡ true → (rest : List ℕ) × (W t ≡ j ∷ rest)) → (c ≡ true → (rest : List ℕ) × (own_waits b o j (W t) ≡ k ∷ rest))
-      → (conflict_by x86_language b c (Some i) (Some h) ≡ true → ⊥) → Unfixed b c h j k
+      → (conflict_by x86_behaviour b c (Some i) (Some h) ≡ true → ⊥) → Unfixed b c h j k
       → (x : Carried program t j b s m1) → Carried program t k c m1 m2 → ArePassing program (event_by b t) (event_by c t) x.old
   passing t j k i h o false false ati ath headx heady never free x y = absurd (free.unlike refl)
   passing t j k i h o true true ati ath headx heady never free x y = absurd (free.unlike refl)
@@ -143,7 +144,7 @@ module _ (program : List (List Instr)) (W : ℕ → List ℕ) (s m1 m2 : Machine
   -- of two threads
   apart : (t u j k : ℕ) (i h : Instr) (b c : Bool) (V : ℕ → List ℕ) → t ≢ u → slice_get (code_of program t) j ≡ Some i → slice_get (code_of program u) k ≡ Some h → AllHold program V m1
       → (b ≡ true → (rest : List ℕ) × (W t ≡ j ∷ rest)) → (c ≡ true → (rest : List ℕ) × (V u ≡ k ∷ rest))
-      → (conflict_by x86_language b c (Some i) (Some h) ≡ true → ⊥) → Carried program t j b s m1 → Carried program u k c m1 m2
+      → (conflict_by x86_behaviour b c (Some i) (Some h) ≡ true → ⊥) → Carried program t j b s m1 → Carried program u k c m1 m2
       → (p q : Processor) → slice_get s.processors t ≡ Some p → slice_get s.processors u ≡ Some q → DoNotConflict (act_by program t b p) (act_by program u c q)
   apart t u j k i h b c V ne ati ath hold1 headx heady never x y p q e f z az bz =
       let xs : x.old ≡ p = same_Some x.old p (sym x.was ∙ e) in
@@ -151,9 +152,9 @@ module _ (program : List (List Instr)) (W : ℕ → List ℕ) (s m1 m2 : Machine
       let one = touches program t j i s m1 W ati hold b x headx z (ap (λ r. machine.accessed (act_by program t b r)) xs ∙ az) in
       let two = touches program u k h m1 m2 V ath hold1 c y heady z (ap (λ r. machine.accessed (act_by program u c r)) ys ∙ bz) in (
         false_from_ne_true (machine.writes (act_by program t b p)) (λ w. never (conflicting b c i h z one.0 two.0
-            (or_left (writes_by x86_language b i) (writes_by x86_language c h) (one.1 (ap (λ r. machine.writes (act_by program t b r)) xs ∙ w))))),
+            (or_left (writes_by x86_behaviour b i) (writes_by x86_behaviour c h) (one.1 (ap (λ r. machine.writes (act_by program t b r)) xs ∙ w))))),
         false_from_ne_true (machine.writes (act_by program u c q)) (λ w. never (conflicting b c i h z one.0 two.0
-            (or_right (writes_by x86_language b i) (writes_by x86_language c h) (two.1 (ap (λ r. machine.writes (act_by program u c r)) ys ∙ w))))),
+            (or_right (writes_by x86_behaviour b i) (writes_by x86_behaviour c h) (two.1 (ap (λ r. machine.writes (act_by program u c r)) ys ∙ w))))),
       )
 
   act_is : (locs t : ℕ) (b : Bool) (p : Processor) → event_act program locs (event_by b t) p ≡ act_by program t b p
@@ -164,9 +165,9 @@ module _ (program : List (List Instr)) (W : ℕ → List ℕ) (s m1 m2 : Machine
   cpu_is true t = refl
   cpu_is false t = refl
 
-  pub independent : (a b : Item) (i h : Instr) → statement_of x86_language program a ≡ Some i → statement_of x86_language program b ≡ Some h → AllHold program (waits_after program a W) m1
+  pub independent : (a b : Item) (i h : Instr) → statement_of x86_behaviour program a ≡ Some i → statement_of x86_behaviour program b ≡ Some h → AllHold program (waits_after program a W) m1
       → (a.is_drain ≡ true → (rest : List ℕ) × (W a.thread ≡ a.position ∷ rest)) → (b.is_drain ≡ true → (rest : List ℕ) × (waits_after program a W b.thread ≡ b.position ∷ rest))
-      → (do_conflict x86_language program a b ≡ true → ⊥) → (a.thread ≡ b.thread → Unfixed a.is_drain b.is_drain h a.position b.position)
+      → (do_conflict x86_behaviour program a b ≡ true → ⊥) → (a.thread ≡ b.thread → Unfixed a.is_drain b.is_drain h a.position b.position)
       → CarriedItem program a s m1 → CarriedItem program b m1 m2 → AreIndependent program (event_of a) (event_of b) s
   independent a b i h ati ath hold1 heada headb free unfixed x y = record {
     of_two = λ ne p q e f.
@@ -181,10 +182,10 @@ module _ (program : List (List Instr)) (W : ℕ → List ℕ) (s m1 m2 : Machine
         let is : x.old ≡ p = same_Some x.old p (sym x.was ∙ (ap (slice_get s.processors) (sym (cpu_is a.is_drain a.thread)) ∙ e)) in
         subst (λ u. ArePassing program (event_of a) (event_by b.is_drain u) p) one
         (subst (λ r. ArePassing program (event_of a) (event_by b.is_drain a.thread) r) is
-        (passing a.thread a.position b.position i h (stored (statement_of x86_language program a)) a.is_drain b.is_drain ati (subst (λ u. slice_get (code_of program u) b.position ≡ Some h) (sym one) ath) heada
+        (passing a.thread a.position b.position i h (stored (statement_of x86_behaviour program a)) a.is_drain b.is_drain ati (subst (λ u. slice_get (code_of program u) b.position ≡ Some h) (sym one) ath) heada
         (λ f. (let r = headb f in (r.0, sym (waits_same program a W a.thread refl) ∙ (ap (waits_after program a W) one ∙ r.1))))
         never (unfixed one) x (subst (λ u. Carried program u b.position b.is_drain m1 m2) (sym one) y))));
   }
     where
-      never : conflict_by x86_language a.is_drain b.is_drain (Some i) (Some h) ≡ true → ⊥
-      never e = free (ap (λ o. conflict_by x86_language a.is_drain b.is_drain o (statement_of x86_language program b)) ati ∙ (ap (λ o. conflict_by x86_language a.is_drain b.is_drain (Some i) o) ath ∙ e))
+      never : conflict_by x86_behaviour a.is_drain b.is_drain (Some i) (Some h) ≡ true → ⊥
+      never e = free (ap (λ o. conflict_by x86_behaviour a.is_drain b.is_drain o (statement_of x86_behaviour program b)) ati ∙ (ap (λ o. conflict_by x86_behaviour a.is_drain b.is_drain (Some i) o) ath ∙ e))

@@ -10,27 +10,27 @@ use Rattle.lw_base.specs.Threads.{code_of}
 use Rattle.lw_base.specs.declared.event.Event.{Event}
 use Rattle.lw_base.specs.declared.event.Event.TheVariants.{Step, Drain, Evict}
 use Rattle.lw_base.specs.declared.operand.Operand.{Operand}
-use Rattle.lw_base.proofs.Lists.{get_some, got_set_same, got_set_other, at_index, each_after}
-use Rattle.lw_fence.proofs.Lists.{zip_passes}
+use Rattle.lw_base.proofs.api.Lists.{get_some, got_set_same, got_set_other, at_index, each_after}
+use Rattle.lw_base.proofs.api.SideBySide.{zip_passes}
 use Rattle.lw_memory.specs.Flat.{flat}
 use Rattle.lw_tso.specs.Acts.{step_act}
 use Rattle.lw_tso.specs.Machines.{MachineState}
 use Rattle.lw_tso.specs.Processors.{Processor}
 use Rattle.lw_tso.specs.Runs.{is_done, is_final, MachineRan}
-use Rattle.lw_tso.proofs.Effects.{Does, Did, leads_to, no_eviction}
+use Rattle.lw_tso.proofs.api.Effects.{Does, Did, leads_to, no_eviction}
 use Rattle.lw_litmus.specs.declared.instr.Instr.{Instr}
 use Rattle.lw_litmus.specs.declared.instr.Instr.TheVariants.{Store}
-use Rattle.lw_finals.specs.Choices.{IsForward, Follows, IsPathFrom}
-use Rattle.lw_finals.specs.Flows.{x86_flow}
-use Rattle.lw_finals.specs.declared.item.Item.{Item}
-use Rattle.lw_finals.specs.X86Items.{x86_language, drained, waits_for_drains}
+use Rattle.lw_choices.specs.Choices.{IsForward, Follows, IsPathFrom}
+use Rattle.lw_choices.specs.Flows.{x86_flow}
+use Rattle.lw_choices.specs.declared.item.Item.{Item}
+use Rattle.lw_choices.specs.X86Items.{x86_behaviour, drained, waits_for_drains}
 use Rattle.lw_finals.specs.X86Runs.{CarriedOut}
-use Rattle.lw_finals.proofs.Led.{follows_within}
-use Rattle.lw_finals.proofs.Members.{Contains-here, Contains-there}
+use Rattle.lw_choices.proofs.api.Led.{follows_within}
+use Rattle.lw_choices.proofs.api.Members.{Contains-here, Contains-there}
 use Rattle.lw_finals.proofs.X86Waiting.{In, Climbs, climbs_in, Carried, carried, Shape, step_shape, DrainShape, drain_shape, Waits, stored, own_waits, waits_after, waits_same, waits_other, Holds, AllHold, all_hold}
 use Rattle.lw_finals.proofs.X86Prefix.{own_in, own_store, own_keeps}
 use Rattle.lw_finals.proofs.X86Numbering.{Pairwise, step_at, drain_at, IsStoring, slot, slot_by, GoesUp, goes_up_in, path_up}
-use Rattle.lw_finals.proofs.X86Pairs.{AreOrdered}
+use Rattle.lw_choices.proofs.api.FixedOrder.{AreOrdered}
 
 no_waits : (code : List Instr) (ws : List ℕ) → Waits code ws [] → (j : ℕ) → In j ws → ⊥
 no_waits code [] h j g = g
@@ -59,7 +59,7 @@ ended program processors t p l final e =
 module _ (program : List (List Instr)) where
   -- a comes before b with right: no fixed pair says the opposite
   abbrev pub IsRight : Item → Item → Type 0
-  IsRight a b = a.thread ≡ b.thread → slot b ≤ slot a → AreOrdered x86_language program b a → ⊥
+  IsRight a b = a.thread ≡ b.thread → slot b ≤ slot a → AreOrdered x86_behaviour program b a → ⊥
 
   -- items are carried out, one after another
   abbrev pub ItemsRan : List Item → MachineState (List ℕ) → MachineState (List ℕ) → Type 0
@@ -190,7 +190,7 @@ module _ (program : List (List Instr)) where
       stored_at : stored (slice_get (code_of program t) j) ≡ drained i
       stored_at = ap stored at
 
-      waits_at : AreOrdered x86_language program (drain_at t j) (item t j false) → waits_for_drains i ≡ true
+      waits_at : AreOrdered x86_behaviour program (drain_at t j) (item t j false) → waits_for_drains i ≡ true
       waits_at ordered = elim (ordered refl) [
         | inl e ↦ absurd (true≢false (sym e))
         | inr e ↦ sym (ap (λ (o : Option Instr). option_map_or waits_for_drains o false) at) ∙ e

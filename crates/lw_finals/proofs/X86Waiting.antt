@@ -10,26 +10,27 @@ use Rattle.lw_base.specs.Threads.{code_of, value_of}
 use Rattle.lw_base.specs.declared.operand.Operand.{Operand}
 use Rattle.lw_base.specs.declared.stop.Stop.{Stop}
 use Rattle.lw_base.specs.declared.stop.Stop.TheVariants.{FenceWaits, SwapWaits}
-use Rattle.lw_base.proofs.Lists.{got_set_same, got_set_other}
-use Rattle.lw_litmus.specs.Tests.{IsThread}
+use Rattle.lw_base.proofs.api.Lists.{got_set_same, got_set_other}
+use Rattle.lw_litmus.specs.WellFormed.{IsThread}
 use Rattle.lw_memory.specs.Flat.{flat}
 use Rattle.lw_tso.specs.Acts.{Act, step_act, drain_act, load_act, once_empty}
 use Rattle.lw_tso.specs.Exchange.{DoneAt}
 use Rattle.lw_tso.specs.Machines.{MachineState}
 use Rattle.lw_tso.specs.Processors.{Processor, newest, going_on, getting, starting}
 use Rattle.lw_tso.specs.Runs.{machine_start}
-use Rattle.lw_tso.proofs.Effects.{state, Does, Did, leads_to}
+use Rattle.lw_tso.proofs.api.Effects.{state, Does, Did, leads_to}
 use Rattle.lw_litmus.specs.declared.instr.Instr.{Instr}
 use Rattle.lw_litmus.specs.declared.instr.Instr.TheVariants.{Store, Load, Set, Add, Cmp, Xchg, Xadd, Mfence, Je, Jne, Jmp}
-use Rattle.lw_litmus.specs.Programs.{ProgramTest, IsWellFormedProgram, x86}
-use Rattle.lw_finals.specs.Choices.{IsForward, Follows}
-use Rattle.lw_finals.specs.Flows.{x86_flow}
-use Rattle.lw_finals.specs.declared.item.Item.{Item}
-use Rattle.lw_finals.specs.Items.{statement_of}
-use Rattle.lw_finals.specs.X86Items.{x86_language, drained, waits_for_drains}
+use Rattle.lw_litmus.specs.Programs.{IsWellFormedProgram, x86}
+use Rattle.lw_litmus.specs.Tests.{ProgramTest}
+use Rattle.lw_choices.specs.Choices.{IsForward, Follows}
+use Rattle.lw_choices.specs.Flows.{x86_flow}
+use Rattle.lw_choices.specs.declared.item.Item.{Item}
+use Rattle.lw_choices.specs.Items.{statement_of}
+use Rattle.lw_choices.specs.X86Items.{drained, waits_for_drains, x86_behaviour}
 use Rattle.lw_finals.specs.X86Runs.{event_by, CarriedOut}
-use Rattle.lw_finals.proofs.Led.{follows_within, next_or-has}
-use Rattle.lw_finals.proofs.Members.{Contains-here}
+use Rattle.lw_choices.proofs.api.Led.{follows_within, next_or-has}
+use Rattle.lw_choices.proofs.api.Members.{Contains-here}
 
 -- ---- lists of positions
 
@@ -210,13 +211,13 @@ own_waits false (Some x) j ws = ws ++ j ∷ []
 
 -- of each thread
 abbrev pub waits_after : List (List Instr) → Item → (ℕ → List ℕ) → ℕ → List ℕ
-waits_after program a W u = if a.thread == u then own_waits a.is_drain (stored (statement_of x86_language program a)) a.position (W u) else W u
+waits_after program a W u = if a.thread == u then own_waits a.is_drain (stored (statement_of x86_behaviour program a)) a.position (W u) else W u
 
-pub waits_same : (program : List (List Instr)) (a : Item) (W : ℕ → List ℕ) (u : ℕ) → a.thread ≡ u → waits_after program a W u ≡ own_waits a.is_drain (stored (statement_of x86_language program a)) a.position (W u)
-waits_same program a W u e = cond-true (a.thread == u) (own_waits a.is_drain (stored (statement_of x86_language program a)) a.position (W u)) (W u) (eq-eqb a.thread u e)
+pub waits_same : (program : List (List Instr)) (a : Item) (W : ℕ → List ℕ) (u : ℕ) → a.thread ≡ u → waits_after program a W u ≡ own_waits a.is_drain (stored (statement_of x86_behaviour program a)) a.position (W u)
+waits_same program a W u e = cond-true (a.thread == u) (own_waits a.is_drain (stored (statement_of x86_behaviour program a)) a.position (W u)) (W u) (eq-eqb a.thread u e)
 
 pub waits_other : (program : List (List Instr)) (a : Item) (W : ℕ → List ℕ) (u : ℕ) → a.thread ≢ u → waits_after program a W u ≡ W u
-waits_other program a W u ne = cond-false (a.thread == u) (own_waits a.is_drain (stored (statement_of x86_language program a)) a.position (W u)) (W u) (ne_eqb a.thread u ne)
+waits_other program a W u ne = cond-false (a.thread == u) (own_waits a.is_drain (stored (statement_of x86_behaviour program a)) a.position (W u)) (W u) (ne_eqb a.thread u ne)
 
 -- a processor, and the stores that wait in its buffer
 pub record Holds (code : List Instr) (ws : List ℕ) (p : Processor) : Type 0 where
@@ -265,7 +266,7 @@ module _ (program : List (List Instr)) (forward : (t : ℕ) → IsForward x86_fl
       }
 
   -- each item that is carried out keeps it
-  pub all_hold : (a : Item) (i : Instr) (W : ℕ → List ℕ) (s mid : MachineState (List ℕ)) → CarriedItem program a s mid → statement_of x86_language program a ≡ Some i → AllHold program W s → AllHold program (waits_after program a W) mid
+  pub all_hold : (a : Item) (i : Instr) (W : ℕ → List ℕ) (s mid : MachineState (List ℕ)) → CarriedItem program a s mid → statement_of x86_behaviour program a ≡ Some i → AllHold program W s → AllHold program (waits_after program a W) mid
   all_hold a i W s mid c at h t q e =
       let got : slice_get (slice_set s.processors a.thread c.new) t ≡ Some q = ap (λ (z : MachineState (List ℕ)). slice_get z.processors t) (sym c.is) ∙ e in
       elim (cases_eq a.thread t) [

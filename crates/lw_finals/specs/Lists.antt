@@ -3,10 +3,9 @@ use Rattle.std.specs.Prelude.{◌↔◌, ℕ, All, Contains, List}
 use Rattle.lw_base.specs.Outcomes.{Final}
 use Rattle.lw_fence.specs.Compiling.{IsCompiled}
 use Rattle.lw_mesi.specs.declared.protocol.Protocol.{Protocol}
-use Rattle.lw_litmus.specs.Sources.{SourceTest}
-use Rattle.lw_litmus.specs.Programs.{ProgramTest}
-use Rattle.lw_finals.specs.Listings.{Entries, outcomes_of}
-use Rattle.lw_finals.specs.Machines.{ReplaysOverCaches, OutcomeOverCaches}
+use Rattle.lw_litmus.specs.Tests.{SourceTest, ProgramTest}
+use Rattle.lw_listing.specs.Listings.{Entries, outcomes_of}
+use Rattle.lw_whole.specs.OverCaches.{ReplaysOverCaches, OutcomeOverCaches}
 
 -- The outcomes are exactly those that the test's compiled program reaches on the whole machine, over all schedules of steps,
 -- drains and evictions; and each schedule leads there to its outcome.

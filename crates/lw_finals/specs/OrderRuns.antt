@@ -2,8 +2,8 @@
 use Rattle.std.specs.Prelude.{◌≡◌, ℕ, Bool, List, [], ◌∷◌, IsTrue}
 use Rattle.lw_base.specs.Outcomes.{Final}
 use Rattle.lw_orders.specs.Order.{IsLinearExtension}
-use Rattle.lw_finals.specs.declared.item.Item.{Item}
-use Rattle.lw_finals.specs.Items.{Language, item_at, items_of, constraints_of}
+use Rattle.lw_choices.specs.declared.item.Item.{Item}
+use Rattle.lw_choices.specs.Items.{Behaviour, item_at, items_of, constraints_of}
 
 -- An item is carried out, from a state to another. Some states are final, and each has an outcome.
 module _ {State : Type 0} (Carried : Item → State → State → Type 0) (is_final : State → Bool) (outcome_of : State → Final) where
@@ -20,7 +20,7 @@ module _ {State : Type 0} (Carried : Item → State → State → Type 0) (is_fi
     pub is : o ≡ outcome_of end
 
   -- An outcome of a choice of paths: that of an order of its items that keeps the fixed pairs.
-  pub record ChoiceOutcome {S : Type 0} (language : Language S) (program : List (List S)) (start : State) (paths : List (List ℕ)) (o : Final) : Type 0 where
+  pub record ChoiceOutcome {S : Type 0} (behaviour : Behaviour S) (program : List (List S)) (start : State) (paths : List (List ℕ)) (o : Final) : Type 0 where
     pub order : List ℕ
-    pub keeps : IsLinearExtension (constraints_of language program (items_of language program paths)) order
-    pub run : StaysAndEnds start (items_of language program paths) order o
+    pub keeps : IsLinearExtension (constraints_of behaviour program (items_of behaviour program paths)) order
+    pub run : StaysAndEnds start (items_of behaviour program paths) order o

@@ -1,28 +1,23 @@
--- What runs the orders of a source test's items: the test, with what it is compiled to.
-use Rattle.std.specs.Prelude.{ℕ, List, map}
+-- Runs of orders of a source test's items.
+use Rattle.std.specs.Prelude.{◌≡◌, ℕ, Some, Ok, List}
 use Rattle.lw_base.specs.Outcomes.{Final}
-use Rattle.lw_base.specs.declared.event.Event.{Event}
-use Rattle.lw_litmus.specs.Sources.{SourceTest}
-use Rattle.lw_litmus.specs.Programs.{ProgramTest}
-use Rattle.lw_finals.specs.declared.item.Item.{Item}
-use Rattle.lw_finals.specs.Items.{item_at}
-use Rattle.lw_finals.specs.X86Runs.{LeadsFlat}
+use Rattle.lw_litmus.specs.declared.stmt.Stmt.{Stmt}
+use Rattle.lw_litmus.specs.Tests.{SourceTest}
+use Rattle.lw_interleaving.specs.Steps.{position_of}
+use Rattle.lw_interleaving.specs.Runs.{State, source_step, start_of, is_final, outcome_of}
+use Rattle.lw_choices.specs.SourceItems.{source_behaviour}
+use Rattle.lw_choices.specs.declared.item.Item.{Item}
+use Rattle.lw_finals.specs.OrderRuns as runs
 
--- a source test, the program that it is compiled to, and where its statements start
-pub record CompiledSource : Type 0 where
-  pub source : SourceTest
-  pub program : ProgramTest
-  pub starts : List (List ℕ)
+-- the item's thread is at the item's statement, and carries it out
+abbrev pub CarriedOut : List (List Stmt) → Item → State → State → Type 0
+CarriedOut program item s next =
+    (position_of s item.thread ≡ Some item.position) × (source_step program item.thread s ≡ Ok next)
 
--- and the outcome with which its last run ended
-pub record SourceRunning : Type 0 where
-  pub test : CompiledSource
-  pub end : Final
+-- An order of items of a source test stays on the chosen paths, and ends with an outcome.
+abbrev pub StaysAndEnds : SourceTest → List Item → List ℕ → Final → Type 0
+StaysAndEnds s = runs.StaysAndEnds (CarriedOut s.threads) (is_final s.threads) outcome_of (start_of s)
 
--- the threads of an order's items
-abbrev pub threads_of : List Item → List ℕ → List ℕ
-threads_of items order = map (λ i. (item_at items i).thread) order
-
--- A schedule without evictions replays over flat memory, in the compiled program, to an outcome.
-abbrev pub leads_flat : CompiledSource → List Event → Final → Type 0
-leads_flat t = LeadsFlat t.program
+-- an outcome of a choice of paths of a source test
+abbrev pub ChoiceOutcome : SourceTest → List (List ℕ) → Final → Type 0
+ChoiceOutcome s = runs.ChoiceOutcome (CarriedOut s.threads) (is_final s.threads) outcome_of source_behaviour s.threads (start_of s)

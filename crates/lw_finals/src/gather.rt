@@ -3,22 +3,18 @@ ghost use Rattle.std.specs.Prelude.{◌≡◌, ◌<◌, ◌≤◌, [], length, A
 ghost use Rattle.lw_orders.specs.Order.{count_of};
 ghost use Rattle.lw_orders.specs.Sequence.{orders};
 ghost use Rattle.lw_orders.specs.Limits.{most_items, most_orders};
-ghost use Rattle.lw_finals.specs.Counts.{total_of, HasTooManyItems, TellsOfChoice, TellsOfChoices, TellsOfGiven, TellsLimit, IsWithinLimits};
-ghost use Rattle.lw_finals.specs.Gathered.{Gathers, EndsOfOrders, EndsOfItems, EndsOfChoice, EndsOfProgram};
-ghost use Rattle.lw_finals.specs.Listings.{IsStrictlySorted};
-ghost use Rattle.lw_finals.specs.Visits.{IsVisitable};
+ghost use Rattle.lw_choices.specs.Counts.{TellsOfChoice, TellsOfGiven, TellsLimit, IsWithinLimits};
+ghost use Rattle.lw_finals.specs.inner.Gathered.{Gathers, EndsOfOrders, EndsOfItems, EndsOfChoice, EndsOfProgram};
+ghost use Rattle.lw_listing.specs.Listings.{IsStrictlySorted};
+ghost use Rattle.lw_choices.specs.Visits.{IsVisitable};
 
-use crate::conflicts::conflicts_of;
-use crate::count::{Counter, constrained, fill_few_items};
-use crate::fault::ListFault;
-use crate::item::Item;
-use crate::listing::{Findings, Listing};
-use crate::path::Choice;
 use crate::runner::OrderRunner;
-use crate::size::check_items;
-use crate::statement::Statement;
-use crate::visit::{Visitor, visit_choices};
 use lw_base::Sequence;
+use lw_choices::{
+    Choice, Item, ListFault, Statement, Visitor, check_limits, conflicts_of, constrained,
+    fill_few_items, visit_choices,
+};
+use lw_listing::{Findings, Listing};
 use lw_orders::{Items, Order, Orders, count, one_order_goes_up};
 use std::alloc::{AllocError, Allocator};
 
@@ -74,9 +70,9 @@ fn gather_items<S: Statement, A: Allocator + Copy, B: Allocator, R: OrderRunner<
     requires { length items.now ≤ most_items }
     ensures same { R.test runner.new ≡ R.test runner.old }
     ensures gathered { OnOk result (Gathers
-        (EndsOfItems S.language (R.ends (R.test runner.old)) program.now items.now)
+        (EndsOfItems S.behaviour (R.ends (R.test runner.old)) program.now items.now)
         (R.leads (R.test runner.old)) found.old found.new) }
-    ensures err { IfErr result (TellsOfGiven S.language program.now items.now) }
+    ensures err { IfErr result (TellsOfGiven S.behaviour program.now items.now) }
 {
     let conflicts = conflicts_of(alloc, program, items)?;
     if conflicts.is_empty() {
@@ -108,9 +104,9 @@ impl<'a, S: Statement, A: Allocator + Copy, B: Allocator, R: OrderRunner<A> + Dr
     type Fault = ListFault;
 
     ghost visits = { λ v paths w. (w.program.now ≡ v.program.now) × (R.test w.runner ≡ R.test v.runner)
-        × Gathers (EndsOfChoice S.language (R.ends (R.test v.runner)) v.program.now paths) (R.leads (R.test v.runner)) v.found w.found };
+        × Gathers (EndsOfChoice S.behaviour (R.ends (R.test v.runner)) v.program.now paths) (R.leads (R.test v.runner)) v.found w.found };
 
-    ghost refuses = { λ v paths e. TellsOfChoice S.language v.program.now 0 paths e };
+    ghost refuses = { λ v paths e. TellsOfChoice S.behaviour v.program.now 0 paths e };
 
     fn visit(&mut self, choice: &Choice) -> Result<(), ListFault> {
         fill_few_items(self.program, choice, &mut self.items)?;
@@ -124,38 +120,6 @@ impl<'a, S: Statement, A: Allocator + Copy, B: Allocator, R: OrderRunner<A> + Dr
     }
 }
 
-/// Whether the orders of a program are not too many.
-fn check_orders<S: Statement, A: Allocator + Copy, B: Allocator>(
-    alloc: A,
-    program: &[Sequence<S, B>],
-) -> Result<(), ListFault>
-    requires { IsVisitable S.language.flow program.now }
-    ensures items { OnOk result (HasTooManyItems S.language program.now → ⊥) }
-    ensures orders { OnOk result (total_of S.language program.now ≤ most_orders) }
-    ensures err { IfErr result (TellsOfChoices S.language program.now) }
-{
-    let mut counter = Counter {
-        alloc,
-        program,
-        items: Vec::new(alloc),
-        total: 0,
-    };
-    visit_choices(program, &mut counter)
-}
-
-/// Whether a program is within the limits of a list: its items are looked at first.
-fn check_limits<S: Statement, A: Allocator + Copy, B: Allocator>(
-    alloc: A,
-    program: &[Sequence<S, B>],
-) -> Result<(), ListFault>
-    requires { IsVisitable S.language.flow program.now }
-    ensures within { OnOk result (IsWithinLimits S.language program.now) }
-    ensures err { IfErr result (TellsLimit S.language program.now) }
-{
-    check_items(program)?;
-    check_orders(alloc, program)
-}
-
 /// The list of the outcomes of a program: what the orders end with that are given for its choices.
 pub(crate) fn list_program<
     S: Statement,
@@ -163,12 +127,12 @@ pub(crate) fn list_program<
     B: Allocator,
     R: OrderRunner<A> + Drop,
 >(alloc: A, program: &[Sequence<S, B>], runner: R) -> Result<Listing<A>, ListFault>
-    requires { IsVisitable S.language.flow program.now }
-    ensures within { OnOk result (IsWithinLimits S.language program.now) }
-    ensures err { IfErr result (TellsLimit S.language program.now) }
+    requires { IsVisitable S.behaviour.flow program.now }
+    ensures within { OnOk result (IsWithinLimits S.behaviour program.now) }
+    ensures err { IfErr result (TellsLimit S.behaviour program.now) }
     ensures sorted { IfOk result (λ l. IsStrictlySorted l) }
     ensures gathered { IfOk result (λ l. Gathers
-        (EndsOfProgram S.language (R.ends (R.test runner)) program.now) (R.leads (R.test runner)) [] l) }
+        (EndsOfProgram S.behaviour (R.ends (R.test runner)) program.now) (R.leads (R.test runner)) [] l) }
 {
     check_limits(alloc, program)?;
     let mut gatherer = Gatherer {

@@ -5,26 +5,27 @@ ghost use Rattle.lw_base.specs.Outcomes.{Final};
 ghost use Rattle.lw_mesi.specs.declared.protocol.Protocol.{Protocol};
 ghost use Rattle.lw_interleaving.specs.Runs.{SourceOutcome};
 ghost use Rattle.lw_litmus.specs.Views.{source_of, program_of};
-ghost use Rattle.lw_finals.specs.Counts.{TellsLimit, IsWithinLimits};
-ghost use Rattle.lw_finals.specs.Listings.{outcomes_of, IsStrictlySorted, IsEntryOf};
+ghost use Rattle.lw_choices.specs.Counts.{TellsLimit, IsWithinLimits};
+ghost use Rattle.lw_base.specs.Entries.{IsEntryOf};
+ghost use Rattle.lw_listing.specs.Listings.{outcomes_of, IsStrictlySorted};
 ghost use Rattle.lw_finals.specs.Lists.{ListsMachine};
-ghost use Rattle.lw_finals.specs.Machines.{ReplaysOverCaches, OutcomeOverCaches};
-ghost use Rattle.lw_finals.specs.SourceItems.{source_language};
-ghost use Rattle.lw_finals.specs.X86Items.{x86_language};
+ghost use Rattle.lw_whole.specs.OverCaches.{ReplaysOverCaches, OutcomeOverCaches};
+ghost use Rattle.lw_choices.specs.SourceItems.{source_behaviour};
+ghost use Rattle.lw_choices.specs.X86Items.{x86_behaviour};
 
-use crate::fault::ListFault;
 use crate::gather::list_program;
 use crate::laws::{alike_x86_orders_end_alike, x86_outcomes_are_those_of_choices};
-use crate::listing::Listing;
-use crate::machines::{
+use crate::source_runner::SourceRunner;
+use crate::x86_runner::X86Runner;
+use lw_choices::ListFault;
+use lw_fence::compile;
+use lw_listing::Listing;
+use lw_litmus::{Program, Source};
+use lw_orders::orders_are_complete;
+use lw_whole::{
     outcomes_over_caches_are_flat, replays_over_caches_are_flat,
     replays_over_caches_are_of_their_test,
 };
-use crate::source_runner::SourceRunner;
-use crate::x86_runner::X86Runner;
-use lw_fence::compile;
-use lw_litmus::{Program, Source};
-use lw_orders::orders_are_complete;
 use std::alloc::Allocator;
 
 /// The list of all final states of a source test, each with a schedule of the program that it is compiled to.
@@ -41,8 +42,8 @@ pub fn list_source<A: Allocator + Copy>(
     // Each entry is of the test's threads and locations.
     ensures of_test { IfOk result (λ l. All (IsEntryOf (head_of source.now.head)) l) }
     // It is answered within the limits alone, and a limit is told where it is passed.
-    ensures within { OnOk result (IsWithinLimits source_language source.now.threads) }
-    ensures limit { IfErr result (TellsLimit source_language source.now.threads) }
+    ensures within { OnOk result (IsWithinLimits source_behaviour source.now.threads) }
+    ensures limit { IfErr result (TellsLimit source_behaviour source.now.threads) }
 {
     orders_are_complete();
     outcomes_over_caches_are_flat();
@@ -69,8 +70,8 @@ pub fn list_raw<A: Allocator + Copy>(
     // Each entry is of the test's threads and locations.
     ensures of_test { IfOk result (λ l. All (IsEntryOf (head_of program.now.head)) l) }
     // It is answered within the limits alone, and a limit is told where it is passed.
-    ensures within { OnOk result (IsWithinLimits x86_language program.now.threads) }
-    ensures limit { IfErr result (TellsLimit x86_language program.now.threads) }
+    ensures within { OnOk result (IsWithinLimits x86_behaviour program.now.threads) }
+    ensures limit { IfErr result (TellsLimit x86_behaviour program.now.threads) }
 {
     orders_are_complete();
     outcomes_over_caches_are_flat();

@@ -2,15 +2,15 @@
 ghost use Rattle.std.specs.Prelude.{◌≡◌, ◌<◌, ℕ, List, length, All, IfOk};
 ghost use Rattle.lw_base.specs.Outcomes.{Final};
 ghost use Rattle.lw_base.specs.declared.event.Event.{Event};
-ghost use Rattle.lw_finals.specs.declared.item.Item.{Item};
-ghost use Rattle.lw_finals.specs.Gathered.{RanSo};
+ghost use Rattle.lw_choices.specs.declared.item.Item.{Item};
+ghost use Rattle.lw_finals.specs.inner.Gathered.{RanSo};
 
-use crate::item::Item;
 use lw_base::{Event, Outcome, Sequence};
+use lw_choices::Item;
 use std::alloc::{AllocError, Allocator};
 
 /// A machine on which the orders of a test's items are run. Its room is made once: a run takes no memory.
-pub trait OrderRunner<A: Allocator> {
+pub(crate) trait OrderRunner<A: Allocator> {
     /// What a test is.
     ghost Test: { Type 0 };
 

@@ -3,12 +3,12 @@ ghost use Rattle.std.specs.Prelude.{◌≡◌, ◌<◌, true, false, length, All
 ghost use Rattle.lw_fence.specs.Compiling.{IsCompiled};
 ghost use Rattle.lw_interleaving.specs.Runs.{State};
 ghost use Rattle.lw_litmus.specs.Views.{source_of, program_of};
-ghost use Rattle.lw_finals.specs.SourceItems.{CarriedOut, StaysAndEnds};
-ghost use Rattle.lw_finals.specs.SourceRuns.{CompiledSource, leads_flat, threads_of};
+ghost use Rattle.lw_finals.specs.SourceRuns.{CarriedOut, StaysAndEnds};
+ghost use Rattle.lw_finals.specs.inner.SourceRunners.{CompiledSource, leads_flat, threads_of};
 
-use crate::item::Item;
 use crate::runner::{OrderRunner, copy_outcome};
 use lw_base::{Cpu, Event, Outcome, Sequence};
+use lw_choices::Item;
 use lw_fence::{Compiled, schedule_of};
 use lw_interleaving::SourceRun;
 use lw_litmus::Source;
@@ -17,7 +17,7 @@ use std::marker::Model;
 
 /// Runs a source test, whose schedules are those of what it is compiled to.
 #[derive(Drop)]
-pub struct SourceRunner<'a, A: Allocator> {
+pub(crate) struct SourceRunner<'a, A: Allocator> {
     alloc: A,
     source: &'a Source<A>,
     compiled: &'a Compiled<A>,
@@ -29,11 +29,10 @@ impl<'a, A: Allocator> Model for SourceRunner<'a, A> {
     ghost use Rattle.std.specs.Prelude.{◌≡◌, length};
     ghost use Rattle.lw_fence.specs.Compiling.{IsCompiled};
     ghost use Rattle.lw_interleaving.specs.Runs.{start_of};
-    ghost use Rattle.lw_litmus.specs.Views.{source_of};
-    ghost use Rattle.lw_litmus.specs.Views.{program_of};
-    ghost use Rattle.lw_finals.specs.SourceRuns.{SourceRunning};
+    ghost use Rattle.lw_litmus.specs.Views.{source_of, program_of};
+    ghost use Rattle.lw_finals.specs.inner.SourceRunners.{SourceRunning};
     ghost use Rattle.std.specs.Coded.{codes};
-    ghost use Rattle.lw_finals.specs.Codes.{formula_code};
+    ghost use Rattle.lw_finals.specs.inner.Codes.{formula_code};
 
     ghost Value = { SourceRunning };
 
@@ -72,7 +71,7 @@ fn carry_out<A: Allocator, B: Allocator>(
 
 impl<'a, A: Allocator + Copy> SourceRunner<'a, A> {
     /// A runner of a source test with what it is compiled to.
-    pub fn new(
+    pub(crate) fn new(
         alloc: A,
         source: &'a Source<A>,
         compiled: &'a Compiled<A>,

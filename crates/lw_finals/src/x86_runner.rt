@@ -8,9 +8,9 @@ ghost use Rattle.lw_tso.specs.Machines.{EventDone};
 ghost use Rattle.lw_litmus.specs.Views.{program_of};
 ghost use Rattle.lw_finals.specs.X86Runs.{event_of, events_of, CarriedOut, StaysAndEnds, LeadsFlat};
 
-use crate::item::Item;
 use crate::runner::{OrderRunner, copy_outcome};
 use lw_base::{Event, Outcome, Sequence};
+use lw_choices::Item;
 use lw_litmus::Program;
 use lw_memory::MemorySystem;
 use lw_mesi::{Mesi, empty_caches_are_kept};
@@ -20,7 +20,7 @@ use std::marker::Model;
 
 /// Runs an x86 test on the machine. Which caches are under it makes no difference to its outcomes.
 #[derive(Drop)]
-pub struct X86Runner<'a, A: Allocator> {
+pub(crate) struct X86Runner<'a, A: Allocator> {
     alloc: A,
     program: &'a Program<A>,
     machine: Machine<'a, Mesi<A>, A, A>,
@@ -31,8 +31,8 @@ impl<'a, A: Allocator> Model for X86Runner<'a, A> {
     ghost use Rattle.std.specs.Prelude.{◌≡◌, length};
     ghost use Rattle.std.specs.Coded.{codes};
     ghost use Rattle.lw_litmus.specs.Views.{program_of};
-    ghost use Rattle.lw_finals.specs.Codes.{formula_code};
-    ghost use Rattle.lw_finals.specs.X86Runners.{X86Running};
+    ghost use Rattle.lw_finals.specs.inner.Codes.{formula_code};
+    ghost use Rattle.lw_finals.specs.inner.X86Runners.{X86Running};
 
     ghost Value = { X86Running };
 
@@ -102,10 +102,10 @@ fn carry_out<M: MemorySystem, A: Allocator, B: Allocator>(
     ensures initial { machine.new.initial ≡ machine.old.initial }
     ensures processors { length machine.new.state.processors ≡ length machine.old.state.processors }
     ensures words { length (M.content machine.new.state.memory) ≡ length (M.content machine.old.state.memory) }
-    ensures done { result ≡ true → CarriedOut (memory_of M.content M.cpus M.state M.sound M.serves)
+    ensures done { result ≡ true → CarriedOut (memory_of M.content M.state M.serves)
         machine.old.program item.now machine.old.state machine.new.state }
     ensures left { result ≡ false → StandsAt (event_of item.now) item.now.position machine.old.state
-        → (stop : Stop) × EventDone (memory_of M.content M.cpus M.state M.sound M.serves)
+        → (stop : Stop) × EventDone (memory_of M.content M.state M.serves)
         machine.old.program (event_of item.now) machine.old.state (Err stop) machine.new.state }
 {
     if !stands_at(machine, threads, item) {
@@ -116,7 +116,7 @@ fn carry_out<M: MemorySystem, A: Allocator, B: Allocator>(
 
 impl<'a, A: Allocator + Copy> X86Runner<'a, A> {
     /// A runner of an x86 test.
-    pub fn new(alloc: A, program: &'a Program<A>) -> Result<Self, AllocError>
+    pub(crate) fn new(alloc: A, program: &'a Program<A>) -> Result<Self, AllocError>
         ensures test { IfOk result (λ r. r.test ≡ program_of program.now) }
     {
         empty_caches_are_kept();
@@ -136,7 +136,7 @@ impl<'a, A: Allocator + Copy> X86Runner<'a, A> {
 }
 
 impl<'a, A: Allocator + Copy> OrderRunner<A> for X86Runner<'a, A> {
-    ghost use Rattle.lw_litmus.specs.Programs.{ProgramTest};
+    ghost use Rattle.lw_litmus.specs.Tests.{ProgramTest};
 
     ghost Test = { ProgramTest };
 

@@ -8,12 +8,12 @@ use Rattle.std.proofs.Math.Nat.{min-le_left, min-le_right}
 use Rattle.std.proofs.lemmas.List.Elements.{All-get_or, All-rest}
 use Rattle.std.proofs.lemmas.Grind.{get_or_default_zero}
 use Rattle.std.proofs.lemmas.Slice.Zip.{length-zip, get_or-zip}
-use Rattle.lw_base.proofs.Writing.{items_more, items_all}
+use Rattle.lw_base.proofs.api.Writing.{items_more, items_all}
 use Rattle.lw_base.specs.Types.{Bytes}
 use Rattle.lw_base.specs.Heads.{TestHead}
 use Rattle.lw_base.specs.Texts.{joined}
 use Rattle.lw_base.specs.declared.head.Seen.{Seen}
-use Rattle.lw_report.specs.Labels.{label, labels, labelled_word, labelled_words}
+use Rattle.lw_report.specs.inner.Labels.{label, labels, labelled_word, labelled_words}
 use Rattle.lw_report.specs.Judgement.{positive, negative}
 use Rattle.lw_report.specs.Reports.{word_text, state_line, title_line, count_line, judgement_lines, report_text}
 use Rattle.lw_report.specs.declared.judgement.Claim.{Claim}

@@ -13,8 +13,8 @@ use Rattle.std.proofs.lemmas.Option.{same_Some, slice_get_within, slice_get-get_
 use Rattle.lw_base.specs.Heads.{TestHead}
 use Rattle.lw_base.specs.Outcomes.{Final, IsOutcomeOf}
 use Rattle.lw_base.specs.WellFormed.{SpeaksOf}
-use Rattle.lw_finals.specs.Listings.{Entries, outcomes_of}
-use Rattle.lw_report.specs.Gathered.{state_at, Shows, AreStatesOfFirst, AreFirstStates}
+use Rattle.lw_listing.specs.Listings.{Entries, outcomes_of}
+use Rattle.lw_report.specs.inner.Gathered.{state_at, Shows, AreStatesOfFirst, AreFirstStates}
 use Rattle.lw_report.specs.Observed.{projected}
 use Rattle.lw_report.specs.States.{Shown, ListedState, shown, shown_of, ShowsFirst, AreListedStates}
 use Rattle.lw_report.specs.Truth.{is_true}

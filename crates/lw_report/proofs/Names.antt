@@ -6,8 +6,8 @@ use Rattle.lw_base.specs.Heads.{TestHead}
 use Rattle.lw_base.specs.WellFormed.{IsSeen}
 use Rattle.lw_base.specs.declared.head.Seen.{Seen}
 use Rattle.lw_base.specs.SeenLists.{all_registers, locations}
-use Rattle.lw_base.proofs.Elements.{all_filter}
-use Rattle.lw_base.proofs.SeenLists.{all_seen}
+use Rattle.lw_base.proofs.api.Elements.{all_filter}
+use Rattle.lw_base.proofs.api.SeenLists.{all_seen}
 use Rattle.lw_report.specs.Observed.{is_observed, observed}
 
 pub all_there : (head : TestHead) (names : List Seen) → names ≡ observed head → All (IsSeen head.threads (length head.locs)) names

@@ -10,8 +10,8 @@ use Rattle.lw_base.specs.Types.{Bytes, NameTable}
 use Rattle.lw_base.specs.Heads.{TestHead}
 use Rattle.lw_base.specs.Schedules.{IsEvent, schedule_text}
 use Rattle.lw_base.specs.declared.event.Event.{Event}
-use Rattle.lw_finals.specs.Listings.{Entries, outcomes_of, schedules_of}
-use Rattle.lw_report.specs.Labels.{schedule_line}
+use Rattle.lw_listing.specs.Listings.{Entries, outcomes_of, schedules_of}
+use Rattle.lw_report.specs.inner.Labels.{schedule_line}
 use Rattle.lw_report.specs.Reports.{state_line, scheduled, scheduled_lines, count_line, schedule_list_text}
 use Rattle.lw_report.specs.States.{ListedState, ShowsFirst, AreListedStates}
 

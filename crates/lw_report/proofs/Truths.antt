@@ -1,7 +1,7 @@
 -- Outcomes with the same words of the observed names make a test's proposition true alike.
-use Rattle.std.proofs.Common.{◌≡◌, ℕ, ◌⊎◌, inl, inr, Bool, true, false, List, [], ◌∷◌, ◌++◌, length, map, refl, ap, ◌∙◌, subst}
+use Rattle.std.proofs.Common.{◌≡◌, ℕ, ◌⊎◌, inl, inr, Bool, true, false, List, [], ◌∷◌, ◌++◌, length, map, ◌||◌, refl, sym, ap, ◌∙◌, subst}
 use Rattle.std.specs.Prelude.{filter, not, ◌==◌}
-use Rattle.std.proofs.lemmas.Bool.{cases_Bool, or_cases, or_right}
+use Rattle.std.proofs.lemmas.Bool.{cases_Bool, or_cases, or_right, true≢false}
 use Rattle.lw_base.specs.Formula.{Formula, Yes, No, Reg_is, Word_is, Not, And, Or}
 use Rattle.lw_base.specs.Heads.{TestHead}
 use Rattle.lw_base.specs.Outcomes.{Final}
@@ -9,7 +9,7 @@ use Rattle.lw_base.specs.WellFormed.{SpeaksOf}
 use Rattle.lw_base.specs.declared.head.Seen.{Seen}
 use Rattle.lw_base.specs.declared.head.Seen.TheVariants.{Register, Location}
 use Rattle.lw_base.specs.SeenLists.{same_seen, all_registers, locations}
-use Rattle.lw_base.proofs.ListedAgain.{has_seen, same_seen_is, same_seen_itself, has_left, has_right, has_register, has_location}
+use Rattle.lw_base.proofs.api.ListedAgain.{has_seen, same_seen_is, same_seen_itself, has_left, has_right, has_register, has_location}
 use Rattle.lw_report.specs.Observed.{is_named, is_observed, projected}
 use Rattle.lw_report.specs.Truth.{final_word, is_true}
 
@@ -52,3 +52,14 @@ pub words_agree : (head : TestHead) (o p : Final) → SpeaksOf head.threads (len
 words_agree head o p speaks e =
     same_truth head.threads (length head.locs) o p head.condition speaks
     (λ s h k. same_word (final_word o) (final_word p) (is_observed head) (all_registers head.threads ++ locations (length head.locs)) s e h (rw k refl))
+
+-- what holds of either of two, where the first is true, and where it isn't
+pub or_left_is : (b p q : Bool) → b ≡ true → b ≡ p → b ≡ (p || q)
+or_left_is true true q e h = refl
+or_left_is true false q e h = absurd (true≢false h)
+or_left_is false p q e h = absurd (true≢false (sym e))
+
+pub or_right_is : (b a p q : Bool) → a ≡ false → a ≡ p → b ≡ q → b ≡ (p || q)
+or_right_is b false false q e h is = is
+or_right_is b false true q e h is = absurd (true≢false (sym h))
+or_right_is b true p q e h is = absurd (true≢false e)

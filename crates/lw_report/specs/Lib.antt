@@ -2,6 +2,5 @@ pub mod Truth
 pub mod Observed
 pub mod States
 pub mod Judgement
-pub mod Labels
 pub mod Reports
-pub mod Gathered
+pub mod inner

@@ -5,7 +5,7 @@ ghost use Rattle.lw_base.specs.ConditionTexts.{site_text};
 ghost use Rattle.lw_base.specs.Heads.{head_of};
 ghost use Rattle.lw_base.specs.Limits.{most_threads};
 ghost use Rattle.lw_base.specs.WellFormed.{IsSeen};
-ghost use Rattle.lw_report.specs.Labels.{label, labels, labelled_words};
+ghost use Rattle.lw_report.specs.inner.Labels.{label, labels, labelled_words};
 ghost use Rattle.lw_report.specs.Observed as specs;
 ghost use Rattle.lw_report.specs.Reports.{count_line};
 

@@ -8,7 +8,7 @@ ghost use Rattle.lw_base.specs.WellFormed.{HasLocations};
 ghost use Rattle.lw_base.specs.Propositions.{formula_of};
 ghost use Rattle.lw_report.specs.Judgement as told;
 ghost use Rattle.lw_report.specs.Judgement.{positive, negative};
-ghost use Rattle.lw_report.specs.Labels.{labels};
+ghost use Rattle.lw_report.specs.inner.Labels.{labels};
 ghost use Rattle.lw_report.specs.Reports.{title_line, state_line, numbers_line, condition_line, observation_line, claim_line, judgement_lines, report_text};
 ghost use Rattle.lw_report.specs.States.{ListedState, shown_of};
 

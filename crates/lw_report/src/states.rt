@@ -6,15 +6,15 @@ ghost use Rattle.lw_base.specs.Limits.{most_threads};
 ghost use Rattle.lw_base.specs.Outcomes.{IsOutcomeOf};
 ghost use Rattle.lw_base.specs.Propositions.{formula_of};
 ghost use Rattle.lw_base.specs.WellFormed.{SpeaksOf};
-ghost use Rattle.lw_finals.specs.Listings.{outcomes_of};
-ghost use Rattle.lw_report.specs.Gathered.{state_at, state_cmp, AreStatesOfFirst, AreFirstStates, LastHas};
+ghost use Rattle.lw_listing.specs.Listings.{outcomes_of};
+ghost use Rattle.lw_report.specs.inner.Gathered.{state_at, state_cmp, AreStatesOfFirst, AreFirstStates, LastHas};
 ghost use Rattle.lw_report.specs.Observed as specs;
 ghost use Rattle.lw_report.specs.States.{AreListedStates};
 
 use crate::projection::{observed, words_of};
 use crate::truth::holds;
 use lw_base::{Head, Outcome, Seen, Sequence, Word};
-use lw_finals::Listing;
+use lw_listing::Listing;
 use std::alloc::{AllocError, AllocFailed, Allocator, Global};
 use std::marker::Model;
 

@@ -1,12 +1,12 @@
 use Rattle.std.proofs.Common.{[]}
 use Rattle.std.proofs.lemmas.Result.{IfOk-weaker}
 use Rattle.lw_litmus.specs.Views.{program_of}
-use Rattle.lw_finals.specs.Counts.{IsWithinLimits}
-use Rattle.lw_finals.specs.Gathered.{Gathers, EndsOfProgram}
-use Rattle.lw_finals.specs.X86Items.{x86_language}
+use Rattle.lw_choices.specs.Counts.{IsWithinLimits}
+use Rattle.lw_finals.specs.inner.Gathered.{Gathers, EndsOfProgram}
+use Rattle.lw_choices.specs.X86Items.{x86_behaviour}
 use Rattle.lw_finals.specs.X86Runs.{LeadsFlat}
 use Rattle.lw_finals.proofs.X86List.{Ends, gathered_of, known_too, over_caches, replay, of_test}
-use Rattle.lw_finals.proofs.Visitable.{program_visitable}
+use Rattle.lw_choices.proofs.api.Visitable.{program_visitable}
 use Rattle.lw_finals.proofs.list.list_raw.Goals as goal
 
 pub list_program-requires : goal.list_program-requires
@@ -17,7 +17,7 @@ returns-clause-exactly g c =
     let test = program_of c.args.program.now in
     let formed = c.args.program.now.well_formed in
     IfOk-weaker c.list_program.result
-    (λ l. Gathers (EndsOfProgram x86_language (Ends c.in_ok-runner.runner.test) c.as_slice.result.now) (LeadsFlat c.in_ok-runner.runner.test) [] l × IsWithinLimits x86_language c.as_slice.result.now) _
+    (λ l. Gathers (EndsOfProgram x86_behaviour (Ends c.in_ok-runner.runner.test) c.as_slice.result.now) (LeadsFlat c.in_ok-runner.runner.test) [] l × IsWithinLimits x86_behaviour c.as_slice.result.now) _
     (λ l h. over_caches test formed (rw c.as_slice.ensures at h.1.0)
     (λ paths xs ys o choice. c.alike_x86_orders_end_alike.ensures test paths xs ys o formed choice)
     (λ o. c.x86_outcomes_are_those_of_choices.ensures test o formed)
@@ -31,7 +31,7 @@ returns-clause-replays g c =
     let test = program_of c.args.program.now in
     let formed = c.args.program.now.well_formed in
     IfOk-weaker c.list_program.result
-    (λ l. Gathers (EndsOfProgram x86_language (Ends c.in_ok-runner.runner.test) c.as_slice.result.now) (LeadsFlat c.in_ok-runner.runner.test) [] l × IsWithinLimits x86_language c.as_slice.result.now) _
+    (λ l. Gathers (EndsOfProgram x86_behaviour (Ends c.in_ok-runner.runner.test) c.as_slice.result.now) (LeadsFlat c.in_ok-runner.runner.test) [] l × IsWithinLimits x86_behaviour c.as_slice.result.now) _
     (λ l h. replay test formed (rw c.as_slice.ensures at h.1.0)
     (λ paths xs ys o choice. c.alike_x86_orders_end_alike.ensures test paths xs ys o formed choice)
     (λ o. c.x86_outcomes_are_those_of_choices.ensures test o formed)
@@ -45,7 +45,7 @@ returns-clause-of_test g c =
     let test = program_of c.args.program.now in
     let formed = c.args.program.now.well_formed in
     IfOk-weaker c.list_program.result
-    (λ l. Gathers (EndsOfProgram x86_language (Ends c.in_ok-runner.runner.test) c.as_slice.result.now) (LeadsFlat c.in_ok-runner.runner.test) [] l × IsWithinLimits x86_language c.as_slice.result.now) _
+    (λ l. Gathers (EndsOfProgram x86_behaviour (Ends c.in_ok-runner.runner.test) c.as_slice.result.now) (LeadsFlat c.in_ok-runner.runner.test) [] l × IsWithinLimits x86_behaviour c.as_slice.result.now) _
     (λ l h. of_test test formed (rw c.as_slice.ensures at h.1.0)
     (λ paths xs ys o choice. c.alike_x86_orders_end_alike.ensures test paths xs ys o formed choice)
     (λ o. c.x86_outcomes_are_those_of_choices.ensures test o formed)

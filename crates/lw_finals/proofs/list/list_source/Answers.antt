@@ -1,11 +1,12 @@
 use Rattle.std.proofs.Common.{[], refl}
 use Rattle.std.proofs.lemmas.Result.{IfOk-weaker}
 use Rattle.lw_litmus.specs.Views.{source_of, program_of}
-use Rattle.lw_finals.specs.Gathered.{Gathers, EndsOfProgram}
-use Rattle.lw_finals.specs.SourceItems.{source_language, StaysAndEnds}
-use Rattle.lw_finals.specs.SourceRuns.{leads_flat}
+use Rattle.lw_finals.specs.inner.Gathered.{Gathers, EndsOfProgram}
+use Rattle.lw_choices.specs.SourceItems.{source_behaviour}
+use Rattle.lw_finals.specs.SourceRuns.{StaysAndEnds}
+use Rattle.lw_finals.specs.inner.SourceRunners.{leads_flat}
 use Rattle.lw_finals.proofs.SourceList.{exactly, on_machine, of_test, gathered_of}
-use Rattle.lw_finals.proofs.Visitable.{source_visitable}
+use Rattle.lw_choices.proofs.api.Visitable.{source_visitable}
 use Rattle.lw_finals.proofs.list.list_source.Goals as goal
 
 pub list_program-requires : goal.list_program-requires
@@ -17,7 +18,7 @@ returns-clause-exactly g c =
     let program = program_of c.in_ok-compiled.compiled.program in
     let starts = c.in_ok-compiled.compiled.starts in
     IfOk-weaker c.list_program.result
-    (λ l. Gathers (EndsOfProgram source_language (StaysAndEnds c.in_ok-runner.runner.test.source) c.as_slice.result.now) (leads_flat c.in_ok-runner.runner.test) [] l) _
+    (λ l. Gathers (EndsOfProgram source_behaviour (StaysAndEnds c.in_ok-runner.runner.test.source) c.as_slice.result.now) (leads_flat c.in_ok-runner.runner.test) [] l) _
     (λ l h. exactly s c.args.source.now.well_formed program starts l (c.orders_are_complete.ensures.each, c.orders_are_complete.ensures.exactly_one) c.in_ok-compiled.ensures.outcomes
     (gathered_of s c.in_ok-runner.runner.test (record { source = s; program = program; starts = starts }) c.as_slice.result.now l c.in_ok-runner.ensures.test refl c.as_slice.ensures h)) c.list_program.ensures.gathered
 
@@ -28,7 +29,7 @@ returns-clause-machine g c =
     let starts = c.in_ok-compiled.compiled.starts in
     let formed = c.in_ok-compiled.compiled.program.well_formed in
     IfOk-weaker c.list_program.result
-    (λ l. Gathers (EndsOfProgram source_language (StaysAndEnds c.in_ok-runner.runner.test.source) c.as_slice.result.now) (leads_flat c.in_ok-runner.runner.test) [] l) _
+    (λ l. Gathers (EndsOfProgram source_behaviour (StaysAndEnds c.in_ok-runner.runner.test.source) c.as_slice.result.now) (leads_flat c.in_ok-runner.runner.test) [] l) _
     (λ l h. on_machine s c.args.source.now.well_formed program starts l (c.orders_are_complete.ensures.each, c.orders_are_complete.ensures.exactly_one) c.in_ok-compiled.ensures.outcomes
     (gathered_of s c.in_ok-runner.runner.test (record { source = s; program = program; starts = starts }) c.as_slice.result.now l c.in_ok-runner.ensures.test refl c.as_slice.ensures h)
     c.in_ok-compiled.ensures.compiled
@@ -42,7 +43,7 @@ returns-clause-of_test g c =
     let starts = c.in_ok-compiled.compiled.starts in
     let formed = c.in_ok-compiled.compiled.program.well_formed in
     IfOk-weaker c.list_program.result
-    (λ l. Gathers (EndsOfProgram source_language (StaysAndEnds c.in_ok-runner.runner.test.source) c.as_slice.result.now) (leads_flat c.in_ok-runner.runner.test) [] l) _
+    (λ l. Gathers (EndsOfProgram source_behaviour (StaysAndEnds c.in_ok-runner.runner.test.source) c.as_slice.result.now) (leads_flat c.in_ok-runner.runner.test) [] l) _
     (λ l h. of_test s c.args.source.now.well_formed program starts l (c.orders_are_complete.ensures.each, c.orders_are_complete.ensures.exactly_one) c.in_ok-compiled.ensures.outcomes
     (gathered_of s c.in_ok-runner.runner.test (record { source = s; program = program; starts = starts }) c.as_slice.result.now l c.in_ok-runner.ensures.test refl c.as_slice.ensures h)
     c.in_ok-compiled.ensures.compiled.head

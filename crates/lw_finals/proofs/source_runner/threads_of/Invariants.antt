@@ -1,5 +1,5 @@
 use Rattle.std.proofs.Common.{◌≡◌, take}
-use Rattle.lw_finals.specs.SourceRuns.{threads_of}
+use Rattle.lw_finals.specs.inner.SourceRunners.{threads_of}
 use Rattle.lw_finals.proofs.source_runner.threads_of.Given as goal
 
 abbrev pub invariant-loop-number : goal.invariant-loop-number

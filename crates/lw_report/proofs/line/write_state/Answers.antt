@@ -1,7 +1,7 @@
 use Rattle.std.proofs.Common.{codes, refl, get_or, arith}
 use Rattle.std.specs.String.{string_bytes}
-use Rattle.lw_base.proofs.Writing.{then_written, pushed}
-use Rattle.lw_report.specs.Labels.{labelled_words}
+use Rattle.lw_base.proofs.api.Writing.{then_written, pushed}
+use Rattle.lw_report.specs.inner.Labels.{labelled_words}
 use Rattle.lw_report.proofs.Lines.{zip_more, zip_all}
 use Rattle.lw_report.proofs.line.write_state.Goals as goal
 

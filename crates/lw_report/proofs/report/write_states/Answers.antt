@@ -1,6 +1,6 @@
 use Rattle.std.proofs.Common.{◌∙◌, ap}
 use Rattle.lw_base.specs.Heads.{head_of}
-use Rattle.lw_base.proofs.Writing.{items_more}
+use Rattle.lw_base.proofs.api.Writing.{items_more}
 use Rattle.lw_report.specs.Reports.{state_line}
 use Rattle.lw_report.specs.States.{ListedState}
 use Rattle.lw_report.proofs.Lines.{state_written}

@@ -1,7 +1,7 @@
 use Rattle.std.proofs.Common.{◌∙◌}
 use Rattle.lw_base.specs.Heads.{head_of}
-use Rattle.lw_base.proofs.Writing.{written_as}
-use Rattle.lw_finals.specs.Listings.{schedules_of}
+use Rattle.lw_base.proofs.api.Writing.{written_as}
+use Rattle.lw_listing.specs.Listings.{schedules_of}
 use Rattle.lw_report.proofs.Scheduled.{schedule_there, schedule_told}
 use Rattle.lw_report.proofs.schedules.write_schedule_of.Goals as goal
 

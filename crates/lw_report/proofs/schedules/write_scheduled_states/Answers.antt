@@ -1,9 +1,9 @@
 use Rattle.std.proofs.Common.{◌<◌, ◌++◌, ◌∙◌, length, ap, sym, subst}
 use Rattle.std.specs.String.{string_bytes}
 use Rattle.lw_base.specs.Heads.{head_of}
-use Rattle.lw_base.proofs.Writing.{items_more}
-use Rattle.lw_finals.specs.Listings.{schedules_of}
-use Rattle.lw_report.specs.Labels.{schedule_line}
+use Rattle.lw_base.proofs.api.Writing.{items_more}
+use Rattle.lw_listing.specs.Listings.{schedules_of}
+use Rattle.lw_report.specs.inner.Labels.{schedule_line}
 use Rattle.lw_report.specs.Reports.{scheduled, scheduled_lines}
 use Rattle.lw_report.specs.States.{ListedState}
 use Rattle.lw_report.proofs.Lines.{state_written}

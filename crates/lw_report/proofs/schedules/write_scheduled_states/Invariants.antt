@@ -2,7 +2,7 @@ use Rattle.std.proofs.Common.{◌≡◌, ◌++◌, drop}
 use Rattle.std.specs.List.{flat_map}
 use Rattle.std.specs.String.{string_bytes}
 use Rattle.lw_base.specs.Heads.{head_of}
-use Rattle.lw_finals.specs.Listings.{schedules_of}
+use Rattle.lw_listing.specs.Listings.{schedules_of}
 use Rattle.lw_report.specs.Reports.{scheduled, scheduled_lines}
 use Rattle.lw_report.specs.States.{ListedState}
 use Rattle.lw_report.proofs.schedules.write_scheduled_states.Given as goal

@@ -1,6 +1,6 @@
 use Rattle.std.proofs.Common.{◌∙◌}
 use Rattle.lw_base.specs.Heads.{head_of}
-use Rattle.lw_finals.specs.Listings.{schedules_of}
+use Rattle.lw_listing.specs.Listings.{schedules_of}
 use Rattle.lw_report.proofs.Scheduled.{entries_within, list_written}
 use Rattle.lw_report.proofs.schedules.write_schedules.Goals as goal
 

@@ -1,7 +1,7 @@
 use Rattle.std.proofs.Common.{◌≡◌, ℕ, ◌∷◌, [], ◌++◌, ◌∙◌, length, ap, subst, arith}
 use Rattle.lw_base.specs.Heads.{head_of}
-use Rattle.lw_finals.specs.Listings.{outcomes_of}
-use Rattle.lw_report.specs.Gathered.{AreStatesOfFirst}
+use Rattle.lw_listing.specs.Listings.{outcomes_of}
+use Rattle.lw_report.specs.inner.Gathered.{AreStatesOfFirst}
 use Rattle.lw_report.specs.States.{ListedState}
 use Rattle.lw_report.proofs.ListedStates.{outcome_of_entry, states_more}
 use Rattle.lw_report.proofs.states.shown_by.Goals as goal

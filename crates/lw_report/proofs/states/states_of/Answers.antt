@@ -2,8 +2,8 @@ use Rattle.std.proofs.Common.{ℕ, length, sym, subst}
 use Rattle.std.proofs.lemmas.List.{length-map}
 use Rattle.std.proofs.lemmas.Result.{IfOk-weaker}
 use Rattle.lw_base.specs.Heads.{head_of}
-use Rattle.lw_finals.specs.Listings.{outcomes_of}
-use Rattle.lw_report.specs.Gathered.{AreStatesOfFirst, AreFirstStates}
+use Rattle.lw_listing.specs.Listings.{outcomes_of}
+use Rattle.lw_report.specs.inner.Gathered.{AreStatesOfFirst, AreFirstStates}
 use Rattle.lw_report.specs.States.{AreListedStates}
 use Rattle.lw_report.proofs.ListedStates.{states_in_order, listed_states}
 use Rattle.lw_report.proofs.states.states_of.Goals as goal

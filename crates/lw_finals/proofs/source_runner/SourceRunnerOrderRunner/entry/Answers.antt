@@ -1,10 +1,10 @@
 use Rattle.std.proofs.Common.{◌≡◌, List, ap, sym, ◌∙◌, subst}
 use Rattle.lw_base.specs.Outcomes.{Final}
 use Rattle.lw_base.specs.declared.event.Event.{Event}
-use Rattle.lw_litmus.specs.Sources.{SourceTest}
+use Rattle.lw_litmus.specs.Tests.{SourceTest}
 use Rattle.lw_litmus.specs.Views.{source_of, program_of}
-use Rattle.lw_finals.specs.SourceItems.{StaysAndEnds}
-use Rattle.lw_finals.specs.SourceRuns.{CompiledSource, SourceRunning, leads_flat}
+use Rattle.lw_finals.specs.SourceRuns.{StaysAndEnds}
+use Rattle.lw_finals.specs.inner.SourceRunners.{CompiledSource, SourceRunning, leads_flat}
 use Rattle.lw_finals.proofs.SourceRunners.{possible, leads}
 use Rattle.lw_finals.proofs.source_runner.SourceRunnerOrderRunner.entry.Goals as goal
 

@@ -1,10 +1,10 @@
 use Rattle.std.proofs.Common.{◌<◌, List, length, ap, sym, subst}
 use Rattle.lw_litmus.specs.declared.stmt.Stmt.{Stmt}
 use Rattle.lw_interleaving.specs.Runs.{State, start_of, is_final, outcome_of}
-use Rattle.lw_litmus.specs.Sources.{SourceTest}
+use Rattle.lw_litmus.specs.Tests.{SourceTest}
 use Rattle.lw_litmus.specs.Views.{source_of}
-use Rattle.lw_finals.specs.SourceItems.{CarriedOut, StaysAndEnds}
-use Rattle.lw_finals.specs.SourceRuns.{SourceRunning}
+use Rattle.lw_finals.specs.SourceRuns.{CarriedOut, StaysAndEnds}
+use Rattle.lw_finals.specs.inner.SourceRunners.{SourceRunning}
 use Rattle.lw_finals.proofs.OrderSteps.{ran_off}
 use Rattle.lw_finals.proofs.source_runner.SourceRunnerOrderRunner.run.Goals as goal
 

@@ -1,7 +1,7 @@
 use Rattle.std.proofs.Common.{◌≡◌, length}
 use Rattle.lw_litmus.specs.Views.{source_of}
 use Rattle.lw_interleaving.specs.Runs.{start_of, is_final, outcome_of}
-use Rattle.lw_finals.specs.SourceItems.{CarriedOut}
+use Rattle.lw_finals.specs.SourceRuns.{CarriedOut}
 use Rattle.lw_finals.proofs.OrderSteps.{RanFirst}
 use Rattle.lw_finals.proofs.source_runner.SourceRunnerOrderRunner.run.Given as goal
 

@@ -1,7 +1,7 @@
 use Rattle.std.proofs.Common.{List, ap, sym, ◌∙◌, subst}
 use Rattle.lw_base.specs.Outcomes.{Final}
 use Rattle.lw_base.specs.declared.event.Event.{Event}
-use Rattle.lw_finals.specs.X86Runners.{X86Running}
+use Rattle.lw_finals.specs.inner.X86Runners.{X86Running}
 use Rattle.lw_finals.specs.X86Runs.{events_of, LeadsFlat}
 use Rattle.lw_finals.proofs.X86Runners.{leads}
 use Rattle.lw_finals.proofs.x86_runner.X86RunnerOrderRunner.entry.Goals as goal

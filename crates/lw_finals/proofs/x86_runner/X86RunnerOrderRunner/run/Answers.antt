@@ -2,17 +2,18 @@ use Rattle.std.proofs.Common.{◌≡◌, ◌<◌, ◌∙◌, ℕ, List, Err, ap,
 use Rattle.lw_base.specs.Outcomes.{Final}
 use Rattle.lw_base.specs.declared.stop.Stop.{Stop}
 use Rattle.lw_memory.specs.Flat.{flat}
-use Rattle.lw_mesi.specs.ProtocolLaws.{caches_by}
+use Rattle.lw_mesi.specs.Protocols.{caches_by}
+use Rattle.lw_mesi.specs.Coherence.{caches_invariant}
 use Rattle.lw_mesi.specs.declared.protocol.Protocol.TheVariants.{Mesi}
 use Rattle.lw_tso.specs.Exchange.{StandsAt}
 use Rattle.lw_tso.specs.Machines.{EventDone}
 use Rattle.lw_tso.specs.Runs.{Initial, is_final, machine_outcome}
 use Rattle.lw_tso.specs.Starts.{CanStart}
 use Rattle.lw_litmus.specs.declared.instr.Instr.{Instr}
-use Rattle.lw_litmus.specs.Programs.{ProgramTest}
+use Rattle.lw_litmus.specs.Tests.{ProgramTest}
 use Rattle.lw_litmus.specs.Views.{program_of}
-use Rattle.lw_finals.specs.declared.item.Item.{Item}
-use Rattle.lw_finals.specs.X86Runners.{X86Running}
+use Rattle.lw_choices.specs.declared.item.Item.{Item}
+use Rattle.lw_finals.specs.inner.X86Runners.{X86Running}
 use Rattle.lw_finals.specs.X86Runs.{event_of, CarriedOut, StaysAndEnds}
 use Rattle.lw_finals.proofs.X86Runners.{EventsAreFlat, can_start, carried_on, left_off, ends_alone, ends_so}
 use Rattle.lw_finals.proofs.x86_runner.X86RunnerOrderRunner.run.Goals as goal
@@ -30,7 +31,7 @@ pub loop-number-preserved : goal.loop-number-preserved
 loop-number-preserved g c =
     let mem = caches_by Mesi in let test = program_of c.self.inside.program.now in let m = c.restart.new.self.state.memory in
     let items = c.args.items.now in let order = c.args.order.now in let k = c.loop-number.number-index in let now = c.loop-number.self-inside.machine.state in
-    let start : CanStart mem test m = can_start mem test m items c.restart.new.self.program c.self.inside.machine.program c.self.inside.machine.initial.words c.restart.ensures.sound c.restart.ensures.cpus c.restart.ensures.words c.restart.ensures.program c.self.invariant.0 (ap (λ (i : Initial). i.words) c.self.invariant.1) in
+    let start : CanStart mem (caches_invariant Mesi) test m = can_start mem test m items (caches_invariant Mesi) c.restart.new.self.program c.self.inside.machine.program c.self.inside.machine.initial.words c.restart.ensures.sound c.restart.ensures.cpus c.restart.ensures.words c.restart.ensures.program c.self.invariant.0 (ap (λ (i : Initial). i.words) c.self.invariant.1) in
     let over_flat : EventsAreFlat mem test m items = λ events s after e answer ran none done. c.events_are_flat.ensures.over_flat test m events s after e answer c.self.inside.program.now.well_formed start ran none done in
     let program : c.loop-number.self-inside.machine.program ≡ test.threads = c.loop-number.invariant.threads ∙ c.restart.ensures.program ∙ c.self.invariant.0 in
     let within : c.from.result < length items = rw c.from.ensures (c.requires k 0 c.loop-number-test.true) in
@@ -51,7 +52,7 @@ pub returns-then-not-carry_out-clause-ends : goal.returns-then-not-carry_out-cla
 returns-then-not-carry_out-clause-ends g c o stays =
     let mem = caches_by Mesi in let test = program_of c.self.inside.program.now in let m = c.restart.new.self.state.memory in
     let items = c.args.items.now in let order = c.args.order.now in let k = c.loop-number.number-index in let now = c.loop-number.self-inside.machine.state in
-    let start : CanStart mem test m = can_start mem test m items c.restart.new.self.program c.self.inside.machine.program c.self.inside.machine.initial.words c.restart.ensures.sound c.restart.ensures.cpus c.restart.ensures.words c.restart.ensures.program c.self.invariant.0 (ap (λ (i : Initial). i.words) c.self.invariant.1) in
+    let start : CanStart mem (caches_invariant Mesi) test m = can_start mem test m items (caches_invariant Mesi) c.restart.new.self.program c.self.inside.machine.program c.self.inside.machine.initial.words c.restart.ensures.sound c.restart.ensures.cpus c.restart.ensures.words c.restart.ensures.program c.self.invariant.0 (ap (λ (i : Initial). i.words) c.self.invariant.1) in
     let over_flat : EventsAreFlat mem test m items = λ events s after e answer ran none done. c.events_are_flat.ensures.over_flat test m events s after e answer c.self.inside.program.now.well_formed start ran none done in
     let program : c.loop-number.self-inside.machine.program ≡ test.threads = c.loop-number.invariant.threads ∙ c.restart.ensures.program ∙ c.self.invariant.0 in
     let within : c.from.result < length items = rw c.from.ensures (c.requires k 0 c.loop-number-test.true) in

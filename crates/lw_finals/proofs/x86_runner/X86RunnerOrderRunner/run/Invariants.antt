@@ -1,5 +1,5 @@
 use Rattle.std.proofs.Common.{◌≡◌, length}
-use Rattle.lw_mesi.specs.ProtocolLaws.{caches_by}
+use Rattle.lw_mesi.specs.Protocols.{caches_by}
 use Rattle.lw_mesi.specs.declared.protocol.Protocol.TheVariants.{Mesi}
 use Rattle.lw_litmus.specs.Views.{program_of}
 use Rattle.lw_finals.proofs.X86Runners.{RanFlat}

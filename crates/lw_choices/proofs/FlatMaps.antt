@@ -1,0 +1,23 @@
+-- Lists made by `map` and `flat_map`: of functions that agree, and of a `flat_map`.
+use Rattle.std.proofs.Common.{◌≡◌, List, [], ◌∷◌, ◌++◌, map, refl, ap, ap₂, ◌∙◌}
+use Rattle.std.specs.Prelude.{Contains}
+use Rattle.std.specs.List.{flat_map}
+use Rattle.std.proofs.lemmas.Grind.{flat_map-append}
+use Rattle.std.proofs.lemmas.List.{map-append}
+use Rattle.lw_choices.proofs.api.Members.{Contains-here, Contains-there}
+
+pub flat_map-same : {X Y : Type 0} (f g : X → List Y) (xs : List X) → ((x : X) → Contains xs x → f x ≡ g x) → flat_map f xs ≡ flat_map g xs
+flat_map-same f g [] h = refl
+flat_map-same f g (x ∷ xs) h = ap₂ (λ a b. a ++ b) (h x (Contains-here x x xs refl)) (flat_map-same f g xs (λ y c. h y (Contains-there x y xs c)))
+
+pub map-same : {X Y : Type 0} (f g : X → Y) (xs : List X) → ((x : X) → f x ≡ g x) → map f xs ≡ map g xs
+map-same f g [] h = refl
+map-same f g (x ∷ xs) h = ap₂ (λ a b. a ∷ b) (h x) (map-same f g xs h)
+
+pub over_flat_map : {X Y Z : Type 0} (f : Y → List Z) (g : X → List Y) (xs : List X) → flat_map f (flat_map g xs) ≡ flat_map (λ x. flat_map f (g x)) xs
+over_flat_map f g [] = refl
+over_flat_map f g (x ∷ xs) = flat_map-append f (g x) (flat_map g xs) ∙ ap (λ b. flat_map f (g x) ++ b) (over_flat_map f g xs)
+
+pub map_of_flat_map : {X Y Z : Type 0} (f : Y → Z) (g : X → List Y) (xs : List X) → map f (flat_map g xs) ≡ flat_map (λ x. map f (g x)) xs
+map_of_flat_map f g [] = refl
+map_of_flat_map f g (x ∷ xs) = map-append f (g x) (flat_map g xs) ∙ ap (λ b. map f (g x) ++ b) (map_of_flat_map f g xs)

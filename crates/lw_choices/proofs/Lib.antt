@@ -1,0 +1,7 @@
+pub mod api
+mod Once
+mod FlatMaps
+mod Along
+mod Sizes
+mod AccessPairs
+mod Pushed

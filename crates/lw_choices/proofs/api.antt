@@ -1,0 +1,14 @@
+-- What proofs of other crates cite: what is on the lists of choices and items, their numbers and pairs, and where statements lead.
+pub mod Members
+pub mod Led
+pub mod Enumerated
+pub mod SourceFlows
+pub mod Visitable
+pub mod Pairs
+pub mod Numbering
+pub mod FixedPairs
+pub mod FixedOrder
+pub mod Mutual
+pub mod SourceNumbering
+pub mod SourcePairs
+pub mod Counting

@@ -1,0 +1,21 @@
+-- Conflicts are mutual.
+use Rattle.std.proofs.Common.{◌≡◌, ℕ, Bool, ◌&&◌, Option, Some, None, refl, sym, ap₂, ◌∙◌, inl, inr}
+use Rattle.std.proofs.Math.Bool.{or_comm}
+use Rattle.std.proofs.lemmas.Bool.{cases_eq, eq-eqb, ne_eqb}
+use Rattle.lw_litmus.specs.Conflicts.{is_one}
+use Rattle.lw_choices.specs.Items.{Behaviour, location_by, writes_by, conflict_by}
+
+one_sym : (o p : Option ℕ) → is_one o p ≡ is_one p o
+one_sym None None = refl
+one_sym None (Some y) = refl
+one_sym (Some x) None = refl
+one_sym (Some x) (Some y) = elim (cases_eq x y) [
+  | inl e ↦ eq-eqb x y e ∙ sym (eq-eqb y x (sym e))
+  | inr ne ↦ ne_eqb x y ne ∙ sym (ne_eqb y x (λ e. ne (sym e)))
+]
+
+pub conflict_mutual : {S : Type 0} (behaviour : Behaviour S) (d e : Bool) (a b : Option S) → conflict_by behaviour d e a b ≡ conflict_by behaviour e d b a
+conflict_mutual behaviour d e None None = refl
+conflict_mutual behaviour d e None (Some b) = refl
+conflict_mutual behaviour d e (Some a) None = refl
+conflict_mutual behaviour d e (Some a) (Some b) = ap₂ (λ (p q : Bool). p && q) (one_sym (location_by behaviour d a) (location_by behaviour e b)) (or_comm (writes_by behaviour d a) (writes_by behaviour e b))

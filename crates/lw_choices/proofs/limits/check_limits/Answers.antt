@@ -1,0 +1,9 @@
+use Rattle.std.proofs.lemmas.Result.{on_ok_weaker, IfErr-weaker}
+use Rattle.lw_choices.proofs.api.Counting.{limit_told}
+use Rattle.lw_choices.proofs.limits.check_limits.Goals as goal
+
+pub returns-clause-within : goal.returns-clause-within
+returns-clause-within g c = on_ok_weaker c.check_orders.result (λ orders. (c.in_ok-check_items.ensures.few, orders)) c.check_orders.ensures.orders
+
+pub returns-clause-err : goal.returns-clause-err
+returns-clause-err g c = IfErr-weaker c.check_orders.result _ _ (limit_told g.S.Statement.behaviour c.args.program.now c.in_ok-check_items.ensures.few) c.check_orders.ensures.err

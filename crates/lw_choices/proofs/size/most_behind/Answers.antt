@@ -1,0 +1,19 @@
+use Rattle.std.proofs.Common.{arith}
+use Rattle.lw_choices.proofs.Sizes.{first_behind, second_behind}
+use Rattle.lw_choices.proofs.size.most_behind.Goals as goal
+
+pub offset_bounds-most-first : goal.offset_bounds-most-first
+offset_bounds-most-first g c =
+    let lt = c.requires.within c.successors-first.result.0 (first_behind _ c.successors-first.result.0 c.successors-first.result.1 c.successors-first.ensures) in
+    omega (arith, lt)
+
+pub bounds-most-first : goal.bounds-most-first
+bounds-most-first g c = omega (arith, c.requires.within c.successors-first.result.0 (first_behind _ c.successors-first.result.0 c.successors-first.result.1 c.successors-first.ensures))
+
+pub offset_bounds-most-to : goal.offset_bounds-most-to
+offset_bounds-most-to g c =
+    let lt = c.requires.within c.in-Some.to (second_behind _ c.successors-first.result.0 c.in-Some.to c.successors-first.result.1 c.successors-first.ensures c.in-Some.is) in
+    omega (arith, lt)
+
+pub bounds-most-to : goal.bounds-most-to
+bounds-most-to g c = omega (arith, c.requires.within c.in-Some.to (second_behind _ c.successors-first.result.0 c.in-Some.to c.successors-first.result.1 c.successors-first.ensures c.in-Some.is))

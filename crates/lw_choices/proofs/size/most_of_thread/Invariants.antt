@@ -1,0 +1,6 @@
+use Rattle.std.proofs.Common.{◌-◌, length}
+use Rattle.lw_choices.proofs.Sizes.{AreKnownFrom}
+use Rattle.lw_choices.proofs.size.most_of_thread.Given as goal
+
+abbrev pub invariant-loop-done : goal.invariant-loop-done
+invariant-loop-done g l = AreKnownFrom g.S.Statement.behaviour l.stmts (length l.stmts - l.done) l.most

@@ -1,0 +1,15 @@
+-- How people are told why a test has no list: a number and a name.
+use Rattle.std.specs.Prelude.{ℕ, codes}
+use Rattle.lw_base.specs.Types.{Bytes}
+use Rattle.lw_choices.specs.declared.fault.ListFault.{ListFault}
+use Rattle.lw_choices.specs.declared.fault.ListFault.TheVariants.{TooManyItems, TooManyOrders, Memory}
+
+abbrev pub list_fault_number : ListFault → ℕ
+list_fault_number TooManyItems = 1
+list_fault_number TooManyOrders = 2
+list_fault_number Memory = 3
+
+abbrev pub list_fault_name : ListFault → Bytes
+list_fault_name TooManyItems = codes "TooManyItems"
+list_fault_name TooManyOrders = codes "TooManyOrders"
+list_fault_name Memory = codes "Memory"

@@ -1,0 +1,117 @@
+-- The items of a choice of paths, in either language: what is put in order. Which pairs of them stand in a fixed order, and which
+-- conflict.
+use Rattle.std.specs.Prelude.{ℕ, zero, suc, ◌==◌, Bool, true, false, ◌&&◌, ◌||◌, if◌then◌else◌, Option, Some, None, List, [], ◌∷◌, ◌++◌, length, map, filter, slice_get, slice_index_or}
+use Rattle.std.specs.List.{flat_map}
+use Rattle.std.specs.Option.{option_map_or}
+use Rattle.lw_base.specs.Threads.{code_of}
+use Rattle.lw_litmus.specs.Conflicts.{is_one}
+use Rattle.lw_orders.specs.Order.{Constraints}
+use Rattle.lw_orders.specs.Sequence.{numbers}
+use Rattle.lw_choices.specs.declared.item.Item.{Item}
+use Rattle.lw_choices.specs.declared.item.Last.{Last}
+use Rattle.lw_choices.specs.Choices.{Flow}
+
+-- Of a language: where its statements lead, and what they do to the memory.
+pub record Behaviour (S : Type 0) : Type 0 where
+  pub flow : Flow S
+  -- the location that the statement itself reads or writes, and whether it writes it
+  pub accesses : S → Option ℕ
+  pub writes : S → Bool
+  -- the location that is written when its entry is drained, if it has one
+  pub drains : S → Option ℕ
+  -- whether it waits until all entries before it are drained
+  pub waits : S → Bool
+
+-- the item with a number
+abbrev pub item_at : List Item → ℕ → Item
+item_at items i = slice_index_or items i (record { thread = 0; position = 0; is_drain = false })
+
+-- the last items of each thread at its first
+abbrev pub none_before : Last
+none_before = record { statement = None; drain = None }
+
+abbrev pub behind : Option ℕ → ℕ → List (ℕ × ℕ)
+behind None n = []
+behind (Some m) n = (m, n) ∷ []
+
+-- The pairs of the item of number n with what must stand before it and does not stand before that already: the statement
+-- before it; for a drain (whose own statement is the last one) and for what waits for drains, the last drain too.
+abbrev pub fixed_at : Bool → Bool → Last → ℕ → List (ℕ × ℕ)
+fixed_at true waits last n = behind last.statement n ++ behind last.drain n
+fixed_at false true last n = behind last.statement n ++ behind last.drain n
+fixed_at false false last n = behind last.statement n
+
+abbrev pub last_with : Bool → Last → ℕ → Last
+last_with true last n = record last { drain = Some n }
+last_with false last n = record last { statement = Some n }
+
+-- the last items of this thread, given those of the thread of the item before
+abbrev pub last_of : ℕ → ℕ → Last → Last
+last_of t u last = if t == u then last else none_before
+
+-- the pairs of n numbers from k up, the lower first, sorted
+abbrev pub pairs_from : ℕ → ℕ → List (ℕ × ℕ)
+pairs_from k zero = []
+pairs_from k (suc n) = map (λ j. (k, j)) (numbers (suc k) n) ++ pairs_from (suc k) n
+
+module _ {S : Type 0} (behaviour : Behaviour S) where
+  -- a statement, and its drain if it has one
+  abbrev pub items_at : ℕ → ℕ → Option S → List Item
+  items_at t j None = []
+  items_at t j (Some s) =
+      record { thread = t; position = j; is_drain = false }
+      ∷ option_map_or (λ x. record { thread = t; position = j; is_drain = true } ∷ []) (behaviour.drains s) []
+
+  -- along a thread's path
+  abbrev pub path_items : ℕ → List S → List ℕ → List Item
+  path_items t code path = flat_map (λ j. items_at t j (slice_get code j)) path
+
+  -- thread by thread, from thread t on
+  abbrev pub items_from : ℕ → List (List S) → List (List ℕ) → List Item
+  items_from t [] paths = []
+  items_from t (code ∷ program) [] = []
+  items_from t (code ∷ program) (path ∷ paths) = path_items t code path ++ items_from (suc t) program paths
+
+  -- the items of a choice; an item's number is its place here
+  abbrev pub items_of : List (List S) → List (List ℕ) → List Item
+  items_of program paths = items_from 0 program paths
+
+  -- the statement of an item
+  abbrev pub statement_of : List (List S) → Item → Option S
+  statement_of program item = slice_get (code_of program item.thread) item.position
+
+  -- the location that an item accesses, given whether it is the statement's drain
+  abbrev pub location_by : Bool → S → Option ℕ
+  location_by true s = behaviour.drains s
+  location_by false s = behaviour.accesses s
+
+  abbrev pub writes_by : Bool → S → Bool
+  writes_by true s = true
+  writes_by false s = behaviour.writes s
+
+  abbrev pub conflict_by : Bool → Bool → Option S → Option S → Bool
+  conflict_by d e None b = false
+  conflict_by d e (Some a) None = false
+  conflict_by d e (Some a) (Some b) = is_one (location_by d a) (location_by e b) && (writes_by d a || writes_by e b)
+
+  -- two items on one location, of which at least one writes it
+  abbrev pub do_conflict : List (List S) → Item → Item → Bool
+  do_conflict program a b = conflict_by a.is_drain b.is_drain (statement_of program a) (statement_of program b)
+
+  abbrev pub does_wait : List (List S) → Item → Bool
+  does_wait program a = option_map_or behaviour.waits (statement_of program a) false
+
+  -- the fixed pairs of the items from number n on, the item before which is of thread t
+  abbrev pub fixed_from : List (List S) → ℕ → ℕ → Last → List Item → List (ℕ × ℕ)
+  fixed_from program n t last [] = []
+  fixed_from program n t last (a ∷ items) =
+      fixed_at a.is_drain (does_wait program a) (last_of t a.thread last) n
+      ++ fixed_from program (suc n) a.thread (last_with a.is_drain (last_of t a.thread last) n) items
+
+  -- items, with their fixed pairs and their conflicts
+  abbrev pub constraints_of : List (List S) → List Item → Constraints
+  constraints_of program items = record {
+    len = length items;
+    fixed = fixed_from program 0 0 none_before items;
+    conflicts = filter (λ (p : ℕ × ℕ). do_conflict program (item_at items p.0) (item_at items p.1)) (pairs_from 0 (length items));
+  }

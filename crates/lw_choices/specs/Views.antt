@@ -1,0 +1,10 @@
+-- The paths that the fixed room of a value holds.
+use Rattle.std.specs.Prelude.{ℕ, List, map, take}
+use Rattle.lw_choices.specs.declared.path.Path.{Path}
+use Rattle.lw_choices.specs.declared.path.Choice.{Choice}
+
+abbrev pub path_of : Path → List ℕ
+path_of p = take p.len p.positions
+
+abbrev pub choice_of : Choice → List (List ℕ)
+choice_of c = map path_of (take c.len c.paths)

@@ -1,0 +1,31 @@
+-- For readers of this crate, no public call cites it: the items that access a location, and their conflicts.
+use Rattle.std.specs.Prelude.{ℕ, suc, Bool, ◌==◌, ◌&&◌, ◌||◌, Option, Some, None, option_map, List, [], ◌∷◌, ◌++◌, map, filter}
+use Rattle.std.specs.Option.{option_to_list}
+use Rattle.lw_choices.specs.declared.conflicts.Access.{Access}
+use Rattle.lw_choices.specs.declared.item.Item.{Item}
+use Rattle.lw_choices.specs.Items.{Behaviour, statement_of, location_by, writes_by}
+
+-- both are on one location, and at least one writes it
+abbrev pub meets : Access → Access → Bool
+meets a b = (a.loc == b.loc) && (a.writes || b.writes)
+
+-- the conflicts of an access with later ones
+abbrev pub conflicts_with : Access → List Access → List (ℕ × ℕ)
+conflicts_with a later = map (λ b. (a.number, b.number)) (filter (meets a) later)
+
+abbrev pub conflicts_among : List Access → List (ℕ × ℕ)
+conflicts_among [] = []
+conflicts_among (a ∷ later) = conflicts_with a later ++ conflicts_among later
+
+module _ {S : Type 0} (behaviour : Behaviour S) where
+  -- the access of the item of number n, given whether it is the statement's drain
+  abbrev pub access_by : ℕ → Bool → Option S → Option Access
+  access_by n is_drain None = None
+  access_by n is_drain (Some s) =
+      option_map (λ x. record { number = n; loc = x; writes = writes_by behaviour is_drain s }) (location_by behaviour is_drain s)
+
+  -- those of the items from number n on
+  abbrev pub accesses_from : List (List S) → ℕ → List Item → List Access
+  accesses_from program n [] = []
+  accesses_from program n (a ∷ items) =
+      option_to_list (access_by n a.is_drain (statement_of behaviour program a)) ++ accesses_from program (suc n) items

@@ -1,0 +1,110 @@
+//! The conflicts of the items of a choice: only items that access a location can conflict.
+ghost use Rattle.std.specs.Prelude.{◌≡◌, ◌≤◌, ◌++◌, length, IfOk, OnOk};
+ghost use Rattle.lw_orders.specs.Limits.{most_items};
+ghost use Rattle.lw_choices.specs.inner.Accesses.{access_by, accesses_from, meets, conflicts_with};
+ghost use Rattle.lw_choices.specs.Items.{constraints_of, statement_of as stands_for};
+
+use crate::fixed::statement_of;
+use crate::item::Item;
+use crate::statement::Statement;
+use lw_base::{Loc, Sequence};
+use std::alloc::{AllocError, Allocator};
+
+/// An item that accesses a location, by its number.
+#[derive(Clone, Copy)]
+pub(crate) struct Access {
+    pub(crate) number: u8,
+    pub(crate) loc: Loc,
+    pub(crate) writes: bool,
+}
+
+impl Access {
+    /// Whether both are on one location, and at least one writes it.
+    fn meets(&self, other: &Access) -> bool
+        ensures { result ≡ meets self.now other.now }
+    {
+        self.loc == other.loc && (self.writes || other.writes)
+    }
+
+    /// The numbers of both.
+    fn pair(&self, other: &Access) -> (u8, u8)
+        ensures { result ≡ (self.now.number, other.now.number) }
+    {
+        (self.number, other.number)
+    }
+}
+
+/// The access of an item, if it is one.
+fn access_of<S: Statement, B: Allocator>(
+    program: &[Sequence<S, B>],
+    item: Item,
+    number: u8,
+) -> Option<Access>
+    ensures { result ≡ access_by S.behaviour number item.is_drain (stands_for S.behaviour program.now item) }
+{
+    let stmt = statement_of(program, item)?;
+    let loc = if item.is_drain {
+        stmt.drains()?
+    } else {
+        stmt.accesses()?
+    };
+    Some(Access {
+        number,
+        loc,
+        writes: item.is_drain || stmt.writes(),
+    })
+}
+
+/// The items that access a location.
+fn accesses_of<S: Statement, A: Allocator, B: Allocator>(
+    alloc: A,
+    program: &[Sequence<S, B>],
+    items: &[Item],
+) -> Result<Vec<Access, A>, AllocError>
+    requires { length items.now ≤ most_items }
+    ensures { IfOk result (λ v. v.items ≡ accesses_from S.behaviour program.now 0 items.now) }
+{
+    let mut accesses = Vec::new(alloc);
+    for (number, item) in items.iter().enumerate() {
+        if let Some(access) = access_of(program, *item, number as u8) {
+            accesses.push(access)?;
+        }
+    }
+    Ok(accesses)
+}
+
+/// Pushes the conflicts of an access with later ones.
+fn push_conflicts<A: Allocator>(
+    pairs: &mut Vec<(u8, u8), A>,
+    first: &Access,
+    later: &[Access],
+) -> Result<(), AllocError>
+    ensures { OnOk result (pairs.new.items ≡ pairs.old.items ++ conflicts_with first.now later.now) }
+{
+    for second in later {
+        if first.meets(second) {
+            let pair = first.pair(second);
+            pairs.push(pair)?;
+        }
+    }
+    Ok(())
+}
+
+/// The conflicts of items, sorted.
+pub fn conflicts_of<S: Statement, A: Allocator + Copy, B: Allocator>(
+    alloc: A,
+    program: &[Sequence<S, B>],
+    items: &[Item],
+) -> Result<Vec<(u8, u8), A>, AllocError>
+    requires { length items.now ≤ most_items }
+    ensures { IfOk result (λ v. v.items ≡ (constraints_of S.behaviour program.now items.now).conflicts) }
+{
+    let accesses = accesses_of(alloc, program, items)?;
+    let mut pairs = Vec::new(alloc);
+    let mut later = accesses.as_slice();
+    while let Some((first, rest)) = later.split_first() {
+        push_conflicts(&mut pairs, first, rest)?;
+        later = rest;
+    }
+    Ok(pairs)
+}

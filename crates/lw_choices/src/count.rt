@@ -1,0 +1,103 @@
+//! How many orders there may be.
+ghost use Rattle.std.specs.Prelude.{◌≡◌, ◌+◌, ◌<◌, ◌≤◌, length, IfOk, IfErr, OnOk, MatchOption};
+ghost use Rattle.lw_orders.specs.Order.{count_of};
+ghost use Rattle.lw_orders.specs.Limits.{most_items, most_orders};
+ghost use Rattle.lw_choices.specs.Counts.{items_at_choice, orders_at_choice, TellsOfItems, TellsOfChoice};
+ghost use Rattle.lw_choices.specs.Items.{constraints_of, items_of};
+ghost use Rattle.lw_choices.specs.Views.{choice_of};
+
+use crate::conflicts::conflicts_of;
+use crate::fault::ListFault;
+use crate::fixed::fixed_of;
+use crate::item::Item;
+use crate::items::fill_items;
+use crate::path::Choice;
+use crate::statement::Statement;
+use crate::visit::Visitor;
+use lw_base::Sequence;
+use lw_orders::{Items, MAX_ITEMS, MAX_ORDERS, count};
+use std::alloc::{AllocError, Allocator};
+
+/// Makes a list the items of a choice, where they aren't too many.
+pub fn fill_few_items<S: Statement, A: Allocator, B: Allocator>(
+    program: &[Sequence<S, B>],
+    choice: &Choice,
+    items: &mut Vec<Item, A>,
+) -> Result<(), ListFault>
+    ensures ok { OnOk result (items.new.items ≡ items_of S.behaviour program.now (choice_of choice.now)) }
+    ensures few { OnOk result (length items.new.items ≤ most_items) }
+    ensures err { IfErr result (TellsOfItems S.behaviour program.now (choice_of choice.now)) }
+{
+    fill_items(program, choice, items)?;
+    if items.len() > MAX_ITEMS {
+        return Err(ListFault::TooManyItems);
+    }
+    Ok(())
+}
+
+/// The items with their fixed pairs and these conflicts, which are theirs.
+pub fn constrained<S: Statement, A: Allocator, B: Allocator>(
+    alloc: A,
+    program: &[Sequence<S, B>],
+    items: &[Item],
+    conflicts: Vec<(u8, u8), A>,
+) -> Result<Items<A>, AllocError>
+    requires few { length items.now ≤ most_items }
+    requires conflicts { conflicts.items ≡ (constraints_of S.behaviour program.now items.now).conflicts }
+    ensures { IfOk result (λ t. t ≡ constraints_of S.behaviour program.now items.now) }
+{
+    let fixed = fixed_of(alloc, program, items)?;
+    Ok(Items::new(items.len(), fixed, conflicts))
+}
+
+/// In how many ways the open conflicts of items can each be taken one way round or the other; None above 2 to the 20.
+/// Where nothing conflicts, there is one, and no pairs are made.
+fn count_orders<S: Statement, A: Allocator + Copy, B: Allocator>(
+    alloc: A,
+    program: &[Sequence<S, B>],
+    items: &[Item],
+) -> Result<Option<u64>, AllocError>
+    requires { length items.now ≤ most_items }
+    ensures { IfOk result (λ c. MatchOption c
+        (most_orders < count_of (constraints_of S.behaviour program.now items.now))
+        (λ n. (n ≡ count_of (constraints_of S.behaviour program.now items.now)) × (n ≤ most_orders))) }
+{
+    let conflicts = conflicts_of(alloc, program, items)?;
+    if conflicts.is_empty() {
+        return Ok(Some(1));
+    }
+    let constraints = constrained(alloc, program, items, conflicts)?;
+    count(alloc, &constraints)
+}
+
+/// The orders of the choices visited so far, together.
+#[derive(Drop)]
+pub(crate) struct Counter<'a, S: Statement, A: Allocator, B: Allocator> {
+    pub(crate) alloc: A,
+    pub(crate) program: &'a [Sequence<S, B>],
+    pub(crate) items: Vec<Item, A>,
+    pub(crate) total: u64,
+}
+
+impl<'a, S: Statement, A: Allocator + Copy, B: Allocator> Visitor for Counter<'a, S, A, B> {
+    type Fault = ListFault;
+
+    ghost visits = { λ v paths w. (w.program.now ≡ v.program.now)
+        × (items_at_choice S.behaviour v.program.now paths ≤ most_items)
+        × (w.total ≡ v.total + orders_at_choice S.behaviour v.program.now paths) × (w.total ≤ most_orders) };
+
+    ghost refuses = { λ v paths e. TellsOfChoice S.behaviour v.program.now v.total paths e };
+
+    fn visit(&mut self, choice: &Choice) -> Result<(), ListFault> {
+        fill_few_items(self.program, choice, &mut self.items)?;
+        let Some(orders) = count_orders(self.alloc, self.program, self.items.as_slice())? else {
+            return Err(ListFault::TooManyOrders);
+        };
+        let total = self.total.saturating_add(orders);
+        if total > MAX_ORDERS {
+            return Err(ListFault::TooManyOrders);
+        }
+        self.total = total;
+        Ok(())
+    }
+}

@@ -1,0 +1,124 @@
+//! The fixed pairs of the items of a choice.
+ghost use Rattle.std.specs.Prelude.{◌≡◌, ◌≤◌, ◌++◌, ◌||◌, [], if◌then◌else◌, length, IfOk, OnOk, option_copied};
+ghost use Rattle.lw_orders.specs.Limits.{most_items};
+ghost use Rattle.lw_choices.specs.Items as choice_items;
+ghost use Rattle.lw_choices.specs.Items.{none_before, behind, last_with, last_of, does_wait, fixed_from};
+
+use crate::item::{Item, Last};
+use crate::statement::Statement;
+use lw_base::{Cpu, Sequence};
+use std::alloc::{AllocError, Allocator};
+
+impl Last {
+    /// Those at a thread's first item.
+    fn none() -> Self
+        ensures { result ≡ none_before }
+    {
+        Last {
+            statement: None,
+            drain: None,
+        }
+    }
+
+    /// These where the item before is of the same thread, else none.
+    fn of(self, thread: Cpu, before: Cpu) -> Self
+        ensures { result ≡ last_of before thread self }
+    {
+        if thread == before { self } else { Last::none() }
+    }
+
+    /// Those after an item.
+    fn with(self, is_drain: bool, number: u8) -> Self
+        ensures { result ≡ last_with is_drain self number }
+    {
+        if is_drain {
+            Last {
+                drain: Some(number),
+                ..self
+            }
+        } else {
+            Last {
+                statement: Some(number),
+                ..self
+            }
+        }
+    }
+}
+
+/// The statement that an item is, or whose drain it is.
+pub(crate) fn statement_of<S: Statement, B: Allocator>(
+    program: &[Sequence<S, B>],
+    item: Item,
+) -> Option<&S>
+    ensures { option_copied result ≡ choice_items.statement_of S.behaviour program.now item }
+{
+    program
+        .get(item.thread.index())?
+        .get(usize::from(item.position))
+}
+
+/// Whether an item must stand behind the last drain of its thread: a drain, and what waits for drains.
+fn is_behind_drains<S: Statement, B: Allocator>(program: &[Sequence<S, B>], item: Item) -> bool
+    ensures { result ≡ (item.is_drain || does_wait S.behaviour program.now item) }
+{
+    if item.is_drain {
+        return true;
+    }
+    match statement_of(program, item) {
+        Some(stmt) => stmt.waits(),
+        None => false,
+    }
+}
+
+/// Pushes the pair of an item with one before it, if there is one.
+fn push_behind<A: Allocator>(
+    pairs: &mut Vec<(u8, u8), A>,
+    before: Option<u8>,
+    number: u8,
+) -> Result<(), AllocError>
+    ensures { OnOk result (pairs.new.items ≡ pairs.old.items ++ behind before number) }
+{
+    if let Some(before) = before {
+        pairs.push((before, number))?;
+    }
+    Ok(())
+}
+
+/// Pushes the pairs of an item with what must stand before it.
+fn push_fixed<A: Allocator>(
+    pairs: &mut Vec<(u8, u8), A>,
+    last: Last,
+    is_behind_drains: bool,
+    number: u8,
+) -> Result<(), AllocError>
+    ensures { OnOk result (pairs.new.items ≡ pairs.old.items ++ behind last.statement number
+        ++ (if is_behind_drains then behind last.drain number else [])) }
+{
+    push_behind(pairs, last.statement, number)?;
+    if is_behind_drains {
+        push_behind(pairs, last.drain, number)?;
+    }
+    Ok(())
+}
+
+/// The fixed pairs of items.
+pub(crate) fn fixed_of<S: Statement, A: Allocator, B: Allocator>(
+    alloc: A,
+    program: &[Sequence<S, B>],
+    items: &[Item],
+) -> Result<Vec<(u8, u8), A>, AllocError>
+    requires { length items.now ≤ most_items }
+    ensures { IfOk result (λ v. v.items ≡ fixed_from S.behaviour program.now 0 0 none_before items.now) }
+{
+    let mut pairs = Vec::new(alloc);
+    let mut last = Last::none();
+    let mut before = Cpu::all()[0];
+    for (number, item) in items.iter().enumerate() {
+        last = last.of(item.thread, before);
+        before = item.thread;
+        let is_behind_drains = is_behind_drains(program, *item);
+        push_fixed(&mut pairs, last, is_behind_drains, number as u8)?;
+        last = last.with(item.is_drain, number as u8);
+    }
+    Ok(pairs)
+}

@@ -1,0 +1,72 @@
+//! The items of a choice.
+ghost use Rattle.std.specs.Prelude.{◌≡◌, ◌++◌, OnOk, option_copied};
+ghost use Rattle.lw_choices.specs.Items as choice_items;
+ghost use Rattle.lw_choices.specs.Items.{items_at, path_items};
+ghost use Rattle.lw_choices.specs.Views.{choice_of};
+
+use crate::item::Item;
+use crate::path::Choice;
+use crate::statement::Statement;
+use lw_base::{Cpu, Sequence};
+use std::alloc::{AllocError, Allocator};
+
+/// Makes a list the items of a choice, thread by thread, each along its path.
+pub(crate) fn fill_items<S: Statement, A: Allocator, B: Allocator>(
+    program: &[Sequence<S, B>],
+    choice: &Choice,
+    items: &mut Vec<Item, A>,
+) -> Result<(), AllocError>
+    ensures { OnOk result (items.new.items ≡ choice_items.items_of S.behaviour program.now (choice_of choice.now)) }
+{
+    items.clear();
+    for (thread, path) in choice.as_slice().iter().enumerate() {
+        let Some(code) = program.get(thread) else {
+            return Ok(());
+        };
+        let cpu = Cpu::new(thread as u8).unwrap();
+        push_path(items, cpu, code, path.as_slice())?;
+    }
+    Ok(())
+}
+
+/// Pushes the items of a thread, along its path.
+fn push_path<S: Statement, A: Allocator, B: Allocator>(
+    items: &mut Vec<Item, A>,
+    thread: Cpu,
+    code: &Sequence<S, B>,
+    path: &[u8],
+) -> Result<(), AllocError>
+    ensures { OnOk result (items.new.items ≡ items.old.items ++ path_items S.behaviour thread code.now path.now) }
+{
+    for position in path {
+        push_statement(items, thread, *position, code.get(usize::from(*position)))?;
+    }
+    Ok(())
+}
+
+/// Pushes a statement, and its drain if it has one.
+fn push_statement<S: Statement, A: Allocator>(
+    items: &mut Vec<Item, A>,
+    thread: Cpu,
+    position: u8,
+    stmt: Option<&S>,
+) -> Result<(), AllocError>
+    ensures { OnOk result (items.new.items ≡ items.old.items ++ items_at S.behaviour thread position (option_copied stmt.entry)) }
+{
+    let Some(stmt) = stmt else {
+        return Ok(());
+    };
+    items.push(Item {
+        thread,
+        position,
+        is_drain: false,
+    })?;
+    if stmt.drains().is_some() {
+        items.push(Item {
+            thread,
+            position,
+            is_drain: true,
+        })?;
+    }
+    Ok(())
+}

@@ -1,0 +1,38 @@
+//! Choices of whole flow paths, one for each thread of a test, and the items that stand on them: of any language whose
+//! statements say where they lead and what they do to the memory (`statement`).
+//!
+//! How the choices of a program are gone through, and where each part stands:
+//! 1. `visit`: each choice is visited once, with no list of them (`path`, `path_methods`).
+//! 2. `item`, `items`, `fixed`, `conflicts`: the statements on the paths, with the drains of their stores, are the items; some
+//!    pairs of them stand in a fixed order, and some conflict. lw_orders gives one order for each way round in which these can
+//!    stand.
+//! 3. `size`, `count`, `limits`: the most items of a choice are looked at first, then the ways of all choices are counted, up
+//!    to the limit; `fault` has what is told where one is passed.
+//!
+//! It names lw_base; of lw_litmus the statements of both languages; and lw_orders. Nothing here steps. The promise that the
+//! crates above use: `visit_choices` visits exactly the choices of a program, each once, which `laws` says of their list.
+#![tactic(auto)]
+
+mod conflicts;
+mod count;
+mod fault;
+mod fixed;
+mod item;
+mod items;
+mod laws;
+mod limits;
+mod path;
+mod path_methods;
+mod size;
+mod statement;
+mod visit;
+
+pub use conflicts::conflicts_of;
+pub use count::{constrained, fill_few_items};
+pub use fault::ListFault;
+pub use item::Item;
+pub use laws::{choices_are_complete, source_tests_have_few_items};
+pub use limits::check_limits;
+pub use path::{Choice, Path};
+pub use statement::Statement;
+pub use visit::{Visitor, visit_choices};

@@ -1,0 +1,92 @@
+//! Visits of all choices of flow paths, one after another, with no list of them.
+ghost use Rattle.std.specs.Prelude.{◌≡◌, ℕ, ◌<◌, ◌≤◌, List, [], ◌∷◌, length, All, OnOk, IfErr};
+ghost use Rattle.std.specs.Option.{option_to_list};
+ghost use Rattle.lw_base.specs.Threads.{code_of};
+ghost use Rattle.lw_litmus.specs.Limits.{most_instructions};
+ghost use Rattle.lw_choices.specs.Choices.{led, choices_of};
+ghost use Rattle.lw_choices.specs.Views.{path_of, choice_of};
+ghost use Rattle.lw_choices.specs.Visits.{Visited, Refused, IsVisitable, CanGoOn, choices_along};
+
+use crate::path::{Choice, Path};
+use crate::statement::Statement;
+use lw_base::Sequence;
+use std::alloc::Allocator;
+
+/// What is done for each choice.
+pub trait Visitor {
+    /// Why there is no further visit.
+    type Fault;
+
+    /// What a visit of a choice makes of the visitor.
+    ghost visits: { Self → List (List ℕ) → Self → Type 0 };
+
+    /// What a refusal of a choice tells.
+    ghost refuses: { Self → List (List ℕ) → Self.Fault → Type 0 };
+
+    /// Visits a choice.
+    fn visit(&mut self, choice: &Choice) -> Result<(), Self::Fault>
+        ensures ok { OnOk result (visits self.old (choice_of choice.now) self.new) }
+        ensures err { IfErr result (λ e. refuses self.old (choice_of choice.now) e) };
+}
+
+/// The positions that may follow a statement's: the first, and the second where there are two.
+pub(crate) fn successors<S: Statement>(stmt: &S, at: usize) -> (usize, Option<usize>)
+    requires { at < most_instructions }
+    ensures { (result.0 ∷ option_to_list result.1) ≡ led S.behaviour.flow stmt.now at }
+{
+    let next = at + 1;
+    let Some(to) = stmt.target() else {
+        return (next, None);
+    };
+    if !stmt.goes_on() {
+        return (to, None);
+    }
+    if next == to {
+        return (next, None);
+    }
+    (next, Some(to))
+}
+
+/// Visits each choice that begins with these paths, whose next path has begun and goes on at a position.
+fn visit_from<S: Statement, A: Allocator, V: Visitor>(
+    program: &[Sequence<S, A>],
+    choice: Choice,
+    path: Path,
+    at: usize,
+    visitor: &mut V,
+) -> Result<(), V::Fault>
+    requires { CanGoOn S.behaviour.flow program.now (choice_of choice) (path_of path) at }
+    ensures ok { OnOk result (Visited V.visits (choices_along S.behaviour.flow program.now (choice_of choice) (path_of path) at) visitor.old visitor.new) }
+    ensures err { IfErr result (λ e. Refused V.visits V.refuses (choices_along S.behaviour.flow program.now (choice_of choice) (path_of path) at) visitor.old e) }
+{
+    let code = &program[choice.len()];
+    let Some(stmt) = code.get(at) else {
+        let choice = choice.with(path);
+        if choice.len() == program.len() {
+            return visitor.visit(&choice);
+        }
+        return visit_from(program, choice, Path::new(), 0, visitor);
+    };
+    let path = path.with(at as u8);
+    let (first, second) = successors(stmt, at);
+    visit_from(program, choice, path, first, visitor)?;
+    match second {
+        Some(to) => visit_from(program, choice, path, to, visitor),
+        None => Ok(()),
+    }
+}
+
+/// Visits each choice of a program, the first thread's path changing slowest, until one is refused.
+pub fn visit_choices<S: Statement, A: Allocator, V: Visitor>(
+    program: &[Sequence<S, A>],
+    visitor: &mut V,
+) -> Result<(), V::Fault>
+    requires { IsVisitable S.behaviour.flow program.now }
+    ensures ok { OnOk result (Visited V.visits (choices_of S.behaviour.flow program.now) visitor.old visitor.new) }
+    ensures err { IfErr result (λ e. Refused V.visits V.refuses (choices_of S.behaviour.flow program.now) visitor.old e) }
+{
+    if program.is_empty() {
+        return visitor.visit(&Choice::new());
+    }
+    visit_from(program, Choice::new(), Path::new(), 0, visitor)
+}

@@ -1,9 +1,0 @@
-use Rattle.std.proofs.lemmas.Result.{on_ok_weaker, IfErr-weaker}
-use Rattle.lw_finals.proofs.Counting.{limit_told}
-use Rattle.lw_finals.proofs.gather.check_limits.Goals as goal
-
-pub returns-clause-within : goal.returns-clause-within
-returns-clause-within g c = on_ok_weaker c.check_orders.result (λ orders. (c.in_ok-check_items.ensures.few, orders)) c.check_orders.ensures.orders
-
-pub returns-clause-err : goal.returns-clause-err
-returns-clause-err g c = IfErr-weaker c.check_orders.result _ _ (limit_told g.S.Statement.language c.args.program.now c.in_ok-check_items.ensures.few) c.check_orders.ensures.err

@@ -1,7 +1,0 @@
-use Rattle.std.proofs.Common.{◌+◌, ◌-◌, ◌*◌, length}
-use Rattle.lw_finals.specs.Views.{choice_of}
-use Rattle.lw_finals.proofs.visit.+visit_from.Given as goal
-
--- the threads whose paths are still to come, then the statements
-abbrev pub decreases-visit_from : goal.decreases-visit_from
-decreases-visit_from g l = 33 * (4 - length (choice_of l.choice)) + (32 - l.at)

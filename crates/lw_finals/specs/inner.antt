@@ -1,0 +1,4 @@
+pub mod Codes
+pub mod Gathered
+pub mod SourceRunners
+pub mod X86Runners

@@ -1,0 +1,65 @@
+-- For readers of this crate, no public call cites it: a code for propositions, by which a proof tells apart the tests that have
+-- them. A proposition is written as a list of its parts, each connective behind what it connects.
+use Rattle.std.specs.Prelude.{◌≡◌, ℕ, Bool, true, false, Option, Some, None, List, [], ◌∷◌}
+use Rattle.std.specs.Coded.{Coded, code_by, coded_ℕ, coded_bool, coded_list, coded_option, coded×, coded⊎}
+use Rattle.std.proofs.Common.{◌⊎◌, inl, inr, refl, ap, ◌∙◌}
+use Rattle.lw_base.specs.Formula.{Formula, Yes, No, Reg_is, Word_is, Not, And, Or}
+
+-- a register's word or a location's, a constant (true: `Yes`), or a connective (None: `Not`, and of the others true: `And`)
+abbrev Part : Type 0
+Part = (ℕ × (ℕ × ℕ)) ⊎ ((ℕ × ℕ) ⊎ (Bool ⊎ Option Bool))
+
+-- the parts of a proposition, and then others
+abbrev pub written : Formula → List Part → List Part
+written Yes rest = inr (inr (inl true)) ∷ rest
+written No rest = inr (inr (inl false)) ∷ rest
+written (Reg_is cpu reg word) rest = inl (cpu, (reg, word)) ∷ rest
+written (Word_is loc word) rest = inr (inl (loc, word)) ∷ rest
+written (Not p) rest = written p (inr (inr (inr None)) ∷ rest)
+written (And p q) rest = written p (written q (inr (inr (inr (Some true))) ∷ rest))
+written (Or p q) rest = written p (written q (inr (inr (inr (Some false))) ∷ rest))
+
+abbrev negated : List Formula → List Formula
+negated [] = []
+negated (p ∷ ps) = Not p ∷ ps
+
+abbrev connected : Bool → List Formula → List Formula
+connected b [] = []
+connected b (q ∷ []) = []
+connected true (q ∷ p ∷ ps) = And p q ∷ ps
+connected false (q ∷ p ∷ ps) = Or p q ∷ ps
+
+-- the propositions read so far, and one part more
+abbrev with_part : Part → List Formula → List Formula
+with_part (inl (cpu, (reg, word))) ps = Reg_is cpu reg word ∷ ps
+with_part (inr (inl (loc, word))) ps = Word_is loc word ∷ ps
+with_part (inr (inr (inl true))) ps = Yes ∷ ps
+with_part (inr (inr (inl false))) ps = No ∷ ps
+with_part (inr (inr (inr None))) ps = negated ps
+with_part (inr (inr (inr (Some b)))) ps = connected b ps
+
+abbrev pub read_parts : List Part → List Formula → List Formula
+read_parts [] ps = ps
+read_parts (part ∷ parts) ps = read_parts parts (with_part part ps)
+
+pub read_written : (p : Formula) (rest : List Part) (ps : List Formula) → read_parts (written p rest) ps ≡ read_parts rest (p ∷ ps)
+read_written Yes rest ps = refl
+read_written No rest ps = refl
+read_written (Reg_is cpu reg word) rest ps = refl
+read_written (Word_is loc word) rest ps = refl
+read_written (Not p) rest ps = read_written p (inr (inr (inr None)) ∷ rest) ps
+read_written (And p q) rest ps =
+    let last : List Part = inr (inr (inr (Some true))) ∷ rest in
+    read_written p (written q last) ps ∙ read_written q last (p ∷ ps)
+read_written (Or p q) rest ps =
+    let last : List Part = inr (inr (inr (Some false))) ∷ rest in
+    read_written p (written q last) ps ∙ read_written q last (p ∷ ps)
+
+abbrev the_first : List Formula → Formula
+the_first [] = Yes
+the_first (p ∷ ps) = p
+
+abbrev pub formula_code : Coded Formula
+formula_code =
+    code_by (List Part) (coded_list (coded⊎ (coded× coded_ℕ (coded× coded_ℕ coded_ℕ)) (coded⊎ (coded× coded_ℕ coded_ℕ) (coded⊎ coded_bool (coded_option coded_bool)))))
+    (λ p. written p []) (λ parts. the_first (read_parts parts [])) (λ p. ap the_first (read_written p [] []))

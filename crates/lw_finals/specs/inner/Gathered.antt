@@ -1,0 +1,40 @@
+-- For readers of this crate, no public call cites it: what is gathered from runs of orders, the outcomes to which they lead,
+-- each with a schedule.
+use Rattle.std.specs.Prelude.{◌≡◌, ℕ, Bool, true, false, All, Contains, List}
+use Rattle.lw_base.specs.Outcomes.{Final}
+use Rattle.lw_base.specs.declared.event.Event.{Event}
+use Rattle.lw_orders.specs.Sequence.{orders}
+use Rattle.lw_choices.specs.declared.item.Item.{Item}
+use Rattle.lw_choices.specs.Choices.{choices_of}
+use Rattle.lw_choices.specs.Items.{Behaviour, items_of, constraints_of}
+use Rattle.lw_listing.specs.Listings.{Entries, outcomes_of}
+
+-- Of a run, whether it stayed on its paths to a final state, and what it ended with: if it did, exactly that is an end; if it
+-- did not, there is none.
+abbrev pub RanSo : (Final → Type 0) → Bool → Final → Type 0
+RanSo Ends true end = Ends end × ((o : Final) → Ends o → o ≡ end)
+RanSo Ends false end = (o : Final) → Ends o → ⊥
+
+-- Entries have grown: all ends are among them now, those from before are left, and where each schedule led to its outcome each
+-- still does.
+pub record Gathers (Ends : Final → Type 0) (Leads : List Event → Final → Type 0) (old new : Entries) : Type 0 where
+  pub covered : (o : Final) → Ends o → Contains (outcomes_of new) o
+  pub kept : (o : Final) → Contains (outcomes_of old) o → Contains (outcomes_of new) o
+  pub lead : All (λ e. Leads e.1 e.0) old → All (λ e. Leads e.1 e.0) new
+
+-- what one of some orders ends with
+abbrev pub EndsOfOrders : (List ℕ → Final → Type 0) → List (List ℕ) → Final → Type 0
+EndsOfOrders Ends given o = (order : List ℕ) × Contains given order × Ends order o
+
+module _ {S : Type 0} (behaviour : Behaviour S) (Ends : List Item → List ℕ → Final → Type 0) (program : List (List S)) where
+  -- what one of the orders that are given for items ends with
+  abbrev pub EndsOfItems : List Item → Final → Type 0
+  EndsOfItems items = EndsOfOrders (Ends items) (orders (constraints_of behaviour program items))
+
+  -- the same for the items of a choice
+  abbrev pub EndsOfChoice : List (List ℕ) → Final → Type 0
+  EndsOfChoice paths = EndsOfItems (items_of behaviour program paths)
+
+  -- and for one of all choices
+  abbrev pub EndsOfProgram : Final → Type 0
+  EndsOfProgram o = (paths : List (List ℕ)) × Contains (choices_of behaviour.flow program) paths × EndsOfChoice paths o

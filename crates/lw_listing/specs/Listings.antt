@@ -1,0 +1,21 @@
+-- Lists of outcomes, each with a schedule that leads to it.
+use Rattle.std.specs.Prelude.{◌≡◌, List}
+use Rattle.std.specs.List.{AllPairs}
+use Rattle.std.specs.Map.{keys_of, values_of}
+use Rattle.std.specs.declared.cmp.Ordering.TheVariants.{Less}
+use Rattle.lw_base.specs.Outcomes.{Final, final_cmp}
+use Rattle.lw_base.specs.declared.event.Event.{Event}
+
+-- outcomes with their schedules
+abbrev pub Entries : Type 0
+Entries = List (Final × List Event)
+
+abbrev pub outcomes_of : Entries → List Final
+outcomes_of entries = keys_of entries
+
+abbrev pub schedules_of : Entries → List (List Event)
+schedules_of entries = values_of entries
+
+-- Each outcome comes before all that stand after it. So none stands twice.
+abbrev pub IsStrictlySorted : Entries → Type 0
+IsStrictlySorted entries = AllPairs (λ first later. final_cmp first later ≡ Less) (outcomes_of entries)

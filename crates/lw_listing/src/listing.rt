@@ -1,0 +1,146 @@
+//! The outcomes that were found, each once, with the first schedule that was found to lead to it.
+ghost use Rattle.std.specs.Prelude.{◌≡◌, ◌↔◌, [], ◌∷◌, ◌++◌, ◌<◌, ◌==◌, ℕ, length, OnOk, OnErr, IfOk, IsTrue, MatchOption, Contains, Some, slice_get, IsPermutation};
+ghost use Rattle.lw_base.specs.Outcomes.{Final};
+ghost use Rattle.lw_listing.specs.Listings.{Entries, outcomes_of, schedules_of, IsStrictlySorted};
+
+use indexmap::IndexMap;
+use lw_base::{Event, Outcome, Sequence};
+use std::alloc::{AllocError, Allocator, Global};
+use std::hash::{BuildHasherDefault, FoldHasher};
+use std::marker::Model;
+
+/// A schedule for each outcome.
+type Schedules<A> = IndexMap<Outcome<A>, Sequence<Event, A>, BuildHasherDefault<FoldHasher>, A>;
+
+/// Outcomes with their schedules, in the sequence in which they were found.
+///
+/// A clause sees the list of the pairs.
+#[derive(Drop)]
+pub struct Findings<A: Allocator = Global> {
+    found: Schedules<A>,
+}
+
+impl<A: Allocator> Model for Findings<A> {
+    ghost use Rattle.lw_listing.specs.Listings.{Entries};
+
+    ghost Value = { Entries };
+
+    ghost view = { λ f. f.found.entries };
+}
+
+impl<A: Allocator + Copy> Findings<A> {
+    /// No outcome yet. It takes no memory.
+    pub fn new(alloc: A) -> Self
+        ensures { result ≡ [] }
+    {
+        Findings {
+            found: IndexMap::new(alloc),
+        }
+    }
+}
+
+impl<A: Allocator> Findings<A> {
+    /// Whether an outcome was found. It takes no memory.
+    pub fn contains(&self, outcome: &Outcome<A>) -> bool
+        ensures { IsTrue result ↔ Contains (outcomes_of self.now) outcome.now }
+    {
+        self.found.contains_key(outcome)
+    }
+
+    /// Adds an outcome with its schedule. Where the outcome was found before, it keeps its first schedule.
+    pub fn add(
+        &mut self,
+        outcome: Outcome<A>,
+        schedule: Sequence<Event, A>,
+    ) -> Result<(), AllocError>
+        ensures known { OnOk result (Contains (outcomes_of self.old) outcome → self.new ≡ self.old) }
+        ensures added { OnOk result
+            (¬ Contains (outcomes_of self.old) outcome → self.new ≡ self.old ++ (outcome, schedule) ∷ []) }
+        ensures err { OnErr result (self.new ≡ self.old) }
+    {
+        if self.contains(&outcome) {
+            return Ok(());
+        }
+        self.found.insert(outcome, schedule)?;
+        Ok(())
+    }
+
+    /// The same outcomes with the same schedules, sorted.
+    pub fn into_listing(self) -> Result<Listing<A>, AllocError>
+    where
+        A: Copy,
+        ensures same { IfOk result (λ listing. IsPermutation self listing) }
+        ensures sorted { IfOk result (λ listing. IsStrictlySorted listing) }
+    {
+        let mut found = self.found;
+        found.sort_keys()?;
+        Ok(Listing { found })
+    }
+}
+
+/// The outcomes that were found, each once with a schedule, sorted.
+///
+/// A clause sees the list of the pairs.
+#[derive(Drop)]
+pub struct Listing<A: Allocator = Global> {
+    found: Schedules<A>,
+}
+
+impl<A: Allocator> Model for Listing<A> {
+    ghost use Rattle.lw_listing.specs.Listings.{Entries, IsStrictlySorted};
+
+    ghost Value = { Entries };
+
+    ghost view = { λ l. l.found.entries };
+
+    ghost invariant = { λ l. IsStrictlySorted l.found.entries };
+}
+
+impl<A: Allocator> Listing<A> {
+    /// The number of outcomes.
+    pub fn len(&self) -> usize
+        ensures number { result ≡ length self.now }
+        // So it is of each listing.
+        ensures sorted { IsStrictlySorted self.now }
+    {
+        self.found.len()
+    }
+
+    /// Whether there is no outcome.
+    pub fn is_empty(&self) -> bool
+        ensures { result ≡ (length self.now == 0) }
+    {
+        self.found.is_empty()
+    }
+
+    /// The outcome at a place.
+    pub fn outcome(&self, place: usize) -> &Outcome<A>
+        requires { place < length self.now }
+        ensures { slice_get (outcomes_of self.now) place ≡ Some result.now }
+    {
+        self.found.get_index(place).unwrap().0
+    }
+
+    /// The schedule of the outcome at a place.
+    pub fn schedule(&self, place: usize) -> &[Event]
+        requires { place < length self.now }
+        ensures { slice_get (schedules_of self.now) place ≡ Some result.now }
+    {
+        self.found[place].as_slice()
+    }
+
+    /// The place of an outcome, or None where it isn't listed.
+    pub fn find(&self, outcome: &Outcome<A>) -> Option<usize>
+        ensures { MatchOption result
+            (¬ Contains (outcomes_of self.now) outcome.now)
+            (λ place. slice_get (outcomes_of self.now) place ≡ Some outcome.now) }
+    {
+        self.found.get_index_of(outcome)
+    }
+}
+
+/// In a listing an outcome stands at one place alone.
+pub fn outcomes_stand_once()
+    ensures { (entries : Entries) (i j : ℕ) (outcome : Final) → IsStrictlySorted entries
+        → slice_get (outcomes_of entries) i ≡ Some outcome → slice_get (outcomes_of entries) j ≡ Some outcome → i ≡ j }
+{}

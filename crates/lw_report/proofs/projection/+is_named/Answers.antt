@@ -1,0 +1,10 @@
+use Rattle.std.proofs.Common.{◌≡◌, sym, ap, ◌∙◌, subst}
+use Rattle.lw_base.specs.Propositions.{formula_of}
+use Rattle.lw_report.specs.Observed.{is_named}
+use Rattle.lw_report.proofs.projection.+is_named.Goals as goal
+
+pub returns-in-Neg : goal.returns-in-Neg
+returns-in-Neg g n c =
+    let name = c.args.name.now in
+    subst (λ p. c.is_named.result ≡ is_named (formula_of p) name) (sym c.in-Neg.is)
+    (c.is_named.ensures ∙ ap (λ p. is_named (formula_of p) name) c.deref.ensures)

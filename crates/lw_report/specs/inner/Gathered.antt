@@ -1,0 +1,43 @@
+-- For readers of this crate, no public call cites it: how the states of a listing are gathered, one for each outcome, then
+-- sorted, then the first of those with the same words.
+use Rattle.std.specs.Prelude.{◌≡◌, ℕ, ◌-◌, ◌<◌, ◌≤◌, List, length, Some, slice_get, All, Contains}
+use Rattle.std.specs.List.{AllPairs}
+use Rattle.std.specs.Cmp.Lexicographic.{slice_cmp}
+use Rattle.std.specs.Ordering.{nat_cmp, bool_cmp, ordering_then}
+use Rattle.std.specs.declared.cmp.Ordering.{Ordering}
+use Rattle.std.specs.declared.cmp.Ordering.TheVariants.{Less}
+use Rattle.lw_base.specs.Heads.{TestHead}
+use Rattle.lw_base.specs.Outcomes.{Final}
+use Rattle.lw_report.specs.Observed.{projected}
+use Rattle.lw_report.specs.States.{ListedState, shown, shown_of}
+use Rattle.lw_report.specs.Truth.{is_true}
+
+-- the state that the outcome of a number shows
+abbrev pub state_at : TestHead → ℕ → Final → ListedState
+state_at head entry o = record { words = projected head o; entry = entry; holds = is_true head.condition o }
+
+-- The outcome of the state's number shows it.
+pub record Shows (head : TestHead) (outcomes : List Final) (s : ListedState) : Type 0 where
+  pub outcome : Final
+  pub at : slice_get outcomes s.entry ≡ Some outcome
+  pub shows : shown head outcome ≡ shown_of s
+
+-- The states of the first so many outcomes, one for each.
+pub record AreStatesOfFirst (head : TestHead) (outcomes : List Final) (count : ℕ) (states : List ListedState) : Type 0 where
+  pub shows : All (Shows head outcomes) states
+  pub each : (i : ℕ) (o : Final) → i < count → slice_get outcomes i ≡ Some o → Contains states (state_at head i o)
+
+-- The order of states: by their words, by their numbers where the words are the same.
+abbrev pub state_cmp : ListedState → ListedState → Ordering
+state_cmp s t = ordering_then (slice_cmp nat_cmp s.words t.words) (ordering_then (nat_cmp s.entry t.entry) (bool_cmp s.holds t.holds))
+
+-- The last of the states has these words.
+abbrev pub LastHas : List ListedState → List ℕ → Type 0
+LastHas states words = (last : ListedState) × (slice_get states (length states - 1) ≡ Some last) × (last.words ≡ words)
+
+-- Of the states with the same words the one with the smallest number, sorted by the words.
+pub record AreFirstStates (all states : List ListedState) : Type 0 where
+  pub sorted : AllPairs (λ (first later : ListedState). slice_cmp nat_cmp first.words later.words ≡ Less) states
+  pub among : All (λ s. Contains all s) states
+  pub smallest : All (λ (s : ListedState). (t : ListedState) → Contains all t → t.words ≡ s.words → s.entry ≤ t.entry) states
+  pub each : (t : ListedState) → Contains all t → (s : ListedState) × Contains states s × (s.words ≡ t.words)
