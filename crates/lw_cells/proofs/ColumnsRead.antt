@@ -9,7 +9,7 @@ use Rattle.lw_cells.specs.Cells.{CellSyntax, CellSays, Column, code_in}
 use Rattle.lw_cells.specs.Drafts.{LabelMap, DraftRead}
 use Rattle.lw_cells.specs.Reading.{ColumnRead, AllForward}
 use Rattle.lw_cells.proofs.OneReading.{cell_unique}
-use Rattle.lw_cells.proofs.Zips.{zip_unique}
+use Rattle.lw_cells.proofs.api.Zips.{zip_unique}
 
 module _ {Syntax Stmt Jump : Type 0} (grammar : Grammar Syntax Stmt) (lawful : IsGrammar grammar) (draft_of : ℕ → Syntax → Draft Stmt Jump) where
   module _ {A : Type 0} (cells : List (Cell A)) (before after : List (List ℕ)) (drafts : List (DraftCell Stmt Jump)) (labels : LabelMap) (draft : DraftRead grammar draft_of cells before drafts labels after) where

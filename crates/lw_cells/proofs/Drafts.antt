@@ -8,9 +8,9 @@ use Rattle.std.proofs.lemmas.List.Elements.{filter_map-append, Contains-append_l
 use Rattle.std.proofs.Math.Seq.{take-suc, drop-cons}
 use Rattle.lw_base.specs.declared.fault.CellCause.{CellCause}
 use Rattle.lw_base.specs.declared.fault.CellCause.TheVariants.{Form, Register, LabelMissing, LabelTwice, Backward, TooMany, Memory}
-use Rattle.lw_base.specs.Names.{EachOnce}
+use Rattle.lw_base.specs.Lists.{EachOnce}
 use Rattle.lw_base.specs.Tables.{with_names}
-use Rattle.lw_base.proofs.GrowingTables.{with_names-append, with_names-longer}
+use Rattle.lw_base.proofs.api.GrowingTables.{with_names-append, with_names-longer}
 use Rattle.lw_text.specs.declared.cell.Cell.{Cell}
 use Rattle.lw_text.specs.declared.token.Token.{Token}
 use Rattle.lw_text.specs.Spans.{texts}
@@ -19,13 +19,14 @@ use Rattle.lw_cells.specs.declared.draft.Draft.{Draft}
 use Rattle.lw_cells.specs.declared.draft.DraftCell.{DraftCell}
 use Rattle.lw_cells.specs.Grammars.{Grammar, IsGrammar}
 use Rattle.lw_cells.specs.Cells.{CellSyntax, MaybeStatement, Labels, CellSays, Column, statements, labels_of, names_in}
-use Rattle.lw_cells.specs.Words.{IsMisfit, NameCause}
+use Rattle.lw_cells.specs.Words.{IsMisfit}
 use Rattle.lw_cells.specs.Drafts.{draft_in, draft_cell, LabelMap, LeadsAs, DraftRead, first_names, leading, leading_in, leads_to}
 use Rattle.lw_cells.specs.Reading.{Fits, FitsBelow, StatementCause, MaybeCause, AtLabel, LabelsRead, StatementRead, MaybeRead, bare}
+use Rattle.lw_cells.proofs.api.Causes.{misfit_cause}
 use Rattle.lw_cells.proofs.FrontLabels.{Labels-rest, Labels-unique, names_read, behind}
 use Rattle.lw_cells.proofs.Leads.{statements-append, labels_of-append, first_names_in, leading_in-append}
 use Rattle.lw_cells.proofs.OneReading.{cell_unique, no_label}
-use Rattle.lw_cells.proofs.Zips.{zip_unique, zip_more, zip_cut}
+use Rattle.lw_cells.proofs.api.Zips.{zip_unique, zip_more, zip_cut}
 use Rattle.lw_cells.proofs.ResolvedNames.{LocationsExist, LocationExists, all_there, number_in-along}
 
 -- the cells before one, that one, and the cells behind it
@@ -58,26 +59,6 @@ at_most_room count most (Some x) few room = let free : count ≡ most → ⊥ = 
 module _ {Syntax Stmt : Type 0} (grammar : Grammar Syntax Stmt) where
   pub names_in-append : (xs ys : List (CellSyntax Syntax)) → names_in grammar (xs ++ ys) ≡ names_in grammar xs ++ names_in grammar ys
   names_in-append xs ys = ap (filter_map grammar.name_of) (statements-append xs ys) ∙ filter_map-append grammar.name_of (statements xs) (statements ys)
-
-  -- a location is refused at the place where it stands
-  pub statement_cause : (tokens : List Token) (names : List (List ℕ)) (k : ℕ) (t : Token) → slice_get tokens k ≡ Some t → grammar.before_location (texts (take k tokens)) → (at : ℕ) (cause : CellCause) → NameCause names t at cause → StatementCause grammar tokens names at cause
-  statement_cause tokens names k t is before at Form c = tt
-  statement_cause tokens names k t is before at Register c = tt
-  statement_cause tokens names k t is before at LabelMissing c = c
-  statement_cause tokens names k t is before at LabelTwice c = c
-  statement_cause tokens names k t is before at Backward c = c
-  statement_cause tokens names k t is before at TooMany c = record { place = k; token = t; is = is; before = before; ninth = c }
-  statement_cause tokens names k t is before at Memory c = tt
-
-  -- a token that does not fit, in a statement
-  pub misfit_cause : (tokens : List Token) (names : List (List ℕ)) (at : ℕ) (cause : CellCause) → IsMisfit cause → StatementCause grammar tokens names at cause
-  misfit_cause tokens names at Form m = tt
-  misfit_cause tokens names at Register m = tt
-  misfit_cause tokens names at LabelMissing m = m
-  misfit_cause tokens names at LabelTwice m = m
-  misfit_cause tokens names at Backward m = m
-  misfit_cause tokens names at TooMany m = absurd m
-  misfit_cause tokens names at Memory m = tt
 
   -- a statement is refused behind its cell's labels as it is alone
   pub maybe_cause : (above : ℕ) (tokens : List Token) (names : List (List ℕ)) (at : ℕ) (cause : CellCause) → StatementCause grammar tokens names at cause → MaybeCause grammar above tokens names at cause
@@ -157,7 +138,7 @@ module _ {Syntax Stmt : Type 0} (grammar : Grammar Syntax Stmt) where
       only_some above names none (Some s) h = none s (h.says, h.room)
 
       pub surplus_cause : (names : List (List ℕ)) (above at : ℕ) (cause : CellCause) → above ≡ grammar.language.most → at ≡ t.at → (IsMisfit cause × (grammar.can_begin t.text.now → ⊥)) ⊎ ((cause ≡ TooMany) × grammar.can_begin t.text.now) → MaybeCause grammar above tokens names at cause
-      surplus_cause names above at cause full place (inl m) = maybe_cause above tokens names at cause (misfit_cause tokens names at cause m.0)
+      surplus_cause names above at cause full place (inl m) = maybe_cause above tokens names at cause (misfit_cause grammar tokens names at cause m.0)
       surplus_cause names above at cause full place (inr (e, begins)) = rw e (inl (full, (t, sym first, sym place, begins)))
 
       pub first_within : (at len : ℕ) → at ≡ t.at → All (λ (u : Token). u.at ≤ len) tokens → at ≤ len

@@ -6,15 +6,14 @@ use Rattle.std.proofs.lemmas.List.{map-append, append_assoc, take-append-drop, d
 use Rattle.lw_base.specs.declared.fault.CellCause.{CellCause}
 use Rattle.lw_base.specs.declared.fault.CellCause.TheVariants.{Form, Register, LabelMissing, LabelTwice, Backward, TooMany, Memory}
 use Rattle.lw_base.specs.Tables.{with_names}
-use Rattle.lw_base.proofs.GrowingTables.{with_names-append}
+use Rattle.lw_base.proofs.api.GrowingTables.{with_names-append}
 use Rattle.lw_text.specs.declared.cell.Cell.{Cell}
 use Rattle.lw_text.specs.declared.token.Token.{Token}
 use Rattle.lw_text.specs.Spans.{texts}
 use Rattle.lw_text.specs.PlacedTokens.{texts_of_tokens}
 use Rattle.lw_text.specs.PlacedCells.{PlacedCell, texts_of_cells, texts_of_grid}
 use Rattle.lw_text.specs.Places.{placed, placed_tokens, placed_cell, placed_row}
-use Rattle.lw_text.proofs.TokenRows.{texts_placed}
-use Rattle.lw_text.proofs.CellPlaces.{cells_placed}
+use Rattle.lw_text.proofs.api.Places.{texts_placed, cells_placed}
 use Rattle.lw_cells.specs.declared.draft.Draft.{Draft}
 use Rattle.lw_cells.specs.declared.draft.DraftCell.{DraftCell}
 use Rattle.lw_cells.specs.Grammars.{Grammar}
@@ -24,7 +23,7 @@ use Rattle.lw_cells.specs.Drafts.{LabelMap, DraftRead, first_names, leading_in}
 use Rattle.lw_cells.specs.Reading.{LabelCause, MaybeCause, LabelsRead}
 use Rattle.lw_cells.proofs.FrontLabels.{Labels-rest, behind}
 use Rattle.lw_cells.proofs.Leads.{first_names_in}
-use Rattle.lw_base.proofs.Lists.{cut_at, drop_at, get_dropped}
+use Rattle.lw_base.proofs.api.Lists.{cut_at, drop_at, get_dropped}
 
 -- the token behind one
 colon_behind : (tokens : List Token) (k : ℕ) → BeginsWithColon (texts (drop (suc k) tokens)) → slice_get (texts tokens) (k + 1) ≡ Some (codes ":")

@@ -8,12 +8,14 @@ use Rattle.lw_base.specs.declared.fault.CellCause.{CellCause}
 use Rattle.lw_base.specs.declared.fault.CellCause.TheVariants.{Form, Register, LabelMissing, LabelTwice, Backward, TooMany, Memory}
 use Rattle.lw_text.specs.declared.token.Token.{Token}
 use Rattle.lw_text.specs.Spans.{texts}
+use Rattle.lw_cells.proofs.api.TokenRows.{drop_get, drop_next}
 use Rattle.std.specs.Map.{update}
 use Rattle.std.proofs.lemmas.List.Elements.{Contains-push_cases, Contains-append_right, Contains-append_cases}
 use Rattle.std.specs.Str.{bytes_eq}
 use Rattle.std.specs.Cmp.{unsigned_Decides}
 use Rattle.std.specs.Cmp.Lexicographic.{pointwise_decides}
-use Rattle.lw_base.specs.Names.{IsLocation, EachOnce}
+use Rattle.lw_base.specs.Lists.{EachOnce}
+use Rattle.lw_base.specs.Names.{IsLocation}
 use Rattle.lw_cells.specs.Cells.{Labels}
 use Rattle.lw_cells.specs.Drafts.{LabelMap, LeadsAs, leading, leads_to, target_by, first_names}
 use Rattle.lw_cells.specs.Words.{IsMisfit}
@@ -125,18 +127,6 @@ take_two [] n a b p q = absurd cc
 take_two (x ∷ []) zero a b p q = absurd cc
 take_two (x ∷ y ∷ ts) zero a b p q = let e : x ≡ a = cc in let f : y ≡ b = cc in cc
 take_two (x ∷ ts) (suc n) a b p q = ap (λ (t : List (List ℕ)). x ∷ t) (take_two ts n a b p q)
-
-pub drop_get : (ts : List (List ℕ)) (n : ℕ) → slice_get (drop n ts) 0 ≡ slice_get ts n
-drop_get [] zero = refl
-drop_get [] (suc n) = refl
-drop_get (x ∷ ts) zero = refl
-drop_get (x ∷ ts) (suc n) = drop_get ts n
-
-pub drop_next : (ts : List (List ℕ)) (n : ℕ) → slice_get (drop n ts) 1 ≡ slice_get ts (suc n)
-drop_next [] zero = refl
-drop_next [] (suc n) = refl
-drop_next (x ∷ ts) zero = refl
-drop_next (x ∷ ts) (suc n) = drop_next ts n
 
 pub get_text : (tokens : List Token) (k : ℕ) (t : Token) → slice_get tokens k ≡ Some t → slice_get (texts tokens) k ≡ Some t.text.now
 get_text tokens k t is = slice_get-map (λ u. u.text.now) tokens k ∙ ap (option_map (λ u. u.text.now)) is

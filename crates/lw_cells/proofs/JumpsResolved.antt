@@ -13,7 +13,7 @@ use Rattle.lw_cells.specs.Cells.{CellSyntax, labels_of, target_in, number_in, le
 use Rattle.lw_cells.specs.Drafts.{LabelMap, LeadsAs, leads_to, target_by, leading_in, EndsWithLabel, AreDrafts}
 use Rattle.lw_cells.specs.Reading.{IsDraft, JumpCause, JumpRefused}
 use Rattle.lw_cells.proofs.Leads.{leads_in, leads_nowhere}
-use Rattle.lw_base.proofs.Lists.{cut_at, drop_all}
+use Rattle.lw_base.proofs.api.Lists.{cut_at, drop_all}
 use Rattle.lw_cells.proofs.FrontLabels.{get_text}
 
 module _ {Syntax Stmt : Type 0} (grammar : Grammar Syntax Stmt) where

@@ -1,5 +1,4 @@
-pub mod TokenRows
-pub mod Zips
+pub mod api
 pub mod FrontLabels
 pub mod NewNames
 pub mod Leads

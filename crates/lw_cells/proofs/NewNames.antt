@@ -3,7 +3,7 @@ use Rattle.std.proofs.Common.{◌≡◌, ℕ, ◌<◌, ◌≤◌, List, [], ◌�
 use Rattle.std.specs.Prelude.{slice_get, Some, Contains}
 use Rattle.std.proofs.lemmas.Option.{slice_get_read}
 use Rattle.lw_base.specs.Tables.{with_name}
-use Rattle.lw_base.proofs.Tables.{with_name-there, with_name-new}
+use Rattle.lw_base.proofs.api.Tables.{with_name-there, with_name-new}
 
 pub contained : (names : List (List ℕ)) (n : List ℕ) → Contains names n → (k : ℕ) × (slice_get names k ≡ Some n)
 contained names n h = (h.0, slice_get_read names (length names) h.0 n refl h.1 (sym h.2))

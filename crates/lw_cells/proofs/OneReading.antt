@@ -5,7 +5,7 @@ use Rattle.lw_cells.specs.Grammars.{Grammar, IsGrammar}
 use Rattle.lw_cells.specs.Cells.{CellSyntax, MaybeStatement, CellSays, Column}
 use Rattle.lw_cells.specs.Reading.{AtLabel}
 use Rattle.lw_cells.proofs.FrontLabels.{Labels-unique}
-use Rattle.lw_cells.proofs.Zips.{zip_unique}
+use Rattle.lw_cells.proofs.api.Zips.{zip_unique}
 
 module _ {Syntax Stmt : Type 0} (grammar : Grammar Syntax Stmt) (lawful : IsGrammar grammar) where
   -- no statement has a `:` behind its first token

@@ -13,8 +13,7 @@ use Rattle.lw_text.specs.Spans.{texts}
 use Rattle.lw_text.specs.PlacedTokens.{texts_of_tokens}
 use Rattle.lw_text.specs.PlacedCells.{texts_of_cells}
 use Rattle.lw_text.specs.Places.{cell_texts, cells_texts, placed_tokens, placed_row}
-use Rattle.lw_text.proofs.TokenRows.{texts_placed}
-use Rattle.lw_text.proofs.CellPlaces.{cells_placed}
+use Rattle.lw_text.proofs.api.Places.{texts_placed, cells_placed}
 use Rattle.lw_cells.specs.declared.draft.Draft.{Draft}
 use Rattle.lw_cells.specs.declared.draft.DraftCell.{DraftCell}
 use Rattle.lw_cells.specs.Grammars.{Grammar}
@@ -24,8 +23,8 @@ use Rattle.lw_cells.specs.Drafts.{draft_in, draft_cell, DraftRead, LabelMap}
 use Rattle.lw_cells.specs.Reading.{IsDraft, JumpRefused, AllForward}
 use Rattle.lw_cells.proofs.FrontLabels.{labels_rest}
 use Rattle.lw_cells.proofs.Leads.{statements-append, leads_in, leads_nowhere}
-use Rattle.lw_base.proofs.Lists.{at_index, cut_at, get_some, take_one, take_whole, get_append, get_seam}
-use Rattle.lw_cells.proofs.Zips.{zip_length, zip_at, zip_take, zip_drop}
+use Rattle.lw_base.proofs.api.Lists.{at_index, cut_at, get_some, take_one, take_whole, get_append, get_seam}
+use Rattle.lw_cells.proofs.api.Zips.{zip_length, zip_at, zip_take, zip_drop}
 use Rattle.lw_cells.proofs.FaultPlaces.{standing}
 
 module _ {Syntax Stmt : Type 0} (grammar : Grammar Syntax Stmt) where

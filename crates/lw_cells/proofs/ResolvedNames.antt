@@ -6,9 +6,9 @@ use Rattle.std.specs.Option.{ForSome, option_map}
 use Rattle.std.proofs.lemmas.List.{length-map}
 use Rattle.std.proofs.lemmas.List.Elements.{All-from_recursion}
 use Rattle.lw_base.specs.Tables.{contains_name, with_name, with_names, index_of}
-use Rattle.lw_base.proofs.GrowingTables.{contains_name-with_name, contains_name-with_names, index_of-with_names, index_of-within}
+use Rattle.lw_base.proofs.api.GrowingTables.{contains_name-with_name, contains_name-with_names, index_of-with_names, index_of-within}
 use Rattle.lw_cells.specs.Grammars.{Grammar, IsGrammar}
-use Rattle.lw_litmus.specs.Tests.{IsStatement, IsThread}
+use Rattle.lw_litmus.specs.WellFormed.{IsStatement, IsThread}
 use Rattle.lw_cells.specs.Cells.{CellSyntax, statements, LeadsForward, target_in, number_in, led_to, resolved, code_in}
 use Rattle.lw_cells.proofs.Leads.{target_within}
 

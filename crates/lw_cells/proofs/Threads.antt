@@ -11,19 +11,19 @@ use Rattle.lw_base.specs.Names.{IsTable}
 use Rattle.lw_base.specs.Tables.{with_names}
 use Rattle.lw_base.specs.WellFormed.{IsWellFormedHead}
 use Rattle.lw_base.specs.declared.fault.CellCause.{CellCause}
-use Rattle.lw_base.proofs.GrowingTables.{with_names-append, with_names-longer}
-use Rattle.lw_base.proofs.WellFormedHeads.{with_table-well_formed}
+use Rattle.lw_base.proofs.api.GrowingTables.{with_names-append, with_names-longer}
+use Rattle.lw_base.proofs.api.WellFormedHeads.{with_table-well_formed}
 use Rattle.lw_text.specs.declared.cell.Cell.{Cell}
-use Rattle.lw_text.specs.Frames.{TestFrame}
 use Rattle.lw_text.specs.Places.{cells_texts, all_texts, placed_row, placed_cells}
-use Rattle.lw_text.proofs.CellPlaces.{grid_placed}
+use Rattle.lw_text.proofs.api.Places.{grid_placed}
 use Rattle.lw_cells.specs.Grammars.{Grammar, IsGrammar}
-use Rattle.lw_litmus.specs.Tests.{Test, IsThread, IsWellFormed}
+use Rattle.lw_litmus.specs.Tests.{Test}
+use Rattle.lw_litmus.specs.WellFormed.{IsThread, IsWellFormed}
 use Rattle.lw_cells.specs.Cells.{CellSyntax, MaybeStatement, CellSays, Column, statements, names_in, names_of, code_in, test_on, HasTest}
 use Rattle.lw_cells.specs.Faults.{TellsBy}
 use Rattle.lw_cells.specs.Reading.{ColumnRead, ColumnsRead, ColumnFits, ColumnsFit}
 use Rattle.lw_cells.proofs.OneReading.{column_unique}
-use Rattle.lw_cells.proofs.Zips.{zip_unique, zip_more, zip_length, zip_cut}
+use Rattle.lw_cells.proofs.api.Zips.{zip_unique, zip_more, zip_length, zip_cut}
 use Rattle.lw_cells.proofs.ResolvedNames.{LocationsExist, AllSaid, all_along, all_there, map_resolved-along, thread_fits}
 use Rattle.lw_cells.proofs.FaultPlaces.{column_tells}
 
@@ -41,11 +41,6 @@ pub texts_cut : {A : Type 0} (columns : List (List (Cell A))) (i : ℕ) (column 
 texts_cut columns i column within is = ap all_texts (columns_cut columns i column within is) ∙ map-append cells_texts (take i columns) (column ∷ drop (suc i) columns)
 
 module _ {Syntax Stmt : Type 0} (grammar : Grammar Syntax Stmt) (lawful : IsGrammar grammar) where
-  pub one_test : (frame : TestFrame) (s t : Test Stmt) → HasTest grammar frame s → HasTest grammar frame t → s ≡ t
-  one_test frame s t h k =
-      let same = zip_unique (Column grammar) (column_unique grammar lawful) frame.cells h.threads k.threads h.says k.says in
-      h.made ∙ ap (λ ts. test_on grammar frame.head (with_names frame.head.locs (names_of grammar ts)) ts) same ∙ sym k.made
-
   names_of-append : (xs ys : List (List (CellSyntax Syntax))) → names_of grammar (xs ++ ys) ≡ names_of grammar xs ++ names_of grammar ys
   names_of-append xs ys = flat_map-append (names_in grammar) xs ys
 

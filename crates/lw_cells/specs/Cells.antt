@@ -6,7 +6,8 @@ use Rattle.std.specs.Option.{ForSome}
 use Rattle.lw_base.specs.Limits.{most_locations}
 use Rattle.lw_base.specs.Types.{Bytes, NameTable, TokenList, Cells}
 use Rattle.lw_base.specs.Heads.{TestHead, with_table}
-use Rattle.lw_base.specs.Names.{IsLocation, EachOnce}
+use Rattle.lw_base.specs.Lists.{EachOnce}
+use Rattle.lw_base.specs.Names.{IsLocation}
 use Rattle.lw_base.specs.Tables.{contains_name, with_names, index_of}
 use Rattle.lw_text.specs.Frames.{TestFrame}
 use Rattle.lw_cells.specs.Grammars.{Grammar}

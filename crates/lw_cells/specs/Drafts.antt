@@ -8,7 +8,7 @@ use Rattle.std.specs.Cmp.Lexicographic.{slice_cmp}
 use Rattle.std.specs.Ordering.{nat_cmp}
 use denote.Ref.{Bor}
 use Rattle.lw_base.specs.Types.{Bytes, NameTable, TokenList}
-use Rattle.lw_base.specs.Names.{EachOnce}
+use Rattle.lw_base.specs.Lists.{EachOnce}
 use Rattle.lw_base.specs.Tables.{with_names}
 use Rattle.lw_text.specs.declared.cell.Cell.{Cell}
 use Rattle.lw_text.specs.Places.{cells_texts}

@@ -11,8 +11,7 @@ ghost use Rattle.lw_cells.specs.Cells.{CellSyntax, LeadsForward, code_in, resolv
 ghost use Rattle.lw_cells.specs.Faults.{Tells};
 ghost use Rattle.lw_cells.specs.Words.{LiesWithin, IsMisfit};
 ghost use Rattle.lw_cells.specs.Drafts.{AreDrafts, DraftRead, LeadsAs, leading_in, target_by};
-ghost use Rattle.lw_cells.specs.Reading.{MaybeRead, MaybeFault, FitsBelow, AllForward, IsDraft, JumpCause, JumpFault};
-ghost use Rattle.lw_cells.specs.Reading.{ColumnRead, ColumnFits};
+ghost use Rattle.lw_cells.specs.Reading.{MaybeRead, MaybeFault, FitsBelow, AllForward, IsDraft, JumpCause, JumpFault, ColumnRead, ColumnFits};
 
 use crate::draft::{Draft, DraftCell};
 use crate::labels::read_labels;
@@ -46,12 +45,12 @@ pub(crate) fn read_column<L: StatementReader, A: Allocator + Copy>(
     ensures cause { IfErr result (Tells L.grammar locs.old (placed_row cells.now ∷ [])) }
     ensures place { (len : ℕ) → All (IsWithin len) cells.now → IfErr result (λ f. f.at ≤ len) }
 {
-    let draft = read_cells::<L, A>(alloc, cells, locs)?;
+    let draft = read_drafts::<L, A>(alloc, cells, locs)?;
     resolve::<L, A>(alloc, cells, draft.cells.as_slice(), &draft.labels)
 }
 
 /// Reads the cells of a thread, each with its labels and its statement.
-fn read_cells<'a, L: StatementReader, A: Allocator + Copy>(
+fn read_drafts<'a, L: StatementReader, A: Allocator + Copy>(
     alloc: A,
     cells: &[Cell<'a, A>],
     locs: &mut LocNames<A>,

@@ -11,7 +11,7 @@ pub enum Draft<S, J> {
 
 /// What is read of a cell: so many tokens are its labels, and then come a statement's, or none.
 #[derive(Clone, Copy)]
-pub struct DraftCell<S, J> {
-    pub start: usize,
-    pub stmt: Option<Draft<S, J>>,
+pub(crate) struct DraftCell<S, J> {
+    pub(crate) start: usize,
+    pub(crate) stmt: Option<Draft<S, J>>,
 }

@@ -80,7 +80,7 @@ impl<'t, 'a> Phrase<'t, 'a> {
     }
 
     /// There are no more than so many tokens.
-    pub fn ends(&self, count: usize) -> Result<(), CellFault>
+    pub fn expect_end(&self, count: usize) -> Result<(), CellFault>
         ensures ok { OnOk result (length (texts self.now.tokens.now) ≤ count) }
         ensures err { OnErr result (count < length (texts self.now.tokens.now)) }
         ensures cause { IfErr result (λ f. IsMisfit f.cause) }

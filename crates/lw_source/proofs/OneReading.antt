@@ -7,13 +7,13 @@ use Rattle.lw_base.specs.declared.operand.Operand.TheVariants.{Register, Number}
 use Rattle.lw_base.specs.Characters.{is_word_byte}
 use Rattle.lw_base.specs.Names.{IsLocation}
 use Rattle.lw_base.specs.Registers.{IsRegister}
-use Rattle.lw_base.proofs.Registers.{register_unique}
+use Rattle.lw_base.proofs.api.Registers.{register_unique}
 use Rattle.lw_text.specs.Tokens.{IsNumber}
-use Rattle.lw_text.proofs.Atoms.{number-unique}
+use Rattle.lw_text.proofs.api.Numbers.{number-unique}
 use Rattle.lw_cells.specs.Operands.{IsOperand}
 use Rattle.lw_source.specs.Syntax.{StatementSyntax, Stores, Loads, Swaps, Fetch_adds, Sets, Sums, Jumps_if, Jumps_if_not, Jumps, StatementSays}
 use Rattle.lw_source.proofs.Phrases.{first_of, other_letter, begins_as, register_apart, no_reserved, if_register, goto_register, swap_register, fetch_add_register, swap_fetch_add, goto_if, if_if, operand_unique}
-use Rattle.lw_cells.proofs.TokenRows.{location_number}
+use Rattle.lw_cells.proofs.api.TokenRows.{location_number}
 
 apart01 : (a : List ℕ) (r : ℕ) → IsLocation a → IsRegister Source a r → ⊥
 apart01 a r loc reg = register_apart a r reg loc

@@ -7,19 +7,20 @@ use Rattle.lw_base.specs.declared.operand.Operand.TheVariants.{Register, Number}
 use Rattle.lw_base.specs.Names.{IsLocation, is_reserved}
 use Rattle.lw_base.specs.Registers.{IsRegister}
 use Rattle.lw_base.specs.Tables.{with_name, index_of}
-use Rattle.lw_base.proofs.Registers.{register_unique}
+use Rattle.lw_base.proofs.api.Registers.{register_unique}
+use Rattle.lw_base.proofs.api.Lists.{apart}
 use Rattle.lw_text.specs.Tokens.{IsNumber, Digits}
 use Rattle.lw_text.specs.declared.token.Token.{Token}
 use Rattle.lw_text.specs.Spans.{texts}
-use Rattle.lw_text.proofs.Atoms.{number-unique}
+use Rattle.lw_text.proofs.api.Numbers.{number-unique, number_first}
 use Rattle.lw_cells.specs.declared.draft.Draft.TheVariants.{Whole, Jumping}
 use Rattle.lw_cells.specs.Operands.{IsOperand}
 use Rattle.lw_cells.specs.Reading.{StatementRead}
-use Rattle.lw_cells.proofs.TokenRows.{two, three, five, six, number_first}
+use Rattle.lw_cells.proofs.api.TokenRows.{two, three, five, six}
 use Rattle.lw_litmus.specs.declared.stmt.Stmt.TheVariants.{Store, Load, Swap, FetchAdd, Set, Sum}
 use Rattle.lw_source.specs.declared.jump.Jump.TheVariants.{IfEq, IfNe, Always}
 use Rattle.lw_source.specs.Syntax.{StatementSyntax, Stores, Loads, Swaps, Fetch_adds, Sets, Sums, Jumps_if, Jumps_if_not, Jumps, StatementSays, BehindRegister, BeforeLocation}
-use Rattle.lw_source.specs.Drafts.{draft_of}
+use Rattle.lw_source.specs.inner.Drafts.{draft_of}
 use Rattle.lw_source.specs.Grammar.{source_grammar}
 
 -- the name of a register is reserved
@@ -34,9 +35,6 @@ reserved (suc (suc (suc (suc (suc (suc r)))))) h = absurd (omega arith)
 
 pub register_apart : (w : List ℕ) (r : ℕ) → IsRegister Source w r → IsLocation w → ⊥
 register_apart w r reg loc = true≢false (sym (reserved r reg.0) ∙ ap is_reserved reg.1 ∙ loc.1)
-
-apart : (a b : ℕ) (u v : List ℕ) → (a ≡ b → ⊥) → a ∷ u ≡ b ∷ v → ⊥
-apart a b u v differ same = differ cc
 
 -- a word that begins with another letter is no register
 pub other_letter : (b : ℕ) (ds : List ℕ) (r : ℕ) → (114 ≡ b → ⊥) → IsRegister Source (b ∷ ds) r → ⊥

@@ -19,7 +19,7 @@ use Rattle.lw_source.specs.declared.jump.Jump.TheVariants.{IfEq, IfNe, Always}
 use Rattle.lw_source.specs.Syntax.{StatementSyntax, Stores, Loads, Swaps, Fetch_adds, Sets, Sums, Jumps_if, Jumps_if_not, Jumps, StatementSays, label_of}
 use Rattle.lw_litmus.specs.Sources.{source, registers_of, numbers_of}
 use Rattle.lw_source.specs.Grammar.{statement, source_grammar}
-use Rattle.lw_source.specs.Drafts.{draft_of, jump_to}
+use Rattle.lw_source.specs.inner.Drafts.{draft_of, jump_to}
 use Rattle.lw_source.proofs.Phrases.{first_of}
 use Rattle.lw_source.proofs.OneReading.{statement_unique, no_label}
 

@@ -2,7 +2,8 @@
 use Rattle.std.specs.Prelude.{ℕ}
 use Rattle.lw_litmus.specs.declared.stmt.Stmt.{Stmt}
 use Rattle.lw_litmus.specs.declared.stmt.Stmt.TheVariants.{Store, Load, Swap, FetchAdd, Set, Sum, IfEq, IfNe, Goto}
-use Rattle.lw_litmus.specs.Sources.{SourceTest, source}
+use Rattle.lw_litmus.specs.Sources.{source}
+use Rattle.lw_litmus.specs.Tests.{SourceTest}
 use Rattle.lw_text.specs.Frames.{TestFrame}
 use Rattle.lw_cells.specs.Grammars.{Grammar}
 use Rattle.lw_cells.specs.Cells.{HasTest}

@@ -2,4 +2,4 @@ pub use Rattle.lw_litmus.specs.Sources
 pub use Rattle.lw_litmus.specs.Views
 pub mod Syntax
 pub mod Grammar
-pub mod Drafts
+pub mod inner

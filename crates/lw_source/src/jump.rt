@@ -3,7 +3,7 @@ use lw_base::{Reg, Word};
 
 /// A jump, without the statement that it leads to.
 #[derive(Clone, Copy)]
-pub enum Jump {
+pub(crate) enum Jump {
     /// `if a = n goto`
     IfEq { reg: Reg, num: Word },
     /// `if a != n goto`

@@ -7,9 +7,9 @@ ghost use Rattle.lw_text.specs.Frames.{TestFrame};
 ghost use Rattle.lw_text.specs.Views.{frame_of};
 ghost use Rattle.lw_text.specs.Places.{placed_cells};
 ghost use Rattle.lw_cells.specs.Faults.{Tells};
-ghost use Rattle.lw_litmus.specs.Sources.{SourceTest};
-ghost use Rattle.lw_source.specs.Grammar.{HasSource, source_grammar};
+ghost use Rattle.lw_litmus.specs.Tests.{SourceTest};
 ghost use Rattle.lw_litmus.specs.Views.{source_of};
+ghost use Rattle.lw_source.specs.Grammar.{HasSource, source_grammar};
 
 use crate::statement::SourceLanguage;
 use lw_base::CellFault;

@@ -9,7 +9,7 @@ ghost use Rattle.lw_text.specs.Spans.{texts};
 ghost use Rattle.lw_cells.specs.Words.{IsMisfit, RegisterAt, LiesWithin};
 ghost use Rattle.lw_cells.specs.Reading.{Fits, StatementRead, StatementFault};
 ghost use Rattle.lw_source.specs.Syntax.{StatementSyntax, StatementSays, Swaps, Fetch_adds, Sums, Jumps_if, Jumps_if_not, Jumps, CanBegin};
-ghost use Rattle.lw_source.specs.Drafts.{draft_of, jump_to, PlainRead};
+ghost use Rattle.lw_source.specs.inner.Drafts.{draft_of, jump_to, PlainRead};
 ghost use Rattle.lw_source.specs.Grammar.{source_grammar};
 
 use crate::jump::Jump;
@@ -40,7 +40,7 @@ impl StatementReader for SourceLanguage {
     }
 
     fn can_begin(token: &Token<'_>) -> bool {
-        is_first(token)
+        begins_statement(token)
     }
 
     fn read<A: Allocator + Copy>(
@@ -60,7 +60,7 @@ impl StatementReader for SourceLanguage {
 }
 
 /// Whether a statement can begin with the token.
-fn is_first(token: &Token<'_>) -> bool
+fn begins_statement(token: &Token<'_>) -> bool
     ensures { IsTrue result ↔ CanBegin token.now.text.now }
 {
     token.text == "if"
@@ -94,7 +94,7 @@ fn read_statement<A: Allocator + Copy>(
     let loc = location(&first, locs)?;
     phrase.expect(1, ":=")?;
     let val = operand(Arch::Source, &phrase.token(2)?)?;
-    phrase.ends(3)?;
+    phrase.expect_end(3)?;
     Ok(Draft::Whole(Stmt::Store { loc, val }))
 }
 
@@ -107,7 +107,7 @@ fn read_goto(phrase: &Phrase<'_, '_>) -> Result<Draft<Stmt, Jump>, CellFault>
     ensures place { (len : ℕ) → LiesWithin len phrase.now → IfErr result (λ f. f.at ≤ len) }
 {
     label(&phrase.token(1)?)?;
-    phrase.ends(2)?;
+    phrase.expect_end(2)?;
     Ok(Draft::Jumping(Jump::Always, 1))
 }
 
@@ -125,7 +125,7 @@ fn read_if(phrase: &Phrase<'_, '_>) -> Result<Draft<Stmt, Jump>, CellFault>
     let num = word(&phrase.token(3)?)?;
     phrase.expect(4, "goto")?;
     label(&phrase.token(5)?)?;
-    phrase.ends(6)?;
+    phrase.expect_end(6)?;
     if is_equal {
         return Ok(Draft::Jumping(Jump::IfEq { reg, num }, 5));
     }
@@ -175,12 +175,12 @@ fn read_value<A: Allocator + Copy>(
         return read_sum(phrase, dst, left);
     }
     if let Some(word) = number(third.text) {
-        phrase.ends(3)?;
+        phrase.expect_end(3)?;
         let val = Operand::Number(word);
         return Ok(Draft::Whole(Stmt::Set { dst, val }));
     }
     let loc = location(&third, locs)?;
-    phrase.ends(3)?;
+    phrase.expect_end(3)?;
     Ok(Draft::Whole(Stmt::Load { dst, loc }))
 }
 
@@ -202,7 +202,7 @@ fn read_swap<A: Allocator + Copy>(
 {
     let loc = location(&phrase.token(3)?, locs)?;
     let src = register(Arch::Source, &phrase.token(4)?)?;
-    phrase.ends(5)?;
+    phrase.expect_end(5)?;
     Ok(Draft::Whole(Stmt::Swap { dst, loc, src }))
 }
 
@@ -224,7 +224,7 @@ fn read_fetch_add<A: Allocator + Copy>(
 {
     let loc = location(&phrase.token(3)?, locs)?;
     let src = register(Arch::Source, &phrase.token(4)?)?;
-    phrase.ends(5)?;
+    phrase.expect_end(5)?;
     Ok(Draft::Whole(Stmt::FetchAdd { dst, loc, src }))
 }
 
@@ -245,6 +245,6 @@ fn read_sum(phrase: &Phrase<'_, '_>, dst: Reg, left: Reg) -> Result<Draft<Stmt, 
     }
     phrase.expect(3, "+")?;
     let right = operand(Arch::Source, &phrase.token(4)?)?;
-    phrase.ends(5)?;
+    phrase.expect_end(5)?;
     Ok(Draft::Whole(Stmt::Sum { dst, left, right }))
 }

@@ -1,43 +1,17 @@
 -- Numbers, values and sites are read in one way.
-use Rattle.std.proofs.Common.{◌≡◌, ℕ, ◌<◌, ◌⊎◌, inl, inr, true, [], ◌∷◌, ◌++◌, length, ap, subst, arith}
+use Rattle.std.proofs.Common.{◌≡◌, ℕ, ◌<◌, ◌⊎◌, inl, inr, [], ◌∷◌, length, ap, subst, arith}
 use Rattle.std.specs.Prelude.{codes}
-use Rattle.std.specs.Char.{digit_value, is_ascii_digit}
-use Rattle.std.proofs.lemmas.Bool.Decides.{nat_tests}
 use Rattle.lw_base.specs.Types.{Bytes, TokenList}
 use Rattle.lw_base.specs.declared.head.Arch.{Arch}
-use Rattle.lw_base.specs.Characters.{begins}
 use Rattle.lw_base.specs.Names.{IsName}
 use Rattle.lw_base.specs.Registers.{IsRegister}
-use Rattle.lw_base.proofs.Registers.{register_unique}
-use Rattle.lw_text.specs.Tokens.{Digits, IsNumber}
+use Rattle.lw_base.proofs.api.Registers.{register_unique}
+use Rattle.lw_text.specs.Tokens.{IsNumber}
 use Rattle.lw_text.specs.Sites.{SiteSyntax, InMemory, InThread, IsSite, Value}
-use Rattle.lw_text.proofs.Numbers.{Digits-unique}
-
-decimal_first : (b : ℕ) → digit_value b < 10 → is_ascii_digit b ≡ true
-decimal_first b h = grind (arith, nat_tests)
-
--- a number begins with a digit
-pub number_first : (w : Bytes) (n : ℕ) → IsNumber w n → begins is_ascii_digit w ≡ true
-number_first [] n (b, inl d) = absurd (omega arith)
-number_first (x ∷ w) n (b, inl d) = decimal_first x d.1.0
-number_first w n (b, inr h) = ap (begins is_ascii_digit) h.1
+use Rattle.lw_text.proofs.api.Numbers.{number_first, bracket_no_number, number-unique}
 
 pub number_no_name : (w : Bytes) (n : ℕ) → IsNumber w n → IsName w → ⊥
 number_no_name w n p q = let h = number_first w n p in let k = q.0.front in cc
-
--- decimal digits don't begin with `0x`
-no_both : (w ds : Bytes) (n : ℕ) → Digits 10 0 w n → w ≡ codes "0x" ++ ds → ⊥
-no_both w ds n d e = let h : Digits 10 0 (48 ∷ 120 ∷ ds) n = subst (λ l. Digits 10 0 l n) e d in omega (arith, h.1.0)
-
-pub number-unique : (w : Bytes) (m n : ℕ) → IsNumber w m → IsNumber w n → m ≡ n
-number-unique w m n (a, inl p) (b, inl q) = Digits-unique 10 0 w m n p.1 q.1
-number-unique w m n (a, inl p) (b, inr q) = absurd (no_both w q.0 m p.1 q.1)
-number-unique w m n (a, inr p) (b, inl q) = absurd (no_both w p.0 n q.1 p.1)
-number-unique w m n (a, inr p) (b, inr q) =
-    let f = p.1 in
-    let g = q.1 in
-    let e : q.0 ≡ p.0 = cc in
-    Digits-unique 16 0 p.0 m n p.3 (subst (λ l. Digits 16 0 l n) e q.3)
 
 pub value_none : (ts l m : TokenList) (t : Bytes) → ts ≡ codes "=" ∷ l → l ≡ t ∷ m → ((n : ℕ) → IsNumber t n → ⊥) → (v : ℕ) (rest : TokenList) → Value ts v rest → ⊥
 value_none ts l m t e f none v rest p =
@@ -59,9 +33,6 @@ Value-shorter ts rest v p = omega (arith, ap length p.1)
 
 pub bracket_no_name : IsName (codes "[") → ⊥
 bracket_no_name n = let h = n.0.all.0 in cc
-
-pub bracket_no_number : (n : ℕ) → IsNumber (codes "[") n → ⊥
-bracket_no_number n h = let k = number_first (codes "[") n h in cc
 
 pub IsSite-unique : (arch : Arch) (ts : TokenList) (a b : SiteSyntax) (r s : TokenList) → IsSite arch ts a r → IsSite arch ts b s → (a ≡ b) × (r ≡ s)
 IsSite-unique arch ts (InMemory x) (InMemory y) r s (p, inl e) (q, inl f) = let k : x ≡ y = cc in (ap InMemory k, cc)

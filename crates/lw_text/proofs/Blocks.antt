@@ -1,9 +1,9 @@
 -- The entries of an initial block, read one after another.
-use Rattle.std.proofs.Common.{◌≡◌, ◌<◌, ◌≤◌, false, List, [], ◌∷◌, ◌++◌, length, map, refl, sym, ap, ◌∙◌, subst, arith}
+use Rattle.std.proofs.Common.{◌≡◌, ◌<◌, ◌≤◌, false, List, [], ◌∷◌, ◌++◌, length, map, refl, subst, arith}
 use Rattle.std.specs.Prelude.{codes, All}
 use Rattle.std.specs.List.{AllByRecursion}
 use Rattle.std.proofs.lemmas.List.Elements.{All-from_recursion}
-use Rattle.lw_base.specs.Types.{Bytes, NameTable, TokenList}
+use Rattle.lw_base.specs.Types.{NameTable, TokenList}
 use Rattle.lw_base.specs.declared.head.Arch.{Arch}
 use Rattle.lw_base.specs.Tables.{with_names}
 use Rattle.lw_text.specs.declared.block.Entry.{Entry as Made}
@@ -12,13 +12,13 @@ use Rattle.lw_text.specs.Lists.{Ended}
 use Rattle.lw_text.specs.Sites.{SiteSyntax, site_names}
 use Rattle.lw_text.specs.Conditions.{begins_word}
 use Rattle.lw_text.specs.Frames.{EntrySyntax, IsEntry, Block}
-use Rattle.lw_text.specs.Resolved.{named, named_entry, IsIn}
+use Rattle.lw_text.specs.inner.Resolved.{named, named_entry, IsIn}
 use Rattle.lw_text.proofs.Atoms.{IsSite-shorter, Value-shorter}
 use Rattle.lw_text.proofs.Entries.{IsEntry-unique, brace, semicolon, brace_unlike, brace_apart}
 use Rattle.lw_text.proofs.Lists.{Ended-unique}
 use Rattle.lw_text.proofs.NameTables.{entry-along}
 use Rattle.lw_text.proofs.Readings.{Read, read_none, read_more, read_last, read_end, read_none_here, read_no_mark, names_are_more, within_more}
-use Rattle.lw_text.proofs.Texts.{is_no_text}
+use Rattle.lw_text.proofs.Texts.{no_word_next}
 
 abbrev site_of : Made → MadeSite
 site_of e = e.site
@@ -46,10 +46,6 @@ ended arch ts start all rest head block =
 all_unit : (all : List EntrySyntax) → AllByRecursion (λ e. Unit {0}) all
 all_unit [] = tt
 all_unit (e ∷ all) = (tt, all_unit all)
-
--- whether a word is next
-pub no_word_next : (w : Bytes) (ts l : TokenList) → begins_word w ts ≡ false → ts ≡ w ∷ l → ⊥
-no_word_next w ts l h e = is_no_text w w (ap (begins_word w) (sym e) ∙ h) refl
 
 module _ (arch : Arch) (first names start here : TokenList) (es : List Made) (read : EntriesRead arch first names start here es) where
   pub entries_end : (rest : TokenList) → here ≡ brace ∷ rest → Ended (IsEntry arch) semicolon brace start (map (named_entry names) es) rest

@@ -13,11 +13,11 @@ use Rattle.lw_text.specs.Rows.{Header, Rows}
 use Rattle.lw_text.specs.Sites.{ThreadExists, site_names}
 use Rattle.lw_text.specs.Propositions.{Terminal, is_node}
 use Rattle.lw_text.specs.Conditions.{AtomSyntax, Listed, Quantified, Terminals, Condition, sites_in}
-use Rattle.lw_text.specs.Frames.{Block, TestSyntax, table, Parts}
-use Rattle.lw_text.specs.Resolved.{named, named_entry, thread_exists, IsIn}
-use Rattle.lw_base.proofs.Elements.{each_of}
+use Rattle.lw_text.specs.Frames.{Block, TestSyntax, table, Parts, sites_of}
+use Rattle.lw_text.specs.inner.Resolved.{named, named_entry, thread_exists, IsIn}
+use Rattle.lw_base.proofs.api.Elements.{each_of}
 use Rattle.lw_text.proofs.NameTables.{named-along, entry-along, all_at-along, all_in-along}
-use Rattle.lw_text.proofs.Whole.{first_names, all_there, table_parts, block_sites}
+use Rattle.lw_text.proofs.Whole.{first_names, all_there, table_parts}
 
 -- what the lists in memory say, by the names of a table
 abbrev pub syntax_by : TokenList → List MadeEntry → ℕ → CellGrid → List MadeSite → Quant → List (Terminal AtomSyntax) → TestSyntax
@@ -97,7 +97,7 @@ module _ (arch : Arch) (ts a b c : TokenList) (first last : TokenList) (es : Lis
   last_table : last ≡ table all_syntax
   last_table =
       is_last
-      ∙ ap (λ ns. with_names (with_names ns (site_names (map (named last) ss))) (site_names (sites_in terminals))) (first_names arch ts a first es block is_first ∙ ap (λ l. with_names [] (site_names (block_sites l))) (sym entries_last))
+      ∙ ap (λ ns. with_names (with_names ns (site_names (map (named last) ss))) (site_names (sites_in terminals))) (first_names arch ts a first es block is_first ∙ ap (λ l. with_names [] (site_names (sites_of l))) (sym entries_last))
       ∙ sym (table_parts all_syntax)
 
   all_parts : Parts arch ts all_syntax

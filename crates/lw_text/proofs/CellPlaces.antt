@@ -10,10 +10,10 @@ use Rattle.lw_text.specs.declared.cell.Cell.{Cell}
 use Rattle.lw_text.specs.Spans.{texts, Leaves}
 use Rattle.lw_text.specs.Rows.{ends_cell, Rows}
 use Rattle.lw_text.specs.PlacedTokens.{PlacedToken, texts_of_tokens}
-use Rattle.lw_text.specs.PlacedCells.{PlacedCell, texts_of_cells, texts_of_grid, CellsFrom, RowsFrom, HasRows}
-use Rattle.lw_text.specs.Places.{placed, placed_tokens, placed_cell, placed_row, placed_cells, cells_texts, all_texts, IsWithin}
-use Rattle.lw_base.proofs.Elements.{each_of, all_map, all_parts, all_unmap}
-use Rattle.lw_text.proofs.TokenRows.{texts_placed}
+use Rattle.lw_text.specs.PlacedCells.{PlacedCell, texts_of_grid, CellsFrom, RowsFrom, HasRows}
+use Rattle.lw_text.specs.Places.{placed, placed_tokens, placed_cell, placed_row, placed_cells, all_texts, IsWithin}
+use Rattle.lw_base.proofs.api.Elements.{each_of, all_map, all_parts, all_unmap}
+use Rattle.lw_text.proofs.api.Places.{texts_placed, grid_placed}
 
 -- what is left of what is left of some tokens is left of them
 pub Leaves-join : {a b c : List Token} → Leaves a b → Leaves b c → Leaves a c
@@ -25,14 +25,6 @@ Leaves-behind a b c (Ok x) t e h = Leaves-join (t ∷ [], e) h
 Leaves-behind a b c (Err x) t e h = tt
 
 -- ---- without places
-
-pub cells_placed : {A : Type 0} (cells : List (Cell A)) → texts_of_cells (placed_row cells) ≡ cells_texts cells
-cells_placed [] = refl
-cells_placed (cell ∷ cells) = ap (λ x. x ∷ texts_of_cells (placed_row cells)) (texts_placed cell.tokens) ∙ ap (λ xs. texts cell.tokens ∷ xs) (cells_placed cells)
-
-pub grid_placed : {A : Type 0} (rows : List (List (Cell A))) → texts_of_grid (placed_cells rows) ≡ all_texts rows
-grid_placed [] = refl
-grid_placed (row ∷ rows) = ap (λ x. x ∷ texts_of_grid (placed_cells rows)) (cells_placed row) ∙ ap (λ xs. cells_texts row ∷ xs) (grid_placed rows)
 
 -- rows in memory are rows of tokens with places
 pub rows_placed : {A : Type 0} (n : ℕ) (ts rest : List Token) (rows : List (List (Cell A))) → Rows n (texts ts) (all_texts rows) (texts rest) → Rows n (texts_of_tokens (placed_tokens ts)) (texts_of_grid (placed_cells rows)) (texts_of_tokens (placed_tokens rest))

@@ -2,7 +2,7 @@
 use Rattle.std.proofs.Common.{◌≡◌, true, false, List, [], ◌∷◌, refl, sym, ap, ◌∙◌, subst}
 use Rattle.lw_base.specs.Formula.{Formula, Not, And, Or}
 use Rattle.lw_text.specs.Propositions.{Terminal, Open, Close, Negation, Conjunction, Disjunction, Atom, begins_and, begins_or, Nonterminal, Part, Ands, Ors, Derives, atom, negated, parens, no_and, and, no_or, or, IsProposition}
-use Rattle.lw_text.specs.Pending.{begins_part}
+use Rattle.lw_text.specs.inner.Pending.{begins_part}
 
 abbrev pub Terminals : Type 0
 Terminals = List (Terminal Formula)

@@ -13,7 +13,7 @@ use Rattle.lw_text.specs.Tokens.{First}
 use Rattle.lw_base.specs.Names.{IsTestName}
 use Rattle.lw_text.specs.Headings.{Named, Notes, Heading}
 use Rattle.lw_text.proofs.Texts.{is_no_text}
-use Rattle.lw_base.proofs.Blanks.{blank_all}
+use Rattle.lw_base.proofs.api.Blanks.{blank_all}
 use Rattle.lw_text.proofs.Words.{run-unique}
 use Rattle.lw_text.proofs.TokenRows.{First-unique}
 use Rattle.lw_text.proofs.NoteRows.{Notes-unique}

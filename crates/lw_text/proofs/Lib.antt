@@ -1,5 +1,5 @@
+pub mod api
 pub mod Faults
-pub mod PropositionNodes
 pub mod Numbers
 pub mod Texts
 pub mod Lists
@@ -7,10 +7,6 @@ pub mod Comments
 pub mod TriviaLemmas
 pub mod Words
 pub mod TokenRows
-pub mod Spelling
-pub mod PrintedPropositions
-pub mod ConditionTokens
-pub mod PrintedConditions
 pub mod NoteRows
 pub mod Headings
 pub mod Headers

@@ -10,9 +10,9 @@ use Rattle.lw_text.specs.declared.site.Site.{Site as Made}
 use Rattle.lw_text.specs.Lists.{Ended}
 use Rattle.lw_text.specs.Sites.{SiteSyntax, IsSite, ThreadExists, site_names}
 use Rattle.lw_text.specs.Conditions.{begins_word, Listed}
-use Rattle.lw_text.specs.Resolved.{named, IsIn}
+use Rattle.lw_text.specs.inner.Resolved.{named, IsIn}
 use Rattle.lw_text.proofs.Atoms.{IsSite-unique}
-use Rattle.lw_text.proofs.Blocks.{no_word_next}
+use Rattle.lw_text.proofs.Texts.{no_word_next}
 use Rattle.lw_text.proofs.Entries.{bracket, semicolon, bracket_unlike, bracket_apart}
 use Rattle.lw_text.proofs.Lists.{Ended-unique}
 use Rattle.lw_text.proofs.NameTables.{named-along}

@@ -8,19 +8,19 @@ use Rattle.std.proofs.lemmas.Bool.{cases_Bool}
 use Rattle.std.proofs.lemmas.Slice.Eq.{bytes_eq-Decides}
 use Rattle.std.proofs.lemmas.Option.{slice_get_within, get_or_from_slice_get}
 use Rattle.lw_base.specs.Types.{Bytes, NameTable, TokenList}
-use Rattle.lw_base.specs.Names.{EachOnce}
+use Rattle.lw_base.specs.Lists.{EachOnce}
 use Rattle.lw_base.specs.Tables.{contains_name, with_name, with_names, index_of}
 use Rattle.lw_base.specs.declared.head.Seen.{Seen}
 use Rattle.lw_base.specs.declared.head.Seen.TheVariants as seen
-use Rattle.lw_base.proofs.Tables.{index_of-at}
-use Rattle.lw_base.proofs.GrowingTables.{with_name-grows, with_names-longer, contains_name-with_name}
+use Rattle.lw_base.proofs.api.Tables.{index_of-at}
+use Rattle.lw_base.proofs.api.GrowingTables.{with_name-grows, with_names-longer, contains_name-with_name}
 use Rattle.lw_text.specs.declared.site.Site.{Site}
 use Rattle.lw_text.specs.declared.site.Site.TheVariants as made
 use Rattle.lw_text.specs.declared.block.Entry.{Entry}
 use Rattle.lw_text.specs.Sites.{InMemory, seen_in}
 use Rattle.lw_base.specs.SeenLists.{same_seen}
 use Rattle.lw_text.specs.Frames.{word_of}
-use Rattle.lw_text.specs.Resolved.{named, named_entry, seen_of, IsIn, word_at, is_listed}
+use Rattle.lw_text.specs.inner.Resolved.{named, named_entry, seen_of, IsIn, word_at, is_listed}
 
 -- ---- the place of a name
 

@@ -4,12 +4,11 @@ use Rattle.std.specs.Prelude.{◌==◌}
 use Rattle.std.specs.List.{AllByRecursion, list_all}
 use Rattle.std.proofs.lemmas.Bool.{not-true, not-false, eqb-true}
 use Rattle.lw_base.specs.Types.{Bytes}
-use Rattle.lw_base.specs.Characters.{begins}
-use Rattle.lw_base.specs.Characters.{is_key_byte, is_space}
+use Rattle.lw_base.specs.Characters.{begins, is_key_byte, is_space}
 use Rattle.lw_text.specs.Tokens.{begins_trivia, Trivia}
 use Rattle.lw_text.specs.Headings.{Quoted, KeyLine, Note, Notes, none, note}
 use Rattle.lw_text.proofs.TriviaLemmas.{Trivia-unique, Trivia-suffix}
-use Rattle.lw_base.proofs.Blanks.{any_all, same_byte}
+use Rattle.lw_base.proofs.api.Blanks.{any_all, same_byte}
 use Rattle.lw_text.proofs.Words.{run-unique, no_trivia_at}
 
 -- ---- quoted texts

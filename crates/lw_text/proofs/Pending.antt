@@ -4,7 +4,7 @@ use Rattle.std.proofs.lemmas.List.{nil_from_length, length-reverse, length-map}
 use Rattle.std.specs.Prelude.{is_some, if◌then◌else◌}
 use Rattle.lw_base.specs.Formula.{Formula, Not}
 use Rattle.lw_text.specs.Propositions.{Terminal, Open, Close, Negation, Conjunction, Disjunction, Atom, begins_and, begins_or, Ands, Ors, Derives, atom, negated, parens, no_and, and, no_or, or, IsProposition}
-use Rattle.lw_text.specs.Pending.{Pending, ReaderState, negations, after_and, after_or, ands_of, ors_of, opened, with_not, with_and, with_or, Has, Wants, Rest, GoesOn, begins_part, step_before, step_behind, step}
+use Rattle.lw_text.specs.inner.Pending.{Pending, ReaderState, negations, after_and, after_or, ands_of, ors_of, opened, with_not, with_and, with_or, Has, Wants, Rest, GoesOn, begins_part, step_before, step_behind, step}
 use Rattle.lw_text.proofs.Derivations.{Terminals, part_atom, part_not, part_open, part_begins, part_end, ands_more, ands_stop, ors_more, ors_stop}
 
 negations-not : (n : ℕ) (p : Formula) → negations n (Not p) ≡ Not (negations n p)

@@ -7,20 +7,20 @@ use Rattle.std.proofs.lemmas.List.Elements.{filter-append, filter_map-append}
 use Rattle.lw_base.specs.Types.{Bytes, NameTable, TokenList}
 use Rattle.lw_base.specs.declared.head.Arch.{Arch}
 use Rattle.lw_base.specs.Formula.{Formula, Word_is}
-use Rattle.lw_base.specs.Names.{EachOnce}
+use Rattle.lw_base.specs.Lists.{EachOnce}
 use Rattle.lw_base.specs.Tables.{contains_name, with_names}
-use Rattle.lw_base.proofs.Tables.{index_of-at}
-use Rattle.lw_base.proofs.GrowingTables.{with_names-append, with_names-longer, contains_name-with_name, contains_name-with_names, index_of-with_names, once-along}
+use Rattle.lw_base.proofs.api.Tables.{index_of-at}
+use Rattle.lw_base.proofs.api.GrowingTables.{with_names-append, with_names-longer, contains_name-with_name, contains_name-with_names, index_of-with_names, once-along}
 use Rattle.lw_text.specs.declared.proposition_reader.PropositionReader.{PropositionReader}
 use Rattle.lw_text.specs.declared.terminal.Terminal.{Terminal as Made}
 use Rattle.lw_text.specs.declared.terminal.Terminal.TheVariants as made
 use Rattle.lw_text.specs.declared.terminal.Atom.TheVariants as atoms
 use Rattle.lw_text.specs.Sites.{InMemory, InThread, site_names}
 use Rattle.lw_text.specs.Propositions.{Terminal, Open, Close, Negation, Conjunction, Disjunction, Atom, is_node, IsProposition}
-use Rattle.lw_text.specs.Pending.{Completes, begins_part}
-use Rattle.lw_text.specs.Terminals.{terminal_of}
+use Rattle.lw_text.specs.inner.Pending.{Completes, begins_part}
+use Rattle.lw_text.specs.inner.Terminals.{terminal_of}
 use Rattle.lw_text.specs.Conditions.{AtomSyntax, Always, Never, Holds, IsTerminal, Terminals, begins_word, site_of, sites_in, resolved}
-use Rattle.lw_text.specs.Resolved.{named_terminal, TerminalIn}
+use Rattle.lw_text.specs.inner.Resolved.{named_terminal, TerminalIn}
 use Rattle.lw_text.proofs.NameTables.{slice_get-within}
 use Rattle.lw_text.proofs.Readings.{site_names-append}
 use Rattle.lw_text.proofs.Texts.{is_text}

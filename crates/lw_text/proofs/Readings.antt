@@ -5,11 +5,11 @@ use Rattle.std.proofs.lemmas.List.{map-append, map_push}
 use Rattle.std.proofs.lemmas.List.Elements.{filter_map-append}
 use Rattle.lw_base.specs.Types.{Bytes, NameTable, TokenList}
 use Rattle.lw_base.specs.Tables.{with_names}
-use Rattle.lw_base.proofs.GrowingTables.{with_names-append, with_names-longer}
+use Rattle.lw_base.proofs.api.GrowingTables.{with_names-append, with_names-longer}
 use Rattle.lw_text.specs.declared.site.Site.{Site as Made}
 use Rattle.lw_text.specs.Lists.{Ended}
 use Rattle.lw_text.specs.Sites.{SiteSyntax, site_name, site_names}
-use Rattle.lw_text.specs.Resolved.{named, IsIn}
+use Rattle.lw_text.specs.inner.Resolved.{named, IsIn}
 use Rattle.lw_text.proofs.Entries.{semicolon}
 use Rattle.lw_text.proofs.Lists.{Listing, Listing-push, Listing-end, Listing-last, Listing-here, Listing-mark}
 use Rattle.lw_text.proofs.NameTables.{all_at-along, all_in-along}

@@ -4,9 +4,9 @@ use Rattle.std.specs.Prelude.{filter}
 use Rattle.std.specs.List.{AllByRecursion, range_with_len}
 use Rattle.lw_base.specs.Types.{Bytes, NameTable, TokenList}
 use Rattle.lw_base.specs.declared.head.Arch.{Arch}
-use Rattle.lw_base.specs.Names.{EachOnce}
+use Rattle.lw_base.specs.Lists.{EachOnce}
 use Rattle.lw_base.specs.Propositions.{formula_of}
-use Rattle.lw_base.proofs.GrowingTables.{once-along}
+use Rattle.lw_base.proofs.api.GrowingTables.{once-along}
 use Rattle.lw_text.specs.declared.block.Entry.{Entry}
 use Rattle.lw_text.specs.declared.site.Site.{Site}
 use Rattle.lw_text.specs.declared.parts.Body.{Body}
@@ -14,8 +14,8 @@ use Rattle.lw_text.specs.Sites.{site_names}
 use Rattle.lw_text.specs.Conditions.{sites_in}
 use Rattle.lw_base.specs.SeenLists.{registers_of, all_registers, locations}
 use Rattle.lw_text.specs.Frames.{word_of, listed_in, table, head_of_syntax}
-use Rattle.lw_text.specs.Resolved.{named, named_entry, IsIn, word_at, is_listed, resolved_head, HasSyntax}
-use Rattle.lw_base.proofs.Elements.{each_of}
+use Rattle.lw_text.specs.inner.Resolved.{named, named_entry, IsIn, word_at, is_listed, resolved_head, HasSyntax}
+use Rattle.lw_base.proofs.api.Elements.{each_of}
 use Rattle.lw_text.proofs.NameTables.{words-named, listed-named}
 
 map_same : {X Y : Type 0} (f g : X → Y) → ((x : X) → f x ≡ g x) → (xs : List X) → map f xs ≡ map g xs

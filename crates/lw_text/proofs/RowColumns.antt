@@ -9,7 +9,7 @@ use Rattle.std.proofs.lemmas.Option.{slice_get_read, slice_get_within, get_or_fr
 use Rattle.std.specs.Option.{option_map}
 use Rattle.lw_text.specs.declared.cell.Cell.{Cell}
 use Rattle.lw_text.specs.Rows.{column, columns}
-use Rattle.lw_base.proofs.Elements.{each_of}
+use Rattle.lw_base.proofs.api.Elements.{each_of}
 use Rattle.lw_text.specs.Places.{cell_texts, all_texts, placed_cell, placed_cells, height}
 
 -- one more row

@@ -7,14 +7,15 @@ use Rattle.lw_base.specs.declared.head.Arch.{Arch}
 use Rattle.lw_base.specs.Names.{IsName, IsLocation}
 use Rattle.lw_base.specs.Registers.{IsRegister}
 use Rattle.lw_base.specs.Tables.{with_name, with_names}
-use Rattle.lw_text.specs.declared.fault.Fault.{Fault}
+use Rattle.lw_text.specs.declared.fault.Refusal.{Refusal}
 use Rattle.lw_text.specs.declared.fault.Cause.TheVariants.{Memory}
 use Rattle.lw_text.specs.declared.site.Site.{Site}
 use Rattle.lw_text.specs.declared.site.Site.TheVariants as made
 use Rattle.lw_text.specs.Tokens.{IsNumber}
 use Rattle.lw_text.specs.Sites.{SiteSyntax, InMemory, InThread, IsSite, ThreadExists, ThreadAllowed, site_names}
-use Rattle.lw_text.specs.Resolved.{named, is_allowed}
-use Rattle.lw_text.proofs.Atoms.{number_no_name, number-unique, bracket_no_name, bracket_no_number}
+use Rattle.lw_text.specs.inner.Resolved.{named, is_allowed}
+use Rattle.lw_text.proofs.Atoms.{number_no_name, bracket_no_name}
+use Rattle.lw_text.proofs.api.Numbers.{bracket_no_number, number-unique}
 use Rattle.lw_text.proofs.NameTables.{named-at}
 
 -- a location is allowed, and a register of a thread that is
@@ -26,11 +27,11 @@ pub allowed_thread : (threads : Option ℕ) (t r : ℕ) → is_allowed threads t
 allowed_thread None t r e = tt
 allowed_thread (Some threads) t r e = ltb-true t threads e
 
-pub there_in_brackets : (names after : NameTable) (ts l : TokenList) (threads : Option ℕ) (r : Result Site Fault) → IfOk r (λ s. (x : Bytes) × (ts ≡ x ∷ codes "]" ∷ l) × IsLocation x × (named after s ≡ InMemory x) × (after ≡ with_name names x)) → IfOk r (λ s. ThreadAllowed threads (named after s))
+pub there_in_brackets : (names after : NameTable) (ts l : TokenList) (threads : Option ℕ) (r : Result Site Refusal) → IfOk r (λ s. (x : Bytes) × (ts ≡ x ∷ codes "]" ∷ l) × IsLocation x × (named after s ≡ InMemory x) × (after ≡ with_name names x)) → IfOk r (λ s. ThreadAllowed threads (named after s))
 there_in_brackets names after ts l threads (Ok s) h = subst (ThreadAllowed threads) (sym h.3) (allowed_location threads h.0)
 there_in_brackets names after ts l threads (Err f) h = tt
 
-pub there_of_thread : (arch : Arch) (after : NameTable) (ts l : TokenList) (threads : Option ℕ) (t : ℕ) (r : Result Site Fault) → is_allowed threads t ≡ true → IfOk r (λ s. (q : Bytes) × (reg : ℕ) × (ts ≡ codes ":" ∷ q ∷ l) × IsRegister arch q reg × ((names : NameTable) → named names s ≡ InThread t reg)) → IfOk r (λ s. ThreadAllowed threads (named after s))
+pub there_of_thread : (arch : Arch) (after : NameTable) (ts l : TokenList) (threads : Option ℕ) (t : ℕ) (r : Result Site Refusal) → is_allowed threads t ≡ true → IfOk r (λ s. (q : Bytes) × (reg : ℕ) × (ts ≡ codes ":" ∷ q ∷ l) × IsRegister arch q reg × ((names : NameTable) → named names s ≡ InThread t reg)) → IfOk r (λ s. ThreadAllowed threads (named after s))
 there_of_thread arch after ts l threads t (Ok s) allowed h = subst (ThreadAllowed threads) (sym (h.4 after)) (allowed_thread threads t h.1 allowed)
 there_of_thread arch after ts l threads t (Err f) allowed h = tt
 
@@ -64,12 +65,12 @@ module _ (arch : Arch) (names ts l : TokenList) (t : Bytes) (e : ts ≡ t ∷ l)
   location_none no_bracket no_number never (InThread u r) rest p few = let f = p.2 in let k : p.0 ≡ t = cc in no_number u (subst (λ w. IsNumber w u) k p.3)
 
   -- in brackets, told of a fault
-  pub brackets_fault : {T : Type 0} (r : Result T Fault) → t ≡ codes "[" → IfErr r (λ f. f.cause ≢ Memory → (x : Bytes) (rest : TokenList) → l ≡ x ∷ codes "]" ∷ rest → IsLocation x → length (with_name names x) ≤ 8 → ⊥) → (threads : Option ℕ) → IfErr r (λ f. f.cause ≢ Memory → (s : SiteSyntax) (rest : TokenList) → IsSite arch ts s rest → ThreadAllowed threads s → length (with_names names (site_names (s ∷ []))) ≤ 8 → ⊥)
+  pub brackets_fault : {T : Type 0} (r : Result T Refusal) → t ≡ codes "[" → IfErr r (λ f. f.cause ≢ Memory → (x : Bytes) (rest : TokenList) → l ≡ x ∷ codes "]" ∷ rest → IsLocation x → length (with_name names x) ≤ 8 → ⊥) → (threads : Option ℕ) → IfErr r (λ f. f.cause ≢ Memory → (s : SiteSyntax) (rest : TokenList) → IsSite arch ts s rest → ThreadAllowed threads s → length (with_names names (site_names (s ∷ []))) ≤ 8 → ⊥)
   brackets_fault (Ok x) b h threads = tt
   brackets_fault (Err f) b h threads = λ ne s rest p there few. brackets_none b (h ne) s rest p few
 
   -- behind a number, told of a fault
-  pub register_fault : {T : Type 0} (r : Result T Fault) (n : ℕ) → IsNumber t n → OnErr r ((q : Bytes) (r : ℕ) (rest : TokenList) → l ≡ codes ":" ∷ q ∷ rest → IsRegister arch q r → ⊥) → (threads : Option ℕ) → IfErr r (λ f. f.cause ≢ Memory → (s : SiteSyntax) (rest : TokenList) → IsSite arch ts s rest → ThreadAllowed threads s → length (with_names names (site_names (s ∷ []))) ≤ 8 → ⊥)
+  pub register_fault : {T : Type 0} (r : Result T Refusal) (n : ℕ) → IsNumber t n → OnErr r ((q : Bytes) (r : ℕ) (rest : TokenList) → l ≡ codes ":" ∷ q ∷ rest → IsRegister arch q r → ⊥) → (threads : Option ℕ) → IfErr r (λ f. f.cause ≢ Memory → (s : SiteSyntax) (rest : TokenList) → IsSite arch ts s rest → ThreadAllowed threads s → length (with_names names (site_names (s ∷ []))) ≤ 8 → ⊥)
   register_fault (Ok x) n number h threads = tt
   register_fault (Err f) n number h threads = λ ne s rest p there few. register_none n number h s rest p
 

@@ -1,25 +1,17 @@
 -- What registers and locations begin with, one further.
-use Rattle.std.proofs.Common.{◌≡◌, ℕ, zero, suc, ◌+◌, ◌<◌, ◌≤◌, Bool, true, false, List, [], ◌∷◌, ◌++◌, length, map, take, get_or, refl, sym, ap, ◌∙◌, arith, append_assoc, zero-add}
+use Rattle.std.proofs.Common.{◌≡◌, ℕ, zero, suc, ◌+◌, ◌<◌, Bool, true, false, List, [], ◌∷◌, ◌++◌, length, map, take, get_or, refl, sym, ap, ◌∙◌, arith, append_assoc, zero-add}
 use Rattle.std.specs.Prelude.{filter, if◌then◌else◌}
 use Rattle.std.specs.List.{flat_map, range_with_len}
 use Rattle.std.proofs.lemmas.Grind.{flat_map-append}
-use Rattle.std.proofs.lemmas.List.{take_more, append-nil, map_push, get_or-take, length-take}
+use Rattle.std.proofs.lemmas.List.{take_more, append-nil, map_push}
 use Rattle.std.proofs.lemmas.List.Sums.{fold-append}
 use Rattle.std.proofs.lemmas.List.Elements.{filter-append}
-use Rattle.std.proofs.lemmas.List.FromFn.{map-range_with_len_more, get_or-range_with_len, length-range_with_len}
+use Rattle.std.proofs.lemmas.List.FromFn.{map-range_with_len_more}
 use Rattle.lw_base.specs.declared.head.Seen.{Seen}
 use Rattle.lw_base.specs.declared.head.Seen.TheVariants.{Location}
 use Rattle.lw_text.specs.declared.block.Entry.{Entry}
 use Rattle.lw_base.specs.SeenLists.{same_seen, registers_of, all_registers, locations}
-use Rattle.lw_text.specs.Resolved.{seen_of, word_at}
-
--- an element of the first so many numbers is its index
-pub is_index : (n len k x : ℕ) (all xs : List ℕ) → all ≡ range_with_len 0 n → xs ≡ take len all → k < length xs → x ≡ get_or xs k x → x ≡ k
-is_index n len k x all xs e f lt is =
-    let cut : xs ≡ take len (range_with_len 0 n) = f ∙ ap (take len) e in
-    let short : length xs ≤ n = omega (arith, ap length cut, length-take len (range_with_len 0 n), length-range_with_len 0 n) in
-    let at : get_or (take len (range_with_len 0 n)) k x ≡ get_or (range_with_len 0 n) k x = get_or-take len (range_with_len 0 n) k x (omega (arith, ap length cut, length-take len (range_with_len 0 n))) in
-    is ∙ ap (λ l. get_or l k x) cut ∙ at ∙ get_or-range_with_len 0 n k x (omega arith) ∙ zero-add k
+use Rattle.lw_text.specs.inner.Resolved.{seen_of, word_at}
 
 -- the word after one more entry
 pub word_more : (es : List Entry) (i : ℕ) (e : Entry) (s : Seen) → i < length es → e ≡ get_or es i e → word_at (take (i + 1) es) s ≡ (if same_seen (seen_of e.site) s then e.word else word_at (take i es) s)

@@ -9,7 +9,8 @@ use Rattle.lw_text.specs.Tokens.{IsNumber}
 use Rattle.lw_text.specs.Sites.{SiteSyntax, InMemory, InThread, IsSite, ThreadExists, Value}
 use Rattle.lw_text.specs.Propositions.{Terminal, Open, Close, Negation, Conjunction, Disjunction, Atom}
 use Rattle.lw_text.specs.Conditions.{AtomSyntax, Always, Never, Holds, IsTerminal, Terminals}
-use Rattle.lw_text.proofs.Atoms.{number_first, IsSite-unique, IsSite-shorter, Value-unique, Value-shorter, site_front}
+use Rattle.lw_text.proofs.Atoms.{IsSite-unique, IsSite-shorter, Value-unique, Value-shorter, site_front}
+use Rattle.lw_text.proofs.api.Numbers.{number_first}
 use Rattle.lw_text.proofs.Texts.{is_no_text}
 
 -- ---- a terminal

@@ -4,9 +4,10 @@ use Rattle.std.specs.Prelude.{codes}
 use Rattle.std.specs.Str.{bytes_eq}
 use Rattle.std.proofs.lemmas.List.{drop_all, length-map}
 use Rattle.std.proofs.lemmas.Slice.Eq.{bytes_eq-Decides}
-use Rattle.lw_base.specs.Types.{Bytes}
+use Rattle.lw_base.specs.Types.{Bytes, TokenList}
 use Rattle.lw_text.specs.declared.token.Token.{Token}
 use Rattle.lw_text.specs.Spans.{texts}
+use Rattle.lw_text.specs.Conditions.{begins_word}
 
 pub is_text : (t u : Bytes) → bytes_eq t u ≡ true → t ≡ u
 is_text t u h = (bytes_eq-Decides t u).0 h
@@ -16,6 +17,10 @@ is_no_text t u h e = let k = (bytes_eq-Decides t u).1 e in cc
 
 pub marks_apart : codes "|" ≡ codes ";" → ⊥
 marks_apart e = is_no_text (codes "|") (codes ";") refl e
+
+-- where a word is not next
+pub no_word_next : (w : Bytes) (ts l : TokenList) → begins_word w ts ≡ false → ts ≡ w ∷ l → ⊥
+no_word_next w ts l h e = is_no_text w w (ap (begins_word w) (sym e) ∙ h) refl
 
 -- the next token of some
 pub token_next : (tokens : List Token) (next : ℕ) (t : Token) → next < length tokens → t ≡ get_or tokens next t → drop next tokens ≡ t ∷ drop (next + 1) tokens

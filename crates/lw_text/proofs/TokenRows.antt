@@ -8,6 +8,7 @@ use Rattle.lw_text.specs.Tokens.{begins_trivia, Trivia, IsToken, First, Tokens}
 use Rattle.lw_text.specs.PlacedTokens.{PlacedToken, texts_of_tokens, PlacedTokens}
 use Rattle.lw_text.specs.Spans.{texts}
 use Rattle.lw_text.specs.Places.{placed_tokens}
+use Rattle.lw_text.proofs.api.Places.{texts_placed}
 use Rattle.lw_text.proofs.TriviaLemmas.{Trivia-unique, Trivia-suffix}
 use Rattle.lw_text.proofs.Words.{token-unique, token_no_trivia, token_nonempty}
 
@@ -90,10 +91,6 @@ First-shorter text t rest f =
 pub Tokens-of : (len : ℕ) (text : Bytes) (ts : List PlacedToken) → PlacedTokens len text ts → Tokens text (texts_of_tokens ts)
 Tokens-of len text [] p = p
 Tokens-of len text (t ∷ ts) p = (p.0, p.1, Tokens-of len p.0 ts p.3)
-
-pub texts_placed : (ts : List Token) → texts_of_tokens (placed_tokens ts) ≡ texts ts
-texts_placed [] = refl
-texts_placed (t ∷ ts) = ap (λ x. t.text.now ∷ x) (texts_placed ts)
 
 -- the tokens of a text that was read to its end
 pub read_whole : {F : Type 0} (o : Option F) (len : ℕ) (rest : Bytes) (ts : List Token) → IfNone o (PlacedTokens len rest (placed_tokens ts)) → IfNone o (Tokens rest (texts ts))

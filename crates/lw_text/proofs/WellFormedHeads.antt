@@ -12,24 +12,24 @@ use Rattle.lw_base.specs.Propositions.{formula_of}
 use Rattle.lw_base.specs.WellFormed.{IsWord, IsSeen, SpeaksOf, IsWellFormedHead}
 use Rattle.lw_base.specs.Names.{IsLocation, IsTestName}
 use Rattle.lw_base.specs.Tables.{contains_name, with_name, with_names}
-use Rattle.lw_base.proofs.GrowingTables.{once-along, index_of-within, with_names-append}
+use Rattle.lw_base.proofs.api.GrowingTables.{once-along, index_of-within, with_names-append}
 use Rattle.lw_base.specs.declared.head.Arch.{Arch}
 use Rattle.lw_text.specs.Lists.{Ended}
 use Rattle.lw_text.specs.Sites.{SiteSyntax, InMemory, InThread, IsSite, ThreadExists, site_names, seen_in}
 use Rattle.lw_text.specs.Propositions.{Terminal, Open, Close, Negation, Conjunction, Disjunction, Atom, Nonterminal, Part, Ands, Ors, Derives, atom, negated, parens, no_and, and, no_or, or, IsProposition}
 use Rattle.lw_text.specs.Conditions.{AtomSyntax, Always, Never, Holds, IsTerminal, Terminals, Listed, site_of, sites_in, resolved}
-use Rattle.lw_text.specs.Frames.{EntrySyntax, IsEntry, Block, word_of, table, TestSyntax, Parts, TestFrame, HasFrame, head_of_syntax}
+use Rattle.lw_text.specs.Frames.{EntrySyntax, IsEntry, Block, word_of, table, TestSyntax, Parts, TestFrame, HasFrame, head_of_syntax, sites_of}
 use Rattle.lw_base.specs.SeenLists.{same_seen, registers_of, all_registers, locations}
 use Rattle.lw_text.specs.Headings.{Heading}
 use Rattle.lw_text.specs.declared.parts.Body.{Body}
-use Rattle.lw_text.specs.Resolved.{HasSyntax, resolved_head}
-use Rattle.lw_base.proofs.Elements.{all_append, all_filter, all_of_range, all_mapped}
-use Rattle.lw_base.proofs.SeenLists.{ascending_filter, all_seen, all_ascending}
-use Rattle.lw_text.proofs.PropositionNodes.{proposition_nodes, resolved_single, resolved_count}
+use Rattle.lw_text.specs.inner.Resolved.{HasSyntax, resolved_head}
+use Rattle.lw_base.proofs.api.Elements.{all_append, all_filter, all_of_range, all_mapped}
+use Rattle.lw_base.proofs.api.SeenLists.{ascending_filter, all_seen, all_ascending}
+use Rattle.lw_text.proofs.api.PropositionNodes.{proposition_nodes, resolved_single, resolved_count}
 use Rattle.lw_text.proofs.ResolvedHeads.{head_made}
 use Rattle.lw_text.proofs.PropositionRows.{ThreadExists as IsNamed, AllThere, there_now, all_more}
 use Rattle.lw_text.proofs.Readings.{site_names-append}
-use Rattle.lw_text.proofs.Whole.{header_some, block_sites, table_parts}
+use Rattle.lw_text.proofs.Whole.{header_some, table_parts}
 
 -- ---- names
 
@@ -50,10 +50,10 @@ listed_right : (arch : Arch) (ts rest : List (List ℕ)) (ss : List SiteSyntax) 
 listed_right arch ts rest ss (inl p) = ended_right (IsSite arch) IsRight (site_right arch) (codes ";") (codes "]") ss p.0 rest p.2
 listed_right arch ts rest ss (inr p) = subst (AllByRecursion IsRight) (sym p.1) tt
 
-block_right : (arch : Arch) (ts rest : List (List ℕ)) (es : List EntrySyntax) → Block arch ts es rest → AllByRecursion IsRight (block_sites es)
+block_right : (arch : Arch) (ts rest : List (List ℕ)) (es : List EntrySyntax) → Block arch ts es rest → AllByRecursion IsRight (sites_of es)
 block_right arch ts rest es b = go es (ended_right (IsEntry arch) (λ e. IsRight e.site) (λ ts rest e p. site_right arch ts p.0 e.site p.1) (codes ";") (codes "}") es b.0 rest b.2)
   where
-    go : (es : List EntrySyntax) → AllByRecursion (λ e. IsRight e.site) es → AllByRecursion IsRight (block_sites es)
+    go : (es : List EntrySyntax) → AllByRecursion (λ e. IsRight e.site) es → AllByRecursion IsRight (sites_of es)
     go [] h = tt
     go (e ∷ es) h = (h.0, go es h.1)
 
@@ -196,8 +196,8 @@ head_well_formed : (arch : Arch) (ts : List (List ℕ)) (name : List ℕ) (s : T
 head_well_formed arch ts name s p allowed parts whole =
     let c = parts.condition in
     let fit = terminals_fit arch s.threads c.behind_quant s.terminals c.says in
-    let right = all_append IsRight (block_sites s.entries ++ s.listed) (sites_in s.terminals) (all_append IsRight (block_sites s.entries) s.listed (block_right arch ts parts.behind_block s.entries parts.block) (listed_right arch parts.behind_rows c.behind_list s.listed c.lists)) (sites_right s.threads s.terminals fit) in
-    let named = subst (λ ns. AllThere ns s.terminals) (sym (table_parts s)) (terminals_named (with_names (with_names [] (site_names (block_sites s.entries))) (site_names s.listed)) s.terminals) in
+    let right = all_append IsRight (sites_of s.entries ++ s.listed) (sites_in s.terminals) (all_append IsRight (sites_of s.entries) s.listed (block_right arch ts parts.behind_block s.entries parts.block) (listed_right arch parts.behind_rows c.behind_list s.listed c.lists)) (sites_right s.threads s.terminals fit) in
+    let named = subst (λ ns. AllThere ns s.terminals) (sym (table_parts s)) (terminals_named (with_names (with_names [] (site_names (sites_of s.entries))) (site_names s.listed)) s.terminals) in
     let begins = first_word (table s) s.entries (block_words arch ts parts.behind_block s.entries parts.block) in
     record {
       name = allowed;
@@ -205,8 +205,8 @@ head_well_formed arch ts name s p allowed parts whole =
       few = parts.header.1;
       table = record {
         few = parts.few_names;
-        all = table_right [] (site_names (block_sites s.entries ++ s.listed ++ sites_in s.terminals)) tt (names_right (block_sites s.entries ++ s.listed ++ sites_in s.terminals) right);
-        once = once-along [] (site_names (block_sites s.entries ++ s.listed ++ sites_in s.terminals)) tt;
+        all = table_right [] (site_names (sites_of s.entries ++ s.listed ++ sites_in s.terminals)) tt (names_right (sites_of s.entries ++ s.listed ++ sites_in s.terminals) right);
+        once = once-along [] (site_names (sites_of s.entries ++ s.listed ++ sites_in s.terminals)) tt;
       };
       regs = length-map-range_with_len (λ t. map (word_of (table s) s.entries) (registers_of t)) 0 s.threads;
       six = all_of_range (λ row. length row ≡ 6) (λ t. map (word_of (table s) s.entries) (registers_of t)) 0 s.threads (λ t le lt. refl);

@@ -10,7 +10,7 @@ use Rattle.lw_base.specs.declared.head.Quant.{Quant}
 use Rattle.lw_base.specs.declared.head.Quant.TheVariants.{Exists, NotExists, Forall}
 use Rattle.lw_base.specs.Formula.{Formula}
 use Rattle.lw_base.specs.Tables.{with_names}
-use Rattle.lw_base.proofs.GrowingTables.{with_names-append, with_names-longer}
+use Rattle.lw_base.proofs.api.GrowingTables.{with_names-append, with_names-longer}
 use Rattle.lw_text.specs.declared.cell.Cell.{Cell}
 use Rattle.lw_text.specs.declared.site.Site.{Site as MadeSite}
 use Rattle.lw_text.specs.declared.site.Site.TheVariants as made
@@ -22,33 +22,28 @@ use Rattle.lw_text.specs.Rows.{Header, Row, Rows, begins_stop}
 use Rattle.lw_text.specs.Sites.{SiteSyntax, ThreadExists, site_names}
 use Rattle.lw_text.specs.Propositions.{Terminal, is_node, IsProposition}
 use Rattle.lw_text.specs.Conditions.{AtomSyntax, Listed, Quantified, Terminals, Condition, sites_in, resolved}
-use Rattle.lw_text.specs.Frames.{EntrySyntax, Block, TestSyntax, table, Parts, IsNoTest, TestFrame, HasFrame, made_of}
+use Rattle.lw_text.specs.Frames.{EntrySyntax, sites_of, Block, TestSyntax, table, Parts, IsNoTest, TestFrame, HasFrame}
 use Rattle.lw_text.specs.Places.{cell_texts, all_texts}
-use Rattle.lw_text.specs.Resolved.{named, named_entry, thread_exists}
+use Rattle.lw_text.specs.inner.Resolved.{named, named_entry, thread_exists}
 use Rattle.lw_text.proofs.Blocks.{Block-unique}
 use Rattle.lw_text.proofs.Cells.{Rows-unique}
 use Rattle.lw_text.proofs.Headers.{Names-unique}
 use Rattle.lw_text.proofs.Headings.{Heading-unique}
 use Rattle.lw_text.proofs.Listings.{Listed-unique}
 use Rattle.lw_text.proofs.Readings.{site_names-append}
-use Rattle.lw_text.proofs.Derivations.{IsProposition-unique}
 use Rattle.lw_text.proofs.TerminalLists.{Terminals-unique}
 use Rattle.lw_text.proofs.Texts.{is_no_text}
 use Rattle.lw_text.proofs.TokenRows.{Tokens-unique}
 
 -- ---- the table of names
 
--- the sites of the initial block
-abbrev pub block_sites : List EntrySyntax → List SiteSyntax
-block_sites entries = map (λ e. e.site) entries
-
-pub table_parts : (s : TestSyntax) → table s ≡ with_names (with_names (with_names [] (site_names (block_sites s.entries))) (site_names s.listed)) (site_names (sites_in s.terminals))
+pub table_parts : (s : TestSyntax) → table s ≡ with_names (with_names (with_names [] (site_names (sites_of s.entries))) (site_names s.listed)) (site_names (sites_in s.terminals))
 table_parts s =
-    ap (with_names []) (site_names-append (block_sites s.entries ++ s.listed) (sites_in s.terminals) ∙ ap (λ l. l ++ site_names (sites_in s.terminals)) (site_names-append (block_sites s.entries) s.listed))
-    ∙ with_names-append [] (site_names (block_sites s.entries) ++ site_names s.listed) (site_names (sites_in s.terminals))
-    ∙ ap (λ ns. with_names ns (site_names (sites_in s.terminals))) (with_names-append [] (site_names (block_sites s.entries)) (site_names s.listed))
+    ap (with_names []) (site_names-append (sites_of s.entries ++ s.listed) (sites_in s.terminals) ∙ ap (λ l. l ++ site_names (sites_in s.terminals)) (site_names-append (sites_of s.entries) s.listed))
+    ∙ with_names-append [] (site_names (sites_of s.entries) ++ site_names s.listed) (site_names (sites_in s.terminals))
+    ∙ ap (λ ns. with_names ns (site_names (sites_in s.terminals))) (with_names-append [] (site_names (sites_of s.entries)) (site_names s.listed))
 
-pub sites_of_block : (names : NameTable) (es : List MadeEntry) → block_sites (map (named_entry names) es) ≡ map (λ e. named names e.site) es
+pub sites_of_block : (names : NameTable) (es : List MadeEntry) → sites_of (map (named_entry names) es) ≡ map (λ e. named names e.site) es
 sites_of_block names [] = refl
 sites_of_block names (e ∷ es) = ap (λ l. named names e.site ∷ l) (sites_of_block names es)
 
@@ -92,10 +87,10 @@ Quantified-unique ts Forall Forall r s e f = (refl, cc)
 -- ---- where the block and the header end early
 
 -- where nothing of the front is there, no parts are
-pub no_front : (arch : Arch) (ts : TokenList) → ((es : List EntrySyntax) (n : ℕ) (mid rest : TokenList) → Block arch ts es mid → Header mid n rest → AllByRecursion (λ e. ThreadExists n e.site) es → length (with_names [] (site_names (block_sites es))) ≤ 8 → ⊥) → (s : TestSyntax) → Parts arch ts s → ⊥
+pub no_front : (arch : Arch) (ts : TokenList) → ((es : List EntrySyntax) (n : ℕ) (mid rest : TokenList) → Block arch ts es mid → Header mid n rest → AllByRecursion (λ e. ThreadExists n e.site) es → length (with_names [] (site_names (sites_of es))) ≤ 8 → ⊥) → (s : TestSyntax) → Parts arch ts s → ⊥
 no_front arch ts never s p =
     never s.entries s.threads p.behind_block p.behind_header p.block p.header p.there
-    (omega (arith, p.few_names, ap length (table_parts s), with_names-longer (with_names [] (site_names (block_sites s.entries))) (site_names s.listed), with_names-longer (with_names (with_names [] (site_names (block_sites s.entries))) (site_names s.listed)) (site_names (sites_in s.terminals))))
+    (omega (arith, p.few_names, ap length (table_parts s), with_names-longer (with_names [] (site_names (sites_of s.entries))) (site_names s.listed), with_names-longer (with_names (with_names [] (site_names (sites_of s.entries))) (site_names s.listed)) (site_names (sites_in s.terminals))))
 
 module _ (arch : Arch) (ts a : TokenList) (entries : List EntrySyntax) (block : Block arch ts entries a) where
   pub no_header : ((n : ℕ) (rest : TokenList) → Header a n rest → ⊥) → (es : List EntrySyntax) (n : ℕ) (mid rest : TokenList) → Block arch ts es mid → Header mid n rest → ⊥
@@ -140,7 +135,7 @@ module _ (arch : Arch) (ts a : TokenList) (entries : List EntrySyntax) (block : 
   pub no_rows : ((rows : CellGrid) (rest : TokenList) → Rows n b rows rest → ⊥) → (s : TestSyntax) → Parts arch ts s → ⊥
   no_rows never s p = never s.rows p.behind_rows (at_rows s p).2
 
-  module _ (rows : CellGrid) (c : TokenList) (are_rows : Rows n b rows c) (first : TokenList) (is_first : first ≡ with_names [] (site_names (block_sites entries))) where
+  module _ (rows : CellGrid) (c : TokenList) (are_rows : Rows n b rows c) (first : TokenList) (is_first : first ≡ with_names [] (site_names (sites_of entries))) where
     at_condition : (s : TestSyntax) → Parts arch ts s → (s.entries ≡ entries) × (s.threads ≡ n) × (s.rows ≡ rows) × Condition arch n c s.listed s.quant s.terminals
     at_condition s p =
         let h = at_rows s p in
@@ -150,13 +145,13 @@ module _ (arch : Arch) (ts a : TokenList) (entries : List EntrySyntax) (block : 
     pub no_condition : ((listed : List SiteSyntax) (quant : Quant) (ss : List (Terminal AtomSyntax)) (p : Formula) → Condition arch n c listed quant ss → length (with_names (with_names first (site_names listed)) (site_names (sites_in ss))) ≤ 8 → length (filter is_node ss) ≤ 256 → IsProposition (map (resolved (with_names (with_names first (site_names listed)) (site_names (sites_in ss)))) ss) p → ⊥) → (s : TestSyntax) (p : Formula) → Parts arch ts s → IsProposition (map (resolved (table s)) s.terminals) p → ⊥
     no_condition never s f p whole =
         let h = at_condition s p in
-        let names : with_names [] (site_names (block_sites s.entries)) ≡ first = ap (λ es. with_names [] (site_names (block_sites es))) h.0 ∙ sym is_first in
+        let names : with_names [] (site_names (sites_of s.entries)) ≡ first = ap (λ es. with_names [] (site_names (sites_of es))) h.0 ∙ sym is_first in
         let all : table s ≡ with_names (with_names first (site_names s.listed)) (site_names (sites_in s.terminals)) = table_parts s ∙ ap (λ ns. with_names (with_names ns (site_names s.listed)) (site_names (sites_in s.terminals))) names in
         never s.listed s.quant s.terminals f h.3 (omega (arith, p.few_names, ap length all)) p.few_nodes (subst (λ ns. IsProposition (map (resolved ns) s.terminals) f) all whole)
 
 pub Parts-unique : (arch : Arch) (ts : TokenList) (s t : TestSyntax) → Parts arch ts s → Parts arch ts t → s ≡ t
 Parts-unique arch ts s t p q =
-    let h = at_condition arch ts q.behind_block t.entries q.block t.threads q.behind_header q.header t.rows q.behind_rows q.rows (with_names [] (site_names (block_sites t.entries))) refl s p in
+    let h = at_condition arch ts q.behind_block t.entries q.block t.threads q.behind_header q.header t.rows q.behind_rows q.rows (with_names [] (site_names (sites_of t.entries))) refl s p in
     let u = Listed-unique arch q.behind_rows s.listed t.listed h.3.behind_list q.condition.behind_list h.3.lists q.condition.lists in
     let v = Quantified-unique q.condition.behind_list s.quant t.quant h.3.behind_quant q.condition.behind_quant (subst (λ l. Quantified l s.quant h.3.behind_quant) u.1 h.3.quantifies) q.condition.quantifies in
     let w = Terminals-unique arch t.threads s.terminals t.terminals q.condition.behind_quant (subst (λ l. Terminals arch t.threads l s.terminals) v.1 h.3.says) q.condition.says in
@@ -179,7 +174,7 @@ Parts-unique arch ts s t p q =
 -- ---- what a body says
 
 module _ (arch : Arch) (ts a : TokenList) (names : NameTable) (es : List MadeEntry) (block : Block arch ts (map (named_entry names) es) a) (is_names : names ≡ with_names [] (site_names (map (λ e. named names e.site) es))) where
-  pub first_names : names ≡ with_names [] (site_names (block_sites (map (named_entry names) es)))
+  pub first_names : names ≡ with_names [] (site_names (sites_of (map (named_entry names) es)))
   first_names = is_names ∙ ap (λ l. with_names [] (site_names l)) (sym (sites_of_block names es))
 
 -- ---- rows
@@ -208,15 +203,3 @@ no_frame text arch name rest heading never frame h =
 pub no_test : {F : Type 0} (arch : Arch) (o : Option F) (rest : Bytes) (ts : TokenList) → IfNone o (Tokens rest ts) → OnSome o ((us : TokenList) → Tokens rest us → ⊥) → IfNone o (IsNoTest arch ts) → (us : TokenList) → Tokens rest us → IsNoTest arch us
 no_test arch None rest ts row fault never us other s p parts whole = never s p (subst (λ x. Parts arch x s) (Tokens-unique us ts rest other row) parts) whole
 no_test arch (Some f) rest ts row fault never us other s p parts whole = fault us other
-
-pub HasFrame-unique : (text : Bytes) (f g : TestFrame) → HasFrame text f → HasFrame text g → f ≡ g
-HasFrame-unique text f g p q =
-    let head = Heading-unique text p.arch p.name p.rest q.arch q.name q.rest p.heading q.heading in
-    let tokens = Tokens-unique p.tokens q.tokens q.rest (subst (λ x. Tokens x p.tokens) head.2 p.row) q.row in
-    let parts = subst (λ a. Parts a q.tokens p.syntax) head.0 (subst (λ x. Parts p.arch x p.syntax) tokens p.parts) in
-    let syntax : p.syntax ≡ q.syntax = Parts-unique q.arch q.tokens p.syntax q.syntax parts q.parts in
-    let condition : p.condition ≡ q.condition = IsProposition-unique (map (resolved (table q.syntax)) q.syntax.terminals) p.condition q.condition (subst (λ (s : TestSyntax). IsProposition (map (resolved (table s)) s.terminals) p.condition) syntax p.proposition) q.proposition in
-    let arch : p.arch ≡ q.arch = head.0 in
-    let name : p.name ≡ q.name = head.1 in
-    p.made ∙ ap (λ (a : Arch). made_of a p.name p.syntax p.condition) arch ∙ ap (λ n. made_of q.arch n p.syntax p.condition) name ∙ ap (λ (s : TestSyntax). made_of q.arch q.name s p.condition) syntax
-    ∙ ap (λ (c : Formula). made_of q.arch q.name q.syntax c) condition ∙ sym q.made

@@ -1,14 +1,14 @@
 -- Words and symbols, and what stands behind them.
-use Rattle.std.proofs.Common.{◌≡◌, ℕ, ◌<◌, inl, inr, Bool, true, false, not, List, [], ◌∷◌, ◌++◌, length, refl, sym, ap, ◌∙◌, subst, arith}
+use Rattle.std.proofs.Common.{◌≡◌, ℕ, ◌<◌, inl, inr, Bool, true, false, not, [], ◌∷◌, ◌++◌, length, refl, sym, ap, ◌∙◌, subst, arith}
 use Rattle.std.specs.Prelude.{◌==◌, Option, Some, None, MatchOption, is_some}
 use Rattle.std.specs.Str.{bytes_eq}
-use Rattle.std.specs.List.{AllByRecursion, list_any, list_all}
+use Rattle.std.specs.List.{AllByRecursion, list_all}
 use Rattle.std.proofs.lemmas.Slice.Eq.{bytes_eq-Decides}
-use Rattle.std.proofs.lemmas.Bool.{or_cases, and_parts, eqb-true, not-true, cases_Bool}
+use Rattle.std.proofs.lemmas.Bool.{eqb-true, not-true, cases_Bool}
 use Rattle.lw_base.specs.Types.{Bytes}
 use Rattle.lw_base.specs.Characters.{is_blank, is_word_byte, begins}
 use Rattle.lw_base.specs.Names.{IsName}
-use Rattle.lw_base.proofs.Blanks.{any_all, same_byte, blank_all}
+use Rattle.lw_base.proofs.api.Blanks.{any_all, same_byte, blank_all}
 use Rattle.lw_text.specs.Tokens.{begins_trivia, begins_pair, is_single, is_pair, pairs, singles, IsNumber, IsKind, IsWord, IsSymbol, IsToken}
 
 -- ---- rows of bytes

@@ -4,8 +4,7 @@ pub mod Lists
 pub mod Rows
 pub mod Sites
 pub mod Propositions
-pub mod Terminals
-pub mod Pending
+pub mod inner
 pub mod Conditions
 pub mod Frames
 pub mod PlacedTokens
@@ -13,5 +12,4 @@ pub mod PlacedCells
 pub mod Causes
 pub mod Spans
 pub mod Places
-pub mod Resolved
 pub mod Views

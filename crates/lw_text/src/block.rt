@@ -5,18 +5,18 @@ ghost use Rattle.lw_base.specs.Refusals.{NotReadWhere};
 ghost use Rattle.lw_text.specs.Frames.{sites_of, Entries, IsEntry, Block};
 ghost use Rattle.lw_text.specs.Sites.{HasRoomFor, with_sites};
 ghost use Rattle.lw_text.specs.declared.fault.Cause.TheVariants.{Memory};
-ghost use Rattle.lw_text.specs.Resolved.{named, named_entry, thread_exists, IsIn};
+ghost use Rattle.lw_text.specs.inner.Resolved.{named, named_entry, thread_exists, IsIn};
 
 use crate::cursor::Cursor;
-use crate::fault::{Cause, Fault};
+use crate::fault::{Cause, Refusal};
 use crate::site::Site;
 use lw_base::{Arch, LocNames, Sequence, Word};
 use std::alloc::Allocator;
 
-/// An entry of the block: the place of its first token, a site, and the word that it begins with.
+/// An entry of the block: the number of its first token, a site, and the word that it begins with.
 #[derive(Clone, Copy)]
 pub(crate) struct Entry {
-    pub(crate) at: usize,
+    pub(crate) token: usize,
     pub(crate) site: Site,
     pub(crate) word: Word,
 }
@@ -30,18 +30,15 @@ impl<'t, 'a> Cursor<'t, 'a> {
         alloc: A,
         arch: Arch,
         locs: &mut LocNames<A>,
-    ) -> Result<Sequence<Entry, A>, Fault>
+    ) -> Result<Sequence<Entry, A>, Refusal>
         ensures found { IfOk result (λ es. Block arch (left self.old) (map (named_entry locs.new) es)
             (left self.new)) }
         ensures names { IfOk result (λ es. locs.new ≡ with_sites locs.old (map
             (λ e. named locs.new e.site) es)) }
         ensures within { IfOk result (λ es. All (λ e. IsIn locs.new e.site) es) }
-        ensures places { IfOk result (λ es. All (λ e. e.at ≤ self.old.len) es) }
         ensures fault { IfErr result (λ f. NotReadWhere Memory f.cause (Block arch (left self.old))
             (λ es. HasRoomFor locs.old (sites_of es))) }
         ensures leaves { OnOk result (MovesOn self.old self.new) }
-        ensures place { IfErr result (λ f. f.at ≤ self.old.len) }
-        ensures same { self.new.len ≡ self.old.len }
     {
         self.expect("{", Cause::Unexpected)?;
         let mut entries = Sequence::new(alloc);
@@ -56,19 +53,16 @@ impl<'t, 'a> Cursor<'t, 'a> {
         arch: Arch,
         entries: &mut Sequence<Entry, A>,
         locs: &mut LocNames<A>,
-    ) -> Result<(), Fault>
+    ) -> Result<(), Refusal>
         requires { entries.old ≡ [] }
         ensures found { OnOk result (Entries arch (left self.old)
             (map (named_entry locs.new) entries.new) (left self.new)) }
         ensures names { OnOk result (locs.new ≡ with_sites locs.old (map
             (λ e. named locs.new e.site) entries.new)) }
         ensures within { OnOk result (All (λ e. IsIn locs.new e.site) entries.new) }
-        ensures places { OnOk result (All (λ e. e.at ≤ self.old.len) entries.new) }
         ensures fault { IfErr result (λ f. NotReadWhere Memory f.cause (Entries arch (left self.old))
             (λ es. HasRoomFor locs.old (sites_of es))) }
         ensures leaves { OnOk result (MovesOn self.old self.new) }
-        ensures place { IfErr result (λ f. f.at ≤ self.old.len) }
-        ensures same { self.new.len ≡ self.old.len }
     {
         'entries: loop {
             if self.takes("}") {
@@ -86,36 +80,32 @@ impl<'t, 'a> Cursor<'t, 'a> {
         &mut self,
         arch: Arch,
         locs: &mut LocNames<A>,
-    ) -> Result<Entry, Fault>
+    ) -> Result<Entry, Refusal>
         ensures found { IfOk result (λ e. IsEntry arch (left self.old) (named_entry locs.new e)
             (left self.new)) }
         ensures names { IfOk result (λ e. locs.new
             ≡ with_sites locs.old (named locs.new e.site ∷ [])) }
         ensures within { IfOk result (λ e. IsIn locs.new e.site) }
-        ensures at { IfOk result (λ e. e.at ≤ self.old.len) }
         ensures fault { IfErr result (λ f. NotReadWhere Memory f.cause (IsEntry arch (left self.old))
             (λ e. HasRoomFor locs.old (e.site ∷ []))) }
         ensures leaves { OnOk result (MovesOn self.old self.new) }
-        ensures place { IfErr result (λ f. f.at ≤ self.old.len) }
-        ensures same { self.new.len ≡ self.old.len }
     {
-        let at = self.fault(Cause::Unexpected).at;
+        let token = self.next;
         let site = self.site(arch, locs, None, Cause::Unexpected)?;
         let word = self.value(Cause::Unexpected)?;
-        Ok(Entry { at, site, word })
+        Ok(Entry { token, site, word })
     }
 }
 
 /// Each entry's thread is one of so many.
-pub(crate) fn check_threads(entries: &[Entry], threads: usize) -> Result<(), Fault>
+pub(crate) fn check_threads(entries: &[Entry], threads: usize) -> Result<(), Refusal>
     ensures ok { OnOk result (list_all (λ e. thread_exists threads e.site) entries.now ≡ true) }
     ensures err { OnErr result (list_all (λ e. thread_exists threads e.site) entries.now ≡ false) }
-    ensures place { (len : ℕ) → All (λ e. e.at ≤ len) entries.now → IfErr result (λ f. f.at ≤ len) }
 {
     for entry in entries {
         if !entry.site.thread_exists(threads) {
-            return Err(Fault {
-                at: entry.at,
+            return Err(Refusal {
+                token: entry.token,
                 cause: Cause::Name,
             });
         }

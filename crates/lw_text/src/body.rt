@@ -9,11 +9,11 @@ ghost use Rattle.lw_text.specs.Rows.{Header};
 ghost use Rattle.lw_text.specs.Spans.{texts};
 ghost use Rattle.lw_text.specs.Places.{placed_tokens, placed_cells};
 ghost use Rattle.lw_text.specs.PlacedCells.{HasRows};
-ghost use Rattle.lw_text.specs.Resolved.{named, named_entry, thread_exists, IsIn, HasSyntax};
+ghost use Rattle.lw_text.specs.inner.Resolved.{named, named_entry, thread_exists, IsIn, HasSyntax};
 
 use crate::block::{Entry, check_threads};
 use crate::cursor::Cursor;
-use crate::fault::{Cause, Fault};
+use crate::fault::{Fault, Refusal};
 use crate::parts::{Body, HeadParts};
 use crate::token_stream::TokenStream;
 use lw_base::{Arch, LocNames, Sequence};
@@ -27,12 +27,11 @@ impl<'t, 'a> Cursor<'t, 'a> {
         &mut self,
         alloc: A,
         arch: Arch,
-    ) -> Result<Body<'a, A>, Fault>
+    ) -> Result<Body<'a, A>, Refusal>
         ensures found { IfOk result (λ b. HasSyntax arch (left self.old) b) }
         ensures fault { IfErr result (λ f. f.cause ≢ Memory → IsNoTest arch (left self.old)) }
         ensures rows { IfOk result (λ b. HasRows arch (placed_tokens (remaining self.old))
             b.parts.threads (placed_cells b.rows)) }
-        ensures place { IfErr result (λ f. f.at ≤ self.old.len) }
     {
         let mut locs = LocNames::new(alloc);
         let (entries, threads) = self.front(alloc, arch, &mut locs)?;
@@ -57,7 +56,7 @@ impl<'t, 'a> Cursor<'t, 'a> {
         alloc: A,
         arch: Arch,
         locs: &mut LocNames<A>,
-    ) -> Result<(Sequence<Entry, A>, usize), Fault>
+    ) -> Result<(Sequence<Entry, A>, usize), Refusal>
         ensures found { IfOk result (λ x. (mid : TokenList)
             × Block arch (left self.old) (map (named_entry locs.new) x.0) mid
             × Header mid x.1 (left self.new)) }
@@ -70,8 +69,6 @@ impl<'t, 'a> Cursor<'t, 'a> {
             → Header mid n rest → AllByRecursion (λ e. ThreadExists n e.site) es
             → HasRoomFor locs.old (sites_of es) → ⊥) }
         ensures leaves { OnOk result (MovesOn self.old self.new) }
-        ensures place { IfErr result (λ f. f.at ≤ self.old.len) }
-        ensures same { OnOk result (self.new.len ≡ self.old.len) }
     {
         let entries = self.block(alloc, arch, locs)?;
         let threads = self.header()?;
@@ -94,15 +91,16 @@ impl<'a, A: Allocator + Copy> TokenStream<'a, A> {
             b.parts.threads (placed_cells b.rows)) }
         ensures place { IfErr result (λ f. f.at ≤ len) }
     {
-        let end = self.fault.unwrap_or(Fault {
-            at: len,
-            cause: Cause::Unterminated,
-        });
-        let mut cursor = Cursor::new(self.tokens.as_slice(), end, len);
-        let body = cursor.body(alloc, arch)?;
-        match self.fault {
-            Some(fault) => Err(fault),
-            None => Ok(body),
+        let mut cursor = Cursor::new(self.tokens.as_slice());
+        match cursor.body(alloc, arch) {
+            Ok(body) => match self.fault {
+                Some(fault) => {
+                    drop(body);
+                    Err(fault)
+                }
+                None => Ok(body),
+            },
+            Err(refusal) => Err(self.fault_of(refusal, len)),
         }
     }
 }

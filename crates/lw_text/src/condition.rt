@@ -3,16 +3,16 @@ ghost use Rattle.std.specs.Prelude.{◌≡◌, ◌≢◌, ◌+◌, ◌≤◌, Li
 ghost use Rattle.lw_base.specs.Refusals.{NoneRead};
 ghost use Rattle.lw_base.specs.Formula.{Formula};
 ghost use Rattle.lw_base.specs.Propositions.{formula_of};
-ghost use Rattle.lw_base.specs.Names.{EachOnce};
+ghost use Rattle.lw_base.specs.Lists.{EachOnce};
 ghost use Rattle.lw_base.specs.declared.head.Quant.{Quant as QuantSyntax};
 ghost use Rattle.lw_text.specs.Propositions.{HasFewNodes, Terminal as TerminalSyntax, IsProposition};
 ghost use Rattle.lw_text.specs.Sites.{HasRoomFor, with_sites, SiteSyntax};
 ghost use Rattle.lw_text.specs.declared.fault.Cause.TheVariants.{Memory};
 ghost use Rattle.lw_text.specs.Conditions.{AtomSyntax, sites_in, resolved, Condition, Quantified};
-ghost use Rattle.lw_text.specs.Resolved.{named, IsIn};
+ghost use Rattle.lw_text.specs.inner.Resolved.{named, IsIn};
 
 use crate::cursor::Cursor;
-use crate::fault::{Cause, Fault};
+use crate::fault::{Cause, Refusal};
 use crate::site::Site;
 use lw_base::{Arch, LocNames, MAX_THREADS, Prop, Quant, Sequence};
 use std::alloc::Allocator;
@@ -28,7 +28,7 @@ impl<'t, 'a> Cursor<'t, 'a> {
         arch: Arch,
         threads: usize,
         locs: &mut LocNames<A>,
-    ) -> Result<(Sequence<Site, A>, Quant, Prop<A>), Fault>
+    ) -> Result<(Sequence<Site, A>, Quant, Prop<A>), Refusal>
         requires threads { threads ≤ MAX_THREADS }
         requires once { EachOnce locs.old }
         ensures found { IfOk result (λ x. (ss : List (TerminalSyntax AtomSyntax))
@@ -43,7 +43,6 @@ impl<'t, 'a> Cursor<'t, 'a> {
             → HasRoomFor (with_sites locs.old listed) (sites_in ss) → HasFewNodes ss
             → IsProposition (map (resolved
             (with_sites (with_sites locs.old listed) (sites_in ss))) ss) p → ⊥) }
-        ensures place { IfErr result (λ f. f.at ≤ self.old.len) }
     {
         let listed = self.listed(alloc, arch, threads, locs)?;
         let quant = self.quantifier()?;
@@ -52,14 +51,11 @@ impl<'t, 'a> Cursor<'t, 'a> {
     }
 
     /// Takes the quantifier.
-    fn quantifier(&mut self) -> Result<Quant, Fault>
+    fn quantifier(&mut self) -> Result<Quant, Refusal>
         ensures found { IfOk result (λ q. Quantified (left self.old) q (left self.new)) }
         ensures fault { OnErr result (NoneRead (Quantified (left self.old))) }
-        ensures place { IfErr result (λ f. f.at ≤ self.old.len) }
-        ensures same { self.new.len ≡ self.old.len }
     {
-        if self.is_next("~") {
-            self.take()?;
+        if self.takes("~") {
             self.expect("exists", Cause::Condition)?;
             return Ok(Quant::NotExists);
         }

@@ -1,91 +1,61 @@
 //! The cursor over the tokens that are still to be read.
-ghost use Rattle.std.specs.Prelude.{◌≡◌, ◌≢◌, ◌≤◌, true, false, if◌then◌else◌, [], ◌∷◌, length, All, OnOk, OnErr, IfOk, IfErr};
+ghost use Rattle.std.specs.Prelude.{◌≡◌, ◌≤◌, true, false, if◌then◌else◌, [], ◌∷◌, length, OnOk, OnErr, IfOk};
 ghost use Rattle.lw_base.specs.Types.{TokenList};
 ghost use Rattle.lw_text.specs.Conditions.{begins_word};
-ghost use Rattle.lw_text.specs.declared.fault.Cause.TheVariants.{Memory};
 
-use crate::fault::{Cause, Fault};
+use crate::fault::{Cause, Refusal};
 use crate::token::Token;
 
-/// A list of tokens, of which those before `next` have been read. `end` is told where they run out,
-/// and no place is past `len`, the text's length.
+/// A list of tokens, of which those before `next` have been read.
 #[derive(Drop)]
 pub(crate) struct Cursor<'t, 'a> {
     pub(crate) tokens: &'t [Token<'a>],
     pub(crate) next: usize,
-    pub(crate) end: Fault,
-    pub(crate) len: usize,
     ghost within: { next ≤ length tokens.now },
-    ghost places: { All (λ t. t.at ≤ len) tokens.now },
-    ghost end_place: { end.at ≤ len },
 }
 
 impl<'t, 'a> Cursor<'t, 'a> {
     ghost use Rattle.lw_text.specs.Views.{remaining, left, MovesOn};
 
-    pub(crate) fn new(tokens: &'t [Token<'a>], end: Fault, len: usize) -> Cursor<'t, 'a>
-        requires places { All (λ t. t.at ≤ len) tokens.now }
-        requires end { end.at ≤ len }
-        ensures remaining { remaining result ≡ tokens.now }
-        ensures len { result.len ≡ len }
+    pub(crate) fn new(tokens: &'t [Token<'a>]) -> Cursor<'t, 'a>
+        ensures { remaining result ≡ tokens.now }
     {
-        Cursor {
-            tokens,
-            next: 0,
-            end,
-            len,
-        }
+        Cursor { tokens, next: 0 }
     }
 
-    /// A fault at the next token, or `end` where there is none.
-    pub(crate) fn fault(&self, cause: Cause) -> Fault
-        requires { cause ≢ Memory }
-        ensures { result.at ≤ self.now.len }
-    {
-        match self.tokens.get(self.next) {
-            Some(token) => Fault {
-                at: token.at,
-                cause,
-            },
-            None => self.end,
+    /// The refusal of the next token.
+    pub(crate) fn refusal(&self, cause: Cause) -> Refusal {
+        Refusal {
+            token: self.next,
+            cause,
         }
     }
 
     /// Takes the next token.
-    pub(crate) fn take(&mut self) -> Result<Token<'a>, Fault>
+    pub(crate) fn take(&mut self) -> Result<Token<'a>, Refusal>
         ensures token { IfOk result (λ t. remaining self.old ≡ t ∷ remaining self.new) }
         ensures ok { IfOk result (λ t. left self.old ≡ t.text.now ∷ left self.new) }
-        ensures at { IfOk result (λ t. t.at ≤ self.old.len) }
         ensures err { OnErr result (left self.old ≡ []) }
-        ensures place { IfErr result (λ f. f.at ≤ self.old.len) }
-        ensures same { self.new.len ≡ self.old.len }
     {
         match self.tokens.get(self.next) {
             Some(token) => {
                 self.next += 1;
                 Ok(*token)
             }
-            None => Err(self.end),
+            None => Err(self.refusal(Cause::Unterminated)),
         }
     }
 
-    /// Takes the next token, which is to be this text. Another is told with the cause.
-    pub(crate) fn expect(&mut self, text: &str, cause: Cause) -> Result<(), Fault>
-        requires { cause ≢ Memory }
+    /// Takes the next token, which is to be this text. Another is refused with the cause.
+    pub(crate) fn expect(&mut self, text: &str, cause: Cause) -> Result<(), Refusal>
         ensures ok { OnOk result (left self.old ≡ text.now ∷ left self.new) }
         ensures err { OnErr result ((rest : TokenList) → left self.old ≡ text.now ∷ rest → ⊥) }
         ensures leaves { OnOk result (MovesOn self.old self.new) }
-        ensures place { IfErr result (λ f. f.at ≤ self.old.len) }
-        ensures same { self.new.len ≡ self.old.len }
     {
-        let token = self.take()?;
-        if token.text != text {
-            return Err(Fault {
-                at: token.at,
-                cause,
-            });
+        if self.takes(text) {
+            return Ok(());
         }
-        Ok(())
+        Err(self.refusal(cause))
     }
 
     /// Whether this text is next.
@@ -104,7 +74,6 @@ impl<'t, 'a> Cursor<'t, 'a> {
         ensures other { result ≡ false → begins_word text.now (left self.old) ≡ false }
         ensures kept { result ≡ false → self.new ≡ self.old }
         ensures leaves { MovesOn self.old self.new }
-        ensures same { self.new.len ≡ self.old.len }
     {
         match self.tokens.get(self.next) {
             Some(token) if token.text == text => {
@@ -115,10 +84,14 @@ impl<'t, 'a> Cursor<'t, 'a> {
         }
     }
 
-    /// Takes the one text or the other, and says whether it is the first. Another token is told with
+    /// Takes the one text or the other, and says whether it is the first. Another token is refused with
     /// the cause.
-    pub(crate) fn either(&mut self, first: &str, second: &str, cause: Cause) -> Result<bool, Fault>
-        requires { cause ≢ Memory }
+    pub(crate) fn either(
+        &mut self,
+        first: &str,
+        second: &str,
+        cause: Cause,
+    ) -> Result<bool, Refusal>
         ensures ok { IfOk result (λ b. left self.old
             ≡ (if b then first.now else second.now) ∷ left self.new) }
         ensures no_first { OnErr result ((rest : TokenList) → left self.old ≡ first.now ∷ rest
@@ -126,16 +99,13 @@ impl<'t, 'a> Cursor<'t, 'a> {
         ensures no_second { OnErr result ((rest : TokenList) → left self.old ≡ second.now ∷ rest
             → ⊥) }
         ensures leaves { OnOk result (MovesOn self.old self.new) }
-        ensures place { IfErr result (λ f. f.at ≤ self.old.len) }
-        ensures same { self.new.len ≡ self.old.len }
     {
-        let mark = self.take()?;
-        if mark.text == first {
+        if self.takes(first) {
             return Ok(true);
         }
-        if mark.text == second {
+        if self.takes(second) {
             return Ok(false);
         }
-        Err(Fault { at: mark.at, cause })
+        Err(self.refusal(cause))
     }
 }

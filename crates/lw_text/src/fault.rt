@@ -85,7 +85,7 @@ pub struct TextFault {
     pub cause: TextCause,
 }
 
-/// The causes that the readers of tokens meet: all but a text's length and its UTF-8.
+/// The causes that the readers meet: all but a text's length and its UTF-8.
 #[derive(Clone, Copy)]
 pub(crate) enum Cause {
     Unterminated,
@@ -100,7 +100,7 @@ pub(crate) enum Cause {
     Memory,
 }
 
-/// A fault that a reader of tokens meets, and the place of its byte.
+/// A fault of a text, and the place of its byte.
 #[derive(Clone, Copy)]
 pub(crate) struct Fault {
     pub(crate) at: usize,
@@ -119,12 +119,31 @@ impl From<AllocError> for Fault {
     }
 }
 
-impl<T: Drop> From<AllocFailed<T>> for Fault {
-    ghost from_gives = { λ _ f. (f.at ≡ 0) × (f.cause ≡ inner.Memory) };
+/// What a reader of tokens refuses: a token, by its number among them, and why. Where they run out it is
+/// their end that is refused, and the cause says nothing.
+#[derive(Clone, Copy)]
+pub(crate) struct Refusal {
+    pub(crate) token: usize,
+    pub(crate) cause: Cause,
+}
 
-    fn from(_error: AllocFailed<T>) -> Fault {
-        Fault {
-            at: 0,
+impl From<AllocError> for Refusal {
+    ghost from_gives = { λ _ r. (r.token ≡ 0) × (r.cause ≡ inner.Memory) };
+
+    fn from(_error: AllocError) -> Refusal {
+        Refusal {
+            token: 0,
+            cause: Cause::Memory,
+        }
+    }
+}
+
+impl<T: Drop> From<AllocFailed<T>> for Refusal {
+    ghost from_gives = { λ _ r. (r.token ≡ 0) × (r.cause ≡ inner.Memory) };
+
+    fn from(_error: AllocFailed<T>) -> Refusal {
+        Refusal {
+            token: 0,
             cause: Cause::Memory,
         }
     }

@@ -5,7 +5,7 @@ ghost use Rattle.lw_base.specs.Heads.{head_of};
 ghost use Rattle.lw_base.specs.Names.{IsTestName};
 ghost use Rattle.lw_base.specs.Types.{TokenList};
 ghost use Rattle.lw_base.specs.SeenLists.{registers_of, all_registers, locations};
-ghost use Rattle.lw_text.specs.Resolved.{resolved_head, word_at, is_listed, HasSyntax};
+ghost use Rattle.lw_text.specs.inner.Resolved.{resolved_head, word_at, is_listed, HasSyntax};
 ghost use Rattle.lw_text.specs.Rows.{columns};
 ghost use Rattle.lw_text.specs.Places.{IsWithin};
 
@@ -33,18 +33,23 @@ impl<A: Allocator + Copy> HeadParts<A> {
         ensures { IfOk result (λ h. head_of h
             ≡ resolved_head heading.entry.arch heading.entry.name.now self) }
     {
-        let made = self.made(alloc, heading.name)?;
-        Ok(Head {
-            name: made.name,
-            arch: heading.arch,
-            threads: self.threads,
-            locs: self.locs,
-            init_regs: made.init_regs,
-            init_words: made.init_words,
-            listed: made.listed,
-            quant: self.quant,
-            prop: self.prop,
-        })
+        match self.made(alloc, heading.name) {
+            Ok(made) => Ok(Head {
+                name: made.name,
+                arch: heading.arch,
+                threads: self.threads,
+                locs: self.locs,
+                init_regs: made.init_regs,
+                init_words: made.init_words,
+                listed: made.listed,
+                quant: self.quant,
+                prop: self.prop,
+            }),
+            Err(error) => {
+                drop(self);
+                Err(error)
+            }
+        }
     }
 
     /// What is made for the head of a test of this name.
@@ -88,8 +93,17 @@ impl<'a, A: Allocator + Copy> Body<'a, A> {
         ensures len { IfOk result (λ f. f.len ≡ len) }
     {
         let Body { parts, rows } = self;
-        let cells = columns(alloc, parts.threads, rows.as_slice())?;
-        let head = parts.head(alloc, heading)?;
-        Ok(Frame { head, cells, len })
+        let made = columns(alloc, parts.threads, rows.as_slice());
+        drop(rows);
+        match made {
+            Ok(cells) => {
+                let head = parts.head(alloc, heading)?;
+                Ok(Frame { head, cells, len })
+            }
+            Err(error) => {
+                drop(parts);
+                Err(error)
+            }
+        }
     }
 }

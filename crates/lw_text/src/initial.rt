@@ -2,7 +2,7 @@
 ghost use Rattle.std.specs.Prelude.{◌≡◌, ◌≤◌, map, IfOk};
 ghost use Rattle.std.specs.List.{range_with_len};
 ghost use Rattle.lw_base.specs.SeenLists.{registers_of, locations};
-ghost use Rattle.lw_text.specs.Resolved.{seen_of, word_at};
+ghost use Rattle.lw_text.specs.inner.Resolved.{seen_of, word_at};
 
 use crate::block::Entry;
 use crate::site::Site;

@@ -26,13 +26,6 @@ impl<'a> Lexer<'a> {
         Lexer { text, rest: text }
     }
 
-    /// The place of what is still to be read.
-    pub(crate) fn place(&self) -> usize
-        ensures { result + length self.now.rest.now ≡ length self.now.text.now }
-    {
-        self.text.len() - self.rest.len()
-    }
-
     /// The next token, or `None` where only blanks and comments are left.
     pub(crate) fn next(&mut self) -> Result<Option<Token<'a>>, Fault>
         ensures end { IfOk result (λ o. MatchOption o (Trivia self.old.rest.now [])

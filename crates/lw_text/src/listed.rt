@@ -5,10 +5,10 @@ ghost use Rattle.lw_base.specs.Types.{TokenList};
 ghost use Rattle.lw_text.specs.Conditions.{Sites, Listed};
 ghost use Rattle.lw_text.specs.Sites.{HasRoomFor, with_sites, SiteSyntax, ThreadExists};
 ghost use Rattle.lw_text.specs.declared.fault.Cause.TheVariants.{Memory};
-ghost use Rattle.lw_text.specs.Resolved.{named, IsIn};
+ghost use Rattle.lw_text.specs.inner.Resolved.{named, IsIn};
 
 use crate::cursor::Cursor;
-use crate::fault::{Cause, Fault};
+use crate::fault::{Cause, Refusal};
 use crate::site::Site;
 use lw_base::{Arch, LocNames, Sequence};
 use std::alloc::Allocator;
@@ -23,7 +23,7 @@ impl<'t, 'a> Cursor<'t, 'a> {
         arch: Arch,
         threads: usize,
         locs: &mut LocNames<A>,
-    ) -> Result<Sequence<Site, A>, Fault>
+    ) -> Result<Sequence<Site, A>, Refusal>
         ensures found { IfOk result (λ ss. Listed arch (left self.old) (map (named locs.new) ss)
             (left self.new)) }
         ensures there { IfOk result (λ ss. AllByRecursion (ThreadExists threads)
@@ -34,8 +34,6 @@ impl<'t, 'a> Cursor<'t, 'a> {
         ensures fault { IfErr result (λ f. f.cause ≢ Memory
             → (ss : List SiteSyntax) (rest : TokenList) → Listed arch (left self.old) ss rest
             → AllByRecursion (ThreadExists threads) ss → HasRoomFor locs.old ss → ⊥) }
-        ensures place { IfErr result (λ f. f.at ≤ self.old.len) }
-        ensures same { self.new.len ≡ self.old.len }
     {
         if !self.takes("locations") {
             return Ok(Sequence::new(alloc));
@@ -54,7 +52,7 @@ impl<'t, 'a> Cursor<'t, 'a> {
         sites: &mut Sequence<Site, A>,
         threads: usize,
         locs: &mut LocNames<A>,
-    ) -> Result<(), Fault>
+    ) -> Result<(), Refusal>
         requires { sites.old ≡ [] }
         ensures found { OnOk result (Sites arch (left self.old) (map (named locs.new) sites.new)
             (left self.new)) }
@@ -66,8 +64,6 @@ impl<'t, 'a> Cursor<'t, 'a> {
         ensures fault { IfErr result (λ f. f.cause ≢ Memory
             → (ss : List SiteSyntax) (rest : TokenList) → Sites arch (left self.old) ss rest
             → AllByRecursion (ThreadExists threads) ss → HasRoomFor locs.old ss → ⊥) }
-        ensures place { IfErr result (λ f. f.at ≤ self.old.len) }
-        ensures same { self.new.len ≡ self.old.len }
     {
         'sites: loop {
             if self.takes("]") {

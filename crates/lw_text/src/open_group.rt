@@ -1,7 +1,7 @@
 //! The part of a proposition that stands open inside one pair of parentheses.
 ghost use Rattle.std.specs.Prelude.{◌≡◌, Some, option_map, IfOk, OnOk};
 ghost use Rattle.lw_base.specs.Propositions.{formula_of};
-ghost use Rattle.lw_text.specs.Pending.{group_of, opened, with_not, with_and, with_or, ors_of, negations, after_and, after_or};
+ghost use Rattle.lw_text.specs.inner.Pending.{group_of, opened, with_not, with_and, with_or, ors_of, negations, after_and, after_or};
 
 use lw_base::Prop;
 use std::alloc::{AllocError, Allocator, Global};
@@ -46,7 +46,7 @@ impl<A: Allocator + Copy> OpenGroup<A> {
         ensures { OnOk result (group_of self.new ≡ with_and (group_of self.old) (formula_of part)) }
     {
         let row = row(alloc, self.both.take(), self.nots, part)?;
-        self.both = Some(row);
+        drop(self.both.replace(row));
         self.nots = 0;
         Ok(())
     }
@@ -57,7 +57,7 @@ impl<A: Allocator + Copy> OpenGroup<A> {
     {
         let row = row(alloc, self.both.take(), self.nots, part)?;
         let either = behind_or(alloc, self.either.take(), row)?;
-        self.either = Some(either);
+        drop(self.either.replace(either));
         self.nots = 0;
         Ok(())
     }

@@ -3,17 +3,17 @@ ghost use Rattle.std.specs.Prelude.{◌≡◌, ◌≢◌, ◌+◌, ◌≤◌, �
 ghost use Rattle.lw_base.specs.Types.{TokenList};
 ghost use Rattle.lw_base.specs.Formula.{Formula};
 ghost use Rattle.lw_base.specs.Propositions.{formula_of};
-ghost use Rattle.lw_base.specs.Names.{EachOnce};
+ghost use Rattle.lw_base.specs.Lists.{EachOnce};
 ghost use Rattle.lw_text.specs.Propositions.{HasFewNodes, Terminal as TerminalSyntax, is_node, IsProposition};
 ghost use Rattle.lw_text.specs.Sites.{HasRoomFor, with_sites};
 ghost use Rattle.lw_text.specs.declared.fault.Cause.TheVariants.{Memory};
-ghost use Rattle.lw_text.specs.Pending.{Completes};
-ghost use Rattle.lw_text.specs.Terminals.{terminal_of};
+ghost use Rattle.lw_text.specs.inner.Pending.{Completes};
+ghost use Rattle.lw_text.specs.inner.Terminals.{terminal_of};
 ghost use Rattle.lw_text.specs.Conditions.{AtomSyntax, begins_word, IsTerminal, Terminals, sites_in, resolved};
-ghost use Rattle.lw_text.specs.Resolved.{named_terminal, TerminalIn};
+ghost use Rattle.lw_text.specs.inner.Resolved.{named_terminal, TerminalIn};
 
 use crate::cursor::Cursor;
-use crate::fault::{Cause, Fault};
+use crate::fault::{Cause, Refusal};
 use crate::proposition_reader::PropositionReader;
 use crate::terminal::Terminal;
 use lw_base::{Arch, LocNames, MAX_NODES, MAX_THREADS, Prop};
@@ -29,7 +29,7 @@ impl<'t, 'a> Cursor<'t, 'a> {
         arch: Arch,
         threads: usize,
         locs: &mut LocNames<A>,
-    ) -> Result<Prop<A>, Fault>
+    ) -> Result<Prop<A>, Refusal>
         requires threads { threads ≤ MAX_THREADS }
         requires once { EachOnce locs.old }
         ensures found { IfOk result (λ p. (ss : List (TerminalSyntax AtomSyntax))
@@ -40,7 +40,6 @@ impl<'t, 'a> Cursor<'t, 'a> {
             → Terminals arch threads (left self.old) ss → HasRoomFor locs.old (sites_in ss)
             → HasFewNodes ss → IsProposition
             (map (resolved (with_sites locs.old (sites_in ss))) ss) p → ⊥) }
-        ensures place { IfErr result (λ f. f.at ≤ self.old.len) }
     {
         let mut reader = PropositionReader::new(alloc);
         let mut nodes = 0;
@@ -48,11 +47,16 @@ impl<'t, 'a> Cursor<'t, 'a> {
             if self.next == self.tokens.len() {
                 return match reader.finish()? {
                     Some(prop) => Ok(prop),
-                    None => Err(self.end),
+                    None => Err(self.refusal(Cause::Unterminated)),
                 };
             }
-            let terminal = self.next_terminal(arch, &mut reader, nodes, threads, locs)?;
-            nodes += terminal.nodes();
+            match self.next_terminal(arch, &mut reader, nodes, threads, locs) {
+                Ok(terminal) => nodes += terminal.nodes(),
+                Err(refusal) => {
+                    drop(reader);
+                    return Err(refusal);
+                }
+            }
         }
     }
 
@@ -65,7 +69,7 @@ impl<'t, 'a> Cursor<'t, 'a> {
         nodes: usize,
         threads: usize,
         locs: &mut LocNames<A>,
-    ) -> Result<Terminal, Fault>
+    ) -> Result<Terminal, Refusal>
         requires threads { threads ≤ MAX_THREADS }
         requires once { EachOnce locs.old }
         ensures room { OnOk result ((not (nodes == MAX_NODES) ||
@@ -87,10 +91,8 @@ impl<'t, 'a> Cursor<'t, 'a> {
             → Completes reader.old (resolved (with_sites locs.old (sites_in (s ∷ []))) s ∷ ss) p
             → HasRoomFor locs.old (sites_in (s ∷ []))
             → nodes + length (filter is_node (s ∷ [])) ≤ MAX_NODES → ⊥) }
-        ensures place { IfErr result (λ f. f.at ≤ self.old.len) }
-        ensures same { self.new.len ≡ self.old.len }
     {
-        let misfit = self.fault(Cause::Condition);
+        let misfit = self.refusal(Cause::Condition);
         if !self.has_room(nodes) {
             return Err(misfit);
         }

@@ -4,8 +4,8 @@ ghost use Rattle.lw_base.specs.Refusals.{NoSuch};
 ghost use Rattle.lw_base.specs.Formula.{Formula};
 ghost use Rattle.lw_base.specs.Propositions.{formula_of};
 ghost use Rattle.lw_text.specs.Propositions.{Terminal as TerminalSyntax, IsProposition};
-ghost use Rattle.lw_text.specs.Terminals.{terminal_of};
-ghost use Rattle.lw_text.specs.Pending.{Completes, begins_part, group_of, state_of, step_before, step_behind};
+ghost use Rattle.lw_text.specs.inner.Terminals.{terminal_of};
+ghost use Rattle.lw_text.specs.inner.Pending.{Completes, begins_part, group_of, state_of, step_before, step_behind};
 
 use crate::open_group::OpenGroup;
 use crate::terminal::Terminal;
@@ -85,7 +85,7 @@ impl<A: Allocator + Copy> PropositionReader<A> {
                 Ok(true)
             }
             Terminal::Atom(atom) => {
-                self.part = Some(atom.prop());
+                drop(self.part.replace(atom.prop()));
                 Ok(true)
             }
             Terminal::Close | Terminal::Conjunction | Terminal::Disjunction => Ok(false),
@@ -113,7 +113,8 @@ impl<A: Allocator + Copy> PropositionReader<A> {
                     return Ok(false);
                 };
                 let inner = mem::replace(&mut self.group, outer);
-                self.part = Some(inner.close(self.alloc, part)?);
+                let part = inner.close(self.alloc, part)?;
+                drop(self.part.replace(part));
                 Ok(true)
             }
             Terminal::Open | Terminal::Negation | Terminal::Atom(_) => Ok(false),
@@ -132,9 +133,11 @@ impl<A: Allocator + Copy> PropositionReader<A> {
             outer,
         } = self;
         let Some(part) = part else {
+            drop(group);
             return Ok(None);
         };
         if !outer.is_empty() {
+            drop(group);
             return Ok(None);
         }
         Ok(Some(group.close(alloc, part)?))

@@ -98,6 +98,8 @@ fn read_text<'a, A: Allocator + Copy>(alloc: A, text: &'a [u8]) -> Result<Frame<
     let mut lexer = Lexer::new(text);
     let heading = lexer.heading()?;
     let row = TokenStream::read(alloc, lexer)?;
-    let body = row.body(alloc, heading.arch, text.len())?;
+    let read = row.body(alloc, heading.arch, text.len());
+    drop(row);
+    let body = read?;
     Ok(body.finish(alloc, heading, text.len())?)
 }

@@ -11,7 +11,7 @@ ghost use Rattle.lw_text.specs.Rows as words;
 
 use crate::cell::Cell;
 use crate::cursor::Cursor;
-use crate::fault::{Cause, Fault};
+use crate::fault::{Cause, Refusal};
 use crate::token::Token;
 use lw_base::{MAX_ROWS, MAX_THREADS, Sequence};
 use std::alloc::Allocator;
@@ -23,12 +23,10 @@ impl<'t, 'a> Cursor<'t, 'a> {
     ghost use Rattle.lw_text.specs.Views.{remaining, left, MovesOn};
 
     /// Takes the header, and counts the threads.
-    pub(crate) fn header(&mut self) -> Result<usize, Fault>
+    pub(crate) fn header(&mut self) -> Result<usize, Refusal>
         ensures found { IfOk result (λ n. Header (left self.old) n (left self.new)) }
         ensures fault { OnErr result (NoneRead (Header (left self.old))) }
         ensures leaves { OnOk result (MovesOn self.old self.new) }
-        ensures place { IfErr result (λ f. f.at ≤ self.old.len) }
-        ensures same { self.new.len ≡ self.old.len }
     {
         for thread in 0..MAX_THREADS {
             self.expect(thread_name(thread), Cause::Unexpected)?;
@@ -39,13 +37,11 @@ impl<'t, 'a> Cursor<'t, 'a> {
         Err(self.fifth_thread())
     }
 
-    /// The fault behind the fourth `|` of the header.
-    fn fifth_thread(&self) -> Fault
-        ensures { result.at ≤ self.now.len }
-    {
+    /// The refusal behind the fourth `|` of the header.
+    fn fifth_thread(&self) -> Refusal {
         match self.tokens.get(self.next) {
-            Some(token) if token.text == "P4" => self.fault(Cause::TooManyThreads),
-            _ => self.fault(Cause::Unexpected),
+            Some(token) if token.text == "P4" => self.refusal(Cause::TooManyThreads),
+            _ => self.refusal(Cause::Unexpected),
         }
     }
 
@@ -54,14 +50,12 @@ impl<'t, 'a> Cursor<'t, 'a> {
         &mut self,
         alloc: A,
         threads: usize,
-    ) -> Result<Sequence<CellSequence<'a, A>, A>, Fault>
+    ) -> Result<Sequence<CellSequence<'a, A>, A>, Refusal>
         ensures found { IfOk result (λ v. Rows threads (left self.old) (all_texts v)
             (left self.new)) }
         ensures fault { IfErr result (λ f. NotRead Memory f.cause (Rows threads (left self.old))) }
         ensures cut { IfOk result (λ v. RowsFrom (placed_tokens (remaining self.old)) (placed_cells v)
             (placed_tokens (remaining self.new))) }
-        ensures place { IfErr result (λ f. f.at ≤ self.old.len) }
-        ensures same { self.new.len ≡ self.old.len }
     {
         let mut rows = Sequence::new(alloc);
         'rows: loop {
@@ -69,7 +63,7 @@ impl<'t, 'a> Cursor<'t, 'a> {
                 return Ok(rows);
             }
             if rows.len() == MAX_ROWS {
-                return Err(self.fault(Cause::TooManyRows));
+                return Err(self.refusal(Cause::TooManyRows));
             }
             rows.push(self.row(alloc, threads)?)?;
         }
@@ -90,75 +84,72 @@ impl<'t, 'a> Cursor<'t, 'a> {
         &mut self,
         alloc: A,
         threads: usize,
-    ) -> Result<CellSequence<'a, A>, Fault>
+    ) -> Result<CellSequence<'a, A>, Refusal>
         ensures found { IfOk result (λ v. Row threads (left self.old) (cells_texts v)
             (left self.new)) }
         ensures fault { IfErr result (λ f. NotRead Memory f.cause (Row threads (left self.old))) }
         ensures cut { IfOk result (λ v. CellsFrom (placed_tokens (remaining self.old)) (placed_row v)
             (placed_tokens (remaining self.new))) }
-        ensures place { IfErr result (λ f. f.at ≤ self.old.len) }
-        ensures same { self.new.len ≡ self.old.len }
     {
         let mut cells = Sequence::new(alloc);
         let end = self.cells(alloc, &mut cells)?;
         if cells.len() != threads {
-            return Err(Fault {
-                at: end,
+            return Err(Refusal {
+                token: end,
                 cause: Cause::Ragged,
             });
         }
         Ok(cells)
     }
 
-    /// Takes cells into a row that has none yet, up to a `;`, and answers the place of that.
+    /// Takes cells into a row that has none yet, up to a `;`, and answers the number of that token.
     fn cells<A: Allocator + Copy>(
         &mut self,
         alloc: A,
         cells: &mut CellSequence<'a, A>,
-    ) -> Result<usize, Fault>
+    ) -> Result<usize, Refusal>
         requires { cells.old ≡ [] }
         ensures found { OnOk result (RowCells (left self.old) (cells_texts cells.new)
             (left self.new)) }
         ensures fault { IfErr result (λ f. NotRead Memory f.cause (RowCells (left self.old))) }
         ensures cut { OnOk result (CellsFrom (placed_tokens (remaining self.old)) (placed_row cells.new)
             (placed_tokens (remaining self.new))) }
-        ensures at { IfOk result (λ at. at ≤ self.old.len) }
-        ensures place { IfErr result (λ f. f.at ≤ self.old.len) }
-        ensures same { self.new.len ≡ self.old.len }
     {
         'cells: loop {
             let mut tokens = Sequence::new(alloc);
-            let mark = self.cell(&mut tokens)?;
+            let (mark, number) = self.cell(&mut tokens)?;
             cells.push(Cell {
                 tokens,
                 end: mark.at,
             })?;
             if mark.text == ";" {
-                return Ok(mark.at);
+                return Ok(number);
             }
         }
     }
 
-    /// Takes tokens into a cell that has none yet, up to a `|` or `;`, and that mark.
-    fn cell<A: Allocator>(&mut self, cell: &mut Sequence<Token<'a>, A>) -> Result<Token<'a>, Fault>
+    /// Takes tokens into a cell that has none yet, up to a `|` or `;`, and answers that mark with its
+    /// number among the tokens.
+    fn cell<A: Allocator>(
+        &mut self,
+        cell: &mut Sequence<Token<'a>, A>,
+    ) -> Result<(Token<'a>, usize), Refusal>
         requires { cell.old ≡ [] }
-        ensures tokens { IfOk result (λ mark. remaining self.old
-            ≡ cell.new ++ mark ∷ remaining self.new) }
-        ensures parts { IfOk result (λ mark. left self.old
-            ≡ texts cell.new ++ mark.text.now ∷ left self.new) }
+        ensures tokens { IfOk result (λ x. remaining self.old
+            ≡ cell.new ++ x.0 ∷ remaining self.new) }
+        ensures parts { IfOk result (λ x. left self.old
+            ≡ texts cell.new ++ x.0.text.now ∷ left self.new) }
         ensures plain { OnOk result (AllByRecursion
             (λ t. words.ends_cell t ≡ false) (texts cell.new)) }
-        ensures mark { IfOk result (λ mark. words.ends_cell mark.text.now ≡ true) }
-        ensures mark_at { IfOk result (λ mark. mark.at ≤ self.old.len) }
+        ensures mark { IfOk result (λ x. words.ends_cell x.0.text.now ≡ true) }
         ensures err { IfErr result (λ f. f.cause ≢ Memory → AllByRecursion
             (λ t. words.ends_cell t ≡ false) (left self.old)) }
-        ensures place { IfErr result (λ f. f.at ≤ self.old.len) }
-        ensures same { self.new.len ≡ self.old.len }
     {
         'cell: loop {
+            let number = self.next;
             let token = self.take()?;
             if ends_cell(&token) {
-                return Ok(token);
+                return Ok((token, number));
             }
             cell.push(token)?;
         }

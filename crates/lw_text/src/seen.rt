@@ -1,7 +1,7 @@
 //! What a report shows: the registers and locations that a test's list of names has, each once.
 ghost use Rattle.std.specs.Prelude.{◌≡◌, ◌≤◌, ◌<◌, ◌∷◌, [], ◌++◌, filter, IfOk, OnOk};
 ghost use Rattle.lw_base.specs.SeenLists.{registers_of, all_registers, locations};
-ghost use Rattle.lw_text.specs.Resolved.{seen_of, is_listed};
+ghost use Rattle.lw_text.specs.inner.Resolved.{seen_of, is_listed};
 
 use crate::site::Site;
 use lw_base::{Cpu, Loc, MAX_LOCATIONS, MAX_THREADS, Reg, Seen, Sequence, Word};

@@ -8,13 +8,12 @@ ghost use Rattle.lw_base.specs.Tables.{with_name};
 ghost use Rattle.lw_text.specs.Sites.{HasRoomFor, HasRoomForName, with_sites, SiteSyntax, InMemory, InThread, IsSite, ThreadAllowed, Value};
 ghost use Rattle.lw_text.specs.declared.fault.Cause.TheVariants.{Memory};
 ghost use Rattle.lw_base.specs.SeenLists.{same_seen};
-ghost use Rattle.lw_text.specs.Resolved.{named, seen_of, IsIn};
-ghost use Rattle.lw_text.specs.Resolved as resolved;
+ghost use Rattle.lw_text.specs.inner.Resolved.{named, seen_of, IsIn};
+ghost use Rattle.lw_text.specs.inner.Resolved as resolved;
 
 use crate::cursor::Cursor;
-use crate::fault::{Cause, Fault};
+use crate::fault::{Cause, Refusal};
 use crate::lexeme::number;
-use crate::token::Token;
 use lw_base::{Arch, Loc, LocNames, Reg, Word, is_location, is_name, reg_named};
 use std::alloc::Allocator;
 
@@ -67,8 +66,7 @@ impl<'t, 'a> Cursor<'t, 'a> {
         locs: &mut LocNames<A>,
         threads: Option<usize>,
         cause: Cause,
-    ) -> Result<Site, Fault>
-        requires { cause ≢ Memory }
+    ) -> Result<Site, Refusal>
         ensures found { IfOk result (λ s. IsSite arch (left self.old) (named locs.new s)
             (left self.new)) }
         ensures there { IfOk result (λ s. ThreadAllowed threads (named locs.new s)) }
@@ -78,23 +76,22 @@ impl<'t, 'a> Cursor<'t, 'a> {
             → IsSite arch (left self.old) s rest → ThreadAllowed threads s → HasRoomFor locs.old (s ∷ [])
             → ⊥) }
         ensures leaves { OnOk result (MovesOn self.old self.new) }
-        ensures place { IfErr result (λ f. f.at ≤ self.old.len) }
-        ensures same { self.new.len ≡ self.old.len }
     {
+        let token = self.next;
         let first = self.take()?;
         if first.text == "[" {
             return self.in_brackets(locs, cause);
         }
         if let Some(thread) = number(first.text) {
             if !is_allowed(thread, threads) {
-                return Err(Fault {
-                    at: first.at,
+                return Err(Refusal {
+                    token,
                     cause: Cause::Name,
                 });
             }
             return self.of_thread(arch, thread, cause);
         }
-        let loc = enter(first, locs, cause)?;
+        let loc = enter(first.text, locs, Refusal { token, cause })?;
         Ok(Site::Location(loc))
     }
 
@@ -103,8 +100,7 @@ impl<'t, 'a> Cursor<'t, 'a> {
         &mut self,
         locs: &mut LocNames<A>,
         cause: Cause,
-    ) -> Result<Site, Fault>
-        requires { cause ≢ Memory }
+    ) -> Result<Site, Refusal>
         ensures found { IfOk result (λ s. (x : Bytes)
             × (left self.old ≡ x ∷ codes "]" ∷ left self.new) × IsLocation x
             × (named locs.new s ≡ InMemory x) × (locs.new ≡ with_name locs.old x)) }
@@ -112,18 +108,16 @@ impl<'t, 'a> Cursor<'t, 'a> {
         ensures fault { IfErr result (λ f. f.cause ≢ Memory → (x : Bytes) (rest : TokenList)
             → left self.old ≡ x ∷ codes "]" ∷ rest → IsLocation x → HasRoomForName locs.old x → ⊥) }
         ensures leaves { OnOk result (MovesOn self.old self.new) }
-        ensures place { IfErr result (λ f. f.at ≤ self.old.len) }
-        ensures same { self.new.len ≡ self.old.len }
     {
+        let misfit = self.refusal(cause);
         let name = self.take()?;
-        let loc = enter(name, locs, cause)?;
+        let loc = enter(name.text, locs, misfit)?;
         self.expect("]", cause)?;
         Ok(Site::Location(loc))
     }
 
     /// Takes a `:` and the name of a register of the thread.
-    fn of_thread(&mut self, arch: Arch, thread: Word, cause: Cause) -> Result<Site, Fault>
-        requires { cause ≢ Memory }
+    fn of_thread(&mut self, arch: Arch, thread: Word, cause: Cause) -> Result<Site, Refusal>
         ensures found { IfOk result (λ s. (q : Bytes) × (r : ℕ)
             × (left self.old ≡ codes ":" ∷ q ∷ left self.new) × IsRegister arch q r
             × ((names : NameTable) → named names s ≡ InThread thread r)) }
@@ -131,8 +125,6 @@ impl<'t, 'a> Cursor<'t, 'a> {
         ensures fault { OnErr result ((q : Bytes) (r : ℕ) (rest : TokenList) → left self.old
             ≡ codes ":" ∷ q ∷ rest → IsRegister arch q r → ⊥) }
         ensures leaves { OnOk result (MovesOn self.old self.new) }
-        ensures place { IfErr result (λ f. f.at ≤ self.old.len) }
-        ensures same { self.new.len ≡ self.old.len }
     {
         self.expect(":", cause)?;
         let reg = self.register(arch, cause)?;
@@ -140,40 +132,33 @@ impl<'t, 'a> Cursor<'t, 'a> {
     }
 
     /// Takes the name of a register of the language.
-    fn register(&mut self, arch: Arch, cause: Cause) -> Result<Reg, Fault>
-        requires { cause ≢ Memory }
+    fn register(&mut self, arch: Arch, cause: Cause) -> Result<Reg, Refusal>
         ensures ok { IfOk result (λ r. (q : Bytes) × (left self.old ≡ q ∷ left self.new)
             × IsRegister arch q r) }
         ensures err { OnErr result ((q : Bytes) (r : ℕ) (rest : TokenList) → left self.old
             ≡ q ∷ rest → IsRegister arch q r → ⊥) }
         ensures leaves { OnOk result (MovesOn self.old self.new) }
-        ensures place { IfErr result (λ f. f.at ≤ self.old.len) }
-        ensures same { self.new.len ≡ self.old.len }
     {
+        let misfit = self.refusal(cause);
         let name = self.take()?;
         match reg_named(arch, name.text) {
             Some(reg) => Ok(reg),
-            None => Err(no_name(name, cause)),
+            None => Err(no_name(name.text, misfit)),
         }
     }
 
     /// Takes a `=` and a number.
-    pub(crate) fn value(&mut self, cause: Cause) -> Result<Word, Fault>
-        requires { cause ≢ Memory }
+    pub(crate) fn value(&mut self, cause: Cause) -> Result<Word, Refusal>
         ensures ok { IfOk result (λ v. Value (left self.old) v (left self.new)) }
         ensures err { OnErr result (NoneRead (Value (left self.old))) }
         ensures leaves { OnOk result (MovesOn self.old self.new) }
-        ensures place { IfErr result (λ f. f.at ≤ self.old.len) }
-        ensures same { self.new.len ≡ self.old.len }
     {
         self.expect("=", cause)?;
+        let misfit = self.refusal(cause);
         let token = self.take()?;
         match number(token.text) {
             Some(value) => Ok(value),
-            None => Err(Fault {
-                at: token.at,
-                cause,
-            }),
+            None => Err(misfit),
         }
     }
 }
@@ -195,45 +180,39 @@ fn is_allowed(number: Word, threads: Option<usize>) -> bool
     }
 }
 
-/// The number of the location that a token names. It is put into the table where it isn't there yet.
+/// The number of the location of this name. It is put into the table where it isn't there yet. Another
+/// word is refused as a misfit.
 fn enter<A: Allocator + Copy>(
-    name: Token<'_>,
+    name: &str,
     locs: &mut LocNames<A>,
-    cause: Cause,
-) -> Result<Loc, Fault>
-    requires { cause ≢ Memory }
-    ensures name { OnOk result (IsLocation name.entry.text.now) }
-    ensures found { IfOk result (λ loc. slice_get locs.new loc ≡ Some name.entry.text.now) }
-    ensures names { OnOk result (locs.new ≡ with_name locs.old name.entry.text.now) }
-    ensures fault { IfErr result (λ f. f.cause ≢ Memory → IsLocation name.entry.text.now
-        → HasRoomForName locs.old name.entry.text.now → ⊥) }
-    ensures place { IfErr result (λ f. f.at ≤ name.entry.at) }
+    misfit: Refusal,
+) -> Result<Loc, Refusal>
+    ensures name { OnOk result (IsLocation name.now) }
+    ensures found { IfOk result (λ loc. slice_get locs.new loc ≡ Some name.now) }
+    ensures names { OnOk result (locs.new ≡ with_name locs.old name.now) }
+    ensures fault { IfErr result (λ f. f.cause ≢ Memory → IsLocation name.now
+        → HasRoomForName locs.old name.now → ⊥) }
 {
-    if !is_location(name.text) {
-        return Err(no_name(name, cause));
+    if !is_location(name) {
+        return Err(no_name(name, misfit));
     }
-    match locs.find_or_add(name.text)? {
+    match locs.find_or_add(name)? {
         Some(loc) => Ok(loc),
-        None => Err(Fault {
-            at: name.at,
+        None => Err(Refusal {
+            token: misfit.token,
             cause: Cause::TooManyLocations,
         }),
     }
 }
 
-/// The fault where a name should stand that is free there: a name that isn't is told as that, another
-/// token with the cause.
-fn no_name(token: Token<'_>, cause: Cause) -> Fault
-    requires { cause ≢ Memory }
-    ensures { result.at ≡ token.entry.at }
-{
-    let cause = if is_name(token.text) {
-        Cause::Name
-    } else {
-        cause
-    };
-    Fault {
-        at: token.at,
-        cause,
+/// The refusal of a word where a name should stand that is free there: a name that isn't is told as
+/// that, another word as a misfit.
+fn no_name(word: &str, misfit: Refusal) -> Refusal {
+    if is_name(word) {
+        return Refusal {
+            token: misfit.token,
+            cause: Cause::Name,
+        };
     }
+    misfit
 }

@@ -4,15 +4,15 @@ ghost use Rattle.lw_base.specs.Types.{NameTable, TokenList};
 ghost use Rattle.lw_base.specs.Propositions.{formula_of};
 ghost use Rattle.lw_text.specs.Sites.{HasRoomFor, with_sites};
 ghost use Rattle.lw_text.specs.Propositions.{is_node, Terminal as TerminalSyntax};
-ghost use Rattle.lw_text.specs.Terminals.{atom_formula, terminal_of};
+ghost use Rattle.lw_text.specs.inner.Terminals.{atom_formula, terminal_of};
 ghost use Rattle.lw_text.specs.declared.fault.Cause.TheVariants.{Memory};
-ghost use Rattle.lw_text.specs.Pending.{begins_part};
+ghost use Rattle.lw_text.specs.inner.Pending.{begins_part};
 ghost use Rattle.lw_text.specs.Conditions.{AtomSyntax, Holds, IsTerminal, sites_in};
-ghost use Rattle.lw_text.specs.Resolved.{named, named_atom, named_terminal, IsIn, AtomIn, TerminalIn};
-ghost use Rattle.lw_text.specs.Resolved as resolved_of;
+ghost use Rattle.lw_text.specs.inner.Resolved.{named, named_atom, named_terminal, IsIn, AtomIn, TerminalIn};
+ghost use Rattle.lw_text.specs.inner.Resolved as resolved_of;
 
 use crate::cursor::Cursor;
-use crate::fault::{Cause, Fault};
+use crate::fault::{Cause, Refusal};
 use crate::site::Site;
 use lw_base::{Arch, Cpu, Loc, LocNames, MAX_THREADS, Prop, Reg, Word};
 use std::alloc::Allocator;
@@ -75,7 +75,7 @@ impl<'t, 'a> Cursor<'t, 'a> {
         part: bool,
         threads: usize,
         locs: &mut LocNames<A>,
-    ) -> Result<Terminal, Fault>
+    ) -> Result<Terminal, Refusal>
         requires { threads ≤ MAX_THREADS }
         ensures found { IfOk result (λ s. IsTerminal arch threads (left self.old)
             (named_terminal locs.new s) (left self.new)) }
@@ -86,8 +86,6 @@ impl<'t, 'a> Cursor<'t, 'a> {
             → (s : TerminalSyntax AtomSyntax) (rest : TokenList)
             → IsTerminal arch threads (left self.old) s rest → begins_part s ≡ part
             → HasRoomFor locs.old (sites_in (s ∷ [])) → ⊥) }
-        ensures place { IfErr result (λ f. f.at ≤ self.old.len) }
-        ensures same { self.new.len ≡ self.old.len }
     {
         if part {
             self.opening(arch, threads, locs)
@@ -102,7 +100,7 @@ impl<'t, 'a> Cursor<'t, 'a> {
         arch: Arch,
         threads: usize,
         locs: &mut LocNames<A>,
-    ) -> Result<Terminal, Fault>
+    ) -> Result<Terminal, Refusal>
         requires { threads ≤ MAX_THREADS }
         ensures found { IfOk result (λ s. IsTerminal arch threads (left self.old)
             (named_terminal locs.new s) (left self.new)) }
@@ -113,8 +111,6 @@ impl<'t, 'a> Cursor<'t, 'a> {
             → (s : TerminalSyntax AtomSyntax) (rest : TokenList)
             → IsTerminal arch threads (left self.old) s rest → begins_part s ≡ true
             → HasRoomFor locs.old (sites_in (s ∷ [])) → ⊥) }
-        ensures place { IfErr result (λ f. f.at ≤ self.old.len) }
-        ensures same { self.new.len ≡ self.old.len }
     {
         if self.takes("(") {
             return Ok(Terminal::Open);
@@ -137,7 +133,7 @@ impl<'t, 'a> Cursor<'t, 'a> {
     }
 
     /// Takes a `)`, a `/\` or a `\/`.
-    fn joint(&mut self) -> Result<Terminal, Fault>
+    fn joint(&mut self) -> Result<Terminal, Refusal>
         ensures found { IfOk result (λ s. (arch : Arch) (threads : ℕ) (names : NameTable)
             → IsTerminal arch threads (left self.old) (named_terminal names s) (left self.new)) }
         ensures silent { IfOk result (λ s. (names : NameTable)
@@ -146,8 +142,6 @@ impl<'t, 'a> Cursor<'t, 'a> {
         ensures fault { OnErr result ((arch : Arch) (threads : ℕ) (s : TerminalSyntax AtomSyntax)
             (rest : TokenList) → IsTerminal arch threads (left self.old) s rest → begins_part s ≡ false
             → ⊥) }
-        ensures place { IfErr result (λ f. f.at ≤ self.old.len) }
-        ensures same { self.new.len ≡ self.old.len }
     {
         if self.takes(")") {
             return Ok(Terminal::Close);
@@ -158,7 +152,7 @@ impl<'t, 'a> Cursor<'t, 'a> {
         if self.takes("\\/") {
             return Ok(Terminal::Disjunction);
         }
-        Err(self.fault(Cause::Condition))
+        Err(self.refusal(Cause::Condition))
     }
 }
 

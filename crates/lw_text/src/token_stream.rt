@@ -1,11 +1,12 @@
 //! The token stream of a text: all tokens behind its heading, up to the first lexical fault.
-ghost use Rattle.std.specs.Prelude.{◌≤◌, length, None, All, IfOk, IfSome, IfNone, OnSome};
+ghost use Rattle.std.specs.Prelude.{◌≡◌, ◌≤◌, length, None, All, IfOk, IfSome, IfNone, OnSome};
 ghost use Rattle.lw_base.specs.Refusals.{NoSuch};
 ghost use Rattle.lw_text.specs.Tokens.{Tokens};
 ghost use Rattle.lw_text.specs.PlacedTokens.{PlacedTokens};
 ghost use Rattle.lw_text.specs.Places.{placed_tokens};
+ghost use Rattle.lw_text.specs.declared.fault.Cause.TheVariants.{Memory};
 
-use crate::fault::Fault;
+use crate::fault::{Cause, Fault, Refusal};
 use crate::lexer::Lexer;
 use crate::token::Token;
 use lw_base::Sequence;
@@ -19,6 +20,32 @@ pub(crate) struct TokenStream<'a, A: Allocator = Global> {
 }
 
 impl<'a, A: Allocator> TokenStream<'a, A> {
+    /// The fault that a refusal by a reader of the tokens is, in a text of this length. Where they run
+    /// out it is the fault that ends them, or the text's end.
+    pub(crate) fn fault_of(&self, refusal: Refusal, len: usize) -> Fault
+        requires places { All (λ t. t.at ≤ len) self.now.tokens }
+        requires fault { IfSome self.now.fault (λ f. f.at ≤ len) }
+        ensures memory { refusal.cause ≡ Memory → result.cause ≡ Memory }
+        ensures place { result.at ≤ len }
+    {
+        if matches!(refusal.cause, Cause::Memory) {
+            return Fault {
+                at: 0,
+                cause: Cause::Memory,
+            };
+        }
+        match self.tokens.get(refusal.token) {
+            Some(token) => Fault {
+                at: token.at,
+                cause: refusal.cause,
+            },
+            None => self.fault.unwrap_or(Fault {
+                at: len,
+                cause: Cause::Unterminated,
+            }),
+        }
+    }
+
     /// The tokens of what the lexer has still to read.
     pub(crate) fn read(alloc: A, mut lexer: Lexer<'a>) -> Result<Self, AllocError>
         ensures found { IfOk result (λ r. IfNone r.fault

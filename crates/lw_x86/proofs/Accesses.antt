@@ -9,11 +9,11 @@ use Rattle.lw_base.specs.Registers.{IsRegister}
 use Rattle.lw_text.specs.declared.token.Token.{Token}
 use Rattle.lw_text.specs.Spans.{texts}
 use Rattle.lw_cells.specs.Words.{IsMisfit, NameCause}
-use Rattle.lw_cells.proofs.TokenRows.{same_token, six}
+use Rattle.lw_cells.proofs.api.TokenRows.{same_token, six}
 use Rattle.lw_x86.specs.declared.mnemonic.Mnemonic.{Mnemonic}
 use Rattle.lw_x86.specs.Instructions.{MemoryFirst, MemoryLast, AtFirst, AtLast}
-use Rattle.lw_x86.specs.Mnemonics.{mnemonic_text}
-use Rattle.lw_x86.specs.Readings.{Opens, CauseBehind}
+use Rattle.lw_x86.specs.inner.Mnemonics.{mnemonic_text}
+use Rattle.lw_x86.specs.inner.Readings.{Opens, CauseBehind}
 
 pub first_fits : (ts : List (List ℕ)) (m : Mnemonic) (x u : List ℕ) (a : ℕ) → Opens m ts → slice_get ts 1 ≡ Some (codes "[") → slice_get ts 2 ≡ Some x → slice_get ts 3 ≡ Some (codes "]") → slice_get ts 4 ≡ Some (codes ",") → slice_get ts 5 ≡ Some u → length ts ≤ 6 → IsLocation x → IsRegister X86 u a → MemoryFirst (mnemonic_text m) ts x a
 first_fits ts m x u a o b c d e f h loc reg = (o.0, u, six ts o.0 _ x _ _ u o.1 b c d e f h, o.2, loc, reg)

@@ -7,7 +7,7 @@ use Rattle.std.proofs.lemmas.List.{get_or_past, take_more, map-append}
 use Rattle.std.proofs.lemmas.List.Sums.{fold-append}
 use Rattle.std.specs.Option.{ForSome}
 use Rattle.std.specs.Ordering.{ord_max, nat_cmp}
-use Rattle.lw_litmus.specs.Tests.{IsThread}
+use Rattle.lw_litmus.specs.WellFormed.{IsThread}
 use Rattle.lw_base.specs.Types.{Bytes, NameTable}
 use Rattle.lw_litmus.specs.declared.instr.Instr.{Instr}
 use Rattle.lw_litmus.specs.Programs.{x86, location_of}

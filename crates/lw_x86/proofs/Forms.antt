@@ -11,16 +11,16 @@ use Rattle.lw_text.specs.Tokens.{IsNumber}
 use Rattle.lw_cells.specs.declared.draft.Draft.TheVariants.{Jumping}
 use Rattle.lw_cells.specs.Operands.{IsOperand}
 use Rattle.lw_cells.specs.Reading.{StatementRead}
-use Rattle.lw_cells.proofs.FrontLabels.{drop_get, drop_next}
-use Rattle.lw_cells.proofs.TokenRows.{same_token, two, number_first}
+use Rattle.lw_cells.proofs.api.TokenRows.{drop_next, drop_get, same_token, two}
+use Rattle.lw_text.proofs.api.Numbers.{number_first}
 use Rattle.lw_x86.specs.declared.jump.Jump.{Jump}
 use Rattle.lw_x86.specs.declared.jump.Jump.TheVariants.{Equal, NotEqual, Always}
 use Rattle.lw_x86.specs.declared.mnemonic.Mnemonic.{Mnemonic}
 use Rattle.lw_x86.specs.declared.mnemonic.Mnemonic.TheVariants.{Add, Cmp, Mfence, Je, Jne, Jmp}
 use Rattle.lw_x86.specs.Instructions.{InstructionSyntax, Jumps_if_equal, Jumps_if_not_equal, Jumps, Instruction, IsValue, OnRegister, JumpsBy}
-use Rattle.lw_x86.specs.Mnemonics.{mnemonic_text, Names}
-use Rattle.lw_x86.specs.Drafts.{draft_of}
-use Rattle.lw_x86.specs.Readings.{Opens, mnemonic_of}
+use Rattle.lw_x86.specs.inner.Mnemonics.{mnemonic_text, Names}
+use Rattle.lw_x86.specs.inner.Drafts.{draft_of}
+use Rattle.lw_x86.specs.inner.Readings.{Opens, mnemonic_of}
 use Rattle.lw_x86.specs.Grammar.{x86_grammar}
 use Rattle.lw_x86.proofs.Openings.{by_mnemonic}
 use Rattle.lw_x86.proofs.Registers.{other_first, value_length}

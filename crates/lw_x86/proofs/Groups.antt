@@ -1,5 +1,5 @@
 -- What is read behind each mnemonic, and why nothing else is said.
-use Rattle.std.proofs.Common.{◌≡◌, ℕ, ◌≤◌, ◌⊎◌, inl, inr, List, [], ◌∷◌, Some, None, true≢false, suc, length, take, drop, refl, sym, ap, ◌∙◌, subst, arith}
+use Rattle.std.proofs.Common.{◌≡◌, ℕ, ◌≤◌, ◌⊎◌, inl, inr, List, [], ◌∷◌, Some, None, suc, length, take, drop, refl, sym, ap, ◌∙◌, subst, arith}
 use Rattle.std.specs.Prelude.{slice_get, codes}
 use Rattle.std.proofs.lemmas.List.{drop-map}
 use Rattle.lw_base.specs.Limits.{most_locations}
@@ -12,20 +12,22 @@ use Rattle.lw_base.specs.declared.operand.Operand.TheVariants.{Register, Number}
 use Rattle.lw_base.specs.Names.{IsLocation}
 use Rattle.lw_base.specs.Registers.{IsRegister}
 use Rattle.lw_base.specs.Tables.{with_name, index_of}
+use Rattle.lw_base.proofs.api.Lists.{apart}
 use Rattle.lw_text.specs.declared.token.Token.{Token}
 use Rattle.lw_text.specs.Spans.{texts}
 use Rattle.lw_cells.specs.declared.draft.Draft.TheVariants.{Whole}
 use Rattle.lw_cells.specs.Reading.{Fits, StatementRead, StatementCause}
-use Rattle.lw_cells.proofs.TokenRows.{same_token, number_first}
+use Rattle.lw_cells.proofs.api.TokenRows.{same_token}
+use Rattle.lw_text.proofs.api.Numbers.{bracket_no_number}
 use Rattle.lw_text.specs.Tokens.{IsNumber}
 use Rattle.lw_x86.specs.declared.access.Access.{Access}
 use Rattle.lw_litmus.specs.declared.instr.Instr.TheVariants as instr
 use Rattle.lw_x86.specs.declared.mnemonic.Mnemonic.{Mnemonic}
 use Rattle.lw_x86.specs.declared.mnemonic.Mnemonic.TheVariants.{Mov, Xchg, Xadd, Lock}
 use Rattle.lw_x86.specs.Instructions.{InstructionSyntax, Stores, Loads, Sets, Exchanges, Exchanges_adding, Instruction, IsValue, OnRegister, MemoryFirst, MemoryLast, BeforeLocation, Locked}
-use Rattle.lw_x86.specs.Mnemonics.{mnemonic_text, Names}
-use Rattle.lw_x86.specs.Drafts.{draft_of}
-use Rattle.lw_x86.specs.Readings.{Opens, AccessRead, CauseBehind, first_form, last_form, exchange_form}
+use Rattle.lw_x86.specs.inner.Mnemonics.{mnemonic_text, Names}
+use Rattle.lw_x86.specs.inner.Drafts.{draft_of}
+use Rattle.lw_x86.specs.inner.Readings.{Opens, AccessRead, CauseBehind, first_form, last_form, exchange_form}
 use Rattle.lw_x86.specs.Grammar.{x86_grammar}
 use Rattle.lw_x86.proofs.Openings.{by_mnemonic, one_opening, some_opening, exchange_opens}
 use Rattle.lw_x86.proofs.Registers.{bracket_register}
@@ -59,16 +61,10 @@ no_last_form m ts x a free none (inr h) = none h
 pub register_bracketed : (m : List ℕ) (ts : List (List ℕ)) (d : ℕ) (v : Operand) → slice_get ts 1 ≡ Some (codes "[") → OnRegister m ts d v → ⊥
 register_bracketed m ts d v at h = register_bracket h.1 d (same_token ts 1 h.1 _ (ap (λ (t : List (List ℕ)). slice_get t 1) h.3) at) h.5
 
-apart : (a b : ℕ) (u v : List ℕ) → (a ≡ b → ⊥) → a ∷ u ≡ b ∷ v → ⊥
-apart a b u v differ same = differ cc
-
-bracket_number : (n : ℕ) → IsNumber (codes "[") n → ⊥
-bracket_number n num = true≢false (sym (number_first (codes "[") n num))
-
 bracket_value : (ts : List (List ℕ)) (v : Operand) → slice_get ts 0 ≡ Some (codes "[") → IsValue ts v → ⊥
 bracket_value ts (Register r) at h = register_bracket h.0 r (same_token ts 0 h.0 _ (ap (λ (t : List (List ℕ)). slice_get t 0) h.1) at) h.2
 bracket_value ts (Number n) at (w, inl e, num) =
-    bracket_number n (subst (λ (u : List ℕ). IsNumber u n) (same_token ts 0 w _ (ap (λ (t : List (List ℕ)). slice_get t 0) e) at) num)
+    bracket_no_number n (subst (λ (u : List ℕ). IsNumber u n) (same_token ts 0 w _ (ap (λ (t : List (List ℕ)). slice_get t 0) e) at) num)
 bracket_value ts (Number n) at (w, inr e, num) =
     apart 36 91 [] [] (λ f. omega arith) (same_token ts 0 (codes "$") (codes "[") (ap (λ (t : List (List ℕ)). slice_get t 0) e) at)
 

@@ -6,11 +6,11 @@ use Rattle.std.specs.Cmp.{unsigned_Decides}
 use Rattle.std.specs.Cmp.Lexicographic.{pointwise_decides}
 use Rattle.lw_base.specs.declared.head.Arch.TheVariants.{X86}
 use Rattle.lw_base.specs.Registers.{without_case}
-use Rattle.lw_cells.proofs.TokenRows.{other_word}
+use Rattle.lw_cells.proofs.api.TokenRows.{other_word}
 use Rattle.lw_x86.specs.declared.mnemonic.Mnemonic.{Mnemonic}
 use Rattle.lw_x86.specs.declared.mnemonic.Mnemonic.TheVariants.{Mov, Add, Cmp, Xchg, Xadd, Lock, Mfence, Je, Jne, Jmp}
 use Rattle.lw_x86.specs.Instructions.{mnemonics, CanBegin}
-use Rattle.lw_x86.specs.Mnemonics.{all_mnemonics, mnemonic_text, Names}
+use Rattle.lw_x86.specs.inner.Mnemonics.{all_mnemonics, mnemonic_text, Names}
 
 split : (k i : ℕ) → k < i + 1 → (k < i) ⊎ (k ≡ i)
 split zero zero h = inr refl

@@ -4,12 +4,12 @@ use Rattle.std.specs.Prelude.{slice_get, codes}
 use Rattle.lw_base.specs.declared.head.Arch.TheVariants.{X86}
 use Rattle.lw_base.specs.declared.operand.Operand.{Operand}
 use Rattle.lw_base.specs.Registers.{IsRegister}
-use Rattle.lw_base.proofs.Registers.{register_unique}
-use Rattle.lw_cells.proofs.TokenRows.{same_token}
+use Rattle.lw_base.proofs.api.Registers.{register_unique}
+use Rattle.lw_cells.proofs.api.TokenRows.{same_token}
 use Rattle.lw_x86.specs.declared.mnemonic.Mnemonic.{Mnemonic}
 use Rattle.lw_x86.specs.declared.mnemonic.Mnemonic.TheVariants.{Mov, Add, Cmp, Xchg, Xadd, Lock, Mfence, Je, Jne, Jmp}
 use Rattle.lw_x86.specs.Instructions.{InstructionSyntax, Stores, Loads, Sets, Adds, Compares, Exchanges, Exchanges_adding, Jumps_if_equal, Jumps_if_not_equal, Jumps, Instruction, IsValue, OnRegister, MemoryFirst, MemoryLast, JumpsBy, Locked}
-use Rattle.lw_x86.specs.Readings.{Opens}
+use Rattle.lw_x86.specs.inner.Readings.{Opens}
 use Rattle.lw_x86.proofs.Openings.{by_mnemonic, some_opening, one_opening, exchange_opens, Cases}
 use Rattle.lw_x86.proofs.Registers.{value_unique, value_length}
 use Rattle.lw_x86.proofs.Groups.{last_bracket, register_bracketed}

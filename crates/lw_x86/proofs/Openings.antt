@@ -8,8 +8,8 @@ use Rattle.lw_base.specs.Registers.{without_case}
 use Rattle.lw_x86.specs.declared.mnemonic.Mnemonic.{Mnemonic}
 use Rattle.lw_x86.specs.declared.mnemonic.Mnemonic.TheVariants.{Mov, Add, Cmp, Xchg, Xadd, Lock, Mfence, Je, Jne, Jmp}
 use Rattle.lw_x86.specs.Instructions.{InstructionSyntax, Stores, Loads, Sets, Adds, Compares, Exchanges, Exchanges_adding, Fences, Jumps_if_equal, Jumps_if_not_equal, Jumps, Instruction, MemoryFirst, MemoryLast}
-use Rattle.lw_x86.specs.Mnemonics.{mnemonic_text, Names}
-use Rattle.lw_x86.specs.Readings.{Opens}
+use Rattle.lw_x86.specs.inner.Mnemonics.{mnemonic_text, Names}
+use Rattle.lw_x86.specs.inner.Readings.{Opens}
 
 -- the mnemonic of a word in small letters
 abbrev spelled : List ℕ → Option Mnemonic

@@ -12,11 +12,11 @@ use Rattle.lw_base.specs.WellFormed.{IsSeen, IsWellFormedHead, IsWord}
 use Rattle.lw_text.specs.Sites.{IsSite, ThreadExists}
 use Rattle.lw_text.specs.Frames.{EntrySyntax, IsEntry, Entries, Block}
 use Rattle.lw_base.specs.SeenLists.{registers_of, all_registers, locations}
-use Rattle.lw_base.proofs.Elements.{all_append, all_filter, all_map, all_weaker, all_of_range, all_of_flat}
-use Rattle.lw_base.proofs.ListedAgain.{filter_shorter, seen_length}
-use Rattle.lw_text.proofs.Spelling.{Anything, Spells, Spells-then, Spells-on, Spells-within, Spells-nothing, Spells-space, Spells-newline, Spells-mark}
-use Rattle.lw_text.proofs.ConditionTokens.{named_site, site_tokens, value_tokens, IsPrintable, named_printable, site_said, value_said, site_exists, ended_said}
-use Rattle.lw_text.proofs.PrintedConditions.{assignment_spelled}
+use Rattle.lw_base.proofs.api.Elements.{all_append, all_filter, all_map, all_weaker, all_of_range, all_of_flat}
+use Rattle.lw_base.proofs.api.ListedAgain.{filter_shorter, seen_length}
+use Rattle.lw_text.proofs.api.Spelling.{Anything, Spells, Spells-then, Spells-on, Spells-within, Spells-nothing, Spells-space, Spells-newline, Spells-mark}
+use Rattle.lw_text.proofs.api.ConditionTokens.{named_site, site_tokens, value_tokens, IsPrintable, named_printable, site_said, value_said, site_exists, ended_said}
+use Rattle.lw_text.proofs.api.PrintedConditions.{assignment_spelled}
 use Rattle.lw_x86.specs.CanonicalTexts.{initial_word, entry_text, register_entry, block_text}
 
 -- ---- entries

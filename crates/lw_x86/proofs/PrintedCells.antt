@@ -5,11 +5,11 @@ use Rattle.std.specs.List.{AllByRecursion, AllZip}
 use Rattle.lw_base.specs.Types.{Bytes, NameTable, TokenList, Cells}
 use Rattle.lw_base.specs.Names.{IsLocation}
 use Rattle.lw_text.specs.Rows.{begins_stop}
-use Rattle.lw_base.proofs.Elements.{all_append}
-use Rattle.lw_text.proofs.Spelling.{Anything, IsBlankNext, Spells, Spells-then, Spells-on, Spells-before, Spells-within, Spells-nothing, Spells-space, blank_ends_word}
-use Rattle.lw_text.proofs.PrintedConditions.{Spells-colon, blank_no_equals}
+use Rattle.lw_base.proofs.api.Elements.{all_append}
+use Rattle.lw_text.proofs.api.Spelling.{Anything, IsBlankNext, Spells, Spells-then, Spells-on, Spells-before, Spells-within, Spells-nothing, Spells-space, blank_ends_word}
+use Rattle.lw_text.proofs.api.PrintedConditions.{Spells-colon, blank_no_equals}
 use Rattle.lw_cells.specs.Cells.{CellSyntax, Labels, CellSays}
-use Rattle.lw_litmus.specs.Tests.{IsStatement}
+use Rattle.lw_litmus.specs.WellFormed.{IsStatement}
 use Rattle.lw_litmus.specs.declared.instr.Instr.{Instr}
 use Rattle.lw_litmus.specs.declared.instr.Instr.TheVariants.{Store, Load, Set, Add, Cmp, Xchg, Xadd, Mfence, Je, Jne, Jmp}
 use Rattle.lw_x86.specs.Instructions.{InstructionSyntax}

@@ -8,12 +8,13 @@ use Rattle.std.proofs.lemmas.List.{length-map}
 use Rattle.std.proofs.lemmas.List.Elements.{filter_map-append}
 use Rattle.std.proofs.lemmas.Option.{slice_get-get_or, slice_get_within, get_or_from_slice_get}
 use Rattle.lw_base.specs.Types.{Bytes, NameTable, Cells}
-use Rattle.lw_base.specs.Names.{EachOnce, IsTable}
+use Rattle.lw_base.specs.Lists.{EachOnce}
+use Rattle.lw_base.specs.Names.{IsTable}
 use Rattle.lw_base.specs.Tables.{contains_name}
-use Rattle.lw_base.proofs.Tables.{IsInTable, index_of-again}
+use Rattle.lw_base.proofs.api.Tables.{IsInTable, index_of-again}
 use Rattle.lw_cells.specs.Cells.{CellSyntax, CellSays, statements, labels_of, target_in, resolved, code_in, names_in, LeadsForward, Column}
-use Rattle.lw_litmus.specs.Tests.{IsStatement, IsThread}
-use Rattle.lw_cells.proofs.Zips.{zip_append, zip_replicate}
+use Rattle.lw_litmus.specs.WellFormed.{IsStatement, IsThread}
+use Rattle.lw_cells.proofs.api.Zips.{zip_append, zip_replicate}
 use Rattle.lw_litmus.specs.declared.instr.Instr.{Instr}
 use Rattle.lw_litmus.specs.declared.instr.Instr.TheVariants.{Store, Load, Set, Add, Cmp, Xchg, Xadd, Mfence, Je, Jne, Jmp}
 use Rattle.lw_x86.specs.Instructions.{InstructionSyntax, label_of, name_of}

@@ -24,15 +24,16 @@ use Rattle.lw_text.specs.Propositions.{HasFewNodes, IsProposition}
 use Rattle.lw_text.specs.Conditions.{sites_in, resolved}
 use Rattle.lw_text.specs.Frames.{TestSyntax, TestFrame, Parts, HasFrame, table, word_of, listed_in, head_of_syntax, made_of}
 use Rattle.lw_base.specs.SeenLists.{registers_of, locations}
-use Rattle.lw_base.proofs.Elements.{all_append}
-use Rattle.lw_text.proofs.PropositionNodes.{proposition_nodes, resolved_single, resolved_count}
-use Rattle.lw_text.proofs.Spelling.{Anything, Spells, Spells-on, Spells-within, Spells-whole, Spells-space, Spells-newline, Spells-name, name_by_test}
-use Rattle.lw_text.proofs.PrintedPropositions.{printed_proposition}
-use Rattle.lw_text.proofs.ConditionTokens.{IsPrintable, sites_printable, whole_fine, whole_again}
-use Rattle.lw_litmus.specs.Tests.{IsThread}
-use Rattle.lw_cells.proofs.Zips.{zip_length}
+use Rattle.lw_base.proofs.api.Elements.{all_append}
+use Rattle.lw_text.proofs.api.PropositionNodes.{proposition_nodes, resolved_single, resolved_count}
+use Rattle.lw_text.proofs.api.Spelling.{Anything, Spells, Spells-on, Spells-within, Spells-whole, Spells-space, Spells-newline, Spells-name, name_by_test}
+use Rattle.lw_text.proofs.api.PrintedPropositions.{printed_proposition}
+use Rattle.lw_text.proofs.api.ConditionTokens.{IsPrintable, sites_printable, whole_fine, whole_again}
+use Rattle.lw_litmus.specs.WellFormed.{IsThread}
+use Rattle.lw_cells.proofs.api.Zips.{zip_length}
 use Rattle.lw_litmus.specs.declared.instr.Instr.{Instr}
-use Rattle.lw_litmus.specs.Programs.{ProgramTest, IsWellFormedProgram, x86}
+use Rattle.lw_litmus.specs.Programs.{IsWellFormedProgram, x86}
+use Rattle.lw_litmus.specs.Tests.{ProgramTest}
 use Rattle.lw_x86.specs.CanonicalTexts.{cells_of, longest, rows_text, header_text, block_text, listed_text, canonical_text}
 use Rattle.lw_x86.proofs.PrintedCells.{IsPrintedCell, cells_printed}
 use Rattle.lw_x86.proofs.PrintedColumns.{tokens_of, thread_printable, thread_small}

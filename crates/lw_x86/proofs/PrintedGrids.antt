@@ -7,7 +7,7 @@ use Rattle.std.proofs.lemmas.List.FromFn.{fill_by_all}
 use Rattle.std.proofs.lemmas.Option.{slice_get-map, slice_get-get_or}
 use Rattle.lw_base.specs.Types.{Bytes, NameTable, TokenList, Cells}
 use Rattle.lw_text.specs.Rows.{column, columns}
-use Rattle.lw_base.proofs.Elements.{all_map}
+use Rattle.lw_base.proofs.api.Elements.{all_map}
 use Rattle.lw_litmus.specs.declared.instr.Instr.{Instr}
 use Rattle.lw_x86.specs.CanonicalTexts.{label, cells_from, longest, is_target}
 use Rattle.lw_x86.proofs.PrintedColumns.{padded}

@@ -12,14 +12,14 @@ use Rattle.lw_base.specs.declared.head.Seen.TheVariants.{Register, Location}
 use Rattle.lw_base.specs.Heads.{TestHead}
 use Rattle.lw_base.specs.Tables.{with_names}
 use Rattle.lw_base.specs.WellFormed.{IsSeen, IsWellFormedHead}
-use Rattle.lw_base.proofs.Tables.{with_names-there, with_names-again}
-use Rattle.lw_base.proofs.GrowingTables.{with_names-append}
+use Rattle.lw_base.proofs.api.Tables.{with_names-there, with_names-again}
+use Rattle.lw_base.proofs.api.GrowingTables.{with_names-append}
 use Rattle.lw_text.specs.Sites.{SiteSyntax, site_name, site_names, seen_in}
 use Rattle.lw_text.specs.Frames.{EntrySyntax, word_of, listed_in}
 use Rattle.lw_base.specs.SeenLists.{same_seen, registers_of, all_registers, locations}
-use Rattle.lw_base.proofs.Elements.{all_filter, all_of_range, all_of_flat}
-use Rattle.lw_base.proofs.ListedAgain.{same_seen_is, has_seen, has_register, has_location, has_left, has_right, listed_again}
-use Rattle.lw_text.proofs.ConditionTokens.{named_site, IsPrintable, sites_in_table, seen_again}
+use Rattle.lw_base.proofs.api.Elements.{all_filter, all_of_range, all_of_flat}
+use Rattle.lw_base.proofs.api.ListedAgain.{same_seen_is, has_seen, has_register, has_location, has_left, has_right, listed_again}
+use Rattle.lw_text.proofs.api.ConditionTokens.{named_site, IsPrintable, sites_in_table, seen_again}
 use Rattle.lw_x86.specs.CanonicalTexts.{initial_word}
 use Rattle.lw_x86.proofs.PrintedBlocks.{has_entry, entered, entry_of, entries_of, entered_seen}
 

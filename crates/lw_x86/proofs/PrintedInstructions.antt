@@ -6,7 +6,7 @@ use Rattle.std.specs.Option.{ForSome}
 use Rattle.std.specs.Fmt.{decimal}
 use Rattle.std.proofs.lemmas.Bool.{cases_Bool, eqb-true}
 use Rattle.std.proofs.lemmas.Fmt.{decimal_nonempty}
-use Rattle.std.proofs.lemmas.List.Elements.{All-from_recursion, All-head, All-tail}
+use Rattle.std.proofs.lemmas.List.Elements.{All-head, All-tail}
 use Rattle.lw_base.specs.Types.{Bytes, NameTable, TokenList}
 use Rattle.lw_base.specs.declared.head.Arch.TheVariants.{X86}
 use Rattle.lw_base.specs.declared.operand.Operand.{Operand}
@@ -16,10 +16,10 @@ use Rattle.lw_base.specs.Names.{IsName, IsLocation}
 use Rattle.lw_base.specs.Registers.{register_name}
 use Rattle.lw_base.specs.WellFormed.{IsRegisterNumber, IsWord}
 use Rattle.lw_text.specs.Rows.{ends_cell}
-use Rattle.lw_text.proofs.Spelling.{EndsWord, Spells, Spells-then, Spells-on, Spells-before, Spells-within, Spells-space, Spells-mark, Spells-word, Spells-name, Spells-number, name_by_test, decimal_is_number, decimal_is_word, decimal_is_short}
-use Rattle.lw_text.proofs.PrintedConditions.{Spells-register, register_is_name}
+use Rattle.lw_text.proofs.api.Spelling.{EndsWord, Spells, Spells-then, Spells-on, Spells-before, Spells-within, Spells-space, Spells-mark, Spells-word, Spells-name, Spells-number, name_by_test, decimal_is_number, decimal_is_word, decimal_is_short}
+use Rattle.lw_text.proofs.api.PrintedConditions.{Spells-register, register_is_name, name_there}
 use Rattle.lw_litmus.specs.Operands.{operand_registers, operand_numbers}
-use Rattle.lw_litmus.specs.Tests.{IsStatement}
+use Rattle.lw_litmus.specs.WellFormed.{IsStatement}
 use Rattle.lw_litmus.specs.declared.instr.Instr.{Instr}
 use Rattle.lw_litmus.specs.declared.instr.Instr.TheVariants.{Store, Load, Set, Add, Cmp, Xchg, Xadd, Mfence, Je, Jne, Jmp}
 use Rattle.lw_x86.specs.Instructions.{InstructionSyntax, Stores, Loads, Sets, Adds, Compares, Exchanges, Exchanges_adding, Fences, Jumps_if_equal, Jumps_if_not_equal, Jumps, Instruction, IsValue}
@@ -96,14 +96,11 @@ abbrev pub EndsNoCell : TokenList → Type 0
 EndsNoCell ts = AllByRecursion (λ t. ends_cell t ≡ false) ts
 
 module _ (names : NameTable) (table : AllByRecursion IsLocation names) where
-  location_there : (x : ℕ) → x < length names → IsLocation (slice_index_or names x [])
-  location_there x h = All-from_recursion IsLocation names table x [] h
-
   -- ---- the texts
 
   memory_spelled : (x : ℕ) → x < length names → Spells EndsWord 34 (memory_text names x) (memory_tokens names x)
   memory_spelled x h =
-      Spells-before EndsWord (λ rest g. tt) (Spells-on (Spells-mark 91 refl (λ c. refl) refl (omega arith)) (Spells-then (λ rest g. refl) (Spells-name (slice_index_or names x []) (location_there x h).0) (Spells-mark 93 refl (λ c. refl) refl (omega arith))))
+      Spells-before EndsWord (λ rest g. tt) (Spells-on (Spells-mark 91 refl (λ c. refl) refl (omega arith)) (Spells-then (λ rest g. refl) (Spells-name (slice_index_or names x []) (name_there names x table h).0) (Spells-mark 93 refl (λ c. refl) refl (omega arith))))
 
   operand_spelled : (v : Operand) → All IsRegisterNumber (operand_registers v) → All IsWord (operand_numbers v) → Spells EndsWord 32 (operand_text v) (operand_tokens v)
   operand_spelled (Register r) h k = Spells-register X86 r (All-head IsRegisterNumber r [] h)
@@ -138,14 +135,14 @@ module _ (names : NameTable) (table : AllByRecursion IsLocation names) where
   value_said (Number n) h k = (decimal n, inr refl, decimal_is_number n (All-head IsWord n [] k))
 
   pub instruction_said : (i : Instr) → IsStatement x86 (length names) i → HasTarget i → Instruction (instruction_tokens names i) (syntax_of names i)
-  instruction_said (Store x v) h t = (codes "MOV", operand_tokens v, refl, refl, location_there x (h.0 x refl), value_said v h.1 h.2)
-  instruction_said (Load d x) h t = (codes "MOV", register_name X86 d, refl, refl, (All-head IsRegisterNumber d [] h.1, refl), location_there x (h.0 x refl))
+  instruction_said (Store x v) h t = (codes "MOV", operand_tokens v, refl, refl, name_there names x table (h.0 x refl), value_said v h.1 h.2)
+  instruction_said (Load d x) h t = (codes "MOV", register_name X86 d, refl, refl, (All-head IsRegisterNumber d [] h.1, refl), name_there names x table (h.0 x refl))
   instruction_said (Set d v) h t = (codes "MOV", register_name X86 d, operand_tokens v, refl, refl, (All-head IsRegisterNumber d (operand_registers v) h.1, refl), value_said v (All-tail IsRegisterNumber d (operand_registers v) h.1) h.2)
   instruction_said (Add d v) h t = (codes "ADD", register_name X86 d, operand_tokens v, refl, refl, (All-head IsRegisterNumber d (operand_registers v) h.1, refl), value_said v (All-tail IsRegisterNumber d (operand_registers v) h.1) h.2)
   instruction_said (Cmp a v) h t = (codes "CMP", register_name X86 a, operand_tokens v, refl, refl, (All-head IsRegisterNumber a (operand_registers v) h.1, refl), value_said v (All-tail IsRegisterNumber a (operand_registers v) h.1) h.2)
-  instruction_said (Xchg x a) h t = (instruction_tokens names (Xchg x a), inl refl, inl (codes "XCHG", register_name X86 a, refl, refl, location_there x (h.0 x refl), (All-head IsRegisterNumber a [] h.1, refl)))
+  instruction_said (Xchg x a) h t = (instruction_tokens names (Xchg x a), inl refl, inl (codes "XCHG", register_name X86 a, refl, refl, name_there names x table (h.0 x refl), (All-head IsRegisterNumber a [] h.1, refl)))
   instruction_said (Xadd x a) h t =
-      (codes "XADD" ∷ (memory_tokens names x ++ (codes "," ∷ register_name X86 a ∷ [])), (codes "LOCK", refl, refl), (codes "XADD", register_name X86 a, refl, refl, location_there x (h.0 x refl), (All-head IsRegisterNumber a [] h.1, refl)))
+      (codes "XADD" ∷ (memory_tokens names x ++ (codes "," ∷ register_name X86 a ∷ [])), (codes "LOCK", refl, refl), (codes "XADD", register_name X86 a, refl, refl, name_there names x table (h.0 x refl), (All-head IsRegisterNumber a [] h.1, refl)))
   instruction_said Mfence h t = (codes "MFENCE", refl, refl)
   instruction_said (Je to) h t = (codes "JE", refl, refl, label_is_location to (t to refl))
   instruction_said (Jne to) h t = (codes "JNE", refl, refl, label_is_location to (t to refl))
@@ -163,7 +160,7 @@ module _ (names : NameTable) (table : AllByRecursion IsLocation names) where
   register_no_end r h = name_no_end (register_name X86 r) (register_is_name X86 r h)
 
   location_no_end : (x : ℕ) → x < length names → ends_cell (slice_index_or names x []) ≡ false
-  location_no_end x h = name_no_end (slice_index_or names x []) (location_there x h).0
+  location_no_end x h = name_no_end (slice_index_or names x []) (name_there names x table h).0
 
   label_no_end : (k : ℕ) → k < 2 ^ 32 → ends_cell (label k) ≡ false
   label_no_end k h = name_no_end (label k) (label_is_location k h).0

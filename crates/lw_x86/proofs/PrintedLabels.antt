@@ -10,9 +10,9 @@ use Rattle.std.proofs.lemmas.Fmt.{decimal_injective}
 use Rattle.std.proofs.lemmas.Slice.Eq.{bytes_eq-Decides}
 use Rattle.std.proofs.lemmas.List.Elements.{All-contains, All-from_recursion, Contains-append_right}
 use Rattle.lw_base.specs.Types.{Bytes, NameTable}
-use Rattle.lw_base.specs.Names.{EachOnce}
+use Rattle.lw_base.specs.Lists.{EachOnce}
 use Rattle.lw_base.specs.Tables.{contains_name}
-use Rattle.lw_base.proofs.Elements.{all_append, all_weaker}
+use Rattle.lw_base.proofs.api.Elements.{all_append, all_weaker}
 use Rattle.lw_cells.specs.Cells.{statements, labels_of, target_in}
 use Rattle.lw_litmus.specs.declared.instr.Instr.{Instr}
 use Rattle.lw_litmus.specs.Programs.{target_of}

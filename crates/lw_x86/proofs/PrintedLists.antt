@@ -14,12 +14,12 @@ use Rattle.lw_text.specs.Sites.{SiteSyntax, IsSite}
 use Rattle.lw_text.specs.Rows.{begins_stop}
 use Rattle.lw_text.specs.Conditions.{AtomSyntax, Listed, Sites, Condition, begins_word}
 use Rattle.lw_text.specs.Propositions.{Terminal}
-use Rattle.lw_base.proofs.Elements.{all_weaker}
-use Rattle.lw_base.proofs.ListedAgain.{listed_few}
-use Rattle.lw_text.proofs.Spelling.{Anything, Spells, Spells-nothing, Spells-then, Spells-on, Spells-within, Spells-space, Spells-newline, Spells-mark, Spells-name, name_by_test}
-use Rattle.lw_text.proofs.PrintedPropositions.{enclosed, terminals_of}
-use Rattle.lw_text.proofs.ConditionTokens.{named_site, site_tokens, terminal_tokens, quantifier_tokens, named_claim, IsPrintable, site_said, site_exists, terminals_said, named_printable, whole_fine, quantifier_said, ended_said}
-use Rattle.lw_text.proofs.PrintedConditions.{site_spelled, whole_spelled, quantifier_spelled}
+use Rattle.lw_base.proofs.api.Elements.{all_weaker}
+use Rattle.lw_base.proofs.api.ListedAgain.{listed_few}
+use Rattle.lw_text.proofs.api.Spelling.{Anything, Spells, Spells-nothing, Spells-then, Spells-on, Spells-within, Spells-space, Spells-newline, Spells-mark, Spells-name, name_by_test}
+use Rattle.lw_text.proofs.api.PrintedPropositions.{enclosed, terminals_of}
+use Rattle.lw_text.proofs.api.ConditionTokens.{named_site, site_tokens, terminal_tokens, quantifier_tokens, named_claim, IsPrintable, site_said, site_exists, terminals_said, named_printable, whole_fine, quantifier_said, ended_said}
+use Rattle.lw_text.proofs.api.PrintedConditions.{site_spelled, whole_spelled, quantifier_spelled}
 use Rattle.lw_x86.specs.CanonicalTexts.{element_text, listed_text}
 
 -- ---- tokens

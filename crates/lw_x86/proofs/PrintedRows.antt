@@ -9,7 +9,7 @@ use Rattle.lw_base.specs.Characters.{begins, is_blank}
 use Rattle.lw_base.specs.Names.{IsName}
 use Rattle.lw_text.specs.Lists.{Until}
 use Rattle.lw_text.specs.Rows.{thread_name, Header, RowCells, Row, begins_stop}
-use Rattle.lw_text.proofs.Spelling.{Anything, IsBlankNext, Spells, Spells-then, Spells-on, Spells-before, Spells-within, Spells-nothing, Spells-space, Spells-newline, Spells-mark, Spells-name, name_by_test, blank_ends_word}
+use Rattle.lw_text.proofs.api.Spelling.{Anything, IsBlankNext, Spells, Spells-then, Spells-on, Spells-before, Spells-within, Spells-nothing, Spells-space, Spells-newline, Spells-mark, Spells-name, name_by_test, blank_ends_word}
 use Rattle.lw_x86.specs.CanonicalTexts.{row_text, row_of, header_text}
 use Rattle.lw_x86.proofs.PrintedInstructions.{EndsNoCell, name_no_end}
 use Rattle.lw_x86.proofs.PrintedCells.{IsPrintedCell, empty_printed}

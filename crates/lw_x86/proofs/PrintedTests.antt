@@ -5,13 +5,14 @@ use Rattle.std.proofs.lemmas.List.Elements.{recursion_from_All}
 use Rattle.lw_base.specs.Types.{NameTable}
 use Rattle.lw_base.specs.Heads.{with_table}
 use Rattle.lw_base.specs.Tables.{with_names}
-use Rattle.lw_base.proofs.Tables.{IsInTable, with_names-there}
-use Rattle.lw_base.proofs.Elements.{all_append}
+use Rattle.lw_base.proofs.api.Tables.{IsInTable, with_names-there}
+use Rattle.lw_base.proofs.api.Elements.{all_append}
 use Rattle.lw_cells.specs.Cells.{CellSyntax, Column, code_in, names_in, names_of, test_on}
-use Rattle.lw_litmus.specs.Tests.{IsThread}
+use Rattle.lw_litmus.specs.WellFormed.{IsThread}
 use Rattle.lw_litmus.specs.declared.instr.Instr.{Instr}
 use Rattle.lw_x86.specs.Instructions.{InstructionSyntax}
-use Rattle.lw_litmus.specs.Programs.{ProgramTest, IsWellFormedProgram, x86}
+use Rattle.lw_litmus.specs.Programs.{IsWellFormedProgram, x86}
+use Rattle.lw_litmus.specs.Tests.{ProgramTest}
 use Rattle.lw_x86.specs.Grammar.{HasProgram, x86_grammar}
 use Rattle.lw_x86.specs.CanonicalTexts.{canonical_text}
 use Rattle.lw_x86.specs.Texts.{IsTextOf}

@@ -7,10 +7,9 @@ use Rattle.lw_base.specs.declared.operand.Operand.{Operand}
 use Rattle.lw_base.specs.declared.operand.Operand.TheVariants.{Register, Number}
 use Rattle.lw_base.specs.Characters.{begins}
 use Rattle.lw_base.specs.Registers.{IsRegister, register_name, without_case}
-use Rattle.lw_base.proofs.Registers.{register_unique}
+use Rattle.lw_base.proofs.api.Registers.{register_unique}
 use Rattle.lw_text.specs.Tokens.{IsNumber}
-use Rattle.lw_text.proofs.Atoms.{number-unique}
-use Rattle.lw_cells.proofs.TokenRows.{number_first}
+use Rattle.lw_text.proofs.api.Numbers.{number-unique, number_first}
 use Rattle.lw_x86.specs.Instructions.{IsValue}
 
 -- every name begins with an E

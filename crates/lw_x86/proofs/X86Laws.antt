@@ -1,5 +1,5 @@
 -- The x86 language keeps what the rule of cells rests on.
-use Rattle.std.proofs.Common.{◌≡◌, ℕ, true, suc, ◌⊎◌, inl, inr, Some, None, List, [], ◌∷◌, length, refl, sym, ap, ◌∙◌, subst, arith}
+use Rattle.std.proofs.Common.{◌≡◌, ℕ, true, suc, ◌⊎◌, inl, inr, Some, None, List, [], length, refl, sym, ap, ◌∙◌, subst, arith}
 use Rattle.std.specs.Prelude.{slice_get, codes}
 use Rattle.std.specs.List.{AllByRecursion}
 use Rattle.std.specs.Option.{option_map}
@@ -11,22 +11,23 @@ use Rattle.lw_base.specs.Characters.{is_word_byte}
 use Rattle.lw_base.specs.Names.{IsLocation}
 use Rattle.lw_base.specs.Registers.{IsRegister}
 use Rattle.lw_base.specs.WellFormed.{IsRegisterNumber, IsWord}
+use Rattle.lw_base.proofs.api.Lists.{apart}
 use Rattle.lw_cells.specs.declared.draft.Draft.TheVariants.{Whole, Jumping}
 use Rattle.lw_cells.specs.Grammars.{IsGrammar}
 use Rattle.lw_litmus.specs.Operands.{operand_registers, operand_numbers}
 use Rattle.lw_cells.specs.Drafts.{EndsWithLabel, AreDrafts}
-use Rattle.lw_cells.proofs.TokenRows.{same_token}
+use Rattle.lw_cells.proofs.api.TokenRows.{same_token}
 use Rattle.lw_litmus.specs.declared.instr.Instr.{Instr}
 use Rattle.lw_x86.specs.declared.jump.Jump.{Jump}
 use Rattle.lw_x86.specs.declared.jump.Jump.TheVariants.{Equal, NotEqual, Always}
 use Rattle.lw_x86.specs.Instructions.{InstructionSyntax, Stores, Loads, Sets, Adds, Compares, Exchanges, Exchanges_adding, Fences, Jumps_if_equal, Jumps_if_not_equal, Jumps, Instruction, IsValue, MemoryFirst, MemoryLast, Locked, name_of, label_of}
 use Rattle.lw_litmus.specs.Programs.{location_of, target_of, registers_of, numbers_of}
 use Rattle.lw_x86.specs.Grammar.{instruction, x86_grammar}
-use Rattle.lw_x86.specs.Drafts.{draft_of, jump_to}
+use Rattle.lw_x86.specs.inner.Drafts.{draft_of, jump_to}
 use Rattle.lw_x86.specs.declared.mnemonic.Mnemonic.{Mnemonic}
 use Rattle.lw_x86.specs.declared.mnemonic.Mnemonic.TheVariants.{Mov, Add, Cmp, Xchg, Xadd, Lock, Mfence, Je, Jne, Jmp}
-use Rattle.lw_x86.specs.Mnemonics.{Names}
-use Rattle.lw_x86.specs.Readings.{Opens}
+use Rattle.lw_x86.specs.inner.Mnemonics.{Names}
+use Rattle.lw_x86.specs.inner.Readings.{Opens}
 use Rattle.lw_x86.proofs.Openings.{some_opening, exchange_opens}
 use Rattle.lw_x86.proofs.Registers.{other_first}
 use Rattle.lw_x86.proofs.OneReading.{instruction_unique}
@@ -44,9 +45,6 @@ colon_register w r e reg = other_first 58 [] r (λ f. let g : 58 ≡ 101 = f in 
 
 colon_location : (w : List ℕ) → w ≡ codes ":" → IsLocation w → ⊥
 colon_location w e loc = let f : is_word_byte 58 ≡ true = (subst IsLocation e loc).0.0.all.0 in absurd cc
-
-apart : (a b : ℕ) (u v : List ℕ) → (a ≡ b → ⊥) → a ∷ u ≡ b ∷ v → ⊥
-apart a b u v differ same = differ cc
 
 bracket_colon : codes "[" ≡ codes ":" → ⊥
 bracket_colon e = apart 91 58 [] [] (λ f. omega arith) e

@@ -18,7 +18,8 @@ use Rattle.lw_base.specs.SeenLists.{all_registers, locations}
 use Rattle.lw_text.specs.Rows.{thread_name}
 use Rattle.lw_litmus.specs.declared.instr.Instr.{Instr}
 use Rattle.lw_litmus.specs.declared.instr.Instr.TheVariants.{Store, Load, Set, Add, Cmp, Xchg, Xadd, Mfence, Je, Jne, Jmp}
-use Rattle.lw_litmus.specs.Programs.{ProgramTest, target_of}
+use Rattle.lw_litmus.specs.Programs.{target_of}
+use Rattle.lw_litmus.specs.Tests.{ProgramTest}
 
 -- ---- instructions
 

@@ -2,7 +2,8 @@
 use Rattle.std.specs.Prelude.{ℕ}
 use Rattle.lw_litmus.specs.declared.instr.Instr.{Instr}
 use Rattle.lw_litmus.specs.declared.instr.Instr.TheVariants.{Store, Load, Set, Add, Cmp, Xchg, Xadd, Mfence, Je, Jne, Jmp}
-use Rattle.lw_litmus.specs.Programs.{ProgramTest, x86}
+use Rattle.lw_litmus.specs.Programs.{x86}
+use Rattle.lw_litmus.specs.Tests.{ProgramTest}
 use Rattle.lw_text.specs.Frames.{TestFrame}
 use Rattle.lw_cells.specs.Grammars.{Grammar}
 use Rattle.lw_cells.specs.Cells.{HasTest}

@@ -1,9 +1,7 @@
 pub use Rattle.lw_litmus.specs.Programs
 pub use Rattle.lw_litmus.specs.Views
 pub mod Instructions
-pub mod Mnemonics
+pub mod inner
 pub mod Grammar
-pub mod Drafts
-pub mod Readings
 pub mod CanonicalTexts
 pub mod Texts

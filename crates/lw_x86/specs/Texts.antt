@@ -1,7 +1,7 @@
 -- What a text says as an x86 test.
 use Rattle.lw_base.specs.Types.{Bytes}
 use Rattle.lw_text.specs.Frames.{TestFrame, HasFrame}
-use Rattle.lw_litmus.specs.Programs.{ProgramTest}
+use Rattle.lw_litmus.specs.Tests.{ProgramTest}
 use Rattle.lw_x86.specs.Grammar.{HasProgram}
 
 -- The text is a frame's, and the frame's cells say the program.

@@ -12,10 +12,9 @@ ghost use Rattle.lw_cells.specs.Reading.{Fits, StatementRead, StatementFault};
 ghost use Rattle.lw_x86.specs.declared.mnemonic.Mnemonic.{Mnemonic};
 ghost use Rattle.lw_x86.specs.declared.mnemonic.Mnemonic.TheVariants as mnemonic;
 ghost use Rattle.lw_x86.specs.Instructions.{InstructionSyntax, Instruction, IsValue, OnRegister, Stores};
-ghost use Rattle.lw_x86.specs.Mnemonics.{mnemonic_text};
-ghost use Rattle.lw_x86.specs.Drafts.{draft_of, jump_to};
-ghost use Rattle.lw_x86.specs.Readings.{Opens, PlainRead, mnemonic_of, first_form, last_form, exchange_form, AccessRead};
-ghost use Rattle.lw_x86.specs.Readings.{FirstFault, LastFault, AccessFault};
+ghost use Rattle.lw_x86.specs.inner.Mnemonics.{mnemonic_text};
+ghost use Rattle.lw_x86.specs.inner.Drafts.{draft_of, jump_to};
+ghost use Rattle.lw_x86.specs.inner.Readings.{Opens, PlainRead, mnemonic_of, first_form, last_form, exchange_form, AccessRead, FirstFault, LastFault, AccessFault};
 ghost use Rattle.lw_x86.specs.Grammar.{x86_grammar};
 
 use crate::access::Access;
@@ -214,7 +213,7 @@ fn read_mfence(phrase: &Phrase<'_, '_>) -> Result<Draft<Instr, Jump>, CellFault>
     ensures cause { IfErr result (λ f. IsMisfit f.cause) }
     ensures place { (len : ℕ) → LiesWithin len phrase.now → IfErr result (λ f. f.at ≤ len) }
 {
-    phrase.ends(1)?;
+    phrase.expect_end(1)?;
     Ok(Draft::Whole(Instr::Mfence))
 }
 
@@ -227,7 +226,7 @@ fn read_jump(phrase: &Phrase<'_, '_>, jump: Jump) -> Result<Draft<Instr, Jump>, 
     ensures place { (len : ℕ) → LiesWithin len phrase.now → IfErr result (λ f. f.at ≤ len) }
 {
     label(&phrase.token(1)?)?;
-    phrase.ends(2)?;
+    phrase.expect_end(2)?;
     Ok(Draft::Jumping(jump, 1))
 }
 
@@ -255,11 +254,11 @@ fn read_value(phrase: &Phrase<'_, '_>, place: usize) -> Result<Operand, CellFaul
 {
     if phrase.has(place, "$") {
         let number = word(&phrase.token(place + 1)?)?;
-        phrase.ends(place + 2)?;
+        phrase.expect_end(place + 2)?;
         return Ok(Operand::Number(number));
     }
     let val = operand(Arch::X86, &phrase.token(place)?)?;
-    phrase.ends(place + 1)?;
+    phrase.expect_end(place + 1)?;
     Ok(val)
 }
 
@@ -298,7 +297,7 @@ fn read_memory_first<A: Allocator + Copy>(
     phrase.expect(3, "]")?;
     phrase.expect(4, ",")?;
     let reg = register(Arch::X86, &phrase.token(5)?)?;
-    phrase.ends(6)?;
+    phrase.expect_end(6)?;
     Ok(Access { loc, reg })
 }
 
@@ -319,6 +318,6 @@ fn read_memory_last<A: Allocator + Copy>(
     phrase.expect(3, "[")?;
     let loc = location(&phrase.token(4)?, locs)?;
     phrase.expect(5, "]")?;
-    phrase.ends(6)?;
+    phrase.expect_end(6)?;
     Ok(Access { loc, reg })
 }

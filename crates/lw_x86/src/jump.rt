@@ -2,7 +2,7 @@
 
 /// A jump, without the instruction that it leads to.
 #[derive(Clone, Copy)]
-pub enum Jump {
+pub(crate) enum Jump {
     /// `JE`
     Equal,
     /// `JNE`

@@ -2,7 +2,7 @@
 ghost use Rattle.std.specs.Prelude.{◌≡◌, ◌↔◌, MatchOption, IsTrue, Contains};
 ghost use Rattle.lw_base.specs.Refusals.{NoSuch};
 ghost use Rattle.lw_x86.specs.Instructions.{mnemonics};
-ghost use Rattle.lw_x86.specs.Mnemonics.{all_mnemonics, mnemonic_text, Names};
+ghost use Rattle.lw_x86.specs.inner.Mnemonics.{all_mnemonics, mnemonic_text, Names};
 
 use lw_base::is_same_but_case;
 

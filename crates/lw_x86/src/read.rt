@@ -8,10 +8,10 @@ ghost use Rattle.lw_text.specs.Frames.{TestFrame};
 ghost use Rattle.lw_text.specs.Views.{frame_of};
 ghost use Rattle.lw_text.specs.Places.{placed_cells};
 ghost use Rattle.lw_cells.specs.Faults.{Tells};
-ghost use Rattle.lw_litmus.specs.Programs.{ProgramTest};
+ghost use Rattle.lw_litmus.specs.Tests.{ProgramTest};
+ghost use Rattle.lw_litmus.specs.Views.{program_of};
 ghost use Rattle.lw_x86.specs.Grammar.{HasProgram, x86_grammar};
 ghost use Rattle.lw_x86.specs.Texts.{IsTextOf};
-ghost use Rattle.lw_litmus.specs.Views.{program_of};
 
 use crate::instruction::X86Language;
 use lw_base::CellFault;

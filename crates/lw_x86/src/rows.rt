@@ -2,7 +2,7 @@
 ghost use Rattle.std.specs.Prelude.{◌≡◌, ◌+◌, ◌++◌, [], length, map, codes, slice_index_or, All, OnOk};
 ghost use Rattle.std.specs.String.{string_bytes};
 ghost use Rattle.lw_base.specs.Texts.{joined};
-ghost use Rattle.lw_litmus.specs.Tests.{IsThread};
+ghost use Rattle.lw_litmus.specs.WellFormed.{IsThread};
 ghost use Rattle.lw_x86.specs.CanonicalTexts as printed;
 ghost use Rattle.lw_x86.specs.CanonicalTexts.{label_in_front, end_cells, cells_of, row_text, row_of, longest, rows_text};
 ghost use Rattle.lw_litmus.specs.Programs.{x86};

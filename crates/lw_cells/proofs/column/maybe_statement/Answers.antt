@@ -1,6 +1,6 @@
 use Rattle.std.proofs.lemmas.Result.{err_from_is_err_and}
 use Rattle.std.proofs.Common.{sym, ◌∙◌}
-use Rattle.lw_base.proofs.Returns.{passed_on}
+use Rattle.lw_base.proofs.api.Returns.{passed_on}
 use Rattle.lw_cells.proofs.Drafts.{maybe_cause, maybe_some, maybe_none, no_room, only_some, surplus_cause, first_within}
 use Rattle.lw_cells.proofs.column.maybe_statement.Goals as goal
 

@@ -1,5 +1,5 @@
 use Rattle.std.proofs.lemmas.Result.{err_from_is_err_and, IfOk-weaker, IfErr-weaker}
-use Rattle.lw_base.proofs.Returns.{passed_on}
+use Rattle.lw_base.proofs.api.Returns.{passed_on}
 use Rattle.lw_cells.proofs.ColumnsRead.{column_found, column_none}
 use Rattle.lw_cells.proofs.column.read_column.Goals as goal
 
@@ -14,7 +14,7 @@ returns-clause-fault g c =
     IfErr-weaker c.resolve.result _ _ (λ f none known t (column, few). column_none g.L.StatementReader.grammar c.requires.lawful g.L.StatementReader.draft_of _ _ _ _ _ c.in_ok-draft.ensures.found (none known) t column) (fault _ _ c.in_ok-draft.ensures.found)
 
 pub resolve-requires : goal.resolve-requires
-resolve-requires g c = record { drafted = c.requires.drafted; read = rw c.as_slice.ensures (c.args.locs.now, c.read_cells.new.locs, c.in_ok-draft.ensures.found) }
+resolve-requires g c = record { drafted = c.requires.drafted; read = rw c.as_slice.ensures (c.args.locs.now, c.read_drafts.new.locs, c.in_ok-draft.ensures.found) }
 
 pub returns-in_err-draft-clause-fault : goal.returns-in_err-draft-clause-fault
 returns-in_err-draft-clause-fault g c =

@@ -1,8 +1,8 @@
 use Rattle.std.proofs.Common.{◌<◌, length, sym, subst, arith}
 use Rattle.std.proofs.lemmas.Result.{err_from_is_err_and}
-use Rattle.lw_base.proofs.Returns.{passed_on}
+use Rattle.lw_base.proofs.api.Returns.{passed_on}
 use Rattle.lw_text.specs.Places.{IsWithin}
-use Rattle.lw_base.proofs.Lists.{at_index}
+use Rattle.lw_base.proofs.api.Lists.{at_index}
 use Rattle.lw_cells.proofs.Resolved.{resolved_none, resolved_skip, resolved_more, resolved_all, not_all_forward, jump_tells, syntax_of, start_within, as_many_rows}
 use Rattle.lw_cells.proofs.column.resolve.Goals as goal
 

@@ -1,6 +1,6 @@
 use Rattle.std.proofs.Common.{rules}
-use Rattle.lw_base.proofs.Returns.{passed_on}
-use Rattle.lw_base.proofs.Lists.{at_index}
+use Rattle.lw_base.proofs.api.Returns.{passed_on}
+use Rattle.lw_base.proofs.api.Lists.{at_index}
 use Rattle.lw_cells.proofs.JumpsResolved.{whole, label_within, jump_resolved, jump_refused, not_forward}
 use Rattle.lw_cells.proofs.column.resolve_one.Goals as goal
 

@@ -1,9 +1,9 @@
 use Rattle.std.proofs.Common.{sym, ◌∙◌, arith, true≢false}
 use Rattle.std.proofs.lemmas.Map.Text.{btree_map_updates_str}
 use Rattle.std.proofs.lemmas.Result.{err_from_is_err_and}
-use Rattle.lw_base.proofs.Returns.{passed_on}
+use Rattle.lw_base.proofs.api.Returns.{passed_on}
 use Rattle.lw_cells.proofs.FrontLabels.{label_cause, labels_start, labels_more, labels_on, labels_twice, label_known, twice_in, next_within, two_within}
-use Rattle.lw_base.proofs.Lists.{at_index}
+use Rattle.lw_base.proofs.api.Lists.{at_index}
 use Rattle.lw_cells.proofs.labels.read_labels.Goals as goal
 
 pub loop-token-init : goal.loop-token-init

@@ -3,7 +3,7 @@ use Rattle.std.proofs.lemmas.List.{take_all}
 use Rattle.std.specs.Prelude.{All}
 use Rattle.std.proofs.lemmas.Result.{err_from_is_err_and}
 use Rattle.lw_text.specs.Places.{IsWithin, all_texts}
-use Rattle.lw_base.proofs.Returns.{passed_on}
+use Rattle.lw_base.proofs.api.Returns.{passed_on}
 use Rattle.lw_cells.specs.Reading.{ColumnsRead}
 use Rattle.lw_cells.proofs.Threads.{columns_cut, texts_cut, columns_more, threads_more, threads_none, threads_tell}
 use Rattle.lw_cells.proofs.read.read_columns.Goals as goal

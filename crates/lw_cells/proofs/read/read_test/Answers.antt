@@ -3,7 +3,7 @@ use Rattle.lw_text.specs.Places.{cells_texts, placed_cells}
 use Rattle.std.proofs.Common.{ℕ, ◌≡◌, ◌-◌, ◌++◌, ap, ◌∙◌, subst, length, arith}
 use Rattle.std.specs.Prelude.{replicate}
 use Rattle.std.proofs.lemmas.Result.{err_from_is_err_and}
-use Rattle.lw_base.proofs.Returns.{passed_on}
+use Rattle.lw_base.proofs.api.Returns.{passed_on}
 use Rattle.lw_base.specs.Heads.{TestHead, head_of}
 use Rattle.lw_cells.specs.Faults.{TellsBy}
 use Rattle.lw_cells.proofs.Threads.{test_well_formed, test_found, test_none}

@@ -1,6 +1,6 @@
 use Rattle.std.proofs.Common.{refl, ◌≡◌, true, false, arith}
 use Rattle.std.proofs.lemmas.Result.{err_from_is_err_and}
-use Rattle.lw_cells.proofs.TokenRows.{not_both}
+use Rattle.lw_cells.proofs.api.TokenRows.{not_both}
 use Rattle.lw_cells.proofs.NewNames.{is_ninth}
 use Rattle.lw_cells.proofs.token.location.Goals as goal
 

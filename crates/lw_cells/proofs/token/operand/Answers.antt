@@ -1,4 +1,4 @@
-use Rattle.lw_cells.proofs.TokenRows.{no_operand}
+use Rattle.lw_cells.proofs.api.TokenRows.{no_operand}
 use Rattle.lw_cells.proofs.token.operand.Goals as goal
 
 pub returns-in-None-clause-err : goal.returns-in-None-clause-err

@@ -1,4 +1,4 @@
-use Rattle.lw_base.proofs.Returns.{passed_on}
+use Rattle.lw_base.proofs.api.Returns.{passed_on}
 use Rattle.lw_source.proofs.SourceLaws.{source_lawful, source_drafted}
 use Rattle.lw_source.proofs.read.read_source.Goals as goal
 

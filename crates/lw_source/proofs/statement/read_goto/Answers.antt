@@ -1,14 +1,14 @@
 use Rattle.std.proofs.Common.{ap, ◌≡◌, subst}
 use Rattle.std.specs.Prelude.{slice_get}
 use Rattle.std.proofs.lemmas.Result.{err_from_is_err_and}
-use Rattle.lw_base.proofs.Returns.{passed_on}
+use Rattle.lw_base.proofs.api.Returns.{passed_on}
 use Rattle.lw_base.specs.Names.{IsLocation}
-use Rattle.lw_cells.proofs.TokenRows.{same_token, gone, past}
+use Rattle.lw_cells.proofs.api.TokenRows.{same_token, gone, past}
 use Rattle.lw_source.proofs.Phrases.{goes}
 use Rattle.lw_source.proofs.statement.read_goto.Goals as goal
 
 pub returns-clause-found : goal.returns-clause-found
-returns-clause-found c names = goes _ names _ c.requires c.in_ok-token.ensures.found c.in_ok-ends.ensures.ok c.in_ok-label.ensures.ok
+returns-clause-found c names = goes _ names _ c.requires c.in_ok-token.ensures.found c.in_ok-expect_end.ensures.ok c.in_ok-label.ensures.ok
 
 pub returns-in_err-token-clause-fault : goal.returns-in_err-token-clause-fault
 returns-in_err-token-clause-fault c =
@@ -20,9 +20,9 @@ returns-in_err-label-clause-fault c =
     let same : l ≡ c.in_ok-token.field-0.text.now = same_token _ 1 _ _ (ap (λ t. slice_get t 1) says.0) c.in_ok-token.ensures.found in
     c.in_err-label.ensures.err (subst IsLocation same says.1))
 
-pub returns-in_err-ends-clause-fault : goal.returns-in_err-ends-clause-fault
-returns-in_err-ends-clause-fault c =
-    passed_on _ _ c.from_residual-in_err-ends.ensures.1 (λ l says. past _ 2 c.in_err-ends.ensures.err (ap (λ t. slice_get t 2) says.0))
+pub returns-in_err-expect_end-clause-fault : goal.returns-in_err-expect_end-clause-fault
+returns-in_err-expect_end-clause-fault c =
+    passed_on _ _ c.from_residual-in_err-expect_end.ensures.1 (λ l says. past _ 2 c.in_err-expect_end.ensures.err (ap (λ t. slice_get t 2) says.0))
 
 pub returns-in_err-token-clause-cause : goal.returns-in_err-token-clause-cause
 returns-in_err-token-clause-cause c =
@@ -40,13 +40,13 @@ pub returns-in_err-label-clause-place : goal.returns-in_err-label-clause-place
 returns-in_err-label-clause-place c len within =
     passed_on _ _ c.from_residual-in_err-label.ensures.1 (c.in_err-label.ensures.place len (c.in_ok-token.ensures.within len within))
 
-pub returns-in_err-ends-clause-cause : goal.returns-in_err-ends-clause-cause
-returns-in_err-ends-clause-cause c =
-    passed_on _ _ c.from_residual-in_err-ends.ensures.1 c.in_err-ends.ensures.cause
+pub returns-in_err-expect_end-clause-cause : goal.returns-in_err-expect_end-clause-cause
+returns-in_err-expect_end-clause-cause c =
+    passed_on _ _ c.from_residual-in_err-expect_end.ensures.1 c.in_err-expect_end.ensures.cause
 
-pub returns-in_err-ends-clause-place : goal.returns-in_err-ends-clause-place
-returns-in_err-ends-clause-place c len within =
-    passed_on _ _ c.from_residual-in_err-ends.ensures.1 (c.in_err-ends.ensures.place len within)
+pub returns-in_err-expect_end-clause-place : goal.returns-in_err-expect_end-clause-place
+returns-in_err-expect_end-clause-place c len within =
+    passed_on _ _ c.from_residual-in_err-expect_end.ensures.1 (c.in_err-expect_end.ensures.place len within)
 
 pub returns-in_err-token-clause-found : goal.returns-in_err-token-clause-found
 returns-in_err-token-clause-found c =
@@ -58,7 +58,7 @@ returns-in_err-label-clause-found c =
     let p = err_from_is_err_and c.from_residual-in_err-label.result c.from_residual-in_err-label.ensures.1 in
     rw p.1 tt
 
-pub returns-in_err-ends-clause-found : goal.returns-in_err-ends-clause-found
-returns-in_err-ends-clause-found c =
-    let p = err_from_is_err_and c.from_residual-in_err-ends.result c.from_residual-in_err-ends.ensures.1 in
+pub returns-in_err-expect_end-clause-found : goal.returns-in_err-expect_end-clause-found
+returns-in_err-expect_end-clause-found c =
+    let p = err_from_is_err_and c.from_residual-in_err-expect_end.result c.from_residual-in_err-expect_end.ensures.1 in
     rw p.1 tt

@@ -1,12 +1,12 @@
 use Rattle.std.proofs.Common.{ap, ◌∙◌, ◌≡◌, subst}
 use Rattle.std.specs.Prelude.{slice_get, Some}
 use Rattle.std.proofs.lemmas.Result.{err_from_is_err_and}
-use Rattle.lw_base.proofs.Returns.{passed_on}
+use Rattle.lw_base.proofs.api.Returns.{passed_on}
 use Rattle.lw_base.specs.declared.head.Arch.TheVariants.{Source}
 use Rattle.lw_base.specs.Names.{IsLocation}
 use Rattle.lw_base.specs.Registers.{IsRegister}
 use Rattle.lw_text.specs.Tokens.{IsNumber}
-use Rattle.lw_cells.proofs.TokenRows.{same_token, gone, past}
+use Rattle.lw_cells.proofs.api.TokenRows.{same_token, gone, past}
 use Rattle.lw_source.proofs.Phrases.{goes_if, goes_if_not}
 use Rattle.lw_source.proofs.statement.read_if.Goals as goal
 
@@ -52,11 +52,11 @@ returns-in_err-label-clause-place c len within =
 
 pub returns-then-is_equal-clause-found : goal.returns-then-is_equal-clause-found
 returns-then-is_equal-clause-found c names =
-    goes_if _ names c.in_ok-reg.reg c.in_ok-num.num _ _ _ c.requires c.in_ok-token.ensures.found (c.in_ok-token-2.ensures.found ∙ ap Some (c.in_ok-is_equal.ensures.equal c.if-is_equal.true)) c.in_ok-token-3.ensures.found c.in_ok-expect.ensures.ok c.in_ok-token-4.ensures.found c.in_ok-ends.ensures.ok c.in_ok-reg.ensures.ok c.in_ok-num.ensures.ok c.in_ok-label.ensures.ok
+    goes_if _ names c.in_ok-reg.reg c.in_ok-num.num _ _ _ c.requires c.in_ok-token.ensures.found (c.in_ok-token-2.ensures.found ∙ ap Some (c.in_ok-is_equal.ensures.equal c.if-is_equal.true)) c.in_ok-token-3.ensures.found c.in_ok-expect.ensures.ok c.in_ok-token-4.ensures.found c.in_ok-expect_end.ensures.ok c.in_ok-reg.ensures.ok c.in_ok-num.ensures.ok c.in_ok-label.ensures.ok
 
 pub returns-clause-found : goal.returns-clause-found
 returns-clause-found c names =
-    goes_if_not _ names c.in_ok-reg.reg c.in_ok-num.num _ _ _ c.requires c.in_ok-token.ensures.found (c.in_ok-token-2.ensures.found ∙ ap Some (c.in_ok-is_equal.ensures.unequal c.if-is_equal.false)) c.in_ok-token-3.ensures.found c.in_ok-expect.ensures.ok c.in_ok-token-4.ensures.found c.in_ok-ends.ensures.ok c.in_ok-reg.ensures.ok c.in_ok-num.ensures.ok c.in_ok-label.ensures.ok
+    goes_if_not _ names c.in_ok-reg.reg c.in_ok-num.num _ _ _ c.requires c.in_ok-token.ensures.found (c.in_ok-token-2.ensures.found ∙ ap Some (c.in_ok-is_equal.ensures.unequal c.if-is_equal.false)) c.in_ok-token-3.ensures.found c.in_ok-expect.ensures.ok c.in_ok-token-4.ensures.found c.in_ok-expect_end.ensures.ok c.in_ok-reg.ensures.ok c.in_ok-num.ensures.ok c.in_ok-label.ensures.ok
 
 pub returns-in_err-token-clause-equal : goal.returns-in_err-token-clause-equal
 returns-in_err-token-clause-equal c =
@@ -110,13 +110,13 @@ returns-in_err-label-clause-unequal c =
     let same : l ≡ c.in_ok-token-4.field-0.text.now = same_token _ 5 _ _ (ap (λ t. slice_get t 5) says.2) c.in_ok-token-4.ensures.found in
     c.in_err-label.ensures.err (subst IsLocation same says.5))
 
-pub returns-in_err-ends-clause-equal : goal.returns-in_err-ends-clause-equal
-returns-in_err-ends-clause-equal c =
-    passed_on _ _ c.from_residual-in_err-ends.ensures.1 (λ r n l says. past _ 6 c.in_err-ends.ensures.err (ap (λ t. slice_get t 6) says.2))
+pub returns-in_err-expect_end-clause-equal : goal.returns-in_err-expect_end-clause-equal
+returns-in_err-expect_end-clause-equal c =
+    passed_on _ _ c.from_residual-in_err-expect_end.ensures.1 (λ r n l says. past _ 6 c.in_err-expect_end.ensures.err (ap (λ t. slice_get t 6) says.2))
 
-pub returns-in_err-ends-clause-unequal : goal.returns-in_err-ends-clause-unequal
-returns-in_err-ends-clause-unequal c =
-    passed_on _ _ c.from_residual-in_err-ends.ensures.1 (λ r n l says. past _ 6 c.in_err-ends.ensures.err (ap (λ t. slice_get t 6) says.2))
+pub returns-in_err-expect_end-clause-unequal : goal.returns-in_err-expect_end-clause-unequal
+returns-in_err-expect_end-clause-unequal c =
+    passed_on _ _ c.from_residual-in_err-expect_end.ensures.1 (λ r n l says. past _ 6 c.in_err-expect_end.ensures.err (ap (λ t. slice_get t 6) says.2))
 
 pub returns-in_err-is_equal-clause-equal : goal.returns-in_err-is_equal-clause-equal
 returns-in_err-is_equal-clause-equal c =
@@ -166,13 +166,13 @@ pub returns-in_err-expect-clause-place : goal.returns-in_err-expect-clause-place
 returns-in_err-expect-clause-place c len within =
     passed_on _ _ c.from_residual-in_err-expect.ensures.1 (c.in_err-expect.ensures.place len within)
 
-pub returns-in_err-ends-clause-cause : goal.returns-in_err-ends-clause-cause
-returns-in_err-ends-clause-cause c =
-    passed_on _ _ c.from_residual-in_err-ends.ensures.1 c.in_err-ends.ensures.cause
+pub returns-in_err-expect_end-clause-cause : goal.returns-in_err-expect_end-clause-cause
+returns-in_err-expect_end-clause-cause c =
+    passed_on _ _ c.from_residual-in_err-expect_end.ensures.1 c.in_err-expect_end.ensures.cause
 
-pub returns-in_err-ends-clause-place : goal.returns-in_err-ends-clause-place
-returns-in_err-ends-clause-place c len within =
-    passed_on _ _ c.from_residual-in_err-ends.ensures.1 (c.in_err-ends.ensures.place len within)
+pub returns-in_err-expect_end-clause-place : goal.returns-in_err-expect_end-clause-place
+returns-in_err-expect_end-clause-place c len within =
+    passed_on _ _ c.from_residual-in_err-expect_end.ensures.1 (c.in_err-expect_end.ensures.place len within)
 
 pub returns-in_err-reg-clause-cause : goal.returns-in_err-reg-clause-cause
 returns-in_err-reg-clause-cause c =
@@ -235,7 +235,7 @@ returns-in_err-label-clause-found c =
     let p = err_from_is_err_and c.from_residual-in_err-label.result c.from_residual-in_err-label.ensures.1 in
     rw p.1 tt
 
-pub returns-in_err-ends-clause-found : goal.returns-in_err-ends-clause-found
-returns-in_err-ends-clause-found c =
-    let p = err_from_is_err_and c.from_residual-in_err-ends.result c.from_residual-in_err-ends.ensures.1 in
+pub returns-in_err-expect_end-clause-found : goal.returns-in_err-expect_end-clause-found
+returns-in_err-expect_end-clause-found c =
+    let p = err_from_is_err_and c.from_residual-in_err-expect_end.result c.from_residual-in_err-expect_end.ensures.1 in
     rw p.1 tt

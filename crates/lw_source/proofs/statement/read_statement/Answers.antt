@@ -2,11 +2,11 @@ use Rattle.lw_base.specs.declared.head.Arch.TheVariants.{Source}
 use Rattle.std.proofs.Common.{◌≡◌, ap, ◌∙◌, Some, inl, refl, subst}
 use Rattle.std.specs.Prelude.{slice_get}
 use Rattle.std.proofs.lemmas.Result.{err_from_is_err_and, IfOk-weaker, IfErr-weaker}
-use Rattle.lw_base.proofs.Returns.{passed_on}
+use Rattle.lw_base.proofs.api.Returns.{passed_on}
 use Rattle.lw_cells.specs.Operands.{IsOperand}
 use Rattle.lw_cells.specs.Reading.{Fits}
-use Rattle.lw_cells.proofs.TokenRows.{same_token, gone, past, from_two, same_word, other_word}
-use Rattle.lw_cells.proofs.Drafts.{statement_cause, misfit_cause}
+use Rattle.lw_cells.proofs.api.TokenRows.{same_token, gone, past, from_two, same_word, other_word}
+use Rattle.lw_cells.proofs.api.Causes.{statement_cause, misfit_cause}
 use Rattle.lw_source.specs.Grammar.{source_grammar}
 use Rattle.lw_source.proofs.Phrases.{becomes, first_of, only_goto, stores, only_if, only_store}
 use Rattle.lw_source.proofs.statement.read_statement.Goals as goal
@@ -31,7 +31,7 @@ returns-in_err-val-clause-place g c len within =
 
 pub returns-clause-found : goal.returns-clause-found
 returns-clause-found g c =
-    stores _ _ _ c.in_ok-loc.loc c.in_ok-val.val _ _ c.in_ok-first.ensures.found c.in_ok-expect-2.ensures.ok c.in_ok-token.ensures.found c.in_ok-ends.ensures.ok c.in_ok-loc.ensures.name c.in_ok-val.ensures.ok c.in_ok-loc.ensures.names c.in_ok-loc.ensures.found
+    stores _ _ _ c.in_ok-loc.loc c.in_ok-val.val _ _ c.in_ok-first.ensures.found c.in_ok-expect-2.ensures.ok c.in_ok-token.ensures.found c.in_ok-expect_end.ensures.ok c.in_ok-loc.ensures.name c.in_ok-val.ensures.ok c.in_ok-loc.ensures.names c.in_ok-loc.ensures.found
 
 pub returns-in_err-first-clause-fault : goal.returns-in_err-first-clause-fault
 returns-in_err-first-clause-fault g c =
@@ -51,10 +51,10 @@ returns-in_err-token-clause-fault g c =
     passed_on _ _ c.from_residual-in_err-token.ensures.1 (λ known s (says, few).
     only_store _ _ (Fits source_grammar _ _) c.in_ok-first.ensures.found c.in_default.ensures (other_word _ _ c.if-eq-2.ensures) (other_word _ _ c.if-eq.ensures) (λ v loc q. gone _ 2 _ c.in_err-token.ensures.err (ap (λ t. slice_get t 2) q.0.1)) s says (says, few))
 
-pub returns-in_err-ends-clause-fault : goal.returns-in_err-ends-clause-fault
-returns-in_err-ends-clause-fault g c =
-    passed_on _ _ c.from_residual-in_err-ends.ensures.1 (λ known s (says, few).
-    only_store _ _ (Fits source_grammar _ _) c.in_ok-first.ensures.found c.in_default.ensures (other_word _ _ c.if-eq-2.ensures) (other_word _ _ c.if-eq.ensures) (λ v loc q. past _ 3 c.in_err-ends.ensures.err (ap (λ t. slice_get t 3) q.0.1)) s says (says, few))
+pub returns-in_err-expect_end-clause-fault : goal.returns-in_err-expect_end-clause-fault
+returns-in_err-expect_end-clause-fault g c =
+    passed_on _ _ c.from_residual-in_err-expect_end.ensures.1 (λ known s (says, few).
+    only_store _ _ (Fits source_grammar _ _) c.in_ok-first.ensures.found c.in_default.ensures (other_word _ _ c.if-eq-2.ensures) (other_word _ _ c.if-eq.ensures) (λ v loc q. past _ 3 c.in_err-expect_end.ensures.err (ap (λ t. slice_get t 3) q.0.1)) s says (says, few))
 
 pub returns-in_err-val-clause-fault : goal.returns-in_err-val-clause-fault
 returns-in_err-val-clause-fault g c =
@@ -134,13 +134,13 @@ pub returns-in_err-token-clause-place : goal.returns-in_err-token-clause-place
 returns-in_err-token-clause-place g c len within =
     passed_on _ _ c.from_residual-in_err-token.ensures.1 (c.in_err-token.ensures.place len within)
 
-pub returns-in_err-ends-clause-cause : goal.returns-in_err-ends-clause-cause
-returns-in_err-ends-clause-cause g c =
-    passed_on _ _ c.from_residual-in_err-ends.ensures.1 (misfit_cause source_grammar _ _ _ _ c.in_err-ends.ensures.cause)
+pub returns-in_err-expect_end-clause-cause : goal.returns-in_err-expect_end-clause-cause
+returns-in_err-expect_end-clause-cause g c =
+    passed_on _ _ c.from_residual-in_err-expect_end.ensures.1 (misfit_cause source_grammar _ _ _ _ c.in_err-expect_end.ensures.cause)
 
-pub returns-in_err-ends-clause-place : goal.returns-in_err-ends-clause-place
-returns-in_err-ends-clause-place g c len within =
-    passed_on _ _ c.from_residual-in_err-ends.ensures.1 (c.in_err-ends.ensures.place len within)
+pub returns-in_err-expect_end-clause-place : goal.returns-in_err-expect_end-clause-place
+returns-in_err-expect_end-clause-place g c len within =
+    passed_on _ _ c.from_residual-in_err-expect_end.ensures.1 (c.in_err-expect_end.ensures.place len within)
 
 pub returns-in_err-val-clause-cause : goal.returns-in_err-val-clause-cause
 returns-in_err-val-clause-cause g c =
@@ -176,9 +176,9 @@ returns-in_err-val-clause-found g c =
     let p = err_from_is_err_and c.from_residual-in_err-val.result c.from_residual-in_err-val.ensures.1 in
     rw p.1 tt
 
-pub returns-in_err-ends-clause-found : goal.returns-in_err-ends-clause-found
-returns-in_err-ends-clause-found g c =
-    let p = err_from_is_err_and c.from_residual-in_err-ends.result c.from_residual-in_err-ends.ensures.1 in
+pub returns-in_err-expect_end-clause-found : goal.returns-in_err-expect_end-clause-found
+returns-in_err-expect_end-clause-found g c =
+    let p = err_from_is_err_and c.from_residual-in_err-expect_end.result c.from_residual-in_err-expect_end.ensures.1 in
     rw p.1 tt
 
 pub read_goto-requires : goal.read_goto-requires

@@ -3,11 +3,11 @@ use Rattle.std.proofs.lemmas.List.{length-map}
 use Rattle.std.proofs.Common.{ap, arith, length, ◌≡◌, ◌≤◌, ◌<◌, List, subst}
 use Rattle.std.specs.Prelude.{slice_get}
 use Rattle.std.proofs.lemmas.Result.{err_from_is_err_and}
-use Rattle.lw_base.proofs.Returns.{passed_on}
+use Rattle.lw_base.proofs.api.Returns.{passed_on}
 use Rattle.lw_text.specs.declared.token.Token.{Token}
 use Rattle.lw_text.specs.Spans.{texts}
 use Rattle.lw_cells.specs.Operands.{IsOperand}
-use Rattle.lw_cells.proofs.TokenRows.{same_token, gone, past}
+use Rattle.lw_cells.proofs.api.TokenRows.{same_token, gone, past}
 use Rattle.lw_source.proofs.Phrases.{sets, sums}
 use Rattle.lw_source.proofs.statement.read_sum.Goals as goal
 
@@ -25,7 +25,7 @@ returns-in_err-right-clause-place c len within =
 
 pub returns-clause-found : goal.returns-clause-found
 returns-clause-found c names =
-    sums _ names c.args.dst c.args.left _ _ _ _ c.requires.first.1 c.requires.sign c.requires.third.1 c.in_ok-expect.ensures.ok c.in_ok-token.ensures.found c.in_ok-ends.ensures.ok c.requires.first.2 c.requires.third.2 c.in_ok-right.ensures.ok
+    sums _ names c.args.dst c.args.left _ _ _ _ c.requires.first.1 c.requires.sign c.requires.third.1 c.in_ok-expect.ensures.ok c.in_ok-token.ensures.found c.in_ok-expect_end.ensures.ok c.requires.first.2 c.requires.third.2 c.in_ok-right.ensures.ok
 
 pub returns-in_err-expect-clause-longer : goal.returns-in_err-expect-clause-longer
 returns-in_err-expect-clause-longer c =
@@ -73,21 +73,21 @@ pub returns-in_err-right-clause-cause : goal.returns-in_err-right-clause-cause
 returns-in_err-right-clause-cause c =
     passed_on _ _ c.from_residual-in_err-right.ensures.1 c.in_err-right.ensures.cause
 
-pub returns-in_err-ends-clause-longer : goal.returns-in_err-ends-clause-longer
-returns-in_err-ends-clause-longer c =
-    passed_on _ _ c.from_residual-in_err-ends.ensures.1 (longer _ c.if-phrase-le3.false)
+pub returns-in_err-expect_end-clause-longer : goal.returns-in_err-expect_end-clause-longer
+returns-in_err-expect_end-clause-longer c =
+    passed_on _ _ c.from_residual-in_err-expect_end.ensures.1 (longer _ c.if-phrase-le3.false)
 
-pub returns-in_err-ends-clause-fault : goal.returns-in_err-ends-clause-fault
-returns-in_err-ends-clause-fault c =
-    passed_on _ _ c.from_residual-in_err-ends.ensures.1 (λ d l v says. past _ 5 c.in_err-ends.ensures.err (ap (λ t. slice_get t 5) says.3))
+pub returns-in_err-expect_end-clause-fault : goal.returns-in_err-expect_end-clause-fault
+returns-in_err-expect_end-clause-fault c =
+    passed_on _ _ c.from_residual-in_err-expect_end.ensures.1 (λ d l v says. past _ 5 c.in_err-expect_end.ensures.err (ap (λ t. slice_get t 5) says.3))
 
-pub returns-in_err-ends-clause-cause : goal.returns-in_err-ends-clause-cause
-returns-in_err-ends-clause-cause c =
-    passed_on _ _ c.from_residual-in_err-ends.ensures.1 c.in_err-ends.ensures.cause
+pub returns-in_err-expect_end-clause-cause : goal.returns-in_err-expect_end-clause-cause
+returns-in_err-expect_end-clause-cause c =
+    passed_on _ _ c.from_residual-in_err-expect_end.ensures.1 c.in_err-expect_end.ensures.cause
 
-pub returns-in_err-ends-clause-place : goal.returns-in_err-ends-clause-place
-returns-in_err-ends-clause-place c len within =
-    passed_on _ _ c.from_residual-in_err-ends.ensures.1 (c.in_err-ends.ensures.place len within)
+pub returns-in_err-expect_end-clause-place : goal.returns-in_err-expect_end-clause-place
+returns-in_err-expect_end-clause-place c len within =
+    passed_on _ _ c.from_residual-in_err-expect_end.ensures.1 (c.in_err-expect_end.ensures.place len within)
 
 pub returns-in_err-expect-clause-found : goal.returns-in_err-expect-clause-found
 returns-in_err-expect-clause-found c =
@@ -104,7 +104,7 @@ returns-in_err-right-clause-found c =
     let p = err_from_is_err_and c.from_residual-in_err-right.result c.from_residual-in_err-right.ensures.1 in
     rw p.1 tt
 
-pub returns-in_err-ends-clause-found : goal.returns-in_err-ends-clause-found
-returns-in_err-ends-clause-found c =
-    let p = err_from_is_err_and c.from_residual-in_err-ends.result c.from_residual-in_err-ends.ensures.1 in
+pub returns-in_err-expect_end-clause-found : goal.returns-in_err-expect_end-clause-found
+returns-in_err-expect_end-clause-found c =
+    let p = err_from_is_err_and c.from_residual-in_err-expect_end.result c.from_residual-in_err-expect_end.ensures.1 in
     rw p.1 tt

@@ -1,7 +1,7 @@
 use Rattle.std.proofs.Common.{◌≡◌, ◌∙◌, ap, Some, sym, subst, arith, length, ◌≤◌}
 use Rattle.std.specs.Prelude.{codes}
 use Rattle.std.proofs.lemmas.Result.{err_from_is_err_and, IfOk-weaker, IfErr-weaker}
-use Rattle.lw_base.proofs.Returns.{passed_on}
+use Rattle.lw_base.proofs.api.Returns.{passed_on}
 use Rattle.lw_base.specs.declared.head.Arch.TheVariants.{Source}
 use Rattle.lw_base.specs.declared.operand.Operand.TheVariants.{Number}
 use Rattle.lw_base.specs.Names.{IsLocation}
@@ -9,8 +9,8 @@ use Rattle.lw_base.specs.Registers.{IsRegister}
 use Rattle.lw_base.specs.Tables.{with_name}
 use Rattle.lw_cells.specs.Operands.{IsOperand}
 use Rattle.lw_cells.specs.Reading.{Fits}
-use Rattle.lw_cells.proofs.TokenRows.{not_both, not_longer, no_operand, from_two, same_word, other_word}
-use Rattle.lw_cells.proofs.Drafts.{misfit_cause, statement_cause}
+use Rattle.lw_cells.proofs.api.TokenRows.{not_both, not_longer, no_operand, from_two, same_word, other_word}
+use Rattle.lw_cells.proofs.api.Causes.{statement_cause, misfit_cause}
 use Rattle.lw_source.specs.Grammar.{source_grammar}
 use Rattle.lw_source.proofs.Phrases.{becomes, sets, loads, no_value, value_begins, swap_reserved, swap_register, swap_number, fetch_add_reserved, fetch_add_register, fetch_add_number, swap_fetch_add, register_apart, before_second}
 use Rattle.lw_source.proofs.statement.read_value.Goals as goal
@@ -34,7 +34,7 @@ returns-in-Some-clause-fault g c =
 
 pub returns-in-Some-number-clause-found : goal.returns-in-Some-number-clause-found
 returns-in-Some-number-clause-found g c =
-    sets _ _ c.args.dst (Number c.in-Some-number.word) _ _ c.requires.first.1 c.requires.sign c.in_ok-third.ensures.found c.in_ok-ends.ensures.ok c.requires.first.2 c.in-Some-number.ensures
+    sets _ _ c.args.dst (Number c.in-Some-number.word) _ _ c.requires.first.1 c.requires.sign c.in_ok-third.ensures.found c.in_ok-expect_end.ensures.ok c.requires.first.2 c.in-Some-number.ensures
 
 pub returns-in_err-loc-clause-fault : goal.returns-in_err-loc-clause-fault
 returns-in_err-loc-clause-fault g c =
@@ -51,21 +51,21 @@ returns-in_err-loc-clause-place g c len within =
 
 pub returns-clause-found : goal.returns-clause-found
 returns-clause-found g c =
-    loads _ _ _ c.in_ok-loc.loc c.args.dst _ _ c.requires.first.1 c.requires.sign c.in_ok-third.ensures.found c.in_ok-ends-2.ensures.ok c.requires.first.2 c.in_ok-loc.ensures.name c.in_ok-loc.ensures.names c.in_ok-loc.ensures.found
+    loads _ _ _ c.in_ok-loc.loc c.args.dst _ _ c.requires.first.1 c.requires.sign c.in_ok-third.ensures.found c.in_ok-expect_end-2.ensures.ok c.requires.first.2 c.in_ok-loc.ensures.name c.in_ok-loc.ensures.names c.in_ok-loc.ensures.found
 
 pub returns-in_err-third-clause-fault : goal.returns-in_err-third-clause-fault
 returns-in_err-third-clause-fault g c =
     passed_on _ _ c.from_residual.ensures.1 (λ known s (says, few). not_both _ _ c.in_err-third.ensures.err (becomes _ _ c.args.dst c.requires.first.1 c.requires.first.2 s says).1)
 
-pub returns-in_err-ends-clause-fault : goal.returns-in_err-ends-clause-fault
-returns-in_err-ends-clause-fault g c =
-    passed_on _ _ c.from_residual-in_err-ends.ensures.1 (λ known s (says, few).
-    no_value _ c.in_ok-third.third.text.now (Fits source_grammar _ _) (λ x d e loc l q. not_longer _ _ l c.in_err-ends.ensures.err) (λ d r x e q. other_word _ _ c.if-eq.ensures (sym e)) (λ d r x e q. other_word _ _ c.if-eq-2.ensures (sym e)) (λ d v is l q. not_longer _ _ l c.in_err-ends.ensures.err) (λ d l v is m q. c.in_default.ensures l is) s (value_begins _ _ c.args.dst c.requires.first.1 c.requires.first.2 _ c.in_ok-third.ensures.found s says) (says, few))
+pub returns-in_err-expect_end-clause-fault : goal.returns-in_err-expect_end-clause-fault
+returns-in_err-expect_end-clause-fault g c =
+    passed_on _ _ c.from_residual-in_err-expect_end.ensures.1 (λ known s (says, few).
+    no_value _ c.in_ok-third.third.text.now (Fits source_grammar _ _) (λ x d e loc l q. not_longer _ _ l c.in_err-expect_end.ensures.err) (λ d r x e q. other_word _ _ c.if-eq.ensures (sym e)) (λ d r x e q. other_word _ _ c.if-eq-2.ensures (sym e)) (λ d v is l q. not_longer _ _ l c.in_err-expect_end.ensures.err) (λ d l v is m q. c.in_default.ensures l is) s (value_begins _ _ c.args.dst c.requires.first.1 c.requires.first.2 _ c.in_ok-third.ensures.found s says) (says, few))
 
-pub returns-in_err-ends-2-clause-fault : goal.returns-in_err-ends-2-clause-fault
-returns-in_err-ends-2-clause-fault g c =
-    passed_on _ _ c.from_residual-in_err-ends-2.ensures.1 (λ known s (says, few).
-    no_value _ c.in_ok-third.third.text.now (Fits source_grammar _ _) (λ x d e loc l q. not_longer _ _ l c.in_err-ends-2.ensures.err) (λ d r x e q. other_word _ _ c.if-eq.ensures (sym e)) (λ d r x e q. other_word _ _ c.if-eq-2.ensures (sym e)) (λ d v is l q. not_longer _ _ l c.in_err-ends-2.ensures.err) (λ d l v is m q. c.in_default.ensures l is) s (value_begins _ _ c.args.dst c.requires.first.1 c.requires.first.2 _ c.in_ok-third.ensures.found s says) (says, few))
+pub returns-in_err-expect_end-2-clause-fault : goal.returns-in_err-expect_end-2-clause-fault
+returns-in_err-expect_end-2-clause-fault g c =
+    passed_on _ _ c.from_residual-in_err-expect_end-2.ensures.1 (λ known s (says, few).
+    no_value _ c.in_ok-third.third.text.now (Fits source_grammar _ _) (λ x d e loc l q. not_longer _ _ l c.in_err-expect_end-2.ensures.err) (λ d r x e q. other_word _ _ c.if-eq.ensures (sym e)) (λ d r x e q. other_word _ _ c.if-eq-2.ensures (sym e)) (λ d v is l q. not_longer _ _ l c.in_err-expect_end-2.ensures.err) (λ d l v is m q. c.in_default.ensures l is) s (value_begins _ _ c.args.dst c.requires.first.1 c.requires.first.2 _ c.in_ok-third.ensures.found s says) (says, few))
 
 pub returns-in-Some-clause-cause : goal.returns-in-Some-clause-cause
 returns-in-Some-clause-cause g c =
@@ -95,30 +95,30 @@ pub returns-in_err-third-clause-place : goal.returns-in_err-third-clause-place
 returns-in_err-third-clause-place g c len within =
     passed_on _ _ c.from_residual.ensures.1 (c.in_err-third.ensures.place len within)
 
-pub returns-in_err-ends-clause-cause : goal.returns-in_err-ends-clause-cause
-returns-in_err-ends-clause-cause g c =
-    passed_on _ _ c.from_residual-in_err-ends.ensures.1 (misfit_cause source_grammar _ _ _ _ c.in_err-ends.ensures.cause)
+pub returns-in_err-expect_end-clause-cause : goal.returns-in_err-expect_end-clause-cause
+returns-in_err-expect_end-clause-cause g c =
+    passed_on _ _ c.from_residual-in_err-expect_end.ensures.1 (misfit_cause source_grammar _ _ _ _ c.in_err-expect_end.ensures.cause)
 
-pub returns-in_err-ends-clause-place : goal.returns-in_err-ends-clause-place
-returns-in_err-ends-clause-place g c len within =
-    passed_on _ _ c.from_residual-in_err-ends.ensures.1 (c.in_err-ends.ensures.place len within)
+pub returns-in_err-expect_end-clause-place : goal.returns-in_err-expect_end-clause-place
+returns-in_err-expect_end-clause-place g c len within =
+    passed_on _ _ c.from_residual-in_err-expect_end.ensures.1 (c.in_err-expect_end.ensures.place len within)
 
-pub returns-in_err-ends-2-clause-cause : goal.returns-in_err-ends-2-clause-cause
-returns-in_err-ends-2-clause-cause g c =
-    passed_on _ _ c.from_residual-in_err-ends-2.ensures.1 (misfit_cause source_grammar _ _ _ _ c.in_err-ends-2.ensures.cause)
+pub returns-in_err-expect_end-2-clause-cause : goal.returns-in_err-expect_end-2-clause-cause
+returns-in_err-expect_end-2-clause-cause g c =
+    passed_on _ _ c.from_residual-in_err-expect_end-2.ensures.1 (misfit_cause source_grammar _ _ _ _ c.in_err-expect_end-2.ensures.cause)
 
-pub returns-in_err-ends-2-clause-place : goal.returns-in_err-ends-2-clause-place
-returns-in_err-ends-2-clause-place g c len within =
-    passed_on _ _ c.from_residual-in_err-ends-2.ensures.1 (c.in_err-ends-2.ensures.place len within)
+pub returns-in_err-expect_end-2-clause-place : goal.returns-in_err-expect_end-2-clause-place
+returns-in_err-expect_end-2-clause-place g c len within =
+    passed_on _ _ c.from_residual-in_err-expect_end-2.ensures.1 (c.in_err-expect_end-2.ensures.place len within)
 
 pub returns-in_err-third-clause-found : goal.returns-in_err-third-clause-found
 returns-in_err-third-clause-found g c =
     let p = err_from_is_err_and c.from_residual.result c.from_residual.ensures.1 in
     rw p.1 tt
 
-pub returns-in_err-ends-clause-found : goal.returns-in_err-ends-clause-found
-returns-in_err-ends-clause-found g c =
-    let p = err_from_is_err_and c.from_residual-in_err-ends.result c.from_residual-in_err-ends.ensures.1 in
+pub returns-in_err-expect_end-clause-found : goal.returns-in_err-expect_end-clause-found
+returns-in_err-expect_end-clause-found g c =
+    let p = err_from_is_err_and c.from_residual-in_err-expect_end.result c.from_residual-in_err-expect_end.ensures.1 in
     rw p.1 tt
 
 pub returns-in_err-loc-clause-found : goal.returns-in_err-loc-clause-found
@@ -126,9 +126,9 @@ returns-in_err-loc-clause-found g c =
     let p = err_from_is_err_and c.from_residual-in_err-loc.result c.from_residual-in_err-loc.ensures.1 in
     rw p.1 tt
 
-pub returns-in_err-ends-2-clause-found : goal.returns-in_err-ends-2-clause-found
-returns-in_err-ends-2-clause-found g c =
-    let p = err_from_is_err_and c.from_residual-in_err-ends-2.result c.from_residual-in_err-ends-2.ensures.1 in
+pub returns-in_err-expect_end-2-clause-found : goal.returns-in_err-expect_end-2-clause-found
+returns-in_err-expect_end-2-clause-found g c =
+    let p = err_from_is_err_and c.from_residual-in_err-expect_end-2.result c.from_residual-in_err-expect_end-2.ensures.1 in
     rw p.1 tt
 
 pub read_swap-requires : goal.read_swap-requires

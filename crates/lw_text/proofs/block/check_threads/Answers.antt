@@ -1,5 +1,5 @@
 use Rattle.std.proofs.Common.{◌∙◌, sym}
-use Rattle.lw_text.specs.Resolved.{thread_exists}
+use Rattle.lw_text.specs.inner.Resolved.{thread_exists}
 use Rattle.lw_text.proofs.Entries.{all_more, all_taken, all_missed}
 use Rattle.lw_text.proofs.block.check_threads.Goals as goal
 

@@ -1,8 +1,8 @@
 use Rattle.std.proofs.Common.{◌≡◌, refl, sym, map, zero-add}
 use Rattle.std.proofs.lemmas.List.FromFn.{map-range_with_len_more}
 use Rattle.lw_base.specs.SeenLists.{registers_of}
-use Rattle.lw_text.specs.Resolved.{word_at}
-use Rattle.lw_text.proofs.Starts.{is_index}
+use Rattle.lw_text.specs.inner.Resolved.{word_at}
+use Rattle.lw_text.proofs.api.Indices.{is_index}
 use Rattle.lw_text.proofs.initial.initial_registers.Goals as goal
 
 pub loop-cpu-preserved : goal.loop-cpu-preserved

@@ -1,7 +1,7 @@
 use Rattle.std.proofs.Common.{◌≡◌, map}
 use Rattle.std.specs.List.{range_with_len}
 use Rattle.lw_base.specs.SeenLists.{registers_of}
-use Rattle.lw_text.specs.Resolved.{word_at}
+use Rattle.lw_text.specs.inner.Resolved.{word_at}
 use Rattle.lw_text.proofs.initial.initial_registers.Given as goal
 
 abbrev pub invariant-loop-cpu : goal.invariant-loop-cpu

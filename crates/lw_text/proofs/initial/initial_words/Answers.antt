@@ -1,6 +1,7 @@
 use Rattle.std.proofs.Common.{◌≡◌, refl, sym}
-use Rattle.lw_text.specs.Resolved.{word_at}
-use Rattle.lw_text.proofs.Starts.{is_index, words_more}
+use Rattle.lw_text.specs.inner.Resolved.{word_at}
+use Rattle.lw_text.proofs.Starts.{words_more}
+use Rattle.lw_text.proofs.api.Indices.{is_index}
 use Rattle.lw_text.proofs.initial.initial_words.Goals as goal
 
 pub loop-loc-preserved : goal.loop-loc-preserved

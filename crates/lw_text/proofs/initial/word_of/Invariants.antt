@@ -1,5 +1,5 @@
 use Rattle.std.proofs.Common.{◌≡◌, take}
-use Rattle.lw_text.specs.Resolved.{seen_of, word_at}
+use Rattle.lw_text.specs.inner.Resolved.{seen_of, word_at}
 use Rattle.lw_text.proofs.initial.word_of.Given as goal
 
 abbrev pub invariant-loop-entry : goal.invariant-loop-entry

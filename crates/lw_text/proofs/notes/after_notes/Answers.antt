@@ -1,6 +1,6 @@
 use Rattle.std.proofs.Common.{arith, ap, length, length-append}
 use Rattle.std.specs.Prelude.{◌==◌}
-use Rattle.lw_base.proofs.Returns.{passed_on}
+use Rattle.lw_base.proofs.api.Returns.{passed_on}
 use Rattle.lw_base.specs.Characters.{begins}
 use Rattle.lw_text.proofs.TriviaLemmas.{Trivia-suffix}
 use Rattle.lw_text.proofs.NoteRows.{Passed-note, Passed-shorter, Passed-done, Passed-open, Passed-none}

@@ -1,6 +1,6 @@
 use Rattle.std.proofs.Common.{◌≡◌}
 use Rattle.lw_base.specs.Propositions.{formula_of}
-use Rattle.lw_text.specs.Pending.{negations}
+use Rattle.lw_text.specs.inner.Pending.{negations}
 use Rattle.lw_text.proofs.open_group.negated.Given as goal
 
 abbrev pub invariant-loop-taken : goal.invariant-loop-taken

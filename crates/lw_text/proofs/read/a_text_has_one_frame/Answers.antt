@@ -1,4 +1,4 @@
-use Rattle.lw_text.proofs.Whole.{HasFrame-unique}
+use Rattle.lw_text.proofs.api.Frames.{HasFrame-unique}
 use Rattle.lw_text.proofs.read.a_text_has_one_frame.Goals as goal
 
 pub returns : goal.returns

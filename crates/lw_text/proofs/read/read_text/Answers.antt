@@ -1,6 +1,6 @@
 use Rattle.std.proofs.Common.{◌≡◌, ◌≤◌, length, sym, ap, ◌∙◌, subst, arith}
 use Rattle.std.specs.Prelude.{All, IfNone, IfSome}
-use Rattle.lw_base.proofs.Returns.{passed_on}
+use Rattle.lw_base.proofs.api.Returns.{passed_on}
 use Rattle.lw_text.specs.Spans.{texts}
 use Rattle.lw_text.specs.PlacedTokens.{PlacedTokens}
 use Rattle.lw_base.specs.Heads.{head_of}
@@ -26,13 +26,13 @@ pub returns-in_err-heading-clause-place : goal.returns-in_err-heading-clause-pla
 returns-in_err-heading-clause-place g c =
     passed_on _ _ c.from_residual.ensures.1 (omega (arith, c.in_err-heading.ensures.place, ap length c.new-lexer.ensures.text))
 
-pub body-requires-clause-places : goal.body-requires-clause-places
-body-requires-clause-places g c =
+pub body-read-requires-clause-places : goal.body-read-requires-clause-places
+body-read-requires-clause-places g c =
     let whole = c.in_ok-heading.ensures.same ∙ c.new-lexer.ensures.text in
     subst (λ t. All (λ token. token.at ≤ length t) c.in_ok-row.row.tokens) whole c.in_ok-row.ensures.within
 
-pub body-requires-clause-fault : goal.body-requires-clause-fault
-body-requires-clause-fault g c = subst (λ t. IfSome c.in_ok-row.row.fault (λ f. f.at ≤ length t)) (c.in_ok-heading.ensures.same ∙ c.new-lexer.ensures.text) c.in_ok-row.ensures.place
+pub body-read-requires-clause-fault : goal.body-read-requires-clause-fault
+body-read-requires-clause-fault g c = subst (λ t. IfSome c.in_ok-row.row.fault (λ f. f.at ≤ length t)) (c.in_ok-heading.ensures.same ∙ c.new-lexer.ensures.text) c.in_ok-row.ensures.place
 
 pub returns-in_err-body-clause-fault : goal.returns-in_err-body-clause-fault
 returns-in_err-body-clause-fault g c =

@@ -1,8 +1,9 @@
 use Rattle.std.proofs.Common.{◌≡◌, ◌∷◌, [], ◌++◌, subst, refl, ℕ}
 use Rattle.std.specs.Prelude.{filter}
 use Rattle.lw_base.specs.declared.head.Seen.TheVariants.{Location}
-use Rattle.lw_text.specs.Resolved.{is_listed}
-use Rattle.lw_text.proofs.Starts.{is_index, seen_more}
+use Rattle.lw_text.specs.inner.Resolved.{is_listed}
+use Rattle.lw_text.proofs.Starts.{seen_more}
+use Rattle.lw_text.proofs.api.Indices.{is_index}
 use Rattle.lw_text.proofs.seen.see_locations.Goals as goal
 
 pub loop-loc-preserved : goal.loop-loc-preserved

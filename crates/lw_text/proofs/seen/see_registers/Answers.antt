@@ -1,8 +1,9 @@
 use Rattle.std.proofs.Common.{◌≡◌, ◌<◌, ◌∷◌, [], ◌++◌, ◌∙◌, length, take, get_or, subst, sym, ap, arith, ℕ}
 use Rattle.std.specs.Prelude.{filter}
 use Rattle.lw_base.specs.declared.head.Seen.TheVariants.{Register}
-use Rattle.lw_text.specs.Resolved.{is_listed}
-use Rattle.lw_text.proofs.Starts.{is_index, seen_more}
+use Rattle.lw_text.specs.inner.Resolved.{is_listed}
+use Rattle.lw_text.proofs.Starts.{seen_more}
+use Rattle.lw_text.proofs.api.Indices.{is_index}
 use Rattle.lw_text.proofs.seen.see_registers.Goals as goal
 
 pub loop-reg-preserved : goal.loop-reg-preserved

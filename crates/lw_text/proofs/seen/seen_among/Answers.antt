@@ -1,8 +1,9 @@
 use Rattle.std.proofs.Common.{◌≡◌, ◌++◌, subst, refl, ℕ}
 use Rattle.std.specs.Prelude.{filter}
 use Rattle.lw_base.specs.SeenLists.{registers_of}
-use Rattle.lw_text.specs.Resolved.{is_listed}
-use Rattle.lw_text.proofs.Starts.{is_index, registers_more}
+use Rattle.lw_text.specs.inner.Resolved.{is_listed}
+use Rattle.lw_text.proofs.Starts.{registers_more}
+use Rattle.lw_text.proofs.api.Indices.{is_index}
 use Rattle.lw_text.proofs.seen.seen_among.Goals as goal
 
 pub loop-cpu-preserved : goal.loop-cpu-preserved

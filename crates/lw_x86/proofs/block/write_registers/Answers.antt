@@ -1,9 +1,9 @@
 use Rattle.std.proofs.Common.{◌<◌, ◌≤◌, ◌∙◌, ◌++◌, length, ap, refl, sym, arith, length-take}
 use Rattle.std.specs.String.{string_bytes}
 use Rattle.lw_base.specs.Heads.{head_of}
-use Rattle.lw_text.proofs.Starts.{is_index}
+use Rattle.lw_text.proofs.api.Indices.{is_index}
 use Rattle.lw_x86.proofs.BlockTexts.{thread_entries, registers_are}
-use Rattle.lw_base.proofs.Writing.{numbers_more, numbers_all}
+use Rattle.lw_base.proofs.api.Writing.{numbers_more, numbers_all}
 use Rattle.lw_x86.proofs.block.write_registers.Goals as goal
 
 pub loop-cpu-preserved : goal.loop-cpu-preserved

@@ -1,7 +1,7 @@
 use Rattle.std.proofs.Common.{◌≡◌, length, sym, ap, subst, arith}
 use Rattle.std.proofs.lemmas.Grind.{common_steps}
 use Rattle.lw_base.specs.Types.{Bytes}
-use Rattle.lw_base.proofs.Formulas.{has_locations}
+use Rattle.lw_base.proofs.api.Formulas.{has_locations}
 use Rattle.lw_litmus.specs.Tests.{test_of}
 use Rattle.lw_x86.specs.CanonicalTexts.{canonical_text}
 use Rattle.lw_x86.specs.Texts.{IsTextOf}

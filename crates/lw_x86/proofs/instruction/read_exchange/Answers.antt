@@ -1,7 +1,7 @@
 use Rattle.std.proofs.Common.{sym, ◌∙◌, true≢false, inl, inr}
 use Rattle.std.proofs.lemmas.Result.{IfOk-weaker, IfErr-weaker}
 use Rattle.lw_x86.specs.Instructions.{AtFirst, AtLast}
-use Rattle.lw_x86.specs.Mnemonics.{mnemonic_text}
+use Rattle.lw_x86.specs.inner.Mnemonics.{mnemonic_text}
 use Rattle.lw_x86.proofs.Accesses.{cause_wider}
 use Rattle.lw_x86.proofs.Groups.{access_wider, no_first_form, no_last_form}
 use Rattle.lw_x86.proofs.instruction.read_exchange.Goals as goal

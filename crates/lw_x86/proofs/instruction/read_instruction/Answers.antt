@@ -1,5 +1,5 @@
 use Rattle.std.proofs.Common.{subst}
-use Rattle.lw_x86.specs.Mnemonics.{Names}
+use Rattle.lw_x86.specs.inner.Mnemonics.{Names}
 use Rattle.lw_x86.proofs.Groups.{no_add_first, no_mnemonic}
 use Rattle.lw_x86.proofs.instruction.read_instruction.Goals as goal
 

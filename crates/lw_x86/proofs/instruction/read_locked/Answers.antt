@@ -1,4 +1,4 @@
-use Rattle.lw_base.proofs.Returns.{passed_on}
+use Rattle.lw_base.proofs.api.Returns.{passed_on}
 use Rattle.std.proofs.Common.{◌≤◌, ◌∙◌, sym, subst, true≢false, inl, inr}
 use Rattle.lw_x86.specs.declared.mnemonic.Mnemonic.TheVariants.{Xchg, Xadd}
 use Rattle.lw_x86.proofs.Groups.{exchange_read, add_read, locked, no_locked_exchange, no_locked_add, no_locked_other, rest_texts, locked_behind, neither}

@@ -1,9 +1,9 @@
-use Rattle.lw_base.proofs.Returns.{passed_on}
+use Rattle.lw_base.proofs.api.Returns.{passed_on}
 use Rattle.std.proofs.Common.{sym, ◌∙◌, true≢false, inl, inr}
 use Rattle.std.proofs.lemmas.Result.{IfErr-weaker}
 use Rattle.lw_x86.specs.declared.mnemonic.Mnemonic.TheVariants.{Mov}
 use Rattle.lw_x86.specs.Instructions.{AtLast}
-use Rattle.lw_x86.specs.Mnemonics.{mnemonic_text}
+use Rattle.lw_x86.specs.inner.Mnemonics.{mnemonic_text}
 use Rattle.lw_x86.proofs.Groups.{load_read, set_read, no_store, no_load, no_set, statement_behind}
 use Rattle.lw_x86.proofs.instruction.read_mov.Goals as goal
 

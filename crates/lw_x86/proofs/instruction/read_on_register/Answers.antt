@@ -1,4 +1,4 @@
-use Rattle.lw_base.proofs.Returns.{passed_on}
+use Rattle.lw_base.proofs.api.Returns.{passed_on}
 use Rattle.lw_x86.proofs.Forms.{no_value}
 use Rattle.lw_x86.proofs.instruction.read_on_register.Goals as goal
 

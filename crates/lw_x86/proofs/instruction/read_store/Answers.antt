@@ -1,8 +1,8 @@
-use Rattle.lw_base.proofs.Returns.{passed_on}
+use Rattle.lw_base.proofs.api.Returns.{passed_on}
 use Rattle.std.proofs.Common.{inl}
 use Rattle.lw_x86.specs.declared.mnemonic.Mnemonic.TheVariants.{Mov}
 use Rattle.lw_x86.specs.Instructions.{AtFirst}
-use Rattle.lw_x86.specs.Mnemonics.{mnemonic_text}
+use Rattle.lw_x86.specs.inner.Mnemonics.{mnemonic_text}
 use Rattle.lw_x86.proofs.Accesses.{first_before, cause_behind}
 use Rattle.lw_x86.proofs.Groups.{store_read, no_stored, statement_behind}
 use Rattle.lw_x86.proofs.instruction.read_store.Goals as goal

@@ -1,10 +1,10 @@
-use Rattle.lw_base.proofs.Returns.{passed_on}
+use Rattle.lw_base.proofs.api.Returns.{passed_on}
 use Rattle.std.proofs.Common.{sym, ◌∙◌, true≢false}
 use Rattle.lw_x86.proofs.Forms.{number_read, plain_read, no_number, no_number_alone, no_number_longer, no_plain, no_plain_alone, no_plain_longer}
 use Rattle.lw_x86.proofs.instruction.read_value.Goals as goal
 
 pub returns-then-has-clause-found : goal.returns-then-has-clause-found
-returns-then-has-clause-found c = number_read _ c.args.place _ _ (c.has.ensures.0 c.if-has.true) c.in_ok-token.ensures.found c.in_ok-ends.ensures.ok c.in_ok-number.ensures.ok
+returns-then-has-clause-found c = number_read _ c.args.place _ _ (c.has.ensures.0 c.if-has.true) c.in_ok-token.ensures.found c.in_ok-expect_end.ensures.ok c.in_ok-number.ensures.ok
 
 pub returns-in_err-token-clause-fault : goal.returns-in_err-token-clause-fault
 returns-in_err-token-clause-fault c = passed_on _ _ c.from_residual.ensures.1 (no_number_alone _ c.args.place (c.has.ensures.0 c.if-has.true) c.in_err-token.ensures.err)
@@ -15,11 +15,11 @@ returns-in_err-number-clause-fault c = passed_on _ _ c.from_residual-in_err-numb
 pub returns-in_err-number-clause-place : goal.returns-in_err-number-clause-place
 returns-in_err-number-clause-place c len within = passed_on _ _ c.from_residual-in_err-number.ensures.1 (c.in_err-number.ensures.place len (c.in_ok-token.ensures.within len within))
 
-pub returns-in_err-ends-clause-fault : goal.returns-in_err-ends-clause-fault
-returns-in_err-ends-clause-fault c = passed_on _ _ c.from_residual-in_err-ends.ensures.1 (no_number_longer _ c.args.place (c.has.ensures.0 c.if-has.true) c.in_err-ends.ensures.err)
+pub returns-in_err-expect_end-clause-fault : goal.returns-in_err-expect_end-clause-fault
+returns-in_err-expect_end-clause-fault c = passed_on _ _ c.from_residual-in_err-expect_end.ensures.1 (no_number_longer _ c.args.place (c.has.ensures.0 c.if-has.true) c.in_err-expect_end.ensures.err)
 
 pub returns-clause-found : goal.returns-clause-found
-returns-clause-found c = plain_read _ c.args.place _ _ c.in_ok-token-2.ensures.found c.in_ok-ends-2.ensures.ok c.in_ok-val.ensures.ok
+returns-clause-found c = plain_read _ c.args.place _ _ c.in_ok-token-2.ensures.found c.in_ok-expect_end-2.ensures.ok c.in_ok-val.ensures.ok
 
 pub returns-in_err-token-2-clause-fault : goal.returns-in_err-token-2-clause-fault
 returns-in_err-token-2-clause-fault c = passed_on _ _ c.from_residual-in_err-token-2.ensures.1 (no_plain_alone _ c.args.place c.in_err-token-2.ensures.err)
@@ -30,5 +30,5 @@ returns-in_err-val-clause-fault c = passed_on _ _ c.from_residual-in_err-val.ens
 pub returns-in_err-val-clause-place : goal.returns-in_err-val-clause-place
 returns-in_err-val-clause-place c len within = passed_on _ _ c.from_residual-in_err-val.ensures.1 (c.in_err-val.ensures.place len (c.in_ok-token-2.ensures.within len within))
 
-pub returns-in_err-ends-2-clause-fault : goal.returns-in_err-ends-2-clause-fault
-returns-in_err-ends-2-clause-fault c = passed_on _ _ c.from_residual-in_err-ends-2.ensures.1 (no_plain_longer _ c.args.place (λ sign. true≢false (sym (c.has.ensures.1 sign) ∙ c.if-has.false)) c.in_err-ends-2.ensures.err)
+pub returns-in_err-expect_end-2-clause-fault : goal.returns-in_err-expect_end-2-clause-fault
+returns-in_err-expect_end-2-clause-fault c = passed_on _ _ c.from_residual-in_err-expect_end-2.ensures.1 (no_plain_longer _ c.args.place (λ sign. true≢false (sym (c.has.ensures.1 sign) ∙ c.if-has.false)) c.in_err-expect_end-2.ensures.err)

@@ -1,4 +1,4 @@
-use Rattle.lw_base.proofs.Returns.{passed_on}
+use Rattle.lw_base.proofs.api.Returns.{passed_on}
 use Rattle.std.proofs.Common.{inl, inr, refl}
 use Rattle.lw_x86.specs.declared.mnemonic.Mnemonic.TheVariants.{Xchg}
 use Rattle.lw_x86.proofs.Groups.{exchange_read, no_exchange, statement_behind}

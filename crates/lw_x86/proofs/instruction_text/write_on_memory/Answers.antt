@@ -1,7 +1,7 @@
 use Rattle.std.proofs.Common.{◌≡◌, [], ◌∷◌, ◌++◌, append_assoc, get_or, sym, ap, ◌∙◌}
 use Rattle.std.proofs.lemmas.Option.{get_or_from_slice_get}
 use Rattle.lw_base.specs.Types.{Bytes}
-use Rattle.lw_base.proofs.Writing.{then_written}
+use Rattle.lw_base.proofs.api.Writing.{then_written}
 use Rattle.lw_x86.proofs.instruction_text.write_on_memory.Goals as goal
 
 on_memory : (mnemonic name x operand : Bytes) → x ≡ name → (mnemonic ++ (32 ∷ 91 ∷ (name ++ (93 ∷ 44 ∷ [])))) ++ operand ≡ mnemonic ++ (32 ∷ ((91 ∷ (x ++ 93 ∷ [])) ++ (44 ∷ operand)))

@@ -1,7 +1,7 @@
 use Rattle.std.proofs.Common.{◌≡◌, ◌<◌, Some, length, slice_get, refl, sym, arith, ltb-true, ltb-false}
 use Rattle.std.proofs.lemmas.Option.{slice_get_read}
 use Rattle.lw_x86.proofs.CellLists.{cell-at, cell-end, cell-past, located}
-use Rattle.lw_base.proofs.Writing.{then_written, written_as, nothing_written}
+use Rattle.lw_base.proofs.api.Writing.{then_written, written_as, nothing_written}
 use Rattle.lw_x86.proofs.rows.write_cell.Goals as goal
 
 pub write_instruction-requires : goal.write_instruction-requires

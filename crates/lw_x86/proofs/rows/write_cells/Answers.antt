@@ -1,7 +1,7 @@
 use Rattle.std.proofs.Common.{◌∙◌, ◌∷◌, List, length, arith, ap, sym}
 use Rattle.lw_litmus.specs.declared.instr.Instr.{Instr}
 use Rattle.lw_x86.proofs.CellLists.{first_thread, further_thread, next_cell, row_begun}
-use Rattle.lw_base.proofs.Writing.{both_written, items_more, items_all}
+use Rattle.lw_base.proofs.api.Writing.{both_written, items_more, items_all}
 use Rattle.lw_x86.proofs.rows.write_cells.Goals as goal
 
 pub write_cell-requires : goal.write_cell-requires

@@ -1,8 +1,8 @@
 use Rattle.std.proofs.Common.{ap, refl, sym, ◌≡◌, ◌∙◌, Some, Bool, true, false, true≢false}
 use Rattle.std.specs.Prelude.{not}
 use Rattle.std.proofs.lemmas.Result.{err_from_is_err_and}
-use Rattle.lw_base.proofs.Returns.{passed_on}
-use Rattle.lw_cells.proofs.TokenRows.{gone, same_token, same_word, other_word}
+use Rattle.lw_base.proofs.api.Returns.{passed_on}
+use Rattle.lw_cells.proofs.api.TokenRows.{gone, same_token, same_word, other_word}
 use Rattle.lw_cells.proofs.phrase.Phrase.expect.Goals as goal
 
 was_false : (b : Bool) → true ≡ not b → false ≡ b

@@ -1,5 +1,4 @@
-use Rattle.std.proofs.Common.{◌∙◌, arith}
-use Rattle.lw_base.proofs.Returns.{passed_on}
+use Rattle.lw_base.proofs.api.Returns.{passed_on}
 use Rattle.lw_text.specs.Views.{left}
 use Rattle.lw_text.proofs.CellPlaces.{Leaves-join}
 use Rattle.lw_text.proofs.Blocks.{ended}
@@ -16,13 +15,6 @@ pub returns-in_err-entries-clause-fault : goal.returns-in_err-entries-clause-fau
 returns-in_err-entries-clause-fault g c =
     passed_on _ _ c.from_residual-in_err-entries.ensures.1 (λ ne es rest block few. c.in_err-entries.ensures.fault ne es rest (ended c.args.arch (left c.args.self.now) (left c.expect.new.self) es rest c.in_ok-expect.ensures.ok block) few)
 
-pub returns-in_err-entries-clause-place : goal.returns-in_err-entries-clause-place
-returns-in_err-entries-clause-place g c =
-    passed_on _ _ c.from_residual-in_err-entries.ensures.1 (omega (arith, c.in_err-entries.ensures.place, c.in_ok-expect.ensures.same))
-
-pub returns-in_err-entries-clause-same : goal.returns-in_err-entries-clause-same
-returns-in_err-entries-clause-same g c = c.in_err-entries.ensures.same ∙ c.in_ok-expect.ensures.same
-
 pub returns-clause-found : goal.returns-clause-found
 returns-clause-found g c = (left c.expect.new.self, c.in_ok-expect.ensures.ok, c.in_ok-entries.ensures.found)
 
@@ -32,11 +24,5 @@ returns-clause-names g c = c.in_ok-entries.ensures.names
 pub returns-clause-within : goal.returns-clause-within
 returns-clause-within g c = c.in_ok-entries.ensures.within
 
-pub returns-clause-places : goal.returns-clause-places
-returns-clause-places g c = rw c.in_ok-expect.ensures.same at c.in_ok-entries.ensures.places
-
 pub returns-clause-leaves : goal.returns-clause-leaves
 returns-clause-leaves g c = Leaves-join c.in_ok-expect.ensures.leaves c.in_ok-entries.ensures.leaves
-
-pub returns-clause-same : goal.returns-clause-same
-returns-clause-same g c = c.in_ok-entries.ensures.same ∙ c.in_ok-expect.ensures.same

@@ -1,29 +1,12 @@
 use Rattle.std.proofs.Common.{◌≡◌, ◌∷◌, [], ◌++◌, ◌∙◌, false, sym, ap, subst, length, arith, append_assoc}
 use Rattle.std.specs.List.{AllByRecursion}
 use Rattle.std.proofs.lemmas.List.{map_push}
-use Rattle.lw_base.proofs.Returns.{passed_on}
 use Rattle.lw_text.specs.declared.token.Token.{Token}
 use Rattle.lw_text.specs.Rows.{ends_cell}
 use Rattle.lw_text.specs.Spans.{texts}
 use Rattle.lw_text.specs.Views.{remaining}
 use Rattle.lw_text.proofs.Readings.{all_push}
 use Rattle.lw_text.proofs.cursor.Cursor.cell.Goals as goal
-
-pub returns-in_err-token-clause-place : goal.returns-in_err-token-clause-place
-returns-in_err-token-clause-place g c =
-    passed_on _ _ c.from_residual.ensures.1 (omega (arith, c.in_err-token.ensures.place, c.cell.invariant.same))
-
-pub returns-in_err-token-clause-same : goal.returns-in_err-token-clause-same
-returns-in_err-token-clause-same g c = c.in_err-token.ensures.same ∙ c.cell.invariant.same
-
-pub returns-in_err-push-clause-same : goal.returns-in_err-push-clause-same
-returns-in_err-push-clause-same g c = c.in_ok-token.ensures.same ∙ c.cell.invariant.same
-
-pub returns-then-ends_cell-clause-mark_at : goal.returns-then-ends_cell-clause-mark_at
-returns-then-ends_cell-clause-mark_at g c = omega (arith, c.in_ok-token.ensures.at, c.cell.invariant.same)
-
-pub returns-then-ends_cell-clause-same : goal.returns-then-ends_cell-clause-same
-returns-then-ends_cell-clause-same g c = c.in_ok-token.ensures.same ∙ c.cell.invariant.same
 
 pub cell-smaller : goal.cell-smaller
 cell-smaller g c = omega (arith, ap length c.in_ok-token.ensures.token)
@@ -34,7 +17,6 @@ cell-preserved g c =
     rw c.in_ok-push.ensures.ok (record {
       tokens = c.cell.invariant.tokens ∙ ap (λ ts. c.cell.cell ++ ts) c.in_ok-token.ensures.token ∙ sym (append_assoc c.cell.cell (token ∷ []) (remaining c.take.new.self));
       plain = subst (AllByRecursion (λ t. ends_cell t ≡ false)) (sym (map_push (λ (t : Token). t.text.now) c.cell.cell token)) (all_push (λ t. ends_cell t ≡ false) (texts c.cell.cell) token.text.now c.cell.invariant.plain (sym c.ends_cell.ensures ∙ c.if-ends_cell.false));
-      same = c.in_ok-token.ensures.same ∙ c.cell.invariant.same;
     })
 
 pub returns-then-ends_cell-clause-tokens : goal.returns-then-ends_cell-clause-tokens

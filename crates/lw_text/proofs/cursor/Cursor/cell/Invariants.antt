@@ -9,7 +9,6 @@ abbrev pub invariant-cell : goal.invariant-cell
 invariant-cell g l = record {
   tokens : remaining l.fn.self ≡ l.cell ++ remaining l.self;
   plain : AllByRecursion (λ t. ends_cell t ≡ false) (texts l.cell);
-  same : l.self.len ≡ l.fn.self.len;
 }
 
 abbrev pub decreases-cell : goal.decreases-cell

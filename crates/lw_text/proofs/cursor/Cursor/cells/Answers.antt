@@ -1,6 +1,6 @@
 use Rattle.std.proofs.Common.{◌∷◌, ◌∙◌, refl, ap, sym, length, arith, length-append}
 use Rattle.std.proofs.lemmas.List.{map_push}
-use Rattle.lw_base.proofs.Returns.{passed_on}
+use Rattle.lw_base.proofs.api.Returns.{passed_on}
 use Rattle.lw_text.proofs.Faults.{memory_ran_out}
 use Rattle.lw_text.specs.Spans.{texts}
 use Rattle.lw_text.specs.Places.{cell_texts, cells_texts}
@@ -17,19 +17,9 @@ pub returns-in_err-mark-clause-fault : goal.returns-in_err-mark-clause-fault
 returns-in_err-mark-clause-fault g c =
     passed_on _ _ c.from_residual.ensures.1 (λ ne. Cells-open (left c.args.self.now) (left c.cells.self) (cells_texts c.cells.cells) c.cells.invariant.before (c.in_err-mark.ensures.err ne))
 
-pub returns-in_err-mark-clause-place : goal.returns-in_err-mark-clause-place
-returns-in_err-mark-clause-place g c =
-    passed_on _ _ c.from_residual.ensures.1 (omega (arith, c.in_err-mark.ensures.place, c.cells.invariant.same))
-
-pub returns-in_err-mark-clause-same : goal.returns-in_err-mark-clause-same
-returns-in_err-mark-clause-same g c = c.in_err-mark.ensures.same ∙ c.cells.invariant.same
-
 pub returns-in_err-push-clause-fault : goal.returns-in_err-push-clause-fault
 returns-in_err-push-clause-fault g c =
     memory_ran_out _ _ c.from_residual-in_err-push.ensures.1
-
-pub returns-in_err-push-clause-same : goal.returns-in_err-push-clause-same
-returns-in_err-push-clause-same g c = c.in_ok-mark.ensures.same ∙ c.cells.invariant.same
 
 pub returns-then-eq-clause-found : goal.returns-then-eq-clause-found
 returns-then-eq-clause-found g c =
@@ -39,12 +29,6 @@ returns-then-eq-clause-found g c =
 pub returns-then-eq-clause-cut : goal.returns-then-eq-clause-cut
 returns-then-eq-clause-cut g c = rw c.in_ok-push.ensures.ok (cells_more (remaining c.args.self.now) (remaining c.cells.self) (remaining c.cell.new.self) c.cells.cells _ c.in_ok-mark.mark c.cells.invariant.cut c.in_ok-mark.ensures.tokens refl c.in_ok-mark.ensures.mark)
 
-pub returns-then-eq-clause-at : goal.returns-then-eq-clause-at
-returns-then-eq-clause-at g c = omega (arith, c.in_ok-mark.ensures.mark_at, c.cells.invariant.same)
-
-pub returns-then-eq-clause-same : goal.returns-then-eq-clause-same
-returns-then-eq-clause-same g c = c.in_ok-mark.ensures.same ∙ c.cells.invariant.same
-
 pub cells-smaller : goal.cells-smaller
 cells-smaller g c = omega (arith, ap length c.in_ok-mark.ensures.parts, length-append (texts c.cell.new.cell) (c.in_ok-mark.mark.text.now ∷ left c.cell.new.self))
 
@@ -52,5 +36,4 @@ pub cells-preserved : goal.cells-preserved
 cells-preserved g c = record {
   before = rw (c.in_ok-push.ensures.ok, map_push cell_texts c.cells.cells) (Cells-more (left c.args.self.now) (left c.cells.self) (cells_texts c.cells.cells) c.cells.invariant.before (texts c.cell.new.cell) c.in_ok-mark.mark.text.now (left c.cell.new.self) c.in_ok-mark.ensures.parts c.in_ok-mark.ensures.plain (is_bar _ c.in_ok-mark.ensures.mark (sym c.eq.ensures ∙ c.if-eq.false)));
   cut = rw c.in_ok-push.ensures.ok (cells_more (remaining c.args.self.now) (remaining c.cells.self) (remaining c.cell.new.self) c.cells.cells _ c.in_ok-mark.mark c.cells.invariant.cut c.in_ok-mark.ensures.tokens refl c.in_ok-mark.ensures.mark);
-  same = c.in_ok-mark.ensures.same ∙ c.cells.invariant.same;
 }

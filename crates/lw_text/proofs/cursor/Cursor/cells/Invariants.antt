@@ -1,4 +1,4 @@
-use Rattle.std.proofs.Common.{◌≡◌, length}
+use Rattle.std.proofs.Common.{length}
 use Rattle.std.specs.Prelude.{codes}
 use Rattle.lw_text.specs.Rows.{Cell}
 use Rattle.lw_text.specs.Places.{cells_texts, placed_tokens, placed_row}
@@ -11,7 +11,6 @@ abbrev pub invariant-cells : goal.invariant-cells
 invariant-cells g l = record {
   before : Before Cell (codes "|") (codes ";") (left l.fn.self) (cells_texts l.cells) (left l.self);
   cut : CellsFrom (placed_tokens (remaining l.fn.self)) (placed_row l.cells) (placed_tokens (remaining l.self));
-  same : l.self.len ≡ l.fn.self.len;
 }
 
 abbrev pub decreases-cells : goal.decreases-cells

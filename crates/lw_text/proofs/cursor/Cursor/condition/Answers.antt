@@ -1,9 +1,9 @@
-use Rattle.std.proofs.Common.{map, sym, subst, arith}
-use Rattle.lw_base.proofs.Returns.{passed_on}
-use Rattle.lw_base.specs.Names.{EachOnce}
-use Rattle.lw_base.proofs.GrowingTables.{once-along}
+use Rattle.std.proofs.Common.{map, sym, subst}
+use Rattle.lw_base.proofs.api.Returns.{passed_on}
+use Rattle.lw_base.specs.Lists.{EachOnce}
+use Rattle.lw_base.proofs.api.GrowingTables.{once-along}
 use Rattle.lw_text.specs.Sites.{site_names}
-use Rattle.lw_text.specs.Resolved.{named}
+use Rattle.lw_text.specs.inner.Resolved.{named}
 use Rattle.lw_text.specs.Views.{left}
 use Rattle.lw_text.proofs.Bodies.{is_condition, condition_names, condition_in}
 use Rattle.lw_text.proofs.Whole.{no_list, no_quant, no_terminals}
@@ -17,10 +17,6 @@ pub returns-in_err-quant-clause-fault : goal.returns-in_err-quant-clause-fault
 returns-in_err-quant-clause-fault g c =
     passed_on _ _ c.from_residual-in_err-quant.ensures.1 (λ ne all q ss p condition few nodes whole. no_quant c.args.arch c.args.threads (left c.args.self.now) c.args.locs.now _ (left c.listed.new.self) c.in_ok-listed.ensures.found c.in_err-quant.ensures.fault all q ss condition)
 
-pub returns-in_err-quant-clause-place : goal.returns-in_err-quant-clause-place
-returns-in_err-quant-clause-place g c =
-    passed_on _ _ c.from_residual-in_err-quant.ensures.1 (omega (arith, c.in_err-quant.ensures.place, c.in_ok-listed.ensures.same))
-
 pub proposition-requires-clause-threads : goal.proposition-requires-clause-threads
 proposition-requires-clause-threads g c = c.requires.threads
 
@@ -30,10 +26,6 @@ proposition-requires-clause-once g c = subst EachOnce (sym c.in_ok-listed.ensure
 pub returns-in_err-prop-clause-fault : goal.returns-in_err-prop-clause-fault
 returns-in_err-prop-clause-fault g c =
     passed_on _ _ c.from_residual-in_err-prop.ensures.1 (λ ne. no_terminals c.args.arch c.args.threads (left c.args.self.now) c.args.locs.now _ (left c.listed.new.self) c.in_ok-listed.ensures.found c.in_ok-quant.quant (left c.quantifier.new.self) c.in_ok-quant.ensures.found c.listed.new.locs c.in_ok-listed.ensures.names (c.in_err-prop.ensures.fault ne))
-
-pub returns-in_err-prop-clause-place : goal.returns-in_err-prop-clause-place
-returns-in_err-prop-clause-place g c =
-    passed_on _ _ c.from_residual-in_err-prop.ensures.1 (omega (arith, c.in_err-prop.ensures.place, c.in_ok-listed.ensures.same, c.in_ok-quant.ensures.same))
 
 pub returns-clause-found : goal.returns-clause-found
 returns-clause-found g c =

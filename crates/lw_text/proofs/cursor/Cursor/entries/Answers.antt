@@ -1,7 +1,6 @@
-use Rattle.std.proofs.Common.{◌≡◌, ◌≤◌, ◌∷◌, [], ◌∙◌, refl, ap, subst, length, arith, Bool}
+use Rattle.std.proofs.Common.{◌≡◌, ◌∷◌, [], refl, ap, subst, length, arith, Bool}
 use Rattle.std.specs.Prelude.{codes, if◌then◌else◌}
-use Rattle.std.proofs.lemmas.List.Elements.{All-nil, All-push}
-use Rattle.lw_base.proofs.Returns.{passed_on}
+use Rattle.lw_base.proofs.api.Returns.{passed_on}
 use Rattle.lw_text.proofs.Faults.{memory_ran_out}
 use Rattle.lw_text.specs.Views.{left}
 use Rattle.lw_text.proofs.CellPlaces.{Leaves-join}
@@ -11,9 +10,7 @@ use Rattle.lw_text.proofs.cursor.Cursor.entries.Goals as goal
 pub entries-init : goal.entries-init
 entries-init g c = rw c.requires (record {
   read = entries_none c.args.arch c.args.locs.now (left c.args.self.now);
-  places = All-nil (λ e. e.at ≤ c.args.self.now.len);
   leaves = ([], refl);
-  same = refl;
 })
 
 pub returns-then-takes-clause-found : goal.returns-then-takes-clause-found
@@ -25,45 +22,22 @@ returns-then-takes-clause-names g c = c.entries.invariant.read.names_are
 pub returns-then-takes-clause-within : goal.returns-then-takes-clause-within
 returns-then-takes-clause-within g c = entries_in c.args.arch c.args.locs.now c.entries.locs (left c.args.self.now) (left c.entries.self) c.entries.entries c.entries.invariant.read
 
-pub returns-then-takes-clause-places : goal.returns-then-takes-clause-places
-returns-then-takes-clause-places g c = c.entries.invariant.places
-
 pub returns-then-takes-clause-leaves : goal.returns-then-takes-clause-leaves
 returns-then-takes-clause-leaves g c = Leaves-join c.entries.invariant.leaves c.takes.ensures.leaves
-
-pub returns-then-takes-clause-same : goal.returns-then-takes-clause-same
-returns-then-takes-clause-same g c = c.takes.ensures.same ∙ c.entries.invariant.same
 
 pub returns-in_err-entry-clause-fault : goal.returns-in_err-entry-clause-fault
 returns-in_err-entry-clause-fault g c =
     let kept : left c.takes.new.self ≡ left c.entries.self = ap left (c.takes.ensures.kept c.if-takes.false) in
     passed_on _ _ c.from_residual.ensures.1 (λ ne. entries_fault c.args.arch c.args.locs.now c.entries.locs (left c.args.self.now) (left c.entries.self) c.entries.entries c.entries.invariant.read (c.takes.ensures.other c.if-takes.false) (rw kept at (c.in_err-entry.ensures.fault ne)))
 
-pub returns-in_err-entry-clause-place : goal.returns-in_err-entry-clause-place
-returns-in_err-entry-clause-place g c =
-    passed_on _ _ c.from_residual.ensures.1 (omega (arith, c.in_err-entry.ensures.place, c.takes.ensures.same, c.entries.invariant.same))
-
-pub returns-in_err-entry-clause-same : goal.returns-in_err-entry-clause-same
-returns-in_err-entry-clause-same g c = c.in_err-entry.ensures.same ∙ (c.takes.ensures.same ∙ c.entries.invariant.same)
-
 pub returns-in_err-push-clause-fault : goal.returns-in_err-push-clause-fault
 returns-in_err-push-clause-fault g c =
     memory_ran_out _ _ c.from_residual-in_err-push.ensures.1
-
-pub returns-in_err-push-clause-same : goal.returns-in_err-push-clause-same
-returns-in_err-push-clause-same g c = c.in_ok-entry.ensures.same ∙ (c.takes.ensures.same ∙ c.entries.invariant.same)
 
 pub returns-in_err-either-clause-fault : goal.returns-in_err-either-clause-fault
 returns-in_err-either-clause-fault g c =
     let kept : left c.takes.new.self ≡ left c.entries.self = ap left (c.takes.ensures.kept c.if-takes.false) in
     passed_on _ _ c.from_residual-in_err-either.ensures.1 (λ ne all rest ended few. entries_mark c.args.arch c.args.locs.now c.entries.locs (left c.args.self.now) (left c.entries.self) c.entries.entries c.entries.invariant.read c.entry.new.locs c.in_ok-entry.field-0 c.in_ok-entry.ensures.names c.in_ok-entry.ensures.within (left c.entry.new.self) (rw kept at c.in_ok-entry.ensures.found) c.in_err-either.ensures.no_second c.in_err-either.ensures.no_first all rest ended)
-
-pub returns-in_err-either-clause-place : goal.returns-in_err-either-clause-place
-returns-in_err-either-clause-place g c =
-    passed_on _ _ c.from_residual-in_err-either.ensures.1 (omega (arith, c.in_err-either.ensures.place, c.in_ok-entry.ensures.same, c.takes.ensures.same, c.entries.invariant.same))
-
-pub returns-in_err-either-clause-same : goal.returns-in_err-either-clause-same
-returns-in_err-either-clause-same g c = c.in_err-either.ensures.same ∙ (c.in_ok-entry.ensures.same ∙ (c.takes.ensures.same ∙ c.entries.invariant.same))
 
 pub returns-then-branch-clause-found : goal.returns-then-branch-clause-found
 returns-then-branch-clause-found g c =
@@ -81,15 +55,8 @@ returns-then-branch-clause-within g c =
     let kept : left c.takes.new.self ≡ left c.entries.self = ap left (c.takes.ensures.kept c.if-takes.false) in
     rw c.in_ok-push.ensures.ok (entries_within c.args.arch c.args.locs.now c.entries.locs (left c.args.self.now) (left c.entries.self) c.entries.entries c.entries.invariant.read c.entry.new.locs c.in_ok-entry.field-0 c.in_ok-entry.ensures.names c.in_ok-entry.ensures.within (left c.entry.new.self) (rw kept at c.in_ok-entry.ensures.found))
 
-pub returns-then-branch-clause-places : goal.returns-then-branch-clause-places
-returns-then-branch-clause-places g c =
-    rw c.in_ok-push.ensures.ok (All-push (λ e. e.at ≤ c.args.self.now.len) c.entries.entries c.in_ok-entry.field-0 c.entries.invariant.places (omega (arith, c.in_ok-entry.ensures.at, c.takes.ensures.same, c.entries.invariant.same)))
-
 pub returns-then-branch-clause-leaves : goal.returns-then-branch-clause-leaves
 returns-then-branch-clause-leaves g c = Leaves-join c.entries.invariant.leaves (Leaves-join c.takes.ensures.leaves (Leaves-join c.in_ok-entry.ensures.leaves c.in_ok-either.ensures.leaves))
-
-pub returns-then-branch-clause-same : goal.returns-then-branch-clause-same
-returns-then-branch-clause-same g c = c.in_ok-either.ensures.same ∙ (c.in_ok-entry.ensures.same ∙ (c.takes.ensures.same ∙ c.entries.invariant.same))
 
 pub entries-smaller : goal.entries-smaller
 entries-smaller g c =
@@ -103,7 +70,5 @@ entries-preserved g c =
     let kept : left c.takes.new.self ≡ left c.entries.self = ap left (c.takes.ensures.kept c.if-takes.false) in
     rw c.in_ok-push.ensures.ok (record {
       read = entries_more c.args.arch c.args.locs.now c.entries.locs (left c.args.self.now) (left c.entries.self) c.entries.entries c.entries.invariant.read c.entry.new.locs c.in_ok-entry.field-0 c.in_ok-entry.ensures.names c.in_ok-entry.ensures.within (left c.entry.new.self) (rw kept at c.in_ok-entry.ensures.found) (left c.either.new.self) mark;
-      places = All-push (λ e. e.at ≤ c.args.self.now.len) c.entries.entries c.in_ok-entry.field-0 c.entries.invariant.places (omega (arith, c.in_ok-entry.ensures.at, c.takes.ensures.same, c.entries.invariant.same));
       leaves = Leaves-join c.entries.invariant.leaves (Leaves-join c.takes.ensures.leaves (Leaves-join c.in_ok-entry.ensures.leaves c.in_ok-either.ensures.leaves));
-      same = c.in_ok-either.ensures.same ∙ (c.in_ok-entry.ensures.same ∙ (c.takes.ensures.same ∙ c.entries.invariant.same));
     })

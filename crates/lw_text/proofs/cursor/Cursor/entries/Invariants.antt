@@ -1,5 +1,4 @@
-use Rattle.std.proofs.Common.{◌≡◌, ◌≤◌, length}
-use Rattle.std.specs.Prelude.{All}
+use Rattle.std.proofs.Common.{length}
 use Rattle.lw_text.specs.Spans.{Leaves}
 use Rattle.lw_text.specs.Views.{remaining, left}
 use Rattle.lw_text.proofs.Blocks.{EntriesRead}
@@ -8,9 +7,7 @@ use Rattle.lw_text.proofs.cursor.Cursor.entries.Given as goal
 abbrev pub invariant-entries : goal.invariant-entries
 invariant-entries g l = record {
   read : EntriesRead l.arch l.fn.locs l.locs (left l.fn.self) (left l.self) l.entries;
-  places : All (λ e. e.at ≤ l.fn.self.len) l.entries;
   leaves : Leaves (remaining l.fn.self) (remaining l.self);
-  same : l.self.len ≡ l.fn.self.len;
 }
 
 abbrev pub decreases-entries : goal.decreases-entries

@@ -1,5 +1,5 @@
-use Rattle.std.proofs.Common.{◌∙◌, refl, arith}
-use Rattle.lw_base.proofs.Returns.{passed_on}
+use Rattle.std.proofs.Common.{refl}
+use Rattle.lw_base.proofs.api.Returns.{passed_on}
 use Rattle.lw_text.specs.Views.{left}
 use Rattle.lw_text.proofs.CellPlaces.{Leaves-join}
 use Rattle.lw_text.proofs.Whole.{no_header, no_thread}
@@ -13,17 +13,9 @@ pub returns-in_err-threads-clause-fault : goal.returns-in_err-threads-clause-fau
 returns-in_err-threads-clause-fault g c =
     passed_on _ _ c.from_residual-in_err-threads.ensures.1 (λ _ es n mid rest block header there few. no_header c.args.arch (left c.args.self.now) (left c.block.new.self) _ c.in_ok-entries.ensures.found c.in_err-threads.ensures.fault es n mid rest block header)
 
-pub returns-in_err-threads-clause-place : goal.returns-in_err-threads-clause-place
-returns-in_err-threads-clause-place g c =
-    passed_on _ _ c.from_residual-in_err-threads.ensures.1 (omega (arith, c.in_err-threads.ensures.place, c.in_ok-entries.ensures.same))
-
 pub returns-in_err-check_threads-clause-fault : goal.returns-in_err-check_threads-clause-fault
 returns-in_err-check_threads-clause-fault g c =
     passed_on _ _ c.from_residual-in_err-check_threads.ensures.1 (λ _ es n mid rest block header there few. no_thread c.args.arch (left c.args.self.now) (left c.block.new.self) _ c.in_ok-entries.ensures.found c.in_ok-threads.threads (left c.header.new.self) c.in_ok-threads.ensures.found c.block.new.locs c.in_ok-entries.entries refl (rw c.as_slice.ensures at c.in_err-check_threads.ensures.err) es n mid rest block header there)
-
-pub returns-in_err-check_threads-clause-place : goal.returns-in_err-check_threads-clause-place
-returns-in_err-check_threads-clause-place g c =
-    passed_on _ _ c.from_residual-in_err-check_threads.ensures.1 (c.in_err-check_threads.ensures.place c.args.self.now.len (rw c.as_slice.ensures c.in_ok-entries.ensures.places))
 
 pub returns-clause-found : goal.returns-clause-found
 returns-clause-found g c = (left c.block.new.self, c.in_ok-entries.ensures.found, c.in_ok-threads.ensures.found)
@@ -39,6 +31,3 @@ returns-clause-within g c = c.in_ok-entries.ensures.within
 
 pub returns-clause-leaves : goal.returns-clause-leaves
 returns-clause-leaves g c = Leaves-join c.in_ok-entries.ensures.leaves c.in_ok-threads.ensures.leaves
-
-pub returns-clause-same : goal.returns-clause-same
-returns-clause-same g c = c.in_ok-threads.ensures.same ∙ c.in_ok-entries.ensures.same

@@ -1,4 +1,3 @@
-use Rattle.std.proofs.Common.{◌≡◌}
 use Rattle.lw_text.specs.Spans.{Leaves}
 use Rattle.lw_text.specs.Views.{remaining, left}
 use Rattle.lw_text.proofs.Headers.{NamesTo}
@@ -8,5 +7,4 @@ abbrev pub invariant-loop-thread : goal.invariant-loop-thread
 invariant-loop-thread l = record {
   names : NamesTo (left l.fn.self) l.thread (left l.self);
   leaves : Leaves (remaining l.fn.self) (remaining l.self);
-  same : l.self.len ≡ l.fn.self.len;
 }

@@ -1,7 +1,7 @@
-use Rattle.std.proofs.Common.{inr, ◌∙◌, refl, ap, sym, arith}
+use Rattle.std.proofs.Common.{inr, refl, ap, sym}
 use Rattle.std.proofs.lemmas.List.Elements.{All-nil}
-use Rattle.lw_base.proofs.Returns.{passed_on}
-use Rattle.lw_text.specs.Resolved.{IsIn}
+use Rattle.lw_base.proofs.api.Returns.{passed_on}
+use Rattle.lw_text.specs.inner.Resolved.{IsIn}
 use Rattle.lw_text.specs.Views.{left}
 use Rattle.lw_text.proofs.Listings.{ended, listed, no_bracket}
 use Rattle.lw_text.proofs.cursor.Cursor.listed.Goals as goal
@@ -18,19 +18,9 @@ returns-then-not-takes-clause-names g c = rw c.new.ensures refl
 pub returns-then-not-takes-clause-within : goal.returns-then-not-takes-clause-within
 returns-then-not-takes-clause-within g c = rw c.new.ensures (All-nil (IsIn c.args.locs.now))
 
-pub returns-then-not-takes-clause-same : goal.returns-then-not-takes-clause-same
-returns-then-not-takes-clause-same g c = c.takes.ensures.same
-
 pub returns-in_err-expect-clause-fault : goal.returns-in_err-expect-clause-fault
 returns-in_err-expect-clause-fault g c =
     passed_on _ _ c.from_residual.ensures.1 (λ _ ss rest all there few. no_bracket c.args.arch (left c.args.self.now) (left c.takes.new.self) (c.takes.ensures.taken c.if-not-takes.false) c.in_err-expect.ensures.err ss rest all)
-
-pub returns-in_err-expect-clause-place : goal.returns-in_err-expect-clause-place
-returns-in_err-expect-clause-place g c =
-    passed_on _ _ c.from_residual.ensures.1 (omega (arith, c.in_err-expect.ensures.place, c.takes.ensures.same))
-
-pub returns-in_err-expect-clause-same : goal.returns-in_err-expect-clause-same
-returns-in_err-expect-clause-same g c = c.in_err-expect.ensures.same ∙ c.takes.ensures.same
 
 pub sites-requires : goal.sites-requires
 sites-requires g c = c.new-sites.ensures
@@ -38,13 +28,6 @@ sites-requires g c = c.new-sites.ensures
 pub returns-in_err-sites-clause-fault : goal.returns-in_err-sites-clause-fault
 returns-in_err-sites-clause-fault g c =
     passed_on _ _ c.from_residual-in_err-sites.ensures.1 (λ ne ss rest all there few. c.in_err-sites.ensures.fault ne ss rest (ended c.args.arch (left c.args.self.now) (left c.takes.new.self) (left c.expect.new.self) (c.takes.ensures.taken c.if-not-takes.false) c.in_ok-expect.ensures.ok ss rest all) there few)
-
-pub returns-in_err-sites-clause-place : goal.returns-in_err-sites-clause-place
-returns-in_err-sites-clause-place g c =
-    passed_on _ _ c.from_residual-in_err-sites.ensures.1 (omega (arith, c.in_err-sites.ensures.place, c.in_ok-expect.ensures.same, c.takes.ensures.same))
-
-pub returns-in_err-sites-clause-same : goal.returns-in_err-sites-clause-same
-returns-in_err-sites-clause-same g c = c.in_err-sites.ensures.same ∙ (c.in_ok-expect.ensures.same ∙ c.takes.ensures.same)
 
 pub returns-clause-found : goal.returns-clause-found
 returns-clause-found g c = listed c.args.arch (left c.args.self.now) (left c.takes.new.self) (left c.expect.new.self) (c.takes.ensures.taken c.if-not-takes.false) c.in_ok-expect.ensures.ok _ _ c.in_ok-sites.ensures.found
@@ -57,6 +40,3 @@ returns-clause-names g c = c.in_ok-sites.ensures.names
 
 pub returns-clause-within : goal.returns-clause-within
 returns-clause-within g c = c.in_ok-sites.ensures.within
-
-pub returns-clause-same : goal.returns-clause-same
-returns-clause-same g c = c.in_ok-sites.ensures.same ∙ (c.in_ok-expect.ensures.same ∙ c.takes.ensures.same)

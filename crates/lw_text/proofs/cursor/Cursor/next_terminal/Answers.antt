@@ -1,5 +1,5 @@
 use Rattle.std.proofs.Common.{◌∙◌, sym}
-use Rattle.lw_base.proofs.Returns.{passed_on}
+use Rattle.lw_base.proofs.api.Returns.{passed_on}
 use Rattle.lw_text.proofs.Faults.{memory_ran_out}
 use Rattle.lw_text.proofs.PropositionRows.{terminal_refused, begins_wrong, no_room}
 use Rattle.lw_text.proofs.cursor.Cursor.next_terminal.Goals as goal
@@ -11,10 +11,6 @@ returns-then-not-has_room-clause-fault g c =
 pub returns-in_err-terminal-clause-fault : goal.returns-in_err-terminal-clause-fault
 returns-in_err-terminal-clause-fault g c =
     passed_on _ _ c.from_residual.ensures.1 (λ ne s rest ss q is left few fits. c.in_err-terminal.ensures.fault ne s rest is (begins_wrong c.args.reader.now c.wants_part.result _ s c.wants_part.ensures.next ss q left) few)
-
-pub returns-in_err-terminal-clause-place : goal.returns-in_err-terminal-clause-place
-returns-in_err-terminal-clause-place g c =
-    passed_on _ _ c.from_residual.ensures.1 c.in_err-terminal.ensures.place
 
 pub returns-in_err-take-clause-fault : goal.returns-in_err-take-clause-fault
 returns-in_err-take-clause-fault g c =

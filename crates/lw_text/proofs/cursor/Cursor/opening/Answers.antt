@@ -1,9 +1,9 @@
-use Rattle.std.proofs.Common.{◌≡◌, ◌∷◌, [], ◌∙◌, refl, sym, ap, subst, arith}
-use Rattle.lw_base.proofs.Returns.{passed_on}
+use Rattle.std.proofs.Common.{◌≡◌, ◌∷◌, [], ◌∙◌, refl, sym, ap, subst}
+use Rattle.lw_base.proofs.api.Returns.{passed_on}
 use Rattle.lw_base.specs.Tables.{with_names}
 use Rattle.lw_text.specs.Sites.{IsSite, site_names}
 use Rattle.lw_text.specs.Propositions.{Atom}
-use Rattle.lw_text.specs.Resolved.{named}
+use Rattle.lw_text.specs.inner.Resolved.{named}
 use Rattle.lw_text.specs.Conditions.{IsAtom, IsTerminal, sites_in}
 use Rattle.lw_text.specs.Views.{left}
 use Rattle.lw_text.proofs.TerminalLists.{site_alone}
@@ -13,38 +13,6 @@ pub returns-in_err-word-clause-fault : goal.returns-in_err-word-clause-fault
 returns-in_err-word-clause-fault g c =
     let kept : left c.args.self.now ≡ left c.takes-5.new.self = ap left (sym (c.if-takes-5.ensures.kept refl ∙ c.if-takes-4.ensures.kept refl ∙ c.if-takes-3.ensures.kept refl ∙ c.if-takes-2.ensures.kept refl ∙ c.if-takes.ensures.kept refl)) in
     passed_on _ _ c.from_residual-in_err-word.ensures.1 (λ ne s rest terminal begins few. site_alone c.args.arch c.args.threads (left c.takes-5.new.self) (left c.site.new.self) _ c.in_ok-site.ensures.found c.in_err-word.ensures.err s rest (subst (λ l. IsTerminal c.args.arch c.args.threads l s rest) kept terminal))
-
-pub returns-in_err-site-clause-place : goal.returns-in_err-site-clause-place
-returns-in_err-site-clause-place g c =
-    passed_on _ _ c.from_residual.ensures.1 (omega (arith, c.in_err-site.ensures.place, c.takes.ensures.same, c.takes-2.ensures.same, c.takes-3.ensures.same, c.takes-4.ensures.same, c.takes-5.ensures.same))
-
-pub returns-in_err-word-clause-place : goal.returns-in_err-word-clause-place
-returns-in_err-word-clause-place g c =
-    passed_on _ _ c.from_residual-in_err-word.ensures.1 (omega (arith, c.in_err-word.ensures.place, c.in_ok-site.ensures.same, c.takes.ensures.same, c.takes-2.ensures.same, c.takes-3.ensures.same, c.takes-4.ensures.same, c.takes-5.ensures.same))
-
-pub returns-then-takes-clause-same : goal.returns-then-takes-clause-same
-returns-then-takes-clause-same g c = c.takes.ensures.same
-
-pub returns-then-takes-2-clause-same : goal.returns-then-takes-2-clause-same
-returns-then-takes-2-clause-same g c = (c.takes-2.ensures.same ∙ c.takes.ensures.same)
-
-pub returns-then-takes-3-clause-same : goal.returns-then-takes-3-clause-same
-returns-then-takes-3-clause-same g c = (c.takes-3.ensures.same ∙ (c.takes-2.ensures.same ∙ c.takes.ensures.same))
-
-pub returns-then-takes-4-clause-same : goal.returns-then-takes-4-clause-same
-returns-then-takes-4-clause-same g c = (c.takes-4.ensures.same ∙ (c.takes-3.ensures.same ∙ (c.takes-2.ensures.same ∙ c.takes.ensures.same)))
-
-pub returns-then-takes-5-clause-same : goal.returns-then-takes-5-clause-same
-returns-then-takes-5-clause-same g c = (c.takes-5.ensures.same ∙ (c.takes-4.ensures.same ∙ (c.takes-3.ensures.same ∙ (c.takes-2.ensures.same ∙ c.takes.ensures.same))))
-
-pub returns-in_err-site-clause-same : goal.returns-in_err-site-clause-same
-returns-in_err-site-clause-same g c = c.in_err-site.ensures.same ∙ (c.takes-5.ensures.same ∙ (c.takes-4.ensures.same ∙ (c.takes-3.ensures.same ∙ (c.takes-2.ensures.same ∙ c.takes.ensures.same))))
-
-pub returns-in_err-word-clause-same : goal.returns-in_err-word-clause-same
-returns-in_err-word-clause-same g c = c.in_err-word.ensures.same ∙ (c.in_ok-site.ensures.same ∙ (c.takes-5.ensures.same ∙ (c.takes-4.ensures.same ∙ (c.takes-3.ensures.same ∙ (c.takes-2.ensures.same ∙ c.takes.ensures.same)))))
-
-pub returns-clause-same : goal.returns-clause-same
-returns-clause-same g c = c.in_ok-word.ensures.same ∙ (c.in_ok-site.ensures.same ∙ (c.takes-5.ensures.same ∙ (c.takes-4.ensures.same ∙ (c.takes-3.ensures.same ∙ (c.takes-2.ensures.same ∙ c.takes.ensures.same)))))
 
 pub returns-clause-found : goal.returns-clause-found
 returns-clause-found g c =

@@ -1,4 +1,4 @@
-use Rattle.std.proofs.Common.{◌≡◌, length}
+use Rattle.std.proofs.Common.{length}
 use Rattle.lw_text.specs.Views.{left}
 use Rattle.lw_text.proofs.PropositionRows.{TerminalsRead}
 use Rattle.lw_text.proofs.cursor.Cursor.proposition.Given as goal
@@ -6,7 +6,6 @@ use Rattle.lw_text.proofs.cursor.Cursor.proposition.Given as goal
 abbrev pub invariant-terminals : goal.invariant-terminals
 invariant-terminals g l = record {
   read : TerminalsRead l.arch l.threads l.fn.locs l.locs (left l.fn.self) (left l.self) l.nodes l.reader;
-  same : l.self.len ≡ l.fn.self.len;
 }
 
 abbrev pub decreases-terminals : goal.decreases-terminals

@@ -1,6 +1,6 @@
 use Rattle.std.proofs.Common.{arith}
 use Rattle.std.proofs.lemmas.List.{length-map}
-use Rattle.lw_base.proofs.Returns.{passed_on}
+use Rattle.lw_base.proofs.api.Returns.{passed_on}
 use Rattle.lw_text.specs.Places.{cell_texts, cells_texts}
 use Rattle.lw_text.specs.Views.{left}
 use Rattle.lw_text.proofs.Cells.{Row-ragged}
@@ -17,17 +17,8 @@ pub returns-then-len-threads-clause-fault : goal.returns-then-len-threads-clause
 returns-then-len-threads-clause-fault g c =
     λ _. Row-ragged (left c.args.self.now) (left c.cells.new.self) (cells_texts c.cells.new.cells) c.in_ok-end.ensures.found c.args.threads (λ e. c.if-len-threads.true (omega (arith, c.len.ensures, length-map c.cells.new.cells cell_texts, e)))
 
-pub returns-then-len-threads-clause-place : goal.returns-then-len-threads-clause-place
-returns-then-len-threads-clause-place g c = c.in_ok-end.ensures.at
-
-pub returns-then-len-threads-clause-same : goal.returns-then-len-threads-clause-same
-returns-then-len-threads-clause-same g c = c.in_ok-end.ensures.same
-
 pub returns-clause-found : goal.returns-clause-found
 returns-clause-found g c = (c.in_ok-end.ensures.found, omega (arith, c.if-len-threads.false, c.len.ensures, length-map c.cells.new.cells cell_texts))
 
 pub returns-clause-cut : goal.returns-clause-cut
 returns-clause-cut g c = c.in_ok-end.ensures.cut
-
-pub returns-clause-same : goal.returns-clause-same
-returns-clause-same g c = c.in_ok-end.ensures.same

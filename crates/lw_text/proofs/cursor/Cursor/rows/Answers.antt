@@ -1,6 +1,6 @@
 use Rattle.std.proofs.Common.{◌∷◌, [], ◌∙◌, ap, sym, length, arith, length-append}
 use Rattle.std.proofs.lemmas.List.{map_push, length-map}
-use Rattle.lw_base.proofs.Returns.{passed_on}
+use Rattle.lw_base.proofs.api.Returns.{passed_on}
 use Rattle.lw_text.proofs.Faults.{memory_ran_out}
 use Rattle.lw_text.specs.Places.{cells_texts, all_texts}
 use Rattle.lw_text.specs.Views.{remaining, left}
@@ -32,5 +32,4 @@ rows-preserved g c = record {
   passed = rw (c.in_ok-push.ensures.ok, map_push cells_texts c.rows.rows) (Rows-more c.args.threads (left c.args.self.now) (left c.rows.self) (all_texts c.rows.rows) c.rows.invariant.passed (left c.row.new.self) (cells_texts c.in_ok-row.field-0) (sym c.at_stop.ensures ∙ c.if-at_stop.false) c.in_ok-row.ensures.found);
   cut = rw c.in_ok-push.ensures.ok (rows_more (remaining c.args.self.now) (remaining c.rows.self) (remaining c.row.new.self) c.rows.rows c.in_ok-row.field-0 c.rows.invariant.cut c.in_ok-row.ensures.cut);
   few = omega (arith, ap length c.in_ok-push.ensures.ok, length-append c.rows.rows (c.in_ok-row.field-0 ∷ []), c.if-len-eq-MAX_ROWS.false, c.len.ensures, c.rows.invariant.few);
-  same = c.in_ok-row.ensures.same ∙ c.rows.invariant.same;
 }

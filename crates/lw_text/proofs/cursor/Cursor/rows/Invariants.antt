@@ -1,4 +1,4 @@
-use Rattle.std.proofs.Common.{◌≡◌, ◌≤◌, length}
+use Rattle.std.proofs.Common.{◌≤◌, length}
 use Rattle.lw_text.specs.Rows.{Row, begins_stop}
 use Rattle.lw_text.specs.Places.{all_texts, placed_tokens, placed_cells}
 use Rattle.lw_text.specs.PlacedCells.{RowsFrom}
@@ -11,7 +11,6 @@ invariant-rows g l = record {
   passed : Passed begins_stop (Row l.threads) (left l.fn.self) (all_texts l.rows) (left l.self);
   cut : RowsFrom (placed_tokens (remaining l.fn.self)) (placed_cells l.rows) (placed_tokens (remaining l.self));
   few : length l.rows ≤ 64;
-  same : l.self.len ≡ l.fn.self.len;
 }
 
 abbrev pub decreases-rows : goal.decreases-rows

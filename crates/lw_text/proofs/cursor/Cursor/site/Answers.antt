@@ -1,5 +1,5 @@
-use Rattle.std.proofs.Common.{◌∷◌, [], ◌∙◌, sym, arith}
-use Rattle.lw_base.proofs.Returns.{passed_on}
+use Rattle.std.proofs.Common.{◌∷◌, [], ◌∙◌, sym}
+use Rattle.lw_base.proofs.api.Returns.{passed_on}
 use Rattle.lw_text.specs.Views.{remaining, left}
 use Rattle.lw_text.proofs.CellPlaces.{Leaves-behind}
 use Rattle.lw_text.proofs.NameTables.{within-at}
@@ -13,22 +13,6 @@ returns-then-eq-clause-fault g c =
 
 pub returns-then-eq-clause-leaves : goal.returns-then-eq-clause-leaves
 returns-then-eq-clause-leaves g c = Leaves-behind (remaining c.args.self.now) (remaining c.take.new.self) (remaining c.in_brackets.new.self) c.in_brackets.result c.in_ok-first.first c.in_ok-first.ensures.token c.in_brackets.ensures.leaves
-
-pub returns-then-eq-clause-place : goal.returns-then-eq-clause-place
-returns-then-eq-clause-place g c = rw c.take.ensures.same at c.in_brackets.ensures.place
-
-pub returns-then-eq-clause-same : goal.returns-then-eq-clause-same
-returns-then-eq-clause-same g c = c.in_brackets.ensures.same ∙ c.take.ensures.same
-
-pub returns-in-Some-clause-place : goal.returns-in-Some-clause-place
-returns-in-Some-clause-place g c = rw c.take.ensures.same at c.of_thread.ensures.place
-
-pub returns-in-Some-clause-same : goal.returns-in-Some-clause-same
-returns-in-Some-clause-same g c = c.of_thread.ensures.same ∙ c.take.ensures.same
-
-pub returns-in_err-loc-clause-place : goal.returns-in_err-loc-clause-place
-returns-in_err-loc-clause-place g c =
-    passed_on _ _ c.from_residual-in_err-loc.ensures.1 (omega (arith, c.in_err-loc.ensures.place, c.in_ok-first.ensures.at))
 
 pub returns-then-not-is_allowed-clause-fault : goal.returns-then-not-is_allowed-clause-fault
 returns-then-not-is_allowed-clause-fault g c =
@@ -56,18 +40,6 @@ returns-clause-within g c = within-at c.enter.new.locs c.in_ok-loc.loc c.in_ok-f
 
 pub returns-clause-leaves : goal.returns-clause-leaves
 returns-clause-leaves g c = (c.in_ok-first.first ∷ [], c.in_ok-first.ensures.token)
-
-pub returns-then-not-is_allowed-clause-same : goal.returns-then-not-is_allowed-clause-same
-returns-then-not-is_allowed-clause-same g c = c.take.ensures.same
-
-pub returns-in_err-loc-clause-same : goal.returns-in_err-loc-clause-same
-returns-in_err-loc-clause-same g c = c.take.ensures.same
-
-pub returns-clause-same : goal.returns-clause-same
-returns-clause-same g c = c.take.ensures.same
-
-pub returns-then-not-is_allowed-clause-place : goal.returns-then-not-is_allowed-clause-place
-returns-then-not-is_allowed-clause-place g c = c.in_ok-first.ensures.at
 
 pub returns-clause-there : goal.returns-clause-there
 returns-clause-there g c = allowed_location c.args.threads _

@@ -1,6 +1,6 @@
-use Rattle.std.proofs.Common.{◌≡◌, ◌∷◌, ◌∙◌, refl, ap, subst, length, arith, Bool}
+use Rattle.std.proofs.Common.{◌≡◌, ◌∷◌, ap, subst, length, arith, Bool}
 use Rattle.std.specs.Prelude.{codes, if◌then◌else◌}
-use Rattle.lw_base.proofs.Returns.{passed_on}
+use Rattle.lw_base.proofs.api.Returns.{passed_on}
 use Rattle.lw_text.proofs.Faults.{memory_ran_out}
 use Rattle.lw_text.specs.Views.{left}
 use Rattle.lw_text.proofs.Atoms.{IsSite-shorter}
@@ -10,7 +10,6 @@ use Rattle.lw_text.proofs.cursor.Cursor.sites.Goals as goal
 pub sites-init : goal.sites-init
 sites-init g c = rw c.requires (record {
   read = sites_none c.args.arch c.args.threads c.args.locs.now (left c.args.self.now);
-  same = refl;
 })
 
 pub returns-then-takes-clause-found : goal.returns-then-takes-clause-found
@@ -25,39 +24,19 @@ returns-then-takes-clause-names g c = c.sites.invariant.read.sites.names_are
 pub returns-then-takes-clause-within : goal.returns-then-takes-clause-within
 returns-then-takes-clause-within g c = sites_in c.args.arch c.args.threads c.args.locs.now c.sites.locs (left c.args.self.now) (left c.sites.self) c.sites.sites c.sites.invariant.read
 
-pub returns-then-takes-clause-same : goal.returns-then-takes-clause-same
-returns-then-takes-clause-same g c = c.takes.ensures.same ∙ c.sites.invariant.same
-
 pub returns-in_err-site-clause-fault : goal.returns-in_err-site-clause-fault
 returns-in_err-site-clause-fault g c =
     let kept : left c.takes.new.self ≡ left c.sites.self = ap left (c.takes.ensures.kept c.if-takes.false) in
     passed_on _ _ c.from_residual.ensures.1 (λ ne. sites_fault c.args.arch c.args.threads c.args.locs.now c.sites.locs (left c.args.self.now) (left c.sites.self) c.sites.sites c.sites.invariant.read (c.takes.ensures.other c.if-takes.false) (rw kept at (c.in_err-site.ensures.fault ne)))
 
-pub returns-in_err-site-clause-place : goal.returns-in_err-site-clause-place
-returns-in_err-site-clause-place g c =
-    passed_on _ _ c.from_residual.ensures.1 (omega (arith, c.in_err-site.ensures.place, c.takes.ensures.same, c.sites.invariant.same))
-
-pub returns-in_err-site-clause-same : goal.returns-in_err-site-clause-same
-returns-in_err-site-clause-same g c = c.in_err-site.ensures.same ∙ (c.takes.ensures.same ∙ c.sites.invariant.same)
-
 pub returns-in_err-push-clause-fault : goal.returns-in_err-push-clause-fault
 returns-in_err-push-clause-fault g c =
     memory_ran_out _ _ c.from_residual-in_err-push.ensures.1
-
-pub returns-in_err-push-clause-same : goal.returns-in_err-push-clause-same
-returns-in_err-push-clause-same g c = c.in_ok-site.ensures.same ∙ (c.takes.ensures.same ∙ c.sites.invariant.same)
 
 pub returns-in_err-either-clause-fault : goal.returns-in_err-either-clause-fault
 returns-in_err-either-clause-fault g c =
     let kept : left c.takes.new.self ≡ left c.sites.self = ap left (c.takes.ensures.kept c.if-takes.false) in
     passed_on _ _ c.from_residual-in_err-either.ensures.1 (λ ne all rest listed there few. sites_mark c.args.arch c.args.threads c.args.locs.now c.sites.locs (left c.args.self.now) (left c.sites.self) c.sites.sites c.sites.invariant.read c.site.new.locs c.in_ok-site.field-0 c.in_ok-site.ensures.names c.in_ok-site.ensures.within (left c.site.new.self) (rw kept at c.in_ok-site.ensures.found) c.in_err-either.ensures.no_second c.in_err-either.ensures.no_first all rest listed)
-
-pub returns-in_err-either-clause-place : goal.returns-in_err-either-clause-place
-returns-in_err-either-clause-place g c =
-    passed_on _ _ c.from_residual-in_err-either.ensures.1 (omega (arith, c.in_err-either.ensures.place, c.in_ok-site.ensures.same, c.takes.ensures.same, c.sites.invariant.same))
-
-pub returns-in_err-either-clause-same : goal.returns-in_err-either-clause-same
-returns-in_err-either-clause-same g c = c.in_err-either.ensures.same ∙ (c.in_ok-site.ensures.same ∙ (c.takes.ensures.same ∙ c.sites.invariant.same))
 
 pub returns-then-branch-clause-found : goal.returns-then-branch-clause-found
 returns-then-branch-clause-found g c =
@@ -80,9 +59,6 @@ returns-then-branch-clause-within g c =
     let kept : left c.takes.new.self ≡ left c.sites.self = ap left (c.takes.ensures.kept c.if-takes.false) in
     rw c.in_ok-push.ensures.ok (sites_within c.args.arch c.args.threads c.args.locs.now c.sites.locs (left c.args.self.now) (left c.sites.self) c.sites.sites c.sites.invariant.read c.site.new.locs c.in_ok-site.field-0 c.in_ok-site.ensures.names c.in_ok-site.ensures.within (left c.site.new.self) (rw kept at c.in_ok-site.ensures.found))
 
-pub returns-then-branch-clause-same : goal.returns-then-branch-clause-same
-returns-then-branch-clause-same g c = c.in_ok-either.ensures.same ∙ (c.in_ok-site.ensures.same ∙ (c.takes.ensures.same ∙ c.sites.invariant.same))
-
 pub sites-smaller : goal.sites-smaller
 sites-smaller g c =
     let mark : left c.site.new.self ≡ codes ";" ∷ left c.either.new.self = subst (λ (b : Bool). left c.site.new.self ≡ (if b then codes "]" else codes ";") ∷ left c.either.new.self) c.if-branch.false c.in_ok-either.ensures.ok in
@@ -95,5 +71,4 @@ sites-preserved g c =
     let kept : left c.takes.new.self ≡ left c.sites.self = ap left (c.takes.ensures.kept c.if-takes.false) in
     rw c.in_ok-push.ensures.ok (record {
       read = sites_more c.args.arch c.args.threads c.args.locs.now c.sites.locs (left c.args.self.now) (left c.sites.self) c.sites.sites c.sites.invariant.read c.site.new.locs c.in_ok-site.field-0 c.in_ok-site.ensures.names c.in_ok-site.ensures.within (left c.site.new.self) (rw kept at c.in_ok-site.ensures.found) c.in_ok-site.ensures.there (left c.either.new.self) mark;
-      same = c.in_ok-either.ensures.same ∙ (c.in_ok-site.ensures.same ∙ (c.takes.ensures.same ∙ c.sites.invariant.same));
     })

@@ -1,4 +1,4 @@
-use Rattle.std.proofs.Common.{◌≡◌, length}
+use Rattle.std.proofs.Common.{length}
 use Rattle.lw_text.specs.Views.{left}
 use Rattle.lw_text.proofs.Listings.{SitesRead}
 use Rattle.lw_text.proofs.cursor.Cursor.sites.Given as goal
@@ -6,7 +6,6 @@ use Rattle.lw_text.proofs.cursor.Cursor.sites.Given as goal
 abbrev pub invariant-sites : goal.invariant-sites
 invariant-sites g l = record {
   read : SitesRead l.arch l.threads l.fn.locs l.locs (left l.fn.self) (left l.self) l.sites;
-  same : l.self.len ≡ l.fn.self.len;
 }
 
 abbrev pub decreases-sites : goal.decreases-sites

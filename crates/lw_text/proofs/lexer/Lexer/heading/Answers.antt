@@ -1,4 +1,4 @@
-use Rattle.lw_base.proofs.Returns.{passed_on}
+use Rattle.lw_base.proofs.api.Returns.{passed_on}
 use Rattle.lw_text.proofs.Headings.{no_named, no_notes}
 use Rattle.lw_text.proofs.lexer.Lexer.heading.Goals as goal
 

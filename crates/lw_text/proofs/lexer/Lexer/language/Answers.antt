@@ -1,5 +1,5 @@
 use Rattle.std.proofs.Common.{sym}
-use Rattle.lw_base.proofs.Returns.{passed_on}
+use Rattle.lw_base.proofs.api.Returns.{passed_on}
 use Rattle.lw_base.specs.Languages.{arch_word}
 use Rattle.lw_text.proofs.TokenRows.{no_first, First-unique}
 use Rattle.lw_text.proofs.lexer.Lexer.language.Goals as goal

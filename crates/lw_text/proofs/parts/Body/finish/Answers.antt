@@ -10,19 +10,22 @@ pub invariant_of-result : goal.invariant_of-result
 invariant_of-result g c =
     let body = c.args.self in
     let parts = body.parts in
-    let threads : c.in_ok-head.head.threads ≡ parts.threads = ap (λ h. h.threads) c.in_ok-head.ensures in
-    let cells : c.in_ok-cells.cells ≡ columns parts.threads body.rows = c.in_ok-cells.ensures ∙ ap (columns parts.threads) c.as_slice.ensures in
+    let threads : c.in_ok-head-in-Ok.head.threads ≡ parts.threads = ap (λ h. h.threads) c.in_ok-head-in-Ok.ensures in
+    let cells : c.in-Ok.cells ≡ columns parts.threads body.rows = c.in-Ok.ensures ∙ ap (columns parts.threads) c.as_slice.ensures in
     let few : height (columns parts.threads body.rows) ≤ 64 = omega (arith, columns-height parts.threads body.rows body.even body.some, body.low) in
     rw cells (record {
-      well_formed = subst IsWellFormedHead (sym c.in_ok-head.ensures) (resolved_well_formed c.args.heading.arch c.requires.says.0 c.args.heading.name.now body c.requires.name c.requires.says.1);
+      well_formed = subst IsWellFormedHead (sym c.in_ok-head-in-Ok.ensures) (resolved_well_formed c.args.heading.arch c.requires.says.0 c.args.heading.name.now body c.requires.name c.requires.says.1);
       columns = columns-length parts.threads body.rows body.even ∙ sym threads;
       even = columns-even parts.threads body.rows body.even body.some;
       low = few;
       places = columns-each (IsWithin c.args.len) parts.threads body.rows c.requires.within;
     })
 
-pub returns-clause-head : goal.returns-clause-head
-returns-clause-head g c = c.in_ok-head.ensures
+pub returns-in_ok-head-in-Ok-clause-head : goal.returns-in_ok-head-in-Ok-clause-head
+returns-in_ok-head-in-Ok-clause-head g c = c.in_ok-head-in-Ok.ensures
 
-pub returns-clause-cells : goal.returns-clause-cells
-returns-clause-cells g c = c.in_ok-cells.ensures ∙ ap (columns c.args.self.parts.threads) c.as_slice.ensures
+pub returns-in_ok-head-in-Ok-clause-cells : goal.returns-in_ok-head-in-Ok-clause-cells
+returns-in_ok-head-in-Ok-clause-cells g c = c.in-Ok.ensures ∙ ap (columns c.args.self.parts.threads) c.as_slice.ensures
+
+pub columns-made-requires : goal.columns-made-requires
+columns-made-requires g c = rw c.as_slice.ensures c.args.self.even

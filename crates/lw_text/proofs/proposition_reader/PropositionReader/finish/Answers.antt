@@ -1,7 +1,7 @@
 use Rattle.std.proofs.Common.{option_map, map, reverse, ap, sym, ◌∙◌, arith}
 use Rattle.std.proofs.lemmas.Bool.{eqb-true, eqb-false}
 use Rattle.lw_base.specs.Propositions.{formula_of}
-use Rattle.lw_text.specs.Pending.{group_of}
+use Rattle.lw_text.specs.inner.Pending.{group_of}
 use Rattle.lw_text.proofs.Pending.{none_outside, some_outside, end_before, end_inside, end_whole}
 use Rattle.lw_text.proofs.proposition_reader.PropositionReader.finish.Goals as goal
 

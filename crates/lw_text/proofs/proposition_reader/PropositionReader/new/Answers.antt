@@ -1,5 +1,5 @@
 use Rattle.std.proofs.Common.{map, reverse, ap}
-use Rattle.lw_text.specs.Pending.{group_of}
+use Rattle.lw_text.specs.inner.Pending.{group_of}
 use Rattle.lw_text.proofs.Pending.{begun}
 use Rattle.lw_text.proofs.proposition_reader.PropositionReader.new.Goals as goal
 

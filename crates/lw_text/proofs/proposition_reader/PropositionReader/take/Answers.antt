@@ -1,8 +1,8 @@
 use Rattle.std.proofs.Common.{None, Some, option_map, map, reverse, ap, sym}
 use Rattle.std.proofs.lemmas.Result.{IfOk-weaker}
 use Rattle.lw_base.specs.Propositions.{formula_of}
-use Rattle.lw_text.specs.Pending.{group_of, state_of}
-use Rattle.lw_text.specs.Terminals.{terminal_of}
+use Rattle.lw_text.specs.inner.Pending.{group_of, state_of}
+use Rattle.lw_text.specs.inner.Terminals.{terminal_of}
 use Rattle.lw_text.proofs.Pending.{took_given, took_only, took_nothing}
 use Rattle.lw_text.proofs.proposition_reader.PropositionReader.take.Goals as goal
 

@@ -1,6 +1,6 @@
 use Rattle.std.proofs.Common.{map, reverse}
 use Rattle.lw_base.specs.Propositions.{formula_of}
-use Rattle.lw_text.specs.Pending.{group_of}
+use Rattle.lw_text.specs.inner.Pending.{group_of}
 use Rattle.lw_text.proofs.Pending.{next_begins}
 use Rattle.lw_text.proofs.proposition_reader.PropositionReader.wants_part.Goals as goal
 

@@ -1,5 +1,5 @@
 use Rattle.std.proofs.Common.{sym, ap, ◌∙◌, true≢false, length, arith}
-use Rattle.lw_base.proofs.Lists.{at_index}
+use Rattle.lw_base.proofs.api.Lists.{at_index}
 use Rattle.lw_x86.proofs.NamedMnemonics.{one_further, none_named}
 use Rattle.lw_x86.proofs.mnemonic.Mnemonic.named.Goals as goal
 

@@ -1,7 +1,7 @@
 use Rattle.std.proofs.Common.{◌≡◌, ℕ, ◌<◌}
 use Rattle.std.specs.Prelude.{Some, slice_get}
 use Rattle.lw_x86.specs.declared.mnemonic.Mnemonic.{Mnemonic}
-use Rattle.lw_x86.specs.Mnemonics.{all_mnemonics, Names}
+use Rattle.lw_x86.specs.inner.Mnemonics.{all_mnemonics, Names}
 use Rattle.lw_x86.proofs.mnemonic.Mnemonic.named.Given as goal
 
 abbrev pub invariant-loop-mnemonic : goal.invariant-loop-mnemonic

@@ -1,4 +1,4 @@
--- What a reader that has taken some terminals of a proposition still wants.
+-- Used within the crate: what a reader that has taken some terminals of a proposition still wants.
 use Rattle.std.specs.Prelude.{ℕ, zero, suc, Bool, true, false, List, [], ◌∷◌, map, reverse, Option, Some, None, option_map}
 use Rattle.lw_base.specs.Formula.{Formula, Not, And, Or}
 use Rattle.lw_base.specs.Propositions.{formula_of}

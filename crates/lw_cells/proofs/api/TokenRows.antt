@@ -1,5 +1,5 @@
--- Rows of tokens, one by one.
-use Rattle.std.proofs.Common.{◌≡◌, ℕ, zero, suc, ◌<◌, ◌≤◌, true, false, true≢false, inl, inr, List, [], ◌∷◌, length, sym, ap, ◌∙◌, arith, Result, Ok, Err}
+-- Rows of tokens, one by one. The readers of the languages' statements use this.
+use Rattle.std.proofs.Common.{◌≡◌, ℕ, zero, suc, ◌<◌, ◌≤◌, true, false, true≢false, List, [], ◌∷◌, length, sym, ◌∙◌, arith, Result, Ok, Err, drop, refl}
 use Rattle.std.specs.Prelude.{slice_get, Some, None}
 use Rattle.std.specs.Result.{OnErr, IfErr}
 use Rattle.std.specs.Str.{bytes_eq}
@@ -10,9 +10,7 @@ use Rattle.lw_base.specs.declared.operand.Operand.{Operand}
 use Rattle.lw_base.specs.declared.operand.Operand.TheVariants.{Register, Number}
 use Rattle.lw_base.specs.Registers.{IsRegister}
 use Rattle.lw_text.specs.Tokens.{IsNumber}
-use Rattle.std.specs.Char.{digit_value, is_ascii_digit}
-use Rattle.std.proofs.lemmas.Str.Parse.{digit_from_value}
-use Rattle.lw_base.specs.Characters.{begins}
+use Rattle.lw_text.proofs.api.Numbers.{number_first}
 use Rattle.lw_base.specs.Names.{IsLocation}
 use Rattle.lw_cells.specs.Operands.{IsOperand}
 
@@ -73,14 +71,18 @@ same_word a b e = (pointwise_decides unsigned_Decides a b).0 (sym e)
 pub other_word : (a b : List ℕ) → false ≡ bytes_eq a b → b ≡ a → ⊥
 other_word a b e same = true≢false (sym ((pointwise_decides unsigned_Decides a b).1 (sym same)) ∙ sym e)
 
-decimal_first : (b : ℕ) → digit_value b < 10 → is_ascii_digit b ≡ true
-decimal_first b h = let r = digit_from_value b h in grind arith
-
--- a number begins with a digit
-pub number_first : (w : List ℕ) (n : ℕ) → IsNumber w n → begins is_ascii_digit w ≡ true
-number_first [] n (b, inl d) = absurd (omega (arith, d.0))
-number_first (c ∷ w) n (b, inl d) = decimal_first c d.1.0
-number_first w n (b, inr h) = ap (begins is_ascii_digit) h.1
-
 pub location_number : (w : List ℕ) (n : ℕ) → IsLocation w → IsNumber w n → ⊥
 location_number w n loc num = true≢false (sym (number_first w n num) ∙ loc.0.0.front)
+
+-- what stands behind some tokens
+pub drop_get : (ts : List (List ℕ)) (n : ℕ) → slice_get (drop n ts) 0 ≡ slice_get ts n
+drop_get [] zero = refl
+drop_get [] (suc n) = refl
+drop_get (x ∷ ts) zero = refl
+drop_get (x ∷ ts) (suc n) = drop_get ts n
+
+pub drop_next : (ts : List (List ℕ)) (n : ℕ) → slice_get (drop n ts) 1 ≡ slice_get ts (suc n)
+drop_next [] zero = refl
+drop_next [] (suc n) = refl
+drop_next (x ∷ ts) zero = refl
+drop_next (x ∷ ts) (suc n) = drop_next ts n

@@ -15,7 +15,7 @@ use Rattle.lw_base.specs.Types.{Bytes, TokenList}
 use Rattle.lw_base.specs.Characters.{is_blank, is_word_byte, begins}
 use Rattle.lw_base.specs.Names.{IsName}
 use Rattle.lw_text.specs.Tokens.{opens_comment, none, blank, Digits, IsNumber, IsKind, is_pair, is_single, Tokens}
-use Rattle.lw_base.proofs.Blanks.{blank_all}
+use Rattle.lw_base.proofs.api.Blanks.{blank_all}
 
 -- ---- what may follow a text: anything, no byte of a word, a blank, no `*`, or nothing that makes a symbol with a `:`
 

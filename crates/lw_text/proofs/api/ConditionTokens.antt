@@ -14,17 +14,18 @@ use Rattle.lw_base.specs.declared.head.Seen.{Seen}
 use Rattle.lw_base.specs.declared.head.Seen.TheVariants.{Register, Location}
 use Rattle.lw_base.specs.ConditionTexts.{is_or, is_joined}
 use Rattle.lw_base.specs.Formula.{Formula, Yes, No, Reg_is, Word_is, Not, And, Or}
-use Rattle.lw_base.specs.Names.{IsLocation, EachOnce}
-use Rattle.lw_base.proofs.Tables.{IsInTable, index_of-again}
+use Rattle.lw_base.specs.Lists.{EachOnce}
+use Rattle.lw_base.specs.Names.{IsLocation}
+use Rattle.lw_base.proofs.api.Tables.{IsInTable, index_of-again}
 use Rattle.lw_base.specs.Registers.{register_name}
 use Rattle.lw_base.specs.WellFormed.{IsSeen, SpeaksOf}
 use Rattle.lw_text.specs.Sites.{SiteSyntax, InMemory, InThread, IsSite, ThreadExists, Value, site_names, seen_in}
 use Rattle.lw_text.specs.Lists.{Ended}
 use Rattle.lw_text.specs.Propositions.{Terminal, Open, Close, Negation, Conjunction, Disjunction, Atom}
 use Rattle.lw_text.specs.Conditions.{AtomSyntax, Always, Never, Holds, IsTerminal, Terminals, Quantified, sites_in, resolved}
-use Rattle.lw_base.proofs.Elements.{all_append}
-use Rattle.lw_text.proofs.Spelling.{decimal_is_number}
-use Rattle.lw_text.proofs.PrintedPropositions.{enclosed, enclosed_if, terminals_of}
+use Rattle.lw_base.proofs.api.Elements.{all_append}
+use Rattle.lw_text.proofs.api.Spelling.{decimal_is_number}
+use Rattle.lw_text.proofs.api.PrintedPropositions.{enclosed, enclosed_if, terminals_of}
 
 -- ---- tokens
 

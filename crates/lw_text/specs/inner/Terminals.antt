@@ -1,4 +1,4 @@
--- A terminal in memory, as the grammar of propositions sees it.
+-- Used within the crate: a terminal in memory, as the grammar of propositions sees it.
 use Rattle.lw_base.specs.Formula.{Formula, Yes, No, Reg_is, Word_is}
 use Rattle.lw_text.specs.declared.terminal.Terminal.{Terminal}
 use Rattle.lw_text.specs.declared.terminal.Terminal.TheVariants as made

@@ -2,11 +2,11 @@ use Rattle.std.proofs.Common.{refl, sym, subst, arith}
 use Rattle.std.proofs.lemmas.List.{take_all}
 use Rattle.std.proofs.lemmas.Result.{err_from_is_err_and}
 use Rattle.lw_text.specs.Places.{IsWithin}
-use Rattle.lw_base.proofs.Returns.{passed_on}
+use Rattle.lw_base.proofs.api.Returns.{passed_on}
 use Rattle.lw_cells.proofs.Drafts.{at_most_room, cells_cut, cells_more, draft_none, draft_step, labels_none, statement_none}
 use Rattle.lw_cells.proofs.FaultPlaces.{labels_tell, statement_tells}
 use Rattle.lw_cells.specs.Drafts.{DraftRead}
-use Rattle.lw_cells.proofs.column.read_cells.Goals as goal
+use Rattle.lw_cells.proofs.column.read_drafts.Goals as goal
 
 pub loop-cell-init : goal.loop-cell-init
 loop-cell-init g c = rw c.new-drafts.ensures (draft_none g.L.StatementReader.grammar g.L.StatementReader.draft_of _ c.new-labels.result (λ n. rw c.new-labels.ensures.empty refl))

@@ -1,4 +1,4 @@
--- Sites, entries and terminals in memory, whose locations are resolved to numbers, and their names.
+-- Used within the crate: sites, entries and terminals in memory, whose locations are resolved to numbers, and their names.
 use Rattle.std.specs.Prelude.{◌≡◌, ℕ, suc, ◌<◌, ◌≤◌, Bool, true, nat_lt, Option, None, Some, List, [], ◌++◌, length, map, filter, fold, if◌then◌else◌, slice_index_or, All}
 use Rattle.std.specs.List.{list_any, range_with_len}
 use Rattle.lw_base.specs.Types.{NameTable, Bytes, TokenList}

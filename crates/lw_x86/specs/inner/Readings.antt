@@ -1,4 +1,4 @@
--- What is read of an instruction, and why it is refused.
+-- Used within the crate: what is read of an instruction, and why it is refused.
 use Rattle.std.specs.Prelude.{◌≡◌, ◌⊎◌, ℕ, Some, List, take, slice_get}
 use Rattle.lw_base.specs.Types.{Bytes, NameTable, TokenList}
 use Rattle.lw_base.specs.declared.fault.CellFault.{CellFault}
@@ -17,8 +17,8 @@ use Rattle.lw_x86.specs.declared.jump.Jump.TheVariants.{Equal, NotEqual, Always}
 use Rattle.lw_x86.specs.declared.mnemonic.Mnemonic.{Mnemonic}
 use Rattle.lw_x86.specs.declared.mnemonic.Mnemonic.TheVariants.{Je, Jne, Jmp}
 use Rattle.lw_x86.specs.Instructions.{MemoryFirst, MemoryLast, AtFirst, AtLast}
-use Rattle.lw_x86.specs.Mnemonics.{mnemonic_text, Names}
-use Rattle.lw_x86.specs.Drafts.{draft_of}
+use Rattle.lw_x86.specs.inner.Mnemonics.{mnemonic_text, Names}
+use Rattle.lw_x86.specs.inner.Drafts.{draft_of}
 use Rattle.lw_x86.specs.Grammar.{x86_grammar}
 
 -- The first token is this mnemonic.

@@ -1,4 +1,4 @@
--- Drafts of statements: whole ones, and jumps with the index of their label.
+-- Used within the crate: drafts of statements: whole ones, and jumps with the index of their label.
 use Rattle.std.specs.Prelude.{ℕ}
 use Rattle.lw_base.specs.Types.{NameTable, TokenList}
 use Rattle.lw_cells.specs.declared.draft.Draft.{Draft}

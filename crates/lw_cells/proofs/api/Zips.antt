@@ -1,4 +1,4 @@
--- Two lists of which each item of one stands to its fellow in a relation.
+-- Two lists of which each item of one stands to its fellow in a relation. The printer of canonical texts uses this.
 use Rattle.std.proofs.Common.{◌≡◌, ℕ, zero, suc, Some, List, [], ◌∷◌, ◌++◌, length, take, drop, replicate, refl, ap, subst}
 use Rattle.std.specs.Prelude.{slice_get}
 use Rattle.std.specs.List.{AllZip}

@@ -1,4 +1,4 @@
--- The words that instructions begin with.
+-- Used within the crate: the words that instructions begin with.
 use Rattle.std.specs.Prelude.{List, [], ◌∷◌, codes}
 use Rattle.lw_base.specs.Types.{Bytes}
 use Rattle.lw_x86.specs.declared.mnemonic.Mnemonic.{Mnemonic}

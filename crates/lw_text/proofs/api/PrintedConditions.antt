@@ -24,10 +24,10 @@ use Rattle.lw_base.specs.WellFormed.{IsSeen, SpeaksOf}
 use Rattle.lw_text.specs.Tokens.{is_pair}
 use Rattle.lw_text.specs.Propositions.{Terminal, Close, Conjunction, Disjunction, Atom}
 use Rattle.lw_text.specs.Conditions.{AtomSyntax, Always, Never, Holds}
-use Rattle.lw_base.proofs.Blanks.{blank_all}
-use Rattle.lw_text.proofs.Spelling.{Anything, EndsWord, IsBlankNext, HasNoStar, HasNoEquals, Spells, name_by_test, Spells-then, Spells-on, Spells-before, Spells-within, Spells-space, Spells-symbol, Spells-mark, Spells-pair, Spells-name, Spells-number, decimal_is_word}
-use Rattle.lw_text.proofs.PrintedPropositions.{enclosed, enclosed_if, terminals_of}
-use Rattle.lw_text.proofs.ConditionTokens.{named_site, site_tokens, value_tokens, named_claim, terminal_tokens, quantifier_tokens}
+use Rattle.lw_base.proofs.api.Blanks.{blank_all}
+use Rattle.lw_text.proofs.api.Spelling.{Anything, EndsWord, IsBlankNext, HasNoStar, HasNoEquals, Spells, name_by_test, Spells-then, Spells-on, Spells-before, Spells-within, Spells-space, Spells-symbol, Spells-mark, Spells-pair, Spells-name, Spells-number, decimal_is_word}
+use Rattle.lw_text.proofs.api.PrintedPropositions.{enclosed, enclosed_if, terminals_of}
+use Rattle.lw_text.proofs.api.ConditionTokens.{named_site, site_tokens, value_tokens, named_claim, terminal_tokens, quantifier_tokens}
 
 -- ---- registers
 
@@ -84,22 +84,22 @@ starts_word : (w : Bytes) → 0 < length w → AllByRecursion (λ b. is_word_byt
 starts_word [] some all = absurd (omega arith)
 starts_word (b ∷ w) some all = (b, w, refl, no_star b all.0)
 
-module _ (arch : Arch) (threads : ℕ) (few : threads ≤ 4) (names : NameTable) (table : AllByRecursion IsLocation names) where
-  name_there : (x : ℕ) → x < length names → IsLocation (slice_index_or names x [])
-  name_there x h = All-from_recursion IsLocation names table x [] h
+pub name_there : (names : NameTable) (x : ℕ) → AllByRecursion IsLocation names → x < length names → IsLocation (slice_index_or names x [])
+name_there names x table h = All-from_recursion IsLocation names table x [] h
 
+module _ (arch : Arch) (threads : ℕ) (few : threads ≤ 4) (names : NameTable) (table : AllByRecursion IsLocation names) where
   pub site_spelled : (s : Seen) → IsSeen threads (length names) s → Spells EndsWord 43 (site_text arch names s) (site_tokens arch (named_site names s))
   site_spelled (Register t r) h =
       let number = Spells-number t (omega (arith, h.0, few)) in
       let register = Spells-register arch r h.1 in
       (Spells-then (λ rest g. refl) number (Spells-then (λ rest g. name_no_equals (register_name arch r) rest (register_is_name arch r h.1)) Spells-colon register))
-  site_spelled (Location x) h = Spells-within 43 (omega arith) (Spells-name (slice_index_or names x []) (name_there x h).0)
+  site_spelled (Location x) h = Spells-within 43 (omega arith) (Spells-name (slice_index_or names x []) (name_there names x table h).0)
 
   site_starts : (s : Seen) → IsSeen threads (length names) s → Starts (site_text arch names s)
   site_starts (Register t r) h =
       let small : t < 2 ^ 32 = omega (arith, h.0, few) in
       starts-then (decimal t) (codes ":" ++ register_name arch r) (starts_word (decimal t) (decimal_nonempty t (omega (arith, small))) (decimal_is_word t small))
-  site_starts (Location x) h = let n = (name_there x h).0 in starts_word (slice_index_or names x []) n.0.some n.0.all
+  site_starts (Location x) h = let n = (name_there names x table h).0 in starts_word (slice_index_or names x []) n.0.some n.0.all
 
   -- a site with its word, as `x=1`
   pub assignment_spelled : (s : Seen) (n : ℕ) → IsSeen threads (length names) s → n < 2 ^ 32 → Spells EndsWord 54 (assignment (site_text arch names s) n) (site_tokens arch (named_site names s) ++ value_tokens n)

@@ -1,4 +1,4 @@
--- Drafts of instructions: whole ones, and jumps with the index of their label; and what is read of them.
+-- Used within the crate: drafts of instructions: whole ones, and jumps with the index of their label; and what is read of them.
 use Rattle.std.specs.Prelude.{ℕ}
 use Rattle.lw_cells.specs.declared.draft.Draft.{Draft}
 use Rattle.lw_cells.specs.declared.draft.Draft.TheVariants.{Whole, Jumping}

@@ -1,0 +1,5 @@
+-- What the crate's proofs offer to those of other crates.
+pub mod Zips
+pub mod TokenRows
+pub mod Causes
+pub mod Tests

@@ -1,0 +1,10 @@
+-- What the crate's proofs offer to those of other crates.
+pub mod Numbers
+pub mod Places
+pub mod Indices
+pub mod PropositionNodes
+pub mod Spelling
+pub mod PrintedPropositions
+pub mod ConditionTokens
+pub mod PrintedConditions
+pub mod Frames

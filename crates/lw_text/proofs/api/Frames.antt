@@ -1,0 +1,25 @@
+-- A text has at most one frame. lw_x86 uses this.
+use Rattle.std.proofs.Common.{◌≡◌, map, sym, ap, ◌∙◌, subst}
+use Rattle.lw_base.specs.Types.{Bytes}
+use Rattle.lw_base.specs.declared.head.Arch.{Arch}
+use Rattle.lw_base.specs.Formula.{Formula}
+use Rattle.lw_text.specs.Tokens.{Tokens}
+use Rattle.lw_text.specs.Propositions.{IsProposition}
+use Rattle.lw_text.specs.Conditions.{resolved}
+use Rattle.lw_text.specs.Frames.{TestSyntax, table, Parts, TestFrame, HasFrame, made_of}
+use Rattle.lw_text.proofs.Headings.{Heading-unique}
+use Rattle.lw_text.proofs.Derivations.{IsProposition-unique}
+use Rattle.lw_text.proofs.TokenRows.{Tokens-unique}
+use Rattle.lw_text.proofs.Whole.{Parts-unique}
+
+pub HasFrame-unique : (text : Bytes) (f g : TestFrame) → HasFrame text f → HasFrame text g → f ≡ g
+HasFrame-unique text f g p q =
+    let head = Heading-unique text p.arch p.name p.rest q.arch q.name q.rest p.heading q.heading in
+    let tokens = Tokens-unique p.tokens q.tokens q.rest (subst (λ x. Tokens x p.tokens) head.2 p.row) q.row in
+    let parts = subst (λ a. Parts a q.tokens p.syntax) head.0 (subst (λ x. Parts p.arch x p.syntax) tokens p.parts) in
+    let syntax : p.syntax ≡ q.syntax = Parts-unique q.arch q.tokens p.syntax q.syntax parts q.parts in
+    let condition : p.condition ≡ q.condition = IsProposition-unique (map (resolved (table q.syntax)) q.syntax.terminals) p.condition q.condition (subst (λ (s : TestSyntax). IsProposition (map (resolved (table s)) s.terminals) p.condition) syntax p.proposition) q.proposition in
+    let arch : p.arch ≡ q.arch = head.0 in
+    let name : p.name ≡ q.name = head.1 in
+    p.made ∙ ap (λ (a : Arch). made_of a p.name p.syntax p.condition) arch ∙ ap (λ n. made_of q.arch n p.syntax p.condition) name ∙ ap (λ (s : TestSyntax). made_of q.arch q.name s p.condition) syntax
+    ∙ ap (λ (c : Formula). made_of q.arch q.name q.syntax c) condition ∙ sym q.made

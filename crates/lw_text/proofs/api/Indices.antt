@@ -1,0 +1,13 @@
+-- The first so many of all numbers are their own indices. The page of a replay is printed by this.
+use Rattle.std.proofs.Common.{◌≡◌, ℕ, ◌<◌, ◌≤◌, List, length, take, get_or, ap, ◌∙◌, arith, zero-add}
+use Rattle.std.specs.List.{range_with_len}
+use Rattle.std.proofs.lemmas.List.{get_or-take, length-take}
+use Rattle.std.proofs.lemmas.List.FromFn.{get_or-range_with_len, length-range_with_len}
+
+-- an element of the first so many numbers is its index
+pub is_index : (n len k x : ℕ) (all xs : List ℕ) → all ≡ range_with_len 0 n → xs ≡ take len all → k < length xs → x ≡ get_or xs k x → x ≡ k
+is_index n len k x all xs e f lt is =
+    let cut : xs ≡ take len (range_with_len 0 n) = f ∙ ap (take len) e in
+    let short : length xs ≤ n = omega (arith, ap length cut, length-take len (range_with_len 0 n), length-range_with_len 0 n) in
+    let at : get_or (take len (range_with_len 0 n)) k x ≡ get_or (range_with_len 0 n) k x = get_or-take len (range_with_len 0 n) k x (omega (arith, ap length cut, length-take len (range_with_len 0 n))) in
+    is ∙ ap (λ l. get_or l k x) cut ∙ at ∙ get_or-range_with_len 0 n k x (omega arith) ∙ zero-add k

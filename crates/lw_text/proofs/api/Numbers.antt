@@ -1,0 +1,35 @@
+-- What the tokens of numbers begin with, and that each stands for one number. The crates of the languages use this.
+use Rattle.std.proofs.Common.{◌≡◌, ℕ, ◌<◌, inl, inr, true, [], ◌∷◌, ◌++◌, ap, subst, arith}
+use Rattle.std.specs.Prelude.{codes}
+use Rattle.std.specs.Char.{digit_value, is_ascii_digit}
+use Rattle.std.proofs.lemmas.Bool.Decides.{nat_tests}
+use Rattle.lw_base.specs.Characters.{begins}
+use Rattle.lw_base.specs.Types.{Bytes}
+use Rattle.lw_text.specs.Tokens.{Digits, IsNumber}
+use Rattle.lw_text.proofs.Numbers.{Digits-unique}
+
+decimal_first : (b : ℕ) → digit_value b < 10 → is_ascii_digit b ≡ true
+decimal_first b h = grind (arith, nat_tests)
+
+-- a number begins with a digit
+pub number_first : (w : Bytes) (n : ℕ) → IsNumber w n → begins is_ascii_digit w ≡ true
+number_first [] n (b, inl d) = absurd (omega arith)
+number_first (x ∷ w) n (b, inl d) = decimal_first x d.1.0
+number_first w n (b, inr h) = ap (begins is_ascii_digit) h.1
+
+pub bracket_no_number : (n : ℕ) → IsNumber (codes "[") n → ⊥
+bracket_no_number n h = let k = number_first (codes "[") n h in cc
+
+-- decimal digits don't begin with `0x`
+no_both : (w ds : Bytes) (n : ℕ) → Digits 10 0 w n → w ≡ codes "0x" ++ ds → ⊥
+no_both w ds n d e = let h : Digits 10 0 (48 ∷ 120 ∷ ds) n = subst (λ l. Digits 10 0 l n) e d in omega (arith, h.1.0)
+
+pub number-unique : (w : Bytes) (m n : ℕ) → IsNumber w m → IsNumber w n → m ≡ n
+number-unique w m n (a, inl p) (b, inl q) = Digits-unique 10 0 w m n p.1 q.1
+number-unique w m n (a, inl p) (b, inr q) = absurd (no_both w q.0 m p.1 q.1)
+number-unique w m n (a, inr p) (b, inl q) = absurd (no_both w p.0 n q.1 p.1)
+number-unique w m n (a, inr p) (b, inr q) =
+    let f = p.1 in
+    let g = q.1 in
+    let e : q.0 ≡ p.0 = cc in
+    Digits-unique 16 0 p.0 m n p.3 (subst (λ l. Digits 16 0 l n) e q.3)

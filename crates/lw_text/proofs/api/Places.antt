@@ -1,0 +1,20 @@
+-- Tokens and cells in memory are those with places when the places are left out. The crates above use this.
+use Rattle.std.proofs.Common.{◌≡◌, List, [], ◌∷◌, refl, ap, ◌∙◌}
+use Rattle.lw_text.specs.declared.token.Token.{Token}
+use Rattle.lw_text.specs.declared.cell.Cell.{Cell}
+use Rattle.lw_text.specs.Spans.{texts}
+use Rattle.lw_text.specs.PlacedTokens.{texts_of_tokens}
+use Rattle.lw_text.specs.PlacedCells.{texts_of_cells, texts_of_grid}
+use Rattle.lw_text.specs.Places.{placed_tokens, placed_row, placed_cells, cells_texts, all_texts}
+
+pub texts_placed : (ts : List Token) → texts_of_tokens (placed_tokens ts) ≡ texts ts
+texts_placed [] = refl
+texts_placed (t ∷ ts) = ap (λ x. t.text.now ∷ x) (texts_placed ts)
+
+pub cells_placed : {A : Type 0} (cells : List (Cell A)) → texts_of_cells (placed_row cells) ≡ cells_texts cells
+cells_placed [] = refl
+cells_placed (cell ∷ cells) = ap (λ x. x ∷ texts_of_cells (placed_row cells)) (texts_placed cell.tokens) ∙ ap (λ xs. texts cell.tokens ∷ xs) (cells_placed cells)
+
+pub grid_placed : {A : Type 0} (rows : List (List (Cell A))) → texts_of_grid (placed_cells rows) ≡ all_texts rows
+grid_placed [] = refl
+grid_placed (row ∷ rows) = ap (λ x. x ∷ texts_of_grid (placed_cells rows)) (cells_placed row) ∙ ap (λ xs. cells_texts row ∷ xs) (grid_placed rows)

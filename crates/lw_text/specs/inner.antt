@@ -1,0 +1,4 @@
+-- What only the readers within the crate speak of: no public call cites it.
+pub mod Terminals
+pub mod Pending
+pub mod Resolved
