@@ -4,10 +4,10 @@ use Rattle.lw_base.specs.Outcomes.{Final}
 use Rattle.lw_memory.specs.Flat.{flat}
 use Rattle.lw_mesi.specs.declared.protocol.Protocol.{Protocol}
 use Rattle.lw_interleaving.specs.Runs.{SourceOutcome}
-use Rattle.lw_litmus.specs.Sources.{SourceTest}
+use Rattle.lw_litmus.specs.Tests.{SourceTest, ProgramTest}
 use Rattle.lw_tso.specs.Runs.{MachineOutcome}
-use Rattle.lw_litmus.specs.Programs.{ProgramTest, IsWellFormedProgram}
-use Rattle.lw_finals.specs.Machines.{OutcomeOverCaches}
+use Rattle.lw_litmus.specs.Programs.{IsWellFormedProgram}
+use Rattle.lw_whole.specs.OverCaches.{OutcomeOverCaches}
 
 -- outcomes over caches, by those over flat memory
 pub by_flat : (test : SourceTest) (program : ProgramTest)

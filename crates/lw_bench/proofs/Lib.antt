@@ -10,3 +10,5 @@ pub mod Compilations
 pub mod Told
 pub mod ListingTexts
 pub mod TestReports
+pub mod Searches
+pub mod Classics

@@ -9,7 +9,7 @@ use Rattle.std.specs.declared.cmp.Ordering.TheVariants.{Less}
 use Rattle.lw_base.specs.Heads.{TestHead}
 use Rattle.lw_base.specs.Outcomes.{Final, final_cmp}
 use Rattle.lw_base.specs.declared.event.Event.{Event}
-use Rattle.lw_finals.specs.Listings.{Entries, outcomes_of, schedules_of, IsStrictlySorted}
+use Rattle.lw_listing.specs.Listings.{Entries, outcomes_of, schedules_of, IsStrictlySorted}
 use Rattle.lw_report.specs.Reports.{IsReport, IsScheduleList, report_text, schedule_list_text, scheduled}
 use Rattle.lw_report.specs.States.{Shown, AreStatesOf, IsSmallestOf, ListedState, shown_of, ShowsFirst, AreListedStates}
 use Rattle.lw_report.specs.declared.judgement.Claim.{Claim}

@@ -3,11 +3,11 @@ use Rattle.std.proofs.Common.{◌≡◌, sym, ap, ◌∙◌}
 use Rattle.lw_base.specs.declared.head.Arch.{Arch}
 use Rattle.lw_base.specs.declared.head.Arch.TheVariants.{Source, X86}
 use Rattle.lw_text.specs.Frames.{TestFrame}
-use Rattle.lw_litmus.specs.Sources.{SourceTest}
+use Rattle.lw_litmus.specs.Tests.{SourceTest, ProgramTest}
 use Rattle.lw_source.specs.Grammar.{HasSource}
-use Rattle.lw_litmus.specs.Programs.{ProgramTest}
 use Rattle.lw_x86.specs.Grammar.{HasProgram}
-use Rattle.lw_bench.specs.LitmusTests.{LitmusTest, Of_source, Of_x86, FrameSays}
+use Rattle.lw_bench.specs.LitmusTests.{LitmusTest, Of_source, Of_x86}
+use Rattle.lw_bench.specs.TestTexts.{FrameSays}
 
 apart : (let arch : Arch = Source in arch) ≡ X86 → ⊥
 apart same = cc

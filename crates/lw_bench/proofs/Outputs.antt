@@ -3,7 +3,8 @@ use Rattle.std.proofs.Common.{◌≡◌, ◌≤◌, ◌⊎◌, inl, inr, ℕ, Op
 use Rattle.std.proofs.lemmas.List.{append-nil}
 use Rattle.std.specs.Io.KnownBytes.{Appends}
 use Rattle.lw_bench.specs.Devices.{IsInput}
-use Rattle.lw_bench.specs.LitmusTests.{LitmusTest, HasTest}
+use Rattle.lw_bench.specs.LitmusTests.{LitmusTest}
+use Rattle.lw_bench.specs.TestTexts.{HasTest}
 use Rattle.lw_bench.specs.Outputs.{Makes, Writes}
 
 -- Bytes that came in: the whole input, or more than a test has.

@@ -5,12 +5,12 @@ use Rattle.lw_base.specs.declared.stop.End.{End}
 use Rattle.lw_base.specs.Schedules.{IsSchedule}
 use Rattle.lw_mesi.specs.declared.protocol.Protocol.{Protocol}
 use Rattle.lw_bench.specs.LitmusTests.{LitmusTest, head_of_test}
-use Rattle.lw_bench.specs.Replays.{EventsTell, IsReplayPage}
+use Rattle.lw_bench.specs.Replays.{IsPageOf, IsReplayPage}
 
 -- A page tells of a test that was read, by the schedule's events, over the caches of a protocol.
 pub page_told : (protocol p : Protocol) (test made : LitmusTest) (locs : List (List ℕ)) (schedule : List ℕ) (events listed : List Event) (page : List ℕ) (end : End)
     → protocol ≡ p → test ≡ made → locs ≡ (head_of_test test).locs → IsSchedule locs schedule events → listed ≡ events
-    → EventsTell p made listed page end → IsReplayPage protocol test schedule page end
+    → IsPageOf p made listed page end → IsReplayPage protocol test schedule page end
 page_told protocol p test made locs schedule events listed page end kept same table is_schedule all tells =
     record {
       events = events;

@@ -8,21 +8,22 @@ use Rattle.lw_base.specs.Heads.{TestHead}
 use Rattle.lw_base.specs.Outcomes.{Final, IsOutcomeOf}
 use Rattle.lw_base.specs.Schedules.{IsEvent}
 use Rattle.lw_base.specs.declared.event.Event.{Event}
-use Rattle.lw_finals.specs.declared.fault.ListFault.{ListFault}
-use Rattle.lw_finals.specs.Listings.{Entries, outcomes_of, schedules_of, IsStrictlySorted, IsEntryOf}
+use Rattle.lw_choices.specs.declared.fault.ListFault.{ListFault}
+use Rattle.lw_base.specs.Entries.{IsEntryOf}
+use Rattle.lw_listing.specs.Listings.{Entries, outcomes_of, schedules_of, IsStrictlySorted}
 use Rattle.lw_finals.specs.Lists.{ListsMachine}
-use Rattle.lw_finals.specs.Machines.{ReplaysOverCaches, OutcomeOverCaches}
+use Rattle.lw_whole.specs.OverCaches.{ReplaysOverCaches, OutcomeOverCaches}
 use Rattle.lw_mesi.specs.declared.protocol.Protocol.{Protocol}
 use Rattle.lw_mesi.specs.declared.protocol.Protocol.TheVariants.{Mesi}
 use Rattle.lw_report.specs.Reports.{report_text, schedule_list_text, scheduled}
 use Rattle.lw_report.specs.States.{ListedState, shown_of, AreListedStates}
 use Rattle.lw_report.specs.declared.judgement.Claim.TheVariants.{Exact}
 use Rattle.lw_interleaving.specs.Runs.{SourceOutcome}
-use Rattle.lw_litmus.specs.Sources.{SourceTest}
-use Rattle.lw_litmus.specs.Programs.{ProgramTest}
+use Rattle.lw_litmus.specs.Tests.{SourceTest, ProgramTest}
 use Rattle.lw_bench.specs.LitmusTests.{LitmusTest, Of_source, Of_x86, head_of_test}
-use Rattle.lw_bench.specs.Lists.{OutcomeOf, LeadsTo, HasList, IsStatesReport, IsScheduleReport}
-use Rattle.lw_bench.specs.Listed.{IsListOf}
+use Rattle.lw_bench.specs.Outcomes.{OutcomeOf, LeadsTo}
+use Rattle.lw_bench.specs.Lists.{HasList, IsStatesReport, IsScheduleReport}
+use Rattle.lw_bench.specs.inner.Listed.{IsListOf}
 use Rattle.lw_bench.proofs.ListingTexts.{report_is, schedule_list_is}
 
 -- what is told of the list of a source test

@@ -11,13 +11,14 @@ use Rattle.lw_base.specs.declared.fault.ScheduleFault.{ScheduleFault}
 use Rattle.lw_text.specs.declared.fault.TextCause.{TextCause}
 use Rattle.lw_text.specs.declared.fault.TextCause.TheVariants as text
 use Rattle.lw_text.specs.declared.fault.TextFault.{TextFault}
-use Rattle.lw_finals.specs.declared.fault.ListFault.{ListFault}
-use Rattle.lw_finals.specs.declared.fault.ListFault.TheVariants as list
+use Rattle.lw_choices.specs.declared.fault.ListFault.{ListFault}
+use Rattle.lw_choices.specs.declared.fault.ListFault.TheVariants as list
 use Rattle.lw_bench.specs.declared.fault.BenchFault.{BenchFault}
 use Rattle.lw_bench.specs.declared.fault.BenchFault.TheVariants.{Text, Cell, Schedule, Limit, Memory, Read, Write}
 use Rattle.lw_bench.specs.Devices.{IsInput}
 use Rattle.lw_bench.specs.Faults.{text_fault, told_text, cell_fault, told_cell, schedule_fault, told_schedule, told_limit}
-use Rattle.lw_bench.specs.LitmusTests.{LitmusTest, HasTest}
+use Rattle.lw_bench.specs.LitmusTests.{LitmusTest}
+use Rattle.lw_bench.specs.TestTexts.{HasTest}
 use Rattle.lw_bench.specs.Told.{TellsText, TellsCell, TellsTest, TellsRun, TellsInput, IsNoDevice}
 use Rattle.lw_bench.proofs.Outputs.{whole, in_whole}
 

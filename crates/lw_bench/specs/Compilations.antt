@@ -5,11 +5,10 @@ use Rattle.lw_base.specs.Types.{Bytes}
 use Rattle.lw_fence.specs.Compiling.{IsCompiled}
 use Rattle.lw_mesi.specs.declared.protocol.Protocol.{Protocol}
 use Rattle.lw_interleaving.specs.Runs.{SourceOutcome}
-use Rattle.lw_litmus.specs.Sources.{SourceTest}
+use Rattle.lw_litmus.specs.Tests.{SourceTest, ProgramTest}
 use Rattle.lw_x86.specs.CanonicalTexts.{canonical_text}
-use Rattle.lw_litmus.specs.Programs.{ProgramTest}
 use Rattle.lw_bench.specs.LitmusTests.{LitmusTest, Of_source, Of_x86}
-use Rattle.lw_finals.specs.Machines.{OutcomeOverCaches}
+use Rattle.lw_whole.specs.OverCaches.{OutcomeOverCaches}
 
 -- The canonical text of a source test's compiled program, which reaches on the whole machine, over all steps, drains and
 -- evictions, exactly the outcomes that the source reaches by interleaving on one memory.

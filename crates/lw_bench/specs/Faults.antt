@@ -15,9 +15,9 @@ use Rattle.lw_text.specs.Causes.{text_cause_number, text_cause_name}
 use Rattle.lw_text.specs.declared.fault.TextCause.{TextCause}
 use Rattle.lw_text.specs.declared.fault.TextCause.TheVariants as text
 use Rattle.lw_text.specs.declared.fault.TextFault.{TextFault}
-use Rattle.lw_finals.specs.Faults.{list_fault_number, list_fault_name}
-use Rattle.lw_finals.specs.declared.fault.ListFault.{ListFault}
-use Rattle.lw_finals.specs.declared.fault.ListFault.TheVariants as list
+use Rattle.lw_choices.specs.Faults.{list_fault_number, list_fault_name}
+use Rattle.lw_choices.specs.declared.fault.ListFault.{ListFault}
+use Rattle.lw_choices.specs.declared.fault.ListFault.TheVariants as list
 use Rattle.lw_bench.specs.declared.fault.BenchFault.{BenchFault}
 use Rattle.lw_bench.specs.declared.fault.BenchFault.TheVariants.{Text, Cell, Schedule, Limit, Memory, Read, Write}
 

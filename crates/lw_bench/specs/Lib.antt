@@ -2,12 +2,15 @@ pub mod Faults
 pub mod Limits
 pub mod Devices
 pub mod LitmusTests
+pub mod Classics
+pub mod TestTexts
 pub mod Compilations
+pub mod Outcomes
 pub mod Lists
-pub mod Listed
 pub mod Outputs
 pub mod Pages
 pub mod Replays
 pub mod Told
 pub mod Commands
 pub mod Tasks
+pub mod inner

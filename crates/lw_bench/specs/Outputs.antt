@@ -3,7 +3,8 @@ use Rattle.std.specs.Prelude.{Option}
 use Rattle.std.specs.Option.{IfSome}
 use Rattle.std.specs.Io.KnownBytes.{Appends}
 use Rattle.lw_base.specs.Types.{Bytes}
-use Rattle.lw_bench.specs.LitmusTests.{LitmusTest, HasTest}
+use Rattle.lw_bench.specs.LitmusTests.{LitmusTest}
+use Rattle.lw_bench.specs.TestTexts.{HasTest}
 
 -- The text is a test, and these bytes are made of it.
 pub record Makes (IsMade : LitmusTest → Bytes → Type 0) (text made : Bytes) : Type 0 where

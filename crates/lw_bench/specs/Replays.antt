@@ -8,14 +8,13 @@ use Rattle.lw_base.specs.Schedules.{IsSchedule}
 use Rattle.lw_mesi.specs.declared.protocol.Protocol.{Protocol}
 use Rattle.lw_memory.specs.Memory.{Memory}
 use Rattle.lw_mesi.specs.CacheLines.{memory_words_of}
-use Rattle.lw_mesi.specs.ProtocolLaws.{caches_by}
+use Rattle.lw_mesi.specs.Protocols.{caches_by}
 use Rattle.lw_interleaving.specs.Runs.{State, start_of, Replayed}
-use Rattle.lw_litmus.specs.Sources.{SourceTest}
+use Rattle.lw_litmus.specs.Tests.{SourceTest, ProgramTest}
 use Rattle.lw_tso.specs.Machines.{MachineState}
 use Rattle.lw_tso.specs.Runs.{machine_start, MachineReplayed}
-use Rattle.lw_litmus.specs.Programs.{ProgramTest}
 use Rattle.lw_bench.specs.LitmusTests.{LitmusTest, Of_source, Of_x86, head_of_test}
-use Rattle.lw_finals.specs.Machines.{caches_at_start}
+use Rattle.lw_whole.specs.OverCaches.{caches_at_start}
 use Rattle.lw_bench.specs.Pages.{source_page, machine_page}
 
 -- The page tells of the state that the events lead to from a source test's start, on one memory, or those before the
@@ -41,12 +40,13 @@ pub record MachinePage
 abbrev pub CachesPage : Protocol → ProgramTest → List Event → Bytes → End → Type 0
 CachesPage protocol test = MachinePage (caches_by protocol) memory_words_of test (caches_at_start test)
 
-abbrev pub EventsTell : Protocol → LitmusTest → List Event → Bytes → End → Type 0
-EventsTell protocol (Of_source test) = SourcePage test
-EventsTell protocol (Of_x86 test) = CachesPage protocol test
+-- The page that is told of the replay of these events, in the language of the test.
+abbrev pub IsPageOf : Protocol → LitmusTest → List Event → Bytes → End → Type 0
+IsPageOf protocol (Of_source test) = SourcePage test
+IsPageOf protocol (Of_x86 test) = CachesPage protocol test
 
 -- The schedule is one of these events, and the page tells of their replay.
 pub record IsReplayPage (protocol : Protocol) (test : LitmusTest) (schedule page : Bytes) (end : End) : Type 0 where
   pub events : List Event
   pub is_schedule : IsSchedule (head_of_test test).locs schedule events
-  pub tells : EventsTell protocol test events page end
+  pub tells : IsPageOf protocol test events page end

@@ -20,15 +20,16 @@ use Rattle.lw_text.specs.PlacedCells.{PlacedCell, texts_of_grid, HasCells}
 use Rattle.lw_cells.specs.Faults.{Tells}
 use Rattle.lw_source.specs.Grammar.{source_grammar}
 use Rattle.lw_x86.specs.Grammar.{x86_grammar}
-use Rattle.lw_finals.specs.Counts.{TellsLimit}
-use Rattle.lw_finals.specs.SourceItems.{source_language}
-use Rattle.lw_finals.specs.X86Items.{x86_language}
-use Rattle.lw_finals.specs.declared.fault.ListFault.{ListFault}
-use Rattle.lw_finals.specs.declared.fault.ListFault.TheVariants as list
+use Rattle.lw_choices.specs.Counts.{TellsLimit}
+use Rattle.lw_choices.specs.SourceItems.{source_behaviour}
+use Rattle.lw_choices.specs.X86Items.{x86_behaviour}
+use Rattle.lw_choices.specs.declared.fault.ListFault.{ListFault}
+use Rattle.lw_choices.specs.declared.fault.ListFault.TheVariants as list
 use Rattle.lw_bench.specs.declared.fault.BenchFault.{BenchFault}
 use Rattle.lw_bench.specs.declared.fault.BenchFault.TheVariants.{Text, Cell, Schedule, Limit, Memory, Read, Write}
 use Rattle.lw_bench.specs.Devices.{TakesInput, TakesSome}
-use Rattle.lw_bench.specs.LitmusTests.{LitmusTest, Of_source, Of_x86, head_of_test, FrameSays, HasTest}
+use Rattle.lw_bench.specs.LitmusTests.{LitmusTest, Of_source, Of_x86, head_of_test}
+use Rattle.lw_bench.specs.TestTexts.{FrameSays, HasTest}
 
 -- The text has no frame, and what its length and its UTF-8 say of the fault is so.
 pub record TellsText (bytes : Bytes) (f : TextFault) : Type 0 where
@@ -114,8 +115,8 @@ TellsReplay schedule test Write = ⊥
 
 -- No list: which limit the test passes.
 abbrev pub TellsLimitOf : LitmusTest → ListFault → Type 0
-TellsLimitOf (Of_source test) = TellsLimit source_language test.threads
-TellsLimitOf (Of_x86 test) = TellsLimit x86_language test.threads
+TellsLimitOf (Of_source test) = TellsLimit source_behaviour test.threads
+TellsLimitOf (Of_x86 test) = TellsLimit x86_behaviour test.threads
 
 abbrev pub TellsNoList : LitmusTest → BenchFault → Type 0
 TellsNoList test f = (limit : ListFault) × (f ≡ Limit limit) × (limit ≢ list.Memory) × TellsLimitOf test limit

@@ -13,8 +13,8 @@ use crate::litmus_test::LitmusTest;
 use crate::run::{Output, run_text};
 use lw_base::Text;
 use lw_fence::compile;
-use lw_finals::outcomes_over_caches_are_flat;
 use lw_litmus::Source;
+use lw_whole::outcomes_over_caches_are_flat;
 use lw_x86::write_program;
 use std::alloc::{AllocError, Allocator};
 

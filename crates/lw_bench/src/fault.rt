@@ -6,7 +6,7 @@ ghost use Rattle.lw_bench.specs.Faults as faults;
 ghost use Rattle.lw_bench.specs.Faults.{told_text, told_cell, told_schedule, told_limit, placed_text, fault_text, usage_text};
 
 use lw_base::{CellCause, CellFault, End, ScheduleCause, ScheduleFault};
-use lw_finals::ListFault;
+use lw_choices::ListFault;
 use lw_text::{TextCause, TextFault};
 use std::alloc::{AllocError, AllocFailed, Allocator};
 

@@ -2,7 +2,7 @@
 ghost use Rattle.std.specs.Prelude.{◌≡◌, ◌≢◌, ◌↔◌, ◌⊎◌, true, false, Err, IfOk, IfErr, OnOk};
 ghost use Rattle.lw_bench.specs.Devices.{TakesInput};
 ghost use Rattle.lw_bench.specs.LitmusTests.{litmus_test_of};
-ghost use Rattle.lw_bench.specs.Listed.{IsListOf};
+ghost use Rattle.lw_bench.specs.inner.Listed.{IsListOf};
 ghost use Rattle.lw_bench.specs.Lists.{IsStatesReport, IsScheduleReport};
 ghost use Rattle.lw_bench.specs.Outputs.{Writes};
 ghost use Rattle.lw_bench.specs.Told.{TellsInput, TellsLimitOf, TellsNoList, TakesAt, IsNoDevice};
@@ -12,7 +12,9 @@ use crate::fault::BenchFault;
 use crate::litmus_test::LitmusTest;
 use crate::run::{Output, run_text};
 use lw_base::Text;
-use lw_finals::{ListFault, Listing, list_raw, list_source};
+use lw_choices::ListFault;
+use lw_finals::{list_raw, list_source};
+use lw_listing::Listing;
 use lw_report::{Claim, states_of, write_report, write_schedules};
 use std::alloc::Allocator;
 

@@ -8,7 +8,8 @@ ghost use Rattle.lw_base.specs.declared.fault.CellCause.TheVariants.{Memory};
 ghost use Rattle.lw_text.specs.Places.{placed_cells};
 ghost use Rattle.lw_text.specs.Views.{frame_of};
 ghost use Rattle.lw_bench.specs.LitmusTests as specs;
-ghost use Rattle.lw_bench.specs.LitmusTests.{FrameSays, HasTest, litmus_test_of, head_of_test};
+ghost use Rattle.lw_bench.specs.TestTexts.{FrameSays, HasTest};
+ghost use Rattle.lw_bench.specs.LitmusTests.{litmus_test_of, head_of_test};
 ghost use Rattle.lw_bench.specs.Told.{TellsTest, TellsIn, IsNoDevice};
 
 use crate::fault::BenchFault;

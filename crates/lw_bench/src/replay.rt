@@ -49,7 +49,7 @@ fn page_of_machine<M: MemorySystem + Drop, A: Allocator + Copy>(
 ) -> Result<(String<A>, End), BenchFault>
     requires threads { length program.now.threads ≤ M.cpus memory }
     requires words { M.content memory ≡ program.now.head.init_words }
-    ensures found { IfOk result (λ x. MachinePage (memory_of M.content M.cpus M.state M.sound M.serves) M.memory
+    ensures found { IfOk result (λ x. MachinePage (memory_of M.content M.state M.serves) M.memory
         (program_of program.now) memory events.now (string_bytes x.0) x.1) }
     ensures fault { IfErr result (λ f. f ≡ BenchFault.Memory) }
 {

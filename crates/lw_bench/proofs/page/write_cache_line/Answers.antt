@@ -1,5 +1,5 @@
 use Rattle.std.proofs.Common.{ℕ, codes, slice_get, refl, sym, ap, ◌∙◌, arith}
-use Rattle.lw_text.proofs.Starts.{is_index}
+use Rattle.lw_text.proofs.api.Indices.{is_index}
 use Rattle.lw_bench.specs.Pages.{named, letter}
 use Rattle.lw_bench.proofs.Pages.{numbered_more, numbered_all, text_written, processor_line_ended}
 use Rattle.lw_bench.proofs.page.write_cache_line.Goals as goal

@@ -4,10 +4,10 @@ use Rattle.std.specs.Option.{option_map}
 use Rattle.std.proofs.lemmas.Option.{slice_get-map, get_or_from_slice_get}
 use Rattle.lw_base.specs.Heads.{head_of}
 use Rattle.lw_memory.specs.declared.system.LineState.{LineState}
-use Rattle.lw_text.proofs.Starts.{is_index}
+use Rattle.lw_text.proofs.api.Indices.{is_index}
 use Rattle.lw_tso.specs.Machines.{buffer_of}
 use Rattle.lw_tso.specs.Processors.{Processor}
-use Rattle.lw_base.proofs.Lists.{get_some}
+use Rattle.lw_base.proofs.api.Lists.{get_some}
 use Rattle.lw_bench.specs.Pages.{processor_lines}
 use Rattle.lw_bench.proofs.Pages.{numbered_more, numbered_all, told_of, thread_told, buffer_told, line_told, three_written}
 use Rattle.lw_bench.proofs.page.write_processors.Goals as goal

@@ -1,7 +1,7 @@
 use Rattle.std.proofs.Common.{◌≡◌, ◌<◌, ℕ, length, take, get_or, refl, sym, ap, ◌∙◌, arith}
 use Rattle.std.specs.Prelude.{slice_index}
 use Rattle.lw_base.specs.Registers.{register_name}
-use Rattle.lw_text.proofs.Starts.{is_index}
+use Rattle.lw_text.proofs.api.Indices.{is_index}
 use Rattle.lw_bench.specs.Pages.{named, word_at, register_names}
 use Rattle.lw_bench.proofs.Pages.{numbered_more, numbered_all, named_written, register_at, thread_line_ended}
 use Rattle.lw_bench.proofs.page.write_thread.Goals as goal

@@ -3,8 +3,8 @@ use Rattle.std.specs.Prelude.{slice_index_or}
 use Rattle.std.specs.Option.{option_map}
 use Rattle.std.proofs.lemmas.Option.{slice_get-map, get_or_from_slice_get}
 use Rattle.lw_interleaving.specs.declared.thread.Thread.{Thread}
-use Rattle.lw_text.proofs.Starts.{is_index}
-use Rattle.lw_base.proofs.Lists.{get_some}
+use Rattle.lw_text.proofs.api.Indices.{is_index}
+use Rattle.lw_base.proofs.api.Lists.{get_some}
 use Rattle.lw_bench.specs.Pages.{thread_line}
 use Rattle.lw_bench.proofs.Pages.{numbered_more, numbered_all, told_of, thread_told}
 use Rattle.lw_bench.proofs.page.write_threads.Goals as goal

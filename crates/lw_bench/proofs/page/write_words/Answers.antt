@@ -1,6 +1,6 @@
 use Rattle.std.proofs.Common.{ℕ, slice_get, refl, sym, ap, ◌∙◌, arith}
 use Rattle.std.specs.Prelude.{slice_index}
-use Rattle.lw_text.proofs.Starts.{is_index}
+use Rattle.lw_text.proofs.api.Indices.{is_index}
 use Rattle.lw_bench.specs.Pages.{named, word_at}
 use Rattle.lw_bench.proofs.Pages.{numbered_more, numbered_all, named_written, line_ended}
 use Rattle.lw_bench.proofs.page.write_words.Goals as goal

@@ -1,6 +1,6 @@
 use Rattle.std.proofs.Common.{inl}
 use Rattle.std.proofs.lemmas.Result.{IfOk-weaker, IfErr-weaker}
-use Rattle.lw_base.proofs.Returns.{passed_on}
+use Rattle.lw_base.proofs.api.Returns.{passed_on}
 use Rattle.lw_bench.specs.LitmusTests.{litmus_test_of}
 use Rattle.lw_bench.proofs.Told.{told_of_test}
 use Rattle.lw_bench.proofs.run.make_of_text.Goals as goal

@@ -1,6 +1,6 @@
 use Rattle.std.proofs.Common.{refl, inl}
 use Rattle.std.proofs.lemmas.Result.{err_from_is_err_and}
-use Rattle.lw_base.proofs.Returns.{passed_on}
+use Rattle.lw_base.proofs.api.Returns.{passed_on}
 use Rattle.lw_bench.specs.declared.fault.BenchFault.TheVariants.{Read, Write}
 use Rattle.lw_bench.specs.Told.{TellsRun}
 use Rattle.lw_bench.proofs.DeviceFaults.{input_told, input_apart, write_apart, fault_apart, answer_apart}

@@ -1,10 +1,12 @@
--- What the list of a test is, of either language.
+-- For readers of this crate, no public call cites it: what the list of a test is, of either language.
 use Rattle.std.specs.Prelude.{◌↔◌, All, Contains}
 use Rattle.lw_base.specs.Outcomes.{Final}
-use Rattle.lw_finals.specs.Listings.{Entries, outcomes_of, IsStrictlySorted, IsEntryOf}
-use Rattle.lw_litmus.specs.Programs.{ProgramTest}
+use Rattle.lw_listing.specs.Listings.{Entries, outcomes_of, IsStrictlySorted}
+use Rattle.lw_base.specs.Entries.{IsEntryOf}
+use Rattle.lw_litmus.specs.Tests.{ProgramTest}
 use Rattle.lw_bench.specs.LitmusTests.{LitmusTest, head_of_test}
-use Rattle.lw_bench.specs.Lists.{OutcomeOf, IsProgramOf, LeadsTo, HasList}
+use Rattle.lw_bench.specs.Outcomes.{OutcomeOf, IsProgramOf, LeadsTo}
+use Rattle.lw_bench.specs.Lists.{HasList}
 
 -- It has exactly the test's outcomes, each once and in their order, with schedules of the program that lead to them; and the test
 -- is within the limits of lists.

@@ -1,0 +1,191 @@
+-- The outcomes of the classic tests, by searches through their runs.
+use Rattle.std.proofs.Common.{◌≡◌, ℕ, zero, suc, ◌^◌, ◌<◌, ◌≤◌, ◌==◌, not, Bool, true, false, List, [], ◌∷◌, refl, sym, ap, ◌∙◌, subst, arith, slice_index, length, None, Some, slice_get}
+use Rattle.std.specs.Char.{is_ascii_digit}
+use Rattle.std.specs.List.{AllByRecursion}
+use Rattle.std.specs.Prelude.{codes, replicate, slice_index_or, Contains}
+use Rattle.std.specs.Option.{ForSome}
+use Rattle.std.proofs.lemmas.Bool.{false≢true}
+use Rattle.std.proofs.lemmas.List.Elements.{All-nil, All-cons}
+use Rattle.std.proofs.lemmas.Option.{none-some, same_Some}
+use Rattle.lw_base.specs.Characters.{is_word_byte}
+use Rattle.lw_base.specs.Formula.{Formula, nodes}
+use Rattle.lw_base.specs.Names.{is_reserved, IsLocation, IsTestName}
+use Rattle.lw_base.specs.Outcomes.{Final}
+use Rattle.lw_base.specs.WellFormed.{IsRegisterNumber, IsWord, SpeaksOf, IsWellFormedHead}
+use Rattle.lw_base.specs.declared.head.Arch.{Arch}
+use Rattle.lw_base.specs.declared.head.Arch.TheVariants.{X86}
+use Rattle.lw_base.specs.declared.head.Quant.{Quant}
+use Rattle.lw_base.specs.declared.head.Quant.TheVariants.{Exists, NotExists}
+use Rattle.lw_base.specs.declared.operand.Operand.TheVariants.{Number}
+use Rattle.lw_litmus.specs.Programs.{x86, target_of, IsWellFormedProgram}
+use Rattle.lw_litmus.specs.Tests.{ProgramTest}
+use Rattle.lw_litmus.specs.WellFormed.{IsStatement, IsThread}
+use Rattle.lw_litmus.specs.declared.instr.Instr.{Instr}
+use Rattle.lw_litmus.specs.declared.instr.Instr.TheVariants as instr
+use Rattle.lw_base.specs.declared.event.Event.{Event}
+use Rattle.lw_base.specs.declared.event.Event.TheVariants.{Step, Drain}
+use Rattle.lw_interleaving.specs.Runs.{start_of, SourceOutcome, outcome_of}
+use Rattle.lw_memory.specs.Flat.{flat}
+use Rattle.lw_report.specs.Truth.{is_true}
+use Rattle.lw_tso.specs.Machines.{MachineState}
+use Rattle.lw_tso.specs.Processors.{Processor}
+use Rattle.lw_tso.specs.Runs.{MachineOutcome, MachineRan, machine_start, machine_outcome}
+use Rattle.lw_tso.proofs.api.Effects.{state}
+use Rattle.lw_bench.specs.Classics.{two_threads, both_loads_are_early, flag_without_message, store_buffering, store_buffering_in_x86, message_passing_in_x86}
+use Rattle.lw_bench.proofs.Searches.{ends_so, searched, machine_ends_so, machine_searched}
+
+is_false : (b : Bool) → not b ≡ true → b ≡ false
+is_false true e = absurd (false≢true e)
+is_false false e = refl
+
+abbrev is_early : Final → Bool
+is_early o = not (is_true store_buffering.head.condition o)
+
+search_of_store_buffering : ends_so store_buffering.threads is_early 5 (start_of store_buffering) ≡ true
+unfolding ends_so
+search_of_store_buffering = refl
+
+pub store_buffering_forbidden : (o : Final) → SourceOutcome store_buffering o → is_true store_buffering.head.condition o ≡ false
+store_buffering_forbidden o run =
+    is_false _ (subst (λ e. is_early e ≡ true) (sym run.1.is)
+    (searched store_buffering.threads is_early 5 run.0 (start_of store_buffering) run.1.end search_of_store_buffering run.1.ran run.1.final))
+
+abbrev lacks_message : Final → Bool
+lacks_message o = not (is_true message_passing_in_x86.head.condition o)
+
+search_of_message_passing : machine_ends_so message_passing_in_x86.threads lacks_message 7 (machine_start message_passing_in_x86 message_passing_in_x86.head.init_words) ≡ true
+unfolding machine_ends_so
+search_of_message_passing = refl
+
+pub message_passing_forbidden : (o : Final) → MachineOutcome flat message_passing_in_x86 message_passing_in_x86.head.init_words o
+    → is_true message_passing_in_x86.head.condition o ≡ false
+message_passing_forbidden o run =
+    is_false _ (subst (λ e. lacks_message e ≡ true) (sym run.1.is)
+    (machine_searched message_passing_in_x86.threads lacks_message 7 run.0 (machine_start message_passing_in_x86 message_passing_in_x86.head.init_words) run.1.end search_of_message_passing run.1.ran run.1.final))
+
+-- ---- the x86 tests are well-formed, so what they do over flat memory they do over caches
+
+one_letter : (w : List ℕ) (b : ℕ) → w ≡ b ∷ [] → is_word_byte b ≡ true → is_ascii_digit b ≡ false → is_reserved (b ∷ []) ≡ false → IsLocation w
+one_letter w b is word front free =
+    rw is ((record { some = omega arith; all = (word, tt); front = front }, omega arith), free)
+
+apart : Contains (codes "y" ∷ []) (codes "x") → ⊥
+apart c = go c.0 c.1 c.2
+  where
+    go : (k : ℕ) → k < 1 → slice_index_or (codes "y" ∷ []) k (codes "x") ≡ codes "x" → ⊥
+    go zero l e = absurd (false≢true (ap (λ (bytes : List ℕ). slice_index bytes 0 == 120) e))
+    go (suc k) l e = omega (arith, l)
+
+head_formed : (name : List ℕ) (arch : Arch) (quant : Quant) (condition : Formula) → IsTestName name → nodes condition ≤ 256 → SpeaksOf 2 2 condition
+    → IsWellFormedHead (two_threads name arch quant condition)
+head_formed name arch quant condition named few speaks = record {
+  name = named;
+  some = omega arith;
+  few = omega arith;
+  table = record {
+    few = omega arith;
+    all = (one_letter (codes "x") 120 refl refl refl refl, (one_letter (codes "y") 121 refl refl refl refl, tt));
+    once = (apart, ((λ c. omega (arith, c.1)), tt));
+  };
+  regs = refl;
+  six = (refl, (refl, tt));
+  register_words = (zeros, (zeros, tt));
+  words = refl;
+  location_words = (omega arith, (omega arith, tt));
+  there = tt;
+  ascending = tt;
+  nodes_few = few;
+  condition = speaks;
+}
+  where
+    zeros : AllByRecursion IsWord (replicate 6 0)
+    zeros = (omega arith, (omega arith, (omega arith, (omega arith, (omega arith, (omega arith, tt))))))
+
+-- an instruction on the locations x and y, of the registers EAX and EBX
+store_formed : (x n : ℕ) → x < 2 → n < 2 ^ 32 → IsStatement x86 2 (instr.Store x (Number n))
+store_formed x n there word = (λ y same. subst (λ k. k < 2) (same_Some x y same) there, All-nil IsRegisterNumber, All-cons IsWord n [] word (All-nil IsWord))
+
+load_formed : (d x : ℕ) → d < 6 → x < 2 → IsStatement x86 2 (instr.Load d x)
+load_formed d x register there = (λ y same. subst (λ k. k < 2) (same_Some x y same) there, All-cons IsRegisterNumber d [] register (All-nil IsRegisterNumber), All-nil IsWord)
+
+two_formed : (first second : Instr) → target_of first ≡ None → target_of second ≡ None → IsStatement x86 2 first → IsStatement x86 2 second
+    → IsThread x86 2 (first ∷ second ∷ [])
+two_formed first second on too a b = record {
+  short = omega arith;
+  there = All-cons (IsStatement x86 2) first (second ∷ []) a (All-cons (IsStatement x86 2) second [] b (All-nil (IsStatement x86 2)));
+  forward = forward;
+}
+  where
+    no_jump : (s : Instr) (k : ℕ) → target_of s ≡ None → ForSome (target_of s) (λ to. (k < to) × (to ≤ 2))
+    no_jump s k none to is = absurd (none-some to (sym none ∙ is))
+
+    forward : (k : ℕ) (s : Instr) → slice_get (first ∷ second ∷ []) k ≡ Some s → ForSome (target_of s) (λ to. (k < to) × (to ≤ 2))
+    forward zero s e = no_jump s 0 (ap target_of (sym (same_Some first s e)) ∙ on)
+    forward (suc zero) s e = no_jump s 1 (ap target_of (sym (same_Some second s e)) ∙ too)
+    forward (suc (suc k)) s e = cc
+
+program_formed : (test : ProgramTest) (a b : List Instr) → test.threads ≡ a ∷ b ∷ [] → test.head.threads ≡ 2 → length test.head.locs ≡ 2 → test.head.arch ≡ X86
+    → IsWellFormedHead test.head → IsThread x86 2 a → IsThread x86 2 b → IsWellFormedProgram test
+program_formed test a b is two locs arch head first second = record {
+  head = head;
+  arch = arch;
+  as_many = ap length is ∙ sym two;
+  code = rw (is, locs) (All-cons (IsThread x86 2) a (b ∷ []) first (All-cons (IsThread x86 2) b [] second (All-nil (IsThread x86 2))));
+}
+
+pub store_buffering_formed : IsWellFormedProgram store_buffering_in_x86
+store_buffering_formed =
+    program_formed store_buffering_in_x86 _ _ refl refl refl refl
+    (head_formed (codes "SB-x86") X86 Exists both_loads_are_early (record { some = omega arith; short = omega arith; all = (refl, (refl, (refl, (refl, (refl, (refl, tt)))))) }) (omega arith)
+    ((omega arith, omega arith, omega arith), (omega arith, omega arith, omega arith)))
+    (two_formed _ _ refl refl (store_formed 0 1 (omega arith) (omega arith)) (load_formed 0 1 (omega arith) (omega arith)))
+    (two_formed _ _ refl refl (store_formed 1 1 (omega arith) (omega arith)) (load_formed 0 0 (omega arith) (omega arith)))
+
+pub message_passing_formed : IsWellFormedProgram message_passing_in_x86
+message_passing_formed =
+    program_formed message_passing_in_x86 _ _ refl refl refl refl
+    (head_formed (codes "MP-x86") X86 NotExists flag_without_message (record { some = omega arith; short = omega arith; all = (refl, (refl, (refl, (refl, (refl, (refl, tt)))))) }) (omega arith)
+    ((omega arith, omega arith, omega arith), (omega arith, omega arith, omega arith)))
+    (two_formed _ _ refl refl (store_formed 0 1 (omega arith) (omega arith)) (store_formed 1 1 (omega arith) (omega arith)))
+    (two_formed _ _ refl refl (load_formed 0 1 (omega arith) (omega arith)) (load_formed 1 0 (omega arith) (omega arith)))
+
+-- both threads store, both load, and then both drain
+early_events : List Event
+early_events = Step 0 ∷ Step 1 ∷ Step 0 ∷ Step 1 ∷ Drain 0 ∷ Drain 1 ∷ []
+
+abbrev at : ℕ → List (ℕ × ℕ) → Processor
+at k buffer = record { position = k; regs = replicate 6 0; zero_flag = false; buffer = buffer }
+
+early_run : MachineRan flat store_buffering_in_x86.threads early_events (machine_start store_buffering_in_x86 (replicate 2 0)) (state (at 2 [] ∷ at 2 [] ∷ []) (1 ∷ 1 ∷ []))
+unfolding early_events
+early_run = (
+  state (at 1 ((0, 1) ∷ []) ∷ at 0 [] ∷ []) (0 ∷ 0 ∷ []),
+  (at 1 ((0, 1) ∷ []), 0 ∷ 0 ∷ [], (refl, refl, refl), refl),
+  (
+    state (at 1 ((0, 1) ∷ []) ∷ at 1 ((1, 1) ∷ []) ∷ []) (0 ∷ 0 ∷ []),
+    (at 1 ((1, 1) ∷ []), 0 ∷ 0 ∷ [], (refl, refl, refl), refl),
+    (
+      state (at 2 ((0, 1) ∷ []) ∷ at 1 ((1, 1) ∷ []) ∷ []) (0 ∷ 0 ∷ []),
+      (at 2 ((0, 1) ∷ []), 0 ∷ 0 ∷ [], (0, refl, refl, (refl, refl)), refl),
+      (
+        state (at 2 ((0, 1) ∷ []) ∷ at 2 ((1, 1) ∷ []) ∷ []) (0 ∷ 0 ∷ []),
+        (at 2 ((1, 1) ∷ []), 0 ∷ 0 ∷ [], (0, refl, refl, (refl, refl)), refl),
+        (
+          state (at 2 [] ∷ at 2 ((1, 1) ∷ []) ∷ []) (1 ∷ 0 ∷ []),
+          (at 2 [], 1 ∷ 0 ∷ [], (refl, refl, (refl, refl)), refl),
+          (
+            state (at 2 [] ∷ at 2 [] ∷ []) (1 ∷ 1 ∷ []),
+            (at 2 [], 1 ∷ 1 ∷ [], (refl, refl, (refl, refl)), refl),
+            refl,
+          ),
+        ),
+      ),
+    ),
+  ),
+)
+
+pub store_buffering_allowed : (o : Final) × MachineOutcome flat store_buffering_in_x86 store_buffering_in_x86.head.init_words o
+    × (is_true store_buffering_in_x86.head.condition o ≡ true)
+store_buffering_allowed =
+    let end : MachineState (List ℕ) = state (at 2 [] ∷ at 2 [] ∷ []) (1 ∷ 1 ∷ []) in
+    (machine_outcome flat end, (early_events, record { end = end; ran = early_run; final = refl; is = refl }), refl)

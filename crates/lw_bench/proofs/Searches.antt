@@ -1,0 +1,141 @@
+-- Exhaustive searches through the runs of small tests: where a search finds that all ends are so, the end of every run is.
+use Rattle.std.proofs.Common.{◌≡◌, ℕ, zero, suc, ◌<◌, ◌&&◌, Bool, true, false, if◌then◌else◌, List, [], ◌∷◌, length, map, Result, Ok, Err, Option, Some, None, refl, sym, ap, ◌∙◌, subst, slice_get, slice_set, slice_index, option_map, nat_lt}
+use Rattle.std.specs.Prelude.{IsTrue}
+use Rattle.std.proofs.lemmas.Bool.{and_parts, agree_below, agree_below_at, false≢true}
+use Rattle.std.proofs.lemmas.Option.{slice_get_within, same_Some}
+use Rattle.lw_base.specs.Outcomes.{Final}
+use Rattle.lw_base.specs.Sums.{sum_of}
+use Rattle.lw_base.specs.declared.event.Event.{Event}
+use Rattle.lw_base.specs.declared.event.Event.TheVariants.{Step, Drain, Evict}
+use Rattle.lw_base.specs.declared.stop.Stop.{Stop}
+use Rattle.lw_base.specs.declared.stop.Stop.TheVariants.{NoCpu, NoLocation, NotHeld}
+use Rattle.lw_interleaving.specs.Runs.{State, step_of, source_step, is_final, outcome_of, Ran}
+use Rattle.lw_interleaving.specs.declared.thread.Thread.{Thread}
+use Rattle.lw_litmus.specs.declared.instr.Instr.{Instr}
+use Rattle.lw_litmus.specs.declared.stmt.Stmt.{Stmt}
+use Rattle.lw_memory.specs.Flat.{flat}
+use Rattle.lw_tso.specs.Acts.{Act, Refused, Goes, Loads, Stores, Swaps, Adds, Evicts, cpu_of, event_act}
+use Rattle.lw_tso.specs.Machines.{MachineState, Answer, ActDone, DoneBy, EventDone}
+use Rattle.lw_tso.specs.Processors.{Processor}
+use Rattle.lw_tso.specs.Runs as machine
+use Rattle.lw_tso.proofs.api.Effects.{state}
+
+if_so : (b : Bool) (x : Bool) → (if b then x else true) ≡ true → b ≡ true → x ≡ true
+if_so true x so is = so
+if_so false x so is = absurd (false≢true is)
+
+-- ---- source tests
+
+module _ (program : List (List Stmt)) (ok : Final → Bool) where
+  abbrev after_ok : (State → Bool) → Result State Stop → Bool
+  after_ok so (Ok s) = so s
+  after_ok so (Err stop) = true
+
+  -- within so many steps every run from the state ends, and with such an outcome
+  unfoldable pub ends_so : ℕ → State → Bool
+  ends_so zero s = false
+  ends_so (suc n) s =
+      (if is_final program s then ok (outcome_of s) else true)
+      && agree_below (λ t. after_ok (ends_so n) (source_step program t s)) (λ t. true) (length s.threads)
+
+  step_within : (t : ℕ) (s mid : State) → source_step program t s ≡ Ok mid → t < length s.threads
+  step_within t s mid = go (slice_get s.threads t) refl
+    where
+      go : (o : Option Thread) → slice_get s.threads t ≡ o → step_of program t s o ≡ Ok mid → t < length s.threads
+      go None at done = absurd (let e : ◌≡◌ {A = Result State Stop} (Err NoCpu) (Ok mid) = done in cc)
+      go (Some th) at done = slice_get_within s.threads t th at
+
+  pub searched : (n : ℕ) (order : List ℕ) (s end : State) → ends_so n s ≡ true
+      → Ran program (map Step order) s end → IsTrue (is_final program end) → ok (outcome_of end) ≡ true
+  unfolding ends_so
+  searched zero order s end so ran final = absurd (false≢true so)
+  searched (suc n) [] s end so ran final =
+      if_so (is_final program end) (ok (outcome_of end)) (subst (λ e. (if is_final program e then ok (outcome_of e) else true) ≡ true) (sym ran) (and_parts _ _ so).0) final
+  searched (suc n) (t ∷ order) s end so ran final =
+      let each = agree_below_at (λ t. after_ok (ends_so n) (source_step program t s)) (λ t. true) (length s.threads) t (and_parts _ _ so).1 (step_within t s ran.0 ran.1) in
+      searched n order ran.0 end (subst (λ r. after_ok (ends_so n) r ≡ true) ran.1 each) ran.2 final
+
+-- ---- x86 tests, over flat memory
+
+-- the processor and the memory after an act that is done
+abbrev pub act_after : Act → List ℕ → Option (Processor × List ℕ)
+act_after (Refused stop) m = None
+act_after (Goes p) m = Some (p, m)
+act_after (Loads x next) m = Some (next (slice_index m x), m)
+act_after (Stores x w p) m = Some (p, slice_set m x w)
+act_after (Swaps x v next) m = Some (next (slice_index m x), slice_set m x v)
+act_after (Adds x v next) m = Some (next (slice_index m x), slice_set m x (sum_of (slice_index m x) v))
+act_after (Evicts x) m = None
+
+act_is : (t : ℕ) (act : Act) (p q : Processor) (m n : List ℕ) → ActDone flat t act p m (Ok tt) q n → act_after act m ≡ Some (q, n)
+act_is t (Refused stop) p q m n d = absurd (let e : ◌≡◌ {A = Answer} (Ok tt) (Err stop) = d.0 in cc)
+act_is t (Goes next) p q m n d = rw (d.1, d.2) refl
+act_is t (Loads x next) p q m n d = let w : Some d.0 ≡ Some (slice_index m x) = d.3.0 in rw (d.2, d.3.1, same_Some d.0 (slice_index m x) w) refl
+act_is t (Stores x w next) p q m n d = rw (d.1, d.2.1) refl
+act_is t (Swaps x v next) p q m n d = let w : Some d.0 ≡ Some (slice_index m x) = d.3.0 in rw (d.2, d.3.1, same_Some d.0 (slice_index m x) w) refl
+act_is t (Adds x v next) p q m n d = let w : Some d.0 ≡ Some (slice_index m x) = d.3.0 in rw (d.2, d.3.1, same_Some d.0 (slice_index m x) w) refl
+act_is t (Evicts x) p q m n d = absurd (let e : ◌≡◌ {A = Answer} (Ok tt) (Err NotHeld) = d.0 in cc)
+
+module _ (program : List (List Instr)) where
+  abbrev pub done_after : Option Processor → Event → MachineState (List ℕ) → Option (MachineState (List ℕ))
+  done_after None e s = None
+  done_after (Some p) e s = option_map (λ (r : Processor × List ℕ). state (slice_set s.processors (cpu_of e) r.0) r.1) (act_after (event_act program (length s.memory) e p) s.memory)
+
+  -- the state after an event that is done
+  abbrev pub event_after : Event → MachineState (List ℕ) → Option (MachineState (List ℕ))
+  event_after e s = done_after (slice_get s.processors (cpu_of e)) e s
+
+  pub event_is : (e : Event) (s after : MachineState (List ℕ)) → EventDone flat program e s (Ok tt) after → event_after e s ≡ Some after
+  event_is e s after = go (slice_get s.processors (cpu_of e))
+    where
+      go : (o : Option Processor) → DoneBy flat o program e s (Ok tt) after → done_after o e s ≡ Some after
+      go None d = absurd (let e : ◌≡◌ {A = Answer} (Ok tt) (Err NoCpu) = d.0 in cc)
+      go (Some p) d =
+          ap (option_map (λ (r : Processor × List ℕ). state (slice_set s.processors (cpu_of e) r.0) r.1)) (act_is (cpu_of e) (event_act program (length s.memory) e p) p d.0 s.memory d.1 d.2)
+          ∙ ap Some (sym d.3)
+
+  module _ (ok : Final → Bool) where
+    abbrev reached_ok : (MachineState (List ℕ) → Bool) → Option (MachineState (List ℕ)) → Bool
+    reached_ok so None = true
+    reached_ok so (Some s) = so s
+
+    -- within so many events every run from the state ends, and with such an outcome
+    unfoldable pub machine_ends_so : ℕ → MachineState (List ℕ) → Bool
+    machine_ends_so zero s = false
+    machine_ends_so (suc n) s =
+        (if machine.is_final program s then ok (machine.machine_outcome flat s) else true)
+        && (agree_below (λ t. reached_ok (machine_ends_so n) (event_after (Step t) s)) (λ t. true) (length s.processors)
+        && agree_below (λ t. reached_ok (machine_ends_so n) (event_after (Drain t) s)) (λ t. true) (length s.processors))
+
+    there : (e : Event) (s after : MachineState (List ℕ)) → EventDone flat program e s (Ok tt) after → cpu_of e < length s.processors
+    there e s after = go (slice_get s.processors (cpu_of e)) refl
+      where
+        go : (o : Option Processor) → slice_get s.processors (cpu_of e) ≡ o → DoneBy flat o program e s (Ok tt) after → cpu_of e < length s.processors
+        go None at d = absurd (let e : ◌≡◌ {A = Answer} (Ok tt) (Err NoCpu) = d.0 in cc)
+        go (Some p) at d = slice_get_within s.processors (cpu_of e) p at
+
+    none_evicted : (t x : ℕ) (s after : MachineState (List ℕ)) → EventDone flat program (Evict t x) s (Ok tt) after → ⊥
+    none_evicted t x s after = go (slice_get s.processors t)
+      where
+        given_up : (b : Bool) (p q : Processor) (m n : List ℕ) → ActDone flat t (if b then Evicts x else Refused NoLocation) p m (Ok tt) q n → ⊥
+        given_up true p q m n d = let e : ◌≡◌ {A = Answer} (Ok tt) (Err NotHeld) = d.0 in cc
+        given_up false p q m n d = let e : ◌≡◌ {A = Answer} (Ok tt) (Err NoLocation) = d.0 in cc
+
+        go : (o : Option Processor) → DoneBy flat o program (Evict t x) s (Ok tt) after → ⊥
+        go None d = let e : ◌≡◌ {A = Answer} (Ok tt) (Err NoCpu) = d.0 in cc
+        go (Some p) d = given_up (nat_lt x (length s.memory)) p d.0 s.memory d.1 d.2
+
+    pub machine_searched : (n : ℕ) (events : List Event) (s end : MachineState (List ℕ)) → machine_ends_so n s ≡ true
+        → machine.MachineRan flat program events s end → IsTrue (machine.is_final program end) → ok (machine.machine_outcome flat end) ≡ true
+    unfolding machine_ends_so
+    machine_searched zero events s end so ran final = absurd (false≢true so)
+    machine_searched (suc n) [] s end so ran final =
+        if_so (machine.is_final program end) (ok (machine.machine_outcome flat end))
+        (subst (λ e. (if machine.is_final program e then ok (machine.machine_outcome flat e) else true) ≡ true) (sym ran) (and_parts _ _ so).0) final
+    machine_searched (suc n) (Step t ∷ events) s end so ran final =
+        let each = agree_below_at (λ t. reached_ok (machine_ends_so n) (event_after (Step t) s)) (λ t. true) (length s.processors) t (and_parts _ _ (and_parts _ _ so).1).0 (there (Step t) s ran.0 ran.1) in
+        machine_searched n events ran.0 end (subst (λ r. reached_ok (machine_ends_so n) r ≡ true) (event_is (Step t) s ran.0 ran.1) each) ran.2 final
+    machine_searched (suc n) (Drain t ∷ events) s end so ran final =
+        let each = agree_below_at (λ t. reached_ok (machine_ends_so n) (event_after (Drain t) s)) (λ t. true) (length s.processors) t (and_parts _ _ (and_parts _ _ so).1).1 (there (Drain t) s ran.0 ran.1) in
+        machine_searched n events ran.0 end (subst (λ r. reached_ok (machine_ends_so n) r ≡ true) (event_is (Drain t) s ran.0 ran.1) each) ran.2 final
+    machine_searched (suc n) (Evict t x ∷ events) s end so ran final = absurd (none_evicted t x s ran.0 ran.1)

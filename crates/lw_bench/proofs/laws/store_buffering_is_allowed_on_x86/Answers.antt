@@ -1,0 +1,8 @@
+use Rattle.lw_bench.proofs.Classics.{store_buffering_formed, store_buffering_allowed}
+use Rattle.lw_bench.specs.Classics.{store_buffering_in_x86}
+use Rattle.lw_bench.proofs.laws.store_buffering_is_allowed_on_x86.Goals as goal
+
+pub returns : goal.returns
+returns c protocol =
+    let over = c.outcomes_over_caches_are_flat.ensures protocol store_buffering_in_x86 store_buffering_allowed.0 store_buffering_formed in
+    (store_buffering_allowed.0, over.1 store_buffering_allowed.1, store_buffering_allowed.2)

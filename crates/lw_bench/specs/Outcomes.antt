@@ -1,0 +1,31 @@
+-- The outcomes of a test of either language, and the program that runs for it.
+use Rattle.std.specs.Prelude.{◌≡◌, ◌↔◌, ℕ, List}
+use Rattle.lw_base.specs.Outcomes.{Final}
+use Rattle.lw_base.specs.declared.event.Event.{Event}
+use Rattle.lw_fence.specs.Compiling.{IsCompiled}
+use Rattle.lw_whole.specs.OverCaches.{OutcomeOverCaches, ReplaysOverCaches}
+use Rattle.lw_mesi.specs.declared.protocol.Protocol.{Protocol}
+use Rattle.lw_mesi.specs.declared.protocol.Protocol.TheVariants.{Mesi}
+use Rattle.lw_interleaving.specs.Runs.{SourceOutcome}
+use Rattle.lw_litmus.specs.Tests.{ProgramTest}
+use Rattle.lw_bench.specs.LitmusTests.{LitmusTest, Of_source, Of_x86}
+
+-- The outcomes of a test: of a source test those that it reaches by interleaving on one memory, of an x86 test those that the
+-- machine reaches, over all schedules of steps, drains and evictions.
+abbrev pub OutcomeOf : LitmusTest → Final → Type 0
+OutcomeOf (Of_source test) = SourceOutcome test
+OutcomeOf (Of_x86 test) = OutcomeOverCaches Mesi test
+
+-- the program that runs for a test: what a source test is compiled to, an x86 test itself
+abbrev pub IsRunFor : LitmusTest → ProgramTest → Type 0
+IsRunFor (Of_source test) program = (starts : List (List ℕ)) × IsCompiled test program starts
+IsRunFor (Of_x86 test) program = program ≡ test
+
+-- That program reaches on the whole machine, over all schedules of steps, drains and evictions, exactly the test's outcomes.
+pub record IsProgramOf (test : LitmusTest) (program : ProgramTest) : Type 0 where
+  pub runs : IsRunFor test program
+  pub outcomes : (protocol : Protocol) (o : Final) → OutcomeOverCaches protocol program o ↔ OutcomeOf test o
+
+-- the schedule leads there to the outcome
+abbrev pub LeadsTo : ProgramTest → List Event → Final → Type 0
+LeadsTo program events o = (protocol : Protocol) → ReplaysOverCaches protocol program events o
