@@ -6,7 +6,8 @@ use Rattle.std.proofs.lemmas.List.Elements.{All-map, All-weaker}
 use Rattle.lw_base.specs.declared.event.Event.{Event}
 use Rattle.lw_base.specs.Heads.{TestHead}
 use Rattle.lw_base.specs.Outcomes.{Final, IsOutcomeOf}
-use Rattle.lw_finals.specs.Listings.{Entries, outcomes_of, IsEntryOf}
+use Rattle.lw_base.specs.Entries.{IsEntryOf}
+use Rattle.lw_listing.specs.Listings.{Entries, outcomes_of}
 
 some_same : (o other : Final) → (let a = Some o in a) ≡ Some other → o ≡ other
 some_same o other e = cc

@@ -1,6 +1,7 @@
 //! Complete lists of source tests whose outcomes and schedules are worked out by hand.
 use lw_base::{Arch, Head, Outcome, Sequence, read_schedule, reg_named};
-use lw_finals::{Listing, list_source};
+use lw_finals::list_source;
+use lw_listing::Listing;
 use lw_litmus::Source;
 use lw_test_reader::source_of;
 use lw_text::number;

@@ -1,6 +1,8 @@
 //! Lists that are made where memory is scarce.
 use linked_list_allocator::LocalHeap;
-use lw_finals::{ListFault, Listing, list_raw, list_source};
+use lw_choices::ListFault;
+use lw_finals::{list_raw, list_source};
+use lw_listing::Listing;
 use lw_test_reader::{Made, MadeInRoom, program_of, refusals, source_of};
 
 /// Store buffering.

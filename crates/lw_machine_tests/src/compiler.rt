@@ -130,13 +130,20 @@ const STORE_BUFFERING: &str = "SRC SB {} P0|P1; x := 1 | y := 1; r0 := y | r0 :=
 /// What it is compiled to.
 struct Compilation;
 
+/// Whether there is memory for what a source test is compiled to.
+fn is_compiled_in<A: Allocator + Copy>(heap: A, source: &Source<A>) -> Option<Made> {
+    match compile(heap, source) {
+        Ok(compiled) if compiled.starts.len() == 2 => Some(Made::Whole),
+        Ok(_) => None,
+        Err(AllocError) => Some(Made::Refused),
+    }
+}
+
 impl MadeInRoom for Compilation {
     fn make_in<'a>(roomy: &'a LocalHeap, heap: &'a LocalHeap) -> Option<Made> {
-        let source = source_of(roomy, STORE_BUFFERING)?;
-        match compile(heap, &source) {
-            Ok(compiled) if compiled.starts.len() == 2 => Some(Made::Whole),
-            Ok(_) => None,
-            Err(AllocError) => Some(Made::Refused),
+        match source_of(roomy, STORE_BUFFERING) {
+            Some(source) => is_compiled_in(heap, &source),
+            None => None,
         }
     }
 }
@@ -144,20 +151,45 @@ impl MadeInRoom for Compilation {
 /// The schedule that a run of it stands for.
 struct Schedule;
 
+/// Whether there is memory for the schedule that a run by these threads stands for.
+fn is_scheduled_in<A: Allocator + Copy>(
+    heap: A,
+    source: &Source<A>,
+    compiled: &Compiled<A>,
+    order: &[Cpu],
+) -> Option<Made>
+    requires compiled { IsCompiled (test_of_source source.now) (program_of compiled.now.program) compiled.now.starts }
+    requires ends { (end : State) × Ran source.now.threads (map Step order.now) (start_of (test_of_source source.now)) end }
+{
+    match schedule_of(heap, source, compiled, order) {
+        Ok(events) if events.len() == 8 => Some(Made::Whole),
+        Ok(_) => None,
+        Err(AllocError) => Some(Made::Refused),
+    }
+}
+
+/// The same of a source test that is compiled where memory is ample.
+fn is_source_scheduled_in<A: Allocator + Copy>(
+    roomy: A,
+    heap: A,
+    source: &Source<A>,
+    order: &[Cpu],
+) -> Option<Made> {
+    if !ends_by(roomy, source, order) {
+        return None;
+    }
+    match compile(roomy, source) {
+        Ok(compiled) => is_scheduled_in(heap, source, &compiled, order),
+        Err(_) => None,
+    }
+}
+
 impl MadeInRoom for Schedule {
     fn make_in<'a>(roomy: &'a LocalHeap, heap: &'a LocalHeap) -> Option<Made> {
         let [p0, p1, ..] = Cpu::all();
-        let source = source_of(roomy, STORE_BUFFERING)?;
-        let Ok(compiled) = compile(roomy, &source) else {
-            return None;
-        };
-        if !ends_by(roomy, &source, &[p0, p1, p0, p1]) {
-            return None;
-        }
-        match schedule_of(heap, &source, &compiled, &[p0, p1, p0, p1]) {
-            Ok(events) if events.len() == 8 => Some(Made::Whole),
-            Ok(_) => None,
-            Err(AllocError) => Some(Made::Refused),
+        match source_of(roomy, STORE_BUFFERING) {
+            Some(source) => is_source_scheduled_in(roomy, heap, &source, &[p0, p1, p0, p1]),
+            None => None,
         }
     }
 }

@@ -3,7 +3,7 @@ use lw_base::{CellCause, CellFault, End, ScheduleCause, ScheduleFault, Stop};
 use lw_bench::{
     BenchFault, Protocol, Task, command_of, done_status, end_status, fault_line, status_of,
 };
-use lw_finals::ListFault;
+use lw_choices::ListFault;
 use lw_text::{TextCause, TextFault};
 use std::alloc::Global;
 use std::test::Fail;

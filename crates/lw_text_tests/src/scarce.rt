@@ -3,8 +3,9 @@ use linked_list_allocator::LocalHeap;
 use lw_base::{Arch, CellCause, CellFault};
 use lw_source::read_source;
 use lw_test_reader::{Made, MadeInRoom, refusals};
-use lw_text::{TextCause, read_frame};
+use lw_text::{Frame, TextCause, TextFault, read_frame};
 use lw_x86::read_program;
+use std::alloc::Allocator;
 
 /// Store buffering, with labels.
 const STORE_BUFFERING: &str =
@@ -17,12 +18,24 @@ const X86_STORE_BUFFERING: &str =
 /// The frame of the first.
 struct ReadFrame;
 
+/// Whether a frame has two threads and two locations.
+fn is_whole<A: Allocator>(frame: &Frame<A>) -> bool {
+    frame.head.threads == 2 && frame.head.locs.len() == 2
+}
+
+/// What becomes of a text that is refused.
+fn refused_text(fault: TextFault) -> Option<Made> {
+    if fault.cause == TextCause::Memory && fault.at == 0 {
+        return Some(Made::Refused);
+    }
+    None
+}
+
 impl MadeInRoom for ReadFrame {
     fn make_in<'a>(_roomy: &'a LocalHeap, heap: &'a LocalHeap) -> Option<Made> {
         match read_frame(heap, STORE_BUFFERING.as_bytes()) {
-            Ok(frame) if frame.head.threads == 2 && frame.head.locs.len() == 2 => Some(Made::Whole),
-            Err(fault) if fault.cause == TextCause::Memory && fault.at == 0 => Some(Made::Refused),
-            _ => None,
+            Ok(frame) => is_whole(&frame).then_some(Made::Whole),
+            Err(fault) => refused_text(fault),
         }
     }
 }
@@ -35,20 +48,39 @@ fn refused(fault: CellFault) -> Option<Made> {
     None
 }
 
+/// What becomes of the source test of a frame.
+fn source_in<A: Allocator + Copy>(heap: A, frame: &Frame<A>) -> Option<Made> {
+    match frame.head.arch {
+        Arch::Source => match read_source(heap, frame) {
+            Ok(source) if source.threads.len() == 2 => Some(Made::Whole),
+            Ok(_) => None,
+            Err(fault) => refused(fault),
+        },
+        Arch::X86 => None,
+    }
+}
+
 /// The test that its cells are.
 struct ReadSource;
 
 impl MadeInRoom for ReadSource {
     fn make_in<'a>(roomy: &'a LocalHeap, heap: &'a LocalHeap) -> Option<Made> {
-        let frame = read_frame(roomy, STORE_BUFFERING.as_bytes()).ok()?;
-        match frame.head.arch {
-            Arch::Source => match read_source(heap, &frame) {
-                Ok(source) if source.threads.len() == 2 => Some(Made::Whole),
-                Ok(_) => None,
-                Err(fault) => refused(fault),
-            },
-            Arch::X86 => None,
+        match read_frame(roomy, STORE_BUFFERING.as_bytes()) {
+            Ok(frame) => source_in(heap, &frame),
+            Err(_) => None,
         }
+    }
+}
+
+/// What becomes of the x86 test of a frame.
+fn program_in<A: Allocator + Copy>(heap: A, frame: &Frame<A>) -> Option<Made> {
+    match frame.head.arch {
+        Arch::Source => None,
+        Arch::X86 => match read_program(heap, frame) {
+            Ok(program) if program.threads.len() == 2 => Some(Made::Whole),
+            Ok(_) => None,
+            Err(fault) => refused(fault),
+        },
     }
 }
 
@@ -57,14 +89,9 @@ struct ReadProgram;
 
 impl MadeInRoom for ReadProgram {
     fn make_in<'a>(roomy: &'a LocalHeap, heap: &'a LocalHeap) -> Option<Made> {
-        let frame = read_frame(roomy, X86_STORE_BUFFERING.as_bytes()).ok()?;
-        match frame.head.arch {
-            Arch::Source => None,
-            Arch::X86 => match read_program(heap, &frame) {
-                Ok(program) if program.threads.len() == 2 => Some(Made::Whole),
-                Ok(_) => None,
-                Err(fault) => refused(fault),
-            },
+        match read_frame(roomy, X86_STORE_BUFFERING.as_bytes()) {
+            Ok(frame) => program_in(heap, &frame),
+            Err(_) => None,
         }
     }
 }

@@ -1,5 +1,5 @@
 use Rattle.std.proofs.Common.{length}
-use Rattle.lw_base.proofs.Formulas.{has_locations}
+use Rattle.lw_base.proofs.api.Formulas.{has_locations}
 use Rattle.lw_base.specs.Heads.{TestHead, head_of}
 use Rattle.lw_list_tests.proofs.judgements.are_judged.Goals as goal
 

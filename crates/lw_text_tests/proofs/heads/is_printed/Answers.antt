@@ -1,6 +1,6 @@
 use Rattle.std.proofs.Common.{length}
 use Rattle.lw_base.specs.Propositions.{formula_of}
-use Rattle.lw_base.proofs.Formulas.{has_locations}
+use Rattle.lw_base.proofs.api.Formulas.{has_locations}
 use Rattle.lw_text_tests.proofs.heads.is_printed.Goals as goal
 
 pub write_condition-requires : goal.write_condition-requires
