@@ -22,7 +22,8 @@
   folder, closed or endless; words that are no UTF-8; each protocol by name.
 - HANDLES is its one line. Beside what is counted in folders and documents stand the least numbers that there must be of it, so that
   a heading that is renamed can't leave its rows unread.
-- No crate that says what tests mean names one that reads texts (tools/check_wings.py).
+- No crate that says what tests mean names one that reads texts (tools/check_wings.py); the definitions on which the meaning of a
+  test stands are few, and docs/MAP.md tells how many (tools/semantic_core.py).
 - What `./lw` builds, and when, with a stand-in for `rt` (tools/check_build.py); docs/TIMES.md has the minutes of each of its crates.
 - The numbers of states of the tests in bench/.
 - The web page, by a plain client, and where there is a browser in that too (tools/check_page.py).
@@ -51,6 +52,7 @@ import make_pages
 import measure_lists
 import plain
 import random_tests
+import semantic_core
 
 HOME = os.path.dirname(os.path.dirname(os.path.abspath(__file__)))
 PROGRAM = f"{HOME}/crates/lw/out/lw"
@@ -466,11 +468,16 @@ def check_wings_apart():
     yield "no crate that says what tests mean names one that reads texts", [], check_wings.faults()
 
 
+def check_semantic_core():
+    yield "what the meaning of a test stands on, and docs/MAP.md on it (tools/semantic_core.py)", [], semantic_core.told()
+
+
 def checks():
     """All checks: functions with their arguments, each of which is one thing to do."""
     yield (check_build.comparisons,)
     yield (check_times,)
     yield (check_wings_apart,)
+    yield (check_semantic_core,)
     for name in ["README.md", *sorted(glob.glob("docs/*.md"))]:
         for block in blocks(read(name)):
             yield check_transcript, name, block

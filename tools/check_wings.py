@@ -21,6 +21,9 @@ MEANING = (
     "lw_tso",
     "lw_fence",
     "lw_orders",
+    "lw_listing",
+    "lw_choices",
+    "lw_whole",
     "lw_finals",
     "lw_report",
 )
