@@ -1,4 +1,4 @@
--- Three classic tests as values. That the texts in examples/ say them is shown by tests (lw_run_tests).
+-- Three classic tests as values. In examples/ their texts are SB, SB-x86 and MP-x86.
 use Rattle.std.specs.Prelude.{ℕ, List, [], ◌∷◌, codes, replicate}
 use Rattle.lw_base.specs.Formula.{Formula, And, Reg_is}
 use Rattle.lw_base.specs.Heads.{TestHead}

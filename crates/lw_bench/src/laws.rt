@@ -1,4 +1,4 @@
-//! Theorems about tests as values, which a reader can hold in the hand: of three classic tests, and of all tests.
+//! Theorems about tests as values, which a reader can hold in the hand: of three classic tests.
 //! A law is a function without a result, whose contract is the law; no call of the workbench needs these.
 ghost use Rattle.std.specs.Prelude.{◌≡◌, ◌↔◌, true, false};
 ghost use Rattle.lw_base.specs.Outcomes.{Final};
