@@ -17,7 +17,9 @@ use Rattle.lw_base.specs.declared.head.Arch.TheVariants.{X86}
 use Rattle.lw_base.specs.declared.head.Quant.{Quant}
 use Rattle.lw_base.specs.declared.head.Quant.TheVariants.{Exists, NotExists}
 use Rattle.lw_base.specs.declared.operand.Operand.TheVariants.{Number}
-use Rattle.lw_litmus.specs.Programs.{x86, target_of, IsWellFormedProgram}
+use Rattle.lw_litmus.specs.Operations.{target_of}
+use Rattle.lw_litmus.specs.Programs.{x86, operation_of}
+use Rattle.lw_litmus.specs.WellFormedTests.{IsWellFormedProgram}
 use Rattle.lw_litmus.specs.Tests.{ProgramTest}
 use Rattle.lw_litmus.specs.WellFormed.{IsStatement, IsThread}
 use Rattle.lw_litmus.specs.declared.instr.Instr.{Instr}
@@ -108,7 +110,7 @@ store_formed x n there word = (λ y same. subst (λ k. k < 2) (same_Some x y sam
 load_formed : (d x : ℕ) → d < 6 → x < 2 → IsStatement x86 2 (instr.Load d x)
 load_formed d x register there = (λ y same. subst (λ k. k < 2) (same_Some x y same) there, All-cons IsRegisterNumber d [] register (All-nil IsRegisterNumber), All-nil IsWord)
 
-two_formed : (first second : Instr) → target_of first ≡ None → target_of second ≡ None → IsStatement x86 2 first → IsStatement x86 2 second
+two_formed : (first second : Instr) → target_of (operation_of first) ≡ None → target_of (operation_of second) ≡ None → IsStatement x86 2 first → IsStatement x86 2 second
     → IsThread x86 2 (first ∷ second ∷ [])
 two_formed first second on too a b = record {
   short = omega arith;
@@ -116,12 +118,12 @@ two_formed first second on too a b = record {
   forward = forward;
 }
   where
-    no_jump : (s : Instr) (k : ℕ) → target_of s ≡ None → ForSome (target_of s) (λ to. (k < to) × (to ≤ 2))
+    no_jump : (s : Instr) (k : ℕ) → target_of (operation_of s) ≡ None → ForSome (target_of (operation_of s)) (λ to. (k < to) × (to ≤ 2))
     no_jump s k none to is = absurd (none-some to (sym none ∙ is))
 
-    forward : (k : ℕ) (s : Instr) → slice_get (first ∷ second ∷ []) k ≡ Some s → ForSome (target_of s) (λ to. (k < to) × (to ≤ 2))
-    forward zero s e = no_jump s 0 (ap target_of (sym (same_Some first s e)) ∙ on)
-    forward (suc zero) s e = no_jump s 1 (ap target_of (sym (same_Some second s e)) ∙ too)
+    forward : (k : ℕ) (s : Instr) → slice_get (first ∷ second ∷ []) k ≡ Some s → ForSome (target_of (operation_of s)) (λ to. (k < to) × (to ≤ 2))
+    forward zero s e = no_jump s 0 (ap (λ i. target_of (operation_of i)) (sym (same_Some first s e)) ∙ on)
+    forward (suc zero) s e = no_jump s 1 (ap (λ i. target_of (operation_of i)) (sym (same_Some second s e)) ∙ too)
     forward (suc (suc k)) s e = cc
 
 program_formed : (test : ProgramTest) (a b : List Instr) → test.threads ≡ a ∷ b ∷ [] → test.head.threads ≡ 2 → length test.head.locs ≡ 2 → test.head.arch ≡ X86

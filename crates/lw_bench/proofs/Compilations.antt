@@ -6,7 +6,7 @@ use Rattle.lw_mesi.specs.declared.protocol.Protocol.{Protocol}
 use Rattle.lw_interleaving.specs.Runs.{SourceOutcome}
 use Rattle.lw_litmus.specs.Tests.{SourceTest, ProgramTest}
 use Rattle.lw_tso.specs.Runs.{MachineOutcome}
-use Rattle.lw_litmus.specs.Programs.{IsWellFormedProgram}
+use Rattle.lw_litmus.specs.WellFormedTests.{IsWellFormedProgram}
 use Rattle.lw_whole.specs.OverCaches.{OutcomeOverCaches}
 
 -- outcomes over caches, by those over flat memory

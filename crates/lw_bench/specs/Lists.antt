@@ -1,8 +1,8 @@
 -- What the report of a test is, and the list of its schedules: of a test of either language.
 use Rattle.lw_base.specs.Types.{Bytes}
 use Rattle.lw_choices.specs.Counts.{IsWithinLimits}
-use Rattle.lw_choices.specs.SourceItems.{source_behaviour}
-use Rattle.lw_choices.specs.X86Items.{x86_behaviour}
+use Rattle.lw_litmus.specs.Sources.{source}
+use Rattle.lw_litmus.specs.Programs.{x86}
 use Rattle.lw_report.specs.Reports.{IsReport, IsScheduleList}
 use Rattle.lw_report.specs.declared.judgement.Claim.TheVariants.{Exact}
 use Rattle.lw_litmus.specs.Tests.{ProgramTest}
@@ -11,8 +11,8 @@ use Rattle.lw_bench.specs.Outcomes.{OutcomeOf, IsProgramOf, LeadsTo}
 
 -- No choice of its flow paths has more items, and all together have no more orders, than a list takes.
 abbrev pub HasList : LitmusTest → Type 0
-HasList (Of_source test) = IsWithinLimits source_behaviour test.threads
-HasList (Of_x86 test) = IsWithinLimits x86_behaviour test.threads
+HasList (Of_source test) = IsWithinLimits source test.threads
+HasList (Of_x86 test) = IsWithinLimits x86 test.threads
 
 -- The report of exactly the test's outcomes, where it is within the limits of lists.
 pub record IsStatesReport (test : LitmusTest) (text : Bytes) : Type 0 where

@@ -21,8 +21,8 @@ use Rattle.lw_cells.specs.Faults.{Tells}
 use Rattle.lw_source.specs.Grammar.{source_grammar}
 use Rattle.lw_x86.specs.Grammar.{x86_grammar}
 use Rattle.lw_choices.specs.Counts.{TellsLimit}
-use Rattle.lw_choices.specs.SourceItems.{source_behaviour}
-use Rattle.lw_choices.specs.X86Items.{x86_behaviour}
+use Rattle.lw_litmus.specs.Sources.{source}
+use Rattle.lw_litmus.specs.Programs.{x86}
 use Rattle.lw_choices.specs.declared.fault.ListFault.{ListFault}
 use Rattle.lw_choices.specs.declared.fault.ListFault.TheVariants as list
 use Rattle.lw_bench.specs.declared.fault.BenchFault.{BenchFault}
@@ -115,8 +115,8 @@ TellsReplay schedule test Write = ⊥
 
 -- No list: which limit the test passes.
 abbrev pub TellsLimitOf : LitmusTest → ListFault → Type 0
-TellsLimitOf (Of_source test) = TellsLimit source_behaviour test.threads
-TellsLimitOf (Of_x86 test) = TellsLimit x86_behaviour test.threads
+TellsLimitOf (Of_source test) = TellsLimit source test.threads
+TellsLimitOf (Of_x86 test) = TellsLimit x86 test.threads
 
 abbrev pub TellsNoList : LitmusTest → BenchFault → Type 0
 TellsNoList test f = (limit : ListFault) × (f ≡ Limit limit) × (limit ≢ list.Memory) × TellsLimitOf test limit

@@ -7,6 +7,7 @@ use Rattle.std.proofs.lemmas.List.{length-map}
 use Rattle.std.proofs.lemmas.List.Elements.{All-from_recursion}
 use Rattle.lw_base.specs.Tables.{contains_name, with_name, with_names, index_of}
 use Rattle.lw_base.proofs.api.GrowingTables.{contains_name-with_name, contains_name-with_names, index_of-with_names, index_of-within}
+use Rattle.lw_litmus.specs.Operations.{location_of, target_of}
 use Rattle.lw_cells.specs.Grammars.{Grammar, IsGrammar}
 use Rattle.lw_litmus.specs.WellFormed.{IsStatement, IsThread}
 use Rattle.lw_cells.specs.Cells.{CellSyntax, statements, LeadsForward, target_in, number_in, led_to, resolved, code_in}
@@ -64,7 +65,7 @@ module _ {Syntax Stmt : Type 0} (grammar : Grammar Syntax Stmt) where
     resolved-there names syntaxes ts s says e =
         let x = number_in names (grammar.name_of s) in
         let to = led_to syntaxes (grammar.label_of s) in
-        let here : ForSome (grammar.language.location_of (grammar.made x to s)) (λ y. y < length names) =
+        let here : ForSome (location_of (grammar.language.operation_of (grammar.made x to s))) (λ y. y < length names) =
         subst (λ (o : Option ℕ). ForSome o (λ y. y < length names)) (sym (lawful.located x to s)) (located-within names (grammar.name_of s) e) in
         (here, lawful.registers ts x to s says, lawful.numbers ts x to s says)
 
@@ -81,7 +82,7 @@ module _ {Syntax Stmt : Type 0} (grammar : Grammar Syntax Stmt) where
     led-forward syntaxes k to None e ahead = absurd cc
     led-forward syntaxes k to (Some l) e ahead = let f : target_in syntaxes l ≡ to = cc in (omega (arith, f, ahead l refl), omega (arith, f, target_within syntaxes l))
 
-    target-resolved : (names : List (List ℕ)) (syntaxes : List (CellSyntax Syntax)) (k : ℕ) (s : Syntax) (to : ℕ) → grammar.language.target_of (resolved grammar names syntaxes s) ≡ Some to → LeadsForward grammar syntaxes k s → (k < to) × (to ≤ length (statements syntaxes))
+    target-resolved : (names : List (List ℕ)) (syntaxes : List (CellSyntax Syntax)) (k : ℕ) (s : Syntax) (to : ℕ) → target_of (grammar.language.operation_of (resolved grammar names syntaxes s)) ≡ Some to → LeadsForward grammar syntaxes k s → (k < to) × (to ≤ length (statements syntaxes))
     target-resolved names syntaxes k s to e ahead =
         let x = number_in names (grammar.name_of s) in
         led-forward syntaxes k to (grammar.label_of s) (sym (lawful.led x (led_to syntaxes (grammar.label_of s)) s) ∙ e) (λ l is. (ahead l is).1)
@@ -98,6 +99,6 @@ module _ {Syntax Stmt : Type 0} (grammar : Grammar Syntax Stmt) where
           there = All-from_recursion (IsStatement grammar.language (length names)) (code_in grammar names syntaxes) (all_resolved-there names syntaxes (statements syntaxes) said all);
           forward = λ k s at to e.
               let w = resolved_from names syntaxes (statements syntaxes) k s at in
-              let t = target-resolved names syntaxes k w.0 to (ap grammar.language.target_of w.2 ∙ e) (ahead k w.0 w.1) in
+              let t = target-resolved names syntaxes k w.0 to (ap (λ (s : Stmt). target_of (grammar.language.operation_of s)) w.2 ∙ e) (ahead k w.0 w.1) in
               (t.0, omega (arith, t.1, length-map (statements syntaxes) (resolved grammar names syntaxes)));
         }

@@ -6,6 +6,8 @@ use Rattle.lw_base.specs.WellFormed.{IsRegisterNumber, IsWord}
 use Rattle.lw_base.specs.Types.{Bytes, TokenList}
 use Rattle.lw_base.specs.declared.head.Arch.{Arch}
 use Rattle.lw_litmus.specs.Languages.{Language}
+use Rattle.lw_litmus.specs.Operations.{location_of, target_of}
+use Rattle.lw_litmus.specs.WellFormed.{registers_of, numbers_of}
 
 -- What is said by a statement's tokens is of the type Syntax; a statement itself is of the type Stmt.
 pub record Grammar (Syntax Stmt : Type 0) : Type 1 where
@@ -42,8 +44,8 @@ module _ {Syntax Stmt : Type 0} (grammar : Grammar Syntax Stmt) where
     pub some : (ts : TokenList) (s : Syntax) → grammar.says ts s → ts ≡ [] → ⊥
     pub no_label : (ts : TokenList) (s : Syntax) → grammar.says ts s → slice_get ts 1 ≡ Some (codes ":") → ⊥
     -- a statement stands on the location of its name, and leads to where its label does
-    pub located : (x to : ℕ) (s : Syntax) → grammar.language.location_of (grammar.made x to s) ≡ option_map (λ n. x) (grammar.name_of s)
-    pub led : (x to : ℕ) (s : Syntax) → grammar.language.target_of (grammar.made x to s) ≡ option_map (λ l. to) (grammar.label_of s)
+    pub located : (x to : ℕ) (s : Syntax) → location_of (grammar.language.operation_of (grammar.made x to s)) ≡ option_map (λ n. x) (grammar.name_of s)
+    pub led : (x to : ℕ) (s : Syntax) → target_of (grammar.language.operation_of (grammar.made x to s)) ≡ option_map (λ l. to) (grammar.label_of s)
     -- its registers are registers, and its numbers are words
-    pub registers : (ts : TokenList) (x to : ℕ) (s : Syntax) → grammar.says ts s → All IsRegisterNumber (grammar.language.registers_of (grammar.made x to s))
-    pub numbers : (ts : TokenList) (x to : ℕ) (s : Syntax) → grammar.says ts s → All IsWord (grammar.language.numbers_of (grammar.made x to s))
+    pub registers : (ts : TokenList) (x to : ℕ) (s : Syntax) → grammar.says ts s → All IsRegisterNumber (registers_of (grammar.language.operation_of (grammar.made x to s)))
+    pub numbers : (ts : TokenList) (x to : ℕ) (s : Syntax) → grammar.says ts s → All IsWord (numbers_of (grammar.language.operation_of (grammar.made x to s)))

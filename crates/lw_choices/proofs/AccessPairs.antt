@@ -9,7 +9,8 @@ use Rattle.lw_choices.specs.declared.conflicts.Access.{Access}
 use Rattle.lw_choices.specs.declared.item.Item.{Item}
 use Rattle.lw_choices.specs.inner.Accesses.{meets, conflicts_with, conflicts_among, access_by, accesses_from}
 use Rattle.lw_litmus.specs.Conflicts.{is_one}
-use Rattle.lw_choices.specs.Items.{Behaviour, item_at, pairs_from, statement_of, location_by, writes_by, conflict_by, do_conflict, constraints_of}
+use Rattle.lw_litmus.specs.Languages.{Language}
+use Rattle.lw_choices.specs.Items.{item_at, pairs_from, statement_of, location_by, writes_by, conflict_by, do_conflict, constraints_of}
 use Rattle.lw_choices.proofs.api.Pairs.{filter_takes, filter_skips}
 
 -- whether two items that may have accesses conflict
@@ -34,23 +35,23 @@ numbered : (n : ℕ) (v : Bool) (x : Option ℕ) (a : Access) → option_map (ac
 numbered n v None a e = absurd (let bad : None ≡ Some a = e in cc)
 numbered n v (Some x) a e = (let same : Some (access n v x) ≡ Some a = e in let is : access n v x ≡ a = cc in ap (λ (b : Access). b.number) (sym is))
 
-module _ {S : Type 0} (behaviour : Behaviour S) (program : List (List S)) where
-  conflict_says : (n m : ℕ) (d e : Bool) (s t : Option S) → conflict_by behaviour d e s t ≡ both (access_by behaviour n d s) (access_by behaviour m e t)
+module _ {S : Type 0} (language : Language S) (program : List (List S)) where
+  conflict_says : (n m : ℕ) (d e : Bool) (s t : Option S) → conflict_by language d e s t ≡ both (access_by language n d s) (access_by language m e t)
   conflict_says n m d e None t = refl
-  conflict_says n m d e (Some s) None = both_none n (writes_by behaviour d s) (location_by behaviour d s)
-  conflict_says n m d e (Some s) (Some t) = both_by n m (writes_by behaviour d s) (writes_by behaviour e t) (location_by behaviour d s) (location_by behaviour e t)
+  conflict_says n m d e (Some s) None = both_none n (writes_by language d s) (location_by language d s)
+  conflict_says n m d e (Some s) (Some t) = both_by n m (writes_by language d s) (writes_by language e t) (location_by language d s) (location_by language e t)
 
-  access_numbered : (n : ℕ) (d : Bool) (s : Option S) (a : Access) → access_by behaviour n d s ≡ Some a → a.number ≡ n
+  access_numbered : (n : ℕ) (d : Bool) (s : Option S) (a : Access) → access_by language n d s ≡ Some a → a.number ≡ n
   access_numbered n d None a e = absurd (let bad : None ≡ Some a = e in cc)
-  access_numbered n d (Some s) a e = numbered n (writes_by behaviour d s) (location_by behaviour d s) a e
+  access_numbered n d (Some s) a e = numbered n (writes_by language d s) (location_by language d s) a e
 
   -- the access of an item
   abbrev access_at : ℕ → Item → Option Access
-  access_at n a = access_by behaviour n a.is_drain (statement_of behaviour program a)
+  access_at n a = access_by language n a.is_drain (statement_of language program a)
 
   module _ (whole : List Item) where
     abbrev conflict_at : ℕ × ℕ → Bool
-    conflict_at p = do_conflict behaviour program (item_at whole p.0) (item_at whole p.1)
+    conflict_at p = do_conflict language program (item_at whole p.0) (item_at whole p.1)
 
     -- the items from number m on are these
     abbrev Stand : ℕ → List Item → Type 0
@@ -69,7 +70,8 @@ module _ {S : Type 0} (behaviour : Behaviour S) (program : List (List S)) where
     with_it a b = (a.number, b.number)
 
     conflict_is : (k m : ℕ) (a b : Item) → item_at whole k ≡ a → item_at whole m ≡ b → conflict_at (k, m) ≡ both (access_at k a) (access_at m b)
-    conflict_is k m a b ea eb = ap₂ (λ x y. do_conflict behaviour program x y) ea eb ∙ conflict_says k m a.is_drain b.is_drain (statement_of behaviour program a) (statement_of behaviour program b)
+    conflict_is k m a b ea eb = ap₂ (λ x y. do_conflict language program x y) ea eb
+        ∙ conflict_says k m a.is_drain b.is_drain (statement_of language program a) (statement_of language program b)
 
     -- an item without an access conflicts with none
     none_row : (k : ℕ) (a : Item) → item_at whole k ≡ a → access_at k a ≡ None → (js : List ℕ) → filter conflict_at (map (pair k) js) ≡ []
@@ -80,7 +82,7 @@ module _ {S : Type 0} (behaviour : Behaviour S) (program : List (List S)) where
 
     module _ (k : ℕ) (a : Item) (x : Access) (ea : item_at whole k ≡ a) (ex : access_at k a ≡ Some x) where
       number_is : x.number ≡ k
-      number_is = access_numbered k a.is_drain (statement_of behaviour program a) x ex
+      number_is = access_numbered k a.is_drain (statement_of language program a) x ex
 
       -- one later item, given its access
       one : (m : ℕ) (b : Item) (js : List ℕ) (others : List Access) (y : Option Access) → item_at whole m ≡ b → access_at m b ≡ y
@@ -90,7 +92,7 @@ module _ {S : Type 0} (behaviour : Behaviour S) (program : List (List S)) where
           filter_skips conflict_at (k, m) (map (pair k) js) (conflict_is k m a b ea eb ∙ ap₂ both ex ey) ∙ rest
       one m b js others (Some y) eb ey rest =
           let is : conflict_at (k, m) ≡ meets x y = conflict_is k m a b ea eb ∙ ap₂ both ex ey in
-          let number : y.number ≡ m = access_numbered m b.is_drain (statement_of behaviour program b) y ey in
+          let number : y.number ≡ m = access_numbered m b.is_drain (statement_of language program b) y ey in
           let same : (k, m) ≡ with_it x y = ap₂ (λ (i j : ℕ). (i, j)) (sym number_is) (sym number) in
           elim (cases_Bool (meets x y)) [
             | inl t ↦ filter_takes conflict_at (k, m) (map (pair k) js) (is ∙ t)
@@ -100,14 +102,16 @@ module _ {S : Type 0} (behaviour : Behaviour S) (program : List (List S)) where
                 ∙ (rest ∙ ap (map (with_it x)) (sym (filter_skips (meets x) y others f)))
           ]
 
-      row : (items : List Item) (m : ℕ) → Stand m items → filter conflict_at (map (pair k) (numbers m (length items))) ≡ conflicts_with x (accesses_from behaviour program m items)
+      row : (items : List Item) (m : ℕ) → Stand m items → filter conflict_at (map
+          (pair k) (numbers m (length items))) ≡ conflicts_with x (accesses_from language program m items)
       row [] m h = refl
       row (b ∷ items) m h =
-          one m b (numbers (suc m) (length items)) (accesses_from behaviour program (suc m) items) (access_at m b) (first m b items h) refl (row items (suc m) (later m b items h))
+          one m b (numbers (suc m) (length items)) (accesses_from language program (suc m) items)
+          (access_at m b) (first m b items h) refl (row items (suc m) (later m b items h))
 
     rows_by : (k : ℕ) (a : Item) (items : List Item) (x : Option Access) → Stand k (a ∷ items) → access_at k a ≡ x
-        → filter conflict_at (pairs_from (suc k) (length items)) ≡ conflicts_among (accesses_from behaviour program (suc k) items)
-        → filter conflict_at (pairs_from k (suc (length items))) ≡ conflicts_among (option_to_list x ++ accesses_from behaviour program (suc k) items)
+        → filter conflict_at (pairs_from (suc k) (length items)) ≡ conflicts_among (accesses_from language program (suc k) items)
+        → filter conflict_at (pairs_from k (suc (length items))) ≡ conflicts_among (option_to_list x ++ accesses_from language program (suc k) items)
     rows_by k a items None h e rest =
         filter-append conflict_at (map (pair k) (numbers (suc k) (length items))) (pairs_from (suc k) (length items))
         ∙ ap₂ (λ ps qs. ps ++ qs) (none_row k a (first k a items h) e (numbers (suc k) (length items))) rest
@@ -115,10 +119,11 @@ module _ {S : Type 0} (behaviour : Behaviour S) (program : List (List S)) where
         filter-append conflict_at (map (pair k) (numbers (suc k) (length items))) (pairs_from (suc k) (length items))
         ∙ ap₂ (λ ps qs. ps ++ qs) (row k a x (first k a items h) e items (suc k) (later k a items h)) rest
 
-    rows : (items : List Item) (k : ℕ) → Stand k items → filter conflict_at (pairs_from k (length items)) ≡ conflicts_among (accesses_from behaviour program k items)
+    rows : (items : List Item) (k : ℕ) → Stand k items → filter conflict_at
+        (pairs_from k (length items)) ≡ conflicts_among (accesses_from language program k items)
     rows [] k h = refl
     rows (a ∷ items) k h = rows_by k a items (access_at k a) h refl (rows items (suc k) (later k a items h))
 
   -- pair by pair of the accesses
-  pub conflicts_are : (items : List Item) → conflicts_among (accesses_from behaviour program 0 items) ≡ (constraints_of behaviour program items).conflicts
+  pub conflicts_are : (items : List Item) → conflicts_among (accesses_from language program 0 items) ≡ (constraints_of language program items).conflicts
   conflicts_are items = sym (rows items items 0 (λ j. ap (item_at items) (let e : 0 + j ≡ j = omega arith in e)))

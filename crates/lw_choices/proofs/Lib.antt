@@ -5,3 +5,4 @@ mod Along
 mod Sizes
 mod AccessPairs
 mod Pushed
+mod FewItems

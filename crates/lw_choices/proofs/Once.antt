@@ -4,9 +4,12 @@ use Rattle.std.specs.Prelude.{Contains, All}
 use Rattle.std.specs.List.{flat_map}
 use Rattle.std.proofs.lemmas.List.Elements.{All-head, All-tail, Contains-append_cases}
 use Rattle.lw_base.specs.Lists.{EachOnce}
-use Rattle.lw_choices.specs.Choices.{Flow, IsForward, Follows, IsPathFrom, paths_on, paths_from, paths_of, choices_of, led}
+use Rattle.lw_litmus.specs.Languages.{Language}
+use Rattle.lw_litmus.specs.Flow.{IsPathFrom}
+use Rattle.lw_litmus.specs.Operations.{target_of, goes_on}
+use Rattle.lw_choices.specs.Choices.{IsForward, paths_on, paths_from, paths_of, choices_of, led}
 use Rattle.lw_choices.proofs.api.Members.{none_in, Contains-here, Contains-there, from_map, from_flat_map}
-use Rattle.lw_choices.proofs.api.Led.{follows_within, led_to-once}
+use Rattle.lw_choices.proofs.api.Led.{led_within, led_to-once}
 use Rattle.lw_choices.proofs.api.Enumerated.{paths-only}
 
 once_map : {X Y : Type 0} (f : X → Y) (xs : List X) → ((x y : X) → f x ≡ f y → x ≡ y) → EachOnce xs → EachOnce (map f xs)
@@ -20,7 +23,8 @@ once_append (x ∷ xs) ys a b apart = (
   once_append xs ys a.1 b (λ y c. apart y (Contains-there x y xs c)),
 )
 
-once_flat_map : {X Y : Type 0} (f : X → List Y) (xs : List X) → EachOnce xs → ((x : X) → Contains xs x → EachOnce (f x)) → ((x y : X) (z : Y) → Contains xs x → Contains xs y → Contains (f x) z → Contains (f y) z → x ≡ y) → EachOnce (flat_map f xs)
+once_flat_map : {X Y : Type 0} (f : X → List Y) (xs : List X) → EachOnce xs → ((x : X) → Contains xs x
+    → EachOnce (f x)) → ((x y : X) (z : Y) → Contains xs x → Contains xs y → Contains (f x) z → Contains (f y) z → x ≡ y) → EachOnce (flat_map f xs)
 once_flat_map f [] o each apart = tt
 once_flat_map f (x ∷ xs) o each apart =
     once_append (f x) (flat_map f xs) (each x (Contains-here x x xs refl))
@@ -34,35 +38,39 @@ cons_same x xs ys e = cc
 heads_same : {X : Type 0} (x y : X) (xs ys : List X) → x ∷ xs ≡ y ∷ ys → x ≡ y
 heads_same x y xs ys e = cc
 
-module _ {S : Type 0} (flow : Flow S) where
+module _ {S : Type 0} (language : Language S) where
   -- a path tells where it begins
-  one_start : (code : List S) (j k : ℕ) (path : List ℕ) → IsPathFrom flow code j path → IsPathFrom flow code k path → j ≡ k
+  one_start : (code : List S) (j k : ℕ) (path : List ℕ) → IsPathFrom language code j path → IsPathFrom language code k path → j ≡ k
   one_start code j k [] a b = a ∙ sym b
   one_start code j k (i ∷ path) a b = sym a.0 ∙ b.0
 
-  module _ (code : List S) (is : IsForward flow code) where
+  module _ (code : List S) (is : IsForward language code) where
     on_once : (rest : ℕ → List (List ℕ)) (j : ℕ) → ((k : ℕ) → j < k → k ≤ length code → EachOnce (rest k))
-        → ((k : ℕ) (p : List ℕ) → k ≤ length code → Contains (rest k) p → IsPathFrom flow code k p) → EachOnce (paths_on flow rest (slice_get code j) j)
+        → ((k : ℕ) (p : List ℕ) → k ≤ length code → Contains (rest k) p → IsPathFrom language code k p) → EachOnce (paths_on language rest (slice_get code j) j)
     on_once rest j each only = go (slice_get code j) refl
       where
-        go : (o : Option S) → slice_get code j ≡ o → EachOnce (paths_on flow rest o j)
+        go : (o : Option S) → slice_get code j ≡ o → EachOnce (paths_on language rest o j)
         go None e = (none_in [], tt)
         go (Some s) e =
-            let in_code : (k : ℕ) → Contains (led flow s j) k → (j < k) × (k ≤ length code) = λ k c. follows_within flow code j k is (subst (λ o. Follows flow o j k) (sym e) c) in
-            once_map (λ (p : List ℕ). j ∷ p) (flat_map rest (led flow s j)) (λ p q h. cons_same j p q h)
-            (once_flat_map rest (led flow s j) (led_to-once (flow.target_of s) (flow.goes_on s) j) (λ k c. each k (in_code k c).0 (in_code k c).1)
+            let in_code : (k : ℕ) → Contains (led language s j) k → (j < k) × (k ≤ length code) = λ k c. led_within language code j k s is e c in
+            once_map (λ (p : List ℕ). j ∷ p) (flat_map rest (led language s j)) (λ p q h. cons_same j p q h)
+            (once_flat_map rest (led language s j) (led_to-once (target_of (language.operation_of s))
+            (goes_on (language.operation_of s)) j) (λ k c. each k (in_code k c).0 (in_code k c).1)
             (λ k m p a b c d. one_start code k m p (only k p (in_code k a).1 c) (only m p (in_code m b).1 d)))
 
-    pub paths-once : (n j : ℕ) → EachOnce (paths_from flow n code j)
+    pub paths-once : (n j : ℕ) → EachOnce (paths_from language n code j)
     paths-once zero j = on_once (λ k. []) j (λ k a b. tt) (λ k p l c. absurd (none_in p c))
-    paths-once (suc n) j = on_once (λ k. paths_from flow n code k) j (λ k a b. paths-once n k) (λ k p l c. paths-only flow code is n k p l c)
+    paths-once (suc n) j = on_once (λ k. paths_from language n code k) j (λ k a b. paths-once n k) (λ k p l c. paths-only language code is n k p l c)
 
   -- each choice is listed once
-  pub choices_differ : (program : List (List S)) → All (IsForward flow) program → EachOnce (choices_of flow program)
+  pub choices_differ : (program : List (List S)) → All (IsForward language) program → EachOnce (choices_of language program)
   choices_differ [] all = (none_in [], tt)
   choices_differ (code ∷ program) all =
-      let tails = choices_of flow program in
-      once_flat_map (λ (path : List ℕ). map (λ (paths : List (List ℕ)). path ∷ paths) tails) (paths_of flow code) (paths-once code (All-head (IsForward flow) code program all) (length code) 0)
-      (λ path c. once_map (λ (paths : List (List ℕ)). path ∷ paths) tails (λ a b h. cons_same path a b h) (choices_differ program (All-tail (IsForward flow) code program all)))
-      (λ p q z a b c d. (let m = from_map (λ (paths : List (List ℕ)). p ∷ paths) tails z c in let n = from_map (λ (paths : List (List ℕ)). q ∷ paths) tails z d in
+      let tails = choices_of language program in
+      once_flat_map (λ (path : List ℕ). map (λ (paths : List (List ℕ)). path ∷ paths) tails)
+      (paths_of language code) (paths-once code (All-head (IsForward language) code program all) (length code) 0)
+      (λ path c. once_map (λ (paths : List (List ℕ)). path ∷ paths) tails (λ a b h. cons_same path a b h)
+      (choices_differ program (All-tail (IsForward language) code program all)))
+      (λ p q z a b c d. (let m = from_map (λ (paths : List (List ℕ)). p ∷ paths) tails z c in
+      let n = from_map (λ (paths : List (List ℕ)). q ∷ paths) tails z d in
       heads_same p q m.0 n.0 (m.2 ∙ sym n.2)))

@@ -6,12 +6,14 @@ use Rattle.std.proofs.lemmas.List.{length-set, get_or-set_same, get_or-set_other
 use Rattle.std.specs.Option.{option_to_list}
 use Rattle.std.proofs.lemmas.Option.{slice_get_within}
 use Rattle.lw_orders.specs.Limits.{most_items}
-use Rattle.lw_choices.specs.Choices.{Flow, IsForward, IsPathFrom, IsChoice, Follows, led}
+use Rattle.lw_litmus.specs.Languages.{Language}
+use Rattle.lw_litmus.specs.Flow.{IsPathFrom, Follows}
+use Rattle.lw_choices.specs.Choices.{IsForward, IsChoice, led}
 use Rattle.lw_choices.specs.Counts.{HasTooManyItems, items_at_choice}
-use Rattle.lw_choices.specs.Items.{Behaviour, items_at, path_items, items_from}
+use Rattle.lw_choices.specs.Items.{drains, items_at, path_items, items_from}
 use Rattle.lw_choices.specs.inner.Sizes.{IsMost, statement_size, path_size}
 use Rattle.lw_choices.specs.Visits.{IsVisitable}
-use Rattle.lw_choices.proofs.api.Led.{follows_within}
+use Rattle.lw_choices.proofs.api.Led.{led-has, led-only, led_within}
 use Rattle.lw_choices.proofs.api.Members.{of_one, Contains-here, Contains-there, Contains-cons}
 
 -- ---- the largest of one or two
@@ -47,22 +49,23 @@ most_of_two f xs a b m are first second reached = record {
 
 -- ---- paths
 
-module _ {S : Type 0} (behaviour : Behaviour S) (code : List S) where
-  item_size : (t j : ℕ) (s : S) → length (items_at behaviour t j (Some s)) ≡ statement_size behaviour s
-  item_size t j s = go (behaviour.drains s) refl
+module _ {S : Type 0} (language : Language S) (code : List S) where
+  item_size : (t j : ℕ) (s : S) → length (items_at language t j (Some s)) ≡ statement_size language s
+  item_size t j s = go (drains language s) refl
     where
-      go : (o : Option ℕ) → behaviour.drains s ≡ o → length (items_at behaviour t j (Some s)) ≡ statement_size behaviour s
+      go : (o : Option ℕ) → drains language s ≡ o → length (items_at language t j (Some s)) ≡ statement_size language s
       go None e = rw e refl
       go (Some x) e = rw e refl
 
   -- a path has the items of its first statement and those of the rest
-  longer : (j : ℕ) (path : List ℕ) (s : S) → slice_get code j ≡ Some s → path_size behaviour code (j ∷ path) ≡ statement_size behaviour s + path_size behaviour code path
+  longer : (j : ℕ) (path : List ℕ) (s : S) → slice_get code j ≡ Some s
+      → path_size language code (j ∷ path) ≡ statement_size language s + path_size language code path
   longer j path s at =
-      length-append (items_at behaviour 0 j (slice_get code j)) (path_items behaviour 0 code path)
-      ∙ ap (λ (n : ℕ). n + path_size behaviour code path) (ap (λ (o : Option S). length (items_at behaviour 0 j o)) at ∙ item_size 0 j s)
+      length-append (items_at language 0 j (slice_get code j)) (path_items language 0 code path)
+      ∙ ap (λ (n : ℕ). n + path_size language code path) (ap (λ (o : Option S). length (items_at language 0 j o)) at ∙ item_size 0 j s)
 
   -- the end of a thread
-  pub most_at_end : IsMost (IsPathFrom behaviour.flow code (length code)) (path_size behaviour code) 0
+  pub most_at_end : IsMost (IsPathFrom language code (length code)) (path_size language code) 0
   most_at_end = record {
     none_more = more;
     one = [];
@@ -70,74 +73,75 @@ module _ {S : Type 0} (behaviour : Behaviour S) (code : List S) where
     reached = refl;
   }
     where
-      more : (path : List ℕ) → IsPathFrom behaviour.flow code (length code) path → path_size behaviour code path ≤ 0
+      more : (path : List ℕ) → IsPathFrom language code (length code) path → path_size language code path ≤ 0
       more [] is = omega arith
       more (j ∷ path) is = go (slice_get code (length code)) refl is.2
         where
-          go : (o : Option S) → slice_get code (length code) ≡ o → Follows behaviour.flow o (length code) is.1 → path_size behaviour code (j ∷ path) ≤ 0
+          go : (o : Option S) → slice_get code (length code) ≡ o → Follows language o (length code) is.1 → path_size language code (j ∷ path) ≤ 0
           go None e f = absurd f
           go (Some s) e f = absurd (omega (arith, slice_get_within code (length code) s e))
 
   -- a position, where the most behind it is known
   pub most_at : (at : ℕ) (s : S) (most : ℕ → ℕ) (behind : ℕ) → slice_get code at ≡ Some s
-      → ((k : ℕ) → Contains (led behaviour.flow s at) k → IsMost (IsPathFrom behaviour.flow code k) (path_size behaviour code) (most k))
-      → IsMost (Contains (led behaviour.flow s at)) most behind
-      → IsMost (IsPathFrom behaviour.flow code at) (path_size behaviour code) (statement_size behaviour s + behind)
+      → ((k : ℕ) → Contains (led language s at) k → IsMost (IsPathFrom language code k) (path_size language code) (most k))
+      → IsMost (Contains (led language s at)) most behind
+      → IsMost (IsPathFrom language code at) (path_size language code) (statement_size language s + behind)
   most_at at s most behind is later largest = record {
     none_more = more;
     one = at ∷ rest.one;
-    is_one = (refl, largest.one, subst (λ (o : Option S). Follows behaviour.flow o at largest.one) (sym is) largest.is_one, rest.is_one);
-    reached = longer at rest.one s is ∙ ap (λ (n : ℕ). statement_size behaviour s + n) (rest.reached ∙ largest.reached);
+    is_one = (refl, largest.one, led-only language (slice_get code at) s at largest.one is largest.is_one, rest.is_one);
+    reached = longer at rest.one s is ∙ ap (λ (n : ℕ). statement_size language s + n) (rest.reached ∙ largest.reached);
   }
     where
-      rest : IsMost (IsPathFrom behaviour.flow code largest.one) (path_size behaviour code) (most largest.one)
+      rest : IsMost (IsPathFrom language code largest.one) (path_size language code) (most largest.one)
       rest = later largest.one largest.is_one
 
-      more : (path : List ℕ) → IsPathFrom behaviour.flow code at path → path_size behaviour code path ≤ statement_size behaviour s + behind
+      more : (path : List ℕ) → IsPathFrom language code at path → path_size language code path ≤ statement_size language s + behind
       more [] ends = absurd (omega (arith, slice_get_within code at s is, ends))
       more (j ∷ path) (same, next, follows, further) =
-          let c = subst (λ (o : Option S). Follows behaviour.flow o at next) is follows in
+          let c = led-has language (slice_get code at) s at next is follows in
           let here = longer j path s (ap (slice_get code) same ∙ is) in
           omega (arith, here, (later next c).none_more path further, largest.none_more next c)
 
 -- ---- the first so many positions, from the end backward
 
 -- From position k on the most items of the paths are known; and they are at most two for each position.
-pub record AreKnownFrom {S : Type 0} (behaviour : Behaviour S) (code : List S) (k : ℕ) (most : List ℕ) : Type 0 where
+pub record AreKnownFrom {S : Type 0} (language : Language S) (code : List S) (k : ℕ) (most : List ℕ) : Type 0 where
   pub room : length most ≡ 33
-  pub each : (j : ℕ) → k ≤ j → j ≤ length code → IsMost (IsPathFrom behaviour.flow code j) (path_size behaviour code) (slice_index most j)
+  pub each : (j : ℕ) → k ≤ j → j ≤ length code → IsMost (IsPathFrom language code j) (path_size language code) (slice_index most j)
   pub few : (j : ℕ) → k ≤ j → j ≤ length code → slice_index most j + (j + j) ≤ length code + length code
 
 -- ---- choices
 
-module _ {S : Type 0} (behaviour : Behaviour S) where
-  path_items_alike : (t u : ℕ) (code : List S) (path : List ℕ) → length (path_items behaviour t code path) ≡ length (path_items behaviour u code path)
+module _ {S : Type 0} (language : Language S) where
+  path_items_alike : (t u : ℕ) (code : List S) (path : List ℕ) → length (path_items language t code path) ≡ length (path_items language u code path)
   path_items_alike t u code [] = refl
   path_items_alike t u code (j ∷ path) =
-      length-append (items_at behaviour t j (slice_get code j)) (path_items behaviour t code path)
+      length-append (items_at language t j (slice_get code j)) (path_items language t code path)
       ∙ ap₂ (λ (m n : ℕ). m + n) (items_alike (slice_get code j)) (path_items_alike t u code path)
-      ∙ sym (length-append (items_at behaviour u j (slice_get code j)) (path_items behaviour u code path))
+      ∙ sym (length-append (items_at language u j (slice_get code j)) (path_items language u code path))
     where
-      items_alike : (o : Option S) → length (items_at behaviour t j o) ≡ length (items_at behaviour u j o)
+      items_alike : (o : Option S) → length (items_at language t j o) ≡ length (items_at language u j o)
       items_alike None = refl
-      items_alike (Some s) = item_size behaviour code t j s ∙ sym (item_size behaviour code u j s)
+      items_alike (Some s) = item_size language code t j s ∙ sym (item_size language code u j s)
 
-  items_from_alike : (t u : ℕ) (program : List (List S)) (paths : List (List ℕ)) → length (items_from behaviour t program paths) ≡ length (items_from behaviour u program paths)
+  items_from_alike : (t u : ℕ) (program : List (List S)) (paths : List (List ℕ))
+      → length (items_from language t program paths) ≡ length (items_from language u program paths)
   items_from_alike t u [] paths = refl
   items_from_alike t u (code ∷ program) [] = refl
   items_from_alike t u (code ∷ program) (path ∷ paths) =
-      length-append (path_items behaviour t code path) (items_from behaviour (suc t) program paths)
+      length-append (path_items language t code path) (items_from language (suc t) program paths)
       ∙ ap₂ (λ (m n : ℕ). m + n) (path_items_alike t u code path) (items_from_alike (suc t) (suc u) program paths)
-      ∙ sym (length-append (path_items behaviour u code path) (items_from behaviour (suc u) program paths))
+      ∙ sym (length-append (path_items language u code path) (items_from language (suc u) program paths))
 
   together : (code : List S) (program : List (List S)) (path : List ℕ) (paths : List (List ℕ))
-      → items_at_choice behaviour (code ∷ program) (path ∷ paths) ≡ path_size behaviour code path + items_at_choice behaviour program paths
+      → items_at_choice language (code ∷ program) (path ∷ paths) ≡ path_size language code path + items_at_choice language program paths
   together code program path paths =
-      length-append (path_items behaviour 0 code path) (items_from behaviour 1 program paths)
-      ∙ ap (λ (n : ℕ). path_size behaviour code path + n) (items_from_alike 1 0 program paths)
+      length-append (path_items language 0 code path) (items_from language 1 program paths)
+      ∙ ap (λ (n : ℕ). path_size language code path + n) (items_from_alike 1 0 program paths)
 
-  pub most_of_none : (program : List (List S)) → program ≡ [] → IsMost (IsChoice behaviour.flow program) (items_at_choice behaviour program) 0
-  most_of_none program none = subst (λ (p : List (List S)). IsMost (IsChoice behaviour.flow p) (items_at_choice behaviour p) 0) (sym none) (record {
+  pub most_of_none : (program : List (List S)) → program ≡ [] → IsMost (IsChoice language program) (items_at_choice language program) 0
+  most_of_none program none = subst (λ (p : List (List S)). IsMost (IsChoice language p) (items_at_choice language p) 0) (sym none) (record {
     none_more = λ paths is. omega arith;
     one = [];
     is_one = tt;
@@ -145,23 +149,26 @@ module _ {S : Type 0} (behaviour : Behaviour S) where
   })
 
   pub most_of_more : (program : List (List S)) (code : List S) (others : List (List S)) (m n : ℕ) → program ≡ code ∷ others
-      → IsMost (IsPathFrom behaviour.flow code 0) (path_size behaviour code) m → IsMost (IsChoice behaviour.flow others) (items_at_choice behaviour others) n
-      → IsMost (IsChoice behaviour.flow program) (items_at_choice behaviour program) (m + n)
-  most_of_more program code others m n are first rest = subst (λ (p : List (List S)). IsMost (IsChoice behaviour.flow p) (items_at_choice behaviour p) (m + n)) (sym are) (record {
-    none_more = more;
-    one = first.one ∷ rest.one;
-    is_one = (first.is_one, rest.is_one);
-    reached = together code others first.one rest.one ∙ ap₂ (λ (a b : ℕ). a + b) first.reached rest.reached;
-  })
+      → IsMost (IsPathFrom language code 0) (path_size language code) m → IsMost (IsChoice language others) (items_at_choice language others) n
+      → IsMost (IsChoice language program) (items_at_choice language program) (m + n)
+  most_of_more program code others m n are first rest = subst (λ (p : List (List S)). IsMost
+      (IsChoice language p) (items_at_choice language p) (m + n)) (sym are) (record {
+        none_more = more;
+        one = first.one ∷ rest.one;
+        is_one = (first.is_one, rest.is_one);
+        reached = together code others first.one rest.one ∙ ap₂ (λ (a b : ℕ). a + b) first.reached rest.reached;
+      })
     where
-      more : (paths : List (List ℕ)) → IsChoice behaviour.flow (code ∷ others) paths → items_at_choice behaviour (code ∷ others) paths ≤ m + n
+      more : (paths : List (List ℕ)) → IsChoice language (code ∷ others) paths → items_at_choice language (code ∷ others) paths ≤ m + n
       more [] is = absurd is
       more (path ∷ paths) is = omega (arith, together code others path paths, first.none_more path is.0, rest.none_more paths is.1)
 
-  pub too_many : (program : List (List S)) (m : ℕ) → IsMost (IsChoice behaviour.flow program) (items_at_choice behaviour program) m → most_items < m → HasTooManyItems behaviour program
+  pub too_many : (program : List (List S)) (m : ℕ) → IsMost (IsChoice language program)
+      (items_at_choice language program) m → most_items < m → HasTooManyItems language program
   too_many program m most lt = (most.one, most.is_one, omega (arith, most.reached, lt))
 
-  pub few_enough : (program : List (List S)) (m : ℕ) → IsMost (IsChoice behaviour.flow program) (items_at_choice behaviour program) m → m ≤ most_items → HasTooManyItems behaviour program → ⊥
+  pub few_enough : (program : List (List S)) (m : ℕ) → IsMost (IsChoice language program)
+      (items_at_choice language program) m → m ≤ most_items → HasTooManyItems language program → ⊥
   few_enough program m most le (paths, choice, lt) = omega (arith, most.none_more paths choice, le, lt)
 
 -- ---- the positions behind one
@@ -170,36 +177,37 @@ pub first_behind : (xs : List ℕ) (a : ℕ) (o : Option ℕ) → (a ∷ option_
 first_behind xs a o are = subst (λ (ys : List ℕ). Contains ys a) are (Contains-here a a (option_to_list o) refl)
 
 pub second_behind : (xs : List ℕ) (a b : ℕ) (o : Option ℕ) → (a ∷ option_to_list o) ≡ xs → o ≡ Some b → Contains xs b
-second_behind xs a b o are is = subst (λ (ys : List ℕ). Contains ys b) are (Contains-there a b (option_to_list o) (subst (λ (p : Option ℕ). Contains (option_to_list p) b) (sym is) (Contains-here b b [] refl)))
+second_behind xs a b o are is = subst (λ (ys : List ℕ). Contains ys b) are
+    (Contains-there a b (option_to_list o) (subst (λ (p : Option ℕ). Contains (option_to_list p) b) (sym is) (Contains-here b b [] refl)))
 
 -- ---- from the end of a thread backward
 
-module _ {S : Type 0} (behaviour : Behaviour S) (code : List S) where
-  two_at_most : (s : S) → statement_size behaviour s ≤ 2
-  two_at_most s = go (behaviour.drains s) refl
+module _ {S : Type 0} (language : Language S) (code : List S) where
+  two_at_most : (s : S) → statement_size language s ≤ 2
+  two_at_most s = go (drains language s) refl
     where
-      go : (o : Option ℕ) → behaviour.drains s ≡ o → statement_size behaviour s ≤ 2
+      go : (o : Option ℕ) → drains language s ≡ o → statement_size language s ≤ 2
       go None e = rw e (omega arith)
       go (Some x) e = rw e (omega arith)
 
-  pub known_at_end : (k : ℕ) (most : List ℕ) → length most ≡ 33 → k ≡ length code → slice_index most (length code) ≡ 0 → AreKnownFrom behaviour code k most
+  pub known_at_end : (k : ℕ) (most : List ℕ) → length most ≡ 33 → k ≡ length code → slice_index most (length code) ≡ 0 → AreKnownFrom language code k most
   known_at_end k most room end none = record {
     room = room;
     each = λ j after within. let at : length code ≡ j = omega (arith, end, after, within) in
-        subst (λ (n : ℕ). IsMost (IsPathFrom behaviour.flow code n) (path_size behaviour code) (slice_index most n)) at
-        (subst (IsMost (IsPathFrom behaviour.flow code (length code)) (path_size behaviour code)) (sym none) (most_at_end behaviour code));
+        subst (λ (n : ℕ). IsMost (IsPathFrom language code n) (path_size language code) (slice_index most n)) at
+        (subst (IsMost (IsPathFrom language code (length code)) (path_size language code)) (sym none) (most_at_end language code));
     few = λ j after within. let at : length code ≡ j = omega (arith, end, after, within) in
         let here : slice_index most j ≡ 0 = subst (λ (n : ℕ). slice_index most n ≡ 0) at none in
         omega (arith, here, within);
   }
 
-  pub known_before : (at k : ℕ) (s : S) (behind v : ℕ) (most : List ℕ) → k ≡ suc at → slice_get code at ≡ Some s → IsForward behaviour.flow code → length code ≤ 32
-      → AreKnownFrom behaviour code k most → IsMost (Contains (led behaviour.flow s at)) (λ n. slice_index most n) behind → v ≡ statement_size behaviour s + behind
-      → AreKnownFrom behaviour code at (slice_set most at v)
+  pub known_before : (at k : ℕ) (s : S) (behind v : ℕ) (most : List ℕ) → k ≡ suc at → slice_get code at ≡ Some s → IsForward language code → length code ≤ 32
+      → AreKnownFrom language code k most → IsMost (Contains (led language s at)) (λ n. slice_index most n) behind → v ≡ statement_size language s + behind
+      → AreKnownFrom language code at (slice_set most at v)
   known_before at k s behind v most next is forward short known largest sum = record { room = length-set most at v ∙ known.room; each = each; few = few }
     where
-      later : (n : ℕ) → Contains (led behaviour.flow s at) n → (at < n) × (n ≤ length code)
-      later n c = follows_within behaviour.flow code at n forward (subst (λ (o : Option S). Follows behaviour.flow o at n) (sym is) c)
+      later : (n : ℕ) → Contains (led language s at) n → (at < n) × (n ≤ length code)
+      later n c = led_within language code at n s forward is c
 
       here : slice_index (slice_set most at v) at ≡ v
       here = get_or-set_same most at v 0 (omega (arith, slice_get_within code at s is, short, known.room))
@@ -207,15 +215,15 @@ module _ {S : Type 0} (behaviour : Behaviour S) (code : List S) where
       other : (j : ℕ) → at < j → slice_index (slice_set most at v) j ≡ slice_index most j
       other j lt = get_or-set_other most at j v 0 (λ same. omega (arith, lt, same))
 
-      first : IsMost (IsPathFrom behaviour.flow code at) (path_size behaviour code) (statement_size behaviour s + behind)
-      first = most_at behaviour code at s (λ n. slice_index most n) behind is (λ n c. known.each n (omega (arith, (later n c).0, next)) (later n c).1) largest
+      first : IsMost (IsPathFrom language code at) (path_size language code) (statement_size language s + behind)
+      first = most_at language code at s (λ n. slice_index most n) behind is (λ n c. known.each n (omega (arith, (later n c).0, next)) (later n c).1) largest
 
-      each : (j : ℕ) → at ≤ j → j ≤ length code → IsMost (IsPathFrom behaviour.flow code j) (path_size behaviour code) (slice_index (slice_set most at v) j)
+      each : (j : ℕ) → at ≤ j → j ≤ length code → IsMost (IsPathFrom language code j) (path_size language code) (slice_index (slice_set most at v) j)
       each j after within = elim (cases_lt at j) [
-        | inl lt ↦ subst (IsMost (IsPathFrom behaviour.flow code j) (path_size behaviour code)) (sym (other j lt)) (known.each j (omega (arith, lt, next)) within)
+        | inl lt ↦ subst (IsMost (IsPathFrom language code j) (path_size language code)) (sym (other j lt)) (known.each j (omega (arith, lt, next)) within)
         | inr ge ↦ let same : at ≡ j = omega (arith, after, ge) in
-            subst (λ (n : ℕ). IsMost (IsPathFrom behaviour.flow code n) (path_size behaviour code) (slice_index (slice_set most at v) n)) same
-            (subst (IsMost (IsPathFrom behaviour.flow code at) (path_size behaviour code)) (sym (here ∙ sum)) first)
+            subst (λ (n : ℕ). IsMost (IsPathFrom language code n) (path_size language code) (slice_index (slice_set most at v) n)) same
+            (subst (IsMost (IsPathFrom language code at) (path_size language code)) (sym (here ∙ sum)) first)
       ]
 
       few : (j : ℕ) → at ≤ j → j ≤ length code → slice_index (slice_set most at v) j + (j + j) ≤ length code + length code
@@ -230,23 +238,24 @@ module _ {S : Type 0} (behaviour : Behaviour S) (code : List S) where
       ]
 
   -- so many items are behind a position
-  pub few_behind : (at k : ℕ) (s : S) (behind : ℕ) (most : List ℕ) → k ≡ suc at → slice_get code at ≡ Some s → IsForward behaviour.flow code
-      → AreKnownFrom behaviour code k most → IsMost (Contains (led behaviour.flow s at)) (λ n. slice_index most n) behind → length code ≤ 32 → statement_size behaviour s + behind ≤ 66
+  pub few_behind : (at k : ℕ) (s : S) (behind : ℕ) (most : List ℕ) → k ≡ suc at → slice_get code at ≡ Some s → IsForward language code
+      → AreKnownFrom language code k most → IsMost (Contains (led language s at))
+      (λ n. slice_index most n) behind → length code ≤ 32 → statement_size language s + behind ≤ 66
   few_behind at k s behind most next is forward known largest short =
-      let c = subst (λ (o : Option S). Follows behaviour.flow o at largest.one) (sym is) largest.is_one in
-      let beyond = follows_within behaviour.flow code at largest.one forward c in
+      let beyond = led_within language code at largest.one s forward is largest.is_one in
       let bound = known.few largest.one (omega (arith, beyond.0, next)) beyond.1 in
       omega (arith, two_at_most s, largest.reached, bound, short)
 
-  pub within_room : (at n : ℕ) (s : S) → slice_get code at ≡ Some s → IsForward behaviour.flow code → length code ≤ 32 → Contains (led behaviour.flow s at) n → n ≤ 32
+  pub within_room : (at n : ℕ) (s : S) → slice_get code at ≡ Some s → IsForward language code → length code ≤ 32 → Contains (led language s at) n → n ≤ 32
   within_room at n s is forward short c =
-      let beyond = follows_within behaviour.flow code at n forward (subst (λ (o : Option S). Follows behaviour.flow o at n) (sym is) c) in
+      let beyond = led_within language code at n s forward is c in
       omega (arith, beyond.1, short)
 
 -- the threads behind the first
-pub visitable_rest : {S : Type 0} (flow : Flow S) (program : List (List S)) (code : List S) (others : List (List S)) → program ≡ code ∷ others → IsVisitable flow program → IsVisitable flow others × (length others < length program)
-visitable_rest flow program code others are is =
-    let all = subst (IsVisitable flow) are is in
+pub visitable_rest : {S : Type 0} (language : Language S) (program : List (List S)) (code : List S) (others : List (List S)) → program ≡ code ∷ others
+    → IsVisitable language program → IsVisitable language others × (length others < length program)
+visitable_rest language program code others are is =
+    let all = subst (IsVisitable language) are is in
     let less = ap length are in (
       record {
         few = omega (arith, all.few);

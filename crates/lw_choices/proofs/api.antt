@@ -2,13 +2,11 @@
 pub mod Members
 pub mod Led
 pub mod Enumerated
-pub mod SourceFlows
 pub mod Visitable
 pub mod Pairs
 pub mod Numbering
 pub mod FixedPairs
 pub mod FixedOrder
+pub mod PathOrder
 pub mod Mutual
-pub mod SourceNumbering
-pub mod SourcePairs
 pub mod Counting

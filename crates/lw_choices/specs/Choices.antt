@@ -1,16 +1,10 @@
 -- Choices of flow paths: one whole path for each thread, in either language.
-use Rattle.std.specs.Prelude.{◌≡◌, ◌+◌, ◌<◌, ◌≤◌, ◌==◌, ℕ, zero, suc, Bool, true, false, if◌then◌else◌, Option, Some, None, List, [], ◌∷◌, length, map, slice_get, Contains}
+use Rattle.std.specs.Prelude.{◌≡◌, ◌+◌, ◌<◌, ◌≤◌, ◌==◌, ℕ, zero, suc, Bool, true, false, if◌then◌else◌, Option, Some, None, List, [], ◌∷◌, length, map, slice_get}
 use Rattle.std.specs.List.{flat_map}
 use Rattle.std.specs.Option.{ForSome}
-use Rattle.lw_base.specs.Lists.{EachOnce}
-use Rattle.lw_litmus.specs.Flow as paths
-
--- How a language's statements lead on.
-pub record Flow (S : Type 0) : Type 0 where
-  -- the statement that a jump leads to
-  pub target_of : S → Option ℕ
-  -- whether the next statement may follow
-  pub goes_on : S → Bool
+use Rattle.lw_litmus.specs.Flow.{IsPathFrom}
+use Rattle.lw_litmus.specs.Languages.{Language}
+use Rattle.lw_litmus.specs.Operations.{target_of, goes_on}
 
 -- the next position, and a target, once where they are one
 abbrev pub next_or : ℕ → ℕ → List ℕ
@@ -23,30 +17,21 @@ led_to None goes j = (j + 1) ∷ []
 led_to (Some to) true j = next_or (j + 1) to
 led_to (Some to) false j = to ∷ []
 
-module _ {S : Type 0} (flow : Flow S) where
+module _ {S : Type 0} (language : Language S) where
   -- jumps lead forward, at most to the end
   abbrev pub IsForward : List S → Type 0
-  IsForward code = (j : ℕ) (s : S) → slice_get code j ≡ Some s → ForSome (flow.target_of s) (λ to. (j < to) × (to ≤ length code))
+  IsForward code = (j : ℕ) (s : S) → slice_get code j ≡ Some s → ForSome (target_of (language.operation_of s)) (λ to. (j < to) × (to ≤ length code))
 
-  -- the positions that may follow the position j, at which this statement is
+  -- the positions that may follow the position j, at which this statement is, as lw_litmus's `Follows` says
   abbrev pub led : S → ℕ → List ℕ
-  led s j = led_to (flow.target_of s) (flow.goes_on s) j
-
-  -- the position k may follow the position j, at which this statement is
-  abbrev pub Follows : Option S → ℕ → ℕ → Type 0
-  Follows None j k = ⊥
-  Follows (Some s) j k = Contains (led s j) k
-
-  -- a whole flow path from a position
-  abbrev pub IsPathFrom : List S → ℕ → List ℕ → Type 0
-  IsPathFrom = paths.IsPathFrom Follows
+  led s j = led_to (target_of (language.operation_of s)) (goes_on (language.operation_of s)) j
 
   -- for each thread of a program a whole path
   abbrev pub IsChoice : List (List S) → List (List ℕ) → Type 0
   IsChoice [] [] = Unit {0}
   IsChoice [] (path ∷ paths) = ⊥
   IsChoice (code ∷ program) [] = ⊥
-  IsChoice (code ∷ program) (path ∷ paths) = IsPathFrom code 0 path × IsChoice program paths
+  IsChoice (code ∷ program) (path ∷ paths) = IsPathFrom language code 0 path × IsChoice program paths
 
   -- the paths that begin with a statement at a position, where its successors lead on by these
   abbrev pub paths_on : (ℕ → List (List ℕ)) → Option S → ℕ → List (List ℕ)

@@ -3,19 +3,20 @@ use Rattle.std.specs.Prelude.{◌<◌, ◌≤◌, ◌+◌, ℕ, List, [], ◌∷
 use Rattle.lw_orders.specs.Order.{count_of}
 use Rattle.lw_orders.specs.Limits.{most_items, most_orders}
 use Rattle.lw_choices.specs.Choices.{IsChoice, choices_of}
-use Rattle.lw_choices.specs.Items.{Behaviour, items_of, constraints_of}
+use Rattle.lw_litmus.specs.Languages.{Language}
+use Rattle.lw_choices.specs.Items.{items_of, constraints_of}
 use Rattle.lw_choices.specs.declared.fault.ListFault.{ListFault}
 use Rattle.lw_choices.specs.declared.item.Item.{Item}
 use Rattle.lw_choices.specs.declared.fault.ListFault.TheVariants.{TooManyItems, TooManyOrders, Memory}
 
-module _ {S : Type 0} (behaviour : Behaviour S) (program : List (List S)) where
+module _ {S : Type 0} (language : Language S) (program : List (List S)) where
   -- the number of items of a choice
   abbrev pub items_at_choice : List (List ℕ) → ℕ
-  items_at_choice paths = length (items_of behaviour program paths)
+  items_at_choice paths = length (items_of language program paths)
 
   -- the ways in which the open conflicts of a choice can each be taken one way round or the other
   abbrev pub orders_at_choice : List (List ℕ) → ℕ
-  orders_at_choice paths = count_of (constraints_of behaviour program (items_of behaviour program paths))
+  orders_at_choice paths = count_of (constraints_of language program (items_of language program paths))
 
   -- those of some choices together
   abbrev pub orders_of : List (List (List ℕ)) → ℕ
@@ -24,11 +25,11 @@ module _ {S : Type 0} (behaviour : Behaviour S) (program : List (List S)) where
 
   -- those of all choices
   abbrev pub total_of : ℕ
-  total_of = orders_of (choices_of behaviour.flow program)
+  total_of = orders_of (choices_of language program)
 
   -- some choice has more items than a list takes
   abbrev pub HasTooManyItems : Type 0
-  HasTooManyItems = (paths : List (List ℕ)) × IsChoice behaviour.flow program paths × (most_items < items_at_choice paths)
+  HasTooManyItems = (paths : List (List ℕ)) × IsChoice language program paths × (most_items < items_at_choice paths)
 
   -- Why a list is refused: too many items, which is looked for first, or too many orders.
   abbrev pub TellsLimit : ListFault → Type 0
@@ -55,7 +56,7 @@ module _ {S : Type 0} (behaviour : Behaviour S) (program : List (List S)) where
   -- why there are no runs of some items' orders
   abbrev pub TellsOfGiven : List Item → ListFault → Type 0
   TellsOfGiven items TooManyItems = ⊥
-  TellsOfGiven items TooManyOrders = most_orders < count_of (constraints_of behaviour program items)
+  TellsOfGiven items TooManyOrders = most_orders < count_of (constraints_of language program items)
   TellsOfGiven items Memory = Unit {0}
 
   -- why a visit of all choices is refused

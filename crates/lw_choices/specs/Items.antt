@@ -5,22 +5,13 @@ use Rattle.std.specs.List.{flat_map}
 use Rattle.std.specs.Option.{option_map_or}
 use Rattle.lw_base.specs.Threads.{code_of}
 use Rattle.lw_litmus.specs.Conflicts.{is_one}
+use Rattle.lw_litmus.specs.Languages.{Language}
+use Rattle.lw_litmus.specs.Operations.{location_of, is_store}
+use Rattle.lw_litmus.specs.Operations as operations
 use Rattle.lw_orders.specs.Order.{Constraints}
 use Rattle.lw_orders.specs.Sequence.{numbers}
 use Rattle.lw_choices.specs.declared.item.Item.{Item}
 use Rattle.lw_choices.specs.declared.item.Last.{Last}
-use Rattle.lw_choices.specs.Choices.{Flow}
-
--- Of a language: where its statements lead, and what they do to the memory.
-pub record Behaviour (S : Type 0) : Type 0 where
-  pub flow : Flow S
-  -- the location that the statement itself reads or writes, and whether it writes it
-  pub accesses : S → Option ℕ
-  pub writes : S → Bool
-  -- the location that is written when its entry is drained, if it has one
-  pub drains : S → Option ℕ
-  -- whether it waits until all entries before it are drained
-  pub waits : S → Bool
 
 -- the item with a number
 abbrev pub item_at : List Item → ℕ → Item
@@ -54,13 +45,32 @@ abbrev pub pairs_from : ℕ → ℕ → List (ℕ × ℕ)
 pairs_from k zero = []
 pairs_from k (suc n) = map (λ j. (k, j)) (numbers (suc k) n) ++ pairs_from (suc k) n
 
-module _ {S : Type 0} (behaviour : Behaviour S) where
+module _ {S : Type 0} (language : Language S) where
+  -- it is a store that goes by way of a store buffer, so that its drain is an item of its own
+  abbrev pub is_drained : S → Bool
+  is_drained s = language.is_buffered && is_store (language.operation_of s)
+
+  -- the location that the statement itself reads or writes, and whether it writes it
+  abbrev pub accesses : S → Option ℕ
+  accesses s = if is_drained s then None else location_of (language.operation_of s)
+
+  abbrev pub writes : S → Bool
+  writes s = operations.writes (language.operation_of s)
+
+  -- the location that is written when its entry is drained, if it has one
+  abbrev pub drains : S → Option ℕ
+  drains s = if is_drained s then location_of (language.operation_of s) else None
+
+  -- whether it waits until all entries before it are drained
+  abbrev pub waits : S → Bool
+  waits s = language.is_buffered && operations.waits (language.operation_of s)
+
   -- a statement, and its drain if it has one
   abbrev pub items_at : ℕ → ℕ → Option S → List Item
   items_at t j None = []
   items_at t j (Some s) =
       record { thread = t; position = j; is_drain = false }
-      ∷ option_map_or (λ x. record { thread = t; position = j; is_drain = true } ∷ []) (behaviour.drains s) []
+      ∷ option_map_or (λ x. record { thread = t; position = j; is_drain = true } ∷ []) (drains s) []
 
   -- along a thread's path
   abbrev pub path_items : ℕ → List S → List ℕ → List Item
@@ -82,12 +92,12 @@ module _ {S : Type 0} (behaviour : Behaviour S) where
 
   -- the location that an item accesses, given whether it is the statement's drain
   abbrev pub location_by : Bool → S → Option ℕ
-  location_by true s = behaviour.drains s
-  location_by false s = behaviour.accesses s
+  location_by true s = drains s
+  location_by false s = accesses s
 
   abbrev pub writes_by : Bool → S → Bool
   writes_by true s = true
-  writes_by false s = behaviour.writes s
+  writes_by false s = writes s
 
   abbrev pub conflict_by : Bool → Bool → Option S → Option S → Bool
   conflict_by d e None b = false
@@ -99,7 +109,7 @@ module _ {S : Type 0} (behaviour : Behaviour S) where
   do_conflict program a b = conflict_by a.is_drain b.is_drain (statement_of program a) (statement_of program b)
 
   abbrev pub does_wait : List (List S) → Item → Bool
-  does_wait program a = option_map_or behaviour.waits (statement_of program a) false
+  does_wait program a = option_map_or waits (statement_of program a) false
 
   -- the fixed pairs of the items from number n on, the item before which is of thread t
   abbrev pub fixed_from : List (List S) → ℕ → ℕ → Last → List Item → List (ℕ × ℕ)

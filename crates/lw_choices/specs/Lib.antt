@@ -1,10 +1,7 @@
 pub mod Choices
 pub mod Items
 pub mod Faults
-pub mod Flows
 pub mod Views
 pub mod Visits
-pub mod SourceItems
-pub mod X86Items
 pub mod Counts
 pub mod inner

@@ -4,7 +4,8 @@ use Rattle.std.specs.List.{flat_map}
 use Rattle.lw_base.specs.Limits.{most_threads}
 use Rattle.lw_base.specs.Threads.{code_of}
 use Rattle.lw_litmus.specs.Limits.{most_instructions}
-use Rattle.lw_choices.specs.Choices.{Flow, IsForward, paths_from, choices_of}
+use Rattle.lw_litmus.specs.Languages.{Language}
+use Rattle.lw_choices.specs.Choices.{IsForward, paths_from, choices_of}
 
 -- each of the choices is visited once, in their order
 abbrev pub Visited : {V : Type 0} → (V → List (List ℕ) → V → Type 0) → List (List (List ℕ)) → V → V → Type 0
@@ -16,22 +17,22 @@ abbrev pub Refused : {V E : Type 0} → (V → List (List ℕ) → V → Type 0)
 Refused visits refuses [] v e = ⊥
 Refused visits refuses (c ∷ cs) v e = refuses v c e ⊎ ((mid : _) × visits v c mid × Refused visits refuses cs mid e)
 
-module _ {S : Type 0} (flow : Flow S) where
+module _ {S : Type 0} (language : Language S) where
   -- A program whose choices have room: no more threads, and no longer ones, than a test can have; and jumps lead forward, at most
   -- to the end.
   pub record IsVisitable (program : List (List S)) : Type 0 where
     pub few : length program ≤ most_threads
     pub short : All (λ code. length code ≤ most_instructions) program
-    pub forward : All (IsForward flow) program
+    pub forward : All (IsForward language) program
 
   -- the whole paths from a position of a thread
   abbrev pub paths_at : List S → ℕ → List (List ℕ)
-  paths_at code at = paths_from flow (length code - at) code at
+  paths_at code at = paths_from language (length code - at) code at
 
   -- the choices that begin with these paths, whose next has begun with these statements and goes on at a position
   abbrev pub choices_along : List (List S) → List (List ℕ) → List ℕ → ℕ → List (List (List ℕ))
   choices_along program choice path at =
-      flat_map (λ rest. map (λ later. choice ++ (path ++ rest) ∷ later) (choices_of flow (drop (suc (length choice)) program)))
+      flat_map (λ rest. map (λ later. choice ++ (path ++ rest) ∷ later) (choices_of language (drop (suc (length choice)) program)))
       (paths_at (code_of program (length choice)) at)
 
   -- such choices can be visited: the paths are of the program's first threads, and the position is one of the next

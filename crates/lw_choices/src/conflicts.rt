@@ -6,8 +6,9 @@ ghost use Rattle.lw_choices.specs.Items.{constraints_of, statement_of as stands_
 
 use crate::fixed::statement_of;
 use crate::item::Item;
-use crate::statement::Statement;
+use crate::statement::{accesses, drains};
 use lw_base::{Loc, Sequence};
+use lw_litmus::Statement;
 use std::alloc::{AllocError, Allocator};
 
 /// An item that accesses a location, by its number.
@@ -40,18 +41,18 @@ fn access_of<S: Statement, B: Allocator>(
     item: Item,
     number: u8,
 ) -> Option<Access>
-    ensures { result ≡ access_by S.behaviour number item.is_drain (stands_for S.behaviour program.now item) }
+    ensures { result ≡ access_by S.language number item.is_drain (stands_for S.language program.now item) }
 {
     let stmt = statement_of(program, item)?;
     let loc = if item.is_drain {
-        stmt.drains()?
+        drains(stmt)?
     } else {
-        stmt.accesses()?
+        accesses(stmt)?
     };
     Some(Access {
         number,
         loc,
-        writes: item.is_drain || stmt.writes(),
+        writes: item.is_drain || stmt.operation().writes(),
     })
 }
 
@@ -62,7 +63,7 @@ fn accesses_of<S: Statement, A: Allocator, B: Allocator>(
     items: &[Item],
 ) -> Result<Vec<Access, A>, AllocError>
     requires { length items.now ≤ most_items }
-    ensures { IfOk result (λ v. v.items ≡ accesses_from S.behaviour program.now 0 items.now) }
+    ensures { IfOk result (λ v. v.items ≡ accesses_from S.language program.now 0 items.now) }
 {
     let mut accesses = Vec::new(alloc);
     for (number, item) in items.iter().enumerate() {
@@ -97,7 +98,7 @@ pub fn conflicts_of<S: Statement, A: Allocator + Copy, B: Allocator>(
     items: &[Item],
 ) -> Result<Vec<(u8, u8), A>, AllocError>
     requires { length items.now ≤ most_items }
-    ensures { IfOk result (λ v. v.items ≡ (constraints_of S.behaviour program.now items.now).conflicts) }
+    ensures { IfOk result (λ v. v.items ≡ (constraints_of S.language program.now items.now).conflicts) }
 {
     let accesses = accesses_of(alloc, program, items)?;
     let mut pairs = Vec::new(alloc);

@@ -12,9 +12,9 @@ use crate::fixed::fixed_of;
 use crate::item::Item;
 use crate::items::fill_items;
 use crate::path::Choice;
-use crate::statement::Statement;
 use crate::visit::Visitor;
 use lw_base::Sequence;
+use lw_litmus::Statement;
 use lw_orders::{Items, MAX_ITEMS, MAX_ORDERS, count};
 use std::alloc::{AllocError, Allocator};
 
@@ -24,9 +24,9 @@ pub fn fill_few_items<S: Statement, A: Allocator, B: Allocator>(
     choice: &Choice,
     items: &mut Vec<Item, A>,
 ) -> Result<(), ListFault>
-    ensures ok { OnOk result (items.new.items ≡ items_of S.behaviour program.now (choice_of choice.now)) }
+    ensures ok { OnOk result (items.new.items ≡ items_of S.language program.now (choice_of choice.now)) }
     ensures few { OnOk result (length items.new.items ≤ most_items) }
-    ensures err { IfErr result (TellsOfItems S.behaviour program.now (choice_of choice.now)) }
+    ensures err { IfErr result (TellsOfItems S.language program.now (choice_of choice.now)) }
 {
     fill_items(program, choice, items)?;
     if items.len() > MAX_ITEMS {
@@ -43,8 +43,8 @@ pub fn constrained<S: Statement, A: Allocator, B: Allocator>(
     conflicts: Vec<(u8, u8), A>,
 ) -> Result<Items<A>, AllocError>
     requires few { length items.now ≤ most_items }
-    requires conflicts { conflicts.items ≡ (constraints_of S.behaviour program.now items.now).conflicts }
-    ensures { IfOk result (λ t. t ≡ constraints_of S.behaviour program.now items.now) }
+    requires conflicts { conflicts.items ≡ (constraints_of S.language program.now items.now).conflicts }
+    ensures { IfOk result (λ t. t ≡ constraints_of S.language program.now items.now) }
 {
     let fixed = fixed_of(alloc, program, items)?;
     Ok(Items::new(items.len(), fixed, conflicts))
@@ -59,8 +59,8 @@ fn count_orders<S: Statement, A: Allocator + Copy, B: Allocator>(
 ) -> Result<Option<u64>, AllocError>
     requires { length items.now ≤ most_items }
     ensures { IfOk result (λ c. MatchOption c
-        (most_orders < count_of (constraints_of S.behaviour program.now items.now))
-        (λ n. (n ≡ count_of (constraints_of S.behaviour program.now items.now)) × (n ≤ most_orders))) }
+        (most_orders < count_of (constraints_of S.language program.now items.now))
+        (λ n. (n ≡ count_of (constraints_of S.language program.now items.now)) × (n ≤ most_orders))) }
 {
     let conflicts = conflicts_of(alloc, program, items)?;
     if conflicts.is_empty() {
@@ -83,10 +83,10 @@ impl<'a, S: Statement, A: Allocator + Copy, B: Allocator> Visitor for Counter<'a
     type Fault = ListFault;
 
     ghost visits = { λ v paths w. (w.program.now ≡ v.program.now)
-        × (items_at_choice S.behaviour v.program.now paths ≤ most_items)
-        × (w.total ≡ v.total + orders_at_choice S.behaviour v.program.now paths) × (w.total ≤ most_orders) };
+        × (items_at_choice S.language v.program.now paths ≤ most_items)
+        × (w.total ≡ v.total + orders_at_choice S.language v.program.now paths) × (w.total ≤ most_orders) };
 
-    ghost refuses = { λ v paths e. TellsOfChoice S.behaviour v.program.now v.total paths e };
+    ghost refuses = { λ v paths e. TellsOfChoice S.language v.program.now v.total paths e };
 
     fn visit(&mut self, choice: &Choice) -> Result<(), ListFault> {
         fill_few_items(self.program, choice, &mut self.items)?;

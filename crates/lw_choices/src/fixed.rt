@@ -5,8 +5,9 @@ ghost use Rattle.lw_choices.specs.Items as choice_items;
 ghost use Rattle.lw_choices.specs.Items.{none_before, behind, last_with, last_of, does_wait, fixed_from};
 
 use crate::item::{Item, Last};
-use crate::statement::Statement;
+use crate::statement::waits;
 use lw_base::{Cpu, Sequence};
+use lw_litmus::Statement;
 use std::alloc::{AllocError, Allocator};
 
 impl Last {
@@ -50,7 +51,7 @@ pub(crate) fn statement_of<S: Statement, B: Allocator>(
     program: &[Sequence<S, B>],
     item: Item,
 ) -> Option<&S>
-    ensures { option_copied result ≡ choice_items.statement_of S.behaviour program.now item }
+    ensures { option_copied result ≡ choice_items.statement_of S.language program.now item }
 {
     program
         .get(item.thread.index())?
@@ -59,13 +60,13 @@ pub(crate) fn statement_of<S: Statement, B: Allocator>(
 
 /// Whether an item must stand behind the last drain of its thread: a drain, and what waits for drains.
 fn is_behind_drains<S: Statement, B: Allocator>(program: &[Sequence<S, B>], item: Item) -> bool
-    ensures { result ≡ (item.is_drain || does_wait S.behaviour program.now item) }
+    ensures { result ≡ (item.is_drain || does_wait S.language program.now item) }
 {
     if item.is_drain {
         return true;
     }
     match statement_of(program, item) {
-        Some(stmt) => stmt.waits(),
+        Some(stmt) => waits(stmt),
         None => false,
     }
 }
@@ -108,7 +109,7 @@ pub(crate) fn fixed_of<S: Statement, A: Allocator, B: Allocator>(
     items: &[Item],
 ) -> Result<Vec<(u8, u8), A>, AllocError>
     requires { length items.now ≤ most_items }
-    ensures { IfOk result (λ v. v.items ≡ fixed_from S.behaviour program.now 0 0 none_before items.now) }
+    ensures { IfOk result (λ v. v.items ≡ fixed_from S.language program.now 0 0 none_before items.now) }
 {
     let mut pairs = Vec::new(alloc);
     let mut last = Last::none();

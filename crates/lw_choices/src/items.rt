@@ -6,8 +6,9 @@ ghost use Rattle.lw_choices.specs.Views.{choice_of};
 
 use crate::item::Item;
 use crate::path::Choice;
-use crate::statement::Statement;
+use crate::statement::drains;
 use lw_base::{Cpu, Sequence};
+use lw_litmus::Statement;
 use std::alloc::{AllocError, Allocator};
 
 /// Makes a list the items of a choice, thread by thread, each along its path.
@@ -16,7 +17,7 @@ pub(crate) fn fill_items<S: Statement, A: Allocator, B: Allocator>(
     choice: &Choice,
     items: &mut Vec<Item, A>,
 ) -> Result<(), AllocError>
-    ensures { OnOk result (items.new.items ≡ choice_items.items_of S.behaviour program.now (choice_of choice.now)) }
+    ensures { OnOk result (items.new.items ≡ choice_items.items_of S.language program.now (choice_of choice.now)) }
 {
     items.clear();
     for (thread, path) in choice.as_slice().iter().enumerate() {
@@ -36,7 +37,7 @@ fn push_path<S: Statement, A: Allocator, B: Allocator>(
     code: &Sequence<S, B>,
     path: &[u8],
 ) -> Result<(), AllocError>
-    ensures { OnOk result (items.new.items ≡ items.old.items ++ path_items S.behaviour thread code.now path.now) }
+    ensures { OnOk result (items.new.items ≡ items.old.items ++ path_items S.language thread code.now path.now) }
 {
     for position in path {
         push_statement(items, thread, *position, code.get(usize::from(*position)))?;
@@ -51,7 +52,7 @@ fn push_statement<S: Statement, A: Allocator>(
     position: u8,
     stmt: Option<&S>,
 ) -> Result<(), AllocError>
-    ensures { OnOk result (items.new.items ≡ items.old.items ++ items_at S.behaviour thread position (option_copied stmt.entry)) }
+    ensures { OnOk result (items.new.items ≡ items.old.items ++ items_at S.language thread position (option_copied stmt.entry)) }
 {
     let Some(stmt) = stmt else {
         return Ok(());
@@ -61,7 +62,7 @@ fn push_statement<S: Statement, A: Allocator>(
         position,
         is_drain: false,
     })?;
-    if stmt.drains().is_some() {
+    if drains(stmt).is_some() {
         items.push(Item {
             thread,
             position,

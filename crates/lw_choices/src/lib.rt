@@ -1,5 +1,5 @@
 //! Choices of whole flow paths, one for each thread of a test, and the items that stand on them: of any language whose
-//! statements say where they lead and what they do to the memory (`statement`).
+//! statements say what they do (`statement` says what that is to the lists).
 //!
 //! How the choices of a program are gone through, and where each part stands:
 //! 1. `visit`: each choice is visited once, with no list of them (`path`, `path_methods`).
@@ -9,7 +9,7 @@
 //! 3. `size`, `count`, `limits`: the most items of a choice are looked at first, then the ways of all choices are counted, up
 //!    to the limit; `fault` has what is told where one is passed.
 //!
-//! It names lw_base; of lw_litmus the statements of both languages; and lw_orders. Nothing here steps. The promise that the
+//! It names lw_base; of lw_litmus what statements do; and lw_orders. Nothing here steps. The promise that the
 //! crates above use: `visit_choices` visits exactly the choices of a program, each once, which `laws` says of their list.
 #![tactic(auto)]
 
@@ -34,5 +34,4 @@ pub use item::Item;
 pub use laws::{choices_are_complete, source_tests_have_few_items};
 pub use limits::check_limits;
 pub use path::{Choice, Path};
-pub use statement::Statement;
 pub use visit::{Visitor, visit_choices};

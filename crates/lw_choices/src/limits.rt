@@ -7,9 +7,9 @@ ghost use Rattle.lw_choices.specs.Visits.{IsVisitable};
 use crate::count::Counter;
 use crate::fault::ListFault;
 use crate::size::check_items;
-use crate::statement::Statement;
 use crate::visit::visit_choices;
 use lw_base::Sequence;
+use lw_litmus::Statement;
 use std::alloc::Allocator;
 
 /// Whether the orders of a program are not too many.
@@ -17,10 +17,10 @@ fn check_orders<S: Statement, A: Allocator + Copy, B: Allocator>(
     alloc: A,
     program: &[Sequence<S, B>],
 ) -> Result<(), ListFault>
-    requires { IsVisitable S.behaviour.flow program.now }
-    ensures items { OnOk result (HasTooManyItems S.behaviour program.now → ⊥) }
-    ensures orders { OnOk result (total_of S.behaviour program.now ≤ most_orders) }
-    ensures err { IfErr result (TellsOfChoices S.behaviour program.now) }
+    requires { IsVisitable S.language program.now }
+    ensures items { OnOk result (HasTooManyItems S.language program.now → ⊥) }
+    ensures orders { OnOk result (total_of S.language program.now ≤ most_orders) }
+    ensures err { IfErr result (TellsOfChoices S.language program.now) }
 {
     let mut counter = Counter {
         alloc,
@@ -36,9 +36,9 @@ pub fn check_limits<S: Statement, A: Allocator + Copy, B: Allocator>(
     alloc: A,
     program: &[Sequence<S, B>],
 ) -> Result<(), ListFault>
-    requires { IsVisitable S.behaviour.flow program.now }
-    ensures within { OnOk result (IsWithinLimits S.behaviour program.now) }
-    ensures err { IfErr result (TellsLimit S.behaviour program.now) }
+    requires { IsVisitable S.language program.now }
+    ensures within { OnOk result (IsWithinLimits S.language program.now) }
+    ensures err { IfErr result (TellsLimit S.language program.now) }
 {
     check_items(program)?;
     check_orders(alloc, program)

@@ -1,17 +1,18 @@
 //! How many items a choice of paths has at most, with no walk over all choices: the longest path of each thread, by items.
 ghost use Rattle.std.specs.Prelude.{◌≡◌, ◌+◌, ◌*◌, ◌<◌, ◌≤◌, ℕ, Contains, length, OnOk, IfErr, slice_index, Some};
 ghost use Rattle.lw_litmus.specs.Limits.{most_instructions};
-ghost use Rattle.lw_choices.specs.Choices.{IsForward, IsPathFrom, IsChoice, led};
+ghost use Rattle.lw_litmus.specs.Flow.{IsPathFrom};
+ghost use Rattle.lw_choices.specs.Choices.{IsForward, IsChoice, led};
 ghost use Rattle.lw_choices.specs.Counts.{HasTooManyItems, items_at_choice};
 ghost use Rattle.lw_choices.specs.inner.Sizes.{IsMost, statement_size, path_size};
 ghost use Rattle.lw_choices.specs.Visits.{IsVisitable};
 ghost use Rattle.lw_choices.specs.declared.fault.ListFault.TheVariants.{TooManyItems as PastItems};
 
 use crate::fault::ListFault;
-use crate::statement::Statement;
+use crate::statement::drains;
 use crate::visit::successors;
 use lw_base::Sequence;
-use lw_litmus::MAX_INSTRUCTIONS;
+use lw_litmus::{MAX_INSTRUCTIONS, Statement};
 use lw_orders::MAX_ITEMS;
 use std::alloc::Allocator;
 
@@ -20,9 +21,9 @@ const POSITIONS: usize = MAX_INSTRUCTIONS + 1;
 
 /// The number of items of a statement: itself, and its drain if it has one.
 fn count_items<S: Statement>(stmt: &S) -> usize
-    ensures { result ≡ statement_size S.behaviour stmt.now }
+    ensures { result ≡ statement_size S.language stmt.now }
 {
-    match stmt.drains() {
+    match drains(stmt) {
         Some(_) => 2,
         None => 1,
     }
@@ -31,8 +32,8 @@ fn count_items<S: Statement>(stmt: &S) -> usize
 /// The most items of the paths behind a statement, given those of the paths from each position.
 fn most_behind<S: Statement>(most: &[usize; POSITIONS], stmt: &S, at: usize) -> usize
     requires at { at < most_instructions }
-    requires within { (k : ℕ) → Contains (led S.behaviour.flow stmt.now at) k → k ≤ most_instructions }
-    ensures { IsMost (Contains (led S.behaviour.flow stmt.now at)) (λ k. slice_index most.now k) result }
+    requires within { (k : ℕ) → Contains (led S.language stmt.now at) k → k ≤ most_instructions }
+    ensures { IsMost (Contains (led S.language stmt.now at)) (λ k. slice_index most.now k) result }
 {
     let (first, second) = successors(stmt, at);
     let most_first = most[first];
@@ -49,8 +50,8 @@ fn most_behind<S: Statement>(most: &[usize; POSITIONS], stmt: &S, at: usize) -> 
 /// The most items of the paths of a thread.
 fn most_of_thread<S: Statement, A: Allocator>(code: &Sequence<S, A>) -> usize
     requires short { length code.now ≤ most_instructions }
-    requires forward { IsForward S.behaviour.flow code.now }
-    ensures most { IsMost (IsPathFrom S.behaviour.flow code.now 0) (path_size S.behaviour code.now) result }
+    requires forward { IsForward S.language code.now }
+    ensures most { IsMost (IsPathFrom S.language code.now 0) (path_size S.language code.now) result }
     ensures few { result ≤ 2 * most_instructions }
 {
     let stmts = code.as_slice();
@@ -65,8 +66,8 @@ fn most_of_thread<S: Statement, A: Allocator>(code: &Sequence<S, A>) -> usize
 
 /// The most items of the choices of a program.
 fn most_items<S: Statement, A: Allocator>(program: &[Sequence<S, A>]) -> usize
-    requires { IsVisitable S.behaviour.flow program.now }
-    ensures most { IsMost (IsChoice S.behaviour.flow program.now) (items_at_choice S.behaviour program.now) result }
+    requires { IsVisitable S.language program.now }
+    ensures most { IsMost (IsChoice S.language program.now) (items_at_choice S.language program.now) result }
     ensures few { result ≤ 2 * most_instructions * length program.now }
 {
     match program.split_first() {
@@ -79,10 +80,10 @@ fn most_items<S: Statement, A: Allocator>(program: &[Sequence<S, A>]) -> usize
 pub(crate) fn check_items<S: Statement, A: Allocator>(
     program: &[Sequence<S, A>],
 ) -> Result<(), ListFault>
-    requires { IsVisitable S.behaviour.flow program.now }
-    ensures few { OnOk result (HasTooManyItems S.behaviour program.now → ⊥) }
+    requires { IsVisitable S.language program.now }
+    ensures few { OnOk result (HasTooManyItems S.language program.now → ⊥) }
     ensures fault { IfErr result (λ e. e ≡ PastItems) }
-    ensures many { IfErr result (λ e. HasTooManyItems S.behaviour program.now) }
+    ensures many { IfErr result (λ e. HasTooManyItems S.language program.now) }
 {
     if most_items(program) > MAX_ITEMS {
         return Err(ListFault::TooManyItems);

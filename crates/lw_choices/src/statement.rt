@@ -1,112 +1,41 @@
-//! The statements of both languages, as the lists see them: where they lead, and what they do to the memory.
+//! What the statements of a language are to the lists: a store of a language with store buffers acts by its drain, all else
+//! by itself.
 ghost use Rattle.std.specs.Prelude.{◌≡◌};
-ghost use Rattle.lw_choices.specs.Items.{Behaviour};
-ghost use Rattle.lw_choices.specs.SourceItems.{source_behaviour};
-ghost use Rattle.lw_choices.specs.X86Items.{x86_behaviour};
+ghost use Rattle.lw_choices.specs.Items as table;
 
 use lw_base::Loc;
-use lw_litmus::{Instr, Stmt};
+use lw_litmus::Statement;
 
-/// A statement of a language: it leads on to the next statement, to the target of a jump, or to either; and it acts on a
-/// location by itself, by the drain of the entry that it makes, or on none.
-pub trait Statement {
-    /// What its statements do.
-    ghost behaviour: { Behaviour Self };
-
-    /// The statement that a jump leads to.
-    fn target(&self) -> Option<usize>
-        ensures { result ≡ behaviour.flow.target_of self.now };
-
-    /// Whether the next statement may follow.
-    fn goes_on(&self) -> bool
-        ensures { result ≡ behaviour.flow.goes_on self.now };
-
-    /// The location that it reads or writes itself.
-    fn accesses(&self) -> Option<Loc>
-        ensures { result ≡ behaviour.accesses self.now };
-
-    /// Whether it writes that location.
-    fn writes(&self) -> bool
-        ensures { result ≡ behaviour.writes self.now };
-
-    /// The location that is written when its entry is drained, if it makes one.
-    fn drains(&self) -> Option<Loc>
-        ensures { result ≡ behaviour.drains self.now };
-
-    /// Whether it waits until all entries before it are drained.
-    fn waits(&self) -> bool
-        ensures { result ≡ behaviour.waits self.now };
+/// Whether it is a store that goes by way of a store buffer, so that its drain is an item of its own.
+pub(crate) fn is_drained<S: Statement>(stmt: &S) -> bool
+    ensures { result ≡ table.is_drained S.language stmt.now }
+{
+    S::is_buffered() && stmt.operation().is_store()
 }
 
-impl Statement for Stmt {
-    ghost behaviour = { source_behaviour };
-
-    fn target(&self) -> Option<usize> {
-        match self {
-            Stmt::IfEq { to, .. } | Stmt::IfNe { to, .. } | Stmt::Goto { to } => Some(*to),
-            _ => None,
-        }
+/// The location that the statement itself reads or writes.
+pub(crate) fn accesses<S: Statement>(stmt: &S) -> Option<Loc>
+    ensures { result ≡ table.accesses S.language stmt.now }
+{
+    if is_drained(stmt) {
+        return None;
     }
-
-    fn goes_on(&self) -> bool {
-        !matches!(self, Stmt::Goto { .. })
-    }
-
-    fn accesses(&self) -> Option<Loc> {
-        self.location()
-    }
-
-    fn writes(&self) -> bool {
-        Stmt::writes(self)
-    }
-
-    fn drains(&self) -> Option<Loc> {
-        None
-    }
-
-    fn waits(&self) -> bool {
-        false
-    }
+    stmt.operation().location()
 }
 
-impl Statement for Instr {
-    ghost behaviour = { x86_behaviour };
-
-    fn target(&self) -> Option<usize> {
-        match self {
-            Instr::Je { to } | Instr::Jne { to } | Instr::Jmp { to } => Some(*to),
-            _ => None,
-        }
+/// The location that is written when its entry is drained, if it has one.
+pub(crate) fn drains<S: Statement>(stmt: &S) -> Option<Loc>
+    ensures { result ≡ table.drains S.language stmt.now }
+{
+    if is_drained(stmt) {
+        return stmt.operation().location();
     }
+    None
+}
 
-    fn goes_on(&self) -> bool {
-        !matches!(self, Instr::Jmp { .. })
-    }
-
-    fn accesses(&self) -> Option<Loc> {
-        match self {
-            Instr::Load { loc, .. } | Instr::Xchg { loc, .. } | Instr::Xadd { loc, .. } => {
-                Some(*loc)
-            }
-            _ => None,
-        }
-    }
-
-    fn writes(&self) -> bool {
-        matches!(self, Instr::Xchg { .. } | Instr::Xadd { .. })
-    }
-
-    fn drains(&self) -> Option<Loc> {
-        match self {
-            Instr::Store { loc, .. } => Some(*loc),
-            _ => None,
-        }
-    }
-
-    fn waits(&self) -> bool {
-        matches!(
-            self,
-            Instr::Mfence | Instr::Xchg { .. } | Instr::Xadd { .. }
-        )
-    }
+/// Whether it waits until all entries before it are drained.
+pub(crate) fn waits<S: Statement>(stmt: &S) -> bool
+    ensures { result ≡ table.waits S.language stmt.now }
+{
+    S::is_buffered() && stmt.operation().waits()
 }

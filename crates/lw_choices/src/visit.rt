@@ -8,8 +8,8 @@ ghost use Rattle.lw_choices.specs.Views.{path_of, choice_of};
 ghost use Rattle.lw_choices.specs.Visits.{Visited, Refused, IsVisitable, CanGoOn, choices_along};
 
 use crate::path::{Choice, Path};
-use crate::statement::Statement;
 use lw_base::Sequence;
+use lw_litmus::Statement;
 use std::alloc::Allocator;
 
 /// What is done for each choice.
@@ -32,13 +32,13 @@ pub trait Visitor {
 /// The positions that may follow a statement's: the first, and the second where there are two.
 pub(crate) fn successors<S: Statement>(stmt: &S, at: usize) -> (usize, Option<usize>)
     requires { at < most_instructions }
-    ensures { (result.0 ∷ option_to_list result.1) ≡ led S.behaviour.flow stmt.now at }
+    ensures { (result.0 ∷ option_to_list result.1) ≡ led S.language stmt.now at }
 {
     let next = at + 1;
-    let Some(to) = stmt.target() else {
+    let Some(to) = stmt.operation().target() else {
         return (next, None);
     };
-    if !stmt.goes_on() {
+    if !stmt.operation().goes_on() {
         return (to, None);
     }
     if next == to {
@@ -55,9 +55,9 @@ fn visit_from<S: Statement, A: Allocator, V: Visitor>(
     at: usize,
     visitor: &mut V,
 ) -> Result<(), V::Fault>
-    requires { CanGoOn S.behaviour.flow program.now (choice_of choice) (path_of path) at }
-    ensures ok { OnOk result (Visited V.visits (choices_along S.behaviour.flow program.now (choice_of choice) (path_of path) at) visitor.old visitor.new) }
-    ensures err { IfErr result (λ e. Refused V.visits V.refuses (choices_along S.behaviour.flow program.now (choice_of choice) (path_of path) at) visitor.old e) }
+    requires { CanGoOn S.language program.now (choice_of choice) (path_of path) at }
+    ensures ok { OnOk result (Visited V.visits (choices_along S.language program.now (choice_of choice) (path_of path) at) visitor.old visitor.new) }
+    ensures err { IfErr result (λ e. Refused V.visits V.refuses (choices_along S.language program.now (choice_of choice) (path_of path) at) visitor.old e) }
 {
     let code = &program[choice.len()];
     let Some(stmt) = code.get(at) else {
@@ -81,9 +81,9 @@ pub fn visit_choices<S: Statement, A: Allocator, V: Visitor>(
     program: &[Sequence<S, A>],
     visitor: &mut V,
 ) -> Result<(), V::Fault>
-    requires { IsVisitable S.behaviour.flow program.now }
-    ensures ok { OnOk result (Visited V.visits (choices_of S.behaviour.flow program.now) visitor.old visitor.new) }
-    ensures err { IfErr result (λ e. Refused V.visits V.refuses (choices_of S.behaviour.flow program.now) visitor.old e) }
+    requires { IsVisitable S.language program.now }
+    ensures ok { OnOk result (Visited V.visits (choices_of S.language program.now) visitor.old visitor.new) }
+    ensures err { IfErr result (λ e. Refused V.visits V.refuses (choices_of S.language program.now) visitor.old e) }
 {
     if program.is_empty() {
         return visitor.visit(&Choice::new());

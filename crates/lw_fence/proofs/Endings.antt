@@ -9,9 +9,8 @@ use Rattle.lw_memory.specs.Content.{answer_of, content_after}
 use Rattle.lw_memory.specs.Flat.{flat, WordsServe}
 use Rattle.lw_memory.specs.MemoryLaws.{Invariant, Lawful, Served}
 use Rattle.lw_memory.specs.Memory.{IsPossible}
-use Rattle.lw_litmus.specs.Sources.{IsWellFormedSource}
+use Rattle.lw_litmus.specs.WellFormedTests.{IsWellFormedSource, IsWellFormedProgram}
 use Rattle.lw_litmus.specs.Tests.{SourceTest, ProgramTest}
-use Rattle.lw_litmus.specs.Programs.{IsWellFormedProgram}
 use Rattle.lw_tso.specs.Endings.{CanEnd}
 use Rattle.lw_tso.specs.Machines.{MachineState}
 use Rattle.lw_tso.specs.Runs.{MachineRan, machine_start}
@@ -47,8 +46,9 @@ words_lawful = record {
 program_ends : (p : ProgramTest) → IsWellFormedProgram p → (events : List Event) (s : MachineState (List ℕ))
     → MachineRan flat p.threads events (machine_start p p.head.init_words) s → CanEnd flat p.threads s
 program_ends p ok events s ran =
-    can_end flat flat_invariant words_lawful p ok p.head.init_words events s (record { sound = tt; cpus = omega (arith, ok.as_many, ok.head.few); words = refl }) ran
+    can_end flat flat_invariant words_lawful p ok p.head.init_words events s
+    (record { sound = tt; cpus = omega (arith, ok.as_many, ok.head.few); words = refl }) ran
 
-pub compiled_ends : (s : SourceTest) (p : ProgramTest) (starts : List (List ℕ)) → IsWellFormedSource s → IsCompiled s p starts → (events : List Event) (end : MachineState (List ℕ))
-    → MachineRan flat p.threads events (machine_start p p.head.init_words) end → CanEnd flat p.threads end
+pub compiled_ends : (s : SourceTest) (p : ProgramTest) (starts : List (List ℕ)) → IsWellFormedSource s → IsCompiled s p starts
+    → (events : List Event) (end : MachineState (List ℕ)) → MachineRan flat p.threads events (machine_start p p.head.init_words) end → CanEnd flat p.threads end
 compiled_ends s p starts ok compiled = program_ends p (is_program s p starts ok compiled)

@@ -1,37 +1,36 @@
 -- A processor runs ahead of its source thread: the thread owes the local statements that the processor has carried out and
 -- the stores that are still in the store buffer, and the processor may stand in the middle of a statement.
-use Rattle.std.proofs.Common.{◌≡◌, ◌≢◌, ℕ, ◌+◌, ◌==◌, List, [], ◌∷◌, Some, sym, ◌∙◌, subst, slice_get, slice_set, slice_index}
-use Rattle.lw_base.specs.Threads.{code_of, value_of}
-use Rattle.lw_base.specs.declared.operand.Operand.{Operand}
+use Rattle.std.proofs.Common.{◌≡◌, ◌≢◌, ℕ, List, [], ◌∷◌, Some, sym, ◌∙◌, subst, subst₂, slice_get, slice_index, ◌↔◌, ◌+◌, length, Option, None, Bool, true, false, refl, ap, ⊎_elim, arith}
+use Rattle.lw_base.specs.Threads.{code_of}
 use Rattle.lw_litmus.specs.declared.stmt.Stmt.{Stmt}
-use Rattle.lw_litmus.specs.declared.stmt.Stmt.TheVariants.{Load, Swap, FetchAdd, Sum, IfEq, IfNe}
-use Rattle.lw_interleaving.specs.declared.thread.Thread.{Thread}
 use Rattle.lw_litmus.specs.declared.instr.Instr.{Instr}
-use Rattle.lw_litmus.specs.declared.instr.Instr.TheVariants as x86
+use Rattle.lw_interleaving.specs.declared.thread.Thread.{Thread}
 use Rattle.lw_tso.specs.Processors.{Processor}
-use Rattle.lw_tso.specs.Acts.{drain_act}
+use Rattle.lw_tso.specs.Acts.{drain_act, Act, step_act}
 use Rattle.lw_tso.proofs.api.Effects.{Does}
-use Rattle.lw_fence.proofs.Moves.{Turns}
-use Rattle.lw_fence.proofs.Owes.{Owes, first_store}
-use Rattle.lw_fence.proofs.Steps.{Sane}
+use Rattle.lw_fence.proofs.Carried.{Ends, Stored, apart, buffered, at_once, Carried, Led, Serves, row_serves}
+use Rattle.lw_fence.proofs.Moves.{Turns, turns_none, turns_on, turn}
+use Rattle.lw_fence.proofs.Owes.{Owes, first_store, nothing, local, store, owes_on, catch_up, after_store}
+use Rattle.lw_fence.proofs.Steps.{Sane, Allowed, stays_sane}
+use Rattle.std.proofs.lemmas.Bool.{cases_lt, false≢true}
+use Rattle.std.proofs.lemmas.List.{append-nil}
+use Rattle.std.proofs.lemmas.Option.{none-some, slice_get_past}
+use Rattle.lw_base.proofs.api.Lists.{get_some}
+use Rattle.lw_litmus.specs.Operations.{is_load}
+use Rattle.lw_litmus.specs.Sources.{operation_of}
+use Rattle.lw_interleaving.specs.Statements.{thread_after, words_after, going_on}
+use Rattle.lw_interleaving.proofs.api.Exchange.{thread_alone}
+use Rattle.lw_fence.specs.declared.row.Row.{Row}
+use Rattle.lw_fence.specs.declared.row.Row.TheVariants.{One, Two}
+use Rattle.lw_fence.specs.Compiling.{row, instrs_of}
+use Rattle.lw_fence.specs.Fences.{Is, NeedsFence}
+use Rattle.lw_fence.proofs.Placed.{Placed, StandsAt}
 
--- In the middle of a statement, before its last instruction; v is the thread at the statement.
-pub data Middle (starts : List ℕ) (v : Thread) (p : Processor) : Stmt → Instr → Type 0 where
-  -- behind the fence of a load
-  fenced : (d x : ℕ) → p.regs ≡ v.regs → p.buffer ≡ [] → Middle starts v p (Load d x) (x86.Load d x)
-  -- the register of a swap, or of a fetch-and-add, has the word that goes to memory
-  swapping : (d x a : ℕ) → p.regs ≡ slice_set v.regs d (slice_index v.regs a) → Middle starts v p (Swap d x a) (x86.Xchg x d)
-  adding : (d x a : ℕ) → p.regs ≡ slice_set v.regs d (slice_index v.regs a) → Middle starts v p (FetchAdd d x a) (x86.Xadd x d)
-  -- the register of a sum has the first word
-  summing : (d a : ℕ) (w : Operand) → p.regs ≡ slice_set v.regs d (slice_index v.regs a) → value_of w p.regs ≡ value_of w v.regs → Middle starts v p (Sum d a w) (x86.Add d w)
-  -- the flag tells what the jump asks
-  testing_eq : (a n to : ℕ) → p.regs ≡ v.regs → p.zero_flag ≡ (slice_index v.regs a == n) → Middle starts v p (IfEq a n to) (x86.Je (slice_index starts to))
-  testing_ne : (a n to : ℕ) → p.regs ≡ v.regs → p.zero_flag ≡ (slice_index v.regs a == n) → Middle starts v p (IfNe a n to) (x86.Jne (slice_index starts to))
-
--- The processor is at the first instruction of the statement at which v is, or in its middle.
+-- The processor is at the first instruction of the statement at which v is, or in its middle, before its last instruction.
 pub data Stage (code : List Stmt) (instrs : List Instr) (starts : List ℕ) (v : Thread) (p : Processor) : Type 0 where
   whole : p.position ≡ slice_index starts v.position → p.regs ≡ v.regs → Stage code instrs starts v p
-  midway : (s : Stmt) (i : Instr) → slice_get code v.position ≡ Some s → slice_get instrs p.position ≡ Some i → slice_index starts (v.position + 1) ≡ p.position + 1 → Middle starts v p s i → Stage code instrs starts v p
+  midway : (s : Stmt) (i : Instr) → slice_get code v.position ≡ Some s → slice_get instrs p.position ≡ Some i → Ends starts v s p i
+      → Stage code instrs starts v p
 
 -- How far the processor p is ahead of the thread th: by what leads th to `ahead`, at whose statement the processor is.
 pub record Lag (code : List Stmt) (instrs : List Instr) (starts : List ℕ) (th : Thread) (p : Processor) : Type 0 where
@@ -41,37 +40,134 @@ pub record Lag (code : List Stmt) (instrs : List Instr) (starts : List ℕ) (th 
   pub sane : Sane code ahead
 
 -- The source follows an event of processor t that leaves q and the memory n: thread t takes some steps, and lags behind again.
-pub record Followed (program : List (List Stmt)) (t : ℕ) (instrs : List Instr) (starts : List ℕ) (th : Thread) (m : List ℕ) (q : Processor) (n : List ℕ) : Type 0 where
+pub record Followed (program : List (List Stmt)) (t : ℕ) (instrs : List Instr) (starts : List ℕ) (th : Thread) (m : List ℕ) (q : Processor)
+    (n : List ℕ) : Type 0 where
   pub now : Thread
   pub turns : Turns program t th m now n
   pub lag : Lag (code_of program t) instrs starts now q
 
 -- A drain leaves the middle of a statement as it is.
-drained_middle : (starts : List ℕ) (v : Thread) (p : Processor) (newer : List (ℕ × ℕ)) (s : Stmt) (i : Instr) → p.buffer ≢ [] → Middle starts v p s i → Middle starts v (record p { buffer = newer }) s i
-drained_middle starts v p newer s i full (fenced d x regs empty) = absurd (full empty)
-drained_middle starts v p newer s i full (swapping d x a regs) = swapping d x a regs
-drained_middle starts v p newer s i full (adding d x a regs) = adding d x a regs
-drained_middle starts v p newer s i full (summing d a w regs same) = summing d a w regs same
-drained_middle starts v p newer s i full (testing_eq a n to regs flag) = testing_eq a n to regs flag
-drained_middle starts v p newer s i full (testing_ne a n to regs flag) = testing_ne a n to regs flag
-
-drained_stage : (code : List Stmt) (instrs : List Instr) (starts : List ℕ) (v : Thread) (p : Processor) (newer : List (ℕ × ℕ)) → p.buffer ≢ [] → Stage code instrs starts v p → Stage code instrs starts v (record p { buffer = newer })
+drained_stage : (code : List Stmt) (instrs : List Instr) (starts : List ℕ) (v : Thread) (p : Processor) (newer : List (ℕ × ℕ)) → p.buffer ≢ []
+    → Stage code instrs starts v p → Stage code instrs starts v (record p { buffer = newer })
 drained_stage code instrs starts v p newer full (whole position regs) = whole position regs
-drained_stage code instrs starts v p newer full (midway s i at here next middle) = midway s i at here next (drained_middle starts v p newer s i full middle)
+drained_stage code instrs starts v p newer full (midway s i at here ends) =
+    midway s i at here (record { empty = λ load. absurd (full (ends.empty load)); carries = ends.carries })
 
 -- The thread carries out the store that is drained.
-pub drained : (program : List (List Stmt)) (t : ℕ) (instrs : List Instr) (starts : List ℕ) (th : Thread) (p : Processor) (m : List ℕ) → Lag (code_of program t) instrs starts th p
-    → (b : List (ℕ × ℕ)) → p.buffer ≡ b → (q : Processor) (n : List ℕ) → Does m (drain_act b p) q n → Followed program t instrs starts th m q n
+pub drained : (program : List (List Stmt)) (t : ℕ) (instrs : List Instr) (starts : List ℕ) (th : Thread) (p : Processor) (m : List ℕ)
+    → Lag (code_of program t) instrs starts th p → (b : List (ℕ × ℕ)) → p.buffer ≡ b → (q : Processor) (n : List ℕ) → Does m (drain_act b p) q n
+    → Followed program t instrs starts th m q n
 drained program t instrs starts th p m lag [] is q n d = absurd d
 drained program t instrs starts th p m lag (oldest ∷ newer) is q n d =
     let code = code_of program t in
     let a = first_store program t th lag.ahead p.buffer m oldest newer lag.owes is in
-    let r : Processor = record p { buffer = newer } in
     let full : p.buffer ≢ [] = λ none. let e : oldest ∷ newer ≡ [] = sym is ∙ none in cc in
-    let left : Lag code instrs starts a.mid r =
-    record { ahead = lag.ahead; owes = a.owes; stage = drained_stage code instrs starts lag.ahead p newer full lag.stage; sane = lag.sane } in
+    let left : Followed program t instrs starts th m (record p { buffer = newer }) _ =
     record {
       now = a.mid;
-      turns = subst (λ l. Turns program t th m a.mid l) (sym d.1) a.turns;
-      lag = subst (λ c. Lag code instrs starts a.mid c) (sym d.0) left;
-    }
+      turns = a.turns;
+      lag = record { ahead = lag.ahead; owes = a.owes; stage = drained_stage code instrs starts lag.ahead p newer full lag.stage; sane = lag.sane };
+    } in
+    subst₂ (λ c l. Followed program t instrs starts th m c l) (sym d.0) (sym d.1) left
+
+-- Thread th owes what leads it to v, at whose statement its processor p is, over the memory m.
+module _ (program : List (List Stmt)) (t : ℕ) (instrs : List Instr) (starts : List ℕ)
+    (allowed : (j : ℕ) (s : Stmt) → slice_get (code_of program t) j ≡ Some s → Allowed (code_of program t) j s)
+    (placed : Placed (code_of program t) instrs starts) (th : Thread) (p : Processor) (m : List ℕ) (v : Thread)
+    (owes : Owes (code_of program t) th p.buffer v) (sane : Sane (code_of program t) v) where
+  abbrev code : List Stmt
+  code = code_of program t
+
+  abbrev Goal : Processor → List ℕ → Type 0
+  Goal q n = Followed program t instrs starts th m q n
+
+  -- Whatever the act does, the source follows.
+  abbrev After : Act → Type 0
+  After act = (q : Processor) (n : List ℕ) → Does m act q n → Goal q n
+
+  -- an instruction that stands here
+  here : (i : Instr) → slice_get instrs p.position ≡ Some i → After (step_act (Some i) p) → After (step_act (slice_get instrs p.position) p)
+  here i at after = subst (λ o. After (step_act o p)) (sym at) after
+
+  -- The last instruction of a statement: the thread owes the statement too, or it catches up, and carries the statement out.
+  carried : (s : Stmt) → slice_get code v.position ≡ Some s → (q : Processor) (n : List ℕ) → Carried starts s v p.buffer m q n → Goal q n
+  carried s at q n c = go c.stored
+    where
+      next : Thread
+      next = thread_after (operation_of s) v m
+
+      good : Sane code next
+      good = stays_sane code v m s (allowed v.position s at) at sane
+
+      waits : Owes code th q.buffer next → n ≡ m → Goal q n
+      waits o same = record {
+        now = th;
+        turns = subst (λ k. Turns program t th m th k) (sym same) (turns_none program t th m);
+        lag = record { ahead = next; owes = o; stage = whole c.position c.regs; sane = good };
+      }
+
+      go : Stored s v p.buffer m q.buffer n → Goal q n
+      go (apart l still same) =
+          waits (subst₂ (λ b w. Owes code th b w) (append-nil p.buffer ∙ sym still) (thread_alone (operation_of s) v [] m l)
+          (owes_on code th v _ p.buffer [] owes (local s at l nothing))) same
+      go (buffered x w is more same) =
+          waits (subst₂ (λ b w. Owes code th b w) (sym more) (ap (λ z. thread_after (operation_of z) v m) (sym is))
+          (owes_on code th v (going_on v) p.buffer _ owes (store x w (at ∙ ap Some is) nothing))) same
+      go (at_once none empty still left) = record {
+        now = next;
+        turns = subst (λ k. Turns program t th m next k) (sym left)
+            (turns_on program t th v next m m (words_after (operation_of s) v m) (catch_up program t th v p.buffer m owes empty) (turn program t v m s at));
+        lag = record { ahead = next; owes = subst (λ b. Owes code next b next) (sym still) nothing; stage = whole c.position c.regs; sane = good };
+      }
+
+  -- the first instruction of a row
+  row_begun : (s : Stmt) → slice_get code v.position ≡ Some s → (r : Row) → StandsAt instrs p.position (instrs_of r) → Serves starts v s p r
+      → After (step_act (slice_get instrs p.position) p)
+  row_begun s at (One i) has ends = here i has.0 (λ q n d. carried s at q n (ends.carries p.buffer m ends.empty q n d))
+  row_begun s at (Two i j) has leads = here i has.0 (λ q n d. first q n (leads m q n d))
+    where
+      first : (q : Processor) (n : List ℕ) → Led starts v s p j q × (n ≡ m) → Goal q n
+      first q n (led, same) = record {
+        now = th;
+        turns = subst (λ k. Turns program t th m th k) (sym same) (turns_none program t th m);
+        lag = record {
+          ahead = v;
+          owes = subst (λ b. Owes code th b v) (sym led.buffer) owes;
+          stage = midway s j at (ap (λ k. slice_get instrs k) led.position ∙ has.1.0) led.ends;
+          sane = sane;
+        };
+      }
+
+  -- a load without a fence, where a store may still wait
+  unfenced : (s : Stmt) → slice_get code v.position ≡ Some s → (fence : Bool) → ((fence ≡ true) ↔ NeedsFence code v.position)
+      → is_load (operation_of s) ≡ true → fence ≡ false → p.buffer ≡ []
+  unfenced s at fence needs load none = go p.buffer refl
+    where
+      go : (b : List (ℕ × ℕ)) → p.buffer ≡ b → b ≡ []
+      go [] empty = refl
+      go (entry ∷ newer) full =
+          let behind = after_store code th v p.buffer owes (λ e. let f : entry ∷ newer ≡ [] = sym full ∙ e in cc) in
+          absurd (false≢true (sym none ∙ needs.1 (subst (Is is_load) (sym at) load, behind)))
+
+  begun : (o : Option Stmt) → slice_get code v.position ≡ o → p.position ≡ slice_index starts v.position → p.regs ≡ v.regs
+      → After (step_act (slice_get instrs p.position) p)
+  begun None e position regs = λ q n done. absurd (subst (λ o. Does m (step_act o p) q n) past done)
+    where
+      at_end : v.position ≡ length code
+      at_end = ⊎_elim
+          (λ lt. let a = get_some code v.position lt in absurd (none-some a.0 (sym e ∙ a.1)))
+          (λ ge. omega (arith, ge, sane.within)) (cases_lt v.position (length code))
+
+      past : slice_get instrs p.position ≡ None
+      past = slice_get_past instrs p.position (omega (arith, position, ap (λ k. slice_index starts k) at_end, placed.last))
+  begun (Some s) at position regs =
+      let stands = placed.at v.position s at in
+      let has = subst (λ k. StandsAt instrs k (instrs_of (row starts stands.fence s))) (sym position) stands.has in
+      let next : slice_index starts (v.position + 1) ≡ p.position + length (instrs_of (row starts stands.fence s)) = omega (arith, stands.next, position) in
+      row_begun s at (row starts stands.fence s) has
+      (row_serves starts v p regs s stands.fence sane.six (allowed v.position s at).registers (unfenced s at stands.fence stands.needed) next)
+
+  -- Whatever the processor's next instruction does, the source follows.
+  pub stepped : Stage code instrs starts v p → After (step_act (slice_get instrs p.position) p)
+  stepped (whole position regs) = begun (slice_get code v.position) refl position regs
+  stepped (midway s i at stands ends) = here i stands (λ q n d. carried s at q n (ends.carries p.buffer m ends.empty q n d))

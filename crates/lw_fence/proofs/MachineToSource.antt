@@ -1,79 +1,160 @@
--- From machine to source: each outcome of the compiled program over the flat memory is one of the source.
-use Rattle.std.proofs.Common.{◌≡◌, ℕ, ◌<◌, nat_le, List, [], length, Some, true, refl, sym, ap, ap₂, ◌∙◌, subst, arith, slice_get}
+-- At the end of a run of the machine each thread of the source catches up, and is then at its end with the registers of
+-- its processor.
+use Rattle.std.proofs.Common.{◌≡◌, ℕ, zero, suc, ◌<◌, ◌≤◌, ◌==◌, nat_le, List, [], length, Some, true, refl, sym, ap, ◌∙◌, subst, ⊎_elim, arith, slice_get, slice_set, slice_index, eqb-true}
 use Rattle.std.specs.Prelude.{IsTrue}
-use Rattle.std.proofs.lemmas.Bool.{le-leb}
-use Rattle.std.proofs.lemmas.List.{length-map}
+use Rattle.std.proofs.lemmas.Bool.{cases_lt, and_parts, leb-true, le-leb}
+use Rattle.std.proofs.lemmas.List.{nil_from_length}
 use Rattle.std.proofs.lemmas.Option.{slice_get_within, get_or_from_slice_get}
-use Rattle.lw_base.specs.Outcomes.{Final}
 use Rattle.lw_base.specs.Threads.{code_of}
-use Rattle.lw_memory.specs.Flat.{flat}
-use Rattle.lw_base.proofs.api.Lists.{get_some}
+use Rattle.lw_base.proofs.api.Lists.{fellows_after, get_some, at_index, set_own}
 use Rattle.lw_litmus.specs.declared.stmt.Stmt.{Stmt}
 use Rattle.lw_interleaving.specs.declared.thread.Thread.{Thread}
-use Rattle.lw_litmus.specs.Sources.{IsWellFormedSource}
 use Rattle.lw_litmus.specs.Tests.{SourceTest, ProgramTest}
-use Rattle.lw_interleaving.specs.Runs.{State, RunsTo, SourceOutcome, start_of, starting as thread_starting, outcome_of, is_final as is_over}
-use Rattle.lw_tso.specs.Processors.{Processor, starting}
+use Rattle.lw_interleaving.specs.Runs.{State, RunsTo, SourceOutcome, start_of, starting as thread_starting, is_final as is_over}
+use Rattle.lw_interleaving.proofs.api.Exchange.{state_of}
+use Rattle.lw_litmus.specs.declared.instr.Instr.{Instr}
+use Rattle.lw_tso.specs.Processors.{Processor}
 use Rattle.lw_tso.specs.Machines.{MachineState}
-use Rattle.lw_tso.specs.Runs.{MachineRan, MachineOutcome, machine_outcome}
-use Rattle.lw_fence.specs.Compiling.{IsCompiled}
-use Rattle.lw_fence.proofs.Behind.{LagAt, Behind, all_caught, caught_on}
-use Rattle.lw_fence.proofs.CaughtUp.{HasEnded, first_caught_up}
-use Rattle.lw_fence.proofs.Lag.{whole}
-use Rattle.lw_base.proofs.api.SideBySide.{same_maps, zip_pass}
-use Rattle.lw_fence.proofs.Owes.{nothing}
-use Rattle.lw_fence.proofs.Placed.{placed_at}
-use Rattle.lw_fence.proofs.Steps.{Sane, compiled_start, start_is, first_pair, first_sane}
+use Rattle.lw_tso.specs.Runs.{is_done, is_final, MachineRan, MachineOutcome}
+use Rattle.lw_fence.specs.declared.row.Row.{Row}
+use Rattle.lw_fence.specs.declared.row.Row.TheVariants.{One, Two}
+use Rattle.lw_fence.specs.Compiling.{row, instrs_of, IsCompiled}
+use Rattle.lw_fence.proofs.Behind.{LagAt, Behind, Caught, caught, caught_on, not_moved, all_caught}
+use Rattle.lw_fence.proofs.Beside.{thread_at, processor_at, same_outcome, first, compiled_start, start_is}
+use Rattle.lw_fence.proofs.Lag.{Stage, whole, midway}
+use Rattle.lw_base.proofs.api.SideBySide.{zip_passes, zip_pass}
+use Rattle.lw_tso.proofs.api.Effects.{state}
+use Rattle.lw_fence.proofs.Owes.{Owes, nothing, catch_up}
+use Rattle.lw_fence.proofs.Placed.{Placed, StandsAt, placed_at}
+use Rattle.lw_base.specs.Outcomes.{Final}
+use Rattle.lw_memory.specs.Flat.{flat}
+use Rattle.lw_litmus.specs.WellFormedTests.{IsWellFormedSource}
+
+-- A statement has an instruction.
+row_within : (instrs : List Instr) (k : ℕ) (r : Row) → StandsAt instrs k (instrs_of r) → k < length instrs
+row_within instrs k (One i) has = slice_get_within instrs k i has.0
+row_within instrs k (Two i j) has = slice_get_within instrs k i has.0
+
+-- The thread is at its end, with the registers of its processor.
+abbrev pub HasEnded : List Stmt → Thread → Processor → Type 0
+HasEnded code th c = (length code ≤ th.position) × (th.regs ≡ c.regs)
+
+-- Where the processor is at its end, so is the thread that owes nothing more.
+stage_ended : (code : List Stmt) (instrs : List Instr) (starts : List ℕ) (v : Thread) (c : Processor) → Placed code instrs starts
+    → Stage code instrs starts v c → length instrs ≤ c.position → HasEnded code v c
+stage_ended code instrs starts v c placed (whole position regs) past =
+    (⊎_elim early (λ ge. ge) (cases_lt v.position (length code)), sym regs)
+  where
+    early : v.position < length code → length code ≤ v.position
+    early lt =
+        let s = get_some code v.position lt in
+        let stands = placed.at v.position s.0 s.1 in
+        absurd (omega (arith, row_within instrs (slice_index starts v.position) (row starts stands.fence s.0) stands.has, past, position))
+stage_ended code instrs starts v c placed (midway s i at stands ends) past =
+    absurd (omega (arith, slice_get_within instrs c.position i stands, past))
+
+-- a processor that is done
+done_parts : (code : List Instr) (c : Processor) → is_done code c ≡ true → (length code ≤ c.position) × (c.buffer ≡ [])
+done_parts code c done =
+    let both = and_parts (nat_le (length code) c.position) (length c.buffer == 0) done in
+    (leb-true (length code) c.position both.0, nil_from_length c.buffer (eqb-true (length c.buffer) 0 both.1))
+
+module _ (s : SourceTest) (p : ProgramTest) (starts : List (List ℕ)) (compiled : IsCompiled s p starts) (ms : MachineState (List ℕ))
+    (final : IsTrue (is_final p.threads ms)) where
+  -- The first n threads are at their ends.
+  abbrev pub Over : State → ℕ → Type 0
+  Over ss n =
+      (t : ℕ) (th : Thread) (c : Processor) → slice_get ss.threads t ≡ Some th → slice_get ms.processors t ≡ Some c → t < n
+      → HasEnded (code_of s.threads t) th c
+
+  pub record CaughtUp (ss : State) (n : ℕ) : Type 0 where
+    pub end : State
+    pub caught : Caught s p starts ss end ms
+    pub over : Over end n
+
+  -- Thread n catches up.
+  one_more : (n : ℕ) (ss : State) (th : Thread) (c : Processor) → Behind s p starts ss ms → Over ss n → n < length s.threads
+      → slice_get ss.threads n ≡ Some th → slice_get ms.processors n ≡ Some c → CaughtUp ss (suc n)
+  one_more n ss th c b over lt was got = record {
+    end = state_of (slice_set ss.threads n lag.ahead) ms.memory;
+    caught = caught s p starts n ss ms ms th lag.ahead c c ms.memory b was got
+        (catch_up s.threads n th lag.ahead c.buffer ms.memory lag.owes done.1) now (ap (λ l. state l ms.memory) (sym same));
+    over = λ t x d e f. fellows_after (λ u y z. u < suc n → HasEnded (code_of s.threads u) y z) ss.threads ms.processors n th lag.ahead c c
+        was got (λ u y z ne g h below. over u y z g h (omega (arith, below, ne))) (λ below. ended) t x d e (ap (λ l. slice_get l t) same ∙ f);
+  }
+    where
+      same : slice_set ms.processors n c ≡ ms.processors
+      same = set_own ms.processors n c got
+
+      lag : LagAt s p starts n th c
+      lag = b.at n th c was got
+
+      done : (length (code_of p.threads n) ≤ c.position) × (c.buffer ≡ [])
+      done = done_parts (code_of p.threads n) c
+          (zip_passes (λ (x : List Instr × Processor). is_done x.0 x.1) p.threads ms.processors n (code_of p.threads n) c final
+          (at_index p.threads n [] (omega (arith, lt, compiled.as_many))) got)
+
+      now : LagAt s p starts n lag.ahead c
+      now = record {
+        ahead = lag.ahead;
+        owes = subst (λ l. Owes (code_of s.threads n) lag.ahead l lag.ahead) (sym done.1) nothing;
+        stage = lag.stage;
+        sane = lag.sane;
+      }
+
+      ended : HasEnded (code_of s.threads n) lag.ahead c
+      ended = stage_ended (code_of s.threads n) (code_of p.threads n) (code_of starts n) lag.ahead c (placed_at s p starts compiled n lt)
+          lag.stage done.0
+
+  -- The first n threads catch up, one after another.
+  pub first_caught_up : (n : ℕ) (ss : State) → n ≤ length s.threads → Behind s p starts ss ms → CaughtUp ss n
+  first_caught_up zero ss le b = record { end = ss; caught = not_moved s p starts ss ms b; over = λ t th c e f lt. absurd (omega arith) }
+  first_caught_up (suc n) ss le b = more (first_caught_up n ss (omega arith) b)
+    where
+      more : CaughtUp ss n → CaughtUp ss (suc n)
+      more d =
+          let th = thread_at s (LagAt s p starts) d.end ms d.caught.behind n le in
+          let c = processor_at s (LagAt s p starts) d.end ms d.caught.behind n le in
+          let a = one_more n d.end th.0 c.0 d.caught.behind d.over le th.1 c.1 in
+          record { end = a.end; caught = caught_on s p starts ss d.end a.end ms ms d.caught a.caught; over = a.over }
 
 module _ (s : SourceTest) (p : ProgramTest) (starts : List (List ℕ)) (ok : IsWellFormedSource s) (compiled : IsCompiled s p starts) where
   behind_first : Behind s p starts (start_of s) (compiled_start s)
-  behind_first = record {
-    words = refl;
-    as_many = length-map s.head.init_regs _ ∙ many;
-    as_many_processors = length-map s.head.init_regs _ ∙ many;
-    lag = lag_first;
-  }
+  behind_first = first s (LagAt s p starts) ok (λ t regs lt six. record {
+    ahead = thread_starting regs;
+    owes = nothing;
+    stage = whole (sym (placed_at s p starts compiled t lt).first) refl;
+    sane = record { six = six; within = omega arith };
+  })
+
+  -- Where all threads are at their ends, the source has ended.
+  all_over : (ss : State) (ms : MachineState (List ℕ)) (final : IsTrue (is_final p.threads ms)) → Behind s p starts ss ms
+      → Over s p starts compiled ms final ss (length s.threads) → IsTrue (is_over s.threads ss)
+  all_over ss ms final behind over = zip_pass (λ (x : List Stmt × Thread). nat_le (length x.0) x.1.position) s.threads ss.threads each
     where
-      many : length s.head.init_regs ≡ length s.threads
-      many = ok.head.regs ∙ sym ok.as_many
-
-      lag_first : (t : ℕ) (th : Thread) (c : Processor) → slice_get (start_of s).threads t ≡ Some th → slice_get (compiled_start s).processors t ≡ Some c → LagAt s p starts t th c
-      lag_first t th c e f =
-          let a = first_pair s t th c e f in
-          let placed = placed_at s p starts compiled t (omega (arith, slice_get_within s.head.init_regs t a.0 a.1, many)) in
-          let first : LagAt s p starts t (thread_starting a.0) (starting a.0) =
-          record { ahead = thread_starting a.0; owes = nothing; stage = whole (sym placed.first) refl; sane = subst (λ x. Sane (code_of s.threads t) x) a.2 (first_sane s ok t th e) } in
-          subst (λ x. LagAt s p starts t x c) (sym a.2) (subst (λ d. LagAt s p starts t (thread_starting a.0) d) (sym a.3) first)
-
-  -- Where all threads are at their ends with the registers of their processors, the source has ended so.
-  module _ (ss : State) (ms : MachineState (List ℕ)) (behind : Behind s p starts ss ms) (over : (t : ℕ) (th : Thread) (c : Processor) → slice_get ss.threads t ≡ Some th → slice_get ms.processors t ≡ Some c → t < length s.threads → HasEnded (code_of s.threads t) th c) where
-    all_over : IsTrue (is_over s.threads ss)
-    all_over = zip_pass (λ (x : List Stmt × Thread). nat_le (length x.0) x.1.position) s.threads ss.threads each
-      where
-        each : (t : ℕ) (code : List Stmt) (th : Thread) → slice_get s.threads t ≡ Some code → slice_get ss.threads t ≡ Some th → nat_le (length code) th.position ≡ true
-        each t code th e f =
-            let within = slice_get_within s.threads t code e in
-            let c = get_some ms.processors t (omega (arith, within, behind.as_many_processors)) in
-            let own : code_of s.threads t ≡ code = get_or_from_slice_get s.threads t code [] e in
-            le-leb (length code) th.position (omega (arith, (over t th c.0 f c.1 within).0, ap length own))
-
-    same_outcome : machine_outcome flat ms ≡ outcome_of ss
-    same_outcome =
-        let regs = same_maps (λ (c : Processor). c.regs) (λ (th : Thread). th.regs) ms.processors ss.threads (behind.as_many_processors ∙ sym behind.as_many) (λ t c th e f. sym (over t th c f e (omega (arith, slice_get_within ss.threads t th f, behind.as_many))).1) in
-        ap₂ (λ (r : List (List ℕ)) (w : List ℕ). let o : Final = record { regs = r; words = w } in o) regs behind.words
+      each : (t : ℕ) (code : List Stmt) (th : Thread) → slice_get s.threads t ≡ Some code → slice_get ss.threads t ≡ Some th
+          → nat_le (length code) th.position ≡ true
+      each t code th e f =
+          let within = slice_get_within s.threads t code e in
+          let c = processor_at s (LagAt s p starts) ss ms behind t within in
+          let own : code_of s.threads t ≡ code = get_or_from_slice_get s.threads t code [] e in
+          le-leb (length code) th.position (omega (arith, (over t th c.0 f c.1 within).0, ap length own))
 
 -- An outcome of the compiled program is one of the source.
-pub machine_to_source : (s : SourceTest) (p : ProgramTest) (starts : List (List ℕ)) (o : Final) → IsWellFormedSource s → IsCompiled s p starts → MachineOutcome flat p p.head.init_words o → SourceOutcome s o
+pub machine_to_source : (s : SourceTest) (p : ProgramTest) (starts : List (List ℕ)) (o : Final) → IsWellFormedSource s → IsCompiled s p starts
+    → MachineOutcome flat p p.head.init_words o → SourceOutcome s o
 machine_to_source s p starts o ok compiled (events, r) =
     let ran = subst (λ b. MachineRan flat p.threads events b r.end) (start_is s p starts compiled) r.ran in
     let a = all_caught s p starts ok compiled events (start_of s) (compiled_start s) r.end (behind_first s p starts ok compiled) ran in
     let d = first_caught_up s p starts compiled r.end r.final (length s.threads) a.0 (omega arith) a.1.behind in
     let c = caught_on s p starts (start_of s) a.0 d.end r.end r.end a.1 d.caught in
+    let within = λ (t : ℕ) (th : Thread) (e : slice_get d.end.threads t ≡ Some th). slice_get_within d.end.threads t th e in
     let run : RunsTo s c.order o =
     record {
       end = d.end;
       ran = c.ran;
-      final = all_over s p starts ok compiled d.end r.end c.behind d.over;
-      is = r.is ∙ same_outcome s p starts ok compiled d.end r.end c.behind d.over;
+      final = all_over s p starts ok compiled d.end r.end r.final c.behind d.over;
+      is = r.is ∙ sym (same_outcome s (LagAt s p starts) d.end r.end c.behind
+          (λ t th x e f. (d.over t th x e f (omega (arith, within t th e, c.behind.as_many))).1));
     } in
     (c.order, run)

@@ -10,10 +10,11 @@ use Rattle.lw_memory.specs.Flat.{flat}
 use Rattle.lw_memory.specs.Memory.{Memory}
 use Rattle.lw_base.proofs.api.Lists.{got_set_same, set_own}
 use Rattle.lw_litmus.specs.declared.stmt.Stmt.{Stmt}
+use Rattle.lw_litmus.specs.Sources.{operation_of}
 use Rattle.lw_interleaving.specs.declared.thread.Thread.{Thread}
 use Rattle.lw_interleaving.specs.Statements.{thread_after, words_after}
 use Rattle.lw_interleaving.specs.Runs.{State, EventDone as SourceDone, Ran, carried_out, step_of, is_final as is_over}
-use Rattle.lw_interleaving.proofs.api.Exchange.{state_of}
+use Rattle.lw_interleaving.proofs.api.Exchange.{state_of, state_after}
 use Rattle.lw_litmus.specs.declared.instr.Instr.{Instr}
 use Rattle.lw_tso.specs.Processors.{Processor}
 use Rattle.lw_tso.specs.Acts.{step_act, drain_act}
@@ -22,35 +23,47 @@ use Rattle.lw_tso.specs.Runs.{MachineRan, is_final}
 use Rattle.lw_tso.proofs.api.Effects.{Does, state, leads_from}
 
 -- one list of events after another
-pub run_append : {M : Type 0} (mem : Memory M) (program : List (List Instr)) (es fs : List Event) (s mid end : MachineState M) → MachineRan mem program es s mid → MachineRan mem program fs mid end → MachineRan mem program (es ++ fs) s end
+pub run_append : {M : Type 0} (mem : Memory M) (program : List (List Instr)) (es fs : List Event) (s mid end : MachineState M)
+    → MachineRan mem program es s mid → MachineRan mem program fs mid end → MachineRan mem program (es ++ fs) s end
 run_append mem program es fs s mid end r q = Ran-append (EventDone mem program) (is_final program) es fs s mid end r q
 
-pub source_append : (program : List (List Stmt)) (ts us : List ℕ) (s mid end : State) → Ran program (map Step ts) s mid → Ran program (map Step us) mid end → Ran program (map Step (ts ++ us)) s end
+pub source_append : (program : List (List Stmt)) (ts us : List ℕ) (s mid end : State) → Ran program (map Step ts) s mid
+    → Ran program (map Step us) mid end → Ran program (map Step (ts ++ us)) s end
 source_append program ts us s mid end r q =
     subst (λ (es : List Event). Ran program es s end) (sym (map-append Step ts us))
     (Ran-append (SourceDone program) (is_over program) (map Step ts) (map Step us) s mid end r q)
 
 -- Processor t runs these events, whatever the others are.
-pub record Moves (program : List (List Instr)) (t : ℕ) (p : Processor) (m : List ℕ) (es : List Event) (q : Processor) (n : List ℕ) : Type 0 where
-  pub on : (processors : List Processor) → slice_get processors t ≡ Some p → MachineRan flat program es (state processors m) (state (slice_set processors t q) n)
+pub record Moves (program : List (List Instr)) (t : ℕ) (p : Processor) (m : List ℕ) (es : List Event) (q : Processor)
+    (n : List ℕ) : Type 0 where
+  pub on : (processors : List Processor) → slice_get processors t ≡ Some p
+      → MachineRan flat program es (state processors m) (state (slice_set processors t q) n)
 
 -- Thread t takes these steps, whatever the others are.
 pub record Turns (program : List (List Stmt)) (t : ℕ) (th : Thread) (m : List ℕ) (end : Thread) (n : List ℕ) : Type 0 where
   pub order : List ℕ
-  pub on : (threads : List Thread) → slice_get threads t ≡ Some th → Ran program (map Step order) (state_of threads m) (state_of (slice_set threads t end) n)
+  pub on : (threads : List Thread) → slice_get threads t ≡ Some th
+      → Ran program (map Step order) (state_of threads m) (state_of (slice_set threads t end) n)
 
 module _ (program : List (List Instr)) (t : ℕ) where
-  pub moves_on : (p q r : Processor) (m n k : List ℕ) (es fs : List Event) → Moves program t p m es q n → Moves program t q n fs r k → Moves program t p m (es ++ fs) r k
+  pub moves_on : (p q r : Processor) (m n k : List ℕ) (es fs : List Event) → Moves program t p m es q n
+      → Moves program t q n fs r k → Moves program t p m (es ++ fs) r k
   moves_on p q r m n k es fs a b = record {
     on = λ processors was.
-        run_append flat program es fs (state processors m) (state (slice_set processors t q) n) (state (slice_set processors t r) k) (a.on processors was)
-        (subst (λ c. MachineRan flat program fs (state (slice_set processors t q) n) (state c k)) (set-set processors t q r) (b.on (slice_set processors t q) (got_set_same processors t q p was)));
+        let mid = slice_set processors t q in
+        let second = b.on mid (got_set_same processors t q p was) in
+        run_append flat program es fs (state processors m) (state mid n) _ (a.on processors was)
+        (subst (λ c. MachineRan flat program fs (state mid n) (state c k)) (set-set processors t q r) second);
   }
 
-  pub step_moves : (p q : Processor) (m n : List ℕ) (i : Instr) → slice_get (code_of program t) p.position ≡ Some i → Does m (step_act (Some i) p) q n → Moves program t p m (Step t ∷ []) q n
+  pub step_moves : (p q : Processor) (m n : List ℕ) (i : Instr) → slice_get (code_of program t) p.position ≡ Some i
+      → Does m (step_act (Some i) p) q n → Moves program t p m (Step t ∷ []) q n
   step_moves p q m n i next d = record {
-    on = λ processors was.
-        (state (slice_set processors t q) n, leads_from program (Step t) processors p q m n was (subst (λ o. Does m (step_act o p) q n) (sym next) d), refl);
+    on = λ processors was. (
+      state (slice_set processors t q) n,
+      leads_from program (Step t) processors p q m n was (subst (λ o. Does m (step_act o p) q n) (sym next) d),
+      refl,
+    );
   }
 
   pub drain_moves : (p q : Processor) (m n : List ℕ) → Does m (drain_act p.buffer p) q n → Moves program t p m (Drain t ∷ []) q n
@@ -62,17 +75,22 @@ module _ (program : List (List Stmt)) (t : ℕ) where
   pub turns_none : (th : Thread) (m : List ℕ) → Turns program t th m th m
   turns_none th m = record { order = []; on = λ threads was. ap (λ l. state_of l m) (set_own threads t th was) }
 
-  pub turns_on : (th mid end : Thread) (m n k : List ℕ) → Turns program t th m mid n → Turns program t mid n end k → Turns program t th m end k
+  pub turns_on : (th mid end : Thread) (m n k : List ℕ) → Turns program t th m mid n → Turns program t mid n end k
+      → Turns program t th m end k
   turns_on th mid end m n k a b = record {
     order = a.order ++ b.order;
     on = λ threads was.
-        source_append program a.order b.order (state_of threads m) (state_of (slice_set threads t mid) n) (state_of (slice_set threads t end) k) (a.on threads was)
-        (subst (λ c. Ran program (map Step b.order) (state_of (slice_set threads t mid) n) (state_of c k)) (set-set threads t mid end) (b.on (slice_set threads t mid) (got_set_same threads t mid th was)));
+        let after = slice_set threads t mid in
+        let second = b.on after (got_set_same threads t mid th was) in
+        source_append program a.order b.order (state_of threads m) (state_of after n) _ (a.on threads was)
+        (subst (λ c. Ran program (map Step b.order) (state_of after n) (state_of c k)) (set-set threads t mid end) second);
   }
 
-  pub turn : (th : Thread) (m : List ℕ) (x : Stmt) → slice_get (code_of program t) th.position ≡ Some x → Turns program t th m (thread_after x th m) (words_after x th m)
+  pub turn : (th : Thread) (m : List ℕ) (x : Stmt) → slice_get (code_of program t) th.position ≡ Some x
+      → Turns program t th m (thread_after (operation_of x) th m) (words_after (operation_of x) th m)
   turn th m x next = record {
     order = t ∷ [];
     on = λ threads was.
-        (state_of (slice_set threads t (thread_after x th m)) (words_after x th m), ap (λ o. step_of program t (state_of threads m) o) was ∙ ap (λ o. carried_out t th (state_of threads m) o) next, refl);
+        let s = state_of threads m in
+        (state_after t th (operation_of x) s, ap (step_of program t s) was ∙ ap (carried_out t th s) next, refl);
   }

@@ -14,47 +14,58 @@ use Rattle.lw_interleaving.specs.declared.thread.Thread.{Thread}
 use Rattle.lw_litmus.specs.Tests.{SourceTest, ProgramTest}
 use Rattle.lw_interleaving.specs.Runs.{State, Ran, source_step}
 use Rattle.lw_interleaving.proofs.api.Exchange.{stepped}
-use Rattle.lw_fence.specs.Fences.{is_store}
+use Rattle.lw_litmus.specs.Operations.{is_store}
+use Rattle.lw_litmus.specs.Sources.{operation_of}
 use Rattle.lw_fence.specs.Compiling.{IsCompiled}
 use Rattle.lw_fence.specs.Schedules.{statement_events, thread_events, going_on, schedule}
 use Rattle.lw_base.proofs.api.SideBySide.{got_map}
-use Rattle.lw_fence.proofs.Placed.{placed_at}
-use Rattle.lw_fence.proofs.Walk.{starts_many}
+use Rattle.lw_fence.proofs.Placed.{placed_at, starts_many}
 
--- A statement of a compiled thread has its place among the starts.
-pub record HasStart (program : List (List Stmt)) (starts : List (List ℕ)) (t place : ℕ) : Type 0 where
+-- the code of a thread, as it is read
+pub code_read : {X : Type 0} (program lists : List (List X)) (t i : ℕ) (code list : List X) → lists ≡ program → i ≡ t
+    → t < length program → list ≡ slice_index_or lists i list → code ≡ list → code ≡ code_of program t
+code_read {X} program lists t i code list same place within is read =
+    let at = is ∙ ap₂ (λ (l : List (List X)) (k : ℕ). slice_index_or l k list) same place in
+    read ∙ get_or_read program t list within at []
+
+-- The starts of a thread, as they are read, have a place for a statement of it.
+pub record HasStart (program : List (List Stmt)) (starts : List (List ℕ)) (t place : ℕ) (begins : List ℕ) : Type 0 where
   pub within : t < length program
-  pub as_many : length starts ≡ length program
-  pub next : place + 1 < length (code_of starts t)
-  pub grows : slice_index (code_of starts t) place ≤ slice_index (code_of starts t) (place + 1)
+  pub same : begins ≡ code_of starts t
+  pub next : place + 1 < length begins
+  pub grows : slice_index begins place ≤ slice_index begins (place + 1)
 
-pub has_start : (s : SourceTest) (p : ProgramTest) (starts : List (List ℕ)) (t place : ℕ) → IsCompiled s p starts → place < length (code_of s.threads t) → HasStart s.threads starts t place
-has_start s p starts t place compiled there = go (cases_lt t (length s.threads))
+pub has_start : (s : SourceTest) (p : ProgramTest) (starts lists : List (List ℕ)) (t i place : ℕ) (begins list : List ℕ)
+    → IsCompiled s p starts → place < length (code_of s.threads t) → lists ≡ starts → i ≡ t → list ≡ slice_index_or lists i list
+    → begins ≡ list → HasStart s.threads starts t place begins
+has_start s p starts lists t i place begins list compiled there same at is read = go (cases_lt t (length s.threads))
   where
-    go : (t < length s.threads) ⊎ (length s.threads ≤ t) → HasStart s.threads starts t place
+    go : (t < length s.threads) ⊎ (length s.threads ≤ t) → HasStart s.threads starts t place begins
+    go (inr past) = absurd (omega (arith, there, ap length (get_or_past s.threads t [] past)))
     go (inl within) =
         let stmt = get_some (code_of s.threads t) place there in
         let stands = (placed_at s p starts compiled t within).at place stmt.0 stmt.1 in
-        let thread = compiled.threads t (code_of s.threads t) (code_of p.threads t) (code_of starts t) (at_index s.threads t [] within) (at_index p.threads t [] (omega (arith, compiled.as_many))) (at_index starts t [] (omega (arith, compiled.as_many_starts))) in
+        let instrs = at_index p.threads t [] (omega (arith, compiled.as_many)) in
+        let own = at_index starts t [] (omega (arith, compiled.as_many_starts)) in
+        let thread = compiled.threads t (code_of s.threads t) _ _ (at_index s.threads t [] within) instrs own in
+        let here = code_read starts lists t i begins list same at (omega (arith, within, compiled.as_many_starts)) is read in
+        let many = starts_many 0 thread.fences (code_of s.threads t) in
         record {
           within = within;
-          as_many = compiled.as_many_starts;
-          next = omega (arith, there, ap length thread.starts_are, starts_many 0 thread.fences (code_of s.threads t));
-          grows = omega (arith, stands.next);
+          same = here;
+          next = omega (arith, there, ap length here, ap length thread.starts_are, many);
+          grows = rw here (omega (arith, stands.next));
         }
-    go (inr past) = absurd (omega (arith, there, ap length (get_or_past s.threads t [] past)))
-
--- the code of a thread, as it is read
-pub code_read : {X : Type 0} (program lists : List (List X)) (t i : ℕ) (code list : List X) → lists ≡ program → i ≡ t → t < length program → list ≡ slice_index_or lists i list → code ≡ list → code ≡ code_of program t
-code_read {X} program lists t i code list same place within is read =
-    let at : list ≡ slice_index_or program t list = is ∙ ap₂ (λ (l : List (List X)) (k : ℕ). slice_index_or l k list) same place in
-    read ∙ get_or_read program t list within at []
 
 -- the events of a statement that is there
-pub events_of_statement : (t place : ℕ) (program : List (List Stmt)) (starts : List (List ℕ)) (code : List Stmt) (begins : List ℕ) (stmt : Stmt) → code ≡ code_of program t → begins ≡ code_of starts t → place < length code → stmt ≡ slice_index_or code place stmt → statement_events t (code_of starts t) place (slice_get (code_of program t) place) ≡ replicate (slice_index begins (place + 1) - slice_index begins place) (Step t) ++ (if is_store stmt then Drain t ∷ [] else [])
+pub events_of_statement : (t place : ℕ) (program : List (List Stmt)) (starts : List (List ℕ)) (code : List Stmt) (begins : List ℕ)
+    (stmt : Stmt) → code ≡ code_of program t → begins ≡ code_of starts t → place < length code → stmt ≡ slice_index_or code place stmt
+    → statement_events t (code_of starts t) place (slice_get (code_of program t) place)
+    ≡ replicate (slice_index begins (place + 1) - slice_index begins place) (Step t) ++ (if is_store (operation_of stmt) then Drain t ∷ [] else [])
 events_of_statement t place program starts code begins stmt same begin there is =
     let at : slice_get code place ≡ Some stmt = at_index code place stmt there ∙ ap Some (sym is) in
-    ap₂ (λ (b : List ℕ) (o : Option Stmt). statement_events t b place o) (sym begin) (ap (λ (c : List Stmt). slice_get c place) (sym same) ∙ at)
+    ap₂ (λ (b : List ℕ) (o : Option Stmt). statement_events t b place o) (sym begin)
+    (ap (λ (c : List Stmt). slice_get c place) (sym same) ∙ at)
 
 -- A possible step of the order's next thread.
 pub record Turn (program : List (List Stmt)) (order : List ℕ) (i t : ℕ) (s : State) : Type 0 where
@@ -65,7 +76,8 @@ pub record Turn (program : List (List Stmt)) (order : List ℕ) (i t : ℕ) (s :
   pub was : slice_get s.threads t ≡ Some thread
   pub there : thread.position < length (code_of program t)
 
-module _ (program : List (List Stmt)) (order : List ℕ) (i t : ℕ) (within : i < length order) (is : t ≡ slice_index_or order i t) where
+module _ (program : List (List Stmt)) (order : List ℕ) (i t : ℕ) (within : i < length order)
+    (is : t ≡ slice_index_or order i t) where
   next_is : drop i order ≡ t ∷ drop (i + 1) order
   next_is = drop_more order i t within ∙ ap (λ (u : ℕ). u ∷ drop (i + 1) order) (sym is)
 
@@ -82,24 +94,33 @@ module _ (program : List (List Stmt)) (order : List ℕ) (i t : ℕ) (within : i
         there = slice_get_within (code_of program t) d.thread.position d.stmt d.at;
       }
 
-  pub placed_in : (s : State) (turn : Turn program order i t s) (place : ℕ) → slice_get (map (λ (th : Thread). th.position) s.threads) t ≡ Some place → place ≡ turn.thread.position
+  pub placed_in : (s : State) (turn : Turn program order i t s) (place : ℕ)
+      → slice_get (map (λ (th : Thread). th.position) s.threads) t ≡ Some place → place ≡ turn.thread.position
   placed_in s turn place at =
       let a = got_map (λ (th : Thread). th.position) s.threads t place at in
       let same : a.0 ≡ turn.thread = same_Some a.0 turn.thread (sym a.1 ∙ turn.was) in
       a.2 ∙ ap (λ (th : Thread). th.position) same
 
+  -- the events of thread t for the statement of this number
+  abbrev Events : List (List ℕ) → ℕ → List Event
+  Events starts place = statement_events t (code_of starts t) place (slice_get (code_of program t) place)
+
   -- the schedule from here, by this step's events
-  schedule_next : (starts : List (List ℕ)) (s mid : State) (place : ℕ) → slice_get (map (λ (th : Thread). th.position) s.threads) t ≡ Some place → source_step program t s ≡ Ok mid → schedule program starts (drop i order) s ≡ statement_events t (code_of starts t) place (slice_get (code_of program t) place) ++ schedule program starts (drop (i + 1) order) mid
+  schedule_next : (starts : List (List ℕ)) (s mid : State) (place : ℕ)
+      → slice_get (map (λ (th : Thread). th.position) s.threads) t ≡ Some place → source_step program t s ≡ Ok mid
+      → schedule program starts (drop i order) s ≡ Events starts place ++ schedule program starts (drop (i + 1) order) mid
   schedule_next starts s mid place at step =
       let a = got_map (λ (th : Thread). th.position) s.threads t place at in
-      let events : thread_events program starts t (slice_get s.threads t) ≡ statement_events t (code_of starts t) place (slice_get (code_of program t) place) =
-      ap (λ (o : Option Thread). thread_events program starts t o) a.1 ∙ ap (λ (k : ℕ). statement_events t (code_of starts t) k (slice_get (code_of program t) k)) (sym a.2) in
+      let events = ap (thread_events program starts t) a.1 ∙ ap (Events starts) (sym a.2) in
       ap (λ (ts : List ℕ). schedule program starts ts s) next_is
       ∙ ap₂ (λ (es : List Event) (o : Result State Stop). es ++ going_on o (schedule program starts (drop (i + 1) order))) events step
 
   -- what has been pushed and what is to come are the whole, one thread further
-  pub one_further : (starts : List (List ℕ)) (s mid : State) (place : ℕ) (events more whole : List Event) → slice_get (map (λ (th : Thread). th.position) s.threads) t ≡ Some place → source_step program t s ≡ Ok mid → more ≡ events ++ statement_events t (code_of starts t) place (slice_get (code_of program t) place) → events ++ schedule program starts (drop i order) s ≡ whole → more ++ schedule program starts (drop (i + 1) order) mid ≡ whole
+  pub one_further : (starts : List (List ℕ)) (s mid : State) (place : ℕ) (events more whole : List Event)
+      → slice_get (map (λ (th : Thread). th.position) s.threads) t ≡ Some place → source_step program t s ≡ Ok mid
+      → more ≡ events ++ Events starts place → events ++ schedule program starts (drop i order) s ≡ whole
+      → more ++ schedule program starts (drop (i + 1) order) mid ≡ whole
   one_further starts s mid place events more whole at step pushed so_far =
       let rest = schedule program starts (drop (i + 1) order) mid in
-      let row = statement_events t (code_of starts t) place (slice_get (code_of program t) place) in
-      ap (λ (es : List Event). es ++ rest) pushed ∙ append_assoc events row rest ∙ ap (λ (es : List Event). events ++ es) (sym (schedule_next starts s mid place at step)) ∙ so_far
+      ap (λ (es : List Event). es ++ rest) pushed ∙ append_assoc events (Events starts place) rest
+      ∙ ap (λ (es : List Event). events ++ es) (sym (schedule_next starts s mid place at step)) ∙ so_far

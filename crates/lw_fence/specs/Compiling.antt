@@ -10,42 +10,56 @@ use Rattle.lw_litmus.specs.declared.stmt.Stmt.TheVariants.{Store, Load, Swap, Fe
 use Rattle.lw_litmus.specs.Tests.{SourceTest, ProgramTest}
 use Rattle.lw_litmus.specs.declared.instr.Instr.{Instr}
 use Rattle.lw_litmus.specs.declared.instr.Instr.TheVariants as x86
+use Rattle.lw_fence.specs.declared.row.Row.{Row}
+use Rattle.lw_fence.specs.declared.row.Row.TheVariants.{One, Two}
 use Rattle.lw_fence.specs.Fences.{NeedsFence}
 
--- the register d gets the word of a, if it is another
-abbrev pub moved : ℕ → ℕ → List Instr
-moved d a = if d == a then [] else x86.Set d (Register a) ∷ []
+-- an instruction, behind a fence or without one
+abbrev pub fenced : Bool → Instr → Row
+fenced fence last = if fence then Two x86.Mfence last else One last
 
--- `d := a + v`, where d is not a
-abbrev pub summed : ℕ → ℕ → Operand → List Instr
-summed d a (Number n) = x86.Set d (Register a) ∷ x86.Add d (Number n) ∷ []
-summed d a (Register b) =
-    if d == b then x86.Add d (Register a) ∷ [] else x86.Set d (Register a) ∷ x86.Add d (Register b) ∷ []
+-- an instruction, behind one that gives the word of register a to register d, if that is another
+abbrev pub moved : ℕ → ℕ → Instr → Row
+moved d a last = if d == a then One last else Two (x86.Set d (Register a)) last
+
+-- `d := a + v`; where v is d itself, a is added to it
+abbrev pub summed : ℕ → ℕ → Operand → Row
+summed d a (Number n) = moved d a (x86.Add d (Number n))
+summed d a (Register b) = if d == b then One (x86.Add d (Register a)) else moved d a (x86.Add d (Register b))
+
+-- the flag tells whether the register has the word
+abbrev pub compared : ℕ → ℕ → Instr
+compared a n = x86.Cmp a (Number n)
 
 -- the row of a statement: with a fence or without, where `starts` has the first instruction of each statement
-abbrev pub row : List ℕ → Bool → Stmt → List Instr
-row starts fence (Store x v) = x86.Store x v ∷ []
-row starts fence (Load d x) = if fence then x86.Mfence ∷ x86.Load d x ∷ [] else x86.Load d x ∷ []
-row starts fence (Swap d x a) = moved d a ++ x86.Xchg x d ∷ []
-row starts fence (FetchAdd d x a) = moved d a ++ x86.Xadd x d ∷ []
-row starts fence (Set d v) = x86.Set d v ∷ []
-row starts fence (Sum d a v) = if d == a then x86.Add d v ∷ [] else summed d a v
-row starts fence (IfEq a n to) = x86.Cmp a (Number n) ∷ x86.Je (slice_index starts to) ∷ []
-row starts fence (IfNe a n to) = x86.Cmp a (Number n) ∷ x86.Jne (slice_index starts to) ∷ []
-row starts fence (Goto to) = x86.Jmp (slice_index starts to) ∷ []
+abbrev pub row : List ℕ → Bool → Stmt → Row
+row starts fence (Store x v) = One (x86.Store x v)
+row starts fence (Load d x) = fenced fence (x86.Load d x)
+row starts fence (Swap d x a) = moved d a (x86.Xchg x d)
+row starts fence (FetchAdd d x a) = moved d a (x86.Xadd x d)
+row starts fence (Set d v) = One (x86.Set d v)
+row starts fence (Sum d a v) = summed d a v
+row starts fence (IfEq a n to) = Two (compared a n) (x86.Je (slice_index starts to))
+row starts fence (IfNe a n to) = Two (compared a n) (x86.Jne (slice_index starts to))
+row starts fence (Goto to) = One (x86.Jmp (slice_index starts to))
+
+-- its instructions, one or two
+abbrev pub instrs_of : Row → List Instr
+instrs_of (One i) = i ∷ []
+instrs_of (Two i j) = i ∷ j ∷ []
 
 -- the rows of some statements, one behind another
 abbrev pub rows : List ℕ → List Bool → List Stmt → List Instr
 rows starts fences [] = []
-rows starts [] (s ∷ code) = row starts false s ++ rows starts [] code
-rows starts (fence ∷ fences) (s ∷ code) = row starts fence s ++ rows starts fences code
+rows starts [] (s ∷ code) = instrs_of (row starts false s) ++ rows starts [] code
+rows starts (fence ∷ fences) (s ∷ code) = instrs_of (row starts fence s) ++ rows starts fences code
 
 -- the number of the first instruction of each statement, its fence included, and last the number of instructions, where the
 -- first statement begins at n
 abbrev pub starts_from : ℕ → List Bool → List Stmt → List ℕ
 starts_from n fences [] = n ∷ []
-starts_from n [] (s ∷ code) = n ∷ starts_from (n + length (row [] false s)) [] code
-starts_from n (fence ∷ fences) (s ∷ code) = n ∷ starts_from (n + length (row [] fence s)) fences code
+starts_from n [] (s ∷ code) = n ∷ starts_from (n + length (instrs_of (row [] false s))) [] code
+starts_from n (fence ∷ fences) (s ∷ code) = n ∷ starts_from (n + length (instrs_of (row [] fence s))) fences code
 
 -- These are the instructions of a thread, and the first of each statement.
 pub record IsCompiledThread (code : List Stmt) (instrs : List Instr) (starts : List ℕ) : Type 0 where

@@ -8,13 +8,14 @@ use Rattle.lw_base.specs.declared.stop.Stop.{Stop}
 use Rattle.lw_litmus.specs.declared.stmt.Stmt.{Stmt}
 use Rattle.lw_interleaving.specs.declared.thread.Thread.{Thread}
 use Rattle.lw_interleaving.specs.Runs.{State, source_step}
-use Rattle.lw_fence.specs.Fences.{is_store}
+use Rattle.lw_litmus.specs.Operations.{is_store}
+use Rattle.lw_litmus.specs.Sources.{operation_of}
 
 -- the events of thread t for the statement of this number, if there is one
 abbrev pub statement_events : ℕ → List ℕ → ℕ → Option Stmt → List Event
 statement_events t starts j None = []
 statement_events t starts j (Some s) =
-    replicate (slice_index starts (j + 1) - slice_index starts j) (Step t) ++ (if is_store s then Drain t ∷ [] else [])
+    replicate (slice_index starts (j + 1) - slice_index starts j) (Step t) ++ (if is_store (operation_of s) then Drain t ∷ [] else [])
 
 -- the events of thread t for its next statement
 abbrev pub thread_events : List (List Stmt) → List (List ℕ) → ℕ → Option Thread → List Event

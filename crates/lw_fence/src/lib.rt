@@ -10,6 +10,7 @@
 mod compiled;
 mod compiler;
 mod fences;
+mod row;
 mod rows;
 mod schedule;
 mod starts;

@@ -7,14 +7,15 @@ ghost use Rattle.lw_memory.specs.Flat.{flat};
 ghost use Rattle.lw_interleaving.specs.Runs.{State, Ran, RunsTo, start_of};
 ghost use Rattle.lw_litmus.specs.Views.{source_of, program_of};
 ghost use Rattle.lw_tso.specs.Runs.{Replays};
-ghost use Rattle.lw_fence.specs.Fences.{is_store};
+ghost use Rattle.lw_litmus.specs.Operations.{is_store};
+ghost use Rattle.lw_litmus.specs.Sources.{operation_of};
 ghost use Rattle.lw_fence.specs.Compiling.{IsCompiled};
 ghost use Rattle.lw_fence.specs.Schedules.{statement_events, schedule};
 
 use crate::compiled::Compiled;
 use lw_base::{Cpu, Event};
 use lw_interleaving::SourceRun;
-use lw_litmus::{Source, Stmt};
+use lw_litmus::{Source, Statement, Stmt};
 use std::alloc::{AllocError, Allocator};
 
 /// Pushes the events of a statement: a step for each of its instructions, and after a store a drain.
@@ -25,12 +26,12 @@ fn push_statement<A: Allocator>(
     instructions: usize,
 ) -> Result<(), AllocError>
     ensures { IfOk result (λ _. events.new.items ≡ events.old.items
-        ++ (replicate instructions (Step cpu) ++ (if is_store stmt.now then Drain cpu ∷ [] else []))) }
+        ++ (replicate instructions (Step cpu) ++ (if is_store (operation_of stmt.now) then Drain cpu ∷ [] else []))) }
 {
     for _instr in 0..instructions {
         events.push(Event::Step(cpu))?;
     }
-    if let Stmt::Store { .. } = stmt {
+    if stmt.operation().is_store() {
         events.push(Event::Drain(cpu))?;
     }
     Ok(())

@@ -24,7 +24,8 @@ module _ (Leads : List Event → Final → Type 0) where
   one_known Ends es o only c = record { covered = λ p e. subst (λ q. Contains (outcomes_of es) q) (sym (only p e)) c; kept = λ p h. h; lead = λ a. a }
 
   -- a new one, with a schedule that leads to it
-  pub one_added : (Ends : Final → Type 0) (es fs : Entries) (o p : Final) (s : List Event) → ((q : Final) → Ends q → q ≡ o) → p ≡ o → Leads s p → fs ≡ es ++ (p, s) ∷ [] → Gathers Ends Leads es fs
+  pub one_added : (Ends : Final → Type 0) (es fs : Entries) (o p : Final) (s : List Event)
+      → ((q : Final) → Ends q → q ≡ o) → p ≡ o → Leads s p → fs ≡ es ++ (p, s) ∷ [] → Gathers Ends Leads es fs
   one_added Ends es fs o p s only same leads grown = subst (λ (gs : Entries). Gathers Ends Leads es gs) (sym grown) (record {
     covered = λ q e. (let is : q ≡ p = only q e ∙ sym same in subst (λ (ks : List Final). Contains ks q) (sym keys) (Contains-append_right (outcomes_of es) (p ∷ []) q (Contains-here p q [] (sym is))));
     kept = λ q h. subst (λ (ks : List Final). Contains ks q) (sym keys) (Contains-append_left (outcomes_of es) (p ∷ []) q h);
@@ -35,7 +36,8 @@ module _ (Leads : List Event → Final → Type 0) where
       keys = map-append _ es ((p, s) ∷ [])
 
   -- one after another
-  pub both_gathered : (One Other Both : Final → Type 0) (es fs gs : Entries) → ((o : Final) → Both o → One o ⊎ Other o) → Gathers One Leads es fs → Gathers Other Leads fs gs → Gathers Both Leads es gs
+  pub both_gathered : (One Other Both : Final → Type 0) (es fs gs : Entries) → ((o : Final) → Both o
+      → One o ⊎ Other o) → Gathers One Leads es fs → Gathers Other Leads fs gs → Gathers Both Leads es gs
   both_gathered One Other Both es fs gs either a b = record {
     covered = λ o e. elim (either o e) [
       | inl h ↦ b.kept o (a.covered o h)
@@ -50,7 +52,8 @@ module _ (Leads : List Event → Final → Type 0) where
   gathered_weaker More Ends es fs h a = record { covered = λ o e. a.covered o (h o e); kept = a.kept; lead = a.lead }
 
   -- sorting keeps what is gathered
-  pub gathered_sorted : (Ends : Final → Type 0) (es fs gs : Entries) → IsPermutation fs gs → Gathers Ends Leads es fs → (All (λ e. Leads e.1 e.0) fs → All (λ e. Leads e.1 e.0) gs) → Gathers Ends Leads es gs
+  pub gathered_sorted : (Ends : Final → Type 0) (es fs gs : Entries)
+      → IsPermutation fs gs → Gathers Ends Leads es fs → (All (λ e. Leads e.1 e.0) fs → All (λ e. Leads e.1 e.0) gs) → Gathers Ends Leads es gs
   gathered_sorted Ends es fs gs same a all = record {
     covered = λ o e. (stays_listed fs gs o same).0 (a.covered o e);
     kept = λ o c. (stays_listed fs gs o same).0 (a.kept o c);
@@ -58,7 +61,8 @@ module _ (Leads : List Event → Final → Type 0) where
   }
 
 -- an end of the orders so far and one more is of the one or of those
-pub more_orders : (Ends : List ℕ → Final → Type 0) (given : List (List ℕ)) (order : List ℕ) (o : Final) → EndsOfOrders Ends (given ++ order ∷ []) o → EndsOfOrders Ends given o ⊎ Ends order o
+pub more_orders : (Ends : List ℕ → Final → Type 0) (given : List (List ℕ)) (order : List ℕ) (o : Final)
+    → EndsOfOrders Ends (given ++ order ∷ []) o → EndsOfOrders Ends given o ⊎ Ends order o
 more_orders Ends given order o (x, c, e) = elim (cases given order x c) [
   | inl h ↦ inl (x, h, e)
   | inr h ↦ inr (subst (λ (y : List ℕ). Ends y o) h e)
@@ -91,18 +95,24 @@ module _ (Ends : List ℕ → Final → Type 0) (Leads : List Event → Final �
   up_to_start = record { done = []; split = refl; gathers = none_gathered Leads (EndsOfOrders Ends []) old (no_orders Ends) }
 
   -- the next order is one of all
-  pub next_in : (to_come next : List (List ℕ)) (found : Entries) (order : List ℕ) → to_come ≡ order ∷ next → UpTo Ends Leads all to_come old found → Contains all order
-  next_in to_come next found order e u = subst (λ (xs : List (List ℕ)). Contains xs order) (sym (u.split ∙ ap (λ xs. u.done ++ xs) e)) (Contains-append_right u.done (order ∷ next) order (Contains-here order order next refl))
+  pub next_in : (to_come next : List (List ℕ)) (found : Entries) (order : List ℕ)
+      → to_come ≡ order ∷ next → UpTo Ends Leads all to_come old found → Contains all order
+  next_in to_come next found order e u = subst (λ (xs : List (List ℕ)). Contains xs order)
+      (sym (u.split ∙ ap (λ xs. u.done ++ xs) e)) (Contains-append_right u.done (order ∷ next) order (Contains-here order order next refl))
 
-  pub up_to_more : (to_come next : List (List ℕ)) (found more : Entries) (order : List ℕ) → to_come ≡ order ∷ next → UpTo Ends Leads all to_come old found → Gathers (Ends order) Leads found more → UpTo Ends Leads all next old more
+  pub up_to_more : (to_come next : List (List ℕ)) (found more : Entries) (order : List ℕ)
+      → to_come ≡ order ∷ next → UpTo Ends Leads all to_come old found → Gathers (Ends order) Leads found more → UpTo Ends Leads all next old more
   up_to_more to_come next found more order e u h = record {
     done = u.done ++ order ∷ [];
     split = u.split ∙ (ap (λ xs. u.done ++ xs) e ∙ sym (append_assoc u.done (order ∷ []) next));
-    gathers = both_gathered Leads (EndsOfOrders Ends u.done) (Ends order) (EndsOfOrders Ends (u.done ++ order ∷ [])) old found more (more_orders Ends u.done order) u.gathers h;
+    gathers = both_gathered Leads (EndsOfOrders Ends u.done) (Ends order)
+        (EndsOfOrders Ends (u.done ++ order ∷ [])) old found more (more_orders Ends u.done order) u.gathers h;
   }
 
-  pub up_to_end : (to_come : List (List ℕ)) (found : Entries) → to_come ≡ [] → UpTo Ends Leads all to_come old found → Gathers (EndsOfOrders Ends all) Leads old found
-  up_to_end to_come found e u = subst (λ (xs : List (List ℕ)). Gathers (EndsOfOrders Ends xs) Leads old found) (sym (u.split ∙ (ap (λ xs. u.done ++ xs) e ∙ append-nil u.done))) u.gathers
+  pub up_to_end : (to_come : List (List ℕ)) (found : Entries)
+      → to_come ≡ [] → UpTo Ends Leads all to_come old found → Gathers (EndsOfOrders Ends all) Leads old found
+  up_to_end to_come found e u = subst (λ (xs : List (List ℕ)). Gathers (EndsOfOrders Ends xs) Leads old found)
+      (sym (u.split ∙ (ap (λ xs. u.done ++ xs) e ∙ append-nil u.done))) u.gathers
 
 -- all choices were visited
 module _ {V : Type 0} (Test : Type 0) (test_of : V → Test) (found_of : V → Entries) (visits : V → List (List ℕ) → V → Type 0)
@@ -116,7 +126,8 @@ module _ {V : Type 0} (Test : Type 0) (test_of : V → Test) (found_of : V → E
   visits_gather test (paths ∷ choices) v w is (mid, one, rest) =
       let h : (test_of mid ≡ test) × Gathers (Ends test paths) (Leads test) (found_of v) (found_of mid) =
       subst (λ (t : Test). (test_of mid ≡ t) × Gathers (Ends t paths) (Leads t) (found_of v) (found_of mid)) is (each v paths mid one) in
-      both_gathered (Leads test) (Ends test paths) (λ o. (p : List (List ℕ)) × Contains choices p × Ends test p o) (λ o. (p : List (List ℕ)) × Contains (paths ∷ choices) p × Ends test p o)
+      both_gathered (Leads test) (Ends test paths)
+      (λ o. (p : List (List ℕ)) × Contains choices p × Ends test p o) (λ o. (p : List (List ℕ)) × Contains (paths ∷ choices) p × Ends test p o)
       (found_of v) (found_of mid) (found_of w)
       (λ o (p, c, e). elim (Contains-cons paths p choices c) [
         | inl same ↦ inl (subst (λ (q : List (List ℕ)). Ends test q o) (sym same) e)
@@ -124,7 +135,8 @@ module _ {V : Type 0} (Test : Type 0) (test_of : V → Test) (found_of : V → E
       ]) h.1 (visits_gather test choices mid w h.0 rest)
 
 -- where one order is given, what it ends with is all
-pub gathered_alone : (Ends : List ℕ → Final → Type 0) (Leads : List Event → Final → Type 0) (given : List (List ℕ)) (order : List ℕ) (es fs : Entries) → given ≡ order ∷ [] → Gathers (Ends order) Leads es fs → Gathers (EndsOfOrders Ends given) Leads es fs
+pub gathered_alone : (Ends : List ℕ → Final → Type 0) (Leads : List Event → Final → Type 0) (given : List (List ℕ)) (order : List ℕ) (es fs : Entries)
+    → given ≡ order ∷ [] → Gathers (Ends order) Leads es fs → Gathers (EndsOfOrders Ends given) Leads es fs
 gathered_alone Ends Leads given order es fs one = gathered_weaker Leads (Ends order) (EndsOfOrders Ends given) es fs
     (λ o (x, c, e). subst (λ (y : List ℕ). Ends y o) (of_one order x (subst (λ (xs : List (List ℕ)). Contains xs x) one c)) e)
 

@@ -1,5 +1,8 @@
+pub mod Waiting
+pub mod Taken
+pub mod Ordered
+pub mod Neighbours
 pub mod SourceTaken
-pub mod SourceOrdered
 pub mod SourceAlike
 pub mod SourceOutcomes
 pub mod Gathering
@@ -8,14 +11,11 @@ pub mod SourceList
 pub mod OrderSteps
 pub mod SourceRunners
 pub mod X86Waiting
-pub mod X86Numbering
-pub mod X86Pairs
-pub mod X86Prefix
 pub mod X86Standing
+pub mod X86Prefix
 pub mod X86Swap
 pub mod X86Alike
 pub mod X86Taken
-pub mod X86Ordered
 pub mod X86Outcomes
 pub mod X86List
 pub mod X86Runners

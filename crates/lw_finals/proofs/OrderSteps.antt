@@ -1,19 +1,19 @@
 -- A run of an order of items, one item further.
-use Rattle.std.proofs.Common.{◌≡◌, ℕ, suc, ◌+◌, ◌<◌, ◌≤◌, Bool, false, List, ◌∷◌, length, drop, Some, refl, sym, ap, ◌∙◌, subst, arith, get_or, drop-cons}
+use Rattle.std.proofs.Common.{◌≡◌, ℕ, suc, ◌+◌, ◌<◌, ◌≤◌, false, List, ◌∷◌, length, drop, Some, refl, sym, ap, ◌∙◌, subst, arith, get_or, drop-cons}
 use Rattle.std.proofs.lemmas.List.{drop_all}
 use Rattle.std.proofs.lemmas.Option.{slice_get-get_or, get_or_from_slice_get}
-use Rattle.lw_base.specs.Outcomes.{Final}
 use Rattle.lw_choices.specs.declared.item.Item.{Item}
 use Rattle.lw_choices.specs.Items.{item_at}
 use Rattle.lw_finals.specs.OrderRuns.{OrderRan}
 
 -- what an index reads is the item
 read_item : (items : List Item) (n : ℕ) (x : Item) → n < length items → x ≡ get_or items n x → item_at items n ≡ x
-read_item items n x l e = get_or_from_slice_get items n x (record { thread = 0; position = 0; is_drain = false }) (slice_get-get_or items n x l ∙ ap Some (sym e))
+read_item items n x l e = get_or_from_slice_get items n x
+    (record { thread = 0; position = 0; is_drain = false }) (slice_get-get_or items n x l ∙ ap Some (sym e))
 
-module _ {State : Type 0} (Carried : Item → State → State → Type 0) (is_final : State → Bool) (outcome_of : State → Final) (items : List Item) where
+module _ {State : Type 0} (Carried : Item → State → State → Type 0) (items : List Item) where
   abbrev Ran : List ℕ → State → State → Type 0
-  Ran = OrderRan Carried is_final outcome_of items
+  Ran = OrderRan Carried items
 
   -- The first k items of an order have led from a state to another, as they do in every run of it.
   pub record RanFirst (order : List ℕ) (k : ℕ) (s now : State) : Type 0 where
@@ -25,7 +25,9 @@ module _ {State : Type 0} (Carried : Item → State → State → Type 0) (is_fi
   next_item order k n d l is = drop-cons order k d l ∙ ap (λ (i : ℕ). i ∷ drop (suc k) order) (sym is)
 
   -- an item that can't be carried out ends every run
-  pub ran_off : (order : List ℕ) (k n d : ℕ) (x : Item) (s now : State) → k < length order → n ≡ get_or order k d → n < length items → x ≡ get_or items n x → ((next : State) → Carried x now next → ⊥) → RanFirst order k s now → (end : State) → Ran order s end → ⊥
+  pub ran_off : (order : List ℕ) (k n d : ℕ) (x : Item) (s now : State)
+      → k < length order → n ≡ get_or order k d → n < length items → x ≡ get_or items n x → ((next : State)
+      → Carried x now next → ⊥) → RanFirst order k s now → (end : State) → Ran order s end → ⊥
   ran_off order k n d x s now l is there reads none r end o =
       let m : Ran (n ∷ drop (suc k) order) now end = subst (λ (xs : List ℕ). Ran xs now end) (next_item order k n d l is) (r.goes end o) in
       none m.0 (subst (λ (y : Item). Carried y now m.0) (read_item items n x there reads) m.1)
@@ -39,8 +41,10 @@ module _ {State : Type 0} (Carried : Item → State → State → Type 0) (is_fi
       let item = read_item items n x there reads in
       record {
         goes = λ end o. let m : Ran (n ∷ drop (suc k) order) now end = subst (λ (xs : List ℕ). Ran xs now end) split (r.goes end o) in
-            subst (λ (s : State). Ran (drop (k + 1) order) s end) (alone m.0 (subst (λ (y : Item). Carried y now m.0) item m.1)) (subst (λ (j : ℕ). Ran (drop j order) m.0 end) more m.2);
-        comes = λ end o. let m : Ran (n ∷ drop (suc k) order) now end = (next, subst (λ (y : Item). Carried y now next) (sym item) carried, subst (λ (j : ℕ). Ran (drop j order) next end) (sym more) o) in
+            subst (λ (s : State). Ran (drop (k + 1) order) s end)
+            (alone m.0 (subst (λ (y : Item). Carried y now m.0) item m.1)) (subst (λ (j : ℕ). Ran (drop j order) m.0 end) more m.2);
+        comes = λ end o. let m : Ran (n ∷ drop (suc k) order) now end =
+            (next, subst (λ (y : Item). Carried y now next) (sym item) carried, subst (λ (j : ℕ). Ran (drop j order) next end) (sym more) o) in
             r.comes end (subst (λ (xs : List ℕ). Ran xs now end) (sym split) m);
       }
 

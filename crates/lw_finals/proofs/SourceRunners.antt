@@ -13,7 +13,8 @@ use Rattle.lw_litmus.specs.Tests.{SourceTest}
 use Rattle.lw_memory.specs.Flat.{flat}
 use Rattle.lw_tso.specs.Evictions.{without_evictions}
 use Rattle.lw_tso.specs.Runs.{Replays}
-use Rattle.lw_fence.specs.Fences.{is_store}
+use Rattle.lw_litmus.specs.Operations.{is_store}
+use Rattle.lw_litmus.specs.Sources.{operation_of}
 use Rattle.lw_fence.specs.Schedules.{statement_events, thread_events, going_on, schedule}
 use Rattle.lw_choices.specs.declared.item.Item.{Item}
 use Rattle.lw_finals.specs.SourceRuns.{StaysAndEnds}
@@ -41,18 +42,21 @@ drain_alone false t = refl
 of_statement : (t : ℕ) (starts : List ℕ) (j : ℕ) (o : Option Stmt) → without_evictions (statement_events t starts j o) ≡ statement_events t starts j o
 of_statement t starts j None = refl
 of_statement t starts j (Some s) =
-    without_both (replicate (slice_index starts (j + 1) - slice_index starts j) (Step t)) (if is_store s then Drain t ∷ [] else [])
-    (steps_alone (slice_index starts (j + 1) - slice_index starts j) t) (drain_alone (is_store s) t)
+    without_both (replicate (slice_index starts (j + 1) - slice_index starts j) (Step t)) (if is_store (operation_of s) then Drain t ∷ [] else [])
+    (steps_alone (slice_index starts (j + 1) - slice_index starts j) t) (drain_alone (is_store (operation_of s)) t)
 
-of_thread : (program : List (List Stmt)) (starts : List (List ℕ)) (t : ℕ) (o : Option Thread) → without_evictions (thread_events program starts t o) ≡ thread_events program starts t o
+of_thread : (program : List (List Stmt)) (starts : List (List ℕ)) (t : ℕ) (o : Option Thread)
+    → without_evictions (thread_events program starts t o) ≡ thread_events program starts t o
 of_thread program starts t None = refl
 of_thread program starts t (Some th) = of_statement t (code_of starts t) th.position (slice_get (code_of program t) th.position)
 
-of_rest : (r : Result State Stop) (rest : State → List Event) → ((s : State) → without_evictions (rest s) ≡ rest s) → without_evictions (going_on r rest) ≡ going_on r rest
+of_rest : (r : Result State Stop) (rest : State → List Event) → ((s : State)
+    → without_evictions (rest s) ≡ rest s) → without_evictions (going_on r rest) ≡ going_on r rest
 of_rest (Ok next) rest h = h next
 of_rest (Err stop) rest h = refl
 
-pub no_evictions : (program : List (List Stmt)) (starts : List (List ℕ)) (order : List ℕ) (s : State) → without_evictions (schedule program starts order s) ≡ schedule program starts order s
+pub no_evictions : (program : List (List Stmt)) (starts : List (List ℕ)) (order : List ℕ) (s : State)
+    → without_evictions (schedule program starts order s) ≡ schedule program starts order s
 no_evictions program starts [] s = refl
 no_evictions program starts (t ∷ order) s =
     without_both (thread_events program starts t (slice_get s.threads t)) (going_on (source_step program t s) (schedule program starts order))
@@ -60,13 +64,15 @@ no_evictions program starts (t ∷ order) s =
     (of_rest (source_step program t s) (schedule program starts order) (no_evictions program starts order))
 
 -- an order that stays on its paths is a possible run of the source
-pub possible : (s : SourceTest) (items : List Item) (order ts : List ℕ) (o : Final) → ts ≡ threads_of items order → StaysAndEnds s items order o → (end : State) × Ran s.threads (map Step ts) (start_of s) end
+pub possible : (s : SourceTest) (items : List Item) (order ts : List ℕ) (o : Final)
+    → ts ≡ threads_of items order → StaysAndEnds s items order o → (end : State) × Ran s.threads (map Step ts) (start_of s) end
 possible s items order ts o same stays =
     let run : RunsTo s (threads_of items order) o = order_runs_to s items order o stays in
     (run.end, subst (λ (us : List ℕ). Ran s.threads (map Step us) (start_of s) run.end) (sym same) run.ran)
 
 -- and the schedule that it stands for leads to its outcome
-pub leads : (t : CompiledSource) (items : List Item) (order ts : List ℕ) (events : List Event) (o : Final) → ts ≡ threads_of items order → StaysAndEnds t.source items order o
+pub leads : (t : CompiledSource) (items : List Item) (order ts : List ℕ) (events : List Event) (o : Final)
+    → ts ≡ threads_of items order → StaysAndEnds t.source items order o
     → events ≡ schedule t.source.threads t.starts ts (start_of t.source)
     → ((p : Final) → RunsTo t.source ts p → Replays flat t.program t.program.head.init_words events p)
     → leads_flat t events o

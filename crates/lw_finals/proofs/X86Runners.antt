@@ -22,6 +22,7 @@ use Rattle.lw_choices.specs.declared.item.Item.{Item}
 use Rattle.lw_choices.specs.Items.{item_at}
 use Rattle.lw_finals.specs.OrderRuns.{OrderRan}
 use Rattle.lw_finals.specs.X86Runs.{event_by, event_of, events_of, CarriedOut, StaysAndEnds, LeadsFlat}
+use Rattle.lw_finals.proofs.X86Outcomes.{order_replays}
 use Rattle.lw_finals.proofs.OrderSteps.{RanFirst, ran_off, ran_on, ran_out, ran_whole}
 
 -- a thread that is at a position stands where an item of its statements is exactly where that is the item's
@@ -38,11 +39,7 @@ no_eviction false t es e = ap (λ (fs : List Event). Step t ∷ fs) e
 
 module _ (test : ProgramTest) (items : List Item) where
   abbrev FlatRan : List ℕ → MachineState (List ℕ) → MachineState (List ℕ) → Type 0
-  FlatRan = OrderRan (CarriedOut flat test.threads) (is_final test.threads) (machine_outcome flat) items
-
-  ran_events : (order : List ℕ) (s end : MachineState (List ℕ)) → FlatRan order s end → MachineRan flat test.threads (events_of items order) s end
-  ran_events [] s end r = r
-  ran_events (i ∷ order) s end r = (r.0, r.1.done, ran_events order r.0 end r.2)
+  FlatRan = OrderRan (CarriedOut flat test.threads) items
 
   no_evictions : (order : List ℕ) → without_evictions (events_of items order) ≡ events_of items order
   no_evictions [] = refl
@@ -50,8 +47,7 @@ module _ (test : ProgramTest) (items : List Item) where
 
   -- the events of an order that stays on its paths lead to its outcome
   pub leads : (order : List ℕ) (o : Final) → StaysAndEnds flat test test.head.init_words items order o → LeadsFlat test (events_of items order) o
-  leads order o run =
-      (record { end = run.end; ran = ran_events order (machine_start test test.head.init_words) run.end run.ran; final = run.final; is = run.is }, no_evictions order)
+  leads order o run = (order_replays test items order o run, no_evictions order)
 
 module _ {M : Type 0} (mem : Memory M) where
   -- where a thread stands is seen without its memory
@@ -70,10 +66,11 @@ module _ {M : Type 0} (mem : Memory M) where
     pub record RanFlat (order : List ℕ) (k : ℕ) (now : MachineState M) : Type 0 where
       pub events : List Event
       pub reached : MachineRan mem test.threads events (machine_start test m) now
-      pub first : RanFirst (CarriedOut flat test.threads) (is_final test.threads) (machine_outcome flat) items order k (machine_start test test.head.init_words) (flatten mem now)
+      pub first : RanFirst (CarriedOut flat test.threads) items order k (machine_start test test.head.init_words) (flatten mem now)
 
     -- the memory on which a machine was put back to the start of the test
-    pub can_start : (inv : Invariant M) (program threads : List (List Instr)) (words : List ℕ) → inv.sound m → length program ≤ inv.cpus m → mem.content m ≡ words → program ≡ threads → threads ≡ test.threads → words ≡ test.head.init_words
+    pub can_start : (inv : Invariant M) (program threads : List (List Instr)) (words : List ℕ)
+        → inv.sound m → length program ≤ inv.cpus m → mem.content m ≡ words → program ≡ threads → threads ≡ test.threads → words ≡ test.head.init_words
         → CanStart mem inv test m
     can_start inv program threads words sound cpus content same is initial =
         record { sound = sound; cpus = subst (λ (p : List (List Instr)). length p ≤ inv.cpus m) (same ∙ is) cpus; words = content ∙ initial }
@@ -81,18 +78,24 @@ module _ {M : Type 0} (mem : Memory M) where
     -- at the start
     pub ran_none : (order : List ℕ) (s : MachineState M) → s ≡ machine_start test m → mem.content m ≡ test.head.init_words → RanFlat order 0 s
     ran_none order s is words =
-        let same : machine_start test test.head.init_words ≡ flatten mem s = ap (λ (ws : List ℕ). machine_start test ws) (sym words) ∙ ap (flatten mem) (sym is) in
+        let same : machine_start test test.head.init_words ≡ flatten mem s =
+        ap (λ (ws : List ℕ). machine_start test ws) (sym words) ∙ ap (flatten mem) (sym is) in
         record {
           events = [];
           reached = is;
-          first = record { goes = λ end o. subst (λ (s : MachineState (List ℕ)). FlatRan test items order s end) same o; comes = λ end o. subst (λ (s : MachineState (List ℕ)). FlatRan test items order s end) (sym same) o };
+          first = record {
+            goes = λ end o. subst (λ (s : MachineState (List ℕ)). FlatRan test items order s end) same o;
+            comes = λ end o. subst
+                (λ (s : MachineState (List ℕ)). FlatRan test items order s end) (sym same) o;
+          };
         }
 
     -- all items have been carried out
     pub ends_alone : (order : List ℕ) (k : ℕ) (now : MachineState M) → length order ≤ k → RanFlat order k now
         → (o : Final) → StaysAndEnds flat test test.head.init_words items order o → (o ≡ machine_outcome mem now) × IsTrue (is_final test.threads now)
     ends_alone order k now past r o run =
-        let end : run.end ≡ flatten mem now = ran_out (CarriedOut flat test.threads) (is_final test.threads) (machine_outcome flat) items order k (machine_start test test.head.init_words) (flatten mem now) past r.first run.end run.ran in
+        let end : run.end ≡ flatten mem now = ran_out (CarriedOut flat test.threads) items order k
+        (machine_start test test.head.init_words) (flatten mem now) past r.first run.end run.ran in
         (run.is ∙ ap (machine_outcome flat) end, subst (λ (s : MachineState (List ℕ)). IsTrue (is_final test.threads s)) end run.final)
 
     pub ends_so : (order : List ℕ) (k : ℕ) (now : MachineState M) → length order ≤ k → RanFlat order k now → IsTrue (is_final test.threads now)
@@ -100,7 +103,7 @@ module _ {M : Type 0} (mem : Memory M) where
     ends_so order k now past r final =
         record {
           end = flatten mem now;
-          ran = ran_whole (CarriedOut flat test.threads) (is_final test.threads) (machine_outcome flat) items order k (machine_start test test.head.init_words) (flatten mem now) past r.first;
+          ran = ran_whole (CarriedOut flat test.threads) items order k (machine_start test test.head.init_words) (flatten mem now) past r.first;
           final = final;
           is = refl;
         }
@@ -108,39 +111,48 @@ module _ {M : Type 0} (mem : Memory M) where
     -- an event that is no eviction is done over the memory as over flat memory
     abbrev pub EventsAreFlat : Type 0
     EventsAreFlat =
-        (events : List Event) (s after : MachineState M) (e : Event) (answer : Answer) → MachineRan mem test.threads events (machine_start test m) s → without_evictions (e ∷ []) ≡ e ∷ []
+        (events : List Event) (s after : MachineState M) (e : Event) (answer : Answer)
+        → MachineRan mem test.threads events (machine_start test m) s → without_evictions (e ∷ []) ≡ e ∷ []
         → EventDone mem test.threads e s answer after → EventDone flat test.threads e (flatten mem s) answer (flatten mem after)
 
     module _ (over_flat : EventsAreFlat)
         (determined : (program : List (List Instr)) (e : Event) (s after other : MachineState (List ℕ)) (a b : Answer) → EventDone flat program e s a after → EventDone flat program e s b other → (a ≡ b) × (after ≡ other)) where
       -- an event of an item, over flat memory
-      done_flat : (order : List ℕ) (k : ℕ) (item : Item) (now after : MachineState M) (answer : Answer) → RanFlat order k now → EventDone mem test.threads (event_of item) now answer after
+      done_flat : (order : List ℕ) (k : ℕ) (item : Item) (now after : MachineState M) (answer : Answer)
+          → RanFlat order k now → EventDone mem test.threads (event_of item) now answer after
           → EventDone flat test.threads (event_of item) (flatten mem now) answer (flatten mem after)
-      done_flat order k item now after answer r done = over_flat r.events now after (event_of item) answer r.reached (no_eviction item.is_drain item.thread [] refl) done
+      done_flat order k item now after answer r done = over_flat r.events now after
+          (event_of item) answer r.reached (no_eviction item.is_drain item.thread [] refl) done
 
       -- one item more
-      pub carried_on : (order : List ℕ) (k n d : ℕ) (item : Item) (now next : MachineState M) → k < length order → n ≡ get_or order k d → n < length items → item ≡ get_or items n item
+      pub carried_on : (order : List ℕ) (k n d : ℕ) (item : Item) (now next : MachineState M)
+          → k < length order → n ≡ get_or order k d → n < length items → item ≡ get_or items n item
           → RanFlat order k now → CarriedOut mem test.threads item now next → RanFlat order (k + 1) next
       carried_on order k n d item now next l is there reads r carried =
           let done = done_flat order k item now next (Ok tt) r carried.done in
           record {
             events = r.events ++ event_of item ∷ [];
-            reached = Ran-append (EventDone mem test.threads) (is_final test.threads) r.events (event_of item ∷ []) (machine_start test m) now next r.reached (next, carried.done, refl);
-            first = ran_on (CarriedOut flat test.threads) (is_final test.threads) (machine_outcome flat) items order k n d item (machine_start test test.head.init_words) (flatten mem now) (flatten mem next) l is there reads
+            reached = Ran-append (EventDone mem test.threads) (is_final test.threads) r.events
+                (event_of item ∷ []) (machine_start test m) now next r.reached (next, carried.done, refl);
+            first = ran_on (CarriedOut flat test.threads) items order k n d item
+                (machine_start test test.head.init_words) (flatten mem now) (flatten mem next) l is there reads
                 (record { stands = stands_flat (event_of item) item.position now carried.stands; done = done })
                 (λ other c. (determined test.threads (event_of item) (flatten mem now) other (flatten mem next) (Ok tt) (Ok tt) c.done done).1) r.first;
           }
 
       -- an item that is not carried out
-      pub left_off : (order : List ℕ) (k n d : ℕ) (item : Item) (now after : MachineState M) → k < length order → n ≡ get_or order k d → n < length items → item ≡ get_or items n item
+      pub left_off : (order : List ℕ) (k n d : ℕ) (item : Item) (now after : MachineState M)
+          → k < length order → n ≡ get_or order k d → n < length items → item ≡ get_or items n item
           → RanFlat order k now → (StandsAt (event_of item) item.position now → (stop : Stop) × EventDone mem test.threads (event_of item) now (Err stop) after)
           → (o : Final) → StaysAndEnds flat test test.head.init_words items order o → ⊥
       left_off order k n d item now after l is there reads r refused o run =
-          ran_off (CarriedOut flat test.threads) (is_final test.threads) (machine_outcome flat) items order k n d item (machine_start test test.head.init_words) (flatten mem now) l is there reads none r.first run.end run.ran
+          ran_off (CarriedOut flat test.threads) items order k n d item
+          (machine_start test test.head.init_words) (flatten mem now) l is there reads none r.first run.end run.ran
         where
           none : (next : MachineState (List ℕ)) → CarriedOut flat test.threads item (flatten mem now) next → ⊥
           none next c =
               let no = refused (stands_there (event_of item) item.position now c.stands) in
               let done = done_flat order k item now after (Err no.0) r no.1 in
-              let same : Ok tt ≡ Err no.0 = (determined test.threads (event_of item) (flatten mem now) next (flatten mem after) (Ok tt) (Err no.0) c.done done).0 in
+              let same : Ok tt ≡ Err no.0 = (determined test.threads (event_of item)
+              (flatten mem now) next (flatten mem after) (Ok tt) (Err no.0) c.done done).0 in
               cc

@@ -1,106 +1,102 @@
 -- Two neighbouring items of an x86 test's order that neither conflict nor are fixed are independent events.
 use Rattle.std.proofs.Common.{◌≡◌, ◌≢◌, ℕ, ◌<◌, Bool, true, false, List, [], ◌∷◌, length, Option, Some, None, refl, sym, ap, ◌∙◌, subst, inl, inr, arith, slice_get}
-use Rattle.std.specs.Prelude.{◌||◌}
-use Rattle.std.proofs.lemmas.Bool.{eq-eqb, true≢false, and_from, or_left, or_right, false_from_ne_true}
+use Rattle.std.specs.Prelude.{◌||◌, if◌then◌else◌}
+use Rattle.std.proofs.lemmas.Bool.{cond-false, eq-eqb, true≢false, and_from, or_left, or_right, false_from_ne_true}
 use Rattle.std.proofs.lemmas.Option.{same_Some, none-some}
 use Rattle.lw_base.specs.Threads.{code_of}
-use Rattle.lw_base.specs.declared.stop.Stop.{Stop}
-use Rattle.lw_base.specs.declared.stop.Stop.TheVariants.{FenceWaits, SwapWaits}
 use Rattle.lw_base.proofs.api.Lists.{got_set_same, got_set_other}
-use Rattle.lw_tso.specs.Acts.{Act, cpu_of, event_act, step_act, drain_act, load_act, once_empty}
+use Rattle.lw_tso.specs.Acts.{cpu_of, event_act, operation_act, step_act, drain_act}
 use Rattle.lw_tso.specs.Exchange as machine
 use Rattle.lw_tso.specs.Exchange.{DoNotConflict, MayPass, MayPassOldest, ArePassing, AreIndependent}
 use Rattle.lw_tso.specs.Machines.{MachineState}
-use Rattle.lw_tso.specs.Processors.{Processor, newest}
-use Rattle.lw_tso.proofs.api.Effects.{Does}
+use Rattle.lw_tso.specs.Processors.{Processor}
+use Rattle.lw_tso.proofs.api.Operations.{Went, operation_accessed}
 use Rattle.lw_litmus.specs.declared.instr.Instr.{Instr}
-use Rattle.lw_litmus.specs.declared.instr.Instr.TheVariants.{Store, Load, Set, Add, Cmp, Xchg, Xadd, Mfence, Je, Jne, Jmp}
-use Rattle.lw_choices.specs.declared.item.Item.{Item}
+use Rattle.lw_litmus.specs.declared.operation.Operation.{Operation}
+use Rattle.lw_litmus.specs.declared.operation.Operation.TheVariants.{Store, Load}
 use Rattle.lw_litmus.specs.Conflicts.{is_one}
-use Rattle.lw_choices.specs.Items.{statement_of, location_by, writes_by, conflict_by, do_conflict}
-use Rattle.lw_choices.specs.X86Items.{x86_behaviour, accessed, drained, is_locked, waits_for_drains}
+use Rattle.lw_litmus.specs.Operations.{is_store, is_locked, location_of, writes, waits}
+use Rattle.lw_litmus.specs.Programs.{operation_of, x86}
+use Rattle.lw_choices.specs.declared.item.Item.{Item}
+use Rattle.lw_choices.specs.Items.{drains, statement_of, location_by, writes_by, conflict_by, do_conflict}
 use Rattle.lw_finals.specs.X86Runs.{event_by, event_of}
-use Rattle.lw_finals.proofs.X86Waiting.{In, Climbs, climbs_in, act_by, Carried, CarriedItem, Shape, step_shape, DrainShape, drain_shape, Waits, stored, own_waits, waits_after, waits_same, AllHold}
-use Rattle.lw_finals.proofs.X86Prefix.{own_in}
+use Rattle.lw_finals.proofs.Waiting.{Climbs, climbs_in, own_waits, stored, waits_after, waits_same}
+use Rattle.lw_finals.proofs.X86Waiting.{act_by, Carried, CarriedItem, went, DrainShape, drain_shape, Waits, AllHold}
 
 -- ---- what an item that is carried out accesses
 
-load_touches : (o : Option ℕ) (x z : ℕ) (next : ℕ → Processor) → machine.accessed (load_act o x next) ≡ Some z → (Some x ≡ Some z) × (machine.writes (load_act o x next) ≡ true → ⊥)
-load_touches (Some w) x z next e = absurd (none-some z e)
-load_touches None x z next e = (e, λ f. true≢false (sym f))
+-- the location that an operation reads or writes by itself
+abbrev by_itself : Operation → Option ℕ
+by_itself o = if is_store o then None else location_of o
 
-once_touches : (b : List (ℕ × ℕ)) (stop : Stop) (a : Act) (z : ℕ) → machine.accessed (once_empty b stop a) ≡ Some z → machine.accessed a ≡ Some z
-once_touches [] stop a z e = e
-once_touches (f ∷ b) stop a z e = absurd (none-some z e)
+no_store : (o : Operation) (q : Processor) (z : ℕ) → machine.accessed (operation_act o q) ≡ Some z → is_store o ≡ false
+no_store (Store x v) q z e = absurd (none-some z e)
+no_store o q z e = refl
 
-step_touches : (i : Instr) (q : Processor) (z : ℕ) → machine.accessed (step_act (Some i) q) ≡ Some z → (accessed i ≡ Some z) × (machine.writes (step_act (Some i) q) ≡ true → is_locked i ≡ true)
-step_touches (Store x v) q z e = absurd (none-some z e)
-step_touches (Load d x) q z e = let t = load_touches (newest q.buffer x) x z _ e in (t.0, λ f. absurd (t.1 f))
-step_touches (Set d v) q z e = absurd (none-some z e)
-step_touches (Add d v) q z e = absurd (none-some z e)
-step_touches (Cmp a v) q z e = absurd (none-some z e)
-step_touches (Xchg x a) q z e = (once_touches q.buffer SwapWaits _ z e, λ f. refl)
-step_touches (Xadd x a) q z e = (once_touches q.buffer SwapWaits _ z e, λ f. refl)
-step_touches Mfence q z e = absurd (none-some z (once_touches q.buffer FenceWaits _ z e))
-step_touches (Je to) q z e = absurd (none-some z e)
-step_touches (Jne to) q z e = absurd (none-some z e)
-step_touches (Jmp to) q z e = absurd (none-some z e)
+step_touches : (o : Operation) (q : Processor) (z : ℕ) → machine.accessed (operation_act o q) ≡ Some z
+    → (by_itself o ≡ Some z) × (machine.writes (operation_act o q) ≡ true → writes o ≡ true)
+step_touches o q z e =
+    let found = operation_accessed o q z e in
+    (cond-false (is_store o) None (location_of o) (no_store o q z e) ∙ found.0, λ w. or_right (is_store o) (is_locked o) (found.1 ∙ w))
 
 -- the oldest entry is of the store that has waited longest
-oldest_entry : (code : List Instr) (k : ℕ) (ws : List ℕ) (b : List (ℕ × ℕ)) (h : Instr) → Waits code (k ∷ ws) b → slice_get code k ≡ Some h → (e : ℕ × ℕ) × (newer : List (ℕ × ℕ)) × (b ≡ e ∷ newer) × (drained h ≡ Some e.0)
+oldest_entry : (code : List Instr) (k : ℕ) (ws : List ℕ) (b : List (ℕ × ℕ)) (h : Instr)
+    → Waits code (k ∷ ws) b → slice_get code k ≡ Some h → (e : ℕ × ℕ) × (newer : List (ℕ × ℕ)) × (b ≡ e ∷ newer) × (drains x86 h ≡ Some e.0)
 oldest_entry code k ws [] h w at = absurd w
-oldest_entry code k ws (e ∷ b) h w at = (e, b, refl, ap drained (same_Some _ _ (sym at ∙ w.0.1)))
+oldest_entry code k ws (e ∷ b) h w at = (e, b, refl, sym (ap (stored x86) at) ∙ w.0)
 
-drain_touches : (code : List Instr) (k : ℕ) (ws : List ℕ) (b : List (ℕ × ℕ)) (q : Processor) (z : ℕ) (h : Instr) → Waits code (k ∷ ws) b → slice_get code k ≡ Some h → machine.accessed (drain_act b q) ≡ Some z → drained h ≡ Some z
+drain_touches : (code : List Instr) (k : ℕ) (ws : List ℕ) (b : List (ℕ × ℕ)) (q : Processor) (z : ℕ) (h : Instr) → Waits code (k ∷ ws) b
+    → slice_get code k ≡ Some h → machine.accessed (drain_act b q) ≡ Some z → drains x86 h ≡ Some z
 drain_touches code k ws [] q z h w at e = absurd w
-drain_touches code k ws (f ∷ b) q z h w at e = ap drained (same_Some _ _ (sym at ∙ w.0.1)) ∙ e
+drain_touches code k ws (f ∷ b) q z h w at e = sym (ap (stored x86) at) ∙ (w.0 ∙ e)
 
-touches : (program : List (List Instr)) (t j : ℕ) (i : Instr) (s mid : MachineState (List ℕ)) (W : ℕ → List ℕ) → slice_get (code_of program t) j ≡ Some i → AllHold program W s
-    → (b : Bool) (c : Carried program t j b s mid) → (b ≡ true → (rest : List ℕ) × (W t ≡ j ∷ rest)) → (z : ℕ) → machine.accessed (act_by program t b c.old) ≡ Some z
-    → (location_by x86_behaviour b i ≡ Some z) × (machine.writes (act_by program t b c.old) ≡ true → writes_by x86_behaviour b i ≡ true)
+touches : (program : List (List Instr)) (t j : ℕ) (i : Instr) (s mid : MachineState (List ℕ)) (W : ℕ → List ℕ)
+    → slice_get (code_of program t) j ≡ Some i → AllHold program W s
+    → (b : Bool) (c : Carried program t j b s mid) → (b ≡ true → (rest : List ℕ) × (W t ≡ j ∷ rest))
+    → (z : ℕ) → machine.accessed (act_by program t b c.old) ≡ Some z
+    → (location_by x86 b i ≡ Some z) × (machine.writes (act_by program t b c.old) ≡ true → writes_by x86 b i ≡ true)
 touches program t j i s mid W at hold true c head z e =
-    let h = head refl in
-    (drain_touches (code_of program t) j h.0 c.old.buffer c.old z i (subst (λ ws. Waits (code_of program t) ws c.old.buffer) h.1 (hold t c.old c.was).waits) at e, λ f. refl)
+    let h = head refl in (
+      drain_touches (code_of program t) j h.0 c.old.buffer c.old z i (subst
+          (λ ws. Waits (code_of program t) ws c.old.buffer) h.1 (hold t c.old c.was).waits) at e,
+      λ f. refl,
+    )
 touches program t j i s mid W at hold false c head z e =
     let here : slice_get (code_of program t) c.old.position ≡ Some i = ap (λ k. slice_get (code_of program t) k) (c.stands refl) ∙ at in
-    let r = step_touches i c.old z (ap (λ o. machine.accessed (step_act o c.old)) (sym here) ∙ e) in
+    let r = step_touches (operation_of i) c.old z (ap (λ o. machine.accessed (step_act o c.old)) (sym here) ∙ e) in
     (r.0, λ f. r.1 (ap (λ o. machine.writes (step_act o c.old)) (sym here) ∙ f))
 
 -- items on one location of which one writes conflict
-conflicting : (b c : Bool) (i h : Instr) (z : ℕ) → location_by x86_behaviour b i ≡ Some z → location_by x86_behaviour c h ≡ Some z → (writes_by x86_behaviour b i || writes_by x86_behaviour c h) ≡ true
-    → conflict_by x86_behaviour b c (Some i) (Some h) ≡ true
+conflicting : (b c : Bool) (i h : Instr) (z : ℕ) → location_by x86 b i ≡ Some z → location_by x86 c h ≡ Some z → (writes_by x86 b i || writes_by x86 c h) ≡ true
+    → conflict_by x86 b c (Some i) (Some h) ≡ true
 conflicting b c i h z e f w =
-    and_from (is_one (location_by x86_behaviour b i) (location_by x86_behaviour c h)) (writes_by x86_behaviour b i || writes_by x86_behaviour c h)
-    (ap (λ o. is_one o (location_by x86_behaviour c h)) e ∙ (ap (λ o. is_one (Some z) o) f ∙ eq-eqb z z refl)) w
+    and_from (is_one (location_by x86 b i) (location_by x86 c h)) (writes_by x86 b i || writes_by x86 c h)
+    (ap (λ o. is_one o (location_by x86 c h)) e ∙ (ap (λ o. is_one (Some z) o) f ∙ eq-eqb z z refl)) w
 
 -- ---- an instruction beside a drain
 
-passes : (x : ℕ) (i : Instr) → (waits_for_drains i ≡ true → ⊥) → (accessed i ≡ Some x → ⊥) → MayPass x i
-passes x (Store y v) free other = tt
+passes : (x : ℕ) (o : Operation) → (waits o ≡ true → ⊥) → (by_itself o ≡ Some x → ⊥) → MayPass x o
 passes x (Load d y) free other = λ e. other (ap Some (sym e))
-passes x (Set d v) free other = tt
-passes x (Add d v) free other = tt
-passes x (Cmp a v) free other = tt
-passes x (Xchg y a) free other = free refl
-passes x (Xadd y a) free other = free refl
-passes x Mfence free other = free refl
-passes x (Je to) free other = tt
-passes x (Jne to) free other = tt
-passes x (Jmp to) free other = tt
+passes x o free other = false_from_ne_true (waits o) free
 
-passes_oldest : (b : List (ℕ × ℕ)) (o : Option Instr) (e : ℕ × ℕ) (newer : List (ℕ × ℕ)) (i : Instr) → b ≡ e ∷ newer → o ≡ Some i → MayPass e.0 i → MayPassOldest b o
+passes_oldest : (b : List (ℕ × ℕ)) (o : Option Instr) (e : ℕ × ℕ) (newer : List (ℕ × ℕ)) (i : Instr)
+    → b ≡ e ∷ newer → o ≡ Some i → MayPass e.0 (operation_of i) → MayPassOldest b o
 passes_oldest b o e newer i full at may = subst (λ c. MayPassOldest c o) (sym full) (subst (λ p. MayPassOldest (e ∷ newer) p) (sym at) may)
 
 own_head : (o : Option ℕ) (j w k : ℕ) (ws rest : List ℕ) → own_waits false o j (w ∷ ws) ≡ k ∷ rest → w ≡ k
 own_head (Some x) j w k ws rest e = cc
 own_head None j w k ws rest e = cc
 
+own_last : (o : Option ℕ) (j k : ℕ) (rest : List ℕ) → own_waits false o j [] ≡ k ∷ rest → j ≡ k
+own_last (Some x) j k rest e = cc
+own_last None j k rest e = cc
+
 -- Of one thread, what the fixed pairs leave free: not two statements, nor two drains, nor a statement and its own drain, nor a
 -- drain and what waits for it.
 pub record Unfixed (b c : Bool) (h : Instr) (j k : ℕ) : Type 0 where
   pub unlike : b ≡ c → ⊥
   pub others : b ≡ false → c ≡ true → j ≡ k → ⊥
-  pub no_wait : b ≡ true → c ≡ false → j < k → waits_for_drains h ≡ true → ⊥
+  pub no_wait : b ≡ true → c ≡ false → j < k → waits (operation_of h) ≡ true → ⊥
 
 module _ (program : List (List Instr)) (W : ℕ → List ℕ) (s m1 m2 : MachineState (List ℕ)) (hold : AllHold program W s) where
   full_empty : (b : List (ℕ × ℕ)) (e : ℕ × ℕ) (newer : List (ℕ × ℕ)) → b ≡ e ∷ newer → b ≡ [] → ⊥
@@ -109,23 +105,23 @@ module _ (program : List (List Instr)) (W : ℕ → List ℕ) (s m1 m2 : Machine
   -- of one thread
   passing : (t j k : ℕ) (i h : Instr) (o : Option ℕ) (b c : Bool) → slice_get (code_of program t) j ≡ Some i → slice_get (code_of program t) k ≡ Some h
       → (b ≡ true → (rest : List ℕ) × (W t ≡ j ∷ rest)) → (c ≡ true → (rest : List ℕ) × (own_waits b o j (W t) ≡ k ∷ rest))
-      → (conflict_by x86_behaviour b c (Some i) (Some h) ≡ true → ⊥) → Unfixed b c h j k
+      → (conflict_by x86 b c (Some i) (Some h) ≡ true → ⊥) → Unfixed b c h j k
       → (x : Carried program t j b s m1) → Carried program t k c m1 m2 → ArePassing program (event_by b t) (event_by c t) x.old
   passing t j k i h o false false ati ath headx heady never free x y = absurd (free.unlike refl)
   passing t j k i h o true true ati ath headx heady never free x y = absurd (free.unlike refl)
   passing t j k i h o false true ati ath headx heady never free x y =
       let here : slice_get (code_of program t) x.old.position ≡ Some i = ap (λ n. slice_get (code_of program t) n) (x.stands refl) ∙ ati in
-      let shape : Shape i x.old x.new = step_shape i x.old x.new s.memory x.words (subst (λ p. Does s.memory (step_act p x.old) x.new x.words) here x.does) in
+      let shape : Went (operation_of i) x.old x.new = went program t j i s m1 x ati in
       let f = found (W t) (hold t x.old x.was).waits (hold t x.old x.was).climbs (heady refl).0 (heady refl).1 in
       passes_oldest x.old.buffer (slice_get (code_of program t) x.old.position) f.0 f.1 i f.2 here
-      (passes f.0.0 i (λ w. full_empty x.old.buffer f.0 f.1 f.2 (shape.waited w)) (λ e. never (conflicting false true i h f.0.0 e f.3 (or_right (is_locked i) true refl))))
+      (passes f.0.0 (operation_of i) (λ w. full_empty x.old.buffer f.0 f.1 f.2 (shape.waited w))
+      (λ e. never (conflicting false true i h f.0.0 e f.3 (or_right (writes_by x86 false i) true refl))))
     where
-      found : (ws : List ℕ) → Waits (code_of program t) ws x.old.buffer → Climbs 0 ws x.old.position → (rest : List ℕ) → own_waits false o j ws ≡ k ∷ rest → (e : ℕ × ℕ) × (newer : List (ℕ × ℕ)) × (x.old.buffer ≡ e ∷ newer) × (drained h ≡ Some e.0)
-      found [] w c rest e = elim (own_in false o j k x.old.position [] c (λ f. absurd (true≢false (sym f))) (subst (λ ws. In k ws) (sym e) (inl refl))) [
-        | inl (g, ne) ↦ absurd g
-        | inr (f, store, same) ↦ absurd (free.others refl refl same)
-      ]
-      found (v ∷ ws) w c rest e = oldest_entry (code_of program t) k ws x.old.buffer h (subst (λ v. Waits (code_of program t) (v ∷ ws) x.old.buffer) (own_head o j v k ws rest e) w) ath
+      found : (ws : List ℕ) → Waits (code_of program t) ws x.old.buffer → Climbs 0 ws x.old.position
+          → (rest : List ℕ) → own_waits false o j ws ≡ k ∷ rest → (e : ℕ × ℕ) × (newer : List (ℕ × ℕ)) × (x.old.buffer ≡ e ∷ newer) × (drains x86 h ≡ Some e.0)
+      found [] w c rest e = absurd (free.others refl refl (own_last o j k rest e))
+      found (v ∷ ws) w c rest e = oldest_entry (code_of program t) k ws x.old.buffer h
+          (subst (λ v. Waits (code_of program t) (v ∷ ws) x.old.buffer) (own_head o j v k ws rest e) w) ath
   passing t j k i h o true false ati ath headx heady never free x y =
       let a = headx refl in
       let g = hold t x.old x.was in
@@ -133,28 +129,31 @@ module _ (program : List (List Instr)) (W : ℕ → List ℕ) (s m1 m2 : Machine
       let at : x.old.position ≡ k = old_position in
       let less = climbs_in 0 x.old.position j (j ∷ a.0) (subst (λ ws. Climbs 0 ws x.old.position) a.1 g.climbs) (inl refl) in
       passes_oldest x.old.buffer (slice_get (code_of program t) x.old.position) f.0 f.1 h f.2 (ap (λ n. slice_get (code_of program t) n) at ∙ ath)
-      (passes f.0.0 h (λ w. free.no_wait refl refl (omega (arith, less.1, at)) w) (λ e. never (conflicting true false i h f.0.0 f.3 e refl)))
+      (passes f.0.0 (operation_of h) (λ w. free.no_wait refl refl (omega (arith, less.1, at)) w) (λ e. never (conflicting true false i h f.0.0 f.3 e refl)))
     where
       old_position : x.old.position ≡ k
       old_position =
           let d : DrainShape x.old x.new = drain_shape x.old x.new s.memory x.words x.does in
-          let same : x.new ≡ y.old = same_Some x.new y.old (sym (ap (λ (z : MachineState (List ℕ)). slice_get z.processors t) x.is ∙ got_set_same s.processors t x.new x.old x.was) ∙ y.was) in
+          let same : x.new ≡ y.old = same_Some x.new y.old
+          (sym (ap (λ (z : MachineState (List ℕ)). slice_get z.processors t) x.is ∙ got_set_same s.processors t x.new x.old x.was) ∙ y.was) in
           ap (λ (z : Processor). z.position) (sym d.is) ∙ (ap (λ (z : Processor). z.position) same ∙ y.stands refl)
 
   -- of two threads
-  apart : (t u j k : ℕ) (i h : Instr) (b c : Bool) (V : ℕ → List ℕ) → t ≢ u → slice_get (code_of program t) j ≡ Some i → slice_get (code_of program u) k ≡ Some h → AllHold program V m1
+  apart : (t u j k : ℕ) (i h : Instr) (b c : Bool) (V : ℕ → List ℕ) → t ≢ u → slice_get
+      (code_of program t) j ≡ Some i → slice_get (code_of program u) k ≡ Some h → AllHold program V m1
       → (b ≡ true → (rest : List ℕ) × (W t ≡ j ∷ rest)) → (c ≡ true → (rest : List ℕ) × (V u ≡ k ∷ rest))
-      → (conflict_by x86_behaviour b c (Some i) (Some h) ≡ true → ⊥) → Carried program t j b s m1 → Carried program u k c m1 m2
+      → (conflict_by x86 b c (Some i) (Some h) ≡ true → ⊥) → Carried program t j b s m1 → Carried program u k c m1 m2
       → (p q : Processor) → slice_get s.processors t ≡ Some p → slice_get s.processors u ≡ Some q → DoNotConflict (act_by program t b p) (act_by program u c q)
   apart t u j k i h b c V ne ati ath hold1 headx heady never x y p q e f z az bz =
       let xs : x.old ≡ p = same_Some x.old p (sym x.was ∙ e) in
-      let ys : y.old ≡ q = same_Some y.old q (sym y.was ∙ (ap (λ (z : MachineState (List ℕ)). slice_get z.processors u) x.is ∙ (got_set_other s.processors t u x.new ne ∙ f))) in
+      let ys : y.old ≡ q =
+      same_Some y.old q (sym y.was ∙ (ap (λ (z : MachineState (List ℕ)). slice_get z.processors u) x.is ∙ (got_set_other s.processors t u x.new ne ∙ f))) in
       let one = touches program t j i s m1 W ati hold b x headx z (ap (λ r. machine.accessed (act_by program t b r)) xs ∙ az) in
       let two = touches program u k h m1 m2 V ath hold1 c y heady z (ap (λ r. machine.accessed (act_by program u c r)) ys ∙ bz) in (
         false_from_ne_true (machine.writes (act_by program t b p)) (λ w. never (conflicting b c i h z one.0 two.0
-            (or_left (writes_by x86_behaviour b i) (writes_by x86_behaviour c h) (one.1 (ap (λ r. machine.writes (act_by program t b r)) xs ∙ w))))),
+            (or_left (writes_by x86 b i) (writes_by x86 c h) (one.1 (ap (λ r. machine.writes (act_by program t b r)) xs ∙ w))))),
         false_from_ne_true (machine.writes (act_by program u c q)) (λ w. never (conflicting b c i h z one.0 two.0
-            (or_right (writes_by x86_behaviour b i) (writes_by x86_behaviour c h) (two.1 (ap (λ r. machine.writes (act_by program u c r)) ys ∙ w))))),
+            (or_right (writes_by x86 b i) (writes_by x86 c h) (two.1 (ap (λ r. machine.writes (act_by program u c r)) ys ∙ w))))),
       )
 
   act_is : (locs t : ℕ) (b : Bool) (p : Processor) → event_act program locs (event_by b t) p ≡ act_by program t b p
@@ -165,9 +164,11 @@ module _ (program : List (List Instr)) (W : ℕ → List ℕ) (s m1 m2 : Machine
   cpu_is true t = refl
   cpu_is false t = refl
 
-  pub independent : (a b : Item) (i h : Instr) → statement_of x86_behaviour program a ≡ Some i → statement_of x86_behaviour program b ≡ Some h → AllHold program (waits_after program a W) m1
-      → (a.is_drain ≡ true → (rest : List ℕ) × (W a.thread ≡ a.position ∷ rest)) → (b.is_drain ≡ true → (rest : List ℕ) × (waits_after program a W b.thread ≡ b.position ∷ rest))
-      → (do_conflict x86_behaviour program a b ≡ true → ⊥) → (a.thread ≡ b.thread → Unfixed a.is_drain b.is_drain h a.position b.position)
+  pub independent : (a b : Item) (i h : Instr) → statement_of x86 program a ≡ Some i
+      → statement_of x86 program b ≡ Some h → AllHold program (waits_after x86 program a W) m1
+      → (a.is_drain ≡ true → (rest : List ℕ) × (W a.thread ≡ a.position ∷ rest))
+      → (b.is_drain ≡ true → (rest : List ℕ) × (waits_after x86 program a W b.thread ≡ b.position ∷ rest))
+      → (do_conflict x86 program a b ≡ true → ⊥) → (a.thread ≡ b.thread → Unfixed a.is_drain b.is_drain h a.position b.position)
       → CarriedItem program a s m1 → CarriedItem program b m1 m2 → AreIndependent program (event_of a) (event_of b) s
   independent a b i h ati ath hold1 heada headb free unfixed x y = record {
     of_two = λ ne p q e f.
@@ -176,16 +177,19 @@ module _ (program : List (List Instr)) (W : ℕ → List ℕ) (s m1 m2 : Machine
         let f' : slice_get s.processors b.thread ≡ Some q = ap (slice_get s.processors) (sym (cpu_is b.is_drain b.thread)) ∙ f in
         subst (λ act. DoNotConflict act (event_act program (length s.memory) (event_of b) q)) (sym (act_is (length s.memory) a.thread a.is_drain p))
         (subst (λ act. DoNotConflict (act_by program a.thread a.is_drain p) act) (sym (act_is (length s.memory) b.thread b.is_drain q))
-        (apart a.thread b.thread a.position b.position i h a.is_drain b.is_drain (waits_after program a W) threads ati ath hold1 heada headb never x y p q e' f')));
+        (apart a.thread b.thread a.position b.position i h a.is_drain b.is_drain
+        (waits_after x86 program a W) threads ati ath hold1 heada headb never x y p q e' f')));
     of_one = λ same p e.
         (let one : a.thread ≡ b.thread = sym (cpu_is a.is_drain a.thread) ∙ (same ∙ cpu_is b.is_drain b.thread) in
         let is : x.old ≡ p = same_Some x.old p (sym x.was ∙ (ap (slice_get s.processors) (sym (cpu_is a.is_drain a.thread)) ∙ e)) in
         subst (λ u. ArePassing program (event_of a) (event_by b.is_drain u) p) one
         (subst (λ r. ArePassing program (event_of a) (event_by b.is_drain a.thread) r) is
-        (passing a.thread a.position b.position i h (stored (statement_of x86_behaviour program a)) a.is_drain b.is_drain ati (subst (λ u. slice_get (code_of program u) b.position ≡ Some h) (sym one) ath) heada
-        (λ f. (let r = headb f in (r.0, sym (waits_same program a W a.thread refl) ∙ (ap (waits_after program a W) one ∙ r.1))))
+        (passing a.thread a.position b.position i h (stored x86 (statement_of x86 program a)) a.is_drain b.is_drain ati
+        (subst (λ u. slice_get (code_of program u) b.position ≡ Some h) (sym one) ath) heada
+        (λ f. (let r = headb f in (r.0, sym (waits_same x86 program a W a.thread refl) ∙ (ap (waits_after x86 program a W) one ∙ r.1))))
         never (unfixed one) x (subst (λ u. Carried program u b.position b.is_drain m1 m2) (sym one) y))));
   }
     where
-      never : conflict_by x86_behaviour a.is_drain b.is_drain (Some i) (Some h) ≡ true → ⊥
-      never e = free (ap (λ o. conflict_by x86_behaviour a.is_drain b.is_drain o (statement_of x86_behaviour program b)) ati ∙ (ap (λ o. conflict_by x86_behaviour a.is_drain b.is_drain (Some i) o) ath ∙ e))
+      never : conflict_by x86 a.is_drain b.is_drain (Some i) (Some h) ≡ true → ⊥
+      never e = free (ap (λ o. conflict_by x86 a.is_drain b.is_drain o (statement_of x86 program b)) ati
+          ∙ (ap (λ o. conflict_by x86 a.is_drain b.is_drain (Some i) o) ath ∙ e))

@@ -5,7 +5,7 @@ use Rattle.lw_litmus.specs.declared.stmt.Stmt.{Stmt}
 use Rattle.lw_litmus.specs.Tests.{SourceTest}
 use Rattle.lw_interleaving.specs.Steps.{position_of}
 use Rattle.lw_interleaving.specs.Runs.{State, source_step, start_of, is_final, outcome_of}
-use Rattle.lw_choices.specs.SourceItems.{source_behaviour}
+use Rattle.lw_litmus.specs.Sources.{source}
 use Rattle.lw_choices.specs.declared.item.Item.{Item}
 use Rattle.lw_finals.specs.OrderRuns as runs
 
@@ -20,4 +20,4 @@ StaysAndEnds s = runs.StaysAndEnds (CarriedOut s.threads) (is_final s.threads) o
 
 -- an outcome of a choice of paths of a source test
 abbrev pub ChoiceOutcome : SourceTest → List (List ℕ) → Final → Type 0
-ChoiceOutcome s = runs.ChoiceOutcome (CarriedOut s.threads) (is_final s.threads) outcome_of source_behaviour s.threads (start_of s)
+ChoiceOutcome s = runs.ChoiceOutcome (CarriedOut s.threads) (is_final s.threads) outcome_of source s.threads (start_of s)

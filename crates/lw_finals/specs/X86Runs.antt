@@ -13,7 +13,7 @@ use Rattle.lw_litmus.specs.declared.instr.Instr.{Instr}
 use Rattle.lw_litmus.specs.Tests.{ProgramTest}
 use Rattle.lw_choices.specs.declared.item.Item.{Item}
 use Rattle.lw_choices.specs.Items.{item_at}
-use Rattle.lw_choices.specs.X86Items.{x86_behaviour}
+use Rattle.lw_litmus.specs.Programs.{x86}
 use Rattle.lw_finals.specs.OrderRuns as runs
 
 abbrev pub event_by : Bool → ℕ → Event
@@ -39,7 +39,7 @@ module _ {M : Type 0} (mem : Memory M) where
 
   -- an outcome of a choice of paths of an x86 test
   abbrev pub ChoiceOutcome : ProgramTest → M → List (List ℕ) → Final → Type 0
-  ChoiceOutcome test m = runs.ChoiceOutcome (CarriedOut test.threads) (is_final test.threads) (machine_outcome mem) x86_behaviour test.threads (machine_start test m)
+  ChoiceOutcome test m = runs.ChoiceOutcome (CarriedOut test.threads) (is_final test.threads) (machine_outcome mem) x86 test.threads (machine_start test m)
 
 -- A schedule without evictions replays over flat memory to an outcome.
 abbrev pub LeadsFlat : ProgramTest → List Event → Final → Type 0

@@ -11,10 +11,11 @@ ghost use Rattle.lw_choices.specs.Visits.{IsVisitable};
 use crate::runner::OrderRunner;
 use lw_base::Sequence;
 use lw_choices::{
-    Choice, Item, ListFault, Statement, Visitor, check_limits, conflicts_of, constrained,
-    fill_few_items, visit_choices,
+    Choice, Item, ListFault, Visitor, check_limits, conflicts_of, constrained, fill_few_items,
+    visit_choices,
 };
 use lw_listing::{Findings, Listing};
+use lw_litmus::Statement;
 use lw_orders::{Items, Order, Orders, count, one_order_goes_up};
 use std::alloc::{AllocError, Allocator};
 
@@ -70,9 +71,9 @@ fn gather_items<S: Statement, A: Allocator + Copy, B: Allocator, R: OrderRunner<
     requires { length items.now ≤ most_items }
     ensures same { R.test runner.new ≡ R.test runner.old }
     ensures gathered { OnOk result (Gathers
-        (EndsOfItems S.behaviour (R.ends (R.test runner.old)) program.now items.now)
+        (EndsOfItems S.language (R.ends (R.test runner.old)) program.now items.now)
         (R.leads (R.test runner.old)) found.old found.new) }
-    ensures err { IfErr result (TellsOfGiven S.behaviour program.now items.now) }
+    ensures err { IfErr result (TellsOfGiven S.language program.now items.now) }
 {
     let conflicts = conflicts_of(alloc, program, items)?;
     if conflicts.is_empty() {
@@ -104,9 +105,9 @@ impl<'a, S: Statement, A: Allocator + Copy, B: Allocator, R: OrderRunner<A> + Dr
     type Fault = ListFault;
 
     ghost visits = { λ v paths w. (w.program.now ≡ v.program.now) × (R.test w.runner ≡ R.test v.runner)
-        × Gathers (EndsOfChoice S.behaviour (R.ends (R.test v.runner)) v.program.now paths) (R.leads (R.test v.runner)) v.found w.found };
+        × Gathers (EndsOfChoice S.language (R.ends (R.test v.runner)) v.program.now paths) (R.leads (R.test v.runner)) v.found w.found };
 
-    ghost refuses = { λ v paths e. TellsOfChoice S.behaviour v.program.now 0 paths e };
+    ghost refuses = { λ v paths e. TellsOfChoice S.language v.program.now 0 paths e };
 
     fn visit(&mut self, choice: &Choice) -> Result<(), ListFault> {
         fill_few_items(self.program, choice, &mut self.items)?;
@@ -127,12 +128,12 @@ pub(crate) fn list_program<
     B: Allocator,
     R: OrderRunner<A> + Drop,
 >(alloc: A, program: &[Sequence<S, B>], runner: R) -> Result<Listing<A>, ListFault>
-    requires { IsVisitable S.behaviour.flow program.now }
-    ensures within { OnOk result (IsWithinLimits S.behaviour program.now) }
-    ensures err { IfErr result (TellsLimit S.behaviour program.now) }
+    requires { IsVisitable S.language program.now }
+    ensures within { OnOk result (IsWithinLimits S.language program.now) }
+    ensures err { IfErr result (TellsLimit S.language program.now) }
     ensures sorted { IfOk result (λ l. IsStrictlySorted l) }
     ensures gathered { IfOk result (λ l. Gathers
-        (EndsOfProgram S.behaviour (R.ends (R.test runner)) program.now) (R.leads (R.test runner)) [] l) }
+        (EndsOfProgram S.language (R.ends (R.test runner)) program.now) (R.leads (R.test runner)) [] l) }
 {
     check_limits(alloc, program)?;
     let mut gatherer = Gatherer {

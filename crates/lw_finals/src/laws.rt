@@ -5,46 +5,44 @@ ghost use Rattle.lw_base.specs.Outcomes.{Final};
 ghost use Rattle.lw_memory.specs.Flat.{flat};
 ghost use Rattle.lw_orders.specs.Order.{IsLinearExtension, Alike};
 ghost use Rattle.lw_interleaving.specs.Runs.{SourceOutcome};
-ghost use Rattle.lw_litmus.specs.Sources.{IsWellFormedSource};
+ghost use Rattle.lw_litmus.specs.Sources.{source};
+ghost use Rattle.lw_litmus.specs.WellFormedTests.{IsWellFormedSource, IsWellFormedProgram};
 ghost use Rattle.lw_litmus.specs.Tests.{SourceTest, ProgramTest};
 ghost use Rattle.lw_tso.specs.Runs.{MachineOutcome};
-ghost use Rattle.lw_litmus.specs.Programs.{IsWellFormedProgram};
+ghost use Rattle.lw_litmus.specs.Programs.{x86};
 ghost use Rattle.lw_choices.specs.Choices.{IsChoice};
-ghost use Rattle.lw_choices.specs.Flows.{source_flow, x86_flow};
 ghost use Rattle.lw_choices.specs.Items.{items_of, constraints_of};
 ghost use Rattle.lw_finals.specs.SourceRuns.{StaysAndEnds, ChoiceOutcome};
-ghost use Rattle.lw_choices.specs.SourceItems.{source_behaviour};
-ghost use Rattle.lw_choices.specs.X86Items.{x86_behaviour};
-ghost use Rattle.lw_finals.specs.X86Runs as x86;
+ghost use Rattle.lw_finals.specs.X86Runs as machine;
 
 /// Of two alike orders of the items of a choice that keep the fixed pairs, where one stays on the chosen paths the other does,
 /// and ends with the same outcome.
 pub fn alike_source_orders_end_alike()
     ensures { (s : SourceTest) (paths : List (List ℕ)) (xs ys : List ℕ) (o : Final)
-        → IsLinearExtension (constraints_of source_behaviour s.threads (items_of source_behaviour s.threads paths)) xs
-        → IsLinearExtension (constraints_of source_behaviour s.threads (items_of source_behaviour s.threads paths)) ys
-        → Alike (constraints_of source_behaviour s.threads (items_of source_behaviour s.threads paths)).conflicts xs ys
-        → StaysAndEnds s (items_of source_behaviour s.threads paths) xs o
-        → StaysAndEnds s (items_of source_behaviour s.threads paths) ys o }
+        → IsLinearExtension (constraints_of source s.threads (items_of source s.threads paths)) xs
+        → IsLinearExtension (constraints_of source s.threads (items_of source s.threads paths)) ys
+        → Alike (constraints_of source s.threads (items_of source s.threads paths)).conflicts xs ys
+        → StaysAndEnds s (items_of source s.threads paths) xs o
+        → StaysAndEnds s (items_of source s.threads paths) ys o }
 {}
 
 /// The outcomes of a source test are those of its choices of paths: of the orders of their items that keep the fixed pairs and
 /// stay on the chosen paths.
 pub fn source_outcomes_are_those_of_choices()
     ensures { (s : SourceTest) (o : Final) → IsWellFormedSource s
-        → SourceOutcome s o ↔ ((paths : List (List ℕ)) × IsChoice source_flow s.threads paths × ChoiceOutcome s paths o) }
+        → SourceOutcome s o ↔ ((paths : List (List ℕ)) × IsChoice source s.threads paths × ChoiceOutcome s paths o) }
 {}
 
 /// Of two alike orders of the items of a choice of an x86 test that keep the fixed pairs, over flat memory: where one stays on
 /// the chosen paths the other does, and ends with the same outcome.
 pub fn alike_x86_orders_end_alike()
     ensures { (test : ProgramTest) (paths : List (List ℕ)) (xs ys : List ℕ) (o : Final)
-        → IsWellFormedProgram test → IsChoice x86_flow test.threads paths
-        → IsLinearExtension (constraints_of x86_behaviour test.threads (items_of x86_behaviour test.threads paths)) xs
-        → IsLinearExtension (constraints_of x86_behaviour test.threads (items_of x86_behaviour test.threads paths)) ys
-        → Alike (constraints_of x86_behaviour test.threads (items_of x86_behaviour test.threads paths)).conflicts xs ys
-        → x86.StaysAndEnds flat test test.head.init_words (items_of x86_behaviour test.threads paths) xs o
-        → x86.StaysAndEnds flat test test.head.init_words (items_of x86_behaviour test.threads paths) ys o }
+        → IsWellFormedProgram test → IsChoice x86 test.threads paths
+        → IsLinearExtension (constraints_of x86 test.threads (items_of x86 test.threads paths)) xs
+        → IsLinearExtension (constraints_of x86 test.threads (items_of x86 test.threads paths)) ys
+        → Alike (constraints_of x86 test.threads (items_of x86 test.threads paths)).conflicts xs ys
+        → machine.StaysAndEnds flat test test.head.init_words (items_of x86 test.threads paths) xs o
+        → machine.StaysAndEnds flat test test.head.init_words (items_of x86 test.threads paths) ys o }
 {}
 
 /// The outcomes of an x86 test over flat memory are those of its choices of paths: of the orders of their items that keep the
@@ -52,5 +50,5 @@ pub fn alike_x86_orders_end_alike()
 pub fn x86_outcomes_are_those_of_choices()
     ensures { (test : ProgramTest) (o : Final) → IsWellFormedProgram test
         → MachineOutcome flat test test.head.init_words o
-        ↔ ((paths : List (List ℕ)) × IsChoice x86_flow test.threads paths × x86.ChoiceOutcome flat test test.head.init_words paths o) }
+        ↔ ((paths : List (List ℕ)) × IsChoice x86 test.threads paths × machine.ChoiceOutcome flat test test.head.init_words paths o) }
 {}

@@ -30,7 +30,7 @@ pub use laws::{
 };
 pub use list::{list_raw, list_source};
 pub use lw_choices::{
-    Choice, ListFault, Path, Statement, Visitor, choices_are_complete, source_tests_have_few_items,
+    Choice, ListFault, Path, Visitor, choices_are_complete, source_tests_have_few_items,
     visit_choices,
 };
 pub use lw_listing::{Listing, outcomes_stand_once};

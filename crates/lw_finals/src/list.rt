@@ -10,8 +10,8 @@ ghost use Rattle.lw_base.specs.Entries.{IsEntryOf};
 ghost use Rattle.lw_listing.specs.Listings.{outcomes_of, IsStrictlySorted};
 ghost use Rattle.lw_finals.specs.Lists.{ListsMachine};
 ghost use Rattle.lw_whole.specs.OverCaches.{ReplaysOverCaches, OutcomeOverCaches};
-ghost use Rattle.lw_choices.specs.SourceItems.{source_behaviour};
-ghost use Rattle.lw_choices.specs.X86Items.{x86_behaviour};
+ghost use Rattle.lw_litmus.specs.Sources.{source as source_language};
+ghost use Rattle.lw_litmus.specs.Programs.{x86};
 
 use crate::gather::list_program;
 use crate::laws::{alike_x86_orders_end_alike, x86_outcomes_are_those_of_choices};
@@ -42,8 +42,8 @@ pub fn list_source<A: Allocator + Copy>(
     // Each entry is of the test's threads and locations.
     ensures of_test { IfOk result (λ l. All (IsEntryOf (head_of source.now.head)) l) }
     // It is answered within the limits alone, and a limit is told where it is passed.
-    ensures within { OnOk result (IsWithinLimits source_behaviour source.now.threads) }
-    ensures limit { IfErr result (TellsLimit source_behaviour source.now.threads) }
+    ensures within { OnOk result (IsWithinLimits source_language source.now.threads) }
+    ensures limit { IfErr result (TellsLimit source_language source.now.threads) }
 {
     orders_are_complete();
     outcomes_over_caches_are_flat();
@@ -70,8 +70,8 @@ pub fn list_raw<A: Allocator + Copy>(
     // Each entry is of the test's threads and locations.
     ensures of_test { IfOk result (λ l. All (IsEntryOf (head_of program.now.head)) l) }
     // It is answered within the limits alone, and a limit is told where it is passed.
-    ensures within { OnOk result (IsWithinLimits x86_behaviour program.now.threads) }
-    ensures limit { IfErr result (TellsLimit x86_behaviour program.now.threads) }
+    ensures within { OnOk result (IsWithinLimits x86 program.now.threads) }
+    ensures limit { IfErr result (TellsLimit x86 program.now.threads) }
 {
     orders_are_complete();
     outcomes_over_caches_are_flat();

@@ -11,6 +11,7 @@ use Rattle.lw_base.specs.declared.stop.Stop.TheVariants.{NoCpu, NoLocation, Ende
 use Rattle.lw_base.specs.declared.stop.Replay.{Replay}
 use Rattle.lw_litmus.specs.declared.stmt.Stmt.{Stmt}
 use Rattle.lw_interleaving.specs.declared.thread.Thread.{Thread}
+use Rattle.lw_litmus.specs.Sources.{operation_of}
 use Rattle.lw_litmus.specs.Tests.{SourceTest}
 use Rattle.lw_interleaving.specs.Statements.{thread_after, words_after}
 
@@ -30,7 +31,7 @@ start_of s = record { threads = map starting s.head.init_regs; words = s.head.in
 abbrev pub carried_out : ℕ → Thread → State → Option Stmt → Result State Stop
 carried_out t th s None = Err Ended
 carried_out t th s (Some stmt) =
-    Ok (record { threads = slice_set s.threads t (thread_after stmt th s.words); words = words_after stmt th s.words })
+    Ok (record { threads = slice_set s.threads t (thread_after (operation_of stmt) th s.words); words = words_after (operation_of stmt) th s.words })
 
 abbrev pub step_of : List (List Stmt) → ℕ → State → Option Thread → Result State Stop
 step_of program t s None = Err NoCpu

@@ -3,6 +3,7 @@ use Rattle.std.specs.Prelude.{◌≡◌, ℕ, Option, Some, option_and_then, Ok,
 use Rattle.lw_base.specs.Threads.{code_of}
 use Rattle.lw_litmus.specs.declared.stmt.Stmt.{Stmt}
 use Rattle.lw_litmus.specs.Flow.{Follows}
+use Rattle.lw_litmus.specs.Sources.{source}
 use Rattle.lw_interleaving.specs.Runs.{State, source_step}
 
 -- the position of a thread
@@ -18,7 +19,7 @@ pub record FollowsFlow (program : List (List Stmt)) (t : ℕ) (s next : State) :
   pub from : ℕ
   pub to : ℕ
   pub was : position_of s t ≡ Some from
-  pub follows : Follows (slice_get (code_of program t) from) from to
+  pub follows : Follows source (slice_get (code_of program t) from) from to
   pub now : position_of next t ≡ Some to
 
 -- a step of t and then one of u, of threads whose statements don't conflict, lead where u and then t lead

@@ -5,12 +5,13 @@ ghost use Rattle.lw_litmus.specs.declared.stmt.Stmt.{Stmt};
 ghost use Rattle.lw_interleaving.specs.Runs.{State, source_step};
 ghost use Rattle.lw_interleaving.specs.Steps.{FollowsFlow, position_of, next_of, IsExchangeable};
 ghost use Rattle.lw_litmus.specs.Conflicts.{do_conflict};
+ghost use Rattle.lw_litmus.specs.Sources.{source};
 
 /// A theorem for readers: neighbouring steps of two threads whose statements don't conflict can be exchanged: the state
 /// after both is the same.
 pub fn steps_can_be_exchanged()
     ensures { (program : List (List Stmt)) (t u : ℕ) (s : State) → t ≢ u
-        → do_conflict (next_of program s t) (next_of program s u) ≡ false → IsExchangeable program t u s }
+        → do_conflict source (next_of program s t) (next_of program s u) ≡ false → IsExchangeable program t u s }
 {}
 
 /// A theorem for readers: a step leads its thread to a successor of where it was.

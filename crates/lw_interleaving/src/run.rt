@@ -6,7 +6,7 @@ ghost use Rattle.lw_interleaving.specs.Runs as runs;
 
 use crate::thread::Thread;
 use lw_base::{Cpu, End, Event, Loc, Outcome, Reg, Replay, Sequence, Stop, Word};
-use lw_litmus::Source;
+use lw_litmus::{Source, Statement};
 use std::alloc::{AllocError, Allocator, Global};
 use std::marker::Model;
 
@@ -122,8 +122,9 @@ impl<'a, A: Allocator, B: Allocator> SourceRun<'a, A, B> {
         let Some(stmt) = code.get(thread.position) else {
             return Err(Stop::Ended);
         };
-        let next = thread.after(stmt, self.words.as_slice());
-        thread.write(stmt, &mut self.words);
+        let operation = stmt.operation();
+        let next = thread.after(&operation, self.words.as_slice());
+        thread.write(&operation, &mut self.words);
         self.threads.set(cpu.index(), next);
         Ok(())
     }

@@ -1,13 +1,12 @@
-//! What a thread of a running source test has of its own, and what a statement makes of it.
+//! What a thread of a running source test has of its own, and what an operation makes of it.
 ghost use Rattle.std.specs.Prelude.{◌≡◌, ◌+◌, ◌<◌, ◌^◌, length, nat_le};
 ghost use Rattle.lw_base.specs.Sums.{sum_of};
 ghost use Rattle.lw_interleaving.specs.Statements as table;
 ghost use Rattle.lw_interleaving.specs.Statements.{words_after};
-ghost use Rattle.lw_litmus.specs.WellFormed.{IsStatement};
-ghost use Rattle.lw_litmus.specs.Sources.{source};
+ghost use Rattle.lw_litmus.specs.WellFormed.{IsOperation};
 
 use lw_base::{REGISTERS, Reg, Sequence, Word};
-use lw_litmus::Stmt;
+use lw_litmus::Operation;
 use std::alloc::Allocator;
 
 /// A thread's place in its code, and its registers.
@@ -26,38 +25,40 @@ impl Thread {
         count <= self.position
     }
 
-    /// The thread after a statement, where the memory has these words.
-    pub(crate) fn after(&self, stmt: &Stmt, words: &[Word]) -> Thread
-        requires stmt { IsStatement source (length words.now) stmt.now }
+    /// The thread after an operation, where the memory has these words.
+    pub(crate) fn after(&self, operation: &Operation, words: &[Word]) -> Thread
+        requires operation { IsOperation (length words.now) operation.now }
         requires room { self.now.position + 1 < 2 ^ 64 }
-        ensures { result ≡ table.thread_after stmt.now self.now words.now }
+        ensures { result ≡ table.thread_after operation.now self.now words.now }
     {
-        match stmt {
-            Stmt::Store { .. } => self.going_on(),
-            Stmt::Load { dst, loc } => self.getting(*dst, words[loc.index()]),
-            Stmt::Swap { dst, loc, .. } => self.getting(*dst, words[loc.index()]),
-            Stmt::FetchAdd { dst, loc, .. } => self.getting(*dst, words[loc.index()]),
-            Stmt::Set { dst, val } => self.getting(*dst, val.value(&self.regs)),
-            Stmt::Sum { dst, left, right } => {
+        match *operation {
+            Operation::Set { dst, val } => self.getting(dst, val.value(&self.regs)),
+            Operation::Sum { dst, left, right } => {
                 let sum = wrapping_sum(self.regs[left.index()], right.value(&self.regs));
-                self.getting(*dst, sum)
+                self.getting(dst, sum)
             }
-            Stmt::IfEq { reg, num, to } => self.jumping(self.regs[reg.index()] == *num, *to),
-            Stmt::IfNe { reg, num, to } => self.jumping(self.regs[reg.index()] != *num, *to),
-            Stmt::Goto { to } => self.jumping(true, *to),
+            Operation::Load { dst, loc } => self.getting(dst, words[loc.index()]),
+            Operation::Swap { dst, loc, .. } => self.getting(dst, words[loc.index()]),
+            Operation::FetchAdd { dst, loc, .. } => self.getting_if(dst, words[loc.index()]),
+            Operation::Branch { condition, to } => {
+                self.jumping(condition.holds(&self.regs, false), to)
+            }
+            Operation::Store { .. } | Operation::Compare { .. } | Operation::Fence => {
+                self.going_on()
+            }
         }
     }
 
-    /// Puts what the statement writes into the memory.
-    pub(crate) fn write<A: Allocator>(&self, stmt: &Stmt, words: &mut Sequence<Word, A>)
-        requires { IsStatement source (length words.old) stmt.now }
-        ensures { words.new ≡ words_after stmt.now self.now words.old }
+    /// Puts what the operation writes into the memory.
+    pub(crate) fn write<A: Allocator>(&self, operation: &Operation, words: &mut Sequence<Word, A>)
+        requires { IsOperation (length words.old) operation.now }
+        ensures { words.new ≡ words_after operation.now self.now words.old }
     {
-        match stmt {
-            Stmt::Store { loc, val } => words.set(loc.index(), val.value(&self.regs)),
-            Stmt::Swap { loc, src, .. } => words.set(loc.index(), self.regs[src.index()]),
-            Stmt::FetchAdd { loc, src, .. } => {
-                let sum = wrapping_sum(words.as_slice()[loc.index()], self.regs[src.index()]);
+        match *operation {
+            Operation::Store { loc, val } => words.set(loc.index(), val.value(&self.regs)),
+            Operation::Swap { loc, src, .. } => words.set(loc.index(), self.regs[src.index()]),
+            Operation::FetchAdd { loc, val, .. } => {
+                let sum = wrapping_sum(words.as_slice()[loc.index()], val.value(&self.regs));
                 words.set(loc.index(), sum);
             }
             _ => {}
@@ -83,6 +84,16 @@ impl Thread {
         Thread {
             position: self.position + 1,
             regs,
+        }
+    }
+
+    fn getting_if(&self, dst: Option<Reg>, word: Word) -> Thread
+        requires { self.now.position + 1 < 2 ^ 64 }
+        ensures { result ≡ table.getting_if self.now dst word }
+    {
+        match dst {
+            Some(dst) => self.getting(dst, word),
+            None => self.going_on(),
         }
     }
 

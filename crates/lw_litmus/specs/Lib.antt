@@ -4,8 +4,10 @@ pub mod Tests
 pub mod Views
 pub mod TestProps
 pub mod Operands
+pub mod Operations
 pub mod Sources
 pub mod Programs
+pub mod WellFormedTests
 pub mod WellFormed
 pub mod Flow
 pub mod Conflicts

@@ -1,4 +1,8 @@
 //! The instructions of x86.
+ghost use Rattle.lw_litmus.specs.Programs.{x86};
+
+use crate::operation::{Condition, Operation};
+use crate::statement::Statement;
 use lw_base::{Loc, Operand, Reg};
 
 /// An instruction of a thread. A jump's target is the number of an instruction of the same thread,
@@ -28,4 +32,49 @@ pub enum Instr {
     Jne { to: usize },
     /// `JMP L`.
     Jmp { to: usize },
+}
+
+impl Statement for Instr {
+    ghost language = { x86 };
+
+    fn operation(&self) -> Operation {
+        match *self {
+            Instr::Store { loc, val } => Operation::Store { loc, val },
+            Instr::Load { reg, loc } => Operation::Load { dst: reg, loc },
+            Instr::Set { reg, val } => Operation::Set { dst: reg, val },
+            Instr::Add { reg, val } => Operation::Sum {
+                dst: reg,
+                left: reg,
+                right: val,
+            },
+            Instr::Cmp { reg, val } => Operation::Compare { reg, val },
+            Instr::Xchg { loc, reg } => Operation::Swap {
+                dst: reg,
+                loc,
+                src: reg,
+            },
+            Instr::Xadd { loc, reg } => Operation::FetchAdd {
+                dst: Some(reg),
+                loc,
+                val: Operand::Register(reg),
+            },
+            Instr::Mfence => Operation::Fence,
+            Instr::Je { to } => Operation::Branch {
+                condition: Condition::Zero,
+                to,
+            },
+            Instr::Jne { to } => Operation::Branch {
+                condition: Condition::NotZero,
+                to,
+            },
+            Instr::Jmp { to } => Operation::Branch {
+                condition: Condition::Always,
+                to,
+            },
+        }
+    }
+
+    fn is_buffered() -> bool {
+        true
+    }
 }

@@ -1,7 +1,8 @@
 //! An x86 test.
 ghost use Rattle.lw_litmus.specs.Tests.{test_of};
 ghost use Rattle.lw_litmus.specs.TestProps.{IsWellFormed-prop};
-ghost use Rattle.lw_litmus.specs.Programs.{IsWellFormedProgram, x86};
+ghost use Rattle.lw_litmus.specs.Programs.{x86};
+ghost use Rattle.lw_litmus.specs.WellFormedTests.{IsWellFormedProgram};
 
 use crate::instr::Instr;
 use lw_base::{Head, Sequence};

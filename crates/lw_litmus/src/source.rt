@@ -1,7 +1,8 @@
 //! A source test.
 ghost use Rattle.lw_litmus.specs.Tests.{test_of};
 ghost use Rattle.lw_litmus.specs.TestProps.{IsWellFormed-prop};
-ghost use Rattle.lw_litmus.specs.Sources.{IsWellFormedSource, source};
+ghost use Rattle.lw_litmus.specs.Sources.{source};
+ghost use Rattle.lw_litmus.specs.WellFormedTests.{IsWellFormedSource};
 
 use crate::stmt::Stmt;
 use lw_base::{Head, Sequence};

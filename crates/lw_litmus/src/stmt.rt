@@ -1,8 +1,8 @@
 //! The statements of the source language.
-ghost use Rattle.std.specs.Prelude.{◌≡◌};
-ghost use Rattle.lw_litmus.specs.Sources.{location_of};
-ghost use Rattle.lw_litmus.specs.Conflicts as conflicts;
+ghost use Rattle.lw_litmus.specs.Sources.{source};
 
+use crate::operation::{Condition, Operation};
+use crate::statement::Statement;
 use lw_base::{Loc, Operand, Reg, Word};
 
 /// A statement of a thread. A jump's target is the number of a statement of the same thread, or the
@@ -31,25 +31,37 @@ pub enum Stmt {
     Goto { to: usize },
 }
 
-impl Stmt {
-    /// The location that it reads or writes.
-    pub fn location(&self) -> Option<Loc>
-        ensures { result ≡ location_of self.now }
-    {
-        match self {
-            Stmt::Store { loc, .. } | Stmt::Load { loc, .. } => Some(*loc),
-            Stmt::Swap { loc, .. } | Stmt::FetchAdd { loc, .. } => Some(*loc),
-            _ => None,
+impl Statement for Stmt {
+    ghost language = { source };
+
+    fn operation(&self) -> Operation {
+        match *self {
+            Stmt::Store { loc, val } => Operation::Store { loc, val },
+            Stmt::Load { dst, loc } => Operation::Load { dst, loc },
+            Stmt::Swap { dst, loc, src } => Operation::Swap { dst, loc, src },
+            Stmt::FetchAdd { dst, loc, src } => Operation::FetchAdd {
+                dst: Some(dst),
+                loc,
+                val: Operand::Register(src),
+            },
+            Stmt::Set { dst, val } => Operation::Set { dst, val },
+            Stmt::Sum { dst, left, right } => Operation::Sum { dst, left, right },
+            Stmt::IfEq { reg, num, to } => Operation::Branch {
+                condition: Condition::Equal { reg, num },
+                to,
+            },
+            Stmt::IfNe { reg, num, to } => Operation::Branch {
+                condition: Condition::NotEqual { reg, num },
+                to,
+            },
+            Stmt::Goto { to } => Operation::Branch {
+                condition: Condition::Always,
+                to,
+            },
         }
     }
 
-    /// Whether it writes its location.
-    pub fn writes(&self) -> bool
-        ensures { result ≡ conflicts.writes self.now }
-    {
-        matches!(
-            self,
-            Stmt::Store { .. } | Stmt::Swap { .. } | Stmt::FetchAdd { .. }
-        )
+    fn is_buffered() -> bool {
+        false
     }
 }

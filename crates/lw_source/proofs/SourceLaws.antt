@@ -17,7 +17,9 @@ use Rattle.lw_litmus.specs.declared.stmt.Stmt.{Stmt}
 use Rattle.lw_source.specs.declared.jump.Jump.{Jump}
 use Rattle.lw_source.specs.declared.jump.Jump.TheVariants.{IfEq, IfNe, Always}
 use Rattle.lw_source.specs.Syntax.{StatementSyntax, Stores, Loads, Swaps, Fetch_adds, Sets, Sums, Jumps_if, Jumps_if_not, Jumps, StatementSays, label_of}
-use Rattle.lw_litmus.specs.Sources.{source, registers_of, numbers_of}
+use Rattle.lw_litmus.specs.Operations.{location_of, target_of}
+use Rattle.lw_litmus.specs.WellFormed.{registers_of, numbers_of}
+use Rattle.lw_litmus.specs.Sources.{operation_of}
 use Rattle.lw_source.specs.Grammar.{statement, source_grammar}
 use Rattle.lw_source.specs.inner.Drafts.{draft_of, jump_to}
 use Rattle.lw_source.proofs.Phrases.{first_of}
@@ -30,7 +32,7 @@ some ts s says none =
     let gone : slice_get ts 0 ≡ None = ap (λ (t : List (List ℕ)). slice_get t 0) none in
     cc
 
-located : (x to : ℕ) (s : StatementSyntax) → source.location_of (statement x to s) ≡ option_map (λ n. x) (source_grammar.name_of s)
+located : (x to : ℕ) (s : StatementSyntax) → location_of (operation_of (statement x to s)) ≡ option_map (λ n. x) (source_grammar.name_of s)
 located x to (Stores n v) = refl
 located x to (Loads d n) = refl
 located x to (Swaps d n a) = refl
@@ -41,7 +43,7 @@ located x to (Jumps_if a n l) = refl
 located x to (Jumps_if_not a n l) = refl
 located x to (Jumps l) = refl
 
-led : (x to : ℕ) (s : StatementSyntax) → source.target_of (statement x to s) ≡ option_map (λ l. to) (label_of s)
+led : (x to : ℕ) (s : StatementSyntax) → target_of (operation_of (statement x to s)) ≡ option_map (λ l. to) (label_of s)
 led x to (Stores n v) = refl
 led x to (Loads d n) = refl
 led x to (Swaps d n a) = refl
@@ -60,7 +62,7 @@ value_numbers : (w : List ℕ) (v : Operand) → IsOperand Source w v → AllByR
 value_numbers w (Register r) is = tt
 value_numbers w (Number n) is = (is.0, tt)
 
-registers : (ts : List (List ℕ)) (x to : ℕ) (s : StatementSyntax) → StatementSays ts s → AllByRecursion IsRegisterNumber (registers_of (statement x to s))
+registers : (ts : List (List ℕ)) (x to : ℕ) (s : StatementSyntax) → StatementSays ts s → AllByRecursion IsRegisterNumber (registers_of (operation_of (statement x to s)))
 registers ts x to (Stores n v) h = value_registers h.0 v h.3
 registers ts x to (Loads d n) h = (h.2.0, tt)
 registers ts x to (Swaps d n a) h = (h.3.0, (h.5.0, tt))
@@ -71,7 +73,7 @@ registers ts x to (Jumps_if a n l) h = (h.3.0, tt)
 registers ts x to (Jumps_if_not a n l) h = (h.3.0, tt)
 registers ts x to (Jumps l) h = tt
 
-numbers : (ts : List (List ℕ)) (x to : ℕ) (s : StatementSyntax) → StatementSays ts s → AllByRecursion IsWord (numbers_of (statement x to s))
+numbers : (ts : List (List ℕ)) (x to : ℕ) (s : StatementSyntax) → StatementSays ts s → AllByRecursion IsWord (numbers_of (operation_of (statement x to s)))
 numbers ts x to (Stores n v) h = value_numbers h.0 v h.3
 numbers ts x to (Loads d n) h = tt
 numbers ts x to (Swaps d n a) h = tt
@@ -90,8 +92,8 @@ source_lawful = record {
   no_label = no_label;
   located = located;
   led = led;
-  registers = λ ts x to s says. All-from_recursion IsRegisterNumber (registers_of (statement x to s)) (registers ts x to s says);
-  numbers = λ ts x to s says. All-from_recursion IsWord (numbers_of (statement x to s)) (numbers ts x to s says);
+  registers = λ ts x to s says. All-from_recursion IsRegisterNumber (registers_of (operation_of (statement x to s))) (registers ts x to s says);
+  numbers = λ ts x to s says. All-from_recursion IsWord (numbers_of (operation_of (statement x to s))) (numbers ts x to s says);
 }
 
 whole : (x : ℕ) (s : StatementSyntax) (stmt : Stmt) → draft_of x s ≡ Whole stmt → (label_of s ≡ None) × (statement x 0 s ≡ stmt)

@@ -5,10 +5,10 @@ use Rattle.std.proofs.lemmas.Bool.{ne_eqb, true≢false}
 use Rattle.std.proofs.lemmas.List.{get_or-set_other, set_comm}
 use Rattle.std.proofs.lemmas.Option.{same_Some}
 use Rattle.lw_base.specs.Sums.{sum_of}
-use Rattle.lw_litmus.specs.declared.instr.Instr.{Instr}
-use Rattle.lw_litmus.specs.declared.instr.Instr.TheVariants.{Store, Load, Set, Add, Cmp, Xchg, Xadd, Mfence, Je, Jne, Jmp}
+use Rattle.lw_litmus.specs.declared.operation.Operation.{Operation}
+use Rattle.lw_litmus.specs.declared.operation.Operation.TheVariants.{Set, Sum, Compare, Store, Load, Swap, FetchAdd, Fence, Branch}
 use Rattle.lw_tso.specs.Processors.{Processor, newest}
-use Rattle.lw_tso.specs.Acts.{Act, Refused, Goes, Loads, Stores, Swaps, Adds, Evicts, step_act, load_act}
+use Rattle.lw_tso.specs.Acts.{Act, Refused, Goes, Loads, Stores, Swaps, Adds, Evicts, operation_act, load_act}
 use Rattle.lw_tso.specs.Exchange.{accessed, writes, DoNotConflict, MayPass}
 use Rattle.lw_tso.proofs.api.Effects.{Does}
 
@@ -109,15 +109,14 @@ load_alone entry (Some w) here y next not ne = alone entry (next w)
 load_alone entry None true y next not ne = absurd (true≢false not)
 load_alone entry None false y next not ne = record { same = refl; free = λ e. ne (sym (same_Some y entry.0 e)) }
 
-pub step_alone : (entry : ℕ × ℕ) (i : Instr) (p : Processor) → MayPass entry.0 i → LeavesAlone entry (step_act (Some i) p) (step_act (Some i) (with_oldest entry p))
-step_alone entry (Store x v) p may = alone entry _
-step_alone entry (Load d y) p may = load_alone entry (newest p.buffer y) (entry.0 == y) y _ (ne_eqb entry.0 y may) may
-step_alone entry (Set d v) p may = alone entry _
-step_alone entry (Add d v) p may = alone entry _
-step_alone entry (Cmp a v) p may = alone entry _
-step_alone entry (Xchg y a) p may = absurd may
-step_alone entry (Xadd y a) p may = absurd may
-step_alone entry Mfence p may = absurd may
-step_alone entry (Je to) p may = alone entry _
-step_alone entry (Jne to) p may = alone entry _
-step_alone entry (Jmp to) p may = alone entry _
+pub operation_alone : (entry : ℕ × ℕ) (o : Operation) (p : Processor) → MayPass entry.0 o
+    → LeavesAlone entry (operation_act o p) (operation_act o (with_oldest entry p))
+operation_alone entry (Set d v) p may = alone entry _
+operation_alone entry (Sum d a v) p may = alone entry _
+operation_alone entry (Compare a v) p may = alone entry _
+operation_alone entry (Store x v) p may = alone entry _
+operation_alone entry (Load d y) p may = load_alone entry (newest p.buffer y) (entry.0 == y) y _ (ne_eqb entry.0 y may) may
+operation_alone entry (Swap d y a) p may = absurd (true≢false may)
+operation_alone entry (FetchAdd d y v) p may = absurd (true≢false may)
+operation_alone entry Fence p may = absurd (true≢false may)
+operation_alone entry (Branch c to) p may = alone entry _

@@ -5,7 +5,7 @@ use Rattle.std.specs.List.{list_all, zip}
 use Rattle.std.specs.Option.{ForSome, option_map}
 use Rattle.std.proofs.lemmas.Simd.{map-map}
 use Rattle.std.proofs.lemmas.List.{map-set, length-map, length-set, get_or_past}
-use Rattle.std.proofs.lemmas.Option.{slice_get-map, slice_get_within, slice_get_past, get_or_from_slice_get, slice_get_read}
+use Rattle.std.proofs.lemmas.Option.{slice_get-map, slice_get_within, slice_get_past, slice_get_read}
 use Rattle.std.proofs.lemmas.Bool.{cases_lt, lt-ltb, le-ltb}
 use Rattle.lw_base.specs.Outcomes.{Final}
 use Rattle.lw_base.specs.declared.event.Event.{Event}
@@ -15,19 +15,21 @@ use Rattle.lw_memory.specs.declared.system.Request.TheVariants as to
 use Rattle.lw_memory.specs.Memory.{Memory, is_held}
 use Rattle.lw_memory.specs.MemoryLaws.{Lawful, Invariant}
 use Rattle.lw_base.proofs.api.Lists.{each_after, set_own}
-use Rattle.lw_litmus.specs.WellFormed.{IsThread, IsStatement}
+use Rattle.lw_litmus.specs.WellFormed.{IsThread}
 use Rattle.lw_litmus.specs.declared.instr.Instr.{Instr}
-use Rattle.lw_litmus.specs.Programs.{x86, location_of}
+use Rattle.lw_litmus.specs.declared.operation.Operation.{Operation}
+use Rattle.lw_litmus.specs.Operations.{location_of, is_store}
+use Rattle.lw_litmus.specs.Programs.{operation_of, x86}
 use Rattle.lw_tso.specs.declared.processor.Processor.{Processor as ProcessorInMemory}
 use Rattle.lw_tso.specs.Processors.{Processor}
 use Rattle.lw_base.specs.Threads.{code_of}
-use Rattle.lw_tso.specs.Acts.{cpu_of, step_act, event_act}
+use Rattle.lw_tso.specs.Acts.{cpu_of, operation_act, step_act, event_act}
 use Rattle.lw_tso.specs.Machines.{MachineState, Answer, buffer_of, ActDone, DoneBy, EventDone}
 use Rattle.lw_tso.specs.Runs.{Running, Initial, is_done, is_final, machine_outcome}
-use Rattle.lw_tso.specs.inner.Rooms.{is_store, stores_from, HasRoom, IsMachine}
+use Rattle.lw_tso.specs.inner.Rooms.{stores_from, HasRoom, IsMachine}
 use Rattle.lw_tso.specs.inner.Views.{processor_of}
 use Rattle.lw_tso.proofs.Acts.{act_kept}
-use Rattle.lw_tso.proofs.Rooms.{counted, stores_here, event_room}
+use Rattle.lw_tso.proofs.Rooms.{counted, statement_at, stores_here, event_room}
 
 -- what is read at a place
 pub read : {X : Type 0} (xs ys : List X) (i t : ℕ) (x : X) → ys ≡ xs → i ≡ t → t < length xs → x ≡ get_or ys i x → slice_get xs t ≡ Some x
@@ -35,9 +37,11 @@ read xs ys i t x same place within is = slice_get_read xs (length xs) t x refl w
 
 module _ {M : Type 0} (mem : Memory M) (program : List (List Instr)) where
   -- a step of a processor that has a next instruction
-  pub step_done : (t : ℕ) (p q : Processor) (i : Instr) (m n : M) (answer : Answer) → slice_get (code_of program t) p.position ≡ Some i
-      → ActDone mem t (step_act (Some i) p) p m answer q n → ActDone mem t (event_act program (length (mem.content m)) (Step t) p) p m answer q n
-  step_done t p q i m n answer next done = subst (λ o. ActDone mem t (step_act o p) p m answer q n) (sym next) done
+  pub step_done : (t : ℕ) (p q : Processor) (i : Instr) (o : Operation) (m n : M) (answer : Answer)
+      → slice_get (code_of program t) p.position ≡ Some i → o ≡ operation_of i → ActDone mem t (operation_act o p) p m answer q n
+      → ActDone mem t (event_act program (length (mem.content m)) (Step t) p) p m answer q n
+  step_done t p q i o m n answer next is done =
+      subst (λ k. ActDone mem t (step_act k p) p m answer q n) (sym next) (subst (λ r. ActDone mem t (operation_act r p) p m answer q n) is done)
 
   -- a step of a processor at the end of its code
   pub at_end : (t : ℕ) (p : Processor) (m : M) → slice_get (code_of program t) p.position ≡ None → ActDone mem t (event_act program (length (mem.content m)) (Step t) p) p m (Err Ended) p m
@@ -130,33 +134,32 @@ module _ {M A : Type 0} (mem : Memory M) (program : List (List Instr)) where
       subst (λ o. DoneBy mem o program e (state_of processors m) (Err NoCpu) (state_of processors m)) (sym absent) (refl, refl)
 
 module _ {M A : Type 0} (mem : Memory M) (inv : Invariant M) (program : List (List Instr)) where
-  -- what an instruction wants of its processor and of the memory
-  pub record CanCarryOut (locs t : ℕ) (p : ProcessorInMemory A) (m : M) (i : Instr) : Type 0 where
+  -- what an operation wants of its processor and of the memory
+  pub record CanCarryOut (locs t : ℕ) (p : ProcessorInMemory A) (m : M) (o : Operation) : Type 0 where
     pub cpu : t < inv.cpus m
-    pub loc : ForSome (location_of i) (λ x. x < length (mem.content m))
+    pub loc : ForSome (location_of o) (λ x. x < length (mem.content m))
     pub position : p.position + 1 < 2 ^ 64
-    pub room : is_store i ≡ true → length p.buffer.entries < p.buffer.room
+    pub room : is_store o ≡ true → length p.buffer.entries < p.buffer.room
 
   module _ (locs : ℕ) (threads : All (IsThread x86 locs) program) where
     thread_at : (processors : List (ProcessorInMemory A)) (m : M) (t : ℕ) (p : ProcessorInMemory A)
         → IsMachine mem inv program locs m processors → slice_get processors t ≡ Some p → IsThread x86 locs (code_of program t)
     thread_at processors m t p ok at = threads t _ (omega (arith, slice_get_within processors t p at, ok.as_many))
 
-    pub can_carry_out : (processors : List (ProcessorInMemory A)) (m : M) (t : ℕ) (p : ProcessorInMemory A) (i : Instr)
+    pub can_carry_out : (processors : List (ProcessorInMemory A)) (m : M) (t : ℕ) (p : ProcessorInMemory A) (i : Instr) (o : Operation)
         → IsMachine mem inv program locs m processors → slice_get processors t ≡ Some p
-        → slice_get (code_of program t) p.position ≡ Some i → CanCarryOut locs t p m i
-    can_carry_out processors m t p i ok at next =
+        → slice_get (code_of program t) p.position ≡ Some i → o ≡ operation_of i → CanCarryOut locs t p m o
+    can_carry_out processors m t p i o ok at next is =
         let thread = thread_at processors m t p ok at in
         let within = slice_get_within (code_of program t) p.position i next in
-        let got = get_or_from_slice_get (code_of program t) p.position i i next in
         let has = ok.rooms t p at in
         let here = stores_here (code_of program t) p.position i next in
-        record {
+        subst (CanCarryOut locs t p m) (sym is) (record {
           cpu = omega (arith, slice_get_within processors t p at, ok.cpus);
-          loc = rw ok.locations ((subst (IsStatement x86 locs) got (thread.there p.position i within)).0);
+          loc = rw ok.locations ((statement_at locs (code_of program t) thread p.position i next).0);
           position = omega (arith, within, thread.short);
           room = λ store. omega (arith, has.fits, here, counted i store);
-        }
+        })
 
     -- the entries of a buffer are for locations of the memory
     pub entries_there : (processors : List (ProcessorInMemory A)) (m : M) (t : ℕ) (p : ProcessorInMemory A)

@@ -3,104 +3,54 @@ use Rattle.std.proofs.Common.{◌≡◌, ℕ, Bool, true, false, nat_lt, if◌th
 use Rattle.lw_base.specs.Outcomes.{Final}
 use Rattle.lw_base.specs.declared.event.Event.{Event}
 use Rattle.lw_base.specs.declared.event.Event.TheVariants.{Step, Drain, Evict}
-use Rattle.lw_base.specs.declared.stop.Stop.{Stop}
-use Rattle.lw_base.specs.declared.stop.Stop.TheVariants.{NoLocation, FenceWaits, SwapWaits}
+use Rattle.lw_base.specs.declared.stop.Stop.TheVariants.{NoLocation}
 use Rattle.lw_memory.specs.declared.system.Request.TheVariants as to
 use Rattle.lw_memory.specs.Flat.{flat}
 use Rattle.lw_memory.specs.Memory.{Memory, is_held}
 use Rattle.lw_memory.specs.MemoryLaws.{Lawful, Invariant}
 use Rattle.lw_base.proofs.api.Lists.{set_own}
 use Rattle.lw_litmus.specs.declared.instr.Instr.{Instr}
-use Rattle.lw_litmus.specs.declared.instr.Instr.TheVariants.{Store, Load, Set, Add, Cmp, Xchg, Xadd, Mfence, Je, Jne, Jmp}
 use Rattle.lw_litmus.specs.Tests.{ProgramTest}
-use Rattle.lw_tso.specs.Processors.{Processor, newest}
-use Rattle.lw_base.specs.Threads.{code_of}
-use Rattle.lw_tso.specs.Acts.{Act, Refused, Goes, Loads, Stores, Swaps, Adds, Evicts, cpu_of, event_act, step_act, drain_act, load_act, once_empty}
+use Rattle.lw_tso.specs.Processors.{Processor}
+use Rattle.lw_tso.specs.Acts.{Act, Refused, Goes, Loads, Stores, Swaps, Adds, Evicts, cpu_of, event_act}
 use Rattle.lw_tso.specs.Machines.{MachineState, Answer, flatten, ActDone, EvictionDone, DoneBy, EventDone}
 use Rattle.lw_tso.specs.Runs.{MachineRan, Replays, machine_start}
 use Rattle.lw_tso.specs.Evictions.{without_evictions}
 use Rattle.lw_tso.proofs.Acts.{event_kept}
-
--- it gives no line up
-abbrev pub KeepsLines : Act → Type 0
-KeepsLines (Refused stop) = Unit {0}
-KeepsLines (Goes p) = Unit {0}
-KeepsLines (Loads x next) = Unit {0}
-KeepsLines (Stores x w p) = Unit {0}
-KeepsLines (Swaps x v next) = Unit {0}
-KeepsLines (Adds x v next) = Unit {0}
-KeepsLines (Evicts x) = ⊥
-
-load_keeps : (o : Option ℕ) (x : ℕ) (next : ℕ → Processor) → KeepsLines (load_act o x next)
-load_keeps None x next = tt
-load_keeps (Some w) x next = tt
-
-once_keeps : (buffer : List (ℕ × ℕ)) (stop : Stop) (act : Act) → KeepsLines act → KeepsLines (once_empty buffer stop act)
-once_keeps [] stop act keeps = keeps
-once_keeps (entry ∷ newer) stop act keeps = tt
-
-step_keeps : (o : Option Instr) (p : Processor) → KeepsLines (step_act o p)
-step_keeps None p = tt
-step_keeps (Some (Store x v)) p = tt
-step_keeps (Some (Load d x)) p = load_keeps (newest p.buffer x) x _
-step_keeps (Some (Set d v)) p = tt
-step_keeps (Some (Add d v)) p = tt
-step_keeps (Some (Cmp a v)) p = tt
-step_keeps (Some (Xchg x a)) p = once_keeps p.buffer SwapWaits _ tt
-step_keeps (Some (Xadd x a)) p = once_keeps p.buffer SwapWaits _ tt
-step_keeps (Some Mfence) p = once_keeps p.buffer FenceWaits _ tt
-step_keeps (Some (Je to)) p = tt
-step_keeps (Some (Jne to)) p = tt
-step_keeps (Some (Jmp to)) p = tt
-
-drain_keeps : (buffer : List (ℕ × ℕ)) (p : Processor) → KeepsLines (drain_act buffer p)
-drain_keeps [] p = tt
-drain_keeps (entry ∷ newer) p = tt
-
--- it is no eviction
-abbrev pub IsNoEviction : Event → Type 0
-IsNoEviction e = without_evictions (e ∷ []) ≡ e ∷ []
-
-pub event_keeps : (program : List (List Instr)) (locs : ℕ) (e : Event) (p : Processor) → IsNoEviction e → KeepsLines (event_act program locs e p)
-event_keeps program locs (Step t) p none = step_keeps (slice_get (code_of program t) p.position) p
-event_keeps program locs (Drain t) p none = drain_keeps p.buffer p
-event_keeps program locs (Evict t x) p none = absurd cc
+use Rattle.lw_tso.proofs.EventActs.{IsNoEviction, EventComes, event_comes}
 
 module _ {M : Type 0} (mem : Memory M) (inv : Invariant M) (laws : Lawful mem inv) where
-  act_flat : (t : ℕ) (act : Act) (p q : Processor) (m n : M) (answer : Answer) → inv.sound m → KeepsLines act
+  -- an act that is no eviction
+  act_flat : (t : ℕ) (act : Act) (p q : Processor) (m n : M) (answer : Answer) → inv.sound m → ((x : ℕ) → act ≡ Evicts x → ⊥)
       → ActDone mem t act p m answer q n → ActDone flat t act p (mem.content m) answer q (mem.content n)
-  act_flat t (Refused stop) p q m n answer sound keeps done = (done.0, done.1, ap mem.content done.2)
-  act_flat t (Goes next) p q m n answer sound keeps done = (done.0, done.1, ap mem.content done.2)
-  act_flat t (Loads x next) p q m n answer sound keeps done =
+  act_flat t (Refused stop) p q m n answer sound none done = (done.0, done.1, ap mem.content done.2)
+  act_flat t (Goes next) p q m n answer sound none done = (done.0, done.1, ap mem.content done.2)
+  act_flat t (Loads x next) p q m n answer sound none done =
       let s = laws.served m (to.Load t x) (Some done.0) n sound done.3 in
       (done.0, done.1, done.2, (s.answer, s.content))
-  act_flat t (Stores x w next) p q m n answer sound keeps done =
+  act_flat t (Stores x w next) p q m n answer sound none done =
       let s = laws.served m (to.Store t x w) None n sound done.2 in
       (done.0, done.1, (s.answer, s.content))
-  act_flat t (Swaps x v next) p q m n answer sound keeps done =
+  act_flat t (Swaps x v next) p q m n answer sound none done =
       let s = laws.served m (to.Swap t x v) (Some done.0) n sound done.3 in
       (done.0, done.1, done.2, (s.answer, s.content))
-  act_flat t (Adds x v next) p q m n answer sound keeps done =
+  act_flat t (Adds x v next) p q m n answer sound none done =
       let s = laws.served m (to.FetchAdd t x v) (Some done.0) n sound done.3 in
       (done.0, done.1, done.2, (s.answer, s.content))
-  act_flat t (Evicts x) p q m n answer sound keeps done = absurd keeps
+  act_flat t (Evicts x) p q m n answer sound none done = absurd (none x refl)
 
-  by_flat : (o : Option Processor) (program : List (List Instr)) (e : Event) (s after : MachineState M) (answer : Answer) → inv.sound s.memory
-      → ((p : Processor) → KeepsLines (event_act program (length (mem.content s.memory)) e p))
-      → DoneBy mem o program e s answer after → DoneBy flat o program e (flatten mem s) answer (flatten mem after)
-  by_flat None program e s after answer sound keeps done = (done.0, ap (flatten mem) done.1)
-  by_flat (Some p) program e s after answer sound keeps done = (
-    done.0,
-    mem.content done.1,
-    act_flat (cpu_of e) (event_act program (length (mem.content s.memory)) e p) p done.0 s.memory done.1 answer sound (keeps p) done.2,
-    ap (flatten mem) done.3,
-  )
+  by_flat : (o : Option Processor) (program : List (List Instr)) (e : Event) (s after : MachineState M) (answer : Answer)
+      → inv.sound s.memory → IsNoEviction e → DoneBy mem o program e s answer after → DoneBy flat o program e (flatten mem s) answer (flatten mem after)
+  by_flat None program e s after answer sound none done = (done.0, ap (flatten mem) done.1)
+  by_flat (Some p) program e s after answer sound none done =
+      let l = length (mem.content s.memory) in
+      let keeps = λ (x : ℕ) (is : event_act program l e p ≡ Evicts x). subst (EventComes program l e p) is (event_comes program l e p none) in
+      (done.0, mem.content done.1, act_flat (cpu_of e) _ p done.0 s.memory done.1 answer sound keeps done.2, ap (flatten mem) done.3)
 
   -- an event that is no eviction has the same answer
   pub event_flat : (program : List (List Instr)) (e : Event) (s after : MachineState M) (answer : Answer) → inv.sound s.memory → IsNoEviction e
       → EventDone mem program e s answer after → EventDone flat program e (flatten mem s) answer (flatten mem after)
-  event_flat program e s after answer sound none done =
-      by_flat (slice_get s.processors (cpu_of e)) program e s after answer sound (λ p. event_keeps program (length (mem.content s.memory)) e p none) done
+  event_flat program e s = by_flat (slice_get s.processors (cpu_of e)) program e s
 
   evicted_flat : (held : Bool) (t x : ℕ) (p q : Processor) (m n : M) → inv.sound m
       → EvictionDone mem held t x p m (Ok tt) q n → (q ≡ p) × (mem.content n ≡ mem.content m)

@@ -1,6 +1,7 @@
 pub mod api
 mod Newest
 mod Acts
+mod EventActs
 mod Rooms
 mod Events
 mod Starts

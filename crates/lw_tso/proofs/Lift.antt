@@ -1,81 +1,39 @@
 -- A run over the flat memory is a run over every memory that keeps the laws.
-use Rattle.std.proofs.Common.{◌≡◌, ◌↔◌, ℕ, ◌<◌, ◌≤◌, nat_lt, true, false, List, [], ◌∷◌, length, map, get_or, Ok, Option, Some, None, refl, sym, ap, ◌∙◌, subst, arith, slice_get, slice_set}
-use Rattle.std.specs.Prelude.{All, if◌then◌else◌, IsTrue}
+use Rattle.std.proofs.Common.{Bool, inl, inr, ◌≡◌, ◌↔◌, ℕ, ◌<◌, ◌≤◌, List, [], ◌∷◌, length, map, Ok, Option, Some, None, refl, sym, ap, ◌∙◌, subst, arith, slice_get, slice_set}
+use Rattle.std.specs.Prelude.{All, IsTrue}
 use Rattle.std.specs.Option.{option_map}
 use Rattle.std.proofs.lemmas.List.{length-map, length-set}
 use Rattle.std.proofs.lemmas.List.Elements.{All-nil}
-use Rattle.std.proofs.lemmas.Option.{slice_get-map, slice_get_within, get_or_from_slice_get, same_Some}
+use Rattle.std.proofs.lemmas.Option.{slice_get-map, slice_get_within, same_Some}
 use Rattle.lw_base.specs.Outcomes.{Final}
 use Rattle.lw_base.specs.declared.event.Event.{Event}
 use Rattle.lw_base.specs.declared.event.Event.TheVariants.{Step, Drain, Evict}
-use Rattle.lw_base.specs.declared.stop.Stop.{Stop}
-use Rattle.lw_base.specs.declared.stop.Stop.TheVariants.{NoLocation, FenceWaits, SwapWaits}
 use Rattle.lw_memory.specs.declared.system.Request.{Request}
 use Rattle.lw_memory.specs.declared.system.Request.TheVariants as to
 use Rattle.lw_memory.specs.Content.{answer_of, content_after}
 use Rattle.lw_memory.specs.Flat.{flat}
 use Rattle.lw_memory.specs.Memory.{Memory, IsInRange, IsPossible}
 use Rattle.lw_memory.specs.MemoryLaws.{Lawful, Invariant}
-use Rattle.lw_litmus.specs.WellFormed.{IsThread, IsStatement}
+use Rattle.lw_litmus.specs.WellFormed.{IsThread}
 use Rattle.lw_base.proofs.api.Lists.{each_after}
 use Rattle.lw_litmus.specs.declared.instr.Instr.{Instr}
-use Rattle.lw_litmus.specs.declared.instr.Instr.TheVariants.{Store, Load, Set, Add, Cmp, Xchg, Xadd, Mfence, Je, Jne, Jmp}
-use Rattle.lw_litmus.specs.Programs.{IsWellFormedProgram, x86}
+use Rattle.lw_litmus.specs.Programs.{x86}
+use Rattle.lw_litmus.specs.WellFormedTests.{IsWellFormedProgram}
 use Rattle.lw_litmus.specs.Tests.{ProgramTest}
-use Rattle.lw_tso.specs.Processors.{Processor, newest, starting}
+use Rattle.lw_tso.specs.Processors.{Processor, starting}
 use Rattle.lw_base.specs.Threads.{code_of}
-use Rattle.lw_tso.specs.Acts.{Act, Refused, Goes, Loads, Stores, Swaps, Adds, Evicts, cpu_of, event_act, step_act, drain_act, load_act, once_empty}
+use Rattle.lw_tso.specs.Acts.{Act, Refused, Goes, Loads, Stores, Swaps, Adds, Evicts, cpu_of, event_act}
 use Rattle.lw_tso.specs.Machines.{MachineState, Answer, flatten, ActDone, DoneBy, EventDone}
 use Rattle.lw_tso.specs.inner.Rooms.{HasRoom, stores_from}
 use Rattle.lw_tso.specs.Runs.{MachineRan, Replays, MachineOutcome, machine_start, machine_outcome, is_final}
 use Rattle.lw_tso.specs.Evictions.{without_evictions}
 use Rattle.lw_tso.specs.Starts.{CanStart}
 use Rattle.lw_tso.proofs.Acts.{act_kept}
-use Rattle.lw_tso.proofs.Rooms.{event_room}
+use Rattle.lw_tso.proofs.Rooms.{statement_at, event_room}
 use Rattle.lw_tso.proofs.api.Effects.{no_eviction, leads_to}
-use Rattle.lw_tso.proofs.Flatten.{KeepsLines, IsNoEviction, event_keeps, event_flat, replays_flat}
-
--- it asks for one of so many locations, if for any
-abbrev AsksWithin : ℕ → Act → Type 0
-AsksWithin locs (Refused stop) = Unit {0}
-AsksWithin locs (Goes p) = Unit {0}
-AsksWithin locs (Loads x next) = x < locs
-AsksWithin locs (Stores x w p) = x < locs
-AsksWithin locs (Swaps x v next) = x < locs
-AsksWithin locs (Adds x v next) = x < locs
-AsksWithin locs (Evicts x) = Unit {0}
-
-load_within : (locs : ℕ) (o : Option ℕ) (x : ℕ) (next : ℕ → Processor) → x < locs → AsksWithin locs (load_act o x next)
-load_within locs None x next lt = lt
-load_within locs (Some w) x next lt = tt
-
-once_within : (locs : ℕ) (buffer : List (ℕ × ℕ)) (stop : Stop) (act : Act) → AsksWithin locs act → AsksWithin locs (once_empty buffer stop act)
-once_within locs [] stop act h = h
-once_within locs (entry ∷ newer) stop act h = tt
-
-instruction_within : (locs : ℕ) (i : Instr) (p : Processor) → IsStatement x86 locs i → AsksWithin locs (step_act (Some i) p)
-instruction_within locs (Store x v) p ok = tt
-instruction_within locs (Load d x) p ok = load_within locs (newest p.buffer x) x _ (ok.0 x refl)
-instruction_within locs (Set d v) p ok = tt
-instruction_within locs (Add d v) p ok = tt
-instruction_within locs (Cmp a v) p ok = tt
-instruction_within locs (Xchg x a) p ok = once_within locs p.buffer SwapWaits _ (ok.0 x refl)
-instruction_within locs (Xadd x a) p ok = once_within locs p.buffer SwapWaits _ (ok.0 x refl)
-instruction_within locs Mfence p ok = once_within locs p.buffer FenceWaits _ tt
-instruction_within locs (Je to) p ok = tt
-instruction_within locs (Jne to) p ok = tt
-instruction_within locs (Jmp to) p ok = tt
-
-step_within : (locs : ℕ) (code : List Instr) (o : Option Instr) (p : Processor) → IsThread x86 locs code → slice_get code p.position ≡ o → AsksWithin locs (step_act o p)
-step_within locs code None p thread at = tt
-step_within locs code (Some i) p thread at =
-    let there = thread.there p.position i (slice_get_within code p.position i at) in
-    let got : get_or code p.position i ≡ i = get_or_from_slice_get code p.position i i at in
-    instruction_within locs i p (subst (IsStatement x86 locs) got there)
-
-drain_within : (locs : ℕ) (buffer : List (ℕ × ℕ)) (p : Processor) → All (λ (e : ℕ × ℕ). e.0 < locs) buffer → AsksWithin locs (drain_act buffer p)
-drain_within locs [] p there = tt
-drain_within locs (entry ∷ newer) p there = there 0 entry (omega arith)
+use Rattle.lw_tso.proofs.api.Operations.{Comes}
+use Rattle.lw_tso.proofs.EventActs.{IsNoEviction, AsksFor, event_comes}
+use Rattle.lw_tso.proofs.Flatten.{event_flat, replays_flat}
 
 -- what is possible over the flat memory is no eviction
 flat_evicts_none : (program : List (List Instr)) (e : Event) (s mid : MachineState (List ℕ)) → EventDone flat program e s (Ok tt) mid → IsNoEviction e
@@ -93,23 +51,25 @@ module _ {M : Type 0} (mem : Memory M) (inv : Invariant M) (laws : Lawful mem in
       let g = laws.serves m r sound there possible in
       (g.0, subst (λ b. mem.serves m r b g.0) (sym answer) g.1, (laws.served m r (answer_of (mem.content m) r) g.0 sound g.1).content ∙ sym after)
 
-  act_lift : (t : ℕ) (act : Act) (p q : Processor) (m : M) (words : List ℕ) (answer : Answer) → inv.sound m → t < inv.cpus m → AsksWithin (length (mem.content m)) act → KeepsLines act
+  act_lift : (Reason : Type 0) (Asks : ℕ → Bool → Type 0) (Makes : Processor → Type 0) (t : ℕ) (act : Act) (p q : Processor)
+      (m : M) (words : List ℕ) (answer : Answer) → inv.sound m → t < inv.cpus m
+      → ((x : ℕ) (w : Bool) → Asks x w → x < length (mem.content m)) → Comes Reason Asks Makes act
       → ActDone flat t act p (mem.content m) answer q words → (n : M) × ActDone mem t act p m answer q n × (mem.content n ≡ words)
-  act_lift t (Refused stop) p q m words answer sound cpu within keeps done = (m, (done.0, done.1, refl), sym done.2)
-  act_lift t (Goes next) p q m words answer sound cpu within keeps done = (m, (done.0, done.1, refl), sym done.2)
-  act_lift t (Loads x next) p q m words answer sound cpu within keeps done =
-      let g = served_too (to.Load t x) (Some done.0) m words sound (cpu, within) tt done.3.0 done.3.1 in
+  act_lift R A K t (Refused stop) p q m words answer sound cpu within comes done = (m, (done.0, done.1, refl), sym done.2)
+  act_lift R A K t (Goes next) p q m words answer sound cpu within comes done = (m, (done.0, done.1, refl), sym done.2)
+  act_lift R A K t (Loads x next) p q m words answer sound cpu within comes done =
+      let g = served_too (to.Load t x) (Some done.0) m words sound (cpu, within x _ comes.0) tt done.3.0 done.3.1 in
       (g.0, (done.0, done.1, done.2, g.1), g.2)
-  act_lift t (Stores x w next) p q m words answer sound cpu within keeps done =
-      let g = served_too (to.Store t x w) None m words sound (cpu, within) tt done.2.0 done.2.1 in
+  act_lift R A K t (Stores x w next) p q m words answer sound cpu within comes done =
+      let g = served_too (to.Store t x w) None m words sound (cpu, within x _ comes.0) tt done.2.0 done.2.1 in
       (g.0, (done.0, done.1, g.1), g.2)
-  act_lift t (Swaps x v next) p q m words answer sound cpu within keeps done =
-      let g = served_too (to.Swap t x v) (Some done.0) m words sound (cpu, within) tt done.3.0 done.3.1 in
+  act_lift R A K t (Swaps x v next) p q m words answer sound cpu within comes done =
+      let g = served_too (to.Swap t x v) (Some done.0) m words sound (cpu, within x _ comes.0) tt done.3.0 done.3.1 in
       (g.0, (done.0, done.1, done.2, g.1), g.2)
-  act_lift t (Adds x v next) p q m words answer sound cpu within keeps done =
-      let g = served_too (to.FetchAdd t x v) (Some done.0) m words sound (cpu, within) tt done.3.0 done.3.1 in
+  act_lift R A K t (Adds x v next) p q m words answer sound cpu within comes done =
+      let g = served_too (to.FetchAdd t x v) (Some done.0) m words sound (cpu, within x _ comes.0) tt done.3.0 done.3.1 in
       (g.0, (done.0, done.1, done.2, g.1), g.2)
-  act_lift t (Evicts x) p q m words answer sound cpu within keeps done = absurd keeps
+  act_lift R A K t (Evicts x) p q m words answer sound cpu within comes done = absurd comes
 
   module _ (program : List (List Instr)) (locs : ℕ) (threads : All (IsThread x86 locs) program) where
     -- the room that a processor's buffer never needs more of
@@ -142,15 +102,14 @@ module _ {M : Type 0} (mem : Memory M) (inv : Invariant M) (laws : Lawful mem in
           rooms = each_after HasRoomAt s.processors (cpu_of e) q (slice_get_within s.processors (cpu_of e) p at) within.rooms room;
         }
 
-    event_within : (e : Event) (p : Processor) (s : MachineState M) → IsWithin s → slice_get s.processors (cpu_of e) ≡ Some p
-        → AsksWithin locs (event_act program (length (mem.content s.memory)) e p)
-    event_within (Step t) p s within at = step_within locs (code_of program t) (slice_get (code_of program t) p.position) p (thread_at s t p within at) refl
-    event_within (Drain t) p s within at = drain_within locs p.buffer p (within.rooms t p at).there
-    event_within (Evict t x) p s within at = go (nat_lt x (length (mem.content s.memory)))
-      where
-        go : (there : _) → AsksWithin locs (if there then Evicts x else Refused NoLocation)
-        go true = tt
-        go false = tt
+    -- what an event asks for is there
+    pub asks_within : (t : ℕ) (p : Processor) (s : MachineState M) → IsWithin s → slice_get s.processors t ≡ Some p
+        → (x : ℕ) → AsksFor (code_of program t) p x → x < length (mem.content s.memory)
+    asks_within t p s within at x (inl step) =
+        omega (arith, within.locations, (statement_at locs (code_of program t) (thread_at s t p within at) p.position step.0 step.1).0 x step.2)
+    asks_within t p s within at x (inr drain) =
+        let there = subst (All (λ (e : ℕ × ℕ). e.0 < locs)) drain.2 (within.rooms t p at).there in
+        omega (arith, within.locations, there 0 drain.0 (omega arith), drain.3)
 
     within_event : (e : Event) (s after : MachineState M) (answer : Answer) → IsWithin s → EventDone mem program e s answer after → IsWithin after
     within_event e s after answer within = go (slice_get s.processors (cpu_of e)) refl
@@ -171,10 +130,9 @@ module _ {M : Type 0} (mem : Memory M) (inv : Invariant M) (laws : Lawful mem in
         → DoneBy flat o program e (flatten mem s) answer mid → LiftedEvent e s answer mid
     by_lift None e s answer mid within none at done = (s, subst (λ o. DoneBy mem o program e s answer s) (sym at) (done.0, refl), sym done.1)
     by_lift (Some p) e s answer mid within none at done =
-        let asks = subst (λ l. AsksWithin l (event_act program (length (mem.content s.memory)) e p)) (sym within.locations) (event_within e p s within at) in
         let cpu : cpu_of e < inv.cpus s.memory = omega (arith, slice_get_within s.processors (cpu_of e) p at, within.cpus) in
-        let keeps = event_keeps program (length (mem.content s.memory)) e p none in
-        let g = act_lift (cpu_of e) (event_act program (length (mem.content s.memory)) e p) p done.0 s.memory done.1 answer within.sound cpu asks keeps done.2 in
+        let comes = event_comes program (length (mem.content s.memory)) e p none in
+        let g = act_lift _ _ _ (cpu_of e) _ p done.0 s.memory done.1 answer within.sound cpu (λ x w. asks_within (cpu_of e) p s within at x) comes done.2 in
         let end : MachineState M = record { processors = slice_set s.processors (cpu_of e) done.0; memory = g.0 } in (
           end,
           subst (λ o. DoneBy mem o program e s answer end) (sym at) (done.0, g.0, g.1, refl),

@@ -1,30 +1,29 @@
 -- A replay speaks of its test's processors and locations alone, and its outcome is of their numbers.
 use Rattle.std.proofs.Common.{◌≡◌, ℕ, zero, suc, ◌<◌, ◌≤◌, Bool, true, false, nat_lt, if◌then◌else◌, List, [], ◌∷◌, length, map, Ok, Err, Option, Some, None, refl, sym, ap, ◌∙◌, subst, slice_get, slice_set, arith}
 use Rattle.std.specs.List.{AllByRecursion}
-use Rattle.std.proofs.lemmas.List.{length-set, length-map}
+use Rattle.std.proofs.lemmas.List.{length-map}
 use Rattle.std.proofs.lemmas.Bool.{ltb-true}
 use Rattle.std.proofs.lemmas.Option.{slice_get_within}
 use Rattle.lw_base.specs.Outcomes.{Final, IsOutcomeOf}
 use Rattle.lw_base.specs.Schedules.{IsEvent}
-use Rattle.lw_base.specs.Threads.{value_of, code_of}
+use Rattle.lw_base.specs.Threads.{code_of}
 use Rattle.lw_base.specs.Types.{NameTable}
 use Rattle.lw_base.specs.declared.event.Event.{Event}
 use Rattle.lw_base.specs.declared.event.Event.TheVariants.{Step, Drain, Evict}
 use Rattle.lw_base.specs.Limits.{most_threads, registers}
-use Rattle.lw_base.specs.declared.stop.Stop.{Stop}
-use Rattle.lw_base.specs.declared.stop.Stop.TheVariants.{NoCpu, NoLocation, FenceWaits, SwapWaits}
+use Rattle.lw_base.specs.declared.stop.Stop.TheVariants.{NoCpu, NoLocation}
 use Rattle.lw_memory.specs.MemoryLaws.{Invariant, Lawful}
-use Rattle.lw_memory.specs.Memory.{Memory, is_held}
+use Rattle.lw_memory.specs.Memory.{Memory}
 use Rattle.lw_litmus.specs.declared.instr.Instr.{Instr}
-use Rattle.lw_litmus.specs.declared.instr.Instr.TheVariants.{Store, Load, Set, Add, Cmp, Xchg, Xadd, Mfence, Je, Jne, Jmp}
-use Rattle.lw_litmus.specs.Programs.{IsWellFormedProgram}
+use Rattle.lw_litmus.specs.WellFormedTests.{IsWellFormedProgram}
 use Rattle.lw_litmus.specs.Tests.{ProgramTest}
-use Rattle.lw_tso.specs.Processors.{Processor, newest, starting}
-use Rattle.lw_tso.specs.Acts.{Act, Refused, Goes, Loads, Stores, Swaps, Adds, Evicts, cpu_of, event_act, step_act, drain_act, load_act, once_empty}
-use Rattle.lw_tso.specs.Machines.{MachineState, Answer, ActDone, EvictionDone, DoneBy, EventDone}
+use Rattle.lw_tso.specs.Processors.{Processor, starting}
+use Rattle.lw_tso.specs.Acts.{Refused, Evicts, cpu_of, event_act}
+use Rattle.lw_tso.specs.Machines.{MachineState, Answer, ActDone, DoneBy, EventDone}
 use Rattle.lw_tso.specs.Runs.{MachineRan, Replays, machine_start}
 use Rattle.lw_tso.specs.Starts.{CanStart}
 use Rattle.lw_tso.proofs.Acts.{IsSameSize, event_kept}
+use Rattle.lw_tso.proofs.EventActs.{Becomes, Stays, Steps, Drains, event_becomes}
 
 -- ---- lists
 
@@ -40,70 +39,18 @@ all_set P [] (suc i) x all is = tt
 all_set P (y ∷ ys) zero x all is = (is, all.1)
 all_set P (y ∷ ys) (suc i) x all is = (all.0, all_set P ys i x all.1 is)
 
--- ---- an act leaves a processor its registers
+-- ---- events
 
 abbrev pub HasRegisters : Processor → Type 0
 HasRegisters p = length p.regs ≡ registers
 
--- what an act makes of its processor has them
-abbrev pub LeavesRegisters : Act → Type 0
-LeavesRegisters (Refused stop) = Unit {0}
-LeavesRegisters (Goes next) = HasRegisters next
-LeavesRegisters (Loads x next) = (w : ℕ) → HasRegisters (next w)
-LeavesRegisters (Stores x w next) = HasRegisters next
-LeavesRegisters (Swaps x v next) = (w : ℕ) → HasRegisters (next w)
-LeavesRegisters (Adds x v next) = (w : ℕ) → HasRegisters (next w)
-LeavesRegisters (Evicts x) = Unit {0}
-
-load_leaves : (o : Option ℕ) (x : ℕ) (next : ℕ → Processor) → ((w : ℕ) → HasRegisters (next w)) → LeavesRegisters (load_act o x next)
-load_leaves None x next has = has
-load_leaves (Some w) x next has = has w
-
-once_leaves : (buffer : List (ℕ × ℕ)) (stop : Stop) (act : Act) → LeavesRegisters act → LeavesRegisters (once_empty buffer stop act)
-once_leaves [] stop act leaves = leaves
-once_leaves (entry ∷ newer) stop act leaves = tt
-
-step_leaves : (o : Option Instr) (p : Processor) → HasRegisters p → LeavesRegisters (step_act o p)
-step_leaves None p has = tt
-step_leaves (Some (Store x v)) p has = has
-step_leaves (Some (Load d x)) p has = load_leaves (newest p.buffer x) x _ (λ w. length-set p.regs d w ∙ has)
-step_leaves (Some (Set d v)) p has = length-set p.regs d (value_of v p.regs) ∙ has
-step_leaves (Some (Add d v)) p has = length-set p.regs d _ ∙ has
-step_leaves (Some (Cmp a v)) p has = has
-step_leaves (Some (Xchg x a)) p has = once_leaves p.buffer SwapWaits _ (λ w. length-set p.regs a w ∙ has)
-step_leaves (Some (Xadd x a)) p has = once_leaves p.buffer SwapWaits _ (λ w. length-set p.regs a w ∙ has)
-step_leaves (Some Mfence) p has = once_leaves p.buffer FenceWaits _ has
-step_leaves (Some (Je to)) p has = has
-step_leaves (Some (Jne to)) p has = has
-step_leaves (Some (Jmp to)) p has = has
-
-drain_leaves : (buffer : List (ℕ × ℕ)) (p : Processor) → HasRegisters p → LeavesRegisters (drain_act buffer p)
-drain_leaves [] p has = tt
-drain_leaves (entry ∷ newer) p has = has
-
-evict_leaves : (there : Bool) (x : ℕ) → LeavesRegisters (if there then Evicts x else Refused NoLocation)
-evict_leaves true x = tt
-evict_leaves false x = tt
-
-event_leaves : (program : List (List Instr)) (locs : ℕ) (e : Event) (p : Processor) → HasRegisters p → LeavesRegisters (event_act program locs e p)
-event_leaves program locs (Step t) p has = step_leaves (slice_get (code_of program t) p.position) p has
-event_leaves program locs (Drain t) p has = drain_leaves p.buffer p has
-event_leaves program locs (Evict t x) p has = evict_leaves (nat_lt x locs) x
+-- an event leaves its processor the registers
+still_has : (code : List Instr) (p q : Processor) → HasRegisters p → Becomes code p q → HasRegisters q
+still_has code p q has (Stays is) = ap (λ (r : Processor). length r.regs) is ∙ has
+still_has code p q has (Steps i at went) = went.regs ∙ has
+still_has code p q has (Drains entry newer was is) = ap (λ (r : Processor). length r.regs) is ∙ has
 
 module _ {M : Type 0} (mem : Memory M) (inv : Invariant M) where
-  evicted_has : (held : Bool) (t x : ℕ) (p q : Processor) (m n : M) (answer : Answer) → HasRegisters p → EvictionDone mem held t x p m answer q n → HasRegisters q
-  evicted_has false t x p q m n answer has done = ap (λ (r : Processor). length r.regs) done.1 ∙ has
-  evicted_has true t x p q m n answer has done = ap (λ (r : Processor). length r.regs) done.1 ∙ has
-
-  act_has : (t : ℕ) (act : Act) (p q : Processor) (m n : M) (answer : Answer) → HasRegisters p → LeavesRegisters act → ActDone mem t act p m answer q n → HasRegisters q
-  act_has t (Refused stop) p q m n answer has leaves done = ap (λ (r : Processor). length r.regs) done.1 ∙ has
-  act_has t (Goes next) p q m n answer has leaves done = ap (λ (r : Processor). length r.regs) done.1 ∙ leaves
-  act_has t (Loads x next) p q m n answer has leaves done = ap (λ (r : Processor). length r.regs) done.2 ∙ leaves done.0
-  act_has t (Stores x w next) p q m n answer has leaves done = ap (λ (r : Processor). length r.regs) done.1 ∙ leaves
-  act_has t (Swaps x v next) p q m n answer has leaves done = ap (λ (r : Processor). length r.regs) done.2 ∙ leaves done.0
-  act_has t (Adds x v next) p q m n answer has leaves done = ap (λ (r : Processor). length r.regs) done.2 ∙ leaves done.0
-  act_has t (Evicts x) p q m n answer has leaves done = evicted_has (is_held (mem.state m t x)) t x p q m n answer has done
-
   -- an eviction that is carried out is of a location that is there
   evicted_there : (there : Bool) (t x locs : ℕ) (p q : Processor) (m n : M) → nat_lt x locs ≡ there
       → ActDone mem t (if there then Evicts x else Refused NoLocation) p m (Ok tt) q n → x < locs
@@ -137,8 +84,8 @@ module _ {M : Type 0} (mem : Memory M) (inv : Invariant M) where
         go (Some p) at by =
             let lt = slice_get_within s.processors (cpu_of e) p at in
             let has = all_at HasRegisters s.processors (cpu_of e) p is.have at in
-            let locs = length (mem.content s.memory) in
-            let next = act_has (cpu_of e) (event_act program locs e p) p by.0 s.memory by.1 (Ok tt) has (event_leaves program locs e p has) by.2 in (
+            let becomes = event_becomes program (length (mem.content s.memory)) mem p by.0 s.memory by.1 (Ok tt) e by.2 in
+            let next = still_has (code_of program (cpu_of e)) p by.0 has becomes in (
               there program names e p by.0 s.memory by.1 (omega (arith, lt, is.processors, few)) is.words by.2,
               record {
                 processors = kept.processors ∙ is.processors;

@@ -1,30 +1,39 @@
 -- A store buffer's room, through every event of its processor.
-use Rattle.std.proofs.Common.{◌≡◌, ℕ, zero, suc, ◌+◌, ◌<◌, ◌≤◌, ◌==◌, Bool, true, false, not, cond, List, [], ◌∷◌, length, length-append, get_or, Option, Some, None, refl, sym, ap, ◌∙◌, subst, arith, slice_get, slice_index, nat_lt}
-use Rattle.std.specs.Prelude.{All, if◌then◌else◌}
+use Rattle.std.proofs.Common.{◌≡◌, ℕ, zero, suc, ◌+◌, ◌<◌, ◌≤◌, true, cond, List, [], ◌∷◌, ◌++◌, length, length-append, get_or, Some, refl, sym, ap, ◌∙◌, subst, arith, slice_get, ⊎_elim}
+use Rattle.std.specs.Prelude.{All}
 use Rattle.std.proofs.lemmas.List.Elements.{All-append}
 use Rattle.std.proofs.lemmas.List.Sums.{sum_by-take-drop, sum_by-drop_more}
 use Rattle.std.proofs.lemmas.Option.{slice_get_within, get_or_from_slice_get}
+use Rattle.lw_base.specs.Threads.{code_of}
 use Rattle.lw_base.specs.declared.event.Event.{Event}
-use Rattle.lw_base.specs.declared.event.Event.TheVariants.{Step, Drain, Evict}
-use Rattle.lw_base.specs.declared.stop.Stop.{Stop}
-use Rattle.lw_base.specs.declared.stop.Stop.TheVariants.{NoLocation}
-use Rattle.lw_base.specs.Sums.{sum_of}
-use Rattle.lw_memory.specs.Memory.{Memory, is_held}
+use Rattle.lw_memory.specs.Memory.{Memory}
 use Rattle.lw_litmus.specs.WellFormed.{IsThread, IsStatement}
 use Rattle.lw_litmus.specs.declared.instr.Instr.{Instr}
-use Rattle.lw_litmus.specs.declared.instr.Instr.TheVariants.{Store, Load, Set, Add, Cmp, Xchg, Xadd, Mfence, Je, Jne, Jmp}
-use Rattle.lw_litmus.specs.Programs.{x86}
-use Rattle.lw_base.specs.Threads.{value_of, code_of}
-use Rattle.lw_tso.specs.Processors.{Processor, newest, going_on, jumping, getting, flagging, buffering}
-use Rattle.lw_tso.specs.Acts.{Act, Evicts, Refused, cpu_of, event_act, step_act, drain_act, load_act, once_empty}
-use Rattle.lw_tso.specs.Machines.{Answer, ActDone, EvictionDone}
-use Rattle.lw_tso.specs.inner.Rooms.{is_store, stores_from, HasRoom}
+use Rattle.lw_litmus.specs.Operations.{Leads}
+use Rattle.lw_litmus.specs.Programs.{operation_of, x86}
+use Rattle.lw_tso.specs.Processors.{Processor}
+use Rattle.lw_tso.specs.Acts.{cpu_of, event_act}
+use Rattle.lw_tso.specs.Machines.{Answer, ActDone}
+use Rattle.lw_tso.specs.inner.Rooms.{makes_entry, stores_from, HasRoom}
+use Rattle.lw_tso.proofs.api.Operations.{Went}
+use Rattle.lw_tso.proofs.EventActs.{Becomes, Stays, Steps, Drains, event_becomes}
+
+module _ (locs : ℕ) (code : List Instr) (thread : IsThread x86 locs code) where
+  -- what stands at a position is a statement
+  pub statement_at : (k : ℕ) (i : Instr) → slice_get code k ≡ Some i → IsStatement x86 locs i
+  statement_at k i at =
+      let got : get_or code k i ≡ i = get_or_from_slice_get code k i i at in
+      subst (IsStatement x86 locs) got (thread.there k i (slice_get_within code k i at))
+
+  -- and it leads forward
+  pub forward : (k j : ℕ) (i : Instr) → slice_get code k ≡ Some i → Leads (operation_of i) k j → k < j
+  forward k j i at leads = ⊎_elim (λ on. (omega (arith, on.1))) (λ to. (thread.forward k i at j to).0) leads
 
 -- one, where the instruction is a store
 abbrev pub one : Instr → ℕ
-one i = cond (is_store i) 1 0
+one i = cond (makes_entry i) 1 0
 
-pub counted : (i : Instr) → is_store i ≡ true → one i ≡ 1
+pub counted : (i : Instr) → makes_entry i ≡ true → one i ≡ 1
 counted i store = rw store refl
 
 -- the stores from a position on are the one that stands there and those behind it
@@ -58,15 +67,18 @@ module _ (locs : ℕ) (code : List Instr) (room : ℕ) where
       }
 
   -- a store, which is one of those that were ahead
-  stored : (p q : Processor) (x w : ℕ) (i : Instr) → slice_get code p.position ≡ Some i → is_store i ≡ true → x < locs → q ≡ going_on (buffering p x w) → Room p → Room q
-  stored p q x w i at store there is has =
+  stored : (p q : Processor) (entry : ℕ × ℕ) (i : Instr) → slice_get code p.position ≡ Some i → makes_entry i ≡ true → p.position < q.position
+      → entry.0 < locs → q.buffer ≡ p.buffer ++ entry ∷ [] → Room p → Room q
+  stored p q entry i at store later there is has =
       let here = stores_here code p.position i at in
       let counts : one i ≡ 1 = counted i store in
-      let longer = length-append p.buffer ((x, w) ∷ []) in
-      subst Room (sym is) (record {
-        fits = omega (arith, has.fits, here, counts, longer);
-        there = All-append (λ (e : ℕ × ℕ). e.0 < locs) p.buffer ((x, w) ∷ []) has.there (All-one (λ (e : ℕ × ℕ). e.0 < locs) (x, w) there);
-      })
+      let longer = length-append p.buffer (entry ∷ []) in
+      let fewer = stores_later code (p.position + 1) q.position (omega arith) in
+      record {
+        fits = omega (arith, has.fits, here, counts, longer, fewer, ap length is);
+        there = subst (All (λ (e : ℕ × ℕ). e.0 < locs)) (sym is)
+            (All-append (λ (e : ℕ × ℕ). e.0 < locs) p.buffer (entry ∷ []) has.there (All-one (λ (e : ℕ × ℕ). e.0 < locs) entry there));
+      }
 
   -- a drain
   drained : (p q : Processor) (entry : ℕ × ℕ) (newer : List (ℕ × ℕ)) → p.buffer ≡ entry ∷ newer → q ≡ record p { buffer = newer } → Room p → Room q
@@ -77,80 +89,22 @@ module _ (locs : ℕ) (code : List Instr) (room : ℕ) where
         there = λ k d within. all (suc k) d (omega arith);
       })
 
-module _ {M : Type 0} (mem : Memory M) where
-  -- what waits for an empty buffer is done, or changes nothing
-  once : (Q : Type 0) (buffer : List (ℕ × ℕ)) (stop : Stop) (act : Act) (t : ℕ) (p q : Processor) (m n : M) (answer : Answer)
-      → ActDone mem t (once_empty buffer stop act) p m answer q n → (ActDone mem t act p m answer q n → Q) → (q ≡ p → Q) → Q
-  once Q [] stop act t p q m n answer done went stayed = went done
-  once Q (entry ∷ newer) stop act t p q m n answer done went stayed = stayed done.1
+  -- what the instruction at its position makes of it
+  went : IsThread x86 locs code → (p q : Processor) (i : Instr) → slice_get code p.position ≡ Some i → Went (operation_of i) p q → Room p → Room q
+  went thread p q i at w has =
+      let later = forward locs code thread p.position q.position i at w.leads in
+      ⊎_elim
+      (λ plain. further p q (omega arith) plain.1 has)
+      (λ store. stored p q store.0 i at store.1 later ((statement_at locs code thread p.position i at).0 store.0.0 store.2) store.3 has)
+      w.buffers
 
-  loaded : (o : Option ℕ) (x t : ℕ) (next : ℕ → Processor) (p q : Processor) (m n : M) (answer : Answer)
-      → ActDone mem t (load_act o x next) p m answer q n → (w : ℕ) × (q ≡ next w)
-  loaded (Some w) x t next p q m n answer done = (w, done.1)
-  loaded None x t next p q m n answer done = (done.0, done.2)
-
-  evicted : (held : Bool) (t x : ℕ) (p q : Processor) (m n : M) (answer : Answer) → EvictionDone mem held t x p m answer q n → q ≡ p
-  evicted false t x p q m n answer done = done.1
-  evicted true t x p q m n answer done = done.1
-
-  module _ (locs : ℕ) (code : List Instr) (room : ℕ) (thread : IsThread x86 locs code) where
-    abbrev Kept : Processor → Processor → Type 0
-    Kept p q = HasRoom locs code p room → HasRoom locs code q room
-
-    same : (p q : Processor) → q ≡ p → Kept p q
-    same p q is has = subst (λ (r : Processor). HasRoom locs code r room) (sym is) has
-
-    -- the next instruction, with the same buffer
-    next : (p q : Processor) → q.position ≡ p.position + 1 → q.buffer ≡ p.buffer → Kept p q
-    next p q moved is has = further locs code room p q (omega (arith, moved)) is has
-
-    jumped : (p q : Processor) (holds : Bool) (to : ℕ) → p.position < to → q ≡ jumping p holds to → Kept p q
-    jumped p q true to forward is has = further locs code room p q (omega (arith, ap (λ (r : Processor). r.position) is)) (ap (λ (r : Processor). r.buffer) is) has
-    jumped p q false to forward is has = next p q (ap (λ (r : Processor). r.position) is) (ap (λ (r : Processor). r.buffer) is) has
-
-    gone_on : (p q r : Processor) → r.position ≡ p.position → r.buffer ≡ p.buffer → q ≡ going_on r → Kept p q
-    gone_on p q r at is went has =
-        next p q (ap (λ (u : Processor). u.position) went ∙ ap (λ (k : ℕ). k + 1) at) (ap (λ (u : Processor). u.buffer) went ∙ is) has
-
-    step_room : (i : Option Instr) (t : ℕ) (p q : Processor) (m n : M) (answer : Answer) → slice_get code p.position ≡ i → ActDone mem t (step_act i p) p m answer q n → Kept p q
-    step_room None t p q m n answer at done has = same p q done.1 has
-    step_room (Some (Store x v)) t p q m n answer at done has =
-        let within = slice_get_within code p.position (Store x v) at in
-        let there = thread.there p.position (Store x v) within in
-        let got : get_or code p.position (Store x v) ≡ Store x v = get_or_from_slice_get code p.position (Store x v) (Store x v) at in
-        let lt : x < locs = (subst (IsStatement x86 locs) got there).0 x refl in
-        stored locs code room p q x (value_of v p.regs) (Store x v) at refl lt done.1 has
-    step_room (Some (Load d x)) t p q m n answer at done has =
-        let went = loaded (newest p.buffer x) x t (λ w. going_on (getting p d w)) p q m n answer done in
-        gone_on p q (getting p d went.0) refl refl went.1 has
-    step_room (Some (Set d v)) t p q m n answer at done has = gone_on p q (getting p d (value_of v p.regs)) refl refl done.1 has
-    step_room (Some (Add d v)) t p q m n answer at done has =
-        let sum = sum_of (slice_index p.regs d) (value_of v p.regs) in
-        gone_on p q (flagging (getting p d sum) (sum == 0)) refl refl done.1 has
-    step_room (Some (Cmp a v)) t p q m n answer at done has =
-        gone_on p q (flagging p (slice_index p.regs a == value_of v p.regs)) refl refl done.1 has
-    step_room (Some (Xchg x a)) t p q m n answer at done has =
-        once (HasRoom locs code q room) p.buffer _ _ t p q m n answer done (λ went. gone_on p q (getting p a went.0) refl refl went.2 has) (λ stayed. same p q stayed has)
-    step_room (Some (Xadd x a)) t p q m n answer at done has =
-        once (HasRoom locs code q room) p.buffer _ _ t p q m n answer done (λ went. gone_on p q (flagging (getting p a went.0) (sum_of went.0 (slice_index p.regs a) == 0)) refl refl went.2 has) (λ stayed. same p q stayed has)
-    step_room (Some Mfence) t p q m n answer at done has =
-        once (HasRoom locs code q room) p.buffer _ _ t p q m n answer done (λ went. gone_on p q p refl refl went.1 has) (λ stayed. same p q stayed has)
-    step_room (Some (Je to)) t p q m n answer at done has = jumped p q p.zero_flag to (thread.forward p.position (Je to) at to refl).0 done.1 has
-    step_room (Some (Jne to)) t p q m n answer at done has = jumped p q (not p.zero_flag) to (thread.forward p.position (Jne to) at to refl).0 done.1 has
-    step_room (Some (Jmp to)) t p q m n answer at done has = jumped p q true to (thread.forward p.position (Jmp to) at to refl).0 done.1 has
-
-    drain_room : (buffer : List (ℕ × ℕ)) (t : ℕ) (p q : Processor) (m n : M) (answer : Answer) → p.buffer ≡ buffer → ActDone mem t (drain_act buffer p) p m answer q n → Kept p q
-    drain_room [] t p q m n answer was done has = same p q done.1 has
-    drain_room (entry ∷ newer) t p q m n answer was done has = drained locs code room p q entry newer was done.1 has
-
-    evict_room : (there : Bool) (t x : ℕ) (p q : Processor) (m n : M) (answer : Answer) → ActDone mem t (if there then Evicts x else Refused NoLocation) p m answer q n → Kept p q
-    evict_room true t x p q m n answer done has = same p q (evicted (is_held (mem.state m t x)) t x p q m n answer done) has
-    evict_room false t x p q m n answer done has = same p q done.1 has
-
-  -- an event leaves its processor's buffer with room
-  pub event_room : (program : List (List Instr)) (locs room : ℕ) (e : Event) (p q : Processor) (m n : M) (answer : Answer) → IsThread x86 locs (code_of program (cpu_of e))
-      → ActDone mem (cpu_of e) (event_act program (length (mem.content m)) e p) p m answer q n
-      → HasRoom locs (code_of program (cpu_of e)) p room → HasRoom locs (code_of program (cpu_of e)) q room
-  event_room program locs room (Step t) p q m n answer thread done = step_room locs (code_of program t) room thread (slice_get (code_of program t) p.position) t p q m n answer refl done
-  event_room program locs room (Drain t) p q m n answer thread done = drain_room locs (code_of program t) room thread p.buffer t p q m n answer refl done
-  event_room program locs room (Evict t x) p q m n answer thread done = evict_room locs (code_of program t) room thread (nat_lt x (length (mem.content m))) t x p q m n answer done
+-- an event leaves its processor's buffer with room
+pub event_room : {M : Type 0} (mem : Memory M) (program : List (List Instr)) (locs room : ℕ) (e : Event) (p q : Processor) (m n : M) (answer : Answer)
+    → IsThread x86 locs (code_of program (cpu_of e)) → ActDone mem (cpu_of e) (event_act program (length (mem.content m)) e p) p m answer q n
+    → HasRoom locs (code_of program (cpu_of e)) p room → HasRoom locs (code_of program (cpu_of e)) q room
+event_room mem program locs room e p q m n answer thread done has = go (event_becomes program (length (mem.content m)) mem p q m n answer e done)
+  where
+    go : Becomes (code_of program (cpu_of e)) p q → HasRoom locs (code_of program (cpu_of e)) q room
+    go (Stays is) = subst (λ r. HasRoom locs (code_of program (cpu_of e)) r room) (sym is) has
+    go (Steps i at w) = went locs (code_of program (cpu_of e)) room thread p q i at w has
+    go (Drains entry newer was is) = drained locs (code_of program (cpu_of e)) room p q entry newer was is has

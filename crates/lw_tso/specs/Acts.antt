@@ -2,16 +2,19 @@
 -- An event comes to an act of one processor, which knows no memory: it says what is asked of the memory, if anything, and
 -- what the processor is then. The source is as in Processors; XCHG and LOCK XADD with memory are one step each, once the
 -- buffer is empty.
-use Rattle.std.specs.Prelude.{ℕ, ◌==◌, true, not, nat_lt, if◌then◌else◌, Option, Some, None, List, [], ◌∷◌, slice_get, slice_index}
+use Rattle.std.specs.Prelude.{ℕ, ◌==◌, nat_lt, if◌then◌else◌, Option, Some, None, List, [], ◌∷◌, slice_get, slice_index}
 use Rattle.lw_base.specs.Sums.{sum_of}
 use Rattle.lw_base.specs.declared.event.Event.{Event}
 use Rattle.lw_base.specs.declared.event.Event.TheVariants.{Step, Drain, Evict}
 use Rattle.lw_base.specs.declared.stop.Stop.{Stop}
 use Rattle.lw_base.specs.declared.stop.Stop.TheVariants.{NoLocation, Ended, FenceWaits, SwapWaits, BufferEmpty}
 use Rattle.lw_litmus.specs.declared.instr.Instr.{Instr}
-use Rattle.lw_litmus.specs.declared.instr.Instr.TheVariants.{Store, Load, Set, Add, Cmp, Xchg, Xadd, Mfence, Je, Jne, Jmp}
+use Rattle.lw_litmus.specs.declared.operation.Operation.{Operation}
+use Rattle.lw_litmus.specs.declared.operation.Operation.TheVariants.{Set, Sum, Compare, Store, Load, Swap, FetchAdd, Fence, Branch}
+use Rattle.lw_litmus.specs.Operations.{holds}
+use Rattle.lw_litmus.specs.Programs.{operation_of}
 use Rattle.lw_base.specs.Threads.{value_of, code_of}
-use Rattle.lw_tso.specs.Processors.{Processor, newest, going_on, getting, flagging, buffering, jumping}
+use Rattle.lw_tso.specs.Processors.{Processor, newest, going_on, getting, getting_if, flagging, buffering, jumping}
 
 -- What an event comes to.
 pub data Act : Type 0 where
@@ -40,35 +43,36 @@ abbrev pub once_empty : List (ℕ × ℕ) → Stop → Act → Act
 once_empty [] stop act = act
 once_empty (entry ∷ newer) stop act = Refused stop
 
--- What the processor's next instruction comes to: a row for each.
-abbrev pub step_act : Option Instr → Processor → Act
--- there is none
-step_act None p = Refused Ended
--- `MOV [x],v`: to the end of the buffer
-step_act (Some (Store x v)) p = Goes (going_on (buffering p x (value_of v p.regs)))
--- `MOV d,[x]`
-step_act (Some (Load d x)) p = load_act (newest p.buffer x) x (λ w. going_on (getting p d w))
+-- What an operation of the processor comes to: a row for each.
+abbrev pub operation_act : Operation → Processor → Act
 -- `MOV d,v`
-step_act (Some (Set d v)) p = Goes (going_on (getting p d (value_of v p.regs)))
+operation_act (Set d v) p = Goes (going_on (getting p d (value_of v p.regs)))
 -- `ADD d,v`: the flag tells whether the sum is 0
-step_act (Some (Add d v)) p =
-    let sum = sum_of (slice_index p.regs d) (value_of v p.regs) in
+operation_act (Sum d a v) p =
+    let sum = sum_of (slice_index p.regs a) (value_of v p.regs) in
     Goes (going_on (flagging (getting p d sum) (sum == 0)))
 -- `CMP a,v`: the flag tells whether they are equal
-step_act (Some (Cmp a v)) p = Goes (going_on (flagging p (slice_index p.regs a == value_of v p.regs)))
+operation_act (Compare a v) p = Goes (going_on (flagging p (slice_index p.regs a == value_of v p.regs)))
+-- `MOV [x],v`: to the end of the buffer
+operation_act (Store x v) p = Goes (going_on (buffering p x (value_of v p.regs)))
+-- `MOV d,[x]`
+operation_act (Load d x) p = load_act (newest p.buffer x) x (λ w. going_on (getting p d w))
 -- `XCHG [x],a`
-step_act (Some (Xchg x a)) p =
-    once_empty p.buffer SwapWaits (Swaps x (slice_index p.regs a) (λ w. going_on (getting p a w)))
+operation_act (Swap d x a) p =
+    once_empty p.buffer SwapWaits (Swaps x (slice_index p.regs a) (λ w. going_on (getting p d w)))
 -- `LOCK XADD [x],a`: the flag tells whether the sum is 0
-step_act (Some (Xadd x a)) p =
-    let v = slice_index p.regs a in
-    once_empty p.buffer SwapWaits (Adds x v (λ w. going_on (flagging (getting p a w) (sum_of w v == 0))))
+operation_act (FetchAdd d x v) p =
+    let word = value_of v p.regs in
+    once_empty p.buffer SwapWaits (Adds x word (λ w. going_on (flagging (getting_if p d w) (sum_of w word == 0))))
 -- `MFENCE`
-step_act (Some Mfence) p = once_empty p.buffer FenceWaits (Goes (going_on p))
+operation_act Fence p = once_empty p.buffer FenceWaits (Goes (going_on p))
 -- `JE L`, `JNE L`, `JMP L`
-step_act (Some (Je to)) p = Goes (jumping p p.zero_flag to)
-step_act (Some (Jne to)) p = Goes (jumping p (not p.zero_flag) to)
-step_act (Some (Jmp to)) p = Goes (jumping p true to)
+operation_act (Branch c to) p = Goes (jumping p (holds c p.regs p.zero_flag) to)
+
+-- what the processor's next instruction comes to, if there is one
+abbrev pub step_act : Option Instr → Processor → Act
+step_act None p = Refused Ended
+step_act (Some i) p = operation_act (operation_of i) p
 
 -- the oldest entry of the buffer goes to memory
 abbrev pub drain_act : List (ℕ × ℕ) → Processor → Act

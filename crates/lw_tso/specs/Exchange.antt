@@ -6,7 +6,10 @@ use Rattle.lw_base.specs.declared.event.Event.TheVariants.{Step, Drain, Evict}
 use Rattle.lw_memory.specs.Flat.{flat}
 use Rattle.lw_memory.specs.Memory.{Memory}
 use Rattle.lw_litmus.specs.declared.instr.Instr.{Instr}
-use Rattle.lw_litmus.specs.declared.instr.Instr.TheVariants.{Store, Load, Set, Add, Cmp, Xchg, Xadd, Mfence, Je, Jne, Jmp}
+use Rattle.lw_litmus.specs.declared.operation.Operation.{Operation}
+use Rattle.lw_litmus.specs.declared.operation.Operation.TheVariants.{Load}
+use Rattle.lw_litmus.specs.Operations.{waits}
+use Rattle.lw_litmus.specs.Programs.{operation_of}
 use Rattle.lw_tso.specs.Processors.{Processor}
 use Rattle.lw_tso.specs.Acts.{Act, Refused, Goes, Loads, Stores, Swaps, Adds, Evicts, cpu_of, event_act}
 use Rattle.lw_tso.specs.Machines.{MachineState, position_of, EventDone}
@@ -35,25 +38,16 @@ writes (Evicts x) = false
 abbrev pub DoNotConflict : Act → Act → Type 0
 DoNotConflict a b = (x : ℕ) → accessed a ≡ Some x → accessed b ≡ Some x → (writes a ≡ false) × (writes b ≡ false)
 
--- an instruction may pass the drain of an entry for x: it is no fence and not locked, and does not load x
-abbrev pub MayPass : ℕ → Instr → Type 0
-MayPass x (Store y v) = Unit {0}
+-- an operation may pass the drain of an entry for x: it does not wait for an empty buffer, and does not load x
+abbrev pub MayPass : ℕ → Operation → Type 0
 MayPass x (Load d y) = x ≢ y
-MayPass x (Set d v) = Unit {0}
-MayPass x (Add d v) = Unit {0}
-MayPass x (Cmp a v) = Unit {0}
-MayPass x (Xchg y a) = ⊥
-MayPass x (Xadd y a) = ⊥
-MayPass x Mfence = ⊥
-MayPass x (Je to) = Unit {0}
-MayPass x (Jne to) = Unit {0}
-MayPass x (Jmp to) = Unit {0}
+MayPass x o = waits o ≡ false
 
 -- the buffer has an entry, and the instruction may pass the drain of the oldest
 abbrev pub MayPassOldest : List (ℕ × ℕ) → Option Instr → Type 0
 MayPassOldest [] i = ⊥
 MayPassOldest (entry ∷ newer) None = ⊥
-MayPassOldest (entry ∷ newer) (Some i) = MayPass entry.0 i
+MayPassOldest (entry ∷ newer) (Some i) = MayPass entry.0 (operation_of i)
 
 -- two events of the processor p: a drain and an instruction that may pass it, in either order
 abbrev pub ArePassing : List (List Instr) → Event → Event → Processor → Type 0

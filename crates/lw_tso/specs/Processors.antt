@@ -33,6 +33,11 @@ jumping p holds to = record p { position = if holds then to else p.position + 1 
 abbrev pub getting : Processor → ℕ → ℕ → Processor
 getting p d w = record p { regs = slice_set p.regs d w }
 
+-- the same, if a register is named
+abbrev pub getting_if : Processor → Option ℕ → ℕ → Processor
+getting_if p None w = p
+getting_if p (Some d) w = getting p d w
+
 -- with the zero flag telling this
 abbrev pub flagging : Processor → Bool → Processor
 flagging p holds = record p { zero_flag = holds }

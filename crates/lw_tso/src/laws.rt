@@ -9,7 +9,7 @@ ghost use Rattle.lw_memory.specs.Flat.{flat};
 ghost use Rattle.lw_memory.specs.MemoryLaws.{invariant_of};
 ghost use Rattle.lw_memory.specs.Memory.{memory_of};
 ghost use Rattle.lw_litmus.specs.declared.instr.Instr.{Instr};
-ghost use Rattle.lw_litmus.specs.Programs.{IsWellFormedProgram};
+ghost use Rattle.lw_litmus.specs.WellFormedTests.{IsWellFormedProgram};
 ghost use Rattle.lw_litmus.specs.Tests.{ProgramTest};
 ghost use Rattle.lw_tso.specs.Endings.{CanEnd};
 ghost use Rattle.lw_tso.specs.Evictions.{without_evictions};

@@ -15,7 +15,7 @@ ghost use Rattle.lw_tso.specs.declared.processor.Processor.{Processor as Process
 
 use crate::processor::Processor;
 use lw_base::{Cpu, End, Event, Loc, Outcome, REGISTERS, Reg, Replay, Sequence, Stop, Word};
-use lw_litmus::{Instr, Program};
+use lw_litmus::{Instr, Program, Statement};
 use lw_memory::{MemorySystem, NotHeld};
 use std::alloc::{AllocError, Allocator, Global};
 use std::marker::Model;
@@ -218,7 +218,7 @@ impl<'a, M: MemorySystem, A: Allocator, B: Allocator> Machine<'a, M, A, B> {
         let Some(instr) = instr_at(self.program, cpu, processor.position) else {
             return Err(Stop::Ended);
         };
-        processor.carry_out(cpu, instr, &mut self.memory)
+        processor.carry_out(cpu, instr.operation(), &mut self.memory)
     }
 
     /// The oldest entry of a processor's store buffer goes to memory.

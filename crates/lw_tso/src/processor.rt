@@ -3,18 +3,18 @@ ghost use Rattle.std.specs.Prelude.{◌≡◌, ◌+◌, ◌<◌, ◌≤◌, ◌^
 ghost use Rattle.std.specs.Option.{ForSome};
 ghost use Rattle.lw_base.specs.Sums.{sum_of};
 ghost use Rattle.lw_memory.specs.Memory.{memory_of};
-ghost use Rattle.lw_litmus.specs.Programs.{location_of};
+ghost use Rattle.lw_litmus.specs.Operations.{location_of, is_store, holds};
 ghost use Rattle.lw_base.specs.Threads.{value_of};
 ghost use Rattle.lw_tso.specs.Processors as table;
 ghost use Rattle.lw_tso.specs.Processors.{starting, going_on, getting, flagging, buffering, jumping};
-ghost use Rattle.lw_tso.specs.Acts.{step_act, drain_act};
+ghost use Rattle.lw_tso.specs.Acts.{operation_act, drain_act};
 ghost use Rattle.lw_tso.specs.Machines.{ActDone};
-ghost use Rattle.lw_tso.specs.inner.Rooms.{is_store, stores_from};
+ghost use Rattle.lw_tso.specs.inner.Rooms.{stores_from};
 ghost use Rattle.lw_tso.specs.inner.Views.{processor_of};
 
 use crate::buffer::StoreBuffer;
 use lw_base::{Cpu, Loc, Operand, REGISTERS, Reg, Stop, Word};
-use lw_litmus::Instr;
+use lw_litmus::{Condition, Instr, Operation, Statement};
 use lw_memory::MemorySystem;
 use std::alloc::{AllocError, Allocator, Global};
 
@@ -37,7 +37,7 @@ impl<A: Allocator> Processor<A> {
     {
         let stores = code
             .iter()
-            .filter(|instr| matches!(instr, Instr::Store { .. }))
+            .filter(|instr| instr.operation().is_store())
             .count();
         let buffer = StoreBuffer::with_room(alloc, stores.max(1))?;
         Ok(Processor {
@@ -66,59 +66,36 @@ impl<A: Allocator> Processor<A> {
         count <= self.position && self.buffer.is_empty()
     }
 
-    /// Carries out an instruction over the memory. A refused one changes nothing.
+    /// Carries out an operation over the memory. A refused one changes nothing.
     pub(crate) fn carry_out<M: MemorySystem>(
         &mut self,
         cpu: Cpu,
-        instr: Instr,
+        operation: Operation,
         memory: &mut M,
     ) -> Result<(), Stop>
         requires cpu { cpu < M.cpus memory.old }
-        requires loc { ForSome (location_of instr) (λ x. x < length (M.content memory.old)) }
+        requires loc { ForSome (location_of operation) (λ x. x < length (M.content memory.old)) }
         requires position { self.old.position + 1 < 2 ^ 64 }
-        requires room { is_store instr ≡ true → length self.old.buffer.entries < self.old.buffer.room }
+        requires room { is_store operation ≡ true → length self.old.buffer.entries < self.old.buffer.room }
         ensures done { ActDone (memory_of M.content M.state M.serves) cpu
-            (step_act (Some instr) (processor_of self.old)) (processor_of self.old) memory.old
+            (operation_act operation (processor_of self.old)) (processor_of self.old) memory.old
             result (processor_of self.new) memory.new }
         ensures room { self.new.buffer.room ≡ self.old.buffer.room }
     {
-        match instr {
-            Instr::Store { loc, val } => {
-                self.store(loc, self.value(val));
-                Ok(())
+        match operation {
+            Operation::Set { dst, val } => self.go_on_with(dst, self.value(val)),
+            Operation::Sum { dst, left, right } => self.add(dst, left, self.value(right)),
+            Operation::Compare { reg, val } => self.compare(reg, self.value(val)),
+            Operation::Store { loc, val } => self.store(loc, self.value(val)),
+            Operation::Load { dst, loc } => self.load(cpu, dst, loc, memory),
+            Operation::Swap { dst, loc, src } => return self.swap(cpu, dst, loc, src, memory),
+            Operation::FetchAdd { dst, loc, val } => {
+                return self.fetch_add(cpu, dst, loc, val, memory);
             }
-            Instr::Load { reg, loc } => {
-                self.load(cpu, reg, loc, memory);
-                Ok(())
-            }
-            Instr::Set { reg, val } => {
-                self.go_on_with(reg, self.value(val));
-                Ok(())
-            }
-            Instr::Add { reg, val } => {
-                self.add(reg, self.value(val));
-                Ok(())
-            }
-            Instr::Cmp { reg, val } => {
-                self.compare(reg, self.value(val));
-                Ok(())
-            }
-            Instr::Xchg { loc, reg } => self.exchange(cpu, loc, reg, memory),
-            Instr::Xadd { loc, reg } => self.exchange_and_add(cpu, loc, reg, memory),
-            Instr::Mfence => self.fence(),
-            Instr::Je { to } => {
-                self.jump(self.zero_flag, to);
-                Ok(())
-            }
-            Instr::Jne { to } => {
-                self.jump(!self.zero_flag, to);
-                Ok(())
-            }
-            Instr::Jmp { to } => {
-                self.jump(true, to);
-                Ok(())
-            }
+            Operation::Fence => return self.fence(),
+            Operation::Branch { condition, to } => self.jump(self.holds(condition), to),
         }
+        Ok(())
     }
 
     /// The word that an operand stands for.
@@ -126,6 +103,13 @@ impl<A: Allocator> Processor<A> {
         ensures { result ≡ value_of operand self.now.regs }
     {
         operand.value(&self.regs)
+    }
+
+    /// Whether a branch with this condition jumps.
+    fn holds(&self, condition: Condition) -> bool
+        ensures { result ≡ holds condition self.now.regs self.now.zero_flag }
+    {
+        condition.holds(&self.regs, self.zero_flag)
     }
 
     /// An entry goes to the end of the store buffer.
@@ -155,7 +139,7 @@ impl<A: Allocator> Processor<A> {
         requires loc { loc < length (M.content memory.old) }
         requires position { self.old.position + 1 < 2 ^ 64 }
         ensures done { ActDone (memory_of M.content M.state M.serves) cpu
-            (step_act (Some (Instr.Load reg loc)) (processor_of self.old)) (processor_of self.old) memory.old
+            (operation_act (Operation.Load reg loc) (processor_of self.old)) (processor_of self.old) memory.old
             (Ok tt) (processor_of self.new) memory.new }
         ensures buffer { self.new.buffer ≡ self.old.buffer }
     {
@@ -165,16 +149,16 @@ impl<A: Allocator> Processor<A> {
         }
     }
 
-    /// A word is added to a register's. The zero flag tells whether the sum is 0.
-    fn add(&mut self, reg: Reg, word: Word)
+    /// A register gets the sum of a register's word and another. The zero flag tells whether the sum is 0.
+    fn add(&mut self, dst: Reg, left: Reg, word: Word)
         requires { self.old.position + 1 < 2 ^ 64 }
-        ensures processor { let sum = sum_of (slice_index self.old.regs reg) word in
-            processor_of self.new ≡ going_on (flagging (getting (processor_of self.old) reg sum) (sum == 0)) }
+        ensures processor { let sum = sum_of (slice_index self.old.regs left) word in
+            processor_of self.new ≡ going_on (flagging (getting (processor_of self.old) dst sum) (sum == 0)) }
         ensures buffer { self.new.buffer ≡ self.old.buffer }
     {
-        let sum = self.regs[reg.index()].wrapping_add(word);
+        let sum = self.regs[left.index()].wrapping_add(word);
         self.zero_flag = sum == 0;
-        self.go_on_with(reg, sum);
+        self.go_on_with(dst, sum);
     }
 
     /// The zero flag tells whether a register has this word.
@@ -197,54 +181,59 @@ impl<A: Allocator> Processor<A> {
         self.position = if holds { to } else { self.position + 1 };
     }
 
-    /// A register and a location exchange their words, once the store buffer is empty.
-    fn exchange<M: MemorySystem>(
+    /// A register gets a location's word, and the location another register's, once the store buffer is empty.
+    fn swap<M: MemorySystem>(
         &mut self,
         cpu: Cpu,
+        dst: Reg,
         loc: Loc,
-        reg: Reg,
+        src: Reg,
         memory: &mut M,
     ) -> Result<(), Stop>
         requires cpu { cpu < M.cpus memory.old }
         requires loc { loc < length (M.content memory.old) }
         requires position { self.old.position + 1 < 2 ^ 64 }
         ensures done { ActDone (memory_of M.content M.state M.serves) cpu
-            (step_act (Some (Instr.Xchg loc reg)) (processor_of self.old)) (processor_of self.old) memory.old
+            (operation_act (Operation.Swap dst loc src) (processor_of self.old)) (processor_of self.old) memory.old
             result (processor_of self.new) memory.new }
         ensures buffer { self.new.buffer ≡ self.old.buffer }
     {
         if !self.buffer.is_empty() {
             return Err(Stop::SwapWaits);
         }
-        let word = self.regs[reg.index()];
-        self.go_on_with(reg, memory.swap(cpu, loc, word));
+        let word = self.regs[src.index()];
+        self.go_on_with(dst, memory.swap(cpu, loc, word));
         Ok(())
     }
 
-    /// A register gets a location's word, and the location their sum, once the store buffer is empty. The zero flag tells
-    /// whether the sum is 0.
-    fn exchange_and_add<M: MemorySystem>(
+    /// A register, if there is one, gets a location's word, and the location its sum with a value, once the store buffer
+    /// is empty. The zero flag tells whether the sum is 0.
+    fn fetch_add<M: MemorySystem>(
         &mut self,
         cpu: Cpu,
+        dst: Option<Reg>,
         loc: Loc,
-        reg: Reg,
+        val: Operand,
         memory: &mut M,
     ) -> Result<(), Stop>
         requires cpu { cpu < M.cpus memory.old }
         requires loc { loc < length (M.content memory.old) }
         requires position { self.old.position + 1 < 2 ^ 64 }
         ensures done { ActDone (memory_of M.content M.state M.serves) cpu
-            (step_act (Some (Instr.Xadd loc reg)) (processor_of self.old)) (processor_of self.old) memory.old
+            (operation_act (Operation.FetchAdd dst loc val) (processor_of self.old)) (processor_of self.old) memory.old
             result (processor_of self.new) memory.new }
         ensures buffer { self.new.buffer ≡ self.old.buffer }
     {
         if !self.buffer.is_empty() {
             return Err(Stop::SwapWaits);
         }
-        let word = self.regs[reg.index()];
+        let word = self.value(val);
         let old = memory.fetch_add(cpu, loc, word);
         self.zero_flag = old.wrapping_add(word) == 0;
-        self.go_on_with(reg, old);
+        if let Some(dst) = dst {
+            self.regs[dst.index()] = old;
+        }
+        self.position += 1;
         Ok(())
     }
 

@@ -5,7 +5,7 @@ use Rattle.lw_mesi.specs.Protocols.{caches_by}
 use Rattle.lw_mesi.specs.Coherence.{IsKept, caches_invariant}
 use Rattle.lw_mesi.specs.declared.protocol.Protocol.{Protocol}
 use Rattle.lw_tso.specs.Starts.{CanStart}
-use Rattle.lw_litmus.specs.Programs.{IsWellFormedProgram}
+use Rattle.lw_litmus.specs.WellFormedTests.{IsWellFormedProgram}
 use Rattle.lw_litmus.specs.Tests.{ProgramTest}
 use Rattle.lw_whole.specs.OverCaches.{caches_at_start}
 

@@ -8,7 +8,7 @@ ghost use Rattle.lw_mesi.specs.declared.protocol.Protocol.{Protocol};
 ghost use Rattle.lw_mesi.specs.declared.protocol.Protocol.TheVariants as by;
 ghost use Rattle.lw_tso.specs.Evictions.{without_evictions};
 ghost use Rattle.lw_tso.specs.Runs.{Replays, MachineOutcome};
-ghost use Rattle.lw_litmus.specs.Programs.{IsWellFormedProgram};
+ghost use Rattle.lw_litmus.specs.WellFormedTests.{IsWellFormedProgram};
 ghost use Rattle.lw_litmus.specs.Tests.{ProgramTest};
 ghost use Rattle.lw_base.specs.Entries.{IsEntryOf};
 ghost use Rattle.lw_whole.specs.OverCaches.{ReplaysOverCaches, OutcomeOverCaches};

@@ -18,7 +18,8 @@ use Rattle.lw_cells.proofs.api.Zips.{zip_append, zip_replicate}
 use Rattle.lw_litmus.specs.declared.instr.Instr.{Instr}
 use Rattle.lw_litmus.specs.declared.instr.Instr.TheVariants.{Store, Load, Set, Add, Cmp, Xchg, Xadd, Mfence, Je, Jne, Jmp}
 use Rattle.lw_x86.specs.Instructions.{InstructionSyntax, label_of, name_of}
-use Rattle.lw_litmus.specs.Programs.{x86, target_of, location_of}
+use Rattle.lw_litmus.specs.Operations.{target_of, location_of}
+use Rattle.lw_litmus.specs.Programs.{x86, operation_of}
 use Rattle.lw_x86.specs.CanonicalTexts.{label}
 use Rattle.lw_x86.specs.Grammar.{x86_grammar}
 use Rattle.lw_x86.proofs.PrintedInstructions.{syntax_of, HasTarget}
@@ -64,7 +65,7 @@ target_same n (s ∷ ss) l = ap (λ (t : ℕ). if contains_name s.labels l then 
 module _ (names : NameTable) (once : EachOnce names) (syntaxes : List (CellSyntax InstructionSyntax)) where
   -- its location is in the table, and its label leads to its target
   abbrev pub IsResolved : Instr → Type 0
-  IsResolved i = ForSome (location_of i) (λ x. x < length names) × ForSome (target_of i) (λ to. target_in syntaxes (label to) ≡ to)
+  IsResolved i = ForSome (location_of (operation_of i)) (λ x. x < length names) × ForSome (target_of (operation_of i)) (λ to. target_in syntaxes (label to) ≡ to)
 
   resolved_again : (i : Instr) → IsResolved i → resolved x86_grammar names syntaxes (syntax_of names i) ≡ i
   resolved_again (Store x v) h = ap (λ (y : ℕ). Store y v) (index_of-again names once x (h.0 x refl))
@@ -87,7 +88,7 @@ module _ (names : NameTable) (once : EachOnce names) (syntaxes : List (CellSynta
       cc
 
 -- the names of their locations are in the table
-names_there : (names : NameTable) (code : List Instr) → AllByRecursion (λ i. ForSome (location_of i) (λ x. x < length names)) code → AllByRecursion (IsInTable names) (filter_map name_of (map (syntax_of names) code))
+names_there : (names : NameTable) (code : List Instr) → AllByRecursion (λ i. ForSome (location_of (operation_of i)) (λ x. x < length names)) code → AllByRecursion (IsInTable names) (filter_map name_of (map (syntax_of names) code))
 names_there names [] h = tt
 names_there names (Store x v ∷ code) h = ((x, slice_get-get_or names x [] (h.0 x refl)), names_there names code h.1)
 names_there names (Load d x ∷ code) h = ((x, slice_get-get_or names x [] (h.0 x refl)), names_there names code h.1)
@@ -102,7 +103,7 @@ names_there names (Jne to ∷ code) h = names_there names code h.1
 names_there names (Jmp to ∷ code) h = names_there names code h.1
 
 -- what holds of an instruction's target holds of its label
-of_label : (names : NameTable) (P : Bytes → Type 0) (i : Instr) → ForSome (target_of i) (λ to. P (label to)) → ForSome (label_of (syntax_of names i)) P
+of_label : (names : NameTable) (P : Bytes → Type 0) (i : Instr) → ForSome (target_of (operation_of i)) (λ to. P (label to)) → ForSome (label_of (syntax_of names i)) P
 of_label names P (Store x v) h = λ l e. absurd cc
 of_label names P (Load d x) h = λ l e. absurd cc
 of_label names P (Set d v) h = λ l e. absurd cc
@@ -144,7 +145,7 @@ module _ (names : NameTable) (table : IsTable names) (code : List Instr) (thread
   abbrev pub syntaxes : ℕ → List (CellSyntax InstructionSyntax)
   syntaxes n = with_empty n (syntaxes_from names code 0 code)
 
-  target_at : (n k to : ℕ) (i : Instr) → slice_get code k ≡ Some i → target_of i ≡ Some to → Contains (labels_of (syntaxes n)) (label to) × (target_in (syntaxes n) (label to) ≡ to) × (k < to)
+  target_at : (n k to : ℕ) (i : Instr) → slice_get code k ≡ Some i → target_of (operation_of i) ≡ Some to → Contains (labels_of (syntaxes n)) (label to) × (target_in (syntaxes n) (label to) ≡ to) × (k < to)
   target_at n k to i e f =
       let goes = thread.forward k i e to f in
       let small : to < 2 ^ 32 = small_at k i e to f in
@@ -180,4 +181,4 @@ module _ (names : NameTable) (table : IsTable names) (code : List Instr) (thread
   pub thread_names : (n : ℕ) → AllByRecursion (IsInTable names) (names_in x86_grammar (syntaxes n))
   thread_names n =
       subst (λ (ss : List InstructionSyntax). AllByRecursion (IsInTable names) (filter_map name_of ss)) (sym (statements_all n))
-      (names_there names code (all_places (λ i. ForSome (location_of i) (λ x. x < length names)) code (λ k i e. (statement_at k i e).0)))
+      (names_there names code (all_places (λ i. ForSome (location_of (operation_of i)) (λ x. x < length names)) code (λ k i e. (statement_at k i e).0)))

@@ -32,7 +32,8 @@ use Rattle.lw_text.proofs.api.ConditionTokens.{IsPrintable, sites_printable, who
 use Rattle.lw_litmus.specs.WellFormed.{IsThread}
 use Rattle.lw_cells.proofs.api.Zips.{zip_length}
 use Rattle.lw_litmus.specs.declared.instr.Instr.{Instr}
-use Rattle.lw_litmus.specs.Programs.{IsWellFormedProgram, x86}
+use Rattle.lw_litmus.specs.Programs.{x86}
+use Rattle.lw_litmus.specs.WellFormedTests.{IsWellFormedProgram}
 use Rattle.lw_litmus.specs.Tests.{ProgramTest}
 use Rattle.lw_x86.specs.CanonicalTexts.{cells_of, longest, rows_text, header_text, block_text, listed_text, canonical_text}
 use Rattle.lw_x86.proofs.PrintedCells.{IsPrintedCell, cells_printed}

@@ -23,7 +23,8 @@ use Rattle.lw_litmus.specs.WellFormed.{IsStatement}
 use Rattle.lw_litmus.specs.declared.instr.Instr.{Instr}
 use Rattle.lw_litmus.specs.declared.instr.Instr.TheVariants.{Store, Load, Set, Add, Cmp, Xchg, Xadd, Mfence, Je, Jne, Jmp}
 use Rattle.lw_x86.specs.Instructions.{InstructionSyntax, Stores, Loads, Sets, Adds, Compares, Exchanges, Exchanges_adding, Fences, Jumps_if_equal, Jumps_if_not_equal, Jumps, Instruction, IsValue}
-use Rattle.lw_litmus.specs.Programs.{x86, target_of}
+use Rattle.lw_litmus.specs.Operations.{target_of}
+use Rattle.lw_litmus.specs.Programs.{x86, operation_of}
 use Rattle.lw_x86.specs.CanonicalTexts.{operand_text, memory_text, with_operands, label, instruction_text}
 
 -- ---- tokens
@@ -75,7 +76,7 @@ Spells-label k h = Spells-word 11 (label k) (refl, decimal_is_word k h) (inl (la
 
 -- where it jumps is a number of an instruction
 abbrev pub HasTarget : Instr → Type 0
-HasTarget i = ForSome (target_of i) (λ to. to < 2 ^ 32)
+HasTarget i = ForSome (target_of (operation_of i)) (λ to. to < 2 ^ 32)
 
 -- ---- no token ends a cell
 
@@ -119,10 +120,10 @@ module _ (names : NameTable) (table : AllByRecursion IsLocation names) where
   instruction_spelled (Store x v) h t = Spells-within 133 (omega arith) (operands_spelled (Spells-name (codes "MOV") (name_by_test (codes "MOV") refl)) (memory_spelled x (h.0 x refl)) (operand_spelled v h.1 h.2))
   instruction_spelled (Load d x) h t = Spells-within 133 (omega arith) (operands_spelled (Spells-name (codes "MOV") (name_by_test (codes "MOV") refl)) (Spells-register X86 d (All-head IsRegisterNumber d [] h.1)) (memory_spelled x (h.0 x refl)))
   instruction_spelled (Set d v) h t = Spells-within 133 (omega arith) (operands_spelled (Spells-name (codes "MOV") (name_by_test (codes "MOV") refl)) (Spells-register X86 d (All-head IsRegisterNumber d (operand_registers v) h.1)) (operand_spelled v (All-tail IsRegisterNumber d (operand_registers v) h.1) h.2))
-  instruction_spelled (Add d v) h t = Spells-within 133 (omega arith) (operands_spelled (Spells-name (codes "ADD") (name_by_test (codes "ADD") refl)) (Spells-register X86 d (All-head IsRegisterNumber d (operand_registers v) h.1)) (operand_spelled v (All-tail IsRegisterNumber d (operand_registers v) h.1) h.2))
+  instruction_spelled (Add d v) h t = Spells-within 133 (omega arith) (operands_spelled (Spells-name (codes "ADD") (name_by_test (codes "ADD") refl)) (Spells-register X86 d (All-head IsRegisterNumber d (d ∷ operand_registers v) h.1)) (operand_spelled v (All-tail IsRegisterNumber d (operand_registers v) (All-tail IsRegisterNumber d (d ∷ operand_registers v) h.1)) h.2))
   instruction_spelled (Cmp a v) h t = Spells-within 133 (omega arith) (operands_spelled (Spells-name (codes "CMP") (name_by_test (codes "CMP") refl)) (Spells-register X86 a (All-head IsRegisterNumber a (operand_registers v) h.1)) (operand_spelled v (All-tail IsRegisterNumber a (operand_registers v) h.1) h.2))
-  instruction_spelled (Xchg x a) h t = Spells-within 133 (omega arith) (operands_spelled (Spells-name (codes "XCHG") (name_by_test (codes "XCHG") refl)) (memory_spelled x (h.0 x refl)) (Spells-register X86 a (All-head IsRegisterNumber a [] h.1)))
-  instruction_spelled (Xadd x a) h t = Spells-within 133 (omega arith) (operands_spelled lock_xadd (memory_spelled x (h.0 x refl)) (Spells-register X86 a (All-head IsRegisterNumber a [] h.1)))
+  instruction_spelled (Xchg x a) h t = Spells-within 133 (omega arith) (operands_spelled (Spells-name (codes "XCHG") (name_by_test (codes "XCHG") refl)) (memory_spelled x (h.0 x refl)) (Spells-register X86 a (All-head IsRegisterNumber a (a ∷ []) h.1)))
+  instruction_spelled (Xadd x a) h t = Spells-within 133 (omega arith) (operands_spelled lock_xadd (memory_spelled x (h.0 x refl)) (Spells-register X86 a (All-head IsRegisterNumber a (a ∷ []) h.1)))
   instruction_spelled Mfence h t = Spells-within 133 (omega arith) (Spells-name (codes "MFENCE") (name_by_test (codes "MFENCE") refl))
   instruction_spelled (Je to) h t = jump_spelled (codes "JE") (name_by_test (codes "JE") refl) to (t to refl)
   instruction_spelled (Jne to) h t = jump_spelled (codes "JNE") (name_by_test (codes "JNE") refl) to (t to refl)
@@ -138,11 +139,11 @@ module _ (names : NameTable) (table : AllByRecursion IsLocation names) where
   instruction_said (Store x v) h t = (codes "MOV", operand_tokens v, refl, refl, name_there names x table (h.0 x refl), value_said v h.1 h.2)
   instruction_said (Load d x) h t = (codes "MOV", register_name X86 d, refl, refl, (All-head IsRegisterNumber d [] h.1, refl), name_there names x table (h.0 x refl))
   instruction_said (Set d v) h t = (codes "MOV", register_name X86 d, operand_tokens v, refl, refl, (All-head IsRegisterNumber d (operand_registers v) h.1, refl), value_said v (All-tail IsRegisterNumber d (operand_registers v) h.1) h.2)
-  instruction_said (Add d v) h t = (codes "ADD", register_name X86 d, operand_tokens v, refl, refl, (All-head IsRegisterNumber d (operand_registers v) h.1, refl), value_said v (All-tail IsRegisterNumber d (operand_registers v) h.1) h.2)
+  instruction_said (Add d v) h t = (codes "ADD", register_name X86 d, operand_tokens v, refl, refl, (All-head IsRegisterNumber d (d ∷ operand_registers v) h.1, refl), value_said v (All-tail IsRegisterNumber d (operand_registers v) (All-tail IsRegisterNumber d (d ∷ operand_registers v) h.1)) h.2)
   instruction_said (Cmp a v) h t = (codes "CMP", register_name X86 a, operand_tokens v, refl, refl, (All-head IsRegisterNumber a (operand_registers v) h.1, refl), value_said v (All-tail IsRegisterNumber a (operand_registers v) h.1) h.2)
-  instruction_said (Xchg x a) h t = (instruction_tokens names (Xchg x a), inl refl, inl (codes "XCHG", register_name X86 a, refl, refl, name_there names x table (h.0 x refl), (All-head IsRegisterNumber a [] h.1, refl)))
+  instruction_said (Xchg x a) h t = (instruction_tokens names (Xchg x a), inl refl, inl (codes "XCHG", register_name X86 a, refl, refl, name_there names x table (h.0 x refl), (All-head IsRegisterNumber a (a ∷ []) h.1, refl)))
   instruction_said (Xadd x a) h t =
-      (codes "XADD" ∷ (memory_tokens names x ++ (codes "," ∷ register_name X86 a ∷ [])), (codes "LOCK", refl, refl), (codes "XADD", register_name X86 a, refl, refl, name_there names x table (h.0 x refl), (All-head IsRegisterNumber a [] h.1, refl)))
+      (codes "XADD" ∷ (memory_tokens names x ++ (codes "," ∷ register_name X86 a ∷ [])), (codes "LOCK", refl, refl), (codes "XADD", register_name X86 a, refl, refl, name_there names x table (h.0 x refl), (All-head IsRegisterNumber a (a ∷ []) h.1, refl)))
   instruction_said Mfence h t = (codes "MFENCE", refl, refl)
   instruction_said (Je to) h t = (codes "JE", refl, refl, label_is_location to (t to refl))
   instruction_said (Jne to) h t = (codes "JNE", refl, refl, label_is_location to (t to refl))
@@ -169,10 +170,10 @@ module _ (names : NameTable) (table : AllByRecursion IsLocation names) where
   instruction_no_end (Store x v) h t = (refl, (refl, (location_no_end x (h.0 x refl), (refl, (refl, operand_no_end v h.1 h.2)))))
   instruction_no_end (Load d x) h t = (refl, (register_no_end d (All-head IsRegisterNumber d [] h.1), (refl, (refl, (location_no_end x (h.0 x refl), (refl, tt))))))
   instruction_no_end (Set d v) h t = (refl, (register_no_end d (All-head IsRegisterNumber d (operand_registers v) h.1), (refl, operand_no_end v (All-tail IsRegisterNumber d (operand_registers v) h.1) h.2)))
-  instruction_no_end (Add d v) h t = (refl, (register_no_end d (All-head IsRegisterNumber d (operand_registers v) h.1), (refl, operand_no_end v (All-tail IsRegisterNumber d (operand_registers v) h.1) h.2)))
+  instruction_no_end (Add d v) h t = (refl, (register_no_end d (All-head IsRegisterNumber d (d ∷ operand_registers v) h.1), (refl, operand_no_end v (All-tail IsRegisterNumber d (operand_registers v) (All-tail IsRegisterNumber d (d ∷ operand_registers v) h.1)) h.2)))
   instruction_no_end (Cmp a v) h t = (refl, (register_no_end a (All-head IsRegisterNumber a (operand_registers v) h.1), (refl, operand_no_end v (All-tail IsRegisterNumber a (operand_registers v) h.1) h.2)))
-  instruction_no_end (Xchg x a) h t = (refl, (refl, (location_no_end x (h.0 x refl), (refl, (refl, (register_no_end a (All-head IsRegisterNumber a [] h.1), tt))))))
-  instruction_no_end (Xadd x a) h t = (refl, (refl, (refl, (location_no_end x (h.0 x refl), (refl, (refl, (register_no_end a (All-head IsRegisterNumber a [] h.1), tt)))))))
+  instruction_no_end (Xchg x a) h t = (refl, (refl, (location_no_end x (h.0 x refl), (refl, (refl, (register_no_end a (All-head IsRegisterNumber a (a ∷ []) h.1), tt))))))
+  instruction_no_end (Xadd x a) h t = (refl, (refl, (refl, (location_no_end x (h.0 x refl), (refl, (refl, (register_no_end a (All-head IsRegisterNumber a (a ∷ []) h.1), tt)))))))
   instruction_no_end Mfence h t = (refl, tt)
   instruction_no_end (Je to) h t = (refl, (label_no_end to (t to refl), tt))
   instruction_no_end (Jne to) h t = (refl, (label_no_end to (t to refl), tt))

@@ -11,7 +11,8 @@ use Rattle.lw_cells.specs.Cells.{CellSyntax, Column, code_in, names_in, names_of
 use Rattle.lw_litmus.specs.WellFormed.{IsThread}
 use Rattle.lw_litmus.specs.declared.instr.Instr.{Instr}
 use Rattle.lw_x86.specs.Instructions.{InstructionSyntax}
-use Rattle.lw_litmus.specs.Programs.{IsWellFormedProgram, x86}
+use Rattle.lw_litmus.specs.Programs.{x86}
+use Rattle.lw_litmus.specs.WellFormedTests.{IsWellFormedProgram}
 use Rattle.lw_litmus.specs.Tests.{ProgramTest}
 use Rattle.lw_x86.specs.Grammar.{HasProgram, x86_grammar}
 use Rattle.lw_x86.specs.CanonicalTexts.{canonical_text}

@@ -21,7 +21,9 @@ use Rattle.lw_litmus.specs.declared.instr.Instr.{Instr}
 use Rattle.lw_x86.specs.declared.jump.Jump.{Jump}
 use Rattle.lw_x86.specs.declared.jump.Jump.TheVariants.{Equal, NotEqual, Always}
 use Rattle.lw_x86.specs.Instructions.{InstructionSyntax, Stores, Loads, Sets, Adds, Compares, Exchanges, Exchanges_adding, Fences, Jumps_if_equal, Jumps_if_not_equal, Jumps, Instruction, IsValue, MemoryFirst, MemoryLast, Locked, name_of, label_of}
-use Rattle.lw_litmus.specs.Programs.{location_of, target_of, registers_of, numbers_of}
+use Rattle.lw_litmus.specs.Operations.{location_of, target_of}
+use Rattle.lw_litmus.specs.WellFormed.{registers_of, numbers_of}
+use Rattle.lw_litmus.specs.Programs.{operation_of}
 use Rattle.lw_x86.specs.Grammar.{instruction, x86_grammar}
 use Rattle.lw_x86.specs.inner.Drafts.{draft_of, jump_to}
 use Rattle.lw_x86.specs.declared.mnemonic.Mnemonic.{Mnemonic}
@@ -90,7 +92,7 @@ no_label ts (Jumps_if_equal l) h colon = colon_location l (second ts _ _ h.1 ref
 no_label ts (Jumps_if_not_equal l) h colon = colon_location l (second ts _ _ h.1 refl colon) h.3
 no_label ts (Jumps l) h colon = colon_location l (second ts _ _ h.1 refl colon) h.3
 
-located : (x to : ℕ) (s : InstructionSyntax) → location_of (instruction x to s) ≡ option_map (λ n. x) (name_of s)
+located : (x to : ℕ) (s : InstructionSyntax) → location_of (operation_of (instruction x to s)) ≡ option_map (λ n. x) (name_of s)
 located x to (Stores n v) = refl
 located x to (Loads d n) = refl
 located x to (Sets d v) = refl
@@ -103,7 +105,7 @@ located x to (Jumps_if_equal l) = refl
 located x to (Jumps_if_not_equal l) = refl
 located x to (Jumps l) = refl
 
-led : (x to : ℕ) (s : InstructionSyntax) → target_of (instruction x to s) ≡ option_map (λ l. to) (label_of s)
+led : (x to : ℕ) (s : InstructionSyntax) → target_of (operation_of (instruction x to s)) ≡ option_map (λ l. to) (label_of s)
 led x to (Stores n v) = refl
 led x to (Loads d n) = refl
 led x to (Sets d v) = refl
@@ -128,20 +130,20 @@ form_register : (m : List ℕ) (ts : List (List ℕ)) (x : List ℕ) (a : ℕ) �
 form_register m ts x a (inl h) = h.5.0
 form_register m ts x a (inr h) = h.4.0
 
-registers : (ts : List (List ℕ)) (x to : ℕ) (s : InstructionSyntax) → Instruction ts s → AllByRecursion IsRegisterNumber (registers_of (instruction x to s))
+registers : (ts : List (List ℕ)) (x to : ℕ) (s : InstructionSyntax) → Instruction ts s → AllByRecursion IsRegisterNumber (registers_of (operation_of (instruction x to s)))
 registers ts x to (Stores n v) h = value_registers h.1 v h.5
 registers ts x to (Loads d n) h = (h.4.0, tt)
 registers ts x to (Sets d v) h = (h.5.0, value_registers h.2 v h.6)
-registers ts x to (Adds d v) h = (h.5.0, value_registers h.2 v h.6)
+registers ts x to (Adds d v) h = (h.5.0, (h.5.0, value_registers h.2 v h.6))
 registers ts x to (Compares a v) h = (h.5.0, value_registers h.2 v h.6)
-registers ts x to (Exchanges n a) (rest, lock, form) = (form_register (codes "XCHG") rest n a form, tt)
-registers ts x to (Exchanges_adding n a) h = (h.2.5.0, tt)
+registers ts x to (Exchanges n a) (rest, lock, form) = let r = form_register (codes "XCHG") rest n a form in (r, (r, tt))
+registers ts x to (Exchanges_adding n a) h = (h.2.5.0, (h.2.5.0, tt))
 registers ts x to Fences h = tt
 registers ts x to (Jumps_if_equal l) h = tt
 registers ts x to (Jumps_if_not_equal l) h = tt
 registers ts x to (Jumps l) h = tt
 
-numbers : (ts : List (List ℕ)) (x to : ℕ) (s : InstructionSyntax) → Instruction ts s → AllByRecursion IsWord (numbers_of (instruction x to s))
+numbers : (ts : List (List ℕ)) (x to : ℕ) (s : InstructionSyntax) → Instruction ts s → AllByRecursion IsWord (numbers_of (operation_of (instruction x to s)))
 numbers ts x to (Stores n v) h = value_numbers h.1 v h.5
 numbers ts x to (Loads d n) h = tt
 numbers ts x to (Sets d v) h = value_numbers h.2 v h.6
@@ -162,8 +164,8 @@ x86_lawful = record {
   no_label = no_label;
   located = located;
   led = led;
-  registers = λ ts x to s says. All-from_recursion IsRegisterNumber (registers_of (instruction x to s)) (registers ts x to s says);
-  numbers = λ ts x to s says. All-from_recursion IsWord (numbers_of (instruction x to s)) (numbers ts x to s says);
+  registers = λ ts x to s says. All-from_recursion IsRegisterNumber (registers_of (operation_of (instruction x to s))) (registers ts x to s says);
+  numbers = λ ts x to s says. All-from_recursion IsWord (numbers_of (operation_of (instruction x to s))) (numbers ts x to s says);
 }
 
 whole : (x : ℕ) (s : InstructionSyntax) (stmt : Instr) → draft_of x s ≡ Whole stmt → (label_of s ≡ None) × (instruction x 0 s ≡ stmt)

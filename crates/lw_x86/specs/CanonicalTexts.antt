@@ -18,7 +18,8 @@ use Rattle.lw_base.specs.SeenLists.{all_registers, locations}
 use Rattle.lw_text.specs.Rows.{thread_name}
 use Rattle.lw_litmus.specs.declared.instr.Instr.{Instr}
 use Rattle.lw_litmus.specs.declared.instr.Instr.TheVariants.{Store, Load, Set, Add, Cmp, Xchg, Xadd, Mfence, Je, Jne, Jmp}
-use Rattle.lw_litmus.specs.Programs.{target_of}
+use Rattle.lw_litmus.specs.Operations.{target_of}
+use Rattle.lw_litmus.specs.Programs.{operation_of}
 use Rattle.lw_litmus.specs.Tests.{ProgramTest}
 
 -- ---- instructions
@@ -57,7 +58,7 @@ instruction_text names (Jmp to) = codes "JMP " ++ label to
 
 -- whether the instruction jumps to that of this number, and whether some instruction does
 abbrev pub jumps_to : ℕ → Instr → Bool
-jumps_to k i = option_map_or (λ to. to == k) (target_of i) false
+jumps_to k i = option_map_or (λ to. to == k) (target_of (operation_of i)) false
 
 abbrev pub is_target : List Instr → ℕ → Bool
 is_target code k = list_any (jumps_to k) code

@@ -6,7 +6,7 @@ ghost use Rattle.lw_base.specs.WellFormed.{IsSeen};
 ghost use Rattle.lw_litmus.specs.Tests.{test_of, ProgramTest};
 ghost use Rattle.lw_base.specs.Limits.{most_threads, most_text_bytes};
 ghost use Rattle.lw_x86.specs.CanonicalTexts.{header_text, element_text, listed_text, canonical_text};
-ghost use Rattle.lw_litmus.specs.Programs.{IsWellFormedProgram};
+ghost use Rattle.lw_litmus.specs.WellFormedTests.{IsWellFormedProgram};
 ghost use Rattle.lw_x86.specs.Texts.{IsTextOf};
 
 use crate::block::write_block;

@@ -9,7 +9,7 @@ ghost use Rattle.lw_litmus.specs.Programs.{x86};
 
 use crate::instruction_text::write_instruction;
 use lw_base::{LocNames, Sequence};
-use lw_litmus::{Instr, Program};
+use lw_litmus::{Instr, Program, Statement};
 use std::alloc::{AllocError, Allocator};
 
 /// The rows of a program: as many as its longest thread has cells.
@@ -139,8 +139,8 @@ fn is_target(code: &[Instr], number: usize) -> bool
 fn jumps_to(instr: &Instr, number: usize) -> bool
     ensures { result ≡ printed.jumps_to number instr.now }
 {
-    match instr {
-        Instr::Je { to } | Instr::Jne { to } | Instr::Jmp { to } => *to == number,
-        _ => false,
+    match instr.operation().target() {
+        Some(to) => to == number,
+        None => false,
     }
 }

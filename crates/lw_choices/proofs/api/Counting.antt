@@ -8,111 +8,133 @@ use Rattle.lw_choices.specs.declared.fault.ListFault.TheVariants.{TooManyItems, 
 use Rattle.lw_choices.specs.declared.item.Item.{Item}
 use Rattle.lw_choices.specs.Choices.{IsForward, choices_of}
 use Rattle.lw_choices.specs.Counts.{items_at_choice, orders_at_choice, orders_of, total_of, HasTooManyItems, TellsOfChoice, TellsOfItems, TellsOfGiven, TellsOfChoices, TellsLimit}
-use Rattle.lw_choices.specs.Items.{Behaviour, items_of, constraints_of}
+use Rattle.lw_litmus.specs.Languages.{Language}
+use Rattle.lw_choices.specs.Items.{items_of, constraints_of}
 use Rattle.lw_choices.specs.Visits.{Visited, Refused}
 use Rattle.lw_choices.proofs.api.Enumerated.{choices_are_all}
 use Rattle.lw_choices.proofs.api.Members.{Contains-here, Contains-there, Contains-cons, none_in}
 
-module _ {S : Type 0} (behaviour : Behaviour S) where
+module _ {S : Type 0} (language : Language S) where
   -- what a counter is after a visit
   abbrev pub Counts : List (List S) → ℕ → List (List ℕ) → List (List S) → ℕ → Type 0
   Counts program before paths after_program after =
-      (after_program ≡ program) × (items_at_choice behaviour program paths ≤ most_items)
-      × (after ≡ before + orders_at_choice behaviour program paths) × (after ≤ most_orders)
+      (after_program ≡ program) × (items_at_choice language program paths ≤ most_items)
+      × (after ≡ before + orders_at_choice language program paths) × (after ≤ most_orders)
 
   -- the items of a choice and the ways of their conflicts were counted, and are few
-  pub choice_counted : (program : List (List S)) (before orders after : ℕ) (paths : List (List ℕ)) (made items : List Item) → made ≡ items_of behaviour program paths
-      → length made ≤ most_items → items ≡ made → (orders ≡ count_of (constraints_of behaviour program items)) × (orders ≤ most_orders)
+  pub choice_counted : (program : List (List S)) (before orders after : ℕ)
+      (paths : List (List ℕ)) (made items : List Item) → made ≡ items_of language program paths
+      → length made ≤ most_items → items ≡ made → (orders ≡ count_of (constraints_of language program items)) × (orders ≤ most_orders)
       → after ≡ min (before + orders) 18446744073709551615 → after ≤ most_orders → Counts program before paths program after
   choice_counted program before orders after paths made items are few shown (count, least) total within =
-      let same : orders ≡ orders_at_choice behaviour program paths = count ∙ ap (λ (xs : List Item). count_of (constraints_of behaviour program xs)) (shown ∙ are) in
+      let same : orders ≡ orders_at_choice language program paths =
+      count ∙ ap (λ (xs : List Item). count_of (constraints_of language program xs)) (shown ∙ are) in
       (refl, subst (λ (xs : List Item). length xs ≤ most_items) are few, omega (arith, total, within, same), within)
 
   -- why one of some choices was refused, where those before them have so many orders
   abbrev Tells : List (List S) → ℕ → List (List (List ℕ)) → ListFault → Type 0
-  Tells program before choices TooManyItems = (paths : List (List ℕ)) × Contains choices paths × (most_items < items_at_choice behaviour program paths)
-  Tells program before choices TooManyOrders = most_orders < before + orders_of behaviour program choices
+  Tells program before choices TooManyItems = (paths : List (List ℕ)) × Contains choices paths × (most_items < items_at_choice language program paths)
+  Tells program before choices TooManyOrders = most_orders < before + orders_of language program choices
   Tells program before choices Memory = Unit {0}
 
-  tells_here : (program : List (List S)) (before : ℕ) (paths : List (List ℕ)) (choices : List (List (List ℕ))) (e : ListFault) → TellsOfChoice behaviour program before paths e → Tells program before (paths ∷ choices) e
+  tells_here : (program : List (List S)) (before : ℕ) (paths : List (List ℕ)) (choices : List (List (List ℕ))) (e : ListFault)
+      → TellsOfChoice language program before paths e → Tells program before (paths ∷ choices) e
   tells_here program before paths choices TooManyItems h = (paths, Contains-here paths paths choices refl, h)
   tells_here program before paths choices TooManyOrders h = omega (arith, h)
   tells_here program before paths choices Memory h = tt
 
-  tells_there : (program : List (List S)) (before after : ℕ) (paths : List (List ℕ)) (choices : List (List (List ℕ))) (e : ListFault) → after ≤ before + orders_at_choice behaviour program paths → Tells program after choices e → Tells program before (paths ∷ choices) e
+  tells_there : (program : List (List S)) (before after : ℕ) (paths : List (List ℕ)) (choices : List (List (List ℕ))) (e : ListFault)
+      → after ≤ before + orders_at_choice language program paths → Tells program after choices e → Tells program before (paths ∷ choices) e
   tells_there program before after paths choices TooManyItems l (p, c, h) = (p, Contains-there paths p choices c, h)
   tells_there program before after paths choices TooManyOrders l h = omega (arith, l, h)
   tells_there program before after paths choices Memory l h = tt
 
   -- where the list of choices is complete
-  module _ (program : List (List S)) (forward : All (IsForward behaviour.flow) program) where
-    tells_all : (e : ListFault) → Tells program 0 (choices_of behaviour.flow program) e → TellsOfChoices behaviour program e
-    tells_all TooManyItems (paths, c, h) = (paths, (choices_are_all behaviour.flow program paths forward).0 c, h)
+  module _ (program : List (List S)) (forward : All (IsForward language) program) where
+    tells_all : (e : ListFault) → Tells program 0 (choices_of language program) e → TellsOfChoices language program e
+    tells_all TooManyItems (paths, c, h) = (paths, (choices_are_all language program paths forward).0 c, h)
     tells_all TooManyOrders h = omega (arith, h)
     tells_all Memory h = tt
 
-    pub none_too_many : ((paths : List (List ℕ)) → Contains (choices_of behaviour.flow program) paths → items_at_choice behaviour program paths ≤ most_items) → HasTooManyItems behaviour program → ⊥
-    none_too_many all (paths, is, h) = let l : items_at_choice behaviour program paths ≤ most_items = all paths ((choices_are_all behaviour.flow program paths forward).1 is) in omega arith
+    pub none_too_many : ((paths : List (List ℕ)) → Contains (choices_of language program) paths
+        → items_at_choice language program paths ≤ most_items) → HasTooManyItems language program → ⊥
+    none_too_many all (paths, is, h) = let l : items_at_choice language program paths ≤ most_items =
+        all paths ((choices_are_all language program paths forward).1 is) in omega arith
 
-  module _ {V : Type 0} (program_of : V → List (List S)) (count : V → ℕ) (visits : V → List (List ℕ) → V → Type 0) (refuses : V → List (List ℕ) → ListFault → Type 0) (program : List (List S)) where
+  module _ {V : Type 0} (program_of : V → List (List S))
+      (count : V → ℕ) (visits : V → List (List ℕ) → V → Type 0) (refuses : V → List (List ℕ) → ListFault → Type 0) (program : List (List S)) where
     -- the counter counts, and refuses for its reasons
     module _ (each : (v : V) (paths : List (List ℕ)) (w : V) → visits v paths w → Counts (program_of v) (count v) paths (program_of w) (count w))
-        (why : (v : V) (paths : List (List ℕ)) (e : ListFault) → refuses v paths e → TellsOfChoice behaviour (program_of v) (count v) paths e) where
+        (why : (v : V) (paths : List (List ℕ)) (e : ListFault) → refuses v paths e → TellsOfChoice language (program_of v) (count v) paths e) where
       counted : (choices : List (List (List ℕ))) (v w : V) → program_of v ≡ program → count v ≤ most_orders → Visited visits choices v w
-          → ((paths : List (List ℕ)) → Contains choices paths → items_at_choice behaviour program paths ≤ most_items) × (count v + orders_of behaviour program choices ≤ most_orders)
+          → ((paths : List (List ℕ))
+          → Contains choices paths → items_at_choice language program paths ≤ most_items) × (count v + orders_of language program choices ≤ most_orders)
       counted [] v w is few h = ((λ paths c. absurd (none_in paths c)), omega arith)
       counted (paths ∷ choices) v w is few (mid, one, rest) =
-          let h : Counts program (count v) paths (program_of mid) (count mid) = subst (λ (p : List (List S)). Counts p (count v) paths (program_of mid) (count mid)) is (each v paths mid one) in
+          let h : Counts program (count v) paths (program_of mid) (count mid) =
+          subst (λ (p : List (List S)). Counts p (count v) paths (program_of mid) (count mid)) is (each v paths mid one) in
           let more = counted choices mid w h.0 h.3 rest in (
             (λ p c. elim (Contains-cons paths p choices c) [
-              | inl e ↦ subst (λ (q : List (List ℕ)). items_at_choice behaviour program q ≤ most_items) e h.1
+              | inl e ↦ subst (λ (q : List (List ℕ)). items_at_choice language program q ≤ most_items) e h.1
               | inr r ↦ more.0 p r
             ]),
             omega (arith, more.1, h.2),
           )
 
-      refused : (choices : List (List (List ℕ))) (v : V) (e : ListFault) → program_of v ≡ program → Refused visits refuses choices v e → Tells program (count v) choices e
+      refused : (choices : List (List (List ℕ))) (v : V) (e : ListFault)
+          → program_of v ≡ program → Refused visits refuses choices v e → Tells program (count v) choices e
       refused [] v e is h = absurd h
-      refused (paths ∷ choices) v e is (inl h) = tells_here program (count v) paths choices e (subst (λ (p : List (List S)). TellsOfChoice behaviour p (count v) paths e) is (why v paths e h))
+      refused (paths ∷ choices) v e is (inl h) = tells_here program (count v) paths choices e
+          (subst (λ (p : List (List S)). TellsOfChoice language p (count v) paths e) is (why v paths e h))
       refused (paths ∷ choices) v e is (inr (mid, one, rest)) =
-          let h : Counts program (count v) paths (program_of mid) (count mid) = subst (λ (p : List (List S)). Counts p (count v) paths (program_of mid) (count mid)) is (each v paths mid one) in
+          let h : Counts program (count v) paths (program_of mid) (count mid) =
+          subst (λ (p : List (List S)). Counts p (count v) paths (program_of mid) (count mid)) is (each v paths mid one) in
           tells_there program (count v) (count mid) paths choices e (omega (arith, h.2)) (refused choices mid e h.0 rest)
 
-      module _ (forward : All (IsForward behaviour.flow) program) where
+      module _ (forward : All (IsForward language) program) where
         -- all choices were counted
-        pub all_counted : (v w : V) → program_of v ≡ program → count v ≡ 0 → Visited visits (choices_of behaviour.flow program) v w
-            → (HasTooManyItems behaviour program → ⊥) × (total_of behaviour program ≤ most_orders)
+        pub all_counted : (v w : V) → program_of v ≡ program → count v ≡ 0 → Visited visits (choices_of language program) v w
+            → (HasTooManyItems language program → ⊥) × (total_of language program ≤ most_orders)
         all_counted v w is none h =
-            let all = counted (choices_of behaviour.flow program) v w is (omega (arith, none)) h in
+            let all = counted (choices_of language program) v w is (omega (arith, none)) h in
             (none_too_many program forward all.0, omega (arith, all.1, none))
 
-        pub count_refused : (v : V) (e : ListFault) → program_of v ≡ program → count v ≡ 0 → Refused visits refuses (choices_of behaviour.flow program) v e → TellsOfChoices behaviour program e
-        count_refused v e is none h = tells_all program forward e (subst (λ (n : ℕ). Tells program n (choices_of behaviour.flow program) e) none (refused (choices_of behaviour.flow program) v e is h))
+        pub count_refused : (v : V) (e : ListFault) → program_of v ≡ program → count v ≡ 0
+            → Refused visits refuses (choices_of language program) v e → TellsOfChoices language program e
+        count_refused v e is none h = tells_all program forward e (subst (λ (n : ℕ). Tells program n
+            (choices_of language program) e) none (refused (choices_of language program) v e is h))
 
     -- one that doesn't count, for its reasons
     module _ (each : (v : V) (paths : List (List ℕ)) (w : V) → visits v paths w → program_of w ≡ program_of v)
-        (why : (v : V) (paths : List (List ℕ)) (e : ListFault) → refuses v paths e → TellsOfChoice behaviour (program_of v) 0 paths e) where
-      uncounted : (choices : List (List (List ℕ))) (v : V) (e : ListFault) → program_of v ≡ program → Refused visits refuses choices v e → Tells program 0 choices e
+        (why : (v : V) (paths : List (List ℕ)) (e : ListFault) → refuses v paths e → TellsOfChoice language (program_of v) 0 paths e) where
+      uncounted : (choices : List (List (List ℕ))) (v : V) (e : ListFault)
+          → program_of v ≡ program → Refused visits refuses choices v e → Tells program 0 choices e
       uncounted [] v e is h = absurd h
-      uncounted (paths ∷ choices) v e is (inl h) = tells_here program 0 paths choices e (subst (λ (p : List (List S)). TellsOfChoice behaviour p 0 paths e) is (why v paths e h))
-      uncounted (paths ∷ choices) v e is (inr (mid, one, rest)) = tells_there program 0 0 paths choices e (omega arith) (uncounted choices mid e (each v paths mid one ∙ is) rest)
+      uncounted (paths ∷ choices) v e is (inl h) = tells_here program 0 paths choices e
+          (subst (λ (p : List (List S)). TellsOfChoice language p 0 paths e) is (why v paths e h))
+      uncounted (paths ∷ choices) v e is (inr (mid, one, rest)) = tells_there program 0 0 paths choices e
+          (omega arith) (uncounted choices mid e (each v paths mid one ∙ is) rest)
 
-      pub visit_refused : All (IsForward behaviour.flow) program → (v : V) (e : ListFault) → program_of v ≡ program → Refused visits refuses (choices_of behaviour.flow program) v e → TellsOfChoices behaviour program e
-      visit_refused forward v e is h = tells_all program forward e (uncounted (choices_of behaviour.flow program) v e is h)
+      pub visit_refused : All (IsForward language) program → (v : V) (e : ListFault) → program_of v ≡ program
+          → Refused visits refuses (choices_of language program) v e → TellsOfChoices language program e
+      visit_refused forward v e is h = tells_all program forward e (uncounted (choices_of language program) v e is h)
 
   -- a refusal of the items, or of their orders, is one of the choice
-  pub items_refused : (program : List (List S)) (before : ℕ) (paths : List (List ℕ)) (e : ListFault) → TellsOfItems behaviour program paths e → TellsOfChoice behaviour program before paths e
+  pub items_refused : (program : List (List S)) (before : ℕ) (paths : List (List ℕ)) (e : ListFault)
+      → TellsOfItems language program paths e → TellsOfChoice language program before paths e
   items_refused program before paths TooManyItems h = h
   items_refused program before paths TooManyOrders h = absurd h
   items_refused program before paths Memory h = tt
 
-  pub given_refused : (program : List (List S)) (paths : List (List ℕ)) (e : ListFault) → TellsOfGiven behaviour program (items_of behaviour program paths) e → TellsOfChoice behaviour program 0 paths e
+  pub given_refused : (program : List (List S)) (paths : List (List ℕ)) (e : ListFault)
+      → TellsOfGiven language program (items_of language program paths) e → TellsOfChoice language program 0 paths e
   given_refused program paths TooManyItems h = absurd h
   given_refused program paths TooManyOrders h = omega (arith, h)
   given_refused program paths Memory h = tt
 
 -- where no choice has too many items, only the orders can be too many
-pub limit_told : {S : Type 0} (behaviour : Behaviour S) (program : List (List S)) → (HasTooManyItems behaviour program → ⊥) → (e : ListFault) → TellsOfChoices behaviour program e → TellsLimit behaviour program e
-limit_told behaviour program few TooManyItems h = h
-limit_told behaviour program few TooManyOrders h = (few, h)
-limit_told behaviour program few Memory h = tt
+pub limit_told : {S : Type 0} (language : Language S) (program : List (List S))
+    → (HasTooManyItems language program → ⊥) → (e : ListFault) → TellsOfChoices language program e → TellsLimit language program e
+limit_told language program few TooManyItems h = h
+limit_told language program few TooManyOrders h = (few, h)
+limit_told language program few Memory h = tt

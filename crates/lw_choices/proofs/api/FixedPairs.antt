@@ -9,7 +9,8 @@ use Rattle.lw_orders.specs.Order.{GoUp, IsWellFormed}
 use Rattle.lw_orders.specs.Limits.{most_items}
 use Rattle.lw_choices.specs.declared.item.Item.{Item}
 use Rattle.lw_choices.specs.declared.item.Last.{Last}
-use Rattle.lw_choices.specs.Items.{Behaviour, item_at, none_before, behind, fixed_at, last_with, last_of, pairs_from, do_conflict, does_wait, fixed_from, constraints_of}
+use Rattle.lw_litmus.specs.Languages.{Language}
+use Rattle.lw_choices.specs.Items.{item_at, none_before, behind, fixed_at, last_with, last_of, pairs_from, do_conflict, does_wait, fixed_from, constraints_of}
 use Rattle.lw_choices.proofs.api.Members.{Contains-here}
 use Rattle.lw_choices.proofs.api.Pairs.{In, All-passing, pairs_up, pairs_have, pairs_rise, Rises-filter, Rises-sorted, Contains-filter}
 
@@ -40,8 +41,10 @@ module _ (whole : List Item) where
       All-cons (GoesAlong len) (m, n) [] (b.0, l, b.1 ∙ sym e) (All-nil (GoesAlong len))
 
   at_goes : (d w : Bool) (last : Last) (n t len : ℕ) → n < len → (item_at whole n).thread ≡ t → AreLast n t last → All (GoesAlong len) (fixed_at d w last n)
-  at_goes true w last n t len l e h = All-append (GoesAlong len) (behind last.statement n) (behind last.drain n) (behind_goes last.statement n t len l e h.statement) (behind_goes last.drain n t len l e h.drain)
-  at_goes false true last n t len l e h = All-append (GoesAlong len) (behind last.statement n) (behind last.drain n) (behind_goes last.statement n t len l e h.statement) (behind_goes last.drain n t len l e h.drain)
+  at_goes true w last n t len l e h = All-append (GoesAlong len)
+      (behind last.statement n) (behind last.drain n) (behind_goes last.statement n t len l e h.statement) (behind_goes last.drain n t len l e h.drain)
+  at_goes false true last n t len l e h = All-append (GoesAlong len)
+      (behind last.statement n) (behind last.drain n) (behind_goes last.statement n t len l e h.statement) (behind_goes last.drain n t len l e h.drain)
   at_goes false false last n t len l e h = behind_goes last.statement n t len l e h.statement
 
   none_last : (n t : ℕ) → AreLast n t none_before
@@ -69,9 +72,10 @@ module _ (whole : List Item) where
   last_on true n t last is h = record { statement = later n t last.statement h.statement; drain = λ m e. one_last n t m (some_same n m e) is }
   last_on false n t last is h = record { statement = λ m e. one_last n t m (some_same n m e) is; drain = later n t last.drain h.drain }
 
-  module _ {S : Type 0} (behaviour : Behaviour S) (program : List (List S)) where
-    along_from : (items : List Item) (n t : ℕ) (last : Last) → ((k : ℕ) (a : Item) → slice_get items k ≡ Some a → (item_at whole (n + k)).thread ≡ a.thread) → AreLast n t last
-        → All (GoesAlong (n + length items)) (fixed_from behaviour program n t last items)
+  module _ {S : Type 0} (language : Language S) (program : List (List S)) where
+    along_from : (items : List Item) (n t : ℕ) (last : Last) → ((k : ℕ) (a : Item)
+        → slice_get items k ≡ Some a → (item_at whole (n + k)).thread ≡ a.thread) → AreLast n t last
+        → All (GoesAlong (n + length items)) (fixed_from language program n t last items)
     along_from [] n t last own h = All-nil (GoesAlong (n + 0))
     along_from (a ∷ items) n t last own h =
         let now : Last = last_of t a.thread last in
@@ -79,9 +83,10 @@ module _ (whole : List Item) where
         let zero_more : n + 0 ≡ n = omega arith in
         let is : (item_at whole n).thread ≡ a.thread = subst (λ (m : ℕ). (item_at whole m).thread ≡ a.thread) zero_more (own 0 a refl) in
         let len : suc n + length items ≡ n + length (a ∷ items) = omega arith in
-        All-append (GoesAlong (n + length (a ∷ items))) (fixed_at a.is_drain (does_wait behaviour program a) now n) (fixed_from behaviour program (suc n) a.thread (last_with a.is_drain now n) items)
-        (at_goes a.is_drain (does_wait behaviour program a) now n a.thread (n + length (a ∷ items)) (omega arith) is there)
-        (subst (λ (m : ℕ). All (GoesAlong m) (fixed_from behaviour program (suc n) a.thread (last_with a.is_drain now n) items)) len
+        All-append (GoesAlong (n + length (a ∷ items)))
+        (fixed_at a.is_drain (does_wait language program a) now n) (fixed_from language program (suc n) a.thread (last_with a.is_drain now n) items)
+        (at_goes a.is_drain (does_wait language program a) now n a.thread (n + length (a ∷ items)) (omega arith) is there)
+        (subst (λ (m : ℕ). All (GoesAlong m) (fixed_from language program (suc n) a.thread (last_with a.is_drain now n) items)) len
         (along_from items (suc n) a.thread (last_with a.is_drain now n) (λ k b e.
         (let more : n + suc k ≡ suc n + k = omega arith in
         subst (λ (m : ℕ). (item_at whole m).thread ≡ b.thread) more (own (suc k) b e))) (last_on a.is_drain n a.thread now is there)))
@@ -103,18 +108,19 @@ behind_has d w last m n e = go d w
     go false true = Contains-append_left (behind last.statement n) (behind last.drain n) (m, n) there
     go false false = there
 
-module _ {S : Type 0} (behaviour : Behaviour S) (program : List (List S)) where
+module _ {S : Type 0} (language : Language S) (program : List (List S)) where
   -- each fixed pair goes up along a thread
-  pub fixed_along : (items : List Item) → All (GoesAlong items (length items)) (constraints_of behaviour program items).fixed
+  pub fixed_along : (items : List Item) → All (GoesAlong items (length items)) (constraints_of language program items).fixed
   fixed_along items =
       let len : 0 + length items ≡ length items = omega arith in
-      subst (λ (n : ℕ). All (GoesAlong items n) (constraints_of behaviour program items).fixed) len
-      (along_from items behaviour program items 0 0 none_before (λ k a e.
+      subst (λ (n : ℕ). All (GoesAlong items n) (constraints_of language program items).fixed) len
+      (along_from items language program items 0 0 none_before (λ k a e.
       (let same : 0 + k ≡ k = omega arith in
       ap (λ (n : ℕ). (item_at items n).thread) same ∙ ap (λ (x : Item). x.thread) (got_at items k a e))) (none_last items 0 0))
 
-  next_from : (items : List Item) (k n t : ℕ) (last : Last) (a b : Item) → slice_get items k ≡ Some a → slice_get items (suc k) ≡ Some b → a.is_drain ≡ false → a.thread ≡ b.thread
-      → Contains (fixed_from behaviour program n t last items) (n + k, n + suc k)
+  next_from : (items : List Item) (k n t : ℕ) (last : Last) (a b : Item) → slice_get items k ≡ Some a
+      → slice_get items (suc k) ≡ Some b → a.is_drain ≡ false → a.thread ≡ b.thread
+      → Contains (fixed_from language program n t last items) (n + k, n + suc k)
   next_from [] k n t last a b ea eb d same = absurd cc
   next_from (x ∷ []) zero n t last a b ea eb d same = absurd cc
   next_from (x ∷ y ∷ items) zero n t last a b ea eb d same =
@@ -125,57 +131,70 @@ module _ {S : Type 0} (behaviour : Behaviour S) (program : List (List S)) where
       let one : x.thread ≡ y.thread = ap (λ (z : Item). z.thread) is_a ∙ (same ∙ ap (λ (z : Item). z.thread) (sym is_b)) in
       let was : (last_of x.thread y.thread (last_with x.is_drain now n)).statement ≡ Some n =
       ap (λ (l : Last). l.statement) (last_same x.thread y.thread (last_with x.is_drain now n) one ∙ mine) in
-      let there : Contains (fixed_at y.is_drain (does_wait behaviour program y) (last_of x.thread y.thread (last_with x.is_drain now n)) (suc n)) (n, suc n) =
-      behind_has y.is_drain (does_wait behaviour program y) (last_of x.thread y.thread (last_with x.is_drain now n)) n (suc n) was in
+      let there : Contains (fixed_at y.is_drain (does_wait language program y) (last_of x.thread y.thread (last_with x.is_drain now n)) (suc n)) (n, suc n) =
+      behind_has y.is_drain (does_wait language program y) (last_of x.thread y.thread (last_with x.is_drain now n)) n (suc n) was in
       let pair : (n + 0 ≡ n) × (n + 1 ≡ suc n) = (omega arith, omega arith) in
-      subst (λ (m : ℕ). Contains {X = ℕ × ℕ} (fixed_from behaviour program n t last (x ∷ y ∷ items)) (m, n + 1)) (sym pair.0)
-      (subst (λ (m : ℕ). Contains {X = ℕ × ℕ} (fixed_from behaviour program n t last (x ∷ y ∷ items)) (n, m)) (sym pair.1)
-      (Contains-append_right (fixed_at x.is_drain (does_wait behaviour program x) now n) (fixed_from behaviour program (suc n) x.thread (last_with x.is_drain now n) (y ∷ items)) (n, suc n)
-      (Contains-append_left (fixed_at y.is_drain (does_wait behaviour program y) (last_of x.thread y.thread (last_with x.is_drain now n)) (suc n)) _ (n, suc n) there)))
+      subst (λ (m : ℕ). Contains {X = ℕ × ℕ} (fixed_from language program n t last (x ∷ y ∷ items)) (m, n + 1)) (sym pair.0)
+      (subst (λ (m : ℕ). Contains {X = ℕ × ℕ} (fixed_from language program n t last (x ∷ y ∷ items)) (n, m)) (sym pair.1)
+      (Contains-append_right (fixed_at x.is_drain (does_wait language program x) now n)
+      (fixed_from language program (suc n) x.thread (last_with x.is_drain now n) (y ∷ items)) (n, suc n)
+      (Contains-append_left (fixed_at y.is_drain (does_wait language program y)
+      (last_of x.thread y.thread (last_with x.is_drain now n)) (suc n)) _ (n, suc n) there)))
   next_from (x ∷ items) (suc k) n t last a b ea eb d same =
       let now : Last = last_of t x.thread last in
       let pair : (suc n + k ≡ n + suc k) × (suc n + suc k ≡ n + suc (suc k)) = (omega arith, omega arith) in
-      subst (λ (m : ℕ). Contains {X = ℕ × ℕ} (fixed_from behaviour program n t last (x ∷ items)) (m, n + suc (suc k))) pair.0
-      (subst (λ (m : ℕ). Contains {X = ℕ × ℕ} (fixed_from behaviour program n t last (x ∷ items)) (suc n + k, m)) pair.1
-      (Contains-append_right (fixed_at x.is_drain (does_wait behaviour program x) now n) (fixed_from behaviour program (suc n) x.thread (last_with x.is_drain now n) items) (suc n + k, suc n + suc k)
+      subst (λ (m : ℕ). Contains {X = ℕ × ℕ} (fixed_from language program n t last (x ∷ items)) (m, n + suc (suc k))) pair.0
+      (subst (λ (m : ℕ). Contains {X = ℕ × ℕ} (fixed_from language program n t last (x ∷ items)) (suc n + k, m)) pair.1
+      (Contains-append_right (fixed_at x.is_drain (does_wait language program x) now n)
+      (fixed_from language program (suc n) x.thread (last_with x.is_drain now n) items) (suc n + k, suc n + suc k)
       (next_from items k (suc n) x.thread (last_with x.is_drain now n) a b ea eb d same)))
 
   -- a statement and the next item of its thread are fixed
-  pub next_fixed : (items : List Item) (k : ℕ) (a b : Item) → slice_get items k ≡ Some a → slice_get items (suc k) ≡ Some b → a.is_drain ≡ false → a.thread ≡ b.thread
-      → Contains (constraints_of behaviour program items).fixed (k, suc k)
+  pub next_fixed : (items : List Item) (k : ℕ) (a b : Item) → slice_get items k ≡ Some a
+      → slice_get items (suc k) ≡ Some b → a.is_drain ≡ false → a.thread ≡ b.thread
+      → Contains (constraints_of language program items).fixed (k, suc k)
   next_fixed items k a b ea eb d same =
       let pair : (0 + k ≡ k) × (0 + suc k ≡ suc k) = (omega arith, omega arith) in
-      let fixed : List (ℕ × ℕ) = (constraints_of behaviour program items).fixed in
+      let fixed : List (ℕ × ℕ) = (constraints_of language program items).fixed in
       subst (λ (m : ℕ). Contains {X = ℕ × ℕ} fixed (m, suc k)) pair.0
       (subst (λ (m : ℕ). Contains {X = ℕ × ℕ} fixed (0 + k, m)) pair.1
       (next_from items k 0 0 none_before a b ea eb d same))
 
   abbrev conflict_at : List Item → ℕ × ℕ → Bool
-  conflict_at items p = do_conflict behaviour program (item_at items p.0) (item_at items p.1)
+  conflict_at items p = do_conflict language program (item_at items p.0) (item_at items p.1)
 
   -- a pair that goes up and conflicts is among the conflicts
-  pub conflict_there : (items : List Item) (i j : ℕ) → i < j → j < length items → do_conflict behaviour program (item_at items i) (item_at items j) ≡ true → Contains (constraints_of behaviour program items).conflicts (i, j)
-  conflict_there items i j less below c = Contains-filter (conflict_at items) (pairs_from 0 (length items)) (i, j) (pairs_have 0 (length items) i j (omega arith) less (omega arith)) c
+  pub conflict_there : (items : List Item) (i j : ℕ) → i < j → j < length items
+      → do_conflict language program (item_at items i) (item_at items j) ≡ true → Contains (constraints_of language program items).conflicts (i, j)
+  conflict_there items i j less below c = Contains-filter (conflict_at items) (pairs_from 0 (length items))
+      (i, j) (pairs_have 0 (length items) i j (omega arith) less (omega arith)) c
 
   -- each of the conflicts does conflict
-  pub conflicts_conflict : (items : List Item) → All (λ (p : ℕ × ℕ). do_conflict behaviour program (item_at items p.0) (item_at items p.1) ≡ true) (constraints_of behaviour program items).conflicts
-  conflicts_conflict items = All-passing (conflict_at items) (In 0 (length items)) (λ p. conflict_at items p ≡ true) (pairs_from 0 (length items)) (pairs_up 0 (length items)) (λ p h e. e)
+  pub conflicts_conflict : (items : List Item) → All (λ (p : ℕ × ℕ). do_conflict language program
+      (item_at items p.0) (item_at items p.1) ≡ true) (constraints_of language program items).conflicts
+  conflicts_conflict items = All-passing (conflict_at items) (In 0 (length items))
+      (λ p. conflict_at items p ≡ true) (pairs_from 0 (length items)) (pairs_up 0 (length items)) (λ p h e. e)
 
-  pub conflicts_up : (items : List Item) → GoUp (length items) (constraints_of behaviour program items).conflicts
-  conflicts_up items = All-passing (conflict_at items) (In 0 (length items)) (λ p. (p.0 < p.1) × (p.1 < length items)) (pairs_from 0 (length items)) (pairs_up 0 (length items)) (λ p h e. (h.1, omega (arith, h.2)))
+  pub conflicts_up : (items : List Item) → GoUp (length items) (constraints_of language program items).conflicts
+  conflicts_up items = All-passing (conflict_at items) (In 0 (length items))
+      (λ p. (p.0 < p.1) × (p.1 < length items)) (pairs_from 0 (length items)) (pairs_up 0 (length items)) (λ p h e. (h.1, omega (arith, h.2)))
 
   -- items that aren't too many are well-formed with their pairs
-  pub constraints_well_formed : (items : List Item) → length items ≤ most_items → IsWellFormed (constraints_of behaviour program items)
+  pub constraints_well_formed : (items : List Item) → length items ≤ most_items → IsWellFormed (constraints_of language program items)
   constraints_well_formed items few = record {
     few = few;
-    fixed_up = All-weaker (GoesAlong items (length items)) (λ (p : ℕ × ℕ). (p.0 < p.1) × (p.1 < length items)) (λ p h. (h.0, h.1)) (constraints_of behaviour program items).fixed (fixed_along items);
+    fixed_up = All-weaker (GoesAlong items (length items)) (λ (p : ℕ × ℕ). (p.0 < p.1) × (p.1 < length items))
+        (λ p h. (h.0, h.1)) (constraints_of language program items).fixed (fixed_along items);
     conflicts_up = conflicts_up items;
-    sorted = Rises-sorted (constraints_of behaviour program items).conflicts (Rises-filter (conflict_at items) (pairs_from 0 (length items)) (pairs_rise 0 (length items)));
+    sorted = Rises-sorted (constraints_of language program items).conflicts
+        (Rises-filter (conflict_at items) (pairs_from 0 (length items)) (pairs_rise 0 (length items)));
   }
 
   -- so are items with pairs that are theirs
-  pub well_formed_with : (items : List Item) (fixed conflicts : List (ℕ × ℕ)) → length items ≤ most_items → fixed ≡ fixed_from behaviour program 0 0 none_before items → conflicts ≡ (constraints_of behaviour program items).conflicts
+  pub well_formed_with : (items : List Item) (fixed conflicts : List (ℕ × ℕ))
+      → length items ≤ most_items → fixed ≡ fixed_from language program 0 0 none_before items → conflicts ≡ (constraints_of language program items).conflicts
       → IsWellFormed (record { len = length items; fixed = fixed; conflicts = conflicts })
   well_formed_with items fixed conflicts few f c =
       subst (λ (ps : List (ℕ × ℕ)). IsWellFormed (record { len = length items; fixed = ps; conflicts = conflicts })) (sym f)
-      (subst (λ (ps : List (ℕ × ℕ)). IsWellFormed (record { len = length items; fixed = fixed_from behaviour program 0 0 none_before items; conflicts = ps })) (sym c) (constraints_well_formed items few))
+      (subst (λ (ps : List (ℕ × ℕ)). IsWellFormed (record { len = length items; fixed = fixed_from language program 0 0 none_before items; conflicts = ps }))
+      (sym c) (constraints_well_formed items few))

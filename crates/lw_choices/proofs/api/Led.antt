@@ -1,10 +1,15 @@
 -- Where statements lead: the list of the positions that may follow one.
-use Rattle.std.proofs.Common.{◌≡◌, ◌≢◌, ℕ, ◌+◌, ◌<◌, ◌≤◌, ◌==◌, Bool, true, false, List, [], ◌∷◌, length, Option, Some, None, refl, sym, ◌∙◌, subst, inl, inr, ◌⊎◌, slice_get, arith}
+use Rattle.std.proofs.Common.{◌≡◌, ◌≢◌, ℕ, ◌+◌, ◌<◌, ◌≤◌, ◌==◌, Bool, true, false, List, [], ◌∷◌, length, Option, Some, None, refl, sym, ap, ◌∙◌, subst, inl, inr, ◌⊎◌, slice_get, arith}
 use Rattle.std.specs.Prelude.{Contains}
-use Rattle.std.proofs.lemmas.Bool.{cases_eq, eq-eqb, ne_eqb, cond-true, cond-false}
-use Rattle.std.proofs.lemmas.Option.{slice_get_within}
+use Rattle.std.proofs.lemmas.Bool.{cases_eq, eq-eqb, ne_eqb, cond-true, cond-false, true≢false}
+use Rattle.std.proofs.lemmas.Option.{slice_get_within, same_Some, none-some}
 use Rattle.lw_base.specs.Lists.{EachOnce}
-use Rattle.lw_choices.specs.Choices.{Flow, IsForward, Follows, next_or, led_to}
+use Rattle.lw_litmus.specs.Languages.{Language}
+use Rattle.lw_litmus.specs.Flow.{Follows}
+use Rattle.lw_litmus.specs.Operations.{target_of, goes_on}
+use Rattle.lw_litmus.specs.declared.operation.Operation.{Operation}
+use Rattle.lw_litmus.specs.declared.operation.Operation.TheVariants.{Set, Sum, Compare, Store, Load, Swap, FetchAdd, Fence, Branch}
+use Rattle.lw_choices.specs.Choices.{IsForward, next_or, led_to, led}
 use Rattle.lw_choices.proofs.api.Members.{none_in, of_one, Contains-here, Contains-there, Contains-cons}
 
 -- where the target is the next position, and where it is another
@@ -47,21 +52,50 @@ led_to-once None goes j = one_once (j + 1)
 led_to-once (Some to) true j = next_or-once (j + 1) to
 led_to-once (Some to) false j = one_once to
 
--- the flow of a code whose jumps lead forward goes on, at most to the end
-pub follows_within : {S : Type 0} (flow : Flow S) (code : List S) (j k : ℕ) → IsForward flow code → Follows flow (slice_get code j) j k → (j < k) × (k ≤ length code)
-follows_within {S} flow code j k is f = go (slice_get code j) refl f
-  where
-    next : (s : S) → slice_get code j ≡ Some s → k ≡ j + 1 → (j < k) × (k ≤ length code)
-    next s e at = let h : j < length code = slice_get_within code j s e in (omega (arith, at), omega (arith, at, h))
+-- the list has what follows, and nothing else
+goes_without : (o : Operation) → target_of o ≡ None → goes_on o ≡ true
+goes_without (Branch c to) e = absurd cc
+goes_without (Set d v) e = refl
+goes_without (Sum d a v) e = refl
+goes_without (Compare a v) e = refl
+goes_without (Store x v) e = refl
+goes_without (Load d x) e = refl
+goes_without (Swap d x a) e = refl
+goes_without (FetchAdd d x v) e = refl
+goes_without Fence e = refl
 
-    jump : (s : S) (to : ℕ) → slice_get code j ≡ Some s → flow.target_of s ≡ Some to → k ≡ to → (j < k) × (k ≤ length code)
-    jump s to e target at = let h : (j < to) × (to ≤ length code) = is j s e to target in (omega (arith, at, h.0), omega (arith, at, h.1))
+led_to-has : (o : Option ℕ) (goes : Bool) (j k : ℕ) → ((goes ≡ true) × (k ≡ j + 1)) ⊎ (o ≡ Some k) → Contains (led_to o goes j) k
+led_to-has None goes j k (inl (g, e)) = Contains-here (j + 1) k [] (sym e)
+led_to-has None goes j k (inr e) = absurd (none-some k e)
+led_to-has (Some to) true j k (inl (g, e)) = next_or-has (j + 1) to k (inr e)
+led_to-has (Some to) false j k (inl (g, e)) = absurd (true≢false (sym g))
+led_to-has (Some to) true j k (inr e) = next_or-has (j + 1) to k (inl (sym (same_Some to k e)))
+led_to-has (Some to) false j k (inr e) = Contains-here to k [] (same_Some to k e)
 
-    led : (s : S) → slice_get code j ≡ Some s → (o : Option ℕ) (goes : Bool) → flow.target_of s ≡ o → Contains (led_to o goes j) k → (j < k) × (k ≤ length code)
-    led s e None goes target c = next s e (of_one (j + 1) k c)
-    led s e (Some to) true target c = elim (next_or-only (j + 1) to k c) [ inl h ↦ jump s to e target h | inr h ↦ next s e h ]
-    led s e (Some to) false target c = jump s to e target (of_one to k c)
+led_to-only : (o : Option ℕ) (goes : Bool) (j k : ℕ) → (o ≡ None → goes ≡ true) → Contains (led_to o goes j) k → ((goes ≡ true) × (k ≡ j + 1)) ⊎ (o ≡ Some k)
+led_to-only None goes j k on c = inl (on refl, of_one (j + 1) k c)
+led_to-only (Some to) true j k on c = elim (next_or-only (j + 1) to k c) [ inl e ↦ inr (ap Some (sym e)) | inr e ↦ inl (refl, e) ]
+led_to-only (Some to) false j k on c = inr (ap Some (sym (of_one to k c)))
 
-    go : (o : Option S) → slice_get code j ≡ o → Follows flow o j k → (j < k) × (k ≤ length code)
-    go None e f = absurd f
-    go (Some s) e f = led s e (flow.target_of s) (flow.goes_on s) refl f
+module _ {S : Type 0} (language : Language S) where
+  pub led-has : (o : Option S) (s : S) (j k : ℕ) → o ≡ Some s → Follows language o j k → Contains (led language s j) k
+  led-has o s j k e f =
+      led_to-has (target_of (language.operation_of s)) (goes_on (language.operation_of s)) j k (subst (λ (o : Option S). Follows language o j k) e f)
+
+  pub led-only : (o : Option S) (s : S) (j k : ℕ) → o ≡ Some s → Contains (led language s j) k → Follows language o j k
+  led-only o s j k e c =
+      subst (λ (o : Option S). Follows language o j k) (sym e)
+      (led_to-only (target_of (language.operation_of s)) (goes_on (language.operation_of s)) j k (goes_without (language.operation_of s)) c)
+
+  -- the flow of a code whose jumps lead forward goes on, at most to the end
+  pub follows_within : (code : List S) (j k : ℕ) → IsForward language code → Follows language (slice_get code j) j k → (j < k) × (k ≤ length code)
+  follows_within code j k is f = go (slice_get code j) refl f
+    where
+      go : (o : Option S) → slice_get code j ≡ o → Follows language o j k → (j < k) × (k ≤ length code)
+      go None e f = absurd f
+      go (Some s) e (inl (goes, at)) = let h : j < length code = slice_get_within code j s e in (omega (arith, at), omega (arith, at, h))
+      go (Some s) e (inr to) = is j s e k to
+
+  pub led_within : (code : List S) (j k : ℕ) (s : S) → IsForward language code
+      → slice_get code j ≡ Some s → Contains (led language s j) k → (j < k) × (k ≤ length code)
+  led_within code j k s is e c = follows_within code j k is (led-only (slice_get code j) s j k e c)

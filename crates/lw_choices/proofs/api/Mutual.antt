@@ -3,7 +3,8 @@ use Rattle.std.proofs.Common.{◌≡◌, ℕ, Bool, ◌&&◌, Option, Some, None
 use Rattle.std.proofs.Math.Bool.{or_comm}
 use Rattle.std.proofs.lemmas.Bool.{cases_eq, eq-eqb, ne_eqb}
 use Rattle.lw_litmus.specs.Conflicts.{is_one}
-use Rattle.lw_choices.specs.Items.{Behaviour, location_by, writes_by, conflict_by}
+use Rattle.lw_litmus.specs.Languages.{Language}
+use Rattle.lw_choices.specs.Items.{location_by, writes_by, conflict_by}
 
 one_sym : (o p : Option ℕ) → is_one o p ≡ is_one p o
 one_sym None None = refl
@@ -14,8 +15,9 @@ one_sym (Some x) (Some y) = elim (cases_eq x y) [
   | inr ne ↦ ne_eqb x y ne ∙ sym (ne_eqb y x (λ e. ne (sym e)))
 ]
 
-pub conflict_mutual : {S : Type 0} (behaviour : Behaviour S) (d e : Bool) (a b : Option S) → conflict_by behaviour d e a b ≡ conflict_by behaviour e d b a
-conflict_mutual behaviour d e None None = refl
-conflict_mutual behaviour d e None (Some b) = refl
-conflict_mutual behaviour d e (Some a) None = refl
-conflict_mutual behaviour d e (Some a) (Some b) = ap₂ (λ (p q : Bool). p && q) (one_sym (location_by behaviour d a) (location_by behaviour e b)) (or_comm (writes_by behaviour d a) (writes_by behaviour e b))
+pub conflict_mutual : {S : Type 0} (language : Language S) (d e : Bool) (a b : Option S) → conflict_by language d e a b ≡ conflict_by language e d b a
+conflict_mutual language d e None None = refl
+conflict_mutual language d e None (Some b) = refl
+conflict_mutual language d e (Some a) None = refl
+conflict_mutual language d e (Some a) (Some b) =
+    ap₂ (λ (p q : Bool). p && q) (one_sym (location_by language d a) (location_by language e b)) (or_comm (writes_by language d a) (writes_by language e b))

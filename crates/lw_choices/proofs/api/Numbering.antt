@@ -1,131 +1,299 @@
--- The numbers of items: they are counted row by row, a row for each thread. Where an item stands, and of which thread it is.
-use Rattle.std.proofs.Common.{◌≡◌, true, false, ℕ, zero, suc, ◌+◌, ◌-◌, ◌<◌, List, [], ◌∷◌, ◌++◌, length, Option, Some, None, refl, ap, ◌∙◌, subst, inl, inr, slice_get, arith, length-append}
-use Rattle.std.specs.Prelude.{All}
+-- The items of a choice of paths: the statements on them and the drains of their stores, thread by thread, and how their numbers
+-- go along the paths.
+use Rattle.std.proofs.Common.{◌≡◌, ℕ, zero, suc, ◌+◌, ◌<◌, ◌≤◌, ◌⊎◌, inl, inr, List, [], ◌∷◌, ◌++◌, length, Option, Some, None, Bool, true, false, refl, sym, ap, ◌∙◌, subst, arith, slice_get}
+use Rattle.std.specs.Prelude.{All, Contains}
 use Rattle.std.specs.Option.{option_map_or}
-use Rattle.std.proofs.lemmas.Bool.{cases_lt}
-use Rattle.std.proofs.lemmas.Option.{get_or_from_slice_get, slice_get_within}
-use Rattle.std.proofs.lemmas.List.Elements.{All-nil, All-cons, All-append}
-use Rattle.lw_base.proofs.api.Lists.{get_some}
+use Rattle.std.proofs.lemmas.Bool.{true≢false, cases_order}
+use Rattle.std.proofs.lemmas.List.{get_or_default}
+use Rattle.std.proofs.lemmas.List.Elements.{All-nil, All-cons, All-append, All-head, All-tail, All-weaker, All-get_or, Contains-append_left, Contains-append_right}
+use Rattle.lw_base.specs.Threads.{code_of}
+use Rattle.lw_litmus.specs.Flow.{IsPathFrom}
+use Rattle.lw_litmus.specs.Languages.{Language}
+use Rattle.lw_choices.specs.Choices.{IsForward, IsChoice}
 use Rattle.lw_choices.specs.declared.item.Item.{Item}
-use Rattle.lw_choices.specs.Items.{item_at, items_at, path_items, items_from, items_of, Behaviour}
+use Rattle.lw_choices.specs.Items.{item_at, items_at, path_items, items_from, items_of, drains}
+use Rattle.lw_choices.proofs.api.Led.{follows_within}
+use Rattle.lw_choices.proofs.api.Members.{Contains-here, Contains-there}
 
--- one row after another
-abbrev pub joined : {X : Type 0} → List (List X) → List X
-joined [] = []
-joined (row ∷ rows) = row ++ joined rows
+abbrev pub In : ℕ → List ℕ → Type 0
+In x [] = ⊥
+In x (y ∷ ys) = (y ≡ x) ⊎ In x ys
 
--- the number of the first of a row
-abbrev pub start_at : {X : Type 0} → List (List X) → ℕ → ℕ
-start_at [] t = 0
-start_at (row ∷ rows) zero = 0
-start_at (row ∷ rows) (suc t) = length row + start_at rows t
+-- each item is related to all behind it
+abbrev pub Pairwise : (Item → Item → Type 0) → List Item → Type 0
+Pairwise R [] = Unit {0}
+Pairwise R (a ∷ items) = All (R a) items × Pairwise R items
 
-pub get-append_right : {X : Type 0} (xs ys : List X) (n k : ℕ) → n ≡ length xs + k → slice_get (xs ++ ys) n ≡ slice_get ys k
-get-append_right [] ys n k e = let same : n ≡ k = omega arith in ap (slice_get ys) same
-get-append_right (x ∷ xs) ys zero k e = absurd (omega arith)
-get-append_right (x ∷ xs) ys (suc n) k e = get-append_right xs ys n k (omega arith)
+pairwise_append : (R : Item → Item → Type 0) (xs ys : List Item) → Pairwise R xs → Pairwise R ys → All (λ x. All (R x) ys) xs → Pairwise R (xs ++ ys)
+pairwise_append R [] ys h g a = g
+pairwise_append R (x ∷ xs) ys h g a = (
+  All-append (R x) xs ys h.0 (a 0 x (omega arith)),
+  pairwise_append R xs ys h.1 g (λ k d l. a (suc k) d (omega arith)),
+)
 
-pub get-append_left : {X : Type 0} (xs ys : List X) (n : ℕ) (x : X) → slice_get xs n ≡ Some x → slice_get (xs ++ ys) n ≡ Some x
-get-append_left [] ys n x e = absurd cc
-get-append_left (z ∷ xs) ys zero x e = e
-get-append_left (z ∷ xs) ys (suc n) x e = get-append_left xs ys n x e
+pairwise_all : (R : Item → Item → Type 0) (P : Item → Type 0) → ((a b : Item) → P a → P b → R a b) → (xs : List Item) → All P xs → Pairwise R xs
+pairwise_all R P f [] h = tt
+pairwise_all R P f (x ∷ xs) h =
+    let rest : All P xs = All-tail P x xs h in
+    (All-weaker P (R x) (λ b. f x b (All-head P x xs h)) xs rest, pairwise_all R P f xs rest)
 
--- what stands at the k-th place of a row
-pub got_joined : {X : Type 0} (rows : List (List X)) (t k n : ℕ) (row : List X) (x : X) → n ≡ start_at rows t + k → slice_get rows t ≡ Some row → slice_get row k ≡ Some x → slice_get (joined rows) n ≡ Some x
-got_joined [] t k n row x en et ek = absurd cc
-got_joined {X = X} (r ∷ rows) zero k n row x en et ek =
-    let same : row ≡ r = cc in
-    let is_k : k ≡ n = omega arith in
-    get-append_left r (joined rows) n x (subst (λ m. slice_get r m ≡ Some x) is_k (subst (λ (q : List X). slice_get q k ≡ Some x) same ek))
-got_joined (r ∷ rows) (suc t) k n row x en et ek =
-    get-append_right r (joined rows) n (start_at rows t + k) (omega arith)
-    ∙ got_joined rows t k (start_at rows t + k) row x refl et ek
+pairwise_at : (R : Item → Item → Type 0) (xs : List Item) (i j : ℕ) → Pairwise R xs → i < j → j < length xs → R (item_at xs i) (item_at xs j)
+pairwise_at R [] i j h less l = absurd (omega arith)
+pairwise_at R (x ∷ xs) i zero h less l = absurd (omega arith)
+pairwise_at R (x ∷ xs) zero (suc j) h less l = All-get_or (R x) xs j _ (omega arith) h.0
+pairwise_at R (x ∷ xs) (suc i) (suc j) h less l = pairwise_at R xs i j h.1 (omega arith) (omega arith)
 
--- what holds of each holds of that at a place
-pub All-at : {X : Type 0} (P : X → Type 0) (xs : List X) (k : ℕ) (x : X) → All P xs → slice_get xs k ≡ Some x → P x
-All-at P xs k x all e = subst P (get_or_from_slice_get xs k x x e) (all k x (slice_get_within xs k x e))
+-- an item has a number
+abbrev pub Has : List Item → Item → Type 0
+Has items a = (i : ℕ) × (i < length items) × (item_at items i ≡ a)
 
--- where the i-th of all stands
-pub record Stands {X : Type 0} (rows : List (List X)) (i : ℕ) : Type 0 where
-  pub thread : ℕ
-  pub at : ℕ
-  pub it : X
-  pub row : List X
-  pub has_row : slice_get rows thread ≡ Some row
-  pub there : slice_get row at ≡ Some it
-  pub number : i ≡ start_at rows thread + at
+-- a statement on a thread's path, or the drain of the store there
+abbrev pub item : ℕ → ℕ → Bool → Item
+item t j b = record { thread = t; position = j; is_drain = b }
 
-pub stands : {X : Type 0} (rows : List (List X)) (i : ℕ) → i < length (joined rows) → Stands rows i
-stands [] i l = absurd (omega arith)
-stands {X = X} (r ∷ rows) i l = elim (cases_lt i (length r)) [
-  | inl h ↦ (let x : (x : X) × (slice_get r i ≡ Some x) = get_some r i h in
-      record { thread = 0; at = i; it = x.0; row = r; has_row = refl; there = x.1; number = omega arith })
-  | inr h ↦ (let rest : i - length r < length (joined rows) = omega (arith, length-append r (joined rows)) in
-      let s : Stands rows (i - length r) = stands rows (i - length r) rest in
-      record { thread = suc s.thread; at = s.at; it = s.it; row = s.row; has_row = s.has_row; there = s.there; number = let e : i - length r ≡ start_at rows s.thread + s.at = s.number in omega arith })
-]
+-- a thread's items by their places on the path: a store's drain comes behind it
+abbrev pub slot_by : Bool → ℕ → ℕ
+slot_by false j = j + j
+slot_by true j = suc (j + j)
 
-module _ {S : Type 0} (behaviour : Behaviour S) where
-  -- the items of each thread
-  abbrev pub rows_from : ℕ → List (List S) → List (List ℕ) → List (List Item)
-  rows_from u [] paths = []
-  rows_from u (code ∷ program) [] = []
-  rows_from u (code ∷ program) (path ∷ paths) = path_items behaviour u code path ∷ rows_from (suc u) program paths
+abbrev pub slot : Item → ℕ
+slot a = slot_by a.is_drain a.position
 
-  pub items_joined : (u : ℕ) (program : List (List S)) (paths : List (List ℕ)) → items_from behaviour u program paths ≡ joined (rows_from u program paths)
-  items_joined u [] paths = refl
-  items_joined u (code ∷ program) [] = refl
-  items_joined u (code ∷ program) (path ∷ paths) = ap (λ items. path_items behaviour u code path ++ items) (items_joined (suc u) program paths)
+-- of one thread, the one comes before the other
+abbrev IsLower : Item → Item → Type 0
+IsLower a b = a.thread ≡ b.thread → slot a < slot b
 
-  -- the items of a statement are of its thread
-  of_thread : (u j : ℕ) (o : Option S) → All (λ (a : Item). a.thread ≡ u) (items_at behaviour u j o)
-  of_thread u j None = All-nil (λ (a : Item). a.thread ≡ u)
-  of_thread u j (Some s) = All-cons (λ (a : Item). a.thread ≡ u) _ _ refl (go (behaviour.drains s))
+abbrev IsNoLater : Item → Item → Type 0
+IsNoLater a b = a.thread ≤ b.thread
+
+pub slot_less : (b c : Bool) (j k : ℕ) → j < k → slot_by b j < slot_by c k
+slot_less true true j k l = omega arith
+slot_less true false j k l = omega arith
+slot_less false true j k l = omega arith
+slot_less false false j k l = omega arith
+
+pub store_slot : (b c : Bool) (j k : ℕ) → b ≡ false → c ≡ true → j ≡ k → slot_by b j < slot_by c k
+store_slot false true j k e f g = omega arith
+store_slot false false j k e f g = absurd (true≢false (sym f))
+store_slot true c j k e f g = absurd (true≢false e)
+
+-- numbers from low on, each greater than the one before
+abbrev pub GoesUp : ℕ → List ℕ → Type 0
+GoesUp low [] = Unit {0}
+GoesUp low (k ∷ path) = (low ≤ k) × GoesUp (suc k) path
+
+pub goes_up_in : (low j : ℕ) (path : List ℕ) → GoesUp low path → In j path → low ≤ j
+goes_up_in low j [] u h = absurd h
+goes_up_in low j (k ∷ path) u (inl e) = omega (arith, u.0)
+goes_up_in low j (k ∷ path) u (inr h) = omega (arith, u.0, goes_up_in (suc k) j path u.1 h)
+
+goes_up_less : (low l : ℕ) (path : List ℕ) → l ≤ low → GoesUp low path → GoesUp l path
+goes_up_less low l [] le u = tt
+goes_up_less low l (k ∷ path) le u = (omega (arith, u.0), u.1)
+
+module _ {S : Type 0} (language : Language S) where
+  -- a statement whose entry is drained
+  abbrev pub IsStoring : S → Type 0
+  IsStoring s = (x : ℕ) × (drains language s ≡ Some x)
+
+  -- what holds of each statement on a path, and of the drain of each store there
+  abbrev OnPath : (Item → Type 0) → ℕ → List S → List ℕ → Type 0
+  OnPath P t code path = (j : ℕ) (s : S) (b : Bool) → In j path → slice_get code j ≡ Some s → (b ≡ true → IsStoring s) → P (item t j b)
+
+  each_here : (P : Item → Type 0) (t j : ℕ) (o : Option S) → ((s : S) (b : Bool)
+      → o ≡ Some s → (b ≡ true → IsStoring s) → P (item t j b)) → All P (items_at language t j o)
+  each_here P t j None f = All-nil P
+  each_here P t j (Some s) f = All-cons P (item t j false) _ (f s false refl (λ d. absurd (true≢false (sym d)))) (go (drains language s) refl)
     where
-      go : (o : Option ℕ) → All (λ (a : Item). a.thread ≡ u) (option_map_or (λ x. record { thread = u; position = j; is_drain = true } ∷ []) o [])
-      go None = All-nil (λ (a : Item). a.thread ≡ u)
-      go (Some x) = All-cons (λ (a : Item). a.thread ≡ u) _ [] refl (All-nil (λ (a : Item). a.thread ≡ u))
+      go : (d : Option ℕ) → drains language s ≡ d → All P (option_map_or (λ x. item t j true ∷ []) d [])
+      go None e = All-nil P
+      go (Some x) e = All-cons P (item t j true) [] (f s true refl (λ d. (x, e))) (All-nil P)
 
-  path_of_thread : (u : ℕ) (code : List S) (path : List ℕ) → All (λ (a : Item). a.thread ≡ u) (path_items behaviour u code path)
-  path_of_thread u code [] = All-nil (λ (a : Item). a.thread ≡ u)
-  path_of_thread u code (j ∷ path) =
-      All-append (λ (a : Item). a.thread ≡ u) (items_at behaviour u j (slice_get code j)) (path_items behaviour u code path)
-      (of_thread u j (slice_get code j)) (path_of_thread u code path)
+  each_thread : (P : Item → Type 0) (t : ℕ) (code : List S) (path : List ℕ) → OnPath P t code path → All P (path_items language t code path)
+  each_thread P t code [] f = All-nil P
+  each_thread P t code (j ∷ path) f =
+      All-append P (items_at language t j (slice_get code j)) (path_items language t code path)
+      (each_here P t j (slice_get code j) (λ s b. f j s b (inl refl))) (each_thread P t code path (λ k s b h. f k s b (inr h)))
 
-  -- so are those of a row
-  pub row_of_thread : (u w : ℕ) (program : List (List S)) (paths : List (List ℕ)) (t : ℕ) (row : List Item) → w ≡ u + t → slice_get (rows_from u program paths) t ≡ Some row → All (λ (a : Item). a.thread ≡ w) row
-  row_of_thread u w [] paths t row ew e = absurd cc
-  row_of_thread u w (code ∷ program) [] t row ew e = absurd cc
-  row_of_thread u w (code ∷ program) (path ∷ paths) zero row ew e =
-      let same : path_items behaviour u code path ≡ row = cc in
-      let is_u : u ≡ w = omega arith in
-      subst (λ (v : ℕ). All (λ (a : Item). a.thread ≡ v) row) is_u (subst (λ (r : List Item). All (λ (a : Item). a.thread ≡ u) r) same (path_of_thread u code path))
-  row_of_thread u w (code ∷ program) (path ∷ paths) (suc t) row ew e = row_of_thread (suc u) w program paths t row (omega arith) e
+  -- holds of each item
+  each_item : (P : Item → Type 0) (t : ℕ) (program : List (List S)) (paths : List (List ℕ))
+      → ((k : ℕ) → k < length program → OnPath P (t + k) (code_of program k) (code_of paths k)) → All P (items_from language t program paths)
+  each_item P t [] paths f = All-nil P
+  each_item P t (code ∷ program) [] f = All-nil P
+  each_item P t (code ∷ program) (path ∷ paths) f =
+      let here : t + 0 ≡ t = omega arith in
+      All-append P (path_items language t code path) (items_from language (suc t) program paths)
+      (each_thread P t code path (subst (λ (k : ℕ). OnPath P k code path) here (f 0 (omega arith))))
+      (each_item P (suc t) program paths (λ k l. let next : t + suc k ≡ suc t + k = omega arith in
+      subst (λ (n : ℕ). OnPath P n (code_of program k) (code_of paths k)) next (f (suc k) (omega arith))))
+
+  -- and each statement on the paths, and each drain of a store there, is an item
+  has_here : (t j : ℕ) (s : S) (b : Bool) → (b ≡ true → IsStoring s) → Contains (items_at language t j (Some s)) (item t j b)
+  has_here t j s false store = Contains-here (item t j false) (item t j false) _ refl
+  has_here t j s true store =
+      Contains-there (item t j false) (item t j true) _
+      (subst (λ (o : Option ℕ). Contains (option_map_or (λ x. item t j true ∷ []) o []) (item t j true))
+      (sym (store refl).1) (Contains-here (item t j true) (item t j true) [] refl))
+
+  has_thread : (t : ℕ) (code : List S) (path : List ℕ) (j : ℕ) (a : Item) → In j path
+      → Contains (items_at language t j (slice_get code j)) a → Contains (path_items language t code path) a
+  has_thread t code [] j a h g = absurd h
+  has_thread t code (k ∷ path) j a (inl same) g =
+      Contains-append_left (items_at language t k (slice_get code k)) (path_items language t code path) a
+      (subst (λ (n : ℕ). Contains (items_at language t n (slice_get code n)) a) (sym same) g)
+  has_thread t code (k ∷ path) j a (inr h) g =
+      Contains-append_right (items_at language t k (slice_get code k)) (path_items language t code path) a (has_thread t code path j a h g)
+
+  has_from : (t : ℕ) (program : List (List S)) (paths : List (List ℕ)) (k j : ℕ) (a : Item)
+      → length paths ≡ length program → k < length program → In j (code_of paths k)
+      → Contains (items_at language (t + k) j (slice_get (code_of program k) j)) a → Contains (items_from language t program paths) a
+  has_from t [] paths k j a len l h g = absurd (omega arith)
+  has_from t (code ∷ program) [] k j a len l h g = absurd (omega arith)
+  has_from t (code ∷ program) (path ∷ paths) zero j a len l h g =
+      let here : t + 0 ≡ t = omega arith in
+      Contains-append_left (path_items language t code path) (items_from language (suc t) program paths) a
+      (has_thread t code path j a h (subst (λ (n : ℕ). Contains (items_at language n j (slice_get code j)) a) here g))
+  has_from t (code ∷ program) (path ∷ paths) (suc k) j a len l h g =
+      let next : t + suc k ≡ suc t + k = omega arith in
+      Contains-append_right (path_items language t code path) (items_from language (suc t) program paths) a
+      (has_from (suc t) program paths k j a (omega arith) (omega arith) h
+      (subst (λ (n : ℕ). Contains (items_at language n j (slice_get (code_of program k) j)) a) next g))
+
+  here_sorted : (t j : ℕ) (o : Option S) → Pairwise IsLower (items_at language t j o)
+  here_sorted t j None = tt
+  here_sorted t j (Some s) = go (drains language s)
+    where
+      go : (d : Option ℕ) → Pairwise IsLower (item t j false ∷ option_map_or (λ x. item t j true ∷ []) d [])
+      go None = (All-nil (IsLower (item t j false)), tt)
+      go (Some x) = (
+        All-cons (IsLower (item t j false)) (item t j true) []
+            (λ same. omega arith) (All-nil (IsLower (item t j false))),
+        (All-nil (IsLower (item t j true)), tt),
+      )
+
+  thread_sorted : (t low : ℕ) (code : List S) (path : List ℕ) → GoesUp low path → Pairwise IsLower (path_items language t code path)
+  thread_sorted t low code [] u = tt
+  thread_sorted t low code (j ∷ path) u =
+      pairwise_append IsLower (items_at language t j (slice_get code j)) (path_items language t code path)
+      (here_sorted t j (slice_get code j)) (thread_sorted t (suc j) code path u.1)
+      (each_here (λ (a : Item). All (IsLower a) (path_items language t code path)) t j (slice_get code j) (λ s b e store.
+      each_thread (IsLower (item t j b)) t code path (λ k z c h f g same. slot_less b c j k (goes_up_in (suc j) k path u.1 h))))
+
+  all_sorted : (t : ℕ) (program : List (List S)) (paths : List (List ℕ)) → ((k : ℕ) → k < length program
+      → GoesUp 0 (code_of paths k)) → Pairwise IsLower (items_from language t program paths)
+  all_sorted t [] paths u = tt
+  all_sorted t (code ∷ program) [] u = tt
+  all_sorted t (code ∷ program) (path ∷ paths) u =
+      pairwise_append IsLower (path_items language t code path) (items_from language (suc t) program paths) (thread_sorted t 0 code path (u 0 (omega arith)))
+      (all_sorted (suc t) program paths (λ k l. u (suc k) (omega arith)))
+      (each_thread (λ (a : Item). All (IsLower a) (items_from language (suc t) program paths)) t code path (λ j s b h e store.
+      each_item (IsLower (item t j b)) (suc t) program paths (λ k l i z c g f store same. absurd (omega arith))))
+
+  threads_sorted : (t : ℕ) (program : List (List S)) (paths : List (List ℕ)) → Pairwise IsNoLater (items_from language t program paths)
+  threads_sorted t [] paths = tt
+  threads_sorted t (code ∷ program) [] = tt
+  threads_sorted t (code ∷ program) (path ∷ paths) =
+      let own : All (λ (a : Item). a.thread ≡ t) (path_items language t code path) =
+      each_thread (λ (a : Item). a.thread ≡ t) t code path (λ j s b h e store. refl) in
+      let later : All (λ (a : Item). t ≤ a.thread) (items_from language (suc t) program paths) =
+      each_item (λ (a : Item). t ≤ a.thread) (suc t) program paths (λ k l j s b h e store. omega arith) in
+      pairwise_append IsNoLater (path_items language t code path) (items_from language (suc t) program paths)
+      (pairwise_all IsNoLater (λ (a : Item). a.thread ≡ t) (λ a b e f. omega (arith, e, f)) (path_items language t code path) own)
+      (threads_sorted (suc t) program paths)
+      (All-weaker (λ (a : Item). a.thread ≡ t) (λ (a : Item). All (IsNoLater a) (items_from language (suc t) program paths))
+      (λ a e. All-weaker (λ (b : Item). t ≤ b.thread) (IsNoLater a) (λ b l. omega (arith, e, l)) (items_from language (suc t) program paths) later)
+      (path_items language t code path) own)
+
+  -- a path goes up
+  pub path_up : (code : List S) (j : ℕ) (path : List ℕ) → IsForward language code → IsPathFrom language code j path → GoesUp j path
+  path_up code j [] forward f = tt
+  path_up code j (k ∷ path) forward (same, next, follows, rest) =
+      let w : (j < next) × (next ≤ length code) = follows_within language code j next forward follows in
+      (omega arith, goes_up_less next (suc k) path (omega (arith, w.0)) (path_up code next path forward rest))
+
+  -- a choice has a path for each thread, and it is whole
+  pub as_many : (program : List (List S)) (paths : List (List ℕ)) → IsChoice language program paths → length paths ≡ length program
+  as_many [] [] c = refl
+  as_many [] (path ∷ paths) c = absurd c
+  as_many (code ∷ program) [] c = absurd c
+  as_many (code ∷ program) (path ∷ paths) c = ap suc (as_many program paths c.1)
+
+  whole : (program : List (List S)) (paths : List (List ℕ)) → IsChoice language program paths
+      → (t : ℕ) → t < length program → IsPathFrom language (code_of program t) 0 (code_of paths t)
+  whole [] paths c t l = absurd (omega arith)
+  whole (code ∷ program) [] c t l = absurd c
+  whole (code ∷ program) (path ∷ paths) c zero l = c.0
+  whole (code ∷ program) (path ∷ paths) c (suc t) l = whole program paths c.1 t (omega arith)
 
   module _ (program : List (List S)) (paths : List (List ℕ)) where
-    abbrev pub rows_of : List (List Item)
-    rows_of = rows_from 0 program paths
+    abbrev items : List Item
+    items = items_of language program paths
 
-    -- the item at the k-th place of a thread's row
-    pub item_there : (t k : ℕ) (row : List Item) (a : Item) → slice_get rows_of t ≡ Some row → slice_get row k ≡ Some a → slice_get (items_of behaviour program paths) (start_at rows_of t + k) ≡ Some a
-    item_there t k row a et ek =
-        ap (λ (items : List Item). slice_get items (start_at rows_of t + k)) (items_joined 0 program paths)
-        ∙ got_joined rows_of t k (start_at rows_of t + k) row a refl et ek
+    abbrev at : ℕ → Item
+    at i = item_at items i
 
-    pub item_is : (t k : ℕ) (row : List Item) (a : Item) → slice_get rows_of t ≡ Some row → slice_get row k ≡ Some a → item_at (items_of behaviour program paths) (start_at rows_of t + k) ≡ a
-    item_is t k row a et ek =
-        get_or_from_slice_get (items_of behaviour program paths) (start_at rows_of t + k) a (record { thread = 0; position = 0; is_drain = false })
-        (item_there t k row a et ek)
+    pub item_there : (t j : ℕ) (s : S) (b : Bool) → length paths ≡ length program
+        → t < length program → In j (code_of paths t) → slice_get (code_of program t) j ≡ Some s → (b ≡ true → IsStoring s) → Has items (item t j b)
+    item_there t j s b len l h e store =
+        let there : Contains (items_at language t j (slice_get (code_of program t) j)) (item t j b) =
+        subst (λ (o : Option S). Contains (items_at language t j o) (item t j b)) (sym e) (has_here t j s b store) in
+        let z : t ≡ 0 + t = omega arith in
+        let c : Contains items (item t j b) = has_from 0 program paths t j
+        (item t j b) len l h (subst (λ (n : ℕ). Contains (items_at language n j (slice_get (code_of program t) j)) (item t j b)) z there) in
+        (c.0, c.1, get_or_default items c.0 _ (item t j b) c.1 ∙ c.2)
 
-    -- each number is that of an item of some row
-    pub item_stands : (i : ℕ) → i < length (items_of behaviour program paths) → Stands rows_of i
-    item_stands i l = stands rows_of i (omega (arith, l, ap length (items_joined 0 program paths)))
+    -- what an item of a choice is
+    pub record IsReal (a : Item) : Type 0 where
+      pub statement : S
+      pub within : a.thread < length program
+      pub on : In a.position (code_of paths a.thread)
+      pub at : slice_get (code_of program a.thread) a.position ≡ Some statement
+      pub store : a.is_drain ≡ true → IsStoring statement
 
-    pub it_is : (i : ℕ) (a : Stands rows_of i) → item_at (items_of behaviour program paths) i ≡ a.it
-    it_is i a = ap (item_at (items_of behaviour program paths)) a.number ∙ item_is a.thread a.at a.row a.it a.has_row a.there
+    all_real : All IsReal items
+    all_real =
+        each_item IsReal 0 program paths (λ k l j s b h e store. let z : k ≡ 0 + k = omega arith in
+        subst (λ (n : ℕ). IsReal (item n j b)) z (record { statement = s; within = l; on = h; at = e; store = store }))
 
-    -- and it is of the row's thread
-    pub its_thread : (i : ℕ) (a : Stands rows_of i) → (item_at (items_of behaviour program paths) i).thread ≡ a.thread
-    its_thread i a =
-        ap (λ (x : Item). x.thread) (it_is i a)
-        ∙ All-at (λ (x : Item). x.thread ≡ a.thread) a.row a.at a.it (row_of_thread 0 a.thread program paths a.thread a.row (omega arith) a.has_row) a.there
+    pub real : (i : ℕ) → i < length items → IsReal (at i)
+    real i l = All-get_or IsReal items i _ l all_real
+
+    -- the threads go up with the numbers
+    pub threads_up : (i j : ℕ) → i ≤ j → j < length items → (at i).thread ≤ (at j).thread
+    threads_up i j le l = elim (cases_order i j) [
+      | inl e ↦ (let f : (at i).thread ≡ (at j).thread = ap (λ k. (at k).thread) e in omega arith)
+      | inr (inl less) ↦ pairwise_at IsNoLater items i j (threads_sorted 0 program paths) less l
+      | inr (inr more) ↦ absurd (omega arith)
+    ]
+
+    module _ (forward : (t : ℕ) → IsForward language (code_of program t)) (choice : IsChoice language program paths) where
+      -- places on the path go up with the numbers
+      pub slot_goes_up : (i j : ℕ) → i < j → j < length items → (at i).thread ≡ (at j).thread → slot (at i) < slot (at j)
+      slot_goes_up i j less l same =
+          pairwise_at IsLower items i j (all_sorted 0 program paths (λ t l. path_up (code_of program t) 0
+          (code_of paths t) (forward t) (whole program paths choice t l))) less l same
+
+      -- and numbers with the places
+      pub number_less : (i j : ℕ) → i < length items → (at i).thread ≡ (at j).thread → slot (at i) < slot (at j) → i < j
+      number_less i j li same less = elim (cases_order i j) [
+        | inl e ↦ absurd (let f : slot (at i) ≡ slot (at j) = ap (λ k. slot (at k)) e in omega arith)
+        | inr (inl l) ↦ l
+        | inr (inr g) ↦ absurd (omega (arith, less, slot_goes_up j i g li (sym same)))
+      ]
+
+      -- a thread and a place on its path name one item
+      pub same_number : (i j : ℕ) → i < length items → j < length items → (at i).thread ≡ (at j).thread
+          → (at i).position ≡ (at j).position → (at i).is_drain ≡ (at j).is_drain → i ≡ j
+      same_number i j li lj same place kind =
+          let e : slot (at i) ≡ slot (at j) = ap (λ b. slot_by b (at i).position) kind ∙ ap (λ k. slot_by (at j).is_drain k) place in
+          elim (cases_order i j) [
+            | inl is ↦ is
+            | inr (inl l) ↦ absurd (omega (arith, slot_goes_up i j l lj same))
+            | inr (inr g) ↦ absurd (omega (arith, slot_goes_up j i g li (sym same)))
+          ]
+
+      -- the statement at the place of an item, and the drain of the store there
+      pub beside : (i : ℕ) (b : Bool) (l : i < length items) → (b ≡ true → IsStoring (real i l).statement) → Has items (item (at i).thread (at i).position b)
+      beside i b l store =
+          let r : IsReal (at i) = real i l in
+          item_there (at i).thread (at i).position r.statement b (as_many program paths choice) r.within r.on r.at store

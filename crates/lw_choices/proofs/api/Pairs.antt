@@ -18,7 +18,8 @@ filter_skips p x xs e = cond-false-is (p x) (x ∷ filter p xs) (filter p xs) e
     cond-false-is true x y e = absurd cc
     cond-false-is false x y e = refl
 
-filter_has : {X : Type 0} (p : X → Bool) (z x : X) (xs : List X) (b : Bool) → p z ≡ b → p x ≡ true → (z ≡ x) ⊎ Contains xs x → (Contains xs x → Contains (filter p xs) x) → Contains (filter p (z ∷ xs)) x
+filter_has : {X : Type 0} (p : X → Bool) (z x : X) (xs : List X) (b : Bool) → p z ≡ b → p x ≡ true
+    → (z ≡ x) ⊎ Contains xs x → (Contains xs x → Contains (filter p xs) x) → Contains (filter p (z ∷ xs)) x
 filter_has {X = X} p z x xs true e h cs rest = subst (λ (ys : List X). Contains ys x) (sym (filter_takes p z xs e)) (elim cs [
   | inl same ↦ Contains-here z x (filter p xs) same
   | inr c ↦ Contains-there z x (filter p xs) (rest c)
@@ -38,7 +39,9 @@ All-passing p P Q xs all step k d l = step _ (All-filter p P xs all k d l) (filt
 
 pub numbers_up : (k n : ℕ) → All (λ j. (k ≤ j) × (j < k + n)) (numbers k n)
 numbers_up k zero = All-nil (λ (j : ℕ). (k ≤ j) × (j < k + zero))
-numbers_up k (suc n) = All-cons (λ (j : ℕ). (k ≤ j) × (j < k + suc n)) k (numbers (suc k) n) (omega arith, omega arith) (All-weaker (λ (j : ℕ). (suc k ≤ j) × (j < suc k + n)) (λ (j : ℕ). (k ≤ j) × (j < k + suc n)) (λ j h. (omega arith, omega arith)) (numbers (suc k) n) (numbers_up (suc k) n))
+numbers_up k (suc n) = All-cons (λ (j : ℕ). (k ≤ j) × (j < k + suc n)) k (numbers (suc k) n)
+    (omega arith, omega arith) (All-weaker (λ (j : ℕ). (suc k ≤ j) × (j < suc k + n)) (λ (j : ℕ).
+    (k ≤ j) × (j < k + suc n)) (λ j h. (omega arith, omega arith)) (numbers (suc k) n) (numbers_up (suc k) n))
 
 pub numbers_have : (k n j : ℕ) → k ≤ j → j < k + n → Contains (numbers k n) j
 numbers_have k zero j a b = absurd (omega arith)
@@ -58,7 +61,8 @@ pub pairs_up : (k n : ℕ) → All (In k n) (pairs_from k n)
 pairs_up k zero = All-nil (In k zero)
 pairs_up k (suc n) =
     All-append (In k (suc n)) (map (with k) (numbers (suc k) n)) (pairs_from (suc k) n)
-    (All-map (In k (suc n)) (with k) (numbers (suc k) n) (All-weaker (λ (j : ℕ). (suc k ≤ j) × (j < suc k + n)) (λ (j : ℕ). In k (suc n) (k, j)) (λ j h. (omega arith, omega arith, omega arith)) (numbers (suc k) n) (numbers_up (suc k) n)))
+    (All-map (In k (suc n)) (with k) (numbers (suc k) n) (All-weaker (λ (j : ℕ). (suc k ≤ j) × (j < suc k + n)) (λ (j : ℕ). In k (suc n) (k, j))
+    (λ j h. (omega arith, omega arith, omega arith)) (numbers (suc k) n) (numbers_up (suc k) n)))
     (All-weaker (In (suc k) n) (In k (suc n)) (λ p h. (omega arith, omega arith, omega arith)) (pairs_from (suc k) n) (pairs_up (suc k) n))
 
 pub pairs_have : (k n i j : ℕ) → k ≤ i → i < j → j < k + n → Contains (pairs_from k n) (i, j)
@@ -77,7 +81,8 @@ Mounts (j ∷ js) = All (λ i. j < i) js × Mounts js
 
 numbers_mount : (k n : ℕ) → Mounts (numbers k n)
 numbers_mount k zero = tt
-numbers_mount k (suc n) = (All-weaker (λ (j : ℕ). (suc k ≤ j) × (j < suc k + n)) (λ (j : ℕ). k < j) (λ j h. h.0) (numbers (suc k) n) (numbers_up (suc k) n), numbers_mount (suc k) n)
+numbers_mount k (suc n) =
+    (All-weaker (λ (j : ℕ). (suc k ≤ j) × (j < suc k + n)) (λ (j : ℕ). k < j) (λ j h. h.0) (numbers (suc k) n) (numbers_up (suc k) n), numbers_mount (suc k) n)
 
 -- a pair comes before another
 abbrev pub Less : ℕ × ℕ → ℕ × ℕ → Type 0
@@ -113,4 +118,5 @@ row_rises k (j ∷ js) ps m a r = (
 
 pub pairs_rise : (k n : ℕ) → Rises (pairs_from k n)
 pairs_rise k zero = tt
-pairs_rise k (suc n) = row_rises k (numbers (suc k) n) (pairs_from (suc k) n) (numbers_mount (suc k) n) (All-weaker (In (suc k) n) (λ (p : ℕ × ℕ). k < p.0) (λ p h. h.0) (pairs_from (suc k) n) (pairs_up (suc k) n)) (pairs_rise (suc k) n)
+pairs_rise k (suc n) = row_rises k (numbers (suc k) n) (pairs_from (suc k) n) (numbers_mount (suc k) n)
+    (All-weaker (In (suc k) n) (λ (p : ℕ × ℕ). k < p.0) (λ p h. h.0) (pairs_from (suc k) n) (pairs_up (suc k) n)) (pairs_rise (suc k) n)

@@ -1,33 +1,29 @@
--- Well-formed tests of both languages are programs whose choices can be visited.
-use Rattle.std.proofs.Common.{ℕ, ◌≤◌, length, arith}
-use Rattle.std.specs.Prelude.{All}
-use Rattle.std.proofs.lemmas.List.Elements.{All-weaker}
+-- A well-formed test of either language is a program whose choices can be visited.
+use Rattle.std.proofs.Common.{◌≡◌, ℕ, ◌≤◌, inl, inr, List, [], Some, length, sym, subst, slice_get, arith}
+use Rattle.std.proofs.lemmas.Bool.{cases_lt}
+use Rattle.std.proofs.lemmas.List.{get_or_past}
+use Rattle.std.proofs.lemmas.List.Elements.{All-weaker, All-get_or}
+use Rattle.lw_base.specs.Threads.{code_of}
 use Rattle.lw_litmus.specs.Languages.{Language}
-use Rattle.lw_litmus.specs.Tests.{Test, SourceTest, ProgramTest}
+use Rattle.lw_litmus.specs.Tests.{Test}
 use Rattle.lw_litmus.specs.WellFormed.{IsThread, IsWellFormed}
-use Rattle.lw_litmus.specs.Sources.{IsWellFormedSource, source}
-use Rattle.lw_litmus.specs.Programs.{IsWellFormedProgram, x86}
 use Rattle.lw_choices.specs.Choices.{IsForward}
-use Rattle.lw_choices.specs.Flows.{source_flow, x86_flow}
 use Rattle.lw_choices.specs.Visits.{IsVisitable}
 
-module _ {Stmt : Type 0} (language : Language Stmt) (test : Test Stmt) (is : IsWellFormed language test) where
-  few_threads : length test.threads ≤ 4
-  few_threads = omega (arith, is.as_many, is.head.few)
+module _ {S : Type 0} (language : Language S) (test : Test S) (is : IsWellFormed language test) where
+  pub visitable : language.most ≤ 32 → IsVisitable language test.threads
+  visitable short = record {
+    few = omega (arith, is.as_many, is.head.few);
+    short = All-weaker (IsThread language (length test.head.locs)) (λ code. length code ≤ 32) (λ code t. omega (arith, short, t.short)) test.threads is.code;
+    forward = All-weaker (IsThread language (length test.head.locs)) (IsForward language) (λ code t. t.forward) test.threads is.code;
+  }
 
-  each_short : (most : ℕ) → language.most ≤ most → All (λ code. length code ≤ most) test.threads
-  each_short most l = All-weaker (IsThread language (length test.head.locs)) (λ code. length code ≤ most) (λ code t. omega (arith, l, t.short)) test.threads is.code
-
-pub source_visitable : (test : SourceTest) → IsWellFormedSource test → IsVisitable source_flow test.threads
-source_visitable test is = record {
-  few = few_threads source test is;
-  short = each_short source test is 32 (omega arith);
-  forward = All-weaker (IsThread source (length test.head.locs)) (IsForward source_flow) (λ code t. t.forward) test.threads is.code;
-}
-
-pub program_visitable : (test : ProgramTest) → IsWellFormedProgram test → IsVisitable x86_flow test.threads
-program_visitable test is = record {
-  few = few_threads x86 test is;
-  short = each_short x86 test is 32 (omega arith);
-  forward = All-weaker (IsThread x86 (length test.head.locs)) (IsForward x86_flow) (λ code t. t.forward) test.threads is.code;
-}
+  -- each thread's jumps lead forward, and so they do in the empty code past the last
+  pub forward_of : (t : ℕ) → IsForward language (code_of test.threads t)
+  forward_of t = elim (cases_lt t (length test.threads)) [
+    | inl h ↦ (let thread : IsThread language (length test.head.locs) (code_of test.threads t) = All-get_or (IsThread language (length test.head.locs)) test.threads t [] h is.code in thread.forward)
+    | inr h ↦ subst (IsForward language) (sym (get_or_past test.threads t [] h)) (λ k s e. absurd (nothing k s e))
+  ]
+    where
+      nothing : (k : ℕ) (s : S) → slice_get [] k ≡ Some s → ⊥
+      nothing k s e = cc

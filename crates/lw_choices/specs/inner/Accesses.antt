@@ -3,7 +3,8 @@ use Rattle.std.specs.Prelude.{ℕ, suc, Bool, ◌==◌, ◌&&◌, ◌||◌, Opti
 use Rattle.std.specs.Option.{option_to_list}
 use Rattle.lw_choices.specs.declared.conflicts.Access.{Access}
 use Rattle.lw_choices.specs.declared.item.Item.{Item}
-use Rattle.lw_choices.specs.Items.{Behaviour, statement_of, location_by, writes_by}
+use Rattle.lw_litmus.specs.Languages.{Language}
+use Rattle.lw_choices.specs.Items.{statement_of, location_by, writes_by}
 
 -- both are on one location, and at least one writes it
 abbrev pub meets : Access → Access → Bool
@@ -17,15 +18,15 @@ abbrev pub conflicts_among : List Access → List (ℕ × ℕ)
 conflicts_among [] = []
 conflicts_among (a ∷ later) = conflicts_with a later ++ conflicts_among later
 
-module _ {S : Type 0} (behaviour : Behaviour S) where
+module _ {S : Type 0} (language : Language S) where
   -- the access of the item of number n, given whether it is the statement's drain
   abbrev pub access_by : ℕ → Bool → Option S → Option Access
   access_by n is_drain None = None
   access_by n is_drain (Some s) =
-      option_map (λ x. record { number = n; loc = x; writes = writes_by behaviour is_drain s }) (location_by behaviour is_drain s)
+      option_map (λ x. record { number = n; loc = x; writes = writes_by language is_drain s }) (location_by language is_drain s)
 
   -- those of the items from number n on
   abbrev pub accesses_from : List (List S) → ℕ → List Item → List Access
   accesses_from program n [] = []
   accesses_from program n (a ∷ items) =
-      option_to_list (access_by n a.is_drain (statement_of behaviour program a)) ++ accesses_from program (suc n) items
+      option_to_list (access_by n a.is_drain (statement_of language program a)) ++ accesses_from program (suc n) items

@@ -1,28 +1,18 @@
 -- Used within the crate: the marks on the positions that a flow path reaches from a store that may still wait.
-use Rattle.std.specs.Prelude.{ℕ, ◌+◌, Bool, true, false, List, slice_set}
-use Rattle.lw_litmus.specs.declared.stmt.Stmt.{Stmt}
-use Rattle.lw_litmus.specs.declared.stmt.Stmt.TheVariants.{Store, Load, Swap, FetchAdd, Set, Sum, IfEq, IfNe, Goto}
+use Rattle.std.specs.Prelude.{ℕ, ◌+◌, Bool, true, ◌&&◌, ◌||◌, if◌then◌else◌, Option, Some, None, List, slice_set}
+use Rattle.lw_litmus.specs.declared.operation.Operation.{Operation}
+use Rattle.lw_litmus.specs.Operations.{is_store, target_of, goes_on}
+use Rattle.lw_fence.specs.Fences.{lets_stores_wait}
 
--- whether a store may wait behind the statement, where one may before it
-abbrev pub may_wait : Stmt → Bool → Bool
-may_wait (Store x v) b = true
-may_wait (Load d x) b = false
-may_wait (Swap d x a) b = false
-may_wait (FetchAdd d x a) b = false
-may_wait (Set d v) b = b
-may_wait (Sum d a v) b = b
-may_wait (IfEq a n to) b = b
-may_wait (IfNe a n to) b = b
-may_wait (Goto to) b = b
+-- whether a store may wait behind the operation, where one may before it
+abbrev pub may_wait : Operation → Bool → Bool
+may_wait o before = is_store o || (lets_stores_wait o && before)
 
--- the marks, with the successors of the statement at i
-abbrev pub marked_behind : Stmt → ℕ → List Bool → List Bool
-marked_behind (Store x v) i marks = slice_set marks (i + 1) true
-marked_behind (Load d x) i marks = slice_set marks (i + 1) true
-marked_behind (Swap d x a) i marks = slice_set marks (i + 1) true
-marked_behind (FetchAdd d x a) i marks = slice_set marks (i + 1) true
-marked_behind (Set d v) i marks = slice_set marks (i + 1) true
-marked_behind (Sum d a v) i marks = slice_set marks (i + 1) true
-marked_behind (IfEq a n to) i marks = slice_set (slice_set marks to true) (i + 1) true
-marked_behind (IfNe a n to) i marks = slice_set (slice_set marks to true) (i + 1) true
-marked_behind (Goto to) i marks = slice_set marks to true
+-- the marks with one more, if there is a place for it
+abbrev pub with_mark : Option ℕ → List Bool → List Bool
+with_mark None marks = marks
+with_mark (Some k) marks = slice_set marks k true
+
+-- the marks, with the successors of the operation at i
+abbrev pub marked_behind : Operation → ℕ → List Bool → List Bool
+marked_behind o i marks = with_mark (if goes_on o then Some (i + 1) else None) (with_mark (target_of o) marks)

@@ -61,5 +61,6 @@ the_first (p ∷ ps) = p
 
 abbrev pub formula_code : Coded Formula
 formula_code =
-    code_by (List Part) (coded_list (coded⊎ (coded× coded_ℕ (coded× coded_ℕ coded_ℕ)) (coded⊎ (coded× coded_ℕ coded_ℕ) (coded⊎ coded_bool (coded_option coded_bool)))))
+    code_by (List Part) (coded_list (coded⊎ (coded× coded_ℕ (coded× coded_ℕ coded_ℕ))
+    (coded⊎ (coded× coded_ℕ coded_ℕ) (coded⊎ coded_bool (coded_option coded_bool)))))
     (λ p. written p []) (λ parts. the_first (read_parts parts [])) (λ p. ap the_first (read_written p [] []))

@@ -6,7 +6,8 @@ use Rattle.lw_base.specs.declared.event.Event.{Event}
 use Rattle.lw_orders.specs.Sequence.{orders}
 use Rattle.lw_choices.specs.declared.item.Item.{Item}
 use Rattle.lw_choices.specs.Choices.{choices_of}
-use Rattle.lw_choices.specs.Items.{Behaviour, items_of, constraints_of}
+use Rattle.lw_litmus.specs.Languages.{Language}
+use Rattle.lw_choices.specs.Items.{items_of, constraints_of}
 use Rattle.lw_listing.specs.Listings.{Entries, outcomes_of}
 
 -- Of a run, whether it stayed on its paths to a final state, and what it ended with: if it did, exactly that is an end; if it
@@ -26,15 +27,15 @@ pub record Gathers (Ends : Final → Type 0) (Leads : List Event → Final → T
 abbrev pub EndsOfOrders : (List ℕ → Final → Type 0) → List (List ℕ) → Final → Type 0
 EndsOfOrders Ends given o = (order : List ℕ) × Contains given order × Ends order o
 
-module _ {S : Type 0} (behaviour : Behaviour S) (Ends : List Item → List ℕ → Final → Type 0) (program : List (List S)) where
+module _ {S : Type 0} (language : Language S) (Ends : List Item → List ℕ → Final → Type 0) (program : List (List S)) where
   -- what one of the orders that are given for items ends with
   abbrev pub EndsOfItems : List Item → Final → Type 0
-  EndsOfItems items = EndsOfOrders (Ends items) (orders (constraints_of behaviour program items))
+  EndsOfItems items = EndsOfOrders (Ends items) (orders (constraints_of language program items))
 
   -- the same for the items of a choice
   abbrev pub EndsOfChoice : List (List ℕ) → Final → Type 0
-  EndsOfChoice paths = EndsOfItems (items_of behaviour program paths)
+  EndsOfChoice paths = EndsOfItems (items_of language program paths)
 
   -- and for one of all choices
   abbrev pub EndsOfProgram : Final → Type 0
-  EndsOfProgram o = (paths : List (List ℕ)) × Contains (choices_of behaviour.flow program) paths × EndsOfChoice paths o
+  EndsOfProgram o = (paths : List (List ℕ)) × Contains (choices_of language program) paths × EndsOfChoice paths o

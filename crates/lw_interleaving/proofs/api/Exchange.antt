@@ -1,23 +1,31 @@
 -- Steps of the threads: what each of them moves, where it leads, and which can be exchanged.
-use Rattle.std.proofs.Common.{◌≡◌, ◌≢◌, ℕ, zero, suc, ◌+◌, Bool, true, false, not, ◌==◌, ◌||◌, ◌&&◌, if◌then◌else◌, List, [], ◌∷◌, Option, Some, None, Ok, refl, sym, ap, ap₂, ◌∙◌, subst, inl, inr, ◌⊎◌, slice_get, slice_set, slice_index}
+use Rattle.std.proofs.Common.{◌≡◌, ◌≢◌, ℕ, ◌+◌, Bool, true, false, ◌||◌, ◌&&◌, if◌then◌else◌, List, Option, Some, None, Ok, refl, sym, ap, ap₂, ◌∙◌, subst, inl, inr, ◌⊎◌, slice_get, slice_set, slice_index}
 use Rattle.std.specs.Option.{option_map, option_and_then}
-use Rattle.std.proofs.lemmas.Option.{slice_get-map}
 use Rattle.std.proofs.lemmas.Bool.{eq-eqb}
+use Rattle.std.proofs.lemmas.List.{set_comm, set-get_or, get_or-set_other}
+use Rattle.std.proofs.lemmas.Option.{slice_get-map}
 use Rattle.lw_base.proofs.api.Lists.{got_set_same, got_set_other}
+use Rattle.lw_litmus.specs.declared.operation.Condition.TheVariants.{Always}
+use Rattle.lw_litmus.specs.declared.operation.Operation.{Operation}
+use Rattle.lw_litmus.specs.declared.operation.Operation.TheVariants.{Store, Load, Swap, FetchAdd, Branch}
 use Rattle.lw_litmus.specs.declared.stmt.Stmt.{Stmt}
-use Rattle.lw_litmus.specs.declared.stmt.Stmt.TheVariants.{Store, Load, Swap, FetchAdd, Set, Sum, IfEq, IfNe, Goto}
+use Rattle.lw_litmus.specs.Operations.{location_of, writes, Leads, holds}
+use Rattle.lw_litmus.specs.Sources.{source, operation_of}
 use Rattle.lw_interleaving.specs.declared.thread.Thread.{Thread}
-use Rattle.lw_litmus.specs.Sources.{location_of}
 use Rattle.lw_base.specs.Sums.{sum_of}
 use Rattle.lw_base.specs.Threads.{value_of, code_of}
-use Rattle.lw_interleaving.specs.Statements.{thread_after, words_after}
+use Rattle.lw_interleaving.specs.Statements.{getting, getting_if, thread_after, words_after}
 use Rattle.lw_interleaving.specs.Runs.{State, carried_out, step_of, source_step}
 use Rattle.lw_litmus.specs.Flow.{Follows}
 use Rattle.lw_interleaving.specs.Steps.{FollowsFlow, position_of, next_of, IsExchangeable}
-use Rattle.lw_litmus.specs.Conflicts.{writes, is_one, do_conflict}
+use Rattle.lw_litmus.specs.Conflicts.{is_one, do_conflict}
 
 abbrev pub state_of : List Thread → List ℕ → State
 state_of threads m = record { threads = threads; words = m }
+
+-- the state after an operation of a thread
+abbrev pub state_after : ℕ → Thread → Operation → State → State
+state_after t th o s = state_of (slice_set s.threads t (thread_after o th s.words)) (words_after o th s.words)
 
 -- what a step was
 pub record Stepped (program : List (List Stmt)) (t : ℕ) (s mid : State) : Type 0 where
@@ -25,12 +33,13 @@ pub record Stepped (program : List (List Stmt)) (t : ℕ) (s mid : State) : Type
   pub stmt : Stmt
   pub was : slice_get s.threads t ≡ Some thread
   pub at : slice_get (code_of program t) thread.position ≡ Some stmt
-  pub is : mid ≡ state_of (slice_set s.threads t (thread_after stmt thread s.words)) (words_after stmt thread s.words)
+  pub is : mid ≡ state_after t thread (operation_of stmt) s
 
 pub stepped : (program : List (List Stmt)) (t : ℕ) (s mid : State) → source_step program t s ≡ Ok mid → Stepped program t s mid
 stepped program t s mid a = found (slice_get s.threads t) refl a
   where
-    acted : (th : Thread) (o : Option Stmt) → slice_get s.threads t ≡ Some th → slice_get (code_of program t) th.position ≡ o → carried_out t th s o ≡ Ok mid → Stepped program t s mid
+    acted : (th : Thread) (o : Option Stmt) → slice_get s.threads t ≡ Some th → slice_get (code_of program t) th.position ≡ o
+        → carried_out t th s o ≡ Ok mid → Stepped program t s mid
     acted th None e h a = absurd cc
     acted th (Some x) e h a = record { thread = th; stmt = x; was = e; at = h; is = cc }
 
@@ -38,218 +47,163 @@ stepped program t s mid a = found (slice_get s.threads t) refl a
     found None e a = absurd cc
     found (Some th) e a = acted th (slice_get (code_of program t) th.position) e refl a
 
-index_set_other : (xs : List ℕ) (i j x : ℕ) → i ≢ j → slice_index (slice_set xs i x) j ≡ slice_index xs j
-index_set_other [] i j x ne = refl
-index_set_other (z ∷ xs) zero zero x ne = absurd (ne refl)
-index_set_other (z ∷ xs) zero (suc j) x ne = refl
-index_set_other (z ∷ xs) (suc i) zero x ne = refl
-index_set_other (z ∷ xs) (suc i) (suc j) x ne = index_set_other xs i j x (λ e. ne (ap suc e))
+-- the word at a location, and the memory with another there
+abbrev word_at : Option ℕ → List ℕ → ℕ
+word_at None m = 0
+word_at (Some x) m = slice_index m x
 
-set_exchange : {A : Type 0} → (xs : List A) (i j : ℕ) (x y : A) → i ≢ j → slice_set (slice_set xs i x) j y ≡ slice_set (slice_set xs j y) i x
-set_exchange [] i j x y ne = refl
-set_exchange (z ∷ xs) zero zero x y ne = absurd (ne refl)
-set_exchange (z ∷ xs) zero (suc j) x y ne = refl
-set_exchange (z ∷ xs) (suc i) zero x y ne = refl
-set_exchange (z ∷ xs) (suc i) (suc j) x y ne = ap (λ l. z ∷ l) (set_exchange xs i j x y (λ e. ne (ap suc e)))
+abbrev put : Option ℕ → ℕ → List ℕ → List ℕ
+put None w m = m
+put (Some x) w m = slice_set m x w
 
--- the location that a statement reads, and the one that it writes
-abbrev reads : Stmt → Option ℕ
-reads (Store x v) = None
-reads (Load d x) = Some x
-reads (Swap d x a) = Some x
-reads (FetchAdd d x a) = Some x
-reads (Set d v) = None
-reads (Sum d a v) = None
-reads (IfEq a n to) = None
-reads (IfNe a n to) = None
-reads (Goto to) = None
+-- the word that an operation leaves at its location, where it finds this one
+abbrev left_word : Operation → Thread → ℕ → ℕ
+left_word (Store x v) th w = value_of v th.regs
+left_word (Swap d x a) th w = slice_index th.regs a
+left_word (FetchAdd d x v) th w = sum_of w (value_of v th.regs)
+left_word o th w = w
 
-abbrev written : Stmt → Option ℕ
-written (Store x v) = Some x
-written (Load d x) = None
-written (Swap d x a) = Some x
-written (FetchAdd d x a) = Some x
-written (Set d v) = None
-written (Sum d a v) = None
-written (IfEq a n to) = None
-written (IfNe a n to) = None
-written (Goto to) = None
+-- of the memory an operation changes the word at its location alone, and none if it does not write
+words_left : (o : Operation) (th : Thread) (m : List ℕ)
+    → words_after o th m ≡ put (location_of o) (left_word o th (word_at (location_of o) m)) m
+words_left (Load d x) th m = sym (set-get_or m x 0)
+words_left o th m = refl
 
+words_stay : (o : Operation) (th : Thread) (m : List ℕ) → writes o ≡ false → words_after o th m ≡ m
+words_stay (Store x v) th m e = absurd cc
+words_stay (Swap d x a) th m e = absurd cc
+words_stay (FetchAdd d x v) th m e = absurd cc
+words_stay o th m e = refl
+
+-- a thread reads nothing but the word at its operation's location
+thread_reads : (o : Operation) (th : Thread) (m n : List ℕ) → word_at (location_of o) m ≡ word_at (location_of o) n
+    → thread_after o th m ≡ thread_after o th n
+thread_reads (Load d x) th m n e = ap (getting th d) e
+thread_reads (Swap d x a) th m n e = ap (getting th d) e
+thread_reads (FetchAdd d x v) th m n e = ap (getting_if th d) e
+thread_reads o th m n e = refl
+
+-- what has no location reads no memory, and leaves it as it is
+pub thread_alone : (o : Operation) (th : Thread) (m n : List ℕ) → location_of o ≡ None → thread_after o th m ≡ thread_after o th n
+thread_alone o th m n none = thread_reads o th m n (ap (λ l. word_at l m) none ∙ sym (ap (λ l. word_at l n) none))
+
+pub words_alone : (o : Operation) (th : Thread) (m : List ℕ) → location_of o ≡ None → words_after o th m ≡ m
+words_alone o th m none = words_left o th m ∙ ap (λ l. put l (left_word o th (word_at l m)) m) none
+
+-- two operations work at different locations, or write none
 abbrev Apart : Option ℕ → Option ℕ → Type 0
 Apart None y = Unit {0}
 Apart (Some x) None = Unit {0}
 Apart (Some x) (Some y) = x ≢ y
 
--- what is put into memory
-abbrev put : Option ℕ → ℕ → List ℕ → List ℕ
-put None w words = words
-put (Some x) w words = slice_set words x w
+abbrev AreFree : Operation → Operation → Type 0
+AreFree o p = ((writes o ≡ false) × (writes p ≡ false)) ⊎ Apart (location_of o) (location_of p)
 
-abbrev word_put : Stmt → Thread → List ℕ → ℕ
-word_put (Store x v) th m = value_of v th.regs
-word_put (Load d x) th m = 0
-word_put (Swap d x a) th m = slice_index th.regs a
-word_put (FetchAdd d x a) th m = sum_of (slice_index m x) (slice_index th.regs a)
-word_put (Set d v) th m = 0
-word_put (Sum d a v) th m = 0
-word_put (IfEq a n to) th m = 0
-word_put (IfNe a n to) th m = 0
-word_put (Goto to) th m = 0
+turned : (x y : Option ℕ) → Apart x y → Apart y x
+turned None None apart = tt
+turned None (Some y) apart = tt
+turned (Some x) None apart = tt
+turned (Some x) (Some y) apart = λ e. apart (sym e)
 
-words_put : (x : Stmt) (th : Thread) (m : List ℕ) → words_after x th m ≡ put (written x) (word_put x th m) m
-words_put (Store x v) th m = refl
-words_put (Load d x) th m = refl
-words_put (Swap d x a) th m = refl
-words_put (FetchAdd d x a) th m = refl
-words_put (Set d v) th m = refl
-words_put (Sum d a v) th m = refl
-words_put (IfEq a n to) th m = refl
-words_put (IfNe a n to) th m = refl
-words_put (Goto to) th m = refl
+free_turned : (o p : Operation) → AreFree o p → AreFree p o
+free_turned o p (inl neither) = inl (neither.1, neither.0)
+free_turned o p (inr apart) = inr (turned (location_of o) (location_of p) apart)
 
-index_put : (o : Option ℕ) (w x : ℕ) (m : List ℕ) → Apart (Some x) o → slice_index (put o w m) x ≡ slice_index m x
-index_put None w x m a = refl
-index_put (Some y) w x m a = index_set_other m y x w (λ e. a (sym e))
+are_free : (a b : Stmt) → do_conflict source (Some a) (Some b) ≡ false → AreFree (operation_of a) (operation_of b)
+are_free a b none = go (location_of (operation_of a)) (location_of (operation_of b)) (writes (operation_of a)) (writes (operation_of b)) none
+  where
+    go : (x y : Option ℕ) (v w : Bool) → (is_one x y && (v || w)) ≡ false → ((v ≡ false) × (w ≡ false)) ⊎ Apart x y
+    go None y v w e = inr tt
+    go (Some x) None v w e = inr tt
+    go (Some x) (Some y) false false e = inl (refl, refl)
+    go (Some x) (Some y) true w e = inr (λ same. let e' = rw (eq-eqb x y same) at e in absurd cc)
+    go (Some x) (Some y) false true e = inr (λ same. let e' = rw (eq-eqb x y same) at e in absurd cc)
 
--- a write elsewhere changes nothing of a step
-thread_same : (x : Stmt) (th : Thread) (m : List ℕ) (o : Option ℕ) (w : ℕ) → Apart (reads x) o → thread_after x th (put o w m) ≡ thread_after x th m
-thread_same (Store x v) th m o w a = refl
-thread_same (Load d x) th m o w a = ap (λ k. record { position = th.position + 1; regs = slice_set th.regs d k }) (index_put o w x m a)
-thread_same (Swap d x b) th m o w a = ap (λ k. record { position = th.position + 1; regs = slice_set th.regs d k }) (index_put o w x m a)
-thread_same (FetchAdd d x b) th m o w a = ap (λ k. record { position = th.position + 1; regs = slice_set th.regs d k }) (index_put o w x m a)
-thread_same (Set d v) th m o w a = refl
-thread_same (Sum d b v) th m o w a = refl
-thread_same (IfEq r n to) th m o w a = refl
-thread_same (IfNe r n to) th m o w a = refl
-thread_same (Goto to) th m o w a = refl
+put_apart : (x y : Option ℕ) (w : ℕ) (m : List ℕ) → Apart x y → word_at x (put y w m) ≡ word_at x m
+put_apart None y w m apart = refl
+put_apart (Some x) None w m apart = refl
+put_apart (Some x) (Some y) w m apart = get_or-set_other m y x w 0 apart
 
-word_same : (x : Stmt) (th : Thread) (m : List ℕ) (o : Option ℕ) (w : ℕ) → Apart (reads x) o → word_put x th (put o w m) ≡ word_put x th m
-word_same (Store x v) th m o w a = refl
-word_same (Load d x) th m o w a = refl
-word_same (Swap d x b) th m o w a = refl
-word_same (FetchAdd d x b) th m o w a = ap (λ k. sum_of k (slice_index th.regs b)) (index_put o w x m a)
-word_same (Set d v) th m o w a = refl
-word_same (Sum d b v) th m o w a = refl
-word_same (IfEq r n to) th m o w a = refl
-word_same (IfNe r n to) th m o w a = refl
-word_same (Goto to) th m o w a = refl
+put_exchanged : (x y : Option ℕ) (v w : ℕ) (m : List ℕ) → Apart x y → put x v (put y w m) ≡ put y w (put x v m)
+put_exchanged None y v w m apart = refl
+put_exchanged (Some x) None v w m apart = refl
+put_exchanged (Some x) (Some y) v w m apart = set_comm m y x w v (λ e. apart (sym e))
 
-put_exchange : (o p : Option ℕ) (v w : ℕ) (m : List ℕ) → Apart o p → put p w (put o v m) ≡ put o v (put p w m)
-put_exchange None None v w m a = refl
-put_exchange None (Some y) v w m a = refl
-put_exchange (Some x) None v w m a = refl
-put_exchange (Some x) (Some y) v w m a = set_exchange m x y v w a
+-- an operation finds the same word behind one that is free of it, and both leave the same memory, whichever is first
+same_found : (o p : Operation) (tp : Thread) (m : List ℕ) → AreFree o p
+    → word_at (location_of o) (words_after p tp m) ≡ word_at (location_of o) m
+same_found o p tp m (inl neither) = ap (word_at (location_of o)) (words_stay p tp m neither.1)
+same_found o p tp m (inr apart) =
+    ap (word_at (location_of o)) (words_left p tp m) ∙ put_apart (location_of o) (location_of p) (left_word p tp (word_at (location_of p) m)) m apart
 
-record AreApart (x y : Stmt) : Type 0 where
-  pub read_write : Apart (reads x) (written y)
-  pub write_read : Apart (reads y) (written x)
-  pub writes_apart : Apart (written x) (written y)
-
-reads_at : (a : Stmt) (x : ℕ) → reads a ≡ Some x → location_of a ≡ Some x
-reads_at (Store y v) x e = absurd cc
-reads_at (Load d y) x e = e
-reads_at (Swap d y b) x e = e
-reads_at (FetchAdd d y b) x e = e
-reads_at (Set d v) x e = absurd cc
-reads_at (Sum d b v) x e = absurd cc
-reads_at (IfEq b n to) x e = absurd cc
-reads_at (IfNe b n to) x e = absurd cc
-reads_at (Goto to) x e = absurd cc
-
-written_at : (a : Stmt) (x : ℕ) → written a ≡ Some x → (location_of a ≡ Some x) × (writes a ≡ true)
-written_at (Store y v) x e = (e, refl)
-written_at (Load d y) x e = absurd cc
-written_at (Swap d y b) x e = (e, refl)
-written_at (FetchAdd d y b) x e = (e, refl)
-written_at (Set d v) x e = absurd cc
-written_at (Sum d b v) x e = absurd cc
-written_at (IfEq b n to) x e = absurd cc
-written_at (IfNe b n to) x e = absurd cc
-written_at (Goto to) x e = absurd cc
-
-apart_where : (o p : Option ℕ) → ((x y : ℕ) → o ≡ Some x → p ≡ Some y → x ≢ y) → Apart o p
-apart_where None p h = tt
-apart_where (Some x) None h = tt
-apart_where (Some x) (Some y) h = h x y refl refl
-
-either_true : (b : Bool) → (b || true) ≡ true
-either_true true = refl
-either_true false = refl
-
-conflict_there : (a b : Stmt) (x y : ℕ) → do_conflict (Some a) (Some b) ≡ false → location_of a ≡ Some x → location_of b ≡ Some y → (writes a || writes b) ≡ true → x ≢ y
-conflict_there a b x y free la lb w e =
-    let one : is_one (location_of a) (location_of b) ≡ true = ap₂ is_one la lb ∙ eq-eqb x y e in
-    let both : do_conflict (Some a) (Some b) ≡ true = ap₂ (λ (p q : Bool). p && q) one w in
-    absurd cc
-
-are_apart : (a b : Stmt) → do_conflict (Some a) (Some b) ≡ false → AreApart a b
-are_apart a b free = record {
-  read_write = apart_where (reads a) (written b) (λ x y r w.
-      let (l, is) = written_at b y w in
-      conflict_there a b x y free (reads_at a x r) l (ap (λ (q : Bool). writes a || q) is ∙ either_true (writes a)));
-  write_read = apart_where (reads b) (written a) (λ y x r w.
-      let (l, is) = written_at a x w in
-      λ e. conflict_there a b x y free l (reads_at b y r) (ap (λ (q : Bool). q || writes b) is) (sym e));
-  writes_apart = apart_where (written a) (written b) (λ x y v w.
-      let (l, is) = written_at a x v in
-      conflict_there a b x y free l (written_at b y w).0 (ap (λ (q : Bool). q || writes b) is));
-}
+same_left : (o p : Operation) (to tp : Thread) (m : List ℕ) → AreFree o p
+    → words_after o to (words_after p tp m) ≡ words_after p tp (words_after o to m)
+same_left o p to tp m (inl neither) =
+    words_stay o to (words_after p tp m) neither.0 ∙ words_stay p tp m neither.1
+    ∙ sym (words_stay p tp (words_after o to m) neither.1 ∙ words_stay o to m neither.0)
+same_left o p to tp m (inr apart) =
+    both o p to tp (inr apart) ∙ put_exchanged (location_of o) (location_of p) _ _ m apart ∙ sym (both p o tp to (free_turned o p (inr apart)))
+  where
+    both : (a b : Operation) (ta tb : Thread) → AreFree a b
+        → words_after a ta (words_after b tb m)
+        ≡ put (location_of a) (left_word a ta (word_at (location_of a) m)) (put (location_of b) (left_word b tb (word_at (location_of b) m)) m)
+    both a b ta tb free =
+        words_left a ta (words_after b tb m) ∙ ap₂ (λ w n. put (location_of a) (left_word a ta w) n) (same_found a b tb m free) (words_left b tb m)
 
 -- where a thread is
 pub positioned : (s : State) (t : ℕ) (th : Thread) → slice_get s.threads t ≡ Some th → position_of s t ≡ Some th.position
-positioned s t th was = slice_get-map (λ (x : Thread). x.position) s.threads t ∙ ap (λ (o : Option Thread). option_map (λ (x : Thread). x.position) o) was
+positioned s t th was =
+    slice_get-map (λ (x : Thread). x.position) s.threads t ∙ ap (λ (o : Option Thread). option_map (λ (x : Thread). x.position) o) was
 
-pub next_is : (program : List (List Stmt)) (s : State) (t j : ℕ) → position_of s t ≡ Some j → next_of program s t ≡ slice_get (code_of program t) j
+pub next_is : (program : List (List Stmt)) (s : State) (t j : ℕ) → position_of s t ≡ Some j
+    → next_of program s t ≡ slice_get (code_of program t) j
 next_is program s t j e = ap (λ (o : Option ℕ). option_and_then (λ k. slice_get (code_of program t) k) o) e
 
 -- a step moves no other thread
-pub others_stay : (program : List (List Stmt)) (t u : ℕ) (s mid : State) → t ≢ u → source_step program t s ≡ Ok mid → slice_get mid.threads u ≡ slice_get s.threads u
+pub others_stay : (program : List (List Stmt)) (t u : ℕ) (s mid : State) → t ≢ u → source_step program t s ≡ Ok mid
+    → slice_get mid.threads u ≡ slice_get s.threads u
 others_stay program t u s mid ne a =
     let d = stepped program t s mid a in
-    ap (λ (x : State). slice_get x.threads u) d.is ∙ got_set_other s.threads t u (thread_after d.stmt d.thread s.words) ne
+    ap (λ (x : State). slice_get x.threads u) d.is ∙ got_set_other s.threads t u _ ne
 
-pub others_placed : (program : List (List Stmt)) (t u : ℕ) (s mid : State) → t ≢ u → source_step program t s ≡ Ok mid → position_of mid u ≡ position_of s u
+pub others_placed : (program : List (List Stmt)) (t u : ℕ) (s mid : State) → t ≢ u → source_step program t s ≡ Ok mid
+    → position_of mid u ≡ position_of s u
 others_placed program t u s mid ne a =
     slice_get-map (λ (x : Thread). x.position) mid.threads u
     ∙ (ap (λ (o : Option Thread). option_map (λ (x : Thread). x.position) o) (others_stay program t u s mid ne a)
     ∙ sym (slice_get-map (λ (x : Thread). x.position) s.threads u))
 
-jumped : (b : Bool) (to k : ℕ) → ((if b then to else k) ≡ to) ⊎ ((if b then to else k) ≡ k)
-jumped true to k = inl refl
-jumped false to k = inr refl
-
--- where a statement leads
-pub follows : (x : Stmt) (th : Thread) (m : List ℕ) → Follows (Some x) th.position (thread_after x th m).position
-follows (Store x v) th m = refl
-follows (Load d x) th m = refl
-follows (Swap d x a) th m = refl
-follows (FetchAdd d x a) th m = refl
-follows (Set d v) th m = refl
-follows (Sum d a v) th m = refl
-follows (IfEq a n to) th m = jumped (slice_index th.regs a == n) to (th.position + 1)
-follows (IfNe a n to) th m = jumped (not (slice_index th.regs a == n)) to (th.position + 1)
-follows (Goto to) th m = refl
+-- where an operation leads
+pub leads : (o : Operation) (th : Thread) (m : List ℕ) → Leads o th.position (thread_after o th m).position
+leads (FetchAdd None x v) th m = inl (refl, refl)
+leads (FetchAdd (Some d) x v) th m = inl (refl, refl)
+leads (Branch Always to) th m = inr refl
+leads (Branch c to) th m = go (holds c th.regs false)
+  where
+    go : (b : Bool) → Leads (Branch c to) th.position (if b then to else (th.position + 1))
+    go true = inr refl
+    go false = inl (refl, refl)
+leads o th m = inl (refl, refl)
 
 -- a step leads to a successor of where it began
 pub moved : (program : List (List Stmt)) (t : ℕ) (s mid : State) → source_step program t s ≡ Ok mid → FollowsFlow program t s mid
 moved program t s mid a =
     let d = stepped program t s mid a in
-    let next : Thread = thread_after d.stmt d.thread s.words in
+    let next : Thread = thread_after (operation_of d.stmt) d.thread s.words in
     record {
       from = d.thread.position;
       to = next.position;
       was = positioned s t d.thread d.was;
-      follows = subst (λ (o : Option Stmt). Follows o d.thread.position next.position) (sym d.at) (follows d.stmt d.thread s.words);
+      follows =
+          let led = leads (operation_of d.stmt) d.thread s.words in
+          subst (λ (o : Option Stmt). Follows source o d.thread.position next.position) (sym d.at) led;
       now = positioned mid t next (ap (λ (x : State). slice_get x.threads t) d.is ∙ got_set_same s.threads t next d.thread d.was);
     }
 
--- the statement of a step is the one that its thread is at
-step_next : (program : List (List Stmt)) (t : ℕ) (s mid : State) (d : Stepped program t s mid) → next_of program s t ≡ Some d.stmt
-step_next program t s mid d = next_is program s t d.thread.position (positioned s t d.thread d.was) ∙ d.at
-
 -- t and then u lead where u and then t lead
-pub exchange : (program : List (List Stmt)) (t u : ℕ) (s : State) → t ≢ u → do_conflict (next_of program s t) (next_of program s u) ≡ false → IsExchangeable program t u s
-exchange program t u s ne apart mid end step_t step_u = (other, first, second)
+pub exchange : (program : List (List Stmt)) (t u : ℕ) (s : State) → t ≢ u
+    → do_conflict source (next_of program s t) (next_of program s u) ≡ false → IsExchangeable program t u s
+exchange program t u s ne none mid end step_t step_u = (other, first, second)
   where
     a : Stepped program t s mid
     a = stepped program t s mid step_t
@@ -257,50 +211,49 @@ exchange program t u s ne apart mid end step_t step_u = (other, first, second)
     b : Stepped program u mid end
     b = stepped program u mid end step_u
 
-    th : Thread
-    th = a.thread
+    o : Operation
+    o = operation_of a.stmt
 
-    tu : Thread
-    tu = b.thread
+    p : Operation
+    p = operation_of b.stmt
 
-    was_u : slice_get s.threads u ≡ Some tu
+    was_u : slice_get s.threads u ≡ Some b.thread
     was_u = sym (others_stay program t u s mid ne step_t) ∙ b.was
 
-    next_u : next_of program s u ≡ Some b.stmt
-    next_u = next_is program s u tu.position (positioned s u tu was_u) ∙ b.at
+    free : AreFree o p
+    free =
+        let next_t = next_is program s t a.thread.position (positioned s t a.thread a.was) ∙ a.at in
+        let next_u = next_is program s u b.thread.position (positioned s u b.thread was_u) ∙ b.at in
+        are_free a.stmt b.stmt (sym (ap₂ (do_conflict source) next_t next_u) ∙ none)
 
-    free : AreApart a.stmt b.stmt
-    free = are_apart a.stmt b.stmt (sym (ap₂ do_conflict (step_next program t s mid a) next_u) ∙ apart)
+    x : Thread
+    x = thread_after o a.thread s.words
+
+    y : Thread
+    y = thread_after p b.thread s.words
 
     other : State
-    other = state_of (slice_set s.threads u (thread_after b.stmt tu s.words)) (words_after b.stmt tu s.words)
+    other = state_after u b.thread p s
+
+    after : State
+    after = state_after t a.thread o s
 
     first : source_step program u s ≡ Ok other
-    first = ap (λ (o : Option Thread). step_of program u s o) was_u ∙ ap (λ (o : Option Stmt). carried_out u tu s o) b.at
+    first = ap (step_of program u s) was_u ∙ ap (carried_out u b.thread s) b.at
 
-    was_t : slice_get other.threads t ≡ Some th
-    was_t = got_set_other s.threads u t (thread_after b.stmt tu s.words) (λ e. ne (sym e)) ∙ a.was
+    was_t : slice_get other.threads t ≡ Some a.thread
+    was_t = got_set_other s.threads u t y (λ e. ne (sym e)) ∙ a.was
 
-    threads_are : slice_set (slice_set s.threads u (thread_after b.stmt tu s.words)) t (thread_after a.stmt th (words_after b.stmt tu s.words)) ≡ slice_set (slice_set s.threads t (thread_after a.stmt th s.words)) u (thread_after b.stmt tu (words_after a.stmt th s.words))
+    -- the threads go on as they did in the other sequence
+    threads_are : (state_after t a.thread o other).threads ≡ (state_after u b.thread p after).threads
     threads_are =
-        let x = ap (λ w. thread_after a.stmt th w) (words_put b.stmt tu s.words) ∙ thread_same a.stmt th s.words (written b.stmt) (word_put b.stmt tu s.words) free.read_write in
-        let y = ap (λ w. thread_after b.stmt tu w) (words_put a.stmt th s.words) ∙ thread_same b.stmt tu s.words (written a.stmt) (word_put a.stmt th s.words) free.write_read in
-        ap (λ k. slice_set (slice_set s.threads u (thread_after b.stmt tu s.words)) t k) x
-        ∙ set_exchange s.threads u t (thread_after b.stmt tu s.words) (thread_after a.stmt th s.words) (λ e. ne (sym e))
-        ∙ ap (λ k. slice_set (slice_set s.threads t (thread_after a.stmt th s.words)) u k) (sym y)
-
-    words_are : words_after a.stmt th (words_after b.stmt tu s.words) ≡ words_after b.stmt tu (words_after a.stmt th s.words)
-    words_are =
-        words_put a.stmt th (words_after b.stmt tu s.words) ∙ ap (λ m. put (written a.stmt) (word_put a.stmt th m) m) (words_put b.stmt tu s.words)
-        ∙ ap (λ w. put (written a.stmt) w (put (written b.stmt) (word_put b.stmt tu s.words) s.words)) (word_same a.stmt th s.words (written b.stmt) (word_put b.stmt tu s.words) free.read_write)
-        ∙ sym (put_exchange (written a.stmt) (written b.stmt) (word_put a.stmt th s.words) (word_put b.stmt tu s.words) s.words free.writes_apart)
-        ∙ sym (words_put b.stmt tu (words_after a.stmt th s.words) ∙ ap (λ m. put (written b.stmt) (word_put b.stmt tu m) m) (words_put a.stmt th s.words)
-        ∙ ap (λ w. put (written b.stmt) w (put (written a.stmt) (word_put a.stmt th s.words) s.words)) (word_same b.stmt tu s.words (written a.stmt) (word_put a.stmt th s.words) free.write_read))
-
-    end_is : end ≡ state_of (slice_set (slice_set s.threads t (thread_after a.stmt th s.words)) u (thread_after b.stmt tu (words_after a.stmt th s.words))) (words_after b.stmt tu (words_after a.stmt th s.words))
-    end_is = b.is ∙ ap (λ (m : State). state_of (slice_set m.threads u (thread_after b.stmt tu m.words)) (words_after b.stmt tu m.words)) a.is
+        ap (slice_set other.threads t) (thread_reads o a.thread other.words s.words (same_found o p b.thread s.words free))
+        ∙ set_comm s.threads u t y x (λ e. ne (sym e))
+        ∙ ap (slice_set after.threads u)
+        (sym (thread_reads p b.thread after.words s.words (same_found p o a.thread s.words (free_turned o p free))))
 
     second : source_step program t other ≡ Ok end
     second =
-        ap (λ (o : Option Thread). step_of program t other o) was_t ∙ ap (λ (o : Option Stmt). carried_out t th other o) a.at
-        ∙ ap₂ (λ ths w. Ok (state_of ths w)) threads_are words_are ∙ ap Ok (sym end_is)
+        ap (step_of program t other) was_t ∙ ap (carried_out t a.thread other) a.at
+        ∙ ap Ok (ap₂ state_of threads_are (same_left o p a.thread b.thread s.words free)
+        ∙ sym (b.is ∙ ap (state_after u b.thread p) a.is))

@@ -9,10 +9,11 @@ use Rattle.std.proofs.Math.Seq.{take-suc}
 use Rattle.std.specs.Prelude.{All, ◌^◌, slice_set, slice_get, slice_index, Option, Some, None, Bool, true, false, if◌then◌else◌, nat_lt}
 use Rattle.lw_base.specs.declared.event.Event.TheVariants.{Step, Drain, Evict}
 use Rattle.lw_base.specs.declared.stop.Stop.TheVariants.{NoCpu, NoLocation, Ended, BufferEmpty, NotHeld}
-use Rattle.lw_litmus.specs.declared.stmt.Stmt.TheVariants.{Store, Load, Swap, FetchAdd, Set, Sum, IfEq, IfNe, Goto}
+use Rattle.lw_litmus.specs.declared.operation.Operation.{Operation}
+use Rattle.lw_litmus.specs.declared.operation.Operation.TheVariants.{Store, Swap, FetchAdd}
 use Rattle.lw_interleaving.specs.declared.thread.Thread.{Thread}
 use Rattle.lw_litmus.specs.WellFormed.{IsStatement, IsThread}
-use Rattle.lw_litmus.specs.Sources.{source}
+use Rattle.lw_litmus.specs.Sources.{source, operation_of}
 use Rattle.lw_base.specs.Sums.{sum_of}
 use Rattle.lw_base.specs.Threads.{value_of, code_of}
 use Rattle.lw_interleaving.specs.Statements.{thread_after, words_after}
@@ -27,17 +28,26 @@ use Rattle.std.proofs.lemmas.Option.{slice_get-map, slice_get_within}
 use Rattle.std.specs.Option.{option_map}
 use Rattle.lw_base.proofs.api.Lists.{at_index}
 
+-- what a call answered, and the state that it left: the one after the event, or else Q says which
+abbrev pub Told : Type 0 → Result State Stop → Result (Unit {0}) Stop → State → Type 0
+Told Q r answer end = MatchResult r (λ next. (answer ≡ Ok tt) × (end ≡ next)) (λ stop. (answer ≡ Err stop) × Q)
+
 -- a call that answered Ok was a possible event
-pub possible : (Q : Type 0) (r : Result State Stop) (answer : Result (Unit {0}) Stop) (u : Unit {0}) (end : State) → MatchResult r (λ next. (answer ≡ Ok tt) × (end ≡ next)) (λ stop. (answer ≡ Err stop) × Q) → answer ≡ Ok u → r ≡ Ok end
+pub possible : (Q : Type 0) (r : Result State Stop) (answer : Result (Unit {0}) Stop) (u : Unit {0}) (end : State)
+    → Told Q r answer end → answer ≡ Ok u → r ≡ Ok end
 possible Q (Ok next) answer u end told ok = ap Ok (sym told.1)
 possible Q (Err stop) answer u end told ok = let e : answer ≡ Err stop = told.0 in absurd cc
 
-refusal : (Q : Type 0) (r : Result State Stop) (answer : Result (Unit {0}) Stop) (stop : Stop) (end : State) → MatchResult r (λ next. (answer ≡ Ok tt) × (end ≡ next)) (λ s. (answer ≡ Err s) × Q) → answer ≡ Err stop → (r ≡ Err stop) × Q
+refusal : (Q : Type 0) (r : Result State Stop) (answer : Result (Unit {0}) Stop) (stop : Stop) (end : State)
+    → Told Q r answer end → answer ≡ Err stop → (r ≡ Err stop) × Q
 refusal Q (Ok next) answer stop end told failed = let e : answer ≡ Ok tt = told.0 in absurd cc
 refusal Q (Err s) answer stop end told failed = let e : answer ≡ Err s = told.0 in let same : s ≡ stop = cc in (ap Err same, told.1)
 
 -- a replay that meets a refused event
-pub stopped : (Q : Type 0) (program : List (List Stmt)) (events : List Event) (e : Event) (done : ℕ) (s mid end : State) (answer : Result (Unit {0}) Stop) (stop : Stop) → MatchResult (source_event program e mid) (λ next. (answer ≡ Ok tt) × (end ≡ next)) (λ x. (answer ≡ Err x) × Q) → (Q → end ≡ mid) → answer ≡ Err stop → done < length events → e ≡ get_or events done e → Ran program (take done events) s mid → Replayed program events s (record { done = done; end = at.Stopped stop }) end
+pub stopped : (Q : Type 0) (program : List (List Stmt)) (events : List Event) (e : Event) (done : ℕ) (s mid end : State)
+    (answer : Result (Unit {0}) Stop) (stop : Stop) → Told Q (source_event program e mid) answer end → (Q → end ≡ mid)
+    → answer ≡ Err stop → done < length events → e ≡ get_or events done e → Ran program (take done events) s mid
+    → Replayed program events s (record { done = done; end = at.Stopped stop }) end
 stopped Q program events e done s mid end answer stop told kept failed within is ran =
     let r = refusal Q (source_event program e mid) answer stop end told failed in
     record {
@@ -47,7 +57,10 @@ stopped Q program events e done s mid end answer stop told kept failed within is
     }
 
 -- a replay that carries out all events
-pub replayed_all : (program : List (List Stmt)) (events : List Event) (k : ℕ) (s last : State) (end : End) → length events ≤ k → Ran program (take k events) s last → EndsAs (EventDone program) (is_final program) events (length events) last end → Replayed program events s (record { done = length events; end = end }) last
+pub replayed_all : (program : List (List Stmt)) (events : List Event) (k : ℕ) (s last : State) (end : End)
+    → length events ≤ k → Ran program (take k events) s last
+    → EndsAs (EventDone program) (is_final program) events (length events) last end
+    → Replayed program events s (record { done = length events; end = end }) last
 replayed_all program events k s last end done ran ends =
     record {
       within = omega arith;
@@ -56,22 +69,18 @@ replayed_all program events k s last end done ran ends =
     }
 
 -- no thread has a store to drain
-pub drained : (Q : Type 0) (answer : Result (Unit {0}) Stop) (s : State) (t n : ℕ) → t < n → answer ≡ Err BufferEmpty → Q → MatchResult (if nat_lt t n then Err BufferEmpty else Err NoCpu) (λ next. (answer ≡ Ok tt) × (s ≡ next)) (λ stop. (answer ≡ Err stop) × Q)
+pub drained : (Q : Type 0) (answer : Result (Unit {0}) Stop) (s : State) (t n : ℕ) → t < n → answer ≡ Err BufferEmpty
+    → Q → Told Q (if nat_lt t n then Err BufferEmpty else Err NoCpu) answer s
 drained Q answer s t n within failed same = rw (lt-ltb t n within) (failed, same)
 
 pub set_length : {X : Type 0} (xs : List X) (i : ℕ) (x : X) → length (slice_set xs i x) ≡ length xs
 set_length xs i x = length-set xs i x
 
-pub words_kept : (stmt : Stmt) (th : Thread) (words : List ℕ) → length (words_after stmt th words) ≡ length words
+pub words_kept : (o : Operation) (th : Thread) (words : List ℕ) → length (words_after o th words) ≡ length words
 words_kept (Store x v) th words = set_length words x (value_of v th.regs)
-words_kept (Load d x) th words = refl
 words_kept (Swap d x a) th words = set_length words x (slice_index th.regs a)
-words_kept (FetchAdd d x a) th words = set_length words x (sum_of (slice_index words x) (slice_index th.regs a))
-words_kept (Set d v) th words = refl
-words_kept (Sum d a v) th words = refl
-words_kept (IfEq a n to) th words = refl
-words_kept (IfNe a n to) th words = refl
-words_kept (Goto to) th words = refl
+words_kept (FetchAdd d x v) th words = set_length words x (sum_of (slice_index words x) (value_of v th.regs))
+words_kept o th words = refl
 
 -- as many threads, and as many words
 abbrev pub SameSize : State → State → Type 0
@@ -87,9 +96,10 @@ event_kept program (Step t) s mid e = go (slice_get s.threads t) e
     carried : (th : Thread) (stmt : Option Stmt) → carried_out t th s stmt ≡ Ok mid → SameSize s mid
     carried th None e = absurd cc
     carried th (Some stmt) e =
-        let next : State = record { threads = slice_set s.threads t (thread_after stmt th s.words); words = words_after stmt th s.words } in
-        let same : next ≡ mid = cc in
-        subst (λ (m : State). SameSize s m) same (set_length s.threads t (thread_after stmt th s.words), words_kept stmt th s.words)
+        let o : Operation = operation_of stmt in
+        let next : State = record { threads = slice_set s.threads t (thread_after o th s.words); words = words_after o th s.words } in
+        let kept : SameSize s next = (set_length s.threads t (thread_after o th s.words), words_kept o th s.words) in
+        subst (SameSize s) (let same : next ≡ mid = cc in same) kept
 
     go : (th : Option Thread) → step_of program t s th ≡ Ok mid → SameSize s mid
     go None e = absurd cc
@@ -105,11 +115,13 @@ event_kept program (Evict t x) s mid e = go (nat_lt t (length s.threads)) e
 pub found_at : {X : Type 0} (xs ys : List X) (i j : ℕ) (d : X) → ys ≡ xs → j ≡ i → i < length xs → slice_get xs i ≡ Some (get_or ys j d)
 found_at xs ys i j d same place within = rw (same, place) (at_index xs i d within)
 
-pub read_at : {X Y : Type 0} (f : X → Y) (xs ys : List X) (i j : ℕ) (d : X) → ys ≡ xs → j ≡ i → i < length xs → slice_get (map f xs) i ≡ Some (f (get_or ys j d))
+pub read_at : {X Y : Type 0} (f : X → Y) (xs ys : List X) (i j : ℕ) (d : X) → ys ≡ xs → j ≡ i → i < length xs
+    → slice_get (map f xs) i ≡ Some (f (get_or ys j d))
 read_at f xs ys i j d same place within = slice_get-map f xs i ∙ ap (option_map f) (found_at xs ys i j d same place within)
 
 -- a list with the image of one more item
-pub mapped_on : {X Y : Type 0} (f : X → Y) (xs ys : List X) (i : ℕ) (d : X) (out next : List Y) → ys ≡ xs → i < length ys → out ≡ map f (take i xs) → next ≡ out ++ f (get_or ys i d) ∷ [] → next ≡ map f (take (i + 1) xs)
+pub mapped_on : {X Y : Type 0} (f : X → Y) (xs ys : List X) (i : ℕ) (d : X) (out next : List Y) → ys ≡ xs
+    → i < length ys → out ≡ map f (take i xs) → next ≡ out ++ f (get_or ys i d) ∷ [] → next ≡ map f (take (i + 1) xs)
 mapped_on {X} f xs ys i d out next same within so_far pushed =
     let more : take (suc i) ys ≡ take i ys ++ get_or ys i d ∷ [] = take-suc ys i d within in
     let last : suc i ≡ i + 1 = omega arith in
@@ -122,7 +134,10 @@ the_code program t code within is =
     cc
 
 -- the next statement of a thread is on the locations of the test, and stands among at most 16
-pub next_statement : (words locs : ℕ) (threads : List Thread) (program : List (List Stmt)) (t : ℕ) (th : Thread) (code : List Stmt) (stmt : Stmt) → words ≡ locs → length threads ≡ length program → All (IsThread source locs) program → Some th ≡ slice_get threads t → code ≡ get_or program t code → Some stmt ≡ slice_get code th.position → IsStatement source words stmt × (th.position + 1 < 2 ^ 64)
+pub next_statement : (words locs : ℕ) (threads : List Thread) (program : List (List Stmt)) (t : ℕ) (th : Thread)
+    (code : List Stmt) (stmt : Stmt) → words ≡ locs → length threads ≡ length program → All (IsThread source locs) program
+    → Some th ≡ slice_get threads t → code ≡ get_or program t code → Some stmt ≡ slice_get code th.position
+    → IsStatement source words stmt × (th.position + 1 < 2 ^ 64)
 next_statement words locs threads program t th code stmt same many whole is_thread is_code is_stmt =
     let there = slice_get_within threads t th (sym is_thread) in
     let here = subst (IsThread source locs) (sym is_code) (whole t code (omega (arith, there, many))) in
@@ -135,18 +150,28 @@ pub made : (a b : List Thread) (u v : List ℕ) → a ≡ b → u ≡ v → (let
 made a b u v e f = rw (e, f) refl
 
 -- a step of a thread that has a next statement
-pub stepped : (Q : Type 0) (answer : Result (Unit {0}) Stop) (before run end : Running) (t : ℕ) (th : Thread) (code : List Stmt) (stmt : Stmt) → before ≡ run → answer ≡ Ok tt → length before.state.threads ≡ length before.program → Some th ≡ slice_get before.state.threads t → code ≡ get_or before.program t code → Some stmt ≡ slice_get code th.position → end.state.threads ≡ slice_set before.state.threads t (thread_after stmt th before.state.words) → end.state.words ≡ words_after stmt th before.state.words → MatchResult (source_step run.program t run.state) (λ next. (answer ≡ Ok tt) × (end.state ≡ next)) (λ stop. (answer ≡ Err stop) × Q)
+pub stepped : (Q : Type 0) (answer : Result (Unit {0}) Stop) (before run : Running) (end : State) (t : ℕ) (th : Thread)
+    (code : List Stmt) (stmt : Stmt) → before ≡ run → answer ≡ Ok tt → length before.state.threads ≡ length before.program
+    → Some th ≡ slice_get before.state.threads t → code ≡ get_or before.program t code → Some stmt ≡ slice_get code th.position
+    → end.threads ≡ slice_set before.state.threads t (thread_after (operation_of stmt) th before.state.words)
+    → end.words ≡ words_after (operation_of stmt) th before.state.words
+    → Told Q (source_step run.program t run.state) answer end
 stepped Q answer before run end t th code stmt same ok many is_thread is_code is_stmt threads words =
     let within = slice_get_within before.state.threads t th (sym is_thread) in
     let at_code = the_code before.program t code (omega (arith, within, many)) is_code in
     rw (← same) (rw (← is_thread) (rw (at_code, ← is_stmt) (ok, made _ _ _ _ threads words)))
 
 -- a step of a thread that is not there
-pub no_thread : (Q : Type 0) (answer : Result (Unit {0}) Stop) (before run : Running) (t : ℕ) → before ≡ run → answer ≡ Err NoCpu → None ≡ slice_get before.state.threads t → Q → MatchResult (source_step run.program t run.state) (λ next. (answer ≡ Ok tt) × (run.state ≡ next)) (λ stop. (answer ≡ Err stop) × Q)
+pub no_thread : (Q : Type 0) (answer : Result (Unit {0}) Stop) (before run : Running) (t : ℕ) → before ≡ run
+    → answer ≡ Err NoCpu → None ≡ slice_get before.state.threads t → Q
+    → Told Q (source_step run.program t run.state) answer run.state
 no_thread Q answer before run t same failed is_thread kept = rw (← same) (rw (← is_thread) (failed, kept))
 
 -- a step of a thread at its end
-pub no_statement : (Q : Type 0) (answer : Result (Unit {0}) Stop) (before run : Running) (t : ℕ) (th : Thread) (code : List Stmt) → before ≡ run → answer ≡ Err Ended → length before.state.threads ≡ length before.program → Some th ≡ slice_get before.state.threads t → code ≡ get_or before.program t code → None ≡ slice_get code th.position → Q → MatchResult (source_step run.program t run.state) (λ next. (answer ≡ Ok tt) × (run.state ≡ next)) (λ stop. (answer ≡ Err stop) × Q)
+pub no_statement : (Q : Type 0) (answer : Result (Unit {0}) Stop) (before run : Running) (t : ℕ) (th : Thread) (code : List Stmt)
+    → before ≡ run → answer ≡ Err Ended → length before.state.threads ≡ length before.program
+    → Some th ≡ slice_get before.state.threads t → code ≡ get_or before.program t code
+    → None ≡ slice_get code th.position → Q → Told Q (source_step run.program t run.state) answer run.state
 no_statement Q answer before run t th code same failed many is_thread is_code is_stmt kept =
     let within = slice_get_within before.state.threads t th (sym is_thread) in
     let at_code = the_code before.program t code (omega (arith, within, many)) is_code in
@@ -157,11 +182,14 @@ pub mapped_all : {X Y : Type 0} (f : X → Y) (xs ys : List X) (i : ℕ) (out : 
 mapped_all f xs ys i out same end so_far = so_far ∙ ap (map f) (take_all i xs (omega (arith, end, ap length same)))
 
 -- the outcome of a state, of which all registers are listed
-pub outcome_is : (regs : List (List ℕ)) (words : List ℕ) (s : State) → regs ≡ map (λ t. t.regs) s.threads → words ≡ s.words → (let o : Final = record { regs = regs; words = words } in o) ≡ outcome_of s
+pub outcome_is : (regs : List (List ℕ)) (words : List ℕ) (s : State) → regs ≡ map (λ t. t.regs) s.threads
+    → words ≡ s.words → (let o : Final = record { regs = regs; words = words } in o) ≡ outcome_of s
 outcome_is regs words s listed same = rw (listed, same) refl
 
 -- a list with the image of one more item in the place of another
-pub written_on : {X Z : Type 0} (f : X → Z) (items ys : List X) (old xs : List Z) (i : ℕ) (d : X) → items ≡ ys → xs ≡ map f (take i ys) ++ drop i old → i < length items → i < length old → slice_set xs i (f (get_or items i d)) ≡ map f (take (i + 1) ys) ++ drop (i + 1) old
+pub written_on : {X Z : Type 0} (f : X → Z) (items ys : List X) (old xs : List Z) (i : ℕ) (d : X) → items ≡ ys
+    → xs ≡ map f (take i ys) ++ drop i old → i < length items → i < length old
+    → slice_set xs i (f (get_or items i d)) ≡ map f (take (i + 1) ys) ++ drop (i + 1) old
 written_on f items ys old xs i d same is within there =
     let here : i < length ys = omega (arith, within, ap length same) in
     let front = length-map (take i ys) f ∙ length-take-le i ys (omega (arith, here)) in

@@ -1,35 +1,36 @@
 -- Every run of a program can be brought to its end: each processor is led to its own, one after another, by draining its
 -- buffer and stepping on once it is empty.
-use Rattle.std.proofs.Common.{◌≡◌, ◌≢◌, ℕ, zero, suc, ◌+◌, ◌<◌, ◌≤◌, ◌==◌, nat_le, ◌&&◌, Bool, true, false, not, cond, if◌then◌else◌, List, [], ◌∷◌, ◌++◌, length, get_or, Ok, Option, Some, None, refl, sym, ap, ap₂, ◌∙◌, subst, arith, ⊎_elim, slice_get, slice_set, slice_index, ne_eqb}
+use Rattle.std.proofs.Common.{inl, inr, ◌≡◌, ◌≢◌, ℕ, zero, suc, ◌+◌, ◌<◌, ◌≤◌, ◌==◌, nat_le, ◌&&◌, Bool, true, cond, List, [], ◌∷◌, ◌++◌, length, get_or, Ok, Option, Some, None, refl, sym, ap, ap₂, ◌∙◌, subst, arith, ⊎_elim, slice_get, slice_set, slice_index, ne_eqb}
 use Rattle.std.specs.Prelude.{All, IsTrue}
 use Rattle.std.specs.List.{list_all, zip}
-use Rattle.std.specs.Option.{ForSome}
 use Rattle.std.proofs.lemmas.Bool.{cases_eq, cases_lt, le-leb}
 use Rattle.std.proofs.lemmas.List.Sums.{sum_by-append, sum_by-cons, count_by-le-length}
-use Rattle.std.proofs.lemmas.Option.{slice_get_within, get_or_from_slice_get, slice_get-get_or, same_Some}
+use Rattle.std.proofs.lemmas.Option.{slice_get_within, slice_get-get_or, same_Some}
 use Rattle.circular_buffer.proofs.Places.{slice_get-set_same, slice_get-set_other}
 use Rattle.lw_base.specs.declared.event.Event.{Event}
 use Rattle.lw_base.specs.declared.event.Event.TheVariants.{Step, Drain, Evict}
 use Rattle.lw_memory.specs.declared.system.Request.TheVariants as to
 use Rattle.lw_memory.specs.MemoryLaws.{Invariant, Lawful}
 use Rattle.lw_memory.specs.Memory.{Memory}
-use Rattle.lw_litmus.specs.WellFormed.{IsThread, IsStatement}
+use Rattle.lw_litmus.specs.WellFormed.{IsThread}
 use Rattle.lw_litmus.specs.declared.instr.Instr.{Instr}
-use Rattle.lw_litmus.specs.declared.instr.Instr.TheVariants.{Store, Load, Set, Add, Cmp, Xchg, Xadd, Mfence, Je, Jne, Jmp}
-use Rattle.lw_litmus.specs.Programs.{IsWellFormedProgram, x86, target_of}
+use Rattle.lw_litmus.specs.declared.instr.Instr.TheVariants.{Mfence}
+use Rattle.lw_litmus.specs.Programs.{operation_of, x86}
+use Rattle.lw_litmus.specs.WellFormedTests.{IsWellFormedProgram}
 use Rattle.lw_litmus.specs.Tests.{ProgramTest}
 use Rattle.lw_tso.specs.Processors.{Processor}
 use Rattle.lw_base.specs.Threads.{code_of}
 use Rattle.lw_base.proofs.api.Replays.{Ran-append}
-use Rattle.lw_tso.specs.Acts.{Act, cpu_of, event_act, step_act, drain_act}
+use Rattle.lw_tso.specs.Acts.{Act, Refused, Goes, Loads, Stores, Swaps, Adds, Evicts, cpu_of, event_act, operation_act, step_act, drain_act}
 use Rattle.lw_tso.specs.Machines.{MachineState, ActDone, DoneBy, EventDone}
-use Rattle.lw_tso.specs.inner.Rooms.{HasRoom, is_store, stores_from}
+use Rattle.lw_tso.specs.inner.Rooms.{HasRoom, makes_entry, stores_from}
 use Rattle.lw_tso.specs.Runs.{MachineRan, machine_start, is_done, is_final}
 use Rattle.lw_tso.specs.Evictions.{without_evictions}
 use Rattle.lw_tso.specs.Endings.{events_of, CanEnd}
 use Rattle.lw_tso.specs.Starts.{CanStart}
-use Rattle.lw_tso.proofs.Rooms.{event_room}
-use Rattle.lw_tso.proofs.Lift.{IsWithin, thread_at, within_after, within_reached}
+use Rattle.lw_tso.proofs.Rooms.{forward, event_room}
+use Rattle.lw_tso.proofs.Lift.{IsWithin, asks_within, thread_at, within_after, within_reached}
+use Rattle.lw_tso.proofs.api.Operations.{Comes, operation_comes}
 
 without_append : (es fs : List Event) → without_evictions (es ++ fs) ≡ without_evictions es ++ without_evictions fs
 without_append [] fs = refl
@@ -52,42 +53,28 @@ all_done [] ps each = refl
 all_done (code ∷ codes) [] each = refl
 all_done (code ∷ codes) (p ∷ ps) each = and_true (is_done code p) _ (each 0 p refl) (all_done codes ps (λ t q at. each (suc t) q at))
 
-forward_jump : (holds : Bool) (k to : ℕ) → k < to → k < (if holds then to else (k + 1))
-forward_jump true k to lt = lt
-forward_jump false k to lt = omega arith
-
 module _ {M : Type 0} (mem : Memory M) (inv : Invariant M) (laws : Lawful mem inv) where
-  -- an act that is done and leads forward
-  record GoesForward (t k : ℕ) (act : Act) (p : Processor) (m : M) : Type 0 where
-    processor : Processor
-    memory : M
-    done : ActDone mem t act p m (Ok tt) processor memory
-    forward : k < processor.position
+  -- an act, done, makes such a processor
+  abbrev IsPossible : ℕ → Act → Processor → M → (Processor → Type 0) → Type 0
+  IsPossible t act p m Makes = (q : Processor) × (n : M) × ActDone mem t act p m (Ok tt) q n × Makes q
 
-  -- with an empty buffer each instruction is possible, and leads forward
-  possible : (locs t k : ℕ) (regs : List ℕ) (z : Bool) (i : Instr) (m : M) → inv.sound m → t < inv.cpus m → length (mem.content m) ≡ locs
-      → IsStatement x86 locs i → ForSome (target_of i) (λ to. k < to)
-      → (let p : Processor = record { position = k; regs = regs; zero_flag = z; buffer = [] } in GoesForward t k (step_act (Some i) p) p m)
-  possible locs t k regs z (Store x v) m sound cpu many ok leads = record { processor = _; memory = m; done = (refl, refl, refl); forward = omega arith }
-  possible locs t k regs z (Load d x) m sound cpu many ok leads =
-      let lt : x < length (mem.content m) = omega (arith, many, ok.0 x refl) in
-      let g = laws.serves m (to.Load t x) sound (cpu, lt) tt in
-      record { processor = _; memory = g.0; done = (slice_index (mem.content m) x, refl, refl, g.1); forward = omega arith }
-  possible locs t k regs z (Set d v) m sound cpu many ok leads = record { processor = _; memory = m; done = (refl, refl, refl); forward = omega arith }
-  possible locs t k regs z (Add d v) m sound cpu many ok leads = record { processor = _; memory = m; done = (refl, refl, refl); forward = omega arith }
-  possible locs t k regs z (Cmp a v) m sound cpu many ok leads = record { processor = _; memory = m; done = (refl, refl, refl); forward = omega arith }
-  possible locs t k regs z (Xchg x a) m sound cpu many ok leads =
-      let lt : x < length (mem.content m) = omega (arith, many, ok.0 x refl) in
-      let g = laws.serves m (to.Swap t x (slice_index regs a)) sound (cpu, lt) tt in
-      record { processor = _; memory = g.0; done = (slice_index (mem.content m) x, refl, refl, g.1); forward = omega arith }
-  possible locs t k regs z (Xadd x a) m sound cpu many ok leads =
-      let lt : x < length (mem.content m) = omega (arith, many, ok.0 x refl) in
-      let g = laws.serves m (to.FetchAdd t x (slice_index regs a)) sound (cpu, lt) tt in
-      record { processor = _; memory = g.0; done = (slice_index (mem.content m) x, refl, refl, g.1); forward = omega arith }
-  possible locs t k regs z Mfence m sound cpu many ok leads = record { processor = _; memory = m; done = (refl, refl, refl); forward = omega arith }
-  possible locs t k regs z (Je j) m sound cpu many ok leads = record { processor = _; memory = m; done = (refl, refl, refl); forward = forward_jump z k j (leads j refl) }
-  possible locs t k regs z (Jne j) m sound cpu many ok leads = record { processor = _; memory = m; done = (refl, refl, refl); forward = forward_jump (not z) k j (leads j refl) }
-  possible locs t k regs z (Jmp j) m sound cpu many ok leads = record { processor = _; memory = m; done = (refl, refl, refl); forward = leads j refl }
+  -- what is not refused, and asks for locations that are there, can be done
+  possible : (t : ℕ) (act : Act) (p : Processor) (m : M) (Makes : Processor → Type 0) → inv.sound m → t < inv.cpus m
+      → Comes ⊥ (λ x written. x < length (mem.content m)) Makes act → IsPossible t act p m Makes
+  possible t (Refused stop) p m Makes sound cpu comes = absurd comes
+  possible t (Goes next) p m Makes sound cpu comes = (next, m, (refl, refl, refl), comes)
+  possible t (Loads x next) p m Makes sound cpu comes =
+      let g = laws.serves m (to.Load t x) sound (cpu, comes.0) tt in
+      (next _, g.0, (slice_index (mem.content m) x, refl, refl, g.1), comes.1 _)
+  possible t (Stores x w next) p m Makes sound cpu comes =
+      let g = laws.serves m (to.Store t x w) sound (cpu, comes.0) tt in (next, g.0, (refl, refl, g.1), comes.1)
+  possible t (Swaps x v next) p m Makes sound cpu comes =
+      let g = laws.serves m (to.Swap t x v) sound (cpu, comes.0) tt in
+      (next _, g.0, (slice_index (mem.content m) x, refl, refl, g.1), comes.1 _)
+  possible t (Adds x v next) p m Makes sound cpu comes =
+      let g = laws.serves m (to.FetchAdd t x v) sound (cpu, comes.0) tt in
+      (next _, g.0, (slice_index (mem.content m) x, refl, refl, g.1), comes.1 _)
+  possible t (Evicts x) p m Makes sound cpu comes = absurd comes
 
   module _ (program : List (List Instr)) (locs : ℕ) (threads : All (IsThread x86 locs) program) where
     abbrev Within : MachineState M → Type 0
@@ -141,31 +128,30 @@ module _ {M : Type 0} (mem : Memory M) (inv : Invariant M) (laws : Lawful mem in
           kept = keeps f.events ∙ ap (λ l. e ∷ l) f.kept;
         }
 
-    -- the next instruction of a processor with an empty buffer
-    stepped : (t : ℕ) (s : MachineState M) (p : Processor) → Within s → slice_get s.processors t ≡ Some p → p.buffer ≡ [] → p.position < length (code_of program t)
-        → GoesForward t p.position (event_act program (length (mem.content s.memory)) (Step t) p) p s.memory
+    -- the next instruction of a processor with an empty buffer leads forward
+    stepped : (t : ℕ) (s : MachineState M) (p : Processor) → Within s → slice_get s.processors t ≡ Some p → p.buffer ≡ []
+        → p.position < length (code_of program t)
+        → IsPossible t (event_act program (length (mem.content s.memory)) (Step t) p) p s.memory (λ q. p.position < q.position)
     stepped t s p within at empty lt =
         let code = code_of program t in
         let thread = thread_at mem inv laws program locs threads s t p within at in
         let i : Instr = get_or code p.position Mfence in
         let next : slice_get code p.position ≡ Some i = slice_get-get_or code p.position Mfence lt in
-        let got : get_or code p.position i ≡ i = get_or_from_slice_get code p.position i i next in
         let cpu : t < inv.cpus s.memory = omega (arith, slice_get_within s.processors t p at, within.cpus) in
-        let g = possible locs t p.position p.regs p.zero_flag i s.memory within.sound cpu within.locations
-        (subst (IsStatement x86 locs) got (thread.there p.position i lt)) (λ j is. (thread.forward p.position i next j is).0) in
-        let same : (let q : Processor = record { position = p.position; regs = p.regs; zero_flag = p.zero_flag; buffer = [] } in q) ≡ p =
-        ap (λ (b : List (ℕ × ℕ)). let q : Processor = record { position = p.position; regs = p.regs; zero_flag = p.zero_flag; buffer = b } in q) (sym empty) in
-        let here = subst (λ (q : Processor). GoesForward t p.position (step_act (Some i) q) q s.memory) same g in
-        subst (λ o. GoesForward t p.position (step_act o p) p s.memory) (sym next) here
+        let comes = operation_comes ⊥ (λ x written. x < length (mem.content s.memory)) (λ q. p.position < q.position) (operation_of i) p
+        (λ waits full. full empty) (λ x is. asks_within mem inv laws program locs threads t p s within at x (inl (i, next, is)))
+        (λ q went. forward locs code thread p.position q.position i next went.leads) in
+        subst (λ o. IsPossible t (step_act o p) p s.memory (λ q. p.position < q.position)) (sym next)
+        (possible t (operation_act (operation_of i) p) p s.memory _ within.sound cpu comes)
 
-    drained : (t : ℕ) (s : MachineState M) (p : Processor) (entry : ℕ × ℕ) (newer : List (ℕ × ℕ)) → Within s → slice_get s.processors t ≡ Some p → p.buffer ≡ entry ∷ newer
-        → (n : M) × ActDone mem t (drain_act p.buffer p) p s.memory (Ok tt) (record p { buffer = newer }) n
+    drained : (t : ℕ) (s : MachineState M) (p : Processor) (entry : ℕ × ℕ) (newer : List (ℕ × ℕ)) → Within s
+        → slice_get s.processors t ≡ Some p → p.buffer ≡ entry ∷ newer
+        → IsPossible t (drain_act p.buffer p) p s.memory (λ q. q ≡ record p { buffer = newer })
     drained t s p entry newer within at full =
         let cpu : t < inv.cpus s.memory = omega (arith, slice_get_within s.processors t p at, within.cpus) in
-        let all : All (λ (e : ℕ × ℕ). e.0 < locs) (entry ∷ newer) = subst (All (λ (e : ℕ × ℕ). e.0 < locs)) full (within.rooms t p at).there in
-        let lt : entry.0 < length (mem.content s.memory) = omega (arith, within.locations, all 0 entry (omega arith)) in
-        let g = laws.serves s.memory (to.Store t entry.0 entry.1) within.sound (cpu, lt) tt in
-        (g.0, subst (λ (b : List (ℕ × ℕ)). ActDone mem t (drain_act b p) p s.memory (Ok tt) (record p { buffer = newer }) g.0) (sym full) (refl, refl, g.1))
+        let lt = asks_within mem inv laws program locs threads t p s within at entry.0 (inr (entry, newer, full, refl)) in
+        possible t (drain_act p.buffer p) p s.memory _ within.sound cpu
+        (subst (λ b. Comes ⊥ (λ x written. x < length (mem.content s.memory)) (λ q. q ≡ record p { buffer = newer }) (drain_act b p)) (sym full) (lt, refl))
 
     -- with at most r steps ahead, and k events
     finish : (t k r : ℕ) (s : MachineState M) (p : Processor) (b : List (ℕ × ℕ)) → Within s → slice_get s.processors t ≡ Some p → p.buffer ≡ b
@@ -174,8 +160,8 @@ module _ {M : Type 0} (mem : Memory M) (inv : Invariant M) (laws : Lawful mem in
     finish t zero r s p (entry ∷ newer) within at is ahead small = absurd (omega arith)
     finish t (suc k) r s p (entry ∷ newer) within at is ahead small =
         let d = drained t s p entry newer within at is in
-        first (Drain t) s p (record p { buffer = newer }) d.0 k within at d.1 (λ es. refl)
-        (λ mid w got. finish t k r mid (record p { buffer = newer }) newer w got refl ahead (omega arith))
+        first (Drain t) s p d.0 d.1 k within at d.2 (λ es. refl)
+        (λ mid w got. finish t k r mid (record p { buffer = newer }) newer w (got ∙ ap Some d.3) refl ahead (omega arith))
     finish t (suc k) zero s p [] within at is ahead small = ended t (suc k) s p within at (omega arith) is
     finish t (suc k) (suc r) s p [] within at is ahead small =
         ⊎_elim
@@ -190,9 +176,9 @@ module _ {M : Type 0} (mem : Memory M) (inv : Invariant M) (laws : Lawful mem in
         go lt later =
             let g = stepped t s p within at is lt in
             let had : HasRoom locs (code_of program t) p (stores_from p.position (code_of program t)) = record { fits = omega (arith, ap length is); there = (within.rooms t p at).there } in
-            let has = event_room mem program locs (stores_from p.position (code_of program t)) (Step t) p g.processor s.memory g.memory (Ok tt) (thread_at mem inv laws program locs threads s t p within at) g.done had in
-            first (Step t) s p g.processor g.memory k within at g.done (λ es. refl)
-            (λ mid w got. later mid g.processor w got (omega (arith, ahead, g.forward)) (omega (arith, small, has.fits)))
+            let has = event_room mem program locs (stores_from p.position (code_of program t)) (Step t) p g.0 s.memory g.1 (Ok tt) (thread_at mem inv laws program locs threads s t p within at) g.2 had in
+            first (Step t) s p g.0 g.1 k within at g.2 (λ es. refl)
+            (λ mid w got. later mid g.0 w got (omega (arith, ahead, g.3)) (omega (arith, small, has.fits)))
 
     -- the first k processors have come to their ends
     record Part (k : ℕ) (s : MachineState M) : Type 0 where
@@ -257,7 +243,7 @@ module _ {M : Type 0} (mem : Memory M) (inv : Invariant M) (laws : Lawful mem in
             go (Some p) at =
                 let code = code_of program k in
                 let thread = thread_at mem inv laws program locs threads a.end k p a.within at in
-                let most : stores_from 0 code ≤ length code = count_by-le-length is_store code in
+                let most : stores_from 0 code ≤ length code = count_by-le-length makes_entry code in
                 finish k 64 (length code) a.end p p.buffer a.within at refl (omega arith) (omega (arith, thread.short, (a.within.rooms k p at).fits, most))
 
     -- it ends from each state that runs lead to

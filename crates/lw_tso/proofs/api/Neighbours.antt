@@ -10,11 +10,12 @@ use Rattle.lw_base.specs.declared.event.Event.TheVariants.{Step, Drain, Evict}
 use Rattle.lw_memory.specs.Flat.{flat}
 use Rattle.lw_base.proofs.api.Lists.{got_set_same, got_set_other}
 use Rattle.lw_litmus.specs.declared.instr.Instr.{Instr}
+use Rattle.lw_litmus.specs.Programs.{operation_of}
 use Rattle.lw_tso.specs.Processors.{Processor}
 use Rattle.lw_tso.specs.Acts.{Act, Stores, cpu_of, event_act, step_act, drain_act}
 use Rattle.lw_tso.specs.Machines.{MachineState, position_of, EventDone}
 use Rattle.lw_tso.specs.Exchange.{MayPass, MayPassOldest, ArePassing, AreIndependent, StandsAt, DoneAt, IsExchangeable}
-use Rattle.lw_tso.proofs.Commuting.{acts_exchange, with_oldest, keeping, keeping_does, does_kept, LeavesAlone, step_alone}
+use Rattle.lw_tso.proofs.Commuting.{acts_exchange, with_oldest, keeping, keeping_does, does_kept, LeavesAlone, operation_alone}
 use Rattle.lw_tso.proofs.api.Effects.{state, Does, no_eviction, Did, leads_from, leads_to}
 
 -- ---- positions
@@ -47,7 +48,7 @@ record Passing (buffer : List (ℕ × ℕ)) (o : Option Instr) : Type 0 where
   instr : Instr
   full : buffer ≡ entry ∷ newer
   at : o ≡ Some instr
-  may : MayPass entry.0 instr
+  may : MayPass entry.0 (operation_of instr)
 
 passing : (buffer : List (ℕ × ℕ)) (o : Option Instr) → MayPassOldest buffer o → Passing buffer o
 passing [] o may = absurd may
@@ -127,7 +128,7 @@ module _ (program : List (List Instr)) where
       draining = Stores pass.entry.0 pass.entry.1 behind
 
       leaves : LeavesAlone pass.entry stepping (step_act (Some pass.instr) (with_oldest pass.entry behind))
-      leaves = step_alone pass.entry pass.instr behind pass.may
+      leaves = operation_alone pass.entry (operation_of pass.instr) behind pass.may
 
       first_act : step_act (slice_get (code_of program t) from.position) from ≡ keeping pass.entry stepping
       first_act = ap (λ o. step_act o from) pass.at ∙ ap (step_act (Some pass.instr)) from_is ∙ leaves.same

@@ -1,33 +1,25 @@
 -- How much room a store buffer needs: a place for each entry, and for each store that is still ahead. Jumps lead forward,
 -- so no flow path has more stores ahead than the code has at or behind the position. (It stands among the definitions
 -- because a model cites it.)
-use Rattle.std.specs.Prelude.{◌≡◌, ℕ, ◌+◌, ◌<◌, ◌≤◌, Bool, true, false, Some, List, length, drop, slice_get, All}
+use Rattle.std.specs.Prelude.{◌≡◌, ℕ, ◌+◌, ◌<◌, ◌≤◌, Bool, Some, List, length, drop, slice_get, All}
 use Rattle.std.specs.List.{count_by}
 use Rattle.lw_memory.specs.MemoryLaws.{Invariant}
 use Rattle.lw_memory.specs.Memory.{Memory}
 use Rattle.lw_litmus.specs.declared.instr.Instr.{Instr}
-use Rattle.lw_litmus.specs.declared.instr.Instr.TheVariants.{Store, Load, Set, Add, Cmp, Xchg, Xadd, Mfence, Je, Jne, Jmp}
+use Rattle.lw_litmus.specs.Operations.{is_store}
+use Rattle.lw_litmus.specs.Programs.{operation_of}
 use Rattle.lw_tso.specs.declared.processor.Processor.{Processor as ProcessorInMemory}
 use Rattle.lw_tso.specs.Processors.{Processor}
 use Rattle.lw_base.specs.Threads.{code_of}
 use Rattle.lw_tso.specs.inner.Views.{processor_of}
 
-abbrev pub is_store : Instr → Bool
-is_store (Store x v) = true
-is_store (Load d x) = false
-is_store (Set d v) = false
-is_store (Add d v) = false
-is_store (Cmp a v) = false
-is_store (Xchg x a) = false
-is_store (Xadd x a) = false
-is_store Mfence = false
-is_store (Je to) = false
-is_store (Jne to) = false
-is_store (Jmp to) = false
+-- its operation is a store, which makes an entry
+abbrev pub makes_entry : Instr → Bool
+makes_entry i = is_store (operation_of i)
 
 -- the stores of a code from a position on
 abbrev pub stores_from : ℕ → List Instr → ℕ
-stores_from k code = count_by is_store (drop k code)
+stores_from k code = count_by makes_entry (drop k code)
 
 -- The buffer has room for the stores that are ahead, and its entries are for locations of the test.
 pub record HasRoom (locs : ℕ) (code : List Instr) (p : Processor) (room : ℕ) : Type 0 where

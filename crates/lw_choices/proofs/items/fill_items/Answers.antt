@@ -7,14 +7,18 @@ use Rattle.lw_choices.proofs.items.fill_items.Goals as goal
 pub loop-thread-preserved : goal.loop-thread-preserved
 loop-thread-preserved g c =
     let cpu : c.unwrap-cpu.result ≡ c.loop-thread.thread = some_is _ c.new.result c.loop-thread.thread c.unwrap-cpu.result c.new.ensures c.unwrap-cpu.ensures in
-    let same : path_items g.S.Statement.behaviour c.unwrap-cpu.result c.in-Some.code.now c.as_slice.result.now ≡ path_items g.S.Statement.behaviour c.loop-thread.thread c.in-Some.code.now (path_of c.path-item.result) =
-    ap₂ (λ t p. path_items g.S.Statement.behaviour t c.in-Some.code.now p) cpu c.as_slice.ensures in
-    let pushed : c.push_path.new.items.items ≡ c.loop-thread.items.items ++ path_items g.S.Statement.behaviour c.loop-thread.thread c.in-Some.code.now (path_of c.path-item.result) =
+    let same : path_items g.S.Statement.language c.unwrap-cpu.result
+    c.in-Some.code.now c.as_slice.result.now ≡ path_items g.S.Statement.language c.loop-thread.thread c.in-Some.code.now (path_of c.path-item.result) =
+    ap₂ (λ t p. path_items g.S.Statement.language t c.in-Some.code.now p) cpu c.as_slice.ensures in
+    let pushed : c.push_path.new.items.items ≡ c.loop-thread.items.items ++ path_items
+    g.S.Statement.language c.loop-thread.thread c.in-Some.code.now (path_of c.path-item.result) =
     rw (← same) c.in_ok-push_path.ensures in record {
       few = c.loop-thread.invariant.few;
-      items = thread_pushed g.S.Statement.behaviour path_of c.args.program.now c.as_slice-path-items.result.now c.loop-thread.thread c.in-Some.code.now c.path-item.result c.loop-thread.items.items c.push_path.new.items.items _
+      items = thread_pushed g.S.Statement.language path_of c.args.program.now
+          c.as_slice-path-items.result.now c.loop-thread.thread c.in-Some.code.now c.path-item.result c.loop-thread.items.items c.push_path.new.items.items _
           c.in-Some.ensures.lookup.3.0 c.loop-thread-test.true c.in-Some.ensures.lookup.1 c.path-item.is pushed c.loop-thread.invariant.items;
     }
 
 pub returns : goal.returns
-returns g c = paths_done g.S.Statement.behaviour path_of c.args.program.now c.as_slice-path-items.result.now c.loop-thread.thread c.loop-thread.items.items _ c.loop-thread-test.false c.loop-thread.invariant.items
+returns g c = paths_done g.S.Statement.language path_of c.args.program.now c.as_slice-path-items.result.now
+    c.loop-thread.thread c.loop-thread.items.items _ c.loop-thread-test.false c.loop-thread.invariant.items

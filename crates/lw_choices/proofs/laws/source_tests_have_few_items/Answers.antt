@@ -1,4 +1,4 @@
-use Rattle.lw_choices.proofs.api.SourcePairs.{few_items}
+use Rattle.lw_choices.proofs.FewItems.{few_items}
 use Rattle.lw_choices.proofs.laws.source_tests_have_few_items.Goals as goal
 
 pub returns : goal.returns

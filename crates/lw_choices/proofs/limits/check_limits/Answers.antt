@@ -6,4 +6,5 @@ pub returns-clause-within : goal.returns-clause-within
 returns-clause-within g c = on_ok_weaker c.check_orders.result (λ orders. (c.in_ok-check_items.ensures.few, orders)) c.check_orders.ensures.orders
 
 pub returns-clause-err : goal.returns-clause-err
-returns-clause-err g c = IfErr-weaker c.check_orders.result _ _ (limit_told g.S.Statement.behaviour c.args.program.now c.in_ok-check_items.ensures.few) c.check_orders.ensures.err
+returns-clause-err g c =
+    IfErr-weaker c.check_orders.result _ _ (limit_told g.S.Statement.language c.args.program.now c.in_ok-check_items.ensures.few) c.check_orders.ensures.err

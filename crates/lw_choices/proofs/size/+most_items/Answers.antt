@@ -5,11 +5,12 @@ use Rattle.lw_choices.proofs.size.+most_items.Goals as goal
 
 pub most_items-requires : goal.most_items-requires
 most_items-requires g t c κs within =
-    let rest = visitable_rest g.S.Statement.behaviour.flow c.args.program.now c.in-Some.code.now c.in-Some.others.now c.in-Some.ensures.cases.0 c.requires in
-    let visitable : IsVisitable g.S.Statement.behaviour.flow c.in-Some.others.now = rest.0 in
+    let rest = visitable_rest g.S.Statement.language c.args.program.now c.in-Some.code.now c.in-Some.others.now c.in-Some.ensures.cases.0 c.requires in
+    let visitable : IsVisitable g.S.Statement.language c.in-Some.others.now = rest.0 in
     let fewer : length c.in-Some.others.now < length c.args.program.now = rest.1 in
     search rules
 
 pub returns-in-Some-clause-most : goal.returns-in-Some-clause-most
 returns-in-Some-clause-most g t c =
-    most_of_more g.S.Statement.behaviour c.args.program.now c.in-Some.code.now c.in-Some.others.now c.most_of_thread.result c.most_items.result c.in-Some.ensures.cases.0 c.most_of_thread.ensures.most c.most_items.ensures.most
+    most_of_more g.S.Statement.language c.args.program.now c.in-Some.code.now
+    c.in-Some.others.now c.most_of_thread.result c.most_items.result c.in-Some.ensures.cases.0 c.most_of_thread.ensures.most c.most_items.ensures.most

@@ -3,4 +3,4 @@ use Rattle.lw_choices.proofs.Sizes.{AreKnownFrom}
 use Rattle.lw_choices.proofs.size.most_of_thread.Given as goal
 
 abbrev pub invariant-loop-done : goal.invariant-loop-done
-invariant-loop-done g l = AreKnownFrom g.S.Statement.behaviour l.stmts (length l.stmts - l.done) l.most
+invariant-loop-done g l = AreKnownFrom g.S.Statement.language l.stmts (length l.stmts - l.done) l.most

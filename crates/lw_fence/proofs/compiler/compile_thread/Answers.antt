@@ -1,13 +1,6 @@
-use Rattle.std.proofs.Common.{◌≡◌, ◌+◌, length, ap, ap₂, ◌∙◌, arith}
+use Rattle.std.proofs.Common.{ap, ap₂, ◌∙◌}
 use Rattle.lw_fence.specs.Compiling.{rows, starts_from}
-use Rattle.lw_fence.proofs.Walk.{starts_many}
 use Rattle.lw_fence.proofs.compiler.compile_thread.Goals as goal
-
-pub rows_of-requires-clause-targets : goal.rows_of-requires-clause-targets
-rows_of-requires-clause-targets g c j s at to leads =
-    let forward = c.requires.forward j s at to leads in
-    let many : length c.as_slice-3.result.now ≡ length c.args.stmts.now + 1 = ap length (c.as_slice-3.ensures ∙ c.in_ok-starts.ensures) ∙ starts_many 0 _ c.args.stmts.now in
-    omega (arith, forward.1, many)
 
 pub returns : goal.returns
 returns g c = record {

@@ -13,4 +13,5 @@ loop-stmts-preserved g c =
     let code = c.in_ok-code.code in
     let read = slice_get_read c.as_slice-stmts-items.result.now _ c.loop-stmts.stmts-index stmts refl c.loop-stmts-test.true c.stmts-item.is in
     let at = rw c.as_slice-stmts-items.ensures at read in
-    one_compiled c.args.source.now.threads c.loop-stmts.stmts-index c.loop-stmts.instrs c.push.new.self c.loop-stmts.starts c.push-in-loop-stmts.new.self stmts code.instrs code.starts c.loop-stmts.invariant at (subst (λ l. IsCompiledThread l code.instrs code.starts) c.as_slice.ensures c.in_ok-code.ensures) c.in_ok-push.ensures.ok c.in_ok-push-2.ensures.ok
+    one_compiled _ _ _ _ _ _ _ _ _ c.loop-stmts.invariant at (subst (λ l. IsCompiledThread l code.instrs code.starts) c.as_slice.ensures c.in_ok-code.ensures)
+    c.in_ok-push.ensures.ok c.in_ok-push-2.ensures.ok

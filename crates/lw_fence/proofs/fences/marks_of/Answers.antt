@@ -1,6 +1,7 @@
 use Rattle.std.proofs.Common.{◌≡◌, ◌+◌, ℕ, arith, length, refl, sym, ◌∙◌, subst}
 use Rattle.std.specs.Prelude.{false, slice_index_or}
 use Rattle.std.proofs.lemmas.Option.{slice_get_read}
+use Rattle.lw_litmus.specs.Sources.{operation_of}
 use Rattle.lw_fence.specs.inner.Marks.{may_wait}
 use Rattle.lw_fence.proofs.Marks.{Marked, mark_step, marked_behind_stores, given_back}
 use Rattle.lw_fence.proofs.fences.marks_of.Goals as goal
@@ -11,9 +12,12 @@ loop-place-preserved g c =
     let marks = c.loop-place.marks.items in
     let stmt = c.index-code-place.result in
     let at = slice_get_read code _ c.loop-place.place stmt refl c.loop-place-test.true c.index-code-place.is in
-    let next = mark_step code c.requires.forward c.loop-place.place stmt marks (may_wait stmt (slice_index_or marks c.loop-place.place false)) at refl c.loop-place.invariant in
-    let new : Marked code (c.loop-place.place + 1) c.pass_statement.new.marks = rw (c.pass_statement.ensures, c.deref_mut.ensures.value) next in
-    subst (Marked code (c.loop-place.place + 1)) (sym (given_back marks c.pass_statement.new.marks _ c.loop-place.marks.len (omega arith) (new.as_many ∙ sym c.loop-place.invariant.as_many))) new
+    let waits = may_wait (operation_of stmt) (slice_index_or marks c.loop-place.place false) in
+    let next = mark_step code c.requires.forward c.loop-place.place stmt marks waits at refl c.loop-place.invariant in
+    let new : Marked code (c.loop-place.place + 1) c.pass_operation.new.marks =
+    rw (c.pass_operation.ensures, c.operation.ensures, c.deref_mut.ensures.value) next in
+    let back = given_back marks c.pass_operation.new.marks _ c.loop-place.marks.len (omega arith) (new.as_many ∙ sym c.loop-place.invariant.as_many) in
+    subst (Marked code (c.loop-place.place + 1)) (sym back) new
 
 pub returns-clause-behind : goal.returns-clause-behind
 returns-clause-behind g c =

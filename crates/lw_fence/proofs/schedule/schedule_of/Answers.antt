@@ -16,32 +16,39 @@ use Rattle.lw_fence.proofs.schedule.schedule_of.Goals as goal
 
 pub position-place-requires : goal.position-place-requires
 position-place-requires g c =
-    let turn = next_turn c.args.source.now.threads c.args.order.now c.loop-cpu.cpu-index c.cpu-item.result c.loop-cpu-test.true c.cpu-item.is c.loop-cpu.run.state c.loop-cpu.invariant.possible in
+    let turn = next_turn _ _ _ _ c.loop-cpu-test.true c.cpu-item.is _ c.loop-cpu.invariant.possible in
     slice_get_within c.loop-cpu.run.state.threads c.cpu-item.result turn.thread turn.was
 
 pub push_next-requires-clause-there : goal.push_next-requires-clause-there
 push_next-requires-clause-there g c =
-    let turn = next_turn c.args.source.now.threads c.args.order.now c.loop-cpu.cpu-index c.cpu-item.result c.loop-cpu-test.true c.cpu-item.is c.loop-cpu.run.state c.loop-cpu.invariant.possible in
-    let place = placed_in c.args.source.now.threads c.args.order.now c.loop-cpu.cpu-index c.cpu-item.result c.loop-cpu-test.true c.cpu-item.is c.loop-cpu.run.state turn c.position-place.result c.position-place.ensures in
+    let turn = next_turn _ _ _ _ c.loop-cpu-test.true c.cpu-item.is _ c.loop-cpu.invariant.possible in
+    let place = placed_in _ _ _ _ c.loop-cpu-test.true c.cpu-item.is _ turn _ c.position-place.ensures in
     rw place turn.there
 
 pub loop-cpu-preserved : goal.loop-cpu-preserved
 loop-cpu-preserved g c =
     let program = c.loop-cpu.invariant.program in
-    let turn = next_turn c.args.source.now.threads c.args.order.now c.loop-cpu.cpu-index c.cpu-item.result c.loop-cpu-test.true c.cpu-item.is c.loop-cpu.run.state c.loop-cpu.invariant.possible in
-    let one = possible (c.step.new.self ≡ c.loop-cpu.run) (source_step c.loop-cpu.run.program c.cpu-item.result c.loop-cpu.run.state) c.step.result c.unwrap.result c.step.new.self.state c.step.ensures.done c.unwrap.ensures in
+    let turn = next_turn _ _ _ _ c.loop-cpu-test.true c.cpu-item.is _ c.loop-cpu.invariant.possible in
+    let one = possible _ _ _ _ _ c.step.ensures.done c.unwrap.ensures in
     let step = ap (λ (codes : List (List Stmt)). source_step codes c.cpu-item.result c.loop-cpu.run.state) (sym program) ∙ one in
     let same : turn.mid ≡ c.step.new.self.state = cc in
     record {
       program = c.step.ensures.program ∙ program;
-      possible = subst (λ (s : State). (end : State) × Ran c.args.source.now.threads (map Step (drop (c.loop-cpu.cpu-index + 1) c.args.order.now)) s end) same turn.more;
-      so_far = one_further c.args.source.now.threads c.args.order.now c.loop-cpu.cpu-index c.cpu-item.result c.loop-cpu-test.true c.cpu-item.is c.args.compiled.now.starts c.loop-cpu.run.state c.step.new.self.state c.position-place.result c.loop-cpu.events.items c.push_next.new.events.items _ c.position-place.ensures step c.in_ok-push_next.ensures c.loop-cpu.invariant.so_far;
+      possible =
+          let rest = map Step (drop (c.loop-cpu.cpu-index + 1) c.args.order.now) in
+          subst (λ (s : State). (end : State) × Ran c.args.source.now.threads rest s end) same turn.more;
+      so_far =
+          one_further _ _ _ _ c.loop-cpu-test.true c.cpu-item.is _ _ _ _ _ _ _ c.position-place.ensures step c.in_ok-push_next.ensures
+          c.loop-cpu.invariant.so_far;
     }
 
 pub returns-clause-replays : goal.returns-clause-replays
 returns-clause-replays g c =
     λ o runs.
+    let events = c.loop-cpu.events.items in
+    let program = program_of c.args.compiled.now.program in
     let none = drop_all c.loop-cpu.cpu-index c.args.order.now c.loop-cpu-test.false in
-    let all = sym (append-nil c.loop-cpu.events.items) ∙ ap (λ (order : List ℕ). c.loop-cpu.events.items ++ schedule c.args.source.now.threads c.args.compiled.now.starts order c.loop-cpu.run.state) (sym none) ∙ c.loop-cpu.invariant.so_far in
-    let replays = schedule_replays (source_of c.args.source.now) (program_of c.args.compiled.now.program) c.args.compiled.now.starts c.args.order.now o c.args.source.now.well_formed c.requires.compiled runs in
-    subst (λ (es : List Event). Replays flat (program_of c.args.compiled.now.program) c.args.compiled.now.program.head.init_words es o) (sym all) replays
+    let rest = λ (order : List ℕ). schedule c.args.source.now.threads c.args.compiled.now.starts order c.loop-cpu.run.state in
+    let all = sym (append-nil events) ∙ ap (λ (order : List ℕ). events ++ rest order) (sym none) ∙ c.loop-cpu.invariant.so_far in
+    let replays = schedule_replays (source_of c.args.source.now) program _ _ o c.args.source.now.well_formed c.requires.compiled runs in
+    subst (λ (es : List Event). Replays flat program program.head.init_words es o) (sym all) replays

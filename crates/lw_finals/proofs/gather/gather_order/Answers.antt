@@ -10,5 +10,6 @@ returns-clause-gathered g c =
     let same = c.in_ok-outcome.ensures.outcome in
     let contains = c.contains.ensures in
     let end = c.end.ensures in
-    on_ok_weaker c.add.result (λ h. one_added _ _ c.args.found.now c.add.new.self (g.R.OrderRunner.end c.run.new.self) c.in_ok-outcome.outcome c.in_ok-outcome.schedule ran.1 same leads
+    on_ok_weaker c.add.result (λ h. one_added _ _ c.args.found.now c.add.new.self
+    (g.R.OrderRunner.end c.run.new.self) c.in_ok-outcome.outcome c.in_ok-outcome.schedule ran.1 same leads
     (h (λ i. true≢false (sym (contains.1 (rw end (rw same at i))) ∙ c.if-contains.false)))) c.add.ensures.added

@@ -14,6 +14,8 @@ invariant-loop-number g l =
       threads : l.self-inside.machine.program ≡ l.initial.self-inside.machine.program;
       initial : l.self-inside.machine.initial ≡ l.initial.self-inside.machine.initial;
       processors : length l.self-inside.machine.state.processors ≡ length l.initial.self-inside.machine.state.processors;
-      words : length ((caches_by Mesi).content l.self-inside.machine.state.memory) ≡ length ((caches_by Mesi).content l.initial.self-inside.machine.state.memory);
-      ran : RanFlat (caches_by Mesi) (program_of l.initial.self-inside.program.now) l.initial.self-inside.machine.state.memory l.items l.order l.number-index l.self-inside.machine.state;
+      words : length ((caches_by Mesi).content l.self-inside.machine.state.memory) ≡ length
+          ((caches_by Mesi).content l.initial.self-inside.machine.state.memory);
+      ran : RanFlat (caches_by Mesi)
+          (program_of l.initial.self-inside.program.now) l.initial.self-inside.machine.state.memory l.items l.order l.number-index l.self-inside.machine.state;
     }

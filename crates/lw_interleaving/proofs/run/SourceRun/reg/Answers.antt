@@ -7,4 +7,6 @@ use Rattle.lw_interleaving.proofs.run.SourceRun.reg.Goals as goal
 
 pub returns : goal.returns
 returns g c =
-    rw c.index-2.ensures.value (read_at (λ (t : Thread). slice_index t.regs c.args.reg) c.args.self.now.state.threads _ c.args.cpu _ _ (c.as_slice.ensures ∙ ap (λ (r : Running). r.state.threads) c.self.view_is) c.index.ensures.value c.requires)
+    let threads = c.as_slice.ensures ∙ ap (λ (r : Running). r.state.threads) c.self.view_is in
+    rw c.index-2.ensures.value
+    (read_at (λ (t : Thread). slice_index t.regs c.args.reg) _ _ c.args.cpu _ _ threads c.index.ensures.value c.requires)

@@ -8,12 +8,15 @@ pub loop-done-preserved : goal.loop-done-preserved
 loop-done-preserved g c =
     let before : Running = record { program = c.args.self.now.program; start = c.args.self.now.start; state = c.loop-done.self.state } in
     let done = rw (c.loop-done.invariant.program, c.loop-done.invariant.start) at c.act.ensures.done in
-    let one = possible (c.act.new.self ≡ before) (source_event c.args.self.now.program c.index-events-done.result c.loop-done.self.state) c.act.result c.in_default.field-0 c.act.new.self.state done c.in_default.is in
+    let one = possible (c.act.new.self ≡ before) (source_event c.args.self.now.program c.index-events-done.result c.loop-done.self.state)
+    c.act.result c.in_default.field-0 c.act.new.self.state done c.in_default.is in
     let kept = event_kept c.args.self.now.program c.index-events-done.result c.loop-done.self.state c.act.new.self.state one in
     record {
       program = c.act.ensures.program ∙ c.loop-done.invariant.program;
       start = c.act.ensures.start ∙ c.loop-done.invariant.start;
-      ran = Ran-more (EventDone c.args.self.now.program) (is_final c.args.self.now.program) c.args.events.now c.loop-done.done c.index-events-done.result c.args.self.now.state c.loop-done.self.state c.act.new.self.state c.loop-done-test.true c.index-events-done.is c.loop-done.invariant.ran one;
+      ran = Ran-more (EventDone c.args.self.now.program) (is_final c.args.self.now.program) c.args.events.now
+          c.loop-done.done c.index-events-done.result c.args.self.now.state c.loop-done.self.state
+          c.act.new.self.state c.loop-done-test.true c.index-events-done.is c.loop-done.invariant.ran one;
       threads = kept.0 ∙ c.loop-done.invariant.threads;
       words = kept.1 ∙ c.loop-done.invariant.words;
     }
@@ -22,7 +25,10 @@ pub returns-in-Err-clause-replayed : goal.returns-in-Err-clause-replayed
 returns-in-Err-clause-replayed g c =
     let before : Running = record { program = c.args.self.now.program; start = c.args.self.now.start; state = c.loop-done.self.state } in
     let done = rw (c.loop-done.invariant.program, c.loop-done.invariant.start) at c.act.ensures.done in
-    stopped (c.act.new.self ≡ before) c.args.self.now.program c.args.events.now c.index-events-done.result c.loop-done.done c.args.self.now.state c.loop-done.self.state c.act.new.self.state c.act.result c.in-Err.stop done (λ same. ap (λ (r : Running). r.state) same) c.in-Err.is c.loop-done-test.true c.index-events-done.is c.loop-done.invariant.ran
+    stopped (c.act.new.self ≡ before) c.args.self.now.program c.args.events.now c.index-events-done.result
+    c.loop-done.done c.args.self.now.state c.loop-done.self.state c.act.new.self.state c.act.result
+    c.in-Err.stop done (λ same. ap (λ (r : Running). r.state) same) c.in-Err.is c.loop-done-test.true
+    c.index-events-done.is c.loop-done.invariant.ran
 
 pub returns-then-is_final-clause-replayed : goal.returns-then-is_final-clause-replayed
 returns-then-is_final-clause-replayed g c =
@@ -37,32 +43,8 @@ returns-else-is_final-clause-replayed g c =
 pub loop-done-init : goal.loop-done-init
 loop-done-init g c = record { program = refl; start = refl; ran = refl; threads = refl; words = refl }
 
-pub returns-then-is_final-clause-program : goal.returns-then-is_final-clause-program
-returns-then-is_final-clause-program g c = c.loop-done.invariant.program
-
-pub returns-then-is_final-clause-threads : goal.returns-then-is_final-clause-threads
-returns-then-is_final-clause-threads g c = c.loop-done.invariant.threads
-
-pub returns-then-is_final-clause-words : goal.returns-then-is_final-clause-words
-returns-then-is_final-clause-words g c = c.loop-done.invariant.words
-
-pub returns-else-is_final-clause-program : goal.returns-else-is_final-clause-program
-returns-else-is_final-clause-program g c = c.loop-done.invariant.program
-
-pub returns-else-is_final-clause-threads : goal.returns-else-is_final-clause-threads
-returns-else-is_final-clause-threads g c = c.loop-done.invariant.threads
-
-pub returns-else-is_final-clause-words : goal.returns-else-is_final-clause-words
-returns-else-is_final-clause-words g c = c.loop-done.invariant.words
-
 pub returns-in-Err-clause-program : goal.returns-in-Err-clause-program
 returns-in-Err-clause-program g c = c.act.ensures.program ∙ c.loop-done.invariant.program
-
-pub returns-then-is_final-clause-start : goal.returns-then-is_final-clause-start
-returns-then-is_final-clause-start g c = c.loop-done.invariant.start
-
-pub returns-else-is_final-clause-start : goal.returns-else-is_final-clause-start
-returns-else-is_final-clause-start g c = c.loop-done.invariant.start
 
 pub returns-in-Err-clause-start : goal.returns-in-Err-clause-start
 returns-in-Err-clause-start g c = c.act.ensures.start ∙ c.loop-done.invariant.start

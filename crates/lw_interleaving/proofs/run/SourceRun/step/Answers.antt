@@ -8,27 +8,28 @@ pub returns-clause-done : goal.returns-clause-done
 returns-clause-done g c =
     let thread = rw c.index.ensures.value at c.in-Some.ensures in
     let code = rw (c.as_slice.ensures, c.index-2.ensures.value) at c.index-as_slice-index.is in
-    let next = rw c.as_slice-2.ensures at c.after-next.ensures in
+    let next = rw (c.operation-operation.ensures, c.as_slice-2.ensures) at c.after-next.ensures in
     let threads = rw (c.index-3.ensures.value, next) at c.set.ensures in
-    let end : Running = record { program = c.self.inside.source.now.threads; start = c.args.self.now.start; state = record { threads = c.set.new.self; words = c.write.new.words } } in
-    stepped _ _ _ _ end c.args.cpu c.in-Some.thread.now c.index-as_slice-index.result c.in-Some-get.stmt.now c.self.view_is refl c.self.invariant.0 thread code c.in-Some-get.ensures threads c.write.ensures
+    let words = rw c.operation-operation.ensures at c.write.ensures in
+    stepped _ _ _ _ _ c.args.cpu _ _ _ c.self.view_is refl c.self.invariant.0 thread code c.in-Some-get.ensures threads words
 
 pub after-next-requires : goal.after-next-requires
 after-next-requires g c =
     let thread = rw c.index.ensures.value at c.in-Some.ensures in
     let code = rw (c.as_slice.ensures, c.index-2.ensures.value) at c.index-as_slice-index.is in
-    let next = next_statement (length c.self.inside.words) _ _ _ c.args.cpu c.in-Some.thread.now c.index-as_slice-index.result c.in-Some-get.stmt.now c.self.invariant.1 c.self.invariant.0 c.self.inside.source.now.well_formed.code thread code c.in-Some-get.ensures in
-    record { stmt = rw c.as_slice-2.ensures next.0; room = next.1 }
+    let next =
+    next_statement _ _ _ _ c.args.cpu _ _ _ c.self.invariant.1 c.self.invariant.0 c.self.inside.source.now.well_formed.code
+    thread code c.in-Some-get.ensures in
+    record { operation = rw (c.operation-operation.ensures, c.as_slice-2.ensures) next.0; room = next.1 }
 
 pub write-requires : goal.write-requires
 write-requires g c =
     let thread = rw c.index.ensures.value at c.in-Some.ensures in
     let code = rw (c.as_slice.ensures, c.index-2.ensures.value) at c.index-as_slice-index.is in
-    let next = next_statement (length c.self.inside.words) _ _ _ c.args.cpu c.in-Some.thread.now c.index-as_slice-index.result c.in-Some-get.stmt.now c.self.invariant.1 c.self.invariant.0 c.self.inside.source.now.well_formed.code thread code c.in-Some-get.ensures in
-    next.0
-
-pub returns-in_default-clause-program : goal.returns-in_default-clause-program
-returns-in_default-clause-program g c = refl
+    let next =
+    next_statement _ _ _ _ c.args.cpu _ _ _ c.self.invariant.1 c.self.invariant.0 c.self.inside.source.now.well_formed.code
+    thread code c.in-Some-get.ensures in
+    rw c.operation-operation.ensures next.0
 
 pub returns-in_default-clause-done : goal.returns-in_default-clause-done
 returns-in_default-clause-done g c = no_thread _ _ _ c.args.self.now c.args.cpu c.self.view_is refl (rw c.index.ensures.value at c.in_default.ensures) refl
@@ -36,26 +37,26 @@ returns-in_default-clause-done g c = no_thread _ _ _ c.args.self.now c.args.cpu 
 pub bounds-as_slice-index : goal.bounds-as_slice-index
 bounds-as_slice-index g c =
     let thread = rw c.index.ensures.value at c.in-Some.ensures in
-    omega (arith, slice_get_within c.self.inside.threads c.args.cpu c.in-Some.thread.now (sym thread), c.self.invariant.0, ap length c.as_slice.ensures, c.index-2.ensures.value)
-
-pub returns-in_default-get-clause-program : goal.returns-in_default-get-clause-program
-returns-in_default-get-clause-program g c = refl
+    let within = slice_get_within c.self.inside.threads c.args.cpu c.in-Some.thread.now (sym thread) in
+    omega (arith, within, c.self.invariant.0, ap length c.as_slice.ensures, c.index-2.ensures.value)
 
 pub returns-in_default-get-clause-done : goal.returns-in_default-get-clause-done
 returns-in_default-get-clause-done g c =
     let thread = rw c.index.ensures.value at c.in-Some.ensures in
     let code = rw (c.as_slice.ensures, c.index-2.ensures.value) at c.index-as_slice-index.is in
-    no_statement _ _ _ c.args.self.now c.args.cpu c.in-Some.thread.now c.index-as_slice-index.result c.self.view_is refl c.self.invariant.0 thread code c.in_default-get.ensures refl
+    no_statement _ _ _ c.args.self.now c.args.cpu _ _ c.self.view_is refl c.self.invariant.0 thread code c.in_default-get.ensures refl
 
 pub set-requires : goal.set-requires
 set-requires g c =
     let thread = rw c.index.ensures.value at c.in-Some.ensures in
-    rw c.index-3.ensures.value (slice_get_within c.self.inside.threads c.args.cpu c.in-Some.thread.now (sym thread))
+    rw c.index-3.ensures.value (slice_get_within _ _ _ (sym thread))
 
 pub invariant_of-self : goal.invariant_of-self
 invariant_of-self g c =
-    let threads = rw c.index-3.ensures.value at c.set.ensures in
-    (ap length threads ∙ set_length _ _ _ ∙ c.self.invariant.0, ap length c.write.ensures ∙ words_kept c.in-Some-get.stmt.now c.in-Some.thread.now c.self.inside.words ∙ c.self.invariant.1)
+    let threads = rw c.index-3.ensures.value at c.set.ensures in (
+      ap length threads ∙ set_length _ _ _ ∙ c.self.invariant.0,
+      ap length c.write.ensures ∙ words_kept _ _ c.self.inside.words ∙ c.self.invariant.1,
+    )
 
 pub returns-clause-program : goal.returns-clause-program
 returns-clause-program g c = ap (λ (r : Running). r.program) c.self.view_is
@@ -67,25 +68,7 @@ returns-clause-threads g c =
 
 pub returns-clause-words : goal.returns-clause-words
 returns-clause-words g c =
-    ap length c.write.ensures ∙ words_kept c.in-Some-get.stmt.now c.in-Some.thread.now c.self.inside.words ∙ ap (λ (r : Running). length r.state.words) c.self.view_is
-
-pub returns-in_default-clause-threads : goal.returns-in_default-clause-threads
-returns-in_default-clause-threads g c = refl
-
-pub returns-in_default-clause-words : goal.returns-in_default-clause-words
-returns-in_default-clause-words g c = refl
-
-pub returns-in_default-get-clause-threads : goal.returns-in_default-get-clause-threads
-returns-in_default-get-clause-threads g c = refl
-
-pub returns-in_default-get-clause-words : goal.returns-in_default-get-clause-words
-returns-in_default-get-clause-words g c = refl
+    ap length c.write.ensures ∙ words_kept _ _ c.self.inside.words ∙ ap (λ (r : Running). length r.state.words) c.self.view_is
 
 pub returns-clause-start : goal.returns-clause-start
 returns-clause-start g c = ap (λ (r : Running). r.start) c.self.view_is
-
-pub returns-in_default-clause-start : goal.returns-in_default-clause-start
-returns-in_default-clause-start g c = refl
-
-pub returns-in_default-get-clause-start : goal.returns-in_default-get-clause-start
-returns-in_default-get-clause-start g c = refl

@@ -1,5 +1,5 @@
 use Rattle.std.proofs.Common.{ap}
-use Rattle.lw_litmus.specs.Sources.{location_of}
+use Rattle.lw_litmus.specs.Operations.{location_of}
 use Rattle.lw_interleaving.proofs.thread.Thread.write.Goals as goal
 
 pub set-requires : goal.set-requires

@@ -1,0 +1,59 @@
+-- A source test never has too many items for a list: its threads are short.
+use Rattle.std.proofs.Common.{ℕ, suc, ◌+◌, ◌*◌, ◌≤◌, false, true, Option, Some, None, List, [], ◌∷◌, length, slice_get, arith, length-append}
+use Rattle.std.specs.Prelude.{All}
+use Rattle.std.specs.Option.{option_map_or}
+use Rattle.std.proofs.lemmas.List.Elements.{All-head, All-tail}
+use Rattle.lw_litmus.specs.Flow.{IsPathFrom}
+use Rattle.lw_litmus.specs.Languages.{Language}
+use Rattle.lw_litmus.specs.Sources.{source}
+use Rattle.lw_litmus.specs.WellFormedTests.{IsWellFormedSource}
+use Rattle.lw_litmus.specs.Tests.{SourceTest}
+use Rattle.lw_litmus.specs.WellFormed.{IsThread}
+use Rattle.lw_choices.specs.Choices.{IsForward, IsChoice}
+use Rattle.lw_choices.specs.Counts.{HasTooManyItems}
+use Rattle.lw_choices.specs.Items.{items_at, path_items, items_from, drains}
+use Rattle.lw_choices.proofs.api.Led.{follows_within}
+use Rattle.lw_choices.proofs.api.Numbering.{item}
+
+module _ {S : Type 0} (language : Language S) where
+  two_at : (t j : ℕ) (o : Option S) → length (items_at language t j o) ≤ 2
+  two_at t j None = omega arith
+  two_at t j (Some s) = go (drains language s)
+    where
+      go : (o : Option ℕ) → length (item t j false ∷ option_map_or (λ x. item t j true ∷ []) o []) ≤ 2
+      go None = omega arith
+      go (Some x) = omega arith
+
+  -- at most two for each position that is passed
+  path_few : (t : ℕ) (code : List S) (at : ℕ) (path : List ℕ)
+      → IsForward language code → IsPathFrom language code at path → length (path_items language t code path) + (at + at) ≤ length code + length code
+  path_few t code at [] forward h = omega (arith, h)
+  path_few t code at (j ∷ path) forward (same, next, f, goes) =
+      omega (
+        arith,
+        length-append (items_at language t j (slice_get code j)) (path_items language t code path),
+        two_at t j (slice_get code j),
+        follows_within language code at next forward f,
+        path_few t code next path forward goes,
+      )
+
+  module _ (locs : ℕ) (short : language.most ≤ 16) where
+    choice_few : (t : ℕ) (program : List (List S)) (paths : List (List ℕ))
+        → All (IsThread language locs) program → IsChoice language program paths → length (items_from language t program paths) ≤ 32 * length program
+    choice_few t [] paths all c = omega arith
+    choice_few t (code ∷ program) [] all c = absurd c
+    choice_few t (code ∷ program) (path ∷ paths) all c =
+        let is : IsThread language locs code = All-head (IsThread language locs) code program all in
+        omega (
+          arith,
+          length-append (path_items language t code path) (items_from language (suc t) program paths),
+          path_few t code 0 path is.forward c.0,
+          is.short,
+          short,
+          choice_few (suc t) program paths (All-tail (IsThread language locs) code program all) c.1,
+        )
+
+-- no choice has too many items
+pub few_items : (s : SourceTest) → IsWellFormedSource s → HasTooManyItems source s.threads → ⊥
+few_items s is (paths, choice, many) =
+    omega (arith, choice_few source (length s.head.locs) (omega arith) 0 s.threads paths is.code choice, many, is.head.few, is.as_many)

@@ -1,0 +1,87 @@
+-- A state of the source and one of the machine, thread by thread with its processor.
+use Rattle.std.proofs.Common.{◌≡◌, ℕ, ◌<◌, List, length, map, Some, refl, sym, ap, ap₂, ◌∙◌, subst₂, arith, length-set}
+use Rattle.std.specs.Prelude.{slice_get, slice_set}
+use Rattle.std.proofs.lemmas.List.{length-map}
+use Rattle.std.proofs.lemmas.List.Elements.{All-from_recursion}
+use Rattle.std.proofs.lemmas.Option.{same_Some, slice_get_within, get_or_from_slice_get}
+use Rattle.lw_base.specs.Heads.{TestHead}
+use Rattle.lw_base.specs.Outcomes.{Final}
+use Rattle.lw_base.specs.declared.limits.TheConstants.{REGISTERS}
+use Rattle.lw_base.proofs.api.Lists.{fellows_after, get_some}
+use Rattle.lw_base.proofs.api.SideBySide.{got_map, same_maps}
+use Rattle.lw_memory.specs.Flat.{flat}
+use Rattle.lw_litmus.specs.WellFormedTests.{IsWellFormedSource}
+use Rattle.lw_litmus.specs.Tests.{SourceTest, ProgramTest}
+use Rattle.lw_interleaving.specs.declared.thread.Thread.{Thread}
+use Rattle.lw_interleaving.specs.Runs.{State, start_of, outcome_of, starting as thread_starting}
+use Rattle.lw_interleaving.proofs.api.Exchange.{state_of}
+use Rattle.lw_tso.specs.Machines.{MachineState}
+use Rattle.lw_tso.specs.Processors.{Processor, starting}
+use Rattle.lw_tso.specs.Runs.{machine_start, machine_outcome}
+use Rattle.lw_tso.proofs.api.Effects.{state}
+use Rattle.lw_fence.specs.Compiling.{IsCompiled}
+
+-- the machine at the start of a compiled source
+abbrev pub compiled_start : SourceTest → MachineState (List ℕ)
+compiled_start s = state (map starting s.head.init_regs) s.head.init_words
+
+pub start_is : (s : SourceTest) (p : ProgramTest) (starts : List (List ℕ)) → IsCompiled s p starts
+    → machine_start p p.head.init_words ≡ compiled_start s
+start_is s p starts compiled = ap (λ (h : TestHead). state (map starting h.init_regs) h.init_words) compiled.head
+
+module _ (s : SourceTest) (At : ℕ → Thread → Processor → Type 0) where
+  -- Over one memory, each thread is such beside its processor.
+  pub record Beside (ss : State) (ms : MachineState (List ℕ)) : Type 0 where
+    pub words : ms.memory ≡ ss.words
+    pub as_many : length ss.threads ≡ length s.threads
+    pub as_many_processors : length ms.processors ≡ length s.threads
+    pub at : (t : ℕ) (th : Thread) (c : Processor) → slice_get ss.threads t ≡ Some th → slice_get ms.processors t ≡ Some c → At t th c
+
+  module _ (ss : State) (ms : MachineState (List ℕ)) (b : Beside ss ms) where
+    -- the thread of a number, and its processor
+    pub thread_at : (t : ℕ) → t < length s.threads → (th : Thread) × (slice_get ss.threads t ≡ Some th)
+    thread_at t lt = get_some ss.threads t (omega (arith, lt, b.as_many))
+
+    pub processor_at : (t : ℕ) → t < length s.threads → (c : Processor) × (slice_get ms.processors t ≡ Some c)
+    processor_at t lt = get_some ms.processors t (omega (arith, lt, b.as_many_processors))
+
+    -- A thread and its processor have gone on.
+    pub gone_on : (t : ℕ) (th next : Thread) (c q : Processor) (n : List ℕ) → slice_get ss.threads t ≡ Some th
+        → slice_get ms.processors t ≡ Some c → At t next q
+        → Beside (state_of (slice_set ss.threads t next) n) (state (slice_set ms.processors t q) n)
+    gone_on t th next c q n was got at = record {
+      words = refl;
+      as_many = length-set ss.threads t next ∙ b.as_many;
+      as_many_processors = length-set ms.processors t q ∙ b.as_many_processors;
+      at = fellows_after At ss.threads ms.processors t th next c q was got (λ u x d ne e f. b.at u x d e f) at;
+    }
+
+    -- One outcome, where each thread has the registers of its processor.
+    pub same_outcome : ((t : ℕ) (th : Thread) (c : Processor) → slice_get ss.threads t ≡ Some th
+        → slice_get ms.processors t ≡ Some c → th.regs ≡ c.regs) → outcome_of ss ≡ machine_outcome flat ms
+    same_outcome same =
+        ap₂ (λ (r : List (List ℕ)) (w : List ℕ). let o : Final = record { regs = r; words = w } in o)
+        (same_maps (λ (th : Thread). th.regs) (λ (c : Processor). c.regs) ss.threads ms.processors (b.as_many ∙ sym b.as_many_processors) same)
+        (sym b.words)
+
+  -- At the start, where it is so of a thread with six registers.
+  pub first : IsWellFormedSource s → ((t : ℕ) (regs : List ℕ) → t < length s.threads → length regs ≡ 6
+      → At t (thread_starting regs) (starting regs)) → Beside (start_of s) (compiled_start s)
+  first ok each = record {
+    words = refl;
+    as_many = length-map s.head.init_regs _ ∙ many;
+    as_many_processors = length-map s.head.init_regs _ ∙ many;
+    at = λ t th c e f. go t th c (got_map thread_starting s.head.init_regs t th e) (got_map starting s.head.init_regs t c f);
+  }
+    where
+      many : length s.head.init_regs ≡ length s.threads
+      many = ok.head.regs ∙ sym ok.as_many
+
+      go : (t : ℕ) (th : Thread) (c : Processor) → (r : List ℕ) × (slice_get s.head.init_regs t ≡ Some r) × (th ≡ thread_starting r)
+          → (r : List ℕ) × (slice_get s.head.init_regs t ≡ Some r) × (c ≡ starting r) → At t th c
+      go t th c a b =
+          let within = slice_get_within s.head.init_regs t a.0 a.1 in
+          let six = All-from_recursion (λ (r : List ℕ). length r ≡ REGISTERS) s.head.init_regs ok.head.six t a.0 within in
+          let same = ap starting (same_Some a.0 b.0 (sym a.1 ∙ b.1)) ∙ sym b.2 in
+          subst₂ (λ x d. At t x d) (sym a.2) same
+          (each t a.0 (omega (arith, within, many)) (ap length (sym (get_or_from_slice_get s.head.init_regs t a.0 a.0 a.1)) ∙ six))

@@ -1,0 +1,191 @@
+-- The order of the items that a run of a program to its end carries out, in either language: each item of the paths stands there
+-- once, and the fixed pairs are kept.
+use Rattle.std.proofs.Common.{◌≡◌, ℕ, zero, suc, ◌+◌, ◌<◌, inl, inr, List, [], ◌∷◌, map, length, Option, Some, Bool, true, false, refl, sym, ap, ◌∙◌, subst, arith, slice_get}
+use Rattle.std.specs.Prelude.{All, Contains}
+use Rattle.std.proofs.lemmas.Bool.{cases_eq, cases_lt, cases_order, cases_Bool}
+use Rattle.std.proofs.lemmas.Option.{none-some}
+use Rattle.std.proofs.lemmas.List.Elements.{All-nil, All-cons, All-head, All-tail, All-weaker}
+use Rattle.lw_base.specs.Threads.{code_of}
+use Rattle.lw_orders.specs.Order.{place, Before, Once, Keeps, IsLinearExtension}
+use Rattle.lw_orders.specs.Sequence.{numbers}
+use Rattle.lw_orders.proofs.api.Places.{place-same, place-other, same_place, All-stands, order_from}
+use Rattle.lw_litmus.specs.Flow.{IsPathFrom}
+use Rattle.lw_litmus.specs.Languages.{Language}
+use Rattle.lw_choices.specs.Choices.{IsForward, IsChoice}
+use Rattle.lw_choices.specs.declared.item.Item.{Item}
+use Rattle.lw_choices.specs.Items.{item_at, items_of, constraints_of}
+use Rattle.lw_choices.proofs.api.FixedOrder.{AreOrdered, keeps_all}
+use Rattle.lw_choices.proofs.api.Members.{none_in, Contains-cons, from_map}
+use Rattle.lw_choices.proofs.api.Numbering.{In, Pairwise, Has, item, item_there, IsReal, as_many, real, slot_goes_up, same_number}
+use Rattle.lw_finals.specs.OrderRuns.{ItemsRan, OrderRan}
+use Rattle.lw_finals.proofs.Taken.{IsRight, IsAhead, Completed}
+
+-- what is in a list is found there
+found_there : (xs : List ℕ) (i : ℕ) → Contains xs i → place xs i < length xs
+found_there [] i c = absurd (none_in i c)
+found_there (x ∷ xs) i c = elim (cases_eq x i) [
+  | inl e ↦ omega (arith, place-same x xs i e)
+  | inr ne ↦ elim (Contains-cons x i xs c) [
+    | inl e ↦ absurd (ne e)
+    | inr r ↦ omega (arith, place-other x xs i ne, found_there xs i r)
+  ]
+]
+
+-- a list that is a function's, by its places
+code_listed : (P : ℕ → List ℕ) (k n t : ℕ) → t < n → code_of (map P (numbers k n)) t ≡ P (k + t)
+code_listed P k zero t l = absurd (omega arith)
+code_listed P k (suc n) zero l = let e : k ≡ k + 0 = omega arith in ap P e
+code_listed P k (suc n) (suc t) l = let e : suc k + t ≡ k + suc t = omega arith in code_listed P (suc k) n t (omega arith) ∙ ap P e
+
+module _ {S : Type 0} (language : Language S) where
+  choice_listed : (program : List (List S)) (P : ℕ → List ℕ) (k : ℕ)
+      → ((t : ℕ) → t < length program → IsPathFrom language (code_of program t) 0 (P (k + t))) → IsChoice language program (map P (numbers k (length program)))
+  choice_listed [] P k each = tt
+  choice_listed (code ∷ program) P k each =
+      let first : k + 0 ≡ k = omega arith in (
+        subst (λ (n : ℕ). IsPathFrom language code 0 (P n)) first (each 0 (omega arith)),
+        choice_listed program P (suc k) (λ t l. (let next : k + suc t ≡ suc k + t = omega arith in
+            subst (λ (n : ℕ). IsPathFrom language (code_of program t) 0 (P n)) next (each (suc t) (omega arith)))),
+      )
+
+  code_within : (program : List (List S)) (t j : ℕ) (i : S) → slice_get (code_of program t) j ≡ Some i → t < length program
+  code_within [] t j i e = absurd (none-some i e)
+  code_within (code ∷ program) zero j i e = omega arith
+  code_within (code ∷ program) (suc t) j i e = omega (arith, code_within program t j i e)
+
+-- lists of numbers, and the items that they name
+module _ {S : Type 0} (language : Language S) (program : List (List S)) (items : List Item) where
+  abbrev it : ℕ → Item
+  it i = item_at items i
+
+  record Named (done : List Item) : Type 0 where
+    pub order : List ℕ
+    pub same : map it order ≡ done
+    pub below : All (λ i. i < length items) order
+
+  named : (done : List Item) → All (Has items) done → Named done
+  named [] h = record { order = []; same = refl; below = All-nil (λ i. i < length items) }
+  named (a ∷ done) h =
+      let r : Named done = named done (All-tail (Has items) a done h) in
+      let n : Has items a = All-head (Has items) a done h in
+      record {
+        order = n.0 ∷ r.order;
+        same = ap (λ xs. it n.0 ∷ xs) r.same
+            ∙ ap (λ x. x ∷ done) n.2;
+        below = All-cons (λ i. i < length items) n.0 r.order n.1 r.below;
+      }
+
+  each_placed : (P : Item → Type 0) (xs : List ℕ) (i : ℕ) → All P (map it xs) → place xs i < length xs → P (it i)
+  each_placed P [] i h l = absurd (omega arith)
+  each_placed P (x ∷ xs) i h l = elim (cases_eq x i) [
+    | inl e ↦ subst (λ k. P (it k)) e (All-head P (it x) (map it xs) h)
+    | inr ne ↦ each_placed P xs i (All-tail P (it x) (map it xs) h) (omega (arith, place-other x xs i ne))
+  ]
+
+  -- none stands twice
+  once : (xs : List ℕ) → Pairwise (IsRight language program) (map it xs) → Once xs
+  once [] h = tt
+  once (x ∷ xs) h = (
+    elim (cases_lt (place xs x) (length xs)) [
+      | inl l ↦ absurd (each_placed (IsRight language program (it x)) xs x h.0 l refl (omega arith) (λ d. inl d))
+      | inr ge ↦ ge
+    ],
+    once xs h.1,
+  )
+
+  before_right : (xs : List ℕ) (j i : ℕ) → Pairwise (IsRight language program) (map it xs)
+      → place xs j < place xs i → place xs i < length xs → IsRight language program (it j) (it i)
+  before_right [] j i h less l = absurd (omega arith)
+  before_right (x ∷ xs) j i h less l = elim (cases_eq x i) [
+    | inl e ↦ absurd (omega (arith, place-same x xs i e))
+    | inr ni ↦ elim (cases_eq x j) [
+      | inl e ↦ subst (λ k. IsRight language program (it k) (it i)) e
+          (each_placed (IsRight language program (it x)) xs i h.0 (omega (arith, place-other x xs i ni)))
+      | inr nj ↦ before_right xs j i h.1 (omega (arith, place-other x xs i ni, place-other x xs j nj)) (omega (arith, place-other x xs i ni))
+    ]
+  ]
+
+module _ {S : Type 0} (language : Language S) (program : List (List S)) {State : Type 0}
+    (position_of : State → ℕ → Option ℕ) (Carried : Item → State → State → Type 0) where
+  -- a choice of paths, and an order of its items that leads from a state to another
+  pub record Ordered (s end : State) : Type 0 where
+    pub paths : List (List ℕ)
+    pub choice : IsChoice language program paths
+    pub order : List ℕ
+    pub keeps : IsLinearExtension (constraints_of language program (items_of language program paths)) order
+    pub ran : OrderRan Carried (items_of language program paths) order s end
+
+  module _ (forward : (t : ℕ) → IsForward language (code_of program t)) (s end : State)
+      (starts : (t : ℕ) → t < length program → position_of s t ≡ Some 0) (c : Completed language program position_of Carried (λ t. []) s end) where
+    abbrev paths : List (List ℕ)
+    paths = map c.paths (numbers 0 (length program))
+
+    abbrev its : List Item
+    its = items_of language program paths
+
+    abbrev at : ℕ → Item
+    at i = item_at its i
+
+    path_is : (t : ℕ) → t < length program → code_of paths t ≡ c.paths t
+    path_is t l = let e : 0 + t ≡ t = omega arith in code_listed c.paths 0 (length program) t l ∙ ap c.paths e
+
+    choice : IsChoice language program paths
+    choice = choice_listed language program c.paths 0 (λ t l. let e : t ≡ 0 + t = omega arith in
+        subst (λ (n : ℕ). IsPathFrom language (code_of program t) 0 (c.paths n)) e (c.flows t 0 (starts t l)))
+
+    -- each item that was done is one of the paths
+    has_number : (a : Item) → IsAhead language program c.paths (λ t. []) a → Has its a
+    has_number a h =
+        let l : a.thread < length program = code_within language program a.thread a.position h.statement h.at in
+        let on : In a.position (c.paths a.thread) = elim h.on [ inl g ↦ g | inr (d, g) ↦ absurd g ] in
+        item_there language program paths a.thread a.position h.statement a.is_drain
+        (as_many language program paths choice) l (subst (In a.position) (sym (path_is a.thread l)) on) h.at h.store
+
+    -- and each of the paths was done
+    is_done : (i : ℕ) → i < length its → Contains c.done (at i)
+    is_done i l =
+        let r : IsReal language program paths (at i) = real language program paths i l in
+        let on : In (at i).position (c.paths (at i).thread) = subst (In (at i).position) (path_is (at i).thread r.within) r.on in
+        let is : (b : Bool) → (at i).is_drain ≡ b → Contains c.done (item (at i).thread (at i).position b)
+        → Contains c.done (at i) = λ b e. subst (λ (d : Bool). Contains c.done (item (at i).thread (at i).position d)) (sym e) in
+        elim (cases_Bool (at i).is_drain) [
+          | inl d ↦ is true d (c.drained (at i).thread 0 (at i).position r.statement (starts (at i).thread r.within) (inl on) r.at (r.store d))
+          | inr f ↦ is false f (c.statements (at i).thread (at i).position on)
+        ]
+
+    names : Named language program its c.done
+    names = named language program its c.done (All-weaker (IsAhead language program c.paths (λ t. [])) (Has its) has_number c.done c.ahead)
+
+    right : Pairwise (IsRight language program) (map at names.order)
+    right = subst (Pairwise (IsRight language program)) (sym names.same) c.right
+
+    stands : (i : ℕ) → i < length its → place names.order i < length names.order
+    stands i l =
+        let m : (m : ℕ) × Contains names.order m × (at m ≡ at i) = from_map at names.order
+        (at i) (subst (λ xs. Contains xs (at i)) (sym names.same) (is_done i l)) in
+        let found : place names.order m.0 < length names.order = found_there names.order m.0 m.1 in
+        let below : m.0 < length its = All-stands (λ i. i < length its) names.order m.0 names.below found in
+        let same : m.0 ≡ i = same_number language program paths forward choice m.0 i below l
+        (ap (λ (x : Item). x.thread) m.2) (ap (λ (x : Item). x.position) m.2) (ap (λ (x : Item). x.is_drain) m.2) in
+        subst (λ k. place names.order k < length names.order) same found
+
+    keeps : Keeps (constraints_of language program its).fixed names.order
+    keeps = keeps_all language program its names.order in_order
+      where
+        in_order : (i j : ℕ) → i < j → j < length its → (at i).thread ≡ (at j).thread → AreOrdered language program (at i) (at j) → Before names.order i j
+        in_order i j less l same ordered = elim (cases_order (place names.order i) (place names.order j)) [
+          | inl e ↦ absurd (let g : i ≡ j = same_place names.order i j e (stands i (omega arith)) in omega arith)
+          | inr (inl b) ↦ b
+          | inr (inr a) ↦ absurd (before_right language program its names.order j i right a
+              (stands i (omega arith)) (sym same) (omega (arith, slot_goes_up language program paths forward choice i j less l same)) ordered)
+        ]
+
+    -- the order that the run takes
+    pub ordered : Ordered s end
+    ordered = record {
+      paths = paths;
+      choice = choice;
+      order = names.order;
+      keeps = (order_from (length its) names.order names.below (once language program its names.order right) stands, keeps);
+      ran = subst (λ (xs : List Item). ItemsRan Carried xs s end) (sym names.same) c.ran;
+    }

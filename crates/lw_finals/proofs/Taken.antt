@@ -1,0 +1,286 @@
+-- The paths that the threads of a program take in a run to the end, in either language, and the items that it carries out.
+use Rattle.std.proofs.Common.{◌≡◌, ◌≢◌, ℕ, suc, ◌<◌, ◌≤◌, ◌==◌, if◌then◌else◌, ◌⊎◌, inl, inr, ⊎_elim, List, [], ◌∷◌, map, length, Option, Some, Bool, true, false, refl, sym, ap, ◌∙◌, subst, arith, slice_get}
+use Rattle.std.specs.Prelude.{All, Contains}
+use Rattle.std.specs.Option.{option_map, option_map_or}
+use Rattle.std.proofs.lemmas.Bool.{true≢false, cases_eq, cases_Bool, eq-eqb, ne_eqb, cond-true, cond-false}
+use Rattle.std.proofs.lemmas.Option.{same_Some, slice_get-map}
+use Rattle.std.proofs.lemmas.List.Elements.{All-nil, All-cons, All-weaker}
+use Rattle.lw_base.specs.Threads.{code_of}
+use Rattle.lw_base.proofs.api.Lists.{get_some}
+use Rattle.lw_base.proofs.api.SideBySide.{got_map}
+use Rattle.lw_litmus.specs.Languages.{Language}
+use Rattle.lw_litmus.specs.Flow.{Follows, IsPathFrom}
+use Rattle.lw_choices.specs.Choices.{IsForward}
+use Rattle.lw_choices.specs.declared.item.Item.{Item}
+use Rattle.lw_choices.specs.Items.{drains, waits}
+use Rattle.lw_choices.proofs.api.Led.{follows_within}
+use Rattle.lw_choices.proofs.api.Members.{Contains-here, Contains-there}
+use Rattle.lw_choices.proofs.api.FixedOrder.{AreOrdered}
+use Rattle.lw_choices.proofs.api.Numbering.{In, Pairwise, IsStoring, item, slot, slot_by, slot_less, store_slot, GoesUp, goes_up_in, path_up}
+use Rattle.lw_finals.specs.OrderRuns.{ItemsRan}
+use Rattle.lw_finals.proofs.Waiting.{Climbs, climbs_in, stored, waits_after, from_after, in_after, store_after}
+
+-- positions at the start
+module _ {X Y : Type 0} (starting : X → Y) (position : Y → ℕ) (at_first : (x : X) → position (starting x) ≡ 0) (xs : List X) where
+  pub starts : (t : ℕ) → t < length xs → slice_get (map position (map starting xs)) t ≡ Some 0
+  starts t l =
+      let x = get_some xs t l in
+      slice_get-map position (map starting xs) t
+      ∙ (ap (option_map position) (slice_get-map starting xs t ∙ ap (option_map starting) x.1) ∙ ap Some (at_first x.0))
+
+  pub at_start : (t p : ℕ) → slice_get (map position (map starting xs)) t ≡ Some p → p ≡ 0
+  at_start t p e =
+      let y = got_map position (map starting xs) t p e in
+      let x = got_map starting xs t y.0 y.1 in
+      y.2 ∙ (ap position x.2 ∙ at_first x.0)
+
+module _ {S : Type 0} (language : Language S) (program : List (List S)) where
+  -- a comes before b with right: no fixed pair says the opposite
+  abbrev pub IsRight : Item → Item → Type 0
+  IsRight a b = a.thread ≡ b.thread → slot b ≤ slot a → AreOrdered language program b a → ⊥
+
+  -- an item of what is still to be done: of the paths ahead, or the drain of a store that waits
+  pub record IsAhead (paths W : ℕ → List ℕ) (a : Item) : Type 0 where
+    pub statement : S
+    pub at : slice_get (code_of program a.thread) a.position ≡ Some statement
+    pub on : In a.position (paths a.thread) ⊎ ((a.is_drain ≡ true) × In a.position (W a.thread))
+    pub store : a.is_drain ≡ true → IsStoring language statement
+
+  module _ {State : Type 0} (position_of : State → ℕ → Option ℕ) (Carried : Item → State → State → Type 0) where
+    -- a run to the end, where these stores wait, taken apart
+    pub record Completed (W : ℕ → List ℕ) (s end : State) : Type 0 where
+      pub paths : ℕ → List ℕ
+      pub done : List Item
+      pub flows : (t p : ℕ) → position_of s t ≡ Some p → IsPathFrom language (code_of program t) p (paths t)
+      pub ran : ItemsRan Carried done s end
+      pub ahead : All (IsAhead paths W) done
+      pub statements : (t j : ℕ) → In j (paths t) → Contains done (item t j false)
+      pub drained : (t p j : ℕ) (h : S) → position_of s t ≡ Some p → In j (paths t) ⊎ In j (W t)
+          → slice_get (code_of program t) j ≡ Some h → IsStoring language h → Contains done (item t j true)
+      pub right : Pairwise IsRight done
+
+    -- each thread is within its code
+    abbrev pub IsWithin : State → Type 0
+    IsWithin s = (t p : ℕ) → position_of s t ≡ Some p → p ≤ length (code_of program t)
+
+    -- where each is past its code, and nothing waits, nothing is left to be done
+    pub over : (W : ℕ → List ℕ) (s : State) → IsWithin s → ((t p : ℕ) → position_of s t ≡ Some p
+        → (length (code_of program t) ≤ p) × ((j : ℕ) → In j (W t) → ⊥)) → Completed W s s
+    over W s within past = record {
+      paths = λ t. [];
+      done = [];
+      flows = λ t p e. omega (arith, within t p e, (past t p e).0);
+      ran = refl;
+      ahead = All-nil (IsAhead (λ t. []) W);
+      statements = λ t j h. absurd h;
+      drained = λ t p j h e on at store. ⊎_elim (λ h. absurd h) (λ h. absurd ((past t p e).1 j h)) on;
+      right = tt;
+    }
+
+    -- what an item of thread t does: a statement leads along the flow, and where it waits for drains there are none to wait for;
+    -- a drain is that of the store that has waited longest
+    pub record Moves (W : ℕ → List ℕ) (s mid : State) (t j : ℕ) (b : Bool) (i : S) : Type 0 where
+      pub at : slice_get (code_of program t) j ≡ Some i
+      pub carried : Carried (item t j b) s mid
+      pub old : ℕ
+      pub new : ℕ
+      pub was : position_of s t ≡ Some old
+      pub now : position_of mid t ≡ Some new
+      pub others : (u : ℕ) → t ≢ u → position_of mid u ≡ position_of s u
+      pub climbs : Climbs 0 (W t) old
+      pub follows : b ≡ false → (old ≡ j) × Follows language (Some i) j new
+      pub waited : b ≡ false → waits language i ≡ true → (k : ℕ) → In k (W t) → ⊥
+      pub stays : b ≡ true → new ≡ old
+      pub oldest : b ≡ true → (rest : List ℕ) × (W t ≡ j ∷ rest)
+      pub store : b ≡ true → IsStoring language i
+
+    abbrev own_path : Bool → ℕ → List ℕ → List ℕ
+    own_path true j path = path
+    own_path false j path = j ∷ path
+
+    in_own : (b : Bool) (j k : ℕ) (path : List ℕ) → In k path → In k (own_path b j path)
+    in_own true j k path h = h
+    in_own false j k path h = inr h
+
+    own_first : (b : Bool) (j : ℕ) (path : List ℕ) → b ≡ false → In j (own_path b j path)
+    own_first true j path f = absurd (true≢false f)
+    own_first false j path f = inl refl
+
+    from_own : (b : Bool) (j k : ℕ) (path : List ℕ) → In k (own_path b j path) → ((b ≡ false) × (j ≡ k)) ⊎ In k path
+    from_own true j k path h = inr h
+    from_own false j k path (inl e) = inl (refl, e)
+    from_own false j k path (inr h) = inr h
+
+    module _ (forward : (t : ℕ) → IsForward language (code_of program t))
+        (W : ℕ → List ℕ) (s mid end : State) (t j : ℕ) (b : Bool) (i : S) (m : Moves W s mid t j b i) where
+      abbrev a : Item
+      a = item t j b
+
+      abbrev after : ℕ → List ℕ
+      after = waits_after language program a W
+
+      stored_at : stored language (slice_get (code_of program t) j) ≡ drains language i
+      stored_at = ap (stored language) m.at
+
+      went : b ≡ false → (j < m.new) × (m.new ≤ length (code_of program t))
+      went f = follows_within language (code_of program t) j m.new (forward t) (subst (λ (o : Option S). Follows language o j m.new) (sym m.at) (m.follows f).1)
+
+      -- each thread is still within its code
+      pub within_next : IsWithin s → IsWithin mid
+      within_next within u q e = elim (cases_eq t u) [
+        | inl same ↦ subst (λ (v : ℕ). q ≤ length (code_of program v)) same
+            (subst (λ (k : ℕ). k ≤ length (code_of program t)) (same_Some m.new q (sym m.now ∙ subst (λ (v : ℕ). position_of mid v ≡ Some q) (sym same) e))
+            (elim (cases_Bool b) [ inl f ↦ omega (arith, within t m.old m.was, m.stays f) | inr f ↦ (went f).1 ]))
+        | inr ne ↦ within u q (sym (m.others u ne) ∙ e)
+      ]
+
+      -- the thread is past the item's position then
+      beyond : j < m.new
+      beyond = elim (cases_Bool b) [
+        | inl f ↦ (let r = m.oldest f in
+            let c = climbs_in 0 m.old j (j ∷ r.0) (subst (λ (ws : List ℕ). Climbs 0 ws m.old) r.1 m.climbs) (inl refl) in omega (arith, c.1, m.stays f))
+        | inr f ↦ (went f).0
+      ]
+
+      -- so what is still to be done comes behind it with right
+      right_here : (paths : ℕ → List ℕ) (x : Item) → GoesUp m.new (paths t) → IsAhead paths after x → IsRight a x
+      right_here paths x up ahead same le ordered = elim ahead.on [
+        | inl on ↦ later (omega (arith, beyond, goes_up_in m.new x.position (paths t) up (subst (λ (u : ℕ). In x.position (paths u)) (sym same) on)))
+        | inr (d, on) ↦ elim (from_after language program W a m.old m.climbs m.oldest x.thread x.position on) [
+          | inl (w, ne) ↦ (let w' : In x.position (W t) = subst (λ (u : ℕ). In x.position (W u)) (sym same) w in
+              elim (cases_Bool b) [
+                | inl f ↦ (let r = m.oldest f in
+                    newer r.0 (subst (λ (ws : List ℕ). Climbs 0 ws m.old) r.1 m.climbs) (ne same f) (subst (In x.position) r.1 w'))
+                | inr f ↦ m.waited f (waits_at f (ordered d)) x.position w'
+              ])
+          | inr (same, f, store, e) ↦ absurd (omega (arith, store_slot b x.is_drain j x.position f d e, le))
+        ]
+      ]
+        where
+          later : j < x.position → ⊥
+          later less = absurd (omega (arith, slot_less b x.is_drain j x.position less, le))
+
+          newer : (rest : List ℕ) → Climbs 0 (j ∷ rest) m.old → x.position ≢ j → In x.position (j ∷ rest) → ⊥
+          newer rest climbs ne (inl e) = ne (sym e)
+          newer rest climbs ne (inr h) = later (climbs_in (suc j) m.old x.position rest climbs.1 h).0
+
+          waits_at : b ≡ false → ((b ≡ true) ⊎ (option_map_or (waits language) (slice_get (code_of program t) j) false ≡ true)) → waits language i ≡ true
+          waits_at f (inl e) = absurd (true≢false (sym e ∙ f))
+          waits_at f (inr e) = sym (ap (λ (o : Option S). option_map_or (waits language) o false) m.at) ∙ e
+
+      -- the run from an item on
+      pub one_more : Completed after mid end → Completed W s end
+      one_more r = record {
+        paths = before;
+        done = a ∷ r.done;
+        flows = λ u q e. elim (cases_eq t u) [
+          | inl same ↦ subst (λ (v : ℕ). IsPathFrom language (code_of program v) q (before v)) same
+              (flows_here q (subst (λ (v : ℕ). position_of s v ≡ Some q) (sym same) e))
+          | inr ne ↦ subst (IsPathFrom language (code_of program u) q) (sym (before_other u ne)) (r.flows u q (m.others u ne ∙ e))
+        ];
+        ran = (mid, m.carried, r.ran);
+        ahead = All-cons (IsAhead before W) a r.done
+            (record { statement = i; at = m.at; on = on_here; store = m.store }) (All-weaker (IsAhead r.paths after) (IsAhead before W) still r.done r.ahead);
+        statements = λ u k h. elim (from_before u k h) [
+          | inl (same, f, e) ↦ Contains-here a (item u k false) r.done (this u k false same e f)
+          | inr g ↦ Contains-there a (item u k false) r.done (r.statements u k g)
+        ];
+        drained = λ u p k h e on at store. let there = longer u p e in
+            ⊎_elim (λ g. on_path u there.0 k h there.1 at store g) (λ g. waiting u there.0 k h there.1 at store g) on;
+        right = (All-weaker (IsAhead r.paths after) (IsRight a) (λ x h. right_here r.paths x up h) r.done r.ahead, r.right);
+      }
+        where
+          before : ℕ → List ℕ
+          before u = if t == u then own_path b j (r.paths u) else r.paths u
+
+          before_same : (u : ℕ) → t ≡ u → before u ≡ own_path b j (r.paths u)
+          before_same u e = cond-true (t == u) (own_path b j (r.paths u)) (r.paths u) (eq-eqb t u e)
+
+          before_other : (u : ℕ) → t ≢ u → before u ≡ r.paths u
+          before_other u ne = cond-false (t == u) (own_path b j (r.paths u)) (r.paths u) (ne_eqb t u ne)
+
+          in_before : (u k : ℕ) → In k (r.paths u) → In k (before u)
+          in_before u k h = elim (cases_eq t u) [
+            | inl same ↦ subst (In k) (sym (before_same u same)) (in_own b j k (r.paths u) h)
+            | inr ne ↦ subst (In k) (sym (before_other u ne)) h
+          ]
+
+          first_before : (u : ℕ) → t ≡ u → b ≡ false → In j (before u)
+          first_before u same f = subst (In j) (sym (before_same u same)) (own_first b j (r.paths u) f)
+
+          from_before : (u k : ℕ) → In k (before u) → ((t ≡ u) × (b ≡ false) × (j ≡ k)) ⊎ In k (r.paths u)
+          from_before u k h = elim (cases_eq t u) [
+            | inl same ↦ ⊎_elim (λ (f, e). inl (same, f, e)) (λ g. inr g) (from_own b j k (r.paths u) (subst (In k) (before_same u same) h))
+            | inr ne ↦ inr (subst (In k) (before_other u ne) h)
+          ]
+
+          up : GoesUp m.new (r.paths t)
+          up = path_up language (code_of program t) m.new (r.paths t) (forward t) (r.flows t m.new m.now)
+
+          own_flows : (c : Bool) → b ≡ c → IsPathFrom language (code_of program t) m.old (own_path c j (r.paths t))
+          own_flows true f = subst (λ (k : ℕ). IsPathFrom language (code_of program t) k (r.paths t)) (m.stays f) (r.flows t m.new m.now)
+          own_flows false f =
+              let g = m.follows f in
+              subst (λ (k : ℕ). IsPathFrom language (code_of program t) k (j ∷ r.paths t)) (sym g.0)
+              (refl, m.new, subst (λ (o : Option S). Follows language o j m.new) (sym m.at) g.1, r.flows t m.new m.now)
+
+          flows_here : (q : ℕ) → position_of s t ≡ Some q → IsPathFrom language (code_of program t) q (before t)
+          flows_here q e =
+              subst (λ (k : ℕ). IsPathFrom language (code_of program t) k (before t)) (same_Some m.old q (sym m.was ∙ e))
+              (subst (IsPathFrom language (code_of program t) m.old) (sym (before_same t refl)) (own_flows b refl))
+
+          longer : (u p : ℕ) → position_of s u ≡ Some p → (q : ℕ) × (position_of mid u ≡ Some q)
+          longer u p e = elim (cases_eq t u) [
+            | inl same ↦ (m.new, subst (λ (v : ℕ). position_of mid v ≡ Some m.new) same m.now)
+            | inr ne ↦ (p, m.others u ne ∙ e)
+          ]
+
+          on_here : In j (before t) ⊎ ((b ≡ true) × In j (W t))
+          on_here = elim (cases_Bool b) [
+            | inl f ↦ inr (f, subst (In j) (sym (m.oldest f).1) (inl refl))
+            | inr f ↦ inl (first_before t refl f)
+          ]
+
+          still : (x : Item) → IsAhead r.paths after x → IsAhead before W x
+          still x h = record {
+            statement = h.statement;
+            at = h.at;
+            on = elim h.on [
+              | inl g ↦ inl (in_before x.thread x.position g)
+              | inr (d, g) ↦ elim (from_after language program W a m.old m.climbs m.oldest x.thread x.position g) [
+                | inl (w, ne) ↦ inr (d, w)
+                | inr (same, f, store, e) ↦ inl (subst (λ (k : ℕ). In k (before x.thread)) e (first_before x.thread same f))
+              ]
+            ];
+            store = h.store;
+          }
+
+          this : (u k : ℕ) (d : Bool) → t ≡ u → j ≡ k → b ≡ d → a ≡ item u k d
+          this u k d tu jk bd = ap (λ t. item t j b) tu ∙ (ap (λ j. item u j b) jk ∙ ap (λ b. item u k b) bd)
+
+          on_path : (u p k : ℕ) (h : S) → position_of mid u ≡ Some p
+              → slice_get (code_of program u) k ≡ Some h → IsStoring language h → In k (before u) → Contains (a ∷ r.done) (item u k true)
+          on_path u p k h there at store l = elim (from_before u k l) [
+            | inl (same, f, e) ↦ (let is : h ≡ i = same_Some h i (sym at ∙ (ap (λ v. slice_get (code_of program v) k) (sym same) ∙ (ap (slice_get (code_of program t)) (sym e) ∙ m.at))) in
+                let w : In k (after u) = subst (λ (n : ℕ). In n (after u)) e
+                (store_after language program W a m.old m.climbs m.oldest u store.0 same f (stored_at ∙ (ap (drains language) (sym is) ∙ store.1))) in
+                Contains-there a (item u k true) r.done (r.drained u p k h there (inr w) at store))
+            | inr g ↦ Contains-there a (item u k true) r.done (r.drained u p k h there (inl g) at store)
+          ]
+
+          waiting : (u p k : ℕ) (h : S) → position_of mid u ≡ Some p
+              → slice_get (code_of program u) k ≡ Some h → IsStoring language h → In k (W u) → Contains (a ∷ r.done) (item u k true)
+          waiting u p k h there at store l = elim (cases_eq t u) [
+            | inl same ↦ elim (cases_eq j k) [
+              | inl e ↦ elim (cases_Bool b) [
+                | inl f ↦ Contains-here a (item u k true) r.done (this u k true same e f)
+                | inr f ↦ kept (λ same g. absurd (true≢false (sym g ∙ f)))
+              ]
+              | inr ne ↦ kept (λ same f e. ne (sym e))
+            ]
+            | inr other ↦ kept (λ same. absurd (other same))
+          ]
+            where
+              kept : (t ≡ u → b ≡ true → k ≢ j) → Contains (a ∷ r.done) (item u k true)
+              kept ne = Contains-there a (item u k true) r.done (r.drained u p k h there
+                  (inr (in_after language program W a m.old m.climbs m.oldest u k l ne)) at store)

@@ -1,0 +1,141 @@
+-- Which stores of a thread wait for their drains, by their positions, along a run of items.
+use Rattle.std.proofs.Common.{◌≡◌, ◌≢◌, ℕ, suc, ◌<◌, ◌≤◌, ◌==◌, Bool, true, false, if◌then◌else◌, List, [], ◌∷◌, ◌++◌, Option, Some, None, refl, sym, ◌∙◌, subst, inl, inr, ◌⊎◌, ⊎_elim, arith}
+use Rattle.std.specs.Option.{option_map_or}
+use Rattle.std.proofs.lemmas.Bool.{cases_eq, cond-true, cond-false, eq-eqb, ne_eqb, true≢false}
+use Rattle.lw_litmus.specs.Languages.{Language}
+use Rattle.lw_choices.specs.declared.item.Item.{Item}
+use Rattle.lw_choices.specs.Items.{drains, statement_of}
+use Rattle.lw_choices.proofs.api.Numbering.{In}
+
+in_pushed : (x j : ℕ) (ws : List ℕ) → In x ws → In x (ws ++ j ∷ [])
+in_pushed x j [] h = absurd h
+in_pushed x j (w ∷ ws) (inl e) = inl e
+in_pushed x j (w ∷ ws) (inr h) = inr (in_pushed x j ws h)
+
+in_last : (j : ℕ) (ws : List ℕ) → In j (ws ++ j ∷ [])
+in_last j [] = inl refl
+in_last j (w ∷ ws) = inr (in_last j ws)
+
+in_cases : (x j : ℕ) (ws : List ℕ) → In x (ws ++ j ∷ []) → In x ws ⊎ (j ≡ x)
+in_cases x j [] (inl e) = inr e
+in_cases x j [] (inr h) = absurd h
+in_cases x j (w ∷ ws) (inl e) = inl (inl e)
+in_cases x j (w ∷ ws) (inr h) = ⊎_elim (λ g. inl (inr g)) (λ e. inr e) (in_cases x j ws h)
+
+-- numbers from low on, each greater than the one before, and all below high
+abbrev pub Climbs : ℕ → List ℕ → ℕ → Type 0
+Climbs low [] high = low ≤ high
+Climbs low (w ∷ ws) high = (low ≤ w) × Climbs (suc w) ws high
+
+climbs_up : (low high : ℕ) (ws : List ℕ) → Climbs low ws high → low ≤ high
+climbs_up low high [] c = c
+climbs_up low high (w ∷ ws) c = omega (arith, c.0, climbs_up (suc w) high ws c.1)
+
+pub climbs_in : (low high x : ℕ) (ws : List ℕ) → Climbs low ws high → In x ws → (low ≤ x) × (x < high)
+climbs_in low high x [] c h = absurd h
+climbs_in low high x (w ∷ ws) c (inl e) = let u : suc w ≤ high = climbs_up (suc w) high ws c.1 in (omega (arith, c.0), omega arith)
+climbs_in low high x (w ∷ ws) c (inr h) = let u = climbs_in (suc w) high x ws c.1 h in (omega (arith, c.0, u.0), u.1)
+
+climbs_wider : (low l high h : ℕ) (ws : List ℕ) → l ≤ low → high ≤ h → Climbs low ws high → Climbs l ws h
+climbs_wider low l high h [] a b c = omega arith
+climbs_wider low l high h (w ∷ ws) a b c = (omega (arith, c.0), climbs_wider (suc w) (suc w) high h ws (omega arith) b c.1)
+
+climbs_pushed : (low j : ℕ) (ws : List ℕ) → Climbs low ws j → Climbs low (ws ++ j ∷ []) (suc j)
+climbs_pushed low j [] c = (c, omega arith)
+climbs_pushed low j (w ∷ ws) c = (c.0, climbs_pushed (suc w) j ws c.1)
+
+-- the stores of a thread that wait after a statement at j (with an entry, or without one), or after a drain
+abbrev pub own_waits : Bool → Option ℕ → ℕ → List ℕ → List ℕ
+own_waits true o j [] = []
+own_waits true o j (w ∷ ws) = ws
+own_waits false None j ws = ws
+own_waits false (Some x) j ws = ws ++ j ∷ []
+
+-- they climb, to where the thread is then
+pub own_climbs : (b : Bool) (o : Option ℕ) (ws : List ℕ) (j at k : ℕ)
+    → at ≤ k → (b ≡ false → j ≡ at) → (b ≡ false → at < k) → Climbs 0 ws at → Climbs 0 (own_waits b o j ws) k
+own_climbs true o [] j at k le is lt c = omega arith
+own_climbs true o (w ∷ ws) j at k le is lt c = climbs_wider (suc w) 0 at k ws (omega arith) le c.1
+own_climbs false None ws j at k le is lt c = climbs_wider 0 0 at k ws (omega arith) le c
+own_climbs false (Some x) ws j at k le is lt c =
+    climbs_wider 0 0 (suc j) k (ws ++ j ∷ []) (omega arith) (omega (arith, is refl, lt refl))
+    (climbs_pushed 0 j ws (climbs_wider 0 0 at j ws (omega arith) (omega (arith, is refl)) c))
+
+heads : (v j : ℕ) (ws vs : List ℕ) → v ∷ ws ≡ j ∷ vs → v ≡ j
+heads v j ws vs e = cc
+
+-- what waits after an item: it waited before and is not what is drained, or it is the store
+own_in : (b : Bool) (o : Option ℕ) (j w high : ℕ) (ws : List ℕ) → Climbs 0 ws high → (b ≡ true → (rest : List ℕ) × (ws ≡ j ∷ rest)) → In w (own_waits b o j ws)
+    → (In w ws × (b ≡ true → w ≢ j)) ⊎ ((b ≡ false) × ((x : ℕ) × (o ≡ Some x)) × (j ≡ w))
+own_in true o j w high [] c head h = absurd h
+own_in true o j w high (v ∷ ws) c head h =
+    let r = head refl in
+    let e : v ≡ j = heads v j ws r.0 r.1 in
+    let u = climbs_in (suc v) high w ws c.1 h in
+    inl (inr h, λ f g. omega (arith, u.0, e, g))
+own_in false (Some x) j w high ws c head h = ⊎_elim (λ g. inl (g, λ f. absurd (true≢false (sym f)))) (λ e. inr (refl, (x, refl), e)) (in_cases w j ws h)
+own_in false None j w high ws c head h = inl (h, λ f. absurd (true≢false (sym f)))
+
+own_store : (b : Bool) (o : Option ℕ) (j x : ℕ) (ws : List ℕ) → b ≡ false → o ≡ Some x → In j (own_waits b o j ws)
+own_store true o j x ws f e = absurd (true≢false f)
+own_store false (Some y) j x ws f e = in_last j ws
+own_store false None j x ws f e = absurd cc
+
+own_keeps : (b : Bool) (o : Option ℕ) (j w : ℕ) (ws : List ℕ) → (b ≡ true → (rest : List ℕ) × (ws ≡ j ∷ rest))
+    → (b ≡ true → w ≢ j) → In w ws → In w (own_waits b o j ws)
+own_keeps true o j w [] head ne h = absurd h
+own_keeps true o j w (v ∷ ws) head ne (inl e) = let r = head refl in absurd (ne refl (sym e ∙ heads v j ws r.0 r.1))
+own_keeps true o j w (v ∷ ws) head ne (inr h) = h
+own_keeps false (Some x) j w ws head ne h = in_pushed w j ws h
+own_keeps false None j w ws head ne h = h
+
+module _ {S : Type 0} (language : Language S) where
+  -- the location of a statement's entry, if it makes one
+  abbrev pub stored : Option S → Option ℕ
+  stored o = option_map_or (drains language) o None
+
+  -- which stores wait after an item, of each thread
+  abbrev pub waits_after : List (List S) → Item → (ℕ → List ℕ) → ℕ → List ℕ
+  waits_after program a W u = if a.thread == u then own_waits a.is_drain (stored (statement_of language program a)) a.position (W u) else W u
+
+  pub waits_same : (program : List (List S)) (a : Item) (W : ℕ → List ℕ) (u : ℕ) → a.thread ≡ u
+      → waits_after program a W u ≡ own_waits a.is_drain (stored (statement_of language program a)) a.position (W u)
+  waits_same program a W u e = cond-true (a.thread == u) (own_waits a.is_drain
+      (stored (statement_of language program a)) a.position (W u)) (W u) (eq-eqb a.thread u e)
+
+  pub waits_other : (program : List (List S)) (a : Item) (W : ℕ → List ℕ) (u : ℕ) → a.thread ≢ u → waits_after program a W u ≡ W u
+  waits_other program a W u ne = cond-false (a.thread == u) (own_waits a.is_drain
+      (stored (statement_of language program a)) a.position (W u)) (W u) (ne_eqb a.thread u ne)
+
+  -- behind an item which, if it is a drain, is that of the store that has waited longest
+  module _ (program : List (List S)) (W : ℕ → List ℕ)
+      (a : Item) (high : ℕ) (climbs : Climbs 0 (W a.thread) high) (oldest : a.is_drain ≡ true → (rest : List ℕ) × (W a.thread ≡ a.position ∷ rest)) where
+    abbrev entry : Option ℕ
+    entry = stored (statement_of language program a)
+
+    abbrev after : ℕ → List ℕ
+    after = waits_after program a W
+
+    oldest_at : (u : ℕ) → a.thread ≡ u → a.is_drain ≡ true → (rest : List ℕ) × (W u ≡ a.position ∷ rest)
+    oldest_at u same = subst (λ (v : ℕ). a.is_drain ≡ true → (rest : List ℕ) × (W v ≡ a.position ∷ rest)) same oldest
+
+    -- what waits then waited before, or is its own store
+    pub from_after : (u k : ℕ) → In k (after u) → (In k (W u) × (a.thread ≡ u
+        → a.is_drain ≡ true → k ≢ a.position)) ⊎ ((a.thread ≡ u) × (a.is_drain ≡ false) × ((x : ℕ) × (entry ≡ Some x)) × (a.position ≡ k))
+    from_after u k h = elim (cases_eq a.thread u) [
+      | inl same ↦ elim (own_in a.is_drain entry a.position k high (W u) (subst (λ (v : ℕ). Climbs 0
+          (W v) high) same climbs) (oldest_at u same) (subst (In k) (waits_same program a W u same) h)) [
+            | inl (w, ne) ↦ inl (w, λ same f. ne f)
+            | inr (f, store, e) ↦ inr (same, f, store, e)
+          ]
+      | inr ne ↦ inl (subst (In k) (waits_other program a W u ne) h, λ same. absurd (ne same))
+    ]
+
+    pub in_after : (u k : ℕ) → In k (W u) → (a.thread ≡ u → a.is_drain ≡ true → k ≢ a.position) → In k (after u)
+    in_after u k h ne = elim (cases_eq a.thread u) [
+      | inl same ↦ subst (In k) (sym (waits_same program a W u same)) (own_keeps a.is_drain entry a.position k (W u) (oldest_at u same) (ne same) h)
+      | inr other ↦ subst (In k) (sym (waits_other program a W u other)) h
+    ]
+
+    pub store_after : (u x : ℕ) → a.thread ≡ u → a.is_drain ≡ false → entry ≡ Some x → In a.position (after u)
+    store_after u x same f e = subst (In a.position) (sym (waits_same program a W u same)) (own_store a.is_drain entry a.position x (W u) f e)

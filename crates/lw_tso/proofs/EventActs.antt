@@ -1,0 +1,71 @@
+-- What an event asks of the memory, and what it makes of its processor, over any memory.
+use Rattle.std.proofs.Common.{◌≡◌, ℕ, Bool, true, false, nat_lt, if◌then◌else◌, List, [], ◌∷◌, Option, Some, None, refl, inl, inr, ◌⊎◌, ⊎_elim, slice_get}
+use Rattle.lw_base.specs.Threads.{code_of}
+use Rattle.lw_base.specs.declared.event.Event.{Event}
+use Rattle.lw_base.specs.declared.event.Event.TheVariants.{Step, Drain, Evict}
+use Rattle.lw_base.specs.declared.stop.Stop.TheVariants.{NoLocation}
+use Rattle.lw_memory.specs.Memory.{Memory, is_held}
+use Rattle.lw_litmus.specs.declared.instr.Instr.{Instr}
+use Rattle.lw_litmus.specs.Operations.{location_of}
+use Rattle.lw_litmus.specs.Programs.{operation_of}
+use Rattle.lw_tso.specs.Processors.{Processor}
+use Rattle.lw_tso.specs.Acts.{Act, Evicts, Refused, cpu_of, event_act, step_act, drain_act}
+use Rattle.lw_tso.specs.Evictions.{without_evictions}
+use Rattle.lw_tso.specs.Machines.{Answer, ActDone, EvictionDone}
+use Rattle.lw_tso.proofs.api.Operations.{Comes, comes_made, Went, operation_comes}
+
+-- it is no eviction
+abbrev pub IsNoEviction : Event → Type 0
+IsNoEviction e = without_evictions (e ∷ []) ≡ e ∷ []
+
+-- the location of the next instruction, or of the oldest entry
+abbrev pub AsksFor : List Instr → Processor → ℕ → Type 0
+AsksFor code p x =
+    ((i : Instr) × (slice_get code p.position ≡ Some i) × (location_of (operation_of i) ≡ Some x))
+    ⊎ ((entry : ℕ × ℕ) × (newer : List (ℕ × ℕ)) × (p.buffer ≡ entry ∷ newer) × (entry.0 ≡ x))
+
+-- it stays as it is, does its next instruction, or gives its oldest entry away
+pub data Becomes (code : List Instr) (p q : Processor) : Type 0 where
+  Stays : q ≡ p → Becomes code p q
+  Steps : (i : Instr) → slice_get code p.position ≡ Some i → Went (operation_of i) p q → Becomes code p q
+  Drains : (entry : ℕ × ℕ) (newer : List (ℕ × ℕ)) → p.buffer ≡ entry ∷ newer → q ≡ record p { buffer = newer } → Becomes code p q
+
+module _ (program : List (List Instr)) (locs : ℕ) where
+  abbrev pub EventComes : Event → Processor → Act → Type 0
+  EventComes e p = Comes (Unit {0}) (λ x written. AsksFor (code_of program (cpu_of e)) p x) (Becomes (code_of program (cpu_of e)) p)
+
+  step_comes : (t : ℕ) (p : Processor) (o : Option Instr) → slice_get (code_of program t) p.position ≡ o → EventComes (Step t) p (step_act o p)
+  step_comes t p None at = tt
+  step_comes t p (Some i) at =
+      operation_comes (Unit {0}) (λ x written. AsksFor (code_of program t) p x) (Becomes (code_of program t) p) (operation_of i) p
+      (λ waits full. tt) (λ x is. inl (i, at, is)) (λ q went. Steps i at went)
+
+  drain_comes : (t : ℕ) (p : Processor) (buffer : List (ℕ × ℕ)) → p.buffer ≡ buffer → EventComes (Drain t) p (drain_act buffer p)
+  drain_comes t p [] is = tt
+  drain_comes t p (entry ∷ newer) is = (inr (entry, newer, is, refl), Drains entry newer is refl)
+
+  pub event_comes : (e : Event) (p : Processor) → IsNoEviction e → EventComes e p (event_act program locs e p)
+  event_comes (Step t) p none = step_comes t p (slice_get (code_of program t) p.position) refl
+  event_comes (Drain t) p none = drain_comes t p p.buffer refl
+  event_comes (Evict t x) p none = absurd cc
+
+  module _ {M : Type 0} (mem : Memory M) (p q : Processor) (m n : M) (answer : Answer) where
+    evicted : (held : Bool) (t x : ℕ) → EvictionDone mem held t x p m answer q n → q ≡ p
+    evicted false t x done = done.1
+    evicted true t x done = done.1
+
+    given_up : (there : Bool) (t x : ℕ) → ActDone mem t (if there then Evicts x else Refused NoLocation) p m answer q n → q ≡ p
+    given_up true t x done = evicted (is_held (mem.state m t x)) t x done
+    given_up false t x done = done.1
+
+    made : (e : Event) → IsNoEviction e → ActDone mem (cpu_of e) (event_act program locs e p) p m answer q n
+        → Becomes (code_of program (cpu_of e)) p q
+    made e none done =
+        let code = code_of program (cpu_of e) in
+        ⊎_elim (λ refused. Stays refused.2) (λ becomes. becomes)
+        (comes_made (Unit {0}) (λ x w. AsksFor code p x) (Becomes code p) mem (cpu_of e) (event_act program locs e p) p q m n answer (event_comes e p none) done)
+
+    pub event_becomes : (e : Event) → ActDone mem (cpu_of e) (event_act program locs e p) p m answer q n → Becomes (code_of program (cpu_of e)) p q
+    event_becomes (Step t) done = made (Step t) refl done
+    event_becomes (Drain t) done = made (Drain t) refl done
+    event_becomes (Evict t x) done = Stays (given_up (nat_lt x locs) t x done)

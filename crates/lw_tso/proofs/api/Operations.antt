@@ -1,0 +1,138 @@
+-- What an operation comes to, whatever it is: where it is refused, what it asks of the memory, and what it makes of its
+-- processor.
+use Rattle.std.proofs.Common.{◌≡◌, ◌≢◌, ℕ, ◌+◌, Bool, true, false, true≢false, if◌then◌else◌, List, [], ◌∷◌, ◌++◌, length, length-set, Ok, Err, Option, Some, None, refl, sym, subst, inl, inr, ◌⊎◌, ⊎_elim}
+use Rattle.lw_base.specs.Threads.{value_of}
+use Rattle.lw_base.specs.declared.stop.Stop.{Stop}
+use Rattle.lw_base.specs.declared.stop.Stop.TheVariants.{FenceWaits, SwapWaits}
+use Rattle.lw_memory.specs.Flat.{flat}
+use Rattle.lw_memory.specs.Memory.{Memory}
+use Rattle.lw_litmus.specs.declared.operation.Condition.{Condition}
+use Rattle.lw_litmus.specs.declared.operation.Condition.TheVariants.{Always, Equal, NotEqual, Zero, NotZero}
+use Rattle.lw_litmus.specs.declared.operation.Operation.{Operation}
+use Rattle.lw_litmus.specs.declared.operation.Operation.TheVariants.{Set, Sum, Compare, Store, Load, Swap, FetchAdd, Fence, Branch}
+use Rattle.lw_litmus.specs.Operations.{location_of, is_store, is_locked, waits, goes_on, Leads, holds}
+use Rattle.lw_tso.specs.Processors.{Processor, newest}
+use Rattle.lw_tso.specs.Acts.{Act, Refused, Goes, Loads, Stores, Swaps, Adds, Evicts, operation_act, load_act, once_empty}
+use Rattle.lw_tso.specs.Exchange.{accessed, writes}
+use Rattle.lw_tso.specs.Machines.{Answer, ActDone}
+use Rattle.lw_tso.proofs.api.Effects.{Does, does_done}
+
+-- a store adds an entry for its location to the buffer p, and nothing else does
+abbrev pub Buffers : Operation → List (ℕ × ℕ) → List (ℕ × ℕ) → Type 0
+Buffers o p q =
+    ((is_store o ≡ false) × (q ≡ p))
+    ⊎ ((entry : ℕ × ℕ) × (is_store o ≡ true) × (location_of o ≡ Some entry.0) × (q ≡ p ++ entry ∷ []))
+
+-- what an operation that is carried out makes of the processor p
+pub record Went (o : Operation) (p q : Processor) : Type 0 where
+  pub leads : Leads o p.position q.position
+  pub buffers : Buffers o p.buffer q.buffer
+  pub regs : length q.regs ≡ length p.regs
+  pub waited : waits o ≡ true → p.buffer ≡ []
+
+never : {X : Type 0} → false ≡ true → X
+never e = absurd (true≢false (sym e))
+
+-- to the next statement, with the same buffer
+next : (o : Operation) (p q : Processor) → goes_on o ≡ true → is_store o ≡ false → (waits o ≡ true → p.buffer ≡ [])
+    → q.position ≡ p.position + 1 → q.buffer ≡ p.buffer → length q.regs ≡ length p.regs → Went o p q
+next o p q on none waited position buffer regs =
+    record { leads = inl (on, position); buffers = inl (none, buffer); regs = regs; waited = waited }
+
+-- to the target, or to the next statement where that may follow
+branch_leads : (c : Condition) (to k : ℕ) (regs : List ℕ) (flag : Bool) → Leads (Branch c to) k (if holds c regs flag then to else (k + 1))
+branch_leads c to k regs flag = go c
+  where
+    either : (c : Condition) (jumps : Bool) → goes_on (Branch c to) ≡ true → Leads (Branch c to) k (if jumps then to else (k + 1))
+    either c true on = inr refl
+    either c false on = inl (on, refl)
+
+    go : (c : Condition) → Leads (Branch c to) k (if holds c regs flag then to else (k + 1))
+    go Always = inr refl
+    go (Equal a n) = either (Equal a n) _ refl
+    go (NotEqual a n) = either (NotEqual a n) _ refl
+    go Zero = either Zero _ refl
+    go NotZero = either NotZero _ refl
+
+-- An act is no eviction, is refused only with this reason, asks only for such locations, which it writes or not, and makes
+-- only such processors.
+module _ (Reason : Type 0) (Asks : ℕ → Bool → Type 0) (Makes : Processor → Type 0) where
+  abbrev pub Comes : Act → Type 0
+  Comes (Refused stop) = Reason
+  Comes (Goes next) = Makes next
+  Comes (Loads x next) = Asks x false × ((w : ℕ) → Makes (next w))
+  Comes (Stores x w next) = Asks x true × Makes next
+  Comes (Swaps x v next) = Asks x true × ((w : ℕ) → Makes (next w))
+  Comes (Adds x v next) = Asks x true × ((w : ℕ) → Makes (next w))
+  Comes (Evicts x) = ⊥
+
+  -- what it accesses is such a location
+  pub comes_accessed : (act : Act) (x : ℕ) → Comes act → accessed act ≡ Some x → Asks x (writes act)
+  comes_accessed (Refused stop) x comes at = absurd cc
+  comes_accessed (Goes next) x comes at = absurd cc
+  comes_accessed (Loads y next) x comes at = let e : y ≡ x = cc in subst (λ z. Asks z false) e comes.0
+  comes_accessed (Stores y w next) x comes at = let e : y ≡ x = cc in subst (λ z. Asks z true) e comes.0
+  comes_accessed (Swaps y v next) x comes at = let e : y ≡ x = cc in subst (λ z. Asks z true) e comes.0
+  comes_accessed (Adds y v next) x comes at = let e : y ≡ x = cc in subst (λ z. Asks z true) e comes.0
+  comes_accessed (Evicts y) x comes at = absurd comes
+
+  -- done, it was refused and has left the processor as it was, or has made such a one
+  pub comes_made : {M : Type 0} (mem : Memory M) (t : ℕ) (act : Act) (p q : Processor) (m n : M) (answer : Answer)
+      → Comes act → ActDone mem t act p m answer q n → ((stop : Stop) × (answer ≡ Err stop) × (q ≡ p)) ⊎ Makes q
+  comes_made mem t (Refused stop) p q m n answer comes done = inl (stop, done.0, done.1)
+  comes_made mem t (Goes next) p q m n answer comes done = inr (subst Makes (sym done.1) comes)
+  comes_made mem t (Loads x next) p q m n answer comes done = inr (subst Makes (sym done.2) (comes.1 done.0))
+  comes_made mem t (Stores x w next) p q m n answer comes done = inr (subst Makes (sym done.1) comes.1)
+  comes_made mem t (Swaps x v next) p q m n answer comes done = inr (subst Makes (sym done.2) (comes.1 done.0))
+  comes_made mem t (Adds x v next) p q m n answer comes done = inr (subst Makes (sym done.2) (comes.1 done.0))
+  comes_made mem t (Evicts x) p q m n answer comes done = absurd comes
+
+  load_comes : (found : Option ℕ) (x : ℕ) (next : ℕ → Processor) → Asks x false → ((w : ℕ) → Makes (next w)) → Comes (load_act found x next)
+  load_comes (Some w) x next asks makes = makes w
+  load_comes None x next asks makes = (asks, makes)
+
+  once_comes : (buffer : List (ℕ × ℕ)) (stop : Stop) (act : Act) → (buffer ≢ [] → Reason) → (buffer ≡ [] → Comes act)
+      → Comes (once_empty buffer stop act)
+  once_comes [] stop act reason comes = comes refl
+  once_comes (entry ∷ newer) stop act reason comes = reason (λ e. absurd cc)
+
+  -- An operation is refused only where it waits and the buffer has an entry, asks only for its location, and writes that
+  -- at once only where it is locked.
+  pub operation_comes : (o : Operation) (p : Processor) → (waits o ≡ true → p.buffer ≢ [] → Reason)
+      → ((x : ℕ) → location_of o ≡ Some x → Asks x (is_locked o)) → ((q : Processor) → Went o p q → Makes q) → Comes (operation_act o p)
+  operation_comes (Set d v) p reason asks makes = makes _ (next (Set d v) p _ refl refl never refl refl (length-set p.regs d _))
+  operation_comes (Sum d a v) p reason asks makes = makes _ (next (Sum d a v) p _ refl refl never refl refl (length-set p.regs d _))
+  operation_comes (Compare a v) p reason asks makes = makes _ (next (Compare a v) p _ refl refl never refl refl refl)
+  operation_comes (Store x v) p reason asks makes =
+      makes _ (record { leads = inl (refl, refl); buffers = inr ((x, value_of v p.regs), refl, refl, refl); regs = refl; waited = never })
+  operation_comes (Load d x) p reason asks makes =
+      load_comes (newest p.buffer x) x _ (asks x refl) (λ w. makes _ (next (Load d x) p _ refl refl never refl refl (length-set p.regs d w)))
+  operation_comes (Swap d x a) p reason asks makes =
+      once_comes p.buffer SwapWaits _ (reason refl)
+      (λ empty. (asks x refl, λ w. makes _ (next (Swap d x a) p _ refl refl (λ e. empty) refl refl (length-set p.regs d w))))
+  operation_comes (FetchAdd None x v) p reason asks makes =
+      once_comes p.buffer SwapWaits _ (reason refl)
+      (λ empty. (asks x refl, λ w. makes _ (next (FetchAdd None x v) p _ refl refl (λ e. empty) refl refl refl)))
+  operation_comes (FetchAdd (Some d) x v) p reason asks makes =
+      once_comes p.buffer SwapWaits _ (reason refl)
+      (λ empty. (asks x refl, λ w. makes _ (next (FetchAdd (Some d) x v) p _ refl refl (λ e. empty) refl refl (length-set p.regs d w))))
+  operation_comes Fence p reason asks makes =
+      once_comes p.buffer FenceWaits _ (reason refl) (λ empty. makes _ (next Fence p _ refl refl (λ e. empty) refl refl refl))
+  operation_comes (Branch c to) p reason asks makes =
+      makes _ (record { leads = branch_leads c to p.position p.regs p.zero_flag; buffers = inl (refl, refl); regs = refl; waited = never })
+
+-- what an operation accesses
+pub operation_accessed : (o : Operation) (p : Processor) (x : ℕ) → accessed (operation_act o p) ≡ Some x
+    → (location_of o ≡ Some x) × (is_locked o ≡ writes (operation_act o p))
+operation_accessed o p x =
+    let asks = λ (y : ℕ) (w : Bool). (location_of o ≡ Some y) × (is_locked o ≡ w) in
+    comes_accessed (Unit {0}) asks (λ q. Unit {0}) (operation_act o p) x
+    (operation_comes (Unit {0}) asks (λ q. Unit {0}) o p (λ waits full. tt) (λ y e. (e, refl)) (λ q went. tt))
+
+-- what an operation does to its processor
+pub operation_does : (o : Operation) (p q : Processor) (m n : List ℕ) → Does m (operation_act o p) q n → Went o p q
+operation_does o p q m n d =
+    let comes = operation_comes (Unit {0}) (λ x w. Unit {0}) (Went o p) o p (λ waits full. tt) (λ x e. tt) (λ q went. went) in
+    let done = does_done 0 (operation_act o p) p q m n d in
+    ⊎_elim (λ refused. absurd (let e = refused.1 in cc)) (λ went. went)
+    (comes_made (Unit {0}) (λ x w. Unit {0}) (Went o p) flat 0 (operation_act o p) p q m n (Ok tt) comes done)
