@@ -23,7 +23,8 @@
 - HANDLES is its one line. Beside what is counted in folders and documents stand the least numbers that there must be of it, so that
   a heading that is renamed can't leave its rows unread.
 - No crate that says what tests mean names one that reads texts (tools/check_wings.py); the definitions on which the meaning of a
-  test stands are few, and docs/MAP.md tells how many (tools/semantic_core.py).
+  test stands are few, and docs/MAP.md tells how many (tools/semantic_core.py); docs/BELIEVE.md has each definition that the contract
+  of `states` reaches, with its lines (tools/believe.py).
 - What `./lw` builds, and when, with a stand-in for `rt` (tools/check_build.py); docs/TIMES.md has the minutes of each of its crates.
 - The numbers of states of the tests in bench/.
 - The web page, by a plain client, and where there is a browser in that too (tools/check_page.py).
@@ -40,6 +41,7 @@ from concurrent.futures import ThreadPoolExecutor
 from random import Random
 
 sys.dont_write_bytecode = True
+import believe
 import build
 import check_build
 import check_edits
@@ -472,12 +474,17 @@ def check_semantic_core():
     yield "what the meaning of a test stands on, and docs/MAP.md on it (tools/semantic_core.py)", [], semantic_core.told()
 
 
+def check_believe():
+    yield "the definitions that the contract of `states` reaches, and docs/BELIEVE.md on them (tools/believe.py)", [], believe.told_faults()
+
+
 def checks():
     """All checks: functions with their arguments, each of which is one thing to do."""
     yield (check_build.comparisons,)
     yield (check_times,)
     yield (check_wings_apart,)
     yield (check_semantic_core,)
+    yield (check_believe,)
     for name in ["README.md", *sorted(glob.glob("docs/*.md"))]:
         for block in blocks(read(name)):
             yield check_transcript, name, block
