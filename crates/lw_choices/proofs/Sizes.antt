@@ -5,11 +5,10 @@ use Rattle.std.proofs.lemmas.Bool.{cases_lt}
 use Rattle.std.proofs.lemmas.List.{length-set, get_or-set_same, get_or-set_other}
 use Rattle.std.specs.Option.{option_to_list}
 use Rattle.std.proofs.lemmas.Option.{slice_get_within}
-use Rattle.lw_orders.specs.Limits.{most_items}
 use Rattle.lw_litmus.specs.Languages.{Language}
 use Rattle.lw_litmus.specs.Flow.{IsPathFrom, Follows}
 use Rattle.lw_choices.specs.Choices.{IsForward, IsChoice, led}
-use Rattle.lw_choices.specs.Counts.{HasTooManyItems, items_at_choice}
+use Rattle.lw_choices.specs.Counts.{items_at_choice}
 use Rattle.lw_choices.specs.Items.{drains, items_at, path_items, items_from}
 use Rattle.lw_choices.specs.inner.Sizes.{IsMost, statement_size, path_size}
 use Rattle.lw_choices.specs.Visits.{IsVisitable}
@@ -17,14 +16,6 @@ use Rattle.lw_choices.proofs.api.Led.{led-has, led-only, led_within}
 use Rattle.lw_choices.proofs.api.Members.{of_one, Contains-here, Contains-there, Contains-cons}
 
 -- ---- the largest of one or two
-
-pub most_of_one : (f : ℕ → ℕ) (xs : List ℕ) (a : ℕ) → xs ≡ a ∷ [] → IsMost (Contains xs) f (f a)
-most_of_one f xs a are = record {
-  none_more = λ x c. let e = of_one a x (subst (λ (ys : List ℕ). Contains ys x) are c) in omega (arith, ap f e);
-  one = a;
-  is_one = subst (λ (ys : List ℕ). Contains ys a) (sym are) (Contains-here a a [] refl);
-  reached = refl;
-}
 
 pub most_of_two : (f : ℕ → ℕ) (xs : List ℕ) (a b m : ℕ) → xs ≡ a ∷ b ∷ [] → f a ≤ m → f b ≤ m → (m ≡ f a) ⊎ (m ≡ f b) → IsMost (Contains xs) f m
 most_of_two f xs a b m are first second reached = record {
@@ -140,14 +131,6 @@ module _ {S : Type 0} (language : Language S) where
       length-append (path_items language 0 code path) (items_from language 1 program paths)
       ∙ ap (λ (n : ℕ). path_size language code path + n) (items_from_alike 1 0 program paths)
 
-  pub most_of_none : (program : List (List S)) → program ≡ [] → IsMost (IsChoice language program) (items_at_choice language program) 0
-  most_of_none program none = subst (λ (p : List (List S)). IsMost (IsChoice language p) (items_at_choice language p) 0) (sym none) (record {
-    none_more = λ paths is. omega arith;
-    one = [];
-    is_one = tt;
-    reached = refl;
-  })
-
   pub most_of_more : (program : List (List S)) (code : List S) (others : List (List S)) (m n : ℕ) → program ≡ code ∷ others
       → IsMost (IsPathFrom language code 0) (path_size language code) m → IsMost (IsChoice language others) (items_at_choice language others) n
       → IsMost (IsChoice language program) (items_at_choice language program) (m + n)
@@ -162,14 +145,6 @@ module _ {S : Type 0} (language : Language S) where
       more : (paths : List (List ℕ)) → IsChoice language (code ∷ others) paths → items_at_choice language (code ∷ others) paths ≤ m + n
       more [] is = absurd is
       more (path ∷ paths) is = omega (arith, together code others path paths, first.none_more path is.0, rest.none_more paths is.1)
-
-  pub too_many : (program : List (List S)) (m : ℕ) → IsMost (IsChoice language program)
-      (items_at_choice language program) m → most_items < m → HasTooManyItems language program
-  too_many program m most lt = (most.one, most.is_one, omega (arith, most.reached, lt))
-
-  pub few_enough : (program : List (List S)) (m : ℕ) → IsMost (IsChoice language program)
-      (items_at_choice language program) m → m ≤ most_items → HasTooManyItems language program → ⊥
-  few_enough program m most le (paths, choice, lt) = omega (arith, most.none_more paths choice, le, lt)
 
 -- ---- the positions behind one
 

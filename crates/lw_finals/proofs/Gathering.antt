@@ -1,5 +1,5 @@
 -- What is gathered by one run after another, and by one choice after another.
-use Rattle.std.proofs.Common.{◌≡◌, ◌==◌, Bool, true, ℕ, ◌+◌, ◌<◌, ◌≤◌, List, [], ◌∷◌, ◌++◌, length, refl, sym, ap, ◌∙◌, subst, inl, inr, ◌⊎◌, arith, append_assoc, append-nil}
+use Rattle.std.proofs.Common.{◌≡◌, ◌==◌, Bool, true, ℕ, ◌+◌, ◌<◌, ◌≤◌, List, [], ◌∷◌, ◌++◌, length, refl, sym, ap, ◌∙◌, subst, inl, inr, ◌⊎◌, arith, append_assoc}
 use Rattle.std.specs.Prelude.{All, Contains, IsPermutation}
 use Rattle.std.proofs.lemmas.Bool.{eqb-true}
 use Rattle.std.proofs.lemmas.List.{map-append}
@@ -18,10 +18,6 @@ module _ (Leads : List Event → Final → Type 0) where
   -- whatever has no end gathers nothing
   pub none_gathered : (Ends : Final → Type 0) (es : Entries) → ((o : Final) → Ends o → ⊥) → Gathers Ends Leads es es
   none_gathered Ends es none = record { covered = λ o e. absurd (none o e); kept = λ o c. c; lead = λ a. a }
-
-  -- an end that is known
-  pub one_known : (Ends : Final → Type 0) (es : Entries) (o : Final) → ((p : Final) → Ends p → p ≡ o) → Contains (outcomes_of es) o → Gathers Ends Leads es es
-  one_known Ends es o only c = record { covered = λ p e. subst (λ q. Contains (outcomes_of es) q) (sym (only p e)) c; kept = λ p h. h; lead = λ a. a }
 
   -- a new one, with a schedule that leads to it
   pub one_added : (Ends : Final → Type 0) (es fs : Entries) (o p : Final) (s : List Event)
@@ -81,9 +77,6 @@ more_orders Ends given order o (x, c, e) = elim (cases given order x c) [
       ]
     ]
 
-pub no_orders : (Ends : List ℕ → Final → Type 0) (o : Final) → EndsOfOrders Ends [] o → ⊥
-no_orders Ends o (x, c, e) = none_in x c
-
 -- of all orders that are given, those before what is to come have been run
 pub record UpTo (Ends : List ℕ → Final → Type 0) (Leads : List Event → Final → Type 0) (all to_come : List (List ℕ)) (old found : Entries) : Type 0 where
   pub done : List (List ℕ)
@@ -91,9 +84,6 @@ pub record UpTo (Ends : List ℕ → Final → Type 0) (Leads : List Event → F
   pub gathers : Gathers (EndsOfOrders Ends done) Leads old found
 
 module _ (Ends : List ℕ → Final → Type 0) (Leads : List Event → Final → Type 0) (all : List (List ℕ)) (old : Entries) where
-  pub up_to_start : UpTo Ends Leads all all old old
-  up_to_start = record { done = []; split = refl; gathers = none_gathered Leads (EndsOfOrders Ends []) old (no_orders Ends) }
-
   -- the next order is one of all
   pub next_in : (to_come next : List (List ℕ)) (found : Entries) (order : List ℕ)
       → to_come ≡ order ∷ next → UpTo Ends Leads all to_come old found → Contains all order
@@ -108,11 +98,6 @@ module _ (Ends : List ℕ → Final → Type 0) (Leads : List Event → Final �
     gathers = both_gathered Leads (EndsOfOrders Ends u.done) (Ends order)
         (EndsOfOrders Ends (u.done ++ order ∷ [])) old found more (more_orders Ends u.done order) u.gathers h;
   }
-
-  pub up_to_end : (to_come : List (List ℕ)) (found : Entries)
-      → to_come ≡ [] → UpTo Ends Leads all to_come old found → Gathers (EndsOfOrders Ends all) Leads old found
-  up_to_end to_come found e u = subst (λ (xs : List (List ℕ)). Gathers (EndsOfOrders Ends xs) Leads old found)
-      (sym (u.split ∙ (ap (λ xs. u.done ++ xs) e ∙ append-nil u.done))) u.gathers
 
 -- all choices were visited
 module _ {V : Type 0} (Test : Type 0) (test_of : V → Test) (found_of : V → Entries) (visits : V → List (List ℕ) → V → Type 0)

@@ -1,5 +1,5 @@
 -- The outcomes of the orders of all choices of paths are exactly the outcomes of a source test, and alike orders end alike.
-use Rattle.std.proofs.Common.{◌≡◌, ℕ, ◌<◌, List, [], ◌∷◌, map, length, refl, sym, ◌∙◌, arith}
+use Rattle.std.proofs.Common.{ℕ, List, [], ◌∷◌, map, refl, arith}
 use Rattle.std.specs.Prelude.{◌↔◌}
 use Rattle.lw_base.specs.Outcomes.{Final}
 use Rattle.lw_base.specs.declared.event.Event.TheVariants.{Step}

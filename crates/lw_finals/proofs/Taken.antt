@@ -16,7 +16,7 @@ use Rattle.lw_choices.specs.Items.{drains, waits}
 use Rattle.lw_choices.proofs.api.Led.{follows_within}
 use Rattle.lw_choices.proofs.api.Members.{Contains-here, Contains-there}
 use Rattle.lw_choices.proofs.api.FixedOrder.{AreOrdered}
-use Rattle.lw_choices.proofs.api.Numbering.{In, Pairwise, IsStoring, item, slot, slot_by, slot_less, store_slot, GoesUp, goes_up_in, path_up}
+use Rattle.lw_choices.proofs.api.Numbering.{In, Pairwise, IsStoring, item, slot, slot_less, store_slot, GoesUp, goes_up_in, path_up}
 use Rattle.lw_finals.specs.OrderRuns.{ItemsRan}
 use Rattle.lw_finals.proofs.Waiting.{Climbs, climbs_in, stored, waits_after, from_after, in_after, store_after}
 

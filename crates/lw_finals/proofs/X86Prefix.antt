@@ -1,8 +1,8 @@
 -- What has been done, and which stores wait, after a part of an order of an x86 test's items that keeps the fixed pairs.
-use Rattle.std.proofs.Common.{◌≡◌, ◌≢◌, ℕ, suc, ◌<◌, ◌≤◌, Bool, true, false, List, [], ◌∷◌, length, Option, Some, None, refl, sym, ap, ap₂, ◌∙◌, subst, inl, inr, ◌⊎◌, ⊎_elim, arith, slice_get}
-use Rattle.std.proofs.lemmas.Bool.{cases_eq, cases_lt, true≢false}
+use Rattle.std.proofs.Common.{◌≡◌, ℕ, suc, ◌<◌, ◌≤◌, true, false, List, [], ◌∷◌, length, Some, refl, sym, ap, ap₂, ◌∙◌, subst, inl, inr, arith, slice_get}
+use Rattle.std.proofs.lemmas.Bool.{cases_lt}
 use Rattle.lw_base.specs.Threads.{code_of}
-use Rattle.lw_orders.specs.Order.{place, Before, IsOrder}
+use Rattle.lw_orders.specs.Order.{place, Before}
 use Rattle.lw_orders.proofs.api.Places.{same_place}
 use Rattle.lw_litmus.specs.declared.instr.Instr.{Instr}
 use Rattle.lw_choices.specs.declared.item.Item.{Item}

@@ -20,7 +20,6 @@ use Rattle.lw_litmus.specs.declared.instr.Instr.{Instr}
 use Rattle.lw_litmus.specs.Tests.{ProgramTest}
 use Rattle.lw_choices.specs.declared.item.Item.{Item}
 use Rattle.lw_choices.specs.Items.{item_at}
-use Rattle.lw_finals.specs.OrderRuns.{OrderRan}
 use Rattle.lw_finals.specs.X86Runs.{event_by, event_of, events_of, CarriedOut, StaysAndEnds, LeadsFlat}
 use Rattle.lw_finals.proofs.X86Outcomes.{order_replays}
 use Rattle.lw_finals.proofs.OrderSteps.{RanFirst, ran_off, ran_on, ran_out, ran_whole}
@@ -38,9 +37,6 @@ no_eviction true t es e = ap (λ (fs : List Event). Drain t ∷ fs) e
 no_eviction false t es e = ap (λ (fs : List Event). Step t ∷ fs) e
 
 module _ (test : ProgramTest) (items : List Item) where
-  abbrev FlatRan : List ℕ → MachineState (List ℕ) → MachineState (List ℕ) → Type 0
-  FlatRan = OrderRan (CarriedOut flat test.threads) items
-
   no_evictions : (order : List ℕ) → without_evictions (events_of items order) ≡ events_of items order
   no_evictions [] = refl
   no_evictions (i ∷ order) = no_eviction (item_at items i).is_drain (item_at items i).thread (events_of items order) (no_evictions order)
@@ -74,21 +70,6 @@ module _ {M : Type 0} (mem : Memory M) where
         → CanStart mem inv test m
     can_start inv program threads words sound cpus content same is initial =
         record { sound = sound; cpus = subst (λ (p : List (List Instr)). length p ≤ inv.cpus m) (same ∙ is) cpus; words = content ∙ initial }
-
-    -- at the start
-    pub ran_none : (order : List ℕ) (s : MachineState M) → s ≡ machine_start test m → mem.content m ≡ test.head.init_words → RanFlat order 0 s
-    ran_none order s is words =
-        let same : machine_start test test.head.init_words ≡ flatten mem s =
-        ap (λ (ws : List ℕ). machine_start test ws) (sym words) ∙ ap (flatten mem) (sym is) in
-        record {
-          events = [];
-          reached = is;
-          first = record {
-            goes = λ end o. subst (λ (s : MachineState (List ℕ)). FlatRan test items order s end) same o;
-            comes = λ end o. subst
-                (λ (s : MachineState (List ℕ)). FlatRan test items order s end) (sym same) o;
-          };
-        }
 
     -- all items have been carried out
     pub ends_alone : (order : List ℕ) (k : ℕ) (now : MachineState M) → length order ≤ k → RanFlat order k now

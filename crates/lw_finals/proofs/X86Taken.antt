@@ -1,5 +1,5 @@
 -- The paths that the threads of an x86 program take in a run to the end over the flat memory, and the items that it carries out.
-use Rattle.std.proofs.Common.{◌≡◌, ◌≢◌, ℕ, ◌≤◌, ◌==◌, List, [], ◌∷◌, map, length, Option, Some, None, Bool, true, false, Ok, refl, sym, ap, ◌∙◌, subst, arith, slice_get, length-set}
+use Rattle.std.proofs.Common.{◌≡◌, ℕ, ◌≤◌, ◌==◌, List, [], ◌∷◌, length, Option, Some, None, Bool, true, false, Ok, refl, sym, ap, ◌∙◌, subst, arith, slice_get, length-set}
 use Rattle.std.specs.Prelude.{IsTrue, nat_le}
 use Rattle.std.specs.Option.{option_map}
 use Rattle.std.proofs.lemmas.Bool.{true≢false, and_parts, leb-true, eqb-true}

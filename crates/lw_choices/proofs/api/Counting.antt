@@ -7,7 +7,7 @@ use Rattle.lw_choices.specs.declared.fault.ListFault.{ListFault}
 use Rattle.lw_choices.specs.declared.fault.ListFault.TheVariants.{TooManyItems, TooManyOrders, Memory}
 use Rattle.lw_choices.specs.declared.item.Item.{Item}
 use Rattle.lw_choices.specs.Choices.{IsForward, choices_of}
-use Rattle.lw_choices.specs.Counts.{items_at_choice, orders_at_choice, orders_of, total_of, HasTooManyItems, TellsOfChoice, TellsOfItems, TellsOfGiven, TellsOfChoices, TellsLimit}
+use Rattle.lw_choices.specs.Counts.{items_at_choice, orders_at_choice, orders_of, total_of, HasTooManyItems, TellsOfChoice, TellsOfGiven, TellsOfChoices, TellsLimit}
 use Rattle.lw_litmus.specs.Languages.{Language}
 use Rattle.lw_choices.specs.Items.{items_of, constraints_of}
 use Rattle.lw_choices.specs.Visits.{Visited, Refused}
@@ -118,13 +118,6 @@ module _ {S : Type 0} (language : Language S) where
       pub visit_refused : All (IsForward language) program → (v : V) (e : ListFault) → program_of v ≡ program
           → Refused visits refuses (choices_of language program) v e → TellsOfChoices language program e
       visit_refused forward v e is h = tells_all program forward e (uncounted (choices_of language program) v e is h)
-
-  -- a refusal of the items, or of their orders, is one of the choice
-  pub items_refused : (program : List (List S)) (before : ℕ) (paths : List (List ℕ)) (e : ListFault)
-      → TellsOfItems language program paths e → TellsOfChoice language program before paths e
-  items_refused program before paths TooManyItems h = h
-  items_refused program before paths TooManyOrders h = absurd h
-  items_refused program before paths Memory h = tt
 
   pub given_refused : (program : List (List S)) (paths : List (List ℕ)) (e : ListFault)
       → TellsOfGiven language program (items_of language program paths) e → TellsOfChoice language program 0 paths e

@@ -1,17 +1,16 @@
--- The fixed pairs of the items of a choice, in either language: each goes up along a thread, and a statement and the next item
--- of its thread are among them. And the items with their fixed pairs and conflicts are well-formed.
+-- The fixed pairs of the items of a choice, in either language: each goes up along a thread. And the items with their fixed pairs
+-- and conflicts are well-formed.
 use Rattle.std.proofs.Common.{◌≡◌, Bool, true, false, ℕ, zero, suc, ◌+◌, ◌<◌, ◌≤◌, ◌==◌, List, [], ◌∷◌, length, Option, Some, None, refl, sym, ap, ◌∙◌, subst, inl, inr, slice_get, arith}
 use Rattle.std.specs.Prelude.{All, Contains}
 use Rattle.std.specs.Option.{ForSome}
 use Rattle.std.proofs.lemmas.Bool.{cases_eq, eq-eqb, ne_eqb, cond-true, cond-false}
-use Rattle.std.proofs.lemmas.List.Elements.{All-nil, All-cons, All-append, All-weaker, Contains-append_left, Contains-append_right}
+use Rattle.std.proofs.lemmas.List.Elements.{All-nil, All-cons, All-append, All-weaker}
 use Rattle.lw_orders.specs.Order.{GoUp, IsWellFormed}
 use Rattle.lw_orders.specs.Limits.{most_items}
 use Rattle.lw_choices.specs.declared.item.Item.{Item}
 use Rattle.lw_choices.specs.declared.item.Last.{Last}
 use Rattle.lw_litmus.specs.Languages.{Language}
 use Rattle.lw_choices.specs.Items.{item_at, none_before, behind, fixed_at, last_with, last_of, pairs_from, do_conflict, does_wait, fixed_from, constraints_of}
-use Rattle.lw_choices.proofs.api.Members.{Contains-here}
 use Rattle.lw_choices.proofs.api.Pairs.{In, All-passing, pairs_up, pairs_have, pairs_rise, Rises-filter, Rises-sorted, Contains-filter}
 
 -- the last items, given whether they are of the thread
@@ -97,17 +96,6 @@ got_at [] k a e = absurd cc
 got_at (b ∷ items) zero a e = cc
 got_at (b ∷ items) (suc k) a e = got_at items k a e
 
-behind_has : (d w : Bool) (last : Last) (m n : ℕ) → last.statement ≡ Some m → Contains (fixed_at d w last n) (m, n)
-behind_has d w last m n e = go d w
-  where
-    there : Contains (behind last.statement n) (m, n)
-    there = subst (λ (o : Option ℕ). Contains (behind o n) (m, n)) (sym e) (Contains-here (m, n) (m, n) [] refl)
-
-    go : (d w : Bool) → Contains (fixed_at d w last n) (m, n)
-    go true w = Contains-append_left (behind last.statement n) (behind last.drain n) (m, n) there
-    go false true = Contains-append_left (behind last.statement n) (behind last.drain n) (m, n) there
-    go false false = there
-
 module _ {S : Type 0} (language : Language S) (program : List (List S)) where
   -- each fixed pair goes up along a thread
   pub fixed_along : (items : List Item) → All (GoesAlong items (length items)) (constraints_of language program items).fixed
@@ -118,48 +106,6 @@ module _ {S : Type 0} (language : Language S) (program : List (List S)) where
       (let same : 0 + k ≡ k = omega arith in
       ap (λ (n : ℕ). (item_at items n).thread) same ∙ ap (λ (x : Item). x.thread) (got_at items k a e))) (none_last items 0 0))
 
-  next_from : (items : List Item) (k n t : ℕ) (last : Last) (a b : Item) → slice_get items k ≡ Some a
-      → slice_get items (suc k) ≡ Some b → a.is_drain ≡ false → a.thread ≡ b.thread
-      → Contains (fixed_from language program n t last items) (n + k, n + suc k)
-  next_from [] k n t last a b ea eb d same = absurd cc
-  next_from (x ∷ []) zero n t last a b ea eb d same = absurd cc
-  next_from (x ∷ y ∷ items) zero n t last a b ea eb d same =
-      let is_a : x ≡ a = cc in
-      let is_b : y ≡ b = cc in
-      let now : Last = last_of t x.thread last in
-      let mine : last_with x.is_drain now n ≡ last_with false now n = ap (λ (z : Bool). last_with z now n) (ap (λ (z : Item). z.is_drain) is_a ∙ d) in
-      let one : x.thread ≡ y.thread = ap (λ (z : Item). z.thread) is_a ∙ (same ∙ ap (λ (z : Item). z.thread) (sym is_b)) in
-      let was : (last_of x.thread y.thread (last_with x.is_drain now n)).statement ≡ Some n =
-      ap (λ (l : Last). l.statement) (last_same x.thread y.thread (last_with x.is_drain now n) one ∙ mine) in
-      let there : Contains (fixed_at y.is_drain (does_wait language program y) (last_of x.thread y.thread (last_with x.is_drain now n)) (suc n)) (n, suc n) =
-      behind_has y.is_drain (does_wait language program y) (last_of x.thread y.thread (last_with x.is_drain now n)) n (suc n) was in
-      let pair : (n + 0 ≡ n) × (n + 1 ≡ suc n) = (omega arith, omega arith) in
-      subst (λ (m : ℕ). Contains {X = ℕ × ℕ} (fixed_from language program n t last (x ∷ y ∷ items)) (m, n + 1)) (sym pair.0)
-      (subst (λ (m : ℕ). Contains {X = ℕ × ℕ} (fixed_from language program n t last (x ∷ y ∷ items)) (n, m)) (sym pair.1)
-      (Contains-append_right (fixed_at x.is_drain (does_wait language program x) now n)
-      (fixed_from language program (suc n) x.thread (last_with x.is_drain now n) (y ∷ items)) (n, suc n)
-      (Contains-append_left (fixed_at y.is_drain (does_wait language program y)
-      (last_of x.thread y.thread (last_with x.is_drain now n)) (suc n)) _ (n, suc n) there)))
-  next_from (x ∷ items) (suc k) n t last a b ea eb d same =
-      let now : Last = last_of t x.thread last in
-      let pair : (suc n + k ≡ n + suc k) × (suc n + suc k ≡ n + suc (suc k)) = (omega arith, omega arith) in
-      subst (λ (m : ℕ). Contains {X = ℕ × ℕ} (fixed_from language program n t last (x ∷ items)) (m, n + suc (suc k))) pair.0
-      (subst (λ (m : ℕ). Contains {X = ℕ × ℕ} (fixed_from language program n t last (x ∷ items)) (suc n + k, m)) pair.1
-      (Contains-append_right (fixed_at x.is_drain (does_wait language program x) now n)
-      (fixed_from language program (suc n) x.thread (last_with x.is_drain now n) items) (suc n + k, suc n + suc k)
-      (next_from items k (suc n) x.thread (last_with x.is_drain now n) a b ea eb d same)))
-
-  -- a statement and the next item of its thread are fixed
-  pub next_fixed : (items : List Item) (k : ℕ) (a b : Item) → slice_get items k ≡ Some a
-      → slice_get items (suc k) ≡ Some b → a.is_drain ≡ false → a.thread ≡ b.thread
-      → Contains (constraints_of language program items).fixed (k, suc k)
-  next_fixed items k a b ea eb d same =
-      let pair : (0 + k ≡ k) × (0 + suc k ≡ suc k) = (omega arith, omega arith) in
-      let fixed : List (ℕ × ℕ) = (constraints_of language program items).fixed in
-      subst (λ (m : ℕ). Contains {X = ℕ × ℕ} fixed (m, suc k)) pair.0
-      (subst (λ (m : ℕ). Contains {X = ℕ × ℕ} fixed (0 + k, m)) pair.1
-      (next_from items k 0 0 none_before a b ea eb d same))
-
   abbrev conflict_at : List Item → ℕ × ℕ → Bool
   conflict_at items p = do_conflict language program (item_at items p.0) (item_at items p.1)
 
@@ -168,12 +114,6 @@ module _ {S : Type 0} (language : Language S) (program : List (List S)) where
       → do_conflict language program (item_at items i) (item_at items j) ≡ true → Contains (constraints_of language program items).conflicts (i, j)
   conflict_there items i j less below c = Contains-filter (conflict_at items) (pairs_from 0 (length items))
       (i, j) (pairs_have 0 (length items) i j (omega arith) less (omega arith)) c
-
-  -- each of the conflicts does conflict
-  pub conflicts_conflict : (items : List Item) → All (λ (p : ℕ × ℕ). do_conflict language program
-      (item_at items p.0) (item_at items p.1) ≡ true) (constraints_of language program items).conflicts
-  conflicts_conflict items = All-passing (conflict_at items) (In 0 (length items))
-      (λ p. conflict_at items p ≡ true) (pairs_from 0 (length items)) (pairs_up 0 (length items)) (λ p h e. e)
 
   pub conflicts_up : (items : List Item) → GoUp (length items) (constraints_of language program items).conflicts
   conflicts_up items = All-passing (conflict_at items) (In 0 (length items))

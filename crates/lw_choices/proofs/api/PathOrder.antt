@@ -1,6 +1,6 @@
 -- What the fixed pairs of the items of a choice order: the statements of a thread stand as on its path, and so do its drains; each
 -- store's drain stands behind it, and what waits for drains behind all drains before it.
-use Rattle.std.proofs.Common.{◌≡◌, ℕ, ◌<◌, inl, inr, List, length, Bool, true, false, sym, ◌∙◌, arith}
+use Rattle.std.proofs.Common.{◌≡◌, ℕ, ◌<◌, inl, inr, List, length, true, false, sym, ◌∙◌}
 use Rattle.std.proofs.lemmas.Bool.{true≢false}
 use Rattle.lw_base.specs.Threads.{code_of}
 use Rattle.lw_litmus.specs.Languages.{Language}
