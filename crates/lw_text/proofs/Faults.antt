@@ -1,6 +1,6 @@
 -- What a reader of tokens owes where memory ran out, and which told cause is that.
 use Rattle.std.proofs.Common.{◌≡◌, ◌≢◌, refl}
-use Rattle.std.specs.Prelude.{Result, IfErr, IsErrAnd}
+use Rattle.std.specs.Prelude.{Result, Ok, Err, IfOk, IfErr, IsErr, IsErrAnd}
 use Rattle.lw_base.proofs.api.Returns.{out_of_memory}
 use Rattle.lw_text.specs.Causes.{told}
 use Rattle.lw_text.specs.declared.fault.Cause.{Cause}
@@ -24,3 +24,36 @@ told-Memory TooManyRows e = absurd cc
 told-Memory TooManyLocations e = absurd cc
 told-Memory Condition e = absurd cc
 told-Memory Memory e = refl
+
+-- the exit of a `?`, for a clause on what is answered where nothing is refused
+pub not_ok : {T E : Type 0} (P : T → Type 0) (r : Result T E) → IsErr r → IfOk r P
+not_ok P (Ok x) h = absurd cc
+not_ok P (Err e) h = tt
+
+-- no cause of a reader is told as these two
+pub told-TooLong : (c : Cause) → told c ≡ text.TooLong → ⊥
+told-TooLong Unterminated e = cc
+told-TooLong Unexpected e = cc
+told-TooLong Number e = cc
+told-TooLong Name e = cc
+told-TooLong Ragged e = cc
+told-TooLong TooManyThreads e = cc
+told-TooLong TooManyRows e = cc
+told-TooLong TooManyLocations e = cc
+told-TooLong Condition e = cc
+told-TooLong Memory e = cc
+
+pub told-NotUtf8 : (c : Cause) → told c ≡ text.NotUtf8 → ⊥
+told-NotUtf8 Unterminated e = cc
+told-NotUtf8 Unexpected e = cc
+told-NotUtf8 Number e = cc
+told-NotUtf8 Name e = cc
+told-NotUtf8 Ragged e = cc
+told-NotUtf8 TooManyThreads e = cc
+told-NotUtf8 TooManyRows e = cc
+told-NotUtf8 TooManyLocations e = cc
+told-NotUtf8 Condition e = cc
+told-NotUtf8 Memory e = cc
+
+pub not_too_long : text.NotUtf8 ≡ text.TooLong → ⊥
+not_too_long e = cc

@@ -2,6 +2,7 @@
 use Rattle.std.proofs.Common.{◌≡◌, ◌≢◌, ℕ, ◌≤◌, inl, inr, [], ◌∷◌, length, Result, Ok, Err, Option, None, Some, true, false, slice_get, subst, sym, ap, ◌∙◌, arith}
 use Rattle.std.specs.Prelude.{codes, IfOk, IfErr, OnErr}
 use Rattle.std.proofs.lemmas.Bool.{true≢false, ltb-false, ltb-true}
+use Rattle.std.proofs.lemmas.Result.{IfOk-weaker}
 use Rattle.lw_base.specs.Types.{Bytes, NameTable, TokenList}
 use Rattle.lw_base.specs.declared.head.Arch.{Arch}
 use Rattle.lw_base.specs.Names.{IsName, IsLocation}
@@ -12,11 +13,12 @@ use Rattle.lw_text.specs.declared.fault.Cause.TheVariants.{Memory}
 use Rattle.lw_text.specs.declared.site.Site.{Site}
 use Rattle.lw_text.specs.declared.site.Site.TheVariants as made
 use Rattle.lw_text.specs.Tokens.{IsNumber}
-use Rattle.lw_text.specs.Sites.{SiteSyntax, InMemory, InThread, IsSite, ThreadExists, ThreadAllowed, site_names}
+use Rattle.lw_text.specs.Sites.{SiteSyntax, InMemory, InThread, IsSite, ThreadExists, ThreadAllowed, Value, site_names}
 use Rattle.lw_text.specs.inner.Resolved.{named, is_allowed}
 use Rattle.lw_text.proofs.Atoms.{number_no_name, bracket_no_name}
 use Rattle.lw_text.proofs.api.Numbers.{bracket_no_number, number-unique}
 use Rattle.lw_text.proofs.NameTables.{named-at}
+use Rattle.lw_text.proofs.Texts.{same_front, no_front}
 
 -- a location is allowed, and a register of a thread that is
 pub allowed_location : (threads : Option ℕ) (x : Bytes) → ThreadAllowed threads (InMemory x)
@@ -81,3 +83,44 @@ module _ (arch : Arch) (names after ts l : TokenList) (t : Bytes) (loc : ℕ) (e
 
   pub entered_names : after ≡ with_name names t → after ≡ with_names names (site_names (named after (made.Location loc) ∷ []))
   entered_names more = more ∙ ap (λ s. with_names names (site_names (s ∷ []))) (sym (named-at after loc t stands))
+
+-- what stands in brackets, and behind the number of a thread, as a site
+module _ (arch : Arch) (names ts l : TokenList) (t : Bytes) (e : ts ≡ t ∷ l) (rest : TokenList) (r : Result Site Refusal) where
+  module _ (after : NameTable) (opens : t ≡ codes "[") (h : IfOk r (λ s. (x : Bytes) × (l ≡ x ∷ codes "]" ∷ rest) × IsLocation x × (named after s ≡ InMemory x) × (after ≡ with_name names x))) where
+    pub brackets_found : IfOk r (λ s. IsSite arch ts (named after s) rest)
+    brackets_found = IfOk-weaker r _ _ (λ s p. subst (λ y. IsSite arch ts y rest) (sym p.3) (p.2, inr (e ∙ ap (λ y. y ∷ l) opens ∙ ap (λ y. codes "[" ∷ y) p.1))) h
+
+    pub brackets_names : IfOk r (λ s. after ≡ with_names names (site_names (named after s ∷ [])))
+    brackets_names = IfOk-weaker r _ _ (λ s p. p.4 ∙ ap (λ y. with_names names (site_names (y ∷ []))) (sym p.3)) h
+
+  module _ (n : ℕ) (number : IsNumber t n) (h : IfOk r (λ s. (q : Bytes) × (reg : ℕ) × (l ≡ codes ":" ∷ q ∷ rest) × IsRegister arch q reg × ((ns : NameTable) → named ns s ≡ InThread n reg))) where
+    pub thread_found : IfOk r (λ s. IsSite arch ts (named names s) rest)
+    thread_found = IfOk-weaker r _ _ (λ s p. subst (λ y. IsSite arch ts y rest) (sym (p.4 names)) (t, p.0, e ∙ ap (λ y. t ∷ y) p.2, number, p.3)) h
+
+    pub thread_names : IfOk r (λ s. names ≡ with_names names (site_names (named names s ∷ [])))
+    thread_names = IfOk-weaker r _ _ (λ s p. ap (λ y. with_names names (site_names (y ∷ []))) (sym (p.4 names))) h
+
+-- behind a thread's number, where no `:` stands, and where no register's name stands behind it
+pub no_colon : {T : Type 0} (arch : Arch) (ts : TokenList) (r : Result T Refusal) → ((rest : TokenList) → ts ≡ codes ":" ∷ rest → ⊥) → OnErr r ((q : Bytes) (reg : ℕ) (rest : TokenList) → ts ≡ codes ":" ∷ q ∷ rest → IsRegister arch q reg → ⊥)
+no_colon arch ts (Ok x) never = tt
+no_colon arch ts (Err f) never = λ q reg rest e is. never (q ∷ rest) e
+
+pub no_register : {T : Type 0} (arch : Arch) (ts l : TokenList) (r : Result T Refusal) → ts ≡ codes ":" ∷ l → ((q : Bytes) (reg : ℕ) (rest : TokenList) → l ≡ q ∷ rest → IsRegister arch q reg → ⊥) → OnErr r ((q : Bytes) (reg : ℕ) (rest : TokenList) → ts ≡ codes ":" ∷ q ∷ rest → IsRegister arch q reg → ⊥)
+no_register arch ts l (Ok x) e never = tt
+no_register arch ts l (Err f) e never = λ q reg rest g is. never q reg rest (same_front ts l (q ∷ rest) (codes ":") (codes ":") e g).1 is
+
+pub no_register_left : {T : Type 0} (arch : Arch) (ts : TokenList) (r : Result T Refusal) → ts ≡ [] → OnErr r ((q : Bytes) (reg : ℕ) (rest : TokenList) → ts ≡ q ∷ rest → IsRegister arch q reg → ⊥)
+no_register_left arch ts (Ok x) e = tt
+no_register_left arch ts (Err f) e = λ q reg rest g is. no_front ts rest q e g
+
+pub no_register_named : (arch : Arch) (ts l : TokenList) (t : Bytes) → ts ≡ t ∷ l → ((reg : ℕ) → IsRegister arch t reg → ⊥) → (q : Bytes) (reg : ℕ) (rest : TokenList) → ts ≡ q ∷ rest → IsRegister arch q reg → ⊥
+no_register_named arch ts l t e never q reg rest g is = never reg (subst (λ w. IsRegister arch w reg) (same_front ts l rest t q e g).0 is)
+
+-- where no `=` stands, and where nothing stands behind it
+pub no_equals : {T : Type 0} (ts : TokenList) (r : Result T Refusal) → ((rest : TokenList) → ts ≡ codes "=" ∷ rest → ⊥) → OnErr r ((v : ℕ) (rest : TokenList) → Value ts v rest → ⊥)
+no_equals ts (Ok x) never = tt
+no_equals ts (Err f) never = λ v rest p. never (p.0 ∷ rest) p.1
+
+pub no_number_left : {T : Type 0} (ts l : TokenList) (r : Result T Refusal) → ts ≡ codes "=" ∷ l → l ≡ [] → OnErr r ((v : ℕ) (rest : TokenList) → Value ts v rest → ⊥)
+no_number_left ts l (Ok x) e none = tt
+no_number_left ts l (Err f) e none = λ v rest p. no_front l rest p.0 none (same_front ts l (p.0 ∷ rest) (codes "=") (codes "=") e p.1).1

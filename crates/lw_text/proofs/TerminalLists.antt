@@ -1,17 +1,19 @@
 -- The terminals of a proposition are read in one way.
-use Rattle.std.proofs.Common.{◌≡◌, ℕ, ◌<◌, inl, inr, true, false, List, [], ◌∷◌, ◌++◌, length, refl, sym, ap, ◌∙◌, subst, arith}
+use Rattle.std.proofs.Common.{◌≡◌, ℕ, ◌<◌, ◌≤◌, inl, inr, true, false, List, [], ◌∷◌, ◌++◌, length, refl, sym, ap, ◌∙◌, subst, arith}
 use Rattle.std.specs.Prelude.{codes, if◌then◌else◌, ◌⊎◌, Option, Some, None}
 use Rattle.std.specs.Str.{bytes_eq}
-use Rattle.lw_base.specs.Types.{Bytes, TokenList}
+use Rattle.lw_base.specs.Types.{Bytes, NameTable, TokenList}
+use Rattle.lw_base.specs.Tables.{with_names}
 use Rattle.lw_base.specs.declared.head.Arch.{Arch}
 use Rattle.lw_base.specs.Names.{IsName, is_reserved}
 use Rattle.lw_text.specs.Tokens.{IsNumber}
-use Rattle.lw_text.specs.Sites.{SiteSyntax, InMemory, InThread, IsSite, ThreadExists, Value}
+use Rattle.lw_text.specs.Sites.{SiteSyntax, InMemory, InThread, IsSite, ThreadExists, Value, site_names}
 use Rattle.lw_text.specs.Propositions.{Terminal, Open, Close, Negation, Conjunction, Disjunction, Atom}
-use Rattle.lw_text.specs.Conditions.{AtomSyntax, Always, Never, Holds, IsTerminal, Terminals}
+use Rattle.lw_text.specs.Conditions.{AtomSyntax, Always, Never, Holds, IsTerminal, Terminals, begins_word, sites_in}
+use Rattle.lw_text.specs.inner.Pending.{begins_part}
 use Rattle.lw_text.proofs.Atoms.{IsSite-unique, IsSite-shorter, Value-unique, Value-shorter, site_front}
 use Rattle.lw_text.proofs.api.Numbers.{number_first}
-use Rattle.lw_text.proofs.Texts.{is_no_text}
+use Rattle.lw_text.proofs.Texts.{is_no_text, no_word_next}
 
 -- ---- a terminal
 
@@ -172,3 +174,15 @@ Terminals-unique arch threads (s ∷ a) (t ∷ b) ts p q =
     let i : a ≡ b = Terminals-unique arch threads a b p.0 p.2 (subst (λ l. Terminals arch threads l b) (sym e.1) q.2) in
     let k : s ≡ t = e.0 in
     cc
+
+-- where a part has to begin: none of the words, and no site
+pub no_opening : (arch : Arch) (threads : ℕ) (names : NameTable) (ts : TokenList) → begins_word (codes "(") ts ≡ false → begins_word (codes "~") ts ≡ false → begins_word (codes "not") ts ≡ false → begins_word (codes "true") ts ≡ false → begins_word (codes "false") ts ≡ false → ((site : SiteSyntax) (mid : TokenList) → IsSite arch ts site mid → ThreadExists threads site → length (with_names names (site_names (site ∷ []))) ≤ 8 → ⊥) → (s : Terminal AtomSyntax) (rest : TokenList) → IsTerminal arch threads ts s rest → begins_part s ≡ true → length (with_names names (site_names (sites_in (s ∷ [])))) ≤ 8 → ⊥
+no_opening arch threads names ts a b c d e never Open rest p begins few = no_word_next (codes "(") ts rest a p
+no_opening arch threads names ts a b c d e never Close rest p begins few = absurd cc
+no_opening arch threads names ts a b c d e never Negation rest (inl p) begins few = no_word_next (codes "~") ts rest b p
+no_opening arch threads names ts a b c d e never Negation rest (inr p) begins few = no_word_next (codes "not") ts rest c p
+no_opening arch threads names ts a b c d e never Conjunction rest p begins few = absurd cc
+no_opening arch threads names ts a b c d e never Disjunction rest p begins few = absurd cc
+no_opening arch threads names ts a b c d e never (Atom Always) rest p begins few = no_word_next (codes "true") ts rest d p
+no_opening arch threads names ts a b c d e never (Atom Never) rest p begins few = no_word_next (codes "false") ts rest e p
+no_opening arch threads names ts a b c d e never (Atom (Holds site n)) rest p begins few = never site p.0 p.1 p.2 few

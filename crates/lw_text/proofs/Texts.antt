@@ -1,12 +1,12 @@
 -- What tests of texts say.
-use Rattle.std.proofs.Common.{◌≡◌, ℕ, zero, suc, ◌+◌, ◌<◌, ◌≤◌, true, false, List, [], ◌∷◌, drop, length, length-drop, get_or, refl, sym, ap, ◌∙◌, arith}
+use Rattle.std.proofs.Common.{◌≡◌, ℕ, zero, suc, ◌+◌, ◌<◌, ◌≤◌, true, false, List, [], ◌∷◌, drop, length, length-drop, get_or, refl, sym, ap, ◌∙◌, subst, arith}
 use Rattle.std.specs.Prelude.{codes}
 use Rattle.std.specs.Str.{bytes_eq}
 use Rattle.std.proofs.lemmas.List.{drop_all, length-map}
 use Rattle.std.proofs.lemmas.Slice.Eq.{bytes_eq-Decides}
 use Rattle.lw_base.specs.Types.{Bytes, TokenList}
 use Rattle.lw_text.specs.declared.token.Token.{Token}
-use Rattle.lw_text.specs.Spans.{texts}
+use Rattle.lw_text.specs.Spans.{texts, Leaves}
 use Rattle.lw_text.specs.Conditions.{begins_word}
 
 pub is_text : (t u : Bytes) → bytes_eq t u ≡ true → t ≡ u
@@ -17,6 +17,13 @@ is_no_text t u h e = let k = (bytes_eq-Decides t u).1 e in cc
 
 pub marks_apart : codes "|" ≡ codes ";" → ⊥
 marks_apart e = is_no_text (codes "|") (codes ";") refl e
+
+-- what stands in front of the same tokens, and behind it
+pub same_front : (ts l m : TokenList) (t x : Bytes) → ts ≡ t ∷ l → ts ≡ x ∷ m → (x ≡ t) × (l ≡ m)
+same_front ts l m t x e f = (cc, cc)
+
+pub no_front : (ts m : TokenList) (x : Bytes) → ts ≡ [] → ts ≡ x ∷ m → ⊥
+no_front ts m x e f = cc
 
 -- where a word is not next
 pub no_word_next : (w : Bytes) (ts l : TokenList) → begins_word w ts ≡ false → ts ≡ w ∷ l → ⊥
@@ -30,6 +37,16 @@ token_next (u ∷ tokens) (suc next) t lt e = let k : suc next + 1 ≡ suc (next
 
 pub texts_next : (tokens : List Token) (next : ℕ) (t : Token) (w : Bytes) → next < length tokens → t ≡ get_or tokens next t → bytes_eq t.text.now w ≡ true → texts (drop next tokens) ≡ w ∷ texts (drop (next + 1) tokens)
 texts_next tokens next t w lt e h = ap texts (token_next tokens next t lt e) ∙ ap (λ x. x ∷ texts (drop (next + 1) tokens)) (is_text t.text.now w h)
+
+-- a word that is next is a token, and behind it is what is left without it
+pub word_next : (tokens : List Token) (next : ℕ) (w : Bytes) → begins_word w (texts (drop next tokens)) ≡ true → (next < length tokens) × (texts (drop next tokens) ≡ w ∷ texts (drop (next + 1) tokens)) × Leaves (drop next tokens) (drop (next + 1) tokens)
+word_next [] zero w h = absurd cc
+word_next [] (suc next) w h = absurd cc
+word_next (t ∷ tokens) zero w h = (omega arith, ap (λ x. x ∷ texts tokens) (is_text t.text.now w h), (t ∷ [], refl))
+word_next (t ∷ tokens) (suc next) w h =
+    let r = word_next tokens next w h in
+    let k : suc (next + 1) ≡ suc next + 1 = omega arith in
+    (omega (arith, r.0), r.1 ∙ ap (λ (n : ℕ). w ∷ texts (drop n (t ∷ tokens))) k, subst (λ (n : ℕ). Leaves (drop next tokens) (drop n (t ∷ tokens))) k r.2)
 
 pub none_left : (tokens : List Token) (next : ℕ) → next ≡ length tokens → texts (drop next tokens) ≡ []
 none_left tokens next e = ap texts (drop_all next tokens (omega (arith, e)))

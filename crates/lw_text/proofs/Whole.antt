@@ -1,6 +1,6 @@
 -- A text's frame is that of its one heading and its one row of tokens.
 use Rattle.std.proofs.Common.{◌≡◌, ℕ, zero, suc, ◌≤◌, ◌&&◌, Bool, true, false, List, [], ◌∷◌, ◌++◌, length, map, refl, sym, ap, ◌∙◌, subst, arith}
-use Rattle.std.specs.Prelude.{Option, Some, None, IfNone, OnSome, codes, filter, All}
+use Rattle.std.specs.Prelude.{Option, Some, None, Result, Ok, Err, OnErr, IfNone, OnSome, codes, filter, All}
 use Rattle.std.specs.List.{AllByRecursion, list_all}
 use Rattle.std.proofs.lemmas.List.{length-map}
 use Rattle.std.proofs.lemmas.List.Elements.{All-from_recursion}
@@ -15,13 +15,14 @@ use Rattle.lw_text.specs.declared.cell.Cell.{Cell}
 use Rattle.lw_text.specs.declared.site.Site.{Site as MadeSite}
 use Rattle.lw_text.specs.declared.site.Site.TheVariants as made
 use Rattle.lw_text.specs.declared.block.Entry.{Entry as MadeEntry}
+use Rattle.lw_text.specs.declared.fault.Refusal.{Refusal}
 use Rattle.lw_text.specs.Tokens.{Tokens}
 use Rattle.lw_text.specs.Headings.{Heading}
 use Rattle.lw_text.specs.Lists.{Until}
 use Rattle.lw_text.specs.Rows.{Header, Row, Rows, begins_stop}
 use Rattle.lw_text.specs.Sites.{SiteSyntax, ThreadExists, site_names}
 use Rattle.lw_text.specs.Propositions.{Terminal, is_node, IsProposition}
-use Rattle.lw_text.specs.Conditions.{AtomSyntax, Listed, Quantified, Terminals, Condition, sites_in, resolved}
+use Rattle.lw_text.specs.Conditions.{AtomSyntax, Listed, Quantified, Terminals, Condition, begins_word, sites_in, resolved}
 use Rattle.lw_text.specs.Frames.{EntrySyntax, sites_of, Block, TestSyntax, table, Parts, IsNoTest, TestFrame, HasFrame}
 use Rattle.lw_text.specs.Places.{cell_texts, all_texts}
 use Rattle.lw_text.specs.inner.Resolved.{named, named_entry, thread_exists}
@@ -32,7 +33,7 @@ use Rattle.lw_text.proofs.Headings.{Heading-unique}
 use Rattle.lw_text.proofs.Listings.{Listed-unique}
 use Rattle.lw_text.proofs.Readings.{site_names-append}
 use Rattle.lw_text.proofs.TerminalLists.{Terminals-unique}
-use Rattle.lw_text.proofs.Texts.{is_no_text}
+use Rattle.lw_text.proofs.Texts.{is_no_text, no_word_next, same_front}
 use Rattle.lw_text.proofs.TokenRows.{Tokens-unique}
 
 -- ---- the table of names
@@ -203,3 +204,29 @@ no_frame text arch name rest heading never frame h =
 pub no_test : {F : Type 0} (arch : Arch) (o : Option F) (rest : Bytes) (ts : TokenList) → IfNone o (Tokens rest ts) → OnSome o ((us : TokenList) → Tokens rest us → ⊥) → IfNone o (IsNoTest arch ts) → (us : TokenList) → Tokens rest us → IsNoTest arch us
 no_test arch None rest ts row fault never us other s p parts whole = never s p (subst (λ x. Parts arch x s) (Tokens-unique us ts rest other row) parts) whole
 no_test arch (Some f) rest ts row fault never us other s p parts whole = fault us other
+
+-- where no quantifier stands
+module _ {T : Type 0} (ts : TokenList) (r : Result T Refusal) where
+  pub no_exists : (l : TokenList) → ts ≡ codes "~" ∷ l → ((rest : TokenList) → l ≡ codes "exists" ∷ rest → ⊥) → OnErr r ((q : Quant) (rest : TokenList) → Quantified ts q rest → ⊥)
+  no_exists l e never = at r
+    where
+      none : (q : Quant) (rest : TokenList) → Quantified ts q rest → ⊥
+      none Exists rest f = is_no_text (codes "exists") (codes "~") refl (same_front ts l rest (codes "~") (codes "exists") e f).0
+      none NotExists rest f = never rest (same_front ts l (codes "exists" ∷ rest) (codes "~") (codes "~") e f).1
+      none Forall rest f = is_no_text (codes "forall") (codes "~") refl (same_front ts l rest (codes "~") (codes "forall") e f).0
+
+      at : (r : Result T Refusal) → OnErr r ((q : Quant) (rest : TokenList) → Quantified ts q rest → ⊥)
+      at (Ok x) = tt
+      at (Err f) = none
+
+  pub no_quantifier : begins_word (codes "~") ts ≡ false → (here : TokenList) → here ≡ ts → ((rest : TokenList) → here ≡ codes "exists" ∷ rest → ⊥) → ((rest : TokenList) → here ≡ codes "forall" ∷ rest → ⊥) → OnErr r ((q : Quant) (rest : TokenList) → Quantified ts q rest → ⊥)
+  no_quantifier no_tilde here same no_first no_second = at r
+    where
+      none : (q : Quant) (rest : TokenList) → Quantified ts q rest → ⊥
+      none Exists rest f = no_first rest (same ∙ f)
+      none NotExists rest f = no_word_next (codes "~") ts (codes "exists" ∷ rest) no_tilde f
+      none Forall rest f = no_second rest (same ∙ f)
+
+      at : (r : Result T Refusal) → OnErr r ((q : Quant) (rest : TokenList) → Quantified ts q rest → ⊥)
+      at (Ok x) = tt
+      at (Err f) = none

@@ -1,5 +1,5 @@
 -- Words and symbols, and what stands behind them.
-use Rattle.std.proofs.Common.{◌≡◌, ℕ, ◌<◌, inl, inr, Bool, true, false, not, [], ◌∷◌, ◌++◌, length, refl, sym, ap, ◌∙◌, subst, arith}
+use Rattle.std.proofs.Common.{◌≡◌, ℕ, ◌<◌, inl, inr, Bool, true, false, not, [], ◌∷◌, ◌++◌, length, take, drop, refl, sym, ap, ◌∙◌, subst, arith}
 use Rattle.std.specs.Prelude.{◌==◌, Option, Some, None, MatchOption, is_some}
 use Rattle.std.specs.Str.{bytes_eq}
 use Rattle.std.specs.List.{AllByRecursion, list_all}
@@ -116,6 +116,21 @@ no_token bytes rest b e no_word no_single short (c ∷ []) more f (inr p) =
     no_single (subst (λ x. is_single x ≡ true) (sym k) p.0, subst (λ l. begins_pair 40 42 l ≡ false) (sym f) p.2)
 no_token bytes rest b e no_word no_single short (c ∷ d ∷ []) more f (inr p) = short c d more f p
 no_token bytes rest b e no_word no_single short (c ∷ d ∷ g ∷ t) more f (inr p) = p
+
+-- a symbol of two bytes at the front
+pub long_symbol : (bytes t rest : Bytes) → ((b c : ℕ) × (more : Bytes) × (bytes ≡ b ∷ c ∷ more) × (is_pair b c ≡ true)) → t ≡ take 2 bytes → rest ≡ drop 2 bytes → (bytes ≡ t ++ rest) × IsToken t rest
+long_symbol bytes t rest (b, c, more, e, p) f g = rw (f, g, e) (refl, inr p)
+
+-- one of a single byte, where no longer one begins
+no_longer : (more : Bytes) (b : ℕ) → ((d : ℕ) (l : Bytes) → more ≡ d ∷ l → is_pair b d ≡ true → ⊥) → begins (is_pair b) more ≡ false
+no_longer [] b h = refl
+no_longer (d ∷ l) b h = elim (cases_Bool (is_pair b d)) [ inl e ↦ absurd (h d l refl e) | inr e ↦ e ]
+
+pub short_symbol : (bytes more t rest : Bytes) (b : ℕ) → bytes ≡ b ∷ more → ((c d : ℕ) (l : Bytes) → bytes ≡ c ∷ d ∷ l → is_pair c d ≡ true → ⊥) → (is_single b ≡ true) × (begins_pair 40 42 bytes ≡ false) → t ≡ take 1 bytes → rest ≡ drop 1 bytes → (bytes ≡ t ++ rest) × IsToken t rest
+short_symbol bytes more t rest b e no_pair single f g =
+    let longer = no_longer more b (λ d l k. no_pair b d l (e ∙ ap (λ x. b ∷ x) k)) in
+    let shut : begins_pair 40 42 (b ∷ more) ≡ false = subst (λ x. begins_pair 40 42 x ≡ false) e single.1 in
+    rw (f, g, e) (refl, inr (single.0, longer, shut))
 
 -- a word that is no name is told by whether it is a number
 pub kind_number : (w : Bytes) (name number : Bool) (o : Option ℕ) → (IsName w → name ≡ true) → name ≡ false → MatchOption o ((n : ℕ) → IsNumber w n → ⊥) (λ n. IsNumber w n) → number ≡ is_some o → (number ≡ true → IsKind w) × (IsKind w → number ≡ true)

@@ -42,7 +42,7 @@ Note text rest = Quoted text rest ⊎ KeyLine text rest
 
 -- Any number of notes, with trivia around them, up to a `{`.
 pub data Notes : Bytes → Bytes → Type 0 where
-  none : {text rest : Bytes} → Trivia text rest → begins (λ b. b == 123) rest ≡ true
+  none : {text rest : Bytes} → Trivia text rest → begins (λ b. b == byte "{") rest ≡ true
       → Notes text rest
   note : {text mid after rest : Bytes} → Trivia text mid → Note mid after → Notes after rest
       → Notes text rest

@@ -75,13 +75,11 @@ impl<'t, 'a> Cursor<'t, 'a> {
         ensures kept { result ≡ false → self.new ≡ self.old }
         ensures leaves { MovesOn self.old self.new }
     {
-        match self.tokens.get(self.next) {
-            Some(token) if token.text == text => {
-                self.next += 1;
-                true
-            }
-            _ => false,
+        if self.is_next(text) {
+            self.next += 1;
+            return true;
         }
+        false
     }
 
     /// Takes the one text or the other, and says whether it is the first. Another token is refused with

@@ -2,6 +2,7 @@
 ghost use Rattle.std.specs.Prelude.{◌≡◌, ◌≤◌, map, IfOk};
 ghost use Rattle.std.specs.List.{range_with_len};
 ghost use Rattle.lw_base.specs.SeenLists.{registers_of, locations};
+ghost use Rattle.lw_base.specs.declared.head.Seen.TheVariants.{Register};
 ghost use Rattle.lw_text.specs.inner.Resolved.{seen_of, word_at};
 
 use crate::block::Entry;
@@ -31,9 +32,22 @@ pub(crate) fn initial_registers<A: Allocator>(
 fn words_of_thread(entries: &[Entry], cpu: Cpu) -> [Word; 6]
     ensures { result ≡ map (word_at entries.now) (registers_of cpu) }
 {
-    let word = |reg| word_of(entries, Site::Register(cpu.index() as Word, reg));
     let [r0, r1, r2, r3, r4, r5] = Reg::all();
-    [word(r0), word(r1), word(r2), word(r3), word(r4), word(r5)]
+    [
+        word_of_register(entries, cpu, r0),
+        word_of_register(entries, cpu, r1),
+        word_of_register(entries, cpu, r2),
+        word_of_register(entries, cpu, r3),
+        word_of_register(entries, cpu, r4),
+        word_of_register(entries, cpu, r5),
+    ]
+}
+
+/// The word of a register.
+fn word_of_register(entries: &[Entry], cpu: Cpu, reg: Reg) -> Word
+    ensures { result ≡ word_at entries.now (Register cpu reg) }
+{
+    word_of(entries, Site::Register(cpu.index() as Word, reg))
 }
 
 /// The words of so many locations.

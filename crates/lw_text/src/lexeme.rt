@@ -10,21 +10,24 @@ use crate::fault::Cause;
 use crate::scan::{behind, split};
 use lw_base::{ByteKind, Word, ascii_text, front, is_name, is_word_byte};
 
-/// The number that the digits stand for.
+/// The number that the digits stand for, where it is a word.
 fn digits(base: u32, digits: &[u8]) -> Option<Word>
     requires low { 2 ≤ base }
     requires high { base ≤ 16 }
     ensures found { IfSome result (λ n. Digits base 0 digits.now n) }
     ensures none { IfNone result ((n : ℕ) → n < 2 ^ 32 → Digits base 0 digits.now n → ⊥) }
 {
-    let mut n: u32 = 0;
+    let mut n: u64 = 0;
     let mut rest = digits;
     while let Some((first, next)) = split(rest) {
         let digit = char::from(first).to_digit(base)?;
-        n = n.checked_mul(base)?.checked_add(digit)?;
+        n = n * u64::from(base) + u64::from(digit);
+        if n > u64::from(Word::MAX) {
+            return None;
+        }
         rest = next;
     }
-    Some(n)
+    Some(n as Word)
 }
 
 /// The number that the token stands for, where it is one: decimal, or hexadecimal behind `0x`.

@@ -39,10 +39,12 @@ impl<'t, 'a> Cursor<'t, 'a> {
 
     /// The refusal behind the fourth `|` of the header.
     fn fifth_thread(&self) -> Refusal {
-        match self.tokens.get(self.next) {
-            Some(token) if token.text == "P4" => self.refusal(Cause::TooManyThreads),
-            _ => self.refusal(Cause::Unexpected),
-        }
+        let cause = if self.is_next("P4") {
+            Cause::TooManyThreads
+        } else {
+            Cause::Unexpected
+        };
+        self.refusal(cause)
     }
 
     /// Takes the rows up to a word that ends them, which stays.
@@ -171,15 +173,14 @@ fn thread_name(thread: usize) -> &'static str
 fn ends_cell(token: &Token) -> bool
     ensures { result ≡ words.ends_cell token.now.text.now }
 {
-    token.text == "|" || token.text == ";"
+    matches!(token.text, "|" | ";")
 }
 
 fn is_stop(token: &Token) -> bool
     ensures { result ≡ words.is_stop token.now.text.now }
 {
-    token.text == "locations"
-        || token.text == "exists"
-        || token.text == "forall"
-        || token.text == "filter"
-        || token.text == "~"
+    matches!(
+        token.text,
+        "locations" | "exists" | "forall" | "filter" | "~"
+    )
 }

@@ -1,7 +1,7 @@
 //! A token of a text: its place and its bytes.
 
 /// A token: the place of its first byte in the text, and its bytes.
-#[derive(Clone, Copy, Debug, PartialEq, Eq)]
+#[derive(Clone, Copy)]
 pub struct Token<'a> {
     pub at: usize,
     pub text: &'a str,

@@ -1,16 +1,19 @@
--- A text has at most one frame. lw_x86 uses this.
-use Rattle.std.proofs.Common.{◌≡◌, map, sym, ap, ◌∙◌, subst}
+-- A text has at most one frame, whose head is well-formed, with cells for each thread. lw_x86 and lw_bench use this.
+use Rattle.std.proofs.Common.{◌≡◌, length, map, sym, ap, ◌∙◌, subst}
+use Rattle.std.proofs.lemmas.List.FromFn.{length-map-range_with_len}
 use Rattle.lw_base.specs.Types.{Bytes}
 use Rattle.lw_base.specs.declared.head.Arch.{Arch}
 use Rattle.lw_base.specs.Formula.{Formula}
 use Rattle.lw_text.specs.Tokens.{Tokens}
 use Rattle.lw_text.specs.Propositions.{IsProposition}
 use Rattle.lw_text.specs.Conditions.{resolved}
+use Rattle.lw_text.specs.Rows.{column}
 use Rattle.lw_text.specs.Frames.{TestSyntax, table, Parts, TestFrame, HasFrame, made_of}
 use Rattle.lw_text.proofs.Headings.{Heading-unique}
 use Rattle.lw_text.proofs.Derivations.{IsProposition-unique}
 use Rattle.lw_text.proofs.TokenRows.{Tokens-unique}
 use Rattle.lw_text.proofs.Whole.{Parts-unique}
+pub use Rattle.lw_text.proofs.WellFormedHeads.{frame_well_formed}
 
 pub HasFrame-unique : (text : Bytes) (f g : TestFrame) → HasFrame text f → HasFrame text g → f ≡ g
 HasFrame-unique text f g p q =
@@ -23,3 +26,8 @@ HasFrame-unique text f g p q =
     let name : p.name ≡ q.name = head.1 in
     p.made ∙ ap (λ (a : Arch). made_of a p.name p.syntax p.condition) arch ∙ ap (λ n. made_of q.arch n p.syntax p.condition) name ∙ ap (λ (s : TestSyntax). made_of q.arch q.name s p.condition) syntax
     ∙ ap (λ (c : Formula). made_of q.arch q.name q.syntax c) condition ∙ sym q.made
+
+pub frame_columns : (text : Bytes) (f : TestFrame) → HasFrame text f → length f.cells ≡ f.head.threads
+frame_columns text f p =
+    ap (λ (g : TestFrame). length g.cells) p.made ∙ length-map-range_with_len (column p.syntax.rows) 0 p.syntax.threads
+    ∙ sym (ap (λ (g : TestFrame). g.head.threads) p.made)

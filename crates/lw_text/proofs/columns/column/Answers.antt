@@ -1,4 +1,6 @@
-use Rattle.std.proofs.Common.{◌≡◌, sym, subst, length, ◌<◌, get_or}
+use Rattle.std.proofs.Common.{◌≡◌, ◌∙◌, sym, ap, subst, length, ◌<◌, get_or, arith}
+use Rattle.std.proofs.lemmas.List.{take_all}
+use Rattle.lw_text.specs.Rows.{column}
 use Rattle.lw_text.proofs.RowColumns.{column-more}
 use Rattle.lw_text.proofs.columns.column.Goals as goal
 
@@ -13,3 +15,15 @@ loop-row-preserved g c =
 
 pub bounds-as_slice-place : goal.bounds-as_slice-place
 bounds-as_slice-place g c = rw (c.as_slice.ensures, c.row-item.is) (c.requires c.loop-row.row-index c.row-item.result c.loop-row-test.true)
+
+pub loop-row-init : goal.loop-row-init
+loop-row-init g c = c.new-column.ensures
+
+pub bounds-rows-row-index : goal.bounds-rows-row-index
+bounds-rows-row-index g c = c.loop-row-test.true
+
+pub loop-row-smaller : goal.loop-row-smaller
+loop-row-smaller g c = omega (arith, c.loop-row-test.true)
+
+pub returns : goal.returns
+returns g c = c.loop-row.invariant ∙ ap (λ l. column l c.args.place) (take_all c.loop-row.row-index c.args.rows.now (omega (arith, c.loop-row-test.false)))

@@ -1,12 +1,19 @@
-use Rattle.std.proofs.Common.{arith, ap}
+use Rattle.std.proofs.Common.{◌≡◌, ◌<◌, arith, ap}
 use Rattle.std.specs.Char.{digit_value}
-use Rattle.lw_text.proofs.Numbers.{Reads-large, if_none}
+use Rattle.lw_text.proofs.Numbers.{Reads-large, Reads-next, next_value}
 use Rattle.lw_text.proofs.lexeme.digits.Goals as goal
 
-pub returns-in_err-checked_mul-clause-none : goal.returns-in_err-checked_mul-clause-none
-returns-in_err-checked_mul-clause-none c =
-    if_none _ _ (Reads-large c.loop-first.invariant c.in-Some.ensures (omega arith) (omega (arith, c.in_err-checked_mul.ensures)))
+pub returns-then-n-from-clause-none : goal.returns-then-n-from-clause-none
+returns-then-n-from-clause-none c =
+    let digit : c.from-in-Some-2.result ≡ digit_value c.in-Some.first = omega (arith, c.from-in-Some-2.ensures, c.in_ok-digit.ensures.value, ap digit_value c.from.ensures) in
+    let next = next_value c.args.base c.loop-first.n c.in-Some.first c.from-in-Some.result c.from-in-Some-2.result c.from-in-Some.ensures digit in
+    Reads-large c.loop-first.invariant.reads c.in-Some.ensures (omega arith) (omega (arith, next, c.if-n-from.true, c.from-in-Some-3.ensures))
 
-pub returns-in_err-n-clause-none : goal.returns-in_err-n-clause-none
-returns-in_err-n-clause-none c =
-    if_none _ _ (Reads-large c.loop-first.invariant c.in-Some.ensures (omega arith) (omega (arith, c.in_err-n.ensures, c.in_ok-checked_mul.ensures, c.in_ok-digit.ensures.value, ap digit_value c.from.ensures)))
+pub loop-first-preserved : goal.loop-first-preserved
+loop-first-preserved c =
+    let digit : c.from-in-Some-2.result ≡ digit_value c.in-Some.first = omega (arith, c.from-in-Some-2.ensures, c.in_ok-digit.ensures.value, ap digit_value c.from.ensures) in
+    let small : digit_value c.in-Some.first < c.args.base = omega (arith, c.in_ok-digit.ensures.value, ap digit_value c.from.ensures) in
+    record {
+      reads = Reads-next c.loop-first.invariant.reads c.in-Some.ensures _ (next_value c.args.base c.loop-first.n c.in-Some.first c.from-in-Some.result c.from-in-Some-2.result c.from-in-Some.ensures digit) small;
+      low = omega (arith, c.if-n-from.false, c.from-in-Some-3.ensures);
+    }

@@ -1,8 +1,8 @@
-use Rattle.std.proofs.Common.{refl, inl, sym, ◌∙◌, ap, subst}
+use Rattle.std.proofs.Common.{refl, inl, sym, ◌∙◌, ap, subst, length, arith}
 use Rattle.std.proofs.lemmas.Bool.{false≢true}
 use Rattle.lw_base.specs.Characters.{is_word_byte, begins}
 use Rattle.lw_text.specs.Tokens.{IsKind}
-use Rattle.lw_text.proofs.Words.{no_kind, no_token}
+use Rattle.lw_text.proofs.Words.{no_kind, no_token, long_symbol, short_symbol}
 use Rattle.lw_text.proofs.lexeme.token.Goals as goal
 
 pub returns-then-not-is_kind-clause-none : goal.returns-then-not-is_kind-clause-none
@@ -23,3 +23,16 @@ returns-then-is_word_byte-clause-found c =
         kind = subst IsKind c.ascii_text-text.ensures (c.if-not-is_kind.ensures.0 refl);
       }),
     )
+
+pub split_at-requires : goal.split_at-requires
+split_at-requires c = omega (arith, ap length (c.if-begins_long.ensures.0 refl).3)
+
+pub returns-then-begins_long-clause-found : goal.returns-then-begins_long-clause-found
+returns-then-begins_long-clause-found c = long_symbol _ _ _ (c.if-begins_long.ensures.0 refl) (c.ascii_text.ensures ∙ c.split_at.ensures.front) c.split_at.ensures.back
+
+pub split_at-requires-then-begins_short : goal.split_at-requires-then-begins_short
+split_at-requires-then-begins_short c = omega (arith, ap length c.in-Some.ensures)
+
+pub returns-then-begins_short-clause-found : goal.returns-then-begins_short-clause-found
+returns-then-begins_short-clause-found c =
+    short_symbol _ _ _ _ c.in-Some.first c.in-Some.ensures (λ b d more e p. false≢true (c.if-begins_long.ensures.1 (b, d, more, e, p))) (c.if-begins_short.ensures.0 refl) (c.ascii_text-then-begins_short.ensures ∙ c.split_at-then-begins_short.ensures.front) c.split_at-then-begins_short.ensures.back

@@ -1,6 +1,8 @@
 use Rattle.std.proofs.Common.{◌≡◌, ◌≤◌, length, sym, ap, ◌∙◌, subst, arith}
 use Rattle.std.specs.Prelude.{All, IfNone, IfSome}
-use Rattle.lw_base.proofs.api.Returns.{passed_on}
+use Rattle.lw_base.proofs.api.Returns.{passed_on, turned, out_of_memory}
+use Rattle.lw_text.specs.declared.fault.Fault.{Fault}
+use Rattle.lw_text.specs.declared.fault.Cause.TheVariants.{Memory}
 use Rattle.lw_text.specs.Spans.{texts}
 use Rattle.lw_text.specs.PlacedTokens.{PlacedTokens}
 use Rattle.lw_base.specs.Heads.{head_of}
@@ -16,15 +18,17 @@ use Rattle.lw_text.proofs.RowColumns.{columns-texts, columns-placed}
 use Rattle.lw_text.proofs.ResolvedHeads.{head_made}
 use Rattle.lw_text.proofs.WellFormedHeads.{body_proposition}
 use Rattle.lw_text.proofs.Whole.{no_frame, no_test}
+use Rattle.lw_text.proofs.Faults.{not_ok}
 use Rattle.lw_text.proofs.read.read_text.Goals as goal
 
-pub returns-in_err-heading-clause-fault : goal.returns-in_err-heading-clause-fault
-returns-in_err-heading-clause-fault g c =
-    passed_on _ _ c.from_residual.ensures.1 (λ _ frame h. c.in_err-heading.ensures.fault h.arch h.name h.rest (subst (λ t. Heading t h.arch h.name h.rest) (sym c.new-lexer.ensures.rest) h.heading))
-
-pub returns-in_err-heading-clause-place : goal.returns-in_err-heading-clause-place
-returns-in_err-heading-clause-place g c =
-    passed_on _ _ c.from_residual.ensures.1 (omega (arith, c.in_err-heading.ensures.place, ap length c.new-lexer.ensures.text))
+pub returns-in_err-heading : goal.returns-in_err-heading
+returns-in_err-heading g c = record {
+  found = not_ok _ _ c.from_residual.ensures.0;
+  cells = not_ok _ _ c.from_residual.ensures.0;
+  len = not_ok _ _ c.from_residual.ensures.0;
+  fault = passed_on _ _ c.from_residual.ensures.1 (λ _ frame h. c.in_err-heading.ensures.fault h.arch h.name h.rest (subst (λ t. Heading t h.arch h.name h.rest) (sym c.new-lexer.ensures.rest) h.heading));
+  place = passed_on _ _ c.from_residual.ensures.1 (omega (arith, c.in_err-heading.ensures.place, ap length c.new-lexer.ensures.text));
+}
 
 pub body-read-requires-clause-places : goal.body-read-requires-clause-places
 body-read-requires-clause-places g c =
@@ -34,15 +38,17 @@ body-read-requires-clause-places g c =
 pub body-read-requires-clause-fault : goal.body-read-requires-clause-fault
 body-read-requires-clause-fault g c = subst (λ t. IfSome c.in_ok-row.row.fault (λ f. f.at ≤ length t)) (c.in_ok-heading.ensures.same ∙ c.new-lexer.ensures.text) c.in_ok-row.ensures.place
 
-pub returns-in_err-body-clause-fault : goal.returns-in_err-body-clause-fault
-returns-in_err-body-clause-fault g c =
-    let row = c.in_ok-row.row in
-    let heading = subst (λ t. Heading t c.in_ok-heading.heading.arch c.in_ok-heading.heading.name.now c.heading.new.self.rest.now) c.new-lexer.ensures.rest c.in_ok-heading.ensures.found in
-    passed_on _ _ c.from_residual-in_err-body.ensures.1 (λ ne. no_frame c.args.text.now c.in_ok-heading.heading.arch c.in_ok-heading.heading.name.now c.heading.new.self.rest.now heading (no_test c.in_ok-heading.heading.arch row.fault c.heading.new.self.rest.now (texts row.tokens) (read_whole row.fault _ _ row.tokens c.in_ok-row.ensures.found) c.in_ok-row.ensures.fault (c.in_err-body.ensures.fault ne)))
-
-pub returns-in_err-body-clause-place : goal.returns-in_err-body-clause-place
-returns-in_err-body-clause-place g c =
-    passed_on _ _ c.from_residual-in_err-body.ensures.1 c.in_err-body.ensures.place
+pub returns-in_err-body : goal.returns-in_err-body
+returns-in_err-body g c = record {
+  found = not_ok _ _ c.from_residual-in_err-body.ensures.0;
+  cells = not_ok _ _ c.from_residual-in_err-body.ensures.0;
+  len = not_ok _ _ c.from_residual-in_err-body.ensures.0;
+  fault =
+      let row = c.in_ok-row.row in
+      let heading = subst (λ t. Heading t c.in_ok-heading.heading.arch c.in_ok-heading.heading.name.now c.heading.new.self.rest.now) c.new-lexer.ensures.rest c.in_ok-heading.ensures.found in
+      passed_on _ _ c.from_residual-in_err-body.ensures.1 (λ ne. no_frame c.args.text.now c.in_ok-heading.heading.arch c.in_ok-heading.heading.name.now c.heading.new.self.rest.now heading (no_test c.in_ok-heading.heading.arch row.fault c.heading.new.self.rest.now (texts row.tokens) (read_whole row.fault _ _ row.tokens c.in_ok-row.ensures.found) c.in_ok-row.ensures.fault (c.in_err-body.ensures.fault ne)));
+  place = passed_on _ _ c.from_residual-in_err-body.ensures.1 c.in_err-body.ensures.place;
+}
 
 pub finish-requires-clause-says : goal.finish-requires-clause-says
 finish-requires-clause-says g c = (_, c.in_ok-body.ensures.found)
@@ -101,3 +107,24 @@ returns-clause-cells g c =
       has_rows = c.in_ok-body.ensures.rows;
       are = ap placed_cells c.in_ok-finish.ensures.cells ∙ columns-placed body.parts.threads body.rows;
     }
+
+pub returns-in_err-row : goal.returns-in_err-row
+returns-in_err-row g c = record {
+  found = not_ok _ _ c.from_residual-in_err-row.ensures.0;
+  cells = not_ok _ _ c.from_residual-in_err-row.ensures.0;
+  len = not_ok _ _ c.from_residual-in_err-row.ensures.0;
+  fault = out_of_memory (λ (f : Fault). f.cause) Memory (λ f. f.at ≡ 0) _ _ c.from_residual-in_err-row.ensures.1;
+  place = turned (λ (f : Fault). f.at ≤ length c.args.text.now) _ c.from_residual-in_err-row.ensures.1 (λ f q. omega (arith, q.0));
+}
+
+pub returns-in_err-finish : goal.returns-in_err-finish
+returns-in_err-finish g c = record {
+  found = not_ok _ _ c.from_residual-in_err-finish.ensures.0;
+  cells = not_ok _ _ c.from_residual-in_err-finish.ensures.0;
+  len = not_ok _ _ c.from_residual-in_err-finish.ensures.0;
+  fault = out_of_memory (λ (f : Fault). f.cause) Memory (λ f. f.at ≡ 0) _ _ c.from_residual-in_err-finish.ensures.1;
+  place = turned (λ (f : Fault). f.at ≤ length c.args.text.now) _ c.from_residual-in_err-finish.ensures.1 (λ f q. omega (arith, q.0));
+}
+
+pub returns-clause-len : goal.returns-clause-len
+returns-clause-len g c = c.in_ok-finish.ensures.len

@@ -10,19 +10,29 @@ use Rattle.lw_text.proofs.CellPlaces.{rows_placed}
 use Rattle.lw_text.proofs.api.Places.{texts_placed}
 use Rattle.lw_text.proofs.Bodies.{syntax_by, agrees}
 use Rattle.lw_text.proofs.Whole.{first_names, no_front, no_rows, no_condition, header_some, Rows-even}
+use Rattle.lw_text.proofs.Faults.{not_ok}
 use Rattle.lw_text.proofs.cursor.Cursor.body.Goals as goal
 
-pub returns-in_err-entries-clause-fault : goal.returns-in_err-entries-clause-fault
-returns-in_err-entries-clause-fault g c =
-    passed_on _ _ c.from_residual.ensures.1 (λ ne s f parts whole. no_front c.args.arch (left c.args.self.now) (rw c.new-locs.ensures at (c.in_err-entries.ensures.fault ne)) s parts)
+pub returns-in_err-entries : goal.returns-in_err-entries
+returns-in_err-entries g c = record {
+  found = not_ok _ _ c.from_residual.ensures.0;
+  rows = not_ok _ _ c.from_residual.ensures.0;
+  fault = passed_on _ _ c.from_residual.ensures.1 (λ ne s f parts whole. no_front c.args.arch (left c.args.self.now) (rw c.new-locs.ensures at (c.in_err-entries.ensures.fault ne)) s parts);
+}
 
-pub returns-in_err-rows-clause-fault : goal.returns-in_err-rows-clause-fault
-returns-in_err-rows-clause-fault g c =
-    passed_on _ _ c.from_residual-in_err-rows.ensures.1 (λ ne s f parts whole. let found = c.in_ok-entries.ensures.found in no_rows c.args.arch (left c.args.self.now) found.0 _ found.1 c.in_ok-entries.threads (left c.front.new.self) found.2 (c.in_err-rows.ensures.fault ne) s parts)
+pub returns-in_err-rows : goal.returns-in_err-rows
+returns-in_err-rows g c = record {
+  found = not_ok _ _ c.from_residual-in_err-rows.ensures.0;
+  rows = not_ok _ _ c.from_residual-in_err-rows.ensures.0;
+  fault = passed_on _ _ c.from_residual-in_err-rows.ensures.1 (λ ne s f parts whole. let found = c.in_ok-entries.ensures.found in no_rows c.args.arch (left c.args.self.now) found.0 _ found.1 c.in_ok-entries.threads (left c.front.new.self) found.2 (c.in_err-rows.ensures.fault ne) s parts);
+}
 
-pub returns-in_err-listed-clause-fault : goal.returns-in_err-listed-clause-fault
-returns-in_err-listed-clause-fault g c =
-    passed_on _ _ c.from_residual-in_err-listed.ensures.1 (λ ne. let found = c.in_ok-entries.ensures.found in let first = first_names c.args.arch (left c.args.self.now) found.0 c.front.new.locs c.in_ok-entries.entries found.1 (rw c.new-locs.ensures at c.in_ok-entries.ensures.names) in no_condition c.args.arch (left c.args.self.now) found.0 _ found.1 c.in_ok-entries.threads (left c.front.new.self) found.2 _ (left c.rows.new.self) c.in_ok-rows.ensures.found c.front.new.locs first (c.in_err-listed.ensures.fault ne))
+pub returns-in_err-listed : goal.returns-in_err-listed
+returns-in_err-listed g c = record {
+  found = not_ok _ _ c.from_residual-in_err-listed.ensures.0;
+  rows = not_ok _ _ c.from_residual-in_err-listed.ensures.0;
+  fault = passed_on _ _ c.from_residual-in_err-listed.ensures.1 (λ ne. let found = c.in_ok-entries.ensures.found in let first = first_names c.args.arch (left c.args.self.now) found.0 c.front.new.locs c.in_ok-entries.entries found.1 (rw c.new-locs.ensures at c.in_ok-entries.ensures.names) in no_condition c.args.arch (left c.args.self.now) found.0 _ found.1 c.in_ok-entries.threads (left c.front.new.self) found.2 _ (left c.rows.new.self) c.in_ok-rows.ensures.found c.front.new.locs first (c.in_err-listed.ensures.fault ne));
+}
 
 pub condition-requires-clause-threads : goal.condition-requires-clause-threads
 condition-requires-clause-threads g c = c.in_ok-entries.ensures.found.2.1

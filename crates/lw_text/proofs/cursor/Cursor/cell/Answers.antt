@@ -1,11 +1,13 @@
-use Rattle.std.proofs.Common.{◌≡◌, ◌∷◌, [], ◌++◌, ◌∙◌, false, sym, ap, subst, length, arith, append_assoc}
+use Rattle.std.proofs.Common.{◌≡◌, ◌∷◌, [], ◌++◌, ◌∙◌, false, refl, sym, ap, subst, length, arith, append_assoc}
 use Rattle.std.specs.List.{AllByRecursion}
-use Rattle.std.proofs.lemmas.List.{map_push}
+use Rattle.std.proofs.lemmas.List.{map_push, map-append, append-nil}
+use Rattle.lw_base.proofs.api.Returns.{passed_on}
 use Rattle.lw_text.specs.declared.token.Token.{Token}
 use Rattle.lw_text.specs.Rows.{ends_cell}
 use Rattle.lw_text.specs.Spans.{texts}
 use Rattle.lw_text.specs.Views.{remaining}
 use Rattle.lw_text.proofs.Readings.{all_push}
+use Rattle.lw_text.proofs.Faults.{not_ok}
 use Rattle.lw_text.proofs.cursor.Cursor.cell.Goals as goal
 
 pub cell-smaller : goal.cell-smaller
@@ -27,3 +29,23 @@ returns-then-ends_cell-clause-plain g c = c.cell.invariant.plain
 
 pub returns-then-ends_cell-clause-mark : goal.returns-then-ends_cell-clause-mark
 returns-then-ends_cell-clause-mark g c = sym c.ends_cell.ensures ∙ c.if-ends_cell.true
+
+pub cell-init : goal.cell-init
+cell-init g c = rw c.requires (record { tokens = refl; plain = tt })
+
+pub returns-then-ends_cell-clause-parts : goal.returns-then-ends_cell-clause-parts
+returns-then-ends_cell-clause-parts g c =
+    let token = c.in_ok-token.token in
+    ap texts (c.cell.invariant.tokens ∙ ap (λ ts. c.cell.cell ++ ts) c.in_ok-token.ensures.token) ∙ map-append (λ (t : Token). t.text.now) c.cell.cell (token ∷ remaining c.take.new.self)
+
+pub returns-in_err-token : goal.returns-in_err-token
+returns-in_err-token g c = record {
+  tokens = not_ok _ _ c.from_residual.ensures.0;
+  parts = not_ok _ _ c.from_residual.ensures.0;
+  plain = not_ok _ _ c.from_residual.ensures.0;
+  mark = not_ok _ _ c.from_residual.ensures.0;
+  err =
+      let here = remaining c.cell.self in
+      let all = ap texts c.cell.invariant.tokens ∙ map-append (λ (t : Token). t.text.now) c.cell.cell here ∙ ap (λ l. texts c.cell.cell ++ l) c.in_err-token.ensures.err ∙ append-nil (texts c.cell.cell) in
+      passed_on _ _ c.from_residual.ensures.1 (λ _. subst (AllByRecursion (λ t. ends_cell t ≡ false)) (sym all) c.cell.invariant.plain);
+}

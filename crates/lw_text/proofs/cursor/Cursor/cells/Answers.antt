@@ -1,7 +1,7 @@
 use Rattle.std.proofs.Common.{◌∷◌, ◌∙◌, refl, ap, sym, length, arith, length-append}
 use Rattle.std.proofs.lemmas.List.{map_push}
 use Rattle.lw_base.proofs.api.Returns.{passed_on}
-use Rattle.lw_text.proofs.Faults.{memory_ran_out}
+use Rattle.lw_text.proofs.Faults.{memory_ran_out, not_ok}
 use Rattle.lw_text.specs.Spans.{texts}
 use Rattle.lw_text.specs.Places.{cell_texts, cells_texts}
 use Rattle.lw_text.specs.Views.{remaining, left}
@@ -13,13 +13,19 @@ use Rattle.lw_text.proofs.cursor.Cursor.cells.Goals as goal
 pub cell-requires : goal.cell-requires
 cell-requires g c = c.new-tokens.ensures
 
-pub returns-in_err-mark-clause-fault : goal.returns-in_err-mark-clause-fault
-returns-in_err-mark-clause-fault g c =
-    passed_on _ _ c.from_residual.ensures.1 (λ ne. Cells-open (left c.args.self.now) (left c.cells.self) (cells_texts c.cells.cells) c.cells.invariant.before (c.in_err-mark.ensures.err ne))
+pub returns-in_err-mark : goal.returns-in_err-mark
+returns-in_err-mark g c = record {
+  found = not_ok _ _ c.from_residual.ensures.0;
+  cut = not_ok _ _ c.from_residual.ensures.0;
+  fault = passed_on _ _ c.from_residual.ensures.1 (λ ne. Cells-open (left c.args.self.now) (left c.cells.self) (cells_texts c.cells.cells) c.cells.invariant.before (c.in_err-mark.ensures.err ne));
+}
 
-pub returns-in_err-push-clause-fault : goal.returns-in_err-push-clause-fault
-returns-in_err-push-clause-fault g c =
-    memory_ran_out _ _ c.from_residual-in_err-push.ensures.1
+pub returns-in_err-push : goal.returns-in_err-push
+returns-in_err-push g c = record {
+  found = not_ok _ _ c.from_residual-in_err-push.ensures.0;
+  cut = not_ok _ _ c.from_residual-in_err-push.ensures.0;
+  fault = memory_ran_out _ _ c.from_residual-in_err-push.ensures.1;
+}
 
 pub returns-then-eq-clause-found : goal.returns-then-eq-clause-found
 returns-then-eq-clause-found g c =

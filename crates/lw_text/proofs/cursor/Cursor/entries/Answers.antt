@@ -1,7 +1,7 @@
 use Rattle.std.proofs.Common.{◌≡◌, ◌∷◌, [], refl, ap, subst, length, arith, Bool}
 use Rattle.std.specs.Prelude.{codes, if◌then◌else◌}
 use Rattle.lw_base.proofs.api.Returns.{passed_on}
-use Rattle.lw_text.proofs.Faults.{memory_ran_out}
+use Rattle.lw_text.proofs.Faults.{memory_ran_out, not_ok}
 use Rattle.lw_text.specs.Views.{left}
 use Rattle.lw_text.proofs.CellPlaces.{Leaves-join}
 use Rattle.lw_text.proofs.Blocks.{entries_none, entries_end, entries_in, entries_fault, entries_more, entries_last, entries_names, entries_within, entries_mark, IsEntry-shorter}
@@ -25,19 +25,36 @@ returns-then-takes-clause-within g c = entries_in c.args.arch c.args.locs.now c.
 pub returns-then-takes-clause-leaves : goal.returns-then-takes-clause-leaves
 returns-then-takes-clause-leaves g c = Leaves-join c.entries.invariant.leaves c.takes.ensures.leaves
 
-pub returns-in_err-entry-clause-fault : goal.returns-in_err-entry-clause-fault
-returns-in_err-entry-clause-fault g c =
-    let kept : left c.takes.new.self ≡ left c.entries.self = ap left (c.takes.ensures.kept c.if-takes.false) in
-    passed_on _ _ c.from_residual.ensures.1 (λ ne. entries_fault c.args.arch c.args.locs.now c.entries.locs (left c.args.self.now) (left c.entries.self) c.entries.entries c.entries.invariant.read (c.takes.ensures.other c.if-takes.false) (rw kept at (c.in_err-entry.ensures.fault ne)))
+pub returns-in_err-entry : goal.returns-in_err-entry
+returns-in_err-entry g c = record {
+  found = not_ok _ _ c.from_residual.ensures.0;
+  names = not_ok _ _ c.from_residual.ensures.0;
+  within = not_ok _ _ c.from_residual.ensures.0;
+  leaves = not_ok _ _ c.from_residual.ensures.0;
+  fault =
+      let kept : left c.takes.new.self ≡ left c.entries.self = ap left (c.takes.ensures.kept c.if-takes.false) in
+      passed_on _ _ c.from_residual.ensures.1 (λ ne. entries_fault c.args.arch c.args.locs.now c.entries.locs (left c.args.self.now) (left c.entries.self) c.entries.entries c.entries.invariant.read (c.takes.ensures.other c.if-takes.false) (rw kept at (c.in_err-entry.ensures.fault ne)));
+}
 
-pub returns-in_err-push-clause-fault : goal.returns-in_err-push-clause-fault
-returns-in_err-push-clause-fault g c =
-    memory_ran_out _ _ c.from_residual-in_err-push.ensures.1
+pub returns-in_err-push : goal.returns-in_err-push
+returns-in_err-push g c = record {
+  found = not_ok _ _ c.from_residual-in_err-push.ensures.0;
+  names = not_ok _ _ c.from_residual-in_err-push.ensures.0;
+  within = not_ok _ _ c.from_residual-in_err-push.ensures.0;
+  leaves = not_ok _ _ c.from_residual-in_err-push.ensures.0;
+  fault = memory_ran_out _ _ c.from_residual-in_err-push.ensures.1;
+}
 
-pub returns-in_err-either-clause-fault : goal.returns-in_err-either-clause-fault
-returns-in_err-either-clause-fault g c =
-    let kept : left c.takes.new.self ≡ left c.entries.self = ap left (c.takes.ensures.kept c.if-takes.false) in
-    passed_on _ _ c.from_residual-in_err-either.ensures.1 (λ ne all rest ended few. entries_mark c.args.arch c.args.locs.now c.entries.locs (left c.args.self.now) (left c.entries.self) c.entries.entries c.entries.invariant.read c.entry.new.locs c.in_ok-entry.field-0 c.in_ok-entry.ensures.names c.in_ok-entry.ensures.within (left c.entry.new.self) (rw kept at c.in_ok-entry.ensures.found) c.in_err-either.ensures.no_second c.in_err-either.ensures.no_first all rest ended)
+pub returns-in_err-either : goal.returns-in_err-either
+returns-in_err-either g c = record {
+  found = not_ok _ _ c.from_residual-in_err-either.ensures.0;
+  names = not_ok _ _ c.from_residual-in_err-either.ensures.0;
+  within = not_ok _ _ c.from_residual-in_err-either.ensures.0;
+  leaves = not_ok _ _ c.from_residual-in_err-either.ensures.0;
+  fault =
+      let kept : left c.takes.new.self ≡ left c.entries.self = ap left (c.takes.ensures.kept c.if-takes.false) in
+      passed_on _ _ c.from_residual-in_err-either.ensures.1 (λ ne all rest ended few. entries_mark c.args.arch c.args.locs.now c.entries.locs (left c.args.self.now) (left c.entries.self) c.entries.entries c.entries.invariant.read c.entry.new.locs c.in_ok-entry.field-0 c.in_ok-entry.ensures.names c.in_ok-entry.ensures.within (left c.entry.new.self) (rw kept at c.in_ok-entry.ensures.found) c.in_err-either.ensures.no_second c.in_err-either.ensures.no_first all rest ended);
+}
 
 pub returns-then-branch-clause-found : goal.returns-then-branch-clause-found
 returns-then-branch-clause-found g c =

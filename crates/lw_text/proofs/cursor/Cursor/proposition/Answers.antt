@@ -36,3 +36,9 @@ terminals-preserved g c =
 
 pub terminals-init : goal.terminals-init
 terminals-init g c = record { read = terminals_none c.args.arch c.args.threads c.args.locs.now (left c.args.self.now) c.new-reader.result c.new-reader.ensures.given c.new-reader.ensures.only }
+
+pub next_terminal-requires-clause-threads : goal.next_terminal-requires-clause-threads
+next_terminal-requires-clause-threads g c = c.requires.threads
+
+pub returns-in-Err-clause-found : goal.returns-in-Err-clause-found
+returns-in-Err-clause-found g c = tt

@@ -4,14 +4,18 @@ use Rattle.lw_base.proofs.api.Returns.{passed_on}
 use Rattle.lw_text.specs.Places.{cell_texts, cells_texts}
 use Rattle.lw_text.specs.Views.{left}
 use Rattle.lw_text.proofs.Cells.{Row-ragged}
+use Rattle.lw_text.proofs.Faults.{not_ok}
 use Rattle.lw_text.proofs.cursor.Cursor.row.Goals as goal
 
 pub cells-requires : goal.cells-requires
 cells-requires g c = c.new-cells.ensures
 
-pub returns-in_err-end-clause-fault : goal.returns-in_err-end-clause-fault
-returns-in_err-end-clause-fault g c =
-    passed_on _ _ c.from_residual.ensures.1 (λ ne all rest line. c.in_err-end.ensures.fault ne all rest line.0)
+pub returns-in_err-end : goal.returns-in_err-end
+returns-in_err-end g c = record {
+  found = not_ok _ _ c.from_residual.ensures.0;
+  cut = not_ok _ _ c.from_residual.ensures.0;
+  fault = passed_on _ _ c.from_residual.ensures.1 (λ ne all rest line. c.in_err-end.ensures.fault ne all rest line.0);
+}
 
 pub returns-then-len-threads-clause-fault : goal.returns-then-len-threads-clause-fault
 returns-then-len-threads-clause-fault g c =

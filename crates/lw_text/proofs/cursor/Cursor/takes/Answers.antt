@@ -1,12 +1,15 @@
-use Rattle.std.proofs.Common.{◌∷◌, [], refl, sym, ◌∙◌}
-use Rattle.lw_text.proofs.Texts.{token_next, texts_next}
+use Rattle.std.proofs.Common.{[], refl, sym, ◌∙◌}
+use Rattle.lw_text.proofs.Texts.{word_next}
 use Rattle.lw_text.proofs.cursor.Cursor.takes.Goals as goal
 
-pub returns-in-Some-clause-taken : goal.returns-in-Some-clause-taken
-returns-in-Some-clause-taken c = λ _. texts_next c.args.self.now.tokens.now c.args.self.now.next c.in-Some.token.now c.args.text.now c.in-Some.ensures.lookup.3.0 c.in-Some.ensures.lookup.1 (sym c.eq.ensures ∙ c.if-eq.true)
+pub returns-then-is_next-clause-taken : goal.returns-then-is_next-clause-taken
+returns-then-is_next-clause-taken c = λ _. (word_next c.args.self.now.tokens.now c.args.self.now.next c.args.text.now (sym c.is_next.ensures ∙ c.if-is_next.true)).1
 
-pub returns-in-Some-clause-leaves : goal.returns-in-Some-clause-leaves
-returns-in-Some-clause-leaves c = (c.in-Some.token.now ∷ [], token_next c.args.self.now.tokens.now c.args.self.now.next c.in-Some.token.now c.in-Some.ensures.lookup.3.0 c.in-Some.ensures.lookup.1)
+pub returns-then-is_next-clause-leaves : goal.returns-then-is_next-clause-leaves
+returns-then-is_next-clause-leaves c = (word_next c.args.self.now.tokens.now c.args.self.now.next c.args.text.now (sym c.is_next.ensures ∙ c.if-is_next.true)).2
 
-pub returns-in_default-clause-leaves : goal.returns-in_default-clause-leaves
-returns-in_default-clause-leaves c = ([], refl)
+pub returns-clause-other : goal.returns-clause-other
+returns-clause-other c = λ _. sym c.is_next.ensures ∙ c.if-is_next.false
+
+pub returns-clause-leaves : goal.returns-clause-leaves
+returns-clause-leaves c = ([], refl)

@@ -1,5 +1,6 @@
-use Rattle.std.proofs.Common.{arith, ap, sym, ◌∙◌, ◌++◌, length, length-append, append_assoc}
+use Rattle.std.proofs.Common.{arith, ap, sym, refl, subst, ◌∙◌, [], ◌++◌, length, length-append, append_assoc}
 use Rattle.std.proofs.lemmas.Bool.Decides.{nat_tests}
+use Rattle.lw_text.specs.Tokens.{Trivia}
 use Rattle.lw_text.proofs.TriviaLemmas.{Trivia-suffix}
 use Rattle.lw_text.proofs.TokenRows.{Suffix-more, not_ended, no_first_from, no_first_open}
 use Rattle.lw_text.proofs.lexer.Lexer.next.Goals as goal
@@ -33,3 +34,15 @@ returns-in-Err-clause-no_token c = no_first_from c.args.self.now.rest.now c.in-S
 
 pub returns-in_default-clause-no_token : goal.returns-in_default-clause-no_token
 returns-in_default-clause-no_token c = no_first_open c.args.self.now.rest.now c.in_default.ensures.none
+
+pub returns-in_default-clause-no_end : goal.returns-in_default-clause-no_end
+returns-in_default-clause-no_end c = c.in_default.ensures.none [] refl
+
+pub returns-in-Ok-clause-end : goal.returns-in-Ok-clause-end
+returns-in-Ok-clause-end c = (subst (Trivia c.args.self.now.rest.now) c.in-Ok.ensures.found.0 c.in-Some.ensures.found, c.in-Ok.ensures.found.1)
+
+pub returns-in-Ok-clause-at : goal.returns-in-Ok-clause-at
+returns-in-Ok-clause-at c = omega arith
+
+pub returns-in-Err-clause-place : goal.returns-in-Err-clause-place
+returns-in-Err-clause-place c = omega arith
