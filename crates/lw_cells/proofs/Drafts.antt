@@ -1,5 +1,6 @@
 -- Reading the cells of a thread, one further.
-use Rattle.std.proofs.Common.{◌≡◌, ℕ, suc, ◌<◌, ◌≤◌, ◌+◌, ◌*◌, Option, Some, None, ◌⊎◌, inl, inr, List, [], ◌∷◌, ◌++◌, length, length-append, map, take, drop, get_or, refl, sym, ap, ◌∙◌, subst, arith}
+use Rattle.std.proofs.Common.{◌≡◌, ℕ, suc, ◌<◌, ◌≤◌, ◌+◌, ◌*◌, Option, Some, None, ◌⊎◌, inl, inr, List, [], ◌∷◌, ◌++◌, length, length-append, map, take, drop}
+use Rattle.std.proofs.Common.{get_or, refl, sym, ap, ◌∙◌, subst, arith}
 use Rattle.std.specs.Prelude.{slice_get, codes, All}
 use Rattle.std.specs.List.{AllZip, filter_map, cons_option}
 use Rattle.std.specs.Option.{option_map, option_len, ForSome}
@@ -15,14 +16,13 @@ use Rattle.lw_text.specs.declared.cell.Cell.{Cell}
 use Rattle.lw_text.specs.declared.token.Token.{Token}
 use Rattle.lw_text.specs.Spans.{texts}
 use Rattle.lw_text.specs.Places.{cell_texts, cells_texts}
-use Rattle.lw_cells.specs.declared.draft.Draft.{Draft}
 use Rattle.lw_cells.specs.declared.draft.DraftCell.{DraftCell}
-use Rattle.lw_cells.specs.Grammars.{Grammar, IsGrammar}
+use Rattle.lw_cells.specs.Grammars.{Grammar, IsGrammar, CanBegin}
 use Rattle.lw_cells.specs.Cells.{CellSyntax, MaybeStatement, Labels, CellSays, Column, statements, labels_of, names_in}
 use Rattle.lw_cells.specs.Words.{IsMisfit}
 use Rattle.lw_cells.specs.Drafts.{draft_in, draft_cell, LabelMap, LeadsAs, DraftRead, first_names, leading, leading_in, leads_to}
 use Rattle.lw_cells.specs.Reading.{Fits, FitsBelow, StatementCause, MaybeCause, AtLabel, LabelsRead, StatementRead, MaybeRead, bare}
-use Rattle.lw_cells.proofs.api.Causes.{misfit_cause}
+use Rattle.lw_cells.proofs.Causes.{misfit_cause}
 use Rattle.lw_cells.proofs.FrontLabels.{Labels-rest, Labels-unique, names_read, behind}
 use Rattle.lw_cells.proofs.Leads.{statements-append, labels_of-append, first_names_in, leading_in-append}
 use Rattle.lw_cells.proofs.OneReading.{cell_unique, no_label}
@@ -30,11 +30,14 @@ use Rattle.lw_cells.proofs.api.Zips.{zip_unique, zip_more, zip_cut}
 use Rattle.lw_cells.proofs.ResolvedNames.{LocationsExist, LocationExists, all_there, number_in-along}
 
 -- the cells before one, that one, and the cells behind it
-pub cells_cut : {A : Type 0} (cells : List (Cell A)) (i : ℕ) (cell : Cell A) → i < length cells → cell ≡ get_or cells i cell → cells ≡ take i cells ++ cell ∷ drop (suc i) cells
+pub cells_cut : {A : Type 0} (cells : List (Cell A)) (i : ℕ) (cell : Cell A) → i < length cells → cell ≡ get_or cells i cell
+    → cells ≡ take i cells ++ cell ∷ drop (suc i) cells
 cells_cut {A} cells i cell within is =
-    sym (take-append-drop i cells) ∙ ap (λ (r : List (Cell A)). take i cells ++ r) (drop-cons cells i cell within ∙ ap (λ (c : Cell A). c ∷ drop (suc i) cells) (sym is))
+    sym (take-append-drop i cells) ∙ ap (λ (r : List (Cell A)). take i cells ++ r)
+    (drop-cons cells i cell within ∙ ap (λ (c : Cell A). c ∷ drop (suc i) cells) (sym is))
 
-pub cells_more : {A : Type 0} (cells : List (Cell A)) (i : ℕ) (cell : Cell A) → i < length cells → cell ≡ get_or cells i cell → take (i + 1) cells ≡ take i cells ++ cell ∷ []
+pub cells_more : {A : Type 0} (cells : List (Cell A)) (i : ℕ) (cell : Cell A) → i < length cells → cell ≡ get_or cells i cell
+    → take (i + 1) cells ≡ take i cells ++ cell ∷ []
 cells_more {A} cells i cell within is =
     let next : i + 1 ≡ suc i = omega arith in
     ap (λ (n : ℕ). take n cells) next ∙ take-suc cells i cell within ∙ ap (λ (c : Cell A). take i cells ++ c ∷ []) (sym is)
@@ -45,7 +48,13 @@ labels_length ts [] rest h = omega (arith, ap length h)
 labels_length ts (l ∷ ls) rest h = omega (arith, ap length h.1, labels_length h.0 ls rest h.3)
 
 pub labels_end : (tokens : List Token) (next : ℕ) (ls : List (List ℕ)) → next ≤ length tokens → Labels (texts (take next tokens)) ls [] → next ≡ 2 * length ls
-labels_end tokens next ls within h = omega (arith, labels_length (texts (take next tokens)) ls [] h, length-map (take next tokens) (λ (t : Token). t.text.now), length-take next tokens)
+labels_end tokens next ls within h = omega (
+  arith,
+  labels_length (texts (take next tokens)) ls [] h,
+  length-map (take next tokens)
+      (λ (t : Token). t.text.now),
+  length-take next tokens,
+)
 
 pub once_front : (xs ys : List (List ℕ)) → EachOnce (xs ++ ys) → EachOnce xs
 once_front [] ys h = tt
@@ -61,7 +70,8 @@ module _ {Syntax Stmt : Type 0} (grammar : Grammar Syntax Stmt) where
   names_in-append xs ys = ap (filter_map grammar.name_of) (statements-append xs ys) ∙ filter_map-append grammar.name_of (statements xs) (statements ys)
 
   -- a statement is refused behind its cell's labels as it is alone
-  pub maybe_cause : (above : ℕ) (tokens : List Token) (names : List (List ℕ)) (at : ℕ) (cause : CellCause) → StatementCause grammar tokens names at cause → MaybeCause grammar above tokens names at cause
+  pub maybe_cause : (above : ℕ) (tokens : List Token) (names : List (List ℕ)) (at : ℕ) (cause : CellCause)
+      → StatementCause grammar tokens names at cause → MaybeCause grammar above tokens names at cause
   maybe_cause above tokens names at Form c = tt
   maybe_cause above tokens names at Register c = tt
   maybe_cause above tokens names at LabelMissing c = c
@@ -70,50 +80,62 @@ module _ {Syntax Stmt : Type 0} (grammar : Grammar Syntax Stmt) where
   maybe_cause above tokens names at TooMany c = inr c
   maybe_cause above tokens names at Memory c = tt
 
-  module _ {Jump : Type 0} (draft_of : ℕ → Syntax → Draft Stmt Jump) where
-    draft_in-along : (names ns : List (List ℕ)) (s : Syntax) → LocationExists grammar names s → draft_in grammar draft_of (with_names names ns) s ≡ draft_in grammar draft_of names s
+  module _ {D : Type 0} (draft_of : ℕ → Syntax → D) where
+    draft_in-along : (names ns : List (List ℕ)) (s : Syntax) → LocationExists grammar names s
+        → draft_in grammar draft_of (with_names names ns) s ≡ draft_in grammar draft_of names s
     draft_in-along names ns s e = ap (λ (x : ℕ). draft_of x s) (number_in-along names ns (grammar.name_of s) e)
 
     -- what was drafted stays as the table grows
-    pub drafts-along : (names ns : List (List ℕ)) (syntaxes : List (CellSyntax Syntax)) → LocationsExist grammar names (statements syntaxes) → map (draft_cell grammar draft_of (with_names names ns)) syntaxes ≡ map (draft_cell grammar draft_of names) syntaxes
+    pub drafts-along : (names ns : List (List ℕ)) (syntaxes : List (CellSyntax Syntax)) → LocationsExist grammar names (statements syntaxes)
+        → map (draft_cell grammar draft_of (with_names names ns)) syntaxes ≡ map (draft_cell grammar draft_of names) syntaxes
     drafts-along names ns [] all = refl
     drafts-along names ns (syntax ∷ syntaxes) all = go syntax.stmt refl (drafts-along names ns syntaxes)
       where
-        before : CellSyntax Syntax → DraftCell Stmt Jump
+        before : CellSyntax Syntax → DraftCell D
         before = draft_cell grammar draft_of names
 
-        after : CellSyntax Syntax → DraftCell Stmt Jump
+        after : CellSyntax Syntax → DraftCell D
         after = draft_cell grammar draft_of (with_names names ns)
 
         -- the draft of the first cell, where it has this statement
-        cell : List (List ℕ) → Option Syntax → DraftCell Stmt Jump
+        cell : List (List ℕ) → Option Syntax → DraftCell D
         cell table p = draft_cell grammar draft_of table (record { labels = syntax.labels; stmt = p })
 
-        go : (o : Option Syntax) → syntax.stmt ≡ o → (LocationsExist grammar names (statements syntaxes) → map after syntaxes ≡ map before syntaxes) → map after (syntax ∷ syntaxes) ≡ map before (syntax ∷ syntaxes)
+        go : (o : Option Syntax) → syntax.stmt ≡ o → (LocationsExist grammar names (statements syntaxes) → map after syntaxes ≡ map before syntaxes)
+            → map after (syntax ∷ syntaxes) ≡ map before (syntax ∷ syntaxes)
         go None e further =
-            let rest : LocationsExist grammar names (statements syntaxes) = subst (λ (p : Option Syntax). LocationsExist grammar names (cons_option p (statements syntaxes))) e all in
+            let rest : LocationsExist grammar names (statements syntaxes) = subst
+            (λ (p : Option Syntax). LocationsExist grammar names (cons_option p (statements syntaxes))) e all in
             let f : map after syntaxes ≡ map before syntaxes = further rest in
-            ap (λ (p : Option Syntax). cell (with_names names ns) p ∷ map after syntaxes) e ∙ ap (λ (l : List (DraftCell Stmt Jump)). cell names None ∷ l) f ∙ ap (λ (p : Option Syntax). cell names p ∷ map before syntaxes) (sym e)
+            ap (λ (p : Option Syntax). cell (with_names names ns) p ∷ map after syntaxes) e ∙ ap (λ (l : List (DraftCell D)). cell names None ∷ l) f
+            ∙ ap (λ (p : Option Syntax). cell names p ∷ map before syntaxes) (sym e)
         go (Some s) e further =
-            let rest : LocationsExist grammar names (s ∷ statements syntaxes) = subst (λ (p : Option Syntax). LocationsExist grammar names (cons_option p (statements syntaxes))) e all in
+            let rest : LocationsExist grammar names (s ∷ statements syntaxes) = subst
+            (λ (p : Option Syntax). LocationsExist grammar names (cons_option p (statements syntaxes))) e all in
             let f : map after syntaxes ≡ map before syntaxes = further rest.1 in
             let same : cell (with_names names ns) (Some s) ≡ cell names (Some s) =
-            ap (λ (d : Draft Stmt Jump). let c : DraftCell Stmt Jump = record { start = 2 * length syntax.labels; stmt = Some d } in c) (draft_in-along names ns s rest.0) in
-            ap (λ (p : Option Syntax). cell (with_names names ns) p ∷ map after syntaxes) e ∙ ap (λ (l : List (DraftCell Stmt Jump)). cell (with_names names ns) (Some s) ∷ l) f ∙ ap (λ (x : DraftCell Stmt Jump). x ∷ map before syntaxes) same ∙ ap (λ (p : Option Syntax). cell names p ∷ map before syntaxes) (sym e)
+            ap (λ (d : D). let c : DraftCell D = record { start = 2 * length syntax.labels; stmt = Some d } in c) (draft_in-along names ns s rest.0) in
+            ap (λ (p : Option Syntax). cell (with_names names ns) p ∷ map after syntaxes) e ∙ ap
+            (λ (l : List (DraftCell D)). cell (with_names names ns) (Some s) ∷ l) f ∙ ap (λ (x : DraftCell D). x ∷ map before syntaxes) same ∙ ap
+            (λ (p : Option Syntax). cell names p ∷ map before syntaxes) (sym e)
 
-    pub room : (above : ℕ) (o : Option Syntax) (stmt : Option (Draft Stmt Jump)) (f : Syntax → Draft Stmt Jump) → stmt ≡ option_map f o → ForSome stmt (λ s. above ≡ grammar.language.most → ⊥) → above ≤ grammar.language.most → above + length (statements (bare o ∷ [])) ≤ grammar.language.most
+    pub room : (above : ℕ) (o : Option Syntax) (stmt : Option D) (f : Syntax → D) → stmt ≡ option_map f o
+        → ForSome stmt (λ s. above ≡ grammar.language.most → ⊥) → above ≤ grammar.language.most
+        → above + length (statements (bare o ∷ [])) ≤ grammar.language.most
     room above None stmt f made free few = omega (arith, few)
     room above (Some s) stmt f made free few = let full : above ≡ grammar.language.most → ⊥ = free (f s) made in omega (arith, few, full)
 
-    held_by : (o : Option Syntax) (stmt : Option (Draft Stmt Jump)) (f : Syntax → Draft Stmt Jump) → stmt ≡ option_map f o → option_len stmt ≡ length (statements (bare o ∷ []))
+    held_by : (o : Option Syntax) (stmt : Option D) (f : Syntax → D) → stmt ≡ option_map f o → option_len stmt ≡ length (statements (bare o ∷ []))
     held_by None stmt f e = ap option_len e
     held_by (Some s) stmt f e = ap option_len e
 
     -- nothing is read yet
-    pub draft_none : {A : Type 0} (names : List (List ℕ)) (labels : LabelMap) → LeadsAs labels [] → (read : DraftRead grammar draft_of {A = A} [] names [] labels names) × (0 ≡ length (statements read.syntaxes))
+    pub draft_none : {A : Type 0} (names : List (List ℕ)) (labels : LabelMap) → LeadsAs labels []
+        → (read : DraftRead grammar draft_of {A = A} [] names [] labels names) × (0 ≡ length (statements read.syntaxes))
     draft_none names labels none = (record { syntaxes = []; says = tt; few = omega arith; once = tt; names = refl; made = refl; leads = none }, refl)
 
-    pub maybe_some : (ts : List (List ℕ)) (before : List (List ℕ)) (stmt : Draft Stmt Jump) (after : List (List ℕ)) → StatementRead grammar draft_of ts before stmt after → MaybeRead grammar draft_of ts before (Some stmt) after
+    pub maybe_some : (ts : List (List ℕ)) (before : List (List ℕ)) (stmt : D) (after : List (List ℕ))
+        → StatementRead grammar draft_of ts before stmt after → MaybeRead grammar draft_of ts before (Some stmt) after
     maybe_some ts before stmt after r = record { syntax = Some r.syntax; says = r.says; names = r.names; made = ap Some r.made }
 
     -- What stands behind the labels of a cell, by its first token.
@@ -129,15 +151,19 @@ module _ {Syntax Stmt : Type 0} (grammar : Grammar Syntax Stmt) where
           go [] f e = absurd cc
           go (u ∷ ts) f e = absurd cc
 
-      pub no_room : (names : List (List ℕ)) (above : ℕ) → above ≡ grammar.language.most → (s : Option Syntax) → FitsBelow grammar above names (texts tokens) s → ⊥
+      pub no_room : (names : List (List ℕ)) (above : ℕ) → above ≡ grammar.language.most → (s : Option Syntax)
+          → FitsBelow grammar above names (texts tokens) s → ⊥
       no_room names above full None h = not_empty h.says
       no_room names above full (Some s) h = omega (arith, full, h.few)
 
-      pub only_some : (above : ℕ) (names : List (List ℕ)) → ((s : Syntax) → Fits grammar names (texts tokens) s → ⊥) → (s : Option Syntax) → FitsBelow grammar above names (texts tokens) s → ⊥
+      pub only_some : (above : ℕ) (names : List (List ℕ)) → ((s : Syntax) → Fits grammar names (texts tokens) s → ⊥) → (s : Option Syntax)
+          → FitsBelow grammar above names (texts tokens) s → ⊥
       only_some above names none None h = not_empty h.says
       only_some above names none (Some s) h = none s (h.says, h.room)
 
-      pub surplus_cause : (names : List (List ℕ)) (above at : ℕ) (cause : CellCause) → above ≡ grammar.language.most → at ≡ t.at → (IsMisfit cause × (grammar.can_begin t.text.now → ⊥)) ⊎ ((cause ≡ TooMany) × grammar.can_begin t.text.now) → MaybeCause grammar above tokens names at cause
+      pub surplus_cause : (names : List (List ℕ)) (above at : ℕ) (cause : CellCause) → above ≡ grammar.language.most → at ≡ t.at
+          → (IsMisfit cause × (CanBegin grammar t.text.now → ⊥)) ⊎ ((cause ≡ TooMany) × CanBegin grammar t.text.now)
+          → MaybeCause grammar above tokens names at cause
       surplus_cause names above at cause full place (inl m) = maybe_cause above tokens names at cause (misfit_cause grammar tokens names at cause m.0)
       surplus_cause names above at cause full place (inr (e, begins)) = rw e (inl (full, (t, sym first, sym place, begins)))
 
@@ -150,47 +176,90 @@ module _ {Syntax Stmt : Type 0} (grammar : Grammar Syntax Stmt) where
 
     module _ (lawful : IsGrammar grammar) where
       -- What was read of the cells before, and this cell.
-      module _ {A : Type 0} (front : List (Cell A)) (before mid : List (List ℕ)) (drafts : List (DraftCell Stmt Jump)) (labels : LabelMap) (read : DraftRead grammar draft_of front before drafts labels mid) (cell : Cell A) where
-        abbrev pub draft : ℕ → Option (Draft Stmt Jump) → DraftCell Stmt Jump
+      module _ {A : Type 0} (front : List (Cell A)) (before mid : List (List ℕ)) (drafts : List (DraftCell D)) (labels : LabelMap)
+          (read : DraftRead grammar draft_of front before drafts labels mid) (cell : Cell A) where
+        abbrev pub draft : ℕ → Option D → DraftCell D
         draft next stmt = record { start = next; stmt = stmt }
 
-        abbrev pub draft_more : (next : ℕ) (after : List (List ℕ)) (more : LabelMap) (stmt : Option (Draft Stmt Jump)) → LabelsRead cell.tokens (length (statements read.syntaxes)) (leading_in 0 read.syntaxes) next more → MaybeRead grammar draft_of (texts (drop next cell.tokens)) mid stmt after → ForSome stmt (λ s. length (statements read.syntaxes) ≡ grammar.language.most → ⊥) → DraftRead grammar draft_of (front ++ cell ∷ []) before (drafts ++ draft next stmt ∷ []) more after
+        abbrev pub draft_more : (next : ℕ) (after : List (List ℕ)) (more : LabelMap) (stmt : Option D)
+            → LabelsRead cell.tokens (length (statements read.syntaxes)) (leading_in 0 read.syntaxes) next more
+            → MaybeRead grammar draft_of (texts (drop next cell.tokens)) mid stmt after
+            → ForSome stmt (λ s. length (statements read.syntaxes) ≡ grammar.language.most → ⊥)
+            → DraftRead grammar draft_of (front ++ cell ∷ []) before (drafts ++ draft next stmt ∷ []) more after
         draft_more next after more stmt ls st free =
             let syntax : CellSyntax Syntax = record { labels = ls.names; stmt = st.syntax } in
             let n = length (statements read.syntaxes) in
             let whole : texts (take next cell.tokens) ++ texts (drop next cell.tokens) ≡ cell_texts cell =
             sym (map-append (λ t. t.text.now) (take next cell.tokens) (drop next cell.tokens)) ∙ ap texts (take-append-drop next cell.tokens) in
-            let says : CellSays grammar (cell_texts cell) syntax = (texts (drop next cell.tokens), subst (λ (t : List (List ℕ)). Labels t ls.names (texts (drop next cell.tokens))) whole (Labels-rest (texts (take next cell.tokens)) (texts (drop next cell.tokens)) ls.names ls.says), st.says) in
+            let says : CellSays grammar (cell_texts cell) syntax = (
+              texts (drop next cell.tokens),
+              subst (λ (t : List (List ℕ)). Labels t ls.names (texts (drop next cell.tokens))) whole
+                  (Labels-rest (texts (take next cell.tokens)) (texts (drop next cell.tokens)) ls.names ls.says),
+              st.says,
+            ) in
             let labelled : leading_in 0 read.syntaxes ++ leading n ls.names ≡ leading_in 0 (read.syntaxes ++ syntax ∷ []) =
-            ap (λ (k : ℕ). leading_in 0 read.syntaxes ++ leading k ls.names) (let e : n ≡ 0 + n = omega arith in e) ∙ sym (leading_in-append read.syntaxes 0 syntax) in
+            ap (λ (k : ℕ). leading_in 0 read.syntaxes ++ leading k ls.names) (let e : n ≡ 0 + n = omega arith in e) ∙ sym
+            (leading_in-append read.syntaxes 0 syntax) in
             let named : first_names (leading_in 0 read.syntaxes) ++ ls.names ≡ labels_of (read.syntaxes ++ syntax ∷ []) =
             sym (names_read (leading_in 0 read.syntaxes) n ls.names) ∙ ap first_names labelled ∙ first_names_in (read.syntaxes ++ syntax ∷ []) 0 in
             let end : next ≡ 2 * length ls.names = labels_end cell.tokens next ls.names ls.within ls.says in
-            let same : draft_cell grammar draft_of after syntax ≡ draft next stmt = ap (λ (k : ℕ). draft k (option_map (draft_in grammar draft_of after) st.syntax)) (sym end) ∙ ap (λ (o : Option (Draft Stmt Jump)). draft next o) (sym st.made) in
-            let old : LocationsExist grammar mid (statements read.syntaxes) = subst (λ ns. LocationsExist grammar ns (statements read.syntaxes)) (sym read.names) (all_there grammar before (statements read.syntaxes)) in
+            let same : draft_cell grammar draft_of after syntax ≡ draft next stmt = ap
+            (λ (k : ℕ). draft k (option_map (draft_in grammar draft_of after) st.syntax)) (sym end) ∙ ap (λ (o : Option D). draft next o) (sym st.made) in
+            let old : LocationsExist grammar mid (statements read.syntaxes) = subst (λ ns. LocationsExist grammar ns (statements read.syntaxes))
+            (sym read.names) (all_there grammar before (statements read.syntaxes)) in
             let kept : map (draft_cell grammar draft_of after) read.syntaxes ≡ drafts =
-            ap (λ ns. map (draft_cell grammar draft_of ns) read.syntaxes) st.names ∙ drafts-along mid (names_in grammar (bare st.syntax ∷ [])) read.syntaxes old ∙ sym read.made in
+            ap (λ ns. map (draft_cell grammar draft_of ns) read.syntaxes) st.names ∙ drafts-along mid
+            (names_in grammar (bare st.syntax ∷ [])) read.syntaxes old ∙ sym read.made in
             record {
               syntaxes = read.syntaxes ++ syntax ∷ [];
-              says = subst (λ (cs : List (List (List ℕ))). AllZip (CellSays grammar) cs (read.syntaxes ++ syntax ∷ [])) (sym (map-append cell_texts front (cell ∷ []))) (zip_more (CellSays grammar) (cells_texts front) read.syntaxes (cell_texts cell) syntax read.says says);
-              few = omega (arith, ap length (statements-append read.syntaxes (syntax ∷ [])), length-append (statements read.syntaxes) (statements (syntax ∷ [])), room n st.syntax stmt (draft_in grammar draft_of after) st.made free read.few);
+              says = subst (λ (cs : List (List (List ℕ))). AllZip (CellSays grammar) cs (read.syntaxes ++ syntax ∷ []))
+                  (sym (map-append cell_texts front (cell ∷ [])))
+                  (zip_more (CellSays grammar) (cells_texts front) read.syntaxes (cell_texts cell) syntax read.says says);
+              few = omega (
+                arith,
+                ap length (statements-append read.syntaxes (syntax ∷ [])),
+                length-append (statements read.syntaxes)
+                    (statements (syntax ∷ [])),
+                room n st.syntax stmt (draft_in grammar draft_of after) st.made free read.few,
+              );
               once = subst EachOnce named (ls.once (subst EachOnce (sym (first_names_in read.syntaxes 0)) read.once));
               names =
-                  st.names ∙ ap (λ ns. with_names ns (names_in grammar (syntax ∷ []))) read.names ∙ sym (with_names-append before (names_in grammar read.syntaxes) (names_in grammar (syntax ∷ [])))
+                  st.names ∙ ap (λ ns. with_names ns (names_in grammar (syntax ∷ []))) read.names ∙ sym
+                  (with_names-append before (names_in grammar read.syntaxes) (names_in grammar (syntax ∷ [])))
                   ∙ ap (with_names before) (sym (names_in-append read.syntaxes (syntax ∷ [])));
-              made = sym (map-append (draft_cell grammar draft_of after) read.syntaxes (syntax ∷ []) ∙ ap (λ (ds : List (DraftCell Stmt Jump)). ds ++ draft_cell grammar draft_of after syntax ∷ []) kept ∙ ap (λ (x : DraftCell Stmt Jump). drafts ++ x ∷ []) same);
+              made = sym (map-append (draft_cell grammar draft_of after) read.syntaxes (syntax ∷ []) ∙ ap
+                  (λ (ds : List (DraftCell D)). ds ++ draft_cell grammar draft_of after syntax ∷ []) kept ∙ ap (λ (x : DraftCell D). drafts ++ x ∷ []) same);
               leads = λ m. ls.made m ∙ ap (λ (ps : List (List ℕ × ℕ)). leads_to ps m) labelled;
             }
 
-        pub draft_step : (next : ℕ) (after : List (List ℕ)) (more : LabelMap) (stmt : Option (Draft Stmt Jump)) (count k : ℕ) → LabelsRead cell.tokens (length (statements read.syntaxes)) (leading_in 0 read.syntaxes) next more → MaybeRead grammar draft_of (texts (drop next cell.tokens)) mid stmt after → ForSome stmt (λ s. length (statements read.syntaxes) ≡ grammar.language.most → ⊥) → count ≡ length (statements read.syntaxes) → k ≡ option_len stmt → (now : DraftRead grammar draft_of (front ++ cell ∷ []) before (drafts ++ draft next stmt ∷ []) more after) × (count + k ≡ length (statements now.syntaxes))
+        pub draft_step : (next : ℕ) (after : List (List ℕ)) (more : LabelMap) (stmt : Option D) (count k : ℕ)
+            → LabelsRead cell.tokens (length (statements read.syntaxes)) (leading_in 0 read.syntaxes) next more
+            → MaybeRead grammar draft_of (texts (drop next cell.tokens)) mid stmt after
+            → ForSome stmt (λ s. length (statements read.syntaxes) ≡ grammar.language.most → ⊥) → count ≡ length (statements read.syntaxes)
+            → k ≡ option_len stmt → (now : DraftRead grammar draft_of (front ++ cell ∷ []) before (drafts ++ draft next stmt ∷ []) more after) ×
+            (count + k ≡ length (statements now.syntaxes))
         draft_step next after more stmt count k ls st free counted held =
-            let syntax : CellSyntax Syntax = record { labels = ls.names; stmt = st.syntax } in
-            (draft_more next after more stmt ls st free, omega (arith, counted, held, held_by st.syntax stmt (draft_in grammar draft_of after) st.made, ap length (statements-append read.syntaxes (syntax ∷ [])), length-append (statements read.syntaxes) (statements (bare st.syntax ∷ []))))
+            let syntax : CellSyntax Syntax = record { labels = ls.names; stmt = st.syntax } in (
+              draft_more next after more stmt ls st free,
+              omega (
+                arith,
+                counted,
+                held,
+                held_by st.syntax stmt (draft_in grammar draft_of after) st.made,
+                ap length
+                    (statements-append read.syntaxes (syntax ∷ [])),
+                length-append (statements read.syntaxes) (statements (bare st.syntax ∷ [])),
+              ),
+            )
 
         -- what lines must say of this cell, and what was read before
-        module _ (cells rest : List (Cell A)) (whole : cells ≡ front ++ cell ∷ rest) (t : List (CellSyntax Syntax)) (column : Column grammar (cells_texts cells) t) (few : length (with_names before (names_in grammar t)) ≤ 8) where
-          cut : (ys : List (CellSyntax Syntax)) × (y : CellSyntax Syntax) × (more : List (CellSyntax Syntax)) × (t ≡ ys ++ y ∷ more) × AllZip (CellSays grammar) (cells_texts front) ys × CellSays grammar (cell_texts cell) y × AllZip (CellSays grammar) (cells_texts rest) more
-          cut = zip_cut (CellSays grammar) (cells_texts front) (cell_texts cell) (cells_texts rest) t (subst (λ (cs : List (List (List ℕ))). AllZip (CellSays grammar) cs t) (ap cells_texts whole ∙ map-append cell_texts front (cell ∷ rest)) column.says)
+        module _ (cells rest : List (Cell A)) (whole : cells ≡ front ++ cell ∷ rest) (t : List (CellSyntax Syntax))
+            (column : Column grammar (cells_texts cells) t) (few : length (with_names before (names_in grammar t)) ≤ 8) where
+          cut : (ys : List (CellSyntax Syntax)) × (y : CellSyntax Syntax) × (more : List (CellSyntax Syntax)) × (t ≡ ys ++ y ∷ more) × AllZip
+              (CellSays grammar) (cells_texts front) ys × CellSays grammar (cell_texts cell) y × AllZip (CellSays grammar) (cells_texts rest) more
+          cut = zip_cut (CellSays grammar) (cells_texts front) (cell_texts cell) (cells_texts rest) t
+              (subst (λ (cs : List (List (List ℕ))). AllZip (CellSays grammar) cs t)
+              (ap cells_texts whole ∙ map-append cell_texts front (cell ∷ rest)) column.says)
 
           same : read.syntaxes ≡ cut.0
           same = zip_unique (CellSays grammar) (cell_unique grammar lawful) (cells_texts front) read.syntaxes cut.0 read.says cut.4
@@ -201,31 +270,52 @@ module _ {Syntax Stmt : Type 0} (grammar : Grammar Syntax Stmt) where
           names_fit : length (with_names mid (names_in grammar (bare cut.1.stmt ∷ []))) ≤ 8
           names_fit =
               let table : with_names before (names_in grammar t) ≡ with_names (with_names mid (names_in grammar (cut.1 ∷ []))) (names_in grammar cut.2) =
-              ap (λ ls. with_names before (names_in grammar ls)) row ∙ ap (with_names before) (names_in-append read.syntaxes (cut.1 ∷ cut.2)) ∙ with_names-append before (names_in grammar read.syntaxes) (names_in grammar (cut.1 ∷ cut.2))
-              ∙ ap (λ ns. with_names ns (names_in grammar (cut.1 ∷ cut.2))) (sym read.names) ∙ ap (with_names mid) (names_in-append (cut.1 ∷ []) cut.2) ∙ with_names-append mid (names_in grammar (cut.1 ∷ [])) (names_in grammar cut.2) in
+              ap (λ ls. with_names before (names_in grammar ls)) row ∙ ap (with_names before) (names_in-append read.syntaxes (cut.1 ∷ cut.2))
+              ∙ with_names-append before (names_in grammar read.syntaxes) (names_in grammar (cut.1 ∷ cut.2))
+              ∙ ap (λ ns. with_names ns (names_in grammar (cut.1 ∷ cut.2))) (sym read.names) ∙ ap (with_names mid) (names_in-append (cut.1 ∷ []) cut.2)
+              ∙ with_names-append mid (names_in grammar (cut.1 ∷ [])) (names_in grammar cut.2) in
               omega (arith, ap length table, with_names-longer (with_names mid (names_in grammar (cut.1 ∷ []))) (names_in grammar cut.2), few)
 
           count_fits : length (statements read.syntaxes) + length (statements (bare cut.1.stmt ∷ [])) ≤ grammar.language.most
           count_fits =
               let all : statements t ≡ statements read.syntaxes ++ (statements (cut.1 ∷ []) ++ statements cut.2) =
-              ap statements row ∙ statements-append read.syntaxes (cut.1 ∷ cut.2) ∙ ap (λ (ss : List Syntax). statements read.syntaxes ++ ss) (statements-append (cut.1 ∷ []) cut.2) in
-              omega (arith, ap length all, length-append (statements read.syntaxes) (statements (cut.1 ∷ []) ++ statements cut.2), length-append (statements (cut.1 ∷ [])) (statements cut.2), column.few)
+              ap statements row ∙ statements-append read.syntaxes (cut.1 ∷ cut.2) ∙ ap (λ (ss : List Syntax). statements read.syntaxes ++ ss)
+              (statements-append (cut.1 ∷ []) cut.2) in
+              omega (
+                arith,
+                ap length all,
+                length-append (statements read.syntaxes) (statements (cut.1 ∷ []) ++ statements cut.2),
+                length-append
+                    (statements (cut.1 ∷ [])) (statements cut.2),
+                column.few,
+              )
 
           once_fits : EachOnce (first_names (leading_in 0 read.syntaxes) ++ cut.1.labels)
           once_fits =
               let all : labels_of t ≡ (labels_of read.syntaxes ++ cut.1.labels) ++ labels_of cut.2 =
               ap labels_of row ∙ labels_of-append read.syntaxes (cut.1 ∷ cut.2) ∙ sym (append_assoc (labels_of read.syntaxes) cut.1.labels (labels_of cut.2)) in
-              subst (λ (ns : List (List ℕ)). EachOnce (ns ++ cut.1.labels)) (sym (first_names_in read.syntaxes 0)) (once_front (labels_of read.syntaxes ++ cut.1.labels) (labels_of cut.2) (subst EachOnce all column.once))
+              subst (λ (ns : List (List ℕ)). EachOnce (ns ++ cut.1.labels)) (sym (first_names_in read.syntaxes 0))
+              (once_front (labels_of read.syntaxes ++ cut.1.labels) (labels_of cut.2) (subst EachOnce all column.once))
 
           -- where the labels don't fit, no lines do
-          pub labels_none : ((ls : List (List ℕ)) (m : List (List ℕ)) → Labels (cell_texts cell) ls m → (AtLabel m → ⊥) → EachOnce (first_names (leading_in 0 read.syntaxes) ++ ls) → ⊥) → ⊥
+          pub labels_none : ((ls : List (List ℕ)) (m : List (List ℕ)) → Labels (cell_texts cell) ls m → (AtLabel m → ⊥)
+              → EachOnce (first_names (leading_in 0 read.syntaxes) ++ ls) → ⊥) → ⊥
           labels_none none = none cut.1.labels cut.5.0 cut.5.1 (no_label grammar lawful cut.5.0 cut.1.stmt cut.5.2) once_fits
 
           -- where what stands behind the labels doesn't fit, no lines do
-          pub statement_none : (next : ℕ) (more : LabelMap) → LabelsRead cell.tokens (length (statements read.syntaxes)) (leading_in 0 read.syntaxes) next more → (slice_get (texts cell.tokens) (next + 1) ≡ Some (codes ":") → ⊥) → ((s : Option Syntax) → FitsBelow grammar (length (statements read.syntaxes)) mid (texts (drop next cell.tokens)) s → ⊥) → ⊥
+          pub statement_none : (next : ℕ) (more : LabelMap) → LabelsRead cell.tokens (length (statements read.syntaxes))
+              (leading_in 0 read.syntaxes) next more → (slice_get (texts cell.tokens) (next + 1) ≡ Some (codes ":") → ⊥)
+              → ((s : Option Syntax) → FitsBelow grammar (length (statements read.syntaxes)) mid (texts (drop next cell.tokens)) s → ⊥) → ⊥
           statement_none next more ls stops none =
               let whole : texts (take next cell.tokens) ++ texts (drop next cell.tokens) ≡ cell_texts cell =
               sym (map-append (λ u. u.text.now) (take next cell.tokens) (drop next cell.tokens)) ∙ ap texts (take-append-drop next cell.tokens) in
-              let own = subst (λ (u : List (List ℕ)). Labels u ls.names (texts (drop next cell.tokens))) whole (Labels-rest (texts (take next cell.tokens)) (texts (drop next cell.tokens)) ls.names ls.says) in
-              let one = Labels-unique (cell_texts cell) cut.5.0 (texts (drop next cell.tokens)) cut.1.labels ls.names cut.5.1 own (no_label grammar lawful cut.5.0 cut.1.stmt cut.5.2) (λ at. stops (behind cell.tokens next at)) in
-              none cut.1.stmt (record { says = subst (λ (u : List (List ℕ)). MaybeStatement grammar u cut.1.stmt) one.1 cut.5.2; few = count_fits; room = names_fit })
+              let own = subst (λ (u : List (List ℕ)). Labels u ls.names (texts (drop next cell.tokens))) whole
+              (Labels-rest (texts (take next cell.tokens)) (texts (drop next cell.tokens)) ls.names ls.says) in
+              let one = Labels-unique (cell_texts cell) cut.5.0 (texts (drop next cell.tokens)) cut.1.labels ls.names cut.5.1 own
+              (no_label grammar lawful cut.5.0 cut.1.stmt cut.5.2) (λ at. stops (behind cell.tokens next at)) in
+              none cut.1.stmt (record {
+                says = subst (λ (u : List (List ℕ)). MaybeStatement grammar u cut.1.stmt) one.1 cut.5.2;
+                few = count_fits;
+                room
+                    = names_fit;
+              })

@@ -14,7 +14,6 @@ use Rattle.lw_text.specs.PlacedTokens.{texts_of_tokens}
 use Rattle.lw_text.specs.PlacedCells.{PlacedCell, texts_of_cells, texts_of_grid}
 use Rattle.lw_text.specs.Places.{placed, placed_tokens, placed_cell, placed_row}
 use Rattle.lw_text.proofs.api.Places.{texts_placed, cells_placed}
-use Rattle.lw_cells.specs.declared.draft.Draft.{Draft}
 use Rattle.lw_cells.specs.declared.draft.DraftCell.{DraftCell}
 use Rattle.lw_cells.specs.Grammars.{Grammar}
 use Rattle.lw_cells.specs.Cells.{CellSyntax, CellSays, Labels, Column, statements, names_in, names_of}
@@ -45,7 +44,8 @@ single c (x ∷ w ∷ xs) y zs e = let f : [] ≡ w ∷ xs ++ y ∷ zs = cc in a
 
 -- A cell of a thread, with what was read above it.
 module _ {A : Type 0} (cells front rest : List (Cell A)) (cell : Cell A) (whole : cells ≡ front ++ cell ∷ rest) where
-  abbrev pub standing : (at : ℕ) (before : List Token) (t : Token) (back : List Token) → cell.tokens ≡ before ++ t ∷ back → t.at ≡ at → Standing (placed_row cells ∷ []) at
+  abbrev pub standing : (at : ℕ) (before : List Token) (t : Token) (back : List Token) → cell.tokens ≡ before ++ t ∷ back → t.at ≡ at
+      → Standing (placed_row cells ∷ []) at
   standing at before t back in_cell begins =
       record {
         before = [];
@@ -61,14 +61,16 @@ module _ {A : Type 0} (cells front rest : List (Cell A)) (cell : Cell A) (whole 
         begins = begins;
       }
 
-  first_colon : (next place : ℕ) (t : Token) → slice_get (drop next cell.tokens) place ≡ Some t → texts (take place (drop next cell.tokens)) ≡ [] → BeginsWithColon (texts (drop (suc place) (drop next cell.tokens))) → slice_get (texts cell.tokens) (next + 1) ≡ Some (codes ":")
+  first_colon : (next place : ℕ) (t : Token) → slice_get (drop next cell.tokens) place ≡ Some t → texts (take place (drop next cell.tokens)) ≡ []
+      → BeginsWithColon (texts (drop (suc place) (drop next cell.tokens))) → slice_get (texts cell.tokens) (next + 1) ≡ Some (codes ":")
   first_colon next place t is none colon =
       let front : place ≡ 0 = first_behind (drop next cell.tokens) place t is none in
       let one : slice_get (texts (drop next cell.tokens)) 1 ≡ Some (codes ":") =
       colon_behind (drop next cell.tokens) 0 (subst (λ (k : ℕ). BeginsWithColon (texts (drop (suc k) (drop next cell.tokens)))) front colon) in
       behind cell.tokens next one
 
-  module _ {Syntax Stmt Jump : Type 0} (grammar : Grammar Syntax Stmt) (draft_of : ℕ → Syntax → Draft Stmt Jump) (names mid : List (List ℕ)) (drafts : List (DraftCell Stmt Jump)) (labels : LabelMap) (read : DraftRead grammar draft_of front names drafts labels mid) where
+  module _ {Syntax Stmt D : Type 0} (grammar : Grammar Syntax Stmt) (draft_of : ℕ → Syntax → D) (names mid : List (List ℕ))
+      (drafts : List (DraftCell D)) (labels : LabelMap) (read : DraftRead grammar draft_of front names drafts labels mid) where
     above_says : AllZip (CellSays grammar) (texts_of_cells (placed_row front)) read.syntaxes
     above_says = subst (λ (cs : List (List (List ℕ))). AllZip (CellSays grammar) cs read.syntaxes) (sym (cells_placed front)) read.says
 
@@ -78,13 +80,15 @@ module _ {A : Type 0} (cells front rest : List (Cell A)) (cell : Cell A) (whole 
     colon_in_memory : (ts : List Token) → BeginsWithColon (texts_of_tokens (placed_tokens ts)) → BeginsWithColon (texts ts)
     colon_in_memory ts colon = subst BeginsWithColon (texts_placed ts) colon
 
-    pub labels_tell : (at : ℕ) (cause : CellCause) → LabelCause cell.tokens (first_names (leading_in 0 read.syntaxes)) at cause → TellsBy grammar names (placed_row cells ∷ []) at cause
+    pub labels_tell : (at : ℕ) (cause : CellCause) → LabelCause cell.tokens (first_names (leading_in 0 read.syntaxes)) at cause
+        → TellsBy grammar names (placed_row cells ∷ []) at cause
     labels_tell at Form c = tt
     labels_tell at Register c = tt
     labels_tell at LabelMissing c = absurd c
     labels_tell at LabelTwice c =
         let k = c.place in
-        let colon : slice_get (texts cell.tokens) (suc k) ≡ Some (codes ":") = (let e : suc k ≡ k + 1 = omega arith in ap (slice_get (texts cell.tokens)) e ∙ c.colon) in
+        let colon : slice_get (texts cell.tokens) (suc k) ≡ Some (codes ":") =
+        (let e : suc k ≡ k + 1 = omega arith in ap (slice_get (texts cell.tokens)) e ∙ c.colon) in
         let known = first_names_in read.syntaxes 0 in (
           standing at (take k cell.tokens) c.token (drop (suc k) cell.tokens) (cut_at cell.tokens k c.token c.is) c.begins,
           record {
@@ -93,7 +97,8 @@ module _ {A : Type 0} (cells front rest : List (Cell A)) (cell : Cell A) (whole 
             more = drop (suc (suc k)) (texts cell.tokens);
             says = above_says;
             in_front = labels_placed (take k cell.tokens) c.names [] c.says;
-            is_label = texts_placed (drop (suc k) cell.tokens) ∙ sym (drop-map (λ t. t.text.now) (suc k) cell.tokens) ∙ drop_at (texts cell.tokens) (suc k) (codes ":") colon;
+            is_label = texts_placed (drop (suc k) cell.tokens) ∙ sym (drop-map (λ t. t.text.now) (suc k) cell.tokens) ∙ drop_at (texts cell.tokens)
+                (suc k) (codes ":") colon;
             there = subst (λ (ns : List (List ℕ)). Contains (ns ++ c.names) c.token.text.now) known c.there;
           },
         )
@@ -101,7 +106,9 @@ module _ {A : Type 0} (cells front rest : List (Cell A)) (cell : Cell A) (whole 
     labels_tell at TooMany c = absurd c
     labels_tell at Memory c = tt
 
-    pub statement_tells : (next : ℕ) (more : LabelMap) → LabelsRead cell.tokens (length (statements read.syntaxes)) (leading_in 0 read.syntaxes) next more → (slice_get (texts cell.tokens) (next + 1) ≡ Some (codes ":") → ⊥) → (at : ℕ) (cause : CellCause) → MaybeCause grammar (length (statements read.syntaxes)) (drop next cell.tokens) mid at cause → TellsBy grammar names (placed_row cells ∷ []) at cause
+    pub statement_tells : (next : ℕ) (more : LabelMap) → LabelsRead cell.tokens (length (statements read.syntaxes))
+        (leading_in 0 read.syntaxes) next more → (slice_get (texts cell.tokens) (next + 1) ≡ Some (codes ":") → ⊥) → (at : ℕ) (cause : CellCause)
+        → MaybeCause grammar (length (statements read.syntaxes)) (drop next cell.tokens) mid at cause → TellsBy grammar names (placed_row cells ∷ []) at cause
     statement_tells next more ls stops at Form c = tt
     statement_tells next more ls stops at Register c = tt
     statement_tells next more ls stops at LabelMissing c = absurd c
@@ -123,7 +130,8 @@ module _ {A : Type 0} (cells front rest : List (Cell A)) (cell : Cell A) (whole 
     statement_tells next more ls stops at TooMany (inr c) =
         let tail = drop next cell.tokens in
         let inside : cell.tokens ≡ (take next cell.tokens ++ take c.place tail) ++ c.token ∷ drop (suc c.place) tail =
-        sym (take-append-drop next cell.tokens) ∙ ap (λ (ts : List Token). take next cell.tokens ++ ts) (cut_at tail c.place c.token c.is) ∙ sym (append_assoc (take next cell.tokens) (take c.place tail) (c.token ∷ drop (suc c.place) tail)) in (
+        sym (take-append-drop next cell.tokens) ∙ ap (λ (ts : List Token). take next cell.tokens ++ ts) (cut_at tail c.place c.token c.is) ∙ sym
+        (append_assoc (take next cell.tokens) (take c.place tail) (c.token ∷ drop (suc c.place) tail)) in (
           standing at (take next cell.tokens ++ take c.place tail) c.token (drop (suc c.place) tail) inside c.ninth.0,
           inr (record {
             threads = [];
@@ -132,7 +140,10 @@ module _ {A : Type 0} (cells front rest : List (Cell A)) (cell : Cell A) (whole 
             mid = texts (take c.place tail);
             before_says = tt;
             says = above_says;
-            in_front = labels_placed (take next cell.tokens ++ take c.place tail) ls.names (texts (take c.place tail)) (subst (λ (ts : List (List ℕ)). Labels ts ls.names (texts (take c.place tail))) (sym (map-append (λ t. t.text.now) (take next cell.tokens) (take c.place tail))) (Labels-rest (texts (take next cell.tokens)) (texts (take c.place tail)) ls.names ls.says));
+            in_front = labels_placed (take next cell.tokens ++ take c.place tail) ls.names (texts (take c.place tail))
+                (subst (λ (ts : List (List ℕ)). Labels ts ls.names (texts (take c.place tail)))
+                (sym (map-append (λ t. t.text.now) (take next cell.tokens) (take c.place tail)))
+                (Labels-rest (texts (take next cell.tokens)) (texts (take c.place tail)) ls.names ls.says));
             at_location = c.before;
             no_label = λ none colon. stops (first_colon next c.place c.token c.is none (colon_in_memory (drop (suc c.place) tail) colon));
             is_location = c.ninth.1;
@@ -143,13 +154,16 @@ module _ {A : Type 0} (cells front rest : List (Cell A)) (cell : Cell A) (whole 
     statement_tells next more ls stops at Memory c = tt
 
 module _ {Syntax Stmt : Type 0} (grammar : Grammar Syntax Stmt) where
-  no_threads : (before : List (List PlacedCell)) (threads : List (List (CellSyntax Syntax))) → before ≡ [] → AllZip (Column grammar) (texts_of_grid before) threads → threads ≡ []
+  no_threads : (before : List (List PlacedCell)) (threads : List (List (CellSyntax Syntax))) → before ≡ []
+      → AllZip (Column grammar) (texts_of_grid before) threads → threads ≡ []
   no_threads [] [] e h = refl
   no_threads [] (t ∷ threads) e h = absurd h
   no_threads (b ∷ before) threads e h = absurd cc
 
   -- A fault of a column is one of the columns, of which those before were read.
-  module _ (names mid : List (List ℕ)) (columns front rest : List (List PlacedCell)) (column : List PlacedCell) (threads : List (List (CellSyntax Syntax))) (whole : columns ≡ front ++ column ∷ rest) (says : AllZip (Column grammar) (texts_of_grid front) threads) (table : mid ≡ with_names names (names_of grammar threads)) where
+  module _ (names mid : List (List ℕ)) (columns front rest : List (List PlacedCell)) (column : List PlacedCell)
+      (threads : List (List (CellSyntax Syntax))) (whole : columns ≡ front ++ column ∷ rest)
+      (says : AllZip (Column grammar) (texts_of_grid front) threads) (table : mid ≡ with_names names (names_of grammar threads)) where
     abbrev moved : (at : ℕ) → Standing (column ∷ []) at → Standing columns at
     moved at p =
         record {
@@ -166,14 +180,19 @@ module _ {Syntax Stmt : Type 0} (grammar : Grammar Syntax Stmt) where
           begins = p.begins;
         }
 
-    jump_moved : (at : ℕ) (p : Standing (column ∷ []) at) (above : List (CellSyntax Syntax)) (syntax : CellSyntax Syntax) (below : List (CellSyntax Syntax)) → IsJumpLabel grammar p above syntax below → IsJumpLabel grammar (moved at p) above syntax below
+    jump_moved : (at : ℕ) (p : Standing (column ∷ []) at) (above : List (CellSyntax Syntax)) (syntax : CellSyntax Syntax)
+        (below : List (CellSyntax Syntax)) → IsJumpLabel grammar p above syntax below → IsJumpLabel grammar (moved at p) above syntax below
     jump_moved at p above syntax below j = record { above_says = j.above_says; says = j.says; below_says = j.below_says; last = j.last; jump = j.jump }
 
     ninth_moved : (at : ℕ) (p : Standing (column ∷ []) at) → IsNinth grammar mid p → IsNinth grammar names (moved at p)
     ninth_moved at p n =
-        let none : n.threads ≡ [] = no_threads p.before n.threads (single column p.before (p.above ++ p.cell ∷ p.below) p.behind p.in_columns).0 n.before_says in
-        let same : with_names mid (names_of grammar n.threads ++ names_in grammar n.syntaxes) ≡ with_names names (names_of grammar threads ++ names_in grammar n.syntaxes) =
-        ap (λ (ts : List (List (CellSyntax Syntax))). with_names mid (names_of grammar ts ++ names_in grammar n.syntaxes)) none ∙ ap (λ (ns : List (List ℕ)). with_names ns (names_in grammar n.syntaxes)) table ∙ sym (with_names-append names (names_of grammar threads) (names_in grammar n.syntaxes)) in
+        let none : n.threads ≡ [] = no_threads p.before n.threads
+        (single column p.before (p.above ++ p.cell ∷ p.below) p.behind p.in_columns).0 n.before_says in
+        let same : with_names mid (names_of grammar n.threads ++ names_in grammar n.syntaxes) ≡ with_names names
+        (names_of grammar threads ++ names_in grammar n.syntaxes) =
+        ap (λ (ts : List (List (CellSyntax Syntax))). with_names mid (names_of grammar ts ++ names_in grammar n.syntaxes)) none ∙ ap
+        (λ (ns : List (List ℕ)). with_names ns (names_in grammar n.syntaxes)) table ∙ sym
+        (with_names-append names (names_of grammar threads) (names_in grammar n.syntaxes)) in
         record {
           threads = threads;
           syntaxes = n.syntaxes;
@@ -194,9 +213,23 @@ module _ {Syntax Stmt : Type 0} (grammar : Grammar Syntax Stmt) where
     column_tells at Register t = tt
     column_tells at LabelMissing t = (moved at t.0, (t.1.0, t.1.1, t.1.2, jump_moved at t.0 t.1.0 t.1.1 t.1.2 t.1.3, t.1.4))
     column_tells at LabelTwice t =
-        let s = t.1 in
-        (moved at t.0, record { syntaxes = s.syntaxes; labels = s.labels; more = s.more; says = s.says; in_front = s.in_front; is_label = s.is_label; there = s.there })
+        let s = t.1 in (
+          moved at t.0,
+          record {
+            syntaxes = s.syntaxes;
+            labels = s.labels;
+            more = s.more;
+            says = s.says;
+            in_front = s.in_front;
+            is_label = s.is_label;
+            there = s.there;
+          },
+        )
     column_tells at Backward t = (moved at t.0, (t.1.0, t.1.1, t.1.2, jump_moved at t.0 t.1.0 t.1.1 t.1.2 t.1.3, t.1.4, t.1.5))
-    column_tells at TooMany (p, inl s) = (moved at p, inl (record { syntaxes = s.syntaxes; labels = s.labels; says = s.says; in_front = s.in_front; begins = s.begins; no_label = s.no_label; full = s.full }))
+    column_tells at TooMany (p, inl s) = (
+      moved at p,
+      inl (record
+          { syntaxes = s.syntaxes; labels = s.labels; says = s.says; in_front = s.in_front; begins = s.begins; no_label = s.no_label; full = s.full }),
+    )
     column_tells at TooMany (p, inr n) = (moved at p, inr (ninth_moved at p n))
     column_tells at Memory t = tt

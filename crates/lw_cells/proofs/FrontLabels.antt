@@ -1,5 +1,6 @@
 -- The labels at the front of a cell, one further.
-use Rattle.std.proofs.Common.{◌≡◌, ℕ, zero, suc, ◌<◌, ◌≤◌, ◌+◌, ◌*◌, Bool, true, false, true≢false, Option, Some, None, List, [], ◌∷◌, ◌++◌, ◌⊎◌, inl, inr, length, take, drop, refl, sym, ap, ◌∙◌, subst, arith}
+use Rattle.std.proofs.Common.{◌≡◌, ℕ, zero, suc, ◌<◌, ◌≤◌, ◌+◌, ◌*◌, Bool, true, false, true≢false, Option, Some, None, List, [], ◌∷◌, ◌++◌, ◌⊎◌, inl, inr}
+use Rattle.std.proofs.Common.{length, take, drop, refl, sym, ap, ◌∙◌, subst, arith}
 use Rattle.std.specs.Prelude.{◌↔◌, IsTrue, slice_get, slice_index_or, codes, Contains, if◌then◌else◌}
 use Rattle.std.specs.Option.{option_map, is_some}
 use Rattle.std.proofs.lemmas.Option.{slice_get-map, slice_get_within}
@@ -8,7 +9,6 @@ use Rattle.lw_base.specs.declared.fault.CellCause.{CellCause}
 use Rattle.lw_base.specs.declared.fault.CellCause.TheVariants.{Form, Register, LabelMissing, LabelTwice, Backward, TooMany, Memory}
 use Rattle.lw_text.specs.declared.token.Token.{Token}
 use Rattle.lw_text.specs.Spans.{texts}
-use Rattle.lw_cells.proofs.api.TokenRows.{drop_get, drop_next}
 use Rattle.std.specs.Map.{update}
 use Rattle.std.proofs.lemmas.List.Elements.{Contains-push_cases, Contains-append_right, Contains-append_cases}
 use Rattle.std.specs.Str.{bytes_eq}
@@ -21,7 +21,21 @@ use Rattle.lw_cells.specs.Drafts.{LabelMap, LeadsAs, leading, leads_to, target_b
 use Rattle.lw_cells.specs.Words.{IsMisfit}
 use Rattle.lw_cells.specs.Reading.{AtLabel, LabelCause, LabelsRead, TwiceIn}
 
-pub Labels-more : (front : List (List ℕ)) (ls : List (List ℕ)) (l : List ℕ) → Labels front ls [] → IsLocation l → Labels (front ++ l ∷ codes ":" ∷ []) (ls ++ l ∷ []) []
+-- what stands behind some tokens
+drop_get : (ts : List (List ℕ)) (n : ℕ) → slice_get (drop n ts) 0 ≡ slice_get ts n
+drop_get [] zero = refl
+drop_get [] (suc n) = refl
+drop_get (x ∷ ts) zero = refl
+drop_get (x ∷ ts) (suc n) = drop_get ts n
+
+drop_next : (ts : List (List ℕ)) (n : ℕ) → slice_get (drop n ts) 1 ≡ slice_get ts (suc n)
+drop_next [] zero = refl
+drop_next [] (suc n) = refl
+drop_next (x ∷ ts) zero = refl
+drop_next (x ∷ ts) (suc n) = drop_next ts n
+
+pub Labels-more : (front : List (List ℕ)) (ls : List (List ℕ)) (l : List ℕ) → Labels front ls [] → IsLocation l
+    → Labels (front ++ l ∷ codes ":" ∷ []) (ls ++ l ∷ []) []
 Labels-more front [] l h loc = rw h ([], refl, loc, refl)
 Labels-more front (k ∷ ls) l h loc =
     (h.0 ++ l ∷ codes ":" ∷ [], ap (λ (t : List (List ℕ)). t ++ l ∷ codes ":" ∷ []) h.1, h.2, Labels-more h.0 ls l h.3 loc)
@@ -31,7 +45,8 @@ Labels-rest front rest [] h = rw h refl
 Labels-rest front rest (k ∷ ls) h = (h.0 ++ rest, ap (λ (t : List (List ℕ)). t ++ rest) h.1, h.2, Labels-rest h.0 rest ls h.3)
 
 -- other labels of the same tokens begin with these, and go on
-pub Labels-cut : (front rest mid : List (List ℕ)) (ls ks : List (List ℕ)) → Labels front ls [] → Labels (front ++ rest) ks mid → (AtLabel mid → ⊥) → (more : List (List ℕ)) × (ks ≡ ls ++ more) × Labels rest more mid
+pub Labels-cut : (front rest mid : List (List ℕ)) (ls ks : List (List ℕ)) → Labels front ls [] → Labels (front ++ rest) ks mid → (AtLabel mid → ⊥)
+    → (more : List (List ℕ)) × (ks ≡ ls ++ more) × Labels rest more mid
 Labels-cut front rest mid [] ks h k none = (ks, refl, subst (λ (t : List (List ℕ)). Labels (t ++ rest) ks mid) h k)
 Labels-cut front rest mid (l ∷ ls) [] h k none =
     let e : mid ≡ l ∷ codes ":" ∷ h.0 ++ rest = sym k ∙ ap (λ (t : List (List ℕ)). t ++ rest) h.1 in
@@ -44,7 +59,8 @@ Labels-cut front rest mid (l ∷ ls) (m ∷ ks) h k none =
     (go.0, (let tail : ks ≡ ls ++ go.0 = go.1 in cc), go.2)
 
 -- labels that go on at a `:`
-pub Labels-next : (rest mid : List (List ℕ)) (more : List (List ℕ)) (a : List ℕ) → slice_get rest 0 ≡ Some a → slice_get rest 1 ≡ Some (codes ":") → Labels rest more mid → (AtLabel mid → ⊥) → (ks : List (List ℕ)) × (more ≡ a ∷ ks) × IsLocation a
+pub Labels-next : (rest mid : List (List ℕ)) (more : List (List ℕ)) (a : List ℕ) → slice_get rest 0 ≡ Some a → slice_get rest 1 ≡ Some (codes ":")
+    → Labels rest more mid → (AtLabel mid → ⊥) → (ks : List (List ℕ)) × (more ≡ a ∷ ks) × IsLocation a
 Labels-next rest mid [] a first colon h none = absurd (none (subst AtLabel h colon))
 Labels-next rest mid (m ∷ ks) a first colon h none =
     let e : slice_get rest 0 ≡ Some m = ap (λ t. slice_get t 0) h.1 in
@@ -69,7 +85,8 @@ not_twice [] more n once h = let k : h.0 < 0 = h.1 in omega arith
 not_twice (m ∷ ns) more n once h = go (not_twice ns more n once.1) (Contains-append_cases (m ∷ []) ns n h)
   where
     go : (Contains ns n → ⊥) → Contains (m ∷ []) n ⊎ Contains ns n → ⊥
-    go further (inl k) = once.0 (subst (λ x. Contains (ns ++ n ∷ more) x) (sym (one k.0 k.1 k.2)) (Contains-append_right ns (n ∷ more) n (contains_first more n)))
+    go further (inl k) = once.0 (subst (λ x. Contains (ns ++ n ∷ more) x) (sym (one k.0 k.1 k.2))
+        (Contains-append_right ns (n ∷ more) n (contains_first more n)))
       where
         one : (i : ℕ) → i < 1 → slice_index_or (m ∷ []) i n ≡ n → m ≡ n
         one zero lt e = e
@@ -99,7 +116,8 @@ leads_not (p ∷ ps) n e h = go (bytes_eq p.0 n) refl (leads_not ps n) (Contains
     go false f further (inr c) = further (rw f at e) c
 
 -- one pair more, of a name that led nowhere
-pub leads_to-push : (ps : List (List ℕ × ℕ)) (n : List ℕ) (to : ℕ) (m : List ℕ) → leads_to ps n ≡ None → leads_to (ps ++ (n, to) ∷ []) m ≡ (if bytes_eq n m then Some to else leads_to ps m)
+pub leads_to-push : (ps : List (List ℕ × ℕ)) (n : List ℕ) (to : ℕ) (m : List ℕ) → leads_to ps n ≡ None
+    → leads_to (ps ++ (n, to) ∷ []) m ≡ (if bytes_eq n m then Some to else leads_to ps m)
 leads_to-push [] n to m none = refl
 leads_to-push (p ∷ ps) n to m none = go (bytes_eq p.0 n) refl (leads_to-push ps n to m)
   where
@@ -109,11 +127,14 @@ leads_to-push (p ∷ ps) n to m none = go (bytes_eq p.0 n) refl (leads_to-push p
         absurd (true≢false (sym ((pointwise_decides unsigned_Decides p.0 n).1 equal) ∙ apart))
     other false e apart same = rw e refl
 
-    here : (b : Bool) → bytes_eq p.0 m ≡ b → bytes_eq p.0 n ≡ false → leads_to (ps ++ (n, to) ∷ []) m ≡ (if bytes_eq n m then Some to else leads_to ps m) → leads_to (p ∷ ps ++ (n, to) ∷ []) m ≡ (if bytes_eq n m then Some to else leads_to (p ∷ ps) m)
+    here : (b : Bool) → bytes_eq p.0 m ≡ b → bytes_eq p.0 n ≡ false
+        → leads_to (ps ++ (n, to) ∷ []) m ≡ (if bytes_eq n m then Some to else leads_to ps m)
+        → leads_to (p ∷ ps ++ (n, to) ∷ []) m ≡ (if bytes_eq n m then Some to else leads_to (p ∷ ps) m)
     here true e apart further = rw e (other (bytes_eq n m) refl apart e)
     here false e apart further = rw e further
 
-    go : (b : Bool) → bytes_eq p.0 n ≡ b → (leads_to ps n ≡ None → leads_to (ps ++ (n, to) ∷ []) m ≡ (if bytes_eq n m then Some to else leads_to ps m)) → leads_to (p ∷ ps ++ (n, to) ∷ []) m ≡ (if bytes_eq n m then Some to else leads_to (p ∷ ps) m)
+    go : (b : Bool) → bytes_eq p.0 n ≡ b → (leads_to ps n ≡ None → leads_to (ps ++ (n, to) ∷ []) m ≡ (if bytes_eq n m then Some to else leads_to ps m))
+        → leads_to (p ∷ ps ++ (n, to) ∷ []) m ≡ (if bytes_eq n m then Some to else leads_to (p ∷ ps) m)
     go true e further = let g : Some p.1 ≡ None = rw e at none in absurd cc
     go false e further = here (bytes_eq p.0 m) refl e (further (rw e at none))
 
@@ -122,7 +143,8 @@ first_names-leading to [] = refl
 first_names-leading to (n ∷ ns) = ap (λ x. n ∷ x) (first_names-leading to ns)
 
 -- two tokens further
-pub take_two : (ts : List (List ℕ)) (n : ℕ) (a b : List ℕ) → slice_get ts n ≡ Some a → slice_get ts (suc n) ≡ Some b → take (suc (suc n)) ts ≡ take n ts ++ a ∷ b ∷ []
+pub take_two : (ts : List (List ℕ)) (n : ℕ) (a b : List ℕ) → slice_get ts n ≡ Some a → slice_get ts (suc n) ≡ Some b
+    → take (suc (suc n)) ts ≡ take n ts ++ a ∷ b ∷ []
 take_two [] n a b p q = absurd cc
 take_two (x ∷ []) zero a b p q = absurd cc
 take_two (x ∷ y ∷ ts) zero a b p q = let e : x ≡ a = cc in let f : y ≡ b = cc in cc
@@ -136,7 +158,8 @@ names_read before to names =
     map-append (λ p. p.0) before (leading to names) ∙ ap (λ (ns : List (List ℕ)). first_names before ++ ns) (first_names-leading to names)
 
 -- no labels are read yet
-pub labels_start : (tokens : List Token) (to : ℕ) (before : List (List ℕ × ℕ)) (labels : LabelMap) → LeadsAs labels before → LabelsRead tokens to before 0 labels
+pub labels_start : (tokens : List Token) (to : ℕ) (before : List (List ℕ × ℕ)) (labels : LabelMap) → LeadsAs labels before
+    → LabelsRead tokens to before 0 labels
 labels_start tokens to before labels known =
     record {
       names = [];
@@ -151,7 +174,8 @@ none_of None e = refl
 none_of (Some to) e = absurd cc
 
 -- What was read of a cell's labels, at another that follows.
-module _ (tokens : List Token) (to : ℕ) (before : List (List ℕ × ℕ)) (next : ℕ) (labels : LabelMap) (read : LabelsRead tokens to before next labels) (token : Token) (is : slice_get tokens next ≡ Some token) (colon : slice_get (texts tokens) (next + 1) ≡ Some (codes ":")) where
+module _ (tokens : List Token) (to : ℕ) (before : List (List ℕ × ℕ)) (next : ℕ) (labels : LabelMap) (read : LabelsRead tokens to before next labels)
+    (token : Token) (is : slice_get tokens next ≡ Some token) (colon : slice_get (texts tokens) (next + 1) ≡ Some (codes ":")) where
   colon_next : slice_get (texts tokens) (suc next) ≡ Some (codes ":")
   colon_next = let e : suc next ≡ next + 1 = omega arith in ap (slice_get (texts tokens)) e ∙ colon
 
@@ -162,34 +186,45 @@ module _ (tokens : List Token) (to : ℕ) (before : List (List ℕ × ℕ)) (nex
   pub label_known : (o : Option ℕ) → o ≡ target_by labels token.text.now → is_some o ≡ true → Contains (first_names before ++ read.names) token.text.now
   label_known None e some = absurd cc
   label_known (Some k) e some =
-      subst (λ (ns : List (List ℕ)). Contains ns token.text.now) (names_read before to read.names) (leads_contains (before ++ leading to read.names) token.text.now k (sym (e ∙ read.made token.text.now)))
+      subst (λ (ns : List (List ℕ)). Contains ns token.text.now) (names_read before to read.names)
+      (leads_contains (before ++ leading to read.names) token.text.now k (sym (e ∙ read.made token.text.now)))
 
-  pub labels_more : (after : LabelMap) (o : Option ℕ) → IsLocation token.text.now → o ≡ target_by labels token.text.now → is_some o ≡ false → ((m : List ℕ) → target_by after m ≡ update bytes_eq (target_by labels) token.text.now (Some to) m) → LabelsRead tokens to before (next + 2) after
+  pub labels_more : (after : LabelMap) (o : Option ℕ) → IsLocation token.text.now → o ≡ target_by labels token.text.now → is_some o ≡ false
+      → ((m : List ℕ) → target_by after m ≡ update bytes_eq (target_by labels) token.text.now (Some to) m) → LabelsRead tokens to before (next + 2) after
   labels_more after o loc old fresh updated =
       let n : List ℕ = token.text.now in
       let known : List (List ℕ × ℕ) = before ++ leading to read.names in
       let nowhere : leads_to known n ≡ None = sym (old ∙ read.made n) ∙ none_of o fresh in
       let front : texts (take (next + 2) tokens) ≡ take next (texts tokens) ++ n ∷ codes ":" ∷ [] =
-      (let e : next + 2 ≡ suc (suc next) = omega arith in ap (λ (k : ℕ). texts (take k tokens)) e) ∙ sym (take-map (λ t. t.text.now) (suc (suc next)) tokens) ∙ take_two (texts tokens) next n (codes ":") (get_text tokens next token is) colon_next in
+      (let e : next + 2 ≡ suc (suc next) = omega arith in ap (λ (k : ℕ). texts (take k tokens)) e) ∙ sym
+      (take-map (λ t. t.text.now) (suc (suc next)) tokens) ∙ take_two (texts tokens) next n (codes ":") (get_text tokens next token is) colon_next in
       let row : known ++ (n, to) ∷ [] ≡ before ++ leading to (read.names ++ n ∷ []) =
-      append_assoc before (leading to read.names) (leading to (n ∷ [])) ∙ ap (λ (ps : List (List ℕ × ℕ)). before ++ ps) (sym (map-append (λ m. (m, to)) read.names (n ∷ []))) in
-      let absent : Contains (first_names before ++ read.names) n → ⊥ = λ there. leads_not known n nowhere (subst (λ (ns : List (List ℕ)). Contains ns n) (sym (names_read before to read.names)) there) in
+      append_assoc before (leading to read.names) (leading to (n ∷ [])) ∙ ap (λ (ps : List (List ℕ × ℕ)). before ++ ps)
+      (sym (map-append (λ m. (m, to)) read.names (n ∷ []))) in
+      let absent : Contains (first_names before ++ read.names) n
+      → ⊥ = λ there. leads_not known n nowhere (subst (λ (ns : List (List ℕ)). Contains ns n) (sym (names_read before to read.names)) there) in
       record {
         names = read.names ++ n ∷ [];
         within = omega (arith, slice_get_within (texts tokens) (next + 1) (codes ":") colon, length-map tokens (λ t. t.text.now));
         says = subst (λ (t : List (List ℕ)). Labels t (read.names ++ n ∷ []) []) (sym front) (Labels-more (take next (texts tokens)) read.names n said loc);
-        made = λ m. updated m ∙ ap (λ (p : Option ℕ). if bytes_eq n m then Some to else p) (read.made m) ∙ sym (leads_to-push known n to m nowhere) ∙ ap (λ (ps : List (List ℕ × ℕ)). leads_to ps m) row;
-        once = λ once. subst EachOnce (append_assoc (first_names before) read.names (n ∷ [])) (once_more (first_names before ++ read.names) n (read.once once) absent);
+        made = λ m. updated m ∙ ap (λ (p : Option ℕ). if bytes_eq n m then Some to else p) (read.made m) ∙ sym (leads_to-push known n to m nowhere) ∙ ap
+            (λ (ps : List (List ℕ × ℕ)). leads_to ps m) row;
+        once = λ once. subst EachOnce (append_assoc (first_names before) read.names (n ∷ []))
+            (once_more (first_names before ++ read.names) n (read.once once) absent);
       }
 
   -- other labels of the cell go on with this one
-  pub labels_on : (ks : List (List ℕ)) (mid : List (List ℕ)) → Labels (texts tokens) ks mid → (AtLabel mid → ⊥) → (more : List (List ℕ)) × (ks ≡ read.names ++ token.text.now ∷ more) × IsLocation token.text.now
+  pub labels_on : (ks : List (List ℕ)) (mid : List (List ℕ)) → Labels (texts tokens) ks mid → (AtLabel mid → ⊥)
+      → (more : List (List ℕ)) × (ks ≡ read.names ++ token.text.now ∷ more) × IsLocation token.text.now
   labels_on ks mid h none =
-      let cut = Labels-cut (take next (texts tokens)) (drop next (texts tokens)) mid read.names ks said (subst (λ (t : List (List ℕ)). Labels t ks mid) (sym (take-append-drop next (texts tokens))) h) none in
-      let go = Labels-next (drop next (texts tokens)) mid cut.0 token.text.now (drop_get (texts tokens) next ∙ get_text tokens next token is) (drop_next (texts tokens) next ∙ colon_next) cut.2 none in
+      let cut = Labels-cut (take next (texts tokens)) (drop next (texts tokens)) mid read.names ks said
+      (subst (λ (t : List (List ℕ)). Labels t ks mid) (sym (take-append-drop next (texts tokens))) h) none in
+      let go = Labels-next (drop next (texts tokens)) mid cut.0 token.text.now (drop_get (texts tokens) next ∙ get_text tokens next token is)
+      (drop_next (texts tokens) next ∙ colon_next) cut.2 none in
       (go.0, cut.1 ∙ ap (λ (ns : List (List ℕ)). read.names ++ ns) go.1, go.2)
 
-  pub labels_twice : (ks : List (List ℕ)) (mid : List (List ℕ)) → Labels (texts tokens) ks mid → (AtLabel mid → ⊥) → EachOnce (first_names before ++ ks) → Contains (first_names before ++ read.names) token.text.now → ⊥
+  pub labels_twice : (ks : List (List ℕ)) (mid : List (List ℕ)) → Labels (texts tokens) ks mid → (AtLabel mid → ⊥) → EachOnce (first_names before ++ ks)
+      → Contains (first_names before ++ read.names) token.text.now → ⊥
   labels_twice ks mid h none once there =
       let on = labels_on ks mid h none in
       let row : first_names before ++ ks ≡ (first_names before ++ read.names) ++ token.text.now ∷ on.0 =
@@ -217,9 +252,13 @@ pub two_within : (tokens : List Token) (next : ℕ) (w : List ℕ) → slice_get
 two_within tokens next w colon = omega (arith, slice_get_within (texts tokens) (next + 1) w colon, length-map tokens (λ t. t.text.now))
 
 -- whether a token is a sign
-pub sign_or_not : (ts : List (List ℕ)) (k : ℕ) (w sign : List ℕ) (b : Bool) → slice_get ts k ≡ Some w → b ≡ bytes_eq w sign → IsTrue b ↔ (slice_get ts k ≡ Some sign)
-sign_or_not ts k w sign b at is =
-    (λ yes. at ∙ ap Some ((pointwise_decides unsigned_Decides w sign).0 (sym is ∙ yes)), λ e. is ∙ (pointwise_decides unsigned_Decides w sign).1 (let f : Some w ≡ Some sign = sym at ∙ e in cc))
+pub sign_or_not : (ts : List (List ℕ)) (k : ℕ) (w sign : List ℕ) (b : Bool) → slice_get ts k ≡ Some w → b ≡ bytes_eq w sign
+    → IsTrue b ↔ (slice_get ts k ≡ Some sign)
+sign_or_not ts k w sign b at is = (
+  λ yes. at ∙ ap Some ((pointwise_decides unsigned_Decides w sign).0 (sym is ∙ yes)),
+  λ e. is ∙ (pointwise_decides unsigned_Decides w sign).1
+      (let f : Some w ≡ Some sign = sym at ∙ e in cc),
+)
 
 get_next : (tokens : List Token) (k : ℕ) → slice_get (texts (drop k tokens)) 1 ≡ slice_get (texts tokens) (suc k)
 get_next [] zero = refl

@@ -5,7 +5,12 @@ pub mod Leads
 pub mod OneReading
 pub mod ResolvedNames
 pub mod FaultPlaces
+pub mod Causes
 pub mod Drafts
+pub mod Slots
+pub mod SlotTokens
+pub mod Beginnings
+pub mod StatementsRead
 pub mod JumpsResolved
 pub mod Resolved
 pub mod ColumnsRead

@@ -25,7 +25,8 @@ module _ {Syntax Stmt : Type 0} (grammar : Grammar Syntax Stmt) (lawful : IsGram
       let s = maybe_unique h.0 x.stmt y.stmt h.2 (subst (λ (t : List (List ℕ)). MaybeStatement grammar t y.stmt) (sym ls.1) k.2) in
       same x.labels y.labels x.stmt y.stmt ls.0 s
     where
-      same : (a b : List (List ℕ)) (o p : Option Syntax) → a ≡ b → o ≡ p → (let l : CellSyntax Syntax = record { labels = a; stmt = o } in l) ≡ record { labels = b; stmt = p }
+      same : (a b : List (List ℕ)) (o p : Option Syntax) → a ≡ b → o ≡ p
+          → (let l : CellSyntax Syntax = record { labels = a; stmt = o } in l) ≡ record { labels = b; stmt = p }
       same a b o p e f = rw (e, f) refl
 
   pub column_unique : (cells : List (List (List ℕ))) (s t : List (CellSyntax Syntax)) → Column grammar cells s → Column grammar cells t → s ≡ t

@@ -1,5 +1,6 @@
 -- Resolving the jumps of a thread, one cell further.
-use Rattle.std.proofs.Common.{◌≡◌, ℕ, suc, ◌<◌, ◌≤◌, ◌+◌, ◌*◌, Option, Some, None, List, [], ◌∷◌, ◌++◌, length, map, take, drop, get_or, refl, sym, ap, ◌∙◌, subst, arith, ◌⊎◌, inl, inr}
+use Rattle.std.proofs.Common.{◌≡◌, ℕ, suc, ◌<◌, ◌≤◌, ◌+◌, ◌*◌, Option, Some, None, List, [], ◌∷◌, ◌++◌, length, map, take, drop, get_or, refl, sym, ap, ◌∙◌}
+use Rattle.std.proofs.Common.{subst, arith, ◌⊎◌, inl, inr}
 use Rattle.std.specs.Prelude.{slice_get, Contains}
 use Rattle.std.specs.List.{AllZip, cons_option}
 use Rattle.std.specs.Option.{option_map}
@@ -14,7 +15,6 @@ use Rattle.lw_text.specs.PlacedTokens.{texts_of_tokens}
 use Rattle.lw_text.specs.PlacedCells.{texts_of_cells}
 use Rattle.lw_text.specs.Places.{cell_texts, cells_texts, placed_tokens, placed_row}
 use Rattle.lw_text.proofs.api.Places.{texts_placed, cells_placed}
-use Rattle.lw_cells.specs.declared.draft.Draft.{Draft}
 use Rattle.lw_cells.specs.declared.draft.DraftCell.{DraftCell}
 use Rattle.lw_cells.specs.Grammars.{Grammar}
 use Rattle.lw_cells.specs.Cells.{CellSyntax, MaybeStatement, CellSays, statements, labels_of, target_in, resolved, code_in, LeadsForward}
@@ -36,9 +36,10 @@ module _ {Syntax Stmt : Type 0} (grammar : Grammar Syntax Stmt) where
   pub resolved_none : (names : List (List ℕ)) (syntaxes : List (CellSyntax Syntax)) → Resolved names syntaxes 0 []
   resolved_none names syntaxes = record { made = refl; ahead = λ k s e. absurd cc }
 
-  module _ {Jump : Type 0} (draft_of : ℕ → Syntax → Draft Stmt Jump) where
+  module _ {D : Type 0} (draft_of : ℕ → Syntax → D) where
     -- What was drafted of a thread's cells, at the cell of this row.
-    module _ {A : Type 0} (cells : List (Cell A)) (before after : List (List ℕ)) (drafts : List (DraftCell Stmt Jump)) (labels : LabelMap) (draft : DraftRead grammar draft_of cells before drafts labels after) where
+    module _ {A : Type 0} (cells : List (Cell A)) (before after : List (List ℕ)) (drafts : List (DraftCell D)) (labels : LabelMap)
+        (draft : DraftRead grammar draft_of cells before drafts labels after) where
       as_many_syntaxes : length cells ≡ length draft.syntaxes
       as_many_syntaxes = sym (length-map cells cell_texts) ∙ zip_length (CellSays grammar) (cells_texts cells) draft.syntaxes draft.says
 
@@ -48,11 +49,15 @@ module _ {Syntax Stmt : Type 0} (grammar : Grammar Syntax Stmt) where
       pub all_rows : take (length cells) draft.syntaxes ≡ draft.syntaxes
       all_rows = ap (λ (n : ℕ). take n draft.syntaxes) as_many_syntaxes ∙ take_whole draft.syntaxes
 
-      pub resolved_all : (row : ℕ) (code : List Stmt) → length cells ≤ row → row ≤ length cells → Resolved after draft.syntaxes row code → (code ≡ code_in grammar after draft.syntaxes) × AllForward grammar draft.syntaxes
+      pub resolved_all : (row : ℕ) (code : List Stmt) → length cells ≤ row → row ≤ length cells → Resolved after draft.syntaxes row code
+          → (code ≡ code_in grammar after draft.syntaxes) × AllForward grammar draft.syntaxes
       resolved_all row code low high r =
           let e : row ≡ length cells = omega (arith, low, high) in
-          let whole : take row draft.syntaxes ≡ draft.syntaxes = ap (λ (n : ℕ). take n draft.syntaxes) e ∙ all_rows in
-          (r.made ∙ ap (λ (ls : List (CellSyntax Syntax)). map (resolved grammar after draft.syntaxes) (statements ls)) whole, λ k s at. r.ahead k s (ap (λ (ls : List (CellSyntax Syntax)). slice_get (statements ls) k) whole ∙ at))
+          let whole : take row draft.syntaxes ≡ draft.syntaxes = ap (λ (n : ℕ). take n draft.syntaxes) e ∙ all_rows in (
+            r.made ∙ ap (λ (ls : List (CellSyntax Syntax)). map (resolved grammar after draft.syntaxes) (statements ls)) whole,
+            λ k s at. r.ahead k s
+                (ap (λ (ls : List (CellSyntax Syntax)). slice_get (statements ls) k) whole ∙ at),
+          )
 
       module _ (row : ℕ) (cell : Cell A) (within : row < length cells) (is : cell ≡ get_or cells row cell) where
         pub syntax_at : (y : CellSyntax Syntax) × (slice_get draft.syntaxes row ≡ Some y)
@@ -62,47 +67,61 @@ module _ {Syntax Stmt : Type 0} (grammar : Grammar Syntax Stmt) where
         cell_at = at_index cells row cell within ∙ ap Some (sym is)
 
         says_at : CellSays grammar (cell_texts cell) syntax_at.0
-        says_at = zip_at (CellSays grammar) (cells_texts cells) draft.syntaxes row (cell_texts cell) syntax_at.0 draft.says (slice_get-map cell_texts cells row ∙ ap (option_map cell_texts) cell_at) syntax_at.1
+        says_at = zip_at (CellSays grammar) (cells_texts cells) draft.syntaxes row (cell_texts cell) syntax_at.0 draft.says
+            (slice_get-map cell_texts cells row ∙ ap (option_map cell_texts) cell_at) syntax_at.1
 
-        draft_at : (d : DraftCell Stmt Jump) → slice_get drafts row ≡ Some d → d ≡ draft_cell grammar draft_of after syntax_at.0
+        draft_at : (d : DraftCell D) → slice_get drafts row ≡ Some d → d ≡ draft_cell grammar draft_of after syntax_at.0
         draft_at d e =
-            let f : Some d ≡ Some (draft_cell grammar draft_of after syntax_at.0) = sym e ∙ ap (λ (ds : List (DraftCell Stmt Jump)). slice_get ds row) draft.made ∙ slice_get-map (draft_cell grammar draft_of after) draft.syntaxes row ∙ ap (option_map (draft_cell grammar draft_of after)) syntax_at.1 in
+            let f : Some d ≡ Some (draft_cell grammar draft_of after syntax_at.0) = sym e ∙ ap
+            (λ (ds : List (DraftCell D)). slice_get ds row) draft.made ∙ slice_get-map (draft_cell grammar draft_of after) draft.syntaxes row ∙ ap
+            (option_map (draft_cell grammar draft_of after)) syntax_at.1 in
             cc
 
-        stmt_at : (d : DraftCell Stmt Jump) (o : Option (Draft Stmt Jump)) → slice_get drafts row ≡ Some d → d.stmt ≡ o → o ≡ option_map (draft_in grammar draft_of after) syntax_at.0.stmt
-        stmt_at d o e f = sym f ∙ ap (λ (c : DraftCell Stmt Jump). c.stmt) (draft_at d e)
+        stmt_at : (d : DraftCell D) (o : Option D) → slice_get drafts row ≡ Some d → d.stmt ≡ o
+            → o ≡ option_map (draft_in grammar draft_of after) syntax_at.0.stmt
+        stmt_at d o e f = sym f ∙ ap (λ (c : DraftCell D). c.stmt) (draft_at d e)
 
         -- what stands behind so many tokens is the statement
-        behind_labels : (d : DraftCell Stmt Jump) → slice_get drafts row ≡ Some d → (d.start ≤ length cell.tokens) × (texts (drop d.start cell.tokens) ≡ says_at.0)
+        behind_labels : (d : DraftCell D) → slice_get drafts row ≡ Some d → (d.start ≤ length cell.tokens) × (texts (drop d.start cell.tokens) ≡ says_at.0)
         behind_labels d e =
-            let start : d.start ≡ 2 * length syntax_at.0.labels = ap (λ (c : DraftCell Stmt Jump). c.start) (draft_at d e) in
-            let rest = labels_rest (texts cell.tokens) syntax_at.0.labels says_at.0 says_at.1 in
-            (omega (arith, start, rest.0, length-map cell.tokens (λ (t : Token). t.text.now)), sym (drop-map (λ (t : Token). t.text.now) d.start cell.tokens) ∙ ap (λ (n : ℕ). drop n (texts cell.tokens)) start ∙ rest.1)
+            let start : d.start ≡ 2 * length syntax_at.0.labels = ap (λ (c : DraftCell D). c.start) (draft_at d e) in
+            let rest = labels_rest (texts cell.tokens) syntax_at.0.labels says_at.0 says_at.1 in (
+              omega (arith, start, rest.0, length-map cell.tokens (λ (t : Token). t.text.now)),
+              sym
+                  (drop-map (λ (t : Token). t.text.now) d.start cell.tokens) ∙ ap (λ (n : ℕ). drop n (texts cell.tokens)) start ∙ rest.1,
+            )
 
-        pub start_within : (d : DraftCell Stmt Jump) → slice_get drafts row ≡ Some d → d.start ≤ length cell.tokens
+        pub start_within : (d : DraftCell D) → slice_get drafts row ≡ Some d → d.start ≤ length cell.tokens
         start_within d e = (behind_labels d e).0
 
         -- the statement of a draft; its cell's draft is read twice
-        pub syntax_of : (d c : DraftCell Stmt Jump) (stmt : Draft Stmt Jump) → slice_get drafts row ≡ Some d → slice_get drafts row ≡ Some c → c.stmt ≡ Some stmt → (s : Syntax) × (syntax_at.0.stmt ≡ Some s) × IsDraft grammar draft_of after (texts (drop d.start cell.tokens)) stmt s
+        pub syntax_of : (d c : DraftCell D) (stmt : D) → slice_get drafts row ≡ Some d → slice_get drafts row ≡ Some c → c.stmt ≡ Some stmt
+            → (s : Syntax) × (syntax_at.0.stmt ≡ Some s) × IsDraft grammar draft_of after (texts (drop d.start cell.tokens)) stmt s
         syntax_of d c stmt e at f = go syntax_at.0.stmt refl
           where
-            go : (o : Option Syntax) → syntax_at.0.stmt ≡ o → (s : Syntax) × (syntax_at.0.stmt ≡ Some s) × IsDraft grammar draft_of after (texts (drop d.start cell.tokens)) stmt s
+            go : (o : Option Syntax) → syntax_at.0.stmt ≡ o → (s : Syntax) × (syntax_at.0.stmt ≡ Some s) × IsDraft grammar draft_of after
+                (texts (drop d.start cell.tokens)) stmt s
             go None g = let h : Some stmt ≡ None = stmt_at c (Some stmt) at f ∙ ap (option_map (draft_in grammar draft_of after)) g in absurd cc
             go (Some s) g =
-                let h : Some stmt ≡ Some (draft_in grammar draft_of after s) = stmt_at c (Some stmt) at f ∙ ap (option_map (draft_in grammar draft_of after)) g in
+                let h : Some stmt ≡ Some (draft_in grammar draft_of after s) = stmt_at c (Some stmt) at f ∙ ap
+                (option_map (draft_in grammar draft_of after)) g in
                 let says : grammar.says says_at.0 s = subst (λ (o : Option Syntax). MaybeStatement grammar says_at.0 o) g says_at.2 in
                 (s, g, record { says = subst (λ (ts : List (List ℕ)). grammar.says ts s) (sym (behind_labels d e).1) says; made = cc })
 
         next_syntaxes : take (row + 1) draft.syntaxes ≡ take row draft.syntaxes ++ syntax_at.0 ∷ []
         next_syntaxes = let e : row + 1 ≡ suc row = omega arith in ap (λ (n : ℕ). take n draft.syntaxes) e ∙ take_one draft.syntaxes row syntax_at.0 syntax_at.1
 
-        next_statements : (o : Option Syntax) → syntax_at.0.stmt ≡ o → statements (take (row + 1) draft.syntaxes) ≡ statements (take row draft.syntaxes) ++ cons_option o []
-        next_statements o e = ap statements next_syntaxes ∙ statements-append (take row draft.syntaxes) (syntax_at.0 ∷ []) ∙ ap (λ (p : Option Syntax). statements (take row draft.syntaxes) ++ cons_option p []) e
+        next_statements : (o : Option Syntax) → syntax_at.0.stmt ≡ o
+            → statements (take (row + 1) draft.syntaxes) ≡ statements (take row draft.syntaxes) ++ cons_option o []
+        next_statements o e = ap statements next_syntaxes ∙ statements-append (take row draft.syntaxes) (syntax_at.0 ∷ []) ∙ ap
+            (λ (p : Option Syntax). statements (take row draft.syntaxes) ++ cons_option p []) e
 
-        pub resolved_skip : (code : List Stmt) (d : DraftCell Stmt Jump) → slice_get drafts row ≡ Some d → d.stmt ≡ None → Resolved after draft.syntaxes row code → Resolved after draft.syntaxes (row + 1) code
+        pub resolved_skip : (code : List Stmt) (d : DraftCell D) → slice_get drafts row ≡ Some d → d.stmt ≡ None
+            → Resolved after draft.syntaxes row code → Resolved after draft.syntaxes (row + 1) code
         resolved_skip code d e f r =
             let none : syntax_at.0.stmt ≡ None = go syntax_at.0.stmt refl in
-            let same : statements (take (row + 1) draft.syntaxes) ≡ statements (take row draft.syntaxes) = next_statements None none ∙ append-nil (statements (take row draft.syntaxes)) in
+            let same : statements (take (row + 1) draft.syntaxes) ≡ statements (take row draft.syntaxes) = next_statements None none ∙ append-nil
+            (statements (take row draft.syntaxes)) in
             record {
               made = r.made ∙ ap (map (resolved grammar after draft.syntaxes)) (sym same);
               ahead = λ k s at. r.ahead k s (ap (λ (ss : List Syntax). slice_get ss k) (sym same) ∙ at);
@@ -110,55 +129,79 @@ module _ {Syntax Stmt : Type 0} (grammar : Grammar Syntax Stmt) where
           where
             go : (o : Option Syntax) → syntax_at.0.stmt ≡ o → syntax_at.0.stmt ≡ None
             go None g = g
-            go (Some s) g = let h : None ≡ Some (draft_in grammar draft_of after s) = stmt_at d None e f ∙ ap (option_map (draft_in grammar draft_of after)) g in absurd cc
+            go (Some s) g = let h : None ≡ Some (draft_in grammar draft_of after s) = stmt_at d None e f ∙ ap
+                (option_map (draft_in grammar draft_of after)) g in absurd cc
 
-        pub resolved_more : (code : List Stmt) (s : Syntax) (stmt : Stmt) → syntax_at.0.stmt ≡ Some s → Resolved after draft.syntaxes row code → (stmt ≡ resolved grammar after draft.syntaxes s) × LeadsForward grammar draft.syntaxes (length code) s → Resolved after draft.syntaxes (row + 1) (code ++ stmt ∷ [])
+        pub resolved_more : (code : List Stmt) (s : Syntax) (stmt : Stmt) → syntax_at.0.stmt ≡ Some s → Resolved after draft.syntaxes row code
+            → (stmt ≡ resolved grammar after draft.syntaxes s) × LeadsForward grammar draft.syntaxes (length code) s
+            → Resolved after draft.syntaxes (row + 1) (code ++ stmt ∷ [])
         resolved_more code s stmt is r one =
             let more : statements (take (row + 1) draft.syntaxes) ≡ statements (take row draft.syntaxes) ++ s ∷ [] = next_statements (Some s) is in
-            let count : length code ≡ length (statements (take row draft.syntaxes)) = ap length r.made ∙ length-map (statements (take row draft.syntaxes)) (resolved grammar after draft.syntaxes) in
+            let count : length code ≡ length (statements (take row draft.syntaxes)) = ap length r.made ∙ length-map
+            (statements (take row draft.syntaxes)) (resolved grammar after draft.syntaxes) in
             record {
-              made = ap (λ (ss : List Stmt). ss ++ stmt ∷ []) r.made ∙ ap (λ (x : Stmt). map (resolved grammar after draft.syntaxes) (statements (take row draft.syntaxes)) ++ x ∷ []) one.0 ∙ sym (map-append (resolved grammar after draft.syntaxes) (statements (take row draft.syntaxes)) (s ∷ [])) ∙ ap (map (resolved grammar after draft.syntaxes)) (sym more);
-              ahead = λ k t at. ahead_at k t count (get_append (statements (take row draft.syntaxes)) s t k (ap (λ (ss : List Syntax). slice_get ss k) (sym more) ∙ at));
+              made = ap (λ (ss : List Stmt). ss ++ stmt ∷ []) r.made ∙ ap
+                  (λ (x : Stmt). map (resolved grammar after draft.syntaxes) (statements (take row draft.syntaxes)) ++ x ∷ []) one.0 ∙ sym
+                  (map-append (resolved grammar after draft.syntaxes) (statements (take row draft.syntaxes)) (s ∷ [])) ∙ ap
+                  (map (resolved grammar after draft.syntaxes)) (sym more);
+              ahead = λ k t at. ahead_at k t count (get_append (statements (take row draft.syntaxes)) s t k
+                  (ap (λ (ss : List Syntax). slice_get ss k) (sym more) ∙ at));
             }
           where
-            ahead_at : (k : ℕ) (t : Syntax) → length code ≡ length (statements (take row draft.syntaxes)) → (slice_get (statements (take row draft.syntaxes)) k ≡ Some t) ⊎ ((k ≡ length (statements (take row draft.syntaxes))) × (s ≡ t)) → LeadsForward grammar draft.syntaxes k t
+            ahead_at : (k : ℕ) (t : Syntax) → length code ≡ length (statements (take row draft.syntaxes))
+                → (slice_get (statements (take row draft.syntaxes)) k ≡ Some t) ⊎ ((k ≡ length (statements (take row draft.syntaxes))) × (s ≡ t))
+                → LeadsForward grammar draft.syntaxes k t
             ahead_at k t count (inl f) = r.ahead k t f
-            ahead_at k t count (inr f) = subst (λ (n : ℕ). LeadsForward grammar draft.syntaxes n t) (count ∙ sym f.0) (subst (λ (u : Syntax). LeadsForward grammar draft.syntaxes (length code) u) f.1 one.1)
+            ahead_at k t count (inr f) = subst (λ (n : ℕ). LeadsForward grammar draft.syntaxes n t) (count ∙ sym f.0)
+                (subst (λ (u : Syntax). LeadsForward grammar draft.syntaxes (length code) u) f.1 one.1)
 
         above_says : AllZip (CellSays grammar) (cells_texts (take row cells)) (take row draft.syntaxes)
-        above_says = subst (λ (cs : List (List (List ℕ))). AllZip (CellSays grammar) cs (take row draft.syntaxes)) (take-map cell_texts row cells) (zip_take (CellSays grammar) (cells_texts cells) draft.syntaxes row draft.says)
+        above_says = subst (λ (cs : List (List (List ℕ))). AllZip (CellSays grammar) cs (take row draft.syntaxes)) (take-map cell_texts row cells)
+            (zip_take (CellSays grammar) (cells_texts cells) draft.syntaxes row draft.says)
 
         below_says : AllZip (CellSays grammar) (cells_texts (drop (suc row) cells)) (drop (suc row) draft.syntaxes)
-        below_says = subst (λ (cs : List (List (List ℕ))). AllZip (CellSays grammar) cs (drop (suc row) draft.syntaxes)) (drop-map cell_texts (suc row) cells) (zip_drop (CellSays grammar) (cells_texts cells) draft.syntaxes (suc row) draft.says)
+        below_says = subst (λ (cs : List (List (List ℕ))). AllZip (CellSays grammar) cs (drop (suc row) draft.syntaxes))
+            (drop-map cell_texts (suc row) cells) (zip_drop (CellSays grammar) (cells_texts cells) draft.syntaxes (suc row) draft.says)
 
         -- the same of the cells with their places
         above_placed : AllZip (CellSays grammar) (texts_of_cells (placed_row (take row cells))) (take row draft.syntaxes)
-        above_placed = subst (λ (cs : List (List (List ℕ))). AllZip (CellSays grammar) cs (take row draft.syntaxes)) (sym (cells_placed (take row cells))) above_says
+        above_placed = subst (λ (cs : List (List (List ℕ))). AllZip (CellSays grammar) cs (take row draft.syntaxes))
+            (sym (cells_placed (take row cells))) above_says
 
         placed_says : CellSays grammar (texts_of_tokens (placed_tokens cell.tokens)) syntax_at.0
         placed_says = subst (λ (ts : List (List ℕ)). CellSays grammar ts syntax_at.0) (sym (texts_placed cell.tokens)) says_at
 
         below_placed : AllZip (CellSays grammar) (texts_of_cells (placed_row (drop (suc row) cells))) (drop (suc row) draft.syntaxes)
-        below_placed = subst (λ (cs : List (List (List ℕ))). AllZip (CellSays grammar) cs (drop (suc row) draft.syntaxes)) (sym (cells_placed (drop (suc row) cells))) below_says
+        below_placed = subst (λ (cs : List (List (List ℕ))). AllZip (CellSays grammar) cs (drop (suc row) draft.syntaxes))
+            (sym (cells_placed (drop (suc row) cells))) below_says
 
         -- where the statement does not lead forward, not all do
-        pub not_all_forward : (code : List Stmt) (s : Syntax) → syntax_at.0.stmt ≡ Some s → Resolved after draft.syntaxes row code → (LeadsForward grammar draft.syntaxes (length code) s → ⊥) → AllForward grammar draft.syntaxes → ⊥
+        pub not_all_forward : (code : List Stmt) (s : Syntax) → syntax_at.0.stmt ≡ Some s → Resolved after draft.syntaxes row code
+            → (LeadsForward grammar draft.syntaxes (length code) s → ⊥) → AllForward grammar draft.syntaxes → ⊥
         not_all_forward code s is r none all =
-            let count : length code ≡ length (statements (take row draft.syntaxes)) = ap length r.made ∙ length-map (statements (take row draft.syntaxes)) (resolved grammar after draft.syntaxes) in
+            let count : length code ≡ length (statements (take row draft.syntaxes)) = ap length r.made ∙ length-map
+            (statements (take row draft.syntaxes)) (resolved grammar after draft.syntaxes) in
             let whole : statements draft.syntaxes ≡ statements (take row draft.syntaxes) ++ s ∷ statements (drop (suc row) draft.syntaxes) =
-            ap statements (cut_at draft.syntaxes row syntax_at.0 syntax_at.1) ∙ statements-append (take row draft.syntaxes) (syntax_at.0 ∷ drop (suc row) draft.syntaxes) ∙ ap (λ (o : Option Syntax). statements (take row draft.syntaxes) ++ cons_option o (statements (drop (suc row) draft.syntaxes))) is in
-            none (all (length code) s (ap (λ (ss : List Syntax). slice_get ss (length code)) whole ∙ get_seam (statements (take row draft.syntaxes)) s (statements (drop (suc row) draft.syntaxes)) (length code) count))
+            ap statements (cut_at draft.syntaxes row syntax_at.0 syntax_at.1) ∙ statements-append (take row draft.syntaxes)
+            (syntax_at.0 ∷ drop (suc row) draft.syntaxes) ∙ ap
+            (λ (o : Option Syntax). statements (take row draft.syntaxes) ++ cons_option o (statements (drop (suc row) draft.syntaxes))) is in
+            none (all (length code) s (ap (λ (ss : List Syntax). slice_get ss (length code)) whole ∙ get_seam (statements (take row draft.syntaxes)) s
+            (statements (drop (suc row) draft.syntaxes)) (length code) count))
 
-        last_in_cell : (start : ℕ) (front : List Token) (t : Token) → drop start cell.tokens ≡ front ++ t ∷ [] → cell.tokens ≡ (take start cell.tokens ++ front) ++ t ∷ []
+        last_in_cell : (start : ℕ) (front : List Token) (t : Token) → drop start cell.tokens ≡ front ++ t ∷ []
+            → cell.tokens ≡ (take start cell.tokens ++ front) ++ t ∷ []
         last_in_cell start front t last =
             sym (take-append-drop start cell.tokens) ∙ ap (λ (ts : List Token). take start cell.tokens ++ ts) last
             ∙ sym (append_assoc (take start cell.tokens) front (t ∷ []))
 
-        pub jump_tells : (names : List (List ℕ)) (code : List Stmt) (s : Syntax) (at : ℕ) (cause : CellCause) → syntax_at.0.stmt ≡ Some s → Resolved after draft.syntaxes row code → (start : ℕ) → JumpRefused grammar labels (length code) (drop start cell.tokens) s at cause → TellsBy grammar names (placed_row cells ∷ []) at cause
+        pub jump_tells : (names : List (List ℕ)) (code : List Stmt) (s : Syntax) (at : ℕ) (cause : CellCause) → syntax_at.0.stmt ≡ Some s
+            → Resolved after draft.syntaxes row code → (start : ℕ) → JumpRefused grammar labels (length code) (drop start cell.tokens) s at cause
+            → TellsBy grammar names (placed_row cells ∷ []) at cause
         jump_tells names code s at Form is r start f = tt
         jump_tells names code s at Register is r start f = tt
         jump_tells names code s at LabelMissing is r start f = (
-          standing cells (take row cells) (drop (suc row) cells) cell (cut_at cells row cell cell_at) at (take start cell.tokens ++ f.front) f.token [] (last_in_cell start f.front f.token f.last) f.begins,
+          standing cells (take row cells) (drop (suc row) cells) cell (cut_at cells row cell cell_at) at (take start cell.tokens ++ f.front) f.token []
+              (last_in_cell start f.front f.token f.last) f.begins,
           (
             take row draft.syntaxes,
             syntax_at.0,
@@ -170,7 +213,9 @@ module _ {Syntax Stmt : Type 0} (grammar : Grammar Syntax Stmt) where
               last = refl;
               jump = (s, is, f.is);
             },
-            λ there. leads_nowhere draft.syntaxes f.token.text.now (sym (draft.leads f.token.text.now) ∙ f.because) (subst (λ (ls : List (CellSyntax Syntax)). Contains (labels_of ls) f.token.text.now) (sym (cut_at draft.syntaxes row syntax_at.0 syntax_at.1)) there),
+            λ there. leads_nowhere draft.syntaxes f.token.text.now (sym (draft.leads f.token.text.now) ∙ f.because)
+                (subst (λ (ls : List (CellSyntax Syntax)). Contains (labels_of ls) f.token.text.now)
+                (sym (cut_at draft.syntaxes row syntax_at.0 syntax_at.1)) there),
           ),
         )
         jump_tells names code s at LabelTwice is r start f = absurd f.because
@@ -178,8 +223,10 @@ module _ {Syntax Stmt : Type 0} (grammar : Grammar Syntax Stmt) where
             let b = f.because in
             let l = leads_in draft.syntaxes f.token.text.now b.0 (sym (draft.leads f.token.text.now) ∙ b.1) in
             let cut = cut_at draft.syntaxes row syntax_at.0 syntax_at.1 in
-            let count : length code ≡ length (statements (take row draft.syntaxes)) = ap length r.made ∙ length-map (statements (take row draft.syntaxes)) (resolved grammar after draft.syntaxes) in (
-              standing cells (take row cells) (drop (suc row) cells) cell (cut_at cells row cell cell_at) at (take start cell.tokens ++ f.front) f.token [] (last_in_cell start f.front f.token f.last) f.begins,
+            let count : length code ≡ length (statements (take row draft.syntaxes)) = ap length r.made ∙ length-map
+            (statements (take row draft.syntaxes)) (resolved grammar after draft.syntaxes) in (
+              standing cells (take row cells) (drop (suc row) cells) cell (cut_at cells row cell cell_at) at
+                  (take start cell.tokens ++ f.front) f.token [] (last_in_cell start f.front f.token f.last) f.begins,
               (
                 take row draft.syntaxes,
                 syntax_at.0,
@@ -192,7 +239,8 @@ module _ {Syntax Stmt : Type 0} (grammar : Grammar Syntax Stmt) where
                   jump = (s, is, f.is);
                 },
                 subst (λ (ls : List (CellSyntax Syntax)). Contains (labels_of ls) f.token.text.now) cut l.0,
-                subst (λ (ls : List (CellSyntax Syntax)). target_in ls f.token.text.now ≤ length (statements (take row draft.syntaxes))) cut (omega (arith, b.2, l.1, count)),
+                subst (λ (ls : List (CellSyntax Syntax)). target_in ls f.token.text.now ≤ length (statements (take row draft.syntaxes))) cut
+                    (omega (arith, b.2, l.1, count)),
               ),
             )
         jump_tells names code s at TooMany is r start f = absurd f.because

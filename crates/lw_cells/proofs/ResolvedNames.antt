@@ -27,8 +27,10 @@ module _ {Syntax Stmt : Type 0} (grammar : Grammar Syntax Stmt) where
   abbrev pub LocationExists : List (List ℕ) → Syntax → Type 0
   LocationExists names s = NameExists names (grammar.name_of s)
 
-  pub resolved-along : (names ns : List (List ℕ)) (syntaxes : List (CellSyntax Syntax)) (s : Syntax) → LocationExists names s → resolved grammar (with_names names ns) syntaxes s ≡ resolved grammar names syntaxes s
-  resolved-along names ns syntaxes s e = ap (λ (x : ℕ). grammar.made x (led_to syntaxes (grammar.label_of s)) s) (number_in-along names ns (grammar.name_of s) e)
+  pub resolved-along : (names ns : List (List ℕ)) (syntaxes : List (CellSyntax Syntax)) (s : Syntax) → LocationExists names s
+      → resolved grammar (with_names names ns) syntaxes s ≡ resolved grammar names syntaxes s
+  resolved-along names ns syntaxes s e = ap (λ (x : ℕ). grammar.made x (led_to syntaxes (grammar.label_of s)) s)
+      (number_in-along names ns (grammar.name_of s) e)
 
   -- The statements' names are in the table.
   abbrev pub LocationsExist : List (List ℕ) → List Syntax → Type 0
@@ -42,26 +44,33 @@ module _ {Syntax Stmt : Type 0} (grammar : Grammar Syntax Stmt) where
   all_there names [] = tt
   all_there names (s ∷ ss) = go (grammar.name_of s) refl (all_there names ss) (λ n. all_there (with_name names n) ss)
     where
-      go : (o : Option (List ℕ)) → grammar.name_of s ≡ o → LocationsExist (with_names names (filter_map grammar.name_of ss)) ss → ((n : List ℕ) → LocationsExist (with_names (with_name names n) (filter_map grammar.name_of ss)) ss) → LocationsExist (with_names names (filter_map grammar.name_of (s ∷ ss))) (s ∷ ss)
+      go : (o : Option (List ℕ)) → grammar.name_of s ≡ o → LocationsExist (with_names names (filter_map grammar.name_of ss)) ss
+          → ((n : List ℕ) → LocationsExist (with_names (with_name names n) (filter_map grammar.name_of ss)) ss)
+          → LocationsExist (with_names names (filter_map grammar.name_of (s ∷ ss))) (s ∷ ss)
       go None e kept further =
           let none : LocationExists (with_names names (filter_map grammar.name_of ss)) s = λ n f. (let g : None ≡ Some n = sym e ∙ f in absurd cc) in
           subst (λ (o : Option (List ℕ)). LocationsExist (with_names names (cons_option o (filter_map grammar.name_of ss))) (s ∷ ss)) (sym e) (none, kept)
       go (Some m) e kept further =
           let there : LocationExists (with_names (with_name names m) (filter_map grammar.name_of ss)) s =
-          λ n f. (let g : Some m ≡ Some n = sym e ∙ f in let h : m ≡ n = cc in subst (λ k. contains_name (with_names (with_name names m) (filter_map grammar.name_of ss)) k ≡ true) h (contains_name-with_names (with_name names m) (filter_map grammar.name_of ss) m (contains_name-with_name names m))) in
+          λ n f. (let g : Some m ≡ Some n = sym e ∙ f in let h : m ≡ n = cc in subst
+          (λ k. contains_name (with_names (with_name names m) (filter_map grammar.name_of ss)) k ≡ true) h
+          (contains_name-with_names (with_name names m) (filter_map grammar.name_of ss) m (contains_name-with_name names m))) in
           subst (λ (o : Option (List ℕ)). LocationsExist (with_names names (cons_option o (filter_map grammar.name_of ss))) (s ∷ ss)) (sym e) (there, further m)
 
-  pub map_resolved-along : (names ns : List (List ℕ)) (syntaxes : List (CellSyntax Syntax)) (ss : List Syntax) → LocationsExist names ss → map (resolved grammar (with_names names ns) syntaxes) ss ≡ map (resolved grammar names syntaxes) ss
+  pub map_resolved-along : (names ns : List (List ℕ)) (syntaxes : List (CellSyntax Syntax)) (ss : List Syntax) → LocationsExist names ss
+      → map (resolved grammar (with_names names ns) syntaxes) ss ≡ map (resolved grammar names syntaxes) ss
   map_resolved-along names ns syntaxes [] all = refl
   map_resolved-along names ns syntaxes (s ∷ ss) all = rw (resolved-along names ns syntaxes s all.0, map_resolved-along names ns syntaxes ss all.1) refl
 
   module _ (lawful : IsGrammar grammar) where
     -- what is resolved stands on a location of the table
-    located-within : (names : List (List ℕ)) (o : Option (List ℕ)) → NameExists names o → ForSome (option_map (λ n. number_in names o) o) (λ x. x < length names)
+    located-within : (names : List (List ℕ)) (o : Option (List ℕ)) → NameExists names o
+        → ForSome (option_map (λ n. number_in names o) o) (λ x. x < length names)
     located-within names None e x same = absurd cc
     located-within names (Some n) e x same = let f : index_of names n ≡ x = cc in subst (λ (l : ℕ). l < length names) f (index_of-within names n (e n refl))
 
-    resolved-there : (names : List (List ℕ)) (syntaxes : List (CellSyntax Syntax)) (ts : List (List ℕ)) (s : Syntax) → grammar.says ts s → LocationExists names s → IsStatement grammar.language (length names) (resolved grammar names syntaxes s)
+    resolved-there : (names : List (List ℕ)) (syntaxes : List (CellSyntax Syntax)) (ts : List (List ℕ)) (s : Syntax) → grammar.says ts s
+        → LocationExists names s → IsStatement grammar.language (length names) (resolved grammar names syntaxes s)
     resolved-there names syntaxes ts s says e =
         let x = number_in names (grammar.name_of s) in
         let to = led_to syntaxes (grammar.label_of s) in
@@ -73,30 +82,44 @@ module _ {Syntax Stmt : Type 0} (grammar : Grammar Syntax Stmt) where
     abbrev pub AllSaid : List Syntax → Type 0
     AllSaid ss = AllByRecursion (λ (s : Syntax). (ts : List (List ℕ)) × grammar.says ts s) ss
 
-    all_resolved-there : (names : List (List ℕ)) (syntaxes : List (CellSyntax Syntax)) (ss : List Syntax) → AllSaid ss → LocationsExist names ss → AllByRecursion (IsStatement grammar.language (length names)) (map (resolved grammar names syntaxes) ss)
+    all_resolved-there : (names : List (List ℕ)) (syntaxes : List (CellSyntax Syntax)) (ss : List Syntax) → AllSaid ss → LocationsExist names ss
+        → AllByRecursion (IsStatement grammar.language (length names)) (map (resolved grammar names syntaxes) ss)
     all_resolved-there names syntaxes [] said all = tt
-    all_resolved-there names syntaxes (s ∷ ss) said all = (resolved-there names syntaxes said.0.0 s said.0.1 all.0, all_resolved-there names syntaxes ss said.1 all.1)
+    all_resolved-there names syntaxes (s ∷ ss) said all = (
+      resolved-there names syntaxes said.0.0 s said.0.1 all.0,
+      all_resolved-there names syntaxes ss
+          said.1 all.1,
+    )
 
     -- a jump that is resolved leads to where its label stands
-    led-forward : (syntaxes : List (CellSyntax Syntax)) (k to : ℕ) (o : Option (List ℕ)) → option_map (λ l. led_to syntaxes o) o ≡ Some to → ForSome o (λ l. k < target_in syntaxes l) → (k < to) × (to ≤ length (statements syntaxes))
+    led-forward : (syntaxes : List (CellSyntax Syntax)) (k to : ℕ) (o : Option (List ℕ)) → option_map (λ l. led_to syntaxes o) o ≡ Some to
+        → ForSome o (λ l. k < target_in syntaxes l) → (k < to) × (to ≤ length (statements syntaxes))
     led-forward syntaxes k to None e ahead = absurd cc
-    led-forward syntaxes k to (Some l) e ahead = let f : target_in syntaxes l ≡ to = cc in (omega (arith, f, ahead l refl), omega (arith, f, target_within syntaxes l))
+    led-forward syntaxes k to (Some l) e ahead = let f : target_in syntaxes l ≡ to = cc in
+        (omega (arith, f, ahead l refl), omega (arith, f, target_within syntaxes l))
 
-    target-resolved : (names : List (List ℕ)) (syntaxes : List (CellSyntax Syntax)) (k : ℕ) (s : Syntax) (to : ℕ) → target_of (grammar.language.operation_of (resolved grammar names syntaxes s)) ≡ Some to → LeadsForward grammar syntaxes k s → (k < to) × (to ≤ length (statements syntaxes))
+    target-resolved : (names : List (List ℕ)) (syntaxes : List (CellSyntax Syntax)) (k : ℕ) (s : Syntax) (to : ℕ)
+        → target_of (grammar.language.operation_of (resolved grammar names syntaxes s)) ≡ Some to → LeadsForward grammar syntaxes k s
+        → (k < to) × (to ≤ length (statements syntaxes))
     target-resolved names syntaxes k s to e ahead =
         let x = number_in names (grammar.name_of s) in
         led-forward syntaxes k to (grammar.label_of s) (sym (lawful.led x (led_to syntaxes (grammar.label_of s)) s) ∙ e) (λ l is. (ahead l is).1)
 
-    resolved_from : (names : List (List ℕ)) (syntaxes : List (CellSyntax Syntax)) (ss : List Syntax) (k : ℕ) (s : Stmt) → slice_get (map (resolved grammar names syntaxes) ss) k ≡ Some s → (w : Syntax) × (slice_get ss k ≡ Some w) × (resolved grammar names syntaxes w ≡ s)
+    resolved_from : (names : List (List ℕ)) (syntaxes : List (CellSyntax Syntax)) (ss : List Syntax) (k : ℕ) (s : Stmt)
+        → slice_get (map (resolved grammar names syntaxes) ss) k ≡ Some s → (w : Syntax) × (slice_get ss k ≡ Some w) × (resolved grammar names syntaxes w ≡ s)
     resolved_from names syntaxes [] k s e = absurd cc
     resolved_from names syntaxes (w ∷ ss) zero s e = (w, refl, (let f : resolved grammar names syntaxes w ≡ s = cc in f))
     resolved_from names syntaxes (w ∷ ss) (suc k) s e = resolved_from names syntaxes ss k s e
 
-    pub thread_fits : (names : List (List ℕ)) (syntaxes : List (CellSyntax Syntax)) → AllSaid (statements syntaxes) → LocationsExist names (statements syntaxes) → length (statements syntaxes) ≤ grammar.language.most → ((k : ℕ) (s : Syntax) → slice_get (statements syntaxes) k ≡ Some s → LeadsForward grammar syntaxes k s) → IsThread grammar.language (length names) (code_in grammar names syntaxes)
+    pub thread_fits : (names : List (List ℕ)) (syntaxes : List (CellSyntax Syntax)) → AllSaid (statements syntaxes)
+        → LocationsExist names (statements syntaxes) → length (statements syntaxes) ≤ grammar.language.most
+        → ((k : ℕ) (s : Syntax) → slice_get (statements syntaxes) k ≡ Some s → LeadsForward grammar syntaxes k s)
+        → IsThread grammar.language (length names) (code_in grammar names syntaxes)
     thread_fits names syntaxes said all short ahead =
         record {
           short = omega (arith, short, length-map (statements syntaxes) (resolved grammar names syntaxes));
-          there = All-from_recursion (IsStatement grammar.language (length names)) (code_in grammar names syntaxes) (all_resolved-there names syntaxes (statements syntaxes) said all);
+          there = All-from_recursion (IsStatement grammar.language (length names)) (code_in grammar names syntaxes)
+              (all_resolved-there names syntaxes (statements syntaxes) said all);
           forward = λ k s at to e.
               let w = resolved_from names syntaxes (statements syntaxes) k s at in
               let t = target-resolved names syntaxes k w.0 to (ap (λ (s : Stmt). target_of (grammar.language.operation_of s)) w.2 ∙ e) (ahead k w.0 w.1) in

@@ -1,5 +1,6 @@
 -- Reading the threads of a test, one further.
-use Rattle.std.proofs.Common.{◌≡◌, ℕ, suc, ◌<◌, ◌≤◌, ◌+◌, ◌-◌, Option, Some, None, List, [], ◌∷◌, ◌++◌, length, take, drop, get_or, refl, sym, ap, ◌∙◌, subst, arith}
+use Rattle.std.proofs.Common.{◌≡◌, ℕ, suc, ◌<◌, ◌≤◌, ◌+◌, ◌-◌, Option, Some, None, List, [], ◌∷◌, ◌++◌, length, take, drop, get_or, refl, sym, ap, ◌∙◌, subst}
+use Rattle.std.proofs.Common.{arith}
 use Rattle.std.specs.Prelude.{map, All, replicate}
 use Rattle.std.specs.List.{AllZip, AllByRecursion, cons_option}
 use Rattle.std.proofs.lemmas.List.{map-append, length-map, append-nil, take-append-drop}
@@ -28,17 +29,24 @@ use Rattle.lw_cells.proofs.ResolvedNames.{LocationsExist, AllSaid, all_along, al
 use Rattle.lw_cells.proofs.FaultPlaces.{column_tells}
 
 -- the columns before one, that one, and the columns behind it
-pub columns_cut : {A : Type 0} (columns : List (List (Cell A))) (i : ℕ) (column : List (Cell A)) → i < length columns → column ≡ get_or columns i column → columns ≡ take i columns ++ column ∷ drop (suc i) columns
+pub columns_cut : {A : Type 0} (columns : List (List (Cell A))) (i : ℕ) (column : List (Cell A)) → i < length columns → column ≡ get_or columns i column
+    → columns ≡ take i columns ++ column ∷ drop (suc i) columns
 columns_cut {A} columns i column within is =
-    sym (take-append-drop i columns) ∙ ap (λ (r : List (List (Cell A))). take i columns ++ r) (drop-cons columns i column within ∙ ap (λ (c : List (Cell A)). c ∷ drop (suc i) columns) (sym is))
+    sym (take-append-drop i columns) ∙ ap (λ (r : List (List (Cell A))). take i columns ++ r)
+    (drop-cons columns i column within ∙ ap (λ (c : List (Cell A)). c ∷ drop (suc i) columns) (sym is))
 
-pub columns_more : {A : Type 0} (columns : List (List (Cell A))) (i : ℕ) (column : List (Cell A)) → i < length columns → column ≡ get_or columns i column → all_texts (take (i + 1) columns) ≡ all_texts (take i columns) ++ cells_texts column ∷ []
+pub columns_more : {A : Type 0} (columns : List (List (Cell A))) (i : ℕ) (column : List (Cell A)) → i < length columns
+    → column ≡ get_or columns i column → all_texts (take (i + 1) columns) ≡ all_texts (take i columns) ++ cells_texts column ∷ []
 columns_more {A} columns i column within is =
     let next : i + 1 ≡ suc i = omega arith in
-    ap (λ (n : ℕ). all_texts (take n columns)) next ∙ ap all_texts (take-suc columns i column within ∙ ap (λ (c : List (Cell A)). take i columns ++ c ∷ []) (sym is)) ∙ map-append cells_texts (take i columns) (column ∷ [])
+    ap (λ (n : ℕ). all_texts (take n columns)) next ∙ ap all_texts
+    (take-suc columns i column within ∙ ap (λ (c : List (Cell A)). take i columns ++ c ∷ []) (sym is)) ∙ map-append cells_texts (take i columns)
+    (column ∷ [])
 
-pub texts_cut : {A : Type 0} (columns : List (List (Cell A))) (i : ℕ) (column : List (Cell A)) → i < length columns → column ≡ get_or columns i column → all_texts columns ≡ all_texts (take i columns) ++ cells_texts column ∷ all_texts (drop (suc i) columns)
-texts_cut columns i column within is = ap all_texts (columns_cut columns i column within is) ∙ map-append cells_texts (take i columns) (column ∷ drop (suc i) columns)
+pub texts_cut : {A : Type 0} (columns : List (List (Cell A))) (i : ℕ) (column : List (Cell A)) → i < length columns → column ≡ get_or columns i column
+    → all_texts columns ≡ all_texts (take i columns) ++ cells_texts column ∷ all_texts (drop (suc i) columns)
+texts_cut columns i column within is = ap all_texts (columns_cut columns i column within is) ∙ map-append cells_texts (take i columns)
+    (column ∷ drop (suc i) columns)
 
 module _ {Syntax Stmt : Type 0} (grammar : Grammar Syntax Stmt) (lawful : IsGrammar grammar) where
   names_of-append : (xs ys : List (List (CellSyntax Syntax))) → names_of grammar (xs ++ ys) ≡ names_of grammar xs ++ names_of grammar ys
@@ -52,16 +60,22 @@ module _ {Syntax Stmt : Type 0} (grammar : Grammar Syntax Stmt) (lawful : IsGram
   all_in : (names : List (List ℕ)) (ts : List (List (CellSyntax Syntax))) → AllIn (with_names names (names_of grammar ts)) ts
   all_in names [] = tt
   all_in names (t ∷ ts) =
-      subst (λ ns. AllIn ns (t ∷ ts)) (sym (with_names-append names (names_in grammar t) (names_of grammar ts)))
-      (all_along grammar (with_names names (names_in grammar t)) (names_of grammar ts) (statements t) (all_there grammar names (statements t)), all_in (with_names names (names_in grammar t)) ts)
+      subst (λ ns. AllIn ns (t ∷ ts)) (sym (with_names-append names (names_in grammar t) (names_of grammar ts))) (
+        all_along grammar (with_names names (names_in grammar t)) (names_of grammar ts) (statements t) (all_there grammar names (statements t)),
+        all_in
+            (with_names names (names_in grammar t)) ts,
+      )
 
-  all_resolved-along : (names ns : List (List ℕ)) (ts : List (List (CellSyntax Syntax))) → AllIn names ts → map (code_in grammar (with_names names ns)) ts ≡ map (code_in grammar names) ts
+  all_resolved-along : (names ns : List (List ℕ)) (ts : List (List (CellSyntax Syntax))) → AllIn names ts
+      → map (code_in grammar (with_names names ns)) ts ≡ map (code_in grammar names) ts
   all_resolved-along names ns [] all = refl
   all_resolved-along names ns (t ∷ ts) all = rw (map_resolved-along grammar names ns t (statements t) all.0, all_resolved-along names ns ts all.1) refl
 
   -- What was read of the columns before, and this column.
-  module _ (front : List (List (List (List ℕ)))) (before mid : List (List ℕ)) (threads : List (List Stmt)) (read : ColumnsRead grammar front before threads mid) (column : List (List (List ℕ))) where
-    pub threads_more : (stmts : List Stmt) (after : List (List ℕ)) → ColumnRead grammar column mid stmts after → ColumnsRead grammar (front ++ column ∷ []) before (threads ++ stmts ∷ []) after
+  module _ (front : List (List (List (List ℕ)))) (before mid : List (List ℕ)) (threads : List (List Stmt))
+      (read : ColumnsRead grammar front before threads mid) (column : List (List (List ℕ))) where
+    pub threads_more : (stmts : List Stmt) (after : List (List ℕ)) → ColumnRead grammar column mid stmts after
+        → ColumnsRead grammar (front ++ column ∷ []) before (threads ++ stmts ∷ []) after
     threads_more stmts after one =
         let t = one.syntaxes in
         let old : AllIn mid read.syntaxes = subst (λ ns. AllIn ns read.syntaxes) (sym read.names) (all_in before read.syntaxes) in
@@ -71,13 +85,18 @@ module _ {Syntax Stmt : Type 0} (grammar : Grammar Syntax Stmt) (lawful : IsGram
           syntaxes = read.syntaxes ++ t ∷ [];
           says = zip_more (Column grammar) front read.syntaxes column t read.says one.says;
           names =
-              one.names ∙ ap (λ ns. with_names ns (names_in grammar t)) read.names ∙ sym (with_names-append before (names_of grammar read.syntaxes) (names_in grammar t))
-              ∙ ap (with_names before) (ap (λ ns. names_of grammar read.syntaxes ++ ns) (sym (append-nil (names_in grammar t))) ∙ sym (names_of-append read.syntaxes (t ∷ [])));
-          made = sym (map-append (code_in grammar after) read.syntaxes (t ∷ []) ∙ ap (λ ss. ss ++ code_in grammar after t ∷ []) kept ∙ ap (λ (x : List Stmt). threads ++ x ∷ []) (sym one.made));
+              one.names ∙ ap (λ ns. with_names ns (names_in grammar t)) read.names ∙ sym
+              (with_names-append before (names_of grammar read.syntaxes) (names_in grammar t))
+              ∙ ap (with_names before) (ap (λ ns. names_of grammar read.syntaxes ++ ns) (sym (append-nil (names_in grammar t))) ∙ sym
+              (names_of-append read.syntaxes (t ∷ [])));
+          made = sym (map-append (code_in grammar after) read.syntaxes (t ∷ []) ∙ ap (λ ss. ss ++ code_in grammar after t ∷ []) kept ∙ ap
+              (λ (x : List Stmt). threads ++ x ∷ []) (sym one.made));
         }
 
     -- where the column says nothing that fits, no list of threads does
-    pub threads_none : (columns rest : List (List (List (List ℕ)))) → columns ≡ front ++ column ∷ rest → ((t : List (CellSyntax Syntax)) → ColumnFits grammar mid column t → ⊥) → (ts : List (List (CellSyntax Syntax))) → ColumnsFit grammar before columns ts → ⊥
+    pub threads_none : (columns rest : List (List (List (List ℕ)))) → columns ≡ front ++ column ∷ rest
+        → ((t : List (CellSyntax Syntax)) → ColumnFits grammar mid column t → ⊥) → (ts : List (List (CellSyntax Syntax)))
+        → ColumnsFit grammar before columns ts → ⊥
     threads_none columns rest whole none ts (all, few) =
         let cut = zip_cut (Column grammar) front column rest ts (subst (λ cs. AllZip (Column grammar) cs ts) whole all) in
         let same : read.syntaxes ≡ cut.0 = zip_unique (Column grammar) (column_unique grammar lawful) front read.syntaxes cut.0 read.says cut.4 in
@@ -89,15 +108,18 @@ module _ {Syntax Stmt : Type 0} (grammar : Grammar Syntax Stmt) (lawful : IsGram
         none cut.1 (cut.5, omega (arith, ap length table, with_names-longer (with_names mid (names_in grammar cut.1)) (names_of grammar cut.2), few))
 
   -- what is told of a column holds in its columns
-  pub threads_tell : {A : Type 0} (columns front rest : List (List (Cell A))) (column : List (Cell A)) (before mid : List (List ℕ)) (threads : List (List Stmt)) → columns ≡ front ++ column ∷ rest → ColumnsRead grammar (all_texts front) before threads mid → (at : ℕ) (cause : CellCause) → TellsBy grammar mid (placed_row column ∷ []) at cause
+  pub threads_tell : {A : Type 0} (columns front rest : List (List (Cell A))) (column : List (Cell A)) (before mid : List (List ℕ))
+      (threads : List (List Stmt)) → columns ≡ front ++ column ∷ rest → ColumnsRead grammar (all_texts front) before threads mid
+      → (at : ℕ) (cause : CellCause) → TellsBy grammar mid (placed_row column ∷ []) at cause
       → TellsBy grammar before (placed_cells columns) at cause
   threads_tell columns front rest column before mid threads whole read at cause t =
       let parts = ap placed_cells whole ∙ map-append placed_row front (column ∷ rest) in
       let says = subst (λ (cs : List (List (List (List ℕ)))). AllZip (Column grammar) cs read.syntaxes) (sym (grid_placed front)) read.says in
-      column_tells grammar before mid (placed_cells columns) (placed_cells front) (placed_cells rest) (placed_row column) read.syntaxes parts says read.names at cause t
+      column_tells grammar before mid (placed_cells columns) (placed_cells front) (placed_cells rest)
+      (placed_row column) read.syntaxes parts says read.names at cause t
 
   -- what cells say is said by tokens
-  column_said : (cells : List (List (List ℕ))) (t : List (CellSyntax Syntax)) → AllZip (CellSays grammar) cells t → AllSaid grammar lawful (statements t)
+  pub column_said : (cells : List (List (List ℕ))) (t : List (CellSyntax Syntax)) → AllZip (CellSays grammar) cells t → AllSaid grammar lawful (statements t)
   column_said [] [] says = tt
   column_said [] (y ∷ t) says = absurd says
   column_said (c ∷ cells) [] says = absurd says
@@ -109,18 +131,25 @@ module _ {Syntax Stmt : Type 0} (grammar : Grammar Syntax Stmt) (lawful : IsGram
           let here : grammar.says says.0.0 s = subst (λ (p : Option Syntax). MaybeStatement grammar says.0.0 p) e says.0.2 in
           subst (λ (p : Option Syntax). AllSaid grammar lawful (cons_option p (statements t))) (sym e) ((says.0.0, here), further)
 
-  all_fit : (names : List (List ℕ)) (columns : List (List (List (List ℕ)))) (ts : List (List (CellSyntax Syntax))) → AllZip (Column grammar) columns ts → AllIn names ts → AllByRecursion (IsThread grammar.language (length names)) (map (code_in grammar names) ts)
+  all_fit : (names : List (List ℕ)) (columns : List (List (List (List ℕ)))) (ts : List (List (CellSyntax Syntax))) → AllZip (Column grammar) columns ts
+      → AllIn names ts → AllByRecursion (IsThread grammar.language (length names)) (map (code_in grammar names) ts)
   all_fit names [] [] says all = tt
   all_fit names [] (t ∷ ts) says all = absurd says
   all_fit names (c ∷ columns) [] says all = absurd says
-  all_fit names (c ∷ columns) (t ∷ ts) says all = (thread_fits grammar lawful names t (column_said c t says.0.says) all.0 says.0.few says.0.forward, all_fit names columns ts says.1 all.1)
+  all_fit names (c ∷ columns) (t ∷ ts) says all = (
+    thread_fits grammar lawful names t
+        (column_said c t says.0.says) all.0 says.0.few says.0.forward,
+    all_fit names columns ts says.1 all.1,
+  )
 
   -- What was read of all columns.
-  module _ (columns : List (List (List (List ℕ)))) (before after : List (List ℕ)) (threads : List (List Stmt)) (read : ColumnsRead grammar columns before threads after) where
+  module _ (columns : List (List (List (List ℕ)))) (before after : List (List ℕ)) (threads : List (List Stmt))
+      (read : ColumnsRead grammar columns before threads after) where
     threads_fit : All (IsThread grammar.language (length after)) threads
     threads_fit =
         let old : AllIn after read.syntaxes = subst (λ ns. AllIn ns read.syntaxes) (sym read.names) (all_in before read.syntaxes) in
-        let fit : AllByRecursion (IsThread grammar.language (length after)) threads = subst (λ ts. AllByRecursion (IsThread grammar.language (length after)) ts) (sym read.made) (all_fit after columns read.syntaxes read.says old) in
+        let fit : AllByRecursion (IsThread grammar.language (length after)) threads = subst
+        (λ ts. AllByRecursion (IsThread grammar.language (length after)) ts) (sym read.made) (all_fit after columns read.syntaxes read.says old) in
         All-from_recursion (IsThread grammar.language (length after)) threads fit
 
     as_many_threads : length threads ≡ length columns
@@ -146,7 +175,8 @@ module _ {Syntax Stmt : Type 0} (grammar : Grammar Syntax Stmt) (lawful : IsGram
 
   -- The test of a frame, of which a copy of the head was read on.
   module _ (frame_head head : TestHead) (same : head ≡ frame_head) (cells : List (List (List (List ℕ)))) where
-    pub test_found : (threads : List (List Stmt)) (names : List (List ℕ)) (words : List ℕ) → frame_head.arch ≡ grammar.language.arch → ColumnsRead grammar cells head.locs threads names → length names ≤ 8 → words ≡ head.init_words ++ replicate (length names - length head.locs) 0
+    pub test_found : (threads : List (List Stmt)) (names : List (List ℕ)) (words : List ℕ) → frame_head.arch ≡ grammar.language.arch
+        → ColumnsRead grammar cells head.locs threads names → length names ≤ 8 → words ≡ head.init_words ++ replicate (length names - length head.locs) 0
         → HasTest grammar (record { head = frame_head; cells = cells }) (record { head = changed head names words; threads = threads })
     test_found threads names words word read few filled =
         let test : Test Stmt = record { head = changed head names words; threads = threads } in
@@ -163,11 +193,18 @@ module _ {Syntax Stmt : Type 0} (grammar : Grammar Syntax Stmt) (lawful : IsGram
         } in
         subst (λ (h : TestHead). HasTest grammar (record { head = h; cells = cells }) test) same found
 
-    pub test_none : ((t : List (List (CellSyntax Syntax))) → ColumnsFit grammar head.locs cells t → ⊥) → (s : Test Stmt) → HasTest grammar (record { head = frame_head; cells = cells }) s → ⊥
-    test_none none s has = none has.threads (has.says, subst (λ (h : TestHead). length (with_names h.locs (names_of grammar has.threads)) ≤ 8) (sym same) has.few)
+    pub test_none : ((t : List (List (CellSyntax Syntax))) → ColumnsFit grammar head.locs cells t → ⊥) → (s : Test Stmt)
+        → HasTest grammar (record { head = frame_head; cells = cells }) s → ⊥
+    test_none none s has = none has.threads (
+      has.says,
+      subst (λ (h : TestHead). length (with_names h.locs (names_of grammar has.threads)) ≤ 8)
+          (sym same) has.few,
+    )
 
-    pub test_well_formed : (threads : List (List Stmt)) (names : List (List ℕ)) (words : List ℕ) → IsWellFormedHead frame_head → frame_head.arch ≡ grammar.language.arch → length cells ≡ frame_head.threads → ColumnsRead grammar cells head.locs threads names → IsTable names
-        → words ≡ head.init_words ++ replicate (length names - length head.locs) 0 → IsWellFormed grammar.language (record { head = changed head names words; threads = threads })
+    pub test_well_formed : (threads : List (List Stmt)) (names : List (List ℕ)) (words : List ℕ) → IsWellFormedHead frame_head
+        → frame_head.arch ≡ grammar.language.arch → length cells ≡ frame_head.threads → ColumnsRead grammar cells head.locs threads names → IsTable names
+        → words ≡ head.init_words ++ replicate (length names - length head.locs) 0
+        → IsWellFormed grammar.language (record { head = changed head names words; threads = threads })
     test_well_formed threads names words formed word columns read table filled =
         let grown : IsWellFormedHead (with_table head names) =
         with_table-well_formed head names (subst IsWellFormedHead (sym same) formed) table (table_grown cells head.locs names threads read) in

@@ -1,5 +1,4 @@
 -- What the crate's proofs offer to those of other crates.
 pub mod Zips
-pub mod TokenRows
-pub mod Causes
+pub mod Forms
 pub mod Tests

@@ -1,5 +1,5 @@
 -- Statements that are read and not yet resolved, and what of a thread's cells is in memory then.
-use Rattle.std.specs.Prelude.{◌≡◌, ◌≤◌, ◌+◌, ◌*◌, ℕ, suc, if◌then◌else◌, Option, Some, None, List, [], ◌∷◌, ◌++◌, length, map, slice_get}
+use Rattle.std.specs.Prelude.{◌≡◌, ◌≤◌, ◌+◌, ◌*◌, ℕ, if◌then◌else◌, Option, Some, None, List, [], ◌∷◌, ◌++◌, length, map}
 use Rattle.std.specs.List.{AllZip}
 use Rattle.std.specs.Option.{option_map}
 use Rattle.std.specs.Str.{bytes_eq}
@@ -7,13 +7,11 @@ use Rattle.std.specs.BTreeMap.{BTreeMap, get_by}
 use Rattle.std.specs.Cmp.Lexicographic.{slice_cmp}
 use Rattle.std.specs.Ordering.{nat_cmp}
 use denote.Ref.{Bor}
-use Rattle.lw_base.specs.Types.{Bytes, NameTable, TokenList}
+use Rattle.lw_base.specs.Types.{Bytes, NameTable}
 use Rattle.lw_base.specs.Lists.{EachOnce}
 use Rattle.lw_base.specs.Tables.{with_names}
 use Rattle.lw_text.specs.declared.cell.Cell.{Cell}
 use Rattle.lw_text.specs.Places.{cells_texts}
-use Rattle.lw_cells.specs.declared.draft.Draft.{Draft}
-use Rattle.lw_cells.specs.declared.draft.Draft.TheVariants.{Whole, Jumping}
 use Rattle.lw_cells.specs.declared.draft.DraftCell.{DraftCell}
 use Rattle.lw_cells.specs.Grammars.{Grammar}
 use Rattle.lw_cells.specs.Cells.{CellSyntax, CellSays, statements, labels_of, names_in, number_in}
@@ -52,37 +50,21 @@ leads_to (p ∷ ps) n = if bytes_eq p.0 n then Some p.1 else leads_to ps n
 abbrev pub LeadsAs : LabelMap → Targets → Type 0
 LeadsAs labels ps = (n : Bytes) → target_by labels n ≡ leads_to ps n
 
-module _ {Syntax Stmt Jump : Type 0} (grammar : Grammar Syntax Stmt) where
-  -- The tokens of a jump end with its label, at this index; and the jump becomes the statement, whatever its target.
-  pub record EndsWithLabel (jump_to : Jump → ℕ → Stmt) (ts : TokenList) (x : ℕ) (jump : Jump) (k : ℕ) (s : Syntax) : Type 0 where
-    pub label : Bytes
-    pub is : grammar.label_of s ≡ Some label
-    pub stands : slice_get ts k ≡ Some label
-    pub last : length ts ≡ suc k
-    pub becomes : (to : ℕ) → jump_to jump to ≡ grammar.made x to s
-
-  -- Drafts of statements on the location of a number: a whole statement has no label, and a jump ends with its label.
-  pub record AreDrafts (jump_to : Jump → ℕ → Stmt) (draft_of : ℕ → Syntax → Draft Stmt Jump) : Type 0 where
-    pub whole :
-        (x : ℕ) (s : Syntax) (stmt : Stmt) → draft_of x s ≡ Whole stmt
-        → (grammar.label_of s ≡ None) × (grammar.made x 0 s ≡ stmt)
-    pub jumping :
-        (ts : TokenList) (x : ℕ) (s : Syntax) (jump : Jump) (k : ℕ) → grammar.says ts s
-        → draft_of x s ≡ Jumping jump k → EndsWithLabel jump_to ts x jump k s
-
-  module _ (draft_of : ℕ → Syntax → Draft Stmt Jump) where
+module _ {Syntax Stmt : Type 0} (grammar : Grammar Syntax Stmt) where
+  -- drafts, which are made on the location of a number
+  module _ {D : Type 0} (draft_of : ℕ → Syntax → D) where
     -- the draft of a statement, on a table
-    abbrev pub draft_in : NameTable → Syntax → Draft Stmt Jump
+    abbrev pub draft_in : NameTable → Syntax → D
     draft_in names s = draft_of (number_in names (grammar.name_of s)) s
 
     -- the draft of a cell: each label has a `:` behind it
-    abbrev pub draft_cell : NameTable → CellSyntax Syntax → DraftCell Stmt Jump
+    abbrev pub draft_cell : NameTable → CellSyntax Syntax → DraftCell D
     draft_cell names syntax =
         record { start = 2 * length syntax.labels; stmt = option_map (draft_in names) syntax.stmt }
 
     -- The cells of a thread say this; their jumps are not looked at yet.
     pub record DraftRead
-        {A : Type 0} (cells : List (Cell A)) (before : NameTable) (drafts : List (DraftCell Stmt Jump)) (labels : LabelMap)
+        {A : Type 0} (cells : List (Cell A)) (before : NameTable) (drafts : List (DraftCell D)) (labels : LabelMap)
         (after : NameTable) : Type 0 where
       pub syntaxes : List (CellSyntax Syntax)
       pub says : AllZip (CellSays grammar) (cells_texts cells) syntaxes

@@ -10,7 +10,7 @@ use Rattle.lw_base.specs.Names.{IsLocation}
 use Rattle.lw_base.specs.Tables.{with_names}
 use Rattle.lw_text.specs.PlacedTokens.{PlacedToken, texts_of_tokens}
 use Rattle.lw_text.specs.PlacedCells.{PlacedCell, texts_of_cells, texts_of_grid}
-use Rattle.lw_cells.specs.Grammars.{Grammar}
+use Rattle.lw_cells.specs.Grammars.{Grammar, CanBegin, BeforeLocation}
 use Rattle.lw_cells.specs.Cells.{CellSyntax, Labels, CellSays, Column, statements, labels_of, target_in, names_in, names_of}
 
 -- A token that begins at a place, in a cell below others of its thread, which comes behind other threads.
@@ -80,11 +80,12 @@ module _ {Syntax Stmt : Type 0} (grammar : Grammar Syntax Stmt) where
     pub labels : List Bytes
     pub says : AllZip (CellSays grammar) (texts_of_cells p.above) syntaxes
     pub in_front : Labels (texts_of_tokens p.front) labels []
-    pub begins : grammar.can_begin p.token.text
+    pub begins : CanBegin grammar p.token.text
     pub no_label : BeginsWithColon (texts_of_tokens p.back) → ⊥
     pub full : length (statements syntaxes) ≡ grammar.language.most
 
-  -- The token is a location and no label, and is not among the eight locations of the table and of what stands before.
+  -- The token is a location and no label, and is not among the eight locations of the table and of what stands before. Only
+  -- where it stands first does a `:` behind it make it a label: in `r0 := y :` the first fault is the location y, not the `:`.
   pub record IsNinth
       {columns : List (List PlacedCell)} {at : ℕ} (names : NameTable) (p : Standing columns at) : Type 0 where
     pub threads : List (List (CellSyntax Syntax))
@@ -94,7 +95,7 @@ module _ {Syntax Stmt : Type 0} (grammar : Grammar Syntax Stmt) where
     pub before_says : AllZip (Column grammar) (texts_of_grid p.before) threads
     pub says : AllZip (CellSays grammar) (texts_of_cells p.above) syntaxes
     pub in_front : Labels (texts_of_tokens p.front) labels mid
-    pub at_location : grammar.before_location mid
+    pub at_location : BeforeLocation grammar mid
     pub no_label : mid ≡ [] → BeginsWithColon (texts_of_tokens p.back) → ⊥
     pub is_location : IsLocation p.token.text
     pub full : length (with_names names (names_of grammar threads ++ names_in grammar syntaxes)) ≡ most_locations

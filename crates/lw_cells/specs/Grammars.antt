@@ -1,8 +1,9 @@
 -- What the grammar of a language of litmus tests is: what the tokens of a statement say, and which statement that is.
 -- An x86 instruction is a statement of its language.
-use Rattle.std.specs.Prelude.{◌≡◌, ◌<◌, ◌^◌, ℕ, Option, Some, [], codes, slice_get, All}
+use Rattle.std.specs.Prelude.{◌≡◌, ◌<◌, ◌^◌, ℕ, Option, Some, [], ◌∷◌, ◌++◌, codes, slice_get, All}
 use Rattle.std.specs.Option.{option_map}
 use Rattle.lw_base.specs.WellFormed.{IsRegisterNumber, IsWord}
+use Rattle.lw_base.specs.Names.{IsLocation}
 use Rattle.lw_base.specs.Types.{Bytes, TokenList}
 use Rattle.lw_base.specs.declared.head.Arch.{Arch}
 use Rattle.lw_litmus.specs.Languages.{Language}
@@ -20,9 +21,6 @@ pub record Grammar (Syntax Stmt : Type 0) : Type 1 where
   pub label_of : Syntax → Option Bytes
   -- the statement, on the location of a number, with a target
   pub made : ℕ → ℕ → Syntax → Stmt
-  -- the tokens that a statement can begin with, and those behind which a location may stand
-  pub can_begin : Bytes → Type 0
-  pub before_location : TokenList → Type 0
 
 module _ {Syntax Stmt : Type 0} (grammar : Grammar Syntax Stmt) where
   abbrev pub arch_of : Arch
@@ -31,8 +29,13 @@ module _ {Syntax Stmt : Type 0} (grammar : Grammar Syntax Stmt) where
   abbrev pub most_of : ℕ
   most_of = grammar.language.most
 
+  -- Some statement begins with the token.
   abbrev pub CanBegin : Bytes → Type 0
-  CanBegin = grammar.can_begin
+  CanBegin t = (rest : TokenList) × (s : Syntax) × grammar.says (t ∷ rest) s
+
+  -- A location may stand behind the tokens: any is that of some statement which goes on so.
+  abbrev pub BeforeLocation : TokenList → Type 0
+  BeforeLocation ts = (x : Bytes) → IsLocation x → (rest : TokenList) × (s : Syntax) × grammar.says (ts ++ x ∷ rest) s × (grammar.name_of s ≡ Some x)
 
   -- What the rule of cells rests on.
   pub record IsGrammar : Type 0 where
@@ -47,5 +50,6 @@ module _ {Syntax Stmt : Type 0} (grammar : Grammar Syntax Stmt) where
     pub located : (x to : ℕ) (s : Syntax) → location_of (grammar.language.operation_of (grammar.made x to s)) ≡ option_map (λ n. x) (grammar.name_of s)
     pub led : (x to : ℕ) (s : Syntax) → target_of (grammar.language.operation_of (grammar.made x to s)) ≡ option_map (λ l. to) (grammar.label_of s)
     -- its registers are registers, and its numbers are words
-    pub registers : (ts : TokenList) (x to : ℕ) (s : Syntax) → grammar.says ts s → All IsRegisterNumber (registers_of (grammar.language.operation_of (grammar.made x to s)))
+    pub registers : (ts : TokenList) (x to : ℕ) (s : Syntax) → grammar.says ts s
+        → All IsRegisterNumber (registers_of (grammar.language.operation_of (grammar.made x to s)))
     pub numbers : (ts : TokenList) (x to : ℕ) (s : Syntax) → grammar.says ts s → All IsWord (numbers_of (grammar.language.operation_of (grammar.made x to s)))

@@ -2,6 +2,8 @@ pub mod Grammars
 pub mod Cells
 pub mod Faults
 pub mod Operands
+pub mod Spellings
 pub mod Words
+pub mod Found
 pub mod Drafts
 pub mod Reading

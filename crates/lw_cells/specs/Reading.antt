@@ -11,8 +11,7 @@ use Rattle.lw_base.specs.Lists.{EachOnce}
 use Rattle.lw_base.specs.Tables.{with_names}
 use Rattle.lw_text.specs.declared.token.Token.{Token}
 use Rattle.lw_text.specs.Spans.{texts}
-use Rattle.lw_cells.specs.declared.draft.Draft.{Draft}
-use Rattle.lw_cells.specs.Grammars.{Grammar}
+use Rattle.lw_cells.specs.Grammars.{Grammar, CanBegin, BeforeLocation}
 use Rattle.lw_cells.specs.Cells.{CellSyntax, MaybeStatement, Labels, Column, statements, LeadsForward, names_in, names_of, code_in}
 use Rattle.lw_cells.specs.Drafts.{LabelMap, Targets, target_by, first_names, leading, LeadsAs, draft_in}
 use Rattle.lw_cells.specs.Words.{IsNinthName}
@@ -97,7 +96,7 @@ module _ {Syntax Stmt : Type 0} (grammar : Grammar Syntax Stmt) where
     pub place : ℕ
     pub token : Token
     pub is : slice_get tokens place ≡ Some token
-    pub before : grammar.before_location (texts (take place tokens))
+    pub before : BeforeLocation grammar (texts (take place tokens))
     pub ninth : IsNinthName names token at
 
   -- why a statement is refused
@@ -129,7 +128,7 @@ module _ {Syntax Stmt : Type 0} (grammar : Grammar Syntax Stmt) where
 
   -- The token is the first, and can begin a statement.
   abbrev pub BeginsAt : List Token → ℕ → Type 0
-  BeginsAt tokens at = (t : Token) × (slice_get tokens 0 ≡ Some t) × (t.at ≡ at) × grammar.can_begin t.text.now
+  BeginsAt tokens at = (t : Token) × (slice_get tokens 0 ≡ Some t) × (t.at ≡ at) × CanBegin grammar t.text.now
 
   -- why what stands behind a cell's labels is refused, where so many statements stand above
   abbrev pub MaybeCause : ℕ → List Token → NameTable → ℕ → CellCause → Type 0
@@ -176,22 +175,22 @@ module _ {Syntax Stmt : Type 0} (grammar : Grammar Syntax Stmt) where
     pub made : threads ≡ map (code_in grammar after) syntaxes
 
 -- What is read on a table, drafted.
-module _ {Syntax Stmt Jump : Type 0} (grammar : Grammar Syntax Stmt) (draft_of : ℕ → Syntax → Draft Stmt Jump) where
+module _ {Syntax Stmt D : Type 0} (grammar : Grammar Syntax Stmt) (draft_of : ℕ → Syntax → D) where
   -- The tokens say a statement, which takes one table to another.
-  pub record StatementRead (ts : TokenList) (before : NameTable) (draft : Draft Stmt Jump) (after : NameTable) : Type 0 where
+  pub record StatementRead (ts : TokenList) (before : NameTable) (draft : D) (after : NameTable) : Type 0 where
     pub syntax : Syntax
     pub says : grammar.says ts syntax
     pub names : after ≡ with_names before (named_by grammar syntax)
     pub made : draft ≡ draft_in grammar draft_of after syntax
 
   -- The tokens say nothing, or a statement.
-  pub record MaybeRead (ts : TokenList) (before : NameTable) (draft : Option (Draft Stmt Jump)) (after : NameTable) : Type 0 where
+  pub record MaybeRead (ts : TokenList) (before : NameTable) (draft : Option D) (after : NameTable) : Type 0 where
     pub syntax : Option Syntax
     pub says : MaybeStatement grammar ts syntax
     pub names : after ≡ with_names before (names_in grammar (bare syntax ∷ []))
     pub made : draft ≡ option_map (draft_in grammar draft_of after) syntax
 
   -- The tokens say the statement, and this is its draft.
-  pub record IsDraft (names : NameTable) (ts : TokenList) (draft : Draft Stmt Jump) (s : Syntax) : Type 0 where
+  pub record IsDraft (names : NameTable) (ts : TokenList) (draft : D) (s : Syntax) : Type 0 where
     pub says : grammar.says ts s
     pub made : draft ≡ draft_in grammar draft_of names s

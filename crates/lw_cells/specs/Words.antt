@@ -1,13 +1,11 @@
 -- What one token of a cell is, and why it is refused.
-use Rattle.std.specs.Prelude.{◌≡◌, ◌≤◌, ℕ, Some, length, slice_get, All, Contains}
+use Rattle.std.specs.Prelude.{◌≡◌, ◌≤◌, ℕ, length, All, Contains}
 use Rattle.lw_base.specs.Limits.{most_locations}
-use Rattle.lw_base.specs.Types.{Bytes, NameTable, TokenList}
+use Rattle.lw_base.specs.Types.{Bytes, NameTable}
 use Rattle.lw_base.specs.declared.fault.CellFault.{CellFault}
 use Rattle.lw_base.specs.declared.fault.CellCause.{CellCause}
 use Rattle.lw_base.specs.declared.fault.CellCause.TheVariants.{Form, Register, LabelMissing, LabelTwice, Backward, TooMany, Memory}
-use Rattle.lw_base.specs.declared.head.Arch.{Arch}
 use Rattle.lw_base.specs.Names.{IsLocation}
-use Rattle.lw_base.specs.Registers.{IsRegister}
 use Rattle.lw_base.specs.Tables.{with_name}
 use Rattle.lw_text.specs.declared.token.Token.{Token}
 use Rattle.lw_cells.specs.declared.phrase.Phrase.{Phrase}
@@ -21,10 +19,6 @@ IsMisfit LabelTwice = ⊥
 IsMisfit Backward = ⊥
 IsMisfit TooMany = ⊥
 IsMisfit Memory = ⊥
-
--- The token of this index names the register.
-abbrev pub RegisterAt : Arch → TokenList → ℕ → ℕ → Type 0
-RegisterAt arch ts k r = (w : Bytes) × (slice_get ts k ≡ Some w) × IsRegister arch w r
 
 -- no token, and not the cell's end, lies past this place
 abbrev pub LiesWithin : ℕ → Phrase → Type 0

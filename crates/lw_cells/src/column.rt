@@ -6,16 +6,19 @@ ghost use Rattle.lw_base.specs.Refusals.{NotFound};
 ghost use Rattle.lw_base.specs.declared.fault.CellCause.TheVariants.{TooMany, Memory};
 ghost use Rattle.lw_text.specs.Places.{cells_texts, placed_row, IsWithin};
 ghost use Rattle.lw_text.specs.Spans.{texts};
-ghost use Rattle.lw_cells.specs.Grammars.{most_of, CanBegin, IsGrammar};
+ghost use Rattle.lw_cells.specs.Grammars.{most_of, CanBegin};
+ghost use Rattle.lw_cells.specs.Spellings.{grammar_of, Said};
+ghost use Rattle.lw_cells.specs.Found.{draft_of, IsSpelling};
 ghost use Rattle.lw_cells.specs.Cells.{CellSyntax, LeadsForward, code_in, resolved};
 ghost use Rattle.lw_cells.specs.Faults.{Tells};
 ghost use Rattle.lw_cells.specs.Words.{LiesWithin, IsMisfit};
-ghost use Rattle.lw_cells.specs.Drafts.{AreDrafts, DraftRead, LeadsAs, leading_in, target_by};
+ghost use Rattle.lw_cells.specs.Drafts.{DraftRead, LeadsAs, leading_in, target_by};
 ghost use Rattle.lw_cells.specs.Reading.{MaybeRead, MaybeFault, FitsBelow, AllForward, IsDraft, JumpCause, JumpFault, ColumnRead, ColumnFits};
 
-use crate::draft::{Draft, DraftCell};
+use crate::draft::{Draft, DraftCell, Operands};
 use crate::labels::read_labels;
 use crate::phrase::Phrase;
+use crate::spelled::{can_begin, read_statement};
 use crate::statement_reader::StatementReader;
 use crate::token::misfit;
 use lw_base::{CellCause, CellFault, LocNames, Sequence};
@@ -26,8 +29,8 @@ use std::collections::BTreeMap;
 /// What is read of a thread before its jumps are resolved: a draft of each cell, and its labels, each
 /// with the number of the statement that it leads to.
 #[derive(Drop)]
-struct DraftColumn<'a, S, J, A: Allocator = Global> {
-    cells: Sequence<DraftCell<S, J>, A>,
+struct DraftColumn<'a, F, A: Allocator = Global> {
+    cells: Sequence<DraftCell<Draft<F>>, A>,
     labels: BTreeMap<&'a str, usize, A>,
 }
 
@@ -38,11 +41,10 @@ pub(crate) fn read_column<L: StatementReader, A: Allocator + Copy>(
     cells: &[Cell<'_, A>],
     locs: &mut LocNames<A>,
 ) -> Result<Sequence<L::Stmt, A>, CellFault>
-    requires lawful { IsGrammar L.grammar }
-    requires drafted { AreDrafts L.grammar L.jump_to L.draft_of }
-    ensures found { IfOk result (λ stmts. ColumnRead L.grammar (cells_texts cells.now) locs.old stmts locs.new) }
-    ensures fault { IfErr result (λ f. NotFound Memory f.cause (ColumnFits L.grammar locs.old (cells_texts cells.now))) }
-    ensures cause { IfErr result (Tells L.grammar locs.old (placed_row cells.now ∷ [])) }
+    requires lawful { IsSpelling L.spelling L.made }
+    ensures found { IfOk result (λ stmts. ColumnRead (grammar_of L.spelling) (cells_texts cells.now) locs.old stmts locs.new) }
+    ensures fault { IfErr result (λ f. NotFound Memory f.cause (ColumnFits (grammar_of L.spelling) locs.old (cells_texts cells.now))) }
+    ensures cause { IfErr result (Tells (grammar_of L.spelling) locs.old (placed_row cells.now ∷ [])) }
     ensures place { (len : ℕ) → All (IsWithin len) cells.now → IfErr result (λ f. f.at ≤ len) }
 {
     let draft = read_drafts::<L, A>(alloc, cells, locs)?;
@@ -54,11 +56,11 @@ fn read_drafts<'a, L: StatementReader, A: Allocator + Copy>(
     alloc: A,
     cells: &[Cell<'a, A>],
     locs: &mut LocNames<A>,
-) -> Result<DraftColumn<'a, L::Stmt, L::Jump, A>, CellFault>
-    requires lawful { IsGrammar L.grammar }
-    ensures found { IfOk result (λ draft. DraftRead L.grammar L.draft_of cells.now locs.old draft.cells draft.labels locs.new) }
-    ensures fault { IfErr result (λ f. NotFound Memory f.cause (ColumnFits L.grammar locs.old (cells_texts cells.now))) }
-    ensures cause { IfErr result (Tells L.grammar locs.old (placed_row cells.now ∷ [])) }
+) -> Result<DraftColumn<'a, L::Form, A>, CellFault>
+    requires lawful { IsSpelling L.spelling L.made }
+    ensures found { IfOk result (λ draft. DraftRead (grammar_of L.spelling) (draft_of L.spelling) cells.now locs.old draft.cells draft.labels locs.new) }
+    ensures fault { IfErr result (λ f. NotFound Memory f.cause (ColumnFits (grammar_of L.spelling) locs.old (cells_texts cells.now))) }
+    ensures cause { IfErr result (Tells (grammar_of L.spelling) locs.old (placed_row cells.now ∷ [])) }
     ensures place { (len : ℕ) → All (IsWithin len) cells.now → IfErr result (λ f. f.at ≤ len) }
 {
     let mut drafts = Sequence::new(alloc);
@@ -78,7 +80,7 @@ fn read_drafts<'a, L: StatementReader, A: Allocator + Copy>(
 }
 
 /// How many statements it is.
-fn number_of<S, J>(stmt: &Option<Draft<S, J>>) -> usize
+fn number_of<F>(stmt: &Option<Draft<F>>) -> usize
     ensures { result ≡ option_len stmt.now }
 {
     match stmt {
@@ -92,11 +94,12 @@ fn maybe_statement<L: StatementReader, A: Allocator + Copy>(
     phrase: &Phrase<'_, '_>,
     above: usize,
     locs: &mut LocNames<A>,
-) -> Result<Option<Draft<L::Stmt, L::Jump>>, CellFault>
-    ensures found { IfOk result (λ stmt. MaybeRead L.grammar L.draft_of (texts phrase.now.tokens.now) locs.old stmt locs.new) }
-    ensures room { IfOk result (λ stmt. ForSome stmt (λ _. above ≢ most_of L.grammar)) }
-    ensures fault { IfErr result (λ f. NotFound Memory f.cause (FitsBelow L.grammar above locs.old (texts phrase.now.tokens.now))) }
-    ensures cause { IfErr result (MaybeFault L.grammar above phrase.now.tokens.now locs.old) }
+) -> Result<Option<Draft<L::Form>>, CellFault>
+    requires lawful { IsSpelling L.spelling L.made }
+    ensures found { IfOk result (λ stmt. MaybeRead (grammar_of L.spelling) (draft_of L.spelling) (texts phrase.now.tokens.now) locs.old stmt locs.new) }
+    ensures room { IfOk result (λ stmt. ForSome stmt (λ _. above ≢ most_of (grammar_of L.spelling))) }
+    ensures fault { IfErr result (λ f. NotFound Memory f.cause (FitsBelow (grammar_of L.spelling) above locs.old (texts phrase.now.tokens.now))) }
+    ensures cause { IfErr result (MaybeFault (grammar_of L.spelling) above phrase.now.tokens.now locs.old) }
     ensures place { (len : ℕ) → LiesWithin len phrase.now → IfErr result (λ f. f.at ≤ len) }
 {
     let Some(first) = phrase.tokens.first() else {
@@ -105,17 +108,17 @@ fn maybe_statement<L: StatementReader, A: Allocator + Copy>(
     if above == L::most() {
         return Err(surplus::<L>(first));
     }
-    Ok(Some(L::read(phrase, locs)?))
+    Ok(Some(read_statement::<L, A>(phrase, locs)?))
 }
 
 /// The fault of a statement that would be one too many: told at its first token, unless no statement
 /// begins with that one.
 fn surplus<L: StatementReader>(first: &Token<'_>) -> CellFault
     ensures place { result.at ≡ first.now.at }
-    ensures cause { (IsMisfit result.cause × (CanBegin L.grammar first.now.text.now → ⊥))
-        ⊎ ((result.cause ≡ TooMany) × CanBegin L.grammar first.now.text.now) }
+    ensures cause { (IsMisfit result.cause × (CanBegin (grammar_of L.spelling) first.now.text.now → ⊥))
+        ⊎ ((result.cause ≡ TooMany) × CanBegin (grammar_of L.spelling) first.now.text.now) }
 {
-    if L::can_begin(first) {
+    if can_begin::<L>(first) {
         return CellFault {
             at: first.at,
             cause: CellCause::TooMany,
@@ -128,16 +131,16 @@ fn surplus<L: StatementReader>(first: &Token<'_>) -> CellFault
 fn resolve<L: StatementReader, A: Allocator + Copy>(
     alloc: A,
     cells: &[Cell<'_, A>],
-    drafts: &[DraftCell<L::Stmt, L::Jump>],
+    drafts: &[DraftCell<Draft<L::Form>>],
     labels: &BTreeMap<&str, usize, A>,
 ) -> Result<Sequence<L::Stmt, A>, CellFault>
-    requires drafted { AreDrafts L.grammar L.jump_to L.draft_of }
-    requires read { (before after : NameTable) × DraftRead L.grammar L.draft_of cells.now before drafts.now labels.now after }
-    ensures found { (before after : NameTable) (read : DraftRead L.grammar L.draft_of cells.now before drafts.now labels.now after)
-        → IfOk result (λ code. (code ≡ code_in L.grammar after read.syntaxes) × AllForward L.grammar read.syntaxes) }
-    ensures fault { (before after : NameTable) (read : DraftRead L.grammar L.draft_of cells.now before drafts.now labels.now after)
-        → IfErr result (λ f. f.cause ≢ Memory → AllForward L.grammar read.syntaxes → ⊥) }
-    ensures cause { (names : NameTable) → IfErr result (Tells L.grammar names (placed_row cells.now ∷ [])) }
+    requires lawful { IsSpelling L.spelling L.made }
+    requires read { (before after : NameTable) × DraftRead (grammar_of L.spelling) (draft_of L.spelling) cells.now before drafts.now labels.now after }
+    ensures found { (before after : NameTable) (read : DraftRead (grammar_of L.spelling) (draft_of L.spelling) cells.now before drafts.now labels.now after)
+        → IfOk result (λ code. (code ≡ code_in (grammar_of L.spelling) after read.syntaxes) × AllForward (grammar_of L.spelling) read.syntaxes) }
+    ensures fault { (before after : NameTable) (read : DraftRead (grammar_of L.spelling) (draft_of L.spelling) cells.now before drafts.now labels.now after)
+        → IfErr result (λ f. f.cause ≢ Memory → AllForward (grammar_of L.spelling) read.syntaxes → ⊥) }
+    ensures cause { (names : NameTable) → IfErr result (Tells (grammar_of L.spelling) names (placed_row cells.now ∷ [])) }
     ensures place { (len : ℕ) → All (IsWithin len) cells.now → IfErr result (λ f. f.at ≤ len) }
 {
     let mut code = Sequence::new(alloc);
@@ -155,31 +158,34 @@ fn resolve<L: StatementReader, A: Allocator + Copy>(
 
 /// The statement of this number, resolved by the labels of its thread. The phrase is its own.
 fn resolve_one<L: StatementReader, A: Allocator>(
-    draft: Draft<L::Stmt, L::Jump>,
+    draft: Draft<L::Form>,
     phrase: &Phrase<'_, '_>,
     number: usize,
     labels: &BTreeMap<&str, usize, A>,
 ) -> Result<L::Stmt, CellFault>
-    requires drafted { AreDrafts L.grammar L.jump_to L.draft_of }
-    requires draft { (names : NameTable) × (s : L.Syntax)
-        × IsDraft L.grammar L.draft_of names (texts phrase.now.tokens.now) draft s }
-    ensures found { (names : NameTable) (s : L.Syntax) (syntaxes : List (CellSyntax L.Syntax))
-        → IsDraft L.grammar L.draft_of names (texts phrase.now.tokens.now) draft s → LeadsAs labels.now (leading_in 0 syntaxes)
-        → IfOk result (λ stmt. (stmt ≡ resolved L.grammar names syntaxes s) × LeadsForward L.grammar syntaxes number s) }
-    ensures fault { (names : NameTable) (s : L.Syntax) (syntaxes : List (CellSyntax L.Syntax))
-        → IsDraft L.grammar L.draft_of names (texts phrase.now.tokens.now) draft s → LeadsAs labels.now (leading_in 0 syntaxes)
-        → IfErr result (λ f. LeadsForward L.grammar syntaxes number s → ⊥) }
-    ensures cause { (names : NameTable) (s : L.Syntax) → IsDraft L.grammar L.draft_of names (texts phrase.now.tokens.now) draft s
-        → IfErr result (JumpFault L.grammar labels.now number phrase.now.tokens.now s) }
+    requires lawful { IsSpelling L.spelling L.made }
+    requires draft { (names : NameTable) × (s : (Said L.spelling))
+        × IsDraft (grammar_of L.spelling) (draft_of L.spelling) names (texts phrase.now.tokens.now) draft s }
+    ensures found { (names : NameTable) (s : (Said L.spelling)) (syntaxes : List (CellSyntax (Said L.spelling)))
+        → IsDraft (grammar_of L.spelling) (draft_of L.spelling) names (texts phrase.now.tokens.now) draft s → LeadsAs labels.now (leading_in 0 syntaxes)
+        → IfOk result (λ stmt. (stmt ≡ resolved (grammar_of L.spelling) names syntaxes s) × LeadsForward (grammar_of L.spelling) syntaxes number s) }
+    ensures fault { (names : NameTable) (s : (Said L.spelling)) (syntaxes : List (CellSyntax (Said L.spelling)))
+        → IsDraft (grammar_of L.spelling) (draft_of L.spelling) names (texts phrase.now.tokens.now) draft s → LeadsAs labels.now (leading_in 0 syntaxes)
+        → IfErr result (λ f. LeadsForward (grammar_of L.spelling) syntaxes number s → ⊥) }
+    ensures cause { (names : NameTable) (s : Said L.spelling)
+        → IsDraft (grammar_of L.spelling) (draft_of L.spelling) names (texts phrase.now.tokens.now) draft s
+        → IfErr result (JumpFault (grammar_of L.spelling) labels.now number phrase.now.tokens.now s) }
     ensures place { (len : ℕ) → LiesWithin len phrase.now → IfErr result (λ f. f.at ≤ len) }
 {
-    match draft {
-        Draft::Whole(stmt) => Ok(stmt),
-        Draft::Jumping(jump, label) => {
-            let to = target(&phrase.tokens[label], number, labels)?;
-            Ok(L::jump(jump, to))
-        }
-    }
+    let to = match draft.label {
+        Some(index) => Some(target(&phrase.tokens[index], number, labels)?),
+        None => None,
+    };
+    let operands = Operands {
+        to,
+        ..draft.operands
+    };
+    Ok(L::statement(draft.form, &operands).unwrap())
 }
 
 /// The number of the statement that the label leads to, from the statement of this number.

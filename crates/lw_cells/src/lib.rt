@@ -1,8 +1,8 @@
 //! The cells of a test, in either language: a thread's labels, its statements, and its jumps.
 //!
-//! A language says how one statement is read, by the trait `StatementReader`; the rule of labels, of the
-//! table of locations that grows while cells are read, and of jumps stands here once. It names lw_base,
-//! of lw_litmus what a test is, and of lw_text the frame. What is read is said by docs/FORMAT.md. The
+//! A language says how its statements are spelled, by the trait `StatementReader`: in forms, each with a slot for each token.
+//! One reader reads them; the rule of labels, of the table of locations that grows while cells are read, and of jumps stands here
+//! once. It names lw_base, of lw_litmus what a test is, and of lw_text the frame. What is read is said by docs/FORMAT.md. The
 //! promise that the languages use: `read_test` answers a frame's test exactly where the frame has one.
 #![tactic(auto)]
 
@@ -12,12 +12,13 @@ mod labels;
 mod parts;
 mod phrase;
 mod read;
+mod slot;
+mod spelled;
 mod statement_reader;
 mod token;
 
-pub use draft::Draft;
+pub use draft::Operands;
 pub use parts::Parts;
-pub use phrase::Phrase;
 pub use read::read_test;
+pub use slot::Slot;
 pub use statement_reader::StatementReader;
-pub use token::{label, location, misfit, operand, register, word};

@@ -5,11 +5,12 @@ ghost use Rattle.lw_base.specs.declared.fault.CellCause.TheVariants.{Memory};
 ghost use Rattle.lw_base.specs.Names.{IsTable};
 ghost use Rattle.lw_text.specs.Places.{all_texts, placed_cells, IsWithin};
 ghost use Rattle.lw_text.specs.Views.{frame_of};
-ghost use Rattle.lw_cells.specs.Grammars.{IsGrammar, arch_of};
+ghost use Rattle.lw_cells.specs.Grammars.{arch_of};
 ghost use Rattle.lw_litmus.specs.Tests.{test_of};
 ghost use Rattle.lw_litmus.specs.WellFormed.{IsWellFormed};
 ghost use Rattle.lw_cells.specs.Cells.{HasTest};
-ghost use Rattle.lw_cells.specs.Drafts.{AreDrafts};
+ghost use Rattle.lw_cells.specs.Found.{IsSpelling};
+ghost use Rattle.lw_cells.specs.Spellings.{grammar_of};
 ghost use Rattle.lw_cells.specs.Faults.{Tells};
 ghost use Rattle.lw_cells.specs.Reading.{ColumnsRead, ColumnsFit};
 
@@ -27,17 +28,16 @@ pub fn read_test<L: StatementReader, A: Allocator + Copy>(
     alloc: A,
     frame: &Frame<'_, A>,
 ) -> Result<Parts<L::Stmt, A>, CellFault>
-    requires arch { frame.now.head.arch ≡ arch_of L.grammar }
-    requires lawful { IsGrammar L.grammar }
-    requires drafted { AreDrafts L.grammar L.jump_to L.draft_of }
+    requires arch { frame.now.head.arch ≡ arch_of (grammar_of L.spelling) }
+    requires lawful { IsSpelling L.spelling L.made }
     // What is answered is the frame's test, and where it is refused it has none, unless memory ran out.
-    ensures found { IfOk result (λ parts. HasTest L.grammar (frame_of frame.now) (test_of parts.head parts.threads)) }
-    ensures well_formed { IfOk result (λ parts. IsWellFormed L.grammar.language (test_of parts.head parts.threads)) }
-    ensures fault { IfErr result (λ f. NotFound Memory f.cause (HasTest L.grammar (frame_of frame.now))) }
+    ensures found { IfOk result (λ parts. HasTest (grammar_of L.spelling) (frame_of frame.now) (test_of parts.head parts.threads)) }
+    ensures well_formed { IfOk result (λ parts. IsWellFormed (grammar_of L.spelling).language (test_of parts.head parts.threads)) }
+    ensures fault { IfErr result (λ f. NotFound Memory f.cause (HasTest (grammar_of L.spelling) (frame_of frame.now))) }
     ensures place { IfErr result (λ f. f.at ≤ frame.now.len) }
     ensures memory { IfErr result (λ f. f.cause ≡ Memory → f.at ≡ 0) }
     // What the cause says of the place is so.
-    ensures cause { IfErr result (Tells L.grammar frame.now.head.locs (placed_cells frame.now.cells)) }
+    ensures cause { IfErr result (Tells (grammar_of L.spelling) frame.now.head.locs (placed_cells frame.now.cells)) }
 {
     let mut head = frame.head().copy()?;
     let columns = frame.cells.as_slice();
@@ -53,13 +53,12 @@ fn read_threads<L: StatementReader, A: Allocator + Copy>(
     locs: &mut LocNames<A>,
     words: &mut Sequence<Word, A>,
 ) -> Result<Sequence<Sequence<L::Stmt, A>, A>, CellFault>
-    requires lawful { IsGrammar L.grammar }
-    requires drafted { AreDrafts L.grammar L.jump_to L.draft_of }
-    ensures found { IfOk result (λ threads. ColumnsRead L.grammar (all_texts columns.now) locs.old threads locs.new) }
+    requires lawful { IsSpelling L.spelling L.made }
+    ensures found { IfOk result (λ threads. ColumnsRead (grammar_of L.spelling) (all_texts columns.now) locs.old threads locs.new) }
     ensures table { OnOk result (IsTable locs.new) }
     ensures words { OnOk result (words.new ≡ words.old ++ replicate (length locs.new - length words.old) 0) }
-    ensures fault { IfErr result (λ f. NotFound Memory f.cause (ColumnsFit L.grammar locs.old (all_texts columns.now))) }
-    ensures cause { IfErr result (Tells L.grammar locs.old (placed_cells columns.now)) }
+    ensures fault { IfErr result (λ f. NotFound Memory f.cause (ColumnsFit (grammar_of L.spelling) locs.old (all_texts columns.now))) }
+    ensures cause { IfErr result (Tells (grammar_of L.spelling) locs.old (placed_cells columns.now)) }
     ensures place { (len : ℕ) → All (λ column. All (IsWithin len) column) columns.now → IfErr result (λ f. f.at ≤ len) }
 {
     let threads = read_columns::<L, A>(alloc, columns, locs)?;
@@ -74,11 +73,10 @@ fn read_columns<L: StatementReader, A: Allocator + Copy>(
     columns: &[Sequence<Cell<'_, A>, A>],
     locs: &mut LocNames<A>,
 ) -> Result<Sequence<Sequence<L::Stmt, A>, A>, CellFault>
-    requires lawful { IsGrammar L.grammar }
-    requires drafted { AreDrafts L.grammar L.jump_to L.draft_of }
-    ensures found { IfOk result (λ threads. ColumnsRead L.grammar (all_texts columns.now) locs.old threads locs.new) }
-    ensures fault { IfErr result (λ f. NotFound Memory f.cause (ColumnsFit L.grammar locs.old (all_texts columns.now))) }
-    ensures cause { IfErr result (Tells L.grammar locs.old (placed_cells columns.now)) }
+    requires lawful { IsSpelling L.spelling L.made }
+    ensures found { IfOk result (λ threads. ColumnsRead (grammar_of L.spelling) (all_texts columns.now) locs.old threads locs.new) }
+    ensures fault { IfErr result (λ f. NotFound Memory f.cause (ColumnsFit (grammar_of L.spelling) locs.old (all_texts columns.now))) }
+    ensures cause { IfErr result (Tells (grammar_of L.spelling) locs.old (placed_cells columns.now)) }
     ensures place { (len : ℕ) → All (λ column. All (IsWithin len) column) columns.now → IfErr result (λ f. f.at ≤ len) }
 {
     let mut threads = Sequence::new(alloc);

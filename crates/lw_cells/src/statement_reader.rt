@@ -1,59 +1,50 @@
 //! What a language gives to the rule of cells.
-ghost use Rattle.std.specs.Prelude.{◌≡◌, ◌↔◌, ℕ, ◌≤◌, IsTrue, IfOk, IfErr};
-ghost use Rattle.lw_base.specs.Refusals.{NotFound};
-ghost use Rattle.lw_base.specs.declared.fault.CellCause.TheVariants.{Memory};
-ghost use Rattle.lw_text.specs.Spans.{texts};
-ghost use Rattle.lw_cells.specs.declared.draft.Draft.{Draft};
-ghost use Rattle.lw_cells.specs.Grammars.{Grammar, most_of, CanBegin};
-ghost use Rattle.lw_cells.specs.Words.{LiesWithin};
-ghost use Rattle.lw_cells.specs.Reading.{StatementRead, Fits, StatementFault};
+ghost use Rattle.std.specs.Prelude.{◌≡◌, Option, Contains};
+ghost use Rattle.lw_cells.specs.declared.draft.Operands.{Operands};
+ghost use Rattle.lw_cells.specs.Spellings.{Spelling};
 
-use crate::draft::Draft;
-use crate::phrase::Phrase;
-use lw_base::{CellFault, LocNames};
-use lw_text::Token;
-use std::alloc::Allocator;
+use crate::draft::Operands;
+use crate::slot::Slot;
+use lw_base::Arch;
 
 /// A language whose statements can be read.
 pub trait StatementReader {
-    /// A statement of the language.
+    /// A word or a sign of the language.
+    type Word: Copy + Drop + 'static;
+
+    /// A form of its statements.
+    type Form: Copy + Drop + 'static;
+
+    /// A statement.
     type Stmt: Copy + Drop;
 
-    /// A jump, without the statement that it leads to.
-    type Jump: Copy;
+    /// How its statements are spelled.
+    ghost spelling: { Spelling Self.Word Self.Form Self.Stmt };
 
-    /// What the tokens of a statement say.
-    ghost Syntax: { Type 0 };
+    /// The statement of a form with these operands.
+    ghost made: { Self.Form → Operands → Option Self.Stmt };
 
-    /// The grammar of the language.
-    ghost grammar: { Grammar Syntax Self.Stmt };
-
-    /// The jump to the statement of a number.
-    ghost jump_to: { Self.Jump → ℕ → Self.Stmt };
-
-    /// The draft of what is said, on the location of a number.
-    ghost draft_of: { ℕ → Syntax → Draft Self.Stmt Self.Jump };
+    /// The language.
+    fn arch() -> Arch
+        ensures { result ≡ spelling.language.arch };
 
     /// How many statements a thread may have.
     fn most() -> usize
-        ensures { result ≡ most_of grammar };
+        ensures { result ≡ spelling.language.most };
 
-    /// Whether a statement can begin with the token.
-    fn can_begin(token: &Token<'_>) -> bool
-        ensures { IsTrue result ↔ CanBegin grammar token.now.text.now };
+    /// The text of a word or a sign.
+    fn text(word: Self::Word) -> &'static str
+        ensures { result.now ≡ spelling.text_of word };
 
-    /// Reads a statement that is not empty. The name of its location goes into the table.
-    fn read<A: Allocator + Copy>(
-        phrase: &Phrase<'_, '_>,
-        locs: &mut LocNames<A>,
-    ) -> Result<Draft<Self::Stmt, Self::Jump>, CellFault>
-        ensures found { IfOk result (λ draft.
-            StatementRead grammar draft_of (texts phrase.now.tokens.now) locs.old draft locs.new) }
-        ensures fault { IfErr result (λ f. NotFound Memory f.cause (Fits grammar locs.old (texts phrase.now.tokens.now))) }
-        ensures cause { IfErr result (StatementFault grammar phrase.now.tokens.now locs.old) }
-        ensures place { (len : ℕ) → LiesWithin len phrase.now → IfErr result (λ f. f.at ≤ len) };
+    /// All forms.
+    fn forms() -> &'static [Self::Form]
+        ensures { result.now ≡ spelling.forms };
 
-    /// The jump to the statement of this number.
-    fn jump(jump: Self::Jump, to: usize) -> Self::Stmt
-        ensures { result ≡ jump_to jump to };
+    /// A slot for each token of a form.
+    fn slots(form: Self::Form) -> &'static [Slot<Self::Word>]
+        ensures { result.now ≡ spelling.slots_of form };
+
+    /// The statement of a form with these operands, which are those that it has slots for.
+    fn statement(form: Self::Form, operands: &Operands) -> Option<Self::Stmt>
+        ensures { result ≡ made form operands.now };
 }

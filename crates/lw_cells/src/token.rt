@@ -1,24 +1,19 @@
-//! What one token of a cell is: a register, a number, a location or a label.
+//! What one token of a cell is, a location or a label, and why it is refused.
 ghost use Rattle.lw_base.specs.declared.fault.CellCause.TheVariants.{Memory};
 ghost use Rattle.std.specs.Prelude.{◌≡◌, ◌≢◌, ◌↔◌, ℕ, ◌≤◌, Some, slice_get, IsTrue, IfOk, IfErr, OnOk, OnErr};
 ghost use Rattle.lw_text.specs.Spans.{texts};
-ghost use Rattle.lw_base.specs.declared.operand.Operand.{Operand};
 ghost use Rattle.lw_base.specs.Names.{IsLocation};
-ghost use Rattle.lw_base.specs.Registers.{IsRegister};
 ghost use Rattle.lw_base.specs.Tables.{with_name, index_of};
-ghost use Rattle.lw_text.specs.Tokens.{IsNumber};
-ghost use Rattle.lw_cells.specs.Operands.{IsOperand};
 ghost use Rattle.lw_cells.specs.Words.{IsMisfit, FitsTable, NameFault};
 
 use lw_base::{
-    Arch, CellCause, CellFault, Loc, LocNames, Operand, Reg, Word, is_location, is_name,
-    is_numbered, reg_named,
+    Arch, CellCause, CellFault, Loc, LocNames, is_location, is_name, is_numbered, reg_named,
 };
-use lw_text::{Token, number};
+use lw_text::Token;
 use std::alloc::Allocator;
 
 /// The number of the location that the token names, in the table with it.
-pub fn location<A: Allocator + Copy>(
+pub(crate) fn location<A: Allocator + Copy>(
     token: &Token<'_>,
     locs: &mut LocNames<A>,
 ) -> Result<Loc, CellFault>
@@ -43,7 +38,7 @@ pub fn location<A: Allocator + Copy>(
 }
 
 /// The token can be a label.
-pub fn label(token: &Token<'_>) -> Result<(), CellFault>
+pub(crate) fn label(token: &Token<'_>) -> Result<(), CellFault>
     ensures ok { OnOk result (IsLocation token.now.text.now) }
     ensures err { OnErr result (IsLocation token.now.text.now → ⊥) }
     ensures cause { IfErr result (λ f. IsMisfit f.cause) }
@@ -55,50 +50,8 @@ pub fn label(token: &Token<'_>) -> Result<(), CellFault>
     Err(misfit(token))
 }
 
-/// The register that the token is, where nothing else may stand.
-pub fn register(arch: Arch, token: &Token<'_>) -> Result<Reg, CellFault>
-    ensures ok { IfOk result (λ r. IsRegister arch token.now.text.now r) }
-    ensures err { OnErr result ((r : ℕ) → IsRegister arch token.now.text.now r → ⊥) }
-    ensures cause { IfErr result (λ f. IsMisfit f.cause) }
-    ensures place { (len : ℕ) → token.now.at ≤ len → IfErr result (λ f. f.at ≤ len) }
-{
-    match reg_named(arch, token.text) {
-        Some(reg) => Ok(reg),
-        None => Err(no_register(token)),
-    }
-}
-
-/// The register or the number that the token is.
-pub fn operand(arch: Arch, token: &Token<'_>) -> Result<Operand, CellFault>
-    ensures ok { IfOk result (λ v. IsOperand arch token.now.text.now v) }
-    ensures err { OnErr result ((v : Operand) → IsOperand arch token.now.text.now v → ⊥) }
-    ensures cause { IfErr result (λ f. IsMisfit f.cause) }
-    ensures place { (len : ℕ) → token.now.at ≤ len → IfErr result (λ f. f.at ≤ len) }
-{
-    if let Some(reg) = reg_named(arch, token.text) {
-        return Ok(Operand::Register(reg));
-    }
-    match number(token.text) {
-        Some(word) => Ok(Operand::Number(word)),
-        None => Err(no_register(token)),
-    }
-}
-
-/// The number that the token is.
-pub fn word(token: &Token<'_>) -> Result<Word, CellFault>
-    ensures ok { IfOk result (λ n. IsNumber token.now.text.now n) }
-    ensures err { OnErr result ((n : ℕ) → IsNumber token.now.text.now n → ⊥) }
-    ensures cause { IfErr result (λ f. IsMisfit f.cause) }
-    ensures place { (len : ℕ) → token.now.at ≤ len → IfErr result (λ f. f.at ≤ len) }
-{
-    match number(token.text) {
-        Some(word) => Ok(word),
-        None => Err(misfit(token)),
-    }
-}
-
 /// The fault of a token that fits nothing there.
-pub fn misfit(token: &Token<'_>) -> CellFault
+pub(crate) fn misfit(token: &Token<'_>) -> CellFault
     ensures place { result.at ≡ token.now.at }
     ensures cause { IsMisfit result.cause }
 {
@@ -115,7 +68,7 @@ pub fn misfit(token: &Token<'_>) -> CellFault
 }
 
 /// The fault of a token where a register may stand, and no location may.
-fn no_register(token: &Token<'_>) -> CellFault
+pub(crate) fn no_register(token: &Token<'_>) -> CellFault
     ensures place { result.at ≡ token.now.at }
     ensures cause { IsMisfit result.cause }
 {

@@ -1,3 +1,2 @@
-pub mod Phrases
-pub mod OneReading
+pub mod api
 pub mod SourceLaws

@@ -1,2 +1,2 @@
--- What only the reader of statements speaks of: no public call cites it.
-pub mod Drafts
+-- What serves the reader of this crate; no public call speaks of it.
+pub mod Operands

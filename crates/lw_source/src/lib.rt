@@ -5,9 +5,8 @@
 //! the crates above use: a `Source` that is read is the test of its frame.
 #![tactic(auto)]
 
-mod jump;
+mod language;
 mod read;
-mod statement;
 
 pub use lw_interleaving::{
     SourceRun, Thread, a_step_follows_the_flow, a_step_moves_one_thread, steps_can_be_exchanged,

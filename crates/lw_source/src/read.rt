@@ -11,7 +11,7 @@ ghost use Rattle.lw_litmus.specs.Tests.{SourceTest};
 ghost use Rattle.lw_litmus.specs.Views.{source_of};
 ghost use Rattle.lw_source.specs.Grammar.{HasSource, source_grammar};
 
-use crate::statement::SourceLanguage;
+use crate::language::SourceLanguage;
 use lw_base::CellFault;
 use lw_cells::read_test;
 use lw_litmus::Source;

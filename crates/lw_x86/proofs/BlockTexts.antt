@@ -32,5 +32,6 @@ locations_are head len = flat_map-map (entry_text head) (λ x. Location x) (rang
 pub thread_is : (head : TestHead) (t : ℕ) → thread_entries head t ≡ flat_map (entry_of head t) (range_with_len 0 6)
 thread_is head t = flat_map-map (register_entry head) (λ r. Register t r) (range_with_len 0 6)
 
-pub registers_are : (head : TestHead) (threads : ℕ) → flat_map (register_entry head) (all_registers threads) ≡ flat_map (thread_entries head) (range_with_len 0 threads)
+pub registers_are : (head : TestHead) (threads : ℕ) → flat_map (register_entry head) (all_registers threads) ≡ flat_map (thread_entries head)
+    (range_with_len 0 threads)
 registers_are head threads = flat_map-flat_map (register_entry head) registers_of (range_with_len 0 threads)

@@ -1,5 +1,6 @@
 -- The cells of a thread, one by one.
-use Rattle.std.proofs.Common.{◌≡◌, ℕ, zero, suc, ◌+◌, ◌-◌, ◌<◌, ◌≤◌, max, Bool, true, false, List, [], ◌∷◌, ◌++◌, length, map, take, drop, get_or, fold, append_assoc, refl, sym, ap, ◌∙◌, subst, arith, eqb, ltb, ltb-true, ltb-false}
+use Rattle.std.proofs.Common.{◌≡◌, ℕ, zero, suc, ◌+◌, ◌-◌, ◌<◌, ◌≤◌, max, Bool, true, false, List, [], ◌∷◌, ◌++◌, length, map, take, drop, get_or, fold}
+use Rattle.std.proofs.Common.{append_assoc, refl, sym, ap, ◌∙◌, subst, arith, eqb, ltb, ltb-true, ltb-false}
 use Rattle.std.specs.Prelude.{Some, slice_get, slice_index_or, codes, All}
 use Rattle.std.proofs.lemmas.List.Elements.{All-head, All-tail}
 use Rattle.std.specs.List.{flat_map}
@@ -17,7 +18,8 @@ use Rattle.lw_x86.specs.CanonicalTexts.{is_target, cell_text, end_cells, cells_f
 
 module _ (names : NameTable) (code : List Instr) where
   -- that of an instruction
-  pub cells-at : (k : ℕ) (rest : List Instr) (j : ℕ) (i : Instr) → slice_get rest j ≡ Some i → slice_index_or (cells_from names code k rest) j [] ≡ cell_text names code (k + j) i
+  pub cells-at : (k : ℕ) (rest : List Instr) (j : ℕ) (i : Instr) → slice_get rest j ≡ Some i
+      → slice_index_or (cells_from names code k rest) j [] ≡ cell_text names code (k + j) i
   cells-at k [] j i at = absurd cc
   cells-at k (r ∷ rest) zero i at =
       let same : r ≡ i = cc in
@@ -28,7 +30,8 @@ module _ (names : NameTable) (code : List Instr) where
       cells-at (suc k) rest j i at ∙ ap (λ (n : ℕ). cell_text names code n i) here
 
   -- those behind the last instruction
-  pub cells-behind : (k : ℕ) (rest : List Instr) (j : ℕ) → length rest ≤ j → slice_index_or (cells_from names code k rest) j [] ≡ slice_index_or (end_cells code (k + length rest)) (j - length rest) []
+  pub cells-behind : (k : ℕ) (rest : List Instr) (j : ℕ) → length rest ≤ j
+      → slice_index_or (cells_from names code k rest) j [] ≡ slice_index_or (end_cells code (k + length rest)) (j - length rest) []
   cells-behind k [] j le =
       let here : k ≡ k + 0 = omega arith in
       let first : j ≡ j - 0 = omega arith in
@@ -77,7 +80,8 @@ module _ (names : NameTable) (code : List Instr) (row : ℕ) where
   cell-past lt = behind (omega arith) ∙ get_or_past (end_cells code (length code)) (row - length code) [] (omega (arith, end_few names code (length code)))
 
 -- an instruction's location is one of so many
-pub located : (locs : ℕ) (code : List Instr) (row : ℕ) (i : Instr) → IsThread x86 locs code → row < length code → i ≡ slice_index_or code row i → ForSome (location_of (operation_of i)) (λ x. x < locs)
+pub located : (locs : ℕ) (code : List Instr) (row : ℕ) (i : Instr) → IsThread x86 locs code → row < length code → i ≡ slice_index_or code row i
+    → ForSome (location_of (operation_of i)) (λ x. x < locs)
 located locs code row i thread lt is =
     subst (λ s. ForSome (location_of (operation_of s)) (λ x. x < locs)) (sym is) (thread.there row i lt).0
 
@@ -97,31 +101,41 @@ greater_is a b = go (ltb b a) (eqb b a) refl refl
     go false false e f = rw (e, f) (let le : a ≤ b = ltb-false b a e in omega arith)
 
 -- the longest of one more thread
-pub longest_more : {X : Type 0} (f : X → List Bytes) (threads : List X) (k : ℕ) (code : X) (height count new : ℕ) → k < length threads → code ≡ get_or threads k code → height ≡ longest (map f (take k threads)) → count ≡ length (f code) → new ≡ ord_max nat_cmp height count → new ≡ longest (map f (take (k + 1) threads))
+pub longest_more : {X : Type 0} (f : X → List Bytes) (threads : List X) (k : ℕ) (code : X) (height count new : ℕ) → k < length threads
+    → code ≡ get_or threads k code → height ≡ longest (map f (take k threads)) → count ≡ length (f code) → new ≡ ord_max nat_cmp height count
+    → new ≡ longest (map f (take (k + 1) threads))
 longest_more f threads k code height count new lt is before counted taken =
-    let all : map length (map f (take (k + 1) threads)) ≡ map length (map f (take k threads)) ++ length (f code) ∷ [] = ap (λ l. map length (map f l)) (take_more threads k code lt ∙ ap (λ c. take k threads ++ c ∷ []) (sym is)) ∙ ap (map length) (map-append f (take k threads) (code ∷ [])) ∙ map-append length (map f (take k threads)) (f code ∷ []) in
+    let all : map length (map f (take (k + 1) threads)) ≡ map length (map f (take k threads)) ++ length (f code) ∷ [] = ap (λ l. map length (map f l))
+    (take_more threads k code lt ∙ ap (λ c. take k threads ++ c ∷ []) (sym is)) ∙ ap (map length) (map-append f (take k threads) (code ∷ []))
+    ∙ map-append length (map f (take k threads)) (f code ∷ []) in
     taken ∙ greater_is height count
-    ∙ sym (ap (fold max 0) all ∙ fold-append max 0 (map length (map f (take k threads))) (length (f code) ∷ []) ∙ ap (λ (n : ℕ). max n (length (f code))) (sym before) ∙ ap (max height) (sym counted))
+    ∙ sym (ap (fold max 0) all ∙ fold-append max 0 (map length (map f (take k threads))) (length (f code) ∷ []) ∙ ap
+    (λ (n : ℕ). max n (length (f code))) (sym before) ∙ ap (max height) (sym counted))
 
 -- a thread's cell in a row, with what stands between it and the one before
 abbrev pub next_cell : NameTable → ℕ → List Instr → Bytes
 next_cell names row code = codes " | " ++ slice_index_or (cells_of names code) row []
 
 -- the cells behind the first
-pub cells_in_row : (names : NameTable) (row : ℕ) (threads : List (List Instr)) → flat_map (λ next. codes " | " ++ next) (row_of (map (cells_of names) threads) row) ≡ flat_map (next_cell names row) threads
+pub cells_in_row : (names : NameTable) (row : ℕ) (threads : List (List Instr))
+    → flat_map (λ next. codes " | " ++ next) (row_of (map (cells_of names) threads) row) ≡ flat_map (next_cell names row) threads
 cells_in_row names row [] = refl
 cells_in_row names row (code ∷ threads) = ap (λ t. next_cell names row code ++ t) (cells_in_row names row threads)
 
 -- threads behind the first
-module _ (locs : ℕ) (threads : List (List Instr)) (first : List Instr) (others : List (List Instr)) (all : All (IsThread x86 locs) threads) (are : threads ≡ first ∷ others) where
+module _ (locs : ℕ) (threads : List (List Instr)) (first : List Instr) (others : List (List Instr)) (all : All (IsThread x86 locs) threads)
+    (are : threads ≡ first ∷ others) where
   pub first_thread : IsThread x86 locs first
   first_thread = All-head (IsThread x86 locs) first others (subst (All (IsThread x86 locs)) are all)
 
   pub further_thread : (k : ℕ) (code : List Instr) → k < length others → code ≡ get_or others k code → IsThread x86 locs code
-  further_thread k code lt is = subst (IsThread x86 locs) (sym is) (All-tail (IsThread x86 locs) first others (subst (All (IsThread x86 locs)) are all) k code lt)
+  further_thread k code lt is = subst (IsThread x86 locs) (sym is)
+      (All-tail (IsThread x86 locs) first others (subst (All (IsThread x86 locs)) are all) k code lt)
 
 -- the first cell of a row has been written
-pub row_begun : (names : NameTable) (row : ℕ) (threads : List (List Instr)) (first : List Instr) (others : List (List Instr)) (start out : Bytes) → threads ≡ first ∷ others → out ≡ start ++ slice_index_or (cells_of names first) row [] → out ++ flat_map (next_cell names row) (drop 0 others) ≡ start ++ joined (codes " | ") (row_of (map (cells_of names) threads) row)
+pub row_begun : (names : NameTable) (row : ℕ) (threads : List (List Instr)) (first : List Instr) (others : List (List Instr)) (start out : Bytes)
+    → threads ≡ first ∷ others → out ≡ start ++ slice_index_or (cells_of names first) row []
+    → out ++ flat_map (next_cell names row) (drop 0 others) ≡ start ++ joined (codes " | ") (row_of (map (cells_of names) threads) row)
 row_begun names row threads first others start out are written =
     let cell = slice_index_or (cells_of names first) row [] in
     ap (λ t. t ++ flat_map (next_cell names row) others) written ∙ append_assoc start cell (flat_map (next_cell names row) others)

@@ -25,7 +25,8 @@ names_are k zero = refl
 names_are k (suc n) = ap (λ t. next_name k ++ t) (names_are (k + 1) n)
 
 -- one name more
-pub name_more : (threads k : ℕ) (out new goal : Bytes) → k < threads → k < 10 → out ++ names_from k threads ≡ goal → new ≡ out ++ (32 ∷ 124 ∷ 32 ∷ 80 ∷ decimal k) → new ++ names_from (k + 1) threads ≡ goal
+pub name_more : (threads k : ℕ) (out new goal : Bytes) → k < threads → k < 10 → out ++ names_from k threads ≡ goal
+    → new ≡ out ++ (32 ∷ 124 ∷ 32 ∷ 80 ∷ decimal k) → new ++ names_from (k + 1) threads ≡ goal
 name_more threads k out new goal lt small before written =
     let left : threads - k ≡ suc (threads - (k + 1)) = omega arith in
     let here : names_from k threads ≡ next_name k ++ names_from (k + 1) threads = ap (λ (n : ℕ). flat_map next_name (range_with_len k n)) left in
@@ -33,7 +34,8 @@ name_more threads k out new goal lt small before written =
     ap (λ t. t ++ names_from (k + 1) threads) name ∙ append_assoc out (next_name k) (names_from (k + 1) threads) ∙ ap (λ t. out ++ t) (sym here) ∙ before
 
 -- all names
-pub names_all : (threads : ℕ) (start first out : Bytes) (k : ℕ) → 1 ≤ threads → first ≡ start ++ codes " P0" → out ++ names_from k threads ≡ first ++ names_from 1 threads → threads ≤ k → out ≡ start ++ names_text threads
+pub names_all : (threads : ℕ) (start first out : Bytes) (k : ℕ) → 1 ≤ threads → first ≡ start ++ codes " P0"
+    → out ++ names_from k threads ≡ first ++ names_from 1 threads → threads ≤ k → out ≡ start ++ names_text threads
 names_all zero start first out k some begun told whole = absurd (omega arith)
 names_all (suc n) start first out k some begun told whole =
     let none : suc n - k ≡ 0 = omega arith in

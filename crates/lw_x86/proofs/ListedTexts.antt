@@ -15,24 +15,31 @@ elements_are : (names : NameTable) (ss : List Seen) → flat_map (λ next. codes
 elements_are names [] = refl
 elements_are names (s ∷ ss) = ap (λ t. next_element names s ++ t) (elements_are names ss)
 
-module _ (threads : ℕ) (names : NameTable) (listed : List Seen) (first : Seen) (others : List Seen) (there : AllByRecursion (IsSeen threads (length names)) listed) (are : listed ≡ first ∷ others) where
+module _ (threads : ℕ) (names : NameTable) (listed : List Seen) (first : Seen) (others : List Seen)
+    (there : AllByRecursion (IsSeen threads (length names)) listed) (are : listed ≡ first ∷ others) where
   pub first_there : (n : ℕ) × IsSeen n (length names) first
   first_there = (threads, (subst (AllByRecursion (IsSeen threads (length names))) are there).0)
 
   pub other_there : (k : ℕ) (s : Seen) → k < length others → s ≡ get_or others k s → (n : ℕ) × IsSeen n (length names) s
-  other_there k s lt is = (threads, subst (IsSeen threads (length names)) (sym is) (All-from_recursion (IsSeen threads (length names)) others (subst (AllByRecursion (IsSeen threads (length names))) are there).1 k s lt))
+  other_there k s lt is = (
+    threads,
+    subst (IsSeen threads (length names)) (sym is)
+        (All-from_recursion (IsSeen threads (length names)) others (subst (AllByRecursion (IsSeen threads (length names))) are there).1 k s lt),
+  )
 
 -- the line but for its end
 abbrev pub elements_text : NameTable → Seen → List Seen → Bytes
 elements_text names first others = (codes "locations [" ++ element_text names first) ++ flat_map (next_element names) others
 
-pub elements_written : (names : NameTable) (first : Seen) (others : List Seen) (start word one last : Bytes) → word ≡ start ++ codes "locations [" → one ≡ word ++ element_text names first → last ≡ one ++ flat_map (next_element names) others → last ≡ start ++ elements_text names first others
+pub elements_written : (names : NameTable) (first : Seen) (others : List Seen) (start word one last : Bytes) → word ≡ start ++ codes "locations ["
+    → one ≡ word ++ element_text names first → last ≡ one ++ flat_map (next_element names) others → last ≡ start ++ elements_text names first others
 elements_written names first others start word one last begun told written =
     let rest = flat_map (next_element names) others in
     written
     ∙ ap (λ t. t ++ rest) (told ∙ ap (λ t. t ++ element_text names first) begun ∙ append_assoc start (codes "locations [") (element_text names first))
     ∙ append_assoc start (codes "locations [" ++ element_text names first) rest
 
-pub list_is : (names : NameTable) (first : Seen) (others listed : List Seen) → listed ≡ first ∷ others → elements_text names first others ++ codes "]\n" ≡ listed_text names listed
+pub list_is : (names : NameTable) (first : Seen) (others listed : List Seen) → listed ≡ first ∷ others
+    → elements_text names first others ++ codes "]\n" ≡ listed_text names listed
 list_is names first others listed are =
     ap (λ t. codes "locations [" ++ ((element_text names first ++ t) ++ codes "]\n")) (sym (elements_are names others)) ∙ ap (listed_text names) (sym are)

@@ -1,5 +1,6 @@
 -- The initial block as it is printed: its text spells tokens, which say its entries.
-use Rattle.std.proofs.Common.{◌≡◌, ℕ, zero, suc, ◌*◌, ◌<◌, ◌≤◌, ◌^◌, Bool, true, false, not, List, [], ◌∷◌, ◌++◌, map, length, refl, sym, ap, ◌∙◌, subst, arith, append_assoc, length-append}
+use Rattle.std.proofs.Common.{◌≡◌, ℕ, zero, suc, ◌*◌, ◌<◌, ◌≤◌, ◌^◌, Bool, true, false, not, List, [], ◌∷◌, ◌++◌, map, length, refl, sym, ap, ◌∙◌, subst, arith}
+use Rattle.std.proofs.Common.{append_assoc, length-append}
 use Rattle.std.specs.Prelude.{◌==◌, codes, filter, slice_index, slice_index_or}
 use Rattle.std.specs.List.{AllByRecursion, flat_map}
 use Rattle.std.proofs.lemmas.Grind.{flat_map-append}
@@ -15,7 +16,8 @@ use Rattle.lw_base.specs.SeenLists.{registers_of, all_registers, locations}
 use Rattle.lw_base.proofs.api.Elements.{all_append, all_filter, all_map, all_weaker, all_of_range, all_of_flat}
 use Rattle.lw_base.proofs.api.ListedAgain.{filter_shorter, seen_length}
 use Rattle.lw_text.proofs.api.Spelling.{Anything, Spells, Spells-then, Spells-on, Spells-within, Spells-nothing, Spells-space, Spells-newline, Spells-mark}
-use Rattle.lw_text.proofs.api.ConditionTokens.{named_site, site_tokens, value_tokens, IsPrintable, named_printable, site_said, value_said, site_exists, ended_said}
+use Rattle.lw_text.proofs.api.ConditionTokens.{named_site, site_tokens, value_tokens, IsPrintable, named_printable, site_said, value_said, site_exists}
+use Rattle.lw_text.proofs.api.ConditionTokens.{ended_said}
 use Rattle.lw_text.proofs.api.PrintedConditions.{assignment_spelled}
 use Rattle.lw_x86.specs.CanonicalTexts.{initial_word, entry_text, register_entry, block_text}
 
@@ -65,29 +67,45 @@ module _ (head : TestHead) (well : IsWellFormedHead head) where
   pub entered_seen : AllByRecursion (IsSeen head.threads (length head.locs)) (entered head)
   entered_seen =
       all_append (IsSeen head.threads (length head.locs)) (filter (has_entry head) (all_registers head.threads)) (locations (length head.locs))
-      (all_filter (IsSeen head.threads (length head.locs)) (has_entry head) (all_registers head.threads) (all_of_flat (IsSeen head.threads (length head.locs)) registers_of 0 head.threads (λ t le lt. all_of_range (IsSeen head.threads (length head.locs)) (λ r. Register t r) 0 6 (λ r le2 lt2. (omega (arith, lt), omega (arith, lt2))))))
+      (all_filter (IsSeen head.threads (length head.locs)) (has_entry head) (all_registers head.threads)
+      (all_of_flat (IsSeen head.threads (length head.locs)) registers_of 0 head.threads
+      (λ t le lt. all_of_range (IsSeen head.threads (length head.locs)) (λ r. Register t r) 0 6 (λ r le2 lt2. (omega (arith, lt), omega (arith, lt2))))))
       (all_of_range (IsSeen head.threads (length head.locs)) (λ x. Location x) 0 (length head.locs) (λ x le lt. omega (arith, lt)))
 
   -- ---- the text of the block
 
-  entry_spelled : (s : Seen) → IsSeen head.threads (length head.locs) s → Spells Anything 57 (entry_text head s) (entry_tokens (entry_of head s) ++ codes ";" ∷ [])
+  entry_spelled : (s : Seen) → IsSeen head.threads (length head.locs) s
+      → Spells Anything 57 (entry_text head s) (entry_tokens (entry_of head s) ++ codes ";" ∷ [])
   entry_spelled s h =
-      Spells-on Spells-space (Spells-then (λ rest g. refl) (assignment_spelled X86 head.threads well.few head.locs well.table.all s (initial_word head s) h (initial_is_word s)) (Spells-on (Spells-mark 59 refl (λ c. refl) refl (omega arith)) Spells-newline))
+      Spells-on Spells-space (Spells-then (λ rest g. refl) (assignment_spelled X86 head.threads well.few head.locs well.table.all s
+      (initial_word head s) h (initial_is_word s)) (Spells-on (Spells-mark 59 refl (λ c. refl) refl (omega arith)) Spells-newline))
 
-  entries_spelled : (ss : List Seen) → AllByRecursion (IsSeen head.threads (length head.locs)) ss → Spells Anything (57 * length ss) (flat_map (entry_text head) ss) (flat_map (λ e. entry_tokens e ++ codes ";" ∷ []) (map (entry_of head) ss))
+  entries_spelled : (ss : List Seen) → AllByRecursion (IsSeen head.threads (length head.locs)) ss
+      → Spells Anything (57 * length ss) (flat_map (entry_text head) ss) (flat_map (λ e. entry_tokens e ++ codes ";" ∷ []) (map (entry_of head) ss))
   entries_spelled [] h = Spells-within (57 * 0) (omega arith) (Spells-nothing Anything)
   entries_spelled (s ∷ ss) h = Spells-within (57 * suc (length ss)) (omega arith) (Spells-on (entry_spelled s h.0) (entries_spelled ss h.1))
 
   entered_few : length (entered head) ≤ 32
   entered_few =
-      omega (arith, length-append (filter (has_entry head) (all_registers head.threads)) (locations (length head.locs)), filter_shorter (has_entry head) (all_registers head.threads), length-append (all_registers head.threads) (locations (length head.locs)), seen_length head.threads (length head.locs), well.few, well.table.few)
+      omega (
+        arith,
+        length-append (filter (has_entry head) (all_registers head.threads)) (locations (length head.locs)),
+        filter_shorter (has_entry head)
+            (all_registers head.threads),
+        length-append (all_registers head.threads) (locations (length head.locs)),
+        seen_length head.threads
+            (length head.locs),
+        well.few,
+        well.table.few,
+      )
 
   -- the block with all its entries in one list
   registers_text : (ss : List Seen) → flat_map (register_entry head) ss ≡ flat_map (entry_text head) (filter (has_entry head) ss)
   registers_text [] = refl
   registers_text (s ∷ ss) = go (initial_word head s == 0) refl (registers_text ss)
     where
-      go : (b : Bool) → (initial_word head s == 0) ≡ b → flat_map (register_entry head) ss ≡ flat_map (entry_text head) (filter (has_entry head) ss) → flat_map (register_entry head) (s ∷ ss) ≡ flat_map (entry_text head) (filter (has_entry head) (s ∷ ss))
+      go : (b : Bool) → (initial_word head s == 0) ≡ b → flat_map (register_entry head) ss ≡ flat_map (entry_text head) (filter (has_entry head) ss)
+          → flat_map (register_entry head) (s ∷ ss) ≡ flat_map (entry_text head) (filter (has_entry head) (s ∷ ss))
       go true e rest = rw e rest
       go false e rest = rw e (ap (λ (t : Bytes). entry_text head s ++ t) rest)
 
@@ -95,13 +113,16 @@ module _ (head : TestHead) (well : IsWellFormedHead head) where
   block_is =
       let registers = filter (has_entry head) (all_registers head.threads) in
       let all = locations (length head.locs) in
-      ap (λ (t : Bytes). codes "{\n" ++ (t ++ codes "}\n")) (flat_map-append (entry_text head) registers all ∙ ap (λ (t : Bytes). t ++ flat_map (entry_text head) all) (sym (registers_text (all_registers head.threads))))
-      ∙ ap (λ (t : Bytes). codes "{\n" ++ t) (append_assoc (flat_map (register_entry head) (all_registers head.threads)) (flat_map (entry_text head) all) (codes "}\n"))
+      ap (λ (t : Bytes). codes "{\n" ++ (t ++ codes "}\n")) (flat_map-append (entry_text head) registers all ∙ ap
+      (λ (t : Bytes). t ++ flat_map (entry_text head) all) (sym (registers_text (all_registers head.threads))))
+      ∙ ap (λ (t : Bytes). codes "{\n" ++ t) (append_assoc (flat_map (register_entry head) (all_registers head.threads))
+      (flat_map (entry_text head) all) (codes "}\n"))
 
   pub block_spelled : Spells Anything 1828 (block_text head) (block_tokens head)
   block_spelled =
       subst (λ (t : Bytes). Spells Anything 1828 t (block_tokens head)) block_is
-      (Spells-within 1828 (omega (arith, entered_few)) (Spells-on (Spells-on (Spells-mark 123 refl (λ c. refl) refl (omega arith)) Spells-newline) (Spells-on (entries_spelled (entered head) entered_seen) (Spells-on (Spells-mark 125 refl (λ c. refl) refl (omega arith)) Spells-newline))))
+      (Spells-within 1828 (omega (arith, entered_few)) (Spells-on (Spells-on (Spells-mark 123 refl (λ c. refl) refl (omega arith)) Spells-newline)
+      (Spells-on (entries_spelled (entered head) entered_seen) (Spells-on (Spells-mark 125 refl (λ c. refl) refl (omega arith)) Spells-newline))))
 
   -- ---- what the block says
 
@@ -111,14 +132,27 @@ module _ (head : TestHead) (well : IsWellFormedHead head) where
   entry_said : (s : Seen) → IsSeen head.threads (length head.locs) s → (l : TokenList) → IsEntry X86 (entry_tokens (entry_of head s) ++ l) (entry_of head s) l
   entry_said s h l =
       let site = named_site head.locs s in
-      let n = initial_word head s in
-      (value_tokens n ++ l, subst (λ (ts : TokenList). IsSite X86 ts site (value_tokens n ++ l)) (sym (append_assoc (site_tokens X86 site) (value_tokens n) l)) (site_said X86 head.threads well.few head.locs site (value_tokens n ++ l) (printable s h)), value_said X86 head.threads well.few head.locs n l (initial_is_word s))
+      let n = initial_word head s in (
+        value_tokens n ++ l,
+        subst (λ (ts : TokenList). IsSite X86 ts site (value_tokens n ++ l))
+            (sym (append_assoc (site_tokens X86 site) (value_tokens n) l))
+            (site_said X86 head.threads well.few head.locs site (value_tokens n ++ l) (printable s h)),
+        value_said X86 head.threads well.few head.locs n l
+            (initial_is_word s),
+      )
 
   pub block_said : (rest : TokenList) → Block X86 (block_tokens head ++ rest) (entries_of head) rest
   block_said rest =
       let entries = flat_map (λ e. entry_tokens e ++ codes ";" ∷ []) (entries_of head) in
-      let said = ended_said (IsEntry X86) entry_tokens (codes ";") (codes "}") (entries_of head) rest (all_map (λ e. (l : TokenList) → IsEntry X86 (entry_tokens e ++ l) e l) (entry_of head) (entered head) (all_weaker _ _ entry_said (entered head) entered_seen)) in
-      ((entries ++ (codes "}" ∷ [])) ++ rest, refl, subst (λ (ts : TokenList). Entries X86 ts (entries_of head) rest) (sym (append_assoc entries (codes "}" ∷ []) rest)) said)
+      let said = ended_said (IsEntry X86) entry_tokens (codes ";") (codes "}") (entries_of head) rest
+      (all_map (λ e. (l : TokenList) → IsEntry X86 (entry_tokens e ++ l) e l) (entry_of head) (entered head)
+      (all_weaker _ _ entry_said (entered head) entered_seen)) in (
+        (entries ++ (codes "}" ∷ [])) ++ rest,
+        refl,
+        subst (λ (ts : TokenList). Entries X86 ts (entries_of head) rest)
+            (sym (append_assoc entries (codes "}" ∷ []) rest)) said,
+      )
 
   pub entries_exist : AllByRecursion (λ e. ThreadExists head.threads e.site) (entries_of head)
-  entries_exist = all_map (λ e. ThreadExists head.threads e.site) (entry_of head) (entered head) (all_weaker _ _ (λ s h. site_exists X86 head.threads well.few head.locs (named_site head.locs s) (printable s h)) (entered head) entered_seen)
+  entries_exist = all_map (λ e. ThreadExists head.threads e.site) (entry_of head) (entered head)
+      (all_weaker _ _ (λ s h. site_exists X86 head.threads well.few head.locs (named_site head.locs s) (printable s h)) (entered head) entered_seen)

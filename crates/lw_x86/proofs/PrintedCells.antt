@@ -6,17 +6,20 @@ use Rattle.lw_base.specs.Types.{Bytes, NameTable, TokenList, Cells}
 use Rattle.lw_base.specs.Names.{IsLocation}
 use Rattle.lw_text.specs.Rows.{begins_stop}
 use Rattle.lw_base.proofs.api.Elements.{all_append}
-use Rattle.lw_text.proofs.api.Spelling.{Anything, IsBlankNext, Spells, Spells-then, Spells-on, Spells-before, Spells-within, Spells-nothing, Spells-space, blank_ends_word}
+use Rattle.lw_text.proofs.api.Spelling.{Anything, IsBlankNext, Spells, Spells-then, Spells-on, Spells-before, Spells-within, Spells-nothing, Spells-space}
+use Rattle.lw_text.proofs.api.Spelling.{blank_ends_word}
 use Rattle.lw_text.proofs.api.PrintedConditions.{Spells-colon, blank_no_equals}
 use Rattle.lw_cells.specs.Cells.{CellSyntax, Labels, CellSays}
 use Rattle.lw_litmus.specs.WellFormed.{IsStatement}
 use Rattle.lw_litmus.specs.declared.instr.Instr.{Instr}
-use Rattle.lw_litmus.specs.declared.instr.Instr.TheVariants.{Store, Load, Set, Add, Cmp, Xchg, Xadd, Mfence, Je, Jne, Jmp}
-use Rattle.lw_x86.specs.Instructions.{InstructionSyntax}
+use Rattle.lw_cells.specs.Spellings.{Said}
+use Rattle.lw_x86.specs.Spelling.{x86_spelling}
 use Rattle.lw_litmus.specs.Programs.{x86}
-use Rattle.lw_x86.specs.CanonicalTexts.{label, is_target, cell_text, cells_from}
+use Rattle.lw_x86.specs.CanonicalTexts.{label, printed_as, is_target, cell_text, cells_from}
 use Rattle.lw_x86.specs.Grammar.{x86_grammar}
-use Rattle.lw_x86.proofs.PrintedInstructions.{syntax_of, instruction_tokens, HasTarget, EndsNoCell, label_is_location, Spells-label, name_no_end, instruction_spelled, instruction_said, instruction_no_end}
+use Rattle.lw_x86.proofs.PrintedSlots.{EndsNoCell, name_no_end}
+use Rattle.lw_x86.proofs.PrintedInstructions.{instruction_tokens, HasTarget, label_is_location, Spells-label, printed, instruction_spelled, instruction_said}
+use Rattle.lw_x86.proofs.PrintedInstructions.{instruction_no_end}
 
 -- ---- the tokens of cells, and what they say
 
@@ -39,16 +42,16 @@ abbrev pub tokens_from : NameTable → List Instr → ℕ → List Instr → Cel
 tokens_from names code k [] = end_tokens (is_target code k) k
 tokens_from names code k (i ∷ rest) = cell_tokens names code k i ∷ tokens_from names code (suc k) rest
 
-abbrev pub cell_syntax : NameTable → List Instr → ℕ → Instr → CellSyntax InstructionSyntax
-cell_syntax names code k i = record { labels = front_labels (is_target code k) k; stmt = Some (syntax_of names i) }
+abbrev pub cell_syntax : NameTable → List Instr → ℕ → Instr → CellSyntax (Said x86_spelling)
+cell_syntax names code k i = record { labels = front_labels (is_target code k) k; stmt = Some (printed_as names i) }
 
-abbrev pub end_syntax : ℕ → CellSyntax InstructionSyntax
+abbrev pub end_syntax : ℕ → CellSyntax (Said x86_spelling)
 end_syntax k = record { labels = label k ∷ []; stmt = None }
 
-abbrev pub end_syntaxes : Bool → ℕ → List (CellSyntax InstructionSyntax)
+abbrev pub end_syntaxes : Bool → ℕ → List (CellSyntax (Said x86_spelling))
 end_syntaxes needed k = if needed then end_syntax k ∷ [] else []
 
-abbrev pub syntaxes_from : NameTable → List Instr → ℕ → List Instr → List (CellSyntax InstructionSyntax)
+abbrev pub syntaxes_from : NameTable → List Instr → ℕ → List Instr → List (CellSyntax (Said x86_spelling))
 syntaxes_from names code k [] = end_syntaxes (is_target code k) k
 syntaxes_from names code k (i ∷ rest) = cell_syntax names code k i ∷ syntaxes_from names code (suc k) rest
 
@@ -71,22 +74,16 @@ front_starts : (needed : Bool) (k : ℕ) (more : TokenList) → begins_stop more
 front_starts true k more h = refl
 front_starts false k more h = h
 
-instruction_starts : (names : NameTable) (i : Instr) → begins_stop (instruction_tokens names i) ≡ false
-instruction_starts names (Store x v) = refl
-instruction_starts names (Load d x) = refl
-instruction_starts names (Set d v) = refl
-instruction_starts names (Add d v) = refl
-instruction_starts names (Cmp a v) = refl
-instruction_starts names (Xchg x a) = refl
-instruction_starts names (Xadd x a) = refl
-instruction_starts names Mfence = refl
-instruction_starts names (Je to) = refl
-instruction_starts names (Jne to) = refl
-instruction_starts names (Jmp to) = refl
-
 ends_printed : (needed : Bool) (k : ℕ) → k < 2 ^ 32 → AllZip IsPrintedCell (if needed then (label k ++ codes ":") ∷ [] else []) (end_tokens needed k)
-ends_printed true k h =
-    (record { spells = Spells-within 150 (omega arith) (Spells-then (λ rest g. refl) (Spells-label k h) (Spells-before IsBlankNext blank_no_equals Spells-colon)); plain = front_plain true k h; starts = refl }, tt)
+ends_printed true k h = (
+  record {
+    spells = Spells-within 150 (omega arith) (Spells-then (λ rest g. refl) (Spells-label k h)
+        (Spells-before IsBlankNext blank_no_equals Spells-colon));
+    plain = front_plain true k h;
+    starts = refl;
+  },
+  tt,
+)
 ends_printed false k h = tt
 
 labels_said : (needed : Bool) (k : ℕ) (mid : TokenList) → k < 2 ^ 32 → Labels (front_tokens needed k ++ mid) (front_labels needed k) mid
@@ -102,21 +99,33 @@ abbrev pub IsPrintableInstruction : ℕ → Instr → Type 0
 IsPrintableInstruction locs i = IsStatement x86 locs i × HasTarget i
 
 module _ (names : NameTable) (table : AllByRecursion IsLocation names) (code : List Instr) where
-  cell_printed : (k : ℕ) (i : Instr) → k < 2 ^ 32 → IsPrintableInstruction (length names) i → IsPrintedCell (cell_text names code k i) (cell_tokens names code k i)
+  cell_printed : (k : ℕ) (i : Instr) → k < 2 ^ 32 → IsPrintableInstruction (length names) i
+      → IsPrintedCell (cell_text names code k i) (cell_tokens names code k i)
   cell_printed k i h p = record {
-    spells = Spells-before IsBlankNext blank_ends_word (Spells-within 150 (omega arith) (Spells-on (front_spelled (is_target code k) k h) (instruction_spelled names table i p.0 p.1)));
-    starts = front_starts (is_target code k) k (instruction_tokens names i) (instruction_starts names i);
-    plain = all_append _ (front_tokens (is_target code k) k) (instruction_tokens names i) (front_plain (is_target code k) k h) (instruction_no_end names table i p.0 p.1);
+    spells = Spells-before IsBlankNext blank_ends_word (Spells-within 150 (omega arith)
+        (Spells-on (front_spelled (is_target code k) k h) (instruction_spelled names table i p.0 p.1)));
+    starts = front_starts (is_target code k) k (instruction_tokens names i) (printed names i).starts;
+    plain = all_append _ (front_tokens (is_target code k) k) (instruction_tokens names i) (front_plain (is_target code k) k h)
+        (instruction_no_end names table i p.0 p.1);
   }
 
-  pub cells_printed : (k : ℕ) (rest : List Instr) → k + length rest < 2 ^ 32 → AllByRecursion (IsPrintableInstruction (length names)) rest → AllZip IsPrintedCell (cells_from names code k rest) (tokens_from names code k rest)
+  pub cells_printed : (k : ℕ) (rest : List Instr) → k + length rest < 2 ^ 32 → AllByRecursion (IsPrintableInstruction (length names)) rest
+      → AllZip IsPrintedCell (cells_from names code k rest) (tokens_from names code k rest)
   cells_printed k [] few all = ends_printed (is_target code k) k (omega (arith, few))
   cells_printed k (i ∷ rest) few all = (cell_printed k i (omega (arith, few)) all.0, cells_printed (suc k) rest (omega (arith, few)) all.1)
 
-  pub cells_said : (k : ℕ) (rest : List Instr) → k + length rest < 2 ^ 32 → AllByRecursion (IsPrintableInstruction (length names)) rest → AllZip (CellSays x86_grammar) (tokens_from names code k rest) (syntaxes_from names code k rest)
+  pub cells_said : (k : ℕ) (rest : List Instr) → k + length rest < 2 ^ 32 → AllByRecursion (IsPrintableInstruction (length names)) rest
+      → AllZip (CellSays x86_grammar) (tokens_from names code k rest) (syntaxes_from names code k rest)
   cells_said k [] few all = ends_said (is_target code k) k (omega (arith, few))
-  cells_said k (i ∷ rest) few all =
-      ((instruction_tokens names i, labels_said (is_target code k) k (instruction_tokens names i) (omega (arith, few)), instruction_said names table i all.0.0 all.0.1), cells_said (suc k) rest (omega (arith, few)) all.1)
+  cells_said k (i ∷ rest) few all = (
+    (
+      instruction_tokens names i,
+      labels_said (is_target code k) k (instruction_tokens names i)
+          (omega (arith, few)),
+      instruction_said names table i all.0.0 all.0.1,
+    ),
+    cells_said (suc k) rest (omega (arith, few)) all.1,
+  )
 
 pub empty_printed : IsPrintedCell [] []
 empty_printed = record { spells = Spells-within 150 (omega arith) (Spells-nothing IsBlankNext); plain = tt; starts = refl }

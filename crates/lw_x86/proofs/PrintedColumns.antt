@@ -1,8 +1,9 @@
 -- A thread's cells as they are printed, and empty cells below them, say the thread's code again.
-use Rattle.std.proofs.Common.{◌≡◌, ℕ, zero, suc, ◌+◌, ◌<◌, ◌≤◌, ◌^◌, Some, None, List, [], ◌∷◌, ◌++◌, map, length, replicate, refl, sym, ap, ◌∙◌, subst, arith, append-nil}
-use Rattle.std.specs.Prelude.{if◌then◌else◌, slice_get, Contains}
-use Rattle.std.specs.List.{AllByRecursion, filter_map}
-use Rattle.std.specs.Option.{ForSome}
+use Rattle.std.proofs.Common.{◌≡◌, ℕ, zero, suc, ◌+◌, ◌<◌, ◌≤◌, ◌^◌, Option, Some, None, List, [], ◌∷◌, ◌++◌, map, length, replicate, refl, sym, ap, ◌∙◌, subst}
+use Rattle.std.proofs.Common.{arith, append-nil}
+use Rattle.std.specs.Prelude.{if◌then◌else◌, slice_get, slice_index_or, Contains}
+use Rattle.std.specs.List.{AllByRecursion, filter_map, cons_option}
+use Rattle.std.specs.Option.{ForSome, option_map}
 use Rattle.std.proofs.lemmas.Grind.{flat_map-append}
 use Rattle.std.proofs.lemmas.List.{length-map}
 use Rattle.std.proofs.lemmas.List.Elements.{filter_map-append}
@@ -12,17 +13,17 @@ use Rattle.lw_base.specs.Lists.{EachOnce}
 use Rattle.lw_base.specs.Names.{IsTable}
 use Rattle.lw_base.specs.Tables.{contains_name}
 use Rattle.lw_base.proofs.api.Tables.{IsInTable, index_of-again}
-use Rattle.lw_cells.specs.Cells.{CellSyntax, CellSays, statements, labels_of, target_in, resolved, code_in, names_in, LeadsForward, Column}
+use Rattle.lw_cells.specs.Cells.{CellSyntax, CellSays, statements, labels_of, target_in, number_in, led_to, resolved, code_in, names_in, LeadsForward, Column}
 use Rattle.lw_litmus.specs.WellFormed.{IsStatement, IsThread}
 use Rattle.lw_cells.proofs.api.Zips.{zip_append, zip_replicate}
 use Rattle.lw_litmus.specs.declared.instr.Instr.{Instr}
-use Rattle.lw_litmus.specs.declared.instr.Instr.TheVariants.{Store, Load, Set, Add, Cmp, Xchg, Xadd, Mfence, Je, Jne, Jmp}
-use Rattle.lw_x86.specs.Instructions.{InstructionSyntax, label_of, name_of}
+use Rattle.lw_cells.specs.Spellings.{Said}
+use Rattle.lw_x86.specs.Spelling.{x86_spelling}
 use Rattle.lw_litmus.specs.Operations.{target_of, location_of}
 use Rattle.lw_litmus.specs.Programs.{x86, operation_of}
-use Rattle.lw_x86.specs.CanonicalTexts.{label}
+use Rattle.lw_x86.specs.CanonicalTexts.{label, printed_as}
 use Rattle.lw_x86.specs.Grammar.{x86_grammar}
-use Rattle.lw_x86.proofs.PrintedInstructions.{syntax_of, HasTarget}
+use Rattle.lw_x86.proofs.PrintedInstructions.{HasTarget, printed}
 use Rattle.lw_x86.proofs.PrintedCells.{tokens_from, syntaxes_from, IsPrintableInstruction, cells_said}
 use Rattle.lw_x86.proofs.PrintedLabels.{target_is, statements_are, labels_once, label_there, label_leads}
 
@@ -35,7 +36,7 @@ tokens_of names code = tokens_from names code 0 code
 abbrev pub padded : ℕ → Cells → Cells
 padded n cells = cells ++ replicate n []
 
-abbrev pub with_empty : ℕ → List (CellSyntax InstructionSyntax) → List (CellSyntax InstructionSyntax)
+abbrev pub with_empty : ℕ → List (CellSyntax (Said x86_spelling)) → List (CellSyntax (Said x86_spelling))
 with_empty n syntaxes = syntaxes ++ replicate n (record { labels = []; stmt = None })
 
 none_more : (n : ℕ) → statements (with_empty n []) ≡ []
@@ -50,37 +51,34 @@ no_target_more : (n : ℕ) (l : Bytes) → target_in (with_empty n []) l ≡ 0
 no_target_more zero l = refl
 no_target_more (suc n) l = let h = no_target_more n l in omega (arith, h)
 
-statements_same : (n : ℕ) (ss : List (CellSyntax InstructionSyntax)) → statements (with_empty n ss) ≡ statements ss
-statements_same n ss = filter_map-append (λ (s : CellSyntax InstructionSyntax). s.stmt) ss (with_empty n []) ∙ ap (λ l. statements ss ++ l) (none_more n) ∙ append-nil (statements ss)
+statements_same : (n : ℕ) (ss : List (CellSyntax (Said x86_spelling))) → statements (with_empty n ss) ≡ statements ss
+statements_same n ss = filter_map-append (λ (s : CellSyntax (Said x86_spelling)). s.stmt) ss (with_empty n []) ∙ ap (λ l. statements ss ++ l)
+    (none_more n) ∙ append-nil (statements ss)
 
-labels_same : (n : ℕ) (ss : List (CellSyntax InstructionSyntax)) → labels_of (with_empty n ss) ≡ labels_of ss
-labels_same n ss = flat_map-append (λ (s : CellSyntax InstructionSyntax). s.labels) ss (with_empty n []) ∙ ap (λ l. labels_of ss ++ l) (no_labels_more n) ∙ append-nil (labels_of ss)
+labels_same : (n : ℕ) (ss : List (CellSyntax (Said x86_spelling))) → labels_of (with_empty n ss) ≡ labels_of ss
+labels_same n ss = flat_map-append (λ (s : CellSyntax (Said x86_spelling)). s.labels) ss (with_empty n []) ∙ ap (λ l. labels_of ss ++ l)
+    (no_labels_more n) ∙ append-nil (labels_of ss)
 
-target_same : (n : ℕ) (ss : List (CellSyntax InstructionSyntax)) (l : Bytes) → target_in (with_empty n ss) l ≡ target_in ss l
+target_same : (n : ℕ) (ss : List (CellSyntax (Said x86_spelling))) (l : Bytes) → target_in (with_empty n ss) l ≡ target_in ss l
 target_same n [] l = no_target_more n l
 target_same n (s ∷ ss) l = ap (λ (t : ℕ). if contains_name s.labels l then 0 else length (statements (s ∷ [])) + t) (target_same n ss l)
 
 -- ---- the instructions again
 
-module _ (names : NameTable) (once : EachOnce names) (syntaxes : List (CellSyntax InstructionSyntax)) where
+module _ (names : NameTable) (once : EachOnce names) (syntaxes : List (CellSyntax (Said x86_spelling))) where
   -- its location is in the table, and its label leads to its target
   abbrev pub IsResolved : Instr → Type 0
-  IsResolved i = ForSome (location_of (operation_of i)) (λ x. x < length names) × ForSome (target_of (operation_of i)) (λ to. target_in syntaxes (label to) ≡ to)
+  IsResolved i = ForSome (location_of (operation_of i)) (λ x. x < length names) × ForSome (target_of (operation_of i))
+      (λ to. target_in syntaxes (label to) ≡ to)
 
-  resolved_again : (i : Instr) → IsResolved i → resolved x86_grammar names syntaxes (syntax_of names i) ≡ i
-  resolved_again (Store x v) h = ap (λ (y : ℕ). Store y v) (index_of-again names once x (h.0 x refl))
-  resolved_again (Load d x) h = ap (λ (y : ℕ). Load d y) (index_of-again names once x (h.0 x refl))
-  resolved_again (Set d v) h = refl
-  resolved_again (Add d v) h = refl
-  resolved_again (Cmp a v) h = refl
-  resolved_again (Xchg x a) h = ap (λ (y : ℕ). Xchg y a) (index_of-again names once x (h.0 x refl))
-  resolved_again (Xadd x a) h = ap (λ (y : ℕ). Xadd y a) (index_of-again names once x (h.0 x refl))
-  resolved_again Mfence h = refl
-  resolved_again (Je to) h = ap (λ (t : ℕ). Je t) (h.1 to refl)
-  resolved_again (Jne to) h = ap (λ (t : ℕ). Jne t) (h.1 to refl)
-  resolved_again (Jmp to) h = ap (λ (t : ℕ). Jmp t) (h.1 to refl)
+  resolved_again : (i : Instr) → IsResolved i → resolved x86_grammar names syntaxes (printed_as names i) ≡ i
+  resolved_again i h =
+      let p = printed names i in
+      p.again _ _
+      (λ x e. ap (number_in names) (p.name ∙ ap (option_map (λ (y : ℕ). slice_index_or names y [])) e) ∙ index_of-again names once x (h.0 x e))
+      (λ to e. ap (led_to syntaxes) (p.led ∙ ap (option_map label) e) ∙ h.1 to e)
 
-  all_again : (code : List Instr) → AllByRecursion IsResolved code → map (resolved x86_grammar names syntaxes) (map (syntax_of names) code) ≡ code
+  all_again : (code : List Instr) → AllByRecursion IsResolved code → map (resolved x86_grammar names syntaxes) (map (printed_as names) code) ≡ code
   all_again [] h = refl
   all_again (i ∷ code) h =
       let here = resolved_again i h.0 in
@@ -88,33 +86,24 @@ module _ (names : NameTable) (once : EachOnce names) (syntaxes : List (CellSynta
       cc
 
 -- the names of their locations are in the table
-names_there : (names : NameTable) (code : List Instr) → AllByRecursion (λ i. ForSome (location_of (operation_of i)) (λ x. x < length names)) code → AllByRecursion (IsInTable names) (filter_map name_of (map (syntax_of names) code))
+name_there : (names : NameTable) (loc : Option ℕ) → ForSome loc (λ x. x < length names) → (more : List Bytes) → AllByRecursion (IsInTable names) more
+    → AllByRecursion (IsInTable names) (cons_option (option_map (λ (x : ℕ). slice_index_or names x []) loc) more)
+name_there names None h more all = all
+name_there names (Some x) h more all = ((x, slice_get-get_or names x [] (h x refl)), all)
+
+names_there : (names : NameTable) (code : List Instr) → AllByRecursion (λ i. ForSome (location_of (operation_of i)) (λ x. x < length names)) code
+    → AllByRecursion (IsInTable names) (filter_map x86_grammar.name_of (map (printed_as names) code))
 names_there names [] h = tt
-names_there names (Store x v ∷ code) h = ((x, slice_get-get_or names x [] (h.0 x refl)), names_there names code h.1)
-names_there names (Load d x ∷ code) h = ((x, slice_get-get_or names x [] (h.0 x refl)), names_there names code h.1)
-names_there names (Set d v ∷ code) h = names_there names code h.1
-names_there names (Add d v ∷ code) h = names_there names code h.1
-names_there names (Cmp a v ∷ code) h = names_there names code h.1
-names_there names (Xchg x a ∷ code) h = ((x, slice_get-get_or names x [] (h.0 x refl)), names_there names code h.1)
-names_there names (Xadd x a ∷ code) h = ((x, slice_get-get_or names x [] (h.0 x refl)), names_there names code h.1)
-names_there names (Mfence ∷ code) h = names_there names code h.1
-names_there names (Je to ∷ code) h = names_there names code h.1
-names_there names (Jne to ∷ code) h = names_there names code h.1
-names_there names (Jmp to ∷ code) h = names_there names code h.1
+names_there names (i ∷ code) h = rw (printed names i).name (name_there names (location_of (operation_of i)) h.0 _ (names_there names code h.1))
 
 -- what holds of an instruction's target holds of its label
-of_label : (names : NameTable) (P : Bytes → Type 0) (i : Instr) → ForSome (target_of (operation_of i)) (λ to. P (label to)) → ForSome (label_of (syntax_of names i)) P
-of_label names P (Store x v) h = λ l e. absurd cc
-of_label names P (Load d x) h = λ l e. absurd cc
-of_label names P (Set d v) h = λ l e. absurd cc
-of_label names P (Add d v) h = λ l e. absurd cc
-of_label names P (Cmp a v) h = λ l e. absurd cc
-of_label names P (Xchg x a) h = λ l e. absurd cc
-of_label names P (Xadd x a) h = λ l e. absurd cc
-of_label names P Mfence h = λ l e. absurd cc
-of_label names P (Je to) h = λ l e. subst P (let f : label to ≡ l = cc in f) (h to refl)
-of_label names P (Jne to) h = λ l e. subst P (let f : label to ≡ l = cc in f) (h to refl)
-of_label names P (Jmp to) h = λ l e. subst P (let f : label to ≡ l = cc in f) (h to refl)
+of_label : (names : NameTable) (P : Bytes → Type 0) (i : Instr) → ForSome (target_of (operation_of i)) (λ to. P (label to))
+    → ForSome (x86_grammar.label_of (printed_as names i)) P
+of_label names P i h = rw (printed names i).led (go (target_of (operation_of i)) h)
+  where
+    go : (target : Option ℕ) → ForSome target (λ to. P (label to)) → ForSome (option_map label target) P
+    go None h = λ l e. absurd cc
+    go (Some to) h = λ l e. subst P (let f : label to ≡ l = cc in f) (h to refl)
 
 from_map : {X Y : Type 0} (f : X → Y) (xs : List X) (k : ℕ) (y : Y) → slice_get (map f xs) k ≡ Some y → (x : X) × (slice_get xs k ≡ Some x) × (f x ≡ y)
 from_map f [] k y e = absurd cc
@@ -142,43 +131,51 @@ module _ (names : NameTable) (table : IsTable names) (code : List Instr) (thread
   pub thread_small : 0 + length code < 2 ^ 32
   thread_small = omega (arith, thread.short)
 
-  abbrev pub syntaxes : ℕ → List (CellSyntax InstructionSyntax)
+  abbrev pub syntaxes : ℕ → List (CellSyntax (Said x86_spelling))
   syntaxes n = with_empty n (syntaxes_from names code 0 code)
 
-  target_at : (n k to : ℕ) (i : Instr) → slice_get code k ≡ Some i → target_of (operation_of i) ≡ Some to → Contains (labels_of (syntaxes n)) (label to) × (target_in (syntaxes n) (label to) ≡ to) × (k < to)
+  target_at : (n k to : ℕ) (i : Instr) → slice_get code k ≡ Some i → target_of (operation_of i) ≡ Some to
+      → Contains (labels_of (syntaxes n)) (label to) × (target_in (syntaxes n) (label to) ≡ to) × (k < to)
   target_at n k to i e f =
       let goes = thread.forward k i e to f in
       let small : to < 2 ^ 32 = small_at k i e to f in
       let is = target_is code k to i e f in
       let le : 0 ≤ to = omega arith in
       let most : to ≤ 0 + length code = omega (arith, goes.1) in
-      let leads : target_in (syntaxes n) (label to) ≡ to = target_same n (syntaxes_from names code 0 code) (label to) ∙ omega (arith, label_leads names code to small is 0 code le most) in
-      (subst (λ (ls : List Bytes). Contains ls (label to)) (sym (labels_same n (syntaxes_from names code 0 code))) (label_there names code to small is 0 code le most), leads, goes.0)
+      let leads : target_in (syntaxes n) (label to) ≡ to = target_same n (syntaxes_from names code 0 code) (label to) ∙ omega
+      (arith, label_leads names code to small is 0 code le most) in (
+        subst (λ (ls : List Bytes). Contains ls (label to)) (sym (labels_same n (syntaxes_from names code 0 code)))
+            (label_there names code to small is 0 code le most),
+        leads,
+        goes.0,
+      )
 
-  statements_all : (n : ℕ) → statements (syntaxes n) ≡ map (syntax_of names) code
+  statements_all : (n : ℕ) → statements (syntaxes n) ≡ map (printed_as names) code
   statements_all n = statements_same n (syntaxes_from names code 0 code) ∙ statements_are names code 0 code
 
-  leads_at : (n k : ℕ) (i : Instr) → slice_get code k ≡ Some i → LeadsForward x86_grammar (syntaxes n) k (syntax_of names i)
+  leads_at : (n k : ℕ) (i : Instr) → slice_get code k ≡ Some i → LeadsForward x86_grammar (syntaxes n) k (printed_as names i)
   leads_at n k i e =
       of_label names (λ l. Contains (labels_of (syntaxes n)) l × (k < target_in (syntaxes n) l)) i
       (λ to f. let t = target_at n k to i e f in (t.0, omega (arith, t.1, t.2)))
 
   pub thread_column : (n : ℕ) → Column x86_grammar (padded n (tokens_of names code)) (syntaxes n)
   thread_column n = record {
-    says = zip_append (CellSays x86_grammar) (tokens_of names code) (replicate n []) (syntaxes_from names code 0 code) _ (cells_said names table.all code 0 code thread_small thread_printable) (zip_replicate (CellSays x86_grammar) n [] _ ([], refl, refl));
-    few = omega (arith, ap length (statements_all n), length-map code (syntax_of names), thread.short);
+    says = zip_append (CellSays x86_grammar) (tokens_of names code) (replicate n []) (syntaxes_from names code 0 code) _
+        (cells_said names table.all code 0 code thread_small thread_printable) (zip_replicate (CellSays x86_grammar) n [] _ ([], refl, refl));
+    few = omega (arith, ap length (statements_all n), length-map code (printed_as names), thread.short);
     once = subst EachOnce (sym (labels_same n (syntaxes_from names code 0 code))) (labels_once names code 0 code thread_small);
     forward = λ k s e.
-        let found = from_map (syntax_of names) code k s (ap (λ l. slice_get l k) (sym (statements_all n)) ∙ e) in
+        let found = from_map (printed_as names) code k s (ap (λ l. slice_get l k) (sym (statements_all n)) ∙ e) in
         subst (LeadsForward x86_grammar (syntaxes n) k) found.2 (leads_at n k found.0 found.1);
   }
 
   pub thread_again : (n : ℕ) → code_in x86_grammar names (syntaxes n) ≡ code
   thread_again n =
       ap (map (resolved x86_grammar names (syntaxes n))) (statements_all n)
-      ∙ all_again names table.once (syntaxes n) code (all_places (IsResolved names table.once (syntaxes n)) code (λ k i e. ((statement_at k i e).0, λ to f. (target_at n k to i e f).1)))
+      ∙ all_again names table.once (syntaxes n) code (all_places (IsResolved names table.once (syntaxes n)) code
+      (λ k i e. ((statement_at k i e).0, λ to f. (target_at n k to i e f).1)))
 
   pub thread_names : (n : ℕ) → AllByRecursion (IsInTable names) (names_in x86_grammar (syntaxes n))
   thread_names n =
-      subst (λ (ss : List InstructionSyntax). AllByRecursion (IsInTable names) (filter_map name_of ss)) (sym (statements_all n))
+      subst (λ (ss : List (Said x86_spelling)). AllByRecursion (IsInTable names) (filter_map x86_grammar.name_of ss)) (sym (statements_all n))
       (names_there names code (all_places (λ i. ForSome (location_of (operation_of i)) (λ x. x < length names)) code (λ k i e. (statement_at k i e).0)))

@@ -1,5 +1,6 @@
 -- The text of a test as it is printed is the text of a frame: the test's head, and its threads' cells.
-use Rattle.std.proofs.Common.{◌≡◌, ℕ, zero, suc, ◌<◌, ◌≤◌, inl, true, List, [], ◌∷◌, ◌++◌, map, length, refl, sym, ap, ◌∙◌, subst, arith, append_assoc, length-append}
+use Rattle.std.proofs.Common.{◌≡◌, ℕ, zero, suc, ◌<◌, ◌≤◌, inl, true, List, [], ◌∷◌, ◌++◌, map, length, refl, sym, ap, ◌∙◌, subst, arith, append_assoc}
+use Rattle.std.proofs.Common.{length-append}
 use Rattle.std.specs.Prelude.{codes}
 use Rattle.std.specs.List.{AllByRecursion, flat_map, range_with_len}
 use Rattle.std.specs.Str.{IsUtf8, IsAscii}
@@ -42,7 +43,8 @@ use Rattle.lw_x86.proofs.PrintedRows.{row_at, row_tokens, rows_at, header_tokens
 use Rattle.lw_x86.proofs.PrintedGrids.{padded_to, columns_are, under_longest, longest_under, cells_few}
 use Rattle.lw_x86.proofs.PrintedBlocks.{entries_of, block_tokens, block_spelled, block_said, entries_exist}
 use Rattle.lw_x86.proofs.PrintedHeads.{table_again, registers_again, words_again, list_again}
-use Rattle.lw_x86.proofs.PrintedLists.{named_sites, listed_tokens, terminals_in, condition_tokens, listed_spelled, condition_spelled, listed_printable, condition_said, rows_stop}
+use Rattle.lw_x86.proofs.PrintedLists.{named_sites, listed_tokens, terminals_in, condition_tokens, listed_spelled, condition_spelled, listed_printable}
+use Rattle.lw_x86.proofs.PrintedLists.{condition_said, rows_stop}
 
 -- ---- the threads' cells
 
@@ -100,16 +102,21 @@ module _ (p : ProgramTest) (well : IsWellFormedProgram p) where
   threads_are : AllByRecursion (IsThread x86 (length p.head.locs)) p.threads
   threads_are = recursion_from_All (IsThread x86 (length p.head.locs)) p.threads well.code
 
-  grid_printed : (threads : List (List Instr)) → AllByRecursion (IsThread x86 (length p.head.locs)) threads → ArePrinted (map (cells_of p.head.locs) threads) (map (tokens_of p.head.locs) threads)
+  grid_printed : (threads : List (List Instr)) → AllByRecursion (IsThread x86 (length p.head.locs)) threads
+      → ArePrinted (map (cells_of p.head.locs) threads) (map (tokens_of p.head.locs) threads)
   grid_printed [] h = tt
-  grid_printed (code ∷ threads) h =
-      (cells_printed p.head.locs well.head.table.all code 0 code (thread_small p.head.locs well.head.table code h.0) (thread_printable p.head.locs well.head.table code h.0), grid_printed threads h.1)
+  grid_printed (code ∷ threads) h = (
+    cells_printed p.head.locs well.head.table.all code 0 code (thread_small p.head.locs well.head.table code h.0)
+        (thread_printable p.head.locs well.head.table code h.0),
+    grid_printed threads h.1,
+  )
 
   printed : ArePrinted (texts_in p) (grid_in p)
   printed = grid_printed p.threads threads_are
 
   -- no thread has more cells than the longest, which has 33 at most
-  lengths_same : (texts : List (List Bytes)) (grid : List Cells) (n : ℕ) → ArePrinted texts grid → AllByRecursion (λ cells. length cells ≤ n) texts → AllByRecursion (λ cells. length cells ≤ n) grid
+  lengths_same : (texts : List (List Bytes)) (grid : List Cells) (n : ℕ) → ArePrinted texts grid → AllByRecursion (λ cells. length cells ≤ n) texts
+      → AllByRecursion (λ cells. length cells ≤ n) grid
   lengths_same [] [] n a h = tt
   lengths_same [] (g ∷ grid) n a h = absurd a
   lengths_same (t ∷ texts) [] n a h = absurd a
@@ -118,7 +125,8 @@ module _ (p : ProgramTest) (well : IsWellFormedProgram p) where
   grid_under : AllByRecursion (λ cells. length cells ≤ height_of p) (grid_in p)
   grid_under = lengths_same (texts_in p) (grid_in p) (height_of p) printed (under_longest (texts_in p))
 
-  few_cells : (threads : List (List Instr)) → AllByRecursion (IsThread x86 (length p.head.locs)) threads → AllByRecursion (λ cells. length cells ≤ 33) (map (cells_of p.head.locs) threads)
+  few_cells : (threads : List (List Instr)) → AllByRecursion (IsThread x86 (length p.head.locs)) threads
+      → AllByRecursion (λ cells. length cells ≤ 33) (map (cells_of p.head.locs) threads)
   few_cells [] h = tt
   few_cells (code ∷ threads) h = (omega (arith, cells_few p.head.locs code 0 code, h.0.short), few_cells threads h.1)
 
@@ -145,21 +153,31 @@ module _ (p : ProgramTest) (well : IsWellFormedProgram p) where
 
   more_printable : AllByRecursion (IsPrintable p.head.threads p.head.locs) (named_sites p.head.locs p.head.listed ++ sites_in (terminals_in p.head))
   more_printable =
-      all_append (IsPrintable p.head.threads p.head.locs) (named_sites p.head.locs p.head.listed) (sites_in (terminals_in p.head)) (listed_printable p.head well.head)
-      (sites_printable p.head.threads p.head.locs (terminals_in p.head) (whole_fine p.head.threads p.head.locs well.head.table.all p.head.condition well.head.condition))
+      all_append (IsPrintable p.head.threads p.head.locs) (named_sites p.head.locs p.head.listed) (sites_in (terminals_in p.head))
+      (listed_printable p.head well.head)
+      (sites_printable p.head.threads p.head.locs (terminals_in p.head)
+      (whole_fine p.head.threads p.head.locs well.head.table.all p.head.condition well.head.condition))
 
   table_is : table (syntax_in p) ≡ p.head.locs
   table_is =
-      ap (λ ss. with_names [] (site_names ss)) (append_assoc (map (λ e. e.site) (entries_of p.head)) (named_sites p.head.locs p.head.listed) (sites_in (terminals_in p.head)))
+      ap (λ ss. with_names [] (site_names ss)) (append_assoc (map (λ e. e.site) (entries_of p.head)) (named_sites p.head.locs p.head.listed)
+      (sites_in (terminals_in p.head)))
       ∙ table_again p.head well.head (named_sites p.head.locs p.head.listed ++ sites_in (terminals_in p.head)) more_printable
 
   proposition_on : IsProposition (map (resolved p.head.locs) (terminals_in p.head)) p.head.condition
   proposition_on =
-      subst (λ ss. IsProposition ss p.head.condition) (sym (whole_again p.head.threads p.head.locs well.head.table.once p.head.condition well.head.condition)) (printed_proposition p.head.condition)
+      subst (λ ss. IsProposition ss p.head.condition) (sym (whole_again p.head.threads p.head.locs well.head.table.once p.head.condition
+      well.head.condition)) (printed_proposition p.head.condition)
 
   nodes_few : HasFewNodes (terminals_in p.head)
   nodes_few =
-      omega (arith, proposition_nodes (map (resolved p.head.locs) (terminals_in p.head)) p.head.condition proposition_on (resolved_single p.head.locs (terminals_in p.head)), resolved_count p.head.locs (terminals_in p.head), well.head.nodes_few)
+      omega (
+        arith,
+        proposition_nodes (map (resolved p.head.locs) (terminals_in p.head)) p.head.condition proposition_on
+            (resolved_single p.head.locs (terminals_in p.head)),
+        resolved_count p.head.locs (terminals_in p.head),
+        well.head.nodes_few,
+      )
 
   parts : Parts X86 (tokens_in p) (syntax_in p)
   parts = record {
@@ -170,7 +188,9 @@ module _ (p : ProgramTest) (well : IsWellFormedProgram p) where
     header = header_said p.head.threads (tokens_behind_header p) well.head.some well.head.few;
     there = entries_exist p.head well.head;
     rows = (
-      rows_said p.head.threads (rows_in p) (tokens_behind_rows p) well.head.some (rows_plain (texts_in p) (grid_in p) printed p.head.threads well.head.some well.head.few texts_long grid_long 0 (height_of p)) (rows_stop p.head well.head),
+      rows_said p.head.threads (rows_in p) (tokens_behind_rows p) well.head.some
+          (rows_plain (texts_in p) (grid_in p) printed p.head.threads well.head.some well.head.few texts_long grid_long 0 (height_of p))
+          (rows_stop p.head well.head),
       omega (arith, length-map-range_with_len (row_at (grid_in p)) 0 (height_of p), height_few),
     );
     condition = condition_said p.head well.head;
@@ -233,7 +253,8 @@ module _ (p : ProgramTest) (well : IsWellFormedProgram p) where
   text_utf8 : IsUtf8 (canonical_text p)
   text_utf8 =
       let line : IsUtf8 (codes "\n" ++ body_text p) = IsUtf8-append (codes "\n") (body_text p) Spells-newline.utf8 body_spelled.utf8 in
-      let name : IsUtf8 (p.head.name ++ (codes "\n" ++ body_text p)) = IsUtf8-append p.head.name (codes "\n" ++ body_text p) (IsUtf8-from_ascii p.head.name (graphic_ascii p.head.name well.head.name.all)) line in
+      let name : IsUtf8 (p.head.name ++ (codes "\n" ++ body_text p)) = IsUtf8-append p.head.name (codes "\n" ++ body_text p)
+      (IsUtf8-from_ascii p.head.name (graphic_ascii p.head.name well.head.name.all)) line in
       IsUtf8-append (codes "X86") (codes " " ++ (p.head.name ++ (codes "\n" ++ body_text p))) (Spells-name (codes "X86") x86_word).utf8
       (IsUtf8-append (codes " ") (p.head.name ++ (codes "\n" ++ body_text p)) Spells-space.utf8 name)
 

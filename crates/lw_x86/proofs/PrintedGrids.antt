@@ -1,5 +1,6 @@
 -- The columns of the rows of a test as it is printed are its threads' cells, with empty cells below.
-use Rattle.std.proofs.Common.{◌≡◌, ℕ, zero, suc, ◌+◌, ◌-◌, ◌<◌, ◌≤◌, max, Bool, true, false, Some, List, [], ◌∷◌, ◌++◌, map, length, replicate, refl, sym, ap, ◌∙◌, arith, length-append}
+use Rattle.std.proofs.Common.{◌≡◌, ℕ, zero, suc, ◌+◌, ◌-◌, ◌<◌, ◌≤◌, max, Bool, true, false, Some, List, [], ◌∷◌, ◌++◌, map, length, replicate, refl, sym, ap}
+use Rattle.std.proofs.Common.{◌∙◌, arith, length-append}
 use Rattle.std.specs.Prelude.{fold, if◌then◌else◌, codes, slice_get, slice_index_or}
 use Rattle.std.specs.List.{AllByRecursion, range_with_len}
 use Rattle.std.proofs.lemmas.List.{length-map, length-replicate, get_or-map}
@@ -31,18 +32,22 @@ padded_to n cells = padded (n - length cells) cells
 
 padded_is : (n : ℕ) (cells : Cells) → length cells ≤ n → padded_to n cells ≡ map (λ i. slice_index_or cells i []) (range_with_len 0 n)
 padded_is n cells le =
-    fill_by_all (λ i. slice_index_or cells i []) (padded_to n cells) n [] (omega (arith, le, length-append cells (replicate (n - length cells) []), length-replicate {A = TokenList} (n - length cells) []))
+    fill_by_all (λ i. slice_index_or cells i []) (padded_to n cells) n []
+    (omega (arith, le, length-append cells (replicate (n - length cells) []), length-replicate {A = TokenList} (n - length cells) []))
     (λ k lt. padded_at (n - length cells) cells k)
 
 -- one column
-column_is : (grid : List Cells) (k : ℕ) → k < length grid → (j n : ℕ) → column (rows_at grid j n) k ≡ map (λ i. slice_index_or (slice_index_or grid k []) i []) (range_with_len j n)
+column_is : (grid : List Cells) (k : ℕ) → k < length grid → (j n : ℕ)
+    → column (rows_at grid j n) k ≡ map (λ i. slice_index_or (slice_index_or grid k []) i []) (range_with_len j n)
 column_is grid k lt j zero = refl
 column_is grid k lt j (suc n) =
-    let here : slice_get (row_at grid j) k ≡ Some (slice_index_or (slice_index_or grid k []) j []) = slice_get-map (λ cells. slice_index_or cells j []) grid k ∙ rw (slice_get-get_or grid k [] lt) refl in
+    let here : slice_get (row_at grid j) k ≡ Some (slice_index_or (slice_index_or grid k []) j []) = slice_get-map
+    (λ cells. slice_index_or cells j []) grid k ∙ rw (slice_get-get_or grid k [] lt) refl in
     rw here (ap (λ (l : Cells). slice_index_or (slice_index_or grid k []) j [] ∷ l) (column_is grid k lt (j + 1) n))
 
 -- all of them
-pub columns_are : (grid : List Cells) (n threads : ℕ) → length grid ≡ threads → AllByRecursion (λ cells. length cells ≤ n) grid → columns threads (rows_at grid 0 n) ≡ map (padded_to n) grid
+pub columns_are : (grid : List Cells) (n threads : ℕ) → length grid ≡ threads → AllByRecursion (λ cells. length cells ≤ n) grid
+    → columns threads (rows_at grid 0 n) ≡ map (padded_to n) grid
 columns_are grid n threads long all =
     sym (fill_by_all (column (rows_at grid 0 n)) (map (padded_to n) grid) threads [] (length-map grid (padded_to n) ∙ long)
     (λ k lt.

@@ -43,7 +43,8 @@ module _ (head : TestHead) (well : IsWellFormedHead head) where
   no_names (Register t r ∷ ss) h = no_names ss h.1
   no_names (Location x ∷ ss) h = absurd h.0
 
-  location_names : (a n : ℕ) → site_names (map (named_site head.locs) (map (λ x. Location x) (range_with_len a n))) ≡ map (λ x. slice_index_or head.locs x []) (range_with_len a n)
+  location_names : (a n : ℕ) → site_names (map (named_site head.locs) (map (λ x. Location x) (range_with_len a n))) ≡ map
+      (λ x. slice_index_or head.locs x []) (range_with_len a n)
   location_names a zero = refl
   location_names a (suc n) = ap (λ (l : NameTable). slice_index_or head.locs a [] ∷ l) (location_names (a + 1) n)
 
@@ -51,14 +52,16 @@ module _ (head : TestHead) (well : IsWellFormedHead head) where
   entered_names =
       let registers = filter (has_entry head) (all_registers head.threads) in
       let all = locations (length head.locs) in
-      let none = no_names registers (all_filter InNoMemory (has_entry head) (all_registers head.threads) (all_of_flat InNoMemory registers_of 0 head.threads (λ t le lt. all_of_range InNoMemory (λ r. Register t r) 0 6 (λ r le2 lt2. tt)))) in
+      let none = no_names registers (all_filter InNoMemory (has_entry head) (all_registers head.threads)
+      (all_of_flat InNoMemory registers_of 0 head.threads (λ t le lt. all_of_range InNoMemory (λ r. Register t r) 0 6 (λ r le2 lt2. tt)))) in
       ap site_names (sites_are (entered head) ∙ map-append (named_site head.locs) registers all)
       ∙ filter_map-append site_name (map (named_site head.locs) registers) (map (named_site head.locs) all)
       ∙ ap (λ (l : NameTable). l ++ site_names (map (named_site head.locs) all)) none
       ∙ location_names 0 (length head.locs)
       ∙ sym (fill_by_all (λ x. slice_index_or head.locs x []) head.locs (length head.locs) [] refl (λ k lt. refl))
 
-  pub table_again : (more : List SiteSyntax) → AllByRecursion (IsPrintable head.threads head.locs) more → with_names [] (site_names (map (λ e. e.site) (entries_of head) ++ more)) ≡ head.locs
+  pub table_again : (more : List SiteSyntax) → AllByRecursion (IsPrintable head.threads head.locs) more
+      → with_names [] (site_names (map (λ e. e.site) (entries_of head) ++ more)) ≡ head.locs
   table_again more h =
       ap (with_names []) (filter_map-append site_name (map (λ e. e.site) (entries_of head)) more ∙ ap (λ (l : NameTable). l ++ site_names more) entered_names)
       ∙ with_names-append [] head.locs (site_names more)
@@ -76,7 +79,8 @@ module _ (head : TestHead) (well : IsWellFormedHead head) where
   abbrev word_if : Bool → Seen → ℕ → ℕ
   word_if b s w = if b then initial_word head s else w
 
-  words_step : (ss : List Seen) (s : Seen) (w : ℕ) → AllByRecursion (IsSeen head.threads (length head.locs)) ss → last_word s w (map (entry_of head) ss) ≡ word_if (has_seen ss s) s w
+  words_step : (ss : List Seen) (s : Seen) (w : ℕ) → AllByRecursion (IsSeen head.threads (length head.locs)) ss
+      → last_word s w (map (entry_of head) ss) ≡ word_if (has_seen ss s) s w
   words_step [] s w h = refl
   words_step (x ∷ ss) s w h =
       ap (λ (b : Bool). last_word s (word_if b x w) (map (entry_of head) ss)) (same_again x h.0 s)
@@ -103,7 +107,8 @@ module _ (head : TestHead) (well : IsWellFormedHead head) where
   has_filtered p (x ∷ ss) s h k = go (p x) refl (has_filtered p ss s h)
     where
       go : (b : Bool) → p x ≡ b → (has_seen ss s ≡ true → has_seen (filter p ss) s ≡ true) → has_seen (filter p (x ∷ ss)) s ≡ true
-      go true e rest = rw e (elim (or_cases (same_seen x s) (has_seen ss s) k) [ inl f ↦ rw f refl | inr g ↦ or_right (same_seen x s) (has_seen (filter p ss) s) (rest g) ])
+      go true e rest = rw e (elim (or_cases (same_seen x s) (has_seen ss s) k)
+          [ inl f ↦ rw f refl | inr g ↦ or_right (same_seen x s) (has_seen (filter p ss) s) (rest g) ])
       go false e rest =
           rw e (elim (or_cases (same_seen x s) (has_seen ss s) k) [
             | inl f ↦ absurd (let g : p x ≡ p s = ap p (same_seen_is x s f) in cc)
@@ -117,18 +122,23 @@ module _ (head : TestHead) (well : IsWellFormedHead head) where
 
   pub register_again : (t r : ℕ) → t < head.threads → r < 6 → word_of head.locs (entries_of head) (Register t r) ≡ initial_word head (Register t r)
   register_again t r h k =
-      words_step (entered head) (Register t r) 0 (entered_seen head well) ∙ words_if (Register t r) (has_seen (entered head) (Register t r)) (there (initial_word head (Register t r) == 0) refl)
+      words_step (entered head) (Register t r) 0 (entered_seen head well) ∙ words_if (Register t r) (has_seen (entered head) (Register t r))
+      (there (initial_word head (Register t r) == 0) refl)
     where
-      there : (b : Bool) → (initial_word head (Register t r) == 0) ≡ b → (initial_word head (Register t r) ≡ 0) ⊎ (has_seen (entered head) (Register t r) ≡ true)
+      there : (b : Bool) → (initial_word head (Register t r) == 0) ≡ b
+          → (initial_word head (Register t r) ≡ 0) ⊎ (has_seen (entered head) (Register t r) ≡ true)
       there true e = inl (eqb-true (initial_word head (Register t r)) 0 e)
       there false e =
           let entry : has_entry head (Register t r) ≡ true = rw e refl in
-          inr (has_left (filter (has_entry head) (all_registers head.threads)) (locations (length head.locs)) (Register t r) (has_filtered (has_entry head) (all_registers head.threads) (Register t r) entry (has_register head.threads t r h k)))
+          inr (has_left (filter (has_entry head) (all_registers head.threads)) (locations (length head.locs)) (Register t r)
+          (has_filtered (has_entry head) (all_registers head.threads) (Register t r) entry (has_register head.threads t r h k)))
 
   pub location_again : (x : ℕ) → x < length head.locs → word_of head.locs (entries_of head) (Location x) ≡ initial_word head (Location x)
   location_again x h =
       words_step (entered head) (Location x) 0 (entered_seen head well)
-      ∙ words_if (Location x) (has_seen (entered head) (Location x)) (inr (has_right (filter (has_entry head) (all_registers head.threads)) (locations (length head.locs)) (Location x) (has_location (length head.locs) x h)))
+      ∙ words_if (Location x) (has_seen (entered head) (Location x))
+      (inr (has_right (filter (has_entry head) (all_registers head.threads)) (locations (length head.locs)) (Location x)
+      (has_location (length head.locs) x h)))
 
   row_long : (rows : List (List ℕ)) (t : ℕ) → t < length rows → AllByRecursion (λ row. length row ≡ 6) rows → length (slice_index_or rows t []) ≡ 6
   row_long [] t lt h = absurd (omega arith)
@@ -138,16 +148,19 @@ module _ (head : TestHead) (well : IsWellFormedHead head) where
   pub registers_again : map (λ t. map (word_of head.locs (entries_of head)) (registers_of t)) (range_with_len 0 head.threads) ≡ head.init_regs
   registers_again =
       sym (fill_by_all (λ t. map (word_of head.locs (entries_of head)) (registers_of t)) head.init_regs head.threads [] well.regs
-      (λ t lt. fill_by_all (λ r. word_of head.locs (entries_of head) (Register t r)) (slice_index_or head.init_regs t []) 6 0 (row_long head.init_regs t (omega (arith, lt, well.regs)) well.six) (λ r k. sym (register_again t r lt k))))
+      (λ t lt. fill_by_all (λ r. word_of head.locs (entries_of head) (Register t r)) (slice_index_or head.init_regs t []) 6 0
+      (row_long head.init_regs t (omega (arith, lt, well.regs)) well.six) (λ r k. sym (register_again t r lt k))))
 
   pub words_again : map (word_of head.locs (entries_of head)) (locations (length head.locs)) ≡ head.init_words
   words_again =
       map_twice (word_of head.locs (entries_of head)) (λ x. Location x) (range_with_len 0 (length head.locs))
-      ∙ sym (fill_by_all (λ x. word_of head.locs (entries_of head) (Location x)) head.init_words (length head.locs) 0 well.words (λ x lt. sym (location_again x lt)))
+      ∙ sym (fill_by_all (λ x. word_of head.locs (entries_of head) (Location x)) head.init_words (length head.locs) 0 well.words
+      (λ x lt. sym (location_again x lt)))
 
   -- ---- what is listed
 
-  listed_agrees : (ss : List Seen) → AllByRecursion (IsSeen head.threads (length head.locs)) ss → (s : Seen) → list_any (λ site. same_seen (seen_in head.locs site) s) (map (named_site head.locs) ss) ≡ has_seen ss s
+  listed_agrees : (ss : List Seen) → AllByRecursion (IsSeen head.threads (length head.locs)) ss → (s : Seen)
+      → list_any (λ site. same_seen (seen_in head.locs site) s) (map (named_site head.locs) ss) ≡ has_seen ss s
   listed_agrees [] h s = refl
   listed_agrees (x ∷ ss) h s = rw (same_again x h.0 s, listed_agrees ss h.1 s) refl
 

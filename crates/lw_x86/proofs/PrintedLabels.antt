@@ -1,5 +1,6 @@
 -- The labels of a thread as it is printed: each once, and each leads to its instruction.
-use Rattle.std.proofs.Common.{◌≡◌, ℕ, zero, suc, ◌+◌, ◌<◌, ◌≤◌, ◌^◌, inl, inr, Bool, true, false, Some, List, [], ◌∷◌, ◌++◌, map, length, refl, sym, ap, ◌∙◌, subst, arith}
+use Rattle.std.proofs.Common.{◌≡◌, ℕ, zero, suc, ◌+◌, ◌<◌, ◌≤◌, ◌^◌, inl, inr, Bool, true, false, Some, List, [], ◌∷◌, ◌++◌, map, length, refl, sym, ap, ◌∙◌}
+use Rattle.std.proofs.Common.{subst, arith}
 use Rattle.std.specs.Prelude.{◌==◌, if◌then◌else◌, slice_get, Contains}
 use Rattle.std.specs.List.{AllByRecursion, list_any}
 use Rattle.std.specs.Option.{option_map_or}
@@ -17,8 +18,7 @@ use Rattle.lw_cells.specs.Cells.{statements, labels_of, target_in}
 use Rattle.lw_litmus.specs.declared.instr.Instr.{Instr}
 use Rattle.lw_litmus.specs.Operations.{target_of}
 use Rattle.lw_litmus.specs.Programs.{operation_of}
-use Rattle.lw_x86.specs.CanonicalTexts.{label, jumps_to, is_target}
-use Rattle.lw_x86.proofs.PrintedInstructions.{syntax_of}
+use Rattle.lw_x86.specs.CanonicalTexts.{label, printed_as, jumps_to, is_target}
 use Rattle.lw_x86.proofs.PrintedCells.{front_labels, end_syntaxes, syntaxes_from}
 
 pub label_injective : (j k : ℕ) → j < 2 ^ 32 → k < 2 ^ 32 → label j ≡ label k → j ≡ k
@@ -42,13 +42,14 @@ target_is (j ∷ code) (suc k) to i at e = let further = target_is code k to i a
 
 -- ---- statements
 
-pub statements_are : (names : NameTable) (code : List Instr) (k : ℕ) (rest : List Instr) → statements (syntaxes_from names code k rest) ≡ map (syntax_of names) rest
+pub statements_are : (names : NameTable) (code : List Instr) (k : ℕ) (rest : List Instr)
+    → statements (syntaxes_from names code k rest) ≡ map (printed_as names) rest
 statements_are names code k [] = none (is_target code k)
   where
     none : (b : Bool) → statements (end_syntaxes b k) ≡ []
     none true = refl
     none false = refl
-statements_are names code k (i ∷ rest) = ap (λ ss. syntax_of names i ∷ ss) (statements_are names code (suc k) rest)
+statements_are names code k (i ∷ rest) = ap (λ ss. printed_as names i ∷ ss) (statements_are names code (suc k) rest)
 
 -- ---- labels
 
@@ -60,29 +61,37 @@ front_from : (b : Bool) (k : ℕ) → k < 2 ^ 32 → AllByRecursion (IsLabelFrom
 front_from true k h = ((k, omega arith, h, refl), tt)
 front_from false k h = tt
 
-labels_from : (names : NameTable) (code : List Instr) (k : ℕ) (rest : List Instr) → k + length rest < 2 ^ 32 → AllByRecursion (IsLabelFrom k) (labels_of (syntaxes_from names code k rest))
+labels_from : (names : NameTable) (code : List Instr) (k : ℕ) (rest : List Instr) → k + length rest < 2 ^ 32
+    → AllByRecursion (IsLabelFrom k) (labels_of (syntaxes_from names code k rest))
 labels_from names code k [] h = ends (is_target code k)
   where
     ends : (b : Bool) → AllByRecursion (IsLabelFrom k) (labels_of (end_syntaxes b k))
     ends true = ((k, omega arith, omega (arith, h), refl), tt)
     ends false = tt
 labels_from names code k (i ∷ rest) h =
-    all_append (IsLabelFrom k) (front_labels (is_target code k) k) (labels_of (syntaxes_from names code (suc k) rest)) (front_from (is_target code k) k (omega (arith, h)))
-    (all_weaker (IsLabelFrom (suc k)) (IsLabelFrom k) (λ l f. (f.0, omega (arith, f.1), f.2, f.3)) (labels_of (syntaxes_from names code (suc k) rest)) (labels_from names code (suc k) rest (omega (arith, h))))
+    all_append (IsLabelFrom k) (front_labels (is_target code k) k) (labels_of (syntaxes_from names code (suc k) rest))
+    (front_from (is_target code k) k (omega (arith, h)))
+    (all_weaker (IsLabelFrom (suc k)) (IsLabelFrom k) (λ l f. (f.0, omega (arith, f.1), f.2, f.3)) (labels_of (syntaxes_from names code (suc k) rest))
+    (labels_from names code (suc k) rest (omega (arith, h))))
 
 front_once : (b : Bool) (k : ℕ) (ls : List Bytes) → k < 2 ^ 32 → AllByRecursion (IsLabelFrom (suc k)) ls → EachOnce ls → EachOnce (front_labels b k ++ ls)
-front_once true k ls h from once =
-    ((λ there. let f = All-contains (IsLabelFrom (suc k)) ls (label k) (All-from_recursion (IsLabelFrom (suc k)) ls from) there in omega (arith, f.1, label_injective k f.0 h f.2 f.3)), once)
+front_once true k ls h from once = (
+  (λ there. let f = All-contains (IsLabelFrom (suc k)) ls (label k) (All-from_recursion (IsLabelFrom (suc k)) ls from) there in omega
+      (arith, f.1, label_injective k f.0 h f.2 f.3)),
+  once,
+)
 front_once false k ls h from once = once
 
-pub labels_once : (names : NameTable) (code : List Instr) (k : ℕ) (rest : List Instr) → k + length rest < 2 ^ 32 → EachOnce (labels_of (syntaxes_from names code k rest))
+pub labels_once : (names : NameTable) (code : List Instr) (k : ℕ) (rest : List Instr) → k + length rest < 2 ^ 32
+    → EachOnce (labels_of (syntaxes_from names code k rest))
 labels_once names code k [] h = ends (is_target code k)
   where
     ends : (b : Bool) → EachOnce (labels_of (end_syntaxes b k))
     ends true = ((λ there. let e : there.0 < 0 = there.1 in omega arith), tt)
     ends false = tt
 labels_once names code k (i ∷ rest) h =
-    front_once (is_target code k) k (labels_of (syntaxes_from names code (suc k) rest)) (omega (arith, h)) (labels_from names code (suc k) rest (omega (arith, h))) (labels_once names code (suc k) rest (omega (arith, h)))
+    front_once (is_target code k) k (labels_of (syntaxes_from names code (suc k) rest)) (omega (arith, h))
+    (labels_from names code (suc k) rest (omega (arith, h))) (labels_once names code (suc k) rest (omega (arith, h)))
 
 -- ---- where they lead
 
@@ -93,8 +102,10 @@ module _ (names : NameTable) (code : List Instr) (to : ℕ) (small : to < 2 ^ 32
       subst (λ (j : ℕ). Contains (labels_of (end_syntaxes (is_target code j) j)) (label to)) e (rw target (0, omega arith, refl))
   label_there k (i ∷ rest) le most =
       elim (cases_Bool (to == k)) [
-        | inl e ↦ subst (λ (j : ℕ). Contains (front_labels (is_target code j) j ++ labels_of (syntaxes_from names code (suc j) rest)) (label to)) (eqb-true to k e) (rw target (0, omega arith, refl))
-        | inr e ↦ Contains-append_right (front_labels (is_target code k) k) (labels_of (syntaxes_from names code (suc k) rest)) (label to) (label_there (suc k) rest (omega (arith, le, eqb-false to k e)) (omega (arith, most)))
+        | inl e ↦ subst (λ (j : ℕ). Contains (front_labels (is_target code j) j ++ labels_of (syntaxes_from names code (suc j) rest)) (label to))
+            (eqb-true to k e) (rw target (0, omega arith, refl))
+        | inr e ↦ Contains-append_right (front_labels (is_target code k) k) (labels_of (syntaxes_from names code (suc k) rest)) (label to)
+            (label_there (suc k) rest (omega (arith, le, eqb-false to k e)) (omega (arith, most)))
       ]
 
   ends_lead : (b : Bool) (k : ℕ) → target_in (end_syntaxes b k) (label to) ≡ 0
@@ -119,10 +130,12 @@ module _ (names : NameTable) (code : List Instr) (to : ℕ) (small : to < 2 ^ 32
       elim (cases_Bool (to == k)) [
         | inl e ↦
             let same : to ≡ k = eqb-true to k e in
-            let here : contains_name (front_labels (is_target code k) k) (label to) ≡ true = subst (λ (j : ℕ). contains_name (front_labels (is_target code j) j) (label to) ≡ true) same (front_here (is_target code to) target) in
+            let here : contains_name (front_labels (is_target code k) k) (label to) ≡ true = subst
+            (λ (j : ℕ). contains_name (front_labels (is_target code j) j) (label to) ≡ true) same (front_here (is_target code to) target) in
             rw here (omega (arith, same))
         | inr e ↦
-            let apart : contains_name (front_labels (is_target code k) k) (label to) ≡ false = fronts_other (is_target code k) k (omega (arith, le, small)) (λ f. eqb-false to k e (sym f)) in
+            let apart : contains_name (front_labels (is_target code k) k) (label to) ≡ false = fronts_other (is_target code k) k
+            (omega (arith, le, small)) (λ f. eqb-false to k e (sym f)) in
             let further = label_leads (suc k) rest (omega (arith, le, eqb-false to k e)) (omega (arith, most)) in
             rw apart (omega (arith, further))
       ]

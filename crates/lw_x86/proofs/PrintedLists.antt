@@ -16,9 +16,11 @@ use Rattle.lw_text.specs.Conditions.{AtomSyntax, Listed, Sites, Condition, begin
 use Rattle.lw_text.specs.Propositions.{Terminal}
 use Rattle.lw_base.proofs.api.Elements.{all_weaker}
 use Rattle.lw_base.proofs.api.ListedAgain.{listed_few}
-use Rattle.lw_text.proofs.api.Spelling.{Anything, Spells, Spells-nothing, Spells-then, Spells-on, Spells-within, Spells-space, Spells-newline, Spells-mark, Spells-name, name_by_test}
+use Rattle.lw_text.proofs.api.Spelling.{Anything, Spells, Spells-nothing, Spells-then, Spells-on, Spells-within, Spells-space, Spells-newline, Spells-mark}
+use Rattle.lw_text.proofs.api.Spelling.{Spells-name, name_by_test}
 use Rattle.lw_text.proofs.api.PrintedPropositions.{enclosed, terminals_of}
-use Rattle.lw_text.proofs.api.ConditionTokens.{named_site, site_tokens, terminal_tokens, quantifier_tokens, named_claim, IsPrintable, site_said, site_exists, terminals_said, named_printable, whole_fine, quantifier_said, ended_said}
+use Rattle.lw_text.proofs.api.ConditionTokens.{named_site, site_tokens, terminal_tokens, quantifier_tokens, named_claim, IsPrintable, site_said, site_exists}
+use Rattle.lw_text.proofs.api.ConditionTokens.{terminals_said, named_printable, whole_fine, quantifier_said, ended_said}
 use Rattle.lw_text.proofs.api.PrintedConditions.{site_spelled, whole_spelled, quantifier_spelled}
 use Rattle.lw_x86.specs.CanonicalTexts.{element_text, listed_text}
 
@@ -44,65 +46,89 @@ condition_tokens head = quantifier_tokens head.quant ++ flat_map (terminal_token
 module _ (head : TestHead) (well : IsWellFormedHead head) where
   -- ---- the texts
 
-  element_spelled : (s : Seen) → IsSeen head.threads (length head.locs) s → Spells Anything 44 (element_text head.locs s) (element_tokens (named_site head.locs s))
-  element_spelled s h = Spells-then (λ rest g. refl) (site_spelled X86 head.threads well.few head.locs well.table.all s h) (Spells-mark 59 refl (λ c. refl) refl (omega arith))
+  element_spelled : (s : Seen) → IsSeen head.threads (length head.locs) s
+      → Spells Anything 44 (element_text head.locs s) (element_tokens (named_site head.locs s))
+  element_spelled s h = Spells-then (λ rest g. refl) (site_spelled X86 head.threads well.few head.locs well.table.all s h)
+      (Spells-mark 59 refl (λ c. refl) refl (omega arith))
 
-  elements_spelled : (ss : List Seen) → AllByRecursion (IsSeen head.threads (length head.locs)) ss → Spells Anything (45 * length ss) (flat_map (λ next. codes " " ++ next) (map (element_text head.locs) ss)) (flat_map element_tokens (named_sites head.locs ss))
+  elements_spelled : (ss : List Seen) → AllByRecursion (IsSeen head.threads (length head.locs)) ss
+      → Spells Anything (45 * length ss) (flat_map (λ next. codes " " ++ next) (map (element_text head.locs) ss))
+      (flat_map element_tokens (named_sites head.locs ss))
   elements_spelled [] h = Spells-within (45 * 0) (omega arith) (Spells-nothing Anything)
-  elements_spelled (s ∷ ss) h = Spells-within (45 * suc (length ss)) (omega arith) (Spells-on (Spells-on Spells-space (element_spelled s h.0)) (elements_spelled ss h.1))
+  elements_spelled (s ∷ ss) h = Spells-within (45 * suc (length ss)) (omega arith)
+      (Spells-on (Spells-on Spells-space (element_spelled s h.0)) (elements_spelled ss h.1))
 
   opening : Spells Anything 34 (codes "locations [") (codes "locations" ∷ codes "[" ∷ [])
   opening =
       Spells-then (λ rest g. refl) (Spells-name (codes "locations") (name_by_test (codes "locations") refl))
       (Spells-on Spells-space (Spells-mark 91 refl (λ c. refl) refl (omega arith)))
 
-  list_spelled : (ss : List Seen) → AllByRecursion (IsSeen head.threads (length head.locs)) ss → Spells Anything (80 + 45 * length ss) (listed_text head.locs ss) (listed_tokens head.locs ss)
+  list_spelled : (ss : List Seen) → AllByRecursion (IsSeen head.threads (length head.locs)) ss
+      → Spells Anything (80 + 45 * length ss) (listed_text head.locs ss) (listed_tokens head.locs ss)
   list_spelled [] h = Spells-within (80 + 45 * 0) (omega arith) (Spells-nothing Anything)
   list_spelled (s ∷ ss) h =
       Spells-within (80 + 45 * suc (length ss)) (omega arith)
-      (Spells-on opening (Spells-on (Spells-on (element_spelled s h.0) (elements_spelled ss h.1)) (Spells-on (Spells-mark 93 refl (λ c. refl) refl (omega arith)) Spells-newline)))
+      (Spells-on opening (Spells-on (Spells-on (element_spelled s h.0) (elements_spelled ss h.1))
+      (Spells-on (Spells-mark 93 refl (λ c. refl) refl (omega arith)) Spells-newline)))
 
   pub listed_spelled : Spells Anything 1520 (listed_text head.locs head.listed) (listed_tokens head.locs head.listed)
-  listed_spelled = Spells-within 1520 (omega (arith, listed_few head.threads (length head.locs) head.listed well.ascending well.there, well.few, well.table.few)) (list_spelled head.listed well.there)
+  listed_spelled = Spells-within 1520 (omega (
+    arith,
+    listed_few head.threads
+        (length head.locs) head.listed well.ascending well.there,
+    well.few,
+    well.table.few,
+  )) (list_spelled head.listed well.there)
 
   pub condition_spelled : head.arch ≡ X86 → Spells Anything 15397 (condition_text head ++ codes "\n") (condition_tokens head)
   condition_spelled arch =
       let proposition = whole_spelled X86 head.threads well.few head.locs well.table.all head.condition well.condition in
       let line = Spells-on (Spells-then {G = Anything} (λ rest g. refl) (quantifier_spelled head.quant) (Spells-on Spells-space proposition)) Spells-newline in
       subst (λ (ts : TokenList). Spells Anything 15397 (condition_text head ++ codes "\n") ts) (append-nil (condition_tokens head))
-      (subst (λ a. Spells Anything 15397 ((quantifier_text head.quant ++ (codes " " ++ in_parentheses (proposition_text a head.locs head.condition))) ++ codes "\n") (condition_tokens head ++ [])) (sym arch)
+      (subst (λ a. Spells Anything 15397 ((quantifier_text head.quant ++ (codes " " ++ in_parentheses (proposition_text a head.locs head.condition))) ++
+      codes "\n") (condition_tokens head ++ [])) (sym arch)
       (Spells-within 15397 (omega (arith, well.nodes_few)) line))
 
   -- ---- what the tokens say
 
-  sites_printable : (ss : List Seen) → AllByRecursion (IsSeen head.threads (length head.locs)) ss → AllByRecursion (IsPrintable head.threads head.locs) (named_sites head.locs ss)
+  sites_printable : (ss : List Seen) → AllByRecursion (IsSeen head.threads (length head.locs)) ss
+      → AllByRecursion (IsPrintable head.threads head.locs) (named_sites head.locs ss)
   sites_printable [] h = tt
   sites_printable (s ∷ ss) h = (named_printable head.threads head.locs well.table.all s h.0, sites_printable ss h.1)
 
   pub listed_printable : AllByRecursion (IsPrintable head.threads head.locs) (named_sites head.locs head.listed)
   listed_printable = sites_printable head.listed well.there
 
-  list_said : (ss : List Seen) (rest : TokenList) → AllByRecursion (IsPrintable head.threads head.locs) (named_sites head.locs ss) → begins_word (codes "locations") rest ≡ false → Listed X86 (listed_tokens head.locs ss ++ rest) (named_sites head.locs ss) rest
+  list_said : (ss : List Seen) (rest : TokenList) → AllByRecursion (IsPrintable head.threads head.locs) (named_sites head.locs ss)
+      → begins_word (codes "locations") rest ≡ false → Listed X86 (listed_tokens head.locs ss ++ rest) (named_sites head.locs ss) rest
   list_said [] rest h other = inr (other, refl, refl)
   list_said (s ∷ ss) rest h other =
       let sites = named_sites head.locs (s ∷ ss) in
       let elements = flat_map element_tokens sites in
-      let said = ended_said (IsSite X86) (site_tokens X86) (codes ";") (codes "]") sites rest (all_weaker _ _ (λ site p l. site_said X86 head.threads well.few head.locs site l p) sites h) in
-      inl ((elements ++ (codes "]" ∷ [])) ++ rest, refl, subst (λ (ts : TokenList). Sites X86 ts sites rest) (sym (append_assoc elements (codes "]" ∷ []) rest)) said)
+      let said = ended_said (IsSite X86) (site_tokens X86) (codes ";") (codes "]") sites rest
+      (all_weaker _ _ (λ site p l. site_said X86 head.threads well.few head.locs site l p) sites h) in
+      inl (
+        (elements ++ (codes "]" ∷ [])) ++ rest,
+        refl,
+        subst (λ (ts : TokenList). Sites X86 ts sites rest)
+            (sym (append_assoc elements (codes "]" ∷ []) rest)) said,
+      )
 
   quantifier_other : (q : Quant) (rest : TokenList) → begins_word (codes "locations") (quantifier_tokens q ++ rest) ≡ false
   quantifier_other Exists rest = refl
   quantifier_other NotExists rest = refl
   quantifier_other Forall rest = refl
 
-  pub condition_said : Condition X86 head.threads (listed_tokens head.locs head.listed ++ condition_tokens head) (named_sites head.locs head.listed) head.quant (terminals_in head)
+  pub condition_said : Condition X86 head.threads (listed_tokens head.locs head.listed ++ condition_tokens head)
+      (named_sites head.locs head.listed) head.quant (terminals_in head)
   condition_said = record {
     behind_list = condition_tokens head;
     behind_quant = flat_map (terminal_tokens X86) (terminals_in head);
     lists = list_said head.listed (condition_tokens head) listed_printable (quantifier_other head.quant (flat_map (terminal_tokens X86) (terminals_in head)));
     there = all_weaker _ _ (λ site p. site_exists X86 head.threads well.few head.locs site p) (named_sites head.locs head.listed) listed_printable;
     quantifies = quantifier_said head.quant (flat_map (terminal_tokens X86) (terminals_in head));
-    says = terminals_said X86 head.threads well.few head.locs (terminals_in head) (whole_fine head.threads head.locs well.table.all head.condition well.condition);
+    says = terminals_said X86 head.threads well.few head.locs (terminals_in head)
+        (whole_fine head.threads head.locs well.table.all head.condition well.condition);
   }
 
   -- the rows end where the list or the condition begins

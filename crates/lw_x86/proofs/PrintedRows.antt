@@ -9,9 +9,10 @@ use Rattle.lw_base.specs.Characters.{begins, is_blank}
 use Rattle.lw_base.specs.Names.{IsName}
 use Rattle.lw_text.specs.Lists.{Until}
 use Rattle.lw_text.specs.Rows.{thread_name, Header, RowCells, Row, begins_stop}
-use Rattle.lw_text.proofs.api.Spelling.{Anything, IsBlankNext, Spells, Spells-then, Spells-on, Spells-before, Spells-within, Spells-nothing, Spells-space, Spells-newline, Spells-mark, Spells-name, name_by_test, blank_ends_word}
+use Rattle.lw_text.proofs.api.Spelling.{Anything, IsBlankNext, Spells, Spells-then, Spells-on, Spells-before, Spells-within, Spells-nothing, Spells-space}
+use Rattle.lw_text.proofs.api.Spelling.{Spells-newline, Spells-mark, Spells-name, name_by_test, blank_ends_word}
 use Rattle.lw_x86.specs.CanonicalTexts.{row_text, row_of, header_text}
-use Rattle.lw_x86.proofs.PrintedInstructions.{EndsNoCell, name_no_end}
+use Rattle.lw_x86.proofs.PrintedSlots.{EndsNoCell, name_no_end}
 use Rattle.lw_x86.proofs.PrintedCells.{IsPrintedCell, empty_printed}
 
 -- ---- one row
@@ -38,24 +39,30 @@ bar = Spells-on Spells-space (Spells-on (Spells-mark 124 refl (λ c. refl) refl 
 row_end : Spells Anything 3 (codes " ;\n") (codes ";" ∷ [])
 row_end = Spells-on Spells-space (Spells-on (Spells-mark 59 refl (λ c. refl) refl (omega arith)) Spells-newline)
 
-behind_spelled : (cells : List Bytes) (ts : Cells) → AllZip IsPrintedCell cells ts → Spells Anything (153 * length cells + 3) (behind_text cells) (tokens_behind ts)
+behind_spelled : (cells : List Bytes) (ts : Cells) → AllZip IsPrintedCell cells ts
+    → Spells Anything (153 * length cells + 3) (behind_text cells) (tokens_behind ts)
 behind_spelled [] [] h = Spells-within (153 * 0 + 3) (omega arith) row_end
 behind_spelled [] (t ∷ ts) h = absurd h
 behind_spelled (c ∷ cells) [] h = absurd h
 behind_spelled (c ∷ cells) (t ∷ ts) h =
     let rest = flat_map (λ next. codes " | " ++ next) cells in
-    let e : ((codes " | " ++ c) ++ rest) ++ codes " ;\n" ≡ codes " | " ++ (c ++ (rest ++ codes " ;\n")) = append_assoc (codes " | " ++ c) rest (codes " ;\n") ∙ append_assoc (codes " | ") c (rest ++ codes " ;\n") in
+    let e : ((codes " | " ++ c) ++ rest) ++ codes " ;\n" ≡ codes " | " ++ (c ++ (rest ++ codes " ;\n")) = append_assoc (codes " | " ++ c) rest
+    (codes " ;\n") ∙ append_assoc (codes " | ") c (rest ++ codes " ;\n") in
     subst (λ (text : Bytes). Spells Anything (153 * suc (length cells) + 3) text (tokens_behind (t ∷ ts))) (sym e)
-    (Spells-within (153 * suc (length cells) + 3) (omega arith) (Spells-on bar (Spells-then (λ more g. begins_behind cells more) h.0.spells (behind_spelled cells ts h.1))))
+    (Spells-within (153 * suc (length cells) + 3) (omega arith)
+    (Spells-on bar (Spells-then (λ more g. begins_behind cells more) h.0.spells (behind_spelled cells ts h.1))))
 
-pub row_spelled : (cells : List Bytes) (ts : Cells) → 1 ≤ length cells → AllZip IsPrintedCell cells ts → Spells Anything (153 * length cells + 1) (row_text cells) (row_tokens ts)
+pub row_spelled : (cells : List Bytes) (ts : Cells) → 1 ≤ length cells → AllZip IsPrintedCell cells ts
+    → Spells Anything (153 * length cells + 1) (row_text cells) (row_tokens ts)
 row_spelled [] ts some h = absurd (omega arith)
 row_spelled (c ∷ cells) [] some h = absurd h
 row_spelled (c ∷ cells) (t ∷ ts) some h =
     let rest = flat_map (λ next. codes " | " ++ next) cells in
-    let e : codes " " ++ ((c ++ rest) ++ codes " ;\n") ≡ codes " " ++ (c ++ (rest ++ codes " ;\n")) = ap (λ (text : Bytes). codes " " ++ text) (append_assoc c rest (codes " ;\n")) in
+    let e : codes " " ++ ((c ++ rest) ++ codes " ;\n") ≡ codes " " ++ (c ++ (rest ++ codes " ;\n")) = ap (λ (text : Bytes). codes " " ++ text)
+    (append_assoc c rest (codes " ;\n")) in
     subst (λ (text : Bytes). Spells Anything (153 * suc (length cells) + 1) text (row_tokens (t ∷ ts))) (sym e)
-    (Spells-within (153 * suc (length cells) + 1) (omega arith) (Spells-on Spells-space (Spells-then (λ more g. begins_behind cells more) h.0.spells (behind_spelled cells ts h.1))))
+    (Spells-within (153 * suc (length cells) + 1) (omega arith)
+    (Spells-on Spells-space (Spells-then (λ more g. begins_behind cells more) h.0.spells (behind_spelled cells ts h.1))))
 
 -- ---- what the tokens of a row are
 
@@ -63,7 +70,8 @@ pub cells_said : (t : TokenList) (ts : Cells) (rest : TokenList) → AllByRecurs
 cells_said t [] rest h = (append_assoc t (codes ";" ∷ []) rest, h.0)
 cells_said t (u ∷ ts) rest h = (row_tokens (u ∷ ts) ++ rest, (append_assoc t (tokens_behind (u ∷ ts)) rest, h.0), cells_said u ts rest h.1)
 
-pub row_said : (threads : ℕ) (ts : Cells) (rest : TokenList) → 1 ≤ threads → length ts ≡ threads → AllByRecursion EndsNoCell ts → Row threads (row_tokens ts ++ rest) ts rest
+pub row_said : (threads : ℕ) (ts : Cells) (rest : TokenList) → 1 ≤ threads → length ts ≡ threads → AllByRecursion EndsNoCell ts
+    → Row threads (row_tokens ts ++ rest) ts rest
 row_said threads [] rest some long h = absurd (omega (arith, some, long))
 row_said threads (t ∷ ts) rest some long h = (cells_said t ts rest h, long)
 
@@ -77,12 +85,20 @@ row_starts ((w ∷ t) ∷ ts) rest h = h.0
 abbrev pub IsPlainRow : ℕ → Cells → Type 0
 IsPlainRow threads ts = (length ts ≡ threads) × AllByRecursion EndsNoCell ts × AllByRecursion (λ t. begins_stop t ≡ false) ts
 
-pub rows_said : (threads : ℕ) (rows : CellGrid) (rest : TokenList) → 1 ≤ threads → AllByRecursion (IsPlainRow threads) rows → begins_stop rest ≡ true → Until begins_stop (Row threads) (flat_map row_tokens rows ++ rest) rows rest
+pub rows_said : (threads : ℕ) (rows : CellGrid) (rest : TokenList) → 1 ≤ threads → AllByRecursion (IsPlainRow threads) rows → begins_stop rest ≡ true
+    → Until begins_stop (Row threads) (flat_map row_tokens rows ++ rest) rows rest
 rows_said threads [] rest some h stop = (refl, stop)
 rows_said threads (row ∷ rows) rest some h stop =
     let more = flat_map row_tokens rows ++ rest in
-    let e : (row_tokens row ++ flat_map row_tokens rows) ++ rest ≡ row_tokens row ++ more = append_assoc (row_tokens row) (flat_map row_tokens rows) rest in
-    (ap begins_stop e ∙ row_starts row more h.0.2, (more, subst (λ (ts : TokenList). Row threads ts row more) (sym e) (row_said threads row more some h.0.0 h.0.1), rows_said threads rows rest some h.1 stop))
+    let e : (row_tokens row ++ flat_map row_tokens rows) ++ rest ≡ row_tokens row ++ more = append_assoc (row_tokens row) (flat_map row_tokens rows) rest in (
+      ap begins_stop e ∙ row_starts row more h.0.2,
+      (
+        more,
+        subst (λ (ts : TokenList). Row threads ts row more) (sym e)
+            (row_said threads row more some h.0.0 h.0.1),
+        rows_said threads rows rest some h.1 stop,
+      ),
+    )
 
 -- ---- the header
 
@@ -90,7 +106,12 @@ abbrev pub header_tokens : ℕ → TokenList
 header_tokens threads = row_tokens (map (λ k. thread_name k ∷ []) (range_with_len 0 threads))
 
 cell_of : (w : Bytes) → IsName w → begins_stop (w ∷ []) ≡ false → IsPrintedCell w (w ∷ [])
-cell_of w name starts = record { spells = Spells-within 150 (omega arith) (Spells-before IsBlankNext blank_ends_word (Spells-name w name)); plain = (name_no_end w name, tt); starts = starts }
+cell_of w name starts = record {
+  spells = Spells-within 150 (omega arith) (Spells-before IsBlankNext blank_ends_word (Spells-name w name));
+  plain =
+      (name_no_end w name, tt);
+  starts = starts;
+}
 
 p0 : IsPrintedCell (thread_name 0) (thread_name 0 ∷ [])
 p0 = cell_of (thread_name 0) (name_by_test (thread_name 0) refl) refl
@@ -104,7 +125,8 @@ p2 = cell_of (thread_name 2) (name_by_test (thread_name 2) refl) refl
 p3 : IsPrintedCell (thread_name 3) (thread_name 3 ∷ [])
 p3 = cell_of (thread_name 3) (name_by_test (thread_name 3) refl) refl
 
-header_cells : (threads : ℕ) → 1 ≤ threads → threads ≤ 4 → AllZip IsPrintedCell (map thread_name (range_with_len 0 threads)) (map (λ k. thread_name k ∷ []) (range_with_len 0 threads))
+header_cells : (threads : ℕ) → 1 ≤ threads → threads ≤ 4 → AllZip IsPrintedCell (map thread_name (range_with_len 0 threads))
+    (map (λ k. thread_name k ∷ []) (range_with_len 0 threads))
 header_cells zero some few = absurd (omega arith)
 header_cells (suc zero) some few = (p0, tt)
 header_cells (suc (suc zero)) some few = (p0, (p1, tt))
@@ -114,8 +136,10 @@ header_cells (suc (suc (suc (suc (suc n))))) some few = absurd (omega arith)
 
 pub header_spelled : (threads : ℕ) → 1 ≤ threads → threads ≤ 4 → Spells Anything 613 (header_text threads) (header_tokens threads)
 header_spelled threads some few =
-    let long : length (map thread_name (range_with_len 0 threads)) ≡ threads = length-map (range_with_len 0 threads) thread_name ∙ length-range_with_len 0 threads in
-    Spells-within 613 (omega (arith, long, few)) (row_spelled (map thread_name (range_with_len 0 threads)) (map (λ k. thread_name k ∷ []) (range_with_len 0 threads)) (omega (arith, long, some)) (header_cells threads some few))
+    let long : length (map thread_name (range_with_len 0 threads)) ≡ threads = length-map (range_with_len 0 threads) thread_name
+    ∙ length-range_with_len 0 threads in
+    Spells-within 613 (omega (arith, long, few)) (row_spelled (map thread_name (range_with_len 0 threads))
+    (map (λ k. thread_name k ∷ []) (range_with_len 0 threads)) (omega (arith, long, some)) (header_cells threads some few))
 
 pub header_said : (threads : ℕ) (rest : TokenList) → 1 ≤ threads → threads ≤ 4 → Header (header_tokens threads ++ rest) threads rest
 header_said zero rest some few = absurd (omega arith)
@@ -147,7 +171,8 @@ row_printed [] (g ∷ grid) k h = absurd h
 row_printed (t ∷ texts) [] k h = absurd h
 row_printed (t ∷ texts) (g ∷ grid) k h = (cell_at t g k h.0, row_printed texts grid k h.1)
 
-plain_cells : (texts : List Bytes) (cells : Cells) → AllZip IsPrintedCell texts cells → AllByRecursion EndsNoCell cells × AllByRecursion (λ t. begins_stop t ≡ false) cells
+plain_cells : (texts : List Bytes) (cells : Cells) → AllZip IsPrintedCell texts cells
+    → AllByRecursion EndsNoCell cells × AllByRecursion (λ t. begins_stop t ≡ false) cells
 plain_cells [] [] h = (tt, tt)
 plain_cells [] (c ∷ cells) h = absurd h
 plain_cells (t ∷ texts) [] h = absurd h
@@ -157,13 +182,15 @@ plain_cells (t ∷ texts) (c ∷ cells) h = let more = plain_cells texts cells h
 abbrev pub rows_at : List Cells → ℕ → ℕ → CellGrid
 rows_at grid k n = map (row_at grid) (range_with_len k n)
 
-module _ (texts : List (List Bytes)) (grid : List Cells) (printed : ArePrinted texts grid) (threads : ℕ) (some : 1 ≤ threads) (few : threads ≤ 4) (long : length texts ≡ threads) (as_long : length grid ≡ threads) where
+module _ (texts : List (List Bytes)) (grid : List Cells) (printed : ArePrinted texts grid) (threads : ℕ) (some : 1 ≤ threads) (few : threads ≤ 4)
+    (long : length texts ≡ threads) (as_long : length grid ≡ threads) where
   row_bound : (k : ℕ) → Spells Anything 613 (row_text (row_of texts k)) (row_tokens (row_at grid k))
   row_bound k =
       let e : length (row_of texts k) ≡ threads = length-map texts (λ cells. slice_index_or cells k []) ∙ long in
       Spells-within 613 (omega (arith, e, few)) (row_spelled (row_of texts k) (row_at grid k) (omega (arith, e, some)) (row_printed texts grid k printed))
 
-  pub rows_spelled : (k n : ℕ) → Spells Anything (613 * n) (flat_map (λ j. row_text (row_of texts j)) (range_with_len k n)) (flat_map row_tokens (rows_at grid k n))
+  pub rows_spelled : (k n : ℕ) → Spells Anything (613 * n) (flat_map (λ j. row_text (row_of texts j)) (range_with_len k n))
+      (flat_map row_tokens (rows_at grid k n))
   rows_spelled k zero = Spells-within (613 * 0) (omega arith) (Spells-nothing Anything)
   rows_spelled k (suc n) = Spells-within (613 * suc n) (omega arith) (Spells-on (row_bound k) (rows_spelled (k + 1) n))
 

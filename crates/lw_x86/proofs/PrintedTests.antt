@@ -10,7 +10,8 @@ use Rattle.lw_base.proofs.api.Elements.{all_append}
 use Rattle.lw_cells.specs.Cells.{CellSyntax, Column, code_in, names_in, names_of, test_on}
 use Rattle.lw_litmus.specs.WellFormed.{IsThread}
 use Rattle.lw_litmus.specs.declared.instr.Instr.{Instr}
-use Rattle.lw_x86.specs.Instructions.{InstructionSyntax}
+use Rattle.lw_cells.specs.Spellings.{Said}
+use Rattle.lw_x86.specs.Spelling.{x86_spelling}
 use Rattle.lw_litmus.specs.Programs.{x86}
 use Rattle.lw_litmus.specs.WellFormedTests.{IsWellFormedProgram}
 use Rattle.lw_litmus.specs.Tests.{ProgramTest}
@@ -23,7 +24,7 @@ use Rattle.lw_x86.proofs.PrintedGrids.{padded_to}
 use Rattle.lw_x86.proofs.PrintedFrames.{height_of, frame_in, printed_frame}
 
 -- what a thread's cells say, with empty cells up to so many
-abbrev thread_says : NameTable → ℕ → List Instr → List (CellSyntax InstructionSyntax)
+abbrev thread_says : NameTable → ℕ → List Instr → List (CellSyntax (Said x86_spelling))
 thread_says names n code = with_empty (n - length (tokens_of names code)) (syntaxes_from names code 0 code)
 
 module _ (p : ProgramTest) (well : IsWellFormedProgram p) where
@@ -33,26 +34,30 @@ module _ (p : ProgramTest) (well : IsWellFormedProgram p) where
   abbrev height : ℕ
   height = height_of p
 
-  columns_say : (threads : List (List Instr)) → AllByRecursion (IsThread x86 (length locs)) threads → AllZip (Column x86_grammar) (map (padded_to height) (map (tokens_of locs) threads)) (map (thread_says locs height) threads)
+  columns_say : (threads : List (List Instr)) → AllByRecursion (IsThread x86 (length locs)) threads
+      → AllZip (Column x86_grammar) (map (padded_to height) (map (tokens_of locs) threads)) (map (thread_says locs height) threads)
   columns_say [] h = tt
   columns_say (code ∷ threads) h = (thread_column locs well.head.table code h.0 (height - length (tokens_of locs code)), columns_say threads h.1)
 
-  threads_again : (threads : List (List Instr)) → AllByRecursion (IsThread x86 (length locs)) threads → map (code_in x86_grammar locs) (map (thread_says locs height) threads) ≡ threads
+  threads_again : (threads : List (List Instr)) → AllByRecursion (IsThread x86 (length locs)) threads
+      → map (code_in x86_grammar locs) (map (thread_says locs height) threads) ≡ threads
   threads_again [] h = refl
   threads_again (code ∷ threads) h =
       let here = thread_again locs well.head.table code h.0 (height - length (tokens_of locs code)) in
       let rest = threads_again threads h.1 in
       cc
 
-  names_there : (threads : List (List Instr)) → AllByRecursion (IsThread x86 (length locs)) threads → AllByRecursion (IsInTable locs) (names_of x86_grammar (map (thread_says locs height) threads))
+  names_there : (threads : List (List Instr)) → AllByRecursion (IsThread x86 (length locs)) threads
+      → AllByRecursion (IsInTable locs) (names_of x86_grammar (map (thread_says locs height) threads))
   names_there [] h = tt
   names_there (code ∷ threads) h =
-      all_append (IsInTable locs) (names_in x86_grammar (thread_says locs height code)) (names_of x86_grammar (map (thread_says locs height) threads)) (thread_names locs well.head.table code h.0 (height - length (tokens_of locs code))) (names_there threads h.1)
+      all_append (IsInTable locs) (names_in x86_grammar (thread_says locs height code)) (names_of x86_grammar (map (thread_says locs height) threads))
+      (thread_names locs well.head.table code h.0 (height - length (tokens_of locs code))) (names_there threads h.1)
 
   threads_are : AllByRecursion (IsThread x86 (length locs)) p.threads
   threads_are = recursion_from_All (IsThread x86 (length locs)) p.threads well.code
 
-  abbrev all_say : List (List (CellSyntax InstructionSyntax))
+  abbrev all_say : List (List (CellSyntax (Said x86_spelling)))
   all_say = map (thread_says locs height) p.threads
 
   names_are : with_names locs (names_of x86_grammar all_say) ≡ locs

@@ -1,6 +1,6 @@
 -- The canonical text of an x86 test.
 -- The source is the format of the workbench, docs/FORMAT.md, which follows the Intel syntax of herd's x86 litmus tests.
-use Rattle.std.specs.Prelude.{ℕ, suc, max, Bool, false, ◌==◌, if◌then◌else◌, List, [], ◌∷◌, ◌++◌, length, map, fold, codes, slice_index, slice_index_or}
+use Rattle.std.specs.Prelude.{ℕ, suc, max, Bool, true, false, ◌==◌, if◌then◌else◌, List, [], ◌∷◌, ◌++◌, length, map, fold, codes, slice_index, slice_index_or}
 use Rattle.std.specs.List.{list_any, flat_map, range_with_len}
 use Rattle.std.specs.Option.{option_map_or}
 use Rattle.std.specs.Fmt.{decimal}
@@ -9,50 +9,82 @@ use Rattle.lw_base.specs.Types.{Bytes, NameTable}
 use Rattle.lw_base.specs.declared.head.Arch.TheVariants.{X86}
 use Rattle.lw_base.specs.declared.head.Seen.{Seen}
 use Rattle.lw_base.specs.declared.head.Seen.TheVariants as seen
-use Rattle.lw_base.specs.declared.operand.Operand.{Operand}
-use Rattle.lw_base.specs.declared.operand.Operand.TheVariants.{Register, Number}
+use Rattle.lw_base.specs.declared.operand.Operand.TheVariants as operand
 use Rattle.lw_base.specs.ConditionTexts.{site_text, assignment, condition_text}
 use Rattle.lw_base.specs.Heads.{TestHead}
 use Rattle.lw_base.specs.Registers.{register_name}
 use Rattle.lw_base.specs.SeenLists.{all_registers, locations}
 use Rattle.lw_text.specs.Rows.{thread_name}
 use Rattle.lw_litmus.specs.declared.instr.Instr.{Instr}
-use Rattle.lw_litmus.specs.declared.instr.Instr.TheVariants.{Store, Load, Set, Add, Cmp, Xchg, Xadd, Mfence, Je, Jne, Jmp}
+use Rattle.lw_litmus.specs.declared.instr.Instr.TheVariants as instr
 use Rattle.lw_litmus.specs.Operations.{target_of}
 use Rattle.lw_litmus.specs.Programs.{operation_of}
 use Rattle.lw_litmus.specs.Tests.{ProgramTest}
+use Rattle.lw_cells.specs.declared.slot.Slot.{Slot}
+use Rattle.lw_cells.specs.declared.slot.Slot.TheVariants.{Word, Register, Location, Value, Number, Label}
+use Rattle.lw_cells.specs.Spellings.{Given, Filling, Said}
+use Rattle.lw_x86.specs.declared.language.X86Word.{X86Word}
+use Rattle.lw_x86.specs.declared.language.X86Word.TheVariants.{Open, Close, Comma, Dollar}
+use Rattle.lw_x86.specs.declared.language.X86Form.TheVariants.{Store, StoreNumber, Load, Set, SetNumber, Add, AddNumber, Compare, CompareNumber, Exchange}
+use Rattle.lw_x86.specs.declared.language.X86Form.TheVariants.{ExchangeAdd, Fence, JumpEqual, JumpNotEqual, Jump}
+use Rattle.lw_x86.specs.Spelling.{text_of, slots_of, x86_spelling}
 
 -- ---- instructions
-
--- a register, or a number behind a `$`
-abbrev pub operand_text : Operand → Bytes
-operand_text (Register r) = register_name X86 r
-operand_text (Number n) = codes "$" ++ decimal n
-
--- `[x]`
-abbrev pub memory_text : NameTable → ℕ → Bytes
-memory_text names x = codes "[" ++ (slice_index_or names x [] ++ codes "]")
-
--- a mnemonic and its two operands
-abbrev pub with_operands : Bytes → Bytes → Bytes → Bytes
-with_operands mnemonic first second = mnemonic ++ (codes " " ++ (first ++ (codes "," ++ second)))
 
 -- the label of the instruction of this number
 abbrev pub label : ℕ → Bytes
 label k = codes "L" ++ decimal k
 
+-- the form that an instruction is printed in, and what stands at its slots
+abbrev pub printed_as : NameTable → Instr → Said x86_spelling
+printed_as names (instr.Store x (operand.Register a)) =
+    record { form = Store; filling = (tt, (tt, (slice_index_or names x [], (tt, (tt, (operand.Register a, tt)))))) }
+printed_as names (instr.Store x (operand.Number n)) =
+    record { form = StoreNumber; filling = (tt, (tt, (slice_index_or names x [], (tt, (tt, (tt, (n, tt))))))) }
+printed_as names (instr.Load d x) = record { form = Load; filling = (tt, (d, (tt, (tt, (slice_index_or names x [], (tt, tt)))))) }
+printed_as names (instr.Set d (operand.Register a)) = record { form = Set; filling = (tt, (d, (tt, (operand.Register a, tt)))) }
+printed_as names (instr.Set d (operand.Number n)) = record { form = SetNumber; filling = (tt, (d, (tt, (tt, (n, tt))))) }
+printed_as names (instr.Add d (operand.Register a)) = record { form = Add; filling = (tt, (d, (tt, (operand.Register a, tt)))) }
+printed_as names (instr.Add d (operand.Number n)) = record { form = AddNumber; filling = (tt, (d, (tt, (tt, (n, tt))))) }
+printed_as names (instr.Cmp a (operand.Register b)) = record { form = Compare; filling = (tt, (a, (tt, (operand.Register b, tt)))) }
+printed_as names (instr.Cmp a (operand.Number n)) = record { form = CompareNumber; filling = (tt, (a, (tt, (tt, (n, tt))))) }
+printed_as names (instr.Xchg x a) = record { form = Exchange; filling = (tt, (tt, (slice_index_or names x [], (tt, (tt, (a, tt)))))) }
+printed_as names (instr.Xadd x a) =
+    record { form = ExchangeAdd; filling = (tt, (tt, (tt, (slice_index_or names x [], (tt, (tt, (a, tt))))))) }
+printed_as names instr.Mfence = record { form = Fence; filling = (tt, tt) }
+printed_as names (instr.Je to) = record { form = JumpEqual; filling = (tt, (label to, tt)) }
+printed_as names (instr.Jne to) = record { form = JumpNotEqual; filling = (tt, (label to, tt)) }
+printed_as names (instr.Jmp to) = record { form = Jump; filling = (tt, (label to, tt)) }
+
+-- what is printed at a slot
+abbrev pub slot_text : (slot : Slot X86Word) → Given slot → Bytes
+slot_text (Word w) g = text_of w
+slot_text Register r = register_name X86 r
+slot_text Location x = x
+slot_text Value (operand.Register r) = register_name X86 r
+slot_text Value (operand.Number n) = decimal n
+slot_text Number n = decimal n
+slot_text Label l = l
+
+abbrev pub is_sign : X86Word → Bool
+is_sign Open = true
+is_sign Close = true
+is_sign Comma = true
+is_sign Dollar = true
+is_sign w = false
+
+-- Behind a mnemonic stands a blank, where more comes.
+abbrev pub space_behind : Slot X86Word → Bytes
+space_behind (Word w) = if is_sign w then [] else codes " "
+space_behind slot = []
+
+abbrev pub slots_text : (slots : List (Slot X86Word)) → Filling slots → Bytes
+slots_text [] f = []
+slots_text (slot ∷ []) (g, f) = slot_text slot g
+slots_text (slot ∷ next ∷ slots) (g, f) = slot_text slot g ++ (space_behind slot ++ slots_text (next ∷ slots) f)
+
 abbrev pub instruction_text : NameTable → Instr → Bytes
-instruction_text names (Store x v) = with_operands (codes "MOV") (memory_text names x) (operand_text v)
-instruction_text names (Load d x) = with_operands (codes "MOV") (register_name X86 d) (memory_text names x)
-instruction_text names (Set d v) = with_operands (codes "MOV") (register_name X86 d) (operand_text v)
-instruction_text names (Add d v) = with_operands (codes "ADD") (register_name X86 d) (operand_text v)
-instruction_text names (Cmp a v) = with_operands (codes "CMP") (register_name X86 a) (operand_text v)
-instruction_text names (Xchg x a) = with_operands (codes "XCHG") (memory_text names x) (register_name X86 a)
-instruction_text names (Xadd x a) = with_operands (codes "LOCK XADD") (memory_text names x) (register_name X86 a)
-instruction_text names Mfence = codes "MFENCE"
-instruction_text names (Je to) = codes "JE " ++ label to
-instruction_text names (Jne to) = codes "JNE " ++ label to
-instruction_text names (Jmp to) = codes "JMP " ++ label to
+instruction_text names i = slots_text (slots_of (printed_as names i).form) (printed_as names i).filling
 
 -- ---- cells
 

@@ -1,6 +1,6 @@
 pub use Rattle.lw_litmus.specs.Programs
 pub use Rattle.lw_litmus.specs.Views
-pub mod Instructions
+pub mod Spelling
 pub mod inner
 pub mod Grammar
 pub mod CanonicalTexts

@@ -1,4 +1,3 @@
--- What only the reader of instructions speaks of: no public call cites it.
-pub mod Mnemonics
-pub mod Drafts
-pub mod Readings
+-- What serves the reader of this crate; no public call speaks of it.
+pub mod Operands
+pub mod OperandTexts

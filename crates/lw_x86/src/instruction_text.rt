@@ -4,7 +4,8 @@ ghost use Rattle.std.specs.Option.{ForSome};
 ghost use Rattle.std.specs.String.{string_bytes};
 ghost use Rattle.lw_base.specs.Registers.{register_name};
 ghost use Rattle.lw_base.specs.declared.head.Arch.TheVariants.{X86};
-ghost use Rattle.lw_x86.specs.CanonicalTexts.{instruction_text, operand_text, memory_text, with_operands};
+ghost use Rattle.lw_x86.specs.CanonicalTexts.{instruction_text};
+ghost use Rattle.lw_x86.specs.inner.OperandTexts.{operand_text, memory_text, with_operands};
 ghost use Rattle.lw_litmus.specs.Operations.{location_of};
 ghost use Rattle.lw_litmus.specs.Programs.{operation_of};
 

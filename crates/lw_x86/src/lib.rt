@@ -6,13 +6,10 @@
 //! the same program.
 #![tactic(auto)]
 
-mod access;
 mod block;
 mod canonical;
-mod instruction;
 mod instruction_text;
-mod jump;
-mod mnemonic;
+mod language;
 mod read;
 mod rows;
 

@@ -13,7 +13,7 @@ ghost use Rattle.lw_litmus.specs.Views.{program_of};
 ghost use Rattle.lw_x86.specs.Grammar.{HasProgram, x86_grammar};
 ghost use Rattle.lw_x86.specs.Texts.{IsTextOf};
 
-use crate::instruction::X86Language;
+use crate::language::X86Language;
 use lw_base::CellFault;
 use lw_cells::read_test;
 use lw_litmus::Program;

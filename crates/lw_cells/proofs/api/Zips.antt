@@ -29,7 +29,8 @@ module _ {X Y : Type 0} (R : X → Y → Type 0) where
   zip_length (x ∷ xs) (y ∷ ys) h = ap suc (zip_length xs ys h.1)
 
   -- what the front says, what the next one says, and what the rest says
-  pub zip_cut : (front : List X) (x : X) (rest : List X) (zs : List Y) → AllZip R (front ++ x ∷ rest) zs → (ys : List Y) × (y : Y) × (more : List Y) × (zs ≡ ys ++ y ∷ more) × AllZip R front ys × R x y × AllZip R rest more
+  pub zip_cut : (front : List X) (x : X) (rest : List X) (zs : List Y) → AllZip R (front ++ x ∷ rest) zs
+      → (ys : List Y) × (y : Y) × (more : List Y) × (zs ≡ ys ++ y ∷ more) × AllZip R front ys × R x y × AllZip R rest more
   zip_cut [] x rest [] h = absurd h
   zip_cut [] x rest (z ∷ zs) h = ([], z, zs, refl, tt, h.0, h.1)
   zip_cut (w ∷ front) x rest [] h = absurd h

@@ -1,20 +1,33 @@
 use Rattle.std.proofs.lemmas.Result.{err_from_is_err_and, IfOk-weaker, IfErr-weaker}
 use Rattle.lw_base.proofs.api.Returns.{passed_on}
 use Rattle.lw_cells.proofs.ColumnsRead.{column_found, column_none}
+use Rattle.lw_cells.specs.Spellings.{grammar_of}
+use Rattle.lw_cells.specs.Found.{draft_of}
+use Rattle.lw_cells.proofs.api.Forms.{is_grammar}
 use Rattle.lw_cells.proofs.column.read_column.Goals as goal
 
 pub returns-clause-found : goal.returns-clause-found
 returns-clause-found g c =
     let found = rw c.as_slice.ensures at c.resolve.ensures.found in
-    IfOk-weaker c.resolve.result _ _ (λ code done. column_found g.L.StatementReader.grammar c.requires.lawful g.L.StatementReader.draft_of _ _ _ _ _ c.in_ok-draft.ensures.found code done) (found _ _ c.in_ok-draft.ensures.found)
+    IfOk-weaker c.resolve.result _ _ (λ code done. column_found (grammar_of g.L.StatementReader.spelling)
+    (is_grammar g.L.StatementReader.spelling g.L.StatementReader.made c.requires.lawful)
+    (draft_of g.L.StatementReader.spelling) _ _ _ _ _ c.in_ok-draft.ensures.found code done) (found _ _ c.in_ok-draft.ensures.found)
 
 pub returns-clause-fault : goal.returns-clause-fault
 returns-clause-fault g c =
     let fault = rw c.as_slice.ensures at c.resolve.ensures.fault in
-    IfErr-weaker c.resolve.result _ _ (λ f none known t (column, few). column_none g.L.StatementReader.grammar c.requires.lawful g.L.StatementReader.draft_of _ _ _ _ _ c.in_ok-draft.ensures.found (none known) t column) (fault _ _ c.in_ok-draft.ensures.found)
+    IfErr-weaker c.resolve.result _ _ (λ f none known t (column, few). column_none (grammar_of g.L.StatementReader.spelling)
+    (is_grammar g.L.StatementReader.spelling g.L.StatementReader.made c.requires.lawful)
+    (draft_of g.L.StatementReader.spelling) _ _ _ _ _ c.in_ok-draft.ensures.found (none known) t column) (fault _ _ c.in_ok-draft.ensures.found)
 
 pub resolve-requires : goal.resolve-requires
-resolve-requires g c = record { drafted = c.requires.drafted; read = rw c.as_slice.ensures (c.args.locs.now, c.read_drafts.new.locs, c.in_ok-draft.ensures.found) }
+resolve-requires g c = (
+  c.type_bounds.static-L-Word,
+  (
+    c.type_bounds.static-L-Form,
+    (c.requires.lawful, rw c.as_slice.ensures (c.args.locs.now, c.read_drafts.new.locs, c.in_ok-draft.ensures.found)),
+  ),
+)
 
 pub returns-in_err-draft-clause-fault : goal.returns-in_err-draft-clause-fault
 returns-in_err-draft-clause-fault g c =

@@ -15,20 +15,26 @@ loop-token-preserved g c =
     record {
       within = two_within _ _ _ colon;
       read = λ ps known.
-          labels_more _ _ ps _ _ (c.loop-token.invariant.read ps known) _ (at_index c.args.tokens.now c.loop-token.next _ (next_within _ _ _ colon)) colon c.insert.new.self _ c.in_ok-label.ensures.ok c.in_ok-insert.ensures.old (sym c.is_some.ensures ∙ c.if-is_some.false) (btree_map_updates_str _ c.loop-token.labels c.insert.new.self _ c.in_ok-insert.ensures.updates);
+          labels_more _ _ ps _ _ (c.loop-token.invariant.read ps known) _
+          (at_index c.args.tokens.now c.loop-token.next _ (next_within _ _ _ colon)) colon c.insert.new.self _ c.in_ok-label.ensures.ok
+          c.in_ok-insert.ensures.old (sym c.is_some.ensures ∙ c.if-is_some.false)
+          (btree_map_updates_str _ c.loop-token.labels c.insert.new.self _ c.in_ok-insert.ensures.updates);
     }
 
 pub returns-in_err-label-clause-fault : goal.returns-in_err-label-clause-fault
 returns-in_err-label-clause-fault g c =
     let colon = c.stands_at.ensures.0 c.loop-token-test.true in
-    passed_on _ _ c.from_residual.ensures.1 (λ ps leads known ks mid (h, none, once). c.in_err-label.ensures.err (labels_on _ _ ps _ _ (c.loop-token.invariant.read ps leads) _ (at_index c.args.tokens.now c.loop-token.next _ (next_within _ _ _ colon)) colon ks mid h none).2)
+    passed_on _ _ c.from_residual.ensures.1 (λ ps leads known ks mid (h, none, once). c.in_err-label.ensures.err
+    (labels_on _ _ ps _ _ (c.loop-token.invariant.read ps leads) _
+    (at_index c.args.tokens.now c.loop-token.next _ (next_within _ _ _ colon)) colon ks mid h none).2)
 
 pub returns-then-is_some-clause-fault : goal.returns-then-is_some-clause-fault
 returns-then-is_some-clause-fault g c ps leads known ks mid (h, none, once) =
     let colon = c.stands_at.ensures.0 c.loop-token-test.true in
     let token = at_index c.args.tokens.now c.loop-token.next _ (next_within _ _ _ colon) in
     let read = c.loop-token.invariant.read ps leads in
-    labels_twice _ _ ps _ _ read _ token colon ks mid h none once (label_known _ _ ps _ _ read _ token colon _ c.in_ok-insert.ensures.old (sym c.is_some.ensures ∙ c.if-is_some.true))
+    labels_twice _ _ ps _ _ read _ token colon ks mid h none once
+    (label_known _ _ ps _ _ read _ token colon _ c.in_ok-insert.ensures.old (sym c.is_some.ensures ∙ c.if-is_some.true))
 
 pub returns-then-is_some-clause-cause : goal.returns-then-is_some-clause-cause
 returns-then-is_some-clause-cause g c ps leads =
@@ -42,7 +48,8 @@ bounds-tokens-next g c = next_within _ _ _ (c.stands_at.ensures.0 c.loop-token-t
 
 pub returns-in_err-label-clause-place : goal.returns-in_err-label-clause-place
 returns-in_err-label-clause-place g c len within =
-    passed_on _ _ c.from_residual.ensures.1 (c.in_err-label.ensures.place len (within c.loop-token.next _ (next_within _ _ _ (c.stands_at.ensures.0 c.loop-token-test.true))))
+    passed_on _ _ c.from_residual.ensures.1 (c.in_err-label.ensures.place len
+    (within c.loop-token.next _ (next_within _ _ _ (c.stands_at.ensures.0 c.loop-token-test.true))))
 
 pub returns-then-is_some-clause-place : goal.returns-then-is_some-clause-place
 returns-then-is_some-clause-place g c len within = within c.loop-token.next _ (next_within _ _ _ (c.stands_at.ensures.0 c.loop-token-test.true))

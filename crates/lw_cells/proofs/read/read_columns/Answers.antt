@@ -6,26 +6,36 @@ use Rattle.lw_text.specs.Places.{IsWithin, all_texts}
 use Rattle.lw_base.proofs.api.Returns.{passed_on}
 use Rattle.lw_cells.specs.Reading.{ColumnsRead}
 use Rattle.lw_cells.proofs.Threads.{columns_cut, texts_cut, columns_more, threads_more, threads_none, threads_tell}
+use Rattle.lw_cells.specs.Spellings.{grammar_of}
+use Rattle.lw_cells.proofs.api.Forms.{is_grammar}
 use Rattle.lw_cells.proofs.read.read_columns.Goals as goal
 
 pub returns-in_err-stmts-clause-fault : goal.returns-in_err-stmts-clause-fault
 returns-in_err-stmts-clause-fault g c =
     let whole = texts_cut c.args.columns.now c.loop-column.column-index c.column-item.result c.loop-column-test.true c.column-item.is in
-    passed_on _ _ c.from_residual.ensures.1 (λ known. threads_none g.L.StatementReader.grammar c.requires.lawful _ _ _ _ c.loop-column.invariant _ _ _ whole (rw c.as_slice.ensures at (c.in_err-stmts.ensures.fault known)))
+    passed_on _ _ c.from_residual.ensures.1 (λ known. threads_none (grammar_of g.L.StatementReader.spelling)
+    (is_grammar g.L.StatementReader.spelling g.L.StatementReader.made c.requires.lawful) _ _ _ _ c.loop-column.invariant _ _ _ whole
+    (rw c.as_slice.ensures at (c.in_err-stmts.ensures.fault known)))
 
 pub returns-in_err-stmts-clause-cause : goal.returns-in_err-stmts-clause-cause
 returns-in_err-stmts-clause-cause g c =
     let whole = columns_cut c.args.columns.now c.loop-column.column-index c.column-item.result c.loop-column-test.true c.column-item.is in
-    passed_on _ _ c.from_residual.ensures.1 (threads_tell g.L.StatementReader.grammar c.requires.lawful _ _ _ _ _ _ _ whole c.loop-column.invariant _ _ (rw c.as_slice.ensures at c.in_err-stmts.ensures.cause))
+    passed_on _ _ c.from_residual.ensures.1 (threads_tell (grammar_of g.L.StatementReader.spelling)
+    (is_grammar g.L.StatementReader.spelling g.L.StatementReader.made c.requires.lawful) _ _ _ _ _ _ _ whole c.loop-column.invariant _ _
+    (rw c.as_slice.ensures at c.in_err-stmts.ensures.cause))
 
 pub loop-column-preserved : goal.loop-column-preserved
 loop-column-preserved g c =
     let more = columns_more c.args.columns.now c.loop-column.column-index c.column-item.result c.loop-column-test.true c.column-item.is in
-    rw (more, c.in_ok-push.ensures.ok) (threads_more g.L.StatementReader.grammar c.requires.lawful _ _ _ _ c.loop-column.invariant _ _ _ (rw c.as_slice.ensures at c.in_ok-stmts.ensures.found))
+    rw (more, c.in_ok-push.ensures.ok) (threads_more (grammar_of g.L.StatementReader.spelling)
+    (is_grammar g.L.StatementReader.spelling g.L.StatementReader.made c.requires.lawful) _ _ _ _ c.loop-column.invariant _ _ _
+    (rw c.as_slice.ensures at c.in_ok-stmts.ensures.found))
 
 pub returns-in_err-stmts-clause-place : goal.returns-in_err-stmts-clause-place
 returns-in_err-stmts-clause-place g c len within =
-    passed_on _ _ c.from_residual.ensures.1 (c.in_err-stmts.ensures.place len (rw c.as_slice.ensures (subst (All (IsWithin len)) (sym c.column-item.is) (within c.loop-column.column-index c.column-item.result c.loop-column-test.true))))
+    passed_on _ _ c.from_residual.ensures.1 (c.in_err-stmts.ensures.place len
+    (rw c.as_slice.ensures (subst (All (IsWithin len)) (sym c.column-item.is)
+    (within c.loop-column.column-index c.column-item.result c.loop-column-test.true))))
 
 pub returns-in_err-push-clause-fault : goal.returns-in_err-push-clause-fault
 returns-in_err-push-clause-fault g c =
@@ -46,7 +56,9 @@ returns-in_err-push-clause-place g c len within =
     rw (p.1, p.2.0) (omega arith)
 
 pub returns-clause-found : goal.returns-clause-found
-returns-clause-found g c = subst (λ columns. ColumnsRead g.L.StatementReader.grammar (all_texts columns) c.args.locs.now c.loop-column.threads c.loop-column.locs) (take_all c.loop-column.column-index c.args.columns.now c.loop-column-test.false) c.loop-column.invariant
+returns-clause-found g c = subst (λ columns. ColumnsRead (grammar_of g.L.StatementReader.spelling)
+    (all_texts columns) c.args.locs.now c.loop-column.threads c.loop-column.locs)
+    (take_all c.loop-column.column-index c.args.columns.now c.loop-column-test.false) c.loop-column.invariant
 
 pub returns-in_err-stmts-clause-found : goal.returns-in_err-stmts-clause-found
 returns-in_err-stmts-clause-found g c =

@@ -1,11 +1,11 @@
 use Rattle.std.proofs.Common.{refl, ◌≡◌, true, false, arith}
 use Rattle.std.proofs.lemmas.Result.{err_from_is_err_and}
-use Rattle.lw_cells.proofs.api.TokenRows.{not_both}
 use Rattle.lw_cells.proofs.NewNames.{is_ninth}
 use Rattle.lw_cells.proofs.token.location.Goals as goal
 
 pub returns-in-None-clause-cause : goal.returns-in-None-clause-cause
-returns-in-None-clause-cause g c = let n = is_ninth _ _ c.len-known.ensures.table.few (rw c.in-None.is at c.in_ok-loc.ensures.place) in (refl, c.is_location.ensures.0 c.if-not-is_location.false, n.0, n.1)
+returns-in-None-clause-cause g c = let n = is_ninth _ _ c.len-known.ensures.table.few (rw c.in-None.is at c.in_ok-loc.ensures.place) in
+    (refl, c.is_location.ensures.0 c.if-not-is_location.false, n.0, n.1)
 
 pub find_or_add-requires : goal.find_or_add-requires
 find_or_add-requires g c = c.is_location.ensures.0 c.if-not-is_location.false
@@ -26,7 +26,7 @@ returns-then-not-is_location-clause-fault g c known (loc, few) =
     absurd cc
 
 pub returns-in-None-clause-fault : goal.returns-in-None-clause-fault
-returns-in-None-clause-fault g c known (loc, few) = not_both _ _ few (rw c.in-None.is at c.in_ok-loc.ensures.place)
+returns-in-None-clause-fault g c known (loc, few) = let full = rw c.in-None.is at c.in_ok-loc.ensures.place in omega (arith, few, full)
 
 pub returns-in_err-loc-clause-fault : goal.returns-in_err-loc-clause-fault
 returns-in_err-loc-clause-fault g c =

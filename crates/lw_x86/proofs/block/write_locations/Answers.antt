@@ -11,11 +11,20 @@ loop-loc-preserved g c =
     let names = length c.args.head.now.locs in
     let is = is_index 8 c.len.result _ _ c.all.result _ c.all.ensures refl c.loop-loc-test.true c.loc-item.is in
     let within : c.loop-loc.loc-index < names = omega (arith, c.loop-loc-test.true, length-take c.len.result c.all.result, c.len.ensures.len) in
-    numbers_more (location_entry (head_of c.args.head.now)) names c.loop-loc.loc-index _ _ c.loop-loc.invariant _ within (rw is at c.in_ok-write_location.ensures)
+    numbers_more (location_entry (head_of c.args.head.now)) names c.loop-loc.loc-index _ _ c.loop-loc.invariant _ within
+    (rw is at c.in_ok-write_location.ensures)
 
 pub returns : goal.returns
 returns g c =
     let head = head_of c.args.head.now in
     let names = length c.args.head.now.locs in
-    let whole : names ≤ c.loop-loc.loc-index = omega (arith, c.loop-loc-test.false, length-take c.len.result c.all.result, ap length c.all.ensures, c.len.ensures.len, c.requires.table.few) in
-    numbers_all (location_entry head) names c.loop-loc.loc-index _ _ c.loop-loc.invariant whole ∙ ap (λ t. string_bytes c.args.out.now ++ t) (sym (locations_are head names))
+    let whole : names ≤ c.loop-loc.loc-index = omega (
+      arith,
+      c.loop-loc-test.false,
+      length-take c.len.result c.all.result,
+      ap length c.all.ensures,
+      c.len.ensures.len,
+      c.requires.table.few,
+    ) in
+    numbers_all (location_entry head) names c.loop-loc.loc-index _ _ c.loop-loc.invariant whole ∙ ap (λ t. string_bytes c.args.out.now ++ t)
+    (sym (locations_are head names))

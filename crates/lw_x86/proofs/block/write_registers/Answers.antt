@@ -16,5 +16,13 @@ loop-cpu-preserved g c =
 pub returns : goal.returns
 returns g c =
     let head = head_of c.args.head.now in
-    let whole : head.threads ≤ c.loop-cpu.cpu-index = omega (arith, c.loop-cpu-test.false, length-take head.threads c.all.result, ap length c.all.ensures, c.requires.few) in
-    numbers_all (thread_entries head) head.threads c.loop-cpu.cpu-index _ _ c.loop-cpu.invariant whole ∙ ap (λ t. string_bytes c.args.out.now ++ t) (sym (registers_are head head.threads))
+    let whole : head.threads ≤ c.loop-cpu.cpu-index = omega (
+      arith,
+      c.loop-cpu-test.false,
+      length-take head.threads c.all.result,
+      ap length
+          c.all.ensures,
+      c.requires.few,
+    ) in
+    numbers_all (thread_entries head) head.threads c.loop-cpu.cpu-index _ _ c.loop-cpu.invariant whole ∙ ap (λ t. string_bytes c.args.out.now ++ t)
+    (sym (registers_are head head.threads))

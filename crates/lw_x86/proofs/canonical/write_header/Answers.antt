@@ -15,5 +15,7 @@ returns g c =
     let start = string_bytes c.args.out.now in
     let last = string_bytes c.loop-thread.out in
     let end = string_bytes c.push_str-2.new.self in
-    let all = names_all c.args.threads start (string_bytes c.push_str.new.self) last c.loop-thread.thread-counter c.requires.some c.in_ok-push_str.ensures.bytes c.loop-thread.invariant c.loop-thread-test.false in
-    then_written c.push_str-2.result start last end (names_text c.args.threads) (codes " ;\n") (header_text c.args.threads) all refl (pushed c.push_str-2.result last end (codes " ;\n") c.push_str-2.ensures.bytes)
+    let all = names_all c.args.threads start (string_bytes c.push_str.new.self) last c.loop-thread.thread-counter c.requires.some
+    c.in_ok-push_str.ensures.bytes c.loop-thread.invariant c.loop-thread-test.false in
+    then_written c.push_str-2.result start last end (names_text c.args.threads) (codes " ;\n") (header_text c.args.threads) all refl
+    (pushed c.push_str-2.result last end (codes " ;\n") c.push_str-2.ensures.bytes)

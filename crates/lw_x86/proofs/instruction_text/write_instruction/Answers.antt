@@ -1,4 +1,6 @@
 use Rattle.std.proofs.Common.{ap}
+use Rattle.lw_base.proofs.api.Writing.{written_as}
+use Rattle.lw_x86.proofs.InstructionTexts.{store_text, set_text, add_text, compare_text, exchange_text, exchange_add_text}
 use Rattle.lw_litmus.specs.Operations.{location_of}
 use Rattle.lw_litmus.specs.Programs.{operation_of}
 use Rattle.lw_x86.proofs.instruction_text.write_instruction.Goals as goal
@@ -14,3 +16,39 @@ write_on_memory-requires-in-Xchg g c = c.requires c.in-Xchg.loc (ap (λ i. locat
 
 pub write_on_memory-requires-in-Xadd : goal.write_on_memory-requires-in-Xadd
 write_on_memory-requires-in-Xadd g c = c.requires c.in-Xadd.loc (ap (λ i. location_of (operation_of i)) c.in-Xadd.is)
+
+pub returns-in-Store : goal.returns-in-Store
+returns-in-Store g c = rw c.in-Store.is (written_as c.write_on_memory.result _ _ _ _
+    (store_text c.args.names.now c.in-Store.loc c.in-Store.val) c.write_on_memory.ensures)
+
+pub returns-in-Set : goal.returns-in-Set
+returns-in-Set g c = rw c.in-Set.is (written_as c.write_on_register.result _ _ _ _
+    (set_text c.args.names.now c.in-Set.reg c.in-Set.val) c.write_on_register.ensures)
+
+pub returns-in-Add : goal.returns-in-Add
+returns-in-Add g c = rw c.in-Add.is (written_as c.write_on_register-in-Add.result _ _ _ _
+    (add_text c.args.names.now c.in-Add.reg c.in-Add.val) c.write_on_register-in-Add.ensures)
+
+pub returns-in-Cmp : goal.returns-in-Cmp
+returns-in-Cmp g c = rw c.in-Cmp.is (written_as c.write_on_register-in-Cmp.result _ _ _ _
+    (compare_text c.args.names.now c.in-Cmp.reg c.in-Cmp.val) c.write_on_register-in-Cmp.ensures)
+
+pub returns-in-Xchg : goal.returns-in-Xchg
+returns-in-Xchg g c = rw c.in-Xchg.is (written_as c.write_on_memory-in-Xchg.result _ _ _ _
+    (exchange_text c.args.names.now c.in-Xchg.loc c.in-Xchg.reg) c.write_on_memory-in-Xchg.ensures)
+
+pub returns-in-Xadd : goal.returns-in-Xadd
+returns-in-Xadd g c = rw c.in-Xadd.is (written_as c.write_on_memory-in-Xadd.result _ _ _ _
+    (exchange_add_text c.args.names.now c.in-Xadd.loc c.in-Xadd.reg) c.write_on_memory-in-Xadd.ensures)
+
+pub returns-in-Load : goal.returns-in-Load
+returns-in-Load g c = rw c.in-Load.is c.write_load.ensures
+
+pub returns-in-Je : goal.returns-in-Je
+returns-in-Je g c = rw c.in-Je.is c.write.ensures.bytes
+
+pub returns-in-Jne : goal.returns-in-Jne
+returns-in-Jne g c = rw c.in-Jne.is c.write-in-Jne.ensures.bytes
+
+pub returns-in-Jmp : goal.returns-in-Jmp
+returns-in-Jmp g c = rw c.in-Jmp.is c.write-in-Jmp.ensures.bytes

@@ -1,12 +1,9 @@
 use Rattle.lw_base.proofs.api.Returns.{passed_on}
-use Rattle.lw_x86.proofs.X86Laws.{x86_lawful, x86_drafted}
+use Rattle.lw_x86.proofs.X86Laws.{x86_spelled}
 use Rattle.lw_x86.proofs.read.read_program.Goals as goal
 
-pub read_test-requires-clause-lawful : goal.read_test-requires-clause-lawful
-read_test-requires-clause-lawful g c = x86_lawful
-
-pub read_test-requires-clause-drafted : goal.read_test-requires-clause-drafted
-read_test-requires-clause-drafted g c = x86_drafted
+pub read_test-requires : goal.read_test-requires
+read_test-requires g c = (λ a there. there, (λ a there. there, (c.requires, x86_spelled)))
 
 pub returns-in_err-parts-clause-fault : goal.returns-in_err-parts-clause-fault
 returns-in_err-parts-clause-fault g c = passed_on _ _ c.from_residual.ensures.1 c.in_err-parts.ensures.fault

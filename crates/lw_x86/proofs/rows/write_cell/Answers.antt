@@ -6,13 +6,16 @@ use Rattle.lw_x86.proofs.rows.write_cell.Goals as goal
 
 pub write_instruction-requires : goal.write_instruction-requires
 write_instruction-requires g c =
-    located (length c.args.names.now) c.args.code.now c.args.row c.in-Some.instr.now c.requires (ltb-true c.args.row (length c.args.code.now) (sym c.in-Some.ensures.lookup.0)) c.in-Some.ensures.lookup.1
+    located (length c.args.names.now) c.args.code.now c.args.row c.in-Some.instr.now c.requires
+    (ltb-true c.args.row (length c.args.code.now) (sym c.in-Some.ensures.lookup.0)) c.in-Some.ensures.lookup.1
 
 pub returns-in_ok-write_label-in-Some : goal.returns-in_ok-write_label-in-Some
 returns-in_ok-write_label-in-Some g c =
     let code = c.args.code.now in
-    let at : slice_get code c.args.row ≡ Some c.in-Some.instr.now = slice_get_read code (length code) c.args.row c.in-Some.instr.now refl (omega (arith, ltb-true c.args.row (length code) (sym c.in-Some.ensures.lookup.0))) c.in-Some.ensures.lookup.1 in
-    then_written c.write_instruction.result _ _ _ _ _ _ c.in_ok-write_label-in-Some.ensures (sym (cell-at c.args.names.now code c.args.row c.in-Some.instr.now at)) c.write_instruction.ensures
+    let at : slice_get code c.args.row ≡ Some c.in-Some.instr.now = slice_get_read code (length code) c.args.row c.in-Some.instr.now refl
+    (omega (arith, ltb-true c.args.row (length code) (sym c.in-Some.ensures.lookup.0))) c.in-Some.ensures.lookup.1 in
+    then_written c.write_instruction.result _ _ _ _ _ _ c.in_ok-write_label-in-Some.ensures
+    (sym (cell-at c.args.names.now code c.args.row c.in-Some.instr.now at)) c.write_instruction.ensures
 
 pub returns-in-None : goal.returns-in-None
 returns-in-None g c =

@@ -1,0 +1,88 @@
+-- With what statements begin, and behind what locations stand.
+use Rattle.std.proofs.Common.{◌≡◌, true, Option, Some, List, [], ◌∷◌, ◌++◌, refl, sym, subst, arith}
+use Rattle.std.specs.Prelude.{codes, Contains}
+use Rattle.std.specs.Fmt.{decimal}
+use Rattle.lw_base.specs.Names.{IsLocation}
+use Rattle.lw_base.specs.Registers.{register_name}
+use Rattle.lw_base.specs.Types.{Bytes, TokenList}
+use Rattle.lw_base.specs.declared.operand.Operand.TheVariants as operand
+use Rattle.lw_text.proofs.api.Spelling.{name_by_test, decimal_is_number}
+use Rattle.lw_cells.specs.declared.draft.Operands.{Operands}
+use Rattle.lw_cells.specs.declared.slot.Slot.{Slot}
+use Rattle.lw_cells.specs.declared.slot.Slot.TheVariants.{Word, Register, Location, Value, Number, Label}
+use Rattle.lw_cells.specs.Grammars.{CanBegin, BeforeLocation}
+use Rattle.lw_cells.specs.Spellings.{Spelling, Given, Filling, Gives, Fills, grammar_of, name_in}
+use Rattle.lw_cells.specs.Found.{CanStand, BeginsWith, names_none, names_one, IsSpelling}
+use Rattle.lw_cells.proofs.api.Forms.{passes}
+
+module _ {W Form Stmt : Type 0} (spelling : Spelling W Form Stmt) where
+  -- Some token stands at each slot, so some tokens stand at any slots.
+  stands : (slot : Slot W) → (t : Bytes) × (g : Given slot) × Gives spelling t slot g
+  stands (Word w) = (spelling.text_of w, tt, refl)
+  stands Register = (register_name spelling.language.arch 0, 0, (omega arith, refl))
+  stands Location = (codes "x", codes "x", (refl, (name_by_test (codes "x") refl, refl)))
+  stands Value = (decimal 0, operand.Number 0, decimal_is_number 0 (omega arith))
+  stands Number = (decimal 0, 0, decimal_is_number 0 (omega arith))
+  stands Label = (codes "x", codes "x", (refl, (name_by_test (codes "x") refl, refl)))
+
+  filled : (slots : List (Slot W)) → (ts : TokenList) × CanStand spelling ts slots
+  filled [] = ([], (tt, tt))
+  filled (slot ∷ slots) =
+      let s = stands slot in
+      let f = filled slots in
+      (s.0 ∷ f.0, ((s.1, f.1.0), (s.2, f.1.1)))
+
+  -- ---- the first token
+
+  pub begins : (form : Form) (t : Bytes) → Contains spelling.forms form → BeginsWith spelling (spelling.slots_of form) t → CanBegin (grammar_of spelling) t
+  begins form t there (slot, rest, cut, here) =
+      let behind = filled rest in
+      let whole : (f : Filling (spelling.slots_of form)) × Fills spelling (t ∷ behind.0) (spelling.slots_of form) f =
+      subst (λ (slots : List (Slot W)). (f : Filling slots) × Fills spelling (t ∷ behind.0) slots f) (sym cut)
+      ((here.0.0, behind.1.0), (here.1.0, behind.1.1)) in
+      (behind.0, record { form = form; filling = whole.0 }, (there, whole.1))
+
+  pub begun : (t : Bytes) (rest : TokenList) (slots : List (Slot W)) (f : Filling slots) → Fills spelling (t ∷ rest) slots f → BeginsWith spelling slots t
+  begun t rest [] f h = absurd h
+  begun t rest (slot ∷ slots) f h = (slot, slots, refl, ((f.0, tt), (h.0, tt)))
+
+  -- ---- a location
+
+  none_there : (front back : List (Slot W)) → names_none spelling (front ++ Location ∷ back) ≡ true → ⊥
+  none_there [] back e = absurd cc
+  none_there (Word w ∷ front) back e = none_there front back e
+  none_there (Register ∷ front) back e = none_there front back e
+  none_there (Location ∷ front) back e = absurd cc
+  none_there (Value ∷ front) back e = none_there front back e
+  none_there (Number ∷ front) back e = none_there front back e
+  none_there (Label ∷ front) back e = none_there front back e
+
+  module _ (x : Bytes) (loc : IsLocation x) (back : List (Slot W)) (us : TokenList) (g : Filling back) (behind : Fills spelling us back g) where
+    abbrev IsAt : TokenList → List (Slot W) → Type 0
+    IsAt ts front =
+        (f : Filling (front ++ Location ∷ back)) × Fills spelling (ts ++ x ∷ us) (front ++ Location ∷ back) f
+        × (name_in (front ++ Location ∷ back) f ≡ Some x)
+
+    located : (ts : TokenList) (front : List (Slot W)) (f : Filling front) → Fills spelling ts front f
+        → names_one spelling (front ++ Location ∷ back) ≡ true → IsAt ts front
+    located [] [] f h e = ((x, g), ((refl, loc), behind), refl)
+    located (t ∷ ts) [] f h e = absurd h
+    located [] (slot ∷ front) f h e = absurd h
+    located (t ∷ ts) (Word w ∷ front) f h e = let r = located ts front f.1 h.1 e in ((f.0, r.0), (h.0, r.1), r.2)
+    located (t ∷ ts) (Register ∷ front) f h e = let r = located ts front f.1 h.1 e in ((f.0, r.0), (h.0, r.1), r.2)
+    located (t ∷ ts) (Location ∷ front) f h e = absurd (none_there front back e)
+    located (t ∷ ts) (Value ∷ front) f h e = let r = located ts front f.1 h.1 e in ((f.0, r.0), (h.0, r.1), r.2)
+    located (t ∷ ts) (Number ∷ front) f h e = let r = located ts front f.1 h.1 e in ((f.0, r.0), (h.0, r.1), r.2)
+    located (t ∷ ts) (Label ∷ front) f h e = let r = located ts front f.1 h.1 e in ((f.0, r.0), (h.0, r.1), r.2)
+
+  pub before : (made : Form → Operands → Option Stmt) → IsSpelling spelling made → (form : Form) (front back : List (Slot W)) (ts : TokenList)
+      → Contains spelling.forms form → spelling.slots_of form ≡ front ++ Location ∷ back → CanStand spelling ts front
+      → BeforeLocation (grammar_of spelling) ts
+  before made lawful form front back ts there cut here x loc =
+      let rest = filled back in
+      let one = passes (λ form. names_one spelling (spelling.slots_of form)) spelling.forms there.0 form lawful.names there.1 there.2 in
+      let whole : (f : Filling (spelling.slots_of form)) × Fills spelling (ts ++ x ∷ rest.0) (spelling.slots_of form) f
+      × (name_in (spelling.slots_of form) f ≡ Some x) =
+      subst (λ (slots : List (Slot W)). names_one spelling slots ≡ true → (f : Filling slots) × Fills spelling (ts ++ x ∷ rest.0) slots f
+      × (name_in slots f ≡ Some x)) (sym cut) (located x loc back rest.0 rest.1.0 rest.1.1 ts front here.0 here.1) one in
+      (rest.0, record { form = form; filling = whole.0 }, (there, whole.1), whole.2)

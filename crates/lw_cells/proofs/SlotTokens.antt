@@ -1,0 +1,169 @@
+-- What tokens at slots give, as the reader finds it.
+use Rattle.std.proofs.Common.{◌≡◌, ℕ, zero, suc, ◌+◌, ◌<◌, ◌≤◌, Option, Some, None, List, [], ◌∷◌, length, get_or, inl, inr, refl, sym, ap, ◌∙◌, subst, arith}
+use Rattle.std.specs.Prelude.{slice_get, MatchOption, IsTrue, ◌↔◌, Contains}
+use Rattle.std.specs.Option.{is_some}
+use Rattle.std.proofs.lemmas.Bool.{cases_lt}
+use Rattle.std.proofs.lemmas.Option.{slice_get_within}
+use Rattle.lw_base.proofs.api.Lists.{at_index}
+use Rattle.lw_base.specs.Types.{Bytes, NameTable, TokenList}
+use Rattle.lw_base.specs.declared.head.Arch.{Arch}
+use Rattle.lw_base.specs.declared.operand.Operand.{Operand}
+use Rattle.lw_base.specs.declared.operand.Operand.TheVariants as operand
+use Rattle.lw_base.specs.Limits.{most_locations}
+use Rattle.lw_base.specs.Names.{IsLocation}
+use Rattle.lw_base.specs.Registers.{IsRegister}
+use Rattle.lw_text.specs.Tokens.{IsNumber}
+use Rattle.lw_text.specs.declared.token.Token.{Token}
+use Rattle.lw_text.specs.Spans.{texts}
+use Rattle.lw_cells.specs.declared.slot.Slot.{Slot}
+use Rattle.lw_cells.specs.declared.slot.Slot.TheVariants.{Location, Label}
+use Rattle.lw_cells.specs.declared.spelled.Found.{Found}
+use Rattle.lw_cells.specs.Operands.{IsOperand}
+use Rattle.lw_cells.specs.Spellings.{Spelling, Given, Filling, Gives, Fills}
+use Rattle.lw_cells.specs.Found.{CanStand, BeginsWith}
+use Rattle.lw_cells.specs.Found.{with_name_at, with_label_at, found_with, found_of, reach_of, NinthAt}
+
+-- a token that is neither a register nor a number is no operand
+pub no_operand : (arch : Arch) (w : Bytes) → ((r : ℕ) → IsRegister arch w r → ⊥) → ((n : ℕ) → IsNumber w n → ⊥) → (v : Operand) → IsOperand arch w v → ⊥
+no_operand arch w reg num (operand.Register r) h = reg r h
+no_operand arch w reg num (operand.Number n) h = num n h
+
+module _ {W Form Stmt : Type 0} (spelling : Spelling W Form Stmt) where
+  -- what the token of this index gives at a slot, in front of what was found behind it, or that it cannot stand there
+  abbrev pub IsTaken : (slot : Slot W) → Bytes → ℕ → Found → Option Found → Type 0
+  IsTaken slot t k found result =
+      MatchOption result ((g : Given slot) → Gives spelling t slot g → ⊥)
+      (λ all. (g : Given slot) × Gives spelling t slot g × (all ≡ found_with k slot g found))
+
+  -- Tokens stand at slots, of which the first has this index: this is found, or nothing is.
+  abbrev pub AreTaken : TokenList → ℕ → (slots : List (Slot W)) → Option Found → Type 0
+  AreTaken ts k slots result =
+      MatchOption result ((f : Filling slots) → Fills spelling ts slots f → ⊥)
+      (λ all. (f : Filling slots) × Fills spelling ts slots f × (all ≡ found_of k slots f))
+
+  -- a token in front, and those behind it
+  pub taken_more : (slots rest : List (Slot W)) (slot : Slot W) (tokens more : List Token) (token : Token) (k : ℕ) (found : Found)
+      (result : Option Found) → slots ≡ slot ∷ rest → tokens ≡ token ∷ more
+      → (f : Filling rest) × Fills spelling (texts more) rest f × (found ≡ found_of (k + 1) rest f) → IsTaken slot token.text.now k found result
+      → AreTaken (texts tokens) k slots result
+  taken_more slots rest slot tokens more token k found None a b (f, fills, is) h = rw (a, b) (λ g s. h g.0 s.0)
+  taken_more slots rest slot tokens more token k found (Some all) a b (f, fills, is) (g, gives, made) = rw (a, b)
+      ((g, f), (gives, fills), made ∙ ap (found_with k slot g) is)
+
+  -- the token in front cannot stand, or those behind it cannot
+  pub none_more : (slots rest : List (Slot W)) (slot : Slot W) (tokens more : List Token) (token : Token) → slots ≡ slot ∷ rest → tokens ≡ token ∷ more
+      → ((f : Filling rest) → Fills spelling (texts more) rest f → ⊥) → (f : Filling slots) → Fills spelling (texts tokens) slots f → ⊥
+  none_more slots rest slot tokens more token a b none = rw (a, b) (λ f s. none f.1 s.1)
+
+  -- all slots are filled, and a token is left
+  pub none_left : (slots : List (Slot W)) (tokens : List Token) → length slots ≡ 0 → (length tokens ≡ 0 → ⊥) → (f : Filling slots)
+      → Fills spelling (texts tokens) slots f → ⊥
+  none_left slots [] a some = absurd (some refl)
+  none_left [] (t ∷ tokens) a some = λ f s. s
+  none_left (slot ∷ slots) (t ∷ tokens) a some = absurd (omega (arith, a))
+
+  pub taken_name : (t : Bytes) (k : ℕ) (found : Found) (result : Option Found)
+      → MatchOption result (IsLocation t → ⊥) (λ all. IsLocation t × (all ≡ with_name_at k found)) → IsTaken Location t k found result
+  taken_name t k found None h = λ x is. h (subst IsLocation (sym is.0) is.1)
+  taken_name t k found (Some all) h = (t, (refl, h.0), h.1)
+
+  pub taken_label : (t : Bytes) (k : ℕ) (found : Found) (result : Option Found)
+      → MatchOption result (IsLocation t → ⊥) (λ all. IsLocation t × (all ≡ with_label_at k found)) → IsTaken Label t k found result
+  taken_label t k found None h = λ x is. h (subst IsLocation (sym is.0) is.1)
+  taken_label t k found (Some all) h = (t, (refl, h.0), h.1)
+
+  -- whether a token can stand at a slot
+  pub can_stand_alone : (t : Bytes) (slot : Slot W) (k : ℕ) (found : Found) (result : Option Found) → IsTaken slot t k found result
+      → IsTrue (is_some result) ↔ CanStand spelling (t ∷ []) (slot ∷ [])
+  can_stand_alone t slot k found None h = (λ e. absurd cc, λ s. absurd (h s.0.0 s.1.0))
+  can_stand_alone t slot k found (Some all) h = (λ e. ((h.0, tt), (h.1, tt)), λ s. refl)
+
+  -- the slots begin with one, at which the token can stand or not
+  pub begins_as : (slots rest : List (Slot W)) (slot : Slot W) (t : Bytes) → slots ≡ slot ∷ rest → BeginsWith spelling slots t
+      → CanStand spelling (t ∷ []) (slot ∷ [])
+  begins_as slots rest slot t a (other, more, b, stands) = let same : other ≡ slot = heads (sym b ∙ a) in subst
+      (λ (s : Slot W). CanStand spelling (t ∷ []) (s ∷ [])) same stands
+    where
+      heads : other ∷ more ≡ slot ∷ rest → other ≡ slot
+      heads e = cc
+
+  -- ---- a ninth location
+
+  -- it stands in front
+  pub ninth_here : (slots rest : List (Slot W)) (tokens more : List Token) (token : Token) (names : NameTable) → slots ≡ Location ∷ rest
+      → tokens ≡ token ∷ more → CanStand spelling (token.text.now ∷ []) (Location ∷ [])
+      → (length names ≡ most_locations) × (Contains names token.text.now → ⊥) → NinthAt spelling slots tokens names 0
+  ninth_here slots rest tokens more token names a b stands (full, new) = record {
+    front = [];
+    back = rest;
+    cut = a;
+    before = (tt, tt);
+    token = token;
+    is = ap (λ (ts : List Token). slice_get ts 0) b;
+    ninth = (refl, subst IsLocation (sym stands.1.0.0) stands.1.0.1, full, new);
+  }
+
+  -- it stands further behind
+  pub ninth_behind : (slots rest : List (Slot W)) (slot : Slot W) (tokens more : List Token) (token : Token) (names : NameTable) (k : ℕ)
+      → slots ≡ slot ∷ rest → tokens ≡ token ∷ more → CanStand spelling (token.text.now ∷ []) (slot ∷ []) → NinthAt spelling rest more names k
+      → NinthAt spelling slots tokens names (k + 1)
+  ninth_behind slots rest slot tokens more token names k a b stands n =
+      let e : k + 1 ≡ suc k = omega arith in
+      rw (e, a, b) (record {
+        front = slot ∷ n.front;
+        back = n.back;
+        cut = ap (λ (s : List (Slot W)). slot ∷ s) n.cut;
+        before = ((stands.0.0, n.before.0), (stands.1.0, n.before.1));
+        token = n.token;
+        is = n.is;
+        ninth = n.ninth;
+      })
+
+  pub ninth_within : (slots : List (Slot W)) (tokens : List Token) (names : NameTable) (k : ℕ) → NinthAt spelling slots tokens names k → k < length tokens
+  ninth_within slots tokens names k n = slice_get_within tokens k n.token n.is
+
+  -- ---- how far statements go on
+
+  pub reach_none : (slots : List (Slot W)) (ts : TokenList) → slots ≡ [] → reach_of spelling ts slots 0
+  reach_none slots ts a = rw a refl
+
+  pub reach_end : (slots rest : List (Slot W)) (slot : Slot W) (tokens : List Token) → slots ≡ slot ∷ rest → tokens ≡ []
+      → reach_of spelling (texts tokens) slots 0
+  reach_end slots rest slot tokens a b = rw (a, b) refl
+
+  pub reach_stop : (slots rest : List (Slot W)) (slot : Slot W) (tokens more : List Token) (token : Token) → slots ≡ slot ∷ rest → tokens ≡ token ∷ more
+      → (CanStand spelling (token.text.now ∷ []) (slot ∷ []) → ⊥) → reach_of spelling (texts tokens) slots 0
+  reach_stop slots rest slot tokens more token a b none = rw (a, b) none
+
+  pub reach_more : (slots rest : List (Slot W)) (slot : Slot W) (tokens more : List Token) (token : Token) (k : ℕ) → slots ≡ slot ∷ rest
+      → tokens ≡ token ∷ more → CanStand spelling (token.text.now ∷ []) (slot ∷ []) → reach_of spelling (texts more) rest k
+      → reach_of spelling (texts tokens) slots (1 + k)
+  reach_more slots rest slot tokens more token k a b stands h = let e : 1 + k ≡ suc k = omega arith in rw (e, a, b) (stands, h)
+
+  -- tokens stand no further than they reach
+  pub at_most : (ts : TokenList) (slots : List (Slot W)) (m n : ℕ) → reach_of spelling ts slots m → reach_of spelling ts slots n → m ≤ n
+  at_most ts [] m n h k = omega (arith, h)
+  at_most [] (slot ∷ slots) m n h k = omega (arith, h)
+  at_most (t ∷ ts) (slot ∷ slots) zero n h k = omega arith
+  at_most (t ∷ ts) (slot ∷ slots) (suc m) zero h k = absurd (k h.0)
+  at_most (t ∷ ts) (slot ∷ slots) (suc m) (suc n) h k = let less = at_most ts slots m n h.1 k.1 in omega (arith, less)
+
+-- ---- a walk through a list
+
+-- what holds of all before an element, and of it
+pub all_further : {X : Type 0} (P : X → Type 0) (xs : List X) (i : ℕ) (x : X) → i < length xs → x ≡ get_or xs i x → P x
+    → ((k : ℕ) (y : X) → k < i → slice_get xs k ≡ Some y → P y) → (k : ℕ) (y : X) → k < i + 1 → slice_get xs k ≡ Some y → P y
+all_further {X} P xs i x within is here before k y less at =
+    elim (cases_lt k i) [
+      | inl h ↦ before k y h at
+      | inr h ↦ (
+          let same : k ≡ i = omega (arith, h, less) in
+          let found : Some x ≡ Some y = ap Some is ∙ sym (at_index xs i x within) ∙ ap (slice_get xs) (sym same) ∙ at in
+          let one : x ≡ y = cc in
+          subst P one here)
+    ]
+
+-- what holds of all holds of each
+pub all_contained : {X : Type 0} (P : X → Type 0) (xs : List X) (i : ℕ) → length xs ≤ i → ((k : ℕ) (y : X) → k < i → slice_get xs k ≡ Some y → P y)
+    → (x : X) → Contains xs x → P x
+all_contained P xs i end all x (k, within, is) = all k x (omega (arith, end, within)) (at_index xs k x within ∙ ap Some is)

@@ -1,0 +1,204 @@
+-- Tokens at slots: what they give is theirs alone, and forms whose slots differ exclude each other.
+use Rattle.std.proofs.Common.{◌≡◌, ℕ, zero, suc, ◌<◌, Bool, true, false, true≢false, List, [], ◌∷◌, length, map, get_or, refl, sym, ap, ◌∙◌, subst, arith, inl}
+use Rattle.std.proofs.Common.{inr}
+use Rattle.std.specs.Prelude.{not, ◌||◌, codes}
+use Rattle.std.specs.List.{list_any}
+use Rattle.std.specs.Str.{bytes_eq}
+use Rattle.std.proofs.lemmas.Bool.{cases_Bool, or_right}
+use Rattle.std.proofs.lemmas.Slice.Eq.{bytes_eq-Decides}
+use Rattle.lw_base.specs.Types.{Bytes, TokenList}
+use Rattle.lw_base.specs.Characters.{begins}
+use Rattle.std.specs.Char.{is_ascii_digit, to_ascii_lowercase}
+use Rattle.lw_base.specs.declared.head.Arch.{Arch}
+use Rattle.lw_base.specs.declared.head.Arch.TheVariants.{Source, X86}
+use Rattle.lw_base.specs.declared.operand.Operand.{Operand}
+use Rattle.lw_base.specs.declared.operand.Operand.TheVariants as operand
+use Rattle.lw_base.specs.Names.{IsLocation, is_reserved, is_numbered, keywords, x86_registers}
+use Rattle.lw_base.specs.Registers.{IsRegister, register_name, without_case}
+use Rattle.lw_base.proofs.api.Registers.{register_unique}
+use Rattle.lw_text.specs.Tokens.{IsNumber}
+use Rattle.lw_text.proofs.api.Numbers.{number-unique, number_first}
+use Rattle.lw_cells.specs.declared.slot.Slot.{Slot}
+use Rattle.lw_cells.specs.declared.slot.Slot.TheVariants.{Word, Register, Location, Value, Number, Label}
+use Rattle.lw_cells.specs.Operands.{IsOperand}
+use Rattle.lw_cells.specs.Spellings.{Spelling, Given, Filling, Gives, Fills}
+use Rattle.lw_cells.specs.Found.{names_register, differ, are_apart, is_no_colon}
+
+-- ---- words
+
+-- the name of a register is reserved
+numbered : (r : ℕ) → r < 6 → is_reserved (register_name Source r) ≡ true
+numbered zero h = refl
+numbered (suc zero) h = refl
+numbered (suc (suc zero)) h = refl
+numbered (suc (suc (suc zero))) h = refl
+numbered (suc (suc (suc (suc zero)))) h = refl
+numbered (suc (suc (suc (suc (suc zero))))) h = refl
+numbered (suc (suc (suc (suc (suc (suc r)))))) h = absurd (omega arith)
+
+of_x86 : (r : ℕ) → r < 6 → list_any (λ k. bytes_eq (without_case X86 (register_name X86 r)) k) x86_registers ≡ true
+of_x86 zero h = refl
+of_x86 (suc zero) h = refl
+of_x86 (suc (suc zero)) h = refl
+of_x86 (suc (suc (suc zero))) h = refl
+of_x86 (suc (suc (suc (suc zero)))) h = refl
+of_x86 (suc (suc (suc (suc (suc zero))))) h = refl
+of_x86 (suc (suc (suc (suc (suc (suc r)))))) h = absurd (omega arith)
+
+register_reserved : (arch : Arch) (w : Bytes) (r : ℕ) → IsRegister arch w r → is_reserved w ≡ true
+register_reserved Source w r h = ap is_reserved (sym h.1) ∙ numbered r h.0
+register_reserved X86 w r h =
+    or_right (is_numbered w || list_any (λ k. bytes_eq w k) keywords) (list_any (λ k. bytes_eq (map to_ascii_lowercase w) k) x86_registers)
+    (ap (λ v. list_any (λ k. bytes_eq v k) x86_registers) (sym h.1) ∙ of_x86 r h.0)
+
+-- a register names no location
+register_apart : (arch : Arch) (w : Bytes) (r : ℕ) → IsRegister arch w r → IsLocation w → ⊥
+register_apart arch w r reg loc = true≢false (sym (register_reserved arch w r reg) ∙ loc.1)
+
+-- a number names none, and is no register
+number_apart : (w : Bytes) (n : ℕ) → IsNumber w n → IsLocation w → ⊥
+number_apart w n num loc = true≢false (sym (number_first w n num) ∙ loc.0.0.front)
+
+letter_first : (arch : Arch) (r : ℕ) → r < 6 → begins is_ascii_digit (without_case arch (register_name arch r)) ≡ false
+letter_first Source r h = refl
+letter_first X86 zero h = refl
+letter_first X86 (suc zero) h = refl
+letter_first X86 (suc (suc zero)) h = refl
+letter_first X86 (suc (suc (suc zero))) h = refl
+letter_first X86 (suc (suc (suc (suc zero)))) h = refl
+letter_first X86 (suc (suc (suc (suc (suc zero))))) h = refl
+letter_first X86 (suc (suc (suc (suc (suc (suc r)))))) h = absurd (omega arith)
+
+digit_lower : (c : ℕ) → is_ascii_digit c ≡ true → is_ascii_digit (to_ascii_lowercase c) ≡ true
+digit_lower c d = grind arith
+
+digit_first : (arch : Arch) (w : Bytes) → begins is_ascii_digit w ≡ true → begins is_ascii_digit (without_case arch w) ≡ true
+digit_first Source w d = d
+digit_first X86 [] d = absurd cc
+digit_first X86 (c ∷ w) d = digit_lower c d
+
+register_number : (arch : Arch) (w : Bytes) (r n : ℕ) → IsRegister arch w r → IsNumber w n → ⊥
+register_number arch w r n reg num =
+    true≢false (sym (digit_first arch w (number_first w n num)) ∙ ap (begins is_ascii_digit) (sym reg.1) ∙ letter_first arch r reg.0)
+
+operand_unique : (arch : Arch) (w : Bytes) (u v : Operand) → IsOperand arch w u → IsOperand arch w v → u ≡ v
+operand_unique arch w (operand.Register r) (operand.Register q) h k = ap operand.Register (register_unique arch w r q h k)
+operand_unique arch w (operand.Register r) (operand.Number n) h k = absurd (register_number arch w r n h k)
+operand_unique arch w (operand.Number n) (operand.Register r) h k = absurd (register_number arch w r n k h)
+operand_unique arch w (operand.Number n) (operand.Number m) h k = ap operand.Number (number-unique w n m h k)
+
+operand_apart : (arch : Arch) (w : Bytes) (v : Operand) → IsOperand arch w v → IsLocation w → ⊥
+operand_apart arch w (operand.Register r) h = register_apart arch w r h
+operand_apart arch w (operand.Number n) h = number_apart w n h
+
+-- what is said to be unequal is so
+unequal : (u v : Bytes) → not (bytes_eq u v) ≡ true → u ≡ v → ⊥
+unequal u v e same = true≢false (sym e ∙ ap not ((bytes_eq-Decides u v).1 same))
+
+colon_case : (arch : Arch) → without_case arch (codes ":") ≡ codes ":"
+colon_case Source = refl
+colon_case X86 = refl
+
+colon_location : IsLocation (codes ":") → ⊥
+colon_location loc = true≢false (sym loc.0.0.all.0)
+
+module _ {W Form Stmt : Type 0} (spelling : Spelling W Form Stmt) where
+  -- ---- one token
+
+  pub given_unique : (t : Bytes) (slot : Slot W) (g h : Given slot) → Gives spelling t slot g → Gives spelling t slot h → g ≡ h
+  given_unique t (Word w) g h a b = refl
+  given_unique t Register g h a b = register_unique spelling.language.arch t g h a b
+  given_unique t Location g h a b = sym a.0 ∙ b.0
+  given_unique t Value g h a b = operand_unique spelling.language.arch t g h a b
+  given_unique t Number g h a b = number-unique t g h a b
+  given_unique t Label g h a b = sym a.0 ∙ b.0
+
+  named : (w : Bytes) (r : ℕ) → r < 6 → without_case spelling.language.arch
+      (register_name spelling.language.arch r) ≡ without_case spelling.language.arch w → names_register spelling w ≡ true
+  named w r h e = go r h ((bytes_eq-Decides _ _).1 e)
+    where
+      same : ℕ → Bool
+      same q = bytes_eq (without_case spelling.language.arch (register_name spelling.language.arch q)) (without_case spelling.language.arch w)
+
+      at : (k : ℕ) (qs : List ℕ) (q : ℕ) → get_or qs k q ≡ q → k < length qs → same q ≡ true → list_any same qs ≡ true
+      at k [] q e h s = absurd (omega (arith, h))
+      at zero (p ∷ qs) q e h s = let f : same p ≡ true = ap same e ∙ s in rw f refl
+      at (suc k) (p ∷ qs) q e h s = or_right (same p) (list_any same qs) (at k qs q e (omega (arith, h)) s)
+
+      go : (q : ℕ) → q < 6 → same q ≡ true → names_register spelling w ≡ true
+      go zero h s = at 0 (0 ∷ 1 ∷ 2 ∷ 3 ∷ 4 ∷ 5 ∷ []) 0 refl (omega arith) s
+      go (suc zero) h s = at 1 (0 ∷ 1 ∷ 2 ∷ 3 ∷ 4 ∷ 5 ∷ []) 1 refl (omega arith) s
+      go (suc (suc zero)) h s = at 2 (0 ∷ 1 ∷ 2 ∷ 3 ∷ 4 ∷ 5 ∷ []) 2 refl (omega arith) s
+      go (suc (suc (suc zero))) h s = at 3 (0 ∷ 1 ∷ 2 ∷ 3 ∷ 4 ∷ 5 ∷ []) 3 refl (omega arith) s
+      go (suc (suc (suc (suc zero)))) h s = at 4 (0 ∷ 1 ∷ 2 ∷ 3 ∷ 4 ∷ 5 ∷ []) 4 refl (omega arith) s
+      go (suc (suc (suc (suc (suc zero))))) h s = at 5 (0 ∷ 1 ∷ 2 ∷ 3 ∷ 4 ∷ 5 ∷ []) 5 refl (omega arith) s
+      go (suc (suc (suc (suc (suc (suc q)))))) h s = absurd (omega arith)
+
+  no_register : (t : Bytes) (w : W) (r : ℕ) → not (names_register spelling (spelling.text_of w)) ≡ true
+      → without_case spelling.language.arch (spelling.text_of w) ≡ without_case spelling.language.arch t → IsRegister spelling.language.arch t r → ⊥
+  no_register t w r none word reg = true≢false (sym none ∙ ap not (named (spelling.text_of w) r reg.0 (reg.1 ∙ sym word)))
+
+  -- no token stands at two slots that differ
+  differ_apart : (t : Bytes) (a b : Slot W) (g : Given a) (h : Given b) → differ spelling a b ≡ true → Gives spelling t a g → Gives spelling t b h → ⊥
+  differ_apart t (Word v) (Word w) g h d x y = unequal _ _ d (x ∙ sym y)
+  differ_apart t (Word w) Register g r d x y = no_register t w r d x y
+  differ_apart t Register (Word w) r h d x y = no_register t w r d y x
+  differ_apart t Register Location r n d x y = register_apart spelling.language.arch t r x (subst IsLocation (sym y.0) y.1)
+  differ_apart t Location Register n r d x y = register_apart spelling.language.arch t r y (subst IsLocation (sym x.0) x.1)
+  differ_apart t Location Value n v d x y = operand_apart spelling.language.arch t v y (subst IsLocation (sym x.0) x.1)
+  differ_apart t Value Location v n d x y = operand_apart spelling.language.arch t v x (subst IsLocation (sym y.0) y.1)
+  differ_apart t (Word w) Location g h d x y = absurd cc
+  differ_apart t (Word w) Value g h d x y = absurd cc
+  differ_apart t (Word w) Number g h d x y = absurd cc
+  differ_apart t (Word w) Label g h d x y = absurd cc
+  differ_apart t Register Register g h d x y = absurd cc
+  differ_apart t Register Value g h d x y = absurd cc
+  differ_apart t Register Number g h d x y = absurd cc
+  differ_apart t Register Label g h d x y = absurd cc
+  differ_apart t Location (Word w) g h d x y = absurd cc
+  differ_apart t Location Location g h d x y = absurd cc
+  differ_apart t Location Number g h d x y = absurd cc
+  differ_apart t Location Label g h d x y = absurd cc
+  differ_apart t Value (Word w) g h d x y = absurd cc
+  differ_apart t Value Register g h d x y = absurd cc
+  differ_apart t Value Value g h d x y = absurd cc
+  differ_apart t Value Number g h d x y = absurd cc
+  differ_apart t Value Label g h d x y = absurd cc
+  differ_apart t Number b g h d x y = absurd cc
+  differ_apart t Label b g h d x y = absurd cc
+
+  -- a `:` stands at no slot but its own
+  pub colon_gives : (slot : Slot W) (slots : List (Slot W)) (g : Given slot) → is_no_colon spelling (slot ∷ slots) ≡ true
+      → Gives spelling (codes ":") slot g → ⊥
+  colon_gives (Word w) slots g apart h = unequal _ _ apart (h ∙ colon_case spelling.language.arch)
+  colon_gives Register slots r apart h = true≢false (sym (register_reserved spelling.language.arch (codes ":") r h))
+  colon_gives Location slots x apart h = colon_location (subst IsLocation (sym h.0) h.1)
+  colon_gives Value slots (operand.Register r) apart h = true≢false (sym (register_reserved spelling.language.arch (codes ":") r h))
+  colon_gives Value slots (operand.Number n) apart h = true≢false (sym (number_first (codes ":") n h))
+  colon_gives Number slots n apart h = true≢false (sym (number_first (codes ":") n h))
+  colon_gives Label slots l apart h = colon_location (subst IsLocation (sym h.0) h.1)
+
+  -- ---- some tokens
+
+  pub filling_unique : (ts : TokenList) (slots : List (Slot W)) (f g : Filling slots) → Fills spelling ts slots f → Fills spelling ts slots g → f ≡ g
+  filling_unique [] [] f g a b = refl
+  filling_unique [] (slot ∷ slots) f g a b = absurd a
+  filling_unique (t ∷ ts) [] f g a b = absurd a
+  filling_unique (t ∷ ts) (slot ∷ slots) (x, f) (y, g) a b =
+      let e = given_unique t slot x y a.0 b.0 in
+      let h = filling_unique ts slots f g a.1 b.1 in
+      ap (λ (z : Given slot). (z, f)) e ∙ ap (λ (z : Filling slots). (y, z)) h
+
+  pub slots_apart : (ts : TokenList) (first second : List (Slot W)) (f : Filling first) (g : Filling second) → are_apart spelling first second ≡ true
+      → Fills spelling ts first f → Fills spelling ts second g → ⊥
+  slots_apart [] [] [] f g d x y = absurd cc
+  slots_apart (t ∷ ts) [] second f g d x y = x
+  slots_apart [] (a ∷ first) second f g d x y = x
+  slots_apart [] [] (b ∷ second) f g d x y = y
+  slots_apart (t ∷ ts) (a ∷ first) [] f g d x y = y
+  slots_apart (t ∷ ts) (a ∷ first) (b ∷ second) (p, f) (q, g) d x y =
+      elim (cases_Bool (differ spelling a b)) [
+        | inl e ↦ differ_apart t a b p q e x.0 y.0
+        | inr e ↦ slots_apart ts first second f g (let h : (false || are_apart spelling first second) ≡ true = subst
+            (λ (z : Bool). (z || are_apart spelling first second) ≡ true) e d in h) x.1 y.1
+      ]

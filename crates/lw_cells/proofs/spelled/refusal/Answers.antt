@@ -1,0 +1,10 @@
+use Rattle.std.proofs.Common.{◌<◌, length, sym}
+use Rattle.lw_cells.proofs.StatementsRead.{ninth_in}
+use Rattle.lw_cells.proofs.spelled.refusal.Goals as goal
+
+pub returns-in-Some-clause-cause : goal.returns-in-Some-clause-cause
+returns-in-Some-clause-cause g c =
+    let within : c.loop-form.form-index < length g.L.StatementReader.spelling.forms = rw c.forms-form-items.ensures at c.loop-form-test.true in
+    ninth_in g.L.StatementReader.spelling g.L.StatementReader.made c.requires c.form-item.result
+    (c.loop-form.form-index, within, sym (rw c.forms-form-items.ensures at c.form-item.is)) c.args.phrase.now.tokens.now c.args.locs.now c.in-Some.index _
+    (rw c.slots.ensures at (rw c.in-Some.is at c.ninth.ensures))

@@ -1,0 +1,308 @@
+-- What is read of a statement's tokens, and the statement that is made of it.
+use Rattle.std.specs.Prelude.{◌≡◌, ◌≢◌, MatchOption, ◌<◌, ◌≤◌, ◌+◌, ◌&&◌, ◌||◌, ℕ, zero, suc, Bool, true, false, not, Option, Some, None, List, [], ◌∷◌, ◌++◌}
+use Rattle.std.specs.Prelude.{◌^◌, take, codes, slice_get, Contains}
+use Rattle.std.specs.List.{AllByRecursion, list_any, list_all}
+use Rattle.std.specs.Option.{option_map}
+use Rattle.std.specs.Str.{bytes_eq}
+use Rattle.lw_base.specs.WellFormed.{IsRegisterNumber, IsWord}
+use Rattle.lw_base.specs.Names.{IsLocation}
+use Rattle.lw_base.specs.Tables.{with_name, index_of}
+use Rattle.lw_base.specs.Types.{Bytes, NameTable, TokenList}
+use Rattle.lw_base.specs.declared.fault.CellFault.{CellFault}
+use Rattle.lw_base.specs.declared.fault.CellCause.TheVariants.{Memory}
+use Rattle.lw_base.specs.declared.operand.Operand.{Operand}
+use Rattle.lw_base.specs.declared.operand.Operand.TheVariants as operand
+use Rattle.lw_base.specs.Registers.{register_name, without_case}
+use Rattle.lw_litmus.specs.Operations.{location_of, target_of}
+use Rattle.lw_litmus.specs.WellFormed.{registers_of, numbers_of}
+use Rattle.lw_text.specs.declared.token.Token.{Token}
+use Rattle.lw_text.specs.Spans.{texts}
+use Rattle.lw_cells.specs.declared.draft.Operands.{Operands}
+use Rattle.lw_cells.specs.declared.draft.Draft.{Draft}
+use Rattle.lw_cells.specs.declared.spelled.Found.{Found}
+use Rattle.lw_cells.specs.declared.slot.Slot.{Slot}
+use Rattle.lw_cells.specs.declared.slot.Slot.TheVariants.{Word, Register, Location, Value, Number, Label}
+use Rattle.lw_cells.specs.Spellings.{Spelling, Given, Filling, Said, name_in, label_in, Fills}
+use Rattle.lw_cells.specs.Words.{IsNinthName, FitsTable, NameFault}
+
+-- what no tokens give
+abbrev pub nothing : Found
+nothing = record {
+  operands = record { reg = None; other = None; val = None; num = None; loc = None; to = None };
+  name = None;
+  label = None;
+}
+
+-- what a token gives, in front of what those behind it give
+abbrev pub with_register : ℕ → Found → Found
+with_register r o = record {
+  operands = record {
+    reg = Some r;
+    other = o.operands.reg;
+    val = o.operands.val;
+    num = o.operands.num;
+    loc = o.operands.loc;
+    to = o.operands.to;
+  };
+  name = o.name;
+  label = o.label;
+}
+
+abbrev pub with_value : Operand → Found → Found
+with_value v o = record {
+  operands = record {
+    reg = o.operands.reg;
+    other = o.operands.other;
+    val = Some v;
+    num = o.operands.num;
+    loc = o.operands.loc;
+    to = o.operands.to;
+  };
+  name = o.name;
+  label = o.label;
+}
+
+abbrev pub with_number : ℕ → Found → Found
+with_number n o = record {
+  operands = record {
+    reg = o.operands.reg;
+    other = o.operands.other;
+    val = o.operands.val;
+    num = Some n;
+    loc = o.operands.loc;
+    to = o.operands.to;
+  };
+  name = o.name;
+  label = o.label;
+}
+
+abbrev pub with_name_at : ℕ → Found → Found
+with_name_at k o = record { operands = o.operands; name = Some k; label = o.label }
+
+abbrev pub with_label_at : ℕ → Found → Found
+with_label_at k o = record { operands = o.operands; name = o.name; label = Some k }
+
+-- what the token of an index gives at a slot
+abbrev pub found_with : {W : Type 0} → ℕ → (slot : Slot W) → Given slot → Found → Found
+found_with k (Word w) g o = o
+found_with k Register r o = with_register r o
+found_with k Location x o = with_name_at k o
+found_with k Value v o = with_value v o
+found_with k Number n o = with_number n o
+found_with k Label l o = with_label_at k o
+
+-- what tokens give, of which the first has this index
+abbrev pub found_of : {W : Type 0} → ℕ → (slots : List (Slot W)) → Filling slots → Found
+found_of k [] f = nothing
+found_of k (slot ∷ slots) (g, f) = found_with k slot g (found_of (k + 1) slots f)
+
+-- the registers that tokens give, and the numbers
+abbrev pub registers_with : {W : Type 0} (slot : Slot W) → Given slot → List ℕ → List ℕ
+registers_with (Word w) g rs = rs
+registers_with Register r rs = r ∷ rs
+registers_with Location x rs = rs
+registers_with Value (operand.Register r) rs = r ∷ rs
+registers_with Value (operand.Number n) rs = rs
+registers_with Number n rs = rs
+registers_with Label l rs = rs
+
+abbrev pub numbers_with : {W : Type 0} (slot : Slot W) → Given slot → List ℕ → List ℕ
+numbers_with (Word w) g ns = ns
+numbers_with Register r ns = ns
+numbers_with Location x ns = ns
+numbers_with Value (operand.Register r) ns = ns
+numbers_with Value (operand.Number n) ns = n ∷ ns
+numbers_with Number n ns = n ∷ ns
+numbers_with Label l ns = ns
+
+abbrev pub registers_in : {W : Type 0} (slots : List (Slot W)) → Filling slots → List ℕ
+registers_in [] f = []
+registers_in (slot ∷ slots) (g, f) = registers_with slot g (registers_in slots f)
+
+abbrev pub numbers_in : {W : Type 0} (slots : List (Slot W)) → Filling slots → List ℕ
+numbers_in [] f = []
+numbers_in (slot ∷ slots) (g, f) = numbers_with slot g (numbers_in slots f)
+
+-- the operands, on the location of a number, with a target
+abbrev pub leading_to : Option ℕ → Operands → Operands
+leading_to to o = record { reg = o.reg; other = o.other; val = o.val; num = o.num; loc = o.loc; to = to }
+
+abbrev pub operands_of : ℕ → Option ℕ → Found → Operands
+operands_of x to o = record {
+  reg = o.operands.reg;
+  other = o.operands.other;
+  val = o.operands.val;
+  num = o.operands.num;
+  loc = option_map (λ (k : ℕ). x) o.name;
+  to = to;
+}
+
+-- a statement of operands that must be there
+abbrev pub of_one : {A C : Type 0} → (A → C) → Option A → Option C
+of_one make None = None
+of_one make (Some a) = Some (make a)
+
+abbrev pub of_two : {A B C : Type 0} → (A → B → C) → Option A → Option B → Option C
+of_two make None b = None
+of_two make (Some a) b = of_one (make a) b
+
+abbrev pub of_three : {A B D C : Type 0} → (A → B → D → C) → Option A → Option B → Option D → Option C
+of_three make None b d = None
+of_three make (Some a) b d = of_two (make a) b d
+
+-- the draft of a form on a location, and on that of a number where it has a name
+abbrev pub draft_on : {Form : Type 0} → Form → Option ℕ → Found → Draft Form
+draft_on form loc o = record {
+  form = form;
+  operands = record {
+    reg = o.operands.reg;
+    other = o.operands.other;
+    val = o.operands.val;
+    num = o.operands.num;
+    loc = loc;
+    to = None;
+  };
+  label = o.label;
+}
+
+abbrev pub drafted : {Form : Type 0} → Form → ℕ → Found → Draft Form
+drafted form x o = draft_on form (option_map (λ (k : ℕ). x) o.name) o
+
+-- The draft of a form is made of what was found in some tokens, and takes one table to another.
+abbrev pub IsDrafted : {Form : Type 0} → Form → Found → List Token → NameTable → Draft Form → NameTable → Type 0
+IsDrafted form o tokens before draft after =
+    MatchOption o.name ((after ≡ before) × (draft ≡ draft_on form None o))
+    (λ k.
+    (t : Token) × (slice_get tokens k ≡ Some t) × IsLocation t.text.now × (after ≡ with_name before t.text.now)
+    × (draft ≡ draft_on form (Some (index_of after t.text.now)) o))
+
+-- None is made, since the location has no place in the table.
+pub record IsNotDrafted (o : Found) (tokens : List Token) (before : NameTable) (fault : CellFault) : Type 0 where
+  pub index : ℕ
+  pub name : o.name ≡ Some index
+  pub token : Token
+  pub is : slice_get tokens index ≡ Some token
+  pub full : fault.cause ≢ Memory → FitsTable before token.text.now → ⊥
+  pub cause : NameFault before token fault
+
+module _ {W Form Stmt : Type 0} (spelling : Spelling W Form Stmt) where
+  -- the tokens can stand at some slots
+  abbrev pub CanStand : TokenList → List (Slot W) → Type 0
+  CanStand ts slots = (f : Filling slots) × Fills spelling ts slots f
+
+  -- The slots begin with one at which the token can stand.
+  abbrev pub BeginsWith : List (Slot W) → Bytes → Type 0
+  BeginsWith slots t =
+      (slot : Slot W) × (rest : List (Slot W)) × (slots ≡ slot ∷ rest) × CanStand (t ∷ []) (slot ∷ [])
+
+  abbrev pub found_in : Said spelling → Found
+  found_in s = found_of 0 (spelling.slots_of s.form) s.filling
+
+  -- the draft of what is said
+  abbrev pub draft_of : ℕ → Said spelling → Draft Form
+  draft_of x s = drafted s.form x (found_in s)
+
+  -- A ninth location stands where one may stand, behind tokens at these slots.
+  pub record NinthAt (slots : List (Slot W)) (tokens : List Token) (names : NameTable) (index : ℕ) : Type 0 where
+    pub front : List (Slot W)
+    pub back : List (Slot W)
+    pub cut : slots ≡ front ++ Location ∷ back
+    pub before : CanStand (texts (take index tokens)) front
+    pub token : Token
+    pub is : slice_get tokens index ≡ Some token
+    pub ninth : IsNinthName names token token.at
+
+  -- So many tokens in front can stand at the slots, and no more.
+  abbrev pub reach_of : TokenList → List (Slot W) → ℕ → Type 0
+  reach_of ts [] k = k ≡ 0
+  reach_of [] (slot ∷ slots) k = k ≡ 0
+  reach_of (t ∷ ts) (slot ∷ slots) zero = CanStand (t ∷ []) (slot ∷ []) → ⊥
+  reach_of (t ∷ ts) (slot ∷ slots) (suc k) = CanStand (t ∷ []) (slot ∷ []) × reach_of ts slots k
+
+  -- No statement begins with more of the tokens.
+  abbrev pub AreFront : TokenList → ℕ → Type 0
+  AreFront ts k =
+      (form : Form) → Contains spelling.forms form
+      → (n : ℕ) → reach_of ts (spelling.slots_of form) n → n ≤ k
+
+  -- ---- forms that exclude each other
+
+  -- No token can stand at both slots.
+  abbrev pub names_register : Bytes → Bool
+  names_register w =
+      list_any (λ r. bytes_eq (without_case spelling.language.arch (register_name spelling.language.arch r)) (without_case spelling.language.arch w))
+      (0 ∷ 1 ∷ 2 ∷ 3 ∷ 4 ∷ 5 ∷ [])
+
+  abbrev pub differ : Slot W → Slot W → Bool
+  differ (Word v) (Word w) =
+      not (bytes_eq (without_case spelling.language.arch (spelling.text_of v)) (without_case spelling.language.arch (spelling.text_of w)))
+  differ (Word w) Register = not (names_register (spelling.text_of w))
+  differ Register (Word w) = not (names_register (spelling.text_of w))
+  differ Register Location = true
+  differ Location Register = true
+  differ Location Value = true
+  differ Value Location = true
+  differ a b = false
+
+  -- No tokens fill both.
+  abbrev pub are_apart : List (Slot W) → List (Slot W) → Bool
+  are_apart [] [] = false
+  are_apart [] (b ∷ second) = true
+  are_apart (a ∷ first) [] = true
+  are_apart (a ∷ first) (b ∷ second) = differ a b || are_apart first second
+
+  abbrev pub all_apart : List Form → Bool
+  all_apart [] = true
+  all_apart (form ∷ forms) =
+      list_all (λ other. are_apart (spelling.slots_of form) (spelling.slots_of other)) forms && all_apart forms
+
+  -- There is a token, and the second is no `:`.
+  abbrev pub is_no_colon : List (Slot W) → Bool
+  is_no_colon [] = true
+  is_no_colon (Word w ∷ slots) =
+      not (bytes_eq (without_case spelling.language.arch (spelling.text_of w)) (codes ":"))
+  is_no_colon (slot ∷ slots) = true
+
+  abbrev pub is_statement : List (Slot W) → Bool
+  is_statement [] = false
+  is_statement (slot ∷ slots) = is_no_colon slots
+
+  -- A label is the last token.
+  abbrev pub is_label_last : List (Slot W) → Bool
+  is_label_last [] = true
+  is_label_last (Label ∷ []) = true
+  is_label_last (Label ∷ slot ∷ slots) = false
+  is_label_last (slot ∷ slots) = is_label_last slots
+
+  -- At most one location is named.
+  abbrev pub names_none : List (Slot W) → Bool
+  names_none [] = true
+  names_none (Location ∷ slots) = false
+  names_none (slot ∷ slots) = names_none slots
+
+  abbrev pub names_one : List (Slot W) → Bool
+  names_one [] = true
+  names_one (Location ∷ slots) = names_none slots
+  names_one (slot ∷ slots) = names_one slots
+
+  -- ---- what the rule of cells rests on
+
+  -- The statement of a form is made of the operands that its tokens give; it stands on the location of its name, leads to
+  -- where its label does, and its registers and numbers are those that its tokens give.
+  pub record IsMade (made : Form → Operands → Option Stmt) (x to : ℕ) (form : Form) (f : Filling (spelling.slots_of form)) : Type 0 where
+    pub is : made form (operands_of x (option_map (λ l. to) (label_in (spelling.slots_of form) f)) (found_of 0 (spelling.slots_of form) f)) ≡ Some
+        (spelling.statement x to form f)
+    pub located : location_of (spelling.language.operation_of (spelling.statement x to form f)) ≡ option_map (λ n. x) (name_in (spelling.slots_of form) f)
+    pub led : target_of (spelling.language.operation_of (spelling.statement x to form f)) ≡ option_map (λ l. to) (label_in (spelling.slots_of form) f)
+    pub given :
+        AllByRecursion IsRegisterNumber (registers_in (spelling.slots_of form) f)
+        → AllByRecursion IsWord (numbers_in (spelling.slots_of form) f)
+        → AllByRecursion IsRegisterNumber (registers_of (spelling.language.operation_of (spelling.statement x to form f)))
+        × AllByRecursion IsWord (numbers_of (spelling.language.operation_of (spelling.statement x to form f)))
+
+  pub record IsSpelling (made : Form → Operands → Option Stmt) : Type 0 where
+    pub countable : spelling.language.most < 2 ^ 64
+    pub apart : all_apart spelling.forms ≡ true
+    pub statements : list_all (λ form. is_statement (spelling.slots_of form) && is_label_last (spelling.slots_of form)) spelling.forms ≡ true
+    pub names : list_all (λ form. names_one (spelling.slots_of form)) spelling.forms ≡ true
+    pub making : (x to : ℕ) (form : Form) (f : Filling (spelling.slots_of form)) → IsMade made x to form f

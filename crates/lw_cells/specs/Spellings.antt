@@ -1,0 +1,94 @@
+-- How the statements of a language are spelled: in forms, each with a slot for each of its tokens.
+-- The source is the format of the workbench, docs/FORMAT.md.
+use Rattle.std.specs.Prelude.{◌≡◌, ℕ, Option, Some, None, List, [], ◌∷◌, Contains}
+use Rattle.std.specs.Option.{option_or}
+use Rattle.lw_base.specs.Types.{Bytes, TokenList}
+use Rattle.lw_base.specs.declared.operand.Operand.{Operand}
+use Rattle.lw_base.specs.Names.{IsLocation}
+use Rattle.lw_base.specs.Registers.{IsRegister, without_case}
+use Rattle.lw_text.specs.Tokens.{IsNumber}
+use Rattle.lw_litmus.specs.Languages.{Language}
+use Rattle.lw_cells.specs.Operands.{IsOperand}
+use Rattle.lw_cells.specs.Grammars.{Grammar}
+use Rattle.lw_cells.specs.declared.slot.Slot.{Slot}
+use Rattle.lw_cells.specs.declared.slot.Slot.TheVariants.{Word, Register, Location, Value, Number, Label}
+
+-- what a token gives at a slot: a word or a sign gives nothing
+abbrev pub Given : {W : Type 0} → Slot W → Type 0
+Given (Word w) = Unit {0}
+Given Register = ℕ
+Given Location = Bytes
+Given Value = Operand
+Given Number = ℕ
+Given Label = Bytes
+
+-- what a statement's tokens give, slot by slot
+abbrev pub Filling : {W : Type 0} → List (Slot W) → Type 0
+Filling [] = Unit {0}
+Filling (slot ∷ slots) = Given slot × Filling slots
+
+-- the name of the location among it, and the label
+abbrev pub name_at : {W : Type 0} (slot : Slot W) → Given slot → Option Bytes
+name_at (Word w) g = None
+name_at Register r = None
+name_at Location x = Some x
+name_at Value v = None
+name_at Number n = None
+name_at Label l = None
+
+abbrev pub label_at : {W : Type 0} (slot : Slot W) → Given slot → Option Bytes
+label_at (Word w) g = None
+label_at Register r = None
+label_at Location x = None
+label_at Value v = None
+label_at Number n = None
+label_at Label l = Some l
+
+abbrev pub name_in : {W : Type 0} (slots : List (Slot W)) → Filling slots → Option Bytes
+name_in [] f = None
+name_in (slot ∷ slots) (g, f) = option_or (name_at slot g) (name_in slots f)
+
+abbrev pub label_in : {W : Type 0} (slots : List (Slot W)) → Filling slots → Option Bytes
+label_in [] f = None
+label_in (slot ∷ slots) (g, f) = option_or (label_at slot g) (label_in slots f)
+
+-- A language's words and signs, its forms, the slots of each, and the statement that it makes of what they give, on the
+-- location of a number, with a target.
+pub record Spelling (W Form Stmt : Type 0) : Type 1 where
+  pub language : Language Stmt
+  pub text_of : W → Bytes
+  pub forms : List Form
+  pub slots_of : Form → List (Slot W)
+  pub statement : ℕ → ℕ → (form : Form) → Filling (slots_of form) → Stmt
+
+module _ {W Form Stmt : Type 0} (spelling : Spelling W Form Stmt) where
+  -- The token can stand at the slot, and gives this. Words of x86 are read in any case.
+  abbrev pub Gives : Bytes → (slot : Slot W) → Given slot → Type 0
+  Gives t (Word w) g = without_case spelling.language.arch (spelling.text_of w) ≡ without_case spelling.language.arch t
+  Gives t Register r = IsRegister spelling.language.arch t r
+  Gives t Location x = (t ≡ x) × IsLocation x
+  Gives t Value v = IsOperand spelling.language.arch t v
+  Gives t Number n = IsNumber t n
+  Gives t Label l = (t ≡ l) × IsLocation l
+
+  -- The tokens stand at the slots, one at each.
+  abbrev pub Fills : TokenList → (slots : List (Slot W)) → Filling slots → Type 0
+  Fills [] [] f = Unit {0}
+  Fills [] (slot ∷ slots) f = ⊥
+  Fills (t ∷ ts) [] f = ⊥
+  Fills (t ∷ ts) (slot ∷ slots) (g, f) = Gives t slot g × Fills ts slots f
+
+  -- what a statement's tokens say
+  pub record Said : Type 0 where
+    pub form : Form
+    pub filling : Filling (spelling.slots_of form)
+
+  -- the grammar of the language
+  abbrev pub grammar_of : Grammar Said Stmt
+  grammar_of = record {
+    language = spelling.language;
+    says = λ ts s. Contains spelling.forms s.form × Fills ts (spelling.slots_of s.form) s.filling;
+    name_of = λ s. name_in (spelling.slots_of s.form) s.filling;
+    label_of = λ s. label_in (spelling.slots_of s.form) s.filling;
+    made = λ x to s. spelling.statement x to s.form s.filling;
+  }

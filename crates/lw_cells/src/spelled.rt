@@ -1,0 +1,411 @@
+//! Reads a statement by the forms of its language.
+ghost use Rattle.std.specs.Prelude.{◌≡◌, ◌≢◌, ◌↔◌, ℕ, suc, ◌+◌, ◌<◌, ◌≤◌, ◌^◌, List, [], ◌∷◌, ◌++◌, length, take, true};
+ghost use Rattle.std.specs.Prelude.{All, MatchOption, IfSome, slice_get, IsTrue, IfOk, IfErr, Contains};
+ghost use Rattle.std.specs.Str.{bytes_eq};
+ghost use Rattle.lw_base.specs.Limits.{most_locations};
+ghost use Rattle.lw_base.specs.Names.{IsLocation};
+ghost use Rattle.lw_base.specs.Refusals.{NotFound};
+ghost use Rattle.lw_base.specs.Registers.{without_case};
+ghost use Rattle.lw_base.specs.declared.operand.Operand.{Operand};
+ghost use Rattle.lw_base.specs.declared.fault.CellCause.TheVariants.{Memory};
+ghost use Rattle.lw_text.specs.Spans.{texts};
+ghost use Rattle.lw_cells.specs.declared.slot.Slot.{Slot};
+ghost use Rattle.lw_cells.specs.declared.slot.Slot.TheVariants.{Location};
+ghost use Rattle.lw_cells.specs.Operands.{IsOperand};
+ghost use Rattle.lw_cells.specs.Words.{IsMisfit, IsNinthName, LiesWithin};
+ghost use Rattle.lw_cells.specs.Grammars.{CanBegin};
+ghost use Rattle.lw_cells.specs.Spellings.{grammar_of, Given, Gives, Filling, Fills};
+ghost use Rattle.lw_cells.specs.Found.{CanStand, BeginsWith};
+ghost use Rattle.lw_cells.specs.Found as drafts;
+ghost use Rattle.lw_cells.specs.Found.{found_with, found_of, draft_of, IsDrafted, IsNotDrafted, reach_of, AreFront, NinthAt, IsSpelling};
+ghost use Rattle.lw_cells.specs.Reading.{Fits, StatementRead, StatementFault};
+
+use crate::draft::{Draft, Operands};
+use crate::phrase::Phrase;
+use crate::slot::Slot;
+use crate::statement_reader::StatementReader;
+use crate::token::{location, misfit, no_register};
+use lw_base::{
+    Arch, CellCause, CellFault, Loc, LocNames, MAX_LOCATIONS, Operand, Reg, Word, is_location,
+    is_same_but_case, reg_named,
+};
+use lw_text::{Token, number};
+use std::alloc::Allocator;
+
+/// What the tokens of a statement give, and the indices of its location and its label among them.
+#[derive(Clone, Copy)]
+pub(crate) struct Found {
+    pub(crate) operands: Operands,
+    pub(crate) name: Option<usize>,
+    pub(crate) label: Option<usize>,
+}
+
+/// What no tokens give.
+fn nothing() -> Found
+    ensures { result ≡ drafts.nothing }
+{
+    Found {
+        operands: Operands {
+            reg: None,
+            other: None,
+            val: None,
+            num: None,
+            loc: None,
+            to: None,
+        },
+        name: None,
+        label: None,
+    }
+}
+
+/// The register in front of what was found behind it.
+fn with_register(found: Found, reg: Reg) -> Found
+    ensures { result ≡ drafts.with_register reg found }
+{
+    let operands = Operands {
+        reg: Some(reg),
+        other: found.operands.reg,
+        ..found.operands
+    };
+    Found { operands, ..found }
+}
+
+fn with_value(found: Found, val: Operand) -> Found
+    ensures { result ≡ drafts.with_value val found }
+{
+    let operands = Operands {
+        val: Some(val),
+        ..found.operands
+    };
+    Found { operands, ..found }
+}
+
+fn with_number(found: Found, num: Word) -> Found
+    ensures { result ≡ drafts.with_number num found }
+{
+    let operands = Operands {
+        num: Some(num),
+        ..found.operands
+    };
+    Found { operands, ..found }
+}
+
+/// What was found behind a token, with what the token gives, which has this index; `None` where it cannot stand at the slot.
+fn with_token<L: StatementReader>(
+    found: Found,
+    slot: Slot<L::Word>,
+    token: &Token<'_>,
+    index: usize,
+) -> Option<Found>
+    ensures { MatchOption result
+        ((g : Given slot) → Gives L.spelling token.now.text.now slot g → ⊥)
+        (λ all. (g : Given slot) × Gives L.spelling token.now.text.now slot g × (all ≡ found_with index slot g found)) }
+{
+    match slot {
+        Slot::Word(word) => is_word::<L>(word, token).then_some(found),
+        Slot::Register => Some(with_register(found, reg_named(L::arch(), token.text)?)),
+        Slot::Location => with_name(found, token, index),
+        Slot::Value => Some(with_value(found, operand(L::arch(), token)?)),
+        Slot::Number => Some(with_number(found, number(token.text)?)),
+        Slot::Label => with_label(found, token, index),
+    }
+}
+
+fn with_name(found: Found, token: &Token<'_>, index: usize) -> Option<Found>
+    ensures { MatchOption result (IsLocation token.now.text.now → ⊥)
+        (λ all. IsLocation token.now.text.now × (all ≡ drafts.with_name_at index found)) }
+{
+    if !is_location(token.text) {
+        return None;
+    }
+    Some(Found {
+        name: Some(index),
+        ..found
+    })
+}
+
+fn with_label(found: Found, token: &Token<'_>, index: usize) -> Option<Found>
+    ensures { MatchOption result (IsLocation token.now.text.now → ⊥)
+        (λ all. IsLocation token.now.text.now × (all ≡ drafts.with_label_at index found)) }
+{
+    if !is_location(token.text) {
+        return None;
+    }
+    Some(Found {
+        label: Some(index),
+        ..found
+    })
+}
+
+/// Whether the token is this word or sign: of x86 in any case.
+fn is_word<L: StatementReader>(word: L::Word, token: &Token<'_>) -> bool
+    ensures { result ≡ bytes_eq
+        (without_case L.spelling.language.arch (L.spelling.text_of word))
+        (without_case L.spelling.language.arch token.now.text.now) }
+{
+    let text = L::text(word);
+    match L::arch() {
+        Arch::Source => text == token.text,
+        Arch::X86 => is_same_but_case(text, token.text),
+    }
+}
+
+/// The register or the number that the token is.
+fn operand(arch: Arch, token: &Token<'_>) -> Option<Operand>
+    ensures { MatchOption result ((v : Operand) → IsOperand arch token.now.text.now v → ⊥) (IsOperand arch token.now.text.now) }
+{
+    if let Some(reg) = reg_named(arch, token.text) {
+        return Some(Operand::Register(reg));
+    }
+    match number(token.text) {
+        Some(word) => Some(Operand::Number(word)),
+        None => None,
+    }
+}
+
+/// What the tokens give at these slots, the first of which has this index; `None` where they do not stand one at each.
+fn read_slots<L: StatementReader>(
+    slots: &[Slot<L::Word>],
+    tokens: &[Token<'_>],
+    index: usize,
+) -> Option<Found>
+    requires { index + length slots.now < 2 ^ 64 }
+    ensures { MatchOption result
+        ((f : Filling slots.now) → Fills L.spelling (texts tokens.now) slots.now f → ⊥)
+        (λ found. (f : Filling slots.now) × Fills L.spelling (texts tokens.now) slots.now f
+        × (found ≡ found_of index slots.now f)) }
+{
+    let Some((slot, slots)) = slots.split_first() else {
+        if tokens.is_empty() {
+            return Some(nothing());
+        }
+        return None;
+    };
+    let (token, tokens) = tokens.split_first()?;
+    let found = read_slots::<L>(slots, tokens, index + 1)?;
+    with_token::<L>(found, *slot, token, index)
+}
+
+/// A form whose slots some tokens fill, and what they give.
+#[derive(Clone, Copy)]
+struct Filled<F> {
+    form: F,
+    found: Found,
+}
+
+/// The form whose slots are filled by the tokens.
+fn read_form<L: StatementReader>(tokens: &[Token<'_>]) -> Option<Filled<L::Form>>
+    ensures { MatchOption result
+        ((form : L.Form) (f : Filling (L.spelling.slots_of form)) → Contains L.spelling.forms form
+        → Fills L.spelling (texts tokens.now) (L.spelling.slots_of form) f → ⊥)
+        (λ filled. (f : Filling (L.spelling.slots_of filled.form)) × Contains L.spelling.forms filled.form
+        × Fills L.spelling (texts tokens.now) (L.spelling.slots_of filled.form) f
+        × (filled.found ≡ found_of 0 (L.spelling.slots_of filled.form) f)) }
+{
+    for form in L::forms() {
+        let slots = L::slots(*form);
+        let _len = slots.len();
+        if let Some(found) = read_slots::<L>(slots, tokens, 0) {
+            return Some(Filled { form: *form, found });
+        }
+    }
+    None
+}
+
+/// Reads a statement that is not empty. The name of its location goes into the table.
+pub(crate) fn read_statement<L: StatementReader, A: Allocator + Copy>(
+    phrase: &Phrase<'_, '_>,
+    locs: &mut LocNames<A>,
+) -> Result<Draft<L::Form>, CellFault>
+    requires lawful { IsSpelling L.spelling L.made }
+    ensures found { IfOk result (λ draft.
+        StatementRead (grammar_of L.spelling) (draft_of L.spelling) (texts phrase.now.tokens.now) locs.old draft locs.new) }
+    ensures fault { IfErr result (λ f.
+        NotFound Memory f.cause (Fits (grammar_of L.spelling) locs.old (texts phrase.now.tokens.now))) }
+    ensures cause { IfErr result (StatementFault (grammar_of L.spelling) phrase.now.tokens.now locs.old) }
+    ensures place { (len : ℕ) → LiesWithin len phrase.now → IfErr result (λ f. f.at ≤ len) }
+{
+    match read_form::<L>(phrase.tokens) {
+        Some(filled) => draft::<L, A>(filled.form, filled.found, phrase.tokens, locs),
+        None => Err(refusal::<L, A>(phrase, locs)),
+    }
+}
+
+/// The draft of a form, with the location of its name.
+fn draft<L: StatementReader, A: Allocator + Copy>(
+    form: L::Form,
+    found: Found,
+    tokens: &[Token<'_>],
+    locs: &mut LocNames<A>,
+) -> Result<Draft<L::Form>, CellFault>
+    requires { IfSome found.name (λ k. k < length tokens.now) }
+    ensures found { IfOk result (λ draft. IsDrafted form found tokens.now locs.old draft locs.new) }
+    ensures fault { IfErr result (IsNotDrafted found tokens.now locs.old) }
+    ensures place { (len : ℕ) → All (λ t. t.at ≤ len) tokens.now → IfErr result (λ f. f.at ≤ len) }
+{
+    let Some(index) = found.name else {
+        return Ok(draft_on::<L>(form, found, None));
+    };
+    let loc = location(&tokens[index], locs)?;
+    Ok(draft_on::<L>(form, found, Some(loc)))
+}
+
+/// The draft of a form on a location.
+fn draft_on<L: StatementReader>(form: L::Form, found: Found, loc: Option<Loc>) -> Draft<L::Form>
+    ensures { result ≡ drafts.draft_on form loc found }
+{
+    Draft {
+        form,
+        operands: Operands {
+            loc,
+            to: None,
+            ..found.operands
+        },
+        label: found.label,
+    }
+}
+
+/// Why tokens that are no statement are refused: the first ninth location where one may stand, or else the first token
+/// with which no statement goes on.
+fn refusal<L: StatementReader, A: Allocator>(
+    phrase: &Phrase<'_, '_>,
+    locs: &LocNames<A>,
+) -> CellFault
+    requires { IsSpelling L.spelling L.made }
+    ensures cause { StatementFault (grammar_of L.spelling) phrase.now.tokens.now locs.now result }
+    ensures place { (len : ℕ) → LiesWithin len phrase.now → result.at ≤ len }
+{
+    for form in L::forms() {
+        if let Some(index) = ninth::<L, A>(L::slots(*form), phrase.tokens, locs) {
+            return CellFault {
+                at: phrase.tokens[index].at,
+                cause: CellCause::TooMany,
+            };
+        }
+    }
+    stop::<L>(phrase)
+}
+
+/// The index of a ninth location where one may stand at these slots, with the tokens before it at theirs.
+fn ninth<L: StatementReader, A: Allocator>(
+    slots: &[Slot<L::Word>],
+    tokens: &[Token<'_>],
+    locs: &LocNames<A>,
+) -> Option<usize>
+    ensures { IfSome result (NinthAt L.spelling slots.now tokens.now locs.now) }
+{
+    let _len = tokens.len();
+    let (slot, slots) = slots.split_first()?;
+    let (token, tokens) = tokens.split_first()?;
+    if !can_stand::<L>(*slot, token) {
+        return None;
+    }
+    if matches!(slot, Slot::Location) && is_ninth(token, locs) {
+        return Some(0);
+    }
+    let index = ninth::<L, A>(slots, tokens, locs)?;
+    Some(index + 1)
+}
+
+/// Whether the token names a location that the table lacks and has no room for.
+fn is_ninth<A: Allocator>(token: &Token<'_>, locs: &LocNames<A>) -> bool
+    ensures { result ≡ true → (length locs.now ≡ most_locations) × (Contains locs.now token.now.text.now → ⊥) }
+{
+    locs.len() == MAX_LOCATIONS && locs.find(token.text).is_none()
+}
+
+/// Whether the token can stand at the slot.
+fn can_stand<L: StatementReader>(slot: Slot<L::Word>, token: &Token<'_>) -> bool
+    ensures { IsTrue result ↔ CanStand L.spelling (token.now.text.now ∷ []) (slot ∷ []) }
+{
+    with_token::<L>(nothing(), slot, token, 0).is_some()
+}
+
+/// How many tokens in front can stand at these slots.
+fn reach<L: StatementReader>(slots: &[Slot<L::Word>], tokens: &[Token<'_>]) -> usize
+    ensures reach { reach_of L.spelling (texts tokens.now) slots.now result }
+    ensures within { result ≤ length tokens.now }
+{
+    let _len = tokens.len();
+    let Some((slot, slots)) = slots.split_first() else {
+        return 0;
+    };
+    let Some((token, tokens)) = tokens.split_first() else {
+        return 0;
+    };
+    if !can_stand::<L>(*slot, token) {
+        return 0;
+    }
+    1 + reach::<L>(slots, tokens)
+}
+
+/// How many tokens in front can begin a statement.
+fn longest_reach<L: StatementReader>(tokens: &[Token<'_>]) -> usize
+    ensures front { AreFront L.spelling (texts tokens.now) result }
+    ensures within { result ≤ length tokens.now }
+{
+    let mut longest = 0;
+    for form in L::forms() {
+        let further = reach::<L>(L::slots(*form), tokens);
+        if longest < further {
+            longest = further;
+        }
+    }
+    longest
+}
+
+/// The fault of the first token with which no statement goes on, or of the end.
+fn stop<L: StatementReader>(phrase: &Phrase<'_, '_>) -> CellFault
+    ensures cause { IsMisfit result.cause }
+    ensures place { (len : ℕ) → LiesWithin len phrase.now → result.at ≤ len }
+{
+    let front = longest_reach::<L>(phrase.tokens);
+    let Some(token) = phrase.tokens.get(front) else {
+        return CellFault {
+            at: phrase.end,
+            cause: CellCause::Form,
+        };
+    };
+    if wants_register::<L>(phrase.tokens, front) {
+        return no_register(token);
+    }
+    misfit(token)
+}
+
+/// Whether a register may stand behind so many tokens, and no location.
+fn wants_register<L: StatementReader>(tokens: &[Token<'_>], front: usize) -> bool {
+    let mut wants = false;
+    for form in L::forms() {
+        let slots = L::slots(*form);
+        if reach::<L>(slots, tokens) == front {
+            match slots.get(front) {
+                Some(Slot::Location) => return false,
+                Some(Slot::Register | Slot::Value) => wants = true,
+                _ => (),
+            }
+        }
+    }
+    wants
+}
+
+/// Whether a statement can begin with the token.
+pub(crate) fn can_begin<L: StatementReader>(token: &Token<'_>) -> bool
+    ensures { IsTrue result ↔ CanBegin (grammar_of L.spelling) token.now.text.now }
+{
+    for form in L::forms() {
+        if begins_with::<L>(L::slots(*form), token) {
+            return true;
+        }
+    }
+    false
+}
+
+/// Whether the token can stand at the first slot.
+fn begins_with<L: StatementReader>(slots: &[Slot<L::Word>], token: &Token<'_>) -> bool
+    ensures { IsTrue result ↔ BeginsWith L.spelling slots.now token.now.text.now }
+{
+    match slots.split_first() {
+        Some((slot, _)) => can_stand::<L>(*slot, token),
+        None => false,
+    }
+}

@@ -1,0 +1,36 @@
+-- The texts of operands make up an instruction's.
+use Rattle.std.proofs.Common.{◌≡◌, ℕ, ◌++◌, refl, ap, append_assoc}
+use Rattle.std.specs.Prelude.{codes, slice_index_or, []}
+use Rattle.std.specs.Fmt.{decimal}
+use Rattle.lw_base.specs.Types.{NameTable}
+use Rattle.lw_base.specs.declared.head.Arch.TheVariants.{X86}
+use Rattle.lw_base.specs.declared.operand.Operand.{Operand}
+use Rattle.lw_base.specs.declared.operand.Operand.TheVariants.{Register, Number}
+use Rattle.lw_base.specs.Registers.{register_name}
+use Rattle.lw_litmus.specs.declared.instr.Instr.TheVariants.{Store, Set, Add, Cmp, Xchg, Xadd}
+use Rattle.lw_x86.specs.CanonicalTexts.{instruction_text}
+use Rattle.lw_x86.specs.inner.OperandTexts.{operand_text, memory_text, with_operands}
+
+module _ (names : NameTable) (x : ℕ) where
+  pub store_text : (v : Operand) → with_operands (codes "MOV") (memory_text names x) (operand_text v) ≡ instruction_text names (Store x v)
+  store_text (Register r) = ap (λ t. codes "MOV [" ++ t) (append_assoc (slice_index_or names x []) (codes "]") (codes "," ++ register_name X86 r))
+  store_text (Number n) = ap (λ t. codes "MOV [" ++ t) (append_assoc (slice_index_or names x []) (codes "]") (codes ",$" ++ decimal n))
+
+  pub exchange_text : (r : ℕ) → with_operands (codes "XCHG") (memory_text names x) (register_name X86 r) ≡ instruction_text names (Xchg x r)
+  exchange_text r = ap (λ t. codes "XCHG [" ++ t) (append_assoc (slice_index_or names x []) (codes "]") (codes "," ++ register_name X86 r))
+
+  pub exchange_add_text : (r : ℕ) → with_operands (codes "LOCK XADD") (memory_text names x) (register_name X86 r) ≡ instruction_text names (Xadd x r)
+  exchange_add_text r = ap (λ t. codes "LOCK XADD [" ++ t) (append_assoc (slice_index_or names x []) (codes "]") (codes "," ++ register_name X86 r))
+
+module _ (names : NameTable) (d : ℕ) where
+  pub set_text : (v : Operand) → with_operands (codes "MOV") (register_name X86 d) (operand_text v) ≡ instruction_text names (Set d v)
+  set_text (Register r) = refl
+  set_text (Number n) = refl
+
+  pub add_text : (v : Operand) → with_operands (codes "ADD") (register_name X86 d) (operand_text v) ≡ instruction_text names (Add d v)
+  add_text (Register r) = refl
+  add_text (Number n) = refl
+
+  pub compare_text : (v : Operand) → with_operands (codes "CMP") (register_name X86 d) (operand_text v) ≡ instruction_text names (Cmp d v)
+  compare_text (Register r) = refl
+  compare_text (Number n) = refl
