@@ -6,6 +6,7 @@ use Rattle.std.proofs.lemmas.List.Elements.{All-from_recursion}
 use Rattle.std.proofs.lemmas.Option.{same_Some, slice_get_within, get_or_from_slice_get}
 use Rattle.lw_base.specs.Heads.{TestHead}
 use Rattle.lw_base.specs.Outcomes.{Final}
+use Rattle.lw_base.specs.declared.head.Arch.TheVariants.{X86}
 use Rattle.lw_base.specs.declared.limits.TheConstants.{REGISTERS}
 use Rattle.lw_base.proofs.api.Lists.{fellows_after, get_some}
 use Rattle.lw_base.proofs.api.SideBySide.{got_map, same_maps}
@@ -19,15 +20,13 @@ use Rattle.lw_tso.specs.Machines.{MachineState}
 use Rattle.lw_tso.specs.Processors.{Processor, starting}
 use Rattle.lw_tso.specs.Runs.{machine_start, machine_outcome}
 use Rattle.lw_tso.proofs.api.Effects.{state}
-use Rattle.lw_fence.specs.Compiling.{IsCompiled}
 
 -- the machine at the start of a compiled source
 abbrev pub compiled_start : SourceTest → MachineState (List ℕ)
 compiled_start s = state (map starting s.head.init_regs) s.head.init_words
 
-pub start_is : (s : SourceTest) (p : ProgramTest) (starts : List (List ℕ)) → IsCompiled s p starts
-    → machine_start p p.head.init_words ≡ compiled_start s
-start_is s p starts compiled = ap (λ (h : TestHead). state (map starting h.init_regs) h.init_words) compiled.head
+pub start_is : (s : SourceTest) (p : ProgramTest) → p.head ≡ record s.head { arch = X86 } → machine_start p p.head.init_words ≡ compiled_start s
+start_is s p same = ap (λ (h : TestHead). state (map starting h.init_regs) h.init_words) same
 
 module _ (s : SourceTest) (At : ℕ → Thread → Processor → Type 0) where
   -- Over one memory, each thread is such beside its processor.

@@ -43,7 +43,8 @@ words_lawful = record {
   serves = λ m r sound there possible. words_serve m r possible;
 }
 
-program_ends : (p : ProgramTest) → IsWellFormedProgram p → (events : List Event) (s : MachineState (List ℕ))
+-- Each run of a well-formed program can be brought to its end.
+pub program_ends : (p : ProgramTest) → IsWellFormedProgram p → (events : List Event) (s : MachineState (List ℕ))
     → MachineRan flat p.threads events (machine_start p p.head.init_words) s → CanEnd flat p.threads s
 program_ends p ok events s ran =
     can_end flat flat_invariant words_lawful p ok p.head.init_words events s

@@ -159,13 +159,13 @@ module _ (program : List (List Stmt)) (t : ℕ) (instrs : List Instr) (starts : 
           (λ ge. omega (arith, ge, sane.within)) (cases_lt v.position (length code))
 
       past : slice_get instrs p.position ≡ None
-      past = slice_get_past instrs p.position (omega (arith, position, ap (λ k. slice_index starts k) at_end, placed.last))
+      past = slice_get_past instrs p.position (omega (arith, position, ap (λ k. slice_index starts k) at_end, placed.laid.last))
   begun (Some s) at position regs =
-      let stands = placed.at v.position s at in
+      let stands = placed.laid.at v.position s at in
       let has = subst (λ k. StandsAt instrs k (instrs_of (row starts stands.fence s))) (sym position) stands.has in
       let next : slice_index starts (v.position + 1) ≡ p.position + length (instrs_of (row starts stands.fence s)) = omega (arith, stands.next, position) in
       row_begun s at (row starts stands.fence s) has
-      (row_serves starts v p regs s stands.fence sane.six (allowed v.position s at).registers (unfenced s at stands.fence stands.needed) next)
+      (row_serves starts v p regs s stands.fence sane.six (allowed v.position s at).registers (unfenced s at stands.fence (placed.needed v.position s at)) next)
 
   -- Whatever the processor's next instruction does, the source follows.
   pub stepped : Stage code instrs starts v p → After (step_act (slice_get instrs p.position) p)

@@ -1,3 +1,4 @@
+pub mod api
 mod Marks
 mod FencesFound
 mod Placed
@@ -13,5 +14,7 @@ mod Behind
 mod MachineToSource
 mod Programs
 mod CompiledThreads
+mod OneProgram
+mod SomeProgram
 mod Endings
 mod Scheduling

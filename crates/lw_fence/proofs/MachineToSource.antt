@@ -48,7 +48,7 @@ stage_ended code instrs starts v c placed (whole position regs) past =
     early : v.position < length code → length code ≤ v.position
     early lt =
         let s = get_some code v.position lt in
-        let stands = placed.at v.position s.0 s.1 in
+        let stands = placed.laid.at v.position s.0 s.1 in
         absurd (omega (arith, row_within instrs (slice_index starts v.position) (row starts stands.fence s.0) stands.has, past, position))
 stage_ended code instrs starts v c placed (midway s i at stands ends) past =
     absurd (omega (arith, slice_get_within instrs c.position i stands, past))
@@ -123,7 +123,7 @@ module _ (s : SourceTest) (p : ProgramTest) (starts : List (List ℕ)) (ok : IsW
   behind_first = first s (LagAt s p starts) ok (λ t regs lt six. record {
     ahead = thread_starting regs;
     owes = nothing;
-    stage = whole (sym (placed_at s p starts compiled t lt).first) refl;
+    stage = whole (sym (placed_at s p starts compiled t lt).laid.first) refl;
     sane = record { six = six; within = omega arith };
   })
 
@@ -144,7 +144,7 @@ module _ (s : SourceTest) (p : ProgramTest) (starts : List (List ℕ)) (ok : IsW
 pub machine_to_source : (s : SourceTest) (p : ProgramTest) (starts : List (List ℕ)) (o : Final) → IsWellFormedSource s → IsCompiled s p starts
     → MachineOutcome flat p p.head.init_words o → SourceOutcome s o
 machine_to_source s p starts o ok compiled (events, r) =
-    let ran = subst (λ b. MachineRan flat p.threads events b r.end) (start_is s p starts compiled) r.ran in
+    let ran = subst (λ b. MachineRan flat p.threads events b r.end) (start_is s p compiled.head) r.ran in
     let a = all_caught s p starts ok compiled events (start_of s) (compiled_start s) r.end (behind_first s p starts ok compiled) ran in
     let d = first_caught_up s p starts compiled r.end r.final (length s.threads) a.0 (omega arith) a.1.behind in
     let c = caught_on s p starts (start_of s) a.0 d.end r.end r.end a.1 d.caught in

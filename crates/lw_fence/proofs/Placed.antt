@@ -1,16 +1,19 @@
 -- Where the instructions of a statement stand in the compiled code.
-use Rattle.std.proofs.Common.{◌≡◌, ◌↔◌, ℕ, zero, suc, ◌+◌, ◌<◌, List, [], ◌∷◌, ◌++◌, length, Some, Bool, true, false, if◌then◌else◌, sym, refl, ap, ◌∙◌, subst₂, arith, slice_get, slice_index, length-append, append_assoc, drop, get_or, ap₂, add-one}
+use Rattle.std.proofs.Common.{◌≡◌, ◌↔◌, ℕ, zero, suc, ◌+◌, ◌*◌, ◌<◌, ◌≤◌, List, [], ◌∷◌, ◌++◌, length, Some, Bool, true, false, if◌then◌else◌, sym, refl, ap, ◌∙◌, subst₂, arith, slice_get, slice_index, length-append, append_assoc, drop, get_or, ap₂, add-one}
 use Rattle.std.proofs.Math.Seq.{get_or-append_seam, drop-cons}
 use Rattle.std.proofs.lemmas.Option.{same_Some, none-some, slice_get_within, slice_get-get_or}
 use Rattle.lw_base.specs.Threads.{code_of}
+use Rattle.lw_base.specs.declared.head.Arch.TheVariants.{X86}
 use Rattle.lw_base.proofs.api.Lists.{get_some, at_index}
 use Rattle.lw_litmus.specs.declared.stmt.Stmt.{Stmt}
 use Rattle.lw_litmus.specs.declared.stmt.Stmt.TheVariants.{IfEq}
 use Rattle.lw_litmus.specs.Tests.{SourceTest, ProgramTest}
 use Rattle.lw_litmus.specs.declared.instr.Instr.{Instr}
 use Rattle.lw_fence.specs.declared.row.Row.{Row}
+use Rattle.lw_fence.specs.declared.row.Row.TheVariants.{One, Two}
 use Rattle.lw_fence.specs.Fences.{NeedsFence}
 use Rattle.lw_fence.specs.Compiling.{row, instrs_of, rows, starts_from, IsCompiledThread, IsCompiled}
+use Rattle.lw_fence.specs.Unfenced.{IsThreadWith, IsCompiledWith}
 
 -- what holds of a row that a test chooses
 pub chosen : (P : Row → Type 0) (b : Bool) (r s : Row) → (b ≡ true → P r) → (b ≡ false → P s) → P (if b then r else s)
@@ -84,38 +87,102 @@ cut starts n (g ∷ fences) (y ∷ code) (suc j) f x fe e =
       next = ap (slice_index (n ∷ own)) last ∙ omega (arith, c.next, long, as_long starts g y);
     }
 
--- statement j of the compiled thread
-pub record Stands (code : List Stmt) (instrs : List Instr) (starts : List ℕ) (j : ℕ) (x : Stmt) : Type 0 where
+-- statement j of a thread in x86, behind a fence or not
+pub record Stands (instrs : List Instr) (starts : List ℕ) (j : ℕ) (x : Stmt) : Type 0 where
   pub fence : Bool
-  pub needed : (fence ≡ true) ↔ NeedsFence code j
   pub has : StandsAt instrs (slice_index starts j) (instrs_of (row starts fence x))
   pub next : slice_index starts (j + 1) ≡ slice_index starts j + length (instrs_of (row starts fence x))
 
-pub record Placed (code : List Stmt) (instrs : List Instr) (starts : List ℕ) : Type 0 where
+-- A thread in x86, wherever its fences stand.
+pub record Laid (code : List Stmt) (instrs : List Instr) (starts : List ℕ) : Type 0 where
   pub first : slice_index starts 0 ≡ 0
   pub last : slice_index starts (length code) ≡ length instrs
-  pub at : (j : ℕ) (x : Stmt) → slice_get code j ≡ Some x → Stands code instrs starts j x
+  pub short : length instrs ≤ 2 * length code
+  pub at : (j : ℕ) (x : Stmt) → slice_get code j ≡ Some x → Stands instrs starts j x
+
+-- The same where its fences stand before the loads that need them.
+pub record Placed (code : List Stmt) (instrs : List Instr) (starts : List ℕ) : Type 0 where
+  pub laid : Laid code instrs starts
+  pub needed : (j : ℕ) (x : Stmt) (at : slice_get code j ≡ Some x) → ((laid.at j x at).fence ≡ true) ↔ NeedsFence code j
+
+-- A row has at most two instructions.
+row_short : (r : Row) → length (instrs_of r) ≤ 2
+row_short (One i) = omega arith
+row_short (Two i j) = omega arith
+
+rows_short : (starts : List ℕ) (fences : List Bool) (code : List Stmt) → length (rows starts fences code) ≤ 2 * length code
+rows_short starts fences [] = omega arith
+rows_short starts [] (x ∷ code) =
+    omega (arith, length-append (instrs_of (row starts false x)) (rows starts [] code), row_short (row starts false x), rows_short starts [] code)
+rows_short starts (f ∷ fences) (x ∷ code) =
+    omega (arith, length-append (instrs_of (row starts f x)) (rows starts fences code), row_short (row starts f x), rows_short starts fences code)
+
+-- Rows of statements that each have a fence or none.
+module _ (fences : List Bool) (code : List Stmt) (instrs : List Instr) (starts : List ℕ) (as_many : length fences ≡ length code)
+    (starts_are : starts ≡ starts_from 0 fences code) (instrs_are : instrs ≡ rows starts fences code) where
+  fence_at : (j : ℕ) (x : Stmt) → slice_get code j ≡ Some x → (f : Bool) × (slice_get fences j ≡ Some f)
+  fence_at j x e = get_some fences j (omega (arith, as_many, slice_get_within code j x e))
+
+  stands : (j : ℕ) (x : Stmt) (f : Bool) → slice_get code j ≡ Some x → slice_get fences j ≡ Some f
+      → StandsAt instrs (slice_index starts j) (instrs_of (row starts f x))
+      × (slice_index starts (j + 1) ≡ slice_index starts j + length (instrs_of (row starts f x)))
+  stands j x f e g =
+      let a = cut starts 0 fences code j f x g e in
+      let is = instrs_of (row starts f x) in
+      let here : length a.before ≡ slice_index starts j = omega (arith, ap (λ s. slice_index s j) starts_are, a.here) in (
+        subst₂ (λ l k. StandsAt l k is) (sym (instrs_are ∙ a.whole)) here (has_all is a.before a.behind),
+        omega (arith, ap (λ s. slice_index s (j + 1)) starts_are, here, a.next),
+      )
+
+  laid : Laid code instrs starts
+  laid = record {
+    first = ap (λ s. slice_index s 0) starts_are ∙ begins 0 fences code;
+    last = omega (arith, ap (λ s. slice_index s (length code)) starts_are, ends starts 0 fences code as_many, ap length instrs_are);
+    short = omega (arith, rows_short starts fences code, ap length instrs_are);
+    at = λ j x e.
+        let f = fence_at j x e in
+        let s = stands j x f.0 e f.1 in
+        record { fence = f.0; has = s.0; next = s.1 };
+  }
 
 pub placed : (code : List Stmt) (instrs : List Instr) (starts : List ℕ) → IsCompiledThread code instrs starts → Placed code instrs starts
+unfolding fence_at laid
 placed code instrs starts c = record {
-  first = ap (λ s. slice_index s 0) c.starts_are ∙ begins 0 c.fences code;
-  last =
-      omega (arith, ap (λ s. slice_index s (length code)) c.starts_are, ends starts 0 c.fences code c.as_many, ap length c.instrs_are);
-  at = at_j;
+  laid = laid c.fences code instrs starts c.as_many c.starts_are c.instrs_are;
+  needed = λ j x e.
+      let f = fence_at c.fences code instrs starts c.as_many c.starts_are c.instrs_are j x e in
+      ((λ h. (c.needed j).0 (f.1 ∙ ap Some h)), (λ h. same_Some f.0 true (sym f.1 ∙ (c.needed j).1 h)));
 }
-  where
-    at_j : (j : ℕ) (x : Stmt) → slice_get code j ≡ Some x → Stands code instrs starts j x
-    at_j j x e =
-        let f = get_some c.fences j (omega (arith, c.as_many, slice_get_within code j x e)) in
-        let a = cut starts 0 c.fences code j f.0 x f.1 e in
-        let is = instrs_of (row starts f.0 x) in
-        let here : length a.before ≡ slice_index starts j = omega (arith, ap (λ s. slice_index s j) c.starts_are, a.here) in
-        record {
-          fence = f.0;
-          needed = ((λ h. (c.needed j).0 (f.1 ∙ ap Some h)), (λ h. same_Some f.0 true (sym f.1 ∙ (c.needed j).1 h)));
-          has = subst₂ (λ l k. StandsAt l k is) (sym (c.instrs_are ∙ a.whole)) here (has_all is a.before a.behind);
-          next = omega (arith, ap (λ s. slice_index s (j + 1)) c.starts_are, here, a.next);
-        }
+
+-- the fences of as many statements: where the list has no more, none
+padded : List Bool → List Stmt → List Bool
+padded fences [] = []
+padded [] (x ∷ code) = false ∷ padded [] code
+padded (f ∷ fences) (x ∷ code) = f ∷ padded fences code
+
+padded_many : (fences : List Bool) (code : List Stmt) → length (padded fences code) ≡ length code
+unfolding padded
+padded_many fences [] = refl
+padded_many [] (x ∷ code) = omega (arith, padded_many [] code)
+padded_many (f ∷ fences) (x ∷ code) = omega (arith, padded_many fences code)
+
+padded_rows : (starts : List ℕ) (fences : List Bool) (code : List Stmt) → rows starts fences code ≡ rows starts (padded fences code) code
+unfolding padded
+padded_rows starts fences [] = refl
+padded_rows starts [] (x ∷ code) = ap (λ is. instrs_of (row starts false x) ++ is) (padded_rows starts [] code)
+padded_rows starts (f ∷ fences) (x ∷ code) = ap (λ is. instrs_of (row starts f x) ++ is) (padded_rows starts fences code)
+
+padded_starts : (n : ℕ) (fences : List Bool) (code : List Stmt) → starts_from n fences code ≡ starts_from n (padded fences code) code
+unfolding padded
+padded_starts n fences [] = refl
+padded_starts n [] (x ∷ code) = ap (λ l. n ∷ l) (padded_starts (n + length (instrs_of (row [] false x))) [] code)
+padded_starts n (f ∷ fences) (x ∷ code) = ap (λ l. n ∷ l) (padded_starts (n + length (instrs_of (row [] f x))) fences code)
+
+laid_with : (fences : List Bool) (code : List Stmt) (instrs : List Instr) (starts : List ℕ) → IsThreadWith fences code instrs starts
+    → Laid code instrs starts
+laid_with fences code instrs starts c =
+    laid (padded fences code) code instrs starts (padded_many fences code) (c.starts_are ∙ padded_starts 0 fences code)
+    (c.instrs_are ∙ padded_rows starts fences code)
 
 -- the same for thread t of a compiled source
 pub placed_at : (s : SourceTest) (p : ProgramTest) (starts : List (List ℕ)) → IsCompiled s p starts → (t : ℕ) → t < length s.threads
@@ -125,6 +192,31 @@ placed_at s p starts compiled t within =
     let instrs = at_index p.threads t [] (omega (arith, compiled.as_many)) in
     let begins = at_index starts t [] (omega (arith, compiled.as_many_starts)) in
     placed (code_of s.threads t) (code_of p.threads t) (code_of starts t) (compiled.threads t _ _ _ at instrs begins)
+
+-- A source in x86, wherever fences stand.
+pub record LaidOut (s : SourceTest) (p : ProgramTest) (starts : List (List ℕ)) : Type 0 where
+  pub head : p.head ≡ record s.head { arch = X86 }
+  pub as_many : length p.threads ≡ length s.threads
+  pub at : (t : ℕ) → t < length s.threads → Laid (code_of s.threads t) (code_of p.threads t) (code_of starts t)
+
+pub laid_out : (s : SourceTest) (p : ProgramTest) (starts : List (List ℕ)) → IsCompiled s p starts → LaidOut s p starts
+laid_out s p starts compiled = record {
+  head = compiled.head;
+  as_many = compiled.as_many;
+  at = λ t within. (placed_at s p starts compiled t within).laid;
+}
+
+pub laid_out_with : (fences : List (List Bool)) (s : SourceTest) (p : ProgramTest) (starts : List (List ℕ)) → IsCompiledWith fences s p starts
+    → LaidOut s p starts
+laid_out_with fences s p starts compiled = record {
+  head = compiled.head;
+  as_many = compiled.as_many;
+  at = λ t within.
+      let at = at_index s.threads t [] within in
+      let instrs = at_index p.threads t [] (omega (arith, compiled.as_many)) in
+      let begins = at_index starts t [] (omega (arith, compiled.as_many_starts)) in
+      laid_with (code_of fences t) (code_of s.threads t) (code_of p.threads t) (code_of starts t) (compiled.threads t _ _ _ at instrs begins);
+}
 
 -- Statement x, which stands at i, behind those that have been walked over.
 module _ (fences : List Bool) (code : List Stmt) (i : ℕ) (x : Stmt) (within : i < length code)

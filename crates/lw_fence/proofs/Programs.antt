@@ -1,11 +1,12 @@
 -- What is made of a well-formed source test is a well-formed program.
-use Rattle.std.proofs.Common.{◌≡◌, ℕ, zero, suc, ◌+◌, ◌-◌, ◌*◌, ◌<◌, ◌≤◌, ◌==◌, List, [], ◌∷◌, length, length-append, Some, None, Bool, false, refl, sym, ap, ◌∙◌, subst, subst₂, ⊎_elim, arith, slice_get, slice_index}
+use Rattle.std.proofs.Common.{◌≡◌, ℕ, zero, suc, ◌+◌, ◌-◌, ◌<◌, ◌≤◌, ◌==◌, List, [], ◌∷◌, length, Some, None, Bool, refl, sym, ap, ◌∙◌, subst, subst₂, ⊎_elim, arith, slice_get, slice_index}
 use Rattle.std.specs.Prelude.{All, slice_index_or}
 use Rattle.std.specs.Option.{ForSome}
 use Rattle.std.proofs.lemmas.Bool.{cases_eq, cases_lt}
 use Rattle.std.proofs.lemmas.List.Elements.{All-nil, All-cons}
 use Rattle.std.proofs.lemmas.Option.{same_Some, none-some, slice_get_within, get_or_from_slice_get}
 use Rattle.lw_base.specs.Heads.{TestHead}
+use Rattle.lw_base.specs.Threads.{code_of}
 use Rattle.lw_base.specs.WellFormed.{IsWord, IsRegisterNumber, IsWellFormedHead}
 use Rattle.lw_base.specs.declared.head.Arch.TheVariants.{X86}
 use Rattle.lw_base.specs.declared.operand.Operand.{Operand}
@@ -23,10 +24,9 @@ use Rattle.lw_litmus.specs.declared.instr.Instr.{Instr}
 use Rattle.lw_litmus.specs.declared.instr.Instr.TheVariants as instr
 use Rattle.lw_litmus.specs.Programs.{x86}
 use Rattle.lw_litmus.specs.Programs as programs
-use Rattle.lw_fence.specs.declared.row.Row.{Row}
 use Rattle.lw_fence.specs.declared.row.Row.TheVariants.{One, Two}
-use Rattle.lw_fence.specs.Compiling.{moved, compared, row, instrs_of, rows, IsCompiledThread, IsCompiled}
-use Rattle.lw_fence.proofs.Placed.{chosen, StandsAt, Placed, placed}
+use Rattle.lw_fence.specs.Compiling.{moved, compared, row, instrs_of, IsCompiledThread, IsCompiled}
+use Rattle.lw_fence.proofs.Placed.{chosen, StandsAt, Laid, LaidOut, laid_out}
 
 -- what holds of each instruction, at its place
 abbrev AllAt : (ℕ → Instr → Type 0) → ℕ → List Instr → Type 0
@@ -123,27 +123,12 @@ module _ (locs l n : ℕ) (starts : List ℕ) where
   row_fits f (Goto to) j k ok forward reaches =
       (jump_fits (instr.Jmp (slice_index starts to)) j k (k + 1) to bare refl forward reaches (omega arith), tt)
 
--- A row has at most two instructions.
-row_short : (r : Row) → length (instrs_of r) ≤ 2
-row_short (One i) = omega arith
-row_short (Two i j) = omega arith
-
-rows_short : (starts : List ℕ) (fences : List Bool) (code : List Stmt) → length (rows starts fences code) ≤ 2 * length code
-rows_short starts fences [] = omega arith
-rows_short starts [] (x ∷ code) =
-    omega (arith, length-append (instrs_of (row starts false x)) (rows starts [] code), row_short (row starts false x), rows_short starts [] code)
-rows_short starts (f ∷ fences) (x ∷ code) =
-    omega (arith, length-append (instrs_of (row starts f x)) (rows starts fences code), row_short (row starts f x), rows_short starts fences code)
-
 all_at : {X : Type 0} (P : X → Type 0) (xs : List X) (k : ℕ) (x : X) → All P xs → slice_get xs k ≡ Some x → P x
 all_at P xs k x all e = subst P (get_or_from_slice_get xs k x x e) (all k x (slice_get_within xs k x e))
 
 -- A compiled thread.
 module _ (locs : ℕ) (code : List Stmt) (instrs : List Instr) (starts : List ℕ) (ok : IsThread source locs code)
-    (compiled : IsCompiledThread code instrs starts) where
-  stands : Placed code instrs starts
-  stands = placed code instrs starts compiled
-
+    (stands : Laid code instrs starts) where
   abbrev start : ℕ → ℕ
   start k = slice_index starts k
 
@@ -185,7 +170,7 @@ module _ (locs : ℕ) (code : List Stmt) (instrs : List Instr) (starts : List �
 
   is_thread : IsThread x86 locs instrs
   is_thread = record {
-    short = omega (arith, rows_short starts compiled.fences code, ap length compiled.instrs_are, ok.short);
+    short = omega (arith, stands.short, ok.short);
     there = λ j d lt. (fits j _ (at_index instrs j d lt)).0;
     forward = λ j i e. (fits j i e).1;
   }
@@ -208,22 +193,23 @@ in_x86 h ok = record {
   condition = ok.condition;
 }
 
-pub is_program : (s : SourceTest) (p : ProgramTest) (starts : List (List ℕ)) → IsWellFormedSource s → IsCompiled s p starts → IsWellFormedProgram p
-is_program s p starts ok compiled = record {
-  head = subst IsWellFormedHead (sym compiled.head) (in_x86 s.head ok.head);
-  arch = ap (λ (h : TestHead). h.arch) compiled.head;
-  as_many = compiled.as_many ∙ ok.as_many ∙ sym (ap (λ (h : TestHead). h.threads) compiled.head);
+pub laid_program : (s : SourceTest) (p : ProgramTest) (starts : List (List ℕ)) → IsWellFormedSource s → LaidOut s p starts → IsWellFormedProgram p
+laid_program s p starts ok laid = record {
+  head = subst IsWellFormedHead (sym laid.head) (in_x86 s.head ok.head);
+  arch = ap (λ (h : TestHead). h.arch) laid.head;
+  as_many = laid.as_many ∙ ok.as_many ∙ sym (ap (λ (h : TestHead). h.threads) laid.head);
   code = λ t d lt.
-      subst (λ (h : TestHead). IsThread x86 (length h.locs) (slice_index_or p.threads t d)) (sym compiled.head) (at t _ (at_index p.threads t d lt));
+      subst (λ (h : TestHead). IsThread x86 (length h.locs) (slice_index_or p.threads t d)) (sym laid.head) (at t _ (at_index p.threads t d lt));
 }
   where
     at : (t : ℕ) (instrs : List Instr) → slice_get p.threads t ≡ Some instrs → IsThread x86 (length s.head.locs) instrs
     at t instrs e =
-        let within = slice_get_within p.threads t instrs e in
-        let code = get_some s.threads t (omega (arith, within, compiled.as_many)) in
-        let begins = get_some starts t (omega (arith, within, compiled.as_many, compiled.as_many_starts)) in
-        is_thread (length s.head.locs) code.0 instrs begins.0 (all_at (IsThread source (length s.head.locs)) s.threads t code.0 ok.code code.1)
-        (compiled.threads t code.0 instrs begins.0 code.1 e begins.1)
+        let within : t < length s.threads = omega (arith, slice_get_within p.threads t instrs e, laid.as_many) in
+        let thread = is_thread (length s.head.locs) (code_of s.threads t) (code_of p.threads t) (code_of starts t) (ok.code t [] within) (laid.at t within) in
+        subst (IsThread x86 (length s.head.locs)) (get_or_from_slice_get p.threads t instrs [] e) thread
+
+pub is_program : (s : SourceTest) (p : ProgramTest) (starts : List (List ℕ)) → IsWellFormedSource s → IsCompiled s p starts → IsWellFormedProgram p
+is_program s p starts ok compiled = laid_program s p starts ok (laid_out s p starts compiled)
 
 -- A copy of the head, in x86, and compiled threads.
 pub compiled_of : (s : SourceTest) (head : TestHead) (threads : List (List Instr)) (starts : List (List ℕ)) → head ≡ s.head

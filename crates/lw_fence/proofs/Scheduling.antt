@@ -44,7 +44,7 @@ has_start s p starts lists t i place begins list compiled there same at is read 
     go (inr past) = absurd (omega (arith, there, ap length (get_or_past s.threads t [] past)))
     go (inl within) =
         let stmt = get_some (code_of s.threads t) place there in
-        let stands = (placed_at s p starts compiled t within).at place stmt.0 stmt.1 in
+        let stands = (placed_at s p starts compiled t within).laid.at place stmt.0 stmt.1 in
         let instrs = at_index p.threads t [] (omega (arith, compiled.as_many)) in
         let own = at_index starts t [] (omega (arith, compiled.as_many_starts)) in
         let thread = compiled.threads t (code_of s.threads t) _ _ (at_index s.threads t [] within) instrs own in

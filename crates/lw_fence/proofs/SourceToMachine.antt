@@ -27,11 +27,11 @@ use Rattle.lw_fence.specs.Compiling.{row, instrs_of, IsCompiled}
 use Rattle.lw_fence.specs.Schedules.{statement_events, thread_events, going_on, schedule}
 use Rattle.lw_fence.proofs.Beside.{Beside, thread_at, processor_at, gone_on, same_outcome, first, compiled_start, start_is}
 use Rattle.lw_fence.proofs.Moves.{run_append}
-use Rattle.lw_fence.proofs.Placed.{Stands, placed_at}
+use Rattle.lw_fence.proofs.Placed.{Stands, LaidOut, laid_out}
 use Rattle.lw_fence.proofs.Statements.{standing, events_for, statement_turned}
 use Rattle.lw_fence.proofs.Steps.{Sane, allowed_at, stays_sane}
 
-module _ (s : SourceTest) (p : ProgramTest) (starts : List (List ℕ)) (ok : IsWellFormedSource s) (compiled : IsCompiled s p starts) where
+module _ (s : SourceTest) (p : ProgramTest) (starts : List (List ℕ)) (ok : IsWellFormedSource s) (laid : LaidOut s p starts) where
   -- The processor stands where the thread stands, with an empty buffer.
   abbrev Standing : ℕ → Thread → Processor → Type 0
   Standing t th c =
@@ -46,7 +46,7 @@ module _ (s : SourceTest) (p : ProgramTest) (starts : List (List ℕ)) (ok : IsW
     ran : MachineRan flat p.threads es ms end
     in_step : InStep after end
 
-  events_are : (t : ℕ) (ss : State) (th : Thread) (x : Stmt) (st : Stands (code_of s.threads t) (code_of p.threads t) (code_of starts t) th.position x)
+  events_are : (t : ℕ) (ss : State) (th : Thread) (x : Stmt) (st : Stands (code_of p.threads t) (code_of starts t) th.position x)
       → slice_get ss.threads t ≡ Some th → slice_get (code_of s.threads t) th.position ≡ Some x
       → thread_events s.threads starts t (slice_get ss.threads t) ≡ events_for t (length (instrs_of (row (code_of starts t) st.fence x))) x
   events_are t ss th x st e h =
@@ -61,7 +61,7 @@ module _ (s : SourceTest) (p : ProgramTest) (starts : List (List ℕ)) (ok : IsW
       let lt : t < length s.threads = omega (arith, slice_get_within ss.threads t st.thread st.was, i.as_many) in
       let c = processor_at s Standing ss ms i t lt in
       let z = i.at t st.thread c.0 st.was c.1 in
-      let stands = (placed_at s p starts compiled t lt).at st.thread.position st.stmt st.at in
+      let stands = (laid.at t lt).at st.thread.position st.stmt st.at in
       let allowed = allowed_at s ok t st.thread.position st.stmt st.at in
       let turned = statement_turned p.threads t (code_of starts t) st.thread z.0 ss.words st.stmt (code_of s.threads t) allowed z.1.six stands in
       let next = thread_after (operation_of st.stmt) st.thread ss.words in
@@ -92,7 +92,7 @@ module _ (s : SourceTest) (p : ProgramTest) (starts : List (List ℕ)) (ok : IsW
 
   in_step_first : InStep (start_of s) (compiled_start s)
   in_step_first = first s Standing ok (λ t regs lt six.
-      let begin = (placed_at s p starts compiled t lt).first in (
+      let begin = (laid.at t lt).first in (
         false,
         record { six = six; within = omega arith },
         ap (λ (k : ℕ). record { position = k; regs = regs; zero_flag = false; buffer = [] }) (sym begin),
@@ -103,11 +103,11 @@ module _ (s : SourceTest) (p : ProgramTest) (starts : List (List ℕ)) (ok : IsW
     where
       each : (t : ℕ) (instrs : List Instr) (c : Processor) → slice_get p.threads t ≡ Some instrs → slice_get ms.processors t ≡ Some c → is_done instrs c ≡ true
       each t instrs c e f =
-          let lt : t < length s.threads = omega (arith, slice_get_within p.threads t instrs e, compiled.as_many) in
+          let lt : t < length s.threads = omega (arith, slice_get_within p.threads t instrs e, laid.as_many) in
           let th = thread_at s Standing ss ms i t lt in
           let code = get_some s.threads t lt in
           let z = i.at t th.0 c th.1 f in
-          let placed = placed_at s p starts compiled t lt in
+          let placed = laid.at t lt in
           let own : code_of s.threads t ≡ code.0 = get_or_from_slice_get s.threads t code.0 [] code.1 in
           let instrs_are : code_of p.threads t ≡ instrs = get_or_from_slice_get p.threads t instrs [] e in
           let done = zip_passes (λ (x : List Stmt × Thread). nat_le (length x.0) x.1.position) s.threads ss.threads t code.0 th.0 over code.1 th.1 in
@@ -118,15 +118,19 @@ module _ (s : SourceTest) (p : ProgramTest) (starts : List (List ℕ)) (ok : IsW
           and_from (nat_le (length instrs) c.position) (length c.buffer == 0) (le-leb (length instrs) c.position (omega (arith, at)))
           (ap (λ (x : Processor). length x.buffer == 0) z.2)
 
--- the schedule of a source run leads to the run's outcome
-pub schedule_replays : (s : SourceTest) (p : ProgramTest) (starts : List (List ℕ)) (order : List ℕ) (o : Final) → IsWellFormedSource s
-    → IsCompiled s p starts → RunsTo s order o → Replays flat p p.head.init_words (schedule s.threads starts order (start_of s)) o
-schedule_replays s p starts order o ok compiled run =
-    let f = follow s p starts ok compiled order (start_of s) run.end (compiled_start s) (in_step_first s p starts ok compiled) run.ran in
+-- the schedule of a source run leads to the run's outcome, wherever fences stand
+pub laid_replays : (s : SourceTest) (p : ProgramTest) (starts : List (List ℕ)) (order : List ℕ) (o : Final) → IsWellFormedSource s
+    → LaidOut s p starts → RunsTo s order o → Replays flat p p.head.init_words (schedule s.threads starts order (start_of s)) o
+laid_replays s p starts order o ok laid run =
+    let f = follow s p starts ok laid order (start_of s) run.end (compiled_start s) (in_step_first s p starts ok laid) run.ran in
     record {
       end = f.end;
-      ran = subst (λ b. MachineRan flat p.threads (schedule s.threads starts order (start_of s)) b f.end) (sym (start_is s p starts compiled)) f.ran;
-      final = ends_final s p starts ok compiled run.end f.end f.in_step run.final;
-      is = run.is ∙ same_outcome s (Standing s p starts ok compiled) run.end f.end f.in_step
+      ran = subst (λ b. MachineRan flat p.threads (schedule s.threads starts order (start_of s)) b f.end) (sym (start_is s p laid.head)) f.ran;
+      final = ends_final s p starts ok laid run.end f.end f.in_step run.final;
+      is = run.is ∙ same_outcome s (Standing s p starts ok laid) run.end f.end f.in_step
           (λ t th c e g. sym (ap (λ (x : Processor). x.regs) (f.in_step.at t th c e g).2));
     }
+
+pub schedule_replays : (s : SourceTest) (p : ProgramTest) (starts : List (List ℕ)) (order : List ℕ) (o : Final) → IsWellFormedSource s
+    → IsCompiled s p starts → RunsTo s order o → Replays flat p p.head.init_words (schedule s.threads starts order (start_of s)) o
+schedule_replays s p starts order o ok compiled run = laid_replays s p starts order o ok (laid_out s p starts compiled) run

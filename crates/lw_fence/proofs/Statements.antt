@@ -115,7 +115,7 @@ module _ (program : List (List Instr)) (t : ℕ) (starts : List ℕ) (th : Threa
 
   -- the statement at which the thread stands
   pub statement_turned : (code : List Stmt) → Allowed code th.position x → length th.regs ≡ 6
-      → (s : Stands code (code_of program t) starts th.position x)
+      → (s : Stands (code_of program t) starts th.position x)
       → Turned program t starts th z m x (events_for t (length (instrs_of (row starts s.fence x))) x)
   statement_turned code ok six s =
       row_turned (row starts s.fence x) s.has (row_serves starts th begin refl x s.fence six ok.registers (λ load none. refl) s.next)

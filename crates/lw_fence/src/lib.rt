@@ -17,4 +17,4 @@ mod starts;
 
 pub use compiled::Compiled;
 pub use compiler::compile;
-pub use schedule::schedule_of;
+pub use schedule::{push_next, schedule_of, schedules_replay};

@@ -1,5 +1,5 @@
 //! The schedule of a compiled program that a source run stands for.
-ghost use Rattle.std.specs.Prelude.{◌≡◌, ◌<◌, ◌++◌, ◌∷◌, [], if◌then◌else◌, length, map, replicate, slice_get, IfOk};
+ghost use Rattle.std.specs.Prelude.{◌≡◌, ℕ, List, ◌<◌, ◌++◌, ◌∷◌, [], if◌then◌else◌, length, map, replicate, slice_get, IfOk};
 ghost use Rattle.lw_base.specs.Outcomes.{Final};
 ghost use Rattle.lw_base.specs.Threads.{code_of};
 ghost use Rattle.lw_base.specs.declared.event.Event.TheVariants.{Step, Drain};
@@ -9,6 +9,8 @@ ghost use Rattle.lw_litmus.specs.Views.{source_of, program_of};
 ghost use Rattle.lw_tso.specs.Runs.{Replays};
 ghost use Rattle.lw_litmus.specs.Operations.{is_store};
 ghost use Rattle.lw_litmus.specs.Sources.{operation_of};
+ghost use Rattle.lw_litmus.specs.Tests.{SourceTest, ProgramTest};
+ghost use Rattle.lw_litmus.specs.WellFormedTests.{IsWellFormedSource};
 ghost use Rattle.lw_fence.specs.Compiling.{IsCompiled};
 ghost use Rattle.lw_fence.specs.Schedules.{statement_events, schedule};
 
@@ -37,8 +39,8 @@ fn push_statement<A: Allocator>(
     Ok(())
 }
 
-/// Pushes the events of the statement at a place of a thread.
-fn push_next<A: Allocator>(
+/// Pushes the events of the statement at a place of a thread: a step for each of its instructions, and after a store a drain.
+pub fn push_next<A: Allocator>(
     events: &mut Vec<Event, A>,
     source: &Source<A>,
     compiled: &Compiled<A>,
@@ -81,3 +83,10 @@ pub fn schedule_of<A: Allocator + Copy>(
     }
     Ok(events)
 }
+
+/// The schedule that a run of a source test stands for replays over flat memory, in the compiled program, to the run's outcome.
+pub fn schedules_replay()
+    ensures { (s : SourceTest) (p : ProgramTest) (starts : List (List ℕ)) (order : List ℕ) (o : Final)
+        → IsWellFormedSource s → IsCompiled s p starts → RunsTo s order o
+        → Replays flat p p.head.init_words (schedule s.threads starts order (start_of s)) o }
+{}

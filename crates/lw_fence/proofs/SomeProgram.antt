@@ -1,0 +1,78 @@
+-- A well-formed source has a compiled program.
+use Rattle.std.proofs.Common.{◌≡◌, ℕ, zero, suc, ◌+◌, ◌<◌, ◌≤◌, List, [], ◌∷◌, ◌++◌, length, replicate, Some, Bool, false, ◌&&◌, if◌then◌else◌, refl, subst, arith, slice_get}
+use Rattle.std.specs.Prelude.{slice_index_or}
+use Rattle.std.specs.Option.{ForSome}
+use Rattle.lw_base.specs.Threads.{code_of}
+use Rattle.lw_base.proofs.api.Lists.{get_some, at_index}
+use Rattle.lw_litmus.specs.declared.instr.Instr.{Instr}
+use Rattle.lw_litmus.specs.declared.stmt.Stmt.{Stmt}
+use Rattle.lw_litmus.specs.Operations.{target_of, is_load}
+use Rattle.lw_litmus.specs.Sources.{operation_of}
+use Rattle.lw_litmus.specs.Tests.{SourceTest, ProgramTest}
+use Rattle.lw_litmus.specs.WellFormedTests.{IsWellFormedSource}
+use Rattle.lw_fence.specs.Compiling.{rows, starts_from, IsCompiledThread, IsCompiled}
+use Rattle.lw_fence.specs.inner.Marks.{may_wait, marked_behind}
+use Rattle.lw_fence.proofs.CompiledThreads.{AreCompiled, none_compiled, one_compiled}
+use Rattle.lw_fence.proofs.FencesFound.{Found, found_none, found_more, needed}
+use Rattle.lw_fence.proofs.Marks.{Marked, at, mark_step, marked_behind_stores, first_marks}
+use Rattle.lw_fence.proofs.Programs.{compiled_of}
+
+module _ (code : List Stmt)
+    (ok : (j : ℕ) (x : Stmt) → slice_get code j ≡ Some x → ForSome (target_of (operation_of x)) (λ to. (j < to) × (to ≤ length code))) where
+  -- the marks behind the first statements
+  marks_behind : (i : ℕ) → i ≤ length code → (marks : List Bool) × Marked code i marks
+  marks_behind zero le = (replicate (suc (length code)) false, first_marks code ok)
+  marks_behind (suc i) le =
+      let m = marks_behind i (omega arith) in
+      let x = get_some code i (omega arith) in
+      let b : Bool = may_wait (operation_of x.0) (at m.0 i) in
+      let next : i + 1 ≡ suc i = omega arith in
+      (_, subst (λ k. Marked code k (if b then marked_behind (operation_of x.0) i m.0 else m.0)) next (mark_step code ok i x.0 m.0 b x.1 refl m.1))
+
+  marks : (v : List Bool) × Marked code (length code) v
+  marks = marks_behind (length code) (omega arith)
+
+  fences_before : (i : ℕ) → i ≤ length code → (fences : List Bool) × Found code marks.0 i fences
+  fences_before zero le = ([], found_none code marks.0 [] refl)
+  fences_before (suc i) le =
+      let f = fences_before i (omega arith) in
+      let x = get_some code i (omega arith) in
+      let b : Bool = is_load (operation_of x.0) && slice_index_or marks.0 i false in
+      let next : i + 1 ≡ suc i = omega arith in
+      (f.0 ++ b ∷ [], subst (λ k. Found code marks.0 k (f.0 ++ b ∷ [])) next (found_more code marks.0 i f.0 (f.0 ++ b ∷ []) b x.0 f.1 x.1 refl refl))
+
+  some_thread : (instrs : List Instr) × (starts : List ℕ) × IsCompiledThread code instrs starts
+  some_thread =
+      let f = fences_before (length code) (omega arith) in (
+        rows (starts_from 0 f.0 code) f.0 code,
+        starts_from 0 f.0 code,
+        record {
+          fences = f.0;
+          as_many = f.1.as_many;
+          needed = needed code marks.0 (marked_behind_stores code ok marks.0 marks.1) f.0 f.1;
+          starts_are = refl;
+          instrs_are = refl;
+        },
+      )
+
+module _ (s : SourceTest) (ok : IsWellFormedSource s) where
+  thread_of : (t : ℕ) → t < length s.threads → (instrs : List Instr) × (starts : List ℕ) × IsCompiledThread (code_of s.threads t) instrs starts
+  thread_of t lt = some_thread (code_of s.threads t) (ok.code t [] lt).forward
+
+  threads_before : (n : ℕ) → n ≤ length s.threads
+      → (threads : List (List Instr)) × (starts : List (List ℕ)) × AreCompiled s.threads n threads starts
+  threads_before zero le = ([], [], none_compiled s.threads [] [] refl refl)
+  threads_before (suc n) le =
+      let before = threads_before n (omega arith) in
+      let own = thread_of n (omega arith) in
+      let next : n + 1 ≡ suc n = omega arith in
+      let threads = before.0 ++ own.0 ∷ [] in
+      let starts = before.1 ++ own.1 ∷ [] in
+      let all = one_compiled s.threads n before.0 threads before.1 starts (code_of s.threads n) own.0 own.1 before.2
+      (at_index s.threads n [] (omega arith)) own.2 refl refl in
+      (threads, starts, subst (λ k. AreCompiled s.threads k threads starts) next all)
+
+  pub some_program : (p : ProgramTest) × (starts : List (List ℕ)) × IsCompiled s p starts
+  some_program =
+      let all = threads_before (length s.threads) (omega arith) in
+      (_, all.1, compiled_of s s.head all.0 all.1 refl all.2.as_many all.2.as_many_starts all.2.each)

@@ -1,0 +1,42 @@
+-- Compiled programs of tests as values, by definitions alone.
+use Rattle.std.proofs.Common.{◌↔◌, ℕ, List, [], Bool, refl}
+use Rattle.lw_base.specs.Outcomes.{Final}
+use Rattle.lw_interleaving.specs.Runs.{SourceOutcome, start_of}
+use Rattle.lw_litmus.specs.Tests.{SourceTest, ProgramTest}
+use Rattle.lw_litmus.specs.WellFormedTests.{IsWellFormedSource, IsWellFormedProgram}
+use Rattle.lw_memory.specs.Flat.{flat}
+use Rattle.lw_tso.specs.Runs.{MachineOutcome}
+use Rattle.lw_fence.specs.Compiling.{IsCompiled}
+use Rattle.lw_fence.specs.Unfenced.{IsCompiledWith}
+use Rattle.lw_fence.specs.Schedules.{schedule}
+use Rattle.lw_fence.proofs.Endings.{program_ends}
+use Rattle.lw_fence.proofs.MachineToSource.{machine_to_source}
+use Rattle.lw_fence.proofs.Placed.{laid_out_with}
+use Rattle.lw_fence.proofs.Programs.{laid_program}
+use Rattle.lw_fence.proofs.SourceToMachine.{laid_replays, schedule_replays}
+-- A well-formed source has a compiled program, any source at most one, and that is well-formed.
+pub use Rattle.lw_fence.proofs.OneProgram.{one_program}
+pub use Rattle.lw_fence.proofs.SomeProgram.{some_program}
+pub use Rattle.lw_fence.proofs.Programs.{is_program}
+
+-- It has over flat memory exactly the outcomes of its source.
+pub same_outcomes : (s : SourceTest) (p : ProgramTest) (starts : List (List ℕ)) (o : Final) → IsWellFormedSource s → IsCompiled s p starts
+    → MachineOutcome flat p p.head.init_words o ↔ SourceOutcome s o
+same_outcomes s p starts o ok compiled =
+    (machine_to_source s p starts o ok compiled, λ run. (schedule s.threads starts run.0 (start_of s), schedule_replays s p starts run.0 o ok compiled run.1))
+
+-- With fences elsewhere it is well-formed, and has them all.
+pub is_program_with : (fences : List (List Bool)) (s : SourceTest) (p : ProgramTest) (starts : List (List ℕ)) → IsWellFormedSource s
+    → IsCompiledWith fences s p starts → IsWellFormedProgram p
+is_program_with fences s p starts ok compiled = laid_program s p starts ok (laid_out_with fences s p starts compiled)
+
+pub has_outcomes : (fences : List (List Bool)) (s : SourceTest) (p : ProgramTest) (starts : List (List ℕ)) (o : Final) → IsWellFormedSource s
+    → IsCompiledWith fences s p starts → SourceOutcome s o → MachineOutcome flat p p.head.init_words o
+has_outcomes fences s p starts o ok compiled run =
+    (schedule s.threads starts run.0 (start_of s), laid_replays s p starts run.0 o ok (laid_out_with fences s p starts compiled) run.1)
+
+-- An x86 test has an outcome over flat memory.
+pub has_outcome : (p : ProgramTest) → IsWellFormedProgram p → (o : Final) × MachineOutcome flat p p.head.init_words o
+has_outcome p ok =
+    let e = program_ends p ok [] _ refl in
+    (_, (e.more, record { end = e.end; ran = e.ran; final = e.final; is = refl }))

@@ -1,0 +1,28 @@
+-- A source test in x86 with other fences than the compiler's, or with none.
+use Rattle.std.specs.Prelude.{◌≡◌, ℕ, Bool, Some, List, [], length, slice_get}
+use Rattle.lw_base.specs.Threads.{code_of}
+use Rattle.lw_base.specs.declared.head.Arch.TheVariants.{X86}
+use Rattle.lw_litmus.specs.declared.stmt.Stmt.{Stmt}
+use Rattle.lw_litmus.specs.declared.instr.Instr.{Instr}
+use Rattle.lw_litmus.specs.Tests.{SourceTest, ProgramTest}
+use Rattle.lw_fence.specs.Compiling.{rows, starts_from}
+
+-- These are the instructions of a thread, and the first of each statement, where a fence stands before each statement of these that
+-- is a load, needed or not; behind the end of the list stands none.
+pub record IsThreadWith (fences : List Bool) (code : List Stmt) (instrs : List Instr) (starts : List ℕ) : Type 0 where
+  pub starts_are : starts ≡ starts_from 0 fences code
+  pub instrs_are : instrs ≡ rows starts fences code
+
+-- The program has the source's head, in x86, and for each of its threads the instructions, with these starts, and such fences.
+pub record IsCompiledWith (fences : List (List Bool)) (source : SourceTest) (program : ProgramTest) (starts : List (List ℕ)) : Type 0 where
+  pub head : program.head ≡ record source.head { arch = X86 }
+  pub as_many : length program.threads ≡ length source.threads
+  pub as_many_starts : length starts ≡ length source.threads
+  pub threads :
+      (t : ℕ) (code : List Stmt) (instrs : List Instr) (begins : List ℕ)
+      → slice_get source.threads t ≡ Some code → slice_get program.threads t ≡ Some instrs → slice_get starts t ≡ Some begins
+      → IsThreadWith (code_of fences t) code instrs begins
+
+-- The same without a fence.
+abbrev pub IsCompiledWithoutFences : SourceTest → ProgramTest → List (List ℕ) → Type 0
+IsCompiledWithoutFences = IsCompiledWith []
