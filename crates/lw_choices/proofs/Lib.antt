@@ -6,3 +6,4 @@ mod Sizes
 mod AccessPairs
 mod Pushed
 mod FewItems
+mod FewOrders

@@ -7,7 +7,7 @@
 //!    pairs of them stand in a fixed order, and some conflict. lw_orders gives one order for each way round in which these can
 //!    stand.
 //! 3. `size`, `count`, `limits`: the most items of a choice are looked at first, then the ways of all choices are counted, up
-//!    to the limit; `fault` has what is told where one is passed.
+//!    to the limit, unless `few` sees at once that they are within it; `fault` has what is told where one is passed.
 //!
 //! It names lw_base; of lw_litmus what statements do; and lw_orders. Nothing here steps. The promise that the
 //! crates above use: `visit_choices` visits exactly the choices of a program, each once, which `laws` says of their list.
@@ -16,6 +16,7 @@
 mod conflicts;
 mod count;
 mod fault;
+mod few;
 mod fixed;
 mod item;
 mod items;
@@ -30,6 +31,7 @@ mod visit;
 pub use conflicts::conflicts_of;
 pub use count::{constrained, fill_few_items};
 pub use fault::ListFault;
+pub use few::has_no_conflicts;
 pub use item::Item;
 pub use laws::{choices_are_complete, source_tests_have_few_items};
 pub use limits::check_limits;

@@ -6,6 +6,7 @@ ghost use Rattle.lw_choices.specs.Visits.{IsVisitable};
 
 use crate::count::Counter;
 use crate::fault::ListFault;
+use crate::few::has_few_orders;
 use crate::size::check_items;
 use crate::visit::visit_choices;
 use lw_base::Sequence;
@@ -31,7 +32,8 @@ fn check_orders<S: Statement, A: Allocator + Copy, B: Allocator>(
     visit_choices(program, &mut counter)
 }
 
-/// Whether a program is within the limits of a list: its items are looked at first.
+/// Whether a program is within the limits of a list: its items are looked at first. Where it is seen without a walk over all choices
+/// that their orders are few, they are not counted.
 pub fn check_limits<S: Statement, A: Allocator + Copy, B: Allocator>(
     alloc: A,
     program: &[Sequence<S, B>],
@@ -41,5 +43,8 @@ pub fn check_limits<S: Statement, A: Allocator + Copy, B: Allocator>(
     ensures err { IfErr result (TellsLimit S.language program.now) }
 {
     check_items(program)?;
+    if has_few_orders(program) {
+        return Ok(());
+    }
     check_orders(alloc, program)
 }

@@ -1,8 +1,10 @@
 //! The outcomes of a program are gathered, choice by choice and order by order.
-ghost use Rattle.std.specs.Prelude.{◌≡◌, ◌<◌, ◌≤◌, [], length, All, IfOk, IfErr, OnOk};
+ghost use Rattle.std.specs.Prelude.{◌≡◌, ◌<◌, ◌≤◌, true, List, [], length, All, IfOk, IfErr, OnOk};
 ghost use Rattle.lw_orders.specs.Order.{count_of};
 ghost use Rattle.lw_orders.specs.Sequence.{orders};
 ghost use Rattle.lw_orders.specs.Limits.{most_items, most_orders};
+ghost use Rattle.lw_choices.specs.Items.{constraints_of};
+ghost use Rattle.lw_choices.specs.declared.item.Item.{Item};
 ghost use Rattle.lw_choices.specs.Counts.{TellsOfChoice, TellsOfGiven, TellsLimit, IsWithinLimits};
 ghost use Rattle.lw_finals.specs.inner.Gathered.{Gathers, EndsOfOrders, EndsOfItems, EndsOfChoice, EndsOfProgram};
 ghost use Rattle.lw_listing.specs.Listings.{IsStrictlySorted};
@@ -12,7 +14,7 @@ use crate::runner::OrderRunner;
 use lw_base::Sequence;
 use lw_choices::{
     Choice, Item, ListFault, Visitor, check_limits, conflicts_of, constrained, fill_few_items,
-    visit_choices,
+    has_no_conflicts, visit_choices,
 };
 use lw_listing::{Findings, Listing};
 use lw_litmus::Statement;
@@ -36,7 +38,7 @@ fn gather_order<A: Allocator, R: OrderRunner<A> + Drop>(
         return Ok(());
     }
     let (outcome, schedule) = runner.entry(items, order)?;
-    found.add(outcome, schedule)
+    found.add_new(outcome, schedule)
 }
 
 /// Runs each order that is given for items with their pairs.
@@ -77,9 +79,7 @@ fn gather_items<S: Statement, A: Allocator + Copy, B: Allocator, R: OrderRunner<
 {
     let conflicts = conflicts_of(alloc, program, items)?;
     if conflicts.is_empty() {
-        one_order_goes_up();
-        let order = Order::ascending(items.len());
-        gather_order(runner, items, order.as_slice(), found)?;
+        gather_one(program, runner, items, found)?;
         return Ok(());
     }
     let constraints = constrained(alloc, program, items, conflicts)?;
@@ -90,14 +90,36 @@ fn gather_items<S: Statement, A: Allocator + Copy, B: Allocator, R: OrderRunner<
     Ok(())
 }
 
+/// Runs the one order that is given for items of which none conflict.
+fn gather_one<S: Statement, A: Allocator, B: Allocator, R: OrderRunner<A> + Drop>(
+    program: &[Sequence<S, B>],
+    runner: &mut R,
+    items: &[Item],
+    found: &mut Findings<A>,
+) -> Result<(), AllocError>
+    requires few { length items.now ≤ most_items }
+    requires none { (constraints_of S.language program.now items.now).conflicts ≡ [] }
+    ensures same { R.test runner.new ≡ R.test runner.old }
+    ensures gathered { OnOk result (Gathers
+        (EndsOfItems S.language (R.ends (R.test runner.old)) program.now items.now)
+        (R.leads (R.test runner.old)) found.old found.new) }
+{
+    one_order_goes_up();
+    let order = Order::ascending(items.len());
+    gather_order(runner, items, order.as_slice(), found)
+}
+
 /// The outcomes of the choices visited so far.
 #[derive(Drop)]
 struct Gatherer<'a, S: Statement, A: Allocator, B: Allocator, R> {
     alloc: A,
     program: &'a [Sequence<S, B>],
+    // Whether it is known beforehand that nothing conflicts.
+    is_apart: bool,
     items: Vec<Item, A>,
     runner: R,
     found: Findings<A>,
+    ghost apart: { is_apart ≡ true → (items : List Item) → (constraints_of S.language program.now items).conflicts ≡ [] },
 }
 
 impl<'a, S: Statement, A: Allocator + Copy, B: Allocator, R: OrderRunner<A> + Drop> Visitor
@@ -111,6 +133,15 @@ impl<'a, S: Statement, A: Allocator + Copy, B: Allocator, R: OrderRunner<A> + Dr
 
     fn visit(&mut self, choice: &Choice) -> Result<(), ListFault> {
         fill_few_items(self.program, choice, &mut self.items)?;
+        if self.is_apart {
+            gather_one(
+                self.program,
+                &mut self.runner,
+                self.items.as_slice(),
+                &mut self.found,
+            )?;
+            return Ok(());
+        }
         gather_items(
             self.alloc,
             self.program,
@@ -139,6 +170,7 @@ pub(crate) fn list_program<
     let mut gatherer = Gatherer {
         alloc,
         program,
+        is_apart: has_no_conflicts(program),
         items: Vec::new(alloc),
         runner,
         found: Findings::new(alloc),

@@ -4,12 +4,13 @@ ghost use Rattle.lw_fence.specs.Compiling.{IsCompiled};
 ghost use Rattle.lw_interleaving.specs.Runs.{State};
 ghost use Rattle.lw_litmus.specs.Views.{source_of, program_of};
 ghost use Rattle.lw_finals.specs.SourceRuns.{CarriedOut, StaysAndEnds};
-ghost use Rattle.lw_finals.specs.inner.SourceRunners.{CompiledSource, leads_flat, threads_of};
+ghost use Rattle.lw_choices.specs.Items.{item_at};
+ghost use Rattle.lw_finals.specs.inner.SourceRunners.{CompiledSource, IsThere, item_events, leads_flat};
 
 use crate::runner::{OrderRunner, copy_outcome};
-use lw_base::{Cpu, Event, Outcome, Sequence};
+use lw_base::{Event, Outcome, Sequence};
 use lw_choices::Item;
-use lw_fence::{Compiled, schedule_of};
+use lw_fence::{Compiled, push_next, schedules_replay};
 use lw_interleaving::SourceRun;
 use lw_litmus::Source;
 use std::alloc::{AllocError, Allocator};
@@ -92,20 +93,26 @@ impl<'a, A: Allocator + Copy> SourceRunner<'a, A> {
     }
 }
 
-/// The threads of an order's items.
-fn threads_of<A: Allocator>(
+/// The schedule of an order's items: the events of each item's statement, one after another.
+fn schedule_of_items<A: Allocator>(
     alloc: A,
+    source: &Source<A>,
+    compiled: &Compiled<A>,
     items: &[Item],
     order: &[u8],
-) -> Result<Vec<Cpu, A>, AllocError>
-    requires { All (λ i. i < length items.now) order.now }
-    ensures { IfOk result (λ v. v.items ≡ threads_of items.now order.now) }
+) -> Result<Vec<Event, A>, AllocError>
+    requires within { All (λ i. i < length items.now) order.now }
+    requires compiled { IsCompiled (source_of source.now) (program_of compiled.now.program) compiled.now.starts }
+    requires there { All (λ i. IsThere source.now.threads (item_at items.now i)) order.now }
+    ensures { IfOk result (λ v. v.items ≡ item_events source.now.threads compiled.now.starts items.now order.now) }
 {
-    let mut threads = Vec::new(alloc);
+    let mut events = Vec::with_capacity(alloc, order.len().saturating_mul(2))?;
     for number in order {
-        threads.push(items[usize::from(*number)].thread)?;
+        let item = items[usize::from(*number)];
+        let place = usize::from(item.position);
+        push_next(&mut events, source, compiled, item.thread, place)?;
     }
-    Ok(threads)
+    Ok(events)
 }
 
 impl<'a, A: Allocator + Copy> OrderRunner<A> for SourceRunner<'a, A> {
@@ -143,12 +150,9 @@ impl<'a, A: Allocator + Copy> OrderRunner<A> for SourceRunner<'a, A> {
         items: &[Item],
         order: &[u8],
     ) -> Result<(Outcome<A>, Sequence<Event, A>), AllocError> {
-        let threads = threads_of(self.alloc, items, order)?;
-        let events = schedule_of(self.alloc, self.source, self.compiled, threads.as_slice())?;
+        schedules_replay();
+        let events = schedule_of_items(self.alloc, self.source, self.compiled, items, order)?;
         let outcome = copy_outcome(&self.end)?;
-        Ok((
-            outcome,
-            Sequence::from_slice(self.alloc, events.as_slice())?,
-        ))
+        Ok((outcome, Sequence::from(events)))
     }
 }

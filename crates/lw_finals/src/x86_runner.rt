@@ -66,11 +66,11 @@ fn events_of<A: Allocator>(
     requires { All (λ i. i < length items.now) order.now }
     ensures { IfOk result (λ events. events ≡ events_of items.now order.now) }
 {
-    let mut events = Sequence::new(alloc);
+    let mut events = Vec::with_capacity(alloc, order.len())?;
     for number in order {
         events.push(event_of(&items[usize::from(*number)]))?;
     }
-    Ok(events)
+    Ok(Sequence::from(events))
 }
 
 /// Whether an item's thread is at the item's instruction. A drain has none.

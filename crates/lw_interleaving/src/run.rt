@@ -117,15 +117,13 @@ impl<'a, A: Allocator, B: Allocator> SourceRun<'a, A, B> {
         let Some(thread) = self.threads.get(cpu.index()) else {
             return Err(Stop::NoCpu);
         };
-        let thread = *thread;
+        let mut thread = *thread;
         let code = &self.source.threads.as_slice()[cpu.index()];
         let Some(stmt) = code.get(thread.position) else {
             return Err(Stop::Ended);
         };
-        let operation = stmt.operation();
-        let next = thread.after(&operation, self.words.as_slice());
-        thread.write(&operation, &mut self.words);
-        self.threads.set(cpu.index(), next);
+        thread.carry_out(stmt.operation(), &mut self.words);
+        self.threads.set(cpu.index(), thread);
         Ok(())
     }
 

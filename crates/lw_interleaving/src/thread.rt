@@ -25,87 +25,86 @@ impl Thread {
         count <= self.position
     }
 
-    /// The thread after an operation, where the memory has these words.
-    pub(crate) fn after(&self, operation: &Operation, words: &[Word]) -> Thread
-        requires operation { IsOperation (length words.now) operation.now }
-        requires room { self.now.position + 1 < 2 ^ 64 }
-        ensures { result ≡ table.thread_after operation.now self.now words.now }
+    /// Carries out an operation: the thread goes on, and what the operation writes is put into the memory.
+    pub(crate) fn carry_out<A: Allocator>(
+        &mut self,
+        operation: Operation,
+        words: &mut Sequence<Word, A>,
+    )
+        requires operation { IsOperation (length words.old) operation }
+        requires room { self.old.position + 1 < 2 ^ 64 }
+        ensures thread { self.new ≡ table.thread_after operation self.old words.old }
+        ensures words { words.new ≡ words_after operation self.old words.old }
     {
-        match *operation {
-            Operation::Set { dst, val } => self.getting(dst, val.value(&self.regs)),
+        match operation {
+            Operation::Set { dst, val } => {
+                let word = val.value(&self.regs);
+                self.get(dst, word);
+            }
             Operation::Sum { dst, left, right } => {
                 let sum = wrapping_sum(self.regs[left.index()], right.value(&self.regs));
-                self.getting(dst, sum)
+                self.get(dst, sum);
             }
-            Operation::Load { dst, loc } => self.getting(dst, words[loc.index()]),
-            Operation::Swap { dst, loc, .. } => self.getting(dst, words[loc.index()]),
-            Operation::FetchAdd { dst, loc, .. } => self.getting_if(dst, words[loc.index()]),
+            Operation::Load { dst, loc } => {
+                let word = words.as_slice()[loc.index()];
+                self.get(dst, word);
+            }
+            Operation::Store { loc, val } => {
+                words.set(loc.index(), val.value(&self.regs));
+                self.go_on();
+            }
+            Operation::Swap { dst, loc, src } => {
+                let word = words.as_slice()[loc.index()];
+                words.set(loc.index(), self.regs[src.index()]);
+                self.get(dst, word);
+            }
+            Operation::FetchAdd { dst, loc, val } => {
+                let word = words.as_slice()[loc.index()];
+                words.set(loc.index(), wrapping_sum(word, val.value(&self.regs)));
+                self.get_if(dst, word);
+            }
             Operation::Branch { condition, to } => {
-                self.jumping(condition.holds(&self.regs, false), to)
+                let holds = condition.holds(&self.regs, false);
+                self.jump(holds, to);
             }
-            Operation::Store { .. } | Operation::Compare { .. } | Operation::Fence => {
-                self.going_on()
-            }
+            Operation::Compare { .. } | Operation::Fence => self.go_on(),
         }
     }
 
-    /// Puts what the operation writes into the memory.
-    pub(crate) fn write<A: Allocator>(&self, operation: &Operation, words: &mut Sequence<Word, A>)
-        requires { IsOperation (length words.old) operation.now }
-        ensures { words.new ≡ words_after operation.now self.now words.old }
+    /// To the next statement.
+    fn go_on(&mut self)
+        requires { self.old.position + 1 < 2 ^ 64 }
+        ensures { self.new ≡ table.going_on self.old }
     {
-        match *operation {
-            Operation::Store { loc, val } => words.set(loc.index(), val.value(&self.regs)),
-            Operation::Swap { loc, src, .. } => words.set(loc.index(), self.regs[src.index()]),
-            Operation::FetchAdd { loc, val, .. } => {
-                let sum = wrapping_sum(words.as_slice()[loc.index()], val.value(&self.regs));
-                words.set(loc.index(), sum);
-            }
-            _ => {}
-        }
+        self.position += 1;
     }
 
-    fn going_on(&self) -> Thread
-        requires { self.now.position + 1 < 2 ^ 64 }
-        ensures { result ≡ table.going_on self.now }
+    /// To the next statement, with a word in a register.
+    fn get(&mut self, dst: Reg, word: Word)
+        requires { self.old.position + 1 < 2 ^ 64 }
+        ensures { self.new ≡ table.getting self.old dst word }
     {
-        Thread {
-            position: self.position + 1,
-            regs: self.regs,
-        }
+        self.regs[dst.index()] = word;
+        self.position += 1;
     }
 
-    fn getting(&self, dst: Reg, word: Word) -> Thread
-        requires { self.now.position + 1 < 2 ^ 64 }
-        ensures { result ≡ table.getting self.now dst word }
-    {
-        let mut regs = self.regs;
-        regs[dst.index()] = word;
-        Thread {
-            position: self.position + 1,
-            regs,
-        }
-    }
-
-    fn getting_if(&self, dst: Option<Reg>, word: Word) -> Thread
-        requires { self.now.position + 1 < 2 ^ 64 }
-        ensures { result ≡ table.getting_if self.now dst word }
+    /// The same, if a register is named.
+    fn get_if(&mut self, dst: Option<Reg>, word: Word)
+        requires { self.old.position + 1 < 2 ^ 64 }
+        ensures { self.new ≡ table.getting_if self.old dst word }
     {
         match dst {
-            Some(dst) => self.getting(dst, word),
-            None => self.going_on(),
+            Some(dst) => self.get(dst, word),
+            None => self.go_on(),
         }
     }
 
-    fn jumping(&self, holds: bool, to: usize) -> Thread
-        requires { self.now.position + 1 < 2 ^ 64 }
-        ensures { result ≡ table.jumping self.now holds to }
+    /// To the target where the condition holds, and else to the next statement.
+    fn jump(&mut self, holds: bool, to: usize)
+        requires { self.old.position + 1 < 2 ^ 64 }
+        ensures { self.new ≡ table.jumping self.old holds to }
     {
-        let position = if holds { to } else { self.position + 1 };
-        Thread {
-            position,
-            regs: self.regs,
-        }
+        self.position = if holds { to } else { self.position + 1 };
     }
 }
 

@@ -61,6 +61,19 @@ impl<A: Allocator> Findings<A> {
         if self.contains(&outcome) {
             return Ok(());
         }
+        self.add_new(outcome, schedule)
+    }
+
+    /// Adds an outcome that was not found before, with its schedule.
+    pub fn add_new(
+        &mut self,
+        outcome: Outcome<A>,
+        schedule: Sequence<Event, A>,
+    ) -> Result<(), AllocError>
+        requires { ¬ Contains (outcomes_of self.old) outcome }
+        ensures added { OnOk result (self.new ≡ self.old ++ (outcome, schedule) ∷ []) }
+        ensures err { OnErr result (self.new ≡ self.old) }
+    {
         self.found.insert(outcome, schedule)?;
         Ok(())
     }

@@ -1,9 +1,13 @@
 -- For readers of this crate, no public call cites it: what runs the orders of a source test's items, the test with what it is
 -- compiled to.
-use Rattle.std.specs.Prelude.{ℕ, List, map}
+use Rattle.std.specs.Prelude.{ℕ, ◌<◌, List, length, map, slice_get}
+use Rattle.std.specs.List.{flat_map}
+use Rattle.lw_base.specs.Threads.{code_of}
 use Rattle.lw_base.specs.Outcomes.{Final}
 use Rattle.lw_base.specs.declared.event.Event.{Event}
 use Rattle.lw_litmus.specs.Tests.{SourceTest, ProgramTest}
+use Rattle.lw_fence.specs.Schedules.{statement_events}
+use Rattle.lw_litmus.specs.declared.stmt.Stmt.{Stmt}
 use Rattle.lw_choices.specs.declared.item.Item.{Item}
 use Rattle.lw_choices.specs.Items.{item_at}
 use Rattle.lw_finals.specs.X86Runs.{LeadsFlat}
@@ -22,6 +26,19 @@ pub record SourceRunning : Type 0 where
 -- the threads of an order's items
 abbrev pub threads_of : List Item → List ℕ → List ℕ
 threads_of items order = map (λ i. (item_at items i).thread) order
+
+-- an item's thread has a statement where the item is
+abbrev pub IsThere : List (List Stmt) → Item → Type 0
+IsThere program item = item.position < length (code_of program item.thread)
+
+-- the events of an item's statement
+abbrev pub events_at : List (List Stmt) → List (List ℕ) → Item → List Event
+events_at program starts item =
+    statement_events item.thread (code_of starts item.thread) item.position (slice_get (code_of program item.thread) item.position)
+
+-- those of an order's items, one after another
+abbrev pub item_events : List (List Stmt) → List (List ℕ) → List Item → List ℕ → List Event
+item_events program starts items order = flat_map (λ i. events_at program starts (item_at items i)) order
 
 -- A schedule without evictions replays over flat memory, in the compiled program, to an outcome.
 abbrev pub leads_flat : CompiledSource → List Event → Final → Type 0

@@ -1,6 +1,5 @@
 -- One direction of an open pair that is tried: it closes a cycle and is given up, or it is taken.
 use Rattle.std.specs.Prelude.{ℕ, ◌≡◌, ◌+◌, ◌<◌, Bool, true, false, ◌&&◌, ◌||◌, List, [], length, take, Option, Some, slice_index_or, slice_set}
-use Rattle.lw_orders.specs.Limits.{most_items}
 use Rattle.lw_orders.specs.inner.Search.{turned, TurnedLast}
 use Rattle.lw_orders.specs.inner.Remaining.{reach}
 
@@ -14,7 +13,7 @@ pub record Chosen : Type 0 where
 pub record IsTaken (len : ℕ) (p : ℕ × ℕ) (level : ℕ) (old new : Chosen) : Type 0 where
   pub chosen : new.chosen ≡ slice_set old.chosen level p
   pub saved : new.saved ≡ slice_set old.saved (level + 1) (slice_index_or new.saved (level + 1) [])
-  pub reached : (i j : ℕ) → i < len → j < most_items
+  pub reached : (i j : ℕ) → i < len → j < len
       → reach new.saved (level + 1) i j ≡ (reach old.saved level i j || (reach old.saved level i p.0 && reach old.saved level p.1 j))
   pub long : length new.ways ≡ length old.ways
   pub before : take (level + 1) new.ways ≡ take (level + 1) old.ways

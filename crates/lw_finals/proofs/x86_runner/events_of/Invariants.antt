@@ -3,4 +3,4 @@ use Rattle.lw_finals.specs.X86Runs.{events_of}
 use Rattle.lw_finals.proofs.x86_runner.events_of.Given as goal
 
 abbrev pub invariant-loop-number : goal.invariant-loop-number
-invariant-loop-number g l = l.events ≡ events_of l.items (take l.number-index l.order)
+invariant-loop-number g l = l.events.items ≡ events_of l.items (take l.number-index l.order)

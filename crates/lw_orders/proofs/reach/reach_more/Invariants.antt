@@ -6,5 +6,5 @@ abbrev pub invariant-loop-item : goal.invariant-loop-item
 invariant-loop-item l = record {
   room : length l.more ≡ 128;
   kept : (i : ℕ) → l.item ≤ i → i < l.len → slice_index l.more i ≡ slice_index l.rows i;
-  grown : (i j : ℕ) → i < l.item → j < 128 → leads_by l.more i j ≡ (leads_by l.rows i j || (leads_by l.rows i l.from && leads_by l.rows l.to j));
+  grown : (i j : ℕ) → i < l.item → j < l.len → leads_by l.more i j ≡ (leads_by l.rows i j || (leads_by l.rows i l.from && leads_by l.rows l.to j));
 }

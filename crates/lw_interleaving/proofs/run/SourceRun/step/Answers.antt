@@ -8,28 +8,19 @@ pub returns-clause-done : goal.returns-clause-done
 returns-clause-done g c =
     let thread = rw c.index.ensures.value at c.in-Some.ensures in
     let code = rw (c.as_slice.ensures, c.index-2.ensures.value) at c.index-as_slice-index.is in
-    let next = rw (c.operation-operation.ensures, c.as_slice-2.ensures) at c.after-next.ensures in
+    let next = rw c.operation.ensures at c.carry_out.ensures.thread in
     let threads = rw (c.index-3.ensures.value, next) at c.set.ensures in
-    let words = rw c.operation-operation.ensures at c.write.ensures in
+    let words = rw c.operation.ensures at c.carry_out.ensures.words in
     stepped _ _ _ _ _ c.args.cpu _ _ _ c.self.view_is refl c.self.invariant.0 thread code c.in-Some-get.ensures threads words
 
-pub after-next-requires : goal.after-next-requires
-after-next-requires g c =
+pub carry_out-requires : goal.carry_out-requires
+carry_out-requires g c =
     let thread = rw c.index.ensures.value at c.in-Some.ensures in
     let code = rw (c.as_slice.ensures, c.index-2.ensures.value) at c.index-as_slice-index.is in
     let next =
     next_statement _ _ _ _ c.args.cpu _ _ _ c.self.invariant.1 c.self.invariant.0 c.self.inside.source.now.well_formed.code
     thread code c.in-Some-get.ensures in
-    record { operation = rw (c.operation-operation.ensures, c.as_slice-2.ensures) next.0; room = next.1 }
-
-pub write-requires : goal.write-requires
-write-requires g c =
-    let thread = rw c.index.ensures.value at c.in-Some.ensures in
-    let code = rw (c.as_slice.ensures, c.index-2.ensures.value) at c.index-as_slice-index.is in
-    let next =
-    next_statement _ _ _ _ c.args.cpu _ _ _ c.self.invariant.1 c.self.invariant.0 c.self.inside.source.now.well_formed.code
-    thread code c.in-Some-get.ensures in
-    rw c.operation-operation.ensures next.0
+    record { operation = rw c.operation.ensures next.0; room = next.1 }
 
 pub returns-in_default-clause-done : goal.returns-in_default-clause-done
 returns-in_default-clause-done g c = no_thread _ _ _ c.args.self.now c.args.cpu c.self.view_is refl (rw c.index.ensures.value at c.in_default.ensures) refl
@@ -55,7 +46,7 @@ pub invariant_of-self : goal.invariant_of-self
 invariant_of-self g c =
     let threads = rw c.index-3.ensures.value at c.set.ensures in (
       ap length threads ∙ set_length _ _ _ ∙ c.self.invariant.0,
-      ap length c.write.ensures ∙ words_kept _ _ c.self.inside.words ∙ c.self.invariant.1,
+      ap length c.carry_out.ensures.words ∙ words_kept _ _ c.self.inside.words ∙ c.self.invariant.1,
     )
 
 pub returns-clause-program : goal.returns-clause-program
@@ -68,7 +59,7 @@ returns-clause-threads g c =
 
 pub returns-clause-words : goal.returns-clause-words
 returns-clause-words g c =
-    ap length c.write.ensures ∙ words_kept _ _ c.self.inside.words ∙ ap (λ (r : Running). length r.state.words) c.self.view_is
+    ap length c.carry_out.ensures.words ∙ words_kept _ _ c.self.inside.words ∙ ap (λ (r : Running). length r.state.words) c.self.view_is
 
 pub returns-clause-start : goal.returns-clause-start
 returns-clause-start g c = ap (λ (r : Running). r.start) c.self.view_is

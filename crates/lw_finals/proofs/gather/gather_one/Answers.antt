@@ -1,0 +1,22 @@
+use Rattle.std.proofs.Common.{length, ap, ◌∙◌}
+use Rattle.std.specs.Prelude.{filter, not}
+use Rattle.std.proofs.lemmas.Result.{on_ok_weaker}
+use Rattle.lw_orders.specs.Order.{is_decided}
+use Rattle.lw_orders.specs.Sequence.{numbers}
+use Rattle.lw_choices.specs.Items.{constraints_of}
+use Rattle.lw_choices.proofs.api.FixedPairs.{constraints_well_formed}
+use Rattle.lw_finals.proofs.Gathering.{gathered_alone, below}
+use Rattle.lw_finals.proofs.gather.gather_one.Goals as goal
+
+pub gather_order-requires : goal.gather_order-requires
+gather_order-requires g c = rw (c.as_slice.ensures ∙ c.ascending-order.ensures) (below (length c.args.items.now))
+
+pub returns-clause-gathered : goal.returns-clause-gathered
+returns-clause-gathered g c =
+    let items = c.args.items.now in
+    let one = c.one_order_goes_up.ensures (constraints_of g.S.Statement.language c.args.program.now items)
+    (constraints_well_formed g.S.Statement.language c.args.program.now items c.requires.few) in
+    let given = rw (c.as_slice.ensures ∙ c.ascending-order.ensures) at c.gather_order.ensures.gathered in
+    on_ok_weaker c.gather_order.result (λ gathered.
+    gathered_alone (g.R.OrderRunner.ends (g.R.OrderRunner.test c.args.runner.now) items) _ _ (numbers 0 (length items)) _ _
+    (one (ap (filter (λ p. not (is_decided (constraints_of g.S.Statement.language c.args.program.now items).fixed p))) c.requires.none)) gathered) given

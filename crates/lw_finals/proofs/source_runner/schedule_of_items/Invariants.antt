@@ -1,0 +1,8 @@
+use Rattle.std.proofs.Common.{◌≡◌, ◌++◌, drop}
+use Rattle.lw_finals.specs.inner.SourceRunners.{item_events}
+use Rattle.lw_finals.proofs.source_runner.schedule_of_items.Given as goal
+
+abbrev pub invariant-loop-number : goal.invariant-loop-number
+invariant-loop-number g l =
+    l.events.items ++ item_events l.source.threads l.compiled.starts l.items (drop l.number-index l.order)
+    ≡ item_events l.source.threads l.compiled.starts l.items l.order
