@@ -19,7 +19,7 @@ use Rattle.std.proofs.lemmas.Map.Lookups.{exact_bytes}
 use Rattle.std.proofs.lemmas.Option.{none-some, same_Some, slice_get_within, slice_get-get_or, get_or_from_slice_get}
 use Rattle.lw_report.specs.inner.Gathered.{state_cmp, LastHas, AreFirstStates}
 use Rattle.lw_report.specs.States.{ListedState}
-use Rattle.lw_report.proofs.OneList.{not_below_itself}
+use Rattle.lw_report.proofs.api.OneList.{not_below_itself}
 
 -- ---- the order
 

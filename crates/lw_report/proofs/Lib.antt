@@ -1,6 +1,6 @@
+pub mod api
 pub mod Truths
 pub mod Names
-pub mod OneList
 pub mod Verdicts
 pub mod FirstStates
 pub mod ListedStates

@@ -7,7 +7,7 @@ use Rattle.lw_base.specs.Outcomes.{Final}
 use Rattle.lw_report.specs.Judgement.{positive, negative, MeansOfAll}
 use Rattle.lw_report.specs.States.{Shown, shown, AreStatesOf}
 use Rattle.lw_report.specs.Truth.{is_true}
-use Rattle.lw_report.proofs.OneList.{at_front, behind_front, front_or_behind}
+use Rattle.lw_report.proofs.api.OneList.{at_front, behind_front, front_or_behind}
 
 -- A filter keeps nothing, and no element passes; or it keeps something, and some element passes.
 abbrev Kept : {X : Type 0} → (X → Bool) → List X → Type 0

@@ -30,7 +30,7 @@ pub record IsSmallestOf (head : TestHead) (Has : Final → Type 0) (words : List
 
 -- ---- the states of a list of outcomes
 
--- a state, and the number of the first outcome that shows it
+-- a state, and the number of the first outcome that shows it, which is the smallest: the outcomes of a listing go up
 pub record ListedState : Type 0 where
   pub words : List ℕ
   pub entry : ℕ

@@ -102,7 +102,8 @@ pub(crate) fn write_state<A: Allocator, B: Allocator>(
         ≡ string_bytes out.old ++ (labelled_words labels.now words.now ++ codes "\n")) }
 {
     for place in 0..labels.len().min(words.len()) {
-        write!(out, "{}{};", labels[place].as_str(), words[place])?;
+        out.push_str(labels[place].as_str())?;
+        write!(out, "{};", words[place])?;
     }
     out.push_str("\n")
 }

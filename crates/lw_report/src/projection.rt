@@ -143,11 +143,11 @@ pub(crate) fn words_of<A: Allocator, B: Allocator>(
     requires outcome { IsOutcomeOf (length outcome.now.regs) (length outcome.now.words) outcome.now }
     ensures { IfOk result (λ words. words ≡ map (final_word outcome.now) names.now) }
 {
-    let mut words = Sequence::new(alloc);
+    let mut words = Vec::with_capacity(alloc, names.len())?;
     for name in names {
         words.push(word_of(outcome, *name))?;
     }
-    Ok(words)
+    Ok(Sequence::from(words))
 }
 
 /// The word with which a register or a location ends.

@@ -1,4 +1,4 @@
-use Rattle.lw_report.proofs.OneList.{one_list_of_states, one_report}
+use Rattle.lw_report.proofs.api.OneList.{one_list_of_states, one_report}
 use Rattle.lw_report.proofs.laws.a_set_has_one_report.Goals as goal
 
 pub returns-clause-states : goal.returns-clause-states

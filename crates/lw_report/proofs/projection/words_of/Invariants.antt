@@ -3,4 +3,4 @@ use Rattle.lw_report.specs.Truth.{final_word}
 use Rattle.lw_report.proofs.projection.words_of.Given as goal
 
 abbrev pub invariant-loop-name : goal.invariant-loop-name
-invariant-loop-name g l = l.words ≡ map (final_word l.outcome) (take l.name-index l.names)
+invariant-loop-name g l = l.words.items ≡ map (final_word l.outcome) (take l.name-index l.names)
