@@ -3,7 +3,7 @@
 
     python3 tools/believe.py [--write]
 
-It begins with what the contract's clause `written` says and goes from name to name (tools/definitions.py), not from file to file.
+It begins with what the contract's clauses `written` and `machine` say and goes from name to name (tools/definitions.py), not from file to file.
 It prints, step by step as the page has them, each file with the lines that are reached in it and their number. It fails where a
 definition is reached that no step has, where a step has other lines or another number, and where the steps before the grammar have
 more lines than MOST_LINES. With --write the page's lines and numbers are written anew. tools/check_documents.py calls it. The last
@@ -18,7 +18,7 @@ import definitions
 
 HOME = os.path.dirname(os.path.dirname(os.path.abspath(__file__)))
 PAGE = f"{HOME}/docs/BELIEVE.md"
-START = ("lw_bench", "Lists", "IsStatesReport"), ("lw_bench", "Outputs", "Writes")
+START = ("lw_bench", "Lists", "IsStatesReport"), ("lw_bench", "Lists", "IsReachedOnMachine"), ("lw_bench", "Outputs", "Writes")
 CODE = "crates/lw_bench/src/lists.rt"
 SECOND_SITTING = "## The second sitting"
 MOST_LINES = 1210

@@ -26,7 +26,7 @@ use Rattle.lw_litmus.specs.declared.instr.Instr.{Instr}
 use Rattle.lw_litmus.specs.declared.instr.Instr.TheVariants as instr
 use Rattle.lw_base.specs.declared.event.Event.{Event}
 use Rattle.lw_base.specs.declared.event.Event.TheVariants.{Step, Drain}
-use Rattle.lw_interleaving.specs.Runs.{start_of, SourceOutcome, outcome_of}
+use Rattle.lw_interleaving.specs.Runs.{start_of, SourceOutcome}
 use Rattle.lw_memory.specs.Flat.{flat}
 use Rattle.lw_report.specs.Truth.{is_true}
 use Rattle.lw_tso.specs.Machines.{MachineState}

@@ -12,3 +12,4 @@ pub mod ListingTexts
 pub mod TestReports
 pub mod Searches
 pub mod Classics
+pub mod Theorems

@@ -75,8 +75,6 @@ module _ (test : LitmusTest) (entries : Entries) (list : IsListOf test entries) 
       → text ≡ report_text head Exact (map shown_of states) → IsStatesReport test text
   report_of_list states text listed is = record {
     within = list.within;
-    program = list.program;
-    of_test = list.of_test;
     is = report_is (head_of_test test) (OutcomeOf test) entries list.exactly Exact states text
         (subst (λ (d : TestHead). AreListedStates d (outcomes_of entries) states) same listed)
         (subst (λ (d : TestHead). text ≡ report_text d Exact (map shown_of states)) same is);

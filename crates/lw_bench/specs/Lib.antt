@@ -2,6 +2,7 @@ pub mod Faults
 pub mod Limits
 pub mod Devices
 pub mod LitmusTests
+pub mod WellFormedTests
 pub mod Classics
 pub mod TestTexts
 pub mod Compilations

@@ -8,6 +8,7 @@ use Rattle.lw_report.specs.declared.judgement.Claim.TheVariants.{Exact}
 use Rattle.lw_litmus.specs.Tests.{ProgramTest}
 use Rattle.lw_bench.specs.LitmusTests.{LitmusTest, Of_source, Of_x86, head_of_test}
 use Rattle.lw_bench.specs.Outcomes.{OutcomeOf, IsProgramOf, LeadsTo}
+use Rattle.lw_bench.specs.TestTexts.{HasTest}
 
 -- No choice of its flow paths has more items, and all together have no more orders, than a list takes.
 abbrev pub HasList : LitmusTest → Type 0
@@ -17,9 +18,11 @@ HasList (Of_x86 test) = IsWithinLimits x86 test.threads
 -- The report of exactly the test's outcomes, where it is within the limits of lists.
 pub record IsStatesReport (test : LitmusTest) (text : Bytes) : Type 0 where
   pub within : HasList test
-  pub program : ProgramTest
-  pub of_test : IsProgramOf test program
   pub is : IsReport (head_of_test test) (OutcomeOf test) Exact text
+
+-- Of every test that the text says, those outcomes are what the program that runs for it reaches on the whole machine.
+abbrev pub IsReachedOnMachine : Bytes → Type 0
+IsReachedOnMachine text = (test : LitmusTest) → HasTest text test → (program : ProgramTest) × IsProgramOf test program
 
 -- The list of their states, each with a schedule of the program that leads to the smallest outcome that shows it, within the
 -- same limits.

@@ -1,15 +1,35 @@
-//! Theorems about tests as values, which a reader can hold in the hand: of three classic tests.
-//! A law is a function without a result, whose contract is the law; no call of the workbench needs these.
-ghost use Rattle.std.specs.Prelude.{◌≡◌, ◌↔◌, true, false};
+//! Theorems about tests as values, which a reader can hold in the hand: of three classic tests, and of all tests.
+//! A law is a function without a result, whose contract is the law; of the workbench's calls `states` and `carry_out` alone cite one.
+ghost use Rattle.std.specs.Prelude.{◌≡◌, ◌↔◌, ℕ, List, Bool, true, false, Option};
+ghost use Rattle.std.specs.Option.{IfSome};
 ghost use Rattle.lw_base.specs.Outcomes.{Final};
 ghost use Rattle.lw_base.specs.Types.{Bytes};
 ghost use Rattle.lw_bench.specs.Classics.{store_buffering, store_buffering_in_x86, message_passing_in_x86};
+ghost use Rattle.lw_bench.specs.LitmusTests.{LitmusTest};
+ghost use Rattle.lw_bench.specs.Lists.{IsStatesReport, IsReachedOnMachine};
+ghost use Rattle.lw_bench.specs.Outcomes.{OutcomeOf, IsRunFor, IsProgramOf};
+ghost use Rattle.lw_bench.specs.Outputs.{Makes};
+ghost use Rattle.lw_bench.specs.TestTexts.{HasTest};
+ghost use Rattle.lw_bench.specs.WellFormedTests.{IsWellFormedTest};
+ghost use Rattle.lw_fence.specs.Compiling.{IsCompiled};
+ghost use Rattle.lw_fence.specs.Unfenced.{IsCompiledWith, IsCompiledWithoutFences};
 ghost use Rattle.lw_whole.specs.OverCaches.{OutcomeOverCaches};
 ghost use Rattle.lw_interleaving.specs.Runs.{SourceOutcome};
+ghost use Rattle.lw_litmus.specs.Tests.{SourceTest, ProgramTest};
+ghost use Rattle.lw_litmus.specs.WellFormedTests.{IsWellFormedSource, IsWellFormedProgram};
+ghost use Rattle.lw_memory.specs.Flat.{flat};
+ghost use Rattle.lw_memory.specs.Memory.{memory_of};
+ghost use Rattle.lw_memory.specs.MemoryLaws.{invariant_of};
 ghost use Rattle.lw_mesi.specs.declared.protocol.Protocol.{Protocol};
+ghost use Rattle.lw_mesi.specs.declared.protocol.Protocol.TheVariants as by;
 ghost use Rattle.lw_report.specs.Truth.{is_true};
+ghost use Rattle.lw_tso.specs.Runs.{MachineOutcome};
+ghost use Rattle.lw_tso.specs.Starts.{CanStart};
 
-use lw_finals::outcomes_over_caches_are_flat;
+use crate::litmus_test::a_text_has_one_test;
+use lw_memory::MemorySystem;
+use lw_tso::outcomes_are_flat;
+use lw_whole::outcomes_over_caches_are_flat;
 
 /// Store buffering: by interleaving no outcome has both loads 0.
 pub fn store_buffering_is_forbidden_by_interleaving()
@@ -28,6 +48,99 @@ pub fn store_buffering_is_allowed_on_x86()
 pub fn message_passing_is_forbidden_on_x86()
     ensures { (protocol : Protocol) (o : Final) → OutcomeOverCaches protocol message_passing_in_x86 o
         → is_true message_passing_in_x86.head.condition o ≡ false }
+{
+    outcomes_over_caches_are_flat();
+}
+
+/// Every test that a text says is well-formed: all that the laws below ask of a test holds of whatever is read.
+pub fn what_a_text_says_is_well_formed()
+    ensures { (text : Bytes) (test : LitmusTest) → HasTest text test → IsWellFormedTest test }
+{}
+
+/// Every well-formed test has an outcome: a source test by interleaving on one memory; an x86 test over flat memory, and over
+/// caches of either protocol. For jumps lead forward, and what waits for an empty store buffer goes on once that is drained.
+pub fn every_test_has_an_outcome()
+    ensures source { (test : SourceTest) → IsWellFormedSource test → (o : Final) × SourceOutcome test o }
+    ensures flat_memory { (test : ProgramTest) → IsWellFormedProgram test → (o : Final) × MachineOutcome flat test test.head.init_words o }
+    ensures caches { (protocol : Protocol) (test : ProgramTest) → IsWellFormedProgram test
+        → (o : Final) × OutcomeOverCaches protocol test o }
+{
+    outcomes_over_caches_are_flat();
+}
+
+/// A text has at most one report: whatever writes a report of what the text says writes these bytes.
+pub fn a_text_has_one_report()
+    ensures { (text a b : Bytes) → Makes IsStatesReport text a → Makes IsStatesReport text b → a ≡ b }
+{
+    a_text_has_one_test();
+}
+
+/// A well-formed source test has exactly one compiled program, with the numbers at which its statements start.
+pub fn a_source_has_one_compiled_program()
+    ensures some { (source : SourceTest) → IsWellFormedSource source
+        → (program : ProgramTest) × (starts : List (List ℕ)) × IsCompiled source program starts }
+    ensures one { (source : SourceTest) (program other : ProgramTest) (starts begins : List (List ℕ))
+        → IsCompiled source program starts → IsCompiled source other begins → (program ≡ other) × (starts ≡ begins) }
+{}
+
+/// The compiled program has exactly its source's outcomes, over every memory that keeps the laws of memories, from any of its
+/// states with the source's initial words.
+pub fn compiled_programs_have_their_sources_outcomes_over_every_memory<M: MemorySystem>()
+    ensures { (source : SourceTest) (program : ProgramTest) (starts : List (List ℕ)) (m : M) (o : Final)
+        → IsWellFormedSource source → IsCompiled source program starts
+        → CanStart (memory_of M.content M.state M.serves) (invariant_of M.cpus M.sound) program m
+        → MachineOutcome (memory_of M.content M.state M.serves) program m o ↔ SourceOutcome source o }
+{
+    outcomes_are_flat::<M>();
+}
+
+/// So it has them over flat memory, and over caches of either protocol that hold nothing at the start, evictions at any time.
+pub fn compiled_programs_have_their_sources_outcomes()
+    ensures flat_memory { (source : SourceTest) (program : ProgramTest) (starts : List (List ℕ)) (o : Final)
+        → IsWellFormedSource source → IsCompiled source program starts
+        → MachineOutcome flat program program.head.init_words o ↔ SourceOutcome source o }
+    ensures caches { (source : SourceTest) (program : ProgramTest) (starts : List (List ℕ)) (protocol : Protocol) (o : Final)
+        → IsWellFormedSource source → IsCompiled source program starts
+        → OutcomeOverCaches protocol program o ↔ SourceOutcome source o }
+{
+    outcomes_over_caches_are_flat();
+}
+
+/// Every interleaving outcome is one of the compiled program without its fences, and of that with fences before any other of its
+/// loads: whatever outcomes fences take away, interleaving has none of them.
+pub fn interleaving_outcomes_need_no_fences()
+    ensures without { (source : SourceTest) (program : ProgramTest) (starts : List (List ℕ)) (protocol : Protocol) (o : Final)
+        → IsWellFormedSource source → IsCompiledWithoutFences source program starts
+        → SourceOutcome source o → OutcomeOverCaches protocol program o }
+    ensures anywhere { (fences : List (List Bool)) (source : SourceTest) (program : ProgramTest) (starts : List (List ℕ))
+        (protocol : Protocol) (o : Final) → IsWellFormedSource source → IsCompiledWith fences source program starts
+        → SourceOutcome source o → OutcomeOverCaches protocol program o }
+{
+    outcomes_over_caches_are_flat();
+}
+
+/// Of every test that a text says, the program that runs for it is there, and reaches on the whole machine exactly the test's
+/// outcomes: the compiled program of a source test, an x86 test itself.
+pub fn every_test_has_its_program()
+    ensures there { (text : Bytes) → IsReachedOnMachine text }
+    ensures each { (text : Bytes) (test : LitmusTest) (program : ProgramTest) → HasTest text test → IsRunFor test program
+        → IsProgramOf test program }
+{
+    outcomes_over_caches_are_flat();
+}
+
+/// The same, wherever a reader's bytes are known.
+pub(crate) fn what_is_known_is_reached_on_the_machine()
+    ensures { (known : Option Bytes) → IfSome known IsReachedOnMachine }
+{
+    every_test_has_its_program();
+}
+
+/// Outcomes over MOESI are those over MESI, for whatever `states` takes: for every text that is a test, of the program that runs
+/// for it.
+pub fn protocols_cannot_be_told_apart()
+    ensures { (text : Bytes) (test : LitmusTest) (program : ProgramTest) (o : Final) → HasTest text test → IsRunFor test program
+        → OutcomeOverCaches by.Moesi program o ↔ OutcomeOverCaches by.Mesi program o }
 {
     outcomes_over_caches_are_flat();
 }

@@ -31,8 +31,13 @@ pub use fault::{
     usage_status,
 };
 pub use laws::{
-    message_passing_is_forbidden_on_x86, store_buffering_is_allowed_on_x86,
-    store_buffering_is_forbidden_by_interleaving,
+    a_source_has_one_compiled_program, a_text_has_one_report,
+    compiled_programs_have_their_sources_outcomes,
+    compiled_programs_have_their_sources_outcomes_over_every_memory, every_test_has_an_outcome,
+    every_test_has_its_program, interleaving_outcomes_need_no_fences,
+    message_passing_is_forbidden_on_x86, protocols_cannot_be_told_apart,
+    store_buffering_is_allowed_on_x86, store_buffering_is_forbidden_by_interleaving,
+    what_a_text_says_is_well_formed,
 };
 pub use lists::{schedules_text, states};
 pub use litmus_test::a_text_has_one_test;

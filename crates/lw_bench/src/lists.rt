@@ -1,14 +1,16 @@
 //! The report of a test's states, and the list of their schedules, from the bytes that come in to the bytes that go out.
 ghost use Rattle.std.specs.Prelude.{◌≡◌, ◌≢◌, ◌↔◌, ◌⊎◌, true, false, Err, IfOk, IfErr, OnOk};
+ghost use Rattle.std.specs.Option.{IfSome};
 ghost use Rattle.lw_bench.specs.Devices.{TakesInput};
 ghost use Rattle.lw_bench.specs.LitmusTests.{litmus_test_of};
 ghost use Rattle.lw_bench.specs.inner.Listed.{IsListOf};
-ghost use Rattle.lw_bench.specs.Lists.{IsStatesReport, IsScheduleReport};
+ghost use Rattle.lw_bench.specs.Lists.{IsStatesReport, IsReachedOnMachine, IsScheduleReport};
 ghost use Rattle.lw_bench.specs.Outputs.{Writes};
 ghost use Rattle.lw_bench.specs.Told.{TellsInput, TellsLimitOf, TellsNoList, TakesAt, IsNoDevice};
 
 use crate::device::{ByteReader, ByteWriter};
 use crate::fault::BenchFault;
+use crate::laws::what_is_known_is_reached_on_the_machine;
 use crate::litmus_test::LitmusTest;
 use crate::run::{Output, run_text};
 use lw_base::Text;
@@ -108,6 +110,8 @@ pub fn states<R: ByteReader, W: ByteWriter, A: Allocator + Copy>(
     // Where it answers, the report of the test has been written, and nothing else.
     ensures written { OnOk result
         (Writes IsStatesReport (R.remaining reader.old) (W.contents writer.old) (W.contents writer.new)) }
+    // For every test that the bytes say, its outcomes are what the program that runs for it reaches on the whole machine.
+    ensures machine { IfSome (R.remaining reader.old) IsReachedOnMachine }
     // What a fault tells is so: of the text, of a cell, or of the limit that the list passes.
     ensures told { IfErr result (TellsInput TellsNoList (R.remaining reader.old)) }
     // It takes the whole input, or its first 65,537 bytes; some of these where the reader failed or memory ran out.
@@ -118,6 +122,7 @@ pub fn states<R: ByteReader, W: ByteWriter, A: Allocator + Copy>(
     ensures write { result ≡ Err BenchFault.Write ↔ W.failed writer.new ≡ true }
     ensures untouched { IfErr result (λ f. f ≢ BenchFault.Write → writer.new ≡ writer.old) }
 {
+    what_is_known_is_reached_on_the_machine();
     run_text(alloc, &Report, reader, writer)
 }
 

@@ -1,16 +1,22 @@
 //! The text that tells of a replay.
 ghost use Rattle.std.specs.Prelude.{◌≡◌, ◌<◌, ◌≤◌, ◌++◌, ℕ, Some, codes, length, map, slice_get, slice_index, IfOk, OnOk};
+ghost use Rattle.std.specs.Fmt.{decimal};
 ghost use Rattle.std.specs.String.{string_bytes};
 ghost use Rattle.lw_base.specs.Heads.{head_of};
 ghost use Rattle.lw_base.specs.declared.limits.TheConstants.{REGISTERS};
+ghost use Rattle.lw_base.specs.declared.stop.End.TheVariants as ends;
 ghost use Rattle.lw_bench.specs.Pages as pages;
-ghost use Rattle.lw_bench.specs.Pages.{numbered, first_lines, word_line, buffer_line, cache_line, location_line, processor_lines};
+ghost use Rattle.lw_bench.specs.Pages.{numbered, named, first_lines, end_text, word_line, buffer_line, cache_line, location_line, processor_lines};
+ghost use Rattle.lw_interleaving.specs.Runs.{outcome_of};
 ghost use Rattle.lw_interleaving.specs.declared.thread.Thread.{Thread};
+ghost use Rattle.lw_memory.specs.Memory.{memory_of};
 ghost use Rattle.lw_tso.specs.Machines.{buffer_of};
 ghost use Rattle.lw_tso.specs.Processors.{Processor};
+ghost use Rattle.lw_tso.specs.Runs.{machine_outcome};
 
 use lw_base::{
-    Arch, Cpu, End, Head, Loc, LocNames, MAX_THREADS, REGISTERS, Reg, Replay, Word, reg_name,
+    Arch, Cpu, End, Head, Loc, LocNames, MAX_THREADS, Outcome, REGISTERS, Reg, Replay, Stop, Word,
+    reg_name,
 };
 use lw_interleaving::SourceRun;
 use lw_memory::{LineState, MemorySystem};
@@ -31,10 +37,31 @@ pub(crate) fn source_page<A: Allocator + Copy>(
 {
     let state = run.outcome()?;
     let mut out = String::new(alloc);
-    write_first_lines(&mut out, head, replay)?;
-    write_threads(&mut out, head, run, state.regs.as_slice())?;
-    write_words(&mut out, "Memory", &head.locs, state.words.as_slice())?;
+    let written = write_source_page(&mut out, head, run, &state, replay);
+    drop(state);
+    written?;
     Ok(out)
+}
+
+/// The lines of a source test's replay, where the state's outcome is this one. The outcome is lent, and the caller drops it: a drop
+/// is proved at each exit of the function that owns.
+fn write_source_page<A: Allocator>(
+    out: &mut String<A>,
+    head: &Head<A>,
+    run: &SourceRun<'_, A, A>,
+    state: &Outcome<A>,
+    replay: Replay,
+) -> Result<(), AllocError>
+    requires few { head.now.threads ≤ MAX_THREADS }
+    requires threads { length run.now.state.threads ≡ head.now.threads }
+    requires words { length run.now.state.words ≡ length head.now.locs }
+    requires outcome { state.now ≡ outcome_of run.now.state }
+    ensures { OnOk result (string_bytes out.new
+        ≡ string_bytes out.old ++ pages.source_page (head_of head.now) replay run.now.state) }
+{
+    write_first_lines(out, head, replay)?;
+    write_threads(out, head, run, state.regs.as_slice())?;
+    write_words(out, "Memory", &head.locs, state.words.as_slice())
 }
 
 /// The text that tells of an x86 test's replay and of the state that it led to.
@@ -53,11 +80,32 @@ pub(crate) fn machine_page<M: MemorySystem, A: Allocator + Copy>(
 {
     let state = machine.outcome()?;
     let mut out = String::new(alloc);
-    write_first_lines(&mut out, head, replay)?;
-    write_processors(&mut out, head, machine, state.regs.as_slice())?;
-    write_memory(&mut out, &head.locs, machine.memory())?;
-    write_words(&mut out, "Content", &head.locs, state.words.as_slice())?;
+    let written = write_machine_page(&mut out, head, machine, &state, replay);
+    drop(state);
+    written?;
     Ok(out)
+}
+
+/// The lines of an x86 test's replay, where the state's outcome is this one.
+fn write_machine_page<M: MemorySystem, A: Allocator>(
+    out: &mut String<A>,
+    head: &Head<A>,
+    machine: &Machine<'_, M, A, A>,
+    state: &Outcome<A>,
+    replay: Replay,
+) -> Result<(), AllocError>
+    requires few { head.now.threads ≤ MAX_THREADS }
+    requires threads { length machine.now.state.processors ≡ head.now.threads }
+    requires words { length (M.content machine.now.state.memory) ≡ length head.now.locs }
+    requires outcome { state.now ≡ machine_outcome (memory_of M.content M.state M.serves) machine.now.state }
+    ensures { OnOk result (string_bytes out.new ≡ string_bytes out.old
+        ++ pages.machine_page (head_of head.now) replay machine.now.state.processors (M.state machine.now.state.memory)
+        (M.memory machine.now.state.memory) (M.content machine.now.state.memory)) }
+{
+    write_first_lines(out, head, replay)?;
+    write_processors(out, head, machine, state.regs.as_slice())?;
+    write_memory(out, &head.locs, machine.memory())?;
+    write_words(out, "Content", &head.locs, state.words.as_slice())
 }
 
 /// The test's name, the number of events that were carried out, and how the replay ended.
@@ -77,16 +125,21 @@ fn write_first_lines<A: Allocator, B: Allocator>(
     match replay.end {
         End::Final => out.push_str("Final\n"),
         End::NotFinal => out.push_str("NotFinal\n"),
-        End::Stopped(stop) => {
-            writeln!(
-                out,
-                "Stopped at {} by {} {}",
-                replay.done,
-                stop.number(),
-                stop.name()
-            )
-        }
+        End::Stopped(stop) => write_stop(out, replay.done, stop),
     }
+}
+
+/// How a replay stopped.
+fn write_stop<A: Allocator>(out: &mut String<A>, done: usize, stop: Stop) -> Result<(), AllocError>
+    ensures { OnOk result (string_bytes out.new ≡ string_bytes out.old ++ (end_text done (ends.Stopped stop) ++ codes "\n")) }
+{
+    writeln!(
+        out,
+        "Stopped at {} by {} {}",
+        done,
+        stop.number(),
+        stop.name()
+    )
 }
 
 /// A line for each thread of a source test.
@@ -120,9 +173,16 @@ fn write_thread<A: Allocator>(
 {
     write!(out, "P{} at {}", cpu.index(), position)?;
     for reg in Reg::all() {
-        write!(out, " {}={}", reg_name(arch, reg), regs[reg.index()])?;
+        write_named(out, reg_name(arch, reg), regs[reg.index()])?;
     }
     out.push_str("\n")
+}
+
+/// A name with its word, behind a space.
+fn write_named<A: Allocator>(out: &mut String<A>, name: &str, word: Word) -> Result<(), AllocError>
+    ensures { OnOk result (string_bytes out.new ≡ string_bytes out.old ++ named (λ _. decimal word) 0 name.now) }
+{
+    write!(out, " {}={}", name, word)
 }
 
 /// A word for each location, behind a title.
@@ -137,7 +197,7 @@ fn write_words<A: Allocator>(
 {
     out.push_str(title)?;
     for loc in &Loc::all()[..locs.len()] {
-        write!(out, " {}={}", locs.name(*loc), words[loc.index()])?;
+        write_named(out, locs.name(*loc), words[loc.index()])?;
     }
     out.push_str("\n")
 }
@@ -154,7 +214,7 @@ fn write_memory<M: MemorySystem, A: Allocator>(
 {
     out.push_str("Memory")?;
     for loc in &Loc::all()[..locs.len()] {
-        write!(out, " {}={}", locs.name(*loc), memory.word_in_memory(*loc))?;
+        write_named(out, locs.name(*loc), memory.word_in_memory(*loc))?;
     }
     out.push_str("\n")
 }
@@ -202,7 +262,7 @@ fn write_buffer<M: MemorySystem, A: Allocator>(
     write!(out, "P{} buffer", cpu.index())?;
     for place in 0..machine.buffered(cpu) {
         let (loc, word) = machine.entry(cpu, place);
-        write!(out, " {}={}", locs.name(loc), word)?;
+        write_named(out, locs.name(loc), word)?;
     }
     out.push_str("\n")
 }

@@ -1,6 +1,8 @@
 //! Carries a task out, from the bytes that come in to the bytes that go out and the exit status.
 ghost use Rattle.std.specs.Prelude.{◌≡◌, ◌≢◌, ◌↔◌, true, false, Err, IfOk, IfErr, OnOk};
+ghost use Rattle.std.specs.Option.{IfSome};
 ghost use Rattle.lw_bench.specs.Devices.{TakesInput};
+ghost use Rattle.lw_bench.specs.Lists.{IsReachedOnMachine};
 ghost use Rattle.lw_bench.specs.Outputs.{Writes};
 ghost use Rattle.lw_bench.specs.Tasks.{IsDone, TellsTask};
 ghost use Rattle.lw_bench.specs.Told.{TellsInput, TakesAt};
@@ -9,6 +11,7 @@ use crate::command::Task;
 use crate::compile::compile_text;
 use crate::device::{ByteReader, ByteWriter};
 use crate::fault::{BenchFault, done_status, end_status};
+use crate::laws::what_is_known_is_reached_on_the_machine;
 use crate::lists::{schedules_text, states};
 use crate::replay::replay_text;
 use std::alloc::Allocator;
@@ -28,6 +31,8 @@ pub fn carry_out<R: ByteReader, W: ByteWriter, A: Allocator + Copy>(
     // Where it answers, what the task makes of the test has been written, and nothing else, and the status is the task's.
     ensures written { IfOk result (λ status. Writes (λ test made. IsDone task.entry test made status)
         (R.remaining reader.old) (W.contents writer.old) (W.contents writer.new)) }
+    // For every test that the bytes say, its outcomes are what the program that runs for it reaches on the whole machine.
+    ensures machine { IfSome (R.remaining reader.old) IsReachedOnMachine }
     // What a fault tells is so, of what the task reads.
     ensures told { IfErr result (TellsInput (TellsTask task.entry) (R.remaining reader.old)) }
     // It takes the whole input, or its first 65,537 bytes; some of these where the reader failed or memory ran out.
@@ -38,6 +43,7 @@ pub fn carry_out<R: ByteReader, W: ByteWriter, A: Allocator + Copy>(
     ensures write { result ≡ Err BenchFault.Write ↔ W.failed writer.new ≡ true }
     ensures untouched { IfErr result (λ f. f ≢ BenchFault.Write → writer.new ≡ writer.old) }
 {
+    what_is_known_is_reached_on_the_machine();
     match task {
         Task::States => {
             states(alloc, reader, writer)?;

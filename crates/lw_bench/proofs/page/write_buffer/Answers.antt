@@ -11,7 +11,7 @@ loop-place-init g c = refl
 pub loop-place-preserved : goal.loop-place-preserved
 loop-place-preserved g c =
     let is_name = sym (get_or_from_slice_get c.args.locs.now _ c.name.result.now [] c.name.ensures) in
-    let written = named_written _ _ _ _ _ _ c.in_ok-write-2.ensures.bytes is_name refl in
+    let written = named_written _ _ _ _ _ _ c.in_ok-write_named.ensures is_name refl in
     numbered_more (entry_text c.args.locs.now) (buffer_of c.args.machine.now.state c.args.cpu) c.loop-place.place c.entry-loc.result _ _ _ c.entry-loc.ensures.entry c.loop-place.invariant written
 
 pub returns : goal.returns

@@ -13,7 +13,7 @@ loop-loc-preserved g c =
     let words = g.M.MemorySystem.memory c.args.memory.now in
     let is = is_index 8 _ _ _ c.all.result _ c.all.ensures refl c.loop-loc-test.true c.loc-item.is in
     let is_word = c.word_in_memory.ensures.word ∙ ap (λ (x : ℕ). slice_index words x) is in
-    let written = named_written _ _ _ _ _ (slice_index words c.loop-loc.loc-index) c.in_ok-write.ensures.bytes refl is_word in
+    let written = named_written _ _ _ _ _ (slice_index words c.loop-loc.loc-index) c.in_ok-write_named.ensures refl is_word in
     numbered_more (named (word_at words)) c.args.locs.now c.loop-loc.loc-index c.name.result.now _ _ _ (ap (slice_get c.args.locs.now) (sym is) ∙ c.name.ensures) c.loop-loc.invariant written
 
 pub returns : goal.returns

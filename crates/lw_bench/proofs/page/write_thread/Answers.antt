@@ -17,7 +17,7 @@ loop-reg-preserved g c =
     let is : item ≡ c.loop-reg.reg-index = sym c.reg-item.is ∙ is_index 6 6 _ _ c.all-reg-items.result c.all-reg-items.result c.all-reg-items.ensures whole within c.reg-item.is in
     let is_name = c.reg_name.ensures ∙ ap (register_name c.args.arch) is in
     let is_word = ap (λ (r : ℕ). slice_index c.args.regs.now r) (c.index-in-loop-reg.ensures.value ∙ is) in
-    let written = named_written _ _ _ (register_name c.args.arch c.loop-reg.reg-index) _ (slice_index c.args.regs.now c.loop-reg.reg-index) c.in_ok-write-2.ensures.bytes is_name is_word in
+    let written = named_written _ _ _ (register_name c.args.arch c.loop-reg.reg-index) _ (slice_index c.args.regs.now c.loop-reg.reg-index) c.in_ok-write_named.ensures is_name is_word in
     numbered_more (named (word_at c.args.regs.now)) (register_names c.args.arch) c.loop-reg.reg-index (register_name c.args.arch c.loop-reg.reg-index) _ _ _ (register_at c.args.arch c.loop-reg.reg-index c.loop-reg-test.true) c.loop-reg.invariant written
 
 pub returns : goal.returns

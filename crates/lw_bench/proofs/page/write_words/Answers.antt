@@ -12,7 +12,7 @@ pub loop-loc-preserved : goal.loop-loc-preserved
 loop-loc-preserved g c =
     let is = is_index 8 _ _ _ c.all.result _ c.all.ensures refl c.loop-loc-test.true c.loc-item.is in
     let is_word = ap (λ (x : ℕ). slice_index c.args.words.now x) (c.index.ensures.value ∙ is) in
-    let written = named_written _ _ _ _ _ (slice_index c.args.words.now c.loop-loc.loc-index) c.in_ok-write.ensures.bytes refl is_word in
+    let written = named_written _ _ _ _ _ (slice_index c.args.words.now c.loop-loc.loc-index) c.in_ok-write_named.ensures refl is_word in
     numbered_more (named (word_at c.args.words.now)) c.args.locs.now c.loop-loc.loc-index c.name.result.now _ _ _ (ap (slice_get c.args.locs.now) (sym is) ∙ c.name.ensures) c.loop-loc.invariant written
 
 pub returns : goal.returns

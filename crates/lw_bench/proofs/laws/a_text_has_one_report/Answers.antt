@@ -1,0 +1,5 @@
+use Rattle.lw_bench.proofs.Theorems.{one_report_of}
+use Rattle.lw_bench.proofs.laws.a_text_has_one_report.Goals as goal
+
+pub returns : goal.returns
+returns c = one_report_of c.a_text_has_one_test.ensures

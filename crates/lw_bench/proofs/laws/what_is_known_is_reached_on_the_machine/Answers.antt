@@ -1,0 +1,12 @@
+use Rattle.std.proofs.Common.{Option, Some, None}
+use Rattle.std.specs.Option.{IfSome}
+use Rattle.lw_base.specs.Types.{Bytes}
+use Rattle.lw_bench.specs.Lists.{IsReachedOnMachine}
+use Rattle.lw_bench.proofs.laws.what_is_known_is_reached_on_the_machine.Goals as goal
+
+if_known : ((text : Bytes) → IsReachedOnMachine text) → (known : Option Bytes) → IfSome known IsReachedOnMachine
+if_known each None = tt
+if_known each (Some text) = each text
+
+pub returns : goal.returns
+returns c = if_known c.every_test_has_its_program.ensures.there
