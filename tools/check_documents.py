@@ -24,7 +24,8 @@
   a heading that is renamed can't leave its rows unread.
 - No crate that says what tests mean names one that reads texts (tools/check_wings.py); the definitions on which the meaning of a
   test stands are few, and docs/MAP.md tells how many (tools/semantic_core.py); docs/BELIEVE.md has each definition that the contract
-  of `states` reaches, with its lines (tools/believe.py).
+  of `states` reaches, with its lines (tools/believe.py). The examples that theorems speak of are the texts that a test of
+  lw_text_tests reads as their values.
 - What `./lw` builds, and when, with a stand-in for `rt` (tools/check_build.py); docs/TIMES.md has the minutes of each of its crates.
 - The numbers of states of the tests in bench/.
 - The web page, by a plain client, and where there is a browser in that too (tools/check_page.py).
@@ -478,6 +479,15 @@ def check_believe():
     yield "the definitions that the contract of `states` reaches, and docs/BELIEVE.md on them (tools/believe.py)", [], believe.told_faults()
 
 
+def check_classics():
+    """The texts of the classic tests, which a test of lw_text_tests reads as the values that theorems speak of."""
+    source = read("crates/lw_text_tests/src/classics.rt")
+    found = re.findall(r'^/// examples/([\w-]+)\.litmus\.\nconst \w+: &str = "((?:[^"\\]|\\.)*)";', source, re.M)
+    yield "how many examples lw_text_tests reads as values", 3, len(found)
+    for name, text in found:
+        yield f"examples/{name}.litmus is what lw_text_tests reads", read(f"examples/{name}.litmus"), text.replace("\\\\", "\\")
+
+
 def checks():
     """All checks: functions with their arguments, each of which is one thing to do."""
     yield (check_build.comparisons,)
@@ -485,6 +495,7 @@ def checks():
     yield (check_wings_apart,)
     yield (check_semantic_core,)
     yield (check_believe,)
+    yield (check_classics,)
     for name in ["README.md", *sorted(glob.glob("docs/*.md"))]:
         for block in blocks(read(name)):
             yield check_transcript, name, block
