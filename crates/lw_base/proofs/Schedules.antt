@@ -12,7 +12,8 @@ use Rattle.lw_base.specs.declared.event.Event.{Event}
 use Rattle.lw_base.specs.declared.event.Event.TheVariants.{Step, Drain, Evict}
 
 -- where each name stands once, a name has one place
-pub one_place : (names : NameTable) (i j : ℕ) → EachOnce names → i < length names → j < length names → slice_index_or names i [] ≡ slice_index_or names j [] → i ≡ j
+pub one_place : (names : NameTable) (i j : ℕ) → EachOnce names → i < length names → j < length names
+    → slice_index_or names i [] ≡ slice_index_or names j [] → i ≡ j
 one_place [] i j once l m e = absurd (omega arith)
 one_place (n ∷ names) zero zero once l m e = refl
 one_place (n ∷ names) zero (suc j) once l m e = absurd (once.0 (subst (Contains names) (sym e) (Contains-get_or names j [] (omega arith))))
@@ -35,7 +36,8 @@ one_event names once (Evict c l) (Evict d m) h k same =
     let p = one_place names l m once h.1 k.1 n in
     cc
 
-one_list : (names : NameTable) → EachOnce names → (es fs : List Event) → AllByRecursion (IsEvent names) es → AllByRecursion (IsEvent names) fs → map (event_word names) es ≡ map (event_word names) fs → es ≡ fs
+one_list : (names : NameTable) → EachOnce names → (es fs : List Event) → AllByRecursion (IsEvent names) es → AllByRecursion (IsEvent names) fs
+    → map (event_word names) es ≡ map (event_word names) fs → es ≡ fs
 one_list names once [] [] h k same = refl
 one_list names once [] (f ∷ fs) h k same = absurd cc
 one_list names once (e ∷ es) [] h k same = absurd cc
@@ -46,5 +48,6 @@ one_list names once (e ∷ es) (f ∷ fs) h k same =
     let q = one_list names once es fs h.1 k.1 rest in
     cc
 
-pub one_schedule : (names : NameTable) → IsTable names → (text : Bytes) (events others : List Event) → IsSchedule names text events → IsSchedule names text others → events ≡ others
+pub one_schedule : (names : NameTable) → IsTable names → (text : Bytes) (events others : List Event) → IsSchedule names text events
+    → IsSchedule names text others → events ≡ others
 one_schedule names table text events others is also = one_list names table.once events others is.0 also.0 (sym is.1 ∙ also.1)

@@ -84,7 +84,8 @@ module _ (names : NameTable) (text digits name : Bytes) (cut : text ≡ digits +
   pub no_location : IsWordText name → IsCpu digits → (Contains names name → ⊥) → IsFaulty names (69 ∷ text) Location
   no_location named cpu missing = (digits, name, cpu, named, ap (λ t. 69 ∷ t) cut, missing)
 
-  pub found : (c l : ℕ) → c < 4 → digits ≡ (48 + c) ∷ [] → slice_get names l ≡ Some name → ((c < 4) × (l < length names)) × (69 ∷ (48 + c) ∷ 58 ∷ slice_index_or names l [] ≡ 69 ∷ text)
+  pub found : (c l : ℕ) → c < 4 → digits ≡ (48 + c) ∷ [] → slice_get names l ≡ Some name
+      → ((c < 4) × (l < length names)) × (69 ∷ (48 + c) ∷ 58 ∷ slice_index_or names l [] ≡ 69 ∷ text)
   found c l h digit at =
       let named : slice_index_or names l [] ≡ name = get_or_from_slice_get names l name [] at in
       ((h, slice_get_within names l name at), ap (λ t. 69 ∷ t) (rw (cut, digit, named) refl))
@@ -106,7 +107,11 @@ one_digit (suc (suc (suc (suc c)))) h = absurd (omega arith)
 shape_of : (names : NameTable) → IsTable names → (e : Event) → IsEvent names e → (ds : Bytes) × IsCpu ds × HasShape (event_word names e) ds
 shape_of names table (Step c) is = ((48 + c) ∷ [], (c, is, refl), (one_digit c is, inl refl))
 shape_of names table (Drain c) is = ((48 + c) ∷ [], (c, is, refl), (one_digit c is, inr (inl refl)))
-shape_of names table (Evict c l) is = ((48 + c) ∷ [], (c, is.0, refl), (one_digit c is.0, inr (inr (slice_index_or names l [], (location_at names l table.all is.1).0.0, refl))))
+shape_of names table (Evict c l) is = (
+  (48 + c) ∷ [],
+  (c, is.0, refl),
+  (one_digit c is.0, inr (inr (slice_index_or names l [], (location_at names l table.all is.1).0.0, refl))),
+)
 
 -- a word has its shape with one row of digits
 one_shape : (w ds es : Bytes) → HasShape w ds → HasShape w es → ds ≡ es
@@ -126,7 +131,8 @@ one_shape w ds es shape other = go shape.1 other.1
         (cut_once ds es e.0 f.0 (digits_no_colon ds shape.0) (digits_no_colon es other.0) same).0
 
 -- a refused word is no event's
-pub no_event : (names : NameTable) → IsTable names → (w : Bytes) (cause : ScheduleCause) → IsFaulty names w cause → (e : Event) → IsEvent names e → event_word names e ≡ w → ⊥
+pub no_event : (names : NameTable) → IsTable names → (w : Bytes) (cause : ScheduleCause) → IsFaulty names w cause → (e : Event) → IsEvent names e
+    → event_word names e ≡ w → ⊥
 no_event names table w Word faulty e is same =
     let s = shape_of names table e is in
     faulty s.0 (subst (λ v. HasShape v s.0) same s.2)

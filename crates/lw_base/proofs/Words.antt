@@ -21,7 +21,8 @@ words-behind text [] r e all = ap words e
 words-behind text (b ∷ w) r e all = rw (e, all.0) (words-behind (w ++ r) w r refl all.1)
 
 -- a longest row of bytes that are no blanks is the first word
-pub words-first : (text w r : Bytes) → text ≡ w ++ r → 0 < length text → begins is_blank text ≡ false → AllByRecursion (λ b. not (is_blank b) ≡ true) w → begins (λ b. not (is_blank b)) r ≡ false → words text ≡ w ∷ words r
+pub words-first : (text w r : Bytes) → text ≡ w ++ r → 0 < length text → begins is_blank text ≡ false → AllByRecursion (λ b. not (is_blank b) ≡ true) w
+    → begins (λ b. not (is_blank b)) r ≡ false → words text ≡ w ∷ words r
 words-first text [] [] e some front others ends = absurd (omega (arith, ap length e))
 words-first text [] (c ∷ r) e some front others ends =
     let blank : is_blank c ≡ true = not-false (is_blank c) ends in
@@ -33,7 +34,8 @@ words-first text (b ∷ w) (c ∷ r) e some front others ends =
     rw (e, first_piece (b ∷ w) (c ∷ r) (pieces r) others (rw blank refl), blank) refl
 
 -- where words begin with those of some events, the word behind them is an event's
-event_at : (names : NameTable) (done events : List Event) (w : Bytes) (ws : List Bytes) → AllByRecursion (IsEvent names) events → map (event_word names) events ≡ map (event_word names) done ++ w ∷ ws → (e : Event) × IsEvent names e × (event_word names e ≡ w)
+event_at : (names : NameTable) (done events : List Event) (w : Bytes) (ws : List Bytes) → AllByRecursion (IsEvent names) events
+    → map (event_word names) events ≡ map (event_word names) done ++ w ∷ ws → (e : Event) × IsEvent names e × (event_word names e ≡ w)
 event_at names [] [] w ws all same = absurd cc
 event_at names [] (e ∷ events) w ws all same = (e, all.0, cc)
 event_at names (d ∷ done) [] w ws all same = absurd cc
@@ -42,7 +44,9 @@ event_at names (d ∷ done) (e ∷ events) w ws all same =
     event_at names done events w ws all.1 rest
 
 -- a word that is no event's, behind the words of some events
-pub no_schedule : (names : NameTable) (text rest : Bytes) (done : List Event) (w : Bytes) (ws : List Bytes) → words text ≡ map (event_word names) done ++ words rest → words rest ≡ w ∷ ws → ((e : Event) → IsEvent names e → event_word names e ≡ w → ⊥) → (events : List Event) → IsSchedule names text events → ⊥
+pub no_schedule : (names : NameTable) (text rest : Bytes) (done : List Event) (w : Bytes) (ws : List Bytes)
+    → words text ≡ map (event_word names) done ++ words rest → words rest ≡ w ∷ ws → ((e : Event) → IsEvent names e → event_word names e ≡ w → ⊥)
+    → (events : List Event) → IsSchedule names text events → ⊥
 no_schedule names text rest done w ws before first none events is =
     let e = event_at names done events w ws is.0 (sym is.1 ∙ before ∙ ap (λ v. map (event_word names) done ++ v) first) in
     none e.0 e.1 e.2
@@ -62,7 +66,8 @@ pub no_longer : (text front rest : Bytes) → text ≡ front ++ rest → length 
 no_longer text front rest e = omega (arith, ap length e, length-append front rest)
 
 -- one more event
-pub more_events : (names : NameTable) (es fs : List Event) (e : Event) → fs ≡ es ++ e ∷ [] → AllByRecursion (IsEvent names) es → IsEvent names e → AllByRecursion (IsEvent names) fs
+pub more_events : (names : NameTable) (es fs : List Event) (e : Event) → fs ≡ es ++ e ∷ [] → AllByRecursion (IsEvent names) es → IsEvent names e
+    → AllByRecursion (IsEvent names) fs
 more_events names es fs e more all is = rw more (go es all)
   where
     go : (ds : List Event) → AllByRecursion (IsEvent names) ds → AllByRecursion (IsEvent names) (ds ++ e ∷ [])
@@ -70,9 +75,12 @@ more_events names es fs e more all is = rw more (go es all)
     go (d ∷ ds) h = (h.0, go ds h.1)
 
 -- the first word of what is left is that of one more event
-pub more_words : (names : NameTable) (text rest w after last : Bytes) (es fs : List Event) (e : Event) → words text ≡ map (event_word names) es ++ words rest → words rest ≡ w ∷ words after → words after ≡ words last → event_word names e ≡ w → fs ≡ es ++ e ∷ [] → words text ≡ map (event_word names) fs ++ words last
+pub more_words : (names : NameTable) (text rest w after last : Bytes) (es fs : List Event) (e : Event)
+    → words text ≡ map (event_word names) es ++ words rest → words rest ≡ w ∷ words after → words after ≡ words last → event_word names e ≡ w
+    → fs ≡ es ++ e ∷ [] → words text ≡ map (event_word names) fs ++ words last
 more_words names text rest w after last es fs e before first further is more =
     let word = event_word names in
-    let one : map word fs ++ words last ≡ map word es ++ word e ∷ words last = ap (λ ds. map word ds ++ words last) more ∙ ap (λ ws. ws ++ words last) (map-append word es (e ∷ [])) ∙ append_assoc (map word es) (word e ∷ []) (words last) in
+    let one : map word fs ++ words last ≡ map word es ++ word e ∷ words last = ap (λ ds. map word ds ++ words last) more ∙ ap (λ ws. ws ++ words last)
+    (map-append word es (e ∷ [])) ∙ append_assoc (map word es) (word e ∷ []) (words last) in
     let two : map word es ++ words rest ≡ map word es ++ w ∷ words last = ap (λ ws. map word es ++ ws) (first ∙ ap (λ ws. w ∷ ws) further) in
     before ∙ two ∙ ap (λ v. map word es ++ v ∷ words last) (sym is) ∙ sym one

@@ -12,13 +12,11 @@ use Rattle.lw_base.specs.Formula.{Formula, Yes, No, Reg_is, Word_is, Not, And, O
 use Rattle.lw_base.specs.Heads.{TestHead}
 use Rattle.lw_base.specs.Registers.{register_name}
 
--- a thread's register, as `0:EAX`, or a location's name
-abbrev pub site_text : Arch → NameTable → Seen → Bytes
+abbrev pub site_text : Arch → NameTable → Seen → Bytes  -- a thread's register, as `0:EAX`, or a location's name
 site_text arch names (Register t r) = decimal t ++ (codes ":" ++ register_name arch r)
 site_text arch names (Location x) = slice_index_or names x []
 
--- `name=word`
-abbrev pub assignment : Bytes → ℕ → Bytes
+abbrev pub assignment : Bytes → ℕ → Bytes  -- `name=word`
 assignment name word = name ++ (codes "=" ++ decimal word)
 
 abbrev pub in_parentheses : Bytes → Bytes
@@ -28,22 +26,12 @@ abbrev pub parenthesized_if : Bool → Bytes → Bytes
 parenthesized_if needed text = if needed then in_parentheses text else text
 
 abbrev pub is_and : Formula → Bool
-is_and Yes = false
-is_and No = false
-is_and (Reg_is t r n) = false
-is_and (Word_is x n) = false
-is_and (Not p) = false
 is_and (And p q) = true
-is_and (Or p q) = false
+is_and p = false
 
 abbrev pub is_or : Formula → Bool
-is_or Yes = false
-is_or No = false
-is_or (Reg_is t r n) = false
-is_or (Word_is x n) = false
-is_or (Not p) = false
-is_or (And p q) = false
 is_or (Or p q) = true
+is_or p = false
 
 abbrev pub is_joined : Formula → Bool
 is_joined p = is_and p || is_or p
@@ -69,7 +57,6 @@ quantifier_text Exists = codes "exists"
 quantifier_text NotExists = codes "~exists"
 quantifier_text Forall = codes "forall"
 
--- a head's condition: the quantifier, and the proposition in parentheses
-abbrev pub condition_text : TestHead → Bytes
+abbrev pub condition_text : TestHead → Bytes  -- a head's condition: the quantifier, and the proposition in parentheses
 condition_text head =
     quantifier_text head.quant ++ (codes " " ++ in_parentheses (proposition_text head.arch head.locs head.condition))

@@ -10,8 +10,7 @@ pub data Formula : Type 0 where
   And : (p q : Formula) → Formula
   Or : (p q : Formula) → Formula
 
--- how many atoms and connectives it has
-abbrev pub nodes : Formula → ℕ
+abbrev pub nodes : Formula → ℕ  -- how many atoms and connectives it has
 nodes Yes = 1
 nodes No = 1
 nodes (Reg_is cpu reg word) = 1

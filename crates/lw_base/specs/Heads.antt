@@ -7,8 +7,7 @@ use Rattle.lw_base.specs.declared.head.Quant.{Quant}
 use Rattle.lw_base.specs.declared.head.Seen.{Seen}
 use Rattle.lw_base.specs.declared.head.Head.{Head}
 
--- A name is its bytes. A location is its number.
-pub record TestHead : Type 0 where
+pub record TestHead : Type 0 where  -- A name is its bytes. A location is its number.
   pub name : List ℕ
   pub arch : Arch
   pub threads : ℕ
@@ -19,8 +18,7 @@ pub record TestHead : Type 0 where
   pub quant : Quant
   pub condition : Formula
 
--- the head that a `Head` in memory is
-abbrev pub head_of : {A : Type 0} → Head A → TestHead
+abbrev pub head_of : {A : Type 0} → Head A → TestHead  -- the head that a `Head` in memory is
 head_of h =
     record {
       name = h.name;
@@ -34,8 +32,7 @@ head_of h =
       condition = formula_of h.prop;
     }
 
--- the head, with this table; a location that is new begins at 0
-abbrev pub with_table : TestHead → List (List ℕ) → TestHead
+abbrev pub with_table : TestHead → List (List ℕ) → TestHead  -- the head, with this table; a location that is new begins at 0
 with_table head names =
     record {
       name = head.name;

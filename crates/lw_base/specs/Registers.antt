@@ -10,17 +10,14 @@ use Rattle.lw_base.specs.declared.head.Arch.TheVariants.{Source, X86}
 abbrev pub x86_names : List Bytes
 x86_names = codes "EAX" ∷ codes "EBX" ∷ codes "ECX" ∷ codes "EDX" ∷ codes "ESI" ∷ codes "EDI" ∷ []
 
--- a register's name as it is printed: `r0` to `r5`, or x86's names in their order
-abbrev pub register_name : Arch → ℕ → Bytes
+abbrev pub register_name : Arch → ℕ → Bytes  -- a register's name as it is printed: `r0` to `r5`, or x86's names in their order
 register_name Source r = byte "r" ∷ digit r ∷ []
 register_name X86 r = slice_index_or x86_names r []
 
--- x86's names are read in any case
-abbrev pub without_case : Arch → Bytes → Bytes
+abbrev pub without_case : Arch → Bytes → Bytes  -- x86's names are read in any case
 without_case Source w = w
 without_case X86 w = map to_ascii_lowercase w
 
--- the word names the register
-abbrev pub IsRegister : Arch → Bytes → ℕ → Type 0
+abbrev pub IsRegister : Arch → Bytes → ℕ → Type 0  -- the word names the register
 IsRegister arch w r =
     (r < registers) × (without_case arch (register_name arch r) ≡ without_case arch w)

@@ -7,15 +7,15 @@ use Rattle.lw_base.specs.declared.stop.End.{End}
 use Rattle.lw_base.specs.declared.stop.End.TheVariants as at
 use Rattle.lw_base.specs.declared.stop.Replay.{Replay}
 
--- An event, from a state, is answered so and leaves a state. Some states are final.
-module _ {State : Type 0} (Done : Event → State → Result (Unit {0}) Stop → State → Type 0) (is_final : State → Bool) where
-  -- The events lead, each possible in turn, from a state to another.
-  abbrev pub Ran : List Event → State → State → Type 0
+-- An event, from a state, is answered so and leaves a state.
+module _ {State : Type 0} (Done : Event → State → Result (Unit {0}) Stop → State → Type 0) where
+  abbrev pub Ran : List Event → State → State → Type 0  -- The events lead, each possible in turn, from a state to another.
   Ran [] s end = end ≡ s
   Ran (e ∷ es) s end = (mid : State) × Done e s (Ok tt) mid × Ran es mid end
 
-  -- how a replay ends that carried out so many events
-  abbrev pub EndsAs : List Event → ℕ → State → End → Type 0
+-- The same, where some states are final.
+module _ {State : Type 0} (Done : Event → State → Result (Unit {0}) Stop → State → Type 0) (is_final : State → Bool) where
+  abbrev pub EndsAs : List Event → ℕ → State → End → Type 0  -- how a replay ends that carried out so many events
   EndsAs events done s at.Final = (done ≡ length events) × IsTrue (is_final s)
   EndsAs events done s at.NotFinal = (done ≡ length events) × (IsTrue (is_final s) → ⊥)
   EndsAs events done s (at.Stopped stop) = (e : Event) × (slice_get events done ≡ Some e) × Done e s (Err stop) s
@@ -23,5 +23,5 @@ module _ {State : Type 0} (Done : Event → State → Result (Unit {0}) Stop →
   -- A replay carries out the events before the first that is refused, or all.
   pub record Replayed (events : List Event) (s : State) (r : Replay) (end : State) : Type 0 where
     pub within : r.done ≤ length events
-    pub ran : Ran (take r.done events) s end
+    pub ran : Ran Done (take r.done events) s end
     pub ends : EndsAs events r.done end r.end

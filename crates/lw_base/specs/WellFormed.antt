@@ -9,8 +9,8 @@ use Rattle.lw_base.specs.Heads.{TestHead}
 use Rattle.lw_base.specs.Names.{IsTable, IsTestName}
 
 -- a word, and the number of a register
-abbrev pub IsWord : ℕ → Type 0
-IsWord n = n < 2 ^ 32
+abbrev pub IsWordNumber : ℕ → Type 0
+IsWordNumber n = n < 2 ^ 32
 
 abbrev pub IsRegisterNumber : ℕ → Type 0
 IsRegisterNumber r = r < registers
@@ -36,8 +36,8 @@ Ascending (s ∷ ss) = AllByRecursion (ComesBefore s) ss × Ascending ss
 abbrev pub SpeaksOf : ℕ → ℕ → Formula → Type 0
 SpeaksOf threads locs Yes = Unit {0}
 SpeaksOf threads locs No = Unit {0}
-SpeaksOf threads locs (Reg_is t r n) = (t < threads) × (r < registers) × IsWord n
-SpeaksOf threads locs (Word_is x n) = (x < locs) × IsWord n
+SpeaksOf threads locs (Reg_is t r n) = (t < threads) × (r < registers) × IsWordNumber n
+SpeaksOf threads locs (Word_is x n) = (x < locs) × IsWordNumber n
 SpeaksOf threads locs (Not p) = SpeaksOf threads locs p
 SpeaksOf threads locs (And p q) = SpeaksOf threads locs p × SpeaksOf threads locs q
 SpeaksOf threads locs (Or p q) = SpeaksOf threads locs p × SpeaksOf threads locs q
@@ -62,9 +62,9 @@ pub record IsWellFormedHead (h : TestHead) : Type 0 where
   pub table : IsTable h.locs
   pub regs : length h.init_regs ≡ h.threads
   pub six : AllByRecursion (λ row. length row ≡ registers) h.init_regs
-  pub register_words : AllByRecursion (AllByRecursion IsWord) h.init_regs
+  pub register_words : AllByRecursion (AllByRecursion IsWordNumber) h.init_regs
   pub words : length h.init_words ≡ length h.locs
-  pub location_words : AllByRecursion IsWord h.init_words
+  pub location_words : AllByRecursion IsWordNumber h.init_words
   pub there : AllByRecursion (IsSeen h.threads (length h.locs)) h.listed
   pub ascending : Ascending h.listed
   pub nodes_few : nodes h.condition ≤ most_nodes

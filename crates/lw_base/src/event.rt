@@ -2,8 +2,7 @@
 
 use crate::number::{Cpu, Loc};
 
-/// One act of the machine: a processor carries out its next instruction, or the oldest entry of its
-/// store buffer goes to memory, or its cache gives up a line.
+/// One act of the machine, or one step of a source test.
 #[derive(Clone, Copy, Debug, PartialEq, Eq)]
 pub enum Event {
     /// The next instruction (or source statement) of the processor.

@@ -4,8 +4,7 @@ use Rattle.lw_litmus.specs.Languages.{Language}
 use Rattle.lw_litmus.specs.Operations.{Leads}
 
 module _ {Stmt : Type 0} (language : Language Stmt) where
-  -- the position k may follow the position j, at which this statement is
-  abbrev pub Follows : Option Stmt → ℕ → ℕ → Type 0
+  abbrev pub Follows : Option Stmt → ℕ → ℕ → Type 0  -- the position k may follow the position j, at which this statement is
   Follows None j k = ⊥
   Follows (Some s) j k = Leads (language.operation_of s) j k
 

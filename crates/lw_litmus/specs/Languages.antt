@@ -4,12 +4,8 @@ use Rattle.std.specs.Prelude.{ℕ, Bool}
 use Rattle.lw_base.specs.declared.head.Arch.{Arch}
 use Rattle.lw_litmus.specs.declared.operation.Operation.{Operation}
 
--- Its statements are of the type Stmt.
-pub record Language (Stmt : Type 0) : Type 0 where
-  -- the word of a test's heading
-  pub arch : Arch
-  -- how many statements a thread may have
-  pub most : ℕ
-  -- whether a store goes to memory by way of a store buffer, by a drain of its own
-  pub is_buffered : Bool
+pub record Language (Stmt : Type 0) : Type 0 where  -- Its statements are of the type Stmt.
+  pub arch : Arch  -- the word of a test's heading
+  pub most : ℕ  -- how many statements a thread may have
+  pub is_buffered : Bool  -- whether a store goes to memory by way of a store buffer, by a drain of its own
   pub operation_of : Stmt → Operation

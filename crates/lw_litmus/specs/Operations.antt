@@ -6,8 +6,7 @@ use Rattle.lw_litmus.specs.declared.operation.Condition.TheVariants.{Always, Equ
 use Rattle.lw_litmus.specs.declared.operation.Operation.{Operation}
 use Rattle.lw_litmus.specs.declared.operation.Operation.TheVariants.{Store, Load, Swap, FetchAdd, Fence, Branch}
 
--- the location that it reads or writes
-abbrev pub location_of : Operation → Option ℕ
+abbrev pub location_of : Operation → Option ℕ  -- the location that it reads or writes
 location_of (Store x v) = Some x
 location_of (Load d x) = Some x
 location_of (Swap d x a) = Some x
@@ -26,36 +25,29 @@ abbrev pub is_fence : Operation → Bool
 is_fence Fence = true
 is_fence o = false
 
--- it reads its location and writes it, at once
-abbrev pub is_locked : Operation → Bool
+abbrev pub is_locked : Operation → Bool  -- it reads its location and writes it, at once
 is_locked (Swap d x a) = true
 is_locked (FetchAdd d x v) = true
 is_locked o = false
 
--- it writes its location
-abbrev pub writes : Operation → Bool
+abbrev pub writes : Operation → Bool  -- it writes its location
 writes o = is_store o || is_locked o
 
--- x86 does it only once the store buffer is empty
-abbrev pub waits : Operation → Bool
+abbrev pub waits : Operation → Bool  -- x86 does it only once the store buffer is empty
 waits o = is_fence o || is_locked o
 
--- the statement that a branch leads to
-abbrev pub target_of : Operation → Option ℕ
+abbrev pub target_of : Operation → Option ℕ  -- the statement that a branch leads to
 target_of (Branch c to) = Some to
 target_of o = None
 
--- the next statement may follow: behind each but a branch without a condition
-abbrev pub goes_on : Operation → Bool
+abbrev pub goes_on : Operation → Bool  -- the next statement may follow: behind each but a branch without a condition
 goes_on (Branch Always to) = false
 goes_on o = true
 
--- behind the position j, at which it is, the position k may come
-abbrev pub Leads : Operation → ℕ → ℕ → Type 0
+abbrev pub Leads : Operation → ℕ → ℕ → Type 0  -- behind the position j, at which it is, the position k may come
 Leads o j k = ((goes_on o ≡ true) × (k ≡ j + 1)) ⊎ (target_of o ≡ Some k)
 
--- a branch jumps, where the registers have these words, and the zero flag tells this
-abbrev pub holds : Condition → List ℕ → Bool → Bool
+abbrev pub holds : Condition → List ℕ → Bool → Bool  -- a branch jumps, where the registers have these words, and the zero flag tells this
 holds Always regs flag = true
 holds (Equal a n) regs flag = slice_index regs a == n
 holds (NotEqual a n) regs flag = not (slice_index regs a == n)

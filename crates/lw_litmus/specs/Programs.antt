@@ -10,20 +10,18 @@ use Rattle.lw_litmus.specs.declared.operation.Operation.TheVariants as operation
 use Rattle.lw_litmus.specs.Limits.{most_instructions}
 use Rattle.lw_litmus.specs.Languages.{Language}
 
--- what an instruction does
-abbrev pub operation_of : Instr → Operation
-operation_of (Store x v) = operation.Store x v
-operation_of (Load d x) = operation.Load d x
-operation_of (Set d v) = operation.Set d v
-operation_of (Add d v) = operation.Sum d d v
-operation_of (Cmp a v) = operation.Compare a v
-operation_of (Xchg x a) = operation.Swap a x a
-operation_of (Xadd x a) = operation.FetchAdd (Some a) x (Register a)
-operation_of Mfence = operation.Fence
-operation_of (Je to) = operation.Branch Zero to
-operation_of (Jne to) = operation.Branch NotZero to
-operation_of (Jmp to) = operation.Branch Always to
+abbrev pub x86_operation : Instr → Operation  -- what an instruction does
+x86_operation (Store x v) = operation.Store x v
+x86_operation (Load d x) = operation.Load d x
+x86_operation (Set d v) = operation.Set d v
+x86_operation (Add d v) = operation.Sum d d v
+x86_operation (Cmp a v) = operation.Compare a v
+x86_operation (Xchg x a) = operation.Swap a x a
+x86_operation (Xadd x a) = operation.FetchAdd (Some a) x (Register a)
+x86_operation Mfence = operation.Fence
+x86_operation (Je to) = operation.Branch Zero to
+x86_operation (Jne to) = operation.Branch NotZero to
+x86_operation (Jmp to) = operation.Branch Always to
 
--- the x86 language
-abbrev pub x86 : Language Instr
-x86 = record { arch = X86; most = most_instructions; is_buffered = true; operation_of = operation_of }
+abbrev pub x86 : Language Instr  -- the x86 language
+x86 = record { arch = X86; most = most_instructions; is_buffered = true; operation_of = x86_operation }

@@ -10,18 +10,16 @@ use Rattle.lw_litmus.specs.declared.stmt.Stmt.TheVariants.{Store, Load, Swap, Fe
 use Rattle.lw_litmus.specs.Limits.{most_statements}
 use Rattle.lw_litmus.specs.Languages.{Language}
 
--- what a statement does
-abbrev pub operation_of : Stmt → Operation
-operation_of (Store x v) = operation.Store x v
-operation_of (Load d x) = operation.Load d x
-operation_of (Swap d x a) = operation.Swap d x a
-operation_of (FetchAdd d x a) = operation.FetchAdd (Some d) x (Register a)
-operation_of (Set d v) = operation.Set d v
-operation_of (Sum d a v) = operation.Sum d a v
-operation_of (IfEq a n to) = operation.Branch (Equal a n) to
-operation_of (IfNe a n to) = operation.Branch (NotEqual a n) to
-operation_of (Goto to) = operation.Branch Always to
+abbrev pub source_operation : Stmt → Operation  -- what a statement does
+source_operation (Store x v) = operation.Store x v
+source_operation (Load d x) = operation.Load d x
+source_operation (Swap d x a) = operation.Swap d x a
+source_operation (FetchAdd d x a) = operation.FetchAdd (Some d) x (Register a)
+source_operation (Set d v) = operation.Set d v
+source_operation (Sum d a v) = operation.Sum d a v
+source_operation (IfEq a n to) = operation.Branch (Equal a n) to
+source_operation (IfNe a n to) = operation.Branch (NotEqual a n) to
+source_operation (Goto to) = operation.Branch Always to
 
--- the source language
-abbrev pub source : Language Stmt
-source = record { arch = Source; most = most_statements; is_buffered = false; operation_of = operation_of }
+abbrev pub source : Language Stmt  -- the source language
+source = record { arch = Source; most = most_statements; is_buffered = false; operation_of = source_operation }

@@ -5,18 +5,15 @@ use Rattle.lw_base.specs.Heads.{TestHead, head_of}
 use Rattle.lw_litmus.specs.declared.instr.Instr.{Instr}
 use Rattle.lw_litmus.specs.declared.stmt.Stmt.{Stmt}
 
--- a head, and for each thread its statements
-pub record Test (Stmt : Type 0) : Type 0 where
+pub record Test (Stmt : Type 0) : Type 0 where  -- a head, and for each thread its statements
   pub head : TestHead
   pub threads : List (List Stmt)
 
 abbrev pub SourceTest : Type 0
 SourceTest = Test Stmt
 
--- An x86 instruction is a statement of its language.
-abbrev pub ProgramTest : Type 0
+abbrev pub ProgramTest : Type 0  -- An x86 instruction is a statement of its language.
 ProgramTest = Test Instr
 
--- the test of a head in memory and statements
-abbrev pub test_of : {A Stmt : Type 0} → Head A → List (List Stmt) → Test Stmt
+abbrev pub test_of : {A Stmt : Type 0} → Head A → List (List Stmt) → Test Stmt  -- the test of a head in memory and statements
 test_of head threads = record { head = head_of head; threads = threads }

@@ -1,7 +1,7 @@
 -- What always holds of a test: it is well-formed.
 use Rattle.std.specs.Prelude.{◌≡◌, ℕ, ◌<◌, ◌≤◌, Some, List, [], ◌∷◌, ◌++◌, length, slice_get, All}
 use Rattle.std.specs.Option.{ForSome, option_to_list}
-use Rattle.lw_base.specs.WellFormed.{IsRegisterNumber, IsWord, IsWellFormedHead}
+use Rattle.lw_base.specs.WellFormed.{IsRegisterNumber, IsWordNumber, IsWellFormedHead}
 use Rattle.lw_litmus.specs.declared.operation.Condition.{Condition}
 use Rattle.lw_litmus.specs.declared.operation.Condition.TheVariants.{Equal, NotEqual}
 use Rattle.lw_litmus.specs.declared.operation.Operation.{Operation}
@@ -45,7 +45,7 @@ numbers_of o = []
 -- Its location is one of so many, its registers are registers, and its numbers words.
 abbrev pub IsOperation : ℕ → Operation → Type 0
 IsOperation locs o =
-    ForSome (location_of o) (λ x. x < locs) × All IsRegisterNumber (registers_of o) × All IsWord (numbers_of o)
+    ForSome (location_of o) (λ x. x < locs) × All IsRegisterNumber (registers_of o) × All IsWordNumber (numbers_of o)
 
 module _ {Stmt : Type 0} (language : Language Stmt) where
   abbrev pub IsStatement : ℕ → Stmt → Type 0

@@ -53,11 +53,9 @@ impl Statement for Instr {
                 loc,
                 src: reg,
             },
-            Instr::Xadd { loc, reg } => Operation::FetchAdd {
-                dst: Some(reg),
-                loc,
-                val: Operand::Register(reg),
-            },
+            Instr::Xadd { loc, reg } => {
+                Operation::FetchAdd(Some(reg), loc, Operand::Register(reg))
+            }
             Instr::Mfence => Operation::Fence,
             Instr::Je { to } => Operation::Branch {
                 condition: Condition::Zero,

@@ -8,51 +8,24 @@ use lw_base::{Loc, Operand, REGISTERS, Reg, Word};
 #[derive(Clone, Copy, Debug, PartialEq, Eq)]
 pub enum Operation {
     /// The register gets the value.
-    Set {
-        dst: Reg,
-        val: Operand,
-    },
+    Set { dst: Reg, val: Operand },
     /// The register gets the sum, modulo 2 to the 32. In x86 the zero flag tells whether it is 0.
-    Sum {
-        dst: Reg,
-        left: Reg,
-        right: Operand,
-    },
+    Sum { dst: Reg, left: Reg, right: Operand },
     /// The zero flag tells whether the register has the value.
-    Compare {
-        reg: Reg,
-        val: Operand,
-    },
+    Compare { reg: Reg, val: Operand },
     /// The location gets the value; in x86 by way of the store buffer.
-    Store {
-        loc: Loc,
-        val: Operand,
-    },
+    Store { loc: Loc, val: Operand },
     /// The register gets the location's word.
-    Load {
-        dst: Reg,
-        loc: Loc,
-    },
+    Load { dst: Reg, loc: Loc },
     /// At once, `dst` gets the location's word, and the location the word that `src` had. In x86 once the buffer is empty.
-    Swap {
-        dst: Reg,
-        loc: Loc,
-        src: Reg,
-    },
+    Swap { dst: Reg, loc: Loc, src: Reg },
     /// At once, the register, if there is one, gets the location's word, and the location the sum of that word and the value,
     /// modulo 2 to the 32. In x86 once the buffer is empty, and the zero flag tells whether the sum is 0.
-    FetchAdd {
-        dst: Option<Reg>,
-        loc: Loc,
-        val: Operand,
-    },
+    FetchAdd(Option<Reg>, Loc, Operand),
     /// Goes on once the store buffer is empty.
     Fence,
     /// Jumps where the condition holds.
-    Branch {
-        condition: Condition,
-        to: usize,
-    },
+    Branch { condition: Condition, to: usize },
 }
 
 /// When a branch jumps.
@@ -91,7 +64,7 @@ impl Operation {
     {
         match self {
             Operation::Store { loc, .. } | Operation::Load { loc, .. } => Some(*loc),
-            Operation::Swap { loc, .. } | Operation::FetchAdd { loc, .. } => Some(*loc),
+            Operation::Swap { loc, .. } | Operation::FetchAdd(_, loc, _) => Some(*loc),
             _ => None,
         }
     }
@@ -107,7 +80,7 @@ impl Operation {
     pub fn is_locked(&self) -> bool
         ensures { result ≡ table.is_locked self.now }
     {
-        matches!(self, Operation::Swap { .. } | Operation::FetchAdd { .. })
+        matches!(self, Operation::Swap { .. } | Operation::FetchAdd(..))
     }
 
     /// Whether it writes its location.

@@ -5,16 +5,14 @@ use crate::operation::{Condition, Operation};
 use crate::statement::Statement;
 use lw_base::{Loc, Operand, Reg, Word};
 
-/// A statement of a thread. A jump's target is the number of a statement of the same thread, or the
-/// number after the last.
+/// A statement of a thread. A jump's target is the number of a statement of the same thread, or the number after the last.
 #[derive(Clone, Copy, Debug, PartialEq, Eq)]
 pub enum Stmt {
     /// `x := n`, `x := a`: the location gets the value.
     Store { loc: Loc, val: Operand },
     /// `d := x`: the register gets the location's word.
     Load { dst: Reg, loc: Loc },
-    /// `d := swap x a`: at once, the register `d` gets the location's word, and the location gets
-    /// the word that register `a` had.
+    /// `d := swap x a`: at once, the register `d` gets the location's word, and the location gets the word that `a` had.
     Swap { dst: Reg, loc: Loc, src: Reg },
     /// `d := fetchadd x a`: at once, the register `d` gets the location's word, and the location gets
     /// the sum of that word and the one that register `a` had, modulo 2 to the 32.
@@ -39,11 +37,9 @@ impl Statement for Stmt {
             Stmt::Store { loc, val } => Operation::Store { loc, val },
             Stmt::Load { dst, loc } => Operation::Load { dst, loc },
             Stmt::Swap { dst, loc, src } => Operation::Swap { dst, loc, src },
-            Stmt::FetchAdd { dst, loc, src } => Operation::FetchAdd {
-                dst: Some(dst),
-                loc,
-                val: Operand::Register(src),
-            },
+            Stmt::FetchAdd { dst, loc, src } => {
+                Operation::FetchAdd(Some(dst), loc, Operand::Register(src))
+            }
             Stmt::Set { dst, val } => Operation::Set { dst, val },
             Stmt::Sum { dst, left, right } => Operation::Sum { dst, left, right },
             Stmt::IfEq { reg, num, to } => Operation::Branch {

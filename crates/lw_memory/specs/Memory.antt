@@ -1,7 +1,7 @@
 -- What a memory system is.
 use Rattle.std.specs.Prelude.{◌≡◌, ℕ, ◌<◌, List, Option, Bool, true, false}
 use Rattle.lw_memory.specs.declared.system.LineState.{LineState}
-use Rattle.lw_memory.specs.declared.system.LineState.TheVariants.{M, O, E, S, I}
+use Rattle.lw_memory.specs.declared.system.LineState.TheVariants.{I}
 use Rattle.lw_memory.specs.declared.system.Request.{Request}
 use Rattle.lw_memory.specs.declared.system.Request.TheVariants.{Load, Store, Swap, FetchAdd, Evict}
 
@@ -17,16 +17,11 @@ abbrev pub memory_of : {State : Type 0}
     → (State → List ℕ) → (State → ℕ → ℕ → LineState) → (State → Request → Option ℕ → State → Type 0) → Memory State
 memory_of content state serves = record { content = content; state = state; serves = serves }
 
--- Every state but I is a held line.
-abbrev pub is_held : LineState → Bool
-is_held M = true
-is_held O = true
-is_held E = true
-is_held S = true
+abbrev pub is_held : LineState → Bool  -- Every state but I is a held line.
 is_held I = false
+is_held held = true
 
--- The processor and the location of a request are there.
-abbrev pub IsInRange : ℕ → ℕ → Request → Type 0
+abbrev pub IsInRange : ℕ → ℕ → Request → Type 0  -- The processor and the location of a request are there.
 IsInRange cpus locs (Load t x) = (t < cpus) × (x < locs)
 IsInRange cpus locs (Store t x w) = (t < cpus) × (x < locs)
 IsInRange cpus locs (Swap t x w) = (t < cpus) × (x < locs)
@@ -35,8 +30,5 @@ IsInRange cpus locs (Evict t x) = (t < cpus) × (x < locs)
 
 -- An eviction is possible where the processor holds the location, every other request always.
 abbrev pub IsPossible : (ℕ → ℕ → LineState) → Request → Type 0
-IsPossible state (Load t x) = Unit {0}
-IsPossible state (Store t x w) = Unit {0}
-IsPossible state (Swap t x w) = Unit {0}
-IsPossible state (FetchAdd t x w) = Unit {0}
 IsPossible state (Evict t x) = is_held (state t x) ≡ true
+IsPossible state other = Unit {0}

@@ -5,7 +5,8 @@ use Rattle.std.proofs.lemmas.Bool.{or_cases, and_parts, eqb-true}
 use Rattle.lw_base.specs.Characters.{is_blank}
 
 -- what holds of each of a list holds of one that is found there
-pub any_all : {X : Type 0} (same : X → X → Bool) → ((x y : X) → same x y ≡ true → x ≡ y) → (q : X → Bool) (xs : List X) (b : X) → list_all q xs ≡ true → list_any (λ s. same s b) xs ≡ true → q b ≡ true
+pub any_all : {X : Type 0} (same : X → X → Bool) → ((x y : X) → same x y ≡ true → x ≡ y) → (q : X → Bool) (xs : List X) (b : X) → list_all q xs ≡ true
+    → list_any (λ s. same s b) xs ≡ true → q b ≡ true
 any_all same decides q [] b all any = absurd cc
 any_all same decides q (x ∷ xs) b all any =
     let each = and_parts (q x) (list_all q xs) all in

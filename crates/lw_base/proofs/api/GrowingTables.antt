@@ -45,7 +45,8 @@ pub index_of-append : (names more : NameTable) (n : Bytes) → contains_name nam
 index_of-append [] more n e = absurd cc
 index_of-append (m ∷ names) more n e = go (bytes_eq m n) refl (index_of-append names more n)
   where
-    go : (b : Bool) → bytes_eq m n ≡ b → (contains_name names n ≡ true → index_of (names ++ more) n ≡ index_of names n) → index_of ((m ∷ names) ++ more) n ≡ index_of (m ∷ names) n
+    go : (b : Bool) → bytes_eq m n ≡ b → (contains_name names n ≡ true → index_of (names ++ more) n ≡ index_of names n)
+        → index_of ((m ∷ names) ++ more) n ≡ index_of (m ∷ names) n
     go true f further = rw f refl
     go false f further = rw f (ap (λ (k : ℕ). 1 + k) (further (rw f at e)))
 

@@ -1,5 +1,6 @@
 -- Items of a list by their places.
-use Rattle.std.proofs.Common.{◌≡◌, ◌≢◌, ℕ, zero, suc, ◌<◌, ◌≤◌, Some, ◌⊎◌, inl, inr, ⊎_elim, List, [], ◌∷◌, ◌++◌, length, take, drop, refl, sym, ap, ◌∙◌, subst, arith}
+use Rattle.std.proofs.Common.{◌≡◌, ◌≢◌, ℕ, zero, suc, ◌<◌, ◌≤◌, Some, ◌⊎◌, inl, inr, ⊎_elim, List, [], ◌∷◌, ◌++◌, length, take, drop, refl, sym, ap, ◌∙◌, subst}
+use Rattle.std.proofs.Common.{arith}
 use Rattle.std.specs.Prelude.{slice_get, slice_set}
 use Rattle.std.proofs.lemmas.List.{set-get_or}
 use Rattle.std.proofs.lemmas.Bool.{cases_eq}
@@ -94,13 +95,15 @@ each_after P xs i x within before here u y at = go (cases_eq u i)
   where
     go : (u ≡ i) ⊎ (u ≡ i → ⊥) → P u y
     go (inl e) =
-        let there : slice_get (slice_set xs i x) u ≡ Some x = ap (slice_get (slice_set xs i x)) e ∙ got_set_same xs i x (get_some xs i within).0 (get_some xs i within).1 in
+        let there : slice_get (slice_set xs i x) u ≡ Some x = ap (slice_get (slice_set xs i x)) e ∙ got_set_same xs i x (get_some xs i within).0
+        (get_some xs i within).1 in
         let same : x ≡ y = cc in
         subst (λ (k : ℕ). P k y) (sym e) (subst (P i) same here)
     go (inr other) = before u y (sym (got_set_other xs i u x (λ e. other (sym e))) ∙ at)
 
 -- what holds of the fellows of two lists, where an item of each is set
-pub fellows_after : {X Y : Type 0} (P : ℕ → X → Y → Type 0) (xs : List X) (ys : List Y) (t : ℕ) (old x : X) (was y : Y) → slice_get xs t ≡ Some old → slice_get ys t ≡ Some was
+pub fellows_after : {X Y : Type 0} (P : ℕ → X → Y → Type 0) (xs : List X) (ys : List Y) (t : ℕ) (old x : X) (was y : Y) → slice_get xs t ≡ Some old
+    → slice_get ys t ≡ Some was
     → ((u : ℕ) (a : X) (b : Y) → t ≢ u → slice_get xs u ≡ Some a → slice_get ys u ≡ Some b → P u a b) → P t x y
     → (u : ℕ) (a : X) (b : Y) → slice_get (slice_set xs t x) u ≡ Some a → slice_get (slice_set ys t y) u ≡ Some b → P u a b
 fellows_after {X} {Y} P xs ys t old x was y at there others now u a b e f =

@@ -1,23 +1,24 @@
 -- Runs, one behind another, and one event further.
-use Rattle.std.proofs.Common.{◌≡◌, ℕ, suc, ◌+◌, ◌<◌, Bool, List, [], ◌∷◌, ◌++◌, length, take, get_or, Ok, Result, refl, sym, ap, ◌∙◌, subst, arith}
+use Rattle.std.proofs.Common.{◌≡◌, ℕ, suc, ◌+◌, ◌<◌, List, [], ◌∷◌, ◌++◌, length, take, get_or, Ok, Result, refl, sym, ap, ◌∙◌, subst, arith}
 use Rattle.std.proofs.Math.Seq.{take-suc}
 use Rattle.lw_base.specs.declared.event.Event.{Event}
 use Rattle.lw_base.specs.declared.stop.Stop.{Stop}
 use Rattle.lw_base.specs.Replays.{Ran}
 
-module _ {State : Type 0} (Done : Event → State → Result (Unit {0}) Stop → State → Type 0) (is_final : State → Bool) where
+module _ {State : Type 0} (Done : Event → State → Result (Unit {0}) Stop → State → Type 0) where
   -- one list of events after another
-  pub Ran-append : (es fs : List Event) (s mid end : State) → Ran Done is_final es s mid → Ran Done is_final fs mid end → Ran Done is_final (es ++ fs) s end
-  Ran-append [] fs s mid end r q = subst (λ (m : State). Ran Done is_final fs m end) r q
+  pub Ran-append : (es fs : List Event) (s mid end : State) → Ran Done es s mid → Ran Done fs mid end → Ran Done (es ++ fs) s end
+  Ran-append [] fs s mid end r q = subst (λ (m : State). Ran Done fs m end) r q
   Ran-append (e ∷ es) fs s mid end r q = (r.0, r.1, Ran-append es fs r.0 mid end r.2 q)
 
-  Ran-push : (es : List Event) (e : Event) (s mid end : State) → Ran Done is_final es s mid → Done e mid (Ok tt) end → Ran Done is_final (es ++ e ∷ []) s end
+  Ran-push : (es : List Event) (e : Event) (s mid end : State) → Ran Done es s mid → Done e mid (Ok tt) end → Ran Done (es ++ e ∷ []) s end
   Ran-push es e s mid end ran done = Ran-append es (e ∷ []) s mid end ran (end, done, refl)
 
   -- one event more is carried out
-  pub Ran-more : (events : List Event) (n : ℕ) (e : Event) (s mid end : State) → n < length events → e ≡ get_or events n e → Ran Done is_final (take n events) s mid → Done e mid (Ok tt) end → Ran Done is_final (take (n + 1) events) s end
+  pub Ran-more : (events : List Event) (n : ℕ) (e : Event) (s mid end : State) → n < length events → e ≡ get_or events n e
+      → Ran Done (take n events) s mid → Done e mid (Ok tt) end → Ran Done (take (n + 1) events) s end
   Ran-more events n e s mid end within is ran done =
       let pushed = Ran-push (take n events) e s mid end ran done in
       let more : take (suc n) events ≡ take n events ++ e ∷ [] = take-suc events n e within ∙ ap (λ (x : Event). take n events ++ x ∷ []) (sym is) in
       let next : suc n ≡ n + 1 = omega arith in
-      subst (λ (es : List Event). Ran Done is_final es s end) (sym more ∙ ap (λ (k : ℕ). take k events) next) pushed
+      subst (λ (es : List Event). Ran Done es s end) (sym more ∙ ap (λ (k : ℕ). take k events) next) pushed

@@ -8,8 +8,9 @@ use Rattle.std.proofs.lemmas.Bool.{false_from_ne_true, true≢false, or_right}
 use Rattle.std.specs.List.{AllByRecursion}
 use Rattle.std.proofs.lemmas.List.{append-nil, append_assoc, map-append, take_more}
 use Rattle.std.proofs.lemmas.List.Elements.{Contains-push_cases, Contains-append_right}
-use Rattle.std.proofs.Common.{◌++◌, ◌∷◌, length-append, ◌≡◌, ℕ, ◌<◌, ◌+◌, true, false, suc, zero, List, [], map, length, take, get_or, slice_get, Option, Some, None, MatchOption, Contains, ◌⊎◌, inl, inr, refl, ap, sym, ◌∙◌, subst, nat_eq, arith}
-use Rattle.std.specs.Option.{option_map, SomeIff}
+use Rattle.std.proofs.Common.{◌++◌, ◌∷◌, length-append, ◌≡◌, ℕ, ◌<◌, ◌+◌, true, false, suc, zero, List, [], map, length, take, get_or, slice_get, Option, Some}
+use Rattle.std.proofs.Common.{None, MatchOption, Contains, ◌⊎◌, inl, inr, refl, ap, sym, ◌∙◌, subst, nat_eq, arith}
+use Rattle.std.specs.Option.{IsSome, option_map, SomeIff}
 use Rattle.std.specs.Cmp.{unsigned_Decides}
 use Rattle.std.specs.Cmp.Lexicographic.{pointwise, pointwise_decides}
 use Rattle.std.proofs.lemmas.Option.{slice_get-get_or, slice_get-map, slice_get_read, slice_get_within, get_or_from_slice_get}
@@ -23,7 +24,8 @@ module _ {S : Type 0} (f : S → Bytes) (ss : List S) (p : ℕ) (s : S) (t name 
       let same : t ≡ name = sym (get_or_from_slice_get (map f ss) p t [] at_place) ∙ e in
       true≢false (sym ((pointwise_decides unsigned_Decides t name).1 same) ∙ other)
 
-  pub here : (o : Option ℕ) → length ss < 9 → SomeIff o (p < 8) p → pointwise nat_eq t name ≡ true → MatchOption o (Contains (map f ss) name → ⊥) (λ loc. slice_get (map f ss) loc ≡ Some name)
+  pub here : (o : Option ℕ) → length ss < 9 → SomeIff o (p < 8) p → pointwise nat_eq t name ≡ true
+      → MatchOption o (Contains (map f ss) name → ⊥) (λ loc. slice_get (map f ss) loc ≡ Some name)
   here None few h same = absurd (h (omega arith))
   here (Some loc) few h same =
       subst (λ (i : ℕ). slice_get (map f ss) i ≡ Some name) (sym h.1) (at_place ∙ ap Some ((pointwise_decides unsigned_Decides t name).0 same))
@@ -46,11 +48,14 @@ pub names_more : {S : Type 0} (f : S → Bytes) (ss ts : List S) (s : S) (name :
 names_more f ss ts s name more text = ap (map f) more ∙ map-append f ss (s ∷ []) ∙ ap (λ n. map f ss ++ n ∷ []) text
 
 -- a list that is copied item by item, up to and with an item
-pub copied_more : {S : Type 0} (f : S → Bytes) (us ss ts : List S) (s t : S) (k : ℕ) → k < length us → map f ss ≡ map f (take k us) → ts ≡ ss ++ s ∷ [] → f s ≡ f t → t ≡ get_or us k t → map f ts ≡ map f (take (k + 1) us)
+pub copied_more : {S : Type 0} (f : S → Bytes) (us ss ts : List S) (s t : S) (k : ℕ) → k < length us → map f ss ≡ map f (take k us) → ts ≡ ss ++ s ∷ []
+    → f s ≡ f t → t ≡ get_or us k t → map f ts ≡ map f (take (k + 1) us)
 copied_more f us ss ts s t k lt done more same is =
-    names_more f ss ts s (f t) more same ∙ ap (λ ns. ns ++ f t ∷ []) done ∙ sym (ap (map f) (take_more us k t lt) ∙ map-append f (take k us) (get_or us k t ∷ []) ∙ ap (λ x. map f (take k us) ++ f x ∷ []) (sym is))
+    names_more f ss ts s (f t) more same ∙ ap (λ ns. ns ++ f t ∷ []) done ∙ sym
+    (ap (map f) (take_more us k t lt) ∙ map-append f (take k us) (get_or us k t ∷ []) ∙ ap (λ x. map f (take k us) ++ f x ∷ []) (sym is))
 
-pub table_more : (names : NameTable) (name : Bytes) → length names < 8 → IsLocation name → (Contains names name → ⊥) → IsTable names → IsTable (names ++ name ∷ [])
+pub table_more : (names : NameTable) (name : Bytes) → length names < 8 → IsLocation name → (Contains names name → ⊥) → IsTable names
+    → IsTable (names ++ name ∷ [])
 table_more names name few is fresh table =
     record {
       few = omega (arith, length-append names (name ∷ []));
@@ -62,6 +67,10 @@ table_more names name few is fresh table =
 pub last_place : (o : Option ℕ) (p at n : ℕ) → SomeIff o (p < 8) p → p ≡ n → n < 8 → o ≡ Some at → at ≡ n
 last_place None p at n is e few same = absurd (is (omega arith))
 last_place (Some loc) p at n is e few same = let h : loc ≡ at = cc in sym h ∙ is.1 ∙ e
+
+pub has_place : (o : Option ℕ) (p n : ℕ) → SomeIff o (p < 8) p → p ≡ n → n < 8 → IsSome o
+has_place None p n is e few = absurd (is (omega arith))
+has_place (Some loc) p n is e few = refl
 
 same_bytes : (a b : Bytes) → a ≡ b → bytes_eq a b ≡ true
 same_bytes a b e = (pointwise_decides unsigned_Decides a b).1 e
@@ -80,7 +89,11 @@ contains_name-Contains (m ∷ names) n h = go h.0 h.1 h.2 (contains_name-Contain
 
 contains_name-not : (names : NameTable) (n : Bytes) → (Contains names n → ⊥) → contains_name names n ≡ false
 contains_name-not [] n h = refl
-contains_name-not (m ∷ names) n h = rw (other_bytes m n (λ e. h (0, omega arith, e)), contains_name-not names n (λ k. h (Contains-append_right (m ∷ []) names n k))) refl
+contains_name-not (m ∷ names) n h = rw (
+  other_bytes m n (λ e. h (0, omega arith, e)),
+  contains_name-not names n
+      (λ k. h (Contains-append_right (m ∷ []) names n k)),
+) refl
 
 pub with_name-there : (names : NameTable) (n : Bytes) (l : ℕ) → slice_get names l ≡ Some n → with_name names n ≡ names
 with_name-there names n l at = rw (contains_name-Contains names n (l, slice_get_within names l n at, get_or_from_slice_get names l n n at)) refl
@@ -101,7 +114,8 @@ index_of-again names once x h = index_of-at names (get_or names x []) x once (sl
 pub index_of-new : (names : NameTable) (n : Bytes) → (Contains names n → ⊥) → index_of (names ++ n ∷ []) n ≡ length names
 index_of-new [] n fresh = rw (same_bytes n n refl) refl
 index_of-new (m ∷ names) n fresh =
-    rw (other_bytes m n (λ e. fresh (0, omega arith, e))) (ap (λ (k : ℕ). 1 + k) (index_of-new names n (λ k. fresh (Contains-append_right (m ∷ []) names n k))) ∙ omega arith)
+    rw (other_bytes m n (λ e. fresh (0, omega arith, e))) (ap (λ (k : ℕ). 1 + k)
+    (index_of-new names n (λ k. fresh (Contains-append_right (m ∷ []) names n k))) ∙ omega arith)
 
 -- the name stands at a place of the table
 abbrev pub IsInTable : NameTable → Bytes → Type 0
@@ -118,7 +132,8 @@ not_before [] ns n once there = let k : there.0 < 0 = there.1 in absurd (omega a
 not_before (b ∷ before) ns n once there = at there.0 there.1 there.2 (not_before before ns n once.1)
   where
     at : (k : ℕ) → k < length (b ∷ before) → get_or (b ∷ before) k n ≡ n → (Contains before n → ⊥) → ⊥
-    at zero lt e further = once.0 (subst (λ (m : Bytes). Contains (before ++ (n ∷ ns)) m) (sym e) (Contains-append_right before (n ∷ ns) n (0, omega arith, refl)))
+    at zero lt e further = once.0 (subst (λ (m : Bytes). Contains (before ++ (n ∷ ns)) m) (sym e)
+        (Contains-append_right before (n ∷ ns) n (0, omega arith, refl)))
     at (suc k) lt e further = further (k, omega (arith, lt), e)
 
 -- names that each appear once are put last one by one
@@ -126,7 +141,8 @@ with_names-new : (before ns : NameTable) → EachOnce (before ++ ns) → with_na
 with_names-new before [] once = sym (append-nil before)
 with_names-new before (n ∷ ns) once =
     let e : before ++ (n ∷ ns) ≡ (before ++ n ∷ []) ++ ns = sym (append_assoc before (n ∷ []) ns) in
-    ap (λ (t : NameTable). with_names t ns) (with_name-new before n (not_before before ns n once)) ∙ with_names-new (before ++ n ∷ []) ns (subst EachOnce e once) ∙ sym e
+    ap (λ (t : NameTable). with_names t ns) (with_name-new before n (not_before before ns n once)) ∙ with_names-new (before ++ n ∷ []) ns
+    (subst EachOnce e once) ∙ sym e
 
 -- a table's own names make it
 pub with_names-again : (names : NameTable) → EachOnce names → with_names [] names ≡ names

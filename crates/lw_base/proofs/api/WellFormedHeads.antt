@@ -8,7 +8,7 @@ use Rattle.lw_base.specs.declared.head.Seen.TheVariants.{Register, Location}
 use Rattle.lw_base.specs.Formula.{Formula, Yes, No, Reg_is, Word_is, Not, And, Or}
 use Rattle.lw_base.specs.Heads.{TestHead, with_table}
 use Rattle.lw_base.specs.Names.{IsTable}
-use Rattle.lw_base.specs.WellFormed.{IsSeen, IsWord, SpeaksOf, IsWellFormedHead}
+use Rattle.lw_base.specs.WellFormed.{IsSeen, IsWordNumber, SpeaksOf, IsWellFormedHead}
 
 seen_more : (threads few more : ℕ) → few ≤ more → (s : Seen) → IsSeen threads few s → IsSeen threads more s
 seen_more threads few more le (Register t r) h = h
@@ -28,12 +28,13 @@ speaks_more threads few more le (And p q) h = (speaks_more threads few more le p
 speaks_more threads few more le (Or p q) h = (speaks_more threads few more le p h.0, speaks_more threads few more le q h.1)
 
 -- Words, and 0 for each location that is new.
-words_more : (ws : List ℕ) (n : ℕ) → AllByRecursion IsWord ws → AllByRecursion IsWord (ws ++ replicate n 0)
+words_more : (ws : List ℕ) (n : ℕ) → AllByRecursion IsWordNumber ws → AllByRecursion IsWordNumber (ws ++ replicate n 0)
 words_more [] zero h = tt
 words_more [] (suc n) h = (omega arith, words_more [] n tt)
 words_more (w ∷ ws) n h = (h.0, words_more ws n h.1)
 
-pub with_table-well_formed : (head : TestHead) (names : List (List ℕ)) → IsWellFormedHead head → IsTable names → length head.locs ≤ length names → IsWellFormedHead (with_table head names)
+pub with_table-well_formed : (head : TestHead) (names : List (List ℕ)) → IsWellFormedHead head → IsTable names → length head.locs ≤ length names
+    → IsWellFormedHead (with_table head names)
 with_table-well_formed head names h table le =
     record {
       name = h.name;
@@ -43,7 +44,13 @@ with_table-well_formed head names h table le =
       regs = h.regs;
       six = h.six;
       register_words = h.register_words;
-      words = omega (arith, h.words, length-append head.init_words (replicate (length names - length head.locs) 0), length-replicate {A = ℕ} (length names - length head.locs) 0);
+      words = omega (
+        arith,
+        h.words,
+        length-append head.init_words (replicate (length names - length head.locs) 0),
+        length-replicate {A = ℕ}
+            (length names - length head.locs) 0,
+      );
       location_words = words_more head.init_words (length names - length head.locs) h.location_words;
       there = all_seen_more head.threads (length head.locs) (length names) le head.listed h.there;
       ascending = h.ascending;

@@ -7,18 +7,21 @@ use Rattle.std.specs.Prelude.{Result, Ok, Err, OnOk, is_ok, if◌then◌else◌}
 use Rattle.lw_base.specs.Types.{Bytes}
 
 -- a text, and then another
-pub then_written : {T E : Type 0} (answer : Result T E) (start mid end first second whole : Bytes) → mid ≡ start ++ first → first ++ second ≡ whole → OnOk answer (end ≡ mid ++ second) → OnOk answer (end ≡ start ++ whole)
+pub then_written : {T E : Type 0} (answer : Result T E) (start mid end first second whole : Bytes) → mid ≡ start ++ first → first ++ second ≡ whole
+    → OnOk answer (end ≡ mid ++ second) → OnOk answer (end ≡ start ++ whole)
 then_written (Err x) start mid end first second whole before together written = tt
 then_written (Ok x) start mid end first second whole before together written =
     written ∙ ap (λ t. t ++ second) before ∙ append_assoc start first second ∙ ap (λ t. start ++ t) together
 
 -- what `push_str` says
-pub pushed : {T E : Type 0} (answer : Result T E) (start end text : Bytes) → end ≡ (if is_ok answer then start ++ text else start) → OnOk answer (end ≡ start ++ text)
+pub pushed : {T E : Type 0} (answer : Result T E) (start end text : Bytes) → end ≡ (if is_ok answer then start ++ text else start)
+    → OnOk answer (end ≡ start ++ text)
 pushed (Err x) start end text told = tt
 pushed (Ok x) start end text told = told
 
 -- a text by another name
-pub written_as : {T E : Type 0} (answer : Result T E) (start end text whole : Bytes) → text ≡ whole → OnOk answer (end ≡ start ++ text) → OnOk answer (end ≡ start ++ whole)
+pub written_as : {T E : Type 0} (answer : Result T E) (start end text whole : Bytes) → text ≡ whole → OnOk answer (end ≡ start ++ text)
+    → OnOk answer (end ≡ start ++ whole)
 written_as (Err x) start end text whole same written = tt
 written_as (Ok x) start end text whole same written = written ∙ ap (λ t. start ++ t) same
 

@@ -17,5 +17,6 @@ returns-in-Drain g c =
 pub returns-in-Evict : goal.returns-in-Evict
 returns-in-Evict g c =
     written_as c.write-in-Evict.result _ _ _ _
-    (evict_word c.args.names.now c.args.event.now c.in-Evict.cpu c.in-Evict.loc c.index-in-Evict.result c.name.result.now c.in-Evict.is c.index-in-Evict.ensures.value c.name.ensures c.requires)
+    (evict_word c.args.names.now c.args.event.now c.in-Evict.cpu c.in-Evict.loc c.index-in-Evict.result c.name.result.now c.in-Evict.is
+    c.index-in-Evict.ensures.value c.name.ensures c.requires)
     c.write-in-Evict.ensures.bytes
