@@ -1,12 +1,12 @@
 -- Caches go on keeping their protocol, line by line.
-use Rattle.std.proofs.Common.{◌≡◌, ℕ, suc, zero, ◌<◌, ◌≤◌, List, [], ◌∷◌, length, set, get_or, Result, Ok, Err, is_ok, OnOk, OnErr, refl, sym, ap, ◌∙◌, subst, arith, length-set}
+use Rattle.std.proofs.Common.{◌≡◌, ℕ, suc, zero, ◌<◌, ◌≤◌, List, [], ◌∷◌, length, set, get_or, Result, Ok, Err, is_ok, OnOk, OnErr, refl, sym, ap, ◌∙◌, subst}
+use Rattle.std.proofs.Common.{arith, length-set}
 use Rattle.std.proofs.lemmas.List.{length-map}
 use Rattle.lw_memory.specs.Memory.{is_held}
 use Rattle.lw_mesi.specs.declared.protocol.Protocol.{Protocol}
 use Rattle.lw_mesi.specs.CacheLines.{CacheLine, Caches, unheld_line, copy_of, letter_of, line_at, content_of, contents_of}
 use Rattle.lw_mesi.specs.Snooping.{line_evicted}
-use Rattle.lw_mesi.specs.Protocols.{table_of}
-use Rattle.lw_mesi.specs.Coherence.{HasStatesOf, IsKeptLine, IsKept}
+use Rattle.lw_mesi.specs.Coherence.{IsKeptLine, IsKept}
 use Rattle.lw_mesi.specs.laws.ProtocolLaws.{set_kept, kept_line, evict_kept}
 
 any_default : {A : Type 0} (xs : List A) (i : ℕ) (c d : A) → i < length xs → get_or xs i c ≡ get_or xs i d
@@ -38,7 +38,7 @@ still_kept p m now t x i before after same ok cpu loc place found keeps few =
 -- An eviction keeps a line, whether it succeeds or is refused.
 pub still_evicted : {E : Type 0} (p : Protocol) (r : Result (Unit {0}) E) (t : ℕ) (before after : CacheLine)
     → t < 4 → IsKeptLine p before → is_ok r ≡ is_held (letter_of (copy_of before t))
-    → OnOk r ((p : Protocol) → HasStatesOf p before → after ≡ line_evicted (table_of p) t before) → OnErr r (after ≡ before)
+    → OnOk r (after ≡ line_evicted t before) → OnErr r (after ≡ before)
     → IsKeptLine p after
-still_evicted p (Ok a) t before after lt s held ok err = subst (IsKeptLine p) (sym (ok p s.states)) (evict_kept p t before lt s (sym held))
+still_evicted p (Ok a) t before after lt s held ok err = subst (IsKeptLine p) (sym ok) (evict_kept p t before lt s (sym held))
 still_evicted p (Err e) t before after lt s held ok err = subst (IsKeptLine p) (sym err) s

@@ -5,7 +5,7 @@ use Rattle.lw_mesi.specs.declared.protocol.Protocol.{Protocol}
 use Rattle.lw_mesi.specs.declared.protocol.Protocol.TheVariants.{Mesi, Moesi}
 use Rattle.lw_mesi.specs.CacheLines.{Copy, Modified, Owned, Exclusive, Shared, Invalid, CacheLine, copy_of, letter_of}
 use Rattle.lw_mesi.specs.inner.Places.{nobody}
-use Rattle.lw_mesi.specs.Snooping.{line_to_read, line_written, line_evicted}
+use Rattle.lw_mesi.specs.Snooping.{line_to_read, line_written, on_evict, line_evicted}
 use Rattle.lw_mesi.specs.Protocols.{table_of}
 use Rattle.lw_mesi.specs.Coherence.{IsStateOf, HasStatesOf}
 use Rattle.lw_mesi.specs.declared.cache_line.PackedCacheLine.TheInside.{Inside}
@@ -87,36 +87,28 @@ abbrev one_holder : ℕ → ℕ → ℕ → Inside
 one_holder t w m = record { owner = Some t; is_dirty = true; is_owned = false; sharers = nobody; word = w; memory = m }
 
 pub write_only : (p : Inside) (t w : ℕ)
-    → IsPacked p → t < 4 → (q : Protocol) → HasStatesOf q (unpacked p)
-    → unpacked (one_holder t w p.memory) ≡ line_written (table_of q) t w (unpacked p)
-write_only p t w ok lt Mesi states =
-    let e = mesi_unowned p ok states in
-    at_four (λ t. unpacked (one_holder t w p.memory) ≡ line_written (table_of Mesi) t w (unpacked p))
-    (grind arith) (grind arith) (grind arith) (grind arith)
-    t lt
-write_only p t w ok lt Moesi states =
-    at_four (λ t. unpacked (one_holder t w p.memory) ≡ line_written (table_of Moesi) t w (unpacked p))
+    → IsPacked p → t < 4 → unpacked (one_holder t w p.memory) ≡ line_written t w (unpacked p)
+write_only p t w ok lt =
+    at_four (λ t. unpacked (one_holder t w p.memory) ≡ line_written t w (unpacked p))
     (grind arith) (grind arith) (grind arith) (grind arith)
     t lt
 
--- A sharer's row says the same in both tables.
-shared_row : (q : Protocol) (c : Copy) (t : ℕ) (line : CacheLine)
-    → letter_of c ≡ S → (table_of q).on_evict c t line ≡ record { copies = set line.copies t Invalid; memory = line.memory }
-shared_row q (Modified w) t line e = cc
-shared_row q (Owned w) t line e = cc
-shared_row q (Exclusive w) t line e = cc
-shared_row Mesi (Shared w) t line e = refl
-shared_row Moesi (Shared w) t line e = refl
-shared_row q Invalid t line e = cc
+shared_row : (c : Copy) (t : ℕ) (line : CacheLine)
+    → letter_of c ≡ S → on_evict c t line ≡ record { copies = set line.copies t Invalid; memory = line.memory }
+shared_row (Modified w) t line e = cc
+shared_row (Owned w) t line e = cc
+shared_row (Exclusive w) t line e = cc
+shared_row (Shared w) t line e = refl
+shared_row Invalid t line e = cc
 
 -- An eviction takes a sharer out.
-pub sharer_gone : (p : Inside) (t : ℕ) (q : Protocol)
+pub sharer_gone : (p : Inside) (t : ℕ)
     → IsPacked p → t < 4 → letter_of (copy_of (unpacked p) t) ≡ S
-    → unpacked (record p { sharers = set p.sharers t false }) ≡ line_evicted (table_of q) t (unpacked p)
-sharer_gone p t q ok lt shared =
+    → unpacked (record p { sharers = set p.sharers t false }) ≡ line_evicted t (unpacked p)
+sharer_gone p t ok lt shared =
     let four = four_are p.sharers ok.four in
     at_four (λ t. letter_of (copy_of (unpacked p) t) ≡ S
     → unpacked (record p { sharers = set p.sharers t false }) ≡ record { copies = set (unpacked p).copies t Invalid; memory = p.memory })
     (λ e. grind arith) (λ e. grind arith) (λ e. grind arith) (λ e. grind arith)
     t lt shared
-    ∙ sym (shared_row q (copy_of (unpacked p) t) t (unpacked p) shared)
+    ∙ sym (shared_row (copy_of (unpacked p) t) t (unpacked p) shared)

@@ -4,7 +4,7 @@ use Rattle.lw_base.specs.Limits.{most_threads}
 use Rattle.lw_memory.specs.MemoryLaws.{Invariant, invariant_of}
 use Rattle.lw_mesi.specs.declared.protocol.Protocol.{Protocol}
 use Rattle.lw_mesi.specs.declared.protocol.Protocol.TheVariants.{Mesi, Moesi}
-use Rattle.lw_mesi.specs.CacheLines.{Copy, Modified, Owned, Exclusive, Shared, Invalid, CacheLine, Caches, copy_of, word_of, line_at, content_of}
+use Rattle.lw_mesi.specs.CacheLines.{Copy, Modified, Owned, Exclusive, Shared, Invalid, CacheLine, Caches, copy_of, copy_word, line_at, content_of}
 
 -- M and E: the one copy there may be.
 abbrev pub IsOnlyCopy : Copy → Type 0
@@ -30,7 +30,7 @@ pub record IsCoherentCacheLine (line : CacheLine) : Type 0 where
   -- at most one copy is M or O
   pub one_dirty : (t u : ℕ) → IsDirty (copy_of line t) → IsDirty (copy_of line u) → t ≡ u
   -- every copy holds the content
-  pub same_word : (t w : ℕ) → word_of (copy_of line t) ≡ Some w → w ≡ content_of line
+  pub same_word : (t w : ℕ) → copy_word (copy_of line t) ≡ Some w → w ≡ content_of line
 
 -- The same of every location.
 pub record IsCoherent (m : Caches) : Type 0 where

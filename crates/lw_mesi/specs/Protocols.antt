@@ -1,16 +1,24 @@
--- The protocols by name: each one's table, and the memory system that caches by it are.
+-- The protocols by name: the column of each one's table that is its own, and the memory system that caches by it are.
+-- The source is as in Snooping, and so is how a row is told.
 use Rattle.lw_mesi.specs.declared.protocol.Protocol.{Protocol}
 use Rattle.lw_mesi.specs.declared.protocol.Protocol.TheVariants.{Mesi, Moesi}
 use Rattle.lw_memory.specs.Memory.{Memory, memory_of}
-use Rattle.lw_mesi.specs.CacheLines.{Caches, contents_of, state_in}
+use Rattle.lw_mesi.specs.CacheLines.{Copy, Modified, Owned, Exclusive, Shared, Caches, content_of, contents_of, state_in}
 use Rattle.lw_mesi.specs.Snooping.{ProtocolTable, Serves}
-use Rattle.lw_mesi.specs.MesiTable.{mesi}
-use Rattle.lw_mesi.specs.MoesiTable.{moesi}
+
+abbrev pub mesi_on_other_get_s : Copy → Copy  -- MESI: what another cache's GetS makes of a copy.
+mesi_on_other_get_s (Modified w) = Shared w  -- send data to requestor and memory / S
+mesi_on_other_get_s (Exclusive w) = Shared w  -- send data to requestor and memory / S (memory has this word already)
+mesi_on_other_get_s other = other  -- S, I: / the same
+
+abbrev pub moesi_on_other_get_s : Copy → Copy  -- MOESI: the same. Memory isn't written.
+moesi_on_other_get_s (Modified w) = Owned w  -- send data to requestor / O
+moesi_on_other_get_s (Exclusive w) = Shared w  -- send data to requestor and memory / S (memory has this word already)
+moesi_on_other_get_s other = other  -- O: send data to requestor / O; S, I: / the same
 
 abbrev pub table_of : Protocol → ProtocolTable
-table_of Mesi = mesi
-table_of Moesi = moesi
+table_of Mesi = record { on_other_get_s = mesi_on_other_get_s; memory_after_get_s = content_of }
+table_of Moesi = record { on_other_get_s = moesi_on_other_get_s; memory_after_get_s = λ line. line.memory }
 
--- The memory system of the caches' states.
-abbrev pub caches_by : Protocol → Memory Caches
+abbrev pub caches_by : Protocol → Memory Caches  -- The memory system of the caches' states.
 caches_by p = memory_of contents_of state_in (Serves (table_of p))

@@ -1,79 +1,89 @@
--- What caches that snoop on an atomic bus make of a request, whatever stands in their protocol's table. A request and its
--- whole bus transaction are one act, so stable states suffice.
-use Rattle.std.specs.Prelude.{◌≡◌, ℕ, List, [], ◌∷◌, length, Option, None, Bool, true, false, slice_set}
+-- What caches that snoop on an atomic bus make of a request. A request and its whole bus transaction are one act, so stable
+-- states suffice. After Sorin, Hill and Wood, 'A Primer on Memory Consistency and Cache Coherence', the chapter on snooping:
+-- beside each row stands what its tables say there, as 'what is sent / the next state'. The tables of MESI and MOESI differ in
+-- what another cache's GetS does alone, which stands in Protocols; O is never met under MESI.
+use Rattle.std.specs.Prelude.{◌≡◌, ℕ, List, [], ◌∷◌, length, map, Option, None, Bool, true, false, slice_set}
+use Rattle.std.specs.List.{list_any}
 use Rattle.lw_base.specs.Sums.{sum_of}
 use Rattle.lw_memory.specs.declared.system.Request.{Request}
 use Rattle.lw_memory.specs.declared.system.Request.TheVariants.{Load, Store, Swap, FetchAdd, Evict}
-use Rattle.lw_memory.specs.Memory.{IsInRange, IsPossible}
-use Rattle.lw_mesi.specs.CacheLines.{Copy, Modified, Owned, Exclusive, Shared, Invalid, CacheLine, Caches, copy_of, line_at, word_of, content_of, state_in}
+use Rattle.lw_memory.specs.Memory.{IsInRange, IsPossible, is_held}
+use Rattle.lw_mesi.specs.CacheLines.{Copy, Modified, Owned, Exclusive, Shared, Invalid, CacheLine, Caches, copy_of, letter_of, line_at, copy_word, content_of}
+use Rattle.lw_mesi.specs.CacheLines.{state_in}
 
--- A protocol's table, by the own copy: the line from which a load takes its word, the line in which a write finds the old
--- word, and the line after a replacement.
-pub record ProtocolTable : Type 0 where
-  pub on_load : Copy → ℕ → CacheLine → CacheLine
-  pub on_write : Copy → ℕ → CacheLine → CacheLine
-  pub on_evict : Copy → ℕ → CacheLine → CacheLine
+pub record ProtocolTable : Type 0 where  -- The column in which the protocols' tables differ.
+  pub on_other_get_s : Copy → Copy  -- what another cache's GetS makes of a copy
+  pub memory_after_get_s : CacheLine → ℕ  -- the word that memory has after it
 
--- Whether some cache holds the line.
-abbrev pub any_held : List Copy → Bool
-any_held [] = false
-any_held (Modified w ∷ copies) = true
-any_held (Owned w ∷ copies) = true
-any_held (Exclusive w ∷ copies) = true
-any_held (Shared w ∷ copies) = true
-any_held (Invalid ∷ copies) = any_held copies
+abbrev pub any_held : List Copy → Bool  -- Whether some cache holds the line.
+any_held copies = list_any (λ c. is_held (letter_of c)) copies
 
--- The copy that data makes after a GetS: in S if some other cache holds the line, else in E.
-abbrev pub copy_from : Bool → ℕ → Copy
+abbrev pub copy_from : Bool → ℕ → Copy  -- The copy that data makes after a GetS: in S if some other cache holds the line, else in E.
 copy_from true w = Shared w
 copy_from false w = Exclusive w
 
--- The line from which a processor's load takes its word.
-abbrev pub line_to_read : ProtocolTable → ℕ → CacheLine → CacheLine
-line_to_read table t line = table.on_load (copy_of line t) t line
+abbrev pub get_s : ProtocolTable → ℕ → CacheLine → CacheLine  -- GetS of a processor without a copy: the content goes to the requestor.
+get_s table t line = record {
+  copies = slice_set (map table.on_other_get_s line.copies) t (copy_from (any_held line.copies) (content_of line));
+  memory = table.memory_after_get_s line;
+}
 
--- The line in which a processor's write finds the old word.
-abbrev pub line_to_write : ProtocolTable → ℕ → CacheLine → CacheLine
-line_to_write table t line = table.on_write (copy_of line t) t line
+-- GetM: every other copy is given up, and the content is the requestor's in M. Memory isn't written.
+abbrev pub get_m : ℕ → CacheLine → CacheLine
+get_m t line = record { copies = slice_set (map (λ c. Invalid) line.copies) t (Modified (content_of line)); memory = line.memory }
 
--- The write itself, which leaves the copy in M.
-abbrev pub line_with_word : ℕ → ℕ → CacheLine → CacheLine
+abbrev pub on_load : ProtocolTable → Copy → ℕ → CacheLine → CacheLine  -- A load, by the own copy: the line that is read from.
+on_load table Invalid t line = get_s table t line  -- issue GetS / S or E
+on_load table held t line = line  -- M, O, E, S: hit / the same
+
+abbrev pub on_write : Copy → ℕ → CacheLine → CacheLine  -- A write, by the own copy: the line that is written to.
+on_write (Modified w) t line = line  -- hit / M
+on_write (Exclusive w) t line = line  -- hit / M
+on_write other t line = get_m t line  -- O, S, I: issue GetM / M
+
+abbrev pub on_evict : Copy → ℕ → CacheLine → CacheLine  -- A replacement, by the own copy.
+on_evict (Modified w) t line = record { copies = slice_set line.copies t Invalid; memory = w }  -- send data to memory / I
+on_evict (Owned w) t line = record { copies = slice_set line.copies t Invalid; memory = w }  -- send data to memory / I
+on_evict Invalid t line = line  -- refused
+on_evict other t line = record { copies = slice_set line.copies t Invalid; memory = line.memory }  -- E, S: send no data / I
+
+abbrev pub line_to_read : ProtocolTable → ℕ → CacheLine → CacheLine  -- The line from which a processor's load takes its word.
+line_to_read table t line = on_load table (copy_of line t) t line
+
+abbrev pub line_to_write : ℕ → CacheLine → CacheLine  -- The line in which a processor's write finds the old word.
+line_to_write t line = on_write (copy_of line t) t line
+
+abbrev pub line_with_word : ℕ → ℕ → CacheLine → CacheLine  -- The write itself, which leaves the copy in M.
 line_with_word t w line = record { copies = slice_set line.copies t (Modified w); memory = line.memory }
 
--- The line after a processor's write.
-abbrev pub line_written : ProtocolTable → ℕ → ℕ → CacheLine → CacheLine
-line_written table t w line = line_with_word t w (line_to_write table t line)
+abbrev pub line_written : ℕ → ℕ → CacheLine → CacheLine  -- The line after a processor's write.
+line_written t w line = line_with_word t w (line_to_write t line)
 
--- The line after a processor's replacement.
-abbrev pub line_evicted : ProtocolTable → ℕ → CacheLine → CacheLine
-line_evicted table t line = table.on_evict (copy_of line t) t line
+abbrev pub line_evicted : ℕ → CacheLine → CacheLine  -- The line after a processor's replacement.
+line_evicted t line = on_evict (copy_of line t) t line
 
--- The location of a request.
-abbrev pub loc_of : Request → ℕ
+abbrev pub loc_of : Request → ℕ  -- The location of a request.
 loc_of (Load t x) = x
 loc_of (Store t x w) = x
 loc_of (Swap t x w) = x
 loc_of (FetchAdd t x w) = x
 loc_of (Evict t x) = x
 
--- The line of the request's location after it.
-abbrev pub line_after : ProtocolTable → Request → CacheLine → CacheLine
+abbrev pub line_after : ProtocolTable → Request → CacheLine → CacheLine  -- The line of the request's location after it.
 line_after table (Load t x) line = line_to_read table t line
-line_after table (Store t x w) line = line_written table t w line
-line_after table (Swap t x w) line = line_written table t w line
-line_after table (FetchAdd t x w) line = line_written table t (sum_of (content_of line) w) line
-line_after table (Evict t x) line = line_evicted table t line
+line_after table (Store t x w) line = line_written t w line
+line_after table (Swap t x w) line = line_written t w line
+line_after table (FetchAdd t x w) line = line_written t (sum_of (content_of line) w) line
+line_after table (Evict t x) line = line_evicted t line
 
 -- The answer, where the request has one: of a swap and a fetch-and-add it is the word from before the write.
 abbrev pub answer_from : ProtocolTable → Request → CacheLine → Option ℕ
-answer_from table (Load t x) line = word_of (copy_of (line_to_read table t line) t)
-answer_from table (Store t x w) line = None
-answer_from table (Swap t x w) line = word_of (copy_of (line_to_write table t line) t)
-answer_from table (FetchAdd t x w) line = word_of (copy_of (line_to_write table t line) t)
-answer_from table (Evict t x) line = None
+answer_from table (Load t x) line = copy_word (copy_of (line_to_read table t line) t)
+answer_from table (Swap t x w) line = copy_word (copy_of (line_to_write t line) t)
+answer_from table (FetchAdd t x w) line = copy_word (copy_of (line_to_write t line) t)
+answer_from table other line = None
 
--- All lines after a request.
-abbrev pub caches_after : ProtocolTable → Request → Caches → Caches
+abbrev pub caches_after : ProtocolTable → Request → Caches → Caches  -- All lines after a request.
 caches_after table r m =
     record { cpus = m.cpus; lines = slice_set m.lines (loc_of r) (line_after table r (line_at m.lines (loc_of r))) }
 

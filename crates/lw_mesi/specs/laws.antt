@@ -1,6 +1,5 @@
 -- Proofs that an impl cites.
 pub mod Coherent
 pub mod Rows
-pub mod MesiRows
-pub mod MoesiRows
+pub mod ProtocolRows
 pub mod ProtocolLaws

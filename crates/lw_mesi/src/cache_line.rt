@@ -2,8 +2,7 @@
 ghost use Rattle.std.specs.Prelude.{◌≡◌, ◌<◌, Some, is_ok, OnOk, OnErr};
 ghost use Rattle.lw_base.specs.Limits.{most_threads};
 ghost use Rattle.lw_memory.specs.Memory.{is_held};
-ghost use Rattle.lw_mesi.specs.CacheLines.{Invalid, unheld_line, copy_of, letter_of, word_of, content_of};
-ghost use Rattle.lw_mesi.specs.declared.protocol.Protocol.{Protocol};
+ghost use Rattle.lw_mesi.specs.CacheLines.{Invalid, unheld_line, copy_of, letter_of, copy_word, content_of};
 ghost use Rattle.lw_mesi.specs.Snooping.{line_to_read, line_to_write, line_written, line_evicted};
 ghost use Rattle.lw_mesi.specs.Protocols.{table_of};
 ghost use Rattle.lw_mesi.specs.Coherence.{HasStatesOf};
@@ -93,7 +92,7 @@ impl PackedCacheLine {
     /// The word of a processor's copy, where it has one.
     pub(crate) fn copy(&self, cpu: Cpu) -> Option<Word>
         requires { cpu < most_threads }
-        ensures { result ≡ word_of (copy_of self.now cpu) }
+        ensures { result ≡ copy_word (copy_of self.now cpu) }
     {
         if is_owner(self.owner, cpu) || self.sharers.contains(cpu) {
             Some(self.word)
@@ -106,7 +105,7 @@ impl PackedCacheLine {
     pub(crate) fn load(&mut self, protocol: Protocol, cpu: Cpu) -> Word
         requires cpu { cpu < most_threads }
         requires states { HasStatesOf protocol self.old }
-        ensures word { Some result ≡ word_of (copy_of (line_to_read (table_of protocol) cpu self.old) cpu) }
+        ensures word { Some result ≡ copy_word (copy_of (line_to_read (table_of protocol) cpu self.old) cpu) }
         ensures line { self.new ≡ line_to_read (table_of protocol) cpu self.old }
     {
         match self.copy(cpu) {
@@ -120,7 +119,7 @@ impl PackedCacheLine {
         requires cpu { cpu < most_threads }
         requires states { HasStatesOf protocol self.old }
         requires without { copy_of self.old cpu ≡ Invalid }
-        ensures word { Some result ≡ word_of (copy_of (line_to_read (table_of protocol) cpu self.old) cpu) }
+        ensures word { Some result ≡ copy_word (copy_of (line_to_read (table_of protocol) cpu self.old) cpu) }
         ensures line { self.new ≡ line_to_read (table_of protocol) cpu self.old }
     {
         let word = self.word;
@@ -149,10 +148,8 @@ impl PackedCacheLine {
     /// Writes a word, and answers the one that it replaces. The writer becomes the only holder, in M.
     pub(crate) fn write(&mut self, cpu: Cpu, word: Word) -> Word
         requires { cpu < most_threads }
-        ensures word { (p : Protocol) → HasStatesOf p self.old
-            → Some result ≡ word_of (copy_of (line_to_write (table_of p) cpu self.old) cpu) }
-        ensures line { (p : Protocol) → HasStatesOf p self.old
-            → self.new ≡ line_written (table_of p) cpu word self.old }
+        ensures word { Some result ≡ copy_word (copy_of (line_to_write cpu self.old) cpu) }
+        ensures line { self.new ≡ line_written cpu word self.old }
     {
         let old = self.word;
         self.owner = Some(cpu);
@@ -167,7 +164,7 @@ impl PackedCacheLine {
     pub(crate) fn evict(&mut self, cpu: Cpu) -> Result<(), NotHeld>
         requires { cpu < most_threads }
         ensures held { is_ok result ≡ is_held (letter_of (copy_of self.old cpu)) }
-        ensures ok { OnOk result ((p : Protocol) → HasStatesOf p self.old → self.new ≡ line_evicted (table_of p) cpu self.old) }
+        ensures ok { OnOk result (self.new ≡ line_evicted cpu self.old) }
         ensures err { OnErr result (self.new ≡ self.old) }
     {
         match self.state_of(cpu) {

@@ -1,7 +1,7 @@
 //! Caches that snoop on one atomic bus, over one memory, by either protocol.
 ghost use Rattle.std.specs.Prelude.{◌≡◌, ◌<◌, ◌≤◌, length, map, IfOk};
 ghost use Rattle.lw_base.specs.Limits.{most_threads, most_locations};
-ghost use Rattle.lw_mesi.specs.CacheLines.{unheld_line, empty_caches, copy_of, line_at, word_of, contents_of, memory_words_of, state_in};
+ghost use Rattle.lw_mesi.specs.CacheLines.{unheld_line, empty_caches, copy_of, line_at, copy_word, contents_of, memory_words_of, state_in};
 ghost use Rattle.lw_mesi.specs.Snooping.{Serves};
 ghost use Rattle.lw_mesi.specs.Protocols.{table_of};
 ghost use Rattle.lw_mesi.specs.Coherence.{IsKept};
@@ -73,7 +73,7 @@ impl<P: KeptProtocol, A: Allocator> SnoopingCaches<P, A> {
     pub fn copy(&self, cpu: Cpu, loc: Loc) -> Option<Word>
         requires cpu { cpu < self.now.cpus }
         requires loc { loc < length self.now.lines }
-        ensures word { result ≡ word_of (copy_of (line_at self.now.lines loc) cpu) }
+        ensures word { result ≡ copy_word (copy_of (line_at self.now.lines loc) cpu) }
         ensures kept { IsKept P.protocol self.now }
     {
         self.lines[loc.index()].copy(cpu)

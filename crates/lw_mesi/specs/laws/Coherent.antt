@@ -1,7 +1,8 @@
 -- When a line is coherent, and what its content is then: proofs that an impl cites, and no definition of the protocols.
-use Rattle.std.proofs.Common.{◌≡◌, ◌≢◌, ℕ, zero, suc, ◌<◌, List, [], ◌∷◌, length, map, set, Some, None, refl, sym, ap, ◌∙◌, subst, ⊎_elim, arith, get_or-set_same, get_or-set_other}
+use Rattle.std.proofs.Common.{◌≡◌, ◌≢◌, ℕ, zero, suc, ◌<◌, List, [], ◌∷◌, length, map, set, Some, None, refl, sym, ap, ◌∙◌, subst, ⊎_elim, arith}
+use Rattle.std.proofs.Common.{get_or-set_same, get_or-set_other}
 use Rattle.std.proofs.lemmas.Bool.{cases_eq}
-use Rattle.lw_mesi.specs.CacheLines.{Copy, Modified, Owned, Exclusive, Shared, Invalid, CacheLine, copy_of, word_of, dirty_or, content_of}
+use Rattle.lw_mesi.specs.CacheLines.{Copy, Modified, Owned, Exclusive, Shared, Invalid, CacheLine, copy_of, copy_word, dirty_or, content_of}
 use Rattle.lw_mesi.specs.Coherence.{IsOnlyCopy, IsDirty, IsCoherentCacheLine}
 
 -- A processor's copy, in a row of copies.
@@ -35,7 +36,7 @@ clean w (Invalid ∷ copies) h = clean w copies (λ t. h (suc t))
 
 -- With one M or O copy it is that copy's word.
 pub dirty : (w v : ℕ) (copies : List Copy) (t : ℕ)
-    → IsDirty (copy_in copies t) → word_of (copy_in copies t) ≡ Some v → ((u : ℕ) → t ≢ u → IsDirty (copy_in copies u) → ⊥)
+    → IsDirty (copy_in copies t) → copy_word (copy_in copies t) ≡ Some v → ((u : ℕ) → t ≢ u → IsDirty (copy_in copies u) → ⊥)
     → dirty_or w copies ≡ v
 dirty w v [] t d e h = absurd d
 dirty w v (Modified k ∷ copies) zero d e h = cc
@@ -70,21 +71,21 @@ put_clean w (Invalid ∷ copies) (suc t) c old new = put_clean w copies t c old 
 
 -- Every copy holds this word.
 abbrev pub AllHold : CacheLine → ℕ → Type 0
-AllHold line v = (t w : ℕ) → word_of (copy_of line t) ≡ Some w → w ≡ v
+AllHold line v = (t w : ℕ) → copy_word (copy_of line t) ≡ Some w → w ≡ v
 
 -- No other processor has a copy.
 abbrev pub NobodyElse : CacheLine → ℕ → Type 0
 NobodyElse line t = (u : ℕ) → t ≢ u → copy_of line u ≡ Invalid
 
-pub no_word : (c : Copy) (w v : ℕ) → c ≡ Invalid → word_of c ≡ Some w → w ≡ v
-no_word c w v e h = let f : word_of c ≡ None = ap word_of e in cc
+pub no_word : (c : Copy) (w v : ℕ) → c ≡ Invalid → copy_word c ≡ Some w → w ≡ v
+no_word c w v e h = let f : copy_word c ≡ None = ap copy_word e in cc
 
-pub one_word : (c : Copy) (w v : ℕ) → word_of c ≡ Some v → word_of c ≡ Some w → w ≡ v
+pub one_word : (c : Copy) (w v : ℕ) → copy_word c ≡ Some v → copy_word c ≡ Some w → w ≡ v
 one_word c w v e h = cc
 
 -- One processor alone may have a copy, which holds the content.
 pub single : (line : CacheLine) (t : ℕ) → length line.copies ≡ 4 → NobodyElse line t
-    → ((w : ℕ) → word_of (copy_of line t) ≡ Some w → w ≡ content_of line) → IsCoherentCacheLine line
+    → ((w : ℕ) → copy_word (copy_of line t) ≡ Some w → w ≡ content_of line) → IsCoherentCacheLine line
 single line t four others word =
     let none : (P : Copy → Type 0) → (P Invalid → ⊥) → (u : ℕ) → t ≢ u → P (copy_of line u) → ⊥ = λ P not u ne h. not (subst P (others u ne) h) in
     record {
@@ -97,7 +98,7 @@ single line t four others word =
           (λ a b. refl)
           (λ u ne a b. absurd (none IsDirty (λ h. h) u ne b)))
           (λ k other u a b. absurd (none IsDirty (λ h. h) k other a));
-      same_word = at_place t (λ u. (w : ℕ) → word_of (copy_of line u) ≡ Some w → w ≡ content_of line)
+      same_word = at_place t (λ u. (w : ℕ) → copy_word (copy_of line u) ≡ Some w → w ≡ content_of line)
           word
           (λ u ne w e. no_word (copy_of line u) w (content_of line) (others u ne) e);
     }

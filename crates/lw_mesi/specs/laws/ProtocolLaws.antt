@@ -1,21 +1,20 @@
 -- Caches that keep a protocol are a memory system that keeps the laws: proofs that their impl cites, and no definition.
-use Rattle.std.proofs.Common.{◌≡◌, ℕ, zero, suc, ◌<◌, List, [], ◌∷◌, length, map, set, Some, refl, sym, ap, ◌∙◌, subst, arith, slice_index, slice_set, true, length-set, get_or-set_same, get_or-set_other}
+use Rattle.std.proofs.Common.{◌≡◌, ℕ, zero, suc, ◌<◌, List, [], ◌∷◌, length, map, set, Some, refl, sym, ap, ◌∙◌, subst, arith, slice_index, slice_set, true}
+use Rattle.std.proofs.Common.{length-set, get_or-set_same, get_or-set_other}
 use Rattle.std.proofs.lemmas.List.{length-map}
 use Rattle.lw_base.specs.Sums.{sum_of}
 use Rattle.lw_memory.specs.declared.system.Request.{Request}
 use Rattle.lw_memory.specs.declared.system.Request.TheVariants.{Load, Store, Swap, FetchAdd, Evict}
 use Rattle.lw_memory.specs.Memory.{is_held, IsInRange, IsPossible}
 use Rattle.lw_memory.specs.MemoryLaws.{Lawful, Served}
-use Rattle.lw_mesi.specs.CacheLines.{CacheLine, Caches, copy_of, letter_of, word_of, unheld_line, line_at, content_of, state_in}
+use Rattle.lw_mesi.specs.CacheLines.{CacheLine, Caches, copy_of, letter_of, copy_word, unheld_line, line_at, content_of, state_in}
 use Rattle.lw_mesi.specs.Coherence.{IsCoherentCacheLine, HasStatesOf, IsKeptLine, IsKept, caches_invariant}
 use Rattle.lw_mesi.specs.declared.protocol.Protocol.{Protocol}
-use Rattle.lw_mesi.specs.declared.protocol.Protocol.TheVariants.{Mesi, Moesi}
 use Rattle.lw_mesi.specs.Snooping.{line_to_read, line_to_write, line_written, line_evicted, line_after, loc_of, answer_from, caches_after}
 use Rattle.lw_mesi.specs.Protocols.{table_of, caches_by}
 use Rattle.lw_mesi.specs.laws.Coherent.{at_place, After}
-use Rattle.lw_mesi.specs.laws.Rows.{written, Keeps}
-use Rattle.lw_mesi.specs.laws.MesiRows.{mesi_keeps, mesi_states}
-use Rattle.lw_mesi.specs.laws.MoesiRows.{moesi_keeps}
+use Rattle.lw_mesi.specs.laws.Rows.{written}
+use Rattle.lw_mesi.specs.laws.ProtocolRows.{keeps, states_kept}
 
 contents_set : (lines : List CacheLine) (x : ℕ) (line : CacheLine)
     → map content_of (set lines x line) ≡ slice_set (map content_of lines) x (content_of line)
@@ -54,39 +53,30 @@ set_kept p m x line ok lt s =
 pub kept_line : (p : Protocol) (m : Caches) (x : ℕ) → IsKept p m → x < length m.lines → IsKeptLine p (line_at m.lines x)
 kept_line p m x ok lt = record { coherent = ok.coherent.lines x lt; states = ok.states x lt }
 
--- Each protocol's table keeps a line.
-keeps : (p : Protocol) (t : ℕ) (line : CacheLine) (lt : t < 4) (ok : IsKeptLine p line) → Keeps t line lt ok.coherent (table_of p)
-keeps Mesi t line lt ok = mesi_keeps t line lt ok.coherent ok.states
-keeps Moesi t line lt ok = moesi_keeps t line lt ok.coherent
-
-states_kept : (p : Protocol) (line : CacheLine) → HasStatesOf p line → (r : Request) → HasStatesOf p (line_after (table_of p) r line)
-states_kept Mesi line states r = mesi_states line states r
-states_kept Moesi line states r = λ u. tt
-
 -- What a line has after a request.
 module _ (p : Protocol) (t : ℕ) (line : CacheLine) (lt : t < 4) (ok : IsKeptLine p line) where
-  pub write_word : word_of (copy_of (line_to_write (table_of p) t line) t) ≡ Some (content_of line)
-  write_word = (keeps p t line lt ok).to_write.word
+  pub write_word : copy_word (copy_of (line_to_write t line) t) ≡ Some (content_of line)
+  write_word = (keeps p t line lt ok.coherent ok.states).to_write.word
 
-  pub write_after : (w : ℕ) → After w (line_written (table_of p) t w line)
-  write_after w = written t line lt ok.coherent w (line_to_write (table_of p) t line) (keeps p t line lt ok).to_write
+  pub write_after : (w : ℕ) → After w (line_written t w line)
+  write_after w = written t line lt ok.coherent w (line_to_write t line) (keeps p t line lt ok.coherent ok.states).to_write
 
-  pub load_word : word_of (copy_of (line_to_read (table_of p) t line) t) ≡ Some (content_of line)
-  load_word = (keeps p t line lt ok).loaded.word
+  pub load_word : copy_word (copy_of (line_to_read (table_of p) t line) t) ≡ Some (content_of line)
+  load_word = (keeps p t line lt ok.coherent ok.states).loaded.word
 
   pub load_after : After (content_of line) (line_to_read (table_of p) t line)
-  load_after = (keeps p t line lt ok).loaded.after
+  load_after = (keeps p t line lt ok.coherent ok.states).loaded.after
 
-  pub evict_after : is_held (letter_of (copy_of line t)) ≡ true → After (content_of line) (line_evicted (table_of p) t line)
-  evict_after = (keeps p t line lt ok).evicted
+  pub evict_after : is_held (letter_of (copy_of line t)) ≡ true → After (content_of line) (line_evicted t line)
+  evict_after = (keeps p t line lt ok.coherent ok.states).evicted
 
   pub load_kept : IsKeptLine p (line_to_read (table_of p) t line)
   load_kept = record { coherent = load_after.sound; states = states_kept p line ok.states (Load t 0) }
 
-  pub write_kept : (w : ℕ) → IsKeptLine p (line_written (table_of p) t w line)
+  pub write_kept : (w : ℕ) → IsKeptLine p (line_written t w line)
   write_kept w = record { coherent = (write_after w).sound; states = states_kept p line ok.states (Store t 0 w) }
 
-  pub evict_kept : is_held (letter_of (copy_of line t)) ≡ true → IsKeptLine p (line_evicted (table_of p) t line)
+  pub evict_kept : is_held (letter_of (copy_of line t)) ≡ true → IsKeptLine p (line_evicted t line)
   evict_kept h = record { coherent = (evict_after h).sound; states = states_kept p line ok.states (Evict t 0) }
 
 -- Each row of the table keeps the laws.

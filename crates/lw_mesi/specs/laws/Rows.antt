@@ -1,11 +1,12 @@
 -- What the rows of a protocol's table keep of one location's line, whatever the protocol, its content, and that it is
 -- coherent: proofs that an impl cites, and no definition of the protocols.
-use Rattle.std.proofs.Common.{◌≡◌, ◌≢◌, ℕ, zero, suc, ◌<◌, List, [], ◌∷◌, length, map, set, Some, Bool, true, false, refl, sym, ap, ◌∙◌, subst, arith, length-set}
+use Rattle.std.proofs.Common.{◌≡◌, ◌≢◌, ℕ, zero, suc, ◌<◌, List, [], ◌∷◌, length, map, set, Some, Bool, true, false, refl, sym, ap, ◌∙◌, subst, arith}
+use Rattle.std.proofs.Common.{length-set}
 use Rattle.std.proofs.lemmas.List.{length-map}
 use Rattle.lw_memory.specs.Memory.{is_held}
-use Rattle.lw_mesi.specs.CacheLines.{Copy, Modified, Owned, Exclusive, Shared, Invalid, CacheLine, copy_of, letter_of, word_of, dirty_or, content_of}
+use Rattle.lw_mesi.specs.CacheLines.{Copy, Modified, Owned, Exclusive, Shared, Invalid, CacheLine, copy_of, letter_of, copy_word, dirty_or, content_of}
 use Rattle.lw_mesi.specs.Coherence.{IsOnlyCopy, IsDirty, IsCoherentCacheLine}
-use Rattle.lw_mesi.specs.Snooping.{ProtocolTable, any_held, copy_from, line_to_read, line_to_write, line_with_word, line_evicted}
+use Rattle.lw_mesi.specs.Snooping.{ProtocolTable, any_held, copy_from, get_m, line_to_read, line_to_write, line_with_word, line_evicted}
 use Rattle.lw_mesi.specs.laws.Coherent.{copy_in, at_place, put_here, put_there, copy_map, clean, dirty, put_clean, NobodyElse, no_word, one_word, single, After}
 
 none_held : (copies : List Copy) → any_held copies ≡ false → (t : ℕ) → copy_in copies t ≡ Invalid
@@ -21,14 +22,14 @@ from_clean : (b : Bool) (w : ℕ) → IsDirty (copy_from b w) → ⊥
 from_clean true w h = h
 from_clean false w h = h
 
-from_word : (b : Bool) (w : ℕ) → word_of (copy_from b w) ≡ Some w
+from_word : (b : Bool) (w : ℕ) → copy_word (copy_from b w) ≡ Some w
 from_word true w = refl
 from_word false w = refl
 
 -- What a GetS does to the other copies, in each protocol: it keeps their words, leaves no M or E, and makes none dirty.
 pub record SharesOthers (f : Copy → Copy) (line : CacheLine) : Type 0 where
   pub invalid : f Invalid ≡ Invalid
-  pub word : (u : ℕ) → word_of (f (copy_of line u)) ≡ word_of (copy_of line u)
+  pub word : (u : ℕ) → copy_word (f (copy_of line u)) ≡ copy_word (copy_of line u)
   pub free : (u : ℕ) → IsOnlyCopy (f (copy_of line u)) → ⊥
   pub dirty : (u : ℕ) → IsDirty (f (copy_of line u)) → IsDirty (copy_of line u)
 
@@ -36,26 +37,26 @@ module _ (t : ℕ) (line : CacheLine) (lt : t < 4) (sound : IsCoherentCacheLine 
   -- What a write finds: the processor alone has a copy, which holds the content.
   pub record ToWrite (l : CacheLine) : Type 0 where
     pub four : length l.copies ≡ 4
-    pub word : word_of (copy_of l t) ≡ Some (content_of line)
+    pub word : copy_word (copy_of l t) ≡ Some (content_of line)
     pub others : NobodyElse l t
 
   -- A write that hits, in M or E.
-  pub hit_to_write : (c : Copy) (w : ℕ) → copy_of line t ≡ c → word_of c ≡ Some w → IsOnlyCopy c → ToWrite line
+  pub hit_to_write : (c : Copy) (w : ℕ) → copy_of line t ≡ c → copy_word c ≡ Some w → IsOnlyCopy c → ToWrite line
   hit_to_write c w e h own = record {
     four = sound.four;
-    word = (ap word_of e ∙ h) ∙ ap Some (sound.same_word t w (ap word_of e ∙ h));
+    word = (ap copy_word e ∙ h) ∙ ap Some (sound.same_word t w (ap copy_word e ∙ h));
     others = λ u ne. sound.alone t u (subst IsOnlyCopy (sym e) own) ne;
   }
 
   -- A GetM, after which the other copies are gone.
-  pub get_m_to_write : (f : Copy → Copy) → f Invalid ≡ Invalid → ((u : ℕ) → f (copy_of line u) ≡ Invalid)
-      → ToWrite (record { copies = set (map f line.copies) t (Modified (content_of line)); memory = line.memory })
-  get_m_to_write f invalid gone =
-      let four : length (map f line.copies) ≡ 4 = length-map line.copies f ∙ sound.four in
+  pub get_m_to_write : ToWrite (get_m t line)
+  get_m_to_write =
+      let gone : List Copy = map (λ c. Invalid) line.copies in
+      let four : length gone ≡ 4 = length-map line.copies (λ c. Invalid) ∙ sound.four in
       record {
-        four = length-set (map f line.copies) t (Modified (content_of line)) ∙ four;
-        word = ap word_of (put_here (map f line.copies) t (Modified (content_of line)) (omega (arith, four)));
-        others = λ u ne. put_there (map f line.copies) t (Modified (content_of line)) u ne ∙ (copy_map f line.copies u invalid ∙ gone u);
+        four = length-set gone t (Modified (content_of line)) ∙ four;
+        word = ap copy_word (put_here gone t (Modified (content_of line)) (omega (arith, four)));
+        others = λ u ne. put_there gone t (Modified (content_of line)) u ne ∙ copy_map (λ c. Invalid) line.copies u refl;
       }
 
   -- The write itself.
@@ -65,23 +66,23 @@ module _ (t : ℕ) (line : CacheLine) (lt : t < 4) (sound : IsCoherentCacheLine 
       let here : copy_in copies t ≡ Modified w = put_here l.copies t (Modified w) (omega (arith, h.four)) in
       let others : (u : ℕ) → t ≢ u → copy_in copies u ≡ Invalid = λ u ne. put_there l.copies t (Modified w) u ne ∙ h.others u ne in
       let d : dirty_or l.memory copies ≡ w =
-      dirty l.memory w copies t (subst IsDirty (sym here) tt) (ap word_of here) (λ u ne x. subst IsDirty (others u ne) x) in
+      dirty l.memory w copies t (subst IsDirty (sym here) tt) (ap copy_word here) (λ u ne x. subst IsDirty (others u ne) x) in
       record {
         content = d;
         sound = single (line_with_word t w l) t (length-set l.copies t (Modified w) ∙ h.four) others
-            (λ k e. one_word (copy_in copies t) k w (ap word_of here) e ∙ sym d);
+            (λ k e. one_word (copy_in copies t) k w (ap copy_word here) e ∙ sym d);
       }
 
   -- What a load leaves: the content, and a copy that holds it.
   pub record Loaded (l : CacheLine) : Type 0 where
     pub after : After (content_of line) l
-    pub word : word_of (copy_of l t) ≡ Some (content_of line)
+    pub word : copy_word (copy_of l t) ≡ Some (content_of line)
 
   -- A load that hits.
-  pub hit_loaded : (c : Copy) (w : ℕ) → copy_of line t ≡ c → word_of c ≡ Some w → Loaded line
+  pub hit_loaded : (c : Copy) (w : ℕ) → copy_of line t ≡ c → copy_word c ≡ Some w → Loaded line
   hit_loaded c w e h = record {
     after = record { content = refl; sound = sound };
-    word = (ap word_of e ∙ h) ∙ ap Some (sound.same_word t w (ap word_of e ∙ h));
+    word = (ap copy_word e ∙ h) ∙ ap Some (sound.same_word t w (ap copy_word e ∙ h));
   }
 
   -- Where the requestor is in E after a GetS, nobody else has a copy.
@@ -120,12 +121,12 @@ module _ (t : ℕ) (line : CacheLine) (lt : t < 4) (sound : IsCoherentCacheLine 
                 (λ a na. at_place t (λ u. IsDirty (copy_of l a) → IsDirty (copy_of l u) → a ≡ u)
                 (λ d e. absurd (here_clean e))
                 (λ u nu d e. sound.one_dirty a u (there_dirty a na d) (there_dirty u nu e)));
-            same_word = at_place t (λ u. (w : ℕ) → word_of (copy_of l u) ≡ Some w → w ≡ content_of l)
-                (λ w h. one_word (copy_of l t) w v (ap word_of here ∙ from_word b v) h ∙ sym content)
-                (λ u ne w h. sound.same_word u w (sym (ap word_of (there u ne) ∙ shared.word u) ∙ h) ∙ sym content);
+            same_word = at_place t (λ u. (w : ℕ) → copy_word (copy_of l u) ≡ Some w → w ≡ content_of l)
+                (λ w h. one_word (copy_of l t) w v (ap copy_word here ∙ from_word b v) h ∙ sym content)
+                (λ u ne w h. sound.same_word u w (sym (ap copy_word (there u ne) ∙ shared.word u) ∙ h) ∙ sym content);
           };
         };
-        word = ap word_of here ∙ from_word b v;
+        word = ap copy_word here ∙ from_word b v;
       }
 
   -- The line without the own copy, where the content is the same.
@@ -149,14 +150,14 @@ module _ (t : ℕ) (line : CacheLine) (lt : t < 4) (sound : IsCoherentCacheLine 
               (λ a na. at_place t (λ u. IsDirty (copy_of l a) → IsDirty (copy_of l u) → a ≡ u)
               (λ d e. absurd (subst IsDirty here e))
               (λ u nu d e. sound.one_dirty a u (subst IsDirty (there a na) d) (subst IsDirty (there u nu) e)));
-          same_word = at_place t (λ u. (w : ℕ) → word_of (copy_of l u) ≡ Some w → w ≡ content_of l)
+          same_word = at_place t (λ u. (w : ℕ) → copy_word (copy_of l u) ≡ Some w → w ≡ content_of l)
               (λ w h. no_word (copy_of l t) w (content_of l) here h)
-              (λ u ne w h. sound.same_word u w (sym (ap word_of (there u ne)) ∙ h) ∙ sym content);
+              (λ u ne w h. sound.same_word u w (sym (ap copy_word (there u ne)) ∙ h) ∙ sym content);
         };
       }
 
   -- An eviction of a dirty copy, whose word goes to memory.
-  pub written_back : (c : Copy) (w : ℕ) → copy_of line t ≡ c → word_of c ≡ Some w → IsDirty c
+  pub written_back : (c : Copy) (w : ℕ) → copy_of line t ≡ c → copy_word c ≡ Some w → IsDirty c
       → After (content_of line) (record { copies = set line.copies t Invalid; memory = w })
   written_back c w e h own =
       let copies : List Copy = set line.copies t Invalid in
@@ -164,15 +165,15 @@ module _ (t : ℕ) (line : CacheLine) (lt : t < 4) (sound : IsCoherentCacheLine 
       at_place t (λ u. IsDirty (copy_in copies u) → ⊥)
       (λ d. subst IsDirty (put_here line.copies t Invalid (omega (arith, sound.four))) d)
       (λ u ne d. ne (sound.one_dirty t u (subst IsDirty (sym e) own) (subst IsDirty (put_there line.copies t Invalid u ne) d))) in
-      without_own w (clean w copies none ∙ sound.same_word t w (ap word_of e ∙ h))
+      without_own w (clean w copies none ∙ sound.same_word t w (ap copy_word e ∙ h))
 
   -- An eviction of another copy.
   pub let_go : (c : Copy) → copy_of line t ≡ c → (IsDirty c → ⊥)
       → After (content_of line) (record { copies = set line.copies t Invalid; memory = line.memory })
   let_go c e not = without_own line.memory (put_clean line.memory line.copies t Invalid (λ d. not (subst IsDirty e d)) (λ d. d))
 
-  -- What all rows of a protocol's table keep.
+  -- What all rows of a protocol keep.
   pub record Keeps (table : ProtocolTable) : Type 0 where
-    pub to_write : ToWrite (line_to_write table t line)
+    pub to_write : ToWrite (line_to_write t line)
     pub loaded : Loaded (line_to_read table t line)
-    pub evicted : is_held (letter_of (copy_of line t)) ≡ true → After (content_of line) (line_evicted table t line)
+    pub evicted : is_held (letter_of (copy_of line t)) ≡ true → After (content_of line) (line_evicted t line)

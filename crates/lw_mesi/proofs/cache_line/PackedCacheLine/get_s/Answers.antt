@@ -23,11 +23,13 @@ invariant_of-self-in_default c =
 pub returns-in-Moesi-clause-line : goal.returns-in-Moesi-clause-line
 returns-in-Moesi-clause-line c =
     rw (← c.self.view_is, c.in-Moesi.is, c.insert.ensures)
-    (dirty_shared c.self.inside c.args.cpu c.in-Some.owner c.self.invariant c.requires.cpu (c.self.invariant.in_range _ c.in-Some.is) c.in-Some.is c.if-self.true
+    (dirty_shared c.self.inside c.args.cpu c.in-Some.owner c.self.invariant c.requires.cpu
+    (c.self.invariant.in_range _ c.in-Some.is) c.in-Some.is c.if-self.true
     (subst (λ l. copy_of l c.args.cpu ≡ Invalid) (sym c.self.view_is) c.requires.without))
 
 pub returns-in_default-clause-line : goal.returns-in_default-clause-line
 returns-in_default-clause-line c =
     rw (← c.self.view_is, c.insert-in_default-2.ensures, c.insert-in_default.ensures)
-    (owner_shared c.self.inside c.args.cpu c.in-Some.owner c.args.protocol c.self.invariant c.requires.cpu (c.self.invariant.in_range _ c.in-Some.is) c.in-Some.is (unowned c) (clean c)
+    (owner_shared c.self.inside c.args.cpu c.in-Some.owner c.args.protocol c.self.invariant c.requires.cpu
+    (c.self.invariant.in_range _ c.in-Some.is) c.in-Some.is (unowned c) (clean c)
     (subst (λ l. copy_of l c.args.cpu ≡ Invalid) (sym c.self.view_is) c.requires.without))

@@ -17,17 +17,20 @@ emptied before lines old cpus was k words is same many each past as_many =
 pub loop-place-preserved : goal.loop-place-preserved
 loop-place-preserved g c =
     let lines = c.loop-place.self-inside.lines.items in let k = c.loop-place.place in let words = c.args.words.now in
-    let as_many : length c.self.inside.lines.items ≡ length words = sym (length-map c.self.inside.lines.items content_of) ∙ ap (λ (m : Caches). length (contents_of m)) c.self.view_is ∙ sym c.requires in
+    let as_many : length c.self.inside.lines.items ≡ length words = sym (length-map c.self.inside.lines.items content_of) ∙ ap
+    (λ (m : Caches). length (contents_of m)) c.self.view_is ∙ sym c.requires in
     let within : k < length lines = omega (arith, c.loop-place.invariant.many, as_many) in
     record {
       cpus = c.loop-place.invariant.cpus;
       many = length-set lines k c.new.result ∙ c.loop-place.invariant.many;
-      lines = take_more_set lines k c.new.result within ∙ rw (c.loop-place.invariant.lines, c.new.ensures) (sym (map_more unheld_line words k 0 c.loop-place-test.true));
+      lines = take_more_set lines k c.new.result within ∙ rw (c.loop-place.invariant.lines, c.new.ensures)
+          (sym (map_more unheld_line words k 0 c.loop-place-test.true));
     }
 
 pub returns-clause-start : goal.returns-clause-start
 returns-clause-start g c =
-    emptied c.args.self.now c.loop-place.self-inside.lines.items c.self.inside.lines.items c.loop-place.self-inside.cpus c.self.inside.cpus c.loop-place.place c.args.words.now c.self.view_is
+    emptied c.args.self.now c.loop-place.self-inside.lines.items c.self.inside.lines.items c.loop-place.self-inside.cpus c.self.inside.cpus
+    c.loop-place.place c.args.words.now c.self.view_is
     c.loop-place.invariant.cpus c.loop-place.invariant.many c.loop-place.invariant.lines c.loop-place-test.false c.requires
 
 pub returns-clause-words : goal.returns-clause-words

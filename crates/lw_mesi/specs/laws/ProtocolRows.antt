@@ -1,0 +1,184 @@
+-- What each row of a protocol keeps of one location's line, its content, and that it is coherent: proofs that an impl cites,
+-- and no definition of the protocols.
+use Rattle.std.proofs.Common.{◌≡◌, ℕ, zero, suc, ◌<◌, List, [], ◌∷◌, map, set, Bool, true, false, refl, sym, subst}
+use Rattle.lw_base.specs.Sums.{sum_of}
+use Rattle.lw_memory.specs.declared.system.Request.{Request}
+use Rattle.lw_memory.specs.declared.system.Request.TheVariants.{Load, Store, Swap, FetchAdd, Evict}
+use Rattle.lw_memory.specs.Memory.{is_held}
+use Rattle.lw_mesi.specs.declared.protocol.Protocol.{Protocol}
+use Rattle.lw_mesi.specs.declared.protocol.Protocol.TheVariants.{Mesi, Moesi}
+use Rattle.lw_mesi.specs.CacheLines.{Copy, Modified, Owned, Exclusive, Shared, Invalid, CacheLine, copy_of, letter_of, copy_word, dirty_or, content_of}
+use Rattle.lw_mesi.specs.Coherence.{IsOnlyCopy, IsDirty, IsCoherentCacheLine, IsStateOf, HasStatesOf}
+use Rattle.lw_mesi.specs.Snooping.{any_held, copy_from, get_m, on_load, on_write, on_evict, line_after, line_to_write}
+use Rattle.lw_mesi.specs.Protocols.{table_of, mesi_on_other_get_s, moesi_on_other_get_s}
+use Rattle.lw_mesi.specs.laws.Coherent.{copy_in, copy_map, clean, After}
+use Rattle.lw_mesi.specs.laws.Rows.{SharesOthers, ToWrite, hit_to_write, get_m_to_write, Loaded, hit_loaded, get_s_loaded, written_back, let_go, Keeps}
+
+shared_invalid : (p : Protocol) → (table_of p).on_other_get_s Invalid ≡ Invalid
+shared_invalid Mesi = refl
+shared_invalid Moesi = refl
+
+shared_word : (p : Protocol) (c : Copy) → copy_word ((table_of p).on_other_get_s c) ≡ copy_word c
+shared_word Mesi (Modified w) = refl
+shared_word Mesi (Owned w) = refl
+shared_word Mesi (Exclusive w) = refl
+shared_word Mesi (Shared w) = refl
+shared_word Mesi Invalid = refl
+shared_word Moesi (Modified w) = refl
+shared_word Moesi (Owned w) = refl
+shared_word Moesi (Exclusive w) = refl
+shared_word Moesi (Shared w) = refl
+shared_word Moesi Invalid = refl
+
+shared_free : (p : Protocol) (c : Copy) → IsOnlyCopy ((table_of p).on_other_get_s c) → ⊥
+shared_free Mesi (Modified w) h = h
+shared_free Mesi (Owned w) h = h
+shared_free Mesi (Exclusive w) h = h
+shared_free Mesi (Shared w) h = h
+shared_free Mesi Invalid h = h
+shared_free Moesi (Modified w) h = h
+shared_free Moesi (Owned w) h = h
+shared_free Moesi (Exclusive w) h = h
+shared_free Moesi (Shared w) h = h
+shared_free Moesi Invalid h = h
+
+shared_dirty : (p : Protocol) (c : Copy) → IsDirty ((table_of p).on_other_get_s c) → IsDirty c
+shared_dirty Mesi (Modified w) d = absurd d
+shared_dirty Mesi (Owned w) d = d
+shared_dirty Mesi (Exclusive w) d = absurd d
+shared_dirty Mesi (Shared w) d = d
+shared_dirty Mesi Invalid d = d
+shared_dirty Moesi (Modified w) d = d
+shared_dirty Moesi (Owned w) d = d
+shared_dirty Moesi (Exclusive w) d = d
+shared_dirty Moesi (Shared w) d = d
+shared_dirty Moesi Invalid d = d
+
+-- Under MESI nothing is dirty then.
+shared_clean : (c : Copy) → IsStateOf Mesi c → IsDirty (mesi_on_other_get_s c) → ⊥
+shared_clean (Modified w) s d = d
+shared_clean (Owned w) s d = s
+shared_clean (Exclusive w) s d = d
+shared_clean (Shared w) s d = d
+shared_clean Invalid s d = d
+
+-- Under MOESI what is dirty stays so, with its word.
+shared_content : (m : ℕ) (copies : List Copy) → dirty_or m (map moesi_on_other_get_s copies) ≡ dirty_or m copies
+shared_content m [] = refl
+shared_content m (Modified w ∷ copies) = refl
+shared_content m (Owned w ∷ copies) = refl
+shared_content m (Exclusive w ∷ copies) = shared_content m copies
+shared_content m (Shared w ∷ copies) = shared_content m copies
+shared_content m (Invalid ∷ copies) = shared_content m copies
+
+-- So a GetS keeps the content.
+content_kept : (p : Protocol) (line : CacheLine) → HasStatesOf p line
+    → dirty_or ((table_of p).memory_after_get_s line) (map (table_of p).on_other_get_s line.copies) ≡ content_of line
+content_kept Mesi line states =
+    clean (content_of line) (map mesi_on_other_get_s line.copies)
+    (λ u d. shared_clean (copy_of line u) (states u) (subst IsDirty (copy_map mesi_on_other_get_s line.copies u refl) d))
+content_kept Moesi line states = shared_content line.memory line.copies
+
+module _ (p : Protocol) (t : ℕ) (line : CacheLine) (lt : t < 4) (sound : IsCoherentCacheLine line) (states : HasStatesOf p line) where
+  to_write : (c : Copy) → copy_of line t ≡ c → ToWrite t line lt sound (on_write c t line)
+  to_write (Modified w) e = hit_to_write t line lt sound (Modified w) w e refl tt
+  to_write (Owned w) e = get_m_to_write t line lt sound
+  to_write (Exclusive w) e = hit_to_write t line lt sound (Exclusive w) w e refl tt
+  to_write (Shared w) e = get_m_to_write t line lt sound
+  to_write Invalid e = get_m_to_write t line lt sound
+
+  shares : SharesOthers (table_of p).on_other_get_s line
+  shares = record {
+    invalid = shared_invalid p;
+    word = λ u. shared_word p (copy_of line u);
+    free = λ u. shared_free p (copy_of line u);
+    dirty = λ u. shared_dirty p (copy_of line u);
+  }
+
+  loaded : (c : Copy) → copy_of line t ≡ c → Loaded t line lt sound (on_load (table_of p) c t line)
+  loaded (Modified w) e = hit_loaded t line lt sound (Modified w) w e refl
+  loaded (Owned w) e = hit_loaded t line lt sound (Owned w) w e refl
+  loaded (Exclusive w) e = hit_loaded t line lt sound (Exclusive w) w e refl
+  loaded (Shared w) e = hit_loaded t line lt sound (Shared w) w e refl
+  loaded Invalid e =
+      get_s_loaded t line lt sound (table_of p).on_other_get_s ((table_of p).memory_after_get_s line) shares (content_kept p line states)
+      e (any_held line.copies) refl
+
+  evicted : (c : Copy) → copy_of line t ≡ c → is_held (letter_of c) ≡ true → After (content_of line) (on_evict c t line)
+  evicted (Modified w) e h = written_back t line lt sound (Modified w) w e refl tt
+  evicted (Owned w) e h = written_back t line lt sound (Owned w) w e refl tt
+  evicted (Exclusive w) e h = let_go t line lt sound (Exclusive w) e (λ d. d)
+  evicted (Shared w) e h = let_go t line lt sound (Shared w) e (λ d. d)
+  evicted Invalid e h = cc
+
+  pub keeps : Keeps t line lt sound (table_of p)
+  keeps = record { to_write = to_write (copy_of line t) refl; loaded = loaded (copy_of line t) refl; evicted = evicted (copy_of line t) refl }
+
+-- Under MESI, O is put nowhere.
+put_state : (copies : List Copy) (t : ℕ) (c : Copy)
+    → IsStateOf Mesi c → ((u : ℕ) → IsStateOf Mesi (copy_in copies u)) → (u : ℕ) → IsStateOf Mesi (copy_in (set copies t c) u)
+put_state [] t c here there u = there u
+put_state (k ∷ copies) zero c here there zero = here
+put_state (k ∷ copies) zero c here there (suc u) = there (suc u)
+put_state (k ∷ copies) (suc t) c here there zero = there zero
+put_state (k ∷ copies) (suc t) c here there (suc u) = put_state copies t c here (λ u. there (suc u)) u
+
+map_state : (f : Copy → Copy) (copies : List Copy)
+    → f Invalid ≡ Invalid → ((c : Copy) → IsStateOf Mesi c → IsStateOf Mesi (f c)) → ((u : ℕ) → IsStateOf Mesi (copy_in copies u))
+    → (u : ℕ) → IsStateOf Mesi (copy_in (map f copies) u)
+map_state f copies invalid keeps states u = subst (IsStateOf Mesi) (sym (copy_map f copies u invalid)) (keeps (copy_in copies u) (states u))
+
+shared_state : (c : Copy) → IsStateOf Mesi c → IsStateOf Mesi (mesi_on_other_get_s c)
+shared_state (Modified w) s = tt
+shared_state (Owned w) s = s
+shared_state (Exclusive w) s = tt
+shared_state (Shared w) s = tt
+shared_state Invalid s = tt
+
+from_state : (b : Bool) (w : ℕ) → IsStateOf Mesi (copy_from b w)
+from_state true w = tt
+from_state false w = tt
+
+module _ (line : CacheLine) (states : HasStatesOf Mesi line) where
+  load_states : (c : Copy) (t : ℕ) → HasStatesOf Mesi (on_load (table_of Mesi) c t line)
+  load_states (Modified w) t = states
+  load_states (Owned w) t = states
+  load_states (Exclusive w) t = states
+  load_states (Shared w) t = states
+  load_states Invalid t =
+      put_state (map mesi_on_other_get_s line.copies) t (copy_from (any_held line.copies) (content_of line))
+      (from_state (any_held line.copies) (content_of line))
+      (map_state mesi_on_other_get_s line.copies refl shared_state states)
+
+  get_m_states : (t : ℕ) → HasStatesOf Mesi (get_m t line)
+  get_m_states t =
+      put_state (map (λ c. Invalid) line.copies) t (Modified (content_of line)) tt (map_state (λ c. Invalid) line.copies refl (λ c s. tt) states)
+
+  write_states : (c : Copy) (t : ℕ) → HasStatesOf Mesi (on_write c t line)
+  write_states (Modified w) t = states
+  write_states (Owned w) t = get_m_states t
+  write_states (Exclusive w) t = states
+  write_states (Shared w) t = get_m_states t
+  write_states Invalid t = get_m_states t
+
+  evict_states : (c : Copy) (t : ℕ) → HasStatesOf Mesi (on_evict c t line)
+  evict_states (Modified w) t = put_state line.copies t Invalid tt states
+  evict_states (Owned w) t = put_state line.copies t Invalid tt states
+  evict_states (Exclusive w) t = put_state line.copies t Invalid tt states
+  evict_states (Shared w) t = put_state line.copies t Invalid tt states
+  evict_states Invalid t = states
+
+  written_states : (t w : ℕ) → HasStatesOf Mesi (line_after (table_of Mesi) (Store t 0 w) line)
+  written_states t w = put_state (line_to_write t line).copies t (Modified w) tt (write_states (copy_of line t) t)
+
+-- No request puts a copy in O.
+mesi_states : (line : CacheLine) → HasStatesOf Mesi line → (r : Request) → HasStatesOf Mesi (line_after (table_of Mesi) r line)
+mesi_states line states (Load t x) = load_states line states (copy_of line t) t
+mesi_states line states (Store t x w) = written_states line states t w
+mesi_states line states (Swap t x w) = written_states line states t w
+mesi_states line states (FetchAdd t x w) = written_states line states t (sum_of (content_of line) w)
+mesi_states line states (Evict t x) = evict_states line states (copy_of line t) t
+
+pub states_kept : (p : Protocol) (line : CacheLine) → HasStatesOf p line → (r : Request) → HasStatesOf p (line_after (table_of p) r line)
+states_kept Mesi line states r = mesi_states line states r
+states_kept Moesi line states r = λ u. tt
