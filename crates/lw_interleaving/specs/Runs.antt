@@ -1,5 +1,6 @@
 -- Runs of a source test: some thread's next statement at a time, on one memory.
-use Rattle.std.specs.Prelude.{◌≡◌, ℕ, Bool, nat_lt, nat_le, if◌then◌else◌, Option, Some, None, Result, Ok, Err, List, length, map, slice_get, slice_set, IsTrue, MatchResult}
+use Rattle.std.specs.Prelude.{◌≡◌, ℕ, Bool, nat_lt, nat_le, if◌then◌else◌, Option, Some, None, Result, Ok, Err, List, length, map, slice_get, slice_set, IsTrue}
+use Rattle.std.specs.Prelude.{MatchResult}
 use Rattle.std.specs.List.{list_all, zip}
 use Rattle.lw_base.specs.Outcomes.{Final}
 use Rattle.lw_base.specs.Replays as replays
@@ -11,34 +12,31 @@ use Rattle.lw_base.specs.declared.stop.Stop.TheVariants.{NoCpu, NoLocation, Ende
 use Rattle.lw_base.specs.declared.stop.Replay.{Replay}
 use Rattle.lw_litmus.specs.declared.stmt.Stmt.{Stmt}
 use Rattle.lw_interleaving.specs.declared.thread.Thread.{Thread}
-use Rattle.lw_litmus.specs.Sources.{operation_of}
+use Rattle.lw_litmus.specs.Sources.{source_operation}
 use Rattle.lw_litmus.specs.Tests.{SourceTest}
 use Rattle.lw_interleaving.specs.Statements.{thread_after, words_after}
 
--- the threads, and one map from locations to words
-pub record State : Type 0 where
+pub record State : Type 0 where  -- the threads, and one map from locations to words
   pub threads : List Thread
   pub words : List ℕ
 
--- a thread at its first statement
-abbrev pub starting : List ℕ → Thread
-starting regs = record { position = 0; regs = regs }
+abbrev pub starting_thread : List ℕ → Thread  -- a thread at its first statement
+starting_thread regs = record { position = 0; regs = regs }
 
 abbrev pub start_of : SourceTest → State
-start_of s = record { threads = map starting s.head.init_regs; words = s.head.init_words }
+start_of s = record { threads = map starting_thread s.head.init_regs; words = s.head.init_words }
 
 -- a thread carries out the statement that it is at, if it is at one
 abbrev pub carried_out : ℕ → Thread → State → Option Stmt → Result State Stop
 carried_out t th s None = Err Ended
 carried_out t th s (Some stmt) =
-    Ok (record { threads = slice_set s.threads t (thread_after (operation_of stmt) th s.words); words = words_after (operation_of stmt) th s.words })
+    Ok (record { threads = slice_set s.threads t (thread_after (source_operation stmt) th s.words); words = words_after (source_operation stmt) th s.words })
 
 abbrev pub step_of : List (List Stmt) → ℕ → State → Option Thread → Result State Stop
 step_of program t s None = Err NoCpu
 step_of program t s (Some th) = carried_out t th s (slice_get (code_of program t) th.position)
 
--- the state after a step of a thread, or why there is none
-abbrev pub source_step : List (List Stmt) → ℕ → State → Result State Stop
+abbrev pub source_step : List (List Stmt) → ℕ → State → Result State Stop  -- the state after a step of a thread, or why there is none
 source_step program t s = step_of program t s (slice_get s.threads t)
 
 -- the same for each event: a source has no store buffers and no caches
@@ -49,44 +47,40 @@ source_event program (Evict t x) s =
     if nat_lt t (length s.threads) then (if nat_lt x (length s.words) then Err NotHeld else Err NoLocation) else Err NoCpu
 
 -- An event, from a state, is answered so and leaves a state; a refused one changes nothing.
-abbrev pub EventDone : List (List Stmt) → Event → State → Result (Unit {0}) Stop → State → Type 0
-EventDone program e s (Ok done) after = source_event program e s ≡ Ok after
-EventDone program e s (Err stop) after = (source_event program e s ≡ Err stop) × (after ≡ s)
+abbrev pub SourceEventDone : List (List Stmt) → Event → State → Result (Unit {0}) Stop → State → Type 0
+SourceEventDone program e s (Ok done) after = source_event program e s ≡ Ok after
+SourceEventDone program e s (Err stop) after = (source_event program e s ≡ Err stop) × (after ≡ s)
 
--- all threads are at their ends
-abbrev pub is_final : List (List Stmt) → State → Bool
-is_final program s = list_all (λ p. nat_le (length p.0) p.1.position) (zip program s.threads)
+abbrev pub is_source_final : List (List Stmt) → State → Bool  -- all threads are at their ends
+is_source_final program s = list_all (λ p. nat_le (length p.0) p.1.position) (zip program s.threads)
 
 -- The events lead, each possible in turn, from a state to another.
-abbrev pub Ran : List (List Stmt) → List Event → State → State → Type 0
-Ran program = replays.Ran (EventDone program) (is_final program)
+abbrev pub SourceRan : List (List Stmt) → List Event → State → State → Type 0
+SourceRan program = replays.Ran (SourceEventDone program)
 
 -- A replay carries out the events before the first that is refused, or all.
-abbrev pub Replayed : List (List Stmt) → List Event → State → Replay → State → Type 0
-Replayed program = replays.Replayed (EventDone program) (is_final program)
+abbrev pub SourceReplayed : List (List Stmt) → List Event → State → Replay → State → Type 0
+SourceReplayed program = replays.Replayed (SourceEventDone program) (is_source_final program)
 
--- the registers and the memory of a state
-abbrev pub outcome_of : State → Final
+abbrev pub outcome_of : State → Final  -- the registers and the memory of a state
 outcome_of s = record { regs = map (λ t. t.regs) s.threads; words = s.words }
 
 -- The threads of the order lead, each step possible in turn, from the start to a final state with this outcome.
 pub record RunsTo (s : SourceTest) (order : List ℕ) (o : Final) : Type 0 where
   pub end : State
-  pub ran : Ran s.threads (map Step order) (start_of s) end
-  pub final : IsTrue (is_final s.threads end)
+  pub ran : SourceRan s.threads (map Step order) (start_of s) end
+  pub final : IsTrue (is_source_final s.threads end)
   pub is : o ≡ outcome_of end
 
--- Some list of threads does.
-abbrev pub SourceOutcome : SourceTest → Final → Type 0
+abbrev pub SourceOutcome : SourceTest → Final → Type 0  -- Some list of threads does.
 SourceOutcome s o = (order : List ℕ) × RunsTo s order o
 
--- What a `SourceRun` is: a program, the state at which its test starts, and the state that it is in.
-pub record Running : Type 0 where
+pub record SourceRunState : Type 0 where  -- What a `SourceRun` is: a program, the state at which its test starts, and the state that it is in.
   pub program : List (List Stmt)
   pub start : State
   pub state : State
 
 -- What is answered where this is the state after a step, and what the run is then; a refused step changes nothing.
-abbrev pub Answers : Result State Stop → Result (Unit {0}) Stop → Running → Running → Type 0
+abbrev pub Answers : Result State Stop → Result (Unit {0}) Stop → SourceRunState → SourceRunState → Type 0
 Answers step answer before after =
     MatchResult step (λ next. (answer ≡ Ok tt) × (after.state ≡ next)) (λ stop. (answer ≡ Err stop) × (after ≡ before))

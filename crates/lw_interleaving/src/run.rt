@@ -1,7 +1,7 @@
 //! A run of a source test.
 ghost use Rattle.std.specs.Prelude.{◌≡◌, ◌<◌, length, map, Some, slice_get, slice_index, IfOk};
 ghost use Rattle.lw_litmus.specs.Views.{source_of};
-ghost use Rattle.lw_interleaving.specs.Runs.{start_of, source_step, source_event, Answers, Replayed, outcome_of};
+ghost use Rattle.lw_interleaving.specs.Runs.{start_of, source_step, source_event, Answers, SourceReplayed, outcome_of};
 ghost use Rattle.lw_interleaving.specs.Runs as runs;
 
 use crate::thread::Thread;
@@ -21,9 +21,9 @@ pub struct SourceRun<'a, A: Allocator = Global, B: Allocator = Global> {
 
 impl<'a, A: Allocator, B: Allocator> Model for SourceRun<'a, A, B> {
     ghost use Rattle.std.specs.Prelude.{◌≡◌, length};
-    ghost use Rattle.lw_interleaving.specs.Runs.{Running};
+    ghost use Rattle.lw_interleaving.specs.Runs.{SourceRunState};
 
-    ghost Value = { Running };
+    ghost Value = { SourceRunState };
 
     ghost use Rattle.lw_interleaving.specs.Runs.{start_of};
     ghost use Rattle.lw_litmus.specs.Views.{source_of};
@@ -131,7 +131,7 @@ impl<'a, A: Allocator, B: Allocator> SourceRun<'a, A, B> {
     pub fn run(&mut self, events: &[Event]) -> Replay
         ensures program { self.new.program ≡ self.old.program }
         ensures start { self.new.start ≡ self.old.start }
-        ensures replayed { Replayed self.old.program events.now self.old.state result self.new.state }
+        ensures replayed { SourceReplayed self.old.program events.now self.old.state result self.new.state }
         ensures threads { length self.new.state.threads ≡ length self.old.state.threads }
         ensures words { length self.new.state.words ≡ length self.old.state.words }
     {
@@ -182,7 +182,7 @@ impl<'a, A: Allocator, B: Allocator> SourceRun<'a, A, B> {
 
     /// Whether all threads are at their ends.
     pub fn is_final(&self) -> bool
-        ensures { result ≡ runs.is_final self.now.program self.now.state }
+        ensures { result ≡ runs.is_source_final self.now.program self.now.state }
     {
         self.source
             .threads

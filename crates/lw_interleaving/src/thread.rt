@@ -58,7 +58,7 @@ impl Thread {
                 words.set(loc.index(), self.regs[src.index()]);
                 self.get(dst, word);
             }
-            Operation::FetchAdd { dst, loc, val } => {
+            Operation::FetchAdd(dst, loc, val) => {
                 let word = words.as_slice()[loc.index()];
                 words.set(loc.index(), wrapping_sum(word, val.value(&self.regs)));
                 self.get_if(dst, word);
@@ -74,7 +74,7 @@ impl Thread {
     /// To the next statement.
     fn go_on(&mut self)
         requires { self.old.position + 1 < 2 ^ 64 }
-        ensures { self.new ≡ table.going_on self.old }
+        ensures { self.new ≡ table.at_next self.old }
     {
         self.position += 1;
     }
@@ -82,7 +82,7 @@ impl Thread {
     /// To the next statement, with a word in a register.
     fn get(&mut self, dst: Reg, word: Word)
         requires { self.old.position + 1 < 2 ^ 64 }
-        ensures { self.new ≡ table.getting self.old dst word }
+        ensures { self.new ≡ table.at_next_with self.old dst word }
     {
         self.regs[dst.index()] = word;
         self.position += 1;
@@ -91,7 +91,7 @@ impl Thread {
     /// The same, if a register is named.
     fn get_if(&mut self, dst: Option<Reg>, word: Word)
         requires { self.old.position + 1 < 2 ^ 64 }
-        ensures { self.new ≡ table.getting_if self.old dst word }
+        ensures { self.new ≡ table.at_next_with_if self.old dst word }
     {
         match dst {
             Some(dst) => self.get(dst, word),
@@ -102,7 +102,7 @@ impl Thread {
     /// To the target where the condition holds, and else to the next statement.
     fn jump(&mut self, holds: bool, to: usize)
         requires { self.old.position + 1 < 2 ^ 64 }
-        ensures { self.new ≡ table.jumping self.old holds to }
+        ensures { self.new ≡ table.branched self.old holds to }
     {
         self.position = if holds { to } else { self.position + 1 };
     }

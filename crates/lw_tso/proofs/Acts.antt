@@ -44,12 +44,14 @@ module _ {M : Type 0} (mem : Memory M) (inv : Invariant M) where
       let s : Served mem inv m r a n = laws.served m r a n sound serves in
       record { cpus = s.cpus; locations = ap length s.content ∙ length-content_after (mem.content m) r; sound = s.sound }
 
-  evicted : Lawful mem inv → (held : Bool) (t x : ℕ) (p q : Processor) (m n : M) (answer : Answer) → inv.sound m → EvictionDone mem held t x p m answer q n → IsKept m n
+  evicted : Lawful mem inv → (held : Bool) (t x : ℕ) (p q : Processor) (m n : M) (answer : Answer) → inv.sound m
+      → EvictionDone mem held t x p m answer q n → IsKept m n
   evicted laws false t x p q m n answer sound done = unchanged m n sound done.2
   evicted laws true t x p q m n answer sound done = served laws m n (Evict t x) None sound done.2
 
   -- an act keeps the memory's size
-  pub act_kept : Lawful mem inv → (t : ℕ) (act : Act) (p q : Processor) (m n : M) (answer : Answer) → inv.sound m → ActDone mem t act p m answer q n → IsKept m n
+  pub act_kept : Lawful mem inv → (t : ℕ) (act : Act) (p q : Processor) (m n : M) (answer : Answer) → inv.sound m → ActDone mem t act p m answer q n
+      → IsKept m n
   act_kept laws t (Refused stop) p q m n answer sound done = unchanged m n sound done.2
   act_kept laws t (Goes next) p q m n answer sound done = unchanged m n sound done.2
   act_kept laws t (Loads x next) p q m n answer sound done = served laws m n (Load t x) (Some done.0) sound done.3
@@ -73,14 +75,16 @@ module _ {M : Type 0} (mem : Memory M) (inv : Invariant M) where
   act_refused t (Evicts x) p q m n stop done = eviction_refused (is_held (mem.state m t x)) t x p q m n stop done
 
   -- a refused event changes nothing
-  pub event_refused : (program : List (List Instr)) (e : Event) (s after : MachineState M) (stop : Stop) → EventDone mem program e s (Err stop) after → after ≡ s
+  pub event_refused : (program : List (List Instr)) (e : Event) (s after : MachineState M) (stop : Stop) → EventDone mem program e s (Err stop) after
+      → after ≡ s
   event_refused program e s after stop = go (slice_get s.processors (cpu_of e)) refl
     where
       go : (o : Option Processor) → slice_get s.processors (cpu_of e) ≡ o → DoneBy mem o program e s (Err stop) after → after ≡ s
       go None at done = done.1
       go (Some p) at done =
           let same = act_refused (cpu_of e) (event_act program (length (mem.content s.memory)) e p) p done.0 s.memory done.1 stop done.2 in
-          let processors : slice_set s.processors (cpu_of e) done.0 ≡ s.processors = ap (slice_set s.processors (cpu_of e)) same.0 ∙ set_own s.processors (cpu_of e) p at in
+          let processors : slice_set s.processors (cpu_of e) done.0 ≡ s.processors = ap (slice_set s.processors (cpu_of e)) same.0
+          ∙ set_own s.processors (cpu_of e) p at in
           let left : after ≡ s = done.3 ∙ rw (processors, same.1) refl in
           left
 
@@ -90,7 +94,8 @@ module _ {M : Type 0} (mem : Memory M) (inv : Invariant M) where
     pub locations : length (mem.content end.memory) ≡ length (mem.content s.memory)
     pub sound : inv.sound end.memory
 
-  pub event_kept : Lawful mem inv → (program : List (List Instr)) (e : Event) (s after : MachineState M) (answer : Answer) → inv.sound s.memory → EventDone mem program e s answer after → IsSameSize s after
+  pub event_kept : Lawful mem inv → (program : List (List Instr)) (e : Event) (s after : MachineState M) (answer : Answer) → inv.sound s.memory
+      → EventDone mem program e s answer after → IsSameSize s after
   event_kept laws program e s after answer sound = go (slice_get s.processors (cpu_of e))
     where
       go : (o : Option Processor) → DoneBy mem o program e s answer after → IsSameSize s after
@@ -105,7 +110,8 @@ module _ {M : Type 0} (mem : Memory M) (inv : Invariant M) where
     pub processors : length after.state.processors ≡ length before.state.processors
     pub words : length (mem.content after.state.memory) ≡ length (mem.content before.state.memory)
 
-  pub left : Lawful mem inv → (e : Event) (before after : Running M) (answer : Answer) → inv.sound before.state.memory → after.program ≡ before.program → after.initial ≡ before.initial
+  pub left : Lawful mem inv → (e : Event) (before after : Running M) (answer : Answer) → inv.sound before.state.memory → after.program ≡ before.program
+      → after.initial ≡ before.initial
       → EventDone mem before.program e before.state answer after.state → IsLeft before answer after
   left laws e before after answer sound program initial done =
       let kept = event_kept laws before.program e before.state after.state answer sound done in
@@ -115,5 +121,6 @@ module _ {M : Type 0} (mem : Memory M) (inv : Invariant M) where
       go (Ok u) done = tt
       go (Err stop) done =
           let same = event_refused before.program e before.state after.state stop done in
-          let running : (let r : Running M = record { program = after.program; initial = after.initial; state = after.state } in r) ≡ record { program = before.program; initial = before.initial; state = before.state } = rw (program, initial, same) refl in
+          let running : (let r : Running M = record { program = after.program; initial = after.initial; state = after.state } in r) ≡ record
+          { program = before.program; initial = before.initial; state = before.state } = rw (program, initial, same) refl in
           running

@@ -1,5 +1,6 @@
 -- Acts over the flat memory that commute: those that do not conflict, and a step beside an entry that it may pass.
-use Rattle.std.proofs.Common.{◌≡◌, ◌≢◌, ℕ, ◌==◌, Bool, true, false, if◌then◌else◌, List, ◌∷◌, Option, Some, None, refl, sym, ap, ◌∙◌, subst, slice_set, slice_index}
+use Rattle.std.proofs.Common.{◌≡◌, ◌≢◌, ℕ, ◌==◌, Bool, true, false, if◌then◌else◌, List, ◌∷◌, Option, Some, None, refl, sym, ap, ◌∙◌, subst, slice_set}
+use Rattle.std.proofs.Common.{slice_index}
 use Rattle.std.specs.Option.{option_or}
 use Rattle.std.proofs.lemmas.Bool.{ne_eqb, true≢false}
 use Rattle.std.proofs.lemmas.List.{get_or-set_other, set_comm}
@@ -9,13 +10,14 @@ use Rattle.lw_litmus.specs.declared.operation.Operation.{Operation}
 use Rattle.lw_litmus.specs.declared.operation.Operation.TheVariants.{Set, Sum, Compare, Store, Load, Swap, FetchAdd, Fence, Branch}
 use Rattle.lw_tso.specs.Processors.{Processor, newest}
 use Rattle.lw_tso.specs.Acts.{Act, Refused, Goes, Loads, Stores, Swaps, Adds, Evicts, operation_act, load_act}
-use Rattle.lw_tso.specs.Exchange.{accessed, writes, DoNotConflict, MayPass}
+use Rattle.lw_tso.specs.Exchange.{accessed, event_writes, DoNotConflict, MayPass}
 use Rattle.lw_tso.proofs.api.Effects.{Does}
 
 -- ---- two acts
 
 -- a word that an act doesn't write stays
-word_kept : (act : Act) (m n : List ℕ) (q : Processor) (x : ℕ) → Does m act q n → (accessed act ≡ Some x → writes act ≡ false) → slice_index n x ≡ slice_index m x
+word_kept : (act : Act) (m n : List ℕ) (q : Processor) (x : ℕ) → Does m act q n → (accessed act ≡ Some x → event_writes act ≡ false)
+    → slice_index n x ≡ slice_index m x
 word_kept (Refused stop) m n q x d free = absurd d
 word_kept (Goes next) m n q x d free = ap (λ k. slice_index k x) d.1
 word_kept (Loads y next) m n q x d free = ap (λ k. slice_index k x) d.1
@@ -25,7 +27,8 @@ word_kept (Adds y v next) m n q x d free = ap (λ k. slice_index k x) d.1 ∙ ge
 word_kept (Evicts y) m n q x d free = absurd d
 
 -- an act does the same where a word that it doesn't access is another
-does_beside : (act : Act) (m n : List ℕ) (q : Processor) (x w : ℕ) → Does m act q n → (accessed act ≡ Some x → ⊥) → Does (slice_set m x w) act q (slice_set n x w)
+does_beside : (act : Act) (m n : List ℕ) (q : Processor) (x w : ℕ) → Does m act q n → (accessed act ≡ Some x → ⊥)
+    → Does (slice_set m x w) act q (slice_set n x w)
 does_beside (Refused stop) m n q x w d free = absurd d
 does_beside (Goes next) m n q x w d free = (d.0, ap (λ k. slice_set k x w) d.1)
 does_beside (Loads y next) m n q x w d free =
@@ -43,7 +46,8 @@ does_beside (Adds y v next) m n q x w d free =
 does_beside (Evicts y) m n q x w d free = absurd d
 
 -- acts that do not conflict, the other way round
-pub acts_exchange : (a b : Act) (m n k : List ℕ) (p q : Processor) → DoNotConflict a b → Does m a p n → Does n b q k → (j : List ℕ) × Does m b q j × Does j a p k
+pub acts_exchange : (a b : Act) (m n k : List ℕ) (p q : Processor) → DoNotConflict a b → Does m a p n → Does n b q k
+    → (j : List ℕ) × Does m b q j × Does j a p k
 acts_exchange a (Refused stop) m n k p q free d e = absurd e
 acts_exchange a (Goes next) m n k p q free d e = (m, (e.0, refl), subst (Does m a p) (sym e.1) d)
 acts_exchange a (Loads x next) m n k p q free d e =
@@ -52,13 +56,21 @@ acts_exchange a (Loads x next) m n k p q free d e =
 acts_exchange a (Stores x w next) m n k p q free d e =
     (slice_set m x w, (e.0, refl), subst (Does (slice_set m x w) a p) (sym e.1) (does_beside a m n p x w d (λ at. true≢false (free x at refl).1)))
 acts_exchange a (Swaps x v next) m n k p q free d e =
-    let same = word_kept a m n p x d (λ at. (free x at refl).0) in
-    (slice_set m x v, (e.0 ∙ ap next same, refl), subst (Does (slice_set m x v) a p) (sym e.1) (does_beside a m n p x v d (λ at. true≢false (free x at refl).1)))
+    let same = word_kept a m n p x d (λ at. (free x at refl).0) in (
+      slice_set m x v,
+      (e.0 ∙ ap next same, refl),
+      subst (Does (slice_set m x v) a p) (sym e.1)
+          (does_beside a m n p x v d (λ at. true≢false (free x at refl).1)),
+    )
 acts_exchange a (Adds x v next) m n k p q free d e =
     let same = word_kept a m n p x d (λ at. (free x at refl).0) in
     let sum = sum_of (slice_index m x) v in
-    let end : k ≡ slice_set n x sum = e.1 ∙ ap (λ w. slice_set n x (sum_of w v)) same in
-    (slice_set m x sum, (e.0 ∙ ap next same, refl), subst (Does (slice_set m x sum) a p) (sym end) (does_beside a m n p x sum d (λ at. true≢false (free x at refl).1)))
+    let end : k ≡ slice_set n x sum = e.1 ∙ ap (λ w. slice_set n x (sum_of w v)) same in (
+      slice_set m x sum,
+      (e.0 ∙ ap next same, refl),
+      subst (Does (slice_set m x sum) a p) (sym end)
+          (does_beside a m n p x sum d (λ at. true≢false (free x at refl).1)),
+    )
 acts_exchange a (Evicts x) m n k p q free d e = absurd e
 
 -- ---- a step, and one entry more
@@ -86,7 +98,8 @@ keeping_does entry (Swaps x v next) m n q d = (ap (with_oldest entry) d.0, d.1)
 keeping_does entry (Adds x v next) m n q d = (ap (with_oldest entry) d.0, d.1)
 keeping_does entry (Evicts x) m n q d = absurd d
 
-pub does_kept : (entry : ℕ × ℕ) (act : Act) (m n : List ℕ) (q : Processor) → Does m (keeping entry act) q n → (new : Processor) × (q ≡ with_oldest entry new) × Does m act new n
+pub does_kept : (entry : ℕ × ℕ) (act : Act) (m n : List ℕ) (q : Processor) → Does m (keeping entry act) q n
+    → (new : Processor) × (q ≡ with_oldest entry new) × Does m act new n
 does_kept entry (Refused stop) m n q d = absurd d
 does_kept entry (Goes next) m n q d = (next, d.0, (refl, d.1))
 does_kept entry (Loads x next) m n q d = (next (slice_index m x), d.0, (refl, d.1))

@@ -7,7 +7,7 @@ use Rattle.lw_base.specs.declared.stop.Stop.TheVariants.{NoLocation}
 use Rattle.lw_memory.specs.Memory.{Memory, is_held}
 use Rattle.lw_litmus.specs.declared.instr.Instr.{Instr}
 use Rattle.lw_litmus.specs.Operations.{location_of}
-use Rattle.lw_litmus.specs.Programs.{operation_of}
+use Rattle.lw_litmus.specs.Programs.{x86_operation}
 use Rattle.lw_tso.specs.Processors.{Processor}
 use Rattle.lw_tso.specs.Acts.{Act, Evicts, Refused, cpu_of, event_act, step_act, drain_act}
 use Rattle.lw_tso.specs.Evictions.{without_evictions}
@@ -21,13 +21,13 @@ IsNoEviction e = without_evictions (e ∷ []) ≡ e ∷ []
 -- the location of the next instruction, or of the oldest entry
 abbrev pub AsksFor : List Instr → Processor → ℕ → Type 0
 AsksFor code p x =
-    ((i : Instr) × (slice_get code p.position ≡ Some i) × (location_of (operation_of i) ≡ Some x))
+    ((i : Instr) × (slice_get code p.position ≡ Some i) × (location_of (x86_operation i) ≡ Some x))
     ⊎ ((entry : ℕ × ℕ) × (newer : List (ℕ × ℕ)) × (p.buffer ≡ entry ∷ newer) × (entry.0 ≡ x))
 
 -- it stays as it is, does its next instruction, or gives its oldest entry away
 pub data Becomes (code : List Instr) (p q : Processor) : Type 0 where
   Stays : q ≡ p → Becomes code p q
-  Steps : (i : Instr) → slice_get code p.position ≡ Some i → Went (operation_of i) p q → Becomes code p q
+  Steps : (i : Instr) → slice_get code p.position ≡ Some i → Went (x86_operation i) p q → Becomes code p q
   Drains : (entry : ℕ × ℕ) (newer : List (ℕ × ℕ)) → p.buffer ≡ entry ∷ newer → q ≡ record p { buffer = newer } → Becomes code p q
 
 module _ (program : List (List Instr)) (locs : ℕ) where
@@ -37,7 +37,7 @@ module _ (program : List (List Instr)) (locs : ℕ) where
   step_comes : (t : ℕ) (p : Processor) (o : Option Instr) → slice_get (code_of program t) p.position ≡ o → EventComes (Step t) p (step_act o p)
   step_comes t p None at = tt
   step_comes t p (Some i) at =
-      operation_comes (Unit {0}) (λ x written. AsksFor (code_of program t) p x) (Becomes (code_of program t) p) (operation_of i) p
+      operation_comes (Unit {0}) (λ x written. AsksFor (code_of program t) p x) (Becomes (code_of program t) p) (x86_operation i) p
       (λ waits full. tt) (λ x is. inl (i, at, is)) (λ q went. Steps i at went)
 
   drain_comes : (t : ℕ) (p : Processor) (buffer : List (ℕ × ℕ)) → p.buffer ≡ buffer → EventComes (Drain t) p (drain_act buffer p)
@@ -63,7 +63,8 @@ module _ (program : List (List Instr)) (locs : ℕ) where
     made e none done =
         let code = code_of program (cpu_of e) in
         ⊎_elim (λ refused. Stays refused.2) (λ becomes. becomes)
-        (comes_made (Unit {0}) (λ x w. AsksFor code p x) (Becomes code p) mem (cpu_of e) (event_act program locs e p) p q m n answer (event_comes e p none) done)
+        (comes_made (Unit {0}) (λ x w. AsksFor code p x) (Becomes code p) mem (cpu_of e) (event_act program locs e p) p q m n answer
+        (event_comes e p none) done)
 
     pub event_becomes : (e : Event) → ActDone mem (cpu_of e) (event_act program locs e p) p m answer q n → Becomes (code_of program (cpu_of e)) p q
     event_becomes (Step t) done = made (Step t) refl done

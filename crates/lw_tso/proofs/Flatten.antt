@@ -1,5 +1,6 @@
 -- A run over a memory that keeps the laws is, evictions left out, a run over the flat one.
-use Rattle.std.proofs.Common.{◌≡◌, ℕ, Bool, true, false, nat_lt, if◌then◌else◌, List, [], ◌∷◌, length, Ok, Option, Some, None, refl, ap, ap₂, ◌∙◌, subst, slice_get, slice_set}
+use Rattle.std.proofs.Common.{◌≡◌, ℕ, Bool, true, false, nat_lt, if◌then◌else◌, List, [], ◌∷◌, length, Ok, Option, Some, None, refl, ap, ap₂, ◌∙◌, subst}
+use Rattle.std.proofs.Common.{slice_get, slice_set}
 use Rattle.lw_base.specs.Outcomes.{Final}
 use Rattle.lw_base.specs.declared.event.Event.{Event}
 use Rattle.lw_base.specs.declared.event.Event.TheVariants.{Step, Drain, Evict}
@@ -68,7 +69,8 @@ module _ {M : Type 0} (mem : Memory M) (inv : Invariant M) (laws : Lawful mem in
   eviction_flat (Some p) program t x s after sound at done =
       let same = evict_flat (nat_lt x (length (mem.content s.memory))) t x p done.0 s.memory done.1 sound done.2 in
       let processors : slice_set s.processors t done.0 ≡ s.processors = ap (slice_set s.processors t) same.0 ∙ set_own s.processors t p at in
-      ap (flatten mem) done.3 ∙ ap₂ (λ (ps : List Processor) (words : List ℕ). let a : MachineState (List ℕ) = record { processors = ps; memory = words } in a) processors same.1
+      ap (flatten mem) done.3 ∙ ap₂ (λ (ps : List Processor) (words : List ℕ). let a : MachineState
+      (List ℕ) = record { processors = ps; memory = words } in a) processors same.1
 
   -- a run, evictions left out
   pub run_flat : (program : List (List Instr)) (es : List Event) (s end : MachineState M) → inv.sound s.memory

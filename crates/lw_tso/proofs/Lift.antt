@@ -1,5 +1,6 @@
 -- A run over the flat memory is a run over every memory that keeps the laws.
-use Rattle.std.proofs.Common.{Bool, inl, inr, ◌≡◌, ◌↔◌, ℕ, ◌<◌, ◌≤◌, List, [], ◌∷◌, length, map, Ok, Option, Some, None, refl, sym, ap, ◌∙◌, subst, arith, slice_get, slice_set}
+use Rattle.std.proofs.Common.{Bool, inl, inr, ◌≡◌, ◌↔◌, ℕ, ◌<◌, ◌≤◌, List, [], ◌∷◌, length, map, Ok, Option, Some, None, refl, sym, ap, ◌∙◌, subst, arith}
+use Rattle.std.proofs.Common.{slice_get, slice_set}
 use Rattle.std.specs.Prelude.{All, IsTrue}
 use Rattle.std.specs.Option.{option_map}
 use Rattle.std.proofs.lemmas.List.{length-map, length-set}
@@ -45,7 +46,8 @@ flat_evicts_none program (Evict t x) s mid done =
 
 module _ {M : Type 0} (mem : Memory M) (inv : Invariant M) (laws : Lawful mem inv) where
   -- a request, done over the content, is done over the memory
-  served_too : (r : Request) (a : Option ℕ) (m : M) (words : List ℕ) → inv.sound m → IsInRange (inv.cpus m) (length (mem.content m)) r → IsPossible (mem.state m) r
+  served_too : (r : Request) (a : Option ℕ) (m : M) (words : List ℕ) → inv.sound m → IsInRange (inv.cpus m) (length (mem.content m)) r
+      → IsPossible (mem.state m) r
       → a ≡ answer_of (mem.content m) r → words ≡ content_after (mem.content m) r → (n : M) × mem.serves m r a n × (mem.content n ≡ words)
   served_too r a m words sound there possible answer after =
       let g = laws.serves m r sound there possible in
@@ -93,7 +95,8 @@ module _ {M : Type 0} (mem : Memory M) (inv : Invariant M) (laws : Lawful mem in
     within_after e s p q n answer within at done =
         let kept = act_kept mem inv laws (cpu_of e) (event_act program (length (mem.content s.memory)) e p) p q s.memory n answer within.sound done in
         let longer = length-set s.processors (cpu_of e) q in
-        let room = event_room mem program locs (stores_from 0 (code_of program (cpu_of e))) e p q s.memory n answer (thread_at s (cpu_of e) p within at) done (within.rooms (cpu_of e) p at) in
+        let room = event_room mem program locs (stores_from 0 (code_of program (cpu_of e))) e p q s.memory n answer
+        (thread_at s (cpu_of e) p within at) done (within.rooms (cpu_of e) p at) in
         record {
           sound = kept.sound;
           locations = kept.locations ∙ within.locations;
@@ -126,7 +129,8 @@ module _ {M : Type 0} (mem : Memory M) (inv : Invariant M) (laws : Lawful mem in
     abbrev pub LiftedEvent : Event → MachineState M → Answer → MachineState (List ℕ) → Type 0
     LiftedEvent e s answer mid = (after : MachineState M) × EventDone mem program e s answer after × (flatten mem after ≡ mid)
 
-    by_lift : (o : Option Processor) (e : Event) (s : MachineState M) (answer : Answer) (mid : MachineState (List ℕ)) → IsWithin s → IsNoEviction e → slice_get s.processors (cpu_of e) ≡ o
+    by_lift : (o : Option Processor) (e : Event) (s : MachineState M) (answer : Answer) (mid : MachineState (List ℕ)) → IsWithin s → IsNoEviction e
+        → slice_get s.processors (cpu_of e) ≡ o
         → DoneBy flat o program e (flatten mem s) answer mid → LiftedEvent e s answer mid
     by_lift None e s answer mid within none at done = (s, subst (λ o. DoneBy mem o program e s answer s) (sym at) (done.0, refl), sym done.1)
     by_lift (Some p) e s answer mid within none at done =
@@ -136,7 +140,8 @@ module _ {M : Type 0} (mem : Memory M) (inv : Invariant M) (laws : Lawful mem in
         let end : MachineState M = record { processors = slice_set s.processors (cpu_of e) done.0; memory = g.0 } in (
           end,
           subst (λ o. DoneBy mem o program e s answer end) (sym at) (done.0, g.0, g.1, refl),
-          ap (λ (words : List ℕ). let a : MachineState (List ℕ) = record { processors = slice_set s.processors (cpu_of e) done.0; memory = words } in a) g.2 ∙ sym done.3,
+          ap (λ (words : List ℕ). let a : MachineState (List ℕ) = record { processors = slice_set s.processors (cpu_of e) done.0; memory = words } in a)
+              g.2 ∙ sym done.3,
         )
 
     event_lift : (e : Event) (s : MachineState M) (answer : Answer) (mid : MachineState (List ℕ)) → IsWithin s → IsNoEviction e
@@ -148,11 +153,13 @@ module _ {M : Type 0} (mem : Memory M) (inv : Invariant M) (laws : Lawful mem in
       pub ran : MachineRan mem program es s end
       pub is : flatten mem end ≡ last
 
-    pub run_lift : (es : List Event) (s : MachineState M) (last : MachineState (List ℕ)) → IsWithin s → MachineRan flat program es (flatten mem s) last → LiftedRun es s last
+    pub run_lift : (es : List Event) (s : MachineState M) (last : MachineState (List ℕ)) → IsWithin s → MachineRan flat program es (flatten mem s) last
+        → LiftedRun es s last
     run_lift [] s last within ran = record { end = s; ran = refl; is = sym ran }
     run_lift (e ∷ es) s last within ran =
         let a = event_lift e s (Ok tt) ran.0 within (flat_evicts_none program e (flatten mem s) ran.0 ran.1) ran.1 in
-        let b = run_lift es a.0 last (within_event e s a.0 (Ok tt) within a.1) (subst (λ (x : MachineState (List ℕ)). MachineRan flat program es x last) (sym a.2) ran.2) in
+        let b = run_lift es a.0 last (within_event e s a.0 (Ok tt) within a.1)
+        (subst (λ (x : MachineState (List ℕ)). MachineRan flat program es x last) (sym a.2) ran.2) in
         record { end = b.end; ran = (a.0, a.1, b.ran); is = b.is }
 
   module _ (test : ProgramTest) (ok : IsWellFormedProgram test) where
@@ -173,17 +180,20 @@ module _ {M : Type 0} (mem : Memory M) (inv : Invariant M) (laws : Lawful mem in
           as_many = many;
           rooms = λ t p at.
               let first = started p (slice_get test.head.init_regs t) (sym at ∙ slice_get-map starting test.head.init_regs t) in
-              subst (λ q. HasRoom locs (code_of test.threads t) q (stores_from 0 (code_of test.threads t))) (sym first.1) (record { fits = omega arith; there = All-nil _ });
+              subst (λ q. HasRoom locs (code_of test.threads t) q (stores_from 0 (code_of test.threads t))) (sym first.1)
+              (record { fits = omega arith; there = All-nil _ });
         }
 
-    pub within_reached : (m : M) (es : List Event) (s : MachineState M) → CanStart mem inv test m → MachineRan mem test.threads es (machine_start test m) s → IsWithin test.threads locs ok.code s
+    pub within_reached : (m : M) (es : List Event) (s : MachineState M) → CanStart mem inv test m
+        → MachineRan mem test.threads es (machine_start test m) s → IsWithin test.threads locs ok.code s
     within_reached m es s start ran = within_run test.threads locs ok.code es (machine_start test m) s (within_first m start) ran
 
     -- in a state that is reached, an event that is no eviction is one over the flat memory
     pub reached_flat : (m : M) (es : List Event) (s after : MachineState M) (e : Event) (answer : Answer) → CanStart mem inv test m
         → MachineRan mem test.threads es (machine_start test m) s → IsNoEviction e
         → EventDone mem test.threads e s answer after → EventDone flat test.threads e (flatten mem s) answer (flatten mem after)
-    reached_flat m es s after e answer start ran none done = event_flat mem inv laws test.threads e s after answer (within_reached m es s start ran).sound none done
+    reached_flat m es s after e answer start ran none done = event_flat mem inv laws test.threads e s after answer
+        (within_reached m es s start ran).sound none done
 
     -- and the other way round
     pub reached_lift : (m : M) (es : List Event) (s : MachineState M) (e : Event) (answer : Answer) (mid : MachineState (List ℕ)) → CanStart mem inv test m
@@ -206,13 +216,19 @@ module _ {M : Type 0} (mem : Memory M) (inv : Invariant M) (laws : Lawful mem in
     -- the outcomes are those of the flat memory
     pub outcomes_flat : (m : M) (o : Final) → CanStart mem inv test m → MachineOutcome mem test m o ↔ MachineOutcome flat test test.head.init_words o
     outcomes_flat m o start = (
-      (λ a. (without_evictions a.0, subst (λ w. Replays flat test w (without_evictions a.0) o) start.words (replays_flat mem inv laws test m a.0 o start.sound a.1))),
+      (λ a. (
+        without_evictions a.0,
+        subst (λ w. Replays flat test w (without_evictions a.0) o) start.words
+            (replays_flat mem inv laws test m a.0 o start.sound a.1),
+      )),
       (λ a. (a.0, replays_lift m a.0 o start a.1)),
     )
 
     -- a list without evictions replays over the one where it does over the other
-    pub replays_alike : (m : M) (es : List Event) (o : Final) → CanStart mem inv test m → without_evictions es ≡ es → Replays mem test m es o ↔ Replays flat test test.head.init_words es o
+    pub replays_alike : (m : M) (es : List Event) (o : Final) → CanStart mem inv test m → without_evictions es ≡ es
+        → Replays mem test m es o ↔ Replays flat test test.head.init_words es o
     replays_alike m es o start none = (
-      (λ r. subst (λ fs. Replays flat test test.head.init_words fs o) none (subst (λ w. Replays flat test w (without_evictions es) o) start.words (replays_flat mem inv laws test m es o start.sound r))),
+      (λ r. subst (λ fs. Replays flat test test.head.init_words fs o) none
+          (subst (λ w. Replays flat test w (without_evictions es) o) start.words (replays_flat mem inv laws test m es o start.sound r))),
       (λ r. replays_lift m es o start r),
     )

@@ -1,5 +1,6 @@
 -- A replay speaks of its test's processors and locations alone, and its outcome is of their numbers.
-use Rattle.std.proofs.Common.{◌≡◌, ℕ, zero, suc, ◌<◌, ◌≤◌, Bool, true, false, nat_lt, if◌then◌else◌, List, [], ◌∷◌, length, map, Ok, Err, Option, Some, None, refl, sym, ap, ◌∙◌, subst, slice_get, slice_set, arith}
+use Rattle.std.proofs.Common.{◌≡◌, ℕ, zero, suc, ◌<◌, ◌≤◌, Bool, true, false, nat_lt, if◌then◌else◌, List, [], ◌∷◌, length, map, Ok, Err, Option, Some, None}
+use Rattle.std.proofs.Common.{refl, sym, ap, ◌∙◌, subst, slice_get, slice_set, arith}
 use Rattle.std.specs.List.{AllByRecursion}
 use Rattle.std.proofs.lemmas.List.{length-map}
 use Rattle.std.proofs.lemmas.Bool.{ltb-true}
@@ -58,11 +59,16 @@ module _ {M : Type 0} (mem : Memory M) (inv : Invariant M) where
   evicted_there false t x locs p q m n lt done = absurd (let e : ◌≡◌ {A = Answer} (Ok tt) (Err NoLocation) = done.0 in cc)
 
   -- an event that is carried out, of a processor that is there
-  there : (program : List (List Instr)) (names : NameTable) (e : Event) (p q : Processor) (m n : M) → cpu_of e < most_threads → length (mem.content m) ≡ length names
+  there : (program : List (List Instr)) (names : NameTable) (e : Event) (p q : Processor) (m n : M) → cpu_of e < most_threads
+      → length (mem.content m) ≡ length names
       → ActDone mem (cpu_of e) (event_act program (length (mem.content m)) e p) p m (Ok tt) q n → IsEvent names e
   there program names (Step t) p q m n lt locs done = lt
   there program names (Drain t) p q m n lt locs done = lt
-  there program names (Evict t x) p q m n lt locs done = (lt, subst (λ k. x < k) locs (evicted_there (nat_lt x (length (mem.content m))) t x (length (mem.content m)) p q m n refl done))
+  there program names (Evict t x) p q m n lt locs done = (
+    lt,
+    subst (λ k. x < k) locs
+        (evicted_there (nat_lt x (length (mem.content m))) t x (length (mem.content m)) p q m n refl done),
+  )
 
   -- ---- a machine of so many threads and locations
 
@@ -73,13 +79,15 @@ module _ {M : Type 0} (mem : Memory M) (inv : Invariant M) where
     sound : inv.sound s.memory
 
   module _ (laws : Lawful mem inv) (program : List (List Instr)) (names : NameTable) (threads : ℕ) (few : threads ≤ most_threads) where
-    event_of : (e : Event) (s after : MachineState M) → IsMachineOf threads (length names) s → EventDone mem program e s (Ok tt) after → IsEvent names e × IsMachineOf threads (length names) after
+    event_of : (e : Event) (s after : MachineState M) → IsMachineOf threads (length names) s → EventDone mem program e s (Ok tt) after
+        → IsEvent names e × IsMachineOf threads (length names) after
     event_of e s after is done = go (slice_get s.processors (cpu_of e)) refl done
       where
         kept : IsSameSize mem inv s after
         kept = event_kept mem inv laws program e s after (Ok tt) is.sound done
 
-        go : (o : Option Processor) → slice_get s.processors (cpu_of e) ≡ o → DoneBy mem o program e s (Ok tt) after → IsEvent names e × IsMachineOf threads (length names) after
+        go : (o : Option Processor) → slice_get s.processors (cpu_of e) ≡ o → DoneBy mem o program e s (Ok tt) after
+            → IsEvent names e × IsMachineOf threads (length names) after
         go None at by = absurd (let e : ◌≡◌ {A = Answer} (Ok tt) (Err NoCpu) = by.0 in cc)
         go (Some p) at by =
             let lt = slice_get_within s.processors (cpu_of e) p at in
@@ -89,13 +97,15 @@ module _ {M : Type 0} (mem : Memory M) (inv : Invariant M) where
               there program names e p by.0 s.memory by.1 (omega (arith, lt, is.processors, few)) is.words by.2,
               record {
                 processors = kept.processors ∙ is.processors;
-                have = subst (λ (a : MachineState M). AllByRecursion HasRegisters a.processors) (sym by.3) (all_set HasRegisters s.processors (cpu_of e) by.0 is.have next);
+                have = subst (λ (a : MachineState M). AllByRecursion HasRegisters a.processors) (sym by.3)
+                    (all_set HasRegisters s.processors (cpu_of e) by.0 is.have next);
                 words = kept.locations ∙ is.words;
                 sound = kept.sound;
               },
             )
 
-    run_of : (es : List Event) (s end : MachineState M) → IsMachineOf threads (length names) s → MachineRan mem program es s end → AllByRecursion (IsEvent names) es × IsMachineOf threads (length names) end
+    run_of : (es : List Event) (s end : MachineState M) → IsMachineOf threads (length names) s → MachineRan mem program es s end
+        → AllByRecursion (IsEvent names) es × IsMachineOf threads (length names) end
     run_of [] s end is ran = (tt, subst (IsMachineOf threads (length names)) (sym ran) is)
     run_of (e ∷ es) s end is ran =
         let first = event_of e s ran.0 is ran.1 in

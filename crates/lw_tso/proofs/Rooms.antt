@@ -1,5 +1,6 @@
 -- A store buffer's room, through every event of its processor.
-use Rattle.std.proofs.Common.{◌≡◌, ℕ, zero, suc, ◌+◌, ◌<◌, ◌≤◌, true, cond, List, [], ◌∷◌, ◌++◌, length, length-append, get_or, Some, refl, sym, ap, ◌∙◌, subst, arith, slice_get, ⊎_elim}
+use Rattle.std.proofs.Common.{◌≡◌, ℕ, zero, suc, ◌+◌, ◌<◌, ◌≤◌, true, cond, List, [], ◌∷◌, ◌++◌, length, length-append, get_or, Some, refl, sym, ap, ◌∙◌, subst}
+use Rattle.std.proofs.Common.{arith, slice_get, ⊎_elim}
 use Rattle.std.specs.Prelude.{All}
 use Rattle.std.proofs.lemmas.List.Elements.{All-append}
 use Rattle.std.proofs.lemmas.List.Sums.{sum_by-take-drop, sum_by-drop_more}
@@ -10,7 +11,7 @@ use Rattle.lw_memory.specs.Memory.{Memory}
 use Rattle.lw_litmus.specs.WellFormed.{IsThread, IsStatement}
 use Rattle.lw_litmus.specs.declared.instr.Instr.{Instr}
 use Rattle.lw_litmus.specs.Operations.{Leads}
-use Rattle.lw_litmus.specs.Programs.{operation_of, x86}
+use Rattle.lw_litmus.specs.Programs.{x86_operation, x86}
 use Rattle.lw_tso.specs.Processors.{Processor}
 use Rattle.lw_tso.specs.Acts.{cpu_of, event_act}
 use Rattle.lw_tso.specs.Machines.{Answer, ActDone}
@@ -26,7 +27,7 @@ module _ (locs : ℕ) (code : List Instr) (thread : IsThread x86 locs code) wher
       subst (IsStatement x86 locs) got (thread.there k i (slice_get_within code k i at))
 
   -- and it leads forward
-  pub forward : (k j : ℕ) (i : Instr) → slice_get code k ≡ Some i → Leads (operation_of i) k j → k < j
+  pub forward : (k j : ℕ) (i : Instr) → slice_get code k ≡ Some i → Leads (x86_operation i) k j → k < j
   forward k j i at leads = ⊎_elim (λ on. (omega (arith, on.1))) (λ to. (thread.forward k i at j to).0) leads
 
 -- one, where the instruction is a store
@@ -90,7 +91,7 @@ module _ (locs : ℕ) (code : List Instr) (room : ℕ) where
       })
 
   -- what the instruction at its position makes of it
-  went : IsThread x86 locs code → (p q : Processor) (i : Instr) → slice_get code p.position ≡ Some i → Went (operation_of i) p q → Room p → Room q
+  went : IsThread x86 locs code → (p q : Processor) (i : Instr) → slice_get code p.position ≡ Some i → Went (x86_operation i) p q → Room p → Room q
   went thread p q i at w has =
       let later = forward locs code thread p.position q.position i at w.leads in
       ⊎_elim

@@ -1,5 +1,6 @@
 -- Processors at the start of a program, and a machine of them.
-use Rattle.std.proofs.Common.{◌≡◌, ℕ, suc, ◌+◌, ◌<◌, ◌≤◌, List, [], ◌∷◌, ◌++◌, length, map, take, get_or, Option, Some, None, refl, sym, ap, ◌∙◌, subst, arith, slice_get, inl, inr, ◌⊎◌}
+use Rattle.std.proofs.Common.{◌≡◌, ℕ, suc, ◌+◌, ◌<◌, ◌≤◌, List, [], ◌∷◌, ◌++◌, length, map, take, get_or, Option, Some, None, refl, sym, ap, ◌∙◌, subst, arith}
+use Rattle.std.proofs.Common.{slice_get, inl, inr, ◌⊎◌}
 use Rattle.std.specs.Option.{option_map}
 use Rattle.std.proofs.Math.Seq.{take-suc}
 use Rattle.std.proofs.lemmas.Bool.{cases_eq}
@@ -42,14 +43,17 @@ module _ {A : Type 0} (program : List (List Instr)) (regs : List (List ℕ)) whe
   one_more n processors next p so_far within is started roomy =
       let more : take (suc n) regs ≡ take n regs ++ get_or regs n [] ∷ [] = take-suc regs n [] within in
       let last : suc n ≡ n + 1 = omega arith in
-      let many : length processors ≡ n = sym (length-map processors processor_of) ∙ ap length so_far.start ∙ length-map (take n regs) starting ∙ length-take-le n regs (omega (arith, within)) in
+      let many : length processors ≡ n = sym (length-map processors processor_of) ∙ ap length so_far.start ∙ length-map (take n regs) starting
+      ∙ length-take-le n regs (omega (arith, within)) in
       record {
-        start = ap (map processor_of) is ∙ map-append processor_of processors (p ∷ []) ∙ rw (so_far.start, started, ← last, more) (sym (map-append starting (take n regs) (get_or regs n [] ∷ [])));
+        start = ap (map processor_of) is ∙ map-append processor_of processors (p ∷ []) ∙ rw (so_far.start, started, ← last, more)
+            (sym (map-append starting (take n regs) (get_or regs n [] ∷ [])));
         rooms = more_places (λ t q. stores_from 0 (code_of program t) ≤ q.buffer.room) processors next p is so_far.rooms (rw many roomy);
       }
 
   -- processors with the same rooms have room for their codes too
-  pub still_roomy : (before now : List (ProcessorInMemory A)) → map (λ (p : ProcessorInMemory A). p.buffer.room) now ≡ map (λ (p : ProcessorInMemory A). p.buffer.room) before
+  pub still_roomy : (before now : List (ProcessorInMemory A))
+      → map (λ (p : ProcessorInMemory A). p.buffer.room) now ≡ map (λ (p : ProcessorInMemory A). p.buffer.room) before
       → ((t : ℕ) (p : ProcessorInMemory A) → slice_get before t ≡ Some p → stores_from 0 (code_of program t) ≤ p.buffer.room)
       → (t : ℕ) (p : ProcessorInMemory A) → slice_get now t ≡ Some p → stores_from 0 (code_of program t) ≤ p.buffer.room
   still_roomy before now same roomy t p at = go (slice_get before t) refl
@@ -62,10 +66,12 @@ module _ {A : Type 0} (program : List (List Instr)) (regs : List (List ℕ)) whe
 
       go : (o : Option (ProcessorInMemory A)) → slice_get before t ≡ o → stores_from 0 (code_of program t) ≤ p.buffer.room
       go None e = absurd (let none : option_map room None ≡ Some (room p) = subst (λ o. option_map room o ≡ Some (room p)) e seen in cc)
-      go (Some q) e = subst (λ (n : ℕ). stores_from 0 (code_of program t) ≤ n) (same_Some (room q) (room p) (subst (λ o. option_map room o ≡ Some (room p)) e seen)) (roomy t q e)
+      go (Some q) e = subst (λ (n : ℕ). stores_from 0 (code_of program t) ≤ n)
+          (same_Some (room q) (room p) (subst (λ o. option_map room o ≡ Some (room p)) e seen)) (roomy t q e)
 
   module _ {M : Type 0} (mem : Memory M) (inv : Invariant M) (locs : ℕ) (m : M) (processors : List (ProcessorInMemory A)) where
-    starts_with : (t : ℕ) (p : ProcessorInMemory A) (o : Option (List ℕ)) → Some (processor_of p) ≡ option_map starting o → (r : List ℕ) × (processor_of p ≡ starting r)
+    starts_with : (t : ℕ) (p : ProcessorInMemory A) (o : Option (List ℕ)) → Some (processor_of p) ≡ option_map starting o
+        → (r : List ℕ) × (processor_of p ≡ starting r)
     starts_with t p None e = absurd cc
     starts_with t p (Some r) e = (r, same_Some (processor_of p) (starting r) e)
 
@@ -82,7 +88,9 @@ module _ {A : Type 0} (program : List (List Instr)) (regs : List (List ℕ)) whe
           cpus = omega (arith, as_many, cpus);
           as_many = as_many;
           rooms = λ t p at.
-              let seen : Some (processor_of p) ≡ option_map starting (slice_get regs t) = sym (slice_get-map processor_of processors t ∙ ap (option_map processor_of) at) ∙ ap (λ ps. slice_get ps t) started ∙ slice_get-map starting regs t in
+              let seen : Some (processor_of p) ≡ option_map starting (slice_get regs t) = sym
+              (slice_get-map processor_of processors t ∙ ap (option_map processor_of) at) ∙ ap (λ ps. slice_get ps t) started
+              ∙ slice_get-map starting regs t in
               let first = starts_with t p (slice_get regs t) seen in
               subst (λ q. HasRoom locs (code_of program t) q p.buffer.room) (sym first.1) (record { fits = omega (arith, roomy t p at); there = All-nil _ });
           whole = roomy;

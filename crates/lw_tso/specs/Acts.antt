@@ -12,75 +12,53 @@ use Rattle.lw_litmus.specs.declared.instr.Instr.{Instr}
 use Rattle.lw_litmus.specs.declared.operation.Operation.{Operation}
 use Rattle.lw_litmus.specs.declared.operation.Operation.TheVariants.{Set, Sum, Compare, Store, Load, Swap, FetchAdd, Fence, Branch}
 use Rattle.lw_litmus.specs.Operations.{holds}
-use Rattle.lw_litmus.specs.Programs.{operation_of}
+use Rattle.lw_litmus.specs.Programs.{x86_operation}
 use Rattle.lw_base.specs.Threads.{value_of, code_of}
 use Rattle.lw_tso.specs.Processors.{Processor, newest, going_on, getting, getting_if, flagging, buffering, jumping}
 
--- What an event comes to.
-pub data Act : Type 0 where
-  -- it is refused
-  Refused : Stop → Act
-  -- the processor alone changes
-  Goes : Processor → Act
-  -- a location's word is asked for; the processor with it
-  Loads : ℕ → (ℕ → Processor) → Act
-  -- a location gets a word; the processor after it
-  Stores : ℕ → ℕ → Processor → Act
-  -- a location gets a word; the processor with the one before
-  Swaps : ℕ → ℕ → (ℕ → Processor) → Act
-  -- a word is added to a location's; the processor with the one before
-  Adds : ℕ → ℕ → (ℕ → Processor) → Act
-  -- the processor's line of a location is given up
-  Evicts : ℕ → Act
+pub data Act : Type 0 where  -- What an event comes to.
+  Refused : Stop → Act  -- it is refused
+  Goes : Processor → Act  -- the processor alone changes
+  Loads : ℕ → (ℕ → Processor) → Act  -- a location's word is asked for; the processor with it
+  Stores : ℕ → ℕ → Processor → Act  -- a location gets a word; the processor after it
+  Swaps : ℕ → ℕ → (ℕ → Processor) → Act  -- a location gets a word; the processor with the one before
+  Adds : ℕ → ℕ → (ℕ → Processor) → Act  -- a word is added to a location's; the processor with the one before
+  Evicts : ℕ → Act  -- the processor's line of a location is given up
 
--- the processor's own newest word, or else the memory's
-abbrev pub load_act : Option ℕ → ℕ → (ℕ → Processor) → Act
+abbrev pub load_act : Option ℕ → ℕ → (ℕ → Processor) → Act  -- the processor's own newest word, or else the memory's
 load_act (Some w) x next = Goes (next w)
 load_act None x next = Loads x next
 
--- refused while the buffer has an entry
-abbrev pub once_empty : List (ℕ × ℕ) → Stop → Act → Act
+abbrev pub once_empty : List (ℕ × ℕ) → Stop → Act → Act  -- refused while the buffer has an entry
 once_empty [] stop act = act
 once_empty (entry ∷ newer) stop act = Refused stop
 
--- What an operation of the processor comes to: a row for each.
-abbrev pub operation_act : Operation → Processor → Act
--- `MOV d,v`
-operation_act (Set d v) p = Goes (going_on (getting p d (value_of v p.regs)))
--- `ADD d,v`: the flag tells whether the sum is 0
-operation_act (Sum d a v) p =
+abbrev pub operation_act : Operation → Processor → Act  -- What an operation of the processor comes to: a row for each.
+operation_act (Set d v) p = Goes (going_on (getting p d (value_of v p.regs)))  -- `MOV d,v`
+operation_act (Sum d a v) p =  -- `ADD d,v`: the flag tells whether the sum is 0
     let sum = sum_of (slice_index p.regs a) (value_of v p.regs) in
     Goes (going_on (flagging (getting p d sum) (sum == 0)))
--- `CMP a,v`: the flag tells whether they are equal
-operation_act (Compare a v) p = Goes (going_on (flagging p (slice_index p.regs a == value_of v p.regs)))
--- `MOV [x],v`: to the end of the buffer
-operation_act (Store x v) p = Goes (going_on (buffering p x (value_of v p.regs)))
--- `MOV d,[x]`
-operation_act (Load d x) p = load_act (newest p.buffer x) x (λ w. going_on (getting p d w))
--- `XCHG [x],a`
-operation_act (Swap d x a) p =
+operation_act (Compare a v) p =  -- `CMP a,v`: the flag tells whether they are equal
+    Goes (going_on (flagging p (slice_index p.regs a == value_of v p.regs)))
+operation_act (Store x v) p = Goes (going_on (buffering p x (value_of v p.regs)))  -- `MOV [x],v`: to the end of the buffer
+operation_act (Load d x) p = load_act (newest p.buffer x) x (λ w. going_on (getting p d w))  -- `MOV d,[x]`
+operation_act (Swap d x a) p =  -- `XCHG [x],a`
     once_empty p.buffer SwapWaits (Swaps x (slice_index p.regs a) (λ w. going_on (getting p d w)))
--- `LOCK XADD [x],a`: the flag tells whether the sum is 0
-operation_act (FetchAdd d x v) p =
+operation_act (FetchAdd d x v) p =  -- `LOCK XADD [x],a`: the flag tells whether the sum is 0
     let word = value_of v p.regs in
     once_empty p.buffer SwapWaits (Adds x word (λ w. going_on (flagging (getting_if p d w) (sum_of w word == 0))))
--- `MFENCE`
-operation_act Fence p = once_empty p.buffer FenceWaits (Goes (going_on p))
--- `JE L`, `JNE L`, `JMP L`
-operation_act (Branch c to) p = Goes (jumping p (holds c p.regs p.zero_flag) to)
+operation_act Fence p = once_empty p.buffer FenceWaits (Goes (going_on p))  -- `MFENCE`
+operation_act (Branch c to) p = Goes (jumping p (holds c p.regs p.zero_flag) to)  -- `JE L`, `JNE L`, `JMP L`
 
--- what the processor's next instruction comes to, if there is one
-abbrev pub step_act : Option Instr → Processor → Act
+abbrev pub step_act : Option Instr → Processor → Act  -- what the processor's next instruction comes to, if there is one
 step_act None p = Refused Ended
-step_act (Some i) p = operation_act (operation_of i) p
+step_act (Some i) p = operation_act (x86_operation i) p
 
--- the oldest entry of the buffer goes to memory
-abbrev pub drain_act : List (ℕ × ℕ) → Processor → Act
+abbrev pub drain_act : List (ℕ × ℕ) → Processor → Act  -- the oldest entry of the buffer goes to memory
 drain_act [] p = Refused BufferEmpty
 drain_act (entry ∷ newer) p = Stores entry.0 entry.1 (record p { buffer = newer })
 
--- the processor of an event
-abbrev pub cpu_of : Event → ℕ
+abbrev pub cpu_of : Event → ℕ  -- the processor of an event
 cpu_of (Step t) = t
 cpu_of (Drain t) = t
 cpu_of (Evict t x) = t

@@ -9,7 +9,7 @@ use Rattle.lw_litmus.specs.declared.instr.Instr.{Instr}
 use Rattle.lw_litmus.specs.declared.operation.Operation.{Operation}
 use Rattle.lw_litmus.specs.declared.operation.Operation.TheVariants.{Load}
 use Rattle.lw_litmus.specs.Operations.{waits}
-use Rattle.lw_litmus.specs.Programs.{operation_of}
+use Rattle.lw_litmus.specs.Programs.{x86_operation}
 use Rattle.lw_tso.specs.Processors.{Processor}
 use Rattle.lw_tso.specs.Acts.{Act, Refused, Goes, Loads, Stores, Swaps, Adds, Evicts, cpu_of, event_act}
 use Rattle.lw_tso.specs.Machines.{MachineState, position_of, EventDone}
@@ -25,18 +25,18 @@ accessed (Adds x v next) = Some x
 accessed (Evicts x) = None
 
 -- whether it writes it
-abbrev pub writes : Act → Bool
-writes (Refused stop) = false
-writes (Goes next) = false
-writes (Loads x next) = false
-writes (Stores x w next) = true
-writes (Swaps x v next) = true
-writes (Adds x v next) = true
-writes (Evicts x) = false
+abbrev pub event_writes : Act → Bool
+event_writes (Refused stop) = false
+event_writes (Goes next) = false
+event_writes (Loads x next) = false
+event_writes (Stores x w next) = true
+event_writes (Swaps x v next) = true
+event_writes (Adds x v next) = true
+event_writes (Evicts x) = false
 
 -- a location that both access is written by neither
 abbrev pub DoNotConflict : Act → Act → Type 0
-DoNotConflict a b = (x : ℕ) → accessed a ≡ Some x → accessed b ≡ Some x → (writes a ≡ false) × (writes b ≡ false)
+DoNotConflict a b = (x : ℕ) → accessed a ≡ Some x → accessed b ≡ Some x → (event_writes a ≡ false) × (event_writes b ≡ false)
 
 -- an operation may pass the drain of an entry for x: it does not wait for an empty buffer, and does not load x
 abbrev pub MayPass : ℕ → Operation → Type 0
@@ -47,7 +47,7 @@ MayPass x o = waits o ≡ false
 abbrev pub MayPassOldest : List (ℕ × ℕ) → Option Instr → Type 0
 MayPassOldest [] i = ⊥
 MayPassOldest (entry ∷ newer) None = ⊥
-MayPassOldest (entry ∷ newer) (Some i) = MayPass entry.0 (operation_of i)
+MayPassOldest (entry ∷ newer) (Some i) = MayPass entry.0 (x86_operation i)
 
 -- two events of the processor p: a drain and an instruction that may pass it, in either order
 abbrev pub ArePassing : List (List Instr) → Event → Event → Processor → Type 0

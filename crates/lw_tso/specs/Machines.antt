@@ -14,21 +14,17 @@ pub record MachineState (M : Type 0) : Type 0 where
   pub processors : List Processor
   pub memory : M
 
--- the entries of a processor's store buffer, the oldest first
-abbrev pub buffer_of : {M : Type 0} → MachineState M → ℕ → List (ℕ × ℕ)
+abbrev pub buffer_of : {M : Type 0} → MachineState M → ℕ → List (ℕ × ℕ)  -- the entries of a processor's store buffer, the oldest first
 buffer_of s t = slice_index_or (map (λ p. p.buffer) s.processors) t []
 
--- the position of a processor
-abbrev pub position_of : {M : Type 0} → MachineState M → ℕ → Option ℕ
+abbrev pub position_of : {M : Type 0} → MachineState M → ℕ → Option ℕ  -- the position of a processor
 position_of s t = slice_get (map (λ p. p.position) s.processors) t
 
--- what is answered: nothing, or why the event is refused
-abbrev pub Answer : Type 0
+abbrev pub Answer : Type 0  -- what is answered: nothing, or why the event is refused
 Answer = Result (Unit {0}) Stop
 
 module _ {M : Type 0} (mem : Memory M) where
-  -- the same processors over the memory's content
-  abbrev pub flatten : MachineState M → MachineState (List ℕ)
+  abbrev pub flatten : MachineState M → MachineState (List ℕ)  -- the same processors over the memory's content
   flatten s = record { processors = s.processors; memory = mem.content s.memory }
 
   -- An eviction is refused where the processor doesn't hold the line.

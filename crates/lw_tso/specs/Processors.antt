@@ -5,43 +5,33 @@ use Rattle.std.specs.Prelude.{ℕ, ◌+◌, ◌==◌, Bool, false, if◌then◌e
 use Rattle.std.specs.Option.{option_or}
 
 pub record Processor : Type 0 where
-  -- the number of its next instruction
-  pub position : ℕ
+  pub position : ℕ  -- the number of its next instruction
   pub regs : List ℕ
   pub zero_flag : Bool
-  -- its store buffer: locations with words, the oldest entry first
-  pub buffer : List (ℕ × ℕ)
+  pub buffer : List (ℕ × ℕ)  -- its store buffer: locations with words, the oldest entry first
 
--- a processor at its first instruction
-abbrev pub starting : List ℕ → Processor
+abbrev pub starting : List ℕ → Processor  -- a processor at its first instruction
 starting regs = record { position = 0; regs = regs; zero_flag = false; buffer = [] }
 
--- the newest word that a buffer has for a location
-abbrev pub newest : List (ℕ × ℕ) → ℕ → Option ℕ
+abbrev pub newest : List (ℕ × ℕ) → ℕ → Option ℕ  -- the newest word that a buffer has for a location
 newest [] x = None
 newest (entry ∷ newer) x = option_or (newest newer x) (if entry.0 == x then Some entry.1 else None)
 
--- at the next instruction
-abbrev pub going_on : Processor → Processor
+abbrev pub going_on : Processor → Processor  -- at the next instruction
 going_on p = record p { position = p.position + 1 }
 
--- at the target, or else at the next instruction
-abbrev pub jumping : Processor → Bool → ℕ → Processor
+abbrev pub jumping : Processor → Bool → ℕ → Processor  -- at the target, or else at the next instruction
 jumping p holds to = record p { position = if holds then to else p.position + 1 }
 
--- with a word in a register
-abbrev pub getting : Processor → ℕ → ℕ → Processor
+abbrev pub getting : Processor → ℕ → ℕ → Processor  -- with a word in a register
 getting p d w = record p { regs = slice_set p.regs d w }
 
--- the same, if a register is named
-abbrev pub getting_if : Processor → Option ℕ → ℕ → Processor
+abbrev pub getting_if : Processor → Option ℕ → ℕ → Processor  -- the same, if a register is named
 getting_if p None w = p
 getting_if p (Some d) w = getting p d w
 
--- with the zero flag telling this
-abbrev pub flagging : Processor → Bool → Processor
+abbrev pub flagging : Processor → Bool → Processor  -- with the zero flag telling this
 flagging p holds = record p { zero_flag = holds }
 
--- with an entry in its buffer, behind all others
-abbrev pub buffering : Processor → ℕ → ℕ → Processor
+abbrev pub buffering : Processor → ℕ → ℕ → Processor  -- with an entry in its buffer, behind all others
 buffering p x w = record p { buffer = p.buffer ++ (x, w) ∷ [] }

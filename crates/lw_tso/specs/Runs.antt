@@ -11,31 +11,24 @@ use Rattle.lw_tso.specs.Processors.{Processor, starting}
 use Rattle.lw_tso.specs.Machines.{MachineState, EventDone}
 use Rattle.lw_base.specs.Replays as replays
 
--- past its last instruction, with an empty buffer
-abbrev pub is_done : List Instr → Processor → Bool
+abbrev pub is_done : List Instr → Processor → Bool  -- past its last instruction, with an empty buffer
 is_done code p = nat_le (length code) p.position && (length p.buffer == 0)
 
 module _ {M : Type 0} where
-  -- all processors at their first instructions with these registers, over this memory
-  abbrev pub start_with : List (List ℕ) → M → MachineState M
-  start_with regs m = record { processors = map starting regs; memory = m }
-
-  -- the same with a test's initial registers
+  -- all processors at their first instructions with a test's initial registers, over this memory
   abbrev pub machine_start : ProgramTest → M → MachineState M
-  machine_start test m = start_with test.head.init_regs m
+  machine_start test m = record { processors = map starting test.head.init_regs; memory = m }
 
-  -- all threads are at their ends, and all buffers are empty
-  abbrev pub is_final : List (List Instr) → MachineState M → Bool
+  abbrev pub is_final : List (List Instr) → MachineState M → Bool  -- all threads are at their ends, and all buffers are empty
   is_final program s = list_all (λ p. is_done p.0 p.1) (zip program s.processors)
 
 module _ {M : Type 0} (mem : Memory M) where
-  -- the registers of a state, and the memory's content
-  abbrev pub machine_outcome : MachineState M → Final
+  abbrev pub machine_outcome : MachineState M → Final  -- the registers of a state, and the memory's content
   machine_outcome s = record { regs = map (λ p. p.regs) s.processors; words = mem.content s.memory }
 
   -- The events lead, each possible in turn, from a state to another.
   abbrev pub MachineRan : List (List Instr) → List Event → MachineState M → MachineState M → Type 0
-  MachineRan program = replays.Ran (EventDone mem program) (is_final program)
+  MachineRan program = replays.Ran (EventDone mem program)
 
   -- A replay carries out the events before the first that is refused, or all.
   abbrev pub MachineReplayed : List (List Instr) → List Event → MachineState M → Replay → MachineState M → Type 0
@@ -48,17 +41,14 @@ module _ {M : Type 0} (mem : Memory M) where
     pub final : IsTrue (is_final test.threads end)
     pub is : o ≡ machine_outcome end
 
-  -- Some list of events does.
-  abbrev pub MachineOutcome : ProgramTest → M → Final → Type 0
+  abbrev pub MachineOutcome : ProgramTest → M → Final → Type 0  -- Some list of events does.
   MachineOutcome test m o = (events : List Event) × Replays test m events o
 
--- the registers of each thread and the words of the locations with which a test starts
-pub record Initial : Type 0 where
+pub record Initial : Type 0 where  -- the registers of each thread and the words of the locations with which a test starts
   pub regs : List (List ℕ)
   pub words : List ℕ
 
--- What a `Machine` is: a program, with what its test starts with, and the state that it is in.
-pub record Running (M : Type 0) : Type 0 where
+pub record Running (M : Type 0) : Type 0 where  -- What a `Machine` is: a program, with what its test starts with, and the state that it is in.
   pub program : List (List Instr)
   pub initial : Initial
   pub state : MachineState M

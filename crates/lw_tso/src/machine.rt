@@ -6,7 +6,7 @@ ghost use Rattle.lw_memory.specs.Memory.{memory_of};
 ghost use Rattle.lw_litmus.specs.Tests.{test_of};
 ghost use Rattle.lw_tso.specs.Processors.{starting};
 ghost use Rattle.lw_tso.specs.Machines.{EventDone, buffer_of};
-ghost use Rattle.lw_tso.specs.Runs.{is_done, start_with, machine_start, machine_outcome, MachineReplayed};
+ghost use Rattle.lw_tso.specs.Runs.{is_done, machine_start, machine_outcome, MachineReplayed};
 ghost use Rattle.lw_tso.specs.Runs as runs;
 ghost use Rattle.lw_base.specs.Threads.{code_of};
 ghost use Rattle.lw_tso.specs.inner.Rooms.{stores_from};
@@ -122,7 +122,7 @@ impl<'a, M: MemorySystem, A: Allocator, B: Allocator> Machine<'a, M, A, B> {
         ensures program { self.new.program ≡ self.old.program }
         ensures initial { self.new.initial ≡ self.old.initial }
         ensures state { self.new.state
-            ≡ start_with self.old.initial.regs (M.start (M.cpus self.old.state.memory) self.old.initial.words) }
+            ≡ record { processors = map starting self.old.initial.regs; memory = M.start (M.cpus self.old.state.memory) self.old.initial.words } }
         ensures sound { M.sound self.new.state.memory }
         ensures cpus { length self.new.program ≤ M.cpus self.new.state.memory }
         ensures words { M.content self.new.state.memory ≡ self.old.initial.words }

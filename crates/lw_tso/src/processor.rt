@@ -1,5 +1,6 @@
 //! A processor of the machine: its place in its code, its registers and its store buffer, and what its events do.
-ghost use Rattle.std.specs.Prelude.{◌≡◌, ◌+◌, ◌<◌, ◌≤◌, ◌^◌, ◌==◌, ◌&&◌, nat_le, true, Some, Ok, Err, length, max, slice_index, if◌then◌else◌, All, IfOk, OnOk, OnErr};
+ghost use Rattle.std.specs.Prelude.{◌≡◌, ◌+◌, ◌<◌, ◌≤◌, ◌^◌, ◌==◌, ◌&&◌, nat_le, true, Some, Ok, Err, length, max, slice_index, if◌then◌else◌, All, IfOk, OnOk};
+ghost use Rattle.std.specs.Prelude.{OnErr};
 ghost use Rattle.std.specs.Option.{ForSome};
 ghost use Rattle.lw_base.specs.Sums.{sum_of};
 ghost use Rattle.lw_memory.specs.Memory.{memory_of};
@@ -89,7 +90,7 @@ impl<A: Allocator> Processor<A> {
             Operation::Store { loc, val } => self.store(loc, self.value(val)),
             Operation::Load { dst, loc } => self.load(cpu, dst, loc, memory),
             Operation::Swap { dst, loc, src } => return self.swap(cpu, dst, loc, src, memory),
-            Operation::FetchAdd { dst, loc, val } => {
+            Operation::FetchAdd(dst, loc, val) => {
                 return self.fetch_add(cpu, dst, loc, val, memory);
             }
             Operation::Fence => return self.fence(),

@@ -9,7 +9,8 @@ use Rattle.lw_litmus.specs.WellFormedTests.{IsWellFormedProgram}
 use Rattle.lw_litmus.specs.Tests.{ProgramTest}
 use Rattle.lw_whole.specs.OverCaches.{caches_at_start}
 
-pub starts : ((p : Protocol) (cpus : ℕ) (words : List ℕ) → cpus ≤ 4 → IsKept p (empty_caches cpus words)) → ((cpus : ℕ) (words : List ℕ) → contents_of (empty_caches cpus words) ≡ words)
+pub starts : ((p : Protocol) (cpus : ℕ) (words : List ℕ) → cpus ≤ 4 → IsKept p (empty_caches cpus words))
+    → ((cpus : ℕ) (words : List ℕ) → contents_of (empty_caches cpus words) ≡ words)
     → (p : Protocol) (test : ProgramTest) → IsWellFormedProgram test → CanStart (caches_by p) (caches_invariant p) test (caches_at_start test)
 starts kept content p test ok = record {
   sound = kept p test.head.threads test.head.init_words (omega (arith, ok.head.few));

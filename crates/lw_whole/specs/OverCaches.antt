@@ -8,14 +8,11 @@ use Rattle.lw_mesi.specs.declared.protocol.Protocol.{Protocol}
 use Rattle.lw_tso.specs.Runs.{Replays, MachineOutcome}
 use Rattle.lw_litmus.specs.Tests.{ProgramTest}
 
--- the caches of a test at its start, which hold nothing
-abbrev pub caches_at_start : ProgramTest → Caches
+abbrev pub caches_at_start : ProgramTest → Caches  -- the caches of a test at its start, which hold nothing
 caches_at_start test = empty_caches test.head.threads test.head.init_words
 
--- These steps, drains and evictions lead to the outcome.
-abbrev pub ReplaysOverCaches : Protocol → ProgramTest → List Event → Final → Type 0
+abbrev pub ReplaysOverCaches : Protocol → ProgramTest → List Event → Final → Type 0  -- These steps, drains and evictions lead to the outcome.
 ReplaysOverCaches protocol test = Replays (caches_by protocol) test (caches_at_start test)
 
--- Some list of steps, drains and evictions leads to the outcome.
-abbrev pub OutcomeOverCaches : Protocol → ProgramTest → Final → Type 0
+abbrev pub OutcomeOverCaches : Protocol → ProgramTest → Final → Type 0  -- Some list of steps, drains and evictions leads to the outcome.
 OutcomeOverCaches protocol test = MachineOutcome (caches_by protocol) test (caches_at_start test)

@@ -1,5 +1,6 @@
 -- Steps of the threads: what each of them moves, where it leads, and which can be exchanged.
-use Rattle.std.proofs.Common.{◌≡◌, ◌≢◌, ℕ, ◌+◌, Bool, true, false, ◌||◌, ◌&&◌, if◌then◌else◌, List, Option, Some, None, Ok, refl, sym, ap, ap₂, ◌∙◌, subst, inl, inr, ◌⊎◌, slice_get, slice_set, slice_index}
+use Rattle.std.proofs.Common.{◌≡◌, ◌≢◌, ℕ, ◌+◌, Bool, true, false, ◌||◌, ◌&&◌, if◌then◌else◌, List, Option, Some, None, Ok, refl, sym, ap, ap₂, ◌∙◌, subst, inl}
+use Rattle.std.proofs.Common.{inr, ◌⊎◌, slice_get, slice_set, slice_index}
 use Rattle.std.specs.Option.{option_map, option_and_then}
 use Rattle.std.proofs.lemmas.Bool.{eq-eqb}
 use Rattle.std.proofs.lemmas.List.{set_comm, set-get_or, get_or-set_other}
@@ -10,11 +11,11 @@ use Rattle.lw_litmus.specs.declared.operation.Operation.{Operation}
 use Rattle.lw_litmus.specs.declared.operation.Operation.TheVariants.{Store, Load, Swap, FetchAdd, Branch}
 use Rattle.lw_litmus.specs.declared.stmt.Stmt.{Stmt}
 use Rattle.lw_litmus.specs.Operations.{location_of, writes, Leads, holds}
-use Rattle.lw_litmus.specs.Sources.{source, operation_of}
+use Rattle.lw_litmus.specs.Sources.{source, source_operation}
 use Rattle.lw_interleaving.specs.declared.thread.Thread.{Thread}
 use Rattle.lw_base.specs.Sums.{sum_of}
 use Rattle.lw_base.specs.Threads.{value_of, code_of}
-use Rattle.lw_interleaving.specs.Statements.{getting, getting_if, thread_after, words_after}
+use Rattle.lw_interleaving.specs.Statements.{at_next_with, at_next_with_if, thread_after, words_after}
 use Rattle.lw_interleaving.specs.Runs.{State, carried_out, step_of, source_step}
 use Rattle.lw_litmus.specs.Flow.{Follows}
 use Rattle.lw_interleaving.specs.Steps.{FollowsFlow, position_of, next_of, IsExchangeable}
@@ -33,7 +34,7 @@ pub record Stepped (program : List (List Stmt)) (t : ℕ) (s mid : State) : Type
   pub stmt : Stmt
   pub was : slice_get s.threads t ≡ Some thread
   pub at : slice_get (code_of program t) thread.position ≡ Some stmt
-  pub is : mid ≡ state_after t thread (operation_of stmt) s
+  pub is : mid ≡ state_after t thread (source_operation stmt) s
 
 pub stepped : (program : List (List Stmt)) (t : ℕ) (s mid : State) → source_step program t s ≡ Ok mid → Stepped program t s mid
 stepped program t s mid a = found (slice_get s.threads t) refl a
@@ -78,9 +79,9 @@ words_stay o th m e = refl
 -- a thread reads nothing but the word at its operation's location
 thread_reads : (o : Operation) (th : Thread) (m n : List ℕ) → word_at (location_of o) m ≡ word_at (location_of o) n
     → thread_after o th m ≡ thread_after o th n
-thread_reads (Load d x) th m n e = ap (getting th d) e
-thread_reads (Swap d x a) th m n e = ap (getting th d) e
-thread_reads (FetchAdd d x v) th m n e = ap (getting_if th d) e
+thread_reads (Load d x) th m n e = ap (at_next_with th d) e
+thread_reads (Swap d x a) th m n e = ap (at_next_with th d) e
+thread_reads (FetchAdd d x v) th m n e = ap (at_next_with_if th d) e
 thread_reads o th m n e = refl
 
 -- what has no location reads no memory, and leaves it as it is
@@ -109,8 +110,8 @@ free_turned : (o p : Operation) → AreFree o p → AreFree p o
 free_turned o p (inl neither) = inl (neither.1, neither.0)
 free_turned o p (inr apart) = inr (turned (location_of o) (location_of p) apart)
 
-are_free : (a b : Stmt) → do_conflict source (Some a) (Some b) ≡ false → AreFree (operation_of a) (operation_of b)
-are_free a b none = go (location_of (operation_of a)) (location_of (operation_of b)) (writes (operation_of a)) (writes (operation_of b)) none
+are_free : (a b : Stmt) → do_conflict source (Some a) (Some b) ≡ false → AreFree (source_operation a) (source_operation b)
+are_free a b none = go (location_of (source_operation a)) (location_of (source_operation b)) (writes (source_operation a)) (writes (source_operation b)) none
   where
     go : (x y : Option ℕ) (v w : Bool) → (is_one x y && (v || w)) ≡ false → ((v ≡ false) × (w ≡ false)) ⊎ Apart x y
     go None y v w e = inr tt
@@ -189,13 +190,13 @@ leads o th m = inl (refl, refl)
 pub moved : (program : List (List Stmt)) (t : ℕ) (s mid : State) → source_step program t s ≡ Ok mid → FollowsFlow program t s mid
 moved program t s mid a =
     let d = stepped program t s mid a in
-    let next : Thread = thread_after (operation_of d.stmt) d.thread s.words in
+    let next : Thread = thread_after (source_operation d.stmt) d.thread s.words in
     record {
       from = d.thread.position;
       to = next.position;
       was = positioned s t d.thread d.was;
       follows =
-          let led = leads (operation_of d.stmt) d.thread s.words in
+          let led = leads (source_operation d.stmt) d.thread s.words in
           subst (λ (o : Option Stmt). Follows source o d.thread.position next.position) (sym d.at) led;
       now = positioned mid t next (ap (λ (x : State). slice_get x.threads t) d.is ∙ got_set_same s.threads t next d.thread d.was);
     }
@@ -212,10 +213,10 @@ exchange program t u s ne none mid end step_t step_u = (other, first, second)
     b = stepped program u mid end step_u
 
     o : Operation
-    o = operation_of a.stmt
+    o = source_operation a.stmt
 
     p : Operation
-    p = operation_of b.stmt
+    p = source_operation b.stmt
 
     was_u : slice_get s.threads u ≡ Some b.thread
     was_u = sym (others_stay program t u s mid ne step_t) ∙ b.was

@@ -1,5 +1,6 @@
 -- Runs, one event further.
-use Rattle.std.proofs.Common.{◌≡◌, ℕ, suc, ◌<◌, ◌≤◌, ◌+◌, List, [], ◌∷◌, ◌++◌, length, map, take, drop, get_or, refl, sym, ap, ◌∙◌, subst, Result, Ok, Err, arith}
+use Rattle.std.proofs.Common.{◌≡◌, ℕ, suc, ◌<◌, ◌≤◌, ◌+◌, List, [], ◌∷◌, ◌++◌, length, map, take, drop, get_or, refl, sym, ap, ◌∙◌, subst, Result, Ok, Err}
+use Rattle.std.proofs.Common.{arith}
 use Rattle.std.specs.Result.{MatchResult}
 use Rattle.lw_base.specs.declared.stop.Stop.{Stop}
 use Rattle.lw_base.specs.declared.stop.End.{End}
@@ -13,7 +14,7 @@ use Rattle.lw_litmus.specs.declared.operation.Operation.{Operation}
 use Rattle.lw_litmus.specs.declared.operation.Operation.TheVariants.{Store, Swap, FetchAdd}
 use Rattle.lw_interleaving.specs.declared.thread.Thread.{Thread}
 use Rattle.lw_litmus.specs.WellFormed.{IsStatement, IsThread}
-use Rattle.lw_litmus.specs.Sources.{source, operation_of}
+use Rattle.lw_litmus.specs.Sources.{source, source_operation}
 use Rattle.lw_base.specs.Sums.{sum_of}
 use Rattle.lw_base.specs.Threads.{value_of, code_of}
 use Rattle.lw_interleaving.specs.Statements.{thread_after, words_after}
@@ -21,7 +22,8 @@ use Rattle.lw_base.specs.declared.event.Event.{Event}
 use Rattle.lw_litmus.specs.declared.stmt.Stmt.{Stmt}
 use Rattle.lw_base.specs.Outcomes.{Final}
 use Rattle.lw_base.specs.Replays.{EndsAs}
-use Rattle.lw_interleaving.specs.Runs.{State, Running, EventDone, Replayed, Ran, is_final, outcome_of, source_step, source_event, carried_out, step_of}
+use Rattle.lw_interleaving.specs.Runs.{State, SourceRunState, SourceEventDone, SourceReplayed, SourceRan, is_source_final, outcome_of, source_step}
+use Rattle.lw_interleaving.specs.Runs.{source_event, carried_out, step_of}
 use Rattle.std.proofs.lemmas.Bool.{lt-ltb}
 use Rattle.std.proofs.lemmas.List.{append_assoc, drop_more, length-map, length-take-le, map-append, map_more, set_at, take_all}
 use Rattle.std.proofs.lemmas.Option.{slice_get-map, slice_get_within}
@@ -46,25 +48,25 @@ refusal Q (Err s) answer stop end told failed = let e : answer ≡ Err s = told.
 -- a replay that meets a refused event
 pub stopped : (Q : Type 0) (program : List (List Stmt)) (events : List Event) (e : Event) (done : ℕ) (s mid end : State)
     (answer : Result (Unit {0}) Stop) (stop : Stop) → Told Q (source_event program e mid) answer end → (Q → end ≡ mid)
-    → answer ≡ Err stop → done < length events → e ≡ get_or events done e → Ran program (take done events) s mid
-    → Replayed program events s (record { done = done; end = at.Stopped stop }) end
+    → answer ≡ Err stop → done < length events → e ≡ get_or events done e → SourceRan program (take done events) s mid
+    → SourceReplayed program events s (record { done = done; end = at.Stopped stop }) end
 stopped Q program events e done s mid end answer stop told kept failed within is ran =
     let r = refusal Q (source_event program e mid) answer stop end told failed in
     record {
       within = omega (arith, within);
-      ran = subst (λ (m : State). Ran program (take done events) s m) (sym (kept r.1)) ran;
+      ran = subst (λ (m : State). SourceRan program (take done events) s m) (sym (kept r.1)) ran;
       ends = (e, at_index events done e within ∙ ap Some (sym is), (subst (λ (m : State). source_event program e m ≡ Err stop) (sym (kept r.1)) r.0, refl));
     }
 
 -- a replay that carries out all events
 pub replayed_all : (program : List (List Stmt)) (events : List Event) (k : ℕ) (s last : State) (end : End)
-    → length events ≤ k → Ran program (take k events) s last
-    → EndsAs (EventDone program) (is_final program) events (length events) last end
-    → Replayed program events s (record { done = length events; end = end }) last
+    → length events ≤ k → SourceRan program (take k events) s last
+    → EndsAs (SourceEventDone program) (is_source_final program) events (length events) last end
+    → SourceReplayed program events s (record { done = length events; end = end }) last
 replayed_all program events k s last end done ran ends =
     record {
       within = omega arith;
-      ran = subst (λ (es : List Event). Ran program es s last) (take_all k events done ∙ sym (take_all (length events) events (omega arith))) ran;
+      ran = subst (λ (es : List Event). SourceRan program es s last) (take_all k events done ∙ sym (take_all (length events) events (omega arith))) ran;
       ends = ends;
     }
 
@@ -96,7 +98,7 @@ event_kept program (Step t) s mid e = go (slice_get s.threads t) e
     carried : (th : Thread) (stmt : Option Stmt) → carried_out t th s stmt ≡ Ok mid → SameSize s mid
     carried th None e = absurd cc
     carried th (Some stmt) e =
-        let o : Operation = operation_of stmt in
+        let o : Operation = source_operation stmt in
         let next : State = record { threads = slice_set s.threads t (thread_after o th s.words); words = words_after o th s.words } in
         let kept : SameSize s next = (set_length s.threads t (thread_after o th s.words), words_kept o th s.words) in
         subst (SameSize s) (let same : next ≡ mid = cc in same) kept
@@ -150,11 +152,11 @@ pub made : (a b : List Thread) (u v : List ℕ) → a ≡ b → u ≡ v → (let
 made a b u v e f = rw (e, f) refl
 
 -- a step of a thread that has a next statement
-pub stepped : (Q : Type 0) (answer : Result (Unit {0}) Stop) (before run : Running) (end : State) (t : ℕ) (th : Thread)
+pub stepped : (Q : Type 0) (answer : Result (Unit {0}) Stop) (before run : SourceRunState) (end : State) (t : ℕ) (th : Thread)
     (code : List Stmt) (stmt : Stmt) → before ≡ run → answer ≡ Ok tt → length before.state.threads ≡ length before.program
     → Some th ≡ slice_get before.state.threads t → code ≡ get_or before.program t code → Some stmt ≡ slice_get code th.position
-    → end.threads ≡ slice_set before.state.threads t (thread_after (operation_of stmt) th before.state.words)
-    → end.words ≡ words_after (operation_of stmt) th before.state.words
+    → end.threads ≡ slice_set before.state.threads t (thread_after (source_operation stmt) th before.state.words)
+    → end.words ≡ words_after (source_operation stmt) th before.state.words
     → Told Q (source_step run.program t run.state) answer end
 stepped Q answer before run end t th code stmt same ok many is_thread is_code is_stmt threads words =
     let within = slice_get_within before.state.threads t th (sym is_thread) in
@@ -162,13 +164,13 @@ stepped Q answer before run end t th code stmt same ok many is_thread is_code is
     rw (← same) (rw (← is_thread) (rw (at_code, ← is_stmt) (ok, made _ _ _ _ threads words)))
 
 -- a step of a thread that is not there
-pub no_thread : (Q : Type 0) (answer : Result (Unit {0}) Stop) (before run : Running) (t : ℕ) → before ≡ run
+pub no_thread : (Q : Type 0) (answer : Result (Unit {0}) Stop) (before run : SourceRunState) (t : ℕ) → before ≡ run
     → answer ≡ Err NoCpu → None ≡ slice_get before.state.threads t → Q
     → Told Q (source_step run.program t run.state) answer run.state
 no_thread Q answer before run t same failed is_thread kept = rw (← same) (rw (← is_thread) (failed, kept))
 
 -- a step of a thread at its end
-pub no_statement : (Q : Type 0) (answer : Result (Unit {0}) Stop) (before run : Running) (t : ℕ) (th : Thread) (code : List Stmt)
+pub no_statement : (Q : Type 0) (answer : Result (Unit {0}) Stop) (before run : SourceRunState) (t : ℕ) (th : Thread) (code : List Stmt)
     → before ≡ run → answer ≡ Err Ended → length before.state.threads ≡ length before.program
     → Some th ≡ slice_get before.state.threads t → code ≡ get_or before.program t code
     → None ≡ slice_get code th.position → Q → Told Q (source_step run.program t run.state) answer run.state

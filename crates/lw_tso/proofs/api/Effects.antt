@@ -1,5 +1,6 @@
 -- What acts and events come to over the flat memory.
-use Rattle.std.proofs.Common.{◌≡◌, ℕ, List, length, Ok, Option, Some, None, Bool, true, false, refl, sym, ap, ap₂, ◌∙◌, subst, nat_lt, if◌then◌else◌, slice_get, slice_set, slice_index}
+use Rattle.std.proofs.Common.{◌≡◌, ℕ, List, length, Ok, Option, Some, None, Bool, true, false, refl, sym, ap, ap₂, ◌∙◌, subst, nat_lt, if◌then◌else◌, slice_get}
+use Rattle.std.proofs.Common.{slice_set, slice_index}
 use Rattle.lw_base.specs.Sums.{sum_of}
 use Rattle.lw_base.specs.declared.event.Event.{Event}
 use Rattle.lw_base.specs.declared.event.Event.TheVariants.{Evict}
@@ -87,7 +88,8 @@ pub record Did (program : List (List Instr)) (e : Event) (s mid : MachineState (
 
 module _ (program : List (List Instr)) where
   -- an event, from what its act does
-  pub leads_from : (e : Event) (processors : List Processor) (p q : Processor) (m n : List ℕ) → slice_get processors (cpu_of e) ≡ Some p → Does m (event_act program (length m) e p) q n → EventDone flat program e (state processors m) (Ok tt) (state (slice_set processors (cpu_of e) q) n)
+  pub leads_from : (e : Event) (processors : List Processor) (p q : Processor) (m n : List ℕ) → slice_get processors (cpu_of e) ≡ Some p
+      → Does m (event_act program (length m) e p) q n → EventDone flat program e (state processors m) (Ok tt) (state (slice_set processors (cpu_of e) q) n)
   leads_from e processors p q m n was d =
       subst (λ (o : Option Processor). DoneBy flat o program e (state processors m) (Ok tt) (state (slice_set processors (cpu_of e) q) n)) (sym was)
       (q, n, does_done (cpu_of e) (event_act program (length m) e p) p q m n d, refl)

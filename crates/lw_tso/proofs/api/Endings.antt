@@ -1,6 +1,7 @@
 -- Every run of a program can be brought to its end: each processor is led to its own, one after another, by draining its
 -- buffer and stepping on once it is empty.
-use Rattle.std.proofs.Common.{inl, inr, ◌≡◌, ◌≢◌, ℕ, zero, suc, ◌+◌, ◌<◌, ◌≤◌, ◌==◌, nat_le, ◌&&◌, Bool, true, cond, List, [], ◌∷◌, ◌++◌, length, get_or, Ok, Option, Some, None, refl, sym, ap, ap₂, ◌∙◌, subst, arith, ⊎_elim, slice_get, slice_set, slice_index, ne_eqb}
+use Rattle.std.proofs.Common.{inl, inr, ◌≡◌, ◌≢◌, ℕ, zero, suc, ◌+◌, ◌<◌, ◌≤◌, ◌==◌, nat_le, ◌&&◌, Bool, true, cond, List, [], ◌∷◌, ◌++◌, length, get_or, Ok}
+use Rattle.std.proofs.Common.{Option, Some, None, refl, sym, ap, ap₂, ◌∙◌, subst, arith, ⊎_elim, slice_get, slice_set, slice_index, ne_eqb}
 use Rattle.std.specs.Prelude.{All, IsTrue}
 use Rattle.std.specs.List.{list_all, zip}
 use Rattle.std.proofs.lemmas.Bool.{cases_eq, cases_lt, le-leb}
@@ -15,7 +16,7 @@ use Rattle.lw_memory.specs.Memory.{Memory}
 use Rattle.lw_litmus.specs.WellFormed.{IsThread}
 use Rattle.lw_litmus.specs.declared.instr.Instr.{Instr}
 use Rattle.lw_litmus.specs.declared.instr.Instr.TheVariants.{Mfence}
-use Rattle.lw_litmus.specs.Programs.{operation_of, x86}
+use Rattle.lw_litmus.specs.Programs.{x86_operation, x86}
 use Rattle.lw_litmus.specs.WellFormedTests.{IsWellFormedProgram}
 use Rattle.lw_litmus.specs.Tests.{ProgramTest}
 use Rattle.lw_tso.specs.Processors.{Processor}
@@ -43,7 +44,8 @@ and_true a b e f = rw (e, f) refl
 
 -- past the end, with an empty buffer
 done_at : (code : List Instr) (p : Processor) → length code ≤ p.position → p.buffer ≡ [] → is_done code p ≡ true
-done_at code p past empty = and_true (nat_le (length code) p.position) (length p.buffer == 0) (le-leb (length code) p.position past) (ap (λ (b : List (ℕ × ℕ)). length b == 0) empty)
+done_at code p past empty = and_true (nat_le (length code) p.position) (length p.buffer == 0) (le-leb (length code) p.position past)
+    (ap (λ (b : List (ℕ × ℕ)). length b == 0) empty)
 
 -- all are done where each is
 all_done : (codes : List (List Instr)) (ps : List Processor)
@@ -92,7 +94,8 @@ module _ {M : Type 0} (mem : Memory M) (inv : Invariant M) (laws : Lawful mem in
       none : (u : ℕ) → u ≢ t → events_of u events ≡ 0
       kept : without_evictions events ≡ events
 
-    ended : (t k : ℕ) (s : MachineState M) (p : Processor) → Within s → slice_get s.processors t ≡ Some p → length (code_of program t) ≤ p.position → p.buffer ≡ [] → Finished t k s
+    ended : (t k : ℕ) (s : MachineState M) (p : Processor) → Within s → slice_get s.processors t ≡ Some p → length (code_of program t) ≤ p.position
+        → p.buffer ≡ [] → Finished t k s
     ended t k s p within at past empty = record {
       events = [];
       end = s;
@@ -113,7 +116,8 @@ module _ {M : Type 0} (mem : Memory M) (inv : Invariant M) (laws : Lawful mem in
         → Finished (cpu_of e) (suc k) s
     first e s p q n k within at done keeps rest =
         let mid : MachineState M = record { processors = slice_set s.processors (cpu_of e) q; memory = n } in
-        let f = rest mid (within_after mem inv laws program locs threads e s p q n (Ok tt) within at done) (slice_get-set_same s.processors (cpu_of e) q (slice_get_within s.processors (cpu_of e) p at)) in
+        let f = rest mid (within_after mem inv laws program locs threads e s p q n (Ok tt) within at done)
+        (slice_get-set_same s.processors (cpu_of e) q (slice_get_within s.processors (cpu_of e) p at)) in
         record {
           events = e ∷ f.events;
           end = f.end;
@@ -138,11 +142,11 @@ module _ {M : Type 0} (mem : Memory M) (inv : Invariant M) (laws : Lawful mem in
         let i : Instr = get_or code p.position Mfence in
         let next : slice_get code p.position ≡ Some i = slice_get-get_or code p.position Mfence lt in
         let cpu : t < inv.cpus s.memory = omega (arith, slice_get_within s.processors t p at, within.cpus) in
-        let comes = operation_comes ⊥ (λ x written. x < length (mem.content s.memory)) (λ q. p.position < q.position) (operation_of i) p
+        let comes = operation_comes ⊥ (λ x written. x < length (mem.content s.memory)) (λ q. p.position < q.position) (x86_operation i) p
         (λ waits full. full empty) (λ x is. asks_within mem inv laws program locs threads t p s within at x (inl (i, next, is)))
         (λ q went. forward locs code thread p.position q.position i next went.leads) in
         subst (λ o. IsPossible t (step_act o p) p s.memory (λ q. p.position < q.position)) (sym next)
-        (possible t (operation_act (operation_of i) p) p s.memory _ within.sound cpu comes)
+        (possible t (operation_act (x86_operation i) p) p s.memory _ within.sound cpu comes)
 
     drained : (t : ℕ) (s : MachineState M) (p : Processor) (entry : ℕ × ℕ) (newer : List (ℕ × ℕ)) → Within s
         → slice_get s.processors t ≡ Some p → p.buffer ≡ entry ∷ newer
@@ -175,8 +179,10 @@ module _ {M : Type 0} (mem : Memory M) (inv : Invariant M) (laws : Lawful mem in
             → Finished t (suc k) s
         go lt later =
             let g = stepped t s p within at is lt in
-            let had : HasRoom locs (code_of program t) p (stores_from p.position (code_of program t)) = record { fits = omega (arith, ap length is); there = (within.rooms t p at).there } in
-            let has = event_room mem program locs (stores_from p.position (code_of program t)) (Step t) p g.0 s.memory g.1 (Ok tt) (thread_at mem inv laws program locs threads s t p within at) g.2 had in
+            let had : HasRoom locs (code_of program t) p (stores_from p.position (code_of program t)) = record
+            { fits = omega (arith, ap length is); there = (within.rooms t p at).there } in
+            let has = event_room mem program locs (stores_from p.position (code_of program t)) (Step t) p g.0 s.memory g.1 (Ok tt)
+            (thread_at mem inv laws program locs threads s t p within at) g.2 had in
             first (Step t) s p g.0 g.1 k within at g.2 (λ es. refl)
             (λ mid w got. later mid g.0 w got (omega (arith, ahead, g.3)) (omega (arith, small, has.fits)))
 
@@ -198,10 +204,11 @@ module _ {M : Type 0} (mem : Memory M) (inv : Invariant M) (laws : Lawful mem in
     one_more k s a f = record {
       events = a.events ++ f.events;
       end = f.end;
-      ran = Ran-append (EventDone mem program) (is_final program) a.events f.events s a.end f.end a.ran f.ran;
+      ran = Ran-append (EventDone mem program) a.events f.events s a.end f.end a.ran f.ran;
       within = f.within;
       done = λ t p lt got. ⊎_elim
-          (λ same. subst (λ (u : ℕ). is_done (code_of program u) p ≡ true) (sym same) (f.done p (subst (λ (u : ℕ). slice_get f.end.processors u ≡ Some p) same got)))
+          (λ same. subst (λ (u : ℕ). is_done (code_of program u) p ≡ true) (sym same)
+          (f.done p (subst (λ (u : ℕ). slice_get f.end.processors u ≡ Some p) same got)))
           (λ ne. a.done t p (omega arith) (sym (f.others t ne) ∙ got))
           (cases_eq t k);
       few = λ t. ⊎_elim (λ same. subst (λ (u : ℕ). events_of u (a.events ++ f.events) ≤ 64) (sym same) here) (λ ne. there t ne) (cases_eq t k);
@@ -232,7 +239,17 @@ module _ {M : Type 0} (mem : Memory M) (inv : Invariant M) (laws : Lawful mem in
     }
 
     parts : (k : ℕ) (s : MachineState M) → Within s → Part k s
-    parts zero s within = record { events = []; end = s; ran = refl; within = within; done = λ t p lt got. absurd (omega arith); few = λ t. omega arith; none = λ t le. refl; kept = refl }
+    parts zero s within = record {
+      events = [];
+      end = s;
+      ran = refl;
+      within = within;
+      done = λ t p lt got. absurd (omega arith);
+      few =
+          λ t. omega arith;
+      none = λ t le. refl;
+      kept = refl;
+    }
     parts (suc k) s within = more (parts k s within)
       where
         more : Part k s → Part (suc k) s
@@ -250,7 +267,8 @@ module _ {M : Type 0} (mem : Memory M) (inv : Invariant M) (laws : Lawful mem in
     ends_from : (s : MachineState M) → Within s → CanEnd mem program s
     ends_from s within =
         let a = parts (length program) s within in
-        let all : IsTrue (is_final program a.end) = all_done program a.end.processors (λ t p got. a.done t p (omega (arith, slice_get_within a.end.processors t p got, a.within.as_many)) got) in
+        let all : IsTrue (is_final program a.end) = all_done program a.end.processors
+        (λ t p got. a.done t p (omega (arith, slice_get_within a.end.processors t p got, a.within.as_many)) got) in
         record {
           more = a.events;
           end = a.end;

@@ -10,7 +10,7 @@ use Rattle.lw_base.specs.declared.event.Event.TheVariants.{Step, Drain, Evict}
 use Rattle.lw_memory.specs.Flat.{flat}
 use Rattle.lw_base.proofs.api.Lists.{got_set_same, got_set_other}
 use Rattle.lw_litmus.specs.declared.instr.Instr.{Instr}
-use Rattle.lw_litmus.specs.Programs.{operation_of}
+use Rattle.lw_litmus.specs.Programs.{x86_operation}
 use Rattle.lw_tso.specs.Processors.{Processor}
 use Rattle.lw_tso.specs.Acts.{Act, Stores, cpu_of, event_act, step_act, drain_act}
 use Rattle.lw_tso.specs.Machines.{MachineState, position_of, EventDone}
@@ -48,7 +48,7 @@ record Passing (buffer : List (ℕ × ℕ)) (o : Option Instr) : Type 0 where
   instr : Instr
   full : buffer ≡ entry ∷ newer
   at : o ≡ Some instr
-  may : MayPass entry.0 (operation_of instr)
+  may : MayPass entry.0 (x86_operation instr)
 
 passing : (buffer : List (ℕ × ℕ)) (o : Option Instr) → MayPassOldest buffer o → Passing buffer o
 passing [] o may = absurd may
@@ -79,7 +79,8 @@ module _ (program : List (List Instr)) where
     two e f j k ne free x y on off = (other, done_at f k s other first off, done_at e j other end second on)
       where
         there : slice_get s.processors (cpu_of f) ≡ Some y.from
-        there = sym (got_set_other s.processors (cpu_of e) (cpu_of f) x.to ne) ∙ ap (λ (z : MachineState (List ℕ)). slice_get z.processors (cpu_of f)) (sym x.is) ∙ y.was
+        there = sym (got_set_other s.processors (cpu_of e) (cpu_of f) x.to ne) ∙ ap (λ (z : MachineState (List ℕ)). slice_get z.processors (cpu_of f))
+            (sym x.is) ∙ y.was
 
         a : Act
         a = event_act program (length s.memory) e x.from
@@ -128,13 +129,14 @@ module _ (program : List (List Instr)) where
       draining = Stores pass.entry.0 pass.entry.1 behind
 
       leaves : LeavesAlone pass.entry stepping (step_act (Some pass.instr) (with_oldest pass.entry behind))
-      leaves = operation_alone pass.entry (operation_of pass.instr) behind pass.may
+      leaves = operation_alone pass.entry (x86_operation pass.instr) behind pass.may
 
       first_act : step_act (slice_get (code_of program t) from.position) from ≡ keeping pass.entry stepping
       first_act = ap (λ o. step_act o from) pass.at ∙ ap (step_act (Some pass.instr)) from_is ∙ leaves.same
 
       -- a step and then the drain
-      step_drain : (j k : ℕ) (x : Did program (Step t) s mid) (y : Did program (Drain t) mid end) → x.from ≡ from → from.position ≡ j → Exchanged (Step t) (Drain t) j k s end
+      step_drain : (j k : ℕ) (x : Did program (Step t) s mid) (y : Did program (Drain t) mid end) → x.from ≡ from → from.position ≡ j
+          → Exchanged (Step t) (Drain t) j k s end
       step_drain j k x y is on = (other, done_at (Drain t) k s other first tt, done_at (Step t) j other end second on)
         where
           was : slice_get s.processors t ≡ Some from
@@ -146,7 +148,8 @@ module _ (program : List (List Instr)) where
               (subst (λ (p : Processor). Does s.memory (step_act (slice_get (code_of program t) p.position) p) x.to x.words) is x.does))
 
           now : y.from ≡ with_oldest pass.entry step.0
-          now = same_Some y.from _ (sym y.was ∙ ap (λ (z : MachineState (List ℕ)). slice_get z.processors t) x.is ∙ got_set_same s.processors t x.to x.from x.was) ∙ step.1
+          now = same_Some y.from _ (sym y.was ∙ ap (λ (z : MachineState (List ℕ)). slice_get z.processors t) x.is
+              ∙ got_set_same s.processors t x.to x.from x.was) ∙ step.1
 
           drain : (y.to ≡ step.0) × (y.words ≡ slice_set mid.memory pass.entry.0 pass.entry.1)
           drain = subst (λ (p : Processor). Does mid.memory (drain_act p.buffer p) y.to y.words) now y.does
@@ -161,7 +164,15 @@ module _ (program : List (List Instr)) where
           other = state (slice_set s.processors t behind) way.0
 
           first : Did program (Drain t) s other
-          first = record { from = from; to = behind; words = way.0; was = was; does = subst (λ (p : Processor). Does s.memory (drain_act p.buffer p) behind way.0) (sym from_is) way.1; is = refl }
+          first = record {
+            from = from;
+            to = behind;
+            words = way.0;
+            was = was;
+            does = subst
+                (λ (p : Processor). Does s.memory (drain_act p.buffer p) behind way.0) (sym from_is) way.1;
+            is = refl;
+          }
 
           second : Did program (Step t) other end
           second = record {
@@ -172,12 +183,19 @@ module _ (program : List (List Instr)) where
             does = subst (λ o. Does way.0 (step_act o behind) step.0 y.words) (sym pass.at) way.2;
             is =
                 y.is ∙ ap (λ (z : MachineState (List ℕ)). state (slice_set z.processors t y.to) y.words) x.is
-                ∙ ap (λ ps. state ps y.words) (set-set s.processors t x.to y.to ∙ ap (slice_set s.processors t) drain.0 ∙ sym (set-set s.processors t behind step.0));
+                ∙ ap (λ ps. state ps y.words) (set-set s.processors t x.to y.to ∙ ap (slice_set s.processors t) drain.0 ∙ sym
+                (set-set s.processors t behind step.0));
           }
 
       -- the drain and then a step
-      drain_step : (j k : ℕ) (x : Did program (Drain t) s mid) (y : Did program (Step t) mid end) → x.from ≡ from → y.from.position ≡ k → Exchanged (Drain t) (Step t) j k s end
-      drain_step j k x y is off = (other, done_at (Step t) k s other first (ap (λ (p : Processor). p.position) (sym now) ∙ off), done_at (Drain t) j other end second tt)
+      drain_step : (j k : ℕ) (x : Did program (Drain t) s mid) (y : Did program (Step t) mid end) → x.from ≡ from → y.from.position ≡ k
+          → Exchanged (Drain t) (Step t) j k s end
+      drain_step j k x y is off = (
+        other,
+        done_at (Step t) k s other first (ap (λ (p : Processor). p.position) (sym now) ∙ off),
+        done_at
+            (Drain t) j other end second tt,
+      )
         where
           was : slice_get s.processors t ≡ Some from
           was = x.was ∙ ap Some is
@@ -186,7 +204,8 @@ module _ (program : List (List Instr)) where
           drain = subst (λ (p : Processor). Does s.memory (drain_act p.buffer p) x.to x.words) (is ∙ from_is) x.does
 
           now : y.from ≡ behind
-          now = same_Some y.from _ (sym y.was ∙ ap (λ (z : MachineState (List ℕ)). slice_get z.processors t) x.is ∙ got_set_same s.processors t x.to x.from x.was) ∙ drain.0
+          now = same_Some y.from _ (sym y.was ∙ ap (λ (z : MachineState (List ℕ)). slice_get z.processors t) x.is
+              ∙ got_set_same s.processors t x.to x.from x.was) ∙ drain.0
 
           step : Does x.words stepping y.to y.words
           step =
@@ -204,7 +223,15 @@ module _ (program : List (List Instr)) where
           other = state (slice_set s.processors t new) way.0
 
           first : Did program (Step t) s other
-          first = record { from = from; to = new; words = way.0; was = was; does = subst (λ act. Does s.memory act new way.0) (sym first_act) (keeping_does pass.entry stepping s.memory way.0 y.to way.1); is = refl }
+          first = record {
+            from = from;
+            to = new;
+            words = way.0;
+            was = was;
+            does = subst (λ act. Does s.memory act new way.0) (sym first_act)
+                (keeping_does pass.entry stepping s.memory way.0 y.to way.1);
+            is = refl;
+          }
 
           second : Did program (Drain t) other end
           second = record {
@@ -243,7 +270,8 @@ module _ (program : List (List Instr)) where
     one_exchange (Step t) (Step u) same pass = none_pass (Step t) (Step u) pass
     one_exchange (Step t) (Drain u) same pass = subst (λ v. IsExchangeable program (Step t) (Drain v) s) same (step_drain_exchange t pass)
     one_exchange (Step t) (Evict u x) same pass = none_pass (Step t) (Evict u x) pass
-    one_exchange (Drain t) (Step u) same pass = subst (λ v. Pass (Drain v) (Step u) → IsExchangeable program (Drain v) (Step u) s) (sym same) (drain_step_exchange u) pass
+    one_exchange (Drain t) (Step u) same pass = subst (λ v. Pass (Drain v) (Step u) → IsExchangeable program (Drain v) (Step u) s) (sym same)
+        (drain_step_exchange u) pass
     one_exchange (Drain t) (Drain u) same pass = none_pass (Drain t) (Drain u) pass
     one_exchange (Drain t) (Evict u x) same pass = none_pass (Drain t) (Evict u x) pass
     one_exchange (Evict t x) f same pass = none_pass (Evict t x) f pass

@@ -1,6 +1,7 @@
 -- What an operation comes to, whatever it is: where it is refused, what it asks of the memory, and what it makes of its
 -- processor.
-use Rattle.std.proofs.Common.{◌≡◌, ◌≢◌, ℕ, ◌+◌, Bool, true, false, true≢false, if◌then◌else◌, List, [], ◌∷◌, ◌++◌, length, length-set, Ok, Err, Option, Some, None, refl, sym, subst, inl, inr, ◌⊎◌, ⊎_elim}
+use Rattle.std.proofs.Common.{◌≡◌, ◌≢◌, ℕ, ◌+◌, Bool, true, false, true≢false, if◌then◌else◌, List, [], ◌∷◌, ◌++◌, length, length-set, Ok, Err, Option, Some}
+use Rattle.std.proofs.Common.{None, refl, sym, subst, inl, inr, ◌⊎◌, ⊎_elim}
 use Rattle.lw_base.specs.Threads.{value_of}
 use Rattle.lw_base.specs.declared.stop.Stop.{Stop}
 use Rattle.lw_base.specs.declared.stop.Stop.TheVariants.{FenceWaits, SwapWaits}
@@ -13,7 +14,7 @@ use Rattle.lw_litmus.specs.declared.operation.Operation.TheVariants.{Set, Sum, C
 use Rattle.lw_litmus.specs.Operations.{location_of, is_store, is_locked, waits, goes_on, Leads, holds}
 use Rattle.lw_tso.specs.Processors.{Processor, newest}
 use Rattle.lw_tso.specs.Acts.{Act, Refused, Goes, Loads, Stores, Swaps, Adds, Evicts, operation_act, load_act, once_empty}
-use Rattle.lw_tso.specs.Exchange.{accessed, writes}
+use Rattle.lw_tso.specs.Exchange.{accessed, event_writes}
 use Rattle.lw_tso.specs.Machines.{Answer, ActDone}
 use Rattle.lw_tso.proofs.api.Effects.{Does, does_done}
 
@@ -67,7 +68,7 @@ module _ (Reason : Type 0) (Asks : ℕ → Bool → Type 0) (Makes : Processor �
   Comes (Evicts x) = ⊥
 
   -- what it accesses is such a location
-  pub comes_accessed : (act : Act) (x : ℕ) → Comes act → accessed act ≡ Some x → Asks x (writes act)
+  pub comes_accessed : (act : Act) (x : ℕ) → Comes act → accessed act ≡ Some x → Asks x (event_writes act)
   comes_accessed (Refused stop) x comes at = absurd cc
   comes_accessed (Goes next) x comes at = absurd cc
   comes_accessed (Loads y next) x comes at = let e : y ≡ x = cc in subst (λ z. Asks z false) e comes.0
@@ -123,7 +124,7 @@ module _ (Reason : Type 0) (Asks : ℕ → Bool → Type 0) (Makes : Processor �
 
 -- what an operation accesses
 pub operation_accessed : (o : Operation) (p : Processor) (x : ℕ) → accessed (operation_act o p) ≡ Some x
-    → (location_of o ≡ Some x) × (is_locked o ≡ writes (operation_act o p))
+    → (location_of o ≡ Some x) × (is_locked o ≡ event_writes (operation_act o p))
 operation_accessed o p x =
     let asks = λ (y : ℕ) (w : Bool). (location_of o ≡ Some y) × (is_locked o ≡ w) in
     comes_accessed (Unit {0}) asks (λ q. Unit {0}) (operation_act o p) x

@@ -7,7 +7,7 @@ use Rattle.lw_memory.specs.MemoryLaws.{Invariant}
 use Rattle.lw_memory.specs.Memory.{Memory}
 use Rattle.lw_litmus.specs.declared.instr.Instr.{Instr}
 use Rattle.lw_litmus.specs.Operations.{is_store}
-use Rattle.lw_litmus.specs.Programs.{operation_of}
+use Rattle.lw_litmus.specs.Programs.{x86_operation}
 use Rattle.lw_tso.specs.declared.processor.Processor.{Processor as ProcessorInMemory}
 use Rattle.lw_tso.specs.Processors.{Processor}
 use Rattle.lw_base.specs.Threads.{code_of}
@@ -15,7 +15,7 @@ use Rattle.lw_tso.specs.inner.Views.{processor_of}
 
 -- its operation is a store, which makes an entry
 abbrev pub makes_entry : Instr → Bool
-makes_entry i = is_store (operation_of i)
+makes_entry i = is_store (x86_operation i)
 
 -- the stores of a code from a position on
 abbrev pub stores_from : ℕ → List Instr → ℕ

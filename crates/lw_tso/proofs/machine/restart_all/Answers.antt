@@ -3,7 +3,7 @@ use Rattle.lw_tso.specs.declared.processor.Processor.{Processor as ProcessorInMe
 use Rattle.lw_tso.specs.Processors.{starting}
 use Rattle.lw_tso.specs.inner.Views.{processor_of}
 use Rattle.lw_tso.proofs.Events.{read}
-use Rattle.lw_tso.proofs.Refilled.{refilled, kept_in_place}
+use Rattle.lw_tso.proofs.Refilled.{refilled, refilled_all, kept_in_place}
 use Rattle.lw_tso.proofs.machine.restart_all.Goals as goal
 
 pub loop-thread-preserved : goal.loop-thread-preserved
@@ -12,6 +12,20 @@ loop-thread-preserved g c =
     let within : t < length before = omega (arith, c.loop-thread.invariant.many, c.requires) in
     record {
       many = length-set before t c.restart.new.self ∙ c.loop-thread.invariant.many;
-      start = refilled processor_of starting before c.args.init_regs.now t c.restart.new.self [] within c.loop-thread-test.true c.loop-thread.invariant.start c.restart.ensures.processor;
-      rooms = kept_in_place (λ (p : ProcessorInMemory g.row.A.Denot). p.buffer.room) before t c.restart.new.self c.index-processors-thread.result (read before before t t c.index-processors-thread.result refl refl within c.index-processors-thread.is) (rw c.index-processors-thread.is c.restart.ensures.room) ∙ c.loop-thread.invariant.rooms;
+      start = refilled processor_of starting before c.args.init_regs.now t c.restart.new.self [] within c.loop-thread-test.true
+          c.loop-thread.invariant.start c.restart.ensures.processor;
+      rooms = kept_in_place (λ (p : ProcessorInMemory g.row.A.Denot). p.buffer.room) before t c.restart.new.self c.index-processors-thread.result
+          (read before before t t c.index-processors-thread.result refl refl within c.index-processors-thread.is)
+          (rw c.index-processors-thread.is c.restart.ensures.room) ∙ c.loop-thread.invariant.rooms;
     }
+
+pub bounds-processors-thread : goal.bounds-processors-thread
+bounds-processors-thread g c = omega (arith, c.loop-thread-test.true, c.loop-thread.invariant.many, c.requires)
+
+pub returns-clause-start : goal.returns-clause-start
+returns-clause-start g c =
+    refilled_all processor_of starting c.loop-thread.processors c.args.init_regs.now c.loop-thread.thread c.loop-thread.invariant.start
+    (omega (arith, c.loop-thread.invariant.many, c.requires)) c.loop-thread-test.false
+
+pub returns-clause-rooms : goal.returns-clause-rooms
+returns-clause-rooms g c = c.loop-thread.invariant.rooms

@@ -9,5 +9,6 @@ invariant-loop-thread g l =
     record {
       many : length l.processors ≡ length l.initial.processors;
       start : map processor_of (take l.thread l.processors) ≡ map starting (take l.thread l.init_regs);
-      rooms : map (λ (p : ProcessorInMemory g.row.A.Denot). p.buffer.room) l.processors ≡ map (λ (p : ProcessorInMemory g.row.A.Denot). p.buffer.room) l.initial.processors;
+      rooms : map (λ (p : ProcessorInMemory g.row.A.Denot). p.buffer.room) l.processors ≡ map
+          (λ (p : ProcessorInMemory g.row.A.Denot). p.buffer.room) l.initial.processors;
     }

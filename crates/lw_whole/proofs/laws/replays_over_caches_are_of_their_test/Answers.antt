@@ -15,5 +15,7 @@ returns c protocol test events o ok replays = go protocol replays
     start p = starts c.empty_caches_are_kept.ensures.kept c.empty_caches_are_kept.ensures.content p test ok
 
     go : (p : Protocol) → ReplaysOverCaches p test events o → IsEntryOf test.head (o, events)
-    go by.Mesi h = let is = c.replays_are_of_their_test.ensures test (caches_at_start test) events o ok (start by.Mesi) h in record { outcome = is.0; schedule = is.1 }
-    go by.Moesi h = let is = c.replays_are_of_their_test-2.ensures test (caches_at_start test) events o ok (start by.Moesi) h in record { outcome = is.0; schedule = is.1 }
+    go by.Mesi h = let is = c.replays_are_of_their_test.ensures test (caches_at_start test) events o ok
+        (start by.Mesi) h in record { outcome = is.0; schedule = is.1 }
+    go by.Moesi h = let is = c.replays_are_of_their_test-2.ensures test (caches_at_start test) events o ok
+        (start by.Moesi) h in record { outcome = is.0; schedule = is.1 }

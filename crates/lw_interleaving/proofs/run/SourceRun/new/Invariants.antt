@@ -1,6 +1,6 @@
 use Rattle.std.proofs.Common.{◌≡◌, map, take}
-use Rattle.lw_interleaving.specs.Runs.{starting}
+use Rattle.lw_interleaving.specs.Runs.{starting_thread}
 use Rattle.lw_interleaving.proofs.run.SourceRun.new.Given as goal
 
 abbrev pub invariant-loop-regs : goal.invariant-loop-regs
-invariant-loop-regs g l = l.threads ≡ map starting (take l.regs-index l.source.head.init_regs)
+invariant-loop-regs g l = l.threads ≡ map starting_thread (take l.regs-index l.source.head.init_regs)

@@ -1,11 +1,12 @@
 use Rattle.std.proofs.Common.{◌≡◌, ◌++◌, map, take, drop}
-use Rattle.lw_interleaving.specs.Runs.{starting}
+use Rattle.lw_interleaving.specs.Runs.{starting_thread}
 use Rattle.lw_interleaving.proofs.run.SourceRun.restart.Given as goal
 
 abbrev pub invariant-loop-cpu : goal.invariant-loop-cpu
 invariant-loop-cpu g l =
     record {
       source : l.self-inside.source ≡ l.initial.self-inside.source;
-      threads : l.self-inside.threads ≡ map starting (take l.cpu l.initial.self-inside.source.now.head.init_regs) ++ drop l.cpu l.initial.self-inside.threads;
+      threads : l.self-inside.threads ≡ map starting_thread (take l.cpu l.initial.self-inside.source.now.head.init_regs) ++ drop l.cpu
+          l.initial.self-inside.threads;
       words : l.self-inside.words ≡ l.initial.self-inside.words;
     }

@@ -1,12 +1,12 @@
 use Rattle.std.proofs.Common.{◌≡◌, ◌∙◌, ap, refl, sym, true≢false}
 use Rattle.lw_base.proofs.api.Replays.{Ran-more}
 use Rattle.lw_interleaving.proofs.api.Runs.{event_kept, possible, stopped, replayed_all}
-use Rattle.lw_interleaving.specs.Runs.{EventDone, Running, is_final, source_event}
+use Rattle.lw_interleaving.specs.Runs.{SourceEventDone, SourceRunState, source_event}
 use Rattle.lw_interleaving.proofs.run.SourceRun.run.Goals as goal
 
 pub loop-done-preserved : goal.loop-done-preserved
 loop-done-preserved g c =
-    let before : Running = record { program = c.args.self.now.program; start = c.args.self.now.start; state = c.loop-done.self.state } in
+    let before : SourceRunState = record { program = c.args.self.now.program; start = c.args.self.now.start; state = c.loop-done.self.state } in
     let done = rw (c.loop-done.invariant.program, c.loop-done.invariant.start) at c.act.ensures.done in
     let one = possible (c.act.new.self ≡ before) (source_event c.args.self.now.program c.index-events-done.result c.loop-done.self.state)
     c.act.result c.in_default.field-0 c.act.new.self.state done c.in_default.is in
@@ -14,7 +14,7 @@ loop-done-preserved g c =
     record {
       program = c.act.ensures.program ∙ c.loop-done.invariant.program;
       start = c.act.ensures.start ∙ c.loop-done.invariant.start;
-      ran = Ran-more (EventDone c.args.self.now.program) (is_final c.args.self.now.program) c.args.events.now
+      ran = Ran-more (SourceEventDone c.args.self.now.program) c.args.events.now
           c.loop-done.done c.index-events-done.result c.args.self.now.state c.loop-done.self.state
           c.act.new.self.state c.loop-done-test.true c.index-events-done.is c.loop-done.invariant.ran one;
       threads = kept.0 ∙ c.loop-done.invariant.threads;
@@ -23,11 +23,11 @@ loop-done-preserved g c =
 
 pub returns-in-Err-clause-replayed : goal.returns-in-Err-clause-replayed
 returns-in-Err-clause-replayed g c =
-    let before : Running = record { program = c.args.self.now.program; start = c.args.self.now.start; state = c.loop-done.self.state } in
+    let before : SourceRunState = record { program = c.args.self.now.program; start = c.args.self.now.start; state = c.loop-done.self.state } in
     let done = rw (c.loop-done.invariant.program, c.loop-done.invariant.start) at c.act.ensures.done in
     stopped (c.act.new.self ≡ before) c.args.self.now.program c.args.events.now c.index-events-done.result
     c.loop-done.done c.args.self.now.state c.loop-done.self.state c.act.new.self.state c.act.result
-    c.in-Err.stop done (λ same. ap (λ (r : Running). r.state) same) c.in-Err.is c.loop-done-test.true
+    c.in-Err.stop done (λ same. ap (λ (r : SourceRunState). r.state) same) c.in-Err.is c.loop-done-test.true
     c.index-events-done.is c.loop-done.invariant.ran
 
 pub returns-then-is_final-clause-replayed : goal.returns-then-is_final-clause-replayed

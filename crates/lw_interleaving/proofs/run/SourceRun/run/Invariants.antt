@@ -1,5 +1,5 @@
 use Rattle.std.proofs.Common.{◌≡◌, length, take}
-use Rattle.lw_interleaving.specs.Runs.{Ran}
+use Rattle.lw_interleaving.specs.Runs.{SourceRan}
 use Rattle.lw_interleaving.proofs.run.SourceRun.run.Given as goal
 
 abbrev pub invariant-loop-done : goal.invariant-loop-done
@@ -7,7 +7,7 @@ invariant-loop-done g l =
     record {
       program : l.self.program ≡ l.fn.self.program;
       start : l.self.start ≡ l.fn.self.start;
-      ran : Ran l.fn.self.program (take l.done l.events) l.fn.self.state l.self.state;
+      ran : SourceRan l.fn.self.program (take l.done l.events) l.fn.self.state l.self.state;
       threads : length l.self.state.threads ≡ length l.fn.self.state.threads;
       words : length l.self.state.words ≡ length l.fn.self.state.words;
     }

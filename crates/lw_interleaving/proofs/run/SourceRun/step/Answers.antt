@@ -1,6 +1,6 @@
 use Rattle.std.proofs.Common.{refl, length, ap, sym, ◌∙◌, arith}
 use Rattle.std.proofs.lemmas.Option.{slice_get_within}
-use Rattle.lw_interleaving.specs.Runs.{Running}
+use Rattle.lw_interleaving.specs.Runs.{SourceRunState}
 use Rattle.lw_interleaving.proofs.api.Runs.{next_statement, stepped, no_thread, no_statement, set_length, words_kept}
 use Rattle.lw_interleaving.proofs.run.SourceRun.step.Goals as goal
 
@@ -50,16 +50,16 @@ invariant_of-self g c =
     )
 
 pub returns-clause-program : goal.returns-clause-program
-returns-clause-program g c = ap (λ (r : Running). r.program) c.self.view_is
+returns-clause-program g c = ap (λ (r : SourceRunState). r.program) c.self.view_is
 
 pub returns-clause-threads : goal.returns-clause-threads
 returns-clause-threads g c =
     let threads = rw c.index-3.ensures.value at c.set.ensures in
-    ap length threads ∙ set_length _ _ _ ∙ ap (λ (r : Running). length r.state.threads) c.self.view_is
+    ap length threads ∙ set_length _ _ _ ∙ ap (λ (r : SourceRunState). length r.state.threads) c.self.view_is
 
 pub returns-clause-words : goal.returns-clause-words
 returns-clause-words g c =
-    ap length c.carry_out.ensures.words ∙ words_kept _ _ c.self.inside.words ∙ ap (λ (r : Running). length r.state.words) c.self.view_is
+    ap length c.carry_out.ensures.words ∙ words_kept _ _ c.self.inside.words ∙ ap (λ (r : SourceRunState). length r.state.words) c.self.view_is
 
 pub returns-clause-start : goal.returns-clause-start
-returns-clause-start g c = ap (λ (r : Running). r.start) c.self.view_is
+returns-clause-start g c = ap (λ (r : SourceRunState). r.start) c.self.view_is

@@ -1,13 +1,13 @@
 use Rattle.std.proofs.Common.{ap, arith, length, ◌∙◌}
 use Rattle.lw_base.specs.Outcomes.{Final}
 use Rattle.lw_interleaving.specs.declared.thread.Thread.{Thread}
-use Rattle.lw_interleaving.specs.Runs.{Running}
+use Rattle.lw_interleaving.specs.Runs.{SourceRunState}
 use Rattle.lw_interleaving.proofs.api.Runs.{written_on}
 use Rattle.lw_interleaving.proofs.run.SourceRun.write_outcome.Goals as goal
 
 pub loop-cpu-preserved : goal.loop-cpu-preserved
 loop-cpu-preserved g c =
-    let threads = c.as_slice-thread-items.ensures ∙ ap (λ (r : Running). r.state.threads) c.self.view_is in
+    let threads = c.as_slice-thread-items.ensures ∙ ap (λ (r : SourceRunState). r.state.threads) c.self.view_is in
     let many = ap (λ (o : Final). length o.regs) c.outcome.view_is ∙ c.requires.threads in
     record {
       regs = c.set.ensures ∙ written_on (λ (t : Thread). t.regs) c.as_slice-thread-items.result.now

@@ -28,6 +28,7 @@ invariant_of-self g c =
     let cpus : length program ≤ inv.cpus m = omega (arith, c.restart.ensures.cpus, c.self.invariant.cpus, c.self.invariant.as_many) in
     let rooms = c.restart_all.ensures.rooms ∙ ap (map (λ (p : ProcessorInMemory g.row.A.Denot). p.buffer.room)) c.deref_mut.ensures.value in
     let roomy = still_roomy program regs before now rooms c.self.invariant.whole in
-    let made : IsMachine mem inv program locs m now = machine_made program regs mem inv locs m now c.restart.ensures.sound locations cpus (known.head.regs ∙ sym known.as_many) (c.restart_all.ensures.start ∙ ap (map starting) c.as_slice.ensures) roomy in
+    let made : IsMachine mem inv program locs m now = machine_made program regs mem inv locs m now c.restart.ensures.sound locations cpus
+    (known.head.regs ∙ sym known.as_many) (c.restart_all.ensures.start ∙ ap (map starting) c.as_slice.ensures) roomy in
     let many : length now ≡ length before = c.restart_all.auto.processors ∙ ap length c.deref_mut.ensures.value in
     subst (IsMachine mem inv program locs m) (sym (all_written now before c.self.inside.processors.len many c.self.inside.processors.ok.0)) made

@@ -1,8 +1,28 @@
-use Rattle.std.proofs.Common.{ap, ◌∙◌, map}
+use Rattle.std.proofs.Common.{ap, arith, length, map, sym, ◌∙◌}
+use Rattle.std.proofs.lemmas.List.{length-map}
+use Rattle.lw_base.specs.Outcomes.{Final}
 use Rattle.lw_memory.specs.Memory.{memory_of}
 use Rattle.lw_tso.specs.declared.processor.Processor.{Processor as ProcessorInMemory}
+use Rattle.lw_tso.specs.Runs.{Running}
+use Rattle.lw_tso.specs.inner.Views.{processor_of}
 use Rattle.lw_tso.proofs.Events.{outcome_is}
 use Rattle.lw_tso.proofs.machine.Machine.write_outcome.Goals as goal
+
+pub write_registers-requires : goal.write_registers-requires
+write_registers-requires g c =
+    omega (
+      arith,
+      c.requires.threads,
+      ap (λ (o : Final). length o.regs) c.outcome.view_is,
+      ap (λ (r : Running g.row.M.Denot). length r.state.processors) c.self.view_is,
+      length-map c.self.inside.processors.items processor_of,
+      ap length c.as_slice.ensures.value,
+    )
+
+pub write_content-requires : goal.write_content-requires
+write_content-requires g c =
+    ap (λ (o : Final). length o.words) c.outcome.view_is
+    ∙ (c.requires.words ∙ sym (ap (λ (r : Running g.row.M.Denot). length (g.M.MemorySystem.content r.state.memory)) c.self.view_is))
 
 pub returns : goal.returns
 returns g c =

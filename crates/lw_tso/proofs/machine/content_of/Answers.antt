@@ -1,0 +1,29 @@
+use Rattle.std.proofs.Common.{◌+◌, ◌<◌, ◌++◌, ◌∷◌, [], ap, ap₂, arith, length, sym, ◌∙◌}
+use Rattle.std.proofs.lemmas.List.{length-take, take_all, take_more}
+use Rattle.std.specs.Prelude.{slice_index}
+use Rattle.lw_tso.proofs.Refilled.{location_at}
+use Rattle.lw_tso.proofs.machine.content_of.Goals as goal
+
+pub loop-loc-preserved : goal.loop-loc-preserved
+loop-loc-preserved g c =
+    let content = g.M.MemorySystem.content c.args.memory.now in
+    let at = location_at c.location_count.result c.loop-loc.loc-index c.loc-item.result c.all.result c.all.ensures c.loop-loc-test.true c.loc-item.is in
+    let there : c.loop-loc.loc-index < length content =
+    omega (arith, c.loop-loc-test.true, length-take c.location_count.result c.all.result, c.location_count.ensures.count) in
+    c.in_ok-push.ensures.ok
+    ∙ ap₂ (λ words word. words ++ word ∷ []) c.loop-loc.invariant (c.word_at_end.ensures.word ∙ ap (slice_index content) at)
+    ∙ sym (take_more content c.loop-loc.loc-index 0 there)
+
+pub returns : goal.returns
+returns g c =
+    let content = g.M.MemorySystem.content c.args.memory.now in
+    c.loop-loc.invariant
+    ∙ take_all c.loop-loc.loc-index content
+    (omega (
+      arith,
+      c.loop-loc-test.false,
+      length-take c.location_count.result c.all.result,
+      ap length c.all.ensures,
+      c.location_count.ensures.count,
+      c.location_count.ensures.few,
+    ))
