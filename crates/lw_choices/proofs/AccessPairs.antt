@@ -1,8 +1,10 @@
 -- The conflicts of items are those of the items that access a location.
-use Rattle.std.proofs.Common.{◌≡◌, ℕ, suc, ◌+◌, Bool, false, ◌&&◌, ◌||◌, List, [], ◌∷◌, ◌++◌, length, map, Option, Some, None, refl, sym, ap, ap₂, ◌∙◌, inl, inr, arith}
+use Rattle.std.proofs.Common.{◌≡◌, ℕ, suc, ◌+◌, ◌<◌, ◌≤◌, drop, get_or, Bool, true, false, if◌then◌else◌, ◌&&◌, ◌||◌, List, [], ◌∷◌, ◌++◌, length, map, Option}
+use Rattle.std.proofs.Common.{Some, None, refl, sym, ap, ap₂, ◌∙◌, inl, inr, arith}
 use Rattle.std.specs.Prelude.{filter, option_map}
 use Rattle.std.specs.Option.{option_to_list}
 use Rattle.std.proofs.lemmas.Bool.{cases_Bool}
+use Rattle.std.proofs.lemmas.List.{append_assoc, append-nil, drop_all, drop_more}
 use Rattle.std.proofs.lemmas.List.Elements.{filter-append}
 use Rattle.lw_orders.specs.Sequence.{numbers}
 use Rattle.lw_choices.specs.declared.conflicts.Access.{Access}
@@ -10,7 +12,7 @@ use Rattle.lw_choices.specs.declared.item.Item.{Item}
 use Rattle.lw_choices.specs.inner.Accesses.{meets, conflicts_with, conflicts_among, access_by, accesses_from}
 use Rattle.lw_litmus.specs.Conflicts.{is_one}
 use Rattle.lw_litmus.specs.Languages.{Language}
-use Rattle.lw_choices.specs.Items.{item_at, pairs_from, statement_of, location_by, writes_by, conflict_by, do_conflict, constraints_of}
+use Rattle.lw_choices.specs.Items.{item_at, pairs_from, statement_of, location_by, writes_by, conflict_by, items_conflict, constraints_of}
 use Rattle.lw_choices.proofs.api.Pairs.{filter_takes, filter_skips}
 
 -- whether two items that may have accesses conflict
@@ -51,7 +53,7 @@ module _ {S : Type 0} (language : Language S) (program : List (List S)) where
 
   module _ (whole : List Item) where
     abbrev conflict_at : ℕ × ℕ → Bool
-    conflict_at p = do_conflict language program (item_at whole p.0) (item_at whole p.1)
+    conflict_at p = items_conflict language program (item_at whole p.0) (item_at whole p.1)
 
     -- the items from number m on are these
     abbrev Stand : ℕ → List Item → Type 0
@@ -70,7 +72,7 @@ module _ {S : Type 0} (language : Language S) (program : List (List S)) where
     with_it a b = (a.number, b.number)
 
     conflict_is : (k m : ℕ) (a b : Item) → item_at whole k ≡ a → item_at whole m ≡ b → conflict_at (k, m) ≡ both (access_at k a) (access_at m b)
-    conflict_is k m a b ea eb = ap₂ (λ x y. do_conflict language program x y) ea eb
+    conflict_is k m a b ea eb = ap₂ (λ x y. items_conflict language program x y) ea eb
         ∙ conflict_says k m a.is_drain b.is_drain (statement_of language program a) (statement_of language program b)
 
     -- an item without an access conflicts with none
@@ -127,3 +129,44 @@ module _ {S : Type 0} (language : Language S) (program : List (List S)) where
   -- pair by pair of the accesses
   pub conflicts_are : (items : List Item) → conflicts_among (accesses_from language program 0 items) ≡ (constraints_of language program items).conflicts
   conflicts_are items = sym (rows items items 0 (λ j. ap (item_at items) (let e : 0 + j ≡ j = omega arith in e)))
+
+-- the accesses of the items so far, with that of one item more, if it has one
+pub access_pushed : {S : Type 0} (language : Language S) (program : List (List S)) (items : List Item) (n : ℕ) (item : Item) (o : Option Access)
+    (found new whole : List Access)
+    → n < length items → item ≡ get_or items n item → o ≡ access_by language n item.is_drain (statement_of language program item)
+    → found ++ accesses_from language program n (drop n items) ≡ whole → new ≡ found ++ option_to_list o
+    → new ++ accesses_from language program (n + 1) (drop (n + 1) items) ≡ whole
+access_pushed language program items n item o found new whole within is accessed so_far pushed =
+    let rest = accesses_from language program (n + 1) (drop (n + 1) items) in
+    let plus : suc n ≡ n + 1 = omega arith in
+    let split : drop n items ≡ item ∷ drop (n + 1) items = drop_more items n item within ∙ ap (λ a. a ∷ drop (n + 1) items) (sym is) in
+    let next : accesses_from language program n (drop n items) ≡ option_to_list o ++ rest =
+    ap (accesses_from language program n) split
+    ∙ ap₂ (λ a k. option_to_list a ++ accesses_from language program k (drop (n + 1) items)) (sym accessed) plus in
+    ap (λ xs. xs ++ rest) pushed ∙ (append_assoc found (option_to_list o) rest ∙ (ap (λ xs. found ++ xs) (sym next) ∙ so_far))
+
+-- and of all
+pub accesses_done : {S : Type 0} (language : Language S) (program : List (List S)) (items : List Item) (n : ℕ) (found whole : List Access)
+    → length items ≤ n → found ++ accesses_from language program n (drop n items) ≡ whole → found ≡ whole
+accesses_done language program items n found whole past so_far =
+    sym (append-nil found) ∙ (ap (λ xs. found ++ accesses_from language program n xs) (sym (drop_all n items past)) ∙ so_far)
+
+-- the conflicts of an access with those so far, and one more
+pub conflict_pushed : (a : Access) (later : List Access) (n : ℕ) (b : Access) (found new whole : List (ℕ × ℕ))
+    → n < length later → b ≡ get_or later n b → found ++ conflicts_with a (drop n later) ≡ whole
+    → new ≡ found ++ (if meets a b then (a.number, b.number) ∷ [] else []) → new ++ conflicts_with a (drop (n + 1) later) ≡ whole
+conflict_pushed a later n b found new whole within is so_far pushed = go (meets a b) refl
+  where
+    split : drop n later ≡ b ∷ drop (n + 1) later
+    split = drop_more later n b within ∙ ap (λ c. c ∷ drop (n + 1) later) (sym is)
+
+    rest : List (ℕ × ℕ)
+    rest = conflicts_with a (drop (n + 1) later)
+
+    go : (h : Bool) → meets a b ≡ h → new ++ rest ≡ whole
+    go true h =
+        let next : conflicts_with a (drop n later) ≡ (a.number, b.number) ∷ rest = ap (conflicts_with a) split ∙ rw h refl in
+        ap (λ xs. xs ++ rest) (pushed ∙ rw h refl) ∙ (append_assoc found ((a.number, b.number) ∷ []) rest ∙ (ap (λ xs. found ++ xs) (sym next) ∙ so_far))
+    go false h =
+        let next : conflicts_with a (drop n later) ≡ rest = ap (conflicts_with a) split ∙ rw h refl in
+        ap (λ xs. xs ++ rest) (pushed ∙ rw h (append-nil found)) ∙ (ap (λ xs. found ++ xs) (sym next) ∙ so_far)

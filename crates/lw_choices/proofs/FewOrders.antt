@@ -1,5 +1,6 @@
 -- Where no statement accesses a location each choice has one order, and there are at most twice as many choices for each branch.
-use Rattle.std.proofs.Common.{◌≡◌, inl, inr, ℕ, zero, suc, ◌+◌, ◌*◌, ◌^◌, ◌<◌, ◌≤◌, ◌==◌, ◌&&◌, ◌||◌, Bool, true, false, not, cond, Option, Some, None, List, [], ◌∷◌, ◌++◌, length, map, drop, get_or, refl, sym, ap, ◌∙◌, slice_get, length-append, arith, true≢false}
+use Rattle.std.proofs.Common.{◌≡◌, inl, inr, ℕ, zero, suc, ◌+◌, ◌*◌, ◌^◌, ◌<◌, ◌≤◌, ◌==◌, ◌&&◌, ◌||◌, Bool, true, false, not, cond, Option, Some, None, List}
+use Rattle.std.proofs.Common.{[], ◌∷◌, ◌++◌, length, map, drop, get_or, refl, sym, ap, ◌∙◌, slice_get, length-append, arith, true≢false}
 use Rattle.std.specs.Prelude.{All, filter, if◌then◌else◌, is_some, is_none}
 use Rattle.std.specs.List.{count_by, sum_by, flat_map}
 use Rattle.std.proofs.Math.Nat.{suc-mul, mul-le-mul, one-le-pow}
@@ -18,9 +19,9 @@ use Rattle.lw_litmus.specs.Operations.{target_of, goes_on, location_of}
 use Rattle.lw_orders.specs.Order.{is_decided}
 use Rattle.lw_orders.specs.Limits.{most_orders}
 use Rattle.lw_choices.specs.declared.item.Item.{Item}
-use Rattle.lw_choices.specs.Choices.{IsForward, led_to, led, paths_on, paths_from, paths_of, choices_of}
+use Rattle.lw_choices.specs.Choices.{IsForward, led_by, led, paths_on, paths_from, paths_of, choices_of}
 use Rattle.lw_choices.specs.Counts.{orders_at_choice, orders_of, total_of}
-use Rattle.lw_choices.specs.Items.{is_drained, location_by, writes_by, conflict_by, do_conflict, statement_of, items_of, item_at, pairs_from, constraints_of}
+use Rattle.lw_choices.specs.Items.{is_drained, location_by, writes_by, conflict_by, items_conflict, statement_of, items_of, item_at, pairs_from, constraints_of}
 use Rattle.lw_choices.specs.inner.Few.{branches, is_silent_code, is_silent}
 
 -- a list of lists that are each short
@@ -90,7 +91,7 @@ module _ {S : Type 0} (language : Language S) where
         let twice : 2 ^ behind code j ≡ 2 ^ 1 * 2 ^ behind code (j + 1) = ap (λ n. 2 ^ n) more ∙ pow-add 2 1 (behind code (j + 1)) in
         omega (arith, first, second, none, both, mono, twice)
 
-    by_led : (o : Option ℕ) (goes : Bool) → target_of (language.operation_of s) ≡ o → length (flat_map rest (led_to o goes j)) ≤ 2 ^ behind code j
+    by_led : (o : Option ℕ) (goes : Bool) → target_of (language.operation_of s) ≡ o → length (flat_map rest (led_by o goes j)) ≤ 2 ^ behind code j
     by_led None goes is = one_led (j + 1) (omega arith)
     by_led (Some to) true is = (by_both (j + 1 == to))
       where
@@ -190,7 +191,7 @@ module _ {S : Type 0} (language : Language S) where
     -- nothing conflicts
     pub no_conflicts : (items : List Item) → (constraints_of language program items).conflicts ≡ []
     no_conflicts items = none_filtered
-        (λ (p : ℕ × ℕ). do_conflict language program (item_at items p.0) (item_at items p.1)) (pairs_from 0 (length items))
+        (λ (p : ℕ × ℕ). items_conflict language program (item_at items p.0) (item_at items p.1)) (pairs_from 0 (length items))
         (λ p. none_conflict (item_at items p.0).is_drain (item_at items p.1).is_drain (statement_of language program (item_at items p.0))
         (statement_of language program (item_at items p.1))
         (λ s at. stmt_silent (code_of program (item_at items p.0).thread) (item_at items p.0).position s (code_silent (item_at items p.0).thread) at))

@@ -1,6 +1,9 @@
 -- One turn of each loop that makes a list of the items, of their fixed pairs or of their accesses.
-use Rattle.std.proofs.Common.{◌≡◌, ℕ, suc, ◌+◌, ◌<◌, ◌≤◌, Bool, true, false, ◌||◌, List, [], ◌∷◌, ◌++◌, length, map, drop, get_or, slice_get, Option, Some, None, SomeIff, refl, sym, ap, ap₂, ◌∙◌, arith}
-use Rattle.std.specs.Prelude.{if◌then◌else◌}
+use Rattle.std.proofs.Common.{◌≡◌, ℕ, suc, ◌+◌, ◌<◌, ◌≤◌, Bool, true, false, ◌||◌, List, [], ◌∷◌, ◌++◌, length, map, drop, get_or, slice_get, Option, Some}
+use Rattle.std.proofs.Common.{None, SomeIff, refl, sym, ap, ap₂, ◌∙◌, ◌^◌, arith}
+use Rattle.std.specs.Option.{IsSome}
+use Rattle.std.specs.Prelude.{if◌then◌else◌, filter, not}
+use Rattle.lw_orders.specs.Order.{Constraints, count_of, is_decided}
 use Rattle.std.proofs.lemmas.List.{append_assoc, append-nil, drop_more, drop_all}
 use Rattle.lw_choices.specs.declared.item.Item.{Item}
 use Rattle.lw_choices.specs.declared.item.Last.{Last}
@@ -20,6 +23,11 @@ fixed_is false false last n = append-nil (behind last.statement n)
 pub some_is : (P : Type 0) (o : Option ℕ) (n m : ℕ) → SomeIff o P n → o ≡ Some m → m ≡ n
 some_is P None n m s e = absurd (let bad : None ≡ Some m = e in cc)
 some_is P (Some x) n m s e = (let given : Some x ≡ Some m = e in let same : x ≡ m = cc in sym same ∙ s.1)
+
+-- and there is one where the number is below the most
+pub some_there : (o : Option ℕ) (n most : ℕ) → SomeIff o (n < most) n → n < most → IsSome o
+some_there None n most s lt = absurd (s lt)
+some_there (Some x) n most s lt = refl
 
 module _ {S : Type 0} (language : Language S) where
   -- a statement of a path
@@ -74,3 +82,11 @@ module _ {S : Type 0} (language : Language S) where
       (fixed_from language program (suc n) a.thread (last_with a.is_drain (last_of t a.thread before) n) (drop (n + 1) items)) whole
       (is ∙ (append_assoc old (behind last.statement n) (if waits then behind last.drain n else []) ∙ ap (λ ys. old ++ ys) here))
       (ap (λ xs. old ++ fixed_from language program n t before xs) (ap (λ x. x ∷ drop (n + 1) items) ea ∙ sym (drop_more items n a l)) ∙ h)
+
+-- where nothing conflicts, there is one order
+pub one_order : (t : Constraints) → length t.conflicts ≡ 0 → 1 ≡ count_of t
+one_order t none = go t.conflicts none
+  where
+    go : (pairs : List (ℕ × ℕ)) → length pairs ≡ 0 → 1 ≡ 2 ^ length (filter (λ p. not (is_decided t.fixed p)) pairs)
+    go [] e = refl
+    go (p ∷ pairs) e = absurd (omega (arith, e))

@@ -7,6 +7,5 @@ pub mod Pairs
 pub mod Numbering
 pub mod FixedPairs
 pub mod FixedOrder
-pub mod PathOrder
 pub mod Mutual
 pub mod Counting

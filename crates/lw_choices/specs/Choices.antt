@@ -1,5 +1,6 @@
 -- Choices of flow paths: one whole path for each thread, in either language.
-use Rattle.std.specs.Prelude.{◌≡◌, ◌+◌, ◌<◌, ◌≤◌, ◌==◌, ℕ, zero, suc, Bool, true, false, if◌then◌else◌, Option, Some, None, List, [], ◌∷◌, length, map, slice_get}
+use Rattle.std.specs.Prelude.{◌≡◌, ◌+◌, ◌<◌, ◌≤◌, ◌==◌, ℕ, zero, suc, Bool, true, false, if◌then◌else◌, Option, Some, None, List, [], ◌∷◌, length, map}
+use Rattle.std.specs.Prelude.{slice_get}
 use Rattle.std.specs.List.{flat_map}
 use Rattle.std.specs.Option.{ForSome}
 use Rattle.lw_litmus.specs.Flow.{IsPathFrom}
@@ -12,10 +13,10 @@ next_or next to = if next == to then next ∷ [] else next ∷ to ∷ []
 
 -- what may follow the position j, given the statement's target and whether the next may follow, the lowest first (a jump leads
 -- forward)
-abbrev pub led_to : Option ℕ → Bool → ℕ → List ℕ
-led_to None goes j = (j + 1) ∷ []
-led_to (Some to) true j = next_or (j + 1) to
-led_to (Some to) false j = to ∷ []
+abbrev pub led_by : Option ℕ → Bool → ℕ → List ℕ
+led_by None goes j = (j + 1) ∷ []
+led_by (Some to) true j = next_or (j + 1) to
+led_by (Some to) false j = to ∷ []
 
 module _ {S : Type 0} (language : Language S) where
   -- jumps lead forward, at most to the end
@@ -24,7 +25,7 @@ module _ {S : Type 0} (language : Language S) where
 
   -- the positions that may follow the position j, at which this statement is, as lw_litmus's `Follows` says
   abbrev pub led : S → ℕ → List ℕ
-  led s j = led_to (target_of (language.operation_of s)) (goes_on (language.operation_of s)) j
+  led s j = led_by (target_of (language.operation_of s)) (goes_on (language.operation_of s)) j
 
   -- for each thread of a program a whole path
   abbrev pub IsChoice : List (List S) → List (List ℕ) → Type 0

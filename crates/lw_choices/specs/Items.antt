@@ -1,6 +1,7 @@
 -- The items of a choice of paths, in either language: what is put in order. Which pairs of them stand in a fixed order, and which
 -- conflict.
-use Rattle.std.specs.Prelude.{ℕ, zero, suc, ◌==◌, Bool, true, false, ◌&&◌, ◌||◌, if◌then◌else◌, Option, Some, None, List, [], ◌∷◌, ◌++◌, length, map, filter, slice_get, slice_index_or}
+use Rattle.std.specs.Prelude.{ℕ, zero, suc, ◌==◌, Bool, true, false, ◌&&◌, ◌||◌, if◌then◌else◌, Option, Some, None, List, [], ◌∷◌, ◌++◌, length, map, filter}
+use Rattle.std.specs.Prelude.{slice_get, slice_index_or}
 use Rattle.std.specs.List.{flat_map}
 use Rattle.std.specs.Option.{option_map_or}
 use Rattle.lw_base.specs.Threads.{code_of}
@@ -28,7 +29,7 @@ behind (Some m) n = (m, n) ∷ []
 -- The pairs of the item of number n with what must stand before it and does not stand before that already: the statement
 -- before it; for a drain (whose own statement is the last one) and for what waits for drains, the last drain too.
 abbrev pub fixed_at : Bool → Bool → Last → ℕ → List (ℕ × ℕ)
-fixed_at true waits last n = behind last.statement n ++ behind last.drain n
+fixed_at true statement_waits last n = behind last.statement n ++ behind last.drain n
 fixed_at false true last n = behind last.statement n ++ behind last.drain n
 fixed_at false false last n = behind last.statement n
 
@@ -54,16 +55,16 @@ module _ {S : Type 0} (language : Language S) where
   abbrev pub accesses : S → Option ℕ
   accesses s = if is_drained s then None else location_of (language.operation_of s)
 
-  abbrev pub writes : S → Bool
-  writes s = operations.writes (language.operation_of s)
+  abbrev pub statement_writes : S → Bool
+  statement_writes s = operations.writes (language.operation_of s)
 
   -- the location that is written when its entry is drained, if it has one
   abbrev pub drains : S → Option ℕ
   drains s = if is_drained s then location_of (language.operation_of s) else None
 
   -- whether it waits until all entries before it are drained
-  abbrev pub waits : S → Bool
-  waits s = language.is_buffered && operations.waits (language.operation_of s)
+  abbrev pub statement_waits : S → Bool
+  statement_waits s = language.is_buffered && operations.waits (language.operation_of s)
 
   -- a statement, and its drain if it has one
   abbrev pub items_at : ℕ → ℕ → Option S → List Item
@@ -97,7 +98,7 @@ module _ {S : Type 0} (language : Language S) where
 
   abbrev pub writes_by : Bool → S → Bool
   writes_by true s = true
-  writes_by false s = writes s
+  writes_by false s = statement_writes s
 
   abbrev pub conflict_by : Bool → Bool → Option S → Option S → Bool
   conflict_by d e None b = false
@@ -105,11 +106,11 @@ module _ {S : Type 0} (language : Language S) where
   conflict_by d e (Some a) (Some b) = is_one (location_by d a) (location_by e b) && (writes_by d a || writes_by e b)
 
   -- two items on one location, of which at least one writes it
-  abbrev pub do_conflict : List (List S) → Item → Item → Bool
-  do_conflict program a b = conflict_by a.is_drain b.is_drain (statement_of program a) (statement_of program b)
+  abbrev pub items_conflict : List (List S) → Item → Item → Bool
+  items_conflict program a b = conflict_by a.is_drain b.is_drain (statement_of program a) (statement_of program b)
 
   abbrev pub does_wait : List (List S) → Item → Bool
-  does_wait program a = option_map_or waits (statement_of program a) false
+  does_wait program a = option_map_or statement_waits (statement_of program a) false
 
   -- the fixed pairs of the items from number n on, the item before which is of thread t
   abbrev pub fixed_from : List (List S) → ℕ → ℕ → Last → List Item → List (ℕ × ℕ)
@@ -123,5 +124,5 @@ module _ {S : Type 0} (language : Language S) where
   constraints_of program items = record {
     len = length items;
     fixed = fixed_from program 0 0 none_before items;
-    conflicts = filter (λ (p : ℕ × ℕ). do_conflict program (item_at items p.0) (item_at items p.1)) (pairs_from 0 (length items));
+    conflicts = filter (λ (p : ℕ × ℕ). items_conflict program (item_at items p.0) (item_at items p.1)) (pairs_from 0 (length items));
   }

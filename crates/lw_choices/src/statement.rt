@@ -35,7 +35,7 @@ pub(crate) fn drains<S: Statement>(stmt: &S) -> Option<Loc>
 
 /// Whether it waits until all entries before it are drained.
 pub(crate) fn waits<S: Statement>(stmt: &S) -> bool
-    ensures { result ≡ table.waits S.language stmt.now }
+    ensures { result ≡ table.statement_waits S.language stmt.now }
 {
     S::is_buffered() && stmt.operation().waits()
 }

@@ -8,7 +8,7 @@ use Rattle.lw_memory.specs.Flat.{flat}
 use Rattle.lw_interleaving.specs.declared.thread.Thread.{Thread}
 use Rattle.lw_litmus.specs.WellFormedTests.{IsWellFormedSource}
 use Rattle.lw_litmus.specs.Tests.{SourceTest, ProgramTest}
-use Rattle.lw_interleaving.specs.Runs.{State, Ran}
+use Rattle.lw_interleaving.specs.Runs.{State, SourceRan}
 use Rattle.lw_interleaving.proofs.api.Exchange.{state_of}
 use Rattle.lw_tso.specs.Acts.{cpu_of, event_act}
 use Rattle.lw_tso.specs.Processors.{Processor}
@@ -33,7 +33,7 @@ module _ (s : SourceTest) (p : ProgramTest) (starts : List (List ℕ)) where
   -- Some steps of the source lead from one state to another, which lags behind this state of the machine.
   pub record Caught (ss end : State) (ms : MachineState (List ℕ)) : Type 0 where
     pub order : List ℕ
-    pub ran : Ran s.threads (map Step order) ss end
+    pub ran : SourceRan s.threads (map Step order) ss end
     pub behind : Behind end ms
 
   -- The source follows where one of its threads does.
@@ -44,7 +44,7 @@ module _ (s : SourceTest) (p : ProgramTest) (starts : List (List ℕ)) where
       let end = state_of (slice_set ss.threads t next) n in
       record {
         order = turns.order;
-        ran = subst (λ w. Ran s.threads (map Step turns.order) (state_of ss.threads w) end) b.words (turns.on ss.threads was);
+        ran = subst (λ w. SourceRan s.threads (map Step turns.order) (state_of ss.threads w) end) b.words (turns.on ss.threads was);
         behind = subst (Behind end) (sym is) (gone_on s LagAt ss ms b t th next c q n was got lag);
       }
 

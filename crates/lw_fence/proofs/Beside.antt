@@ -14,7 +14,7 @@ use Rattle.lw_memory.specs.Flat.{flat}
 use Rattle.lw_litmus.specs.WellFormedTests.{IsWellFormedSource}
 use Rattle.lw_litmus.specs.Tests.{SourceTest, ProgramTest}
 use Rattle.lw_interleaving.specs.declared.thread.Thread.{Thread}
-use Rattle.lw_interleaving.specs.Runs.{State, start_of, outcome_of, starting as thread_starting}
+use Rattle.lw_interleaving.specs.Runs.{State, start_of, outcome_of, starting_thread as thread_starting}
 use Rattle.lw_interleaving.proofs.api.Exchange.{state_of}
 use Rattle.lw_tso.specs.Machines.{MachineState}
 use Rattle.lw_tso.specs.Processors.{Processor, starting}

@@ -1,6 +1,7 @@
 -- The instructions of a row carry out its statement: the last one does to its processor and to the memory what the statement does to
 -- its thread, and one before it leaves the memory and the store buffer as they are.
-use Rattle.std.proofs.Common.{◌≡◌, ℕ, ◌+◌, ◌<◌, ◌==◌, ◌%◌, ◌^◌, add_comm, Bool, true, false, not, true≢false, None, Some, List, [], ◌∷◌, ◌++◌, length, if◌then◌else◌, refl, sym, ap, ap₂, ◌∙◌, subst, subst₂, arith, slice_set, slice_index, eqb-true}
+use Rattle.std.proofs.Common.{◌≡◌, ℕ, ◌+◌, ◌<◌, ◌==◌, ◌%◌, ◌^◌, add_comm, Bool, true, false, not, true≢false, None, Some, List, [], ◌∷◌, ◌++◌, length}
+use Rattle.std.proofs.Common.{if◌then◌else◌, refl, sym, ap, ap₂, ◌∙◌, subst, subst₂, arith, slice_set, slice_index, eqb-true}
 use Rattle.std.specs.Prelude.{All}
 use Rattle.std.proofs.lemmas.Bool.{eqb-false}
 use Rattle.std.proofs.lemmas.List.{set-get_or, set-set, get_or-set_same, get_or-set_other}
@@ -19,7 +20,7 @@ use Rattle.lw_litmus.specs.declared.instr.Instr.{Instr}
 use Rattle.lw_litmus.specs.declared.instr.Instr.TheVariants as x86
 use Rattle.lw_litmus.specs.Operations.{location_of, is_store, is_load}
 use Rattle.lw_litmus.specs.WellFormed.{registers_of}
-use Rattle.lw_litmus.specs.Sources.{operation_of}
+use Rattle.lw_litmus.specs.Sources.{source_operation}
 use Rattle.lw_interleaving.specs.declared.thread.Thread.{Thread}
 use Rattle.lw_interleaving.specs.Statements.{thread_after, words_after}
 use Rattle.lw_interleaving.proofs.api.Exchange.{thread_alone}
@@ -43,20 +44,20 @@ pub data Stored (s : Stmt) (v : Thread) (b : Buffer) (m : List ℕ) (c : Buffer)
   -- a store is now the newest entry
   buffered : (x : ℕ) (w : Operand) → s ≡ Store x w → c ≡ b ++ (x, value_of w v.regs) ∷ [] → n ≡ m → Stored s v b m c n
   -- any other is done at once, where the buffer is empty
-  at_once : is_store (operation_of s) ≡ false → b ≡ [] → c ≡ [] → n ≡ words_after (operation_of s) v m
+  at_once : is_store (source_operation s) ≡ false → b ≡ [] → c ≡ [] → n ≡ words_after (source_operation s) v m
       → Stored s v b m c n
 
 -- The statement s of the thread v, carried out over the buffer b and the memory m, has left q and n.
 pub record Carried (starts : List ℕ) (s : Stmt) (v : Thread) (b : Buffer) (m : List ℕ) (q : Processor) (n : List ℕ)
     : Type 0 where
-  pub position : q.position ≡ slice_index starts (thread_after (operation_of s) v m).position
-  pub regs : q.regs ≡ (thread_after (operation_of s) v m).regs
+  pub position : q.position ≡ slice_index starts (thread_after (source_operation s) v m).position
+  pub regs : q.regs ≡ (thread_after (source_operation s) v m).regs
   pub stored : Stored s v b m q.buffer n
 
 -- The instruction i of the processor p, whatever is still in its buffer, carries out s. A load finds the buffer empty.
 pub record Ends (starts : List ℕ) (v : Thread) (s : Stmt) (p : Processor) (i : Instr) : Type 0 where
-  pub empty : is_load (operation_of s) ≡ true → p.buffer ≡ []
-  pub carries : (b : Buffer) (m : List ℕ) → (is_load (operation_of s) ≡ true → b ≡ []) → (q : Processor) (n : List ℕ)
+  pub empty : is_load (source_operation s) ≡ true → p.buffer ≡ []
+  pub carries : (b : Buffer) (m : List ℕ) → (is_load (source_operation s) ≡ true → b ≡ []) → (q : Processor) (n : List ℕ)
       → Does m (step_act (Some i) (record p { buffer = b })) q n → Carried starts s v b m q n
 
 -- An instruction before i leads the processor p to q.
@@ -86,8 +87,8 @@ quiet o none = (refl, refl)
 module _ (starts : List ℕ) (v : Thread) where
   -- what is left is what an act says
   carried : (s : Stmt) (b : Buffer) (m k n : List ℕ) (r q : Processor)
-      → r.position ≡ slice_index starts (thread_after (operation_of s) v m).position
-      → r.regs ≡ (thread_after (operation_of s) v m).regs → Stored s v b m r.buffer k → (q ≡ r) × (n ≡ k)
+      → r.position ≡ slice_index starts (thread_after (source_operation s) v m).position
+      → r.regs ≡ (thread_after (source_operation s) v m).regs → Stored s v b m r.buffer k → (q ≡ r) × (n ≡ k)
       → Carried starts s v b m q n
   carried s b m k n r q position regs stored d =
       subst₂ (λ c l. Carried starts s v b m c l) (sym d.0) (sym d.1)
@@ -97,12 +98,12 @@ module _ (starts : List ℕ) (v : Thread) where
   local_ends : (s : Stmt) (p : Processor) (i : Instr) (k : ℕ) (regs : List ℕ) (flag : Bool) → IsLocal s
       → ((b : Buffer) → step_act (Some i) (record p { buffer = b })
       ≡ Goes (record { position = k; regs = regs; zero_flag = flag; buffer = b }))
-      → k ≡ slice_index starts (thread_after (operation_of s) v []).position
-      → regs ≡ (thread_after (operation_of s) v []).regs → Ends starts v s p i
+      → k ≡ slice_index starts (thread_after (source_operation s) v []).position
+      → regs ≡ (thread_after (source_operation s) v []).regs → Ends starts v s p i
   local_ends s p i k regs flag l goes position same = record {
-    empty = λ load. absurd (true≢false (sym load ∙ (quiet (operation_of s) l).1));
+    empty = λ load. absurd (true≢false (sym load ∙ (quiet (source_operation s) l).1));
     carries = λ b m load q n done.
-        let next = thread_alone (operation_of s) v [] m l in
+        let next = thread_alone (source_operation s) v [] m l in
         carried s b m m n (record { position = k; regs = regs; zero_flag = flag; buffer = b }) q
         (position ∙ ap (λ (t : Thread). slice_index starts t.position) next) (same ∙ ap (λ (t : Thread). t.regs) next)
         (apart l refl refl) (subst (λ act. Does m act q n) (goes b) done);
@@ -200,7 +201,7 @@ module _ (starts : List ℕ) (v : Thread) where
     -- a jump behind a comparison, of which the flag tells
     jump_serves : (s : Stmt) (a k to : ℕ) (i : Instr) (told : Bool → Bool) → IsLocal s
         → ((q : Processor) → step_act (Some i) q ≡ Goes (jumping q (told q.zero_flag) (slice_index starts to)))
-        → thread_after (operation_of s) v []
+        → thread_after (source_operation s) v []
         ≡ record { position = if told (slice_index v.regs a == k) then to else (v.position + 1); regs = v.regs }
         → From s (Two (compared a k) i)
     jump_serves s a k to i told l goes after next m q n done =
@@ -213,8 +214,8 @@ module _ (starts : List ℕ) (v : Thread) where
         ∙ ap (λ (t : Thread). slice_index starts t.position) (sym after)) (regs ∙ ap (λ (t : Thread). t.regs) (sym after))) done
 
     -- the row of the statement, with a fence or without
-    pub row_serves : (s : Stmt) (fence : Bool) → length v.regs ≡ 6 → All IsRegisterNumber (registers_of (operation_of s))
-        → (is_load (operation_of s) ≡ true → fence ≡ false → p.buffer ≡ []) → From s (row starts fence s)
+    pub row_serves : (s : Stmt) (fence : Bool) → length v.regs ≡ 6 → All IsRegisterNumber (registers_of (source_operation s))
+        → (is_load (source_operation s) ≡ true → fence ≡ false → p.buffer ≡ []) → From s (row starts fence s)
     row_serves (Store x w) fence six registers empty = λ next. store_ends p next x w regs
     row_serves (Load d x) fence six registers empty =
         chosen (From (Load d x)) fence (Two x86.Mfence (x86.Load d x)) (One (x86.Load d x)) (λ is. fenced_serves d x)

@@ -1,5 +1,6 @@
 -- The fences that are found, by the marks.
-use Rattle.std.proofs.Common.{◌≡◌, ◌↔◌, ℕ, ◌+◌, ◌<◌, ◌≤◌, List, [], ◌∷◌, ◌++◌, length, Option, Some, Bool, true, false, ◌&&◌, sym, ap, ◌∙◌, subst, ⊎_elim, arith, slice_get, length-append}
+use Rattle.std.proofs.Common.{◌≡◌, ◌↔◌, ℕ, ◌+◌, ◌<◌, ◌≤◌, List, [], ◌∷◌, ◌++◌, length, Option, Some, Bool, true, false, ◌&&◌, sym, ap, ◌∙◌, subst, ⊎_elim}
+use Rattle.std.proofs.Common.{arith, slice_get, length-append}
 use Rattle.std.specs.Option.{option_map_or}
 use Rattle.std.specs.Prelude.{slice_index_or}
 use Rattle.std.proofs.lemmas.Option.{slice_get_past, slice_get_within}
@@ -7,14 +8,14 @@ use Rattle.std.proofs.lemmas.Bool.{cases_lt, false≢true, and_parts, and_from}
 use Rattle.lw_base.proofs.api.Lists.{get_append, get_some}
 use Rattle.lw_litmus.specs.declared.stmt.Stmt.{Stmt}
 use Rattle.lw_litmus.specs.Operations.{is_load}
-use Rattle.lw_litmus.specs.Sources.{operation_of}
-use Rattle.lw_fence.specs.Fences.{Has, IsBehindStore, NeedsFence}
+use Rattle.lw_litmus.specs.Sources.{source_operation}
+use Rattle.lw_fence.specs.Fences.{HasOperation, IsBehindStore, NeedsFence}
 
 -- a load is there
 abbrev loads : Option Stmt → Bool
-loads o = option_map_or (λ s. is_load (operation_of s)) o false
+loads o = option_map_or (λ s. is_load (source_operation s)) o false
 
-load_within : (code : List Stmt) (j : ℕ) → Has is_load code j → j < length code
+load_within : (code : List Stmt) (j : ℕ) → HasOperation is_load code j → j < length code
 load_within code j h =
     ⊎_elim (λ lt. lt) (λ past. absurd (false≢true (subst (λ o. loads o ≡ true) (slice_get_past code j past) h))) (cases_lt j (length code))
 
@@ -37,7 +38,7 @@ module _ (code : List Stmt) (marks : List Bool) where
 
   -- one more
   pub found_more : (place : ℕ) (fences new : List Bool) (b : Bool) (s : Stmt) → Found place fences → slice_get code place ≡ Some s
-      → b ≡ (is_load (operation_of s) && slice_index_or marks place false) → new ≡ fences ++ b ∷ [] → Found (place + 1) new
+      → b ≡ (is_load (source_operation s) && slice_index_or marks place false) → new ≡ fences ++ b ∷ [] → Found (place + 1) new
   found_more place fences new b s found at is e = record {
     as_many = ap length e ∙ length-append fences (b ∷ []) ∙ ap (λ (n : ℕ). n + 1) found.as_many;
     each = λ j d got. ⊎_elim (λ old. found.each j d old) (λ last. newest j d last)

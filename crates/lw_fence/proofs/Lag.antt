@@ -1,6 +1,7 @@
 -- A processor runs ahead of its source thread: the thread owes the local statements that the processor has carried out and
 -- the stores that are still in the store buffer, and the processor may stand in the middle of a statement.
-use Rattle.std.proofs.Common.{◌≡◌, ◌≢◌, ℕ, List, [], ◌∷◌, Some, sym, ◌∙◌, subst, subst₂, slice_get, slice_index, ◌↔◌, ◌+◌, length, Option, None, Bool, true, false, refl, ap, ⊎_elim, arith}
+use Rattle.std.proofs.Common.{◌≡◌, ◌≢◌, ℕ, List, [], ◌∷◌, Some, sym, ◌∙◌, subst, subst₂, slice_get, slice_index, ◌↔◌, ◌+◌, length, Option, None, Bool, true}
+use Rattle.std.proofs.Common.{false, refl, ap, ⊎_elim, arith}
 use Rattle.lw_base.specs.Threads.{code_of}
 use Rattle.lw_litmus.specs.declared.stmt.Stmt.{Stmt}
 use Rattle.lw_litmus.specs.declared.instr.Instr.{Instr}
@@ -17,8 +18,8 @@ use Rattle.std.proofs.lemmas.List.{append-nil}
 use Rattle.std.proofs.lemmas.Option.{none-some, slice_get_past}
 use Rattle.lw_base.proofs.api.Lists.{get_some}
 use Rattle.lw_litmus.specs.Operations.{is_load}
-use Rattle.lw_litmus.specs.Sources.{operation_of}
-use Rattle.lw_interleaving.specs.Statements.{thread_after, words_after, going_on}
+use Rattle.lw_litmus.specs.Sources.{source_operation}
+use Rattle.lw_interleaving.specs.Statements.{thread_after, words_after, at_next}
 use Rattle.lw_interleaving.proofs.api.Exchange.{thread_alone}
 use Rattle.lw_fence.specs.declared.row.Row.{Row}
 use Rattle.lw_fence.specs.declared.row.Row.TheVariants.{One, Two}
@@ -94,7 +95,7 @@ module _ (program : List (List Stmt)) (t : ℕ) (instrs : List Instr) (starts : 
   carried s at q n c = go c.stored
     where
       next : Thread
-      next = thread_after (operation_of s) v m
+      next = thread_after (source_operation s) v m
 
       good : Sane code next
       good = stays_sane code v m s (allowed v.position s at) at sane
@@ -108,15 +109,15 @@ module _ (program : List (List Stmt)) (t : ℕ) (instrs : List Instr) (starts : 
 
       go : Stored s v p.buffer m q.buffer n → Goal q n
       go (apart l still same) =
-          waits (subst₂ (λ b w. Owes code th b w) (append-nil p.buffer ∙ sym still) (thread_alone (operation_of s) v [] m l)
+          waits (subst₂ (λ b w. Owes code th b w) (append-nil p.buffer ∙ sym still) (thread_alone (source_operation s) v [] m l)
           (owes_on code th v _ p.buffer [] owes (local s at l nothing))) same
       go (buffered x w is more same) =
-          waits (subst₂ (λ b w. Owes code th b w) (sym more) (ap (λ z. thread_after (operation_of z) v m) (sym is))
-          (owes_on code th v (going_on v) p.buffer _ owes (store x w (at ∙ ap Some is) nothing))) same
+          waits (subst₂ (λ b w. Owes code th b w) (sym more) (ap (λ z. thread_after (source_operation z) v m) (sym is))
+          (owes_on code th v (at_next v) p.buffer _ owes (store x w (at ∙ ap Some is) nothing))) same
       go (at_once none empty still left) = record {
         now = next;
         turns = subst (λ k. Turns program t th m next k) (sym left)
-            (turns_on program t th v next m m (words_after (operation_of s) v m) (catch_up program t th v p.buffer m owes empty) (turn program t v m s at));
+            (turns_on program t th v next m m (words_after (source_operation s) v m) (catch_up program t th v p.buffer m owes empty) (turn program t v m s at));
         lag = record { ahead = next; owes = subst (λ b. Owes code next b next) (sym still) nothing; stage = whole c.position c.regs; sane = good };
       }
 
@@ -140,7 +141,7 @@ module _ (program : List (List Stmt)) (t : ℕ) (instrs : List Instr) (starts : 
 
   -- a load without a fence, where a store may still wait
   unfenced : (s : Stmt) → slice_get code v.position ≡ Some s → (fence : Bool) → ((fence ≡ true) ↔ NeedsFence code v.position)
-      → is_load (operation_of s) ≡ true → fence ≡ false → p.buffer ≡ []
+      → is_load (source_operation s) ≡ true → fence ≡ false → p.buffer ≡ []
   unfenced s at fence needs load none = go p.buffer refl
     where
       go : (b : List (ℕ × ℕ)) → p.buffer ≡ b → b ≡ []

@@ -1,6 +1,9 @@
 -- One pass forward over the statements of a thread marks the positions that a flow path reaches from a store that may still
 -- wait in the store buffer.
-use Rattle.std.proofs.Common.{◌≡◌, ◌↔◌, ℕ, zero, suc, ◌+◌, ◌<◌, ◌≤◌, ◌⊎◌, inl, inr, List, [], ◌∷◌, ◌++◌, length, take, replicate, get_or, set, Option, Some, None, Bool, true, false, if◌then◌else◌, ◌||◌, ◌&&◌, refl, sym, ap, ap₂, ◌∙◌, subst, ⊎_elim, arith, slice_get, length-set, get_or-set_same, get_or-set_other}
+use Rattle.std.proofs.Common.{◌≡◌, ◌↔◌, ℕ, zero, suc, ◌+◌, ◌<◌, ◌≤◌, ◌⊎◌, inl, inr, List, [], ◌∷◌, ◌++◌, length, take, replicate, get_or, set, Option, Some}
+use Rattle.std.proofs.Common.{None, Bool, true, false, if◌then◌else◌, ◌||◌, ◌&&◌, refl, sym, ap, ap₂, ◌∙◌, subst, ⊎_elim, arith, slice_get, length-set}
+use Rattle.std.proofs.Common.{get_or-set_same, get_or-set_other}
+use Rattle.std.specs.List.{AllByRecursion}
 use Rattle.std.specs.Option.{ForSome}
 use Rattle.std.proofs.lemmas.Option.{same_Some, slice_get_within}
 use Rattle.std.proofs.lemmas.Bool.{cases_eq, false≢true}
@@ -10,9 +13,9 @@ use Rattle.lw_litmus.specs.declared.operation.Operation.{Operation}
 use Rattle.lw_litmus.specs.declared.stmt.Stmt.{Stmt}
 use Rattle.lw_litmus.specs.Flow.{Follows}
 use Rattle.lw_litmus.specs.Operations.{is_store, target_of, goes_on, Leads}
-use Rattle.lw_litmus.specs.Sources.{source, operation_of}
+use Rattle.lw_litmus.specs.Sources.{source, source_operation}
 use Rattle.lw_fence.specs.inner.Marks.{may_wait, with_mark, marked_behind}
-use Rattle.lw_fence.specs.Fences.{lets_stores_wait, Is, IsFlowPath, StoresWait, IsBehindStore}
+use Rattle.lw_fence.specs.Fences.{lets_stores_wait, Is, HasOperation, IsFlowPath, IsBehindStore}
 
 -- a store is buffered where the statement at i is left
 abbrev pub MayWait : List Stmt → Option Stmt → ℕ → Type 0
@@ -23,8 +26,8 @@ longer_path : (code : List Stmt) (s : ℕ) (between : List ℕ) (i j : ℕ) → 
 longer_path code s [] i j path f = (path.0, (f, tt))
 longer_path code s (k ∷ between) i j path f = (path.0, longer_path code k between i j path.1 f)
 
-more_passed : (code : List Stmt) (between : List ℕ) (i : ℕ) → StoresWait code between → Is lets_stores_wait (slice_get code i)
-    → StoresWait code (between ++ i ∷ [])
+more_passed : (code : List Stmt) (between : List ℕ) (i : ℕ) → AllByRecursion (HasOperation lets_stores_wait code) between
+    → Is lets_stores_wait (slice_get code i) → AllByRecursion (HasOperation lets_stores_wait code) (between ++ i ∷ [])
 more_passed code [] i a p = (p, tt)
 more_passed code (k ∷ between) i a p = (a.0, more_passed code between i a.1 p)
 
@@ -42,13 +45,13 @@ by_step code i j f (inr p) =
       waits = more_passed code b.between i b.waits p.0;
     }
 
-pub step_from : (code : List Stmt) (i j : ℕ) (x : Stmt) → slice_get code i ≡ Some x → Leads (operation_of x) i j
+pub step_from : (code : List Stmt) (i j : ℕ) (x : Stmt) → slice_get code i ≡ Some x → Leads (source_operation x) i j
     → MayWait code (Some x) i → IsBehindStore code j
 step_from code i j x e = subst (λ o. Follows source o i j → MayWait code o i → IsBehindStore code j) e (by_step code i j)
 
 -- and by such a step alone: the last one of the path
 last_step : (code : List Stmt) (j i : ℕ) (between : List ℕ) → MayWait code (slice_get code i) i
-    → IsFlowPath code (i ∷ (between ++ j ∷ [])) → StoresWait code between
+    → IsFlowPath code (i ∷ (between ++ j ∷ [])) → AllByRecursion (HasOperation lets_stores_wait code) between
     → (k : ℕ) × Follows source (slice_get code k) k j × MayWait code (slice_get code k) k
 last_step code j i [] w path passed = (i, path.0, w)
 last_step code j i (k ∷ between) w path passed =
@@ -112,9 +115,9 @@ spread_there o i marks j (inr target) lt =
 spread_length : (o : Operation) (i : ℕ) (marks : List Bool) → length (marked_behind o i marks) ≡ length marks
 spread_length o i marks = mark_length (next_of o i) (with_mark (target_of o) marks) ∙ mark_length (target_of o) marks
 
-wait_sound : (code : List Stmt) (i : ℕ) (x : Stmt) (b : Bool) → may_wait (operation_of x) b ≡ true → (b ≡ true → IsBehindStore code i)
+wait_sound : (code : List Stmt) (i : ℕ) (x : Stmt) (b : Bool) → may_wait (source_operation x) b ≡ true → (b ≡ true → IsBehindStore code i)
     → MayWait code (Some x) i
-wait_sound code i x b h d = go (is_store (operation_of x)) (lets_stores_wait (operation_of x)) b h d
+wait_sound code i x b h d = go (is_store (source_operation x)) (lets_stores_wait (source_operation x)) b h d
   where
     go : (s w b : Bool) → (s || (w && b)) ≡ true → (b ≡ true → IsBehindStore code i) → (s ≡ true) ⊎ ((w ≡ true) × IsBehindStore code i)
     go true w b h d = inl refl
@@ -122,9 +125,9 @@ wait_sound code i x b h d = go (is_store (operation_of x)) (lets_stores_wait (op
     go false false b h d = absurd (false≢true h)
 
 wait_there : (code : List Stmt) (i : ℕ) (x : Stmt) (b : Bool) → MayWait code (Some x) i → (IsBehindStore code i → b ≡ true)
-    → may_wait (operation_of x) b ≡ true
-wait_there code i x b (inl store) d = ap (λ s. s || (lets_stores_wait (operation_of x) && b)) store
-wait_there code i x b (inr waits) d = go (is_store (operation_of x)) (lets_stores_wait (operation_of x)) b waits.0 (d waits.1)
+    → may_wait (source_operation x) b ≡ true
+wait_there code i x b (inl store) d = ap (λ s. s || (lets_stores_wait (source_operation x) && b)) store
+wait_there code i x b (inr waits) d = go (is_store (source_operation x)) (lets_stores_wait (source_operation x)) b waits.0 (d waits.1)
   where
     go : (s w b : Bool) → w ≡ true → b ≡ true → (s || (w && b)) ≡ true
     go true w b e f = refl
@@ -143,12 +146,12 @@ pub record Marked (code : List Stmt) (i : ℕ) (marks : List Bool) : Type 0 wher
   pub there : (k j : ℕ) → k < i → Follows source (slice_get code k) k j → MayWait code (slice_get code k) k → at marks j ≡ true
 
 module _ (code : List Stmt)
-    (ok : (j : ℕ) (x : Stmt) → slice_get code j ≡ Some x → ForSome (target_of (operation_of x)) (λ to. (j < to) × (to ≤ length code))) where
+    (ok : (j : ℕ) (x : Stmt) → slice_get code j ≡ Some x → ForSome (target_of (source_operation x)) (λ to. (j < to) × (to ≤ length code))) where
   some_forward : (i j : ℕ) (o : Option Stmt) → slice_get code i ≡ o → Follows source o i j → (i < length code) × (i < j) × (j ≤ length code)
   some_forward i j None e f = absurd f
   some_forward i j (Some x) e f =
       let lt = slice_get_within code i x e in
-      let g = forward (length code) i j (operation_of x) (ok i x e) lt f in
+      let g = forward (length code) i j (source_operation x) (ok i x e) lt f in
       (lt, g.0, g.1)
 
   behind_marked : (i : ℕ) (marks : List Bool) → Marked code i marks → (j : ℕ) → j ≤ i → IsBehindStore code j → at marks j ≡ true
@@ -161,17 +164,17 @@ module _ (code : List Stmt)
   here P k i x e same h = subst (λ o. P o i) e (subst (λ n. P (slice_get code n) n) same h)
 
   pub mark_step : (i : ℕ) (x : Stmt) (marks : List Bool) (b : Bool) → slice_get code i ≡ Some x
-      → may_wait (operation_of x) (at marks i) ≡ b → Marked code i marks
-      → Marked code (i + 1) (if b then marked_behind (operation_of x) i marks else marks)
+      → may_wait (source_operation x) (at marks i) ≡ b → Marked code i marks
+      → Marked code (i + 1) (if b then marked_behind (source_operation x) i marks else marks)
   mark_step i x marks true e c m = record {
-    as_many = spread_length (operation_of x) i marks ∙ m.as_many;
+    as_many = spread_length (source_operation x) i marks ∙ m.as_many;
     sound = λ j h. ⊎_elim (λ old. m.sound j old)
         (λ f. step_from code i j x e f (wait_sound code i x (at marks i) c (λ h. m.sound i h)))
-        (spread_sound (operation_of x) i marks j h);
+        (spread_sound (source_operation x) i marks j h);
     there = λ k j lt f g. ⊎_elim
-        (λ same. spread_there (operation_of x) i marks j (here (λ o n. Follows source o n j) k i x e same f)
+        (λ same. spread_there (source_operation x) i marks j (here (λ o n. Follows source o n j) k i x e same f)
         (omega (arith, m.as_many, some_forward k j (slice_get code k) refl f)))
-        (λ ne. spread_keeps (operation_of x) i marks j (m.there k j (omega arith) f g)) (cases_eq k i);
+        (λ ne. spread_keeps (source_operation x) i marks j (m.there k j (omega arith) f g)) (cases_eq k i);
   }
   mark_step i x marks false e c m = record {
     as_many = m.as_many;

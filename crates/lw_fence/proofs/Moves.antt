@@ -10,28 +10,28 @@ use Rattle.lw_memory.specs.Flat.{flat}
 use Rattle.lw_memory.specs.Memory.{Memory}
 use Rattle.lw_base.proofs.api.Lists.{got_set_same, set_own}
 use Rattle.lw_litmus.specs.declared.stmt.Stmt.{Stmt}
-use Rattle.lw_litmus.specs.Sources.{operation_of}
+use Rattle.lw_litmus.specs.Sources.{source_operation}
 use Rattle.lw_interleaving.specs.declared.thread.Thread.{Thread}
 use Rattle.lw_interleaving.specs.Statements.{thread_after, words_after}
-use Rattle.lw_interleaving.specs.Runs.{State, EventDone as SourceDone, Ran, carried_out, step_of, is_final as is_over}
+use Rattle.lw_interleaving.specs.Runs.{State, SourceEventDone as SourceDone, SourceRan, carried_out, step_of}
 use Rattle.lw_interleaving.proofs.api.Exchange.{state_of, state_after}
 use Rattle.lw_litmus.specs.declared.instr.Instr.{Instr}
 use Rattle.lw_tso.specs.Processors.{Processor}
 use Rattle.lw_tso.specs.Acts.{step_act, drain_act}
 use Rattle.lw_tso.specs.Machines.{MachineState, EventDone}
-use Rattle.lw_tso.specs.Runs.{MachineRan, is_final}
+use Rattle.lw_tso.specs.Runs.{MachineRan}
 use Rattle.lw_tso.proofs.api.Effects.{Does, state, leads_from}
 
 -- one list of events after another
 pub run_append : {M : Type 0} (mem : Memory M) (program : List (List Instr)) (es fs : List Event) (s mid end : MachineState M)
     → MachineRan mem program es s mid → MachineRan mem program fs mid end → MachineRan mem program (es ++ fs) s end
-run_append mem program es fs s mid end r q = Ran-append (EventDone mem program) (is_final program) es fs s mid end r q
+run_append mem program es fs s mid end r q = Ran-append (EventDone mem program) es fs s mid end r q
 
-pub source_append : (program : List (List Stmt)) (ts us : List ℕ) (s mid end : State) → Ran program (map Step ts) s mid
-    → Ran program (map Step us) mid end → Ran program (map Step (ts ++ us)) s end
+pub source_append : (program : List (List Stmt)) (ts us : List ℕ) (s mid end : State) → SourceRan program (map Step ts) s mid
+    → SourceRan program (map Step us) mid end → SourceRan program (map Step (ts ++ us)) s end
 source_append program ts us s mid end r q =
-    subst (λ (es : List Event). Ran program es s end) (sym (map-append Step ts us))
-    (Ran-append (SourceDone program) (is_over program) (map Step ts) (map Step us) s mid end r q)
+    subst (λ (es : List Event). SourceRan program es s end) (sym (map-append Step ts us))
+    (Ran-append (SourceDone program) (map Step ts) (map Step us) s mid end r q)
 
 -- Processor t runs these events, whatever the others are.
 pub record Moves (program : List (List Instr)) (t : ℕ) (p : Processor) (m : List ℕ) (es : List Event) (q : Processor)
@@ -43,7 +43,7 @@ pub record Moves (program : List (List Instr)) (t : ℕ) (p : Processor) (m : Li
 pub record Turns (program : List (List Stmt)) (t : ℕ) (th : Thread) (m : List ℕ) (end : Thread) (n : List ℕ) : Type 0 where
   pub order : List ℕ
   pub on : (threads : List Thread) → slice_get threads t ≡ Some th
-      → Ran program (map Step order) (state_of threads m) (state_of (slice_set threads t end) n)
+      → SourceRan program (map Step order) (state_of threads m) (state_of (slice_set threads t end) n)
 
 module _ (program : List (List Instr)) (t : ℕ) where
   pub moves_on : (p q r : Processor) (m n k : List ℕ) (es fs : List Event) → Moves program t p m es q n
@@ -83,14 +83,14 @@ module _ (program : List (List Stmt)) (t : ℕ) where
         let after = slice_set threads t mid in
         let second = b.on after (got_set_same threads t mid th was) in
         source_append program a.order b.order (state_of threads m) (state_of after n) _ (a.on threads was)
-        (subst (λ c. Ran program (map Step b.order) (state_of after n) (state_of c k)) (set-set threads t mid end) second);
+        (subst (λ c. SourceRan program (map Step b.order) (state_of after n) (state_of c k)) (set-set threads t mid end) second);
   }
 
   pub turn : (th : Thread) (m : List ℕ) (x : Stmt) → slice_get (code_of program t) th.position ≡ Some x
-      → Turns program t th m (thread_after (operation_of x) th m) (words_after (operation_of x) th m)
+      → Turns program t th m (thread_after (source_operation x) th m) (words_after (source_operation x) th m)
   turn th m x next = record {
     order = t ∷ [];
     on = λ threads was.
         let s = state_of threads m in
-        (state_after t th (operation_of x) s, ap (step_of program t s) was ∙ ap (carried_out t th s) next, refl);
+        (state_after t th (source_operation x) s, ap (step_of program t s) was ∙ ap (carried_out t th s) next, refl);
   }

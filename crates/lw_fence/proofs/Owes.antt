@@ -6,9 +6,9 @@ use Rattle.lw_base.specs.declared.operand.Operand.{Operand}
 use Rattle.lw_litmus.specs.declared.stmt.Stmt.{Stmt}
 use Rattle.lw_litmus.specs.declared.stmt.Stmt.TheVariants.{Store, Load, Swap, FetchAdd}
 use Rattle.lw_litmus.specs.Operations.{location_of}
-use Rattle.lw_litmus.specs.Sources.{operation_of}
+use Rattle.lw_litmus.specs.Sources.{source_operation}
 use Rattle.lw_interleaving.specs.declared.thread.Thread.{Thread}
-use Rattle.lw_interleaving.specs.Statements.{going_on, thread_after}
+use Rattle.lw_interleaving.specs.Statements.{at_next, thread_after}
 use Rattle.lw_interleaving.proofs.api.Exchange.{leads, thread_alone, words_alone}
 use Rattle.lw_fence.specs.Fences.{lets_stores_wait, Is, IsBehindStore}
 use Rattle.lw_fence.proofs.Marks.{step_from}
@@ -16,15 +16,15 @@ use Rattle.lw_fence.proofs.Moves.{Turns, turns_none, turns_on, turn}
 
 -- it neither reads nor writes a location
 abbrev pub IsLocal : Stmt → Type 0
-IsLocal s = location_of (operation_of s) ≡ None
+IsLocal s = location_of (source_operation s) ≡ None
 
 -- The thread comes from one state to another by local statements and by stores, and these are the stores.
 pub data Owes (code : List Stmt) : Thread → List (ℕ × ℕ) → Thread → Type 0 where
   nothing : {th : Thread} → Owes code th [] th
   local : {th end : Thread} {buffer : List (ℕ × ℕ)} (s : Stmt) → slice_get code th.position ≡ Some s → IsLocal s
-      → Owes code (thread_after (operation_of s) th []) buffer end → Owes code th buffer end
+      → Owes code (thread_after (source_operation s) th []) buffer end → Owes code th buffer end
   store : {th end : Thread} {buffer : List (ℕ × ℕ)} (x : ℕ) (v : Operand) → slice_get code th.position ≡ Some (Store x v)
-      → Owes code (going_on th) buffer end → Owes code th ((x, value_of v th.regs) ∷ buffer) end
+      → Owes code (at_next th) buffer end → Owes code th ((x, value_of v th.regs) ∷ buffer) end
 
 -- one way behind another
 pub owes_on : (code : List Stmt) (th mid end : Thread) (buffer newer : List (ℕ × ℕ)) → Owes code th buffer mid → Owes code mid newer end
@@ -46,7 +46,7 @@ still_behind : (code : List Stmt) (th end : Thread) (buffer : List (ℕ × ℕ))
 still_behind code th end buffer nothing b = b
 still_behind code th end buffer (local s at l o) b =
     still_behind code _ end buffer o
-    (step_from code th.position _ s at (leads (operation_of s) th []) (inr (local_waits s l, b)))
+    (step_from code th.position _ s at (leads (source_operation s) th []) (inr (local_waits s l, b)))
 still_behind code th end buffer (store {buffer = rest} x v at o) b =
     still_behind code _ end rest o (step_from code th.position _ (Store x v) at (inl (refl, refl)) (inr (refl, b)))
 
@@ -60,9 +60,9 @@ after_store code th end buffer (store {buffer = rest} x v at o) full =
 
 module _ (program : List (List Stmt)) (t : ℕ) where
   local_turn : (th : Thread) (m : List ℕ) (s : Stmt) → slice_get (code_of program t) th.position ≡ Some s → IsLocal s
-      → Turns program t th m (thread_after (operation_of s) th []) m
+      → Turns program t th m (thread_after (source_operation s) th []) m
   local_turn th m s at l =
-      subst₂ (λ a n. Turns program t th m a n) (thread_alone (operation_of s) th m [] l) (words_alone (operation_of s) th m l)
+      subst₂ (λ a n. Turns program t th m a n) (thread_alone (source_operation s) th m [] l) (words_alone (source_operation s) th m l)
       (turn program t th m s at)
 
   -- With an empty buffer the thread catches up.
@@ -70,7 +70,7 @@ module _ (program : List (List Stmt)) (t : ℕ) where
       → Turns program t th m end m
   catch_up th end buffer m nothing e = turns_none program t th m
   catch_up th end buffer m (local s at l o) e =
-      turns_on program t th (thread_after (operation_of s) th []) end m m m (local_turn th m s at l) (catch_up _ end buffer m o e)
+      turns_on program t th (thread_after (source_operation s) th []) end m m m (local_turn th m s at l) (catch_up _ end buffer m o e)
   catch_up th end buffer m (store x v at o) e = absurd cc
 
   -- The thread has carried out the oldest store.
@@ -86,14 +86,14 @@ module _ (program : List (List Stmt)) (t : ℕ) where
       let a = first_store _ end buffer m oldest newer o e in
       record {
         mid = a.mid;
-        turns = turns_on program t th (thread_after (operation_of s) th []) a.mid m m (slice_set m oldest.0 oldest.1) (local_turn th m s at l) a.turns;
+        turns = turns_on program t th (thread_after (source_operation s) th []) a.mid m m (slice_set m oldest.0 oldest.1) (local_turn th m s at l) a.turns;
         owes = a.owes;
       }
   first_store th end buffer m oldest newer (store {buffer = rest} x v at o) e =
       let first : (x, value_of v th.regs) ≡ oldest = cc in
       let others : rest ≡ newer = cc in
       record {
-        mid = going_on th;
-        turns = subst (λ (entry : ℕ × ℕ). Turns program t th m (going_on th) (slice_set m entry.0 entry.1)) first (turn program t th m (Store x v) at);
-        owes = subst (λ b. Owes (code_of program t) (going_on th) b end) others o;
+        mid = at_next th;
+        turns = subst (λ (entry : ℕ × ℕ). Turns program t th m (at_next th) (slice_set m entry.0 entry.1)) first (turn program t th m (Store x v) at);
+        owes = subst (λ b. Owes (code_of program t) (at_next th) b end) others o;
       }

@@ -1,5 +1,6 @@
 -- What is made of a well-formed source test is a well-formed program.
-use Rattle.std.proofs.Common.{◌≡◌, ℕ, zero, suc, ◌+◌, ◌-◌, ◌<◌, ◌≤◌, ◌==◌, List, [], ◌∷◌, length, Some, None, Bool, refl, sym, ap, ◌∙◌, subst, subst₂, ⊎_elim, arith, slice_get, slice_index}
+use Rattle.std.proofs.Common.{◌≡◌, ℕ, zero, suc, ◌+◌, ◌-◌, ◌<◌, ◌≤◌, ◌==◌, List, [], ◌∷◌, length, Some, None, Bool, refl, sym, ap, ◌∙◌, subst, subst₂, ⊎_elim}
+use Rattle.std.proofs.Common.{arith, slice_get, slice_index}
 use Rattle.std.specs.Prelude.{All, slice_index_or}
 use Rattle.std.specs.Option.{ForSome}
 use Rattle.std.proofs.lemmas.Bool.{cases_eq, cases_lt}
@@ -7,7 +8,7 @@ use Rattle.std.proofs.lemmas.List.Elements.{All-nil, All-cons}
 use Rattle.std.proofs.lemmas.Option.{same_Some, none-some, slice_get_within, get_or_from_slice_get}
 use Rattle.lw_base.specs.Heads.{TestHead}
 use Rattle.lw_base.specs.Threads.{code_of}
-use Rattle.lw_base.specs.WellFormed.{IsWord, IsRegisterNumber, IsWellFormedHead}
+use Rattle.lw_base.specs.WellFormed.{IsWordNumber, IsRegisterNumber, IsWellFormedHead}
 use Rattle.lw_base.specs.declared.head.Arch.TheVariants.{X86}
 use Rattle.lw_base.specs.declared.operand.Operand.{Operand}
 use Rattle.lw_base.specs.declared.operand.Operand.TheVariants.{Register, Number}
@@ -17,7 +18,7 @@ use Rattle.lw_litmus.specs.declared.stmt.Stmt.{Stmt}
 use Rattle.lw_litmus.specs.declared.stmt.Stmt.TheVariants.{Store, Load, Swap, FetchAdd, Set, Sum, IfEq, IfNe, Goto}
 use Rattle.lw_litmus.specs.Operands.{operand_registers, operand_numbers}
 use Rattle.lw_litmus.specs.Operations.{target_of}
-use Rattle.lw_litmus.specs.Sources.{source, operation_of}
+use Rattle.lw_litmus.specs.Sources.{source, source_operation}
 use Rattle.lw_litmus.specs.WellFormedTests.{IsWellFormedSource, IsWellFormedProgram}
 use Rattle.lw_litmus.specs.Tests.{SourceTest, ProgramTest}
 use Rattle.lw_litmus.specs.declared.instr.Instr.{Instr}
@@ -46,18 +47,18 @@ in_row P instrs k (y ∷ is) j i stands all le lt e =
 module _ (locs l n : ℕ) (starts : List ℕ) where
   -- what the instruction of this number has to be
   abbrev Fits : ℕ → Instr → Type 0
-  Fits k i = IsStatement x86 locs i × ForSome (target_of (programs.operation_of i)) (λ to. (k < to) × (to ≤ l))
+  Fits k i = IsStatement x86 locs i × ForSome (target_of (programs.x86_operation i)) (λ to. (k < to) × (to ≤ l))
 
   -- it leads nowhere but to the next
-  goes_on : (i : Instr) → target_of (programs.operation_of i) ≡ None → IsStatement x86 locs i → (k : ℕ) → Fits k i
+  goes_on : (i : Instr) → target_of (programs.x86_operation i) ≡ None → IsStatement x86 locs i → (k : ℕ) → Fits k i
   goes_on i none ok k = (ok, λ to e. absurd (none-some to (sym none ∙ e)))
 
   no_location : ForSome None (λ x. x < locs)
   no_location x e = absurd (none-some x e)
 
   -- with no location, no register and no number
-  bare : ForSome None (λ x. x < locs) × All IsRegisterNumber [] × All IsWord []
-  bare = (no_location, All-nil IsRegisterNumber, All-nil IsWord)
+  bare : ForSome None (λ x. x < locs) × All IsRegisterNumber [] × All IsWordNumber []
+  bare = (no_location, All-nil IsRegisterNumber, All-nil IsWordNumber)
 
   one : (r : ℕ) → IsRegisterNumber r → All IsRegisterNumber (r ∷ [])
   one r there = All-cons IsRegisterNumber r [] there (All-nil IsRegisterNumber)
@@ -73,26 +74,26 @@ module _ (locs l n : ℕ) (starts : List ℕ) where
   moved_fits : (d a k : ℕ) (last : Instr) → IsRegisterNumber d → IsRegisterNumber a → ((m : ℕ) → Fits m last)
       → AllAt Fits k (instrs_of (moved d a last))
   moved_fits d a k last d_there a_there fits =
-      let moves = goes_on (instr.Set d (Register a)) refl (no_location, two d a d_there a_there, All-nil IsWord) in
+      let moves = goes_on (instr.Set d (Register a)) refl (no_location, two d a d_there a_there, All-nil IsWordNumber) in
       chosen (λ r. AllAt Fits k (instrs_of r)) (d == a) (One last) (Two (instr.Set d (Register a)) last)
       (λ is. (fits k, tt)) (λ is. (moves k, (fits (k + 1), tt)))
 
   -- an `ADD` to d
-  added_fits : (d : ℕ) (v : Operand) → IsRegisterNumber d → All IsRegisterNumber (operand_registers v) → All IsWord (operand_numbers v)
+  added_fits : (d : ℕ) (v : Operand) → IsRegisterNumber d → All IsRegisterNumber (operand_registers v) → All IsWordNumber (operand_numbers v)
       → (k : ℕ) → Fits k (instr.Add d v)
   added_fits d v d_there regs words =
       goes_on (instr.Add d v) refl
       (no_location, All-cons IsRegisterNumber d (d ∷ operand_registers v) d_there (All-cons IsRegisterNumber d (operand_registers v) d_there regs), words)
 
   -- a jump to where the target of the statement of number j starts
-  jump_fits : (i : Instr) (j k end to : ℕ) → IsStatement x86 locs i → target_of (programs.operation_of i) ≡ Some (slice_index starts to)
+  jump_fits : (i : Instr) (j k end to : ℕ) → IsStatement x86 locs i → target_of (programs.x86_operation i) ≡ Some (slice_index starts to)
       → ForSome (Some to) (λ to. (j < to) × (to ≤ n)) → Reaches j end → k < end → Fits k i
   jump_fits i j k end to ok is forward reaches lt =
       let there = reaches to (forward to refl).0 (forward to refl).1 in
       (ok, λ u e. subst (λ u. (k < u) × (u ≤ l)) (same_Some _ u (sym is ∙ e)) (omega arith, there.1))
 
   -- the row of the statement of number j, which starts at k
-  row_fits : (f : Bool) (x : Stmt) (j k : ℕ) → IsStatement source locs x → ForSome (target_of (operation_of x)) (λ to. (j < to) × (to ≤ n))
+  row_fits : (f : Bool) (x : Stmt) (j k : ℕ) → IsStatement source locs x → ForSome (target_of (source_operation x)) (λ to. (j < to) × (to ≤ n))
       → Reaches j (k + length (instrs_of (row starts f x))) → AllAt Fits k (instrs_of (row starts f x))
   row_fits f (Store x v) j k ok forward reaches = (goes_on (instr.Store x v) refl ok k, tt)
   row_fits f (Load d x) j k ok forward reaches =

@@ -1,6 +1,8 @@
 -- The schedule of a source run, thread by thread of its order.
-use Rattle.std.proofs.Common.{◌≡◌, ℕ, ◌+◌, ◌-◌, ◌<◌, ◌≤◌, List, [], ◌∷◌, ◌++◌, length, Result, map, drop, replicate, Option, Some, Ok, sym, ap, ap₂, ◌∙◌, subst, ◌⊎◌, inl, inr, arith, append_assoc}
+use Rattle.std.proofs.Common.{◌≡◌, ℕ, ◌+◌, ◌-◌, ◌<◌, ◌≤◌, List, [], ◌∷◌, ◌++◌, length, Result, map, drop, replicate, Option, Some, Ok, Err, is_ok, sym, ap, ap₂}
+use Rattle.std.proofs.Common.{◌∙◌, subst, ◌⊎◌, inl, inr, arith, append_assoc}
 use Rattle.std.specs.Prelude.{if◌then◌else◌, slice_get, slice_index, slice_index_or}
+use Rattle.std.specs.Result.{IsOk}
 use Rattle.std.proofs.lemmas.Bool.{cases_lt}
 use Rattle.std.proofs.lemmas.List.{drop_more, get_or_read, get_or_past}
 use Rattle.std.proofs.lemmas.Option.{slice_get_within, same_Some}
@@ -12,12 +14,12 @@ use Rattle.lw_base.proofs.api.Lists.{get_some, at_index}
 use Rattle.lw_litmus.specs.declared.stmt.Stmt.{Stmt}
 use Rattle.lw_interleaving.specs.declared.thread.Thread.{Thread}
 use Rattle.lw_litmus.specs.Tests.{SourceTest, ProgramTest}
-use Rattle.lw_interleaving.specs.Runs.{State, Ran, source_step}
+use Rattle.lw_interleaving.specs.Runs.{State, SourceRan, SourceRunState, Answers, source_step}
 use Rattle.lw_interleaving.proofs.api.Exchange.{stepped}
 use Rattle.lw_litmus.specs.Operations.{is_store}
-use Rattle.lw_litmus.specs.Sources.{operation_of}
+use Rattle.lw_litmus.specs.Sources.{source_operation}
 use Rattle.lw_fence.specs.Compiling.{IsCompiled}
-use Rattle.lw_fence.specs.Schedules.{statement_events, thread_events, going_on, schedule}
+use Rattle.lw_fence.specs.Schedules.{statement_events, thread_events, after_step, schedule}
 use Rattle.lw_base.proofs.api.SideBySide.{got_map}
 use Rattle.lw_fence.proofs.Placed.{placed_at, starts_many}
 
@@ -27,6 +29,11 @@ pub code_read : {X : Type 0} (program lists : List (List X)) (t i : ℕ) (code l
 code_read {X} program lists t i code list same place within is read =
     let at = is ∙ ap₂ (λ (l : List (List X)) (k : ℕ). slice_index_or l k list) same place in
     read ∙ get_or_read program t list within at []
+
+-- the thread of a statement that is there
+pub thread_of_place : {X : Type 0} (program : List (List X)) (t place : ℕ) → place < length (code_of program t) → t < length program
+thread_of_place program t place there =
+    elim (cases_lt t (length program)) [ inl lt ↦ lt | inr past ↦ absurd (omega (arith, there, ap length (get_or_past program t [] past))) ]
 
 -- The starts of a thread, as they are read, have a place for a statement of it.
 pub record HasStart (program : List (List Stmt)) (starts : List (List ℕ)) (t place : ℕ) (begins : List ℕ) : Type 0 where
@@ -61,17 +68,23 @@ has_start s p starts lists t i place begins list compiled there same at is read 
 pub events_of_statement : (t place : ℕ) (program : List (List Stmt)) (starts : List (List ℕ)) (code : List Stmt) (begins : List ℕ)
     (stmt : Stmt) → code ≡ code_of program t → begins ≡ code_of starts t → place < length code → stmt ≡ slice_index_or code place stmt
     → statement_events t (code_of starts t) place (slice_get (code_of program t) place)
-    ≡ replicate (slice_index begins (place + 1) - slice_index begins place) (Step t) ++ (if is_store (operation_of stmt) then Drain t ∷ [] else [])
+    ≡ replicate (slice_index begins (place + 1) - slice_index begins place) (Step t) ++ (if is_store (source_operation stmt) then Drain t ∷ [] else [])
 events_of_statement t place program starts code begins stmt same begin there is =
     let at : slice_get code place ≡ Some stmt = at_index code place stmt there ∙ ap Some (sym is) in
     ap₂ (λ (b : List ℕ) (o : Option Stmt). statement_events t b place o) (sym begin)
     (ap (λ (c : List Stmt). slice_get c place) (sym same) ∙ at)
 
+-- a step that is possible is answered by no stop
+pub answered_ok : (step : Result State Stop) (answer : Result (Unit {0}) Stop) (before after : SourceRunState) (mid : State)
+    → Answers step answer before after → step ≡ Ok mid → IsOk answer
+answered_ok (Ok s) answer before after mid done e = ap is_ok done.0
+answered_ok (Err stop) answer before after mid done e = absurd (let bad : Err stop ≡ Ok mid = e in cc)
+
 -- A possible step of the order's next thread.
 pub record Turn (program : List (List Stmt)) (order : List ℕ) (i t : ℕ) (s : State) : Type 0 where
   pub mid : State
   pub step : source_step program t s ≡ Ok mid
-  pub more : (end : State) × Ran program (map Step (drop (i + 1) order)) mid end
+  pub more : (end : State) × SourceRan program (map Step (drop (i + 1) order)) mid end
   pub thread : Thread
   pub was : slice_get s.threads t ≡ Some thread
   pub there : thread.position < length (code_of program t)
@@ -81,9 +94,9 @@ module _ (program : List (List Stmt)) (order : List ℕ) (i t : ℕ) (within : i
   next_is : drop i order ≡ t ∷ drop (i + 1) order
   next_is = drop_more order i t within ∙ ap (λ (u : ℕ). u ∷ drop (i + 1) order) (sym is)
 
-  pub next_turn : (s : State) → (end : State) × Ran program (map Step (drop i order)) s end → Turn program order i t s
+  pub next_turn : (s : State) → (end : State) × SourceRan program (map Step (drop i order)) s end → Turn program order i t s
   next_turn s possible =
-      let ran = subst (λ (ts : List ℕ). Ran program (map Step ts) s possible.0) next_is possible.1 in
+      let ran = subst (λ (ts : List ℕ). SourceRan program (map Step ts) s possible.0) next_is possible.1 in
       let d = stepped program t s ran.0 ran.1 in
       record {
         mid = ran.0;
@@ -113,7 +126,7 @@ module _ (program : List (List Stmt)) (order : List ℕ) (i t : ℕ) (within : i
       let a = got_map (λ (th : Thread). th.position) s.threads t place at in
       let events = ap (thread_events program starts t) a.1 ∙ ap (Events starts) (sym a.2) in
       ap (λ (ts : List ℕ). schedule program starts ts s) next_is
-      ∙ ap₂ (λ (es : List Event) (o : Result State Stop). es ++ going_on o (schedule program starts (drop (i + 1) order))) events step
+      ∙ ap₂ (λ (es : List Event) (o : Result State Stop). es ++ after_step o (schedule program starts (drop (i + 1) order))) events step
 
   -- what has been pushed and what is to come are the whole, one thread further
   pub one_further : (starts : List (List ℕ)) (s mid : State) (place : ℕ) (events more whole : List Event)

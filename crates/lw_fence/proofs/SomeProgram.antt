@@ -1,5 +1,6 @@
 -- A well-formed source has a compiled program.
-use Rattle.std.proofs.Common.{◌≡◌, ℕ, zero, suc, ◌+◌, ◌<◌, ◌≤◌, List, [], ◌∷◌, ◌++◌, length, replicate, Some, Bool, false, ◌&&◌, if◌then◌else◌, refl, subst, arith, slice_get}
+use Rattle.std.proofs.Common.{◌≡◌, ℕ, zero, suc, ◌+◌, ◌<◌, ◌≤◌, List, [], ◌∷◌, ◌++◌, length, replicate, Some, Bool, false, ◌&&◌, if◌then◌else◌, refl, subst}
+use Rattle.std.proofs.Common.{arith, slice_get}
 use Rattle.std.specs.Prelude.{slice_index_or}
 use Rattle.std.specs.Option.{ForSome}
 use Rattle.lw_base.specs.Threads.{code_of}
@@ -7,7 +8,7 @@ use Rattle.lw_base.proofs.api.Lists.{get_some, at_index}
 use Rattle.lw_litmus.specs.declared.instr.Instr.{Instr}
 use Rattle.lw_litmus.specs.declared.stmt.Stmt.{Stmt}
 use Rattle.lw_litmus.specs.Operations.{target_of, is_load}
-use Rattle.lw_litmus.specs.Sources.{operation_of}
+use Rattle.lw_litmus.specs.Sources.{source_operation}
 use Rattle.lw_litmus.specs.Tests.{SourceTest, ProgramTest}
 use Rattle.lw_litmus.specs.WellFormedTests.{IsWellFormedSource}
 use Rattle.lw_fence.specs.Compiling.{rows, starts_from, IsCompiledThread, IsCompiled}
@@ -18,16 +19,16 @@ use Rattle.lw_fence.proofs.Marks.{Marked, at, mark_step, marked_behind_stores, f
 use Rattle.lw_fence.proofs.Programs.{compiled_of}
 
 module _ (code : List Stmt)
-    (ok : (j : ℕ) (x : Stmt) → slice_get code j ≡ Some x → ForSome (target_of (operation_of x)) (λ to. (j < to) × (to ≤ length code))) where
+    (ok : (j : ℕ) (x : Stmt) → slice_get code j ≡ Some x → ForSome (target_of (source_operation x)) (λ to. (j < to) × (to ≤ length code))) where
   -- the marks behind the first statements
   marks_behind : (i : ℕ) → i ≤ length code → (marks : List Bool) × Marked code i marks
   marks_behind zero le = (replicate (suc (length code)) false, first_marks code ok)
   marks_behind (suc i) le =
       let m = marks_behind i (omega arith) in
       let x = get_some code i (omega arith) in
-      let b : Bool = may_wait (operation_of x.0) (at m.0 i) in
+      let b : Bool = may_wait (source_operation x.0) (at m.0 i) in
       let next : i + 1 ≡ suc i = omega arith in
-      (_, subst (λ k. Marked code k (if b then marked_behind (operation_of x.0) i m.0 else m.0)) next (mark_step code ok i x.0 m.0 b x.1 refl m.1))
+      (_, subst (λ k. Marked code k (if b then marked_behind (source_operation x.0) i m.0 else m.0)) next (mark_step code ok i x.0 m.0 b x.1 refl m.1))
 
   marks : (v : List Bool) × Marked code (length code) v
   marks = marks_behind (length code) (omega arith)
@@ -37,7 +38,7 @@ module _ (code : List Stmt)
   fences_before (suc i) le =
       let f = fences_before i (omega arith) in
       let x = get_some code i (omega arith) in
-      let b : Bool = is_load (operation_of x.0) && slice_index_or marks.0 i false in
+      let b : Bool = is_load (source_operation x.0) && slice_index_or marks.0 i false in
       let next : i + 1 ≡ suc i = omega arith in
       (f.0 ++ b ∷ [], subst (λ k. Found code marks.0 k (f.0 ++ b ∷ [])) next (found_more code marks.0 i f.0 (f.0 ++ b ∷ []) b x.0 f.1 x.1 refl refl))
 

@@ -1,5 +1,6 @@
 -- From source to machine: the schedule of a source run replays on the compiled program, to the same outcome.
-use Rattle.std.proofs.Common.{◌≡◌, ℕ, ◌+◌, ◌-◌, ◌<◌, ◌≤◌, nat_le, ◌==◌, List, [], ◌∷◌, ◌++◌, length, map, Some, Bool, true, false, refl, sym, ap, ◌∙◌, subst, subst₂, arith}
+use Rattle.std.proofs.Common.{◌≡◌, ℕ, ◌+◌, ◌-◌, ◌<◌, ◌≤◌, nat_le, ◌==◌, List, [], ◌∷◌, ◌++◌, length, map, Some, Bool, true, false, refl, sym, ap, ◌∙◌, subst}
+use Rattle.std.proofs.Common.{subst₂, arith}
 use Rattle.std.specs.Prelude.{IsTrue, slice_get, slice_set, slice_index}
 use Rattle.std.proofs.lemmas.Bool.{and_from, le-leb, leb-true}
 use Rattle.std.proofs.lemmas.Option.{slice_get_within, get_or_from_slice_get}
@@ -12,19 +13,19 @@ use Rattle.lw_base.proofs.api.SideBySide.{zip_pass, zip_passes}
 use Rattle.lw_memory.specs.Flat.{flat}
 use Rattle.lw_litmus.specs.declared.stmt.Stmt.{Stmt}
 use Rattle.lw_litmus.specs.declared.instr.Instr.{Instr}
-use Rattle.lw_litmus.specs.Sources.{operation_of}
+use Rattle.lw_litmus.specs.Sources.{source_operation}
 use Rattle.lw_litmus.specs.WellFormedTests.{IsWellFormedSource}
 use Rattle.lw_litmus.specs.Tests.{SourceTest, ProgramTest}
 use Rattle.lw_interleaving.specs.declared.thread.Thread.{Thread}
 use Rattle.lw_interleaving.specs.Statements.{thread_after, words_after}
-use Rattle.lw_interleaving.specs.Runs.{State, Ran, RunsTo, start_of, is_final as is_over}
+use Rattle.lw_interleaving.specs.Runs.{State, SourceRan, RunsTo, start_of, is_source_final as is_over}
 use Rattle.lw_interleaving.proofs.api.Exchange.{Stepped, stepped}
 use Rattle.lw_tso.specs.Processors.{Processor}
 use Rattle.lw_tso.specs.Machines.{MachineState}
 use Rattle.lw_tso.specs.Runs.{MachineRan, Replays, is_done, is_final}
 use Rattle.lw_tso.proofs.api.Effects.{state}
 use Rattle.lw_fence.specs.Compiling.{row, instrs_of, IsCompiled}
-use Rattle.lw_fence.specs.Schedules.{statement_events, thread_events, going_on, schedule}
+use Rattle.lw_fence.specs.Schedules.{statement_events, thread_events, after_step, schedule}
 use Rattle.lw_fence.proofs.Beside.{Beside, thread_at, processor_at, gone_on, same_outcome, first, compiled_start, start_is}
 use Rattle.lw_fence.proofs.Moves.{run_append}
 use Rattle.lw_fence.proofs.Placed.{Stands, LaidOut, laid_out}
@@ -64,10 +65,10 @@ module _ (s : SourceTest) (p : ProgramTest) (starts : List (List ℕ)) (ok : IsW
       let stands = (laid.at t lt).at st.thread.position st.stmt st.at in
       let allowed = allowed_at s ok t st.thread.position st.stmt st.at in
       let turned = statement_turned p.threads t (code_of starts t) st.thread z.0 ss.words st.stmt (code_of s.threads t) allowed z.1.six stands in
-      let next = thread_after (operation_of st.stmt) st.thread ss.words in
+      let next = thread_after (source_operation st.stmt) st.thread ss.words in
       let good = stays_sane (code_of s.threads t) st.thread ss.words st.stmt allowed st.at z.1 in
       let q = standing (slice_index (code_of starts t) next.position) next turned.flag in
-      let end = state (slice_set ms.processors t q) (words_after (operation_of st.stmt) st.thread ss.words) in
+      let end = state (slice_set ms.processors t q) (words_after (source_operation st.stmt) st.thread ss.words) in
       record {
         end = end;
         ran = subst₂ (λ es w. MachineRan flat p.threads es (state ms.processors w) end)
@@ -76,7 +77,7 @@ module _ (s : SourceTest) (p : ProgramTest) (starts : List (List ℕ)) (ok : IsW
             (gone_on s Standing ss ms i t st.thread next c.0 q _ st.was c.1 (turned.flag, good, refl));
       }
 
-  follow : (order : List ℕ) (ss after : State) (ms : MachineState (List ℕ)) → InStep ss ms → Ran s.threads (map Step order) ss after
+  follow : (order : List ℕ) (ss after : State) (ms : MachineState (List ℕ)) → InStep ss ms → SourceRan s.threads (map Step order) ss after
       → Followed (schedule s.threads starts order ss) ms after
   follow [] ss after ms i r = record { end = ms; ran = refl; in_step = subst (λ a. InStep a ms) (sym r) i }
   follow (t ∷ order) ss after ms i r =
@@ -85,7 +86,7 @@ module _ (s : SourceTest) (p : ProgramTest) (starts : List (List ℕ)) (ok : IsW
       let b = follow order r.0 after a.end a.in_step r.2 in
       record {
         end = b.end;
-        ran = subst (λ o. MachineRan flat p.threads (now ++ going_on o (schedule s.threads starts order)) ms b.end) (sym r.1)
+        ran = subst (λ o. MachineRan flat p.threads (now ++ after_step o (schedule s.threads starts order)) ms b.end) (sym r.1)
             (run_append flat p.threads now (schedule s.threads starts order r.0) ms a.end b.end a.ran b.ran);
         in_step = b.in_step;
       }

@@ -9,7 +9,7 @@ use Rattle.lw_litmus.specs.declared.instr.Instr.{Instr}
 use Rattle.lw_litmus.specs.declared.stmt.Stmt.{Stmt}
 use Rattle.lw_litmus.specs.Operations.{is_store}
 use Rattle.lw_litmus.specs.Programs as programs
-use Rattle.lw_litmus.specs.Sources.{operation_of}
+use Rattle.lw_litmus.specs.Sources.{source_operation}
 use Rattle.lw_interleaving.specs.declared.thread.Thread.{Thread}
 use Rattle.lw_interleaving.specs.Statements.{thread_after, words_after}
 use Rattle.lw_interleaving.proofs.api.Exchange.{words_alone}
@@ -29,7 +29,7 @@ use Rattle.lw_fence.proofs.Steps.{Allowed}
 possible : (m : List ℕ) (i : Instr) (p : Processor) → p.buffer ≡ [] → (q : Processor) × (n : List ℕ) × Does m (step_act (Some i) p) q n
 possible m i p empty =
     go (step_act (Some i) p)
-    (operation_comes ⊥ (λ x w. Unit {0}) (λ q. Unit {0}) (programs.operation_of i) p (λ waits full. full empty) (λ x e. tt) (λ q w. tt))
+    (operation_comes ⊥ (λ x w. Unit {0}) (λ q. Unit {0}) (programs.x86_operation i) p (λ waits full. full empty) (λ x e. tt) (λ q w. tt))
   where
     go : (act : Act) → Comes ⊥ (λ x w. Unit {0}) (λ q. Unit {0}) act → (q : Processor) × (n : List ℕ) × Does m act q n
     go (Refused stop) comes = absurd comes
@@ -54,16 +54,16 @@ drains t store = if store then Drain t ∷ [] else []
 
 -- so many steps, and then a drain where the statement is a store
 abbrev pub events_for : ℕ → ℕ → Stmt → List Event
-events_for t n x = replicate n (Step t) ++ drains t (is_store (operation_of x))
+events_for t n x = replicate n (Step t) ++ drains t (is_store (source_operation x))
 
 -- Processor t carries out a statement, from where it starts to where the next one does.
 pub record Turned (program : List (List Instr)) (t : ℕ) (starts : List ℕ) (th : Thread) (z : Bool) (m : List ℕ) (x : Stmt)
     (es : List Event) : Type 0 where
   pub flag : Bool
   pub moves :
-      let next = thread_after (operation_of x) th m in
+      let next = thread_after (source_operation x) th m in
       Moves program t (standing (slice_index starts th.position) th z) m es
-      (standing (slice_index starts next.position) next flag) (words_after (operation_of x) th m)
+      (standing (slice_index starts next.position) next flag) (words_after (source_operation x) th m)
 
 module _ (program : List (List Instr)) (t : ℕ) (starts : List ℕ) (th : Thread) (z : Bool) (m : List ℕ) (x : Stmt) where
   abbrev begin : Processor
@@ -71,11 +71,11 @@ module _ (program : List (List Instr)) (t : ℕ) (starts : List ℕ) (th : Threa
 
   -- The steps were those of the row: what is left is the drain of a store.
   arrived : (es : List Event) (q : Processor) (n : List ℕ) → Moves program t begin m es q n → Carried starts x th [] m q n
-      → Turned program t starts th z m x (es ++ drains t (is_store (operation_of x)))
+      → Turned program t starts th z m x (es ++ drains t (is_store (source_operation x)))
   arrived es q n moves c = record { flag = q.zero_flag; moves = go c.stored }
     where
       next : Thread
-      next = thread_after (operation_of x) th m
+      next = thread_after (source_operation x) th m
 
       left : List (ℕ × ℕ) → Processor
       left b = record { position = slice_index starts next.position; regs = next.regs; zero_flag = q.zero_flag; buffer = b }
@@ -83,18 +83,18 @@ module _ (program : List (List Instr)) (t : ℕ) (starts : List ℕ) (th : Threa
       there : (b : List (ℕ × ℕ)) → q.buffer ≡ b → Moves program t begin m es (left b) n
       there b same = subst (λ r. Moves program t begin m es r n) (same_processor q _ next.regs b c.position c.regs same) moves
 
-      without : is_store (operation_of x) ≡ false → q.buffer ≡ [] → n ≡ words_after (operation_of x) th m
-          → Moves program t begin m (es ++ drains t (is_store (operation_of x))) (left []) (words_after (operation_of x) th m)
+      without : is_store (source_operation x) ≡ false → q.buffer ≡ [] → n ≡ words_after (source_operation x) th m
+          → Moves program t begin m (es ++ drains t (is_store (source_operation x))) (left []) (words_after (source_operation x) th m)
       without none empty words =
           subst₂ (λ l k. Moves program t begin m l (left []) k) (sym (ap (λ b. es ++ drains t b) none ∙ append-nil es)) words (there [] empty)
 
       go : Stored x th [] m q.buffer n
-          → Moves program t begin m (es ++ drains t (is_store (operation_of x))) (left []) (words_after (operation_of x) th m)
-      go (apart l still same) = without (quiet (operation_of x) l).0 still (same ∙ sym (words_alone (operation_of x) th m l))
+          → Moves program t begin m (es ++ drains t (is_store (source_operation x))) (left []) (words_after (source_operation x) th m)
+      go (apart l still same) = without (quiet (source_operation x) l).0 still (same ∙ sym (words_alone (source_operation x) th m l))
       go (at_once none empty still words) = without none still words
       go (buffered y w is more same) =
-          subst₂ (λ l k. Moves program t begin m l (left []) k) (sym (ap (λ s. es ++ drains t (is_store (operation_of s))) is))
-          (ap (λ k. slice_set k y (value_of w th.regs)) same ∙ sym (ap (λ s. words_after (operation_of s) th m) is))
+          subst₂ (λ l k. Moves program t begin m l (left []) k) (sym (ap (λ s. es ++ drains t (is_store (source_operation s))) is))
+          (ap (λ k. slice_set k y (value_of w th.regs)) same ∙ sym (ap (λ s. words_after (source_operation s) th m) is))
           (moves_on program t begin (left ((y, value_of w th.regs) ∷ [])) (left []) m n _ es (Drain t ∷ []) (there _ more)
           (drain_moves program t (left ((y, value_of w th.regs) ∷ [])) (left []) n _ (refl, refl)))
 

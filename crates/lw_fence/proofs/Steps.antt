@@ -13,7 +13,7 @@ use Rattle.lw_litmus.specs.declared.operation.Operation.{Operation}
 use Rattle.lw_litmus.specs.declared.operation.Operation.TheVariants.{Load, Swap, FetchAdd, Set, Sum}
 use Rattle.lw_interleaving.specs.declared.thread.Thread.{Thread}
 use Rattle.lw_litmus.specs.Operations.{target_of}
-use Rattle.lw_litmus.specs.Sources.{source, operation_of}
+use Rattle.lw_litmus.specs.Sources.{source, source_operation}
 use Rattle.lw_litmus.specs.WellFormedTests.{IsWellFormedSource}
 use Rattle.lw_litmus.specs.Tests.{SourceTest}
 use Rattle.lw_interleaving.specs.Statements.{thread_after}
@@ -22,8 +22,8 @@ use Rattle.lw_fence.proofs.Marks.{forward}
 
 -- What a statement of a well-formed thread has: its registers are there, and a jump leads forward, at most to the end.
 pub record Allowed (code : List Stmt) (j : ℕ) (x : Stmt) : Type 0 where
-  pub registers : All IsRegisterNumber (registers_of (operation_of x))
-  pub target : ForSome (target_of (operation_of x)) (λ to. (j < to) × (to ≤ length code))
+  pub registers : All IsRegisterNumber (registers_of (source_operation x))
+  pub target : ForSome (target_of (source_operation x)) (λ to. (j < to) × (to ≤ length code))
 
 allowed : (locs : ℕ) (code : List Stmt) (j : ℕ) (x : Stmt) → IsThread source locs code → slice_get code j ≡ Some x → Allowed code j x
 allowed locs code j x thread at =
@@ -54,9 +54,9 @@ registers_kept (FetchAdd (Some d) x v) th m = length-set th.regs d _
 registers_kept o th m = refl
 
 pub stays_sane : (code : List Stmt) (th : Thread) (m : List ℕ) (x : Stmt) → Allowed code th.position x → slice_get code th.position ≡ Some x
-    → Sane code th → Sane code (thread_after (operation_of x) th m)
+    → Sane code th → Sane code (thread_after (source_operation x) th m)
 stays_sane code th m x ok at sane =
-    let o = operation_of x in
+    let o = source_operation x in
     record {
       six = registers_kept o th m ∙ sane.six;
       within = (forward (length code) th.position _ o ok.target (slice_get_within code th.position x at) (leads o th m)).1;

@@ -14,21 +14,17 @@ use Rattle.lw_fence.specs.declared.row.Row.{Row}
 use Rattle.lw_fence.specs.declared.row.Row.TheVariants.{One, Two}
 use Rattle.lw_fence.specs.Fences.{NeedsFence}
 
--- an instruction, behind a fence or without one
-abbrev pub fenced : Bool → Instr → Row
+abbrev pub fenced : Bool → Instr → Row  -- an instruction, behind a fence or without one
 fenced fence last = if fence then Two x86.Mfence last else One last
 
--- an instruction, behind one that gives the word of register a to register d, if that is another
-abbrev pub moved : ℕ → ℕ → Instr → Row
+abbrev pub moved : ℕ → ℕ → Instr → Row  -- an instruction, behind one that gives the word of register a to register d, if that is another
 moved d a last = if d == a then One last else Two (x86.Set d (Register a)) last
 
--- `d := a + v`; where v is d itself, a is added to it
-abbrev pub summed : ℕ → ℕ → Operand → Row
+abbrev pub summed : ℕ → ℕ → Operand → Row  -- `d := a + v`; where v is d itself, a is added to it
 summed d a (Number n) = moved d a (x86.Add d (Number n))
 summed d a (Register b) = if d == b then One (x86.Add d (Register a)) else moved d a (x86.Add d (Register b))
 
--- the flag tells whether the register has the word
-abbrev pub compared : ℕ → ℕ → Instr
+abbrev pub compared : ℕ → ℕ → Instr  -- the flag tells whether the register has the word
 compared a n = x86.Cmp a (Number n)
 
 -- the row of a statement: with a fence or without, where `starts` has the first instruction of each statement
@@ -43,13 +39,11 @@ row starts fence (IfEq a n to) = Two (compared a n) (x86.Je (slice_index starts 
 row starts fence (IfNe a n to) = Two (compared a n) (x86.Jne (slice_index starts to))
 row starts fence (Goto to) = One (x86.Jmp (slice_index starts to))
 
--- its instructions, one or two
-abbrev pub instrs_of : Row → List Instr
+abbrev pub instrs_of : Row → List Instr  -- its instructions, one or two
 instrs_of (One i) = i ∷ []
 instrs_of (Two i j) = i ∷ j ∷ []
 
--- the rows of some statements, one behind another
-abbrev pub rows : List ℕ → List Bool → List Stmt → List Instr
+abbrev pub rows : List ℕ → List Bool → List Stmt → List Instr  -- the rows of some statements, one behind another
 rows starts fences [] = []
 rows starts [] (s ∷ code) = instrs_of (row starts false s) ++ rows starts [] code
 rows starts (fence ∷ fences) (s ∷ code) = instrs_of (row starts fence s) ++ rows starts fences code

@@ -9,13 +9,13 @@ use Rattle.lw_litmus.specs.declared.stmt.Stmt.{Stmt}
 use Rattle.lw_interleaving.specs.declared.thread.Thread.{Thread}
 use Rattle.lw_interleaving.specs.Runs.{State, source_step}
 use Rattle.lw_litmus.specs.Operations.{is_store}
-use Rattle.lw_litmus.specs.Sources.{operation_of}
+use Rattle.lw_litmus.specs.Sources.{source_operation}
 
 -- the events of thread t for the statement of this number, if there is one
 abbrev pub statement_events : ℕ → List ℕ → ℕ → Option Stmt → List Event
 statement_events t starts j None = []
 statement_events t starts j (Some s) =
-    replicate (slice_index starts (j + 1) - slice_index starts j) (Step t) ++ (if is_store (operation_of s) then Drain t ∷ [] else [])
+    replicate (slice_index starts (j + 1) - slice_index starts j) (Step t) ++ (if is_store (source_operation s) then Drain t ∷ [] else [])
 
 -- the events of thread t for its next statement
 abbrev pub thread_events : List (List Stmt) → List (List ℕ) → ℕ → Option Thread → List Event
@@ -24,12 +24,12 @@ thread_events program starts t (Some th) =
     statement_events t (code_of starts t) th.position (slice_get (code_of program t) th.position)
 
 -- what follows a step, if it was possible
-abbrev pub going_on : Result State Stop → (State → List Event) → List Event
-going_on (Ok next) rest = rest next
-going_on (Err stop) rest = []
+abbrev pub after_step : Result State Stop → (State → List Event) → List Event
+after_step (Ok next) rest = rest next
+after_step (Err stop) rest = []
 
 -- the events for these threads' steps, one after another, from a state
 abbrev pub schedule : List (List Stmt) → List (List ℕ) → List ℕ → State → List Event
 schedule program starts [] s = []
 schedule program starts (t ∷ order) s =
-    thread_events program starts t (slice_get s.threads t) ++ going_on (source_step program t s) (schedule program starts order)
+    thread_events program starts t (slice_get s.threads t) ++ after_step (source_step program t s) (schedule program starts order)

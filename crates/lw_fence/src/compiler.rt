@@ -8,7 +8,7 @@ ghost use Rattle.lw_litmus.specs.Limits.{most_statements};
 ghost use Rattle.lw_litmus.specs.declared.stmt.Stmt.{Stmt as Statement};
 ghost use Rattle.lw_interleaving.specs.Runs.{SourceOutcome};
 ghost use Rattle.lw_litmus.specs.Operations.{target_of};
-ghost use Rattle.lw_litmus.specs.Sources.{operation_of};
+ghost use Rattle.lw_litmus.specs.Sources.{source_operation};
 ghost use Rattle.lw_litmus.specs.Views.{source_of, program_of};
 ghost use Rattle.lw_tso.specs.Endings.{CanEnd};
 ghost use Rattle.lw_tso.specs.Machines.{MachineState};
@@ -92,7 +92,7 @@ fn compile_thread<A: Allocator + Copy>(
 ) -> Result<ThreadCode<A>, AllocError>
     requires short { length stmts.now ≤ most_statements }
     requires forward { (j : ℕ) (s : Statement) → slice_get stmts.now j ≡ Some s
-        → ForSome (target_of (operation_of s)) (λ to. (j < to) × (to ≤ length stmts.now)) }
+        → ForSome (target_of (source_operation s)) (λ to. (j < to) × (to ≤ length stmts.now)) }
     ensures { IfOk result (λ code. IsCompiledThread stmts.now code.instrs code.starts) }
 {
     let fences = fences_of(alloc, stmts)?;

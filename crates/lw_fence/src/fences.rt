@@ -4,7 +4,7 @@ ghost use Rattle.std.specs.Option.{ForSome};
 ghost use Rattle.lw_litmus.specs.Limits.{most_statements};
 ghost use Rattle.lw_litmus.specs.declared.stmt.Stmt.{Stmt as SourceStatement};
 ghost use Rattle.lw_litmus.specs.Operations.{is_load, target_of};
-ghost use Rattle.lw_litmus.specs.Sources.{operation_of};
+ghost use Rattle.lw_litmus.specs.Sources.{source_operation};
 ghost use Rattle.lw_fence.specs.Fences.{IsBehindStore, NeedsFence};
 ghost use Rattle.lw_fence.specs.inner.Marks.{may_wait, marked_behind};
 
@@ -16,7 +16,7 @@ use std::alloc::{AllocError, Allocator};
 fn marks_of<A: Allocator>(alloc: A, code: &[Stmt]) -> Result<Vec<bool, A>, AllocError>
     requires short { length code.now ≤ most_statements }
     requires forward { (j : ℕ) (s : SourceStatement) → slice_get code.now j ≡ Some s
-        → ForSome (target_of (operation_of s)) (λ to. (j < to) × (to ≤ length code.now)) }
+        → ForSome (target_of (source_operation s)) (λ to. (j < to) × (to ≤ length code.now)) }
     ensures as_many { IfOk result (λ v. length v.items ≡ length code.now + 1) }
     ensures behind { IfOk result (λ v. (j : ℕ) → j ≤ length code.now
         → (slice_index_or v.items j false ≡ true) ↔ IsBehindStore code.now j) }
@@ -61,7 +61,7 @@ pub(crate) fn fences_of<A: Allocator + Copy>(
 ) -> Result<Vec<bool, A>, AllocError>
     requires short { length code.now ≤ most_statements }
     requires forward { (j : ℕ) (s : SourceStatement) → slice_get code.now j ≡ Some s
-        → ForSome (target_of (operation_of s)) (λ to. (j < to) × (to ≤ length code.now)) }
+        → ForSome (target_of (source_operation s)) (λ to. (j < to) × (to ≤ length code.now)) }
     ensures as_many { IfOk result (λ v. length v.items ≡ length code.now) }
     ensures needed { IfOk result (λ v. (j : ℕ) → (slice_get v.items j ≡ Some true) ↔ NeedsFence code.now j) }
 {

@@ -4,11 +4,11 @@ ghost use Rattle.lw_base.specs.Outcomes.{Final};
 ghost use Rattle.lw_base.specs.Threads.{code_of};
 ghost use Rattle.lw_base.specs.declared.event.Event.TheVariants.{Step, Drain};
 ghost use Rattle.lw_memory.specs.Flat.{flat};
-ghost use Rattle.lw_interleaving.specs.Runs.{State, Ran, RunsTo, start_of};
+ghost use Rattle.lw_interleaving.specs.Runs.{State, SourceRan, RunsTo, start_of};
 ghost use Rattle.lw_litmus.specs.Views.{source_of, program_of};
 ghost use Rattle.lw_tso.specs.Runs.{Replays};
 ghost use Rattle.lw_litmus.specs.Operations.{is_store};
-ghost use Rattle.lw_litmus.specs.Sources.{operation_of};
+ghost use Rattle.lw_litmus.specs.Sources.{source_operation};
 ghost use Rattle.lw_litmus.specs.Tests.{SourceTest, ProgramTest};
 ghost use Rattle.lw_litmus.specs.WellFormedTests.{IsWellFormedSource};
 ghost use Rattle.lw_fence.specs.Compiling.{IsCompiled};
@@ -28,7 +28,7 @@ fn push_statement<A: Allocator>(
     instructions: usize,
 ) -> Result<(), AllocError>
     ensures { IfOk result (λ _. events.new.items ≡ events.old.items
-        ++ (replicate instructions (Step cpu) ++ (if is_store (operation_of stmt.now) then Drain cpu ∷ [] else []))) }
+        ++ (replicate instructions (Step cpu) ++ (if is_store (source_operation stmt.now) then Drain cpu ∷ [] else []))) }
 {
     for _instr in 0..instructions {
         events.push(Event::Step(cpu))?;
@@ -68,7 +68,7 @@ pub fn schedule_of<A: Allocator + Copy>(
     order: &[Cpu],
 ) -> Result<Vec<Event, A>, AllocError>
     requires compiled { IsCompiled (source_of source.now) (program_of compiled.now.program) compiled.now.starts }
-    requires possible { (end : State) × Ran source.now.threads (map Step order.now) (start_of (source_of source.now)) end }
+    requires possible { (end : State) × SourceRan source.now.threads (map Step order.now) (start_of (source_of source.now)) end }
     ensures schedule { IfOk result (λ v. v.items
         ≡ schedule source.now.threads compiled.now.starts order.now (start_of (source_of source.now))) }
     ensures replays { IfOk result (λ v. (o : Final) → RunsTo (source_of source.now) order.now o

@@ -1,7 +1,8 @@
 //! The outcomes that were found, each once, with the first schedule that was found to lead to it.
-ghost use Rattle.std.specs.Prelude.{◌≡◌, ◌↔◌, [], ◌∷◌, ◌++◌, ◌<◌, ◌==◌, ℕ, length, OnOk, OnErr, IfOk, IsTrue, MatchOption, Contains, Some, slice_get, IsPermutation};
+ghost use Rattle.std.specs.Prelude.{◌≡◌, ◌↔◌, [], ◌∷◌, ◌++◌, ◌<◌, ◌==◌, ℕ, length, OnOk, OnErr, IfOk, IsTrue, MatchOption, Contains, Some, slice_get};
+ghost use Rattle.std.specs.Prelude.{IsPermutation};
 ghost use Rattle.lw_base.specs.Outcomes.{Final};
-ghost use Rattle.lw_listing.specs.Listings.{Entries, outcomes_of, schedules_of, IsStrictlySorted};
+ghost use Rattle.lw_listing.specs.Listings.{OutcomeEntries, outcomes_of, schedules_of, IsStrictlySorted};
 
 use indexmap::IndexMap;
 use lw_base::{Event, Outcome, Sequence};
@@ -21,9 +22,9 @@ pub struct Findings<A: Allocator = Global> {
 }
 
 impl<A: Allocator> Model for Findings<A> {
-    ghost use Rattle.lw_listing.specs.Listings.{Entries};
+    ghost use Rattle.lw_listing.specs.Listings.{OutcomeEntries};
 
-    ghost Value = { Entries };
+    ghost Value = { OutcomeEntries };
 
     ghost view = { λ f. f.found.entries };
 }
@@ -100,9 +101,9 @@ pub struct Listing<A: Allocator = Global> {
 }
 
 impl<A: Allocator> Model for Listing<A> {
-    ghost use Rattle.lw_listing.specs.Listings.{Entries, IsStrictlySorted};
+    ghost use Rattle.lw_listing.specs.Listings.{OutcomeEntries, IsStrictlySorted};
 
-    ghost Value = { Entries };
+    ghost Value = { OutcomeEntries };
 
     ghost view = { λ l. l.found.entries };
 
@@ -154,6 +155,6 @@ impl<A: Allocator> Listing<A> {
 
 /// In a listing an outcome stands at one place alone.
 pub fn outcomes_stand_once()
-    ensures { (entries : Entries) (i j : ℕ) (outcome : Final) → IsStrictlySorted entries
+    ensures { (entries : OutcomeEntries) (i j : ℕ) (outcome : Final) → IsStrictlySorted entries
         → slice_get (outcomes_of entries) i ≡ Some outcome → slice_get (outcomes_of entries) j ≡ Some outcome → i ≡ j }
 {}

@@ -8,7 +8,8 @@ pub Narrowed-start : (len : ℕ) (rows reach : List ℕ) (left old : ℕ) → Na
 Narrowed-start len rows reach left old = record { kept = λ k l h. h; dropped = λ k l h gone. absurd (both_ways (has old k) gone h) }
 
 -- what is reached from a candidate that waits is no candidate more
-module _ (len : ℕ) (rows reach : List ℕ) (left old mid new item : ℕ) (few : len ≤ 128) (l : item < len) (n : Narrowed len rows reach left old mid) (there : has mid item ≡ true) (w : Waits rows left item)
+module _ (len : ℕ) (rows reach : List ℕ) (left old mid new item : ℕ) (few : len ≤ 128) (l : item < len) (n : Narrowed len rows reach left old mid)
+    (there : has mid item ≡ true) (w : Waits rows left item)
     (says : (k : ℕ) → k < 128 → has new k ≡ (has mid k && not (has (get_or reach item 0) k))) where
   reached : (k : ℕ) → k < 128 → has mid k ≡ true → has new k ≡ false → leads_by reach item k ≡ true
   reached k lk e gone = elim (cases_Bool (leads_by reach item k)) [

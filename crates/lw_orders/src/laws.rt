@@ -1,7 +1,8 @@
 //! The public laws: what holds of all orders, whoever makes them.
 
 ghost use Rattle.std.specs.Prelude.{◌≡◌, ◌↔◌, ◌<◌, ◌++◌, [], ◌∷◌, ℕ, List, Bool, IsTrue, All, length};
-ghost use Rattle.lw_orders.specs.Order.{Constraints, IsWellFormed, IsLinearExtension, IsOrder, Once, place, Alike, ExactlyOne, open_pairs, is_decided, IsDecided};
+ghost use Rattle.lw_orders.specs.Order.{Constraints, IsWellFormed, IsLinearExtension, IsOrder, Once, place, Alike, ExactlyOne, open_pairs, is_decided};
+ghost use Rattle.lw_orders.specs.Order.{IsDecided};
 ghost use Rattle.lw_orders.specs.Sequence.{numbers, orders};
 ghost use Rattle.lw_orders.specs.Exchange.{AreJoined, IsKeptByExchanges};
 

@@ -7,7 +7,8 @@ use Rattle.lw_choices.specs.declared.fault.ListFault.{ListFault}
 use Rattle.lw_choices.specs.declared.fault.ListFault.TheVariants.{TooManyItems, TooManyOrders, Memory}
 use Rattle.lw_choices.specs.declared.item.Item.{Item}
 use Rattle.lw_choices.specs.Choices.{IsForward, choices_of}
-use Rattle.lw_choices.specs.Counts.{items_at_choice, orders_at_choice, orders_of, total_of, HasTooManyItems, TellsOfChoice, TellsOfGiven, TellsOfChoices, TellsLimit}
+use Rattle.lw_choices.specs.Counts.{items_at_choice, orders_at_choice, orders_of, total_of, HasTooManyItems, TellsOfChoice, TellsOfGiven, TellsOfChoices}
+use Rattle.lw_choices.specs.Counts.{TellsLimit}
 use Rattle.lw_litmus.specs.Languages.{Language}
 use Rattle.lw_choices.specs.Items.{items_of, constraints_of}
 use Rattle.lw_choices.specs.Visits.{Visited, Refused}

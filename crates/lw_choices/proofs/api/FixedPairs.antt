@@ -1,6 +1,7 @@
 -- The fixed pairs of the items of a choice, in either language: each goes up along a thread. And the items with their fixed pairs
 -- and conflicts are well-formed.
-use Rattle.std.proofs.Common.{◌≡◌, Bool, true, false, ℕ, zero, suc, ◌+◌, ◌<◌, ◌≤◌, ◌==◌, List, [], ◌∷◌, length, Option, Some, None, refl, sym, ap, ◌∙◌, subst, inl, inr, slice_get, arith}
+use Rattle.std.proofs.Common.{◌≡◌, Bool, true, false, ℕ, zero, suc, ◌+◌, ◌<◌, ◌≤◌, ◌==◌, List, [], ◌∷◌, length, Option, Some, None, refl, sym, ap, ◌∙◌, subst}
+use Rattle.std.proofs.Common.{inl, inr, slice_get, arith}
 use Rattle.std.specs.Prelude.{All, Contains}
 use Rattle.std.specs.Option.{ForSome}
 use Rattle.std.proofs.lemmas.Bool.{cases_eq, eq-eqb, ne_eqb, cond-true, cond-false}
@@ -10,7 +11,8 @@ use Rattle.lw_orders.specs.Limits.{most_items}
 use Rattle.lw_choices.specs.declared.item.Item.{Item}
 use Rattle.lw_choices.specs.declared.item.Last.{Last}
 use Rattle.lw_litmus.specs.Languages.{Language}
-use Rattle.lw_choices.specs.Items.{item_at, none_before, behind, fixed_at, last_with, last_of, pairs_from, do_conflict, does_wait, fixed_from, constraints_of}
+use Rattle.lw_choices.specs.Items.{item_at, none_before, behind, fixed_at, last_with, last_of, pairs_from, items_conflict, does_wait, fixed_from}
+use Rattle.lw_choices.specs.Items.{constraints_of}
 use Rattle.lw_choices.proofs.api.Pairs.{In, All-passing, pairs_up, pairs_have, pairs_rise, Rises-filter, Rises-sorted, Contains-filter}
 
 -- the last items, given whether they are of the thread
@@ -107,11 +109,11 @@ module _ {S : Type 0} (language : Language S) (program : List (List S)) where
       ap (λ (n : ℕ). (item_at items n).thread) same ∙ ap (λ (x : Item). x.thread) (got_at items k a e))) (none_last items 0 0))
 
   abbrev conflict_at : List Item → ℕ × ℕ → Bool
-  conflict_at items p = do_conflict language program (item_at items p.0) (item_at items p.1)
+  conflict_at items p = items_conflict language program (item_at items p.0) (item_at items p.1)
 
   -- a pair that goes up and conflicts is among the conflicts
   pub conflict_there : (items : List Item) (i j : ℕ) → i < j → j < length items
-      → do_conflict language program (item_at items i) (item_at items j) ≡ true → Contains (constraints_of language program items).conflicts (i, j)
+      → items_conflict language program (item_at items i) (item_at items j) ≡ true → Contains (constraints_of language program items).conflicts (i, j)
   conflict_there items i j less below c = Contains-filter (conflict_at items) (pairs_from 0 (length items))
       (i, j) (pairs_have 0 (length items) i j (omega arith) less (omega arith)) c
 

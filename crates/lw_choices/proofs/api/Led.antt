@@ -1,5 +1,6 @@
 -- Where statements lead: the list of the positions that may follow one.
-use Rattle.std.proofs.Common.{◌≡◌, ◌≢◌, ℕ, ◌+◌, ◌<◌, ◌≤◌, ◌==◌, Bool, true, false, List, [], ◌∷◌, length, Option, Some, None, refl, sym, ap, ◌∙◌, subst, inl, inr, ◌⊎◌, slice_get, arith}
+use Rattle.std.proofs.Common.{◌≡◌, ◌≢◌, ℕ, ◌+◌, ◌<◌, ◌≤◌, ◌==◌, Bool, true, false, List, [], ◌∷◌, length, Option, Some, None, refl, sym, ap, ◌∙◌, subst, inl}
+use Rattle.std.proofs.Common.{inr, ◌⊎◌, slice_get, arith}
 use Rattle.std.specs.Prelude.{Contains}
 use Rattle.std.proofs.lemmas.Bool.{cases_eq, eq-eqb, ne_eqb, cond-true, cond-false, true≢false}
 use Rattle.std.proofs.lemmas.Option.{slice_get_within, same_Some, none-some}
@@ -9,7 +10,7 @@ use Rattle.lw_litmus.specs.Flow.{Follows}
 use Rattle.lw_litmus.specs.Operations.{target_of, goes_on}
 use Rattle.lw_litmus.specs.declared.operation.Operation.{Operation}
 use Rattle.lw_litmus.specs.declared.operation.Operation.TheVariants.{Set, Sum, Compare, Store, Load, Swap, FetchAdd, Fence, Branch}
-use Rattle.lw_choices.specs.Choices.{IsForward, next_or, led_to, led}
+use Rattle.lw_choices.specs.Choices.{IsForward, next_or, led_by, led}
 use Rattle.lw_choices.proofs.api.Members.{none_in, of_one, Contains-here, Contains-there, Contains-cons}
 
 -- where the target is the next position, and where it is another
@@ -47,7 +48,7 @@ next_or-once next to = elim (cases_eq next to) [
       (λ c. elim (Contains-cons to next [] c) [ inl h ↦ ne (sym h) | inr h ↦ none_in next h ], one_once to)
 ]
 
-pub led_to-once : (o : Option ℕ) (goes : Bool) (j : ℕ) → EachOnce (led_to o goes j)
+pub led_to-once : (o : Option ℕ) (goes : Bool) (j : ℕ) → EachOnce (led_by o goes j)
 led_to-once None goes j = one_once (j + 1)
 led_to-once (Some to) true j = next_or-once (j + 1) to
 led_to-once (Some to) false j = one_once to
@@ -64,7 +65,7 @@ goes_without (Swap d x a) e = refl
 goes_without (FetchAdd d x v) e = refl
 goes_without Fence e = refl
 
-led_to-has : (o : Option ℕ) (goes : Bool) (j k : ℕ) → ((goes ≡ true) × (k ≡ j + 1)) ⊎ (o ≡ Some k) → Contains (led_to o goes j) k
+led_to-has : (o : Option ℕ) (goes : Bool) (j k : ℕ) → ((goes ≡ true) × (k ≡ j + 1)) ⊎ (o ≡ Some k) → Contains (led_by o goes j) k
 led_to-has None goes j k (inl (g, e)) = Contains-here (j + 1) k [] (sym e)
 led_to-has None goes j k (inr e) = absurd (none-some k e)
 led_to-has (Some to) true j k (inl (g, e)) = next_or-has (j + 1) to k (inr e)
@@ -72,7 +73,7 @@ led_to-has (Some to) false j k (inl (g, e)) = absurd (true≢false (sym g))
 led_to-has (Some to) true j k (inr e) = next_or-has (j + 1) to k (inl (sym (same_Some to k e)))
 led_to-has (Some to) false j k (inr e) = Contains-here to k [] (same_Some to k e)
 
-led_to-only : (o : Option ℕ) (goes : Bool) (j k : ℕ) → (o ≡ None → goes ≡ true) → Contains (led_to o goes j) k → ((goes ≡ true) × (k ≡ j + 1)) ⊎ (o ≡ Some k)
+led_to-only : (o : Option ℕ) (goes : Bool) (j k : ℕ) → (o ≡ None → goes ≡ true) → Contains (led_by o goes j) k → ((goes ≡ true) × (k ≡ j + 1)) ⊎ (o ≡ Some k)
 led_to-only None goes j k on c = inl (on refl, of_one (j + 1) k c)
 led_to-only (Some to) true j k on c = elim (next_or-only (j + 1) to k c) [ inl e ↦ inr (ap Some (sym e)) | inr e ↦ inl (refl, e) ]
 led_to-only (Some to) false j k on c = inr (ap Some (sym (of_one to k c)))

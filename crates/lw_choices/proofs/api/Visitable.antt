@@ -21,7 +21,8 @@ module _ {S : Type 0} (language : Language S) (test : Test S) (is : IsWellFormed
   -- each thread's jumps lead forward, and so they do in the empty code past the last
   pub forward_of : (t : ℕ) → IsForward language (code_of test.threads t)
   forward_of t = elim (cases_lt t (length test.threads)) [
-    | inl h ↦ (let thread : IsThread language (length test.head.locs) (code_of test.threads t) = All-get_or (IsThread language (length test.head.locs)) test.threads t [] h is.code in thread.forward)
+    | inl h ↦ (let thread : IsThread language (length test.head.locs) (code_of test.threads t) = All-get_or
+        (IsThread language (length test.head.locs)) test.threads t [] h is.code in thread.forward)
     | inr h ↦ subst (IsForward language) (sym (get_or_past test.threads t [] h)) (λ k s e. absurd (nothing k s e))
   ]
     where

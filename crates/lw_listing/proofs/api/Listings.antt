@@ -1,6 +1,7 @@
 -- Outcomes are keys: `==` says of two whether they are one, `cmp` is a total order of them, and so a sorted list of keys goes
 -- up strictly.
-use Rattle.std.proofs.Common.{◌≡◌, ◌≢◌, ◌↔◌, refl, sym, ap, ◌∙◌, ℕ, Bool, true, false, true≢false, ◌&&◌, ◌<◌, ⊎_elim, List, [], ◌∷◌, ◌++◌, nat_eq, get_or, slice_get, position, is_some, Contains, MatchOption, IsTrue, arith}
+use Rattle.std.proofs.Common.{◌≡◌, ◌≢◌, ◌↔◌, refl, sym, ap, ◌∙◌, ℕ, Bool, true, false, true≢false, ◌&&◌, ◌<◌, ⊎_elim, List, [], ◌∷◌, ◌++◌, nat_eq, get_or}
+use Rattle.std.proofs.Common.{slice_get, position, is_some, Contains, MatchOption, IsTrue, arith}
 use Rattle.std.specs.Prelude.{Option, None, Some, IsPermutation, IsSorted}
 use Rattle.std.specs.List.{IsDistinct}
 use Rattle.std.specs.Bool.{Decides}
@@ -22,7 +23,7 @@ use Rattle.indexmap.specs.Layout.{hash_map}
 use Rattle.indexmap.proofs.CallerLemmas.{insert_entry-new}
 use Rattle.lw_base.specs.Outcomes.{Final, final_cmp}
 use Rattle.lw_base.specs.declared.event.Event.{Event}
-use Rattle.lw_listing.specs.Listings.{Entries, outcomes_of, IsStrictlySorted}
+use Rattle.lw_listing.specs.Listings.{OutcomeEntries, outcomes_of, IsStrictlySorted}
 
 -- what `==` of outcomes computes
 abbrev pub final_eq : Final → Final → Bool
@@ -54,19 +55,19 @@ final_ties o p =
     both_tied _ _ _ _ (lists_ties (slice_cmp nat_cmp) row o.regs p.regs) (row o.words p.words)
 
 -- what is found among the keys is listed
-known : (es : Entries) (o : Final) → is_some (lookup (final_eq o) es) ≡ true → Contains (outcomes_of es) o
+known : (es : OutcomeEntries) (o : Final) → is_some (lookup (final_eq o) es) ≡ true → Contains (outcomes_of es) o
 known es o h = Contains-keys_from_lookup (λ x y. (final_eq_decides x y).0) o es h
 
 -- and what isn't found isn't
-unknown : (es : Entries) (o : Final) → is_some (lookup (final_eq o) es) ≡ false → Contains (outcomes_of es) o → ⊥
+unknown : (es : OutcomeEntries) (o : Final) → is_some (lookup (final_eq o) es) ≡ false → Contains (outcomes_of es) o → ⊥
 unknown es o h i = true≢false (sym (IsSome-lookup_from_Contains final_equiv o es i) ∙ h)
 
 -- the answer of a look-up
-pub found : (es : Entries) (o : Final) (b : Bool) → b ≡ is_some (lookup (final_eq o) es) → IsTrue b ↔ Contains (outcomes_of es) o
+pub found : (es : OutcomeEntries) (o : Final) (b : Bool) → b ≡ is_some (lookup (final_eq o) es) → IsTrue b ↔ Contains (outcomes_of es) o
 found es o b e = ((λ t. known es o (sym e ∙ t)), (λ i. e ∙ IsSome-lookup_from_Contains final_equiv o es i))
 
 -- where an outcome is found, it stands; where none is found, it isn't listed
-pub placed : (es : Entries) (o : Final) (r : Option ℕ) → r ≡ position (final_eq o) (outcomes_of es) → is_some r ≡ is_some (lookup (final_eq o) es)
+pub placed : (es : OutcomeEntries) (o : Final) (r : Option ℕ) → r ≡ position (final_eq o) (outcomes_of es) → is_some r ≡ is_some (lookup (final_eq o) es)
     → MatchOption r (Contains (outcomes_of es) o → ⊥) (λ i. slice_get (outcomes_of es) i ≡ Some o)
 placed es o None h s = unknown es o (sym s)
 placed es o (Some i) h s =
@@ -78,7 +79,8 @@ absent None h = refl
 absent (Some x) h = absurd (h refl)
 
 -- an outcome that wasn't there goes last
-pub added : (es fs : Entries) (o : Final) (s : List Event) → (Contains (outcomes_of es) o → ⊥) → fs ≡ insert_entry final_eq es o s → fs ≡ es ++ (o, s) ∷ []
+pub added : (es fs : OutcomeEntries) (o : Final) (s : List Event) → (Contains (outcomes_of es) o → ⊥) → fs ≡ insert_entry final_eq es o s
+    → fs ≡ es ++ (o, s) ∷ []
 added es fs o s new e = e ∙ insert_entry-new final_eq (hash_map es (tt {0}) 0) o s (absent (lookup (final_eq o) es) (λ h. new (known es o h)))
 
 -- what is neither above nor the same is below
@@ -88,7 +90,7 @@ below o p Equal e up other = absurd (other ((final_eq_decides o p).0 (final_ties
 below o p Greater e up other = absurd (true≢false up)
 
 -- a sorted list of keys goes up strictly
-pub goes_up : (es : Entries) → IsSorted final_cmp (outcomes_of es) → IsDistinct final_eq (outcomes_of es) → IsStrictlySorted es
+pub goes_up : (es : OutcomeEntries) → IsSorted final_cmp (outcomes_of es) → IsDistinct final_eq (outcomes_of es) → IsStrictlySorted es
 goes_up es sorted once i j d lt within =
     let first : Final = get_or (outcomes_of es) i d in
     let later : Final = get_or (outcomes_of es) j d in
@@ -97,13 +99,14 @@ goes_up es sorted once i j d lt within =
     below first later (final_cmp first later) refl turned (AllPairs-from_IsDistinct final_eq_decides (outcomes_of es) once i j d lt within)
 
 -- Sorting loses no outcome and makes none.
-pub stays_listed : (es fs : Entries) (o : Final) → IsPermutation es fs → Contains (outcomes_of es) o ↔ Contains (outcomes_of fs) o
+pub stays_listed : (es fs : OutcomeEntries) (o : Final) → IsPermutation es fs → Contains (outcomes_of es) o ↔ Contains (outcomes_of fs) o
 stays_listed es fs o same =
     let keys : IsPermutation (outcomes_of es) (outcomes_of fs) = IsPermutation-map (λ e. e.0) es fs same in
     (Contains-permutation _ _ o keys, Contains-permutation _ _ o (IsPermutation-sym _ _ keys))
 
 -- in a list that goes up strictly, what stands at a place doesn't stand at a later one
-not_later : (es : Entries) (i j : ℕ) (o : Final) → IsStrictlySorted es → slice_get (outcomes_of es) i ≡ Some o → slice_get (outcomes_of es) j ≡ Some o → i < j → ⊥
+not_later : (es : OutcomeEntries) (i j : ℕ) (o : Final) → IsStrictlySorted es → slice_get (outcomes_of es) i ≡ Some o
+    → slice_get (outcomes_of es) j ≡ Some o → i < j → ⊥
 not_later es i j o sorted at to lt =
     let first = get_or_from_slice_get (outcomes_of es) i o o at in
     let later = get_or_from_slice_get (outcomes_of es) j o o to in
@@ -111,7 +114,8 @@ not_later es i j o sorted at to lt =
     true≢false (ap is_lt (sym less ∙ tied_itself final_total o))
 
 -- so it stands once
-pub stands_once : (es : Entries) (i j : ℕ) (o : Final) → IsStrictlySorted es → slice_get (outcomes_of es) i ≡ Some o → slice_get (outcomes_of es) j ≡ Some o → i ≡ j
+pub stands_once : (es : OutcomeEntries) (i j : ℕ) (o : Final) → IsStrictlySorted es → slice_get (outcomes_of es) i ≡ Some o
+    → slice_get (outcomes_of es) j ≡ Some o → i ≡ j
 stands_once es i j o sorted at to = ⊎_elim
     (λ lt. absurd (not_later es i j o sorted at to lt))
     (λ le. ⊎_elim (λ lt. absurd (not_later es j i o sorted to at lt)) (λ ge. omega arith) (cases_lt j i))

@@ -1,7 +1,7 @@
-use Rattle.std.proofs.Common.{◌≡◌, ◌++◌, ap₂}
+use Rattle.std.proofs.Common.{◌≡◌, ◌++◌, ap₂, arith}
 use Rattle.lw_choices.specs.Items.{path_items}
 use Rattle.lw_choices.specs.Views.{path_of}
-use Rattle.lw_choices.proofs.Pushed.{some_is, thread_pushed, paths_done}
+use Rattle.lw_choices.proofs.Pushed.{some_is, some_there, thread_pushed, paths_done}
 use Rattle.lw_choices.proofs.items.fill_items.Goals as goal
 
 pub loop-thread-preserved : goal.loop-thread-preserved
@@ -22,3 +22,10 @@ loop-thread-preserved g c =
 pub returns : goal.returns
 returns g c = paths_done g.S.Statement.language path_of c.args.program.now c.as_slice-path-items.result.now
     c.loop-thread.thread c.loop-thread.items.items _ c.loop-thread-test.false c.loop-thread.invariant.items
+
+pub overflow_cast-thread : goal.overflow_cast-thread
+overflow_cast-thread g c = omega (arith, c.loop-thread-test.true, c.loop-thread.invariant.few)
+
+pub unwrap-cpu-requires : goal.unwrap-cpu-requires
+unwrap-cpu-requires g c =
+    some_there c.new.result c.loop-thread.thread 4 c.new.ensures (omega (arith, c.loop-thread-test.true, c.loop-thread.invariant.few))

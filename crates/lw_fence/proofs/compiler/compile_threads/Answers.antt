@@ -1,8 +1,21 @@
-use Rattle.std.proofs.Common.{refl, subst}
+use Rattle.std.proofs.Common.{◌<◌, ◌∙◌, ap, arith, get_or, length, refl, subst, sym}
 use Rattle.std.proofs.lemmas.Option.{slice_get_read}
+use Rattle.lw_litmus.specs.Sources.{source}
+use Rattle.lw_litmus.specs.WellFormed.{IsThread}
 use Rattle.lw_fence.specs.Compiling.{IsCompiledThread}
 use Rattle.lw_fence.proofs.CompiledThreads.{none_compiled, one_compiled}
+use Rattle.lw_fence.proofs.compiler.compile_threads.Given as given
 use Rattle.lw_fence.proofs.compiler.compile_threads.Goals as goal
+
+-- the thread of this turn is well-formed
+thread_known : (g : given.Over) (c : goal.After-as_slice g) → IsThread source (length c.args.source.now.head.locs) c.as_slice.result.now
+thread_known g c =
+    let stmts = c.stmts-item.result in
+    let k = c.loop-stmts.stmts-index in
+    let all = c.as_slice-stmts-items.ensures in
+    let within : k < length c.args.source.now.threads = omega (arith, c.loop-stmts-test.true, ap length all) in
+    let is = c.as_slice.ensures ∙ (c.stmts-item.is ∙ ap (λ codes. get_or codes k stmts) all) in
+    subst (IsThread source (length c.args.source.now.head.locs)) (sym is) (c.args.source.now.well_formed.code k stmts within)
 
 pub loop-stmts-init : goal.loop-stmts-init
 loop-stmts-init g c = none_compiled c.args.source.now.threads _ _ c.new-instrs.ensures c.new-starts.ensures
@@ -15,3 +28,9 @@ loop-stmts-preserved g c =
     let at = rw c.as_slice-stmts-items.ensures at read in
     one_compiled _ _ _ _ _ _ _ _ _ c.loop-stmts.invariant at (subst (λ l. IsCompiledThread l code.instrs code.starts) c.as_slice.ensures c.in_ok-code.ensures)
     c.in_ok-push.ensures.ok c.in_ok-push-2.ensures.ok
+
+pub compile_thread-requires-clause-short : goal.compile_thread-requires-clause-short
+compile_thread-requires-clause-short g c = (thread_known g c).short
+
+pub compile_thread-requires-clause-forward : goal.compile_thread-requires-clause-forward
+compile_thread-requires-clause-forward g c = (thread_known g c).forward

@@ -1,7 +1,7 @@
 use Rattle.std.proofs.Common.{◌≡◌, ◌+◌, ℕ, arith, length, refl, sym, ◌∙◌, subst}
 use Rattle.std.specs.Prelude.{false, slice_index_or}
 use Rattle.std.proofs.lemmas.Option.{slice_get_read}
-use Rattle.lw_litmus.specs.Sources.{operation_of}
+use Rattle.lw_litmus.specs.Sources.{source_operation}
 use Rattle.lw_fence.specs.inner.Marks.{may_wait}
 use Rattle.lw_fence.proofs.Marks.{Marked, mark_step, marked_behind_stores, given_back}
 use Rattle.lw_fence.proofs.fences.marks_of.Goals as goal
@@ -12,7 +12,7 @@ loop-place-preserved g c =
     let marks = c.loop-place.marks.items in
     let stmt = c.index-code-place.result in
     let at = slice_get_read code _ c.loop-place.place stmt refl c.loop-place-test.true c.index-code-place.is in
-    let waits = may_wait (operation_of stmt) (slice_index_or marks c.loop-place.place false) in
+    let waits = may_wait (source_operation stmt) (slice_index_or marks c.loop-place.place false) in
     let next = mark_step code c.requires.forward c.loop-place.place stmt marks waits at refl c.loop-place.invariant in
     let new : Marked code (c.loop-place.place + 1) c.pass_operation.new.marks =
     rw (c.pass_operation.ensures, c.operation.ensures, c.deref_mut.ensures.value) next in

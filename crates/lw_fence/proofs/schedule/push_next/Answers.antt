@@ -1,6 +1,6 @@
 use Rattle.std.proofs.Common.{◌≡◌, ◌++◌, List, IfOk, ap, arith, length, subst, sym}
 use Rattle.lw_base.specs.declared.event.Event.{Event}
-use Rattle.lw_fence.proofs.Scheduling.{has_start, code_read, events_of_statement}
+use Rattle.lw_fence.proofs.Scheduling.{has_start, thread_of_place, code_read, events_of_statement}
 use Rattle.lw_fence.proofs.schedule.push_next.Goals as goal
 
 pub bounds-starts-place : goal.bounds-starts-place
@@ -14,6 +14,25 @@ bounds-starts-place-2 g c =
     let h = has_start _ _ _ _ c.args.cpu _ c.args.place _ _ c.requires.compiled c.requires.there c.as_slice-2.ensures
     c.index-2.ensures.value c.index-as_slice-index-2.is c.as_slice-starts.ensures in
     omega (arith, h.next)
+
+pub bounds-as_slice-index : goal.bounds-as_slice-index
+bounds-as_slice-index g c = omega (
+  arith,
+  thread_of_place c.args.source.now.threads c.args.cpu c.args.place c.requires.there,
+  c.index.ensures.value,
+  ap
+      length c.as_slice.ensures,
+)
+
+pub bounds-as_slice-index-2 : goal.bounds-as_slice-index-2
+bounds-as_slice-index-2 g c =
+    omega (
+      arith,
+      thread_of_place c.args.source.now.threads c.args.cpu c.args.place c.requires.there,
+      c.requires.compiled.as_many_starts,
+      c.index-2.ensures.value,
+      ap length c.as_slice-2.ensures,
+    )
 
 pub overflow_sub-starts : goal.overflow_sub-starts
 overflow_sub-starts g c =

@@ -5,12 +5,12 @@ use Rattle.lw_base.specs.declared.event.Event.{Event}
 use Rattle.lw_base.specs.declared.event.Event.TheVariants.{Step}
 use Rattle.lw_memory.specs.Flat.{flat}
 use Rattle.lw_litmus.specs.declared.stmt.Stmt.{Stmt}
-use Rattle.lw_interleaving.specs.Runs.{State, Ran, source_step}
+use Rattle.lw_interleaving.specs.Runs.{State, SourceRan, source_step}
 use Rattle.lw_litmus.specs.Views.{source_of, program_of}
 use Rattle.lw_interleaving.proofs.api.Runs.{possible}
 use Rattle.lw_tso.specs.Runs.{Replays}
 use Rattle.lw_fence.specs.Schedules.{schedule}
-use Rattle.lw_fence.proofs.Scheduling.{next_turn, placed_in, one_further}
+use Rattle.lw_fence.proofs.Scheduling.{answered_ok, next_turn, placed_in, one_further}
 use Rattle.lw_fence.proofs.SourceToMachine.{schedule_replays}
 use Rattle.lw_fence.proofs.schedule.schedule_of.Goals as goal
 
@@ -36,7 +36,7 @@ loop-cpu-preserved g c =
       program = c.step.ensures.program ∙ program;
       possible =
           let rest = map Step (drop (c.loop-cpu.cpu-index + 1) c.args.order.now) in
-          subst (λ (s : State). (end : State) × Ran c.args.source.now.threads rest s end) same turn.more;
+          subst (λ (s : State). (end : State) × SourceRan c.args.source.now.threads rest s end) same turn.more;
       so_far =
           one_further _ _ _ _ c.loop-cpu-test.true c.cpu-item.is _ _ _ _ _ _ _ c.position-place.ensures step c.in_ok-push_next.ensures
           c.loop-cpu.invariant.so_far;
@@ -52,3 +52,12 @@ returns-clause-replays g c =
     let all = sym (append-nil events) ∙ ap (λ (order : List ℕ). events ++ rest order) (sym none) ∙ c.loop-cpu.invariant.so_far in
     let replays = schedule_replays (source_of c.args.source.now) program _ _ o c.args.source.now.well_formed c.requires.compiled runs in
     subst (λ (es : List Event). Replays flat program program.head.init_words es o) (sym all) replays
+
+pub unwrap-requires : goal.unwrap-requires
+unwrap-requires g c =
+    let turn = next_turn _ _ _ _ c.loop-cpu-test.true c.cpu-item.is _ c.loop-cpu.invariant.possible in
+    let step = ap (λ (codes : List (List Stmt)). source_step codes c.cpu-item.result c.loop-cpu.run.state) c.loop-cpu.invariant.program ∙ turn.step in
+    answered_ok _ c.step.result _ _ turn.mid c.step.ensures.done step
+
+pub push_next-requires-clause-compiled : goal.push_next-requires-clause-compiled
+push_next-requires-clause-compiled g c = c.requires.compiled

@@ -1,6 +1,6 @@
 use Rattle.std.proofs.Common.{◌≡◌, ◌++◌, map, drop}
 use Rattle.lw_base.specs.declared.event.Event.TheVariants.{Step}
-use Rattle.lw_interleaving.specs.Runs.{State, Ran, start_of}
+use Rattle.lw_interleaving.specs.Runs.{State, SourceRan, start_of}
 use Rattle.lw_litmus.specs.Views.{source_of}
 use Rattle.lw_fence.specs.Schedules.{schedule}
 use Rattle.lw_fence.proofs.schedule.schedule_of.Given as goal
@@ -9,7 +9,7 @@ abbrev pub invariant-loop-cpu : goal.invariant-loop-cpu
 invariant-loop-cpu g l =
     record {
       program : l.run.program ≡ l.source.threads;
-      possible : (end : State) × Ran l.source.threads (map Step (drop l.cpu-index l.order)) l.run.state end;
+      possible : (end : State) × SourceRan l.source.threads (map Step (drop l.cpu-index l.order)) l.run.state end;
       so_far :
           l.events.items ++ schedule l.source.threads l.compiled.starts (drop l.cpu-index l.order) l.run.state
           ≡ schedule l.source.threads l.compiled.starts l.order (start_of (source_of l.source));

@@ -1,0 +1,20 @@
+use Rattle.std.proofs.Common.{◌≡◌, ◌≤◌, ◌<◌, ◌∙◌, ap, arith, length, subst, sym}
+use Rattle.std.specs.Prelude.{IfOk, MatchOption}
+use Rattle.std.proofs.lemmas.Bool.{eqb-true}
+use Rattle.lw_orders.specs.Limits.{most_orders}
+use Rattle.lw_orders.specs.Order.{Constraints, count_of}
+use Rattle.lw_choices.specs.Items.{constraints_of}
+use Rattle.lw_choices.proofs.Pushed.{one_order}
+use Rattle.lw_choices.proofs.count.count_orders.Goals as goal
+
+pub returns-then-is_empty : goal.returns-then-is_empty
+returns-then-is_empty g c =
+    let conflicts = c.in_ok-conflicts.conflicts in
+    let none = sym conflicts.ok.0 ∙ eqb-true _ 0 (sym c.is_empty.ensures ∙ c.if-is_empty.true) in
+    let all = constraints_of g.S.Statement.language c.args.program.now c.args.items.now in
+    (one_order all (ap length (sym c.in_ok-conflicts.ensures) ∙ none), omega arith)
+
+pub returns : goal.returns
+returns g c =
+    subst (λ (t : Constraints). IfOk c.count.result (λ n. MatchOption n (most_orders < count_of t) (λ k. (k ≡ count_of t) × (k ≤ most_orders))))
+    c.in_ok-constraints.ensures c.count.ensures.number
