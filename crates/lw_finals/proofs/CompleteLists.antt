@@ -1,45 +1,58 @@
 -- What is gathered from all choices of a test is its complete list, in either language.
-use Rattle.std.proofs.Common.{ℕ, inl, inr, Bool, List, [], ◌∷◌, length, Result, Ok, Err, sym, refl, subst}
+use Rattle.std.proofs.Common.{◌≡◌, ℕ, inl, inr, List, [], ◌∷◌, length, Result, Ok, Err, refl, sym, ap, subst}
 use Rattle.std.specs.Result.{IfOk, OnOk}
 use Rattle.std.specs.Prelude.{All, Contains, ◌↔◌}
 use Rattle.std.proofs.lemmas.Bool.{cases_lt}
 use Rattle.std.proofs.lemmas.List.Elements.{All-nil, All-contains, All-weaker, Contains-append_right}
+use Rattle.lw_base.specs.Entries.{IsEntryOf}
 use Rattle.lw_base.specs.Outcomes.{Final}
+use Rattle.lw_memory.specs.Flat.{flat}
+use Rattle.lw_mesi.specs.declared.protocol.Protocol.{Protocol}
+use Rattle.lw_mesi.specs.declared.protocol.Protocol.TheVariants.{Mesi}
+use Rattle.lw_litmus.specs.declared.instr.Instr.{Instr}
+use Rattle.lw_tso.specs.Evictions.{without_evictions}
+use Rattle.lw_tso.specs.Machines.{MachineState}
+use Rattle.lw_tso.specs.Runs.{MachineRan, MachineOutcome, machine_start}
+use Rattle.lw_tso.proofs.api.Effects.{Did, leads_to, no_eviction}
 use Rattle.lw_base.specs.declared.event.Event.{Event}
+use Rattle.lw_base.specs.declared.event.Event.TheVariants.{Step, Drain, Evict}
 use Rattle.lw_litmus.specs.Languages.{Language}
-use Rattle.lw_litmus.specs.Tests.{Test}
+use Rattle.lw_litmus.specs.Tests.{Test, ProgramTest}
 use Rattle.lw_litmus.specs.WellFormed.{IsThread, IsWellFormed}
 use Rattle.lw_orders.specs.Order as orders
 use Rattle.lw_orders.specs.Order.{Constraints, IsLinearExtension, Alike, ExactlyOne}
 use Rattle.lw_orders.specs.Limits.{most_items}
 use Rattle.lw_orders.specs.Sequence.{orders}
 use Rattle.lw_choices.specs.Choices.{IsForward, IsChoice}
-use Rattle.lw_choices.specs.Counts.{HasTooManyItems, items_at_choice}
+use Rattle.lw_choices.specs.Counts.{HasTooManyItems, IsWithinLimits, items_at_choice}
 use Rattle.lw_choices.specs.Items.{items_of, constraints_of}
 use Rattle.lw_choices.specs.declared.item.Item.{Item}
 use Rattle.lw_choices.proofs.api.Enumerated.{choices_are_all}
 use Rattle.lw_choices.proofs.api.FixedPairs.{constraints_well_formed}
 use Rattle.lw_choices.proofs.api.Members.{Contains-here, from_map}
-use Rattle.lw_listing.specs.Listings.{Entries, outcomes_of}
-use Rattle.lw_finals.specs.OrderRuns.{StaysAndEnds, ChoiceOutcome}
+use Rattle.lw_listing.specs.Listings.{OutcomeEntries, outcomes_of}
+use Rattle.lw_whole.specs.OverCaches.{ReplaysOverCaches}
+use Rattle.lw_finals.specs.OrderRuns.{System, StaysAndEnds}
+use Rattle.lw_finals.specs.X86Runs.{LeadsFlat}
 use Rattle.lw_finals.specs.inner.Gathered.{Gathers, EndsOfProgram}
+use Rattle.lw_finals.specs.inner.Listed.{AreComplete, AreFlat, IsComplete}
+use Rattle.lw_finals.proofs.Ordered.{OfChoice}
 
 -- what is known where there is an answer is known of it
-pub known_too : {T E : Type 0} (r : Result T E) (P : T → Type 0) (Q : Type 0) → IfOk r P → OnOk r Q → IfOk r (λ x. P x × Q)
-known_too (Ok x) P Q p q = (p, q)
-known_too (Err e) P Q p q = tt
+known_too : {T E : Type 0} (r : Result T E) (P R : T → Type 0) (Q : Type 0) → ((x : T) → P x → Q → R x) → IfOk r P → OnOk r Q → IfOk r R
+known_too (Ok x) P R Q f p q = f x p q
+known_too (Err e) P R Q f p q = tt
 
--- of items with their pairs, the orders that are given keep the fixed pairs, and each order that keeps them is alike to one
-abbrev pub AreComplete : Type 0
-AreComplete =
-    ((t : Constraints) → orders.IsWellFormed t → All (IsLinearExtension t) (orders t))
-    × ((t : Constraints) → orders.IsWellFormed t → (o : List ℕ) → IsLinearExtension t o → ExactlyOne (Alike t.conflicts o) (orders t))
+-- over flat memory no eviction is possible
+no_evictions : (program : List (List Instr)) (es : List Event) (s end : MachineState (List ℕ)) → MachineRan flat program es s end → without_evictions es ≡ es
+no_evictions program [] s end ran = refl
+no_evictions program (Step t ∷ es) s end (mid, done, ran) = ap (λ (fs : List Event). Step t ∷ fs) (no_evictions program es mid end ran)
+no_evictions program (Drain t ∷ es) s end (mid, done, ran) = ap (λ (fs : List Event). Drain t ∷ fs) (no_evictions program es mid end ran)
+no_evictions program (Evict t x ∷ es) s end (mid, done, ran) =
+    let d : Did program (Evict t x) s mid = leads_to program (Evict t x) s mid done in
+    absurd (no_eviction program (length s.memory) t x d.from d.to s.memory d.words d.does)
 
-module _ {S : Type 0} (language : Language S)
-    (test : Test S) {State : Type 0} (Carried : Item → State → State → Type 0) (is_final : State → Bool) (outcome_of : State → Final) (start : State) where
-  abbrev Ends : List Item → List ℕ → Final → Type 0
-  Ends = StaysAndEnds Carried is_final outcome_of start
-
+module _ {S : Type 0} (language : Language S) (test : Test S) {State : Type 0} (system : System State) where
   abbrev choice_items : List (List ℕ) → List Item
   choice_items paths = items_of language test.threads paths
 
@@ -51,13 +64,9 @@ module _ {S : Type 0} (language : Language S)
   AreAlike =
       (paths : List (List ℕ)) (xs ys : List ℕ) (o : Final) → IsChoice language test.threads paths
       → IsLinearExtension (choice_constraints paths) xs → IsLinearExtension (choice_constraints paths) ys
-      → Alike (choice_constraints paths).conflicts xs ys → Ends (choice_items paths) xs o → Ends (choice_items paths) ys o
+      → Alike (choice_constraints paths).conflicts xs ys → StaysAndEnds system (choice_items paths) xs o → StaysAndEnds system (choice_items paths) ys o
 
-  -- an outcome of a choice of paths
-  abbrev pub OfChoice : Final → Type 0
-  OfChoice o = (paths : List (List ℕ)) × IsChoice language test.threads paths × ChoiceOutcome Carried is_final outcome_of language test.threads start paths o
-
-  module _ (is : IsWellFormed language test) (few : HasTooManyItems language test.threads → ⊥) (alike : AreAlike) (complete : AreComplete) where
+  module _ (is : IsWellFormed language test) (alike : AreAlike) (complete : AreComplete) (few : HasTooManyItems language test.threads → ⊥) where
     formed : (paths : List (List ℕ)) → IsChoice language test.threads paths → orders.IsWellFormed (choice_constraints paths)
     formed paths choice = elim (cases_lt most_items (items_at_choice language test.threads paths)) [
       | inl many ↦ absurd (few (paths, choice, many))
@@ -65,14 +74,14 @@ module _ {S : Type 0} (language : Language S)
     ]
 
     -- what an order of a choice ends with, one ends with that is given
-    given_end : (o : Final) → OfChoice o → EndsOfProgram language Ends test.threads o
+    given_end : (o : Final) → OfChoice language test.threads system o → EndsOfProgram language (StaysAndEnds system) test.threads o
     given_end o (paths, choice, c) =
         let t : Constraints = choice_constraints paths in
-        let given : ExactlyOne (Alike t.conflicts c.order) (orders t) = complete.1 t (formed paths choice) c.order c.keeps in
+        let given : ExactlyOne (Alike t.conflicts c.order) (orders t) = complete.exactly_one t (formed paths choice) c.order c.keeps in
         let there : Contains (orders t) given.one =
         subst (λ (xs : List (List ℕ)). Contains xs given.one) (sym given.split)
         (Contains-append_right given.before (given.one ∷ given.behind) given.one (Contains-here given.one given.one given.behind refl)) in
-        let keeps : IsLinearExtension t given.one = All-contains (IsLinearExtension t) (orders t) given.one (complete.0 t (formed paths choice)) there in
+        let keeps : IsLinearExtension t given.one = All-contains (IsLinearExtension t) (orders t) given.one (complete.each t (formed paths choice)) there in
         let forward : All (IsForward language) test.threads = All-weaker (IsThread language
         (length test.head.locs)) (IsForward language) (λ code t. t.forward) test.threads is.code in (
           paths,
@@ -80,19 +89,43 @@ module _ {S : Type 0} (language : Language S)
           (given.one, there, alike paths c.order given.one o choice c.keeps keeps given.has c.run),
         )
 
-    module _ (Has : Final → Type 0) (choices : (o : Final) → Has o ↔ OfChoice o)
-        (Leads : List Event → Final → Type 0) (reaches : (events : List Event) (o : Final) → Leads events o → Has o)
-        (entries : Entries) (gathers : Gathers (EndsOfProgram language Ends test.threads) Leads [] entries) where
+    module _ (Has : Final → Type 0) (choices : (o : Final) → Has o ↔ OfChoice language test.threads system o)
+        (program : ProgramTest) (same : (o : Final) → MachineOutcome flat program program.head.init_words o ↔ Has o) (flat_too : AreFlat program)
+        (entries : OutcomeEntries) (gathers : Gathers (EndsOfProgram language (StaysAndEnds system) test.threads) (LeadsFlat program) [] entries) where
       -- each schedule leads to its outcome
-      pub lead : All (λ e. Leads e.1 e.0) entries
-      lead = gathers.lead (All-nil (λ e. Leads e.1 e.0))
+      lead : All (λ e. LeadsFlat program e.1 e.0) entries
+      lead = gathers.lead (All-nil (λ e. LeadsFlat program e.1 e.0))
 
-      reached : (o : Final) → Contains (outcomes_of entries) o → Has o
-      reached o c =
-          let e = from_map _ entries o c in
-          let leads : Leads e.0.1 e.0.0 = All-contains (λ e. Leads e.1 e.0) entries e.0 lead e.1 in
-          subst Has e.2 (reaches e.0.1 e.0.0 leads)
+      exactly : (o : Final) → Contains (outcomes_of entries) o ↔ Has o
+      exactly o = (
+        λ c. (let e = from_map _ entries o c in
+            subst Has e.2 ((same e.0.0).0 (e.0.1, (All-contains (λ e. LeadsFlat program e.1 e.0) entries e.0 lead e.1)))),
+        λ has. gathers.covered o (given_end o ((choices o).0 has)),
+      )
 
-      -- the list has exactly the outcomes
-      pub listed : (o : Final) → Contains (outcomes_of entries) o ↔ Has o
-      listed o = (reached o, λ has. gathers.covered o (given_end o ((choices o).0 has)))
+      replays : (protocol : Protocol) → All (λ e. ReplaysOverCaches protocol program e.1 e.0) entries
+      replays protocol =
+          All-weaker (λ e. LeadsFlat program e.1 e.0) (λ e. ReplaysOverCaches protocol program e.1 e.0)
+          (λ e h. (flat_too.replays protocol e.1 e.0 (no_evictions program.threads e.1 (machine_start program program.head.init_words) h.end h.ran)).1
+          h) entries lead
+
+      complete_list : IsComplete Has program entries
+      complete_list = record {
+        exactly = exactly;
+        over_caches = λ protocol o.
+            ((λ c. (flat_too.outcomes protocol o).1 ((same o).1 ((exactly o).0 c))), (λ m. (exactly o).1 ((same o).0 ((flat_too.outcomes protocol o).0 m))));
+        replays = replays;
+        of_program = All-weaker (λ e. ReplaysOverCaches Mesi program e.1 e.0) (IsEntryOf program.head)
+            (λ e h. flat_too.of_test Mesi e.1 e.0 h) entries (replays Mesi);
+      }
+
+  -- the list of a test, where there is one
+  pub listed : IsWellFormed language test → AreAlike → AreComplete → (Has : Final → Type 0) → ((o : Final) → Has o ↔ OfChoice language test.threads system o)
+      → (program : ProgramTest) → ((o : Final) → MachineOutcome flat program program.head.init_words o ↔ Has o) → AreFlat program
+      → {E : Type 0} (result : Result OutcomeEntries E) → IfOk result
+      (λ l. Gathers (EndsOfProgram language (StaysAndEnds system) test.threads) (LeadsFlat program) [] l)
+      → OnOk result (IsWithinLimits language test.threads) → IfOk result (IsComplete Has program)
+  listed is alike complete Has choices program same flat_too result = known_too result
+      (λ l. Gathers (EndsOfProgram language (StaysAndEnds system) test.threads) (LeadsFlat program) [] l) (IsComplete Has program)
+      (IsWithinLimits language test.threads)
+      (λ l gathers within. complete_list is alike complete within.0 Has choices program same flat_too l gathers)

@@ -1,5 +1,5 @@
 -- What is gathered by one run after another, and by one choice after another.
-use Rattle.std.proofs.Common.{◌≡◌, ◌==◌, Bool, true, ℕ, ◌+◌, ◌<◌, ◌≤◌, List, [], ◌∷◌, ◌++◌, length, refl, sym, ap, ◌∙◌, subst, inl, inr, ◌⊎◌, arith, append_assoc}
+use Rattle.std.proofs.Common.{◌≡◌, ◌==◌, Bool, true, ℕ, ◌+◌, ◌<◌, ◌≤◌, List, [], ◌∷◌, ◌++◌, length, refl, sym, ◌∙◌, subst, inl, inr, arith}
 use Rattle.std.specs.Prelude.{All, Contains, IsPermutation}
 use Rattle.std.proofs.lemmas.Bool.{eqb-true}
 use Rattle.std.proofs.lemmas.List.{map-append}
@@ -7,8 +7,8 @@ use Rattle.std.proofs.lemmas.List.Elements.{All-nil, All-cons, All-append, All-w
 use Rattle.lw_base.specs.Outcomes.{Final}
 use Rattle.lw_base.specs.declared.event.Event.{Event}
 use Rattle.lw_orders.specs.Sequence.{numbers}
-use Rattle.lw_finals.specs.inner.Gathered.{Gathers, EndsOfOrders}
-use Rattle.lw_listing.specs.Listings.{Entries, outcomes_of}
+use Rattle.lw_finals.specs.inner.Gathered.{Gathers, EndsOfOne}
+use Rattle.lw_listing.specs.Listings.{OutcomeEntries, outcomes_of}
 use Rattle.lw_choices.specs.Visits.{Visited}
 use Rattle.lw_listing.proofs.api.Listings.{stays_listed}
 use Rattle.lw_choices.proofs.api.Members.{Contains-here, Contains-there, Contains-cons, none_in, of_one}
@@ -16,14 +16,15 @@ use Rattle.lw_choices.proofs.api.Pairs.{numbers_up}
 
 module _ (Leads : List Event → Final → Type 0) where
   -- whatever has no end gathers nothing
-  pub none_gathered : (Ends : Final → Type 0) (es : Entries) → ((o : Final) → Ends o → ⊥) → Gathers Ends Leads es es
+  pub none_gathered : (Ends : Final → Type 0) (es : OutcomeEntries) → ((o : Final) → Ends o → ⊥) → Gathers Ends Leads es es
   none_gathered Ends es none = record { covered = λ o e. absurd (none o e); kept = λ o c. c; lead = λ a. a }
 
   -- a new one, with a schedule that leads to it
-  pub one_added : (Ends : Final → Type 0) (es fs : Entries) (o p : Final) (s : List Event)
+  pub one_added : (Ends : Final → Type 0) (es fs : OutcomeEntries) (o p : Final) (s : List Event)
       → ((q : Final) → Ends q → q ≡ o) → p ≡ o → Leads s p → fs ≡ es ++ (p, s) ∷ [] → Gathers Ends Leads es fs
-  one_added Ends es fs o p s only same leads grown = subst (λ (gs : Entries). Gathers Ends Leads es gs) (sym grown) (record {
-    covered = λ q e. (let is : q ≡ p = only q e ∙ sym same in subst (λ (ks : List Final). Contains ks q) (sym keys) (Contains-append_right (outcomes_of es) (p ∷ []) q (Contains-here p q [] (sym is))));
+  one_added Ends es fs o p s only same leads grown = subst (λ (gs : OutcomeEntries). Gathers Ends Leads es gs) (sym grown) (record {
+    covered = λ q e. (let is : q ≡ p = only q e ∙ sym same in subst (λ (ks : List Final). Contains ks q) (sym keys)
+        (Contains-append_right (outcomes_of es) (p ∷ []) q (Contains-here p q [] (sym is))));
     kept = λ q h. subst (λ (ks : List Final). Contains ks q) (sym keys) (Contains-append_left (outcomes_of es) (p ∷ []) q h);
     lead = λ a. All-append (λ e. Leads e.1 e.0) es ((p, s) ∷ []) a (All-cons (λ e. Leads e.1 e.0) (p, s) [] leads (All-nil (λ e. Leads e.1 e.0)));
   })
@@ -31,24 +32,13 @@ module _ (Leads : List Event → Final → Type 0) where
       keys : outcomes_of (es ++ (p, s) ∷ []) ≡ outcomes_of es ++ p ∷ []
       keys = map-append _ es ((p, s) ∷ [])
 
-  -- one after another
-  pub both_gathered : (One Other Both : Final → Type 0) (es fs gs : Entries) → ((o : Final) → Both o
-      → One o ⊎ Other o) → Gathers One Leads es fs → Gathers Other Leads fs gs → Gathers Both Leads es gs
-  both_gathered One Other Both es fs gs either a b = record {
-    covered = λ o e. elim (either o e) [
-      | inl h ↦ b.kept o (a.covered o h)
-      | inr h ↦ b.covered o h
-    ];
-    kept = λ o c. b.kept o (a.kept o c);
-    lead = λ h. b.lead (a.lead h);
-  }
-
   -- fewer ends
-  pub gathered_weaker : (More Ends : Final → Type 0) (es fs : Entries) → ((o : Final) → Ends o → More o) → Gathers More Leads es fs → Gathers Ends Leads es fs
+  pub gathered_weaker : (More Ends : Final → Type 0) (es fs : OutcomeEntries) → ((o : Final) → Ends o → More o) → Gathers More Leads es fs
+      → Gathers Ends Leads es fs
   gathered_weaker More Ends es fs h a = record { covered = λ o e. a.covered o (h o e); kept = a.kept; lead = a.lead }
 
   -- sorting keeps what is gathered
-  pub gathered_sorted : (Ends : Final → Type 0) (es fs gs : Entries)
+  pub gathered_sorted : (Ends : Final → Type 0) (es fs gs : OutcomeEntries)
       → IsPermutation fs gs → Gathers Ends Leads es fs → (All (λ e. Leads e.1 e.0) fs → All (λ e. Leads e.1 e.0) gs) → Gathers Ends Leads es gs
   gathered_sorted Ends es fs gs same a all = record {
     covered = λ o e. (stays_listed fs gs o same).0 (a.covered o e);
@@ -56,73 +46,51 @@ module _ (Leads : List Event → Final → Type 0) where
     lead = λ h. all (a.lead h);
   }
 
--- an end of the orders so far and one more is of the one or of those
-pub more_orders : (Ends : List ℕ → Final → Type 0) (given : List (List ℕ)) (order : List ℕ) (o : Final)
-    → EndsOfOrders Ends (given ++ order ∷ []) o → EndsOfOrders Ends given o ⊎ Ends order o
-more_orders Ends given order o (x, c, e) = elim (cases given order x c) [
-  | inl h ↦ inl (x, h, e)
-  | inr h ↦ inr (subst (λ (y : List ℕ). Ends y o) h e)
-]
-  where
-    cases : (given : List (List ℕ)) (order x : List ℕ) → Contains (given ++ order ∷ []) x → Contains given x ⊎ (x ≡ order)
-    cases [] order x c = elim (Contains-cons order x [] c) [
-      | inl h ↦ inr (sym h)
-      | inr h ↦ absurd (none_in x h)
-    ]
-    cases (g ∷ given) order x c = elim (Contains-cons g x (given ++ order ∷ []) c) [
-      | inl h ↦ inl (Contains-here g x given h)
-      | inr h ↦ elim (cases given order x h) [
-        | inl k ↦ inl (Contains-there g x given k)
-        | inr k ↦ inr k
-      ]
-    ]
+  -- one of some, and then the others
+  pub first_gathered : {X : Type 0} (Ends : X → Final → Type 0) (x : X) (xs : List X) (es fs gs : OutcomeEntries)
+      → Gathers (Ends x) Leads es fs → Gathers (EndsOfOne Ends xs) Leads fs gs → Gathers (EndsOfOne Ends (x ∷ xs)) Leads es gs
+  first_gathered {X} Ends x xs es fs gs a b = record {
+    covered = λ o (y, c, e). elim (Contains-cons x y xs c) [
+      | inl same ↦ b.kept o (a.covered o (subst (λ (z : X). Ends z o) (sym same) e))
+      | inr r ↦ b.covered o (y, r, e)
+    ];
+    kept = λ o c. b.kept o (a.kept o c);
+    lead = λ h. b.lead (a.lead h);
+  }
 
--- of all orders that are given, those before what is to come have been run
-pub record UpTo (Ends : List ℕ → Final → Type 0) (Leads : List Event → Final → Type 0) (all to_come : List (List ℕ)) (old found : Entries) : Type 0 where
-  pub done : List (List ℕ)
-  pub split : all ≡ done ++ to_come
-  pub gathers : Gathers (EndsOfOrders Ends done) Leads old found
+-- Of all orders that are given, some are to come: what these gather yet, all have gathered then.
+pub record UpTo (Ends : List ℕ → Final → Type 0) (Leads : List Event → Final → Type 0) (all to_come : List (List ℕ)) (old found : OutcomeEntries) : Type 0 where
+  pub among : (order : List ℕ) → Contains to_come order → Contains all order
+  pub rest : (new : OutcomeEntries) → Gathers (EndsOfOne Ends to_come) Leads found new → Gathers (EndsOfOne Ends all) Leads old new
 
-module _ (Ends : List ℕ → Final → Type 0) (Leads : List Event → Final → Type 0) (all : List (List ℕ)) (old : Entries) where
-  -- the next order is one of all
-  pub next_in : (to_come next : List (List ℕ)) (found : Entries) (order : List ℕ)
-      → to_come ≡ order ∷ next → UpTo Ends Leads all to_come old found → Contains all order
-  next_in to_come next found order e u = subst (λ (xs : List (List ℕ)). Contains xs order)
-      (sym (u.split ∙ ap (λ xs. u.done ++ xs) e)) (Contains-append_right u.done (order ∷ next) order (Contains-here order order next refl))
-
-  pub up_to_more : (to_come next : List (List ℕ)) (found more : Entries) (order : List ℕ)
+module _ (Ends : List ℕ → Final → Type 0) (Leads : List Event → Final → Type 0) (all : List (List ℕ)) (old : OutcomeEntries) where
+  pub up_to_more : (to_come next : List (List ℕ)) (found more : OutcomeEntries) (order : List ℕ)
       → to_come ≡ order ∷ next → UpTo Ends Leads all to_come old found → Gathers (Ends order) Leads found more → UpTo Ends Leads all next old more
   up_to_more to_come next found more order e u h = record {
-    done = u.done ++ order ∷ [];
-    split = u.split ∙ (ap (λ xs. u.done ++ xs) e ∙ sym (append_assoc u.done (order ∷ []) next));
-    gathers = both_gathered Leads (EndsOfOrders Ends u.done) (Ends order)
-        (EndsOfOrders Ends (u.done ++ order ∷ [])) old found more (more_orders Ends u.done order) u.gathers h;
+    among = λ x c. u.among x (subst (λ (xs : List (List ℕ)). Contains xs x) (sym e) (Contains-there order x next c));
+    rest = λ new r. u.rest new (subst (λ (xs : List (List ℕ)). Gathers (EndsOfOne Ends xs) Leads found new) (sym e)
+        (first_gathered Leads Ends order next found more new h r));
   }
 
 -- all choices were visited
-module _ {V : Type 0} (Test : Type 0) (test_of : V → Test) (found_of : V → Entries) (visits : V → List (List ℕ) → V → Type 0)
+module _ {V : Type 0} (Test : Type 0) (test_of : V → Test) (found_of : V → OutcomeEntries) (visits : V → List (List ℕ) → V → Type 0)
     (Ends : Test → List (List ℕ) → Final → Type 0) (Leads : Test → List Event → Final → Type 0)
-    (each : (v : V) (paths : List (List ℕ)) (w : V) → visits v paths w → (test_of w ≡ test_of v) × Gathers (Ends (test_of v) paths) (Leads (test_of v)) (found_of v) (found_of w)) where
+    (each : (v : V) (paths : List (List ℕ)) (w : V) → visits v paths w
+    → (test_of w ≡ test_of v) × Gathers (Ends (test_of v) paths) (Leads (test_of v)) (found_of v) (found_of w)) where
   pub visits_gather : (test : Test) (choices : List (List (List ℕ))) (v w : V) → test_of v ≡ test → Visited visits choices v w
-      → Gathers (λ o. (paths : List (List ℕ)) × Contains choices paths × Ends test paths o) (Leads test) (found_of v) (found_of w)
+      → Gathers (EndsOfOne (Ends test) choices) (Leads test) (found_of v) (found_of w)
   visits_gather test [] v w is same =
-      subst (λ (u : V). Gathers (λ o. (paths : List (List ℕ)) × Contains [] paths × Ends test paths o) (Leads test) (found_of v) (found_of u)) (sym same)
-      (none_gathered (Leads test) (λ o. (paths : List (List ℕ)) × Contains [] paths × Ends test paths o) (found_of v) (λ o (paths, c, e). none_in paths c))
+      subst (λ (u : V). Gathers (EndsOfOne (Ends test) []) (Leads test) (found_of v) (found_of u)) (sym same)
+      (none_gathered (Leads test) (EndsOfOne (Ends test) []) (found_of v) (λ o (paths, c, e). none_in paths c))
   visits_gather test (paths ∷ choices) v w is (mid, one, rest) =
       let h : (test_of mid ≡ test) × Gathers (Ends test paths) (Leads test) (found_of v) (found_of mid) =
       subst (λ (t : Test). (test_of mid ≡ t) × Gathers (Ends t paths) (Leads t) (found_of v) (found_of mid)) is (each v paths mid one) in
-      both_gathered (Leads test) (Ends test paths)
-      (λ o. (p : List (List ℕ)) × Contains choices p × Ends test p o) (λ o. (p : List (List ℕ)) × Contains (paths ∷ choices) p × Ends test p o)
-      (found_of v) (found_of mid) (found_of w)
-      (λ o (p, c, e). elim (Contains-cons paths p choices c) [
-        | inl same ↦ inl (subst (λ (q : List (List ℕ)). Ends test q o) (sym same) e)
-        | inr r ↦ inr (p, r, e)
-      ]) h.1 (visits_gather test choices mid w h.0 rest)
+      first_gathered (Leads test) (Ends test) paths choices (found_of v) (found_of mid) (found_of w) h.1 (visits_gather test choices mid w h.0 rest)
 
 -- where one order is given, what it ends with is all
-pub gathered_alone : (Ends : List ℕ → Final → Type 0) (Leads : List Event → Final → Type 0) (given : List (List ℕ)) (order : List ℕ) (es fs : Entries)
-    → given ≡ order ∷ [] → Gathers (Ends order) Leads es fs → Gathers (EndsOfOrders Ends given) Leads es fs
-gathered_alone Ends Leads given order es fs one = gathered_weaker Leads (Ends order) (EndsOfOrders Ends given) es fs
+pub gathered_alone : (Ends : List ℕ → Final → Type 0) (Leads : List Event → Final → Type 0) (given : List (List ℕ)) (order : List ℕ) (es fs : OutcomeEntries)
+    → given ≡ order ∷ [] → Gathers (Ends order) Leads es fs → Gathers (EndsOfOne Ends given) Leads es fs
+gathered_alone Ends Leads given order es fs one = gathered_weaker Leads (Ends order) (EndsOfOne Ends given) es fs
     (λ o (x, c, e). subst (λ (y : List ℕ). Ends y o) (of_one order x (subst (λ (xs : List (List ℕ)). Contains xs x) one c)) e)
 
 -- the items that go up are below their number

@@ -1,9 +1,7 @@
 pub mod Waiting
 pub mod Taken
 pub mod Ordered
-pub mod Neighbours
-pub mod SourceTaken
-pub mod SourceAlike
+pub mod Alike
 pub mod SourceOutcomes
 pub mod Gathering
 pub mod CompleteLists
@@ -11,11 +9,9 @@ pub mod SourceList
 pub mod OrderSteps
 pub mod SourceRunners
 pub mod X86Waiting
-pub mod X86Standing
 pub mod X86Prefix
 pub mod X86Swap
 pub mod X86Alike
-pub mod X86Taken
 pub mod X86Outcomes
 pub mod X86List
 pub mod X86Runners

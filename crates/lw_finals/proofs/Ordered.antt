@@ -1,12 +1,17 @@
 -- The order of the items that a run of a program to its end carries out, in either language: each item of the paths stands there
--- once, and the fixed pairs are kept.
-use Rattle.std.proofs.Common.{◌≡◌, ℕ, zero, suc, ◌+◌, ◌<◌, inl, inr, List, [], ◌∷◌, map, length, Option, Some, Bool, true, false, refl, sym, ap, ◌∙◌, subst, arith, slice_get}
-use Rattle.std.specs.Prelude.{All, Contains}
+-- once, and the fixed pairs are kept. So what the run ends with is an outcome of a choice of paths.
+use Rattle.std.proofs.Common.{◌≡◌, ℕ, zero, suc, ◌+◌, ◌<◌, inl, inr, List, [], ◌∷◌, map, length, Option, Some, Bool, true, false, Result, refl, sym, ap, ◌∙◌}
+use Rattle.std.proofs.Common.{subst, arith, slice_get}
+use Rattle.std.specs.Prelude.{All, Contains, IsTrue}
 use Rattle.std.proofs.lemmas.Bool.{cases_eq, cases_lt, cases_order, cases_Bool}
 use Rattle.std.proofs.lemmas.Option.{none-some}
 use Rattle.std.proofs.lemmas.List.Elements.{All-nil, All-cons, All-head, All-tail, All-weaker}
+use Rattle.lw_base.specs.Outcomes.{Final}
+use Rattle.lw_base.specs.Replays.{Ran}
 use Rattle.lw_base.specs.Threads.{code_of}
-use Rattle.lw_orders.specs.Order.{place, Before, Once, Keeps, IsLinearExtension}
+use Rattle.lw_base.specs.declared.event.Event.{Event}
+use Rattle.lw_base.specs.declared.stop.Stop.{Stop}
+use Rattle.lw_orders.specs.Order.{place, Before, Once, Keeps}
 use Rattle.lw_orders.specs.Sequence.{numbers}
 use Rattle.lw_orders.proofs.api.Places.{place-same, place-other, same_place, All-stands, order_from}
 use Rattle.lw_litmus.specs.Flow.{IsPathFrom}
@@ -17,8 +22,8 @@ use Rattle.lw_choices.specs.Items.{item_at, items_of, constraints_of}
 use Rattle.lw_choices.proofs.api.FixedOrder.{AreOrdered, keeps_all}
 use Rattle.lw_choices.proofs.api.Members.{none_in, Contains-cons, from_map}
 use Rattle.lw_choices.proofs.api.Numbering.{In, Pairwise, Has, item, item_there, IsReal, as_many, real, slot_goes_up, same_number}
-use Rattle.lw_finals.specs.OrderRuns.{ItemsRan, OrderRan}
-use Rattle.lw_finals.proofs.Taken.{IsRight, IsAhead, Completed}
+use Rattle.lw_finals.specs.OrderRuns.{System, ItemsRan, ChoiceOutcome}
+use Rattle.lw_finals.proofs.Taken.{IsRight, IsAhead, Completed, Runs, completed}
 
 -- what is in a list is found there
 found_there : (xs : List ℕ) (i : ℕ) → Contains xs i → place xs i < length xs
@@ -105,18 +110,14 @@ module _ {S : Type 0} (language : Language S) (program : List (List S)) (items :
     ]
   ]
 
-module _ {S : Type 0} (language : Language S) (program : List (List S)) {State : Type 0}
-    (position_of : State → ℕ → Option ℕ) (Carried : Item → State → State → Type 0) where
-  -- a choice of paths, and an order of its items that leads from a state to another
-  pub record Ordered (s end : State) : Type 0 where
-    pub paths : List (List ℕ)
-    pub choice : IsChoice language program paths
-    pub order : List ℕ
-    pub keeps : IsLinearExtension (constraints_of language program (items_of language program paths)) order
-    pub ran : OrderRan Carried (items_of language program paths) order s end
+-- an outcome of a choice of paths
+abbrev pub OfChoice : {S State : Type 0} → Language S → List (List S) → System State → Final → Type 0
+OfChoice language program system o = (paths : List (List ℕ)) × IsChoice language program paths × ChoiceOutcome system language program paths o
 
-  module _ (forward : (t : ℕ) → IsForward language (code_of program t)) (s end : State)
-      (starts : (t : ℕ) → t < length program → position_of s t ≡ Some 0) (c : Completed language program position_of Carried (λ t. []) s end) where
+module _ {S : Type 0} (language : Language S) (program : List (List S)) {State : Type 0} (system : System State) (position_of : State → ℕ → Option ℕ) where
+  module _ (forward : (t : ℕ) → IsForward language (code_of program t)) (end : State)
+      (starts : (t : ℕ) → t < length program → position_of system.start t ≡ Some 0)
+      (c : Completed language program system position_of (λ t. []) system.start end) where
     abbrev paths : List (List ℕ)
     paths = map c.paths (numbers 0 (length program))
 
@@ -181,11 +182,21 @@ module _ {S : Type 0} (language : Language S) (program : List (List S)) {State :
         ]
 
     -- the order that the run takes
-    pub ordered : Ordered s end
-    ordered = record {
-      paths = paths;
-      choice = choice;
-      order = names.order;
-      keeps = (order_from (length its) names.order names.below (once language program its names.order right) stands, keeps);
-      ran = subst (λ (xs : List Item). ItemsRan Carried xs s end) (sym names.same) c.ran;
-    }
+    of_choice : (o : Final) → IsTrue (system.is_final end) → o ≡ system.outcome_of end → OfChoice language program system o
+    of_choice o final is = (
+      paths,
+      choice,
+      record {
+        order = names.order;
+        keeps = (order_from (length its) names.order names.below (once language program its names.order right) stands, keeps);
+        run = record { end = end; ran = subst (λ (xs : List Item). ItemsRan system xs system.start end) (sym names.same) c.ran; final = final; is = is };
+      },
+    )
+
+  -- What a run ends with is an outcome of a choice of paths.
+  pub run_of_choice : (Done : Event → State → Result (Unit {0}) Stop → State → Type 0) (Sound : (ℕ → List ℕ) → State → Type 0)
+      → Runs language program system position_of Done Sound → ((t : ℕ) → IsForward language (code_of program t)) → (es : List Event) (end : State) (o : Final)
+      → Ran Done es system.start end → IsTrue (system.is_final end) → o ≡ system.outcome_of end → OfChoice language program system o
+  run_of_choice Done Sound runs forward es end o ran final is =
+      of_choice forward end runs.starts (completed language program system position_of Done Sound runs forward es (λ t. []) system.start end
+      (λ t p e. omega (arith, runs.at_start t p e)) runs.first ran final) o final is

@@ -1,60 +1,94 @@
--- The outcomes of the orders of all choices of paths are exactly the outcomes of a source test, and alike orders end alike.
-use Rattle.std.proofs.Common.{ℕ, List, [], ◌∷◌, map, refl, arith}
-use Rattle.std.specs.Prelude.{◌↔◌}
+-- Alike orders of the items of a source test end alike; and the outcomes of the orders of all choices of paths are exactly its outcomes.
+use Rattle.std.proofs.Common.{◌≡◌, ℕ, ◌≤◌, ◌==◌, Bool, true, false, if◌then◌else◌, List, [], ◌∷◌, map, length, Option, Some, None, Result, Ok, refl, sym, subst}
+use Rattle.std.proofs.Common.{inl, inr, slice_get, arith, ◌≢◌, ◌<◌, ap₂, ◌∙◌}
+use Rattle.std.specs.Prelude.{◌↔◌, IsTrue, nat_le}
+use Rattle.std.proofs.lemmas.List.{get_or_past}
+use Rattle.std.proofs.lemmas.Bool.{true≢false, leb-true, cases_lt, cases_order, false_from_ne_true}
 use Rattle.lw_base.specs.Outcomes.{Final}
+use Rattle.lw_base.specs.Replays as replays
+use Rattle.lw_base.specs.Threads.{code_of}
+use Rattle.lw_base.specs.declared.event.Event.{Event}
 use Rattle.lw_base.specs.declared.event.Event.TheVariants.{Step}
+use Rattle.lw_base.specs.declared.stop.Stop.{Stop}
+use Rattle.lw_base.proofs.api.Lists.{at_index}
+use Rattle.lw_base.proofs.api.SideBySide.{got_map, zip_passes}
 use Rattle.lw_litmus.specs.declared.stmt.Stmt.{Stmt}
+use Rattle.lw_litmus.specs.Flow.{Follows}
 use Rattle.lw_litmus.specs.Sources.{source}
 use Rattle.lw_litmus.specs.WellFormedTests.{IsWellFormedSource}
 use Rattle.lw_litmus.specs.Tests.{SourceTest}
 use Rattle.lw_interleaving.specs.declared.thread.Thread.{Thread}
-use Rattle.lw_interleaving.specs.Runs.{State, Ran, RunsTo, start_of, starting, SourceOutcome}
-use Rattle.lw_interleaving.specs.Steps.{position_of}
-use Rattle.lw_orders.specs.Order.{IsLinearExtension, Alike}
+use Rattle.lw_interleaving.specs.Runs.{State, source_step, SourceRan, RunsTo, is_source_final, start_of, starting_thread, SourceOutcome}
+use Rattle.lw_interleaving.specs.Steps.{FollowsFlow, position_of, next_of}
+use Rattle.lw_interleaving.proofs.api.Exchange.{moved, others_placed, exchange, next_is}
 use Rattle.lw_choices.specs.Choices.{IsChoice}
 use Rattle.lw_choices.specs.declared.item.Item.{Item}
-use Rattle.lw_choices.specs.Items.{items_of, constraints_of}
+use Rattle.lw_choices.specs.Items.{items_of, item_at, statement_of, conflict_by, items_conflict, constraints_of}
+use Rattle.lw_choices.proofs.api.Numbering.{In, item, IsReal, real}
 use Rattle.lw_choices.proofs.api.Visitable.{forward_of}
 use Rattle.lw_finals.specs.OrderRuns.{OrderRan}
-use Rattle.lw_finals.specs.SourceRuns.{CarriedOut, StaysAndEnds, ChoiceOutcome}
+use Rattle.lw_finals.specs.SourceRuns.{system_of, StaysAndEnds, ChoiceOutcome, CarriedOut}
 use Rattle.lw_finals.specs.inner.SourceRunners.{threads_of}
-use Rattle.lw_finals.proofs.Ordered.{Ordered, ordered}
-use Rattle.lw_finals.proofs.SourceAlike.{alike_orders_ran}
-use Rattle.lw_finals.proofs.SourceTaken.{completed}
-use Rattle.lw_finals.proofs.Taken.{starts, at_start}
+use Rattle.lw_finals.proofs.Ordered.{run_of_choice}
+use Rattle.lw_finals.proofs.Taken.{One, Runs, starts, at_start}
+use Rattle.lw_finals.proofs.Waiting.{Climbs, own_waits, stored, waits_after}
+use Rattle.std.proofs.lemmas.Option.{none-some}
+use Rattle.lw_litmus.specs.Conflicts as conflicts
+use Rattle.lw_orders.specs.Order.{IsLinearExtension, Alike}
+use Rattle.lw_finals.proofs.Alike.{Neighbours, orders_end_alike}
 
--- the steps of an order that stays on its paths are possible, one after another
-scheduled : (program : List (List Stmt)) (items : List Item) (order : List ℕ) (s end : State)
-    → OrderRan (CarriedOut program) items order s end → Ran program (map Step (threads_of items order)) s end
-scheduled program items [] s end ran = ran
-scheduled program items (i ∷ order) s end (next, (at, step), ran) = (next, step, scheduled program items order next end ran)
+-- ---- alike orders
 
--- an order of any items that stays on its paths runs to its outcome
-pub order_runs_to : (s : SourceTest) (items : List Item) (order : List ℕ) (o : Final) → StaysAndEnds s items order o → RunsTo s (threads_of items order) o
-order_runs_to s items order o r = record {
-  end = r.end;
-  ran = scheduled s.threads items order (start_of s) r.end r.ran;
-  final = r.final;
-  is = r.is;
-}
+-- two items of different threads whose statements don't conflict
+swapped : (program : List (List Stmt)) (a b : Item) (s mid end : State) → a.thread ≢ b.thread
+    → conflicts.do_conflict source (statement_of source program a) (statement_of source program b) ≡ false
+    → CarriedOut program a s mid → CarriedOut program b mid end → (other : State) × CarriedOut program b s other × CarriedOut program a other end
+swapped program a b s mid end ne free (at_a, step_a) (at_b, step_b) =
+    let was_b : position_of s b.thread ≡ Some b.position = sym (others_placed program a.thread b.thread s mid ne step_a) ∙ at_b in
+    let apart : conflicts.do_conflict source (next_of program s a.thread) (next_of program s b.thread) ≡ false =
+    ap₂ (conflicts.do_conflict source) (next_is program s a.thread a.position at_a) (next_is program s b.thread b.position was_b) ∙ free in
+    let o : (o : State) × (source_step program b.thread s ≡ Ok o) × (source_step program a.thread o ≡ Ok end) =
+    exchange program a.thread b.thread s ne apart mid end step_a step_b in
+    (o.0, (was_b, o.1), (others_placed program b.thread a.thread s o.0 (λ e. ne (sym e)) o.1 ∙ at_a, o.2))
 
--- every run is that of an order of a choice
-chosen : (s : SourceTest) (o : Final) (order : List ℕ) → IsWellFormedSource s
-    → (u : RunsTo s order o) → Ordered source s.threads position_of (CarriedOut s.threads) (start_of s) u.end
-chosen s o order is u =
-    ordered source s.threads position_of (CarriedOut s.threads) (forward_of source s is) (start_of s) u.end
-    (λ t l. starts starting (λ (x : Thread). x.position) (λ x. refl) s.head.init_regs t (omega (arith, l, is.head.regs, is.as_many)))
-    (completed s.threads (forward_of source s is) order (start_of s) u.end
-    (λ t p e. omega (arith, at_start starting (λ (x : Thread). x.position) (λ x. refl) s.head.init_regs t p e)) u.ran u.final)
+-- statements, of which neither is a drain, are in conflict as lw_litmus says
+conflict_is : (b c : Bool) (o p : Option Stmt) → b ≡ false → c ≡ false → conflicts.do_conflict source o p ≡ conflict_by source b c o p
+conflict_is b c o p e f = plain o p ∙ sym (ap₂ (λ (d f : Bool). conflict_by source d f o p) e f)
+  where
+    plain : (o p : Option Stmt) → conflicts.do_conflict source o p ≡ conflict_by source false false o p
+    plain None p = refl
+    plain (Some a) None = refl
+    plain (Some a) (Some b) = refl
 
--- The outcomes of a well-formed test are those of its choices of paths.
-pub outcomes_are_those_of_choices : (s : SourceTest) (o : Final) → IsWellFormedSource s
-    → SourceOutcome s o ↔ ((paths : List (List ℕ)) × IsChoice source s.threads paths × ChoiceOutcome s paths o)
-outcomes_are_those_of_choices s o is = (
-  λ (order, u). (let c = chosen s o order is u in
-      (c.paths, c.choice, record { order = c.order; keeps = c.keeps; run = record { end = u.end; ran = c.ran; final = u.final; is = u.is } })),
-  λ (paths, choice, c). (threads_of (items_of source s.threads paths) c.order, order_runs_to s (items_of source s.threads paths) c.order o c.run),
-)
+module _ (program : List (List Stmt)) (paths : List (List ℕ)) where
+  abbrev at : ℕ → Item
+  at i = item_at (items_of source program paths) i
+
+  -- no item is a drain
+  not_drain : (i : ℕ) → i < length (items_of source program paths) → (at i).is_drain ≡ false
+  not_drain i l =
+      let r : IsReal source program paths (at i) = real source program paths i l in
+      false_from_ne_true (at i).is_drain (λ d. none-some (r.store d).0 (r.store d).1)
+
+  exchanged : (order : List ℕ) (k x y : ℕ) → Neighbours source program paths order k x y → (s mid end : State)
+      → CarriedOut program (at x) s mid → CarriedOut program (at y) mid end
+      → (other : State) × CarriedOut program (at y) s other × CarriedOut program (at x) other end
+  exchanged order k x y n s mid end = swapped program (at x) (at y) s mid end threads
+      (conflict_is (at x).is_drain (at y).is_drain (statement_of source program (at x)) (statement_of source program (at y)) x_step y_step
+      ∙ false_from_ne_true (items_conflict source program (at x) (at y)) n.apart)
+    where
+      x_step : (at x).is_drain ≡ false
+      x_step = not_drain x n.x_below
+
+      y_step : (at y).is_drain ≡ false
+      y_step = not_drain y n.y_below
+
+      threads : (at x).thread ≢ (at y).thread
+      threads same = elim (cases_order x y) [
+        | inl is ↦ n.differ is
+        | inr (inl less) ↦ n.forth less same (λ d. absurd (true≢false (sym d ∙ x_step)))
+        | inr (inr more) ↦ n.back more (sym same) (λ d. absurd (true≢false (sym d ∙ y_step)))
+      ]
 
 -- Of two alike orders that keep the fixed pairs: where the one stays on the paths the other does, and ends with the same outcome.
 pub alike_orders_end_alike : (s : SourceTest) (paths : List (List ℕ)) (xs ys : List ℕ) (o : Final)
@@ -62,5 +96,109 @@ pub alike_orders_end_alike : (s : SourceTest) (paths : List (List ℕ)) (xs ys :
     → IsLinearExtension (constraints_of source s.threads (items_of source s.threads paths)) ys
     → Alike (constraints_of source s.threads (items_of source s.threads paths)).conflicts xs ys
     → StaysAndEnds s (items_of source s.threads paths) xs o → StaysAndEnds s (items_of source s.threads paths) ys o
-alike_orders_end_alike s paths xs ys o ix iy same r =
-    record { end = r.end; ran = alike_orders_ran s.threads paths xs ys ix iy same (start_of s) r.end r.ran; final = r.final; is = r.is }
+alike_orders_end_alike s paths = orders_end_alike source s.threads paths (system_of s) (λ order k z. Unit {0}) (record {
+  first = λ order. tt;
+  next = λ order keeps k i l there z mid holds out. tt;
+  exchange = λ order keeps k x y n z mid end holds. exchanged s.threads paths order k x y n z mid end;
+})
+
+-- ---- outcomes
+
+-- at the end each thread is past its code
+ended : (program : List (List Stmt)) (s : State) (t p : ℕ) → IsTrue (is_source_final program s) → position_of s t ≡ Some p → length (code_of program t) ≤ p
+ended program s t p final e = elim (cases_lt t (length program)) [
+  | inl l ↦ (let th = got_map (λ (x : Thread). x.position) s.threads t p e in
+      let past = leb-true (length (code_of program t)) th.0.position
+      (zip_passes (λ x. nat_le (length x.0) x.1.position) program s.threads t (code_of program t) th.0 final (at_index program t [] l) th.1) in
+      omega (arith, past, th.2))
+  | inr past ↦ subst (λ (code : List Stmt). length code ≤ p) (sym (get_or_past program t [] past)) (omega arith)
+]
+
+-- no store waits
+abbrev NoneWaits : (ℕ → List ℕ) → State → Type 0
+NoneWaits W s = (u : ℕ) → W u ≡ []
+
+module _ (test : SourceTest) where
+  abbrev program : List (List Stmt)
+  program = test.threads
+
+  none_waits : (W : ℕ → List ℕ) (s : State) (t j : ℕ) → NoneWaits W s → (u : ℕ) → waits_after source program (item t j false) W u ≡ []
+  none_waits W s t j none u = go (t == u) (slice_get (code_of program t) j)
+    where
+      go : (b : Bool) (o : Option Stmt) → (if b then own_waits false (stored source o) j (W u) else W u) ≡ []
+      go false o = none u
+      go true None = none u
+      go true (Some i) = none u
+
+  -- a step carries out a statement of its thread
+  stepped : (t : ℕ) (W : ℕ → List ℕ) (s mid : State) → NoneWaits W s → source_step program t s ≡ Ok mid
+      → One source program (system_of test) position_of NoneWaits W s mid
+  stepped t W s mid none step = go (slice_get (code_of program t) m.from) refl m.follows
+    where
+      m : FollowsFlow program t s mid
+      m = moved program t s mid step
+
+      never : {X : Type 0} → false ≡ true → X
+      never e = absurd (true≢false (sym e))
+
+      go : (o : Option Stmt) → slice_get (code_of program t) m.from ≡ o → Follows source o m.from m.to
+          → One source program (system_of test) position_of NoneWaits W s mid
+      go None at f = absurd f
+      go (Some i) at f = record {
+        t = t;
+        j = m.from;
+        b = false;
+        statement = i;
+        moves = record {
+          at = at;
+          carried = (m.was, step);
+          old = m.from;
+          new = m.to;
+          was = m.was;
+          now = m.now;
+          others = λ u ne. others_placed program t u s mid ne step;
+          climbs = subst (λ (ws : List ℕ). Climbs 0 ws m.from) (sym (none t)) (omega arith);
+          follows = λ e. (refl, f);
+          waited = λ e w k h. subst (In k) (none t) h;
+          stays = λ e. never e;
+          oldest = λ e. never e;
+          store = λ e. never e;
+        };
+        sound = none_waits W s t m.from none;
+      }
+
+  -- a source test's runs have steps alone
+  abbrev Steps : Event → State → Result (Unit {0}) Stop → State → Type 0
+  Steps e s answer mid = (t : ℕ) × (source_step program t s ≡ Ok mid)
+
+  steps_alone : (order : List ℕ) (s end : State) → SourceRan program (map Step order) s end → replays.Ran Steps (map Step order) s end
+  steps_alone [] s end ran = ran
+  steps_alone (t ∷ order) s end (mid, step, ran) = (mid, (t, step), steps_alone order mid end ran)
+
+  runs : IsWellFormedSource test → Runs source program (system_of test) position_of Steps NoneWaits
+  runs is = record {
+    first = λ u. refl;
+    starts = λ t l. starts starting_thread (λ (x : Thread). x.position) (λ x. refl) test.head.init_regs t (omega (arith, l, is.head.regs, is.as_many));
+    at_start = at_start starting_thread (λ (x : Thread). x.position) (λ x. refl) test.head.init_regs;
+    one = λ e W s mid none done. stepped done.0 W s mid none done.1;
+    ended = λ W s none final t p e. (ended program s t p final e, λ j h. subst (In j) (none t) h);
+  }
+
+-- the steps of an order that stays on its paths are possible, one after another
+scheduled : (s : SourceTest) (items : List Item) (order : List ℕ) (z end : State)
+    → OrderRan (system_of s) items order z end → SourceRan s.threads (map Step (threads_of items order)) z end
+scheduled s items [] z end ran = ran
+scheduled s items (i ∷ order) z end (next, (at, step), ran) = (next, step, scheduled s items order next end ran)
+
+-- an order of any items that stays on its paths runs to its outcome
+pub order_runs_to : (s : SourceTest) (items : List Item) (order : List ℕ) (o : Final) → StaysAndEnds s items order o → RunsTo s (threads_of items order) o
+order_runs_to s items order o r = record { end = r.end; ran = scheduled s items order (start_of s) r.end r.ran; final = r.final; is = r.is }
+
+-- The outcomes of a well-formed test are those of its choices of paths.
+pub outcomes_are_those_of_choices : (s : SourceTest) (o : Final) → IsWellFormedSource s
+    → SourceOutcome s o ↔ ((paths : List (List ℕ)) × IsChoice source s.threads paths × ChoiceOutcome s paths o)
+outcomes_are_those_of_choices s o is = (
+  λ (order, u). run_of_choice source s.threads (system_of s) position_of (Steps s) NoneWaits
+      (runs s is) (forward_of source s is) (map Step order) u.end o (steps_alone s order (start_of s) u.end u.ran) u.final u.is,
+  λ (paths, choice, c). (threads_of (items_of source s.threads paths) c.order, order_runs_to s (items_of source s.threads paths) c.order o c.run),
+)

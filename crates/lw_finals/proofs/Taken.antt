@@ -1,23 +1,28 @@
--- The paths that the threads of a program take in a run to the end, in either language, and the items that it carries out.
-use Rattle.std.proofs.Common.{◌≡◌, ◌≢◌, ℕ, suc, ◌<◌, ◌≤◌, ◌==◌, if◌then◌else◌, ◌⊎◌, inl, inr, ⊎_elim, List, [], ◌∷◌, map, length, Option, Some, Bool, true, false, refl, sym, ap, ◌∙◌, subst, arith, slice_get}
-use Rattle.std.specs.Prelude.{All, Contains}
+-- The paths that the threads of a program take in a run to the end, in either language, and the items that it carries out. Of a test
+-- is asked that each event carries out an item.
+use Rattle.std.proofs.Common.{◌≡◌, ◌≢◌, ℕ, suc, ◌<◌, ◌≤◌, ◌==◌, if◌then◌else◌, ◌⊎◌, inl, inr, ⊎_elim, List, [], ◌∷◌, map, length, Option, Some, Bool, true}
+use Rattle.std.proofs.Common.{false, Result, Ok, refl, sym, ap, ◌∙◌, subst, arith, slice_get}
+use Rattle.std.specs.Prelude.{All, Contains, IsTrue}
 use Rattle.std.specs.Option.{option_map, option_map_or}
 use Rattle.std.proofs.lemmas.Bool.{true≢false, cases_eq, cases_Bool, eq-eqb, ne_eqb, cond-true, cond-false}
 use Rattle.std.proofs.lemmas.Option.{same_Some, slice_get-map}
 use Rattle.std.proofs.lemmas.List.Elements.{All-nil, All-cons, All-weaker}
+use Rattle.lw_base.specs.Replays.{Ran}
 use Rattle.lw_base.specs.Threads.{code_of}
+use Rattle.lw_base.specs.declared.event.Event.{Event}
+use Rattle.lw_base.specs.declared.stop.Stop.{Stop}
 use Rattle.lw_base.proofs.api.Lists.{get_some}
 use Rattle.lw_base.proofs.api.SideBySide.{got_map}
 use Rattle.lw_litmus.specs.Languages.{Language}
 use Rattle.lw_litmus.specs.Flow.{Follows, IsPathFrom}
 use Rattle.lw_choices.specs.Choices.{IsForward}
 use Rattle.lw_choices.specs.declared.item.Item.{Item}
-use Rattle.lw_choices.specs.Items.{drains, waits}
+use Rattle.lw_choices.specs.Items.{drains, statement_waits}
 use Rattle.lw_choices.proofs.api.Led.{follows_within}
 use Rattle.lw_choices.proofs.api.Members.{Contains-here, Contains-there}
 use Rattle.lw_choices.proofs.api.FixedOrder.{AreOrdered}
 use Rattle.lw_choices.proofs.api.Numbering.{In, Pairwise, IsStoring, item, slot, slot_less, store_slot, GoesUp, goes_up_in, path_up}
-use Rattle.lw_finals.specs.OrderRuns.{ItemsRan}
+use Rattle.lw_finals.specs.OrderRuns.{System, ItemsRan}
 use Rattle.lw_finals.proofs.Waiting.{Climbs, climbs_in, stored, waits_after, from_after, in_after, store_after}
 
 -- positions at the start
@@ -46,13 +51,13 @@ module _ {S : Type 0} (language : Language S) (program : List (List S)) where
     pub on : In a.position (paths a.thread) ⊎ ((a.is_drain ≡ true) × In a.position (W a.thread))
     pub store : a.is_drain ≡ true → IsStoring language statement
 
-  module _ {State : Type 0} (position_of : State → ℕ → Option ℕ) (Carried : Item → State → State → Type 0) where
+  module _ {State : Type 0} (system : System State) (position_of : State → ℕ → Option ℕ) where
     -- a run to the end, where these stores wait, taken apart
     pub record Completed (W : ℕ → List ℕ) (s end : State) : Type 0 where
       pub paths : ℕ → List ℕ
       pub done : List Item
       pub flows : (t p : ℕ) → position_of s t ≡ Some p → IsPathFrom language (code_of program t) p (paths t)
-      pub ran : ItemsRan Carried done s end
+      pub ran : ItemsRan system done s end
       pub ahead : All (IsAhead paths W) done
       pub statements : (t j : ℕ) → In j (paths t) → Contains done (item t j false)
       pub drained : (t p j : ℕ) (h : S) → position_of s t ≡ Some p → In j (paths t) ⊎ In j (W t)
@@ -81,7 +86,7 @@ module _ {S : Type 0} (language : Language S) (program : List (List S)) where
     -- a drain is that of the store that has waited longest
     pub record Moves (W : ℕ → List ℕ) (s mid : State) (t j : ℕ) (b : Bool) (i : S) : Type 0 where
       pub at : slice_get (code_of program t) j ≡ Some i
-      pub carried : Carried (item t j b) s mid
+      pub carried : system.Carried (item t j b) s mid
       pub old : ℕ
       pub new : ℕ
       pub was : position_of s t ≡ Some old
@@ -89,7 +94,7 @@ module _ {S : Type 0} (language : Language S) (program : List (List S)) where
       pub others : (u : ℕ) → t ≢ u → position_of mid u ≡ position_of s u
       pub climbs : Climbs 0 (W t) old
       pub follows : b ≡ false → (old ≡ j) × Follows language (Some i) j new
-      pub waited : b ≡ false → waits language i ≡ true → (k : ℕ) → In k (W t) → ⊥
+      pub waited : b ≡ false → statement_waits language i ≡ true → (k : ℕ) → In k (W t) → ⊥
       pub stays : b ≡ true → new ≡ old
       pub oldest : b ≡ true → (rest : List ℕ) × (W t ≡ j ∷ rest)
       pub store : b ≡ true → IsStoring language i
@@ -164,9 +169,10 @@ module _ {S : Type 0} (language : Language S) (program : List (List S)) where
           newer rest climbs ne (inl e) = ne (sym e)
           newer rest climbs ne (inr h) = later (climbs_in (suc j) m.old x.position rest climbs.1 h).0
 
-          waits_at : b ≡ false → ((b ≡ true) ⊎ (option_map_or (waits language) (slice_get (code_of program t) j) false ≡ true)) → waits language i ≡ true
+          waits_at : b ≡ false → ((b ≡ true) ⊎ (option_map_or (statement_waits language) (slice_get (code_of program t) j) false ≡ true))
+              → statement_waits language i ≡ true
           waits_at f (inl e) = absurd (true≢false (sym e ∙ f))
-          waits_at f (inr e) = sym (ap (λ (o : Option S). option_map_or (waits language) o false) m.at) ∙ e
+          waits_at f (inr e) = sym (ap (λ (o : Option S). option_map_or (statement_waits language) o false) m.at) ∙ e
 
       -- the run from an item on
       pub one_more : Completed after mid end → Completed W s end
@@ -261,7 +267,8 @@ module _ {S : Type 0} (language : Language S) (program : List (List S)) where
           on_path : (u p k : ℕ) (h : S) → position_of mid u ≡ Some p
               → slice_get (code_of program u) k ≡ Some h → IsStoring language h → In k (before u) → Contains (a ∷ r.done) (item u k true)
           on_path u p k h there at store l = elim (from_before u k l) [
-            | inl (same, f, e) ↦ (let is : h ≡ i = same_Some h i (sym at ∙ (ap (λ v. slice_get (code_of program v) k) (sym same) ∙ (ap (slice_get (code_of program t)) (sym e) ∙ m.at))) in
+            | inl (same, f, e) ↦ (let is : h ≡ i = same_Some h i
+                (sym at ∙ (ap (λ v. slice_get (code_of program v) k) (sym same) ∙ (ap (slice_get (code_of program t)) (sym e) ∙ m.at))) in
                 let w : In k (after u) = subst (λ (n : ℕ). In n (after u)) e
                 (store_after language program W a m.old m.climbs m.oldest u store.0 same f (stored_at ∙ (ap (drains language) (sym is) ∙ store.1))) in
                 Contains-there a (item u k true) r.done (r.drained u p k h there (inr w) at store))
@@ -284,3 +291,34 @@ module _ {S : Type 0} (language : Language S) (program : List (List S)) where
               kept : (t ≡ u → b ≡ true → k ≢ j) → Contains (a ∷ r.done) (item u k true)
               kept ne = Contains-there a (item u k true) r.done (r.drained u p k h there
                   (inr (in_after language program W a m.old m.climbs m.oldest u k l ne)) at store)
+
+    -- An event of a run carries out an item. Where the stores that wait in the state before it are known, so they are in that behind it.
+    pub record One (Sound : (ℕ → List ℕ) → State → Type 0) (W : ℕ → List ℕ) (s mid : State) : Type 0 where
+      pub t : ℕ
+      pub j : ℕ
+      pub b : Bool
+      pub statement : S
+      pub moves : Moves W s mid t j b statement
+      pub sound : Sound (waits_after language program (item t j b) W) mid
+
+    -- Each event does, and at the end each thread is past its code, and nothing waits.
+    pub record Runs (Done : Event → State → Result (Unit {0}) Stop → State → Type 0) (Sound : (ℕ → List ℕ) → State → Type 0) : Type 0 where
+      pub first : Sound (λ t. []) system.start
+      pub starts : (t : ℕ) → t < length program → position_of system.start t ≡ Some 0
+      pub at_start : (t p : ℕ) → position_of system.start t ≡ Some p → p ≡ 0
+      pub one : (e : Event) (W : ℕ → List ℕ) (s mid : State) → Sound W s → Done e s (Ok tt) mid → One Sound W s mid
+      pub ended : (W : ℕ → List ℕ) (s : State) → Sound W s → IsTrue (system.is_final s) → (t p : ℕ) → position_of s t ≡ Some p
+          → (length (code_of program t) ≤ p) × ((j : ℕ) → In j (W t) → ⊥)
+
+    module _ (Done : Event → State → Result (Unit {0}) Stop → State → Type 0) (Sound : (ℕ → List ℕ) → State → Type 0)
+        (runs : Runs Done Sound) (forward : (t : ℕ) → IsForward language (code_of program t)) where
+      -- every run to the end has its paths, and its items
+      pub completed : (es : List Event) (W : ℕ → List ℕ) (s end : State) → IsWithin s → Sound W s
+          → Ran Done es s end → IsTrue (system.is_final end) → Completed W s end
+      completed [] W s end within sound ran final =
+          subst (Completed W s) (sym ran) (over W s within (runs.ended W s sound (subst (λ (z : State). IsTrue (system.is_final z)) ran final)))
+      completed (e ∷ es) W s end within sound (mid, done, ran) final =
+          let o : One Sound W s mid = runs.one e W s mid sound done in
+          one_more forward W s mid end o.t o.j o.b o.statement o.moves
+          (completed es (waits_after language program (item o.t o.j o.b) W) mid end
+          (within_next forward W s mid mid o.t o.j o.b o.statement o.moves within) o.sound ran final)

@@ -1,19 +1,25 @@
 -- What has been done, and which stores wait, after a part of an order of an x86 test's items that keeps the fixed pairs.
-use Rattle.std.proofs.Common.{◌≡◌, ℕ, suc, ◌<◌, ◌≤◌, true, false, List, [], ◌∷◌, length, Some, refl, sym, ap, ap₂, ◌∙◌, subst, inl, inr, arith, slice_get}
+use Rattle.std.proofs.Common.{◌≡◌, ℕ, suc, ◌<◌, ◌≤◌, Bool, true, false, true≢false, List, [], ◌∷◌, length, Some, refl, sym, ap, ap₂, ◌∙◌, subst, inl, inr}
+use Rattle.std.proofs.Common.{arith, slice_get}
 use Rattle.std.proofs.lemmas.Bool.{cases_lt}
 use Rattle.lw_base.specs.Threads.{code_of}
-use Rattle.lw_orders.specs.Order.{place, Before}
+use Rattle.lw_orders.specs.Order.{place, Before, IsLinearExtension}
 use Rattle.lw_orders.proofs.api.Places.{same_place}
 use Rattle.lw_litmus.specs.declared.instr.Instr.{Instr}
-use Rattle.lw_choices.specs.declared.item.Item.{Item}
-use Rattle.lw_choices.specs.Items.{item_at}
-use Rattle.lw_choices.proofs.api.Numbering.{In}
 use Rattle.lw_litmus.specs.Programs.{x86}
+use Rattle.lw_choices.specs.Choices.{IsForward, IsChoice}
+use Rattle.lw_choices.specs.declared.item.Item.{Item}
+use Rattle.lw_choices.specs.Items.{item_at, items_of, statement_of, constraints_of}
+use Rattle.lw_choices.proofs.api.FixedOrder.{AreOrdered, kept}
+use Rattle.lw_choices.proofs.api.Numbering.{In, Has, item, slot, slot_less, store_slot, real, threads_up, number_less, same_number, beside}
 use Rattle.lw_finals.proofs.Waiting.{Climbs, climbs_in, stored, waits_after, from_after, in_after, store_after}
-use Rattle.lw_finals.proofs.X86Standing.{entry_at, Partner, Standing}
 
-module _ (program : List (List Instr)) (items : List Item) where
-  abbrev pub it : ℕ → Item
+module _ (program : List (List Instr)) (forward : (t : ℕ) → IsForward x86 (code_of program t)) (paths : List (List ℕ))
+    (choice : IsChoice x86 program paths) where
+  abbrev items : List Item
+  items = items_of x86 program paths
+
+  abbrev it : ℕ → Item
   it i = item_at items i
 
   -- a drain that is still to come
@@ -36,15 +42,40 @@ module _ (program : List (List Instr)) (items : List Item) where
   pub waiting_first : (order : List ℕ) → Waiting order 0 (λ t. [])
   waiting_first order = record { coming = λ t w h. absurd h; waits = λ s d ls ld c j f g lt ge. absurd (omega arith) }
 
-  module _ (order : List ℕ) (st : Standing program items order) where
+  module _ (order : List ℕ) (keeps : IsLinearExtension (constraints_of x86 program items) order) where
+    -- the other item of a store: each drain has its store before it, and each store its drain behind it
+    abbrev Partner : ℕ → Bool → Type 0
+    Partner i b = Has items (item (it i).thread (it i).position b)
+
+    stand_so : (i j : ℕ) → i < length items → j < length items → (it i).thread ≡ (it j).thread
+        → slot (it i) < slot (it j) → AreOrdered x86 program (it i) (it j) → Before order i j
+    stand_so i j li lj same less ordered = kept x86 program items order (threads_up x86 program paths) keeps.1 i j
+        (number_less x86 program paths forward choice i j li same less) lj same ordered
+
+    pair_stands : (s d : ℕ) → s < length items → d < length items → (it s).thread ≡ (it d).thread → (it s).position ≡ (it d).position
+        → (it s).is_drain ≡ false → (it d).is_drain ≡ true → Before order s d
+    pair_stands s d ls ld same place f g = stand_so s d ls ld same
+        (store_slot (it s).is_drain (it d).is_drain (it s).position (it d).position f g place) (λ e. absurd (true≢false (sym e ∙ f)))
+
+    store_of : (d : ℕ) → d < length items → (it d).is_drain ≡ true → (s : Partner d false) × Before order s.0 d
+    store_of d l f =
+        let s : Partner d false = beside x86 program paths forward choice d false l (λ e. absurd (true≢false (sym e))) in
+        (s, pair_stands s.0 d s.1 l (ap (λ (a : Item). a.thread) s.2) (ap (λ (a : Item). a.position) s.2) (ap (λ (a : Item). a.is_drain) s.2) f)
+
+    drain_of : (s x : ℕ) → s < length items → (it s).is_drain ≡ false → stored x86 (statement_of x86 program (it s)) ≡ Some x
+        → (d : Partner s true) × Before order s d.0
+    drain_of s x l f e =
+        let d : Partner s true = beside x86 program paths forward choice s true l (λ b. (x, sym (ap (stored x86) (real x86 program paths s l).at) ∙ e)) in
+        (d, pair_stands s d.0 l d.1 (ap (λ (a : Item). a.thread) (sym d.2)) (ap (λ (a : Item). a.position) (sym d.2)) f (ap (λ (a : Item). a.is_drain) d.2))
+
     -- a drain's turn comes when its store is the oldest that waits
     pub oldest : (k high i : ℕ) (W : ℕ → List ℕ) → Waiting order k W → Climbs 0 (W (it i).thread) high
         → i < length items → place order i ≡ k → (it i).is_drain ≡ true → (rest : List ℕ) × (W (it i).thread ≡ (it i).position ∷ rest)
     oldest k high i W w climbs lt at f =
-        let store = st.store_of i lt f in
-        let s : Partner program items i false = store.0 in
+        let s = store_of i lt f in
         first (W (it i).thread) climbs (λ v h. w.coming (it i).thread v h)
-        (w.waits s.number i s.below lt s.thread s.position s.is_drain f (omega (arith, store.1, at)) (omega (arith, at)))
+        (w.waits s.0.0 i s.0.1 lt (ap (λ (a : Item). a.thread) s.0.2) (ap (λ (a : Item). a.position) s.0.2) (ap (λ (a : Item). a.is_drain) s.0.2) f
+        (omega (arith, s.1, at)) (omega (arith, at)))
       where
         first : (ws : List ℕ) → Climbs 0 ws high → ((v : ℕ) → In v ws → Coming order k (it i).thread v)
             → In (it i).position ws → (rest : List ℕ) × (ws ≡ (it i).position ∷ rest)
@@ -53,11 +84,12 @@ module _ (program : List (List Instr)) (items : List Item) where
         first (v ∷ ws) climbs coming (inr h) =
             let lower = climbs_in (suc v) high (it i).position ws climbs.1 h in
             let c : Coming order k (it i).thread v = coming v (inl refl) in
-            let before : Before order c.number i = st.alike c.number i c.below lt c.thread (c.is_drain ∙ sym f) (omega (arith, lower.0, c.position)) in
+            let before : Before order c.number i = stand_so c.number i c.below lt c.thread
+            (slot_less (it c.number).is_drain (it i).is_drain (it c.number).position (it i).position (omega (arith, lower.0, c.position))) (λ d. inl f) in
             absurd (omega (arith, c.later, before, at))
 
     stands : (i : ℕ) → i < length items → place order i < length order
-    stands i lt = omega (arith, st.is.1 i lt, st.is.0)
+    stands i lt = omega (arith, keeps.0.1 i lt, keeps.0.0)
 
     same_item : (i d : ℕ) → i < length items → place order i ≡ place order d → i ≡ d
     same_item i d lt e = same_place order i d e (stands i lt)
@@ -70,27 +102,27 @@ module _ (program : List (List Instr)) (items : List Item) where
         | inl (g, ne) ↦ (let c : Coming order k t v = w.coming t v g in
             still t v c (λ e. ne (ap (λ d. (it d).thread) (sym e) ∙ c.thread) (subst
             (λ d. (it d).is_drain ≡ true) e c.is_drain) (sym c.position ∙ ap (λ d. (it d).position) e)))
-        | inr (same, f, s, e) ↦ (let drain = st.drain_of i s.0 lt f s.1 in
-            let p : Partner program items i true = drain.0 in
+        | inr (same, f, s, e) ↦ (let d = drain_of i s.0 lt f s.1 in
             record {
-              number = p.number;
-              below = p.below;
-              thread = p.thread ∙ same;
-              position = p.position
+              number = d.0.0;
+              below = d.0.1;
+              thread = ap (λ (a : Item). a.thread) d.0.2 ∙ same;
+              position = ap (λ (a : Item). a.position) d.0.2
                   ∙ e;
-              is_drain = p.is_drain;
-              later = omega (arith, drain.1, at);
+              is_drain = ap (λ (a : Item). a.is_drain) d.0.2;
+              later = omega (arith, d.1, at);
             })
       ];
       waits = λ s d ls ld c j f g before later. elim (cases_lt (place order s) k) [
         | inl l ↦ keep d ld g later (w.waits s d ls ld c j f g l (omega arith))
         | inr ge ↦ (let e : i ≡ s = same_item i s lt (omega arith) in
-            let entry = st.drains_entry d ld g in
+            let r = real x86 program paths d ld in
             let thread : (it i).thread ≡ (it d).thread = ap (λ n. (it n).thread) e ∙ c in
             let position : (it i).position ≡ (it d).position = ap (λ n. (it n).position) e ∙ j in
-            let there : entry_at program items i ≡ Some entry.0 = ap₂ (λ t n. stored x86 (slice_get (code_of program t) n)) thread position ∙ entry.1 in
+            let there : stored x86 (statement_of x86 program (it i)) ≡ Some (r.store g).0 =
+            ap₂ (λ t n. stored x86 (slice_get (code_of program t) n)) thread position ∙ (ap (stored x86) r.at ∙ (r.store g).1) in
             subst (λ v. In v (waits_after x86 program (it i) W (it d).thread)) position
-            (store_after x86 program W (it i) high climbs head (it d).thread entry.0 thread (ap (λ n. (it n).is_drain) e ∙ f) there))
+            (store_after x86 program W (it i) high climbs head (it d).thread (r.store g).0 thread (ap (λ n. (it n).is_drain) e ∙ f) there))
       ];
     }
       where
@@ -114,5 +146,5 @@ module _ (program : List (List Instr)) (items : List Item) where
             → suc k ≤ place order d → In (it d).position (W (it d).thread) → In (it d).position (waits_after x86 program (it i) W (it d).thread)
         keep d ld g later h =
             in_after x86 program W (it i) high climbs head (it d).thread (it d).position h
-            (λ same f e. (let n : d ≡ i = st.one_item d i ld lt (sym same) e (g ∙ sym f) in
+            (λ same f e. (let n : d ≡ i = same_number x86 program paths forward choice d i ld lt (sym same) e (g ∙ sym f) in
             let p : place order d ≡ place order i = ap (place order) n in absurd (omega (arith, p, later, at))))

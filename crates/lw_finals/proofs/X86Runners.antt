@@ -1,12 +1,12 @@
 -- Runs of the orders of an x86 test's items over any memory, seen over the flat one; and their events, which lead where they do.
-use Rattle.std.proofs.Common.{◌≡◌, ℕ, ◌+◌, ◌<◌, ◌≤◌, Bool, true, false, List, [], ◌∷◌, ◌++◌, length, get_or, Some, ◌↔◌, ◌==◌, Ok, Err, refl, sym, ap, ◌∙◌, subst}
+use Rattle.std.proofs.Common.{◌≡◌, ℕ, ◌+◌, ◌<◌, ◌≤◌, Bool, true, false, List, [], ◌∷◌, ◌++◌, length, get_or, Some, ◌↔◌, ◌==◌, Ok, Err, refl, sym, ap, ◌∙◌}
+use Rattle.std.proofs.Common.{subst}
 use Rattle.std.specs.Prelude.{IsTrue}
 use Rattle.lw_base.proofs.api.Replays.{Ran-append}
 use Rattle.std.proofs.lemmas.Bool.{eqb-true, eq-eqb}
 use Rattle.std.proofs.lemmas.Option.{same_Some}
 use Rattle.lw_base.specs.Outcomes.{Final}
 use Rattle.lw_base.specs.declared.event.Event.{Event}
-use Rattle.lw_base.specs.declared.event.Event.TheVariants.{Step, Drain, Evict}
 use Rattle.lw_base.specs.declared.stop.Stop.{Stop}
 use Rattle.lw_memory.specs.Flat.{flat}
 use Rattle.lw_memory.specs.MemoryLaws.{Invariant}
@@ -14,15 +14,14 @@ use Rattle.lw_memory.specs.Memory.{Memory}
 use Rattle.lw_tso.specs.Evictions.{without_evictions}
 use Rattle.lw_tso.specs.Exchange.{StandsAt}
 use Rattle.lw_tso.specs.Machines.{MachineState, position_of, Answer, EventDone, flatten}
-use Rattle.lw_tso.specs.Runs.{MachineRan, is_final, machine_start, machine_outcome}
+use Rattle.lw_tso.specs.Runs.{MachineRan, is_final, machine_start}
 use Rattle.lw_tso.specs.Starts.{CanStart}
+use Rattle.lw_tso.proofs.api.Effects.{event_once}
 use Rattle.lw_litmus.specs.declared.instr.Instr.{Instr}
 use Rattle.lw_litmus.specs.Tests.{ProgramTest}
 use Rattle.lw_choices.specs.declared.item.Item.{Item}
-use Rattle.lw_choices.specs.Items.{item_at}
-use Rattle.lw_finals.specs.X86Runs.{event_by, event_of, events_of, CarriedOut, StaysAndEnds, LeadsFlat}
-use Rattle.lw_finals.proofs.X86Outcomes.{order_replays}
-use Rattle.lw_finals.proofs.OrderSteps.{RanFirst, ran_off, ran_on, ran_out, ran_whole}
+use Rattle.lw_finals.specs.X86Runs.{event_by, event_of, CarriedOut, system_of, StaysAndEnds}
+use Rattle.lw_finals.proofs.OrderSteps.{RanFirst, ran_off, ran_on}
 
 -- a thread that is at a position stands where an item of its statements is exactly where that is the item's
 pub item_stands : {M : Type 0} (a : Item) (s : MachineState M) (p q : ℕ) → a.is_drain ≡ false → q ≡ a.position → position_of s a.thread ≡ Some p
@@ -32,62 +31,29 @@ item_stands a s p q step same at =
     ((λ t. at ∙ ap Some (eqb-true p q t ∙ same)), (λ h. eq-eqb p q (same_Some p a.position (sym at ∙ h) ∙ sym same)))
 
 -- an item stands for no eviction
-no_eviction : (b : Bool) (t : ℕ) (es : List Event) → without_evictions es ≡ es → without_evictions (event_by b t ∷ es) ≡ event_by b t ∷ es
-no_eviction true t es e = ap (λ (fs : List Event). Drain t ∷ fs) e
-no_eviction false t es e = ap (λ (fs : List Event). Step t ∷ fs) e
-
-module _ (test : ProgramTest) (items : List Item) where
-  no_evictions : (order : List ℕ) → without_evictions (events_of items order) ≡ events_of items order
-  no_evictions [] = refl
-  no_evictions (i ∷ order) = no_eviction (item_at items i).is_drain (item_at items i).thread (events_of items order) (no_evictions order)
-
-  -- the events of an order that stays on its paths lead to its outcome
-  pub leads : (order : List ℕ) (o : Final) → StaysAndEnds flat test test.head.init_words items order o → LeadsFlat test (events_of items order) o
-  leads order o run = (order_replays test items order o run, no_evictions order)
+no_eviction : (b : Bool) (t : ℕ) → without_evictions (event_by b t ∷ []) ≡ event_by b t ∷ []
+no_eviction true t = refl
+no_eviction false t = refl
 
 module _ {M : Type 0} (mem : Memory M) where
   -- where a thread stands is seen without its memory
-  stands_flat : (e : Event) (j : ℕ) (s : MachineState M) → StandsAt e j s → StandsAt e j (flatten mem s)
-  stands_flat (Step t) j s h = h
-  stands_flat (Drain t) j s h = h
-  stands_flat (Evict t x) j s h = h
+  stands_flat : (b : Bool) (t j : ℕ) (s : MachineState M) → StandsAt (event_by b t) j s ↔ StandsAt (event_by b t) j (flatten mem s)
+  stands_flat true t j s = ((λ h. h), (λ h. h))
+  stands_flat false t j s = ((λ h. h), (λ h. h))
 
-  stands_there : (e : Event) (j : ℕ) (s : MachineState M) → StandsAt e j (flatten mem s) → StandsAt e j s
-  stands_there (Step t) j s h = h
-  stands_there (Drain t) j s h = h
-  stands_there (Evict t x) j s h = h
+  -- the memory on which a machine was put back to the start of the test
+  pub can_start : (test : ProgramTest) (m : M) (inv : Invariant M) {program threads : List (List Instr)} {words : List ℕ}
+      → inv.sound m → length program ≤ inv.cpus m → mem.content m ≡ words → program ≡ threads → threads ≡ test.threads → words ≡ test.head.init_words
+      → CanStart mem inv test m
+  can_start test m inv sound cpus content same is initial =
+      record { sound = sound; cpus = subst (λ (p : List (List Instr)). length p ≤ inv.cpus m) (same ∙ is) cpus; words = content ∙ initial }
 
   module _ (test : ProgramTest) (m : M) (items : List Item) where
     -- The first k items of an order have led to a state that a run reaches, and over flat memory to the same in every run of the order.
     pub record RanFlat (order : List ℕ) (k : ℕ) (now : MachineState M) : Type 0 where
       pub events : List Event
       pub reached : MachineRan mem test.threads events (machine_start test m) now
-      pub first : RanFirst (CarriedOut flat test.threads) items order k (machine_start test test.head.init_words) (flatten mem now)
-
-    -- the memory on which a machine was put back to the start of the test
-    pub can_start : (inv : Invariant M) (program threads : List (List Instr)) (words : List ℕ)
-        → inv.sound m → length program ≤ inv.cpus m → mem.content m ≡ words → program ≡ threads → threads ≡ test.threads → words ≡ test.head.init_words
-        → CanStart mem inv test m
-    can_start inv program threads words sound cpus content same is initial =
-        record { sound = sound; cpus = subst (λ (p : List (List Instr)). length p ≤ inv.cpus m) (same ∙ is) cpus; words = content ∙ initial }
-
-    -- all items have been carried out
-    pub ends_alone : (order : List ℕ) (k : ℕ) (now : MachineState M) → length order ≤ k → RanFlat order k now
-        → (o : Final) → StaysAndEnds flat test test.head.init_words items order o → (o ≡ machine_outcome mem now) × IsTrue (is_final test.threads now)
-    ends_alone order k now past r o run =
-        let end : run.end ≡ flatten mem now = ran_out (CarriedOut flat test.threads) items order k
-        (machine_start test test.head.init_words) (flatten mem now) past r.first run.end run.ran in
-        (run.is ∙ ap (machine_outcome flat) end, subst (λ (s : MachineState (List ℕ)). IsTrue (is_final test.threads s)) end run.final)
-
-    pub ends_so : (order : List ℕ) (k : ℕ) (now : MachineState M) → length order ≤ k → RanFlat order k now → IsTrue (is_final test.threads now)
-        → StaysAndEnds flat test test.head.init_words items order (machine_outcome mem now)
-    ends_so order k now past r final =
-        record {
-          end = flatten mem now;
-          ran = ran_whole (CarriedOut flat test.threads) items order k (machine_start test test.head.init_words) (flatten mem now) past r.first;
-          final = final;
-          is = refl;
-        }
+      pub first : RanFirst (system_of flat test test.head.init_words) items order k (flatten mem now)
 
     -- an event that is no eviction is done over the memory as over flat memory
     abbrev pub EventsAreFlat : Type 0
@@ -96,44 +62,41 @@ module _ {M : Type 0} (mem : Memory M) where
         → MachineRan mem test.threads events (machine_start test m) s → without_evictions (e ∷ []) ≡ e ∷ []
         → EventDone mem test.threads e s answer after → EventDone flat test.threads e (flatten mem s) answer (flatten mem after)
 
-    module _ (over_flat : EventsAreFlat)
-        (determined : (program : List (List Instr)) (e : Event) (s after other : MachineState (List ℕ)) (a b : Answer) → EventDone flat program e s a after → EventDone flat program e s b other → (a ≡ b) × (after ≡ other)) where
+    module _ (over_flat : EventsAreFlat) where
       -- an event of an item, over flat memory
       done_flat : (order : List ℕ) (k : ℕ) (item : Item) (now after : MachineState M) (answer : Answer)
           → RanFlat order k now → EventDone mem test.threads (event_of item) now answer after
           → EventDone flat test.threads (event_of item) (flatten mem now) answer (flatten mem after)
       done_flat order k item now after answer r done = over_flat r.events now after
-          (event_of item) answer r.reached (no_eviction item.is_drain item.thread [] refl) done
+          (event_of item) answer r.reached (no_eviction item.is_drain item.thread) done
 
       -- one item more
-      pub carried_on : (order : List ℕ) (k n d : ℕ) (item : Item) (now next : MachineState M)
+      pub carried_on : {order : List ℕ} {k n : ℕ} (d : ℕ) (item : Item) {now next : MachineState M}
           → k < length order → n ≡ get_or order k d → n < length items → item ≡ get_or items n item
           → RanFlat order k now → CarriedOut mem test.threads item now next → RanFlat order (k + 1) next
-      carried_on order k n d item now next l is there reads r carried =
+      carried_on {order} {k} {n} d item {now} {next} l is there reads r carried =
           let done = done_flat order k item now next (Ok tt) r carried.done in
           record {
             events = r.events ++ event_of item ∷ [];
-            reached = Ran-append (EventDone mem test.threads) (is_final test.threads) r.events
+            reached = Ran-append (EventDone mem test.threads) r.events
                 (event_of item ∷ []) (machine_start test m) now next r.reached (next, carried.done, refl);
-            first = ran_on (CarriedOut flat test.threads) items order k n d item
-                (machine_start test test.head.init_words) (flatten mem now) (flatten mem next) l is there reads
-                (record { stands = stands_flat (event_of item) item.position now carried.stands; done = done })
-                (λ other c. (determined test.threads (event_of item) (flatten mem now) other (flatten mem next) (Ok tt) (Ok tt) c.done done).1) r.first;
+            first = ran_on (system_of flat test test.head.init_words) items order k n d item (flatten mem now) (flatten mem next) l is there reads
+                (record { stands = (stands_flat item.is_drain item.thread item.position now).0 carried.stands; done = done })
+                (λ other c. (event_once test.threads (event_of item) (flatten mem now) other (flatten mem next) (Ok tt) (Ok tt) c.done done).1) r.first;
           }
 
       -- an item that is not carried out
-      pub left_off : (order : List ℕ) (k n d : ℕ) (item : Item) (now after : MachineState M)
+      pub left_off : {order : List ℕ} {k n : ℕ} (d : ℕ) (item : Item) {now : MachineState M} (after : MachineState M)
           → k < length order → n ≡ get_or order k d → n < length items → item ≡ get_or items n item
           → RanFlat order k now → (StandsAt (event_of item) item.position now → (stop : Stop) × EventDone mem test.threads (event_of item) now (Err stop) after)
           → (o : Final) → StaysAndEnds flat test test.head.init_words items order o → ⊥
-      left_off order k n d item now after l is there reads r refused o run =
-          ran_off (CarriedOut flat test.threads) items order k n d item
-          (machine_start test test.head.init_words) (flatten mem now) l is there reads none r.first run.end run.ran
+      left_off {order} {k} {n} d item {now} after l is there reads r refused o run =
+          ran_off (system_of flat test test.head.init_words) items order k n d item (flatten mem now) l is there reads none r.first run.end run.ran
         where
           none : (next : MachineState (List ℕ)) → CarriedOut flat test.threads item (flatten mem now) next → ⊥
           none next c =
-              let no = refused (stands_there (event_of item) item.position now c.stands) in
+              let no = refused ((stands_flat item.is_drain item.thread item.position now).1 c.stands) in
               let done = done_flat order k item now after (Err no.0) r no.1 in
-              let same : Ok tt ≡ Err no.0 = (determined test.threads (event_of item)
+              let same : Ok tt ≡ Err no.0 = (event_once test.threads (event_of item)
               (flatten mem now) next (flatten mem after) (Ok tt) (Err no.0) c.done done).0 in
               cc

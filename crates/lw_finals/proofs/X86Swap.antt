@@ -16,9 +16,9 @@ use Rattle.lw_litmus.specs.declared.operation.Operation.{Operation}
 use Rattle.lw_litmus.specs.declared.operation.Operation.TheVariants.{Store, Load}
 use Rattle.lw_litmus.specs.Conflicts.{is_one}
 use Rattle.lw_litmus.specs.Operations.{is_store, is_locked, location_of, writes, waits}
-use Rattle.lw_litmus.specs.Programs.{operation_of, x86}
+use Rattle.lw_litmus.specs.Programs.{x86_operation, x86}
 use Rattle.lw_choices.specs.declared.item.Item.{Item}
-use Rattle.lw_choices.specs.Items.{drains, statement_of, location_by, writes_by, conflict_by, do_conflict}
+use Rattle.lw_choices.specs.Items.{drains, statement_of, location_by, writes_by, conflict_by, items_conflict}
 use Rattle.lw_finals.specs.X86Runs.{event_by, event_of}
 use Rattle.lw_finals.proofs.Waiting.{Climbs, climbs_in, own_waits, stored, waits_after, waits_same}
 use Rattle.lw_finals.proofs.X86Waiting.{act_by, Carried, CarriedItem, went, DrainShape, drain_shape, Waits, AllHold}
@@ -34,7 +34,7 @@ no_store (Store x v) q z e = absurd (none-some z e)
 no_store o q z e = refl
 
 step_touches : (o : Operation) (q : Processor) (z : ℕ) → machine.accessed (operation_act o q) ≡ Some z
-    → (by_itself o ≡ Some z) × (machine.writes (operation_act o q) ≡ true → writes o ≡ true)
+    → (by_itself o ≡ Some z) × (machine.event_writes (operation_act o q) ≡ true → writes o ≡ true)
 step_touches o q z e =
     let found = operation_accessed o q z e in
     (cond-false (is_store o) None (location_of o) (no_store o q z e) ∙ found.0, λ w. or_right (is_store o) (is_locked o) (found.1 ∙ w))
@@ -54,7 +54,7 @@ touches : (program : List (List Instr)) (t j : ℕ) (i : Instr) (s mid : Machine
     → slice_get (code_of program t) j ≡ Some i → AllHold program W s
     → (b : Bool) (c : Carried program t j b s mid) → (b ≡ true → (rest : List ℕ) × (W t ≡ j ∷ rest))
     → (z : ℕ) → machine.accessed (act_by program t b c.old) ≡ Some z
-    → (location_by x86 b i ≡ Some z) × (machine.writes (act_by program t b c.old) ≡ true → writes_by x86 b i ≡ true)
+    → (location_by x86 b i ≡ Some z) × (machine.event_writes (act_by program t b c.old) ≡ true → writes_by x86 b i ≡ true)
 touches program t j i s mid W at hold true c head z e =
     let h = head refl in (
       drain_touches (code_of program t) j h.0 c.old.buffer c.old z i (subst
@@ -63,8 +63,8 @@ touches program t j i s mid W at hold true c head z e =
     )
 touches program t j i s mid W at hold false c head z e =
     let here : slice_get (code_of program t) c.old.position ≡ Some i = ap (λ k. slice_get (code_of program t) k) (c.stands refl) ∙ at in
-    let r = step_touches (operation_of i) c.old z (ap (λ o. machine.accessed (step_act o c.old)) (sym here) ∙ e) in
-    (r.0, λ f. r.1 (ap (λ o. machine.writes (step_act o c.old)) (sym here) ∙ f))
+    let r = step_touches (x86_operation i) c.old z (ap (λ o. machine.accessed (step_act o c.old)) (sym here) ∙ e) in
+    (r.0, λ f. r.1 (ap (λ o. machine.event_writes (step_act o c.old)) (sym here) ∙ f))
 
 -- items on one location of which one writes conflict
 conflicting : (b c : Bool) (i h : Instr) (z : ℕ) → location_by x86 b i ≡ Some z → location_by x86 c h ≡ Some z → (writes_by x86 b i || writes_by x86 c h) ≡ true
@@ -80,7 +80,7 @@ passes x (Load d y) free other = λ e. other (ap Some (sym e))
 passes x o free other = false_from_ne_true (waits o) free
 
 passes_oldest : (b : List (ℕ × ℕ)) (o : Option Instr) (e : ℕ × ℕ) (newer : List (ℕ × ℕ)) (i : Instr)
-    → b ≡ e ∷ newer → o ≡ Some i → MayPass e.0 (operation_of i) → MayPassOldest b o
+    → b ≡ e ∷ newer → o ≡ Some i → MayPass e.0 (x86_operation i) → MayPassOldest b o
 passes_oldest b o e newer i full at may = subst (λ c. MayPassOldest c o) (sym full) (subst (λ p. MayPassOldest (e ∷ newer) p) (sym at) may)
 
 own_head : (o : Option ℕ) (j w k : ℕ) (ws rest : List ℕ) → own_waits false o j (w ∷ ws) ≡ k ∷ rest → w ≡ k
@@ -96,7 +96,7 @@ own_last None j k rest e = cc
 pub record Unfixed (b c : Bool) (h : Instr) (j k : ℕ) : Type 0 where
   pub unlike : b ≡ c → ⊥
   pub others : b ≡ false → c ≡ true → j ≡ k → ⊥
-  pub no_wait : b ≡ true → c ≡ false → j < k → waits (operation_of h) ≡ true → ⊥
+  pub no_wait : b ≡ true → c ≡ false → j < k → waits (x86_operation h) ≡ true → ⊥
 
 module _ (program : List (List Instr)) (W : ℕ → List ℕ) (s m1 m2 : MachineState (List ℕ)) (hold : AllHold program W s) where
   full_empty : (b : List (ℕ × ℕ)) (e : ℕ × ℕ) (newer : List (ℕ × ℕ)) → b ≡ e ∷ newer → b ≡ [] → ⊥
@@ -111,10 +111,10 @@ module _ (program : List (List Instr)) (W : ℕ → List ℕ) (s m1 m2 : Machine
   passing t j k i h o true true ati ath headx heady never free x y = absurd (free.unlike refl)
   passing t j k i h o false true ati ath headx heady never free x y =
       let here : slice_get (code_of program t) x.old.position ≡ Some i = ap (λ n. slice_get (code_of program t) n) (x.stands refl) ∙ ati in
-      let shape : Went (operation_of i) x.old x.new = went program t j i s m1 x ati in
+      let shape : Went (x86_operation i) x.old x.new = went program t j i s m1 x ati in
       let f = found (W t) (hold t x.old x.was).waits (hold t x.old x.was).climbs (heady refl).0 (heady refl).1 in
       passes_oldest x.old.buffer (slice_get (code_of program t) x.old.position) f.0 f.1 i f.2 here
-      (passes f.0.0 (operation_of i) (λ w. full_empty x.old.buffer f.0 f.1 f.2 (shape.waited w))
+      (passes f.0.0 (x86_operation i) (λ w. full_empty x.old.buffer f.0 f.1 f.2 (shape.waited w))
       (λ e. never (conflicting false true i h f.0.0 e f.3 (or_right (writes_by x86 false i) true refl))))
     where
       found : (ws : List ℕ) → Waits (code_of program t) ws x.old.buffer → Climbs 0 ws x.old.position
@@ -129,7 +129,7 @@ module _ (program : List (List Instr)) (W : ℕ → List ℕ) (s m1 m2 : Machine
       let at : x.old.position ≡ k = old_position in
       let less = climbs_in 0 x.old.position j (j ∷ a.0) (subst (λ ws. Climbs 0 ws x.old.position) a.1 g.climbs) (inl refl) in
       passes_oldest x.old.buffer (slice_get (code_of program t) x.old.position) f.0 f.1 h f.2 (ap (λ n. slice_get (code_of program t) n) at ∙ ath)
-      (passes f.0.0 (operation_of h) (λ w. free.no_wait refl refl (omega (arith, less.1, at)) w) (λ e. never (conflicting true false i h f.0.0 f.3 e refl)))
+      (passes f.0.0 (x86_operation h) (λ w. free.no_wait refl refl (omega (arith, less.1, at)) w) (λ e. never (conflicting true false i h f.0.0 f.3 e refl)))
     where
       old_position : x.old.position ≡ k
       old_position =
@@ -150,10 +150,10 @@ module _ (program : List (List Instr)) (W : ℕ → List ℕ) (s m1 m2 : Machine
       same_Some y.old q (sym y.was ∙ (ap (λ (z : MachineState (List ℕ)). slice_get z.processors u) x.is ∙ (got_set_other s.processors t u x.new ne ∙ f))) in
       let one = touches program t j i s m1 W ati hold b x headx z (ap (λ r. machine.accessed (act_by program t b r)) xs ∙ az) in
       let two = touches program u k h m1 m2 V ath hold1 c y heady z (ap (λ r. machine.accessed (act_by program u c r)) ys ∙ bz) in (
-        false_from_ne_true (machine.writes (act_by program t b p)) (λ w. never (conflicting b c i h z one.0 two.0
-            (or_left (writes_by x86 b i) (writes_by x86 c h) (one.1 (ap (λ r. machine.writes (act_by program t b r)) xs ∙ w))))),
-        false_from_ne_true (machine.writes (act_by program u c q)) (λ w. never (conflicting b c i h z one.0 two.0
-            (or_right (writes_by x86 b i) (writes_by x86 c h) (two.1 (ap (λ r. machine.writes (act_by program u c r)) ys ∙ w))))),
+        false_from_ne_true (machine.event_writes (act_by program t b p)) (λ w. never (conflicting b c i h z one.0 two.0
+            (or_left (writes_by x86 b i) (writes_by x86 c h) (one.1 (ap (λ r. machine.event_writes (act_by program t b r)) xs ∙ w))))),
+        false_from_ne_true (machine.event_writes (act_by program u c q)) (λ w. never (conflicting b c i h z one.0 two.0
+            (or_right (writes_by x86 b i) (writes_by x86 c h) (two.1 (ap (λ r. machine.event_writes (act_by program u c r)) ys ∙ w))))),
       )
 
   act_is : (locs t : ℕ) (b : Bool) (p : Processor) → event_act program locs (event_by b t) p ≡ act_by program t b p
@@ -168,7 +168,7 @@ module _ (program : List (List Instr)) (W : ℕ → List ℕ) (s m1 m2 : Machine
       → statement_of x86 program b ≡ Some h → AllHold program (waits_after x86 program a W) m1
       → (a.is_drain ≡ true → (rest : List ℕ) × (W a.thread ≡ a.position ∷ rest))
       → (b.is_drain ≡ true → (rest : List ℕ) × (waits_after x86 program a W b.thread ≡ b.position ∷ rest))
-      → (do_conflict x86 program a b ≡ true → ⊥) → (a.thread ≡ b.thread → Unfixed a.is_drain b.is_drain h a.position b.position)
+      → (items_conflict x86 program a b ≡ true → ⊥) → (a.thread ≡ b.thread → Unfixed a.is_drain b.is_drain h a.position b.position)
       → CarriedItem program a s m1 → CarriedItem program b m1 m2 → AreIndependent program (event_of a) (event_of b) s
   independent a b i h ati ath hold1 heada headb free unfixed x y = record {
     of_two = λ ne p q e f.

@@ -1,5 +1,6 @@
 -- Which stores of a thread wait in its store buffer, by their positions, along a run of items of an x86 test.
-use Rattle.std.proofs.Common.{◌≡◌, ℕ, Bool, true, false, if◌then◌else◌, List, [], ◌∷◌, ◌++◌, map, Option, Some, None, refl, sym, ap, ◌∙◌, subst, inl, inr, arith, slice_get, slice_set}
+use Rattle.std.proofs.Common.{◌≡◌, ℕ, Bool, true, false, if◌then◌else◌, List, [], ◌∷◌, ◌++◌, map, Option, Some, None, refl, sym, ap, ◌∙◌, subst, inl, inr}
+use Rattle.std.proofs.Common.{arith, slice_get, slice_set}
 use Rattle.std.specs.Option.{option_map}
 use Rattle.std.proofs.lemmas.Bool.{cases_eq, true≢false, cond-true, cond-false}
 use Rattle.std.proofs.lemmas.Option.{same_Some, slice_get-map}
@@ -11,7 +12,7 @@ use Rattle.lw_litmus.specs.declared.operation.Operation.{Operation}
 use Rattle.lw_litmus.specs.declared.instr.Instr.{Instr}
 use Rattle.lw_litmus.specs.Flow.{Follows}
 use Rattle.lw_litmus.specs.Operations.{is_store, location_of, Leads}
-use Rattle.lw_litmus.specs.Programs.{operation_of, x86}
+use Rattle.lw_litmus.specs.Programs.{x86_operation, x86}
 use Rattle.lw_litmus.specs.Tests.{ProgramTest}
 use Rattle.lw_tso.specs.Acts.{Act, step_act, drain_act}
 use Rattle.lw_tso.specs.Exchange.{DoneAt}
@@ -133,10 +134,10 @@ AllHold program W s = (t : ℕ) (p : Processor) → slice_get s.processors t ≡
 module _ (program : List (List Instr)) where
   -- what an instruction's step did
   pub went : (t j : ℕ) (i : Instr) (s mid : MachineState (List ℕ)) (c : Carried program t j false s mid)
-      → slice_get (code_of program t) j ≡ Some i → Went (operation_of i) c.old c.new
+      → slice_get (code_of program t) j ≡ Some i → Went (x86_operation i) c.old c.new
   went t j i s mid c at =
       let here : slice_get (code_of program t) c.old.position ≡ Some i = ap (λ k. slice_get (code_of program t) k) (c.stands refl) ∙ at in
-      operation_does (operation_of i) c.old c.new s.memory c.words (subst (λ o. Does s.memory (step_act o c.old) c.new c.words) here c.does)
+      operation_does (x86_operation i) c.old c.new s.memory c.words (subst (λ o. Does s.memory (step_act o c.old) c.new c.words) here c.does)
 
   module _ (forward : (t : ℕ) → IsForward x86 (code_of program t)) where
     -- what an item that was carried out leaves at its processor
@@ -151,12 +152,12 @@ module _ (program : List (List Instr)) where
               (omega arith) (λ f. absurd (true≢false f)) (λ f. absurd (true≢false f)) h.climbs;
         })
     after_one t j i false ws s mid c at h =
-        let a : Went (operation_of i) c.old c.new = went t j i s mid c at in
+        let a : Went (x86_operation i) c.old c.new = went t j i s mid c at in
         let there : c.old.position ≡ j = c.stands refl in
         let lt = follows_within x86 (code_of program t) j c.new.position (forward t)
-        (subst (λ (o : Option Instr). Follows x86 o j c.new.position) (sym at) (subst (λ k. Leads (operation_of i) k c.new.position) there a.leads)) in
+        (subst (λ (o : Option Instr). Follows x86 o j c.new.position) (sym at) (subst (λ k. Leads (x86_operation i) k c.new.position) there a.leads)) in
         record {
-          waits = stepped_waits (code_of program t) (operation_of i) ws c.old.buffer c.new.buffer j h.waits (ap (stored x86) at) a.buffers;
+          waits = stepped_waits (code_of program t) (x86_operation i) ws c.old.buffer c.new.buffer j h.waits (ap (stored x86) at) a.buffers;
           climbs = own_climbs false (drains x86 i) ws j c.old.position c.new.position
               (omega (arith, lt.0, there)) (λ f. sym there) (λ f. omega (arith, lt.0, there)) h.climbs;
         }

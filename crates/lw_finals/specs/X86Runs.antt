@@ -1,11 +1,10 @@
 -- Runs of orders of an x86 test's items on the machine, over any memory.
-use Rattle.std.specs.Prelude.{◌≡◌, ℕ, Bool, true, false, List, map}
+use Rattle.std.specs.Prelude.{ℕ, Bool, true, false, List, map}
 use Rattle.lw_base.specs.Outcomes.{Final}
 use Rattle.lw_base.specs.declared.event.Event.{Event}
 use Rattle.lw_base.specs.declared.event.Event.TheVariants.{Step, Drain}
 use Rattle.lw_memory.specs.Flat.{flat}
 use Rattle.lw_memory.specs.Memory.{Memory}
-use Rattle.lw_tso.specs.Evictions.{without_evictions}
 use Rattle.lw_tso.specs.Exchange.{DoneAt}
 use Rattle.lw_tso.specs.Machines.{MachineState}
 use Rattle.lw_tso.specs.Runs.{Replays, machine_start, machine_outcome, is_final}
@@ -33,14 +32,22 @@ module _ {M : Type 0} (mem : Memory M) where
   abbrev pub CarriedOut : List (List Instr) → Item → MachineState M → MachineState M → Type 0
   CarriedOut program item = DoneAt mem program (event_of item) item.position
 
+  abbrev pub system_of : ProgramTest → M → runs.System (MachineState M)
+  system_of test m = record {
+    start = machine_start test m;
+    Carried = CarriedOut test.threads;
+    is_final = is_final test.threads;
+    outcome_of = machine_outcome mem;
+  }
+
   -- An order of items of an x86 test stays on the chosen paths, and ends with an outcome.
   abbrev pub StaysAndEnds : ProgramTest → M → List Item → List ℕ → Final → Type 0
-  StaysAndEnds test m = runs.StaysAndEnds (CarriedOut test.threads) (is_final test.threads) (machine_outcome mem) (machine_start test m)
+  StaysAndEnds test m = runs.StaysAndEnds (system_of test m)
 
   -- an outcome of a choice of paths of an x86 test
   abbrev pub ChoiceOutcome : ProgramTest → M → List (List ℕ) → Final → Type 0
-  ChoiceOutcome test m = runs.ChoiceOutcome (CarriedOut test.threads) (is_final test.threads) (machine_outcome mem) x86 test.threads (machine_start test m)
+  ChoiceOutcome test m = runs.ChoiceOutcome (system_of test m) x86 test.threads
 
--- A schedule without evictions replays over flat memory to an outcome.
+-- A schedule replays over flat memory to an outcome.
 abbrev pub LeadsFlat : ProgramTest → List Event → Final → Type 0
-LeadsFlat test events o = Replays flat test test.head.init_words events o × (without_evictions events ≡ events)
+LeadsFlat test = Replays flat test test.head.init_words

@@ -1,4 +1,4 @@
 pub mod Codes
 pub mod Gathered
+pub mod Listed
 pub mod SourceRunners
-pub mod X86Runners

@@ -6,7 +6,7 @@ ghost use Rattle.lw_orders.specs.Limits.{most_items, most_orders};
 ghost use Rattle.lw_choices.specs.Items.{constraints_of};
 ghost use Rattle.lw_choices.specs.declared.item.Item.{Item};
 ghost use Rattle.lw_choices.specs.Counts.{TellsOfChoice, TellsOfGiven, TellsLimit, IsWithinLimits};
-ghost use Rattle.lw_finals.specs.inner.Gathered.{Gathers, EndsOfOrders, EndsOfItems, EndsOfChoice, EndsOfProgram};
+ghost use Rattle.lw_finals.specs.inner.Gathered.{Gathers, EndsOfOne, EndsOfItems, EndsOfChoice, EndsOfProgram};
 ghost use Rattle.lw_listing.specs.Listings.{IsStrictlySorted};
 ghost use Rattle.lw_choices.specs.Visits.{IsVisitable};
 
@@ -23,7 +23,7 @@ use std::alloc::{AllocError, Allocator};
 
 /// Runs an order of items, and adds its outcome with a schedule where it is new. An outcome that was found before costs a
 /// look-up.
-fn gather_order<A: Allocator, R: OrderRunner<A> + Drop>(
+fn gather_order<A: Allocator, R: OrderRunner<A>>(
     runner: &mut R,
     items: &[Item],
     order: &[u8],
@@ -42,7 +42,7 @@ fn gather_order<A: Allocator, R: OrderRunner<A> + Drop>(
 }
 
 /// Runs each order that is given for items with their pairs.
-fn gather_orders<A: Allocator + Copy, R: OrderRunner<A> + Drop>(
+fn gather_orders<A: Allocator + Copy, R: OrderRunner<A>>(
     alloc: A,
     runner: &mut R,
     items: &[Item],
@@ -53,7 +53,7 @@ fn gather_orders<A: Allocator + Copy, R: OrderRunner<A> + Drop>(
     requires few { count_of constraints.now ≤ most_orders }
     ensures same { R.test runner.new ≡ R.test runner.old }
     ensures gathered { OnOk result (Gathers
-        (EndsOfOrders (R.ends (R.test runner.old) items.now) (orders constraints.now))
+        (EndsOfOne (R.ends (R.test runner.old) items.now) (orders constraints.now))
         (R.leads (R.test runner.old)) found.old found.new) }
 {
     for order in Orders::new(alloc, constraints)? {
@@ -62,25 +62,30 @@ fn gather_orders<A: Allocator + Copy, R: OrderRunner<A> + Drop>(
     Ok(())
 }
 
-/// Runs each order that is given for items. Where nothing conflicts there is one, and no pairs are made.
-fn gather_items<S: Statement, A: Allocator + Copy, B: Allocator, R: OrderRunner<A> + Drop>(
+/// Runs each order that is given for items. Where nothing conflicts, as may be known beforehand, there is one, and no pairs are
+/// made.
+fn gather_items<S: Statement, A: Allocator + Copy, B: Allocator, R: OrderRunner<A>>(
     alloc: A,
     program: &[Sequence<S, B>],
+    is_apart: bool,
     runner: &mut R,
     items: &[Item],
     found: &mut Findings<A>,
 ) -> Result<(), ListFault>
-    requires { length items.now ≤ most_items }
+    requires few { length items.now ≤ most_items }
+    requires apart { is_apart ≡ true → (constraints_of S.language program.now items.now).conflicts ≡ [] }
     ensures same { R.test runner.new ≡ R.test runner.old }
     ensures gathered { OnOk result (Gathers
         (EndsOfItems S.language (R.ends (R.test runner.old)) program.now items.now)
         (R.leads (R.test runner.old)) found.old found.new) }
     ensures err { IfErr result (TellsOfGiven S.language program.now items.now) }
 {
+    if is_apart {
+        return gather_one(program, runner, items, found);
+    }
     let conflicts = conflicts_of(alloc, program, items)?;
     if conflicts.is_empty() {
-        gather_one(program, runner, items, found)?;
-        return Ok(());
+        return gather_one(program, runner, items, found);
     }
     let constraints = constrained(alloc, program, items, conflicts)?;
     let Some(_orders) = count(alloc, &constraints)? else {
@@ -91,61 +96,55 @@ fn gather_items<S: Statement, A: Allocator + Copy, B: Allocator, R: OrderRunner<
 }
 
 /// Runs the one order that is given for items of which none conflict.
-fn gather_one<S: Statement, A: Allocator, B: Allocator, R: OrderRunner<A> + Drop>(
+fn gather_one<S: Statement, A: Allocator, B: Allocator, R: OrderRunner<A>>(
     program: &[Sequence<S, B>],
     runner: &mut R,
     items: &[Item],
     found: &mut Findings<A>,
-) -> Result<(), AllocError>
+) -> Result<(), ListFault>
     requires few { length items.now ≤ most_items }
     requires none { (constraints_of S.language program.now items.now).conflicts ≡ [] }
     ensures same { R.test runner.new ≡ R.test runner.old }
     ensures gathered { OnOk result (Gathers
         (EndsOfItems S.language (R.ends (R.test runner.old)) program.now items.now)
         (R.leads (R.test runner.old)) found.old found.new) }
+    ensures err { IfErr result (TellsOfGiven S.language program.now items.now) }
 {
     one_order_goes_up();
     let order = Order::ascending(items.len());
-    gather_order(runner, items, order.as_slice(), found)
+    gather_order(runner, items, order.as_slice(), found)?;
+    Ok(())
 }
 
 /// The outcomes of the choices visited so far.
 #[derive(Drop)]
-struct Gatherer<'a, S: Statement, A: Allocator, B: Allocator, R> {
+struct Gatherer<'a, 'r, S: Statement, A: Allocator, B: Allocator, R> {
     alloc: A,
     program: &'a [Sequence<S, B>],
     // Whether it is known beforehand that nothing conflicts.
     is_apart: bool,
     items: Vec<Item, A>,
-    runner: R,
+    runner: &'r mut R,
     found: Findings<A>,
     ghost apart: { is_apart ≡ true → (items : List Item) → (constraints_of S.language program.now items).conflicts ≡ [] },
 }
 
-impl<'a, S: Statement, A: Allocator + Copy, B: Allocator, R: OrderRunner<A> + Drop> Visitor
-    for Gatherer<'a, S, A, B, R> {
+impl<'a, 'r, S: Statement, A: Allocator + Copy, B: Allocator, R: OrderRunner<A>> Visitor
+    for Gatherer<'a, 'r, S, A, B, R> {
     type Fault = ListFault;
 
-    ghost visits = { λ v paths w. (w.program.now ≡ v.program.now) × (R.test w.runner ≡ R.test v.runner)
-        × Gathers (EndsOfChoice S.language (R.ends (R.test v.runner)) v.program.now paths) (R.leads (R.test v.runner)) v.found w.found };
+    ghost visits = { λ v paths w. (w.program.now ≡ v.program.now) × (R.test w.runner.now ≡ R.test v.runner.now)
+        × Gathers (EndsOfChoice S.language (R.ends (R.test v.runner.now)) v.program.now paths) (R.leads (R.test v.runner.now)) v.found w.found };
 
     ghost refuses = { λ v paths e. TellsOfChoice S.language v.program.now 0 paths e };
 
     fn visit(&mut self, choice: &Choice) -> Result<(), ListFault> {
         fill_few_items(self.program, choice, &mut self.items)?;
-        if self.is_apart {
-            gather_one(
-                self.program,
-                &mut self.runner,
-                self.items.as_slice(),
-                &mut self.found,
-            )?;
-            return Ok(());
-        }
         gather_items(
             self.alloc,
             self.program,
-            &mut self.runner,
+            self.is_apart,
+            self.runner,
             self.items.as_slice(),
             &mut self.found,
         )
@@ -153,18 +152,17 @@ impl<'a, S: Statement, A: Allocator + Copy, B: Allocator, R: OrderRunner<A> + Dr
 }
 
 /// The list of the outcomes of a program: what the orders end with that are given for its choices.
-pub(crate) fn list_program<
-    S: Statement,
-    A: Allocator + Copy,
-    B: Allocator,
-    R: OrderRunner<A> + Drop,
->(alloc: A, program: &[Sequence<S, B>], runner: R) -> Result<Listing<A>, ListFault>
+pub(crate) fn list_program<S: Statement, A: Allocator + Copy, B: Allocator, R: OrderRunner<A>>(
+    alloc: A,
+    program: &[Sequence<S, B>],
+    runner: &mut R,
+) -> Result<Listing<A>, ListFault>
     requires { IsVisitable S.language program.now }
     ensures within { OnOk result (IsWithinLimits S.language program.now) }
     ensures err { IfErr result (TellsLimit S.language program.now) }
     ensures sorted { IfOk result (λ l. IsStrictlySorted l) }
     ensures gathered { IfOk result (λ l. Gathers
-        (EndsOfProgram S.language (R.ends (R.test runner)) program.now) (R.leads (R.test runner)) [] l) }
+        (EndsOfProgram S.language (R.ends (R.test runner.old)) program.now) (R.leads (R.test runner.old)) [] l) }
 {
     check_limits(alloc, program)?;
     let mut gatherer = Gatherer {

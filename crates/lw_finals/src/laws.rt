@@ -12,8 +12,27 @@ ghost use Rattle.lw_tso.specs.Runs.{MachineOutcome};
 ghost use Rattle.lw_litmus.specs.Programs.{x86};
 ghost use Rattle.lw_choices.specs.Choices.{IsChoice};
 ghost use Rattle.lw_choices.specs.Items.{items_of, constraints_of};
+ghost use Rattle.lw_finals.specs.inner.Listed.{AreComplete, AreFlat};
 ghost use Rattle.lw_finals.specs.SourceRuns.{StaysAndEnds, ChoiceOutcome};
 ghost use Rattle.lw_finals.specs.X86Runs as machine;
+
+use lw_orders::orders_are_complete;
+use lw_whole::{
+    outcomes_over_caches_are_flat, replays_over_caches_are_flat,
+    replays_over_caches_are_of_their_test,
+};
+
+/// What the lists of both languages rest on: all orders are alike to one that is given, and over caches the machine is what it is
+/// over flat memory.
+pub(crate) fn lists_are_complete()
+    ensures complete { AreComplete }
+    ensures caches { (program : ProgramTest) → IsWellFormedProgram program → AreFlat program }
+{
+    orders_are_complete();
+    outcomes_over_caches_are_flat();
+    replays_over_caches_are_flat();
+    replays_over_caches_are_of_their_test();
+}
 
 /// Of two alike orders of the items of a choice that keep the fixed pairs, where one stays on the chosen paths the other does,
 /// and ends with the same outcome.

@@ -8,24 +8,23 @@ ghost use Rattle.lw_litmus.specs.Views.{source_of, program_of};
 ghost use Rattle.lw_choices.specs.Counts.{TellsLimit, IsWithinLimits};
 ghost use Rattle.lw_base.specs.Entries.{IsEntryOf};
 ghost use Rattle.lw_listing.specs.Listings.{outcomes_of, IsStrictlySorted};
+ghost use Rattle.lw_fence.specs.Compiling.{IsCompiled};
 ghost use Rattle.lw_finals.specs.Lists.{ListsMachine};
+ghost use Rattle.lw_finals.specs.inner.Listed.{IsComplete};
+ghost use Rattle.lw_memory.specs.Flat.{flat};
+ghost use Rattle.lw_tso.specs.Runs.{MachineOutcome};
 ghost use Rattle.lw_whole.specs.OverCaches.{ReplaysOverCaches, OutcomeOverCaches};
 ghost use Rattle.lw_litmus.specs.Sources.{source as source_language};
 ghost use Rattle.lw_litmus.specs.Programs.{x86};
 
 use crate::gather::list_program;
-use crate::laws::{alike_x86_orders_end_alike, x86_outcomes_are_those_of_choices};
+use crate::laws::lists_are_complete;
 use crate::source_runner::SourceRunner;
 use crate::x86_runner::X86Runner;
 use lw_choices::ListFault;
-use lw_fence::compile;
+use lw_fence::{Compiled, compile};
 use lw_listing::Listing;
 use lw_litmus::{Program, Source};
-use lw_orders::orders_are_complete;
-use lw_whole::{
-    outcomes_over_caches_are_flat, replays_over_caches_are_flat,
-    replays_over_caches_are_of_their_test,
-};
 use std::alloc::Allocator;
 
 /// The list of all final states of a source test, each with a schedule of the program that it is compiled to.
@@ -45,13 +44,27 @@ pub fn list_source<A: Allocator + Copy>(
     ensures within { OnOk result (IsWithinLimits source_language source.now.threads) }
     ensures limit { IfErr result (TellsLimit source_language source.now.threads) }
 {
-    orders_are_complete();
-    outcomes_over_caches_are_flat();
-    replays_over_caches_are_flat();
-    replays_over_caches_are_of_their_test();
     let compiled = compile(alloc, source)?;
-    let runner = SourceRunner::new(alloc, source, &compiled)?;
-    list_program(alloc, source.threads.as_slice(), runner)
+    list_compiled(alloc, source, &compiled)
+}
+
+/// The same list, with what the test is compiled to.
+fn list_compiled<A: Allocator + Copy>(
+    alloc: A,
+    source: &Source<A>,
+    compiled: &Compiled<A>,
+) -> Result<Listing<A>, ListFault>
+    requires compiled { IsCompiled (source_of source.now) (program_of compiled.now.program) compiled.now.starts }
+    requires outcomes { (o : Final)
+        → MachineOutcome flat (program_of compiled.now.program) compiled.now.program.head.init_words o ↔ SourceOutcome (source_of source.now) o }
+    ensures sorted { IfOk result (λ l. IsStrictlySorted l) }
+    ensures whole { IfOk result (IsComplete (SourceOutcome (source_of source.now)) (program_of compiled.now.program)) }
+    ensures within { OnOk result (IsWithinLimits source_language source.now.threads) }
+    ensures limit { IfErr result (TellsLimit source_language source.now.threads) }
+{
+    lists_are_complete();
+    let mut runner = SourceRunner::new(alloc, source, compiled)?;
+    list_program(alloc, source.threads.as_slice(), &mut runner)
 }
 
 /// The list of all final states of an x86 test on the whole machine, each with a schedule of steps and drains.
@@ -73,12 +86,7 @@ pub fn list_raw<A: Allocator + Copy>(
     ensures within { OnOk result (IsWithinLimits x86 program.now.threads) }
     ensures limit { IfErr result (TellsLimit x86 program.now.threads) }
 {
-    orders_are_complete();
-    outcomes_over_caches_are_flat();
-    replays_over_caches_are_flat();
-    replays_over_caches_are_of_their_test();
-    alike_x86_orders_end_alike();
-    x86_outcomes_are_those_of_choices();
-    let runner = X86Runner::new(alloc, program)?;
-    list_program(alloc, program.threads.as_slice(), runner)
+    lists_are_complete();
+    let mut runner = X86Runner::new(alloc, program)?;
+    list_program(alloc, program.threads.as_slice(), &mut runner)
 }

@@ -5,7 +5,8 @@ ghost use Rattle.lw_interleaving.specs.Runs.{State};
 ghost use Rattle.lw_litmus.specs.Views.{source_of, program_of};
 ghost use Rattle.lw_finals.specs.SourceRuns.{CarriedOut, StaysAndEnds};
 ghost use Rattle.lw_choices.specs.Items.{item_at};
-ghost use Rattle.lw_finals.specs.inner.SourceRunners.{CompiledSource, IsThere, item_events, leads_flat};
+ghost use Rattle.lw_finals.specs.X86Runs.{LeadsFlat};
+ghost use Rattle.lw_finals.specs.inner.SourceRunners.{CompiledSource, IsThere, item_events};
 
 use crate::runner::{OrderRunner, copy_outcome};
 use lw_base::{Event, Outcome, Sequence};
@@ -31,11 +32,13 @@ impl<'a, A: Allocator> Model for SourceRunner<'a, A> {
     ghost use Rattle.lw_fence.specs.Compiling.{IsCompiled};
     ghost use Rattle.lw_interleaving.specs.Runs.{start_of};
     ghost use Rattle.lw_litmus.specs.Views.{source_of, program_of};
-    ghost use Rattle.lw_finals.specs.inner.SourceRunners.{SourceRunning};
+    ghost use Rattle.lw_finals.specs.X86Runs.{LeadsFlat};
+    ghost use Rattle.lw_finals.specs.inner.Gathered.{Running};
+    ghost use Rattle.lw_finals.specs.inner.SourceRunners.{CompiledSource};
     ghost use Rattle.std.specs.Coded.{codes};
     ghost use Rattle.lw_finals.specs.inner.Codes.{formula_code};
 
-    ghost Value = { SourceRunning };
+    ghost Value = { Running CompiledSource };
 
     ghost coded = { Prim.hlevel (codes, formula_code) };
 
@@ -122,7 +125,7 @@ impl<'a, A: Allocator + Copy> OrderRunner<A> for SourceRunner<'a, A> {
 
     ghost ends = { λ t. StaysAndEnds t.source };
 
-    ghost leads = { leads_flat };
+    ghost leads = { λ t. LeadsFlat t.program };
 
     ghost end = { λ r. r.end };
 

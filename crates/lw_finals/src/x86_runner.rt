@@ -14,7 +14,7 @@ use lw_choices::Item;
 use lw_litmus::Program;
 use lw_memory::MemorySystem;
 use lw_mesi::{Mesi, empty_caches_are_kept};
-use lw_tso::{Machine, events_are_flat, flat_events_are_determined};
+use lw_tso::{Machine, events_are_flat};
 use std::alloc::{AllocError, Allocator};
 use std::marker::Model;
 
@@ -32,9 +32,10 @@ impl<'a, A: Allocator> Model for X86Runner<'a, A> {
     ghost use Rattle.std.specs.Coded.{codes};
     ghost use Rattle.lw_litmus.specs.Views.{program_of};
     ghost use Rattle.lw_finals.specs.inner.Codes.{formula_code};
-    ghost use Rattle.lw_finals.specs.inner.X86Runners.{X86Running};
+    ghost use Rattle.lw_finals.specs.inner.Gathered.{Running};
+    ghost use Rattle.lw_litmus.specs.Tests.{ProgramTest};
 
-    ghost Value = { X86Running };
+    ghost Value = { Running ProgramTest };
 
     ghost coded = { Prim.hlevel (codes, formula_code) };
 
@@ -114,18 +115,28 @@ fn carry_out<M: MemorySystem, A: Allocator, B: Allocator>(
     machine.step(event_of(item)).is_ok()
 }
 
+/// The outcome of a test that does nothing: its initial words.
+fn first_outcome<A: Allocator + Copy>(program: &Program<A>) -> Result<Outcome<A>, AllocError>
+    ensures { IfOk result (λ o. o ≡ record { regs = program.now.head.init_regs; words = program.now.head.init_words }) }
+{
+    Ok(Outcome {
+        regs: program.head.init_regs.copy()?,
+        words: program.head.init_words.copy()?,
+    })
+}
+
 impl<'a, A: Allocator + Copy> X86Runner<'a, A> {
     /// A runner of an x86 test.
     pub(crate) fn new(alloc: A, program: &'a Program<A>) -> Result<Self, AllocError>
         ensures test { IfOk result (λ r. r.test ≡ program_of program.now) }
     {
         empty_caches_are_kept();
+        let end = first_outcome(program)?;
         let words = program.head.init_words.as_slice();
         let caches: Mesi<A> = Mesi::new(alloc, program.head.threads, words)?;
         let Ok(machine) = Machine::new(alloc, program, caches) else {
             return Err(AllocError);
         };
-        let end = machine.outcome()?;
         Ok(X86Runner {
             alloc,
             program,
@@ -150,7 +161,6 @@ impl<'a, A: Allocator + Copy> OrderRunner<A> for X86Runner<'a, A> {
 
     fn run(&mut self, items: &[Item], order: &[u8]) -> bool {
         events_are_flat::<Mesi<A>>();
-        flat_events_are_determined();
         let threads = self.program.threads.len();
         self.machine.restart();
         for number in order {

@@ -8,7 +8,12 @@ use Rattle.lw_choices.specs.declared.item.Item.{Item}
 use Rattle.lw_choices.specs.Choices.{choices_of}
 use Rattle.lw_litmus.specs.Languages.{Language}
 use Rattle.lw_choices.specs.Items.{items_of, constraints_of}
-use Rattle.lw_listing.specs.Listings.{Entries, outcomes_of}
+use Rattle.lw_listing.specs.Listings.{OutcomeEntries, outcomes_of}
+
+-- What runs orders: a test, with the outcome with which its last run ended.
+pub record Running (Test : Type 0) : Type 0 where
+  pub test : Test
+  pub end : Final
 
 -- Of a run, whether it stayed on its paths to a final state, and what it ended with: if it did, exactly that is an end; if it
 -- did not, there is none.
@@ -18,19 +23,19 @@ RanSo Ends false end = (o : Final) → Ends o → ⊥
 
 -- Entries have grown: all ends are among them now, those from before are left, and where each schedule led to its outcome each
 -- still does.
-pub record Gathers (Ends : Final → Type 0) (Leads : List Event → Final → Type 0) (old new : Entries) : Type 0 where
+pub record Gathers (Ends : Final → Type 0) (Leads : List Event → Final → Type 0) (old new : OutcomeEntries) : Type 0 where
   pub covered : (o : Final) → Ends o → Contains (outcomes_of new) o
   pub kept : (o : Final) → Contains (outcomes_of old) o → Contains (outcomes_of new) o
   pub lead : All (λ e. Leads e.1 e.0) old → All (λ e. Leads e.1 e.0) new
 
--- what one of some orders ends with
-abbrev pub EndsOfOrders : (List ℕ → Final → Type 0) → List (List ℕ) → Final → Type 0
-EndsOfOrders Ends given o = (order : List ℕ) × Contains given order × Ends order o
+-- what one of some orders, or of some choices, ends with
+abbrev pub EndsOfOne : {X : Type 0} → (X → Final → Type 0) → List X → Final → Type 0
+EndsOfOne {X} Ends xs o = (x : X) × Contains xs x × Ends x o
 
 module _ {S : Type 0} (language : Language S) (Ends : List Item → List ℕ → Final → Type 0) (program : List (List S)) where
   -- what one of the orders that are given for items ends with
   abbrev pub EndsOfItems : List Item → Final → Type 0
-  EndsOfItems items = EndsOfOrders (Ends items) (orders (constraints_of language program items))
+  EndsOfItems items = EndsOfOne (Ends items) (orders (constraints_of language program items))
 
   -- the same for the items of a choice
   abbrev pub EndsOfChoice : List (List ℕ) → Final → Type 0
@@ -38,4 +43,4 @@ module _ {S : Type 0} (language : Language S) (Ends : List Item → List ℕ →
 
   -- and for one of all choices
   abbrev pub EndsOfProgram : Final → Type 0
-  EndsOfProgram o = (paths : List (List ℕ)) × Contains (choices_of language program) paths × EndsOfChoice paths o
+  EndsOfProgram = EndsOfOne EndsOfChoice (choices_of language program)

@@ -3,25 +3,18 @@
 use Rattle.std.specs.Prelude.{ℕ, ◌<◌, List, length, map, slice_get}
 use Rattle.std.specs.List.{flat_map}
 use Rattle.lw_base.specs.Threads.{code_of}
-use Rattle.lw_base.specs.Outcomes.{Final}
 use Rattle.lw_base.specs.declared.event.Event.{Event}
 use Rattle.lw_litmus.specs.Tests.{SourceTest, ProgramTest}
 use Rattle.lw_fence.specs.Schedules.{statement_events}
 use Rattle.lw_litmus.specs.declared.stmt.Stmt.{Stmt}
 use Rattle.lw_choices.specs.declared.item.Item.{Item}
 use Rattle.lw_choices.specs.Items.{item_at}
-use Rattle.lw_finals.specs.X86Runs.{LeadsFlat}
 
 -- a source test, the program that it is compiled to, and where its statements start
 pub record CompiledSource : Type 0 where
   pub source : SourceTest
   pub program : ProgramTest
   pub starts : List (List ℕ)
-
--- and the outcome with which its last run ended
-pub record SourceRunning : Type 0 where
-  pub test : CompiledSource
-  pub end : Final
 
 -- the threads of an order's items
 abbrev pub threads_of : List Item → List ℕ → List ℕ
@@ -39,7 +32,3 @@ events_at program starts item =
 -- those of an order's items, one after another
 abbrev pub item_events : List (List Stmt) → List (List ℕ) → List Item → List ℕ → List Event
 item_events program starts items order = flat_map (λ i. events_at program starts (item_at items i)) order
-
--- A schedule without evictions replays over flat memory, in the compiled program, to an outcome.
-abbrev pub leads_flat : CompiledSource → List Event → Final → Type 0
-leads_flat t = LeadsFlat t.program

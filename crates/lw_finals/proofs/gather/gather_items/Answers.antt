@@ -3,8 +3,8 @@ use Rattle.lw_choices.specs.Items.{constraints_of}
 use Rattle.lw_finals.proofs.Gathering.{nothing_in}
 use Rattle.lw_finals.proofs.gather.gather_items.Goals as goal
 
-pub gather_one-requires-clause-none : goal.gather_one-requires-clause-none
-gather_one-requires-clause-none g c =
+pub gather_one-requires-then-is_empty-clause-none : goal.gather_one-requires-then-is_empty-clause-none
+gather_one-requires-then-is_empty-clause-none g c =
     let conflicts : c.in_ok-conflicts.conflicts.items ≡ (constraints_of g.S.Statement.language c.args.program.now c.args.items.now).conflicts =
     c.in_ok-conflicts.ensures in
     let none : c.in_ok-conflicts.conflicts.items ≡ [] = nothing_in c.in_ok-conflicts.conflicts.items

@@ -1,6 +1,5 @@
 use Rattle.std.proofs.Common.{length, ap, ◌∙◌}
 use Rattle.std.specs.Prelude.{filter, not}
-use Rattle.std.proofs.lemmas.Result.{on_ok_weaker}
 use Rattle.lw_orders.specs.Order.{is_decided}
 use Rattle.lw_orders.specs.Sequence.{numbers}
 use Rattle.lw_choices.specs.Items.{constraints_of}
@@ -16,7 +15,6 @@ returns-clause-gathered g c =
     let items = c.args.items.now in
     let one = c.one_order_goes_up.ensures (constraints_of g.S.Statement.language c.args.program.now items)
     (constraints_well_formed g.S.Statement.language c.args.program.now items c.requires.few) in
-    let given = rw (c.as_slice.ensures ∙ c.ascending-order.ensures) at c.gather_order.ensures.gathered in
-    on_ok_weaker c.gather_order.result (λ gathered.
+    let given = rw (c.as_slice.ensures ∙ c.ascending-order.ensures) at c.in_ok-gather_order.ensures.gathered in
     gathered_alone (g.R.OrderRunner.ends (g.R.OrderRunner.test c.args.runner.now) items) _ _ (numbers 0 (length items)) _ _
-    (one (ap (filter (λ p. not (is_decided (constraints_of g.S.Statement.language c.args.program.now items).fixed p))) c.requires.none)) gathered) given
+    (one (ap (filter (λ p. not (is_decided (constraints_of g.S.Statement.language c.args.program.now items).fixed p))) c.requires.none)) given

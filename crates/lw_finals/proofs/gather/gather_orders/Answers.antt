@@ -1,20 +1,20 @@
-use Rattle.std.proofs.Common.{ℕ, List, length, ◌<◌, sym, ◌∙◌, subst}
+use Rattle.std.proofs.Common.{ℕ, List, length, ◌<◌, refl, sym, ◌∙◌, subst}
 use Rattle.std.specs.Prelude.{All, Contains}
 use Rattle.std.proofs.lemmas.List.Elements.{All-contains}
 use Rattle.lw_orders.specs.Progress.{Progress}
-use Rattle.lw_finals.proofs.Gathering.{next_in, up_to_more}
+use Rattle.lw_choices.proofs.api.Members.{Contains-here}
+use Rattle.lw_finals.proofs.Gathering.{up_to_more}
 use Rattle.lw_finals.proofs.gather.gather_orders.Goals as goal
 
 pub gather_order-requires : goal.gather_order-requires
 gather_order-requires g c =
-    let ends = g.R.OrderRunner.ends (g.R.OrderRunner.test c.args.runner.now) c.args.items.now in
-    let leads = g.R.OrderRunner.leads (g.R.OrderRunner.test c.args.runner.now) in
     let all = c.into_iter-order-iterator.result.to_come in
     let each : All (λ order. All (λ i. i < c.args.constraints.now.len) order) all =
     subst (λ (p : Progress). All (λ order. All (λ i. i < c.args.constraints.now.len) order) p.to_come)
     (sym c.into_iter-order-iterator.ensures.into_iter_gives) c.in_ok-order-items.ensures.within in
-    let there : Contains all c.in-Some.order = next_in ends leads all c.args.found.now c.loop-order.order-iterator.to_come c.next.new.self.to_come
-    c.loop-order.found c.in-Some.order c.in-Some.ensures.steps.first c.loop-order.invariant.run in
+    let first : Contains c.loop-order.order-iterator.to_come c.in-Some.order = subst (λ (xs : List (List ℕ)). Contains xs c.in-Some.order)
+    (sym c.in-Some.ensures.steps.first) (Contains-here c.in-Some.order c.in-Some.order c.next.new.self.to_come refl) in
+    let there : Contains all c.in-Some.order = c.loop-order.invariant.run.among c.in-Some.order first in
     let below : All (λ i. i < c.args.constraints.now.len) c.in-Some.order = All-contains
     (λ order. All (λ i. i < c.args.constraints.now.len) order) all c.in-Some.order each there in
     subst (λ (xs : List ℕ). All (λ i. i < length c.args.items.now) xs) (sym c.as_slice.ensures)

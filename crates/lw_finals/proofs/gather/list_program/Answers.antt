@@ -18,13 +18,13 @@ returns-in_err-visit_choices-clause-err g c =
 
 pub returns-clause-gathered : goal.returns-clause-gathered
 returns-clause-gathered g c =
-    let leads = g.R.OrderRunner.leads (g.R.OrderRunner.test c.args.runner) in
+    let leads = g.R.OrderRunner.leads (g.R.OrderRunner.test c.args.runner.now) in
     let gathered : Gathers (EndsOfProgram g.S.Statement.language
-    (g.R.OrderRunner.ends (g.R.OrderRunner.test c.args.runner)) c.args.program.now) leads c.new-2.result c.visit_choices.new.visitor.found =
+    (g.R.OrderRunner.ends (g.R.OrderRunner.test c.args.runner.now)) c.args.program.now) leads c.new-2.result c.visit_choices.new.visitor.found =
     visits_gather (List (List g.row.S.Denot) × g.R.OrderRunner.Test)
-    (λ (v : Gatherer g.row.S.Denot g.row.A.Denot g.row.B.Denot g.row.R.Denot g.S.Statement). (v.program.now, g.R.OrderRunner.test v.runner))
+    (λ (v : Gatherer g.row.S.Denot g.row.A.Denot g.row.B.Denot g.row.R.Denot g.S.Statement). (v.program.now, g.R.OrderRunner.test v.runner.now))
     (λ (v : Gatherer g.row.S.Denot g.row.A.Denot g.row.B.Denot g.row.R.Denot g.S.Statement). v.found) _
     (λ t. EndsOfChoice g.S.Statement.language (g.R.OrderRunner.ends t.1) t.0) (λ t. g.R.OrderRunner.leads t.1)
-    (λ v paths w h. ((λ i. (h.0 i, h.1 i)), h.2)) (c.args.program.now, g.R.OrderRunner.test c.args.runner) _ _ _ refl c.in_ok-visit_choices.ensures.ok in
+    (λ v paths w h. ((λ i. (h.0 i, h.1 i)), h.2)) (c.args.program.now, g.R.OrderRunner.test c.args.runner.now) _ _ _ refl c.in_ok-visit_choices.ensures.ok in
     let from_none = rw c.new-2.ensures at gathered in
     gathered_sorted leads _ _ _ _ c.in_ok-into_listing.ensures.same from_none (All-permutation (λ e. leads e.1 e.0) _ _ c.in_ok-into_listing.ensures.same)

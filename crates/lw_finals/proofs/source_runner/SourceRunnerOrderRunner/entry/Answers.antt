@@ -5,7 +5,9 @@ use Rattle.lw_litmus.specs.Tests.{SourceTest}
 use Rattle.lw_litmus.specs.Views.{source_of, program_of}
 use Rattle.lw_interleaving.specs.Runs.{start_of}
 use Rattle.lw_finals.specs.SourceRuns.{StaysAndEnds}
-use Rattle.lw_finals.specs.inner.SourceRunners.{CompiledSource, SourceRunning, leads_flat}
+use Rattle.lw_finals.specs.X86Runs.{LeadsFlat}
+use Rattle.lw_finals.specs.inner.Gathered.{Running}
+use Rattle.lw_finals.specs.inner.SourceRunners.{CompiledSource}
 use Rattle.lw_finals.proofs.SourceRunners.{all_there, leads}
 use Rattle.lw_finals.proofs.source_runner.SourceRunnerOrderRunner.entry.Goals as goal
 
@@ -14,8 +16,8 @@ schedule_of_items-requires-clause-there g c =
     let source = c.self.inside.source.now in let items = c.args.items.now in let order = c.args.order.now in
     let run : StaysAndEnds (source_of source) items order c.args.self.now.end =
     subst (λ (s : SourceTest). StaysAndEnds s items order c.args.self.now.end)
-    (sym (ap (λ (r : SourceRunning). r.test.source) c.self.view_is)) c.requires.ran in
-    all_there source.threads items order (start_of (source_of source)) run.end run.ran
+    (sym (ap (λ (r : Running CompiledSource). r.test.source) c.self.view_is)) c.requires.ran in
+    all_there (source_of source) items order (start_of (source_of source)) run.end run.ran
 
 pub returns-clause-leads : goal.returns-clause-leads
 returns-clause-leads g c =
@@ -23,13 +25,13 @@ returns-clause-leads g c =
     let items = c.args.items.now in let order = c.args.order.now in
     let test : CompiledSource = record { source = source_of source; program = program_of compiled.program; starts = compiled.starts } in
     let end = c.args.self.now.end in
-    let same : test ≡ c.args.self.now.test = ap (λ (r : SourceRunning). r.test) c.self.view_is in
+    let same : test ≡ c.args.self.now.test = ap (λ (r : Running CompiledSource). r.test) c.self.view_is in
     let run : StaysAndEnds (source_of source) items order end =
     subst (λ (s : SourceTest). StaysAndEnds s items order end) (sym (ap (λ (t : CompiledSource). t.source) same)) c.requires.ran in
     let events = c.in_ok-events.events.items in
-    let led : leads_flat test events end = leads test items order events end run c.in_ok-events.ensures
+    let led : LeadsFlat test.program events end = leads test items order events end run c.in_ok-events.ensures
     (λ p runs. c.schedules_replay.ensures (source_of source) (program_of compiled.program) compiled.starts _ p source.well_formed c.self.invariant.0 runs) in
-    let told : leads_flat test c.from.result end = subst (λ (es : List Event). leads_flat test es end) (sym c.from.ensures) led in
-    let at : leads_flat c.args.self.now.test c.from.result end = subst (λ (t : CompiledSource). leads_flat t c.from.result end) same told in
-    subst (λ (o : Final). leads_flat c.args.self.now.test c.from.result o)
-    (sym (c.in_ok-outcome.ensures ∙ ap (λ (r : SourceRunning). r.end) c.self.view_is)) at
+    let told : LeadsFlat test.program c.from.result end = subst (λ (es : List Event). LeadsFlat test.program es end) (sym c.from.ensures) led in
+    let at : LeadsFlat c.args.self.now.test.program c.from.result end = subst (λ (t : CompiledSource). LeadsFlat t.program c.from.result end) same told in
+    subst (λ (o : Final). LeadsFlat c.args.self.now.test.program c.from.result o)
+    (sym (c.in_ok-outcome.ensures ∙ ap (λ (r : Running CompiledSource). r.end) c.self.view_is)) at

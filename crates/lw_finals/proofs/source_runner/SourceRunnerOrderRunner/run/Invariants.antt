@@ -1,7 +1,7 @@
 use Rattle.std.proofs.Common.{◌≡◌, length}
 use Rattle.lw_litmus.specs.Views.{source_of}
 use Rattle.lw_interleaving.specs.Runs.{start_of}
-use Rattle.lw_finals.specs.SourceRuns.{CarriedOut}
+use Rattle.lw_finals.specs.SourceRuns.{system_of}
 use Rattle.lw_finals.proofs.OrderSteps.{RanFirst}
 use Rattle.lw_finals.proofs.source_runner.SourceRunnerOrderRunner.run.Given as goal
 
@@ -16,6 +16,5 @@ invariant-loop-number g l =
       start : l.self-inside.run.start ≡ start_of (source_of l.initial.self-inside.source.now);
       many : length l.self-inside.run.state.threads ≡ length l.initial.self-inside.source.now.threads;
       words : length l.self-inside.run.state.words ≡ length l.initial.self-inside.source.now.head.locs;
-      ran : RanFirst (CarriedOut l.initial.self-inside.source.now.threads) l.items l.order l.number-index
-          (start_of (source_of l.initial.self-inside.source.now)) l.self-inside.run.state;
+      ran : RanFirst (system_of (source_of l.initial.self-inside.source.now)) l.items l.order l.number-index l.self-inside.run.state;
     }

@@ -11,7 +11,7 @@ invariant-loop-number g l =
     record {
       program : l.self-inside.program ≡ l.initial.self-inside.program;
       end : l.self-inside.end ≡ l.initial.self-inside.end;
-      threads : l.self-inside.machine.program ≡ l.initial.self-inside.machine.program;
+      threads : l.self-inside.machine.program ≡ l.initial.self-inside.program.now.threads;
       initial : l.self-inside.machine.initial ≡ l.initial.self-inside.machine.initial;
       processors : length l.self-inside.machine.state.processors ≡ length l.initial.self-inside.machine.state.processors;
       words : length ((caches_by Mesi).content l.self-inside.machine.state.memory) ≡ length
