@@ -13,7 +13,8 @@ use Rattle.lw_text.proofs.api.Numbers.{number_first, bracket_no_number, number-u
 pub number_no_name : (w : Bytes) (n : ℕ) → IsNumber w n → IsName w → ⊥
 number_no_name w n p q = let h = number_first w n p in let k = q.0.front in cc
 
-pub value_none : (ts l m : TokenList) (t : Bytes) → ts ≡ codes "=" ∷ l → l ≡ t ∷ m → ((n : ℕ) → IsNumber t n → ⊥) → (v : ℕ) (rest : TokenList) → Value ts v rest → ⊥
+pub value_none : (ts l m : TokenList) (t : Bytes) → ts ≡ codes "=" ∷ l → l ≡ t ∷ m → ((n : ℕ) → IsNumber t n → ⊥) → (v : ℕ) (rest : TokenList)
+    → Value ts v rest → ⊥
 value_none ts l m t e f none v rest p =
     let g = p.1 in
     let i : p.0 ≡ t = cc in
@@ -39,10 +40,14 @@ IsSite-unique arch ts (InMemory x) (InMemory y) r s (p, inl e) (q, inl f) = let 
 IsSite-unique arch ts (InMemory x) (InMemory y) r s (p, inl e) (q, inr f) = let k : x ≡ codes "[" = cc in absurd (bracket_no_name (subst IsName k p.0))
 IsSite-unique arch ts (InMemory x) (InMemory y) r s (p, inr e) (q, inl f) = let k : y ≡ codes "[" = cc in absurd (bracket_no_name (subst IsName k q.0))
 IsSite-unique arch ts (InMemory x) (InMemory y) r s (p, inr e) (q, inr f) = let k : x ≡ y = cc in (ap InMemory k, cc)
-IsSite-unique arch ts (InMemory x) (InThread t n) r s (p, inl e) q = let f = q.2 in let k : x ≡ q.0 = cc in absurd (number_no_name q.0 t q.3 (subst IsName k p.0))
-IsSite-unique arch ts (InMemory x) (InThread t n) r s (p, inr e) q = let f = q.2 in let k : q.0 ≡ codes "[" = cc in absurd (bracket_no_number t (subst (λ w. IsNumber w t) k q.3))
-IsSite-unique arch ts (InThread t n) (InMemory x) r s p (q, inl e) = let f = p.2 in let k : x ≡ p.0 = cc in absurd (number_no_name p.0 t p.3 (subst IsName k q.0))
-IsSite-unique arch ts (InThread t n) (InMemory x) r s p (q, inr e) = let f = p.2 in let k : p.0 ≡ codes "[" = cc in absurd (bracket_no_number t (subst (λ w. IsNumber w t) k p.3))
+IsSite-unique arch ts (InMemory x) (InThread t n) r s (p, inl e) q = let f = q.2 in let k : x ≡ q.0 = cc in absurd
+    (number_no_name q.0 t q.3 (subst IsName k p.0))
+IsSite-unique arch ts (InMemory x) (InThread t n) r s (p, inr e) q = let f = q.2 in let k : q.0 ≡ codes "[" = cc in absurd
+    (bracket_no_number t (subst (λ w. IsNumber w t) k q.3))
+IsSite-unique arch ts (InThread t n) (InMemory x) r s p (q, inl e) = let f = p.2 in let k : x ≡ p.0 = cc in absurd
+    (number_no_name p.0 t p.3 (subst IsName k q.0))
+IsSite-unique arch ts (InThread t n) (InMemory x) r s p (q, inr e) = let f = p.2 in let k : p.0 ≡ codes "[" = cc in absurd
+    (bracket_no_number t (subst (λ w. IsNumber w t) k p.3))
 IsSite-unique arch ts (InThread t n) (InThread u m) r s p q =
     let f = p.2 in
     let g = q.2 in
@@ -58,7 +63,8 @@ IsSite-shorter arch ts rest (InMemory x) (p, inr e) = omega (arith, ap length e)
 IsSite-shorter arch ts rest (InThread t r) p = omega (arith, ap length p.2)
 
 -- a site begins with a name, a number or a `[`
-pub site_front : (arch : Arch) (ts rest : TokenList) (s : SiteSyntax) → IsSite arch ts s rest → (t : Bytes) (l : TokenList) → ts ≡ t ∷ l → IsName t ⊎ (((n : ℕ) × IsNumber t n) ⊎ (t ≡ codes "["))
+pub site_front : (arch : Arch) (ts rest : TokenList) (s : SiteSyntax) → IsSite arch ts s rest → (t : Bytes) (l : TokenList) → ts ≡ t ∷ l
+    → IsName t ⊎ (((n : ℕ) × IsNumber t n) ⊎ (t ≡ codes "["))
 site_front arch ts rest (InMemory x) (p, inl e) t l f = let k : x ≡ t = cc in inl (subst IsName k p.0)
 site_front arch ts rest (InMemory x) (p, inr e) t l f = inr (inr cc)
 site_front arch ts rest (InThread u r) p t l f = let g = p.2 in let k : p.0 ≡ t = cc in inr (inl (u, subst (λ w. IsNumber w u) k p.3))

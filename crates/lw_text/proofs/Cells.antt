@@ -8,13 +8,15 @@ use Rattle.lw_base.specs.Types.{Bytes, TokenList, Cells, CellGrid}
 use Rattle.lw_text.specs.Lists.{Separated, Until}
 use Rattle.lw_text.specs.Rows.{ends_cell, Cell, Row, begins_stop, Rows}
 use Rattle.lw_text.proofs.Texts.{is_text, marks_apart}
-use Rattle.lw_text.proofs.Lists.{Passed, Passed-push, Passed-stop, Passed-peel, Until-unique, Before, Before-push, Before-close, Before-fault, IsMark, IsExact, Separated-front, Separated-unique}
+use Rattle.lw_text.proofs.Lists.{Passed, Passed-push, Passed-stop, Passed-peel, Until-unique, Before, Before-push, Before-close, Before-fault, IsMark, IsExact}
+use Rattle.lw_text.proofs.Lists.{Separated-front, Separated-unique}
 
 abbrev pub Plain : TokenList → Type 0
 Plain c = AllByRecursion (λ t. ends_cell t ≡ false) c
 
 -- up to its first end a row of tokens is read in one way
-split-unique : (w v : TokenList) (a b : Bytes) (r s : TokenList) → Plain w → Plain v → ends_cell a ≡ true → ends_cell b ≡ true → w ++ a ∷ r ≡ v ++ b ∷ s → (w ≡ v) × (a ≡ b) × (r ≡ s)
+split-unique : (w v : TokenList) (a b : Bytes) (r s : TokenList) → Plain w → Plain v → ends_cell a ≡ true → ends_cell b ≡ true → w ++ a ∷ r ≡ v ++ b ∷ s
+    → (w ≡ v) × (a ≡ b) × (r ≡ s)
 split-unique [] [] a b r s p q m n e = (refl, cc, cc)
 split-unique [] (c ∷ v) a b r s p q m n e = absurd (let k : a ≡ c = cc in let h : ends_cell a ≡ ends_cell c = ap ends_cell k in cc (q.0))
 split-unique (c ∷ w) [] a b r s p q m n e = absurd (let k : c ≡ b = cc in let h : ends_cell c ≡ ends_cell b = ap ends_cell k in cc (p.0))
@@ -61,8 +63,10 @@ module _ (ts here : TokenList) (cells : Cells) (before : Before Cell (codes "|")
     Cells-closed e = Before-close Cell (codes "|") (codes ";") cells ts here next cell before (subst (λ m. here ≡ cell ++ m ∷ next) e parts, plain)
 
 -- a row of another number of cells is no line
-pub Row-ragged : (ts next : TokenList) (cells : Cells) → Separated Cell (codes "|") (codes ";") ts cells next → (threads : ℕ) → (length cells ≡ threads → ⊥) → (all : Cells) (rest : TokenList) → Row threads ts all rest → ⊥
-Row-ragged ts next cells row threads ne all rest line = ne (ap length (Separated-unique Cell (codes "|") (codes ";") Cell-exact marks_apart cells all ts next rest row line.0).0 ∙ line.1)
+pub Row-ragged : (ts next : TokenList) (cells : Cells) → Separated Cell (codes "|") (codes ";") ts cells next → (threads : ℕ)
+    → (length cells ≡ threads → ⊥) → (all : Cells) (rest : TokenList) → Row threads ts all rest → ⊥
+Row-ragged ts next cells row threads ne all rest line = ne (ap length
+    (Separated-unique Cell (codes "|") (codes ";") Cell-exact marks_apart cells all ts next rest row line.0).0 ∙ line.1)
 
 -- ---- rows
 
@@ -81,11 +85,13 @@ module _ (threads : ℕ) (ts here : TokenList) (rows : CellGrid) (passed : Passe
   pub Rows-found : begins_stop here ≡ true → length rows ≤ 64 → Rows threads ts rows here
   Rows-found stop few = (Passed-stop begins_stop (Row threads) rows ts here passed stop, few)
 
-  pub Rows-more : (next : TokenList) (row : Cells) → begins_stop here ≡ false → Row threads here row next → Passed begins_stop (Row threads) ts (rows ++ row ∷ []) next
+  pub Rows-more : (next : TokenList) (row : Cells) → begins_stop here ≡ false → Row threads here row next
+      → Passed begins_stop (Row threads) ts (rows ++ row ∷ []) next
   Rows-more next row go line = Passed-push begins_stop (Row threads) rows ts here next row passed go line
 
   -- where no row stands and none may end, there are no rows
-  pub Rows-fault : begins_stop here ≡ false → ((row : Cells) (mid : TokenList) → Row threads here row mid → ⊥) → (all : CellGrid) (rest : TokenList) → Rows threads ts all rest → ⊥
+  pub Rows-fault : begins_stop here ≡ false → ((row : Cells) (mid : TokenList) → Row threads here row mid → ⊥) → (all : CellGrid) (rest : TokenList)
+      → Rows threads ts all rest → ⊥
   Rows-fault go never all rest r =
       let peel = Passed-peel begins_stop (Row threads) (Row-one threads) rows all ts here rest passed r.0 in
       at peel.0 peel.2

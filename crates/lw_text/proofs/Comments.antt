@@ -1,5 +1,6 @@
 -- How comments that are open are closed.
-use Rattle.std.proofs.Common.{◌≡◌, ℕ, zero, suc, ◌+◌, ◌-◌, ◌<◌, ◌≤◌, ◌⊎◌, inl, inr, true, false, [], ◌∷◌, ◌++◌, length, append_assoc, refl, sym, ap, ◌∙◌, subst, arith, add-one, sub-one}
+use Rattle.std.proofs.Common.{◌≡◌, ℕ, zero, suc, ◌+◌, ◌-◌, ◌<◌, ◌≤◌, ◌⊎◌, inl, inr, true, false, [], ◌∷◌, ◌++◌, length, append_assoc, refl, sym, ap, ◌∙◌, subst}
+use Rattle.std.proofs.Common.{arith, add-one, sub-one}
 use Rattle.lw_base.specs.Types.{Bytes}
 use Rattle.lw_text.specs.Tokens.{begins_pair, begins_mark, Comment, closed, nested, other}
 
@@ -89,7 +90,8 @@ Progress-open {bytes} {rest} {after} {depth} p e = rw add-one (record {
   bound = omega (arith, p.bound, ap length e);
 })
 
-pub Progress-close : {bytes rest after : Bytes} {depth : ℕ} → Progress bytes depth rest → rest ≡ 42 ∷ 41 ∷ after → (depth ≡ 0 → ⊥) → Progress bytes (depth - 1) after
+pub Progress-close : {bytes rest after : Bytes} {depth : ℕ} → Progress bytes depth rest → rest ≡ 42 ∷ 41 ∷ after → (depth ≡ 0 → ⊥)
+    → Progress bytes (depth - 1) after
 Progress-close {depth = zero} p e ne = absurd (ne refl)
 Progress-close {bytes} {rest} {after} {depth = suc depth} p e ne = rw sub-one (record {
   given = λ end c. p.given end (after, rw e closed, c);
@@ -100,7 +102,8 @@ Progress-close {bytes} {rest} {after} {depth = suc depth} p e ne = rw sub-one (r
 pub Progress-done : {bytes rest after : Bytes} {depth : ℕ} → Progress bytes depth rest → rest ≡ 42 ∷ 41 ∷ after → depth ≡ 0 → Comment bytes after
 Progress-done {bytes} {rest} {after} {depth} p e z = p.given after (after, rw e closed, rw z refl)
 
-pub Progress-other : {bytes rest next : Bytes} {depth b : ℕ} → Progress bytes depth rest → rest ≡ b ∷ next → begins_pair 40 42 rest ≡ false → begins_pair 42 41 rest ≡ false → Progress bytes depth next
+pub Progress-other : {bytes rest next : Bytes} {depth b : ℕ} → Progress bytes depth rest → rest ≡ b ∷ next → begins_pair 40 42 rest ≡ false
+    → begins_pair 42 41 rest ≡ false → Progress bytes depth next
 Progress-other {bytes} {rest} {next} {depth} {b} p e m n =
     let mark : begins_mark (b ∷ next) ≡ false = subst (λ x. begins_mark x ≡ false) e (no_mark rest m n) in
     record {
@@ -109,10 +112,8 @@ Progress-other {bytes} {rest} {next} {depth} {b} p e m n =
       bound = omega (arith, p.bound, ap length e);
     }
 
-pub Progress-none : {bytes rest : Bytes} {depth : ℕ} → Progress bytes depth rest → rest ≡ [] → (end : Bytes) → Comment bytes end → ⊥
-Progress-none {bytes} {rest} {depth} p e end c = let d = p.only end c in at_end d.0 (subst (λ x. Comment x d.0) e d.1)
-
 pub Comment-suffix : {text rest : Bytes} → Comment text rest → (front : Bytes) × (text ≡ front ++ rest)
 Comment-suffix closed = (42 ∷ 41 ∷ [], refl)
-Comment-suffix (nested c d) = let s = Comment-suffix c in let t = Comment-suffix d in (40 ∷ 42 ∷ s.0 ++ t.0, ap (λ x. 40 ∷ 42 ∷ x) (s.1 ∙ ap (λ x. s.0 ++ x) t.1 ∙ sym (append_assoc s.0 t.0 _)))
+Comment-suffix (nested c d) = let s = Comment-suffix c in let t = Comment-suffix d in
+    (40 ∷ 42 ∷ s.0 ++ t.0, ap (λ x. 40 ∷ 42 ∷ x) (s.1 ∙ ap (λ x. s.0 ++ x) t.1 ∙ sym (append_assoc s.0 t.0 _)))
 Comment-suffix (other {b} m c) = let s = Comment-suffix c in (b ∷ s.0, ap (λ x. b ∷ x) s.1)

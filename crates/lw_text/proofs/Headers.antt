@@ -37,7 +37,8 @@ module _ (start here : TokenList) (k : ℕ) (p : NamesTo start k here) where
   module _ (l : TokenList) (e : here ≡ thread_name k ∷ l) where
     pub Names-more : (next : TokenList) → l ≡ codes "|" ∷ next → NamesTo start (k + 1) next
     Names-more next f = rw add-one (record {
-      given = λ m rest h. subst (λ x. Names 0 x start rest) (let i : k + suc (suc m) ≡ suc k + suc m = omega arith in i) (p.given (suc m) rest (next, e ∙ ap (λ x. thread_name k ∷ x) f, h));
+      given = λ m rest h. subst (λ x. Names 0 x start rest) (let i : k + suc (suc m) ≡ suc k + suc m = omega arith in i)
+          (p.given (suc m) rest (next, e ∙ ap (λ x. thread_name k ∷ x) f, h));
       only = λ n rest h. let o = p.only n rest h in at n rest o.0 o.1 o.2;
     })
       where

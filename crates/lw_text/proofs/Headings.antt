@@ -22,7 +22,11 @@ abbrev Plain : Bytes → Type 0
 Plain name = AllByRecursion (λ b. not (is_blank b) ≡ true) name
 
 graphic_no_blank : (b : ℕ) → is_ascii_graphic b ≡ true → is_blank b ≡ false
-graphic_no_blank b h = elim (cases_Bool (is_blank b)) [ inl e ↦ absurd (let k = not-true (is_ascii_graphic b) (blank_all (λ x. not (is_ascii_graphic x)) b refl e) in cc) | inr e ↦ e ]
+graphic_no_blank b h = elim (cases_Bool (is_blank b)) [
+  | inl e ↦ absurd
+      (let k = not-true (is_ascii_graphic b) (blank_all (λ x. not (is_ascii_graphic x)) b refl e) in cc)
+  | inr e ↦ e
+]
 
 graphic_plain : (name : Bytes) → AllByRecursion (λ b. is_ascii_graphic b ≡ true) name → Plain name
 graphic_plain [] all = tt
@@ -33,7 +37,8 @@ name_front [] rest h = absurd (let k = h.some in omega arith)
 name_front (b ∷ name) rest h = graphic_no_blank b h.all.0
 
 -- what a text's name and its neighbours are, where it was taken apart at the blanks
-module _ (text space after name rest : Bytes) (e : text ≡ space ++ after) (blank : AllByRecursion (λ b. is_blank b ≡ true) space) (stop : begins is_blank after ≡ false) (f : after ≡ name ++ rest) (plain : Plain name) (longest : begins (λ b. not (is_blank b)) rest ≡ false) where
+module _ (text space after name rest : Bytes) (e : text ≡ space ++ after) (blank : AllByRecursion (λ b. is_blank b ≡ true) space)
+    (stop : begins is_blank after ≡ false) (f : after ≡ name ++ rest) (plain : Plain name) (longest : begins (λ b. not (is_blank b)) rest ≡ false) where
   pub Named-parts : (n r : Bytes) → (p : Named text n r) → (p.blanks ≡ space) × (n ≡ name) × (r ≡ rest)
   Named-parts n r p =
       let outer = run-unique is_blank p.blanks (n ++ r) space after p.blank blank (name_front n r p.is_name) stop (sym p.parts ∙ e) in
@@ -61,11 +66,13 @@ arch_word-unique X86 Source e = absurd (is_no_text (codes "X86") (codes "SRC") r
 arch_word-unique X86 X86 e = refl
 
 -- where no name stands behind the word there is no heading
-pub no_named : (text mid : Bytes) (arch : Arch) → First text (arch_word arch) mid → ((n r : Bytes) → Named mid n r → ⊥) → (a : Arch) (n r : Bytes) → Heading text a n r → ⊥
+pub no_named : (text mid : Bytes) (arch : Arch) → First text (arch_word arch) mid → ((n r : Bytes) → Named mid n r → ⊥) → (a : Arch) (n r : Bytes)
+    → Heading text a n r → ⊥
 no_named text mid arch word never a n r p = never n p.1 (subst (λ x. Named x n p.1) (First-unique text (arch_word a) p.0 (arch_word arch) mid p.2 word).1 p.3)
 
 -- nor where the notes behind the name don't come to a `{`
-pub no_notes : (text mid name after : Bytes) (arch : Arch) → First text (arch_word arch) mid → Named mid name after → ((r : Bytes) → Notes after r → ⊥) → (a : Arch) (n r : Bytes) → Heading text a n r → ⊥
+pub no_notes : (text mid name after : Bytes) (arch : Arch) → First text (arch_word arch) mid → Named mid name after → ((r : Bytes) → Notes after r → ⊥)
+    → (a : Arch) (n r : Bytes) → Heading text a n r → ⊥
 no_notes text mid name after arch word named never a n r p =
     let e = (First-unique text (arch_word a) p.0 (arch_word arch) mid p.2 word).1 in
     let f = (Named-unique mid n p.1 name after (subst (λ x. Named x n p.1) e p.3) named).1 in

@@ -29,4 +29,5 @@ pub mod Bodies
 pub mod ResolvedHeads
 pub mod WellFormedHeads
 pub mod Derivations
+pub mod PropositionReadings
 pub mod Pending

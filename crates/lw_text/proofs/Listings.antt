@@ -16,7 +16,8 @@ use Rattle.lw_text.proofs.Texts.{no_word_next}
 use Rattle.lw_text.proofs.Entries.{bracket, semicolon, bracket_unlike, bracket_apart}
 use Rattle.lw_text.proofs.Lists.{Ended-unique}
 use Rattle.lw_text.proofs.NameTables.{named-along}
-use Rattle.lw_text.proofs.Readings.{Read, read_none, read_more, read_last, read_end, read_none_here, read_no_mark, names_are_more, within_more, at_more, all_push}
+use Rattle.lw_text.proofs.Readings.{Read, read_none, read_more, read_last, read_end, read_none_here, read_no_mark, names_are_more, within_more, at_more}
+use Rattle.lw_text.proofs.Readings.{all_push}
 
 abbrev pub the_site : Made → Made
 the_site s = s
@@ -52,40 +53,58 @@ module _ (arch : Arch) (threads : ℕ) (first names start here : TokenList) (ss 
   pub sites_in : All (IsIn names) ss
   sites_in = All-from_recursion (IsIn names) ss read.sites.within
 
-  pub sites_fault : begins_word bracket here ≡ false → ((s : SiteSyntax) (rest : TokenList) → IsSite arch here s rest → ThreadExists threads s → length (with_names names (site_names (s ∷ []))) ≤ 8 → ⊥) → (all : List SiteSyntax) (rest : TokenList) → Ended (IsSite arch) semicolon bracket start all rest → AllByRecursion (ThreadExists threads) all → length (with_names first (site_names all)) ≤ 8 → ⊥
+  pub sites_fault : begins_word bracket here ≡ false → ((s : SiteSyntax) (rest : TokenList) → IsSite arch here s rest → ThreadExists threads s
+      → length (with_names names (site_names (s ∷ []))) ≤ 8 → ⊥) → (all : List SiteSyntax) (rest : TokenList)
+      → Ended (IsSite arch) semicolon bracket start all rest → AllByRecursion (ThreadExists threads) all → length (with_names first (site_names all)) ≤ 8 → ⊥
   sites_fault h never all rest l there few =
-      read_none_here (IsSite arch) bracket the_site named the_syntax same named-along (IsSite-unique arch) bracket_apart (bracket_unlike arch) first names start here ss read.sites (ThreadExists threads) (λ l. no_word_next bracket here l h) never all rest l there (subst (λ x. length (with_names first (site_names x)) ≤ 8) (sym (map_syntax all)) few)
+      read_none_here (IsSite arch) bracket the_site named the_syntax same named-along (IsSite-unique arch) bracket_apart
+      (bracket_unlike arch) first names start here ss read.sites (ThreadExists threads) (λ l. no_word_next bracket here l h) never all rest l there
+      (subst (λ x. length (with_names first (site_names x)) ≤ 8) (sym (map_syntax all)) few)
     where
       map_syntax : (all : List SiteSyntax) → map the_syntax all ≡ all
       map_syntax [] = refl
       map_syntax (s ∷ all) = ap (λ l. s ∷ l) (map_syntax all)
 
-  module _ (after : NameTable) (s : Made) (grows : after ≡ with_names names (site_names (named after s ∷ []))) (is_in : IsIn after s) (mid : TokenList) (site : IsSite arch here (named after s) mid) where
+  module _ (after : NameTable) (s : Made) (grows : after ≡ with_names names (site_names (named after s ∷ []))) (is_in : IsIn after s) (mid : TokenList)
+      (site : IsSite arch here (named after s) mid) where
     pub sites_there : ThreadExists threads (named after s) → AllByRecursion (ThreadExists threads) (map (named after) (ss ++ s ∷ []))
-    sites_there is = subst (AllByRecursion (ThreadExists threads)) (sym (at_more (IsSite arch) bracket the_site named the_syntax same named-along first names start here ss read.sites after s grows is_in)) (all_push (ThreadExists threads) (map (named names) ss) (named after s) read.there is)
+    sites_there is = subst (AllByRecursion (ThreadExists threads))
+        (sym (at_more (IsSite arch) bracket the_site named the_syntax same named-along first names start here ss read.sites after s grows is_in))
+        (all_push (ThreadExists threads) (map (named names) ss) (named after s) read.there is)
 
-    pub sites_more : ThreadExists threads (named after s) → (next : TokenList) → mid ≡ semicolon ∷ next → SitesRead arch threads first after start next (ss ++ s ∷ [])
-    sites_more is next f = record { sites = read_more (IsSite arch) bracket the_site named the_syntax same named-along first names start here ss read.sites after s grows is_in mid next site f; there = sites_there is }
+    pub sites_more : ThreadExists threads (named after s) → (next : TokenList) → mid ≡ semicolon ∷ next
+        → SitesRead arch threads first after start next (ss ++ s ∷ [])
+    sites_more is next f = record {
+      sites = read_more (IsSite arch) bracket the_site named the_syntax same named-along first names start here ss
+          read.sites after s grows is_in mid next site f;
+      there = sites_there is;
+    }
 
     pub sites_last : (rest : TokenList) → mid ≡ bracket ∷ rest → Ended (IsSite arch) semicolon bracket start (map (named after) (ss ++ s ∷ [])) rest
-    sites_last rest f = read_last (IsSite arch) bracket the_site named the_syntax same named-along first names start here ss read.sites after s grows is_in mid rest site f
+    sites_last rest f = read_last (IsSite arch) bracket the_site named the_syntax same named-along first names start here ss read.sites after s grows
+        is_in mid rest site f
 
     pub sites_names : after ≡ with_names first (site_names (map (named after) (ss ++ s ∷ [])))
     sites_names = names_are_more (IsSite arch) bracket the_site named the_syntax same named-along first names start here ss read.sites after s grows is_in
 
     pub sites_within : All (IsIn after) (ss ++ s ∷ [])
-    sites_within = All-from_recursion (IsIn after) (ss ++ s ∷ []) (within_more (IsSite arch) bracket the_site named the_syntax same named-along first names start here ss read.sites after s grows is_in)
+    sites_within = All-from_recursion (IsIn after) (ss ++ s ∷ [])
+        (within_more (IsSite arch) bracket the_site named the_syntax same named-along first names start here ss read.sites after s grows is_in)
 
-    pub sites_mark : ((l : TokenList) → mid ≡ semicolon ∷ l → ⊥) → ((l : TokenList) → mid ≡ bracket ∷ l → ⊥) → (all : List SiteSyntax) (rest : TokenList) → Ended (IsSite arch) semicolon bracket start all rest → ⊥
-    sites_mark no_sep no_close all rest l = read_no_mark (IsSite arch) bracket the_site named the_syntax same named-along (IsSite-unique arch) bracket_apart (bracket_unlike arch) first names start here ss read.sites (named after s) mid site no_sep no_close all rest l
+    pub sites_mark : ((l : TokenList) → mid ≡ semicolon ∷ l → ⊥) → ((l : TokenList) → mid ≡ bracket ∷ l → ⊥)
+        → (all : List SiteSyntax) (rest : TokenList) → Ended (IsSite arch) semicolon bracket start all rest → ⊥
+    sites_mark no_sep no_close all rest l = read_no_mark (IsSite arch) bracket the_site named the_syntax same named-along
+        (IsSite-unique arch) bracket_apart (bracket_unlike arch) first names start here ss read.sites (named after s) mid site no_sep no_close all rest l
 
 -- where no `[` stands behind the word there is no list
-pub no_bracket : (arch : Arch) (ts behind : TokenList) → ts ≡ codes "locations" ∷ behind → ((rest : TokenList) → behind ≡ codes "[" ∷ rest → ⊥) → (all : List SiteSyntax) (rest : TokenList) → Listed arch ts all rest → ⊥
+pub no_bracket : (arch : Arch) (ts behind : TokenList) → ts ≡ codes "locations" ∷ behind → ((rest : TokenList) → behind ≡ codes "[" ∷ rest → ⊥)
+    → (all : List SiteSyntax) (rest : TokenList) → Listed arch ts all rest → ⊥
 no_bracket arch ts behind word never all rest (inl p) = let f = p.1 in let i : behind ≡ codes "[" ∷ p.0 = cc in never p.0 i
 no_bracket arch ts behind word never all rest (inr p) = no_word_next (codes "locations") ts behind p.0 word
 
 pub Listed-unique : (arch : Arch) (ts : TokenList) (a b : List SiteSyntax) (r s : TokenList) → Listed arch ts a r → Listed arch ts b s → (a ≡ b) × (r ≡ s)
-Listed-unique arch ts a b r s (inl p) (inl q) = Ended-unique (IsSite arch) semicolon bracket (IsSite-unique arch) bracket_apart (bracket_unlike arch) a b p.0 r s p.2 (ended arch ts (codes "[" ∷ p.0) p.0 p.1 refl b s (inl q))
+Listed-unique arch ts a b r s (inl p) (inl q) = Ended-unique (IsSite arch) semicolon bracket (IsSite-unique arch) bracket_apart
+    (bracket_unlike arch) a b p.0 r s p.2 (ended arch ts (codes "[" ∷ p.0) p.0 p.1 refl b s (inl q))
 Listed-unique arch ts a b r s (inl p) (inr q) = absurd (no_word_next (codes "locations") ts (codes "[" ∷ p.0) q.0 p.1)
 Listed-unique arch ts a b r s (inr p) (inl q) = absurd (no_word_next (codes "locations") ts (codes "[" ∷ q.0) p.0 q.1)
 Listed-unique arch ts a b r s (inr p) (inr q) = (p.1 ∙ sym q.1, sym p.2 ∙ q.2)

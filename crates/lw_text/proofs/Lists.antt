@@ -47,7 +47,8 @@ module _ {T X : Type 0} (P : List T → X → List T → Type 0) (sep close : T)
         (cc, h.1)
 
     -- what all elements are is what has been read and what the rest is
-    pub Before-peel : (xs ys : List X) (ts here rest : List T) → Before ts xs here → Separated P sep close ts ys rest → (more : List X) × (ys ≡ xs ++ more) × Separated P sep close here more rest
+    pub Before-peel : (xs ys : List X) (ts here rest : List T) → Before ts xs here → Separated P sep close ts ys rest
+        → (more : List X) × (ys ≡ xs ++ more) × Separated P sep close here more rest
     Before-peel [] ys ts here rest b s = (ys, refl, subst (λ l. Separated P sep close l ys rest) b s)
     Before-peel (x ∷ xs) [] ts here rest b s = absurd s
     Before-peel (x ∷ xs) (y ∷ []) ts here rest b s = absurd (apart (exact ts x y sep close b.0 rest (inl refl) (inr refl) b.1 s).1)
@@ -59,14 +60,9 @@ module _ {T X : Type 0} (P : List T → X → List T → Type 0) (sep close : T)
         (h.0, cc, h.2)
 
     -- where the rest is no list, the whole is none
-    pub Before-fault : (xs ys : List X) (ts here rest : List T) → Before ts xs here → ((zs : List X) (l : List T) → Separated P sep close here zs l → ⊥) → Separated P sep close ts ys rest → ⊥
+    pub Before-fault : (xs ys : List X) (ts here rest : List T) → Before ts xs here → ((zs : List X) (l : List T) → Separated P sep close here zs l → ⊥)
+        → Separated P sep close ts ys rest → ⊥
     Before-fault xs ys ts here rest b never s = let p = Before-peel xs ys ts here rest b s in never p.0 rest p.2
-
-  -- where no element with a mark behind it stands, the whole is no list
-  module _ (exact : IsExact) (apart : sep ≡ close → ⊥) where
-    pub Before-here : (xs ys : List X) (ts here rest : List T) → Before ts xs here → ((x : X) (m : T) (l : List T) → IsMark m → P here x (m ∷ l) → ⊥) → Separated P sep close ts ys rest → ⊥
-    Before-here xs ys ts here rest b never s =
-        Before-fault exact apart xs ys ts here rest b (λ zs l q. let f = Separated-front zs here l q in never f.0 f.1 f.2 f.3 f.4) s
 
 -- ---- up to a stop
 
@@ -100,7 +96,8 @@ module _ {T X : Type 0} (stop : List T → Bool) (P : List T → X → List T �
         (cc, h.1)
 
     -- what all lines are is what has been read and what the rest is
-    pub Passed-peel : (xs ys : List X) (ts here rest : List T) → Passed ts xs here → Until stop P ts ys rest → (more : List X) × (ys ≡ xs ++ more) × Until stop P here more rest
+    pub Passed-peel : (xs ys : List X) (ts here rest : List T) → Passed ts xs here → Until stop P ts ys rest
+        → (more : List X) × (ys ≡ xs ++ more) × Until stop P here more rest
     Passed-peel [] ys ts here rest b s = (ys, refl, subst (λ l. Until stop P l ys rest) b s)
     Passed-peel (x ∷ xs) [] ts here rest b s = let h = s.1 in let k = b.0 in absurd cc
     Passed-peel (x ∷ xs) (y ∷ ys) ts here rest b s =
@@ -109,13 +106,6 @@ module _ {T X : Type 0} (stop : List T → Bool) (P : List T → X → List T �
         let i : ys ≡ xs ++ h.0 = h.1 in
         let k : x ≡ y = e.0 in
         (h.0, cc, h.2)
-
--- what is read in one way is read so before a mark
-pub exact_from_one : {T X : Type 0} (P : List T → X → List T → Type 0) (sep close : T) → ((ts : List T) (x y : X) (r s : List T) → P ts x r → P ts y s → (x ≡ y) × (r ≡ s)) → IsExact P sep close
-exact_from_one P sep close one ts x y a b r s m n p q =
-    let e = one ts x y (a ∷ r) (b ∷ s) p q in
-    let f = e.1 in
-    (e.0, cc, cc)
 
 -- ---- with an end behind each
 
@@ -135,11 +125,13 @@ module _ {T X : Type 0} (P : List T → X → List T → Type 0) (sep close : T)
   Listing-end (y ∷ xs) ts here rest b e = (b.0, b.2, inr (b.1, b.3, Listing-end xs b.1 here rest b.4 e))
 
   -- or behind an element
-  pub Listing-last : (xs : List X) (ts here mid rest : List T) (x : X) → Listing ts xs here → P here x mid → mid ≡ close ∷ rest → Ended P sep close ts (xs ++ x ∷ []) rest
+  pub Listing-last : (xs : List X) (ts here mid rest : List T) (x : X) → Listing ts xs here → P here x mid → mid ≡ close ∷ rest
+      → Ended P sep close ts (xs ++ x ∷ []) rest
   Listing-last [] ts here mid rest x b p e = (mid, subst (λ l. P l x mid) (sym b) p, inl (refl, e))
   Listing-last (y ∷ xs) ts here mid rest x b p e = (b.0, b.2, inr (b.1, b.3, Listing-last xs b.1 here mid rest x b.4 p e))
 
-  module _ (one : (ts : List T) (x y : X) (r s : List T) → P ts x r → P ts y s → (x ≡ y) × (r ≡ s)) (apart : sep ≡ close → ⊥) (unlike : (ts r l : List T) (x : X) → ts ≡ close ∷ l → P ts x r → ⊥) where
+  module _ (one : (ts : List T) (x y : X) (r s : List T) → P ts x r → P ts y s → (x ≡ y) × (r ≡ s)) (apart : sep ≡ close → ⊥)
+      (unlike : (ts r l : List T) (x : X) → ts ≡ close ∷ l → P ts x r → ⊥) where
     pub Ended-unique : (xs ys : List X) (ts r s : List T) → Ended P sep close ts xs r → Ended P sep close ts ys s → (xs ≡ ys) × (r ≡ s)
     Ended-unique [] [] ts r s p q = (refl, cc)
     Ended-unique [] (y ∷ ys) ts r s p q = absurd (unlike ts q.0 r y p q.1)
@@ -166,7 +158,8 @@ module _ {T X : Type 0} (P : List T → X → List T → Type 0) (sep close : T)
         ]
 
     -- what all elements are is what has been read and what the rest is
-    pub Listing-peel : (xs ys : List X) (ts here rest : List T) → Listing ts xs here → Ended P sep close ts ys rest → (more : List X) × (ys ≡ xs ++ more) × Ended P sep close here more rest
+    pub Listing-peel : (xs ys : List X) (ts here rest : List T) → Listing ts xs here → Ended P sep close ts ys rest
+        → (more : List X) × (ys ≡ xs ++ more) × Ended P sep close here more rest
     Listing-peel [] ys ts here rest b s = (ys, refl, subst (λ l. Ended P sep close l ys rest) b s)
     Listing-peel (x ∷ xs) [] ts here rest b s = absurd (unlike ts b.0 rest x s b.2)
     Listing-peel (x ∷ xs) (y ∷ ys) ts here rest b s =
@@ -185,7 +178,8 @@ module _ {T X : Type 0} (P : List T → X → List T → Type 0) (sep close : T)
         ]
 
     -- where neither the end nor an element stands, the whole is no list
-    pub Listing-here : (xs ys : List X) (ts here rest : List T) → Listing ts xs here → (here ≡ close ∷ rest → ⊥) → ((y : X) (more : List X) (mid : List T) → ys ≡ xs ++ y ∷ more → P here y mid → ⊥) → Ended P sep close ts ys rest → ⊥
+    pub Listing-here : (xs ys : List X) (ts here rest : List T) → Listing ts xs here → (here ≡ close ∷ rest → ⊥)
+        → ((y : X) (more : List X) (mid : List T) → ys ≡ xs ++ y ∷ more → P here y mid → ⊥) → Ended P sep close ts ys rest → ⊥
     Listing-here xs ys ts here rest b no_end never s =
         let p = Listing-peel xs ys ts here rest b s in
         at p.0 p.1 p.2
@@ -195,7 +189,8 @@ module _ {T X : Type 0} (P : List T → X → List T → Type 0) (sep close : T)
         at (y ∷ more) e q = never y more q.0 e q.1
 
     -- where a mark that is neither stands behind an element, the whole is no list
-    pub Listing-mark : (xs ys : List X) (ts here mid rest : List T) (x : X) → Listing ts xs here → P here x mid → ((l : List T) → mid ≡ sep ∷ l → ⊥) → ((l : List T) → mid ≡ close ∷ l → ⊥) → Ended P sep close ts ys rest → ⊥
+    pub Listing-mark : (xs ys : List X) (ts here mid rest : List T) (x : X) → Listing ts xs here → P here x mid → ((l : List T) → mid ≡ sep ∷ l → ⊥)
+        → ((l : List T) → mid ≡ close ∷ l → ⊥) → Ended P sep close ts ys rest → ⊥
     Listing-mark xs ys ts here mid rest x b p no_sep no_close s =
         let q = Listing-peel xs ys ts here rest b s in
         at q.0 q.2

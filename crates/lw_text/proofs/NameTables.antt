@@ -1,5 +1,6 @@
 -- Sites in a table of names that grows, and by their places in it.
-use Rattle.std.proofs.Common.{◌≡◌, ℕ, zero, suc, ◌+◌, ◌<◌, ◌≤◌, inl, inr, true, List, [], ◌∷◌, length, map, get_or, slice_get, Some, refl, ap, ◌∙◌, subst, arith, length-append}
+use Rattle.std.proofs.Common.{◌≡◌, ℕ, zero, suc, ◌+◌, ◌<◌, ◌≤◌, inl, inr, true, List, [], ◌∷◌, length, map, get_or, slice_get, Some, refl, ap, ◌∙◌, subst}
+use Rattle.std.proofs.Common.{arith, length-append}
 use Rattle.std.specs.Prelude.{fold, if◌then◌else◌}
 use Rattle.std.specs.Str.{bytes_eq}
 use Rattle.std.specs.List.{AllByRecursion, list_any}
@@ -29,7 +30,8 @@ there_at [] t h = absurd cc
 there_at (y ∷ names) t h =
     elim (cases_Bool (bytes_eq y t)) [
       | inl e ↦ rw e (ap Some ((bytes_eq-Decides y t).0 e))
-      | inr e ↦ let k : contains_name names t ≡ true = rw e at h in rw e (subst (λ i. slice_get (y ∷ names) i ≡ Some t) (let j : suc (index_of names t) ≡ 1 + index_of names t = omega arith in j) (there_at names t k))
+      | inr e ↦ let k : contains_name names t ≡ true = rw e at h in rw e
+          (subst (λ i. slice_get (y ∷ names) i ≡ Some t) (let j : suc (index_of names t) ≡ 1 + index_of names t = omega arith in j) (there_at names t k))
     ]
 
 -- a name that appeared stands at its place
@@ -68,7 +70,8 @@ pub in-along : (names ns : NameTable) (s : Site) → IsIn names s → IsIn (with
 in-along names ns s h = omega (arith, h, with_names-longer names ns)
 
 -- lists of what stands on sites
-module _ {X Y : Type 0} (site : X → Site) (at : TokenList → X → Y) (stable : (names ns : NameTable) (x : X) → IsIn names (site x) → at (with_names names ns) x ≡ at names x) where
+module _ {X Y : Type 0} (site : X → Site) (at : TokenList → X → Y)
+    (stable : (names ns : NameTable) (x : X) → IsIn names (site x) → at (with_names names ns) x ≡ at names x) where
   pub all_at-along : (names ns : NameTable) (xs : List X) → AllByRecursion (λ x. IsIn names (site x)) xs → map (at (with_names names ns)) xs ≡ map (at names) xs
   all_at-along names ns [] h = refl
   all_at-along names ns (x ∷ xs) h =
@@ -76,7 +79,8 @@ module _ {X Y : Type 0} (site : X → Site) (at : TokenList → X → Y) (stable
       let f = all_at-along names ns xs h.1 in
       cc
 
-  pub all_in-along : (names ns : NameTable) (xs : List X) → AllByRecursion (λ x. IsIn names (site x)) xs → AllByRecursion (λ x. IsIn (with_names names ns) (site x)) xs
+  pub all_in-along : (names ns : NameTable) (xs : List X) → AllByRecursion (λ x. IsIn names (site x)) xs
+      → AllByRecursion (λ x. IsIn (with_names names ns) (site x)) xs
   all_in-along names ns [] h = tt
   all_in-along names ns (x ∷ xs) h = (in-along names ns (site x) h.0, all_in-along names ns xs h.1)
 
@@ -86,18 +90,23 @@ entry-along names ns e h = rw (named-along names ns e.site h) refl
 -- ---- by places
 
 pub resolved-named : (names : NameTable) (s : Site) → EachOnce names → IsIn names s → seen_in names (named names s) ≡ seen_of s
-resolved-named names (made.Location loc) once h = ap (λ (l : ℕ). seen.Location l) (index_of-at names (get_or names loc []) loc once (slice_get-within names loc h))
+resolved-named names (made.Location loc) once h = ap (λ (l : ℕ). seen.Location l)
+    (index_of-at names (get_or names loc []) loc once (slice_get-within names loc h))
 resolved-named names (made.Register t r) once h = refl
 
-words-step : (names : NameTable) (es : List Entry) (s : Seen) (w : ℕ) → EachOnce names → AllByRecursion (λ e. IsIn names e.site) es → fold (λ w e. if same_seen (seen_in names e.site) s then e.word else w) w (map (named_entry names) es) ≡ fold (λ w e. if same_seen (seen_of e.site) s then e.word else w) w es
+words-step : (names : NameTable) (es : List Entry) (s : Seen) (w : ℕ) → EachOnce names → AllByRecursion (λ e. IsIn names e.site) es
+    → fold (λ w e. if same_seen (seen_in names e.site) s then e.word else w) w (map (named_entry names) es) ≡ fold
+    (λ w e. if same_seen (seen_of e.site) s then e.word else w) w es
 words-step names [] s w once h = refl
 words-step names (e ∷ es) s w once h =
     words-step names es s (if same_seen (seen_in names (named names e.site)) s then e.word else w) once h.1
     ∙ ap (λ x. fold (λ w e. if same_seen (seen_of e.site) s then e.word else w) (if same_seen x s then e.word else w) es) (resolved-named names e.site once h.0)
 
-pub words-named : (names : NameTable) (es : List Entry) (s : Seen) → EachOnce names → AllByRecursion (λ e. IsIn names e.site) es → word_of names (map (named_entry names) es) s ≡ word_at es s
+pub words-named : (names : NameTable) (es : List Entry) (s : Seen) → EachOnce names → AllByRecursion (λ e. IsIn names e.site) es
+    → word_of names (map (named_entry names) es) s ≡ word_at es s
 words-named names es s once h = words-step names es s 0 once h
 
-pub listed-named : (names : NameTable) (sites : List Site) (s : Seen) → EachOnce names → AllByRecursion (IsIn names) sites → list_any (λ site. same_seen (seen_in names site) s) (map (named names) sites) ≡ is_listed sites s
+pub listed-named : (names : NameTable) (sites : List Site) (s : Seen) → EachOnce names → AllByRecursion (IsIn names) sites
+    → list_any (λ site. same_seen (seen_in names site) s) (map (named names) sites) ≡ is_listed sites s
 listed-named names [] s once h = refl
 listed-named names (x ∷ sites) s once h = rw (resolved-named names x once h.0, listed-named names sites s once h.1) refl

@@ -1,5 +1,6 @@
 -- Quoted texts and lines `Key=value` are read in one way, and so are rows of them.
-use Rattle.std.proofs.Common.{◌≡◌, ℕ, ◌<◌, ◌≤◌, ◌⊎◌, inl, inr, Bool, true, false, not, [], ◌∷◌, ◌++◌, length, length-append, append_assoc, refl, sym, ap, ◌∙◌, subst, arith}
+use Rattle.std.proofs.Common.{◌≡◌, ℕ, ◌<◌, ◌≤◌, ◌⊎◌, inl, inr, Bool, true, false, not, [], ◌∷◌, ◌++◌, length, length-append, append_assoc, refl, sym, ap, ◌∙◌}
+use Rattle.std.proofs.Common.{subst, arith}
 use Rattle.std.specs.Prelude.{◌==◌}
 use Rattle.std.specs.List.{AllByRecursion, list_all}
 use Rattle.std.proofs.lemmas.Bool.{not-true, not-false, eqb-true}
@@ -26,7 +27,8 @@ with_none c [] all = tt
 with_none c (b ∷ bytes) all = (not-true (b == c) all.0, with_none c bytes all.1)
 
 -- what a text's quote is, where it was taken apart at the quotes
-module _ (text inside quoted rest : Bytes) (e : text ≡ 34 ∷ inside) (f : inside ≡ quoted ++ rest) (all : Without 34 quoted) (longest : begins (λ b. not (b == 34)) rest ≡ false) where
+module _ (text inside quoted rest : Bytes) (e : text ≡ 34 ∷ inside) (f : inside ≡ quoted ++ rest) (all : Without 34 quoted)
+    (longest : begins (λ b. not (b == 34)) rest ≡ false) where
   pub Quoted-rest : (end : Bytes) → Quoted text end → rest ≡ 34 ∷ end
   Quoted-rest end q =
       let p = q.parts in
@@ -76,17 +78,20 @@ line_parts : (key spaces value rest : Bytes) → key ++ spaces ++ 61 ∷ value +
 line_parts key spaces value rest = append_assoc (key ++ spaces) (61 ∷ value) rest ∙ append_assoc key spaces (61 ∷ (value ++ rest))
 
 -- what a text's key is, and what stands behind it, where it was taken apart behind its longest key
-module _ (text key rest spaces left : Bytes) (e : text ≡ key ++ rest) (all : Keys key) (longest : begins is_key_byte rest ≡ false) (f : rest ≡ spaces ++ left) (spaced : Spaces spaces) (stop : begins is_space left ≡ false) where
+module _ (text key rest spaces left : Bytes) (e : text ≡ key ++ rest) (all : Keys key) (longest : begins is_key_byte rest ≡ false)
+    (f : rest ≡ spaces ++ left) (spaced : Spaces spaces) (stop : begins is_space left ≡ false) where
   pub KeyLine-parts : (end : Bytes) → (p : KeyLine text end) → (p.key ≡ key) × (left ≡ 61 ∷ p.value ++ end)
   KeyLine-parts end p =
-      let outer = run-unique is_key_byte p.key (p.spaces ++ 61 ∷ (p.value ++ end)) key rest p.all all (behind_key p.spaces (p.value ++ end) p.spaced) longest (sym (line_parts p.key p.spaces p.value end) ∙ sym p.parts ∙ e) in
+      let outer = run-unique is_key_byte p.key (p.spaces ++ 61 ∷ (p.value ++ end)) key rest p.all all
+      (behind_key p.spaces (p.value ++ end) p.spaced) longest (sym (line_parts p.key p.spaces p.value end) ∙ sym p.parts ∙ e) in
       let inner = run-unique is_space p.spaces (61 ∷ (p.value ++ end)) spaces left p.spaced spaced refl stop (outer.1 ∙ f) in
       (outer.0, sym inner.1)
 
   pub no_equals : begins (λ b. b == 61) left ≡ false → (end : Bytes) → KeyLine text end → ⊥
   no_equals other end p = let k = KeyLine-parts end p in let h = ap (begins (λ b. b == 61)) k.1 in cc
 
-  pub KeyLine-made : (more value end : Bytes) → 0 < length key → left ≡ 61 ∷ more → more ≡ value ++ end → Without 10 value → begins (λ b. not (b == 10)) end ≡ false → KeyLine text end
+  pub KeyLine-made : (more value end : Bytes) → 0 < length key → left ≡ 61 ∷ more → more ≡ value ++ end → Without 10 value
+      → begins (λ b. not (b == 10)) end ≡ false → KeyLine text end
   KeyLine-made more value end some g h one last = record {
     key = key;
     spaces = spaces;
@@ -101,7 +106,8 @@ module _ (text key rest spaces left : Bytes) (e : text ≡ key ++ rest) (all : K
 
 pub KeyLine-unique : (text a b : Bytes) → KeyLine text a → KeyLine text b → a ≡ b
 KeyLine-unique text a b p q =
-    let k = KeyLine-parts text q.key (q.spaces ++ 61 ∷ (q.value ++ b)) q.spaces (61 ∷ (q.value ++ b)) (q.parts ∙ line_parts q.key q.spaces q.value b) q.all (behind_key q.spaces (q.value ++ b) q.spaced) refl q.spaced refl a p in
+    let k = KeyLine-parts text q.key (q.spaces ++ 61 ∷ (q.value ++ b)) q.spaces (61 ∷ (q.value ++ b))
+    (q.parts ∙ line_parts q.key q.spaces q.value b) q.all (behind_key q.spaces (q.value ++ b) q.spaced) refl q.spaced refl a p in
     let e = k.1 in
     let f : p.value ++ a ≡ q.value ++ b = cc in
     (run-unique (λ x. not (x == 10)) p.value a q.value b (without 10 p.value p.one_line) (without 10 q.value q.one_line) p.longest q.longest f).1
@@ -139,7 +145,8 @@ Note-unique text a b (inl p) (inr q) = absurd (no_quote_is_key text a b p q)
 Note-unique text a b (inr p) (inl q) = absurd (no_quote_is_key text b a q p)
 Note-unique text a b (inr p) (inr q) = KeyLine-unique text a b p q
 
-trivia_free : (p : ℕ → Bool) (text : Bytes) → list_all (λ x. not (p x)) (32 ∷ 9 ∷ 10 ∷ 13 ∷ []) ≡ true → p 40 ≡ false → begins p text ≡ true → begins_trivia text ≡ false
+trivia_free : (p : ℕ → Bool) (text : Bytes) → list_all (λ x. not (p x)) (32 ∷ 9 ∷ 10 ∷ 13 ∷ []) ≡ true → p 40 ≡ false → begins p text ≡ true
+    → begins_trivia text ≡ false
 trivia_free p [] blanks bracket h = refl
 trivia_free p (b ∷ text) blanks bracket h = no_trivia_at p b text blanks bracket h
 
@@ -248,7 +255,8 @@ pub Passed-done : {bytes rest start : Bytes} → Passed bytes rest → Trivia re
 Passed-done {start = start} p g h = p.given start (none g h)
 
 -- a comment among the notes isn't closed
-pub Passed-open : {bytes rest : Bytes} → Passed bytes rest → ((start : Bytes) → begins_trivia start ≡ false → Trivia rest start → ⊥) → (end : Bytes) → Notes bytes end → ⊥
+pub Passed-open : {bytes rest : Bytes} → Passed bytes rest → ((start : Bytes) → begins_trivia start ≡ false → Trivia rest start → ⊥) → (end : Bytes)
+    → Notes bytes end → ⊥
 Passed-open p never end m =
     elim (ways (p.only end m)) [
       | inl w ↦ never end (block_no_trivia end w.block) w.trivia
@@ -256,7 +264,8 @@ Passed-open p never end m =
     ]
 
 -- neither a `{` nor a note stands behind the trivia
-pub Passed-none : {bytes rest start : Bytes} → Passed bytes rest → Trivia rest start → begins_trivia start ≡ false → begins (λ b. b == 123) start ≡ false → ((after : Bytes) → Note start after → ⊥) → (end : Bytes) → Notes bytes end → ⊥
+pub Passed-none : {bytes rest start : Bytes} → Passed bytes rest → Trivia rest start → begins_trivia start ≡ false
+    → begins (λ b. b == 123) start ≡ false → ((after : Bytes) → Note start after → ⊥) → (end : Bytes) → Notes bytes end → ⊥
 Passed-none {bytes} {rest} {start} p g stop other never end m =
     elim (ways (p.only end m)) [
       | inl w ↦
@@ -268,6 +277,3 @@ Passed-none {bytes} {rest} {start} p g stop other never end m =
           let e : w.mid ≡ start = Trivia-unique w.trivia g (note_no_trivia w.mid w.after w.first) stop in
           never w.after (subst (λ x. Note x w.after) e w.first)
     ]
-
-pub Passed-nothing : (bytes : Bytes) → Passed bytes bytes
-Passed-nothing bytes = record { given = λ end m. m; only = λ end m. m; bound = omega arith }

@@ -1,10 +1,14 @@
 -- What one terminal does to what is left to be read.
-use Rattle.std.proofs.Common.{◌≡◌, ◌≢◌, ℕ, zero, suc, Bool, true, false, not, List, [], ◌∷◌, Option, Some, None, MatchOption, option_map, length, map, reverse, refl, sym, ap, ◌∙◌, subst, arith}
+use Rattle.std.proofs.Common.{◌≡◌, ◌≢◌, ℕ, zero, suc, Bool, true, false, not, List, [], ◌∷◌, Option, Some, None, MatchOption, option_map, length, map, reverse}
+use Rattle.std.proofs.Common.{refl, sym, ap, ◌∙◌, subst, arith}
 use Rattle.std.proofs.lemmas.List.{nil_from_length, length-reverse, length-map}
 use Rattle.std.specs.Prelude.{is_some, if◌then◌else◌}
 use Rattle.lw_base.specs.Formula.{Formula, Not}
-use Rattle.lw_text.specs.Propositions.{Terminal, Open, Close, Negation, Conjunction, Disjunction, Atom, begins_and, begins_or, Ands, Ors, Derives, atom, negated, parens, no_and, and, no_or, or, IsProposition}
-use Rattle.lw_text.specs.inner.Pending.{Pending, ReaderState, negations, after_and, after_or, ands_of, ors_of, opened, with_not, with_and, with_or, Has, Wants, Rest, GoesOn, begins_part, step_before, step_behind, step}
+use Rattle.lw_text.specs.Propositions.{Terminal, Open, Close, Negation, Conjunction, Disjunction, Atom, IsProposition}
+use Rattle.lw_text.specs.inner.LeftToRight.{begins_and, begins_or, Ands, Ors, Reads, atom, negated, parens, no_and, and, no_or, or}
+use Rattle.lw_text.specs.inner.Pending.{Pending, ReaderState, negations, after_and, after_or, ands_of, ors_of, opened, with_not, with_and, with_or, Has, Wants}
+use Rattle.lw_text.specs.inner.Pending.{Rest, GoesOn, begins_part, step_before, step_behind, step}
+use Rattle.lw_text.proofs.PropositionReadings.{derived_read, read_derived}
 use Rattle.lw_text.proofs.Derivations.{Terminals, part_atom, part_not, part_open, part_begins, part_end, ands_more, ands_stop, ors_more, ors_stop}
 
 negations-not : (n : ℕ) (p : Formula) → negations n (Not p) ≡ Not (negations n p)
@@ -13,12 +17,12 @@ negations-not (suc n) p = ap Not (negations-not n p)
 
 module _ (l : Pending) (ss : Terminals) (q : Formula) where
   has_turned : (os : List Pending) (p : Formula) (rest : Terminals) → Has (with_not l) os p rest q → Has l os (Not p) rest q
-  has_turned [] p rest h = (h.0, h.1, subst (λ x. Derives (Ands (after_and l.both x)) rest h.0 h.1) (sym (negations-not l.nots p)) h.2, h.3)
-  has_turned (o ∷ os) p rest h = (h.0, h.1, h.2, h.3, subst (λ x. Derives (Ands (after_and l.both x)) rest h.0 h.2) (sym (negations-not l.nots p)) h.4, h.5, h.6)
+  has_turned [] p rest h = (h.0, h.1, subst (λ x. Reads (Ands (after_and l.both x)) rest h.0 h.1) (sym (negations-not l.nots p)) h.2, h.3)
+  has_turned (o ∷ os) p rest h = (h.0, h.1, h.2, h.3, subst (λ x. Reads (Ands (after_and l.both x)) rest h.0 h.2) (sym (negations-not l.nots p)) h.4, h.5, h.6)
 
   turned_has : (os : List Pending) (p : Formula) (rest : Terminals) → Has l os (Not p) rest q → Has (with_not l) os p rest q
-  turned_has [] p rest h = (h.0, h.1, subst (λ x. Derives (Ands (after_and l.both x)) rest h.0 h.1) (negations-not l.nots p) h.2, h.3)
-  turned_has (o ∷ os) p rest h = (h.0, h.1, h.2, h.3, subst (λ x. Derives (Ands (after_and l.both x)) rest h.0 h.2) (negations-not l.nots p) h.4, h.5, h.6)
+  turned_has [] p rest h = (h.0, h.1, subst (λ x. Reads (Ands (after_and l.both x)) rest h.0 h.1) (negations-not l.nots p) h.2, h.3)
+  turned_has (o ∷ os) p rest h = (h.0, h.1, h.2, h.3, subst (λ x. Reads (Ands (after_and l.both x)) rest h.0 h.2) (negations-not l.nots p) h.4, h.5, h.6)
 
   not_given : (os : List Pending) → Wants (with_not l) os ss q → Wants l os (Negation ∷ ss) q
   not_given os h = (Not h.0, h.1, negated h.2, has_turned os h.0 h.1 h.3)
@@ -60,18 +64,19 @@ module _ (l : Pending) (ss : Terminals) (q : Formula) where
     or_only : (os : List Pending) → Has l os p (Disjunction ∷ ss) q → Wants (with_or l p) os ss q
     or_only [] h =
         let s = ands_stop h.2 refl in
-        let k = ors_more (subst (λ x. Derives (Ors (after_or l.either x)) h.1 q []) s.0 h.3) s.1 in
+        let k = ors_more (subst (λ x. Reads (Ors (after_or l.either x)) h.1 q []) s.0 h.3) s.1 in
         (k.0, k.2, k.4, (k.1, k.3, k.5, k.6))
     or_only (o ∷ os) h =
         let s = ands_stop h.4 refl in
-        let k = ors_more (subst (λ x. Derives (Ors (after_or l.either x)) h.2 h.1 (Close ∷ h.3)) s.0 h.5) s.1 in
+        let k = ors_more (subst (λ x. Reads (Ors (after_or l.either x)) h.2 h.1 (Close ∷ h.3)) s.0 h.5) s.1 in
         (k.0, k.2, k.4, (k.1, h.1, k.3, h.3, k.5, k.6, h.6))
 
     close_given : (o : Pending) (os : List Pending) → Has o os (ors_of l p) ss q → Has l (o ∷ os) p (Close ∷ ss) q
     close_given o os h = (ands_of l p, ors_of l p, Close ∷ ss, ss, no_and refl, no_or refl, h)
 
     -- behind a part that neither a `/\` nor a `\/` follows a group says what stands in it
-    group_is : (rest n k : Terminals) (b c : Formula) → Derives (Ands (ands_of l p)) rest b n → Derives (Ors (after_or l.either b)) n c k → begins_and rest ≡ false → begins_or rest ≡ false → (c ≡ ors_of l p) × (k ≡ rest)
+    group_is : (rest n k : Terminals) (b c : Formula) → Reads (Ands (ands_of l p)) rest b n → Reads (Ors (after_or l.either b)) n c k
+        → begins_and rest ≡ false → begins_or rest ≡ false → (c ≡ ors_of l p) × (k ≡ rest)
     group_is rest n k b c x y e f =
         let s = ands_stop x e in
         let t = ors_stop y (ap begins_or s.1 ∙ f) in
@@ -87,7 +92,8 @@ module _ (l : Pending) (ss : Terminals) (q : Formula) where
     close_refused : Has l [] p (Close ∷ ss) q → ⊥
     close_refused h = let s = group_is (Close ∷ ss) h.1 [] h.0 q h.2 h.3 refl refl in let e = s.1 in cc
 
-    behind_refused : (os : List Pending) (s : Terminal Formula) → begins_and (s ∷ ss) ≡ false → begins_or (s ∷ ss) ≡ false → s ≢ Close → Has l os p (s ∷ ss) q → ⊥
+    behind_refused : (os : List Pending) (s : Terminal Formula) → begins_and (s ∷ ss) ≡ false → begins_or (s ∷ ss) ≡ false → s ≢ Close
+        → Has l os p (s ∷ ss) q → ⊥
     behind_refused [] s x y z h = let v = group_is (s ∷ ss) h.1 [] h.0 q h.2 h.3 x y in let e = v.1 in cc
     behind_refused (o ∷ os) s x y z h =
         let v = group_is (s ∷ ss) h.2 (Close ∷ h.3) h.0 h.1 h.4 h.5 x y in
@@ -104,7 +110,8 @@ module _ (l : Pending) (ss : Terminals) (q : Formula) where
 
   -- A step is exact: a terminal can't come next, or what is left behind it is what was left without it.
   abbrev pub IsExact : Option Formula → List Pending → Terminal Formula → Option ReaderState → Type 0
-  IsExact part os s o = MatchOption o (Rest part l os (s ∷ ss) q → ⊥) (λ r. (GoesOn r ss q → Rest part l os (s ∷ ss) q) × (Rest part l os (s ∷ ss) q → GoesOn r ss q))
+  IsExact part os s o = MatchOption o (Rest part l os (s ∷ ss) q → ⊥)
+      (λ r. (GoesOn r ss q → Rest part l os (s ∷ ss) q) × (Rest part l os (s ∷ ss) q → GoesOn r ss q))
 
   before_exact : (os : List Pending) (s : Terminal Formula) → IsExact None os s (step_before l os s)
   before_exact os Open = (open_given os, open_only os)
@@ -144,7 +151,8 @@ module _ (l : Pending) (ss : Terminals) (q : Formula) where
     took_nothing false r is e = exact_at false r is
 
   -- which terminals may come next
-  pub next_begins : {X : Type 0} (f : X → Formula) (o : Option X) (os : List Pending) (s : Terminal Formula) (b : Bool) → is_some o ≡ not b → Rest (option_map f o) l os (s ∷ ss) q → begins_part s ≡ b
+  pub next_begins : {X : Type 0} (f : X → Formula) (o : Option X) (os : List Pending) (s : Terminal Formula) (b : Bool) → is_some o ≡ not b
+      → Rest (option_map f o) l os (s ∷ ss) q → begins_part s ≡ b
   next_begins f None os s true e h = next_before os s h
   next_begins f None os s false e h = absurd cc
   next_begins f (Some x) os s true e h = absurd cc
@@ -152,8 +160,17 @@ module _ (l : Pending) (ss : Terminals) (q : Formula) where
 
 -- ---- where the terminals begin, and where they end
 
-pub begun : (l : Pending) (os : List Pending) (ss : Terminals) (q : Formula) → l ≡ opened → os ≡ [] → IsProposition ss q → Wants l os ss q
-begun l os ss q e f h = subst (λ x. Wants x os ss q) (sym e) (subst (λ x. Wants opened x ss q) (sym f) (h.0, h.2, h.4, (h.1, h.3, h.5, h.6)))
+module _ (l : Pending) (os : List Pending) (ss : Terminals) (q : Formula) (e : l ≡ opened) (f : os ≡ []) where
+  pub begun_only : IsProposition ss q → Wants l os ss q
+  begun_only d =
+      let h = derived_read d in
+      subst (λ x. Wants x os ss q) (sym e) (subst (λ x. Wants opened x ss q) (sym f) (h.0, h.2, h.4, (h.1, h.3, h.5, h.6)))
+
+  pub begun_given : Wants l os ss q → IsProposition ss q
+  begun_given w =
+      let h = subst (λ x. Wants opened x ss q) f (subst (λ x. Wants x os ss q) e w) in
+      let k = h.3 in
+      read_derived (h.0, k.0, h.1, k.1, h.2, k.2, k.3)
 
 -- groups stand the other way round in memory
 pub none_outside : {X : Type 0} (f : X → Pending) (xs : List X) → length xs ≡ 0 → reverse (map f xs) ≡ []
@@ -166,14 +183,15 @@ module _ (l : Pending) (q : Formula) where
   pub end_before : (part : Option Formula) (os : List Pending) → part ≡ None → Rest part l os [] q → ⊥
   end_before part os e h = let w = subst (λ x. Rest x l os [] q) e h in part_end w.2 refl
 
-  pub end_inside : (part : Option Formula) (os : List Pending) (p : Formula) → part ≡ Some p → os ≢ [] → Rest part l os [] q → ⊥
-  end_inside part [] p e f h = f refl
-  end_inside part (o ∷ os) p e f h =
-      let k = subst (λ x. Rest x l (o ∷ os) [] q) e h in
-      let s = group_is l [] q p [] k.2 (Close ∷ k.3) k.0 k.1 k.4 k.5 refl refl in
+  pub end_inside : (part : Option Formula) (os : List Pending) → os ≢ [] → Rest part l os [] q → ⊥
+  end_inside None os f h = part_end h.2 refl
+  end_inside (Some p) [] f h = f refl
+  end_inside (Some p) (o ∷ os) f h =
+      let s = group_is l [] q p [] h.2 (Close ∷ h.3) h.0 h.1 h.4 h.5 refl refl in
       let g = s.1 in
       cc
 
   pub end_whole : (part : Option Formula) (os : List Pending) (p : Formula) → part ≡ Some p → os ≡ [] → q ≡ ors_of l p → Rest part l os [] q
   end_whole part os p e f g =
-      subst (λ x. Rest x l os [] q) (sym e) (subst (λ x. Has l x p [] q) (sym f) (ands_of l p, [], no_and refl, subst (λ x. Derives (Ors x) [] q []) g (no_or refl)))
+      subst (λ x. Rest x l os [] q) (sym e) (subst (λ x. Has l x p [] q) (sym f)
+      (ands_of l p, [], no_and refl, subst (λ x. Reads (Ors x) [] q []) g (no_or refl)))

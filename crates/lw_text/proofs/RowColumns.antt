@@ -1,5 +1,6 @@
 -- Columns of rows.
-use Rattle.std.proofs.Common.{◌≡◌, ℕ, zero, suc, ◌+◌, ◌<◌, ◌≤◌, List, [], ◌∷◌, ◌++◌, length, map, take, slice_get, Option, Some, None, get_or, refl, sym, ap, ◌∙◌, subst, arith}
+use Rattle.std.proofs.Common.{◌≡◌, ℕ, zero, suc, ◌+◌, ◌<◌, ◌≤◌, List, [], ◌∷◌, ◌++◌, length, map, take, slice_get, Option, Some, None, get_or, refl, sym, ap}
+use Rattle.std.proofs.Common.{◌∙◌, subst, arith}
 use Rattle.std.specs.Prelude.{All}
 use Rattle.std.specs.List.{cons_option, range_with_len, AllByRecursion}
 use Rattle.std.proofs.lemmas.List.{take_more}
@@ -11,9 +12,11 @@ use Rattle.lw_text.specs.declared.cell.Cell.{Cell}
 use Rattle.lw_text.specs.Rows.{column, columns}
 use Rattle.lw_base.proofs.api.Elements.{each_of}
 use Rattle.lw_text.specs.Places.{cell_texts, all_texts, placed_cell, placed_cells, height}
+use Rattle.lw_base.proofs.api.Lists.{get_some}
 
 -- one more row
-pub column-more : {X : Type 0} (rows : List (List X)) (i k : ℕ) (row : List X) (x : X) → i < length rows → row ≡ get_or rows i row → k < length row → x ≡ get_or row k x → column (take (i + 1) rows) k ≡ column (take i rows) k ++ x ∷ []
+pub column-more : {X : Type 0} (rows : List (List X)) (i k : ℕ) (row : List X) (x : X) → i < length rows → row ≡ get_or rows i row → k < length row
+    → x ≡ get_or row k x → column (take (i + 1) rows) k ≡ column (take i rows) k ++ x ∷ []
 column-more rows i k row x lt is within at =
     let h : slice_get row k ≡ Some x = slice_get_read row (length row) k x refl within at in
     ap (λ l. column l k) (take_more rows i row lt) ∙ filter_map-append (λ r. slice_get r k) (take i rows) (get_or rows i row ∷ []) ∙ rw (← is, h) refl
@@ -27,19 +30,15 @@ all_range Q f a (suc n) h = (h a (omega arith), all_range Q f (a + 1) n (λ k lt
 all_columns : {X : Type 0} (Q : List X → Type 0) (n : ℕ) (rows : List (List X)) → ((k : ℕ) → k < n → Q (column rows k)) → All Q (columns n rows)
 all_columns Q n rows h = All-from_recursion Q (columns n rows) (all_range Q (column rows) 0 n (λ k lt. h k (omega (arith, lt))))
 
-slice_get-some : {X : Type 0} (xs : List X) (k : ℕ) → k < length xs → (x : X) × (slice_get xs k ≡ Some x)
-slice_get-some [] k lt = absurd (omega arith)
-slice_get-some (x ∷ xs) zero lt = (x, refl)
-slice_get-some (x ∷ xs) (suc k) lt = slice_get-some xs k (omega (arith, lt))
-
 column-length : {X : Type 0} (n k : ℕ) (rows : List (List X)) → k < n → AllByRecursion (λ row. length row ≡ n) rows → length (column rows k) ≡ length rows
 column-length n k [] lt all = refl
 column-length n k (row ∷ rows) lt all =
-    let h = slice_get-some row k (omega (arith, lt, all.0)) in
+    let h = get_some row k (omega (arith, lt, all.0)) in
     let e = h.1 in
     rw e (ap suc (column-length n k rows lt all.1))
 
-cons_each : {X : Type 0} (P : X → Type 0) (row more : List X) (k : ℕ) (o : Option X) → slice_get row k ≡ o → All P row → AllByRecursion P more → AllByRecursion P (cons_option o more)
+cons_each : {X : Type 0} (P : X → Type 0) (row more : List X) (k : ℕ) (o : Option X) → slice_get row k ≡ o → All P row → AllByRecursion P more
+    → AllByRecursion P (cons_option o more)
 cons_each P row more k None e all rest = rest
 cons_each P row more k (Some x) e all rest = (subst P (get_or_from_slice_get row k x x e) (all k x (slice_get_within row k x e)), rest)
 
@@ -61,10 +60,12 @@ module _ {X : Type 0} (n : ℕ) (rows : List (List X)) (even : All (λ row. leng
       at (suc m) e some = rw e (column-length n 0 rows (omega (arith, some)) (each_of rows (λ row. length row ≡ n) even))
 
   pub columns-even : 1 ≤ n → All (λ c. length c ≡ height (columns n rows)) (columns n rows)
-  columns-even some = all_columns (λ c. length c ≡ height (columns n rows)) n rows (λ k lt. column-length n k rows lt (each_of rows (λ row. length row ≡ n) even) ∙ sym (columns-height some))
+  columns-even some = all_columns (λ c. length c ≡ height (columns n rows)) n rows
+      (λ k lt. column-length n k rows lt (each_of rows (λ row. length row ≡ n) even) ∙ sym (columns-height some))
 
 pub columns-each : {X : Type 0} (P : X → Type 0) (n : ℕ) (rows : List (List X)) → All (λ row. All P row) rows → All (λ c. All P c) (columns n rows)
-columns-each {X} P n rows all = all_columns (λ c. All P c) n rows (λ k lt. All-from_recursion P (column rows k) (column-each P k rows (each_of rows (λ row. All P row) all)))
+columns-each {X} P n rows all = all_columns (λ c. All P c) n rows
+    (λ k lt. All-from_recursion P (column rows k) (column-each P k rows (each_of rows (λ row. All P row) all)))
 
 -- ---- columns of rows that are seen otherwise, as without places
 
@@ -75,9 +76,11 @@ cons_map f (Some x) xs ys e = ap (λ l. f x ∷ l) e
 column-map : {X Y : Type 0} (f : X → Y) (rows : List (List X)) (k : ℕ) → map f (column rows k) ≡ column (map (map f) rows) k
 column-map f [] k = refl
 column-map f (row ∷ rows) k =
-    cons_map f (slice_get row k) (column rows k) (column (map (map f) rows) k) (column-map f rows k) ∙ ap (λ o. cons_option o (column (map (map f) rows) k)) (sym (slice_get-map f row k))
+    cons_map f (slice_get row k) (column rows k) (column (map (map f) rows) k) (column-map f rows k) ∙ ap
+    (λ o. cons_option o (column (map (map f) rows) k)) (sym (slice_get-map f row k))
 
-range-map : {X Y : Type 0} (f : X → Y) (rows : List (List X)) (a n : ℕ) → map (map f) (map (column rows) (range_with_len a n)) ≡ map (column (map (map f) rows)) (range_with_len a n)
+range-map : {X Y : Type 0} (f : X → Y) (rows : List (List X)) (a n : ℕ)
+    → map (map f) (map (column rows) (range_with_len a n)) ≡ map (column (map (map f) rows)) (range_with_len a n)
 range-map f rows a zero = refl
 range-map f rows a (suc n) = let e = column-map f rows a in let g = range-map f rows (a + 1) n in cc
 

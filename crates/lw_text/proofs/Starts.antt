@@ -1,32 +1,49 @@
 -- What registers and locations begin with, one further.
-use Rattle.std.proofs.Common.{◌≡◌, ℕ, zero, suc, ◌+◌, ◌<◌, Bool, true, false, List, [], ◌∷◌, ◌++◌, length, map, take, get_or, refl, sym, ap, ◌∙◌, arith, append_assoc, zero-add}
+use Rattle.std.proofs.Common.{◌≡◌, ℕ, zero, suc, ◌+◌, ◌<◌, ◌≤◌, Bool, true, false, List, [], ◌∷◌, ◌++◌, length, map, take, get_or, refl, sym, ap, ◌∙◌, arith}
+use Rattle.std.proofs.Common.{append_assoc, zero-add}
 use Rattle.std.specs.Prelude.{filter, if◌then◌else◌}
-use Rattle.std.specs.List.{flat_map, range_with_len}
+use Rattle.std.specs.List.{flat_map, list_any, range_with_len}
+use Rattle.std.proofs.lemmas.List.Folds.{list_any_more, list_any_at}
 use Rattle.std.proofs.lemmas.Grind.{flat_map-append}
-use Rattle.std.proofs.lemmas.List.{take_more, append-nil, map_push}
+use Rattle.std.proofs.lemmas.List.{take_more, take_all, append-nil, map_push}
 use Rattle.std.proofs.lemmas.List.Sums.{fold-append}
 use Rattle.std.proofs.lemmas.List.Elements.{filter-append}
 use Rattle.std.proofs.lemmas.List.FromFn.{map-range_with_len_more}
 use Rattle.lw_base.specs.declared.head.Seen.{Seen}
 use Rattle.lw_base.specs.declared.head.Seen.TheVariants.{Location}
 use Rattle.lw_text.specs.declared.block.Entry.{Entry}
-use Rattle.lw_base.specs.SeenLists.{same_seen, registers_of, all_registers, locations}
+use Rattle.lw_base.specs.SeenLists.{same_seen, thread_registers, all_registers, locations}
 use Rattle.lw_text.specs.inner.Resolved.{seen_of, word_at}
 
 -- the word after one more entry
-pub word_more : (es : List Entry) (i : ℕ) (e : Entry) (s : Seen) → i < length es → e ≡ get_or es i e → word_at (take (i + 1) es) s ≡ (if same_seen (seen_of e.site) s then e.word else word_at (take i es) s)
+pub word_more : (es : List Entry) (i : ℕ) (e : Entry) (s : Seen) → i < length es → e ≡ get_or es i e
+    → word_at (take (i + 1) es) s ≡ (if same_seen (seen_of e.site) s then e.word else word_at (take i es) s)
 word_more es i e s lt is =
     ap (λ l. word_at l s) (take_more es i e lt ∙ ap (λ x. take i es ++ x ∷ []) (sym is))
     ∙ fold-append (λ w e. if same_seen (seen_of e.site) s then e.word else w) 0 (take i es) (e ∷ [])
 
 -- those among some, and one more
-pub filter_more : {X : Type 0} (p : X → Bool) (f : ℕ → X) (n : ℕ) → filter p (map f (range_with_len 0 (n + 1))) ≡ filter p (map f (range_with_len 0 n)) ++ filter p (f n ∷ [])
+pub filter_more : {X : Type 0} (p : X → Bool) (f : ℕ → X) (n : ℕ)
+    → filter p (map f (range_with_len 0 (n + 1))) ≡ filter p (map f (range_with_len 0 n)) ++ filter p (f n ∷ [])
 filter_more p f n = ap (filter p) (map-range_with_len_more f 0 n n (zero-add n)) ∙ filter-append p (map f (range_with_len 0 n)) (f n ∷ [])
 
 -- what is put at the end of those that were seen
-pub seen_more : {X : Type 0} (p : X → Bool) (before seen after : List X) (f : ℕ → X) (n : ℕ) → seen ≡ before ++ filter p (map f (range_with_len 0 n)) → after ≡ seen ++ filter p (f n ∷ []) → after ≡ before ++ filter p (map f (range_with_len 0 (n + 1)))
+pub seen_more : {X : Type 0} (p : X → Bool) (before seen after : List X) (f : ℕ → X) (n : ℕ) → seen ≡ before ++ filter p (map f (range_with_len 0 n))
+    → after ≡ seen ++ filter p (f n ∷ []) → after ≡ before ++ filter p (map f (range_with_len 0 (n + 1)))
 seen_more p before seen after f n e h =
-    h ∙ ap (λ l. l ++ filter p (f n ∷ [])) e ∙ append_assoc before (filter p (map f (range_with_len 0 n))) (filter p (f n ∷ [])) ∙ ap (λ l. before ++ l) (sym (filter_more p f n))
+    h ∙ ap (λ l. l ++ filter p (f n ∷ [])) e ∙ append_assoc before (filter p (map f (range_with_len 0 n))) (filter p (f n ∷ [])) ∙ ap (λ l. before ++ l)
+    (sym (filter_more p f n))
+
+-- whether one is among some: at a step of a loop over these, behind it, and where it is found
+pub none_more : {X : Type 0} (p : X → Bool) (xs : List X) (i : ℕ) (x : X) → i < length xs → x ≡ get_or xs i x → p x ≡ false
+    → list_any p (take i xs) ≡ false → list_any p (take (i + 1) xs) ≡ false
+none_more p xs i x lt is h none = list_any_more p xs i x lt ∙ rw (none, ← is, h) refl
+
+pub none_taken : {X : Type 0} (p : X → Bool) (xs : List X) (i : ℕ) → length xs ≤ i → list_any p (take i xs) ≡ false → list_any p xs ≡ false
+none_taken p xs i le none = ap (list_any p) (sym (take_all i xs le)) ∙ none
+
+pub some_at : {X : Type 0} (p : X → Bool) (xs : List X) (i : ℕ) (x : X) → i < length xs → x ≡ get_or xs i x → p x ≡ true → list_any p xs ≡ true
+some_at p xs i x lt is h = list_any_at p xs i x lt (ap p (sym is) ∙ h)
 
 pub seen_one : {X : Type 0} (p : X → Bool) (x : X) → p x ≡ true → filter p (x ∷ []) ≡ x ∷ []
 seen_one p x h = rw h refl
@@ -42,10 +59,13 @@ range-more a (suc n) =
     ap (range_with_len a) next ∙ ap (λ l. a ∷ l) (range-more (a + 1) n ∙ ap (λ (k : ℕ). range_with_len (a + 1) n ++ k ∷ []) e)
 
 -- the registers of one more thread
-pub registers_more : (p : Seen → Bool) (seen after : List Seen) (n : ℕ) → seen ≡ filter p (all_registers n) → after ≡ seen ++ filter p (registers_of n) → after ≡ filter p (all_registers (n + 1))
+pub registers_more : (p : Seen → Bool) (seen after : List Seen) (n : ℕ) → seen ≡ filter p (all_registers n) → after ≡ seen ++ filter p (thread_registers n)
+    → after ≡ filter p (all_registers (n + 1))
 registers_more p seen after n e f =
-    let more : all_registers (n + 1) ≡ all_registers n ++ registers_of n = ap (flat_map registers_of) (range-more 0 n ∙ ap (λ (k : ℕ). range_with_len 0 n ++ k ∷ []) (zero-add n)) ∙ flat_map-append registers_of (range_with_len 0 n) (n ∷ []) ∙ ap (λ l. all_registers n ++ l) (append-nil (registers_of n)) in
-    f ∙ ap (λ l. l ++ filter p (registers_of n)) e ∙ sym (ap (filter p) more ∙ filter-append p (all_registers n) (registers_of n))
+    let more : all_registers (n + 1) ≡ all_registers n ++ thread_registers n = ap (flat_map thread_registers)
+    (range-more 0 n ∙ ap (λ (k : ℕ). range_with_len 0 n ++ k ∷ []) (zero-add n)) ∙ flat_map-append thread_registers (range_with_len 0 n) (n ∷ []) ∙ ap
+    (λ l. all_registers n ++ l) (append-nil (thread_registers n)) in
+    f ∙ ap (λ l. l ++ filter p (thread_registers n)) e ∙ sym (ap (filter p) more ∙ filter-append p (all_registers n) (thread_registers n))
 
 -- the words of one more location
 pub words_more : (f : Seen → ℕ) (n : ℕ) → map f (locations (n + 1)) ≡ map f (locations n) ++ f (Location n) ∷ []

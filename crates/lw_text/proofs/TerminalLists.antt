@@ -22,27 +22,35 @@ abbrev pub IsNoSite : Bytes → Type 0
 IsNoSite w = (arch : Arch) (ts rest mid : TokenList) (site : SiteSyntax) → ts ≡ w ∷ rest → IsSite arch ts site mid → ⊥
 
 reserved_no_site : (w : Bytes) → is_reserved w ≡ true → ((n : ℕ) → IsNumber w n → ⊥) → (w ≡ codes "[" → ⊥) → IsNoSite w
-reserved_no_site w r no_number no_bracket arch ts rest mid (InMemory x) e (p, inl f) = let k : x ≡ w = cc in let h : is_reserved w ≡ false = subst (λ y. is_reserved y ≡ false) k p.1 in absurd cc
+reserved_no_site w r no_number no_bracket arch ts rest mid (InMemory x) e (p, inl f) = let k : x ≡ w = cc in let h : is_reserved w ≡ false = subst
+    (λ y. is_reserved y ≡ false) k p.1 in absurd cc
 reserved_no_site w r no_number no_bracket arch ts rest mid (InMemory x) e (p, inr f) = no_bracket cc
-reserved_no_site w r no_number no_bracket arch ts rest mid (InThread t n) e p = let f = p.2 in let k : p.0 ≡ w = cc in no_number t (subst (λ y. IsNumber y t) k p.3)
+reserved_no_site w r no_number no_bracket arch ts rest mid (InThread t n) e p = let f = p.2 in let k : p.0 ≡ w = cc in no_number t
+    (subst (λ y. IsNumber y t) k p.3)
 
 symbol_no_site : (w : Bytes) → (IsName w → ⊥) → ((n : ℕ) → IsNumber w n → ⊥) → (w ≡ codes "[" → ⊥) → IsNoSite w
-symbol_no_site w no_name no_number no_bracket arch ts rest mid site e p = elim (site_front arch ts mid site p w rest e) [ inl h ↦ no_name h | inr h ↦ elim h [ inl k ↦ no_number k.0 k.1 | inr k ↦ no_bracket k ] ]
+symbol_no_site w no_name no_number no_bracket arch ts rest mid site e p = elim
+    (site_front arch ts mid site p w rest e) [ inl h ↦ no_name h | inr h ↦ elim h [ inl k ↦ no_number k.0 k.1 | inr k ↦ no_bracket k ] ]
 
 pub open_no_site : IsNoSite (codes "(")
-open_no_site = symbol_no_site (codes "(") (λ n. let h = n.0.all.0 in cc) (λ n h. let k = number_first (codes "(") n h in cc) (λ e. is_no_text (codes "(") (codes "[") refl e)
+open_no_site = symbol_no_site (codes "(") (λ n. let h = n.0.all.0 in cc) (λ n h. let k = number_first (codes "(") n h in cc)
+    (λ e. is_no_text (codes "(") (codes "[") refl e)
 
 pub close_no_site : IsNoSite (codes ")")
-close_no_site = symbol_no_site (codes ")") (λ n. let h = n.0.all.0 in cc) (λ n h. let k = number_first (codes ")") n h in cc) (λ e. is_no_text (codes ")") (codes "[") refl e)
+close_no_site = symbol_no_site (codes ")") (λ n. let h = n.0.all.0 in cc) (λ n h. let k = number_first (codes ")") n h in cc)
+    (λ e. is_no_text (codes ")") (codes "[") refl e)
 
 tilde_no_site : IsNoSite (codes "~")
-tilde_no_site = symbol_no_site (codes "~") (λ n. let h = n.0.all.0 in cc) (λ n h. let k = number_first (codes "~") n h in cc) (λ e. is_no_text (codes "~") (codes "[") refl e)
+tilde_no_site = symbol_no_site (codes "~") (λ n. let h = n.0.all.0 in cc) (λ n h. let k = number_first (codes "~") n h in cc)
+    (λ e. is_no_text (codes "~") (codes "[") refl e)
 
 and_no_site : IsNoSite (codes "/\\")
-and_no_site = symbol_no_site (codes "/\\") (λ n. let h = n.0.all.0 in cc) (λ n h. let k = number_first (codes "/\\") n h in cc) (λ e. is_no_text (codes "/\\") (codes "[") refl e)
+and_no_site = symbol_no_site (codes "/\\") (λ n. let h = n.0.all.0 in cc) (λ n h. let k = number_first (codes "/\\") n h in cc)
+    (λ e. is_no_text (codes "/\\") (codes "[") refl e)
 
 or_no_site : IsNoSite (codes "\\/")
-or_no_site = symbol_no_site (codes "\\/") (λ n. let h = n.0.all.0 in cc) (λ n h. let k = number_first (codes "\\/") n h in cc) (λ e. is_no_text (codes "\\/") (codes "[") refl e)
+or_no_site = symbol_no_site (codes "\\/") (λ n. let h = n.0.all.0 in cc) (λ n h. let k = number_first (codes "\\/") n h in cc)
+    (λ e. is_no_text (codes "\\/") (codes "[") refl e)
 
 not_no_site : IsNoSite (codes "not")
 not_no_site = reserved_no_site (codes "not") refl (λ n h. let k = number_first (codes "not") n h in cc) (λ e. is_no_text (codes "not") (codes "[") refl e)
@@ -51,10 +59,12 @@ true_no_site : IsNoSite (codes "true")
 true_no_site = reserved_no_site (codes "true") refl (λ n h. let k = number_first (codes "true") n h in cc) (λ e. is_no_text (codes "true") (codes "[") refl e)
 
 false_no_site : IsNoSite (codes "false")
-false_no_site = reserved_no_site (codes "false") refl (λ n h. let k = number_first (codes "false") n h in cc) (λ e. is_no_text (codes "false") (codes "[") refl e)
+false_no_site = reserved_no_site (codes "false") refl (λ n h. let k = number_first (codes "false") n h in cc)
+    (λ e. is_no_text (codes "false") (codes "[") refl e)
 
 -- where a site stands and no value behind it, no terminal stands
-pub site_alone : (arch : Arch) (threads : ℕ) (ts mid : TokenList) (site : SiteSyntax) → IsSite arch ts site mid → ((v : ℕ) (rest : TokenList) → Value mid v rest → ⊥) → (s : Terminal AtomSyntax) (rest : TokenList) → IsTerminal arch threads ts s rest → ⊥
+pub site_alone : (arch : Arch) (threads : ℕ) (ts mid : TokenList) (site : SiteSyntax) → IsSite arch ts site mid
+    → ((v : ℕ) (rest : TokenList) → Value mid v rest → ⊥) → (s : Terminal AtomSyntax) (rest : TokenList) → IsTerminal arch threads ts s rest → ⊥
 site_alone arch threads ts mid site p never Open rest e = open_no_site arch ts rest mid site e p
 site_alone arch threads ts mid site p never Close rest e = close_no_site arch ts rest mid site e p
 site_alone arch threads ts mid site p never Negation rest (inl e) = tilde_no_site arch ts rest mid site e p
@@ -63,7 +73,8 @@ site_alone arch threads ts mid site p never Conjunction rest e = and_no_site arc
 site_alone arch threads ts mid site p never Disjunction rest e = or_no_site arch ts rest mid site e p
 site_alone arch threads ts mid site p never (Atom Always) rest e = true_no_site arch ts rest mid site e p
 site_alone arch threads ts mid site p never (Atom Never) rest e = false_no_site arch ts rest mid site e p
-site_alone arch threads ts mid site p never (Atom (Holds other n)) rest q = never n rest (subst (λ l. Value l n rest) (IsSite-unique arch ts other site q.0 mid q.1 p).1 q.3)
+site_alone arch threads ts mid site p never (Atom (Holds other n)) rest q = never n rest
+    (subst (λ l. Value l n rest) (IsSite-unique arch ts other site q.0 mid q.1 p).1 q.3)
 
 -- ---- terminals are read in one way
 
@@ -96,7 +107,8 @@ pub record Claimed (arch : Arch) (threads : ℕ) (ts : TokenList) (s : Terminal 
   pub there : ThreadExists threads site
   pub value : Value mid n rest
 
-pub front : (arch : Arch) (threads : ℕ) (ts rest : TokenList) (s : Terminal AtomSyntax) → IsTerminal arch threads ts s rest → Word ts s rest ⊎ Claimed arch threads ts s rest
+pub front : (arch : Arch) (threads : ℕ) (ts rest : TokenList) (s : Terminal AtomSyntax) → IsTerminal arch threads ts s rest
+    → Word ts s rest ⊎ Claimed arch threads ts s rest
 front arch threads ts rest Open e = inl (record { word = codes "("; stands = e; is = refl; apart = open_no_site })
 front arch threads ts rest Close e = inl (record { word = codes ")"; stands = e; is = refl; apart = close_no_site })
 front arch threads ts rest Negation (inl e) = inl (record { word = codes "~"; stands = e; is = refl; apart = tilde_no_site })
@@ -107,7 +119,8 @@ front arch threads ts rest (Atom Always) e = inl (record { word = codes "true"; 
 front arch threads ts rest (Atom Never) e = inl (record { word = codes "false"; stands = e; is = refl; apart = false_no_site })
 front arch threads ts rest (Atom (Holds site n)) p = inr (record { site = site; n = n; mid = p.0; is = refl; site_is = p.1; there = p.2; value = p.3 })
 
-pub IsTerminal-unique : (arch : Arch) (threads : ℕ) (ts : TokenList) (a b : Terminal AtomSyntax) (r s : TokenList) → IsTerminal arch threads ts a r → IsTerminal arch threads ts b s → (a ≡ b) × (r ≡ s)
+pub IsTerminal-unique : (arch : Arch) (threads : ℕ) (ts : TokenList) (a b : Terminal AtomSyntax) (r s : TokenList) → IsTerminal arch threads ts a r
+    → IsTerminal arch threads ts b s → (a ≡ b) × (r ≡ s)
 IsTerminal-unique arch threads ts a b r s p q =
     elim (front arch threads ts r a p) [
       | inl v ↦ elim (front arch threads ts s b q) [
@@ -130,7 +143,8 @@ IsTerminal-unique arch threads ts a b r s p q =
       ]
     ]
 
-pub IsTerminal-shorter : (arch : Arch) (threads : ℕ) (ts rest : TokenList) (s : Terminal AtomSyntax) → IsTerminal arch threads ts s rest → length rest < length ts
+pub IsTerminal-shorter : (arch : Arch) (threads : ℕ) (ts rest : TokenList) (s : Terminal AtomSyntax) → IsTerminal arch threads ts s rest
+    → length rest < length ts
 IsTerminal-shorter arch threads ts rest s p =
     elim (front arch threads ts rest s p) [
       | inl w ↦ omega (arith, ap length w.stands)
@@ -144,18 +158,21 @@ abbrev pub Gone : Arch → ℕ → TokenList → List (Terminal AtomSyntax) → 
 Gone arch threads ts [] here = ts ≡ here
 Gone arch threads ts (s ∷ ss) here = (mid : TokenList) × IsTerminal arch threads ts s mid × Gone arch threads mid ss here
 
-pub Gone-push : (arch : Arch) (threads : ℕ) (ss : List (Terminal AtomSyntax)) (ts here next : TokenList) (s : Terminal AtomSyntax) → Gone arch threads ts ss here → IsTerminal arch threads here s next → Gone arch threads ts (ss ++ s ∷ []) next
+pub Gone-push : (arch : Arch) (threads : ℕ) (ss : List (Terminal AtomSyntax)) (ts here next : TokenList) (s : Terminal AtomSyntax)
+    → Gone arch threads ts ss here → IsTerminal arch threads here s next → Gone arch threads ts (ss ++ s ∷ []) next
 Gone-push arch threads [] ts here next s g p = (next, subst (λ l. IsTerminal arch threads l s next) (sym g) p, refl)
 Gone-push arch threads (t ∷ ss) ts here next s g p = (g.0, g.1, Gone-push arch threads ss g.0 here next s g.2 p)
 
-pub Gone-end : (arch : Arch) (threads : ℕ) (ss : List (Terminal AtomSyntax)) (ts here : TokenList) → Gone arch threads ts ss here → here ≡ [] → Terminals arch threads ts ss
+pub Gone-end : (arch : Arch) (threads : ℕ) (ss : List (Terminal AtomSyntax)) (ts here : TokenList) → Gone arch threads ts ss here → here ≡ []
+    → Terminals arch threads ts ss
 Gone-end arch threads [] ts here g e = g ∙ e
 Gone-end arch threads (s ∷ ss) ts here g e = (g.0, g.1, Gone-end arch threads ss g.0 here g.2 e)
 
 no_terminal : (arch : Arch) (threads : ℕ) (ts rest : TokenList) (s : Terminal AtomSyntax) → ts ≡ [] → IsTerminal arch threads ts s rest → ⊥
 no_terminal arch threads ts rest s e p = omega (arith, IsTerminal-shorter arch threads ts rest s p, ap length e)
 
-pub Gone-peel : (arch : Arch) (threads : ℕ) (ss all : List (Terminal AtomSyntax)) (ts here : TokenList) → Gone arch threads ts ss here → Terminals arch threads ts all → (more : List (Terminal AtomSyntax)) × (all ≡ ss ++ more) × Terminals arch threads here more
+pub Gone-peel : (arch : Arch) (threads : ℕ) (ss all : List (Terminal AtomSyntax)) (ts here : TokenList) → Gone arch threads ts ss here
+    → Terminals arch threads ts all → (more : List (Terminal AtomSyntax)) × (all ≡ ss ++ more) × Terminals arch threads here more
 Gone-peel arch threads [] all ts here g p = (all, refl, subst (λ l. Terminals arch threads l all) g p)
 Gone-peel arch threads (s ∷ ss) [] ts here g p = absurd (no_terminal arch threads ts g.0 s p g.1)
 Gone-peel arch threads (s ∷ ss) (t ∷ all) ts here g p =
@@ -165,7 +182,8 @@ Gone-peel arch threads (s ∷ ss) (t ∷ all) ts here g p =
     let k : s ≡ t = e.0 in
     (h.0, cc, h.2)
 
-pub Terminals-unique : (arch : Arch) (threads : ℕ) (a b : List (Terminal AtomSyntax)) (ts : TokenList) → Terminals arch threads ts a → Terminals arch threads ts b → a ≡ b
+pub Terminals-unique : (arch : Arch) (threads : ℕ) (a b : List (Terminal AtomSyntax)) (ts : TokenList) → Terminals arch threads ts a
+    → Terminals arch threads ts b → a ≡ b
 Terminals-unique arch threads [] [] ts p q = refl
 Terminals-unique arch threads [] (t ∷ b) ts p q = absurd (no_terminal arch threads ts q.0 t p q.1)
 Terminals-unique arch threads (s ∷ a) [] ts p q = absurd (no_terminal arch threads ts p.0 s q p.1)
@@ -176,7 +194,11 @@ Terminals-unique arch threads (s ∷ a) (t ∷ b) ts p q =
     cc
 
 -- where a part has to begin: none of the words, and no site
-pub no_opening : (arch : Arch) (threads : ℕ) (names : NameTable) (ts : TokenList) → begins_word (codes "(") ts ≡ false → begins_word (codes "~") ts ≡ false → begins_word (codes "not") ts ≡ false → begins_word (codes "true") ts ≡ false → begins_word (codes "false") ts ≡ false → ((site : SiteSyntax) (mid : TokenList) → IsSite arch ts site mid → ThreadExists threads site → length (with_names names (site_names (site ∷ []))) ≤ 8 → ⊥) → (s : Terminal AtomSyntax) (rest : TokenList) → IsTerminal arch threads ts s rest → begins_part s ≡ true → length (with_names names (site_names (sites_in (s ∷ [])))) ≤ 8 → ⊥
+pub no_opening : (arch : Arch) (threads : ℕ) (names : NameTable) (ts : TokenList) → begins_word (codes "(") ts ≡ false
+    → begins_word (codes "~") ts ≡ false → begins_word (codes "not") ts ≡ false → begins_word (codes "true") ts ≡ false
+    → begins_word (codes "false") ts ≡ false → ((site : SiteSyntax) (mid : TokenList) → IsSite arch ts site mid → ThreadExists threads site
+    → length (with_names names (site_names (site ∷ []))) ≤ 8 → ⊥) → (s : Terminal AtomSyntax) (rest : TokenList) → IsTerminal arch threads ts s rest
+    → begins_part s ≡ true → length (with_names names (site_names (sites_in (s ∷ [])))) ≤ 8 → ⊥
 no_opening arch threads names ts a b c d e never Open rest p begins few = no_word_next (codes "(") ts rest a p
 no_opening arch threads names ts a b c d e never Close rest p begins few = absurd cc
 no_opening arch threads names ts a b c d e never Negation rest (inl p) begins few = no_word_next (codes "~") ts rest b p

@@ -33,13 +33,12 @@ no_word_next w ts l h e = is_no_text w w (ap (begins_word w) (sym e) ∙ h) refl
 pub token_next : (tokens : List Token) (next : ℕ) (t : Token) → next < length tokens → t ≡ get_or tokens next t → drop next tokens ≡ t ∷ drop (next + 1) tokens
 token_next [] next t lt e = absurd (omega arith)
 token_next (u ∷ tokens) zero t lt e = ap (λ x. x ∷ tokens) (sym e)
-token_next (u ∷ tokens) (suc next) t lt e = let k : suc next + 1 ≡ suc (next + 1) = omega arith in token_next tokens next t (omega (arith, lt)) e ∙ ap (λ (n : ℕ). t ∷ drop n (u ∷ tokens)) (sym k)
-
-pub texts_next : (tokens : List Token) (next : ℕ) (t : Token) (w : Bytes) → next < length tokens → t ≡ get_or tokens next t → bytes_eq t.text.now w ≡ true → texts (drop next tokens) ≡ w ∷ texts (drop (next + 1) tokens)
-texts_next tokens next t w lt e h = ap texts (token_next tokens next t lt e) ∙ ap (λ x. x ∷ texts (drop (next + 1) tokens)) (is_text t.text.now w h)
+token_next (u ∷ tokens) (suc next) t lt e = let k : suc next + 1 ≡ suc (next + 1) = omega arith in token_next tokens next t (omega (arith, lt)) e ∙ ap
+    (λ (n : ℕ). t ∷ drop n (u ∷ tokens)) (sym k)
 
 -- a word that is next is a token, and behind it is what is left without it
-pub word_next : (tokens : List Token) (next : ℕ) (w : Bytes) → begins_word w (texts (drop next tokens)) ≡ true → (next < length tokens) × (texts (drop next tokens) ≡ w ∷ texts (drop (next + 1) tokens)) × Leaves (drop next tokens) (drop (next + 1) tokens)
+pub word_next : (tokens : List Token) (next : ℕ) (w : Bytes) → begins_word w (texts (drop next tokens)) ≡ true
+    → (next < length tokens) × (texts (drop next tokens) ≡ w ∷ texts (drop (next + 1) tokens)) × Leaves (drop next tokens) (drop (next + 1) tokens)
 word_next [] zero w h = absurd cc
 word_next [] (suc next) w h = absurd cc
 word_next (t ∷ tokens) zero w h = (omega arith, ap (λ x. x ∷ texts tokens) (is_text t.text.now w h), (t ∷ [], refl))

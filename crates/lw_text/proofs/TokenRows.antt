@@ -1,5 +1,6 @@
 -- A text has one row of tokens, each at one place.
-use Rattle.std.proofs.Common.{◌≡◌, ℕ, ◌+◌, ◌-◌, ◌<◌, ◌≤◌, false, List, [], ◌∷◌, ◌++◌, length, take, drop, Option, None, Some, refl, sym, ap, ◌∙◌, subst, arith, append_assoc, length-append, take-append-drop}
+use Rattle.std.proofs.Common.{◌≡◌, ℕ, ◌+◌, ◌-◌, ◌<◌, ◌≤◌, false, List, [], ◌∷◌, ◌++◌, length, take, drop, Option, None, Some, refl, sym, ap, ◌∙◌, subst, arith}
+use Rattle.std.proofs.Common.{append_assoc, length-append, take-append-drop}
 use Rattle.std.specs.Prelude.{IfNone}
 use Rattle.std.proofs.lemmas.List.Prefix.{end_rest}
 use Rattle.lw_base.specs.Types.{Bytes, TokenList}
@@ -39,7 +40,8 @@ abbrev pub Read : ℕ → Bytes → List PlacedToken → Bytes → Type 0
 Read len text [] rest = text ≡ rest
 Read len text (t ∷ ts) rest = (mid : Bytes) × First text t.text mid × (t.at + length t.text + length mid ≡ len) × Read len mid ts rest
 
-pub Read-push : (len : ℕ) (ts : List PlacedToken) (text rest : Bytes) (t : PlacedToken) (more : Bytes) → Read len text ts rest → First rest t.text more → t.at + length t.text + length more ≡ len → Read len text (ts ++ t ∷ []) more
+pub Read-push : (len : ℕ) (ts : List PlacedToken) (text rest : Bytes) (t : PlacedToken) (more : Bytes) → Read len text ts rest → First rest t.text more
+    → t.at + length t.text + length more ≡ len → Read len text (ts ++ t ∷ []) more
 Read-push len [] text rest t more p q at = (more, subst (λ x. First x t.text more) (sym p) q, at, refl)
 Read-push len (u ∷ ts) text rest t more p q at = (p.0, p.1, p.2, Read-push len ts p.0 rest t more p.3 q at)
 
@@ -48,7 +50,8 @@ Read-done len [] text rest p g = subst (λ x. Trivia x []) (sym p) g
 Read-done len (u ∷ ts) text rest p g = (p.0, p.1, p.2, Read-done len ts p.0 rest p.3 g)
 
 -- where the rest has no row of tokens, the text has none
-pub Read-fault : (len : ℕ) (ts : List PlacedToken) (text rest : Bytes) → Read len text ts rest → ((us : TokenList) → Tokens rest us → ⊥) → (us : TokenList) → Tokens text us → ⊥
+pub Read-fault : (len : ℕ) (ts : List PlacedToken) (text rest : Bytes) → Read len text ts rest → ((us : TokenList) → Tokens rest us → ⊥)
+    → (us : TokenList) → Tokens text us → ⊥
 Read-fault len [] text rest p never us q = never us (subst (λ x. Tokens x us) p q)
 Read-fault len (t ∷ ts) text rest p never [] q = no_first text t.text p.0 q p.1
 Read-fault len (t ∷ ts) text rest p never (u ∷ us) q =
@@ -73,10 +76,12 @@ Tokens-none text no_end no_token [] q = no_end q
 Tokens-none text no_end no_token (t ∷ ts) q = no_token t q.0 q.1
 
 -- a rest of a rest is a rest
-pub Suffix-more : (whole rest front next : Bytes) → drop (length whole - length rest) whole ≡ rest → rest ≡ front ++ next → (length next ≤ length whole) × (drop (length whole - length next) whole ≡ next)
+pub Suffix-more : (whole rest front next : Bytes) → drop (length whole - length rest) whole ≡ rest → rest ≡ front ++ next
+    → (length next ≤ length whole) × (drop (length whole - length next) whole ≡ next)
 Suffix-more whole rest front next s e =
     let k = length whole - length rest in
-    let parts : whole ≡ (take k whole ++ front) ++ next = sym (take-append-drop k whole) ∙ ap (λ x. take k whole ++ x) (s ∙ e) ∙ sym (append_assoc (take k whole) front next) in
+    let parts : whole ≡ (take k whole ++ front) ++ next = sym (take-append-drop k whole) ∙ ap (λ x. take k whole ++ x) (s ∙ e) ∙ sym
+    (append_assoc (take k whole) front next) in
     (omega (arith, ap length parts, length-append (take k whole ++ front) next), end_rest whole next (take k whole ++ front) parts)
 
 pub First-shorter : (text t rest : Bytes) → First text t rest → length rest < length text
@@ -93,12 +98,14 @@ Tokens-of len text [] p = p
 Tokens-of len text (t ∷ ts) p = (p.0, p.1, Tokens-of len p.0 ts p.3)
 
 -- the tokens of a text that was read to its end
-pub read_whole : {F : Type 0} (o : Option F) (len : ℕ) (rest : Bytes) (ts : List Token) → IfNone o (PlacedTokens len rest (placed_tokens ts)) → IfNone o (Tokens rest (texts ts))
+pub read_whole : {F : Type 0} (o : Option F) (len : ℕ) (rest : Bytes) (ts : List Token) → IfNone o (PlacedTokens len rest (placed_tokens ts))
+    → IfNone o (Tokens rest (texts ts))
 read_whole None len rest ts p = subst (Tokens rest) (texts_placed ts) (Tokens-of len rest (placed_tokens ts) p)
 read_whole (Some f) len rest ts p = tt
 
 pub same_token : (a b : PlacedToken) → a.at ≡ b.at → a.text ≡ b.text → a ≡ b
-same_token a b at text = ap (λ (n : ℕ). let t : PlacedToken = record { at = n; text = a.text } in t) at ∙ ap (λ (x : Bytes). let t : PlacedToken = record { at = b.at; text = x } in t) text
+same_token a b at text = ap (λ (n : ℕ). let t : PlacedToken = record { at = n; text = a.text } in t) at ∙ ap
+    (λ (x : Bytes). let t : PlacedToken = record { at = b.at; text = x } in t) text
 
 pub PlacedTokens-unique : (len : ℕ) (ts us : List PlacedToken) (text : Bytes) → PlacedTokens len text ts → PlacedTokens len text us → ts ≡ us
 PlacedTokens-unique len [] [] text p q = refl

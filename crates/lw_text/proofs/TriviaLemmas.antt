@@ -94,11 +94,13 @@ Skipped-none bytes = record { given = λ end g. g; only = λ end stop g. g }
 pub Skipped-comment : {bytes rest inner after : Bytes} → Skipped bytes rest → rest ≡ 40 ∷ 42 ∷ inner → Comment inner after → Skipped bytes after
 Skipped-comment {bytes} {rest} {inner} {after} s e c = record {
   given = λ end g. s.given end (rw e (comment c g));
-  only = λ end stop g. let o = at_comment inner end stop (subst (λ x. Trivia x end) e (s.only end stop g)) in subst (λ x. Trivia x end) (Comment-unique o.1 c) o.2;
+  only = λ end stop g. let o = at_comment inner end stop (subst (λ x. Trivia x end) e (s.only end stop g)) in subst (λ x. Trivia x end)
+      (Comment-unique o.1 c) o.2;
 }
 
 -- a comment that isn't closed
-pub Skipped-open : {bytes rest inner : Bytes} → Skipped bytes rest → rest ≡ 40 ∷ 42 ∷ inner → ((after : Bytes) → Comment inner after → ⊥) → (end : Bytes) → begins_trivia end ≡ false → Trivia bytes end → ⊥
+pub Skipped-open : {bytes rest inner : Bytes} → Skipped bytes rest → rest ≡ 40 ∷ 42 ∷ inner → ((after : Bytes) → Comment inner after → ⊥)
+    → (end : Bytes) → begins_trivia end ≡ false → Trivia bytes end → ⊥
 Skipped-open {bytes} {rest} {inner} s e never end stop g =
     let o = at_comment inner end stop (subst (λ x. Trivia x end) e (s.only end stop g)) in never o.0 o.1
 

@@ -1,9 +1,10 @@
 -- A text's frame is that of its one heading and its one row of tokens.
-use Rattle.std.proofs.Common.{◌≡◌, ℕ, zero, suc, ◌≤◌, ◌&&◌, Bool, true, false, List, [], ◌∷◌, ◌++◌, length, map, refl, sym, ap, ◌∙◌, subst, arith}
+use Rattle.std.proofs.Common.{◌≡◌, ℕ, zero, suc, ◌≤◌, true, false, List, [], ◌∷◌, ◌++◌, length, map, refl, sym, ap, ◌∙◌, subst, arith}
 use Rattle.std.specs.Prelude.{Option, Some, None, Result, Ok, Err, OnErr, IfNone, OnSome, codes, filter, All}
 use Rattle.std.specs.List.{AllByRecursion, list_all}
 use Rattle.std.proofs.lemmas.List.{length-map}
 use Rattle.std.proofs.lemmas.List.Elements.{All-from_recursion}
+use Rattle.std.proofs.lemmas.Bool.{and_parts}
 use Rattle.lw_base.specs.Types.{Bytes, NameTable, TokenList, CellGrid}
 use Rattle.lw_base.specs.declared.head.Arch.{Arch}
 use Rattle.lw_base.specs.declared.head.Quant.{Quant}
@@ -38,9 +39,11 @@ use Rattle.lw_text.proofs.TokenRows.{Tokens-unique}
 
 -- ---- the table of names
 
-pub table_parts : (s : TestSyntax) → table s ≡ with_names (with_names (with_names [] (site_names (sites_of s.entries))) (site_names s.listed)) (site_names (sites_in s.terminals))
+pub table_parts : (s : TestSyntax) → table s ≡ with_names (with_names (with_names [] (site_names (sites_of s.entries))) (site_names s.listed))
+    (site_names (sites_in s.terminals))
 table_parts s =
-    ap (with_names []) (site_names-append (sites_of s.entries ++ s.listed) (sites_in s.terminals) ∙ ap (λ l. l ++ site_names (sites_in s.terminals)) (site_names-append (sites_of s.entries) s.listed))
+    ap (with_names []) (site_names-append (sites_of s.entries ++ s.listed) (sites_in s.terminals) ∙ ap (λ l. l ++ site_names (sites_in s.terminals))
+    (site_names-append (sites_of s.entries) s.listed))
     ∙ with_names-append [] (site_names (sites_of s.entries) ++ site_names s.listed) (site_names (sites_in s.terminals))
     ∙ ap (λ ns. with_names ns (site_names (sites_in s.terminals))) (with_names-append [] (site_names (sites_of s.entries)) (site_names s.listed))
 
@@ -58,17 +61,15 @@ one_there : (threads : ℕ) (names : NameTable) (s : MadeSite) → ThreadExists 
 one_there threads names (made.Location loc) h = refl
 one_there threads names (made.Register t r) h = grind arith
 
-both : (a b : Bool) → (a && b) ≡ true → (a ≡ true) × (b ≡ true)
-both true b e = (refl, e)
-both false b e = absurd cc
-
-pub all_there : (threads : ℕ) (names : NameTable) (es : List MadeEntry) → list_all (λ e. thread_exists threads e.site) es ≡ true → AllByRecursion (λ e. ThreadExists threads e.site) (map (named_entry names) es)
+pub all_there : (threads : ℕ) (names : NameTable) (es : List MadeEntry) → list_all (λ e. thread_exists threads e.site) es ≡ true
+    → AllByRecursion (λ e. ThreadExists threads e.site) (map (named_entry names) es)
 all_there threads names [] h = tt
 all_there threads names (e ∷ es) h =
-    let k = both (thread_exists threads e.site) (list_all (λ e. thread_exists threads e.site) es) h in
+    let k = and_parts (thread_exists threads e.site) (list_all (λ e. thread_exists threads e.site) es) h in
     (there_one threads names e.site k.0, all_there threads names es k.1)
 
-pub there_all : (threads : ℕ) (names : NameTable) (es : List MadeEntry) → AllByRecursion (λ e. ThreadExists threads e.site) (map (named_entry names) es) → list_all (λ e. thread_exists threads e.site) es ≡ true
+pub there_all : (threads : ℕ) (names : NameTable) (es : List MadeEntry) → AllByRecursion (λ e. ThreadExists threads e.site) (map (named_entry names) es)
+    → list_all (λ e. thread_exists threads e.site) es ≡ true
 there_all threads names [] h = refl
 there_all threads names (e ∷ es) h = rw (one_there threads names e.site h.0, there_all threads names es h.1) refl
 
@@ -88,74 +89,115 @@ Quantified-unique ts Forall Forall r s e f = (refl, cc)
 -- ---- where the block and the header end early
 
 -- where nothing of the front is there, no parts are
-pub no_front : (arch : Arch) (ts : TokenList) → ((es : List EntrySyntax) (n : ℕ) (mid rest : TokenList) → Block arch ts es mid → Header mid n rest → AllByRecursion (λ e. ThreadExists n e.site) es → length (with_names [] (site_names (sites_of es))) ≤ 8 → ⊥) → (s : TestSyntax) → Parts arch ts s → ⊥
+pub no_front : (arch : Arch) (ts : TokenList) → ((es : List EntrySyntax) (n : ℕ) (mid rest : TokenList) → Block arch ts es mid → Header mid n rest
+    → AllByRecursion (λ e. ThreadExists n e.site) es → length (with_names [] (site_names (sites_of es))) ≤ 8 → ⊥) → (s : TestSyntax) → Parts arch ts s → ⊥
 no_front arch ts never s p =
     never s.entries s.threads p.behind_block p.behind_header p.block p.header p.there
-    (omega (arith, p.few_names, ap length (table_parts s), with_names-longer (with_names [] (site_names (sites_of s.entries))) (site_names s.listed), with_names-longer (with_names (with_names [] (site_names (sites_of s.entries))) (site_names s.listed)) (site_names (sites_in s.terminals))))
+    (omega (
+      arith,
+      p.few_names,
+      ap length (table_parts s),
+      with_names-longer (with_names [] (site_names (sites_of s.entries)))
+          (site_names s.listed),
+      with_names-longer (with_names (with_names [] (site_names (sites_of s.entries))) (site_names s.listed))
+          (site_names (sites_in s.terminals)),
+    ))
 
 module _ (arch : Arch) (ts a : TokenList) (entries : List EntrySyntax) (block : Block arch ts entries a) where
-  pub no_header : ((n : ℕ) (rest : TokenList) → Header a n rest → ⊥) → (es : List EntrySyntax) (n : ℕ) (mid rest : TokenList) → Block arch ts es mid → Header mid n rest → ⊥
+  pub no_header : ((n : ℕ) (rest : TokenList) → Header a n rest → ⊥) → (es : List EntrySyntax) (n : ℕ) (mid rest : TokenList) → Block arch ts es mid
+      → Header mid n rest → ⊥
   no_header never es n mid rest b h = never n rest (subst (λ l. Header l n rest) (Block-unique arch ts es entries mid a b block).1 h)
 
-  pub no_thread : (n : ℕ) (b : TokenList) → Header a n b → (names : NameTable) (made : List MadeEntry) → entries ≡ map (named_entry names) made → list_all (λ e. thread_exists n e.site) made ≡ false → (es : List EntrySyntax) (m : ℕ) (mid rest : TokenList) → Block arch ts es mid → Header mid m rest → AllByRecursion (λ e. ThreadExists m e.site) es → ⊥
+  pub no_thread : (n : ℕ) (b : TokenList) → Header a n b → (names : NameTable) (made : List MadeEntry) → entries ≡ map (named_entry names) made
+      → list_all (λ e. thread_exists n e.site) made ≡ false → (es : List EntrySyntax) (m : ℕ) (mid rest : TokenList) → Block arch ts es mid
+      → Header mid m rest → AllByRecursion (λ e. ThreadExists m e.site) es → ⊥
   no_thread n b header names made is none es m mid rest c h there =
       let e = Block-unique arch ts es entries mid a c block in
       let u = Names-unique 0 m n a rest b (subst (λ l. Header l m rest) e.1 h).0 header.0 in
-      let all = there_all n names made (subst (λ l. AllByRecursion (λ e. ThreadExists n e.site) l) (e.0 ∙ is) (subst (λ k. AllByRecursion (λ e. ThreadExists k e.site) es) u.0 there)) in
+      let all = there_all n names made (subst (λ l. AllByRecursion (λ e. ThreadExists n e.site) l) (e.0 ∙ is)
+      (subst (λ k. AllByRecursion (λ e. ThreadExists k e.site) es) u.0 there)) in
       cc
 
 -- ---- where the condition ends early
 
 module _ (arch : Arch) (threads : ℕ) (ts first : TokenList) where
-  pub no_list : ((ss : List SiteSyntax) (rest : TokenList) → Listed arch ts ss rest → AllByRecursion (ThreadExists threads) ss → length (with_names first (site_names ss)) ≤ 8 → ⊥) → (all : List SiteSyntax) (q : Quant) (ss : List (Terminal AtomSyntax)) → Condition arch threads ts all q ss → length (with_names (with_names first (site_names all)) (site_names (sites_in ss))) ≤ 8 → ⊥
-  no_list never all q ss c few = never all c.behind_list c.lists c.there (omega (arith, few, with_names-longer (with_names first (site_names all)) (site_names (sites_in ss))))
+  pub no_list : ((ss : List SiteSyntax) (rest : TokenList) → Listed arch ts ss rest → AllByRecursion (ThreadExists threads) ss
+      → length (with_names first (site_names ss)) ≤ 8 → ⊥) → (all : List SiteSyntax) (q : Quant) (ss : List (Terminal AtomSyntax))
+      → Condition arch threads ts all q ss → length (with_names (with_names first (site_names all)) (site_names (sites_in ss))) ≤ 8 → ⊥
+  no_list never all q ss c few = never all c.behind_list c.lists c.there
+      (omega (arith, few, with_names-longer (with_names first (site_names all)) (site_names (sites_in ss))))
 
   module _ (listed : List SiteSyntax) (d : TokenList) (lists : Listed arch ts listed d) where
-    pub no_quant : ((q : Quant) (rest : TokenList) → Quantified d q rest → ⊥) → (all : List SiteSyntax) (q : Quant) (ss : List (Terminal AtomSyntax)) → Condition arch threads ts all q ss → ⊥
+    pub no_quant : ((q : Quant) (rest : TokenList) → Quantified d q rest → ⊥) → (all : List SiteSyntax) (q : Quant) (ss : List (Terminal AtomSyntax))
+        → Condition arch threads ts all q ss → ⊥
     no_quant never all q ss c =
         let u = Listed-unique arch ts all listed c.behind_list d c.lists lists in
         never q c.behind_quant (subst (λ l. Quantified l q c.behind_quant) u.1 c.quantifies)
 
-    module _ (quant : Quant) (e : TokenList) (quantifies : Quantified d quant e) (names : NameTable) (is_names : names ≡ with_names first (site_names listed)) where
-      pub no_terminals : ((ss : List (Terminal AtomSyntax)) (p : Formula) → Terminals arch threads e ss → length (with_names names (site_names (sites_in ss))) ≤ 8 → length (filter is_node ss) ≤ 256 → IsProposition (map (resolved (with_names names (site_names (sites_in ss)))) ss) p → ⊥) → (all : List SiteSyntax) (q : Quant) (ss : List (Terminal AtomSyntax)) (p : Formula) → Condition arch threads ts all q ss → length (with_names (with_names first (site_names all)) (site_names (sites_in ss))) ≤ 8 → length (filter is_node ss) ≤ 256 → IsProposition (map (resolved (with_names (with_names first (site_names all)) (site_names (sites_in ss)))) ss) p → ⊥
+    module _ (quant : Quant) (e : TokenList) (quantifies : Quantified d quant e) (names : NameTable)
+        (is_names : names ≡ with_names first (site_names listed)) where
+      pub no_terminals : ((ss : List (Terminal AtomSyntax)) (p : Formula) → Terminals arch threads e ss
+          → length (with_names names (site_names (sites_in ss))) ≤ 8 → length (filter is_node ss) ≤ 256
+          → IsProposition (map (resolved (with_names names (site_names (sites_in ss)))) ss) p → ⊥)
+          → (all : List SiteSyntax) (q : Quant) (ss : List (Terminal AtomSyntax)) (p : Formula) → Condition arch threads ts all q ss
+          → length (with_names (with_names first (site_names all)) (site_names (sites_in ss))) ≤ 8 → length (filter is_node ss) ≤ 256
+          → IsProposition (map (resolved (with_names (with_names first (site_names all)) (site_names (sites_in ss)))) ss) p → ⊥
       no_terminals never all q ss p c few nodes whole =
           let u = Listed-unique arch ts all listed c.behind_list d c.lists lists in
           let v = Quantified-unique d q quant c.behind_quant e (subst (λ l. Quantified l q c.behind_quant) u.1 c.quantifies) quantifies in
           let same : with_names first (site_names all) ≡ names = ap (λ l. with_names first (site_names l)) u.0 ∙ sym is_names in
-          never ss p (subst (λ l. Terminals arch threads l ss) v.1 c.says) (subst (λ ns. length (with_names ns (site_names (sites_in ss))) ≤ 8) same few) nodes (subst (λ ns. IsProposition (map (resolved (with_names ns (site_names (sites_in ss)))) ss) p) same whole)
+          never ss p (subst (λ l. Terminals arch threads l ss) v.1 c.says)
+          (subst (λ ns. length (with_names ns (site_names (sites_in ss))) ≤ 8) same few) nodes
+          (subst (λ ns. IsProposition (map (resolved (with_names ns (site_names (sites_in ss)))) ss) p) same whole)
 
 -- ---- where the parts end early
 
 module _ (arch : Arch) (ts a : TokenList) (entries : List EntrySyntax) (block : Block arch ts entries a) (n : ℕ) (b : TokenList) (header : Header a n b) where
-  at_rows : (s : TestSyntax) (p : Parts arch ts s) → (s.entries ≡ entries) × (s.threads ≡ n) × Rows n b s.rows p.behind_rows × Condition arch n p.behind_rows s.listed s.quant s.terminals
+  at_rows : (s : TestSyntax) (p : Parts arch ts s) → (s.entries ≡ entries) × (s.threads ≡ n) × Rows n b s.rows p.behind_rows
+      × Condition arch n p.behind_rows s.listed s.quant s.terminals
   at_rows s p =
       let e = Block-unique arch ts s.entries entries p.behind_block a p.block block in
-      let u = Names-unique 0 s.threads n a p.behind_header b (subst (λ l. Header l s.threads p.behind_header) e.1 p.header).0 header.0 in
-      (e.0, u.0, subst (λ l. Rows n l s.rows p.behind_rows) u.1 (subst (λ m. Rows m p.behind_header s.rows p.behind_rows) u.0 p.rows), subst (λ m. Condition arch m p.behind_rows s.listed s.quant s.terminals) u.0 p.condition)
+      let u = Names-unique 0 s.threads n a p.behind_header b (subst (λ l. Header l s.threads p.behind_header) e.1 p.header).0 header.0 in (
+        e.0,
+        u.0,
+        subst (λ l. Rows n l s.rows p.behind_rows) u.1 (subst (λ m. Rows m p.behind_header s.rows p.behind_rows) u.0 p.rows),
+        subst
+            (λ m. Condition arch m p.behind_rows s.listed s.quant s.terminals) u.0 p.condition,
+      )
 
   pub no_rows : ((rows : CellGrid) (rest : TokenList) → Rows n b rows rest → ⊥) → (s : TestSyntax) → Parts arch ts s → ⊥
   no_rows never s p = never s.rows p.behind_rows (at_rows s p).2
 
-  module _ (rows : CellGrid) (c : TokenList) (are_rows : Rows n b rows c) (first : TokenList) (is_first : first ≡ with_names [] (site_names (sites_of entries))) where
-    at_condition : (s : TestSyntax) → Parts arch ts s → (s.entries ≡ entries) × (s.threads ≡ n) × (s.rows ≡ rows) × Condition arch n c s.listed s.quant s.terminals
+  module _ (rows : CellGrid) (c : TokenList) (are_rows : Rows n b rows c) (first : TokenList)
+      (is_first : first ≡ with_names [] (site_names (sites_of entries))) where
+    at_condition : (s : TestSyntax) → Parts arch ts s → (s.entries ≡ entries) × (s.threads ≡ n) × (s.rows ≡ rows)
+        × Condition arch n c s.listed s.quant s.terminals
     at_condition s p =
         let h = at_rows s p in
         let u = Rows-unique n b p.behind_rows c s.rows rows h.2 are_rows in
         (h.0, h.1, u.0, subst (λ l. Condition arch n l s.listed s.quant s.terminals) u.1 h.3)
 
-    pub no_condition : ((listed : List SiteSyntax) (quant : Quant) (ss : List (Terminal AtomSyntax)) (p : Formula) → Condition arch n c listed quant ss → length (with_names (with_names first (site_names listed)) (site_names (sites_in ss))) ≤ 8 → length (filter is_node ss) ≤ 256 → IsProposition (map (resolved (with_names (with_names first (site_names listed)) (site_names (sites_in ss)))) ss) p → ⊥) → (s : TestSyntax) (p : Formula) → Parts arch ts s → IsProposition (map (resolved (table s)) s.terminals) p → ⊥
+    pub no_condition : ((listed : List SiteSyntax) (quant : Quant) (ss : List (Terminal AtomSyntax)) (p : Formula) → Condition arch n c listed quant ss
+        → length (with_names (with_names first (site_names listed)) (site_names (sites_in ss))) ≤ 8 → length (filter is_node ss) ≤ 256
+        → IsProposition (map (resolved (with_names (with_names first (site_names listed)) (site_names (sites_in ss)))) ss) p → ⊥)
+        → (s : TestSyntax) (p : Formula) → Parts arch ts s → IsProposition (map (resolved (table s)) s.terminals) p → ⊥
     no_condition never s f p whole =
         let h = at_condition s p in
         let names : with_names [] (site_names (sites_of s.entries)) ≡ first = ap (λ es. with_names [] (site_names (sites_of es))) h.0 ∙ sym is_first in
-        let all : table s ≡ with_names (with_names first (site_names s.listed)) (site_names (sites_in s.terminals)) = table_parts s ∙ ap (λ ns. with_names (with_names ns (site_names s.listed)) (site_names (sites_in s.terminals))) names in
-        never s.listed s.quant s.terminals f h.3 (omega (arith, p.few_names, ap length all)) p.few_nodes (subst (λ ns. IsProposition (map (resolved ns) s.terminals) f) all whole)
+        let all : table s ≡ with_names (with_names first (site_names s.listed)) (site_names (sites_in s.terminals)) = table_parts s ∙ ap
+        (λ ns. with_names (with_names ns (site_names s.listed)) (site_names (sites_in s.terminals))) names in
+        never s.listed s.quant s.terminals f h.3 (omega (arith, p.few_names, ap length all)) p.few_nodes
+        (subst (λ ns. IsProposition (map (resolved ns) s.terminals) f) all whole)
 
 pub Parts-unique : (arch : Arch) (ts : TokenList) (s t : TestSyntax) → Parts arch ts s → Parts arch ts t → s ≡ t
 Parts-unique arch ts s t p q =
-    let h = at_condition arch ts q.behind_block t.entries q.block t.threads q.behind_header q.header t.rows q.behind_rows q.rows (with_names [] (site_names (sites_of t.entries))) refl s p in
+    let h = at_condition arch ts q.behind_block t.entries q.block t.threads q.behind_header q.header t.rows q.behind_rows q.rows
+    (with_names [] (site_names (sites_of t.entries))) refl s p in
     let u = Listed-unique arch q.behind_rows s.listed t.listed h.3.behind_list q.condition.behind_list h.3.lists q.condition.lists in
-    let v = Quantified-unique q.condition.behind_list s.quant t.quant h.3.behind_quant q.condition.behind_quant (subst (λ l. Quantified l s.quant h.3.behind_quant) u.1 h.3.quantifies) q.condition.quantifies in
-    let w = Terminals-unique arch t.threads s.terminals t.terminals q.condition.behind_quant (subst (λ l. Terminals arch t.threads l s.terminals) v.1 h.3.says) q.condition.says in
+    let v = Quantified-unique q.condition.behind_list s.quant t.quant h.3.behind_quant q.condition.behind_quant
+    (subst (λ l. Quantified l s.quant h.3.behind_quant) u.1 h.3.quantifies) q.condition.quantifies in
+    let w = Terminals-unique arch t.threads s.terminals t.terminals q.condition.behind_quant
+    (subst (λ l. Terminals arch t.threads l s.terminals) v.1 h.3.says) q.condition.says in
     let a : s.entries ≡ t.entries = h.0 in
     let b : s.threads ≡ t.threads = h.1 in
     let c : s.rows ≡ t.rows = h.2 in
@@ -163,7 +205,8 @@ Parts-unique arch ts s t p q =
     let e : s.quant ≡ t.quant = v.0 in
     same_syntax s t a b c d e w
   where
-    same_syntax : (s t : TestSyntax) → s.entries ≡ t.entries → s.threads ≡ t.threads → s.rows ≡ t.rows → s.listed ≡ t.listed → s.quant ≡ t.quant → s.terminals ≡ t.terminals → s ≡ t
+    same_syntax : (s t : TestSyntax) → s.entries ≡ t.entries → s.threads ≡ t.threads → s.rows ≡ t.rows → s.listed ≡ t.listed → s.quant ≡ t.quant
+        → s.terminals ≡ t.terminals → s ≡ t
     same_syntax s t a b c d e f =
         ap (λ x. record { entries = x; threads = s.threads; rows = s.rows; listed = s.listed; quant = s.quant; terminals = s.terminals }) a
         ∙ ap (λ (x : ℕ). record { entries = t.entries; threads = x; rows = s.rows; listed = s.listed; quant = s.quant; terminals = s.terminals }) b
@@ -174,7 +217,8 @@ Parts-unique arch ts s t p q =
 
 -- ---- what a body says
 
-module _ (arch : Arch) (ts a : TokenList) (names : NameTable) (es : List MadeEntry) (block : Block arch ts (map (named_entry names) es) a) (is_names : names ≡ with_names [] (site_names (map (λ e. named names e.site) es))) where
+module _ (arch : Arch) (ts a : TokenList) (names : NameTable) (es : List MadeEntry) (block : Block arch ts (map (named_entry names) es) a)
+    (is_names : names ≡ with_names [] (site_names (map (λ e. named names e.site) es))) where
   pub first_names : names ≡ with_names [] (site_names (sites_of (map (named_entry names) es)))
   first_names = is_names ∙ ap (λ l. with_names [] (site_names l)) (sym (sites_of_block names es))
 
@@ -184,7 +228,8 @@ pub header_some : (ts rest : TokenList) (n : ℕ) → Header ts n rest → 1 ≤
 header_some ts rest zero h = absurd h.0
 header_some ts rest (suc n) h = omega arith
 
-lines_even : {A : Type 0} (n : ℕ) (rows : List (List (Cell A))) (ts rest : TokenList) → Until begins_stop (Row n) ts (all_texts rows) rest → AllByRecursion (λ row. length row ≡ n) rows
+lines_even : {A : Type 0} (n : ℕ) (rows : List (List (Cell A))) (ts rest : TokenList) → Until begins_stop (Row n) ts (all_texts rows) rest
+    → AllByRecursion (λ row. length row ≡ n) rows
 lines_even n [] ts rest u = tt
 lines_even n (row ∷ rows) ts rest u = (sym (length-map row cell_texts) ∙ u.1.1.1, lines_even n rows u.1.0 rest u.1.2)
 
@@ -195,19 +240,22 @@ Rows-even n rows ts rest r = All-from_recursion (λ row. length row ≡ n) rows 
 -- ---- the text
 
 -- where a text's tokens, if it has some, are no test's, it has no frame
-pub no_frame : (text : Bytes) (arch : Arch) (name rest : Bytes) → Heading text arch name rest → ((ts : TokenList) → Tokens rest ts → IsNoTest arch ts) → (frame : TestFrame) → HasFrame text frame → ⊥
+pub no_frame : (text : Bytes) (arch : Arch) (name rest : Bytes) → Heading text arch name rest → ((ts : TokenList) → Tokens rest ts → IsNoTest arch ts)
+    → (frame : TestFrame) → HasFrame text frame → ⊥
 no_frame text arch name rest heading never frame h =
     let e = Heading-unique text h.arch h.name h.rest arch name rest h.heading heading in
     never h.tokens (subst (λ x. Tokens x h.tokens) e.2 h.row) h.syntax h.condition (subst (λ a. Parts a h.tokens h.syntax) e.0 h.parts) h.proposition
 
 -- the tokens up to the first lexical fault, if there is one, are no test's
-pub no_test : {F : Type 0} (arch : Arch) (o : Option F) (rest : Bytes) (ts : TokenList) → IfNone o (Tokens rest ts) → OnSome o ((us : TokenList) → Tokens rest us → ⊥) → IfNone o (IsNoTest arch ts) → (us : TokenList) → Tokens rest us → IsNoTest arch us
+pub no_test : {F : Type 0} (arch : Arch) (o : Option F) (rest : Bytes) (ts : TokenList) → IfNone o (Tokens rest ts)
+    → OnSome o ((us : TokenList) → Tokens rest us → ⊥) → IfNone o (IsNoTest arch ts) → (us : TokenList) → Tokens rest us → IsNoTest arch us
 no_test arch None rest ts row fault never us other s p parts whole = never s p (subst (λ x. Parts arch x s) (Tokens-unique us ts rest other row) parts) whole
 no_test arch (Some f) rest ts row fault never us other s p parts whole = fault us other
 
 -- where no quantifier stands
 module _ {T : Type 0} (ts : TokenList) (r : Result T Refusal) where
-  pub no_exists : (l : TokenList) → ts ≡ codes "~" ∷ l → ((rest : TokenList) → l ≡ codes "exists" ∷ rest → ⊥) → OnErr r ((q : Quant) (rest : TokenList) → Quantified ts q rest → ⊥)
+  pub no_exists : (l : TokenList) → ts ≡ codes "~" ∷ l → ((rest : TokenList) → l ≡ codes "exists" ∷ rest → ⊥)
+      → OnErr r ((q : Quant) (rest : TokenList) → Quantified ts q rest → ⊥)
   no_exists l e never = at r
     where
       none : (q : Quant) (rest : TokenList) → Quantified ts q rest → ⊥
@@ -219,7 +267,8 @@ module _ {T : Type 0} (ts : TokenList) (r : Result T Refusal) where
       at (Ok x) = tt
       at (Err f) = none
 
-  pub no_quantifier : begins_word (codes "~") ts ≡ false → (here : TokenList) → here ≡ ts → ((rest : TokenList) → here ≡ codes "exists" ∷ rest → ⊥) → ((rest : TokenList) → here ≡ codes "forall" ∷ rest → ⊥) → OnErr r ((q : Quant) (rest : TokenList) → Quantified ts q rest → ⊥)
+  pub no_quantifier : begins_word (codes "~") ts ≡ false → (here : TokenList) → here ≡ ts → ((rest : TokenList) → here ≡ codes "exists" ∷ rest → ⊥)
+      → ((rest : TokenList) → here ≡ codes "forall" ∷ rest → ⊥) → OnErr r ((q : Quant) (rest : TokenList) → Quantified ts q rest → ⊥)
   no_quantifier no_tilde here same no_first no_second = at r
     where
       none : (q : Quant) (rest : TokenList) → Quantified ts q rest → ⊥

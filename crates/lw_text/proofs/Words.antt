@@ -14,7 +14,8 @@ use Rattle.lw_text.specs.Tokens.{begins_trivia, begins_pair, is_single, is_pair,
 -- ---- rows of bytes
 
 -- Up to the first byte that fails a test, a text is read in one way.
-pub run-unique : (p : ℕ → Bool) (w r v s : Bytes) → AllByRecursion (λ b. p b ≡ true) w → AllByRecursion (λ b. p b ≡ true) v → begins p r ≡ false → begins p s ≡ false → w ++ r ≡ v ++ s → (w ≡ v) × (r ≡ s)
+pub run-unique : (p : ℕ → Bool) (w r v s : Bytes) → AllByRecursion (λ b. p b ≡ true) w → AllByRecursion (λ b. p b ≡ true) v → begins p r ≡ false
+    → begins p s ≡ false → w ++ r ≡ v ++ s → (w ≡ v) × (r ≡ s)
 run-unique p [] r [] s a c m n e = (refl, e)
 run-unique p [] r (b ∷ v) s a c m n e = absurd (let h : begins p r ≡ p b = ap (begins p) e in cc (c.0))
 run-unique p (b ∷ w) r [] s a c m n e = absurd (let h : p b ≡ begins p s = ap (begins p) e in cc (a.0))
@@ -51,10 +52,16 @@ symbol_front (b ∷ c ∷ []) rest h = not-true (is_word_byte b) (pair_all (begi
 symbol_front (b ∷ c ∷ d ∷ more) rest h = absurd h
 
 -- no trivia begins with a byte that passes a test which no blank and no `(` passes
-pub no_trivia_at : (p : ℕ → Bool) (b : ℕ) (text : Bytes) → list_all (λ x. not (p x)) (32 ∷ 9 ∷ 10 ∷ 13 ∷ []) ≡ true → p 40 ≡ false → p b ≡ true → begins_trivia (b ∷ text) ≡ false
+pub no_trivia_at : (p : ℕ → Bool) (b : ℕ) (text : Bytes) → list_all (λ x. not (p x)) (32 ∷ 9 ∷ 10 ∷ 13 ∷ []) ≡ true → p 40 ≡ false → p b ≡ true
+    → begins_trivia (b ∷ text) ≡ false
 no_trivia_at p b text blanks bracket h =
-    let k : is_blank b ≡ false = elim (cases_Bool (is_blank b)) [ inl e ↦ absurd (let i = not-true (p b) (blank_all (λ x. not (p x)) b blanks e) in cc) | inr e ↦ e ] in
-    let m : (b == 40) ≡ false = elim (cases_Bool (b == 40)) [ inl e ↦ absurd (let i : b ≡ 40 = eqb-true b 40 e in let j : p b ≡ p 40 = ap p i in cc) | inr e ↦ e ] in
+    let k : is_blank b ≡ false = elim (cases_Bool (is_blank b))
+    [ inl e ↦ absurd (let i = not-true (p b) (blank_all (λ x. not (p x)) b blanks e) in cc) | inr e ↦ e ] in
+    let m : (b == 40) ≡ false = elim (cases_Bool (b == 40)) [
+      | inl e ↦ absurd
+          (let i : b ≡ 40 = eqb-true b 40 e in let j : p b ≡ p 40 = ap p i in cc)
+      | inr e ↦ e
+    ] in
     rw (k, m) refl
 
 -- no trivia begins where a token does
@@ -85,12 +92,14 @@ symbol-unique (b ∷ []) r [] s p q e = absurd q
 symbol-unique (b ∷ []) r (c ∷ []) s p q e = (cc, cc)
 symbol-unique (b ∷ []) r (c ∷ d ∷ []) s p q e =
     let k : b ≡ c = cc in
-    absurd (let h : begins (is_pair b) r ≡ is_pair b d = ap (begins (is_pair b)) (let i : r ≡ d ∷ s = cc in i) in let i : is_pair b d ≡ true = subst (λ x. is_pair x d ≡ true) (sym k) q in cc (p.1))
+    absurd (let h : begins (is_pair b) r ≡ is_pair b d = ap (begins (is_pair b)) (let i : r ≡ d ∷ s = cc in i) in let i : is_pair b d ≡ true = subst
+    (λ x. is_pair x d ≡ true) (sym k) q in cc (p.1))
 symbol-unique (b ∷ []) r (c ∷ d ∷ f ∷ u) s p q e = absurd q
 symbol-unique (a ∷ b ∷ []) r [] s p q e = absurd q
 symbol-unique (a ∷ b ∷ []) r (c ∷ []) s p q e =
     let k : c ≡ a = cc in
-    absurd (let h : is_pair c b ≡ begins (is_pair c) s = ap (begins (is_pair c)) (let i : b ∷ r ≡ s = cc in i) in let i : is_pair c b ≡ true = subst (λ x. is_pair x b ≡ true) (sym k) p in cc (q.1))
+    absurd (let h : is_pair c b ≡ begins (is_pair c) s = ap (begins (is_pair c)) (let i : b ∷ r ≡ s = cc in i) in let i : is_pair c b ≡ true = subst
+    (λ x. is_pair x b ≡ true) (sym k) p in cc (q.1))
 symbol-unique (a ∷ b ∷ []) r (c ∷ d ∷ []) s p q e = (cc, cc)
 symbol-unique (a ∷ b ∷ []) r (c ∷ d ∷ f ∷ u) s p q e = absurd q
 symbol-unique (a ∷ b ∷ c ∷ t) r u s p q e = absurd p
@@ -104,11 +113,14 @@ token-unique t r u s (inr p) (inr q) e = symbol-unique t r u s p q e
 -- ---- what the reader of one token owes
 
 -- no token stands where a word does that is neither a name nor a number
-pub no_kind : (bytes w r : Bytes) → bytes ≡ w ++ r → Words w → begins is_word_byte r ≡ false → begins is_word_byte bytes ≡ true → (IsKind w → ⊥) → (t rest : Bytes) → bytes ≡ t ++ rest → IsToken t rest → ⊥
-no_kind bytes w r e all longest front never t rest f (inl p) = never (subst IsKind (run-unique is_word_byte t rest w r p.all all p.longest longest (sym f ∙ e)).0 p.kind)
+pub no_kind : (bytes w r : Bytes) → bytes ≡ w ++ r → Words w → begins is_word_byte r ≡ false → begins is_word_byte bytes ≡ true → (IsKind w → ⊥)
+    → (t rest : Bytes) → bytes ≡ t ++ rest → IsToken t rest → ⊥
+no_kind bytes w r e all longest front never t rest f (inl p) = never
+    (subst IsKind (run-unique is_word_byte t rest w r p.all all p.longest longest (sym f ∙ e)).0 p.kind)
 no_kind bytes w r e all longest front never t rest f (inr p) = let h = symbol_front t rest p in let i = ap (begins is_word_byte) f in cc
 
-pub no_token : (bytes rest : Bytes) (b : ℕ) → bytes ≡ b ∷ rest → is_word_byte b ≡ false → ((is_single b ≡ true) × (begins_pair 40 42 bytes ≡ false) → ⊥) → ((c d : ℕ) (more : Bytes) → bytes ≡ c ∷ d ∷ more → is_pair c d ≡ true → ⊥) → (t more : Bytes) → bytes ≡ t ++ more → IsToken t more → ⊥
+pub no_token : (bytes rest : Bytes) (b : ℕ) → bytes ≡ b ∷ rest → is_word_byte b ≡ false → ((is_single b ≡ true) × (begins_pair 40 42 bytes ≡ false) → ⊥)
+    → ((c d : ℕ) (more : Bytes) → bytes ≡ c ∷ d ∷ more → is_pair c d ≡ true → ⊥) → (t more : Bytes) → bytes ≡ t ++ more → IsToken t more → ⊥
 no_token bytes rest b e no_word no_single short t more f (inl p) = let h = word_front t more p in let i = ap (begins is_word_byte) (sym e ∙ f) in cc
 no_token bytes rest b e no_word no_single short [] more f (inr p) = p
 no_token bytes rest b e no_word no_single short (c ∷ []) more f (inr p) =
@@ -118,7 +130,8 @@ no_token bytes rest b e no_word no_single short (c ∷ d ∷ []) more f (inr p) 
 no_token bytes rest b e no_word no_single short (c ∷ d ∷ g ∷ t) more f (inr p) = p
 
 -- a symbol of two bytes at the front
-pub long_symbol : (bytes t rest : Bytes) → ((b c : ℕ) × (more : Bytes) × (bytes ≡ b ∷ c ∷ more) × (is_pair b c ≡ true)) → t ≡ take 2 bytes → rest ≡ drop 2 bytes → (bytes ≡ t ++ rest) × IsToken t rest
+pub long_symbol : (bytes t rest : Bytes) → ((b c : ℕ) × (more : Bytes) × (bytes ≡ b ∷ c ∷ more) × (is_pair b c ≡ true)) → t ≡ take 2 bytes
+    → rest ≡ drop 2 bytes → (bytes ≡ t ++ rest) × IsToken t rest
 long_symbol bytes t rest (b, c, more, e, p) f g = rw (f, g, e) (refl, inr p)
 
 -- one of a single byte, where no longer one begins
@@ -126,13 +139,15 @@ no_longer : (more : Bytes) (b : ℕ) → ((d : ℕ) (l : Bytes) → more ≡ d �
 no_longer [] b h = refl
 no_longer (d ∷ l) b h = elim (cases_Bool (is_pair b d)) [ inl e ↦ absurd (h d l refl e) | inr e ↦ e ]
 
-pub short_symbol : (bytes more t rest : Bytes) (b : ℕ) → bytes ≡ b ∷ more → ((c d : ℕ) (l : Bytes) → bytes ≡ c ∷ d ∷ l → is_pair c d ≡ true → ⊥) → (is_single b ≡ true) × (begins_pair 40 42 bytes ≡ false) → t ≡ take 1 bytes → rest ≡ drop 1 bytes → (bytes ≡ t ++ rest) × IsToken t rest
+pub short_symbol : (bytes more t rest : Bytes) (b : ℕ) → bytes ≡ b ∷ more → ((c d : ℕ) (l : Bytes) → bytes ≡ c ∷ d ∷ l → is_pair c d ≡ true → ⊥)
+    → (is_single b ≡ true) × (begins_pair 40 42 bytes ≡ false) → t ≡ take 1 bytes → rest ≡ drop 1 bytes → (bytes ≡ t ++ rest) × IsToken t rest
 short_symbol bytes more t rest b e no_pair single f g =
     let longer = no_longer more b (λ d l k. no_pair b d l (e ∙ ap (λ x. b ∷ x) k)) in
     let shut : begins_pair 40 42 (b ∷ more) ≡ false = subst (λ x. begins_pair 40 42 x ≡ false) e single.1 in
     rw (f, g, e) (refl, inr (single.0, longer, shut))
 
 -- a word that is no name is told by whether it is a number
-pub kind_number : (w : Bytes) (name number : Bool) (o : Option ℕ) → (IsName w → name ≡ true) → name ≡ false → MatchOption o ((n : ℕ) → IsNumber w n → ⊥) (λ n. IsNumber w n) → number ≡ is_some o → (number ≡ true → IsKind w) × (IsKind w → number ≡ true)
+pub kind_number : (w : Bytes) (name number : Bool) (o : Option ℕ) → (IsName w → name ≡ true) → name ≡ false
+    → MatchOption o ((n : ℕ) → IsNumber w n → ⊥) (λ n. IsNumber w n) → number ≡ is_some o → (number ≡ true → IsKind w) × (IsKind w → number ≡ true)
 kind_number w name number None is other never e = (λ h. absurd cc, λ k. elim k [ inl n ↦ absurd (let h = is n in cc) | inr n ↦ absurd (never n.0 n.1) ])
 kind_number w name number (Some m) is other found e = (λ h. inr (m, found), λ k. e)

@@ -9,7 +9,7 @@ use Rattle.lw_base.specs.declared.head.Quant.{Quant}
 use Rattle.lw_base.specs.declared.head.Seen.{Seen}
 use Rattle.lw_base.specs.Formula.{Formula}
 use Rattle.lw_base.specs.Heads.{TestHead}
-use Rattle.lw_base.specs.SeenLists.{same_seen, registers_of, all_registers, locations}
+use Rattle.lw_base.specs.SeenLists.{same_seen, thread_registers, all_registers, locations}
 use Rattle.lw_base.specs.Tables.{with_names}
 use Rattle.lw_text.specs.Tokens.{Tokens}
 use Rattle.lw_text.specs.Headings.{Heading}
@@ -98,7 +98,7 @@ head_of_syntax arch name s condition =
       threads = s.threads;
       locs = table s;
       init_regs =
-          map (λ t. map (word_of (table s) s.entries) (registers_of t)) (range_with_len 0 s.threads);
+          map (λ t. map (word_of (table s) s.entries) (thread_registers t)) (range_with_len 0 s.threads);
       init_words = map (word_of (table s) s.entries) (locations (length (table s)));
       listed = listed_in s.threads (table s) s.listed;
       quant = s.quant;

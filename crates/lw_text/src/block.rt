@@ -1,8 +1,8 @@
 //! The initial block of a test: its entries, each a site and the word that it begins with.
-ghost use Rattle.std.specs.Prelude.{◌≡◌, ℕ, ◌≤◌, true, false, [], ◌∷◌, map, All, OnOk, OnErr, IfOk, IfErr};
+ghost use Rattle.std.specs.Prelude.{◌≡◌, true, false, map, All, OnOk, OnErr, IfOk, IfErr};
 ghost use Rattle.std.specs.List.{list_all};
 ghost use Rattle.lw_base.specs.Refusals.{NotReadWhere};
-ghost use Rattle.lw_text.specs.Frames.{sites_of, Entries, IsEntry, Block};
+ghost use Rattle.lw_text.specs.Frames.{sites_of, Block};
 ghost use Rattle.lw_text.specs.Sites.{HasRoomFor, with_sites};
 ghost use Rattle.lw_text.specs.declared.fault.Cause.TheVariants.{Memory};
 ghost use Rattle.lw_text.specs.inner.Resolved.{named, named_entry, thread_exists, IsIn};
@@ -24,7 +24,8 @@ pub(crate) struct Entry {
 impl<'t, 'a> Cursor<'t, 'a> {
     ghost use Rattle.lw_text.specs.Views.{left, MovesOn};
 
-    /// Takes the block. The names of its locations go into the table.
+    /// Takes the block. The names of its locations go into the table. The threads of its entries are looked at
+    /// behind the header, which says how many there are.
     pub(crate) fn block<A: Allocator + Copy>(
         &mut self,
         alloc: A,
@@ -42,58 +43,18 @@ impl<'t, 'a> Cursor<'t, 'a> {
     {
         self.expect("{", Cause::Unexpected)?;
         let mut entries = Sequence::new(alloc);
-        self.entries(arch, &mut entries, locs)?;
-        Ok(entries)
-    }
-
-    /// Takes the entries of the block into a row that has none yet, and the `}` behind them. The names
-    /// of their locations go into the table.
-    fn entries<A: Allocator + Copy>(
-        &mut self,
-        arch: Arch,
-        entries: &mut Sequence<Entry, A>,
-        locs: &mut LocNames<A>,
-    ) -> Result<(), Refusal>
-        requires { entries.old ≡ [] }
-        ensures found { OnOk result (Entries arch (left self.old)
-            (map (named_entry locs.new) entries.new) (left self.new)) }
-        ensures names { OnOk result (locs.new ≡ with_sites locs.old (map
-            (λ e. named locs.new e.site) entries.new)) }
-        ensures within { OnOk result (All (λ e. IsIn locs.new e.site) entries.new) }
-        ensures fault { IfErr result (λ f. NotReadWhere Memory f.cause (Entries arch (left self.old))
-            (λ es. HasRoomFor locs.old (sites_of es))) }
-        ensures leaves { OnOk result (MovesOn self.old self.new) }
-    {
         'entries: loop {
             if self.takes("}") {
-                return Ok(());
+                return Ok(entries);
             }
-            entries.push(self.entry(arch, locs)?)?;
+            let token = self.next;
+            let site = self.site(arch, locs, None, Cause::Unexpected)?;
+            let word = self.value(Cause::Unexpected)?;
+            entries.push(Entry { token, site, word })?;
             if self.either("}", ";", Cause::Unexpected)? {
-                return Ok(());
+                return Ok(entries);
             }
         }
-    }
-
-    /// Takes an entry. Its thread is looked at behind the header, which says how many there are.
-    fn entry<A: Allocator + Copy>(
-        &mut self,
-        arch: Arch,
-        locs: &mut LocNames<A>,
-    ) -> Result<Entry, Refusal>
-        ensures found { IfOk result (λ e. IsEntry arch (left self.old) (named_entry locs.new e)
-            (left self.new)) }
-        ensures names { IfOk result (λ e. locs.new
-            ≡ with_sites locs.old (named locs.new e.site ∷ [])) }
-        ensures within { IfOk result (λ e. IsIn locs.new e.site) }
-        ensures fault { IfErr result (λ f. NotReadWhere Memory f.cause (IsEntry arch (left self.old))
-            (λ e. HasRoomFor locs.old (e.site ∷ []))) }
-        ensures leaves { OnOk result (MovesOn self.old self.new) }
-    {
-        let token = self.next;
-        let site = self.site(arch, locs, None, Cause::Unexpected)?;
-        let word = self.value(Cause::Unexpected)?;
-        Ok(Entry { token, site, word })
     }
 }
 

@@ -1,26 +1,22 @@
 //! The reader of all that stands behind a test's heading.
-ghost use Rattle.std.specs.Prelude.{◌≡◌, ◌≢◌, ℕ, ◌≤◌, true, List, map, All, OnOk, IfOk, IfErr, IfSome, IfNone, None};
-ghost use Rattle.std.specs.List.{list_all, AllByRecursion};
-ghost use Rattle.lw_base.specs.Types.{TokenList};
-ghost use Rattle.lw_text.specs.Frames.{sites_of, IsNoTest, EntrySyntax, Block};
-ghost use Rattle.lw_text.specs.Sites.{HasRoomFor, with_sites, ThreadExists};
+ghost use Rattle.std.specs.Prelude.{◌≡◌, ◌≢◌, ◌≤◌, All, OnOk, IfOk, IfErr, IfSome, IfNone, None};
+ghost use Rattle.lw_text.specs.Frames.{IsNoTest};
 ghost use Rattle.lw_text.specs.declared.fault.Cause.TheVariants.{Memory};
-ghost use Rattle.lw_text.specs.Rows.{Header};
 ghost use Rattle.lw_text.specs.Spans.{texts};
 ghost use Rattle.lw_text.specs.Places.{placed_tokens, placed_cells};
 ghost use Rattle.lw_text.specs.PlacedCells.{HasRows};
-ghost use Rattle.lw_text.specs.inner.Resolved.{named, named_entry, thread_exists, IsIn, HasSyntax};
+ghost use Rattle.lw_text.specs.inner.Resolved.{HasSyntax};
 
-use crate::block::{Entry, check_threads};
+use crate::block::check_threads;
 use crate::cursor::Cursor;
 use crate::fault::{Fault, Refusal};
 use crate::parts::{Body, HeadParts};
 use crate::token_stream::TokenStream;
-use lw_base::{Arch, LocNames, Sequence};
+use lw_base::{Arch, LocNames};
 use std::alloc::Allocator;
 
 impl<'t, 'a> Cursor<'t, 'a> {
-    ghost use Rattle.lw_text.specs.Views.{remaining, left, MovesOn};
+    ghost use Rattle.lw_text.specs.Views.{remaining, left};
 
     /// Takes all of it, in a test of the language.
     pub(crate) fn body<A: Allocator + Copy>(
@@ -34,7 +30,9 @@ impl<'t, 'a> Cursor<'t, 'a> {
             b.parts.threads (placed_cells b.rows)) }
     {
         let mut locs = LocNames::new(alloc);
-        let (entries, threads) = self.front(alloc, arch, &mut locs)?;
+        let entries = self.block(alloc, arch, &mut locs)?;
+        let threads = self.header()?;
+        check_threads(entries.as_slice(), threads)?;
         let rows = self.rows(alloc, threads)?;
         let (listed, quant, prop) = self.condition(alloc, arch, threads, &mut locs)?;
         let _len = locs.len();
@@ -47,33 +45,6 @@ impl<'t, 'a> Cursor<'t, 'a> {
             prop,
         };
         Ok(Body { parts, rows })
-    }
-
-    /// Takes the block and the header, where the threads of the block's entries are there. The names
-    /// of their locations go into the table.
-    fn front<A: Allocator + Copy>(
-        &mut self,
-        alloc: A,
-        arch: Arch,
-        locs: &mut LocNames<A>,
-    ) -> Result<(Sequence<Entry, A>, usize), Refusal>
-        ensures found { IfOk result (λ x. (mid : TokenList)
-            × Block arch (left self.old) (map (named_entry locs.new) x.0) mid
-            × Header mid x.1 (left self.new)) }
-        ensures there { IfOk result (λ x. list_all (λ e. thread_exists x.1 e.site) x.0 ≡ true) }
-        ensures names { IfOk result (λ x. locs.new ≡ with_sites locs.old (map
-            (λ e. named locs.new e.site) x.0)) }
-        ensures within { IfOk result (λ x. All (λ e. IsIn locs.new e.site) x.0) }
-        ensures fault { IfErr result (λ f. f.cause ≢ Memory
-            → (es : List EntrySyntax) (n : ℕ) (mid rest : TokenList) → Block arch (left self.old) es mid
-            → Header mid n rest → AllByRecursion (λ e. ThreadExists n e.site) es
-            → HasRoomFor locs.old (sites_of es) → ⊥) }
-        ensures leaves { OnOk result (MovesOn self.old self.new) }
-    {
-        let entries = self.block(alloc, arch, locs)?;
-        let threads = self.header()?;
-        check_threads(entries.as_slice(), threads)?;
-        Ok((entries, threads))
     }
 }
 

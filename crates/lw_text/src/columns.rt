@@ -7,7 +7,7 @@ use crate::rows::CellSequence;
 use lw_base::Sequence;
 use std::alloc::{AllocError, Allocator};
 
-/// So many columns of the rows.
+/// So many columns of the rows: what stands in each row at the same place.
 pub(crate) fn columns<'a, A: Allocator + Copy>(
     alloc: A,
     threads: usize,
@@ -18,24 +18,12 @@ pub(crate) fn columns<'a, A: Allocator + Copy>(
 {
     let mut columns = Sequence::new(alloc);
     for place in 0..threads {
-        columns.push(column(alloc, rows, place)?)?;
+        let mut column = Sequence::new(alloc);
+        for row in rows {
+            let cell: &Cell<'a, A> = &row.as_slice()[place];
+            column.push(cell.copy()?)?;
+        }
+        columns.push(column)?;
     }
     Ok(columns)
-}
-
-/// What stands in each row at this place.
-fn column<'a, A: Allocator + Copy>(
-    alloc: A,
-    rows: &[CellSequence<'a, A>],
-    place: usize,
-) -> Result<CellSequence<'a, A>, AllocError>
-    requires { All (λ row. place < length row) rows.now }
-    ensures { IfOk result (λ v. v ≡ wanted.column rows.now place) }
-{
-    let mut column = Sequence::new(alloc);
-    for row in rows {
-        let cell: &Cell<'a, A> = &row.as_slice()[place];
-        column.push(cell.copy()?)?;
-    }
-    Ok(column)
 }

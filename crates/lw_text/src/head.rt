@@ -4,7 +4,7 @@ ghost use Rattle.std.specs.List.{range_with_len};
 ghost use Rattle.lw_base.specs.Heads.{head_of};
 ghost use Rattle.lw_base.specs.Names.{IsTestName};
 ghost use Rattle.lw_base.specs.Types.{TokenList};
-ghost use Rattle.lw_base.specs.SeenLists.{registers_of, all_registers, locations};
+ghost use Rattle.lw_base.specs.SeenLists.{thread_registers, all_registers, locations};
 ghost use Rattle.lw_text.specs.inner.Resolved.{resolved_head, word_at, is_listed, HasSyntax};
 ghost use Rattle.lw_text.specs.Rows.{columns};
 ghost use Rattle.lw_text.specs.Places.{IsWithin};
@@ -56,7 +56,7 @@ impl<A: Allocator + Copy> HeadParts<A> {
     fn made(&self, alloc: A, name: &str) -> Result<Made<A>, AllocError>
         ensures name { IfOk result (λ m. m.name ≡ name.now) }
         ensures regs { IfOk result (λ m. m.init_regs ≡ map
-            (λ t. map (word_at self.now.entries) (registers_of t))
+            (λ t. map (word_at self.now.entries) (thread_registers t))
             (range_with_len 0 self.now.threads)) }
         ensures words { IfOk result (λ m. m.init_words
             ≡ map (word_at self.now.entries) (locations (length self.now.locs))) }

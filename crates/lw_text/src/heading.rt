@@ -1,7 +1,6 @@
 //! The heading of a test: the word of its language, its name, and notes up to the `{`.
 ghost use Rattle.std.specs.Prelude.{◌≡◌, ◌≤◌, ◌↔◌, length, IsTrue, IfOk, OnErr, IfErr, MatchOption};
 ghost use Rattle.lw_base.specs.Refusals.{NoSuch, NoneRead};
-ghost use Rattle.lw_text.specs.Tokens.{First};
 ghost use Rattle.lw_base.specs.Names.{IsTestName};
 ghost use Rattle.lw_base.specs.Languages.{arch_word};
 ghost use Rattle.lw_text.specs.Headings.{Named};
@@ -28,36 +27,24 @@ impl<'a> Lexer<'a> {
         ensures place { IfErr result (λ f. f.at ≤ length self.old.text.now) }
         ensures same { self.new.text.now ≡ self.old.text.now }
     {
-        let arch = self.language()?;
-        let name = self.test_name()?;
-        self.notes()?;
-        Ok(Heading { arch, name })
-    }
-
-    /// Takes the word of a language.
-    fn language(&mut self) -> Result<Arch, Fault>
-        ensures found { IfOk result (λ arch. First self.old.rest.now (arch_word arch)
-            self.new.rest.now) }
-        ensures fault { OnErr result ((arch : Arch)
-            → NoSuch (First self.old.rest.now (arch_word arch))) }
-        ensures place { IfErr result (λ f. f.at ≤ length self.old.text.now) }
-        ensures same { self.new.text.now ≡ self.old.text.now }
-    {
         let Some(token) = self.next()? else {
             return Err(Fault {
                 at: self.text.len(),
                 cause: Cause::Unterminated,
             });
         };
-        match arch_named(token.text) {
-            Some(arch) => Ok(arch),
-            None => Err(Fault {
+        let Some(arch) = arch_named(token.text) else {
+            return Err(Fault {
                 at: token.at,
                 cause: Cause::Unexpected,
-            }),
-        }
+            });
+        };
+        let name = self.test_name()?;
+        self.notes()?;
+        Ok(Heading { arch, name })
     }
 
+    /// Takes the blanks behind the word, and the test's name.
     fn test_name(&mut self) -> Result<&'a str, Fault>
         ensures found { IfOk result (λ name. Named self.old.rest.now name.now self.new.rest.now) }
         ensures fault { OnErr result (NoneRead (Named self.old.rest.now)) }
@@ -106,7 +93,13 @@ fn arch_named(word: &str) -> Option<Arch>
 fn is_test_name(name: &[u8]) -> bool
     ensures { IsTrue result ↔ IsTestName name.now }
 {
+    if name.len() > MAX_TEST_NAME_BYTES {
+        return false;
+    }
+    for byte in name {
+        if !byte.is_ascii_graphic() {
+            return false;
+        }
+    }
     !name.is_empty()
-        && name.len() <= MAX_TEST_NAME_BYTES
-        && name.iter().all(|byte| byte.is_ascii_graphic())
 }

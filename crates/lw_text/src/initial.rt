@@ -1,8 +1,7 @@
 //! The words that a test's registers and locations begin with.
 ghost use Rattle.std.specs.Prelude.{◌≡◌, ◌≤◌, map, IfOk};
 ghost use Rattle.std.specs.List.{range_with_len};
-ghost use Rattle.lw_base.specs.SeenLists.{registers_of, locations};
-ghost use Rattle.lw_base.specs.declared.head.Seen.TheVariants.{Register};
+ghost use Rattle.lw_base.specs.SeenLists.{thread_registers, locations};
 ghost use Rattle.lw_text.specs.inner.Resolved.{seen_of, word_at};
 
 use crate::block::Entry;
@@ -19,7 +18,7 @@ pub(crate) fn initial_registers<A: Allocator>(
     requires { threads ≤ MAX_THREADS }
     ensures { IfOk result
         (λ rows. rows ≡
-        map (λ t. map (word_at entries.now) (registers_of t)) (range_with_len 0 threads)) }
+        map (λ t. map (word_at entries.now) (thread_registers t)) (range_with_len 0 threads)) }
 {
     let mut rows = Sequence::new(alloc);
     for cpu in &Cpu::all()[..threads] {
@@ -30,24 +29,18 @@ pub(crate) fn initial_registers<A: Allocator>(
 
 /// The words of a thread's registers.
 fn words_of_thread(entries: &[Entry], cpu: Cpu) -> [Word; 6]
-    ensures { result ≡ map (word_at entries.now) (registers_of cpu) }
+    ensures { result ≡ map (word_at entries.now) (thread_registers cpu) }
 {
+    let thread = cpu.index() as Word;
     let [r0, r1, r2, r3, r4, r5] = Reg::all();
     [
-        word_of_register(entries, cpu, r0),
-        word_of_register(entries, cpu, r1),
-        word_of_register(entries, cpu, r2),
-        word_of_register(entries, cpu, r3),
-        word_of_register(entries, cpu, r4),
-        word_of_register(entries, cpu, r5),
+        word_of(entries, Site::Register(thread, r0)),
+        word_of(entries, Site::Register(thread, r1)),
+        word_of(entries, Site::Register(thread, r2)),
+        word_of(entries, Site::Register(thread, r3)),
+        word_of(entries, Site::Register(thread, r4)),
+        word_of(entries, Site::Register(thread, r5)),
     ]
-}
-
-/// The word of a register.
-fn word_of_register(entries: &[Entry], cpu: Cpu, reg: Reg) -> Word
-    ensures { result ≡ word_at entries.now (Register cpu reg) }
-{
-    word_of(entries, Site::Register(cpu.index() as Word, reg))
 }
 
 /// The words of so many locations.

@@ -65,12 +65,9 @@ fn begins_long(bytes: &[u8]) -> bool
     ensures { IsTrue result ↔ ((b c : ℕ) × (rest : Bytes) × (bytes.now ≡ b ∷ c ∷ rest)
         × (symbols.is_pair b c ≡ true)) }
 {
-    let Some((first, rest)) = split(bytes) else {
-        return false;
-    };
-    match split(rest) {
-        Some((second, _)) => is_pair(first, second),
-        None => false,
+    match bytes {
+        [first, second, ..] => is_pair(*first, *second),
+        _ => false,
     }
 }
 

@@ -1,8 +1,8 @@
 //! The list of names in a test's condition, which a report shows.
-ghost use Rattle.std.specs.Prelude.{◌≡◌, ◌≢◌, ◌≤◌, List, [], map, All, OnOk, IfOk, IfErr};
+ghost use Rattle.std.specs.Prelude.{◌≡◌, ◌≢◌, List, map, All, IfOk, IfErr};
 ghost use Rattle.std.specs.List.{AllByRecursion};
 ghost use Rattle.lw_base.specs.Types.{TokenList};
-ghost use Rattle.lw_text.specs.Conditions.{Sites, Listed};
+ghost use Rattle.lw_text.specs.Conditions.{Listed};
 ghost use Rattle.lw_text.specs.Sites.{HasRoomFor, with_sites, SiteSyntax, ThreadExists};
 ghost use Rattle.lw_text.specs.declared.fault.Cause.TheVariants.{Memory};
 ghost use Rattle.lw_text.specs.inner.Resolved.{named, IsIn};
@@ -40,38 +40,13 @@ impl<'t, 'a> Cursor<'t, 'a> {
         }
         self.expect("[", Cause::Condition)?;
         let mut sites = Sequence::new(alloc);
-        self.sites(arch, &mut sites, threads, locs)?;
-        Ok(sites)
-    }
-
-    /// Takes the sites of a list into a row that has none yet, and the `]` behind them. The names of
-    /// their locations go into the table.
-    fn sites<A: Allocator + Copy>(
-        &mut self,
-        arch: Arch,
-        sites: &mut Sequence<Site, A>,
-        threads: usize,
-        locs: &mut LocNames<A>,
-    ) -> Result<(), Refusal>
-        requires { sites.old ≡ [] }
-        ensures found { OnOk result (Sites arch (left self.old) (map (named locs.new) sites.new)
-            (left self.new)) }
-        ensures there { OnOk result (AllByRecursion (ThreadExists threads)
-            (map (named locs.new) sites.new)) }
-        ensures names { OnOk result (locs.new
-            ≡ with_sites locs.old (map (named locs.new) sites.new)) }
-        ensures within { OnOk result (All (IsIn locs.new) sites.new) }
-        ensures fault { IfErr result (λ f. f.cause ≢ Memory
-            → (ss : List SiteSyntax) (rest : TokenList) → Sites arch (left self.old) ss rest
-            → AllByRecursion (ThreadExists threads) ss → HasRoomFor locs.old ss → ⊥) }
-    {
         'sites: loop {
             if self.takes("]") {
-                return Ok(());
+                return Ok(sites);
             }
             sites.push(self.site(arch, locs, Some(threads), Cause::Condition)?)?;
             if self.either("]", ";", Cause::Condition)? {
-                return Ok(());
+                return Ok(sites);
             }
         }
     }

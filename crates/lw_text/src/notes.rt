@@ -3,30 +3,16 @@
 //!
 //! A reader of a part answers what stands behind it, or else what stands from the fault on, which is
 //! empty where the text ends too early.
-ghost use Rattle.std.specs.Prelude.{◌≡◌, ◌≢◌, ◌≤◌, ◌∷◌, length, IfOk, OnOk, OnErr, IfErr};
+ghost use Rattle.std.specs.Prelude.{◌≡◌, ◌≢◌, ◌≤◌, length, IfOk, OnOk, OnErr, IfErr};
 ghost use Rattle.lw_base.specs.Refusals.{NoSuch};
-ghost use Rattle.lw_base.specs.Characters.{byte};
 ghost use Rattle.lw_text.specs.declared.fault.Cause.TheVariants.{Memory};
-ghost use Rattle.lw_text.specs.Headings.{Quoted, KeyLine, Note, Notes};
+ghost use Rattle.lw_text.specs.Headings.{KeyLine, Note, Notes};
 
 use crate::fault::{Cause, Fault};
 use crate::lexer::Lexer;
 use crate::scan::{behind_byte, split};
 use crate::trivia::after_trivia;
 use lw_base::{ByteKind, front};
-
-/// What stands behind the quoted text whose first quote came before.
-fn after_quoted(inside: &[u8]) -> Result<&[u8], &[u8]>
-    ensures found { IfOk result (λ rest. Quoted (byte "\"" ∷ inside.now) rest.now) }
-    ensures fault { OnErr result (NoSuch (Quoted (byte "\"" ∷ inside.now))) }
-    ensures place { IfErr result (λ left. length left.now ≤ length inside.now) }
-{
-    let (_, rest) = front(inside, ByteKind::Not(b'"'));
-    match split(rest) {
-        Some((_, after)) => Ok(after),
-        None => Err(rest),
-    }
-}
 
 /// What stands behind the line `Key=value` at the front.
 fn after_key_line(bytes: &[u8]) -> Result<&[u8], &[u8]>
@@ -51,9 +37,13 @@ fn after_note(bytes: &[u8]) -> Result<&[u8], &[u8]>
     ensures fault { OnErr result (NoSuch (Note bytes.now)) }
     ensures place { IfErr result (λ left. length left.now ≤ length bytes.now) }
 {
-    match behind_byte(bytes, b'"') {
-        Some(inside) => after_quoted(inside),
-        None => after_key_line(bytes),
+    let Some(inside) = behind_byte(bytes, b'"') else {
+        return after_key_line(bytes);
+    };
+    let (_, rest) = front(inside, ByteKind::Not(b'"'));
+    match split(rest) {
+        Some((_, after)) => Ok(after),
+        None => Err(rest),
     }
 }
 

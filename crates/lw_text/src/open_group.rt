@@ -1,10 +1,11 @@
 //! The part of a proposition that stands open inside one pair of parentheses.
-ghost use Rattle.std.specs.Prelude.{◌≡◌, Some, option_map, IfOk, OnOk};
+ghost use Rattle.std.specs.Prelude.{◌≡◌, option_map, IfOk, OnOk};
 ghost use Rattle.lw_base.specs.Propositions.{formula_of};
-ghost use Rattle.lw_text.specs.inner.Pending.{group_of, opened, with_not, with_and, with_or, ors_of, negations, after_and, after_or};
+ghost use Rattle.lw_text.specs.inner.Pending.{group_of, opened, with_not, with_and, with_or, ors_of, after_and, negations};
 
 use lw_base::Prop;
 use std::alloc::{AllocError, Allocator, Global};
+use std::mem;
 
 /// What stands before a `\/`, what stands before a `/\`, and how many `~` stand before the part that
 /// comes.
@@ -55,10 +56,9 @@ impl<A: Allocator + Copy> OpenGroup<A> {
     pub(crate) fn disjoin(&mut self, alloc: A, part: Prop<A>) -> Result<(), AllocError>
         ensures { OnOk result (group_of self.new ≡ with_or (group_of self.old) (formula_of part)) }
     {
-        let row = row(alloc, self.both.take(), self.nots, part)?;
-        let either = behind_or(alloc, self.either.take(), row)?;
-        drop(self.either.replace(either));
-        self.nots = 0;
+        let group = mem::replace(self, OpenGroup::new());
+        let whole = group.close(alloc, part)?;
+        drop(self.either.replace(whole));
         Ok(())
     }
 
@@ -67,8 +67,19 @@ impl<A: Allocator + Copy> OpenGroup<A> {
         ensures { IfOk result (λ p. formula_of p ≡ ors_of (group_of self) (formula_of part)) }
     {
         let OpenGroup { either, both, nots } = self;
-        let row = row(alloc, both, nots, part)?;
-        behind_or(alloc, either, row)
+        match row(alloc, both, nots, part) {
+            Ok(row) => match either {
+                None => Ok(row),
+                Some(before) => {
+                    let (left, right) = boxed(alloc, before, row)?;
+                    Ok(Prop::Either(left, right))
+                }
+            },
+            Err(error) => {
+                drop(either);
+                Err(error)
+            }
+        }
     }
 }
 
@@ -82,55 +93,34 @@ fn row<A: Allocator + Copy>(
     ensures { IfOk result (λ p. formula_of p
         ≡ after_and (option_map formula_of before) (negations nots (formula_of part))) }
 {
-    let part = negated(alloc, nots, part)?;
-    behind_and(alloc, before, part)
-}
-
-/// The part behind so many `~`.
-fn negated<A: Allocator + Copy>(alloc: A, nots: usize, part: Prop<A>) -> Result<Prop<A>, AllocError>
-    ensures { IfOk result (λ p. formula_of p ≡ negations nots (formula_of part)) }
-{
     let mut prop = part;
     for taken in 0..nots {
-        prop = Prop::Neg(Box::new(alloc, prop)?);
+        match Box::new(alloc, prop) {
+            Ok(inner) => prop = Prop::Neg(inner),
+            Err(error) => {
+                drop(before);
+                return Err(AllocError::from(error));
+            }
+        }
     }
-    Ok(prop)
-}
-
-/// The part, joined to what stands before a `/\`.
-fn behind_and<A: Allocator + Copy>(
-    alloc: A,
-    before: Option<Prop<A>>,
-    part: Prop<A>,
-) -> Result<Prop<A>, AllocError>
-    ensures { IfOk result (λ p. formula_of p
-        ≡ after_and (option_map formula_of before) (formula_of part)) }
-{
     match before {
-        None => Ok(part),
+        None => Ok(prop),
         Some(before) => {
-            let left = Box::new(alloc, before)?;
-            let right = Box::new(alloc, part)?;
+            let (left, right) = boxed(alloc, before, prop)?;
             Ok(Prop::Both(left, right))
         }
     }
 }
 
-/// The row of parts, joined to what stands before a `\/`.
-fn behind_or<A: Allocator + Copy>(
+/// Both, in boxes.
+fn boxed<A: Allocator + Copy>(
     alloc: A,
-    before: Option<Prop<A>>,
-    row: Prop<A>,
-) -> Result<Prop<A>, AllocError>
-    ensures { IfOk result (λ p. formula_of p
-        ≡ after_or (option_map formula_of before) (formula_of row)) }
+    left: Prop<A>,
+    right: Prop<A>,
+) -> Result<(Box<Prop<A>, A>, Box<Prop<A>, A>), AllocError>
+    ensures { IfOk result (λ x. (x.0.value ≡ left) × (x.1.value ≡ right)) }
 {
-    match before {
-        None => Ok(row),
-        Some(before) => {
-            let left = Box::new(alloc, before)?;
-            let right = Box::new(alloc, row)?;
-            Ok(Prop::Either(left, right))
-        }
-    }
+    let left = Box::new(alloc, left)?;
+    let right = Box::new(alloc, right)?;
+    Ok((left, right))
 }

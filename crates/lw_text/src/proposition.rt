@@ -45,10 +45,9 @@ impl<'t, 'a> Cursor<'t, 'a> {
         let mut nodes = 0;
         'terminals: loop {
             if self.next == self.tokens.len() {
-                return match reader.finish()? {
-                    Some(prop) => Ok(prop),
-                    None => Err(self.refusal(Cause::Unterminated)),
-                };
+                let prop = reader.finish(self.refusal(Cause::Unterminated));
+                drop(reader);
+                return prop;
             }
             match self.next_terminal(arch, &mut reader, nodes, threads, locs) {
                 Ok(terminal) => nodes += terminal.nodes(),
@@ -108,14 +107,6 @@ impl<'t, 'a> Cursor<'t, 'a> {
         ensures { result ≡ (not (nodes == MAX_NODES) ||
             (begins_word (codes "(") (left self.now) || begins_word (codes ")") (left self.now))) }
     {
-        nodes != MAX_NODES || self.is_parenthesis()
-    }
-
-    /// Whether a parenthesis is next.
-    fn is_parenthesis(&self) -> bool
-        ensures { result ≡ (begins_word (codes "(") (left self.now) || begins_word (codes ")")
-            (left self.now)) }
-    {
-        self.is_next("(") || self.is_next(")")
+        nodes != MAX_NODES || self.is_next("(") || self.is_next(")")
     }
 }

@@ -1,12 +1,14 @@
 //! The reader of a proposition, which keeps a list of what stands open in place of recursion.
-ghost use Rattle.std.specs.Prelude.{◌≡◌, true, false, List, [], ◌∷◌, map, reverse, Some, None, IfOk, MatchOption, if◌then◌else◌};
+ghost use Rattle.std.specs.Prelude.{◌≡◌, ◌≢◌, true, false, List, [], ◌∷◌, map, reverse, Some, None, IfOk, IfErr, if◌then◌else◌};
 ghost use Rattle.lw_base.specs.Refusals.{NoSuch};
 ghost use Rattle.lw_base.specs.Formula.{Formula};
 ghost use Rattle.lw_base.specs.Propositions.{formula_of};
 ghost use Rattle.lw_text.specs.Propositions.{Terminal as TerminalSyntax, IsProposition};
+ghost use Rattle.lw_text.specs.declared.fault.Cause.TheVariants.{Memory};
 ghost use Rattle.lw_text.specs.inner.Terminals.{terminal_of};
 ghost use Rattle.lw_text.specs.inner.Pending.{Completes, begins_part, group_of, state_of, step_before, step_behind};
 
+use crate::fault::Refusal;
 use crate::open_group::OpenGroup;
 use crate::terminal::Terminal;
 use lw_base::Prop;
@@ -110,6 +112,7 @@ impl<A: Allocator + Copy> PropositionReader<A> {
             }
             Terminal::Close => {
                 let Some(outer) = self.outer.pop() else {
+                    drop(part);
                     return Ok(false);
                 };
                 let inner = mem::replace(&mut self.group, outer);
@@ -117,29 +120,28 @@ impl<A: Allocator + Copy> PropositionReader<A> {
                 drop(self.part.replace(part));
                 Ok(true)
             }
-            Terminal::Open | Terminal::Negation | Terminal::Atom(_) => Ok(false),
+            Terminal::Open | Terminal::Negation | Terminal::Atom(_) => {
+                drop(part);
+                Ok(false)
+            }
         }
     }
 
-    /// The proposition, where the terminals so far are one.
-    pub(crate) fn finish(self) -> Result<Option<Prop<A>>, AllocError>
-        ensures { IfOk result (λ o. MatchOption o (NoSuch (Completes self []))
-            (λ prop. Completes self [] (formula_of prop))) }
+    /// The proposition, where the terminals so far are one. Otherwise it answers this refusal. The reader is of
+    /// no more use then.
+    pub(crate) fn finish(&mut self, open: Refusal) -> Result<Prop<A>, Refusal>
+        ensures found { IfOk result (λ prop. Completes self.old [] (formula_of prop)) }
+        ensures fault { IfErr result (λ f. f.cause ≢ Memory → NoSuch (Completes self.old [])) }
     {
-        let PropositionReader {
-            alloc,
-            part,
-            group,
-            outer,
-        } = self;
-        let Some(part) = part else {
-            drop(group);
-            return Ok(None);
-        };
-        if !outer.is_empty() {
-            drop(group);
-            return Ok(None);
+        if !self.outer.is_empty() {
+            return Err(open);
         }
-        Ok(Some(group.close(alloc, part)?))
+        match self.part.take() {
+            None => Err(open),
+            Some(part) => {
+                let group = mem::replace(&mut self.group, OpenGroup::new());
+                Ok(group.close(self.alloc, part)?)
+            }
+        }
     }
 }

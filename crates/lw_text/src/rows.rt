@@ -1,8 +1,8 @@
 //! The header and the rows of a test.
-ghost use Rattle.std.specs.Prelude.{◌≡◌, ◌≢◌, ◌+◌, ◌<◌, ◌≤◌, true, false, [], ◌∷◌, ◌++◌, OnOk, OnErr, IfOk, IfErr};
+ghost use Rattle.std.specs.Prelude.{◌≡◌, ◌≢◌, ◌+◌, ◌<◌, true, false, [], ◌∷◌, ◌++◌, OnOk, OnErr, IfOk, IfErr};
 ghost use Rattle.std.specs.List.{AllByRecursion};
 ghost use Rattle.lw_base.specs.Refusals.{NoneRead, NotRead};
-ghost use Rattle.lw_text.specs.Rows.{RowCells, thread_name, Header, Row, Rows, begins_stop};
+ghost use Rattle.lw_text.specs.Rows.{thread_name, Header, Row, Rows, begins_stop};
 ghost use Rattle.lw_text.specs.declared.fault.Cause.TheVariants.{Memory};
 ghost use Rattle.lw_text.specs.Spans.{texts};
 ghost use Rattle.lw_text.specs.Places.{cells_texts, all_texts, placed_tokens, placed_row, placed_cells};
@@ -34,17 +34,10 @@ impl<'t, 'a> Cursor<'t, 'a> {
                 return Ok(thread + 1);
             }
         }
-        Err(self.fifth_thread())
-    }
-
-    /// The refusal behind the fourth `|` of the header.
-    fn fifth_thread(&self) -> Refusal {
-        let cause = if self.is_next("P4") {
-            Cause::TooManyThreads
-        } else {
-            Cause::Unexpected
-        };
-        self.refusal(cause)
+        if self.is_next("P4") {
+            return Err(self.refusal(Cause::TooManyThreads));
+        }
+        Err(self.refusal(Cause::Unexpected))
     }
 
     /// Takes the rows up to a word that ends them, which stays.
@@ -81,7 +74,7 @@ impl<'t, 'a> Cursor<'t, 'a> {
         }
     }
 
-    /// Takes a row of so many cells.
+    /// Takes a row of so many cells, and the `;` behind it.
     fn row<A: Allocator + Copy>(
         &mut self,
         alloc: A,
@@ -94,29 +87,6 @@ impl<'t, 'a> Cursor<'t, 'a> {
             (placed_tokens (remaining self.new))) }
     {
         let mut cells = Sequence::new(alloc);
-        let end = self.cells(alloc, &mut cells)?;
-        if cells.len() != threads {
-            return Err(Refusal {
-                token: end,
-                cause: Cause::Ragged,
-            });
-        }
-        Ok(cells)
-    }
-
-    /// Takes cells into a row that has none yet, up to a `;`, and answers the number of that token.
-    fn cells<A: Allocator + Copy>(
-        &mut self,
-        alloc: A,
-        cells: &mut CellSequence<'a, A>,
-    ) -> Result<usize, Refusal>
-        requires { cells.old ≡ [] }
-        ensures found { OnOk result (RowCells (left self.old) (cells_texts cells.new)
-            (left self.new)) }
-        ensures fault { IfErr result (λ f. NotRead Memory f.cause (RowCells (left self.old))) }
-        ensures cut { OnOk result (CellsFrom (placed_tokens (remaining self.old)) (placed_row cells.new)
-            (placed_tokens (remaining self.new))) }
-    {
         'cells: loop {
             let mut tokens = Sequence::new(alloc);
             let (mark, number) = self.cell(&mut tokens)?;
@@ -125,7 +95,13 @@ impl<'t, 'a> Cursor<'t, 'a> {
                 end: mark.at,
             })?;
             if mark.text == ";" {
-                return Ok(number);
+                if cells.len() == threads {
+                    return Ok(cells);
+                }
+                return Err(Refusal {
+                    token: number,
+                    cause: Cause::Ragged,
+                });
             }
         }
     }

@@ -7,8 +7,10 @@ ghost use Rattle.lw_text.specs.Tokens.{begins_pair};
 pub(crate) fn split(bytes: &[u8]) -> Option<(u8, &[u8])>
     ensures { MatchOption result (bytes.now ≡ []) (λ p. bytes.now ≡ p.0 ∷ p.1.now) }
 {
-    let (first, rest) = bytes.split_first()?;
-    Some((*first, rest))
+    match bytes {
+        [first, rest @ ..] => Some((*first, rest)),
+        [] => None,
+    }
 }
 
 /// What stands behind this byte, or `None` where another stands at the front.
@@ -16,8 +18,10 @@ pub(crate) fn behind_byte(bytes: &[u8], byte: u8) -> Option<&[u8]>
     ensures { MatchOption result (begins (λ b. b == byte) bytes.now ≡ false)
         (λ rest. bytes.now ≡ byte ∷ rest.now) }
 {
-    let (first, rest) = split(bytes)?;
-    if first == byte { Some(rest) } else { None }
+    match bytes {
+        [first, rest @ ..] if *first == byte => Some(rest),
+        _ => None,
+    }
 }
 
 /// What stands behind these two bytes, or `None` where others stand at the front.
@@ -25,11 +29,8 @@ pub(crate) fn behind(bytes: &[u8], first: u8, second: u8) -> Option<&[u8]>
     ensures { MatchOption result (begins_pair first second bytes.now ≡ false)
         (λ rest. bytes.now ≡ first ∷ second ∷ rest.now) }
 {
-    let (a, rest) = split(bytes)?;
-    let (b, rest) = split(rest)?;
-    if a == first && b == second {
-        Some(rest)
-    } else {
-        None
+    match bytes {
+        [a, b, rest @ ..] if *a == first && *b == second => Some(rest),
+        _ => None,
     }
 }

@@ -1,6 +1,6 @@
 //! What a report shows: the registers and locations that a test's list of names has, each once.
 ghost use Rattle.std.specs.Prelude.{◌≡◌, ◌≤◌, ◌<◌, ◌∷◌, [], ◌++◌, filter, IfOk, OnOk};
-ghost use Rattle.lw_base.specs.SeenLists.{registers_of, all_registers, locations};
+ghost use Rattle.lw_base.specs.SeenLists.{all_registers, locations};
 ghost use Rattle.lw_text.specs.inner.Resolved.{seen_of, is_listed};
 
 use crate::site::Site;
@@ -21,44 +21,15 @@ pub(crate) fn seen_among<A: Allocator>(
 {
     let mut seen = Sequence::new(alloc);
     for cpu in &Cpu::all()[..threads] {
-        see_registers(&mut seen, sites, *cpu)?;
+        for reg in &Reg::all() {
+            let site = Site::Register(cpu.index() as Word, *reg);
+            see(&mut seen, sites, site, Seen::Register(*cpu, *reg))?;
+        }
     }
-    see_locations(&mut seen, sites, len)?;
-    Ok(seen)
-}
-
-/// Puts those of a thread's registers at the end that are among the sites.
-fn see_registers<A: Allocator>(
-    seen: &mut Sequence<Seen, A>,
-    sites: &[Site],
-    cpu: Cpu,
-) -> Result<(), AllocFailed<Seen>>
-    ensures { OnOk result (seen.new ≡ seen.old ++ filter (is_listed sites.now) (registers_of cpu)) }
-{
-    for reg in &Reg::all() {
-        see(
-            seen,
-            sites,
-            Site::Register(cpu.index() as Word, *reg),
-            Seen::Register(cpu, *reg),
-        )?;
-    }
-    Ok(())
-}
-
-/// Puts those of so many locations at the end that are among the sites.
-fn see_locations<A: Allocator>(
-    seen: &mut Sequence<Seen, A>,
-    sites: &[Site],
-    len: usize,
-) -> Result<(), AllocFailed<Seen>>
-    requires { len ≤ MAX_LOCATIONS }
-    ensures { OnOk result (seen.new ≡ seen.old ++ filter (is_listed sites.now) (locations len)) }
-{
     for loc in &Loc::all()[..len] {
-        see(seen, sites, Site::Location(*loc), Seen::Location(*loc))?;
+        see(&mut seen, sites, Site::Location(*loc), Seen::Location(*loc))?;
     }
-    Ok(())
+    Ok(seen)
 }
 
 /// Puts a register or a location at the end, if its site is among the sites.
@@ -72,14 +43,10 @@ fn see<A: Allocator>(
     ensures { OnOk result (seen.new ≡ seen.old ++ filter (is_listed sites.now)
         (seen_of site ∷ [])) }
 {
-    if is_among(sites, site) {
-        return seen.push(item);
+    for listed in sites {
+        if listed.is_same(&site) {
+            return seen.push(item);
+        }
     }
     Ok(())
-}
-
-fn is_among(sites: &[Site], site: Site) -> bool
-    ensures { result ≡ is_listed sites.now (seen_of site) }
-{
-    sites.iter().any(|listed| listed.is_same(&site))
 }

@@ -1,11 +1,11 @@
 //! A site: a location or a register of a thread, as the block, the list of names and atoms speak of.
-ghost use Rattle.std.specs.Prelude.{◌≡◌, ◌≢◌, ℕ, ◌≤◌, [], ◌∷◌, codes, nat_lt, Some, slice_get, OnOk, OnErr, IfOk, IfErr};
+ghost use Rattle.std.specs.Prelude.{◌≡◌, ◌≢◌, ℕ, [], ◌∷◌, codes, nat_lt, Some, slice_get, OnOk, OnErr, IfOk, IfErr};
 ghost use Rattle.lw_base.specs.Refusals.{NoneRead};
 ghost use Rattle.lw_base.specs.Types.{Bytes, NameTable, TokenList};
 ghost use Rattle.lw_base.specs.Names.{IsLocation};
 ghost use Rattle.lw_base.specs.Registers.{IsRegister};
 ghost use Rattle.lw_base.specs.Tables.{with_name};
-ghost use Rattle.lw_text.specs.Sites.{HasRoomFor, HasRoomForName, with_sites, SiteSyntax, InMemory, InThread, IsSite, ThreadAllowed, Value};
+ghost use Rattle.lw_text.specs.Sites.{HasRoomFor, HasRoomForName, with_sites, SiteSyntax, InThread, IsSite, ThreadAllowed, Value};
 ghost use Rattle.lw_text.specs.declared.fault.Cause.TheVariants.{Memory};
 ghost use Rattle.lw_base.specs.SeenLists.{same_seen};
 ghost use Rattle.lw_text.specs.inner.Resolved.{named, seen_of, IsIn};
@@ -80,7 +80,11 @@ impl<'t, 'a> Cursor<'t, 'a> {
         let token = self.next;
         let first = self.take()?;
         if first.text == "[" {
-            return self.in_brackets(locs, cause);
+            let misfit = self.refusal(cause);
+            let name = self.take()?;
+            let inside = enter(name.text, locs, misfit)?;
+            self.expect("]", cause)?;
+            return Ok(Site::Location(inside));
         }
         if let Some(thread) = number(first.text) {
             if !is_allowed(thread, threads) {
@@ -95,28 +99,7 @@ impl<'t, 'a> Cursor<'t, 'a> {
         Ok(Site::Location(loc))
     }
 
-    /// Takes a location and a `]`.
-    fn in_brackets<A: Allocator + Copy>(
-        &mut self,
-        locs: &mut LocNames<A>,
-        cause: Cause,
-    ) -> Result<Site, Refusal>
-        ensures found { IfOk result (λ s. (x : Bytes)
-            × (left self.old ≡ x ∷ codes "]" ∷ left self.new) × IsLocation x
-            × (named locs.new s ≡ InMemory x) × (locs.new ≡ with_name locs.old x)) }
-        ensures within { IfOk result (λ s. IsIn locs.new s) }
-        ensures fault { IfErr result (λ f. f.cause ≢ Memory → (x : Bytes) (rest : TokenList)
-            → left self.old ≡ x ∷ codes "]" ∷ rest → IsLocation x → HasRoomForName locs.old x → ⊥) }
-        ensures leaves { OnOk result (MovesOn self.old self.new) }
-    {
-        let misfit = self.refusal(cause);
-        let name = self.take()?;
-        let loc = enter(name.text, locs, misfit)?;
-        self.expect("]", cause)?;
-        Ok(Site::Location(loc))
-    }
-
-    /// Takes a `:` and the name of a register of the thread.
+    /// Takes a `:` and the name of a register of the thread, in the language.
     fn of_thread(&mut self, arch: Arch, thread: Word, cause: Cause) -> Result<Site, Refusal>
         ensures found { IfOk result (λ s. (q : Bytes) × (r : ℕ)
             × (left self.old ≡ codes ":" ∷ q ∷ left self.new) × IsRegister arch q r
@@ -127,22 +110,10 @@ impl<'t, 'a> Cursor<'t, 'a> {
         ensures leaves { OnOk result (MovesOn self.old self.new) }
     {
         self.expect(":", cause)?;
-        let reg = self.register(arch, cause)?;
-        Ok(Site::Register(thread, reg))
-    }
-
-    /// Takes the name of a register of the language.
-    fn register(&mut self, arch: Arch, cause: Cause) -> Result<Reg, Refusal>
-        ensures ok { IfOk result (λ r. (q : Bytes) × (left self.old ≡ q ∷ left self.new)
-            × IsRegister arch q r) }
-        ensures err { OnErr result ((q : Bytes) (r : ℕ) (rest : TokenList) → left self.old
-            ≡ q ∷ rest → IsRegister arch q r → ⊥) }
-        ensures leaves { OnOk result (MovesOn self.old self.new) }
-    {
         let misfit = self.refusal(cause);
         let name = self.take()?;
         match reg_named(arch, name.text) {
-            Some(reg) => Ok(reg),
+            Some(reg) => Ok(Site::Register(thread, reg)),
             None => Err(no_name(name.text, misfit)),
         }
     }

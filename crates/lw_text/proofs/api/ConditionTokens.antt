@@ -1,5 +1,6 @@
 -- The tokens of sites and of conditions, which say them again. The crates above that print tests use this.
-use Rattle.std.proofs.Common.{◌≡◌, ℕ, ◌<◌, ◌≤◌, ◌^◌, inl, inr, Bool, true, false, List, [], ◌∷◌, ◌++◌, map, length, refl, sym, ap, ◌∙◌, subst, arith, append_assoc}
+use Rattle.std.proofs.Common.{◌≡◌, ℕ, ◌<◌, ◌≤◌, ◌^◌, inl, inr, Bool, true, false, List, [], ◌∷◌, ◌++◌, map, length, refl, sym, ap, ◌∙◌, subst, arith}
+use Rattle.std.proofs.Common.{append_assoc}
 use Rattle.std.specs.Prelude.{codes, slice_index_or}
 use Rattle.std.specs.List.{AllByRecursion, flat_map}
 use Rattle.std.specs.Fmt.{decimal}
@@ -101,7 +102,8 @@ module _ (arch : Arch) (threads : ℕ) (few : threads ≤ 4) (names : NameTable)
   site_exists (InMemory x) h = tt
   site_exists (InThread t r) h = h.0
 
-  terminal_said : (s : Terminal AtomSyntax) (rest : TokenList) → IsPrintableTerminal threads names s → IsTerminal arch threads (terminal_tokens arch s ++ rest) s rest
+  terminal_said : (s : Terminal AtomSyntax) (rest : TokenList) → IsPrintableTerminal threads names s
+      → IsTerminal arch threads (terminal_tokens arch s ++ rest) s rest
   terminal_said Open rest h = refl
   terminal_said Close rest h = refl
   terminal_said Negation rest h = inl refl
@@ -109,20 +111,28 @@ module _ (arch : Arch) (threads : ℕ) (few : threads ≤ 4) (names : NameTable)
   terminal_said Disjunction rest h = refl
   terminal_said (Atom Always) rest h = refl
   terminal_said (Atom Never) rest h = refl
-  terminal_said (Atom (Holds s n)) rest h =
-      (value_tokens n ++ rest, subst (λ (ts : TokenList). IsSite arch ts s (value_tokens n ++ rest)) (sym (append_assoc (site_tokens arch s) (value_tokens n) rest)) (site_said s (value_tokens n ++ rest) h.0), site_exists s h.0, value_said n rest h.1)
+  terminal_said (Atom (Holds s n)) rest h = (
+    value_tokens n ++ rest,
+    subst (λ (ts : TokenList). IsSite arch ts s (value_tokens n ++ rest))
+        (sym (append_assoc (site_tokens arch s) (value_tokens n) rest)) (site_said s (value_tokens n ++ rest) h.0),
+    site_exists s h.0,
+    value_said n rest h.1,
+  )
 
-  pub terminals_said : (ss : List (Terminal AtomSyntax)) → AllByRecursion (IsPrintableTerminal threads names) ss → Terminals arch threads (flat_map (terminal_tokens arch) ss) ss
+  pub terminals_said : (ss : List (Terminal AtomSyntax)) → AllByRecursion (IsPrintableTerminal threads names) ss
+      → Terminals arch threads (flat_map (terminal_tokens arch) ss) ss
   terminals_said [] h = refl
   terminals_said (s ∷ ss) h = (flat_map (terminal_tokens arch) ss, terminal_said s (flat_map (terminal_tokens arch) ss) h.0, terminals_said ss h.1)
 
 -- the names of sites and of terminals are in the table
-pub sites_in_table : (threads : ℕ) (names : NameTable) (ss : List SiteSyntax) → AllByRecursion (IsPrintable threads names) ss → AllByRecursion (IsInTable names) (site_names ss)
+pub sites_in_table : (threads : ℕ) (names : NameTable) (ss : List SiteSyntax) → AllByRecursion (IsPrintable threads names) ss
+    → AllByRecursion (IsInTable names) (site_names ss)
 sites_in_table threads names [] h = tt
 sites_in_table threads names (InMemory x ∷ ss) h = (h.0.1, sites_in_table threads names ss h.1)
 sites_in_table threads names (InThread t r ∷ ss) h = sites_in_table threads names ss h.1
 
-pub sites_printable : (threads : ℕ) (names : NameTable) (ss : List (Terminal AtomSyntax)) → AllByRecursion (IsPrintableTerminal threads names) ss → AllByRecursion (IsPrintable threads names) (sites_in ss)
+pub sites_printable : (threads : ℕ) (names : NameTable) (ss : List (Terminal AtomSyntax)) → AllByRecursion (IsPrintableTerminal threads names) ss
+    → AllByRecursion (IsPrintable threads names) (sites_in ss)
 sites_printable threads names [] h = tt
 sites_printable threads names (Open ∷ ss) h = sites_printable threads names ss h.1
 sites_printable threads names (Close ∷ ss) h = sites_printable threads names ss h.1
@@ -155,10 +165,13 @@ module _ (threads : ℕ) (names : NameTable) (table : AllByRecursion IsLocation 
   terminals_fine (Word_is x n) h = ((named_printable (Location x) h.0, h.1), tt)
   terminals_fine (Not p) h = (tt, part_fine (is_joined p) (terminals_of (named_claim names) p) (terminals_fine p h))
   terminals_fine (And p q) h =
-      all_append (IsPrintableTerminal threads names) (enclosed_if (is_or p) (terminals_of (named_claim names) p)) (Conjunction ∷ enclosed_if (is_joined q) (terminals_of (named_claim names) q))
-      (part_fine (is_or p) (terminals_of (named_claim names) p) (terminals_fine p h.0)) (tt, part_fine (is_joined q) (terminals_of (named_claim names) q) (terminals_fine q h.1))
+      all_append (IsPrintableTerminal threads names) (enclosed_if (is_or p) (terminals_of (named_claim names) p))
+      (Conjunction ∷ enclosed_if (is_joined q) (terminals_of (named_claim names) q))
+      (part_fine (is_or p) (terminals_of (named_claim names) p) (terminals_fine p h.0))
+      (tt, part_fine (is_joined q) (terminals_of (named_claim names) q) (terminals_fine q h.1))
   terminals_fine (Or p q) h =
-      all_append (IsPrintableTerminal threads names) (terminals_of (named_claim names) p) (Disjunction ∷ enclosed_if (is_or q) (terminals_of (named_claim names) q))
+      all_append (IsPrintableTerminal threads names) (terminals_of (named_claim names) p)
+      (Disjunction ∷ enclosed_if (is_or q) (terminals_of (named_claim names) q))
       (terminals_fine p h.0) (tt, part_fine (is_or q) (terminals_of (named_claim names) q) (terminals_fine q h.1))
 
   pub whole_fine : (p : Formula) → SpeaksOf threads (length names) p → AreFine (enclosed (terminals_of (named_claim names) p))
@@ -171,10 +184,13 @@ module _ (threads : ℕ) (names : NameTable) (once : EachOnce names) where
   seen_again (Register t r) h = refl
   seen_again (Location x) h = ap (λ (y : ℕ). Location y) (index_of-again names once x h)
 
-  enclosed_again : (ss : List (Terminal AtomSyntax)) (us : List (Terminal Formula)) → map (resolved names) ss ≡ us → map (resolved names) (enclosed ss) ≡ enclosed us
-  enclosed_again ss us e = ap (λ (l : List (Terminal Formula)). Open ∷ l) (map-append (resolved names) ss (Close ∷ []) ∙ ap (λ (l : List (Terminal Formula)). l ++ (Close ∷ [])) e)
+  enclosed_again : (ss : List (Terminal AtomSyntax)) (us : List (Terminal Formula)) → map (resolved names) ss ≡ us
+      → map (resolved names) (enclosed ss) ≡ enclosed us
+  enclosed_again ss us e = ap (λ (l : List (Terminal Formula)). Open ∷ l)
+      (map-append (resolved names) ss (Close ∷ []) ∙ ap (λ (l : List (Terminal Formula)). l ++ (Close ∷ [])) e)
 
-  part_again : (needed : Bool) (ss : List (Terminal AtomSyntax)) (us : List (Terminal Formula)) → map (resolved names) ss ≡ us → map (resolved names) (enclosed_if needed ss) ≡ enclosed_if needed us
+  part_again : (needed : Bool) (ss : List (Terminal AtomSyntax)) (us : List (Terminal Formula)) → map (resolved names) ss ≡ us
+      → map (resolved names) (enclosed_if needed ss) ≡ enclosed_if needed us
   part_again true ss us e = enclosed_again ss us e
   part_again false ss us e = e
 
@@ -189,15 +205,19 @@ module _ (threads : ℕ) (names : NameTable) (once : EachOnce names) where
   terminals_again No h = refl
   terminals_again (Reg_is t r n) h = refl
   terminals_again (Word_is x n) h = ap (λ (y : ℕ). Atom (Word_is y n) ∷ []) (index_of-again names once x h.0)
-  terminals_again (Not p) h = ap (λ (l : List (Terminal Formula)). Negation ∷ l) (part_again (is_joined p) (named_terms p) (formula_terms p) (terminals_again p h))
+  terminals_again (Not p) h = ap (λ (l : List (Terminal Formula)). Negation ∷ l)
+      (part_again (is_joined p) (named_terms p) (formula_terms p) (terminals_again p h))
   terminals_again (And p q) h =
       map-append (resolved names) (enclosed_if (is_or p) (named_terms p)) (Conjunction ∷ enclosed_if (is_joined q) (named_terms q))
-      ∙ ap (λ (l : List (Terminal Formula)). l ++ (Conjunction ∷ map (resolved names) (enclosed_if (is_joined q) (named_terms q)))) (part_again (is_or p) (named_terms p) (formula_terms p) (terminals_again p h.0))
-      ∙ ap (λ (l : List (Terminal Formula)). enclosed_if (is_or p) (formula_terms p) ++ (Conjunction ∷ l)) (part_again (is_joined q) (named_terms q) (formula_terms q) (terminals_again q h.1))
+      ∙ ap (λ (l : List (Terminal Formula)). l ++ (Conjunction ∷ map (resolved names) (enclosed_if (is_joined q) (named_terms q))))
+      (part_again (is_or p) (named_terms p) (formula_terms p) (terminals_again p h.0))
+      ∙ ap (λ (l : List (Terminal Formula)). enclosed_if (is_or p) (formula_terms p) ++ (Conjunction ∷ l))
+      (part_again (is_joined q) (named_terms q) (formula_terms q) (terminals_again q h.1))
   terminals_again (Or p q) h =
       map-append (resolved names) (named_terms p) (Disjunction ∷ enclosed_if (is_or q) (named_terms q))
       ∙ ap (λ (l : List (Terminal Formula)). l ++ (Disjunction ∷ map (resolved names) (enclosed_if (is_or q) (named_terms q)))) (terminals_again p h.0)
-      ∙ ap (λ (l : List (Terminal Formula)). formula_terms p ++ (Disjunction ∷ l)) (part_again (is_or q) (named_terms q) (formula_terms q) (terminals_again q h.1))
+      ∙ ap (λ (l : List (Terminal Formula)). formula_terms p ++ (Disjunction ∷ l))
+      (part_again (is_or q) (named_terms q) (formula_terms q) (terminals_again q h.1))
 
   pub whole_again : (p : Formula) → SpeaksOf threads (length names) p → map (resolved names) (enclosed (named_terms p)) ≡ enclosed (formula_terms p)
   whole_again p h = enclosed_again (named_terms p) (formula_terms p) (terminals_again p h)
@@ -208,10 +228,12 @@ quantifier_said NotExists rest = refl
 quantifier_said Forall rest = refl
 
 -- elements, each with a mark behind it, and another at the end
-pub ended_said : {X : Type 0} (P : TokenList → X → TokenList → Type 0) (tokens : X → TokenList) (sep close : Bytes) (xs : List X) (rest : TokenList) → AllByRecursion (λ x. (l : TokenList) → P (tokens x ++ l) x l) xs → Ended P sep close (flat_map (λ x. tokens x ++ sep ∷ []) xs ++ (close ∷ rest)) xs rest
+pub ended_said : {X : Type 0} (P : TokenList → X → TokenList → Type 0) (tokens : X → TokenList) (sep close : Bytes) (xs : List X) (rest : TokenList)
+    → AllByRecursion (λ x. (l : TokenList) → P (tokens x ++ l) x l) xs → Ended P sep close (flat_map (λ x. tokens x ++ sep ∷ []) xs ++ (close ∷ rest)) xs rest
 ended_said P tokens sep close [] rest h = refl
 ended_said P tokens sep close (x ∷ xs) rest h =
     let next = flat_map (λ y. tokens y ++ sep ∷ []) xs ++ (close ∷ rest) in
     let e : (tokens x ++ sep ∷ []) ++ next ≡ tokens x ++ (sep ∷ next) = append_assoc (tokens x) (sep ∷ []) next in
-    let f : ((tokens x ++ sep ∷ []) ++ flat_map (λ y. tokens y ++ sep ∷ []) xs) ++ (close ∷ rest) ≡ tokens x ++ (sep ∷ next) = append_assoc (tokens x ++ sep ∷ []) (flat_map (λ y. tokens y ++ sep ∷ []) xs) (close ∷ rest) ∙ e in
+    let f : ((tokens x ++ sep ∷ []) ++ flat_map (λ y. tokens y ++ sep ∷ []) xs) ++ (close ∷ rest) ≡ tokens x ++ (sep ∷ next) = append_assoc
+    (tokens x ++ sep ∷ []) (flat_map (λ y. tokens y ++ sep ∷ []) xs) (close ∷ rest) ∙ e in
     (sep ∷ next, subst (λ (ts : TokenList). P ts x (sep ∷ next)) (sym f) (h.0 (sep ∷ next)), inr (next, refl, ended_said P tokens sep close xs rest h.1))

@@ -10,7 +10,7 @@ use Rattle.lw_text.specs.Conditions.{resolved}
 use Rattle.lw_text.specs.Rows.{column}
 use Rattle.lw_text.specs.Frames.{TestSyntax, table, Parts, TestFrame, HasFrame, made_of}
 use Rattle.lw_text.proofs.Headings.{Heading-unique}
-use Rattle.lw_text.proofs.Derivations.{IsProposition-unique}
+use Rattle.lw_text.proofs.PropositionReadings.{IsProposition-unique}
 use Rattle.lw_text.proofs.TokenRows.{Tokens-unique}
 use Rattle.lw_text.proofs.Whole.{Parts-unique}
 pub use Rattle.lw_text.proofs.WellFormedHeads.{frame_well_formed}
@@ -21,10 +21,12 @@ HasFrame-unique text f g p q =
     let tokens = Tokens-unique p.tokens q.tokens q.rest (subst (λ x. Tokens x p.tokens) head.2 p.row) q.row in
     let parts = subst (λ a. Parts a q.tokens p.syntax) head.0 (subst (λ x. Parts p.arch x p.syntax) tokens p.parts) in
     let syntax : p.syntax ≡ q.syntax = Parts-unique q.arch q.tokens p.syntax q.syntax parts q.parts in
-    let condition : p.condition ≡ q.condition = IsProposition-unique (map (resolved (table q.syntax)) q.syntax.terminals) p.condition q.condition (subst (λ (s : TestSyntax). IsProposition (map (resolved (table s)) s.terminals) p.condition) syntax p.proposition) q.proposition in
+    let condition : p.condition ≡ q.condition = IsProposition-unique (map (resolved (table q.syntax)) q.syntax.terminals) p.condition q.condition
+    (subst (λ (s : TestSyntax). IsProposition (map (resolved (table s)) s.terminals) p.condition) syntax p.proposition) q.proposition in
     let arch : p.arch ≡ q.arch = head.0 in
     let name : p.name ≡ q.name = head.1 in
-    p.made ∙ ap (λ (a : Arch). made_of a p.name p.syntax p.condition) arch ∙ ap (λ n. made_of q.arch n p.syntax p.condition) name ∙ ap (λ (s : TestSyntax). made_of q.arch q.name s p.condition) syntax
+    p.made ∙ ap (λ (a : Arch). made_of a p.name p.syntax p.condition) arch ∙ ap (λ n. made_of q.arch n p.syntax p.condition) name ∙ ap
+    (λ (s : TestSyntax). made_of q.arch q.name s p.condition) syntax
     ∙ ap (λ (c : Formula). made_of q.arch q.name q.syntax c) condition ∙ sym q.made
 
 pub frame_columns : (text : Bytes) (f : TestFrame) → HasFrame text f → length f.cells ≡ f.head.threads

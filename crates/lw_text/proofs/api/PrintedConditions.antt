@@ -1,5 +1,6 @@
 -- Sites and conditions as they are printed: their texts spell tokens. The crates above that print tests use this.
-use Rattle.std.proofs.Common.{◌≡◌, ℕ, zero, suc, ◌+◌, ◌*◌, ◌<◌, ◌≤◌, ◌^◌, Bool, true, false, not, List, [], ◌∷◌, ◌++◌, length, refl, sym, ap, ◌∙◌, subst, arith, append_assoc}
+use Rattle.std.proofs.Common.{◌≡◌, ℕ, zero, suc, ◌+◌, ◌*◌, ◌<◌, ◌≤◌, ◌^◌, Bool, true, false, not, List, [], ◌∷◌, ◌++◌, length, refl, sym, ap, ◌∙◌, subst, arith}
+use Rattle.std.proofs.Common.{append_assoc}
 use Rattle.std.specs.Prelude.{◌==◌, codes, slice_index_or}
 use Rattle.std.specs.List.{AllByRecursion, flat_map}
 use Rattle.std.specs.Fmt.{decimal}
@@ -25,7 +26,8 @@ use Rattle.lw_text.specs.Tokens.{is_pair}
 use Rattle.lw_text.specs.Propositions.{Terminal, Close, Conjunction, Disjunction, Atom}
 use Rattle.lw_text.specs.Conditions.{AtomSyntax, Always, Never, Holds}
 use Rattle.lw_base.proofs.api.Blanks.{blank_all}
-use Rattle.lw_text.proofs.api.Spelling.{Anything, EndsWord, IsBlankNext, HasNoStar, HasNoEquals, Spells, name_by_test, Spells-then, Spells-on, Spells-before, Spells-within, Spells-space, Spells-symbol, Spells-mark, Spells-pair, Spells-name, Spells-number, decimal_is_word}
+use Rattle.lw_text.proofs.api.Spelling.{Anything, EndsWord, IsBlankNext, HasNoStar, HasNoEquals, Spells, name_by_test, Spells-then, Spells-on, Spells-before}
+use Rattle.lw_text.proofs.api.Spelling.{Spells-within, Spells-space, Spells-symbol, Spells-mark, Spells-pair, Spells-name, Spells-number, decimal_is_word}
 use Rattle.lw_text.proofs.api.PrintedPropositions.{enclosed, enclosed_if, terminals_of}
 use Rattle.lw_text.proofs.api.ConditionTokens.{named_site, site_tokens, value_tokens, named_claim, terminal_tokens, quantifier_tokens}
 
@@ -92,17 +94,20 @@ module _ (arch : Arch) (threads : ℕ) (few : threads ≤ 4) (names : NameTable)
   site_spelled (Register t r) h =
       let number = Spells-number t (omega (arith, h.0, few)) in
       let register = Spells-register arch r h.1 in
-      (Spells-then (λ rest g. refl) number (Spells-then (λ rest g. name_no_equals (register_name arch r) rest (register_is_name arch r h.1)) Spells-colon register))
+      (Spells-then (λ rest g. refl) number (Spells-then (λ rest g. name_no_equals (register_name arch r) rest (register_is_name arch r h.1))
+      Spells-colon register))
   site_spelled (Location x) h = Spells-within 43 (omega arith) (Spells-name (slice_index_or names x []) (name_there names x table h).0)
 
   site_starts : (s : Seen) → IsSeen threads (length names) s → Starts (site_text arch names s)
   site_starts (Register t r) h =
       let small : t < 2 ^ 32 = omega (arith, h.0, few) in
-      starts-then (decimal t) (codes ":" ++ register_name arch r) (starts_word (decimal t) (decimal_nonempty t (omega (arith, small))) (decimal_is_word t small))
+      starts-then (decimal t) (codes ":" ++ register_name arch r)
+      (starts_word (decimal t) (decimal_nonempty t (omega (arith, small))) (decimal_is_word t small))
   site_starts (Location x) h = let n = (name_there names x table h).0 in starts_word (slice_index_or names x []) n.0.some n.0.all
 
   -- a site with its word, as `x=1`
-  pub assignment_spelled : (s : Seen) (n : ℕ) → IsSeen threads (length names) s → n < 2 ^ 32 → Spells EndsWord 54 (assignment (site_text arch names s) n) (site_tokens arch (named_site names s) ++ value_tokens n)
+  pub assignment_spelled : (s : Seen) (n : ℕ) → IsSeen threads (length names) s → n < 2 ^ 32
+      → Spells EndsWord 54 (assignment (site_text arch names s) n) (site_tokens arch (named_site names s) ++ value_tokens n)
   assignment_spelled s n h small =
       Spells-then (λ rest g. refl) (site_spelled s h) (Spells-on (Spells-mark 61 refl (λ c. refl) refl (omega arith)) (Spells-number n small))
 
@@ -118,25 +123,38 @@ module _ (arch : Arch) (threads : ℕ) (few : threads ≤ 4) (names : NameTable)
     spells : Spells EndsWord most text (tokens_of ss)
     starts : Starts text
 
-  enclosed_spelled : (text : Bytes) (most : ℕ) (ss : List (Terminal AtomSyntax)) → IsSpelled text most ss → Spells Anything (most + 2) (in_parentheses text) (tokens_of (enclosed ss))
+  enclosed_spelled : (text : Bytes) (most : ℕ) (ss : List (Terminal AtomSyntax)) → IsSpelled text most ss
+      → Spells Anything (most + 2) (in_parentheses text) (tokens_of (enclosed ss))
   enclosed_spelled text most ss s =
       let opening = Spells-symbol {F = HasNoStar} 40 refl (λ rest f. alone rest) (λ rest f. f) (omega arith) in
       let closing = Spells-mark 41 refl (λ c. refl) refl (omega arith) in
-      let whole : Spells Anything (1 + (most + 1)) (in_parentheses text) ((codes "(" ∷ []) ++ (tokens_of ss ++ (codes ")" ∷ []))) = Spells-then (λ rest g. subst HasNoStar (sym (append_assoc text (codes ")") rest)) (starts_no_star text (codes ")" ++ rest) s.starts)) opening (Spells-then (λ rest g. refl) s.spells closing) in
-      subst (λ (ts : TokenList). Spells Anything (most + 2) (in_parentheses text) (codes "(" ∷ ts)) (sym (flat_map-append (terminal_tokens arch) ss (Close ∷ []))) (Spells-within (most + 2) (omega arith) whole)
+      let whole : Spells Anything (1 + (most + 1)) (in_parentheses text) ((codes "(" ∷ []) ++ (tokens_of ss ++ (codes ")" ∷ []))) = Spells-then
+      (λ rest g. subst HasNoStar (sym (append_assoc text (codes ")") rest)) (starts_no_star text (codes ")" ++ rest) s.starts)) opening
+      (Spells-then (λ rest g. refl) s.spells closing) in
+      subst (λ (ts : TokenList). Spells Anything (most + 2) (in_parentheses text) (codes "(" ∷ ts))
+      (sym (flat_map-append (terminal_tokens arch) ss (Close ∷ []))) (Spells-within (most + 2) (omega arith) whole)
     where
       alone : (rest : Bytes) → begins (is_pair 40) rest ≡ false
       alone [] = refl
       alone (b ∷ rest) = refl
 
-  part_spelled : (needed : Bool) (text : Bytes) (most : ℕ) (ss : List (Terminal AtomSyntax)) → IsSpelled text most ss → IsSpelled (parenthesized_if needed text) (most + 2) (enclosed_if needed ss)
-  part_spelled true text most ss s = record { spells = Spells-before EndsWord (λ rest g. tt) (enclosed_spelled text most ss s); starts = (40, text ++ codes ")", refl, refl) }
+  part_spelled : (needed : Bool) (text : Bytes) (most : ℕ) (ss : List (Terminal AtomSyntax)) → IsSpelled text most ss
+      → IsSpelled (parenthesized_if needed text) (most + 2) (enclosed_if needed ss)
+  part_spelled true text most ss s = record {
+    spells = Spells-before EndsWord (λ rest g. tt) (enclosed_spelled text most ss s);
+    starts =
+        (40, text ++ codes ")", refl, refl);
+  }
   part_spelled false text most ss s = record { spells = Spells-within (most + 2) (omega arith) s.spells; starts = s.starts }
 
   -- two parts with a connective between
-  joined_spelled : (a b : Bytes) (m n : ℕ) (ss us : List (Terminal AtomSyntax)) (between : Bytes) (t : Terminal AtomSyntax) → ((rest : Bytes) → EndsWord (between ++ rest)) → Spells Anything 4 between (terminal_tokens arch t) → IsSpelled a m ss → IsSpelled b n us → IsSpelled (a ++ (between ++ b)) (m + (4 + n)) (ss ++ (t ∷ us))
+  joined_spelled : (a b : Bytes) (m n : ℕ) (ss us : List (Terminal AtomSyntax)) (between : Bytes) (t : Terminal AtomSyntax)
+      → ((rest : Bytes) → EndsWord (between ++ rest)) → Spells Anything 4 between (terminal_tokens arch t) → IsSpelled a m ss → IsSpelled b n us
+      → IsSpelled (a ++ (between ++ b)) (m + (4 + n)) (ss ++ (t ∷ us))
   joined_spelled a b m n ss us between t ends mid s u = record {
-    spells = subst (λ (ts : TokenList). Spells EndsWord (m + (4 + n)) (a ++ (between ++ b)) ts) (sym (flat_map-append (terminal_tokens arch) ss (t ∷ us))) (Spells-then (λ rest g. subst EndsWord (sym (append_assoc between b rest)) (ends (b ++ rest))) s.spells (Spells-on mid u.spells));
+    spells = subst (λ (ts : TokenList). Spells EndsWord (m + (4 + n)) (a ++ (between ++ b)) ts)
+        (sym (flat_map-append (terminal_tokens arch) ss (t ∷ us)))
+        (Spells-then (λ rest g. subst EndsWord (sym (append_assoc between b rest)) (ends (b ++ rest))) s.spells (Spells-on mid u.spells));
     starts = starts-then a (between ++ b) s.starts;
   }
 
@@ -155,9 +173,11 @@ module _ (arch : Arch) (threads : ℕ) (few : threads ≤ 4) (names : NameTable)
     starts = starts_word w name.0.some name.0.all;
   }
 
-  claim_spelled : (s : Seen) (n : ℕ) → IsSeen threads (length names) s → n < 2 ^ 32 → IsSpelled (assignment (site_text arch names s) n) 60 (Atom (Holds (named_site names s) n) ∷ [])
+  claim_spelled : (s : Seen) (n : ℕ) → IsSeen threads (length names) s → n < 2 ^ 32
+      → IsSpelled (assignment (site_text arch names s) n) 60 (Atom (Holds (named_site names s) n) ∷ [])
   claim_spelled s n h small = record {
-    spells = subst (λ (ts : TokenList). Spells EndsWord 60 (assignment (site_text arch names s) n) ts) (nil_behind s) (Spells-within 60 (omega arith) (assignment_spelled s n h small));
+    spells = subst (λ (ts : TokenList). Spells EndsWord 60 (assignment (site_text arch names s) n) ts) (nil_behind s)
+        (Spells-within 60 (omega arith) (assignment_spelled s n h small));
     starts = starts-then (site_text arch names s) (codes "=" ++ decimal n) (site_starts s h);
   }
     where
@@ -186,7 +206,8 @@ module _ (arch : Arch) (threads : ℕ) (few : threads ≤ 4) (names : NameTable)
       within _ _ (60 * suc (nodes p + nodes q)) _ (omega arith) (joined_spelled _ _ _ _ _ _ (codes " \\/ ") Disjunction (λ rest. refl) disjunction left right)
 
   -- a proposition in parentheses
-  pub whole_spelled : (p : Formula) → SpeaksOf threads (length names) p → Spells Anything (60 * nodes p + 2) (in_parentheses (proposition_text arch names p)) (tokens_of (enclosed (terms p)))
+  pub whole_spelled : (p : Formula) → SpeaksOf threads (length names) p
+      → Spells Anything (60 * nodes p + 2) (in_parentheses (proposition_text arch names p)) (tokens_of (enclosed (terms p)))
   whole_spelled p h = enclosed_spelled (proposition_text arch names p) (60 * nodes p) (terms p) (proposition_spelled p h)
 
 pub quantifier_spelled : (q : Quant) → Spells EndsWord 33 (quantifier_text q) (quantifier_tokens q)

@@ -1,10 +1,13 @@
 -- The nodes of a proposition are those of its terminals.
-use Rattle.std.proofs.Common.{◌≡◌, ℕ, suc, ◌+◌, List, [], ◌∷◌, length, map, refl, ap, arith}
+use Rattle.std.proofs.Common.{◌≡◌, ℕ, suc, ◌+◌, List, [], ◌∷◌, ◌++◌, length, map, refl, ap, ◌∙◌, length-append, arith}
+use Rattle.std.proofs.lemmas.List.Elements.{filter-append}
 use Rattle.std.specs.Prelude.{filter}
 use Rattle.std.specs.List.{AllByRecursion}
 use Rattle.lw_base.specs.Formula.{Formula, nodes}
+use Rattle.lw_base.proofs.api.Elements.{all_parts}
 use Rattle.lw_text.specs.Sites.{InMemory, InThread}
-use Rattle.lw_text.specs.Propositions.{Terminal, Open, Close, Negation, Conjunction, Disjunction, Atom, Nonterminal, Part, Ands, Ors, Derives, atom, negated, parens, no_and, and, no_or, or, is_node, IsProposition}
+use Rattle.lw_text.specs.Propositions.{Terminal, Open, Close, Negation, Conjunction, Disjunction, Atom, is_node, Level, Derives, atom, negated, parens, part}
+use Rattle.lw_text.specs.Propositions.{and, conjunction, or}
 use Rattle.lw_text.specs.Conditions.{AtomSyntax, Always, Never, Holds, resolved}
 
 -- how many of the terminals are nodes
@@ -20,35 +23,23 @@ IsSingle Conjunction = Unit {0}
 IsSingle Disjunction = Unit {0}
 IsSingle (Atom p) = nodes p ≡ 1
 
--- the nodes of the formula that stands so far
-abbrev pub before : Nonterminal → ℕ
-before Part = 0
-before (Ands p) = nodes p
-before (Ors p) = nodes p
+count_append : (ss ts : List (Terminal Formula)) → count (ss ++ ts) ≡ count ss + count ts
+count_append ss ts = ap length (filter-append is_node ss ts) ∙ length-append (filter is_node ss) (filter is_node ts)
 
-pub says_nodes : {k : Nonterminal} {ss rest : List (Terminal Formula)} {p : Formula} → Derives k ss p rest → AllByRecursion IsSingle ss → (nodes p + count rest ≡ before k + count ss) × AllByRecursion IsSingle rest
-says_nodes atom h = (omega (arith, h.0), h.1)
-says_nodes (negated s) h = let a = says_nodes s h.1 in (omega (arith, a.0), a.1)
-says_nodes (parens s t u) h =
-    let a = says_nodes s h.1 in
-    let b = says_nodes t a.1 in
-    let c = says_nodes u b.1 in
-    (omega (arith, a.0, b.0, c.0), c.1.1)
-says_nodes (no_and e) h = (refl, h)
-says_nodes (and s t) h = let a = says_nodes s h.1 in let b = says_nodes t a.1 in (omega (arith, a.0, b.0), b.1)
-says_nodes (no_or e) h = (refl, h)
-says_nodes (or s t u) h =
-    let a = says_nodes s h.1 in
-    let b = says_nodes t a.1 in
-    let c = says_nodes u b.1 in
-    (omega (arith, a.0, b.0, c.0), c.1)
-
-pub proposition_nodes : (ss : List (Terminal Formula)) (p : Formula) → IsProposition ss p → AllByRecursion IsSingle ss → nodes p ≡ count ss
-proposition_nodes ss p w h =
-    let a = says_nodes w.4 h in
-    let b = says_nodes w.5 a.1 in
-    let c = says_nodes w.6 b.1 in
-    omega (arith, a.0, b.0, c.0)
+pub proposition_nodes : {k : Level} {ss : List (Terminal Formula)} {p : Formula} → Derives k ss p → AllByRecursion IsSingle ss → nodes p ≡ count ss
+proposition_nodes atom h = h.0
+proposition_nodes (negated d) h = ap suc (proposition_nodes d h.1)
+proposition_nodes (parens {ss} d) h =
+    let a = proposition_nodes d (all_parts IsSingle ss (Close ∷ []) h.1).0 in
+    omega (arith, a, count_append ss (Close ∷ []))
+proposition_nodes (part d) h = proposition_nodes d h
+proposition_nodes (and {ss} {ts} d e) h =
+    let k = all_parts IsSingle ss (Conjunction ∷ ts) h in
+    omega (arith, proposition_nodes d k.0, proposition_nodes e k.1.1, count_append ss (Conjunction ∷ ts))
+proposition_nodes (conjunction d) h = proposition_nodes d h
+proposition_nodes (or {ss} {ts} d e) h =
+    let k = all_parts IsSingle ss (Disjunction ∷ ts) h in
+    omega (arith, proposition_nodes d k.0, proposition_nodes e k.1.1, count_append ss (Disjunction ∷ ts))
 
 pub resolved_single : (names : List (List ℕ)) (ss : List (Terminal AtomSyntax)) → AllByRecursion IsSingle (map (resolved names) ss)
 resolved_single names [] = tt

@@ -1,5 +1,6 @@
 -- Texts that spell tokens, before whatever may follow them. The crates above that print tests use this.
-use Rattle.std.proofs.Common.{◌≡◌, ℕ, zero, suc, ◌+◌, ◌*◌, ◌<◌, ◌≤◌, ◌^◌, inl, inr, Bool, true, false, not, [], ◌∷◌, ◌++◌, length, refl, sym, ap, ◌∙◌, subst, arith, append_assoc, append-nil, length-append}
+use Rattle.std.proofs.Common.{◌≡◌, ℕ, zero, suc, ◌+◌, ◌*◌, ◌<◌, ◌≤◌, ◌^◌, inl, inr, Bool, true, false, not, [], ◌∷◌, ◌++◌, length, refl, sym, ap, ◌∙◌, subst}
+use Rattle.std.proofs.Common.{arith, append_assoc, append-nil, length-append}
 use Rattle.std.specs.Prelude.{◌==◌, ◌&&◌, nat_lt}
 use Rattle.std.specs.List.{AllByRecursion, list_all}
 use Rattle.std.specs.Str.{IsUtf8, IsAscii}
@@ -44,7 +45,8 @@ pub Spells-nothing : (F : Bytes → Type 0) → Spells F 0 [] []
 Spells-nothing F = record { before = λ rest more f t. t; short = omega arith; utf8 = IsUtf8-nil }
 
 -- one text behind another
-pub Spells-then : {F G : Bytes → Type 0} {m n : ℕ} {a b : Bytes} {ts us : TokenList} → ((rest : Bytes) → G rest → F (b ++ rest)) → Spells F m a ts → Spells G n b us → Spells G (m + n) (a ++ b) (ts ++ us)
+pub Spells-then : {F G : Bytes → Type 0} {m n : ℕ} {a b : Bytes} {ts us : TokenList} → ((rest : Bytes) → G rest → F (b ++ rest)) → Spells F m a ts
+    → Spells G n b us → Spells G (m + n) (a ++ b) (ts ++ us)
 Spells-then {F} {G} {m} {n} {a} {b} {ts} {us} joint p q = record {
   before = λ rest more g t. rw (append_assoc a b rest, append_assoc ts us more) (p.before (b ++ rest) (us ++ more) (joint rest g) (q.before rest more g t));
   short = omega (arith, length-append a b, p.short, q.short);
@@ -52,11 +54,13 @@ Spells-then {F} {G} {m} {n} {a} {b} {ts} {us} joint p q = record {
 }
 
 -- behind a text that anything may follow
-pub Spells-on : {G : Bytes → Type 0} {m n : ℕ} {a b : Bytes} {ts us : TokenList} → Spells Anything m a ts → Spells G n b us → Spells G (m + n) (a ++ b) (ts ++ us)
+pub Spells-on : {G : Bytes → Type 0} {m n : ℕ} {a b : Bytes} {ts us : TokenList} → Spells Anything m a ts → Spells G n b us
+    → Spells G (m + n) (a ++ b) (ts ++ us)
 Spells-on p q = Spells-then (λ rest g. tt) p q
 
 -- the same text, where less may follow it, or with a greater bound
-pub Spells-before : {F : Bytes → Type 0} (G : Bytes → Type 0) {m : ℕ} {a : Bytes} {ts : TokenList} → ((rest : Bytes) → G rest → F rest) → Spells F m a ts → Spells G m a ts
+pub Spells-before : {F : Bytes → Type 0} (G : Bytes → Type 0) {m : ℕ} {a : Bytes} {ts : TokenList} → ((rest : Bytes) → G rest → F rest)
+    → Spells F m a ts → Spells G m a ts
 Spells-before G less p = record { before = λ rest more g t. p.before rest more (less rest g) t; short = p.short; utf8 = p.utf8 }
 
 pub Spells-within : {F : Bytes → Type 0} {m : ℕ} {a : Bytes} {ts : TokenList} (n : ℕ) → m ≤ n → Spells F m a ts → Spells F n a ts
@@ -78,7 +82,12 @@ ascii_one b h zero = h
 ascii_one b h (suc i) = omega arith
 
 pub Spells-blank : (b : ℕ) → is_blank b ≡ true → b < 128 → Spells Anything 1 (b ∷ []) []
-Spells-blank b h low = record { before = λ rest more f t. tokens-blank b rest more h t; short = omega arith; utf8 = IsUtf8-from_ascii (b ∷ []) (ascii_one b low) }
+Spells-blank b h low = record {
+  before = λ rest more f t. tokens-blank b rest more h t;
+  short = omega arith;
+  utf8 = IsUtf8-from_ascii (b ∷ [])
+      (ascii_one b low);
+}
 
 pub Spells-space : Spells Anything 1 (32 ∷ []) []
 Spells-space = Spells-blank 32 refl (omega arith)
@@ -98,7 +107,8 @@ no_pair b h [] = refl
 no_pair b h (c ∷ rest) = h c
 
 -- a symbol of one byte
-pub Spells-symbol : {F : Bytes → Type 0} (b : ℕ) → is_single b ≡ true → ((rest : Bytes) → F rest → begins (is_pair b) rest ≡ false) → ((rest : Bytes) → F rest → opens_comment (b ∷ rest) ≡ false) → b < 128 → Spells F 1 (b ∷ []) ((b ∷ []) ∷ [])
+pub Spells-symbol : {F : Bytes → Type 0} (b : ℕ) → is_single b ≡ true → ((rest : Bytes) → F rest → begins (is_pair b) rest ≡ false)
+    → ((rest : Bytes) → F rest → opens_comment (b ∷ rest) ≡ false) → b < 128 → Spells F 1 (b ∷ []) ((b ∷ []) ∷ [])
 Spells-symbol b single alone plain low = record {
   before = λ rest more f t. (rest, (none, inr (single, alone rest f, plain rest f)), t);
   short = omega arith;
@@ -151,8 +161,11 @@ name_by_test w h =
     let halves = and_parts (nat_lt 0 (length w) && nat_lt (length w) 33) (list_all is_word_byte w && not (begins is_ascii_digit w)) h in
     let long = and_parts (nat_lt 0 (length w)) (nat_lt (length w) 33) halves.0 in
     let bytes = and_parts (list_all is_word_byte w) (not (begins is_ascii_digit w)) halves.1 in
-    let most : length w < 33 = ltb-true (length w) 33 long.1 in
-    (record { some = ltb-true 0 (length w) long.0; all = all_pass is_word_byte w bytes.0; front = not-true (begins is_ascii_digit w) bytes.1 }, omega (arith, most))
+    let most : length w < 33 = ltb-true (length w) 33 long.1 in (
+      record { some = ltb-true 0 (length w) long.0; all = all_pass is_word_byte w bytes.0; front = not-true (begins is_ascii_digit w) bytes.1 },
+      omega
+          (arith, most),
+    )
 
 pub Spells-name : (w : Bytes) → IsName w → Spells EndsWord 32 w (w ∷ [])
 Spells-name w name = Spells-word 32 w name.0.all (inl name) name.1

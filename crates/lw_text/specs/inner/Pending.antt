@@ -4,7 +4,8 @@ use Rattle.lw_base.specs.Formula.{Formula, Not, And, Or}
 use Rattle.lw_base.specs.Propositions.{formula_of}
 use Rattle.lw_text.specs.declared.open_group.OpenGroup.{OpenGroup}
 use Rattle.lw_text.specs.declared.proposition_reader.PropositionReader.{PropositionReader}
-use Rattle.lw_text.specs.Propositions.{Terminal, Open, Close, Negation, Conjunction, Disjunction, Atom, Derives, Part, Ands, Ors}
+use Rattle.lw_text.specs.Propositions.{Terminal, Open, Close, Negation, Conjunction, Disjunction, Atom}
+use Rattle.lw_text.specs.inner.LeftToRight.{Reads, Part, Ands, Ors}
 
 -- What stands open inside one pair of parentheses: what stands before a `\/`, what stands before a
 -- `/\`, and how many `~` stand before the part that comes.
@@ -60,16 +61,16 @@ pub record ReaderState : Type 0 where
 -- that says q.
 abbrev pub Has : Pending → List Pending → Formula → List (Terminal Formula) → Formula → Type 0
 Has l [] p ss q =
-    (a : Formula) × (n : List (Terminal Formula)) × Derives (Ands (ands_of l p)) ss a n
-    × Derives (Ors (after_or l.either a)) n q []
+    (a : Formula) × (n : List (Terminal Formula)) × Reads (Ands (ands_of l p)) ss a n
+    × Reads (Ors (after_or l.either a)) n q []
 Has l (o ∷ os) p ss q =
-    (a b : Formula) × (n k : List (Terminal Formula)) × Derives (Ands (ands_of l p)) ss a n
-    × Derives (Ors (after_or l.either a)) n b (Close ∷ k) × Has o os b k q
+    (a b : Formula) × (n k : List (Terminal Formula)) × Reads (Ands (ands_of l p)) ss a n
+    × Reads (Ors (after_or l.either a)) n b (Close ∷ k) × Has o os b k q
 
 -- The same where a part is still to come.
 abbrev pub Wants : Pending → List Pending → List (Terminal Formula) → Formula → Type 0
 Wants l os ss q =
-    (p : Formula) × (m : List (Terminal Formula)) × Derives Part ss p m × Has l os p m q
+    (p : Formula) × (m : List (Terminal Formula)) × Reads Part ss p m × Has l os p m q
 
 -- the same where a part may stand last or not
 abbrev pub Rest : Option Formula → Pending → List Pending → List (Terminal Formula) → Formula

@@ -1,5 +1,6 @@
 -- Used within the crate: sites, entries and terminals in memory, whose locations are resolved to numbers, and their names.
-use Rattle.std.specs.Prelude.{◌≡◌, ℕ, suc, ◌<◌, ◌≤◌, Bool, true, nat_lt, Option, None, Some, List, [], ◌++◌, length, map, filter, fold, if◌then◌else◌, slice_index_or, All}
+use Rattle.std.specs.Prelude.{◌≡◌, ℕ, suc, ◌<◌, ◌≤◌, Bool, true, nat_lt, Option, None, Some, List, [], ◌++◌, length, map, filter, fold, if◌then◌else◌}
+use Rattle.std.specs.Prelude.{slice_index_or, All}
 use Rattle.std.specs.List.{list_any, range_with_len}
 use Rattle.lw_base.specs.Types.{NameTable, Bytes, TokenList}
 use Rattle.lw_base.specs.declared.head.Arch.{Arch}
@@ -14,7 +15,7 @@ use Rattle.lw_text.specs.declared.parts.HeadParts.{HeadParts}
 use Rattle.lw_text.specs.declared.parts.Body.{Body}
 use Rattle.lw_text.specs.Sites as syntax
 use Rattle.lw_text.specs.Frames as frames
-use Rattle.lw_base.specs.SeenLists.{same_seen, registers_of, all_registers, locations}
+use Rattle.lw_base.specs.SeenLists.{same_seen, thread_registers, all_registers, locations}
 use Rattle.lw_text.specs.Frames.{table, Parts}
 use Rattle.lw_text.specs.declared.terminal.Terminal.{Terminal as MadeTerminal}
 use Rattle.lw_text.specs.declared.terminal.Terminal.TheVariants as terminals
@@ -73,7 +74,7 @@ resolved_head arch name s =
       arch = arch;
       threads = s.threads;
       locs = s.locs;
-      init_regs = map (λ t. map (word_at s.entries) (registers_of t)) (range_with_len 0 s.threads);
+      init_regs = map (λ t. map (word_at s.entries) (thread_registers t)) (range_with_len 0 s.threads);
       init_words = map (word_at s.entries) (locations (length s.locs));
       listed = filter (is_listed s.listed) (all_registers s.threads ++ locations (length s.locs));
       quant = s.quant;

@@ -4,10 +4,13 @@ use Rattle.lw_text.proofs.Entries.{all_more, all_taken, all_missed}
 use Rattle.lw_text.proofs.block.check_threads.Goals as goal
 
 pub loop-entry-preserved : goal.loop-entry-preserved
-loop-entry-preserved c = all_more (λ e. thread_exists c.args.threads e.site) c.args.entries.now c.loop-entry.entry-index c.entry-item.result c.loop-entry-test.true c.entry-item.is (sym c.thread_exists.ensures ∙ c.if-not-thread_exists.false) c.loop-entry.invariant
+loop-entry-preserved c = all_more (λ e. thread_exists c.args.threads e.site) c.args.entries.now c.loop-entry.entry-index c.entry-item.result
+    c.loop-entry-test.true c.entry-item.is (sym c.thread_exists.ensures ∙ c.if-not-thread_exists.false) c.loop-entry.invariant
 
 pub returns-clause-ok : goal.returns-clause-ok
-returns-clause-ok c = all_taken (λ e. thread_exists c.args.threads e.site) c.args.entries.now c.loop-entry.entry-index c.loop-entry-test.false c.loop-entry.invariant
+returns-clause-ok c = all_taken (λ e. thread_exists c.args.threads e.site) c.args.entries.now c.loop-entry.entry-index c.loop-entry-test.false
+    c.loop-entry.invariant
 
 pub returns-then-not-thread_exists-clause-err : goal.returns-then-not-thread_exists-clause-err
-returns-then-not-thread_exists-clause-err c = all_missed (λ e. thread_exists c.args.threads e.site) c.args.entries.now c.loop-entry.entry-index c.entry-item.result c.loop-entry-test.true c.entry-item.is (sym c.thread_exists.ensures ∙ c.if-not-thread_exists.true) c.loop-entry.invariant
+returns-then-not-thread_exists-clause-err c = all_missed (λ e. thread_exists c.args.threads e.site) c.args.entries.now c.loop-entry.entry-index
+    c.entry-item.result c.loop-entry-test.true c.entry-item.is (sym c.thread_exists.ensures ∙ c.if-not-thread_exists.true) c.loop-entry.invariant

@@ -12,5 +12,6 @@ loop-entry-preserved c =
     let more = word_more c.args.entries.now c.loop-entry.entry-index entry (seen_of c.args.site) c.loop-entry-test.true c.entry-item.is in
     elim c.if-is_same.branch [
       | then-is_same w ↦ w.word-is ∙ sym (more ∙ ap (λ (same : Bool). if same then entry.word else before) (sym c.is_same.ensures ∙ w.if-is_same.true))
-      | else-is_same w ↦ w.word-is ∙ (c.loop-entry.invariant ∙ sym (more ∙ ap (λ (same : Bool). if same then entry.word else before) (sym c.is_same.ensures ∙ w.if-is_same.false)))
+      | else-is_same w ↦ w.word-is ∙ (c.loop-entry.invariant ∙ sym
+          (more ∙ ap (λ (same : Bool). if same then entry.word else before) (sym c.is_same.ensures ∙ w.if-is_same.false)))
     ]

@@ -7,11 +7,14 @@ use Rattle.lw_text.proofs.lexeme.token.Goals as goal
 
 pub returns-then-not-is_kind-clause-none : goal.returns-then-not-is_kind-clause-none
 returns-then-not-is_kind-clause-none c =
-    no_kind c.args.bytes.now _ _ c.front.ensures.parts c.front.ensures.all c.front.ensures.longest (ap (begins is_word_byte) c.in-Some.ensures ∙ sym c.is_word_byte.ensures ∙ c.if-is_word_byte.true) (λ k. false≢true (c.if-not-is_kind.ensures.1 (subst IsKind (sym c.ascii_text-text.ensures) k)))
+    no_kind c.args.bytes.now _ _ c.front.ensures.parts c.front.ensures.all c.front.ensures.longest
+    (ap (begins is_word_byte) c.in-Some.ensures ∙ sym c.is_word_byte.ensures ∙ c.if-is_word_byte.true)
+    (λ k. false≢true (c.if-not-is_kind.ensures.1 (subst IsKind (sym c.ascii_text-text.ensures) k)))
 
 pub returns-clause-none : goal.returns-clause-none
 returns-clause-none c =
-    no_token c.args.bytes.now _ _ c.in-Some.ensures (sym c.is_word_byte.ensures ∙ c.if-is_word_byte.false) (λ p. false≢true (c.if-begins_short.ensures.1 p)) (λ b d more e p. false≢true (c.if-begins_long.ensures.1 (b, d, more, e, p)))
+    no_token c.args.bytes.now _ _ c.in-Some.ensures (sym c.is_word_byte.ensures ∙ c.if-is_word_byte.false)
+    (λ p. false≢true (c.if-begins_short.ensures.1 p)) (λ b d more e p. false≢true (c.if-begins_long.ensures.1 (b, d, more, e, p)))
 
 pub returns-then-is_word_byte-clause-found : goal.returns-then-is_word_byte-clause-found
 returns-then-is_word_byte-clause-found c =
@@ -28,11 +31,14 @@ pub split_at-requires : goal.split_at-requires
 split_at-requires c = omega (arith, ap length (c.if-begins_long.ensures.0 refl).3)
 
 pub returns-then-begins_long-clause-found : goal.returns-then-begins_long-clause-found
-returns-then-begins_long-clause-found c = long_symbol _ _ _ (c.if-begins_long.ensures.0 refl) (c.ascii_text.ensures ∙ c.split_at.ensures.front) c.split_at.ensures.back
+returns-then-begins_long-clause-found c = long_symbol _ _ _ (c.if-begins_long.ensures.0 refl)
+    (c.ascii_text.ensures ∙ c.split_at.ensures.front) c.split_at.ensures.back
 
 pub split_at-requires-then-begins_short : goal.split_at-requires-then-begins_short
 split_at-requires-then-begins_short c = omega (arith, ap length c.in-Some.ensures)
 
 pub returns-then-begins_short-clause-found : goal.returns-then-begins_short-clause-found
 returns-then-begins_short-clause-found c =
-    short_symbol _ _ _ _ c.in-Some.first c.in-Some.ensures (λ b d more e p. false≢true (c.if-begins_long.ensures.1 (b, d, more, e, p))) (c.if-begins_short.ensures.0 refl) (c.ascii_text-then-begins_short.ensures ∙ c.split_at-then-begins_short.ensures.front) c.split_at-then-begins_short.ensures.back
+    short_symbol _ _ _ _ c.in-Some.first c.in-Some.ensures (λ b d more e p. false≢true (c.if-begins_long.ensures.1 (b, d, more, e, p)))
+    (c.if-begins_short.ensures.0 refl) (c.ascii_text-then-begins_short.ensures ∙ c.split_at-then-begins_short.ensures.front)
+    c.split_at-then-begins_short.ensures.back

@@ -13,7 +13,8 @@ returns-in-Some-clause-found c =
     let k = c.front.ensures in
     let s = c.front-2.ensures in
     let u = c.front-in-Some.ensures in
-    KeyLine-made c.args.bytes.now _ _ _ _ k.parts k.all k.longest s.parts s.all s.longest _ _ _ (grind (arith, nat_tests)) c.in-Some.ensures u.parts u.all u.longest
+    KeyLine-made c.args.bytes.now _ _ _ _ k.parts k.all k.longest s.parts s.all s.longest _ _ _
+    (grind (arith, nat_tests)) c.in-Some.ensures u.parts u.all u.longest
 
 pub returns-in-None-clause-fault : goal.returns-in-None-clause-fault
 returns-in-None-clause-fault c =

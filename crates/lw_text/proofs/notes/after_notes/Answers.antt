@@ -14,12 +14,19 @@ returns-in-Some-behind_byte-clause-found c = Passed-done c.notes.invariant c.in-
 
 pub returns-in_err-rest-in-None-clause-fault : goal.returns-in_err-rest-in-None-clause-fault
 returns-in_err-rest-in-None-clause-fault c =
-    passed_on _ _ c.from_residual.ensures.1 (Passed-none c.notes.invariant c.in-Some.ensures.found c.in-Some.ensures.stops c.in-None.ensures c.in_err-rest-in-None.ensures.fault)
+    passed_on _ _ c.from_residual.ensures.1 (Passed-none c.notes.invariant c.in-Some.ensures.found c.in-Some.ensures.stops c.in-None.ensures
+    c.in_err-rest-in-None.ensures.fault)
 
 pub returns-in_err-rest-in-None-clause-place : goal.returns-in_err-rest-in-None-clause-place
 returns-in_err-rest-in-None-clause-place c =
     let s = Trivia-suffix c.in-Some.ensures.found in
-    passed_on _ _ c.from_residual.ensures.1 (omega (arith, c.in_err-rest-in-None.ensures.place, ap length s.1, length-append s.0 c.in-Some.start.now, c.notes.invariant.bound))
+    passed_on _ _ c.from_residual.ensures.1 (omega (
+      arith,
+      c.in_err-rest-in-None.ensures.place,
+      ap length s.1,
+      length-append s.0 c.in-Some.start.now,
+      c.notes.invariant.bound,
+    ))
 
 pub notes-smaller : goal.notes-smaller
 notes-smaller c = Passed-shorter c.in-Some.ensures.found c.in_ok-rest-in-None.ensures.found

@@ -53,13 +53,17 @@ pub returns-in_err-read_text-clause-len : goal.returns-in_err-read_text-clause-l
 returns-in_err-read_text-clause-len g c = not_ok _ _ c.from_residual.ensures.0
 
 pub returns-in_err-read_text-clause-place : goal.returns-in_err-read_text-clause-place
-returns-in_err-read_text-clause-place g c = turned (λ (t : TextFault). t.at ≤ length c.args.text.now) _ c.from_residual.ensures.1 (λ t q. omega (arith, q.0, c.in_err-read_text.ensures.place))
+returns-in_err-read_text-clause-place g c = turned (λ (t : TextFault). t.at ≤ length c.args.text.now) _ c.from_residual.ensures.1
+    (λ t q. omega (arith, q.0, c.in_err-read_text.ensures.place))
 
 pub returns-in_err-read_text-clause-only_too_long : goal.returns-in_err-read_text-clause-only_too_long
-returns-in_err-read_text-clause-only_too_long g c = turned (λ (t : TextFault). t.cause ≡ cause.TooLong → most_text_bytes < length c.args.text.now) _ c.from_residual.ensures.1 (λ t q e. absurd (told-TooLong _ (sym q.1 ∙ e)))
+returns-in_err-read_text-clause-only_too_long g c = turned (λ (t : TextFault). t.cause ≡ cause.TooLong → most_text_bytes < length c.args.text.now) _
+    c.from_residual.ensures.1 (λ t q e. absurd (told-TooLong _ (sym q.1 ∙ e)))
 
 pub returns-in_err-read_text-clause-only_not_utf8 : goal.returns-in_err-read_text-clause-only_not_utf8
-returns-in_err-read_text-clause-only_not_utf8 g c = turned (λ (t : TextFault). t.cause ≡ cause.NotUtf8 → (length c.args.text.now ≤ most_text_bytes) × (¬ IsUtf8 c.args.text.now) × IsValidUpTo c.args.text.now t.at) _ c.from_residual.ensures.1 (λ t q e. absurd (told-NotUtf8 _ (sym q.1 ∙ e)))
+returns-in_err-read_text-clause-only_not_utf8 g c = turned (λ (t : TextFault). t.cause ≡ cause.NotUtf8
+    → (length c.args.text.now ≤ most_text_bytes) × (¬ IsUtf8 c.args.text.now) × IsValidUpTo c.args.text.now t.at) _ c.from_residual.ensures.1
+    (λ t q e. absurd (told-NotUtf8 _ (sym q.1 ∙ e)))
 
 pub returns-clause-found : goal.returns-clause-found
 returns-clause-found g c = c.in_ok-read_text.ensures.found

@@ -26,7 +26,8 @@ returns-in_err-heading g c = record {
   found = not_ok _ _ c.from_residual.ensures.0;
   cells = not_ok _ _ c.from_residual.ensures.0;
   len = not_ok _ _ c.from_residual.ensures.0;
-  fault = passed_on _ _ c.from_residual.ensures.1 (λ _ frame h. c.in_err-heading.ensures.fault h.arch h.name h.rest (subst (λ t. Heading t h.arch h.name h.rest) (sym c.new-lexer.ensures.rest) h.heading));
+  fault = passed_on _ _ c.from_residual.ensures.1 (λ _ frame h. c.in_err-heading.ensures.fault h.arch h.name h.rest
+      (subst (λ t. Heading t h.arch h.name h.rest) (sym c.new-lexer.ensures.rest) h.heading));
   place = passed_on _ _ c.from_residual.ensures.1 (omega (arith, c.in_err-heading.ensures.place, ap length c.new-lexer.ensures.text));
 }
 
@@ -36,7 +37,8 @@ body-read-requires-clause-places g c =
     subst (λ t. All (λ token. token.at ≤ length t) c.in_ok-row.row.tokens) whole c.in_ok-row.ensures.within
 
 pub body-read-requires-clause-fault : goal.body-read-requires-clause-fault
-body-read-requires-clause-fault g c = subst (λ t. IfSome c.in_ok-row.row.fault (λ f. f.at ≤ length t)) (c.in_ok-heading.ensures.same ∙ c.new-lexer.ensures.text) c.in_ok-row.ensures.place
+body-read-requires-clause-fault g c = subst (λ t. IfSome c.in_ok-row.row.fault (λ f. f.at ≤ length t))
+    (c.in_ok-heading.ensures.same ∙ c.new-lexer.ensures.text) c.in_ok-row.ensures.place
 
 pub returns-in_err-body : goal.returns-in_err-body
 returns-in_err-body g c = record {
@@ -45,8 +47,11 @@ returns-in_err-body g c = record {
   len = not_ok _ _ c.from_residual-in_err-body.ensures.0;
   fault =
       let row = c.in_ok-row.row in
-      let heading = subst (λ t. Heading t c.in_ok-heading.heading.arch c.in_ok-heading.heading.name.now c.heading.new.self.rest.now) c.new-lexer.ensures.rest c.in_ok-heading.ensures.found in
-      passed_on _ _ c.from_residual-in_err-body.ensures.1 (λ ne. no_frame c.args.text.now c.in_ok-heading.heading.arch c.in_ok-heading.heading.name.now c.heading.new.self.rest.now heading (no_test c.in_ok-heading.heading.arch row.fault c.heading.new.self.rest.now (texts row.tokens) (read_whole row.fault _ _ row.tokens c.in_ok-row.ensures.found) c.in_ok-row.ensures.fault (c.in_err-body.ensures.fault ne)));
+      let heading = subst (λ t. Heading t c.in_ok-heading.heading.arch c.in_ok-heading.heading.name.now c.heading.new.self.rest.now)
+      c.new-lexer.ensures.rest c.in_ok-heading.ensures.found in
+      passed_on _ _ c.from_residual-in_err-body.ensures.1 (λ ne. no_frame c.args.text.now c.in_ok-heading.heading.arch c.in_ok-heading.heading.name.now
+      c.heading.new.self.rest.now heading (no_test c.in_ok-heading.heading.arch row.fault c.heading.new.self.rest.now (texts row.tokens)
+      (read_whole row.fault _ _ row.tokens c.in_ok-row.ensures.found) c.in_ok-row.ensures.fault (c.in_err-body.ensures.fault ne)));
   place = passed_on _ _ c.from_residual-in_err-body.ensures.1 c.in_err-body.ensures.place;
 }
 
@@ -69,9 +74,12 @@ returns-clause-found g c =
     let body = c.in_ok-body.body in
     let frame = c.in_ok-finish.field-0 in
     let says = c.in_ok-body.ensures.found in
-    let head : head_of frame.head ≡ head_of_syntax c.in_ok-heading.heading.arch c.in_ok-heading.heading.name.now says.syntax (formula_of body.parts.prop) = c.in_ok-finish.ensures.head ∙ head_made c.in_ok-heading.heading.arch c.in_ok-heading.heading.name.now _ body says in
-    let cells : all_texts frame.cells ≡ columns body.parts.threads (all_texts body.rows) = ap all_texts c.in_ok-finish.ensures.cells ∙ columns-texts body.parts.threads body.rows in
-    let same : columns body.parts.threads (all_texts body.rows) ≡ columns says.syntax.threads says.syntax.rows = ap (λ (s : TestSyntax). columns s.threads s.rows) (sym says.is) in
+    let head : head_of frame.head ≡ head_of_syntax c.in_ok-heading.heading.arch c.in_ok-heading.heading.name.now says.syntax
+    (formula_of body.parts.prop) = c.in_ok-finish.ensures.head ∙ head_made c.in_ok-heading.heading.arch c.in_ok-heading.heading.name.now _ body says in
+    let cells : all_texts frame.cells ≡ columns body.parts.threads (all_texts body.rows) = ap all_texts c.in_ok-finish.ensures.cells
+    ∙ columns-texts body.parts.threads body.rows in
+    let same : columns body.parts.threads (all_texts body.rows) ≡ columns says.syntax.threads says.syntax.rows = ap
+    (λ (s : TestSyntax). columns s.threads s.rows) (sym says.is) in
     record {
       short = c.requires.short;
       utf8 = c.requires.utf8;
@@ -81,8 +89,10 @@ returns-clause-found g c =
       tokens = texts c.in_ok-row.row.tokens;
       syntax = says.syntax;
       condition = formula_of body.parts.prop;
-      heading = subst (λ t. Heading t c.in_ok-heading.heading.arch c.in_ok-heading.heading.name.now c.heading.new.self.rest.now) c.new-lexer.ensures.rest c.in_ok-heading.ensures.found;
-      row = subst (λ o. IfNone o (Tokens c.heading.new.self.rest.now (texts c.in_ok-row.row.tokens))) c.in_ok-body.ensures.whole (read_whole c.in_ok-row.row.fault _ _ c.in_ok-row.row.tokens c.in_ok-row.ensures.found);
+      heading = subst (λ t. Heading t c.in_ok-heading.heading.arch c.in_ok-heading.heading.name.now c.heading.new.self.rest.now)
+          c.new-lexer.ensures.rest c.in_ok-heading.ensures.found;
+      row = subst (λ o. IfNone o (Tokens c.heading.new.self.rest.now (texts c.in_ok-row.row.tokens))) c.in_ok-body.ensures.whole
+          (read_whole c.in_ok-row.row.fault _ _ c.in_ok-row.row.tokens c.in_ok-row.ensures.found);
       parts = says.parts;
       proposition = body_proposition c.in_ok-heading.heading.arch (texts c.in_ok-row.row.tokens) body says;
       made = cc (head, cells, same);
@@ -94,12 +104,14 @@ returns-clause-cells g c =
     let row = c.in_ok-row.row in
     let rest = c.heading.new.self.rest.now in
     let whole = c.in_ok-heading.ensures.same ∙ c.new-lexer.ensures.text in
-    let stream = subst (λ o. IfNone o (PlacedTokens (length c.heading.new.self.text.now) rest (placed_tokens row.tokens))) c.in_ok-body.ensures.whole c.in_ok-row.ensures.found in
+    let stream = subst (λ o. IfNone o (PlacedTokens (length c.heading.new.self.text.now) rest (placed_tokens row.tokens))) c.in_ok-body.ensures.whole
+    c.in_ok-row.ensures.found in
     record {
       arch = c.in_ok-heading.heading.arch;
       name = c.in_ok-heading.heading.name.now;
       rest = rest;
-      heading = subst (λ t. Heading t c.in_ok-heading.heading.arch c.in_ok-heading.heading.name.now rest) c.new-lexer.ensures.rest c.in_ok-heading.ensures.found;
+      heading = subst (λ t. Heading t c.in_ok-heading.heading.arch c.in_ok-heading.heading.name.now rest) c.new-lexer.ensures.rest
+          c.in_ok-heading.ensures.found;
       tokens = placed_tokens row.tokens;
       stream = subst (λ t. PlacedTokens (length t) rest (placed_tokens row.tokens)) whole stream;
       threads = body.parts.threads;

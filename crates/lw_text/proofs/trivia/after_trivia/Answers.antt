@@ -18,7 +18,14 @@ returns-in_err-after_comment-clause-none c = if_none _ _ (Skipped-open c.loop-in
 pub loop-inner-smaller : goal.loop-inner-smaller
 loop-inner-smaller c =
     let b = c.front-in-Some.ensures in
-    omega (arith, Comment-shorter c.in_ok-after_comment.ensures.found, ap length c.in-Some.ensures, ap length b.parts, length-append c.front-in-Some.result.0.now c.front-in-Some.result.1.now)
+    omega (
+      arith,
+      Comment-shorter c.in_ok-after_comment.ensures.found,
+      ap length c.in-Some.ensures,
+      ap length b.parts,
+      length-append
+          c.front-in-Some.result.0.now c.front-in-Some.result.1.now,
+    )
 
 pub loop-inner-preserved : goal.loop-inner-preserved
 loop-inner-preserved c =

@@ -5,4 +5,5 @@ use Rattle.lw_text.proofs.Texts.{token_next}
 use Rattle.lw_text.proofs.cursor.Cursor.at_stop.Goals as goal
 
 pub returns-in-Some : goal.returns-in-Some
-returns-in-Some c = c.is_stop.ensures ∙ sym (ap (λ l. begins_stop (texts l)) (token_next c.args.self.now.tokens.now c.args.self.now.next c.in-Some.token.now c.in-Some.ensures.lookup.3.0 c.in-Some.ensures.lookup.1))
+returns-in-Some c = c.is_stop.ensures ∙ sym (ap (λ l. begins_stop (texts l))
+    (token_next c.args.self.now.tokens.now c.args.self.now.next c.in-Some.token.now c.in-Some.ensures.lookup.3.0 c.in-Some.ensures.lookup.1))

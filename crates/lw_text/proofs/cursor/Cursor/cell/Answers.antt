@@ -17,8 +17,10 @@ pub cell-preserved : goal.cell-preserved
 cell-preserved g c =
     let token = c.in_ok-token.token in
     rw c.in_ok-push.ensures.ok (record {
-      tokens = c.cell.invariant.tokens ∙ ap (λ ts. c.cell.cell ++ ts) c.in_ok-token.ensures.token ∙ sym (append_assoc c.cell.cell (token ∷ []) (remaining c.take.new.self));
-      plain = subst (AllByRecursion (λ t. ends_cell t ≡ false)) (sym (map_push (λ (t : Token). t.text.now) c.cell.cell token)) (all_push (λ t. ends_cell t ≡ false) (texts c.cell.cell) token.text.now c.cell.invariant.plain (sym c.ends_cell.ensures ∙ c.if-ends_cell.false));
+      tokens = c.cell.invariant.tokens ∙ ap (λ ts. c.cell.cell ++ ts) c.in_ok-token.ensures.token ∙ sym
+          (append_assoc c.cell.cell (token ∷ []) (remaining c.take.new.self));
+      plain = subst (AllByRecursion (λ t. ends_cell t ≡ false)) (sym (map_push (λ (t : Token). t.text.now) c.cell.cell token))
+          (all_push (λ t. ends_cell t ≡ false) (texts c.cell.cell) token.text.now c.cell.invariant.plain (sym c.ends_cell.ensures ∙ c.if-ends_cell.false));
     })
 
 pub returns-then-ends_cell-clause-tokens : goal.returns-then-ends_cell-clause-tokens
@@ -36,7 +38,8 @@ cell-init g c = rw c.requires (record { tokens = refl; plain = tt })
 pub returns-then-ends_cell-clause-parts : goal.returns-then-ends_cell-clause-parts
 returns-then-ends_cell-clause-parts g c =
     let token = c.in_ok-token.token in
-    ap texts (c.cell.invariant.tokens ∙ ap (λ ts. c.cell.cell ++ ts) c.in_ok-token.ensures.token) ∙ map-append (λ (t : Token). t.text.now) c.cell.cell (token ∷ remaining c.take.new.self)
+    ap texts (c.cell.invariant.tokens ∙ ap (λ ts. c.cell.cell ++ ts) c.in_ok-token.ensures.token) ∙ map-append (λ (t : Token). t.text.now) c.cell.cell
+    (token ∷ remaining c.take.new.self)
 
 pub returns-in_err-token : goal.returns-in_err-token
 returns-in_err-token g c = record {
@@ -46,6 +49,7 @@ returns-in_err-token g c = record {
   mark = not_ok _ _ c.from_residual.ensures.0;
   err =
       let here = remaining c.cell.self in
-      let all = ap texts c.cell.invariant.tokens ∙ map-append (λ (t : Token). t.text.now) c.cell.cell here ∙ ap (λ l. texts c.cell.cell ++ l) c.in_err-token.ensures.err ∙ append-nil (texts c.cell.cell) in
+      let all = ap texts c.cell.invariant.tokens ∙ map-append (λ (t : Token). t.text.now) c.cell.cell here ∙ ap
+      (λ l. texts c.cell.cell ++ l) c.in_err-token.ensures.err ∙ append-nil (texts c.cell.cell) in
       passed_on _ _ c.from_residual.ensures.1 (λ _. subst (AllByRecursion (λ t. ends_cell t ≡ false)) (sym all) c.cell.invariant.plain);
 }

@@ -14,35 +14,56 @@ pub returns-in_err-listed : goal.returns-in_err-listed
 returns-in_err-listed g c = record {
   found = not_ok _ _ c.from_residual.ensures.0;
   within = not_ok _ _ c.from_residual.ensures.0;
-  fault = passed_on _ _ c.from_residual.ensures.1 (λ ne all q ss p condition few nodes whole. no_list c.args.arch c.args.threads (left c.args.self.now) c.args.locs.now (c.in_err-listed.ensures.fault ne) all q ss condition few);
+  fault = passed_on _ _ c.from_residual.ensures.1 (λ ne all q ss p condition few nodes whole. no_list c.args.arch c.args.threads
+      (left c.args.self.now) c.args.locs.now (c.in_err-listed.ensures.fault ne) all q ss condition few);
 }
 
 pub returns-in_err-quant : goal.returns-in_err-quant
 returns-in_err-quant g c = record {
   found = not_ok _ _ c.from_residual-in_err-quant.ensures.0;
   within = not_ok _ _ c.from_residual-in_err-quant.ensures.0;
-  fault = passed_on _ _ c.from_residual-in_err-quant.ensures.1 (λ ne all q ss p condition few nodes whole. no_quant c.args.arch c.args.threads (left c.args.self.now) c.args.locs.now _ (left c.listed.new.self) c.in_ok-listed.ensures.found c.in_err-quant.ensures.fault all q ss condition);
+  fault = passed_on _ _ c.from_residual-in_err-quant.ensures.1
+      (λ ne all q ss p condition few nodes whole. no_quant c.args.arch c.args.threads (left c.args.self.now) c.args.locs.now _
+      (left c.listed.new.self) c.in_ok-listed.ensures.found c.in_err-quant.ensures.fault all q ss condition);
 }
 
 pub proposition-requires-clause-threads : goal.proposition-requires-clause-threads
 proposition-requires-clause-threads g c = c.requires.threads
 
 pub proposition-requires-clause-once : goal.proposition-requires-clause-once
-proposition-requires-clause-once g c = subst EachOnce (sym c.in_ok-listed.ensures.names) (once-along c.args.locs.now (site_names (map (named c.listed.new.locs) c.in_ok-listed.listed)) c.requires.once)
+proposition-requires-clause-once g c = subst EachOnce (sym c.in_ok-listed.ensures.names)
+    (once-along c.args.locs.now (site_names (map (named c.listed.new.locs) c.in_ok-listed.listed)) c.requires.once)
 
 pub returns-in_err-prop : goal.returns-in_err-prop
 returns-in_err-prop g c = record {
   found = not_ok _ _ c.from_residual-in_err-prop.ensures.0;
   within = not_ok _ _ c.from_residual-in_err-prop.ensures.0;
-  fault = passed_on _ _ c.from_residual-in_err-prop.ensures.1 (λ ne. no_terminals c.args.arch c.args.threads (left c.args.self.now) c.args.locs.now _ (left c.listed.new.self) c.in_ok-listed.ensures.found c.in_ok-quant.quant (left c.quantifier.new.self) c.in_ok-quant.ensures.found c.listed.new.locs c.in_ok-listed.ensures.names (c.in_err-prop.ensures.fault ne));
+  fault = passed_on _ _ c.from_residual-in_err-prop.ensures.1
+      (λ ne. no_terminals c.args.arch c.args.threads (left c.args.self.now) c.args.locs.now _
+      (left c.listed.new.self) c.in_ok-listed.ensures.found c.in_ok-quant.quant
+      (left c.quantifier.new.self) c.in_ok-quant.ensures.found c.listed.new.locs c.in_ok-listed.ensures.names (c.in_err-prop.ensures.fault ne));
 }
 
 pub returns-clause-found : goal.returns-clause-found
 returns-clause-found g c =
-    let found = c.in_ok-prop.ensures.found in
-    (found.0, is_condition c.args.arch c.args.threads (left c.args.self.now) (left c.listed.new.self) (left c.quantifier.new.self) c.args.locs.now c.listed.new.locs c.proposition.new.locs c.in_ok-listed.listed c.in_ok-quant.quant found.0 c.in_ok-listed.ensures.found c.in_ok-listed.ensures.there c.in_ok-listed.ensures.names c.in_ok-listed.ensures.within c.in_ok-quant.ensures.found found.1 found.2, condition_names c.args.arch c.args.threads (left c.args.self.now) (left c.listed.new.self) (left c.quantifier.new.self) c.args.locs.now c.listed.new.locs c.proposition.new.locs c.in_ok-listed.listed c.in_ok-quant.quant found.0 c.in_ok-listed.ensures.found c.in_ok-listed.ensures.there c.in_ok-listed.ensures.names c.in_ok-listed.ensures.within c.in_ok-quant.ensures.found found.1 found.2, found.3, found.4)
+    let found = c.in_ok-prop.ensures.found in (
+      found.0,
+      is_condition c.args.arch c.args.threads (left c.args.self.now) (left c.listed.new.self)
+          (left c.quantifier.new.self) c.args.locs.now c.listed.new.locs c.proposition.new.locs c.in_ok-listed.listed c.in_ok-quant.quant found.0
+          c.in_ok-listed.ensures.found c.in_ok-listed.ensures.there c.in_ok-listed.ensures.names c.in_ok-listed.ensures.within c.in_ok-quant.ensures.found
+          found.1 found.2,
+      condition_names c.args.arch c.args.threads (left c.args.self.now) (left c.listed.new.self)
+          (left c.quantifier.new.self) c.args.locs.now c.listed.new.locs c.proposition.new.locs c.in_ok-listed.listed c.in_ok-quant.quant found.0
+          c.in_ok-listed.ensures.found c.in_ok-listed.ensures.there c.in_ok-listed.ensures.names c.in_ok-listed.ensures.within c.in_ok-quant.ensures.found
+          found.1 found.2,
+      found.3,
+      found.4,
+    )
 
 pub returns-clause-within : goal.returns-clause-within
 returns-clause-within g c =
     let found = c.in_ok-prop.ensures.found in
-    condition_in c.args.arch c.args.threads (left c.args.self.now) (left c.listed.new.self) (left c.quantifier.new.self) c.args.locs.now c.listed.new.locs c.proposition.new.locs c.in_ok-listed.listed c.in_ok-quant.quant found.0 c.in_ok-listed.ensures.found c.in_ok-listed.ensures.there c.in_ok-listed.ensures.names c.in_ok-listed.ensures.within c.in_ok-quant.ensures.found found.1 found.2
+    condition_in c.args.arch c.args.threads (left c.args.self.now) (left c.listed.new.self)
+    (left c.quantifier.new.self) c.args.locs.now c.listed.new.locs c.proposition.new.locs c.in_ok-listed.listed c.in_ok-quant.quant found.0
+    c.in_ok-listed.ensures.found c.in_ok-listed.ensures.there c.in_ok-listed.ensures.names c.in_ok-listed.ensures.within c.in_ok-quant.ensures.found
+    found.1 found.2

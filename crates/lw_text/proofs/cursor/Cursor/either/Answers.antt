@@ -14,7 +14,8 @@ pub returns-clause-no_first : goal.returns-clause-no_first
 returns-clause-no_first c = λ rest. no_word_next c.args.first.now (left c.args.self.now) rest (c.takes.ensures.other c.if-takes.false)
 
 pub returns-clause-no_second : goal.returns-clause-no_second
-returns-clause-no_second c = λ rest e. no_word_next c.args.second.now (left c.takes.new.self) rest (c.takes-2.ensures.other c.if-takes-2.false) (ap left (c.takes.ensures.kept c.if-takes.false) ∙ e)
+returns-clause-no_second c = λ rest e. no_word_next c.args.second.now (left c.takes.new.self) rest (c.takes-2.ensures.other c.if-takes-2.false)
+    (ap left (c.takes.ensures.kept c.if-takes.false) ∙ e)
 
 pub returns-then-takes-clause-ok : goal.returns-then-takes-clause-ok
 returns-then-takes-clause-ok c = c.takes.ensures.taken c.if-takes.true

@@ -10,7 +10,10 @@ loop-thread-init c = record { names = NamesTo-start (left c.args.self.now); leav
 
 pub loop-thread-preserved : goal.loop-thread-preserved
 loop-thread-preserved c = record {
-  names = Names-more (left c.args.self.now) (left c.loop-thread.self) c.loop-thread.thread c.loop-thread.invariant.names (left c.expect.new.self) (c.in_ok-expect.ensures.ok ∙ ap (λ x. x ∷ left c.expect.new.self) c.thread_name.ensures) (left c.either.new.self) (subst (λ (b : Bool). left c.expect.new.self ≡ (if b then codes ";" else codes "|") ∷ left c.either.new.self) c.if-branch.false c.in_ok-either.ensures.ok);
+  names = Names-more (left c.args.self.now) (left c.loop-thread.self) c.loop-thread.thread c.loop-thread.invariant.names (left c.expect.new.self)
+      (c.in_ok-expect.ensures.ok ∙ ap (λ x. x ∷ left c.expect.new.self) c.thread_name.ensures) (left c.either.new.self)
+      (subst (λ (b : Bool). left c.expect.new.self ≡ (if b then codes ";" else codes "|") ∷ left c.either.new.self) c.if-branch.false
+      c.in_ok-either.ensures.ok);
   leaves = Leaves-join c.loop-thread.invariant.leaves (Leaves-join c.in_ok-expect.ensures.leaves c.in_ok-either.ensures.leaves);
 }
 

@@ -16,7 +16,8 @@ returns-in_err-terminal g c = record {
   within = not_ok _ _ c.from_residual.ensures.0;
   given = not_ok _ _ c.from_residual.ensures.0;
   only = not_ok _ _ c.from_residual.ensures.0;
-  fault = passed_on _ _ c.from_residual.ensures.1 (λ ne s rest ss q is left few fits. c.in_err-terminal.ensures.fault ne s rest is (begins_wrong c.args.reader.now c.wants_part.result _ s c.wants_part.ensures.next ss q left) few);
+  fault = passed_on _ _ c.from_residual.ensures.1 (λ ne s rest ss q is left few fits. c.in_err-terminal.ensures.fault ne s rest is
+      (begins_wrong c.args.reader.now c.wants_part.result _ s c.wants_part.ensures.next ss q left) few);
 }
 
 pub returns-in_err-take : goal.returns-in_err-take
@@ -32,7 +33,9 @@ returns-in_err-take g c = record {
 
 pub returns-then-not-branch-clause-fault : goal.returns-then-not-branch-clause-fault
 returns-then-not-branch-clause-fault g c =
-    λ ne s rest ss p is left few fits. terminal_refused c.args.arch c.args.reader.now c.args.threads c.args.locs.now c.terminal.new.locs _ _ c.in_ok-terminal.terminal c.in_ok-terminal.ensures.names c.in_ok-terminal.ensures.found c.requires.once c.in_ok-terminal.ensures.within (c.in_ok-take.ensures.refused c.if-not-branch.true) s rest ss p is left
+    λ ne s rest ss p is left few fits. terminal_refused c.args.arch c.args.reader.now c.args.threads c.args.locs.now c.terminal.new.locs _ _
+    c.in_ok-terminal.terminal c.in_ok-terminal.ensures.names c.in_ok-terminal.ensures.found c.requires.once c.in_ok-terminal.ensures.within
+    (c.in_ok-take.ensures.refused c.if-not-branch.true) s rest ss p is left
 
 pub returns-clause-room : goal.returns-clause-room
 returns-clause-room g c = sym c.has_room.ensures ∙ c.if-not-has_room.false

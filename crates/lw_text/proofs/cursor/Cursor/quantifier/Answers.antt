@@ -6,13 +6,15 @@ use Rattle.lw_text.proofs.Faults.{not_ok}
 use Rattle.lw_text.proofs.cursor.Cursor.quantifier.Goals as goal
 
 pub returns-clause-found : goal.returns-clause-found
-returns-clause-found c = ap left (sym (c.takes.ensures.kept c.if-takes.false)) ∙ subst (λ (b : Bool). left c.takes.new.self ≡ (if b then codes "exists" else codes "forall") ∷ left c.either.new.self) c.if-branch.false c.in_ok-either.ensures.ok
+returns-clause-found c = ap left (sym (c.takes.ensures.kept c.if-takes.false)) ∙ subst
+    (λ (b : Bool). left c.takes.new.self ≡ (if b then codes "exists" else codes "forall") ∷ left c.either.new.self) c.if-branch.false c.in_ok-either.ensures.ok
 
 pub returns-then-takes-clause-found : goal.returns-then-takes-clause-found
 returns-then-takes-clause-found c = c.takes.ensures.taken c.if-takes.true ∙ ap (λ l. codes "~" ∷ l) c.in_ok-expect.ensures.ok
 
 pub returns-then-branch-clause-found : goal.returns-then-branch-clause-found
-returns-then-branch-clause-found c = ap left (sym (c.takes.ensures.kept c.if-takes.false)) ∙ subst (λ (b : Bool). left c.takes.new.self ≡ (if b then codes "exists" else codes "forall") ∷ left c.either.new.self) c.if-branch.true c.in_ok-either.ensures.ok
+returns-then-branch-clause-found c = ap left (sym (c.takes.ensures.kept c.if-takes.false)) ∙ subst
+    (λ (b : Bool). left c.takes.new.self ≡ (if b then codes "exists" else codes "forall") ∷ left c.either.new.self) c.if-branch.true c.in_ok-either.ensures.ok
 
 pub returns-in_err-expect : goal.returns-in_err-expect
 returns-in_err-expect c = record {
@@ -23,5 +25,6 @@ returns-in_err-expect c = record {
 pub returns-in_err-either : goal.returns-in_err-either
 returns-in_err-either c = record {
   found = not_ok _ _ c.from_residual-in_err-either.ensures.0;
-  fault = no_quantifier (left c.args.self.now) c.from_residual-in_err-either.result (c.takes.ensures.other c.if-takes.false) (left c.takes.new.self) (ap left (c.takes.ensures.kept c.if-takes.false)) c.in_err-either.ensures.no_first c.in_err-either.ensures.no_second;
+  fault = no_quantifier (left c.args.self.now) c.from_residual-in_err-either.result (c.takes.ensures.other c.if-takes.false) (left c.takes.new.self)
+      (ap left (c.takes.ensures.kept c.if-takes.false)) c.in_err-either.ensures.no_first c.in_err-either.ensures.no_second;
 }

@@ -6,7 +6,8 @@ pub returns : goal.returns
 returns g c =
     let cells = c.args.self.now.cells in
     let at = rw (c.as_slice.ensures, c.index.ensures.value) at c.index-as_slice-index.is in
-    rw c.as_slice-2.ensures (slice_get_read cells (length cells) c.args.cpu c.index-as_slice-index.result refl (omega (arith, c.requires, c.args.self.now.columns)) at)
+    rw c.as_slice-2.ensures (slice_get_read cells (length cells) c.args.cpu c.index-as_slice-index.result refl
+    (omega (arith, c.requires, c.args.self.now.columns)) at)
 
 pub bounds-as_slice-index : goal.bounds-as_slice-index
 bounds-as_slice-index g c = omega (arith, c.index.ensures.value, ap length c.as_slice.ensures, c.requires, c.args.self.now.columns)

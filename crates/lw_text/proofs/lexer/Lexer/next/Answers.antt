@@ -16,7 +16,8 @@ invariant_of-self c =
     let s = c.args.self.now in
     let g = Trivia-suffix c.in-Some.ensures.found in
     let f = c.in-Ok.ensures.found in
-    let m = Suffix-more s.text.now s.rest.now (g.0 ++ c.in-Ok.text.now) c.in-Ok.rest.now s.suffix (g.1 ∙ ap (λ x. g.0 ++ x) f.0 ∙ sym (append_assoc g.0 c.in-Ok.text.now c.in-Ok.rest.now)) in
+    let m = Suffix-more s.text.now s.rest.now (g.0 ++ c.in-Ok.text.now) c.in-Ok.rest.now s.suffix
+    (g.1 ∙ ap (λ x. g.0 ++ x) f.0 ∙ sym (append_assoc g.0 c.in-Ok.text.now c.in-Ok.rest.now)) in
     record { within = m.0; suffix = m.1 }
 
 pub returns-in-Ok-clause-stands : goal.returns-in-Ok-clause-stands
@@ -27,10 +28,12 @@ returns-in-Ok-clause-stands c =
     omega (arith, within, ap length c.in-Ok.ensures.found.0, length-append c.in-Ok.text.now c.in-Ok.rest.now)
 
 pub returns-in-Err-clause-no_end : goal.returns-in-Err-clause-no_end
-returns-in-Err-clause-no_end c = not_ended c.args.self.now.rest.now c.in-Some.start.now c.in-Some.ensures.found c.in-Some.ensures.stops (grind (arith, nat_tests))
+returns-in-Err-clause-no_end c = not_ended c.args.self.now.rest.now c.in-Some.start.now c.in-Some.ensures.found c.in-Some.ensures.stops
+    (grind (arith, nat_tests))
 
 pub returns-in-Err-clause-no_token : goal.returns-in-Err-clause-no_token
-returns-in-Err-clause-no_token c = no_first_from c.args.self.now.rest.now c.in-Some.start.now c.in-Some.ensures.found c.in-Some.ensures.stops c.in-Err.ensures.none
+returns-in-Err-clause-no_token c = no_first_from c.args.self.now.rest.now c.in-Some.start.now c.in-Some.ensures.found c.in-Some.ensures.stops
+    c.in-Err.ensures.none
 
 pub returns-in_default-clause-no_token : goal.returns-in_default-clause-no_token
 returns-in_default-clause-no_token c = no_first_open c.args.self.now.rest.now c.in_default.ensures.none

@@ -30,7 +30,8 @@ invariant_of-self c =
     let space = c.front.result.0.now in
     let name = c.front-2.result.0.now in
     let rest = c.front-2.result.1.now in
-    let m = Suffix-more s.text.now s.rest.now (space ++ name) rest s.suffix (c.front.ensures.parts ∙ ap (λ x. space ++ x) c.front-2.ensures.parts ∙ sym (append_assoc space name rest)) in
+    let m = Suffix-more s.text.now s.rest.now (space ++ name) rest s.suffix
+    (c.front.ensures.parts ∙ ap (λ x. space ++ x) c.front-2.ensures.parts ∙ sym (append_assoc space name rest)) in
     record { within = m.0; suffix = m.1 }
 
 pub overflow_sub-at : goal.overflow_sub-at

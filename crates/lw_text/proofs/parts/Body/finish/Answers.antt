@@ -14,7 +14,8 @@ invariant_of-result g c =
     let cells : c.in-Ok.cells ≡ columns parts.threads body.rows = c.in-Ok.ensures ∙ ap (columns parts.threads) c.as_slice.ensures in
     let few : height (columns parts.threads body.rows) ≤ 64 = omega (arith, columns-height parts.threads body.rows body.even body.some, body.low) in
     rw cells (record {
-      well_formed = subst IsWellFormedHead (sym c.in_ok-head-in-Ok.ensures) (resolved_well_formed c.args.heading.arch c.requires.says.0 c.args.heading.name.now body c.requires.name c.requires.says.1);
+      well_formed = subst IsWellFormedHead (sym c.in_ok-head-in-Ok.ensures)
+          (resolved_well_formed c.args.heading.arch c.requires.says.0 c.args.heading.name.now body c.requires.name c.requires.says.1);
       columns = columns-length parts.threads body.rows body.even ∙ sym threads;
       even = columns-even parts.threads body.rows body.even body.some;
       low = few;

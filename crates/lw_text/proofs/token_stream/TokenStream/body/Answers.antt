@@ -11,7 +11,9 @@ use Rattle.lw_text.proofs.token_stream.TokenStream.body.Goals as goal
 pub returns-in-Err-clause-fault : goal.returns-in-Err-clause-fault
 returns-in-Err-clause-fault g c =
     let read : left c.new-cursor.result ≡ texts c.args.self.now.tokens = ap texts (c.new-cursor.ensures ∙ c.as_slice.ensures) in
-    λ ne. if_none c.args.self.now.fault (IsNoTest c.args.arch (texts c.args.self.now.tokens)) (λ s f parts whole. c.in-Err.ensures.fault (λ memory. ne (c.fault_of.ensures.memory memory)) s f (subst (λ ts. Parts c.args.arch ts s) (sym read) parts) whole)
+    λ ne. if_none c.args.self.now.fault (IsNoTest c.args.arch (texts c.args.self.now.tokens))
+    (λ s f parts whole. c.in-Err.ensures.fault (λ memory. ne (c.fault_of.ensures.memory memory)) s f
+    (subst (λ ts. Parts c.args.arch ts s) (sym read) parts) whole)
 
 pub returns-in-Err-clause-place : goal.returns-in-Err-clause-place
 returns-in-Err-clause-place g c = c.fault_of.ensures.place
@@ -33,4 +35,5 @@ returns-in-None-clause-found g c =
 pub returns-in-None-clause-rows : goal.returns-in-None-clause-rows
 returns-in-None-clause-rows g c =
     let body = c.in-Ok.body in
-    subst (λ ts. HasRows c.args.arch (placed_tokens ts) body.parts.threads (placed_cells body.rows)) (c.new-cursor.ensures ∙ c.as_slice.ensures) c.in-Ok.ensures.rows
+    subst (λ ts. HasRows c.args.arch (placed_tokens ts) body.parts.threads (placed_cells body.rows))
+    (c.new-cursor.ensures ∙ c.as_slice.ensures) c.in-Ok.ensures.rows

@@ -23,8 +23,11 @@ tokens-preserved g c =
     let before = c.tokens.tokens in
     record {
       same = c.in-Ok-Some.ensures.same ∙ same;
-      row = rw (c.in_ok-push-in-Ok-Some.ensures.ok, map_push placed before t) (Read-push len (placed_tokens before) c.args.lexer.rest.now c.tokens.lexer.rest.now (placed t) next c.tokens.invariant.row f (omega (arith, stands, ap length same)));
-      within = rw c.in_ok-push-in-Ok-Some.ensures.ok (all_push (λ (t : Token). t.at ≤ len) before t c.tokens.invariant.within (omega (arith, stands, ap length same)));
+      row = rw (c.in_ok-push-in-Ok-Some.ensures.ok, map_push placed before t)
+          (Read-push len (placed_tokens before) c.args.lexer.rest.now c.tokens.lexer.rest.now (placed t) next c.tokens.invariant.row f
+          (omega (arith, stands, ap length same)));
+      within = rw c.in_ok-push-in-Ok-Some.ensures.ok (all_push (λ (t : Token). t.at ≤ len) before t c.tokens.invariant.within
+          (omega (arith, stands, ap length same)));
     }
 
 pub returns-in-Ok-None-clause-found : goal.returns-in-Ok-None-clause-found
@@ -36,7 +39,9 @@ pub returns-in-Ok-None-clause-within : goal.returns-in-Ok-None-clause-within
 returns-in-Ok-None-clause-within g c = All-from_recursion (λ (t : Token). t.at ≤ length c.args.lexer.text.now) c.tokens.tokens c.tokens.invariant.within
 
 pub returns-in-Err-clause-fault : goal.returns-in-Err-clause-fault
-returns-in-Err-clause-fault g c = Read-fault (length c.args.lexer.text.now) (placed_tokens c.tokens.tokens) c.args.lexer.rest.now c.tokens.lexer.rest.now c.tokens.invariant.row (Tokens-none _ c.in-Err.ensures.no_end c.in-Err.ensures.no_token)
+returns-in-Err-clause-fault g c = Read-fault (length c.args.lexer.text.now)
+    (placed_tokens c.tokens.tokens) c.args.lexer.rest.now c.tokens.lexer.rest.now c.tokens.invariant.row
+    (Tokens-none _ c.in-Err.ensures.no_end c.in-Err.ensures.no_token)
 
 pub returns-in-Err-clause-within : goal.returns-in-Err-clause-within
 returns-in-Err-clause-within g c = All-from_recursion (λ (t : Token). t.at ≤ length c.args.lexer.text.now) c.tokens.tokens c.tokens.invariant.within

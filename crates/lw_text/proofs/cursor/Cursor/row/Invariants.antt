@@ -5,7 +5,7 @@ use Rattle.lw_text.specs.Places.{cells_texts, placed_tokens, placed_row}
 use Rattle.lw_text.specs.PlacedCells.{CellsFrom}
 use Rattle.lw_text.specs.Views.{remaining, left}
 use Rattle.lw_text.proofs.Lists.{Before}
-use Rattle.lw_text.proofs.cursor.Cursor.cells.Given as goal
+use Rattle.lw_text.proofs.cursor.Cursor.row.Given as goal
 
 abbrev pub invariant-cells : goal.invariant-cells
 invariant-cells g l = record {

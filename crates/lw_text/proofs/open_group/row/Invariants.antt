@@ -1,0 +1,10 @@
+use Rattle.std.proofs.Common.{◌≡◌}
+use Rattle.lw_base.specs.Propositions.{formula_of}
+use Rattle.lw_text.specs.inner.Pending.{negations}
+use Rattle.lw_text.proofs.open_group.row.Given as goal
+
+abbrev pub invariant-loop-taken : goal.invariant-loop-taken
+invariant-loop-taken g l = record {
+  before : l.before ≡ l.fn.before;
+  behind : formula_of l.prop ≡ negations l.taken (formula_of l.fn.part);
+}

@@ -1,0 +1,9 @@
+use Rattle.std.proofs.Common.{◌≡◌, false, take}
+use Rattle.lw_text.specs.inner.Resolved.{seen_of, is_listed}
+use Rattle.lw_text.proofs.seen.see.Given as goal
+
+abbrev pub invariant-loop-listed : goal.invariant-loop-listed
+invariant-loop-listed g l = record {
+  same : l.seen ≡ l.fn.seen;
+  none : is_listed (take l.listed-index l.sites) (seen_of l.site) ≡ false;
+}
