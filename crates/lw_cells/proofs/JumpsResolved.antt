@@ -15,7 +15,7 @@ use Rattle.lw_cells.specs.declared.slot.Slot.TheVariants.{Word, Register, Locati
 use Rattle.lw_cells.specs.Grammars.{Grammar}
 use Rattle.lw_cells.specs.Spellings.{Spelling, Filling, Fills, Said, grammar_of, label_in}
 use Rattle.lw_cells.specs.Found.{found_of, draft_of, operands_of, leading_to, is_label_last, IsSpelling}
-use Rattle.lw_cells.specs.Cells.{CellSyntax, labels_of, target_in, number_in, led_to, resolved, LeadsForward}
+use Rattle.lw_cells.specs.Cells.{CellSyntax, labels_of, target_in, number_in, led_to, resolved_statement, LeadsForward}
 use Rattle.lw_cells.specs.Drafts.{LabelMap, LeadsAs, leads_to, target_by, leading_in}
 use Rattle.lw_cells.specs.Reading.{IsDraft, JumpCause, JumpRefused}
 use Rattle.lw_cells.proofs.Leads.{leads_in, leads_nowhere}
@@ -94,7 +94,7 @@ module _ {W Form Stmt : Type 0} (spelling : Spelling W Form Stmt) where
 
     pub whole : (names : NameTable) (ts : TokenList) (syntaxes : List (CellSyntax (Said spelling))) (k : ℕ) (draft : Draft Form) (s : Said spelling)
         → draft.label ≡ None → IsDraft (grammar_of spelling) (draft_of spelling) names ts draft s
-        → (made draft.form (leading_to None draft.operands) ≡ Some (resolved (grammar_of spelling) names syntaxes s)) × LeadsForward
+        → (made draft.form (leading_to None draft.operands) ≡ Some (resolved_statement (grammar_of spelling) names syntaxes s)) × LeadsForward
         (grammar_of spelling) syntaxes k s
     whole names ts syntaxes k draft s none read =
         let gone : label_in (spelling.slots_of s.form) s.filling ≡ None = no_label_in 0 (spelling.slots_of s.form) s.filling
@@ -130,7 +130,7 @@ module _ {W Form Stmt : Type 0} (spelling : Spelling W Form Stmt) where
 
         pub jump_resolved : (syntaxes : List (CellSyntax (Said spelling))) (to : ℕ) → LeadsAs labels (leading_in 0 syntaxes)
             → (target_by labels token.text.now ≡ Some to) × (number < to)
-            → (made draft.form (leading_to (Some to) draft.operands) ≡ Some (resolved (grammar_of spelling) names syntaxes s)) × LeadsForward
+            → (made draft.form (leading_to (Some to) draft.operands) ≡ Some (resolved_statement (grammar_of spelling) names syntaxes s)) × LeadsForward
             (grammar_of spelling) syntaxes number s
         jump_resolved syntaxes to known found =
             let x = number_in names ((grammar_of spelling).name_of s) in

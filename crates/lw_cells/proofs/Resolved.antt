@@ -17,7 +17,7 @@ use Rattle.lw_text.specs.Places.{cell_texts, cells_texts, placed_tokens, placed_
 use Rattle.lw_text.proofs.api.Places.{texts_placed, cells_placed}
 use Rattle.lw_cells.specs.declared.draft.DraftCell.{DraftCell}
 use Rattle.lw_cells.specs.Grammars.{Grammar}
-use Rattle.lw_cells.specs.Cells.{CellSyntax, MaybeStatement, CellSays, statements, labels_of, target_in, resolved, code_in, LeadsForward}
+use Rattle.lw_cells.specs.Cells.{CellSyntax, MaybeStatement, CellSays, statements, labels_of, target_in, resolved_statement, code_in, LeadsForward}
 use Rattle.lw_cells.specs.Faults.{TellsBy}
 use Rattle.lw_cells.specs.Drafts.{draft_in, draft_cell, DraftRead, LabelMap}
 use Rattle.lw_cells.specs.Reading.{IsDraft, JumpRefused, AllForward}
@@ -30,7 +30,7 @@ use Rattle.lw_cells.proofs.FaultPlaces.{standing}
 module _ {Syntax Stmt : Type 0} (grammar : Grammar Syntax Stmt) where
   -- The statements of so many cells are resolved.
   pub record Resolved (names : List (List ℕ)) (syntaxes : List (CellSyntax Syntax)) (row : ℕ) (code : List Stmt) : Type 0 where
-    pub made : code ≡ map (resolved grammar names syntaxes) (statements (take row syntaxes))
+    pub made : code ≡ map (resolved_statement grammar names syntaxes) (statements (take row syntaxes))
     pub ahead : (k : ℕ) (s : Syntax) → slice_get (statements (take row syntaxes)) k ≡ Some s → LeadsForward grammar syntaxes k s
 
   pub resolved_none : (names : List (List ℕ)) (syntaxes : List (CellSyntax Syntax)) → Resolved names syntaxes 0 []
@@ -54,7 +54,7 @@ module _ {Syntax Stmt : Type 0} (grammar : Grammar Syntax Stmt) where
       resolved_all row code low high r =
           let e : row ≡ length cells = omega (arith, low, high) in
           let whole : take row draft.syntaxes ≡ draft.syntaxes = ap (λ (n : ℕ). take n draft.syntaxes) e ∙ all_rows in (
-            r.made ∙ ap (λ (ls : List (CellSyntax Syntax)). map (resolved grammar after draft.syntaxes) (statements ls)) whole,
+            r.made ∙ ap (λ (ls : List (CellSyntax Syntax)). map (resolved_statement grammar after draft.syntaxes) (statements ls)) whole,
             λ k s at. r.ahead k s
                 (ap (λ (ls : List (CellSyntax Syntax)). slice_get (statements ls) k) whole ∙ at),
           )
@@ -123,7 +123,7 @@ module _ {Syntax Stmt : Type 0} (grammar : Grammar Syntax Stmt) where
             let same : statements (take (row + 1) draft.syntaxes) ≡ statements (take row draft.syntaxes) = next_statements None none ∙ append-nil
             (statements (take row draft.syntaxes)) in
             record {
-              made = r.made ∙ ap (map (resolved grammar after draft.syntaxes)) (sym same);
+              made = r.made ∙ ap (map (resolved_statement grammar after draft.syntaxes)) (sym same);
               ahead = λ k s at. r.ahead k s (ap (λ (ss : List Syntax). slice_get ss k) (sym same) ∙ at);
             }
           where
@@ -133,17 +133,17 @@ module _ {Syntax Stmt : Type 0} (grammar : Grammar Syntax Stmt) where
                 (option_map (draft_in grammar draft_of after)) g in absurd cc
 
         pub resolved_more : (code : List Stmt) (s : Syntax) (stmt : Stmt) → syntax_at.0.stmt ≡ Some s → Resolved after draft.syntaxes row code
-            → (stmt ≡ resolved grammar after draft.syntaxes s) × LeadsForward grammar draft.syntaxes (length code) s
+            → (stmt ≡ resolved_statement grammar after draft.syntaxes s) × LeadsForward grammar draft.syntaxes (length code) s
             → Resolved after draft.syntaxes (row + 1) (code ++ stmt ∷ [])
         resolved_more code s stmt is r one =
             let more : statements (take (row + 1) draft.syntaxes) ≡ statements (take row draft.syntaxes) ++ s ∷ [] = next_statements (Some s) is in
             let count : length code ≡ length (statements (take row draft.syntaxes)) = ap length r.made ∙ length-map
-            (statements (take row draft.syntaxes)) (resolved grammar after draft.syntaxes) in
+            (statements (take row draft.syntaxes)) (resolved_statement grammar after draft.syntaxes) in
             record {
               made = ap (λ (ss : List Stmt). ss ++ stmt ∷ []) r.made ∙ ap
-                  (λ (x : Stmt). map (resolved grammar after draft.syntaxes) (statements (take row draft.syntaxes)) ++ x ∷ []) one.0 ∙ sym
-                  (map-append (resolved grammar after draft.syntaxes) (statements (take row draft.syntaxes)) (s ∷ [])) ∙ ap
-                  (map (resolved grammar after draft.syntaxes)) (sym more);
+                  (λ (x : Stmt). map (resolved_statement grammar after draft.syntaxes) (statements (take row draft.syntaxes)) ++ x ∷ []) one.0 ∙ sym
+                  (map-append (resolved_statement grammar after draft.syntaxes) (statements (take row draft.syntaxes)) (s ∷ [])) ∙ ap
+                  (map (resolved_statement grammar after draft.syntaxes)) (sym more);
               ahead = λ k t at. ahead_at k t count (get_append (statements (take row draft.syntaxes)) s t k
                   (ap (λ (ss : List Syntax). slice_get ss k) (sym more) ∙ at));
             }
@@ -180,7 +180,7 @@ module _ {Syntax Stmt : Type 0} (grammar : Grammar Syntax Stmt) where
             → (LeadsForward grammar draft.syntaxes (length code) s → ⊥) → AllForward grammar draft.syntaxes → ⊥
         not_all_forward code s is r none all =
             let count : length code ≡ length (statements (take row draft.syntaxes)) = ap length r.made ∙ length-map
-            (statements (take row draft.syntaxes)) (resolved grammar after draft.syntaxes) in
+            (statements (take row draft.syntaxes)) (resolved_statement grammar after draft.syntaxes) in
             let whole : statements draft.syntaxes ≡ statements (take row draft.syntaxes) ++ s ∷ statements (drop (suc row) draft.syntaxes) =
             ap statements (cut_at draft.syntaxes row syntax_at.0 syntax_at.1) ∙ statements-append (take row draft.syntaxes)
             (syntax_at.0 ∷ drop (suc row) draft.syntaxes) ∙ ap
@@ -224,7 +224,7 @@ module _ {Syntax Stmt : Type 0} (grammar : Grammar Syntax Stmt) where
             let l = leads_in draft.syntaxes f.token.text.now b.0 (sym (draft.leads f.token.text.now) ∙ b.1) in
             let cut = cut_at draft.syntaxes row syntax_at.0 syntax_at.1 in
             let count : length code ≡ length (statements (take row draft.syntaxes)) = ap length r.made ∙ length-map
-            (statements (take row draft.syntaxes)) (resolved grammar after draft.syntaxes) in (
+            (statements (take row draft.syntaxes)) (resolved_statement grammar after draft.syntaxes) in (
               standing cells (take row cells) (drop (suc row) cells) cell (cut_at cells row cell cell_at) at
                   (take start cell.tokens ++ f.front) f.token [] (last_in_cell start f.front f.token f.last) f.begins,
               (

@@ -10,7 +10,7 @@ use Rattle.lw_base.proofs.api.GrowingTables.{contains_name-with_name, contains_n
 use Rattle.lw_litmus.specs.Operations.{location_of, target_of}
 use Rattle.lw_cells.specs.Grammars.{Grammar, IsGrammar}
 use Rattle.lw_litmus.specs.WellFormed.{IsStatement, IsThread}
-use Rattle.lw_cells.specs.Cells.{CellSyntax, statements, LeadsForward, target_in, number_in, led_to, resolved, code_in}
+use Rattle.lw_cells.specs.Cells.{CellSyntax, statements, LeadsForward, target_in, number_in, led_to, resolved_statement, code_in}
 use Rattle.lw_cells.proofs.Leads.{target_within}
 
 -- The name is in the table, if there is one.
@@ -28,7 +28,7 @@ module _ {Syntax Stmt : Type 0} (grammar : Grammar Syntax Stmt) where
   LocationExists names s = NameExists names (grammar.name_of s)
 
   pub resolved-along : (names ns : List (List ℕ)) (syntaxes : List (CellSyntax Syntax)) (s : Syntax) → LocationExists names s
-      → resolved grammar (with_names names ns) syntaxes s ≡ resolved grammar names syntaxes s
+      → resolved_statement grammar (with_names names ns) syntaxes s ≡ resolved_statement grammar names syntaxes s
   resolved-along names ns syntaxes s e = ap (λ (x : ℕ). grammar.made x (led_to syntaxes (grammar.label_of s)) s)
       (number_in-along names ns (grammar.name_of s) e)
 
@@ -58,7 +58,7 @@ module _ {Syntax Stmt : Type 0} (grammar : Grammar Syntax Stmt) where
           subst (λ (o : Option (List ℕ)). LocationsExist (with_names names (cons_option o (filter_map grammar.name_of ss))) (s ∷ ss)) (sym e) (there, further m)
 
   pub map_resolved-along : (names ns : List (List ℕ)) (syntaxes : List (CellSyntax Syntax)) (ss : List Syntax) → LocationsExist names ss
-      → map (resolved grammar (with_names names ns) syntaxes) ss ≡ map (resolved grammar names syntaxes) ss
+      → map (resolved_statement grammar (with_names names ns) syntaxes) ss ≡ map (resolved_statement grammar names syntaxes) ss
   map_resolved-along names ns syntaxes [] all = refl
   map_resolved-along names ns syntaxes (s ∷ ss) all = rw (resolved-along names ns syntaxes s all.0, map_resolved-along names ns syntaxes ss all.1) refl
 
@@ -70,7 +70,7 @@ module _ {Syntax Stmt : Type 0} (grammar : Grammar Syntax Stmt) where
     located-within names (Some n) e x same = let f : index_of names n ≡ x = cc in subst (λ (l : ℕ). l < length names) f (index_of-within names n (e n refl))
 
     resolved-there : (names : List (List ℕ)) (syntaxes : List (CellSyntax Syntax)) (ts : List (List ℕ)) (s : Syntax) → grammar.says ts s
-        → LocationExists names s → IsStatement grammar.language (length names) (resolved grammar names syntaxes s)
+        → LocationExists names s → IsStatement grammar.language (length names) (resolved_statement grammar names syntaxes s)
     resolved-there names syntaxes ts s says e =
         let x = number_in names (grammar.name_of s) in
         let to = led_to syntaxes (grammar.label_of s) in
@@ -83,7 +83,7 @@ module _ {Syntax Stmt : Type 0} (grammar : Grammar Syntax Stmt) where
     AllSaid ss = AllByRecursion (λ (s : Syntax). (ts : List (List ℕ)) × grammar.says ts s) ss
 
     all_resolved-there : (names : List (List ℕ)) (syntaxes : List (CellSyntax Syntax)) (ss : List Syntax) → AllSaid ss → LocationsExist names ss
-        → AllByRecursion (IsStatement grammar.language (length names)) (map (resolved grammar names syntaxes) ss)
+        → AllByRecursion (IsStatement grammar.language (length names)) (map (resolved_statement grammar names syntaxes) ss)
     all_resolved-there names syntaxes [] said all = tt
     all_resolved-there names syntaxes (s ∷ ss) said all = (
       resolved-there names syntaxes said.0.0 s said.0.1 all.0,
@@ -99,16 +99,17 @@ module _ {Syntax Stmt : Type 0} (grammar : Grammar Syntax Stmt) where
         (omega (arith, f, ahead l refl), omega (arith, f, target_within syntaxes l))
 
     target-resolved : (names : List (List ℕ)) (syntaxes : List (CellSyntax Syntax)) (k : ℕ) (s : Syntax) (to : ℕ)
-        → target_of (grammar.language.operation_of (resolved grammar names syntaxes s)) ≡ Some to → LeadsForward grammar syntaxes k s
+        → target_of (grammar.language.operation_of (resolved_statement grammar names syntaxes s)) ≡ Some to → LeadsForward grammar syntaxes k s
         → (k < to) × (to ≤ length (statements syntaxes))
     target-resolved names syntaxes k s to e ahead =
         let x = number_in names (grammar.name_of s) in
         led-forward syntaxes k to (grammar.label_of s) (sym (lawful.led x (led_to syntaxes (grammar.label_of s)) s) ∙ e) (λ l is. (ahead l is).1)
 
     resolved_from : (names : List (List ℕ)) (syntaxes : List (CellSyntax Syntax)) (ss : List Syntax) (k : ℕ) (s : Stmt)
-        → slice_get (map (resolved grammar names syntaxes) ss) k ≡ Some s → (w : Syntax) × (slice_get ss k ≡ Some w) × (resolved grammar names syntaxes w ≡ s)
+        → slice_get (map (resolved_statement grammar names syntaxes) ss) k ≡ Some s
+        → (w : Syntax) × (slice_get ss k ≡ Some w) × (resolved_statement grammar names syntaxes w ≡ s)
     resolved_from names syntaxes [] k s e = absurd cc
-    resolved_from names syntaxes (w ∷ ss) zero s e = (w, refl, (let f : resolved grammar names syntaxes w ≡ s = cc in f))
+    resolved_from names syntaxes (w ∷ ss) zero s e = (w, refl, (let f : resolved_statement grammar names syntaxes w ≡ s = cc in f))
     resolved_from names syntaxes (w ∷ ss) (suc k) s e = resolved_from names syntaxes ss k s e
 
     pub thread_fits : (names : List (List ℕ)) (syntaxes : List (CellSyntax Syntax)) → AllSaid (statements syntaxes)
@@ -117,11 +118,11 @@ module _ {Syntax Stmt : Type 0} (grammar : Grammar Syntax Stmt) where
         → IsThread grammar.language (length names) (code_in grammar names syntaxes)
     thread_fits names syntaxes said all short ahead =
         record {
-          short = omega (arith, short, length-map (statements syntaxes) (resolved grammar names syntaxes));
+          short = omega (arith, short, length-map (statements syntaxes) (resolved_statement grammar names syntaxes));
           there = All-from_recursion (IsStatement grammar.language (length names)) (code_in grammar names syntaxes)
               (all_resolved-there names syntaxes (statements syntaxes) said all);
           forward = λ k s at to e.
               let w = resolved_from names syntaxes (statements syntaxes) k s at in
               let t = target-resolved names syntaxes k w.0 to (ap (λ (s : Stmt). target_of (grammar.language.operation_of s)) w.2 ∙ e) (ahead k w.0 w.1) in
-              (t.0, omega (arith, t.1, length-map (statements syntaxes) (resolved grammar names syntaxes)));
+              (t.0, omega (arith, t.1, length-map (statements syntaxes) (resolved_statement grammar names syntaxes)));
         }

@@ -145,7 +145,8 @@ module _ {W Form Stmt : Type 0} (spelling : Spelling W Form Stmt) where
         let front : CanStand spelling (texts (take h.index tokens)) n.2 =
         subst (λ (ts : TokenList). CanStand spelling ts n.2) (ap (λ (m : ℕ). take m (texts tokens)) j ∙ take-map
         (λ (t : Token). t.text.now) h.index tokens) n.8 in
-        statement_cause (grammar_of spelling) tokens before h.index h.token h.is (before_location spelling made lawful form n.2 n.3 (texts (take h.index tokens)) there n.7 front) fault.at fault.cause h.cause
+        statement_cause (grammar_of spelling) tokens before h.index h.token h.is
+        (before_location spelling made lawful form n.2 n.3 (texts (take h.index tokens)) there n.7 front) fault.at fault.cause h.cause
 
     pub none_fits : (made : Form → Operands → Option Stmt) → IsSpelling spelling made → (o : Found) (before : NameTable) (fault : CellFault) → o ≡ found
         → IsNotDrafted o tokens before fault → NotFound Memory fault.cause (Fits (grammar_of spelling) before (texts tokens))

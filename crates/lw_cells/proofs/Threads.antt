@@ -20,7 +20,7 @@ use Rattle.lw_text.proofs.api.Places.{grid_placed}
 use Rattle.lw_cells.specs.Grammars.{Grammar, IsGrammar}
 use Rattle.lw_litmus.specs.Tests.{Test}
 use Rattle.lw_litmus.specs.WellFormed.{IsThread, IsWellFormed}
-use Rattle.lw_cells.specs.Cells.{CellSyntax, MaybeStatement, CellSays, Column, statements, names_in, names_of, code_in, test_on, HasTest}
+use Rattle.lw_cells.specs.Cells.{CellSyntax, MaybeStatement, CellSays, Column, statements, names_in, names_of, code_in, test_on, FrameHasTest}
 use Rattle.lw_cells.specs.Faults.{TellsBy}
 use Rattle.lw_cells.specs.Reading.{ColumnRead, ColumnsRead, ColumnFits, ColumnsFit}
 use Rattle.lw_cells.proofs.OneReading.{column_unique}
@@ -177,10 +177,10 @@ module _ {Syntax Stmt : Type 0} (grammar : Grammar Syntax Stmt) (lawful : IsGram
   module _ (frame_head head : TestHead) (same : head ≡ frame_head) (cells : List (List (List (List ℕ)))) where
     pub test_found : (threads : List (List Stmt)) (names : List (List ℕ)) (words : List ℕ) → frame_head.arch ≡ grammar.language.arch
         → ColumnsRead grammar cells head.locs threads names → length names ≤ 8 → words ≡ head.init_words ++ replicate (length names - length head.locs) 0
-        → HasTest grammar (record { head = frame_head; cells = cells }) (record { head = changed head names words; threads = threads })
+        → FrameHasTest grammar (record { head = frame_head; cells = cells }) (record { head = changed head names words; threads = threads })
     test_found threads names words word read few filled =
         let test : Test Stmt = record { head = changed head names words; threads = threads } in
-        let found : HasTest grammar (record { head = head; cells = cells }) test =
+        let found : FrameHasTest grammar (record { head = head; cells = cells }) test =
         record {
           arch = ap (λ (h : TestHead). h.arch) same ∙ word;
           threads = read.syntaxes;
@@ -191,10 +191,10 @@ module _ {Syntax Stmt : Type 0} (grammar : Grammar Syntax Stmt) (lawful : IsGram
               ∙ ap (λ (ts : List (List Stmt)). let t : Test Stmt = record { head = with_table head names; threads = ts } in t) read.made
               ∙ ap (λ ns. test_on grammar head ns read.syntaxes) read.names;
         } in
-        subst (λ (h : TestHead). HasTest grammar (record { head = h; cells = cells }) test) same found
+        subst (λ (h : TestHead). FrameHasTest grammar (record { head = h; cells = cells }) test) same found
 
     pub test_none : ((t : List (List (CellSyntax Syntax))) → ColumnsFit grammar head.locs cells t → ⊥) → (s : Test Stmt)
-        → HasTest grammar (record { head = frame_head; cells = cells }) s → ⊥
+        → FrameHasTest grammar (record { head = frame_head; cells = cells }) s → ⊥
     test_none none s has = none has.threads (
       has.says,
       subst (λ (h : TestHead). length (with_names h.locs (names_of grammar has.threads)) ≤ 8)

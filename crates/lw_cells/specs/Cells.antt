@@ -78,13 +78,13 @@ module _ {Syntax Stmt : Type 0} (grammar : Grammar Syntax Stmt) where
   names_of threads = flat_map names_in threads
 
   -- the statement resolved: with its location's number in a table, and the number that its label leads to
-  abbrev pub resolved : NameTable → List (CellSyntax Syntax) → Syntax → Stmt
-  resolved names syntaxes s =
+  abbrev pub resolved_statement : NameTable → List (CellSyntax Syntax) → Syntax → Stmt
+  resolved_statement names syntaxes s =
       grammar.made (number_in names (grammar.name_of s)) (led_to syntaxes (grammar.label_of s)) s
 
   -- a thread's code
   abbrev pub code_in : NameTable → List (CellSyntax Syntax) → List Stmt
-  code_in names syntaxes = map (resolved names syntaxes) (statements syntaxes)
+  code_in names syntaxes = map (resolved_statement names syntaxes) (statements syntaxes)
 
   -- the test of a head and of what its threads' cells say, on this table
   abbrev pub test_on : TestHead → NameTable → List (List (CellSyntax Syntax)) → Test Stmt
@@ -92,7 +92,7 @@ module _ {Syntax Stmt : Type 0} (grammar : Grammar Syntax Stmt) where
       record { head = with_table head names; threads = map (code_in names) threads }
 
   -- The frame is of the language, and its cells say the statements of the test, on at most eight locations.
-  pub record HasTest (frame : TestFrame) (test : Test Stmt) : Type 0 where
+  pub record FrameHasTest (frame : TestFrame) (test : Test Stmt) : Type 0 where
     pub arch : frame.head.arch ≡ grammar.language.arch
     pub threads : List (List (CellSyntax Syntax))
     pub says : AllZip Column frame.cells threads

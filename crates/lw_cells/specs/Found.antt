@@ -4,7 +4,7 @@ use Rattle.std.specs.Prelude.{◌^◌, take, codes, slice_get, Contains}
 use Rattle.std.specs.List.{AllByRecursion, list_any, list_all}
 use Rattle.std.specs.Option.{option_map}
 use Rattle.std.specs.Str.{bytes_eq}
-use Rattle.lw_base.specs.WellFormed.{IsRegisterNumber, IsWord}
+use Rattle.lw_base.specs.WellFormed.{IsRegisterNumber, IsWordNumber}
 use Rattle.lw_base.specs.Names.{IsLocation}
 use Rattle.lw_base.specs.Tables.{with_name, index_of}
 use Rattle.lw_base.specs.Types.{Bytes, NameTable, TokenList}
@@ -296,9 +296,9 @@ module _ {W Form Stmt : Type 0} (spelling : Spelling W Form Stmt) where
     pub led : target_of (spelling.language.operation_of (spelling.statement x to form f)) ≡ option_map (λ l. to) (label_in (spelling.slots_of form) f)
     pub given :
         AllByRecursion IsRegisterNumber (registers_in (spelling.slots_of form) f)
-        → AllByRecursion IsWord (numbers_in (spelling.slots_of form) f)
+        → AllByRecursion IsWordNumber (numbers_in (spelling.slots_of form) f)
         → AllByRecursion IsRegisterNumber (registers_of (spelling.language.operation_of (spelling.statement x to form f)))
-        × AllByRecursion IsWord (numbers_of (spelling.language.operation_of (spelling.statement x to form f)))
+        × AllByRecursion IsWordNumber (numbers_of (spelling.language.operation_of (spelling.statement x to form f)))
 
   pub record IsSpelling (made : Form → Operands → Option Stmt) : Type 0 where
     pub countable : spelling.language.most < 2 ^ 64

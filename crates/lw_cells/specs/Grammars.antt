@@ -2,7 +2,7 @@
 -- An x86 instruction is a statement of its language.
 use Rattle.std.specs.Prelude.{◌≡◌, ◌<◌, ◌^◌, ℕ, Option, Some, [], ◌∷◌, ◌++◌, codes, slice_get, All}
 use Rattle.std.specs.Option.{option_map}
-use Rattle.lw_base.specs.WellFormed.{IsRegisterNumber, IsWord}
+use Rattle.lw_base.specs.WellFormed.{IsRegisterNumber, IsWordNumber}
 use Rattle.lw_base.specs.Names.{IsLocation}
 use Rattle.lw_base.specs.Types.{Bytes, TokenList}
 use Rattle.lw_base.specs.declared.head.Arch.{Arch}
@@ -52,4 +52,5 @@ module _ {Syntax Stmt : Type 0} (grammar : Grammar Syntax Stmt) where
     -- its registers are registers, and its numbers are words
     pub registers : (ts : TokenList) (x to : ℕ) (s : Syntax) → grammar.says ts s
         → All IsRegisterNumber (registers_of (grammar.language.operation_of (grammar.made x to s)))
-    pub numbers : (ts : TokenList) (x to : ℕ) (s : Syntax) → grammar.says ts s → All IsWord (numbers_of (grammar.language.operation_of (grammar.made x to s)))
+    pub numbers : (ts : TokenList) (x to : ℕ) (s : Syntax) → grammar.says ts s
+        → All IsWordNumber (numbers_of (grammar.language.operation_of (grammar.made x to s)))

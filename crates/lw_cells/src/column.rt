@@ -9,7 +9,7 @@ ghost use Rattle.lw_text.specs.Spans.{texts};
 ghost use Rattle.lw_cells.specs.Grammars.{most_of, CanBegin};
 ghost use Rattle.lw_cells.specs.Spellings.{grammar_of, Said};
 ghost use Rattle.lw_cells.specs.Found.{draft_of, IsSpelling};
-ghost use Rattle.lw_cells.specs.Cells.{CellSyntax, LeadsForward, code_in, resolved};
+ghost use Rattle.lw_cells.specs.Cells.{CellSyntax, LeadsForward, code_in, resolved_statement};
 ghost use Rattle.lw_cells.specs.Faults.{Tells};
 ghost use Rattle.lw_cells.specs.Words.{LiesWithin, IsMisfit};
 ghost use Rattle.lw_cells.specs.Drafts.{DraftRead, LeadsAs, leading_in, target_by};
@@ -168,7 +168,7 @@ fn resolve_one<L: StatementReader, A: Allocator>(
         × IsDraft (grammar_of L.spelling) (draft_of L.spelling) names (texts phrase.now.tokens.now) draft s }
     ensures found { (names : NameTable) (s : (Said L.spelling)) (syntaxes : List (CellSyntax (Said L.spelling)))
         → IsDraft (grammar_of L.spelling) (draft_of L.spelling) names (texts phrase.now.tokens.now) draft s → LeadsAs labels.now (leading_in 0 syntaxes)
-        → IfOk result (λ stmt. (stmt ≡ resolved (grammar_of L.spelling) names syntaxes s) × LeadsForward (grammar_of L.spelling) syntaxes number s) }
+        → IfOk result (λ stmt. (stmt ≡ resolved_statement (grammar_of L.spelling) names syntaxes s) × LeadsForward (grammar_of L.spelling) syntaxes number s) }
     ensures fault { (names : NameTable) (s : (Said L.spelling)) (syntaxes : List (CellSyntax (Said L.spelling)))
         → IsDraft (grammar_of L.spelling) (draft_of L.spelling) names (texts phrase.now.tokens.now) draft s → LeadsAs labels.now (leading_in 0 syntaxes)
         → IfErr result (λ f. LeadsForward (grammar_of L.spelling) syntaxes number s → ⊥) }

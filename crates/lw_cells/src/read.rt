@@ -8,7 +8,7 @@ ghost use Rattle.lw_text.specs.Views.{frame_of};
 ghost use Rattle.lw_cells.specs.Grammars.{arch_of};
 ghost use Rattle.lw_litmus.specs.Tests.{test_of};
 ghost use Rattle.lw_litmus.specs.WellFormed.{IsWellFormed};
-ghost use Rattle.lw_cells.specs.Cells.{HasTest};
+ghost use Rattle.lw_cells.specs.Cells.{FrameHasTest};
 ghost use Rattle.lw_cells.specs.Found.{IsSpelling};
 ghost use Rattle.lw_cells.specs.Spellings.{grammar_of};
 ghost use Rattle.lw_cells.specs.Faults.{Tells};
@@ -31,9 +31,9 @@ pub fn read_test<L: StatementReader, A: Allocator + Copy>(
     requires arch { frame.now.head.arch ≡ arch_of (grammar_of L.spelling) }
     requires lawful { IsSpelling L.spelling L.made }
     // What is answered is the frame's test, and where it is refused it has none, unless memory ran out.
-    ensures found { IfOk result (λ parts. HasTest (grammar_of L.spelling) (frame_of frame.now) (test_of parts.head parts.threads)) }
+    ensures found { IfOk result (λ parts. FrameHasTest (grammar_of L.spelling) (frame_of frame.now) (test_of parts.head parts.threads)) }
     ensures well_formed { IfOk result (λ parts. IsWellFormed (grammar_of L.spelling).language (test_of parts.head parts.threads)) }
-    ensures fault { IfErr result (λ f. NotFound Memory f.cause (HasTest (grammar_of L.spelling) (frame_of frame.now))) }
+    ensures fault { IfErr result (λ f. NotFound Memory f.cause (FrameHasTest (grammar_of L.spelling) (frame_of frame.now))) }
     ensures place { IfErr result (λ f. f.at ≤ frame.now.len) }
     ensures memory { IfErr result (λ f. f.cause ≡ Memory → f.at ≡ 0) }
     // What the cause says of the place is so.

@@ -7,11 +7,11 @@ use Rattle.lw_cells.specs.Found.{IsMade, IsSpelling}
 use Rattle.lw_cells.proofs.api.Forms.{is_grammar}
 use Rattle.lw_source.specs.declared.language.SourceForm.{SourceForm}
 use Rattle.lw_source.specs.declared.language.SourceForm.TheVariants.{Store, Load, Swap, FetchAdd, Set, Sum, IfEqual, IfNotEqual, Goto}
-use Rattle.lw_source.specs.Spelling.{slots_of, source_spelling}
+use Rattle.lw_source.specs.Spelling.{source_slots, source_spelling}
 use Rattle.lw_source.specs.Grammar.{source_grammar}
 use Rattle.lw_source.specs.inner.Operands.{made}
 
-making : (x to : ℕ) (form : SourceForm) (f : Filling (slots_of form)) → IsMade source_spelling made x to form f
+making : (x to : ℕ) (form : SourceForm) (f : Filling (source_slots form)) → IsMade source_spelling made x to form f
 making x to Store (n, (_, (Register r, _))) = record { is = refl; located = refl; led = refl; given = λ p q. (p, q) }
 making x to Store (n, (_, (Number m, _))) = record { is = refl; located = refl; led = refl; given = λ p q. (p, q) }
 making x to Load (d, (_, (n, _))) = record { is = refl; located = refl; led = refl; given = λ p q. (p, q) }

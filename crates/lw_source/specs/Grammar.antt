@@ -4,7 +4,7 @@ use Rattle.lw_litmus.specs.Tests.{SourceTest}
 use Rattle.lw_text.specs.Frames.{TestFrame}
 use Rattle.lw_cells.specs.Grammars.{Grammar}
 use Rattle.lw_cells.specs.Spellings.{Said, grammar_of}
-use Rattle.lw_cells.specs.Cells.{HasTest}
+use Rattle.lw_cells.specs.Cells.{FrameHasTest}
 use Rattle.lw_source.specs.Spelling.{source_spelling}
 
 -- the grammar of the source language
@@ -13,4 +13,4 @@ source_grammar = grammar_of source_spelling
 
 -- The cells of the frame say the statements of the test, on at most eight locations.
 abbrev pub HasSource : TestFrame → SourceTest → Type 0
-HasSource = HasTest source_grammar
+HasSource = FrameHasTest source_grammar

@@ -13,35 +13,35 @@ use Rattle.lw_source.specs.declared.language.SourceWord.TheVariants as word
 use Rattle.lw_source.specs.declared.language.SourceForm.{SourceForm}
 use Rattle.lw_source.specs.declared.language.SourceForm.TheVariants.{Store, Load, Swap, FetchAdd, Set, Sum, IfEqual, IfNotEqual, Goto}
 
-abbrev pub text_of : SourceWord → Bytes
-text_of word.Assign = codes ":="
-text_of word.Swap = codes "swap"
-text_of word.FetchAdd = codes "fetchadd"
-text_of word.Plus = codes "+"
-text_of word.If = codes "if"
-text_of word.Equals = codes "="
-text_of word.Differs = codes "!="
-text_of word.Goto = codes "goto"
+abbrev pub source_text : SourceWord → Bytes
+source_text word.Assign = codes ":="
+source_text word.Swap = codes "swap"
+source_text word.FetchAdd = codes "fetchadd"
+source_text word.Plus = codes "+"
+source_text word.If = codes "if"
+source_text word.Equals = codes "="
+source_text word.Differs = codes "!="
+source_text word.Goto = codes "goto"
 
 -- the forms of statements
-abbrev pub forms : List SourceForm
-forms = Store ∷ Load ∷ Swap ∷ FetchAdd ∷ Set ∷ Sum ∷ IfEqual ∷ IfNotEqual ∷ Goto ∷ []
+abbrev pub source_forms : List SourceForm
+source_forms = Store ∷ Load ∷ Swap ∷ FetchAdd ∷ Set ∷ Sum ∷ IfEqual ∷ IfNotEqual ∷ Goto ∷ []
 
 -- A slot for each token: `x := v`, `d := x`, `d := swap x a`, `d := fetchadd x a`, `d := v`, `d := a + v`,
 -- `if a = n goto L`, `if a != n goto L`, `goto L`.
-abbrev pub slots_of : SourceForm → List (Slot SourceWord)
-slots_of Store = Location ∷ Word word.Assign ∷ Value ∷ []
-slots_of Load = Register ∷ Word word.Assign ∷ Location ∷ []
-slots_of Swap = Register ∷ Word word.Assign ∷ Word word.Swap ∷ Location ∷ Register ∷ []
-slots_of FetchAdd = Register ∷ Word word.Assign ∷ Word word.FetchAdd ∷ Location ∷ Register ∷ []
-slots_of Set = Register ∷ Word word.Assign ∷ Value ∷ []
-slots_of Sum = Register ∷ Word word.Assign ∷ Register ∷ Word word.Plus ∷ Value ∷ []
-slots_of IfEqual = Word word.If ∷ Register ∷ Word word.Equals ∷ Number ∷ Word word.Goto ∷ Label ∷ []
-slots_of IfNotEqual = Word word.If ∷ Register ∷ Word word.Differs ∷ Number ∷ Word word.Goto ∷ Label ∷ []
-slots_of Goto = Word word.Goto ∷ Label ∷ []
+abbrev pub source_slots : SourceForm → List (Slot SourceWord)
+source_slots Store = Location ∷ Word word.Assign ∷ Value ∷ []
+source_slots Load = Register ∷ Word word.Assign ∷ Location ∷ []
+source_slots Swap = Register ∷ Word word.Assign ∷ Word word.Swap ∷ Location ∷ Register ∷ []
+source_slots FetchAdd = Register ∷ Word word.Assign ∷ Word word.FetchAdd ∷ Location ∷ Register ∷ []
+source_slots Set = Register ∷ Word word.Assign ∷ Value ∷ []
+source_slots Sum = Register ∷ Word word.Assign ∷ Register ∷ Word word.Plus ∷ Value ∷ []
+source_slots IfEqual = Word word.If ∷ Register ∷ Word word.Equals ∷ Number ∷ Word word.Goto ∷ Label ∷ []
+source_slots IfNotEqual = Word word.If ∷ Register ∷ Word word.Differs ∷ Number ∷ Word word.Goto ∷ Label ∷ []
+source_slots Goto = Word word.Goto ∷ Label ∷ []
 
 -- the statement of what the tokens give, on the location of a number, with a target
-abbrev pub statement : ℕ → ℕ → (form : SourceForm) → Filling (slots_of form) → Stmt
+abbrev pub statement : ℕ → ℕ → (form : SourceForm) → Filling (source_slots form) → Stmt
 statement x to Store (n, (_, (v, _))) = stmt.Store x v
 statement x to Load (d, (_, (n, _))) = stmt.Load d x
 statement x to Swap (d, (_, (_, (n, (a, _))))) = stmt.Swap d x a
@@ -55,8 +55,8 @@ statement x to Goto (_, (l, _)) = stmt.Goto to
 abbrev pub source_spelling : Spelling SourceWord SourceForm Stmt
 source_spelling = record {
   language = source;
-  text_of = text_of;
-  forms = forms;
-  slots_of = slots_of;
+  text_of = source_text;
+  forms = source_forms;
+  slots_of = source_slots;
   statement = statement;
 }

@@ -5,7 +5,7 @@ use Rattle.std.proofs.lemmas.Grind.{flat_map-append}
 use Rattle.lw_base.specs.Types.{Bytes}
 use Rattle.lw_base.specs.Heads.{TestHead}
 use Rattle.lw_base.specs.declared.head.Seen.TheVariants.{Register, Location}
-use Rattle.lw_base.specs.SeenLists.{registers_of, all_registers, locations}
+use Rattle.lw_base.specs.SeenLists.{thread_registers, all_registers, locations}
 use Rattle.lw_x86.specs.CanonicalTexts.{entry_text, register_entry}
 
 -- of a location, of a thread's register, and of all registers of a thread
@@ -16,7 +16,7 @@ abbrev pub entry_of : TestHead → ℕ → ℕ → Bytes
 entry_of head t r = register_entry head (Register t r)
 
 abbrev pub thread_entries : TestHead → ℕ → Bytes
-thread_entries head t = flat_map (register_entry head) (registers_of t)
+thread_entries head t = flat_map (register_entry head) (thread_registers t)
 
 flat_map-map : {X Y : Type 0} (f : Y → Bytes) (g : X → Y) (xs : List X) → flat_map f (map g xs) ≡ flat_map (λ x. f (g x)) xs
 flat_map-map f g [] = refl
@@ -34,4 +34,4 @@ thread_is head t = flat_map-map (register_entry head) (λ r. Register t r) (rang
 
 pub registers_are : (head : TestHead) (threads : ℕ) → flat_map (register_entry head) (all_registers threads) ≡ flat_map (thread_entries head)
     (range_with_len 0 threads)
-registers_are head threads = flat_map-flat_map (register_entry head) registers_of (range_with_len 0 threads)
+registers_are head threads = flat_map-flat_map (register_entry head) thread_registers (range_with_len 0 threads)

@@ -12,7 +12,7 @@ use Rattle.lw_litmus.specs.WellFormed.{IsThread}
 use Rattle.lw_base.specs.Types.{Bytes, NameTable}
 use Rattle.lw_litmus.specs.declared.instr.Instr.{Instr}
 use Rattle.lw_litmus.specs.Operations.{location_of}
-use Rattle.lw_litmus.specs.Programs.{x86, operation_of}
+use Rattle.lw_litmus.specs.Programs.{x86, x86_operation}
 use Rattle.lw_base.specs.Texts.{joined}
 use Rattle.lw_x86.specs.CanonicalTexts.{is_target, cell_text, end_cells, cells_from, cells_of, row_text, row_of, longest}
 
@@ -81,9 +81,9 @@ module _ (names : NameTable) (code : List Instr) (row : ℕ) where
 
 -- an instruction's location is one of so many
 pub located : (locs : ℕ) (code : List Instr) (row : ℕ) (i : Instr) → IsThread x86 locs code → row < length code → i ≡ slice_index_or code row i
-    → ForSome (location_of (operation_of i)) (λ x. x < locs)
+    → ForSome (location_of (x86_operation i)) (λ x. x < locs)
 located locs code row i thread lt is =
-    subst (λ s. ForSome (location_of (operation_of s)) (λ x. x < locs)) (sym is) (thread.there row i lt).0
+    subst (λ s. ForSome (location_of (x86_operation s)) (λ x. x < locs)) (sym is) (thread.there row i lt).0
 
 -- how many cells a thread has
 pub count_is : (names : NameTable) (code : List Instr) (n : ℕ) → n ≡ length code + length (end_cells code (length code)) → n ≡ length (cells_of names code)

@@ -9,10 +9,10 @@ use Rattle.lw_base.specs.declared.head.Arch.TheVariants.{X86}
 use Rattle.lw_base.specs.declared.head.Seen.{Seen}
 use Rattle.lw_base.specs.declared.head.Seen.TheVariants.{Register, Location}
 use Rattle.lw_base.specs.Heads.{TestHead}
-use Rattle.lw_base.specs.WellFormed.{IsSeen, IsWellFormedHead, IsWord}
+use Rattle.lw_base.specs.WellFormed.{IsSeen, IsWellFormedHead, IsWordNumber}
 use Rattle.lw_text.specs.Sites.{IsSite, ThreadExists}
 use Rattle.lw_text.specs.Frames.{EntrySyntax, IsEntry, Entries, Block}
-use Rattle.lw_base.specs.SeenLists.{registers_of, all_registers, locations}
+use Rattle.lw_base.specs.SeenLists.{thread_registers, all_registers, locations}
 use Rattle.lw_base.proofs.api.Elements.{all_append, all_filter, all_map, all_weaker, all_of_range, all_of_flat}
 use Rattle.lw_base.proofs.api.ListedAgain.{filter_shorter, seen_length}
 use Rattle.lw_text.proofs.api.Spelling.{Anything, Spells, Spells-then, Spells-on, Spells-within, Spells-nothing, Spells-space, Spells-newline, Spells-mark}
@@ -45,17 +45,17 @@ block_tokens head = codes "{" ∷ (flat_map (λ e. entry_tokens e ++ codes ";" �
 -- ---- words
 
 module _ (head : TestHead) (well : IsWellFormedHead head) where
-  word_at : (rows : List (List ℕ)) (t r : ℕ) → AllByRecursion (AllByRecursion IsWord) rows → slice_index (slice_index_or rows t []) r < 2 ^ 32
+  word_at : (rows : List (List ℕ)) (t r : ℕ) → AllByRecursion (AllByRecursion IsWordNumber) rows → slice_index (slice_index_or rows t []) r < 2 ^ 32
   word_at [] t r h = omega arith
   word_at (row ∷ rows) zero r h = in_row row r h.0
     where
-      in_row : (ws : List ℕ) (k : ℕ) → AllByRecursion IsWord ws → slice_index ws k < 2 ^ 32
+      in_row : (ws : List ℕ) (k : ℕ) → AllByRecursion IsWordNumber ws → slice_index ws k < 2 ^ 32
       in_row [] k a = omega arith
       in_row (w ∷ ws) zero a = a.0
       in_row (w ∷ ws) (suc k) a = in_row ws k a.1
   word_at (row ∷ rows) (suc t) r h = word_at rows t r h.1
 
-  location_word : (ws : List ℕ) (k : ℕ) → AllByRecursion IsWord ws → slice_index ws k < 2 ^ 32
+  location_word : (ws : List ℕ) (k : ℕ) → AllByRecursion IsWordNumber ws → slice_index ws k < 2 ^ 32
   location_word [] k a = omega arith
   location_word (w ∷ ws) zero a = a.0
   location_word (w ∷ ws) (suc k) a = location_word ws k a.1
@@ -68,7 +68,7 @@ module _ (head : TestHead) (well : IsWellFormedHead head) where
   entered_seen =
       all_append (IsSeen head.threads (length head.locs)) (filter (has_entry head) (all_registers head.threads)) (locations (length head.locs))
       (all_filter (IsSeen head.threads (length head.locs)) (has_entry head) (all_registers head.threads)
-      (all_of_flat (IsSeen head.threads (length head.locs)) registers_of 0 head.threads
+      (all_of_flat (IsSeen head.threads (length head.locs)) thread_registers 0 head.threads
       (λ t le lt. all_of_range (IsSeen head.threads (length head.locs)) (λ r. Register t r) 0 6 (λ r le2 lt2. (omega (arith, lt), omega (arith, lt2))))))
       (all_of_range (IsSeen head.threads (length head.locs)) (λ x. Location x) 0 (length head.locs) (λ x le lt. omega (arith, lt)))
 

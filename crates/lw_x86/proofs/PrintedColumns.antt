@@ -13,14 +13,15 @@ use Rattle.lw_base.specs.Lists.{EachOnce}
 use Rattle.lw_base.specs.Names.{IsTable}
 use Rattle.lw_base.specs.Tables.{contains_name}
 use Rattle.lw_base.proofs.api.Tables.{IsInTable, index_of-again}
-use Rattle.lw_cells.specs.Cells.{CellSyntax, CellSays, statements, labels_of, target_in, number_in, led_to, resolved, code_in, names_in, LeadsForward, Column}
+use Rattle.lw_cells.specs.Cells.{CellSyntax, CellSays, statements, labels_of, target_in, number_in, led_to, resolved_statement, code_in, names_in, LeadsForward}
+use Rattle.lw_cells.specs.Cells.{Column}
 use Rattle.lw_litmus.specs.WellFormed.{IsStatement, IsThread}
 use Rattle.lw_cells.proofs.api.Zips.{zip_append, zip_replicate}
 use Rattle.lw_litmus.specs.declared.instr.Instr.{Instr}
 use Rattle.lw_cells.specs.Spellings.{Said}
 use Rattle.lw_x86.specs.Spelling.{x86_spelling}
 use Rattle.lw_litmus.specs.Operations.{target_of, location_of}
-use Rattle.lw_litmus.specs.Programs.{x86, operation_of}
+use Rattle.lw_litmus.specs.Programs.{x86, x86_operation}
 use Rattle.lw_x86.specs.CanonicalTexts.{label, printed_as}
 use Rattle.lw_x86.specs.Grammar.{x86_grammar}
 use Rattle.lw_x86.proofs.PrintedInstructions.{HasTarget, printed}
@@ -68,17 +69,17 @@ target_same n (s ∷ ss) l = ap (λ (t : ℕ). if contains_name s.labels l then 
 module _ (names : NameTable) (once : EachOnce names) (syntaxes : List (CellSyntax (Said x86_spelling))) where
   -- its location is in the table, and its label leads to its target
   abbrev pub IsResolved : Instr → Type 0
-  IsResolved i = ForSome (location_of (operation_of i)) (λ x. x < length names) × ForSome (target_of (operation_of i))
+  IsResolved i = ForSome (location_of (x86_operation i)) (λ x. x < length names) × ForSome (target_of (x86_operation i))
       (λ to. target_in syntaxes (label to) ≡ to)
 
-  resolved_again : (i : Instr) → IsResolved i → resolved x86_grammar names syntaxes (printed_as names i) ≡ i
+  resolved_again : (i : Instr) → IsResolved i → resolved_statement x86_grammar names syntaxes (printed_as names i) ≡ i
   resolved_again i h =
       let p = printed names i in
       p.again _ _
       (λ x e. ap (number_in names) (p.name ∙ ap (option_map (λ (y : ℕ). slice_index_or names y [])) e) ∙ index_of-again names once x (h.0 x e))
       (λ to e. ap (led_to syntaxes) (p.led ∙ ap (option_map label) e) ∙ h.1 to e)
 
-  all_again : (code : List Instr) → AllByRecursion IsResolved code → map (resolved x86_grammar names syntaxes) (map (printed_as names) code) ≡ code
+  all_again : (code : List Instr) → AllByRecursion IsResolved code → map (resolved_statement x86_grammar names syntaxes) (map (printed_as names) code) ≡ code
   all_again [] h = refl
   all_again (i ∷ code) h =
       let here = resolved_again i h.0 in
@@ -91,15 +92,15 @@ name_there : (names : NameTable) (loc : Option ℕ) → ForSome loc (λ x. x < l
 name_there names None h more all = all
 name_there names (Some x) h more all = ((x, slice_get-get_or names x [] (h x refl)), all)
 
-names_there : (names : NameTable) (code : List Instr) → AllByRecursion (λ i. ForSome (location_of (operation_of i)) (λ x. x < length names)) code
+names_there : (names : NameTable) (code : List Instr) → AllByRecursion (λ i. ForSome (location_of (x86_operation i)) (λ x. x < length names)) code
     → AllByRecursion (IsInTable names) (filter_map x86_grammar.name_of (map (printed_as names) code))
 names_there names [] h = tt
-names_there names (i ∷ code) h = rw (printed names i).name (name_there names (location_of (operation_of i)) h.0 _ (names_there names code h.1))
+names_there names (i ∷ code) h = rw (printed names i).name (name_there names (location_of (x86_operation i)) h.0 _ (names_there names code h.1))
 
 -- what holds of an instruction's target holds of its label
-of_label : (names : NameTable) (P : Bytes → Type 0) (i : Instr) → ForSome (target_of (operation_of i)) (λ to. P (label to))
+of_label : (names : NameTable) (P : Bytes → Type 0) (i : Instr) → ForSome (target_of (x86_operation i)) (λ to. P (label to))
     → ForSome (x86_grammar.label_of (printed_as names i)) P
-of_label names P i h = rw (printed names i).led (go (target_of (operation_of i)) h)
+of_label names P i h = rw (printed names i).led (go (target_of (x86_operation i)) h)
   where
     go : (target : Option ℕ) → ForSome target (λ to. P (label to)) → ForSome (option_map label target) P
     go None h = λ l e. absurd cc
@@ -134,7 +135,7 @@ module _ (names : NameTable) (table : IsTable names) (code : List Instr) (thread
   abbrev pub syntaxes : ℕ → List (CellSyntax (Said x86_spelling))
   syntaxes n = with_empty n (syntaxes_from names code 0 code)
 
-  target_at : (n k to : ℕ) (i : Instr) → slice_get code k ≡ Some i → target_of (operation_of i) ≡ Some to
+  target_at : (n k to : ℕ) (i : Instr) → slice_get code k ≡ Some i → target_of (x86_operation i) ≡ Some to
       → Contains (labels_of (syntaxes n)) (label to) × (target_in (syntaxes n) (label to) ≡ to) × (k < to)
   target_at n k to i e f =
       let goes = thread.forward k i e to f in
@@ -171,11 +172,11 @@ module _ (names : NameTable) (table : IsTable names) (code : List Instr) (thread
 
   pub thread_again : (n : ℕ) → code_in x86_grammar names (syntaxes n) ≡ code
   thread_again n =
-      ap (map (resolved x86_grammar names (syntaxes n))) (statements_all n)
+      ap (map (resolved_statement x86_grammar names (syntaxes n))) (statements_all n)
       ∙ all_again names table.once (syntaxes n) code (all_places (IsResolved names table.once (syntaxes n)) code
       (λ k i e. ((statement_at k i e).0, λ to f. (target_at n k to i e f).1)))
 
   pub thread_names : (n : ℕ) → AllByRecursion (IsInTable names) (names_in x86_grammar (syntaxes n))
   thread_names n =
       subst (λ (ss : List (Said x86_spelling)). AllByRecursion (IsInTable names) (filter_map x86_grammar.name_of ss)) (sym (statements_all n))
-      (names_there names code (all_places (λ i. ForSome (location_of (operation_of i)) (λ x. x < length names)) code (λ k i e. (statement_at k i e).0)))
+      (names_there names code (all_places (λ i. ForSome (location_of (x86_operation i)) (λ x. x < length names)) code (λ k i e. (statement_at k i e).0)))

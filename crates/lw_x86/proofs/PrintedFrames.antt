@@ -24,7 +24,7 @@ use Rattle.lw_text.specs.Rows.{columns}
 use Rattle.lw_text.specs.Propositions.{HasFewNodes, IsProposition}
 use Rattle.lw_text.specs.Conditions.{sites_in, resolved}
 use Rattle.lw_text.specs.Frames.{TestSyntax, TestFrame, Parts, HasFrame, table, word_of, listed_in, head_of_syntax, made_of}
-use Rattle.lw_base.specs.SeenLists.{registers_of, locations}
+use Rattle.lw_base.specs.SeenLists.{thread_registers, locations}
 use Rattle.lw_base.proofs.api.Elements.{all_append}
 use Rattle.lw_text.proofs.api.PropositionNodes.{proposition_nodes, resolved_single, resolved_count}
 use Rattle.lw_text.proofs.api.Spelling.{Anything, Spells, Spells-on, Spells-within, Spells-whole, Spells-space, Spells-newline, Spells-name, name_by_test}
@@ -173,8 +173,7 @@ module _ (p : ProgramTest) (well : IsWellFormedProgram p) where
   nodes_few =
       omega (
         arith,
-        proposition_nodes (map (resolved p.head.locs) (terminals_in p.head)) p.head.condition proposition_on
-            (resolved_single p.head.locs (terminals_in p.head)),
+        proposition_nodes proposition_on (resolved_single p.head.locs (terminals_in p.head)),
         resolved_count p.head.locs (terminals_in p.head),
         well.head.nodes_few,
       )
@@ -208,7 +207,7 @@ module _ (p : ProgramTest) (well : IsWellFormedProgram p) where
         arch = arch;
         threads = p.head.threads;
         locs = names;
-        init_regs = map (λ t. map (word_of names (entries_of p.head)) (registers_of t)) (range_with_len 0 p.head.threads);
+        init_regs = map (λ t. map (word_of names (entries_of p.head)) (thread_registers t)) (range_with_len 0 p.head.threads);
         init_words = map (word_of names (entries_of p.head)) (locations (length names));
         listed = listed_in p.head.threads names (named_sites p.head.locs p.head.listed);
         quant = p.head.quant;

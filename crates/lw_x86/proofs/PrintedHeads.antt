@@ -16,7 +16,7 @@ use Rattle.lw_base.proofs.api.Tables.{with_names-there, with_names-again}
 use Rattle.lw_base.proofs.api.GrowingTables.{with_names-append}
 use Rattle.lw_text.specs.Sites.{SiteSyntax, site_name, site_names, seen_in}
 use Rattle.lw_text.specs.Frames.{EntrySyntax, word_of, listed_in}
-use Rattle.lw_base.specs.SeenLists.{same_seen, registers_of, all_registers, locations}
+use Rattle.lw_base.specs.SeenLists.{same_seen, thread_registers, all_registers, locations}
 use Rattle.lw_base.proofs.api.Elements.{all_filter, all_of_range, all_of_flat}
 use Rattle.lw_base.proofs.api.ListedAgain.{same_seen_is, has_seen, has_register, has_location, has_left, has_right, listed_again}
 use Rattle.lw_text.proofs.api.ConditionTokens.{named_site, IsPrintable, sites_in_table, seen_again}
@@ -53,7 +53,7 @@ module _ (head : TestHead) (well : IsWellFormedHead head) where
       let registers = filter (has_entry head) (all_registers head.threads) in
       let all = locations (length head.locs) in
       let none = no_names registers (all_filter InNoMemory (has_entry head) (all_registers head.threads)
-      (all_of_flat InNoMemory registers_of 0 head.threads (λ t le lt. all_of_range InNoMemory (λ r. Register t r) 0 6 (λ r le2 lt2. tt)))) in
+      (all_of_flat InNoMemory thread_registers 0 head.threads (λ t le lt. all_of_range InNoMemory (λ r. Register t r) 0 6 (λ r le2 lt2. tt)))) in
       ap site_names (sites_are (entered head) ∙ map-append (named_site head.locs) registers all)
       ∙ filter_map-append site_name (map (named_site head.locs) registers) (map (named_site head.locs) all)
       ∙ ap (λ (l : NameTable). l ++ site_names (map (named_site head.locs) all)) none
@@ -145,9 +145,9 @@ module _ (head : TestHead) (well : IsWellFormedHead head) where
   row_long (row ∷ rows) zero lt h = h.0
   row_long (row ∷ rows) (suc t) lt h = row_long rows t (omega (arith, lt)) h.1
 
-  pub registers_again : map (λ t. map (word_of head.locs (entries_of head)) (registers_of t)) (range_with_len 0 head.threads) ≡ head.init_regs
+  pub registers_again : map (λ t. map (word_of head.locs (entries_of head)) (thread_registers t)) (range_with_len 0 head.threads) ≡ head.init_regs
   registers_again =
-      sym (fill_by_all (λ t. map (word_of head.locs (entries_of head)) (registers_of t)) head.init_regs head.threads [] well.regs
+      sym (fill_by_all (λ t. map (word_of head.locs (entries_of head)) (thread_registers t)) head.init_regs head.threads [] well.regs
       (λ t lt. fill_by_all (λ r. word_of head.locs (entries_of head) (Register t r)) (slice_index_or head.init_regs t []) 6 0
       (row_long head.init_regs t (omega (arith, lt, well.regs)) well.six) (λ r k. sym (register_again t r lt k))))
 

@@ -7,7 +7,7 @@ use Rattle.std.proofs.lemmas.List.Elements.{All-head, All-tail}
 use Rattle.lw_base.specs.Types.{NameTable, TokenList}
 use Rattle.lw_base.specs.declared.operand.Operand.TheVariants.{Register, Number}
 use Rattle.lw_base.specs.Names.{IsLocation}
-use Rattle.lw_base.specs.WellFormed.{IsRegisterNumber, IsWord}
+use Rattle.lw_base.specs.WellFormed.{IsRegisterNumber, IsWordNumber}
 use Rattle.lw_text.specs.Rows.{begins_stop}
 use Rattle.lw_text.proofs.api.Spelling.{EndsWord, Spells, Spells-within, Spells-word, decimal_is_word, decimal_is_short}
 use Rattle.lw_text.proofs.api.PrintedConditions.{name_there}
@@ -15,9 +15,9 @@ use Rattle.lw_litmus.specs.WellFormed.{IsStatement}
 use Rattle.lw_litmus.specs.declared.instr.Instr.{Instr}
 use Rattle.lw_litmus.specs.declared.instr.Instr.TheVariants.{Store, Load, Set, Add, Cmp, Xchg, Xadd, Mfence, Je, Jne, Jmp}
 use Rattle.lw_litmus.specs.Operations.{target_of, location_of}
-use Rattle.lw_litmus.specs.Programs.{x86, operation_of}
+use Rattle.lw_litmus.specs.Programs.{x86, x86_operation}
 use Rattle.lw_cells.specs.Spellings.{Fills, Said, name_in, label_in}
-use Rattle.lw_x86.specs.Spelling.{forms, slots_of, instruction, x86_spelling}
+use Rattle.lw_x86.specs.Spelling.{x86_forms, x86_slots, instruction, x86_spelling}
 use Rattle.lw_x86.specs.CanonicalTexts.{label, printed_as, instruction_text}
 use Rattle.lw_x86.proofs.PrintedSlots.{EndsNoCell, ArePrintable, are_spaced, most_in, slots_tokens, slots_spelled, slots_said, slots_no_end}
 
@@ -34,28 +34,28 @@ Spells-label k h = Spells-word 11 (label k) (refl, decimal_is_word k h) (inl (la
 
 -- where it jumps is a number of an instruction
 abbrev pub HasTarget : Instr → Type 0
-HasTarget i = ForSome (target_of (operation_of i)) (λ to. to < 2 ^ 32)
+HasTarget i = ForSome (target_of (x86_operation i)) (λ to. to < 2 ^ 32)
 
 abbrev pub instruction_tokens : NameTable → Instr → TokenList
-instruction_tokens names i = slots_tokens (slots_of (printed_as names i).form) (printed_as names i).filling
+instruction_tokens names i = slots_tokens (x86_slots (printed_as names i).form) (printed_as names i).filling
 
 -- A form of the language, which is short and begins with a mnemonic; it has the instruction's location and label, and with them
 -- it is the instruction.
 pub record IsPrintedAs (names : NameTable) (i : Instr) (s : Said x86_spelling) : Type 0 where
-  pub there : Contains forms s.form
-  pub spaced : are_spaced (slots_of s.form) ≡ true
-  pub short : most_in (slots_of s.form) ≤ 133
-  pub starts : begins_stop (slots_tokens (slots_of s.form) s.filling) ≡ false
-  pub name : name_in (slots_of s.form) s.filling ≡ option_map (λ x. slice_index_or names x []) (location_of (operation_of i))
-  pub led : label_in (slots_of s.form) s.filling ≡ option_map label (target_of (operation_of i))
-  pub again : (x to : ℕ) → ForSome (location_of (operation_of i)) (λ y. x ≡ y) → ForSome (target_of (operation_of i)) (λ t. to ≡ t)
+  pub there : Contains x86_forms s.form
+  pub spaced : are_spaced (x86_slots s.form) ≡ true
+  pub short : most_in (x86_slots s.form) ≤ 133
+  pub starts : begins_stop (slots_tokens (x86_slots s.form) s.filling) ≡ false
+  pub name : name_in (x86_slots s.form) s.filling ≡ option_map (λ x. slice_index_or names x []) (location_of (x86_operation i))
+  pub led : label_in (x86_slots s.form) s.filling ≡ option_map label (target_of (x86_operation i))
+  pub again : (x to : ℕ) → ForSome (location_of (x86_operation i)) (λ y. x ≡ y) → ForSome (target_of (x86_operation i)) (λ t. to ≡ t)
       → instruction x to s.form s.filling ≡ i
 
-row : (names : NameTable) (i : Instr) (s : Said x86_spelling) → Contains forms s.form → are_spaced (slots_of s.form) ≡ true
-    → most_in (slots_of s.form) ≤ 133 → begins_stop (slots_tokens (slots_of s.form) s.filling) ≡ false
-    → name_in (slots_of s.form) s.filling ≡ option_map (λ x. slice_index_or names x []) (location_of (operation_of i))
-    → label_in (slots_of s.form) s.filling ≡ option_map label (target_of (operation_of i))
-    → ((x to : ℕ) → ForSome (location_of (operation_of i)) (λ y. x ≡ y) → ForSome (target_of (operation_of i)) (λ t. to ≡ t)
+row : (names : NameTable) (i : Instr) (s : Said x86_spelling) → Contains x86_forms s.form → are_spaced (x86_slots s.form) ≡ true
+    → most_in (x86_slots s.form) ≤ 133 → begins_stop (slots_tokens (x86_slots s.form) s.filling) ≡ false
+    → name_in (x86_slots s.form) s.filling ≡ option_map (λ x. slice_index_or names x []) (location_of (x86_operation i))
+    → label_in (x86_slots s.form) s.filling ≡ option_map label (target_of (x86_operation i))
+    → ((x to : ℕ) → ForSome (location_of (x86_operation i)) (λ y. x ≡ y) → ForSome (target_of (x86_operation i)) (λ t. to ≡ t)
     → instruction x to s.form s.filling ≡ i)
     → IsPrintedAs names i s
 row names i s there spaced short starts name led again =
@@ -81,13 +81,13 @@ printed names (Jne to) = row names _ _ (16, omega arith, refl) refl (omega arith
 printed names (Jmp to) = row names _ _ (17, omega arith, refl) refl (omega arith) refl refl refl (λ y t p q. ap (λ (z : ℕ). Jmp z) (q to refl))
 
 module _ (names : NameTable) (table : AllByRecursion IsLocation names) where
-  printable : (i : Instr) → IsStatement x86 (length names) i → HasTarget i → ArePrintable (slots_of (printed_as names i).form) (printed_as names i).filling
+  printable : (i : Instr) → IsStatement x86 (length names) i → HasTarget i → ArePrintable (x86_slots (printed_as names i).form) (printed_as names i).filling
   printable (Store x (Register a)) h t = (tt, (tt, (name_there names x table (h.0 x refl), (tt, (tt, (All-head IsRegisterNumber a [] h.1, tt))))))
-  printable (Store x (Number n)) h t = (tt, (tt, (name_there names x table (h.0 x refl), (tt, (tt, (tt, (All-head IsWord n [] h.2, tt)))))))
+  printable (Store x (Number n)) h t = (tt, (tt, (name_there names x table (h.0 x refl), (tt, (tt, (tt, (All-head IsWordNumber n [] h.2, tt)))))))
   printable (Load d x) h t = (tt, (All-head IsRegisterNumber d [] h.1, (tt, (tt, (name_there names x table (h.0 x refl), (tt, tt))))))
   printable (Set d (Register a)) h t =
       (tt, (All-head IsRegisterNumber d (a ∷ []) h.1, (tt, (All-head IsRegisterNumber a [] (All-tail IsRegisterNumber d (a ∷ []) h.1), tt))))
-  printable (Set d (Number n)) h t = (tt, (All-head IsRegisterNumber d [] h.1, (tt, (tt, (All-head IsWord n [] h.2, tt)))))
+  printable (Set d (Number n)) h t = (tt, (All-head IsRegisterNumber d [] h.1, (tt, (tt, (All-head IsWordNumber n [] h.2, tt)))))
   printable (Add d (Register a)) h t = (
     tt,
     (
@@ -98,10 +98,10 @@ module _ (names : NameTable) (table : AllByRecursion IsLocation names) where
       ),
     ),
   )
-  printable (Add d (Number n)) h t = (tt, (All-head IsRegisterNumber d (d ∷ []) h.1, (tt, (tt, (All-head IsWord n [] h.2, tt)))))
+  printable (Add d (Number n)) h t = (tt, (All-head IsRegisterNumber d (d ∷ []) h.1, (tt, (tt, (All-head IsWordNumber n [] h.2, tt)))))
   printable (Cmp a (Register b)) h t =
       (tt, (All-head IsRegisterNumber a (b ∷ []) h.1, (tt, (All-head IsRegisterNumber b [] (All-tail IsRegisterNumber a (b ∷ []) h.1), tt))))
-  printable (Cmp a (Number n)) h t = (tt, (All-head IsRegisterNumber a [] h.1, (tt, (tt, (All-head IsWord n [] h.2, tt)))))
+  printable (Cmp a (Number n)) h t = (tt, (All-head IsRegisterNumber a [] h.1, (tt, (tt, (All-head IsWordNumber n [] h.2, tt)))))
   printable (Xchg x a) h t = (tt, (tt, (name_there names x table (h.0 x refl), (tt, (tt, (All-head IsRegisterNumber a (a ∷ []) h.1, tt))))))
   printable (Xadd x a) h t = (tt, (tt, (tt, (name_there names x table (h.0 x refl), (tt, (tt, (All-head IsRegisterNumber a (a ∷ []) h.1, tt)))))))
   printable Mfence h t = (tt, tt)
@@ -113,12 +113,12 @@ module _ (names : NameTable) (table : AllByRecursion IsLocation names) where
       → Spells EndsWord 133 (instruction_text names i) (instruction_tokens names i)
   instruction_spelled i h t =
       let p = printed names i in
-      Spells-within 133 p.short (slots_spelled (slots_of (printed_as names i).form) (printed_as names i).filling (printable i h t) p.spaced)
+      Spells-within 133 p.short (slots_spelled (x86_slots (printed_as names i).form) (printed_as names i).filling (printable i h t) p.spaced)
 
   pub instruction_said : (i : Instr) → IsStatement x86 (length names) i → HasTarget i
-      → Contains forms (printed_as names i).form × Fills x86_spelling (instruction_tokens names i) (slots_of (printed_as names i).form)
+      → Contains x86_forms (printed_as names i).form × Fills x86_spelling (instruction_tokens names i) (x86_slots (printed_as names i).form)
       (printed_as names i).filling
-  instruction_said i h t = ((printed names i).there, slots_said (slots_of (printed_as names i).form) (printed_as names i).filling (printable i h t))
+  instruction_said i h t = ((printed names i).there, slots_said (x86_slots (printed_as names i).form) (printed_as names i).filling (printable i h t))
 
   pub instruction_no_end : (i : Instr) → IsStatement x86 (length names) i → HasTarget i → EndsNoCell (instruction_tokens names i)
-  instruction_no_end i h t = slots_no_end (slots_of (printed_as names i).form) (printed_as names i).filling (printable i h t)
+  instruction_no_end i h t = slots_no_end (x86_slots (printed_as names i).form) (printed_as names i).filling (printable i h t)

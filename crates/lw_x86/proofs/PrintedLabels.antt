@@ -17,7 +17,7 @@ use Rattle.lw_base.proofs.api.Elements.{all_append, all_weaker}
 use Rattle.lw_cells.specs.Cells.{statements, labels_of, target_in}
 use Rattle.lw_litmus.specs.declared.instr.Instr.{Instr}
 use Rattle.lw_litmus.specs.Operations.{target_of}
-use Rattle.lw_litmus.specs.Programs.{operation_of}
+use Rattle.lw_litmus.specs.Programs.{x86_operation}
 use Rattle.lw_x86.specs.CanonicalTexts.{label, printed_as, jumps_to, is_target}
 use Rattle.lw_x86.proofs.PrintedCells.{front_labels, end_syntaxes, syntaxes_from}
 
@@ -32,11 +32,11 @@ other_label j k h l ne =
     elim (cases_Bool (bytes_eq (label j) (label k))) [ inl e ↦ absurd (ne (label_injective j k h l ((bytes_eq-Decides (label j) (label k)).0 e))) | inr e ↦ e ]
 
 -- an instruction's target is a target
-pub target_is : (code : List Instr) (k to : ℕ) (i : Instr) → slice_get code k ≡ Some i → target_of (operation_of i) ≡ Some to → is_target code to ≡ true
+pub target_is : (code : List Instr) (k to : ℕ) (i : Instr) → slice_get code k ≡ Some i → target_of (x86_operation i) ≡ Some to → is_target code to ≡ true
 target_is [] k to i at e = absurd cc
 target_is (j ∷ code) zero to i at e =
     let same : j ≡ i = cc in
-    let here : jumps_to to j ≡ true = ap (λ o. option_map_or (λ t. t == to) o false) (ap (λ i. target_of (operation_of i)) same ∙ e) ∙ eq-eqb to to refl in
+    let here : jumps_to to j ≡ true = ap (λ o. option_map_or (λ t. t == to) o false) (ap (λ i. target_of (x86_operation i)) same ∙ e) ∙ eq-eqb to to refl in
     rw here refl
 target_is (j ∷ code) (suc k) to i at e = let further = target_is code k to i at e in or_right (jumps_to to j) (list_any (jumps_to to) code) further
 

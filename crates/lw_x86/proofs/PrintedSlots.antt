@@ -11,7 +11,7 @@ use Rattle.lw_base.specs.declared.operand.Operand.TheVariants as operand
 use Rattle.lw_base.specs.Characters.{is_word_byte}
 use Rattle.lw_base.specs.Names.{IsName, IsLocation}
 use Rattle.lw_base.specs.Registers.{register_name}
-use Rattle.lw_base.specs.WellFormed.{IsRegisterNumber, IsWord}
+use Rattle.lw_base.specs.WellFormed.{IsRegisterNumber, IsWordNumber}
 use Rattle.lw_text.specs.Rows.{ends_cell}
 use Rattle.lw_text.specs.Tokens.{is_pair, is_single}
 use Rattle.lw_text.proofs.api.Spelling.{EndsWord, Spells, Spells-then, Spells-on, Spells-within, Spells-nothing, Spells-space, Spells-mark, Spells-name}
@@ -22,7 +22,7 @@ use Rattle.lw_cells.specs.declared.slot.Slot.TheVariants.{Word, Register, Locati
 use Rattle.lw_cells.specs.Spellings.{Given, Filling, Gives, Fills}
 use Rattle.lw_x86.specs.declared.language.X86Word.{X86Word}
 use Rattle.lw_x86.specs.declared.language.X86Word.TheVariants.{Mov, Add, Cmp, Xchg, Xadd, Lock, Mfence, Je, Jne, Jmp, Open, Close, Comma, Dollar}
-use Rattle.lw_x86.specs.Spelling.{text_of, x86_spelling}
+use Rattle.lw_x86.specs.Spelling.{x86_text, x86_spelling}
 use Rattle.lw_x86.specs.CanonicalTexts.{slot_text, is_sign, slots_text}
 
 -- ---- no token ends a cell
@@ -51,12 +51,12 @@ EndsNoCell ts = AllByRecursion (λ t. ends_cell t ≡ false) ts
 
 record IsMnemonic (w : X86Word) : Type 0 where
   unsigned : is_sign w ≡ false
-  name : IsName (text_of w)
+  name : IsName (x86_text w)
 
 record IsSign (w : X86Word) : Type 0 where
   signed : is_sign w ≡ true
   byte : ℕ
-  is : text_of w ≡ byte ∷ []
+  is : x86_text w ≡ byte ∷ []
   single : is_single byte ≡ true
   alone : (c : ℕ) → is_pair byte c ≡ false
   opens : (byte == 40) ≡ false
@@ -64,7 +64,7 @@ record IsSign (w : X86Word) : Type 0 where
   ends : is_word_byte byte ≡ false
   plain : ends_cell (byte ∷ []) ≡ false
 
-sign : (w : X86Word) (b : ℕ) → is_sign w ≡ true → text_of w ≡ b ∷ [] → is_single b ≡ true → ((c : ℕ) → is_pair b c ≡ false) → (b == 40) ≡ false
+sign : (w : X86Word) (b : ℕ) → is_sign w ≡ true → x86_text w ≡ b ∷ [] → is_single b ≡ true → ((c : ℕ) → is_pair b c ≡ false) → (b == 40) ≡ false
     → b < 128 → is_word_byte b ≡ false → ends_cell (b ∷ []) ≡ false → IsSign w
 sign w b signed is single alone opens low ends plain =
     record { signed = signed; byte = b; is = is; single = single; alone = alone; opens = opens; low = low; ends = ends; plain = plain }
@@ -92,8 +92,8 @@ IsPrintable (Word w) g = Unit {0}
 IsPrintable Register r = IsRegisterNumber r
 IsPrintable Location x = IsLocation x
 IsPrintable Value (operand.Register r) = IsRegisterNumber r
-IsPrintable Value (operand.Number n) = IsWord n
-IsPrintable Number n = IsWord n
+IsPrintable Value (operand.Number n) = IsWordNumber n
+IsPrintable Number n = IsWordNumber n
 IsPrintable Label l = IsLocation l
 
 abbrev pub ArePrintable : (slots : List (Slot X86Word)) → Filling slots → Type 0
@@ -116,7 +116,7 @@ are_spaced (slot ∷ next ∷ slots) = (is_word slot || is_sign_slot next) && ar
 
 -- so many bytes at most, with a blank
 abbrev pub most_of : Slot X86Word → ℕ
-most_of (Word w) = 1 + length (text_of w)
+most_of (Word w) = 1 + length (x86_text w)
 most_of slot = 32
 
 abbrev pub most_in : List (Slot X86Word) → ℕ
@@ -135,7 +135,7 @@ name_spelled w name = let s = Spells-name w name in record { before = s.before; 
 last_spelled : (slot : Slot X86Word) (g : Given slot) → IsPrintable slot g → Spells EndsWord (most_of slot) (slot_text slot g) (slot_text slot g ∷ [])
 last_spelled (Word w) g p =
     elim (kind_of w) [
-      | inl m ↦ Spells-within (1 + length (text_of w)) (omega arith) (name_spelled (text_of w) m.name)
+      | inl m ↦ Spells-within (1 + length (x86_text w)) (omega arith) (name_spelled (x86_text w) m.name)
       | inr s ↦ rw s.is (Spells-within 2 (omega arith) (Spells-then (λ rest g. tt) (Spells-mark s.byte s.single s.alone s.opens s.low)
           (Spells-nothing EndsWord)))
     ]
@@ -175,8 +175,8 @@ module _ (next : Slot X86Word) (slots : List (Slot X86Word)) (h : Given next) (f
   front_spelled (Word w) g p e =
       elim (kind_of w) [
         | inl m ↦
-            rw m.unsigned (Spells-within (1 + length (text_of w) + n) (omega arith)
-            (Spells-then (λ rest g. refl) (name_spelled (text_of w) m.name) (Spells-on Spells-space behind)))
+            rw m.unsigned (Spells-within (1 + length (x86_text w) + n) (omega arith)
+            (Spells-then (λ rest g. refl) (name_spelled (x86_text w) m.name) (Spells-on Spells-space behind)))
         | inr s ↦ rw (s.signed, s.is) (Spells-within (2 + n) (omega arith) (Spells-on (Spells-mark s.byte s.single s.alone s.opens s.low) behind))
       ]
   front_spelled Register g p e = Spells-then (λ rest k. sign_ends next slots h f e rest) (last_spelled Register g p) behind
@@ -212,13 +212,13 @@ slots_said (slot ∷ slots) (g, f) p = (slot_said slot g p.0, slots_said slots f
 register_no_end : (r : ℕ) → IsRegisterNumber r → ends_cell (register_name X86 r) ≡ false
 register_no_end r p = name_no_end (register_name X86 r) (register_is_name X86 r p)
 
-number_no_end : (n : ℕ) → IsWord n → ends_cell (decimal n) ≡ false
+number_no_end : (n : ℕ) → IsWordNumber n → ends_cell (decimal n) ≡ false
 number_no_end n p = word_no_end (decimal n) (decimal_nonempty n (omega (arith, p))) (decimal_is_word n p)
 
 slot_no_end : (slot : Slot X86Word) (g : Given slot) → IsPrintable slot g → ends_cell (slot_text slot g) ≡ false
 slot_no_end (Word w) g p =
     elim (kind_of w) [
-      | inl m ↦ name_no_end (text_of w) m.name
+      | inl m ↦ name_no_end (x86_text w) m.name
       | inr s ↦ rw s.is s.plain
     ]
 slot_no_end Register r p = register_no_end r p

@@ -9,11 +9,11 @@ use Rattle.lw_x86.specs.declared.language.X86Form.{X86Form}
 use Rattle.lw_x86.specs.declared.language.X86Form.TheVariants.{Store, StoreNumber, Load, Set, SetNumber, Add, AddNumber, Compare, CompareNumber, Exchange}
 use Rattle.lw_x86.specs.declared.language.X86Form.TheVariants.{ExchangeLast, LockedExchange, LockedExchangeLast, ExchangeAdd, Fence, JumpEqual, JumpNotEqual}
 use Rattle.lw_x86.specs.declared.language.X86Form.TheVariants.{Jump}
-use Rattle.lw_x86.specs.Spelling.{slots_of, x86_spelling}
+use Rattle.lw_x86.specs.Spelling.{x86_slots, x86_spelling}
 use Rattle.lw_x86.specs.Grammar.{x86_grammar}
 use Rattle.lw_x86.specs.inner.Operands.{made}
 
-making : (x to : ℕ) (form : X86Form) (f : Filling (slots_of form)) → IsMade x86_spelling made x to form f
+making : (x to : ℕ) (form : X86Form) (f : Filling (x86_slots form)) → IsMade x86_spelling made x to form f
 making x to Store (_, (_, (y, (_, (_, (Register r, _)))))) = record { is = refl; located = refl; led = refl; given = λ p q. (p, q) }
 making x to Store (_, (_, (y, (_, (_, (Number n, _)))))) = record { is = refl; located = refl; led = refl; given = λ p q. (p, q) }
 making x to StoreNumber (_, (_, (y, (_, (_, (_, (n, _))))))) = record { is = refl; located = refl; led = refl; given = λ p q. (p, q) }

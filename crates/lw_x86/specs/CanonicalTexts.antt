@@ -18,7 +18,7 @@ use Rattle.lw_text.specs.Rows.{thread_name}
 use Rattle.lw_litmus.specs.declared.instr.Instr.{Instr}
 use Rattle.lw_litmus.specs.declared.instr.Instr.TheVariants as instr
 use Rattle.lw_litmus.specs.Operations.{target_of}
-use Rattle.lw_litmus.specs.Programs.{operation_of}
+use Rattle.lw_litmus.specs.Programs.{x86_operation}
 use Rattle.lw_litmus.specs.Tests.{ProgramTest}
 use Rattle.lw_cells.specs.declared.slot.Slot.{Slot}
 use Rattle.lw_cells.specs.declared.slot.Slot.TheVariants.{Word, Register, Location, Value, Number, Label}
@@ -27,7 +27,7 @@ use Rattle.lw_x86.specs.declared.language.X86Word.{X86Word}
 use Rattle.lw_x86.specs.declared.language.X86Word.TheVariants.{Open, Close, Comma, Dollar}
 use Rattle.lw_x86.specs.declared.language.X86Form.TheVariants.{Store, StoreNumber, Load, Set, SetNumber, Add, AddNumber, Compare, CompareNumber, Exchange}
 use Rattle.lw_x86.specs.declared.language.X86Form.TheVariants.{ExchangeAdd, Fence, JumpEqual, JumpNotEqual, Jump}
-use Rattle.lw_x86.specs.Spelling.{text_of, slots_of, x86_spelling}
+use Rattle.lw_x86.specs.Spelling.{x86_text, x86_slots, x86_spelling}
 
 -- ---- instructions
 
@@ -58,7 +58,7 @@ printed_as names (instr.Jmp to) = record { form = Jump; filling = (tt, (label to
 
 -- what is printed at a slot
 abbrev pub slot_text : (slot : Slot X86Word) → Given slot → Bytes
-slot_text (Word w) g = text_of w
+slot_text (Word w) g = x86_text w
 slot_text Register r = register_name X86 r
 slot_text Location x = x
 slot_text Value (operand.Register r) = register_name X86 r
@@ -84,13 +84,13 @@ slots_text (slot ∷ []) (g, f) = slot_text slot g
 slots_text (slot ∷ next ∷ slots) (g, f) = slot_text slot g ++ (space_behind slot ++ slots_text (next ∷ slots) f)
 
 abbrev pub instruction_text : NameTable → Instr → Bytes
-instruction_text names i = slots_text (slots_of (printed_as names i).form) (printed_as names i).filling
+instruction_text names i = slots_text (x86_slots (printed_as names i).form) (printed_as names i).filling
 
 -- ---- cells
 
 -- whether the instruction jumps to that of this number, and whether some instruction does
 abbrev pub jumps_to : ℕ → Instr → Bool
-jumps_to k i = option_map_or (λ to. to == k) (target_of (operation_of i)) false
+jumps_to k i = option_map_or (λ to. to == k) (target_of (x86_operation i)) false
 
 abbrev pub is_target : List Instr → ℕ → Bool
 is_target code k = list_any (jumps_to k) code

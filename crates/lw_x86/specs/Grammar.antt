@@ -4,7 +4,7 @@ use Rattle.lw_litmus.specs.Tests.{ProgramTest}
 use Rattle.lw_text.specs.Frames.{TestFrame}
 use Rattle.lw_cells.specs.Grammars.{Grammar}
 use Rattle.lw_cells.specs.Spellings.{Said, grammar_of}
-use Rattle.lw_cells.specs.Cells.{HasTest}
+use Rattle.lw_cells.specs.Cells.{FrameHasTest}
 use Rattle.lw_x86.specs.Spelling.{x86_spelling}
 
 -- the grammar of x86
@@ -13,4 +13,4 @@ x86_grammar = grammar_of x86_spelling
 
 -- The cells of the frame say the instructions of the test, on at most eight locations.
 abbrev pub HasProgram : TestFrame → ProgramTest → Type 0
-HasProgram = HasTest x86_grammar
+HasProgram = FrameHasTest x86_grammar

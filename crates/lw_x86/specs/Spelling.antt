@@ -17,25 +17,25 @@ use Rattle.lw_x86.specs.declared.language.X86Form.TheVariants.{Store, StoreNumbe
 use Rattle.lw_x86.specs.declared.language.X86Form.TheVariants.{ExchangeLast, LockedExchange, LockedExchangeLast, ExchangeAdd, Fence, JumpEqual, JumpNotEqual}
 use Rattle.lw_x86.specs.declared.language.X86Form.TheVariants.{Jump}
 
-abbrev pub text_of : X86Word → Bytes
-text_of word.Mov = codes "MOV"
-text_of word.Add = codes "ADD"
-text_of word.Cmp = codes "CMP"
-text_of word.Xchg = codes "XCHG"
-text_of word.Xadd = codes "XADD"
-text_of Lock = codes "LOCK"
-text_of word.Mfence = codes "MFENCE"
-text_of word.Je = codes "JE"
-text_of word.Jne = codes "JNE"
-text_of word.Jmp = codes "JMP"
-text_of Open = codes "["
-text_of Close = codes "]"
-text_of Comma = codes ","
-text_of Dollar = codes "$"
+abbrev pub x86_text : X86Word → Bytes
+x86_text word.Mov = codes "MOV"
+x86_text word.Add = codes "ADD"
+x86_text word.Cmp = codes "CMP"
+x86_text word.Xchg = codes "XCHG"
+x86_text word.Xadd = codes "XADD"
+x86_text Lock = codes "LOCK"
+x86_text word.Mfence = codes "MFENCE"
+x86_text word.Je = codes "JE"
+x86_text word.Jne = codes "JNE"
+x86_text word.Jmp = codes "JMP"
+x86_text Open = codes "["
+x86_text Close = codes "]"
+x86_text Comma = codes ","
+x86_text Dollar = codes "$"
 
 -- the forms of instructions
-abbrev pub forms : List X86Form
-forms =
+abbrev pub x86_forms : List X86Form
+x86_forms =
     Store ∷ StoreNumber ∷ Load ∷ Set
     ∷ SetNumber ∷ Add ∷ AddNumber ∷ Compare ∷ CompareNumber ∷ Exchange
     ∷ ExchangeLast ∷ LockedExchange
@@ -43,46 +43,46 @@ forms =
     ∷ JumpEqual ∷ JumpNotEqual ∷ Jump ∷ []
 
 -- A slot for each token of a form.
-abbrev pub slots_of : X86Form → List (Slot X86Word)
+abbrev pub x86_slots : X86Form → List (Slot X86Word)
 -- `MOV [x],a`
-slots_of Store = Word word.Mov ∷ Word Open ∷ Location ∷ Word Close ∷ Word Comma ∷ Value ∷ []
+x86_slots Store = Word word.Mov ∷ Word Open ∷ Location ∷ Word Close ∷ Word Comma ∷ Value ∷ []
 -- `MOV [x],$n`
-slots_of StoreNumber = Word word.Mov ∷ Word Open ∷ Location ∷ Word Close ∷ Word Comma ∷ Word Dollar ∷ Number ∷ []
+x86_slots StoreNumber = Word word.Mov ∷ Word Open ∷ Location ∷ Word Close ∷ Word Comma ∷ Word Dollar ∷ Number ∷ []
 -- `MOV d,[x]`
-slots_of Load = Word word.Mov ∷ Register ∷ Word Comma ∷ Word Open ∷ Location ∷ Word Close ∷ []
+x86_slots Load = Word word.Mov ∷ Register ∷ Word Comma ∷ Word Open ∷ Location ∷ Word Close ∷ []
 -- `MOV d,a`
-slots_of Set = Word word.Mov ∷ Register ∷ Word Comma ∷ Value ∷ []
+x86_slots Set = Word word.Mov ∷ Register ∷ Word Comma ∷ Value ∷ []
 -- `MOV d,$n`
-slots_of SetNumber = Word word.Mov ∷ Register ∷ Word Comma ∷ Word Dollar ∷ Number ∷ []
+x86_slots SetNumber = Word word.Mov ∷ Register ∷ Word Comma ∷ Word Dollar ∷ Number ∷ []
 -- `ADD d,a`
-slots_of Add = Word word.Add ∷ Register ∷ Word Comma ∷ Value ∷ []
+x86_slots Add = Word word.Add ∷ Register ∷ Word Comma ∷ Value ∷ []
 -- `ADD d,$n`
-slots_of AddNumber = Word word.Add ∷ Register ∷ Word Comma ∷ Word Dollar ∷ Number ∷ []
+x86_slots AddNumber = Word word.Add ∷ Register ∷ Word Comma ∷ Word Dollar ∷ Number ∷ []
 -- `CMP a,b`
-slots_of Compare = Word word.Cmp ∷ Register ∷ Word Comma ∷ Value ∷ []
+x86_slots Compare = Word word.Cmp ∷ Register ∷ Word Comma ∷ Value ∷ []
 -- `CMP a,$n`
-slots_of CompareNumber = Word word.Cmp ∷ Register ∷ Word Comma ∷ Word Dollar ∷ Number ∷ []
+x86_slots CompareNumber = Word word.Cmp ∷ Register ∷ Word Comma ∷ Word Dollar ∷ Number ∷ []
 -- `XCHG [x],a`
-slots_of Exchange = Word word.Xchg ∷ Word Open ∷ Location ∷ Word Close ∷ Word Comma ∷ Register ∷ []
+x86_slots Exchange = Word word.Xchg ∷ Word Open ∷ Location ∷ Word Close ∷ Word Comma ∷ Register ∷ []
 -- `XCHG a,[x]`
-slots_of ExchangeLast = Word word.Xchg ∷ Register ∷ Word Comma ∷ Word Open ∷ Location ∷ Word Close ∷ []
+x86_slots ExchangeLast = Word word.Xchg ∷ Register ∷ Word Comma ∷ Word Open ∷ Location ∷ Word Close ∷ []
 -- `LOCK XCHG [x],a`
-slots_of LockedExchange = Word Lock ∷ Word word.Xchg ∷ Word Open ∷ Location ∷ Word Close ∷ Word Comma ∷ Register ∷ []
+x86_slots LockedExchange = Word Lock ∷ Word word.Xchg ∷ Word Open ∷ Location ∷ Word Close ∷ Word Comma ∷ Register ∷ []
 -- `LOCK XCHG a,[x]`
-slots_of LockedExchangeLast = Word Lock ∷ Word word.Xchg ∷ Register ∷ Word Comma ∷ Word Open ∷ Location ∷ Word Close ∷ []
+x86_slots LockedExchangeLast = Word Lock ∷ Word word.Xchg ∷ Register ∷ Word Comma ∷ Word Open ∷ Location ∷ Word Close ∷ []
 -- `LOCK XADD [x],a`
-slots_of ExchangeAdd = Word Lock ∷ Word word.Xadd ∷ Word Open ∷ Location ∷ Word Close ∷ Word Comma ∷ Register ∷ []
+x86_slots ExchangeAdd = Word Lock ∷ Word word.Xadd ∷ Word Open ∷ Location ∷ Word Close ∷ Word Comma ∷ Register ∷ []
 -- `MFENCE`
-slots_of Fence = Word word.Mfence ∷ []
+x86_slots Fence = Word word.Mfence ∷ []
 -- `JE L`
-slots_of JumpEqual = Word word.Je ∷ Label ∷ []
+x86_slots JumpEqual = Word word.Je ∷ Label ∷ []
 -- `JNE L`
-slots_of JumpNotEqual = Word word.Jne ∷ Label ∷ []
+x86_slots JumpNotEqual = Word word.Jne ∷ Label ∷ []
 -- `JMP L`
-slots_of Jump = Word word.Jmp ∷ Label ∷ []
+x86_slots Jump = Word word.Jmp ∷ Label ∷ []
 
 -- the instruction of what the tokens give, on the location of a number, with a target
-abbrev pub instruction : ℕ → ℕ → (form : X86Form) → Filling (slots_of form) → Instr
+abbrev pub instruction : ℕ → ℕ → (form : X86Form) → Filling (x86_slots form) → Instr
 instruction x to Store (_, (_, (y, (_, (_, (v, _)))))) = instr.Store x v
 instruction x to StoreNumber (_, (_, (y, (_, (_, (_, (n, _))))))) = instr.Store x (operand.Number n)
 instruction x to Load (_, (d, (_, (_, (y, (_, _)))))) = instr.Load d x
@@ -105,8 +105,8 @@ instruction x to Jump (_, (l, _)) = instr.Jmp to
 abbrev pub x86_spelling : Spelling X86Word X86Form Instr
 x86_spelling = record {
   language = x86;
-  text_of = text_of;
-  forms = forms;
-  slots_of = slots_of;
+  text_of = x86_text;
+  forms = x86_forms;
+  slots_of = x86_slots;
   statement = instruction;
 }

@@ -5,7 +5,7 @@ ghost use Rattle.std.specs.String.{string_bytes};
 ghost use Rattle.lw_base.specs.Heads.{head_of};
 ghost use Rattle.lw_base.specs.WellFormed.{IsWellFormedHead};
 ghost use Rattle.lw_base.specs.declared.head.Seen.TheVariants as seen;
-ghost use Rattle.lw_base.specs.SeenLists.{registers_of, all_registers, locations};
+ghost use Rattle.lw_base.specs.SeenLists.{thread_registers, all_registers, locations};
 ghost use Rattle.lw_x86.specs.CanonicalTexts.{entry_text, register_entry, block_text};
 
 use lw_base::{Arch, Cpu, Head, Loc, Reg, reg_name};
@@ -47,7 +47,7 @@ fn write_registers_of<A: Allocator, B: Allocator>(
 ) -> Result<(), AllocError>
     requires { cpu < length head.now.init_regs }
     ensures { OnOk result (string_bytes out.new ≡ string_bytes out.old
-        ++ flat_map (register_entry (head_of head.now)) (registers_of cpu)) }
+        ++ flat_map (register_entry (head_of head.now)) (thread_registers cpu)) }
 {
     for reg in Reg::all() {
         write_register(out, head, cpu, reg)?;

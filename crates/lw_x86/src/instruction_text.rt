@@ -7,7 +7,7 @@ ghost use Rattle.lw_base.specs.declared.head.Arch.TheVariants.{X86};
 ghost use Rattle.lw_x86.specs.CanonicalTexts.{instruction_text};
 ghost use Rattle.lw_x86.specs.inner.OperandTexts.{operand_text, memory_text, with_operands};
 ghost use Rattle.lw_litmus.specs.Operations.{location_of};
-ghost use Rattle.lw_litmus.specs.Programs.{operation_of};
+ghost use Rattle.lw_litmus.specs.Programs.{x86_operation};
 
 use lw_base::{Arch, Loc, LocNames, Operand, Reg, reg_name};
 use lw_litmus::Instr;
@@ -19,7 +19,7 @@ pub(crate) fn write_instruction<A: Allocator, B: Allocator>(
     names: &LocNames<B>,
     instr: Instr,
 ) -> Result<(), AllocError>
-    requires { ForSome (location_of (operation_of instr)) (λ x. x < length names.now) }
+    requires { ForSome (location_of (x86_operation instr)) (λ x. x < length names.now) }
     ensures { OnOk result (string_bytes out.new ≡ string_bytes out.old ++ instruction_text names.now instr) }
 {
     match instr {

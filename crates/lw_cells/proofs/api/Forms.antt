@@ -7,7 +7,7 @@ use Rattle.std.proofs.lemmas.Bool.{and_parts, cases_lt}
 use Rattle.std.proofs.lemmas.Option.{same_Some, none-some}
 use Rattle.std.proofs.lemmas.List.Elements.{All-from_recursion}
 use Rattle.lw_base.specs.Names.{IsLocation}
-use Rattle.lw_base.specs.WellFormed.{IsRegisterNumber, IsWord}
+use Rattle.lw_base.specs.WellFormed.{IsRegisterNumber, IsWordNumber}
 use Rattle.lw_base.specs.Types.{Bytes, TokenList}
 use Rattle.lw_base.specs.declared.operand.Operand.TheVariants as operand
 use Rattle.lw_litmus.specs.WellFormed.{registers_of, numbers_of}
@@ -98,7 +98,7 @@ module _ {W Form Stmt : Type 0} (spelling : Spelling W Form Stmt) where
   registers_given (t ∷ ts) (Number ∷ slots) (n, f) h = registers_given ts slots f h.1
   registers_given (t ∷ ts) (Label ∷ slots) (l, f) h = registers_given ts slots f h.1
 
-  numbers_given : (ts : TokenList) (slots : List (Slot W)) (f : Filling slots) → Fills spelling ts slots f → AllByRecursion IsWord (numbers_in slots f)
+  numbers_given : (ts : TokenList) (slots : List (Slot W)) (f : Filling slots) → Fills spelling ts slots f → AllByRecursion IsWordNumber (numbers_in slots f)
   numbers_given [] [] f h = tt
   numbers_given [] (slot ∷ slots) f h = absurd h
   numbers_given (t ∷ ts) [] f h = absurd h
@@ -145,13 +145,13 @@ module _ {W Form Stmt : Type 0} (spelling : Spelling W Form Stmt) where
       led = λ x to s. (lawful.making x to s.form s.filling).led;
       registers = λ ts x to s says. All-from_recursion IsRegisterNumber
           (registers_of (spelling.language.operation_of (spelling.statement x to s.form s.filling))) (given ts x to s says).0;
-      numbers = λ ts x to s says. All-from_recursion IsWord (numbers_of (spelling.language.operation_of (spelling.statement x to s.form s.filling)))
+      numbers = λ ts x to s says. All-from_recursion IsWordNumber (numbers_of (spelling.language.operation_of (spelling.statement x to s.form s.filling)))
           (given ts x to s says).1;
     }
       where
         given : (ts : TokenList) (x to : ℕ) (s : Said spelling) → (grammar_of spelling).says ts s
             → AllByRecursion IsRegisterNumber (registers_of (spelling.language.operation_of (spelling.statement x to s.form s.filling)))
-            × AllByRecursion IsWord (numbers_of (spelling.language.operation_of (spelling.statement x to s.form s.filling)))
+            × AllByRecursion IsWordNumber (numbers_of (spelling.language.operation_of (spelling.statement x to s.form s.filling)))
         given ts x to s says =
             (lawful.making x to s.form s.filling).given
             (registers_given ts (spelling.slots_of s.form) s.filling says.1) (numbers_given ts (spelling.slots_of s.form) s.filling says.1)

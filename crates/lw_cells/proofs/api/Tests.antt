@@ -13,7 +13,7 @@ use Rattle.lw_litmus.specs.WellFormed.{IsWellFormed}
 use Rattle.lw_litmus.specs.Tests.{Test}
 use Rattle.lw_text.specs.Frames.{TestFrame}
 use Rattle.lw_cells.specs.Grammars.{Grammar, IsGrammar}
-use Rattle.lw_cells.specs.Cells.{CellSyntax, Column, statements, names_in, names_of, code_in, test_on, HasTest}
+use Rattle.lw_cells.specs.Cells.{CellSyntax, Column, statements, names_in, names_of, code_in, test_on, FrameHasTest}
 use Rattle.lw_cells.specs.Reading.{ColumnsRead}
 use Rattle.lw_cells.proofs.OneReading.{column_unique}
 use Rattle.lw_cells.proofs.api.Zips.{zip_unique}
@@ -33,7 +33,7 @@ names_right names [] all more = all
 names_right names (n ∷ ns) all more = names_right (with_name names n) ns (name_right names n all more.0) more.1
 
 module _ {Syntax Stmt : Type 0} (grammar : Grammar Syntax Stmt) (lawful : IsGrammar grammar) where
-  pub one_test : (frame : TestFrame) (s t : Test Stmt) → HasTest grammar frame s → HasTest grammar frame t → s ≡ t
+  pub one_test : (frame : TestFrame) (s t : Test Stmt) → FrameHasTest grammar frame s → FrameHasTest grammar frame t → s ≡ t
   one_test frame s t h k =
       let same = zip_unique (Column grammar) (column_unique grammar lawful) frame.cells h.threads k.threads h.says k.says in
       h.made ∙ ap (λ ts. test_on grammar frame.head (with_names frame.head.locs (names_of grammar ts)) ts) same ∙ sym k.made
@@ -49,7 +49,8 @@ module _ {Syntax Stmt : Type 0} (grammar : Grammar Syntax Stmt) (lawful : IsGram
         go None here rest = rest
         go (Some n) here rest = (here n refl, rest)
 
-    all_named : (columns : CellGrid) (ts : List (List (CellSyntax Syntax))) → AllZip (Column grammar) columns ts → AllByRecursion IsLocation (names_of grammar ts)
+    all_named : (columns : CellGrid) (ts : List (List (CellSyntax Syntax))) → AllZip (Column grammar) columns ts
+        → AllByRecursion IsLocation (names_of grammar ts)
     all_named [] [] says = tt
     all_named [] (t ∷ ts) says = absurd says
     all_named (c ∷ columns) [] says = absurd says
@@ -58,7 +59,7 @@ module _ {Syntax Stmt : Type 0} (grammar : Grammar Syntax Stmt) (lawful : IsGram
         (names_said (statements t) (column_said grammar lawful c t says.0.says)) (all_named columns ts says.1)
 
     pub well_formed_test : (frame : TestFrame) (test : Test Stmt) → IsWellFormedHead frame.head → length frame.cells ≡ frame.head.threads
-        → HasTest grammar frame test → IsWellFormed grammar.language test
+        → FrameHasTest grammar frame test → IsWellFormed grammar.language test
     well_formed_test frame test formed columns h =
         let names : NameTable = with_names frame.head.locs (names_of grammar h.threads) in
         let threads : List (List Stmt) = map (code_in grammar names) h.threads in

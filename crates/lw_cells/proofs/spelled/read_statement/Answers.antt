@@ -22,5 +22,6 @@ returns-in-Some-clause-fault g c =
 pub returns-in-Some-clause-cause : goal.returns-in-Some-clause-cause
 returns-in-Some-clause-cause g c =
     let r = rw c.in-Some.is at c.read_form.ensures in
-    IfErr-weaker c.draft.result _ _ (λ f none. statement_refused g.L.StatementReader.spelling c.args.phrase.now.tokens.now _ r.0 r.1 r.2 g.L.StatementReader.made c.requires.lawful _ _ f r.3 none)
+    IfErr-weaker c.draft.result _ _ (λ f none. statement_refused g.L.StatementReader.spelling c.args.phrase.now.tokens.now _ r.0 r.1 r.2
+    g.L.StatementReader.made c.requires.lawful _ _ f r.3 none)
     c.draft.ensures.fault
