@@ -10,7 +10,8 @@ use Rattle.lw_report.specs.States.{Shown, ListedState, shown_of}
 pub shown_counted : (states : List ListedState) → length (filter (λ (s : ListedState). s.holds) states) ≡ positive (map shown_of states)
 shown_counted [] = refl
 shown_counted (s ∷ states) =
-    elim s.holds as (λ (b : Bool). length (cond b (s ∷ filter (λ (t : ListedState). t.holds) states) (filter (λ (t : ListedState). t.holds) states)) ≡ length (cond b (shown_of s ∷ filter (λ (t : Shown). t.holds) (map shown_of states)) (filter (λ (t : Shown). t.holds) (map shown_of states))))
+    elim s.holds as (λ (b : Bool). length (cond b (s ∷ filter (λ (t : ListedState). t.holds) states) (filter (λ (t : ListedState). t.holds) states)) ≡
+    length (cond b (shown_of s ∷ filter (λ (t : Shown). t.holds) (map shown_of states)) (filter (λ (t : Shown). t.holds) (map shown_of states))))
     [ true ↦ ap (λ (n : ℕ). suc n) (shown_counted states) | false ↦ shown_counted states ]
 
 -- the others

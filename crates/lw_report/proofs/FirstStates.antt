@@ -1,5 +1,6 @@
 -- Of states in order, the first of those with the same words.
-use Rattle.std.proofs.Common.{◌≡◌, ℕ, ◌-◌, ◌<◌, ◌≤◌, ◌⊎◌, inl, inr, true, false, List, [], ◌∷◌, ◌++◌, length, get_or, refl, sym, ap, ◌∙◌, subst, arith, append_assoc, length-append}
+use Rattle.std.proofs.Common.{◌≡◌, ℕ, ◌-◌, ◌<◌, ◌≤◌, ◌⊎◌, inl, inr, true, false, List, [], ◌∷◌, ◌++◌, length, get_or, refl, sym, ap, ◌∙◌, subst, arith}
+use Rattle.std.proofs.Common.{append_assoc, length-append}
 use Rattle.std.specs.Prelude.{All, Contains, Option, None, Some, slice_get, nat_eq}
 use Rattle.std.specs.Cmp.Lexicographic.{slice_cmp, same_text, other_text}
 use Rattle.std.specs.Cmp.{IsTotalOrder, bool_cmp_total}
@@ -52,7 +53,8 @@ all_before : (done : List ListedState) (x : ListedState) (rest : List ListedStat
 all_before done x rest up k d lt =
     let within : length done < length (done ++ x ∷ rest) = omega (arith, length-append done (x ∷ rest)) in
     let far : is_lt (state_cmp (get_or (done ++ x ∷ rest) (length done) d) (get_or (done ++ x ∷ rest) k d)) ≡ false =
-    sorted_far (λ s t. is_lt (state_cmp s t)) (ranks_by state_cmp_total (λ (s : ListedState). s)) (done ++ x ∷ rest) up k (length done) d (omega (arith, lt)) within in
+    sorted_far (λ s t. is_lt (state_cmp s t)) (ranks_by state_cmp_total (λ (s : ListedState). s)) (done ++ x ∷ rest) up k (length done) d
+    (omega (arith, lt)) within in
     not_above (get_or done k d) x (rw (get_or-append_seam done x rest d, get_or_append_left done (x ∷ rest) d k lt) at far)
 
 smaller_entry : (s t : ListedState) → NotAbove s t → t.words ≡ s.words → s.entry ≤ t.entry
@@ -88,7 +90,8 @@ module _ (done states : List ListedState) (x : ListedState) (firsts : AreFirstSt
       elim (Contains-push_cases done x t h) [
         | inl there ↦ firsts.smallest k d lt t there e
         | inr is ↦
-            let le : s.entry ≤ x.entry = smaller_entry s x (All-contains (λ y. NotAbove y x) done s before (firsts.among k d lt)) (ap (λ (y : ListedState). y.words) is ∙ e) in
+            let le : s.entry ≤ x.entry = smaller_entry s x (All-contains (λ y. NotAbove y x) done s before (firsts.among k d lt))
+            (ap (λ (y : ListedState). y.words) is ∙ e) in
             subst (λ (y : ListedState). s.entry ≤ y.entry) is le
       ]
 
@@ -107,8 +110,10 @@ module _ (done states : List ListedState) (x : ListedState) (firsts : AreFirstSt
     all_below : All (λ (s : ListedState). slice_cmp nat_cmp s.words x.words ≡ Less) states
     all_below k d lt =
         elim (cases_lt k (length states - 1)) [
-          | inl before_last ↦ nat_list_cmp_total.trans (get_or states k d).words last.words x.words (firsts.sorted k (length states - 1) d before_last within) last_below
-          | inr le ↦ let at : length states - 1 ≡ k = omega (arith, lt, le) in subst (λ (j : ℕ). slice_cmp nat_cmp (get_or states j d).words x.words ≡ Less) at last_below
+          | inl before_last ↦ nat_list_cmp_total.trans (get_or states k d).words last.words x.words
+              (firsts.sorted k (length states - 1) d before_last within) last_below
+          | inr le ↦ let at : length states - 1 ≡ k = omega (arith, lt, le) in subst
+              (λ (j : ℕ). slice_cmp nat_cmp (get_or states j d).words x.words ≡ Less) at last_below
         ]
       where
         within : length states - 1 < length states
@@ -128,7 +133,8 @@ module _ (done states : List ListedState) (x : ListedState) (firsts : AreFirstSt
     first_added = record {
       sorted = all_pairs_push (λ (first later : ListedState). slice_cmp nat_cmp first.words later.words ≡ Less) states x firsts.sorted all_below;
       among = All-push (λ s. Contains (done ++ x ∷ []) s) states x among_more (Contains-push done x);
-      smallest = All-push (λ (s : ListedState). (t : ListedState) → Contains (done ++ x ∷ []) t → t.words ≡ s.words → s.entry ≤ t.entry) states x smallest_more itself;
+      smallest = All-push (λ (s : ListedState). (t : ListedState) → Contains (done ++ x ∷ []) t → t.words ≡ s.words → s.entry ≤ t.entry) states x
+          smallest_more itself;
       each = λ t h. elim (Contains-push_cases done x t h) [
         | inl there ↦ let s = firsts.each t there in (s.0, Contains-append_left states (x ∷ []) s.0 s.1, s.2)
         | inr is ↦ (x, Contains-push states x, ap (λ (y : ListedState). y.words) is)
@@ -164,7 +170,8 @@ thinned_none all = record {
   };
 }
 
-pub thinned_more : (all rest states after : List ListedState) (x : ListedState) → IsSorted state_cmp all → Thinned all (x ∷ rest) states → (LastHas states x.words → after ≡ states) → ((LastHas states x.words → ⊥) → after ≡ states ++ x ∷ []) → Thinned all rest after
+pub thinned_more : (all rest states after : List ListedState) (x : ListedState) → IsSorted state_cmp all → Thinned all (x ∷ rest) states
+    → (LastHas states x.words → after ≡ states) → ((LastHas states x.words → ⊥) → after ≡ states ++ x ∷ []) → Thinned all rest after
 thinned_more all rest states after x up t known added =
     record { done = t.done ++ x ∷ []; seam = append_assoc t.done (x ∷ []) rest ∙ t.seam; firsts = next (last_cases states x.words) }
   where

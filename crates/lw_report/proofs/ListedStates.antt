@@ -13,7 +13,7 @@ use Rattle.std.proofs.lemmas.Option.{same_Some, slice_get_within, slice_get-get_
 use Rattle.lw_base.specs.Heads.{TestHead}
 use Rattle.lw_base.specs.Outcomes.{Final, IsOutcomeOf}
 use Rattle.lw_base.specs.WellFormed.{SpeaksOf}
-use Rattle.lw_listing.specs.Listings.{Entries, outcomes_of}
+use Rattle.lw_listing.specs.Listings.{OutcomeEntries, outcomes_of}
 use Rattle.lw_report.specs.inner.Gathered.{state_at, Shows, AreStatesOfFirst, AreFirstStates}
 use Rattle.lw_report.specs.Observed.{projected}
 use Rattle.lw_report.specs.States.{Shown, ListedState, shown, shown_of, ShowsFirst, AreListedStates}
@@ -22,7 +22,9 @@ use Rattle.lw_report.proofs.Truths.{words_agree}
 
 -- ---- the outcomes of entries
 
-pub outcome_of_entry : (head : TestHead) (entries : Entries) (k : ℕ) (o : Final) → All (IsOutcomeOf head.threads (length head.locs)) (outcomes_of entries) → slice_get (outcomes_of entries) k ≡ Some o → IsOutcomeOf head.threads (length head.locs) o
+pub outcome_of_entry : (head : TestHead) (entries : OutcomeEntries) (k : ℕ) (o : Final)
+    → All (IsOutcomeOf head.threads (length head.locs)) (outcomes_of entries) → slice_get (outcomes_of entries) k ≡ Some o
+    → IsOutcomeOf head.threads (length head.locs) o
 outcome_of_entry head entries k o each at =
     let P : Final → Type 0 = IsOutcomeOf head.threads (length head.locs) in
     subst P (get_or_from_slice_get (outcomes_of entries) k o o at) (All-get_or P (outcomes_of entries) k o (slice_get_within (outcomes_of entries) k o at) each)
@@ -33,8 +35,10 @@ module _ (head : TestHead) (outcomes : List Final) where
   pub states_none : AreStatesOfFirst head outcomes 0 []
   states_none = record { shows = λ k d lt. absurd (omega (arith, lt)); each = λ i o lt e. absurd (omega (arith, lt)) }
 
-  pub states_more : (count : ℕ) (states after : List ListedState) (o : Final) → AreStatesOfFirst head outcomes count states → slice_get outcomes count ≡ Some o → after ≡ states ++ state_at head count o ∷ [] → AreStatesOfFirst head outcomes (count + 1) after
-  states_more count states after o are at e = subst (AreStatesOfFirst head outcomes (count + 1)) (sym e) (record { shows = All-push (Shows head outcomes) states x are.shows (record { outcome = o; at = at; shows = refl }); each = found })
+  pub states_more : (count : ℕ) (states after : List ListedState) (o : Final) → AreStatesOfFirst head outcomes count states
+      → slice_get outcomes count ≡ Some o → after ≡ states ++ state_at head count o ∷ [] → AreStatesOfFirst head outcomes (count + 1) after
+  states_more count states after o are at e = subst (AreStatesOfFirst head outcomes (count + 1)) (sym e)
+      (record { shows = All-push (Shows head outcomes) states x are.shows (record { outcome = o; at = at; shows = refl }); each = found })
     where
       x : ListedState
       x = state_at head count o
@@ -49,7 +53,8 @@ module _ (head : TestHead) (outcomes : List Final) where
             subst (Contains (states ++ state_at head count o ∷ [])) whole (Contains-push states (state_at head count o))
       ]
 
-  pub states_in_order : (count : ℕ) (states sorted : List ListedState) → IsPermutation states sorted → AreStatesOfFirst head outcomes count states → AreStatesOfFirst head outcomes count sorted
+  pub states_in_order : (count : ℕ) (states sorted : List ListedState) → IsPermutation states sorted → AreStatesOfFirst head outcomes count states
+      → AreStatesOfFirst head outcomes count sorted
   states_in_order count states sorted p are = record {
     shows = All-permutation (Shows head outcomes) states sorted p are.shows;
     each = λ i o lt e. Contains-permutation states sorted (state_at head i o) p (are.each i o lt e);
@@ -69,7 +74,8 @@ module _ (states : List ListedState) where
       let within : h.0 < length states = omega (arith, h.1, length-map states shown_of) in
       (get_or states h.0 d, Contains-get_or states h.0 d within, sym (get_or-map shown_of states h.0 d s within) ∙ h.2)
 
-  shown_in_order : AllPairs (λ (first later : ListedState). slice_cmp nat_cmp first.words later.words ≡ Less) states → AllPairs (λ (first later : Shown). slice_cmp nat_cmp first.words later.words ≡ Less) (map shown_of states)
+  shown_in_order : AllPairs (λ (first later : ListedState). slice_cmp nat_cmp first.words later.words ≡ Less) states
+      → AllPairs (λ (first later : Shown). slice_cmp nat_cmp first.words later.words ≡ Less) (map shown_of states)
   shown_in_order up i j d less lt =
       let e : ListedState = record { words = d.words; entry = 0; holds = d.holds } in
       let within : j < length states = omega (arith, lt, length-map states shown_of) in
@@ -78,13 +84,15 @@ module _ (states : List ListedState) where
 
 -- ---- the first of each
 
-module _ (head : TestHead) (outcomes : List Final) (all states : List ListedState) (speaks : SpeaksOf head.threads (length head.locs) head.condition) (are : AreStatesOfFirst head outcomes (length outcomes) all) (firsts : AreFirstStates all states) where
+module _ (head : TestHead) (outcomes : List Final) (all states : List ListedState) (speaks : SpeaksOf head.threads (length head.locs) head.condition)
+    (are : AreStatesOfFirst head outcomes (length outcomes) all) (firsts : AreFirstStates all states) where
   each_there : (o : Final) → Contains outcomes o → Contains (map shown_of states) (shown head o)
   each_there o h =
       let at : slice_get outcomes h.0 ≡ Some o = slice_get-get_or outcomes h.0 o h.1 ∙ ap Some h.2 in
       let found = firsts.each (state_at head h.0 o) (are.each h.0 o h.1 at) in
       let s : ListedState = found.0 in
-      let from : Shows head outcomes s = All-contains (Shows head outcomes) all s are.shows (All-contains (λ t. Contains all t) states s firsts.among found.1) in
+      let from : Shows head outcomes s = All-contains (Shows head outcomes) all s are.shows
+      (All-contains (λ t. Contains all t) states s firsts.among found.1) in
       let words : projected head from.outcome ≡ projected head o = ap (λ (t : Shown). t.words) from.shows ∙ found.2 in
       let truth : is_true head.condition from.outcome ≡ is_true head.condition o = words_agree head from.outcome o speaks words in
       let same : shown head from.outcome ≡ shown head o = cc in
@@ -96,8 +104,16 @@ module _ (head : TestHead) (outcomes : List Final) (all states : List ListedStat
   from_outcome : (s : Shown) → Contains (map shown_of states) s → (o : Final) × Contains outcomes o × (shown head o ≡ s)
   from_outcome s h =
       let found = there_of_shown states s h in
-      let from : Shows head outcomes found.0 = shows_of found.0 found.1 in
-      (from.outcome, (found.0.entry, slice_get_within outcomes found.0.entry from.outcome from.at, get_or_from_slice_get outcomes found.0.entry from.outcome from.outcome from.at), from.shows ∙ found.2)
+      let from : Shows head outcomes found.0 = shows_of found.0 found.1 in (
+        from.outcome,
+        (
+          found.0.entry,
+          slice_get_within outcomes found.0.entry from.outcome from.at,
+          get_or_from_slice_get outcomes found.0.entry
+              from.outcome from.outcome from.at,
+        ),
+        from.shows ∙ found.2,
+      )
 
   shows_first : All (ShowsFirst head outcomes) states
   shows_first k d lt =

@@ -61,7 +61,11 @@ module _ (head : TestHead) (Has : Final → Type 0) (states : List Shown) (are :
   meant (inl no_true) (inr some_false) = record {
     exists_some = rw no_true.0 (λ e. absurd cc, λ s. absurd (let t = s.2 in let f = no_true.1 s.0 s.1 in cc));
     exists_none = rw no_true.0 (λ e. no_true.1, λ f. refl);
-    all = rw some_false.0 (λ e. absurd cc, λ f. absurd (let t = f some_false.1.0 some_false.1.1 in let u = not_true (is_true head.condition some_false.1.0) some_false.1.2 in cc));
+    all = rw some_false.0 (
+      λ e. absurd cc,
+      λ f. absurd (let t = f some_false.1.0 some_false.1.1 in let u = not_true
+          (is_true head.condition some_false.1.0) some_false.1.2 in cc),
+    );
   }
   meant (inr some_true) (inl no_false) = record {
     exists_some = rw some_true.0 (λ e. some_true.1, λ s. refl);
@@ -71,7 +75,11 @@ module _ (head : TestHead) (Has : Final → Type 0) (states : List Shown) (are :
   meant (inr some_true) (inr some_false) = record {
     exists_some = rw some_true.0 (λ e. some_true.1, λ s. refl);
     exists_none = rw some_true.0 (λ e. absurd cc, λ f. absurd (let t = f some_true.1.0 some_true.1.1 in let u = some_true.1.2 in cc));
-    all = rw some_false.0 (λ e. absurd cc, λ f. absurd (let t = f some_false.1.0 some_false.1.1 in let u = not_true (is_true head.condition some_false.1.0) some_false.1.2 in cc));
+    all = rw some_false.0 (
+      λ e. absurd cc,
+      λ f. absurd (let t = f some_false.1.0 some_false.1.1 in let u = not_true
+          (is_true head.condition some_false.1.0) some_false.1.2 in cc),
+    );
   }
 
   pub means_of_all : MeansOfAll head Has (positive states) (negative states)

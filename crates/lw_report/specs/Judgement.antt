@@ -13,8 +13,7 @@ use Rattle.lw_report.specs.declared.judgement.Verdict.TheVariants as verdict
 use Rattle.lw_report.specs.declared.judgement.Observation.{Observation}
 use Rattle.lw_report.specs.declared.judgement.Observation.TheVariants as seen
 
--- the states that make the proposition true, and the others
-abbrev pub positive : List Shown → ℕ
+abbrev pub positive : List Shown → ℕ  -- the states that make the proposition true, and the others
 positive states = length (filter (λ (s : Shown). s.holds) states)
 
 abbrev pub negative : List Shown → ℕ

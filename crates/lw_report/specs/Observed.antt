@@ -9,8 +9,7 @@ use Rattle.lw_base.specs.declared.head.Seen.TheVariants.{Register, Location}
 use Rattle.lw_base.specs.SeenLists.{same_seen, all_registers, locations}
 use Rattle.lw_report.specs.Truth.{final_word}
 
--- whether a proposition names a register or a location
-abbrev pub is_named : Formula → Seen → Bool
+abbrev pub is_named : Formula → Seen → Bool  -- whether a proposition names a register or a location
 is_named Yes s = false
 is_named No s = false
 is_named (Reg_is t r n) s = same_seen (Register t r) s
@@ -22,10 +21,8 @@ is_named (Or p q) s = is_named p s || is_named q s
 abbrev pub is_observed : TestHead → Seen → Bool
 is_observed head s = is_named head.condition s || list_any (λ l. same_seen l s) head.listed
 
--- the observed names: registers by thread and number, then locations by number
-abbrev pub observed : TestHead → List Seen
+abbrev pub observed : TestHead → List Seen  -- the observed names: registers by thread and number, then locations by number
 observed head = filter (is_observed head) (all_registers head.threads ++ locations (length head.locs))
 
--- an outcome's words of the observed names
-abbrev pub projected : TestHead → Final → List ℕ
+abbrev pub projected : TestHead → Final → List ℕ  -- an outcome's words of the observed names
 projected head o = map (final_word o) (observed head)

@@ -25,16 +25,13 @@ use Rattle.lw_report.specs.declared.judgement.Observation.TheVariants as seen
 
 -- ---- states
 
--- `name=word;`
-abbrev pub word_text : TestHead → (Seen × ℕ) → Bytes
+abbrev pub word_text : TestHead → (Seen × ℕ) → Bytes  -- `name=word;`
 word_text head seen = assignment (site_text head.arch head.locs seen.0) seen.1 ++ codes ";"
 
--- a state's line: the observed names with their words
-abbrev pub state_line : TestHead → List ℕ → Bytes
+abbrev pub state_line : TestHead → List ℕ → Bytes  -- a state's line: the observed names with their words
 state_line head words = joined (codes " ") (map (word_text head) (zip (observed head) words)) ++ codes "\n"
 
--- how many states there are
-abbrev pub count_line : ℕ → Bytes
+abbrev pub count_line : ℕ → Bytes  -- how many states there are
 count_line states = codes "States " ++ (decimal states ++ codes "\n")
 
 -- ---- the report
@@ -55,8 +52,7 @@ observation_text seen.Sometimes = codes "Sometimes"
 observation_text seen.Always = codes "Always"
 observation_text seen.Unknown = codes "Unknown"
 
--- `Test`, the name, and what the condition says of the states where its proposition is true
-abbrev pub title_line : TestHead → Bytes
+abbrev pub title_line : TestHead → Bytes  -- `Test`, the name, and what the condition says of the states where its proposition is true
 title_line head = codes "Test " ++ (head.name ++ (codes " " ++ (kind_text head.quant ++ codes "\n")))
 
 abbrev pub verdict_line : Claim → Quant → ℕ → ℕ → Bytes
@@ -73,8 +69,7 @@ observation_line head claim p q =
     codes "Observation " ++ (head.name ++ (codes " " ++ (observation_text (observation_of claim p q)
     ++ (codes " " ++ (decimal p ++ (codes " " ++ (decimal q ++ codes "\n")))))))
 
--- of states that may not be all
-abbrev pub claim_line : Claim → Bytes
+abbrev pub claim_line : Claim → Bytes  -- of states that may not be all
 claim_line Exact = []
 claim_line Listed = codes "Listed, not claimed complete\n"
 
@@ -93,16 +88,14 @@ report_text head claim states =
     ++ (flat_map (λ (s : Shown). state_line head s.words) states
     ++ judgement_lines head claim (positive states) (negative states)))
 
--- The report of a set of outcomes.
-pub record IsReport (head : TestHead) (Has : Final → Type 0) (claim : Claim) (text : Bytes) : Type 0 where
+pub record IsReport (head : TestHead) (Has : Final → Type 0) (claim : Claim) (text : Bytes) : Type 0 where  -- The report of a set of outcomes.
   pub states : List Shown
   pub are : AreStatesOf head Has states
   pub is : text ≡ report_text head claim states
 
 -- ---- the list of schedules
 
--- a state's line, and behind a space its schedule
-abbrev pub scheduled_lines : TestHead → (Shown × List Event) → Bytes
+abbrev pub scheduled_lines : TestHead → (Shown × List Event) → Bytes  -- a state's line, and behind a space its schedule
 scheduled_lines head s = state_line head s.0.words ++ (codes " " ++ (schedule_text head.locs s.1 ++ codes "\n"))
 
 abbrev pub schedule_list_text : TestHead → List (Shown × List Event) → Bytes

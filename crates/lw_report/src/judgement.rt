@@ -39,7 +39,7 @@ pub enum Observation {
 }
 
 /// How many states make a test's proposition true, and how many do not.
-#[derive(Clone, Copy, Debug, PartialEq, Eq)]
+#[derive(Clone, Copy)]
 pub(crate) struct Counts {
     pub positive: usize,
     pub negative: usize,

@@ -6,7 +6,7 @@ ghost use Rattle.lw_base.specs.Limits.{most_threads};
 ghost use Rattle.lw_base.specs.Outcomes.{IsOutcomeOf};
 ghost use Rattle.lw_base.specs.Propositions.{formula_of};
 ghost use Rattle.lw_base.specs.WellFormed.{IsSeen};
-ghost use Rattle.lw_base.specs.SeenLists.{same_seen, registers_of, locations};
+ghost use Rattle.lw_base.specs.SeenLists.{same_seen, thread_registers, locations};
 ghost use Rattle.lw_report.specs.Observed as specs;
 ghost use Rattle.lw_report.specs.Observed.{is_observed, projected};
 ghost use Rattle.lw_report.specs.Truth.{final_word};
@@ -54,7 +54,7 @@ fn push_registers<A: Allocator, B: Allocator>(
     head: &Head<B>,
     cpu: Cpu,
 ) -> Result<(), AllocFailed<Seen>>
-    ensures { OnOk result (names.new ≡ names.old ++ filter (is_observed (head_of head.now)) (registers_of cpu)) }
+    ensures { OnOk result (names.new ≡ names.old ++ filter (is_observed (head_of head.now)) (thread_registers cpu)) }
 {
     for reg in &Reg::all() {
         push_observed(names, head, Seen::Register(cpu, *reg))?;
@@ -93,13 +93,7 @@ fn push_observed<A: Allocator, B: Allocator>(
 fn is_observed<A: Allocator>(head: &Head<A>, name: &Seen) -> bool
     ensures { result ≡ specs.is_observed (head_of head.now) name.now }
 {
-    is_named(&head.prop, name) || is_listed(head.listed.as_slice(), name)
-}
-
-fn is_listed(listed: &[Seen], name: &Seen) -> bool
-    ensures { result ≡ list_any (λ l. same_seen l name.now) listed.now }
-{
-    listed.iter().any(|each| is_same(each, name))
+    is_named(&head.prop, name) || head.listed.as_slice().contains(name)
 }
 
 /// Whether a proposition names a register or a location.
@@ -108,28 +102,11 @@ fn is_named<A: Allocator>(prop: &Prop<A>, name: &Seen) -> bool
 {
     match prop {
         Prop::Always | Prop::Never => false,
-        Prop::RegIs(cpu, reg, _) => is_same(&Seen::Register(*cpu, *reg), name),
-        Prop::WordIs(loc, _) => is_same(&Seen::Location(*loc), name),
+        Prop::RegIs(cpu, reg, _) => Seen::Register(*cpu, *reg) == *name,
+        Prop::WordIs(loc, _) => Seen::Location(*loc) == *name,
         Prop::Neg(part) => is_named(part, name),
         Prop::Both(left, right) => is_named(left, name) || is_named(right, name),
         Prop::Either(left, right) => is_named(left, name) || is_named(right, name),
-    }
-}
-
-fn is_same(left: &Seen, right: &Seen) -> bool
-    ensures { result ≡ same_seen left.now right.now }
-{
-    match left {
-        Seen::Register(cpu, reg) => match right {
-            Seen::Register(other_cpu, other_reg) => {
-                cpu.index() == other_cpu.index() && reg.index() == other_reg.index()
-            }
-            Seen::Location(_) => false,
-        },
-        Seen::Location(loc) => match right {
-            Seen::Register(_, _) => false,
-            Seen::Location(other) => loc.index() == other.index(),
-        },
     }
 }
 

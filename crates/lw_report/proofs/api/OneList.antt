@@ -53,7 +53,8 @@ module _ {X : Type 0} (R : X → X → Type 0) (strict : (x y : X) → R x y →
         | inr k ↦ k
       ]
 
-  pub one_list : (xs ys : List X) → AllPairs R xs → AllPairs R ys → ((s : X) → Contains xs s → Contains ys s) → ((s : X) → Contains ys s → Contains xs s) → xs ≡ ys
+  pub one_list : (xs ys : List X) → AllPairs R xs → AllPairs R ys → ((s : X) → Contains xs s → Contains ys s)
+      → ((s : X) → Contains ys s → Contains xs s) → xs ≡ ys
   one_list [] [] up above h k = refl
   one_list [] (y ∷ ys) up above h k = absurd (none_in_empty y (k y (at_front y ys)))
   one_list (x ∷ xs) [] up above h k = absurd (none_in_empty x (h x (at_front x xs)))
@@ -67,7 +68,8 @@ module _ {X : Type 0} (R : X → X → Type 0) (strict : (x y : X) → R x y →
       fronts : (y ≡ x) ⊎ Contains ys x → (x ≡ y) ⊎ Contains xs y → x ≡ y
       fronts (inl e) there = sym e
       fronts (inr here) (inl e) = e
-      fronts (inr here) (inr there) = absurd (strict x y (All-contains (R x) xs y (from_front R x xs up) there) (All-contains (R y) ys x (from_front R y ys above) here))
+      fronts (inr here) (inr there) = absurd (strict x y (All-contains (R x) xs y (from_front R x xs up) there)
+          (All-contains (R y) ys x (from_front R y ys above) here))
 
 -- ---- states
 

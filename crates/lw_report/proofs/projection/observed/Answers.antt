@@ -1,11 +1,20 @@
-use Rattle.std.proofs.Common.{◌≡◌, arith}
-use Rattle.std.proofs.lemmas.Grind.{common_steps}
 use Rattle.lw_base.specs.Heads.{head_of}
-use Rattle.lw_report.specs.Observed as specs
-use Rattle.lw_report.proofs.Names.{all_there}
+use Rattle.lw_report.specs.Observed.{is_observed}
+use Rattle.lw_report.proofs.Names.{all_there, registers_more, observed_all}
 use Rattle.lw_report.proofs.projection.observed.Goals as goal
 
+pub loop-cpu-init : goal.loop-cpu-init
+loop-cpu-init g c = c.new-names.ensures
+
+pub loop-cpu-preserved : goal.loop-cpu-preserved
+loop-cpu-preserved g c =
+    registers_more (is_observed (head_of c.args.head.now)) c.loop-cpu.cpu-index c.cpu-item.result c.all.result c.args.head.now.threads c.loop-cpu.names
+    c.push_registers.new.names c.all.ensures c.loop-cpu-test.true c.cpu-item.is c.loop-cpu.invariant c.in_ok-push_registers.ensures
+
+pub returns-clause-names : goal.returns-clause-names
+returns-clause-names g c =
+    observed_all (head_of c.args.head.now) c.loop-cpu.cpu-index c.all.result c.loop-cpu.names c.push_locations.new.names c.requires c.all.ensures
+    c.loop-cpu.auto.cpu-index-end c.loop-cpu-test.false c.loop-cpu.invariant c.in_ok-push_locations.ensures
+
 pub returns-clause-there : goal.returns-clause-there
-returns-clause-there g c =
-    let whole : c.push_locations.new.names ≡ specs.observed (head_of c.args.head.now) = grind (arith, common_steps) in
-    all_there (head_of c.args.head.now) c.push_locations.new.names whole
+returns-clause-there g c = all_there (head_of c.args.head.now) c.push_locations.new.names (returns-clause-names g c)

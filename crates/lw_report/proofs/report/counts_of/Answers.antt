@@ -9,7 +9,8 @@ use Rattle.lw_report.proofs.report.counts_of.Goals as goal
 pub returns-clause-positive : goal.returns-clause-positive
 returns-clause-positive g c =
     let counted : c.count-positive.result ≡ length (filter (λ (s : ListedState). s.holds) c.args.states.now) =
-    count_from_yields_List _ _ c.count-positive.ensures.ran (YieldsList-from_filter _ (λ (s : ListedState). s.holds) (YieldsList-from_slice c.args.states.now cc) c.filter.ensures.closure (λ x b q k. search (rules, tests))) in
+    count_from_yields_List _ _ c.count-positive.ensures.ran (YieldsList-from_filter _ (λ (s : ListedState). s.holds)
+    (YieldsList-from_slice c.args.states.now cc) c.filter.ensures.closure (λ x b q k. search (rules, tests))) in
     counted ∙ shown_counted c.args.states.now
 
 pub returns-clause-negative : goal.returns-clause-negative

@@ -8,5 +8,8 @@ use Rattle.lw_report.proofs.report.write_states.Goals as goal
 
 pub loop-state-preserved : goal.loop-state-preserved
 loop-state-preserved g c =
-    let written = state_written (head_of c.args.head.now) c.as_slice.result.now c.as_slice-in-loop-state.result.now c.state-item.result.words _ _ c.in_ok-write_state.ensures (c.as_slice.ensures ∙ c.in_ok-labels.ensures) (c.as_slice-in-loop-state.ensures ∙ ap (λ (s : ListedState). s.words) c.state.view_is) in
-    items_more (λ (s : ListedState). state_line (head_of c.args.head.now) s.words) c.args.states.now c.loop-state.state-index _ _ c.loop-state.invariant _ _ c.loop-state-test.true c.state-item.is written
+    let written = state_written (head_of c.args.head.now) c.as_slice.result.now c.as_slice-in-loop-state.result.now c.state-item.result.words _ _
+    c.in_ok-write_state.ensures (c.as_slice.ensures ∙ c.in_ok-labels.ensures)
+    (c.as_slice-in-loop-state.ensures ∙ ap (λ (s : ListedState). s.words) c.state.view_is) in
+    items_more (λ (s : ListedState). state_line (head_of c.args.head.now) s.words) c.args.states.now c.loop-state.state-index _ _ c.loop-state.invariant
+    _ _ c.loop-state-test.true c.state-item.is written

@@ -12,5 +12,6 @@ write_schedule-requires g c =
 pub returns : goal.returns
 returns g c =
     written_as c.writeln.result _ _ _ _
-    (schedule_told c.args.head.now.locs (schedules_of c.args.listing.now) c.args.entry c.schedule.result.now c.as_str.result.now c.schedule.ensures (c.as_str.ensures ∙ c.in_ok-schedule.ensures))
+    (schedule_told c.args.head.now.locs (schedules_of c.args.listing.now) c.args.entry c.schedule.result.now c.as_str.result.now c.schedule.ensures
+    (c.as_str.ensures ∙ c.in_ok-schedule.ensures))
     c.writeln.ensures.bytes

@@ -1,0 +1,20 @@
+use Rattle.std.proofs.Common.{refl, sym}
+use Rattle.std.proofs.lemmas.List.{append-nil}
+use Rattle.lw_base.specs.Heads.{head_of}
+use Rattle.lw_base.specs.declared.head.Seen.TheVariants.{Register}
+use Rattle.lw_report.specs.Observed.{is_observed}
+use Rattle.lw_report.proofs.Names.{put_more, put_all}
+use Rattle.lw_report.proofs.projection.push_registers.Goals as goal
+
+pub loop-reg-init : goal.loop-reg-init
+loop-reg-init g c = sym (append-nil c.args.names.now)
+
+pub loop-reg-preserved : goal.loop-reg-preserved
+loop-reg-preserved g c =
+    put_more (is_observed (head_of c.args.head.now)) (λ r. Register c.args.cpu r) c.loop-reg.reg-index c.args.names.now c.loop-reg.names
+    c.loop-reg.invariant 6 c.all.result _ c.reg-item.result c.push_observed.new.names c.all.ensures c.loop-reg-test.true refl c.in_ok-push_observed.ensures
+
+pub returns : goal.returns
+returns g c = put_all (is_observed (head_of c.args.head.now))
+    (λ r. Register c.args.cpu r) c.loop-reg.reg-index c.args.names.now c.loop-reg.names c.loop-reg.invariant 6 c.loop-reg.auto.reg-index-end
+    c.loop-reg-test.false
