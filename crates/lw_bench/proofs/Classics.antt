@@ -1,5 +1,6 @@
 -- The outcomes of the classic tests, by searches through their runs.
-use Rattle.std.proofs.Common.{◌≡◌, ℕ, zero, suc, ◌^◌, ◌<◌, ◌≤◌, ◌==◌, not, Bool, true, false, List, [], ◌∷◌, refl, sym, ap, ◌∙◌, subst, arith, slice_index, length, None, Some, slice_get}
+use Rattle.std.proofs.Common.{◌≡◌, ℕ, zero, suc, ◌^◌, ◌<◌, ◌≤◌, ◌==◌, not, Bool, true, false, List, [], ◌∷◌, refl, sym, ap, ◌∙◌, subst, arith, slice_index}
+use Rattle.std.proofs.Common.{length, None, Some, slice_get}
 use Rattle.std.specs.Char.{is_ascii_digit}
 use Rattle.std.specs.List.{AllByRecursion}
 use Rattle.std.specs.Prelude.{codes, replicate, slice_index_or, Contains}
@@ -11,14 +12,14 @@ use Rattle.lw_base.specs.Characters.{is_word_byte}
 use Rattle.lw_base.specs.Formula.{Formula, nodes}
 use Rattle.lw_base.specs.Names.{is_reserved, IsLocation, IsTestName}
 use Rattle.lw_base.specs.Outcomes.{Final}
-use Rattle.lw_base.specs.WellFormed.{IsRegisterNumber, IsWord, SpeaksOf, IsWellFormedHead}
+use Rattle.lw_base.specs.WellFormed.{IsRegisterNumber, IsWordNumber, SpeaksOf, IsWellFormedHead}
 use Rattle.lw_base.specs.declared.head.Arch.{Arch}
 use Rattle.lw_base.specs.declared.head.Arch.TheVariants.{X86}
 use Rattle.lw_base.specs.declared.head.Quant.{Quant}
 use Rattle.lw_base.specs.declared.head.Quant.TheVariants.{Exists, NotExists}
 use Rattle.lw_base.specs.declared.operand.Operand.TheVariants.{Number}
 use Rattle.lw_litmus.specs.Operations.{target_of}
-use Rattle.lw_litmus.specs.Programs.{x86, operation_of}
+use Rattle.lw_litmus.specs.Programs.{x86, x86_operation}
 use Rattle.lw_litmus.specs.WellFormedTests.{IsWellFormedProgram}
 use Rattle.lw_litmus.specs.Tests.{ProgramTest}
 use Rattle.lw_litmus.specs.WellFormed.{IsStatement, IsThread}
@@ -55,7 +56,8 @@ store_buffering_forbidden o run =
 abbrev lacks_message : Final → Bool
 lacks_message o = not (is_true message_passing_in_x86.head.condition o)
 
-search_of_message_passing : machine_ends_so message_passing_in_x86.threads lacks_message 7 (machine_start message_passing_in_x86 message_passing_in_x86.head.init_words) ≡ true
+search_of_message_passing : machine_ends_so message_passing_in_x86.threads lacks_message 7
+    (machine_start message_passing_in_x86 message_passing_in_x86.head.init_words) ≡ true
 unfolding machine_ends_so
 search_of_message_passing = refl
 
@@ -63,7 +65,8 @@ pub message_passing_forbidden : (o : Final) → MachineOutcome flat message_pass
     → is_true message_passing_in_x86.head.condition o ≡ false
 message_passing_forbidden o run =
     is_false _ (subst (λ e. lacks_message e ≡ true) (sym run.1.is)
-    (machine_searched message_passing_in_x86.threads lacks_message 7 run.0 (machine_start message_passing_in_x86 message_passing_in_x86.head.init_words) run.1.end search_of_message_passing run.1.ran run.1.final))
+    (machine_searched message_passing_in_x86.threads lacks_message 7 run.0
+    (machine_start message_passing_in_x86 message_passing_in_x86.head.init_words) run.1.end search_of_message_passing run.1.ran run.1.final))
 
 -- ---- the x86 tests are well-formed, so what they do over flat memory they do over caches
 
@@ -100,17 +103,28 @@ head_formed name arch quant condition named few speaks = record {
   condition = speaks;
 }
   where
-    zeros : AllByRecursion IsWord (replicate 6 0)
+    zeros : AllByRecursion IsWordNumber (replicate 6 0)
     zeros = (omega arith, (omega arith, (omega arith, (omega arith, (omega arith, (omega arith, tt))))))
 
 -- an instruction on the locations x and y, of the registers EAX and EBX
 store_formed : (x n : ℕ) → x < 2 → n < 2 ^ 32 → IsStatement x86 2 (instr.Store x (Number n))
-store_formed x n there word = (λ y same. subst (λ k. k < 2) (same_Some x y same) there, All-nil IsRegisterNumber, All-cons IsWord n [] word (All-nil IsWord))
+store_formed x n there word = (
+  λ y same. subst (λ k. k < 2) (same_Some x y same) there,
+  All-nil IsRegisterNumber,
+  All-cons IsWordNumber n [] word
+      (All-nil IsWordNumber),
+)
 
 load_formed : (d x : ℕ) → d < 6 → x < 2 → IsStatement x86 2 (instr.Load d x)
-load_formed d x register there = (λ y same. subst (λ k. k < 2) (same_Some x y same) there, All-cons IsRegisterNumber d [] register (All-nil IsRegisterNumber), All-nil IsWord)
+load_formed d x register there = (
+  λ y same. subst (λ k. k < 2) (same_Some x y same) there,
+  All-cons IsRegisterNumber d [] register
+      (All-nil IsRegisterNumber),
+  All-nil IsWordNumber,
+)
 
-two_formed : (first second : Instr) → target_of (operation_of first) ≡ None → target_of (operation_of second) ≡ None → IsStatement x86 2 first → IsStatement x86 2 second
+two_formed : (first second : Instr) → target_of (x86_operation first) ≡ None → target_of (x86_operation second) ≡ None → IsStatement x86 2 first
+    → IsStatement x86 2 second
     → IsThread x86 2 (first ∷ second ∷ [])
 two_formed first second on too a b = record {
   short = omega arith;
@@ -118,12 +132,12 @@ two_formed first second on too a b = record {
   forward = forward;
 }
   where
-    no_jump : (s : Instr) (k : ℕ) → target_of (operation_of s) ≡ None → ForSome (target_of (operation_of s)) (λ to. (k < to) × (to ≤ 2))
+    no_jump : (s : Instr) (k : ℕ) → target_of (x86_operation s) ≡ None → ForSome (target_of (x86_operation s)) (λ to. (k < to) × (to ≤ 2))
     no_jump s k none to is = absurd (none-some to (sym none ∙ is))
 
-    forward : (k : ℕ) (s : Instr) → slice_get (first ∷ second ∷ []) k ≡ Some s → ForSome (target_of (operation_of s)) (λ to. (k < to) × (to ≤ 2))
-    forward zero s e = no_jump s 0 (ap (λ i. target_of (operation_of i)) (sym (same_Some first s e)) ∙ on)
-    forward (suc zero) s e = no_jump s 1 (ap (λ i. target_of (operation_of i)) (sym (same_Some second s e)) ∙ too)
+    forward : (k : ℕ) (s : Instr) → slice_get (first ∷ second ∷ []) k ≡ Some s → ForSome (target_of (x86_operation s)) (λ to. (k < to) × (to ≤ 2))
+    forward zero s e = no_jump s 0 (ap (λ i. target_of (x86_operation i)) (sym (same_Some first s e)) ∙ on)
+    forward (suc zero) s e = no_jump s 1 (ap (λ i. target_of (x86_operation i)) (sym (same_Some second s e)) ∙ too)
     forward (suc (suc k)) s e = cc
 
 program_formed : (test : ProgramTest) (a b : List Instr) → test.threads ≡ a ∷ b ∷ [] → test.head.threads ≡ 2 → length test.head.locs ≡ 2 → test.head.arch ≡ X86
@@ -138,7 +152,8 @@ program_formed test a b is two locs arch head first second = record {
 pub store_buffering_formed : IsWellFormedProgram store_buffering_in_x86
 store_buffering_formed =
     program_formed store_buffering_in_x86 _ _ refl refl refl refl
-    (head_formed (codes "SB-x86") X86 Exists both_loads_are_early (record { some = omega arith; short = omega arith; all = (refl, (refl, (refl, (refl, (refl, (refl, tt)))))) }) (omega arith)
+    (head_formed (codes "SB-x86") X86 Exists both_loads_are_early
+    (record { some = omega arith; short = omega arith; all = (refl, (refl, (refl, (refl, (refl, (refl, tt)))))) }) (omega arith)
     ((omega arith, omega arith, omega arith), (omega arith, omega arith, omega arith)))
     (two_formed _ _ refl refl (store_formed 0 1 (omega arith) (omega arith)) (load_formed 0 1 (omega arith) (omega arith)))
     (two_formed _ _ refl refl (store_formed 1 1 (omega arith) (omega arith)) (load_formed 0 0 (omega arith) (omega arith)))
@@ -146,7 +161,8 @@ store_buffering_formed =
 pub message_passing_formed : IsWellFormedProgram message_passing_in_x86
 message_passing_formed =
     program_formed message_passing_in_x86 _ _ refl refl refl refl
-    (head_formed (codes "MP-x86") X86 NotExists flag_without_message (record { some = omega arith; short = omega arith; all = (refl, (refl, (refl, (refl, (refl, (refl, tt)))))) }) (omega arith)
+    (head_formed (codes "MP-x86") X86 NotExists flag_without_message
+    (record { some = omega arith; short = omega arith; all = (refl, (refl, (refl, (refl, (refl, (refl, tt)))))) }) (omega arith)
     ((omega arith, omega arith, omega arith), (omega arith, omega arith, omega arith)))
     (two_formed _ _ refl refl (store_formed 0 1 (omega arith) (omega arith)) (store_formed 1 1 (omega arith) (omega arith)))
     (two_formed _ _ refl refl (load_formed 0 1 (omega arith) (omega arith)) (load_formed 1 0 (omega arith) (omega arith)))
@@ -158,7 +174,8 @@ early_events = Step 0 ∷ Step 1 ∷ Step 0 ∷ Step 1 ∷ Drain 0 ∷ Drain 1 �
 abbrev at : ℕ → List (ℕ × ℕ) → Processor
 at k buffer = record { position = k; regs = replicate 6 0; zero_flag = false; buffer = buffer }
 
-early_run : MachineRan flat store_buffering_in_x86.threads early_events (machine_start store_buffering_in_x86 (replicate 2 0)) (state (at 2 [] ∷ at 2 [] ∷ []) (1 ∷ 1 ∷ []))
+early_run : MachineRan flat store_buffering_in_x86.threads early_events (machine_start store_buffering_in_x86 (replicate 2 0))
+    (state (at 2 [] ∷ at 2 [] ∷ []) (1 ∷ 1 ∷ []))
 unfolding early_events
 early_run = (
   state (at 1 ((0, 1) ∷ []) ∷ at 0 [] ∷ []) (0 ∷ 0 ∷ []),

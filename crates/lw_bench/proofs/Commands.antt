@@ -1,5 +1,6 @@
 -- The words of a command, one after another.
-use Rattle.std.proofs.Common.{◌≡◌, ◌≤◌, ◌<◌, ◌-◌, ℕ, Bool, true, false, not, nat_eq, Option, Some, None, List, [], ◌∷◌, length, map, take, drop, inl, inr, refl, sym, ap, ◌∙◌, subst, codes, arith, Bor, MatchOption}
+use Rattle.std.proofs.Common.{◌≡◌, ◌≤◌, ◌<◌, ◌-◌, ℕ, Bool, true, false, not, nat_eq, Option, Some, None, List, [], ◌∷◌, length, map, take, drop, inl, inr, refl}
+use Rattle.std.proofs.Common.{sym, ap, ◌∙◌, subst, codes, arith, Bor, MatchOption}
 use Rattle.std.specs.Prelude.{slice_index_or}
 use Rattle.std.specs.Cmp.{unsigned_Decides}
 use Rattle.std.specs.Cmp.Lexicographic.{pointwise, pointwise_decides}
@@ -42,7 +43,8 @@ pub option_told : (words : List (Bor (List ℕ))) (d : Bor (List ℕ)) (r : Opti
     → MatchOption r (NoSuch (λ p. protocol_word p ≡ (slice_index_or words 1 d).now)) (λ p. protocol_word p ≡ (slice_index_or words 1 d).now)
     → MatchOption r (NoSuch (IsProtocolOption (map (λ (w : Bor (List ℕ)). w.now) words))) (IsProtocolOption (map (λ (w : Bor (List ℕ)). w.now) words))
 option_told words d (Some p) differs many few is same known =
-    inl (two words d many few ∙ ap (λ (n : List ℕ). n ∷ (slice_index_or words 1 d).now ∷ []) (word_is _ (codes "--protocol") differs is same) ∙ ap (λ (n : List ℕ). codes "--protocol" ∷ n ∷ []) (sym known))
+    inl (two words d many few ∙ ap (λ (n : List ℕ). n ∷ (slice_index_or words 1 d).now ∷ []) (word_is _ (codes "--protocol") differs is same) ∙ ap
+    (λ (n : List ℕ). codes "--protocol" ∷ n ∷ []) (sym known))
 option_told words d None differs many few is same none = λ p said. go p said
   where
     go : (p : Protocol) → IsProtocolOption (map (λ (w : Bor (List ℕ)). w.now) words) p → ⊥
@@ -53,7 +55,8 @@ option_told words d None differs many few is same none = λ p said. go p said
 one_first : (words : List (Bor (List ℕ))) (d : Bor (List ℕ)) → 1 ≤ length words
     → map (λ (w : Bor (List ℕ)). w.now) words ≡ (slice_index_or words 0 d).now ∷ map (λ (w : Bor (List ℕ)). w.now) (take (length words - 1) (drop 1 words))
 one_first [] d many = absurd (omega (arith, many))
-one_first (x ∷ rest) d many = ap (λ (l : List (Bor (List ℕ))). x.now ∷ map (λ (w : Bor (List ℕ)). w.now) l) (sym (take_all (length (x ∷ rest) - 1) rest (omega arith)))
+one_first (x ∷ rest) d many = ap (λ (l : List (Bor (List ℕ))). x.now ∷ map (λ (w : Bor (List ℕ)). w.now) l)
+    (sym (take_all (length (x ∷ rest) - 1) rest (omega arith)))
 
 -- the first bytes of first words
 first_byte : (a b : ℕ) (u v : List ℕ) (l k : List (List ℕ)) → (let w : List (List ℕ) = (a ∷ u) ∷ l in w) ≡ (b ∷ v) ∷ k → a ≡ b

@@ -1,5 +1,6 @@
 -- Bytes that came in and went out, one piece more.
-use Rattle.std.proofs.Common.{arith, inl, inr, refl, ◌≡◌, ℕ, zero, suc, ◌-◌, ◌<◌, ◌≤◌, min, Option, Some, None, List, [], ◌∷◌, ◌++◌, length, length-append, take, drop, sym, ap, ◌∙◌, subst, append_assoc}
+use Rattle.std.proofs.Common.{arith, inl, inr, refl, ◌≡◌, ℕ, zero, suc, ◌-◌, ◌<◌, ◌≤◌, min, Option, Some, None, List, [], ◌∷◌, ◌++◌, length, length-append}
+use Rattle.std.proofs.Common.{take, drop, sym, ap, ◌∙◌, subst, append_assoc}
 use Rattle.std.proofs.lemmas.List.{length-take-le, take-append-drop, take-append-le}
 use Rattle.std.specs.Io.KnownBytes.{Appends, Consumes, IsAtEnd, Keeps}
 use Rattle.lw_bench.specs.Devices.{IsInput, TakesInput, TakesSome, Gets, Loses, Puts}
@@ -25,7 +26,10 @@ puts_more a b c bytes rest n puts more =
     }
 
 -- the front of a buffer was added, which has no more room than is still to be read
-pub gets_front : (known left : Option (List ℕ)) (before after buffer behind : List ℕ) (room count : ℕ) → length before < 65537 → room ≡ min 4096 (65537 - length before) → length buffer ≡ room → count ≤ length buffer → Consumes known left (take count buffer) × (count ≡ 0 → 0 < length buffer → IsAtEnd left) → after ≡ before ++ take count (buffer ++ behind) → Gets known left before after count
+pub gets_front : (known left : Option (List ℕ)) (before after buffer behind : List ℕ) (room count : ℕ) → length before < 65537
+    → room ≡ min 4096 (65537 - length before) → length buffer ≡ room → count ≤ length buffer
+    → Consumes known left (take count buffer) × (count ≡ 0 → 0 < length buffer → IsAtEnd left) → after ≡ before ++ take count (buffer ++ behind)
+    → Gets known left before after count
 gets_front known left before after buffer behind room count short is_room whole within consumed added =
     let got = take count buffer in
     let many : length got ≡ count = length-take-le count buffer within in
@@ -107,6 +111,7 @@ pub loses_none : (known left : Option (List ℕ)) (before : List ℕ) → length
 loses_none known left before short kept = record { got = []; limit = omega (arith, short); consumed = kept_consumes known left kept }
 
 -- the front of a buffer was lost, which has no more room than is still to be read
-pub loses_front : (known left : Option (List ℕ)) (before buffer : List ℕ) (room count : ℕ) → length before < 65537 → room ≡ min 4096 (65537 - length before) → length buffer ≡ room → count ≤ length buffer → Consumes known left (take count buffer) → Loses known left before
+pub loses_front : (known left : Option (List ℕ)) (before buffer : List ℕ) (room count : ℕ) → length before < 65537
+    → room ≡ min 4096 (65537 - length before) → length buffer ≡ room → count ≤ length buffer → Consumes known left (take count buffer) → Loses known left before
 loses_front known left before buffer room count short is_room whole within consumed =
     record { got = take count buffer; limit = omega (arith, length-take-le count buffer within, within, whole, is_room, short); consumed = consumed }

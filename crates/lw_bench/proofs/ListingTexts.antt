@@ -9,12 +9,12 @@ use Rattle.std.specs.declared.cmp.Ordering.TheVariants.{Less}
 use Rattle.lw_base.specs.Heads.{TestHead}
 use Rattle.lw_base.specs.Outcomes.{Final, final_cmp}
 use Rattle.lw_base.specs.declared.event.Event.{Event}
-use Rattle.lw_listing.specs.Listings.{Entries, outcomes_of, schedules_of, IsStrictlySorted}
+use Rattle.lw_listing.specs.Listings.{OutcomeEntries, outcomes_of, schedules_of, IsStrictlySorted}
 use Rattle.lw_report.specs.Reports.{IsReport, IsScheduleList, report_text, schedule_list_text, scheduled}
 use Rattle.lw_report.specs.States.{Shown, AreStatesOf, IsSmallestOf, ListedState, shown_of, ShowsFirst, AreListedStates}
 use Rattle.lw_report.specs.declared.judgement.Claim.{Claim}
 
-module _ (head : TestHead) (Has : Final → Type 0) (entries : Entries) (same : (o : Final) → Contains (outcomes_of entries) o ↔ Has o) where
+module _ (head : TestHead) (Has : Final → Type 0) (entries : OutcomeEntries) (same : (o : Final) → Contains (outcomes_of entries) o ↔ Has o) where
   states_of_set : (states : List Shown) → AreStatesOf head (Contains (outcomes_of entries)) states → AreStatesOf head Has states
   states_of_set states are = record {
     sorted = are.sorted;
@@ -28,7 +28,8 @@ module _ (head : TestHead) (Has : Final → Type 0) (entries : Entries) (same : 
 
   module _ (sorted : IsStrictlySorted entries) where
     -- what stands behind an outcome is larger
-    larger : (i j : ℕ) (o other : Final) → slice_get (outcomes_of entries) i ≡ Some o → slice_get (outcomes_of entries) j ≡ Some other → i < j → final_cmp o other ≡ Less
+    larger : (i j : ℕ) (o other : Final) → slice_get (outcomes_of entries) i ≡ Some o → slice_get (outcomes_of entries) j ≡ Some other → i < j
+        → final_cmp o other ≡ Less
     larger i j o other at to lt =
         let first = get_or_from_slice_get (outcomes_of entries) i o o at in
         let later = get_or_from_slice_get (outcomes_of entries) j other o to in
@@ -37,7 +38,8 @@ module _ (head : TestHead) (Has : Final → Type 0) (entries : Entries) (same : 
     some_same : (o other : Final) → (let a = Some o in a) ≡ Some other → o ≡ other
     some_same o other e = cc
 
-    least : (i j : ℕ) (o other : Final) → slice_get (outcomes_of entries) i ≡ Some o → slice_get (outcomes_of entries) j ≡ Some other → (j < i → ⊥) → (o ≡ other) ⊎ (final_cmp o other ≡ Less)
+    least : (i j : ℕ) (o other : Final) → slice_get (outcomes_of entries) i ≡ Some o → slice_get (outcomes_of entries) j ≡ Some other → (j < i → ⊥)
+        → (o ≡ other) ⊎ (final_cmp o other ≡ Less)
     least i j o other at to none = elim (cases_lt i j) [
       | inl lt ↦ inr (larger i j o other at to lt)
       | inr le ↦ elim (cases_lt j i) [
@@ -49,7 +51,12 @@ module _ (head : TestHead) (Has : Final → Type 0) (entries : Entries) (same : 
     -- the first outcome that shows a state is the smallest of the set
     smallest : (s : ListedState) (shows : ShowsFirst head (outcomes_of entries) s) → IsSmallestOf head Has s.words shows.outcome
     smallest s shows = record {
-      has = (same shows.outcome).0 (s.entry, slice_get_within (outcomes_of entries) s.entry shows.outcome shows.at, get_or_from_slice_get (outcomes_of entries) s.entry shows.outcome shows.outcome shows.at);
+      has = (same shows.outcome).0 (
+        s.entry,
+        slice_get_within (outcomes_of entries) s.entry shows.outcome shows.at,
+        get_or_from_slice_get
+            (outcomes_of entries) s.entry shows.outcome shows.outcome shows.at,
+      );
       shows = ap (λ (x : Shown). x.words) shows.shows;
       least = λ other has words.
           let c = (same other).1 has in
@@ -62,7 +69,8 @@ module _ (head : TestHead) (Has : Final → Type 0) (entries : Entries) (same : 
       leads_at : (i : ℕ) (o : Final) → slice_get (outcomes_of entries) i ≡ Some o → Leads (slice_index_or (schedules_of entries) i []) o
       leads_at i o at = go entries i lead at
         where
-          go : (es : Entries) (k : ℕ) → All (λ e. Leads e.1 e.0) es → slice_get (outcomes_of es) k ≡ Some o → Leads (slice_index_or (schedules_of es) k []) o
+          go : (es : OutcomeEntries) (k : ℕ) → All (λ e. Leads e.1 e.0) es → slice_get (outcomes_of es) k ≡ Some o
+              → Leads (slice_index_or (schedules_of es) k []) o
           go [] k all at = absurd (omega (arith, slice_get_within (outcomes_of []) k o at))
           go (e ∷ es) zero all at = subst (Leads e.1) (some_same e.0 o at) (all 0 e (omega arith))
           go (e ∷ es) (suc k) all at = go es k (λ j d lt. all (suc j) d (omega (arith, lt))) at
@@ -74,7 +82,8 @@ module _ (head : TestHead) (Has : Final → Type 0) (entries : Entries) (same : 
         states = map (scheduled (schedules_of entries)) states;
         are = subst (AreStatesOf head Has) (sym (shown_again states)) (states_of_set (map shown_of states) listed.are);
         lead = All-map (λ s. (o : Final) × IsSmallestOf head Has s.0.words o × Leads s.1 o) (scheduled (schedules_of entries)) states
-            (All-weaker (ShowsFirst head (outcomes_of entries)) (λ (s : ListedState). (o : Final) × IsSmallestOf head Has s.words o × Leads (slice_index_or (schedules_of entries) s.entry []) o)
+            (All-weaker (ShowsFirst head (outcomes_of entries))
+            (λ (s : ListedState). (o : Final) × IsSmallestOf head Has s.words o × Leads (slice_index_or (schedules_of entries) s.entry []) o)
             (λ s shows. (shows.outcome, smallest s shows, leads_at s.entry shows.outcome shows.at)) states listed.entries);
         is = is;
       }

@@ -1,5 +1,6 @@
 -- Exhaustive searches through the runs of small tests: where a search finds that all ends are so, the end of every run is.
-use Rattle.std.proofs.Common.{◌≡◌, ℕ, zero, suc, ◌<◌, ◌&&◌, Bool, true, false, if◌then◌else◌, List, [], ◌∷◌, length, map, Result, Ok, Err, Option, Some, None, refl, sym, ap, ◌∙◌, subst, slice_get, slice_set, slice_index, option_map, nat_lt}
+use Rattle.std.proofs.Common.{◌≡◌, ℕ, zero, suc, ◌<◌, ◌&&◌, Bool, true, false, if◌then◌else◌, List, [], ◌∷◌, length, map, Result, Ok, Err, Option, Some, None}
+use Rattle.std.proofs.Common.{refl, sym, ap, ◌∙◌, subst, slice_get, slice_set, slice_index, option_map, nat_lt}
 use Rattle.std.specs.Prelude.{IsTrue}
 use Rattle.std.proofs.lemmas.Bool.{and_parts, agree_below, agree_below_at, false≢true}
 use Rattle.std.proofs.lemmas.Option.{slice_get_within, same_Some}
@@ -9,7 +10,7 @@ use Rattle.lw_base.specs.declared.event.Event.{Event}
 use Rattle.lw_base.specs.declared.event.Event.TheVariants.{Step, Drain, Evict}
 use Rattle.lw_base.specs.declared.stop.Stop.{Stop}
 use Rattle.lw_base.specs.declared.stop.Stop.TheVariants.{NoCpu, NoLocation, NotHeld}
-use Rattle.lw_interleaving.specs.Runs.{State, step_of, source_step, is_final, outcome_of, Ran}
+use Rattle.lw_interleaving.specs.Runs.{State, step_of, source_step, is_source_final, outcome_of, SourceRan}
 use Rattle.lw_interleaving.specs.declared.thread.Thread.{Thread}
 use Rattle.lw_litmus.specs.declared.instr.Instr.{Instr}
 use Rattle.lw_litmus.specs.declared.stmt.Stmt.{Stmt}
@@ -35,7 +36,7 @@ module _ (program : List (List Stmt)) (ok : Final → Bool) where
   unfoldable pub ends_so : ℕ → State → Bool
   ends_so zero s = false
   ends_so (suc n) s =
-      (if is_final program s then ok (outcome_of s) else true)
+      (if is_source_final program s then ok (outcome_of s) else true)
       && agree_below (λ t. after_ok (ends_so n) (source_step program t s)) (λ t. true) (length s.threads)
 
   step_within : (t : ℕ) (s mid : State) → source_step program t s ≡ Ok mid → t < length s.threads
@@ -46,13 +47,15 @@ module _ (program : List (List Stmt)) (ok : Final → Bool) where
       go (Some th) at done = slice_get_within s.threads t th at
 
   pub searched : (n : ℕ) (order : List ℕ) (s end : State) → ends_so n s ≡ true
-      → Ran program (map Step order) s end → IsTrue (is_final program end) → ok (outcome_of end) ≡ true
+      → SourceRan program (map Step order) s end → IsTrue (is_source_final program end) → ok (outcome_of end) ≡ true
   unfolding ends_so
   searched zero order s end so ran final = absurd (false≢true so)
   searched (suc n) [] s end so ran final =
-      if_so (is_final program end) (ok (outcome_of end)) (subst (λ e. (if is_final program e then ok (outcome_of e) else true) ≡ true) (sym ran) (and_parts _ _ so).0) final
+      if_so (is_source_final program end) (ok (outcome_of end))
+      (subst (λ e. (if is_source_final program e then ok (outcome_of e) else true) ≡ true) (sym ran) (and_parts _ _ so).0) final
   searched (suc n) (t ∷ order) s end so ran final =
-      let each = agree_below_at (λ t. after_ok (ends_so n) (source_step program t s)) (λ t. true) (length s.threads) t (and_parts _ _ so).1 (step_within t s ran.0 ran.1) in
+      let each = agree_below_at (λ t. after_ok (ends_so n) (source_step program t s)) (λ t. true) (length s.threads) t (and_parts _ _ so).1
+      (step_within t s ran.0 ran.1) in
       searched n order ran.0 end (subst (λ r. after_ok (ends_so n) r ≡ true) ran.1 each) ran.2 final
 
 -- ---- x86 tests, over flat memory
@@ -79,7 +82,8 @@ act_is t (Evicts x) p q m n d = absurd (let e : ◌≡◌ {A = Answer} (Ok tt) (
 module _ (program : List (List Instr)) where
   abbrev pub done_after : Option Processor → Event → MachineState (List ℕ) → Option (MachineState (List ℕ))
   done_after None e s = None
-  done_after (Some p) e s = option_map (λ (r : Processor × List ℕ). state (slice_set s.processors (cpu_of e) r.0) r.1) (act_after (event_act program (length s.memory) e p) s.memory)
+  done_after (Some p) e s = option_map (λ (r : Processor × List ℕ). state (slice_set s.processors (cpu_of e) r.0) r.1)
+      (act_after (event_act program (length s.memory) e p) s.memory)
 
   -- the state after an event that is done
   abbrev pub event_after : Event → MachineState (List ℕ) → Option (MachineState (List ℕ))
@@ -91,7 +95,8 @@ module _ (program : List (List Instr)) where
       go : (o : Option Processor) → DoneBy flat o program e s (Ok tt) after → done_after o e s ≡ Some after
       go None d = absurd (let e : ◌≡◌ {A = Answer} (Ok tt) (Err NoCpu) = d.0 in cc)
       go (Some p) d =
-          ap (option_map (λ (r : Processor × List ℕ). state (slice_set s.processors (cpu_of e) r.0) r.1)) (act_is (cpu_of e) (event_act program (length s.memory) e p) p d.0 s.memory d.1 d.2)
+          ap (option_map (λ (r : Processor × List ℕ). state (slice_set s.processors (cpu_of e) r.0) r.1))
+          (act_is (cpu_of e) (event_act program (length s.memory) e p) p d.0 s.memory d.1 d.2)
           ∙ ap Some (sym d.3)
 
   module _ (ok : Final → Bool) where
@@ -133,9 +138,11 @@ module _ (program : List (List Instr)) where
         if_so (machine.is_final program end) (ok (machine.machine_outcome flat end))
         (subst (λ e. (if machine.is_final program e then ok (machine.machine_outcome flat e) else true) ≡ true) (sym ran) (and_parts _ _ so).0) final
     machine_searched (suc n) (Step t ∷ events) s end so ran final =
-        let each = agree_below_at (λ t. reached_ok (machine_ends_so n) (event_after (Step t) s)) (λ t. true) (length s.processors) t (and_parts _ _ (and_parts _ _ so).1).0 (there (Step t) s ran.0 ran.1) in
+        let each = agree_below_at (λ t. reached_ok (machine_ends_so n) (event_after (Step t) s)) (λ t. true) (length s.processors) t
+        (and_parts _ _ (and_parts _ _ so).1).0 (there (Step t) s ran.0 ran.1) in
         machine_searched n events ran.0 end (subst (λ r. reached_ok (machine_ends_so n) r ≡ true) (event_is (Step t) s ran.0 ran.1) each) ran.2 final
     machine_searched (suc n) (Drain t ∷ events) s end so ran final =
-        let each = agree_below_at (λ t. reached_ok (machine_ends_so n) (event_after (Drain t) s)) (λ t. true) (length s.processors) t (and_parts _ _ (and_parts _ _ so).1).1 (there (Drain t) s ran.0 ran.1) in
+        let each = agree_below_at (λ t. reached_ok (machine_ends_so n) (event_after (Drain t) s)) (λ t. true) (length s.processors) t
+        (and_parts _ _ (and_parts _ _ so).1).1 (there (Drain t) s ran.0 ran.1) in
         machine_searched n events ran.0 end (subst (λ r. reached_ok (machine_ends_so n) r ≡ true) (event_is (Drain t) s ran.0 ran.1) each) ran.2 final
     machine_searched (suc n) (Evict t x ∷ events) s end so ran final = absurd (none_evicted t x s ran.0 ran.1)

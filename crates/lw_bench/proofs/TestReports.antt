@@ -10,7 +10,7 @@ use Rattle.lw_base.specs.Schedules.{IsEvent}
 use Rattle.lw_base.specs.declared.event.Event.{Event}
 use Rattle.lw_choices.specs.declared.fault.ListFault.{ListFault}
 use Rattle.lw_base.specs.Entries.{IsEntryOf}
-use Rattle.lw_listing.specs.Listings.{Entries, outcomes_of, schedules_of, IsStrictlySorted}
+use Rattle.lw_listing.specs.Listings.{OutcomeEntries, outcomes_of, schedules_of, IsStrictlySorted}
 use Rattle.lw_finals.specs.Lists.{ListsMachine}
 use Rattle.lw_whole.specs.OverCaches.{ReplaysOverCaches, OutcomeOverCaches}
 use Rattle.lw_mesi.specs.declared.protocol.Protocol.{Protocol}
@@ -27,14 +27,18 @@ use Rattle.lw_bench.specs.inner.Listed.{IsListOf}
 use Rattle.lw_bench.proofs.ListingTexts.{report_is, schedule_list_is}
 
 -- what is told of the list of a source test
-pub source_list : (test : SourceTest) (entries : Entries) → IsStrictlySorted entries → ((o : Final) → Contains (outcomes_of entries) o ↔ SourceOutcome test o)
+pub source_list : (test : SourceTest) (entries : OutcomeEntries) → IsStrictlySorted entries
+    → ((o : Final) → Contains (outcomes_of entries) o ↔ SourceOutcome test o)
     → ListsMachine test entries → All (IsEntryOf test.head) entries → HasList (Of_source test) → IsListOf (Of_source test) entries
 source_list test entries sorted exactly lists of within = record {
   within = within;
   program = lists.program;
   of_test = record {
     runs = (lists.starts, lists.compiled);
-    outcomes = λ protocol o. ((λ reached. (exactly o).0 ((lists.outcomes protocol o).1 reached)), (λ reached. (lists.outcomes protocol o).0 ((exactly o).1 reached)));
+    outcomes = λ protocol o. (
+      (λ reached. (exactly o).0 ((lists.outcomes protocol o).1 reached)),
+      (λ reached. (lists.outcomes protocol o).0 ((exactly o).1 reached)),
+    );
   };
   sorted = sorted;
   exactly = exactly;
@@ -42,20 +46,26 @@ source_list test entries sorted exactly lists of within = record {
   lead = λ k d lt protocol. lists.replays protocol k d lt;
 }
 
-pub source_listed : (test : SourceTest) (r : Result Entries ListFault) → IfOk r IsStrictlySorted → IfOk r (λ l. (o : Final) → Contains (outcomes_of l) o ↔ SourceOutcome test o)
+pub source_listed : (test : SourceTest) (r : Result OutcomeEntries ListFault) → IfOk r IsStrictlySorted
+    → IfOk r (λ l. (o : Final) → Contains (outcomes_of l) o ↔ SourceOutcome test o)
     → IfOk r (ListsMachine test) → IfOk r (λ l. All (IsEntryOf test.head) l) → OnOk r (HasList (Of_source test)) → IfOk r (IsListOf (Of_source test))
 source_listed test (Ok l) sorted exactly lists of within = source_list test l sorted exactly lists of within
 source_listed test (Err e) sorted exactly lists of within = tt
 
 -- and of that of an x86 test
-pub x86_list : (test : ProgramTest) (entries : Entries) → IsStrictlySorted entries → ((protocol : Protocol) (o : Final) → Contains (outcomes_of entries) o ↔ OutcomeOverCaches protocol test o)
-    → ((protocol : Protocol) → All (λ e. ReplaysOverCaches protocol test e.1 e.0) entries) → All (IsEntryOf test.head) entries → HasList (Of_x86 test) → IsListOf (Of_x86 test) entries
+pub x86_list : (test : ProgramTest) (entries : OutcomeEntries) → IsStrictlySorted entries
+    → ((protocol : Protocol) (o : Final) → Contains (outcomes_of entries) o ↔ OutcomeOverCaches protocol test o)
+    → ((protocol : Protocol) → All (λ e. ReplaysOverCaches protocol test e.1 e.0) entries) → All (IsEntryOf test.head) entries → HasList (Of_x86 test)
+    → IsListOf (Of_x86 test) entries
 x86_list test entries sorted exactly replays of within = record {
   within = within;
   program = test;
   of_test = record {
     runs = refl;
-    outcomes = λ protocol o. ((λ reached. (exactly Mesi o).0 ((exactly protocol o).1 reached)), (λ reached. (exactly protocol o).0 ((exactly Mesi o).1 reached)));
+    outcomes = λ protocol o. (
+      (λ reached. (exactly Mesi o).0 ((exactly protocol o).1 reached)),
+      (λ reached. (exactly protocol o).0 ((exactly Mesi o).1 reached)),
+    );
   };
   sorted = sorted;
   exactly = exactly Mesi;
@@ -63,14 +73,14 @@ x86_list test entries sorted exactly replays of within = record {
   lead = λ k d lt protocol. replays protocol k d lt;
 }
 
-pub x86_listed : (test : ProgramTest) (r : Result Entries ListFault) → IfOk r IsStrictlySorted
+pub x86_listed : (test : ProgramTest) (r : Result OutcomeEntries ListFault) → IfOk r IsStrictlySorted
     → IfOk r (λ l. (protocol : Protocol) (o : Final) → Contains (outcomes_of l) o ↔ OutcomeOverCaches protocol test o)
     → IfOk r (λ l. (protocol : Protocol) → All (λ e. ReplaysOverCaches protocol test e.1 e.0) l) → IfOk r (λ l. All (IsEntryOf test.head) l)
     → OnOk r (HasList (Of_x86 test)) → IfOk r (IsListOf (Of_x86 test))
 x86_listed test (Ok l) sorted exactly replays of within = x86_list test l sorted exactly replays of within
 x86_listed test (Err e) sorted exactly replays of within = tt
 
-module _ (test : LitmusTest) (entries : Entries) (list : IsListOf test entries) (head : TestHead) (same : head ≡ head_of_test test) where
+module _ (test : LitmusTest) (entries : OutcomeEntries) (list : IsListOf test entries) (head : TestHead) (same : head ≡ head_of_test test) where
   pub report_of_list : (states : List ListedState) (text : List ℕ) → AreListedStates head (outcomes_of entries) states
       → text ≡ report_text head Exact (map shown_of states) → IsStatesReport test text
   report_of_list states text listed is = record {

@@ -1,5 +1,6 @@
 -- What a refused run tells: from what the readers promise, and from the bytes that were read to the whole input.
-use Rattle.std.proofs.Common.{◌≡◌, ◌≢◌, ◌⊎◌, inl, inr, Bool, true, false, ℕ, Option, Some, None, List, [], ◌++◌, length, sym, ap, ◌∙◌, subst, length-append, if◌then◌else◌, arith}
+use Rattle.std.proofs.Common.{◌≡◌, ◌≢◌, ◌⊎◌, inl, inr, Bool, true, false, ℕ, Option, Some, None, List, [], ◌++◌, length, sym, ap, ◌∙◌, subst, length-append}
+use Rattle.std.proofs.Common.{if◌then◌else◌, arith}
 use Rattle.std.specs.Option.{IfSome}
 use Rattle.std.proofs.lemmas.List.{append-nil}
 use Rattle.lw_base.specs.declared.fault.CellCause.{CellCause}
@@ -88,7 +89,8 @@ pub memory_is_no_device : (f : BenchFault) → f ≡ Memory → IsNoDevice f
 memory_is_no_device f is = rw is memory_no_device
 
 -- memory that ran out, or what is told of a test that was read
-pub told_of_test : (Tells : LitmusTest → BenchFault → Type 0) (bytes : List ℕ) (test : LitmusTest) (f : BenchFault) → HasTest bytes test → (f ≡ Memory) ⊎ Tells test f → TellsRun Tells bytes f
+pub told_of_test : (Tells : LitmusTest → BenchFault → Type 0) (bytes : List ℕ) (test : LitmusTest) (f : BenchFault) → HasTest bytes test
+    → (f ≡ Memory) ⊎ Tells test f → TellsRun Tells bytes f
 told_of_test Tells bytes test f has (inl is) = rw is (inl tt)
 told_of_test Tells bytes test f has (inr told) = inr (test, has, told)
 
@@ -135,16 +137,19 @@ module _ (input bytes : List ℕ) (is : (rest : List ℕ) × (input ≡ bytes ++
   run_in_whole Tells f (inr (test, has, told)) = inr (test, in_whole input bytes is test has, told)
 
 -- What is told of the input.
-pub told_of_input : (Tells : LitmusTest → BenchFault → Type 0) (known : Option (List ℕ)) (bytes : List ℕ) (f : BenchFault) → IsInput known bytes → TellsRun Tells bytes f → TellsInput Tells known f
+pub told_of_input : (Tells : LitmusTest → BenchFault → Type 0) (known : Option (List ℕ)) (bytes : List ℕ) (f : BenchFault) → IsInput known bytes
+    → TellsRun Tells bytes f → TellsInput Tells known f
 told_of_input Tells None bytes f is told = tt
 told_of_input Tells (Some input) bytes f is told = run_in_whole input bytes is Tells f told
 
-pub some_told : (Tells : List ℕ → BenchFault → Type 0) (known : Option (List ℕ)) (f : BenchFault) → ((bytes : List ℕ) → Tells bytes f) → IfSome known (λ bytes. Tells bytes f)
+pub some_told : (Tells : List ℕ → BenchFault → Type 0) (known : Option (List ℕ)) (f : BenchFault) → ((bytes : List ℕ) → Tells bytes f)
+    → IfSome known (λ bytes. Tells bytes f)
 some_told Tells None f told = tt
 some_told Tells (Some input) f told = told input
 
 -- What is told of known bytes where a device failed, or memory ran out before they were read: nothing.
 module _ (Tells : List ℕ → BenchFault → Type 0) (known : Option (List ℕ)) where
-  pub device_told : (f : BenchFault) (failed : Bool) → ((bytes : List ℕ) → Tells bytes Read) → ((bytes : List ℕ) → Tells bytes Memory) → f ≡ (if failed then Read else Memory) → IfSome known (λ bytes. Tells bytes f)
+  pub device_told : (f : BenchFault) (failed : Bool) → ((bytes : List ℕ) → Tells bytes Read) → ((bytes : List ℕ) → Tells bytes Memory)
+      → f ≡ (if failed then Read else Memory) → IfSome known (λ bytes. Tells bytes f)
   device_told f true read memory is = rw is (some_told Tells known Read read)
   device_told f false read memory is = rw is (some_told Tells known Memory memory)

@@ -9,8 +9,7 @@ pub data LitmusTest : Type 0 where
   Of_source : SourceTest → LitmusTest
   Of_x86 : ProgramTest → LitmusTest
 
--- the test that a `LitmusTest` in memory is
-abbrev pub litmus_test_of : {A : Type 0} → TestInMemory A → LitmusTest
+abbrev pub litmus_test_of : {A : Type 0} → TestInMemory A → LitmusTest  -- the test that a `LitmusTest` in memory is
 litmus_test_of (made.Source source) = Of_source (source_of source)
 litmus_test_of (made.X86 program) = Of_x86 (program_of program)
 

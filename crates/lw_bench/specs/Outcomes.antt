@@ -26,6 +26,5 @@ pub record IsProgramOf (test : LitmusTest) (program : ProgramTest) : Type 0 wher
   pub runs : IsRunFor test program
   pub outcomes : (protocol : Protocol) (o : Final) → OutcomeOverCaches protocol program o ↔ OutcomeOf test o
 
--- the schedule leads there to the outcome
-abbrev pub LeadsTo : ProgramTest → List Event → Final → Type 0
+abbrev pub LeadsTo : ProgramTest → List Event → Final → Type 0  -- the schedule leads there to the outcome
 LeadsTo program events o = (protocol : Protocol) → ReplaysOverCaches protocol program events o

@@ -9,7 +9,7 @@ use Rattle.lw_mesi.specs.declared.protocol.Protocol.{Protocol}
 use Rattle.lw_memory.specs.Memory.{Memory}
 use Rattle.lw_mesi.specs.CacheLines.{memory_words_of}
 use Rattle.lw_mesi.specs.Protocols.{caches_by}
-use Rattle.lw_interleaving.specs.Runs.{State, start_of, Replayed}
+use Rattle.lw_interleaving.specs.Runs.{State, start_of, SourceReplayed}
 use Rattle.lw_litmus.specs.Tests.{SourceTest, ProgramTest}
 use Rattle.lw_tso.specs.Machines.{MachineState}
 use Rattle.lw_tso.specs.Runs.{machine_start, MachineReplayed}
@@ -22,7 +22,7 @@ use Rattle.lw_bench.specs.Pages.{source_page, machine_page}
 pub record SourcePage (test : SourceTest) (events : List Event) (page : Bytes) (end : End) : Type 0 where
   pub replay : Replay
   pub state : State
-  pub replayed : Replayed test.threads events (start_of test) replay state
+  pub replayed : SourceReplayed test.threads events (start_of test) replay state
   pub ended : replay.end ≡ end
   pub told : page ≡ source_page test.head replay state
 

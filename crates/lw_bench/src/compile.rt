@@ -30,7 +30,7 @@ fn compiled_text<A: Allocator + Copy>(alloc: A, source: &Source<A>) -> Result<Te
 }
 
 /// The text of the compilation of a test.
-fn compilation_of<A: Allocator + Copy>(
+pub(crate) fn compilation_of<A: Allocator + Copy>(
     alloc: A,
     test: &LitmusTest<A>,
 ) -> Result<Text<A>, AllocError>

@@ -18,7 +18,7 @@ use lw_choices::ListFault;
 use lw_finals::{list_raw, list_source};
 use lw_listing::Listing;
 use lw_report::{Claim, states_of, write_report, write_schedules};
-use std::alloc::Allocator;
+use std::alloc::{AllocError, Allocator};
 
 /// The complete list of a test.
 fn list_test<A: Allocator + Copy>(alloc: A, test: &LitmusTest<A>) -> Result<Listing<A>, ListFault>
@@ -32,7 +32,10 @@ fn list_test<A: Allocator + Copy>(alloc: A, test: &LitmusTest<A>) -> Result<List
 }
 
 /// The report of the outcomes of a test.
-fn report_of<A: Allocator + Copy>(alloc: A, test: &LitmusTest<A>) -> Result<Text<A>, BenchFault>
+pub(crate) fn report_of<A: Allocator + Copy>(
+    alloc: A,
+    test: &LitmusTest<A>,
+) -> Result<Text<A>, BenchFault>
     ensures found { IfOk result (IsStatesReport (litmus_test_of test.now)) }
     ensures told { IfErr result (λ f. (f ≡ BenchFault.Memory) ⊎ TellsNoList (litmus_test_of test.now) f) }
     ensures device { IfErr result IsNoDevice }
@@ -48,18 +51,34 @@ fn report_of<A: Allocator + Copy>(alloc: A, test: &LitmusTest<A>) -> Result<Text
 }
 
 /// The list of the schedules of a test.
-fn schedules_of<A: Allocator + Copy>(alloc: A, test: &LitmusTest<A>) -> Result<Text<A>, BenchFault>
+pub(crate) fn schedules_of<A: Allocator + Copy>(
+    alloc: A,
+    test: &LitmusTest<A>,
+) -> Result<Text<A>, BenchFault>
     ensures found { IfOk result (IsScheduleReport (litmus_test_of test.now)) }
     ensures told { IfErr result (λ f. (f ≡ BenchFault.Memory) ⊎ TellsNoList (litmus_test_of test.now) f) }
     ensures device { IfErr result IsNoDevice }
 {
-    let head = test.head();
     let listing = list_test(alloc, test)?;
-    let states = states_of(alloc, head, &listing)?;
-    let list = write_schedules(alloc, head, &states, &listing);
-    drop(states);
+    let list = schedules_of_listing(alloc, test, &listing);
     drop(listing);
     Ok(list?)
+}
+
+/// The list of the schedules of a test that has this list.
+fn schedules_of_listing<A: Allocator + Copy>(
+    alloc: A,
+    test: &LitmusTest<A>,
+    listing: &Listing<A>,
+) -> Result<Text<A>, AllocError>
+    requires { IsListOf (litmus_test_of test.now) listing.now }
+    ensures { IfOk result (IsScheduleReport (litmus_test_of test.now)) }
+{
+    let head = test.head();
+    let states = states_of(alloc, head, listing)?;
+    let list = write_schedules(alloc, head, &states, listing);
+    drop(states);
+    list
 }
 
 /// The report of a test.

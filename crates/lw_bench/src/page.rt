@@ -15,7 +15,7 @@ ghost use Rattle.lw_tso.specs.Processors.{Processor};
 ghost use Rattle.lw_tso.specs.Runs.{machine_outcome};
 
 use lw_base::{
-    Arch, Cpu, End, Head, Loc, LocNames, MAX_THREADS, Outcome, REGISTERS, Reg, Replay, Stop, Word,
+    Arch, Cpu, End, Head, Loc, LocNames, MAX_THREADS, Outcome, REGISTERS, Reg, Replay, Text, Word,
     reg_name,
 };
 use lw_interleaving::SourceRun;
@@ -29,18 +29,18 @@ pub(crate) fn source_page<A: Allocator + Copy>(
     head: &Head<A>,
     run: &SourceRun<'_, A, A>,
     replay: Replay,
-) -> Result<String<A>, AllocError>
+) -> Result<Text<A>, AllocError>
     requires few { head.now.threads ≤ MAX_THREADS }
     requires threads { length run.now.state.threads ≡ head.now.threads }
     requires words { length run.now.state.words ≡ length head.now.locs }
-    ensures { IfOk result (λ text. string_bytes text ≡ pages.source_page (head_of head.now) replay run.now.state) }
+    ensures { IfOk result (λ text. text ≡ pages.source_page (head_of head.now) replay run.now.state) }
 {
     let state = run.outcome()?;
     let mut out = String::new(alloc);
     let written = write_source_page(&mut out, head, run, &state, replay);
     drop(state);
     written?;
-    Ok(out)
+    Ok(Text::from(out))
 }
 
 /// The lines of a source test's replay, where the state's outcome is this one. The outcome is lent, and the caller drops it: a drop
@@ -70,11 +70,11 @@ pub(crate) fn machine_page<M: MemorySystem, A: Allocator + Copy>(
     head: &Head<A>,
     machine: &Machine<'_, M, A, A>,
     replay: Replay,
-) -> Result<String<A>, AllocError>
+) -> Result<Text<A>, AllocError>
     requires few { head.now.threads ≤ MAX_THREADS }
     requires threads { length machine.now.state.processors ≡ head.now.threads }
     requires words { length (M.content machine.now.state.memory) ≡ length head.now.locs }
-    ensures { IfOk result (λ text. string_bytes text
+    ensures { IfOk result (λ text. text
         ≡ pages.machine_page (head_of head.now) replay machine.now.state.processors (M.state machine.now.state.memory)
         (M.memory machine.now.state.memory) (M.content machine.now.state.memory)) }
 {
@@ -83,7 +83,7 @@ pub(crate) fn machine_page<M: MemorySystem, A: Allocator + Copy>(
     let written = write_machine_page(&mut out, head, machine, &state, replay);
     drop(state);
     written?;
-    Ok(out)
+    Ok(Text::from(out))
 }
 
 /// The lines of an x86 test's replay, where the state's outcome is this one.
@@ -116,30 +116,22 @@ fn write_first_lines<A: Allocator, B: Allocator>(
 ) -> Result<(), AllocError>
     ensures { OnOk result (string_bytes out.new ≡ string_bytes out.old ++ first_lines (head_of head.now) replay) }
 {
-    write!(
-        out,
-        "Test {}\nSteps {}\nEnd ",
-        head.name.as_str(),
-        replay.done
-    )?;
+    let (name, done) = (head.name.as_str(), replay.done);
     match replay.end {
-        End::Final => out.push_str("Final\n"),
-        End::NotFinal => out.push_str("NotFinal\n"),
-        End::Stopped(stop) => write_stop(out, replay.done, stop),
+        End::Final => write!(out, "Test {}\nSteps {}\nEnd Final\n", name, done),
+        End::NotFinal => write!(out, "Test {}\nSteps {}\nEnd NotFinal\n", name, done),
+        End::Stopped(stop) => {
+            writeln!(
+                out,
+                "Test {}\nSteps {}\nEnd Stopped at {} by {} {}",
+                name,
+                done,
+                done,
+                stop.number(),
+                stop.name()
+            )
+        }
     }
-}
-
-/// How a replay stopped.
-fn write_stop<A: Allocator>(out: &mut String<A>, done: usize, stop: Stop) -> Result<(), AllocError>
-    ensures { OnOk result (string_bytes out.new ≡ string_bytes out.old ++ (end_text done (ends.Stopped stop) ++ codes "\n")) }
-{
-    writeln!(
-        out,
-        "Stopped at {} by {} {}",
-        done,
-        stop.number(),
-        stop.name()
-    )
 }
 
 /// A line for each thread of a source test.

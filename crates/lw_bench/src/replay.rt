@@ -2,13 +2,12 @@
 //! Frames, tests and runs are dropped by calls of `drop`, which is proved once for each type: what goes at
 //! the end of a scope is proved there anew.
 ghost use Rattle.std.specs.Prelude.{◌≡◌, ◌≢◌, ◌⊎◌, ◌≤◌, ◌↔◌, true, false, length, Err, IfOk, IfErr, OnOk};
-ghost use Rattle.std.specs.String.{string_bytes};
 ghost use Rattle.lw_memory.specs.Memory.{memory_of};
 ghost use Rattle.lw_litmus.specs.Views.{source_of, program_of};
 ghost use Rattle.lw_bench.specs.Devices.{TakesInput};
 ghost use Rattle.lw_bench.specs.LitmusTests.{litmus_test_of};
 ghost use Rattle.lw_bench.specs.Outputs.{Writes};
-ghost use Rattle.lw_bench.specs.Replays.{SourcePage, MachinePage, CachesPage, IsReplayPage};
+ghost use Rattle.lw_bench.specs.Replays.{SourcePage, MachinePage, CachesPage, IsPageOf, IsReplayPage};
 ghost use Rattle.lw_bench.specs.Told.{TellsReplay, TellsInput, TakesAt, IsNoDevice};
 
 use crate::device::{ByteReader, ByteWriter};
@@ -29,8 +28,8 @@ fn page_of_source<A: Allocator + Copy>(
     alloc: A,
     source: &Source<A>,
     events: &[Event],
-) -> Result<(String<A>, End), BenchFault>
-    ensures found { IfOk result (λ x. SourcePage (source_of source.now) events.now (string_bytes x.0) x.1) }
+) -> Result<(Text<A>, End), BenchFault>
+    ensures found { IfOk result (λ x. SourcePage (source_of source.now) events.now x.0 x.1) }
     ensures fault { IfErr result (λ f. f ≡ BenchFault.Memory) }
 {
     let mut run = SourceRun::new(alloc, source)?;
@@ -46,11 +45,11 @@ fn page_of_machine<M: MemorySystem + Drop, A: Allocator + Copy>(
     program: &Program<A>,
     memory: M,
     events: &[Event],
-) -> Result<(String<A>, End), BenchFault>
+) -> Result<(Text<A>, End), BenchFault>
     requires threads { length program.now.threads ≤ M.cpus memory }
     requires words { M.content memory ≡ program.now.head.init_words }
     ensures found { IfOk result (λ x. MachinePage (memory_of M.content M.state M.serves) M.memory
-        (program_of program.now) memory events.now (string_bytes x.0) x.1) }
+        (program_of program.now) memory events.now x.0 x.1) }
     ensures fault { IfErr result (λ f. f ≡ BenchFault.Memory) }
 {
     let Ok(mut machine) = Machine::new(alloc, program, memory) else {
@@ -68,8 +67,8 @@ fn page_of_program<P: KeptProtocol + Drop, A: Allocator + Copy>(
     alloc: A,
     program: &Program<A>,
     events: &[Event],
-) -> Result<(String<A>, End), BenchFault>
-    ensures found { IfOk result (λ x. CachesPage P.protocol (program_of program.now) events.now (string_bytes x.0) x.1) }
+) -> Result<(Text<A>, End), BenchFault>
+    ensures found { IfOk result (λ x. CachesPage P.protocol (program_of program.now) events.now x.0 x.1) }
     ensures fault { IfErr result (λ f. f ≡ BenchFault.Memory) }
 {
     empty_caches_are_kept();
@@ -78,27 +77,42 @@ fn page_of_program<P: KeptProtocol + Drop, A: Allocator + Copy>(
     page_of_machine(alloc, program, caches, events)
 }
 
+/// The page that tells of the replay of a test by these events, and how the replay ended.
+fn page_of_events<A: Allocator + Copy>(
+    alloc: A,
+    test: &LitmusTest<A>,
+    events: &[Event],
+    protocol: Protocol,
+) -> Result<(Text<A>, End), BenchFault>
+    ensures found { IfOk result (λ x. IsPageOf protocol (litmus_test_of test.now) events.now x.0 x.1) }
+    ensures fault { IfErr result (λ f. f ≡ BenchFault.Memory) }
+{
+    match (test, protocol) {
+        (LitmusTest::Source(source), _) => page_of_source(alloc, source, events),
+        (LitmusTest::X86(program), Protocol::Mesi) => {
+            page_of_program::<ByMesi, A>(alloc, program, events)
+        }
+        (LitmusTest::X86(program), Protocol::Moesi) => {
+            page_of_program::<ByMoesi, A>(alloc, program, events)
+        }
+    }
+}
+
 /// The page that tells of the replay of a test by a schedule, and how the replay ended.
-fn page_of<A: Allocator + Copy>(
+pub(crate) fn page_of<A: Allocator + Copy>(
     alloc: A,
     test: &LitmusTest<A>,
     schedule: &str,
     protocol: Protocol,
-) -> Result<(String<A>, End), BenchFault>
-    ensures found { IfOk result (λ x. IsReplayPage protocol (litmus_test_of test.now) schedule.now (string_bytes x.0) x.1) }
+) -> Result<(Text<A>, End), BenchFault>
+    ensures found { IfOk result (λ x. IsReplayPage protocol (litmus_test_of test.now) schedule.now x.0 x.1) }
     ensures told { IfErr result (λ f. (f ≡ BenchFault.Memory) ⊎ TellsReplay schedule.now (litmus_test_of test.now) f) }
     ensures device { IfErr result IsNoDevice }
 {
-    let head = test.head();
-    let events = read_schedule(alloc, schedule, &head.locs)?;
-    let events = events.as_slice();
-    match test {
-        LitmusTest::Source(source) => page_of_source(alloc, source, events),
-        LitmusTest::X86(program) => match protocol {
-            Protocol::Mesi => page_of_program::<ByMesi, A>(alloc, program, events),
-            Protocol::Moesi => page_of_program::<ByMoesi, A>(alloc, program, events),
-        },
-    }
+    let events = read_schedule(alloc, schedule, &test.head().locs)?;
+    let page = page_of_events(alloc, test, events.as_slice(), protocol);
+    drop(events);
+    page
 }
 
 /// The replay of a test by a schedule.
@@ -116,8 +130,7 @@ impl<'a, A: Allocator + Copy> Output<A> for Replaying<'a> {
     ghost tells = { λ r. TellsReplay r.schedule.now };
 
     fn make(&self, alloc: A, test: &LitmusTest<A>) -> Result<(Text<A>, End), BenchFault> {
-        let (page, end) = page_of(alloc, test, self.schedule, self.protocol)?;
-        Ok((Text::from(page), end))
+        page_of(alloc, test, self.schedule, self.protocol)
     }
 }
 

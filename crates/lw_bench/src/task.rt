@@ -8,15 +8,38 @@ ghost use Rattle.lw_bench.specs.Tasks.{IsDone, TellsTask};
 ghost use Rattle.lw_bench.specs.Told.{TellsInput, TakesAt};
 
 use crate::command::Task;
-use crate::compile::compile_text;
+use crate::compile::compilation_of;
 use crate::device::{ByteReader, ByteWriter};
 use crate::fault::{BenchFault, done_status, end_status};
 use crate::laws::what_is_known_is_reached_on_the_machine;
-use crate::lists::{schedules_text, states};
-use crate::replay::replay_text;
+use crate::lists::{report_of, schedules_of};
+use crate::litmus_test::LitmusTest;
+use crate::replay::page_of;
+use crate::run::{Output, run_text};
+use lw_base::Text;
 use std::alloc::Allocator;
 
-/// Carries a task out on the test that the reader gives, by the run of its name, writes what that makes, and answers the exit
+impl<'a, A: Allocator + Copy> Output<A> for Task<'a> {
+    type Answer = u8;
+
+    ghost is_made = { IsDone };
+
+    ghost tells = { TellsTask };
+
+    fn make(&self, alloc: A, test: &LitmusTest<A>) -> Result<(Text<A>, u8), BenchFault> {
+        match self {
+            Task::States => Ok((report_of(alloc, test)?, done_status())),
+            Task::Compile => Ok((compilation_of(alloc, test)?, done_status())),
+            Task::Schedules => Ok((schedules_of(alloc, test)?, done_status())),
+            Task::Replay(schedule, protocol) => {
+                let (page, end) = page_of(alloc, test, schedule, *protocol)?;
+                Ok((page, end_status(end)))
+            }
+        }
+    }
+}
+
+/// Carries a task out on the test that the reader gives, writes what that makes, and answers the exit
 /// status: of a replay whether it ended in a final state, else that it is done.
 ///
 /// The devices may not have failed before, and after a failure they are not called again.
@@ -44,22 +67,5 @@ pub fn carry_out<R: ByteReader, W: ByteWriter, A: Allocator + Copy>(
     ensures untouched { IfErr result (λ f. f ≢ BenchFault.Write → writer.new ≡ writer.old) }
 {
     what_is_known_is_reached_on_the_machine();
-    match task {
-        Task::States => {
-            states(alloc, reader, writer)?;
-            Ok(done_status())
-        }
-        Task::Compile => {
-            compile_text(alloc, reader, writer)?;
-            Ok(done_status())
-        }
-        Task::Schedules => {
-            schedules_text(alloc, reader, writer)?;
-            Ok(done_status())
-        }
-        Task::Replay(schedule, protocol) => {
-            let end = replay_text(alloc, reader, schedule, protocol, writer)?;
-            Ok(end_status(end))
-        }
-    }
+    run_text(alloc, &task, reader, writer)
 }

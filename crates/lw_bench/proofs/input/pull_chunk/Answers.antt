@@ -18,7 +18,8 @@ is_room g c = search rules
 
 pub returns-clause-bytes : goal.returns-clause-bytes
 returns-clause-bytes g c =
-    gets_front _ _ _ _ c.pull.new.buf _ c.min-room.result c.in-Ok.count c.requires.room (is_room g c) (whole g c) c.in-Ok.ensures.bound c.in-Ok.ensures.bytes c.in_ok-extend_from_slice.ensures.items
+    gets_front _ _ _ _ c.pull.new.buf _ c.min-room.result c.in-Ok.count c.requires.room (is_room g c)
+    (whole g c) c.in-Ok.ensures.bound c.in-Ok.ensures.bytes c.in_ok-extend_from_slice.ensures.items
 
 pub returns-in_default-clause-lost : goal.returns-in_default-clause-lost
 returns-in_default-clause-lost g c = loses_none _ _ _ c.requires.room c.in_default.ensures.bytes

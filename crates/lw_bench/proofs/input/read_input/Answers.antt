@@ -5,11 +5,13 @@ use Rattle.lw_bench.proofs.input.read_input.Goals as goal
 
 pub returns-then-branch-eq0-clause-bytes : goal.returns-then-branch-eq0-clause-bytes
 returns-then-branch-eq0-clause-bytes g c =
-    input_ended _ _ _ (gets_more _ _ _ _ _ _ c.loop-reader.invariant.bytes c.in_ok-pull_chunk.ensures.bytes) (c.in_ok-pull_chunk.ensures.bytes.ended c.if-branch-eq0.true)
+    input_ended _ _ _ (gets_more _ _ _ _ _ _ c.loop-reader.invariant.bytes c.in_ok-pull_chunk.ensures.bytes)
+    (c.in_ok-pull_chunk.ensures.bytes.ended c.if-branch-eq0.true)
 
 pub returns-then-branch-eq0-clause-taken : goal.returns-then-branch-eq0-clause-taken
 returns-then-branch-eq0-clause-taken g c =
-    taken_ended _ _ _ (gets_more _ _ _ _ _ _ c.loop-reader.invariant.bytes c.in_ok-pull_chunk.ensures.bytes) (c.in_ok-pull_chunk.ensures.bytes.ended c.if-branch-eq0.true) c.in_ok-pull_chunk.ensures.bytes.limit
+    taken_ended _ _ _ (gets_more _ _ _ _ _ _ c.loop-reader.invariant.bytes c.in_ok-pull_chunk.ensures.bytes)
+    (c.in_ok-pull_chunk.ensures.bytes.ended c.if-branch-eq0.true) c.in_ok-pull_chunk.ensures.bytes.limit
 
 pub returns-clause-taken : goal.returns-clause-taken
 returns-clause-taken g c = taken_full _ _ _ c.loop-reader.invariant.bytes (omega arith)

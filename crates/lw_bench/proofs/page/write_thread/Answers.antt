@@ -14,14 +14,18 @@ loop-reg-preserved g c =
     let whole : c.all-reg-items.result ≡ take 6 c.all-reg-items.result = c.all-reg-items.ensures ∙ sym (ap (take 6) c.all-reg-items.ensures) in
     let within : c.loop-reg.reg-index < length c.all-reg-items.result = omega (arith, c.loop-reg-test.true, ap length c.all-reg-items.ensures) in
     let item : ℕ = get_or c.all-reg-items.result c.loop-reg.reg-index c.reg-item.result in
-    let is : item ≡ c.loop-reg.reg-index = sym c.reg-item.is ∙ is_index 6 6 _ _ c.all-reg-items.result c.all-reg-items.result c.all-reg-items.ensures whole within c.reg-item.is in
+    let is : item ≡ c.loop-reg.reg-index = sym c.reg-item.is ∙ is_index 6 6 _ _ c.all-reg-items.result c.all-reg-items.result c.all-reg-items.ensures
+    whole within c.reg-item.is in
     let is_name = c.reg_name.ensures ∙ ap (register_name c.args.arch) is in
     let is_word = ap (λ (r : ℕ). slice_index c.args.regs.now r) (c.index-in-loop-reg.ensures.value ∙ is) in
-    let written = named_written _ _ _ (register_name c.args.arch c.loop-reg.reg-index) _ (slice_index c.args.regs.now c.loop-reg.reg-index) c.in_ok-write_named.ensures is_name is_word in
-    numbered_more (named (word_at c.args.regs.now)) (register_names c.args.arch) c.loop-reg.reg-index (register_name c.args.arch c.loop-reg.reg-index) _ _ _ (register_at c.args.arch c.loop-reg.reg-index c.loop-reg-test.true) c.loop-reg.invariant written
+    let written = named_written _ _ _ (register_name c.args.arch c.loop-reg.reg-index) _
+    (slice_index c.args.regs.now c.loop-reg.reg-index) c.in_ok-write_named.ensures is_name is_word in
+    numbered_more (named (word_at c.args.regs.now)) (register_names c.args.arch) c.loop-reg.reg-index
+    (register_name c.args.arch c.loop-reg.reg-index) _ _ _ (register_at c.args.arch c.loop-reg.reg-index c.loop-reg-test.true) c.loop-reg.invariant written
 
 pub returns : goal.returns
 returns g c =
     let begun = rw c.index.ensures.value at c.in_ok-write.ensures.bytes in
-    let told = numbered_all (named (word_at c.args.regs.now)) (register_names c.args.arch) c.loop-reg.reg-index _ _ c.loop-reg-test.false c.loop-reg.invariant in
+    let told = numbered_all (named (word_at c.args.regs.now))
+    (register_names c.args.arch) c.loop-reg.reg-index _ _ c.loop-reg-test.false c.loop-reg.invariant in
     thread_line_ended c.push_str.result _ c.args.cpu c.args.position _ _ _ _ begun told c.push_str.ensures.bytes

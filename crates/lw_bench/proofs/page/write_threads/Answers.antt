@@ -2,6 +2,7 @@ use Rattle.std.proofs.Common.{◌≡◌, ◌<◌, ℕ, Some, List, [], length, l
 use Rattle.std.specs.Prelude.{slice_index_or}
 use Rattle.std.specs.Option.{option_map}
 use Rattle.std.proofs.lemmas.Option.{slice_get-map, get_or_from_slice_get}
+use Rattle.std.proofs.lemmas.List.{length-map}
 use Rattle.lw_interleaving.specs.declared.thread.Thread.{Thread}
 use Rattle.lw_text.proofs.api.Indices.{is_index}
 use Rattle.lw_base.proofs.api.Lists.{get_some}
@@ -19,12 +20,27 @@ loop-cpu-preserved g c =
     let is = is_index 4 c.args.head.now.threads _ _ c.all.result _ c.all.ensures refl c.loop-cpu-test.true c.cpu-item.is in
     let within : k < length threads = omega (arith, c.requires.threads, c.loop-cpu-test.true, length-take c.args.head.now.threads c.all.result) in
     let here = get_some threads k within in
-    let position = told_of (λ (t : Thread). t.position) threads k here.0 c.position.result here.1 (ap (slice_get (map (λ (t : Thread). t.position) threads)) (sym is) ∙ c.position.ensures) in
-    let listed : slice_get c.args.regs.now k ≡ Some here.0.regs = ap (λ (l : List (List ℕ)). slice_get l k) c.requires.regs ∙ slice_get-map (λ (t : Thread). t.regs) threads k ∙ ap (option_map (λ (t : Thread). t.regs)) here.1 in
-    let regs = ap (λ (i : ℕ). slice_index_or c.args.regs.now i []) (c.index.ensures.value ∙ is) ∙ get_or_from_slice_get c.args.regs.now k here.0.regs [] listed in
+    let position = told_of (λ (t : Thread). t.position) threads k here.0 c.position.result here.1
+    (ap (slice_get (map (λ (t : Thread). t.position) threads)) (sym is) ∙ c.position.ensures) in
+    let listed : slice_get c.args.regs.now k ≡ Some here.0.regs = ap (λ (l : List (List ℕ)). slice_get l k) c.requires.regs ∙ slice_get-map
+    (λ (t : Thread). t.regs) threads k ∙ ap (option_map (λ (t : Thread). t.regs)) here.1 in
+    let regs = ap (λ (i : ℕ). slice_index_or c.args.regs.now i []) (c.index.ensures.value ∙ is)
+    ∙ get_or_from_slice_get c.args.regs.now k here.0.regs [] listed in
     let written = thread_told c.args.head.now.arch _ _ _ k _ here.0.position _ here.0.regs c.in_ok-write_thread.ensures is position regs in
     numbered_more (λ t (th : Thread). thread_line c.args.head.now.arch t th.position th.regs) threads k here.0 _ _ _ here.1 c.loop-cpu.invariant written
 
 pub returns : goal.returns
 returns g c =
-    numbered_all (λ t (th : Thread). thread_line c.args.head.now.arch t th.position th.regs) c.args.run.now.state.threads c.loop-cpu.cpu-index _ _ (omega arith) c.loop-cpu.invariant
+    numbered_all (λ t (th : Thread). thread_line c.args.head.now.arch t th.position th.regs) c.args.run.now.state.threads c.loop-cpu.cpu-index _ _
+    (omega arith) c.loop-cpu.invariant
+
+pub position-requires : goal.position-requires
+position-requires g c =
+    let is = is_index 4 c.args.head.now.threads _ _ c.all.result _ c.all.ensures refl c.loop-cpu-test.true c.cpu-item.is in
+    omega (arith, is, c.loop-cpu-test.true, length-take c.args.head.now.threads c.all.result, c.requires.threads)
+
+pub bounds-regs-index : goal.bounds-regs-index
+bounds-regs-index g c =
+    let is = is_index 4 c.args.head.now.threads _ _ c.all.result _ c.all.ensures refl c.loop-cpu-test.true c.cpu-item.is in
+    let many = ap length c.requires.regs ∙ length-map c.args.run.now.state.threads (λ (p : Thread). p.regs) in
+    omega (arith, is, c.index.ensures.value, many, c.loop-cpu-test.true, length-take c.args.head.now.threads c.all.result, c.requires.threads)

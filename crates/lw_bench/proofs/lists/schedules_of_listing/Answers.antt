@@ -1,0 +1,29 @@
+use Rattle.std.proofs.lemmas.Result.{IfOk-weaker}
+use Rattle.lw_bench.specs.LitmusTests.{litmus_test_of}
+use Rattle.lw_bench.specs.Lists.{IsScheduleReport}
+use Rattle.lw_bench.proofs.TestReports.{schedules_of_list, outcomes_there, schedules_there}
+use Rattle.lw_bench.proofs.lists.schedules_of_listing.Goals as goal
+
+pub states_of-requires-clause-threads : goal.states_of-requires-clause-threads
+states_of-requires-clause-threads g c = c.head-head.ensures.formed.few
+
+pub states_of-requires-clause-condition : goal.states_of-requires-clause-condition
+states_of-requires-clause-condition g c = c.head-head.ensures.formed.condition
+
+pub states_of-requires-clause-outcomes : goal.states_of-requires-clause-outcomes
+states_of-requires-clause-outcomes g c = outcomes_there (litmus_test_of c.args.test.now) c.args.listing.now c.requires _ c.head-head.ensures.head
+
+pub write_schedules-list-requires-clause-threads : goal.write_schedules-list-requires-clause-threads
+write_schedules-list-requires-clause-threads g c = c.head-head.ensures.formed.few
+
+pub write_schedules-list-requires-clause-schedules : goal.write_schedules-list-requires-clause-schedules
+write_schedules-list-requires-clause-schedules g c = schedules_there (litmus_test_of c.args.test.now) c.args.listing.now c.requires _ c.head-head.ensures.head
+
+pub write_schedules-list-requires-clause-states : goal.write_schedules-list-requires-clause-states
+write_schedules-list-requires-clause-states g c = c.in_ok-states.ensures
+
+pub returns : goal.returns
+returns g c =
+    IfOk-weaker c.write_schedules-list.result _ (IsScheduleReport (litmus_test_of c.args.test.now))
+    (λ text is. schedules_of_list (litmus_test_of c.args.test.now) c.args.listing.now c.requires _ c.head-head.ensures.head c.in_ok-states.states text
+    c.in_ok-states.ensures is) c.write_schedules-list.ensures
