@@ -2,7 +2,7 @@
 ghost use Rattle.std.specs.Prelude.{◌≡◌, map, true, IsTrue, IfOk};
 ghost use Rattle.lw_base.specs.declared.event.Event.TheVariants.{Step};
 ghost use Rattle.lw_fence.specs.Compiling.{IsCompiled};
-ghost use Rattle.lw_interleaving.specs.Runs.{State, Ran, start_of};
+ghost use Rattle.lw_interleaving.specs.Runs.{State, SourceRan, start_of};
 ghost use Rattle.lw_litmus.specs.Views.{source_of as test_of_source, program_of};
 
 use linked_list_allocator::LocalHeap;
@@ -23,7 +23,7 @@ fn steps_of<A: Allocator + Copy>(alloc: A, order: &[Cpu]) -> Result<Vec<Event, A
 /// Whether the source runs by these threads to its end.
 fn ends_by<A: Allocator + Copy>(alloc: A, source: &Source<A>, order: &[Cpu]) -> bool
     ensures { IsTrue result → (end : State)
-        × Ran source.now.threads (map Step order.now) (start_of (test_of_source source.now)) end }
+        × SourceRan source.now.threads (map Step order.now) (start_of (test_of_source source.now)) end }
 {
     let Ok(steps) = steps_of(alloc, order) else {
         return false;
@@ -159,7 +159,7 @@ fn is_scheduled_in<A: Allocator + Copy>(
     order: &[Cpu],
 ) -> Option<Made>
     requires compiled { IsCompiled (test_of_source source.now) (program_of compiled.now.program) compiled.now.starts }
-    requires ends { (end : State) × Ran source.now.threads (map Step order.now) (start_of (test_of_source source.now)) end }
+    requires ends { (end : State) × SourceRan source.now.threads (map Step order.now) (start_of (test_of_source source.now)) end }
 {
     match schedule_of(heap, source, compiled, order) {
         Ok(events) if events.len() == 8 => Some(Made::Whole),
