@@ -3,3 +3,4 @@ mod Schedules
 mod Words
 mod WrittenSchedules
 mod Shapes
+mod Conditions

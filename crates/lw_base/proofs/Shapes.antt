@@ -1,12 +1,16 @@
 -- Words of an event's shape, and words that are refused.
-use Rattle.std.proofs.Common.{rules, ◌≡◌, ◌≢◌, ℕ, zero, suc, ◌<◌, ◌+◌, ◌==◌, inl, inr, true, false, [], ◌∷◌, ◌++◌, length, refl, sym, ap, ◌∙◌, subst, arith}
-use Rattle.std.proofs.lemmas.Bool.{true≢false}
+use Rattle.std.proofs.Common.{rules, ◌≡◌, ◌≢◌, ◌⊎◌, not, ℕ, zero, suc, ◌<◌, ◌+◌, ◌==◌, inl, inr, true, false, [], ◌∷◌, ◌++◌, length, refl, sym, ap}
+use Rattle.std.proofs.Common.{◌∙◌, subst, arith}
+use Rattle.std.proofs.lemmas.Bool.{true≢false, not-false, eqb-true}
+use Rattle.std.proofs.lemmas.Bool.Decides.{nat_tests}
+use Rattle.std.proofs.lemmas.List.{append-nil}
 use Rattle.std.proofs.lemmas.List.Elements.{Contains-get_or}
 use Rattle.std.proofs.lemmas.Option.{slice_get_within, get_or_from_slice_get}
 use Rattle.std.specs.Prelude.{slice_get, slice_index_or, Some, Contains}
 use Rattle.std.specs.Char.{is_ascii_digit}
 use Rattle.std.specs.List.{AllByRecursion, list_all}
 use Rattle.lw_base.specs.Types.{Bytes, NameTable}
+use Rattle.lw_base.specs.Characters.{Lacks, IsCutAt, begins}
 use Rattle.lw_base.specs.Names.{IsLocation, IsWordText, IsTable, are_digits}
 use Rattle.lw_base.specs.Schedules.{HasParts, HasShape, IsCpu, IsFaulty, IsEvent, event_word}
 use Rattle.lw_base.proofs.api.Lists.{apart}
@@ -148,3 +152,72 @@ no_event names table w Location (ds, n, cpu, text, is_word, missing) (Evict c l)
     let named : slice_index_or names l [] ≡ n = cc in
     missing (subst (Contains names) named (Contains-get_or names l [] is.1))
 no_event names table w Memory faulty e is same = absurd faulty
+
+-- ---- words without a `:`, and without an event's letter
+
+lacks_all : (b : ℕ) (front : Bytes) → AllByRecursion (λ c. not (c == b) ≡ true) front → Lacks b front
+lacks_all b [] all = tt
+lacks_all b (c ∷ front) all = (differ, lacks_all b front all.1)
+  where
+    differ : c ≢ b
+    differ e = let k : not (b == b) ≡ true = subst (λ d. not (d == b) ≡ true) e all.0 in grind (arith, nat_tests)
+
+-- a text without such bytes
+pub cut_nowhere : (b : ℕ) (text front rest : Bytes) → text ≡ front ++ rest → AllByRecursion (λ c. not (c == b) ≡ true) front → length rest ≡ 0
+    → Lacks b text
+cut_nowhere b text front [] parts all none = subst (Lacks b) (sym (parts ∙ append-nil front)) (lacks_all b front all)
+cut_nowhere b text front (c ∷ rest) parts all none = absurd (omega (arith, none))
+
+-- a text up to its first such byte
+pub cut_there : (b : ℕ) (text front rest others : Bytes) (x : ℕ) → text ≡ front ++ rest → AllByRecursion (λ c. not (c == b) ≡ true) front
+    → begins (λ c. not (c == b)) rest ≡ false → rest ≡ x ∷ others → IsCutAt b text front others
+cut_there b text front rest others x parts all longest is = (parts ∙ ap (λ r. front ++ r) (is ∙ ap (λ y. y ∷ others) first), lacks_all b front all)
+  where
+    first : x ≡ b
+    first = eqb-true x b (not-false (x == b) (ap (begins (λ c. not (c == b))) (sym is) ∙ longest))
+
+-- a word without bytes
+pub none_shaped : (w ds : Bytes) → length w ≡ 0 → HasShape w ds → ⊥
+none_shaped [] ds none shape = go shape.1
+  where
+    go : HasParts [] ds → ⊥
+    go (inl e) = cc
+    go (inr (inl e)) = cc
+    go (inr (inr h)) = let e = h.2 in cc
+none_shaped (b ∷ w) ds none shape = omega (arith, none)
+
+-- Digits behind `P` or `D`.
+digits_are : (w rest ds : Bytes) → (w ≡ 80 ∷ rest) ⊎ (w ≡ 68 ∷ rest) → HasParts w ds → rest ≡ ds
+digits_are w rest ds (inl e) (inl f) = behind 80 80 _ _ (sym e ∙ f)
+digits_are w rest ds (inl e) (inr (inl f)) = absurd (apart 80 68 _ _ (λ k. omega arith) (sym e ∙ f))
+digits_are w rest ds (inl e) (inr (inr f)) = absurd (apart 80 69 _ _ (λ k. omega arith) (sym e ∙ f.2))
+digits_are w rest ds (inr e) (inl f) = absurd (apart 68 80 _ _ (λ k. omega arith) (sym e ∙ f))
+digits_are w rest ds (inr e) (inr (inl f)) = behind 68 68 _ _ (sym e ∙ f)
+digits_are w rest ds (inr e) (inr (inr f)) = absurd (apart 68 69 _ _ (λ k. omega arith) (sym e ∙ f.2))
+
+parts_there : (w rest : Bytes) → (w ≡ 80 ∷ rest) ⊎ (w ≡ 68 ∷ rest) → HasParts w rest
+parts_there w rest (inl e) = inl e
+parts_there w rest (inr e) = inr (inl e)
+
+not_shaped : (w rest : Bytes) → (w ≡ 80 ∷ rest) ⊎ (w ≡ 68 ∷ rest) → are_digits rest ≡ false → (ds : Bytes) → HasShape w ds → ⊥
+not_shaped w rest is bad ds shape =
+    true≢false (sym (subst (λ r. are_digits r ≡ true) (sym (digits_are w rest ds is shape.1)) shape.0) ∙ bad)
+
+bad_digits : (names : NameTable) (w rest : Bytes) → (w ≡ 80 ∷ rest) ⊎ (w ≡ 68 ∷ rest) → (cause : ScheduleCause) → HasBadDigits rest cause
+    → IsFaulty names w cause
+bad_digits names w rest is Word bad = not_shaped w rest is bad
+bad_digits names w rest is Cpu bad = (rest, (bad.0, parts_there w rest is), bad.1)
+bad_digits names w rest is Location bad = absurd bad
+bad_digits names w rest is Memory bad = absurd bad
+
+pub bad_step : (names : NameTable) (w rest : Bytes) (x : ℕ) (cause : ScheduleCause) → w ≡ x ∷ rest → x ≡ 80 → HasBadDigits rest cause
+    → IsFaulty names w cause
+bad_step names w rest x cause is letter bad = bad_digits names w rest (inl (is ∙ ap (λ y. y ∷ rest) letter)) cause bad
+
+pub bad_drain : (names : NameTable) (w rest : Bytes) (x : ℕ) (cause : ScheduleCause) → w ≡ x ∷ rest → x ≡ 68 → HasBadDigits rest cause
+    → IsFaulty names w cause
+bad_drain names w rest x cause is letter bad = bad_digits names w rest (inr (is ∙ ap (λ y. y ∷ rest) letter)) cause bad
+
+-- a letter with what stands behind it
+pub lettered : (w rest told : Bytes) (x y : ℕ) → w ≡ x ∷ rest → x ≡ y → rest ≡ told → y ∷ told ≡ w
+lettered w rest told x y is letter behind = sym (is ∙ ap (λ z. z ∷ rest) letter ∙ ap (λ r. y ∷ r) behind)

@@ -1,7 +1,8 @@
 -- The words of a text, the first of them and the rest.
-use Rattle.std.proofs.Common.{append_assoc, drop, ◌-◌, length-append, ◌≡◌, ◌<◌, ◌≤◌, true, false, not, List, [], ◌∷◌, ◌++◌, length, refl, sym, ap, ◌∙◌, arith}
-use Rattle.std.proofs.lemmas.Bool.{not-true, not-false, true≢false}
-use Rattle.std.proofs.lemmas.List.{map-append}
+use Rattle.std.proofs.Common.{append_assoc, drop, ◌-◌, length-append, ◌≡◌, ◌<◌, ◌≤◌, ◌==◌, ℕ, zero, suc, true, false, not, List, [], ◌∷◌, ◌++◌, length}
+use Rattle.std.proofs.Common.{refl, sym, ap, ◌∙◌, arith}
+use Rattle.std.proofs.lemmas.Bool.{not-true, not-false, true≢false, eqb-true}
+use Rattle.std.proofs.lemmas.List.{append-nil, map-append}
 use Rattle.std.proofs.Math.Seq.{drop-append_seam}
 use Rattle.std.specs.Prelude.{map}
 use Rattle.std.specs.List.{AllByRecursion}
@@ -84,3 +85,23 @@ more_words names text rest w after last es fs e before first further is more =
     (map-append word es (e ∷ [])) ∙ append_assoc (map word es) (word e ∷ []) (words last) in
     let two : map word es ++ words rest ≡ map word es ++ w ∷ words last = ap (λ ws. map word es ++ ws) (first ∙ ap (λ ws. w ∷ ws) further) in
     before ∙ two ∙ ap (λ v. map word es ++ v ∷ words last) (sym is) ∙ sym one
+
+-- the words of a text of which nothing is left
+pub all_words : (names : NameTable) (text rest : Bytes) (es : List Event) → words text ≡ map (event_word names) es ++ words rest → true ≡ (length rest == 0)
+    → words text ≡ map (event_word names) es
+all_words names text [] es before none = before ∙ append-nil (map (event_word names) es)
+all_words names text (b ∷ rest) es before none = absurd (omega (arith, eqb-true (length (b ∷ rest)) 0 (sym none)))
+
+pub has_some : (n : ℕ) → false ≡ (n == 0) → 0 < n
+has_some zero e = absurd (true≢false (sym e))
+has_some (suc n) e = omega arith
+
+-- a text is longer than what stands behind its first word and the blanks there
+pub shrinks : (rest w after b last : Bytes) → rest ≡ w ++ after → after ≡ b ++ last → 0 < length rest → begins is_blank rest ≡ false
+    → begins (λ c. not (is_blank c)) after ≡ false → length last < length rest
+shrinks rest [] [] b last e f some front ends = absurd (omega (arith, some, ap length e))
+shrinks rest [] (c ∷ r) b last e f some front ends =
+    let blank : is_blank c ≡ true = not-false (is_blank c) ends in
+    let none : is_blank c ≡ false = ap (begins is_blank) (sym e) ∙ front in
+    absurd (true≢false (sym blank ∙ none))
+shrinks rest (x ∷ w) after b last e f some front ends = omega (arith, ap length e, length-append w after, ap length f, length-append b last)

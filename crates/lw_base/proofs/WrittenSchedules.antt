@@ -50,6 +50,11 @@ next_words : (names : NameTable) (es : List Event) → flat_map (λ next. codes 
 next_words names [] = refl
 next_words names (e ∷ es) = ap (λ t. next_word names e ++ t) (next_words names es)
 
+-- a schedule of no events
+pub schedule_none : (names : NameTable) (events : List Event) (out : Bytes) → length events ≡ 0 → out ≡ [] → out ≡ schedule_text names events
+schedule_none names [] out none empty = empty
+schedule_none names (e ∷ events) out none empty = absurd (omega (arith, none))
+
 -- the first word has been written
 pub schedule_begun : (names : NameTable) (events : List Event) (first : Event) (others : List Event) (out : Bytes) → events ≡ first ∷ others
     → out ≡ event_word names first → out ++ flat_map (next_word names) (drop 0 others) ≡ schedule_text names events

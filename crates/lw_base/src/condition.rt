@@ -1,13 +1,15 @@
 //! The printing of a condition.
-ghost use Rattle.std.specs.Prelude.{◌≡◌, ◌++◌, length, IfOk, OnOk};
+ghost use Rattle.std.specs.Prelude.{◌≡◌, ◌++◌, [], length, IfOk, OnOk};
 ghost use Rattle.std.specs.String.{string_bytes};
 ghost use Rattle.lw_base.specs.ConditionTexts as printed;
-ghost use Rattle.lw_base.specs.ConditionTexts.{condition_text, proposition_text, parenthesized_if, is_joined};
+ghost use Rattle.lw_base.specs.ConditionTexts.{condition_text, proposition_text, parenthesized_if, site_text, assignment};
 ghost use Rattle.lw_base.specs.Heads.{head_of};
 ghost use Rattle.lw_base.specs.Propositions.{formula_of};
 ghost use Rattle.lw_base.specs.WellFormed.{HasLocations};
+ghost use Rattle.lw_base.specs.declared.head.Seen.TheVariants.{Register};
 
-use crate::head::{Head, Quant};
+use crate::head::{Arch, Head, Quant};
+use crate::number::{Cpu, Reg, Word};
 use crate::proposition::Prop;
 use crate::register::reg_name;
 use crate::text::Text;
@@ -53,31 +55,49 @@ fn write_proposition<A: Allocator, B: Allocator>(
     match prop {
         Prop::Always => out.push_str("true"),
         Prop::Never => out.push_str("false"),
-        Prop::RegIs(cpu, reg, word) => {
-            write!(
-                out,
-                "{}:{}={}",
-                cpu.index(),
-                reg_name(head.arch, *reg),
-                word
-            )
-        }
+        Prop::RegIs(cpu, reg, word) => write_register_is(out, head.arch, *cpu, *reg, *word),
         Prop::WordIs(loc, word) => write!(out, "{}={}", head.locs.name(*loc), word),
-        Prop::Neg(part) => {
-            out.push_str("~")?;
-            write_part(out, head, part, part.is_joined())
-        }
+        Prop::Neg(part) => write_behind(out, head, "~", part, part.is_joined()),
         Prop::Both(left, right) => {
             write_part(out, head, left, left.is_either())?;
-            out.push_str(" /\\ ")?;
-            write_part(out, head, right, right.is_joined())
+            write_behind(out, head, " /\\ ", right, right.is_joined())
         }
         Prop::Either(left, right) => {
             write_proposition(out, head, left)?;
-            out.push_str(" \\/ ")?;
-            write_part(out, head, right, right.is_either())
+            write_behind(out, head, " \\/ ", right, right.is_either())
         }
     }
+}
+
+/// What is asked of a thread's register.
+fn write_register_is<A: Allocator>(
+    out: &mut String<A>,
+    arch: Arch,
+    cpu: Cpu,
+    reg: Reg,
+    word: Word,
+) -> Result<(), AllocError>
+    ensures { OnOk result (string_bytes out.new
+        ≡ string_bytes out.old ++ assignment (site_text arch [] (Register cpu reg)) word) }
+{
+    write!(out, "{}:{}={}", cpu.index(), reg_name(arch, reg), word)
+}
+
+/// A mark, and a part of a proposition behind it.
+#[cycle(propositions)]
+fn write_behind<A: Allocator, B: Allocator>(
+    out: &mut String<A>,
+    head: &Head<B>,
+    mark: &str,
+    part: &Prop<B>,
+    needs_parentheses: bool,
+) -> Result<(), AllocError>
+    requires { HasLocations (length head.now.locs) (formula_of part.now) }
+    ensures { OnOk result (string_bytes out.new ≡ string_bytes out.old
+        ++ (mark.now ++ parenthesized_if needs_parentheses (proposition_text head.now.arch head.now.locs (formula_of part.now)))) }
+{
+    out.push_str(mark)?;
+    write_part(out, head, part, needs_parentheses)
 }
 
 /// A part of a proposition, in parentheses where they are needed.

@@ -109,8 +109,10 @@ impl<A: Allocator + Copy> LocNames<A> {
         if len == MAX_LOCATIONS {
             return Ok(None);
         }
-        let loc = self.add(name)?;
-        Ok(Some(loc))
+        match self.add(name) {
+            Ok(loc) => Ok(Some(loc)),
+            Err(error) => Err(error),
+        }
     }
 
     /// An equal table, over the same allocator.

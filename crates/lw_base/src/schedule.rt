@@ -114,8 +114,9 @@ fn at_colon(text: &[u8]) -> Option<(&[u8], &[u8])>
     ensures { MatchOption result (Lacks (byte ":") text.now)
         (λ x. IsCutAt (byte ":") text.now x.0.now x.1.now) }
 {
-    let place = text.iter().position(|byte| *byte == b':')?;
-    Some((&text[..place], &text[place + 1..]))
+    let (digits, rest) = front(text, ByteKind::Not(b':'));
+    let (_, name) = rest.split_first()?;
+    Some((digits, name))
 }
 
 /// The text of a schedule: the words of its events, joined by one space.

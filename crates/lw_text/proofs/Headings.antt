@@ -1,6 +1,7 @@
 -- The word of a language, blanks, a test's name and its notes are read in one way.
-use Rattle.std.proofs.Common.{◌≡◌, ℕ, inl, inr, true, false, not, [], ◌∷◌, ◌++◌, length, refl, sym, ap, ◌∙◌, subst, arith}
-use Rattle.std.specs.Prelude.{codes}
+use Rattle.std.proofs.Common.{◌≡◌, ℕ, ◌<◌, inl, inr, true, false, not, [], ◌∷◌, ◌++◌, length, refl, sym, ap, ◌∙◌, subst, arith}
+use Rattle.std.specs.Prelude.{codes, slice_index_or}
+use Rattle.std.proofs.lemmas.Bool.Decides.{nat_tests}
 use Rattle.std.specs.List.{AllByRecursion}
 use Rattle.std.specs.Char.{is_ascii_graphic}
 use Rattle.std.proofs.lemmas.Bool.{not-true, cases_Bool}
@@ -13,7 +14,7 @@ use Rattle.lw_text.specs.Tokens.{First}
 use Rattle.lw_base.specs.Names.{IsTestName}
 use Rattle.lw_text.specs.Headings.{Named, Notes, Heading}
 use Rattle.lw_text.proofs.Texts.{is_no_text}
-use Rattle.lw_base.proofs.api.Blanks.{blank_all}
+use Rattle.lw_base.proofs.api.Blanks.{blank_all, all_ascii}
 use Rattle.lw_text.proofs.Words.{run-unique}
 use Rattle.lw_text.proofs.TokenRows.{First-unique}
 use Rattle.lw_text.proofs.NoteRows.{Notes-unique}
@@ -83,3 +84,10 @@ Heading-unique text a n r b m s p q =
     let e = First-unique text (arch_word a) p.0 (arch_word b) q.0 p.2 q.2 in
     let f = Named-unique q.0 n p.1 m q.1 (subst (λ x. Named x n p.1) e.1 p.3) q.3 in
     (arch_word-unique a b e.0, f.0, Notes-unique (subst (λ x. Notes x r) f.1 p.4) q.4)
+
+-- the name of a test has bytes below 128 alone
+graphic_ascii : (b : ℕ) → is_ascii_graphic b ≡ true → b < 128
+graphic_ascii b is = grind (arith, nat_tests)
+
+pub name_ascii : (name : Bytes) → IsTestName name → (i : ℕ) → slice_index_or name i 0 < 128
+name_ascii name is = all_ascii is_ascii_graphic graphic_ascii name is.all

@@ -50,5 +50,8 @@ word_next (t ∷ tokens) (suc next) w h =
 pub none_left : (tokens : List Token) (next : ℕ) → next ≡ length tokens → texts (drop next tokens) ≡ []
 none_left tokens next e = ap texts (drop_all next tokens (omega (arith, e)))
 
+pub nothing_left : (tokens : List Token) (next : ℕ) → length tokens ≤ next → texts (drop next tokens) ≡ []
+nothing_left tokens next le = ap texts (drop_all next tokens le)
+
 pub some_left : (tokens : List Token) (next : ℕ) → next ≤ length tokens → (next ≡ length tokens → ⊥) → texts (drop next tokens) ≡ [] → ⊥
 some_left tokens next le ne e = ne (omega (arith, le, length-map (drop next tokens) (λ (t : Token). t.text.now), length-drop next tokens, ap length e))

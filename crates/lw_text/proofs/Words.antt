@@ -1,10 +1,10 @@
 -- Words and symbols, and what stands behind them.
-use Rattle.std.proofs.Common.{◌≡◌, ℕ, ◌<◌, inl, inr, Bool, true, false, not, [], ◌∷◌, ◌++◌, length, take, drop, refl, sym, ap, ◌∙◌, subst, arith}
-use Rattle.std.specs.Prelude.{◌==◌, Option, Some, None, MatchOption, is_some}
+use Rattle.std.proofs.Common.{◌≡◌, ℕ, zero, suc, ◌<◌, inl, inr, Bool, true, false, not, [], ◌∷◌, ◌++◌, length, take, drop, refl, sym, ap, ◌∙◌, subst, arith}
+use Rattle.std.specs.Prelude.{◌==◌, nat_lt, slice_index_or, Option, Some, None, MatchOption, is_some}
 use Rattle.std.specs.Str.{bytes_eq}
 use Rattle.std.specs.List.{AllByRecursion, list_all}
 use Rattle.std.proofs.lemmas.Slice.Eq.{bytes_eq-Decides}
-use Rattle.std.proofs.lemmas.Bool.{eqb-true, not-true, cases_Bool}
+use Rattle.std.proofs.lemmas.Bool.{and_parts, ltb-true, eqb-true, not-true, cases_Bool}
 use Rattle.lw_base.specs.Types.{Bytes}
 use Rattle.lw_base.specs.Characters.{is_blank, is_word_byte, begins}
 use Rattle.lw_base.specs.Names.{IsName}
@@ -151,3 +151,21 @@ pub kind_number : (w : Bytes) (name number : Bool) (o : Option ℕ) → (IsName 
     → MatchOption o ((n : ℕ) → IsNumber w n → ⊥) (λ n. IsNumber w n) → number ≡ is_some o → (number ≡ true → IsKind w) × (IsKind w → number ≡ true)
 kind_number w name number None is other never e = (λ h. absurd cc, λ k. elim k [ inl n ↦ absurd (let h = is n in cc) | inr n ↦ absurd (never n.0 n.1) ])
 kind_number w name number (Some m) is other found e = (λ h. inr (m, found), λ k. e)
+
+-- ---- symbols have bytes below 128 alone
+
+below_all : (w : Bytes) → list_all (λ b. nat_lt b 128) w ≡ true → (i : ℕ) → slice_index_or w i 0 < 128
+below_all [] h i = omega arith
+below_all (b ∷ w) h zero = ltb-true b 128 (and_parts (nat_lt b 128) (list_all (λ c. nat_lt c 128) w) h).0
+below_all (b ∷ w) h (suc i) = below_all w (and_parts (nat_lt b 128) (list_all (λ c. nat_lt c 128) w) h).1 i
+
+pub long_ascii : (bytes t : Bytes) → ((b c : ℕ) × (more : Bytes) × (bytes ≡ b ∷ c ∷ more) × (is_pair b c ≡ true)) → t ≡ take 2 bytes → (i : ℕ)
+    → slice_index_or t i 0 < 128
+long_ascii bytes t (b, c, more, e, p) f i =
+    let low = any_all bytes_eq (λ x y h. (bytes_eq-Decides x y).0 h) (λ w. list_all (λ d. nat_lt d 128) w) pairs (b ∷ c ∷ []) refl p in
+    subst (λ w. slice_index_or w i 0 < 128) (sym (f ∙ ap (take 2) e)) (below_all (b ∷ c ∷ []) low i)
+
+pub short_ascii : (bytes more t : Bytes) (b : ℕ) → bytes ≡ b ∷ more → is_single b ≡ true → t ≡ take 1 bytes → (i : ℕ) → slice_index_or t i 0 < 128
+short_ascii bytes more t b e single f i =
+    let low = any_all (λ x y. x == y) same_byte (λ d. list_all (λ d. nat_lt d 128) (d ∷ [])) singles b refl single in
+    subst (λ w. slice_index_or w i 0 < 128) (sym (f ∙ ap (take 1) e)) (below_all (b ∷ []) low i)

@@ -34,17 +34,21 @@ impl<'t, 'a> Cursor<'t, 'a> {
         let threads = self.header()?;
         check_threads(entries.as_slice(), threads)?;
         let rows = self.rows(alloc, threads)?;
-        let (listed, quant, prop) = self.condition(alloc, arch, threads, &mut locs)?;
-        let _len = locs.len();
-        let parts = HeadParts {
-            entries,
-            threads,
-            locs,
-            listed,
-            quant,
-            prop,
-        };
-        Ok(Body { parts, rows })
+        match self.condition(alloc, arch, threads, &mut locs) {
+            Ok((listed, quant, prop)) => {
+                let _len = locs.len();
+                let parts = HeadParts {
+                    entries,
+                    threads,
+                    locs,
+                    listed,
+                    quant,
+                    prop,
+                };
+                Ok(Body { parts, rows })
+            }
+            Err(refusal) => Err(refusal),
+        }
     }
 }
 

@@ -17,9 +17,12 @@ impl<'a, A: Allocator + Copy> Cell<'a, A> {
     pub fn copy(&self) -> Result<Self, AllocError>
         ensures { IfOk result (λ cell. cell ≡ self.now) }
     {
-        Ok(Cell {
-            tokens: self.tokens.copy()?,
-            end: self.end,
-        })
+        match self.tokens.copy() {
+            Ok(tokens) => Ok(Cell {
+                tokens,
+                end: self.end,
+            }),
+            Err(error) => Err(error),
+        }
     }
 }

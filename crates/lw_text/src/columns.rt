@@ -2,7 +2,6 @@
 ghost use Rattle.std.specs.Prelude.{◌≡◌, ◌<◌, length, All, IfOk};
 ghost use Rattle.lw_text.specs.Rows as wanted;
 
-use crate::cell::Cell;
 use crate::rows::CellSequence;
 use lw_base::Sequence;
 use std::alloc::{AllocError, Allocator};
@@ -18,12 +17,23 @@ pub(crate) fn columns<'a, A: Allocator + Copy>(
 {
     let mut columns = Sequence::new(alloc);
     for place in 0..threads {
-        let mut column = Sequence::new(alloc);
-        for row in rows {
-            let cell: &Cell<'a, A> = &row.as_slice()[place];
-            column.push(cell.copy()?)?;
-        }
-        columns.push(column)?;
+        columns.push(column(alloc, place, rows)?)?;
     }
     Ok(columns)
+}
+
+/// What stands in each row at the place.
+fn column<'a, A: Allocator + Copy>(
+    alloc: A,
+    place: usize,
+    rows: &[CellSequence<'a, A>],
+) -> Result<CellSequence<'a, A>, AllocError>
+    requires { All (λ row. place < length row) rows.now }
+    ensures { IfOk result (λ v. v ≡ wanted.column rows.now place) }
+{
+    let mut column = Sequence::new(alloc);
+    for row in rows {
+        column.push(row.as_slice()[place].copy()?)?;
+    }
+    Ok(column)
 }

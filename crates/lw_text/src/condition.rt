@@ -46,8 +46,10 @@ impl<'t, 'a> Cursor<'t, 'a> {
     {
         let listed = self.listed(alloc, arch, threads, locs)?;
         let quant = self.quantifier()?;
-        let prop = self.proposition(alloc, arch, threads, locs)?;
-        Ok((listed, quant, prop))
+        match self.proposition(alloc, arch, threads, locs) {
+            Ok(prop) => Ok((listed, quant, prop)),
+            Err(refusal) => Err(refusal),
+        }
     }
 
     /// Takes the quantifier.

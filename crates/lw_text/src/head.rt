@@ -66,12 +66,18 @@ impl<A: Allocator + Copy> HeadParts<A> {
     {
         let entries = self.entries.as_slice();
         let len = self.locs.len();
-        Ok(Made {
-            name: Text::from_str(alloc, name)?,
-            init_regs: initial_registers(alloc, entries, self.threads)?,
-            init_words: initial_words(alloc, entries, len)?,
-            listed: seen_among(alloc, self.listed.as_slice(), self.threads, len)?,
-        })
+        let name = Text::from_str(alloc, name)?;
+        let init_regs = initial_registers(alloc, entries, self.threads)?;
+        let init_words = initial_words(alloc, entries, len)?;
+        match seen_among(alloc, self.listed.as_slice(), self.threads, len) {
+            Ok(listed) => Ok(Made {
+                name,
+                init_regs,
+                init_words,
+                listed,
+            }),
+            Err(error) => Err(error),
+        }
     }
 }
 
@@ -96,10 +102,10 @@ impl<'a, A: Allocator + Copy> Body<'a, A> {
         let made = columns(alloc, parts.threads, rows.as_slice());
         drop(rows);
         match made {
-            Ok(cells) => {
-                let head = parts.head(alloc, heading)?;
-                Ok(Frame { head, cells, len })
-            }
+            Ok(cells) => match parts.head(alloc, heading) {
+                Ok(head) => Ok(Frame { head, cells, len }),
+                Err(error) => Err(error),
+            },
             Err(error) => {
                 drop(parts);
                 Err(error)

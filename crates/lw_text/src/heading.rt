@@ -40,8 +40,10 @@ impl<'a> Lexer<'a> {
             });
         };
         let name = self.test_name()?;
-        self.notes()?;
-        Ok(Heading { arch, name })
+        match self.notes() {
+            Ok(()) => Ok(Heading { arch, name }),
+            Err(fault) => Err(fault),
+        }
     }
 
     /// Takes the blanks behind the word, and the test's name.

@@ -95,8 +95,10 @@ impl<'t, 'a> Cursor<'t, 'a> {
             }
             return self.of_thread(arch, thread, cause);
         }
-        let loc = enter(first.text, locs, Refusal { token, cause })?;
-        Ok(Site::Location(loc))
+        match enter(first.text, locs, Refusal { token, cause }) {
+            Ok(loc) => Ok(Site::Location(loc)),
+            Err(refusal) => Err(refusal),
+        }
     }
 
     /// Takes a `:` and the name of a register of the thread, in the language.

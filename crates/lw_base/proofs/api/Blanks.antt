@@ -1,8 +1,11 @@
--- What holds of blanks, and of bytes that are found in a list.
-use Rattle.std.proofs.Common.{◌≡◌, ℕ, ◌==◌, inl, inr, Bool, true, List, [], ◌∷◌, subst}
-use Rattle.std.specs.List.{list_any, list_all}
+-- What holds of blanks, of the bytes of words, and of bytes that are found in a list.
+use Rattle.std.proofs.Common.{◌≡◌, ℕ, zero, suc, ◌<◌, ◌==◌, inl, inr, Bool, true, List, [], ◌∷◌, subst, arith}
+use Rattle.std.specs.Prelude.{slice_index_or}
+use Rattle.std.specs.List.{list_any, list_all, AllByRecursion}
 use Rattle.std.proofs.lemmas.Bool.{or_cases, and_parts, eqb-true}
-use Rattle.lw_base.specs.Characters.{is_blank}
+use Rattle.std.proofs.lemmas.Bool.Decides.{nat_tests}
+use Rattle.lw_base.specs.Types.{Bytes}
+use Rattle.lw_base.specs.Characters.{is_blank, is_word_byte}
 
 -- what holds of each of a list holds of one that is found there
 pub any_all : {X : Type 0} (same : X → X → Bool) → ((x y : X) → same x y ≡ true → x ≡ y) → (q : X → Bool) (xs : List X) (b : X) → list_all q xs ≡ true
@@ -20,3 +23,16 @@ same_byte x y h = eqb-true x y h
 
 pub blank_all : (q : ℕ → Bool) (b : ℕ) → list_all q (32 ∷ 9 ∷ 10 ∷ 13 ∷ []) ≡ true → is_blank b ≡ true → q b ≡ true
 blank_all q b all h = any_all (λ x y. x == y) same_byte q (32 ∷ 9 ∷ 10 ∷ 13 ∷ []) b all h
+
+-- a text whose bytes pass a test has bytes below 128 alone, where the test has
+pub all_ascii : (q : ℕ → Bool) → ((b : ℕ) → q b ≡ true → b < 128) → (w : Bytes) → AllByRecursion (λ b. q b ≡ true) w → (i : ℕ)
+    → slice_index_or w i 0 < 128
+all_ascii q low [] all i = omega arith
+all_ascii q low (b ∷ w) all zero = low b all.0
+all_ascii q low (b ∷ w) all (suc i) = all_ascii q low w all.1 i
+
+word_byte_ascii : (b : ℕ) → is_word_byte b ≡ true → b < 128
+word_byte_ascii b is = grind (arith, nat_tests)
+
+pub word_ascii : (w : Bytes) → AllByRecursion (λ b. is_word_byte b ≡ true) w → (i : ℕ) → slice_index_or w i 0 < 128
+word_ascii w all = all_ascii is_word_byte word_byte_ascii w all

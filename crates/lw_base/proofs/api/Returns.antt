@@ -1,6 +1,6 @@
 -- What a function owes where it returns early by `?`.
 use Rattle.std.proofs.Common.{◌≡◌, ◌≢◌, sym, subst}
-use Rattle.std.specs.Prelude.{Result, Ok, Err, IfErr, IsErrAnd}
+use Rattle.std.specs.Prelude.{Option, None, Result, Ok, Err, IfErr, IsErrAnd, MatchOption}
 
 -- The callee's error is returned as it is: what is known of it holds of what is returned.
 pub passed_on : {T E : Type 0} {e : E} (P : E → Type 0) (r : Result T E) → IsErrAnd r (λ y. y ≡ e) → P e → IfErr r P
@@ -18,3 +18,7 @@ pub out_of_memory : {T E C : Type 0} (cause : E → C) (memory : C) (R P : E →
     → IfErr r (λ f. cause f ≢ memory → P f)
 out_of_memory cause memory R P (Ok x) h = absurd h
 out_of_memory cause memory R P (Err y) h = λ other. absurd (other h.1)
+
+-- Nothing is returned: what is owed there.
+pub none_answered : {X P : Type 0} (Q : X → Type 0) (r : Option X) → r ≡ None → P → MatchOption r P Q
+none_answered {P} Q r is p = subst (λ s. MatchOption s P Q) (sym is) p

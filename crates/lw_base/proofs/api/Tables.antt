@@ -30,6 +30,12 @@ module _ {S : Type 0} (f : S → Bytes) (ss : List S) (p : ℕ) (s : S) (t name 
   here (Some loc) few h same =
       subst (λ (i : ℕ). slice_get (map f ss) i ≡ Some name) (sym h.1) (at_place ∙ ap Some ((pointwise_decides unsigned_Decides t name).0 same))
 
+-- the name at a place
+pub name_at : {S : Type 0} (f : S → Bytes) (ss : List S) (names : NameTable) (p place : ℕ) (s : S) (t : Bytes) → map f ss ≡ names → p ≡ place
+    → p < length ss → s ≡ get_or ss p s → t ≡ f s → slice_get names place ≡ Some t
+name_at f ss names p place s t view same lt is text =
+    subst (λ ns. slice_get ns place ≡ Some t) view (subst (λ (q : ℕ). slice_get (map f ss) q ≡ Some t) same (at_place f ss p s t t lt is text))
+
 -- one more name that is none of them
 pub once_more : (ns : NameTable) (n : Bytes) → EachOnce ns → (Contains ns n → ⊥) → EachOnce (ns ++ n ∷ [])
 once_more [] n once fresh = ((λ h. let k : h.0 < 0 = h.1 in absurd (omega arith)), tt)

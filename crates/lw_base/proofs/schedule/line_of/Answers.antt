@@ -1,5 +1,6 @@
 use Rattle.std.proofs.Common.{◌∙◌, ap, subst, sym, Some, Contains}
 use Rattle.std.proofs.lemmas.Bool.{false≢true}
+use Rattle.lw_base.proofs.api.Blanks.{word_ascii}
 use Rattle.lw_base.proofs.api.Returns.{passed_on}
 use Rattle.lw_base.proofs.Shapes.{uncut, no_name, no_cpu, no_location, found}
 use Rattle.lw_base.proofs.schedule.line_of.Goals as goal
@@ -26,3 +27,6 @@ pub returns-in-Some-find-clause-ok : goal.returns-in-Some-find-clause-ok
 returns-in-Some-find-clause-ok g c =
     found _ _ _ _ c.in-Some.ensures.0 c.in-Some.ensures.1 c.in_ok-cpu.cpu c.in-Some-find.loc c.in_ok-cpu.ensures.ok.0 c.in_ok-cpu.ensures.ok.1
     (c.in-Some-find.ensures ∙ ap Some c.ascii_text.ensures)
+
+pub ascii_text-requires : goal.ascii_text-requires
+ascii_text-requires g c = word_ascii c.in-Some.name.now (c.is_word_text.ensures.0 c.if-not-is_word_text.false).all

@@ -2,7 +2,8 @@ use Rattle.std.proofs.Common.{◌∙◌, ◌++◌, ap, subst, sym}
 use Rattle.std.specs.List.{AllByRecursion}
 use Rattle.std.proofs.lemmas.List.Elements.{All-from_recursion}
 use Rattle.lw_base.specs.Schedules.{IsEvent, event_word}
-use Rattle.lw_base.proofs.WrittenSchedules.{schedule_begun}
+use Rattle.lw_base.proofs.api.Writing.{both_written, items_more, items_all}
+use Rattle.lw_base.proofs.WrittenSchedules.{schedule_none, schedule_begun, next_word}
 use Rattle.lw_base.proofs.schedule.write_schedule.Goals as goal
 
 pub loop-event-init : goal.loop-event-init
@@ -18,3 +19,16 @@ write_event-requires-in-loop-event g c =
     let others = (subst (AllByRecursion (IsEvent c.args.names.now)) c.in-Some.ensures.cases.0 c.requires).1 in
     subst (IsEvent c.args.names.now) (sym c.event-item.is)
     (All-from_recursion (IsEvent c.args.names.now) c.in-Some.others.now others c.loop-event.event-index c.event-item.result c.loop-event-test.true)
+
+pub returns-in_default : goal.returns-in_default
+returns-in_default g c = c.from.ensures ∙ schedule_none c.args.names.now c.args.events.now _ c.in_default.ensures.cases c.new-out.ensures.bytes
+
+pub loop-event-preserved : goal.loop-event-preserved
+loop-event-preserved g c =
+    items_more (next_word c.args.names.now) c.in-Some.others.now c.loop-event.event-index _ _ c.loop-event.invariant c.event-item.result _
+    c.loop-event-test.true c.event-item.is (both_written _ _ _ _ _ c.in_ok-push_str.ensures.bytes c.in_ok-write_event-2.ensures)
+
+pub returns : goal.returns
+returns g c =
+    c.from-2.ensures
+    ∙ items_all (next_word c.args.names.now) c.in-Some.others.now c.loop-event.event-index _ _ c.loop-event.invariant c.loop-event-test.false

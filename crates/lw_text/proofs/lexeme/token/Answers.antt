@@ -1,8 +1,9 @@
 use Rattle.std.proofs.Common.{refl, inl, sym, ◌∙◌, ap, subst, length, arith}
 use Rattle.std.proofs.lemmas.Bool.{false≢true}
+use Rattle.lw_base.proofs.api.Blanks.{word_ascii}
 use Rattle.lw_base.specs.Characters.{is_word_byte, begins}
 use Rattle.lw_text.specs.Tokens.{IsKind}
-use Rattle.lw_text.proofs.Words.{no_kind, no_token, long_symbol, short_symbol}
+use Rattle.lw_text.proofs.Words.{no_kind, no_token, long_symbol, short_symbol, long_ascii, short_ascii}
 use Rattle.lw_text.proofs.lexeme.token.Goals as goal
 
 pub returns-then-not-is_kind-clause-none : goal.returns-then-not-is_kind-clause-none
@@ -42,3 +43,14 @@ returns-then-begins_short-clause-found c =
     short_symbol _ _ _ _ c.in-Some.first c.in-Some.ensures (λ b d more e p. false≢true (c.if-begins_long.ensures.1 (b, d, more, e, p)))
     (c.if-begins_short.ensures.0 refl) (c.ascii_text-then-begins_short.ensures ∙ c.split_at-then-begins_short.ensures.front)
     c.split_at-then-begins_short.ensures.back
+
+pub ascii_text-text-requires : goal.ascii_text-text-requires
+ascii_text-text-requires c = word_ascii c.front.result.0.now c.front.ensures.all
+
+pub ascii_text-requires : goal.ascii_text-requires
+ascii_text-requires c = long_ascii c.args.bytes.now c.split_at.result.0.now (c.if-begins_long.ensures.0 refl) c.split_at.ensures.front
+
+pub ascii_text-requires-then-begins_short : goal.ascii_text-requires-then-begins_short
+ascii_text-requires-then-begins_short c =
+    short_ascii c.args.bytes.now _ c.split_at-then-begins_short.result.0.now c.in-Some.first c.in-Some.ensures (c.if-begins_short.ensures.0 refl).0
+    c.split_at-then-begins_short.ensures.front

@@ -62,3 +62,15 @@ loop-loc-init g c =
     ) in
     subst (λ (n : ℕ). c.loop-cpu.seen ≡ filter seen (all_registers n) ++ []) all
     (c.loop-cpu.invariant ∙ sym (append-nil (filter seen (all_registers c.loop-cpu.cpu-index))))
+
+pub bounds-cpu-items-cpu-index : goal.bounds-cpu-items-cpu-index
+bounds-cpu-items-cpu-index g c = c.loop-cpu-test.true
+
+pub bounds-reg-items-reg-index : goal.bounds-reg-items-reg-index
+bounds-reg-items-reg-index g c = c.loop-reg-test.true
+
+pub bounds-loc-items-loc-index : goal.bounds-loc-items-loc-index
+bounds-loc-items-loc-index g c = c.loop-loc-test.true
+
+pub overflow_cast-site : goal.overflow_cast-site
+overflow_cast-site g c = omega (arith, c.index.ensures.below)

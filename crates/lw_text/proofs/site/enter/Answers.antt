@@ -1,4 +1,5 @@
 use Rattle.std.proofs.Common.{arith}
+use Rattle.std.proofs.lemmas.Bool.{false≢true}
 use Rattle.lw_text.proofs.Faults.{memory_ran_out, not_ok}
 use Rattle.lw_text.proofs.NameTables.{appeared_at}
 use Rattle.lw_text.proofs.site.enter.Goals as goal
@@ -30,3 +31,6 @@ returns-in-None-clause-fault g c =
 
 pub returns-in-Some-clause-names : goal.returns-in-Some-clause-names
 returns-in-Some-clause-names g c = rw c.in-Some.is at c.in_ok-loc.ensures.names
+
+pub returns-then-not-is_location-clause-fault : goal.returns-then-not-is_location-clause-fault
+returns-then-not-is_location-clause-fault g c = λ _ is _. false≢true (c.if-not-is_location.ensures.1 is)

@@ -12,9 +12,9 @@ pub returns-then-len-eq-MAX_LOCATIONS-clause-place : goal.returns-then-len-eq-MA
 returns-then-len-eq-MAX_LOCATIONS-clause-place g c =
     rw (with_name-new c.args.self.now c.args.name.now c.in_default.ensures) (omega (arith, length-append c.args.self.now (c.args.name.now ∷ [])))
 
-pub returns-clause-place : goal.returns-clause-place
-returns-clause-place g c =
-    rw c.in_ok-loc.ensures.ok (c.in_ok-loc.ensures.place ∙ sym (index_of-new c.args.self.now c.args.name.now c.in_default.ensures))
+pub returns-in-Ok-clause-place : goal.returns-in-Ok-clause-place
+returns-in-Ok-clause-place g c =
+    rw c.in-Ok.ensures.ok (c.in-Ok.ensures.place ∙ sym (index_of-new c.args.self.now c.args.name.now c.in_default.ensures))
 
-pub returns-clause-names : goal.returns-clause-names
-returns-clause-names g c = c.in_ok-loc.ensures.ok ∙ sym (with_name-new c.args.self.now c.args.name.now c.in_default.ensures)
+pub returns-in-Ok-clause-names : goal.returns-in-Ok-clause-names
+returns-in-Ok-clause-names g c = c.in-Ok.ensures.ok ∙ sym (with_name-new c.args.self.now c.args.name.now c.in_default.ensures)

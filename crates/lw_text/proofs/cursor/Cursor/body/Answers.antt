@@ -55,16 +55,15 @@ returns-in_err-rows g c = record {
       (left c.header.new.self) c.in_ok-threads.ensures.found (c.in_err-rows.ensures.fault ne) s parts);
 }
 
-pub returns-in_err-listed : goal.returns-in_err-listed
-returns-in_err-listed g c = record {
-  found = not_ok _ _ c.from_residual-in_err-listed.ensures.0;
-  rows = not_ok _ _ c.from_residual-in_err-listed.ensures.0;
-  fault = passed_on _ _ c.from_residual-in_err-listed.ensures.1
-      (λ ne. let first = first_names c.args.arch (left c.args.self.now)
+pub returns : goal.returns
+returns g c = record {
+  found = tt;
+  rows = tt;
+  fault = (λ ne. let first = first_names c.args.arch (left c.args.self.now)
       (left c.block.new.self) c.block.new.locs c.in_ok-entries.entries c.in_ok-entries.ensures.found
       (rw c.new-locs.ensures at c.in_ok-entries.ensures.names) in no_condition c.args.arch (left c.args.self.now)
       (left c.block.new.self) _ c.in_ok-entries.ensures.found c.in_ok-threads.threads (left c.header.new.self) c.in_ok-threads.ensures.found _
-      (left c.rows.new.self) c.in_ok-rows.ensures.found c.block.new.locs first (c.in_err-listed.ensures.fault ne));
+      (left c.rows.new.self) c.in_ok-rows.ensures.found c.block.new.locs first (c.in-Err.ensures.fault ne));
 }
 
 pub condition-requires-clause-threads : goal.condition-requires-clause-threads
@@ -82,20 +81,20 @@ invariant_of-result g c =
       low = omega (arith, length-map rows cells_texts, c.in_ok-rows.ensures.found.1);
     }
 
-pub returns-clause-found : goal.returns-clause-found
-returns-clause-found g c =
-    let found = c.in_ok-listed.ensures.found in
+pub returns-in-Ok-clause-found : goal.returns-in-Ok-clause-found
+returns-in-Ok-clause-found g c =
+    let found = c.in-Ok.ensures.found in
     let terminals = found.0 in
     let rows = all_texts c.in_ok-rows.rows in
     let all = agrees c.args.arch (left c.args.self.now) (left c.block.new.self) (left c.header.new.self)
-    (left c.rows.new.self) c.block.new.locs c.condition.new.locs c.in_ok-entries.entries c.in_ok-threads.threads rows c.in_ok-listed.listed
-    c.in_ok-listed.quant terminals c.in_ok-entries.ensures.found
+    (left c.rows.new.self) c.block.new.locs c.condition.new.locs c.in_ok-entries.entries c.in_ok-threads.threads rows c.in-Ok.listed
+    c.in-Ok.quant terminals c.in_ok-entries.ensures.found
     (rw c.new-locs.ensures at c.in_ok-entries.ensures.names) c.in_ok-entries.ensures.within c.in_ok-threads.ensures.found
-    (rw c.as_slice.ensures at c.in_ok-check_threads.ensures.ok) c.in_ok-rows.ensures.found found.1 found.2 c.in_ok-listed.ensures.within
+    (rw c.as_slice.ensures at c.in_ok-check_threads.ensures.ok) c.in_ok-rows.ensures.found found.1 found.2 c.in-Ok.ensures.within
     c.len-len.ensures.table.few found.3 in
     record {
       terminals = terminals;
-      syntax = syntax_by c.condition.new.locs c.in_ok-entries.entries c.in_ok-threads.threads rows c.in_ok-listed.listed c.in_ok-listed.quant terminals;
+      syntax = syntax_by c.condition.new.locs c.in_ok-entries.entries c.in_ok-threads.threads rows c.in-Ok.listed c.in-Ok.quant terminals;
       is = refl;
       parts = all.parts;
       names = all.names_are;
@@ -104,8 +103,8 @@ returns-clause-found g c =
       listed_in = all.listed_in;
     }
 
-pub returns-clause-rows : goal.returns-clause-rows
-returns-clause-rows g c =
+pub returns-in-Ok-clause-rows : goal.returns-in-Ok-clause-rows
+returns-in-Ok-clause-rows g c =
     let leaves = Leaves-join c.in_ok-entries.ensures.leaves c.in_ok-threads.ensures.leaves in
     let whole = remaining c.args.self.now in
     let behind = remaining c.header.new.self in

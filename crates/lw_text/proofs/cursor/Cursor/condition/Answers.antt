@@ -34,19 +34,18 @@ pub proposition-requires-clause-once : goal.proposition-requires-clause-once
 proposition-requires-clause-once g c = subst EachOnce (sym c.in_ok-listed.ensures.names)
     (once-along c.args.locs.now (site_names (map (named c.listed.new.locs) c.in_ok-listed.listed)) c.requires.once)
 
-pub returns-in_err-prop : goal.returns-in_err-prop
-returns-in_err-prop g c = record {
-  found = not_ok _ _ c.from_residual-in_err-prop.ensures.0;
-  within = not_ok _ _ c.from_residual-in_err-prop.ensures.0;
-  fault = passed_on _ _ c.from_residual-in_err-prop.ensures.1
-      (λ ne. no_terminals c.args.arch c.args.threads (left c.args.self.now) c.args.locs.now _
+pub returns-in-Err : goal.returns-in-Err
+returns-in-Err g c = record {
+  found = tt;
+  within = tt;
+  fault = λ ne. no_terminals c.args.arch c.args.threads (left c.args.self.now) c.args.locs.now _
       (left c.listed.new.self) c.in_ok-listed.ensures.found c.in_ok-quant.quant
-      (left c.quantifier.new.self) c.in_ok-quant.ensures.found c.listed.new.locs c.in_ok-listed.ensures.names (c.in_err-prop.ensures.fault ne));
+      (left c.quantifier.new.self) c.in_ok-quant.ensures.found c.listed.new.locs c.in_ok-listed.ensures.names (c.in-Err.ensures.fault ne);
 }
 
-pub returns-clause-found : goal.returns-clause-found
-returns-clause-found g c =
-    let found = c.in_ok-prop.ensures.found in (
+pub returns-in-Ok-clause-found : goal.returns-in-Ok-clause-found
+returns-in-Ok-clause-found g c =
+    let found = c.in-Ok.ensures.found in (
       found.0,
       is_condition c.args.arch c.args.threads (left c.args.self.now) (left c.listed.new.self)
           (left c.quantifier.new.self) c.args.locs.now c.listed.new.locs c.proposition.new.locs c.in_ok-listed.listed c.in_ok-quant.quant found.0
@@ -60,9 +59,9 @@ returns-clause-found g c =
       found.4,
     )
 
-pub returns-clause-within : goal.returns-clause-within
-returns-clause-within g c =
-    let found = c.in_ok-prop.ensures.found in
+pub returns-in-Ok-clause-within : goal.returns-in-Ok-clause-within
+returns-in-Ok-clause-within g c =
+    let found = c.in-Ok.ensures.found in
     condition_in c.args.arch c.args.threads (left c.args.self.now) (left c.listed.new.self)
     (left c.quantifier.new.self) c.args.locs.now c.listed.new.locs c.proposition.new.locs c.in_ok-listed.listed c.in_ok-quant.quant found.0
     c.in_ok-listed.ensures.found c.in_ok-listed.ensures.there c.in_ok-listed.ensures.names c.in_ok-listed.ensures.within c.in_ok-quant.ensures.found

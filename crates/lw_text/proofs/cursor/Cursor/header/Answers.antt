@@ -1,5 +1,6 @@
-use Rattle.std.proofs.Common.{◌≡◌, ◌∷◌, [], ◌∙◌, refl, ap, subst, Bool}
+use Rattle.std.proofs.Common.{◌≡◌, ◌∷◌, [], ◌∙◌, refl, ap, subst, arith, Bool}
 use Rattle.std.specs.Prelude.{codes, if◌then◌else◌}
+use Rattle.lw_text.specs.Rows.{thread_name}
 use Rattle.lw_text.specs.Views.{left}
 use Rattle.lw_text.proofs.Headers.{NamesTo-start, Names-more}
 use Rattle.lw_text.proofs.CellPlaces.{Leaves-join}
@@ -19,3 +20,23 @@ loop-thread-preserved c = record {
 
 pub returns-then-branch-clause-leaves : goal.returns-then-branch-clause-leaves
 returns-then-branch-clause-leaves c = Leaves-join c.loop-thread.invariant.leaves (Leaves-join c.in_ok-expect.ensures.leaves c.in_ok-either.ensures.leaves)
+
+pub overflow_add-result : goal.overflow_add-result
+overflow_add-result c = omega (arith, c.loop-thread-test.true)
+
+pub returns-then-branch-clause-found : goal.returns-then-branch-clause-found
+returns-then-branch-clause-found c = (
+  c.loop-thread.invariant.names.given 0 (left c.either.new.self)
+      (c.in_ok-expect.ensures.ok ∙ ap (λ x. x ∷ left c.expect.new.self) c.thread_name.ensures ∙ ap (λ l. thread_name c.loop-thread.thread ∷ l)
+      (subst (λ (b : Bool). left c.expect.new.self ≡ (if b then codes ";" else codes "|") ∷ left c.either.new.self) c.if-branch.true
+      c.in_ok-either.ensures.ok)),
+  omega (arith, c.loop-thread-test.true),
+)
+
+pub returns-then-is_next-clause-fault : goal.returns-then-is_next-clause-fault
+returns-then-is_next-clause-fault c n rest header =
+    omega (arith, (c.loop-thread.invariant.names.only n rest header.0).1, header.1, c.loop-thread-test.false)
+
+pub returns-clause-fault : goal.returns-clause-fault
+returns-clause-fault c n rest header =
+    omega (arith, (c.loop-thread.invariant.names.only n rest header.0).1, header.1, c.loop-thread-test.false)

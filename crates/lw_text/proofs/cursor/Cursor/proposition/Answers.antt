@@ -1,8 +1,9 @@
-use Rattle.std.proofs.Common.{ℕ, ◌+◌, ◌≤◌, sym, ap, subst}
+use Rattle.std.proofs.Common.{ℕ, ◌+◌, ◌≤◌, sym, ap, subst, arith}
 use Rattle.std.proofs.lemmas.Result.{IfOk-weaker, IfErr-weaker}
 use Rattle.lw_base.specs.Propositions.{formula_of}
 use Rattle.lw_text.specs.Views.{left}
 use Rattle.lw_text.proofs.Texts.{none_left, some_left}
+use Rattle.lw_text.proofs.TerminalLists.{IsTerminal-shorter}
 use Rattle.lw_text.proofs.PropositionRows.{terminals_none, terminals_end, terminals_open, terminals_fault, terminals_more, once_here, room_left}
 use Rattle.lw_text.proofs.cursor.Cursor.proposition.Goals as goal
 
@@ -51,3 +52,14 @@ next_terminal-requires-clause-threads g c = c.requires.threads
 
 pub returns-in-Err-clause-found : goal.returns-in-Err-clause-found
 returns-in-Err-clause-found g c = tt
+
+pub overflow_add-nodes : goal.overflow_add-nodes
+overflow_add-nodes g c =
+    let counts = ap (λ (n : ℕ). c.terminals.nodes + n) c.nodes-nodes.ensures in
+    let room = room_left c.args.arch c.args.threads c.terminals.nodes (left c.terminals.self) (left c.next_terminal.new.self) c.next_terminal.new.locs
+    c.in-Ok.terminal c.terminals.invariant.read.few c.in-Ok.ensures.room c.in-Ok.ensures.found in
+    omega (arith, counts, room)
+
+pub terminals-smaller : goal.terminals-smaller
+terminals-smaller g c =
+    IsTerminal-shorter c.args.arch c.args.threads (left c.terminals.self) (left c.next_terminal.new.self) _ c.in-Ok.ensures.found

@@ -30,29 +30,29 @@ pub returns-in-Some-clause-leaves : goal.returns-in-Some-clause-leaves
 returns-in-Some-clause-leaves g c = Leaves-behind (remaining c.args.self.now) (remaining c.take.new.self)
     (remaining c.of_thread.new.self) c.of_thread.result c.in_ok-first.first c.in_ok-first.ensures.token c.of_thread.ensures.leaves
 
-pub returns-in_err-loc-clause-fault : goal.returns-in_err-loc-clause-fault
-returns-in_err-loc-clause-fault g c =
-    passed_on _ _ c.from_residual-in_err-loc.ensures.1 (λ ne s rest site there few. location_none c.args.arch c.args.locs.now (left c.args.self.now)
+pub returns-in-Err-clause-fault : goal.returns-in-Err-clause-fault
+returns-in-Err-clause-fault g c =
+    (λ ne s rest site there few. location_none c.args.arch c.args.locs.now (left c.args.self.now)
     (left c.take.new.self) c.in_ok-first.first.text.now c.in_ok-first.ensures.ok
-    (is_no_text _ _ (sym c.eq.ensures ∙ c.if-eq.false)) c.in_default.ensures (c.in_err-loc.ensures.fault ne) s rest site few)
+    (is_no_text _ _ (sym c.eq.ensures ∙ c.if-eq.false)) c.in_default.ensures (c.in-Err.ensures.fault ne) s rest site few)
 
-pub returns-clause-found : goal.returns-clause-found
-returns-clause-found g c = entered_found c.args.arch c.args.locs.now c.enter-2.new.locs (left c.args.self.now)
-    (left c.take.new.self) c.in_ok-first.first.text.now c.in_ok-loc.loc c.in_ok-first.ensures.ok c.in_ok-loc.ensures.name c.in_ok-loc.ensures.found
+pub returns-in-Ok-clause-found : goal.returns-in-Ok-clause-found
+returns-in-Ok-clause-found g c = entered_found c.args.arch c.args.locs.now c.enter-2.new.locs (left c.args.self.now)
+    (left c.take.new.self) c.in_ok-first.first.text.now c.in-Ok.loc c.in_ok-first.ensures.ok c.in-Ok.ensures.name c.in-Ok.ensures.found
 
-pub returns-clause-names : goal.returns-clause-names
-returns-clause-names g c = entered_names c.args.arch c.args.locs.now c.enter-2.new.locs (left c.args.self.now)
-    (left c.take.new.self) c.in_ok-first.first.text.now c.in_ok-loc.loc c.in_ok-first.ensures.ok c.in_ok-loc.ensures.name c.in_ok-loc.ensures.found
-    c.in_ok-loc.ensures.names
+pub returns-in-Ok-clause-names : goal.returns-in-Ok-clause-names
+returns-in-Ok-clause-names g c = entered_names c.args.arch c.args.locs.now c.enter-2.new.locs (left c.args.self.now)
+    (left c.take.new.self) c.in_ok-first.first.text.now c.in-Ok.loc c.in_ok-first.ensures.ok c.in-Ok.ensures.name c.in-Ok.ensures.found
+    c.in-Ok.ensures.names
 
-pub returns-clause-within : goal.returns-clause-within
-returns-clause-within g c = within-at c.enter-2.new.locs c.in_ok-loc.loc c.in_ok-first.first.text.now c.in_ok-loc.ensures.found
+pub returns-in-Ok-clause-within : goal.returns-in-Ok-clause-within
+returns-in-Ok-clause-within g c = within-at c.enter-2.new.locs c.in-Ok.loc c.in_ok-first.first.text.now c.in-Ok.ensures.found
 
-pub returns-clause-leaves : goal.returns-clause-leaves
-returns-clause-leaves g c = (c.in_ok-first.first ∷ [], c.in_ok-first.ensures.token)
+pub returns-in-Ok-clause-leaves : goal.returns-in-Ok-clause-leaves
+returns-in-Ok-clause-leaves g c = (c.in_ok-first.first ∷ [], c.in_ok-first.ensures.token)
 
-pub returns-clause-there : goal.returns-clause-there
-returns-clause-there g c = allowed_location c.args.threads _
+pub returns-in-Ok-clause-there : goal.returns-in-Ok-clause-there
+returns-in-Ok-clause-there g c = allowed_location c.args.threads _
 
 pub returns-in-Some-clause-there : goal.returns-in-Some-clause-there
 returns-in-Some-clause-there g c = there_of_thread c.args.arch _ (left c.take.new.self) (left c.of_thread.new.self) c.args.threads c.in-Some.thread _

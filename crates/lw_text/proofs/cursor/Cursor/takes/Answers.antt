@@ -1,4 +1,4 @@
-use Rattle.std.proofs.Common.{[], refl, sym, ◌∙◌}
+use Rattle.std.proofs.Common.{[], refl, sym, ◌∙◌, arith, rules}
 use Rattle.lw_text.proofs.Texts.{word_next}
 use Rattle.lw_text.proofs.cursor.Cursor.takes.Goals as goal
 
@@ -14,3 +14,14 @@ returns-clause-other c = λ _. sym c.is_next.ensures ∙ c.if-is_next.false
 
 pub returns-clause-leaves : goal.returns-clause-leaves
 returns-clause-leaves c = ([], refl)
+
+pub overflow_add-self : goal.overflow_add-self
+overflow_add-self c =
+    let within = (word_next c.args.self.now.tokens.now c.args.self.now.next c.args.text.now (sym c.is_next.ensures ∙ c.if-is_next.true)).0 in
+    search rules
+
+pub invariant_of-self : goal.invariant_of-self
+invariant_of-self c = record {
+  within = omega
+      (arith, (word_next c.args.self.now.tokens.now c.args.self.now.next c.args.text.now (sym c.is_next.ensures ∙ c.if-is_next.true)).0);
+}

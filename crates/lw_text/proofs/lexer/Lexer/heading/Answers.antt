@@ -42,27 +42,25 @@ returns-in_err-name c =
       same = c.in_err-name.ensures.same ∙ c.in_ok-token.ensures.same;
     }
 
-pub returns-in_err-notes : goal.returns-in_err-notes
-returns-in_err-notes c =
+pub returns-in-Err : goal.returns-in-Err
+returns-in-Err c =
     let here = rw c.in-Some.is at c.in_ok-token.ensures.end in record {
-      found = not_ok _ _ c.from_residual-in_err-notes.ensures.0;
-      fault = passed_on _ _ c.from_residual-in_err-notes.ensures.1
-          (no_notes _ _ _ _ _ (subst (λ w. First c.args.self.now.rest.now w c.next.new.self.rest.now) (sym c.in-Some-arch_named.ensures) here)
-          c.in_ok-name.ensures.found c.in_err-notes.ensures.fault);
-      place = passed_on _ _ c.from_residual-in_err-notes.ensures.1
-          (omega (arith, c.in_err-notes.ensures.place, ap length (c.in_ok-name.ensures.same ∙ c.in_ok-token.ensures.same)));
-      same = c.in_err-notes.ensures.same ∙ c.in_ok-name.ensures.same ∙ c.in_ok-token.ensures.same;
+      found = tt;
+      fault = no_notes _ _ _ _ _ (subst (λ w. First c.args.self.now.rest.now w c.next.new.self.rest.now) (sym c.in-Some-arch_named.ensures) here)
+          c.in_ok-name.ensures.found c.in-Err.ensures.fault;
+      place = omega (arith, c.in-Err.ensures.place, ap length (c.in_ok-name.ensures.same ∙ c.in_ok-token.ensures.same));
+      same = c.in-Err.ensures.same ∙ c.in_ok-name.ensures.same ∙ c.in_ok-token.ensures.same;
     }
 
-pub returns-clause-found : goal.returns-clause-found
-returns-clause-found c =
+pub returns-in-Ok-clause-found : goal.returns-in-Ok-clause-found
+returns-in-Ok-clause-found c =
     let here = rw c.in-Some.is at c.in_ok-token.ensures.end in (
       c.next.new.self.rest.now,
       c.test_name.new.self.rest.now,
       (subst (λ w. First c.args.self.now.rest.now w c.next.new.self.rest.now) (sym c.in-Some-arch_named.ensures) here),
       c.in_ok-name.ensures.found,
-      c.in_ok-notes.ensures.found,
+      c.in-Ok.ensures.found,
     )
 
-pub returns-clause-same : goal.returns-clause-same
-returns-clause-same c = c.in_ok-notes.ensures.same ∙ c.in_ok-name.ensures.same ∙ c.in_ok-token.ensures.same
+pub returns-in-Ok-clause-same : goal.returns-in-Ok-clause-same
+returns-in-Ok-clause-same c = c.in-Ok.ensures.same ∙ c.in_ok-name.ensures.same ∙ c.in_ok-token.ensures.same

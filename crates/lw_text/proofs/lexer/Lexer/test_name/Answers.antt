@@ -3,7 +3,7 @@ use Rattle.std.proofs.lemmas.Bool.{false≢true}
 use Rattle.std.proofs.lemmas.Bool.Decides.{nat_tests}
 use Rattle.lw_base.specs.Names.{IsTestName}
 use Rattle.lw_text.proofs.TokenRows.{Suffix-more}
-use Rattle.lw_text.proofs.Headings.{no_name, not_apart, bad_name}
+use Rattle.lw_text.proofs.Headings.{no_name, not_apart, bad_name, name_ascii}
 use Rattle.lw_text.proofs.lexer.Lexer.test_name.Goals as goal
 
 pub returns-then-is_empty-clause-fault : goal.returns-then-is_empty-clause-fault
@@ -54,3 +54,6 @@ returns-clause-found c =
       is_name = subst IsTestName (sym c.ascii_text.ensures) (c.if-not-is_test_name.ensures.0 refl);
       longest = c.front-2.ensures.longest;
     }
+
+pub ascii_text-requires : goal.ascii_text-requires
+ascii_text-requires c = name_ascii c.front-2.result.0.now (c.if-not-is_test_name.ensures.0 refl)

@@ -10,11 +10,11 @@ pub invariant_of-result : goal.invariant_of-result
 invariant_of-result g c =
     let body = c.args.self in
     let parts = body.parts in
-    let threads : c.in_ok-head-in-Ok.head.threads ≡ parts.threads = ap (λ h. h.threads) c.in_ok-head-in-Ok.ensures in
+    let threads : c.in-Ok-head.head.threads ≡ parts.threads = ap (λ h. h.threads) c.in-Ok-head.ensures in
     let cells : c.in-Ok.cells ≡ columns parts.threads body.rows = c.in-Ok.ensures ∙ ap (columns parts.threads) c.as_slice.ensures in
     let few : height (columns parts.threads body.rows) ≤ 64 = omega (arith, columns-height parts.threads body.rows body.even body.some, body.low) in
     rw cells (record {
-      well_formed = subst IsWellFormedHead (sym c.in_ok-head-in-Ok.ensures)
+      well_formed = subst IsWellFormedHead (sym c.in-Ok-head.ensures)
           (resolved_well_formed c.args.heading.arch c.requires.says.0 c.args.heading.name.now body c.requires.name c.requires.says.1);
       columns = columns-length parts.threads body.rows body.even ∙ sym threads;
       even = columns-even parts.threads body.rows body.even body.some;
@@ -22,11 +22,11 @@ invariant_of-result g c =
       places = columns-each (IsWithin c.args.len) parts.threads body.rows c.requires.within;
     })
 
-pub returns-in_ok-head-in-Ok-clause-head : goal.returns-in_ok-head-in-Ok-clause-head
-returns-in_ok-head-in-Ok-clause-head g c = c.in_ok-head-in-Ok.ensures
+pub returns-in-Ok-head-clause-head : goal.returns-in-Ok-head-clause-head
+returns-in-Ok-head-clause-head g c = c.in-Ok-head.ensures
 
-pub returns-in_ok-head-in-Ok-clause-cells : goal.returns-in_ok-head-in-Ok-clause-cells
-returns-in_ok-head-in-Ok-clause-cells g c = c.in-Ok.ensures ∙ ap (columns c.args.self.parts.threads) c.as_slice.ensures
+pub returns-in-Ok-head-clause-cells : goal.returns-in-Ok-head-clause-cells
+returns-in-Ok-head-clause-cells g c = c.in-Ok.ensures ∙ ap (columns c.args.self.parts.threads) c.as_slice.ensures
 
 pub columns-made-requires : goal.columns-made-requires
 columns-made-requires g c = rw c.as_slice.ensures c.args.self.even

@@ -1,0 +1,6 @@
+use Rattle.std.proofs.Common.{sym, take-append-drop}
+use Rattle.lw_base.proofs.scan.front.Goals as goal
+
+pub returns-clause-parts : goal.returns-clause-parts
+returns-clause-parts c =
+    rw (c.split_at.ensures.front, c.split_at.ensures.back) (sym (take-append-drop c.count-count.result c.args.bytes.now))

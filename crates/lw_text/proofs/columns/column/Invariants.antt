@@ -1,0 +1,6 @@
+use Rattle.std.proofs.Common.{◌≡◌, take}
+use Rattle.lw_text.specs.Rows.{column}
+use Rattle.lw_text.proofs.columns.column.Given as goal
+
+abbrev pub invariant-loop-row : goal.invariant-loop-row
+invariant-loop-row g l = l.column ≡ column (take l.row-index l.rows) l.place
