@@ -20,8 +20,12 @@ use Rattle.lw_cells.specs.declared.draft.DraftCell.{DraftCell}
 use Rattle.lw_cells.specs.Grammars.{Grammar, IsGrammar, CanBegin}
 use Rattle.lw_cells.specs.Cells.{CellSyntax, MaybeStatement, Labels, CellSays, Column, statements, labels_of, names_in}
 use Rattle.lw_cells.specs.Words.{IsMisfit}
-use Rattle.lw_cells.specs.Drafts.{draft_in, draft_cell, LabelMap, LeadsAs, DraftRead, first_names, leading, leading_in, leads_to}
-use Rattle.lw_cells.specs.Reading.{Fits, FitsBelow, StatementCause, MaybeCause, AtLabel, LabelsRead, StatementRead, MaybeRead, bare}
+use Rattle.lw_cells.specs.Drafts.{draft_in, draft_cell, LabelMap, DraftRead, IsFresh, ColumnDrafted, first_names, leading, leading_in, leads_to}
+use Rattle.lw_cells.specs.declared.column.DraftColumn.{DraftColumn}
+use Rattle.lw_cells.specs.declared.phrase.Phrase.{Phrase}
+use Rattle.lw_base.specs.declared.fault.CellFault.{CellFault}
+use Rattle.lw_cells.specs.Reading.{Fits, FitsBelow, StatementCause, MaybeCause, AtLabel, LabelsRead, LabelsTaken, StatementRead, MaybeRead, bare}
+use Rattle.lw_cells.specs.Reading.{StatementRefused, MaybeRefused}
 use Rattle.lw_cells.proofs.Causes.{misfit_cause}
 use Rattle.lw_cells.proofs.FrontLabels.{Labels-rest, Labels-unique, names_read, behind}
 use Rattle.lw_cells.proofs.Leads.{statements-append, labels_of-append, first_names_in, leading_in-append}
@@ -130,20 +134,33 @@ module _ {Syntax Stmt : Type 0} (grammar : Grammar Syntax Stmt) where
     held_by (Some s) stmt f e = ap option_len e
 
     -- nothing is read yet
-    pub draft_none : {A : Type 0} (names : List (List ℕ)) (labels : LabelMap) → LeadsAs labels []
-        → (read : DraftRead grammar draft_of {A = A} [] names [] labels names) × (0 ≡ length (statements read.syntaxes))
-    draft_none names labels none = (record { syntaxes = []; says = tt; few = omega arith; once = tt; names = refl; made = refl; leads = none }, refl)
+    pub draft_none : {A : Type 0} (names : List (List ℕ)) (column : DraftColumn D A) → IsFresh column → ColumnDrafted grammar draft_of [] names column names
+    draft_none names column fresh = record {
+      read = record { syntaxes = []; says = tt; few = omega arith; once = tt; names = refl; made = fresh.cells; leads = fresh.labels };
+      counted = fresh.count;
+    }
 
-    pub maybe_some : (ts : List (List ℕ)) (before : List (List ℕ)) (stmt : D) (after : List (List ℕ))
-        → StatementRead grammar draft_of ts before stmt after → MaybeRead grammar draft_of ts before (Some stmt) after
-    maybe_some ts before stmt after r = record { syntax = Some r.syntax; says = r.says; names = r.names; made = ap Some r.made }
+    -- no more statements than the language allows
+    pub few_drafted : {A : Type 0} (cells : List (Cell A)) (names : List (List ℕ)) (column : DraftColumn D A) (after : List (List ℕ))
+        → ColumnDrafted grammar draft_of cells names column after → column.count ≤ grammar.language.most
+    few_drafted cells names column after drafted = omega (arith, drafted.counted, drafted.read.few)
+
+    pub maybe_some : (above : ℕ) (ts : List (List ℕ)) (before : List (List ℕ)) (stmt : D) (after : List (List ℕ))
+        → (above ≡ grammar.language.most → ⊥) → StatementRead grammar draft_of ts before stmt after
+        → MaybeRead grammar draft_of above ts before (Some stmt) after
+    maybe_some above ts before stmt after free r =
+        record { room = λ d is. free; syntax = Some r.syntax; says = r.says; names = r.names; made = ap Some r.made }
 
     -- What stands behind the labels of a cell, by its first token.
-    pub maybe_none : (tokens : List Token) (names : List (List ℕ)) → None ≡ slice_get tokens 0 → MaybeRead grammar draft_of (texts tokens) names None names
-    maybe_none [] names e = record { syntax = None; says = refl; names = refl; made = refl }
-    maybe_none (t ∷ tokens) names e = absurd cc
+    pub maybe_none : (above : ℕ) (tokens : List Token) (names : List (List ℕ)) → None ≡ slice_get tokens 0
+        → MaybeRead grammar draft_of above (texts tokens) names None names
+    maybe_none above [] names e = record { room = λ d is. absurd cc; syntax = None; says = refl; names = refl; made = refl }
+    maybe_none above (t ∷ tokens) names e = absurd cc
 
-    module _ (tokens : List Token) (t : Token) (first : Some t ≡ slice_get tokens 0) where
+    module _ (phrase : Phrase) (t : Token) (first : Some t ≡ slice_get phrase.tokens.now 0) where
+      abbrev tokens : List Token
+      tokens = phrase.tokens.now
+
       not_empty : texts tokens ≡ [] → ⊥
       not_empty e = go tokens first e
         where
@@ -151,28 +168,47 @@ module _ {Syntax Stmt : Type 0} (grammar : Grammar Syntax Stmt) where
           go [] f e = absurd cc
           go (u ∷ ts) f e = absurd cc
 
-      pub no_room : (names : List (List ℕ)) (above : ℕ) → above ≡ grammar.language.most → (s : Option Syntax)
+      no_room : (names : List (List ℕ)) (above : ℕ) → above ≡ grammar.language.most → (s : Option Syntax)
           → FitsBelow grammar above names (texts tokens) s → ⊥
       no_room names above full None h = not_empty h.says
       no_room names above full (Some s) h = omega (arith, full, h.few)
 
-      pub only_some : (above : ℕ) (names : List (List ℕ)) → ((s : Syntax) → Fits grammar names (texts tokens) s → ⊥) → (s : Option Syntax)
+      only_some : (above : ℕ) (names : List (List ℕ)) → ((s : Syntax) → Fits grammar names (texts tokens) s → ⊥) → (s : Option Syntax)
           → FitsBelow grammar above names (texts tokens) s → ⊥
       only_some above names none None h = not_empty h.says
       only_some above names none (Some s) h = none s (h.says, h.room)
 
-      pub surplus_cause : (names : List (List ℕ)) (above at : ℕ) (cause : CellCause) → above ≡ grammar.language.most → at ≡ t.at
+      surplus_cause : (names : List (List ℕ)) (above at : ℕ) (cause : CellCause) → above ≡ grammar.language.most → at ≡ t.at
           → (IsMisfit cause × (CanBegin grammar t.text.now → ⊥)) ⊎ ((cause ≡ TooMany) × CanBegin grammar t.text.now)
           → MaybeCause grammar above tokens names at cause
       surplus_cause names above at cause full place (inl m) = maybe_cause above tokens names at cause (misfit_cause grammar tokens names at cause m.0)
       surplus_cause names above at cause full place (inr (e, begins)) = rw e (inl (full, (t, sym first, sym place, begins)))
 
-      pub first_within : (at len : ℕ) → at ≡ t.at → All (λ (u : Token). u.at ≤ len) tokens → at ≤ len
+      first_within : (at len : ℕ) → at ≡ t.at → All (λ (u : Token). u.at ≤ len) tokens → at ≤ len
       first_within at len place all = go tokens first all
         where
           go : (ts : List Token) → Some t ≡ slice_get ts 0 → All (λ (u : Token). u.at ≤ len) ts → at ≤ len
           go [] f all = absurd cc
           go (u ∷ ts) f all = let h : u.at ≤ len = all 0 u (omega arith) in let e : t ≡ u = cc in omega (arith, h, place, ap (λ (v : Token). v.at) e)
+
+      -- a statement that would be one too many
+      pub surplus_refused : (names : List (List ℕ)) (above : ℕ) (f : CellFault) → above ≡ grammar.language.most → f.at ≡ t.at
+          → (IsMisfit f.cause × (CanBegin grammar t.text.now → ⊥)) ⊎ ((f.cause ≡ TooMany) × CanBegin grammar t.text.now)
+          → MaybeRefused grammar above names phrase f
+      surplus_refused names above f full place told = record {
+        none = λ known. no_room names above full;
+        cause = surplus_cause names above f.at f.cause full place told;
+        place = λ len lies. first_within f.at len place lies.0;
+      }
+
+      -- one that is refused as it is alone
+      pub maybe_refused : (names : List (List ℕ)) (above : ℕ) (f : CellFault) → StatementRefused grammar names phrase f
+          → MaybeRefused grammar above names phrase f
+      maybe_refused names above f r = record {
+        none = λ known. only_some above names (r.none known);
+        cause = maybe_cause above tokens names f.at f.cause r.cause;
+        place = r.place;
+      }
 
     module _ (lawful : IsGrammar grammar) where
       -- What was read of the cells before, and this cell.
@@ -183,10 +219,9 @@ module _ {Syntax Stmt : Type 0} (grammar : Grammar Syntax Stmt) where
 
         abbrev pub draft_more : (next : ℕ) (after : List (List ℕ)) (more : LabelMap) (stmt : Option D)
             → LabelsRead cell.tokens (length (statements read.syntaxes)) (leading_in 0 read.syntaxes) next more
-            → MaybeRead grammar draft_of (texts (drop next cell.tokens)) mid stmt after
-            → ForSome stmt (λ s. length (statements read.syntaxes) ≡ grammar.language.most → ⊥)
+            → MaybeRead grammar draft_of (length (statements read.syntaxes)) (texts (drop next cell.tokens)) mid stmt after
             → DraftRead grammar draft_of (front ++ cell ∷ []) before (drafts ++ draft next stmt ∷ []) more after
-        draft_more next after more stmt ls st free =
+        draft_more next after more stmt ls st =
             let syntax : CellSyntax Syntax = record { labels = ls.names; stmt = st.syntax } in
             let n = length (statements read.syntaxes) in
             let whole : texts (take next cell.tokens) ++ texts (drop next cell.tokens) ≡ cell_texts cell =
@@ -220,7 +255,7 @@ module _ {Syntax Stmt : Type 0} (grammar : Grammar Syntax Stmt) where
                 ap length (statements-append read.syntaxes (syntax ∷ [])),
                 length-append (statements read.syntaxes)
                     (statements (syntax ∷ [])),
-                room n st.syntax stmt (draft_in grammar draft_of after) st.made free read.few,
+                room n st.syntax stmt (draft_in grammar draft_of after) st.made st.room read.few,
               );
               once = subst EachOnce named (ls.once (subst EachOnce (sym (first_names_in read.syntaxes 0)) read.once));
               names =
@@ -232,19 +267,16 @@ module _ {Syntax Stmt : Type 0} (grammar : Grammar Syntax Stmt) where
               leads = λ m. ls.made m ∙ ap (λ (ps : List (List ℕ × ℕ)). leads_to ps m) labelled;
             }
 
-        pub draft_step : (next : ℕ) (after : List (List ℕ)) (more : LabelMap) (stmt : Option D) (count k : ℕ)
+        draft_step : (next : ℕ) (after : List (List ℕ)) (more : LabelMap) (stmt : Option D)
             → LabelsRead cell.tokens (length (statements read.syntaxes)) (leading_in 0 read.syntaxes) next more
-            → MaybeRead grammar draft_of (texts (drop next cell.tokens)) mid stmt after
-            → ForSome stmt (λ s. length (statements read.syntaxes) ≡ grammar.language.most → ⊥) → count ≡ length (statements read.syntaxes)
-            → k ≡ option_len stmt → (now : DraftRead grammar draft_of (front ++ cell ∷ []) before (drafts ++ draft next stmt ∷ []) more after) ×
-            (count + k ≡ length (statements now.syntaxes))
-        draft_step next after more stmt count k ls st free counted held =
+            → MaybeRead grammar draft_of (length (statements read.syntaxes)) (texts (drop next cell.tokens)) mid stmt after
+            → (now : DraftRead grammar draft_of (front ++ cell ∷ []) before (drafts ++ draft next stmt ∷ []) more after) ×
+            (length (statements read.syntaxes) + option_len stmt ≡ length (statements now.syntaxes))
+        draft_step next after more stmt ls st =
             let syntax : CellSyntax Syntax = record { labels = ls.names; stmt = st.syntax } in (
-              draft_more next after more stmt ls st free,
+              draft_more next after more stmt ls st,
               omega (
                 arith,
-                counted,
-                held,
                 held_by st.syntax stmt (draft_in grammar draft_of after) st.made,
                 ap length
                     (statements-append read.syntaxes (syntax ∷ [])),
@@ -319,3 +351,21 @@ module _ {Syntax Stmt : Type 0} (grammar : Grammar Syntax Stmt) where
                 room
                     = names_fit;
               })
+
+      -- the column with one cell more
+      pub cell_read : {A : Type 0} (front : List (Cell A)) (before mid : List (List ℕ)) (column now : DraftColumn D A)
+          → ColumnDrafted grammar draft_of front before column mid → (cell : Cell A) (next : ℕ) (after : List (List ℕ)) (stmt : Option D)
+          → LabelsTaken cell.tokens column.count column.labels next now.labels
+          → MaybeRead grammar draft_of column.count (texts (drop next cell.tokens)) mid stmt after
+          → (let d : DraftCell D = record { start = next; stmt = stmt } in now.cells ≡ column.cells ++ d ∷ []) → now.count ≡ column.count + option_len stmt
+          → ColumnDrafted grammar draft_of (front ++ cell ∷ []) before now after
+      cell_read {A} front before mid column now drafted cell next after stmt taken st pushed counted =
+          let read = drafted.read in
+          let labels = subst (λ (n : ℕ). LabelsRead cell.tokens n (leading_in 0 read.syntaxes) next now.labels) drafted.counted
+          (taken.read (leading_in 0 read.syntaxes) read.leads) in
+          let maybe = subst (λ (n : ℕ). MaybeRead grammar draft_of n (texts (drop next cell.tokens)) mid stmt after) drafted.counted st in
+          let step = draft_step front before mid column.cells column.labels read cell next after now.labels stmt labels maybe in
+          let whole = subst (λ (ds : List (DraftCell D)). (r : DraftRead grammar draft_of (front ++ cell ∷ []) before ds now.labels after)
+          × (now.count ≡ length (statements r.syntaxes))) (sym pushed)
+          (step.0, counted ∙ ap (λ (n : ℕ). n + option_len stmt) drafted.counted ∙ step.1) in
+          record { read = whole.0; counted = whole.1 }

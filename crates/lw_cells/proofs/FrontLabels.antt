@@ -6,6 +6,7 @@ use Rattle.std.specs.Option.{option_map, is_some}
 use Rattle.std.proofs.lemmas.Option.{slice_get-map, slice_get_within}
 use Rattle.std.proofs.lemmas.List.{take-map, length-map, map-append, append-nil, append_assoc, take-append-drop}
 use Rattle.lw_base.specs.declared.fault.CellCause.{CellCause}
+use Rattle.lw_base.specs.declared.fault.CellFault.{CellFault}
 use Rattle.lw_base.specs.declared.fault.CellCause.TheVariants.{Form, Register, LabelMissing, LabelTwice, Backward, TooMany, Memory}
 use Rattle.lw_text.specs.declared.token.Token.{Token}
 use Rattle.lw_text.specs.Spans.{texts}
@@ -19,7 +20,7 @@ use Rattle.lw_base.specs.Names.{IsLocation}
 use Rattle.lw_cells.specs.Cells.{Labels}
 use Rattle.lw_cells.specs.Drafts.{LabelMap, LeadsAs, leading, leads_to, target_by, first_names}
 use Rattle.lw_cells.specs.Words.{IsMisfit}
-use Rattle.lw_cells.specs.Reading.{AtLabel, LabelCause, LabelsRead, TwiceIn}
+use Rattle.lw_cells.specs.Reading.{AtLabel, LabelCause, LabelsRead, LabelsRefused, TwiceIn}
 
 -- what stands behind some tokens
 drop_get : (ts : List (List ℕ)) (n : ℕ) → slice_get (drop n ts) 0 ≡ slice_get ts n
@@ -279,6 +280,14 @@ label_cause tokens before at LabelTwice m = absurd m
 label_cause tokens before at Backward m = m
 label_cause tokens before at TooMany m = m
 label_cause tokens before at Memory m = tt
+
+-- no room for a label
+pub no_memory_for_labels : (tokens : List Token) (labels : LabelMap) (f : CellFault) → f.cause ≡ Memory → f.at ≡ 0 → LabelsRefused tokens labels f
+no_memory_for_labels tokens labels f memory first = record {
+  none = λ before leads known. absurd (known memory);
+  cause = λ before leads. subst (λ (c : CellCause). LabelCause tokens (first_names before) f.at c) (sym memory) tt;
+  place = λ len within. omega (arith, first);
+}
 
 -- labels and what stands behind them
 pub Labels-unique : (ts m n : List (List ℕ)) (ls ks : List (List ℕ)) → Labels ts ls m → Labels ts ks n → (AtLabel m → ⊥) → (AtLabel n → ⊥) → (ls ≡ ks) × (m ≡ n)

@@ -1,10 +1,11 @@
 -- Resolving one statement: a jump leads where its label stands.
 use Rattle.std.proofs.Common.{◌≡◌, ℕ, suc, ◌<◌, ◌+◌, true, Option, Some, None, refl, List, [], ◌∷◌, ◌++◌, length, take, drop, sym, ap, ◌∙◌, subst, arith}
-use Rattle.std.specs.Prelude.{Contains, slice_get}
+use Rattle.std.specs.Prelude.{Contains, slice_get, IfSome}
 use Rattle.std.specs.Option.{option_map, IsSome}
 use Rattle.std.proofs.lemmas.List.{length-map}
 use Rattle.lw_base.specs.Types.{Bytes, NameTable, TokenList}
 use Rattle.lw_base.specs.declared.fault.CellCause.{CellCause}
+use Rattle.lw_base.specs.declared.fault.CellFault.{CellFault}
 use Rattle.lw_base.specs.declared.fault.CellCause.TheVariants.{Form, Register, LabelMissing, LabelTwice, Backward, TooMany, Memory}
 use Rattle.lw_text.specs.declared.token.Token.{Token}
 use Rattle.lw_text.specs.Spans.{texts}
@@ -17,7 +18,7 @@ use Rattle.lw_cells.specs.Spellings.{Spelling, Filling, Fills, Said, grammar_of,
 use Rattle.lw_cells.specs.Found.{found_of, draft_of, operands_of, leading_to, is_label_last, IsSpelling}
 use Rattle.lw_cells.specs.Cells.{CellSyntax, labels_of, target_in, number_in, led_to, resolved_statement, LeadsForward}
 use Rattle.lw_cells.specs.Drafts.{LabelMap, LeadsAs, leads_to, target_by, leading_in}
-use Rattle.lw_cells.specs.Reading.{IsDraft, JumpCause, JumpRefused}
+use Rattle.lw_cells.specs.Reading.{IsDraft, LedForward, LabelLost, JumpCause, JumpRefused, JumpFault}
 use Rattle.lw_cells.proofs.Leads.{leads_in, leads_nowhere}
 use Rattle.lw_base.proofs.api.Lists.{cut_at, drop_all}
 use Rattle.lw_cells.proofs.FrontLabels.{get_text}
@@ -39,6 +40,11 @@ module _ {Syntax Stmt : Type 0} (grammar : Grammar Syntax Stmt) where
       omega (arith, b.2, l.1, (ahead f.token.text.now f.is).1)
   not_forward syntaxes labels number tokens s at TooMany known f ahead = f.because
   not_forward syntaxes labels number tokens s at Memory known f ahead = f.because
+
+-- what is some value is there
+is_there : {X : Type 0} (o : Option X) (x : X) → o ≡ Some x → IsSome o
+is_there None x e = absurd cc
+is_there (Some y) x e = refl
 
 module _ {W Form Stmt : Type 0} (spelling : Spelling W Form Stmt) where
   -- the index of the label among the tokens, of which the first has this index
@@ -81,7 +87,7 @@ module _ {W Form Stmt : Type 0} (spelling : Spelling W Form Stmt) where
 
   module _ (made : Form → Operands → Option Stmt) (lawful : IsSpelling spelling made) where
     -- no jump: it is made as it stands, whatever the target
-    pub whole_made : (names : NameTable) (ts : TokenList) (to : ℕ) (draft : Draft Form) (s : Said spelling) → draft.label ≡ None
+    whole_made : (names : NameTable) (ts : TokenList) (to : ℕ) (draft : Draft Form) (s : Said spelling) → draft.label ≡ None
         → IsDraft (grammar_of spelling) (draft_of spelling) names ts draft s
         → made draft.form (leading_to None draft.operands) ≡ Some (spelling.statement (number_in names ((grammar_of spelling).name_of s)) to s.form s.filling)
     whole_made names ts to draft s none read =
@@ -92,7 +98,7 @@ module _ {W Form Stmt : Type 0} (spelling : Spelling W Form Stmt) where
         (found_of 0 (spelling.slots_of s.form) s.filling))) (sym gone)
         ∙ (lawful.making (number_in names ((grammar_of spelling).name_of s)) to s.form s.filling).is
 
-    pub whole : (names : NameTable) (ts : TokenList) (syntaxes : List (CellSyntax (Said spelling))) (k : ℕ) (draft : Draft Form) (s : Said spelling)
+    whole : (names : NameTable) (ts : TokenList) (syntaxes : List (CellSyntax (Said spelling))) (k : ℕ) (draft : Draft Form) (s : Said spelling)
         → draft.label ≡ None → IsDraft (grammar_of spelling) (draft_of spelling) names ts draft s
         → (made draft.form (leading_to None draft.operands) ≡ Some (resolved_statement (grammar_of spelling) names syntaxes s)) × LeadsForward
         (grammar_of spelling) syntaxes k s
@@ -113,10 +119,10 @@ module _ {W Form Stmt : Type 0} (spelling : Spelling W Form Stmt) where
       index : label.1 ≡ k
       index = omega (arith, label.3)
 
-      pub label_within : k < length tokens
+      label_within : k < length tokens
       label_within = omega (arith, label.5, label.3, length-map tokens (λ (t : Token). t.text.now))
 
-      pub jump_made : (to : ℕ) → made draft.form (leading_to (Some to) draft.operands) ≡ Some
+      jump_made : (to : ℕ) → made draft.form (leading_to (Some to) draft.operands) ≡ Some
           (spelling.statement (number_in names ((grammar_of spelling).name_of s)) to s.form s.filling)
       jump_made to =
           ap (λ (d : Draft Form). made d.form (leading_to (Some to) d.operands)) read.made ∙ ap
@@ -128,7 +134,7 @@ module _ {W Form Stmt : Type 0} (spelling : Spelling W Form Stmt) where
         same : token.text.now ≡ label.0
         same = let f : Some token.text.now ≡ Some label.0 = sym (get_text tokens k token stands) ∙ ap (slice_get (texts tokens)) (sym index) ∙ label.4 in cc
 
-        pub jump_resolved : (syntaxes : List (CellSyntax (Said spelling))) (to : ℕ) → LeadsAs labels (leading_in 0 syntaxes)
+        jump_resolved : (syntaxes : List (CellSyntax (Said spelling))) (to : ℕ) → LeadsAs labels (leading_in 0 syntaxes)
             → (target_by labels token.text.now ≡ Some to) × (number < to)
             → (made draft.form (leading_to (Some to) draft.operands) ≡ Some (resolved_statement (grammar_of spelling) names syntaxes s)) × LeadsForward
             (grammar_of spelling) syntaxes number s
@@ -143,7 +149,7 @@ module _ {W Form Stmt : Type 0} (spelling : Spelling W Form Stmt) where
                   (λ (n : Bytes). Contains (labels_of syntaxes) n × (number < target_in syntaxes n)) g (l.0, omega (arith, l.1, found.1))),
             )
 
-        pub jump_refused : (at : ℕ) (cause : CellCause) → at ≡ token.at → JumpCause labels number token.text.now cause
+        jump_refused : (at : ℕ) (cause : CellCause) → at ≡ token.at → JumpCause labels number token.text.now cause
             → JumpRefused (grammar_of spelling) labels number tokens s at cause
         jump_refused at cause place because =
             let none : drop (suc k) tokens ≡ [] = drop_all tokens (suc k) (omega (arith, label.5, label.3, length-map tokens (λ (t : Token). t.text.now))) in
@@ -156,7 +162,42 @@ module _ {W Form Stmt : Type 0} (spelling : Spelling W Form Stmt) where
               because = because;
             }
 
--- what is some value is there
-pub is_there : {X : Type 0} (o : Option X) (x : X) → o ≡ Some x → IsSome o
-is_there None x e = absurd cc
-is_there (Some y) x e = refl
+    -- A draft, and where its label leads, if it has one.
+    module _ (names : NameTable) (tokens : List Token) (draft : Draft Form) (s : Said spelling)
+        (read : IsDraft (grammar_of spelling) (draft_of spelling) names (texts tokens) draft s) where
+      pub label_inside : IfSome draft.label (λ k. k < length tokens)
+      label_inside = go draft.label refl
+        where
+          go : (o : Option ℕ) → draft.label ≡ o → IfSome o (λ k. k < length tokens)
+          go None is = tt
+          go (Some k) is = label_within names tokens draft k s is read
+
+      module _ (labels : LabelMap) (number : ℕ) where
+        pub statement_there : (to : Option ℕ) → LedForward labels number tokens draft.label to → IsSome (made draft.form (leading_to to draft.operands))
+        statement_there to = go draft.label refl
+          where
+            go : (o : Option ℕ) → draft.label ≡ o → LedForward labels number tokens o to → IsSome (made draft.form (leading_to to draft.operands))
+            go None is led = is_there _ _ (ap (λ (t : Option ℕ). made draft.form (leading_to t draft.operands)) led
+                ∙ whole_made names (texts tokens) 0 draft s is read)
+            go (Some k) is led = is_there _ _ (ap (λ (t : Option ℕ). made draft.form (leading_to t draft.operands)) led.3
+                ∙ jump_made names tokens draft k s is read led.1)
+
+        pub statement_made : (to : Option ℕ) → LedForward labels number tokens draft.label to → (syntaxes : List (CellSyntax (Said spelling)))
+            → LeadsAs labels (leading_in 0 syntaxes)
+            → (made draft.form (leading_to to draft.operands) ≡ Some (resolved_statement (grammar_of spelling) names syntaxes s)) × LeadsForward
+            (grammar_of spelling) syntaxes number s
+        statement_made to led syntaxes known = go draft.label refl led
+          where
+            go : (o : Option ℕ) → draft.label ≡ o → LedForward labels number tokens o to
+                → (made draft.form (leading_to to draft.operands) ≡ Some (resolved_statement (grammar_of spelling) names syntaxes s)) × LeadsForward
+                (grammar_of spelling) syntaxes number s
+            go None is led =
+                let r = whole names (texts tokens) syntaxes number draft s is read in
+                (ap (λ (t : Option ℕ). made draft.form (leading_to t draft.operands)) led ∙ r.0, r.1)
+            go (Some k) is led =
+                let r = jump_resolved names tokens draft k s is read labels number led.0 led.2 syntaxes led.1 known (led.4, led.5) in
+                (ap (λ (t : Option ℕ). made draft.form (leading_to t draft.operands)) led.3 ∙ r.0, r.1)
+
+        pub statement_lost : (f : CellFault) → LabelLost labels number tokens draft.label f → JumpFault (grammar_of spelling) labels number tokens s f
+        statement_lost f lost = jump_refused names tokens draft lost.index s lost.labelled read labels number lost.token lost.is f.at f.cause
+            (sym lost.begins) lost.because

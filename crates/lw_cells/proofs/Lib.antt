@@ -7,6 +7,9 @@ pub mod ResolvedNames
 pub mod FaultPlaces
 pub mod Causes
 pub mod Drafts
+pub mod Elements
+pub mod Exits
+pub mod CellsRefused
 pub mod Slots
 pub mod SlotTokens
 pub mod Beginnings

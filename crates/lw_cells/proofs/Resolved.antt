@@ -1,31 +1,36 @@
 -- Resolving the jumps of a thread, one cell further.
 use Rattle.std.proofs.Common.{◌≡◌, ℕ, suc, ◌<◌, ◌≤◌, ◌+◌, ◌*◌, Option, Some, None, List, [], ◌∷◌, ◌++◌, length, map, take, drop, get_or, refl, sym, ap, ◌∙◌}
 use Rattle.std.proofs.Common.{subst, arith, ◌⊎◌, inl, inr}
-use Rattle.std.specs.Prelude.{slice_get, Contains}
+use Rattle.std.specs.Prelude.{slice_get, All, Contains}
 use Rattle.std.specs.List.{AllZip, cons_option}
 use Rattle.std.specs.Option.{option_map}
 use Rattle.std.proofs.lemmas.Option.{slice_get-map}
 use Rattle.std.proofs.lemmas.List.{map-append, length-map, append-nil, append_assoc, take-map, drop-map, take-append-drop}
 use Rattle.lw_base.specs.declared.fault.CellCause.{CellCause}
+use Rattle.lw_base.specs.declared.fault.CellFault.{CellFault}
 use Rattle.lw_base.specs.declared.fault.CellCause.TheVariants.{Form, Register, LabelMissing, LabelTwice, Backward, TooMany, Memory}
 use Rattle.lw_text.specs.declared.cell.Cell.{Cell}
 use Rattle.lw_text.specs.declared.token.Token.{Token}
 use Rattle.lw_text.specs.Spans.{texts}
 use Rattle.lw_text.specs.PlacedTokens.{texts_of_tokens}
 use Rattle.lw_text.specs.PlacedCells.{texts_of_cells}
-use Rattle.lw_text.specs.Places.{cell_texts, cells_texts, placed_tokens, placed_row}
+use Rattle.lw_text.specs.Places.{cell_texts, cells_texts, placed_tokens, placed_row, IsWithin}
 use Rattle.lw_text.proofs.api.Places.{texts_placed, cells_placed}
 use Rattle.lw_cells.specs.declared.draft.DraftCell.{DraftCell}
-use Rattle.lw_cells.specs.Grammars.{Grammar}
+use Rattle.lw_cells.specs.Grammars.{Grammar, IsGrammar}
 use Rattle.lw_cells.specs.Cells.{CellSyntax, MaybeStatement, CellSays, statements, labels_of, target_in, resolved_statement, code_in, LeadsForward}
 use Rattle.lw_cells.specs.Faults.{TellsBy}
-use Rattle.lw_cells.specs.Drafts.{draft_in, draft_cell, DraftRead, LabelMap}
-use Rattle.lw_cells.specs.Reading.{IsDraft, JumpRefused, AllForward}
+use Rattle.lw_cells.specs.Drafts.{draft_in, draft_cell, DraftRead, IsCellDraft, LabelMap}
+use Rattle.lw_cells.specs.Reading.{IsDraft, JumpRefused, JumpFault, IsUnresolved, IsCellResolved, AllForward, ColumnRefused}
 use Rattle.lw_cells.proofs.FrontLabels.{labels_rest}
 use Rattle.lw_cells.proofs.Leads.{statements-append, leads_in, leads_nowhere}
 use Rattle.lw_base.proofs.api.Lists.{at_index, cut_at, get_some, take_one, take_whole, get_append, get_seam}
 use Rattle.lw_cells.proofs.api.Zips.{zip_length, zip_at, zip_take, zip_drop}
 use Rattle.lw_cells.proofs.FaultPlaces.{standing}
+use Rattle.lw_cells.proofs.Elements.{all_at, all_amid}
+use Rattle.lw_cells.proofs.CellsRefused.{column_out_of_memory}
+use Rattle.lw_cells.proofs.ColumnsRead.{column_none}
+use Rattle.lw_cells.proofs.JumpsResolved.{not_forward}
 
 module _ {Syntax Stmt : Type 0} (grammar : Grammar Syntax Stmt) where
   -- The statements of so many cells are resolved.
@@ -37,6 +42,94 @@ module _ {Syntax Stmt : Type 0} (grammar : Grammar Syntax Stmt) where
   resolved_none names syntaxes = record { made = refl; ahead = λ k s e. absurd cc }
 
   module _ {D : Type 0} (draft_of : ℕ → Syntax → D) where
+    -- A cell that was drafted.
+    module _ {A : Type 0} (names : List (List ℕ)) (cell : Cell A) (draft : DraftCell D) (syntax : CellSyntax Syntax)
+        (drafted : IsCellDraft grammar draft_of names cell draft syntax) where
+      -- what stands behind so many tokens is the statement
+      behind_labels : (draft.start ≤ length cell.tokens) × (texts (drop draft.start cell.tokens) ≡ drafted.says.0)
+      behind_labels =
+          let start : draft.start ≡ 2 * length syntax.labels = ap (λ (c : DraftCell D). c.start) drafted.made in
+          let rest = labels_rest (texts cell.tokens) syntax.labels drafted.says.0 drafted.says.1 in (
+            omega (arith, start, rest.0, length-map cell.tokens (λ (t : Token). t.text.now)),
+            sym
+                (drop-map (λ (t : Token). t.text.now) draft.start cell.tokens) ∙ ap (λ (n : ℕ). drop n (texts cell.tokens)) start ∙ rest.1,
+          )
+
+      pub start_within : draft.start ≤ length cell.tokens
+      start_within = behind_labels.0
+
+      drafted_as : (o : Option D) → draft.stmt ≡ o → o ≡ option_map (draft_in grammar draft_of names) syntax.stmt
+      drafted_as o is = sym is ∙ ap (λ (c : DraftCell D). c.stmt) drafted.made
+
+      -- the statement of a draft
+      pub statement_of : (stmt : D) → draft.stmt ≡ Some stmt
+          → (s : Syntax) × (syntax.stmt ≡ Some s) × IsDraft grammar draft_of names (texts (drop draft.start cell.tokens)) stmt s
+      statement_of stmt is = go syntax.stmt refl
+        where
+          go : (o : Option Syntax) → syntax.stmt ≡ o
+              → (s : Syntax) × (syntax.stmt ≡ Some s) × IsDraft grammar draft_of names (texts (drop draft.start cell.tokens)) stmt s
+          go None g = let h : Some stmt ≡ None = drafted_as (Some stmt) is ∙ ap (option_map (draft_in grammar draft_of names)) g in absurd cc
+          go (Some s) g =
+              let h : Some stmt ≡ Some (draft_in grammar draft_of names s) = drafted_as (Some stmt) is ∙ ap
+              (option_map (draft_in grammar draft_of names)) g in
+              let says : grammar.says drafted.says.0 s = subst (λ (o : Option Syntax). MaybeStatement grammar drafted.says.0 o) g drafted.says.2 in
+              (s, g, record { says = subst (λ (ts : List (List ℕ)). grammar.says ts s) (sym behind_labels.1) says; made = cc })
+
+      no_statement : draft.stmt ≡ None → syntax.stmt ≡ None
+      no_statement is = go syntax.stmt refl
+        where
+          go : (o : Option Syntax) → syntax.stmt ≡ o → syntax.stmt ≡ None
+          go None g = g
+          go (Some s) g = let h : None ≡ Some (draft_in grammar draft_of names s) = drafted_as None is ∙ ap
+              (option_map (draft_in grammar draft_of names)) g in absurd cc
+
+      -- a cell without a statement
+      pub cell_skipped : (syntaxes : List (CellSyntax Syntax)) (code : List Stmt) → draft.stmt ≡ None
+          → IsCellResolved grammar names syntaxes syntax code code
+      cell_skipped syntaxes code is =
+          let none = no_statement is in
+          record {
+            made = sym (ap (λ (o : Option Syntax). code ++ map (resolved_statement grammar names syntaxes) (cons_option o [])) none ∙ append-nil code);
+            ahead = λ s here. (let e : None ≡ Some s = sym none ∙ here in absurd cc);
+          }
+
+      -- a cell whose statement is resolved
+      pub cell_resolved : (syntaxes : List (CellSyntax Syntax)) (code more : List Stmt) (stmt : D) → draft.stmt ≡ Some stmt → (made : Stmt)
+          → more ≡ code ++ made ∷ []
+          → ((s : Syntax) → IsDraft grammar draft_of names (texts (drop draft.start cell.tokens)) stmt s
+          → (made ≡ resolved_statement grammar names syntaxes s) × LeadsForward grammar syntaxes (length code) s)
+          → IsCellResolved grammar names syntaxes syntax code more
+      cell_resolved syntaxes code more stmt is made pushed done =
+          let w = statement_of stmt is in
+          let one = done w.0 w.2 in
+          record {
+            made = pushed ∙ ap (λ (x : Stmt). code ++ x ∷ []) one.0 ∙ ap
+                (λ (o : Option Syntax). code ++ map (resolved_statement grammar names syntaxes) (cons_option o [])) (sym w.1);
+            ahead = λ s here. (let e : Some w.0 ≡ Some s = sym w.1 ∙ here in let same : w.0 ≡ s = cc in subst
+                (λ (u : Syntax). LeadsForward grammar syntaxes (length code) u) same one.1);
+          }
+
+      -- a cell whose jump is refused
+      pub cell_unresolved : (labels : LabelMap) (number : ℕ) (f : CellFault) (stmt : D) → draft.stmt ≡ Some stmt
+          → ((s : Syntax) → IsDraft grammar draft_of names (texts (drop draft.start cell.tokens)) stmt s
+          → JumpFault grammar labels number (drop draft.start cell.tokens) s f) → IsUnresolved grammar labels number cell syntax f
+      cell_unresolved labels number f stmt is fault =
+          let w = statement_of stmt is in
+          let j = fault w.0 w.2 in
+          inr (
+            w.0,
+            w.1,
+            record {
+              front = take draft.start cell.tokens ++ j.front;
+              token = j.token;
+              last = sym (take-append-drop draft.start cell.tokens) ∙ ap (λ (ts : List Token). take draft.start cell.tokens ++ ts) j.last
+                  ∙ sym (append_assoc (take draft.start cell.tokens) j.front (j.token ∷ []));
+              is = j.is;
+              begins = j.begins;
+              because = j.because;
+            },
+          )
+
     -- What was drafted of a thread's cells, at the cell of this row.
     module _ {A : Type 0} (cells : List (Cell A)) (before after : List (List ℕ)) (drafts : List (DraftCell D)) (labels : LabelMap)
         (draft : DraftRead grammar draft_of cells before drafts labels after) where
@@ -70,43 +163,13 @@ module _ {Syntax Stmt : Type 0} (grammar : Grammar Syntax Stmt) where
         says_at = zip_at (CellSays grammar) (cells_texts cells) draft.syntaxes row (cell_texts cell) syntax_at.0 draft.says
             (slice_get-map cell_texts cells row ∙ ap (option_map cell_texts) cell_at) syntax_at.1
 
-        draft_at : (d : DraftCell D) → slice_get drafts row ≡ Some d → d ≡ draft_cell grammar draft_of after syntax_at.0
-        draft_at d e =
-            let f : Some d ≡ Some (draft_cell grammar draft_of after syntax_at.0) = sym e ∙ ap
+        pub row_drafted : (d : DraftCell D) → d ≡ get_or drafts row d → IsCellDraft grammar draft_of after cell d syntax_at.0
+        row_drafted d e =
+            let at : slice_get drafts row ≡ Some d = at_index drafts row d (omega (arith, within, as_many_rows)) ∙ ap Some (sym e) in
+            let f : Some d ≡ Some (draft_cell grammar draft_of after syntax_at.0) = sym at ∙ ap
             (λ (ds : List (DraftCell D)). slice_get ds row) draft.made ∙ slice_get-map (draft_cell grammar draft_of after) draft.syntaxes row ∙ ap
             (option_map (draft_cell grammar draft_of after)) syntax_at.1 in
-            cc
-
-        stmt_at : (d : DraftCell D) (o : Option D) → slice_get drafts row ≡ Some d → d.stmt ≡ o
-            → o ≡ option_map (draft_in grammar draft_of after) syntax_at.0.stmt
-        stmt_at d o e f = sym f ∙ ap (λ (c : DraftCell D). c.stmt) (draft_at d e)
-
-        -- what stands behind so many tokens is the statement
-        behind_labels : (d : DraftCell D) → slice_get drafts row ≡ Some d → (d.start ≤ length cell.tokens) × (texts (drop d.start cell.tokens) ≡ says_at.0)
-        behind_labels d e =
-            let start : d.start ≡ 2 * length syntax_at.0.labels = ap (λ (c : DraftCell D). c.start) (draft_at d e) in
-            let rest = labels_rest (texts cell.tokens) syntax_at.0.labels says_at.0 says_at.1 in (
-              omega (arith, start, rest.0, length-map cell.tokens (λ (t : Token). t.text.now)),
-              sym
-                  (drop-map (λ (t : Token). t.text.now) d.start cell.tokens) ∙ ap (λ (n : ℕ). drop n (texts cell.tokens)) start ∙ rest.1,
-            )
-
-        pub start_within : (d : DraftCell D) → slice_get drafts row ≡ Some d → d.start ≤ length cell.tokens
-        start_within d e = (behind_labels d e).0
-
-        -- the statement of a draft; its cell's draft is read twice
-        pub syntax_of : (d c : DraftCell D) (stmt : D) → slice_get drafts row ≡ Some d → slice_get drafts row ≡ Some c → c.stmt ≡ Some stmt
-            → (s : Syntax) × (syntax_at.0.stmt ≡ Some s) × IsDraft grammar draft_of after (texts (drop d.start cell.tokens)) stmt s
-        syntax_of d c stmt e at f = go syntax_at.0.stmt refl
-          where
-            go : (o : Option Syntax) → syntax_at.0.stmt ≡ o → (s : Syntax) × (syntax_at.0.stmt ≡ Some s) × IsDraft grammar draft_of after
-                (texts (drop d.start cell.tokens)) stmt s
-            go None g = let h : Some stmt ≡ None = stmt_at c (Some stmt) at f ∙ ap (option_map (draft_in grammar draft_of after)) g in absurd cc
-            go (Some s) g =
-                let h : Some stmt ≡ Some (draft_in grammar draft_of after s) = stmt_at c (Some stmt) at f ∙ ap
-                (option_map (draft_in grammar draft_of after)) g in
-                let says : grammar.says says_at.0 s = subst (λ (o : Option Syntax). MaybeStatement grammar says_at.0 o) g says_at.2 in
-                (s, g, record { says = subst (λ (ts : List (List ℕ)). grammar.says ts s) (sym (behind_labels d e).1) says; made = cc })
+            record { says = says_at; made = cc }
 
         next_syntaxes : take (row + 1) draft.syntaxes ≡ take row draft.syntaxes ++ syntax_at.0 ∷ []
         next_syntaxes = let e : row + 1 ≡ suc row = omega arith in ap (λ (n : ℕ). take n draft.syntaxes) e ∙ take_one draft.syntaxes row syntax_at.0 syntax_at.1
@@ -116,44 +179,38 @@ module _ {Syntax Stmt : Type 0} (grammar : Grammar Syntax Stmt) where
         next_statements o e = ap statements next_syntaxes ∙ statements-append (take row draft.syntaxes) (syntax_at.0 ∷ []) ∙ ap
             (λ (p : Option Syntax). statements (take row draft.syntaxes) ++ cons_option p []) e
 
-        pub resolved_skip : (code : List Stmt) (d : DraftCell D) → slice_get drafts row ≡ Some d → d.stmt ≡ None
-            → Resolved after draft.syntaxes row code → Resolved after draft.syntaxes (row + 1) code
-        resolved_skip code d e f r =
-            let none : syntax_at.0.stmt ≡ None = go syntax_at.0.stmt refl in
-            let same : statements (take (row + 1) draft.syntaxes) ≡ statements (take row draft.syntaxes) = next_statements None none ∙ append-nil
-            (statements (take row draft.syntaxes)) in
-            record {
-              made = r.made ∙ ap (map (resolved_statement grammar after draft.syntaxes)) (sym same);
-              ahead = λ k s at. r.ahead k s (ap (λ (ss : List Syntax). slice_get ss k) (sym same) ∙ at);
-            }
+        -- one cell further
+        pub resolved_further : (code more : List Stmt) → IsCellResolved grammar after draft.syntaxes syntax_at.0 code more
+            → Resolved after draft.syntaxes row code → Resolved after draft.syntaxes (row + 1) more
+        resolved_further code more one r = go syntax_at.0.stmt refl
           where
-            go : (o : Option Syntax) → syntax_at.0.stmt ≡ o → syntax_at.0.stmt ≡ None
-            go None g = g
-            go (Some s) g = let h : None ≡ Some (draft_in grammar draft_of after s) = stmt_at d None e f ∙ ap
-                (option_map (draft_in grammar draft_of after)) g in absurd cc
+            count : length code ≡ length (statements (take row draft.syntaxes))
+            count = ap length r.made ∙ length-map (statements (take row draft.syntaxes)) (resolved_statement grammar after draft.syntaxes)
 
-        pub resolved_more : (code : List Stmt) (s : Syntax) (stmt : Stmt) → syntax_at.0.stmt ≡ Some s → Resolved after draft.syntaxes row code
-            → (stmt ≡ resolved_statement grammar after draft.syntaxes s) × LeadsForward grammar draft.syntaxes (length code) s
-            → Resolved after draft.syntaxes (row + 1) (code ++ stmt ∷ [])
-        resolved_more code s stmt is r one =
-            let more : statements (take (row + 1) draft.syntaxes) ≡ statements (take row draft.syntaxes) ++ s ∷ [] = next_statements (Some s) is in
-            let count : length code ≡ length (statements (take row draft.syntaxes)) = ap length r.made ∙ length-map
-            (statements (take row draft.syntaxes)) (resolved_statement grammar after draft.syntaxes) in
-            record {
-              made = ap (λ (ss : List Stmt). ss ++ stmt ∷ []) r.made ∙ ap
-                  (λ (x : Stmt). map (resolved_statement grammar after draft.syntaxes) (statements (take row draft.syntaxes)) ++ x ∷ []) one.0 ∙ sym
-                  (map-append (resolved_statement grammar after draft.syntaxes) (statements (take row draft.syntaxes)) (s ∷ [])) ∙ ap
-                  (map (resolved_statement grammar after draft.syntaxes)) (sym more);
-              ahead = λ k t at. ahead_at k t count (get_append (statements (take row draft.syntaxes)) s t k
-                  (ap (λ (ss : List Syntax). slice_get ss k) (sym more) ∙ at));
-            }
-          where
-            ahead_at : (k : ℕ) (t : Syntax) → length code ≡ length (statements (take row draft.syntaxes))
+            whole : more ≡ map (resolved_statement grammar after draft.syntaxes) (statements (take (row + 1) draft.syntaxes))
+            whole =
+                one.made ∙ ap (λ (ss : List Stmt). ss ++ map (resolved_statement grammar after draft.syntaxes) (statements (syntax_at.0 ∷ []))) r.made
+                ∙ sym (map-append (resolved_statement grammar after draft.syntaxes) (statements (take row draft.syntaxes)) (statements (syntax_at.0 ∷ [])))
+                ∙ ap (map (resolved_statement grammar after draft.syntaxes)) (sym (next_statements syntax_at.0.stmt refl))
+
+            ahead_at : (k : ℕ) (s t : Syntax) → syntax_at.0.stmt ≡ Some s
                 → (slice_get (statements (take row draft.syntaxes)) k ≡ Some t) ⊎ ((k ≡ length (statements (take row draft.syntaxes))) × (s ≡ t))
                 → LeadsForward grammar draft.syntaxes k t
-            ahead_at k t count (inl f) = r.ahead k t f
-            ahead_at k t count (inr f) = subst (λ (n : ℕ). LeadsForward grammar draft.syntaxes n t) (count ∙ sym f.0)
-                (subst (λ (u : Syntax). LeadsForward grammar draft.syntaxes (length code) u) f.1 one.1)
+            ahead_at k s t is (inl f) = r.ahead k t f
+            ahead_at k s t is (inr f) = subst (λ (n : ℕ). LeadsForward grammar draft.syntaxes n t) (count ∙ sym f.0)
+                (subst (λ (u : Syntax). LeadsForward grammar draft.syntaxes (length code) u) f.1 (one.ahead s is))
+
+            go : (o : Option Syntax) → syntax_at.0.stmt ≡ o → Resolved after draft.syntaxes (row + 1) more
+            go None is = record {
+              made = whole;
+              ahead = λ k s at. r.ahead k s (ap (λ (ss : List Syntax). slice_get ss k)
+                  (sym (next_statements None is ∙ append-nil (statements (take row draft.syntaxes)))) ∙ at);
+            }
+            go (Some s) is = record {
+              made = whole;
+              ahead = λ k t at. ahead_at k s t is (get_append (statements (take row draft.syntaxes)) s t k
+                  (ap (λ (ss : List Syntax). slice_get ss k) (sym (next_statements (Some s) is)) ∙ at));
+            }
 
         above_says : AllZip (CellSays grammar) (cells_texts (take row cells)) (take row draft.syntaxes)
         above_says = subst (λ (cs : List (List (List ℕ))). AllZip (CellSays grammar) cs (take row draft.syntaxes)) (take-map cell_texts row cells)
@@ -176,7 +233,7 @@ module _ {Syntax Stmt : Type 0} (grammar : Grammar Syntax Stmt) where
             (sym (cells_placed (drop (suc row) cells))) below_says
 
         -- where the statement does not lead forward, not all do
-        pub not_all_forward : (code : List Stmt) (s : Syntax) → syntax_at.0.stmt ≡ Some s → Resolved after draft.syntaxes row code
+        not_all_forward : (code : List Stmt) (s : Syntax) → syntax_at.0.stmt ≡ Some s → Resolved after draft.syntaxes row code
             → (LeadsForward grammar draft.syntaxes (length code) s → ⊥) → AllForward grammar draft.syntaxes → ⊥
         not_all_forward code s is r none all =
             let count : length code ≡ length (statements (take row draft.syntaxes)) = ap length r.made ∙ length-map
@@ -188,20 +245,13 @@ module _ {Syntax Stmt : Type 0} (grammar : Grammar Syntax Stmt) where
             none (all (length code) s (ap (λ (ss : List Syntax). slice_get ss (length code)) whole ∙ get_seam (statements (take row draft.syntaxes)) s
             (statements (drop (suc row) draft.syntaxes)) (length code) count))
 
-        last_in_cell : (start : ℕ) (front : List Token) (t : Token) → drop start cell.tokens ≡ front ++ t ∷ []
-            → cell.tokens ≡ (take start cell.tokens ++ front) ++ t ∷ []
-        last_in_cell start front t last =
-            sym (take-append-drop start cell.tokens) ∙ ap (λ (ts : List Token). take start cell.tokens ++ ts) last
-            ∙ sym (append_assoc (take start cell.tokens) front (t ∷ []))
-
-        pub jump_tells : (names : List (List ℕ)) (code : List Stmt) (s : Syntax) (at : ℕ) (cause : CellCause) → syntax_at.0.stmt ≡ Some s
-            → Resolved after draft.syntaxes row code → (start : ℕ) → JumpRefused grammar labels (length code) (drop start cell.tokens) s at cause
+        jump_tells : (names : List (List ℕ)) (code : List Stmt) (s : Syntax) (at : ℕ) (cause : CellCause) → syntax_at.0.stmt ≡ Some s
+            → Resolved after draft.syntaxes row code → JumpRefused grammar labels (length code) cell.tokens s at cause
             → TellsBy grammar names (placed_row cells ∷ []) at cause
-        jump_tells names code s at Form is r start f = tt
-        jump_tells names code s at Register is r start f = tt
-        jump_tells names code s at LabelMissing is r start f = (
-          standing cells (take row cells) (drop (suc row) cells) cell (cut_at cells row cell cell_at) at (take start cell.tokens ++ f.front) f.token []
-              (last_in_cell start f.front f.token f.last) f.begins,
+        jump_tells names code s at Form is r f = tt
+        jump_tells names code s at Register is r f = tt
+        jump_tells names code s at LabelMissing is r f = (
+          standing cells (take row cells) (drop (suc row) cells) cell (cut_at cells row cell cell_at) at f.front f.token [] f.last f.begins,
           (
             take row draft.syntaxes,
             syntax_at.0,
@@ -218,15 +268,14 @@ module _ {Syntax Stmt : Type 0} (grammar : Grammar Syntax Stmt) where
                 (sym (cut_at draft.syntaxes row syntax_at.0 syntax_at.1)) there),
           ),
         )
-        jump_tells names code s at LabelTwice is r start f = absurd f.because
-        jump_tells names code s at Backward is r start f =
+        jump_tells names code s at LabelTwice is r f = absurd f.because
+        jump_tells names code s at Backward is r f =
             let b = f.because in
             let l = leads_in draft.syntaxes f.token.text.now b.0 (sym (draft.leads f.token.text.now) ∙ b.1) in
             let cut = cut_at draft.syntaxes row syntax_at.0 syntax_at.1 in
             let count : length code ≡ length (statements (take row draft.syntaxes)) = ap length r.made ∙ length-map
             (statements (take row draft.syntaxes)) (resolved_statement grammar after draft.syntaxes) in (
-              standing cells (take row cells) (drop (suc row) cells) cell (cut_at cells row cell cell_at) at
-                  (take start cell.tokens ++ f.front) f.token [] (last_in_cell start f.front f.token f.last) f.begins,
+              standing cells (take row cells) (drop (suc row) cells) cell (cut_at cells row cell cell_at) at f.front f.token [] f.last f.begins,
               (
                 take row draft.syntaxes,
                 syntax_at.0,
@@ -243,5 +292,19 @@ module _ {Syntax Stmt : Type 0} (grammar : Grammar Syntax Stmt) where
                     (omega (arith, b.2, l.1, count)),
               ),
             )
-        jump_tells names code s at TooMany is r start f = absurd f.because
-        jump_tells names code s at Memory is r start f = tt
+        jump_tells names code s at TooMany is r f = absurd f.because
+        jump_tells names code s at Memory is r f = tt
+
+        -- where its jump is refused, so is the thread
+        pub row_refused : IsGrammar grammar → (code : List Stmt) (f : CellFault) → Resolved after draft.syntaxes row code
+            → IsUnresolved grammar labels (length code) cell syntax_at.0 f → ColumnRefused grammar before cells f
+        row_refused lawful code f r (inl (memory, first)) = column_out_of_memory grammar before cells f memory first
+        row_refused lawful code f r (inr (s, is, jump)) = record {
+          none = λ known t (column, few). column_none grammar lawful draft_of cells before after drafts labels draft
+              (not_all_forward code s is r (not_forward grammar draft.syntaxes labels (length code) cell.tokens s f.at f.cause draft.leads jump)) t column;
+          cause = jump_tells before code s f.at f.cause is r jump;
+          place = λ len all.
+              let here : All (λ (t : Token). t.at ≤ len) cell.tokens = (all_at (IsWithin len) cells row cell cell_at all).0 in
+              let there : All (λ (t : Token). t.at ≤ len) (jump.front ++ jump.token ∷ []) = subst (All (λ (t : Token). t.at ≤ len)) jump.last here in
+              omega (arith, jump.begins, all_amid (λ (t : Token). t.at ≤ len) jump.front [] jump.token there);
+        }

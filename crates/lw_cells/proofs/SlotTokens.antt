@@ -1,15 +1,14 @@
 -- What tokens at slots give, as the reader finds it.
-use Rattle.std.proofs.Common.{◌≡◌, ℕ, zero, suc, ◌+◌, ◌<◌, ◌≤◌, Option, Some, None, List, [], ◌∷◌, length, get_or, inl, inr, refl, sym, ap, ◌∙◌, subst, arith}
+use Rattle.std.proofs.Common.{◌≡◌, ℕ, zero, suc, ◌+◌, ◌<◌, ◌≤◌, Option, Some, None, List, [], ◌∷◌, ◌++◌, length, take, get_or}
+use Rattle.std.proofs.Common.{inl, inr, refl, sym, ap, ◌∙◌, subst, arith}
 use Rattle.std.specs.Prelude.{slice_get, MatchOption, IsTrue, ◌↔◌, Contains}
 use Rattle.std.specs.Option.{is_some}
 use Rattle.std.proofs.lemmas.Bool.{cases_lt}
-use Rattle.std.proofs.lemmas.Option.{slice_get_within}
 use Rattle.lw_base.proofs.api.Lists.{at_index}
-use Rattle.lw_base.specs.Types.{Bytes, NameTable, TokenList}
+use Rattle.lw_base.specs.Types.{Bytes, TokenList}
 use Rattle.lw_base.specs.declared.head.Arch.{Arch}
 use Rattle.lw_base.specs.declared.operand.Operand.{Operand}
 use Rattle.lw_base.specs.declared.operand.Operand.TheVariants as operand
-use Rattle.lw_base.specs.Limits.{most_locations}
 use Rattle.lw_base.specs.Names.{IsLocation}
 use Rattle.lw_base.specs.Registers.{IsRegister}
 use Rattle.lw_text.specs.Tokens.{IsNumber}
@@ -21,7 +20,7 @@ use Rattle.lw_cells.specs.declared.spelled.Found.{Found}
 use Rattle.lw_cells.specs.Operands.{IsOperand}
 use Rattle.lw_cells.specs.Spellings.{Spelling, Given, Filling, Gives, Fills}
 use Rattle.lw_cells.specs.Found.{CanStand, BeginsWith}
-use Rattle.lw_cells.specs.Found.{with_name_at, with_label_at, found_with, found_of, reach_of, NinthAt}
+use Rattle.lw_cells.specs.Found.{with_name_at, with_label_at, found_with, found_of, reach_of}
 
 -- a token that is neither a register nor a number is no operand
 pub no_operand : (arch : Arch) (w : Bytes) → ((r : ℕ) → IsRegister arch w r → ⊥) → ((n : ℕ) → IsNumber w n → ⊥) → (v : Operand) → IsOperand arch w v → ⊥
@@ -55,6 +54,13 @@ module _ {W Form Stmt : Type 0} (spelling : Spelling W Form Stmt) where
       → ((f : Filling rest) → Fills spelling (texts more) rest f → ⊥) → (f : Filling slots) → Fills spelling (texts tokens) slots f → ⊥
   none_more slots rest slot tokens more token a b none = rw (a, b) (λ f s. none f.1 s.1)
 
+  -- a slot is left, and no token
+  pub none_filled : (slots rest : List (Slot W)) (slot : Slot W) (tokens : List Token) → slots ≡ slot ∷ rest → length tokens ≡ 0 → (f : Filling slots)
+      → Fills spelling (texts tokens) slots f → ⊥
+  none_filled [] rest slot tokens a b = absurd (omega (arith, ap length a))
+  none_filled (s ∷ slots) rest slot [] a b = λ f h. h
+  none_filled (s ∷ slots) rest slot (t ∷ tokens) a b = absurd (omega (arith, b))
+
   -- all slots are filled, and a token is left
   pub none_left : (slots : List (Slot W)) (tokens : List Token) → length slots ≡ 0 → (length tokens ≡ 0 → ⊥) → (f : Filling slots)
       → Fills spelling (texts tokens) slots f → ⊥
@@ -87,49 +93,16 @@ module _ {W Form Stmt : Type 0} (spelling : Spelling W Form Stmt) where
       heads : other ∷ more ≡ slot ∷ rest → other ≡ slot
       heads e = cc
 
-  -- ---- a ninth location
-
-  -- it stands in front
-  pub ninth_here : (slots rest : List (Slot W)) (tokens more : List Token) (token : Token) (names : NameTable) → slots ≡ Location ∷ rest
-      → tokens ≡ token ∷ more → CanStand spelling (token.text.now ∷ []) (Location ∷ [])
-      → (length names ≡ most_locations) × (Contains names token.text.now → ⊥) → NinthAt spelling slots tokens names 0
-  ninth_here slots rest tokens more token names a b stands (full, new) = record {
-    front = [];
-    back = rest;
-    cut = a;
-    before = (tt, tt);
-    token = token;
-    is = ap (λ (ts : List Token). slice_get ts 0) b;
-    ninth = (refl, subst IsLocation (sym stands.1.0.0) stands.1.0.1, full, new);
-  }
-
-  -- it stands further behind
-  pub ninth_behind : (slots rest : List (Slot W)) (slot : Slot W) (tokens more : List Token) (token : Token) (names : NameTable) (k : ℕ)
-      → slots ≡ slot ∷ rest → tokens ≡ token ∷ more → CanStand spelling (token.text.now ∷ []) (slot ∷ []) → NinthAt spelling rest more names k
-      → NinthAt spelling slots tokens names (k + 1)
-  ninth_behind slots rest slot tokens more token names k a b stands n =
-      let e : k + 1 ≡ suc k = omega arith in
-      rw (e, a, b) (record {
-        front = slot ∷ n.front;
-        back = n.back;
-        cut = ap (λ (s : List (Slot W)). slot ∷ s) n.cut;
-        before = ((stands.0.0, n.before.0), (stands.1.0, n.before.1));
-        token = n.token;
-        is = n.is;
-        ninth = n.ninth;
-      })
-
-  pub ninth_within : (slots : List (Slot W)) (tokens : List Token) (names : NameTable) (k : ℕ) → NinthAt spelling slots tokens names k → k < length tokens
-  ninth_within slots tokens names k n = slice_get_within tokens k n.token n.is
-
   -- ---- how far statements go on
 
-  pub reach_none : (slots : List (Slot W)) (ts : TokenList) → slots ≡ [] → reach_of spelling ts slots 0
-  reach_none slots ts a = rw a refl
+  pub reach_none : (slots : List (Slot W)) (ts : TokenList) → length slots ≡ 0 → reach_of spelling ts slots 0
+  reach_none [] ts a = refl
+  reach_none (slot ∷ slots) ts a = absurd (omega (arith, a))
 
-  pub reach_end : (slots rest : List (Slot W)) (slot : Slot W) (tokens : List Token) → slots ≡ slot ∷ rest → tokens ≡ []
-      → reach_of spelling (texts tokens) slots 0
-  reach_end slots rest slot tokens a b = rw (a, b) refl
+  pub reach_end : (slots : List (Slot W)) (tokens : List Token) → length tokens ≡ 0 → reach_of spelling (texts tokens) slots 0
+  reach_end [] tokens b = refl
+  reach_end (slot ∷ slots) [] b = refl
+  reach_end (slot ∷ slots) (t ∷ tokens) b = absurd (omega (arith, b))
 
   pub reach_stop : (slots rest : List (Slot W)) (slot : Slot W) (tokens more : List Token) (token : Token) → slots ≡ slot ∷ rest → tokens ≡ token ∷ more
       → (CanStand spelling (token.text.now ∷ []) (slot ∷ []) → ⊥) → reach_of spelling (texts tokens) slots 0
@@ -139,6 +112,37 @@ module _ {W Form Stmt : Type 0} (spelling : Spelling W Form Stmt) where
       → tokens ≡ token ∷ more → CanStand spelling (token.text.now ∷ []) (slot ∷ []) → reach_of spelling (texts more) rest k
       → reach_of spelling (texts tokens) slots (1 + k)
   reach_more slots rest slot tokens more token k a b stands h = let e : 1 + k ≡ suc k = omega arith in rw (e, a, b) (stands, h)
+
+  -- no further than there are slots and tokens
+  pub reach_within : (slots : List (Slot W)) (ts : TokenList) (n : ℕ) → reach_of spelling ts slots n → (n ≤ length slots) × (n ≤ length ts)
+  reach_within [] ts n h = (omega (arith, h), omega (arith, h))
+  reach_within (slot ∷ slots) [] n h = (omega (arith, h), omega (arith, h))
+  reach_within (slot ∷ slots) (t ∷ ts) zero h = (omega arith, omega arith)
+  reach_within (slot ∷ slots) (t ∷ ts) (suc n) h = let r = reach_within slots ts n h.1 in (omega (arith, r.0), omega (arith, r.1))
+
+  -- A location is wanted at this index, which is reached.
+  abbrev pub IsReached : (slots : List (Slot W)) → TokenList → ℕ → Type 0
+  IsReached slots ts k =
+      (front back : List (Slot W)) × (slots ≡ front ++ Location ∷ back) × CanStand spelling (take k ts) front
+      × ((t : Bytes) → slice_get ts k ≡ Some t → IsLocation t)
+
+  pub reached : (slots : List (Slot W)) (ts : TokenList) (n k : ℕ) → reach_of spelling ts slots n → k < n → slice_get slots k ≡ Some Location
+      → IsReached slots ts k
+  reached [] ts n k h less e = absurd cc
+  reached (slot ∷ slots) [] n k h less e = absurd (omega (arith, h, less))
+  reached (slot ∷ slots) (t ∷ ts) zero k h less e = absurd (omega (arith, less))
+  reached (slot ∷ slots) (t ∷ ts) (suc n) zero h less e =
+      let same : slot ≡ Location = cc in
+      let here = subst (λ (s : Slot W). CanStand spelling (t ∷ []) (s ∷ [])) same h.0 in (
+        [],
+        slots,
+        ap (λ (s : Slot W). s ∷ slots) same,
+        (tt, tt),
+        λ u is. (let one : t ≡ u = cc in subst IsLocation (sym here.1.0.0 ∙ one) here.1.0.1),
+      )
+  reached (slot ∷ slots) (t ∷ ts) (suc n) (suc k) h less e =
+      let r = reached slots ts n k h.1 (omega (arith, less)) e in
+      (slot ∷ r.0, r.1, ap (λ (s : List (Slot W)). slot ∷ s) r.2, ((h.0.0.0, r.3.0), (h.0.1.0, r.3.1)), r.4)
 
   -- tokens stand no further than they reach
   pub at_most : (ts : TokenList) (slots : List (Slot W)) (m n : ℕ) → reach_of spelling ts slots m → reach_of spelling ts slots n → m ≤ n

@@ -1,6 +1,6 @@
 -- A statement is read, or is refused, as its language's grammar says.
 use Rattle.std.proofs.Common.{◌≡◌, ℕ, suc, ◌<◌, ◌≤◌, ◌+◌, Option, Some, None, List, [], ◌∷◌, ◌++◌, length, take, get_or, refl, sym, ap, ◌∙◌, subst, arith}
-use Rattle.std.specs.Prelude.{slice_get, Contains, IfSome, MatchOption}
+use Rattle.std.specs.Prelude.{slice_get, All, Contains, IfSome, MatchOption}
 use Rattle.std.specs.List.{cons_option}
 use Rattle.std.specs.Option.{option_map}
 use Rattle.std.proofs.lemmas.Option.{slice_get_within, get_or_from_slice_get}
@@ -8,7 +8,7 @@ use Rattle.std.proofs.lemmas.List.{length-map, take-map}
 use Rattle.lw_base.specs.Limits.{most_locations}
 use Rattle.lw_base.specs.Names.{IsLocation}
 use Rattle.lw_base.specs.Refusals.{NotFound}
-use Rattle.lw_base.specs.Tables.{with_name, with_names, index_of}
+use Rattle.lw_base.specs.Tables.{with_names, index_of}
 use Rattle.lw_base.specs.Types.{Bytes, NameTable, TokenList}
 use Rattle.lw_base.specs.declared.fault.CellFault.{CellFault}
 use Rattle.lw_base.specs.declared.fault.CellCause.TheVariants.{Memory}
@@ -20,11 +20,15 @@ use Rattle.lw_cells.specs.declared.slot.Slot.{Slot}
 use Rattle.lw_cells.specs.declared.slot.Slot.TheVariants.{Word, Register, Location, Value, Number, Label}
 use Rattle.lw_cells.specs.declared.spelled.Found.{Found}
 use Rattle.lw_cells.specs.Cells.{number_in}
+use Rattle.lw_cells.specs.Words.{NameRead}
 use Rattle.lw_cells.specs.Spellings.{Spelling, Filling, Fills, Said, grammar_of, name_in}
 use Rattle.lw_cells.specs.Found.{CanStand}
-use Rattle.lw_cells.specs.Found.{found_of, draft_on, drafted, draft_of, IsDrafted, IsNotDrafted, NinthAt, IsSpelling}
-use Rattle.lw_cells.specs.Reading.{Fits, StatementRead, StatementFault, NinthIn, named_by}
+use Rattle.lw_cells.specs.Found.{found_of, draft_on, drafted, draft_of, IsDrafted, IsNotDrafted, IsNinthSlot, reach_of, IsSpelling}
+use Rattle.lw_cells.specs.declared.phrase.Phrase.{Phrase}
+use Rattle.lw_cells.specs.Reading.{Fits, StatementRead, StatementFault, StatementRefused, NinthIn, named_by}
+use Rattle.lw_cells.proofs.Elements.{all_at}
 use Rattle.lw_cells.proofs.FrontLabels.{get_text}
+use Rattle.lw_cells.proofs.SlotTokens.{reached}
 use Rattle.lw_cells.proofs.Causes.{statement_cause}
 use Rattle.lw_cells.proofs.Beginnings.{before as before_location}
 use Rattle.lw_cells.proofs.api.Forms.{is_grammar}
@@ -126,17 +130,17 @@ module _ {W Form Stmt : Type 0} (spelling : Spelling W Form Stmt) where
     statement_read o before draft after e h = go o.name refl h
       where
         go : (m : Option ℕ) → o.name ≡ m → MatchOption m ((after ≡ before) × (draft ≡ draft_on form None o))
-            (λ k. (t : Token) × (slice_get tokens k ≡ Some t) × IsLocation t.text.now × (after ≡ with_name before t.text.now) ×
-            (draft ≡ draft_on form (Some (index_of after t.text.now)) o))
+            (λ k. (t : Token) × (loc : ℕ) × (slice_get tokens k ≡ Some t) × NameRead before t loc after × (draft ≡ draft_on form (Some loc) o))
             → StatementRead (grammar_of spelling) (draft_of spelling) (texts tokens) before draft after
         go None is d =
             read_by o before draft after e None (no_name 0 (spelling.slots_of form) f (ap (λ (p : Found). p.name) (sym e) ∙ is)) d.0
             (d.1 ∙ ap (λ (m : Option ℕ). draft_on form (option_map (λ (k : ℕ). number_in after None) m) o) (sym is))
         go (Some k) is d =
-            read_by o before draft after e (Some d.0.text.now) (name_is o k d.0 e is d.1).0 d.3
-            (d.4 ∙ ap (λ (m : Option ℕ). draft_on form (option_map (λ (j : ℕ). index_of after d.0.text.now) m) o) (sym is))
+            read_by o before draft after e (Some d.0.text.now) (name_is o k d.0 e is d.2).0 d.3.names
+            (d.4 ∙ ap (λ (n : ℕ). draft_on form (Some n) o) d.3.number
+            ∙ ap (λ (m : Option ℕ). draft_on form (option_map (λ (j : ℕ). index_of after d.0.text.now) m) o) (sym is))
 
-    pub statement_refused : (made : Form → Operands → Option Stmt) → IsSpelling spelling made → (o : Found) (before : NameTable) (fault : CellFault)
+    statement_refused : (made : Form → Operands → Option Stmt) → IsSpelling spelling made → (o : Found) (before : NameTable) (fault : CellFault)
         → o ≡ found → IsNotDrafted o tokens before fault
         → StatementFault (grammar_of spelling) tokens before fault
     statement_refused made lawful o before fault e h =
@@ -146,28 +150,44 @@ module _ {W Form Stmt : Type 0} (spelling : Spelling W Form Stmt) where
         subst (λ (ts : TokenList). CanStand spelling ts n.2) (ap (λ (m : ℕ). take m (texts tokens)) j ∙ take-map
         (λ (t : Token). t.text.now) h.index tokens) n.8 in
         statement_cause (grammar_of spelling) tokens before h.index h.token h.is
-        (before_location spelling made lawful form n.2 n.3 (texts (take h.index tokens)) there n.7 front) fault.at fault.cause h.cause
+        (before_location spelling made lawful form n.2 n.3 (texts (take h.index tokens)) there n.7 front) fault.at fault.cause h.refused.cause
 
-    pub none_fits : (made : Form → Operands → Option Stmt) → IsSpelling spelling made → (o : Found) (before : NameTable) (fault : CellFault) → o ≡ found
+    none_fits : (made : Form → Operands → Option Stmt) → IsSpelling spelling made → (o : Found) (before : NameTable) (fault : CellFault) → o ≡ found
         → IsNotDrafted o tokens before fault → NotFound Memory fault.cause (Fits (grammar_of spelling) before (texts tokens))
     none_fits made lawful o before fault e h known s fits =
         let same : s ≡ said = (is_grammar spelling made lawful).one (texts tokens) s said fits.0 (there, fills) in
         let n = name_is o h.index h.token e h.name h.is in
         let room : length (with_names before (cons_option (name_in (spelling.slots_of form) f) [])) ≤ most_locations = subst
         (λ (q : Said spelling). length (with_names before (named_by (grammar_of spelling) q)) ≤ most_locations) same fits.1 in
-        h.full known (n.1, subst (λ (q : Option Bytes). length (with_names before (cons_option q [])) ≤ most_locations) n.0 room)
+        h.refused.none known (n.1, subst (λ (q : Option Bytes). length (with_names before (cons_option q [])) ≤ most_locations) n.0 room)
+
+    -- why the statement is refused
+    pub refused_by_form : (made : Form → Operands → Option Stmt) → IsSpelling spelling made → (phrase : Phrase) → phrase.tokens.now ≡ tokens → (o : Found)
+        (before : NameTable) (fault : CellFault) → o ≡ found → IsNotDrafted o tokens before fault
+        → StatementRefused (grammar_of spelling) before phrase fault
+    refused_by_form made lawful phrase same o before fault e h = record {
+      none = subst (λ (ts : List Token). NotFound Memory fault.cause (Fits (grammar_of spelling) before (texts ts))) (sym same)
+          (none_fits made lawful o before fault e h);
+      cause = subst (λ (ts : List Token). StatementFault (grammar_of spelling) ts before fault) (sym same)
+          (statement_refused made lawful o before fault e h);
+      place = λ len lies. h.refused.place len (all_at (λ (t : Token). t.at ≤ len) tokens h.index h.token h.is
+          (subst (All (λ (t : Token). t.at ≤ len)) same lies.0));
+    }
 
   -- a ninth location stands at the slots of a form
   pub ninth_in : (made : Form → Operands → Option Stmt) → IsSpelling spelling made → (form : Form) → Contains spelling.forms form → (tokens : List Token)
-      (names : NameTable) (index : ℕ) (default : Token) → NinthAt spelling (spelling.slots_of form) tokens names index
-      → NinthIn (grammar_of spelling) tokens names (get_or tokens index default).at
-  ninth_in made lawful form there tokens names index default n =
+      (names : NameTable) (front index : ℕ) (default : Token) → reach_of spelling (texts tokens) (spelling.slots_of form) front
+      → IsNinthSlot (spelling.slots_of form) tokens front names index → NinthIn (grammar_of spelling) tokens names (get_or tokens index default).at
+  ninth_in made lawful form there tokens names front index default reach n =
+      let r = reached spelling (spelling.slots_of form) (texts tokens) front index reach n.before n.slot in
+      let before : CanStand spelling (texts (take index tokens)) r.0 = subst (λ (ts : TokenList). CanStand spelling ts r.0)
+      (take-map (λ (t : Token). t.text.now) index tokens) r.3 in
       subst (λ (t : Token). NinthIn (grammar_of spelling) tokens names t.at) (sym (get_or_from_slice_get tokens index n.token default n.is)) (record {
         place = index;
         token = n.token;
         is = n.is;
-        before = before_location spelling made lawful form n.front n.back (texts (take index tokens)) there n.cut n.before;
-        ninth = n.ninth;
+        before = before_location spelling made lawful form r.0 r.1 (texts (take index tokens)) there r.2 before;
+        ninth = (refl, r.4 n.token.text.now (get_text tokens index n.token n.is), n.full, n.new);
       })
 
   -- no form is filled

@@ -11,21 +11,21 @@ use Rattle.lw_base.specs.Heads.{TestHead, with_table}
 use Rattle.lw_base.specs.Names.{IsTable}
 use Rattle.lw_base.specs.Tables.{with_names}
 use Rattle.lw_base.specs.WellFormed.{IsWellFormedHead}
-use Rattle.lw_base.specs.declared.fault.CellCause.{CellCause}
+use Rattle.lw_base.specs.declared.fault.CellFault.{CellFault}
 use Rattle.lw_base.proofs.api.GrowingTables.{with_names-append, with_names-longer}
 use Rattle.lw_base.proofs.api.WellFormedHeads.{with_table-well_formed}
 use Rattle.lw_text.specs.declared.cell.Cell.{Cell}
-use Rattle.lw_text.specs.Places.{cells_texts, all_texts, placed_row, placed_cells}
+use Rattle.lw_text.specs.Places.{cells_texts, all_texts, placed_row, placed_cells, IsWithin}
 use Rattle.lw_text.proofs.api.Places.{grid_placed}
 use Rattle.lw_cells.specs.Grammars.{Grammar, IsGrammar}
 use Rattle.lw_litmus.specs.Tests.{Test}
 use Rattle.lw_litmus.specs.WellFormed.{IsThread, IsWellFormed}
 use Rattle.lw_cells.specs.Cells.{CellSyntax, MaybeStatement, CellSays, Column, statements, names_in, names_of, code_in, test_on, FrameHasTest}
-use Rattle.lw_cells.specs.Faults.{TellsBy}
-use Rattle.lw_cells.specs.Reading.{ColumnRead, ColumnsRead, ColumnFits, ColumnsFit}
+use Rattle.lw_cells.specs.Reading.{ColumnRead, ColumnsRead, ColumnFits, ColumnsFit, ColumnRefused, ColumnsRefused}
 use Rattle.lw_cells.proofs.OneReading.{column_unique}
 use Rattle.lw_cells.proofs.api.Zips.{zip_unique, zip_more, zip_length, zip_cut}
 use Rattle.lw_cells.proofs.ResolvedNames.{LocationsExist, AllSaid, all_along, all_there, map_resolved-along, thread_fits}
+use Rattle.lw_cells.proofs.Elements.{all_amid}
 use Rattle.lw_cells.proofs.FaultPlaces.{column_tells}
 
 -- the columns before one, that one, and the columns behind it
@@ -42,11 +42,6 @@ columns_more {A} columns i column within is =
     ap (λ (n : ℕ). all_texts (take n columns)) next ∙ ap all_texts
     (take-suc columns i column within ∙ ap (λ (c : List (Cell A)). take i columns ++ c ∷ []) (sym is)) ∙ map-append cells_texts (take i columns)
     (column ∷ [])
-
-pub texts_cut : {A : Type 0} (columns : List (List (Cell A))) (i : ℕ) (column : List (Cell A)) → i < length columns → column ≡ get_or columns i column
-    → all_texts columns ≡ all_texts (take i columns) ++ cells_texts column ∷ all_texts (drop (suc i) columns)
-texts_cut columns i column within is = ap all_texts (columns_cut columns i column within is) ∙ map-append cells_texts (take i columns)
-    (column ∷ drop (suc i) columns)
 
 module _ {Syntax Stmt : Type 0} (grammar : Grammar Syntax Stmt) (lawful : IsGrammar grammar) where
   names_of-append : (xs ys : List (List (CellSyntax Syntax))) → names_of grammar (xs ++ ys) ≡ names_of grammar xs ++ names_of grammar ys
@@ -94,7 +89,7 @@ module _ {Syntax Stmt : Type 0} (grammar : Grammar Syntax Stmt) (lawful : IsGram
         }
 
     -- where the column says nothing that fits, no list of threads does
-    pub threads_none : (columns rest : List (List (List (List ℕ)))) → columns ≡ front ++ column ∷ rest
+    threads_none : (columns rest : List (List (List (List ℕ)))) → columns ≡ front ++ column ∷ rest
         → ((t : List (CellSyntax Syntax)) → ColumnFits grammar mid column t → ⊥) → (ts : List (List (CellSyntax Syntax)))
         → ColumnsFit grammar before columns ts → ⊥
     threads_none columns rest whole none ts (all, few) =
@@ -107,16 +102,21 @@ module _ {Syntax Stmt : Type 0} (grammar : Grammar Syntax Stmt) (lawful : IsGram
         ∙ with_names-append mid (names_in grammar cut.1) (names_of grammar cut.2) in
         none cut.1 (cut.5, omega (arith, ap length table, with_names-longer (with_names mid (names_in grammar cut.1)) (names_of grammar cut.2), few))
 
-  -- what is told of a column holds in its columns
-  pub threads_tell : {A : Type 0} (columns front rest : List (List (Cell A))) (column : List (Cell A)) (before mid : List (List ℕ))
+  -- where a column is refused, so are its columns
+  pub threads_refused : {A : Type 0} (columns front rest : List (List (Cell A))) (column : List (Cell A)) (before mid : List (List ℕ))
       (threads : List (List Stmt)) → columns ≡ front ++ column ∷ rest → ColumnsRead grammar (all_texts front) before threads mid
-      → (at : ℕ) (cause : CellCause) → TellsBy grammar mid (placed_row column ∷ []) at cause
-      → TellsBy grammar before (placed_cells columns) at cause
-  threads_tell columns front rest column before mid threads whole read at cause t =
+      → (f : CellFault) → ColumnRefused grammar mid column f → ColumnsRefused grammar before columns f
+  threads_refused {A} columns front rest column before mid threads whole read f r =
+      let texts = ap all_texts whole ∙ map-append cells_texts front (column ∷ rest) in
       let parts = ap placed_cells whole ∙ map-append placed_row front (column ∷ rest) in
       let says = subst (λ (cs : List (List (List (List ℕ)))). AllZip (Column grammar) cs read.syntaxes) (sym (grid_placed front)) read.says in
-      column_tells grammar before mid (placed_cells columns) (placed_cells front) (placed_cells rest)
-      (placed_row column) read.syntaxes parts says read.names at cause t
+      record {
+        none = λ known. threads_none (all_texts front) before mid threads read (cells_texts column) (all_texts columns) (all_texts rest) texts (r.none known);
+        cause = column_tells grammar before mid (placed_cells columns) (placed_cells front) (placed_cells rest)
+            (placed_row column) read.syntaxes parts says read.names f.at f.cause r.cause;
+        place = λ len all. r.place len (all_amid (All (IsWithin len)) front rest column
+            (subst (All (All (IsWithin len))) whole all));
+      }
 
   -- what cells say is said by tokens
   pub column_said : (cells : List (List (List ℕ))) (t : List (CellSyntax Syntax)) → AllZip (CellSays grammar) cells t → AllSaid grammar lawful (statements t)

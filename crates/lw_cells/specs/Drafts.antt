@@ -11,7 +11,8 @@ use Rattle.lw_base.specs.Types.{Bytes, NameTable}
 use Rattle.lw_base.specs.Lists.{EachOnce}
 use Rattle.lw_base.specs.Tables.{with_names}
 use Rattle.lw_text.specs.declared.cell.Cell.{Cell}
-use Rattle.lw_text.specs.Places.{cells_texts}
+use Rattle.lw_text.specs.Places.{cell_texts, cells_texts}
+use Rattle.lw_cells.specs.declared.column.DraftColumn.{DraftColumn}
 use Rattle.lw_cells.specs.declared.draft.DraftCell.{DraftCell}
 use Rattle.lw_cells.specs.Grammars.{Grammar}
 use Rattle.lw_cells.specs.Cells.{CellSyntax, CellSays, statements, labels_of, names_in, number_in}
@@ -50,6 +51,12 @@ leads_to (p ∷ ps) n = if bytes_eq p.0 n then Some p.1 else leads_to ps n
 abbrev pub LeadsAs : LabelMap → Targets → Type 0
 LeadsAs labels ps = (n : Bytes) → target_by labels n ≡ leads_to ps n
 
+-- A column of which nothing is read.
+pub record IsFresh {D A : Type 0} (column : DraftColumn D A) : Type 0 where
+  pub cells : column.cells ≡ []
+  pub labels : LeadsAs column.labels []
+  pub count : column.count ≡ 0
+
 module _ {Syntax Stmt : Type 0} (grammar : Grammar Syntax Stmt) where
   -- drafts, which are made on the location of a number
   module _ {D : Type 0} (draft_of : ℕ → Syntax → D) where
@@ -73,3 +80,15 @@ module _ {Syntax Stmt : Type 0} (grammar : Grammar Syntax Stmt) where
       pub names : after ≡ with_names before (names_in grammar syntaxes)
       pub made : drafts ≡ map (draft_cell after) syntaxes
       pub leads : LeadsAs labels (leading_in 0 syntaxes)
+
+    -- The same of a column in memory, which counts their statements.
+    pub record ColumnDrafted
+        {A : Type 0} (cells : List (Cell A)) (before : NameTable) (column : DraftColumn D A) (after : NameTable) : Type 0 where
+      pub read : DraftRead cells before column.cells column.labels after
+      pub counted : column.count ≡ length (statements read.syntaxes)
+
+    -- The cell says this, and this is its draft.
+    pub record IsCellDraft
+        {A : Type 0} (names : NameTable) (cell : Cell A) (draft : DraftCell D) (syntax : CellSyntax Syntax) : Type 0 where
+      pub says : CellSays grammar (cell_texts cell) syntax
+      pub made : draft ≡ draft_cell names syntax

@@ -1,29 +1,26 @@
 -- What is read of a statement's tokens, and the statement that is made of it.
-use Rattle.std.specs.Prelude.{◌≡◌, ◌≢◌, MatchOption, ◌<◌, ◌≤◌, ◌+◌, ◌&&◌, ◌||◌, ℕ, zero, suc, Bool, true, false, not, Option, Some, None, List, [], ◌∷◌, ◌++◌}
-use Rattle.std.specs.Prelude.{◌^◌, take, codes, slice_get, Contains}
+use Rattle.std.specs.Prelude.{◌≡◌, MatchOption, ◌<◌, ◌≤◌, ◌+◌, ◌&&◌, ◌||◌, ℕ, zero, suc, Bool, true, false, not, Option, Some, None, List, [], ◌∷◌}
+use Rattle.std.specs.Prelude.{◌^◌, length, codes, slice_get, Contains}
 use Rattle.std.specs.List.{AllByRecursion, list_any, list_all}
 use Rattle.std.specs.Option.{option_map}
 use Rattle.std.specs.Str.{bytes_eq}
 use Rattle.lw_base.specs.WellFormed.{IsRegisterNumber, IsWordNumber}
-use Rattle.lw_base.specs.Names.{IsLocation}
-use Rattle.lw_base.specs.Tables.{with_name, index_of}
+use Rattle.lw_base.specs.Limits.{most_locations}
 use Rattle.lw_base.specs.Types.{Bytes, NameTable, TokenList}
 use Rattle.lw_base.specs.declared.fault.CellFault.{CellFault}
-use Rattle.lw_base.specs.declared.fault.CellCause.TheVariants.{Memory}
 use Rattle.lw_base.specs.declared.operand.Operand.{Operand}
 use Rattle.lw_base.specs.declared.operand.Operand.TheVariants as operand
 use Rattle.lw_base.specs.Registers.{register_name, without_case}
 use Rattle.lw_litmus.specs.Operations.{location_of, target_of}
 use Rattle.lw_litmus.specs.WellFormed.{registers_of, numbers_of}
 use Rattle.lw_text.specs.declared.token.Token.{Token}
-use Rattle.lw_text.specs.Spans.{texts}
 use Rattle.lw_cells.specs.declared.draft.Operands.{Operands}
 use Rattle.lw_cells.specs.declared.draft.Draft.{Draft}
 use Rattle.lw_cells.specs.declared.spelled.Found.{Found}
 use Rattle.lw_cells.specs.declared.slot.Slot.{Slot}
 use Rattle.lw_cells.specs.declared.slot.Slot.TheVariants.{Word, Register, Location, Value, Number, Label}
 use Rattle.lw_cells.specs.Spellings.{Spelling, Given, Filling, Said, name_in, label_in, Fills}
-use Rattle.lw_cells.specs.Words.{IsNinthName, FitsTable, NameFault}
+use Rattle.lw_cells.specs.Words.{NameRead, NameRefused}
 
 -- what no tokens give
 abbrev pub nothing : Found
@@ -173,8 +170,7 @@ abbrev pub IsDrafted : {Form : Type 0} → Form → Found → List Token → Nam
 IsDrafted form o tokens before draft after =
     MatchOption o.name ((after ≡ before) × (draft ≡ draft_on form None o))
     (λ k.
-    (t : Token) × (slice_get tokens k ≡ Some t) × IsLocation t.text.now × (after ≡ with_name before t.text.now)
-    × (draft ≡ draft_on form (Some (index_of after t.text.now)) o))
+    (t : Token) × (loc : ℕ) × (slice_get tokens k ≡ Some t) × NameRead before t loc after × (draft ≡ draft_on form (Some loc) o))
 
 -- None is made, since the location has no place in the table.
 pub record IsNotDrafted (o : Found) (tokens : List Token) (before : NameTable) (fault : CellFault) : Type 0 where
@@ -182,8 +178,16 @@ pub record IsNotDrafted (o : Found) (tokens : List Token) (before : NameTable) (
   pub name : o.name ≡ Some index
   pub token : Token
   pub is : slice_get tokens index ≡ Some token
-  pub full : fault.cause ≢ Memory → FitsTable before token.text.now → ⊥
-  pub cause : NameFault before token fault
+  pub refused : NameRefused before token fault
+
+-- A location is wanted at this index, which is below some number, and the token there is a ninth one.
+pub record IsNinthSlot {W : Type 0} (slots : List (Slot W)) (tokens : List Token) (front : ℕ) (names : NameTable) (index : ℕ) : Type 0 where
+  pub before : index < front
+  pub slot : slice_get slots index ≡ Some Location
+  pub token : Token
+  pub is : slice_get tokens index ≡ Some token
+  pub full : length names ≡ most_locations
+  pub new : Contains names token.text.now → ⊥
 
 module _ {W Form Stmt : Type 0} (spelling : Spelling W Form Stmt) where
   -- the tokens can stand at some slots
@@ -201,16 +205,6 @@ module _ {W Form Stmt : Type 0} (spelling : Spelling W Form Stmt) where
   -- the draft of what is said
   abbrev pub draft_of : ℕ → Said spelling → Draft Form
   draft_of x s = drafted s.form x (found_in s)
-
-  -- A ninth location stands where one may stand, behind tokens at these slots.
-  pub record NinthAt (slots : List (Slot W)) (tokens : List Token) (names : NameTable) (index : ℕ) : Type 0 where
-    pub front : List (Slot W)
-    pub back : List (Slot W)
-    pub cut : slots ≡ front ++ Location ∷ back
-    pub before : CanStand (texts (take index tokens)) front
-    pub token : Token
-    pub is : slice_get tokens index ≡ Some token
-    pub ninth : IsNinthName names token token.at
 
   -- So many tokens in front can stand at the slots, and no more.
   abbrev pub reach_of : TokenList → List (Slot W) → ℕ → Type 0

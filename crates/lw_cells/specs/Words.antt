@@ -1,12 +1,12 @@
 -- What one token of a cell is, and why it is refused.
-use Rattle.std.specs.Prelude.{◌≡◌, ◌≤◌, ℕ, length, All, Contains}
+use Rattle.std.specs.Prelude.{◌≡◌, ◌≢◌, ◌≤◌, ℕ, length, All, Contains}
 use Rattle.lw_base.specs.Limits.{most_locations}
 use Rattle.lw_base.specs.Types.{Bytes, NameTable}
 use Rattle.lw_base.specs.declared.fault.CellFault.{CellFault}
 use Rattle.lw_base.specs.declared.fault.CellCause.{CellCause}
 use Rattle.lw_base.specs.declared.fault.CellCause.TheVariants.{Form, Register, LabelMissing, LabelTwice, Backward, TooMany, Memory}
 use Rattle.lw_base.specs.Names.{IsLocation}
-use Rattle.lw_base.specs.Tables.{with_name}
+use Rattle.lw_base.specs.Tables.{with_name, index_of}
 use Rattle.lw_text.specs.declared.token.Token.{Token}
 use Rattle.lw_cells.specs.declared.phrase.Phrase.{Phrase}
 
@@ -45,3 +45,15 @@ NameCause names t at Memory = Unit {0}
 
 abbrev pub NameFault : NameTable → Token → CellFault → Type 0
 NameFault names t f = NameCause names t f.at f.cause
+
+-- The token names a location, which has this number in the table with it.
+pub record NameRead (before : NameTable) (t : Token) (loc : ℕ) (after : NameTable) : Type 0 where
+  pub is_location : IsLocation t.text.now
+  pub names : after ≡ with_name before t.text.now
+  pub number : loc ≡ index_of after t.text.now
+
+-- It names none that the table has or has room for.
+pub record NameRefused (names : NameTable) (t : Token) (fault : CellFault) : Type 0 where
+  pub none : fault.cause ≢ Memory → FitsTable names t.text.now → ⊥
+  pub cause : NameFault names t fault
+  pub place : (len : ℕ) → t.at ≤ len → fault.at ≤ len

@@ -1,19 +1,18 @@
 //! Reads the cells of a thread, from top to bottom, and then resolves its jumps.
-ghost use Rattle.std.specs.Prelude.{◌≡◌, ◌≢◌, ◌⊎◌, ℕ, ◌<◌, ◌≤◌, [], ◌∷◌, List, Some, All, IfOk, IfErr};
-ghost use Rattle.std.specs.Option.{ForSome, option_len};
+ghost use Rattle.std.specs.Prelude.{◌≡◌, ◌⊎◌, ℕ, ◌<◌, ◌≤◌, List, [], ◌∷◌, ◌++◌, Some, length, MatchResult, IfSome, IfOk, IfErr};
+ghost use Rattle.std.specs.Option.{option_len};
 ghost use Rattle.lw_base.specs.Types.{NameTable};
-ghost use Rattle.lw_base.specs.Refusals.{NotFound};
 ghost use Rattle.lw_base.specs.declared.fault.CellCause.TheVariants.{TooMany, Memory};
-ghost use Rattle.lw_text.specs.Places.{cells_texts, placed_row, IsWithin};
+ghost use Rattle.lw_text.specs.Places.{cells_texts};
 ghost use Rattle.lw_text.specs.Spans.{texts};
 ghost use Rattle.lw_cells.specs.Grammars.{most_of, CanBegin};
 ghost use Rattle.lw_cells.specs.Spellings.{grammar_of, Said};
 ghost use Rattle.lw_cells.specs.Found.{draft_of, IsSpelling};
-ghost use Rattle.lw_cells.specs.Cells.{CellSyntax, LeadsForward, code_in, resolved_statement};
-ghost use Rattle.lw_cells.specs.Faults.{Tells};
-ghost use Rattle.lw_cells.specs.Words.{LiesWithin, IsMisfit};
-ghost use Rattle.lw_cells.specs.Drafts.{DraftRead, LeadsAs, leading_in, target_by};
-ghost use Rattle.lw_cells.specs.Reading.{MaybeRead, MaybeFault, FitsBelow, AllForward, IsDraft, JumpCause, JumpFault, ColumnRead, ColumnFits};
+ghost use Rattle.lw_cells.specs.Cells.{CellSyntax, LeadsForward, resolved_statement};
+ghost use Rattle.lw_cells.specs.Words.{IsMisfit};
+ghost use Rattle.lw_cells.specs.Drafts.{IsFresh, ColumnDrafted, IsCellDraft, LeadsAs, leading_in, target_by};
+ghost use Rattle.lw_cells.specs.Reading.{MaybeRead, MaybeRefused, IsDraft, LedForward, LabelLost, JumpCause, JumpFault, ColumnRead, ColumnRefused};
+ghost use Rattle.lw_cells.specs.Reading.{CellRead, CellRefused, IsCellResolved, IsUnresolved};
 
 use crate::draft::{Draft, DraftCell, Operands};
 use crate::labels::read_labels;
@@ -26,57 +25,89 @@ use lw_text::{Cell, Token};
 use std::alloc::{Allocator, Global};
 use std::collections::BTreeMap;
 
-/// What is read of a thread before its jumps are resolved: a draft of each cell, and its labels, each
-/// with the number of the statement that it leads to.
+/// What is read of a thread before its jumps are resolved: a draft of each cell, its labels, each
+/// with the number of the statement that it leads to, and how many statements there are.
 #[derive(Drop)]
-struct DraftColumn<'a, F, A: Allocator = Global> {
-    cells: Sequence<DraftCell<Draft<F>>, A>,
+struct DraftColumn<'a, D, A: Allocator = Global> {
+    cells: Sequence<DraftCell<D>, A>,
     labels: BTreeMap<&'a str, usize, A>,
+    count: usize,
 }
 
-/// Reads the statements of a thread: first its cells, then its jumps. The names of their locations
-/// go into the table.
+impl<'a, D: Drop, A: Allocator + Copy> DraftColumn<'a, D, A> {
+    /// Nothing is read yet.
+    fn new(alloc: A) -> Self
+        ensures { IsFresh result }
+    {
+        DraftColumn {
+            cells: Sequence::new(alloc),
+            labels: BTreeMap::new(alloc),
+            count: 0,
+        }
+    }
+}
+
+/// Reads the statements of a thread. The names of their locations go into the table.
 pub(crate) fn read_column<L: StatementReader, A: Allocator + Copy>(
     alloc: A,
     cells: &[Cell<'_, A>],
     locs: &mut LocNames<A>,
 ) -> Result<Sequence<L::Stmt, A>, CellFault>
     requires lawful { IsSpelling L.spelling L.made }
-    ensures found { IfOk result (λ stmts. ColumnRead (grammar_of L.spelling) (cells_texts cells.now) locs.old stmts locs.new) }
-    ensures fault { IfErr result (λ f. NotFound Memory f.cause (ColumnFits (grammar_of L.spelling) locs.old (cells_texts cells.now))) }
-    ensures cause { IfErr result (Tells (grammar_of L.spelling) locs.old (placed_row cells.now ∷ [])) }
-    ensures place { (len : ℕ) → All (IsWithin len) cells.now → IfErr result (λ f. f.at ≤ len) }
+    ensures { MatchResult result
+        (λ stmts. ColumnRead (grammar_of L.spelling) (cells_texts cells.now) locs.old stmts locs.new)
+        (ColumnRefused (grammar_of L.spelling) locs.old cells.now) }
 {
-    let draft = read_drafts::<L, A>(alloc, cells, locs)?;
-    resolve::<L, A>(alloc, cells, draft.cells.as_slice(), &draft.labels)
+    let mut column = DraftColumn::new(alloc);
+    read_cells::<L, A>(alloc, cells, &mut column, locs)
 }
 
-/// Reads the cells of a thread, each with its labels and its statement.
-fn read_drafts<'a, L: StatementReader, A: Allocator + Copy>(
+/// Reads the cells of a thread, each with its labels and its statement, and then resolves its jumps.
+fn read_cells<'a, L: StatementReader, A: Allocator + Copy>(
     alloc: A,
     cells: &[Cell<'a, A>],
+    column: &mut DraftColumn<'a, Draft<L::Form>, A>,
     locs: &mut LocNames<A>,
-) -> Result<DraftColumn<'a, L::Form, A>, CellFault>
+) -> Result<Sequence<L::Stmt, A>, CellFault>
     requires lawful { IsSpelling L.spelling L.made }
-    ensures found { IfOk result (λ draft. DraftRead (grammar_of L.spelling) (draft_of L.spelling) cells.now locs.old draft.cells draft.labels locs.new) }
-    ensures fault { IfErr result (λ f. NotFound Memory f.cause (ColumnFits (grammar_of L.spelling) locs.old (cells_texts cells.now))) }
-    ensures cause { IfErr result (Tells (grammar_of L.spelling) locs.old (placed_row cells.now ∷ [])) }
-    ensures place { (len : ℕ) → All (IsWithin len) cells.now → IfErr result (λ f. f.at ≤ len) }
+    requires fresh { IsFresh column.old }
+    ensures { MatchResult result
+        (λ stmts. ColumnRead (grammar_of L.spelling) (cells_texts cells.now) locs.old stmts locs.new)
+        (ColumnRefused (grammar_of L.spelling) locs.old cells.now) }
 {
-    let mut drafts = Sequence::new(alloc);
-    let mut labels = BTreeMap::new(alloc);
-    let mut count = 0;
     for cell in cells {
-        let start = read_labels(cell.tokens.as_slice(), count, &mut labels)?;
-        let phrase = Phrase::behind(cell, start);
-        let stmt = maybe_statement::<L, A>(&phrase, count, locs)?;
-        count += number_of(&stmt);
-        drafts.push(DraftCell { start, stmt })?;
+        read_cell::<L, A>(cell, column, locs)?;
     }
-    Ok(DraftColumn {
-        cells: drafts,
-        labels,
-    })
+    resolve::<L, A>(alloc, cells, column)
+}
+
+/// Reads a cell of a thread: its labels and its statement.
+fn read_cell<'a, L: StatementReader, A: Allocator + Copy>(
+    cell: &Cell<'a, A>,
+    column: &mut DraftColumn<'a, Draft<L::Form>, A>,
+    locs: &mut LocNames<A>,
+) -> Result<(), CellFault>
+    requires lawful { IsSpelling L.spelling L.made }
+    requires few { column.old.count ≤ most_of (grammar_of L.spelling) }
+    ensures { MatchResult result
+        (λ _. CellRead (grammar_of L.spelling) (draft_of L.spelling) cell.now column.old locs.old column.new locs.new)
+        (CellRefused (grammar_of L.spelling) (draft_of L.spelling) cell.now column.old locs.old) }
+{
+    let start = read_labels(cell.tokens.as_slice(), column.count, &mut column.labels)?;
+    let phrase = Phrase::behind(cell, start);
+    let stmt = maybe_statement::<L, A>(&phrase, column.count, locs)?;
+    column.count += number_of(&stmt);
+    push(&mut column.cells, DraftCell { start, stmt })
+}
+
+/// Puts an item at the end, where memory is ample.
+pub(crate) fn push<T: Drop, A: Allocator>(
+    items: &mut Sequence<T, A>,
+    item: T,
+) -> Result<(), CellFault>
+    ensures { MatchResult result (λ _. items.new ≡ items.old ++ item ∷ []) (λ f. (f.cause ≡ Memory) × (f.at ≡ 0)) }
+{
+    Ok(items.push(item)?)
 }
 
 /// How many statements it is.
@@ -96,11 +127,9 @@ fn maybe_statement<L: StatementReader, A: Allocator + Copy>(
     locs: &mut LocNames<A>,
 ) -> Result<Option<Draft<L::Form>>, CellFault>
     requires lawful { IsSpelling L.spelling L.made }
-    ensures found { IfOk result (λ stmt. MaybeRead (grammar_of L.spelling) (draft_of L.spelling) (texts phrase.now.tokens.now) locs.old stmt locs.new) }
-    ensures room { IfOk result (λ stmt. ForSome stmt (λ _. above ≢ most_of (grammar_of L.spelling))) }
-    ensures fault { IfErr result (λ f. NotFound Memory f.cause (FitsBelow (grammar_of L.spelling) above locs.old (texts phrase.now.tokens.now))) }
-    ensures cause { IfErr result (MaybeFault (grammar_of L.spelling) above phrase.now.tokens.now locs.old) }
-    ensures place { (len : ℕ) → LiesWithin len phrase.now → IfErr result (λ f. f.at ≤ len) }
+    ensures { MatchResult result
+        (λ stmt. MaybeRead (grammar_of L.spelling) (draft_of L.spelling) above (texts phrase.now.tokens.now) locs.old stmt locs.new)
+        (MaybeRefused (grammar_of L.spelling) above locs.old phrase.now) }
 {
     let Some(first) = phrase.tokens.first() else {
         return Ok(None);
@@ -131,61 +160,92 @@ fn surplus<L: StatementReader>(first: &Token<'_>) -> CellFault
 fn resolve<L: StatementReader, A: Allocator + Copy>(
     alloc: A,
     cells: &[Cell<'_, A>],
-    drafts: &[DraftCell<Draft<L::Form>>],
-    labels: &BTreeMap<&str, usize, A>,
+    column: &DraftColumn<'_, Draft<L::Form>, A>,
 ) -> Result<Sequence<L::Stmt, A>, CellFault>
     requires lawful { IsSpelling L.spelling L.made }
-    requires read { (before after : NameTable) × DraftRead (grammar_of L.spelling) (draft_of L.spelling) cells.now before drafts.now labels.now after }
-    ensures found { (before after : NameTable) (read : DraftRead (grammar_of L.spelling) (draft_of L.spelling) cells.now before drafts.now labels.now after)
-        → IfOk result (λ code. (code ≡ code_in (grammar_of L.spelling) after read.syntaxes) × AllForward (grammar_of L.spelling) read.syntaxes) }
-    ensures fault { (before after : NameTable) (read : DraftRead (grammar_of L.spelling) (draft_of L.spelling) cells.now before drafts.now labels.now after)
-        → IfErr result (λ f. f.cause ≢ Memory → AllForward (grammar_of L.spelling) read.syntaxes → ⊥) }
-    ensures cause { (names : NameTable) → IfErr result (Tells (grammar_of L.spelling) names (placed_row cells.now ∷ [])) }
-    ensures place { (len : ℕ) → All (IsWithin len) cells.now → IfErr result (λ f. f.at ≤ len) }
+    requires read { (before after : NameTable) × ColumnDrafted (grammar_of L.spelling) (draft_of L.spelling) cells.now before column.now after }
+    ensures { MatchResult result
+        (λ code. (before after : NameTable) → ColumnDrafted (grammar_of L.spelling) (draft_of L.spelling) cells.now before column.now after
+        → ColumnRead (grammar_of L.spelling) (cells_texts cells.now) before code after)
+        (λ f. (before after : NameTable) → ColumnDrafted (grammar_of L.spelling) (draft_of L.spelling) cells.now before column.now after
+        → ColumnRefused (grammar_of L.spelling) before cells.now f) }
 {
+    let drafts = column.cells.as_slice();
     let mut code = Sequence::new(alloc);
     for (row, cell) in cells.iter().enumerate() {
-        let DraftCell { start, stmt } = drafts[row];
-        let Some(stmt) = stmt else {
-            continue;
-        };
-        let phrase = Phrase::behind(cell, start);
-        let stmt = resolve_one::<L, A>(stmt, &phrase, code.len(), labels)?;
-        code.push(stmt)?;
+        let draft = drafts[row];
+        resolve_cell::<L, A>(cell, draft, &column.labels, &mut code)?;
     }
     Ok(code)
 }
 
-/// The statement of this number, resolved by the labels of its thread. The phrase is its own.
+/// The statement of a cell, if it has one, resolved by the labels of its thread, behind those before.
+fn resolve_cell<L: StatementReader, A: Allocator + Copy>(
+    cell: &Cell<'_, A>,
+    draft: DraftCell<Draft<L::Form>>,
+    labels: &BTreeMap<&str, usize, A>,
+    code: &mut Sequence<L::Stmt, A>,
+) -> Result<(), CellFault>
+    requires lawful { IsSpelling L.spelling L.made }
+    requires draft { (names : NameTable) × (syntax : CellSyntax (Said L.spelling))
+        × IsCellDraft (grammar_of L.spelling) (draft_of L.spelling) names cell.now draft syntax }
+    ensures { MatchResult result
+        (λ _. (names : NameTable) (syntax : CellSyntax (Said L.spelling)) (syntaxes : List (CellSyntax (Said L.spelling)))
+        → IsCellDraft (grammar_of L.spelling) (draft_of L.spelling) names cell.now draft syntax → LeadsAs labels.now (leading_in 0 syntaxes)
+        → IsCellResolved (grammar_of L.spelling) names syntaxes syntax code.old code.new)
+        (λ f. (names : NameTable) (syntax : CellSyntax (Said L.spelling))
+        → IsCellDraft (grammar_of L.spelling) (draft_of L.spelling) names cell.now draft syntax
+        → IsUnresolved (grammar_of L.spelling) labels.now (length code.old) cell.now syntax f) }
+{
+    let DraftCell { start, stmt } = draft;
+    let Some(stmt) = stmt else {
+        return Ok(());
+    };
+    let phrase = Phrase::behind(cell, start);
+    let stmt = resolve_one::<L, A>(stmt, phrase.tokens, code.len(), labels)?;
+    push(code, stmt)
+}
+
+/// The statement of this number, resolved by the labels of its thread. The tokens are its own.
 fn resolve_one<L: StatementReader, A: Allocator>(
     draft: Draft<L::Form>,
-    phrase: &Phrase<'_, '_>,
+    tokens: &[Token<'_>],
     number: usize,
     labels: &BTreeMap<&str, usize, A>,
 ) -> Result<L::Stmt, CellFault>
     requires lawful { IsSpelling L.spelling L.made }
     requires draft { (names : NameTable) × (s : (Said L.spelling))
-        × IsDraft (grammar_of L.spelling) (draft_of L.spelling) names (texts phrase.now.tokens.now) draft s }
-    ensures found { (names : NameTable) (s : (Said L.spelling)) (syntaxes : List (CellSyntax (Said L.spelling)))
-        → IsDraft (grammar_of L.spelling) (draft_of L.spelling) names (texts phrase.now.tokens.now) draft s → LeadsAs labels.now (leading_in 0 syntaxes)
-        → IfOk result (λ stmt. (stmt ≡ resolved_statement (grammar_of L.spelling) names syntaxes s) × LeadsForward (grammar_of L.spelling) syntaxes number s) }
-    ensures fault { (names : NameTable) (s : (Said L.spelling)) (syntaxes : List (CellSyntax (Said L.spelling)))
-        → IsDraft (grammar_of L.spelling) (draft_of L.spelling) names (texts phrase.now.tokens.now) draft s → LeadsAs labels.now (leading_in 0 syntaxes)
-        → IfErr result (λ f. LeadsForward (grammar_of L.spelling) syntaxes number s → ⊥) }
-    ensures cause { (names : NameTable) (s : Said L.spelling)
-        → IsDraft (grammar_of L.spelling) (draft_of L.spelling) names (texts phrase.now.tokens.now) draft s
-        → IfErr result (JumpFault (grammar_of L.spelling) labels.now number phrase.now.tokens.now s) }
-    ensures place { (len : ℕ) → LiesWithin len phrase.now → IfErr result (λ f. f.at ≤ len) }
+        × IsDraft (grammar_of L.spelling) (draft_of L.spelling) names (texts tokens.now) draft s }
+    ensures { MatchResult result
+        (λ stmt. (names : NameTable) (s : (Said L.spelling)) (syntaxes : List (CellSyntax (Said L.spelling)))
+        → IsDraft (grammar_of L.spelling) (draft_of L.spelling) names (texts tokens.now) draft s → LeadsAs labels.now (leading_in 0 syntaxes)
+        → (stmt ≡ resolved_statement (grammar_of L.spelling) names syntaxes s) × LeadsForward (grammar_of L.spelling) syntaxes number s)
+        (λ f. (names : NameTable) (s : Said L.spelling)
+        → IsDraft (grammar_of L.spelling) (draft_of L.spelling) names (texts tokens.now) draft s
+        → JumpFault (grammar_of L.spelling) labels.now number tokens.now s f) }
 {
-    let to = match draft.label {
-        Some(index) => Some(target(&phrase.tokens[index], number, labels)?),
-        None => None,
-    };
+    let to = jump_target(draft.label, tokens, number, labels)?;
     let operands = Operands {
         to,
         ..draft.operands
     };
     Ok(L::statement(draft.form, &operands).unwrap())
+}
+
+/// The number of the statement that the label of this index leads to, if there is one, from the statement of this number.
+fn jump_target<A: Allocator>(
+    label: Option<usize>,
+    tokens: &[Token<'_>],
+    number: usize,
+    labels: &BTreeMap<&str, usize, A>,
+) -> Result<Option<usize>, CellFault>
+    requires { IfSome label (λ k. k < length tokens.now) }
+    ensures { MatchResult result (LedForward labels.now number tokens.now label) (LabelLost labels.now number tokens.now label) }
+{
+    match label {
+        Some(index) => Ok(Some(target(&tokens[index], number, labels)?)),
+        None => Ok(None),
+    }
 }
 
 /// The number of the statement that the label leads to, from the statement of this number.

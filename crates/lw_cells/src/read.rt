@@ -1,9 +1,9 @@
 //! Reads a test of either language from its frame.
-ghost use Rattle.std.specs.Prelude.{◌≡◌, ℕ, ◌≤◌, ◌-◌, ◌++◌, length, replicate, All, IfOk, IfErr, OnOk};
+ghost use Rattle.std.specs.Prelude.{◌≡◌, ◌⊎◌, ◌≤◌, ◌-◌, ◌++◌, length, replicate, Ok, Err, MatchResult, IfOk, IfErr};
 ghost use Rattle.lw_base.specs.Refusals.{NotFound};
 ghost use Rattle.lw_base.specs.declared.fault.CellCause.TheVariants.{Memory};
 ghost use Rattle.lw_base.specs.Names.{IsTable};
-ghost use Rattle.lw_text.specs.Places.{all_texts, placed_cells, IsWithin};
+ghost use Rattle.lw_text.specs.Places.{all_texts, placed_cells};
 ghost use Rattle.lw_text.specs.Views.{frame_of};
 ghost use Rattle.lw_cells.specs.Grammars.{arch_of};
 ghost use Rattle.lw_litmus.specs.Tests.{test_of};
@@ -12,12 +12,12 @@ ghost use Rattle.lw_cells.specs.Cells.{FrameHasTest};
 ghost use Rattle.lw_cells.specs.Found.{IsSpelling};
 ghost use Rattle.lw_cells.specs.Spellings.{grammar_of};
 ghost use Rattle.lw_cells.specs.Faults.{Tells};
-ghost use Rattle.lw_cells.specs.Reading.{ColumnsRead, ColumnsFit};
+ghost use Rattle.lw_cells.specs.Reading.{ColumnsRead, ColumnsRefused};
 
-use crate::column::read_column;
+use crate::column::{push, read_column};
 use crate::parts::Parts;
 use crate::statement_reader::StatementReader;
-use lw_base::{CellFault, LocNames, Sequence, Word};
+use lw_base::{CellFault, Head, LocNames, Sequence, Word};
 use lw_text::{Cell, Frame};
 use std::alloc::{AllocFailed, Allocator};
 
@@ -40,30 +40,40 @@ pub fn read_test<L: StatementReader, A: Allocator + Copy>(
     ensures cause { IfErr result (Tells (grammar_of L.spelling) frame.now.head.locs (placed_cells frame.now.cells)) }
 {
     let mut head = frame.head().copy()?;
-    let columns = frame.cells.as_slice();
-    let threads = read_threads::<L, A>(alloc, columns, &mut head.locs, &mut head.init_words)?;
-    Ok(Parts { head, threads })
+    let threads = read_columns::<L, A>(alloc, frame.cells.as_slice(), &mut head.locs);
+    let threads = with_zeros(&mut head, threads);
+    parts_of(head, threads)
 }
 
-/// Reads the statements of each thread, and puts a 0 behind the initial words for each location
-/// that has none.
-fn read_threads<L: StatementReader, A: Allocator + Copy>(
-    alloc: A,
-    columns: &[Sequence<Cell<'_, A>, A>],
-    locs: &mut LocNames<A>,
-    words: &mut Sequence<Word, A>,
-) -> Result<Sequence<Sequence<L::Stmt, A>, A>, CellFault>
-    requires lawful { IsSpelling L.spelling L.made }
-    ensures found { IfOk result (λ threads. ColumnsRead (grammar_of L.spelling) (all_texts columns.now) locs.old threads locs.new) }
-    ensures table { OnOk result (IsTable locs.new) }
-    ensures words { OnOk result (words.new ≡ words.old ++ replicate (length locs.new - length words.old) 0) }
-    ensures fault { IfErr result (λ f. NotFound Memory f.cause (ColumnsFit (grammar_of L.spelling) locs.old (all_texts columns.now))) }
-    ensures cause { IfErr result (Tells (grammar_of L.spelling) locs.old (placed_cells columns.now)) }
-    ensures place { (len : ℕ) → All (λ column. All (IsWithin len) column) columns.now → IfErr result (λ f. f.at ≤ len) }
+/// The parts of a test, where its threads are read.
+fn parts_of<S: Drop, A: Allocator>(
+    head: Head<A>,
+    threads: Result<Sequence<Sequence<S, A>, A>, CellFault>,
+) -> Result<Parts<S, A>, CellFault>
+    ensures { MatchResult result (λ parts. (parts.head ≡ head) × (threads ≡ Ok parts.threads)) (λ f. threads ≡ Err f) }
 {
-    let threads = read_columns::<L, A>(alloc, columns, locs)?;
-    let len = locs.len();
-    fill(words, len)?;
+    match threads {
+        Ok(threads) => Ok(Parts { head, threads }),
+        Err(fault) => {
+            drop(head);
+            Err(fault)
+        }
+    }
+}
+
+/// Puts a 0 behind the initial words for each location that has none, where the threads are read.
+fn with_zeros<T: Drop, A: Allocator>(
+    head: &mut Head<A>,
+    threads: Result<T, CellFault>,
+) -> Result<T, CellFault>
+    ensures { MatchResult result
+        (λ read. ((head.new ≡ record head.old { init_words = head.old.init_words ++ replicate (length head.old.locs - length head.old.init_words) 0 })
+        × IsTable head.old.locs) × (threads ≡ Ok read))
+        (λ f. (threads ≡ Err f) ⊎ ((f.at ≡ 0) × (f.cause ≡ Memory))) }
+{
+    let threads = threads?;
+    let len = head.locs.len();
+    fill(&mut head.init_words, len)?;
     Ok(threads)
 }
 
@@ -74,15 +84,14 @@ fn read_columns<L: StatementReader, A: Allocator + Copy>(
     locs: &mut LocNames<A>,
 ) -> Result<Sequence<Sequence<L::Stmt, A>, A>, CellFault>
     requires lawful { IsSpelling L.spelling L.made }
-    ensures found { IfOk result (λ threads. ColumnsRead (grammar_of L.spelling) (all_texts columns.now) locs.old threads locs.new) }
-    ensures fault { IfErr result (λ f. NotFound Memory f.cause (ColumnsFit (grammar_of L.spelling) locs.old (all_texts columns.now))) }
-    ensures cause { IfErr result (Tells (grammar_of L.spelling) locs.old (placed_cells columns.now)) }
-    ensures place { (len : ℕ) → All (λ column. All (IsWithin len) column) columns.now → IfErr result (λ f. f.at ≤ len) }
+    ensures { MatchResult result
+        (λ threads. ColumnsRead (grammar_of L.spelling) (all_texts columns.now) locs.old threads locs.new)
+        (ColumnsRefused (grammar_of L.spelling) locs.old columns.now) }
 {
     let mut threads = Sequence::new(alloc);
     for column in columns {
         let stmts = read_column::<L, A>(alloc, column.as_slice(), locs)?;
-        threads.push(stmts)?;
+        push(&mut threads, stmts)?;
     }
     Ok(threads)
 }

@@ -1,14 +1,13 @@
 //! Reads a statement by the forms of its language.
 ghost use Rattle.std.specs.Prelude.{◌≡◌, ◌≢◌, ◌↔◌, ℕ, suc, ◌+◌, ◌<◌, ◌≤◌, ◌^◌, List, [], ◌∷◌, ◌++◌, length, take, true};
-ghost use Rattle.std.specs.Prelude.{All, MatchOption, IfSome, slice_get, IsTrue, IfOk, IfErr, Contains};
+ghost use Rattle.std.specs.Prelude.{MatchOption, MatchResult, IfSome, slice_get, IsTrue, Contains};
 ghost use Rattle.std.specs.Str.{bytes_eq};
 ghost use Rattle.lw_base.specs.Limits.{most_locations};
 ghost use Rattle.lw_base.specs.Names.{IsLocation};
-ghost use Rattle.lw_base.specs.Refusals.{NotFound};
-ghost use Rattle.lw_base.specs.Registers.{without_case};
+ghost use Rattle.lw_base.specs.Registers.{IsRegister, without_case};
 ghost use Rattle.lw_base.specs.declared.operand.Operand.{Operand};
-ghost use Rattle.lw_base.specs.declared.fault.CellCause.TheVariants.{Memory};
 ghost use Rattle.lw_text.specs.Spans.{texts};
+ghost use Rattle.lw_text.specs.Tokens.{IsNumber};
 ghost use Rattle.lw_cells.specs.declared.slot.Slot.{Slot};
 ghost use Rattle.lw_cells.specs.declared.slot.Slot.TheVariants.{Location};
 ghost use Rattle.lw_cells.specs.Operands.{IsOperand};
@@ -17,8 +16,8 @@ ghost use Rattle.lw_cells.specs.Grammars.{CanBegin};
 ghost use Rattle.lw_cells.specs.Spellings.{grammar_of, Given, Gives, Filling, Fills};
 ghost use Rattle.lw_cells.specs.Found.{CanStand, BeginsWith};
 ghost use Rattle.lw_cells.specs.Found as drafts;
-ghost use Rattle.lw_cells.specs.Found.{found_with, found_of, draft_of, IsDrafted, IsNotDrafted, reach_of, AreFront, NinthAt, IsSpelling};
-ghost use Rattle.lw_cells.specs.Reading.{Fits, StatementRead, StatementFault};
+ghost use Rattle.lw_cells.specs.Found.{found_with, found_of, draft_of, IsDrafted, IsNotDrafted, IsNinthSlot, reach_of, AreFront, IsSpelling};
+ghost use Rattle.lw_cells.specs.Reading.{StatementRead, StatementFault, StatementRefused};
 
 use crate::draft::{Draft, Operands};
 use crate::phrase::Phrase;
@@ -58,36 +57,42 @@ fn nothing() -> Found
     }
 }
 
-/// The register in front of what was found behind it.
-fn with_register(found: Found, reg: Reg) -> Found
-    ensures { result ≡ drafts.with_register reg found }
+/// The register in front of what was found behind it, if the token is one.
+fn with_register(found: Found, arch: Arch, token: &Token<'_>) -> Option<Found>
+    ensures { MatchOption result ((r : ℕ) → IsRegister arch token.now.text.now r → ⊥)
+        (λ all. (r : ℕ) × IsRegister arch token.now.text.now r × (all ≡ drafts.with_register r found)) }
 {
+    let reg = reg_named(arch, token.text)?;
     let operands = Operands {
         reg: Some(reg),
         other: found.operands.reg,
         ..found.operands
     };
-    Found { operands, ..found }
+    Some(Found { operands, ..found })
 }
 
-fn with_value(found: Found, val: Operand) -> Found
-    ensures { result ≡ drafts.with_value val found }
+fn with_value(found: Found, arch: Arch, token: &Token<'_>) -> Option<Found>
+    ensures { MatchOption result ((v : Operand) → IsOperand arch token.now.text.now v → ⊥)
+        (λ all. (v : Operand) × IsOperand arch token.now.text.now v × (all ≡ drafts.with_value v found)) }
 {
+    let val = operand(arch, token)?;
     let operands = Operands {
         val: Some(val),
         ..found.operands
     };
-    Found { operands, ..found }
+    Some(Found { operands, ..found })
 }
 
-fn with_number(found: Found, num: Word) -> Found
-    ensures { result ≡ drafts.with_number num found }
+fn with_number(found: Found, token: &Token<'_>) -> Option<Found>
+    ensures { MatchOption result ((n : ℕ) → IsNumber token.now.text.now n → ⊥)
+        (λ all. (n : ℕ) × IsNumber token.now.text.now n × (all ≡ drafts.with_number n found)) }
 {
+    let num = number(token.text)?;
     let operands = Operands {
         num: Some(num),
         ..found.operands
     };
-    Found { operands, ..found }
+    Some(Found { operands, ..found })
 }
 
 /// What was found behind a token, with what the token gives, which has this index; `None` where it cannot stand at the slot.
@@ -103,10 +108,10 @@ fn with_token<L: StatementReader>(
 {
     match slot {
         Slot::Word(word) => is_word::<L>(word, token).then_some(found),
-        Slot::Register => Some(with_register(found, reg_named(L::arch(), token.text)?)),
+        Slot::Register => with_register(found, L::arch(), token),
         Slot::Location => with_name(found, token, index),
-        Slot::Value => Some(with_value(found, operand(L::arch(), token)?)),
-        Slot::Number => Some(with_number(found, number(token.text)?)),
+        Slot::Value => with_value(found, L::arch(), token),
+        Slot::Number => with_number(found, token),
         Slot::Label => with_label(found, token, index),
     }
 }
@@ -218,40 +223,35 @@ pub(crate) fn read_statement<L: StatementReader, A: Allocator + Copy>(
     locs: &mut LocNames<A>,
 ) -> Result<Draft<L::Form>, CellFault>
     requires lawful { IsSpelling L.spelling L.made }
-    ensures found { IfOk result (λ draft.
-        StatementRead (grammar_of L.spelling) (draft_of L.spelling) (texts phrase.now.tokens.now) locs.old draft locs.new) }
-    ensures fault { IfErr result (λ f.
-        NotFound Memory f.cause (Fits (grammar_of L.spelling) locs.old (texts phrase.now.tokens.now))) }
-    ensures cause { IfErr result (StatementFault (grammar_of L.spelling) phrase.now.tokens.now locs.old) }
-    ensures place { (len : ℕ) → LiesWithin len phrase.now → IfErr result (λ f. f.at ≤ len) }
+    ensures { MatchResult result
+        (λ draft. StatementRead (grammar_of L.spelling) (draft_of L.spelling) (texts phrase.now.tokens.now) locs.old draft locs.new)
+        (StatementRefused (grammar_of L.spelling) locs.old phrase.now) }
 {
     match read_form::<L>(phrase.tokens) {
-        Some(filled) => draft::<L, A>(filled.form, filled.found, phrase.tokens, locs),
+        Some(filled) => draft(filled.form, filled.found, phrase.tokens, locs),
         None => Err(refusal::<L, A>(phrase, locs)),
     }
 }
 
 /// The draft of a form, with the location of its name.
-fn draft<L: StatementReader, A: Allocator + Copy>(
-    form: L::Form,
+fn draft<F: Copy + Drop, A: Allocator + Copy>(
+    form: F,
     found: Found,
     tokens: &[Token<'_>],
     locs: &mut LocNames<A>,
-) -> Result<Draft<L::Form>, CellFault>
+) -> Result<Draft<F>, CellFault>
     requires { IfSome found.name (λ k. k < length tokens.now) }
-    ensures found { IfOk result (λ draft. IsDrafted form found tokens.now locs.old draft locs.new) }
-    ensures fault { IfErr result (IsNotDrafted found tokens.now locs.old) }
-    ensures place { (len : ℕ) → All (λ t. t.at ≤ len) tokens.now → IfErr result (λ f. f.at ≤ len) }
+    ensures { MatchResult result (λ draft. IsDrafted form found tokens.now locs.old draft locs.new) (IsNotDrafted found tokens.now locs.old) }
 {
     let Some(index) = found.name else {
-        return Ok(draft_on::<L>(form, found, None));
+        return Ok(draft_on(form, found, None));
     };
     let loc = location(&tokens[index], locs)?;
-    Ok(draft_on::<L>(form, found, Some(loc)))
+    Ok(draft_on(form, found, Some(loc)))
 }
 
 /// The draft of a form on a location.
-fn draft_on<L: StatementReader>(form: L::Form, found: Found, loc: Option<Loc>) -> Draft<L::Form>
+fn draft_on<F>(form: F, found: Found, loc: Option<Loc>) -> Draft<F>
     ensures { result ≡ drafts.draft_on form loc found }
 {
     Draft {
@@ -272,11 +272,13 @@ fn refusal<L: StatementReader, A: Allocator>(
     locs: &LocNames<A>,
 ) -> CellFault
     requires { IsSpelling L.spelling L.made }
-    ensures cause { StatementFault (grammar_of L.spelling) phrase.now.tokens.now locs.now result }
-    ensures place { (len : ℕ) → LiesWithin len phrase.now → result.at ≤ len }
+    ensures { StatementFault (grammar_of L.spelling) phrase.now.tokens.now locs.now result
+        × ((len : ℕ) → LiesWithin len phrase.now → result.at ≤ len) }
 {
     for form in L::forms() {
-        if let Some(index) = ninth::<L, A>(L::slots(*form), phrase.tokens, locs) {
+        let slots = L::slots(*form);
+        let front = reach::<L>(slots, phrase.tokens);
+        if let Some(index) = ninth(slots, phrase.tokens, front, locs) {
             return CellFault {
                 at: phrase.tokens[index].at,
                 cause: CellCause::TooMany,
@@ -286,25 +288,24 @@ fn refusal<L: StatementReader, A: Allocator>(
     stop::<L>(phrase)
 }
 
-/// The index of a ninth location where one may stand at these slots, with the tokens before it at theirs.
-fn ninth<L: StatementReader, A: Allocator>(
-    slots: &[Slot<L::Word>],
+/// The index of the first ninth location among so many tokens that stand at slots.
+fn ninth<W: Copy + Drop, A: Allocator>(
+    slots: &[Slot<W>],
     tokens: &[Token<'_>],
+    front: usize,
     locs: &LocNames<A>,
 ) -> Option<usize>
-    ensures { IfSome result (NinthAt L.spelling slots.now tokens.now locs.now) }
+    requires { (front ≤ length slots.now) × (front ≤ length tokens.now) }
+    ensures { IfSome result (IsNinthSlot slots.now tokens.now front locs.now) }
 {
-    let _len = tokens.len();
-    let (slot, slots) = slots.split_first()?;
-    let (token, tokens) = tokens.split_first()?;
-    if !can_stand::<L>(*slot, token) {
-        return None;
+    for index in 0..front {
+        if let Slot::Location = slots[index] {
+            if is_ninth(&tokens[index], locs) {
+                return Some(index);
+            }
+        }
     }
-    if matches!(slot, Slot::Location) && is_ninth(token, locs) {
-        return Some(0);
-    }
-    let index = ninth::<L, A>(slots, tokens, locs)?;
-    Some(index + 1)
+    None
 }
 
 /// Whether the token names a location that the table lacks and has no room for.
@@ -323,8 +324,7 @@ fn can_stand<L: StatementReader>(slot: Slot<L::Word>, token: &Token<'_>) -> bool
 
 /// How many tokens in front can stand at these slots.
 fn reach<L: StatementReader>(slots: &[Slot<L::Word>], tokens: &[Token<'_>]) -> usize
-    ensures reach { reach_of L.spelling (texts tokens.now) slots.now result }
-    ensures within { result ≤ length tokens.now }
+    ensures { reach_of L.spelling (texts tokens.now) slots.now result }
 {
     let _len = tokens.len();
     let Some((slot, slots)) = slots.split_first() else {
@@ -356,8 +356,7 @@ fn longest_reach<L: StatementReader>(tokens: &[Token<'_>]) -> usize
 
 /// The fault of the first token with which no statement goes on, or of the end.
 fn stop<L: StatementReader>(phrase: &Phrase<'_, '_>) -> CellFault
-    ensures cause { IsMisfit result.cause }
-    ensures place { (len : ℕ) → LiesWithin len phrase.now → result.at ≤ len }
+    ensures { IsMisfit result.cause × ((len : ℕ) → LiesWithin len phrase.now → result.at ≤ len) }
 {
     let front = longest_reach::<L>(phrase.tokens);
     let Some(token) = phrase.tokens.get(front) else {

@@ -1,10 +1,8 @@
 //! What one token of a cell is, a location or a label, and why it is refused.
-ghost use Rattle.lw_base.specs.declared.fault.CellCause.TheVariants.{Memory};
-ghost use Rattle.std.specs.Prelude.{◌≡◌, ◌≢◌, ◌↔◌, ℕ, ◌≤◌, Some, slice_get, IsTrue, IfOk, IfErr, OnOk, OnErr};
-ghost use Rattle.lw_text.specs.Spans.{texts};
+ghost use Rattle.std.specs.Prelude.{◌≡◌, ◌↔◌, Some, slice_get, IsTrue, MatchResult};
 ghost use Rattle.lw_base.specs.Names.{IsLocation};
-ghost use Rattle.lw_base.specs.Tables.{with_name, index_of};
-ghost use Rattle.lw_cells.specs.Words.{IsMisfit, FitsTable, NameFault};
+ghost use Rattle.lw_text.specs.Spans.{texts};
+ghost use Rattle.lw_cells.specs.Words.{IsMisfit, NameRead, NameRefused};
 
 use lw_base::{
     Arch, CellCause, CellFault, Loc, LocNames, is_location, is_name, is_numbered, reg_named,
@@ -17,12 +15,7 @@ pub(crate) fn location<A: Allocator + Copy>(
     token: &Token<'_>,
     locs: &mut LocNames<A>,
 ) -> Result<Loc, CellFault>
-    ensures name { OnOk result (IsLocation token.now.text.now) }
-    ensures found { IfOk result (λ loc. loc ≡ index_of locs.new token.now.text.now) }
-    ensures names { OnOk result (locs.new ≡ with_name locs.old token.now.text.now) }
-    ensures fault { IfErr result (λ f. f.cause ≢ Memory → FitsTable locs.old token.now.text.now → ⊥) }
-    ensures cause { IfErr result (NameFault locs.old token.now) }
-    ensures place { (len : ℕ) → token.now.at ≤ len → IfErr result (λ f. f.at ≤ len) }
+    ensures { MatchResult result (λ loc. NameRead locs.old token.now loc locs.new) (NameRefused locs.old token.now) }
 {
     if !is_location(token.text) {
         return Err(misfit(token));
@@ -35,19 +28,6 @@ pub(crate) fn location<A: Allocator + Copy>(
             cause: CellCause::TooMany,
         }),
     }
-}
-
-/// The token can be a label.
-pub(crate) fn label(token: &Token<'_>) -> Result<(), CellFault>
-    ensures ok { OnOk result (IsLocation token.now.text.now) }
-    ensures err { OnErr result (IsLocation token.now.text.now → ⊥) }
-    ensures cause { IfErr result (λ f. IsMisfit f.cause) }
-    ensures place { (len : ℕ) → token.now.at ≤ len → IfErr result (λ f. f.at ≤ len) }
-{
-    if is_location(token.text) {
-        return Ok(());
-    }
-    Err(misfit(token))
 }
 
 /// The fault of a token that fits nothing there.

@@ -25,16 +25,28 @@ pub fn write_program<A: Allocator + Copy, B: Allocator>(
     ensures short { IfOk result (λ text. length text ≤ most_text_bytes) }
     ensures reads_back { IfOk result (λ text. IsTextOf text (test_of program.now.head program.now.threads)) }
 {
-    let head = &program.head;
     let mut out = String::new(alloc);
-    writeln!(out, "X86 {}", head.name.as_str())?;
-    write_block(&mut out, head)?;
-    write_header(&mut out, head.threads)?;
-    write_rows(&mut out, program)?;
-    write_listed(&mut out, head)?;
-    let condition = write_condition(alloc, head)?;
-    writeln!(out, "{}", condition.as_str())?;
+    write_parts(alloc, &mut out, program)?;
     Ok(Text::from(out))
+}
+
+/// The parts of a program's canonical text, one behind another.
+fn write_parts<A: Allocator + Copy, B: Allocator>(
+    alloc: A,
+    out: &mut String<A>,
+    program: &Program<B>,
+) -> Result<(), AllocError>
+    ensures { OnOk result (string_bytes out.new
+        ≡ string_bytes out.old ++ canonical_text (test_of program.now.head program.now.threads)) }
+{
+    let head = &program.head;
+    writeln!(out, "X86 {}", head.name.as_str())?;
+    write_block(out, head)?;
+    write_header(out, head.threads)?;
+    write_rows(out, program)?;
+    write_listed(out, head)?;
+    let condition = write_condition(alloc, head)?;
+    writeln!(out, "{}", condition.as_str())
 }
 
 /// The canonical text of a test reads back as the same test.

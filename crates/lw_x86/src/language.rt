@@ -1,6 +1,7 @@
 //! How the instructions of an x86 test are spelled.
+ghost use Rattle.std.specs.Prelude.{◌≡◌};
 ghost use Rattle.lw_x86.specs.Spelling.{x86_spelling};
-ghost use Rattle.lw_x86.specs.inner.Operands.{made};
+ghost use Rattle.lw_x86.specs.inner.Operands.{made, value_of};
 
 use lw_base::{Arch, Operand};
 use lw_cells::{Operands, Slot, StatementReader};
@@ -218,64 +219,33 @@ impl StatementReader for X86Language {
     }
 
     fn statement(form: X86Form, operands: &Operands) -> Option<Instr> {
-        let Operands {
-            reg,
-            val,
-            num,
-            loc,
-            to,
-            ..
-        } = *operands;
+        let Operands { reg, loc, to, .. } = *operands;
+        let val = value(operands);
         Some(match form {
-            X86Form::Store => Instr::Store {
+            X86Form::Store | X86Form::StoreNumber => Instr::Store {
                 loc: loc?,
                 val: val?,
-            },
-            X86Form::StoreNumber => Instr::Store {
-                loc: loc?,
-                val: Operand::Number(num?),
             },
             X86Form::Load => Instr::Load {
                 reg: reg?,
                 loc: loc?,
             },
-            X86Form::Set => Instr::Set {
+            X86Form::Set | X86Form::SetNumber => Instr::Set {
                 reg: reg?,
                 val: val?,
             },
-            X86Form::SetNumber => Instr::Set {
-                reg: reg?,
-                val: Operand::Number(num?),
-            },
-            X86Form::Add => Instr::Add {
+            X86Form::Add | X86Form::AddNumber => Instr::Add {
                 reg: reg?,
                 val: val?,
             },
-            X86Form::AddNumber => Instr::Add {
-                reg: reg?,
-                val: Operand::Number(num?),
-            },
-            X86Form::Compare => Instr::Cmp {
+            X86Form::Compare | X86Form::CompareNumber => Instr::Cmp {
                 reg: reg?,
                 val: val?,
             },
-            X86Form::CompareNumber => Instr::Cmp {
-                reg: reg?,
-                val: Operand::Number(num?),
-            },
-            X86Form::Exchange => Instr::Xchg {
-                loc: loc?,
-                reg: reg?,
-            },
-            X86Form::ExchangeLast => Instr::Xchg {
-                loc: loc?,
-                reg: reg?,
-            },
-            X86Form::LockedExchange => Instr::Xchg {
-                loc: loc?,
-                reg: reg?,
-            },
-            X86Form::LockedExchangeLast => Instr::Xchg {
+            X86Form::Exchange
+            | X86Form::ExchangeLast
+            | X86Form::LockedExchange
+            | X86Form::LockedExchangeLast => Instr::Xchg {
                 loc: loc?,
                 reg: reg?,
             },
@@ -288,5 +258,15 @@ impl StatementReader for X86Language {
             X86Form::JumpNotEqual => Instr::Jne { to: to? },
             X86Form::Jump => Instr::Jmp { to: to? },
         })
+    }
+}
+
+/// The register or number that stands last: what has a number behind a `$` has no other.
+fn value(operands: &Operands) -> Option<Operand>
+    ensures { result ≡ value_of operands.now }
+{
+    match operands.num {
+        Some(num) => Some(Operand::Number(num)),
+        None => operands.val,
     }
 }

@@ -1,5 +1,5 @@
 -- The instruction of a form with operands that must be there.
-use Rattle.std.specs.Prelude.{Option, Some}
+use Rattle.std.specs.Prelude.{ℕ, Option, Some, None}
 use Rattle.lw_base.specs.declared.operand.Operand.{Operand}
 use Rattle.lw_base.specs.declared.operand.Operand.TheVariants.{Number}
 use Rattle.lw_litmus.specs.declared.instr.Instr.{Instr}
@@ -11,20 +11,24 @@ use Rattle.lw_x86.specs.declared.language.X86Form.TheVariants.{Store, StoreNumbe
 use Rattle.lw_x86.specs.declared.language.X86Form.TheVariants.{ExchangeLast, LockedExchange, LockedExchangeLast, ExchangeAdd, Fence, JumpEqual, JumpNotEqual}
 use Rattle.lw_x86.specs.declared.language.X86Form.TheVariants.{Jump}
 
--- the number as an operand
-abbrev pub number_of : Operands → Option Operand
-number_of o = of_one Number o.num
+-- the register or number that stands last: what has a number behind a `$` has no other
+abbrev pub value_in : Option ℕ → Option Operand → Option Operand
+value_in None val = val
+value_in (Some n) val = Some (Number n)
+
+abbrev pub value_of : Operands → Option Operand
+value_of o = value_in o.num o.val
 
 abbrev pub made : X86Form → Operands → Option Instr
-made Store o = of_two instr.Store o.loc o.val
-made StoreNumber o = of_two instr.Store o.loc (number_of o)
+made Store o = of_two instr.Store o.loc (value_of o)
+made StoreNumber o = of_two instr.Store o.loc (value_of o)
 made Load o = of_two instr.Load o.reg o.loc
-made Set o = of_two instr.Set o.reg o.val
-made SetNumber o = of_two instr.Set o.reg (number_of o)
-made Add o = of_two instr.Add o.reg o.val
-made AddNumber o = of_two instr.Add o.reg (number_of o)
-made Compare o = of_two instr.Cmp o.reg o.val
-made CompareNumber o = of_two instr.Cmp o.reg (number_of o)
+made Set o = of_two instr.Set o.reg (value_of o)
+made SetNumber o = of_two instr.Set o.reg (value_of o)
+made Add o = of_two instr.Add o.reg (value_of o)
+made AddNumber o = of_two instr.Add o.reg (value_of o)
+made Compare o = of_two instr.Cmp o.reg (value_of o)
+made CompareNumber o = of_two instr.Cmp o.reg (value_of o)
 made Exchange o = of_two instr.Xchg o.loc o.reg
 made ExchangeLast o = of_two instr.Xchg o.loc o.reg
 made LockedExchange o = of_two instr.Xchg o.loc o.reg

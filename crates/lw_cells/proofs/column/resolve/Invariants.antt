@@ -1,11 +1,11 @@
 use Rattle.std.proofs.Common.{ℕ, List}
-use Rattle.lw_cells.specs.Drafts.{DraftRead}
+use Rattle.lw_cells.specs.Drafts.{ColumnDrafted}
 use Rattle.lw_cells.proofs.Resolved.{Resolved}
 use Rattle.lw_cells.specs.Spellings.{grammar_of}
 use Rattle.lw_cells.specs.Found.{draft_of}
 use Rattle.lw_cells.proofs.column.resolve.Given as goal
 
 abbrev pub invariant-loop-row : goal.invariant-loop-row
-invariant-loop-row g l = (before after : List (List ℕ)) (draft : DraftRead (grammar_of g.L.StatementReader.spelling)
-    (draft_of g.L.StatementReader.spelling) l.cells before l.drafts l.labels after)
-    → Resolved (grammar_of g.L.StatementReader.spelling) after draft.syntaxes l.row l.code
+invariant-loop-row g l = (before after : List (List ℕ)) (drafted : ColumnDrafted (grammar_of g.L.StatementReader.spelling)
+    (draft_of g.L.StatementReader.spelling) l.cells before l.column after)
+    → Resolved (grammar_of g.L.StatementReader.spelling) after drafted.read.syntaxes l.row l.code

@@ -1,7 +1,9 @@
 use Rattle.std.proofs.Common.{ℕ, ◌≤◌, arith}
 use Rattle.lw_text.specs.Spans.{texts}
 use Rattle.lw_cells.specs.Found.{reach_of}
-use Rattle.lw_cells.proofs.SlotTokens.{at_most, all_further, all_contained}
+use Rattle.std.proofs.lemmas.List.{length-map}
+use Rattle.lw_text.specs.declared.token.Token.{Token}
+use Rattle.lw_cells.proofs.SlotTokens.{at_most, all_further, all_contained, reach_within}
 use Rattle.lw_cells.proofs.spelled.longest_reach.Goals as goal
 use Rattle.lw_cells.proofs.spelled.longest_reach.Goals.{then-longest-further, else-longest-further}
 
@@ -18,9 +20,13 @@ loop-form-preserved g c =
           let here : (n : ℕ) → reach_of g.L.StatementReader.spelling (texts c.args.tokens.now)
           (g.L.StatementReader.spelling.slots_of c.form-item.result) n
           → n ≤ c.reach-further.result = λ n r. at_most g.L.StatementReader.spelling _ _ n c.reach-further.result r
-          (rw c.slots.ensures at c.reach-further.ensures.reach) in
+          (rw c.slots.ensures at c.reach-further.ensures) in
           rw w.longest-is (
-            c.reach-further.ensures.within,
+            omega (
+              arith,
+              (reach_within g.L.StatementReader.spelling _ _ _ c.reach-further.ensures).1,
+              length-map c.args.tokens.now (λ (t : Token). t.text.now),
+            ),
             all_further (λ form. (n : ℕ) → reach_of g.L.StatementReader.spelling (texts c.args.tokens.now)
                 (g.L.StatementReader.spelling.slots_of form) n → n ≤ c.reach-further.result) g.L.StatementReader.spelling.forms c.loop-form.form-index
                 c.form-item.result
@@ -33,7 +39,7 @@ loop-form-preserved g c =
           → n ≤ c.loop-form.longest = λ n r. omega (
             arith,
             at_most g.L.StatementReader.spelling _ _ n c.reach-further.result r
-                (rw c.slots.ensures at c.reach-further.ensures.reach),
+                (rw c.slots.ensures at c.reach-further.ensures),
             w.if-longest-further.false,
           ) in
           rw w.longest-is (

@@ -1,27 +1,26 @@
-use Rattle.std.proofs.lemmas.Result.{IfOk-weaker, IfErr-weaker}
-use Rattle.lw_cells.proofs.StatementsRead.{name_within, statement_read, statement_refused, none_fits}
+use Rattle.std.proofs.Common.{refl}
+use Rattle.std.proofs.lemmas.Result.{MatchResult-weaker}
+use Rattle.lw_cells.proofs.StatementsRead.{name_within, statement_read, refused_by_form, none_said}
 use Rattle.lw_cells.proofs.spelled.read_statement.Goals as goal
 
 pub draft-requires : goal.draft-requires
 draft-requires g c =
     let r = rw c.in-Some.is at c.read_form.ensures in
-    (c.type_bounds.static-L-Word, (c.type_bounds.static-L-Form, name_within g.L.StatementReader.spelling c.args.phrase.now.tokens.now _ r.0 r.1 r.2 _ r.3))
+    name_within g.L.StatementReader.spelling c.args.phrase.now.tokens.now _ r.0 r.1 r.2 _ r.3
 
-pub returns-in-Some-clause-found : goal.returns-in-Some-clause-found
-returns-in-Some-clause-found g c =
+pub returns-in-Some : goal.returns-in-Some
+returns-in-Some g c =
     let r = rw c.in-Some.is at c.read_form.ensures in
-    IfOk-weaker c.draft.result _ _ (λ draft made. statement_read g.L.StatementReader.spelling c.args.phrase.now.tokens.now _ r.0 r.1 r.2 _ _ draft _ r.3
-    made) c.draft.ensures.found
+    MatchResult-weaker c.draft.result c.draft.ensures
+    (λ draft made. statement_read g.L.StatementReader.spelling c.args.phrase.now.tokens.now _ r.0 r.1 r.2 _ _ draft _ r.3 made)
+    (λ f none. refused_by_form g.L.StatementReader.spelling c.args.phrase.now.tokens.now _ r.0 r.1 r.2 g.L.StatementReader.made c.requires.lawful
+    c.args.phrase.now refl _ _ f r.3 none)
 
-pub returns-in-Some-clause-fault : goal.returns-in-Some-clause-fault
-returns-in-Some-clause-fault g c =
-    let r = rw c.in-Some.is at c.read_form.ensures in
-    IfErr-weaker c.draft.result _ _ (λ f none. none_fits g.L.StatementReader.spelling c.args.phrase.now.tokens.now _ r.0 r.1 r.2
-    g.L.StatementReader.made c.requires.lawful _ _ f r.3 none) c.draft.ensures.fault
-
-pub returns-in-Some-clause-cause : goal.returns-in-Some-clause-cause
-returns-in-Some-clause-cause g c =
-    let r = rw c.in-Some.is at c.read_form.ensures in
-    IfErr-weaker c.draft.result _ _ (λ f none. statement_refused g.L.StatementReader.spelling c.args.phrase.now.tokens.now _ r.0 r.1 r.2
-    g.L.StatementReader.made c.requires.lawful _ _ f r.3 none)
-    c.draft.ensures.fault
+pub returns-in-None : goal.returns-in-None
+returns-in-None g c =
+    let none = rw c.in-None.is at c.read_form.ensures in
+    record {
+      none = λ known. none_said g.L.StatementReader.spelling _ _ none;
+      cause = c.refusal.ensures.0;
+      place = c.refusal.ensures.1;
+    }
