@@ -9,7 +9,7 @@ ghost use Rattle.lw_memory.specs.Memory.{memory_of, is_held};
 use lw_base::{Cpu, Loc, Word};
 
 /// How a cache holds a location.
-#[derive(Clone, Copy, Debug, PartialEq, Eq, Hash)]
+#[derive(Clone, Copy, Debug, PartialEq, Eq)]
 pub enum LineState {
     /// Modified: the only copy, which may differ from memory.
     M,
@@ -24,7 +24,7 @@ pub enum LineState {
 }
 
 /// What a processor asks of the memory system.
-#[derive(Clone, Copy, Debug, PartialEq, Eq, Hash)]
+#[derive(Clone, Copy, Debug, PartialEq, Eq)]
 pub enum Request {
     /// The location's word.
     Load(Cpu, Loc),
@@ -39,7 +39,7 @@ pub enum Request {
 }
 
 /// The processor doesn't hold the location, so it can't be evicted.
-#[derive(Clone, Copy, Debug, PartialEq, Eq, Hash)]
+#[derive(Clone, Copy, Debug, PartialEq, Eq)]
 pub struct NotHeld;
 
 /// A memory of several processors, which answers each request as one word for each location would.
