@@ -7,6 +7,4 @@ mod Events
 mod Starts
 mod Flatten
 mod Commuting
-mod Lift
-mod Replaying
 mod Refilled

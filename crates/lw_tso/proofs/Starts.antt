@@ -6,7 +6,7 @@ use Rattle.std.proofs.Math.Seq.{take-suc}
 use Rattle.std.proofs.lemmas.Bool.{cases_eq}
 use Rattle.std.proofs.lemmas.List.{map-append, length-map, length-take-le}
 use Rattle.std.proofs.lemmas.List.Elements.{All-nil}
-use Rattle.std.proofs.lemmas.Option.{slice_get-map, same_Some}
+use Rattle.std.proofs.lemmas.Option.{slice_get-map, slice_get_within, same_Some}
 use Rattle.circular_buffer.proofs.Places.{slice_get-push, slice_get-last}
 use Rattle.lw_memory.specs.MemoryLaws.{Invariant}
 use Rattle.lw_memory.specs.Memory.{Memory}
@@ -35,6 +35,9 @@ module _ {A : Type 0} (program : List (List Instr)) (regs : List (List ℕ)) whe
   pub record AreStarted (n : ℕ) (processors : List (ProcessorInMemory A)) : Type 0 where
     pub start : map processor_of processors ≡ map starting (take n regs)
     pub rooms : (t : ℕ) (p : ProcessorInMemory A) → slice_get processors t ≡ Some p → stores_from 0 (code_of program t) ≤ p.buffer.room
+
+  pub none_started : AreStarted 0 []
+  none_started = record { start = refl; rooms = λ t p at. absurd (omega (arith, slice_get_within [] t p at)) }
 
   pub one_more : (n : ℕ) (processors next : List (ProcessorInMemory A)) (p : ProcessorInMemory A)
       → AreStarted n processors → n < length regs → next ≡ processors ++ p ∷ []

@@ -1,6 +1,8 @@
 -- What proofs of other crates cite: what operations come to, what events come to over the flat memory, that runs can be
--- ended, and which neighbours can be exchanged.
+-- ended, which neighbours can be exchanged, that runs over every memory are those over the flat one, and what a replay speaks of.
 pub mod Operations
 pub mod Effects
 pub mod Neighbours
 pub mod Endings
+pub mod Lift
+pub mod Replaying

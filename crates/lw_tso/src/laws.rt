@@ -20,14 +20,15 @@ ghost use Rattle.lw_tso.specs.Starts.{CanStart};
 
 use lw_memory::MemorySystem;
 
-/// The outcomes of a program are the same over every memory system: those over the flat one.
+/// A theorem for readers: the outcomes of a program are the same over every memory system: those over the flat one.
 pub fn outcomes_are_flat<M: MemorySystem>()
     ensures { (test : ProgramTest) (m : M) (o : Final) → IsWellFormedProgram test
         → CanStart (memory_of M.content M.state M.serves) (invariant_of M.cpus M.sound) test m
         → MachineOutcome (memory_of M.content M.state M.serves) test m o ↔ MachineOutcome flat test test.head.init_words o }
 {}
 
-/// A list of events without evictions replays over a memory system to an outcome exactly where it does over the flat one.
+/// A theorem for readers: a list of events without evictions replays over a memory system to an outcome exactly where it does
+/// over the flat one.
 pub fn replays_are_flat<M: MemorySystem>()
     ensures { (test : ProgramTest) (m : M) (events : List Event) (o : Final) → IsWellFormedProgram test
         → CanStart (memory_of M.content M.state M.serves) (invariant_of M.cpus M.sound) test m → without_evictions events ≡ events
@@ -43,7 +44,8 @@ pub fn every_run_ends<M: MemorySystem>()
         → CanEnd (memory_of M.content M.state M.serves) test.threads s }
 {}
 
-/// What replays to an outcome speaks of the test's processors and locations alone, and the outcome is of their numbers.
+/// A theorem for readers: what replays to an outcome speaks of the test's processors and locations alone, and the outcome is of
+/// their numbers.
 pub fn replays_are_of_their_test<M: MemorySystem>()
     ensures { (test : ProgramTest) (m : M) (events : List Event) (o : Final) → IsWellFormedProgram test
         → CanStart (memory_of M.content M.state M.serves) (invariant_of M.cpus M.sound) test m

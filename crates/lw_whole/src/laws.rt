@@ -5,7 +5,6 @@ ghost use Rattle.lw_base.specs.Outcomes.{Final};
 ghost use Rattle.lw_base.specs.declared.event.Event.{Event};
 ghost use Rattle.lw_memory.specs.Flat.{flat};
 ghost use Rattle.lw_mesi.specs.declared.protocol.Protocol.{Protocol};
-ghost use Rattle.lw_mesi.specs.declared.protocol.Protocol.TheVariants as by;
 ghost use Rattle.lw_tso.specs.Evictions.{without_evictions};
 ghost use Rattle.lw_tso.specs.Runs.{Replays, MachineOutcome};
 ghost use Rattle.lw_litmus.specs.WellFormedTests.{IsWellFormedProgram};
@@ -13,19 +12,15 @@ ghost use Rattle.lw_litmus.specs.Tests.{ProgramTest};
 ghost use Rattle.lw_base.specs.Entries.{IsEntryOf};
 ghost use Rattle.lw_whole.specs.OverCaches.{ReplaysOverCaches, OutcomeOverCaches};
 
-use lw_mesi::{Mesi, Moesi, empty_caches_are_kept};
-use lw_tso::{outcomes_are_flat, replays_are_flat, replays_are_of_their_test};
-use std::alloc::Global;
+use lw_mesi::empty_caches_are_kept;
 
-/// Over caches of either protocol, which hold nothing at the start, an x86 test has the outcomes that it has over flat
+/// Over caches of each protocol, which hold nothing at the start, an x86 test has the outcomes that it has over flat
 /// memory.
 pub fn outcomes_over_caches_are_flat()
     ensures { (protocol : Protocol) (test : ProgramTest) (o : Final) → IsWellFormedProgram test
         → OutcomeOverCaches protocol test o ↔ MachineOutcome flat test test.head.init_words o }
 {
     empty_caches_are_kept();
-    outcomes_are_flat::<Mesi<Global>>();
-    outcomes_are_flat::<Moesi<Global>>();
 }
 
 /// Over such caches a list of steps and drains replays to an outcome exactly where it does over flat memory.
@@ -35,8 +30,6 @@ pub fn replays_over_caches_are_flat()
         → ReplaysOverCaches protocol test events o ↔ Replays flat test test.head.init_words events o }
 {
     empty_caches_are_kept();
-    replays_are_flat::<Mesi<Global>>();
-    replays_are_flat::<Moesi<Global>>();
 }
 
 /// What replays over such caches to an outcome speaks of the test's processors and locations alone, and the outcome is of
@@ -46,15 +39,13 @@ pub fn replays_over_caches_are_of_their_test()
         → ReplaysOverCaches protocol test events o → IsEntryOf test.head (o, events) }
 {
     empty_caches_are_kept();
-    replays_are_of_their_test::<Mesi<Global>>();
-    replays_are_of_their_test::<Moesi<Global>>();
 }
 
-/// Over MOESI caches an x86 test has the outcomes that it has over MESI caches: a protocol can be seen in lines and in
-/// memory's words alone.
+/// Over caches of one protocol an x86 test has the outcomes that it has over caches of any other: a protocol can be seen in
+/// lines and in memory's words alone.
 pub fn protocols_have_the_same_outcomes()
-    ensures { (test : ProgramTest) (o : Final) → IsWellFormedProgram test
-        → OutcomeOverCaches by.Moesi test o ↔ OutcomeOverCaches by.Mesi test o }
+    ensures { (protocol other : Protocol) (test : ProgramTest) (o : Final) → IsWellFormedProgram test
+        → OutcomeOverCaches protocol test o ↔ OutcomeOverCaches other test o }
 {
     outcomes_over_caches_are_flat();
 }

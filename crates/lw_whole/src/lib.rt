@@ -1,4 +1,4 @@
-//! The whole machine: the processors and store buffers of lw_tso over the caches of lw_mesi, of either protocol. Its outcomes
+//! The whole machine: the processors and store buffers of lw_tso over the caches of lw_mesi, of each protocol. Its outcomes
 //! and replays are those over flat memory.
 //!
 //! It names lw_base; of lw_litmus the x86 tests; lw_tso, lw_memory and lw_mesi, and is the lowest crate that names both the

@@ -30,7 +30,7 @@ use Rattle.lw_tso.specs.Evictions.{without_evictions}
 use Rattle.lw_tso.specs.Endings.{events_of, CanEnd}
 use Rattle.lw_tso.specs.Starts.{CanStart}
 use Rattle.lw_tso.proofs.Rooms.{forward, event_room}
-use Rattle.lw_tso.proofs.Lift.{IsWithin, asks_within, thread_at, within_after, within_reached}
+use Rattle.lw_tso.proofs.api.Lift.{IsWithin, asks_within, thread_at, within_after, within_reached}
 use Rattle.lw_tso.proofs.api.Operations.{Comes, operation_comes}
 
 without_append : (es fs : List Event) → without_evictions (es ++ fs) ≡ without_evictions es ++ without_evictions fs

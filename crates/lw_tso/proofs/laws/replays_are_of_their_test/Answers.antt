@@ -1,4 +1,4 @@
-use Rattle.lw_tso.proofs.Replaying.{replayed_of_test}
+use Rattle.lw_tso.proofs.api.Replaying.{replayed_of_test}
 use Rattle.lw_tso.proofs.laws.replays_are_of_their_test.Goals as goal
 
 pub returns : goal.returns

@@ -6,7 +6,7 @@ use Rattle.lw_tso.specs.inner.Rooms.{stores_from}
 use Rattle.lw_tso.specs.Processors.{starting}
 use Rattle.lw_tso.specs.inner.Views.{processor_of}
 use Rattle.lw_tso.proofs.Events.{read}
-use Rattle.lw_tso.proofs.Starts.{one_more}
+use Rattle.lw_tso.proofs.Starts.{none_started, one_more}
 use Rattle.lw_tso.proofs.machine.processors_of.Goals as goal
 
 pub loop-thread-preserved : goal.loop-thread-preserved
@@ -38,3 +38,9 @@ returns-clause-start g c =
 
 pub returns-clause-rooms : goal.returns-clause-rooms
 returns-clause-rooms g c = c.loop-thread.invariant.rooms
+
+pub bounds-regs-items-thread : goal.bounds-regs-items-thread
+bounds-regs-items-thread g c = c.loop-thread-test.true
+
+pub loop-thread-init : goal.loop-thread-init
+loop-thread-init g c = rw c.new-processors.ensures.items (none_started c.args.program.now.threads c.args.program.now.head.init_regs)

@@ -29,3 +29,9 @@ returns-clause-start g c =
 
 pub returns-clause-rooms : goal.returns-clause-rooms
 returns-clause-rooms g c = c.loop-thread.invariant.rooms
+
+pub loop-thread-init : goal.loop-thread-init
+loop-thread-init g c = record { many = refl; start = refl; rooms = refl }
+
+pub bounds-init_regs-thread : goal.bounds-init_regs-thread
+bounds-init_regs-thread g c = c.loop-thread-test.true

@@ -1,9 +1,10 @@
-use Rattle.std.proofs.Common.{◌≡◌, ◌≤◌, ◌++◌, ℕ, List, ap, arith, drop, length, map, subst, sym, take, ◌∙◌}
+use Rattle.std.proofs.Common.{◌≡◌, ◌≤◌, ◌++◌, ℕ, List, ap, ap₂, arith, drop, length, map, subst, sym, take, ◌∙◌}
 use Rattle.std.proofs.lemmas.List.{append-nil, drop_all, take_all}
 use Rattle.lw_memory.specs.MemoryLaws.{invariant_of}
 use Rattle.lw_memory.specs.Memory.{memory_of}
 use Rattle.lw_tso.specs.declared.processor.Processor.{Processor as ProcessorInMemory}
-use Rattle.lw_tso.specs.Processors.{starting}
+use Rattle.lw_tso.specs.Processors.{Processor, starting}
+use Rattle.lw_tso.specs.Machines.{MachineState}
 use Rattle.lw_tso.specs.inner.Rooms.{IsMachine}
 use Rattle.lw_tso.proofs.Starts.{machine_made, still_roomy}
 use Rattle.lw_tso.proofs.machine.Machine.restart.Goals as goal
@@ -12,6 +13,9 @@ use Rattle.lw_tso.proofs.machine.Machine.restart.Goals as goal
 all_written : {X : Type 0} (xs ys : List X) (n : ℕ) → length xs ≡ length ys → n ≡ length ys → take n (xs ++ drop (length xs) ys) ≡ xs
 all_written xs ys n many is =
     ap (λ (zs : List _). take n (xs ++ zs)) (drop_all (length xs) ys (omega arith)) ∙ ap (take n) (append-nil xs) ∙ take_all n xs (omega arith)
+
+abbrev state_of : {M : Type 0} → List Processor → M → MachineState M
+state_of processors memory = record { processors = processors; memory = memory }
 
 pub invariant_of-self : goal.invariant_of-self
 invariant_of-self g c =
@@ -32,3 +36,26 @@ invariant_of-self g c =
     (known.head.regs ∙ sym known.as_many) (c.restart_all.ensures.start ∙ ap (map starting) c.as_slice.ensures) roomy in
     let many : length now ≡ length before = c.restart_all.auto.processors ∙ ap length c.deref_mut.ensures.value in
     subst (IsMachine mem inv program locs m) (sym (all_written now before c.self.inside.processors.len many c.self.inside.processors.ok.0)) made
+
+pub restart_all-requires : goal.restart_all-requires
+restart_all-requires g c =
+    let known = c.self.inside.program.now.well_formed in
+    omega (arith, ap length c.deref_mut.ensures.value, ap length c.as_slice.ensures, known.head.regs, known.as_many, c.self.invariant.as_many)
+
+pub restart-requires : goal.restart-requires
+restart-requires g c = omega (arith, ap length c.as_slice-2.ensures, c.self.inside.program.now.well_formed.head.words, c.self.invariant.locations)
+
+pub returns-clause-state : goal.returns-clause-state
+returns-clause-state g c =
+    let before = c.self.inside.processors.items in
+    let now = c.restart_all.new.processors in
+    let many : length now ≡ length before = c.restart_all.auto.processors ∙ ap length c.deref_mut.ensures.value in
+    rw (all_written now before c.self.inside.processors.len many c.self.inside.processors.ok.0, ← c.self.view_is)
+    (ap₂ state_of (c.restart_all.ensures.start ∙ ap (map starting) c.as_slice.ensures)
+    (c.restart.ensures.start ∙ ap (g.M.MemorySystem.start (g.M.MemorySystem.cpus c.self.inside.memory)) c.as_slice-2.ensures))
+
+pub returns-clause-words : goal.returns-clause-words
+returns-clause-words g c = rw (← c.self.view_is) (c.restart.ensures.words ∙ c.as_slice-2.ensures)
+
+pub returns-clause-sound : goal.returns-clause-sound
+returns-clause-sound g c = c.restart.ensures.sound
