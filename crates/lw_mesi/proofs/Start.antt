@@ -1,10 +1,10 @@
 -- Caches that hold nothing: coherent, in states of each protocol, and with memory's words as their content.
 use Rattle.std.proofs.Common.{◌≡◌, ℕ, zero, suc, ◌<◌, ◌≤◌, List, [], ◌∷◌, length, map, refl, sym, ap, subst, arith}
 use Rattle.lw_mesi.specs.declared.protocol.Protocol.{Protocol}
-use Rattle.lw_mesi.specs.declared.protocol.Protocol.TheVariants.{Mesi, Moesi}
 use Rattle.lw_mesi.specs.CacheLines.{Invalid, unheld_line, empty_caches, copy_of, line_at, content_of, contents_of}
 use Rattle.lw_mesi.specs.Coherence.{IsOnlyCopy, IsDirty, IsStateOf, HasStatesOf, IsKeptLine, IsKept}
 use Rattle.lw_mesi.specs.laws.Coherent.{no_word}
+use Rattle.lw_mesi.specs.laws.ProtocolRows.{invalid_state}
 
 pub empty_content : (cpus : ℕ) (words : List ℕ) → contents_of (empty_caches cpus words) ≡ words
 empty_content n [] = refl
@@ -18,8 +18,7 @@ unheld w (suc (suc (suc zero))) = refl
 unheld w (suc (suc (suc (suc t)))) = refl
 
 unheld_states : (p : Protocol) (w : ℕ) → HasStatesOf p (unheld_line w)
-unheld_states Mesi w = λ t. subst (IsStateOf Mesi) (sym (unheld w t)) tt
-unheld_states Moesi w = λ t. tt
+unheld_states p w = λ t. subst (IsStateOf p) (sym (unheld w t)) (invalid_state p)
 
 unheld_kept : (p : Protocol) (w : ℕ) → IsKeptLine p (unheld_line w)
 unheld_kept p w = record {

@@ -1,10 +1,16 @@
 -- The protocols by name: the column of each one's table that is its own, and the memory system that caches by it are.
 -- The source is as in Snooping, and so is how a row is told.
+use Rattle.std.specs.Prelude.{codes}
+use Rattle.lw_base.specs.Types.{Bytes}
 use Rattle.lw_mesi.specs.declared.protocol.Protocol.{Protocol}
 use Rattle.lw_mesi.specs.declared.protocol.Protocol.TheVariants.{Mesi, Moesi}
 use Rattle.lw_memory.specs.Memory.{Memory, memory_of}
 use Rattle.lw_mesi.specs.CacheLines.{Copy, Modified, Owned, Exclusive, Shared, Caches, content_of, contents_of, state_in}
 use Rattle.lw_mesi.specs.Snooping.{ProtocolTable, Serves}
+
+abbrev pub protocol_name : Protocol → Bytes
+protocol_name Mesi = codes "mesi"
+protocol_name Moesi = codes "moesi"
 
 abbrev pub mesi_on_other_get_s : Copy → Copy  -- MESI: what another cache's GetS makes of a copy.
 mesi_on_other_get_s (Modified w) = Shared w  -- send data to requestor and memory / S

@@ -1,7 +1,9 @@
 //! The protocols that caches keep: by name, and as types.
-ghost use Rattle.std.specs.Prelude.{◌≡◌};
+ghost use Rattle.std.specs.Prelude.{◌≡◌, MatchOption};
+ghost use Rattle.lw_base.specs.Refusals.{NoSuch};
 ghost use Rattle.lw_mesi.specs.declared.protocol.Protocol.{Protocol};
 ghost use Rattle.lw_mesi.specs.declared.protocol.Protocol.TheVariants.{Mesi, Moesi};
+ghost use Rattle.lw_mesi.specs.Protocols.{protocol_name};
 
 /// The protocols of snooping caches.
 #[derive(Clone, Copy, Debug, PartialEq, Eq, Hash)]
@@ -10,6 +12,19 @@ pub enum Protocol {
     Mesi,
     /// Or owned: dirty, and perhaps beside shared copies.
     Moesi,
+}
+
+impl Protocol {
+    /// The protocol of this name, which is its own in small letters.
+    pub fn named(name: &str) -> Option<Protocol>
+        ensures { MatchOption result (NoSuch (λ p. protocol_name p ≡ name.now)) (λ p. protocol_name p ≡ name.now) }
+    {
+        match name {
+            "mesi" => Some(Protocol::Mesi),
+            "moesi" => Some(Protocol::Moesi),
+            _ => None,
+        }
+    }
 }
 
 /// A protocol as a type.

@@ -14,6 +14,10 @@ use Rattle.lw_mesi.specs.Protocols.{table_of, mesi_on_other_get_s, moesi_on_othe
 use Rattle.lw_mesi.specs.laws.Coherent.{copy_in, copy_map, clean, After}
 use Rattle.lw_mesi.specs.laws.Rows.{SharesOthers, ToWrite, hit_to_write, get_m_to_write, Loaded, hit_loaded, get_s_loaded, written_back, let_go, Keeps}
 
+pub invalid_state : (p : Protocol) → IsStateOf p Invalid
+invalid_state Mesi = tt
+invalid_state Moesi = tt
+
 shared_invalid : (p : Protocol) → (table_of p).on_other_get_s Invalid ≡ Invalid
 shared_invalid Mesi = refl
 shared_invalid Moesi = refl
@@ -102,7 +106,7 @@ module _ (p : Protocol) (t : ℕ) (line : CacheLine) (lt : t < 4) (sound : IsCoh
   loaded (Shared w) e = hit_loaded t line lt sound (Shared w) w e refl
   loaded Invalid e =
       get_s_loaded t line lt sound (table_of p).on_other_get_s ((table_of p).memory_after_get_s line) shares (content_kept p line states)
-      e (any_held line.copies) refl
+      e (any_held line.copies) (λ none. none)
 
   evicted : (c : Copy) → copy_of line t ≡ c → is_held (letter_of c) ≡ true → After (content_of line) (on_evict c t line)
   evicted (Modified w) e h = written_back t line lt sound (Modified w) w e refl tt
@@ -114,71 +118,73 @@ module _ (p : Protocol) (t : ℕ) (line : CacheLine) (lt : t < 4) (sound : IsCoh
   pub keeps : Keeps t line lt sound (table_of p)
   keeps = record { to_write = to_write (copy_of line t) refl; loaded = loaded (copy_of line t) refl; evicted = evicted (copy_of line t) refl }
 
--- Under MESI, O is put nowhere.
-put_state : (copies : List Copy) (t : ℕ) (c : Copy)
-    → IsStateOf Mesi c → ((u : ℕ) → IsStateOf Mesi (copy_in copies u)) → (u : ℕ) → IsStateOf Mesi (copy_in (set copies t c) u)
-put_state [] t c here there u = there u
-put_state (k ∷ copies) zero c here there zero = here
-put_state (k ∷ copies) zero c here there (suc u) = there (suc u)
-put_state (k ∷ copies) (suc t) c here there zero = there zero
-put_state (k ∷ copies) (suc t) c here there (suc u) = put_state copies t c here (λ u. there (suc u)) u
+-- The states of a protocol are kept: a copy that is put into a line is in one of them, and so is what a GetS makes of the others.
+modified_state : (p : Protocol) (w : ℕ) → IsStateOf p (Modified w)
+modified_state Mesi w = tt
+modified_state Moesi w = tt
 
-map_state : (f : Copy → Copy) (copies : List Copy)
-    → f Invalid ≡ Invalid → ((c : Copy) → IsStateOf Mesi c → IsStateOf Mesi (f c)) → ((u : ℕ) → IsStateOf Mesi (copy_in copies u))
-    → (u : ℕ) → IsStateOf Mesi (copy_in (map f copies) u)
-map_state f copies invalid keeps states u = subst (IsStateOf Mesi) (sym (copy_map f copies u invalid)) (keeps (copy_in copies u) (states u))
+from_state : (p : Protocol) (b : Bool) (w : ℕ) → IsStateOf p (copy_from b w)
+from_state Mesi true w = tt
+from_state Mesi false w = tt
+from_state Moesi b w = tt
 
-shared_state : (c : Copy) → IsStateOf Mesi c → IsStateOf Mesi (mesi_on_other_get_s c)
-shared_state (Modified w) s = tt
-shared_state (Owned w) s = s
-shared_state (Exclusive w) s = tt
-shared_state (Shared w) s = tt
-shared_state Invalid s = tt
+shared_state : (p : Protocol) (c : Copy) → IsStateOf p c → IsStateOf p ((table_of p).on_other_get_s c)
+shared_state Mesi (Modified w) s = tt
+shared_state Mesi (Owned w) s = s
+shared_state Mesi (Exclusive w) s = tt
+shared_state Mesi (Shared w) s = tt
+shared_state Mesi Invalid s = tt
+shared_state Moesi c s = tt
 
-from_state : (b : Bool) (w : ℕ) → IsStateOf Mesi (copy_from b w)
-from_state true w = tt
-from_state false w = tt
+put_state : (p : Protocol) (copies : List Copy) (t : ℕ) (c : Copy)
+    → IsStateOf p c → ((u : ℕ) → IsStateOf p (copy_in copies u)) → (u : ℕ) → IsStateOf p (copy_in (set copies t c) u)
+put_state p [] t c here there u = there u
+put_state p (k ∷ copies) zero c here there zero = here
+put_state p (k ∷ copies) zero c here there (suc u) = there (suc u)
+put_state p (k ∷ copies) (suc t) c here there zero = there zero
+put_state p (k ∷ copies) (suc t) c here there (suc u) = put_state p copies t c here (λ u. there (suc u)) u
 
-module _ (line : CacheLine) (states : HasStatesOf Mesi line) where
-  load_states : (c : Copy) (t : ℕ) → HasStatesOf Mesi (on_load (table_of Mesi) c t line)
+map_state : (p : Protocol) (f : Copy → Copy) (copies : List Copy)
+    → f Invalid ≡ Invalid → ((c : Copy) → IsStateOf p c → IsStateOf p (f c)) → ((u : ℕ) → IsStateOf p (copy_in copies u))
+    → (u : ℕ) → IsStateOf p (copy_in (map f copies) u)
+map_state p f copies invalid keeps states u = subst (IsStateOf p) (sym (copy_map f copies u invalid)) (keeps (copy_in copies u) (states u))
+
+module _ (p : Protocol) (line : CacheLine) (states : HasStatesOf p line) where
+  load_states : (c : Copy) (t : ℕ) → HasStatesOf p (on_load (table_of p) c t line)
   load_states (Modified w) t = states
   load_states (Owned w) t = states
   load_states (Exclusive w) t = states
   load_states (Shared w) t = states
   load_states Invalid t =
-      put_state (map mesi_on_other_get_s line.copies) t (copy_from (any_held line.copies) (content_of line))
-      (from_state (any_held line.copies) (content_of line))
-      (map_state mesi_on_other_get_s line.copies refl shared_state states)
+      put_state p (map (table_of p).on_other_get_s line.copies) t (copy_from (any_held line.copies) (content_of line))
+      (from_state p (any_held line.copies) (content_of line))
+      (map_state p (table_of p).on_other_get_s line.copies (shared_invalid p) (shared_state p) states)
 
-  get_m_states : (t : ℕ) → HasStatesOf Mesi (get_m t line)
+  get_m_states : (t : ℕ) → HasStatesOf p (get_m t line)
   get_m_states t =
-      put_state (map (λ c. Invalid) line.copies) t (Modified (content_of line)) tt (map_state (λ c. Invalid) line.copies refl (λ c s. tt) states)
+      put_state p (map (λ c. Invalid) line.copies) t (Modified (content_of line)) (modified_state p (content_of line))
+      (map_state p (λ c. Invalid) line.copies refl (λ c s. invalid_state p) states)
 
-  write_states : (c : Copy) (t : ℕ) → HasStatesOf Mesi (on_write c t line)
+  write_states : (c : Copy) (t : ℕ) → HasStatesOf p (on_write c t line)
   write_states (Modified w) t = states
   write_states (Owned w) t = get_m_states t
   write_states (Exclusive w) t = states
   write_states (Shared w) t = get_m_states t
   write_states Invalid t = get_m_states t
 
-  evict_states : (c : Copy) (t : ℕ) → HasStatesOf Mesi (on_evict c t line)
-  evict_states (Modified w) t = put_state line.copies t Invalid tt states
-  evict_states (Owned w) t = put_state line.copies t Invalid tt states
-  evict_states (Exclusive w) t = put_state line.copies t Invalid tt states
-  evict_states (Shared w) t = put_state line.copies t Invalid tt states
+  evict_states : (c : Copy) (t : ℕ) → HasStatesOf p (on_evict c t line)
+  evict_states (Modified w) t = put_state p line.copies t Invalid (invalid_state p) states
+  evict_states (Owned w) t = put_state p line.copies t Invalid (invalid_state p) states
+  evict_states (Exclusive w) t = put_state p line.copies t Invalid (invalid_state p) states
+  evict_states (Shared w) t = put_state p line.copies t Invalid (invalid_state p) states
   evict_states Invalid t = states
 
-  written_states : (t w : ℕ) → HasStatesOf Mesi (line_after (table_of Mesi) (Store t 0 w) line)
-  written_states t w = put_state (line_to_write t line).copies t (Modified w) tt (write_states (copy_of line t) t)
+  written_states : (t w : ℕ) → HasStatesOf p (line_after (table_of p) (Store t 0 w) line)
+  written_states t w = put_state p (line_to_write t line).copies t (Modified w) (modified_state p w) (write_states (copy_of line t) t)
 
--- No request puts a copy in O.
-mesi_states : (line : CacheLine) → HasStatesOf Mesi line → (r : Request) → HasStatesOf Mesi (line_after (table_of Mesi) r line)
-mesi_states line states (Load t x) = load_states line states (copy_of line t) t
-mesi_states line states (Store t x w) = written_states line states t w
-mesi_states line states (Swap t x w) = written_states line states t w
-mesi_states line states (FetchAdd t x w) = written_states line states t (sum_of (content_of line) w)
-mesi_states line states (Evict t x) = evict_states line states (copy_of line t) t
-
-pub states_kept : (p : Protocol) (line : CacheLine) → HasStatesOf p line → (r : Request) → HasStatesOf p (line_after (table_of p) r line)
-states_kept Mesi line states r = mesi_states line states r
-states_kept Moesi line states r = λ u. tt
+  pub states_kept : (r : Request) → HasStatesOf p (line_after (table_of p) r line)
+  states_kept (Load t x) = load_states (copy_of line t) t
+  states_kept (Store t x w) = written_states t w
+  states_kept (Swap t x w) = written_states t w
+  states_kept (FetchAdd t x w) = written_states t (sum_of (content_of line) w)
+  states_kept (Evict t x) = evict_states (copy_of line t) t

@@ -86,15 +86,15 @@ module _ (t : ℕ) (line : CacheLine) (lt : t < 4) (sound : IsCoherentCacheLine 
   }
 
   -- Where the requestor is in E after a GetS, nobody else has a copy.
-  alone_here : (f : Copy → Copy) → f Invalid ≡ Invalid → (b : Bool) → any_held line.copies ≡ b
+  alone_here : (f : Copy → Copy) → f Invalid ≡ Invalid → (b : Bool) → (b ≡ false → any_held line.copies ≡ false)
       → (u : ℕ) → IsOnlyCopy (copy_from b (content_of line)) → f (copy_of line u) ≡ Invalid
   alone_here f invalid true e u own = absurd own
-  alone_here f invalid false e u own = ap f (none_held line.copies e u) ∙ invalid
+  alone_here f invalid false e u own = ap f (none_held line.copies (e refl) u) ∙ invalid
 
   -- A load without a copy: a GetS, after which the other copies are shared and the content is the same.
   pub get_s_loaded : (f : Copy → Copy) (m : ℕ)
       → SharesOthers f line → dirty_or m (map f line.copies) ≡ content_of line → copy_of line t ≡ Invalid
-      → (b : Bool) → any_held line.copies ≡ b
+      → (b : Bool) → (b ≡ false → any_held line.copies ≡ false)
       → Loaded (record { copies = set (map f line.copies) t (copy_from b (content_of line)); memory = m })
   get_s_loaded f m shared same mine b held =
       let v : ℕ = content_of line in
