@@ -1,7 +1,9 @@
 -- All choices, as they are visited one after another: what is still to come at a position of a path.
-use Rattle.std.proofs.Common.{◌≡◌, ℕ, zero, suc, ◌+◌, ◌-◌, ◌<◌, ◌≤◌, ◌==◌, false, List, [], ◌∷◌, ◌++◌, map, length, drop, Option, Some, None, refl, sym, ap}
+use Rattle.std.proofs.Common.{◌≡◌, ℕ, zero, suc, ◌+◌, ◌-◌, ◌<◌, ◌≤◌, ◌==◌, true, false, List, [], ◌∷◌, ◌++◌, map, length, drop, Option, Some, None, refl, sym}
+use Rattle.std.proofs.Common.{ap}
 use Rattle.std.proofs.Common.{ap₂, ◌∙◌, subst, inl, inr, slice_get, arith, append_assoc, append-nil, length-append, drop-cons, get_or}
 use Rattle.std.specs.Prelude.{Contains}
+use Rattle.std.proofs.lemmas.Bool.{eqb-true}
 use Rattle.std.specs.List.{flat_map}
 use Rattle.std.specs.Option.{option_to_list}
 use Rattle.std.proofs.lemmas.List.Folds.{flat_map-map}
@@ -11,7 +13,7 @@ use Rattle.lw_base.specs.Threads.{code_of}
 use Rattle.lw_base.proofs.api.Lists.{drop_all}
 use Rattle.lw_litmus.specs.Languages.{Language}
 use Rattle.lw_choices.specs.Choices.{IsForward, paths_on, paths_from, paths_of, choices_of, led}
-use Rattle.lw_choices.specs.Visits.{Visited, Refused, CanGoOn, paths_at, choices_along}
+use Rattle.lw_choices.specs.Visits.{Visited, Refused, IsVisitable, CanGoOn, paths_at, choices_along}
 use Rattle.lw_choices.proofs.api.Led.{led_within}
 use Rattle.lw_choices.proofs.FlatMaps.{flat_map-same, map-same, over_flat_map, map_of_flat_map}
 
@@ -125,6 +127,24 @@ module _ {S : Type 0} (language : Language S) where
   start_with_some (code ∷ program) choice path some no_choice no_path =
       ap₂ (λ (c : List (List ℕ)) (p : List ℕ). choices_along language (code ∷ program) c p 0) no_choice no_path
       ∙ ap (λ ps. flat_map (λ p. map (λ paths. p ∷ paths) (choices_of language program)) ps) (ap (λ (k : ℕ). paths_from language k code 0) (omega arith))
+
+  -- these can be visited
+  pub can_start : (program : List (List S)) (choice : List (List ℕ)) (path : List ℕ) → false ≡ (length program == 0) → choice ≡ [] → path ≡ []
+      → IsVisitable language program → CanGoOn language program choice path 0
+  can_start [] choice path some no_choice no_path visitable = absurd cc
+  can_start (code ∷ program) choice path some no_choice no_path visitable = record {
+    visitable = visitable;
+    thread = omega (arith, ap length no_choice);
+    begun = omega (arith, ap length no_path);
+    within = omega arith;
+    within_room = omega arith;
+  }
+
+  -- a program without threads has the one choice of no paths
+  pub start_with_none : (program : List (List S)) (choice : List (List ℕ)) → true ≡ (length program == 0) → choice ≡ []
+      → choice ∷ [] ≡ choices_of language program
+  start_with_none [] choice none no_choice = ap (λ c. c ∷ []) no_choice
+  start_with_none (code ∷ program) choice none no_choice = absurd (omega (arith, eqb-true (length (code ∷ program)) 0 (sym none)))
 
   module _ (program : List (List S)) (choice : List (List ℕ)) (path : List ℕ) (at : ℕ) (can : CanGoOn language program choice path at) where
     abbrev here : List S

@@ -17,7 +17,7 @@ use Rattle.lw_litmus.specs.Conflicts.{is_one}
 use Rattle.lw_litmus.specs.Languages.{Language}
 use Rattle.lw_litmus.specs.Operations.{target_of, goes_on, location_of}
 use Rattle.lw_orders.specs.Order.{is_decided}
-use Rattle.lw_orders.specs.Limits.{most_orders}
+use Rattle.lw_orders.specs.Limits.{most_open, most_orders}
 use Rattle.lw_choices.specs.declared.item.Item.{Item}
 use Rattle.lw_choices.specs.Choices.{IsForward, led_by, led, paths_on, paths_from, paths_of, choices_of}
 use Rattle.lw_choices.specs.Counts.{orders_at_choice, orders_of, total_of}
@@ -206,9 +206,9 @@ module _ {S : Type 0} (language : Language S) where
     each_one [] = refl
     each_one (paths ∷ choices) = let one = one_order paths in let rest = each_one choices in omega (arith, one, rest)
 
-    pub few_orders : All (IsForward language) program → sum_by (branches language) program ≤ 20 → total_of language program ≤ most_orders
+    pub few_orders : All (IsForward language) program → sum_by (branches language) program ≤ most_open → total_of language program ≤ most_orders
     few_orders forward few =
         let total = each_one (choices_of language program) in
         let choices = few_choices program forward in
-        let most : 2 ^ sum_by (branches language) program ≤ 2 ^ 20 = pow_mono few in
+        let most : 2 ^ sum_by (branches language) program ≤ most_orders = pow_mono few in
         omega (arith, total, choices, most)

@@ -64,6 +64,18 @@ module _ {S : Type 0} (language : Language S) where
         sym (append-nil old) ∙ (ap (λ ys. old ++ ys) (sym (ap (λ ps. items_from language t
         (drop t program) (map view ps)) (drop_all t paths l) ∙ no_paths t (drop t program))) ∙ h)
 
+    -- the paths left are of no thread
+    pub threads_done : (t : ℕ) (old whole : List Item) → length program ≤ t
+        → old ++ items_from language t (drop t program) (map view (drop t paths)) ≡ whole → old ≡ whole
+    threads_done t old whole l h =
+        sym (append-nil old) ∙ (ap (λ codes. old ++ items_from language t codes (map view (drop t paths))) (sym (drop_all t program l)) ∙ h)
+
+  -- all items were looked at
+  pub fixed_done : (program : List (List S)) (items : List Item) (n t : ℕ) (last : Last) (old whole : List (ℕ × ℕ)) → length items ≤ n
+      → old ++ fixed_from language program n t last (drop n items) ≡ whole → old ≡ whole
+  fixed_done program items n t last old whole l h =
+      sym (append-nil old) ∙ (ap (λ rest. old ++ fixed_from language program n t last rest) (sym (drop_all n items l)) ∙ h)
+
   -- the fixed pairs of an item
   pub fixed_pushed : (program : List (List S)) (items : List Item) (n t : ℕ) (before last next : Last)
       (a : Item) (waits : Bool) (old new whole : List (ℕ × ℕ)) → n < length items → a ≡ get_or items n a

@@ -6,6 +6,7 @@ use Rattle.std.proofs.lemmas.Bool.{cases_lt}
 use Rattle.std.proofs.lemmas.List.{length-set, get_or-set_same, get_or-set_other}
 use Rattle.std.specs.Option.{option_to_list}
 use Rattle.std.proofs.lemmas.Option.{slice_get_within}
+use Rattle.lw_litmus.specs.Limits.{most_instructions}
 use Rattle.lw_litmus.specs.Languages.{Language}
 use Rattle.lw_litmus.specs.Flow.{IsPathFrom, Follows}
 use Rattle.lw_choices.specs.Choices.{IsForward, IsChoice, led}
@@ -147,6 +148,15 @@ module _ {S : Type 0} (language : Language S) where
       more [] is = absurd is
       more (path ∷ paths) is = omega (arith, together code others path paths, first.none_more path is.0, rest.none_more paths is.1)
 
+  -- a program without threads has one choice, which has no items
+  pub most_of_none : (program : List (List S)) → length program ≡ 0 → IsMost (IsChoice language program) (items_at_choice language program) 0
+  most_of_none [] none = record { none_more = no_more; one = []; is_one = tt; reached = refl }
+    where
+      no_more : (paths : List (List ℕ)) → IsChoice language [] paths → items_at_choice language [] paths ≤ 0
+      no_more [] is = omega arith
+      no_more (path ∷ paths) is = absurd is
+  most_of_none (code ∷ others) none = absurd (omega (arith, none))
+
 -- ---- the positions behind one
 
 pub first_behind : (xs : List ℕ) (a : ℕ) (o : Option ℕ) → (a ∷ option_to_list o) ≡ xs → Contains xs a
@@ -226,6 +236,12 @@ module _ {S : Type 0} (language : Language S) (code : List S) where
   within_room at n s is forward short c =
       let beyond = led_within language code at n s forward is c in
       omega (arith, beyond.1, short)
+
+-- the first thread
+pub visitable_first : {S : Type 0} (language : Language S) (program : List (List S)) (code : List S) (others : List (List S)) → program ≡ code ∷ others
+    → IsVisitable language program → (length code ≤ most_instructions) × IsForward language code
+visitable_first language program code others are is =
+    let all = subst (IsVisitable language) are is in (all.short 0 [] (omega arith), all.forward 0 [] (omega arith))
 
 -- the threads behind the first
 pub visitable_rest : {S : Type 0} (language : Language S) (program : List (List S)) (code : List S) (others : List (List S)) → program ≡ code ∷ others

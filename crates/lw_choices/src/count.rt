@@ -50,7 +50,7 @@ pub fn constrained<S: Statement, A: Allocator, B: Allocator>(
     Ok(Items::new(items.len(), fixed, conflicts))
 }
 
-/// In how many ways the open conflicts of items can each be taken one way round or the other; None above 2 to the 20.
+/// In how many ways the open conflicts of items can each be taken one way round or the other; None above the most orders.
 /// Where nothing conflicts, there is one, and no pairs are made.
 fn count_orders<S: Statement, A: Allocator + Copy, B: Allocator>(
     alloc: A,

@@ -11,4 +11,4 @@ most_open = 20
 
 -- the orders that are given: each open conflict can be taken one way round or the other
 abbrev pub most_orders : ℕ
-most_orders = 2 ^ 20
+most_orders = 2 ^ most_open

@@ -1,4 +1,5 @@
 use Rattle.std.proofs.Common.{◌++◌, ◌∙◌, ap, ap₂, append_assoc, sym}
+use Rattle.std.proofs.lemmas.List.{append-nil, nil_from_length}
 use Rattle.lw_choices.specs.inner.Accesses.{conflicts_with, conflicts_among}
 use Rattle.lw_choices.proofs.AccessPairs.{conflicts_are}
 use Rattle.lw_choices.proofs.conflicts.conflicts_of.Goals as goal
@@ -15,3 +16,9 @@ loop-first-preserved g c =
     ap (λ pairs. pairs ++ conflicts_among rest) c.in_ok-push_conflicts.ensures
     ∙ (append_assoc found (conflicts_with c.in-Some.first.now rest) (conflicts_among rest)
     ∙ (ap (λ later. found ++ conflicts_among later) (sym c.in-Some.ensures.cases.0) ∙ c.loop-first.invariant))
+
+pub returns : goal.returns
+returns g c =
+    let found = c.loop-first.pairs.items in
+    sym (append-nil found)
+    ∙ (ap (λ later. found ++ conflicts_among later) (sym (nil_from_length c.loop-first.later.now c.in_default.ensures.cases)) ∙ c.loop-first.invariant)

@@ -1,5 +1,6 @@
 use Rattle.std.proofs.Common.{ℕ, Bool, if◌then◌else◌, [], ◌∷◌, ◌++◌, ◌∙◌, Vec, ap, sym}
-use Rattle.std.proofs.lemmas.List.{append-nil}
+use Rattle.std.proofs.lemmas.List.{append-nil, drop_all}
+use Rattle.lw_choices.specs.inner.Accesses.{conflicts_with}
 use Rattle.lw_choices.proofs.AccessPairs.{conflict_pushed}
 use Rattle.lw_choices.proofs.conflicts.push_conflicts.Goals as goal
 use Rattle.lw_choices.proofs.conflicts.push_conflicts.Goals.{then-meets+in_ok-push, else-meets}
@@ -18,3 +19,11 @@ loop-second-preserved g c =
           )
       | else-meets w ↦ ap items_in w.pairs-is ∙ (sym (append-nil found) ∙ ap pushed (sym (sym c.meets.ensures ∙ w.if-meets.false)))
     ])
+
+pub returns : goal.returns
+returns g c =
+    let found = c.loop-second.pairs.items in
+    let later = c.args.later.now in
+    sym (append-nil found)
+    ∙ (ap (λ rest. found ++ conflicts_with c.args.first.now rest) (sym (drop_all c.loop-second.second-index later c.loop-second-test.false))
+    ∙ c.loop-second.invariant)

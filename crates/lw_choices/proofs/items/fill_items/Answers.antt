@@ -1,7 +1,8 @@
-use Rattle.std.proofs.Common.{◌≡◌, ◌++◌, ap₂, arith}
-use Rattle.lw_choices.specs.Items.{path_items}
+use Rattle.std.proofs.Common.{◌≡◌, ◌++◌, ◌∙◌, sym, ap, ap₂, length, arith}
+use Rattle.std.proofs.lemmas.Bool.{ltb-false}
+use Rattle.lw_choices.specs.Items.{path_items, items_of, items_from}
 use Rattle.lw_choices.specs.Views.{path_of}
-use Rattle.lw_choices.proofs.Pushed.{some_is, some_there, thread_pushed, paths_done}
+use Rattle.lw_choices.proofs.Pushed.{some_is, some_there, thread_pushed, paths_done, threads_done}
 use Rattle.lw_choices.proofs.items.fill_items.Goals as goal
 
 pub loop-thread-preserved : goal.loop-thread-preserved
@@ -29,3 +30,11 @@ overflow_cast-thread g c = omega (arith, c.loop-thread-test.true, c.loop-thread.
 pub unwrap-cpu-requires : goal.unwrap-cpu-requires
 unwrap-cpu-requires g c =
     some_there c.new.result c.loop-thread.thread 4 c.new.ensures (omega (arith, c.loop-thread-test.true, c.loop-thread.invariant.few))
+
+pub returns-in_default : goal.returns-in_default
+returns-in_default g c =
+    threads_done g.S.Statement.language path_of c.args.program.now c.as_slice-path-items.result.now c.loop-thread.thread c.loop-thread.items.items _
+    (ltb-false c.loop-thread.thread (length c.args.program.now) (sym c.in_default.ensures.lookup.0)) c.loop-thread.invariant.items
+
+pub bounds-path-items-thread : goal.bounds-path-items-thread
+bounds-path-items-thread g c = c.loop-thread-test.true

@@ -8,3 +8,6 @@ returns-clause-within g c = on_ok_weaker c.check_orders.result (λ orders. (c.in
 pub returns-clause-err : goal.returns-clause-err
 returns-clause-err g c =
     IfErr-weaker c.check_orders.result _ _ (limit_told g.S.Statement.language c.args.program.now c.in_ok-check_items.ensures.few) c.check_orders.ensures.err
+
+pub returns-then-has_few_orders-clause-within : goal.returns-then-has_few_orders-clause-within
+returns-then-has_few_orders-clause-within g c = (c.in_ok-check_items.ensures.few, c.has_few_orders.ensures c.if-has_few_orders.true)

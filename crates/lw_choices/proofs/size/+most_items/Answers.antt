@@ -1,7 +1,12 @@
-use Rattle.std.proofs.Common.{rules, ◌<◌, length}
+use Rattle.std.proofs.Common.{arith, rules, ap, ◌<◌, length}
 use Rattle.lw_choices.specs.Visits.{IsVisitable}
-use Rattle.lw_choices.proofs.Sizes.{most_of_more, visitable_rest}
+use Rattle.lw_choices.proofs.Sizes.{most_of_more, most_of_none, visitable_first, visitable_rest}
 use Rattle.lw_choices.proofs.size.+most_items.Goals as goal
+
+pub most_of_thread-requires : goal.most_of_thread-requires
+most_of_thread-requires g t c =
+    let first = visitable_first g.S.Statement.language c.args.program.now c.in-Some.code.now c.in-Some.others.now c.in-Some.ensures.cases.0 c.requires in
+    record { short = first.0; forward = first.1 }
 
 pub most_items-requires : goal.most_items-requires
 most_items-requires g t c κs within =
@@ -10,7 +15,19 @@ most_items-requires g t c κs within =
     let fewer : length c.in-Some.others.now < length c.args.program.now = rest.1 in
     search rules
 
+pub overflow_add-result : goal.overflow_add-result
+overflow_add-result g t c = omega (arith, ap length c.in-Some.ensures.cases.0, c.requires.few, c.most_of_thread.ensures.few, c.most_items.ensures.few)
+
 pub returns-in-Some-clause-most : goal.returns-in-Some-clause-most
 returns-in-Some-clause-most g t c =
     most_of_more g.S.Statement.language c.args.program.now c.in-Some.code.now
     c.in-Some.others.now c.most_of_thread.result c.most_items.result c.in-Some.ensures.cases.0 c.most_of_thread.ensures.most c.most_items.ensures.most
+
+pub returns-in-Some-clause-few : goal.returns-in-Some-clause-few
+returns-in-Some-clause-few g t c = omega (arith, ap length c.in-Some.ensures.cases.0, c.most_of_thread.ensures.few, c.most_items.ensures.few)
+
+pub returns-in-None-clause-most : goal.returns-in-None-clause-most
+returns-in-None-clause-most g t c = most_of_none g.S.Statement.language c.args.program.now c.in-None.ensures.cases
+
+pub returns-in-None-clause-few : goal.returns-in-None-clause-few
+returns-in-None-clause-few g t c = omega arith
