@@ -34,3 +34,17 @@ compile_thread-requires-clause-short g c = (thread_known g c).short
 
 pub compile_thread-requires-clause-forward : goal.compile_thread-requires-clause-forward
 compile_thread-requires-clause-forward g c = (thread_known g c).forward
+
+pub bounds-stmts-items-stmts-index : goal.bounds-stmts-items-stmts-index
+bounds-stmts-items-stmts-index g c = c.loop-stmts-test.true
+
+pub returns-clause-as_many : goal.returns-clause-as_many
+returns-clause-as_many g c =
+    omega (arith, c.loop-stmts.invariant.as_many, c.loop-stmts-test.false, c.loop-stmts.auto.stmts-index-end, ap length c.as_slice-stmts-items.ensures)
+
+pub returns-clause-as_many_starts : goal.returns-clause-as_many_starts
+returns-clause-as_many_starts g c =
+    omega (arith, c.loop-stmts.invariant.as_many_starts, c.loop-stmts-test.false, c.loop-stmts.auto.stmts-index-end, ap length c.as_slice-stmts-items.ensures)
+
+pub returns-clause-threads : goal.returns-clause-threads
+returns-clause-threads g c = c.loop-stmts.invariant.each

@@ -1,6 +1,7 @@
-use Rattle.std.proofs.Common.{◌≡◌, ◌+◌, ℕ, arith, length, refl, sym, ◌∙◌, subst}
+use Rattle.std.proofs.Common.{◌≡◌, ◌+◌, ℕ, ap, arith, length, refl, sym, ◌∙◌, subst}
 use Rattle.std.specs.Prelude.{false, slice_index_or}
 use Rattle.std.proofs.lemmas.Option.{slice_get_read}
+use Rattle.lw_litmus.specs.Operations.{target_of}
 use Rattle.lw_litmus.specs.Sources.{source_operation}
 use Rattle.lw_fence.specs.inner.Marks.{may_wait}
 use Rattle.lw_fence.proofs.Marks.{Marked, mark_step, marked_behind_stores, given_back}
@@ -25,3 +26,21 @@ returns-clause-behind g c =
     let marks = c.loop-place.marks.items in
     let passed : c.loop-place.place ≡ length code = omega (arith, c.loop-place-test.false, c.loop-place.auto.place-end) in
     marked_behind_stores code c.requires.forward marks (subst (λ (k : ℕ). Marked code k marks) passed c.loop-place.invariant)
+
+pub overflow_add-code : goal.overflow_add-code
+overflow_add-code g c = omega (arith, c.requires.short)
+
+pub bounds-code-place : goal.bounds-code-place
+bounds-code-place g c = c.loop-place-test.true
+
+pub pass_operation-requires : goal.pass_operation-requires
+pass_operation-requires g c =
+    let at = slice_get_read c.args.code.now _ c.loop-place.place c.index-code-place.result refl c.loop-place-test.true c.index-code-place.is in
+    let many = ap length c.deref_mut.ensures.value in record {
+      next = omega (arith, many, c.loop-place.invariant.as_many, c.loop-place-test.true);
+      target = λ x is. omega (arith, many, c.loop-place.invariant.as_many, c.requires.forward c.loop-place.place c.index-code-place.result at x
+          (ap target_of (sym c.operation.ensures) ∙ is));
+    }
+
+pub returns-clause-as_many : goal.returns-clause-as_many
+returns-clause-as_many g c = omega (arith, c.loop-place.invariant.as_many)

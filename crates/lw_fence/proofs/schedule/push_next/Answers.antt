@@ -51,3 +51,11 @@ returns g c =
     let pushed : List Event → Type 0 =
     λ es. IfOk c.push_statement.result (λ u. c.push_statement.new.events.items ≡ c.args.events.now.items ++ es) in
     subst pushed (sym events) c.push_statement.ensures
+
+pub bounds-code-place : goal.bounds-code-place
+bounds-code-place g c =
+    let h = has_start _ _ _ _ c.args.cpu _ c.args.place _ _ c.requires.compiled c.requires.there c.as_slice-2.ensures
+    c.index-2.ensures.value c.index-as_slice-index-2.is c.as_slice-starts.ensures in
+    let code = code_read _ _ _ _ _ _ c.as_slice.ensures c.index.ensures.value h.within c.index-as_slice-index.is
+    c.as_slice-code.ensures in
+    omega (arith, c.requires.there, ap length code)

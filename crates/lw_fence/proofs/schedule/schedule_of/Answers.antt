@@ -1,4 +1,4 @@
-use Rattle.std.proofs.Common.{◌≡◌, ◌+◌, ◌++◌, ◌∙◌, ℕ, List, map, drop, ap, sym, subst}
+use Rattle.std.proofs.Common.{◌≡◌, ◌+◌, ◌++◌, ◌∙◌, ℕ, List, map, drop, ap, ap₂, sym, subst}
 use Rattle.std.proofs.lemmas.List.{append-nil, drop_all}
 use Rattle.std.proofs.lemmas.Option.{slice_get_within}
 use Rattle.lw_base.specs.declared.event.Event.{Event}
@@ -41,6 +41,29 @@ loop-cpu-preserved g c =
           one_further _ _ _ _ c.loop-cpu-test.true c.cpu-item.is _ _ _ _ _ _ _ c.position-place.ensures step c.in_ok-push_next.ensures
           c.loop-cpu.invariant.so_far;
     }
+
+pub loop-cpu-init : goal.loop-cpu-init
+loop-cpu-init g c =
+    let program = c.args.source.now.threads in
+    let order = c.args.order.now in
+    let begun = λ (s : State). (end : State) × SourceRan program (map Step order) s end in
+    record {
+      program = c.in_ok-run.ensures.program;
+      possible = subst begun (sym c.in_ok-run.ensures.state) c.requires.possible;
+      so_far = ap₂ (λ (es : List Event) (s : State). es ++ schedule program c.args.compiled.now.starts order s) c.new-events.ensures.items
+          c.in_ok-run.ensures.state;
+    }
+
+pub bounds-order-cpu-index : goal.bounds-order-cpu-index
+bounds-order-cpu-index g c = c.loop-cpu-test.true
+
+pub returns-clause-schedule : goal.returns-clause-schedule
+returns-clause-schedule g c =
+    let events = c.loop-cpu.events.items in
+    let rest = λ (order : List ℕ). schedule c.args.source.now.threads c.args.compiled.now.starts order c.loop-cpu.run.state in
+    sym (append-nil events)
+    ∙ ap (λ (order : List ℕ). events ++ rest order) (sym (drop_all c.loop-cpu.cpu-index c.args.order.now c.loop-cpu-test.false))
+    ∙ c.loop-cpu.invariant.so_far
 
 pub returns-clause-replays : goal.returns-clause-replays
 returns-clause-replays g c =
