@@ -87,6 +87,26 @@ fn gather_items<S: Statement, A: Allocator + Copy, B: Allocator, R: OrderRunner<
     if conflicts.is_empty() {
         return gather_one(program, runner, items, found);
     }
+    gather_conflicting(alloc, program, runner, items, conflicts, found)
+}
+
+/// Runs each order that is given for items with these conflicts.
+fn gather_conflicting<S: Statement, A: Allocator + Copy, B: Allocator, R: OrderRunner<A>>(
+    alloc: A,
+    program: &[Sequence<S, B>],
+    runner: &mut R,
+    items: &[Item],
+    conflicts: Vec<(u8, u8), A>,
+    found: &mut Findings<A>,
+) -> Result<(), ListFault>
+    requires few { length items.now ≤ most_items }
+    requires conflicts { conflicts.items ≡ (constraints_of S.language program.now items.now).conflicts }
+    ensures same { R.test runner.new ≡ R.test runner.old }
+    ensures gathered { OnOk result (Gathers
+        (EndsOfItems S.language (R.ends (R.test runner.old)) program.now items.now)
+        (R.leads (R.test runner.old)) found.old found.new) }
+    ensures err { IfErr result (TellsOfGiven S.language program.now items.now) }
+{
     let constraints = constrained(alloc, program, items, conflicts)?;
     let Some(_orders) = count(alloc, &constraints)? else {
         return Err(ListFault::TooManyOrders);

@@ -48,24 +48,7 @@ impl<A: Allocator> Findings<A> {
         self.found.contains_key(outcome)
     }
 
-    /// Adds an outcome with its schedule. Where the outcome was found before, it keeps its first schedule.
-    pub fn add(
-        &mut self,
-        outcome: Outcome<A>,
-        schedule: Sequence<Event, A>,
-    ) -> Result<(), AllocError>
-        ensures known { OnOk result (Contains (outcomes_of self.old) outcome → self.new ≡ self.old) }
-        ensures added { OnOk result
-            (¬ Contains (outcomes_of self.old) outcome → self.new ≡ self.old ++ (outcome, schedule) ∷ []) }
-        ensures err { OnErr result (self.new ≡ self.old) }
-    {
-        if self.contains(&outcome) {
-            return Ok(());
-        }
-        self.add_new(outcome, schedule)
-    }
-
-    /// Adds an outcome that was not found before, with its schedule.
+    /// Adds an outcome that was not found before, with its schedule, which it keeps.
     pub fn add_new(
         &mut self,
         outcome: Outcome<A>,

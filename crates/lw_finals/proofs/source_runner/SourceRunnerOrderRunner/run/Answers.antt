@@ -1,13 +1,75 @@
-use Rattle.std.proofs.Common.{◌<◌, List, length, ap, sym, subst}
+use Rattle.std.proofs.Common.{◌≡◌, ◌∙◌, ◌<◌, ℕ, List, Ok, length, ap, sym, subst, true, true≢false}
 use Rattle.lw_litmus.specs.declared.stmt.Stmt.{Stmt}
-use Rattle.lw_interleaving.specs.Runs.{State}
+use Rattle.lw_base.specs.Outcomes.{Final}
+use Rattle.lw_interleaving.specs.Runs.{State, is_source_final, outcome_of}
+use Rattle.lw_choices.specs.declared.item.Item.{Item}
 use Rattle.lw_litmus.specs.Tests.{SourceTest}
 use Rattle.lw_litmus.specs.Views.{source_of}
 use Rattle.lw_finals.specs.SourceRuns.{CarriedOut, system_of, StaysAndEnds}
 use Rattle.lw_finals.specs.inner.Gathered.{Running}
 use Rattle.lw_finals.specs.inner.SourceRunners.{CompiledSource}
-use Rattle.lw_finals.proofs.OrderSteps.{ran_off}
+use Rattle.lw_finals.proofs.OrderSteps.{ran_off, ran_on, ends_alone, ends_so}
 use Rattle.lw_finals.proofs.source_runner.SourceRunnerOrderRunner.run.Goals as goal
+
+-- an item leads to one state
+led_once : (program : List (List Stmt)) (item : Item) (now next other : State) → CarriedOut program item now next → CarriedOut program item now other
+    → other ≡ next
+led_once program item now next other one two = let both : Ok other ≡ Ok next = sym two.1 ∙ one.1 in cc
+
+-- what a run ends with, for the test and the outcome that these are
+ends_of : (items : List Item) (order : List ℕ) (test given : SourceTest) (o end : Final) → test ≡ given → end ≡ o
+    → StaysAndEnds test items order o → ((p : Final) → StaysAndEnds test items order p → p ≡ o)
+    → StaysAndEnds given items order end × ((p : Final) → StaysAndEnds given items order p → p ≡ end)
+ends_of items order test given o end same is run alone = (
+  subst (λ (t : SourceTest). StaysAndEnds t items order end) same (subst (λ (p : Final). StaysAndEnds test items order p) (sym is) run),
+  λ p h. alone p (subst (λ (t : SourceTest). StaysAndEnds t items order p) (sym same) h) ∙ sym is,
+)
+
+pub bounds-items-from : goal.bounds-items-from
+bounds-items-from g c = rw c.from.ensures (c.requires c.loop-number.number-index 0 c.loop-number-test.true)
+
+pub loop-number-preserved : goal.loop-number-preserved
+loop-number-preserved g c =
+    let source = c.self.inside.source.now in
+    let item = c.index-items-from.result in
+    let now = c.loop-number.self-inside.run.state in
+    let next = c.carry_out.new.run.state in
+    let carried = subst (λ (p : List (List Stmt)). CarriedOut p item now next) c.loop-number.invariant.program
+    (c.carry_out.ensures.done c.if-not-carry_out.false) in
+    record {
+      source = c.loop-number.invariant.source;
+      compiled = c.loop-number.invariant.compiled;
+      end = c.loop-number.invariant.end;
+      program = c.carry_out.ensures.program ∙ c.loop-number.invariant.program;
+      start = c.carry_out.ensures.start ∙ c.loop-number.invariant.start;
+      many = c.carry_out.ensures.threads ∙ c.loop-number.invariant.many;
+      words = c.carry_out.ensures.words ∙ c.loop-number.invariant.words;
+      ran = ran_on (system_of (source_of source)) c.args.items.now c.args.order.now c.loop-number.number-index c.from.result 0 item now next
+          c.loop-number-test.true c.from.ensures (rw c.from.ensures (c.requires c.loop-number.number-index 0 c.loop-number-test.true))
+          c.index-items-from.is carried (λ other. led_once source.threads item now next other carried) c.loop-number.invariant.ran;
+    }
+
+-- all items were carried out, but the state is not final
+pub returns-then-not-is_final-clause-ends : goal.returns-then-not-is_final-clause-ends
+returns-then-not-is_final-clause-ends g c o stays =
+    let source = source_of c.self.inside.source.now in
+    let run : StaysAndEnds source c.args.items.now c.args.order.now o =
+    subst (λ (s : SourceTest). StaysAndEnds s c.args.items.now c.args.order.now o)
+        (sym (ap (λ (r : Running CompiledSource). r.test.source) c.self.view_is)) stays in
+    let at_end = ends_alone (system_of source) c.args.items.now c.loop-number-test.false c.loop-number.invariant.ran o run in
+    let final = subst (λ (p : List (List Stmt)). is_source_final p c.loop-number.self-inside.run.state ≡ true) (sym c.loop-number.invariant.program) at_end.1 in
+    true≢false (sym final ∙ sym c.is_final.ensures ∙ c.if-not-is_final.true)
+
+pub returns-clause-ends : goal.returns-clause-ends
+returns-clause-ends g c =
+    let source = source_of c.self.inside.source.now in
+    let now = c.loop-number.self-inside.run.state in
+    let final = subst (λ (p : List (List Stmt)). is_source_final p now ≡ true) c.loop-number.invariant.program
+    (sym c.is_final.ensures ∙ c.if-not-is_final.false) in
+    ends_of c.args.items.now c.args.order.now source c.args.self.now.test.source (outcome_of now) c.write_outcome.new.outcome
+    (ap (λ (r : Running CompiledSource). r.test.source) c.self.view_is) c.write_outcome.ensures
+    (ends_so (system_of source) c.args.items.now c.loop-number-test.false c.loop-number.invariant.ran final)
+    (λ o run. (ends_alone (system_of source) c.args.items.now c.loop-number-test.false c.loop-number.invariant.ran o run).0)
 
 -- an item could not be carried out
 pub returns-then-not-carry_out-clause-ends : goal.returns-then-not-carry_out-clause-ends

@@ -89,3 +89,6 @@ returns-clause-ends g c =
     (ap (λ (r : Running ProgramTest). r.test) c.self.view_is) c.write_outcome.ensures
     (ends_so system c.args.items.now c.loop-number-test.false c.loop-number.invariant.ran.first final)
     (λ o run. (ends_alone system c.args.items.now c.loop-number-test.false c.loop-number.invariant.ran.first o run).0)
+
+pub bounds-items-from : goal.bounds-items-from
+bounds-items-from g c = rw c.from.ensures (c.requires c.loop-number.number-index 0 c.loop-number-test.true)
