@@ -1,18 +1,43 @@
 -- How many states make the proposition true, and how many do not.
-use Rattle.std.proofs.Common.{◌≡◌, ℕ, suc, ◌-◌, Bool, true, false, not, List, [], ◌∷◌, length, map, refl, ap, cond, arith}
+use Rattle.std.proofs.Common.{◌≡◌, ℕ, suc, ◌+◌, ◌-◌, ◌<◌, ◌≤◌, Bool, true, false, not, List, [], ◌∷◌, length, map, take, get_or, refl, sym, ap, ◌∙◌, cond}
+use Rattle.std.proofs.Common.{arith}
 use Rattle.std.specs.Prelude.{filter}
-use Rattle.std.proofs.lemmas.List.{length-map}
-use Rattle.std.proofs.lemmas.List.Filters.{length-filter_both}
+use Rattle.std.specs.Int.{from_bool}
+use Rattle.std.proofs.lemmas.List.{length-map, take_all}
+use Rattle.std.proofs.lemmas.List.Filters.{length-filter_both, length-filter_more}
 use Rattle.lw_report.specs.Judgement.{positive, negative}
 use Rattle.lw_report.specs.States.{Shown, ListedState, shown_of}
 
--- of states that are listed
-pub shown_counted : (states : List ListedState) → length (filter (λ (s : ListedState). s.holds) states) ≡ positive (map shown_of states)
-shown_counted [] = refl
-shown_counted (s ∷ states) =
+pub one_at_most : (b : Bool) (n : ℕ) → n ≡ from_bool b → n ≤ 1
+one_at_most true n e = omega (arith, e)
+one_at_most false n e = omega (arith, e)
+
+number_of : (b : Bool) → from_bool b ≡ cond b 1 0
+number_of true = refl
+number_of false = refl
+
+-- one state more
+pub counted_more : (states : List ListedState) (k : ℕ) (s : ListedState) (b : Bool) (count n : ℕ) → k < length states → s ≡ get_or states k s
+    → b ≡ s.holds → count ≡ length (filter (λ (t : ListedState). t.holds) (take k states)) → n ≡ from_bool b
+    → count + n ≡ length (filter (λ (t : ListedState). t.holds) (take (k + 1) states))
+counted_more states k s b count n lt is is_b before added =
+    let one : n ≡ cond (get_or states k s).holds 1 0 = added ∙ ap from_bool (is_b ∙ ap (λ (t : ListedState). t.holds) is) ∙ number_of
+    (get_or states k s).holds in
+    ap (λ (m : ℕ). m + n) before ∙ ap (λ (m : ℕ). length (filter (λ (t : ListedState). t.holds) (take k states)) + m) one
+    ∙ sym (length-filter_more (λ (t : ListedState). t.holds) states k s lt)
+
+counted : (states : List ListedState) → length (filter (λ (s : ListedState). s.holds) states) ≡ positive (map shown_of states)
+counted [] = refl
+counted (s ∷ states) =
     elim s.holds as (λ (b : Bool). length (cond b (s ∷ filter (λ (t : ListedState). t.holds) states) (filter (λ (t : ListedState). t.holds) states)) ≡
     length (cond b (shown_of s ∷ filter (λ (t : Shown). t.holds) (map shown_of states)) (filter (λ (t : Shown). t.holds) (map shown_of states))))
-    [ true ↦ ap (λ (n : ℕ). suc n) (shown_counted states) | false ↦ shown_counted states ]
+    [ true ↦ ap (λ (n : ℕ). suc n) (counted states) | false ↦ counted states ]
+
+-- all of them
+pub shown_counted : (states : List ListedState) (k count : ℕ) → length states ≤ k → count ≡ length (filter (λ (t : ListedState). t.holds) (take k states))
+    → count ≡ positive (map shown_of states)
+shown_counted states k count le is =
+    is ∙ ap (λ (l : List ListedState). length (filter (λ (t : ListedState). t.holds) l)) (take_all k states le) ∙ counted states
 
 -- the others
 pub others_counted : (states : List ListedState) (count : ℕ) → count ≡ positive (map shown_of states) → length states - count ≡ negative (map shown_of states)

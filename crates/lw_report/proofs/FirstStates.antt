@@ -1,5 +1,6 @@
 -- Of states in order, the first of those with the same words.
-use Rattle.std.proofs.Common.{◌≡◌, ℕ, ◌-◌, ◌<◌, ◌≤◌, ◌⊎◌, inl, inr, true, false, List, [], ◌∷◌, ◌++◌, length, get_or, refl, sym, ap, ◌∙◌, subst, arith}
+use Rattle.std.proofs.Common.{append-nil, ◌≡◌, ℕ, ◌-◌, ◌<◌, ◌≤◌, ◌⊎◌, inl, inr, true, false, List, [], ◌∷◌, ◌++◌, length, get_or, refl, sym, ap, ◌∙◌, subst}
+use Rattle.std.proofs.Common.{arith}
 use Rattle.std.proofs.Common.{append_assoc, length-append}
 use Rattle.std.specs.Prelude.{All, Contains, Option, None, Some, slice_get, nat_eq}
 use Rattle.std.specs.Cmp.Lexicographic.{slice_cmp, same_text, other_text}
@@ -11,7 +12,7 @@ use Rattle.std.specs.declared.cmp.Ordering.TheVariants.{Less, Equal, Greater}
 use lib.Pointwise.{pointwise}
 use Rattle.std.proofs.lemmas.Bool.{cases_Bool, cases_lt, lt-ltb}
 use Rattle.std.proofs.lemmas.Cmp.{nat_cmp_total, nat_list_cmp_total, on_total, then_total}
-use Rattle.std.proofs.lemmas.List.{append-nil, get_or_append_left}
+use Rattle.std.proofs.lemmas.List.{get_or_append_left}
 use Rattle.std.proofs.Math.Seq.{get_or-append_seam}
 use Rattle.std.proofs.lemmas.List.Elements.{All-weaker, All-push, All-contains, Contains-append_left, Contains-push, Contains-push_cases}
 use Rattle.std.proofs.lemmas.List.Quantifiers.{all_pairs_push}
@@ -182,5 +183,6 @@ thinned_more all rest states after x up t known added =
     next (inl last) = subst (AreFirstStates (t.done ++ x ∷ [])) (sym (known last)) (first_known t.done states x t.firsts before last)
     next (inr other) = subst (AreFirstStates (t.done ++ x ∷ [])) (sym (added other)) (first_added t.done states x t.firsts before other)
 
-pub thinned_all : (all states : List ListedState) → Thinned all [] states → AreFirstStates all states
-thinned_all all states t = subst (λ (l : List ListedState). AreFirstStates l states) (sym (append-nil t.done) ∙ t.seam) t.firsts
+pub thinned_all : (all rest states : List ListedState) (n : ℕ) → n ≡ length rest → n ≡ 0 → Thinned all rest states → AreFirstStates all states
+thinned_all all [] states n many none t = subst (λ (l : List ListedState). AreFirstStates l states) (sym (append-nil t.done) ∙ t.seam) t.firsts
+thinned_all all (x ∷ rest) states n many none t = absurd (omega (arith, many, none))

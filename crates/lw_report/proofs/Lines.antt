@@ -1,22 +1,27 @@
 -- The lines of states, and of what is told of them.
-use Rattle.std.proofs.Common.{◌≡◌, ℕ, ◌<◌, ◌≤◌, ◌+◌, List, [], ◌∷◌, ◌++◌, length, map, min, take, drop, get_or, refl, sym, ap, ◌∙◌, subst, append_assoc, codes}
-use Rattle.std.proofs.Common.{arith}
-use Rattle.std.specs.Prelude.{zip, All}
+use Rattle.std.proofs.Common.{◌≡◌, ℕ, suc, slice_get, Some, ◌<◌, ◌≤◌, ◌+◌, List, [], ◌∷◌, ◌++◌, length, map, min, take, drop, get_or, refl, sym, ap, ◌∙◌}
+use Rattle.std.proofs.Common.{append_assoc, codes}
+use Rattle.std.proofs.Common.{length-take, arith}
+use Rattle.std.specs.Prelude.{zip}
 use Rattle.std.specs.List.{flat_map}
 use Rattle.std.specs.Fmt.{decimal}
 use Rattle.std.proofs.lemmas.List.{length-map, map-append, take_more, take_all}
+use Rattle.std.proofs.lemmas.Option.{get_or_from_slice_get}
 use Rattle.std.proofs.Math.Nat.{min-le_left, min-le_right}
-use Rattle.std.proofs.lemmas.List.Elements.{All-get_or, All-rest}
 use Rattle.std.proofs.lemmas.Grind.{get_or_default_zero}
 use Rattle.std.proofs.lemmas.Slice.Zip.{length-zip, get_or-zip}
 use Rattle.lw_base.proofs.api.Writing.{items_more, items_all}
 use Rattle.lw_base.specs.Types.{Bytes}
+use Rattle.lw_base.specs.Registers.{register_name}
+use Rattle.lw_base.specs.ConditionTexts.{condition_text}
 use Rattle.lw_base.specs.Heads.{TestHead}
 use Rattle.lw_base.specs.Texts.{joined}
 use Rattle.lw_base.specs.declared.head.Seen.{Seen}
-use Rattle.lw_report.specs.inner.Labels.{label, labels, labelled_word, labelled_words}
-use Rattle.lw_report.specs.Judgement.{positive, negative}
-use Rattle.lw_report.specs.Reports.{word_text, state_line, title_line, count_line, judgement_lines, report_text}
+use Rattle.lw_base.specs.declared.head.Seen.TheVariants.{Register, Location}
+use Rattle.lw_report.specs.inner.Labels.{gap, label, labels, labelled_word, labelled_words}
+use Rattle.lw_report.specs.Judgement.{positive, negative, verdict_of}
+use Rattle.lw_report.specs.Reports.{kind_text, verdict_text, word_text, state_line, title_line, count_line, observation_line, claim_line}
+use Rattle.lw_report.specs.Reports.{judgement_lines, report_text}
 use Rattle.lw_report.specs.declared.judgement.Claim.{Claim}
 use Rattle.lw_report.specs.Observed.{observed}
 use Rattle.lw_report.specs.States.{Shown, ListedState, shown_of}
@@ -54,29 +59,45 @@ pub state_written : (head : TestHead) (names : List Bytes) (ws words : List ℕ)
 state_written head names ws words out new written are same =
     written ∙ ap (λ t. out ++ t) (line_told head names ws are ∙ ap (state_line head) same)
 
+-- ---- a label's text
+
+pub register_told : (head : TestHead) (before register : Bytes) (index cpu reg : ℕ) (name : Seen) → index ≡ cpu → register ≡ register_name head.arch reg
+    → name ≡ Register cpu reg → before ++ (decimal index ++ (codes ":" ++ (register ++ codes "="))) ≡ label head before name
+register_told head before register index cpu reg name is_index is_register is =
+    ap (λ (n : ℕ). before ++ (decimal n ++ (codes ":" ++ (register ++ codes "=")))) is_index
+    ∙ ap (λ (r : Bytes). before ++ (decimal cpu ++ (codes ":" ++ (r ++ codes "=")))) is_register
+    ∙ ap (λ (t : Bytes). before ++ t) (sym (append_assoc (decimal cpu) (codes ":" ++ register_name head.arch reg) (codes "=")))
+    ∙ ap (label head before) (sym is)
+
+pub location_told : (head : TestHead) (before text : Bytes) (loc : ℕ) (name : Seen) → slice_get head.locs loc ≡ Some text → name ≡ Location loc
+    → before ++ (text ++ codes "=") ≡ label head before name
+location_told head before text loc name at is =
+    ap (λ (t : Bytes). before ++ (t ++ codes "=")) (sym (get_or_from_slice_get head.locs loc text [] at)) ∙ ap (label head before) (sym is)
+
 -- ---- the labels, one more
 
-pub labels_more : (head : TestHead) (others : List Seen) (k : ℕ) (x : Seen) (begun texts new : List Bytes) (text : Bytes) → k < length others
-    → x ≡ get_or others k x → texts ≡ begun ++ map (label head (codes " ")) (take k others) → text ≡ label head (codes " ") x → new ≡ texts ++ text ∷ []
-    → new ≡ begun ++ map (label head (codes " ")) (take (k + 1) others)
-labels_more head others k x begun texts new text lt is before told pushed =
-    let f : Seen → Bytes = label head (codes " ") in
-    let more : take (k + 1) others ≡ take k others ++ x ∷ [] = take_more others k x lt ∙ ap (λ y. take k others ++ y ∷ []) (sym is) in
-    pushed ∙ ap (λ t. texts ++ t ∷ []) told ∙ ap (λ (ts : List Bytes). ts ++ f x ∷ []) before ∙ append_assoc begun (map f (take k others)) (f x ∷ [])
-    ∙ ap (λ (ts : List Bytes). begun ++ ts) (sym (ap (map f) more ∙ map-append f (take k others) (x ∷ [])))
+labels_pushed : (head : TestHead) (names : List Seen) (x : Seen)
+    → labels head (names ++ x ∷ []) ≡ labels head names ++ label head (gap (length names)) x ∷ []
+labels_pushed head [] x = refl
+labels_pushed head (s ∷ names) x = ap (λ (ts : List Bytes). label head [] s ∷ ts) (map-append (label head (codes " ")) names (x ∷ []))
 
-pub labels_all : (head : TestHead) (names : List Seen) (first : Seen) (others : List Seen) (k : ℕ) (begun texts : List Bytes) (text : Bytes)
-    → names ≡ first ∷ others → text ≡ label head [] first → begun ≡ [] ++ text ∷ [] → length others ≤ k
-    → texts ≡ begun ++ map (label head (codes " ")) (take k others) → texts ≡ labels head names
-labels_all head names first others k begun texts text are told pushed le before =
-    let f : Seen → Bytes = label head (codes " ") in
-    before ∙ ap (λ (l : List Seen). begun ++ map f l) (take_all k others le) ∙ ap (λ (ts : List Bytes). ts ++ map f others) pushed
-    ∙ ap (λ (t : Bytes). t ∷ map f others) told ∙ ap (labels head) (sym are)
+pub label_more : (head : TestHead) (names : List Seen) (k : ℕ) (x : Seen) (before text : Bytes) (texts new : List Bytes) → k < length names
+    → x ≡ get_or names k x → texts ≡ labels head (take k names) → before ≡ gap k → text ≡ label head before x → new ≡ texts ++ text ∷ []
+    → new ≡ labels head (take (k + 1) names)
+label_more head names k x before text texts new lt is made first told pushed =
+    let more : take (k + 1) names ≡ take k names ++ x ∷ [] = take_more names k x lt ∙ ap (λ y. take k names ++ y ∷ []) (sym is) in
+    let many : k ≡ length (take k names) = omega (arith, lt, length-take k names) in
+    let here : text ≡ label head (gap (length (take k names))) x = told ∙ ap (λ (b : Bytes). label head b x) first ∙ ap
+    (λ (n : ℕ). label head (gap n) x) many in
+    pushed ∙ ap (λ (ts : List Bytes). ts ++ text ∷ []) made ∙ ap (λ (t : Bytes). labels head (take k names) ++ t ∷ []) here
+    ∙ sym (ap (labels head) more ∙ labels_pushed head (take k names) x)
 
--- what holds of all names holds of each behind the first
-pub other_there : (P : Seen → Type 0) (names : List Seen) (first : Seen) (others : List Seen) (k : ℕ) (x : Seen) → All P names → names ≡ first ∷ others
-    → k < length others → x ≡ get_or others k x → P x
-other_there P names first others k x all are lt is = subst P (sym is) (All-get_or P others k x lt (All-rest P first others names are all))
+pub label_all : (head : TestHead) (names : List Seen) (k : ℕ) (texts : List Bytes) → length names ≤ k → texts ≡ labels head (take k names)
+    → texts ≡ labels head names
+label_all head names k texts le made = made ∙ ap (labels head) (take_all k names le)
+
+pub next_gap : (k : ℕ) → codes " " ≡ gap (k + 1)
+next_gap k = let next : suc k ≡ k + 1 = omega arith in ap gap next
 
 -- ---- the words of a line, one more
 
@@ -99,11 +120,23 @@ zip_all names words k end out goal le least before = items_all labelled_word (zi
 
 -- ---- what is told of all states
 
+-- the first lines
+pub title_told : (head : TestHead) (name kind : Bytes) (n : ℕ) → name ≡ head.name → kind ≡ kind_text head.quant
+    → codes "Test " ++ (name ++ (codes " " ++ (kind ++ (codes "\nStates " ++ (decimal n ++ codes "\n"))))) ≡ title_line head ++ count_line n
+title_told head name kind n is_name is_kind = rw (is_name, is_kind) (simp append_assoc)
+
 -- how often the proposition is true, by its words
-pub observation_told : (name n word w : Bytes) (p q : ℕ) → name ≡ n → word ≡ w
-    → codes "Observation " ++ (name ++ (codes " " ++ (word ++ (codes " " ++ (decimal p ++ (codes " " ++ (decimal q ++ codes "\n")))))))
-    ≡ codes "Observation " ++ (n ++ (codes " " ++ (w ++ (codes " " ++ (decimal p ++ (codes " " ++ (decimal q ++ codes "\n")))))))
-observation_told name n word w p q is_name is_word = rw (is_name, is_word) refl
+pub observation_told : (name n word w claimed line : Bytes) (p q : ℕ) → name ≡ n → word ≡ w → claimed ≡ line
+    → codes "Observation " ++ (name ++ (codes " " ++ (word ++ (codes " " ++ (decimal p ++ (codes " " ++ (decimal q ++ (codes "\n" ++ claimed))))))))
+    ≡ (codes "Observation " ++ (n ++ (codes " " ++ (w ++ (codes " " ++ (decimal p ++ (codes " " ++ (decimal q ++ codes "\n")))))))) ++ line
+observation_told name n word w claimed line p q is_name is_word is_line = rw (is_name, is_word, is_line) (simp append_assoc)
+
+-- what stands behind the states
+pub judgement_told : (head : TestHead) (claim : Claim) (p q : ℕ) (verdict condition : Bytes)
+    → verdict ≡ verdict_text (verdict_of claim head.quant p q) → condition ≡ condition_text head
+    → (verdict ++ (codes "\nPositive: " ++ (decimal p ++ (codes " Negative: " ++ (decimal q ++ (codes "\nCondition " ++ (condition ++ codes "\n")))))))
+    ++ (observation_line head claim p q ++ claim_line claim) ≡ judgement_lines head claim p q
+judgement_told head claim p q verdict condition is_verdict is_condition = rw (is_verdict, is_condition) (simp append_assoc)
 
 -- the lines of states that are listed are those of what is shown of them
 pub lines_shown : (head : TestHead) (states : List ListedState)
@@ -112,18 +145,17 @@ lines_shown head [] = refl
 lines_shown head (s ∷ states) = ap (λ t. state_line head s.words ++ t) (lines_shown head states)
 
 -- the parts of a report
-pub report_written : (head : TestHead) (claim : Claim) (states : List ListedState) (first title count lines end : Bytes) (n p q : ℕ) → first ≡ []
-    → title ≡ first ++ title_line head → count ≡ title ++ count_line n → n ≡ length states
-    → lines ≡ count ++ flat_map (λ (s : ListedState). state_line head s.words) states → end ≡ lines ++ judgement_lines head claim p q
+pub report_written : (head : TestHead) (claim : Claim) (states : List ListedState) (first title lines end : Bytes) (n p q : ℕ) → first ≡ []
+    → title ≡ first ++ (title_line head ++ count_line n) → n ≡ length states
+    → lines ≡ title ++ flat_map (λ (s : ListedState). state_line head s.words) states → end ≡ lines ++ judgement_lines head claim p q
     → p ≡ positive (map shown_of states) → q ≡ negative (map shown_of states) → end ≡ report_text head claim (map shown_of states)
-report_written head claim states first title count lines end n p q none titled counted is_length lined ended is_p is_q =
+report_written head claim states first title lines end n p q none titled is_length lined ended is_p is_q =
     let shown = map shown_of states in
-    let begun : title ≡ title_line head = titled ∙ ap (λ t. t ++ title_line head) none in
-    let numbered : count ≡ title_line head ++ count_line (length shown) = counted ∙ ap (λ t. t ++ count_line n) begun ∙ ap
+    let begun : title ≡ title_line head ++ count_line (length shown) = titled ∙ ap (λ t. t ++ (title_line head ++ count_line n)) none ∙ ap
     (λ (m : ℕ). title_line head ++ count_line m) (is_length ∙ sym (length-map states shown_of)) in
     let all : Bytes = flat_map (λ (s : Shown). state_line head s.words) shown in
     let told : lines ≡ title_line head ++ (count_line (length shown) ++ all) =
-    lined ∙ ap (λ t. count ++ t) (lines_shown head states) ∙ ap (λ t. t ++ all) numbered ∙ append_assoc (title_line head) (count_line (length shown)) all in
+    lined ∙ ap (λ t. title ++ t) (lines_shown head states) ∙ ap (λ t. t ++ all) begun ∙ append_assoc (title_line head) (count_line (length shown)) all in
     let judged : Bytes = judgement_lines head claim (positive shown) (negative shown) in
     ended ∙ ap (λ (a : ℕ). lines ++ judgement_lines head claim a q) is_p ∙ ap (λ (b : ℕ). lines ++ judgement_lines head claim (positive shown) b) is_q
     ∙ ap (λ t. t ++ judged) told ∙ append_assoc (title_line head) (count_line (length shown) ++ all) judged

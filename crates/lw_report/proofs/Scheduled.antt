@@ -6,13 +6,16 @@ use Rattle.std.proofs.lemmas.List.{length-map}
 use Rattle.std.proofs.lemmas.List.Elements.{All-weaker, All-get_or}
 use Rattle.std.proofs.lemmas.Map.Entries.{length-keys_of}
 use Rattle.std.proofs.lemmas.Option.{slice_get_within, get_or_from_slice_get}
+use Rattle.std.specs.Fmt.{decimal}
 use Rattle.lw_base.specs.Types.{Bytes, NameTable}
 use Rattle.lw_base.specs.Heads.{TestHead}
 use Rattle.lw_base.specs.Schedules.{IsEvent, schedule_text}
 use Rattle.lw_base.specs.declared.event.Event.{Event}
 use Rattle.lw_listing.specs.Listings.{OutcomeEntries, outcomes_of, schedules_of}
-use Rattle.lw_report.specs.inner.Labels.{schedule_line}
-use Rattle.lw_report.specs.Reports.{state_line, scheduled, scheduled_lines, count_line, schedule_list_text}
+use Rattle.lw_report.specs.inner.Labels.{labels, labelled_words, schedule_line}
+use Rattle.lw_report.specs.Observed.{observed}
+use Rattle.lw_report.proofs.Lines.{line_told}
+use Rattle.lw_report.specs.Reports.{scheduled, scheduled_lines, count_line, schedule_list_text}
 use Rattle.lw_report.specs.States.{ListedState, ShowsFirst, AreListedStates}
 
 entry_within : (head : TestHead) (entries : OutcomeEntries) (s : ListedState) → ShowsFirst head (outcomes_of entries) s → s.entry < length entries
@@ -37,38 +40,48 @@ schedule_there head entries k events all at =
     subst P (get_or_from_slice_get (schedules_of entries) k events events at)
     (All-get_or P (schedules_of entries) k events (slice_get_within (schedules_of entries) k events at) all)
 
--- a schedule's line
-pub schedule_told : (names : NameTable) (schedules : List (List Event)) (k : ℕ) (events : List Event) (text : Bytes)
-    → slice_get schedules k ≡ Some events → text ≡ schedule_text names events → codes " " ++ (text ++ codes "\n") ≡ schedule_line names schedules k
-schedule_told names schedules k events text at is =
-    ap (λ t. codes " " ++ (t ++ codes "\n")) (is ∙ ap (schedule_text names) (sym (get_or_from_slice_get schedules k events [] at)))
-
 -- a state's line, and its schedule's
-pub both_told : (head : TestHead) (schedules : List (List Event)) (s : ListedState) (out mid new : Bytes) → mid ≡ out ++ state_line head s.words
-    → new ≡ mid ++ schedule_line head.locs schedules s.entry → new ≡ out ++ scheduled_lines head (scheduled schedules s)
-both_told head schedules s out mid new first second =
-    second ∙ ap (λ t. t ++ schedule_line head.locs schedules s.entry) first ∙ append_assoc out (state_line head s.words)
-    (schedule_line head.locs schedules s.entry)
+pub both_told : (names : NameTable) (schedules : List (List Event)) (labels : List Bytes) (s : ListedState) (words : List ℕ) (k : ℕ) (events : List Event)
+    (text : Bytes) → words ≡ s.words → k ≡ s.entry → slice_get schedules k ≡ Some events → text ≡ schedule_text names events
+    → (labelled_words labels words ++ codes "\n") ++ (codes " " ++ (text ++ codes "\n"))
+    ≡ (labelled_words labels s.words ++ codes "\n") ++ schedule_line names schedules s.entry
+both_told names schedules labels s words k events text is_words is_entry at is =
+    ap (λ (ws : List ℕ). (labelled_words labels ws ++ codes "\n") ++ (codes " " ++ (text ++ codes "\n"))) is_words
+    ∙ ap (λ (t : Bytes). (labelled_words labels s.words ++ codes "\n") ++ (codes " " ++ (t ++ codes "\n")))
+    (is ∙ ap (schedule_text names) (sym (get_or_from_slice_get schedules k events [] at)))
+    ∙ ap (λ (e : ℕ). (labelled_words labels s.words ++ codes "\n") ++ schedule_line names schedules e) is_entry
+
+-- the two lines of a state, by the labels
+pub scheduled_told : (head : TestHead) (schedules : List (List Event)) (names : List Bytes) (s : ListedState) (out new : Bytes)
+    → names ≡ labels head (observed head)
+    → new ≡ out ++ ((labelled_words names s.words ++ codes "\n") ++ schedule_line head.locs schedules s.entry)
+    → new ≡ out ++ scheduled_lines head (scheduled schedules s)
+scheduled_told head schedules names s out new are written =
+    written ∙ ap (λ (t : Bytes). out ++ (t ++ schedule_line head.locs schedules s.entry)) (line_told head names s.words are)
 
 lines_scheduled : (head : TestHead) (schedules : List (List Event)) (states : List ListedState)
     → flat_map (λ (s : ListedState). scheduled_lines head (scheduled schedules s)) states ≡ flat_map (scheduled_lines head) (map (scheduled schedules) states)
 lines_scheduled head schedules [] = refl
 lines_scheduled head schedules (s ∷ states) = ap (λ t. scheduled_lines head (scheduled schedules s) ++ t) (lines_scheduled head schedules states)
 
+-- the first lines
+pub head_told : (name : Bytes) (n : ℕ) (h : Bytes) (m : ℕ) → name ≡ h → n ≡ m
+    → codes "Test " ++ (name ++ (codes "\nStates " ++ (decimal n ++ codes "\n"))) ≡ (codes "Test " ++ (h ++ codes "\n")) ++ count_line m
+head_told name n h m is_name is_number = rw (is_name, is_number) (simp append_assoc)
+
 regroup : (a b c d e : Bytes) → ((a ++ (b ++ c)) ++ d) ++ e ≡ a ++ (b ++ (c ++ (d ++ e)))
 regroup a b c d e = simp append_assoc
 
 -- the parts of the list
-pub list_written : (head : TestHead) (schedules : List (List Event)) (states : List ListedState) (first title count end name : Bytes) (n : ℕ)
-    → first ≡ [] → title ≡ first ++ (codes "Test " ++ (name ++ codes "\n")) → name ≡ head.name → count ≡ title ++ count_line n → n ≡ length states
-    → end ≡ count ++ flat_map (λ (s : ListedState). scheduled_lines head (scheduled schedules s)) states
+pub list_written : (head : TestHead) (schedules : List (List Event)) (states : List ListedState) (first title end name : Bytes) (n : ℕ)
+    → first ≡ [] → title ≡ first ++ (codes "Test " ++ (name ++ (codes "\nStates " ++ (decimal n ++ codes "\n")))) → name ≡ head.name → n ≡ length states
+    → end ≡ title ++ flat_map (λ (s : ListedState). scheduled_lines head (scheduled schedules s)) states
     → end ≡ schedule_list_text head (map (scheduled schedules) states)
-list_written head schedules states first title count end name n none titled is_name counted is_length ended =
+list_written head schedules states first title end name n none titled is_name is_length ended =
     let all : Bytes = flat_map (scheduled_lines head) (map (scheduled schedules) states) in
     let len : ℕ = length (map (scheduled schedules) states) in
-    let begun : title ≡ codes "Test " ++ (head.name ++ codes "\n") = titled ∙ ap (λ t. t ++ (codes "Test " ++ (name ++ codes "\n"))) none ∙ ap
-    (λ t. codes "Test " ++ (t ++ codes "\n")) is_name in
-    let numbered : count ≡ (codes "Test " ++ (head.name ++ codes "\n")) ++ count_line len = counted ∙ ap (λ t. t ++ count_line n) begun ∙ ap
-    (λ (m : ℕ). (codes "Test " ++ (head.name ++ codes "\n")) ++ count_line m) (is_length ∙ sym (length-map states (scheduled schedules))) in
-    ended ∙ ap (λ t. count ++ t) (lines_scheduled head schedules states) ∙ ap (λ t. t ++ all) numbered ∙ regroup (codes "Test ") head.name (codes "\n")
+    let begun : title ≡ (codes "Test " ++ (head.name ++ codes "\n")) ++ count_line len =
+    titled ∙ ap (λ t. t ++ (codes "Test " ++ (name ++ (codes "\nStates " ++ (decimal n ++ codes "\n"))))) none
+    ∙ head_told name n head.name len is_name (is_length ∙ sym (length-map states (scheduled schedules))) in
+    ended ∙ ap (λ t. title ++ t) (lines_scheduled head schedules states) ∙ ap (λ t. t ++ all) begun ∙ regroup (codes "Test ") head.name (codes "\n")
     (count_line len) all

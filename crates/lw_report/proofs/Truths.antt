@@ -1,6 +1,6 @@
 -- Outcomes with the same words of the observed names make a test's proposition true alike.
 use Rattle.std.proofs.Common.{◌≡◌, ℕ, ◌⊎◌, inl, inr, Bool, true, false, List, [], ◌∷◌, ◌++◌, length, map, ◌||◌, refl, sym, ap, ◌∙◌, subst}
-use Rattle.std.specs.Prelude.{filter, not, ◌==◌}
+use Rattle.std.specs.Prelude.{filter, not, ◌==◌, ◌&&◌, slice_index, slice_index_or}
 use Rattle.std.proofs.lemmas.Bool.{cases_Bool, or_cases, or_right, true≢false}
 use Rattle.lw_base.specs.Formula.{Formula, Yes, No, Reg_is, Word_is, Not, And, Or}
 use Rattle.lw_base.specs.Heads.{TestHead}
@@ -69,3 +69,22 @@ pub or_right_is : (b a p q : Bool) → a ≡ false → a ≡ p → b ≡ q → b
 or_right_is b false false q e h is = is
 or_right_is b false true q e h is = absurd (true≢false (sym h))
 or_right_is b true p q e h is = absurd (true≢false e)
+
+-- what holds of both, where the first is true, and where it isn't
+pub and_right_is : (b a p q : Bool) → a ≡ true → a ≡ p → b ≡ q → b ≡ (p && q)
+and_right_is b true true q e h is = is
+and_right_is b true false q e h is = absurd (true≢false h)
+and_right_is b false p q e h is = absurd (true≢false (sym e))
+
+pub and_left_is : (a p q : Bool) → a ≡ false → a ≡ p → a ≡ (p && q)
+and_left_is false false q e h = refl
+and_left_is false true q e h = absurd (true≢false (sym h))
+and_left_is true p q e h = absurd (true≢false e)
+
+-- a register's word, and a location's
+pub register_is : (regs : List (List ℕ)) (o : Final) (i j t r n : ℕ) → regs ≡ o.regs → i ≡ t → j ≡ r
+    → (slice_index (slice_index_or regs i []) j == n) ≡ is_true (Reg_is t r n) o
+register_is regs o i j t r n are is_thread is_register = rw (are, is_thread, is_register) refl
+
+pub location_is : (words : List ℕ) (o : Final) (i x n : ℕ) → words ≡ o.words → i ≡ x → (slice_index words i == n) ≡ is_true (Word_is x n) o
+location_is words o i x n are is_location = rw (are, is_location) refl

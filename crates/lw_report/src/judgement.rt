@@ -1,7 +1,7 @@
 //! What is told of a test's condition.
 ghost use Rattle.std.specs.Prelude.{◌≡◌};
 ghost use Rattle.lw_report.specs.Judgement as told;
-ghost use Rattle.lw_report.specs.Reports.{kind_text, verdict_text, observation_text};
+ghost use Rattle.lw_report.specs.Reports.{kind_text, verdict_text, observation_text, claim_line};
 
 use lw_base::Quant;
 
@@ -76,6 +76,18 @@ pub(crate) fn observation_of(claim: Claim, counts: Counts) -> Observation
         (Claim::Listed, 0, _) => Observation::Unknown,
         (Claim::Listed, _, 0) => Observation::Unknown,
         (Claim::Listed, _, _) => Observation::Sometimes,
+    }
+}
+
+impl Claim {
+    /// The line of a claim: none of states that are all.
+    pub(crate) fn line(self) -> &'static str
+        ensures { result.now ≡ claim_line self }
+    {
+        match self {
+            Claim::Exact => "",
+            Claim::Listed => "Listed, not claimed complete\n",
+        }
     }
 }
 

@@ -1,13 +1,11 @@
-//! The lines that are written of a test's states: how many there are, and each one's words.
+//! The line that is written of a test's state: its words behind their labels.
 ghost use Rattle.std.specs.Prelude.{◌≡◌, ◌≤◌, ◌++◌, length, codes, All, IfOk, OnOk};
 ghost use Rattle.std.specs.String.{string_bytes};
-ghost use Rattle.lw_base.specs.ConditionTexts.{site_text};
 ghost use Rattle.lw_base.specs.Heads.{head_of};
 ghost use Rattle.lw_base.specs.Limits.{most_threads};
 ghost use Rattle.lw_base.specs.WellFormed.{IsSeen};
 ghost use Rattle.lw_report.specs.inner.Labels.{label, labels, labelled_words};
 ghost use Rattle.lw_report.specs.Observed as specs;
-ghost use Rattle.lw_report.specs.Reports.{count_line};
 
 use crate::projection::observed;
 use lw_base::{Head, Seen, Sequence, Text, Word, reg_name};
@@ -31,71 +29,61 @@ pub(crate) fn observed_labels<A: Allocator + Copy>(
 }
 
 /// The labels of some names. A space stands before each but the first.
-fn labels_of<A: Allocator + Copy, B: Allocator>(
+fn labels_of<A: Allocator + Copy>(
     alloc: A,
-    head: &Head<B>,
+    head: &Head<A>,
     names: &[Seen],
 ) -> Result<Labels<A>, AllocError>
     requires { All (IsSeen head.now.threads (length head.now.locs)) names.now }
     ensures { IfOk result (λ texts. texts ≡ labels (head_of head.now) names.now) }
 {
     let mut texts = Sequence::new(alloc);
-    let Some((first, others)) = names.split_first() else {
-        return Ok(texts);
-    };
-    texts.push(label_of(alloc, head, "", *first)?)?;
-    for name in others {
-        texts.push(label_of(alloc, head, " ", *name)?)?;
+    let mut before = "";
+    for name in names {
+        texts.push(label_of(alloc, head, before, *name)?)?;
+        before = " ";
     }
     Ok(texts)
 }
 
 /// The label of a name, behind some text.
-fn label_of<A: Allocator, B: Allocator>(
+fn label_of<A: Allocator>(
     alloc: A,
-    head: &Head<B>,
+    head: &Head<A>,
     before: &str,
     name: Seen,
 ) -> Result<Text<A>, AllocError>
     requires { IsSeen head.now.threads (length head.now.locs) name }
     ensures { IfOk result (λ text. text ≡ label (head_of head.now) before.now name) }
 {
-    let mut out = String::from_str(alloc, before)?;
-    write_site(&mut out, head, name)?;
-    out.push_str("=")?;
+    let mut out = String::new(alloc);
+    write_label(&mut out, head, before, name)?;
     Ok(Text::from(out))
 }
 
-/// A thread's register, as `0:r0`, or a location's name.
-fn write_site<A: Allocator, B: Allocator>(
+/// A thread's register, as `0:r0`, or a location's name, behind some text and before `=`.
+fn write_label<A: Allocator>(
     out: &mut String<A>,
-    head: &Head<B>,
+    head: &Head<A>,
+    before: &str,
     name: Seen,
 ) -> Result<(), AllocError>
     requires { IsSeen head.now.threads (length head.now.locs) name }
-    ensures { OnOk result (string_bytes out.new
-        ≡ string_bytes out.old ++ site_text head.now.arch head.now.locs name) }
+    ensures { OnOk result (string_bytes out.new ≡ string_bytes out.old ++ label (head_of head.now) before.now name) }
 {
     match name {
-        Seen::Register(cpu, reg) => { write!(out, "{}:{}", cpu.index(), reg_name(head.arch, reg)) }
-        Seen::Location(loc) => out.push_str(head.locs.name(loc)),
+        Seen::Register(cpu, reg) => {
+            let register = reg_name(head.arch, reg);
+            write!(out, "{}{}:{}=", before, cpu.index(), register)
+        }
+        Seen::Location(loc) => write!(out, "{}{}=", before, head.locs.name(loc)),
     }
 }
 
-/// The line of the number of states.
-pub(crate) fn write_count<A: Allocator>(
-    out: &mut String<A>,
-    states: usize,
-) -> Result<(), AllocError>
-    ensures { OnOk result (string_bytes out.new ≡ string_bytes out.old ++ count_line states) }
-{
-    writeln!(out, "States {}", states)
-}
-
 /// The line of a state, which shows its words behind their labels.
-pub(crate) fn write_state<A: Allocator, B: Allocator>(
+pub(crate) fn write_state<A: Allocator>(
     out: &mut String<A>,
-    labels: &[Text<B>],
+    labels: &[Text<A>],
     words: &[Word],
 ) -> Result<(), AllocError>
     ensures { OnOk result (string_bytes out.new

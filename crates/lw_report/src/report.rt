@@ -9,11 +9,11 @@ ghost use Rattle.lw_base.specs.Propositions.{formula_of};
 ghost use Rattle.lw_report.specs.Judgement as told;
 ghost use Rattle.lw_report.specs.Judgement.{positive, negative};
 ghost use Rattle.lw_report.specs.inner.Labels.{labels};
-ghost use Rattle.lw_report.specs.Reports.{title_line, state_line, numbers_line, condition_line, observation_line, claim_line, judgement_lines, report_text};
+ghost use Rattle.lw_report.specs.Reports.{title_line, state_line, count_line, observation_line, claim_line, judgement_lines, report_text};
 ghost use Rattle.lw_report.specs.States.{ListedState, shown_of};
 
 use crate::judgement::{Claim, Counts, Verdict, kind_word, observation_of, verdict_of};
-use crate::line::{observed_labels, write_count, write_state};
+use crate::line::{observed_labels, write_state};
 use crate::states::{State, States};
 use lw_base::{Head, Text, write_condition};
 use std::alloc::{AllocError, Allocator};
@@ -37,8 +37,7 @@ pub fn write_report<A: Allocator + Copy>(
     ensures { IfOk result (λ text. text ≡ report_text (head_of head.now) claim (map shown_of states.now)) }
 {
     let mut out = String::new(alloc);
-    write_title(&mut out, head)?;
-    write_count(&mut out, states.len())?;
+    write_title(&mut out, head, states.len())?;
     write_states(&mut out, alloc, head, states.as_slice())?;
     write_judgement(&mut out, alloc, head, claim, counts_of(states.as_slice()))?;
     Ok(Text::from(out))
@@ -49,26 +48,36 @@ fn counts_of<A: Allocator>(states: &[State<A>]) -> Counts
     ensures positive { result.positive ≡ positive (map shown_of states.now) }
     ensures negative { result.negative ≡ negative (map shown_of states.now) }
 {
-    let positive = states.iter().filter(|state| state.holds).count();
+    let mut positive = 0;
+    for state in states {
+        positive += usize::from(state.holds);
+    }
     Counts {
         positive,
         negative: states.len() - positive,
     }
 }
 
-/// The first line: the test's name, and what its condition says.
-fn write_title<A: Allocator, B: Allocator>(
+/// The first lines: the test's name, what its condition says, and how many states there are.
+fn write_title<A: Allocator>(
     out: &mut String<A>,
-    head: &Head<B>,
+    head: &Head<A>,
+    states: usize,
 ) -> Result<(), AllocError>
-    ensures { OnOk result (string_bytes out.new ≡ string_bytes out.old ++ title_line (head_of head.now)) }
+    ensures { OnOk result (string_bytes out.new ≡ string_bytes out.old ++ (title_line (head_of head.now) ++ count_line states)) }
 {
-    writeln!(out, "Test {} {}", head.name.as_str(), kind_word(head.quant))
+    writeln!(
+        out,
+        "Test {} {}\nStates {}",
+        head.name.as_str(),
+        kind_word(head.quant),
+        states
+    )
 }
 
 /// The lines of the states.
-fn write_states<A: Allocator + Copy, B: Allocator>(
-    out: &mut String<B>,
+fn write_states<A: Allocator + Copy>(
+    out: &mut String<A>,
     alloc: A,
     head: &Head<A>,
     states: &[State<A>],
@@ -85,10 +94,10 @@ fn write_states<A: Allocator + Copy, B: Allocator>(
 }
 
 /// What stands behind the states.
-fn write_judgement<A: Allocator, B: Allocator, C: Allocator>(
-    out: &mut String<B>,
+fn write_judgement<A: Allocator>(
+    out: &mut String<A>,
     alloc: A,
-    head: &Head<C>,
+    head: &Head<A>,
     claim: Claim,
     counts: Counts,
 ) -> Result<(), AllocError>
@@ -96,64 +105,35 @@ fn write_judgement<A: Allocator, B: Allocator, C: Allocator>(
     ensures { OnOk result (string_bytes out.new
         ≡ string_bytes out.old ++ judgement_lines (head_of head.now) claim counts.positive counts.negative) }
 {
-    writeln!(out, "{}", verdict_of(claim, head.quant, counts).word())?;
-    write_numbers(out, counts)?;
-    write_condition_line(out, alloc, head)?;
-    write_observation(out, head, claim, counts)?;
-    write_claim(out, claim)
-}
-
-/// The numbers of states.
-fn write_numbers<A: Allocator>(out: &mut String<A>, counts: Counts) -> Result<(), AllocError>
-    ensures { OnOk result (string_bytes out.new
-        ≡ string_bytes out.old ++ numbers_line counts.positive counts.negative) }
-{
+    let condition = write_condition(alloc, head)?;
     writeln!(
         out,
-        "Positive: {} Negative: {}",
-        counts.positive, counts.negative
-    )
+        "{}\nPositive: {} Negative: {}\nCondition {}",
+        verdict_of(claim, head.quant, counts).word(),
+        counts.positive,
+        counts.negative,
+        condition.as_str()
+    )?;
+    write_observation(out, head, claim, counts)
 }
 
-/// The condition.
-fn write_condition_line<A: Allocator, B: Allocator, C: Allocator>(
-    out: &mut String<B>,
-    alloc: A,
-    head: &Head<C>,
-) -> Result<(), AllocError>
-    requires { HasLocations (length head.now.locs) (formula_of head.now.prop) }
-    ensures { OnOk result (string_bytes out.new ≡ string_bytes out.old ++ condition_line (head_of head.now)) }
-{
-    let condition = write_condition(alloc, head)?;
-    writeln!(out, "Condition {}", condition.as_str())
-}
-
-/// How often the proposition is true.
-fn write_observation<A: Allocator, B: Allocator>(
+/// How often the proposition is true, and what is claimed of the states, where they may not be all.
+fn write_observation<A: Allocator>(
     out: &mut String<A>,
-    head: &Head<B>,
+    head: &Head<A>,
     claim: Claim,
     counts: Counts,
 ) -> Result<(), AllocError>
-    ensures { OnOk result (string_bytes out.new
-        ≡ string_bytes out.old ++ observation_line (head_of head.now) claim counts.positive counts.negative) }
+    ensures { OnOk result (string_bytes out.new ≡ string_bytes out.old
+        ++ (observation_line (head_of head.now) claim counts.positive counts.negative ++ claim_line claim)) }
 {
-    writeln!(
+    write!(
         out,
-        "Observation {} {} {} {}",
+        "Observation {} {} {} {}\n{}",
         head.name.as_str(),
         observation_of(claim, counts).word(),
         counts.positive,
-        counts.negative
+        counts.negative,
+        claim.line()
     )
-}
-
-/// What is claimed of the states, where they may not be all.
-fn write_claim<A: Allocator>(out: &mut String<A>, claim: Claim) -> Result<(), AllocError>
-    ensures { OnOk result (string_bytes out.new ≡ string_bytes out.old ++ claim_line claim) }
-{
-    match claim {
-        Claim::Exact => Ok(()),
-        Claim::Listed => out.push_str("Listed, not claimed complete\n"),
-    }
 }

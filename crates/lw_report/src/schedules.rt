@@ -1,16 +1,16 @@
 //! The list of a test's states, each with a schedule that leads to it.
-ghost use Rattle.std.specs.Prelude.{◌≡◌, ◌<◌, ◌≤◌, ◌++◌, length, map, All, IfOk, OnOk};
+ghost use Rattle.std.specs.Prelude.{◌≡◌, ◌<◌, ◌≤◌, ◌++◌, length, map, codes, All, IfOk, OnOk};
 ghost use Rattle.std.specs.List.{flat_map, AllByRecursion};
 ghost use Rattle.std.specs.String.{string_bytes};
 ghost use Rattle.lw_base.specs.Heads.{head_of};
 ghost use Rattle.lw_base.specs.Limits.{most_threads};
 ghost use Rattle.lw_base.specs.Schedules.{IsEvent};
 ghost use Rattle.lw_listing.specs.Listings.{outcomes_of, schedules_of};
-ghost use Rattle.lw_report.specs.inner.Labels.{schedule_line};
+ghost use Rattle.lw_report.specs.inner.Labels.{labelled_words, schedule_line};
 ghost use Rattle.lw_report.specs.Reports.{schedule_list_text, scheduled, scheduled_lines};
 ghost use Rattle.lw_report.specs.States.{ListedState, AreListedStates};
 
-use crate::line::{observed_labels, write_count, write_state};
+use crate::line::{observed_labels, write_state};
 use crate::states::{State, States};
 use lw_base::{Head, Text, write_schedule};
 use lw_listing::Listing;
@@ -30,15 +30,14 @@ pub fn write_schedules<A: Allocator + Copy>(
     ensures { IfOk result (λ text. text ≡ schedule_list_text (head_of head.now) (map (scheduled (schedules_of listing.now)) states.now)) }
 {
     let mut out = String::new(alloc);
-    writeln!(out, "Test {}", head.name.as_str())?;
-    write_count(&mut out, states.len())?;
+    writeln!(out, "Test {}\nStates {}", head.name.as_str(), states.len())?;
     write_scheduled_states(&mut out, alloc, head, states.as_slice(), listing)?;
     Ok(Text::from(out))
 }
 
 /// The lines of the states, each with its schedule.
-fn write_scheduled_states<A: Allocator + Copy, B: Allocator>(
-    out: &mut String<B>,
+fn write_scheduled_states<A: Allocator + Copy>(
+    out: &mut String<A>,
     alloc: A,
     head: &Head<A>,
     states: &[State<A>],
@@ -52,24 +51,26 @@ fn write_scheduled_states<A: Allocator + Copy, B: Allocator>(
 {
     let labels = observed_labels(alloc, head)?;
     for state in states {
-        write_state(out, labels.as_slice(), state.words.as_slice())?;
-        write_schedule_of(out, alloc, head, listing, state.entry)?;
+        write_scheduled_state(out, alloc, head, labels.as_slice(), state, listing)?;
     }
     Ok(())
 }
 
-/// The line of the schedule of an entry, behind a space.
-fn write_schedule_of<A: Allocator, B: Allocator>(
-    out: &mut String<B>,
+/// The line of a state, and behind a space that of its schedule.
+fn write_scheduled_state<A: Allocator>(
+    out: &mut String<A>,
     alloc: A,
     head: &Head<A>,
+    labels: &[Text<A>],
+    state: &State<A>,
     listing: &Listing<A>,
-    entry: usize,
 ) -> Result<(), AllocError>
     requires schedules { All (AllByRecursion (IsEvent head.now.locs)) (schedules_of listing.now) }
-    requires within { entry < length listing.now }
-    ensures { OnOk result (string_bytes out.new ≡ string_bytes out.old ++ schedule_line head.now.locs (schedules_of listing.now) entry) }
+    requires within { state.now.entry < length listing.now }
+    ensures { OnOk result (string_bytes out.new ≡ string_bytes out.old
+        ++ ((labelled_words labels.now state.now.words ++ codes "\n") ++ schedule_line head.now.locs (schedules_of listing.now) state.now.entry)) }
 {
-    let schedule = write_schedule(alloc, listing.schedule(entry), &head.locs)?;
+    write_state(out, labels, state.words.as_slice())?;
+    let schedule = write_schedule(alloc, listing.schedule(state.entry), &head.locs)?;
     writeln!(out, " {}", schedule.as_str())
 }

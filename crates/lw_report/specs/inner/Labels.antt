@@ -1,6 +1,6 @@
 -- For readers of this crate, no public call cites it: the parts in which lines are written, what stands before each word of a
 -- state, and a schedule.
-use Rattle.std.specs.Prelude.{ℕ, List, [], ◌∷◌, ◌++◌, map, codes, zip, slice_index_or}
+use Rattle.std.specs.Prelude.{ℕ, zero, suc, List, [], ◌∷◌, ◌++◌, map, codes, zip, slice_index_or}
 use Rattle.std.specs.List.{flat_map}
 use Rattle.std.specs.Fmt.{decimal}
 use Rattle.lw_base.specs.Types.{Bytes, NameTable}
@@ -13,6 +13,11 @@ use Rattle.lw_base.specs.declared.head.Seen.{Seen}
 -- `name=`, behind some text
 abbrev pub label : TestHead → Bytes → Seen → Bytes
 label head before s = before ++ (site_text head.arch head.locs s ++ codes "=")
+
+-- what stands before the label at a place: a space, but at the first
+abbrev pub gap : ℕ → Bytes
+gap zero = []
+gap (suc k) = codes " "
 
 -- the labels of some names: a space stands before each but the first
 abbrev pub labels : TestHead → List Seen → List Bytes

@@ -1,9 +1,24 @@
-use Rattle.std.proofs.Common.{length}
+use Rattle.std.proofs.Common.{length, refl, subst, sym}
+use Rattle.std.proofs.lemmas.List.Elements.{All-get_or}
+use Rattle.lw_base.specs.Heads.{head_of}
 use Rattle.lw_base.specs.WellFormed.{IsSeen}
-use Rattle.lw_report.proofs.Lines.{other_there}
+use Rattle.lw_report.proofs.Lines.{label_more, label_all, next_gap}
 use Rattle.lw_report.proofs.line.labels_of.Goals as goal
 
-pub label_of-requires-in-loop-name : goal.label_of-requires-in-loop-name
-label_of-requires-in-loop-name g c =
-    other_there (IsSeen c.args.head.now.threads (length c.args.head.now.locs)) c.args.names.now c.in-Some.first.now c.in-Some.others.now
-    c.loop-name.name-index _ c.requires c.in-Some.ensures.cases.0 c.loop-name-test.true c.name-item.is
+pub label_of-requires : goal.label_of-requires
+label_of-requires g c =
+    let P = IsSeen c.args.head.now.threads (length c.args.head.now.locs) in
+    subst P (sym c.name-item.is) (All-get_or P c.args.names.now c.loop-name.name-index c.name-item.result c.loop-name-test.true c.requires)
+
+pub loop-name-init : goal.loop-name-init
+loop-name-init g c = record { made = c.new-texts.ensures; first = refl }
+
+pub loop-name-preserved : goal.loop-name-preserved
+loop-name-preserved g c = record {
+  made = label_more (head_of c.args.head.now) c.args.names.now c.loop-name.name-index c.name-item.result _ _ c.loop-name.texts c.push.new.self
+      c.loop-name-test.true c.name-item.is c.loop-name.invariant.made c.loop-name.invariant.first c.in_ok-label_of.ensures c.in_ok-push.ensures.ok;
+  first = next_gap c.loop-name.name-index;
+}
+
+pub returns : goal.returns
+returns g c = label_all (head_of c.args.head.now) c.args.names.now c.loop-name.name-index c.loop-name.texts c.loop-name-test.false c.loop-name.invariant.made

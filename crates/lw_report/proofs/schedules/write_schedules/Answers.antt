@@ -12,5 +12,5 @@ write_scheduled_states-requires-clause-within g c =
 pub returns : goal.returns
 returns g c =
     let lines = rw c.as_slice.ensures at c.in_ok-write_scheduled_states.ensures in
-    c.from.ensures ∙ list_written (head_of c.args.head.now) (schedules_of c.args.listing.now) c.args.states.now _ _ _ _ _ c.len.result
-    c.new-out.ensures.bytes c.in_ok-writeln.ensures.bytes c.as_str.ensures c.in_ok-write_count.ensures c.len.ensures lines
+    c.from.ensures ∙ list_written (head_of c.args.head.now) (schedules_of c.args.listing.now) c.args.states.now _ _ _ _ c.len.result
+    c.new-out.ensures.bytes c.in_ok-writeln.ensures.bytes c.as_str.ensures c.len.ensures lines

@@ -1,0 +1,8 @@
+use Rattle.std.proofs.Common.{◌≡◌, ◌≤◌, length, take}
+use Rattle.std.specs.Prelude.{filter}
+use Rattle.lw_report.specs.States.{ListedState}
+use Rattle.lw_report.proofs.report.counts_of.Given as goal
+
+abbrev pub invariant-loop-state : goal.invariant-loop-state
+invariant-loop-state g l =
+    record { counted : l.positive ≡ length (filter (λ (s : ListedState). s.holds) (take l.state-index l.states)); few : l.positive ≤ l.state-index }

@@ -1,0 +1,10 @@
+use Rattle.lw_base.specs.Heads.{head_of}
+use Rattle.lw_base.proofs.api.Writing.{written_as}
+use Rattle.lw_report.proofs.Lines.{title_told}
+use Rattle.lw_report.proofs.report.write_title.Goals as goal
+
+pub returns : goal.returns
+returns g c =
+    written_as c.writeln.result _ _ _ _
+    (title_told (head_of c.args.head.now) c.as_str.result.now c.kind_word.result.now c.args.states c.as_str.ensures c.kind_word.ensures)
+    c.writeln.ensures.bytes
