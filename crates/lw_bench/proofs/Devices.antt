@@ -1,5 +1,5 @@
 -- Bytes that came in and went out, one piece more.
-use Rattle.std.proofs.Common.{arith, inl, inr, refl, ◌≡◌, ℕ, zero, suc, ◌-◌, ◌<◌, ◌≤◌, min, Option, Some, None, List, [], ◌∷◌, ◌++◌, length, length-append}
+use Rattle.std.proofs.Common.{arith, inl, inr, refl, ◌≡◌, ◌≢◌, ℕ, zero, suc, ◌-◌, ◌<◌, ◌≤◌, min, Option, Some, None, List, [], ◌∷◌, ◌++◌, length, length-append}
 use Rattle.std.proofs.Common.{take, drop, sym, ap, ◌∙◌, subst, append_assoc}
 use Rattle.std.proofs.lemmas.List.{length-take-le, take-append-drop, take-append-le}
 use Rattle.std.specs.Io.KnownBytes.{Appends, Consumes, IsAtEnd, Keeps}
@@ -42,6 +42,10 @@ gets_front known left before after buffer behind room count short is_room whole 
       consumed = consumed.0;
       ended = λ none. consumed.1 none (omega (arith, whole, is_room, short));
     }
+
+pub takes_none : (known : Option (List ℕ)) (bytes : List ℕ) → bytes ≡ [] → Consumes known known bytes
+takes_none None bytes none = tt
+takes_none (Some x) bytes none = ap (λ (b : List ℕ). b ++ x) (sym none)
 
 pub gets_more : (a b c : Option (List ℕ)) (before after : List ℕ) (n : ℕ) → Consumes a b before → Gets b c before after n → Consumes a c after
 gets_more a b c before after n before_that gets = subst (Consumes a c) (sym gets.added) (Consumes-more a b c before gets.got before_that gets.consumed)
@@ -115,3 +119,9 @@ pub loses_front : (known left : Option (List ℕ)) (before buffer : List ℕ) (r
     → room ≡ min 4096 (65537 - length before) → length buffer ≡ room → count ≤ length buffer → Consumes known left (take count buffer) → Loses known left before
 loses_front known left before buffer room count short is_room whole within consumed =
     record { got = take count buffer; limit = omega (arith, length-take-le count buffer within, within, whole, is_room, short); consumed = consumed }
+
+-- where some came, fewer are still to be read
+pub fewer_left : (known left : Option (List ℕ)) (before after : List ℕ) (count : ℕ) → Gets known left before after count → count ≢ 0
+    → 65537 - length after < 65537 - length before
+fewer_left known left before after count gets some =
+    omega (arith, some, gets.limit, gets.as_many, ap length gets.added, length-append before gets.got)

@@ -122,21 +122,32 @@ pub buffer_told : (names : List (List ℕ)) (start new : List ℕ) (cpu t : ℕ)
     → cpu ≡ t → buffer ≡ b → new ≡ start ++ buffer_line names t b
 buffer_told names start new cpu t buffer b written is have = written ∙ rw (is, have) refl
 
-pub line_told : (names : List (List ℕ)) (start new : List ℕ) (cpu t : ℕ) (held h : ℕ → LineState) → new ≡ start ++ cache_line names cpu held → cpu ≡ t
-    → held ≡ h → new ≡ start ++ cache_line names t h
-line_told names start new cpu t held h written is have = written ∙ rw (is, have) refl
+-- a processor's lines, by its place
+pub processor_told : (head : TestHead) (held : ℕ → ℕ → LineState) (processors : List Processor) (t k : ℕ) (p : Processor) (start new : List ℕ) → t ≡ k
+    → slice_get processors k ≡ Some p
+    → ((q : Processor) → slice_get processors t ≡ Some q → new ≡ start ++ processor_lines head held t q)
+    → new ≡ start ++ processor_lines head held k p
+processor_told head held processors t k p start new is at told =
+    told p (ap (slice_get processors) is ∙ at) ∙ ap (λ (n : ℕ). start ++ processor_lines head held n p) is
 
 in_front : (a b c d e rest : List ℕ) → (a ++ (b ++ (c ++ (d ++ e)))) ++ rest ≡ a ++ (b ++ (c ++ (d ++ (e ++ rest))))
 in_front a b c d e rest = simp append_assoc
 
--- the first lines, by how the replay ended
-pub first_told : (head : TestHead) (r : Replay) (name : List ℕ) (end : End) → name ≡ head.name → r.end ≡ end
-    → codes "Test " ++ (name ++ (codes "\nSteps " ++ (decimal r.done ++ (codes "\nEnd " ++ (end_text r.done end ++ codes "\n"))))) ≡ first_lines head r
-first_told head r name end is ended = rw (is, ended) refl
+-- the first lines
+pub first_told : (head : TestHead) (r : Replay) (name : List ℕ) → name ≡ head.name
+    → (codes "Test " ++ (name ++ (codes "\nSteps " ++ (decimal r.done ++ codes "\nEnd ")))) ++ (end_text r.done r.end ++ codes "\n") ≡ first_lines head r
+first_told head r name is = rw is (in_front (codes "Test ") head.name (codes "\nSteps ") (decimal r.done) (codes "\nEnd ")
+    (end_text r.done r.end ++ codes "\n"))
+
+-- how a replay ended
+pub ended_as : {T E : Type 0} (answer : Result T E) (start new text : List ℕ) (done : ℕ) (end known : End) → end ≡ known
+    → text ≡ end_text done known ++ codes "\n" → OnOk answer (new ≡ start ++ text) → OnOk answer (new ≡ start ++ (end_text done end ++ codes "\n"))
+ended_as answer start new text done end known is told written =
+    on_ok_weaker answer (λ e. e ∙ ap (λ t. start ++ t) (told ∙ ap (λ (e : End). end_text done e ++ codes "\n") (sym is))) written
 
 -- how a replay stopped
 pub stop_told : (done number : ℕ) (name : List ℕ) (stop : Stop) (end : End) → end ≡ Stopped stop → number ≡ stop_number stop → name ≡ stop_name stop
-    → codes "Stopped at " ++ (decimal done ++ (codes " by " ++ (decimal number ++ (32 ∷ (name ++ 10 ∷ []))))) ≡ end_text done end ++ 10 ∷ []
+    → codes "Stopped at " ++ (decimal done ++ (codes " by " ++ (decimal number ++ (codes " " ++ (name ++ codes "\n"))))) ≡ end_text done end ++ codes "\n"
 stop_told done number name stop end e n m = rw (e, n, m) (sym
     (in_front (codes "Stopped at ") (decimal done) (codes " by ") (decimal (stop_number stop)) (32 ∷ stop_name stop) (10 ∷ [])))
 

@@ -2,18 +2,15 @@
 use Rattle.std.specs.Prelude.{◌≡◌, ◌⊎◌, List, [], ◌∷◌, codes}
 use Rattle.lw_base.specs.Types.{Bytes}
 use Rattle.lw_mesi.specs.declared.protocol.Protocol.{Protocol}
-use Rattle.lw_mesi.specs.declared.protocol.Protocol.TheVariants.{Mesi, Moesi}
+use Rattle.lw_mesi.specs.declared.protocol.Protocol.TheVariants.{Mesi}
+use Rattle.lw_mesi.specs.Protocols.{protocol_name}
 use Rattle.lw_bench.specs.declared.command.Task.{Task}
 use Rattle.lw_bench.specs.declared.command.Task.TheVariants.{States, Compile, Schedules, Replay}
 
-abbrev pub protocol_word : Protocol → Bytes
-protocol_word Mesi = codes "mesi"
-protocol_word Moesi = codes "moesi"
-
--- `--protocol` and the protocol's word, or nothing for MESI
+-- `--protocol` and the protocol's name, or nothing for MESI
 abbrev pub IsProtocolOption : List Bytes → Protocol → Type 0
 IsProtocolOption words protocol =
-    (words ≡ codes "--protocol" ∷ protocol_word protocol ∷ []) ⊎ ((words ≡ []) × (protocol ≡ Mesi))
+    (words ≡ codes "--protocol" ∷ protocol_name protocol ∷ []) ⊎ ((words ≡ []) × (protocol ≡ Mesi))
 
 -- `states`, `compile` or `schedules`; or `replay`, a schedule, and perhaps the option
 abbrev pub IsCommand : List Bytes → Task → Type 0

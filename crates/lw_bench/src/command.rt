@@ -2,7 +2,7 @@
 ghost use Rattle.std.specs.Prelude.{◌≡◌, [], ◌∷◌, MatchOption, codes, map};
 ghost use Rattle.lw_base.specs.Refusals.{NoSuch};
 ghost use Rattle.lw_bench.specs.declared.command.Task.{Task};
-ghost use Rattle.lw_bench.specs.Commands.{IsCommand, IsProtocolOption, protocol_word};
+ghost use Rattle.lw_bench.specs.Commands.{IsCommand, IsProtocolOption};
 
 use lw_mesi::Protocol;
 
@@ -21,7 +21,7 @@ pub enum Task<'a> {
 }
 
 /// The task that the words after the program's name give: `states`, `compile` or `schedules`; or `replay` and a schedule, which may be empty, and
-/// then nothing or `--protocol` and `mesi` or `moesi`. Without the option the protocol is MESI. `None` for all other words.
+/// then nothing or `--protocol` and a protocol's name. Without the option the protocol is MESI. `None` for all other words.
 /// It takes no memory.
 pub fn command_of<'a>(words: &[&'a str]) -> Option<Task<'a>>
     ensures { MatchOption result
@@ -78,16 +78,5 @@ fn protocol_of(option: &[&str]) -> Option<Protocol>
     if *name != "--protocol" {
         return None;
     }
-    protocol_named(word)
-}
-
-/// The protocol of this word.
-fn protocol_named(word: &str) -> Option<Protocol>
-    ensures { MatchOption result (NoSuch (λ p. protocol_word p ≡ word.now)) (λ p. protocol_word p ≡ word.now) }
-{
-    match word {
-        "mesi" => Some(Protocol::Mesi),
-        "moesi" => Some(Protocol::Moesi),
-        _ => None,
-    }
+    Protocol::named(word)
 }

@@ -21,7 +21,6 @@ ghost use Rattle.lw_memory.specs.Flat.{flat};
 ghost use Rattle.lw_memory.specs.Memory.{memory_of};
 ghost use Rattle.lw_memory.specs.MemoryLaws.{invariant_of};
 ghost use Rattle.lw_mesi.specs.declared.protocol.Protocol.{Protocol};
-ghost use Rattle.lw_mesi.specs.declared.protocol.Protocol.TheVariants as by;
 ghost use Rattle.lw_report.specs.Truth.{is_true};
 ghost use Rattle.lw_tso.specs.Runs.{MachineOutcome};
 ghost use Rattle.lw_tso.specs.Starts.{CanStart};
@@ -136,11 +135,12 @@ pub(crate) fn what_is_known_is_reached_on_the_machine()
     every_test_has_its_program();
 }
 
-/// Outcomes over MOESI are those over MESI, for whatever `states` takes: for every text that is a test, of the program that runs
-/// for it.
+/// Outcomes over one protocol are those over any other, for whatever `states` takes: for every text that is a test, of the program
+/// that runs for it.
 pub fn protocols_cannot_be_told_apart()
-    ensures { (text : Bytes) (test : LitmusTest) (program : ProgramTest) (o : Final) → HasTest text test → IsRunFor test program
-        → OutcomeOverCaches by.Moesi program o ↔ OutcomeOverCaches by.Mesi program o }
+    ensures { (protocol other : Protocol) (text : Bytes) (test : LitmusTest) (program : ProgramTest) (o : Final)
+        → HasTest text test → IsRunFor test program
+        → OutcomeOverCaches protocol program o ↔ OutcomeOverCaches other program o }
 {
     outcomes_over_caches_are_flat();
 }

@@ -1,5 +1,5 @@
 //! The text that tells of a replay.
-ghost use Rattle.std.specs.Prelude.{◌≡◌, ◌<◌, ◌≤◌, ◌++◌, ℕ, Some, codes, length, map, slice_get, slice_index, IfOk, OnOk};
+ghost use Rattle.std.specs.Prelude.{◌≡◌, ◌<◌, ◌≤◌, ◌++◌, ℕ, Some, codes, length, map, slice_get, slice_index, slice_index_or, [], IfOk, OnOk};
 ghost use Rattle.std.specs.Fmt.{decimal};
 ghost use Rattle.std.specs.String.{string_bytes};
 ghost use Rattle.lw_base.specs.Heads.{head_of};
@@ -109,27 +109,32 @@ fn write_machine_page<M: MemorySystem, A: Allocator>(
 }
 
 /// The test's name, the number of events that were carried out, and how the replay ended.
-fn write_first_lines<A: Allocator, B: Allocator>(
+fn write_first_lines<A: Allocator>(
     out: &mut String<A>,
-    head: &Head<B>,
+    head: &Head<A>,
     replay: Replay,
 ) -> Result<(), AllocError>
     ensures { OnOk result (string_bytes out.new ≡ string_bytes out.old ++ first_lines (head_of head.now) replay) }
 {
-    let (name, done) = (head.name.as_str(), replay.done);
+    write!(
+        out,
+        "Test {}\nSteps {}\nEnd ",
+        head.name.as_str(),
+        replay.done
+    )?;
+    write_end(out, replay)
+}
+
+/// How a replay ended, and the line's end.
+fn write_end<A: Allocator>(out: &mut String<A>, replay: Replay) -> Result<(), AllocError>
+    ensures { OnOk result (string_bytes out.new ≡ string_bytes out.old ++ (end_text replay.done replay.end ++ codes "\n")) }
+{
     match replay.end {
-        End::Final => write!(out, "Test {}\nSteps {}\nEnd Final\n", name, done),
-        End::NotFinal => write!(out, "Test {}\nSteps {}\nEnd NotFinal\n", name, done),
+        End::Final => out.push_str("Final\n"),
+        End::NotFinal => out.push_str("NotFinal\n"),
         End::Stopped(stop) => {
-            writeln!(
-                out,
-                "Test {}\nSteps {}\nEnd Stopped at {} by {} {}",
-                name,
-                done,
-                done,
-                stop.number(),
-                stop.name()
-            )
+            let (number, name) = (stop.number(), stop.name());
+            writeln!(out, "Stopped at {} by {} {}", replay.done, number, name)
         }
     }
 }
@@ -226,17 +231,28 @@ fn write_processors<M: MemorySystem, A: Allocator>(
         ++ numbered (processor_lines (head_of head.now) (M.state machine.now.state.memory)) 0 machine.now.state.processors) }
 {
     for cpu in &Cpu::all()[..head.threads] {
-        write_thread(
-            out,
-            head.arch,
-            *cpu,
-            machine.position(*cpu),
-            &regs[cpu.index()],
-        )?;
-        write_buffer(out, &head.locs, machine, *cpu)?;
-        write_cache_line(out, &head.locs, machine.memory(), *cpu)?;
+        write_processor(out, head, machine, *cpu, &regs[cpu.index()])?;
     }
     Ok(())
+}
+
+/// The lines of a processor that has these registers.
+fn write_processor<M: MemorySystem, A: Allocator>(
+    out: &mut String<A>,
+    head: &Head<A>,
+    machine: &Machine<'_, M, A, A>,
+    cpu: Cpu,
+    regs: &[Word; REGISTERS],
+) -> Result<(), AllocError>
+    requires cpu { cpu < length machine.now.state.processors }
+    requires words { length (M.content machine.now.state.memory) ≡ length head.now.locs }
+    requires regs { regs.now ≡ slice_index_or (map (λ (p : Processor). p.regs) machine.now.state.processors) cpu [] }
+    ensures { (p : Processor) → slice_get machine.now.state.processors cpu ≡ Some p → OnOk result (string_bytes out.new
+        ≡ string_bytes out.old ++ processor_lines (head_of head.now) (M.state machine.now.state.memory) cpu p) }
+{
+    write_thread(out, head.arch, cpu, machine.position(cpu), regs)?;
+    write_buffer(out, &head.locs, machine, cpu)?;
+    write_cache_line(out, &head.locs, machine.memory(), cpu)
 }
 
 /// The entries of a processor's store buffer, the oldest first.
@@ -273,14 +289,20 @@ fn write_cache_line<M: MemorySystem, A: Allocator>(
 {
     write!(out, "P{} lines", cpu.index())?;
     for loc in &Loc::all()[..locs.len()] {
-        write!(
-            out,
-            " {}={}",
-            locs.name(*loc),
-            letter(memory.state_of(cpu, *loc))
-        )?;
+        write_held(out, locs.name(*loc), memory.state_of(cpu, *loc))?;
     }
     out.push_str("\n")
+}
+
+/// A name with the letter of a cache line's state, behind a space.
+fn write_held<A: Allocator>(
+    out: &mut String<A>,
+    name: &str,
+    state: LineState,
+) -> Result<(), AllocError>
+    ensures { OnOk result (string_bytes out.new ≡ string_bytes out.old ++ named (λ _. pages.letter state) 0 name.now) }
+{
+    write!(out, " {}={}", name, letter(state))
 }
 
 /// The letter of a cache line's state.

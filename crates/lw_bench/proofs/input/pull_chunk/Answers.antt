@@ -1,4 +1,4 @@
-use Rattle.std.proofs.Common.{rules, arith, refl, ◌≡◌, ◌∙◌, ◌-◌, ◌≤◌, min, length}
+use Rattle.std.proofs.Common.{ℕ, ap, arith, refl, ◌≡◌, ◌∙◌, ◌-◌, ◌≤◌, min, length, length-append}
 use Rattle.std.proofs.lemmas.Result.{err_from_is_err_and}
 use Rattle.std.proofs.lemmas.List.{length-take-le}
 use Rattle.lw_bench.proofs.Devices.{gets_front, loses_none, loses_front}
@@ -14,7 +14,9 @@ whole : (g : _) (c : goal.In_ok-extend_from_slice g) → length c.pull.new.buf �
 whole g c = c.pull.auto.buf ∙ length-take-le c.min-room.result _ (fits g c)
 
 is_room : (g : _) (c : goal.In_ok-extend_from_slice g) → c.min-room.result ≡ min 4096 (65537 - length c.args.bytes.now.items)
-is_room g c = search rules
+is_room g c =
+    let all : c.len.result ≡ length c.args.bytes.now.items = omega (arith, c.len.ensures, c.args.bytes.now.ok.0) in
+    c.min-room.ensures ∙ ap (λ (n : ℕ). min 4096 (65537 - n)) all
 
 pub returns-clause-bytes : goal.returns-clause-bytes
 returns-clause-bytes g c =
@@ -27,7 +29,8 @@ returns-in_default-clause-lost g c = loses_none _ _ _ c.requires.room c.in_defau
 pub returns-in_err-extend_from_slice-clause-lost : goal.returns-in_err-extend_from_slice-clause-lost
 returns-in_err-extend_from_slice-clause-lost g c =
     let p = err_from_is_err_and c.from_residual.result c.from_residual.ensures.1 in
-    let room : c.min-room.result ≡ min 4096 (65537 - length c.args.bytes.now.items) = search rules in
+    let len : c.len.result ≡ length c.args.bytes.now.items = omega (arith, c.len.ensures, c.args.bytes.now.ok.0) in
+    let room : c.min-room.result ≡ min 4096 (65537 - length c.args.bytes.now.items) = c.min-room.ensures ∙ ap (λ (n : ℕ). min 4096 (65537 - n)) len in
     let all : length c.pull.new.buf ≡ c.min-room.result = c.pull.auto.buf ∙ length-take-le c.min-room.result _ (omega (arith, c.min-room.ensures)) in
     rw p.1 (loses_front _ _ _ c.pull.new.buf c.min-room.result c.in-Ok.count c.requires.room room all c.in-Ok.ensures.bound c.in-Ok.ensures.bytes.0)
 
@@ -35,3 +38,18 @@ pub returns-in_err-extend_from_slice-clause-err : goal.returns-in_err-extend_fro
 returns-in_err-extend_from_slice-clause-err g c =
     let p = err_from_is_err_and c.from_residual.result c.from_residual.ensures.1 in
     rw (p.1, p.2, c.in-Ok.ensures.failed) refl
+
+pub overflow_sub-len : goal.overflow_sub-len
+overflow_sub-len g c = omega (arith, c.requires.room, c.len.ensures)
+
+pub slice_bounds-chunk-end : goal.slice_bounds-chunk-end
+slice_bounds-chunk-end g c = omega (arith, c.min-room.ensures)
+
+pub slice_bounds-chunk-end-2 : goal.slice_bounds-chunk-end-2
+slice_bounds-chunk-end-2 g c = omega (arith, c.in-Ok.ensures.bound, length-append {A = ℕ})
+
+pub pull-requires : goal.pull-requires
+pull-requires g c = c.requires.working
+
+pub returns-clause-failed : goal.returns-clause-failed
+returns-clause-failed g c = c.in-Ok.ensures.failed

@@ -1,6 +1,6 @@
-use Rattle.std.proofs.Common.{arith}
+use Rattle.std.proofs.Common.{length, ap, arith}
 use Rattle.std.proofs.lemmas.Result.{err_from_is_err_and}
-use Rattle.lw_bench.proofs.Devices.{gets_more, input_ended, input_full, taken_ended, taken_full, taken_lost}
+use Rattle.lw_bench.proofs.Devices.{takes_none, fewer_left, gets_more, input_ended, input_full, taken_ended, taken_full, taken_lost}
 use Rattle.lw_bench.proofs.input.read_input.Goals as goal
 
 pub returns-then-branch-eq0-clause-bytes : goal.returns-then-branch-eq0-clause-bytes
@@ -36,3 +36,20 @@ pub returns-in_err-pull_chunk-clause-err : goal.returns-in_err-pull_chunk-clause
 returns-in_err-pull_chunk-clause-err g c =
     let p = err_from_is_err_and c.from_residual.result c.from_residual.ensures.1 in
     rw (p.1, p.2) c.in_err-pull_chunk.ensures.err
+
+pub loop-reader-init : goal.loop-reader-init
+loop-reader-init g c =
+    record { working = c.requires; limit = omega (arith, ap length c.new-bytes.ensures.items); bytes = takes_none _ _ c.new-bytes.ensures.items }
+
+pub loop-reader-smaller : goal.loop-reader-smaller
+loop-reader-smaller g c = fewer_left _ _ _ _ _ c.in_ok-pull_chunk.ensures.bytes c.if-branch-eq0.false
+
+pub pull_chunk-requires : goal.pull_chunk-requires
+pull_chunk-requires g c =
+    record { working = c.loop-reader.invariant.working; room = omega (arith, c.loop-reader-test.true, c.len.ensures, c.loop-reader.bytes.ok.0) }
+
+pub returns-clause-failed : goal.returns-clause-failed
+returns-clause-failed g c = c.loop-reader.invariant.working
+
+pub returns-then-branch-eq0-clause-failed : goal.returns-then-branch-eq0-clause-failed
+returns-then-branch-eq0-clause-failed g c = c.in_ok-pull_chunk.ensures.failed

@@ -1,27 +1,16 @@
-use Rattle.std.proofs.Common.{◌++◌, ◌∙◌, refl, ap, codes}
+use Rattle.std.proofs.Common.{◌++◌, codes}
 use Rattle.std.specs.Fmt.{decimal}
-use Rattle.lw_base.proofs.api.Writing.{written_as}
+use Rattle.std.specs.String.{string_bytes}
+use Rattle.lw_base.proofs.api.Writing.{then_written}
 use Rattle.lw_base.specs.Heads.{head_of}
-use Rattle.lw_base.specs.declared.stop.End.TheVariants.{Final, NotFinal, Stopped}
-use Rattle.lw_bench.proofs.Pages.{first_told, stop_told}
+use Rattle.lw_bench.specs.Pages.{first_lines, end_text}
+use Rattle.lw_bench.proofs.Pages.{first_told}
 use Rattle.lw_bench.proofs.page.write_first_lines.Goals as goal
 
-pub returns-in-Final : goal.returns-in-Final
-returns-in-Final g c =
-    written_as c.write.result _ _ _ _ (first_told (head_of c.args.head.now) c.args.replay c.as_str-name.result.now Final c.as_str-name.ensures
-    c.in-Final.is) c.write.ensures.bytes
-
-pub returns-in-NotFinal : goal.returns-in-NotFinal
-returns-in-NotFinal g c =
-    written_as c.write-in-NotFinal.result _ _ _ _ (first_told
-    (head_of c.args.head.now) c.args.replay c.as_str-name.result.now NotFinal c.as_str-name.ensures c.in-NotFinal.is) c.write-in-NotFinal.ensures.bytes
-
-pub returns-in-Stopped : goal.returns-in-Stopped
-returns-in-Stopped g c =
-    let done = c.args.replay.done in
-    let name = c.as_str-name.result.now in
-    let told = stop_told done c.number.result c.name.result.now c.in-Stopped.stop (Stopped c.in-Stopped.stop) refl c.number.ensures c.name.ensures in
-    written_as c.writeln.result _ _ _ _
-    (ap (λ t. codes "Test " ++ (name ++ (codes "\nSteps " ++ (decimal done ++ (codes "\nEnd " ++ t))))) told ∙ first_told
-    (head_of c.args.head.now) c.args.replay name (Stopped c.in-Stopped.stop) c.as_str-name.ensures c.in-Stopped.is)
-    c.writeln.ensures.bytes
+pub returns : goal.returns
+returns g c =
+    let replay = c.args.replay in
+    then_written c.write_end.result (string_bytes c.args.out.now) (string_bytes c.write.new.self) (string_bytes c.write_end.new.out)
+    (codes "Test " ++ (c.as_str.result.now ++ (codes "\nSteps " ++ (decimal replay.done ++ codes "\nEnd "))))
+    (end_text replay.done replay.end ++ codes "\n") (first_lines (head_of c.args.head.now) replay) c.in_ok-write.ensures.bytes
+    (first_told (head_of c.args.head.now) replay c.as_str.result.now c.as_str.ensures) c.write_end.ensures

@@ -76,3 +76,12 @@ returns-in_err-text-clause-left g c =
 pub returns-in_err-made-clause-left : goal.returns-in_err-made-clause-left
 returns-in_err-made-clause-left g c =
     passed_on _ _ c.from_residual-in_err-made.ensures.1 (taken_at _ _ c.in_err-made.field-0.0 c.in_ok-text.ensures.taken)
+
+pub read_input-requires : goal.read_input-requires
+read_input-requires g c = c.requires.reader
+
+pub write_output-requires : goal.write_output-requires
+write_output-requires g c = c.requires.writer
+
+pub returns-in-Ok-clause-taken : goal.returns-in-Ok-clause-taken
+returns-in-Ok-clause-taken g c = c.in_ok-text.ensures.taken

@@ -1,0 +1,13 @@
+use Rattle.lw_bench.proofs.litmus_test.read_cells.Goals as goal
+
+pub read_source-requires : goal.read_source-requires
+read_source-requires g c = rw c.head.ensures at c.in-Source.is
+
+pub read_program-requires : goal.read_program-requires
+read_program-requires g c = rw c.head.ensures at c.in-X86.is
+
+pub returns-in_ok-source-in-Source-clause-found : goal.returns-in_ok-source-in-Source-clause-found
+returns-in_ok-source-in-Source-clause-found g c = c.in_ok-source-in-Source.ensures.found
+
+pub returns-in_ok-program-in-X86-clause-found : goal.returns-in_ok-program-in-X86-clause-found
+returns-in_ok-program-in-X86-clause-found g c = c.in_ok-program-in-X86.ensures.found
