@@ -14,7 +14,7 @@ use Rattle.lw_memory.specs.Memory.{Memory}
 use Rattle.lw_tso.specs.Evictions.{without_evictions}
 use Rattle.lw_tso.specs.Exchange.{StandsAt}
 use Rattle.lw_tso.specs.Machines.{MachineState, position_of, Answer, EventDone, flatten}
-use Rattle.lw_tso.specs.Runs.{MachineRan, is_final, machine_start}
+use Rattle.lw_tso.specs.Runs.{MachineRan, machine_start}
 use Rattle.lw_tso.specs.Starts.{CanStart}
 use Rattle.lw_tso.proofs.api.Effects.{event_once}
 use Rattle.lw_litmus.specs.declared.instr.Instr.{Instr}

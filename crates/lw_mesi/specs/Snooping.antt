@@ -2,7 +2,7 @@
 -- states suffice. After Sorin, Hill and Wood, 'A Primer on Memory Consistency and Cache Coherence', the chapter on snooping:
 -- beside each row stands what its tables say there, as 'what is sent / the next state'. The tables of MESI and MOESI differ in
 -- what another cache's GetS does alone, which stands in Protocols; O is never met under MESI.
-use Rattle.std.specs.Prelude.{◌≡◌, ℕ, List, [], ◌∷◌, length, map, Option, None, Bool, true, false, slice_set}
+use Rattle.std.specs.Prelude.{◌≡◌, ℕ, List, length, map, Option, None, Bool, true, false, slice_set}
 use Rattle.std.specs.List.{list_any}
 use Rattle.lw_base.specs.Sums.{sum_of}
 use Rattle.lw_memory.specs.declared.system.Request.{Request}

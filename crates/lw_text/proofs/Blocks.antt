@@ -1,5 +1,5 @@
 -- The entries of an initial block, read one after another.
-use Rattle.std.proofs.Common.{◌≡◌, ◌<◌, ◌≤◌, false, List, [], ◌∷◌, ◌++◌, length, map, refl, subst, arith}
+use Rattle.std.proofs.Common.{◌≡◌, ◌≤◌, false, List, [], ◌∷◌, ◌++◌, length, map, refl, subst}
 use Rattle.std.specs.Prelude.{codes, All}
 use Rattle.std.specs.List.{AllByRecursion}
 use Rattle.std.proofs.lemmas.List.Elements.{All-from_recursion}
@@ -13,7 +13,6 @@ use Rattle.lw_text.specs.Sites.{SiteSyntax, site_names}
 use Rattle.lw_text.specs.Conditions.{begins_word}
 use Rattle.lw_text.specs.Frames.{EntrySyntax, IsEntry, Block}
 use Rattle.lw_text.specs.inner.Resolved.{named, named_entry, IsIn}
-use Rattle.lw_text.proofs.Atoms.{IsSite-shorter, Value-shorter}
 use Rattle.lw_text.proofs.Entries.{IsEntry-unique, brace, semicolon, brace_unlike, brace_apart}
 use Rattle.lw_text.proofs.Lists.{Ended-unique}
 use Rattle.lw_text.proofs.NameTables.{entry-along}

@@ -11,7 +11,7 @@ use Rattle.lw_base.specs.Names.{IsName}
 use Rattle.lw_text.specs.Tokens.{IsNumber}
 use Rattle.lw_text.specs.Sites.{SiteSyntax, IsSite, Value}
 use Rattle.lw_text.specs.Frames.{EntrySyntax, IsEntry}
-use Rattle.lw_text.proofs.Atoms.{Value-unique, IsSite-unique, site_front, site_none}
+use Rattle.lw_text.proofs.Atoms.{Value-unique, IsSite-unique, site_front}
 use Rattle.lw_text.proofs.api.Numbers.{number_first}
 
 -- ---- what an entry is

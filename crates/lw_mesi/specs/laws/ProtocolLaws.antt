@@ -10,7 +10,7 @@ use Rattle.lw_memory.specs.MemoryLaws.{Lawful, Served}
 use Rattle.lw_mesi.specs.CacheLines.{CacheLine, Caches, copy_of, letter_of, copy_word, unheld_line, line_at, content_of, state_in}
 use Rattle.lw_mesi.specs.Coherence.{IsCoherentCacheLine, HasStatesOf, IsKeptLine, IsKept, caches_invariant}
 use Rattle.lw_mesi.specs.declared.protocol.Protocol.{Protocol}
-use Rattle.lw_mesi.specs.Snooping.{line_to_read, line_to_write, line_written, line_evicted, line_after, loc_of, answer_from, caches_after}
+use Rattle.lw_mesi.specs.Snooping.{line_to_read, line_to_write, line_written, line_evicted, loc_of, answer_from, caches_after}
 use Rattle.lw_mesi.specs.Protocols.{table_of, caches_by}
 use Rattle.lw_mesi.specs.laws.Coherent.{at_place, After}
 use Rattle.lw_mesi.specs.laws.Rows.{written}

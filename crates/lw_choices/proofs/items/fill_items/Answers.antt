@@ -1,6 +1,6 @@
-use Rattle.std.proofs.Common.{◌≡◌, ◌++◌, ◌∙◌, sym, ap, ap₂, length, arith}
+use Rattle.std.proofs.Common.{◌≡◌, ◌++◌, sym, ap₂, length, arith}
 use Rattle.std.proofs.lemmas.Bool.{ltb-false}
-use Rattle.lw_choices.specs.Items.{path_items, items_of, items_from}
+use Rattle.lw_choices.specs.Items.{path_items}
 use Rattle.lw_choices.specs.Views.{path_of}
 use Rattle.lw_choices.proofs.Pushed.{some_is, some_there, thread_pushed, paths_done, threads_done}
 use Rattle.lw_choices.proofs.items.fill_items.Goals as goal

@@ -38,8 +38,13 @@ pass_operation-requires g c =
     let at = slice_get_read c.args.code.now _ c.loop-place.place c.index-code-place.result refl c.loop-place-test.true c.index-code-place.is in
     let many = ap length c.deref_mut.ensures.value in record {
       next = omega (arith, many, c.loop-place.invariant.as_many, c.loop-place-test.true);
-      target = λ x is. omega (arith, many, c.loop-place.invariant.as_many, c.requires.forward c.loop-place.place c.index-code-place.result at x
-          (ap target_of (sym c.operation.ensures) ∙ is));
+      target = λ x is. omega (
+        arith,
+        many,
+        c.loop-place.invariant.as_many,
+        c.requires.forward c.loop-place.place c.index-code-place.result at x
+            (ap target_of (sym c.operation.ensures) ∙ is),
+      );
     }
 
 pub returns-clause-as_many : goal.returns-clause-as_many

@@ -1,4 +1,4 @@
-use Rattle.std.proofs.Common.{◌≡◌, ◌++◌, ◌∙◌, List, ap, sym}
+use Rattle.std.proofs.Common.{◌++◌, ◌∙◌, List, ap, sym}
 use Rattle.std.proofs.lemmas.List.{append-nil, drop_all}
 use Rattle.lw_base.specs.declared.event.Event.{Event}
 use Rattle.lw_finals.specs.inner.SourceRunners.{item_events}

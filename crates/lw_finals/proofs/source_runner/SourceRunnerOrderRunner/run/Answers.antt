@@ -55,7 +55,7 @@ returns-then-not-is_final-clause-ends g c o stays =
     let source = source_of c.self.inside.source.now in
     let run : StaysAndEnds source c.args.items.now c.args.order.now o =
     subst (λ (s : SourceTest). StaysAndEnds s c.args.items.now c.args.order.now o)
-        (sym (ap (λ (r : Running CompiledSource). r.test.source) c.self.view_is)) stays in
+    (sym (ap (λ (r : Running CompiledSource). r.test.source) c.self.view_is)) stays in
     let at_end = ends_alone (system_of source) c.args.items.now c.loop-number-test.false c.loop-number.invariant.ran o run in
     let final = subst (λ (p : List (List Stmt)). is_source_final p c.loop-number.self-inside.run.state ≡ true) (sym c.loop-number.invariant.program) at_end.1 in
     true≢false (sym final ∙ sym c.is_final.ensures ∙ c.if-not-is_final.true)
