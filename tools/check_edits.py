@@ -58,8 +58,11 @@ def fault_of(edit, told):
         return told
     *modules, function = head[2].split("::")
     if at[1].startswith("proofs/"):
-        # (of functions that call each other, the folder of the first is marked)
-        is_there = os.path.dirname(at[1]).replace("+", "") == "/".join(["proofs", *modules, function])
+        # (of functions that call each other, the folder of the first, or that of their cycle's name, is marked, and the goals in it
+        # begin with their function's name)
+        folder, home = os.path.dirname(at[1]), "/".join(["proofs", *modules])
+        is_of_cycle = folder.startswith(f"{home}/+") and head[3].startswith(f"{function}-")
+        is_there = folder.replace("+", "") == f"{home}/{function}" or is_of_cycle
     else:
         is_there = f"file: {at[1]}" in text.split("\n") and function_at(f"{HOME}/crates/{crate}/{at[1]}", int(at[2])) == function
     return None if is_there else f"the prover told something else first than of {head[2]}: {told}"
