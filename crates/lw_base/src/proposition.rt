@@ -8,7 +8,6 @@ use std::alloc::{AllocError, Allocator, Global};
 
 /// What a condition asks of a final state.
 #[derive(Drop)]
-#[derive_where(PartialEq, Eq)]
 pub enum Prop<A: Allocator = Global> {
     /// True in every state.
     Always,

@@ -7,7 +7,7 @@ ghost use Rattle.lw_base.specs.inner.Kinds.{is_of_kind};
 use crate::name::{is_blank, is_word_byte};
 
 /// A kind of bytes that stand side by side in a text.
-#[derive(Clone, Copy, Debug, PartialEq, Eq)]
+#[derive(Clone, Copy)]
 pub enum ByteKind {
     /// Spaces, tabs, line feeds and carriage returns.
     Blank,

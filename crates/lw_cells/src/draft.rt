@@ -2,7 +2,7 @@
 use lw_base::{Loc, Operand, Reg, Word};
 
 /// What the tokens of a statement give.
-#[derive(Clone, Copy, Debug, PartialEq, Eq, Default)]
+#[derive(Clone, Copy, Default)]
 pub struct Operands {
     /// Its register, or the first of two.
     pub reg: Option<Reg>,

@@ -1,7 +1,7 @@
 //! What may stand at a place of a statement.
 
 /// What one token of a statement is.
-#[derive(Clone, Copy, Debug, PartialEq, Eq)]
+#[derive(Clone, Copy)]
 pub enum Slot<W> {
     /// This word or sign of the language.
     Word(W),

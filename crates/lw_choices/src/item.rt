@@ -3,7 +3,7 @@
 use lw_base::Cpu;
 
 /// A statement on a thread's path, or the drain of the entry that it made.
-#[derive(Clone, Copy, Debug, PartialEq, Eq)]
+#[derive(Clone, Copy)]
 pub struct Item {
     pub thread: Cpu,
     pub position: u8,

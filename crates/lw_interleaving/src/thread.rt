@@ -10,7 +10,7 @@ use lw_litmus::Operation;
 use std::alloc::Allocator;
 
 /// A thread's place in its code, and its registers.
-#[derive(Clone, Copy, Debug, PartialEq, Eq)]
+#[derive(Clone, Copy)]
 pub struct Thread {
     /// The number of its next statement.
     pub position: usize,

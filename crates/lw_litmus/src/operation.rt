@@ -5,7 +5,7 @@ ghost use Rattle.lw_litmus.specs.Operations as table;
 use lw_base::{Loc, Operand, REGISTERS, Reg, Word};
 
 /// What a statement or an instruction does. Everything else about it follows from this.
-#[derive(Clone, Copy, Debug)]
+#[derive(Clone, Copy)]
 pub enum Operation {
     /// The register gets the value.
     Set { dst: Reg, val: Operand },
@@ -29,7 +29,7 @@ pub enum Operation {
 }
 
 /// When a branch jumps.
-#[derive(Clone, Copy, Debug)]
+#[derive(Clone, Copy)]
 pub enum Condition {
     Always,
     /// The register has the word.

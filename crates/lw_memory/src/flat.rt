@@ -10,7 +10,7 @@ use lw_base::{Cpu, Loc, MAX_LOCATIONS, Word};
 use std::marker::Model;
 
 /// One word for each location, which all processors see at once. It takes no memory.
-#[derive(Debug, Drop)]
+#[derive(Drop)]
 pub struct FlatMemory {
     cpus: usize,
     len: usize,

@@ -24,7 +24,7 @@ pub enum LineState {
 }
 
 /// What a processor asks of the memory system.
-#[derive(Clone, Copy, Debug, PartialEq, Eq)]
+#[derive(Clone, Copy)]
 pub enum Request {
     /// The location's word.
     Load(Cpu, Loc),

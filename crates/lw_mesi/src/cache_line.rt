@@ -15,7 +15,7 @@ use lw_memory::{LineState, NotHeld};
 use std::marker::Model;
 
 /// The copies of one location. A clause sees each processor's copy, and memory's word.
-#[derive(Debug, Drop)]
+#[derive(Drop)]
 pub(crate) struct PackedCacheLine {
     /// Who holds the line in M, O or E.
     owner: Option<Cpu>,

@@ -25,7 +25,6 @@ pub type Moesi<A = Global> = SnoopingCaches<ByMoesi, A>;
 /// A clause sees for each location the copies in the caches, with memory's word. Every call of it tells that they
 /// are coherent (one writer or many readers, and one word in all copies) and in states of their protocol.
 #[derive(Drop)]
-#[derive_where(Debug)]
 pub struct SnoopingCaches<P: KeptProtocol, A: Allocator = Global> {
     cpus: usize,
     lines: Vec<PackedCacheLine, A>,

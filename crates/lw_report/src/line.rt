@@ -1,5 +1,6 @@
 //! The line that is written of a test's state: its words behind their labels.
 ghost use Rattle.std.specs.Prelude.{◌≡◌, ◌≤◌, ◌++◌, length, codes, All, IfOk, OnOk};
+ghost use Rattle.std.specs.Fmt.{decimal};
 ghost use Rattle.std.specs.String.{string_bytes};
 ghost use Rattle.lw_base.specs.Heads.{head_of};
 ghost use Rattle.lw_base.specs.Limits.{most_threads};
@@ -91,7 +92,18 @@ pub(crate) fn write_state<A: Allocator>(
 {
     for place in 0..labels.len().min(words.len()) {
         out.push_str(labels[place].as_str())?;
-        write!(out, "{};", words[place])?;
+        write_word(out, words[place])?;
     }
     out.push_str("\n")
+}
+
+/// A word in decimal, and `;`. Most words of most tests are a digit.
+fn write_word<A: Allocator>(out: &mut String<A>, word: Word) -> Result<(), AllocError>
+    ensures { OnOk result (string_bytes out.new ≡ string_bytes out.old ++ (decimal word ++ codes ";")) }
+{
+    if word < 10 {
+        out.push((b'0' + word as u8) as char)?;
+        return out.push(';');
+    }
+    write!(out, "{};", word)
 }

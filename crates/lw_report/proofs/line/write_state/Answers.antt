@@ -11,7 +11,7 @@ pub loop-place-preserved : goal.loop-place-preserved
 loop-place-preserved g c =
     let out = string_bytes c.loop-place.out in
     let rest = decimal (get_or c.args.words.now c.loop-place.place 0) ++ codes ";" in
-    let written = c.in_ok-write.ensures.bytes
+    let written = c.in_ok-write_word.ensures
     ∙ (ap (λ (t : Bytes). t ++ rest) c.in_ok-push_str.ensures.bytes ∙ append_assoc out c.as_str.result.now rest) in
     zip_more c.args.labels.now c.args.words.now c.loop-place.place c.min-place-end.result c.index-labels-place.result c.as_str.result.now
     (get_or c.args.words.now c.loop-place.place 0) _ _ _ c.loop-place-test.true c.min-place-end.ensures c.index-labels-place.is c.as_str.ensures

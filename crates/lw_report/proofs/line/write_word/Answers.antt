@@ -1,0 +1,19 @@
+use Rattle.std.proofs.Common.{◌++◌, ◌∙◌, ap, sym, codes, refl, arith}
+use Rattle.std.specs.Fmt.{decimal}
+use Rattle.std.specs.String.{string_bytes}
+use Rattle.std.proofs.lemmas.Fmt.{decimal_digit}
+use Rattle.lw_base.specs.Types.{Bytes}
+use Rattle.lw_base.proofs.api.Writing.{then_written, pushed}
+use Rattle.lw_report.proofs.line.write_word.Goals as goal
+
+-- a digit, and what ends a word
+pub returns-then-word-lt10 : goal.returns-then-word-lt10
+unfolding lib.Utf8.encode
+returns-then-word-lt10 g c =
+    let out = string_bytes c.args.out.now in
+    let digit = string_bytes c.push.new.self in
+    let end = string_bytes c.push-then-word-lt10.new.self in
+    let is_digit = c.in_ok-push.ensures.ascii (omega (arith, c.if-word-lt10.true)) ∙ sym (decimal_digit c.args.word c.if-word-lt10.true) in
+    then_written c.push-then-word-lt10.result out digit end (decimal c.args.word) (codes ";") _
+    (c.in_ok-push.ensures.bytes ∙ ap (λ (t : Bytes). out ++ t) is_digit) refl
+    (pushed c.push-then-word-lt10.result digit end (codes ";") c.push-then-word-lt10.ensures.bytes)
