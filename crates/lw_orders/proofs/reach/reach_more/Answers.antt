@@ -1,4 +1,4 @@
-use Rattle.std.proofs.Common.{ℕ, ◌≡◌, ◌^◌, ◌||◌, not, slice_index, arith, ap, sym, ◌∙◌}
+use Rattle.std.proofs.Common.{◌≡◌, ◌^◌, ◌||◌, not, slice_index, arith, ap, sym, ◌∙◌}
 use Rattle.lw_orders.specs.inner.Sets.{has, apart, leads_by}
 use Rattle.lw_orders.proofs.Bits.{has-bit}
 use Rattle.lw_orders.proofs.WalkRows.{joined_row, kept_row}
