@@ -22,10 +22,12 @@
 #![tactic(auto)]
 
 mod greedy;
+mod item_bits;
 mod item_set;
 mod items;
 mod laws;
 mod limits;
+mod low_items;
 mod order;
 mod orders;
 mod reach;

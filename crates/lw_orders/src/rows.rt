@@ -22,7 +22,7 @@ pub(crate) fn row(rows: &Rows, item: usize) -> ItemSet
 /// For each item the set of those from which a pair leads to it.
 pub(crate) fn rows_of(pairs: &[(u8, u8)]) -> Rows
     requires { Within most_items pairs.now }
-    ensures { AreRows pairs.now result }
+    ensures { AreRows most_items pairs.now result }
 {
     let mut rows = [ItemSet::empty(); MAX_ITEMS];
     add_pairs(&mut rows, pairs);

@@ -1,5 +1,0 @@
-use Rattle.lw_orders.proofs.Bits.{has-difference}
-use Rattle.lw_orders.proofs.item_set.ItemSet.difference.Goals as goal
-
-pub returns : goal.returns
-returns c k l = rw (← c.self.view_is, ← c.other.view_is) (has-difference c.self.inside.0 c.other.inside.0 k c.other.invariant l)

@@ -1,0 +1,10 @@
+use Rattle.std.proofs.Common.{arith}
+use Rattle.std.specs.Int.{w128}
+use Rattle.lw_orders.proofs.Bits.{has-ones, has-below}
+use Rattle.lw_orders.proofs.item_set.ItemSetItemBits.below.Goals as goal
+
+pub returns-then-len-eq-WIDTH-clause-items : goal.returns-then-len-eq-WIDTH-clause-items
+returns-then-len-eq-WIDTH-clause-items c k l = rw c.if-len-eq-WIDTH.true (has-ones 128 k)
+
+pub returns-else-len-eq-WIDTH-clause-items : goal.returns-else-len-eq-WIDTH-clause-items
+returns-else-len-eq-WIDTH-clause-items c k l = has-below w128 c.args.len k (omega arith)

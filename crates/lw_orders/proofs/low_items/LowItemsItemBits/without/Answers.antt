@@ -1,0 +1,6 @@
+use Rattle.std.specs.Int.{w64}
+use Rattle.lw_orders.proofs.Bits.{has-without}
+use Rattle.lw_orders.proofs.low_items.LowItemsItemBits.without.Goals as goal
+
+pub returns-clause-items : goal.returns-clause-items
+returns-clause-items c k l = rw (← c.self.view_is) (has-without w64 c.self.inside.0 c.args.item k c.self.invariant c.requires)

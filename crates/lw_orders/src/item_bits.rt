@@ -1,0 +1,54 @@
+//! Sets of items in as few bits as serve: of most tests all items fit into a machine word.
+
+ghost use Rattle.std.specs.Prelude.{◌≡◌, ℕ, ◌^◌, ◌<◌, ◌≤◌, ◌==◌, ◌&&◌, ◌||◌, false, true, not, nat_lt};
+ghost use Rattle.lw_orders.specs.Limits.{most_items};
+ghost use Rattle.lw_orders.specs.inner.Sets.{has, apart};
+
+use crate::item_set::ItemSet;
+
+/// A set of items below `WIDTH`. It meets the rows of items, which are wider, and what it takes from a row are the items
+/// below `WIDTH`.
+pub(crate) trait ItemBits: Copy {
+    /// The number whose bits are the items.
+    ghost number: { Self → ℕ };
+
+    /// No item is as high.
+    ghost WIDTH: { ℕ };
+
+    /// No item is as high.
+    const WIDTH: usize;
+
+    /// The items below a number.
+    fn below(len: usize) -> Self
+        requires { len ≤ WIDTH }
+        ensures items { (k : ℕ) → k < most_items → has (number result) k ≡ nat_lt k len }
+        ensures fits { number result < 2 ^ most_items };
+
+    /// The set of one item.
+    fn only(item: usize) -> Self
+        requires { item < WIDTH }
+        ensures { number result ≡ 2 ^ item };
+
+    /// The lowest item; `WIDTH` where there is none.
+    fn lowest(self) -> usize
+        ensures below { (k : ℕ) → k < result → has (number self) k ≡ false }
+        ensures found { result < WIDTH → has (number self) result ≡ true };
+
+    fn without(self, item: usize) -> Self
+        requires { item < WIDTH }
+        ensures items { (k : ℕ) → k < most_items → has (number result) k ≡ (not (k == item) && has (number self) k) }
+        ensures fits { number result < 2 ^ most_items };
+
+    /// The items of this set that are not in the row.
+    fn without_row(self, row: ItemSet) -> Self
+        ensures { (k : ℕ) → k < most_items → has (number result) k ≡ (has (number self) k && not (has row k)) };
+
+    /// The items of this set and of the row that are in another set.
+    fn with_row_among(self, row: ItemSet, others: Self) -> Self
+        ensures { (k : ℕ) → k < most_items
+            → has (number result) k ≡ ((has (number self) k || has row k) && has (number others) k) };
+
+    /// Whether the row has none of the items.
+    fn is_apart(self, row: ItemSet) -> bool
+        ensures { result ≡ apart row (number self) };
+}

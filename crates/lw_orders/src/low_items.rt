@@ -1,0 +1,61 @@
+//! Sets of items below 64.
+
+use crate::item_bits::ItemBits;
+use crate::item_set::ItemSet;
+use std::marker::Model;
+
+/// A set of items below 64, each a bit of a number.
+#[derive(Clone, Copy)]
+pub(crate) struct LowItems(u64);
+
+impl Model for LowItems {
+    ghost use Rattle.std.specs.Prelude.{ℕ, ◌<◌, ◌^◌};
+
+    ghost Value = { ℕ };
+
+    ghost view = { λ s. s.0 };
+
+    ghost invariant = { λ s. s.0 < 2 ^ 64 };
+
+    ghost inverse = { λ n. record { 0 = n } };
+}
+
+impl ItemBits for LowItems {
+    ghost number = { λ s. s };
+
+    ghost WIDTH = { 64 };
+
+    const WIDTH: usize = 64;
+
+    fn below(len: usize) -> Self {
+        if len == Self::WIDTH {
+            LowItems(u64::MAX)
+        } else {
+            LowItems((1 << len) - 1)
+        }
+    }
+
+    fn only(item: usize) -> Self {
+        LowItems(1 << item)
+    }
+
+    fn lowest(self) -> usize {
+        self.0.trailing_zeros() as usize
+    }
+
+    fn without(self, item: usize) -> Self {
+        LowItems(self.0 & !(1 << item))
+    }
+
+    fn without_row(self, row: ItemSet) -> Self {
+        LowItems(self.0 & !row.low())
+    }
+
+    fn with_row_among(self, row: ItemSet, others: Self) -> Self {
+        LowItems((self.0 | row.low()) & others.0)
+    }
+
+    fn is_apart(self, row: ItemSet) -> bool {
+        row.low() & self.0 == 0
+    }
+}
