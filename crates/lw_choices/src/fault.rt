@@ -11,7 +11,7 @@ pub enum ListFault {
     /// Some choice of paths has more than 128 items.
     TooManyItems,
     /// No choice has so many, and the ways in which the open conflicts of each choice can be taken one way round or the
-    /// other are, over all choices, more than 2 to the 20.
+    /// other are, over all choices, more than `lw_orders::MAX_ORDERS`.
     TooManyOrders,
     /// No memory was to be had.
     Memory,
