@@ -1,7 +1,7 @@
 #!/usr/bin/env python3
 """Draws the machine as a picture: one state of a run, or a strip of all its states, as an SVG for paper, screens and dark mode.
 
-    python3 tools/picture.py SCHEDULE [--strip] [--protocol mesi|moesi] < FILE
+    python3 tools/picture.py SCHEDULE [--strip] [--protocol PROTOCOL] < FILE
     python3 tools/picture.py --documents
 
 The first prints a picture of where a schedule leads; with --strip there is one picture for each event. What is drawn comes from the
@@ -223,6 +223,7 @@ def write_documents():
 
 def main():
     import web_questions
+    import web_words
 
     words = sys.argv[1:]
     if words == ["--documents"]:
@@ -230,7 +231,7 @@ def main():
         return 0
     strip = "--strip" in words
     words = [it for it in words if it != "--strip"]
-    if not (len(words) == 1 or len(words) == 3 and words[1] == "--protocol" and words[2] in ("mesi", "moesi")):
+    if not (len(words) == 1 or len(words) == 3 and words[1] == "--protocol" and words[2] in web_words.PROTOCOLS):
         print(__doc__, file=sys.stderr, end="")
         return 2
     text = sys.stdin.buffer.read().decode(errors="replace")

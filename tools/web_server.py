@@ -12,6 +12,7 @@ import threading
 import time
 
 from web_runs import Gone, NoRun
+from web_words import PROTOCOLS
 
 MOST_CONNECTIONS = 32
 MOST_SECONDS = 5
@@ -48,7 +49,6 @@ HEADERS = {
     ),
     "Connection": "close",
 }
-PROTOCOLS = ("mesi", "moesi")
 # The keys of each question, with the type of each. The values are checked, and not understood: tools/web_questions.py reads them.
 QUESTIONS = {
     "states": {"text": str},

@@ -1,4 +1,9 @@
-"""What the web page says of a report, in clear words: by the test's language, its quantifier and the verdict."""
+"""The words of the web page: the protocols' names, and what it says of a report, in clear words: by the test's language, its
+quantifier and the verdict.
+"""
+
+# The protocols that the caches can keep.
+PROTOCOLS = ("mesi", "moesi")
 
 # By the quantifier, as a report's first line names it, and the verdict; `{}` is what forbids or allows.
 VERDICTS = {

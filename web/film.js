@@ -3,7 +3,7 @@
 import * as address from "./address.js";
 import { ask } from "./ask.js";
 import { button, copy, el, plainMark, save } from "./dom.js";
-import { eventWords, machine, usedRegisters } from "./machine.js";
+import { PROTOCOLS, eventWords, machine, usedRegisters } from "./machine.js";
 import { tell } from "./told.js";
 
 const PAUSE = 1200;
@@ -57,7 +57,7 @@ export class Film {
   }
 
   choices() {
-    const protocols = ["mesi", "moesi"].map((it) => el("option", { value: it, selected: it === this.protocol }, it.toUpperCase()));
+    const protocols = PROTOCOLS.map((it) => el("option", { value: it, selected: it === this.protocol }, it.toUpperCase()));
     const chosen = (event) => {
       this.protocol = event.target.value;
       this.show(this.answer.state, this.step, this.run);

@@ -3,7 +3,7 @@
 import * as address from "./address.js";
 import { ask } from "./ask.js";
 import { button, copy, el, plainMark, sentence } from "./dom.js";
-import { eventWords, machine, usedRegisters } from "./machine.js";
+import { PROTOCOLS, eventWords, machine, usedRegisters } from "./machine.js";
 import { sentenceOf, tell, tellNothing } from "./told.js";
 
 // What of a source test can be run by hand.
@@ -82,7 +82,7 @@ export class Hand {
       this.protocol = event.target.value;
       this.go(this.events);
     };
-    const protocols = options([["mesi", "MESI"], ["moesi", "MOESI"]], this.protocol);
+    const protocols = options(PROTOCOLS.map((it) => [it, it.toUpperCase()]), this.protocol);
     const runs = options(RUNS, this.runs);
     const chosen = (event) => this.choose(event.target.value);
     const isSource = this.language === "SRC";

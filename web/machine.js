@@ -2,6 +2,9 @@
 
 import { el, sentence } from "./dom.js";
 
+/** The protocols that the caches can keep. */
+export const PROTOCOLS = ["mesi", "moesi"];
+
 let areLinesOpen = false;
 
 /** The registers that a thread's code names, or that have a word other than 0 in one of these states. */

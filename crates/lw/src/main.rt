@@ -1,6 +1,6 @@
 //! The program: `lw states` reports the final states of the test on standard input; `lw compile` compiles it; `lw schedules`
-//! lists a schedule for each of its final states; `lw replay SCHEDULE`, perhaps with `--protocol mesi` or
-//! `--protocol moesi` behind it, replays it. Everything but the system's words and streams is lw_bench's.
+//! lists a schedule for each of its final states; `lw replay SCHEDULE`, perhaps with `--protocol` and a protocol's name
+//! behind it, replays it. Everything but the system's words and streams is lw_bench's.
 #![tactic(auto)]
 
 use lw_bench::{
