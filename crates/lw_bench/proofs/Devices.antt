@@ -1,5 +1,5 @@
 -- Bytes that came in and went out, one piece more.
-use Rattle.std.proofs.Common.{arith, inl, inr, refl, ◌≡◌, ◌≢◌, ℕ, zero, suc, ◌-◌, ◌<◌, ◌≤◌, min, Option, Some, None, List, [], ◌∷◌, ◌++◌, length, length-append}
+use Rattle.std.proofs.Common.{arith, inl, inr, refl, ◌≡◌, ◌≢◌, ℕ, zero, suc, ◌-◌, ◌<◌, ◌≤◌, Option, Some, None, List, [], ◌∷◌, ◌++◌, length, length-append}
 use Rattle.std.proofs.Common.{take, drop, sym, ap, ◌∙◌, subst, append_assoc}
 use Rattle.std.proofs.lemmas.List.{length-take-le, take-append-drop, take-append-le}
 use Rattle.std.specs.Io.KnownBytes.{Appends, Consumes, IsAtEnd, Keeps}
@@ -27,10 +27,10 @@ puts_more a b c bytes rest n puts more =
 
 -- the front of a buffer was added, which has no more room than is still to be read
 pub gets_front : (known left : Option (List ℕ)) (before after buffer behind : List ℕ) (room count : ℕ) → length before < 65537
-    → room ≡ min 4096 (65537 - length before) → length buffer ≡ room → count ≤ length buffer
+    → 0 < room → room ≤ 65537 - length before → length buffer ≡ room → count ≤ length buffer
     → Consumes known left (take count buffer) × (count ≡ 0 → 0 < length buffer → IsAtEnd left) → after ≡ before ++ take count (buffer ++ behind)
     → Gets known left before after count
-gets_front known left before after buffer behind room count short is_room whole within consumed added =
+gets_front known left before after buffer behind room count short some is_room whole within consumed added =
     let got = take count buffer in
     let many : length got ≡ count = length-take-le count buffer within in
     let more : after ≡ before ++ got = added ∙ ap (λ t. before ++ t) (take-append-le count buffer behind within) in
@@ -40,7 +40,7 @@ gets_front known left before after buffer behind room count short is_room whole 
       added = more;
       limit = omega (arith, ap length more, length-append before got, many, within, whole, is_room, short);
       consumed = consumed.0;
-      ended = λ none. consumed.1 none (omega (arith, whole, is_room, short));
+      ended = λ none. consumed.1 none (omega (arith, whole, some));
     }
 
 pub takes_none : (known : Option (List ℕ)) (bytes : List ℕ) → bytes ≡ [] → Consumes known known bytes
@@ -116,7 +116,7 @@ loses_none known left before short kept = record { got = []; limit = omega (arit
 
 -- the front of a buffer was lost, which has no more room than is still to be read
 pub loses_front : (known left : Option (List ℕ)) (before buffer : List ℕ) (room count : ℕ) → length before < 65537
-    → room ≡ min 4096 (65537 - length before) → length buffer ≡ room → count ≤ length buffer → Consumes known left (take count buffer) → Loses known left before
+    → room ≤ 65537 - length before → length buffer ≡ room → count ≤ length buffer → Consumes known left (take count buffer) → Loses known left before
 loses_front known left before buffer room count short is_room whole within consumed =
     record { got = take count buffer; limit = omega (arith, length-take-le count buffer within, within, whole, is_room, short); consumed = consumed }
 

@@ -19,7 +19,7 @@ use Rattle.lw_interleaving.specs.Runs.{State}
 use Rattle.lw_interleaving.specs.declared.thread.Thread.{Thread}
 use Rattle.lw_tso.specs.Processors.{Processor}
 use Rattle.lw_memory.specs.declared.system.LineState.{LineState}
-use Rattle.lw_bench.specs.Pages.{numbered, first_lines, end_text, register_names, thread_line, word_line, processor_title, buffer_line, cache_line}
+use Rattle.lw_bench.specs.Pages.{numbered, first_lines, end_text, register_names, thread_line, word_line, processor_title, buffer_line}
 use Rattle.lw_bench.specs.Pages.{processor_lines, source_page, machine_page}
 
 drop_at : {X : Type 0} (xs : List X) (k : ℕ) (x : X) → slice_get xs k ≡ Some x → drop k xs ≡ x ∷ drop (k + 1) xs

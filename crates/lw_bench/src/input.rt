@@ -12,7 +12,7 @@ use std::alloc::Allocator;
 const MAX_READ_BYTES: usize = MAX_TEXT_BYTES + 1;
 
 /// How many bytes are asked for at once.
-const CHUNK: usize = 4096;
+const CHUNK: usize = 1024;
 
 /// The bytes of the reader, to its end or up to 65,537.
 pub(crate) fn read_input<R: ByteReader, A: Allocator>(

@@ -1,4 +1,4 @@
-use Rattle.std.proofs.Common.{ℕ, ap, arith, refl, ◌≡◌, ◌∙◌, ◌-◌, ◌≤◌, min, length, length-append}
+use Rattle.std.proofs.Common.{ℕ, arith, refl, ◌≡◌, ◌∙◌, ◌-◌, ◌≤◌, length, length-append}
 use Rattle.std.proofs.lemmas.Result.{err_from_is_err_and}
 use Rattle.std.proofs.lemmas.List.{length-take-le}
 use Rattle.lw_bench.proofs.Devices.{gets_front, loses_none, loses_front}
@@ -7,20 +7,17 @@ use Rattle.lw_bench.proofs.input.pull_chunk.Goals as goal
 pub returns-in_default-clause-err : goal.returns-in_default-clause-err
 returns-in_default-clause-err g c = rw c.in_default.ensures.failed refl
 
-fits : (g : _) (c : goal.In_ok-extend_from_slice g) → c.min-room.result ≤ 4096
-fits g c = omega (arith, c.min-room.ensures)
-
 whole : (g : _) (c : goal.In_ok-extend_from_slice g) → length c.pull.new.buf ≡ c.min-room.result
-whole g c = c.pull.auto.buf ∙ length-take-le c.min-room.result _ (fits g c)
+whole g c = c.pull.auto.buf ∙ length-take-le c.min-room.result _ (omega (arith, c.min-room.ensures))
 
-is_room : (g : _) (c : goal.In_ok-extend_from_slice g) → c.min-room.result ≡ min 4096 (65537 - length c.args.bytes.now.items)
-is_room g c =
-    let all : c.len.result ≡ length c.args.bytes.now.items = omega (arith, c.len.ensures, c.args.bytes.now.ok.0) in
-    c.min-room.ensures ∙ ap (λ (n : ℕ). min 4096 (65537 - n)) all
+-- no more is asked for than is still to be read
+is_room : (g : _) (c : goal.In_ok-extend_from_slice g) → c.min-room.result ≤ 65537 - length c.args.bytes.now.items
+is_room g c = omega (arith, c.min-room.ensures, c.len.ensures, c.args.bytes.now.ok.0)
 
 pub returns-clause-bytes : goal.returns-clause-bytes
 returns-clause-bytes g c =
-    gets_front _ _ _ _ c.pull.new.buf _ c.min-room.result c.in-Ok.count c.requires.room (is_room g c)
+    gets_front _ _ _ _ c.pull.new.buf _ c.min-room.result c.in-Ok.count c.requires.room
+    (omega (arith, c.min-room.ensures, c.len.ensures, c.args.bytes.now.ok.0, c.requires.room)) (is_room g c)
     (whole g c) c.in-Ok.ensures.bound c.in-Ok.ensures.bytes c.in_ok-extend_from_slice.ensures.items
 
 pub returns-in_default-clause-lost : goal.returns-in_default-clause-lost
@@ -29,8 +26,7 @@ returns-in_default-clause-lost g c = loses_none _ _ _ c.requires.room c.in_defau
 pub returns-in_err-extend_from_slice-clause-lost : goal.returns-in_err-extend_from_slice-clause-lost
 returns-in_err-extend_from_slice-clause-lost g c =
     let p = err_from_is_err_and c.from_residual.result c.from_residual.ensures.1 in
-    let len : c.len.result ≡ length c.args.bytes.now.items = omega (arith, c.len.ensures, c.args.bytes.now.ok.0) in
-    let room : c.min-room.result ≡ min 4096 (65537 - length c.args.bytes.now.items) = c.min-room.ensures ∙ ap (λ (n : ℕ). min 4096 (65537 - n)) len in
+    let room : c.min-room.result ≤ 65537 - length c.args.bytes.now.items = omega (arith, c.min-room.ensures, c.len.ensures, c.args.bytes.now.ok.0) in
     let all : length c.pull.new.buf ≡ c.min-room.result = c.pull.auto.buf ∙ length-take-le c.min-room.result _ (omega (arith, c.min-room.ensures)) in
     rw p.1 (loses_front _ _ _ c.pull.new.buf c.min-room.result c.in-Ok.count c.requires.room room all c.in-Ok.ensures.bound c.in-Ok.ensures.bytes.0)
 
