@@ -6,16 +6,15 @@ ghost use Rattle.lw_orders.specs.inner.Sets.{has, apart};
 
 use crate::item_set::ItemSet;
 
-/// A set of items below `WIDTH`. It meets the rows of items, which are wider, and what it takes from a row are the items
-/// below `WIDTH`.
+/// A set of items below `WIDTH`. A row of items may have more: those below `WIDTH` alone are looked at.
 pub(crate) trait ItemBits: Copy {
     /// The number whose bits are the items.
     ghost number: { Self → ℕ };
 
-    /// No item is as high.
+    /// `WIDTH`, for the contracts.
     ghost WIDTH: { ℕ };
 
-    /// No item is as high.
+    /// All items are below.
     const WIDTH: usize;
 
     /// The items below a number.
@@ -43,7 +42,7 @@ pub(crate) trait ItemBits: Copy {
     fn without_row(self, row: ItemSet) -> Self
         ensures { (k : ℕ) → k < most_items → has (number result) k ≡ (has (number self) k && not (has row k)) };
 
-    /// The items of this set and of the row that are in another set.
+    /// The items of this set and of the row, as far as they are in another set.
     fn with_row_among(self, row: ItemSet, others: Self) -> Self
         ensures { (k : ℕ) → k < most_items
             → has (number result) k ≡ ((has (number self) k || has row k) && has (number others) k) };
