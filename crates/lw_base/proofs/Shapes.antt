@@ -1,7 +1,7 @@
 -- Words of an event's shape, and words that are refused.
 use Rattle.std.proofs.Common.{rules, ◌≡◌, ◌≢◌, ◌⊎◌, not, ℕ, zero, suc, ◌<◌, ◌+◌, ◌==◌, inl, inr, true, false, [], ◌∷◌, ◌++◌, length, refl, sym, ap}
 use Rattle.std.proofs.Common.{◌∙◌, subst, arith}
-use Rattle.std.proofs.lemmas.Bool.{true≢false, not-false, eqb-true}
+use Rattle.std.proofs.lemmas.Bool.{true≢false, not-false, eqb-true, agree_below_at}
 use Rattle.std.proofs.lemmas.Bool.Decides.{nat_tests}
 use Rattle.std.proofs.lemmas.List.{append-nil}
 use Rattle.std.proofs.lemmas.List.Elements.{Contains-get_or}
@@ -11,6 +11,7 @@ use Rattle.std.specs.Char.{is_ascii_digit}
 use Rattle.std.specs.List.{AllByRecursion, list_all}
 use Rattle.lw_base.specs.Types.{Bytes, NameTable}
 use Rattle.lw_base.specs.Characters.{Lacks, IsCutAt, begins}
+use Rattle.lw_base.specs.Limits.{most_threads}
 use Rattle.lw_base.specs.Names.{IsLocation, IsWordText, IsTable, are_digits}
 use Rattle.lw_base.specs.Schedules.{HasParts, HasShape, IsCpu, IsFaulty, IsEvent, event_word}
 use Rattle.lw_base.proofs.api.Lists.{apart}
@@ -88,8 +89,8 @@ module _ (names : NameTable) (text digits name : Bytes) (cut : text ≡ digits +
   pub no_location : IsWordText name → IsCpu digits → (Contains names name → ⊥) → IsFaulty names (69 ∷ text) Location
   no_location named cpu missing = (digits, name, cpu, named, ap (λ t. 69 ∷ t) cut, missing)
 
-  pub found : (c l : ℕ) → c < 4 → digits ≡ (48 + c) ∷ [] → slice_get names l ≡ Some name
-      → ((c < 4) × (l < length names)) × (69 ∷ (48 + c) ∷ 58 ∷ slice_index_or names l [] ≡ 69 ∷ text)
+  pub found : (c l : ℕ) → c < most_threads → digits ≡ (48 + c) ∷ [] → slice_get names l ≡ Some name
+      → ((c < most_threads) × (l < length names)) × (69 ∷ (48 + c) ∷ 58 ∷ slice_index_or names l [] ≡ 69 ∷ text)
   found c l h digit at =
       let named : slice_index_or names l [] ≡ name = get_or_from_slice_get names l name [] at in
       ((h, slice_get_within names l name at), ap (λ t. 69 ∷ t) (rw (cut, digit, named) refl))
@@ -100,12 +101,8 @@ location_at [] l all h = absurd (omega arith)
 location_at (n ∷ names) zero all h = all.0
 location_at (n ∷ names) (suc l) all h = location_at names l all.1 (omega arith)
 
-one_digit : (c : ℕ) → c < 4 → are_digits ((48 + c) ∷ []) ≡ true
-one_digit zero h = refl
-one_digit (suc zero) h = refl
-one_digit (suc (suc zero)) h = refl
-one_digit (suc (suc (suc zero))) h = refl
-one_digit (suc (suc (suc (suc c)))) h = absurd (omega arith)
+one_digit : (c : ℕ) → c < most_threads → are_digits ((48 + c) ∷ []) ≡ true
+one_digit c h = agree_below_at (λ d. are_digits ((48 + d) ∷ [])) (λ d. true) most_threads c refl h
 
 -- the shape of an event's word
 shape_of : (names : NameTable) → IsTable names → (e : Event) → IsEvent names e → (ds : Bytes) × IsCpu ds × HasShape (event_word names e) ds

@@ -4,11 +4,12 @@ use Rattle.std.proofs.Common.{arith, drop}
 use Rattle.std.specs.List.{AllByRecursion, flat_map}
 use Rattle.std.specs.Fmt.{decimal}
 use Rattle.std.specs.Prelude.{map, slice_index_or, codes}
-use Rattle.std.proofs.lemmas.Bool.{not-true, cases_Bool}
+use Rattle.std.proofs.lemmas.Bool.{not-true, cases_Bool, agree_below_at}
 use Rattle.std.proofs.lemmas.Fmt.{decimal_digit}
 use Rattle.std.proofs.lemmas.Option.{get_or_from_slice_get}
 use Rattle.lw_base.specs.Types.{Bytes, NameTable}
 use Rattle.lw_base.specs.Characters.{digit, is_blank, is_word_byte, begins}
+use Rattle.lw_base.specs.Limits.{most_threads}
 use Rattle.lw_base.specs.Names.{IsLocation, IsTable}
 use Rattle.lw_base.specs.Schedules.{IsEvent, event_word, schedule_text, words, IsSchedule}
 use Rattle.lw_base.specs.declared.event.Event.{Event}
@@ -69,12 +70,8 @@ schedule_begun names events first others out are written =
 abbrev pub Shows : Bytes → Type 0
 Shows w = AllByRecursion (λ b. not (is_blank b) ≡ true) w
 
-digit_shows : (n : ℕ) → n < 4 → not (is_blank (digit n)) ≡ true
-digit_shows zero lt = refl
-digit_shows (suc zero) lt = refl
-digit_shows (suc (suc zero)) lt = refl
-digit_shows (suc (suc (suc zero))) lt = refl
-digit_shows (suc (suc (suc (suc n)))) lt = absurd (omega (arith, lt))
+digit_shows : (n : ℕ) → n < most_threads → not (is_blank (digit n)) ≡ true
+digit_shows n lt = agree_below_at (λ d. not (is_blank (digit d))) (λ d. true) most_threads n refl lt
 
 word_byte_shows : (b : ℕ) → is_word_byte b ≡ true → not (is_blank b) ≡ true
 word_byte_shows b is = elim (cases_Bool (is_blank b)) [

@@ -52,7 +52,7 @@ HasLocations locs (Not p) = HasLocations locs p
 HasLocations locs (And p q) = HasLocations locs p × HasLocations locs q
 HasLocations locs (Or p q) = HasLocations locs p × HasLocations locs q
 
--- An allowed name; one to four threads; a table of at most eight names, each allowed and each once; six words for each
+-- An allowed name; one to `most_threads` threads; a table of at most eight names, each allowed and each once; six words for each
 -- thread and one for each location; what is listed, sorted and each once; a condition of at most 256 nodes; and only
 -- threads, registers and locations that exist.
 pub record IsWellFormedHead (h : TestHead) : Type 0 where

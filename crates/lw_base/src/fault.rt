@@ -93,7 +93,7 @@ impl<T: Drop> From<AllocFailed<T>> for CellFault {
 pub enum ScheduleCause {
     /// A word that has not the shape of an event.
     Word,
-    /// A number that is not one of 0, 1, 2 and 3.
+    /// A number that is no processor's.
     Cpu,
     /// A name that is no location of the test.
     Location,

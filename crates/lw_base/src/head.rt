@@ -44,7 +44,7 @@ pub struct Head<A: Allocator = Global> {
     pub name: Text<A>,
     /// The language of its threads.
     pub arch: Arch,
-    /// The number of its threads, 1 to 4.
+    /// The number of its threads, 1 to `MAX_THREADS`.
     pub threads: usize,
     /// The table of its locations.
     pub locs: LocNames<A>,

@@ -10,7 +10,7 @@ use std::marker::Model;
 /// What a register or a location holds: 32 bits, without a sign.
 pub type Word = u32;
 
-/// A processor, which runs the thread of its number: 0 to 3.
+/// A processor, which runs the thread of its number: below `MAX_THREADS`.
 #[derive(Clone, Copy, Debug, PartialEq, Eq, PartialOrd, Ord, Hash)]
 pub struct Cpu(u8);
 
@@ -35,7 +35,7 @@ impl Cpu {
         [Cpu(0), Cpu(1), Cpu(2), Cpu(3)]
     }
 
-    /// The processor of a number, where it is below 4.
+    /// The processor of a number, where it is below `MAX_THREADS`.
     pub fn new(number: u8) -> Option<Self>
         ensures { SomeIff result (number < most_threads) number }
     {

@@ -26,7 +26,7 @@ use std::alloc::{AllocError, Allocator};
 /// of processor 0, `D0` a drain of its store buffer, and `E0:x` the eviction of its line of `x`.
 ///
 /// The first faulty word is the one told, at its first byte. A word of another shape is `Word`;
-/// digits that are not one of 0, 1, 2 and 3 are `Cpu`; a name that is not in the table is
+/// digits that are no processor's are `Cpu`; a name that is not in the table is
 /// `Location`, after `Cpu`.
 pub fn read_schedule<A: Allocator, B: Allocator>(
     alloc: A,
@@ -86,7 +86,7 @@ fn cpu_of(digits: &[u8]) -> Result<Cpu, ScheduleCause>
         return Err(ScheduleCause::Word);
     }
     match digits {
-        [digit @ b'0'..=b'3'] => Cpu::new(*digit - b'0').ok_or(ScheduleCause::Cpu),
+        [digit @ b'0'..=b'9'] => Cpu::new(*digit - b'0').ok_or(ScheduleCause::Cpu),
         _ => Err(ScheduleCause::Cpu),
     }
 }

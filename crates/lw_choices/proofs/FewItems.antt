@@ -1,10 +1,11 @@
--- A source test never has too many items for a list: its threads are short.
-use Rattle.std.proofs.Common.{ℕ, suc, ◌+◌, ◌*◌, ◌≤◌, false, true, Option, Some, None, List, [], ◌∷◌, length, slice_get, arith, length-append}
+-- A source test never has too many items for a list: its threads are short, and none of its stores has a drain.
+use Rattle.std.proofs.Common.{◌≡◌, ℕ, suc, ◌+◌, ◌*◌, ◌≤◌, false, true, Option, Some, None, List, [], ◌∷◌, length, slice_get, refl, arith, length-append}
 use Rattle.std.specs.Prelude.{All}
 use Rattle.std.specs.Option.{option_map_or}
 use Rattle.std.proofs.lemmas.List.Elements.{All-head, All-tail}
 use Rattle.lw_litmus.specs.Flow.{IsPathFrom}
 use Rattle.lw_litmus.specs.Languages.{Language}
+use Rattle.lw_litmus.specs.Limits.{most_statements}
 use Rattle.lw_litmus.specs.Sources.{source}
 use Rattle.lw_litmus.specs.WellFormedTests.{IsWellFormedSource}
 use Rattle.lw_litmus.specs.Tests.{SourceTest}
@@ -15,31 +16,32 @@ use Rattle.lw_choices.specs.Items.{items_at, path_items, items_from, drains}
 use Rattle.lw_choices.proofs.api.Led.{follows_within}
 use Rattle.lw_choices.proofs.api.Numbering.{item}
 
-module _ {S : Type 0} (language : Language S) where
-  two_at : (t j : ℕ) (o : Option S) → length (items_at language t j o) ≤ 2
-  two_at t j None = omega arith
-  two_at t j (Some s) = go (drains language s)
+module _ {S : Type 0} (language : Language S) (undrained : (s : S) → drains language s ≡ None) where
+  one_at : (t j : ℕ) (o : Option S) → length (items_at language t j o) ≤ 1
+  one_at t j None = omega arith
+  one_at t j (Some s) = go (drains language s) (undrained s)
     where
-      go : (o : Option ℕ) → length (item t j false ∷ option_map_or (λ x. item t j true ∷ []) o []) ≤ 2
-      go None = omega arith
-      go (Some x) = omega arith
+      go : (o : Option ℕ) → o ≡ None → length (item t j false ∷ option_map_or (λ x. item t j true ∷ []) o []) ≤ 1
+      go None e = omega arith
+      go (Some x) e = absurd (cc)
 
-  -- at most two for each position that is passed
+  -- at most one for each position that is passed
   path_few : (t : ℕ) (code : List S) (at : ℕ) (path : List ℕ)
-      → IsForward language code → IsPathFrom language code at path → length (path_items language t code path) + (at + at) ≤ length code + length code
+      → IsForward language code → IsPathFrom language code at path → length (path_items language t code path) + at ≤ length code
   path_few t code at [] forward h = omega (arith, h)
   path_few t code at (j ∷ path) forward (same, next, f, goes) =
       omega (
         arith,
         length-append (items_at language t j (slice_get code j)) (path_items language t code path),
-        two_at t j (slice_get code j),
+        one_at t j (slice_get code j),
         follows_within language code at next forward f,
         path_few t code next path forward goes,
       )
 
-  module _ (locs : ℕ) (short : language.most ≤ 16) where
+  module _ (locs : ℕ) (short : language.most ≤ most_statements) where
     choice_few : (t : ℕ) (program : List (List S)) (paths : List (List ℕ))
-        → All (IsThread language locs) program → IsChoice language program paths → length (items_from language t program paths) ≤ 32 * length program
+        → All (IsThread language locs) program → IsChoice language program paths → length (items_from language t program paths)
+        ≤ most_statements * length program
     choice_few t [] paths all c = omega arith
     choice_few t (code ∷ program) [] all c = absurd c
     choice_few t (code ∷ program) (path ∷ paths) all c =
@@ -56,4 +58,4 @@ module _ {S : Type 0} (language : Language S) where
 -- no choice has too many items
 pub few_items : (s : SourceTest) → IsWellFormedSource s → HasTooManyItems source s.threads → ⊥
 few_items s is (paths, choice, many) =
-    omega (arith, choice_few source (length s.head.locs) (omega arith) 0 s.threads paths is.code choice, many, is.head.few, is.as_many)
+    omega (arith, choice_few source (λ s. refl) (length s.head.locs) (omega arith) 0 s.threads paths is.code choice, many, is.head.few, is.as_many)

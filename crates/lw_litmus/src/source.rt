@@ -8,7 +8,7 @@ use crate::stmt::Stmt;
 use lw_base::{Head, Sequence};
 use std::alloc::{Allocator, Global};
 
-/// A source test: its head, and the statements of each thread. It is well-formed: one to four threads of at
+/// A source test: its head, and the statements of each thread. It is well-formed: one to `MAX_THREADS` threads of at
 /// most 16 statements, on locations of its table, with jumps forward, at most to the thread's end.
 #[derive(Drop)]
 pub struct Source<A: Allocator = Global> {

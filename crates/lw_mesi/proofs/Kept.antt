@@ -2,6 +2,7 @@
 use Rattle.std.proofs.Common.{◌≡◌, ℕ, suc, zero, ◌<◌, ◌≤◌, List, [], ◌∷◌, length, set, get_or, Result, Ok, Err, is_ok, OnOk, OnErr, refl, sym, ap, ◌∙◌, subst}
 use Rattle.std.proofs.Common.{arith, length-set}
 use Rattle.std.proofs.lemmas.List.{length-map}
+use Rattle.lw_base.specs.Limits.{most_threads, most_locations}
 use Rattle.lw_memory.specs.Memory.{is_held}
 use Rattle.lw_mesi.specs.declared.protocol.Protocol.{Protocol}
 use Rattle.lw_mesi.specs.CacheLines.{CacheLine, Caches, unheld_line, copy_of, letter_of, line_at, content_of, contents_of}
@@ -25,9 +26,9 @@ borrowed_kept p m now x i before same ok loc place found =
 -- The invariant of the caches after one line was changed as the protocol says.
 pub still_kept : (p : Protocol) (m now : Caches) (t x i : ℕ) (before after : CacheLine)
     → m ≡ now → IsKept p m → t < now.cpus → x < length (contents_of now)
-    → i ≡ x → before ≡ get_or m.lines i before → (t < 4 → IsKeptLine p before → IsKeptLine p after)
-    → length m.lines ≤ 8
-    → (length (set m.lines i after) ≤ 8) × IsKept p (record { cpus = m.cpus; lines = set m.lines i after })
+    → i ≡ x → before ≡ get_or m.lines i before → (t < most_threads → IsKeptLine p before → IsKeptLine p after)
+    → length m.lines ≤ most_locations
+    → (length (set m.lines i after) ≤ most_locations) × IsKept p (record { cpus = m.cpus; lines = set m.lines i after })
 still_kept p m now t x i before after same ok cpu loc place found keeps few =
     let cpus : m.cpus ≡ now.cpus = ap (λ (k : Caches). k.cpus) same in
     let lt : i < length m.lines = omega (arith, ap (λ (k : Caches). length (contents_of k)) same, length-map m.lines content_of) in (
@@ -37,7 +38,7 @@ still_kept p m now t x i before after same ok cpu loc place found keeps few =
 
 -- An eviction keeps a line, whether it succeeds or is refused.
 pub still_evicted : {E : Type 0} (p : Protocol) (r : Result (Unit {0}) E) (t : ℕ) (before after : CacheLine)
-    → t < 4 → IsKeptLine p before → is_ok r ≡ is_held (letter_of (copy_of before t))
+    → t < most_threads → IsKeptLine p before → is_ok r ≡ is_held (letter_of (copy_of before t))
     → OnOk r (after ≡ line_evicted t before) → OnErr r (after ≡ before)
     → IsKeptLine p after
 still_evicted p (Ok a) t before after lt s held ok err = subst (IsKeptLine p) (sym ok) (evict_kept p t before lt s (sym held))

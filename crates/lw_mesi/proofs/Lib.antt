@@ -1,5 +1,7 @@
 mod PlaceLemmas
 mod SetLemmas
-mod PackedLemmas
+mod PackedCopies
+mod PackedReads
+mod PackedWrites
 mod Kept
 mod Start

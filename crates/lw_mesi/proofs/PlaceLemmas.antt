@@ -1,27 +1,27 @@
--- What stands at each of the four processors.
-use Rattle.std.proofs.Common.{◌≡◌, ℕ, zero, suc, ◌<◌, set, get_or, refl, arith}
+-- What stands at each of the processors.
+use Rattle.std.proofs.Common.{◌≡◌, ◌≢◌, ℕ, ◌<◌, List, length, set, get_or, sym, ◌∙◌, arith, zero-add, length-set, get_or-set_same, get_or-set_other}
+use Rattle.std.proofs.lemmas.List.FromFn.{length-map-range_with_len, get_or-map-range_with_len, fill_by_all}
+use Rattle.lw_base.specs.Limits.{most_threads}
 use Rattle.lw_mesi.specs.inner.Places.{at_each}
+use Rattle.lw_mesi.specs.laws.Coherent.{at_place}
 
--- What holds at each of them.
-pub at_four : (P : ℕ → Type 0) → P 0 → P 1 → P 2 → P 3 → (t : ℕ) → t < 4 → P t
-at_four P a b c d zero lt = a
-at_four P a b c d (suc zero) lt = b
-at_four P a b c d (suc (suc zero)) lt = c
-at_four P a b c d (suc (suc (suc zero))) lt = d
-at_four P a b c d (suc (suc (suc (suc t)))) lt = absurd (omega arith)
+pub at_each_long : {A : Type 0} (f : ℕ → A) → length (at_each f) ≡ most_threads
+at_each_long f = length-map-range_with_len f 0 most_threads
+
+pub at_each_get : {A : Type 0} (f : ℕ → A) (t : ℕ) (d : A) → t < most_threads → get_or (at_each f) t d ≡ f t
+at_each_get f t d lt = get_or-map-range_with_len f 0 most_threads t t d lt (zero-add t)
+
+-- A row that has at every other place what a function gives there, after one thing was put in.
+pub at_each_put : {A : Type 0} (f : ℕ → A) (xs : List A) (t : ℕ) (a d : A) → length xs ≡ most_threads → t < most_threads → f t ≡ a
+    → ((u : ℕ) → u < most_threads → u ≢ t → f u ≡ get_or xs u d) → at_each f ≡ set xs t a
+at_each_put f xs t a d long lt here there =
+    sym (fill_by_all f (set xs t a) most_threads d (length-set xs t a ∙ long)
+    (at_place t (λ u. u < most_threads → get_or (set xs t a) u d ≡ f u)
+    (λ within. get_or-set_same xs t a d (omega (arith, long, lt)) ∙ sym here)
+    (λ u ne within. get_or-set_other xs t u a d (λ e. ne (sym e)) ∙ sym (there u within (λ e. ne (sym e))))))
 
 -- Two functions that differ at one of them.
-pub at_each_set : {A : Type 0} (f g : ℕ → A) (t : ℕ) (a : A) → t < 4 → f t ≡ a
-    → ((u : ℕ) → u < 4 → (u ≡ t → ⊥) → f u ≡ g u) → at_each f ≡ set (at_each g) t a
-at_each_set f g zero a lt here there = grind (arith, there 1, there 2, there 3)
-at_each_set f g (suc zero) a lt here there = grind (arith, there 0, there 2, there 3)
-at_each_set f g (suc (suc zero)) a lt here there = grind (arith, there 0, there 1, there 3)
-at_each_set f g (suc (suc (suc zero))) a lt here there = grind (arith, there 0, there 1, there 2)
-at_each_set f g (suc (suc (suc (suc t)))) a lt here there = absurd (omega arith)
-
-pub at_each_get : {A : Type 0} (f : ℕ → A) (t : ℕ) (d : A) → t < 4 → get_or (at_each f) t d ≡ f t
-at_each_get f zero d lt = refl
-at_each_get f (suc zero) d lt = refl
-at_each_get f (suc (suc zero)) d lt = refl
-at_each_get f (suc (suc (suc zero))) d lt = refl
-at_each_get f (suc (suc (suc (suc t)))) d lt = absurd (omega arith)
+pub at_each_set : {A : Type 0} (f g : ℕ → A) (t : ℕ) (a : A) → t < most_threads → f t ≡ a
+    → ((u : ℕ) → u < most_threads → u ≢ t → f u ≡ g u) → at_each f ≡ set (at_each g) t a
+at_each_set f g t a lt here there =
+    at_each_put f (at_each g) t a a (at_each_long g) lt here (λ u within ne. there u within ne ∙ sym (at_each_get g u a within))

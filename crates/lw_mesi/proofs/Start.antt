@@ -1,5 +1,6 @@
 -- Caches that hold nothing: coherent, in states of each protocol, and with memory's words as their content.
-use Rattle.std.proofs.Common.{◌≡◌, ℕ, zero, suc, ◌<◌, ◌≤◌, List, [], ◌∷◌, length, map, refl, sym, ap, subst, arith}
+use Rattle.std.proofs.Common.{◌≡◌, ℕ, zero, suc, ◌<◌, ◌≤◌, List, [], ◌∷◌, length, map, replicate, get_or, refl, sym, ap, subst, arith}
+use Rattle.lw_base.specs.Limits.{most_threads}
 use Rattle.lw_mesi.specs.declared.protocol.Protocol.{Protocol}
 use Rattle.lw_mesi.specs.CacheLines.{Invalid, unheld_line, empty_caches, copy_of, line_at, content_of, contents_of}
 use Rattle.lw_mesi.specs.Coherence.{IsOnlyCopy, IsDirty, IsStateOf, HasStatesOf, IsKeptLine, IsKept}
@@ -10,12 +11,14 @@ pub empty_content : (cpus : ℕ) (words : List ℕ) → contents_of (empty_cache
 empty_content n [] = refl
 empty_content n (w ∷ ws) = ap (λ r. w ∷ r) (empty_content n ws)
 
+-- A row of one thing has it at every place, and past its end too, where nothing else is said to stand there.
+everywhere : {A : Type 0} (a : A) (n t : ℕ) → get_or (replicate n a) t a ≡ a
+everywhere a zero t = refl
+everywhere a (suc n) zero = refl
+everywhere a (suc n) (suc t) = everywhere a n t
+
 unheld : (w t : ℕ) → copy_of (unheld_line w) t ≡ Invalid
-unheld w zero = refl
-unheld w (suc zero) = refl
-unheld w (suc (suc zero)) = refl
-unheld w (suc (suc (suc zero))) = refl
-unheld w (suc (suc (suc (suc t)))) = refl
+unheld w t = everywhere Invalid most_threads t
 
 unheld_states : (p : Protocol) (w : ℕ) → HasStatesOf p (unheld_line w)
 unheld_states p w = λ t. subst (IsStateOf p) (sym (unheld w t)) (invalid_state p)
@@ -23,7 +26,7 @@ unheld_states p w = λ t. subst (IsStateOf p) (sym (unheld w t)) (invalid_state 
 unheld_kept : (p : Protocol) (w : ℕ) → IsKeptLine p (unheld_line w)
 unheld_kept p w = record {
   coherent = record {
-    four = refl;
+    as_many = refl;
     alone = λ t u own ne. absurd (subst IsOnlyCopy (unheld w t) own);
     one_dirty = λ t u d e. absurd (subst IsDirty (unheld w t) d);
     same_word = λ t k h. no_word (copy_of (unheld_line w) t) k (content_of (unheld_line w)) (unheld w t) h;
@@ -36,7 +39,7 @@ each p [] x lt = absurd (omega arith)
 each p (w ∷ ws) zero lt = unheld_kept p w
 each p (w ∷ ws) (suc x) lt = each p ws x (omega arith)
 
-pub empty_kept : (p : Protocol) (cpus : ℕ) (words : List ℕ) → cpus ≤ 4 → IsKept p (empty_caches cpus words)
+pub empty_kept : (p : Protocol) (cpus : ℕ) (words : List ℕ) → cpus ≤ most_threads → IsKept p (empty_caches cpus words)
 empty_kept p cpus words few = record {
   coherent = record { few = few; lines = λ x lt. (each p words x lt).coherent };
   states = λ x lt. (each p words x lt).states;

@@ -1,5 +1,6 @@
 -- The cache lines: a set of copies, at most one for each processor and location, and a map of memory words.
-use Rattle.std.specs.Prelude.{ℕ, List, [], ◌∷◌, map, Option, Some, None, slice_index_or}
+use Rattle.std.specs.Prelude.{ℕ, List, [], ◌∷◌, map, replicate, Option, Some, None, slice_index_or}
+use Rattle.lw_base.specs.Limits.{most_threads}
 use Rattle.lw_memory.specs.declared.system.LineState.{LineState}
 use Rattle.lw_memory.specs.declared.system.LineState.TheVariants.{M, O, E, S, I}
 
@@ -10,7 +11,7 @@ pub data Copy : Type 0 where  -- A processor's copy of a location: its letter an
   Shared : ℕ → Copy  -- S: perhaps beside others in S, which memory agrees with unless one beside them is in O
   Invalid : Copy  -- I: no copy
 
-pub record CacheLine : Type 0 where  -- One location: the copy of each of the four processors, by number, and memory's word.
+pub record CacheLine : Type 0 where  -- One location: the copy of each of the processors, by number, and memory's word.
   pub copies : List Copy
   pub memory : ℕ
 
@@ -20,7 +21,7 @@ pub record Caches : Type 0 where
   pub lines : List CacheLine
 
 abbrev pub unheld_line : ℕ → CacheLine  -- A location that no cache holds, with this word in memory.
-unheld_line w = record { copies = Invalid ∷ Invalid ∷ Invalid ∷ Invalid ∷ []; memory = w }
+unheld_line w = record { copies = replicate most_threads Invalid; memory = w }
 
 abbrev pub empty_caches : ℕ → List ℕ → Caches  -- The caches before any request: none holds anything, and memory has these words.
 empty_caches cpus words = record { cpus = cpus; lines = map unheld_line words }

@@ -24,7 +24,7 @@ IsDirty Invalid = ⊥
 
 -- Single writer or many readers, and one word.
 pub record IsCoherentCacheLine (line : CacheLine) : Type 0 where
-  pub four : length line.copies ≡ most_threads
+  pub as_many : length line.copies ≡ most_threads
   -- beside an M or E copy there is no other copy
   pub alone : (t u : ℕ) → IsOnlyCopy (copy_of line t) → t ≢ u → copy_of line u ≡ Invalid
   -- at most one copy is M or O

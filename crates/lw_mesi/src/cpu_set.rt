@@ -5,7 +5,7 @@ ghost use Rattle.lw_mesi.specs.inner.Places.{nobody};
 use lw_base::Cpu;
 use std::marker::Model;
 
-/// Some of the four processors. A clause sees for each, by its number, whether it is in the set.
+/// Some of the processors. A clause sees for each, by its number, whether it is in the set.
 #[derive(Debug, Drop)]
 pub(crate) struct CpuSet(u8);
 

@@ -8,6 +8,7 @@ use Rattle.std.proofs.lemmas.List.{append-nil, map-append, take_all, take_more}
 use Rattle.std.proofs.lemmas.List.Elements.{All-from_recursion, All-get_or, All-same, filter-append}
 use Rattle.std.proofs.lemmas.List.FromFn.{get_or-range_with_len, map-range_with_len_more}
 use Rattle.lw_base.specs.Heads.{TestHead}
+use Rattle.lw_base.specs.Limits.{most_threads}
 use Rattle.lw_base.specs.WellFormed.{IsSeen}
 use Rattle.lw_base.specs.declared.head.Seen.{Seen}
 use Rattle.lw_base.specs.SeenLists.{thread_registers, all_registers, locations}
@@ -54,14 +55,14 @@ registers_from a (suc n) =
     ∙ ap (λ (t : ℕ). (thread_registers a ++ done) ++ thread_registers t) is
 
 -- a thread's registers more
-pub registers_more : (p : Seen → Bool) (k cpu : ℕ) (cpus : List ℕ) (threads : ℕ) (names new : List Seen) → cpus ≡ range_with_len 0 4
+pub registers_more : (p : Seen → Bool) (k cpu : ℕ) (cpus : List ℕ) (threads : ℕ) (names new : List Seen) → cpus ≡ range_with_len 0 most_threads
     → k < length (take threads cpus) → cpu ≡ get_or (take threads cpus) k cpu → names ≡ filter p (all_registers k)
     → new ≡ names ++ filter p (thread_registers cpu) → new ≡ filter p (all_registers (k + 1))
 registers_more p k cpu cpus threads names new all lt is before added =
-    let four : length cpus ≡ 4 = ap length all in
+    let many : length cpus ≡ most_threads = ap length all in
     let within : k < threads = omega (arith, lt, length-take threads cpus) in
-    let number : cpu ≡ k = is ∙ get_or-take threads cpus k cpu within ∙ ap (λ (l : List ℕ). get_or l k cpu) all ∙ get_or-range_with_len 0 4 k cpu
-    (omega (arith, lt, four, length-take threads cpus)) ∙ zero-add k in
+    let number : cpu ≡ k = is ∙ get_or-take threads cpus k cpu within ∙ ap (λ (l : List ℕ). get_or l k cpu) all ∙ get_or-range_with_len 0 most_threads k cpu
+    (omega (arith, lt, many, length-take threads cpus)) ∙ zero-add k in
     let next : suc k ≡ k + 1 = omega arith in
     let more : all_registers (k + 1) ≡ all_registers k ++ thread_registers k = ap all_registers (sym next) ∙ registers_from 0 k ∙ ap
     (λ (t : ℕ). all_registers k ++ thread_registers t) (zero-add k) in
@@ -70,12 +71,12 @@ registers_more p k cpu cpus threads names new all lt is before added =
     ∙ sym (ap (filter p) more ∙ filter-append p (all_registers k) (thread_registers k))
 
 -- all of them, and then the locations
-pub observed_all : (head : TestHead) (k : ℕ) (cpus : List ℕ) (names new : List Seen) → head.threads ≤ 4 → cpus ≡ range_with_len 0 4
+pub observed_all : (head : TestHead) (k : ℕ) (cpus : List ℕ) (names new : List Seen) → head.threads ≤ most_threads → cpus ≡ range_with_len 0 most_threads
     → k ≤ length (take head.threads cpus) → length (take head.threads cpus) ≤ k → names ≡ filter (is_observed head) (all_registers k)
     → new ≡ names ++ filter (is_observed head) (locations (length head.locs)) → new ≡ observed head
 observed_all head k cpus names new few all most least before added =
-    let four : length cpus ≡ 4 = ap length all in
-    let is : k ≡ head.threads = omega (arith, few, four, most, least, length-take head.threads cpus) in
+    let many : length cpus ≡ most_threads = ap length all in
+    let is : k ≡ head.threads = omega (arith, few, many, most, least, length-take head.threads cpus) in
     let p = is_observed head in
     added ∙ ap (λ (l : List Seen). l ++ filter p (locations (length head.locs))) (before ∙ ap (λ (n : ℕ). filter p (all_registers n)) is)
     ∙ sym (filter-append p (all_registers head.threads) (locations (length head.locs)))

@@ -7,7 +7,7 @@ use Rattle.lw_base.specs.Characters.{byte, digit}
 use Rattle.lw_base.specs.Types.{Bytes, TokenList, Cells, CellGrid}
 use Rattle.lw_text.specs.Lists.{Separated, Until}
 
--- the name of a thread, `P0` to `P3`
+-- the name of a thread, `P0`, `P1` and so on
 abbrev pub thread_name : ℕ → Bytes
 thread_name k = byte "P" ∷ digit k ∷ []
 

@@ -34,7 +34,7 @@ impl<'t, 'a> Cursor<'t, 'a> {
                 return Ok(thread + 1);
             }
         }
-        if self.is_next("P4") {
+        if self.is_next(thread_name(MAX_THREADS)) {
             return Err(self.refusal(Cause::TooManyThreads));
         }
         Err(self.refusal(Cause::Unexpected))
@@ -134,15 +134,22 @@ impl<'t, 'a> Cursor<'t, 'a> {
     }
 }
 
+/// The name of a thread, if there are no more than ten.
 fn thread_name(thread: usize) -> &'static str
-    requires { thread < MAX_THREADS }
+    requires { thread < 10 }
     ensures { result.now ≡ thread_name thread }
 {
     match thread {
         0 => "P0",
         1 => "P1",
         2 => "P2",
-        _ => "P3",
+        3 => "P3",
+        4 => "P4",
+        5 => "P5",
+        6 => "P6",
+        7 => "P7",
+        8 => "P8",
+        _ => "P9",
     }
 }
 

@@ -1,5 +1,6 @@
 -- Caches that hold nothing are memories on which a test can start.
 use Rattle.std.proofs.Common.{◌≡◌, ℕ, ◌≤◌, List, arith}
+use Rattle.lw_base.specs.Limits.{most_threads}
 use Rattle.lw_mesi.specs.CacheLines.{contents_of, empty_caches}
 use Rattle.lw_mesi.specs.Protocols.{caches_by}
 use Rattle.lw_mesi.specs.Coherence.{IsKept, caches_invariant}
@@ -9,7 +10,7 @@ use Rattle.lw_litmus.specs.WellFormedTests.{IsWellFormedProgram}
 use Rattle.lw_litmus.specs.Tests.{ProgramTest}
 use Rattle.lw_whole.specs.OverCaches.{caches_at_start}
 
-pub starts : ((p : Protocol) (cpus : ℕ) (words : List ℕ) → cpus ≤ 4 → IsKept p (empty_caches cpus words))
+pub starts : ((p : Protocol) (cpus : ℕ) (words : List ℕ) → cpus ≤ most_threads → IsKept p (empty_caches cpus words))
     → ((cpus : ℕ) (words : List ℕ) → contents_of (empty_caches cpus words) ≡ words)
     → (p : Protocol) (test : ProgramTest) → IsWellFormedProgram test → CanStart (caches_by p) (caches_invariant p) test (caches_at_start test)
 starts kept content p test ok = record {

@@ -1,6 +1,6 @@
 -- The initial block as it is printed: its text spells tokens, which say its entries.
-use Rattle.std.proofs.Common.{◌≡◌, ℕ, zero, suc, ◌*◌, ◌<◌, ◌≤◌, ◌^◌, Bool, true, false, not, List, [], ◌∷◌, ◌++◌, map, length, refl, sym, ap, ◌∙◌, subst, arith}
-use Rattle.std.proofs.Common.{append_assoc, length-append}
+use Rattle.std.proofs.Common.{◌≡◌, ℕ, zero, suc, ◌+◌, ◌*◌, ◌<◌, ◌≤◌, ◌^◌, Bool, true, false, not, List, [], ◌∷◌, ◌++◌, map, length, refl, sym, ap, ◌∙◌}
+use Rattle.std.proofs.Common.{subst, arith, append_assoc, length-append}
 use Rattle.std.specs.Prelude.{◌==◌, codes, filter, slice_index, slice_index_or}
 use Rattle.std.specs.List.{AllByRecursion, flat_map}
 use Rattle.std.proofs.lemmas.Grind.{flat_map-append}
@@ -14,7 +14,7 @@ use Rattle.lw_text.specs.Sites.{IsSite, ThreadExists}
 use Rattle.lw_text.specs.Frames.{EntrySyntax, IsEntry, Entries, Block}
 use Rattle.lw_base.specs.SeenLists.{thread_registers, all_registers, locations}
 use Rattle.lw_base.proofs.api.Elements.{all_append, all_filter, all_map, all_weaker, all_of_range, all_of_flat}
-use Rattle.lw_base.proofs.api.ListedAgain.{filter_shorter, seen_length}
+use Rattle.lw_base.proofs.api.ListedAgain.{filter_shorter, seen_length, most_seen}
 use Rattle.lw_text.proofs.api.Spelling.{Anything, Spells, Spells-then, Spells-on, Spells-within, Spells-nothing, Spells-space, Spells-newline, Spells-mark}
 use Rattle.lw_text.proofs.api.ConditionTokens.{named_site, site_tokens, value_tokens, IsPrintable, named_printable, site_said, value_said, site_exists}
 use Rattle.lw_text.proofs.api.ConditionTokens.{ended_said}
@@ -43,6 +43,10 @@ abbrev pub block_tokens : TestHead → TokenList
 block_tokens head = codes "{" ∷ (flat_map (λ e. entry_tokens e ++ codes ";" ∷ []) (entries_of head) ++ (codes "}" ∷ []))
 
 -- ---- words
+
+-- the most bytes of the block
+abbrev pub block_bytes : ℕ
+block_bytes = 57 * most_seen + 4
 
 module _ (head : TestHead) (well : IsWellFormedHead head) where
   word_at : (rows : List (List ℕ)) (t r : ℕ) → AllByRecursion (AllByRecursion IsWordNumber) rows → slice_index (slice_index_or rows t []) r < 2 ^ 32
@@ -85,7 +89,7 @@ module _ (head : TestHead) (well : IsWellFormedHead head) where
   entries_spelled [] h = Spells-within (57 * 0) (omega arith) (Spells-nothing Anything)
   entries_spelled (s ∷ ss) h = Spells-within (57 * suc (length ss)) (omega arith) (Spells-on (entry_spelled s h.0) (entries_spelled ss h.1))
 
-  entered_few : length (entered head) ≤ 32
+  entered_few : length (entered head) ≤ most_seen
   entered_few =
       omega (
         arith,
@@ -118,10 +122,10 @@ module _ (head : TestHead) (well : IsWellFormedHead head) where
       ∙ ap (λ (t : Bytes). codes "{\n" ++ t) (append_assoc (flat_map (register_entry head) (all_registers head.threads))
       (flat_map (entry_text head) all) (codes "}\n"))
 
-  pub block_spelled : Spells Anything 1828 (block_text head) (block_tokens head)
+  pub block_spelled : Spells Anything block_bytes (block_text head) (block_tokens head)
   block_spelled =
-      subst (λ (t : Bytes). Spells Anything 1828 t (block_tokens head)) block_is
-      (Spells-within 1828 (omega (arith, entered_few)) (Spells-on (Spells-on (Spells-mark 123 refl (λ c. refl) refl (omega arith)) Spells-newline)
+      subst (λ (t : Bytes). Spells Anything block_bytes t (block_tokens head)) block_is
+      (Spells-within block_bytes (omega (arith, entered_few)) (Spells-on (Spells-on (Spells-mark 123 refl (λ c. refl) refl (omega arith)) Spells-newline)
       (Spells-on (entries_spelled (entered head) entered_seen) (Spells-on (Spells-mark 125 refl (λ c. refl) refl (omega arith)) Spells-newline))))
 
   -- ---- what the block says

@@ -1,6 +1,6 @@
 -- The text of a test as it is printed is the text of a frame: the test's head, and its threads' cells.
-use Rattle.std.proofs.Common.{◌≡◌, ℕ, zero, suc, ◌<◌, ◌≤◌, inl, true, List, [], ◌∷◌, ◌++◌, map, length, refl, sym, ap, ◌∙◌, subst, arith, append_assoc}
-use Rattle.std.proofs.Common.{length-append}
+use Rattle.std.proofs.Common.{◌≡◌, ℕ, zero, suc, ◌+◌, ◌*◌, ◌<◌, ◌≤◌, inl, true, List, [], ◌∷◌, ◌++◌, map, length, refl, sym, ap, ◌∙◌}
+use Rattle.std.proofs.Common.{subst, arith, append_assoc, length-append}
 use Rattle.std.specs.Prelude.{codes}
 use Rattle.std.specs.List.{AllByRecursion, flat_map, range_with_len}
 use Rattle.std.specs.Str.{IsUtf8, IsAscii}
@@ -39,12 +39,13 @@ use Rattle.lw_litmus.specs.Tests.{ProgramTest}
 use Rattle.lw_x86.specs.CanonicalTexts.{cells_of, longest, rows_text, header_text, block_text, listed_text, canonical_text}
 use Rattle.lw_x86.proofs.PrintedCells.{IsPrintedCell, cells_printed}
 use Rattle.lw_x86.proofs.PrintedColumns.{tokens_of, thread_printable, thread_small}
-use Rattle.lw_x86.proofs.PrintedRows.{row_at, row_tokens, rows_at, header_tokens, ArePrinted, header_spelled, header_said, rows_spelled, rows_plain, rows_said}
+use Rattle.lw_x86.proofs.PrintedRows.{row_at, row_tokens, rows_at, header_tokens, ArePrinted, row_bytes, header_spelled, header_said, rows_spelled, rows_plain}
+use Rattle.lw_x86.proofs.PrintedRows.{rows_said}
 use Rattle.lw_x86.proofs.PrintedGrids.{padded_to, columns_are, under_longest, longest_under, cells_few}
-use Rattle.lw_x86.proofs.PrintedBlocks.{entries_of, block_tokens, block_spelled, block_said, entries_exist}
+use Rattle.lw_x86.proofs.PrintedBlocks.{entries_of, block_tokens, block_bytes, block_spelled, block_said, entries_exist}
 use Rattle.lw_x86.proofs.PrintedHeads.{table_again, registers_again, words_again, list_again}
-use Rattle.lw_x86.proofs.PrintedLists.{named_sites, listed_tokens, terminals_in, condition_tokens, listed_spelled, condition_spelled, listed_printable}
-use Rattle.lw_x86.proofs.PrintedLists.{condition_said, rows_stop}
+use Rattle.lw_x86.proofs.PrintedLists.{named_sites, listed_tokens, terminals_in, condition_tokens, listed_bytes, listed_spelled, condition_bytes}
+use Rattle.lw_x86.proofs.PrintedLists.{condition_spelled, listed_printable, condition_said, rows_stop}
 
 -- ---- the threads' cells
 
@@ -98,6 +99,10 @@ body_text p =
     ++ (listed_text p.head.locs p.head.listed
     ++ (condition_text p.head ++ codes "\n"))))
 
+-- the most bytes of that: its block, the header and at most 33 rows, what is listed, and the condition
+abbrev body_bytes : ℕ
+body_bytes = block_bytes + row_bytes * 34 + listed_bytes + condition_bytes
+
 module _ (p : ProgramTest) (well : IsWellFormedProgram p) where
   threads_are : AllByRecursion (IsThread x86 (length p.head.locs)) p.threads
   threads_are = recursion_from_All (IsThread x86 (length p.head.locs)) p.threads well.code
@@ -141,9 +146,9 @@ module _ (p : ProgramTest) (well : IsWellFormedProgram p) where
 
   -- ---- the text
 
-  body_spelled : Spells Anything 39587 (body_text p) (tokens_in p)
+  body_spelled : Spells Anything body_bytes (body_text p) (tokens_in p)
   body_spelled =
-      Spells-within 39587 (omega (arith, height_few))
+      Spells-within body_bytes (omega (arith, height_few))
       (Spells-on (block_spelled p.head well.head)
       (Spells-on (header_spelled p.head.threads well.head.some well.head.few)
       (Spells-on (rows_spelled (texts_in p) (grid_in p) printed p.head.threads well.head.some well.head.few texts_long grid_long 0 (height_of p))

@@ -1,5 +1,5 @@
 -- What is listed, and the condition, as they are printed: their texts spell tokens, which say them again.
-use Rattle.std.proofs.Common.{◌≡◌, suc, ◌+◌, ◌*◌, inl, inr, true, false, List, [], ◌∷◌, ◌++◌, map, length, refl, sym, subst, arith, append_assoc, append-nil}
+use Rattle.std.proofs.Common.{◌≡◌, ℕ, suc, ◌+◌, ◌*◌, inl, inr, true, false, List, [], ◌∷◌, ◌++◌, map, length, refl, sym, subst, arith, append_assoc, append-nil}
 use Rattle.std.specs.Prelude.{codes}
 use Rattle.std.specs.List.{AllByRecursion, flat_map}
 use Rattle.lw_base.specs.Types.{NameTable, TokenList}
@@ -15,7 +15,7 @@ use Rattle.lw_text.specs.Rows.{begins_stop}
 use Rattle.lw_text.specs.Conditions.{AtomSyntax, Listed, Sites, Condition, begins_word}
 use Rattle.lw_text.specs.Propositions.{Terminal}
 use Rattle.lw_base.proofs.api.Elements.{all_weaker}
-use Rattle.lw_base.proofs.api.ListedAgain.{listed_few}
+use Rattle.lw_base.proofs.api.ListedAgain.{listed_few, most_seen}
 use Rattle.lw_text.proofs.api.Spelling.{Anything, Spells, Spells-nothing, Spells-then, Spells-on, Spells-within, Spells-space, Spells-newline, Spells-mark}
 use Rattle.lw_text.proofs.api.Spelling.{Spells-name, name_by_test}
 use Rattle.lw_text.proofs.api.PrintedPropositions.{enclosed, terminals_of}
@@ -42,6 +42,13 @@ terminals_in head = enclosed (terminals_of (named_claim head.locs) head.conditio
 
 abbrev pub condition_tokens : TestHead → TokenList
 condition_tokens head = quantifier_tokens head.quant ++ flat_map (terminal_tokens X86) (terminals_in head)
+
+-- the most bytes of what is listed, and of the condition's line
+abbrev pub listed_bytes : ℕ
+listed_bytes = 80 + 45 * most_seen
+
+abbrev pub condition_bytes : ℕ
+condition_bytes = 15397
 
 module _ (head : TestHead) (well : IsWellFormedHead head) where
   -- ---- the texts
@@ -71,8 +78,8 @@ module _ (head : TestHead) (well : IsWellFormedHead head) where
       (Spells-on opening (Spells-on (Spells-on (element_spelled s h.0) (elements_spelled ss h.1))
       (Spells-on (Spells-mark 93 refl (λ c. refl) refl (omega arith)) Spells-newline)))
 
-  pub listed_spelled : Spells Anything 1520 (listed_text head.locs head.listed) (listed_tokens head.locs head.listed)
-  listed_spelled = Spells-within 1520 (omega (
+  pub listed_spelled : Spells Anything listed_bytes (listed_text head.locs head.listed) (listed_tokens head.locs head.listed)
+  listed_spelled = Spells-within listed_bytes (omega (
     arith,
     listed_few head.threads
         (length head.locs) head.listed well.ascending well.there,
@@ -80,14 +87,15 @@ module _ (head : TestHead) (well : IsWellFormedHead head) where
     well.table.few,
   )) (list_spelled head.listed well.there)
 
-  pub condition_spelled : head.arch ≡ X86 → Spells Anything 15397 (condition_text head ++ codes "\n") (condition_tokens head)
+  pub condition_spelled : head.arch ≡ X86 → Spells Anything condition_bytes (condition_text head ++ codes "\n") (condition_tokens head)
   condition_spelled arch =
       let proposition = whole_spelled X86 head.threads well.few head.locs well.table.all head.condition well.condition in
       let line = Spells-on (Spells-then {G = Anything} (λ rest g. refl) (quantifier_spelled head.quant) (Spells-on Spells-space proposition)) Spells-newline in
-      subst (λ (ts : TokenList). Spells Anything 15397 (condition_text head ++ codes "\n") ts) (append-nil (condition_tokens head))
-      (subst (λ a. Spells Anything 15397 ((quantifier_text head.quant ++ (codes " " ++ in_parentheses (proposition_text a head.locs head.condition))) ++
-      codes "\n") (condition_tokens head ++ [])) (sym arch)
-      (Spells-within 15397 (omega (arith, well.nodes_few)) line))
+      subst (λ (ts : TokenList). Spells Anything condition_bytes (condition_text head ++ codes "\n") ts) (append-nil (condition_tokens head))
+      (subst (λ a. Spells Anything condition_bytes
+      ((quantifier_text head.quant ++ (codes " " ++ in_parentheses (proposition_text a head.locs head.condition))) ++ codes "\n")
+      (condition_tokens head ++ [])) (sym arch)
+      (Spells-within condition_bytes (omega (arith, well.nodes_few)) line))
 
   -- ---- what the tokens say
 

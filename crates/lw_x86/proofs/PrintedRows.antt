@@ -1,16 +1,19 @@
 -- Rows as they are printed: their texts spell tokens, which are cells between bars.
-use Rattle.std.proofs.Common.{◌≡◌, ℕ, zero, suc, ◌+◌, ◌*◌, ◌≤◌, true, false, List, [], ◌∷◌, ◌++◌, map, length, refl, sym, ap, ◌∙◌, subst, arith, append_assoc}
+use Rattle.std.proofs.Common.{◌≡◌, ℕ, zero, suc, ◌+◌, ◌*◌, ◌<◌, ◌≤◌, true, false, List, [], ◌∷◌, ◌++◌, map, length, refl, sym, ap, ◌∙◌, subst}
+use Rattle.std.proofs.Common.{arith, append_assoc}
 use Rattle.std.specs.Prelude.{codes, slice_index_or}
 use Rattle.std.specs.List.{AllByRecursion, AllZip, flat_map, range_with_len}
+use Rattle.std.proofs.lemmas.Bool.{agree_below_at}
 use Rattle.std.proofs.lemmas.List.{length-map}
 use Rattle.std.proofs.lemmas.List.FromFn.{length-range_with_len}
 use Rattle.lw_base.specs.Types.{Bytes, TokenList, Cells, CellGrid}
 use Rattle.lw_base.specs.Characters.{begins, is_blank}
+use Rattle.lw_base.specs.Limits.{most_threads}
 use Rattle.lw_base.specs.Names.{IsName}
 use Rattle.lw_text.specs.Lists.{Until}
-use Rattle.lw_text.specs.Rows.{thread_name, Header, RowCells, Row, begins_stop}
+use Rattle.lw_text.specs.Rows.{thread_name, Names, Header, RowCells, Row, begins_stop}
 use Rattle.lw_text.proofs.api.Spelling.{Anything, IsBlankNext, Spells, Spells-then, Spells-on, Spells-before, Spells-within, Spells-nothing, Spells-space}
-use Rattle.lw_text.proofs.api.Spelling.{Spells-newline, Spells-mark, Spells-name, name_by_test, blank_ends_word}
+use Rattle.lw_text.proofs.api.Spelling.{Spells-newline, Spells-mark, Spells-name, is_name_text, name_by_test, blank_ends_word}
 use Rattle.lw_x86.specs.CanonicalTexts.{row_text, row_of, header_text}
 use Rattle.lw_x86.proofs.PrintedSlots.{EndsNoCell, name_no_end}
 use Rattle.lw_x86.proofs.PrintedCells.{IsPrintedCell, empty_printed}
@@ -113,41 +116,42 @@ cell_of w name starts = record {
   starts = starts;
 }
 
-p0 : IsPrintedCell (thread_name 0) (thread_name 0 ∷ [])
-p0 = cell_of (thread_name 0) (name_by_test (thread_name 0) refl) refl
+thread_cell : (k : ℕ) → k < most_threads → IsPrintedCell (thread_name k) (thread_name k ∷ [])
+thread_cell k lt =
+    cell_of (thread_name k) (name_by_test (thread_name k) (agree_below_at (λ j. is_name_text (thread_name j)) (λ j. true) most_threads k refl lt))
+    (agree_below_at (λ j. begins_stop (thread_name j ∷ [])) (λ j. false) most_threads k refl lt)
 
-p1 : IsPrintedCell (thread_name 1) (thread_name 1 ∷ [])
-p1 = cell_of (thread_name 1) (name_by_test (thread_name 1) refl) refl
+-- the tokens of so many threads' names from the k-th on
+abbrev names_from : ℕ → ℕ → Cells
+names_from k n = map (λ j. thread_name j ∷ []) (range_with_len k n)
 
-p2 : IsPrintedCell (thread_name 2) (thread_name 2 ∷ [])
-p2 = cell_of (thread_name 2) (name_by_test (thread_name 2) refl) refl
+header_cells : (k n : ℕ) → k + n ≤ most_threads → AllZip IsPrintedCell (map thread_name (range_with_len k n)) (names_from k n)
+header_cells k zero few = tt
+header_cells k (suc n) few = (thread_cell k (omega (arith, few)), header_cells (k + 1) n (omega (arith, few)))
 
-p3 : IsPrintedCell (thread_name 3) (thread_name 3 ∷ [])
-p3 = cell_of (thread_name 3) (name_by_test (thread_name 3) refl) refl
+-- the most bytes of a row
+abbrev pub row_bytes : ℕ
+row_bytes = 153 * most_threads + 1
 
-header_cells : (threads : ℕ) → 1 ≤ threads → threads ≤ 4 → AllZip IsPrintedCell (map thread_name (range_with_len 0 threads))
-    (map (λ k. thread_name k ∷ []) (range_with_len 0 threads))
-header_cells zero some few = absurd (omega arith)
-header_cells (suc zero) some few = (p0, tt)
-header_cells (suc (suc zero)) some few = (p0, (p1, tt))
-header_cells (suc (suc (suc zero))) some few = (p0, (p1, (p2, tt)))
-header_cells (suc (suc (suc (suc zero)))) some few = (p0, (p1, (p2, (p3, tt))))
-header_cells (suc (suc (suc (suc (suc n))))) some few = absurd (omega arith)
-
-pub header_spelled : (threads : ℕ) → 1 ≤ threads → threads ≤ 4 → Spells Anything 613 (header_text threads) (header_tokens threads)
+pub header_spelled : (threads : ℕ) → 1 ≤ threads → threads ≤ most_threads → Spells Anything row_bytes (header_text threads) (header_tokens threads)
 header_spelled threads some few =
     let long : length (map thread_name (range_with_len 0 threads)) ≡ threads = length-map (range_with_len 0 threads) thread_name
     ∙ length-range_with_len 0 threads in
-    Spells-within 613 (omega (arith, long, few)) (row_spelled (map thread_name (range_with_len 0 threads))
-    (map (λ k. thread_name k ∷ []) (range_with_len 0 threads)) (omega (arith, long, some)) (header_cells threads some few))
+    Spells-within row_bytes (omega (arith, long, few)) (row_spelled (map thread_name (range_with_len 0 threads))
+    (names_from 0 threads) (omega (arith, long, some)) (header_cells 0 threads (omega (arith, few))))
 
-pub header_said : (threads : ℕ) (rest : TokenList) → 1 ≤ threads → threads ≤ 4 → Header (header_tokens threads ++ rest) threads rest
+names_said : (k n : ℕ) (rest : TokenList) → Names k (suc n) (row_tokens (names_from k (suc n)) ++ rest) rest
+names_said k zero rest = refl
+names_said k (suc n) rest = (
+  row_tokens (names_from (k + 1) (suc n)) ++ rest,
+  refl,
+  let next : k + 1 ≡ suc k = omega arith in
+      subst (λ (j : ℕ). Names j (suc n) (row_tokens (names_from (k + 1) (suc n)) ++ rest) rest) next (names_said (k + 1) n rest),
+)
+
+pub header_said : (threads : ℕ) (rest : TokenList) → 1 ≤ threads → threads ≤ most_threads → Header (header_tokens threads ++ rest) threads rest
 header_said zero rest some few = absurd (omega arith)
-header_said (suc zero) rest some few = (refl, few)
-header_said (suc (suc zero)) rest some few = ((_, refl, refl), few)
-header_said (suc (suc (suc zero))) rest some few = ((_, refl, (_, refl, refl)), few)
-header_said (suc (suc (suc (suc zero)))) rest some few = ((_, refl, (_, refl, (_, refl, refl))), few)
-header_said (suc (suc (suc (suc (suc n))))) rest some few = absurd (omega arith)
+header_said (suc n) rest some few = (names_said 0 n rest, few)
 
 -- ---- the rows of some threads
 
@@ -182,17 +186,17 @@ plain_cells (t ∷ texts) (c ∷ cells) h = let more = plain_cells texts cells h
 abbrev pub rows_at : List Cells → ℕ → ℕ → CellGrid
 rows_at grid k n = map (row_at grid) (range_with_len k n)
 
-module _ (texts : List (List Bytes)) (grid : List Cells) (printed : ArePrinted texts grid) (threads : ℕ) (some : 1 ≤ threads) (few : threads ≤ 4)
+module _ (texts : List (List Bytes)) (grid : List Cells) (printed : ArePrinted texts grid) (threads : ℕ) (some : 1 ≤ threads) (few : threads ≤ most_threads)
     (long : length texts ≡ threads) (as_long : length grid ≡ threads) where
-  row_bound : (k : ℕ) → Spells Anything 613 (row_text (row_of texts k)) (row_tokens (row_at grid k))
+  row_bound : (k : ℕ) → Spells Anything row_bytes (row_text (row_of texts k)) (row_tokens (row_at grid k))
   row_bound k =
       let e : length (row_of texts k) ≡ threads = length-map texts (λ cells. slice_index_or cells k []) ∙ long in
-      Spells-within 613 (omega (arith, e, few)) (row_spelled (row_of texts k) (row_at grid k) (omega (arith, e, some)) (row_printed texts grid k printed))
+      Spells-within row_bytes (omega (arith, e, few)) (row_spelled (row_of texts k) (row_at grid k) (omega (arith, e, some)) (row_printed texts grid k printed))
 
-  pub rows_spelled : (k n : ℕ) → Spells Anything (613 * n) (flat_map (λ j. row_text (row_of texts j)) (range_with_len k n))
+  pub rows_spelled : (k n : ℕ) → Spells Anything (row_bytes * n) (flat_map (λ j. row_text (row_of texts j)) (range_with_len k n))
       (flat_map row_tokens (rows_at grid k n))
-  rows_spelled k zero = Spells-within (613 * 0) (omega arith) (Spells-nothing Anything)
-  rows_spelled k (suc n) = Spells-within (613 * suc n) (omega arith) (Spells-on (row_bound k) (rows_spelled (k + 1) n))
+  rows_spelled k zero = Spells-within (row_bytes * 0) (omega arith) (Spells-nothing Anything)
+  rows_spelled k (suc n) = Spells-within (row_bytes * suc n) (omega arith) (Spells-on (row_bound k) (rows_spelled (k + 1) n))
 
   pub rows_plain : (k n : ℕ) → AllByRecursion (IsPlainRow threads) (rows_at grid k n)
   rows_plain k zero = tt

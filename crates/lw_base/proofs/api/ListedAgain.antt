@@ -7,6 +7,7 @@ use Rattle.std.proofs.lemmas.Bool.{cases_Bool, and_parts, or_cases, or_right, eq
 use Rattle.std.proofs.lemmas.List.FromFn.{length-map-range_with_len}
 use Rattle.lw_base.specs.declared.head.Seen.{Seen}
 use Rattle.lw_base.specs.declared.head.Seen.TheVariants.{Register, Location}
+use Rattle.lw_base.specs.Limits.{most_threads, most_locations, registers}
 use Rattle.lw_base.specs.WellFormed.{IsSeen, ComesBefore, Ascending}
 use Rattle.lw_base.specs.SeenLists.{same_seen, thread_registers, all_registers, locations}
 use Rattle.lw_base.proofs.api.SeenLists.{all_ascending}
@@ -211,6 +212,10 @@ seen_length threads locs = omega (
   length-map-range_with_len
       (λ x. Location x) 0 locs,
 )
+
+-- the most registers and locations of a test
+abbrev pub most_seen : ℕ
+most_seen = registers * most_threads + most_locations
 
 pub listed_few : (threads locs : ℕ) (ss : List Seen) → Ascending ss → AllByRecursion (IsSeen threads locs) ss → length ss ≤ 6 * threads + locs
 listed_few threads locs ss ascending there =

@@ -26,8 +26,8 @@ unpacked p = record { copies = at_each (copy_at p); memory = p.memory }
 
 -- What a packed record keeps. Without copies its word is memory's.
 pub record IsPacked (p : Inside) : Type 0 where
-  pub four : length p.sharers ≡ most_threads
-  -- an owner is one of the four and no sharer, and has sharers beside it only in O
+  pub as_many : length p.sharers ≡ most_threads
+  -- an owner is one of the processors and no sharer, and has sharers beside it only in O
   pub in_range : (o : ℕ) → p.owner ≡ Some o → o < most_threads
   pub apart : (o : ℕ) → p.owner ≡ Some o → slice_index_or p.sharers o false ≡ false
   pub alone : (o : ℕ) → p.owner ≡ Some o → p.is_owned ≡ false → p.sharers ≡ nobody

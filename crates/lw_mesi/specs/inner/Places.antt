@@ -1,10 +1,12 @@
--- The four processors' places, and sets of processors.
-use Rattle.std.specs.Prelude.{ℕ, List, [], ◌∷◌, Option, Some, None, Bool, false, ◌==◌}
+-- The processors' places, and sets of processors.
+use Rattle.std.specs.Prelude.{ℕ, List, map, Option, Some, None, Bool, false, ◌==◌}
+use Rattle.std.specs.List.{range_with_len}
 use Rattle.std.specs.Int.{bit_at}
+use Rattle.lw_base.specs.Limits.{most_threads}
 
--- What a function gives at each of the four processors.
+-- What a function gives at each of the processors.
 abbrev pub at_each : {A : Type 0} → (ℕ → A) → List A
-at_each f = f 0 ∷ f 1 ∷ f 2 ∷ f 3 ∷ []
+at_each f = map f (range_with_len 0 most_threads)
 
 -- A processor is in the set where its bit is 1.
 abbrev pub members_of : ℕ → List Bool

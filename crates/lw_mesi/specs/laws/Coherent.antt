@@ -2,6 +2,7 @@
 use Rattle.std.proofs.Common.{◌≡◌, ◌≢◌, ℕ, zero, suc, ◌<◌, List, [], ◌∷◌, length, map, set, Some, None, refl, sym, ap, ◌∙◌, subst, ⊎_elim, arith}
 use Rattle.std.proofs.Common.{get_or-set_same, get_or-set_other}
 use Rattle.std.proofs.lemmas.Bool.{cases_eq}
+use Rattle.lw_base.specs.Limits.{most_threads}
 use Rattle.lw_mesi.specs.CacheLines.{Copy, Modified, Owned, Exclusive, Shared, Invalid, CacheLine, copy_of, copy_word, dirty_or, content_of}
 use Rattle.lw_mesi.specs.Coherence.{IsOnlyCopy, IsDirty, IsCoherentCacheLine}
 
@@ -84,12 +85,12 @@ pub one_word : (c : Copy) (w v : ℕ) → copy_word c ≡ Some v → copy_word c
 one_word c w v e h = cc
 
 -- One processor alone may have a copy, which holds the content.
-pub single : (line : CacheLine) (t : ℕ) → length line.copies ≡ 4 → NobodyElse line t
+pub single : (line : CacheLine) (t : ℕ) → length line.copies ≡ most_threads → NobodyElse line t
     → ((w : ℕ) → copy_word (copy_of line t) ≡ Some w → w ≡ content_of line) → IsCoherentCacheLine line
-single line t four others word =
+single line t long others word =
     let none : (P : Copy → Type 0) → (P Invalid → ⊥) → (u : ℕ) → t ≢ u → P (copy_of line u) → ⊥ = λ P not u ne h. not (subst P (others u ne) h) in
     record {
-      four = four;
+      as_many = long;
       alone = at_place t (λ k. (u : ℕ) → IsOnlyCopy (copy_of line k) → k ≢ u → copy_of line u ≡ Invalid)
           (λ u own ne. others u ne)
           (λ k other u own ne. absurd (none IsOnlyCopy (λ h. h) k other own));

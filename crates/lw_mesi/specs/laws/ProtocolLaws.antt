@@ -2,6 +2,7 @@
 use Rattle.std.proofs.Common.{◌≡◌, ℕ, zero, suc, ◌<◌, List, [], ◌∷◌, length, map, set, Some, refl, sym, ap, ◌∙◌, subst, arith, slice_index, slice_set, true}
 use Rattle.std.proofs.Common.{length-set, get_or-set_same, get_or-set_other}
 use Rattle.std.proofs.lemmas.List.{length-map}
+use Rattle.lw_base.specs.Limits.{most_threads}
 use Rattle.lw_base.specs.Sums.{sum_of}
 use Rattle.lw_memory.specs.declared.system.Request.{Request}
 use Rattle.lw_memory.specs.declared.system.Request.TheVariants.{Load, Store, Swap, FetchAdd, Evict}
@@ -54,7 +55,7 @@ pub kept_line : (p : Protocol) (m : Caches) (x : ℕ) → IsKept p m → x < len
 kept_line p m x ok lt = record { coherent = ok.coherent.lines x lt; states = ok.states x lt }
 
 -- What a line has after a request.
-module _ (p : Protocol) (t : ℕ) (line : CacheLine) (lt : t < 4) (ok : IsKeptLine p line) where
+module _ (p : Protocol) (t : ℕ) (line : CacheLine) (lt : t < most_threads) (ok : IsKeptLine p line) where
   pub write_word : copy_word (copy_of (line_to_write t line) t) ≡ Some (content_of line)
   write_word = (keeps p t line lt ok.coherent ok.states).to_write.word
 
@@ -86,7 +87,7 @@ module _ (p : Protocol) (m : Caches) (ok : IsKept p m) where
       → Served (caches_by p) (caches_invariant p) m r (answer_from (table_of p) r (line_at m.lines (loc_of r))) (caches_after (table_of p) r m)
   row_served (Load t x) there possible =
       let line : CacheLine = line_at m.lines x in
-      let lt : t < 4 = omega (arith, ok.coherent.few, there.0) in
+      let lt : t < most_threads = omega (arith, ok.coherent.few, there.0) in
       let kept : IsKeptLine p line = kept_line p m x ok there.1 in
       record {
         possible = tt;
@@ -97,7 +98,7 @@ module _ (p : Protocol) (m : Caches) (ok : IsKept p m) where
       }
   row_served (Store t x w) there possible =
       let line : CacheLine = line_at m.lines x in
-      let lt : t < 4 = omega (arith, ok.coherent.few, there.0) in
+      let lt : t < most_threads = omega (arith, ok.coherent.few, there.0) in
       let kept : IsKeptLine p line = kept_line p m x ok there.1 in
       record {
         possible = tt;
@@ -108,7 +109,7 @@ module _ (p : Protocol) (m : Caches) (ok : IsKept p m) where
       }
   row_served (Swap t x w) there possible =
       let line : CacheLine = line_at m.lines x in
-      let lt : t < 4 = omega (arith, ok.coherent.few, there.0) in
+      let lt : t < most_threads = omega (arith, ok.coherent.few, there.0) in
       let kept : IsKeptLine p line = kept_line p m x ok there.1 in
       record {
         possible = tt;
@@ -119,7 +120,7 @@ module _ (p : Protocol) (m : Caches) (ok : IsKept p m) where
       }
   row_served (FetchAdd t x w) there possible =
       let line : CacheLine = line_at m.lines x in
-      let lt : t < 4 = omega (arith, ok.coherent.few, there.0) in
+      let lt : t < most_threads = omega (arith, ok.coherent.few, there.0) in
       let kept : IsKeptLine p line = kept_line p m x ok there.1 in
       record {
         possible = tt;
@@ -132,7 +133,7 @@ module _ (p : Protocol) (m : Caches) (ok : IsKept p m) where
       }
   row_served (Evict t x) there possible =
       let line : CacheLine = line_at m.lines x in
-      let lt : t < 4 = omega (arith, ok.coherent.few, there.0) in
+      let lt : t < most_threads = omega (arith, ok.coherent.few, there.0) in
       let kept : IsKeptLine p line = kept_line p m x ok there.1 in
       record {
         possible = possible;

@@ -1,6 +1,7 @@
 -- What each row of a protocol keeps of one location's line, its content, and that it is coherent: proofs that an impl cites,
 -- and no definition of the protocols.
 use Rattle.std.proofs.Common.{◌≡◌, ℕ, zero, suc, ◌<◌, List, [], ◌∷◌, map, set, Bool, true, false, refl, sym, subst}
+use Rattle.lw_base.specs.Limits.{most_threads}
 use Rattle.lw_base.specs.Sums.{sum_of}
 use Rattle.lw_memory.specs.declared.system.Request.{Request}
 use Rattle.lw_memory.specs.declared.system.Request.TheVariants.{Load, Store, Swap, FetchAdd, Evict}
@@ -83,7 +84,7 @@ content_kept Mesi line states =
     (λ u d. shared_clean (copy_of line u) (states u) (subst IsDirty (copy_map mesi_on_other_get_s line.copies u refl) d))
 content_kept Moesi line states = shared_content line.memory line.copies
 
-module _ (p : Protocol) (t : ℕ) (line : CacheLine) (lt : t < 4) (sound : IsCoherentCacheLine line) (states : HasStatesOf p line) where
+module _ (p : Protocol) (t : ℕ) (line : CacheLine) (lt : t < most_threads) (sound : IsCoherentCacheLine line) (states : HasStatesOf p line) where
   to_write : (c : Copy) → copy_of line t ≡ c → ToWrite t line lt sound (on_write c t line)
   to_write (Modified w) e = hit_to_write t line lt sound (Modified w) w e refl tt
   to_write (Owned w) e = get_m_to_write t line lt sound

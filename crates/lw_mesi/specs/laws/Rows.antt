@@ -3,13 +3,14 @@
 use Rattle.std.proofs.Common.{◌≡◌, ◌≢◌, ℕ, zero, suc, ◌<◌, List, [], ◌∷◌, length, map, set, Some, Bool, true, false, refl, sym, ap, ◌∙◌, subst, arith}
 use Rattle.std.proofs.Common.{length-set}
 use Rattle.std.proofs.lemmas.List.{length-map}
+use Rattle.lw_base.specs.Limits.{most_threads}
 use Rattle.lw_memory.specs.Memory.{is_held}
 use Rattle.lw_mesi.specs.CacheLines.{Copy, Modified, Owned, Exclusive, Shared, Invalid, CacheLine, copy_of, letter_of, copy_word, dirty_or, content_of}
 use Rattle.lw_mesi.specs.Coherence.{IsOnlyCopy, IsDirty, IsCoherentCacheLine}
 use Rattle.lw_mesi.specs.Snooping.{ProtocolTable, any_held, copy_from, get_m, line_to_read, line_to_write, line_with_word, line_evicted}
 use Rattle.lw_mesi.specs.laws.Coherent.{copy_in, at_place, put_here, put_there, copy_map, clean, dirty, put_clean, NobodyElse, no_word, one_word, single, After}
 
-none_held : (copies : List Copy) → any_held copies ≡ false → (t : ℕ) → copy_in copies t ≡ Invalid
+pub none_held : (copies : List Copy) → any_held copies ≡ false → (t : ℕ) → copy_in copies t ≡ Invalid
 none_held [] h t = refl
 none_held (Modified v ∷ copies) h t = cc
 none_held (Owned v ∷ copies) h t = cc
@@ -22,7 +23,7 @@ from_clean : (b : Bool) (w : ℕ) → IsDirty (copy_from b w) → ⊥
 from_clean true w h = h
 from_clean false w h = h
 
-from_word : (b : Bool) (w : ℕ) → copy_word (copy_from b w) ≡ Some w
+pub from_word : (b : Bool) (w : ℕ) → copy_word (copy_from b w) ≡ Some w
 from_word true w = refl
 from_word false w = refl
 
@@ -33,17 +34,17 @@ pub record SharesOthers (f : Copy → Copy) (line : CacheLine) : Type 0 where
   pub free : (u : ℕ) → IsOnlyCopy (f (copy_of line u)) → ⊥
   pub dirty : (u : ℕ) → IsDirty (f (copy_of line u)) → IsDirty (copy_of line u)
 
-module _ (t : ℕ) (line : CacheLine) (lt : t < 4) (sound : IsCoherentCacheLine line) where
+module _ (t : ℕ) (line : CacheLine) (lt : t < most_threads) (sound : IsCoherentCacheLine line) where
   -- What a write finds: the processor alone has a copy, which holds the content.
   pub record ToWrite (l : CacheLine) : Type 0 where
-    pub four : length l.copies ≡ 4
+    pub as_many : length l.copies ≡ most_threads
     pub word : copy_word (copy_of l t) ≡ Some (content_of line)
     pub others : NobodyElse l t
 
   -- A write that hits, in M or E.
   pub hit_to_write : (c : Copy) (w : ℕ) → copy_of line t ≡ c → copy_word c ≡ Some w → IsOnlyCopy c → ToWrite line
   hit_to_write c w e h own = record {
-    four = sound.four;
+    as_many = sound.as_many;
     word = (ap copy_word e ∙ h) ∙ ap Some (sound.same_word t w (ap copy_word e ∙ h));
     others = λ u ne. sound.alone t u (subst IsOnlyCopy (sym e) own) ne;
   }
@@ -52,10 +53,10 @@ module _ (t : ℕ) (line : CacheLine) (lt : t < 4) (sound : IsCoherentCacheLine 
   pub get_m_to_write : ToWrite (get_m t line)
   get_m_to_write =
       let gone : List Copy = map (λ c. Invalid) line.copies in
-      let four : length gone ≡ 4 = length-map line.copies (λ c. Invalid) ∙ sound.four in
+      let long : length gone ≡ most_threads = length-map line.copies (λ c. Invalid) ∙ sound.as_many in
       record {
-        four = length-set gone t (Modified (content_of line)) ∙ four;
-        word = ap copy_word (put_here gone t (Modified (content_of line)) (omega (arith, four)));
+        as_many = length-set gone t (Modified (content_of line)) ∙ long;
+        word = ap copy_word (put_here gone t (Modified (content_of line)) (omega (arith, long)));
         others = λ u ne. put_there gone t (Modified (content_of line)) u ne ∙ copy_map (λ c. Invalid) line.copies u refl;
       }
 
@@ -63,13 +64,13 @@ module _ (t : ℕ) (line : CacheLine) (lt : t < 4) (sound : IsCoherentCacheLine 
   pub written : (w : ℕ) (l : CacheLine) → ToWrite l → After w (line_with_word t w l)
   written w l h =
       let copies : List Copy = set l.copies t (Modified w) in
-      let here : copy_in copies t ≡ Modified w = put_here l.copies t (Modified w) (omega (arith, h.four)) in
+      let here : copy_in copies t ≡ Modified w = put_here l.copies t (Modified w) (omega (arith, h.as_many)) in
       let others : (u : ℕ) → t ≢ u → copy_in copies u ≡ Invalid = λ u ne. put_there l.copies t (Modified w) u ne ∙ h.others u ne in
       let d : dirty_or l.memory copies ≡ w =
       dirty l.memory w copies t (subst IsDirty (sym here) tt) (ap copy_word here) (λ u ne x. subst IsDirty (others u ne) x) in
       record {
         content = d;
-        sound = single (line_with_word t w l) t (length-set l.copies t (Modified w) ∙ h.four) others
+        sound = single (line_with_word t w l) t (length-set l.copies t (Modified w) ∙ h.as_many) others
             (λ k e. one_word (copy_in copies t) k w (ap copy_word here) e ∙ sym d);
       }
 
@@ -99,9 +100,9 @@ module _ (t : ℕ) (line : CacheLine) (lt : t < 4) (sound : IsCoherentCacheLine 
   get_s_loaded f m shared same mine b held =
       let v : ℕ = content_of line in
       let mine_too : copy_in (map f line.copies) t ≡ Invalid = copy_map f line.copies t shared.invalid ∙ (ap f mine ∙ shared.invalid) in
-      let four : length (map f line.copies) ≡ 4 = length-map line.copies f ∙ sound.four in
+      let long : length (map f line.copies) ≡ most_threads = length-map line.copies f ∙ sound.as_many in
       let l : CacheLine = record { copies = set (map f line.copies) t (copy_from b v); memory = m } in
-      let here : copy_of l t ≡ copy_from b v = put_here (map f line.copies) t (copy_from b v) (omega (arith, four)) in
+      let here : copy_of l t ≡ copy_from b v = put_here (map f line.copies) t (copy_from b v) (omega (arith, long)) in
       let there : (u : ℕ) → t ≢ u → copy_of l u ≡ f (copy_of line u) =
       λ u ne. put_there (map f line.copies) t (copy_from b v) u ne ∙ copy_map f line.copies u shared.invalid in
       let content : content_of l ≡ v =
@@ -112,7 +113,7 @@ module _ (t : ℕ) (line : CacheLine) (lt : t < 4) (sound : IsCoherentCacheLine 
         after = record {
           content = content;
           sound = record {
-            four = length-set (map f line.copies) t (copy_from b v) ∙ four;
+            as_many = length-set (map f line.copies) t (copy_from b v) ∙ long;
             alone = at_place t (λ a. (u : ℕ) → IsOnlyCopy (copy_of l a) → a ≢ u → copy_of l u ≡ Invalid)
                 (λ u own ne. there u ne ∙ alone_here f shared.invalid b held u (subst IsOnlyCopy here own))
                 (λ a na u own ne. absurd (shared.free a (subst IsOnlyCopy (there a na) own)));
@@ -134,12 +135,12 @@ module _ (t : ℕ) (line : CacheLine) (lt : t < 4) (sound : IsCoherentCacheLine 
       → dirty_or m (set line.copies t Invalid) ≡ content_of line → After (content_of line) (record { copies = set line.copies t Invalid; memory = m })
   without_own m content =
       let l : CacheLine = record { copies = set line.copies t Invalid; memory = m } in
-      let here : copy_of l t ≡ Invalid = put_here line.copies t Invalid (omega (arith, sound.four)) in
+      let here : copy_of l t ≡ Invalid = put_here line.copies t Invalid (omega (arith, sound.as_many)) in
       let there : (u : ℕ) → t ≢ u → copy_of l u ≡ copy_of line u = put_there line.copies t Invalid in
       record {
         content = content;
         sound = record {
-          four = length-set line.copies t Invalid ∙ sound.four;
+          as_many = length-set line.copies t Invalid ∙ sound.as_many;
           alone = at_place t (λ a. (u : ℕ) → IsOnlyCopy (copy_of l a) → a ≢ u → copy_of l u ≡ Invalid)
               (λ u own ne. absurd (subst IsOnlyCopy here own))
               (λ a na. at_place t (λ u. IsOnlyCopy (copy_of l a) → a ≢ u → copy_of l u ≡ Invalid)
@@ -163,7 +164,7 @@ module _ (t : ℕ) (line : CacheLine) (lt : t < 4) (sound : IsCoherentCacheLine 
       let copies : List Copy = set line.copies t Invalid in
       let none : (u : ℕ) → IsDirty (copy_in copies u) → ⊥ =
       at_place t (λ u. IsDirty (copy_in copies u) → ⊥)
-      (λ d. subst IsDirty (put_here line.copies t Invalid (omega (arith, sound.four))) d)
+      (λ d. subst IsDirty (put_here line.copies t Invalid (omega (arith, sound.as_many))) d)
       (λ u ne d. ne (sound.one_dirty t u (subst IsDirty (sym e) own) (subst IsDirty (put_there line.copies t Invalid u ne) d))) in
       without_own w (clean w copies none ∙ sound.same_word t w (ap copy_word e ∙ h))
 

@@ -15,6 +15,7 @@ use Rattle.lw_base.specs.declared.head.Seen.{Seen}
 use Rattle.lw_base.specs.declared.head.Seen.TheVariants.{Register, Location}
 use Rattle.lw_base.specs.ConditionTexts.{is_or, is_joined}
 use Rattle.lw_base.specs.Formula.{Formula, Yes, No, Reg_is, Word_is, Not, And, Or}
+use Rattle.lw_base.specs.Limits.{most_threads}
 use Rattle.lw_base.specs.Lists.{EachOnce}
 use Rattle.lw_base.specs.Names.{IsLocation}
 use Rattle.lw_base.proofs.api.Tables.{IsInTable, index_of-again}
@@ -90,7 +91,7 @@ IsPrintableTerminal threads names Conjunction = Unit {0}
 IsPrintableTerminal threads names Disjunction = Unit {0}
 IsPrintableTerminal threads names (Atom a) = IsPrintableClaim threads names a
 
-module _ (arch : Arch) (threads : ℕ) (few : threads ≤ 4) (names : NameTable) where
+module _ (arch : Arch) (threads : ℕ) (few : threads ≤ most_threads) (names : NameTable) where
   pub site_said : (s : SiteSyntax) (rest : TokenList) → IsPrintable threads names s → IsSite arch (site_tokens arch s ++ rest) s rest
   site_said (InMemory x) rest h = (h.0, inl refl)
   site_said (InThread t r) rest h = (decimal t, register_name arch r, refl, decimal_is_number t (omega (arith, h.0, few)), (h.1, refl))

@@ -19,6 +19,7 @@ use Rattle.lw_base.specs.declared.head.Seen.TheVariants.{Register, Location}
 use Rattle.lw_base.specs.Characters.{is_word_byte, begins}
 use Rattle.lw_base.specs.ConditionTexts.{site_text, assignment, in_parentheses, parenthesized_if, is_or, is_joined, proposition_text, quantifier_text}
 use Rattle.lw_base.specs.Formula.{Formula, Yes, No, Reg_is, Word_is, Not, And, Or, nodes}
+use Rattle.lw_base.specs.Limits.{most_threads}
 use Rattle.lw_base.specs.Names.{IsName, IsLocation}
 use Rattle.lw_base.specs.Registers.{register_name}
 use Rattle.lw_base.specs.WellFormed.{IsSeen, SpeaksOf}
@@ -89,7 +90,7 @@ starts_word (b ∷ w) some all = (b, w, refl, no_star b all.0)
 pub name_there : (names : NameTable) (x : ℕ) → AllByRecursion IsLocation names → x < length names → IsLocation (slice_index_or names x [])
 name_there names x table h = All-from_recursion IsLocation names table x [] h
 
-module _ (arch : Arch) (threads : ℕ) (few : threads ≤ 4) (names : NameTable) (table : AllByRecursion IsLocation names) where
+module _ (arch : Arch) (threads : ℕ) (few : threads ≤ most_threads) (names : NameTable) (table : AllByRecursion IsLocation names) where
   pub site_spelled : (s : Seen) → IsSeen threads (length names) s → Spells EndsWord 43 (site_text arch names s) (site_tokens arch (named_site names s))
   site_spelled (Register t r) h =
       let number = Spells-number t (omega (arith, h.0, few)) in

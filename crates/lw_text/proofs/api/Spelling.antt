@@ -149,7 +149,7 @@ Spells-word n w all kind short = record {
 }
 
 -- a name, by its bytes
-abbrev is_name_text : Bytes → Bool
+abbrev pub is_name_text : Bytes → Bool
 is_name_text w = (nat_lt 0 (length w) && nat_lt (length w) 33) && (list_all is_word_byte w && not (begins is_ascii_digit w))
 
 all_pass : (p : ℕ → Bool) (w : Bytes) → list_all p w ≡ true → AllByRecursion (λ b. p b ≡ true) w

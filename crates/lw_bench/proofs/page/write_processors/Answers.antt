@@ -2,6 +2,7 @@ use Rattle.std.proofs.Common.{◌<◌, ◌≤◌, ◌++◌, ℕ, List, [], lengt
 use Rattle.std.specs.Prelude.{slice_index_or}
 use Rattle.std.proofs.lemmas.List.{length-map}
 use Rattle.lw_base.specs.Heads.{head_of}
+use Rattle.lw_base.specs.Limits.{most_threads}
 use Rattle.lw_text.proofs.api.Indices.{is_index}
 use Rattle.lw_tso.specs.Processors.{Processor}
 use Rattle.std.specs.String.{string_bytes}
@@ -17,7 +18,7 @@ pub loop-cpu-preserved : goal.loop-cpu-preserved
 loop-cpu-preserved g c =
     let processors = c.args.machine.now.state.processors in
     let k = c.loop-cpu.cpu-index in
-    let is = is_index 4 c.args.head.now.threads c.loop-cpu.cpu-index c.cpu-item.result c.all.result
+    let is = is_index most_threads c.args.head.now.threads c.loop-cpu.cpu-index c.cpu-item.result c.all.result
     (take c.args.head.now.threads c.all.result) c.all.ensures refl c.loop-cpu-test.true c.cpu-item.is in
     let within : k < length processors = omega (arith, c.requires.threads, c.loop-cpu-test.true, length-take c.args.head.now.threads c.all.result) in
     let here = get_some processors k within in
@@ -40,14 +41,14 @@ returns g c =
 
 pub bounds-regs-index : goal.bounds-regs-index
 bounds-regs-index g c =
-    let is = is_index 4 c.args.head.now.threads c.loop-cpu.cpu-index c.cpu-item.result c.all.result
+    let is = is_index most_threads c.args.head.now.threads c.loop-cpu.cpu-index c.cpu-item.result c.all.result
     (take c.args.head.now.threads c.all.result) c.all.ensures refl c.loop-cpu-test.true c.cpu-item.is in
     let many = ap length c.requires.regs ∙ length-map c.args.machine.now.state.processors (λ (p : Processor). p.regs) in
     omega (arith, is, c.index.ensures.value, many, c.loop-cpu-test.true, length-take c.args.head.now.threads c.all.result, c.requires.threads)
 
 pub write_processor-requires : goal.write_processor-requires
 write_processor-requires g c =
-    let is = is_index 4 c.args.head.now.threads c.loop-cpu.cpu-index c.cpu-item.result c.all.result
+    let is = is_index most_threads c.args.head.now.threads c.loop-cpu.cpu-index c.cpu-item.result c.all.result
     (take c.args.head.now.threads c.all.result) c.all.ensures refl c.loop-cpu-test.true c.cpu-item.is in
     record {
       cpu = omega (arith, is, c.loop-cpu-test.true, length-take c.args.head.now.threads c.all.result, c.requires.threads);

@@ -4,6 +4,7 @@ use Rattle.std.specs.Option.{option_map}
 use Rattle.std.proofs.lemmas.Option.{slice_get-map, get_or_from_slice_get}
 use Rattle.std.proofs.lemmas.List.{length-map}
 use Rattle.lw_interleaving.specs.declared.thread.Thread.{Thread}
+use Rattle.lw_base.specs.Limits.{most_threads}
 use Rattle.lw_text.proofs.api.Indices.{is_index}
 use Rattle.std.specs.String.{string_bytes}
 use Rattle.lw_base.proofs.api.Lists.{get_some}
@@ -18,7 +19,7 @@ pub loop-cpu-preserved : goal.loop-cpu-preserved
 loop-cpu-preserved g c =
     let threads = c.args.run.now.state.threads in
     let k = c.loop-cpu.cpu-index in
-    let is = is_index 4 c.args.head.now.threads c.loop-cpu.cpu-index c.cpu-item.result c.all.result
+    let is = is_index most_threads c.args.head.now.threads c.loop-cpu.cpu-index c.cpu-item.result c.all.result
     (take c.args.head.now.threads c.all.result) c.all.ensures refl c.loop-cpu-test.true c.cpu-item.is in
     let within : k < length threads = omega (arith, c.requires.threads, c.loop-cpu-test.true, length-take c.args.head.now.threads c.all.result) in
     let here = get_some threads k within in
@@ -45,13 +46,13 @@ returns g c =
 
 pub position-requires : goal.position-requires
 position-requires g c =
-    let is = is_index 4 c.args.head.now.threads c.loop-cpu.cpu-index c.cpu-item.result c.all.result
+    let is = is_index most_threads c.args.head.now.threads c.loop-cpu.cpu-index c.cpu-item.result c.all.result
     (take c.args.head.now.threads c.all.result) c.all.ensures refl c.loop-cpu-test.true c.cpu-item.is in
     omega (arith, is, c.loop-cpu-test.true, length-take c.args.head.now.threads c.all.result, c.requires.threads)
 
 pub bounds-regs-index : goal.bounds-regs-index
 bounds-regs-index g c =
-    let is = is_index 4 c.args.head.now.threads c.loop-cpu.cpu-index c.cpu-item.result c.all.result
+    let is = is_index most_threads c.args.head.now.threads c.loop-cpu.cpu-index c.cpu-item.result c.all.result
     (take c.args.head.now.threads c.all.result) c.all.ensures refl c.loop-cpu-test.true c.cpu-item.is in
     let many = ap length c.requires.regs ∙ length-map c.args.run.now.state.threads (λ (p : Thread). p.regs) in
     omega (arith, is, c.index.ensures.value, many, c.loop-cpu-test.true, length-take c.args.head.now.threads c.all.result, c.requires.threads)

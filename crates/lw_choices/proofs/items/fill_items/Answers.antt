@@ -1,5 +1,6 @@
 use Rattle.std.proofs.Common.{◌≡◌, ◌++◌, sym, ap₂, length, arith}
 use Rattle.std.proofs.lemmas.Bool.{ltb-false}
+use Rattle.lw_base.specs.Limits.{most_threads}
 use Rattle.lw_choices.specs.Items.{path_items}
 use Rattle.lw_choices.specs.Views.{path_of}
 use Rattle.lw_choices.proofs.Pushed.{some_is, some_there, thread_pushed, paths_done, threads_done}
@@ -29,7 +30,7 @@ overflow_cast-thread g c = omega (arith, c.loop-thread-test.true, c.loop-thread.
 
 pub unwrap-cpu-requires : goal.unwrap-cpu-requires
 unwrap-cpu-requires g c =
-    some_there c.new.result c.loop-thread.thread 4 c.new.ensures (omega (arith, c.loop-thread-test.true, c.loop-thread.invariant.few))
+    some_there c.new.result c.loop-thread.thread most_threads c.new.ensures (omega (arith, c.loop-thread-test.true, c.loop-thread.invariant.few))
 
 pub returns-in_default : goal.returns-in_default
 returns-in_default g c =

@@ -2,7 +2,9 @@ use Rattle.std.proofs.Common.{rules, ◌≡◌, ℕ, ◌<◌, ◌≤◌, List, [
 use Rattle.std.specs.Prelude.{Contains}
 use Rattle.std.specs.Option.{option_to_list}
 use Rattle.std.proofs.lemmas.Result.{on_ok_weaker, IfErr-weaker, err_from_is_err_and}
+use Rattle.lw_base.specs.Limits.{most_threads}
 use Rattle.lw_base.specs.Threads.{code_of}
+use Rattle.lw_litmus.specs.Limits.{most_instructions}
 use Rattle.lw_choices.specs.Views.{path_of, choice_of}
 use Rattle.lw_choices.specs.Visits.{Refused, CanGoOn, choices_along}
 use Rattle.lw_choices.proofs.Along.{found_here, few_statements, goes_on, next_thread, last_visited, next_visited, one_visited, two_visited, last_refused}
@@ -54,8 +56,8 @@ visit_from-requires g t c κs within =
     c.with-choice.ensures c.new.ensures (λ s. c.if-len-program.false (c.len-in_default.ensures ∙ s)) in
     let can : CanGoOn g.S.Statement.language c.args.program.now (choice_of c.with-choice.result) (path_of c.new.result) 0 = n.0 in
     let more : length (choice_of c.with-choice.result) ≡ suc (length (choice_of c.args.choice)) = n.1 in
-    let there : length (choice_of c.with-choice.result) < 4 = omega (arith, can.thread, can.visitable.few) in
-    let low : c.args.at ≤ 32 = c.requires.within_room in
+    let there : length (choice_of c.with-choice.result) < most_threads = omega (arith, can.thread, can.visitable.few) in
+    let low : c.args.at ≤ most_instructions = c.requires.within_room in
     search rules
 
 pub visit_from-requires-2 : goal.visit_from-requires-2
@@ -73,7 +75,7 @@ visit_from-requires-2 g t c κs within =
     (path_of c.args.path) c.args.at c.requires c.in-Some.stmt.now c.successors-first.result.0 (path_of c.with-path.result) e c.with-path.ensures there in
     let can : CanGoOn g.S.Statement.language c.args.program.now (choice_of c.args.choice) (path_of c.with-path.result) c.successors-first.result.0 = on.0 in
     let up : c.args.at < c.successors-first.result.0 = on.1 in
-    let low : c.successors-first.result.0 ≤ 32 = on.2 in
+    let low : c.successors-first.result.0 ≤ most_instructions = on.2 in
     search rules
 
 pub visit_from-requires-in-Some-second : goal.visit_from-requires-in-Some-second
@@ -91,7 +93,7 @@ visit_from-requires-in-Some-second g t c κs within =
     (path_of c.args.path) c.args.at c.requires c.in-Some.stmt.now c.in-Some-second.to (path_of c.with-path.result) e c.with-path.ensures there in
     let can : CanGoOn g.S.Statement.language c.args.program.now (choice_of c.args.choice) (path_of c.with-path.result) c.in-Some-second.to = on.0 in
     let up : c.args.at < c.in-Some-second.to = on.1 in
-    let low : c.in-Some-second.to ≤ 32 = on.2 in
+    let low : c.in-Some-second.to ≤ most_instructions = on.2 in
     search rules
 
 pub returns-in-Some-second-clause-ok : goal.returns-in-Some-second-clause-ok

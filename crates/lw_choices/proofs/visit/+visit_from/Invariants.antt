@@ -1,7 +1,9 @@
-use Rattle.std.proofs.Common.{◌+◌, ◌-◌, ◌*◌, length}
+use Rattle.std.proofs.Common.{suc, ◌+◌, ◌-◌, ◌*◌, length}
+use Rattle.lw_base.specs.Limits.{most_threads}
+use Rattle.lw_litmus.specs.Limits.{most_instructions}
 use Rattle.lw_choices.specs.Views.{choice_of}
 use Rattle.lw_choices.proofs.visit.+visit_from.Given as goal
 
 -- the threads whose paths are still to come, then the statements
 abbrev pub decreases-visit_from : goal.decreases-visit_from
-decreases-visit_from g l = 33 * (4 - length (choice_of l.choice)) + (32 - l.at)
+decreases-visit_from g l = suc most_instructions * (most_threads - length (choice_of l.choice)) + (most_instructions - l.at)

@@ -3,6 +3,7 @@ use Rattle.std.proofs.lemmas.List.{append-nil}
 use Rattle.lw_base.specs.declared.head.Seen.TheVariants.{Location, Register}
 use Rattle.std.specs.Prelude.{filter}
 use Rattle.std.specs.List.{range_with_len}
+use Rattle.lw_base.specs.Limits.{most_threads}
 use Rattle.lw_base.specs.SeenLists.{all_registers}
 use Rattle.lw_text.specs.inner.Resolved.{is_listed}
 use Rattle.lw_text.proofs.Starts.{registers_more, seen_more}
@@ -16,7 +17,7 @@ pub loop-reg-preserved : goal.loop-reg-preserved
 loop-reg-preserved g c =
     let n = c.loop-cpu.cpu-index in
     let seen = is_listed c.args.sites.now in
-    let of_cpu : c.cpu-item.result ≡ n = is_index 4 c.args.threads _ _ c.all.result _ c.all.ensures refl c.loop-cpu-test.true c.cpu-item.is in
+    let of_cpu : c.cpu-item.result ≡ n = is_index most_threads c.args.threads _ _ c.all.result _ c.all.ensures refl c.loop-cpu-test.true c.cpu-item.is in
     let whole : c.all-in-loop-cpu.result ≡ take 6 c.all-in-loop-cpu.result = c.all-in-loop-cpu.ensures ∙ sym (ap (take 6) c.all-in-loop-cpu.ensures) in
     let within : c.loop-reg.reg-index < length c.all-in-loop-cpu.result = omega (arith, c.type_inv.reg-items, c.loop-reg-test.true) in
     let at : c.reg-item.result ≡ c.loop-reg.reg-index = is_index 6 6 _ _ c.all-in-loop-cpu.result c.all-in-loop-cpu.result c.all-in-loop-cpu.ensures

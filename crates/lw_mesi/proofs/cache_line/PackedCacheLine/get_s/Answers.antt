@@ -1,7 +1,9 @@
 use Rattle.std.proofs.Common.{◌≡◌, false, sym, ◌∙◌, subst, length-set}
+use Rattle.std.proofs.lemmas.Bool.{true≢false}
 use Rattle.lw_mesi.specs.CacheLines.{Invalid, copy_of}
 use Rattle.lw_mesi.specs.Coherence.{HasStatesOf}
-use Rattle.lw_mesi.proofs.PackedLemmas.{dirty_shared, owner_shared, unowned_then, no_owner}
+use Rattle.lw_mesi.specs.Protocols.{table_of}
+use Rattle.lw_mesi.proofs.PackedReads.{read_word, dirty_shared, owner_shared, first_reader, next_reader, unowned_then, no_owner}
 use Rattle.lw_mesi.specs.declared.protocol.Protocol.TheVariants.{Moesi}
 use Rattle.lw_mesi.proofs.cache_line.PackedCacheLine.get_s.Goals as goal
 use Rattle.lw_mesi.proofs.cache_line.PackedCacheLine.get_s.Goals.{in_default-via-in-Moesi+else-self, in_default-via-in_default}
@@ -18,7 +20,7 @@ unowned c =
 pub invariant_of-self-in_default : goal.invariant_of-self-in_default
 invariant_of-self-in_default c =
     no_owner c.self.inside.word c.self.inside.is_owned c.insert-in_default-2.new.self (unowned c)
-    (rw (c.insert-in_default-2.ensures, c.insert-in_default.ensures) (length-set _ _ _ ∙ (length-set _ _ _ ∙ c.self.invariant.four)))
+    (rw (c.insert-in_default-2.ensures, c.insert-in_default.ensures) (length-set _ _ _ ∙ (length-set _ _ _ ∙ c.self.invariant.as_many)))
 
 pub returns-in-Moesi-clause-line : goal.returns-in-Moesi-clause-line
 returns-in-Moesi-clause-line c =
@@ -32,4 +34,38 @@ returns-in_default-clause-line c =
     rw (← c.self.view_is, c.insert-in_default-2.ensures, c.insert-in_default.ensures)
     (owner_shared c.self.inside c.args.cpu c.in-Some.owner c.args.protocol c.self.invariant c.requires.cpu
     (c.self.invariant.in_range _ c.in-Some.is) c.in-Some.is (unowned c) (clean c)
+    (subst (λ l. copy_of l c.args.cpu ≡ Invalid) (sym c.self.view_is) c.requires.without))
+
+pub returns-in-None-clause-line : goal.returns-in-None-clause-line
+returns-in-None-clause-line c =
+    rw (← c.self.view_is)
+    (first_reader c.self.inside c.args.cpu c.args.protocol c.self.invariant c.requires.cpu c.in-None.is
+    (subst (λ l. copy_of l c.args.cpu ≡ Invalid) (sym c.self.view_is) c.requires.without)
+    (c.is_empty.ensures.0 c.if-is_empty.true))
+
+pub returns-in-None-2-clause-line : goal.returns-in-None-2-clause-line
+returns-in-None-2-clause-line c =
+    rw (← c.self.view_is, c.insert-in-None-2.ensures)
+    (next_reader c.self.inside c.args.cpu c.args.protocol c.self.invariant c.requires.cpu c.in-None.is
+    (subst (λ l. copy_of l c.args.cpu ≡ Invalid) (sym c.self.view_is) c.requires.without)
+    (λ none. true≢false (sym (c.is_empty.ensures.1 none) ∙ c.if-is_empty.false)))
+
+pub returns-in-Moesi-clause-word : goal.returns-in-Moesi-clause-word
+returns-in-Moesi-clause-word c =
+    rw (← c.self.view_is) (read_word c.self.inside c.args.cpu (table_of c.args.protocol) c.self.invariant c.requires.cpu
+    (subst (λ l. copy_of l c.args.cpu ≡ Invalid) (sym c.self.view_is) c.requires.without))
+
+pub returns-in_default-clause-word : goal.returns-in_default-clause-word
+returns-in_default-clause-word c =
+    rw (← c.self.view_is) (read_word c.self.inside c.args.cpu (table_of c.args.protocol) c.self.invariant c.requires.cpu
+    (subst (λ l. copy_of l c.args.cpu ≡ Invalid) (sym c.self.view_is) c.requires.without))
+
+pub returns-in-None-clause-word : goal.returns-in-None-clause-word
+returns-in-None-clause-word c =
+    rw (← c.self.view_is) (read_word c.self.inside c.args.cpu (table_of c.args.protocol) c.self.invariant c.requires.cpu
+    (subst (λ l. copy_of l c.args.cpu ≡ Invalid) (sym c.self.view_is) c.requires.without))
+
+pub returns-in-None-2-clause-word : goal.returns-in-None-2-clause-word
+returns-in-None-2-clause-word c =
+    rw (← c.self.view_is) (read_word c.self.inside c.args.cpu (table_of c.args.protocol) c.self.invariant c.requires.cpu
     (subst (λ l. copy_of l c.args.cpu ≡ Invalid) (sym c.self.view_is) c.requires.without))

@@ -1,5 +1,6 @@
 use Rattle.std.proofs.Common.{◌≡◌, ◌≤◌, ◌<◌, ◌∙◌, ℕ, List, arith, length, length-set, map, take, refl, sym, ap, subst}
 use Rattle.std.proofs.lemmas.List.{length-map, map_more, take_all, take_more_set}
+use Rattle.lw_base.specs.Limits.{most_threads}
 use Rattle.lw_mesi.specs.CacheLines.{Caches, CacheLine, unheld_line, empty_caches, content_of, contents_of}
 use Rattle.lw_mesi.specs.Coherence.{IsKept}
 use Rattle.lw_mesi.proofs.Start.{empty_content, empty_kept}
@@ -38,7 +39,7 @@ returns-clause-words g c = ap contents_of (returns-clause-start g c) ∙ empty_c
 
 pub returns-clause-sound : goal.returns-clause-sound
 returns-clause-sound g c =
-    let few : c.args.self.now.cpus ≤ 4 = omega (arith, ap (λ (m : Caches). m.cpus) c.self.view_is, c.self.invariant.1.coherent.few) in
+    let few : c.args.self.now.cpus ≤ most_threads = omega (arith, ap (λ (m : Caches). m.cpus) c.self.view_is, c.self.invariant.1.coherent.few) in
     subst (IsKept g.P.KeptProtocol.protocol) (sym (returns-clause-start g c)) (empty_kept g.P.KeptProtocol.protocol c.args.self.now.cpus c.args.words.now few)
 
 pub invariant_of-self : goal.invariant_of-self

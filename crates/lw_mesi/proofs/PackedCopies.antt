@@ -1,0 +1,135 @@
+-- What each processor's copy is in a packed line, and what all of them are together: its content, and whether some cache holds it.
+use Rattle.std.proofs.Common.{◌≡◌, ℕ, zero, suc, ◌<◌, Option, Some, None, Bool, true, false, inl, inr, List, [], ◌∷◌, refl, sym, ap}
+use Rattle.std.proofs.Common.{ap₂, ◌∙◌, subst, arith}
+use Rattle.std.specs.Prelude.{if◌then◌else◌, slice_index_or}
+use Rattle.std.proofs.lemmas.Bool.{cases_lt, or_left, or_right, eqb-true, eq-eqb}
+use Rattle.std.proofs.lemmas.List.{get_or_past}
+use Rattle.lw_base.specs.Limits.{most_threads}
+use Rattle.lw_memory.specs.declared.system.LineState.TheVariants.{S}
+use Rattle.lw_memory.specs.Memory.{is_held}
+use Rattle.lw_mesi.specs.CacheLines.{Copy, Owned, Shared, Invalid, CacheLine, copy_of, letter_of, copy_word, content_of}
+use Rattle.lw_mesi.specs.inner.Places.{is_owner}
+use Rattle.lw_mesi.specs.Snooping.{any_held}
+use Rattle.lw_mesi.specs.Coherence.{IsOnlyCopy, IsDirty}
+use Rattle.lw_mesi.specs.laws.Coherent.{copy_in, clean, dirty}
+use Rattle.lw_mesi.specs.declared.cache_line.PackedCacheLine.TheInside.{Inside}
+use Rattle.lw_mesi.specs.inner.Packed.{IsPacked, owner_copy, sharer_copy, copy_at, unpacked}
+use Rattle.lw_mesi.proofs.PlaceLemmas.{at_each_long, at_each_get}
+
+-- ---- one processor's copy
+
+-- A copy, by whether its processor is the owner, whether the owner's copy is dirty and in O, and whether the processor is a sharer.
+abbrev pub copy_by : Bool → Bool → Bool → Bool → ℕ → Copy
+copy_by own d b s w = if own then owner_copy d b w else sharer_copy s w
+
+pub copy_there : (p : Inside) (t : ℕ) → t < most_threads → copy_of (unpacked p) t ≡ copy_at p t
+copy_there p t lt = at_each_get (copy_at p) t Invalid lt
+
+-- The owner is this processor.
+pub own_true : (owner : Option ℕ) (o : ℕ) → owner ≡ Some o → is_owner owner o ≡ true
+own_true owner o own = ap (λ (x : Option ℕ). is_owner x o) own ∙ eq-eqb o o refl
+
+pub own_is : (owner : Option ℕ) (t : ℕ) → is_owner owner t ≡ true → owner ≡ Some t
+own_is None t h = cc
+own_is (Some o) t h = ap (λ (x : ℕ). Some x) (eqb-true o t h)
+
+-- Who has no copy is not the owner.
+pub not_held : (own d b s : Bool) (w : ℕ) → copy_by own d b s w ≡ Invalid → own ≡ false
+not_held true true true s w e = cc
+not_held true true false s w e = cc
+not_held true false b s w e = cc
+not_held false d b s w e = refl
+
+-- Nor who has one in S.
+pub not_shared : (own d b s : Bool) (w : ℕ) → letter_of (copy_by own d b s w) ≡ S → own ≡ false
+not_shared true true true s w e = cc
+not_shared true true false s w e = cc
+not_shared true false b s w e = cc
+not_shared false d b s w e = refl
+
+-- Who has a dirty one is a dirty owner.
+pub dirty_owner : (own d b s : Bool) (w : ℕ) → IsDirty (copy_by own d b s w) → (own ≡ true) × (d ≡ true)
+dirty_owner true true b s w h = (refl, refl)
+dirty_owner true false b s w h = absurd h
+dirty_owner false d b true w h = absurd h
+dirty_owner false d b false w h = absurd h
+
+-- Who has the only one is an owner that is not in O.
+pub only_owner : (own d b s : Bool) (w : ℕ) → (d ≡ false → b ≡ false) → IsOnlyCopy (copy_by own d b s w) → (own ≡ true) × (b ≡ false)
+only_owner true true true s w h only = absurd only
+only_owner true true false s w h only = (refl, refl)
+only_owner true false b s w h only = (refl, h refl)
+only_owner false d b true w h only = absurd only
+only_owner false d b false w h only = absurd only
+
+pub sharer_is : (own d b s : Bool) (w : ℕ) → own ≡ false → s ≡ true → copy_by own d b s w ≡ Shared w
+sharer_is own d b s w e f = ap₂ (λ (x y : Bool). copy_by x d b y w) e f
+
+pub owner_held : (d b : Bool) (w : ℕ) → is_held (letter_of (owner_copy d b w)) ≡ true
+owner_held true true w = refl
+owner_held true false w = refl
+owner_held false b w = refl
+
+pub owner_dirty : (b : Bool) (w : ℕ) → IsDirty (owner_copy true b w)
+owner_dirty true w = tt
+owner_dirty false w = tt
+
+pub owner_word : (b : Bool) (w : ℕ) → copy_word (owner_copy true b w) ≡ Some w
+owner_word true w = refl
+owner_word false w = refl
+
+-- Every copy has the line's word.
+pub has_word : (own d b s : Bool) (w v : ℕ) → copy_word (copy_by own d b s w) ≡ Some v → Some w ≡ Some v
+has_word true true true s w v h = h
+has_word true true false s w v h = h
+has_word true false b s w v h = h
+has_word false d b true w v h = h
+has_word false d b false w v h = cc
+
+-- ---- the line
+
+pub owner_at : (p : Inside) (o : ℕ) → o < most_threads → p.owner ≡ Some o → copy_of (unpacked p) o ≡ owner_copy p.is_dirty p.is_owned p.word
+owner_at p o lt own =
+    copy_there p o lt
+    ∙ ap (λ (x : Bool). copy_by x p.is_dirty p.is_owned (slice_index_or p.sharers o false) p.word) (own_true p.owner o own)
+
+pub owned_at : (p : Inside) (o : ℕ) → o < most_threads → p.owner ≡ Some o → p.is_dirty ≡ true → p.is_owned ≡ true → copy_of (unpacked p) o ≡ Owned p.word
+owned_at p o lt own d b = owner_at p o lt own ∙ ap₂ (λ (x y : Bool). owner_copy x y p.word) d b
+
+-- Every dirty copy is a dirty owner's.
+pub dirty_at : (p : Inside) (t : ℕ) → IsDirty (copy_in (unpacked p).copies t) → (is_owner p.owner t ≡ true) × (p.is_dirty ≡ true)
+dirty_at p t h = elim (cases_lt t most_threads) [
+  | inl lt ↦ dirty_owner (is_owner p.owner t) p.is_dirty p.is_owned (slice_index_or p.sharers t false) p.word (subst IsDirty (copy_there p t lt) h)
+  | inr past ↦ absurd (subst IsDirty (get_or_past (unpacked p).copies t Invalid (omega (arith, at_each_long (copy_at p)))) h)
+]
+
+-- So the content is the line's word.
+pub content_is : (p : Inside) → IsPacked p → content_of (unpacked p) ≡ p.word
+content_is p ok = go p.is_dirty refl p.owner refl
+  where
+    go : (d : Bool) → p.is_dirty ≡ d → (owner : Option ℕ) → p.owner ≡ owner → content_of (unpacked p) ≡ p.word
+    go false ed owner eo = clean p.memory (unpacked p).copies (λ t h. let k = (dirty_at p t h).1 in cc) ∙ ok.clean ed
+    go true ed None eo = absurd (let k = ok.unowned eo in cc)
+    go true ed (Some o) eo =
+        let at : copy_of (unpacked p) o ≡ owner_copy true p.is_owned p.word = owner_at p o (ok.in_range o eo) eo
+        ∙ ap (λ (x : Bool). owner_copy x p.is_owned p.word) ed in
+        dirty p.memory p.word (unpacked p).copies o (subst IsDirty (sym at) (owner_dirty p.is_owned p.word))
+        (ap copy_word at ∙ owner_word p.is_owned p.word)
+        (λ u ne h. let e : p.owner ≡ Some u = own_is p.owner u (dirty_at p u h).0 in ne (let same : o ≡ u = cc in same))
+
+pub held_somewhere : (copies : List Copy) (t : ℕ) → is_held (letter_of (copy_in copies t)) ≡ true → any_held copies ≡ true
+held_somewhere [] t h = cc
+held_somewhere (c ∷ copies) zero h = or_left (is_held (letter_of c)) (any_held copies) h
+held_somewhere (c ∷ copies) (suc t) h = or_right (is_held (letter_of c)) (any_held copies) (held_somewhere copies t h)
+
+-- The owner holds the line.
+pub held_by : (p : Inside) (o : ℕ) → o < most_threads → p.owner ≡ Some o → any_held (unpacked p).copies ≡ true
+held_by p o lt own =
+    held_somewhere (unpacked p).copies o (ap (λ (c : Copy). is_held (letter_of c)) (owner_at p o lt own) ∙ owner_held p.is_dirty p.is_owned p.word)
+
+abbrev pub line_of : List Copy → ℕ → CacheLine
+line_of copies memory = record { copies = copies; memory = memory }
+
+pub not_owner : (p : Inside) (t : ℕ) → t < most_threads → copy_of (unpacked p) t ≡ Invalid → is_owner p.owner t ≡ false
+not_owner p t lt free =
+    not_held (is_owner p.owner t) p.is_dirty p.is_owned (slice_index_or p.sharers t false) p.word (sym (copy_there p t lt) ∙ free)
