@@ -68,6 +68,14 @@ module _ {W Form Stmt : Type 0} (spelling : Spelling W Form Stmt) where
   none_left [] (t ∷ tokens) a some = λ f s. s
   none_left (slot ∷ slots) (t ∷ tokens) a some = absurd (omega (arith, a))
 
+  -- there are more slots than tokens, or fewer
+  pub not_filled : (slots : List (Slot W)) (tokens : List Token) → (length slots ≡ length tokens → ⊥) → (f : Filling slots)
+      → Fills spelling (texts tokens) slots f → ⊥
+  not_filled [] [] differ f h = differ refl
+  not_filled [] (t ∷ tokens) differ f h = h
+  not_filled (slot ∷ slots) [] differ f h = h
+  not_filled (slot ∷ slots) (t ∷ tokens) differ f h = not_filled slots tokens (λ e. differ (ap suc e)) f.1 h.1
+
   pub taken_name : (t : Bytes) (k : ℕ) (found : Found) (result : Option Found)
       → MatchOption result (IsLocation t → ⊥) (λ all. IsLocation t × (all ≡ with_name_at k found)) → IsTaken Location t k found result
   taken_name t k found None h = λ x is. h (subst IsLocation (sym is.0) is.1)

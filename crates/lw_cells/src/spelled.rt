@@ -191,6 +191,19 @@ fn read_slots<L: StatementReader>(
     with_token::<L>(found, *slot, token, index)
 }
 
+/// What the tokens give at all slots of a form; most forms of a language have more slots than there are tokens, or fewer.
+fn read_as<L: StatementReader>(slots: &[Slot<L::Word>], tokens: &[Token<'_>]) -> Option<Found>
+    ensures { MatchOption result
+        ((f : Filling slots.now) → Fills L.spelling (texts tokens.now) slots.now f → ⊥)
+        (λ found. (f : Filling slots.now) × Fills L.spelling (texts tokens.now) slots.now f
+        × (found ≡ found_of 0 slots.now f)) }
+{
+    if slots.len() != tokens.len() {
+        return None;
+    }
+    read_slots::<L>(slots, tokens, 0)
+}
+
 /// A form whose slots some tokens fill, and what they give.
 #[derive(Clone, Copy)]
 struct Filled<F> {
@@ -208,9 +221,7 @@ fn read_form<L: StatementReader>(tokens: &[Token<'_>]) -> Option<Filled<L::Form>
         × (filled.found ≡ found_of 0 (L.spelling.slots_of filled.form) f)) }
 {
     for form in L::forms() {
-        let slots = L::slots(*form);
-        let _len = slots.len();
-        if let Some(found) = read_slots::<L>(slots, tokens, 0) {
+        if let Some(found) = read_as::<L>(L::slots(*form), tokens) {
             return Some(Filled { form: *form, found });
         }
     }

@@ -1,0 +1,5 @@
+use Rattle.lw_cells.proofs.SlotTokens.{not_filled}
+use Rattle.lw_cells.proofs.spelled.read_as.Goals as goal
+
+pub returns-then-slots-tokens : goal.returns-then-slots-tokens
+returns-then-slots-tokens g c = not_filled g.L.StatementReader.spelling c.args.slots.now c.args.tokens.now c.if-slots-tokens.true
