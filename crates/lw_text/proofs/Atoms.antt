@@ -1,9 +1,12 @@
 -- Numbers, values and sites are read in one way.
-use Rattle.std.proofs.Common.{◌≡◌, ℕ, ◌<◌, ◌⊎◌, inl, inr, [], ◌∷◌, length, ap, subst, arith}
-use Rattle.std.specs.Prelude.{codes}
+use Rattle.std.proofs.Common.{◌≡◌, ℕ, ◌<◌, ◌⊎◌, inl, inr, Bool, true, false, not, [], ◌∷◌, length, ap, subst}
+use Rattle.std.proofs.Common.{arith, codes, ◌&&◌, ◌||◌, ◌==◌}
+use Rattle.std.specs.Char.{is_ascii_digit}
+use Rattle.std.proofs.lemmas.Bool.{and_parts, or_cases, not-true}
+use Rattle.lw_base.specs.Characters.{is_word_byte, begins}
 use Rattle.lw_base.specs.Types.{Bytes, TokenList}
 use Rattle.lw_base.specs.declared.head.Arch.{Arch}
-use Rattle.lw_base.specs.Names.{IsName}
+use Rattle.lw_base.specs.Names.{IsName, IsLocation, is_reserved}
 use Rattle.lw_base.specs.Registers.{IsRegister}
 use Rattle.lw_base.proofs.api.Registers.{register_unique}
 use Rattle.lw_text.specs.Tokens.{IsNumber}
@@ -62,12 +65,32 @@ IsSite-shorter arch ts rest (InMemory x) (p, inl e) = omega (arith, ap length e)
 IsSite-shorter arch ts rest (InMemory x) (p, inr e) = omega (arith, ap length e)
 IsSite-shorter arch ts rest (InThread t r) p = omega (arith, ap length p.2)
 
--- a site begins with a name, a number or a `[`
-pub site_front : (arch : Arch) (ts rest : TokenList) (s : SiteSyntax) → IsSite arch ts s rest → (t : Bytes) (l : TokenList) → ts ≡ t ∷ l
-    → IsName t ⊎ (((n : ℕ) × IsNumber t n) ⊎ (t ≡ codes "["))
-site_front arch ts rest (InMemory x) (p, inl e) t l f = let k : x ≡ t = cc in inl (subst IsName k p.0)
+-- a site begins with a location's name, a number or a `[`
+site_front : (arch : Arch) (ts rest : TokenList) (s : SiteSyntax) → IsSite arch ts s rest → (t : Bytes) (l : TokenList) → ts ≡ t ∷ l
+    → IsLocation t ⊎ (((n : ℕ) × IsNumber t n) ⊎ (t ≡ codes "["))
+site_front arch ts rest (InMemory x) (p, inl e) t l f = let k : x ≡ t = cc in inl (subst IsLocation k p)
 site_front arch ts rest (InMemory x) (p, inr e) t l f = inr (inr cc)
 site_front arch ts rest (InThread u r) p t l f = let g = p.2 in let k : p.0 ≡ t = cc in inr (inl (u, subst (λ w. IsNumber w u) k p.3))
+
+-- whether a word is told from all these by its first byte, or as one that is reserved
+abbrev pub is_apart : Bytes → Bool
+is_apart [] = false
+is_apart (b ∷ w) = not (is_ascii_digit b) && (not (b == 91) && (not (is_word_byte b) || is_reserved (b ∷ w)))
+
+-- no site begins with such a word
+pub no_site : (w : Bytes) → is_apart w ≡ true → (arch : Arch) (ts rest mid : TokenList) (site : SiteSyntax) → ts ≡ w ∷ rest → IsSite arch ts site mid → ⊥
+no_site [] h arch ts rest mid site e p = absurd cc
+no_site (b ∷ w) h arch ts rest mid site e p =
+    let first = and_parts (not (is_ascii_digit b)) (not (b == 91) && (not (is_word_byte b) || is_reserved (b ∷ w))) h in
+    let more = and_parts (not (b == 91)) (not (is_word_byte b) || is_reserved (b ∷ w)) first.1 in
+    elim (site_front arch ts mid site p (b ∷ w) rest e) [
+      | inl x ↦ elim (or_cases (not (is_word_byte b)) (is_reserved (b ∷ w)) more.1) [
+        | inl f ↦ let g = x.0.0.all.0 in let i = not-true (is_word_byte b) f in cc
+        | inr r ↦ let g = x.1 in cc
+      ]
+      | inr (inl n) ↦ let g = number_first (b ∷ w) n.0 n.1 in let i = not-true (is_ascii_digit b) first.0 in cc
+      | inr (inr k) ↦ let g : (b == 91) ≡ true = ap (begins (λ x. x == 91)) k in let i = not-true (b == 91) more.0 in cc
+    ]
 
 pub site_none : (arch : Arch) (ts rest : TokenList) (s : SiteSyntax) → ts ≡ [] → IsSite arch ts s rest → ⊥
 site_none arch ts rest (InMemory x) e (p, inl f) = cc

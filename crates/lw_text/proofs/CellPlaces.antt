@@ -1,6 +1,5 @@
 -- Cells and rows in memory, each token at its place, are cut from the tokens.
-use Rattle.std.proofs.Common.{◌≡◌, ℕ, ◌≤◌, true, List, [], ◌∷◌, ◌++◌, refl, sym, ap, ◌∙◌, subst, append_assoc}
-use Rattle.std.specs.Prelude.{All, Result, Ok, Err, OnOk}
+use Rattle.std.proofs.Common.{◌≡◌, ℕ, ◌≤◌, true, List, [], ◌∷◌, ◌++◌, refl, sym, ap, ◌∙◌, subst, All}
 use Rattle.std.specs.List.{AllByRecursion}
 use Rattle.std.proofs.lemmas.List.{map-append}
 use Rattle.std.proofs.lemmas.List.Elements.{All-from_recursion}
@@ -11,18 +10,11 @@ use Rattle.lw_text.specs.Spans.{texts, Leaves}
 use Rattle.lw_text.specs.Rows.{ends_cell, Rows}
 use Rattle.lw_text.specs.PlacedTokens.{PlacedToken, texts_of_tokens}
 use Rattle.lw_text.specs.PlacedCells.{PlacedCell, texts_of_grid, CellsFrom, RowsFrom, HasRows}
-use Rattle.lw_text.specs.Places.{placed, placed_tokens, placed_cell, placed_row, placed_cells, all_texts, IsWithin}
+use Rattle.lw_text.specs.Places.{placed, placed_tokens, placed_cell, placed_row, placed_cells, all_texts}
+use Rattle.lw_text.specs.Places.{IsWithin}
 use Rattle.lw_base.proofs.api.Elements.{each_of, all_map, all_parts, all_unmap}
+use Rattle.lw_text.proofs.Lists.{Chain-push}
 use Rattle.lw_text.proofs.api.Places.{texts_placed, grid_placed}
-
--- what is left of what is left of some tokens is left of them
-pub Leaves-join : {a b c : List Token} → Leaves a b → Leaves b c → Leaves a c
-Leaves-join {a} {b} {c} p q = (p.0 ++ q.0, p.1 ∙ ap (λ x. p.0 ++ x) q.1 ∙ sym (append_assoc p.0 q.0 c))
-
--- behind a token that was taken
-pub Leaves-behind : {X E : Type 0} (a b c : List Token) (r : Result X E) (t : Token) → a ≡ t ∷ b → OnOk r (Leaves b c) → OnOk r (Leaves a c)
-Leaves-behind a b c (Ok x) t e h = Leaves-join (t ∷ [], e) h
-Leaves-behind a b c (Err x) t e h = tt
 
 -- ---- without places
 
@@ -33,6 +25,9 @@ rows_placed n ts rest rows r =
     subst (λ l. Rows n l (texts_of_grid (placed_cells rows)) (texts_of_tokens (placed_tokens rest))) (sym (texts_placed ts))
     (subst (λ l. Rows n (texts ts) l (texts_of_tokens (placed_tokens rest))) (sym (grid_placed rows))
     (subst (λ l. Rows n (texts ts) (all_texts rows) l) (sym (texts_placed rest)) r))
+
+pub front_placed : (whole behind : List Token) (l : Leaves whole behind) → placed_tokens whole ≡ placed_tokens l.0 ++ placed_tokens behind
+front_placed whole behind l = ap placed_tokens l.1 ∙ map-append placed l.0 behind
 
 -- ---- one more cell, and one more row
 
@@ -51,17 +46,12 @@ cells_more before here after cells cell mark cut parts at is =
     (CellsFrom-push (placed_tokens before) (placed_tokens here) (placed_tokens after) (placed_row cells) (placed_cell cell) (placed mark) cut
     (ap placed_tokens parts ∙ map-append placed cell.tokens (mark ∷ after)) is at)
 
-RowsFrom-push : (before here after : List PlacedToken) (rows : List (List PlacedCell)) (row : List PlacedCell) → RowsFrom before rows here
-    → CellsFrom here row after → RowsFrom before (rows ++ row ∷ []) after
-RowsFrom-push before here after [] row cut more = (after, subst (λ l. CellsFrom l row after) (sym cut) more, refl)
-RowsFrom-push before here after (r ∷ rows) row cut more = (cut.0, cut.1, RowsFrom-push cut.0 here after rows row cut.2 more)
-
 pub rows_more : {A : Type 0} (before here after : List Token) (rows : List (List (Cell A))) (row : List (Cell A))
     → RowsFrom (placed_tokens before) (placed_cells rows) (placed_tokens here) → CellsFrom (placed_tokens here) (placed_row row) (placed_tokens after)
     → RowsFrom (placed_tokens before) (placed_cells (rows ++ row ∷ [])) (placed_tokens after)
 rows_more before here after rows row cut more =
     subst (λ rs. RowsFrom (placed_tokens before) rs (placed_tokens after)) (sym (map-append placed_row rows (row ∷ [])))
-    (RowsFrom-push (placed_tokens before) (placed_tokens here) (placed_tokens after) (placed_cells rows) (placed_row row) cut more)
+    (Chain-push CellsFrom (placed_cells rows) (placed_tokens before) (placed_tokens here) (placed_tokens after) (placed_row row) cut more)
 
 -- ---- no place is past the end
 

@@ -1,15 +1,15 @@
 -- Cells and rows are read in one way.
-use Rattle.std.proofs.Common.{◌≡◌, ℕ, ◌<◌, ◌≤◌, inl, inr, true, false, [], ◌∷◌, ◌++◌, length, refl, sym, ap, ◌∙◌, subst, arith, length-append}
-use Rattle.std.specs.Prelude.{codes}
-use Rattle.std.specs.Str.{bytes_eq}
+use Rattle.std.proofs.Common.{◌≡◌, ℕ, ◌<◌, ◌≤◌, inl, inr, true, false, [], ◌∷◌, ◌++◌, length, refl, sym, ap}
+use Rattle.std.proofs.Common.{◌∙◌, subst, arith, length-append, codes, bytes_eq}
 use Rattle.std.specs.List.{AllByRecursion}
 use Rattle.std.proofs.lemmas.Bool.{or_cases}
 use Rattle.lw_base.specs.Types.{Bytes, TokenList, Cells, CellGrid}
 use Rattle.lw_text.specs.Lists.{Separated, Until}
 use Rattle.lw_text.specs.Rows.{ends_cell, Cell, Row, begins_stop, Rows}
 use Rattle.lw_text.proofs.Texts.{is_text, marks_apart}
-use Rattle.lw_text.proofs.Lists.{Passed, Passed-push, Passed-stop, Passed-peel, Until-unique, Before, Before-push, Before-close, Before-fault, IsMark, IsExact}
-use Rattle.lw_text.proofs.Lists.{Separated-front, Separated-unique}
+use Rattle.lw_text.proofs.Lists.{Chain-push, Passed, Passed-stop, Passed-peel, Until-unique, Before}
+use Rattle.lw_text.proofs.Lists.{Before-close, Before-fault, IsMark, IsExact, Separated-front}
+use Rattle.lw_text.proofs.Lists.{Separated-unique}
 
 abbrev pub Plain : TokenList → Type 0
 Plain c = AllByRecursion (λ t. ends_cell t ≡ false) c
@@ -41,8 +41,6 @@ Row-one threads ts x y r s p q = Separated-unique Cell (codes "|") (codes ";") C
 pub is_bar : (m : Bytes) → ends_cell m ≡ true → bytes_eq m (codes ";") ≡ false → m ≡ codes "|"
 is_bar m e n = elim (or_cases (bytes_eq m (codes "|")) (bytes_eq m (codes ";")) e) [ inl h ↦ is_text m (codes "|") h | inr h ↦ absurd cc ]
 
--- a mark has a byte
-
 -- tokens in which no cell ends hold no mark
 plain_mark : (x : TokenList) (m : Bytes) (l : TokenList) → Plain (x ++ m ∷ l) → ends_cell m ≡ true → ⊥
 plain_mark [] m l p e = let h = p.0 in cc
@@ -57,7 +55,7 @@ module _ (ts here : TokenList) (cells : Cells) (before : Before Cell (codes "|")
 
   module _ (cell : TokenList) (mark : Bytes) (next : TokenList) (parts : here ≡ cell ++ mark ∷ next) (plain : Plain cell) where
     pub Cells-more : mark ≡ codes "|" → Before Cell (codes "|") (codes ";") ts (cells ++ cell ∷ []) next
-    Cells-more e = Before-push Cell (codes "|") (codes ";") cells ts here next cell before (subst (λ m. here ≡ cell ++ m ∷ next) e parts, plain)
+    Cells-more e = Chain-push (λ ts x mid. Cell ts x (codes "|" ∷ mid)) cells ts here next cell before (subst (λ m. here ≡ cell ++ m ∷ next) e parts, plain)
 
     pub Cells-closed : mark ≡ codes ";" → Separated Cell (codes "|") (codes ";") ts (cells ++ cell ∷ []) next
     Cells-closed e = Before-close Cell (codes "|") (codes ";") cells ts here next cell before (subst (λ m. here ≡ cell ++ m ∷ next) e parts, plain)
@@ -87,27 +85,27 @@ module _ (threads : ℕ) (ts here : TokenList) (rows : CellGrid) (passed : Passe
 
   pub Rows-more : (next : TokenList) (row : Cells) → begins_stop here ≡ false → Row threads here row next
       → Passed begins_stop (Row threads) ts (rows ++ row ∷ []) next
-  Rows-more next row go line = Passed-push begins_stop (Row threads) rows ts here next row passed go line
+  Rows-more next row go line = Chain-push (λ ts x mid. (begins_stop ts ≡ false) × Row threads ts x mid) rows ts here next row passed (go, line)
+
+  -- the rows go on with one that stands here
+  next_row : begins_stop here ≡ false → (all : CellGrid) (rest : TokenList) → Rows threads ts all rest
+      → (row : Cells) × (more : CellGrid) × (mid : TokenList) × (all ≡ rows ++ row ∷ more) × Row threads here row mid
+  next_row go all rest r =
+      let peel = Passed-peel begins_stop (Row threads) (Row-one threads) rows all ts here rest passed r.0 in
+      at peel.0 peel.1 peel.2
+    where
+      at : (more : CellGrid) → all ≡ rows ++ more → Until begins_stop (Row threads) here more rest
+          → (row : Cells) × (more : CellGrid) × (mid : TokenList) × (all ≡ rows ++ row ∷ more) × Row threads here row mid
+      at [] e u = absurd (let h = u.1 in cc)
+      at (row ∷ more) e u = (row, more, u.1.0, e, u.1.1)
 
   -- where no row stands and none may end, there are no rows
   pub Rows-fault : begins_stop here ≡ false → ((row : Cells) (mid : TokenList) → Row threads here row mid → ⊥) → (all : CellGrid) (rest : TokenList)
       → Rows threads ts all rest → ⊥
-  Rows-fault go never all rest r =
-      let peel = Passed-peel begins_stop (Row threads) (Row-one threads) rows all ts here rest passed r.0 in
-      at peel.0 peel.2
-    where
-      at : (more : CellGrid) → Until begins_stop (Row threads) here more rest → ⊥
-      at [] u = let h = u.1 in cc
-      at (y ∷ more) u = never y u.1.0 u.1.1
+  Rows-fault go never all rest r = let k = next_row go all rest r in never k.0 k.2 k.4
 
   pub Rows-many : begins_stop here ≡ false → length rows ≡ 64 → (all : CellGrid) (rest : TokenList) → Rows threads ts all rest → ⊥
-  Rows-many go full all rest r =
-      let peel = Passed-peel begins_stop (Row threads) (Row-one threads) rows all ts here rest passed r.0 in
-      at peel.0 peel.2 (ap length peel.1)
-    where
-      at : (more : CellGrid) → Until begins_stop (Row threads) here more rest → length all ≡ length (rows ++ more) → ⊥
-      at [] u e = let h = u.1 in cc
-      at (y ∷ more) u e = omega (arith, length-append rows (y ∷ more), r.1)
+  Rows-many go full all rest r = let k = next_row go all rest r in omega (arith, ap length k.3, length-append rows (k.0 ∷ k.1), r.1)
 
 pub Rows-unique : (threads : ℕ) (ts a b : TokenList) (x y : CellGrid) → Rows threads ts x a → Rows threads ts y b → (x ≡ y) × (a ≡ b)
 Rows-unique threads ts a b x y p q = Until-unique begins_stop (Row threads) (Row-one threads) x y ts a b p.0 q.0

@@ -1,73 +1,39 @@
 -- How comments that are open are closed.
-use Rattle.std.proofs.Common.{◌≡◌, ℕ, zero, suc, ◌+◌, ◌-◌, ◌<◌, ◌≤◌, ◌⊎◌, inl, inr, true, false, [], ◌∷◌, ◌++◌, length, append_assoc, refl, sym, ap, ◌∙◌, subst}
-use Rattle.std.proofs.Common.{arith, add-one, sub-one}
+use Rattle.std.proofs.Common.{◌≡◌, ℕ, zero, suc, ◌+◌, ◌-◌, ◌<◌, ◌≤◌, true, false, [], ◌∷◌, length, refl, sym}
+use Rattle.std.proofs.Common.{ap, subst, arith, add-one, sub-one}
 use Rattle.lw_base.specs.Types.{Bytes}
+use Rattle.lw_text.specs.Spans.{Leaves}
 use Rattle.lw_text.specs.Tokens.{begins_pair, begins_mark, Comment, closed, nested, other}
+use Rattle.lw_text.proofs.Lists.{Leaves-join}
 
 -- n comments are to be closed, each behind the one before
 abbrev pub Closes : ℕ → Bytes → Bytes → Type 0
 Closes zero text rest = text ≡ rest
 Closes (suc n) text rest = (mid : Bytes) × Comment text mid × Closes n mid rest
 
--- the ways in which a comment goes on
-record Nested (text rest : Bytes) : Type 0 where
-  t : Bytes
-  inner : Bytes
-  is : text ≡ 40 ∷ 42 ∷ t
-  first : Comment t inner
-  second : Comment inner rest
+-- how a comment goes on behind a `(*`, behind a `*)`, and behind another byte
+at_open : {ts rest : Bytes} → Comment ts rest → (text : Bytes) → ts ≡ 40 ∷ 42 ∷ text → (inner : Bytes) × Comment text inner × Comment inner rest
+at_open closed text e = absurd (let h : false ≡ true = ap (begins_pair 40 42) e in cc)
+at_open (nested {text = t} {inner} c d) text e = (inner, subst (λ x. Comment x inner) (let k : t ≡ text = cc in k) c, d)
+at_open (other {b} {text = t} m c) text e = absurd (let h : begins_mark (b ∷ t) ≡ true = ap begins_mark e in cc)
 
-record Other (text rest : Bytes) : Type 0 where
-  b : ℕ
-  t : Bytes
-  is : text ≡ b ∷ t
-  no_mark : begins_mark (b ∷ t) ≡ false
-  more : Comment t rest
+at_close : {ts rest : Bytes} → Comment ts rest → (text : Bytes) → ts ≡ 42 ∷ 41 ∷ text → text ≡ rest
+at_close closed text e = cc
+at_close (nested c d) text e = absurd (let h : true ≡ false = ap (begins_pair 40 42) e in cc)
+at_close (other {b} {text = t} m c) text e = absurd (let h : begins_mark (b ∷ t) ≡ true = ap begins_mark e in cc)
 
-ways : {text rest : Bytes} → Comment text rest → (text ≡ 42 ∷ 41 ∷ rest) ⊎ (Nested text rest ⊎ Other text rest)
-ways closed = inl refl
-ways (nested {text} {inner} {rest} c d) = inr (inl (record { t = text; inner = inner; is = refl; first = c; second = d }))
-ways (other {b} {text} {rest} m c) = inr (inr (record { b = b; t = text; is = refl; no_mark = m; more = c }))
-
-pub at_open : (text rest : Bytes) → Comment (40 ∷ 42 ∷ text) rest → (inner : Bytes) × Comment text inner × Comment inner rest
-at_open text rest c =
-    elim (ways c) [
-      | inl e ↦ absurd (let h : true ≡ false = ap (begins_pair 40 42) e in cc)
-      | inr (inl n) ↦ (n.inner, let e : n.t ≡ text = cc in subst (λ x. Comment x n.inner) e n.first, n.second)
-      | inr (inr o) ↦ absurd (let h : true ≡ begins_mark (o.b ∷ o.t) = ap begins_mark o.is in cc (o.no_mark))
-    ]
-
-pub at_close : (text rest : Bytes) → Comment (42 ∷ 41 ∷ text) rest → text ≡ rest
-at_close text rest c =
-    elim (ways c) [
-      | inl e ↦ cc
-      | inr (inl n) ↦ absurd (let h : false ≡ true = ap (begins_pair 40 42) n.is in cc)
-      | inr (inr o) ↦ absurd (let h : true ≡ begins_mark (o.b ∷ o.t) = ap begins_mark o.is in cc (o.no_mark))
-    ]
-
-pub at_other : (b : ℕ) (text rest : Bytes) → begins_mark (b ∷ text) ≡ false → Comment (b ∷ text) rest → Comment text rest
-at_other b text rest m c =
-    elim (ways c) [
-      | inl e ↦ absurd (let h : begins_mark (b ∷ text) ≡ true = ap begins_mark e in cc)
-      | inr (inl n) ↦ absurd (let h : begins_mark (b ∷ text) ≡ true = ap begins_mark n.is in cc)
-      | inr (inr o) ↦ let e : o.t ≡ text = cc in subst (λ x. Comment x rest) e o.more
-    ]
-
-pub at_end : (rest : Bytes) → Comment [] rest → ⊥
-at_end rest c =
-    elim (ways c) [
-      | inl e ↦ cc
-      | inr (inl n) ↦ cc
-      | inr (inr o) ↦ cc
-    ]
+at_other : {ts rest : Bytes} → Comment ts rest → (b : ℕ) (text : Bytes) → ts ≡ b ∷ text → begins_mark (b ∷ text) ≡ false → Comment text rest
+at_other closed b text e m = absurd (let h : true ≡ begins_mark (b ∷ text) = ap begins_mark e in cc)
+at_other (nested c d) b text e m = absurd (let h : true ≡ begins_mark (b ∷ text) = ap begins_mark e in cc)
+at_other {rest = rest} (other {text = t} n c) b text e m = subst (λ x. Comment x rest) (let k : t ≡ text = cc in k) c
 
 -- a comment ends at one place
 pub Comment-unique : {text a b : Bytes} → Comment text a → Comment text b → a ≡ b
-Comment-unique (closed {rest}) d = at_close rest _ d
+Comment-unique (closed {rest}) d = at_close d rest refl
 Comment-unique {b = end} (nested {text} c e) d =
-    let o = at_open text end d in
+    let o = at_open d text refl in
     Comment-unique e (subst (λ x. Comment x end) (sym (Comment-unique c o.1)) o.2)
-Comment-unique {b = end} (other {b} {text} m c) d = Comment-unique c (at_other b text end m d)
+Comment-unique (other {b} {text} m c) d = Comment-unique c (at_other d b text refl m)
 
 pub Comment-shorter : {text rest : Bytes} → Comment text rest → length rest < length text
 Comment-shorter closed = omega arith
@@ -86,7 +52,7 @@ pub record Progress (bytes : Bytes) (depth : ℕ) (rest : Bytes) : Type 0 where
 pub Progress-open : {bytes rest after : Bytes} {depth : ℕ} → Progress bytes depth rest → rest ≡ 40 ∷ 42 ∷ after → Progress bytes (depth + 1) after
 Progress-open {bytes} {rest} {after} {depth} p e = rw add-one (record {
   given = λ end c. p.given end (let d = c.2 in (d.0, rw e (nested c.1 d.1), d.2));
-  only = λ end c. let d = p.only end c in let o = at_open after d.0 (subst (λ x. Comment x d.0) e d.1) in (o.0, o.1, (d.0, o.2, d.2));
+  only = λ end c. let d = p.only end c in let o = at_open d.1 after e in (o.0, o.1, (d.0, o.2, d.2));
   bound = omega (arith, p.bound, ap length e);
 })
 
@@ -95,7 +61,7 @@ pub Progress-close : {bytes rest after : Bytes} {depth : ℕ} → Progress bytes
 Progress-close {depth = zero} p e ne = absurd (ne refl)
 Progress-close {bytes} {rest} {after} {depth = suc depth} p e ne = rw sub-one (record {
   given = λ end c. p.given end (after, rw e closed, c);
-  only = λ end c. let d = p.only end c in let o = at_close after d.0 (subst (λ x. Comment x d.0) e d.1) in subst (λ x. Closes (suc depth) x end) (sym o) d.2;
+  only = λ end c. let d = p.only end c in let o = at_close d.1 after e in subst (λ x. Closes (suc depth) x end) (sym o) d.2;
   bound = omega (arith, p.bound, ap length e);
 })
 
@@ -108,12 +74,11 @@ Progress-other {bytes} {rest} {next} {depth} {b} p e m n =
     let mark : begins_mark (b ∷ next) ≡ false = subst (λ x. begins_mark x ≡ false) e (no_mark rest m n) in
     record {
       given = λ end c. p.given end (c.0, rw e (other mark c.1), c.2);
-      only = λ end c. let d = p.only end c in (d.0, at_other b next d.0 mark (subst (λ x. Comment x d.0) e d.1), d.2);
+      only = λ end c. let d = p.only end c in (d.0, at_other d.1 b next e mark, d.2);
       bound = omega (arith, p.bound, ap length e);
     }
 
-pub Comment-suffix : {text rest : Bytes} → Comment text rest → (front : Bytes) × (text ≡ front ++ rest)
+pub Comment-suffix : {text rest : Bytes} → Comment text rest → Leaves text rest
 Comment-suffix closed = (42 ∷ 41 ∷ [], refl)
-Comment-suffix (nested c d) = let s = Comment-suffix c in let t = Comment-suffix d in
-    (40 ∷ 42 ∷ s.0 ++ t.0, ap (λ x. 40 ∷ 42 ∷ x) (s.1 ∙ ap (λ x. s.0 ++ x) t.1 ∙ sym (append_assoc s.0 t.0 _)))
-Comment-suffix (other {b} m c) = let s = Comment-suffix c in (b ∷ s.0, ap (λ x. b ∷ x) s.1)
+Comment-suffix (nested c d) = Leaves-join (40 ∷ 42 ∷ [], refl) (Leaves-join (Comment-suffix c) (Comment-suffix d))
+Comment-suffix (other {b} m c) = Leaves-join (b ∷ [], refl) (Comment-suffix c)

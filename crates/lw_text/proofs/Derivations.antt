@@ -2,8 +2,8 @@
 use Rattle.std.proofs.Common.{◌≡◌, true, false, List, [], ◌∷◌, refl, sym, ap, ◌∙◌, subst}
 use Rattle.lw_base.specs.Formula.{Formula, Not, And, Or}
 use Rattle.lw_text.specs.Propositions.{Terminal, Open, Close, Negation, Conjunction, Disjunction, Atom}
-use Rattle.lw_text.specs.inner.LeftToRight.{begins_and, begins_or, Nonterminal, Part, Ands, Ors, Reads, atom, negated, parens, no_and, and, no_or, or}
-use Rattle.lw_text.specs.inner.LeftToRight.{IsReadWhole}
+use Rattle.lw_text.specs.inner.LeftToRight.{begins_and, begins_or, Nonterminal, Part, Ands, Ors, Reads, atom}
+use Rattle.lw_text.specs.inner.LeftToRight.{negated, parens, no_and, and, no_or, or, IsReadWhole}
 use Rattle.lw_text.specs.inner.Pending.{begins_part}
 
 abbrev pub Terminals : Type 0
@@ -13,8 +13,7 @@ Terminals = List (Terminal Formula)
 
 pub part_atom : {ts l rest : Terminals} {p a : Formula} → Reads Part ts p rest → ts ≡ Atom a ∷ l → (p ≡ a) × (rest ≡ l)
 part_atom atom e = (cc, cc)
-part_atom (negated x) e = absurd cc
-part_atom (parens x y z) e = absurd cc
+part_atom _ e = absurd cc
 
 pub part_not : {ts l rest : Terminals} {p : Formula} → Reads Part ts p rest → ts ≡ Negation ∷ l → (q : Formula) × (p ≡ Not q) × Reads Part l q rest
 part_not atom e = absurd cc

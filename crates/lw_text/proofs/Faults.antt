@@ -1,13 +1,11 @@
 -- What a reader of tokens owes where memory ran out, and which told cause is that.
-use Rattle.std.proofs.Common.{◌≡◌, ◌≢◌, refl}
-use Rattle.std.specs.Prelude.{Result, Ok, Err, IfOk, IfErr, IsErr, IsErrAnd}
+use Rattle.std.proofs.Common.{◌≡◌, ◌≢◌, refl, Result, Ok, Err, IfOk, IfErr, IsErr, IsErrAnd}
 use Rattle.lw_base.proofs.api.Returns.{out_of_memory}
 use Rattle.lw_text.specs.Causes.{told}
 use Rattle.lw_text.specs.declared.fault.Cause.{Cause}
-use Rattle.lw_text.specs.declared.fault.Cause.TheVariants.{Unterminated, Unexpected, Number, Name, Ragged, TooManyThreads, TooManyRows, TooManyLocations}
-use Rattle.lw_text.specs.declared.fault.Cause.TheVariants.{Condition, Memory}
-use Rattle.lw_text.specs.declared.fault.TextCause.TheVariants as text
+use Rattle.lw_text.specs.declared.fault.Cause.TheVariants.{Memory}
 use Rattle.lw_text.specs.declared.fault.Refusal.{Refusal}
+use Rattle.lw_text.specs.declared.fault.TextCause.TheVariants as text
 
 -- the exit of a `?` where memory ran out
 pub memory_ran_out : {T : Type 0} (P : Refusal → Type 0) (r : Result T Refusal) → IsErrAnd r (λ f. (f.token ≡ 0) × (f.cause ≡ Memory))
@@ -16,16 +14,8 @@ memory_ran_out P r h = out_of_memory (λ (f : Refusal). f.cause) Memory (λ f. f
 
 -- only that cause is told as Memory
 pub told-Memory : (c : Cause) → told c ≡ text.Memory → c ≡ Memory
-told-Memory Unterminated e = absurd cc
-told-Memory Unexpected e = absurd cc
-told-Memory Number e = absurd cc
-told-Memory Name e = absurd cc
-told-Memory Ragged e = absurd cc
-told-Memory TooManyThreads e = absurd cc
-told-Memory TooManyRows e = absurd cc
-told-Memory TooManyLocations e = absurd cc
-told-Memory Condition e = absurd cc
 told-Memory Memory e = refl
+told-Memory _ e = absurd cc
 
 -- the exit of a `?`, for a clause on what is answered where nothing is refused
 pub not_ok : {T E : Type 0} (P : T → Type 0) (r : Result T E) → IsErr r → IfOk r P
@@ -34,28 +24,9 @@ not_ok P (Err e) h = tt
 
 -- no cause of a reader is told as these two
 pub told-TooLong : (c : Cause) → told c ≡ text.TooLong → ⊥
-told-TooLong Unterminated e = cc
-told-TooLong Unexpected e = cc
-told-TooLong Number e = cc
-told-TooLong Name e = cc
-told-TooLong Ragged e = cc
-told-TooLong TooManyThreads e = cc
-told-TooLong TooManyRows e = cc
-told-TooLong TooManyLocations e = cc
-told-TooLong Condition e = cc
 told-TooLong Memory e = cc
+told-TooLong _ e = cc
 
 pub told-NotUtf8 : (c : Cause) → told c ≡ text.NotUtf8 → ⊥
-told-NotUtf8 Unterminated e = cc
-told-NotUtf8 Unexpected e = cc
-told-NotUtf8 Number e = cc
-told-NotUtf8 Name e = cc
-told-NotUtf8 Ragged e = cc
-told-NotUtf8 TooManyThreads e = cc
-told-NotUtf8 TooManyRows e = cc
-told-NotUtf8 TooManyLocations e = cc
-told-NotUtf8 Condition e = cc
 told-NotUtf8 Memory e = cc
-
-pub not_too_long : text.NotUtf8 ≡ text.TooLong → ⊥
-not_too_long e = cc
+told-NotUtf8 _ e = cc

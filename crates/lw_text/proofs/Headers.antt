@@ -1,6 +1,5 @@
 -- The header, read name by name.
-use Rattle.std.proofs.Common.{◌≡◌, ℕ, zero, suc, ◌+◌, ◌∷◌, refl, ap, ◌∙◌, subst, arith, add-one}
-use Rattle.std.specs.Prelude.{codes}
+use Rattle.std.proofs.Common.{◌≡◌, ℕ, zero, suc, ◌+◌, ◌∷◌, refl, ap, ◌∙◌, subst, arith, add-one, codes}
 use Rattle.lw_base.specs.Types.{TokenList}
 use Rattle.lw_text.specs.Rows.{thread_name, Names}
 use Rattle.lw_text.proofs.Texts.{marks_apart}

@@ -1,6 +1,6 @@
 -- The word of a language, blanks, a test's name and its notes are read in one way.
-use Rattle.std.proofs.Common.{◌≡◌, ℕ, ◌<◌, inl, inr, true, false, not, [], ◌∷◌, ◌++◌, length, refl, sym, ap, ◌∙◌, subst, arith}
-use Rattle.std.specs.Prelude.{codes, slice_index_or}
+use Rattle.std.proofs.Common.{◌≡◌, ℕ, ◌<◌, inl, inr, true, false, not, [], ◌∷◌, ◌++◌, refl, sym, ap, ◌∙◌}
+use Rattle.std.proofs.Common.{subst, arith, codes, slice_index_or}
 use Rattle.std.proofs.lemmas.Bool.Decides.{nat_tests}
 use Rattle.std.specs.List.{AllByRecursion}
 use Rattle.std.specs.Char.{is_ascii_graphic}
@@ -46,25 +46,15 @@ module _ (text space after name rest : Bytes) (e : text ≡ space ++ after) (bla
       let inner = run-unique (λ b. not (is_blank b)) n r name rest (graphic_plain n p.is_name.all) plain p.longest longest (outer.1 ∙ f) in
       (outer.0, inner.0, inner.1)
 
-  pub no_name : length name ≡ 0 → (n r : Bytes) → Named text n r → ⊥
-  no_name none n r p = let k = Named-parts n r p in omega (arith, p.is_name.some, ap length k.1)
-
-  pub not_apart : length space ≡ 0 → (n r : Bytes) → Named text n r → ⊥
-  not_apart none n r p = let k = Named-parts n r p in omega (arith, p.apart, ap length k.0)
-
-  pub bad_name : (IsTestName name → ⊥) → (n r : Bytes) → Named text n r → ⊥
-  bad_name never n r p = let k = Named-parts n r p in never (subst IsTestName k.1 p.is_name)
-
 pub Named-unique : (text n r m s : Bytes) → Named text n r → Named text m s → (n ≡ m) × (r ≡ s)
 Named-unique text n r m s p q =
     let k = Named-parts text q.blanks (m ++ s) m s q.parts q.blank (name_front m s q.is_name) refl (graphic_plain m q.is_name.all) q.longest n r p in
     (k.1, k.2)
 
 arch_word-unique : (a b : Arch) → arch_word a ≡ arch_word b → a ≡ b
-arch_word-unique Source Source e = refl
 arch_word-unique Source X86 e = absurd (is_no_text (codes "SRC") (codes "X86") refl e)
 arch_word-unique X86 Source e = absurd (is_no_text (codes "X86") (codes "SRC") refl e)
-arch_word-unique X86 X86 e = refl
+arch_word-unique _ _ e = refl
 
 -- where no name stands behind the word there is no heading
 pub no_named : (text mid : Bytes) (arch : Arch) → First text (arch_word arch) mid → ((n r : Bytes) → Named mid n r → ⊥) → (a : Arch) (n r : Bytes)

@@ -1,18 +1,35 @@
 -- Lists that are written out are read in one way.
-use Rattle.std.proofs.Common.{◌≡◌, ◌⊎◌, inl, inr, Bool, true, false, List, [], ◌∷◌, ◌++◌, refl, sym, ap, ◌∙◌, subst}
-use Rattle.lw_text.specs.Lists.{Separated, Until, Ended}
+use Rattle.std.proofs.Common.{◌≡◌, ◌⊎◌, inl, inr, Bool, true, false, List, [], ◌∷◌, ◌++◌, refl, sym, ap, ◌∙◌}
+use Rattle.std.proofs.Common.{subst, append_assoc}
+use Rattle.lw_text.specs.Lists.{Chain, Separated, Until, Ended}
+use Rattle.lw_text.specs.Spans.{Leaves}
+
+-- what is left of what is left of a list is left of it
+pub Leaves-join : {X : Type 0} {a b c : List X} → Leaves a b → Leaves b c → Leaves a c
+Leaves-join {c = c} p q = (p.0 ++ q.0, p.1 ∙ ap (λ x. p.0 ++ x) q.1 ∙ sym (append_assoc p.0 q.0 c))
+
+-- one more behind some
+pub Chain-push : {T X : Type 0} (P : List T → X → List T → Type 0) (xs : List X) (ts here next : List T) (x : X) → Chain P ts xs here → P here x next
+    → Chain P ts (xs ++ x ∷ []) next
+Chain-push P [] ts here next x b p = (next, subst (λ l. P l x next) (sym b) p, refl)
+Chain-push P (y ∷ xs) ts here next x b p = (b.0, b.1, Chain-push P xs b.0 here next x b.2 p)
+
+-- What a whole W is behind the elements at its front, where it is known what it is behind one.
+pub Chain-peel : {T X : Type 0} (P : List T → X → List T → Type 0) (W : List T → List X → Type 0)
+    → ((ts mid : List T) (x : X) (ys : List X) → P ts x mid → W ts ys → (more : List X) × (ys ≡ x ∷ more) × W mid more)
+    → (xs ys : List X) (ts here : List T) → Chain P ts xs here → W ts ys → (more : List X) × (ys ≡ xs ++ more) × W here more
+Chain-peel P W step [] ys ts here b w = (ys, refl, subst (λ l. W l ys) b w)
+Chain-peel P W step (x ∷ xs) ys ts here b w =
+    let k = step ts b.0 x ys b.1 w in
+    let h = Chain-peel P W step xs k.0 b.0 here b.2 k.2 in
+    (h.0, k.1 ∙ ap (λ l. x ∷ l) h.1, h.2)
 
 -- ---- with separators
 
 module _ {T X : Type 0} (P : List T → X → List T → Type 0) (sep close : T) where
   -- xs have been read, each with a separator behind it, and then comes rest
   abbrev pub Before : List T → List X → List T → Type 0
-  Before ts [] rest = ts ≡ rest
-  Before ts (x ∷ xs) rest = (mid : List T) × P ts x (sep ∷ mid) × Before mid xs rest
-
-  pub Before-push : (xs : List X) (ts here next : List T) (x : X) → Before ts xs here → P here x (sep ∷ next) → Before ts (xs ++ x ∷ []) next
-  Before-push [] ts here next x b p = (next, subst (λ l. P l x (sep ∷ next)) (sym b) p, refl)
-  Before-push (y ∷ xs) ts here next x b p = (b.0, b.1, Before-push xs b.0 here next x b.2 p)
+  Before ts xs rest = Chain (λ ts x mid. P ts x (sep ∷ mid)) ts xs rest
 
   pub Before-close : (xs : List X) (ts here rest : List T) (x : X) → Before ts xs here → P here x (close ∷ rest) → Separated P sep close ts (xs ++ x ∷ []) rest
   Before-close [] ts here rest x b p = subst (λ l. P l x (close ∷ rest)) (sym b) p
@@ -33,149 +50,135 @@ module _ {T X : Type 0} (P : List T → X → List T → Type 0) (sep close : T)
   IsExact = (ts : List T) (x y : X) (a b : T) (r s : List T) → IsMark a → IsMark b → P ts x (a ∷ r) → P ts y (b ∷ s) → (x ≡ y) × (a ≡ b) × (r ≡ s)
 
   module _ (exact : IsExact) (apart : sep ≡ close → ⊥) where
+    -- the list behind one of its elements and a separator
+    Separated-behind : (rest ts mid : List T) (x : X) (ys : List X) → P ts x (sep ∷ mid) → Separated P sep close ts ys rest
+        → (more : List X) × (ys ≡ x ∷ more) × Separated P sep close mid more rest
+    Separated-behind rest ts mid x [] p s = absurd s
+    Separated-behind rest ts mid x (y ∷ []) p s = absurd (apart (exact ts x y sep close mid rest (inl refl) (inr refl) p s).1)
+    Separated-behind rest ts mid x (y ∷ v ∷ ys) p s =
+        let e = exact ts x y sep sep mid s.0 (inl refl) (inl refl) p s.1 in
+        let k : x ≡ y = e.0 in
+        (v ∷ ys, cc, subst (λ l. Separated P sep close l (v ∷ ys) rest) (sym e.2) s.2)
+
     pub Separated-unique : (xs ys : List X) (ts r s : List T) → Separated P sep close ts xs r → Separated P sep close ts ys s → (xs ≡ ys) × (r ≡ s)
     Separated-unique [] ys ts r s p q = absurd p
-    Separated-unique (x ∷ xs) [] ts r s p q = absurd q
+    Separated-unique (x ∷ []) [] ts r s p q = absurd q
     Separated-unique (x ∷ []) (y ∷ []) ts r s p q = let e = exact ts x y close close r s (inr refl) (inr refl) p q in (ap (λ z. z ∷ []) e.0, e.2)
     Separated-unique (x ∷ []) (y ∷ v ∷ ys) ts r s p q = absurd (apart (sym (exact ts x y close sep r q.0 (inr refl) (inl refl) p q.1).1))
-    Separated-unique (x ∷ u ∷ xs) (y ∷ []) ts r s p q = absurd (apart (exact ts x y sep close p.0 s (inl refl) (inr refl) p.1 q).1)
-    Separated-unique (x ∷ u ∷ xs) (y ∷ v ∷ ys) ts r s p q =
-        let e = exact ts x y sep sep p.0 q.0 (inl refl) (inl refl) p.1 q.1 in
-        let h = Separated-unique (u ∷ xs) (v ∷ ys) p.0 r s p.2 (subst (λ l. Separated P sep close l (v ∷ ys) s) (sym e.2) q.2) in
-        let i : u ∷ xs ≡ v ∷ ys = h.0 in
-        let k : x ≡ y = e.0 in
-        (cc, h.1)
-
-    -- what all elements are is what has been read and what the rest is
-    pub Before-peel : (xs ys : List X) (ts here rest : List T) → Before ts xs here → Separated P sep close ts ys rest
-        → (more : List X) × (ys ≡ xs ++ more) × Separated P sep close here more rest
-    Before-peel [] ys ts here rest b s = (ys, refl, subst (λ l. Separated P sep close l ys rest) b s)
-    Before-peel (x ∷ xs) [] ts here rest b s = absurd s
-    Before-peel (x ∷ xs) (y ∷ []) ts here rest b s = absurd (apart (exact ts x y sep close b.0 rest (inl refl) (inr refl) b.1 s).1)
-    Before-peel (x ∷ xs) (y ∷ v ∷ ys) ts here rest b s =
-        let e = exact ts x y sep sep b.0 s.0 (inl refl) (inl refl) b.1 s.1 in
-        let h = Before-peel xs (v ∷ ys) b.0 here rest b.2 (subst (λ l. Separated P sep close l (v ∷ ys) rest) (sym e.2) s.2) in
-        let i : v ∷ ys ≡ xs ++ h.0 = h.1 in
-        let k : x ≡ y = e.0 in
-        (h.0, cc, h.2)
+    Separated-unique (x ∷ u ∷ xs) ys ts r s p q =
+        let k = Separated-behind s ts p.0 x ys p.1 q in
+        let h = Separated-unique (u ∷ xs) k.0 p.0 r s p.2 k.2 in
+        (ap (λ l. x ∷ l) h.0 ∙ sym k.1, h.1)
 
     -- where the rest is no list, the whole is none
     pub Before-fault : (xs ys : List X) (ts here rest : List T) → Before ts xs here → ((zs : List X) (l : List T) → Separated P sep close here zs l → ⊥)
         → Separated P sep close ts ys rest → ⊥
-    Before-fault xs ys ts here rest b never s = let p = Before-peel xs ys ts here rest b s in never p.0 rest p.2
+    Before-fault xs ys ts here rest b never s =
+        let p = Chain-peel (λ ts x mid. P ts x (sep ∷ mid)) (λ l zs. Separated P sep close l zs rest) (Separated-behind rest) xs ys ts here b s in
+        never p.0 rest p.2
 
 -- ---- up to a stop
 
 module _ {T X : Type 0} (stop : List T → Bool) (P : List T → X → List T → Type 0) where
   -- xs have been read, and then comes rest
   abbrev pub Passed : List T → List X → List T → Type 0
-  Passed ts [] rest = ts ≡ rest
-  Passed ts (x ∷ xs) rest = (stop ts ≡ false) × ((mid : List T) × P ts x mid × Passed mid xs rest)
-
-  pub Passed-push : (xs : List X) (ts here next : List T) (x : X) → Passed ts xs here → stop here ≡ false → P here x next → Passed ts (xs ++ x ∷ []) next
-  Passed-push [] ts here next x b h p = (ap stop b ∙ h, (next, subst (λ l. P l x next) (sym b) p, refl))
-  Passed-push (y ∷ xs) ts here next x b h p = (b.0, (b.1.0, b.1.1, Passed-push xs b.1.0 here next x b.1.2 h p))
+  Passed ts xs rest = Chain (λ ts x mid. (stop ts ≡ false) × P ts x mid) ts xs rest
 
   pub Passed-stop : (xs : List X) (ts here : List T) → Passed ts xs here → stop here ≡ true → Until stop P ts xs here
   Passed-stop [] ts here b h = (b, ap stop b ∙ h)
-  Passed-stop (y ∷ xs) ts here b h = (b.0, (b.1.0, b.1.1, Passed-stop xs b.1.0 here b.1.2 h))
+  Passed-stop (y ∷ xs) ts here b h = (b.1.0, (b.0, b.1.1, Passed-stop xs b.0 here b.2 h))
 
   abbrev pub IsOne : Type 0
   IsOne = (ts : List T) (x y : X) (r s : List T) → P ts x r → P ts y s → (x ≡ y) × (r ≡ s)
 
   module _ (one : IsOne) where
+    -- the lines behind one of them
+    Until-behind : (rest ts mid : List T) (x : X) (ys : List X) → (stop ts ≡ false) × P ts x mid → Until stop P ts ys rest
+        → (more : List X) × (ys ≡ x ∷ more) × Until stop P mid more rest
+    Until-behind rest ts mid x [] p s = let h = s.1 in let k = p.0 in absurd cc
+    Until-behind rest ts mid x (y ∷ ys) p s =
+        let e = one ts x y mid s.1.0 p.1 s.1.1 in
+        let k : x ≡ y = e.0 in
+        (ys, cc, subst (λ l. Until stop P l ys rest) (sym e.1) s.1.2)
+
     pub Until-unique : (xs ys : List X) (ts r s : List T) → Until stop P ts xs r → Until stop P ts ys s → (xs ≡ ys) × (r ≡ s)
     Until-unique [] [] ts r s p q = (refl, sym p.0 ∙ q.0)
     Until-unique [] (y ∷ ys) ts r s p q = let h = p.1 in let k = q.0 in absurd cc
-    Until-unique (x ∷ xs) [] ts r s p q = let h = q.1 in let k = p.0 in absurd cc
-    Until-unique (x ∷ xs) (y ∷ ys) ts r s p q =
-        let e = one ts x y p.1.0 q.1.0 p.1.1 q.1.1 in
-        let h = Until-unique xs ys p.1.0 r s p.1.2 (subst (λ l. Until stop P l ys s) (sym e.1) q.1.2) in
-        let i : xs ≡ ys = h.0 in
-        let k : x ≡ y = e.0 in
-        (cc, h.1)
+    Until-unique (x ∷ xs) ys ts r s p q =
+        let k = Until-behind s ts p.1.0 x ys (p.0, p.1.1) q in
+        let h = Until-unique xs k.0 p.1.0 r s p.1.2 k.2 in
+        (ap (λ l. x ∷ l) h.0 ∙ sym k.1, h.1)
 
     -- what all lines are is what has been read and what the rest is
     pub Passed-peel : (xs ys : List X) (ts here rest : List T) → Passed ts xs here → Until stop P ts ys rest
         → (more : List X) × (ys ≡ xs ++ more) × Until stop P here more rest
-    Passed-peel [] ys ts here rest b s = (ys, refl, subst (λ l. Until stop P l ys rest) b s)
-    Passed-peel (x ∷ xs) [] ts here rest b s = let h = s.1 in let k = b.0 in absurd cc
-    Passed-peel (x ∷ xs) (y ∷ ys) ts here rest b s =
-        let e = one ts x y b.1.0 s.1.0 b.1.1 s.1.1 in
-        let h = Passed-peel xs ys b.1.0 here rest b.1.2 (subst (λ l. Until stop P l ys rest) (sym e.1) s.1.2) in
-        let i : ys ≡ xs ++ h.0 = h.1 in
-        let k : x ≡ y = e.0 in
-        (h.0, cc, h.2)
+    Passed-peel xs ys ts here rest b s =
+        Chain-peel (λ ts x mid. (stop ts ≡ false) × P ts x mid) (λ l zs. Until stop P l zs rest) (Until-behind rest) xs ys ts here b s
 
 -- ---- with an end behind each
 
 module _ {T X : Type 0} (P : List T → X → List T → Type 0) (sep close : T) where
+  -- an element and the separator behind it
+  abbrev pub Listed : List T → X → List T → Type 0
+  Listed ts x next = (mid : List T) × P ts x mid × (mid ≡ sep ∷ next)
+
   -- xs have been read, each with a separator behind it, and then comes rest
   abbrev pub Listing : List T → List X → List T → Type 0
-  Listing ts [] rest = ts ≡ rest
-  Listing ts (x ∷ xs) rest = (mid next : List T) × P ts x mid × (mid ≡ sep ∷ next) × Listing next xs rest
-
-  pub Listing-push : (xs : List X) (ts here mid next : List T) (x : X) → Listing ts xs here → P here x mid → mid ≡ sep ∷ next → Listing ts (xs ++ x ∷ []) next
-  Listing-push [] ts here mid next x b p e = (mid, next, subst (λ l. P l x mid) (sym b) p, e, refl)
-  Listing-push (y ∷ xs) ts here mid next x b p e = (b.0, b.1, b.2, b.3, Listing-push xs b.1 here mid next x b.4 p e)
+  Listing ts xs rest = Chain Listed ts xs rest
 
   -- it ends behind a separator
   pub Listing-end : (xs : List X) (ts here rest : List T) → Listing ts xs here → here ≡ close ∷ rest → Ended P sep close ts xs rest
   Listing-end [] ts here rest b e = b ∙ e
-  Listing-end (y ∷ xs) ts here rest b e = (b.0, b.2, inr (b.1, b.3, Listing-end xs b.1 here rest b.4 e))
+  Listing-end (y ∷ xs) ts here rest b e = (b.1.0, b.1.1, inr (b.0, b.1.2, Listing-end xs b.0 here rest b.2 e))
 
   -- or behind an element
   pub Listing-last : (xs : List X) (ts here mid rest : List T) (x : X) → Listing ts xs here → P here x mid → mid ≡ close ∷ rest
       → Ended P sep close ts (xs ++ x ∷ []) rest
   Listing-last [] ts here mid rest x b p e = (mid, subst (λ l. P l x mid) (sym b) p, inl (refl, e))
-  Listing-last (y ∷ xs) ts here mid rest x b p e = (b.0, b.2, inr (b.1, b.3, Listing-last xs b.1 here mid rest x b.4 p e))
+  Listing-last (y ∷ xs) ts here mid rest x b p e = (b.1.0, b.1.1, inr (b.0, b.1.2, Listing-last xs b.0 here mid rest x b.2 p e))
 
   module _ (one : (ts : List T) (x y : X) (r s : List T) → P ts x r → P ts y s → (x ≡ y) × (r ≡ s)) (apart : sep ≡ close → ⊥)
       (unlike : (ts r l : List T) (x : X) → ts ≡ close ∷ l → P ts x r → ⊥) where
+    -- the list behind one of its elements and a separator
+    Ended-behind : (rest ts next : List T) (x : X) (ys : List X) → Listed ts x next → Ended P sep close ts ys rest
+        → (more : List X) × (ys ≡ x ∷ more) × Ended P sep close next more rest
+    Ended-behind rest ts next x [] p s = absurd (unlike ts p.0 rest x s p.1)
+    Ended-behind rest ts next x (y ∷ ys) p s =
+        let e = one ts x y p.0 s.0 p.1 s.1 in
+        let k : x ≡ y = e.0 in
+        let m = e.1 in
+        let c = p.2 in
+        elim s.2 [
+          | inl f ↦ absurd (let d = f.1 in apart cc)
+          | inr f ↦ let d = f.1 in let n : f.0 ≡ next = cc in (ys, cc, subst (λ l. Ended P sep close l ys rest) n f.2)
+        ]
+
     pub Ended-unique : (xs ys : List X) (ts r s : List T) → Ended P sep close ts xs r → Ended P sep close ts ys s → (xs ≡ ys) × (r ≡ s)
     Ended-unique [] [] ts r s p q = (refl, cc)
     Ended-unique [] (y ∷ ys) ts r s p q = absurd (unlike ts q.0 r y p q.1)
     Ended-unique (x ∷ xs) [] ts r s p q = absurd (unlike ts p.0 s x q p.1)
     Ended-unique (x ∷ xs) (y ∷ ys) ts r s p q =
-        let e = one ts x y p.0 q.0 p.1 q.1 in
-        let k : x ≡ y = e.0 in
         elim p.2 [
-          | inl f ↦ elim q.2 [
-            | inl g ↦ let a = f.0 in let b = g.0 in let c = f.1 in let d = g.1 in let m = e.1 in (cc, cc)
-            | inr g ↦ absurd (let c = f.1 in let d = g.1 in let m = e.1 in apart cc)
-          ]
-          | inr f ↦ elim q.2 [
-            | inl g ↦ absurd (let c = f.1 in let d = g.1 in let m = e.1 in apart cc)
-            | inr g ↦
-                let c = f.1 in
-                let d = g.1 in
-                let m = e.1 in
-                let n : g.0 ≡ f.0 = cc in
-                let h = Ended-unique xs ys f.0 r s f.2 (subst (λ l. Ended P sep close l ys s) n g.2) in
-                let i : xs ≡ ys = h.0 in
-                (cc, h.1)
-          ]
+          | inl f ↦
+              let e = one ts x y p.0 q.0 p.1 q.1 in
+              let k : x ≡ y = e.0 in
+              let m = e.1 in
+              let c = f.1 in
+              let a = f.0 in
+              elim q.2 [
+                | inl g ↦ let b = g.0 in let d = g.1 in (cc, cc)
+                | inr g ↦ absurd (let d = g.1 in apart cc)
+              ]
+          | inr f ↦
+              let k = Ended-behind s ts f.0 x (y ∷ ys) (p.0, p.1, f.1) q in
+              let h = Ended-unique xs k.0 f.0 r s f.2 k.2 in
+              (ap (λ l. x ∷ l) h.0 ∙ sym k.1, h.1)
         ]
 
     -- what all elements are is what has been read and what the rest is
-    pub Listing-peel : (xs ys : List X) (ts here rest : List T) → Listing ts xs here → Ended P sep close ts ys rest
+    Listing-peel : (xs ys : List X) (ts here rest : List T) → Listing ts xs here → Ended P sep close ts ys rest
         → (more : List X) × (ys ≡ xs ++ more) × Ended P sep close here more rest
-    Listing-peel [] ys ts here rest b s = (ys, refl, subst (λ l. Ended P sep close l ys rest) b s)
-    Listing-peel (x ∷ xs) [] ts here rest b s = absurd (unlike ts b.0 rest x s b.2)
-    Listing-peel (x ∷ xs) (y ∷ ys) ts here rest b s =
-        let e = one ts x y b.0 s.0 b.2 s.1 in
-        let k : x ≡ y = e.0 in
-        let m = e.1 in
-        let c = b.3 in
-        elim s.2 [
-          | inl f ↦ absurd (let d = f.1 in apart cc)
-          | inr f ↦
-              let d = f.1 in
-              let n : f.0 ≡ b.1 = cc in
-              let h = Listing-peel xs ys b.1 here rest b.4 (subst (λ l. Ended P sep close l ys rest) n f.2) in
-              let i : ys ≡ xs ++ h.0 = h.1 in
-              (h.0, cc, h.2)
-        ]
+    Listing-peel xs ys ts here rest b s = Chain-peel Listed (λ l zs. Ended P sep close l zs rest) (Ended-behind rest) xs ys ts here b s
 
     -- where neither the end nor an element stands, the whole is no list
     pub Listing-here : (xs ys : List X) (ts here rest : List T) → Listing ts xs here → (here ≡ close ∷ rest → ⊥)

@@ -1,27 +1,26 @@
 -- Sites in a table of names that grows, and by their places in it.
-use Rattle.std.proofs.Common.{◌≡◌, ℕ, zero, suc, ◌+◌, ◌<◌, ◌≤◌, inl, inr, true, List, [], ◌∷◌, length, map, get_or, slice_get, Some, refl, ap, ◌∙◌, subst}
-use Rattle.std.proofs.Common.{arith, length-append}
-use Rattle.std.specs.Prelude.{fold, if◌then◌else◌}
-use Rattle.std.specs.Str.{bytes_eq}
+use Rattle.std.proofs.Common.{◌≡◌, ℕ, suc, ◌+◌, inl, inr, true, List, [], ◌∷◌, map, get_or, slice_get, Some}
+use Rattle.std.proofs.Common.{refl, sym, ap, ◌∙◌, subst, arith, ◌++◌, append_assoc, append-nil, fold}
+use Rattle.std.proofs.Common.{if◌then◌else◌, bytes_eq}
 use Rattle.std.specs.List.{AllByRecursion, list_any}
 use Rattle.std.proofs.Math.ListN.{get_or-append}
 use Rattle.std.proofs.lemmas.Bool.{cases_Bool}
 use Rattle.std.proofs.lemmas.Slice.Eq.{bytes_eq-Decides}
-use Rattle.std.proofs.lemmas.Option.{slice_get_within, get_or_from_slice_get}
+use Rattle.std.proofs.lemmas.Option.{slice_get-get_or, get_or_from_slice_get}
 use Rattle.lw_base.specs.Types.{Bytes, NameTable, TokenList}
 use Rattle.lw_base.specs.Lists.{EachOnce}
 use Rattle.lw_base.specs.Tables.{contains_name, with_name, with_names, index_of}
 use Rattle.lw_base.specs.declared.head.Seen.{Seen}
-use Rattle.lw_base.specs.declared.head.Seen.TheVariants as seen
 use Rattle.lw_base.proofs.api.Tables.{index_of-at}
 use Rattle.lw_base.proofs.api.GrowingTables.{with_name-grows, with_names-longer, contains_name-with_name}
 use Rattle.lw_text.specs.declared.site.Site.{Site}
-use Rattle.lw_text.specs.declared.site.Site.TheVariants as made
 use Rattle.lw_text.specs.declared.block.Entry.{Entry}
 use Rattle.lw_text.specs.Sites.{InMemory, seen_in}
 use Rattle.lw_base.specs.SeenLists.{same_seen}
 use Rattle.lw_text.specs.Frames.{word_of}
 use Rattle.lw_text.specs.inner.Resolved.{named, named_entry, seen_of, IsIn, word_at, is_listed}
+use Rattle.lw_base.specs.declared.head.Seen.TheVariants as seen
+use Rattle.lw_text.specs.declared.site.Site.TheVariants as made
 
 -- ---- the place of a name
 
@@ -38,51 +37,39 @@ there_at (y ∷ names) t h =
 pub appeared_at : (before after : NameTable) (loc : ℕ) (t : Bytes) → after ≡ with_name before t → loc ≡ index_of after t → slice_get after loc ≡ Some t
 appeared_at before after loc t e f = rw (f, e) (there_at (with_name before t) t (contains_name-with_name before t))
 
-pub slice_get-within : (names : NameTable) (i : ℕ) → i < length names → slice_get names i ≡ Some (get_or names i [])
-slice_get-within [] i lt = absurd (omega arith)
-slice_get-within (y ∷ names) zero lt = refl
-slice_get-within (y ∷ names) (suc i) lt = slice_get-within names i (omega arith)
-
 -- the location at a place, by its name
 pub named-at : (names : NameTable) (loc : ℕ) (t : Bytes) → slice_get names loc ≡ Some t → named names (made.Location loc) ≡ InMemory t
 named-at names loc t e = ap InMemory (get_or_from_slice_get names loc t [] e)
 
-pub within-at : (names : NameTable) (loc : ℕ) (t : Bytes) → slice_get names loc ≡ Some t → IsIn names (made.Location loc)
-within-at names loc t e = slice_get_within names loc t e
-
 -- ---- in a table that grows
 
-with_name-get : (names : NameTable) (x : Bytes) (i : ℕ) → i < length names → get_or (with_name names x) i [] ≡ get_or names i []
-with_name-get names x i lt = let g = with_name-grows names x in ap (λ l. get_or l i []) g.1 ∙ get_or-append names g.0 [] i lt
-
-with_name-longer : (names : NameTable) (x : Bytes) → length names ≤ length (with_name names x)
-with_name-longer names x = let g = with_name-grows names x in omega (arith, ap length g.1, length-append names g.0)
-
-with_names-get : (names ns : NameTable) (i : ℕ) → i < length names → get_or (with_names names ns) i [] ≡ get_or names i []
-with_names-get names [] i lt = refl
-with_names-get names (n ∷ ns) i lt = with_names-get (with_name names n) ns i (omega (arith, lt, with_name-longer names n)) ∙ with_name-get names n i lt
+with_names-grows : (names ns : NameTable) → (more : NameTable) × (with_names names ns ≡ names ++ more)
+with_names-grows names [] = ([], sym (append-nil names))
+with_names-grows names (n ∷ ns) =
+    let g = with_name-grows names n in
+    let h = with_names-grows (with_name names n) ns in
+    (g.0 ++ h.0, h.1 ∙ ap (λ l. l ++ h.0) g.1 ∙ append_assoc names g.0 h.0)
 
 pub named-along : (names ns : NameTable) (s : Site) → IsIn names s → named (with_names names ns) s ≡ named names s
-named-along names ns (made.Location loc) h = ap InMemory (with_names-get names ns loc h)
+named-along names ns (made.Location loc) h =
+    let g = with_names-grows names ns in
+    ap InMemory (ap (λ l. get_or l loc []) g.1 ∙ get_or-append names g.0 [] loc h)
 named-along names ns (made.Register t r) h = refl
 
-pub in-along : (names ns : NameTable) (s : Site) → IsIn names s → IsIn (with_names names ns) s
+in-along : (names ns : NameTable) (s : Site) → IsIn names s → IsIn (with_names names ns) s
 in-along names ns s h = omega (arith, h, with_names-longer names ns)
 
 -- lists of what stands on sites
 module _ {X Y : Type 0} (site : X → Site) (at : TokenList → X → Y)
     (stable : (names ns : NameTable) (x : X) → IsIn names (site x) → at (with_names names ns) x ≡ at names x) where
-  pub all_at-along : (names ns : NameTable) (xs : List X) → AllByRecursion (λ x. IsIn names (site x)) xs → map (at (with_names names ns)) xs ≡ map (at names) xs
-  all_at-along names ns [] h = refl
-  all_at-along names ns (x ∷ xs) h =
-      let e = stable names ns x h.0 in
-      let f = all_at-along names ns xs h.1 in
-      cc
-
-  pub all_in-along : (names ns : NameTable) (xs : List X) → AllByRecursion (λ x. IsIn names (site x)) xs
-      → AllByRecursion (λ x. IsIn (with_names names ns) (site x)) xs
-  all_in-along names ns [] h = tt
-  all_in-along names ns (x ∷ xs) h = (in-along names ns (site x) h.0, all_in-along names ns xs h.1)
+  pub all_along : (names after ns : NameTable) (xs : List X) → after ≡ with_names names ns → AllByRecursion (λ x. IsIn names (site x)) xs
+      → (map (at after) xs ≡ map (at names) xs) × AllByRecursion (λ x. IsIn after (site x)) xs
+  all_along names after ns [] e h = (refl, tt)
+  all_along names after ns (x ∷ xs) e h =
+      let k = all_along names after ns xs e h.1 in
+      let i : at after x ≡ at names x = ap (λ l. at l x) e ∙ stable names ns x h.0 in
+      let j = k.0 in
+      (cc, (subst (λ l. IsIn l (site x)) (sym e) (in-along names ns (site x) h.0), k.1))
 
 pub entry-along : (names ns : NameTable) (e : Entry) → IsIn names e.site → named_entry (with_names names ns) e ≡ named_entry names e
 entry-along names ns e h = rw (named-along names ns e.site h) refl
@@ -91,7 +78,7 @@ entry-along names ns e h = rw (named-along names ns e.site h) refl
 
 pub resolved-named : (names : NameTable) (s : Site) → EachOnce names → IsIn names s → seen_in names (named names s) ≡ seen_of s
 resolved-named names (made.Location loc) once h = ap (λ (l : ℕ). seen.Location l)
-    (index_of-at names (get_or names loc []) loc once (slice_get-within names loc h))
+    (index_of-at names (get_or names loc []) loc once (slice_get-get_or names loc [] h))
 resolved-named names (made.Register t r) once h = refl
 
 words-step : (names : NameTable) (es : List Entry) (s : Seen) (w : ℕ) → EachOnce names → AllByRecursion (λ e. IsIn names e.site) es

@@ -1,15 +1,17 @@
 -- Quoted texts and lines `Key=value` are read in one way, and so are rows of them.
-use Rattle.std.proofs.Common.{◌≡◌, ℕ, ◌<◌, ◌≤◌, ◌⊎◌, inl, inr, Bool, true, false, not, [], ◌∷◌, ◌++◌, length, length-append, append_assoc, refl, sym, ap, ◌∙◌}
-use Rattle.std.proofs.Common.{subst, arith}
-use Rattle.std.specs.Prelude.{◌==◌}
+use Rattle.std.proofs.Common.{◌≡◌, ℕ, ◌<◌, ◌≤◌, inl, inr, Bool, true, false, not, [], ◌∷◌, ◌++◌, length}
+use Rattle.std.proofs.Common.{length-append, append_assoc, refl, sym, ap, ◌∙◌, subst, arith, ◌==◌, eqb-true}
 use Rattle.std.specs.List.{AllByRecursion, list_all}
-use Rattle.std.proofs.lemmas.Bool.{not-true, not-false, eqb-true}
+use Rattle.std.proofs.lemmas.Bool.{not-true, not-false}
 use Rattle.lw_base.specs.Types.{Bytes}
 use Rattle.lw_base.specs.Characters.{begins, is_key_byte, is_space}
 use Rattle.lw_text.specs.Tokens.{begins_trivia, Trivia}
 use Rattle.lw_text.specs.Headings.{Quoted, KeyLine, Note, Notes, none, note}
-use Rattle.lw_text.proofs.TriviaLemmas.{Trivia-unique, Trivia-suffix}
+use Rattle.lw_text.specs.Spans.{Leaves}
+use Rattle.lw_text.proofs.Lists.{Leaves-join}
+use Rattle.lw_text.proofs.TriviaLemmas.{Trivia-unique, Trivia-suffix, Trivia-shorter}
 use Rattle.lw_base.proofs.api.Blanks.{any_all, same_byte}
+use Rattle.lw_base.proofs.api.Elements.{all_weaker}
 use Rattle.lw_text.proofs.Words.{run-unique, no_trivia_at}
 
 -- ---- quoted texts
@@ -19,12 +21,10 @@ abbrev pub Without : ℕ → Bytes → Type 0
 Without c bytes = AllByRecursion (λ b. not (b == c) ≡ true) bytes
 
 without : (c : ℕ) (bytes : Bytes) → AllByRecursion (λ b. (b == c) ≡ false) bytes → Without c bytes
-without c [] all = tt
-without c (b ∷ bytes) all = (ap not all.0, without c bytes all.1)
+without c bytes all = all_weaker (λ b. (b == c) ≡ false) (λ b. not (b == c) ≡ true) (λ b e. ap not e) bytes all
 
 with_none : (c : ℕ) (bytes : Bytes) → Without c bytes → AllByRecursion (λ b. (b == c) ≡ false) bytes
-with_none c [] all = tt
-with_none c (b ∷ bytes) all = (not-true (b == c) all.0, with_none c bytes all.1)
+with_none c bytes all = all_weaker (λ b. not (b == c) ≡ true) (λ b. (b == c) ≡ false) (λ b e. not-true (b == c) e) bytes all
 
 -- what a text's quote is, where it was taken apart at the quotes
 module _ (text inside quoted rest : Bytes) (e : text ≡ 34 ∷ inside) (f : inside ≡ quoted ++ rest) (all : Without 34 quoted)
@@ -179,53 +179,32 @@ Note-suffix text end (inr p) = (p.key ++ p.spaces ++ 61 ∷ p.value, p.parts, om
 
 -- ---- rows of notes
 
-record Ended (text rest : Bytes) : Type 0 where
-  trivia : Trivia text rest
-  block : begins (λ b. b == 123) rest ≡ true
+-- behind the first note
+at_note : {text mid after rest : Bytes} → Notes text rest → Trivia text mid → Note mid after → Notes after rest
+at_note {mid = mid} {after} (none {rest = rest} t h) g n = absurd (
+    let e : mid ≡ rest = Trivia-unique g t (note_no_trivia mid after n) (block_no_trivia rest h) in
+    note_no_block mid after (subst (λ x. begins (λ b. b == 123) x ≡ true) (sym e) h) n)
+at_note {mid = mid} {after} {rest} (note {mid = m} {after = a} t f more) g n =
+    let e : m ≡ mid = Trivia-unique t g (note_no_trivia m a f) (note_no_trivia mid after n) in
+    let k : a ≡ after = Note-unique mid a after (subst (λ x. Note x a) e f) n in
+    subst (λ x. Notes x rest) k more
 
-record Noted (text rest : Bytes) : Type 0 where
-  mid : Bytes
-  after : Bytes
-  trivia : Trivia text mid
-  first : Note mid after
-  more : Notes after rest
-
-ways : {text rest : Bytes} → Notes text rest → Ended text rest ⊎ Noted text rest
-ways (none g h) = inl (record { trivia = g; block = h })
-ways (note {text} {mid} {after} {rest} g n m) = inr (record { mid = mid; after = after; trivia = g; first = n; more = m })
-
-pub at_note : (text mid after rest : Bytes) → Trivia text mid → Note mid after → Notes text rest → Notes after rest
-at_note text mid after rest g n m =
-    elim (ways m) [
-      | inl w ↦ absurd (
-          let e : mid ≡ rest = Trivia-unique g w.trivia (note_no_trivia mid after n) (block_no_trivia rest w.block) in
-          note_no_block mid after (subst (λ x. begins (λ b. b == 123) x ≡ true) (sym e) w.block) n)
-      | inr w ↦
-          let e : w.mid ≡ mid = Trivia-unique w.trivia g (note_no_trivia w.mid w.after w.first) (note_no_trivia mid after n) in
-          let f : w.after ≡ after = Note-unique mid w.after after (subst (λ x. Note x w.after) e w.first) n in
-          subst (λ x. Notes x rest) f w.more
-    ]
-
-pub at_block : (text start rest : Bytes) → Trivia text start → begins (λ b. b == 123) start ≡ true → Notes text rest → start ≡ rest
-at_block text start rest g h m =
-    elim (ways m) [
-      | inl w ↦ Trivia-unique g w.trivia (block_no_trivia start h) (block_no_trivia rest w.block)
-      | inr w ↦ absurd (
-          let e : start ≡ w.mid = Trivia-unique g w.trivia (block_no_trivia start h) (note_no_trivia w.mid w.after w.first) in
-          note_no_block w.mid w.after (subst (λ x. begins (λ b. b == 123) x ≡ true) e h) w.first)
-    ]
+-- at the block
+at_block : {text start rest : Bytes} → Notes text rest → Trivia text start → begins (λ b. b == 123) start ≡ true → start ≡ rest
+at_block {start = start} (none {rest = rest} t k) g h = Trivia-unique g t (block_no_trivia start h) (block_no_trivia rest k)
+at_block {start = start} (note {mid = m} {after = a} t f more) g h = absurd (
+    let e : start ≡ m = Trivia-unique g t (block_no_trivia start h) (note_no_trivia m a f) in
+    note_no_block m a (subst (λ x. begins (λ b. b == 123) x ≡ true) e h) f)
 
 pub Notes-unique : {text a b : Bytes} → Notes text a → Notes text b → a ≡ b
-Notes-unique {text} {a} {b} (none g h) q = at_block text a b g h q
-Notes-unique {text} {b = b} (note {mid = mid} {after = after} g n m) q = Notes-unique m (at_note text mid after b g n q)
+Notes-unique (none g h) q = at_block q g h
+Notes-unique (note g n m) q = Notes-unique m (at_note q g n)
 
-pub Notes-suffix : {text rest : Bytes} → Notes text rest → (front : Bytes) × (text ≡ front ++ rest)
+pub Notes-suffix : {text rest : Bytes} → Notes text rest → Leaves text rest
 Notes-suffix (none g h) = Trivia-suffix g
 Notes-suffix (note {mid = mid} {after = after} g n m) =
-    let s = Trivia-suffix g in
     let t = Note-suffix mid after n in
-    let u = Notes-suffix m in
-    (s.0 ++ (t.0 ++ u.0), s.1 ∙ ap (λ x. s.0 ++ x) (t.1 ∙ ap (λ x. t.0 ++ x) u.1 ∙ sym (append_assoc t.0 u.0 _)) ∙ sym (append_assoc s.0 (t.0 ++ u.0) _))
+    Leaves-join (Trivia-suffix g) (Leaves-join (t.0, t.1) (Notes-suffix m))
 
 -- ---- what the reader of notes owes
 
@@ -237,43 +216,41 @@ pub record Passed (bytes rest : Bytes) : Type 0 where
 
 pub Passed-note : {bytes rest start after : Bytes} → Passed bytes rest → Trivia rest start → Note start after → Passed bytes after
 Passed-note {bytes} {rest} {start} {after} p g n =
-    let s = Trivia-suffix g in
     let t = Note-suffix start after n in
     record {
       given = λ end m. p.given end (note g n m);
-      only = λ end m. at_note rest start after end g n (p.only end m);
-      bound = omega (arith, p.bound, ap length s.1, length-append s.0 start, ap length t.1, length-append t.0 after);
+      only = λ end m. at_note (p.only end m) g n;
+      bound = omega (arith, p.bound, Trivia-shorter g, ap length t.1, length-append t.0 after);
     }
 
 pub Passed-shorter : {rest start after : Bytes} → Trivia rest start → Note start after → length after < length rest
 Passed-shorter {rest} {start} {after} g n =
-    let s = Trivia-suffix g in
     let t = Note-suffix start after n in
-    omega (arith, ap length s.1, length-append s.0 start, ap length t.1, length-append t.0 after, t.2)
+    omega (arith, Trivia-shorter g, ap length t.1, length-append t.0 after, t.2)
 
 pub Passed-done : {bytes rest start : Bytes} → Passed bytes rest → Trivia rest start → begins (λ b. b == 123) start ≡ true → Notes bytes start
 Passed-done {start = start} p g h = p.given start (none g h)
 
+-- what stands behind the first trivia
+first_start : {text rest : Bytes} → Notes text rest → (start : Bytes) × Trivia text start × (begins_trivia start ≡ false)
+first_start (none {rest = rest} t h) = (rest, t, block_no_trivia rest h)
+first_start (note {mid = mid} {after = after} t n m) = (mid, t, note_no_trivia mid after n)
+
 -- a comment among the notes isn't closed
 pub Passed-open : {bytes rest : Bytes} → Passed bytes rest → ((start : Bytes) → begins_trivia start ≡ false → Trivia rest start → ⊥) → (end : Bytes)
     → Notes bytes end → ⊥
-Passed-open p never end m =
-    elim (ways (p.only end m)) [
-      | inl w ↦ never end (block_no_trivia end w.block) w.trivia
-      | inr w ↦ never w.mid (note_no_trivia w.mid w.after w.first) w.trivia
-    ]
+Passed-open p never end m = let k = first_start (p.only end m) in never k.0 k.2 k.1
 
 -- neither a `{` nor a note stands behind the trivia
 pub Passed-none : {bytes rest start : Bytes} → Passed bytes rest → Trivia rest start → begins_trivia start ≡ false
     → begins (λ b. b == 123) start ≡ false → ((after : Bytes) → Note start after → ⊥) → (end : Bytes) → Notes bytes end → ⊥
-Passed-none {bytes} {rest} {start} p g stop other never end m =
-    elim (ways (p.only end m)) [
-      | inl w ↦
-          let e : start ≡ end = Trivia-unique g w.trivia stop (block_no_trivia end w.block) in
-          let h = subst (λ x. begins (λ b. b == 123) x ≡ false) e other in
-          let k = w.block in
-          cc
-      | inr w ↦
-          let e : w.mid ≡ start = Trivia-unique w.trivia g (note_no_trivia w.mid w.after w.first) stop in
-          never w.after (subst (λ x. Note x w.after) e w.first)
-    ]
+Passed-none {bytes} {rest} {start} p g stop other never end m = at (p.only end m)
+  where
+    at : {text : Bytes} → Notes rest text → ⊥
+    at (none {rest = last} t h) =
+        let e : start ≡ last = Trivia-unique g t stop (block_no_trivia last h) in
+        let k = subst (λ x. begins (λ b. b == 123) x ≡ false) e other in
+        cc
+    at (note {mid = m} {after = a} t f more) =
+        let e : m ≡ start = Trivia-unique t g (note_no_trivia m a f) stop in
+        never a (subst (λ x. Note x a) e f)

@@ -1,7 +1,6 @@
 -- What digits stand for.
 use Rattle.std.proofs.Common.{◌≡◌, ℕ, ◌+◌, ◌*◌, ◌^◌, ◌<◌, ◌≤◌, [], ◌∷◌, sym, ap, ◌∙◌, subst, arith}
-use Rattle.std.proofs.Math.Nat.{mul-le-mul_left, mul_comm}
-use Rattle.std.specs.Prelude.{Option, Some, None, IfNone}
+use Rattle.std.proofs.Common.{mul-le-mul_left, mul_comm, Option, Some, None, IfNone}
 use Rattle.std.specs.Char.{digit_value}
 use Rattle.lw_base.specs.Types.{Bytes}
 use Rattle.lw_text.specs.Tokens.{Digits}

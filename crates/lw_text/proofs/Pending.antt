@@ -1,15 +1,19 @@
 -- What one terminal does to what is left to be read.
-use Rattle.std.proofs.Common.{◌≡◌, ◌≢◌, ℕ, zero, suc, Bool, true, false, not, List, [], ◌∷◌, Option, Some, None, MatchOption, option_map, length, map, reverse}
-use Rattle.std.proofs.Common.{refl, sym, ap, ◌∙◌, subst, arith}
+use Rattle.std.proofs.Common.{◌≡◌, ◌≢◌, ℕ, zero, suc, Bool, true, false, not, List, [], ◌∷◌, Option, Some}
+use Rattle.std.proofs.Common.{None, MatchOption, option_map, length, map, reverse, refl, sym, ap, ◌∙◌, subst}
+use Rattle.std.proofs.Common.{arith, is_some}
 use Rattle.std.proofs.lemmas.List.{nil_from_length, length-reverse, length-map}
-use Rattle.std.specs.Prelude.{is_some, if◌then◌else◌}
 use Rattle.lw_base.specs.Formula.{Formula, Not}
-use Rattle.lw_text.specs.Propositions.{Terminal, Open, Close, Negation, Conjunction, Disjunction, Atom, IsProposition}
-use Rattle.lw_text.specs.inner.LeftToRight.{begins_and, begins_or, Ands, Ors, Reads, atom, negated, parens, no_and, and, no_or, or}
-use Rattle.lw_text.specs.inner.Pending.{Pending, ReaderState, negations, after_and, after_or, ands_of, ors_of, opened, with_not, with_and, with_or, Has, Wants}
-use Rattle.lw_text.specs.inner.Pending.{Rest, GoesOn, begins_part, step_before, step_behind, step}
+use Rattle.lw_text.specs.Propositions.{Terminal, Open, Close, Negation, Conjunction, Disjunction, Atom}
+use Rattle.lw_text.specs.Propositions.{IsProposition}
+use Rattle.lw_text.specs.inner.LeftToRight.{begins_and, begins_or, Ands, Ors, Reads, atom, negated, parens}
+use Rattle.lw_text.specs.inner.LeftToRight.{no_and, and, no_or, or}
+use Rattle.lw_text.specs.inner.Pending.{Pending, ReaderState, negations, after_and, after_or, ands_of, ors_of}
+use Rattle.lw_text.specs.inner.Pending.{opened, with_not, with_and, with_or, Has, Wants, Rest, GoesOn}
+use Rattle.lw_text.specs.inner.Pending.{begins_part, begun, step_before, step_behind, step, state_behind}
 use Rattle.lw_text.proofs.PropositionReadings.{derived_read, read_derived}
-use Rattle.lw_text.proofs.Derivations.{Terminals, part_atom, part_not, part_open, part_begins, part_end, ands_more, ands_stop, ors_more, ors_stop}
+use Rattle.lw_text.proofs.Derivations.{Terminals, part_atom, part_not, part_open, part_begins, part_end}
+use Rattle.lw_text.proofs.Derivations.{ands_more, ands_stop, ors_more, ors_stop}
 
 negations-not : (n : ℕ) (p : Formula) → negations n (Not p) ≡ Not (negations n p)
 negations-not zero p = refl
@@ -102,11 +106,9 @@ module _ (l : Pending) (ss : Terminals) (q : Formula) where
 
     next_behind : (os : List Pending) (s : Terminal Formula) → Has l os p (s ∷ ss) q → begins_part s ≡ false
     next_behind os Open h = absurd (behind_refused os Open refl refl (λ e. cc) h)
-    next_behind os Close h = refl
     next_behind os Negation h = absurd (behind_refused os Negation refl refl (λ e. cc) h)
-    next_behind os Conjunction h = refl
-    next_behind os Disjunction h = refl
     next_behind os (Atom a) h = absurd (behind_refused os (Atom a) refl refl (λ e. cc) h)
+    next_behind os _ h = refl
 
   -- A step is exact: a terminal can't come next, or what is left behind it is what was left without it.
   abbrev pub IsExact : Option Formula → List Pending → Terminal Formula → Option ReaderState → Type 0
@@ -134,43 +136,25 @@ module _ (l : Pending) (ss : Terminals) (q : Formula) where
   step_exact None os s = before_exact os s
   step_exact (Some p) os s = behind_exact p os s
 
-  module _ (part known : Option Formula) (same : part ≡ known) (os : List Pending) (s : Terminal Formula) where
-    exact_at : (b : Bool) (r : ReaderState) → step known l os s ≡ (if b then Some r else None) → IsExact part os s (if b then Some r else None)
-    exact_at b r is = subst (λ x. IsExact x os s (if b then Some r else None)) (sym same) (subst (IsExact known os s) is (step_exact known os s))
-
-    pub took_given : (b : Bool) (r : ReaderState) → step known l os s ≡ (if b then Some r else None) → b ≡ true → GoesOn r ss q → Rest part l os (s ∷ ss) q
-    took_given true r is e = (exact_at true r is).0
-    took_given false r is e = absurd cc
-
-    pub took_only : (b : Bool) (r : ReaderState) → step known l os s ≡ (if b then Some r else None) → b ≡ true → Rest part l os (s ∷ ss) q → GoesOn r ss q
-    took_only true r is e = (exact_at true r is).1
-    took_only false r is e = absurd cc
-
-    pub took_nothing : (b : Bool) (r : ReaderState) → step known l os s ≡ (if b then Some r else None) → b ≡ false → Rest part l os (s ∷ ss) q → ⊥
-    took_nothing true r is e = absurd cc
-    took_nothing false r is e = exact_at false r is
-
   -- which terminals may come next
   pub next_begins : {X : Type 0} (f : X → Formula) (o : Option X) (os : List Pending) (s : Terminal Formula) (b : Bool) → is_some o ≡ not b
       → Rest (option_map f o) l os (s ∷ ss) q → begins_part s ≡ b
   next_begins f None os s true e h = next_before os s h
-  next_begins f None os s false e h = absurd cc
-  next_begins f (Some x) os s true e h = absurd cc
   next_begins f (Some x) os s false e h = next_behind (f x) os s h
+  next_begins f _ os s _ e h = absurd cc
+
+-- what is left behind one more terminal, if it may come next
+pub next_exact : (r : ReaderState) (s : Terminal Formula) (ss : Terminals) (q : Formula) (o : Option ReaderState) → state_behind r s ≡ o
+    → IsExact r.group ss q r.part r.outer s o
+next_exact r s ss q o is = subst (IsExact r.group ss q r.part r.outer s) is (step_exact r.group ss q r.part r.outer s)
 
 -- ---- where the terminals begin, and where they end
 
-module _ (l : Pending) (os : List Pending) (ss : Terminals) (q : Formula) (e : l ≡ opened) (f : os ≡ []) where
-  pub begun_only : IsProposition ss q → Wants l os ss q
-  begun_only d =
-      let h = derived_read d in
-      subst (λ x. Wants x os ss q) (sym e) (subst (λ x. Wants opened x ss q) (sym f) (h.0, h.2, h.4, (h.1, h.3, h.5, h.6)))
+pub begun_only : (ss : Terminals) (q : Formula) → IsProposition ss q → GoesOn begun ss q
+begun_only ss q d = let h = derived_read d in (h.0, h.2, h.4, (h.1, h.3, h.5, h.6))
 
-  pub begun_given : Wants l os ss q → IsProposition ss q
-  begun_given w =
-      let h = subst (λ x. Wants opened x ss q) f (subst (λ x. Wants x os ss q) e w) in
-      let k = h.3 in
-      read_derived (h.0, k.0, h.1, k.1, h.2, k.2, k.3)
+pub begun_given : (ss : Terminals) (q : Formula) → GoesOn begun ss q → IsProposition ss q
+begun_given ss q h = let k = h.3 in read_derived (h.0, k.0, h.1, k.1, h.2, k.2, k.3)
 
 -- groups stand the other way round in memory
 pub none_outside : {X : Type 0} (f : X → Pending) (xs : List X) → length xs ≡ 0 → reverse (map f xs) ≡ []

@@ -1,16 +1,20 @@
 -- A text has its cells at one place each, and its tokens are the slices of their spans.
-use Rattle.std.proofs.Common.{◌≡◌, ℕ, ◌+◌, ◌-◌, ◌≤◌, List, [], ◌∷◌, ◌++◌, length, take, drop, refl, sym, ap, ◌∙◌, subst, arith, append_assoc, length-append}
-use Rattle.std.proofs.lemmas.List.{take_at, length-map}
+use Rattle.std.proofs.Common.{◌≡◌, ℕ, ◌+◌, ◌≤◌, List, [], ◌∷◌, ◌++◌, length, take, drop, refl, sym, ap, ◌∙◌}
+use Rattle.std.proofs.Common.{subst, arith, append_assoc, length-append, take_at}
+use Rattle.std.proofs.Math.Seq.{take-append_seam, drop-append_seam}
+use Rattle.std.proofs.lemmas.List.{length-map}
 use Rattle.lw_base.specs.Types.{Bytes}
 use Rattle.lw_base.specs.declared.head.Arch.{Arch}
 use Rattle.lw_base.specs.Languages.{arch_word}
 use Rattle.lw_text.specs.Headings.{Heading}
 use Rattle.lw_text.specs.Rows.{Header, Rows, columns}
 use Rattle.lw_text.specs.PlacedTokens.{PlacedToken, texts_of_tokens, PlacedTokens}
-use Rattle.lw_text.specs.PlacedCells.{PlacedCell, texts_of_cells, texts_of_grid, CellsFrom, RowsFrom, HasRows, HasCells}
-use Rattle.lw_text.specs.Spans.{Spans}
-use Rattle.lw_text.proofs.TriviaLemmas.{Trivia-suffix}
-use Rattle.lw_text.proofs.TokenRows.{Suffix-more, PlacedTokens-unique}
+use Rattle.lw_text.specs.PlacedCells.{PlacedCell, texts_of_cells, texts_of_grid, CellsFrom, RowsFrom, HasRows}
+use Rattle.lw_text.specs.PlacedCells.{HasCells}
+use Rattle.lw_text.specs.Spans.{Spans, Leaves}
+use Rattle.lw_text.proofs.TriviaLemmas.{Trivia-suffix, Trivia-shorter}
+use Rattle.lw_text.proofs.Lists.{Leaves-join}
+use Rattle.lw_text.proofs.TokenRows.{PlacedTokens-unique}
 use Rattle.lw_text.proofs.NoteRows.{Notes-suffix}
 use Rattle.lw_text.proofs.Headings.{Heading-unique}
 use Rattle.lw_text.proofs.Headers.{Names-unique}
@@ -21,15 +25,10 @@ use Rattle.lw_text.proofs.Cells.{Rows-unique}
 
 -- two fronts of one length
 cut_same : {X : Type 0} (xs ys us vs : List X) → length xs ≡ length ys → xs ++ us ≡ ys ++ vs → (xs ≡ ys) × (us ≡ vs)
-cut_same [] [] us vs len e = (refl, e)
-cut_same [] (y ∷ ys) us vs len e = absurd (omega (arith, len))
-cut_same (x ∷ xs) [] us vs len e = absurd (omega (arith, len))
-cut_same (x ∷ xs) (y ∷ ys) us vs len e =
-    let first : x ≡ y = cc in
-    let more : xs ++ us ≡ ys ++ vs = cc in
-    let r = cut_same xs ys us vs (omega (arith, len)) more in
-    let i : xs ≡ ys = r.0 in
-    (cc, r.1)
+cut_same xs ys us vs len e = (
+  sym (take-append_seam xs us) ∙ ap (take (length xs)) e ∙ ap (λ (n : ℕ). take n (ys ++ vs)) len ∙ take-append_seam ys vs,
+  sym (drop-append_seam xs us) ∙ ap (drop (length xs)) e ∙ ap (λ (n : ℕ). drop n (ys ++ vs)) len ∙ drop-append_seam ys vs,
+)
 
 same_cell : (a b : PlacedCell) → a.tokens ≡ b.tokens → a.end ≡ b.end → a ≡ b
 same_cell a b tokens end = ap (λ (ts : List PlacedToken). let c : PlacedCell = record { tokens = ts; end = a.end } in c) tokens ∙ ap
@@ -41,8 +40,6 @@ as_long ts us e = sym (length-map ts (λ t. t.text)) ∙ ap length e ∙ length-
 cells_same : (ts a b : List PlacedToken) (xs ys : List PlacedCell) → CellsFrom ts xs a → CellsFrom ts ys b → texts_of_cells xs ≡ texts_of_cells ys
     → (xs ≡ ys) × (a ≡ b)
 cells_same ts a b [] [] p q e = (refl, sym p ∙ q)
-cells_same ts a b [] (y ∷ ys) p q e = absurd cc
-cells_same ts a b (x ∷ xs) [] p q e = absurd cc
 cells_same ts a b (x ∷ xs) (y ∷ ys) p q e =
     let head : texts_of_tokens x.tokens ≡ texts_of_tokens y.tokens = cc in
     let tail : texts_of_cells xs ≡ texts_of_cells ys = cc in
@@ -54,11 +51,10 @@ cells_same ts a b (x ∷ xs) (y ∷ ys) p q e =
     let cell : x ≡ y = same_cell x y s.0 (sym p.4 ∙ ap (λ (m : PlacedToken). m.at) mark ∙ q.4) in
     let cells : xs ≡ ys = more.0 in
     (cc, more.1)
+cells_same ts a b _ _ p q e = absurd cc
 
 rows_same : (ts a b : List PlacedToken) (xs ys : List (List PlacedCell)) → RowsFrom ts xs a → RowsFrom ts ys b → texts_of_grid xs ≡ texts_of_grid ys → xs ≡ ys
 rows_same ts a b [] [] p q e = refl
-rows_same ts a b [] (y ∷ ys) p q e = absurd cc
-rows_same ts a b (x ∷ xs) [] p q e = absurd cc
 rows_same ts a b (x ∷ xs) (y ∷ ys) p q e =
     let head : texts_of_cells x ≡ texts_of_cells y = cc in
     let tail : texts_of_grid xs ≡ texts_of_grid ys = cc in
@@ -66,6 +62,7 @@ rows_same ts a b (x ∷ xs) (y ∷ ys) p q e =
     let row : x ≡ y = s.0 in
     let rows : xs ≡ ys = rows_same p.0 a b xs ys p.2 (subst (λ l. RowsFrom l ys b) (sym s.1) q.2) tail in
     cc
+rows_same ts a b _ _ p q e = absurd cc
 
 HasRows-unique : (arch : Arch) (tokens : List PlacedToken) (m n : ℕ) (x y : List (List PlacedCell)) → HasRows arch tokens m x → HasRows arch tokens n y
     → (m ≡ n) × (x ≡ y)
@@ -103,39 +100,30 @@ Spans-earlier : (text : Bytes) (from mid to : ℕ) (ts : List PlacedToken) → f
 Spans-earlier text from mid to [] le s = omega (arith, s, le)
 Spans-earlier text from mid to (t ∷ ts) le s = (omega (arith, s.0, le), s.1, s.2)
 
--- what drops to a token and a rest has the token as a slice
-slice_of : (text : Bytes) (at : ℕ) (t rest : Bytes) → drop at text ≡ t ++ rest → take (length t) (drop at text) ≡ t
-slice_of text at t rest e = ap (take (length t)) e ∙ take_at t rest (length t) refl
-
 -- the tokens of the end of a text
-stream_spans : (text rest : Bytes) (ts : List PlacedToken) → drop (length text - length rest) text ≡ rest → PlacedTokens (length text) rest ts
-    → Spans text (length text - length rest) ts (length text)
-stream_spans text rest [] s p = omega arith
-stream_spans text rest (t ∷ ts) s p =
+stream_spans : (text front rest : Bytes) (ts : List PlacedToken) → text ≡ front ++ rest → PlacedTokens (length text) rest ts
+    → Spans text (length front) ts (length text)
+stream_spans text front rest [] e p = omega (arith, ap length e, length-append front rest)
+stream_spans text front rest (t ∷ ts) e p =
     let g = Trivia-suffix p.1.0 in
-    let here = Suffix-more text rest g.0 (t.text ++ p.0) s g.1 in
-    let next = Suffix-more text rest (g.0 ++ t.text) p.0 s (g.1 ∙ sym (append_assoc g.0 t.text p.0)) in
-    let len = length-append t.text p.0 in
-    let at : length text - length (t.text ++ p.0) ≡ t.at = omega (arith, p.2, len) in
-    let from : length text - length rest ≤ t.at = omega (arith, p.2, len, ap length g.1, length-append g.0 (t.text ++ p.0)) in
-    let behind : length text - length p.0 ≡ t.at + length t.text = omega (arith, p.2) in (
-      from,
-      slice_of text t.at t.text p.0 (ap (λ (k : ℕ). drop k text) (sym at) ∙ here.1),
+    let here = Leaves-join (front, e) g in
+    let before = here.0 in
+    let whole : text ≡ before ++ (t.text ++ p.0) = here.1 in
+    let at : length before ≡ t.at = omega (arith, p.2, ap length whole, length-append before (t.text ++ p.0), length-append t.text p.0) in
+    let behind : length (before ++ t.text) ≡ t.at + length t.text = omega (arith, at, length-append before t.text) in (
+      omega (arith, p.2, ap length e, length-append front rest, Trivia-shorter p.1.0, length-append t.text p.0),
+      ap (take (length t.text)) (ap (λ (k : ℕ). drop k text) (sym at) ∙ ap (drop (length before)) whole ∙ drop-append_seam before (t.text ++ p.0))
+          ∙ take_at t.text p.0 (length t.text) refl,
       subst (λ (k : ℕ). Spans text k ts (length text)) behind
-          (stream_spans text p.0 ts next.1 p.3),
+          (stream_spans text (before ++ t.text) p.0 ts (whole ∙ sym (append_assoc before t.text p.0)) p.3),
     )
 
 -- what stands behind a heading is the end of its text
-heading_rest : (text : Bytes) (arch : Arch) (name rest : Bytes) → Heading text arch name rest → drop (length text - length rest) text ≡ rest
-heading_rest text arch name rest h =
-    let none : length text - length text ≡ 0 = omega arith in
-    let word = Trivia-suffix h.2.0 in
-    let notes = Notes-suffix h.4 in
-    let first = Suffix-more text text (word.0 ++ arch_word arch) h.0 (ap (λ (k : ℕ). drop k text) none)
-    (word.1 ∙ sym (append_assoc word.0 (arch_word arch) h.0)) in
-    let second = Suffix-more text h.0 (h.3.blanks ++ name) h.1 first.1 (h.3.parts ∙ sym (append_assoc h.3.blanks name h.1)) in
-    (Suffix-more text h.1 notes.0 rest second.1 notes.1).1
+heading_rest : (text : Bytes) (arch : Arch) (name rest : Bytes) → Heading text arch name rest → Leaves text rest
+heading_rest text arch name rest h = Leaves-join (Trivia-suffix h.2.0) (Leaves-join (arch_word arch, refl)
+    (Leaves-join (h.3.blanks, h.3.parts) (Leaves-join (name, refl) (Notes-suffix h.4))))
 
 pub tokens_spans : (text : Bytes) (cells : List (List PlacedCell)) (has : HasCells text cells) → Spans text 0 has.tokens (length text)
-tokens_spans text cells has = Spans-earlier text 0 (length text - length has.rest) (length text) has.tokens (omega arith)
-    (stream_spans text has.rest has.tokens (heading_rest text has.arch has.name has.rest has.heading) has.stream)
+tokens_spans text cells has =
+    let front = heading_rest text has.arch has.name has.rest has.heading in
+    Spans-earlier text 0 (length front.0) (length text) has.tokens (omega arith) (stream_spans text front.0 has.rest has.tokens front.1 has.stream)

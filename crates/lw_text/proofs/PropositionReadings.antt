@@ -1,11 +1,12 @@
 -- What the grammar of propositions derives is what its reader reads from left to right.
 use Rattle.std.proofs.Common.{◌≡◌, false, [], ◌∷◌, ◌++◌, refl, sym, ap, ◌∙◌, subst, append_assoc, append-nil}
 use Rattle.lw_base.specs.Formula.{Formula, And, Or}
-use Rattle.lw_text.specs.Propositions.{Open, Close, Negation, Conjunction, Disjunction, Atom, Level, PartLevel, ConjunctionLevel, DisjunctionLevel, Derives}
-use Rattle.lw_text.specs.Propositions.{atom, negated, parens, part, and, conjunction, or, IsProposition}
-use Rattle.lw_text.specs.inner.LeftToRight as left_to_right
+use Rattle.lw_text.specs.Propositions.{Open, Close, Negation, Conjunction, Disjunction, Atom, Level}
+use Rattle.lw_text.specs.Propositions.{PartLevel, ConjunctionLevel, DisjunctionLevel, Derives, atom, negated}
+use Rattle.lw_text.specs.Propositions.{parens, part, and, conjunction, or, IsProposition}
 use Rattle.lw_text.specs.inner.LeftToRight.{begins_and, Nonterminal, Part, Ands, Ors, Reads, IsReadWhole}
 use Rattle.lw_text.proofs.Derivations.{Terminals, IsReadWhole-unique}
+use Rattle.lw_text.specs.inner.LeftToRight as left_to_right
 
 -- ---- what is derived is read
 

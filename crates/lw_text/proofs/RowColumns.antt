@@ -1,16 +1,15 @@
 -- Columns of rows.
-use Rattle.std.proofs.Common.{◌≡◌, ℕ, zero, suc, ◌+◌, ◌<◌, ◌≤◌, List, [], ◌∷◌, ◌++◌, length, map, take, slice_get, Option, Some, None, get_or, refl, sym, ap}
-use Rattle.std.proofs.Common.{◌∙◌, subst, arith}
-use Rattle.std.specs.Prelude.{All}
+use Rattle.std.proofs.Common.{◌≡◌, ℕ, zero, suc, ◌+◌, ◌<◌, ◌≤◌, List, [], ◌∷◌, ◌++◌, length, map, take}
+use Rattle.std.proofs.Common.{slice_get, Option, Some, None, get_or, refl, sym, ap, ◌∙◌, subst, arith, All}
+use Rattle.std.proofs.Common.{option_map}
 use Rattle.std.specs.List.{cons_option, range_with_len, AllByRecursion}
 use Rattle.std.proofs.lemmas.List.{take_more}
 use Rattle.std.proofs.lemmas.List.FromFn.{length-map-range_with_len}
 use Rattle.std.proofs.lemmas.List.Elements.{filter_map-append, All-from_recursion}
 use Rattle.std.proofs.lemmas.Option.{slice_get_read, slice_get_within, get_or_from_slice_get, slice_get-map}
-use Rattle.std.specs.Option.{option_map}
 use Rattle.lw_text.specs.declared.cell.Cell.{Cell}
 use Rattle.lw_text.specs.Rows.{column, columns}
-use Rattle.lw_base.proofs.api.Elements.{each_of}
+use Rattle.lw_base.proofs.api.Elements.{each_of, all_of_range}
 use Rattle.lw_text.specs.Places.{cell_texts, all_texts, placed_cell, placed_cells, height}
 use Rattle.lw_base.proofs.api.Lists.{get_some}
 
@@ -23,12 +22,8 @@ column-more rows i k row x lt is within at =
 
 -- ---- what each column is
 
-all_range : {X : Type 0} (Q : X → Type 0) (f : ℕ → X) (a n : ℕ) → ((k : ℕ) → k < a + n → Q (f k)) → AllByRecursion Q (map f (range_with_len a n))
-all_range Q f a zero h = tt
-all_range Q f a (suc n) h = (h a (omega arith), all_range Q f (a + 1) n (λ k lt. h k (omega (arith, lt))))
-
 all_columns : {X : Type 0} (Q : List X → Type 0) (n : ℕ) (rows : List (List X)) → ((k : ℕ) → k < n → Q (column rows k)) → All Q (columns n rows)
-all_columns Q n rows h = All-from_recursion Q (columns n rows) (all_range Q (column rows) 0 n (λ k lt. h k (omega (arith, lt))))
+all_columns Q n rows h = All-from_recursion Q (columns n rows) (all_of_range Q (column rows) 0 n (λ k le lt. h k (omega (arith, lt))))
 
 column-length : {X : Type 0} (n k : ℕ) (rows : List (List X)) → k < n → AllByRecursion (λ row. length row ≡ n) rows → length (column rows k) ≡ length rows
 column-length n k [] lt all = refl

@@ -1,11 +1,11 @@
 -- What registers and locations begin with, one further.
-use Rattle.std.proofs.Common.{◌≡◌, ℕ, zero, suc, ◌+◌, ◌<◌, ◌≤◌, Bool, true, false, List, [], ◌∷◌, ◌++◌, length, map, take, get_or, refl, sym, ap, ◌∙◌, arith}
-use Rattle.std.proofs.Common.{append_assoc, zero-add}
-use Rattle.std.specs.Prelude.{filter, if◌then◌else◌}
-use Rattle.std.specs.List.{flat_map, list_any, range_with_len}
+use Rattle.std.proofs.Common.{◌≡◌, ℕ, ◌+◌, ◌<◌, Bool, true, false, List, [], ◌∷◌, ◌++◌, length, map, take}
+use Rattle.std.proofs.Common.{get_or, refl, sym, ap, ◌∙◌, append_assoc, zero-add, filter, if◌then◌else◌}
+use Rattle.std.proofs.Common.{flat_map, map-id, append-nil}
+use Rattle.std.specs.List.{list_any, range_with_len}
 use Rattle.std.proofs.lemmas.List.Folds.{list_any_more, list_any_at}
 use Rattle.std.proofs.lemmas.Grind.{flat_map-append}
-use Rattle.std.proofs.lemmas.List.{take_more, take_all, append-nil, map_push}
+use Rattle.std.proofs.lemmas.List.{take_more, map_push}
 use Rattle.std.proofs.lemmas.List.Sums.{fold-append}
 use Rattle.std.proofs.lemmas.List.Elements.{filter-append}
 use Rattle.std.proofs.lemmas.List.FromFn.{map-range_with_len_more}
@@ -39,9 +39,6 @@ pub none_more : {X : Type 0} (p : X → Bool) (xs : List X) (i : ℕ) (x : X) �
     → list_any p (take i xs) ≡ false → list_any p (take (i + 1) xs) ≡ false
 none_more p xs i x lt is h none = list_any_more p xs i x lt ∙ rw (none, ← is, h) refl
 
-pub none_taken : {X : Type 0} (p : X → Bool) (xs : List X) (i : ℕ) → length xs ≤ i → list_any p (take i xs) ≡ false → list_any p xs ≡ false
-none_taken p xs i le none = ap (list_any p) (sym (take_all i xs le)) ∙ none
-
 pub some_at : {X : Type 0} (p : X → Bool) (xs : List X) (i : ℕ) (x : X) → i < length xs → x ≡ get_or xs i x → p x ≡ true → list_any p xs ≡ true
 some_at p xs i x lt is h = list_any_at p xs i x lt (ap p (sym is) ∙ h)
 
@@ -52,11 +49,8 @@ pub seen_no : {X : Type 0} (p : X → Bool) (x : X) (seen : List X) → p x ≡ 
 seen_no p x seen h = rw h (sym (append-nil seen))
 
 range-more : (a n : ℕ) → range_with_len a (n + 1) ≡ range_with_len a n ++ (a + n) ∷ []
-range-more a zero = let e : a ≡ a + 0 = omega arith in ap (λ (k : ℕ). k ∷ []) e
-range-more a (suc n) =
-    let e : (a + 1) + n ≡ a + suc n = omega arith in
-    let next : suc n + 1 ≡ suc (n + 1) = omega arith in
-    ap (range_with_len a) next ∙ ap (λ l. a ∷ l) (range-more (a + 1) n ∙ ap (λ (k : ℕ). range_with_len (a + 1) n ++ k ∷ []) e)
+range-more a n = sym (map-id (range_with_len a (n + 1))) ∙ map-range_with_len_more (λ k. k) a n (a + n) refl
+    ∙ ap (λ l. l ++ (a + n) ∷ []) (map-id (range_with_len a n))
 
 -- the registers of one more thread
 pub registers_more : (p : Seen → Bool) (seen after : List Seen) (n : ℕ) → seen ≡ filter p (all_registers n) → after ≡ seen ++ filter p (thread_registers n)

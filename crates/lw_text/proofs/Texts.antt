@@ -1,7 +1,7 @@
 -- What tests of texts say.
-use Rattle.std.proofs.Common.{◌≡◌, ℕ, zero, suc, ◌+◌, ◌<◌, ◌≤◌, true, false, List, [], ◌∷◌, drop, length, length-drop, get_or, refl, sym, ap, ◌∙◌, subst, arith}
-use Rattle.std.specs.Prelude.{codes}
-use Rattle.std.specs.Str.{bytes_eq}
+use Rattle.std.proofs.Common.{◌≡◌, ℕ, zero, suc, ◌+◌, ◌<◌, ◌≤◌, true, false, List, [], ◌∷◌, drop, length}
+use Rattle.std.proofs.Common.{length-drop, get_or, refl, sym, ap, ◌∙◌, subst, arith, add-one, drop-cons}
+use Rattle.std.proofs.Common.{codes, bytes_eq}
 use Rattle.std.proofs.lemmas.List.{drop_all, length-map}
 use Rattle.std.proofs.lemmas.Slice.Eq.{bytes_eq-Decides}
 use Rattle.lw_base.specs.Types.{Bytes, TokenList}
@@ -31,10 +31,7 @@ no_word_next w ts l h e = is_no_text w w (ap (begins_word w) (sym e) ∙ h) refl
 
 -- the next token of some
 pub token_next : (tokens : List Token) (next : ℕ) (t : Token) → next < length tokens → t ≡ get_or tokens next t → drop next tokens ≡ t ∷ drop (next + 1) tokens
-token_next [] next t lt e = absurd (omega arith)
-token_next (u ∷ tokens) zero t lt e = ap (λ x. x ∷ tokens) (sym e)
-token_next (u ∷ tokens) (suc next) t lt e = let k : suc next + 1 ≡ suc (next + 1) = omega arith in token_next tokens next t (omega (arith, lt)) e ∙ ap
-    (λ (n : ℕ). t ∷ drop n (u ∷ tokens)) (sym k)
+token_next tokens next t lt e = rw add-one (drop-cons tokens next t lt ∙ ap (λ x. x ∷ drop (suc next) tokens) (sym e))
 
 -- a word that is next is a token, and behind it is what is left without it
 pub word_next : (tokens : List Token) (next : ℕ) (w : Bytes) → begins_word w (texts (drop next tokens)) ≡ true
@@ -46,9 +43,6 @@ word_next (t ∷ tokens) (suc next) w h =
     let r = word_next tokens next w h in
     let k : suc (next + 1) ≡ suc next + 1 = omega arith in
     (omega (arith, r.0), r.1 ∙ ap (λ (n : ℕ). w ∷ texts (drop n (t ∷ tokens))) k, subst (λ (n : ℕ). Leaves (drop next tokens) (drop n (t ∷ tokens))) k r.2)
-
-pub none_left : (tokens : List Token) (next : ℕ) → next ≡ length tokens → texts (drop next tokens) ≡ []
-none_left tokens next e = ap texts (drop_all next tokens (omega (arith, e)))
 
 pub nothing_left : (tokens : List Token) (next : ℕ) → length tokens ≤ next → texts (drop next tokens) ≡ []
 nothing_left tokens next le = ap texts (drop_all next tokens le)

@@ -1,16 +1,15 @@
 -- A text has one row of tokens, each at one place.
-use Rattle.std.proofs.Common.{◌≡◌, ℕ, ◌+◌, ◌-◌, ◌<◌, ◌≤◌, false, List, [], ◌∷◌, ◌++◌, length, take, drop, Option, None, Some, refl, sym, ap, ◌∙◌, subst, arith}
-use Rattle.std.proofs.Common.{append_assoc, length-append, take-append-drop}
-use Rattle.std.specs.Prelude.{IfNone}
-use Rattle.std.proofs.lemmas.List.Prefix.{end_rest}
+use Rattle.std.proofs.Common.{◌≡◌, ℕ, ◌+◌, ◌<◌, false, List, [], ◌∷◌, ◌++◌, length, Option, None, Some, refl}
+use Rattle.std.proofs.Common.{sym, ap, ◌∙◌, subst, arith, length-append, IfNone}
 use Rattle.lw_base.specs.Types.{Bytes, TokenList}
 use Rattle.lw_text.specs.declared.token.Token.{Token}
+use Rattle.lw_text.specs.Lists.{Chain}
 use Rattle.lw_text.specs.Tokens.{begins_trivia, Trivia, IsToken, First, Tokens}
 use Rattle.lw_text.specs.PlacedTokens.{PlacedToken, texts_of_tokens, PlacedTokens}
 use Rattle.lw_text.specs.Spans.{texts}
 use Rattle.lw_text.specs.Places.{placed_tokens}
 use Rattle.lw_text.proofs.api.Places.{texts_placed}
-use Rattle.lw_text.proofs.TriviaLemmas.{Trivia-unique, Trivia-suffix}
+use Rattle.lw_text.proofs.TriviaLemmas.{Trivia-unique, Trivia-shorter}
 use Rattle.lw_text.proofs.Words.{token-unique, token_no_trivia, token_nonempty}
 
 pub First-unique : (text t r u s : Bytes) → First text t r → First text u s → (t ≡ u) × (r ≡ s)
@@ -35,27 +34,25 @@ Tokens-unique (t ∷ ts) (u ∷ us) text p q =
 
 -- ---- tokens that have been read
 
--- these tokens have been read, each at its place in a text of this length, and then comes rest
-abbrev pub Read : ℕ → Bytes → List PlacedToken → Bytes → Type 0
-Read len text [] rest = text ≡ rest
-Read len text (t ∷ ts) rest = (mid : Bytes) × First text t.text mid × (t.at + length t.text + length mid ≡ len) × Read len mid ts rest
+-- a token at its place in a text of this length
+abbrev pub Placed : ℕ → Bytes → PlacedToken → Bytes → Type 0
+Placed len text t mid = First text t.text mid × (t.at + length t.text + length mid ≡ len)
 
-pub Read-push : (len : ℕ) (ts : List PlacedToken) (text rest : Bytes) (t : PlacedToken) (more : Bytes) → Read len text ts rest → First rest t.text more
-    → t.at + length t.text + length more ≡ len → Read len text (ts ++ t ∷ []) more
-Read-push len [] text rest t more p q at = (more, subst (λ x. First x t.text more) (sym p) q, at, refl)
-Read-push len (u ∷ ts) text rest t more p q at = (p.0, p.1, p.2, Read-push len ts p.0 rest t more p.3 q at)
+-- these tokens have been read, each at its place, and then comes rest
+abbrev pub Read : ℕ → Bytes → List PlacedToken → Bytes → Type 0
+Read len text ts rest = Chain (Placed len) text ts rest
 
 pub Read-done : (len : ℕ) (ts : List PlacedToken) (text rest : Bytes) → Read len text ts rest → Trivia rest [] → PlacedTokens len text ts
 Read-done len [] text rest p g = subst (λ x. Trivia x []) (sym p) g
-Read-done len (u ∷ ts) text rest p g = (p.0, p.1, p.2, Read-done len ts p.0 rest p.3 g)
+Read-done len (u ∷ ts) text rest p g = (p.0, p.1.0, p.1.1, Read-done len ts p.0 rest p.2 g)
 
 -- where the rest has no row of tokens, the text has none
 pub Read-fault : (len : ℕ) (ts : List PlacedToken) (text rest : Bytes) → Read len text ts rest → ((us : TokenList) → Tokens rest us → ⊥)
     → (us : TokenList) → Tokens text us → ⊥
 Read-fault len [] text rest p never us q = never us (subst (λ x. Tokens x us) p q)
-Read-fault len (t ∷ ts) text rest p never [] q = no_first text t.text p.0 q p.1
+Read-fault len (t ∷ ts) text rest p never [] q = no_first text t.text p.0 q p.1.0
 Read-fault len (t ∷ ts) text rest p never (u ∷ us) q =
-    Read-fault len ts p.0 rest p.3 never us (subst (λ x. Tokens x us) (sym (First-unique text t.text p.0 u q.0 p.1 q.1).1) q.2)
+    Read-fault len ts p.0 rest p.2 never us (subst (λ x. Tokens x us) (sym (First-unique text t.text p.0 u q.0 p.1.0 q.1).1) q.2)
 
 -- ---- what the reader of the next token owes
 
@@ -75,20 +72,10 @@ pub Tokens-none : (text : Bytes) → (Trivia text [] → ⊥) → ((t rest : Byt
 Tokens-none text no_end no_token [] q = no_end q
 Tokens-none text no_end no_token (t ∷ ts) q = no_token t q.0 q.1
 
--- a rest of a rest is a rest
-pub Suffix-more : (whole rest front next : Bytes) → drop (length whole - length rest) whole ≡ rest → rest ≡ front ++ next
-    → (length next ≤ length whole) × (drop (length whole - length next) whole ≡ next)
-Suffix-more whole rest front next s e =
-    let k = length whole - length rest in
-    let parts : whole ≡ (take k whole ++ front) ++ next = sym (take-append-drop k whole) ∙ ap (λ x. take k whole ++ x) (s ∙ e) ∙ sym
-    (append_assoc (take k whole) front next) in
-    (omega (arith, ap length parts, length-append (take k whole ++ front) next), end_rest whole next (take k whole ++ front) parts)
-
 pub First-shorter : (text t rest : Bytes) → First text t rest → length rest < length text
 First-shorter text t rest f =
-    let s = Trivia-suffix f.0 in
     let n = token_nonempty t rest f.1 in
-    omega (arith, ap length s.1, length-append s.0 (t ++ rest), length-append t rest)
+    omega (arith, Trivia-shorter f.0, length-append t rest)
 
 -- ---- tokens with and without places
 

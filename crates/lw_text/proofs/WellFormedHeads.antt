@@ -1,9 +1,8 @@
 -- The head of a text's frame is well-formed.
-use Rattle.std.proofs.Common.{◌≡◌, ℕ, ◌<◌, inl, inr, Bool, true, false, List, [], ◌∷◌, ◌++◌, length, map, refl, sym, ap, ◌∙◌, subst, arith}
-use Rattle.std.specs.Prelude.{fold, if◌then◌else◌, codes}
+use Rattle.std.proofs.Common.{◌≡◌, ℕ, ◌<◌, inl, inr, Bool, true, false, List, [], ◌∷◌, ◌++◌, length, map}
+use Rattle.std.proofs.Common.{refl, sym, ap, ◌∙◌, subst, arith, fold, if◌then◌else◌, codes}
 use Rattle.std.specs.List.{AllByRecursion}
 use Rattle.std.proofs.lemmas.List.{length-map}
-use Rattle.std.proofs.lemmas.List.Elements.{filter_map-append}
 use Rattle.std.proofs.lemmas.List.FromFn.{length-map-range_with_len}
 use Rattle.lw_base.specs.declared.head.Seen.{Seen}
 use Rattle.lw_base.specs.declared.head.Seen.TheVariants.{Location}
@@ -12,24 +11,25 @@ use Rattle.lw_base.specs.Propositions.{formula_of}
 use Rattle.lw_base.specs.WellFormed.{IsWordNumber, IsSeen, SpeaksOf, IsWellFormedHead}
 use Rattle.lw_base.specs.Names.{IsLocation, IsTestName}
 use Rattle.lw_base.specs.Tables.{contains_name, with_name, with_names}
-use Rattle.lw_base.proofs.api.GrowingTables.{once-along, index_of-within, with_names-append}
+use Rattle.lw_base.proofs.api.GrowingTables.{once-along, index_of-within}
 use Rattle.lw_base.specs.declared.head.Arch.{Arch}
 use Rattle.lw_text.specs.Lists.{Ended}
-use Rattle.lw_text.specs.Sites.{SiteSyntax, InMemory, InThread, IsSite, ThreadExists, site_names, seen_in}
-use Rattle.lw_text.specs.Propositions.{Terminal, Open, Close, Negation, Conjunction, Disjunction, Atom, Level, Derives, atom, negated, parens, part, and}
-use Rattle.lw_text.specs.Propositions.{conjunction, or, IsProposition}
-use Rattle.lw_text.specs.Conditions.{AtomSyntax, Always, Never, Holds, IsTerminal, Terminals, Listed, site_of, sites_in, resolved}
-use Rattle.lw_text.specs.Frames.{EntrySyntax, IsEntry, Block, word_of, table, TestSyntax, Parts, TestFrame, HasFrame, head_of_syntax, sites_of}
+use Rattle.lw_text.specs.Sites.{with_sites, SiteSyntax, InMemory, InThread, IsSite, ThreadExists, site_names}
+use Rattle.lw_text.specs.Sites.{seen_in}
+use Rattle.lw_text.specs.Propositions.{Terminal, Close, Conjunction, Disjunction, Atom, Level, Derives, atom}
+use Rattle.lw_text.specs.Propositions.{negated, parens, part, and, conjunction, or, IsProposition}
+use Rattle.lw_text.specs.Conditions.{AtomSyntax, Holds, IsTerminal, Terminals, Listed, sites_in, resolved}
+use Rattle.lw_text.specs.Frames.{EntrySyntax, IsEntry, Block, word_of, table, TestSyntax, Parts, TestFrame}
+use Rattle.lw_text.specs.Frames.{HasFrame, head_of_syntax, sites_of}
 use Rattle.lw_base.specs.SeenLists.{same_seen, thread_registers, all_registers, locations}
-use Rattle.lw_text.specs.Headings.{Heading}
 use Rattle.lw_text.specs.declared.parts.Body.{Body}
 use Rattle.lw_text.specs.inner.Resolved.{HasSyntax, resolved_head}
-use Rattle.lw_base.proofs.api.Elements.{all_append, all_parts, all_filter, all_of_range, all_mapped}
+use Rattle.lw_base.proofs.api.Elements.{all_append, all_map, all_parts, all_filter, all_of_range, all_mapped}
 use Rattle.lw_base.proofs.api.SeenLists.{ascending_filter, all_seen, all_ascending}
+use Rattle.lw_text.proofs.api.ConditionTokens.{all_names, all_sites}
 use Rattle.lw_text.proofs.api.PropositionNodes.{proposition_nodes, resolved_single, resolved_count}
 use Rattle.lw_text.proofs.ResolvedHeads.{head_made}
-use Rattle.lw_text.proofs.PropositionRows.{ThreadExists as IsNamed, AllThere, there_now, all_more}
-use Rattle.lw_text.proofs.Readings.{site_names-append}
+use Rattle.lw_text.proofs.PropositionRows.{AllThere, all_now}
 use Rattle.lw_text.proofs.Whole.{header_some, table_parts}
 
 -- ---- names
@@ -57,12 +57,8 @@ listed_right arch ts rest ss (inl p) = ended_right (IsSite arch) IsRight (site_r
 listed_right arch ts rest ss (inr p) = subst (AllByRecursion IsRight) (sym p.1) tt
 
 block_right : (arch : Arch) (ts rest : List (List ℕ)) (es : List EntrySyntax) → Block arch ts es rest → AllByRecursion IsRight (sites_of es)
-block_right arch ts rest es b = go es (ended_right (IsEntry arch) (λ e. IsRight e.site) (λ ts rest e p. site_right arch ts p.0 e.site p.1) (codes ";")
-    (codes "}") es b.0 rest b.2)
-  where
-    go : (es : List EntrySyntax) → AllByRecursion (λ e. IsRight e.site) es → AllByRecursion IsRight (sites_of es)
-    go [] h = tt
-    go (e ∷ es) h = (h.0, go es h.1)
+block_right arch ts rest es b = all_map IsRight (λ e. e.site) es (ended_right (IsEntry arch) (λ e. IsRight e.site)
+    (λ ts rest e p. site_right arch ts p.0 e.site p.1) (codes ";") (codes "}") es b.0 rest b.2)
 
 -- ---- words
 
@@ -89,45 +85,17 @@ first_word names es h s = last_word names s es 0 h (omega arith)
 
 -- a terminal's site is right, its thread is there, and its number is a word
 abbrev IsFit : ℕ → Terminal AtomSyntax → Type 0
-IsFit threads Open = Unit {0}
-IsFit threads Close = Unit {0}
-IsFit threads Negation = Unit {0}
-IsFit threads Conjunction = Unit {0}
-IsFit threads Disjunction = Unit {0}
-IsFit threads (Atom Always) = Unit {0}
-IsFit threads (Atom Never) = Unit {0}
 IsFit threads (Atom (Holds s n)) = IsRight s × ThreadExists threads s × IsWordNumber n
+IsFit threads _ = Unit {0}
 
 terminal_fit : (arch : Arch) (threads : ℕ) (ts rest : List (List ℕ)) (s : Terminal AtomSyntax) → IsTerminal arch threads ts s rest → IsFit threads s
-terminal_fit arch threads ts rest Open p = tt
-terminal_fit arch threads ts rest Close p = tt
-terminal_fit arch threads ts rest Negation p = tt
-terminal_fit arch threads ts rest Conjunction p = tt
-terminal_fit arch threads ts rest Disjunction p = tt
-terminal_fit arch threads ts rest (Atom Always) p = tt
-terminal_fit arch threads ts rest (Atom Never) p = tt
 terminal_fit arch threads ts rest (Atom (Holds s n)) p = (site_right arch ts p.0 s p.1, p.2, p.3.2.0)
+terminal_fit arch threads ts rest _ p = tt
 
 terminals_fit : (arch : Arch) (threads : ℕ) (ts : List (List ℕ)) (ss : List (Terminal AtomSyntax)) → Terminals arch threads ts ss
     → AllByRecursion (IsFit threads) ss
 terminals_fit arch threads ts [] p = tt
 terminals_fit arch threads ts (s ∷ ss) p = (terminal_fit arch threads ts p.0 s p.1, terminals_fit arch threads p.0 ss p.2)
-
-sites_right : (threads : ℕ) (ss : List (Terminal AtomSyntax)) → AllByRecursion (IsFit threads) ss → AllByRecursion IsRight (sites_in ss)
-sites_right threads [] h = tt
-sites_right threads (Open ∷ ss) h = sites_right threads ss h.1
-sites_right threads (Close ∷ ss) h = sites_right threads ss h.1
-sites_right threads (Negation ∷ ss) h = sites_right threads ss h.1
-sites_right threads (Conjunction ∷ ss) h = sites_right threads ss h.1
-sites_right threads (Disjunction ∷ ss) h = sites_right threads ss h.1
-sites_right threads (Atom Always ∷ ss) h = sites_right threads ss h.1
-sites_right threads (Atom Never ∷ ss) h = sites_right threads ss h.1
-sites_right threads (Atom (Holds s n) ∷ ss) h = (h.0.0, sites_right threads ss h.1)
-
-names_right : (ss : List SiteSyntax) → AllByRecursion IsRight ss → AllByRecursion IsLocation (site_names ss)
-names_right [] h = tt
-names_right (InMemory x ∷ ss) h = (h.0, names_right ss h.1)
-names_right (InThread t r ∷ ss) h = names_right ss h.1
 
 table_right : (names ns : List (List ℕ)) → AllByRecursion IsLocation names → AllByRecursion IsLocation ns → AllByRecursion IsLocation (with_names names ns)
 table_right names [] h k = h
@@ -140,12 +108,8 @@ table_right names (n ∷ ns) h k = table_right (with_name names n) ns (one (cont
 -- ---- the proposition
 
 abbrev IsSpoken : ℕ → ℕ → Terminal Formula → Type 0
-IsSpoken threads locs Open = Unit {0}
-IsSpoken threads locs Close = Unit {0}
-IsSpoken threads locs Negation = Unit {0}
-IsSpoken threads locs Conjunction = Unit {0}
-IsSpoken threads locs Disjunction = Unit {0}
 IsSpoken threads locs (Atom p) = SpeaksOf threads locs p
+IsSpoken threads locs _ = Unit {0}
 
 module _ (threads locs : ℕ) where
   says_speaks : {k : Level} {ss : List (Terminal Formula)} {p : Formula} → Derives k ss p → AllByRecursion (IsSpoken threads locs) ss → SpeaksOf threads locs p
@@ -157,37 +121,13 @@ module _ (threads locs : ℕ) where
   says_speaks (conjunction d) h = says_speaks d h
   says_speaks (or {ss} {ts} d e) h = let k = all_parts (IsSpoken threads locs) ss (Disjunction ∷ ts) h in (says_speaks d k.0, says_speaks e k.1.1)
 
-terminal_spoken : (threads : ℕ) (names : List (List ℕ)) (s : Terminal AtomSyntax) → IsFit threads s → IsNamed names s
-    → IsSpoken threads (length names) (resolved names s)
-terminal_spoken threads names Open f n = tt
-terminal_spoken threads names Close f n = tt
-terminal_spoken threads names Negation f n = tt
-terminal_spoken threads names Conjunction f n = tt
-terminal_spoken threads names Disjunction f n = tt
-terminal_spoken threads names (Atom Always) f n = tt
-terminal_spoken threads names (Atom Never) f n = tt
-terminal_spoken threads names (Atom (Holds (InMemory x) w)) f n = (index_of-within names x n, f.2)
-terminal_spoken threads names (Atom (Holds (InThread t r) w)) f n = (f.1, f.0, f.2)
-
 terminals_spoken : (threads : ℕ) (names : List (List ℕ)) (ss : List (Terminal AtomSyntax)) → AllByRecursion (IsFit threads) ss → AllThere names ss
     → AllByRecursion (IsSpoken threads (length names)) (map (resolved names) ss)
 terminals_spoken threads names [] f n = tt
-terminals_spoken threads names (s ∷ ss) f n = (terminal_spoken threads names s f.0 n.0, terminals_spoken threads names ss f.1 n.1)
-
-names_cons : (s : Terminal AtomSyntax) (ss : List (Terminal AtomSyntax))
-    → site_names (sites_in (s ∷ ss)) ≡ site_names (sites_in (s ∷ [])) ++ site_names (sites_in ss)
-names_cons s ss = ap site_names (filter_map-append site_of (s ∷ []) ss) ∙ site_names-append (sites_in (s ∷ [])) (sites_in ss)
-
-terminals_named : (first : List (List ℕ)) (ss : List (Terminal AtomSyntax)) → AllThere (with_names first (site_names (sites_in ss))) ss
-terminals_named first [] = tt
-terminals_named first (s ∷ ss) =
-    let now = with_names first (site_names (sites_in (s ∷ []))) in
-    let e : with_names now (site_names (sites_in ss)) ≡ with_names first (site_names (sites_in (s ∷ ss))) = sym
-    (ap (with_names first) (names_cons s ss) ∙ with_names-append first (site_names (sites_in (s ∷ []))) (site_names (sites_in ss))) in (
-      subst (λ ns. IsNamed ns s) e (all_more now (site_names (sites_in ss)) (s ∷ []) (there_now first s, tt)).0,
-      subst (λ ns. AllThere ns ss) e
-          (terminals_named now ss),
-    )
+terminals_spoken threads names (Atom (Holds (InMemory x) w) ∷ ss) f n =
+    ((index_of-within names x n.0, f.0.2), terminals_spoken threads names ss f.1 n.1)
+terminals_spoken threads names (Atom (Holds (InThread t r) w) ∷ ss) f n = ((f.0.1, f.0.0, f.0.2), terminals_spoken threads names ss f.1 n)
+terminals_spoken threads names (_ ∷ ss) f n = (tt, terminals_spoken threads names ss f.1 n)
 
 -- ---- the head
 
@@ -198,9 +138,9 @@ head_well_formed arch ts name s p allowed parts whole =
     let fit = terminals_fit arch s.threads c.behind_quant s.terminals c.says in
     let right = all_append IsRight (sites_of s.entries ++ s.listed) (sites_in s.terminals)
     (all_append IsRight (sites_of s.entries) s.listed (block_right arch ts parts.behind_block s.entries parts.block)
-    (listed_right arch parts.behind_rows c.behind_list s.listed c.lists)) (sites_right s.threads s.terminals fit) in
+    (listed_right arch parts.behind_rows c.behind_list s.listed c.lists)) (all_sites (IsFit s.threads) IsRight (λ s n h. h.0) s.terminals fit) in
     let named = subst (λ ns. AllThere ns s.terminals) (sym (table_parts s))
-    (terminals_named (with_names (with_names [] (site_names (sites_of s.entries))) (site_names s.listed)) s.terminals) in
+    (all_now (with_sites (with_sites [] (sites_of s.entries)) s.listed) (site_names (sites_in s.terminals))) in
     let begins = first_word (table s) s.entries (block_words arch ts parts.behind_block s.entries parts.block) in
     record {
       name = allowed;
@@ -209,7 +149,7 @@ head_well_formed arch ts name s p allowed parts whole =
       table = record {
         few = parts.few_names;
         all = table_right [] (site_names (sites_of s.entries ++ s.listed ++ sites_in s.terminals)) tt
-            (names_right (sites_of s.entries ++ s.listed ++ sites_in s.terminals) right);
+            (all_names IsRight IsLocation (λ x h. h) (sites_of s.entries ++ s.listed ++ sites_in s.terminals) right);
         once = once-along [] (site_names (sites_of s.entries ++ s.listed ++ sites_in s.terminals)) tt;
       };
       regs = length-map-range_with_len (λ t. map (word_of (table s) s.entries) (thread_registers t)) 0 s.threads;
@@ -226,12 +166,9 @@ head_well_formed arch ts name s p allowed parts whole =
       condition = says_speaks s.threads (length (table s)) whole (terminals_spoken s.threads (table s) s.terminals fit named);
     }
 
-heading_name : (text : List ℕ) (arch : Arch) (name rest : List ℕ) → Heading text arch name rest → IsTestName name
-heading_name text arch name rest h = h.3.is_name
-
 pub frame_well_formed : (text : List ℕ) (f : TestFrame) → HasFrame text f → IsWellFormedHead f.head
 frame_well_formed text f h = subst (λ (g : TestFrame). IsWellFormedHead g.head) (sym h.made)
-    (head_well_formed h.arch h.tokens h.name h.syntax h.condition (heading_name text h.arch h.name h.rest h.heading) h.parts h.proposition)
+    (head_well_formed h.arch h.tokens h.name h.syntax h.condition h.heading.3.is_name h.parts h.proposition)
 
 -- The proposition of a body in memory, by the table that its text gives.
 pub body_proposition : {A : Type 0} (arch : Arch) (ts : List (List ℕ)) (b : Body A) (says : HasSyntax arch ts b)

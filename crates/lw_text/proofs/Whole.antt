@@ -1,53 +1,53 @@
 -- A text's frame is that of its one heading and its one row of tokens.
-use Rattle.std.proofs.Common.{◌≡◌, ℕ, zero, suc, ◌≤◌, true, false, List, [], ◌∷◌, ◌++◌, length, map, refl, sym, ap, ◌∙◌, subst, arith}
-use Rattle.std.specs.Prelude.{Option, Some, None, Result, Ok, Err, OnErr, IfNone, OnSome, codes, filter, All}
+use Rattle.std.proofs.Common.{◌≡◌, ℕ, zero, suc, ◌≤◌, true, false, List, [], ◌∷◌, ◌++◌, length, map, refl}
+use Rattle.std.proofs.Common.{sym, ap, ◌∙◌, subst, arith, Option, Some, None, IfNone, OnSome, codes, All}
 use Rattle.std.specs.List.{AllByRecursion, list_all}
 use Rattle.std.proofs.lemmas.List.{length-map}
 use Rattle.std.proofs.lemmas.List.Elements.{All-from_recursion}
-use Rattle.std.proofs.lemmas.Bool.{and_parts}
 use Rattle.lw_base.specs.Types.{Bytes, NameTable, TokenList, CellGrid}
 use Rattle.lw_base.specs.declared.head.Arch.{Arch}
 use Rattle.lw_base.specs.declared.head.Quant.{Quant}
 use Rattle.lw_base.specs.declared.head.Quant.TheVariants.{Exists, NotExists, Forall}
 use Rattle.lw_base.specs.Formula.{Formula}
-use Rattle.lw_base.specs.Tables.{with_names}
-use Rattle.lw_base.proofs.api.GrowingTables.{with_names-append, with_names-longer}
+use Rattle.lw_base.proofs.api.Elements.{all_map, all_weaker}
+use Rattle.lw_text.proofs.api.Spelling.{all_pass}
+use Rattle.lw_base.proofs.api.GrowingTables.{with_names-longer}
 use Rattle.lw_text.specs.declared.cell.Cell.{Cell}
+use Rattle.lw_text.specs.declared.cursor.Cursor.{Cursor}
 use Rattle.lw_text.specs.declared.site.Site.{Site as MadeSite}
-use Rattle.lw_text.specs.declared.site.Site.TheVariants as made
 use Rattle.lw_text.specs.declared.block.Entry.{Entry as MadeEntry}
-use Rattle.lw_text.specs.declared.fault.Refusal.{Refusal}
 use Rattle.lw_text.specs.Tokens.{Tokens}
 use Rattle.lw_text.specs.Headings.{Heading}
 use Rattle.lw_text.specs.Lists.{Until}
 use Rattle.lw_text.specs.Rows.{Header, Row, Rows, begins_stop}
-use Rattle.lw_text.specs.Sites.{SiteSyntax, ThreadExists, site_names}
-use Rattle.lw_text.specs.Propositions.{Terminal, is_node, IsProposition}
-use Rattle.lw_text.specs.Conditions.{AtomSyntax, Listed, Quantified, Terminals, Condition, begins_word, sites_in, resolved}
-use Rattle.lw_text.specs.Frames.{EntrySyntax, sites_of, Block, TestSyntax, table, Parts, IsNoTest, TestFrame, HasFrame}
+use Rattle.lw_text.specs.Sites.{with_sites, HasRoomFor, SiteSyntax, ThreadExists, site_names}
+use Rattle.lw_text.specs.Propositions.{HasFewNodes, Terminal, IsProposition}
+use Rattle.lw_text.specs.Conditions.{AtomSyntax, Quantified, Terminals, Condition, begins_word, sites_in}
+use Rattle.lw_text.specs.Conditions.{resolved}
+use Rattle.lw_text.specs.Frames.{EntrySyntax, sites_of, Block, TestSyntax, table, Parts, IsNoTest, TestFrame}
+use Rattle.lw_text.specs.Frames.{HasFrame}
 use Rattle.lw_text.specs.Places.{cell_texts, all_texts}
+use Rattle.lw_text.specs.Views.{left}
 use Rattle.lw_text.specs.inner.Resolved.{named, named_entry, thread_exists}
+use Rattle.lw_text.specs.inner.Taken.{TakenList}
 use Rattle.lw_text.proofs.Blocks.{Block-unique}
 use Rattle.lw_text.proofs.Cells.{Rows-unique}
 use Rattle.lw_text.proofs.Headers.{Names-unique}
 use Rattle.lw_text.proofs.Headings.{Heading-unique}
 use Rattle.lw_text.proofs.Listings.{Listed-unique}
-use Rattle.lw_text.proofs.Readings.{site_names-append}
+use Rattle.lw_text.proofs.Readings.{with_sites-append}
 use Rattle.lw_text.proofs.TerminalLists.{Terminals-unique}
 use Rattle.lw_text.proofs.Texts.{is_no_text, no_word_next, same_front}
 use Rattle.lw_text.proofs.TokenRows.{Tokens-unique}
+use Rattle.lw_text.specs.declared.site.Site.TheVariants as made
 
 -- ---- the table of names
 
-pub table_parts : (s : TestSyntax) → table s ≡ with_names (with_names (with_names [] (site_names (sites_of s.entries))) (site_names s.listed))
-    (site_names (sites_in s.terminals))
-table_parts s =
-    ap (with_names []) (site_names-append (sites_of s.entries ++ s.listed) (sites_in s.terminals) ∙ ap (λ l. l ++ site_names (sites_in s.terminals))
-    (site_names-append (sites_of s.entries) s.listed))
-    ∙ with_names-append [] (site_names (sites_of s.entries) ++ site_names s.listed) (site_names (sites_in s.terminals))
-    ∙ ap (λ ns. with_names ns (site_names (sites_in s.terminals))) (with_names-append [] (site_names (sites_of s.entries)) (site_names s.listed))
+pub table_parts : (s : TestSyntax) → table s ≡ with_sites (with_sites (with_sites [] (sites_of s.entries)) s.listed) (sites_in s.terminals)
+table_parts s = with_sites-append [] (sites_of s.entries ++ s.listed) (sites_in s.terminals)
+    ∙ ap (λ ns. with_sites ns (sites_in s.terminals)) (with_sites-append [] (sites_of s.entries) s.listed)
 
-pub sites_of_block : (names : NameTable) (es : List MadeEntry) → sites_of (map (named_entry names) es) ≡ map (λ e. named names e.site) es
+sites_of_block : (names : NameTable) (es : List MadeEntry) → sites_of (map (named_entry names) es) ≡ map (λ e. named names e.site) es
 sites_of_block names [] = refl
 sites_of_block names (e ∷ es) = ap (λ l. named names e.site ∷ l) (sites_of_block names es)
 
@@ -63,10 +63,8 @@ one_there threads names (made.Register t r) h = grind arith
 
 pub all_there : (threads : ℕ) (names : NameTable) (es : List MadeEntry) → list_all (λ e. thread_exists threads e.site) es ≡ true
     → AllByRecursion (λ e. ThreadExists threads e.site) (map (named_entry names) es)
-all_there threads names [] h = tt
-all_there threads names (e ∷ es) h =
-    let k = and_parts (thread_exists threads e.site) (list_all (λ e. thread_exists threads e.site) es) h in
-    (there_one threads names e.site k.0, all_there threads names es k.1)
+all_there threads names es h = all_map (λ e. ThreadExists threads e.site) (named_entry names) es (all_weaker (λ e. thread_exists threads e.site ≡ true)
+    (λ e. ThreadExists threads (named names e.site)) (λ e. there_one threads names e.site) es (all_pass (λ e. thread_exists threads e.site) es h))
 
 pub there_all : (threads : ℕ) (names : NameTable) (es : List MadeEntry) → AllByRecursion (λ e. ThreadExists threads e.site) (map (named_entry names) es)
     → list_all (λ e. thread_exists threads e.site) es ≡ true
@@ -76,151 +74,117 @@ there_all threads names (e ∷ es) h = rw (one_there threads names e.site h.0, t
 -- ---- the quantifier
 
 pub Quantified-unique : (ts : TokenList) (p q : Quant) (r s : TokenList) → Quantified ts p r → Quantified ts q s → (p ≡ q) × (r ≡ s)
-Quantified-unique ts Exists Exists r s e f = (refl, cc)
 Quantified-unique ts Exists NotExists r s e f = absurd (let k : codes "exists" ≡ codes "~" = cc in is_no_text (codes "exists") (codes "~") refl k)
 Quantified-unique ts Exists Forall r s e f = absurd (let k : codes "exists" ≡ codes "forall" = cc in is_no_text (codes "exists") (codes "forall") refl k)
 Quantified-unique ts NotExists Exists r s e f = absurd (let k : codes "exists" ≡ codes "~" = cc in is_no_text (codes "exists") (codes "~") refl k)
-Quantified-unique ts NotExists NotExists r s e f = (refl, cc)
 Quantified-unique ts NotExists Forall r s e f = absurd (let k : codes "forall" ≡ codes "~" = cc in is_no_text (codes "forall") (codes "~") refl k)
 Quantified-unique ts Forall Exists r s e f = absurd (let k : codes "exists" ≡ codes "forall" = cc in is_no_text (codes "exists") (codes "forall") refl k)
 Quantified-unique ts Forall NotExists r s e f = absurd (let k : codes "forall" ≡ codes "~" = cc in is_no_text (codes "forall") (codes "~") refl k)
-Quantified-unique ts Forall Forall r s e f = (refl, cc)
+Quantified-unique ts _ _ r s e f = (refl, cc)
 
--- ---- where the block and the header end early
+-- ---- where the block ends early
 
--- where nothing of the front is there, no parts are
-pub no_front : (arch : Arch) (ts : TokenList) → ((es : List EntrySyntax) (n : ℕ) (mid rest : TokenList) → Block arch ts es mid → Header mid n rest
-    → AllByRecursion (λ e. ThreadExists n e.site) es → length (with_names [] (site_names (sites_of es))) ≤ 8 → ⊥) → (s : TestSyntax) → Parts arch ts s → ⊥
-no_front arch ts never s p =
-    never s.entries s.threads p.behind_block p.behind_header p.block p.header p.there
-    (omega (
-      arith,
-      p.few_names,
-      ap length (table_parts s),
-      with_names-longer (with_names [] (site_names (sites_of s.entries)))
-          (site_names s.listed),
-      with_names-longer (with_names (with_names [] (site_names (sites_of s.entries))) (site_names s.listed))
-          (site_names (sites_in s.terminals)),
-    ))
-
-module _ (arch : Arch) (ts a : TokenList) (entries : List EntrySyntax) (block : Block arch ts entries a) where
-  pub no_header : ((n : ℕ) (rest : TokenList) → Header a n rest → ⊥) → (es : List EntrySyntax) (n : ℕ) (mid rest : TokenList) → Block arch ts es mid
-      → Header mid n rest → ⊥
-  no_header never es n mid rest b h = never n rest (subst (λ l. Header l n rest) (Block-unique arch ts es entries mid a b block).1 h)
-
-  pub no_thread : (n : ℕ) (b : TokenList) → Header a n b → (names : NameTable) (made : List MadeEntry) → entries ≡ map (named_entry names) made
-      → list_all (λ e. thread_exists n e.site) made ≡ false → (es : List EntrySyntax) (m : ℕ) (mid rest : TokenList) → Block arch ts es mid
-      → Header mid m rest → AllByRecursion (λ e. ThreadExists m e.site) es → ⊥
-  no_thread n b header names made is none es m mid rest c h there =
-      let e = Block-unique arch ts es entries mid a c block in
-      let u = Names-unique 0 m n a rest b (subst (λ l. Header l m rest) e.1 h).0 header.0 in
-      let all = there_all n names made (subst (λ l. AllByRecursion (λ e. ThreadExists n e.site) l) (e.0 ∙ is)
-      (subst (λ k. AllByRecursion (λ e. ThreadExists k e.site) es) u.0 there)) in
-      cc
+-- the names of the block have room
+pub few_first : (arch : Arch) (ts : TokenList) (s : TestSyntax) → Parts arch ts s → HasRoomFor [] (sites_of s.entries)
+few_first arch ts s p = omega (
+  arith,
+  p.few_names,
+  ap length (table_parts s),
+  with_names-longer (with_sites [] (sites_of s.entries)) (site_names s.listed),
+  with_names-longer (with_sites (with_sites [] (sites_of s.entries)) s.listed) (site_names (sites_in s.terminals)),
+)
 
 -- ---- where the condition ends early
 
-module _ (arch : Arch) (threads : ℕ) (ts first : TokenList) where
-  pub no_list : ((ss : List SiteSyntax) (rest : TokenList) → Listed arch ts ss rest → AllByRecursion (ThreadExists threads) ss
-      → length (with_names first (site_names ss)) ≤ 8 → ⊥) → (all : List SiteSyntax) (q : Quant) (ss : List (Terminal AtomSyntax))
-      → Condition arch threads ts all q ss → length (with_names (with_names first (site_names all)) (site_names (sites_in ss))) ≤ 8 → ⊥
-  no_list never all q ss c few = never all c.behind_list c.lists c.there
-      (omega (arith, few, with_names-longer (with_names first (site_names all)) (site_names (sites_in ss))))
-
-  module _ (listed : List SiteSyntax) (d : TokenList) (lists : Listed arch ts listed d) where
-    pub no_quant : ((q : Quant) (rest : TokenList) → Quantified d q rest → ⊥) → (all : List SiteSyntax) (q : Quant) (ss : List (Terminal AtomSyntax))
-        → Condition arch threads ts all q ss → ⊥
-    no_quant never all q ss c =
-        let u = Listed-unique arch ts all listed c.behind_list d c.lists lists in
-        never q c.behind_quant (subst (λ l. Quantified l q c.behind_quant) u.1 c.quantifies)
-
-    module _ (quant : Quant) (e : TokenList) (quantifies : Quantified d quant e) (names : NameTable)
-        (is_names : names ≡ with_names first (site_names listed)) where
-      pub no_terminals : ((ss : List (Terminal AtomSyntax)) (p : Formula) → Terminals arch threads e ss
-          → length (with_names names (site_names (sites_in ss))) ≤ 8 → length (filter is_node ss) ≤ 256
-          → IsProposition (map (resolved (with_names names (site_names (sites_in ss)))) ss) p → ⊥)
-          → (all : List SiteSyntax) (q : Quant) (ss : List (Terminal AtomSyntax)) (p : Formula) → Condition arch threads ts all q ss
-          → length (with_names (with_names first (site_names all)) (site_names (sites_in ss))) ≤ 8 → length (filter is_node ss) ≤ 256
-          → IsProposition (map (resolved (with_names (with_names first (site_names all)) (site_names (sites_in ss)))) ss) p → ⊥
-      no_terminals never all q ss p c few nodes whole =
-          let u = Listed-unique arch ts all listed c.behind_list d c.lists lists in
-          let v = Quantified-unique d q quant c.behind_quant e (subst (λ l. Quantified l q c.behind_quant) u.1 c.quantifies) quantifies in
-          let same : with_names first (site_names all) ≡ names = ap (λ l. with_names first (site_names l)) u.0 ∙ sym is_names in
-          never ss p (subst (λ l. Terminals arch threads l ss) v.1 c.says)
-          (subst (λ ns. length (with_names ns (site_names (sites_in ss))) ≤ 8) same few) nodes
-          (subst (λ ns. IsProposition (map (resolved (with_names ns (site_names (sites_in ss)))) ss) p) same whole)
+-- behind its list and its quantifier there are its terminals, with the names of the list
+pub no_terminals : {arch : Arch} {threads : ℕ} {before behind : Cursor} {first names : NameTable} {made : List MadeSite}
+    → TakenList arch threads before behind first names made → (quant : Quant) (end : TokenList) → Quantified (left behind) quant end
+    → ((ss : List (Terminal AtomSyntax)) (p : Formula) → Terminals arch threads end ss → HasRoomFor names (sites_in ss) → HasFewNodes ss
+    → IsProposition (map (resolved (with_sites names (sites_in ss))) ss) p → ⊥) → (all : List SiteSyntax) (q : Quant) (ss : List (Terminal AtomSyntax))
+    (p : Formula) → Condition arch threads (left before) all q ss → HasRoomFor (with_sites first all) (sites_in ss) → HasFewNodes ss
+    → IsProposition (map (resolved (with_sites (with_sites first all) (sites_in ss))) ss) p → ⊥
+no_terminals {arch} {threads} {before} {behind} {first} {names} {made} taken quant end quantifies never all q ss p c few nodes whole =
+    let u = Listed-unique arch (left before) all (map (named names) made) c.behind_list (left behind) c.lists taken.is in
+    let v = Quantified-unique (left behind) q quant c.behind_quant end (subst (λ l. Quantified l q c.behind_quant) u.1 c.quantifies) quantifies in
+    let same : with_sites first all ≡ names = ap (with_sites first) u.0 ∙ sym taken.names_are in
+    never ss p (subst (λ l. Terminals arch threads l ss) v.1 c.says) (subst (λ ns. HasRoomFor ns (sites_in ss)) same few) nodes
+    (subst (λ ns. IsProposition (map (resolved (with_sites ns (sites_in ss))) ss) p) same whole)
 
 -- ---- where the parts end early
 
-module _ (arch : Arch) (ts a : TokenList) (entries : List EntrySyntax) (block : Block arch ts entries a) (n : ℕ) (b : TokenList) (header : Header a n b) where
-  at_rows : (s : TestSyntax) (p : Parts arch ts s) → (s.entries ≡ entries) × (s.threads ≡ n) × Rows n b s.rows p.behind_rows
-      × Condition arch n p.behind_rows s.listed s.quant s.terminals
-  at_rows s p =
+module _ (arch : Arch) (ts a : TokenList) (entries : List EntrySyntax) (block : Block arch ts entries a) where
+  at_header : (s : TestSyntax) (p : Parts arch ts s) → (s.entries ≡ entries) × Header a s.threads p.behind_header
+  at_header s p =
       let e = Block-unique arch ts s.entries entries p.behind_block a p.block block in
-      let u = Names-unique 0 s.threads n a p.behind_header b (subst (λ l. Header l s.threads p.behind_header) e.1 p.header).0 header.0 in (
-        e.0,
-        u.0,
-        subst (λ l. Rows n l s.rows p.behind_rows) u.1 (subst (λ m. Rows m p.behind_header s.rows p.behind_rows) u.0 p.rows),
-        subst
-            (λ m. Condition arch m p.behind_rows s.listed s.quant s.terminals) u.0 p.condition,
-      )
+      (e.0, subst (λ l. Header l s.threads p.behind_header) e.1 p.header)
 
-  pub no_rows : ((rows : CellGrid) (rest : TokenList) → Rows n b rows rest → ⊥) → (s : TestSyntax) → Parts arch ts s → ⊥
-  no_rows never s p = never s.rows p.behind_rows (at_rows s p).2
+  pub no_header : ((n : ℕ) (rest : TokenList) → Header a n rest → ⊥) → (s : TestSyntax) → Parts arch ts s → ⊥
+  no_header never s p = never s.threads p.behind_header (at_header s p).1
 
-  module _ (rows : CellGrid) (c : TokenList) (are_rows : Rows n b rows c) (first : TokenList)
-      (is_first : first ≡ with_names [] (site_names (sites_of entries))) where
-    at_condition : (s : TestSyntax) → Parts arch ts s → (s.entries ≡ entries) × (s.threads ≡ n) × (s.rows ≡ rows)
-        × Condition arch n c s.listed s.quant s.terminals
-    at_condition s p =
+  module _ (n : ℕ) (b : TokenList) (header : Header a n b) where
+    at_rows : (s : TestSyntax) (p : Parts arch ts s) → (s.entries ≡ entries) × (s.threads ≡ n) × Rows n b s.rows p.behind_rows
+        × Condition arch n p.behind_rows s.listed s.quant s.terminals
+    at_rows s p =
+        let e = at_header s p in
+        let u = Names-unique 0 s.threads n a p.behind_header b e.1.0 header.0 in (
+          e.0,
+          u.0,
+          subst (λ l. Rows n l s.rows p.behind_rows) u.1 (subst (λ m. Rows m p.behind_header s.rows p.behind_rows) u.0 p.rows),
+          subst (λ m. Condition arch m p.behind_rows s.listed s.quant s.terminals) u.0 p.condition,
+        )
+
+    pub no_thread : (names : NameTable) (made : List MadeEntry) → entries ≡ map (named_entry names) made
+        → list_all (λ e. thread_exists n e.site) made ≡ false → (s : TestSyntax) → Parts arch ts s → ⊥
+    no_thread names made is none s p =
         let h = at_rows s p in
-        let u = Rows-unique n b p.behind_rows c s.rows rows h.2 are_rows in
-        (h.0, h.1, u.0, subst (λ l. Condition arch n l s.listed s.quant s.terminals) u.1 h.3)
+        let all = there_all n names made (subst (λ l. AllByRecursion (λ e. ThreadExists n e.site) l) (h.0 ∙ is)
+        (subst (λ k. AllByRecursion (λ e. ThreadExists k e.site) s.entries) h.1 p.there)) in
+        cc
 
-    pub no_condition : ((listed : List SiteSyntax) (quant : Quant) (ss : List (Terminal AtomSyntax)) (p : Formula) → Condition arch n c listed quant ss
-        → length (with_names (with_names first (site_names listed)) (site_names (sites_in ss))) ≤ 8 → length (filter is_node ss) ≤ 256
-        → IsProposition (map (resolved (with_names (with_names first (site_names listed)) (site_names (sites_in ss)))) ss) p → ⊥)
-        → (s : TestSyntax) (p : Formula) → Parts arch ts s → IsProposition (map (resolved (table s)) s.terminals) p → ⊥
-    no_condition never s f p whole =
-        let h = at_condition s p in
-        let names : with_names [] (site_names (sites_of s.entries)) ≡ first = ap (λ es. with_names [] (site_names (sites_of es))) h.0 ∙ sym is_first in
-        let all : table s ≡ with_names (with_names first (site_names s.listed)) (site_names (sites_in s.terminals)) = table_parts s ∙ ap
-        (λ ns. with_names (with_names ns (site_names s.listed)) (site_names (sites_in s.terminals))) names in
-        never s.listed s.quant s.terminals f h.3 (omega (arith, p.few_names, ap length all)) p.few_nodes
-        (subst (λ ns. IsProposition (map (resolved ns) s.terminals) f) all whole)
+    pub no_rows : ((rows : CellGrid) (rest : TokenList) → Rows n b rows rest → ⊥) → (s : TestSyntax) → Parts arch ts s → ⊥
+    no_rows never s p = never s.rows p.behind_rows (at_rows s p).2
+
+    module _ (rows : CellGrid) (c : TokenList) (are_rows : Rows n b rows c) (first : TokenList)
+        (is_first : first ≡ with_sites [] (sites_of entries)) where
+      at_condition : (s : TestSyntax) → Parts arch ts s → (s.entries ≡ entries) × (s.threads ≡ n) × (s.rows ≡ rows)
+          × Condition arch n c s.listed s.quant s.terminals
+      at_condition s p =
+          let h = at_rows s p in
+          let u = Rows-unique n b p.behind_rows c s.rows rows h.2 are_rows in
+          (h.0, h.1, u.0, subst (λ l. Condition arch n l s.listed s.quant s.terminals) u.1 h.3)
+
+      pub no_condition : ((listed : List SiteSyntax) (quant : Quant) (ss : List (Terminal AtomSyntax)) (p : Formula) → Condition arch n c listed quant ss
+          → HasRoomFor (with_sites first listed) (sites_in ss) → HasFewNodes ss
+          → IsProposition (map (resolved (with_sites (with_sites first listed) (sites_in ss))) ss) p → ⊥)
+          → (s : TestSyntax) (p : Formula) → Parts arch ts s → IsProposition (map (resolved (table s)) s.terminals) p → ⊥
+      no_condition never s f p whole =
+          let h = at_condition s p in
+          let names : with_sites [] (sites_of s.entries) ≡ first = ap (λ es. with_sites [] (sites_of es)) h.0 ∙ sym is_first in
+          let all : table s ≡ with_sites (with_sites first s.listed) (sites_in s.terminals) = table_parts s ∙ ap
+          (λ ns. with_sites (with_sites ns s.listed) (sites_in s.terminals)) names in
+          never s.listed s.quant s.terminals f h.3 (omega (arith, p.few_names, ap length all)) p.few_nodes
+          (subst (λ ns. IsProposition (map (resolved ns) s.terminals) f) all whole)
 
 pub Parts-unique : (arch : Arch) (ts : TokenList) (s t : TestSyntax) → Parts arch ts s → Parts arch ts t → s ≡ t
 Parts-unique arch ts s t p q =
     let h = at_condition arch ts q.behind_block t.entries q.block t.threads q.behind_header q.header t.rows q.behind_rows q.rows
-    (with_names [] (site_names (sites_of t.entries))) refl s p in
+    (with_sites [] (sites_of t.entries)) refl s p in
     let u = Listed-unique arch q.behind_rows s.listed t.listed h.3.behind_list q.condition.behind_list h.3.lists q.condition.lists in
     let v = Quantified-unique q.condition.behind_list s.quant t.quant h.3.behind_quant q.condition.behind_quant
     (subst (λ l. Quantified l s.quant h.3.behind_quant) u.1 h.3.quantifies) q.condition.quantifies in
     let w = Terminals-unique arch t.threads s.terminals t.terminals q.condition.behind_quant
     (subst (λ l. Terminals arch t.threads l s.terminals) v.1 h.3.says) q.condition.says in
-    let a : s.entries ≡ t.entries = h.0 in
-    let b : s.threads ≡ t.threads = h.1 in
-    let c : s.rows ≡ t.rows = h.2 in
-    let d : s.listed ≡ t.listed = u.0 in
-    let e : s.quant ≡ t.quant = v.0 in
-    same_syntax s t a b c d e w
-  where
-    same_syntax : (s t : TestSyntax) → s.entries ≡ t.entries → s.threads ≡ t.threads → s.rows ≡ t.rows → s.listed ≡ t.listed → s.quant ≡ t.quant
-        → s.terminals ≡ t.terminals → s ≡ t
-    same_syntax s t a b c d e f =
-        ap (λ x. record { entries = x; threads = s.threads; rows = s.rows; listed = s.listed; quant = s.quant; terminals = s.terminals }) a
-        ∙ ap (λ (x : ℕ). record { entries = t.entries; threads = x; rows = s.rows; listed = s.listed; quant = s.quant; terminals = s.terminals }) b
-        ∙ ap (λ x. record { entries = t.entries; threads = t.threads; rows = x; listed = s.listed; quant = s.quant; terminals = s.terminals }) c
-        ∙ ap (λ x. record { entries = t.entries; threads = t.threads; rows = t.rows; listed = x; quant = s.quant; terminals = s.terminals }) d
-        ∙ ap (λ (x : Quant). record { entries = t.entries; threads = t.threads; rows = t.rows; listed = t.listed; quant = x; terminals = s.terminals }) e
-        ∙ ap (λ x. record { entries = t.entries; threads = t.threads; rows = t.rows; listed = t.listed; quant = t.quant; terminals = x }) f
+    let made = λ (es : List EntrySyntax) (n : ℕ) (rows : CellGrid) (ls : List SiteSyntax) (quant : Quant) (ss : List (Terminal AtomSyntax)).
+    (let x : TestSyntax = record { entries = es; threads = n; rows = rows; listed = ls; quant = quant; terminals = ss } in x) in
+    let same : made s.entries s.threads s.rows s.listed s.quant s.terminals ≡ made t.entries t.threads t.rows t.listed t.quant t.terminals =
+    cc (h.0, h.1, h.2, u.0, v.0, w) in
+    same
 
 -- ---- what a body says
 
-module _ (arch : Arch) (ts a : TokenList) (names : NameTable) (es : List MadeEntry) (block : Block arch ts (map (named_entry names) es) a)
-    (is_names : names ≡ with_names [] (site_names (map (λ e. named names e.site) es))) where
-  pub first_names : names ≡ with_names [] (site_names (sites_of (map (named_entry names) es)))
-  first_names = is_names ∙ ap (λ l. with_names [] (site_names l)) (sym (sites_of_block names es))
+pub first_names : (names : NameTable) (es : List MadeEntry) → names ≡ with_sites [] (map (λ e. named names e.site) es)
+    → names ≡ with_sites [] (sites_of (map (named_entry names) es))
+first_names names es e = e ∙ ap (λ l. with_sites [] l) (sym (sites_of_block names es))
 
 -- ---- rows
 
@@ -253,29 +217,14 @@ no_test arch None rest ts row fault never us other s p parts whole = never s p (
 no_test arch (Some f) rest ts row fault never us other s p parts whole = fault us other
 
 -- where no quantifier stands
-module _ {T : Type 0} (ts : TokenList) (r : Result T Refusal) where
-  pub no_exists : (l : TokenList) → ts ≡ codes "~" ∷ l → ((rest : TokenList) → l ≡ codes "exists" ∷ rest → ⊥)
-      → OnErr r ((q : Quant) (rest : TokenList) → Quantified ts q rest → ⊥)
-  no_exists l e never = at r
-    where
-      none : (q : Quant) (rest : TokenList) → Quantified ts q rest → ⊥
-      none Exists rest f = is_no_text (codes "exists") (codes "~") refl (same_front ts l rest (codes "~") (codes "exists") e f).0
-      none NotExists rest f = never rest (same_front ts l (codes "exists" ∷ rest) (codes "~") (codes "~") e f).1
-      none Forall rest f = is_no_text (codes "forall") (codes "~") refl (same_front ts l rest (codes "~") (codes "forall") e f).0
+pub no_exists : (ts l : TokenList) → ts ≡ codes "~" ∷ l → ((rest : TokenList) → l ≡ codes "exists" ∷ rest → ⊥) → (q : Quant) (rest : TokenList)
+    → Quantified ts q rest → ⊥
+no_exists ts l e never Exists rest f = is_no_text (codes "exists") (codes "~") refl (same_front ts l rest (codes "~") (codes "exists") e f).0
+no_exists ts l e never NotExists rest f = never rest (same_front ts l (codes "exists" ∷ rest) (codes "~") (codes "~") e f).1
+no_exists ts l e never Forall rest f = is_no_text (codes "forall") (codes "~") refl (same_front ts l rest (codes "~") (codes "forall") e f).0
 
-      at : (r : Result T Refusal) → OnErr r ((q : Quant) (rest : TokenList) → Quantified ts q rest → ⊥)
-      at (Ok x) = tt
-      at (Err f) = none
-
-  pub no_quantifier : begins_word (codes "~") ts ≡ false → (here : TokenList) → here ≡ ts → ((rest : TokenList) → here ≡ codes "exists" ∷ rest → ⊥)
-      → ((rest : TokenList) → here ≡ codes "forall" ∷ rest → ⊥) → OnErr r ((q : Quant) (rest : TokenList) → Quantified ts q rest → ⊥)
-  no_quantifier no_tilde here same no_first no_second = at r
-    where
-      none : (q : Quant) (rest : TokenList) → Quantified ts q rest → ⊥
-      none Exists rest f = no_first rest (same ∙ f)
-      none NotExists rest f = no_word_next (codes "~") ts (codes "exists" ∷ rest) no_tilde f
-      none Forall rest f = no_second rest (same ∙ f)
-
-      at : (r : Result T Refusal) → OnErr r ((q : Quant) (rest : TokenList) → Quantified ts q rest → ⊥)
-      at (Ok x) = tt
-      at (Err f) = none
+pub no_quantifier : (ts : TokenList) → begins_word (codes "~") ts ≡ false → ((rest : TokenList) → ts ≡ codes "exists" ∷ rest → ⊥)
+    → ((rest : TokenList) → ts ≡ codes "forall" ∷ rest → ⊥) → (q : Quant) (rest : TokenList) → Quantified ts q rest → ⊥
+no_quantifier ts no_tilde no_first no_second Exists rest f = no_first rest f
+no_quantifier ts no_tilde no_first no_second NotExists rest f = no_word_next (codes "~") ts (codes "exists" ∷ rest) no_tilde f
+no_quantifier ts no_tilde no_first no_second Forall rest f = no_second rest f

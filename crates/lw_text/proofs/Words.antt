@@ -1,15 +1,16 @@
 -- Words and symbols, and what stands behind them.
-use Rattle.std.proofs.Common.{◌≡◌, ℕ, zero, suc, ◌<◌, inl, inr, Bool, true, false, not, [], ◌∷◌, ◌++◌, length, take, drop, refl, sym, ap, ◌∙◌, subst, arith}
-use Rattle.std.specs.Prelude.{◌==◌, nat_lt, slice_index_or, Option, Some, None, MatchOption, is_some}
-use Rattle.std.specs.Str.{bytes_eq}
+use Rattle.std.proofs.Common.{◌≡◌, ℕ, zero, suc, ◌<◌, inl, inr, Bool, true, false, not, [], ◌∷◌, ◌++◌, length}
+use Rattle.std.proofs.Common.{take, drop, refl, sym, ap, ◌∙◌, subst, arith, ◌==◌, nat_lt, slice_index_or}
+use Rattle.std.proofs.Common.{Option, Some, None, MatchOption, is_some, bytes_eq, ltb-true, eqb-true}
 use Rattle.std.specs.List.{AllByRecursion, list_all}
 use Rattle.std.proofs.lemmas.Slice.Eq.{bytes_eq-Decides}
-use Rattle.std.proofs.lemmas.Bool.{and_parts, ltb-true, eqb-true, not-true, cases_Bool}
+use Rattle.std.proofs.lemmas.Bool.{and_parts, not-true, cases_Bool}
 use Rattle.lw_base.specs.Types.{Bytes}
 use Rattle.lw_base.specs.Characters.{is_blank, is_word_byte, begins}
 use Rattle.lw_base.specs.Names.{IsName}
 use Rattle.lw_base.proofs.api.Blanks.{any_all, same_byte, blank_all}
-use Rattle.lw_text.specs.Tokens.{begins_trivia, begins_pair, is_single, is_pair, pairs, singles, IsNumber, IsKind, IsWord, IsSymbol, IsToken}
+use Rattle.lw_text.specs.Tokens.{begins_trivia, begins_pair, is_single, is_pair, pairs, singles, IsNumber}
+use Rattle.lw_text.specs.Tokens.{IsKind, IsWord, IsSymbol, IsToken}
 
 -- ---- rows of bytes
 
@@ -46,10 +47,9 @@ word_front [] rest h = absurd (let n = kind_nonempty [] h.kind in omega arith)
 word_front (b ∷ w) rest h = h.all.0
 
 symbol_front : (t rest : Bytes) → IsSymbol t rest → begins is_word_byte (t ++ rest) ≡ false
-symbol_front [] rest h = absurd h
 symbol_front (b ∷ []) rest h = not-true (is_word_byte b) (single_all (λ x. not (is_word_byte x)) b refl h.0)
 symbol_front (b ∷ c ∷ []) rest h = not-true (is_word_byte b) (pair_all (begins (λ x. not (is_word_byte x))) b c refl h)
-symbol_front (b ∷ c ∷ d ∷ more) rest h = absurd h
+symbol_front _ rest h = absurd h
 
 -- no trivia begins with a byte that passes a test which no blank and no `(` passes
 pub no_trivia_at : (p : ℕ → Bool) (b : ℕ) (text : Bytes) → list_all (λ x. not (p x)) (32 ∷ 9 ∷ 10 ∷ 13 ∷ []) ≡ true → p 40 ≡ false → p b ≡ true
@@ -68,7 +68,6 @@ no_trivia_at p b text blanks bracket h =
 pub token_no_trivia : (t rest : Bytes) → IsToken t rest → begins_trivia (t ++ rest) ≡ false
 token_no_trivia [] rest (inl w) = absurd (let n = kind_nonempty [] w.kind in omega arith)
 token_no_trivia (b ∷ t) rest (inl w) = no_trivia_at (is_word_byte) b (t ++ rest) refl refl w.all.0
-token_no_trivia [] rest (inr s) = absurd s
 token_no_trivia (b ∷ []) rest (inr s) =
     let h = not-true (is_blank b) (single_all (λ x. not (is_blank x)) b refl s.0) in
     let k = s.2 in
@@ -77,7 +76,7 @@ token_no_trivia (b ∷ c ∷ []) rest (inr s) =
     let h = not-true (is_blank b) (pair_all (begins (λ x. not (is_blank x))) b c refl s) in
     let k = not-true (b == 40) (pair_all (begins (λ x. not (x == 40))) b c refl s) in
     rw (h, k) refl
-token_no_trivia (b ∷ c ∷ d ∷ more) rest (inr s) = absurd s
+token_no_trivia _ rest (inr s) = absurd s
 
 pub token_nonempty : (t rest : Bytes) → IsToken t rest → 0 < length t
 token_nonempty t rest (inl w) = kind_nonempty t w.kind
@@ -88,21 +87,18 @@ token_nonempty (b ∷ t) rest (inr s) = omega arith
 
 symbol-unique : (t r u s : Bytes) → IsSymbol t r → IsSymbol u s → t ++ r ≡ u ++ s → (t ≡ u) × (r ≡ s)
 symbol-unique [] r u s p q e = absurd p
-symbol-unique (b ∷ []) r [] s p q e = absurd q
 symbol-unique (b ∷ []) r (c ∷ []) s p q e = (cc, cc)
 symbol-unique (b ∷ []) r (c ∷ d ∷ []) s p q e =
     let k : b ≡ c = cc in
     absurd (let h : begins (is_pair b) r ≡ is_pair b d = ap (begins (is_pair b)) (let i : r ≡ d ∷ s = cc in i) in let i : is_pair b d ≡ true = subst
     (λ x. is_pair x d ≡ true) (sym k) q in cc (p.1))
-symbol-unique (b ∷ []) r (c ∷ d ∷ f ∷ u) s p q e = absurd q
-symbol-unique (a ∷ b ∷ []) r [] s p q e = absurd q
 symbol-unique (a ∷ b ∷ []) r (c ∷ []) s p q e =
     let k : c ≡ a = cc in
     absurd (let h : is_pair c b ≡ begins (is_pair c) s = ap (begins (is_pair c)) (let i : b ∷ r ≡ s = cc in i) in let i : is_pair c b ≡ true = subst
     (λ x. is_pair x b ≡ true) (sym k) p in cc (q.1))
 symbol-unique (a ∷ b ∷ []) r (c ∷ d ∷ []) s p q e = (cc, cc)
-symbol-unique (a ∷ b ∷ []) r (c ∷ d ∷ f ∷ u) s p q e = absurd q
 symbol-unique (a ∷ b ∷ c ∷ t) r u s p q e = absurd p
+symbol-unique _ r _ s p q e = absurd q
 
 pub token-unique : (t r u s : Bytes) → IsToken t r → IsToken u s → t ++ r ≡ u ++ s → (t ≡ u) × (r ≡ s)
 token-unique t r u s (inl p) (inl q) e = run-unique is_word_byte t r u s p.all q.all p.longest q.longest e
@@ -122,12 +118,11 @@ no_kind bytes w r e all longest front never t rest f (inr p) = let h = symbol_fr
 pub no_token : (bytes rest : Bytes) (b : ℕ) → bytes ≡ b ∷ rest → is_word_byte b ≡ false → ((is_single b ≡ true) × (begins_pair 40 42 bytes ≡ false) → ⊥)
     → ((c d : ℕ) (more : Bytes) → bytes ≡ c ∷ d ∷ more → is_pair c d ≡ true → ⊥) → (t more : Bytes) → bytes ≡ t ++ more → IsToken t more → ⊥
 no_token bytes rest b e no_word no_single short t more f (inl p) = let h = word_front t more p in let i = ap (begins is_word_byte) (sym e ∙ f) in cc
-no_token bytes rest b e no_word no_single short [] more f (inr p) = p
 no_token bytes rest b e no_word no_single short (c ∷ []) more f (inr p) =
     let k : b ≡ c = let i = sym e ∙ f in cc in
     no_single (subst (λ x. is_single x ≡ true) (sym k) p.0, subst (λ l. begins_pair 40 42 l ≡ false) (sym f) p.2)
 no_token bytes rest b e no_word no_single short (c ∷ d ∷ []) more f (inr p) = short c d more f p
-no_token bytes rest b e no_word no_single short (c ∷ d ∷ g ∷ t) more f (inr p) = p
+no_token bytes rest b e no_word no_single short _ more f (inr p) = p
 
 -- a symbol of two bytes at the front
 pub long_symbol : (bytes t rest : Bytes) → ((b c : ℕ) × (more : Bytes) × (bytes ≡ b ∷ c ∷ more) × (is_pair b c ≡ true)) → t ≡ take 2 bytes

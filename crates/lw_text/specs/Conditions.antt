@@ -8,7 +8,7 @@ use Rattle.lw_base.specs.declared.head.Quant.{Quant}
 use Rattle.lw_base.specs.declared.head.Quant.TheVariants.{Exists, NotExists, Forall}
 use Rattle.lw_base.specs.Tables.{index_of}
 use Rattle.lw_base.specs.Formula.{Formula, Yes, No, Reg_is, Word_is}
-use Rattle.lw_text.specs.Lists.{Ended}
+use Rattle.lw_text.specs.Lists.{Chain, Ended}
 use Rattle.lw_text.specs.Sites.{SiteSyntax, InMemory, InThread, IsSite, ThreadExists, Value}
 use Rattle.lw_text.specs.Propositions.{Terminal, Open, Close, Negation, Conjunction, Disjunction, Atom}
 
@@ -35,9 +35,7 @@ IsTerminal arch threads ts (Atom claim) rest = IsAtom arch threads ts claim rest
 
 -- The tokens are these terminals, to the end of the text.
 abbrev pub Terminals : Arch → ℕ → TokenList → List (Terminal AtomSyntax) → Type 0
-Terminals arch threads ts [] = ts ≡ []
-Terminals arch threads ts (s ∷ ss) =
-    (mid : TokenList) × IsTerminal arch threads ts s mid × Terminals arch threads mid ss
+Terminals arch threads ts ss = Chain (IsTerminal arch threads) ts ss []
 
 -- the sites that the atoms speak of
 abbrev pub site_of : Terminal AtomSyntax → Option SiteSyntax

@@ -1,6 +1,11 @@
 -- Lists that are written out, for tokens of any kind T and elements of any kind X.
 use Rattle.std.specs.Prelude.{◌≡◌, ◌⊎◌, Bool, true, false, List, [], ◌∷◌}
 
+-- Some xs stand one behind another, and then rest.
+abbrev pub Chain : {T X : Type 0} → (List T → X → List T → Type 0) → List T → List X → List T → Type 0
+Chain P ts [] rest = ts ≡ rest
+Chain {T} P ts (x ∷ xs) rest = (mid : List T) × P ts x mid × Chain P mid xs rest
+
 -- One or more xs stand one behind another, with sep between them and close behind the last, and
 -- then rest.
 abbrev pub Separated : {T X : Type 0} → (List T → X → List T → Type 0) → T → T → List T → List X

@@ -8,9 +8,9 @@ use Rattle.lw_text.specs.PlacedTokens.{PlacedToken}
 abbrev pub texts : List Token → TokenList
 texts ts = map (λ t. t.text.now) ts
 
--- The second list of tokens is what is left of the first behind some of them.
-abbrev pub Leaves : List Token → List Token → Type 0
-Leaves before after = (front : List Token) × (before ≡ front ++ after)
+-- The second list is what is left of the first behind some of its elements.
+abbrev pub Leaves : {X : Type 0} → List X → List X → Type 0
+Leaves {X} before after = (front : List X) × (before ≡ front ++ after)
 
 -- Each token is the slice of its span, and the spans lie one behind another between two places.
 abbrev pub Spans : Bytes → ℕ → List PlacedToken → ℕ → Type 0

@@ -3,3 +3,4 @@ pub mod Terminals
 pub mod LeftToRight
 pub mod Pending
 pub mod Resolved
+pub mod Taken

@@ -1,11 +1,12 @@
 //! The initial block of a test: its entries, each a site and the word that it begins with.
-ghost use Rattle.std.specs.Prelude.{◌≡◌, true, false, map, All, OnOk, OnErr, IfOk, IfErr};
+ghost use Rattle.std.specs.Prelude.{◌≡◌, true, false, OnOk, OnErr, IfOk, IfErr};
 ghost use Rattle.std.specs.List.{list_all};
 ghost use Rattle.lw_base.specs.Refusals.{NotReadWhere};
 ghost use Rattle.lw_text.specs.Frames.{sites_of, Block};
-ghost use Rattle.lw_text.specs.Sites.{HasRoomFor, with_sites};
+ghost use Rattle.lw_text.specs.Sites.{HasRoomFor};
 ghost use Rattle.lw_text.specs.declared.fault.Cause.TheVariants.{Memory};
-ghost use Rattle.lw_text.specs.inner.Resolved.{named, named_entry, thread_exists, IsIn};
+ghost use Rattle.lw_text.specs.inner.Resolved.{thread_exists};
+ghost use Rattle.lw_text.specs.inner.Taken.{TakenBlock};
 
 use crate::cursor::Cursor;
 use crate::fault::{Cause, Refusal};
@@ -22,7 +23,7 @@ pub(crate) struct Entry {
 }
 
 impl<'t, 'a> Cursor<'t, 'a> {
-    ghost use Rattle.lw_text.specs.Views.{left, MovesOn};
+    ghost use Rattle.lw_text.specs.Views.{left};
 
     /// Takes the block. The names of its locations go into the table. The threads of its entries are looked at
     /// behind the header, which says how many there are.
@@ -32,14 +33,9 @@ impl<'t, 'a> Cursor<'t, 'a> {
         arch: Arch,
         locs: &mut LocNames<A>,
     ) -> Result<Sequence<Entry, A>, Refusal>
-        ensures found { IfOk result (λ es. Block arch (left self.old) (map (named_entry locs.new) es)
-            (left self.new)) }
-        ensures names { IfOk result (λ es. locs.new ≡ with_sites locs.old (map
-            (λ e. named locs.new e.site) es)) }
-        ensures within { IfOk result (λ es. All (λ e. IsIn locs.new e.site) es) }
+        ensures found { IfOk result (λ es. TakenBlock arch self.old self.new locs.old locs.new es) }
         ensures fault { IfErr result (λ f. NotReadWhere Memory f.cause (Block arch (left self.old))
             (λ es. HasRoomFor locs.old (sites_of es))) }
-        ensures leaves { OnOk result (MovesOn self.old self.new) }
     {
         self.expect("{", Cause::Unexpected)?;
         let mut entries = Sequence::new(alloc);

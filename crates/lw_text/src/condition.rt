@@ -34,8 +34,8 @@ impl<'t, 'a> Cursor<'t, 'a> {
         ensures found { IfOk result (λ x. (ss : List (TerminalSyntax AtomSyntax))
             × Condition arch threads (left self.old) (map (named locs.new) x.0) x.1 ss
             × (locs.new ≡ with_sites (with_sites locs.old (map (named locs.new) x.0)) (sites_in ss))
-            × HasFewNodes ss × IsProposition (map (resolved locs.new) ss) (formula_of x.2)) }
-        ensures within { IfOk result (λ x. All (IsIn locs.new) x.0) }
+            × HasFewNodes ss × IsProposition (map (resolved locs.new) ss) (formula_of x.2)
+            × All (IsIn locs.new) x.0) }
         ensures fault { IfErr result (λ f. f.cause ≢ Memory
             → (listed : List SiteSyntax) (quant : QuantSyntax)
             (ss : List (TerminalSyntax AtomSyntax)) (p : Formula)

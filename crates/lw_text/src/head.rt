@@ -54,15 +54,12 @@ impl<A: Allocator + Copy> HeadParts<A> {
 
     /// What is made for the head of a test of this name.
     fn made(&self, alloc: A, name: &str) -> Result<Made<A>, AllocError>
-        ensures name { IfOk result (λ m. m.name ≡ name.now) }
-        ensures regs { IfOk result (λ m. m.init_regs ≡ map
-            (λ t. map (word_at self.now.entries) (thread_registers t))
-            (range_with_len 0 self.now.threads)) }
-        ensures words { IfOk result (λ m. m.init_words
-            ≡ map (word_at self.now.entries) (locations (length self.now.locs))) }
-        ensures listed { IfOk result (λ m. m.listed
-            ≡ filter (is_listed self.now.listed)
-            (all_registers self.now.threads ++ locations (length self.now.locs))) }
+        ensures { IfOk result (λ m. (m.name ≡ name.now)
+            × (m.init_regs ≡ map (λ t. map (word_at self.now.entries) (thread_registers t))
+            (range_with_len 0 self.now.threads))
+            × (m.init_words ≡ map (word_at self.now.entries) (locations (length self.now.locs)))
+            × (m.listed ≡ filter (is_listed self.now.listed)
+            (all_registers self.now.threads ++ locations (length self.now.locs)))) }
     {
         let entries = self.entries.as_slice();
         let len = self.locs.len();

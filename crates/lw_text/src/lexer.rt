@@ -1,5 +1,5 @@
 //! The lexer: the tokens of a text, one after another.
-ghost use Rattle.std.specs.Prelude.{◌≡◌, ◌+◌, ◌-◌, ◌≤◌, [], length, drop, IfOk, OnErr, IfErr, IfSome, MatchOption};
+ghost use Rattle.std.specs.Prelude.{◌≡◌, ◌+◌, ◌≤◌, [], length, IfOk, OnErr, IfErr, IfSome, MatchOption};
 ghost use Rattle.lw_base.specs.Types.{Bytes};
 
 use crate::fault::{Cause, Fault};
@@ -13,7 +13,6 @@ pub(crate) struct Lexer<'a> {
     pub(crate) text: &'a [u8],
     pub(crate) rest: &'a [u8],
     ghost within: { length rest.now ≤ length text.now },
-    ghost suffix: { drop (length text.now - length rest.now) text.now ≡ rest.now },
 }
 
 impl<'a> Lexer<'a> {
@@ -33,7 +32,6 @@ impl<'a> Lexer<'a> {
         ensures no_end { OnErr result (Trivia self.old.rest.now [] → ⊥) }
         ensures no_token { OnErr result ((t rest : Bytes) → First self.old.rest.now t rest → ⊥) }
         ensures place { IfErr result (λ f. f.at ≤ length self.old.text.now) }
-        ensures at { IfOk result (λ o. IfSome o (λ t. t.at ≤ length self.old.text.now)) }
         ensures stands { IfOk result (λ o. IfSome o
             (λ t. t.at + length t.text.now + length self.new.rest.now ≡ length self.old.text.now)) }
         ensures same { self.new.text.now ≡ self.old.text.now }

@@ -1,11 +1,11 @@
 //! The list of names in a test's condition, which a report shows.
-ghost use Rattle.std.specs.Prelude.{◌≡◌, ◌≢◌, List, map, All, IfOk, IfErr};
+ghost use Rattle.std.specs.Prelude.{◌≢◌, List, IfOk, IfErr};
 ghost use Rattle.std.specs.List.{AllByRecursion};
 ghost use Rattle.lw_base.specs.Types.{TokenList};
 ghost use Rattle.lw_text.specs.Conditions.{Listed};
-ghost use Rattle.lw_text.specs.Sites.{HasRoomFor, with_sites, SiteSyntax, ThreadExists};
+ghost use Rattle.lw_text.specs.Sites.{HasRoomFor, SiteSyntax, ThreadExists};
 ghost use Rattle.lw_text.specs.declared.fault.Cause.TheVariants.{Memory};
-ghost use Rattle.lw_text.specs.inner.Resolved.{named, IsIn};
+ghost use Rattle.lw_text.specs.inner.Taken.{TakenList};
 
 use crate::cursor::Cursor;
 use crate::fault::{Cause, Refusal};
@@ -24,13 +24,7 @@ impl<'t, 'a> Cursor<'t, 'a> {
         threads: usize,
         locs: &mut LocNames<A>,
     ) -> Result<Sequence<Site, A>, Refusal>
-        ensures found { IfOk result (λ ss. Listed arch (left self.old) (map (named locs.new) ss)
-            (left self.new)) }
-        ensures there { IfOk result (λ ss. AllByRecursion (ThreadExists threads)
-            (map (named locs.new) ss)) }
-        ensures names { IfOk result (λ ss. locs.new
-            ≡ with_sites locs.old (map (named locs.new) ss)) }
-        ensures within { IfOk result (λ ss. All (IsIn locs.new) ss) }
+        ensures found { IfOk result (λ ss. TakenList arch threads self.old self.new locs.old locs.new ss) }
         ensures fault { IfErr result (λ f. f.cause ≢ Memory
             → (ss : List SiteSyntax) (rest : TokenList) → Listed arch (left self.old) ss rest
             → AllByRecursion (ThreadExists threads) ss → HasRoomFor locs.old ss → ⊥) }

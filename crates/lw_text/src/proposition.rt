@@ -1,5 +1,5 @@
 //! The proposition of a condition, taken terminal by terminal up to the end of the text.
-ghost use Rattle.std.specs.Prelude.{◌≡◌, ◌≢◌, ◌+◌, ◌≤◌, ◌==◌, ◌||◌, not, true, codes, List, [], ◌∷◌, length, map, filter, OnOk, IfOk, IfErr};
+ghost use Rattle.std.specs.Prelude.{◌≡◌, ◌≢◌, ◌+◌, ◌≤◌, ◌==◌, ◌||◌, not, true, codes, List, [], ◌∷◌, length, map, filter, Some, IfOk, IfErr};
 ghost use Rattle.lw_base.specs.Types.{TokenList};
 ghost use Rattle.lw_base.specs.Formula.{Formula};
 ghost use Rattle.lw_base.specs.Propositions.{formula_of};
@@ -7,10 +7,10 @@ ghost use Rattle.lw_base.specs.Lists.{EachOnce};
 ghost use Rattle.lw_text.specs.Propositions.{HasFewNodes, Terminal as TerminalSyntax, is_node, IsProposition};
 ghost use Rattle.lw_text.specs.Sites.{HasRoomFor, with_sites};
 ghost use Rattle.lw_text.specs.declared.fault.Cause.TheVariants.{Memory};
-ghost use Rattle.lw_text.specs.inner.Pending.{Completes};
+ghost use Rattle.lw_text.specs.inner.Pending.{Completes, state_of, state_behind};
 ghost use Rattle.lw_text.specs.inner.Terminals.{terminal_of};
 ghost use Rattle.lw_text.specs.Conditions.{AtomSyntax, begins_word, IsTerminal, Terminals, sites_in, resolved};
-ghost use Rattle.lw_text.specs.inner.Resolved.{named_terminal, TerminalIn};
+ghost use Rattle.lw_text.specs.inner.Taken.{TakenTerminal};
 
 use crate::cursor::Cursor;
 use crate::fault::{Cause, Refusal};
@@ -71,18 +71,10 @@ impl<'t, 'a> Cursor<'t, 'a> {
     ) -> Result<Terminal, Refusal>
         requires threads { threads ≤ MAX_THREADS }
         requires once { EachOnce locs.old }
-        ensures room { OnOk result ((not (nodes == MAX_NODES) ||
-            (begins_word (codes "(") (left self.old) || begins_word (codes ")") (left self.old)))
-            ≡ true) }
-        ensures found { IfOk result (λ s. IsTerminal arch threads (left self.old)
-            (named_terminal locs.new s) (left self.new)) }
-        ensures names { IfOk result (λ s. locs.new
-            ≡ with_sites locs.old (sites_in (named_terminal locs.new s ∷ []))) }
-        ensures within { IfOk result (λ s. TerminalIn locs.new s) }
-        ensures given { IfOk result (λ s. (ss : List (TerminalSyntax Formula)) (p : Formula)
-            → Completes reader.new ss p → Completes reader.old (terminal_of s ∷ ss) p) }
-        ensures only { IfOk result (λ s. (ss : List (TerminalSyntax Formula)) (p : Formula)
-            → Completes reader.old (terminal_of s ∷ ss) p → Completes reader.new ss p) }
+        ensures found { IfOk result (λ s. TakenTerminal arch threads self.old self.new locs.old locs.new s
+            × (state_behind (state_of reader.old) (terminal_of s) ≡ Some (state_of reader.new))
+            × ((not (nodes == MAX_NODES) ||
+            (begins_word (codes "(") (left self.old) || begins_word (codes ")") (left self.old))) ≡ true)) }
         ensures fault { IfErr result (λ f. f.cause ≢ Memory
             → (s : TerminalSyntax AtomSyntax) (rest : TokenList)
             (ss : List (TerminalSyntax Formula)) (p : Formula)

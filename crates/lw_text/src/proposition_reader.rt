@@ -1,12 +1,10 @@
 //! The reader of a proposition, which keeps a list of what stands open in place of recursion.
-ghost use Rattle.std.specs.Prelude.{◌≡◌, ◌≢◌, true, false, List, [], ◌∷◌, map, reverse, Some, None, IfOk, IfErr, if◌then◌else◌};
+ghost use Rattle.std.specs.Prelude.{◌≡◌, ◌≢◌, not, [], map, reverse, is_some, Some, None, IfOk, IfErr, if◌then◌else◌};
 ghost use Rattle.lw_base.specs.Refusals.{NoSuch};
-ghost use Rattle.lw_base.specs.Formula.{Formula};
 ghost use Rattle.lw_base.specs.Propositions.{formula_of};
-ghost use Rattle.lw_text.specs.Propositions.{Terminal as TerminalSyntax, IsProposition};
 ghost use Rattle.lw_text.specs.declared.fault.Cause.TheVariants.{Memory};
 ghost use Rattle.lw_text.specs.inner.Terminals.{terminal_of};
-ghost use Rattle.lw_text.specs.inner.Pending.{Completes, begins_part, group_of, state_of, step_before, step_behind};
+ghost use Rattle.lw_text.specs.inner.Pending.{Completes, begun, group_of, state_of, state_behind, step_before, step_behind};
 
 use crate::fault::Refusal;
 use crate::open_group::OpenGroup;
@@ -15,8 +13,8 @@ use lw_base::Prop;
 use std::alloc::{AllocError, Allocator, Global};
 use std::mem;
 
-/// What the terminals so far leave open. A clause says by `Completes` which terminals complete them to which
-/// proposition.
+/// What the terminals so far leave open. A clause sees it as a `ReaderState`, and says by `Completes` which terminals
+/// complete it to which proposition.
 #[derive(Drop)]
 pub(crate) struct PropositionReader<A: Allocator + Copy = Global> {
     alloc: A,
@@ -28,10 +26,7 @@ pub(crate) struct PropositionReader<A: Allocator + Copy = Global> {
 impl<A: Allocator + Copy> PropositionReader<A> {
     /// A reader that has taken no terminal. It takes no memory.
     pub(crate) fn new(alloc: A) -> Self
-        ensures given { (ss : List (TerminalSyntax Formula)) (p : Formula) → Completes result ss p
-            → IsProposition ss p }
-        ensures only { (ss : List (TerminalSyntax Formula)) (p : Formula) → IsProposition ss p
-            → Completes result ss p }
+        ensures { state_of result ≡ begun }
     {
         PropositionReader {
             alloc,
@@ -43,9 +38,7 @@ impl<A: Allocator + Copy> PropositionReader<A> {
 
     /// Whether an atom, a `(` or a `~` has to come next. Otherwise none of them can.
     pub(crate) fn wants_part(&self) -> bool
-        ensures next { (s : TerminalSyntax Formula) (ss : List (TerminalSyntax Formula))
-            (p : Formula) → Completes self.now (s ∷ ss) p → begins_part s ≡ result }
-        ensures end { (p : Formula) → Completes self.now [] p → result ≡ false }
+        ensures { is_some self.now.part ≡ not result }
     {
         self.part.is_none()
     }
@@ -53,15 +46,8 @@ impl<A: Allocator + Copy> PropositionReader<A> {
     /// Takes the next terminal, or answers that it can't come next. In that case, and where there is no
     /// memory, the reader is of no more use.
     pub(crate) fn take(&mut self, terminal: Terminal) -> Result<bool, AllocError>
-        ensures given { IfOk result (λ b. b ≡ true
-            → (ss : List (TerminalSyntax Formula)) (p : Formula) → Completes self.new ss p
-            → Completes self.old (terminal_of terminal ∷ ss) p) }
-        ensures only { IfOk result (λ b. b ≡ true
-            → (ss : List (TerminalSyntax Formula)) (p : Formula)
-            → Completes self.old (terminal_of terminal ∷ ss) p → Completes self.new ss p) }
-        ensures refused { IfOk result (λ b. b ≡ false
-            → (ss : List (TerminalSyntax Formula)) (p : Formula)
-            → Completes self.old (terminal_of terminal ∷ ss) p → ⊥) }
+        ensures { IfOk result (λ b. state_behind (state_of self.old) (terminal_of terminal)
+            ≡ (if b then Some (state_of self.new) else None)) }
     {
         match self.part.take() {
             None => self.before_part(terminal),

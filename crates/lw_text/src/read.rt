@@ -89,10 +89,9 @@ pub fn what_a_frame_keeps()
 fn read_text<'a, A: Allocator + Copy>(alloc: A, text: &'a [u8]) -> Result<Frame<'a, A>, Fault>
     requires short { length text.now ≤ most_text_bytes }
     requires utf8 { IsUtf8 text.now }
-    ensures found { IfOk result (λ f. HasFrame text.now (frame_of f)) }
+    ensures found { IfOk result (λ f. HasFrame text.now (frame_of f)
+        × HasCells text.now (placed_cells f.cells) × (f.len ≡ length text.now)) }
     ensures fault { IfErr result (λ f. NotFound inner.Memory f.cause (HasFrame text.now)) }
-    ensures cells { IfOk result (λ f. HasCells text.now (placed_cells f.cells)) }
-    ensures len { IfOk result (λ f. f.len ≡ length text.now) }
     ensures place { IfErr result (λ f. f.at ≤ length text.now) }
 {
     let mut lexer = Lexer::new(text);

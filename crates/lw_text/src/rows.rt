@@ -46,11 +46,10 @@ impl<'t, 'a> Cursor<'t, 'a> {
         alloc: A,
         threads: usize,
     ) -> Result<Sequence<CellSequence<'a, A>, A>, Refusal>
-        ensures found { IfOk result (λ v. Rows threads (left self.old) (all_texts v)
-            (left self.new)) }
-        ensures fault { IfErr result (λ f. NotRead Memory f.cause (Rows threads (left self.old))) }
-        ensures cut { IfOk result (λ v. RowsFrom (placed_tokens (remaining self.old)) (placed_cells v)
+        ensures found { IfOk result (λ v. Rows threads (left self.old) (all_texts v) (left self.new)
+            × RowsFrom (placed_tokens (remaining self.old)) (placed_cells v)
             (placed_tokens (remaining self.new))) }
+        ensures fault { IfErr result (λ f. NotRead Memory f.cause (Rows threads (left self.old))) }
     {
         let mut rows = Sequence::new(alloc);
         'rows: loop {
@@ -80,11 +79,10 @@ impl<'t, 'a> Cursor<'t, 'a> {
         alloc: A,
         threads: usize,
     ) -> Result<CellSequence<'a, A>, Refusal>
-        ensures found { IfOk result (λ v. Row threads (left self.old) (cells_texts v)
-            (left self.new)) }
-        ensures fault { IfErr result (λ f. NotRead Memory f.cause (Row threads (left self.old))) }
-        ensures cut { IfOk result (λ v. CellsFrom (placed_tokens (remaining self.old)) (placed_row v)
+        ensures found { IfOk result (λ v. Row threads (left self.old) (cells_texts v) (left self.new)
+            × CellsFrom (placed_tokens (remaining self.old)) (placed_row v)
             (placed_tokens (remaining self.new))) }
+        ensures fault { IfErr result (λ f. NotRead Memory f.cause (Row threads (left self.old))) }
     {
         let mut cells = Sequence::new(alloc);
         'cells: loop {
@@ -113,13 +111,10 @@ impl<'t, 'a> Cursor<'t, 'a> {
         cell: &mut Sequence<Token<'a>, A>,
     ) -> Result<(Token<'a>, usize), Refusal>
         requires { cell.old ≡ [] }
-        ensures tokens { IfOk result (λ x. remaining self.old
-            ≡ cell.new ++ x.0 ∷ remaining self.new) }
-        ensures parts { IfOk result (λ x. left self.old
-            ≡ texts cell.new ++ x.0.text.now ∷ left self.new) }
-        ensures plain { OnOk result (AllByRecursion
-            (λ t. words.ends_cell t ≡ false) (texts cell.new)) }
-        ensures mark { IfOk result (λ x. words.ends_cell x.0.text.now ≡ true) }
+        ensures ok { IfOk result (λ x. (remaining self.old ≡ cell.new ++ x.0 ∷ remaining self.new)
+            × (left self.old ≡ texts cell.new ++ x.0.text.now ∷ left self.new)
+            × AllByRecursion (λ t. words.ends_cell t ≡ false) (texts cell.new)
+            × (words.ends_cell x.0.text.now ≡ true)) }
         ensures err { IfErr result (λ f. f.cause ≢ Memory → AllByRecursion
             (λ t. words.ends_cell t ≡ false) (left self.old)) }
     {

@@ -1,14 +1,16 @@
 //! A site: a location or a register of a thread, as the block, the list of names and atoms speak of.
 ghost use Rattle.std.specs.Prelude.{◌≡◌, ◌≢◌, ℕ, [], ◌∷◌, codes, nat_lt, Some, slice_get, OnOk, OnErr, IfOk, IfErr};
 ghost use Rattle.lw_base.specs.Refusals.{NoneRead};
-ghost use Rattle.lw_base.specs.Types.{Bytes, NameTable, TokenList};
+ghost use Rattle.lw_base.specs.Types.{Bytes, TokenList};
 ghost use Rattle.lw_base.specs.Names.{IsLocation};
 ghost use Rattle.lw_base.specs.Registers.{IsRegister};
 ghost use Rattle.lw_base.specs.Tables.{with_name};
-ghost use Rattle.lw_text.specs.Sites.{HasRoomFor, HasRoomForName, with_sites, SiteSyntax, InThread, IsSite, ThreadAllowed, Value};
+ghost use Rattle.lw_text.specs.Sites.{HasRoomFor, HasRoomForName, SiteSyntax, IsSite, ThreadAllowed, Value};
 ghost use Rattle.lw_text.specs.declared.fault.Cause.TheVariants.{Memory};
+ghost use Rattle.lw_text.specs.declared.site.Site.TheVariants.{Register};
 ghost use Rattle.lw_base.specs.SeenLists.{same_seen};
-ghost use Rattle.lw_text.specs.inner.Resolved.{named, seen_of, IsIn};
+ghost use Rattle.lw_text.specs.inner.Resolved.{seen_of};
+ghost use Rattle.lw_text.specs.inner.Taken.{TakenSite};
 ghost use Rattle.lw_text.specs.inner.Resolved as resolved;
 
 use crate::cursor::Cursor;
@@ -67,15 +69,10 @@ impl<'t, 'a> Cursor<'t, 'a> {
         threads: Option<usize>,
         cause: Cause,
     ) -> Result<Site, Refusal>
-        ensures found { IfOk result (λ s. IsSite arch (left self.old) (named locs.new s)
-            (left self.new)) }
-        ensures there { IfOk result (λ s. ThreadAllowed threads (named locs.new s)) }
-        ensures names { IfOk result (λ s. locs.new ≡ with_sites locs.old (named locs.new s ∷ [])) }
-        ensures within { IfOk result (λ s. IsIn locs.new s) }
+        ensures found { IfOk result (λ s. TakenSite arch threads self.old self.new locs.old locs.new s) }
         ensures fault { IfErr result (λ f. f.cause ≢ Memory → (s : SiteSyntax) (rest : TokenList)
             → IsSite arch (left self.old) s rest → ThreadAllowed threads s → HasRoomFor locs.old (s ∷ [])
             → ⊥) }
-        ensures leaves { OnOk result (MovesOn self.old self.new) }
     {
         let token = self.next;
         let first = self.take()?;
@@ -105,11 +102,9 @@ impl<'t, 'a> Cursor<'t, 'a> {
     fn of_thread(&mut self, arch: Arch, thread: Word, cause: Cause) -> Result<Site, Refusal>
         ensures found { IfOk result (λ s. (q : Bytes) × (r : ℕ)
             × (left self.old ≡ codes ":" ∷ q ∷ left self.new) × IsRegister arch q r
-            × ((names : NameTable) → named names s ≡ InThread thread r)) }
-        ensures within { IfOk result (λ s. (names : NameTable) → IsIn names s) }
+            × (s ≡ Register thread r) × MovesOn self.old self.new) }
         ensures fault { OnErr result ((q : Bytes) (r : ℕ) (rest : TokenList) → left self.old
             ≡ codes ":" ∷ q ∷ rest → IsRegister arch q r → ⊥) }
-        ensures leaves { OnOk result (MovesOn self.old self.new) }
     {
         self.expect(":", cause)?;
         let misfit = self.refusal(cause);
@@ -122,9 +117,9 @@ impl<'t, 'a> Cursor<'t, 'a> {
 
     /// Takes a `=` and a number.
     pub(crate) fn value(&mut self, cause: Cause) -> Result<Word, Refusal>
-        ensures ok { IfOk result (λ v. Value (left self.old) v (left self.new)) }
+        ensures ok { IfOk result (λ v. Value (left self.old) v (left self.new)
+            × MovesOn self.old self.new) }
         ensures err { OnErr result (NoneRead (Value (left self.old))) }
-        ensures leaves { OnOk result (MovesOn self.old self.new) }
     {
         self.expect("=", cause)?;
         let misfit = self.refusal(cause);

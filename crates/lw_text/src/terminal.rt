@@ -2,13 +2,14 @@
 ghost use Rattle.std.specs.Prelude.{◌≡◌, if◌then◌else◌, ◌≢◌, ℕ, ◌+◌, ◌≤◌, not, true, false, [], ◌∷◌, OnErr, IfOk, IfErr};
 ghost use Rattle.lw_base.specs.Types.{NameTable, TokenList};
 ghost use Rattle.lw_base.specs.Propositions.{formula_of};
-ghost use Rattle.lw_text.specs.Sites.{HasRoomFor, with_sites};
+ghost use Rattle.lw_text.specs.Sites.{HasRoomFor};
 ghost use Rattle.lw_text.specs.Propositions.{is_node, Terminal as TerminalSyntax};
 ghost use Rattle.lw_text.specs.inner.Terminals.{atom_formula, terminal_of};
 ghost use Rattle.lw_text.specs.declared.fault.Cause.TheVariants.{Memory};
 ghost use Rattle.lw_text.specs.inner.Pending.{begins_part};
 ghost use Rattle.lw_text.specs.Conditions.{AtomSyntax, Holds, IsTerminal, sites_in};
-ghost use Rattle.lw_text.specs.inner.Resolved.{named, named_atom, named_terminal, IsIn, AtomIn, TerminalIn};
+ghost use Rattle.lw_text.specs.inner.Resolved.{named, named_atom, IsIn, AtomIn};
+ghost use Rattle.lw_text.specs.inner.Taken.{TakenTerminal};
 ghost use Rattle.lw_text.specs.inner.Resolved as resolved_of;
 
 use crate::cursor::Cursor;
@@ -77,11 +78,7 @@ impl<'t, 'a> Cursor<'t, 'a> {
         locs: &mut LocNames<A>,
     ) -> Result<Terminal, Refusal>
         requires { threads ≤ MAX_THREADS }
-        ensures found { IfOk result (λ s. IsTerminal arch threads (left self.old)
-            (named_terminal locs.new s) (left self.new)) }
-        ensures names { IfOk result (λ s. locs.new
-            ≡ with_sites locs.old (sites_in (named_terminal locs.new s ∷ []))) }
-        ensures within { IfOk result (λ s. TerminalIn locs.new s) }
+        ensures found { IfOk result (λ s. TakenTerminal arch threads self.old self.new locs.old locs.new s) }
         ensures fault { IfErr result (λ f. f.cause ≢ Memory
             → (s : TerminalSyntax AtomSyntax) (rest : TokenList)
             → IsTerminal arch threads (left self.old) s rest → begins_part s ≡ part
@@ -102,11 +99,7 @@ impl<'t, 'a> Cursor<'t, 'a> {
         locs: &mut LocNames<A>,
     ) -> Result<Terminal, Refusal>
         requires { threads ≤ MAX_THREADS }
-        ensures found { IfOk result (λ s. IsTerminal arch threads (left self.old)
-            (named_terminal locs.new s) (left self.new)) }
-        ensures names { IfOk result (λ s. locs.new
-            ≡ with_sites locs.old (sites_in (named_terminal locs.new s ∷ []))) }
-        ensures within { IfOk result (λ s. TerminalIn locs.new s) }
+        ensures found { IfOk result (λ s. TakenTerminal arch threads self.old self.new locs.old locs.new s) }
         ensures fault { IfErr result (λ f. f.cause ≢ Memory
             → (s : TerminalSyntax AtomSyntax) (rest : TokenList)
             → IsTerminal arch threads (left self.old) s rest → begins_part s ≡ true
@@ -135,10 +128,7 @@ impl<'t, 'a> Cursor<'t, 'a> {
     /// Takes a `)`, a `/\` or a `\/`.
     fn joint(&mut self) -> Result<Terminal, Refusal>
         ensures found { IfOk result (λ s. (arch : Arch) (threads : ℕ) (names : NameTable)
-            → IsTerminal arch threads (left self.old) (named_terminal names s) (left self.new)) }
-        ensures silent { IfOk result (λ s. (names : NameTable)
-            → sites_in (named_terminal names s ∷ []) ≡ []) }
-        ensures within { IfOk result (λ s. (names : NameTable) → TerminalIn names s) }
+            → TakenTerminal arch threads self.old self.new names names s) }
         ensures fault { OnErr result ((arch : Arch) (threads : ℕ) (s : TerminalSyntax AtomSyntax)
             (rest : TokenList) → IsTerminal arch threads (left self.old) s rest → begins_part s ≡ false
             → ⊥) }

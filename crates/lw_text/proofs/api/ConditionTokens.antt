@@ -1,9 +1,8 @@
 -- The tokens of sites and of conditions, which say them again. The crates above that print tests use this.
-use Rattle.std.proofs.Common.{◌≡◌, ℕ, ◌<◌, ◌≤◌, ◌^◌, inl, inr, Bool, true, false, List, [], ◌∷◌, ◌++◌, map, length, refl, sym, ap, ◌∙◌, subst, arith}
-use Rattle.std.proofs.Common.{append_assoc}
-use Rattle.std.specs.Prelude.{codes, slice_index_or}
-use Rattle.std.specs.List.{AllByRecursion, flat_map}
-use Rattle.std.specs.Fmt.{decimal}
+use Rattle.std.proofs.Common.{◌≡◌, ℕ, ◌<◌, ◌≤◌, ◌^◌, inl, inr, Bool, true, false, List, [], ◌∷◌, ◌++◌, map}
+use Rattle.std.proofs.Common.{length, refl, sym, ap, ◌∙◌, subst, arith, append_assoc, codes, slice_index_or}
+use Rattle.std.proofs.Common.{flat_map, decimal}
+use Rattle.std.specs.List.{AllByRecursion}
 use Rattle.std.proofs.lemmas.List.{map-append}
 use Rattle.std.proofs.lemmas.List.Elements.{All-from_recursion}
 use Rattle.std.proofs.lemmas.Option.{slice_get-get_or}
@@ -14,17 +13,19 @@ use Rattle.lw_base.specs.declared.head.Quant.TheVariants.{Exists, NotExists, For
 use Rattle.lw_base.specs.declared.head.Seen.{Seen}
 use Rattle.lw_base.specs.declared.head.Seen.TheVariants.{Register, Location}
 use Rattle.lw_base.specs.ConditionTexts.{is_or, is_joined}
-use Rattle.lw_base.specs.Formula.{Formula, Yes, No, Reg_is, Word_is, Not, And, Or}
+use Rattle.lw_base.specs.Formula.{Formula, No, Reg_is, Word_is, Not, And, Or}
 use Rattle.lw_base.specs.Limits.{most_threads}
 use Rattle.lw_base.specs.Lists.{EachOnce}
 use Rattle.lw_base.specs.Names.{IsLocation}
 use Rattle.lw_base.proofs.api.Tables.{IsInTable, index_of-again}
 use Rattle.lw_base.specs.Registers.{register_name}
 use Rattle.lw_base.specs.WellFormed.{IsSeen, SpeaksOf}
-use Rattle.lw_text.specs.Sites.{SiteSyntax, InMemory, InThread, IsSite, ThreadExists, Value, site_names, seen_in}
+use Rattle.lw_text.specs.Sites.{SiteSyntax, InMemory, InThread, IsSite, ThreadExists, Value, site_names}
+use Rattle.lw_text.specs.Sites.{seen_in}
 use Rattle.lw_text.specs.Lists.{Ended}
 use Rattle.lw_text.specs.Propositions.{Terminal, Open, Close, Negation, Conjunction, Disjunction, Atom}
-use Rattle.lw_text.specs.Conditions.{AtomSyntax, Always, Never, Holds, IsTerminal, Terminals, Quantified, sites_in, resolved}
+use Rattle.lw_text.specs.Conditions.{AtomSyntax, Always, Never, Holds, IsTerminal, Terminals, Quantified}
+use Rattle.lw_text.specs.Conditions.{sites_in, resolved}
 use Rattle.lw_base.proofs.api.Elements.{all_append}
 use Rattle.lw_text.proofs.api.Spelling.{decimal_is_number}
 use Rattle.lw_text.proofs.api.PrintedPropositions.{enclosed, enclosed_if, terminals_of}
@@ -45,13 +46,10 @@ value_tokens n = codes "=" ∷ decimal n ∷ []
 
 -- what an atom says, by names
 abbrev pub named_claim : NameTable → Formula → AtomSyntax
-named_claim names Yes = Always
 named_claim names No = Never
 named_claim names (Reg_is t r n) = Holds (InThread t r) n
 named_claim names (Word_is x n) = Holds (InMemory (slice_index_or names x [])) n
-named_claim names (Not p) = Always
-named_claim names (And p q) = Always
-named_claim names (Or p q) = Always
+named_claim names _ = Always
 
 abbrev pub claim_tokens : Arch → AtomSyntax → TokenList
 claim_tokens arch Always = codes "true" ∷ []
@@ -79,17 +77,12 @@ IsPrintable threads names (InMemory x) = IsLocation x × IsInTable names x
 IsPrintable threads names (InThread t r) = (t < threads) × (r < 6)
 
 abbrev pub IsPrintableClaim : ℕ → NameTable → AtomSyntax → Type 0
-IsPrintableClaim threads names Always = Unit {0}
-IsPrintableClaim threads names Never = Unit {0}
 IsPrintableClaim threads names (Holds s n) = IsPrintable threads names s × (n < 2 ^ 32)
+IsPrintableClaim threads names _ = Unit {0}
 
 abbrev pub IsPrintableTerminal : ℕ → NameTable → Terminal AtomSyntax → Type 0
-IsPrintableTerminal threads names Open = Unit {0}
-IsPrintableTerminal threads names Close = Unit {0}
-IsPrintableTerminal threads names Negation = Unit {0}
-IsPrintableTerminal threads names Conjunction = Unit {0}
-IsPrintableTerminal threads names Disjunction = Unit {0}
 IsPrintableTerminal threads names (Atom a) = IsPrintableClaim threads names a
+IsPrintableTerminal threads names _ = Unit {0}
 
 module _ (arch : Arch) (threads : ℕ) (few : threads ≤ most_threads) (names : NameTable) where
   pub site_said : (s : SiteSyntax) (rest : TokenList) → IsPrintable threads names s → IsSite arch (site_tokens arch s ++ rest) s rest
@@ -105,13 +98,7 @@ module _ (arch : Arch) (threads : ℕ) (few : threads ≤ most_threads) (names :
 
   terminal_said : (s : Terminal AtomSyntax) (rest : TokenList) → IsPrintableTerminal threads names s
       → IsTerminal arch threads (terminal_tokens arch s ++ rest) s rest
-  terminal_said Open rest h = refl
-  terminal_said Close rest h = refl
   terminal_said Negation rest h = inl refl
-  terminal_said Conjunction rest h = refl
-  terminal_said Disjunction rest h = refl
-  terminal_said (Atom Always) rest h = refl
-  terminal_said (Atom Never) rest h = refl
   terminal_said (Atom (Holds s n)) rest h = (
     value_tokens n ++ rest,
     subst (λ (ts : TokenList). IsSite arch ts s (value_tokens n ++ rest))
@@ -119,30 +106,34 @@ module _ (arch : Arch) (threads : ℕ) (few : threads ≤ most_threads) (names :
     site_exists s h.0,
     value_said n rest h.1,
   )
+  terminal_said _ rest h = refl
 
   pub terminals_said : (ss : List (Terminal AtomSyntax)) → AllByRecursion (IsPrintableTerminal threads names) ss
       → Terminals arch threads (flat_map (terminal_tokens arch) ss) ss
   terminals_said [] h = refl
   terminals_said (s ∷ ss) h = (flat_map (terminal_tokens arch) ss, terminal_said s (flat_map (terminal_tokens arch) ss) h.0, terminals_said ss h.1)
 
+-- what the locations among sites are, and the sites of terminals
+pub all_names : (P : SiteSyntax → Type 0) (Q : Bytes → Type 0) → ((x : Bytes) → P (InMemory x) → Q x) → (ss : List SiteSyntax) → AllByRecursion P ss
+    → AllByRecursion Q (site_names ss)
+all_names P Q f [] h = tt
+all_names P Q f (InMemory x ∷ ss) h = (f x h.0, all_names P Q f ss h.1)
+all_names P Q f (InThread t r ∷ ss) h = all_names P Q f ss h.1
+
+pub all_sites : (P : Terminal AtomSyntax → Type 0) (Q : SiteSyntax → Type 0) → ((s : SiteSyntax) (n : ℕ) → P (Atom (Holds s n)) → Q s)
+    → (ss : List (Terminal AtomSyntax)) → AllByRecursion P ss → AllByRecursion Q (sites_in ss)
+all_sites P Q f [] h = tt
+all_sites P Q f (Atom (Holds s n) ∷ ss) h = (f s n h.0, all_sites P Q f ss h.1)
+all_sites P Q f (_ ∷ ss) h = all_sites P Q f ss h.1
+
 -- the names of sites and of terminals are in the table
 pub sites_in_table : (threads : ℕ) (names : NameTable) (ss : List SiteSyntax) → AllByRecursion (IsPrintable threads names) ss
     → AllByRecursion (IsInTable names) (site_names ss)
-sites_in_table threads names [] h = tt
-sites_in_table threads names (InMemory x ∷ ss) h = (h.0.1, sites_in_table threads names ss h.1)
-sites_in_table threads names (InThread t r ∷ ss) h = sites_in_table threads names ss h.1
+sites_in_table threads names = all_names (IsPrintable threads names) (IsInTable names) (λ x h. h.1)
 
 pub sites_printable : (threads : ℕ) (names : NameTable) (ss : List (Terminal AtomSyntax)) → AllByRecursion (IsPrintableTerminal threads names) ss
     → AllByRecursion (IsPrintable threads names) (sites_in ss)
-sites_printable threads names [] h = tt
-sites_printable threads names (Open ∷ ss) h = sites_printable threads names ss h.1
-sites_printable threads names (Close ∷ ss) h = sites_printable threads names ss h.1
-sites_printable threads names (Negation ∷ ss) h = sites_printable threads names ss h.1
-sites_printable threads names (Conjunction ∷ ss) h = sites_printable threads names ss h.1
-sites_printable threads names (Disjunction ∷ ss) h = sites_printable threads names ss h.1
-sites_printable threads names (Atom Always ∷ ss) h = sites_printable threads names ss h.1
-sites_printable threads names (Atom Never ∷ ss) h = sites_printable threads names ss h.1
-sites_printable threads names (Atom (Holds s n) ∷ ss) h = (h.0.0, sites_printable threads names ss h.1)
+sites_printable threads names = all_sites (IsPrintableTerminal threads names) (IsPrintable threads names) (λ s n h. h.0)
 
 module _ (threads : ℕ) (names : NameTable) (table : AllByRecursion IsLocation names) where
   pub named_printable : (s : Seen) → IsSeen threads (length names) s → IsPrintable threads names (named_site names s)
@@ -159,21 +150,18 @@ module _ (threads : ℕ) (names : NameTable) (table : AllByRecursion IsLocation 
   part_fine true ss h = enclosed_fine ss h
   part_fine false ss h = h
 
+  joined_fine : (a b : Bool) (ss us : List (Terminal AtomSyntax)) (t : Terminal AtomSyntax) → IsPrintableTerminal threads names t → AreFine ss → AreFine us
+      → AreFine (enclosed_if a ss ++ (t ∷ enclosed_if b us))
+  joined_fine a b ss us t k h i = all_append (IsPrintableTerminal threads names) (enclosed_if a ss) (t ∷ enclosed_if b us) (part_fine a ss h)
+      (k, part_fine b us i)
+
   terminals_fine : (p : Formula) → SpeaksOf threads (length names) p → AreFine (terminals_of (named_claim names) p)
-  terminals_fine Yes h = (tt, tt)
-  terminals_fine No h = (tt, tt)
   terminals_fine (Reg_is t r n) h = (((h.0, h.1), h.2), tt)
   terminals_fine (Word_is x n) h = ((named_printable (Location x) h.0, h.1), tt)
   terminals_fine (Not p) h = (tt, part_fine (is_joined p) (terminals_of (named_claim names) p) (terminals_fine p h))
-  terminals_fine (And p q) h =
-      all_append (IsPrintableTerminal threads names) (enclosed_if (is_or p) (terminals_of (named_claim names) p))
-      (Conjunction ∷ enclosed_if (is_joined q) (terminals_of (named_claim names) q))
-      (part_fine (is_or p) (terminals_of (named_claim names) p) (terminals_fine p h.0))
-      (tt, part_fine (is_joined q) (terminals_of (named_claim names) q) (terminals_fine q h.1))
-  terminals_fine (Or p q) h =
-      all_append (IsPrintableTerminal threads names) (terminals_of (named_claim names) p)
-      (Disjunction ∷ enclosed_if (is_or q) (terminals_of (named_claim names) q))
-      (terminals_fine p h.0) (tt, part_fine (is_or q) (terminals_of (named_claim names) q) (terminals_fine q h.1))
+  terminals_fine (And p q) h = joined_fine (is_or p) (is_joined q) _ _ Conjunction tt (terminals_fine p h.0) (terminals_fine q h.1)
+  terminals_fine (Or p q) h = joined_fine false (is_or q) _ _ Disjunction tt (terminals_fine p h.0) (terminals_fine q h.1)
+  terminals_fine _ h = (tt, tt)
 
   pub whole_fine : (p : Formula) → SpeaksOf threads (length names) p → AreFine (enclosed (terminals_of (named_claim names) p))
   whole_fine p h = enclosed_fine (terminals_of (named_claim names) p) (terminals_fine p h)
@@ -195,6 +183,14 @@ module _ (threads : ℕ) (names : NameTable) (once : EachOnce names) where
   part_again true ss us e = enclosed_again ss us e
   part_again false ss us e = e
 
+  joined_again : (a b : Bool) (ss ws : List (Terminal AtomSyntax)) (us vs : List (Terminal Formula)) (t : Terminal AtomSyntax)
+      → map (resolved names) ss ≡ us → map (resolved names) ws ≡ vs
+      → map (resolved names) (enclosed_if a ss ++ (t ∷ enclosed_if b ws)) ≡ enclosed_if a us ++ (resolved names t ∷ enclosed_if b vs)
+  joined_again a b ss ws us vs t e f =
+      let i = part_again a ss us e in
+      let j = part_again b ws vs f in
+      map-append (resolved names) (enclosed_if a ss) (t ∷ enclosed_if b ws) ∙ cc (i, j)
+
   abbrev named_terms : Formula → List (Terminal AtomSyntax)
   named_terms p = terminals_of (named_claim names) p
 
@@ -202,39 +198,29 @@ module _ (threads : ℕ) (names : NameTable) (once : EachOnce names) where
   formula_terms p = terminals_of (λ q. q) p
 
   terminals_again : (p : Formula) → SpeaksOf threads (length names) p → map (resolved names) (named_terms p) ≡ formula_terms p
-  terminals_again Yes h = refl
-  terminals_again No h = refl
-  terminals_again (Reg_is t r n) h = refl
   terminals_again (Word_is x n) h = ap (λ (y : ℕ). Atom (Word_is y n) ∷ []) (index_of-again names once x h.0)
   terminals_again (Not p) h = ap (λ (l : List (Terminal Formula)). Negation ∷ l)
       (part_again (is_joined p) (named_terms p) (formula_terms p) (terminals_again p h))
-  terminals_again (And p q) h =
-      map-append (resolved names) (enclosed_if (is_or p) (named_terms p)) (Conjunction ∷ enclosed_if (is_joined q) (named_terms q))
-      ∙ ap (λ (l : List (Terminal Formula)). l ++ (Conjunction ∷ map (resolved names) (enclosed_if (is_joined q) (named_terms q))))
-      (part_again (is_or p) (named_terms p) (formula_terms p) (terminals_again p h.0))
-      ∙ ap (λ (l : List (Terminal Formula)). enclosed_if (is_or p) (formula_terms p) ++ (Conjunction ∷ l))
-      (part_again (is_joined q) (named_terms q) (formula_terms q) (terminals_again q h.1))
-  terminals_again (Or p q) h =
-      map-append (resolved names) (named_terms p) (Disjunction ∷ enclosed_if (is_or q) (named_terms q))
-      ∙ ap (λ (l : List (Terminal Formula)). l ++ (Disjunction ∷ map (resolved names) (enclosed_if (is_or q) (named_terms q)))) (terminals_again p h.0)
-      ∙ ap (λ (l : List (Terminal Formula)). formula_terms p ++ (Disjunction ∷ l))
-      (part_again (is_or q) (named_terms q) (formula_terms q) (terminals_again q h.1))
+  terminals_again (And p q) h = joined_again (is_or p) (is_joined q) (named_terms p) (named_terms q) (formula_terms p) (formula_terms q) Conjunction
+      (terminals_again p h.0) (terminals_again q h.1)
+  terminals_again (Or p q) h = joined_again false (is_or q) (named_terms p) (named_terms q) (formula_terms p) (formula_terms q) Disjunction
+      (terminals_again p h.0) (terminals_again q h.1)
+  terminals_again _ h = refl
 
   pub whole_again : (p : Formula) → SpeaksOf threads (length names) p → map (resolved names) (enclosed (named_terms p)) ≡ enclosed (formula_terms p)
   whole_again p h = enclosed_again (named_terms p) (formula_terms p) (terminals_again p h)
 
 pub quantifier_said : (q : Quant) (rest : TokenList) → Quantified (quantifier_tokens q ++ rest) q rest
 quantifier_said Exists rest = refl
-quantifier_said NotExists rest = refl
-quantifier_said Forall rest = refl
+quantifier_said _ rest = refl
 
 -- elements, each with a mark behind it, and another at the end
 pub ended_said : {X : Type 0} (P : TokenList → X → TokenList → Type 0) (tokens : X → TokenList) (sep close : Bytes) (xs : List X) (rest : TokenList)
     → AllByRecursion (λ x. (l : TokenList) → P (tokens x ++ l) x l) xs → Ended P sep close (flat_map (λ x. tokens x ++ sep ∷ []) xs ++ (close ∷ rest)) xs rest
 ended_said P tokens sep close [] rest h = refl
 ended_said P tokens sep close (x ∷ xs) rest h =
-    let next = flat_map (λ y. tokens y ++ sep ∷ []) xs ++ (close ∷ rest) in
-    let e : (tokens x ++ sep ∷ []) ++ next ≡ tokens x ++ (sep ∷ next) = append_assoc (tokens x) (sep ∷ []) next in
-    let f : ((tokens x ++ sep ∷ []) ++ flat_map (λ y. tokens y ++ sep ∷ []) xs) ++ (close ∷ rest) ≡ tokens x ++ (sep ∷ next) = append_assoc
-    (tokens x ++ sep ∷ []) (flat_map (λ y. tokens y ++ sep ∷ []) xs) (close ∷ rest) ∙ e in
-    (sep ∷ next, subst (λ (ts : TokenList). P ts x (sep ∷ next)) (sym f) (h.0 (sep ∷ next)), inr (next, refl, ended_said P tokens sep close xs rest h.1))
+    let more = flat_map (λ y. tokens y ++ sep ∷ []) xs in
+    let next = more ++ (close ∷ rest) in
+    let e : ((tokens x ++ sep ∷ []) ++ more) ++ (close ∷ rest) ≡ tokens x ++ (sep ∷ next) =
+    append_assoc (tokens x ++ sep ∷ []) more (close ∷ rest) ∙ append_assoc (tokens x) (sep ∷ []) next in
+    (sep ∷ next, subst (λ (ts : TokenList). P ts x (sep ∷ next)) (sym e) (h.0 (sep ∷ next)), inr (next, refl, ended_said P tokens sep close xs rest h.1))

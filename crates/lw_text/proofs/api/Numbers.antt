@@ -1,6 +1,5 @@
 -- What the tokens of numbers begin with, and that each stands for one number. The crates of the languages use this.
-use Rattle.std.proofs.Common.{◌≡◌, ℕ, ◌<◌, inl, inr, true, [], ◌∷◌, ◌++◌, ap, subst, arith}
-use Rattle.std.specs.Prelude.{codes}
+use Rattle.std.proofs.Common.{◌≡◌, ℕ, ◌<◌, inl, inr, true, [], ◌∷◌, ◌++◌, ap, subst, arith, codes}
 use Rattle.std.specs.Char.{digit_value, is_ascii_digit}
 use Rattle.std.proofs.lemmas.Bool.Decides.{nat_tests}
 use Rattle.lw_base.specs.Characters.{begins}

@@ -1,9 +1,8 @@
 -- Sites and conditions as they are printed: their texts spell tokens. The crates above that print tests use this.
-use Rattle.std.proofs.Common.{◌≡◌, ℕ, zero, suc, ◌+◌, ◌*◌, ◌<◌, ◌≤◌, ◌^◌, Bool, true, false, not, List, [], ◌∷◌, ◌++◌, length, refl, sym, ap, ◌∙◌, subst, arith}
-use Rattle.std.proofs.Common.{append_assoc}
-use Rattle.std.specs.Prelude.{◌==◌, codes, slice_index_or}
-use Rattle.std.specs.List.{AllByRecursion, flat_map}
-use Rattle.std.specs.Fmt.{decimal}
+use Rattle.std.proofs.Common.{◌≡◌, ℕ, suc, ◌+◌, ◌*◌, ◌<◌, ◌≤◌, ◌^◌, Bool, true, false, not, List, [], ◌∷◌}
+use Rattle.std.proofs.Common.{◌++◌, length, refl, sym, ap, ◌∙◌, subst, arith, append_assoc, ◌==◌, codes}
+use Rattle.std.proofs.Common.{slice_index_or, flat_map, decimal}
+use Rattle.std.specs.List.{AllByRecursion}
 use Rattle.std.proofs.lemmas.Bool.{not-true}
 use Rattle.std.proofs.lemmas.Bool.Decides.{nat_tests}
 use Rattle.std.proofs.lemmas.Fmt.{decimal_nonempty}
@@ -17,7 +16,8 @@ use Rattle.lw_base.specs.declared.head.Quant.TheVariants.{Exists, NotExists, For
 use Rattle.lw_base.specs.declared.head.Seen.{Seen}
 use Rattle.lw_base.specs.declared.head.Seen.TheVariants.{Register, Location}
 use Rattle.lw_base.specs.Characters.{is_word_byte, begins}
-use Rattle.lw_base.specs.ConditionTexts.{site_text, assignment, in_parentheses, parenthesized_if, is_or, is_joined, proposition_text, quantifier_text}
+use Rattle.lw_base.specs.ConditionTexts.{site_text, assignment, in_parentheses, parenthesized_if, is_or}
+use Rattle.lw_base.specs.ConditionTexts.{is_joined, proposition_text, quantifier_text}
 use Rattle.lw_base.specs.Formula.{Formula, Yes, No, Reg_is, Word_is, Not, And, Or, nodes}
 use Rattle.lw_base.specs.Limits.{most_threads}
 use Rattle.lw_base.specs.Names.{IsName, IsLocation}
@@ -27,28 +27,20 @@ use Rattle.lw_text.specs.Tokens.{is_pair}
 use Rattle.lw_text.specs.Propositions.{Terminal, Close, Conjunction, Disjunction, Atom}
 use Rattle.lw_text.specs.Conditions.{AtomSyntax, Always, Never, Holds}
 use Rattle.lw_base.proofs.api.Blanks.{blank_all}
-use Rattle.lw_text.proofs.api.Spelling.{Anything, EndsWord, IsBlankNext, HasNoStar, HasNoEquals, Spells, name_by_test, Spells-then, Spells-on, Spells-before}
-use Rattle.lw_text.proofs.api.Spelling.{Spells-within, Spells-space, Spells-symbol, Spells-mark, Spells-pair, Spells-name, Spells-number, decimal_is_word}
+use Rattle.lw_text.proofs.api.Spelling.{Anything, EndsWord, IsBlankNext, HasNoStar, HasNoEquals, Spells}
+use Rattle.lw_text.proofs.api.Spelling.{name_by_test, Spells-then, Spells-on, Spells-before, Spells-within}
+use Rattle.lw_text.proofs.api.Spelling.{Spells-space, Spells-symbol, Spells-mark, Spells-pair, Spells-name}
+use Rattle.lw_text.proofs.api.Spelling.{Spells-number, decimal_is_word}
 use Rattle.lw_text.proofs.api.PrintedPropositions.{enclosed, enclosed_if, terminals_of}
-use Rattle.lw_text.proofs.api.ConditionTokens.{named_site, site_tokens, value_tokens, named_claim, terminal_tokens, quantifier_tokens}
+use Rattle.lw_text.proofs.api.ConditionTokens.{named_site, site_tokens, value_tokens, named_claim}
+use Rattle.lw_text.proofs.api.ConditionTokens.{terminal_tokens, quantifier_tokens}
 
 -- ---- registers
 
 pub register_is_name : (arch : Arch) (r : ℕ) → r < 6 → IsName (register_name arch r)
-register_is_name Source zero h = name_by_test _ refl
-register_is_name Source (suc zero) h = name_by_test _ refl
-register_is_name Source (suc (suc zero)) h = name_by_test _ refl
-register_is_name Source (suc (suc (suc zero))) h = name_by_test _ refl
-register_is_name Source (suc (suc (suc (suc zero)))) h = name_by_test _ refl
-register_is_name Source (suc (suc (suc (suc (suc zero))))) h = name_by_test _ refl
 register_is_name Source (suc (suc (suc (suc (suc (suc r)))))) h = absurd (omega arith)
-register_is_name X86 zero h = name_by_test _ refl
-register_is_name X86 (suc zero) h = name_by_test _ refl
-register_is_name X86 (suc (suc zero)) h = name_by_test _ refl
-register_is_name X86 (suc (suc (suc zero))) h = name_by_test _ refl
-register_is_name X86 (suc (suc (suc (suc zero)))) h = name_by_test _ refl
-register_is_name X86 (suc (suc (suc (suc (suc zero))))) h = name_by_test _ refl
 register_is_name X86 (suc (suc (suc (suc (suc (suc r)))))) h = absurd (omega arith)
+register_is_name _ _ h = name_by_test _ refl
 
 pub Spells-register : (arch : Arch) (r : ℕ) → r < 6 → Spells EndsWord 32 (register_name arch r) (register_name arch r ∷ [])
 Spells-register arch r h = Spells-name (register_name arch r) (register_is_name arch r h)

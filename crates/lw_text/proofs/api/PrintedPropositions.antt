@@ -1,10 +1,10 @@
 -- The terminals of a formula as it is printed, and that they say it again. The crates above that print tests use this.
-use Rattle.std.proofs.Common.{◌≡◌, Bool, true, false, List, [], ◌∷◌, ◌++◌, refl}
-use Rattle.std.specs.Prelude.{if◌then◌else◌}
+use Rattle.std.proofs.Common.{◌≡◌, Bool, true, false, List, [], ◌∷◌, ◌++◌, refl, if◌then◌else◌}
 use Rattle.lw_base.specs.Formula.{Formula, Yes, No, Reg_is, Word_is, Not, And, Or}
 use Rattle.lw_base.specs.ConditionTexts.{is_or, is_joined}
-use Rattle.lw_text.specs.Propositions.{Terminal, Open, Close, Negation, Conjunction, Disjunction, Atom, PartLevel, ConjunctionLevel, DisjunctionLevel, Derives}
-use Rattle.lw_text.specs.Propositions.{atom, negated, parens, part, and, conjunction, or, IsProposition}
+use Rattle.lw_text.specs.Propositions.{Terminal, Open, Close, Negation, Conjunction, Disjunction, Atom}
+use Rattle.lw_text.specs.Propositions.{PartLevel, ConjunctionLevel, DisjunctionLevel, Derives, atom, negated}
+use Rattle.lw_text.specs.Propositions.{parens, part, and, conjunction, or, IsProposition}
 
 abbrev pub enclosed : {A : Type 0} → List (Terminal A) → List (Terminal A)
 enclosed ss = Open ∷ (ss ++ Close ∷ [])

@@ -1,14 +1,14 @@
 -- The nodes of a proposition are those of its terminals.
-use Rattle.std.proofs.Common.{◌≡◌, ℕ, suc, ◌+◌, List, [], ◌∷◌, ◌++◌, length, map, refl, ap, ◌∙◌, length-append, arith}
+use Rattle.std.proofs.Common.{◌≡◌, ℕ, suc, ◌+◌, List, [], ◌∷◌, ◌++◌, length, map, refl, ap, ◌∙◌}
+use Rattle.std.proofs.Common.{length-append, arith, filter}
 use Rattle.std.proofs.lemmas.List.Elements.{filter-append}
-use Rattle.std.specs.Prelude.{filter}
 use Rattle.std.specs.List.{AllByRecursion}
 use Rattle.lw_base.specs.Formula.{Formula, nodes}
 use Rattle.lw_base.proofs.api.Elements.{all_parts}
 use Rattle.lw_text.specs.Sites.{InMemory, InThread}
-use Rattle.lw_text.specs.Propositions.{Terminal, Open, Close, Negation, Conjunction, Disjunction, Atom, is_node, Level, Derives, atom, negated, parens, part}
-use Rattle.lw_text.specs.Propositions.{and, conjunction, or}
-use Rattle.lw_text.specs.Conditions.{AtomSyntax, Always, Never, Holds, resolved}
+use Rattle.lw_text.specs.Propositions.{Terminal, Open, Close, Conjunction, Disjunction, Atom, is_node, Level}
+use Rattle.lw_text.specs.Propositions.{Derives, atom, negated, parens, part, and, conjunction, or}
+use Rattle.lw_text.specs.Conditions.{AtomSyntax, Holds, resolved}
 
 -- how many of the terminals are nodes
 abbrev pub count : {A : Type 0} → List (Terminal A) → ℕ
@@ -16,14 +16,10 @@ count ss = length (filter is_node ss)
 
 -- an atom's formula is one node
 abbrev pub IsSingle : Terminal Formula → Type 0
-IsSingle Open = Unit {0}
-IsSingle Close = Unit {0}
-IsSingle Negation = Unit {0}
-IsSingle Conjunction = Unit {0}
-IsSingle Disjunction = Unit {0}
 IsSingle (Atom p) = nodes p ≡ 1
+IsSingle _ = Unit {0}
 
-count_append : (ss ts : List (Terminal Formula)) → count (ss ++ ts) ≡ count ss + count ts
+pub count_append : {A : Type 0} (ss ts : List (Terminal A)) → count (ss ++ ts) ≡ count ss + count ts
 count_append ss ts = ap length (filter-append is_node ss ts) ∙ length-append (filter is_node ss) (filter is_node ts)
 
 pub proposition_nodes : {k : Level} {ss : List (Terminal Formula)} {p : Formula} → Derives k ss p → AllByRecursion IsSingle ss → nodes p ≡ count ss
@@ -43,21 +39,13 @@ proposition_nodes (or {ss} {ts} d e) h =
 
 pub resolved_single : (names : List (List ℕ)) (ss : List (Terminal AtomSyntax)) → AllByRecursion IsSingle (map (resolved names) ss)
 resolved_single names [] = tt
-resolved_single names (Open ∷ ss) = (tt, resolved_single names ss)
-resolved_single names (Close ∷ ss) = (tt, resolved_single names ss)
-resolved_single names (Negation ∷ ss) = (tt, resolved_single names ss)
-resolved_single names (Conjunction ∷ ss) = (tt, resolved_single names ss)
-resolved_single names (Disjunction ∷ ss) = (tt, resolved_single names ss)
-resolved_single names (Atom Always ∷ ss) = (refl, resolved_single names ss)
-resolved_single names (Atom Never ∷ ss) = (refl, resolved_single names ss)
 resolved_single names (Atom (Holds (InMemory x) w) ∷ ss) = (refl, resolved_single names ss)
 resolved_single names (Atom (Holds (InThread t r) w) ∷ ss) = (refl, resolved_single names ss)
+resolved_single names (Atom _ ∷ ss) = (refl, resolved_single names ss)
+resolved_single names (_ ∷ ss) = (tt, resolved_single names ss)
 
 pub resolved_count : (names : List (List ℕ)) (ss : List (Terminal AtomSyntax)) → count (map (resolved names) ss) ≡ count ss
 resolved_count names [] = refl
 resolved_count names (Open ∷ ss) = resolved_count names ss
 resolved_count names (Close ∷ ss) = resolved_count names ss
-resolved_count names (Negation ∷ ss) = ap suc (resolved_count names ss)
-resolved_count names (Conjunction ∷ ss) = ap suc (resolved_count names ss)
-resolved_count names (Disjunction ∷ ss) = ap suc (resolved_count names ss)
-resolved_count names (Atom a ∷ ss) = ap suc (resolved_count names ss)
+resolved_count names (_ ∷ ss) = ap suc (resolved_count names ss)

@@ -1,13 +1,12 @@
 -- Texts that spell tokens, before whatever may follow them. The crates above that print tests use this.
-use Rattle.std.proofs.Common.{◌≡◌, ℕ, zero, suc, ◌+◌, ◌*◌, ◌<◌, ◌≤◌, ◌^◌, inl, inr, Bool, true, false, not, [], ◌∷◌, ◌++◌, length, refl, sym, ap, ◌∙◌, subst}
-use Rattle.std.proofs.Common.{arith, append_assoc, append-nil, length-append}
-use Rattle.std.specs.Prelude.{◌==◌, ◌&&◌, nat_lt}
+use Rattle.std.proofs.Common.{◌≡◌, ℕ, zero, suc, ◌+◌, ◌*◌, ◌<◌, ◌≤◌, ◌^◌, inl, inr, Bool, true, false, not}
+use Rattle.std.proofs.Common.{List, [], ◌∷◌, ◌++◌, length, refl, sym, ap, ◌∙◌, subst, arith, append_assoc}
+use Rattle.std.proofs.Common.{append-nil, length-append, ◌==◌, ◌&&◌, nat_lt, IsUtf8, IsAscii, decimal}
+use Rattle.std.proofs.Common.{ltb-true}
 use Rattle.std.specs.List.{AllByRecursion, list_all}
-use Rattle.std.specs.Str.{IsUtf8, IsAscii}
 use Rattle.std.specs.Str.Parse.{AllDigits, digits_value_after}
-use Rattle.std.specs.Fmt.{decimal}
 use Rattle.std.specs.Char.{digit_value, is_ascii_digit}
-use Rattle.std.proofs.lemmas.Bool.{not-true, and_parts, ltb-true}
+use Rattle.std.proofs.lemmas.Bool.{not-true, and_parts}
 use Rattle.std.proofs.lemmas.Bool.Decides.{nat_tests}
 use Rattle.std.proofs.lemmas.Fmt.{decimal_is_IsNumeral, length-decimal-le}
 use Rattle.std.proofs.lemmas.Str.{IsUtf8-nil, IsUtf8-append, IsUtf8-from_ascii}
@@ -15,7 +14,8 @@ use Rattle.std.proofs.lemmas.Str.Parse.{digit_from_value}
 use Rattle.lw_base.specs.Types.{Bytes, TokenList}
 use Rattle.lw_base.specs.Characters.{is_blank, is_word_byte, begins}
 use Rattle.lw_base.specs.Names.{IsName}
-use Rattle.lw_text.specs.Tokens.{opens_comment, none, blank, Digits, IsNumber, IsKind, is_pair, is_single, Tokens}
+use Rattle.lw_text.specs.Tokens.{opens_comment, none, blank, Digits, IsNumber, IsKind, is_pair, is_single}
+use Rattle.lw_text.specs.Tokens.{Tokens}
 use Rattle.lw_base.proofs.api.Blanks.{blank_all}
 
 -- ---- what may follow a text: anything, no byte of a word, a blank, no `*`, or nothing that makes a symbol with a `:`
@@ -152,7 +152,7 @@ Spells-word n w all kind short = record {
 abbrev pub is_name_text : Bytes → Bool
 is_name_text w = (nat_lt 0 (length w) && nat_lt (length w) 33) && (list_all is_word_byte w && not (begins is_ascii_digit w))
 
-all_pass : (p : ℕ → Bool) (w : Bytes) → list_all p w ≡ true → AllByRecursion (λ b. p b ≡ true) w
+pub all_pass : {X : Type 0} (p : X → Bool) (w : List X) → list_all p w ≡ true → AllByRecursion (λ b. p b ≡ true) w
 all_pass p [] h = tt
 all_pass p (b ∷ w) h = let both = and_parts (p b) (list_all p w) h in (both.0, all_pass p w both.1)
 

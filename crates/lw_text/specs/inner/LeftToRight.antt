@@ -6,22 +6,12 @@ use Rattle.lw_text.specs.Propositions.{Terminal, Open, Close, Negation, Conjunct
 
 -- whether a `/\`, or a `\/`, stands at the front
 abbrev pub begins_and : List (Terminal Formula) → Bool
-begins_and [] = false
-begins_and (Open ∷ ss) = false
-begins_and (Close ∷ ss) = false
-begins_and (Negation ∷ ss) = false
 begins_and (Conjunction ∷ ss) = true
-begins_and (Disjunction ∷ ss) = false
-begins_and (Atom p ∷ ss) = false
+begins_and _ = false
 
 abbrev pub begins_or : List (Terminal Formula) → Bool
-begins_or [] = false
-begins_or (Open ∷ ss) = false
-begins_or (Close ∷ ss) = false
-begins_or (Negation ∷ ss) = false
-begins_or (Conjunction ∷ ss) = false
 begins_or (Disjunction ∷ ss) = true
-begins_or (Atom p ∷ ss) = false
+begins_or _ = false
 
 -- What is read: a part that no `/\` and no `\/` takes apart; or how a row of parts goes on, of
 -- which a formula stands so far.

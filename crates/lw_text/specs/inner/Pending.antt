@@ -57,6 +57,10 @@ pub record ReaderState : Type 0 where
   pub group : Pending
   pub outer : List Pending
 
+-- where it stands before any terminal
+abbrev pub begun : ReaderState
+begun = record { part = None; group = opened; outer = [] }
+
 -- The terminals go on behind a part that says p, inside the parentheses of some groups, to a whole
 -- that says q.
 abbrev pub Has : Pending → List Pending → Formula → List (Terminal Formula) → Formula → Type 0
@@ -97,12 +101,10 @@ Completes r ss q = GoesOn (state_of r) ss q
 
 -- a terminal with which a part begins
 abbrev pub begins_part : {A : Type 0} → Terminal A → Bool
-begins_part Open = true
 begins_part Close = false
-begins_part Negation = true
 begins_part Conjunction = false
 begins_part Disjunction = false
-begins_part (Atom a) = true
+begins_part _ = true
 
 -- Where a reader stands behind one more terminal, if that may come next. First: behind a `)`, where
 -- the row inside says p.
@@ -113,21 +115,20 @@ step_out p (o ∷ os) = Some (record { part = Some p; group = o; outer = os })
 -- where a part has to come
 abbrev pub step_before : Pending → List Pending → Terminal Formula → Option ReaderState
 step_before l os Open = Some (record { part = None; group = opened; outer = l ∷ os })
-step_before l os Close = None
 step_before l os Negation = Some (record { part = None; group = with_not l; outer = os })
-step_before l os Conjunction = None
-step_before l os Disjunction = None
 step_before l os (Atom p) = Some (record { part = Some p; group = l; outer = os })
+step_before l os _ = None
 
 -- behind a part that says p
 abbrev pub step_behind : Formula → Pending → List Pending → Terminal Formula → Option ReaderState
-step_behind p l os Open = None
 step_behind p l os Close = step_out (ors_of l p) os
-step_behind p l os Negation = None
 step_behind p l os Conjunction = Some (record { part = None; group = with_and l p; outer = os })
 step_behind p l os Disjunction = Some (record { part = None; group = with_or l p; outer = os })
-step_behind p l os (Atom q) = None
+step_behind p l os _ = None
 
 abbrev pub step : Option Formula → Pending → List Pending → Terminal Formula → Option ReaderState
 step None l os s = step_before l os s
 step (Some p) l os s = step_behind p l os s
+
+abbrev pub state_behind : ReaderState → Terminal Formula → Option ReaderState
+state_behind r s = step r.part r.group r.outer s

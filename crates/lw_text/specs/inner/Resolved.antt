@@ -118,15 +118,9 @@ named_terminal names (terminals.Atom a) = Claims (named_atom names a)
 
 -- the table has the locations of these claims
 abbrev pub AtomIn : NameTable → Atom → Type 0
-AtomIn names atoms.Always = Unit {0}
-AtomIn names atoms.Never = Unit {0}
 AtomIn names (atoms.WordIs loc n) = loc < length names
-AtomIn names (atoms.RegIs t r n) = Unit {0}
+AtomIn names _ = Unit {0}
 
 abbrev pub TerminalIn : NameTable → MadeTerminal → Type 0
-TerminalIn names terminals.Open = Unit {0}
-TerminalIn names terminals.Close = Unit {0}
-TerminalIn names terminals.Negation = Unit {0}
-TerminalIn names terminals.Conjunction = Unit {0}
-TerminalIn names terminals.Disjunction = Unit {0}
 TerminalIn names (terminals.Atom a) = AtomIn names a
+TerminalIn names _ = Unit {0}

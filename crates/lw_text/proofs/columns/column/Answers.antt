@@ -1,5 +1,4 @@
-use Rattle.std.proofs.Common.{◌≡◌, ◌<◌, ◌∙◌, sym, ap, subst, length, get_or, arith}
-use Rattle.std.proofs.lemmas.List.{take_all}
+use Rattle.std.proofs.Common.{◌≡◌, ◌<◌, ◌∙◌, sym, ap, subst, length, get_or, arith, take_all}
 use Rattle.lw_text.specs.Rows.{column}
 use Rattle.lw_text.proofs.RowColumns.{column-more}
 use Rattle.lw_text.proofs.columns.column.Goals as goal

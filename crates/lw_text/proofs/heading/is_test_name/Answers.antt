@@ -1,9 +1,11 @@
-use Rattle.std.proofs.Common.{◌≡◌, ◌∙◌, not, true, length, sym, refl, ap, arith}
+use Rattle.std.proofs.Common.{◌≡◌, ◌∙◌, not, true, length, sym, refl, ap, arith, ne_eqb}
 use Rattle.std.specs.Char.{is_ascii_graphic}
-use Rattle.std.proofs.lemmas.Bool.{false≢true, not-true, eqb-false, ne_eqb}
+use Rattle.std.specs.List.{list_all}
+use Rattle.std.proofs.lemmas.Bool.{false≢true, not-true, eqb-false}
 use Rattle.std.proofs.lemmas.List.Elements.{All-from_recursion}
 use Rattle.std.proofs.lemmas.List.Folds.{list_all_more}
-use Rattle.lw_text.proofs.Entries.{all_taken, all_each}
+use Rattle.lw_text.proofs.Entries.{at_end}
+use Rattle.lw_text.proofs.api.Spelling.{all_pass}
 use Rattle.lw_text.proofs.heading.is_test_name.Goals as goal
 
 pub loop-byte-preserved : goal.loop-byte-preserved
@@ -22,7 +24,7 @@ returns c = (
   λ e. record {
     some = omega (arith, eqb-false _ _ (sym c.is_empty.ensures ∙ not-true _ e));
     short = c.if-name-gt-MAX_TEST_NAME_BYTES.false;
-    all = all_each is_ascii_graphic c.args.name.now (all_taken is_ascii_graphic c.args.name.now c.loop-byte.byte-index c.loop-byte-test.false
+    all = all_pass is_ascii_graphic c.args.name.now (at_end (list_all is_ascii_graphic) c.args.name.now c.loop-byte.byte-index true c.loop-byte-test.false
         c.loop-byte.invariant);
   },
   λ is. ap not (c.is_empty.ensures ∙ ne_eqb (length c.args.name.now) 0 (λ e. omega (arith, e, is.some))),

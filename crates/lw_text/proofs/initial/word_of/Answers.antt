@@ -1,5 +1,4 @@
-use Rattle.std.proofs.Common.{Bool, ◌∙◌, sym, ap, take}
-use Rattle.std.specs.Prelude.{if◌then◌else◌}
+use Rattle.std.proofs.Common.{Bool, ◌∙◌, sym, ap, take, if◌then◌else◌}
 use Rattle.lw_text.specs.inner.Resolved.{seen_of, word_at}
 use Rattle.lw_text.proofs.Starts.{word_more}
 use Rattle.lw_text.proofs.initial.word_of.Goals.{then-is_same, else-is_same}

@@ -1,5 +1,4 @@
-use Rattle.std.proofs.Common.{inl, ap}
-use Rattle.std.specs.Prelude.{◌==◌}
+use Rattle.std.proofs.Common.{inl, ap, ◌==◌}
 use Rattle.std.proofs.lemmas.Result.{on_err_weaker}
 use Rattle.lw_base.specs.Characters.{begins}
 use Rattle.lw_text.proofs.NoteRows.{no_note, no_quote, Quoted-made, Quoted-open}

@@ -1,5 +1,4 @@
-use Rattle.std.proofs.Common.{arith, ap, length, length-append}
-use Rattle.std.specs.Prelude.{◌==◌}
+use Rattle.std.proofs.Common.{arith, ap, length, length-append, ◌==◌}
 use Rattle.lw_base.proofs.api.Returns.{passed_on}
 use Rattle.lw_base.specs.Characters.{begins}
 use Rattle.lw_text.proofs.TriviaLemmas.{Trivia-suffix}

@@ -1,12 +1,12 @@
-use Rattle.std.proofs.Common.{◌≡◌, ◌<◌, ◌≤◌, ◌∙◌, ap, sym, length, arith}
-use Rattle.std.specs.Str.{IsUtf8, IsValidUpTo}
+use Rattle.std.proofs.Common.{◌≡◌, ◌<◌, ◌≤◌, ◌∙◌, ap, sym, length, arith, IsUtf8}
+use Rattle.std.specs.Str.{IsValidUpTo}
 use Rattle.lw_base.specs.Limits.{most_text_bytes}
 use Rattle.lw_text.specs.declared.fault.TextFault.{TextFault}
-use Rattle.lw_text.specs.declared.fault.TextCause.TheVariants as cause
 use Rattle.std.proofs.lemmas.Result.{err_from_is_err_and}
 use Rattle.lw_text.specs.Causes.{told}
 use Rattle.lw_base.proofs.api.Returns.{turned}
-use Rattle.lw_text.proofs.Faults.{not_ok, told-Memory, told-TooLong, told-NotUtf8, not_too_long}
+use Rattle.lw_text.proofs.Faults.{not_ok, told-Memory, told-TooLong, told-NotUtf8}
+use Rattle.lw_text.specs.declared.fault.TextCause.TheVariants as cause
 use Rattle.lw_text.proofs.read.read_frame.Goals as goal
 
 pub returns-in-Err-clause-too_long : goal.returns-in-Err-clause-too_long
@@ -41,7 +41,7 @@ pub returns-in-Err-clause-fault : goal.returns-in-Err-clause-fault
 returns-in-Err-clause-fault g c = λ _ frame has. c.in-Err.ensures.cases.0 has.utf8
 
 pub returns-in-Err-clause-only_too_long : goal.returns-in-Err-clause-only_too_long
-returns-in-Err-clause-only_too_long g c = λ e. absurd (not_too_long e)
+returns-in-Err-clause-only_too_long g c = λ e. absurd cc
 
 pub returns-in_err-read_text-clause-found : goal.returns-in_err-read_text-clause-found
 returns-in_err-read_text-clause-found g c = not_ok _ _ c.from_residual.ensures.0
@@ -66,7 +66,13 @@ returns-in_err-read_text-clause-only_not_utf8 g c = turned (λ (t : TextFault). 
     (λ t q e. absurd (told-NotUtf8 _ (sym q.1 ∙ e)))
 
 pub returns-clause-found : goal.returns-clause-found
-returns-clause-found g c = c.in_ok-read_text.ensures.found
+returns-clause-found g c = c.in_ok-read_text.ensures.found.0
+
+pub returns-clause-cells : goal.returns-clause-cells
+returns-clause-cells g c = c.in_ok-read_text.ensures.found.1
+
+pub returns-clause-len : goal.returns-clause-len
+returns-clause-len g c = c.in_ok-read_text.ensures.found.2
 
 pub returns-clause-not_utf8 : goal.returns-clause-not_utf8
 returns-clause-not_utf8 g c = λ _ broken. absurd (broken c.in_default.ensures.cases.1)

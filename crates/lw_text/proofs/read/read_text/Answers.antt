@@ -1,5 +1,4 @@
-use Rattle.std.proofs.Common.{◌≡◌, ◌≤◌, length, sym, ap, ◌∙◌, subst, arith}
-use Rattle.std.specs.Prelude.{All, IfNone, IfSome}
+use Rattle.std.proofs.Common.{◌≡◌, ◌≤◌, length, sym, ap, ◌∙◌, subst, arith, All, IfNone, IfSome}
 use Rattle.lw_base.proofs.api.Returns.{passed_on, turned, out_of_memory}
 use Rattle.lw_text.specs.declared.fault.Fault.{Fault}
 use Rattle.lw_text.specs.declared.fault.Cause.TheVariants.{Memory}
@@ -24,8 +23,6 @@ use Rattle.lw_text.proofs.read.read_text.Goals as goal
 pub returns-in_err-heading : goal.returns-in_err-heading
 returns-in_err-heading g c = record {
   found = not_ok _ _ c.from_residual.ensures.0;
-  cells = not_ok _ _ c.from_residual.ensures.0;
-  len = not_ok _ _ c.from_residual.ensures.0;
   fault = passed_on _ _ c.from_residual.ensures.1 (λ _ frame h. c.in_err-heading.ensures.fault h.arch h.name h.rest
       (subst (λ t. Heading t h.arch h.name h.rest) (sym c.new-lexer.ensures.rest) h.heading));
   place = passed_on _ _ c.from_residual.ensures.1 (omega (arith, c.in_err-heading.ensures.place, ap length c.new-lexer.ensures.text));
@@ -43,8 +40,6 @@ body-read-requires-clause-fault g c = subst (λ t. IfSome c.in_ok-row.row.fault 
 pub returns-in_err-body : goal.returns-in_err-body
 returns-in_err-body g c = record {
   found = not_ok _ _ c.from_residual-in_err-body.ensures.0;
-  cells = not_ok _ _ c.from_residual-in_err-body.ensures.0;
-  len = not_ok _ _ c.from_residual-in_err-body.ensures.0;
   fault =
       let row = c.in_ok-row.row in
       let heading = subst (λ t. Heading t c.in_ok-heading.heading.arch c.in_ok-heading.heading.name.now c.heading.new.self.rest.now)
@@ -56,7 +51,7 @@ returns-in_err-body g c = record {
 }
 
 pub finish-requires-clause-says : goal.finish-requires-clause-says
-finish-requires-clause-says g c = (_, c.in_ok-body.ensures.found)
+finish-requires-clause-says g c = (_, c.in_ok-body.ensures.found.1)
 
 pub finish-requires-clause-name : goal.finish-requires-clause-name
 finish-requires-clause-name g c = c.in_ok-heading.ensures.found.3.is_name
@@ -67,64 +62,61 @@ finish-requires-clause-within g c =
     let len = length c.args.text.now in
     let whole = c.in_ok-heading.ensures.same ∙ c.new-lexer.ensures.text in
     let within = subst (λ t. All (λ token. token.at ≤ length t) c.in_ok-row.row.tokens) whole c.in_ok-row.ensures.within in
-    HasRows-within len c.in_ok-heading.heading.arch c.in_ok-row.row.tokens body.parts.threads body.rows c.in_ok-body.ensures.rows within
+    HasRows-within len c.in_ok-heading.heading.arch c.in_ok-row.row.tokens body.parts.threads body.rows c.in_ok-body.ensures.found.2 within
 
 pub returns-clause-found : goal.returns-clause-found
 returns-clause-found g c =
+    let arch = c.in_ok-heading.heading.arch in
+    let name = c.in_ok-heading.heading.name.now in
+    let rest = c.heading.new.self.rest.now in
     let body = c.in_ok-body.body in
+    let row = c.in_ok-row.row in
     let frame = c.in_ok-finish.field-0 in
-    let says = c.in_ok-body.ensures.found in
-    let head : head_of frame.head ≡ head_of_syntax c.in_ok-heading.heading.arch c.in_ok-heading.heading.name.now says.syntax
-    (formula_of body.parts.prop) = c.in_ok-finish.ensures.head ∙ head_made c.in_ok-heading.heading.arch c.in_ok-heading.heading.name.now _ body says in
+    let says = c.in_ok-body.ensures.found.1 in
+    let heading = subst (λ t. Heading t arch name rest) c.new-lexer.ensures.rest c.in_ok-heading.ensures.found in
+    let head : head_of frame.head ≡ head_of_syntax arch name says.syntax (formula_of body.parts.prop) = c.in_ok-finish.ensures.head
+    ∙ head_made arch name _ body says in
     let cells : all_texts frame.cells ≡ columns body.parts.threads (all_texts body.rows) = ap all_texts c.in_ok-finish.ensures.cells
     ∙ columns-texts body.parts.threads body.rows in
     let same : columns body.parts.threads (all_texts body.rows) ≡ columns says.syntax.threads says.syntax.rows = ap
     (λ (s : TestSyntax). columns s.threads s.rows) (sym says.is) in
-    record {
-      short = c.requires.short;
-      utf8 = c.requires.utf8;
-      arch = c.in_ok-heading.heading.arch;
-      name = c.in_ok-heading.heading.name.now;
-      rest = c.heading.new.self.rest.now;
-      tokens = texts c.in_ok-row.row.tokens;
-      syntax = says.syntax;
-      condition = formula_of body.parts.prop;
-      heading = subst (λ t. Heading t c.in_ok-heading.heading.arch c.in_ok-heading.heading.name.now c.heading.new.self.rest.now)
-          c.new-lexer.ensures.rest c.in_ok-heading.ensures.found;
-      row = subst (λ o. IfNone o (Tokens c.heading.new.self.rest.now (texts c.in_ok-row.row.tokens))) c.in_ok-body.ensures.whole
-          (read_whole c.in_ok-row.row.fault _ _ c.in_ok-row.row.tokens c.in_ok-row.ensures.found);
-      parts = says.parts;
-      proposition = body_proposition c.in_ok-heading.heading.arch (texts c.in_ok-row.row.tokens) body says;
-      made = cc (head, cells, same);
-    }
-
-pub returns-clause-cells : goal.returns-clause-cells
-returns-clause-cells g c =
-    let body = c.in_ok-body.body in
-    let row = c.in_ok-row.row in
-    let rest = c.heading.new.self.rest.now in
     let whole = c.in_ok-heading.ensures.same ∙ c.new-lexer.ensures.text in
-    let stream = subst (λ o. IfNone o (PlacedTokens (length c.heading.new.self.text.now) rest (placed_tokens row.tokens))) c.in_ok-body.ensures.whole
-    c.in_ok-row.ensures.found in
-    record {
-      arch = c.in_ok-heading.heading.arch;
-      name = c.in_ok-heading.heading.name.now;
-      rest = rest;
-      heading = subst (λ t. Heading t c.in_ok-heading.heading.arch c.in_ok-heading.heading.name.now rest) c.new-lexer.ensures.rest
-          c.in_ok-heading.ensures.found;
-      tokens = placed_tokens row.tokens;
-      stream = subst (λ t. PlacedTokens (length t) rest (placed_tokens row.tokens)) whole stream;
-      threads = body.parts.threads;
-      rows = placed_cells body.rows;
-      has_rows = c.in_ok-body.ensures.rows;
-      are = ap placed_cells c.in_ok-finish.ensures.cells ∙ columns-placed body.parts.threads body.rows;
-    }
+    let stream = subst (λ o. IfNone o (PlacedTokens (length c.heading.new.self.text.now) rest (placed_tokens row.tokens))) c.in_ok-body.ensures.found.0
+    c.in_ok-row.ensures.found in (
+      record {
+        short = c.requires.short;
+        utf8 = c.requires.utf8;
+        arch = arch;
+        name = name;
+        rest = rest;
+        tokens = texts row.tokens;
+        syntax = says.syntax;
+        condition = formula_of body.parts.prop;
+        heading = heading;
+        row = subst (λ o. IfNone o (Tokens rest (texts row.tokens))) c.in_ok-body.ensures.found.0
+            (read_whole row.fault _ _ row.tokens c.in_ok-row.ensures.found);
+        parts = says.parts;
+        proposition = body_proposition arch (texts row.tokens) body says;
+        made = cc (head, cells, same);
+      },
+      record {
+        arch = arch;
+        name = name;
+        rest = rest;
+        heading = heading;
+        tokens = placed_tokens row.tokens;
+        stream = subst (λ t. PlacedTokens (length t) rest (placed_tokens row.tokens)) whole stream;
+        threads = body.parts.threads;
+        rows = placed_cells body.rows;
+        has_rows = c.in_ok-body.ensures.found.2;
+        are = ap placed_cells c.in_ok-finish.ensures.cells ∙ columns-placed body.parts.threads body.rows;
+      },
+      c.in_ok-finish.ensures.len,
+    )
 
 pub returns-in_err-row : goal.returns-in_err-row
 returns-in_err-row g c = record {
   found = not_ok _ _ c.from_residual-in_err-row.ensures.0;
-  cells = not_ok _ _ c.from_residual-in_err-row.ensures.0;
-  len = not_ok _ _ c.from_residual-in_err-row.ensures.0;
   fault = out_of_memory (λ (f : Fault). f.cause) Memory (λ f. f.at ≡ 0) _ _ c.from_residual-in_err-row.ensures.1;
   place = turned (λ (f : Fault). f.at ≤ length c.args.text.now) _ c.from_residual-in_err-row.ensures.1 (λ f q. omega (arith, q.0));
 }
@@ -132,11 +124,6 @@ returns-in_err-row g c = record {
 pub returns-in_err-finish : goal.returns-in_err-finish
 returns-in_err-finish g c = record {
   found = not_ok _ _ c.from_residual-in_err-finish.ensures.0;
-  cells = not_ok _ _ c.from_residual-in_err-finish.ensures.0;
-  len = not_ok _ _ c.from_residual-in_err-finish.ensures.0;
   fault = out_of_memory (λ (f : Fault). f.cause) Memory (λ f. f.at ≡ 0) _ _ c.from_residual-in_err-finish.ensures.1;
   place = turned (λ (f : Fault). f.at ≤ length c.args.text.now) _ c.from_residual-in_err-finish.ensures.1 (λ f q. omega (arith, q.0));
 }
-
-pub returns-clause-len : goal.returns-clause-len
-returns-clause-len g c = c.in_ok-finish.ensures.len

@@ -1,8 +1,9 @@
-use Rattle.std.proofs.Common.{◌≡◌, ◌∷◌, ◌++◌, ◌∙◌, [], sym, ap, subst}
-use Rattle.std.specs.Prelude.{OnOk}
+use Rattle.std.proofs.Common.{◌≡◌, false, ◌∷◌, ◌++◌, ◌∙◌, [], sym, ap, subst, OnOk}
+use Rattle.std.specs.List.{list_any}
+use Rattle.lw_text.proofs.Entries.{at_end}
 use Rattle.lw_base.specs.SeenLists.{same_seen}
 use Rattle.lw_text.specs.inner.Resolved.{seen_of, is_listed}
-use Rattle.lw_text.proofs.Starts.{none_more, none_taken, some_at, seen_one, seen_no}
+use Rattle.lw_text.proofs.Starts.{none_more, some_at, seen_one, seen_no}
 use Rattle.lw_text.proofs.seen.see.Goals as goal
 
 pub loop-listed-preserved : goal.loop-listed-preserved
@@ -24,5 +25,5 @@ pub returns : goal.returns
 returns g c =
     c.loop-listed.invariant.same
     ∙ seen_no (is_listed c.args.sites.now) (seen_of c.args.site) c.args.seen.now
-    (none_taken (λ site. same_seen (seen_of site) (seen_of c.args.site)) c.args.sites.now c.loop-listed.listed-index c.loop-listed-test.false
+    (at_end (list_any (λ site. same_seen (seen_of site) (seen_of c.args.site))) c.args.sites.now c.loop-listed.listed-index false c.loop-listed-test.false
     c.loop-listed.invariant.none)

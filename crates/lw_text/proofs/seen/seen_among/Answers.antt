@@ -1,7 +1,6 @@
-use Rattle.std.proofs.Common.{◌≡◌, ◌∷◌, [], ◌++◌, ◌∙◌, ◌<◌, length, map, take, get_or, subst, sym, ap, refl, ℕ, arith, length-take}
-use Rattle.std.proofs.lemmas.List.{append-nil}
+use Rattle.std.proofs.Common.{◌≡◌, ◌∷◌, [], ◌++◌, ◌∙◌, ◌<◌, length, map, take, get_or, subst, sym, ap, refl}
+use Rattle.std.proofs.Common.{ℕ, arith, length-take, append-nil, filter}
 use Rattle.lw_base.specs.declared.head.Seen.TheVariants.{Location, Register}
-use Rattle.std.specs.Prelude.{filter}
 use Rattle.std.specs.List.{range_with_len}
 use Rattle.lw_base.specs.Limits.{most_threads}
 use Rattle.lw_base.specs.SeenLists.{all_registers}

@@ -1,6 +1,7 @@
 use Rattle.std.proofs.Common.{arith, ap, length, length-append}
 use Rattle.lw_text.proofs.Comments.{Comment-shorter}
-use Rattle.lw_text.proofs.TriviaLemmas.{Skipped-none, Skipped-blanks, Skipped-comment, Skipped-open, Skipped-done}
+use Rattle.lw_text.proofs.TriviaLemmas.{Skipped-none, Skipped-blanks, Skipped-comment, Skipped-open}
+use Rattle.lw_text.proofs.TriviaLemmas.{Skipped-done}
 use Rattle.lw_text.proofs.Numbers.{if_none}
 use Rattle.lw_text.proofs.trivia.after_trivia.Goals as goal
 

@@ -1,16 +1,13 @@
-use Rattle.std.proofs.Common.{◌≡◌, ◌∷◌, length}
-use Rattle.std.specs.Prelude.{codes}
-use Rattle.lw_base.specs.Types.{TokenList}
+use Rattle.std.proofs.Common.{length}
 use Rattle.lw_text.specs.Spans.{Leaves}
 use Rattle.lw_text.specs.Views.{remaining, left}
-use Rattle.lw_text.proofs.Blocks.{EntriesRead}
+use Rattle.lw_text.proofs.Blocks.{entries}
+use Rattle.lw_text.proofs.Readings.{Read}
 use Rattle.lw_text.proofs.cursor.Cursor.block.Given as goal
 
 abbrev pub invariant-entries : goal.invariant-entries
 invariant-entries g l = record {
-  start : TokenList;
-  begun : left l.fn.self ≡ codes "{" ∷ start;
-  read : EntriesRead l.arch l.fn.locs l.locs start (left l.self) l.entries;
+  read : Read (entries l.arch) l.fn.locs l.locs (left l.fn.self) (left l.self) l.entries;
   leaves : Leaves (remaining l.fn.self) (remaining l.self);
 }
 

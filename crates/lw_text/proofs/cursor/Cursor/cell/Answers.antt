@@ -1,6 +1,7 @@
-use Rattle.std.proofs.Common.{◌≡◌, ◌∷◌, [], ◌++◌, ◌∙◌, false, refl, sym, ap, subst, length, arith, append_assoc}
+use Rattle.std.proofs.Common.{◌≡◌, ◌∷◌, [], ◌++◌, ◌∙◌, false, refl, sym, ap, subst, length, arith}
+use Rattle.std.proofs.Common.{append_assoc, append-nil}
 use Rattle.std.specs.List.{AllByRecursion}
-use Rattle.std.proofs.lemmas.List.{map_push, map-append, append-nil}
+use Rattle.std.proofs.lemmas.List.{map_push, map-append}
 use Rattle.lw_base.proofs.api.Returns.{passed_on}
 use Rattle.lw_text.specs.declared.token.Token.{Token}
 use Rattle.lw_text.specs.Rows.{ends_cell}
@@ -23,30 +24,22 @@ cell-preserved g c =
           (all_push (λ t. ends_cell t ≡ false) (texts c.cell.cell) token.text.now c.cell.invariant.plain (sym c.ends_cell.ensures ∙ c.if-ends_cell.false));
     })
 
-pub returns-then-ends_cell-clause-tokens : goal.returns-then-ends_cell-clause-tokens
-returns-then-ends_cell-clause-tokens g c = c.cell.invariant.tokens ∙ ap (λ ts. c.cell.cell ++ ts) c.in_ok-token.ensures.token
-
-pub returns-then-ends_cell-clause-plain : goal.returns-then-ends_cell-clause-plain
-returns-then-ends_cell-clause-plain g c = c.cell.invariant.plain
-
-pub returns-then-ends_cell-clause-mark : goal.returns-then-ends_cell-clause-mark
-returns-then-ends_cell-clause-mark g c = sym c.ends_cell.ensures ∙ c.if-ends_cell.true
+pub returns-then-ends_cell-clause-ok : goal.returns-then-ends_cell-clause-ok
+returns-then-ends_cell-clause-ok g c =
+    let cell = c.cell.cell in
+    let tokens = c.cell.invariant.tokens ∙ ap (λ ts. cell ++ ts) c.in_ok-token.ensures.token in (
+      tokens,
+      ap texts tokens ∙ map-append (λ (t : Token). t.text.now) cell (c.in_ok-token.token ∷ remaining c.take.new.self),
+      c.cell.invariant.plain,
+      sym c.ends_cell.ensures ∙ c.if-ends_cell.true,
+    )
 
 pub cell-init : goal.cell-init
 cell-init g c = rw c.requires (record { tokens = refl; plain = tt })
 
-pub returns-then-ends_cell-clause-parts : goal.returns-then-ends_cell-clause-parts
-returns-then-ends_cell-clause-parts g c =
-    let token = c.in_ok-token.token in
-    ap texts (c.cell.invariant.tokens ∙ ap (λ ts. c.cell.cell ++ ts) c.in_ok-token.ensures.token) ∙ map-append (λ (t : Token). t.text.now) c.cell.cell
-    (token ∷ remaining c.take.new.self)
-
 pub returns-in_err-token : goal.returns-in_err-token
 returns-in_err-token g c = record {
-  tokens = not_ok _ _ c.from_residual.ensures.0;
-  parts = not_ok _ _ c.from_residual.ensures.0;
-  plain = not_ok _ _ c.from_residual.ensures.0;
-  mark = not_ok _ _ c.from_residual.ensures.0;
+  ok = not_ok _ _ c.from_residual.ensures.0;
   err =
       let here = remaining c.cell.self in
       let all = ap texts c.cell.invariant.tokens ∙ map-append (λ (t : Token). t.text.now) c.cell.cell here ∙ ap

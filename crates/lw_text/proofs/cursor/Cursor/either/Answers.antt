@@ -1,6 +1,6 @@
 use Rattle.std.proofs.Common.{◌∙◌, sym, ap}
 use Rattle.lw_text.specs.Views.{left}
-use Rattle.lw_text.proofs.CellPlaces.{Leaves-join}
+use Rattle.lw_text.proofs.Lists.{Leaves-join}
 use Rattle.lw_text.proofs.Texts.{no_word_next}
 use Rattle.lw_text.proofs.cursor.Cursor.either.Goals as goal
 

@@ -1,9 +1,8 @@
-use Rattle.std.proofs.Common.{◌≡◌, ◌∷◌, [], ◌∙◌, refl, ap, subst, arith, Bool}
-use Rattle.std.specs.Prelude.{codes, if◌then◌else◌}
+use Rattle.std.proofs.Common.{◌∷◌, [], ◌∙◌, refl, ap, arith}
 use Rattle.lw_text.specs.Rows.{thread_name}
 use Rattle.lw_text.specs.Views.{left}
 use Rattle.lw_text.proofs.Headers.{NamesTo-start, Names-more}
-use Rattle.lw_text.proofs.CellPlaces.{Leaves-join}
+use Rattle.lw_text.proofs.Lists.{Leaves-join}
 use Rattle.lw_text.proofs.cursor.Cursor.header.Goals as goal
 
 pub loop-thread-init : goal.loop-thread-init
@@ -13,8 +12,7 @@ pub loop-thread-preserved : goal.loop-thread-preserved
 loop-thread-preserved c = record {
   names = Names-more (left c.args.self.now) (left c.loop-thread.self) c.loop-thread.thread c.loop-thread.invariant.names (left c.expect.new.self)
       (c.in_ok-expect.ensures.ok ∙ ap (λ x. x ∷ left c.expect.new.self) c.thread_name.ensures) (left c.either.new.self)
-      (subst (λ (b : Bool). left c.expect.new.self ≡ (if b then codes ";" else codes "|") ∷ left c.either.new.self) c.if-branch.false
-      c.in_ok-either.ensures.ok);
+      (rw c.if-branch.false at c.in_ok-either.ensures.ok);
   leaves = Leaves-join c.loop-thread.invariant.leaves (Leaves-join c.in_ok-expect.ensures.leaves c.in_ok-either.ensures.leaves);
 }
 
@@ -28,8 +26,7 @@ pub returns-then-branch-clause-found : goal.returns-then-branch-clause-found
 returns-then-branch-clause-found c = (
   c.loop-thread.invariant.names.given 0 (left c.either.new.self)
       (c.in_ok-expect.ensures.ok ∙ ap (λ x. x ∷ left c.expect.new.self) c.thread_name.ensures ∙ ap (λ l. thread_name c.loop-thread.thread ∷ l)
-      (subst (λ (b : Bool). left c.expect.new.self ≡ (if b then codes ";" else codes "|") ∷ left c.either.new.self) c.if-branch.true
-      c.in_ok-either.ensures.ok)),
+      (rw c.if-branch.true at c.in_ok-either.ensures.ok)),
   omega (arith, c.loop-thread-test.true),
 )
 

@@ -20,7 +20,6 @@ cell-requires g c = c.new-tokens.ensures
 pub returns-in_err-mark : goal.returns-in_err-mark
 returns-in_err-mark g c = record {
   found = not_ok _ _ c.from_residual.ensures.0;
-  cut = not_ok _ _ c.from_residual.ensures.0;
   fault = passed_on _ _ c.from_residual.ensures.1 (λ ne all rest line. Cells-open (left c.args.self.now) (left c.cells.self)
       (cells_texts c.cells.cells) c.cells.invariant.before (c.in_err-mark.ensures.err ne) all rest line.0);
 }
@@ -28,7 +27,6 @@ returns-in_err-mark g c = record {
 pub returns-in_err-push : goal.returns-in_err-push
 returns-in_err-push g c = record {
   found = not_ok _ _ c.from_residual-in_err-push.ensures.0;
-  cut = not_ok _ _ c.from_residual-in_err-push.ensures.0;
   fault = memory_ran_out _ _ c.from_residual-in_err-push.ensures.1;
 }
 
@@ -37,29 +35,28 @@ returns-then-eq-clause-fault g c =
     let line : RowCells (left c.args.self.now) (cells_texts c.push.new.self) (left c.cell.new.self) = rw
     (c.in_ok-push.ensures.ok, map_push cell_texts c.cells.cells)
     (Cells-closed (left c.args.self.now) (left c.cells.self) (cells_texts c.cells.cells) c.cells.invariant.before
-    (texts c.cell.new.cell) c.in_ok-mark.mark.text.now (left c.cell.new.self) c.in_ok-mark.ensures.parts c.in_ok-mark.ensures.plain
+    (texts c.cell.new.cell) c.in_ok-mark.mark.text.now (left c.cell.new.self) c.in_ok-mark.ensures.ok.1 c.in_ok-mark.ensures.ok.2
     (is_text _ _ (sym c.eq.ensures ∙ c.if-eq.true))) in
     λ _. Row-ragged (left c.args.self.now) (left c.cell.new.self) (cells_texts c.push.new.self) line c.args.threads
     (λ e. c.if-len-threads.false (omega (arith, c.len.ensures, length-map c.push.new.self cell_texts, e)))
 
 pub returns-then-len-threads-clause-found : goal.returns-then-len-threads-clause-found
 returns-then-len-threads-clause-found g c = (
-  rw (c.in_ok-push.ensures.ok, map_push cell_texts c.cells.cells)
-      (Cells-closed (left c.args.self.now) (left c.cells.self) (cells_texts c.cells.cells) c.cells.invariant.before
-      (texts c.cell.new.cell) c.in_ok-mark.mark.text.now (left c.cell.new.self) c.in_ok-mark.ensures.parts c.in_ok-mark.ensures.plain
-      (is_text _ _ (sym c.eq.ensures ∙ c.if-eq.true))),
-  omega (arith, c.if-len-threads.true, c.len.ensures, length-map c.push.new.self cell_texts),
+  (
+    rw (c.in_ok-push.ensures.ok, map_push cell_texts c.cells.cells)
+        (Cells-closed (left c.args.self.now) (left c.cells.self) (cells_texts c.cells.cells) c.cells.invariant.before
+        (texts c.cell.new.cell) c.in_ok-mark.mark.text.now (left c.cell.new.self) c.in_ok-mark.ensures.ok.1 c.in_ok-mark.ensures.ok.2
+        (is_text _ _ (sym c.eq.ensures ∙ c.if-eq.true))),
+    omega (arith, c.if-len-threads.true, c.len.ensures, length-map c.push.new.self cell_texts),
+  ),
+  rw c.in_ok-push.ensures.ok (cells_more (remaining c.args.self.now) (remaining c.cells.self) (remaining c.cell.new.self) c.cells.cells _
+      c.in_ok-mark.mark c.cells.invariant.cut c.in_ok-mark.ensures.ok.0 refl c.in_ok-mark.ensures.ok.3),
 )
-
-pub returns-then-len-threads-clause-cut : goal.returns-then-len-threads-clause-cut
-returns-then-len-threads-clause-cut g c = rw c.in_ok-push.ensures.ok
-    (cells_more (remaining c.args.self.now) (remaining c.cells.self)
-    (remaining c.cell.new.self) c.cells.cells _ c.in_ok-mark.mark c.cells.invariant.cut c.in_ok-mark.ensures.tokens refl c.in_ok-mark.ensures.mark)
 
 pub cells-smaller : goal.cells-smaller
 cells-smaller g c = omega (
   arith,
-  ap length c.in_ok-mark.ensures.parts,
+  ap length c.in_ok-mark.ensures.ok.1,
   length-append (texts c.cell.new.cell)
       (c.in_ok-mark.mark.text.now ∷ left c.cell.new.self),
 )
@@ -68,8 +65,8 @@ pub cells-preserved : goal.cells-preserved
 cells-preserved g c = record {
   before = rw (c.in_ok-push.ensures.ok, map_push cell_texts c.cells.cells)
       (Cells-more (left c.args.self.now) (left c.cells.self) (cells_texts c.cells.cells) c.cells.invariant.before
-      (texts c.cell.new.cell) c.in_ok-mark.mark.text.now (left c.cell.new.self) c.in_ok-mark.ensures.parts c.in_ok-mark.ensures.plain
-      (is_bar _ c.in_ok-mark.ensures.mark (sym c.eq.ensures ∙ c.if-eq.false)));
+      (texts c.cell.new.cell) c.in_ok-mark.mark.text.now (left c.cell.new.self) c.in_ok-mark.ensures.ok.1 c.in_ok-mark.ensures.ok.2
+      (is_bar _ c.in_ok-mark.ensures.ok.3 (sym c.eq.ensures ∙ c.if-eq.false)));
   cut = rw c.in_ok-push.ensures.ok (cells_more (remaining c.args.self.now) (remaining c.cells.self)
-      (remaining c.cell.new.self) c.cells.cells _ c.in_ok-mark.mark c.cells.invariant.cut c.in_ok-mark.ensures.tokens refl c.in_ok-mark.ensures.mark);
+      (remaining c.cell.new.self) c.cells.cells _ c.in_ok-mark.mark c.cells.invariant.cut c.in_ok-mark.ensures.ok.0 refl c.in_ok-mark.ensures.ok.3);
 }

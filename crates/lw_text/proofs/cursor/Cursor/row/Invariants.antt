@@ -1,5 +1,4 @@
-use Rattle.std.proofs.Common.{length}
-use Rattle.std.specs.Prelude.{codes}
+use Rattle.std.proofs.Common.{length, codes}
 use Rattle.lw_text.specs.Rows.{Cell}
 use Rattle.lw_text.specs.Places.{cells_texts, placed_tokens, placed_row}
 use Rattle.lw_text.specs.PlacedCells.{CellsFrom}

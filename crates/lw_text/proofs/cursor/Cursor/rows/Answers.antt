@@ -9,9 +9,11 @@ use Rattle.lw_text.proofs.CellPlaces.{rows_more}
 use Rattle.lw_text.proofs.cursor.Cursor.rows.Goals as goal
 
 pub returns-then-at_stop-clause-found : goal.returns-then-at_stop-clause-found
-returns-then-at_stop-clause-found g c =
-    Rows-found c.args.threads (left c.args.self.now) (left c.rows.self) (all_texts c.rows.rows) c.rows.invariant.passed
-    (sym c.at_stop.ensures ∙ c.if-at_stop.true) (omega (arith, c.rows.invariant.few, length-map c.rows.rows cells_texts))
+returns-then-at_stop-clause-found g c = (
+  Rows-found c.args.threads (left c.args.self.now) (left c.rows.self) (all_texts c.rows.rows) c.rows.invariant.passed
+      (sym c.at_stop.ensures ∙ c.if-at_stop.true) (omega (arith, c.rows.invariant.few, length-map c.rows.rows cells_texts)),
+  c.rows.invariant.cut,
+)
 
 pub returns-then-len-eq-MAX_ROWS-clause-fault : goal.returns-then-len-eq-MAX_ROWS-clause-fault
 returns-then-len-eq-MAX_ROWS-clause-fault g c =
@@ -21,7 +23,6 @@ returns-then-len-eq-MAX_ROWS-clause-fault g c =
 pub returns-in_err-row : goal.returns-in_err-row
 returns-in_err-row g c = record {
   found = not_ok _ _ c.from_residual.ensures.0;
-  cut = not_ok _ _ c.from_residual.ensures.0;
   fault = passed_on _ _ c.from_residual.ensures.1 (λ ne. Rows-fault c.args.threads (left c.args.self.now) (left c.rows.self)
       (all_texts c.rows.rows) c.rows.invariant.passed (sym c.at_stop.ensures ∙ c.if-at_stop.false) (c.in_err-row.ensures.fault ne));
 }
@@ -29,20 +30,19 @@ returns-in_err-row g c = record {
 pub returns-in_err-push : goal.returns-in_err-push
 returns-in_err-push g c = record {
   found = not_ok _ _ c.from_residual-in_err-push.ensures.0;
-  cut = not_ok _ _ c.from_residual-in_err-push.ensures.0;
   fault = memory_ran_out _ _ c.from_residual-in_err-push.ensures.1;
 }
 
 pub rows-smaller : goal.rows-smaller
-rows-smaller g c = Row-shorter c.args.threads _ _ _ c.in_ok-row.ensures.found
+rows-smaller g c = Row-shorter c.args.threads _ _ _ c.in_ok-row.ensures.found.0
 
 pub rows-preserved : goal.rows-preserved
 rows-preserved g c = record {
   passed = rw (c.in_ok-push.ensures.ok, map_push cells_texts c.rows.rows)
       (Rows-more c.args.threads (left c.args.self.now) (left c.rows.self) (all_texts c.rows.rows) c.rows.invariant.passed (left c.row.new.self)
-      (cells_texts c.in_ok-row.field-0) (sym c.at_stop.ensures ∙ c.if-at_stop.false) c.in_ok-row.ensures.found);
+      (cells_texts c.in_ok-row.field-0) (sym c.at_stop.ensures ∙ c.if-at_stop.false) c.in_ok-row.ensures.found.0);
   cut = rw c.in_ok-push.ensures.ok (rows_more (remaining c.args.self.now) (remaining c.rows.self)
-      (remaining c.row.new.self) c.rows.rows c.in_ok-row.field-0 c.rows.invariant.cut c.in_ok-row.ensures.cut);
+      (remaining c.row.new.self) c.rows.rows c.in_ok-row.field-0 c.rows.invariant.cut c.in_ok-row.ensures.found.1);
   few = omega (
     arith,
     ap length c.in_ok-push.ensures.ok,

@@ -29,7 +29,7 @@ returns-in_default-arch_named-clause-fault c =
     λ arch name rest h. c.in_default-arch_named.ensures arch (sym (First-unique _ _ _ _ _ here h.2).0)
 
 pub returns-in_default-arch_named-clause-place : goal.returns-in_default-arch_named-clause-place
-returns-in_default-arch_named-clause-place c = rw c.in-Some.is at c.in_ok-token.ensures.at
+returns-in_default-arch_named-clause-place c = let stands = rw c.in-Some.is at c.in_ok-token.ensures.stands in omega (arith, stands)
 
 pub returns-in_err-name : goal.returns-in_err-name
 returns-in_err-name c =

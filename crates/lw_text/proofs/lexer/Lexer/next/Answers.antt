@@ -1,31 +1,28 @@
-use Rattle.std.proofs.Common.{arith, ap, sym, refl, subst, ◌∙◌, [], ◌++◌, length, length-append, append_assoc}
+use Rattle.std.proofs.Common.{arith, ap, refl, subst, [], length, length-append}
 use Rattle.std.proofs.lemmas.Bool.Decides.{nat_tests}
 use Rattle.lw_text.specs.Tokens.{Trivia}
-use Rattle.lw_text.proofs.TriviaLemmas.{Trivia-suffix}
-use Rattle.lw_text.proofs.TokenRows.{Suffix-more, not_ended, no_first_from, no_first_open}
+use Rattle.lw_text.proofs.TriviaLemmas.{Trivia-shorter}
+use Rattle.lw_text.proofs.TokenRows.{not_ended, no_first_from, no_first_open}
 use Rattle.lw_text.proofs.lexer.Lexer.next.Goals as goal
 
 pub overflow_sub-at : goal.overflow_sub-at
-overflow_sub-at c =
-    let s = c.args.self.now in
-    let g = Trivia-suffix c.in-Some.ensures.found in
-    (Suffix-more s.text.now s.rest.now g.0 c.in-Some.start.now s.suffix g.1).0
+overflow_sub-at c = omega (arith, c.args.self.now.within, Trivia-shorter c.in-Some.ensures.found)
 
 pub invariant_of-self : goal.invariant_of-self
-invariant_of-self c =
-    let s = c.args.self.now in
-    let g = Trivia-suffix c.in-Some.ensures.found in
-    let f = c.in-Ok.ensures.found in
-    let m = Suffix-more s.text.now s.rest.now (g.0 ++ c.in-Ok.text.now) c.in-Ok.rest.now s.suffix
-    (g.1 ∙ ap (λ x. g.0 ++ x) f.0 ∙ sym (append_assoc g.0 c.in-Ok.text.now c.in-Ok.rest.now)) in
-    record { within = m.0; suffix = m.1 }
+invariant_of-self c = record {
+  within = omega (
+    arith,
+    c.args.self.now.within,
+    Trivia-shorter c.in-Some.ensures.found,
+    ap length c.in-Ok.ensures.found.0,
+    length-append c.in-Ok.text.now c.in-Ok.rest.now,
+  );
+}
 
 pub returns-in-Ok-clause-stands : goal.returns-in-Ok-clause-stands
 returns-in-Ok-clause-stands c =
-    let s = c.args.self.now in
-    let g = Trivia-suffix c.in-Some.ensures.found in
-    let within = (Suffix-more s.text.now s.rest.now g.0 c.in-Some.start.now s.suffix g.1).0 in
-    omega (arith, within, ap length c.in-Ok.ensures.found.0, length-append c.in-Ok.text.now c.in-Ok.rest.now)
+    let shorter = Trivia-shorter c.in-Some.ensures.found in
+    omega (arith, c.args.self.now.within, shorter, ap length c.in-Ok.ensures.found.0, length-append c.in-Ok.text.now c.in-Ok.rest.now)
 
 pub returns-in-Err-clause-no_end : goal.returns-in-Err-clause-no_end
 returns-in-Err-clause-no_end c = not_ended c.args.self.now.rest.now c.in-Some.start.now c.in-Some.ensures.found c.in-Some.ensures.stops
@@ -43,9 +40,6 @@ returns-in_default-clause-no_end c = c.in_default.ensures.none [] refl
 
 pub returns-in-Ok-clause-end : goal.returns-in-Ok-clause-end
 returns-in-Ok-clause-end c = (subst (Trivia c.args.self.now.rest.now) c.in-Ok.ensures.found.0 c.in-Some.ensures.found, c.in-Ok.ensures.found.1)
-
-pub returns-in-Ok-clause-at : goal.returns-in-Ok-clause-at
-returns-in-Ok-clause-at c = omega arith
 
 pub returns-in-Err-clause-place : goal.returns-in-Err-clause-place
 returns-in-Err-clause-place c = omega arith

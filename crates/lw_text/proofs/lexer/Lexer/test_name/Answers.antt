@@ -1,38 +1,44 @@
-use Rattle.std.proofs.Common.{arith, ap, ◌++◌, sym, refl, subst, ◌∙◌, length, length-append, append_assoc}
+use Rattle.std.proofs.Common.{◌≡◌, arith, ap, ◌++◌, sym, refl, subst, ◌∙◌, length, length-append}
 use Rattle.std.proofs.lemmas.Bool.{false≢true}
 use Rattle.std.proofs.lemmas.Bool.Decides.{nat_tests}
 use Rattle.lw_base.specs.Names.{IsTestName}
-use Rattle.lw_text.proofs.TokenRows.{Suffix-more}
-use Rattle.lw_text.proofs.Headings.{no_name, not_apart, bad_name, name_ascii}
+use Rattle.lw_text.proofs.Headings.{Named-parts, name_ascii}
 use Rattle.lw_text.proofs.lexer.Lexer.test_name.Goals as goal
 
 pub returns-then-is_empty-clause-fault : goal.returns-then-is_empty-clause-fault
-returns-then-is_empty-clause-fault c =
+returns-then-is_empty-clause-fault c n r p =
     let b = c.front.ensures in
     let u = c.front-2.ensures in
-    no_name c.args.self.now.rest.now _ _ _ _ b.parts b.all b.longest u.parts u.all u.longest (grind (arith, nat_tests))
+    let k = Named-parts c.args.self.now.rest.now _ _ _ _ b.parts b.all b.longest u.parts u.all u.longest n r p in
+    let none : length c.front-2.result.0.now ≡ 0 = grind (arith, nat_tests) in
+    omega (arith, none, p.is_name.some, ap length k.1)
 
 pub returns-then-is_empty-2-clause-fault : goal.returns-then-is_empty-2-clause-fault
-returns-then-is_empty-2-clause-fault c =
+returns-then-is_empty-2-clause-fault c n r p =
     let b = c.front.ensures in
     let u = c.front-2.ensures in
-    not_apart c.args.self.now.rest.now _ _ _ _ b.parts b.all b.longest u.parts u.all u.longest (grind (arith, nat_tests))
+    let k = Named-parts c.args.self.now.rest.now _ _ _ _ b.parts b.all b.longest u.parts u.all u.longest n r p in
+    let none : length c.front.result.0.now ≡ 0 = grind (arith, nat_tests) in
+    omega (arith, none, p.apart, ap length k.0)
 
 pub returns-then-not-is_test_name-clause-fault : goal.returns-then-not-is_test_name-clause-fault
-returns-then-not-is_test_name-clause-fault c =
+returns-then-not-is_test_name-clause-fault c n r p =
     let b = c.front.ensures in
     let u = c.front-2.ensures in
-    bad_name c.args.self.now.rest.now _ _ _ _ b.parts b.all b.longest u.parts u.all u.longest (λ is. false≢true (c.if-not-is_test_name.ensures.1 is))
+    let k = Named-parts c.args.self.now.rest.now _ _ _ _ b.parts b.all b.longest u.parts u.all u.longest n r p in
+    false≢true (c.if-not-is_test_name.ensures.1 (subst IsTestName k.1 p.is_name))
 
 pub invariant_of-self : goal.invariant_of-self
-invariant_of-self c =
-    let s = c.args.self.now in
-    let space = c.front.result.0.now in
-    let name = c.front-2.result.0.now in
-    let rest = c.front-2.result.1.now in
-    let m = Suffix-more s.text.now s.rest.now (space ++ name) rest s.suffix
-    (c.front.ensures.parts ∙ ap (λ x. space ++ x) c.front-2.ensures.parts ∙ sym (append_assoc space name rest)) in
-    record { within = m.0; suffix = m.1 }
+invariant_of-self c = record {
+  within = omega (
+    arith,
+    c.args.self.now.within,
+    ap length c.front.ensures.parts,
+    length-append c.front.result.0.now c.front.result.1.now,
+    ap length c.front-2.ensures.parts,
+    length-append c.front-2.result.0.now c.front-2.result.1.now,
+  );
+}
 
 pub overflow_sub-at : goal.overflow_sub-at
 overflow_sub-at c = omega (arith, c.args.self.now.within, ap length c.front.ensures.parts, length-append c.front.result.0.now c.front.result.1.now)

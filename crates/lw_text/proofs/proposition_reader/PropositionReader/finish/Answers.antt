@@ -1,5 +1,5 @@
-use Rattle.std.proofs.Common.{option_map, map, reverse, ap, sym, ◌∙◌, arith}
-use Rattle.std.proofs.lemmas.Bool.{eqb-true, eqb-false}
+use Rattle.std.proofs.Common.{option_map, map, reverse, ap, sym, ◌∙◌, arith, eqb-true}
+use Rattle.std.proofs.lemmas.Bool.{eqb-false}
 use Rattle.lw_base.specs.Propositions.{formula_of}
 use Rattle.lw_text.specs.inner.Pending.{group_of, ors_of}
 use Rattle.lw_text.proofs.Faults.{memory_ran_out}

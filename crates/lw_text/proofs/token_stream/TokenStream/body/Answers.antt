@@ -24,16 +24,11 @@ returns-in-Some-clause-fault g c = λ _. rw c.in-Some.is tt
 pub returns-in-Some-clause-place : goal.returns-in-Some-clause-place
 returns-in-Some-clause-place g c = rw c.in-Some.is at c.requires.fault
 
-pub returns-in-None-clause-whole : goal.returns-in-None-clause-whole
-returns-in-None-clause-whole g c = c.in-None.is
-
 pub returns-in-None-clause-found : goal.returns-in-None-clause-found
 returns-in-None-clause-found g c =
-    let read : left c.new-cursor.result ≡ texts c.args.self.now.tokens = ap texts (c.new-cursor.ensures ∙ c.as_slice.ensures) in
-    subst (λ ts. HasSyntax c.args.arch ts c.in-Ok.body) read c.in-Ok.ensures.found
-
-pub returns-in-None-clause-rows : goal.returns-in-None-clause-rows
-returns-in-None-clause-rows g c =
     let body = c.in-Ok.body in
-    subst (λ ts. HasRows c.args.arch (placed_tokens ts) body.parts.threads (placed_cells body.rows))
-    (c.new-cursor.ensures ∙ c.as_slice.ensures) c.in-Ok.ensures.rows
+    let read = c.new-cursor.ensures ∙ c.as_slice.ensures in (
+      c.in-None.is,
+      subst (λ ts. HasSyntax c.args.arch ts body) (ap texts read) c.in-Ok.ensures.found.0,
+      subst (λ ts. HasRows c.args.arch (placed_tokens ts) body.parts.threads (placed_cells body.rows)) read c.in-Ok.ensures.found.1,
+    )

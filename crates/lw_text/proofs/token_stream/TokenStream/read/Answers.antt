@@ -3,8 +3,9 @@ use Rattle.std.proofs.lemmas.List.{map_push}
 use Rattle.std.proofs.lemmas.List.Elements.{All-from_recursion}
 use Rattle.lw_text.specs.declared.token.Token.{Token}
 use Rattle.lw_text.specs.Places.{placed, placed_tokens}
+use Rattle.lw_text.proofs.Lists.{Chain-push}
 use Rattle.lw_text.proofs.Readings.{all_push}
-use Rattle.lw_text.proofs.TokenRows.{Read-push, Read-done, Read-fault, Tokens-none, First-shorter}
+use Rattle.lw_text.proofs.TokenRows.{Placed, Read-done, Read-fault, Tokens-none, First-shorter}
 use Rattle.lw_text.proofs.token_stream.TokenStream.read.Goals as goal
 
 pub tokens-smaller : goal.tokens-smaller
@@ -24,8 +25,8 @@ tokens-preserved g c =
     record {
       same = c.in-Ok-Some.ensures.same ∙ same;
       row = rw (c.in_ok-push-in-Ok-Some.ensures.ok, map_push placed before t)
-          (Read-push len (placed_tokens before) c.args.lexer.rest.now c.tokens.lexer.rest.now (placed t) next c.tokens.invariant.row f
-          (omega (arith, stands, ap length same)));
+          (Chain-push (Placed len) (placed_tokens before) c.args.lexer.rest.now c.tokens.lexer.rest.now next (placed t) c.tokens.invariant.row
+          (f, omega (arith, stands, ap length same)));
       within = rw c.in_ok-push-in-Ok-Some.ensures.ok (all_push (λ (t : Token). t.at ≤ len) before t c.tokens.invariant.within
           (omega (arith, stands, ap length same)));
     }
