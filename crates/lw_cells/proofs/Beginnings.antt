@@ -1,11 +1,9 @@
 -- With what statements begin, and behind what locations stand.
-use Rattle.std.proofs.Common.{◌≡◌, true, Option, Some, List, [], ◌∷◌, ◌++◌, refl, sym, subst, arith}
-use Rattle.std.specs.Prelude.{codes, Contains}
-use Rattle.std.specs.Fmt.{decimal}
+use Rattle.std.proofs.Common.{◌≡◌, true, Option, Some, List, [], ◌∷◌, ◌++◌, refl, sym, subst, arith, codes}
+use Rattle.std.proofs.Common.{Contains, decimal}
 use Rattle.lw_base.specs.Names.{IsLocation}
 use Rattle.lw_base.specs.Registers.{register_name}
 use Rattle.lw_base.specs.Types.{Bytes, TokenList}
-use Rattle.lw_base.specs.declared.operand.Operand.TheVariants as operand
 use Rattle.lw_text.proofs.api.Spelling.{name_by_test, decimal_is_number}
 use Rattle.lw_cells.specs.declared.draft.Operands.{Operands}
 use Rattle.lw_cells.specs.declared.slot.Slot.{Slot}
@@ -14,6 +12,7 @@ use Rattle.lw_cells.specs.Grammars.{CanBegin, BeforeLocation}
 use Rattle.lw_cells.specs.Spellings.{Spelling, Given, Filling, Gives, Fills, grammar_of, name_in}
 use Rattle.lw_cells.specs.Found.{CanStand, BeginsWith, names_none, names_one, IsSpelling}
 use Rattle.lw_cells.proofs.api.Forms.{passes}
+use Rattle.lw_base.specs.declared.operand.Operand.TheVariants as operand
 
 module _ {W Form Stmt : Type 0} (spelling : Spelling W Form Stmt) where
   -- Some token stands at each slot, so some tokens stand at any slots.
@@ -50,12 +49,8 @@ module _ {W Form Stmt : Type 0} (spelling : Spelling W Form Stmt) where
 
   none_there : (front back : List (Slot W)) → names_none spelling (front ++ Location ∷ back) ≡ true → ⊥
   none_there [] back e = absurd cc
-  none_there (Word w ∷ front) back e = none_there front back e
-  none_there (Register ∷ front) back e = none_there front back e
   none_there (Location ∷ front) back e = absurd cc
-  none_there (Value ∷ front) back e = none_there front back e
-  none_there (Number ∷ front) back e = none_there front back e
-  none_there (Label ∷ front) back e = none_there front back e
+  none_there (slot ∷ front) back e = none_there front back e
 
   module _ (x : Bytes) (loc : IsLocation x) (back : List (Slot W)) (us : TokenList) (g : Filling back) (behind : Fills spelling us back g) where
     abbrev IsAt : TokenList → List (Slot W) → Type 0
@@ -68,12 +63,8 @@ module _ {W Form Stmt : Type 0} (spelling : Spelling W Form Stmt) where
     located [] [] f h e = ((x, g), ((refl, loc), behind), refl)
     located (t ∷ ts) [] f h e = absurd h
     located [] (slot ∷ front) f h e = absurd h
-    located (t ∷ ts) (Word w ∷ front) f h e = let r = located ts front f.1 h.1 e in ((f.0, r.0), (h.0, r.1), r.2)
-    located (t ∷ ts) (Register ∷ front) f h e = let r = located ts front f.1 h.1 e in ((f.0, r.0), (h.0, r.1), r.2)
     located (t ∷ ts) (Location ∷ front) f h e = absurd (none_there front back e)
-    located (t ∷ ts) (Value ∷ front) f h e = let r = located ts front f.1 h.1 e in ((f.0, r.0), (h.0, r.1), r.2)
-    located (t ∷ ts) (Number ∷ front) f h e = let r = located ts front f.1 h.1 e in ((f.0, r.0), (h.0, r.1), r.2)
-    located (t ∷ ts) (Label ∷ front) f h e = let r = located ts front f.1 h.1 e in ((f.0, r.0), (h.0, r.1), r.2)
+    located (t ∷ ts) (slot ∷ front) f h e = let r = located ts front f.1 h.1 e in ((f.0, r.0), (h.0, r.1), r.2)
 
   pub before : (made : Form → Operands → Option Stmt) → IsSpelling spelling made → (form : Form) (front back : List (Slot W)) (ts : TokenList)
       → Contains spelling.forms form → spelling.slots_of form ≡ front ++ Location ∷ back → CanStand spelling ts front

@@ -14,7 +14,8 @@ use Rattle.lw_cells.specs.Grammars.{Grammar, IsGrammar}
 use Rattle.lw_cells.specs.Faults.{TellsBy}
 use Rattle.lw_cells.specs.Words.{LiesWithin}
 use Rattle.lw_cells.specs.Drafts.{LabelMap, ColumnDrafted, leading_in}
-use Rattle.lw_cells.specs.Reading.{LabelsRead, LabelsTaken, LabelsRefused, FitsBelow, MaybeCause, MaybeRefused, ColumnRefused, ColumnsRefused}
+use Rattle.lw_cells.specs.Reading.{LabelsRead, LabelsTaken, LabelsRefused, FitsBelow, MaybeCause}
+use Rattle.lw_cells.specs.Reading.{MaybeRefused, ColumnRefused, ColumnsRefused}
 use Rattle.lw_cells.proofs.Elements.{all_amid}
 use Rattle.lw_cells.proofs.Drafts.{labels_none, statement_none}
 use Rattle.lw_cells.proofs.FaultPlaces.{labels_tell, statement_tells}

@@ -1,14 +1,14 @@
 -- Reading the cells of a thread, one further.
-use Rattle.std.proofs.Common.{◌≡◌, ℕ, suc, ◌<◌, ◌≤◌, ◌+◌, ◌*◌, Option, Some, None, ◌⊎◌, inl, inr, List, [], ◌∷◌, ◌++◌, length, length-append, map, take, drop}
-use Rattle.std.proofs.Common.{get_or, refl, sym, ap, ◌∙◌, subst, arith}
-use Rattle.std.specs.Prelude.{slice_get, codes, All}
-use Rattle.std.specs.List.{AllZip, filter_map, cons_option}
-use Rattle.std.specs.Option.{option_map, option_len, ForSome}
-use Rattle.std.proofs.lemmas.List.{map-append, length-map, length-take, append_assoc, take-append-drop}
+use Rattle.std.proofs.Common.{◌≡◌, ℕ, ◌≤◌, ◌+◌, ◌*◌, Option, Some, None, ◌⊎◌, inl, inr, List, [], ◌∷◌, ◌++◌}
+use Rattle.std.proofs.Common.{length, length-append, map, take, drop, refl, sym, ap, ◌∙◌, subst, arith}
+use Rattle.std.proofs.Common.{slice_get, codes, All, filter_map, option_map, length-take, length-drop}
+use Rattle.std.proofs.Common.{append_assoc}
+use Rattle.std.specs.List.{AllZip}
+use Rattle.std.specs.Option.{option_len, ForSome}
+use Rattle.std.proofs.lemmas.List.{map-append, length-map}
 use Rattle.std.proofs.lemmas.List.Elements.{filter_map-append, Contains-append_left}
-use Rattle.std.proofs.Math.Seq.{take-suc, drop-cons}
 use Rattle.lw_base.specs.declared.fault.CellCause.{CellCause}
-use Rattle.lw_base.specs.declared.fault.CellCause.TheVariants.{Form, Register, LabelMissing, LabelTwice, Backward, TooMany, Memory}
+use Rattle.lw_base.specs.declared.fault.CellCause.TheVariants.{TooMany}
 use Rattle.lw_base.specs.Lists.{EachOnce}
 use Rattle.lw_base.specs.Tables.{with_names}
 use Rattle.lw_base.proofs.api.GrowingTables.{with_names-append, with_names-longer}
@@ -18,47 +18,38 @@ use Rattle.lw_text.specs.Spans.{texts}
 use Rattle.lw_text.specs.Places.{cell_texts, cells_texts}
 use Rattle.lw_cells.specs.declared.draft.DraftCell.{DraftCell}
 use Rattle.lw_cells.specs.Grammars.{Grammar, IsGrammar, CanBegin}
-use Rattle.lw_cells.specs.Cells.{CellSyntax, MaybeStatement, Labels, CellSays, Column, statements, labels_of, names_in}
+use Rattle.lw_cells.specs.Cells.{CellSyntax, MaybeStatement, Labels, CellSays, Column, statements, labels_of}
+use Rattle.lw_cells.specs.Cells.{names_in}
 use Rattle.lw_cells.specs.Words.{IsMisfit}
-use Rattle.lw_cells.specs.Drafts.{draft_in, draft_cell, LabelMap, DraftRead, IsFresh, ColumnDrafted, first_names, leading, leading_in, leads_to}
+use Rattle.lw_cells.specs.Drafts.{draft_in, draft_cell, LabelMap, DraftRead, IsFresh, ColumnDrafted}
+use Rattle.lw_cells.specs.Drafts.{first_names, leading, leading_in, leads_to}
 use Rattle.lw_cells.specs.declared.column.DraftColumn.{DraftColumn}
 use Rattle.lw_cells.specs.declared.phrase.Phrase.{Phrase}
 use Rattle.lw_base.specs.declared.fault.CellFault.{CellFault}
-use Rattle.lw_cells.specs.Reading.{Fits, FitsBelow, StatementCause, MaybeCause, AtLabel, LabelsRead, LabelsTaken, StatementRead, MaybeRead, bare}
-use Rattle.lw_cells.specs.Reading.{StatementRefused, MaybeRefused}
+use Rattle.lw_cells.specs.Reading.{Fits, FitsBelow, StatementCause, MaybeCause, AtLabel, LabelsRead}
+use Rattle.lw_cells.specs.Reading.{LabelsTaken, StatementRead, MaybeRead, bare, StatementRefused}
+use Rattle.lw_cells.specs.Reading.{MaybeRefused}
 use Rattle.lw_cells.proofs.Causes.{misfit_cause}
-use Rattle.lw_cells.proofs.FrontLabels.{Labels-rest, Labels-unique, names_read, behind}
+use Rattle.lw_cells.proofs.Elements.{all_apart, mapped_alike}
+use Rattle.lw_cells.proofs.FrontLabels.{Labels-whole, Labels-unique, labels_rest, names_read, behind}
 use Rattle.lw_cells.proofs.Leads.{statements-append, labels_of-append, first_names_in, leading_in-append}
 use Rattle.lw_cells.proofs.OneReading.{cell_unique, no_label}
 use Rattle.lw_cells.proofs.api.Zips.{zip_unique, zip_more, zip_cut}
 use Rattle.lw_cells.proofs.ResolvedNames.{LocationsExist, LocationExists, all_there, number_in-along}
 
--- the cells before one, that one, and the cells behind it
-pub cells_cut : {A : Type 0} (cells : List (Cell A)) (i : ℕ) (cell : Cell A) → i < length cells → cell ≡ get_or cells i cell
-    → cells ≡ take i cells ++ cell ∷ drop (suc i) cells
-cells_cut {A} cells i cell within is =
-    sym (take-append-drop i cells) ∙ ap (λ (r : List (Cell A)). take i cells ++ r)
-    (drop-cons cells i cell within ∙ ap (λ (c : Cell A). c ∷ drop (suc i) cells) (sym is))
-
-pub cells_more : {A : Type 0} (cells : List (Cell A)) (i : ℕ) (cell : Cell A) → i < length cells → cell ≡ get_or cells i cell
-    → take (i + 1) cells ≡ take i cells ++ cell ∷ []
-cells_more {A} cells i cell within is =
-    let next : i + 1 ≡ suc i = omega arith in
-    ap (λ (n : ℕ). take n cells) next ∙ take-suc cells i cell within ∙ ap (λ (c : Cell A). take i cells ++ c ∷ []) (sym is)
-
 -- each label is two tokens
-labels_length : (ts : List (List ℕ)) (ls rest : List (List ℕ)) → Labels ts ls rest → length ts ≡ 2 * length ls + length rest
-labels_length ts [] rest h = omega (arith, ap length h)
-labels_length ts (l ∷ ls) rest h = omega (arith, ap length h.1, labels_length h.0 ls rest h.3)
-
 pub labels_end : (tokens : List Token) (next : ℕ) (ls : List (List ℕ)) → next ≤ length tokens → Labels (texts (take next tokens)) ls [] → next ≡ 2 * length ls
-labels_end tokens next ls within h = omega (
-  arith,
-  labels_length (texts (take next tokens)) ls [] h,
-  length-map (take next tokens)
-      (λ (t : Token). t.text.now),
-  length-take next tokens,
-)
+labels_end tokens next ls within h =
+    let front = texts (take next tokens) in
+    let r = labels_rest front ls [] h in
+    omega (
+      arith,
+      r.0,
+      ap length r.1,
+      length-drop (2 * length ls) front,
+      length-map (take next tokens) (λ (t : Token). t.text.now),
+      length-take next tokens,
+    )
 
 pub once_front : (xs ys : List (List ℕ)) → EachOnce (xs ++ ys) → EachOnce xs
 once_front [] ys h = tt
@@ -76,13 +67,8 @@ module _ {Syntax Stmt : Type 0} (grammar : Grammar Syntax Stmt) where
   -- a statement is refused behind its cell's labels as it is alone
   pub maybe_cause : (above : ℕ) (tokens : List Token) (names : List (List ℕ)) (at : ℕ) (cause : CellCause)
       → StatementCause grammar tokens names at cause → MaybeCause grammar above tokens names at cause
-  maybe_cause above tokens names at Form c = tt
-  maybe_cause above tokens names at Register c = tt
-  maybe_cause above tokens names at LabelMissing c = c
-  maybe_cause above tokens names at LabelTwice c = c
-  maybe_cause above tokens names at Backward c = c
   maybe_cause above tokens names at TooMany c = inr c
-  maybe_cause above tokens names at Memory c = tt
+  maybe_cause above tokens names at cause c = c
 
   module _ {D : Type 0} (draft_of : ℕ → Syntax → D) where
     draft_in-along : (names ns : List (List ℕ)) (s : Syntax) → LocationExists grammar names s
@@ -93,43 +79,16 @@ module _ {Syntax Stmt : Type 0} (grammar : Grammar Syntax Stmt) where
     pub drafts-along : (names ns : List (List ℕ)) (syntaxes : List (CellSyntax Syntax)) → LocationsExist grammar names (statements syntaxes)
         → map (draft_cell grammar draft_of (with_names names ns)) syntaxes ≡ map (draft_cell grammar draft_of names) syntaxes
     drafts-along names ns [] all = refl
-    drafts-along names ns (syntax ∷ syntaxes) all = go syntax.stmt refl (drafts-along names ns syntaxes)
-      where
-        before : CellSyntax Syntax → DraftCell D
-        before = draft_cell grammar draft_of names
+    drafts-along names ns (syntax ∷ syntaxes) all =
+        let parts = all_apart (LocationExists grammar names) syntax.stmt (statements syntaxes) all in
+        let here : option_map (draft_in grammar draft_of (with_names names ns)) syntax.stmt ≡ option_map (draft_in grammar draft_of names) syntax.stmt =
+        mapped_alike (draft_in grammar draft_of (with_names names ns)) (draft_in grammar draft_of names) syntax.stmt
+        (λ s is. draft_in-along names ns s (parts.0 s is)) in
+        ap (λ (o : Option D). let c : DraftCell D = record { start = 2 * length syntax.labels; stmt = o } in
+        c ∷ map (draft_cell grammar draft_of (with_names names ns)) syntaxes) here
+        ∙ ap (λ (l : List (DraftCell D)). draft_cell grammar draft_of names syntax ∷ l) (drafts-along names ns syntaxes parts.1)
 
-        after : CellSyntax Syntax → DraftCell D
-        after = draft_cell grammar draft_of (with_names names ns)
-
-        -- the draft of the first cell, where it has this statement
-        cell : List (List ℕ) → Option Syntax → DraftCell D
-        cell table p = draft_cell grammar draft_of table (record { labels = syntax.labels; stmt = p })
-
-        go : (o : Option Syntax) → syntax.stmt ≡ o → (LocationsExist grammar names (statements syntaxes) → map after syntaxes ≡ map before syntaxes)
-            → map after (syntax ∷ syntaxes) ≡ map before (syntax ∷ syntaxes)
-        go None e further =
-            let rest : LocationsExist grammar names (statements syntaxes) = subst
-            (λ (p : Option Syntax). LocationsExist grammar names (cons_option p (statements syntaxes))) e all in
-            let f : map after syntaxes ≡ map before syntaxes = further rest in
-            ap (λ (p : Option Syntax). cell (with_names names ns) p ∷ map after syntaxes) e ∙ ap (λ (l : List (DraftCell D)). cell names None ∷ l) f
-            ∙ ap (λ (p : Option Syntax). cell names p ∷ map before syntaxes) (sym e)
-        go (Some s) e further =
-            let rest : LocationsExist grammar names (s ∷ statements syntaxes) = subst
-            (λ (p : Option Syntax). LocationsExist grammar names (cons_option p (statements syntaxes))) e all in
-            let f : map after syntaxes ≡ map before syntaxes = further rest.1 in
-            let same : cell (with_names names ns) (Some s) ≡ cell names (Some s) =
-            ap (λ (d : D). let c : DraftCell D = record { start = 2 * length syntax.labels; stmt = Some d } in c) (draft_in-along names ns s rest.0) in
-            ap (λ (p : Option Syntax). cell (with_names names ns) p ∷ map after syntaxes) e ∙ ap
-            (λ (l : List (DraftCell D)). cell (with_names names ns) (Some s) ∷ l) f ∙ ap (λ (x : DraftCell D). x ∷ map before syntaxes) same ∙ ap
-            (λ (p : Option Syntax). cell names p ∷ map before syntaxes) (sym e)
-
-    pub room : (above : ℕ) (o : Option Syntax) (stmt : Option D) (f : Syntax → D) → stmt ≡ option_map f o
-        → ForSome stmt (λ s. above ≡ grammar.language.most → ⊥) → above ≤ grammar.language.most
-        → above + length (statements (bare o ∷ [])) ≤ grammar.language.most
-    room above None stmt f made free few = omega (arith, few)
-    room above (Some s) stmt f made free few = let full : above ≡ grammar.language.most → ⊥ = free (f s) made in omega (arith, few, full)
-
-    held_by : (o : Option Syntax) (stmt : Option D) (f : Syntax → D) → stmt ≡ option_map f o → option_len stmt ≡ length (statements (bare o ∷ []))
+    pub held_by : (o : Option Syntax) (stmt : Option D) (f : Syntax → D) → stmt ≡ option_map f o → option_len stmt ≡ length (statements (bare o ∷ []))
     held_by None stmt f e = ap option_len e
     held_by (Some s) stmt f e = ap option_len e
 
@@ -224,14 +183,8 @@ module _ {Syntax Stmt : Type 0} (grammar : Grammar Syntax Stmt) where
         draft_more next after more stmt ls st =
             let syntax : CellSyntax Syntax = record { labels = ls.names; stmt = st.syntax } in
             let n = length (statements read.syntaxes) in
-            let whole : texts (take next cell.tokens) ++ texts (drop next cell.tokens) ≡ cell_texts cell =
-            sym (map-append (λ t. t.text.now) (take next cell.tokens) (drop next cell.tokens)) ∙ ap texts (take-append-drop next cell.tokens) in
-            let says : CellSays grammar (cell_texts cell) syntax = (
-              texts (drop next cell.tokens),
-              subst (λ (t : List (List ℕ)). Labels t ls.names (texts (drop next cell.tokens))) whole
-                  (Labels-rest (texts (take next cell.tokens)) (texts (drop next cell.tokens)) ls.names ls.says),
-              st.says,
-            ) in
+            let says : CellSays grammar (cell_texts cell) syntax =
+            (texts (drop next cell.tokens), Labels-whole cell.tokens next ls.names ls.says, st.says) in
             let labelled : leading_in 0 read.syntaxes ++ leading n ls.names ≡ leading_in 0 (read.syntaxes ++ syntax ∷ []) =
             ap (λ (k : ℕ). leading_in 0 read.syntaxes ++ leading k ls.names) (let e : n ≡ 0 + n = omega arith in e) ∙ sym
             (leading_in-append read.syntaxes 0 syntax) in
@@ -255,7 +208,8 @@ module _ {Syntax Stmt : Type 0} (grammar : Grammar Syntax Stmt) where
                 ap length (statements-append read.syntaxes (syntax ∷ [])),
                 length-append (statements read.syntaxes)
                     (statements (syntax ∷ [])),
-                room n st.syntax stmt (draft_in grammar draft_of after) st.made st.room read.few,
+                at_most_room n grammar.language.most stmt read.few st.room,
+                held_by st.syntax stmt (draft_in grammar draft_of after) st.made,
               );
               once = subst EachOnce named (ls.once (subst EachOnce (sym (first_names_in read.syntaxes 0)) read.once));
               names =
@@ -339,11 +293,8 @@ module _ {Syntax Stmt : Type 0} (grammar : Grammar Syntax Stmt) where
               (leading_in 0 read.syntaxes) next more → (slice_get (texts cell.tokens) (next + 1) ≡ Some (codes ":") → ⊥)
               → ((s : Option Syntax) → FitsBelow grammar (length (statements read.syntaxes)) mid (texts (drop next cell.tokens)) s → ⊥) → ⊥
           statement_none next more ls stops none =
-              let whole : texts (take next cell.tokens) ++ texts (drop next cell.tokens) ≡ cell_texts cell =
-              sym (map-append (λ u. u.text.now) (take next cell.tokens) (drop next cell.tokens)) ∙ ap texts (take-append-drop next cell.tokens) in
-              let own = subst (λ (u : List (List ℕ)). Labels u ls.names (texts (drop next cell.tokens))) whole
-              (Labels-rest (texts (take next cell.tokens)) (texts (drop next cell.tokens)) ls.names ls.says) in
-              let one = Labels-unique (cell_texts cell) cut.5.0 (texts (drop next cell.tokens)) cut.1.labels ls.names cut.5.1 own
+              let one = Labels-unique (cell_texts cell) cut.5.0 (texts (drop next cell.tokens)) cut.1.labels ls.names cut.5.1
+              (Labels-whole cell.tokens next ls.names ls.says)
               (no_label grammar lawful cut.5.0 cut.1.stmt cut.5.2) (λ at. stops (behind cell.tokens next at)) in
               none cut.1.stmt (record {
                 says = subst (λ (u : List (List ℕ)). MaybeStatement grammar u cut.1.stmt) one.1 cut.5.2;

@@ -1,7 +1,7 @@
 -- What a function owes where it returns early by `?`, in a clause for both cases.
-use Rattle.std.proofs.Common.{◌≡◌, ◌⊎◌, inl, inr, ℕ, ◌≤◌, sym, subst, arith}
+use Rattle.std.proofs.Common.{◌≡◌, ◌⊎◌, inl, inr, ℕ, ◌≤◌, sym, subst, arith, Result, Ok, Err, IsErrAnd}
+use Rattle.std.proofs.Common.{MatchResult}
 use Rattle.std.proofs.lemmas.Result.{MatchResult-at_ok, MatchResult-at_err}
-use Rattle.std.specs.Prelude.{Result, Ok, Err, IsErrAnd, MatchResult}
 use Rattle.lw_base.specs.declared.fault.CellCause.TheVariants.{Memory}
 use Rattle.lw_base.specs.declared.fault.CellFault.{CellFault}
 

@@ -1,10 +1,12 @@
 -- The place of a cell's fault in its column.
-use Rattle.std.proofs.Common.{◌≡◌, ℕ, zero, suc, ◌+◌, inl, inr, Some, List, [], ◌∷◌, ◌++◌, length, take, drop, refl, sym, ap, ◌∙◌, subst, arith}
-use Rattle.std.specs.Prelude.{slice_get, Contains, codes}
+use Rattle.std.proofs.Common.{◌≡◌, ℕ, zero, suc, ◌+◌, inl, inr, Some, List, [], ◌∷◌, ◌++◌, length, take, drop}
+use Rattle.std.proofs.Common.{refl, sym, ap, ◌∙◌, subst, arith, slice_get, Contains, codes, append_assoc}
+use Rattle.std.proofs.Common.{take-append-drop}
 use Rattle.std.specs.List.{AllZip}
-use Rattle.std.proofs.lemmas.List.{map-append, append_assoc, take-append-drop, drop-map}
+use Rattle.std.proofs.lemmas.List.{map-append, drop-map}
 use Rattle.lw_base.specs.declared.fault.CellCause.{CellCause}
-use Rattle.lw_base.specs.declared.fault.CellCause.TheVariants.{Form, Register, LabelMissing, LabelTwice, Backward, TooMany, Memory}
+use Rattle.lw_base.specs.declared.fault.CellCause.TheVariants.{Form, Register, LabelMissing, LabelTwice}
+use Rattle.lw_base.specs.declared.fault.CellCause.TheVariants.{Backward, TooMany, Memory}
 use Rattle.lw_base.specs.Tables.{with_names}
 use Rattle.lw_base.proofs.api.GrowingTables.{with_names-append}
 use Rattle.lw_text.specs.declared.cell.Cell.{Cell}
@@ -84,7 +86,7 @@ module _ {A : Type 0} (cells front rest : List (Cell A)) (cell : Cell A) (whole 
         → TellsBy grammar names (placed_row cells ∷ []) at cause
     labels_tell at Form c = tt
     labels_tell at Register c = tt
-    labels_tell at LabelMissing c = absurd c
+    labels_tell at Memory c = tt
     labels_tell at LabelTwice c =
         let k = c.place in
         let colon : slice_get (texts cell.tokens) (suc k) ≡ Some (codes ":") =
@@ -102,18 +104,14 @@ module _ {A : Type 0} (cells front rest : List (Cell A)) (cell : Cell A) (whole 
             there = subst (λ (ns : List (List ℕ)). Contains (ns ++ c.names) c.token.text.now) known c.there;
           },
         )
-    labels_tell at Backward c = absurd c
-    labels_tell at TooMany c = absurd c
-    labels_tell at Memory c = tt
+    labels_tell at cause c = absurd c
 
     pub statement_tells : (next : ℕ) (more : LabelMap) → LabelsRead cell.tokens (length (statements read.syntaxes))
         (leading_in 0 read.syntaxes) next more → (slice_get (texts cell.tokens) (next + 1) ≡ Some (codes ":") → ⊥) → (at : ℕ) (cause : CellCause)
         → MaybeCause grammar (length (statements read.syntaxes)) (drop next cell.tokens) mid at cause → TellsBy grammar names (placed_row cells ∷ []) at cause
     statement_tells next more ls stops at Form c = tt
     statement_tells next more ls stops at Register c = tt
-    statement_tells next more ls stops at LabelMissing c = absurd c
-    statement_tells next more ls stops at LabelTwice c = absurd c
-    statement_tells next more ls stops at Backward c = absurd c
+    statement_tells next more ls stops at Memory c = tt
     statement_tells next more ls stops at TooMany (inl c) =
         let is : slice_get cell.tokens next ≡ Some c.1.0 = sym (get_dropped cell.tokens next) ∙ c.1.1 in (
           standing at (take next cell.tokens) c.1.0 (drop (suc next) cell.tokens) (cut_at cell.tokens next c.1.0 is) c.1.2,
@@ -151,7 +149,7 @@ module _ {A : Type 0} (cells front rest : List (Cell A)) (cell : Cell A) (whole 
             new = λ there. c.ninth.3 (subst (λ (ns : List (List ℕ)). Contains ns c.token.text.now) (sym read.names) there);
           }),
         )
-    statement_tells next more ls stops at Memory c = tt
+    statement_tells next more ls stops at cause c = absurd c
 
 module _ {Syntax Stmt : Type 0} (grammar : Grammar Syntax Stmt) where
   no_threads : (before : List (List PlacedCell)) (threads : List (List (CellSyntax Syntax))) → before ≡ []
@@ -209,8 +207,6 @@ module _ {Syntax Stmt : Type 0} (grammar : Grammar Syntax Stmt) where
         }
 
     pub column_tells : (at : ℕ) (cause : CellCause) → TellsBy grammar mid (column ∷ []) at cause → TellsBy grammar names columns at cause
-    column_tells at Form t = tt
-    column_tells at Register t = tt
     column_tells at LabelMissing t = (moved at t.0, (t.1.0, t.1.1, t.1.2, jump_moved at t.0 t.1.0 t.1.1 t.1.2 t.1.3, t.1.4))
     column_tells at LabelTwice t =
         let s = t.1 in (
@@ -232,4 +228,4 @@ module _ {Syntax Stmt : Type 0} (grammar : Grammar Syntax Stmt) where
           { syntaxes = s.syntaxes; labels = s.labels; says = s.says; in_front = s.in_front; begins = s.begins; no_label = s.no_label; full = s.full }),
     )
     column_tells at TooMany (p, inr n) = (moved at p, inr (ninth_moved at p n))
-    column_tells at Memory t = tt
+    column_tells at cause t = t

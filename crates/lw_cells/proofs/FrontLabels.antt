@@ -1,34 +1,30 @@
 -- The labels at the front of a cell, one further.
-use Rattle.std.proofs.Common.{◌≡◌, ℕ, zero, suc, ◌<◌, ◌≤◌, ◌+◌, ◌*◌, Bool, true, false, true≢false, Option, Some, None, List, [], ◌∷◌, ◌++◌, ◌⊎◌, inl, inr}
-use Rattle.std.proofs.Common.{length, take, drop, refl, sym, ap, ◌∙◌, subst, arith}
-use Rattle.std.specs.Prelude.{◌↔◌, IsTrue, slice_get, slice_index_or, codes, Contains, if◌then◌else◌}
-use Rattle.std.specs.Option.{option_map, is_some}
+use Rattle.std.proofs.Common.{◌≡◌, ℕ, zero, suc, ◌<◌, ◌≤◌, ◌+◌, ◌*◌, Bool, true, false, true≢false, Option}
+use Rattle.std.proofs.Common.{Some, None, List, [], ◌∷◌, ◌++◌, ◌⊎◌, inl, inr, length, take, drop, refl, sym}
+use Rattle.std.proofs.Common.{ap, ◌∙◌, subst, arith, ◌↔◌, IsTrue, slice_get, slice_index_or, codes, Contains}
+use Rattle.std.proofs.Common.{if◌then◌else◌, option_map, is_some, append-nil, append_assoc, take-append-drop}
+use Rattle.std.proofs.Common.{bytes_eq}
 use Rattle.std.proofs.lemmas.Option.{slice_get-map, slice_get_within}
-use Rattle.std.proofs.lemmas.List.{take-map, length-map, map-append, append-nil, append_assoc, take-append-drop}
+use Rattle.std.proofs.lemmas.List.{take-map, drop-map, length-map, map-append}
 use Rattle.lw_base.specs.declared.fault.CellCause.{CellCause}
 use Rattle.lw_base.specs.declared.fault.CellFault.{CellFault}
-use Rattle.lw_base.specs.declared.fault.CellCause.TheVariants.{Form, Register, LabelMissing, LabelTwice, Backward, TooMany, Memory}
+use Rattle.lw_base.specs.declared.fault.CellCause.TheVariants.{Form, Register, Memory}
 use Rattle.lw_text.specs.declared.token.Token.{Token}
 use Rattle.lw_text.specs.Spans.{texts}
 use Rattle.std.specs.Map.{update}
-use Rattle.std.proofs.lemmas.List.Elements.{Contains-push_cases, Contains-append_right, Contains-append_cases}
-use Rattle.std.specs.Str.{bytes_eq}
+use Rattle.std.proofs.lemmas.List.Elements.{Contains-append_right, Contains-append_cases}
 use Rattle.std.specs.Cmp.{unsigned_Decides}
 use Rattle.std.specs.Cmp.Lexicographic.{pointwise_decides}
 use Rattle.lw_base.specs.Lists.{EachOnce}
 use Rattle.lw_base.specs.Names.{IsLocation}
+use Rattle.lw_base.proofs.api.Lists.{get_dropped}
+use Rattle.lw_base.proofs.api.Tables.{once_more}
 use Rattle.lw_cells.specs.Cells.{Labels}
 use Rattle.lw_cells.specs.Drafts.{LabelMap, LeadsAs, leading, leads_to, target_by, first_names}
 use Rattle.lw_cells.specs.Words.{IsMisfit}
 use Rattle.lw_cells.specs.Reading.{AtLabel, LabelCause, LabelsRead, LabelsRefused, TwiceIn}
 
 -- what stands behind some tokens
-drop_get : (ts : List (List ℕ)) (n : ℕ) → slice_get (drop n ts) 0 ≡ slice_get ts n
-drop_get [] zero = refl
-drop_get [] (suc n) = refl
-drop_get (x ∷ ts) zero = refl
-drop_get (x ∷ ts) (suc n) = drop_get ts n
-
 drop_next : (ts : List (List ℕ)) (n : ℕ) → slice_get (drop n ts) 1 ≡ slice_get ts (suc n)
 drop_next [] zero = refl
 drop_next [] (suc n) = refl
@@ -44,6 +40,13 @@ Labels-more front (k ∷ ls) l h loc =
 pub Labels-rest : (front rest : List (List ℕ)) (ls : List (List ℕ)) → Labels front ls [] → Labels (front ++ rest) ls rest
 Labels-rest front rest [] h = rw h refl
 Labels-rest front rest (k ∷ ls) h = (h.0 ++ rest, ap (λ (t : List (List ℕ)). t ++ rest) h.1, h.2, Labels-rest h.0 rest ls h.3)
+
+pub Labels-whole : (tokens : List Token) (next : ℕ) (ls : List (List ℕ)) → Labels (texts (take next tokens)) ls []
+    → Labels (texts tokens) ls (texts (drop next tokens))
+Labels-whole tokens next ls says =
+    subst (λ (t : List (List ℕ)). Labels t ls (texts (drop next tokens)))
+    (sym (map-append (λ t. t.text.now) (take next tokens) (drop next tokens)) ∙ ap texts (take-append-drop next tokens))
+    (Labels-rest (texts (take next tokens)) (texts (drop next tokens)) ls says)
 
 -- other labels of the same tokens begin with these, and go on
 pub Labels-cut : (front rest mid : List (List ℕ)) (ls ks : List (List ℕ)) → Labels front ls [] → Labels (front ++ rest) ks mid → (AtLabel mid → ⊥)
@@ -68,31 +71,15 @@ Labels-next rest mid (m ∷ ks) a first colon h none =
     let same : m ≡ a = cc in
     (ks, ap (λ x. x ∷ ks) same, subst IsLocation same h.2)
 
--- one more name that is none of them, and one that is one of them
-pub once_more : (ns : List (List ℕ)) (n : List ℕ) → EachOnce ns → (Contains ns n → ⊥) → EachOnce (ns ++ n ∷ [])
-once_more [] n once fresh = ((λ h. let k : h.0 < 0 = h.1 in absurd (omega arith)), tt)
-once_more (m ∷ ns) n once fresh =
-    ((λ h. apart (Contains-push_cases ns n m h)), once_more ns n once.1 (λ h. fresh (Contains-append_right (m ∷ []) ns n h)))
-  where
-    apart : Contains ns m ⊎ (n ≡ m) → ⊥
-    apart (inl h) = once.0 h
-    apart (inr e) = fresh (0, omega arith, sym e)
-
-contains_first : (ns : List (List ℕ)) (n : List ℕ) → Contains (n ∷ ns) n
-contains_first ns n = (0, omega arith, refl)
-
+-- a name that comes again
 pub not_twice : (ns more : List (List ℕ)) (n : List ℕ) → EachOnce (ns ++ n ∷ more) → Contains ns n → ⊥
 not_twice [] more n once h = let k : h.0 < 0 = h.1 in omega arith
-not_twice (m ∷ ns) more n once h = go (not_twice ns more n once.1) (Contains-append_cases (m ∷ []) ns n h)
+not_twice (m ∷ ns) more n once h = at h.0 h.1 h.2 (not_twice ns more n once.1)
   where
-    go : (Contains ns n → ⊥) → Contains (m ∷ []) n ⊎ Contains ns n → ⊥
-    go further (inl k) = once.0 (subst (λ x. Contains (ns ++ n ∷ more) x) (sym (one k.0 k.1 k.2))
-        (Contains-append_right ns (n ∷ more) n (contains_first more n)))
-      where
-        one : (i : ℕ) → i < 1 → slice_index_or (m ∷ []) i n ≡ n → m ≡ n
-        one zero lt e = e
-        one (suc i) lt e = absurd (omega arith)
-    go further (inr k) = further k
+    at : (k : ℕ) → k < length (m ∷ ns) → slice_index_or (m ∷ ns) k n ≡ n → (Contains ns n → ⊥) → ⊥
+    at zero lt e further = once.0 (subst (λ (x : List ℕ). Contains (ns ++ n ∷ more) x) (sym e)
+        (Contains-append_right ns (n ∷ more) n (0, omega arith, refl)))
+    at (suc k) lt e further = further (k, omega (arith, lt), e)
 
 -- where a name leads, it is one of the labels
 pub leads_contains : (ps : List (List ℕ × ℕ)) (n : List ℕ) (to : ℕ) → leads_to ps n ≡ Some to → Contains (first_names ps) n
@@ -220,7 +207,7 @@ module _ (tokens : List Token) (to : ℕ) (before : List (List ℕ × ℕ)) (nex
   labels_on ks mid h none =
       let cut = Labels-cut (take next (texts tokens)) (drop next (texts tokens)) mid read.names ks said
       (subst (λ (t : List (List ℕ)). Labels t ks mid) (sym (take-append-drop next (texts tokens))) h) none in
-      let go = Labels-next (drop next (texts tokens)) mid cut.0 token.text.now (drop_get (texts tokens) next ∙ get_text tokens next token is)
+      let go = Labels-next (drop next (texts tokens)) mid cut.0 token.text.now (get_dropped (texts tokens) next ∙ get_text tokens next token is)
       (drop_next (texts tokens) next ∙ colon_next) cut.2 none in
       (go.0, cut.1 ∙ ap (λ (ns : List (List ℕ)). read.names ++ ns) go.1, go.2)
 
@@ -261,25 +248,18 @@ sign_or_not ts k w sign b at is = (
       (let f : Some w ≡ Some sign = sym at ∙ e in cc),
 )
 
-get_next : (tokens : List Token) (k : ℕ) → slice_get (texts (drop k tokens)) 1 ≡ slice_get (texts tokens) (suc k)
-get_next [] zero = refl
-get_next [] (suc k) = refl
-get_next (x ∷ ts) zero = refl
-get_next (x ∷ ts) (suc k) = get_next ts k
-
 -- a `:` behind the first of what stands behind so many tokens
 pub behind : (tokens : List Token) (k : ℕ) → AtLabel (texts (drop k tokens)) → slice_get (texts tokens) (k + 1) ≡ Some (codes ":")
-behind tokens k at = let e : k + 1 ≡ suc k = omega arith in ap (slice_get (texts tokens)) e ∙ sym (get_next tokens k) ∙ at
+behind tokens k at =
+    let e : k + 1 ≡ suc k = omega arith in
+    ap (slice_get (texts tokens)) e ∙ sym (drop_next (texts tokens) k)
+    ∙ ap (λ (ts : List (List ℕ)). slice_get ts 1) (drop-map (λ t. t.text.now) k tokens) ∙ at
 
 -- a token that does not fit, among the labels of a cell
 pub label_cause : (tokens : List Token) (before : List (List ℕ)) (at : ℕ) (cause : CellCause) → IsMisfit cause → LabelCause tokens before at cause
 label_cause tokens before at Form m = tt
 label_cause tokens before at Register m = tt
-label_cause tokens before at LabelMissing m = m
-label_cause tokens before at LabelTwice m = absurd m
-label_cause tokens before at Backward m = m
-label_cause tokens before at TooMany m = m
-label_cause tokens before at Memory m = tt
+label_cause tokens before at cause m = absurd m
 
 -- no room for a label
 pub no_memory_for_labels : (tokens : List Token) (labels : LabelMap) (f : CellFault) → f.cause ≡ Memory → f.at ≡ 0 → LabelsRefused tokens labels f

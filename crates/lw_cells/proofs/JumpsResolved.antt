@@ -1,22 +1,23 @@
 -- Resolving one statement: a jump leads where its label stands.
-use Rattle.std.proofs.Common.{◌≡◌, ℕ, suc, ◌<◌, ◌+◌, true, Option, Some, None, refl, List, [], ◌∷◌, ◌++◌, length, take, drop, sym, ap, ◌∙◌, subst, arith}
-use Rattle.std.specs.Prelude.{Contains, slice_get, IfSome}
-use Rattle.std.specs.Option.{option_map, IsSome}
+use Rattle.std.proofs.Common.{◌≡◌, ℕ, suc, ◌<◌, ◌+◌, true, Option, Some, None, refl, List, [], ◌∷◌, ◌++◌}
+use Rattle.std.proofs.Common.{length, take, drop, sym, ap, ◌∙◌, subst, arith, Contains, slice_get, IfSome}
+use Rattle.std.proofs.Common.{option_map, IsSome}
 use Rattle.std.proofs.lemmas.List.{length-map}
 use Rattle.lw_base.specs.Types.{Bytes, NameTable, TokenList}
 use Rattle.lw_base.specs.declared.fault.CellCause.{CellCause}
 use Rattle.lw_base.specs.declared.fault.CellFault.{CellFault}
-use Rattle.lw_base.specs.declared.fault.CellCause.TheVariants.{Form, Register, LabelMissing, LabelTwice, Backward, TooMany, Memory}
+use Rattle.lw_base.specs.declared.fault.CellCause.TheVariants.{LabelMissing, Backward}
 use Rattle.lw_text.specs.declared.token.Token.{Token}
 use Rattle.lw_text.specs.Spans.{texts}
 use Rattle.lw_cells.specs.declared.draft.Draft.{Draft}
 use Rattle.lw_cells.specs.declared.draft.Operands.{Operands}
 use Rattle.lw_cells.specs.declared.slot.Slot.{Slot}
-use Rattle.lw_cells.specs.declared.slot.Slot.TheVariants.{Word, Register, Location, Value, Number, Label}
+use Rattle.lw_cells.specs.declared.slot.Slot.TheVariants.{Label}
 use Rattle.lw_cells.specs.Grammars.{Grammar}
 use Rattle.lw_cells.specs.Spellings.{Spelling, Filling, Fills, Said, grammar_of, label_in}
 use Rattle.lw_cells.specs.Found.{found_of, draft_of, operands_of, leading_to, is_label_last, IsSpelling}
-use Rattle.lw_cells.specs.Cells.{CellSyntax, labels_of, target_in, number_in, led_to, resolved_statement, LeadsForward}
+use Rattle.lw_cells.specs.Cells.{CellSyntax, labels_of, target_in, number_in, led_to, resolved_statement}
+use Rattle.lw_cells.specs.Cells.{LeadsForward}
 use Rattle.lw_cells.specs.Drafts.{LabelMap, LeadsAs, leads_to, target_by, leading_in}
 use Rattle.lw_cells.specs.Reading.{IsDraft, LedForward, LabelLost, JumpCause, JumpRefused, JumpFault}
 use Rattle.lw_cells.proofs.Leads.{leads_in, leads_nowhere}
@@ -29,17 +30,13 @@ module _ {Syntax Stmt : Type 0} (grammar : Grammar Syntax Stmt) where
   pub not_forward : (syntaxes : List (CellSyntax Syntax)) (labels : LabelMap) (number : ℕ) (tokens : List Token) (s : Syntax) (at : ℕ)
       (cause : CellCause) → LeadsAs labels (leading_in 0 syntaxes) → JumpRefused grammar labels number tokens s at cause
       → LeadsForward grammar syntaxes number s → ⊥
-  not_forward syntaxes labels number tokens s at Form known f ahead = f.because
-  not_forward syntaxes labels number tokens s at Register known f ahead = f.because
   not_forward syntaxes labels number tokens s at LabelMissing known f ahead =
       leads_nowhere syntaxes f.token.text.now (sym (known f.token.text.now) ∙ f.because) (ahead f.token.text.now f.is).0
-  not_forward syntaxes labels number tokens s at LabelTwice known f ahead = f.because
   not_forward syntaxes labels number tokens s at Backward known f ahead =
       let b = f.because in
       let l = leads_in syntaxes f.token.text.now b.0 (sym (known f.token.text.now) ∙ b.1) in
       omega (arith, b.2, l.1, (ahead f.token.text.now f.is).1)
-  not_forward syntaxes labels number tokens s at TooMany known f ahead = f.because
-  not_forward syntaxes labels number tokens s at Memory known f ahead = f.because
+  not_forward syntaxes labels number tokens s at cause known f ahead = f.because
 
 -- what is some value is there
 is_there : {X : Type 0} (o : Option X) (x : X) → o ≡ Some x → IsSome o
@@ -59,11 +56,6 @@ module _ {W Form Stmt : Type 0} (spelling : Spelling W Form Stmt) where
       → (found_of i slots f).label ≡ Some k → Labelled i k ts slots f
   label_index i k ts [] f last h e = absurd cc
   label_index i k [] (slot ∷ slots) f last h e = absurd h
-  label_index i k (t ∷ ts) (Word w ∷ slots) (g, f) last h e = one_further i k t ts slots f (label_index (i + 1) k ts slots f last h.1 e)
-  label_index i k (t ∷ ts) (Register ∷ slots) (g, f) last h e = one_further i k t ts slots f (label_index (i + 1) k ts slots f last h.1 e)
-  label_index i k (t ∷ ts) (Location ∷ slots) (g, f) last h e = one_further i k t ts slots f (label_index (i + 1) k ts slots f last h.1 e)
-  label_index i k (t ∷ ts) (Value ∷ slots) (g, f) last h e = one_further i k t ts slots f (label_index (i + 1) k ts slots f last h.1 e)
-  label_index i k (t ∷ ts) (Number ∷ slots) (g, f) last h e = one_further i k t ts slots f (label_index (i + 1) k ts slots f last h.1 e)
   label_index i k (t ∷ []) (Label ∷ []) (l, f) last h e = (
     l,
     0,
@@ -74,16 +66,13 @@ module _ {W Form Stmt : Type 0} (spelling : Spelling W Form Stmt) where
   )
   label_index i k (t ∷ u ∷ ts) (Label ∷ []) (l, f) last h e = absurd h.1
   label_index i k (t ∷ ts) (Label ∷ slot ∷ slots) f last h e = absurd cc
+  label_index i k (t ∷ ts) (slot ∷ slots) (g, f) last h e = one_further i k t ts slots f (label_index (i + 1) k ts slots f last h.1 e)
 
   -- no label
   no_label_in : (i : ℕ) (slots : List (Slot W)) (f : Filling slots) → (found_of i slots f).label ≡ None → label_in slots f ≡ None
   no_label_in i [] f e = refl
-  no_label_in i (Word w ∷ slots) (g, f) e = no_label_in (i + 1) slots f e
-  no_label_in i (Register ∷ slots) (g, f) e = no_label_in (i + 1) slots f e
-  no_label_in i (Location ∷ slots) (g, f) e = no_label_in (i + 1) slots f e
-  no_label_in i (Value ∷ slots) (g, f) e = no_label_in (i + 1) slots f e
-  no_label_in i (Number ∷ slots) (g, f) e = no_label_in (i + 1) slots f e
   no_label_in i (Label ∷ slots) (l, f) e = absurd cc
+  no_label_in i (slot ∷ slots) (g, f) e = no_label_in (i + 1) slots f e
 
   module _ (made : Form → Operands → Option Stmt) (lawful : IsSpelling spelling made) where
     -- no jump: it is made as it stands, whatever the target

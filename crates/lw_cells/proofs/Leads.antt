@@ -1,10 +1,10 @@
 -- Where the labels of a thread lead.
-use Rattle.std.proofs.Common.{◌≡◌, ℕ, ◌≤◌, ◌+◌, Bool, true, false, Some, None, List, [], ◌∷◌, ◌++◌, length, length-append, refl, sym, ap, ◌∙◌, subst, arith}
-use Rattle.std.specs.Prelude.{Contains, if◌then◌else◌}
-use Rattle.std.proofs.lemmas.List.{map-append, append-nil, append_assoc}
+use Rattle.std.proofs.Common.{◌≡◌, ℕ, ◌≤◌, ◌+◌, Bool, true, false, Some, None, List, [], ◌∷◌, ◌++◌, length}
+use Rattle.std.proofs.Common.{length-append, refl, sym, ap, ◌∙◌, subst, arith, Contains, if◌then◌else◌}
+use Rattle.std.proofs.Common.{append-nil, append_assoc, bytes_eq}
+use Rattle.std.proofs.lemmas.List.{map-append}
 use Rattle.std.proofs.lemmas.Grind.{flat_map-append}
 use Rattle.std.proofs.lemmas.List.Elements.{filter_map-append}
-use Rattle.std.specs.Str.{bytes_eq}
 use Rattle.lw_base.specs.Tables.{contains_name}
 use Rattle.lw_cells.specs.Cells.{CellSyntax, statements, labels_of, target_in}
 use Rattle.lw_cells.specs.Drafts.{leading, leading_in, leads_to, first_names}

@@ -1,15 +1,14 @@
 -- A ninth name, and other names that are refused.
-use Rattle.std.proofs.Common.{◌≡◌, ℕ, ◌<◌, ◌≤◌, List, [], ◌∷◌, length, length-append, refl, sym, ap, subst, arith}
-use Rattle.std.specs.Prelude.{slice_get, Some, Contains}
+use Rattle.std.proofs.Common.{◌≡◌, ℕ, ◌<◌, ◌≤◌, List, [], ◌∷◌, length, length-append, refl, sym, ap, subst}
+use Rattle.std.proofs.Common.{arith, slice_get, Some, Contains}
 use Rattle.std.proofs.lemmas.Option.{slice_get_read}
-use Rattle.lw_base.specs.Names.{IsLocation}
 use Rattle.lw_base.specs.Tables.{with_name}
 use Rattle.lw_base.specs.declared.fault.CellCause.{CellCause}
-use Rattle.lw_base.specs.declared.fault.CellCause.TheVariants.{Form, Register, LabelMissing, LabelTwice, Backward, TooMany, Memory}
+use Rattle.lw_base.specs.declared.fault.CellCause.TheVariants.{Memory}
 use Rattle.lw_base.specs.declared.fault.CellFault.{CellFault}
 use Rattle.lw_base.proofs.api.Tables.{with_name-there, with_name-new}
 use Rattle.lw_text.specs.declared.token.Token.{Token}
-use Rattle.lw_cells.specs.Words.{IsMisfit, NameCause, NameRefused}
+use Rattle.lw_cells.specs.Words.{NameCause, NameRefused}
 
 pub contained : (names : List (List ℕ)) (n : List ℕ) → Contains names n → (k : ℕ) × (slice_get names k ≡ Some n)
 contained names n h = (h.0, slice_get_read names (length names) h.0 n refl h.1 (sym h.2))
@@ -19,24 +18,6 @@ pub is_ninth : (names : List (List ℕ)) (n : List ℕ) → length names ≤ 8 �
 is_ninth names n few many =
     let fresh : Contains names n → ⊥ = λ h. let k = contained names n h in omega (arith, few, many, ap length (with_name-there names n k.0 k.1)) in
     (omega (arith, few, many, ap length (with_name-new names n fresh), length-append names (n ∷ [])), fresh)
-
--- a token that is no location
-pub misfit_refused : (names : List (List ℕ)) (t : Token) (f : CellFault) → (IsLocation t.text.now → ⊥) → f.at ≡ t.at → IsMisfit f.cause
-    → NameRefused names t f
-misfit_refused names t f other place misfit = record {
-  none = λ known fits. other fits.0;
-  cause = go f.cause misfit;
-  place = λ len within. omega (arith, place, within);
-}
-  where
-    go : (cause : CellCause) → IsMisfit cause → NameCause names t f.at cause
-    go Form m = tt
-    go Register m = tt
-    go LabelMissing m = absurd m
-    go LabelTwice m = absurd m
-    go Backward m = absurd m
-    go TooMany m = absurd m
-    go Memory m = tt
 
 pub no_memory_for_name : (names : List (List ℕ)) (t : Token) (f : CellFault) → f.cause ≡ Memory → f.at ≡ 0 → NameRefused names t f
 no_memory_for_name names t f memory first = record {

@@ -1,6 +1,5 @@
 -- A cell says one thing.
-use Rattle.std.proofs.Common.{◌≡◌, ℕ, Option, Some, None, List, refl, sym, ap, subst}
-use Rattle.std.specs.Prelude.{slice_get}
+use Rattle.std.proofs.Common.{◌≡◌, ℕ, Option, Some, None, List, refl, sym, ap, subst, slice_get}
 use Rattle.lw_cells.specs.Grammars.{Grammar, IsGrammar}
 use Rattle.lw_cells.specs.Cells.{CellSyntax, MaybeStatement, CellSays, Column}
 use Rattle.lw_cells.specs.Reading.{AtLabel}

@@ -1,14 +1,14 @@
 -- Resolving the jumps of a thread, one cell further.
-use Rattle.std.proofs.Common.{◌≡◌, ℕ, suc, ◌<◌, ◌≤◌, ◌+◌, ◌*◌, Option, Some, None, List, [], ◌∷◌, ◌++◌, length, map, take, drop, get_or, refl, sym, ap, ◌∙◌}
-use Rattle.std.proofs.Common.{subst, arith, ◌⊎◌, inl, inr}
-use Rattle.std.specs.Prelude.{slice_get, All, Contains}
+use Rattle.std.proofs.Common.{◌≡◌, ℕ, suc, ◌<◌, ◌≤◌, ◌+◌, ◌*◌, Option, Some, None, List, [], ◌∷◌, ◌++◌}
+use Rattle.std.proofs.Common.{length, map, take, drop, get_or, refl, sym, ap, ◌∙◌, subst, arith, ◌⊎◌, inl}
+use Rattle.std.proofs.Common.{inr, slice_get, All, Contains, option_map, append-nil, append_assoc}
+use Rattle.std.proofs.Common.{take-append-drop}
 use Rattle.std.specs.List.{AllZip, cons_option}
-use Rattle.std.specs.Option.{option_map}
 use Rattle.std.proofs.lemmas.Option.{slice_get-map}
-use Rattle.std.proofs.lemmas.List.{map-append, length-map, append-nil, append_assoc, take-map, drop-map, take-append-drop}
+use Rattle.std.proofs.lemmas.List.{map-append, length-map, take-map, drop-map}
 use Rattle.lw_base.specs.declared.fault.CellCause.{CellCause}
 use Rattle.lw_base.specs.declared.fault.CellFault.{CellFault}
-use Rattle.lw_base.specs.declared.fault.CellCause.TheVariants.{Form, Register, LabelMissing, LabelTwice, Backward, TooMany, Memory}
+use Rattle.lw_base.specs.declared.fault.CellCause.TheVariants.{LabelMissing, Backward}
 use Rattle.lw_text.specs.declared.cell.Cell.{Cell}
 use Rattle.lw_text.specs.declared.token.Token.{Token}
 use Rattle.lw_text.specs.Spans.{texts}
@@ -18,16 +18,18 @@ use Rattle.lw_text.specs.Places.{cell_texts, cells_texts, placed_tokens, placed_
 use Rattle.lw_text.proofs.api.Places.{texts_placed, cells_placed}
 use Rattle.lw_cells.specs.declared.draft.DraftCell.{DraftCell}
 use Rattle.lw_cells.specs.Grammars.{Grammar, IsGrammar}
-use Rattle.lw_cells.specs.Cells.{CellSyntax, MaybeStatement, CellSays, statements, labels_of, target_in, resolved_statement, code_in, LeadsForward}
-use Rattle.lw_cells.specs.Faults.{TellsBy}
+use Rattle.lw_cells.specs.Cells.{CellSyntax, MaybeStatement, CellSays, statements, labels_of, target_in}
+use Rattle.lw_cells.specs.Cells.{resolved_statement, code_in, LeadsForward}
+use Rattle.lw_cells.specs.Faults.{Standing, IsJumpLabel, TellsBy}
 use Rattle.lw_cells.specs.Drafts.{draft_in, draft_cell, DraftRead, IsCellDraft, LabelMap}
-use Rattle.lw_cells.specs.Reading.{IsDraft, JumpRefused, JumpFault, IsUnresolved, IsCellResolved, AllForward, ColumnRefused}
+use Rattle.lw_cells.specs.Reading.{IsDraft, JumpRefused, JumpFault, IsUnresolved, IsCellResolved, AllForward}
+use Rattle.lw_cells.specs.Reading.{ColumnRefused}
 use Rattle.lw_cells.proofs.FrontLabels.{labels_rest}
 use Rattle.lw_cells.proofs.Leads.{statements-append, leads_in, leads_nowhere}
-use Rattle.lw_base.proofs.api.Lists.{at_index, cut_at, get_some, take_one, take_whole, get_append, get_seam}
+use Rattle.lw_base.proofs.api.Lists.{cut_at, get_some, take_one, take_whole, get_append, get_seam}
 use Rattle.lw_cells.proofs.api.Zips.{zip_length, zip_at, zip_take, zip_drop}
 use Rattle.lw_cells.proofs.FaultPlaces.{standing}
-use Rattle.lw_cells.proofs.Elements.{all_at, all_amid}
+use Rattle.lw_cells.proofs.Elements.{all_at, all_amid, item_at, mapped_some, mapped_none}
 use Rattle.lw_cells.proofs.CellsRefused.{column_out_of_memory}
 use Rattle.lw_cells.proofs.ColumnsRead.{column_none}
 use Rattle.lw_cells.proofs.JumpsResolved.{not_forward}
@@ -64,30 +66,16 @@ module _ {Syntax Stmt : Type 0} (grammar : Grammar Syntax Stmt) where
       -- the statement of a draft
       pub statement_of : (stmt : D) → draft.stmt ≡ Some stmt
           → (s : Syntax) × (syntax.stmt ≡ Some s) × IsDraft grammar draft_of names (texts (drop draft.start cell.tokens)) stmt s
-      statement_of stmt is = go syntax.stmt refl
-        where
-          go : (o : Option Syntax) → syntax.stmt ≡ o
-              → (s : Syntax) × (syntax.stmt ≡ Some s) × IsDraft grammar draft_of names (texts (drop draft.start cell.tokens)) stmt s
-          go None g = let h : Some stmt ≡ None = drafted_as (Some stmt) is ∙ ap (option_map (draft_in grammar draft_of names)) g in absurd cc
-          go (Some s) g =
-              let h : Some stmt ≡ Some (draft_in grammar draft_of names s) = drafted_as (Some stmt) is ∙ ap
-              (option_map (draft_in grammar draft_of names)) g in
-              let says : grammar.says drafted.says.0 s = subst (λ (o : Option Syntax). MaybeStatement grammar drafted.says.0 o) g drafted.says.2 in
-              (s, g, record { says = subst (λ (ts : List (List ℕ)). grammar.says ts s) (sym behind_labels.1) says; made = cc })
-
-      no_statement : draft.stmt ≡ None → syntax.stmt ≡ None
-      no_statement is = go syntax.stmt refl
-        where
-          go : (o : Option Syntax) → syntax.stmt ≡ o → syntax.stmt ≡ None
-          go None g = g
-          go (Some s) g = let h : None ≡ Some (draft_in grammar draft_of names s) = drafted_as None is ∙ ap
-              (option_map (draft_in grammar draft_of names)) g in absurd cc
+      statement_of stmt is =
+          let m = mapped_some (draft_in grammar draft_of names) syntax.stmt stmt (drafted_as (Some stmt) is) in
+          let says : grammar.says drafted.says.0 m.0 = subst (MaybeStatement grammar drafted.says.0) m.1 drafted.says.2 in
+          (m.0, m.1, record { says = subst (λ (ts : List (List ℕ)). grammar.says ts m.0) (sym behind_labels.1) says; made = m.2 })
 
       -- a cell without a statement
       pub cell_skipped : (syntaxes : List (CellSyntax Syntax)) (code : List Stmt) → draft.stmt ≡ None
           → IsCellResolved grammar names syntaxes syntax code code
       cell_skipped syntaxes code is =
-          let none = no_statement is in
+          let none = mapped_none (draft_in grammar draft_of names) syntax.stmt (drafted_as None is) in
           record {
             made = sym (ap (λ (o : Option Syntax). code ++ map (resolved_statement grammar names syntaxes) (cons_option o [])) none ∙ append-nil code);
             ahead = λ s here. (let e : None ≡ Some s = sym none ∙ here in absurd cc);
@@ -157,7 +145,7 @@ module _ {Syntax Stmt : Type 0} (grammar : Grammar Syntax Stmt) where
         syntax_at = get_some draft.syntaxes row (omega (arith, within, as_many_syntaxes))
 
         cell_at : slice_get cells row ≡ Some cell
-        cell_at = at_index cells row cell within ∙ ap Some (sym is)
+        cell_at = item_at cells row cell within is
 
         says_at : CellSays grammar (cell_texts cell) syntax_at.0
         says_at = zip_at (CellSays grammar) (cells_texts cells) draft.syntaxes row (cell_texts cell) syntax_at.0 draft.says
@@ -165,7 +153,7 @@ module _ {Syntax Stmt : Type 0} (grammar : Grammar Syntax Stmt) where
 
         pub row_drafted : (d : DraftCell D) → d ≡ get_or drafts row d → IsCellDraft grammar draft_of after cell d syntax_at.0
         row_drafted d e =
-            let at : slice_get drafts row ≡ Some d = at_index drafts row d (omega (arith, within, as_many_rows)) ∙ ap Some (sym e) in
+            let at : slice_get drafts row ≡ Some d = item_at drafts row d (omega (arith, within, as_many_rows)) e in
             let f : Some d ≡ Some (draft_cell grammar draft_of after syntax_at.0) = sym at ∙ ap
             (λ (ds : List (DraftCell D)). slice_get ds row) draft.made ∙ slice_get-map (draft_cell grammar draft_of after) draft.syntaxes row ∙ ap
             (option_map (draft_cell grammar draft_of after)) syntax_at.1 in
@@ -179,14 +167,15 @@ module _ {Syntax Stmt : Type 0} (grammar : Grammar Syntax Stmt) where
         next_statements o e = ap statements next_syntaxes ∙ statements-append (take row draft.syntaxes) (syntax_at.0 ∷ []) ∙ ap
             (λ (p : Option Syntax). statements (take row draft.syntaxes) ++ cons_option p []) e
 
+        -- as many statements are resolved as stand above
+        as_many : (code : List Stmt) → Resolved after draft.syntaxes row code → length code ≡ length (statements (take row draft.syntaxes))
+        as_many code r = ap length r.made ∙ length-map (statements (take row draft.syntaxes)) (resolved_statement grammar after draft.syntaxes)
+
         -- one cell further
         pub resolved_further : (code more : List Stmt) → IsCellResolved grammar after draft.syntaxes syntax_at.0 code more
             → Resolved after draft.syntaxes row code → Resolved after draft.syntaxes (row + 1) more
         resolved_further code more one r = go syntax_at.0.stmt refl
           where
-            count : length code ≡ length (statements (take row draft.syntaxes))
-            count = ap length r.made ∙ length-map (statements (take row draft.syntaxes)) (resolved_statement grammar after draft.syntaxes)
-
             whole : more ≡ map (resolved_statement grammar after draft.syntaxes) (statements (take (row + 1) draft.syntaxes))
             whole =
                 one.made ∙ ap (λ (ss : List Stmt). ss ++ map (resolved_statement grammar after draft.syntaxes) (statements (syntax_at.0 ∷ []))) r.made
@@ -197,7 +186,7 @@ module _ {Syntax Stmt : Type 0} (grammar : Grammar Syntax Stmt) where
                 → (slice_get (statements (take row draft.syntaxes)) k ≡ Some t) ⊎ ((k ≡ length (statements (take row draft.syntaxes))) × (s ≡ t))
                 → LeadsForward grammar draft.syntaxes k t
             ahead_at k s t is (inl f) = r.ahead k t f
-            ahead_at k s t is (inr f) = subst (λ (n : ℕ). LeadsForward grammar draft.syntaxes n t) (count ∙ sym f.0)
+            ahead_at k s t is (inr f) = subst (λ (n : ℕ). LeadsForward grammar draft.syntaxes n t) (as_many code r ∙ sym f.0)
                 (subst (λ (u : Syntax). LeadsForward grammar draft.syntaxes (length code) u) f.1 (one.ahead s is))
 
             go : (o : Option Syntax) → syntax_at.0.stmt ≡ o → Resolved after draft.syntaxes (row + 1) more
@@ -212,88 +201,74 @@ module _ {Syntax Stmt : Type 0} (grammar : Grammar Syntax Stmt) where
                   (ap (λ (ss : List Syntax). slice_get ss k) (sym (next_statements (Some s) is)) ∙ at));
             }
 
-        above_says : AllZip (CellSays grammar) (cells_texts (take row cells)) (take row draft.syntaxes)
-        above_says = subst (λ (cs : List (List (List ℕ))). AllZip (CellSays grammar) cs (take row draft.syntaxes)) (take-map cell_texts row cells)
-            (zip_take (CellSays grammar) (cells_texts cells) draft.syntaxes row draft.says)
-
-        below_says : AllZip (CellSays grammar) (cells_texts (drop (suc row) cells)) (drop (suc row) draft.syntaxes)
-        below_says = subst (λ (cs : List (List (List ℕ))). AllZip (CellSays grammar) cs (drop (suc row) draft.syntaxes))
-            (drop-map cell_texts (suc row) cells) (zip_drop (CellSays grammar) (cells_texts cells) draft.syntaxes (suc row) draft.says)
-
-        -- the same of the cells with their places
+        -- what the cells above say, the cell, and those below it
         above_placed : AllZip (CellSays grammar) (texts_of_cells (placed_row (take row cells))) (take row draft.syntaxes)
         above_placed = subst (λ (cs : List (List (List ℕ))). AllZip (CellSays grammar) cs (take row draft.syntaxes))
-            (sym (cells_placed (take row cells))) above_says
+            (take-map cell_texts row cells ∙ sym (cells_placed (take row cells)))
+            (zip_take (CellSays grammar) (cells_texts cells) draft.syntaxes row draft.says)
 
         placed_says : CellSays grammar (texts_of_tokens (placed_tokens cell.tokens)) syntax_at.0
         placed_says = subst (λ (ts : List (List ℕ)). CellSays grammar ts syntax_at.0) (sym (texts_placed cell.tokens)) says_at
 
         below_placed : AllZip (CellSays grammar) (texts_of_cells (placed_row (drop (suc row) cells))) (drop (suc row) draft.syntaxes)
         below_placed = subst (λ (cs : List (List (List ℕ))). AllZip (CellSays grammar) cs (drop (suc row) draft.syntaxes))
-            (sym (cells_placed (drop (suc row) cells))) below_says
+            (drop-map cell_texts (suc row) cells ∙ sym (cells_placed (drop (suc row) cells)))
+            (zip_drop (CellSays grammar) (cells_texts cells) draft.syntaxes (suc row) draft.says)
 
         -- where the statement does not lead forward, not all do
         not_all_forward : (code : List Stmt) (s : Syntax) → syntax_at.0.stmt ≡ Some s → Resolved after draft.syntaxes row code
             → (LeadsForward grammar draft.syntaxes (length code) s → ⊥) → AllForward grammar draft.syntaxes → ⊥
         not_all_forward code s is r none all =
-            let count : length code ≡ length (statements (take row draft.syntaxes)) = ap length r.made ∙ length-map
-            (statements (take row draft.syntaxes)) (resolved_statement grammar after draft.syntaxes) in
             let whole : statements draft.syntaxes ≡ statements (take row draft.syntaxes) ++ s ∷ statements (drop (suc row) draft.syntaxes) =
             ap statements (cut_at draft.syntaxes row syntax_at.0 syntax_at.1) ∙ statements-append (take row draft.syntaxes)
             (syntax_at.0 ∷ drop (suc row) draft.syntaxes) ∙ ap
             (λ (o : Option Syntax). statements (take row draft.syntaxes) ++ cons_option o (statements (drop (suc row) draft.syntaxes))) is in
             none (all (length code) s (ap (λ (ss : List Syntax). slice_get ss (length code)) whole ∙ get_seam (statements (take row draft.syntaxes)) s
-            (statements (drop (suc row) draft.syntaxes)) (length code) count))
+            (statements (drop (suc row) draft.syntaxes)) (length code) (as_many code r)))
+
+        -- where a jump stands that is refused
+        abbrev jump_at : (number at : ℕ) (s : Syntax) (cause : CellCause) → JumpRefused grammar labels number cell.tokens s at cause
+            → Standing (placed_row cells ∷ []) at
+        jump_at number at s cause f =
+            standing cells (take row cells) (drop (suc row) cells) cell (cut_at cells row cell cell_at) at f.front f.token [] f.last f.begins
+
+        jump_label : (number at : ℕ) (s : Syntax) (cause : CellCause) (f : JumpRefused grammar labels number cell.tokens s at cause)
+            → syntax_at.0.stmt ≡ Some s
+            → IsJumpLabel grammar (jump_at number at s cause f) (take row draft.syntaxes) syntax_at.0 (drop (suc row) draft.syntaxes)
+        jump_label number at s cause f is =
+            record { above_says = above_placed; says = placed_says; below_says = below_placed; last = refl; jump = (s, is, f.is) }
 
         jump_tells : (names : List (List ℕ)) (code : List Stmt) (s : Syntax) (at : ℕ) (cause : CellCause) → syntax_at.0.stmt ≡ Some s
             → Resolved after draft.syntaxes row code → JumpRefused grammar labels (length code) cell.tokens s at cause
             → TellsBy grammar names (placed_row cells ∷ []) at cause
-        jump_tells names code s at Form is r f = tt
-        jump_tells names code s at Register is r f = tt
         jump_tells names code s at LabelMissing is r f = (
-          standing cells (take row cells) (drop (suc row) cells) cell (cut_at cells row cell cell_at) at f.front f.token [] f.last f.begins,
+          jump_at (length code) at s LabelMissing f,
           (
             take row draft.syntaxes,
             syntax_at.0,
             drop (suc row) draft.syntaxes,
-            record {
-              above_says = above_placed;
-              says = placed_says;
-              below_says = below_placed;
-              last = refl;
-              jump = (s, is, f.is);
-            },
+            jump_label (length code) at s LabelMissing f is,
             λ there. leads_nowhere draft.syntaxes f.token.text.now (sym (draft.leads f.token.text.now) ∙ f.because)
                 (subst (λ (ls : List (CellSyntax Syntax)). Contains (labels_of ls) f.token.text.now)
                 (sym (cut_at draft.syntaxes row syntax_at.0 syntax_at.1)) there),
           ),
         )
-        jump_tells names code s at LabelTwice is r f = absurd f.because
         jump_tells names code s at Backward is r f =
             let b = f.because in
             let l = leads_in draft.syntaxes f.token.text.now b.0 (sym (draft.leads f.token.text.now) ∙ b.1) in
-            let cut = cut_at draft.syntaxes row syntax_at.0 syntax_at.1 in
-            let count : length code ≡ length (statements (take row draft.syntaxes)) = ap length r.made ∙ length-map
-            (statements (take row draft.syntaxes)) (resolved_statement grammar after draft.syntaxes) in (
-              standing cells (take row cells) (drop (suc row) cells) cell (cut_at cells row cell cell_at) at f.front f.token [] f.last f.begins,
+            let cut = cut_at draft.syntaxes row syntax_at.0 syntax_at.1 in (
+              jump_at (length code) at s Backward f,
               (
                 take row draft.syntaxes,
                 syntax_at.0,
                 drop (suc row) draft.syntaxes,
-                record {
-                  above_says = above_placed;
-                  says = placed_says;
-                  below_says = below_placed;
-                  last = refl;
-                  jump = (s, is, f.is);
-                },
+                jump_label (length code) at s Backward f is,
                 subst (λ (ls : List (CellSyntax Syntax)). Contains (labels_of ls) f.token.text.now) cut l.0,
                 subst (λ (ls : List (CellSyntax Syntax)). target_in ls f.token.text.now ≤ length (statements (take row draft.syntaxes))) cut
-                    (omega (arith, b.2, l.1, count)),
+                    (omega (arith, b.2, l.1, as_many code r)),
               ),
             )
-        jump_tells names code s at TooMany is r f = absurd f.because
-        jump_tells names code s at Memory is r f = tt
+        jump_tells names code s at cause is r f = absurd f.because
 
         -- where its jump is refused, so is the thread
         pub row_refused : IsGrammar grammar → (code : List Stmt) (f : CellFault) → Resolved after draft.syntaxes row code

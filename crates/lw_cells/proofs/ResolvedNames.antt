@@ -1,16 +1,18 @@
 -- Statements on a table that grows.
-use Rattle.std.proofs.Common.{◌≡◌, ℕ, zero, suc, ◌<◌, ◌≤◌, true, Option, Some, None, List, [], ◌∷◌, length, refl, sym, ap, ◌∙◌, subst, arith}
-use Rattle.std.specs.Prelude.{map, slice_get}
-use Rattle.std.specs.List.{AllByRecursion, filter_map, cons_option}
-use Rattle.std.specs.Option.{ForSome, option_map}
+use Rattle.std.proofs.Common.{◌≡◌, ℕ, zero, suc, ◌<◌, ◌≤◌, true, Option, Some, None, List, [], ◌∷◌, length}
+use Rattle.std.proofs.Common.{refl, sym, ap, ◌∙◌, subst, arith, map, slice_get, filter_map, option_map}
+use Rattle.std.specs.List.{AllByRecursion, cons_option}
+use Rattle.std.specs.Option.{ForSome}
 use Rattle.std.proofs.lemmas.List.{length-map}
 use Rattle.std.proofs.lemmas.List.Elements.{All-from_recursion}
 use Rattle.lw_base.specs.Tables.{contains_name, with_name, with_names, index_of}
-use Rattle.lw_base.proofs.api.GrowingTables.{contains_name-with_name, contains_name-with_names, index_of-with_names, index_of-within}
+use Rattle.lw_base.proofs.api.GrowingTables.{contains_name-with_name, contains_name-with_names}
+use Rattle.lw_base.proofs.api.GrowingTables.{index_of-with_names, index_of-within}
 use Rattle.lw_litmus.specs.Operations.{location_of, target_of}
 use Rattle.lw_cells.specs.Grammars.{Grammar, IsGrammar}
 use Rattle.lw_litmus.specs.WellFormed.{IsStatement, IsThread}
-use Rattle.lw_cells.specs.Cells.{CellSyntax, statements, LeadsForward, target_in, number_in, led_to, resolved_statement, code_in}
+use Rattle.lw_cells.specs.Cells.{CellSyntax, statements, LeadsForward, target_in, number_in, led_to}
+use Rattle.lw_cells.specs.Cells.{resolved_statement, code_in}
 use Rattle.lw_cells.proofs.Leads.{target_within}
 
 -- The name is in the table, if there is one.

@@ -1,31 +1,37 @@
 -- What tokens at slots give, as the reader finds it.
-use Rattle.std.proofs.Common.{◌≡◌, ℕ, zero, suc, ◌+◌, ◌<◌, ◌≤◌, Option, Some, None, List, [], ◌∷◌, ◌++◌, length, take, get_or}
-use Rattle.std.proofs.Common.{inl, inr, refl, sym, ap, ◌∙◌, subst, arith}
-use Rattle.std.specs.Prelude.{slice_get, MatchOption, IsTrue, ◌↔◌, Contains}
-use Rattle.std.specs.Option.{is_some}
+use Rattle.std.proofs.Common.{◌≡◌, ℕ, zero, suc, ◌+◌, ◌<◌, ◌≤◌, Bool, true, false, true≢false, eqb, Option}
+use Rattle.std.proofs.Common.{Some, None, List, [], ◌∷◌, ◌++◌, length, take, get_or, inl, inr, refl, sym, ap}
+use Rattle.std.proofs.Common.{◌∙◌, subst, arith, slice_get, MatchBool, MatchOption, IsTrue, ◌↔◌, Contains}
+use Rattle.std.proofs.Common.{is_some, bytes_eq, eqb-true}
+use Rattle.std.proofs.lemmas.Slice.Eq.{bytes_eq-Decides}
 use Rattle.std.proofs.lemmas.Bool.{cases_lt}
 use Rattle.lw_base.proofs.api.Lists.{at_index}
 use Rattle.lw_base.specs.Types.{Bytes, TokenList}
 use Rattle.lw_base.specs.declared.head.Arch.{Arch}
 use Rattle.lw_base.specs.declared.operand.Operand.{Operand}
-use Rattle.lw_base.specs.declared.operand.Operand.TheVariants as operand
 use Rattle.lw_base.specs.Names.{IsLocation}
-use Rattle.lw_base.specs.Registers.{IsRegister}
+use Rattle.lw_base.specs.Registers.{IsRegister, without_case}
 use Rattle.lw_text.specs.Tokens.{IsNumber}
 use Rattle.lw_text.specs.declared.token.Token.{Token}
 use Rattle.lw_text.specs.Spans.{texts}
 use Rattle.lw_cells.specs.declared.slot.Slot.{Slot}
-use Rattle.lw_cells.specs.declared.slot.Slot.TheVariants.{Location, Label}
+use Rattle.lw_cells.specs.declared.slot.Slot.TheVariants.{Word, Location}
 use Rattle.lw_cells.specs.declared.spelled.Found.{Found}
 use Rattle.lw_cells.specs.Operands.{IsOperand}
 use Rattle.lw_cells.specs.Spellings.{Spelling, Given, Filling, Gives, Fills}
-use Rattle.lw_cells.specs.Found.{CanStand, BeginsWith}
-use Rattle.lw_cells.specs.Found.{with_name_at, with_label_at, found_with, found_of, reach_of}
+use Rattle.lw_cells.specs.Found.{CanStand, BeginsWith, nothing, found_with, found_of, reach_of}
+use Rattle.lw_base.specs.declared.operand.Operand.TheVariants as operand
 
 -- a token that is neither a register nor a number is no operand
 pub no_operand : (arch : Arch) (w : Bytes) → ((r : ℕ) → IsRegister arch w r → ⊥) → ((n : ℕ) → IsNumber w n → ⊥) → (v : Operand) → IsOperand arch w v → ⊥
 no_operand arch w reg num (operand.Register r) h = reg r h
 no_operand arch w reg num (operand.Number n) h = num n h
+
+-- a token that is a location, or a label
+pub taken_name : (t : Bytes) (made : Found) (result : Option Found) → MatchOption result (IsLocation t → ⊥) (λ all. IsLocation t × (all ≡ made))
+    → MatchOption result ((x : Bytes) → (t ≡ x) × IsLocation x → ⊥) (λ all. (x : Bytes) × ((t ≡ x) × IsLocation x) × (all ≡ made))
+taken_name t made None h = λ x is. h (subst IsLocation (sym is.0) is.1)
+taken_name t made (Some all) h = (t, (refl, h.0), h.1)
 
 module _ {W Form Stmt : Type 0} (spelling : Spelling W Form Stmt) where
   -- what the token of this index gives at a slot, in front of what was found behind it, or that it cannot stand there
@@ -34,20 +40,43 @@ module _ {W Form Stmt : Type 0} (spelling : Spelling W Form Stmt) where
       MatchOption result ((g : Given slot) → Gives spelling t slot g → ⊥)
       (λ all. (g : Given slot) × Gives spelling t slot g × (all ≡ found_with k slot g found))
 
+  -- The token is added to what was found behind it, or cannot stand there.
+  abbrev pub IsAdded : (slot : Slot W) → Bytes → ℕ → Found → Bool → Found → Type 0
+  IsAdded slot t k found b all =
+      MatchBool b ((g : Given slot) × Gives spelling t slot g × (all ≡ found_with k slot g found)) ((g : Given slot) → Gives spelling t slot g → ⊥)
+
   -- Tokens stand at slots, of which the first has this index: this is found, or nothing is.
-  abbrev pub AreTaken : TokenList → ℕ → (slots : List (Slot W)) → Option Found → Type 0
-  AreTaken ts k slots result =
-      MatchOption result ((f : Filling slots) → Fills spelling ts slots f → ⊥)
-      (λ all. (f : Filling slots) × Fills spelling ts slots f × (all ≡ found_of k slots f))
+  abbrev pub AreTaken : TokenList → ℕ → (slots : List (Slot W)) → Bool → Found → Type 0
+  AreTaken ts k slots b all =
+      MatchBool b ((f : Filling slots) × Fills spelling ts slots f × (all ≡ found_of k slots f)) ((f : Filling slots) → Fills spelling ts slots f → ⊥)
 
   -- a token in front, and those behind it
-  pub taken_more : (slots rest : List (Slot W)) (slot : Slot W) (tokens more : List Token) (token : Token) (k : ℕ) (found : Found)
-      (result : Option Found) → slots ≡ slot ∷ rest → tokens ≡ token ∷ more
-      → (f : Filling rest) × Fills spelling (texts more) rest f × (found ≡ found_of (k + 1) rest f) → IsTaken slot token.text.now k found result
-      → AreTaken (texts tokens) k slots result
-  taken_more slots rest slot tokens more token k found None a b (f, fills, is) h = rw (a, b) (λ g s. h g.0 s.0)
-  taken_more slots rest slot tokens more token k found (Some all) a b (f, fills, is) (g, gives, made) = rw (a, b)
+  pub taken_more : (slots rest : List (Slot W)) (slot : Slot W) (tokens more : List Token) (token : Token) (k : ℕ) (found all : Found)
+      (b : Bool) → slots ≡ slot ∷ rest → tokens ≡ token ∷ more
+      → (f : Filling rest) × Fills spelling (texts more) rest f × (found ≡ found_of (k + 1) rest f) → IsAdded slot token.text.now k found b all
+      → AreTaken (texts tokens) k slots b all
+  taken_more slots rest slot tokens more token k found all false a e behind h = rw (a, e) (λ g s. h g.0 s.0)
+  taken_more slots rest slot tokens more token k found all true a e (f, fills, is) (g, gives, made) = rw (a, e)
       ((g, f), (gives, fills), made ∙ ap (found_with k slot g) is)
+
+  -- whether a token is a word
+  pub word_or_not : (w : W) (t : Bytes) (b : Bool) → b ≡ bytes_eq (without_case spelling.language.arch (spelling.text_of w))
+      (without_case spelling.language.arch t) → IsTrue b ↔ Gives spelling t (Word w) tt
+  word_or_not w t b is =
+      let d = bytes_eq-Decides (without_case spelling.language.arch (spelling.text_of w)) (without_case spelling.language.arch t) in
+      (λ yes. d.0 (sym is ∙ yes), λ same. is ∙ d.1 same)
+
+  -- the word in front, and the tokens behind it
+  pub taken_behind : (slots rest : List (Slot W)) (w : W) (tokens more : List Token) (token : Token) (k : ℕ) (b : Bool) (all : Found)
+      → slots ≡ Word w ∷ rest → tokens ≡ token ∷ more → Gives spelling token.text.now (Word w) tt → AreTaken (texts more) (k + 1) rest b all
+      → AreTaken (texts tokens) k slots b all
+  taken_behind slots rest w tokens more token k false all a e here h = rw (a, e) (λ f s. h f.1 s.1)
+  taken_behind slots rest w tokens more token k true all a e here (f, fills, is) = rw (a, e) ((tt, f), (here, fills), is)
+
+  -- another word in front
+  pub other_word : (slots rest : List (Slot W)) (w : W) (tokens more : List Token) (token : Token) → slots ≡ Word w ∷ rest → tokens ≡ token ∷ more
+      → (Gives spelling token.text.now (Word w) tt → ⊥) → (f : Filling slots) → Fills spelling (texts tokens) slots f → ⊥
+  other_word slots rest w tokens more token a b other = rw (a, b) (λ f s. other s.0)
 
   -- the token in front cannot stand, or those behind it cannot
   pub none_more : (slots rest : List (Slot W)) (slot : Slot W) (tokens more : List Token) (token : Token) → slots ≡ slot ∷ rest → tokens ≡ token ∷ more
@@ -61,12 +90,14 @@ module _ {W Form Stmt : Type 0} (spelling : Spelling W Form Stmt) where
   none_filled (s ∷ slots) rest slot [] a b = λ f h. h
   none_filled (s ∷ slots) rest slot (t ∷ tokens) a b = absurd (omega (arith, b))
 
-  -- all slots are filled, and a token is left
-  pub none_left : (slots : List (Slot W)) (tokens : List Token) → length slots ≡ 0 → (length tokens ≡ 0 → ⊥) → (f : Filling slots)
-      → Fills spelling (texts tokens) slots f → ⊥
-  none_left slots [] a some = absurd (some refl)
-  none_left [] (t ∷ tokens) a some = λ f s. s
-  none_left (slot ∷ slots) (t ∷ tokens) a some = absurd (omega (arith, a))
+  -- all slots are filled: a token is left, or none is
+  pub taken_none : (slots : List (Slot W)) (tokens : List Token) (k : ℕ) (b : Bool) (all : Found) → length slots ≡ 0 → b ≡ eqb (length tokens) 0
+      → all ≡ nothing → AreTaken (texts tokens) k slots b all
+  taken_none [] [] k true all a e is = (tt, tt, is)
+  taken_none [] (t ∷ tokens) k false all a e is = λ f s. s
+  taken_none [] [] k false all a e is = absurd (true≢false (sym e))
+  taken_none [] (t ∷ tokens) k true all a e is = absurd (omega (arith, eqb-true (length (t ∷ tokens)) 0 (sym e)))
+  taken_none (slot ∷ slots) tokens k b all a e is = absurd (omega (arith, a))
 
   -- there are more slots than tokens, or fewer
   pub not_filled : (slots : List (Slot W)) (tokens : List Token) → (length slots ≡ length tokens → ⊥) → (f : Filling slots)
@@ -75,16 +106,6 @@ module _ {W Form Stmt : Type 0} (spelling : Spelling W Form Stmt) where
   not_filled [] (t ∷ tokens) differ f h = h
   not_filled (slot ∷ slots) [] differ f h = h
   not_filled (slot ∷ slots) (t ∷ tokens) differ f h = not_filled slots tokens (λ e. differ (ap suc e)) f.1 h.1
-
-  pub taken_name : (t : Bytes) (k : ℕ) (found : Found) (result : Option Found)
-      → MatchOption result (IsLocation t → ⊥) (λ all. IsLocation t × (all ≡ with_name_at k found)) → IsTaken Location t k found result
-  taken_name t k found None h = λ x is. h (subst IsLocation (sym is.0) is.1)
-  taken_name t k found (Some all) h = (t, (refl, h.0), h.1)
-
-  pub taken_label : (t : Bytes) (k : ℕ) (found : Found) (result : Option Found)
-      → MatchOption result (IsLocation t → ⊥) (λ all. IsLocation t × (all ≡ with_label_at k found)) → IsTaken Label t k found result
-  taken_label t k found None h = λ x is. h (subst IsLocation (sym is.0) is.1)
-  taken_label t k found (Some all) h = (t, (refl, h.0), h.1)
 
   -- whether a token can stand at a slot
   pub can_stand_alone : (t : Bytes) (slot : Slot W) (k : ℕ) (found : Found) (result : Option Found) → IsTaken slot t k found result

@@ -1,9 +1,8 @@
 -- Tokens at slots: what they give is theirs alone, and forms whose slots differ exclude each other.
-use Rattle.std.proofs.Common.{◌≡◌, ℕ, zero, suc, ◌<◌, Bool, true, false, true≢false, List, [], ◌∷◌, length, map, get_or, refl, sym, ap, ◌∙◌, subst, arith, inl}
-use Rattle.std.proofs.Common.{inr}
-use Rattle.std.specs.Prelude.{not, ◌||◌, codes}
+use Rattle.std.proofs.Common.{◌≡◌, ℕ, zero, suc, ◌<◌, Bool, true, false, true≢false, List, [], ◌∷◌, length}
+use Rattle.std.proofs.Common.{map, get_or, refl, sym, ap, ◌∙◌, subst, arith, inl, inr, not, ◌||◌, codes}
+use Rattle.std.proofs.Common.{bytes_eq}
 use Rattle.std.specs.List.{list_any}
-use Rattle.std.specs.Str.{bytes_eq}
 use Rattle.std.proofs.lemmas.Bool.{cases_Bool, or_right}
 use Rattle.std.proofs.lemmas.Slice.Eq.{bytes_eq-Decides}
 use Rattle.lw_base.specs.Types.{Bytes, TokenList}
@@ -12,7 +11,6 @@ use Rattle.std.specs.Char.{is_ascii_digit, to_ascii_lowercase}
 use Rattle.lw_base.specs.declared.head.Arch.{Arch}
 use Rattle.lw_base.specs.declared.head.Arch.TheVariants.{Source, X86}
 use Rattle.lw_base.specs.declared.operand.Operand.{Operand}
-use Rattle.lw_base.specs.declared.operand.Operand.TheVariants as operand
 use Rattle.lw_base.specs.Names.{IsLocation, is_reserved, is_numbered, keywords, x86_registers}
 use Rattle.lw_base.specs.Registers.{IsRegister, register_name, without_case}
 use Rattle.lw_base.proofs.api.Registers.{register_unique}
@@ -23,27 +21,26 @@ use Rattle.lw_cells.specs.declared.slot.Slot.TheVariants.{Word, Register, Locati
 use Rattle.lw_cells.specs.Operands.{IsOperand}
 use Rattle.lw_cells.specs.Spellings.{Spelling, Given, Filling, Gives, Fills}
 use Rattle.lw_cells.specs.Found.{names_register, differ, are_apart, is_no_colon}
+use Rattle.lw_base.specs.declared.operand.Operand.TheVariants as operand
 
 -- ---- words
 
+-- what holds of each register holds of all
+each_register : (P : ℕ → Type 0) → P 0 → P 1 → P 2 → P 3 → P 4 → P 5 → (r : ℕ) → r < 6 → P r
+each_register P a b c d e f zero h = a
+each_register P a b c d e f (suc zero) h = b
+each_register P a b c d e f (suc (suc zero)) h = c
+each_register P a b c d e f (suc (suc (suc zero))) h = d
+each_register P a b c d e f (suc (suc (suc (suc zero)))) h = e
+each_register P a b c d e f (suc (suc (suc (suc (suc zero))))) h = f
+each_register P a b c d e f (suc (suc (suc (suc (suc (suc r)))))) h = absurd (omega arith)
+
 -- the name of a register is reserved
 numbered : (r : ℕ) → r < 6 → is_reserved (register_name Source r) ≡ true
-numbered zero h = refl
-numbered (suc zero) h = refl
-numbered (suc (suc zero)) h = refl
-numbered (suc (suc (suc zero))) h = refl
-numbered (suc (suc (suc (suc zero)))) h = refl
-numbered (suc (suc (suc (suc (suc zero))))) h = refl
-numbered (suc (suc (suc (suc (suc (suc r)))))) h = absurd (omega arith)
+numbered = each_register (λ r. is_reserved (register_name Source r) ≡ true) refl refl refl refl refl refl
 
 of_x86 : (r : ℕ) → r < 6 → list_any (λ k. bytes_eq (without_case X86 (register_name X86 r)) k) x86_registers ≡ true
-of_x86 zero h = refl
-of_x86 (suc zero) h = refl
-of_x86 (suc (suc zero)) h = refl
-of_x86 (suc (suc (suc zero))) h = refl
-of_x86 (suc (suc (suc (suc zero)))) h = refl
-of_x86 (suc (suc (suc (suc (suc zero))))) h = refl
-of_x86 (suc (suc (suc (suc (suc (suc r)))))) h = absurd (omega arith)
+of_x86 = each_register (λ r. list_any (λ k. bytes_eq (without_case X86 (register_name X86 r)) k) x86_registers ≡ true) refl refl refl refl refl refl
 
 register_reserved : (arch : Arch) (w : Bytes) (r : ℕ) → IsRegister arch w r → is_reserved w ≡ true
 register_reserved Source w r h = ap is_reserved (sym h.1) ∙ numbered r h.0
@@ -61,13 +58,8 @@ number_apart w n num loc = true≢false (sym (number_first w n num) ∙ loc.0.0.
 
 letter_first : (arch : Arch) (r : ℕ) → r < 6 → begins is_ascii_digit (without_case arch (register_name arch r)) ≡ false
 letter_first Source r h = refl
-letter_first X86 zero h = refl
-letter_first X86 (suc zero) h = refl
-letter_first X86 (suc (suc zero)) h = refl
-letter_first X86 (suc (suc (suc zero))) h = refl
-letter_first X86 (suc (suc (suc (suc zero)))) h = refl
-letter_first X86 (suc (suc (suc (suc (suc zero))))) h = refl
-letter_first X86 (suc (suc (suc (suc (suc (suc r)))))) h = absurd (omega arith)
+letter_first X86 r h =
+    each_register (λ q. begins is_ascii_digit (without_case X86 (register_name X86 q)) ≡ false) refl refl refl refl refl refl r h
 
 digit_lower : (c : ℕ) → is_ascii_digit c ≡ true → is_ascii_digit (to_ascii_lowercase c) ≡ true
 digit_lower c d = grind arith
@@ -115,7 +107,8 @@ module _ {W Form Stmt : Type 0} (spelling : Spelling W Form Stmt) where
 
   named : (w : Bytes) (r : ℕ) → r < 6 → without_case spelling.language.arch
       (register_name spelling.language.arch r) ≡ without_case spelling.language.arch w → names_register spelling w ≡ true
-  named w r h e = go r h ((bytes_eq-Decides _ _).1 e)
+  named w r h e = at r (0 ∷ 1 ∷ 2 ∷ 3 ∷ 4 ∷ 5 ∷ []) r
+      (each_register (λ q. get_or (0 ∷ 1 ∷ 2 ∷ 3 ∷ 4 ∷ 5 ∷ []) q q ≡ q) refl refl refl refl refl refl r h) h ((bytes_eq-Decides _ _).1 e)
     where
       same : ℕ → Bool
       same q = bytes_eq (without_case spelling.language.arch (register_name spelling.language.arch q)) (without_case spelling.language.arch w)
@@ -124,15 +117,6 @@ module _ {W Form Stmt : Type 0} (spelling : Spelling W Form Stmt) where
       at k [] q e h s = absurd (omega (arith, h))
       at zero (p ∷ qs) q e h s = let f : same p ≡ true = ap same e ∙ s in rw f refl
       at (suc k) (p ∷ qs) q e h s = or_right (same p) (list_any same qs) (at k qs q e (omega (arith, h)) s)
-
-      go : (q : ℕ) → q < 6 → same q ≡ true → names_register spelling w ≡ true
-      go zero h s = at 0 (0 ∷ 1 ∷ 2 ∷ 3 ∷ 4 ∷ 5 ∷ []) 0 refl (omega arith) s
-      go (suc zero) h s = at 1 (0 ∷ 1 ∷ 2 ∷ 3 ∷ 4 ∷ 5 ∷ []) 1 refl (omega arith) s
-      go (suc (suc zero)) h s = at 2 (0 ∷ 1 ∷ 2 ∷ 3 ∷ 4 ∷ 5 ∷ []) 2 refl (omega arith) s
-      go (suc (suc (suc zero))) h s = at 3 (0 ∷ 1 ∷ 2 ∷ 3 ∷ 4 ∷ 5 ∷ []) 3 refl (omega arith) s
-      go (suc (suc (suc (suc zero)))) h s = at 4 (0 ∷ 1 ∷ 2 ∷ 3 ∷ 4 ∷ 5 ∷ []) 4 refl (omega arith) s
-      go (suc (suc (suc (suc (suc zero))))) h s = at 5 (0 ∷ 1 ∷ 2 ∷ 3 ∷ 4 ∷ 5 ∷ []) 5 refl (omega arith) s
-      go (suc (suc (suc (suc (suc (suc q)))))) h s = absurd (omega arith)
 
   no_register : (t : Bytes) (w : W) (r : ℕ) → not (names_register spelling (spelling.text_of w)) ≡ true
       → without_case spelling.language.arch (spelling.text_of w) ≡ without_case spelling.language.arch t → IsRegister spelling.language.arch t r → ⊥
@@ -147,25 +131,7 @@ module _ {W Form Stmt : Type 0} (spelling : Spelling W Form Stmt) where
   differ_apart t Location Register n r d x y = register_apart spelling.language.arch t r y (subst IsLocation (sym x.0) x.1)
   differ_apart t Location Value n v d x y = operand_apart spelling.language.arch t v y (subst IsLocation (sym x.0) x.1)
   differ_apart t Value Location v n d x y = operand_apart spelling.language.arch t v x (subst IsLocation (sym y.0) y.1)
-  differ_apart t (Word w) Location g h d x y = absurd cc
-  differ_apart t (Word w) Value g h d x y = absurd cc
-  differ_apart t (Word w) Number g h d x y = absurd cc
-  differ_apart t (Word w) Label g h d x y = absurd cc
-  differ_apart t Register Register g h d x y = absurd cc
-  differ_apart t Register Value g h d x y = absurd cc
-  differ_apart t Register Number g h d x y = absurd cc
-  differ_apart t Register Label g h d x y = absurd cc
-  differ_apart t Location (Word w) g h d x y = absurd cc
-  differ_apart t Location Location g h d x y = absurd cc
-  differ_apart t Location Number g h d x y = absurd cc
-  differ_apart t Location Label g h d x y = absurd cc
-  differ_apart t Value (Word w) g h d x y = absurd cc
-  differ_apart t Value Register g h d x y = absurd cc
-  differ_apart t Value Value g h d x y = absurd cc
-  differ_apart t Value Number g h d x y = absurd cc
-  differ_apart t Value Label g h d x y = absurd cc
-  differ_apart t Number b g h d x y = absurd cc
-  differ_apart t Label b g h d x y = absurd cc
+  differ_apart t a b g h d x y = absurd cc
 
   -- a `:` stands at no slot but its own
   pub colon_gives : (slot : Slot W) (slots : List (Slot W)) (g : Given slot) → is_no_colon spelling (slot ∷ slots) ≡ true

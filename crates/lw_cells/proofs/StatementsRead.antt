@@ -1,8 +1,8 @@
 -- A statement is read, or is refused, as its language's grammar says.
-use Rattle.std.proofs.Common.{◌≡◌, ℕ, suc, ◌<◌, ◌≤◌, ◌+◌, Option, Some, None, List, [], ◌∷◌, ◌++◌, length, take, get_or, refl, sym, ap, ◌∙◌, subst, arith}
-use Rattle.std.specs.Prelude.{slice_get, All, Contains, IfSome, MatchOption}
+use Rattle.std.proofs.Common.{◌≡◌, ℕ, suc, ◌<◌, ◌≤◌, ◌+◌, Option, Some, None, List, [], ◌∷◌, ◌++◌, length}
+use Rattle.std.proofs.Common.{take, get_or, refl, sym, ap, ◌∙◌, subst, arith, slice_get, All, Contains}
+use Rattle.std.proofs.Common.{IfSome, MatchOption, option_map}
 use Rattle.std.specs.List.{cons_option}
-use Rattle.std.specs.Option.{option_map}
 use Rattle.std.proofs.lemmas.Option.{slice_get_within, get_or_from_slice_get}
 use Rattle.std.proofs.lemmas.List.{length-map, take-map}
 use Rattle.lw_base.specs.Limits.{most_locations}
@@ -17,13 +17,13 @@ use Rattle.lw_text.specs.Spans.{texts}
 use Rattle.lw_cells.specs.declared.draft.Draft.{Draft}
 use Rattle.lw_cells.specs.declared.draft.Operands.{Operands}
 use Rattle.lw_cells.specs.declared.slot.Slot.{Slot}
-use Rattle.lw_cells.specs.declared.slot.Slot.TheVariants.{Word, Register, Location, Value, Number, Label}
+use Rattle.lw_cells.specs.declared.slot.Slot.TheVariants.{Location}
 use Rattle.lw_cells.specs.declared.spelled.Found.{Found}
 use Rattle.lw_cells.specs.Cells.{number_in}
 use Rattle.lw_cells.specs.Words.{NameRead}
 use Rattle.lw_cells.specs.Spellings.{Spelling, Filling, Fills, Said, grammar_of, name_in}
-use Rattle.lw_cells.specs.Found.{CanStand}
-use Rattle.lw_cells.specs.Found.{found_of, draft_on, drafted, draft_of, IsDrafted, IsNotDrafted, IsNinthSlot, reach_of, IsSpelling}
+use Rattle.lw_cells.specs.Found.{CanStand, found_of, draft_on, drafted, draft_of, IsNameAmong, IsDrafted}
+use Rattle.lw_cells.specs.Found.{IsNotDrafted, IsNinthSlot, reach_of, IsSpelling}
 use Rattle.lw_cells.specs.declared.phrase.Phrase.{Phrase}
 use Rattle.lw_cells.specs.Reading.{Fits, StatementRead, StatementFault, StatementRefused, NinthIn, named_by}
 use Rattle.lw_cells.proofs.Elements.{all_at}
@@ -61,25 +61,17 @@ module _ {W Form Stmt : Type 0} (spelling : Spelling W Form Stmt) where
       → IsNamed i k ts slots f
   name_index i k ts [] f h e = absurd cc
   name_index i k [] (slot ∷ slots) f h e = absurd h
-  name_index i k (t ∷ ts) (Word w ∷ slots) f h e = named_further i k t ts (Word w) slots f refl ((f.0, tt), (h.0, tt)) (name_index (i + 1) k ts slots f.1 h.1 e)
-  name_index i k (t ∷ ts) (Register ∷ slots) f h e = named_further i k t ts Register slots f refl ((f.0, tt), (h.0, tt))
-      (name_index (i + 1) k ts slots f.1 h.1 e)
-  name_index i k (t ∷ ts) (Value ∷ slots) f h e = named_further i k t ts Value slots f refl ((f.0, tt), (h.0, tt)) (name_index (i + 1) k ts slots f.1 h.1 e)
-  name_index i k (t ∷ ts) (Number ∷ slots) f h e = named_further i k t ts Number slots f refl ((f.0, tt), (h.0, tt)) (name_index (i + 1) k ts slots f.1 h.1 e)
-  name_index i k (t ∷ ts) (Label ∷ slots) f h e = named_further i k t ts Label slots f refl ((f.0, tt), (h.0, tt)) (name_index (i + 1) k ts slots f.1 h.1 e)
   name_index i k (t ∷ ts) (Location ∷ slots) f h e =
       let g : Some i ≡ Some k = e in
       let d : i ≡ k = cc in
       (f.0, 0, [], slots, refl, omega (arith, d), ap Some h.0.0, refl, (tt, tt), h.0.1)
+  name_index i k (t ∷ ts) (slot ∷ slots) f h e =
+      named_further i k t ts slot slots f refl ((f.0, tt), (h.0, tt)) (name_index (i + 1) k ts slots f.1 h.1 e)
 
   no_name : (i : ℕ) (slots : List (Slot W)) (f : Filling slots) → (found_of i slots f).name ≡ None → name_in slots f ≡ None
   no_name i [] f e = refl
-  no_name i (Word w ∷ slots) f e = no_name (i + 1) slots f.1 e
-  no_name i (Register ∷ slots) f e = no_name (i + 1) slots f.1 e
   no_name i (Location ∷ slots) f e = absurd cc
-  no_name i (Value ∷ slots) f e = no_name (i + 1) slots f.1 e
-  no_name i (Number ∷ slots) f e = no_name (i + 1) slots f.1 e
-  no_name i (Label ∷ slots) f e = no_name (i + 1) slots f.1 e
+  no_name i (slot ∷ slots) f e = no_name (i + 1) slots f.1 e
 
   -- ---- a form whose slots the tokens fill
 
@@ -104,15 +96,15 @@ module _ {W Form Stmt : Type 0} (spelling : Spelling W Form Stmt) where
         let one : n.0 ≡ t.text.now = cc in
         (n.4 ∙ same, subst IsLocation one n.9)
 
-    pub name_within : (o : Found) → o ≡ found → IfSome o.name (λ k. k < length tokens)
-    name_within o e = go o.name refl
+    pub name_among : (o : Found) → o ≡ found → IsNameAmong o tokens
+    name_among o e = go o.name refl
       where
-        go : (m : Option ℕ) → o.name ≡ m → IfSome m (λ k. k < length tokens)
+        go : (m : Option ℕ) → o.name ≡ m → IfSome m (λ k. (k < length tokens) × ((t : Token) → slice_get tokens k ≡ Some t → IsLocation t.text.now))
         go None is = tt
         go (Some k) is =
             let n = named o k e is in
             let within : n.1 < length (texts tokens) = slice_get_within (texts tokens) n.1 n.0 n.6 in
-            omega (arith, n.5, within, length-map tokens (λ (t : Token). t.text.now))
+            (omega (arith, n.5, within, length-map tokens (λ (t : Token). t.text.now)), λ t at. (name_is o k t e is at).1)
 
     read_by : (o : Found) (before : NameTable) (draft : Draft Form) (after : NameTable) → o ≡ found → (p : Option Bytes)
         → name_in (spelling.slots_of form) f ≡ p → after ≡ with_names before (cons_option p []) → draft ≡ drafted form (number_in after p) o

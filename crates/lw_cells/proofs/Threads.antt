@@ -1,12 +1,10 @@
 -- Reading the threads of a test, one further.
-use Rattle.std.proofs.Common.{◌≡◌, ℕ, suc, ◌<◌, ◌≤◌, ◌+◌, ◌-◌, Option, Some, None, List, [], ◌∷◌, ◌++◌, length, take, drop, get_or, refl, sym, ap, ◌∙◌, subst}
-use Rattle.std.proofs.Common.{arith}
-use Rattle.std.specs.Prelude.{map, All, replicate}
-use Rattle.std.specs.List.{AllZip, AllByRecursion, cons_option}
-use Rattle.std.proofs.lemmas.List.{map-append, length-map, append-nil, take-append-drop}
+use Rattle.std.proofs.Common.{◌≡◌, ℕ, ◌<◌, ◌≤◌, ◌+◌, ◌-◌, List, [], ◌∷◌, ◌++◌, length, take, get_or, refl}
+use Rattle.std.proofs.Common.{sym, ap, ◌∙◌, subst, arith, map, All, replicate, append-nil}
+use Rattle.std.specs.List.{AllZip, AllByRecursion}
+use Rattle.std.proofs.lemmas.List.{map-append, length-map}
 use Rattle.std.proofs.lemmas.List.Elements.{All-from_recursion}
 use Rattle.std.proofs.lemmas.Grind.{flat_map-append}
-use Rattle.std.proofs.Math.Seq.{take-suc, drop-cons}
 use Rattle.lw_base.specs.Heads.{TestHead, with_table}
 use Rattle.lw_base.specs.Names.{IsTable}
 use Rattle.lw_base.specs.Tables.{with_names}
@@ -20,28 +18,21 @@ use Rattle.lw_text.proofs.api.Places.{grid_placed}
 use Rattle.lw_cells.specs.Grammars.{Grammar, IsGrammar}
 use Rattle.lw_litmus.specs.Tests.{Test}
 use Rattle.lw_litmus.specs.WellFormed.{IsThread, IsWellFormed}
-use Rattle.lw_cells.specs.Cells.{CellSyntax, MaybeStatement, CellSays, Column, statements, names_in, names_of, code_in, test_on, FrameHasTest}
-use Rattle.lw_cells.specs.Reading.{ColumnRead, ColumnsRead, ColumnFits, ColumnsFit, ColumnRefused, ColumnsRefused}
+use Rattle.lw_cells.specs.Cells.{CellSyntax, MaybeStatement, CellSays, Column, statements, names_in, names_of}
+use Rattle.lw_cells.specs.Cells.{code_in, test_on, FrameHasTest}
+use Rattle.lw_cells.specs.Reading.{ColumnRead, ColumnsRead, ColumnFits, ColumnsFit, ColumnRefused}
+use Rattle.lw_cells.specs.Reading.{ColumnsRefused}
 use Rattle.lw_cells.proofs.OneReading.{column_unique}
 use Rattle.lw_cells.proofs.api.Zips.{zip_unique, zip_more, zip_length, zip_cut}
-use Rattle.lw_cells.proofs.ResolvedNames.{LocationsExist, AllSaid, all_along, all_there, map_resolved-along, thread_fits}
-use Rattle.lw_cells.proofs.Elements.{all_amid}
+use Rattle.lw_cells.proofs.ResolvedNames.{LocationsExist, AllSaid, all_along, all_there, map_resolved-along}
+use Rattle.lw_cells.proofs.ResolvedNames.{thread_fits}
+use Rattle.lw_cells.proofs.Elements.{all_amid, all_joined, take_further}
 use Rattle.lw_cells.proofs.FaultPlaces.{column_tells}
-
--- the columns before one, that one, and the columns behind it
-pub columns_cut : {A : Type 0} (columns : List (List (Cell A))) (i : ℕ) (column : List (Cell A)) → i < length columns → column ≡ get_or columns i column
-    → columns ≡ take i columns ++ column ∷ drop (suc i) columns
-columns_cut {A} columns i column within is =
-    sym (take-append-drop i columns) ∙ ap (λ (r : List (List (Cell A))). take i columns ++ r)
-    (drop-cons columns i column within ∙ ap (λ (c : List (Cell A)). c ∷ drop (suc i) columns) (sym is))
 
 pub columns_more : {A : Type 0} (columns : List (List (Cell A))) (i : ℕ) (column : List (Cell A)) → i < length columns
     → column ≡ get_or columns i column → all_texts (take (i + 1) columns) ≡ all_texts (take i columns) ++ cells_texts column ∷ []
-columns_more {A} columns i column within is =
-    let next : i + 1 ≡ suc i = omega arith in
-    ap (λ (n : ℕ). all_texts (take n columns)) next ∙ ap all_texts
-    (take-suc columns i column within ∙ ap (λ (c : List (Cell A)). take i columns ++ c ∷ []) (sym is)) ∙ map-append cells_texts (take i columns)
-    (column ∷ [])
+columns_more columns i column within is =
+    ap all_texts (take_further columns i column within is) ∙ map-append cells_texts (take i columns) (column ∷ [])
 
 module _ {Syntax Stmt : Type 0} (grammar : Grammar Syntax Stmt) (lawful : IsGrammar grammar) where
   names_of-append : (xs ys : List (List (CellSyntax Syntax))) → names_of grammar (xs ++ ys) ≡ names_of grammar xs ++ names_of grammar ys
@@ -121,26 +112,20 @@ module _ {Syntax Stmt : Type 0} (grammar : Grammar Syntax Stmt) (lawful : IsGram
   -- what cells say is said by tokens
   pub column_said : (cells : List (List (List ℕ))) (t : List (CellSyntax Syntax)) → AllZip (CellSays grammar) cells t → AllSaid grammar lawful (statements t)
   column_said [] [] says = tt
-  column_said [] (y ∷ t) says = absurd says
-  column_said (c ∷ cells) [] says = absurd says
-  column_said (c ∷ cells) (y ∷ t) says = go y.stmt refl (column_said cells t says.1)
-    where
-      go : (o : Option Syntax) → y.stmt ≡ o → AllSaid grammar lawful (statements t) → AllSaid grammar lawful (statements (y ∷ t))
-      go None e further = subst (λ (p : Option Syntax). AllSaid grammar lawful (cons_option p (statements t))) (sym e) further
-      go (Some s) e further =
-          let here : grammar.says says.0.0 s = subst (λ (p : Option Syntax). MaybeStatement grammar says.0.0 p) e says.0.2 in
-          subst (λ (p : Option Syntax). AllSaid grammar lawful (cons_option p (statements t))) (sym e) ((says.0.0, here), further)
+  column_said (c ∷ cells) (y ∷ t) says =
+      all_joined (λ (s : Syntax). (ts : List (List ℕ)) × grammar.says ts s) y.stmt (statements t)
+      (λ s is. (says.0.0, subst (MaybeStatement grammar says.0.0) is says.0.2)) (column_said cells t says.1)
+  column_said cells t says = absurd says
 
   all_fit : (names : List (List ℕ)) (columns : List (List (List (List ℕ)))) (ts : List (List (CellSyntax Syntax))) → AllZip (Column grammar) columns ts
       → AllIn names ts → AllByRecursion (IsThread grammar.language (length names)) (map (code_in grammar names) ts)
   all_fit names [] [] says all = tt
-  all_fit names [] (t ∷ ts) says all = absurd says
-  all_fit names (c ∷ columns) [] says all = absurd says
   all_fit names (c ∷ columns) (t ∷ ts) says all = (
     thread_fits grammar lawful names t
         (column_said c t says.0.says) all.0 says.0.few says.0.forward,
     all_fit names columns ts says.1 all.1,
   )
+  all_fit names columns ts says all = absurd says
 
   -- What was read of all columns.
   module _ (columns : List (List (List (List ℕ)))) (before after : List (List ℕ)) (threads : List (List Stmt))

@@ -1,11 +1,12 @@
 -- What is read of a statement's tokens, and the statement that is made of it.
-use Rattle.std.specs.Prelude.{◌≡◌, MatchOption, ◌<◌, ◌≤◌, ◌+◌, ◌&&◌, ◌||◌, ℕ, zero, suc, Bool, true, false, not, Option, Some, None, List, [], ◌∷◌}
+use Rattle.std.specs.Prelude.{◌≡◌, MatchOption, IfSome, ◌<◌, ◌≤◌, ◌+◌, ◌&&◌, ◌||◌, ℕ, zero, suc, Bool, true, false, not, Option, Some, None, List, [], ◌∷◌}
 use Rattle.std.specs.Prelude.{◌^◌, length, codes, slice_get, Contains}
 use Rattle.std.specs.List.{AllByRecursion, list_any, list_all}
 use Rattle.std.specs.Option.{option_map}
 use Rattle.std.specs.Str.{bytes_eq}
 use Rattle.lw_base.specs.WellFormed.{IsRegisterNumber, IsWordNumber}
 use Rattle.lw_base.specs.Limits.{most_locations}
+use Rattle.lw_base.specs.Names.{IsLocation}
 use Rattle.lw_base.specs.Types.{Bytes, NameTable, TokenList}
 use Rattle.lw_base.specs.declared.fault.CellFault.{CellFault}
 use Rattle.lw_base.specs.declared.operand.Operand.{Operand}
@@ -32,52 +33,19 @@ nothing = record {
 
 -- what a token gives, in front of what those behind it give
 abbrev pub with_register : ℕ → Found → Found
-with_register r o = record {
-  operands = record {
-    reg = Some r;
-    other = o.operands.reg;
-    val = o.operands.val;
-    num = o.operands.num;
-    loc = o.operands.loc;
-    to = o.operands.to;
-  };
-  name = o.name;
-  label = o.label;
-}
+with_register r o = record o { operands = record o.operands { reg = Some r; other = o.operands.reg } }
 
 abbrev pub with_value : Operand → Found → Found
-with_value v o = record {
-  operands = record {
-    reg = o.operands.reg;
-    other = o.operands.other;
-    val = Some v;
-    num = o.operands.num;
-    loc = o.operands.loc;
-    to = o.operands.to;
-  };
-  name = o.name;
-  label = o.label;
-}
+with_value v o = record o { operands = record o.operands { val = Some v } }
 
 abbrev pub with_number : ℕ → Found → Found
-with_number n o = record {
-  operands = record {
-    reg = o.operands.reg;
-    other = o.operands.other;
-    val = o.operands.val;
-    num = Some n;
-    loc = o.operands.loc;
-    to = o.operands.to;
-  };
-  name = o.name;
-  label = o.label;
-}
+with_number n o = record o { operands = record o.operands { num = Some n } }
 
 abbrev pub with_name_at : ℕ → Found → Found
-with_name_at k o = record { operands = o.operands; name = Some k; label = o.label }
+with_name_at k o = record o { name = Some k }
 
 abbrev pub with_label_at : ℕ → Found → Found
-with_label_at k o = record { operands = o.operands; name = o.name; label = Some k }
+with_label_at k o = record o { label = Some k }
 
 -- what the token of an index gives at a slot
 abbrev pub found_with : {W : Type 0} → ℕ → (slot : Slot W) → Given slot → Found → Found
@@ -95,22 +63,14 @@ found_of k (slot ∷ slots) (g, f) = found_with k slot g (found_of (k + 1) slots
 
 -- the registers that tokens give, and the numbers
 abbrev pub registers_with : {W : Type 0} (slot : Slot W) → Given slot → List ℕ → List ℕ
-registers_with (Word w) g rs = rs
 registers_with Register r rs = r ∷ rs
-registers_with Location x rs = rs
 registers_with Value (operand.Register r) rs = r ∷ rs
-registers_with Value (operand.Number n) rs = rs
-registers_with Number n rs = rs
-registers_with Label l rs = rs
+registers_with slot g rs = rs
 
 abbrev pub numbers_with : {W : Type 0} (slot : Slot W) → Given slot → List ℕ → List ℕ
-numbers_with (Word w) g ns = ns
-numbers_with Register r ns = ns
-numbers_with Location x ns = ns
-numbers_with Value (operand.Register r) ns = ns
 numbers_with Value (operand.Number n) ns = n ∷ ns
 numbers_with Number n ns = n ∷ ns
-numbers_with Label l ns = ns
+numbers_with slot g ns = ns
 
 abbrev pub registers_in : {W : Type 0} (slots : List (Slot W)) → Filling slots → List ℕ
 registers_in [] f = []
@@ -122,17 +82,10 @@ numbers_in (slot ∷ slots) (g, f) = numbers_with slot g (numbers_in slots f)
 
 -- the operands, on the location of a number, with a target
 abbrev pub leading_to : Option ℕ → Operands → Operands
-leading_to to o = record { reg = o.reg; other = o.other; val = o.val; num = o.num; loc = o.loc; to = to }
+leading_to to o = record o { to = to }
 
 abbrev pub operands_of : ℕ → Option ℕ → Found → Operands
-operands_of x to o = record {
-  reg = o.operands.reg;
-  other = o.operands.other;
-  val = o.operands.val;
-  num = o.operands.num;
-  loc = option_map (λ (k : ℕ). x) o.name;
-  to = to;
-}
+operands_of x to o = record o.operands { loc = option_map (λ (k : ℕ). x) o.name; to = to }
 
 -- a statement of operands that must be there
 abbrev pub of_one : {A C : Type 0} → (A → C) → Option A → Option C
@@ -149,21 +102,14 @@ of_three make (Some a) b d = of_two (make a) b d
 
 -- the draft of a form on a location, and on that of a number where it has a name
 abbrev pub draft_on : {Form : Type 0} → Form → Option ℕ → Found → Draft Form
-draft_on form loc o = record {
-  form = form;
-  operands = record {
-    reg = o.operands.reg;
-    other = o.operands.other;
-    val = o.operands.val;
-    num = o.operands.num;
-    loc = loc;
-    to = None;
-  };
-  label = o.label;
-}
+draft_on form loc o = record { form = form; operands = record o.operands { loc = loc; to = None }; label = o.label }
 
 abbrev pub drafted : {Form : Type 0} → Form → ℕ → Found → Draft Form
 drafted form x o = draft_on form (option_map (λ (k : ℕ). x) o.name) o
+
+-- The name that was found, if there is one, is that of a location, and stands among the tokens.
+abbrev pub IsNameAmong : Found → List Token → Type 0
+IsNameAmong o tokens = IfSome o.name (λ k. (k < length tokens) × ((t : Token) → slice_get tokens k ≡ Some t → IsLocation t.text.now))
 
 -- The draft of a form is made of what was found in some tokens, and takes one table to another.
 abbrev pub IsDrafted : {Form : Type 0} → Form → Found → List Token → NameTable → Draft Form → NameTable → Type 0

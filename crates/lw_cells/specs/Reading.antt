@@ -56,11 +56,9 @@ pub record TwiceIn (tokens : List Token) (before : List Bytes) (at : ℕ) : Type
 abbrev pub LabelCause : List Token → List Bytes → ℕ → CellCause → Type 0
 LabelCause tokens before at Form = Unit {0}
 LabelCause tokens before at Register = Unit {0}
-LabelCause tokens before at LabelMissing = ⊥
 LabelCause tokens before at LabelTwice = TwiceIn tokens before at
-LabelCause tokens before at Backward = ⊥
-LabelCause tokens before at TooMany = ⊥
 LabelCause tokens before at Memory = Unit {0}
+LabelCause tokens before at cause = ⊥
 
 abbrev pub LabelFault : List Token → List Bytes → CellFault → Type 0
 LabelFault tokens before f = LabelCause tokens before f.at f.cause
@@ -81,13 +79,9 @@ pub record LabelsRefused (tokens : List Token) (labels : LabelMap) (fault : Cell
 
 -- why the jump of this number to this label is refused
 abbrev pub JumpCause : LabelMap → ℕ → Bytes → CellCause → Type 0
-JumpCause labels number l Form = ⊥
-JumpCause labels number l Register = ⊥
 JumpCause labels number l LabelMissing = target_by labels l ≡ None
-JumpCause labels number l LabelTwice = ⊥
 JumpCause labels number l Backward = (to : ℕ) × (target_by labels l ≡ Some to) × (to ≤ number)
-JumpCause labels number l TooMany = ⊥
-JumpCause labels number l Memory = ⊥
+JumpCause labels number l cause = ⊥
 
 -- The label of this index, if there is one, leads to this statement, which stands behind that of this number.
 abbrev pub LedForward : LabelMap → ℕ → List Token → Option ℕ → Option ℕ → Type 0
@@ -147,11 +141,9 @@ module _ {Syntax Stmt : Type 0} (grammar : Grammar Syntax Stmt) where
   abbrev pub StatementCause : List Token → NameTable → ℕ → CellCause → Type 0
   StatementCause tokens names at Form = Unit {0}
   StatementCause tokens names at Register = Unit {0}
-  StatementCause tokens names at LabelMissing = ⊥
-  StatementCause tokens names at LabelTwice = ⊥
-  StatementCause tokens names at Backward = ⊥
   StatementCause tokens names at TooMany = NinthIn tokens names at
   StatementCause tokens names at Memory = Unit {0}
+  StatementCause tokens names at cause = ⊥
 
   abbrev pub StatementFault : List Token → NameTable → CellFault → Type 0
   StatementFault tokens names f = StatementCause tokens names f.at f.cause
@@ -184,12 +176,9 @@ module _ {Syntax Stmt : Type 0} (grammar : Grammar Syntax Stmt) where
   abbrev pub MaybeCause : ℕ → List Token → NameTable → ℕ → CellCause → Type 0
   MaybeCause above tokens names at Form = Unit {0}
   MaybeCause above tokens names at Register = Unit {0}
-  MaybeCause above tokens names at LabelMissing = ⊥
-  MaybeCause above tokens names at LabelTwice = ⊥
-  MaybeCause above tokens names at Backward = ⊥
-  MaybeCause above tokens names at TooMany =
-      ((above ≡ grammar.language.most) × BeginsAt tokens at) ⊎ NinthIn tokens names at
+  MaybeCause above tokens names at TooMany = ((above ≡ grammar.language.most) × BeginsAt tokens at) ⊎ NinthIn tokens names at
   MaybeCause above tokens names at Memory = Unit {0}
+  MaybeCause above tokens names at cause = ⊥
 
   abbrev pub MaybeFault : ℕ → List Token → NameTable → CellFault → Type 0
   MaybeFault above tokens names f = MaybeCause above tokens names f.at f.cause

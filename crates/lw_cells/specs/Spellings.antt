@@ -29,20 +29,12 @@ Filling (slot ∷ slots) = Given slot × Filling slots
 
 -- the name of the location among it, and the label
 abbrev pub name_at : {W : Type 0} (slot : Slot W) → Given slot → Option Bytes
-name_at (Word w) g = None
-name_at Register r = None
 name_at Location x = Some x
-name_at Value v = None
-name_at Number n = None
-name_at Label l = None
+name_at slot g = None
 
 abbrev pub label_at : {W : Type 0} (slot : Slot W) → Given slot → Option Bytes
-label_at (Word w) g = None
-label_at Register r = None
-label_at Location x = None
-label_at Value v = None
-label_at Number n = None
 label_at Label l = Some l
+label_at slot g = None
 
 abbrev pub name_in : {W : Type 0} (slots : List (Slot W)) → Filling slots → Option Bytes
 name_in [] f = None

@@ -4,7 +4,7 @@ use Rattle.lw_base.specs.Limits.{most_locations}
 use Rattle.lw_base.specs.Types.{Bytes, NameTable}
 use Rattle.lw_base.specs.declared.fault.CellFault.{CellFault}
 use Rattle.lw_base.specs.declared.fault.CellCause.{CellCause}
-use Rattle.lw_base.specs.declared.fault.CellCause.TheVariants.{Form, Register, LabelMissing, LabelTwice, Backward, TooMany, Memory}
+use Rattle.lw_base.specs.declared.fault.CellCause.TheVariants.{Form, Register, TooMany, Memory}
 use Rattle.lw_base.specs.Names.{IsLocation}
 use Rattle.lw_base.specs.Tables.{with_name, index_of}
 use Rattle.lw_text.specs.declared.token.Token.{Token}
@@ -14,11 +14,7 @@ use Rattle.lw_cells.specs.declared.phrase.Phrase.{Phrase}
 abbrev pub IsMisfit : CellCause → Type 0
 IsMisfit Form = Unit {0}
 IsMisfit Register = Unit {0}
-IsMisfit LabelMissing = ⊥
-IsMisfit LabelTwice = ⊥
-IsMisfit Backward = ⊥
-IsMisfit TooMany = ⊥
-IsMisfit Memory = ⊥
+IsMisfit cause = ⊥
 
 -- no token, and not the cell's end, lies past this place
 abbrev pub LiesWithin : ℕ → Phrase → Type 0
@@ -37,11 +33,9 @@ IsNinthName names t at =
 abbrev pub NameCause : NameTable → Token → ℕ → CellCause → Type 0
 NameCause names t at Form = Unit {0}
 NameCause names t at Register = Unit {0}
-NameCause names t at LabelMissing = ⊥
-NameCause names t at LabelTwice = ⊥
-NameCause names t at Backward = ⊥
 NameCause names t at TooMany = IsNinthName names t at
 NameCause names t at Memory = Unit {0}
+NameCause names t at cause = ⊥
 
 abbrev pub NameFault : NameTable → Token → CellFault → Type 0
 NameFault names t f = NameCause names t f.at f.cause

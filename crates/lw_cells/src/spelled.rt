@@ -1,6 +1,6 @@
 //! Reads a statement by the forms of its language.
 ghost use Rattle.std.specs.Prelude.{◌≡◌, ◌≢◌, ◌↔◌, ℕ, suc, ◌+◌, ◌<◌, ◌≤◌, ◌^◌, List, [], ◌∷◌, ◌++◌, length, take, true};
-ghost use Rattle.std.specs.Prelude.{MatchOption, MatchResult, IfSome, slice_get, IsTrue, Contains};
+ghost use Rattle.std.specs.Prelude.{MatchBool, MatchOption, MatchResult, IfSome, slice_get, IsTrue, Contains};
 ghost use Rattle.std.specs.Str.{bytes_eq};
 ghost use Rattle.lw_base.specs.Limits.{most_locations};
 ghost use Rattle.lw_base.specs.Names.{IsLocation};
@@ -16,7 +16,7 @@ ghost use Rattle.lw_cells.specs.Grammars.{CanBegin};
 ghost use Rattle.lw_cells.specs.Spellings.{grammar_of, Given, Gives, Filling, Fills};
 ghost use Rattle.lw_cells.specs.Found.{CanStand, BeginsWith};
 ghost use Rattle.lw_cells.specs.Found as drafts;
-ghost use Rattle.lw_cells.specs.Found.{found_with, found_of, draft_of, IsDrafted, IsNotDrafted, IsNinthSlot, reach_of, AreFront, IsSpelling};
+ghost use Rattle.lw_cells.specs.Found.{found_with, found_of, draft_of, IsNameAmong, IsDrafted, IsNotDrafted, IsNinthSlot, reach_of, AreFront, IsSpelling};
 ghost use Rattle.lw_cells.specs.Reading.{StatementRead, StatementFault, StatementRefused};
 
 use crate::draft::{Draft, Operands};
@@ -159,36 +159,66 @@ fn is_word<L: StatementReader>(word: L::Word, token: &Token<'_>) -> bool
 fn operand(arch: Arch, token: &Token<'_>) -> Option<Operand>
     ensures { MatchOption result ((v : Operand) → IsOperand arch token.now.text.now v → ⊥) (IsOperand arch token.now.text.now) }
 {
-    if let Some(reg) = reg_named(arch, token.text) {
-        return Some(Operand::Register(reg));
+    if let Some(word) = number(token.text) {
+        return Some(Operand::Number(word));
     }
-    match number(token.text) {
-        Some(word) => Some(Operand::Number(word)),
+    match reg_named(arch, token.text) {
+        Some(reg) => Some(Operand::Register(reg)),
         None => None,
     }
 }
 
-/// What the tokens give at these slots, the first of which has this index; `None` where they do not stand one at each.
+/// Adds what a token gives, which has this index, to what was found behind it; false where it cannot stand at the slot.
+fn add_token<L: StatementReader>(
+    found: &mut Found,
+    slot: Slot<L::Word>,
+    token: &Token<'_>,
+    index: usize,
+) -> bool
+    ensures { MatchBool result
+        ((g : Given slot) × Gives L.spelling token.now.text.now slot g × (found.new ≡ found_with index slot g found.old))
+        ((g : Given slot) → Gives L.spelling token.now.text.now slot g → ⊥) }
+{
+    match with_token::<L>(*found, slot, token, index) {
+        Some(all) => {
+            *found = all;
+            true
+        }
+        None => false,
+    }
+}
+
+/// Finds what the tokens give at these slots, the first of which has this index; false where they do not stand one at each.
+///
+/// A word is compared before all that stands behind it is read, since most forms differ from the tokens in one.
 fn read_slots<L: StatementReader>(
     slots: &[Slot<L::Word>],
     tokens: &[Token<'_>],
     index: usize,
-) -> Option<Found>
-    requires { index + length slots.now < 2 ^ 64 }
-    ensures { MatchOption result
-        ((f : Filling slots.now) → Fills L.spelling (texts tokens.now) slots.now f → ⊥)
-        (λ found. (f : Filling slots.now) × Fills L.spelling (texts tokens.now) slots.now f
-        × (found ≡ found_of index slots.now f)) }
+    found: &mut Found,
+) -> bool
+    requires few { index + length slots.now < 2 ^ 64 }
+    requires nothing { found.old ≡ drafts.nothing }
+    ensures { MatchBool result
+        ((f : Filling slots.now) × Fills L.spelling (texts tokens.now) slots.now f × (found.new ≡ found_of index slots.now f))
+        ((f : Filling slots.now) → Fills L.spelling (texts tokens.now) slots.now f → ⊥) }
 {
     let Some((slot, slots)) = slots.split_first() else {
-        if tokens.is_empty() {
-            return Some(nothing());
-        }
-        return None;
+        return tokens.is_empty();
     };
-    let (token, tokens) = tokens.split_first()?;
-    let found = read_slots::<L>(slots, tokens, index + 1)?;
-    with_token::<L>(found, *slot, token, index)
+    let Some((token, tokens)) = tokens.split_first() else {
+        return false;
+    };
+    if let Slot::Word(word) = *slot {
+        if !is_word::<L>(word, token) {
+            return false;
+        }
+        return read_slots::<L>(slots, tokens, index + 1, found);
+    }
+    if !read_slots::<L>(slots, tokens, index + 1, found) {
+        return false;
+    }
+    add_token::<L>(found, *slot, token, index)
 }
 
 /// What the tokens give at all slots of a form; most forms of a language have more slots than there are tokens, or fewer.
@@ -201,7 +231,11 @@ fn read_as<L: StatementReader>(slots: &[Slot<L::Word>], tokens: &[Token<'_>]) ->
     if slots.len() != tokens.len() {
         return None;
     }
-    read_slots::<L>(slots, tokens, 0)
+    let mut found = nothing();
+    if !read_slots::<L>(slots, tokens, 0, &mut found) {
+        return None;
+    }
+    Some(found)
 }
 
 /// A form whose slots some tokens fill, and what they give.
@@ -251,7 +285,7 @@ fn draft<F: Copy + Drop, A: Allocator + Copy>(
     tokens: &[Token<'_>],
     locs: &mut LocNames<A>,
 ) -> Result<Draft<F>, CellFault>
-    requires { IfSome found.name (λ k. k < length tokens.now) }
+    requires { IsNameAmong found tokens.now }
     ensures { MatchResult result (λ draft. IsDrafted form found tokens.now locs.old draft locs.new) (IsNotDrafted found tokens.now locs.old) }
 {
     let Some(index) = found.name else {

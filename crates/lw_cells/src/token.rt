@@ -4,9 +4,7 @@ ghost use Rattle.lw_base.specs.Names.{IsLocation};
 ghost use Rattle.lw_text.specs.Spans.{texts};
 ghost use Rattle.lw_cells.specs.Words.{IsMisfit, NameRead, NameRefused};
 
-use lw_base::{
-    Arch, CellCause, CellFault, Loc, LocNames, is_location, is_name, is_numbered, reg_named,
-};
+use lw_base::{Arch, CellCause, CellFault, Loc, LocNames, is_name, is_numbered, reg_named};
 use lw_text::Token;
 use std::alloc::Allocator;
 
@@ -15,11 +13,9 @@ pub(crate) fn location<A: Allocator + Copy>(
     token: &Token<'_>,
     locs: &mut LocNames<A>,
 ) -> Result<Loc, CellFault>
+    requires { IsLocation token.now.text.now }
     ensures { MatchResult result (λ loc. NameRead locs.old token.now loc locs.new) (NameRefused locs.old token.now) }
 {
-    if !is_location(token.text) {
-        return Err(misfit(token));
-    }
     let _known = locs.len();
     match locs.find_or_add(token.text)? {
         Some(loc) => Ok(loc),

@@ -6,7 +6,8 @@ use Rattle.lw_cells.specs.Spellings.{Filling}
 use Rattle.lw_cells.specs.Found.{IsMade, IsSpelling}
 use Rattle.lw_cells.proofs.api.Forms.{is_grammar}
 use Rattle.lw_source.specs.declared.language.SourceForm.{SourceForm}
-use Rattle.lw_source.specs.declared.language.SourceForm.TheVariants.{Store, Load, Swap, FetchAdd, Set, Sum, IfEqual, IfNotEqual, Goto}
+use Rattle.lw_source.specs.declared.language.SourceForm.TheVariants.{Store, Load, Swap, FetchAdd, Set, Sum}
+use Rattle.lw_source.specs.declared.language.SourceForm.TheVariants.{IfEqual, IfNotEqual, Goto}
 use Rattle.lw_source.specs.Spelling.{source_slots, source_spelling}
 use Rattle.lw_source.specs.Grammar.{source_grammar}
 use Rattle.lw_source.specs.inner.Operands.{made}

@@ -1,20 +1,21 @@
 -- The cells of a thread, one by one.
-use Rattle.std.proofs.Common.{◌≡◌, ℕ, zero, suc, ◌+◌, ◌-◌, ◌<◌, ◌≤◌, max, Bool, true, false, List, [], ◌∷◌, ◌++◌, length, map, take, drop, get_or, fold}
-use Rattle.std.proofs.Common.{append_assoc, refl, sym, ap, ◌∙◌, subst, arith, eqb, ltb, ltb-true, ltb-false}
-use Rattle.std.specs.Prelude.{Some, slice_get, slice_index_or, codes, All}
+use Rattle.std.proofs.Common.{◌≡◌, ℕ, zero, suc, ◌+◌, ◌-◌, ◌<◌, ◌≤◌, max, Bool, true, false, List, [], ◌∷◌}
+use Rattle.std.proofs.Common.{◌++◌, length, map, take, drop, get_or, fold, append_assoc, refl, sym, ap, ◌∙◌}
+use Rattle.std.proofs.Common.{subst, arith, eqb, ltb, ltb-true, ltb-false, Some, slice_get, slice_index_or}
+use Rattle.std.proofs.Common.{codes, All, flat_map, nat_cmp}
 use Rattle.std.proofs.lemmas.List.Elements.{All-head, All-tail}
-use Rattle.std.specs.List.{flat_map}
 use Rattle.std.proofs.lemmas.List.{get_or_past, take_more, map-append}
 use Rattle.std.proofs.lemmas.List.Sums.{fold-append}
 use Rattle.std.specs.Option.{ForSome}
-use Rattle.std.specs.Ordering.{ord_max, nat_cmp}
+use Rattle.std.specs.Ordering.{ord_max}
 use Rattle.lw_litmus.specs.WellFormed.{IsThread}
 use Rattle.lw_base.specs.Types.{Bytes, NameTable}
 use Rattle.lw_litmus.specs.declared.instr.Instr.{Instr}
 use Rattle.lw_litmus.specs.Operations.{location_of}
 use Rattle.lw_litmus.specs.Programs.{x86, x86_operation}
 use Rattle.lw_base.specs.Texts.{joined}
-use Rattle.lw_x86.specs.CanonicalTexts.{is_target, cell_text, end_cells, cells_from, cells_of, row_text, row_of, longest}
+use Rattle.lw_x86.specs.CanonicalTexts.{is_target, cell_text, end_cells, cells_from, cells_of, row_text}
+use Rattle.lw_x86.specs.CanonicalTexts.{row_of, longest}
 
 module _ (names : NameTable) (code : List Instr) where
   -- that of an instruction

@@ -1,7 +1,5 @@
 -- The texts of operands make up an instruction's.
-use Rattle.std.proofs.Common.{◌≡◌, ℕ, ◌++◌, refl, ap, append_assoc}
-use Rattle.std.specs.Prelude.{codes, slice_index_or, []}
-use Rattle.std.specs.Fmt.{decimal}
+use Rattle.std.proofs.Common.{◌≡◌, ℕ, ◌++◌, refl, ap, append_assoc, codes, slice_index_or, [], decimal}
 use Rattle.lw_base.specs.Types.{NameTable}
 use Rattle.lw_base.specs.declared.head.Arch.TheVariants.{X86}
 use Rattle.lw_base.specs.declared.operand.Operand.{Operand}

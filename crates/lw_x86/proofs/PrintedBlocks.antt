@@ -1,8 +1,8 @@
 -- The initial block as it is printed: its text spells tokens, which say its entries.
-use Rattle.std.proofs.Common.{◌≡◌, ℕ, zero, suc, ◌+◌, ◌*◌, ◌<◌, ◌≤◌, ◌^◌, Bool, true, false, not, List, [], ◌∷◌, ◌++◌, map, length, refl, sym, ap, ◌∙◌}
-use Rattle.std.proofs.Common.{subst, arith, append_assoc, length-append}
-use Rattle.std.specs.Prelude.{◌==◌, codes, filter, slice_index, slice_index_or}
-use Rattle.std.specs.List.{AllByRecursion, flat_map}
+use Rattle.std.proofs.Common.{◌≡◌, ℕ, zero, suc, ◌+◌, ◌*◌, ◌<◌, ◌≤◌, ◌^◌, Bool, true, false, not, List, []}
+use Rattle.std.proofs.Common.{◌∷◌, ◌++◌, map, length, refl, sym, ap, ◌∙◌, subst, arith, append_assoc}
+use Rattle.std.proofs.Common.{length-append, ◌==◌, codes, filter, slice_index, slice_index_or, flat_map}
+use Rattle.std.specs.List.{AllByRecursion}
 use Rattle.std.proofs.lemmas.Grind.{flat_map-append}
 use Rattle.lw_base.specs.Types.{Bytes, TokenList}
 use Rattle.lw_base.specs.declared.head.Arch.TheVariants.{X86}
@@ -13,10 +13,13 @@ use Rattle.lw_base.specs.WellFormed.{IsSeen, IsWellFormedHead, IsWordNumber}
 use Rattle.lw_text.specs.Sites.{IsSite, ThreadExists}
 use Rattle.lw_text.specs.Frames.{EntrySyntax, IsEntry, Entries, Block}
 use Rattle.lw_base.specs.SeenLists.{thread_registers, all_registers, locations}
-use Rattle.lw_base.proofs.api.Elements.{all_append, all_filter, all_map, all_weaker, all_of_range, all_of_flat}
+use Rattle.lw_base.proofs.api.Elements.{all_append, all_filter, all_map, all_weaker, all_of_range}
+use Rattle.lw_base.proofs.api.Elements.{all_of_flat}
 use Rattle.lw_base.proofs.api.ListedAgain.{filter_shorter, seen_length, most_seen}
-use Rattle.lw_text.proofs.api.Spelling.{Anything, Spells, Spells-then, Spells-on, Spells-within, Spells-nothing, Spells-space, Spells-newline, Spells-mark}
-use Rattle.lw_text.proofs.api.ConditionTokens.{named_site, site_tokens, value_tokens, IsPrintable, named_printable, site_said, value_said, site_exists}
+use Rattle.lw_text.proofs.api.Spelling.{Anything, Spells, Spells-then, Spells-on, Spells-within}
+use Rattle.lw_text.proofs.api.Spelling.{Spells-nothing, Spells-space, Spells-newline, Spells-mark}
+use Rattle.lw_text.proofs.api.ConditionTokens.{named_site, site_tokens, value_tokens, IsPrintable}
+use Rattle.lw_text.proofs.api.ConditionTokens.{named_printable, site_said, value_said, site_exists}
 use Rattle.lw_text.proofs.api.ConditionTokens.{ended_said}
 use Rattle.lw_text.proofs.api.PrintedConditions.{assignment_spelled}
 use Rattle.lw_x86.specs.CanonicalTexts.{initial_word, entry_text, register_entry, block_text}

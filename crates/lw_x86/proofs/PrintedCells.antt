@@ -1,13 +1,13 @@
 -- The cells of a thread as they are printed: their texts spell tokens, which say the thread's labels and instructions.
-use Rattle.std.proofs.Common.{◌≡◌, ℕ, suc, ◌+◌, ◌<◌, ◌^◌, Bool, true, false, Some, None, List, [], ◌∷◌, ◌++◌, length, refl, arith}
-use Rattle.std.specs.Prelude.{if◌then◌else◌, codes}
+use Rattle.std.proofs.Common.{◌≡◌, ℕ, suc, ◌+◌, ◌<◌, ◌^◌, Bool, true, false, Some, None, List, [], ◌∷◌, ◌++◌}
+use Rattle.std.proofs.Common.{length, refl, arith, if◌then◌else◌, codes}
 use Rattle.std.specs.List.{AllByRecursion, AllZip}
 use Rattle.lw_base.specs.Types.{Bytes, NameTable, TokenList, Cells}
 use Rattle.lw_base.specs.Names.{IsLocation}
 use Rattle.lw_text.specs.Rows.{begins_stop}
 use Rattle.lw_base.proofs.api.Elements.{all_append}
-use Rattle.lw_text.proofs.api.Spelling.{Anything, IsBlankNext, Spells, Spells-then, Spells-on, Spells-before, Spells-within, Spells-nothing, Spells-space}
-use Rattle.lw_text.proofs.api.Spelling.{blank_ends_word}
+use Rattle.lw_text.proofs.api.Spelling.{Anything, IsBlankNext, Spells, Spells-then, Spells-on, Spells-before}
+use Rattle.lw_text.proofs.api.Spelling.{Spells-within, Spells-nothing, Spells-space, blank_ends_word}
 use Rattle.lw_text.proofs.api.PrintedConditions.{Spells-colon, blank_no_equals}
 use Rattle.lw_cells.specs.Cells.{CellSyntax, Labels, CellSays}
 use Rattle.lw_litmus.specs.WellFormed.{IsStatement}
@@ -18,7 +18,8 @@ use Rattle.lw_litmus.specs.Programs.{x86}
 use Rattle.lw_x86.specs.CanonicalTexts.{label, printed_as, is_target, cell_text, cells_from}
 use Rattle.lw_x86.specs.Grammar.{x86_grammar}
 use Rattle.lw_x86.proofs.PrintedSlots.{EndsNoCell, name_no_end}
-use Rattle.lw_x86.proofs.PrintedInstructions.{instruction_tokens, HasTarget, label_is_location, Spells-label, printed, instruction_spelled, instruction_said}
+use Rattle.lw_x86.proofs.PrintedInstructions.{instruction_tokens, HasTarget, label_is_location, Spells-label}
+use Rattle.lw_x86.proofs.PrintedInstructions.{printed, instruction_spelled, instruction_said}
 use Rattle.lw_x86.proofs.PrintedInstructions.{instruction_no_end}
 
 -- ---- the tokens of cells, and what they say

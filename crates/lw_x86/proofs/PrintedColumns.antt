@@ -1,9 +1,9 @@
 -- A thread's cells as they are printed, and empty cells below them, say the thread's code again.
-use Rattle.std.proofs.Common.{◌≡◌, ℕ, zero, suc, ◌+◌, ◌<◌, ◌≤◌, ◌^◌, Option, Some, None, List, [], ◌∷◌, ◌++◌, map, length, replicate, refl, sym, ap, ◌∙◌, subst}
-use Rattle.std.proofs.Common.{arith, append-nil}
-use Rattle.std.specs.Prelude.{if◌then◌else◌, slice_get, slice_index_or, Contains}
-use Rattle.std.specs.List.{AllByRecursion, filter_map, cons_option}
-use Rattle.std.specs.Option.{ForSome, option_map}
+use Rattle.std.proofs.Common.{◌≡◌, ℕ, zero, suc, ◌+◌, ◌<◌, ◌≤◌, ◌^◌, Option, Some, None, List, [], ◌∷◌, ◌++◌}
+use Rattle.std.proofs.Common.{map, length, replicate, refl, sym, ap, ◌∙◌, subst, arith, append-nil}
+use Rattle.std.proofs.Common.{if◌then◌else◌, slice_get, slice_index_or, Contains, filter_map, option_map}
+use Rattle.std.specs.List.{AllByRecursion, cons_option}
+use Rattle.std.specs.Option.{ForSome}
 use Rattle.std.proofs.lemmas.Grind.{flat_map-append}
 use Rattle.std.proofs.lemmas.List.{length-map}
 use Rattle.std.proofs.lemmas.List.Elements.{filter_map-append}
@@ -13,8 +13,8 @@ use Rattle.lw_base.specs.Lists.{EachOnce}
 use Rattle.lw_base.specs.Names.{IsTable}
 use Rattle.lw_base.specs.Tables.{contains_name}
 use Rattle.lw_base.proofs.api.Tables.{IsInTable, index_of-again}
-use Rattle.lw_cells.specs.Cells.{CellSyntax, CellSays, statements, labels_of, target_in, number_in, led_to, resolved_statement, code_in, names_in, LeadsForward}
-use Rattle.lw_cells.specs.Cells.{Column}
+use Rattle.lw_cells.specs.Cells.{CellSyntax, CellSays, statements, labels_of, target_in, number_in, led_to}
+use Rattle.lw_cells.specs.Cells.{resolved_statement, code_in, names_in, LeadsForward, Column}
 use Rattle.lw_litmus.specs.WellFormed.{IsStatement, IsThread}
 use Rattle.lw_cells.proofs.api.Zips.{zip_append, zip_replicate}
 use Rattle.lw_litmus.specs.declared.instr.Instr.{Instr}

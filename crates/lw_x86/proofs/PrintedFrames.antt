@@ -1,9 +1,8 @@
 -- The text of a test as it is printed is the text of a frame: the test's head, and its threads' cells.
-use Rattle.std.proofs.Common.{◌≡◌, ℕ, zero, suc, ◌+◌, ◌*◌, ◌<◌, ◌≤◌, inl, true, List, [], ◌∷◌, ◌++◌, map, length, refl, sym, ap, ◌∙◌}
-use Rattle.std.proofs.Common.{subst, arith, append_assoc, length-append}
-use Rattle.std.specs.Prelude.{codes}
-use Rattle.std.specs.List.{AllByRecursion, flat_map, range_with_len}
-use Rattle.std.specs.Str.{IsUtf8, IsAscii}
+use Rattle.std.proofs.Common.{◌≡◌, ℕ, zero, suc, ◌+◌, ◌*◌, ◌<◌, ◌≤◌, inl, true, List, [], ◌∷◌, ◌++◌, map}
+use Rattle.std.proofs.Common.{length, refl, sym, ap, ◌∙◌, subst, arith, append_assoc, length-append, codes}
+use Rattle.std.proofs.Common.{flat_map, IsUtf8, IsAscii}
+use Rattle.std.specs.List.{AllByRecursion, range_with_len}
 use Rattle.std.specs.Char.{is_ascii_graphic}
 use Rattle.std.proofs.lemmas.Bool.Decides.{nat_tests}
 use Rattle.std.proofs.lemmas.List.{length-map}
@@ -23,11 +22,13 @@ use Rattle.lw_text.specs.Sites.{site_names}
 use Rattle.lw_text.specs.Rows.{columns}
 use Rattle.lw_text.specs.Propositions.{HasFewNodes, IsProposition}
 use Rattle.lw_text.specs.Conditions.{sites_in, resolved}
-use Rattle.lw_text.specs.Frames.{TestSyntax, TestFrame, Parts, HasFrame, table, word_of, listed_in, head_of_syntax, made_of}
+use Rattle.lw_text.specs.Frames.{TestSyntax, TestFrame, Parts, HasFrame, table, word_of, listed_in}
+use Rattle.lw_text.specs.Frames.{head_of_syntax, made_of}
 use Rattle.lw_base.specs.SeenLists.{thread_registers, locations}
 use Rattle.lw_base.proofs.api.Elements.{all_append}
 use Rattle.lw_text.proofs.api.PropositionNodes.{proposition_nodes, resolved_single, resolved_count}
-use Rattle.lw_text.proofs.api.Spelling.{Anything, Spells, Spells-on, Spells-within, Spells-whole, Spells-space, Spells-newline, Spells-name, name_by_test}
+use Rattle.lw_text.proofs.api.Spelling.{Anything, Spells, Spells-on, Spells-within, Spells-whole}
+use Rattle.lw_text.proofs.api.Spelling.{Spells-space, Spells-newline, Spells-name, name_by_test}
 use Rattle.lw_text.proofs.api.PrintedPropositions.{printed_proposition}
 use Rattle.lw_text.proofs.api.ConditionTokens.{IsPrintable, sites_printable, whole_fine, whole_again}
 use Rattle.lw_litmus.specs.WellFormed.{IsThread}
@@ -36,16 +37,19 @@ use Rattle.lw_litmus.specs.declared.instr.Instr.{Instr}
 use Rattle.lw_litmus.specs.Programs.{x86}
 use Rattle.lw_litmus.specs.WellFormedTests.{IsWellFormedProgram}
 use Rattle.lw_litmus.specs.Tests.{ProgramTest}
-use Rattle.lw_x86.specs.CanonicalTexts.{cells_of, longest, rows_text, header_text, block_text, listed_text, canonical_text}
+use Rattle.lw_x86.specs.CanonicalTexts.{cells_of, longest, rows_text, header_text, block_text, listed_text}
+use Rattle.lw_x86.specs.CanonicalTexts.{canonical_text}
 use Rattle.lw_x86.proofs.PrintedCells.{IsPrintedCell, cells_printed}
 use Rattle.lw_x86.proofs.PrintedColumns.{tokens_of, thread_printable, thread_small}
-use Rattle.lw_x86.proofs.PrintedRows.{row_at, row_tokens, rows_at, header_tokens, ArePrinted, row_bytes, header_spelled, header_said, rows_spelled, rows_plain}
-use Rattle.lw_x86.proofs.PrintedRows.{rows_said}
+use Rattle.lw_x86.proofs.PrintedRows.{row_at, row_tokens, rows_at, header_tokens, ArePrinted, row_bytes}
+use Rattle.lw_x86.proofs.PrintedRows.{header_spelled, header_said, rows_spelled, rows_plain, rows_said}
 use Rattle.lw_x86.proofs.PrintedGrids.{padded_to, columns_are, under_longest, longest_under, cells_few}
-use Rattle.lw_x86.proofs.PrintedBlocks.{entries_of, block_tokens, block_bytes, block_spelled, block_said, entries_exist}
+use Rattle.lw_x86.proofs.PrintedBlocks.{entries_of, block_tokens, block_bytes, block_spelled, block_said}
+use Rattle.lw_x86.proofs.PrintedBlocks.{entries_exist}
 use Rattle.lw_x86.proofs.PrintedHeads.{table_again, registers_again, words_again, list_again}
-use Rattle.lw_x86.proofs.PrintedLists.{named_sites, listed_tokens, terminals_in, condition_tokens, listed_bytes, listed_spelled, condition_bytes}
-use Rattle.lw_x86.proofs.PrintedLists.{condition_spelled, listed_printable, condition_said, rows_stop}
+use Rattle.lw_x86.proofs.PrintedLists.{named_sites, listed_tokens, terminals_in, condition_tokens}
+use Rattle.lw_x86.proofs.PrintedLists.{listed_bytes, listed_spelled, condition_bytes, condition_spelled}
+use Rattle.lw_x86.proofs.PrintedLists.{listed_printable, condition_said, rows_stop}
 
 -- ---- the threads' cells
 

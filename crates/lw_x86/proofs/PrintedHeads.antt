@@ -1,8 +1,9 @@
 -- The head of a test as it is printed: what its text says is the head again.
-use Rattle.std.proofs.Common.{◌≡◌, ℕ, zero, suc, ◌+◌, ◌<◌, ◌||◌, ◌⊎◌, inl, inr, Bool, true, false, List, [], ◌∷◌, ◌++◌, map, length, refl, sym, ap, ◌∙◌, arith}
-use Rattle.std.specs.Prelude.{◌==◌, if◌then◌else◌, filter, fold, slice_index_or}
+use Rattle.std.proofs.Common.{◌≡◌, ℕ, zero, suc, ◌+◌, ◌<◌, ◌||◌, ◌⊎◌, inl, inr, Bool, true, false, List, []}
+use Rattle.std.proofs.Common.{◌∷◌, ◌++◌, map, length, refl, sym, ap, ◌∙◌, arith, ◌==◌, if◌then◌else◌, filter}
+use Rattle.std.proofs.Common.{fold, slice_index_or, eqb-true}
 use Rattle.std.specs.List.{AllByRecursion, list_any, range_with_len}
-use Rattle.std.proofs.lemmas.Bool.{eqb-true, or_cases, or_right}
+use Rattle.std.proofs.lemmas.Bool.{or_cases, or_right}
 use Rattle.std.proofs.lemmas.List.{map-append}
 use Rattle.std.proofs.lemmas.List.FromFn.{fill_by_all}
 use Rattle.std.proofs.lemmas.List.Elements.{filter_map-append, filter_agree}
@@ -18,7 +19,8 @@ use Rattle.lw_text.specs.Sites.{SiteSyntax, site_name, site_names, seen_in}
 use Rattle.lw_text.specs.Frames.{EntrySyntax, word_of, listed_in}
 use Rattle.lw_base.specs.SeenLists.{same_seen, thread_registers, all_registers, locations}
 use Rattle.lw_base.proofs.api.Elements.{all_filter, all_of_range, all_of_flat}
-use Rattle.lw_base.proofs.api.ListedAgain.{same_seen_is, has_seen, has_register, has_location, has_left, has_right, listed_again}
+use Rattle.lw_base.proofs.api.ListedAgain.{same_seen_is, has_seen, has_register, has_location, has_left}
+use Rattle.lw_base.proofs.api.ListedAgain.{has_right, listed_again}
 use Rattle.lw_text.proofs.api.ConditionTokens.{named_site, IsPrintable, sites_in_table, seen_again}
 use Rattle.lw_x86.specs.CanonicalTexts.{initial_word}
 use Rattle.lw_x86.proofs.PrintedBlocks.{has_entry, entered, entry_of, entries_of, entered_seen}

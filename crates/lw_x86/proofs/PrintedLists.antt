@@ -1,11 +1,11 @@
 -- What is listed, and the condition, as they are printed: their texts spell tokens, which say them again.
-use Rattle.std.proofs.Common.{◌≡◌, ℕ, suc, ◌+◌, ◌*◌, inl, inr, true, false, List, [], ◌∷◌, ◌++◌, map, length, refl, sym, subst, arith, append_assoc, append-nil}
-use Rattle.std.specs.Prelude.{codes}
-use Rattle.std.specs.List.{AllByRecursion, flat_map}
+use Rattle.std.proofs.Common.{◌≡◌, ℕ, suc, ◌+◌, ◌*◌, inl, inr, true, false, List, [], ◌∷◌, ◌++◌, map, length}
+use Rattle.std.proofs.Common.{refl, sym, subst, arith, append_assoc, append-nil, codes, flat_map}
+use Rattle.std.specs.List.{AllByRecursion}
 use Rattle.lw_base.specs.Types.{NameTable, TokenList}
 use Rattle.lw_base.specs.declared.head.Arch.TheVariants.{X86}
 use Rattle.lw_base.specs.declared.head.Quant.{Quant}
-use Rattle.lw_base.specs.declared.head.Quant.TheVariants.{Exists, NotExists, Forall}
+use Rattle.lw_base.specs.declared.head.Quant.TheVariants.{Exists}
 use Rattle.lw_base.specs.declared.head.Seen.{Seen}
 use Rattle.lw_base.specs.ConditionTexts.{in_parentheses, proposition_text, quantifier_text, condition_text}
 use Rattle.lw_base.specs.Heads.{TestHead}
@@ -16,11 +16,14 @@ use Rattle.lw_text.specs.Conditions.{AtomSyntax, Listed, Sites, Condition, begin
 use Rattle.lw_text.specs.Propositions.{Terminal}
 use Rattle.lw_base.proofs.api.Elements.{all_weaker}
 use Rattle.lw_base.proofs.api.ListedAgain.{listed_few, most_seen}
-use Rattle.lw_text.proofs.api.Spelling.{Anything, Spells, Spells-nothing, Spells-then, Spells-on, Spells-within, Spells-space, Spells-newline, Spells-mark}
-use Rattle.lw_text.proofs.api.Spelling.{Spells-name, name_by_test}
+use Rattle.lw_text.proofs.api.Spelling.{Anything, Spells, Spells-nothing, Spells-then, Spells-on}
+use Rattle.lw_text.proofs.api.Spelling.{Spells-within, Spells-space, Spells-newline, Spells-mark, Spells-name}
+use Rattle.lw_text.proofs.api.Spelling.{name_by_test}
 use Rattle.lw_text.proofs.api.PrintedPropositions.{enclosed, terminals_of}
-use Rattle.lw_text.proofs.api.ConditionTokens.{named_site, site_tokens, terminal_tokens, quantifier_tokens, named_claim, IsPrintable, site_said, site_exists}
-use Rattle.lw_text.proofs.api.ConditionTokens.{terminals_said, named_printable, whole_fine, quantifier_said, ended_said}
+use Rattle.lw_text.proofs.api.ConditionTokens.{named_site, site_tokens, terminal_tokens, quantifier_tokens}
+use Rattle.lw_text.proofs.api.ConditionTokens.{named_claim, IsPrintable, site_said, site_exists}
+use Rattle.lw_text.proofs.api.ConditionTokens.{terminals_said, named_printable, whole_fine, quantifier_said}
+use Rattle.lw_text.proofs.api.ConditionTokens.{ended_said}
 use Rattle.lw_text.proofs.api.PrintedConditions.{site_spelled, whole_spelled, quantifier_spelled}
 use Rattle.lw_x86.specs.CanonicalTexts.{element_text, listed_text}
 
@@ -124,8 +127,7 @@ module _ (head : TestHead) (well : IsWellFormedHead head) where
 
   quantifier_other : (q : Quant) (rest : TokenList) → begins_word (codes "locations") (quantifier_tokens q ++ rest) ≡ false
   quantifier_other Exists rest = refl
-  quantifier_other NotExists rest = refl
-  quantifier_other Forall rest = refl
+  quantifier_other q rest = refl
 
   pub condition_said : Condition X86 head.threads (listed_tokens head.locs head.listed ++ condition_tokens head)
       (named_sites head.locs head.listed) head.quant (terminals_in head)
@@ -142,8 +144,7 @@ module _ (head : TestHead) (well : IsWellFormedHead head) where
   -- the rows end where the list or the condition begins
   quantifier_stops : (q : Quant) (rest : TokenList) → begins_stop (quantifier_tokens q ++ rest) ≡ true
   quantifier_stops Exists rest = refl
-  quantifier_stops NotExists rest = refl
-  quantifier_stops Forall rest = refl
+  quantifier_stops q rest = refl
 
   list_stops : (ss : List Seen) (rest : TokenList) → begins_stop rest ≡ true → begins_stop (listed_tokens head.locs ss ++ rest) ≡ true
   list_stops [] rest h = h

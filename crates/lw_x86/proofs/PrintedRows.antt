@@ -1,8 +1,8 @@
 -- Rows as they are printed: their texts spell tokens, which are cells between bars.
-use Rattle.std.proofs.Common.{◌≡◌, ℕ, zero, suc, ◌+◌, ◌*◌, ◌<◌, ◌≤◌, true, false, List, [], ◌∷◌, ◌++◌, map, length, refl, sym, ap, ◌∙◌, subst}
-use Rattle.std.proofs.Common.{arith, append_assoc}
-use Rattle.std.specs.Prelude.{codes, slice_index_or}
-use Rattle.std.specs.List.{AllByRecursion, AllZip, flat_map, range_with_len}
+use Rattle.std.proofs.Common.{◌≡◌, ℕ, zero, suc, ◌+◌, ◌*◌, ◌<◌, ◌≤◌, true, false, List, [], ◌∷◌, ◌++◌, map}
+use Rattle.std.proofs.Common.{length, refl, sym, ap, ◌∙◌, subst, arith, append_assoc, codes, slice_index_or}
+use Rattle.std.proofs.Common.{flat_map}
+use Rattle.std.specs.List.{AllByRecursion, AllZip, range_with_len}
 use Rattle.std.proofs.lemmas.Bool.{agree_below_at}
 use Rattle.std.proofs.lemmas.List.{length-map}
 use Rattle.std.proofs.lemmas.List.FromFn.{length-range_with_len}
@@ -12,8 +12,9 @@ use Rattle.lw_base.specs.Limits.{most_threads}
 use Rattle.lw_base.specs.Names.{IsName}
 use Rattle.lw_text.specs.Lists.{Until}
 use Rattle.lw_text.specs.Rows.{thread_name, Names, Header, RowCells, Row, begins_stop}
-use Rattle.lw_text.proofs.api.Spelling.{Anything, IsBlankNext, Spells, Spells-then, Spells-on, Spells-before, Spells-within, Spells-nothing, Spells-space}
-use Rattle.lw_text.proofs.api.Spelling.{Spells-newline, Spells-mark, Spells-name, is_name_text, name_by_test, blank_ends_word}
+use Rattle.lw_text.proofs.api.Spelling.{Anything, IsBlankNext, Spells, Spells-then, Spells-on, Spells-before}
+use Rattle.lw_text.proofs.api.Spelling.{Spells-within, Spells-nothing, Spells-space, Spells-newline}
+use Rattle.lw_text.proofs.api.Spelling.{Spells-mark, Spells-name, is_name_text, name_by_test, blank_ends_word}
 use Rattle.lw_x86.specs.CanonicalTexts.{row_text, row_of, header_text}
 use Rattle.lw_x86.proofs.PrintedSlots.{EndsNoCell, name_no_end}
 use Rattle.lw_x86.proofs.PrintedCells.{IsPrintedCell, empty_printed}
@@ -45,8 +46,6 @@ row_end = Spells-on Spells-space (Spells-on (Spells-mark 59 refl (λ c. refl) re
 behind_spelled : (cells : List Bytes) (ts : Cells) → AllZip IsPrintedCell cells ts
     → Spells Anything (153 * length cells + 3) (behind_text cells) (tokens_behind ts)
 behind_spelled [] [] h = Spells-within (153 * 0 + 3) (omega arith) row_end
-behind_spelled [] (t ∷ ts) h = absurd h
-behind_spelled (c ∷ cells) [] h = absurd h
 behind_spelled (c ∷ cells) (t ∷ ts) h =
     let rest = flat_map (λ next. codes " | " ++ next) cells in
     let e : ((codes " | " ++ c) ++ rest) ++ codes " ;\n" ≡ codes " | " ++ (c ++ (rest ++ codes " ;\n")) = append_assoc (codes " | " ++ c) rest
@@ -54,6 +53,7 @@ behind_spelled (c ∷ cells) (t ∷ ts) h =
     subst (λ (text : Bytes). Spells Anything (153 * suc (length cells) + 3) text (tokens_behind (t ∷ ts))) (sym e)
     (Spells-within (153 * suc (length cells) + 3) (omega arith)
     (Spells-on bar (Spells-then (λ more g. begins_behind cells more) h.0.spells (behind_spelled cells ts h.1))))
+behind_spelled cells ts h = absurd h
 
 pub row_spelled : (cells : List Bytes) (ts : Cells) → 1 ≤ length cells → AllZip IsPrintedCell cells ts
     → Spells Anything (153 * length cells + 1) (row_text cells) (row_tokens ts)
@@ -161,26 +161,23 @@ row_at threads k = map (λ cells. slice_index_or cells k []) threads
 
 cell_at : (cells : List Bytes) (ts : Cells) (k : ℕ) → AllZip IsPrintedCell cells ts → IsPrintedCell (slice_index_or cells k []) (slice_index_or ts k [])
 cell_at [] [] k h = empty_printed
-cell_at [] (t ∷ ts) k h = absurd h
-cell_at (c ∷ cells) [] k h = absurd h
 cell_at (c ∷ cells) (t ∷ ts) zero h = h.0
 cell_at (c ∷ cells) (t ∷ ts) (suc k) h = cell_at cells ts k h.1
+cell_at cells ts k h = absurd h
 
 abbrev pub ArePrinted : List (List Bytes) → List Cells → Type 0
 ArePrinted texts grid = AllZip (AllZip IsPrintedCell) texts grid
 
 row_printed : (texts : List (List Bytes)) (grid : List Cells) (k : ℕ) → ArePrinted texts grid → AllZip IsPrintedCell (row_of texts k) (row_at grid k)
 row_printed [] [] k h = tt
-row_printed [] (g ∷ grid) k h = absurd h
-row_printed (t ∷ texts) [] k h = absurd h
 row_printed (t ∷ texts) (g ∷ grid) k h = (cell_at t g k h.0, row_printed texts grid k h.1)
+row_printed texts grid k h = absurd h
 
 plain_cells : (texts : List Bytes) (cells : Cells) → AllZip IsPrintedCell texts cells
     → AllByRecursion EndsNoCell cells × AllByRecursion (λ t. begins_stop t ≡ false) cells
 plain_cells [] [] h = (tt, tt)
-plain_cells [] (c ∷ cells) h = absurd h
-plain_cells (t ∷ texts) [] h = absurd h
 plain_cells (t ∷ texts) (c ∷ cells) h = let more = plain_cells texts cells h.1 in ((h.0.plain, more.0), (h.0.starts, more.1))
+plain_cells texts cells h = absurd h
 
 -- a number of rows from the k-th on
 abbrev pub rows_at : List Cells → ℕ → ℕ → CellGrid

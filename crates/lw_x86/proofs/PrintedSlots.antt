@@ -1,29 +1,29 @@
 -- Slots as they are printed: their texts spell a token each, which gives again what stands there.
-use Rattle.std.proofs.Common.{◌≡◌, ℕ, ◌+◌, ◌<◌, ◌⊎◌, inl, inr, Bool, true, false, List, [], ◌∷◌, ◌++◌, length, refl, arith}
-use Rattle.std.specs.Prelude.{◌==◌, ◌&&◌, ◌||◌}
+use Rattle.std.proofs.Common.{◌≡◌, ℕ, ◌+◌, ◌<◌, ◌⊎◌, inl, inr, Bool, true, false, List, [], ◌∷◌, ◌++◌, length}
+use Rattle.std.proofs.Common.{refl, arith, ◌==◌, ◌&&◌, ◌||◌, decimal, eqb-true}
 use Rattle.std.specs.List.{AllByRecursion}
-use Rattle.std.specs.Fmt.{decimal}
-use Rattle.std.proofs.lemmas.Bool.{cases_Bool, and_parts, eqb-true}
+use Rattle.std.proofs.lemmas.Bool.{cases_Bool, and_parts}
 use Rattle.std.proofs.lemmas.Fmt.{decimal_nonempty}
 use Rattle.lw_base.specs.Types.{Bytes, TokenList}
 use Rattle.lw_base.specs.declared.head.Arch.TheVariants.{X86}
-use Rattle.lw_base.specs.declared.operand.Operand.TheVariants as operand
 use Rattle.lw_base.specs.Characters.{is_word_byte}
 use Rattle.lw_base.specs.Names.{IsName, IsLocation}
 use Rattle.lw_base.specs.Registers.{register_name}
 use Rattle.lw_base.specs.WellFormed.{IsRegisterNumber, IsWordNumber}
 use Rattle.lw_text.specs.Rows.{ends_cell}
 use Rattle.lw_text.specs.Tokens.{is_pair, is_single}
-use Rattle.lw_text.proofs.api.Spelling.{EndsWord, Spells, Spells-then, Spells-on, Spells-within, Spells-nothing, Spells-space, Spells-mark, Spells-name}
-use Rattle.lw_text.proofs.api.Spelling.{Spells-number, name_by_test, decimal_is_number, decimal_is_word}
+use Rattle.lw_text.proofs.api.Spelling.{EndsWord, Spells, Spells-then, Spells-on, Spells-within}
+use Rattle.lw_text.proofs.api.Spelling.{Spells-nothing, Spells-space, Spells-mark, Spells-name, Spells-number}
+use Rattle.lw_text.proofs.api.Spelling.{name_by_test, decimal_is_number, decimal_is_word}
 use Rattle.lw_text.proofs.api.PrintedConditions.{Spells-register, register_is_name}
 use Rattle.lw_cells.specs.declared.slot.Slot.{Slot}
 use Rattle.lw_cells.specs.declared.slot.Slot.TheVariants.{Word, Register, Location, Value, Number, Label}
 use Rattle.lw_cells.specs.Spellings.{Given, Filling, Gives, Fills}
 use Rattle.lw_x86.specs.declared.language.X86Word.{X86Word}
-use Rattle.lw_x86.specs.declared.language.X86Word.TheVariants.{Mov, Add, Cmp, Xchg, Xadd, Lock, Mfence, Je, Jne, Jmp, Open, Close, Comma, Dollar}
+use Rattle.lw_x86.specs.declared.language.X86Word.TheVariants.{Open, Close, Comma, Dollar}
 use Rattle.lw_x86.specs.Spelling.{x86_text, x86_spelling}
 use Rattle.lw_x86.specs.CanonicalTexts.{slot_text, is_sign, slots_text}
+use Rattle.lw_base.specs.declared.operand.Operand.TheVariants as operand
 
 -- ---- no token ends a cell
 
@@ -70,20 +70,11 @@ sign w b signed is single alone opens low ends plain =
     record { signed = signed; byte = b; is = is; single = single; alone = alone; opens = opens; low = low; ends = ends; plain = plain }
 
 kind_of : (w : X86Word) → IsMnemonic w ⊎ IsSign w
-kind_of Mov = inl (record { unsigned = refl; name = name_by_test _ refl })
-kind_of Add = inl (record { unsigned = refl; name = name_by_test _ refl })
-kind_of Cmp = inl (record { unsigned = refl; name = name_by_test _ refl })
-kind_of Xchg = inl (record { unsigned = refl; name = name_by_test _ refl })
-kind_of Xadd = inl (record { unsigned = refl; name = name_by_test _ refl })
-kind_of Lock = inl (record { unsigned = refl; name = name_by_test _ refl })
-kind_of Mfence = inl (record { unsigned = refl; name = name_by_test _ refl })
-kind_of Je = inl (record { unsigned = refl; name = name_by_test _ refl })
-kind_of Jne = inl (record { unsigned = refl; name = name_by_test _ refl })
-kind_of Jmp = inl (record { unsigned = refl; name = name_by_test _ refl })
 kind_of Open = inr (sign Open 91 refl refl refl (λ c. refl) refl (omega arith) refl refl)
 kind_of Close = inr (sign Close 93 refl refl refl (λ c. refl) refl (omega arith) refl refl)
 kind_of Comma = inr (sign Comma 44 refl refl refl (λ c. refl) refl (omega arith) refl refl)
 kind_of Dollar = inr (sign Dollar 36 refl refl refl (λ c. refl) refl (omega arith) refl refl)
+kind_of w = inl (record { unsigned = refl; name = name_by_test _ refl })
 
 -- ---- what can be printed at a slot
 
@@ -162,11 +153,7 @@ begins_sign w slots g f signed rest =
 sign_ends : (next : Slot X86Word) (slots : List (Slot X86Word)) (h : Given next) (f : Filling slots) → is_sign_slot next ≡ true → (rest : Bytes)
     → EndsWord (slots_text (next ∷ slots) (h, f) ++ rest)
 sign_ends (Word w) slots h f e rest = begins_sign w slots h f e rest
-sign_ends Register slots h f e rest = absurd cc
-sign_ends Location slots h f e rest = absurd cc
-sign_ends Value slots h f e rest = absurd cc
-sign_ends Number slots h f e rest = absurd cc
-sign_ends Label slots h f e rest = absurd cc
+sign_ends next slots h f e rest = absurd cc
 
 module _ (next : Slot X86Word) (slots : List (Slot X86Word)) (h : Given next) (f : Filling slots) (n : ℕ) (us : TokenList)
     (behind : Spells EndsWord n (slots_text (next ∷ slots) (h, f)) us) where
@@ -179,11 +166,7 @@ module _ (next : Slot X86Word) (slots : List (Slot X86Word)) (h : Given next) (f
             (Spells-then (λ rest g. refl) (name_spelled (x86_text w) m.name) (Spells-on Spells-space behind)))
         | inr s ↦ rw (s.signed, s.is) (Spells-within (2 + n) (omega arith) (Spells-on (Spells-mark s.byte s.single s.alone s.opens s.low) behind))
       ]
-  front_spelled Register g p e = Spells-then (λ rest k. sign_ends next slots h f e rest) (last_spelled Register g p) behind
-  front_spelled Location g p e = Spells-then (λ rest k. sign_ends next slots h f e rest) (last_spelled Location g p) behind
-  front_spelled Value g p e = Spells-then (λ rest k. sign_ends next slots h f e rest) (last_spelled Value g p) behind
-  front_spelled Number g p e = Spells-then (λ rest k. sign_ends next slots h f e rest) (last_spelled Number g p) behind
-  front_spelled Label g p e = Spells-then (λ rest k. sign_ends next slots h f e rest) (last_spelled Label g p) behind
+  front_spelled slot g p e = Spells-then (λ rest k. sign_ends next slots h f e rest) (last_spelled slot g p) behind
 
 -- ---- slots
 

@@ -6,9 +6,9 @@ use Rattle.lw_cells.specs.Spellings.{Filling}
 use Rattle.lw_cells.specs.Found.{IsMade, IsSpelling}
 use Rattle.lw_cells.proofs.api.Forms.{is_grammar}
 use Rattle.lw_x86.specs.declared.language.X86Form.{X86Form}
-use Rattle.lw_x86.specs.declared.language.X86Form.TheVariants.{Store, StoreNumber, Load, Set, SetNumber, Add, AddNumber, Compare, CompareNumber, Exchange}
-use Rattle.lw_x86.specs.declared.language.X86Form.TheVariants.{ExchangeLast, LockedExchange, LockedExchangeLast, ExchangeAdd, Fence, JumpEqual, JumpNotEqual}
-use Rattle.lw_x86.specs.declared.language.X86Form.TheVariants.{Jump}
+use Rattle.lw_x86.specs.declared.language.X86Form.TheVariants.{Store, Set, Add, AddNumber, Compare, Exchange}
+use Rattle.lw_x86.specs.declared.language.X86Form.TheVariants.{ExchangeLast, LockedExchange}
+use Rattle.lw_x86.specs.declared.language.X86Form.TheVariants.{LockedExchangeLast, ExchangeAdd}
 use Rattle.lw_x86.specs.Spelling.{x86_slots, x86_spelling}
 use Rattle.lw_x86.specs.Grammar.{x86_grammar}
 use Rattle.lw_x86.specs.inner.Operands.{made}
@@ -16,26 +16,19 @@ use Rattle.lw_x86.specs.inner.Operands.{made}
 making : (x to : ℕ) (form : X86Form) (f : Filling (x86_slots form)) → IsMade x86_spelling made x to form f
 making x to Store (_, (_, (y, (_, (_, (Register r, _)))))) = record { is = refl; located = refl; led = refl; given = λ p q. (p, q) }
 making x to Store (_, (_, (y, (_, (_, (Number n, _)))))) = record { is = refl; located = refl; led = refl; given = λ p q. (p, q) }
-making x to StoreNumber (_, (_, (y, (_, (_, (_, (n, _))))))) = record { is = refl; located = refl; led = refl; given = λ p q. (p, q) }
-making x to Load (_, (d, (_, (_, (y, (_, _)))))) = record { is = refl; located = refl; led = refl; given = λ p q. (p, q) }
 making x to Set (_, (d, (_, (Register r, _)))) = record { is = refl; located = refl; led = refl; given = λ p q. (p, q) }
 making x to Set (_, (d, (_, (Number n, _)))) = record { is = refl; located = refl; led = refl; given = λ p q. (p, q) }
-making x to SetNumber (_, (d, (_, (_, (n, _))))) = record { is = refl; located = refl; led = refl; given = λ p q. (p, q) }
 making x to Add (_, (d, (_, (Register r, _)))) = record { is = refl; located = refl; led = refl; given = λ p q. ((p.0, p), q) }
 making x to Add (_, (d, (_, (Number n, _)))) = record { is = refl; located = refl; led = refl; given = λ p q. ((p.0, p), q) }
 making x to AddNumber (_, (d, (_, (_, (n, _))))) = record { is = refl; located = refl; led = refl; given = λ p q. ((p.0, p), q) }
 making x to Compare (_, (d, (_, (Register r, _)))) = record { is = refl; located = refl; led = refl; given = λ p q. (p, q) }
 making x to Compare (_, (d, (_, (Number n, _)))) = record { is = refl; located = refl; led = refl; given = λ p q. (p, q) }
-making x to CompareNumber (_, (d, (_, (_, (n, _))))) = record { is = refl; located = refl; led = refl; given = λ p q. (p, q) }
 making x to Exchange (_, (_, (y, (_, (_, (d, _)))))) = record { is = refl; located = refl; led = refl; given = λ p q. ((p.0, p), q) }
 making x to ExchangeLast (_, (d, (_, (_, (y, (_, _)))))) = record { is = refl; located = refl; led = refl; given = λ p q. ((p.0, p), q) }
 making x to LockedExchange (_, (_, (_, (y, (_, (_, (d, _))))))) = record { is = refl; located = refl; led = refl; given = λ p q. ((p.0, p), q) }
 making x to LockedExchangeLast (_, (_, (d, (_, (_, (y, (_, _))))))) = record { is = refl; located = refl; led = refl; given = λ p q. ((p.0, p), q) }
 making x to ExchangeAdd (_, (_, (_, (y, (_, (_, (d, _))))))) = record { is = refl; located = refl; led = refl; given = λ p q. ((p.0, p), q) }
-making x to Fence (_, _) = record { is = refl; located = refl; led = refl; given = λ p q. (p, q) }
-making x to JumpEqual (_, (l, _)) = record { is = refl; located = refl; led = refl; given = λ p q. (p, q) }
-making x to JumpNotEqual (_, (l, _)) = record { is = refl; located = refl; led = refl; given = λ p q. (p, q) }
-making x to Jump (_, (l, _)) = record { is = refl; located = refl; led = refl; given = λ p q. (p, q) }
+making x to form f = record { is = refl; located = refl; led = refl; given = λ p q. (p, q) }
 
 pub x86_spelled : IsSpelling x86_spelling made
 x86_spelled = record { countable = omega arith; apart = refl; statements = refl; names = refl; making = making }

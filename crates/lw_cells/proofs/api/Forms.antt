@@ -1,6 +1,6 @@
 -- Tokens say one statement at most, and what is made of it is what the rule of cells rests on.
-use Rattle.std.proofs.Common.{◌≡◌, ℕ, zero, suc, ◌<◌, Bool, true, Option, Some, List, [], ◌∷◌, length, get_or, sym, ap, ◌∙◌, subst, arith, inl, inr}
-use Rattle.std.specs.Prelude.{◌&&◌, codes, Contains, slice_get}
+use Rattle.std.proofs.Common.{◌≡◌, ℕ, zero, suc, ◌<◌, Bool, true, Option, Some, List, [], ◌∷◌, length, get_or}
+use Rattle.std.proofs.Common.{sym, ap, ◌∙◌, subst, arith, inl, inr, ◌&&◌, codes, Contains, slice_get}
 use Rattle.std.specs.List.{AllByRecursion, list_all}
 use Rattle.std.specs.Option.{ForSome}
 use Rattle.std.proofs.lemmas.Bool.{and_parts, cases_lt}
@@ -9,15 +9,16 @@ use Rattle.std.proofs.lemmas.List.Elements.{All-from_recursion}
 use Rattle.lw_base.specs.Names.{IsLocation}
 use Rattle.lw_base.specs.WellFormed.{IsRegisterNumber, IsWordNumber}
 use Rattle.lw_base.specs.Types.{Bytes, TokenList}
-use Rattle.lw_base.specs.declared.operand.Operand.TheVariants as operand
 use Rattle.lw_litmus.specs.WellFormed.{registers_of, numbers_of}
 use Rattle.lw_cells.specs.declared.draft.Operands.{Operands}
 use Rattle.lw_cells.specs.declared.slot.Slot.{Slot}
-use Rattle.lw_cells.specs.declared.slot.Slot.TheVariants.{Word, Register, Location, Value, Number, Label}
+use Rattle.lw_cells.specs.declared.slot.Slot.TheVariants.{Register, Location, Value, Number}
 use Rattle.lw_cells.specs.Grammars.{IsGrammar}
 use Rattle.lw_cells.specs.Spellings.{Spelling, Filling, Gives, Fills, Said, grammar_of, name_in}
-use Rattle.lw_cells.specs.Found.{are_apart, all_apart, is_statement, is_label_last, registers_in, numbers_in, IsSpelling}
+use Rattle.lw_cells.specs.Found.{are_apart, all_apart, is_statement, is_label_last, registers_in, numbers_in}
+use Rattle.lw_cells.specs.Found.{IsSpelling}
 use Rattle.lw_cells.proofs.Slots.{filling_unique, slots_apart, colon_gives}
+use Rattle.lw_base.specs.declared.operand.Operand.TheVariants as operand
 
 -- an element of a list all of which pass a test
 pub passes : {X : Type 0} (test : X → Bool) (xs : List X) (k : ℕ) (x : X) → list_all test xs ≡ true → k < length xs → get_or xs k x ≡ x → test x ≡ true
@@ -87,40 +88,25 @@ module _ {W Form Stmt : Type 0} (spelling : Spelling W Form Stmt) where
   -- registers and numbers that tokens give
   registers_given : (ts : TokenList) (slots : List (Slot W)) (f : Filling slots) → Fills spelling ts slots f
       → AllByRecursion IsRegisterNumber (registers_in slots f)
-  registers_given [] [] f h = tt
+  registers_given ts [] f h = tt
   registers_given [] (slot ∷ slots) f h = absurd h
-  registers_given (t ∷ ts) [] f h = absurd h
-  registers_given (t ∷ ts) (Word w ∷ slots) (g, f) h = registers_given ts slots f h.1
   registers_given (t ∷ ts) (Register ∷ slots) (r, f) h = (h.0.0, registers_given ts slots f h.1)
-  registers_given (t ∷ ts) (Location ∷ slots) (x, f) h = registers_given ts slots f h.1
   registers_given (t ∷ ts) (Value ∷ slots) (operand.Register r, f) h = (h.0.0, registers_given ts slots f h.1)
-  registers_given (t ∷ ts) (Value ∷ slots) (operand.Number n, f) h = registers_given ts slots f h.1
-  registers_given (t ∷ ts) (Number ∷ slots) (n, f) h = registers_given ts slots f h.1
-  registers_given (t ∷ ts) (Label ∷ slots) (l, f) h = registers_given ts slots f h.1
+  registers_given (t ∷ ts) (slot ∷ slots) (g, f) h = registers_given ts slots f h.1
 
   numbers_given : (ts : TokenList) (slots : List (Slot W)) (f : Filling slots) → Fills spelling ts slots f → AllByRecursion IsWordNumber (numbers_in slots f)
-  numbers_given [] [] f h = tt
+  numbers_given ts [] f h = tt
   numbers_given [] (slot ∷ slots) f h = absurd h
-  numbers_given (t ∷ ts) [] f h = absurd h
-  numbers_given (t ∷ ts) (Word w ∷ slots) (g, f) h = numbers_given ts slots f h.1
-  numbers_given (t ∷ ts) (Register ∷ slots) (r, f) h = numbers_given ts slots f h.1
-  numbers_given (t ∷ ts) (Location ∷ slots) (x, f) h = numbers_given ts slots f h.1
-  numbers_given (t ∷ ts) (Value ∷ slots) (operand.Register r, f) h = numbers_given ts slots f h.1
   numbers_given (t ∷ ts) (Value ∷ slots) (operand.Number n, f) h = (h.0.0, numbers_given ts slots f h.1)
   numbers_given (t ∷ ts) (Number ∷ slots) (n, f) h = (h.0.0, numbers_given ts slots f h.1)
-  numbers_given (t ∷ ts) (Label ∷ slots) (l, f) h = numbers_given ts slots f h.1
+  numbers_given (t ∷ ts) (slot ∷ slots) (g, f) h = numbers_given ts slots f h.1
 
   -- the name of a location is allowed
   name_allowed : (ts : TokenList) (slots : List (Slot W)) (f : Filling slots) → Fills spelling ts slots f → ForSome (name_in slots f) IsLocation
-  name_allowed [] [] f h = λ n e. absurd (none-some n e)
+  name_allowed ts [] f h = λ n e. absurd (none-some n e)
   name_allowed [] (slot ∷ slots) f h = absurd h
-  name_allowed (t ∷ ts) [] f h = absurd h
-  name_allowed (t ∷ ts) (Word w ∷ slots) (g, f) h = name_allowed ts slots f h.1
-  name_allowed (t ∷ ts) (Register ∷ slots) (r, f) h = name_allowed ts slots f h.1
   name_allowed (t ∷ ts) (Location ∷ slots) (x, f) h = λ n e. subst IsLocation (same_Some x n e) h.0.1
-  name_allowed (t ∷ ts) (Value ∷ slots) (v, f) h = name_allowed ts slots f h.1
-  name_allowed (t ∷ ts) (Number ∷ slots) (n, f) h = name_allowed ts slots f h.1
-  name_allowed (t ∷ ts) (Label ∷ slots) (l, f) h = name_allowed ts slots f h.1
+  name_allowed (t ∷ ts) (slot ∷ slots) (g, f) h = name_allowed ts slots f h.1
 
   pub names_allowed : (ts : TokenList) (s : Said spelling) → (grammar_of spelling).says ts s → ForSome ((grammar_of spelling).name_of s) IsLocation
   names_allowed ts s says = name_allowed ts (spelling.slots_of s.form) s.filling says.1

@@ -1,8 +1,8 @@
 -- A frame has at most one test, which is well-formed. The languages' proofs use this.
-use Rattle.std.proofs.Common.{◌≡◌, Bool, true, false, Option, Some, None, List, [], ◌∷◌, length, refl, sym, ap, ◌∙◌, subst}
-use Rattle.std.specs.List.{AllZip, AllByRecursion, cons_option, filter_map}
+use Rattle.std.proofs.Common.{◌≡◌, Bool, true, false, List, [], ◌∷◌, length, refl, sym, ap, ◌∙◌, subst}
+use Rattle.std.proofs.Common.{filter_map, map}
+use Rattle.std.specs.List.{AllZip, AllByRecursion}
 use Rattle.std.specs.Option.{ForSome}
-use Rattle.std.specs.Prelude.{map}
 use Rattle.lw_base.specs.Names.{IsLocation, IsTable}
 use Rattle.lw_base.specs.Tables.{contains_name, with_name, with_names}
 use Rattle.lw_base.specs.Types.{Bytes, NameTable, TokenList, CellGrid}
@@ -13,8 +13,10 @@ use Rattle.lw_litmus.specs.WellFormed.{IsWellFormed}
 use Rattle.lw_litmus.specs.Tests.{Test}
 use Rattle.lw_text.specs.Frames.{TestFrame}
 use Rattle.lw_cells.specs.Grammars.{Grammar, IsGrammar}
-use Rattle.lw_cells.specs.Cells.{CellSyntax, Column, statements, names_in, names_of, code_in, test_on, FrameHasTest}
+use Rattle.lw_cells.specs.Cells.{CellSyntax, Column, statements, names_in, names_of, code_in, test_on}
+use Rattle.lw_cells.specs.Cells.{FrameHasTest}
 use Rattle.lw_cells.specs.Reading.{ColumnsRead}
+use Rattle.lw_cells.proofs.Elements.{all_joined}
 use Rattle.lw_cells.proofs.OneReading.{column_unique}
 use Rattle.lw_cells.proofs.api.Zips.{zip_unique}
 use Rattle.lw_cells.proofs.ResolvedNames.{AllSaid}
@@ -42,21 +44,16 @@ module _ {Syntax Stmt : Type 0} (grammar : Grammar Syntax Stmt) (lawful : IsGram
   module _ (named : (ts : TokenList) (s : Syntax) → grammar.says ts s → ForSome (grammar.name_of s) IsLocation) where
     names_said : (ss : List Syntax) → AllSaid grammar lawful ss → AllByRecursion IsLocation (filter_map grammar.name_of ss)
     names_said [] said = tt
-    names_said (s ∷ ss) said = go (grammar.name_of s) (named said.0.0 s said.0.1) (names_said ss said.1)
-      where
-        go : (o : Option Bytes) → ForSome o IsLocation → AllByRecursion IsLocation (filter_map grammar.name_of ss)
-            → AllByRecursion IsLocation (cons_option o (filter_map grammar.name_of ss))
-        go None here rest = rest
-        go (Some n) here rest = (here n refl, rest)
+    names_said (s ∷ ss) said =
+        all_joined IsLocation (grammar.name_of s) (filter_map grammar.name_of ss) (named said.0.0 s said.0.1) (names_said ss said.1)
 
     all_named : (columns : CellGrid) (ts : List (List (CellSyntax Syntax))) → AllZip (Column grammar) columns ts
         → AllByRecursion IsLocation (names_of grammar ts)
     all_named [] [] says = tt
-    all_named [] (t ∷ ts) says = absurd says
-    all_named (c ∷ columns) [] says = absurd says
     all_named (c ∷ columns) (t ∷ ts) says =
         all_append IsLocation (names_in grammar t) (names_of grammar ts)
         (names_said (statements t) (column_said grammar lawful c t says.0.says)) (all_named columns ts says.1)
+    all_named columns ts says = absurd says
 
     pub well_formed_test : (frame : TestFrame) (test : Test Stmt) → IsWellFormedHead frame.head → length frame.cells ≡ frame.head.threads
         → FrameHasTest grammar frame test → IsWellFormed grammar.language test

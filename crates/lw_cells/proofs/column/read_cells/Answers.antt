@@ -1,11 +1,11 @@
-use Rattle.std.proofs.Common.{take, drop, suc, subst}
-use Rattle.std.proofs.lemmas.List.{take_all}
+use Rattle.std.proofs.Common.{take, drop, suc, subst, take_all}
 use Rattle.std.proofs.lemmas.Result.{MatchResult-weaker}
 use Rattle.lw_cells.specs.Drafts.{ColumnDrafted}
 use Rattle.lw_cells.specs.Spellings.{grammar_of}
 use Rattle.lw_cells.specs.Found.{draft_of}
 use Rattle.lw_cells.proofs.Exits.{refused_as}
-use Rattle.lw_cells.proofs.Drafts.{cells_cut, cells_more, draft_none, few_drafted}
+use Rattle.lw_cells.proofs.Drafts.{draft_none, few_drafted}
+use Rattle.lw_cells.proofs.Elements.{cut_there, take_further}
 use Rattle.lw_cells.proofs.column.read_cells.Goals as goal
 
 pub loop-cell-init : goal.loop-cell-init
@@ -17,12 +17,12 @@ read_cell-requires-clause-few g c lifetimes lives = few_drafted (grammar_of g.L.
 
 pub loop-cell-preserved : goal.loop-cell-preserved
 loop-cell-preserved g c =
-    let more = cells_more c.args.cells.now c.loop-cell.cell-index c.cell-item.result c.loop-cell-test.true c.cell-item.is in
+    let more = take_further c.args.cells.now c.loop-cell.cell-index c.cell-item.result c.loop-cell-test.true c.cell-item.is in
     rw more (c.in_ok-read_cell.ensures (take c.loop-cell.cell-index c.args.cells.now) c.args.locs.now c.loop-cell.invariant)
 
 pub returns-in_err-read_cell : goal.returns-in_err-read_cell
 returns-in_err-read_cell g c =
-    let whole = cells_cut c.args.cells.now c.loop-cell.cell-index c.cell-item.result c.loop-cell-test.true c.cell-item.is in
+    let whole = cut_there c.args.cells.now c.loop-cell.cell-index c.cell-item.result c.loop-cell-test.true c.cell-item.is in
     refused_as _ _ _ c.from_residual.ensures.1 (rw whole (c.in_err-read_cell.ensures (take c.loop-cell.cell-index c.args.cells.now)
     (drop (suc c.loop-cell.cell-index) c.args.cells.now) c.args.locs.now c.loop-cell.invariant))
 

@@ -4,7 +4,8 @@ use Rattle.lw_cells.specs.Found.{draft_of}
 use Rattle.lw_cells.proofs.api.Forms.{is_grammar}
 use Rattle.lw_cells.proofs.Exits.{refused_as}
 use Rattle.lw_cells.proofs.ColumnsRead.{column_found}
-use Rattle.lw_cells.proofs.Resolved.{as_many_rows, syntax_at, row_drafted, resolved_none, resolved_further, row_refused, resolved_all}
+use Rattle.lw_cells.proofs.Resolved.{as_many_rows, syntax_at, row_drafted, resolved_none, resolved_further}
+use Rattle.lw_cells.proofs.Resolved.{row_refused, resolved_all}
 use Rattle.lw_cells.proofs.column.resolve.Goals as goal
 
 pub bounds-drafts-row : goal.bounds-drafts-row

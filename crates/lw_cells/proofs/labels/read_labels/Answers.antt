@@ -1,8 +1,8 @@
 use Rattle.std.proofs.Common.{sym, ◌∙◌, arith, true≢false}
 use Rattle.std.proofs.lemmas.Map.Text.{btree_map_updates_str}
 use Rattle.lw_cells.proofs.Exits.{out_of_memory, place_within}
-use Rattle.lw_cells.proofs.FrontLabels.{label_cause, labels_start, labels_more, labels_on, labels_twice, label_known, twice_in, next_within, two_within}
-use Rattle.lw_cells.proofs.FrontLabels.{no_memory_for_labels}
+use Rattle.lw_cells.proofs.FrontLabels.{label_cause, labels_start, labels_more, labels_on, labels_twice}
+use Rattle.lw_cells.proofs.FrontLabels.{label_known, twice_in, next_within, two_within, no_memory_for_labels}
 use Rattle.lw_base.proofs.api.Lists.{at_index}
 use Rattle.lw_cells.proofs.labels.read_labels.Goals as goal
 

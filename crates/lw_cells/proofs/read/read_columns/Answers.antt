@@ -1,10 +1,10 @@
-use Rattle.std.proofs.Common.{refl, [], subst}
-use Rattle.std.proofs.lemmas.List.{take_all}
+use Rattle.std.proofs.Common.{refl, [], subst, take_all}
 use Rattle.lw_text.specs.Places.{all_texts}
 use Rattle.lw_cells.specs.Reading.{ColumnsRead}
 use Rattle.lw_cells.proofs.CellsRefused.{columns_out_of_memory}
+use Rattle.lw_cells.proofs.Elements.{cut_there}
 use Rattle.lw_cells.proofs.Exits.{refused_as}
-use Rattle.lw_cells.proofs.Threads.{columns_cut, columns_more, threads_more, threads_refused}
+use Rattle.lw_cells.proofs.Threads.{columns_more, threads_more, threads_refused}
 use Rattle.lw_cells.specs.Spellings.{grammar_of}
 use Rattle.lw_cells.proofs.api.Forms.{is_grammar}
 use Rattle.lw_cells.proofs.read.read_columns.Goals as goal
@@ -14,7 +14,7 @@ loop-column-init g c = rw c.new-threads.ensures (record { syntaxes = []; says = 
 
 pub returns-in_err-stmts : goal.returns-in_err-stmts
 returns-in_err-stmts g c =
-    let whole = columns_cut c.args.columns.now c.loop-column.column-index c.column-item.result c.loop-column-test.true c.column-item.is in
+    let whole = cut_there c.args.columns.now c.loop-column.column-index c.column-item.result c.loop-column-test.true c.column-item.is in
     refused_as _ _ _ c.from_residual.ensures.1 (threads_refused (grammar_of g.L.StatementReader.spelling)
     (is_grammar g.L.StatementReader.spelling g.L.StatementReader.made c.requires.lawful) _ _ _ c.column-item.result _ _ _ whole c.loop-column.invariant
     c.in_err-stmts.field-0.0 (rw c.as_slice.ensures at c.in_err-stmts.ensures))

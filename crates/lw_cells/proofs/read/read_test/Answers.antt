@@ -1,7 +1,6 @@
+use Rattle.std.proofs.Common.{ℕ, ◌≡◌, ◌-◌, ◌++◌, ap, ◌∙◌, subst, length, arith, replicate}
 use Rattle.std.proofs.lemmas.List.{length-map}
 use Rattle.lw_text.specs.Places.{cells_texts, placed_cells}
-use Rattle.std.proofs.Common.{ℕ, ◌≡◌, ◌-◌, ◌++◌, ap, ◌∙◌, subst, length, arith}
-use Rattle.std.specs.Prelude.{replicate}
 use Rattle.std.proofs.lemmas.Result.{err_from_is_err_and, MatchResult-weaker}
 use Rattle.lw_base.specs.Heads.{TestHead, head_of}
 use Rattle.lw_cells.specs.Faults.{TellsBy}

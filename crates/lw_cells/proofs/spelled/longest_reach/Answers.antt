@@ -4,8 +4,8 @@ use Rattle.lw_cells.specs.Found.{reach_of}
 use Rattle.std.proofs.lemmas.List.{length-map}
 use Rattle.lw_text.specs.declared.token.Token.{Token}
 use Rattle.lw_cells.proofs.SlotTokens.{at_most, all_further, all_contained, reach_within}
-use Rattle.lw_cells.proofs.spelled.longest_reach.Goals as goal
 use Rattle.lw_cells.proofs.spelled.longest_reach.Goals.{then-longest-further, else-longest-further}
+use Rattle.lw_cells.proofs.spelled.longest_reach.Goals as goal
 
 pub returns-clause-front : goal.returns-clause-front
 returns-clause-front g c form there =

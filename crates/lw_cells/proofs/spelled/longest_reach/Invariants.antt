@@ -1,5 +1,4 @@
-use Rattle.std.proofs.Common.{◌≡◌, ℕ, ◌<◌, ◌≤◌, length}
-use Rattle.std.specs.Prelude.{Some, slice_get}
+use Rattle.std.proofs.Common.{◌≡◌, ℕ, ◌<◌, ◌≤◌, length, Some, slice_get}
 use Rattle.lw_text.specs.Spans.{texts}
 use Rattle.lw_cells.specs.Found.{reach_of}
 use Rattle.lw_cells.proofs.spelled.longest_reach.Given as goal

@@ -1,5 +1,4 @@
-use Rattle.std.proofs.Common.{◌≡◌, ℕ, ◌<◌}
-use Rattle.std.specs.Prelude.{Some, slice_get}
+use Rattle.std.proofs.Common.{◌≡◌, ℕ, ◌<◌, Some, slice_get}
 use Rattle.lw_text.specs.Spans.{texts}
 use Rattle.lw_cells.specs.Spellings.{Filling, Fills}
 use Rattle.lw_cells.proofs.spelled.read_form.Given as goal

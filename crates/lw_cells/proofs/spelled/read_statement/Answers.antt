@@ -1,12 +1,12 @@
 use Rattle.std.proofs.Common.{refl}
 use Rattle.std.proofs.lemmas.Result.{MatchResult-weaker}
-use Rattle.lw_cells.proofs.StatementsRead.{name_within, statement_read, refused_by_form, none_said}
+use Rattle.lw_cells.proofs.StatementsRead.{name_among, statement_read, refused_by_form, none_said}
 use Rattle.lw_cells.proofs.spelled.read_statement.Goals as goal
 
 pub draft-requires : goal.draft-requires
 draft-requires g c =
     let r = rw c.in-Some.is at c.read_form.ensures in
-    name_within g.L.StatementReader.spelling c.args.phrase.now.tokens.now _ r.0 r.1 r.2 _ r.3
+    name_among g.L.StatementReader.spelling c.args.phrase.now.tokens.now _ r.0 r.1 r.2 _ r.3
 
 pub returns-in-Some : goal.returns-in-Some
 returns-in-Some g c =

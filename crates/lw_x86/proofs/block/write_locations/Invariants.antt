@@ -1,6 +1,5 @@
-use Rattle.std.proofs.Common.{◌≡◌, ◌++◌, drop, length}
-use Rattle.std.specs.List.{flat_map, range_with_len}
-use Rattle.std.specs.String.{string_bytes}
+use Rattle.std.proofs.Common.{◌≡◌, ◌++◌, drop, length, flat_map, string_bytes}
+use Rattle.std.specs.List.{range_with_len}
 use Rattle.lw_base.specs.Heads.{head_of}
 use Rattle.lw_x86.proofs.BlockTexts.{location_entry}
 use Rattle.lw_x86.proofs.block.write_locations.Given as goal

@@ -1,5 +1,4 @@
-use Rattle.std.proofs.Common.{◌<◌, ◌≤◌, ◌∙◌, ◌++◌, length, ap, refl, sym, arith, length-take}
-use Rattle.std.specs.String.{string_bytes}
+use Rattle.std.proofs.Common.{◌<◌, ◌≤◌, ◌∙◌, ◌++◌, length, ap, refl, sym, arith, length-take, string_bytes}
 use Rattle.lw_base.specs.Heads.{head_of}
 use Rattle.lw_base.specs.Limits.{most_threads}
 use Rattle.lw_text.proofs.api.Indices.{is_index}

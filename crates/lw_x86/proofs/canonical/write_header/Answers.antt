@@ -1,5 +1,4 @@
-use Rattle.std.proofs.Common.{◌<◌, refl, arith, codes}
-use Rattle.std.specs.String.{string_bytes}
+use Rattle.std.proofs.Common.{◌<◌, refl, arith, codes, string_bytes}
 use Rattle.lw_x86.specs.CanonicalTexts.{header_text}
 use Rattle.lw_x86.proofs.HeaderTexts.{names_text, name_more, names_all}
 use Rattle.lw_base.proofs.api.Writing.{then_written, pushed}

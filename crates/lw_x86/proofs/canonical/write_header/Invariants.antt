@@ -1,5 +1,4 @@
-use Rattle.std.proofs.Common.{◌≡◌, ◌++◌}
-use Rattle.std.specs.String.{string_bytes}
+use Rattle.std.proofs.Common.{◌≡◌, ◌++◌, string_bytes}
 use Rattle.lw_x86.proofs.HeaderTexts.{names_from}
 use Rattle.lw_x86.proofs.canonical.write_header.Given as goal
 

@@ -1,7 +1,7 @@
-use Rattle.std.proofs.Common.{arith, codes}
-use Rattle.std.specs.String.{string_bytes}
+use Rattle.std.proofs.Common.{arith, codes, string_bytes}
 use Rattle.lw_x86.specs.CanonicalTexts.{listed_text}
-use Rattle.lw_x86.proofs.ListedTexts.{first_there, other_there, next_element, elements_text, elements_written, list_is}
+use Rattle.lw_x86.proofs.ListedTexts.{first_there, other_there, next_element, elements_text, elements_written}
+use Rattle.lw_x86.proofs.ListedTexts.{list_is}
 use Rattle.lw_base.proofs.api.Writing.{both_written, items_more, items_all, then_written, pushed}
 use Rattle.lw_x86.proofs.canonical.write_listed.Goals as goal
 

@@ -1,6 +1,7 @@
 use Rattle.std.proofs.Common.{ap}
 use Rattle.lw_base.proofs.api.Writing.{written_as}
-use Rattle.lw_x86.proofs.InstructionTexts.{store_text, set_text, add_text, compare_text, exchange_text, exchange_add_text}
+use Rattle.lw_x86.proofs.InstructionTexts.{store_text, set_text, add_text, compare_text, exchange_text}
+use Rattle.lw_x86.proofs.InstructionTexts.{exchange_add_text}
 use Rattle.lw_litmus.specs.Operations.{location_of}
 use Rattle.lw_litmus.specs.Programs.{x86_operation}
 use Rattle.lw_x86.proofs.instruction_text.write_instruction.Goals as goal

@@ -1,6 +1,4 @@
-use Rattle.std.proofs.Common.{◌≡◌, ◌++◌, map, drop, codes}
-use Rattle.std.specs.List.{flat_map}
-use Rattle.std.specs.String.{string_bytes}
+use Rattle.std.proofs.Common.{◌≡◌, ◌++◌, map, drop, codes, flat_map, string_bytes}
 use Rattle.lw_base.specs.Texts.{joined}
 use Rattle.lw_x86.specs.CanonicalTexts.{cells_of, row_of}
 use Rattle.lw_x86.proofs.CellLists.{next_cell}

@@ -1,5 +1,4 @@
-use Rattle.std.proofs.Common.{codes, map, ◌++◌, refl}
-use Rattle.std.specs.String.{string_bytes}
+use Rattle.std.proofs.Common.{codes, map, ◌++◌, refl, string_bytes}
 use Rattle.lw_base.specs.Texts.{joined}
 use Rattle.lw_base.proofs.api.Writing.{both_written, then_written, pushed}
 use Rattle.lw_x86.specs.CanonicalTexts.{cells_of, row_of, row_text}

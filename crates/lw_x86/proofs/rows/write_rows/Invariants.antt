@@ -1,6 +1,5 @@
-use Rattle.std.proofs.Common.{◌≡◌, ◌++◌, map, drop}
-use Rattle.std.specs.List.{flat_map, range_with_len}
-use Rattle.std.specs.String.{string_bytes}
+use Rattle.std.proofs.Common.{◌≡◌, ◌++◌, map, drop, flat_map, string_bytes}
+use Rattle.std.specs.List.{range_with_len}
 use Rattle.lw_x86.specs.CanonicalTexts.{cells_of, longest, rows_text}
 use Rattle.lw_x86.proofs.CellLists.{whole_row}
 use Rattle.lw_x86.proofs.rows.write_rows.Given as goal
