@@ -1,8 +1,8 @@
 -- Where each pair goes up, the items going up are the lowest order.
-use Rattle.std.proofs.Common.{ℕ, zero, suc, ◌≡◌, ◌+◌, ◌<◌, List, [], ◌∷◌, ◌++◌, ap, ◌∙◌, refl, arith, true, Some}
-use Rattle.std.specs.List.{find, filter_map, cons_option}
+use Rattle.std.proofs.Common.{ℕ, zero, suc, ◌≡◌, ◌+◌, ◌<◌, List, [], ◌∷◌, ◌++◌, ap, ◌∙◌, refl, arith, true}
+use Rattle.std.proofs.Common.{Some, find, filter_map, append-nil}
+use Rattle.std.specs.List.{cons_option}
 use Rattle.std.proofs.lemmas.Bool.{cond-true}
-use Rattle.std.proofs.lemmas.List.{append-nil}
 use Rattle.std.proofs.lemmas.List.Elements.{All-weaker}
 use Rattle.lw_orders.specs.Order.{Constraints, GoUp, open_pairs}
 use Rattle.lw_orders.specs.Sequence.{directions, numbers, without, is_free, in_turn, lowest_order, orders}

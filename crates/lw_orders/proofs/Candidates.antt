@@ -1,5 +1,6 @@
 -- What a search among the candidates leaves of them.
-use Rattle.std.proofs.Common.{ℕ, ◌≡◌, ◌<◌, ◌≤◌, List, get_or, ap, sym, ◌∙◌, refl, inl, inr, arith, true, false, not, ◌&&◌}
+use Rattle.std.proofs.Common.{ℕ, ◌≡◌, ◌<◌, ◌≤◌, List, get_or, ap, sym, ◌∙◌, refl, inl, inr, arith, true}
+use Rattle.std.proofs.Common.{false, not, ◌&&◌}
 use Rattle.std.proofs.lemmas.Bool.{cases_Bool, cases_order, and_parts, both_ways, false≢true}
 use Rattle.lw_orders.specs.inner.Sets.{has, leads_by}
 use Rattle.lw_orders.specs.inner.Candidates.{Waits, Narrowed}

@@ -1,9 +1,9 @@
 //! Rows: a set of items for each item.
 
-ghost use Rattle.std.specs.Prelude.{◌≡◌, ℕ, ◌<◌, ◌||◌, slice_index};
+ghost use Rattle.std.specs.Prelude.{◌≡◌, ℕ, ◌<◌, ◌≤◌, ◌||◌, List, [], ◌++◌, length, slice_index, slice_index_or};
 ghost use Rattle.lw_orders.specs.Limits.{most_items};
 ghost use Rattle.lw_orders.specs.Sequence.{Within};
-ghost use Rattle.lw_orders.specs.inner.Sets.{has, joins, AreRows};
+ghost use Rattle.lw_orders.specs.inner.Sets.{has, joins, AreRows, LeadInto, AreNeighbours};
 
 use crate::item_set::ItemSet;
 use crate::limits::MAX_ITEMS;
@@ -29,8 +29,32 @@ pub(crate) fn rows_of(pairs: &[(u8, u8)]) -> Rows
     rows
 }
 
+/// For each item the items to which a pair leads from it.
+pub(crate) fn steps_of(pairs: &[(u8, u8)]) -> Rows
+    requires { Within most_items pairs.now }
+    ensures { (i j : ℕ) → i < most_items → j < most_items → has (slice_index result i) j ≡ joins pairs.now i j }
+{
+    let mut rows = [ItemSet::empty(); MAX_ITEMS];
+    add_turned(&mut rows, pairs);
+    rows
+}
+
+/// For each item those to which one of the first pairs leads from it, and those with which it stands in one of the others.
+pub(crate) fn neighbours_of(fixed: &[(u8, u8)], undecided: &[(u8, u8)]) -> Rows
+    requires fixed { Within most_items fixed.now }
+    requires undecided { Within most_items undecided.now }
+    ensures fixed { LeadInto fixed.now result }
+    ensures undecided { AreNeighbours undecided.now result }
+{
+    let mut near = [ItemSet::empty(); MAX_ITEMS];
+    add_turned(&mut near, fixed);
+    add_turned(&mut near, undecided);
+    add_pairs(&mut near, undecided);
+    near
+}
+
 /// Puts the first item of each pair into the set of its second.
-pub(crate) fn add_pairs(rows: &mut Rows, pairs: &[(u8, u8)])
+fn add_pairs(rows: &mut Rows, pairs: &[(u8, u8)])
     requires { Within most_items pairs.now }
     ensures { (i j : ℕ) → i < most_items → j < most_items →
         has (slice_index rows.new i) j ≡ (has (slice_index rows.old i) j || joins pairs.now j i) }
@@ -39,4 +63,39 @@ pub(crate) fn add_pairs(rows: &mut Rows, pairs: &[(u8, u8)])
         let (first, second) = *pair;
         rows[second as usize] = row(rows, second as usize).with(first as usize);
     }
+}
+
+/// Puts the second item of each pair into the set of its first.
+fn add_turned(rows: &mut Rows, pairs: &[(u8, u8)])
+    requires { Within most_items pairs.now }
+    ensures { (i j : ℕ) → i < most_items → j < most_items →
+        has (slice_index rows.new i) j ≡ (has (slice_index rows.old i) j || joins pairs.now i j) }
+{
+    for pair in pairs {
+        let (first, second) = *pair;
+        rows[first as usize] = row(rows, first as usize).with(second as usize);
+    }
+}
+
+/// Writes the rows of the fixed and the chosen pairs behind those of the fixed ones.
+pub(crate) fn draw_next(len: usize, tables: &mut [Rows], chosen: &[(u8, u8)])
+    requires few { len ≤ most_items }
+    requires two { length tables.old ≡ 2 }
+    requires chosen_within { Within len chosen.now }
+    ensures kept { slice_index_or tables.new 0 [] ≡ slice_index_or tables.old 0 [] }
+    ensures drawn { (fixed : List (ℕ × ℕ)) → AreRows most_items fixed (slice_index_or tables.old 0 [])
+        → AreRows len (fixed ++ chosen.now) (slice_index_or tables.new 1 []) }
+{
+    let (before, room) = tables.split_at_mut(1);
+    draw(len, &before[0], &mut room[0], chosen);
+}
+
+/// Writes the rows of the fixed and the chosen pairs, by those of the fixed ones. What stands in `rows` doesn't matter.
+fn draw(len: usize, before: &Rows, rows: &mut Rows, chosen: &[(u8, u8)])
+    requires few { len ≤ most_items }
+    requires chosen_within { Within len chosen.now }
+    ensures { (fixed : List (ℕ × ℕ)) → AreRows most_items fixed before.now → AreRows len (fixed ++ chosen.now) rows.new }
+{
+    rows[..len].copy_from_slice(&before[..len]);
+    add_pairs(rows, chosen);
 }

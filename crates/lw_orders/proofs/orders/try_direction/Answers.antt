@@ -1,11 +1,12 @@
-use Rattle.std.proofs.Common.{◌≡◌, ℕ, List, ◌+◌, ◌<◌, ◌≤◌, Bool, true, false, ◌⊎◌, inl, inr, Option, length, get_or, set, take, ap, sym, ◌∙◌, subst, refl}
-use Rattle.std.proofs.Common.{arith}
-use Rattle.std.proofs.lemmas.List.{get_or-set_same, take-set, length-set, get_or_past}
+use Rattle.std.proofs.Common.{◌≡◌, ℕ, List, ◌+◌, ◌<◌, ◌≤◌, Bool, true, false, ◌⊎◌, inl, inr, Option, length}
+use Rattle.std.proofs.Common.{get_or, set, take, ap, sym, ◌∙◌, subst, refl, arith, get_or-set_same}
+use Rattle.std.proofs.Common.{length-set}
+use Rattle.std.proofs.lemmas.List.{take-set, get_or_past}
 use Rattle.lw_orders.specs.inner.Sets.{has}
 use Rattle.lw_orders.specs.inner.Remaining.{reach}
 use Rattle.lw_orders.specs.inner.Directions.{Chosen, TriedAs, Tried, pair_at}
-use Rattle.lw_orders.proofs.orders.try_direction.Goals as goal
 use Rattle.lw_orders.proofs.orders.try_direction.Goals.{then-level-undecided, else-level-undecided}
+use Rattle.lw_orders.proofs.orders.try_direction.Goals as goal
 
 tried_from : (len level : ℕ) (undecided : List (ℕ × ℕ)) (old new : Chosen) (found : Option ℕ) (q : ℕ × ℕ) (b : Bool)
     → q ≡ pair_at undecided old.ways level → reach old.saved level q.1 q.0 ≡ b → TriedAs b len q level old new found → Tried len undecided level old new found

@@ -1,10 +1,10 @@
-use Rattle.std.proofs.Common.{◌≡◌, ◌^◌, ◌||◌, not, slice_index, arith, ap, sym, ◌∙◌}
+use Rattle.std.proofs.Common.{◌≡◌, ◌<◌, ◌≤◌, ◌^◌, ◌||◌, not, slice_index, arith, ap, sym, ◌∙◌}
 use Rattle.lw_orders.specs.inner.Sets.{has, apart, leads_by}
 use Rattle.lw_orders.proofs.Bits.{has-bit}
 use Rattle.lw_orders.proofs.WalkRows.{joined_row, kept_row}
-use Rattle.lw_orders.proofs.reach.reach_more.Goals as goal
 use Rattle.lw_orders.proofs.reach.reach_more.Given.{Over}
 use Rattle.lw_orders.proofs.reach.reach_more.Goals.{After-is_apart, then-not-is_apart, else-not-is_apart}
+use Rattle.lw_orders.proofs.reach.reach_more.Goals as goal
 
 pub bounds-more-item : goal.bounds-more-item
 bounds-more-item g c = omega (arith, c.loop-item-test.true, c.requires.few)
@@ -34,3 +34,22 @@ loop-item-preserved g c =
 
 pub returns : goal.returns
 returns g c i j li lj = c.loop-item.invariant.grown i j (omega (arith, li, c.loop-item-test.false)) lj
+
+pub row-requires : goal.row-requires
+row-requires g c = let few : c.args.len ≤ 128 = c.requires.few in let at : c.args.from < 128 = omega (arith, few, c.requires.from) in at
+
+pub contains-requires : goal.contains-requires
+contains-requires g c = let few : c.args.len ≤ 128 = c.requires.few in let at : c.args.to < 128 = omega (arith, few, c.requires.to) in at
+
+pub row-behind-requires : goal.row-behind-requires
+row-behind-requires g c = let few : c.args.len ≤ 128 = c.requires.few in let at : c.args.to < 128 = omega (arith, few, c.requires.to) in at
+
+pub row-requires-then-not-is_apart : goal.row-requires-then-not-is_apart
+row-requires-then-not-is_apart g c =
+    let few : c.args.len ≤ 128 = c.requires.few in let at : c.loop-item.item < 128 = omega (arith, few, c.loop-item-test.true) in at
+
+pub offset_bounds-more-item : goal.offset_bounds-more-item
+offset_bounds-more-item g c = let few : c.args.len ≤ 128 = c.requires.few in omega (arith, few, c.loop-item-test.true)
+
+pub listed : goal.listed
+listed g c = let few : c.args.len ≤ 128 = c.requires.few in omega (arith, few, c.loop-item-test.true, c.loop-item.invariant.room)

@@ -1,7 +1,36 @@
-use Rattle.std.proofs.Common.{arith}
+use Rattle.std.proofs.Common.{ℕ, ◌≡◌, ◌<◌, ap, ◌∙◌, ◌||◌, eqb, arith}
+use Rattle.std.proofs.lemmas.Nat.Bits.{bit_at-zero}
+use Rattle.lw_orders.specs.inner.Sets.{has, leads_by}
+use Rattle.lw_orders.proofs.ReachedFrom.{reaching_start, reaching_more, reaching_end, goes_further}
+use Rattle.lw_orders.proofs.reach.reached_from.Goals.{After-lowest-next-in-loop-next}
 use Rattle.lw_orders.proofs.reach.reached_from.Goals as goal
 
-pub row-requires : goal.row-requires
-row-requires c =
-    let up = c.requires.up c.loop-pair.pair-index (0, 0) c.loop-pair-test.true in
-    omega (arith, up.1, c.requires.few)
+pub loop-next-init : goal.loop-next-init
+loop-next-init c =
+    reaching_start c.args.item c.args.len c.args.steps c.args.rows.now c.with-set.result c.empty.result c.lowest-next.result
+    (omega (arith, c.requires.below, c.requires.few)) c.with-set.ensures
+    (λ k lk. ap (λ n. has n k) c.empty.ensures ∙ ap (λ n. eqb n 1) (bit_at-zero k)) c.lowest-next.ensures.below c.lowest-next.ensures.found
+
+join : (c : After-lowest-next-in-loop-next) (k : ℕ) → k < 128
+    → has c.union-set.result k ≡ (has c.loop-next.set k || leads_by c.args.rows.now c.loop-next.next k)
+join c k lk = c.union-set.ensures k lk ∙ ap (λ r. has c.loop-next.set k || has r k) c.row.ensures
+
+pub loop-next-preserved : goal.loop-next-preserved
+loop-next-preserved c =
+    reaching_more c.args.item c.args.len c.args.steps c.args.rows.now c.loop-next.set c.loop-next.left c.loop-next.next c.requires.few
+    (omega (arith, c.requires.below, c.requires.few)) c.loop-next.invariant c.union-set.result c.without-left.result c.lowest-next-in-loop-next.result
+    c.loop-next-test.true (join (goal.at.loop-next-preserved c).After-lowest-next-in-loop-next) c.without-left.ensures.items
+    c.lowest-next-in-loop-next.ensures.below c.lowest-next-in-loop-next.ensures.found
+
+pub loop-next-smaller : goal.loop-next-smaller
+loop-next-smaller c =
+    let further = goes_further c.args.item c.args.len c.args.steps c.args.rows.now c.loop-next.set c.loop-next.left c.loop-next.next c.requires.few
+    (omega (arith, c.requires.below, c.requires.few)) c.loop-next.invariant c.union-set.result c.without-left.result c.lowest-next-in-loop-next.result
+    c.loop-next-test.true (join (goal.at.loop-next-smaller c).After-lowest-next-in-loop-next) c.without-left.ensures.items
+    c.lowest-next-in-loop-next.ensures.below c.lowest-next-in-loop-next.ensures.found in
+    omega (arith, further, c.loop-next-test.true)
+
+pub returns : goal.returns
+returns c =
+    reaching_end c.args.item c.args.len c.args.steps c.args.rows.now c.loop-next.set c.loop-next.left c.loop-next.next c.requires.few
+    (omega (arith, c.requires.below, c.requires.few)) c.loop-next.invariant c.loop-next-test.false
