@@ -27,6 +27,39 @@ fn outcome_of(alloc: Global, head: &Head, words: &str) -> Option<Outcome> {
     let words = Sequence::from_slice(alloc, memory.get(..head.locs.len())?).ok()?;
     Some(Outcome { regs, words })
 }
+/// Whether the listing has this outcome at this place, and finds it there.
+fn has_outcome(listing: &Listing, place: usize, outcome: &Outcome) -> bool {
+    place < listing.len()
+        && *listing.outcome(place) == *outcome
+        && listing.find(outcome) == Some(place)
+}
+
+/// Whether the listing has the outcome that these words spell at this place.
+fn is_found(
+    alloc: Global,
+    head: &Head,
+    listing: &Listing,
+    place: usize,
+    words: &str,
+) -> Option<bool> {
+    let outcome = outcome_of(alloc, head, words)?;
+    Some(has_outcome(listing, place, &outcome))
+}
+
+/// Whether the listing has this schedule at this place.
+fn has_schedule(
+    alloc: Global,
+    head: &Head,
+    listing: &Listing,
+    place: usize,
+    schedule: &str,
+) -> bool {
+    match read_schedule(alloc, schedule, &head.locs) {
+        Ok(events) => place < listing.len() && listing.schedule(place) == events.as_slice(),
+        Err(_) => false,
+    }
+}
+
 /// Whether the listing has the entry at this place: an outcome, which is found there, and behind ` by ` its schedule.
 fn is_entry(
     alloc: Global,
@@ -35,23 +68,12 @@ fn is_entry(
     place: usize,
     entry: &str,
 ) -> Option<bool> {
-    let (words, schedule) = match entry.split_once(" by ") {
-        Some((words, schedule)) => (words, Some(schedule)),
-        None => (entry, None),
-    };
-    let outcome = outcome_of(alloc, head, words)?;
-    if place >= listing.len() || *listing.outcome(place) != outcome {
-        return Some(false);
-    }
-    if listing.find(&outcome) != Some(place) {
-        return Some(false);
-    }
-    match schedule {
-        Some(schedule) => {
-            let events = read_schedule(alloc, schedule, &head.locs).ok()?;
-            Some(listing.schedule(place) == events.as_slice())
-        }
-        None => Some(true),
+    match entry.split_once(" by ") {
+        Some((words, schedule)) => Some(
+            is_found(alloc, head, listing, place, words)?
+                && has_schedule(alloc, head, listing, place, schedule),
+        ),
+        None => is_found(alloc, head, listing, place, entry),
     }
 }
 

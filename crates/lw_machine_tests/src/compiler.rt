@@ -62,6 +62,14 @@ fn stands_for(
     }
 }
 
+/// Whether the statements of the first thread start at these instructions.
+fn starts_at(compiled: &Compiled, starts: &[usize]) -> bool {
+    match compiled.starts.as_slice() {
+        [first, ..] => first.as_slice() == starts,
+        [] => false,
+    }
+}
+
 /// Whether the statements of a source's first thread start at these instructions when it is compiled, and its run by these threads
 /// stands for this schedule.
 fn is_compiled_so(
@@ -72,12 +80,9 @@ fn is_compiled_so(
     words: &str,
 ) -> bool {
     match compile(alloc, source) {
-        Ok(compiled) => match compiled.starts.as_slice() {
-            [first, ..] => {
-                first.as_slice() == starts && stands_for(alloc, source, &compiled, order, words)
-            }
-            [] => false,
-        },
+        Ok(compiled) => {
+            starts_at(&compiled, starts) && stands_for(alloc, source, &compiled, order, words)
+        }
         Err(_) => false,
     }
 }
@@ -133,8 +138,7 @@ struct Compilation;
 /// Whether there is memory for what a source test is compiled to.
 fn is_compiled_in<A: Allocator + Copy>(heap: A, source: &Source<A>) -> Option<Made> {
     match compile(heap, source) {
-        Ok(compiled) if compiled.starts.len() == 2 => Some(Made::Whole),
-        Ok(_) => None,
+        Ok(compiled) => (compiled.starts.len() == 2).then_some(Made::Whole),
         Err(AllocError) => Some(Made::Refused),
     }
 }

@@ -52,8 +52,7 @@ fn refused(fault: CellFault) -> Option<Made> {
 fn source_in<A: Allocator + Copy>(heap: A, frame: &Frame<A>) -> Option<Made> {
     match frame.head.arch {
         Arch::Source => match read_source(heap, frame) {
-            Ok(source) if source.threads.len() == 2 => Some(Made::Whole),
-            Ok(_) => None,
+            Ok(source) => (source.threads.len() == 2).then_some(Made::Whole),
             Err(fault) => refused(fault),
         },
         Arch::X86 => None,
@@ -77,8 +76,7 @@ fn program_in<A: Allocator + Copy>(heap: A, frame: &Frame<A>) -> Option<Made> {
     match frame.head.arch {
         Arch::Source => None,
         Arch::X86 => match read_program(heap, frame) {
-            Ok(program) if program.threads.len() == 2 => Some(Made::Whole),
-            Ok(_) => None,
+            Ok(program) => (program.threads.len() == 2).then_some(Made::Whole),
             Err(fault) => refused(fault),
         },
     }
