@@ -1,6 +1,5 @@
 -- Conditions as they are written: propositions, their parts, and what stands between these.
-use Rattle.std.proofs.Common.{◌≡◌, Bool, true, ◌++◌, append_assoc, sym, ap, ◌∙◌, subst}
-use Rattle.std.specs.Prelude.{Result, OnOk, codes}
+use Rattle.std.proofs.Common.{◌≡◌, Bool, true, ◌++◌, append_assoc, sym, ap, ◌∙◌, subst, Result, OnOk, codes}
 use Rattle.lw_base.specs.Types.{Bytes, NameTable}
 use Rattle.lw_base.specs.declared.head.Arch.{Arch}
 use Rattle.lw_base.specs.declared.proposition.Prop.{Prop}

@@ -1,7 +1,7 @@
 -- The word of an event says which event it is.
-use Rattle.std.proofs.Common.{◌≡◌, ℕ, zero, suc, ◌<◌, ◌+◌, List, [], ◌∷◌, length, refl, sym, ap, ◌∙◌, subst, arith}
+use Rattle.std.proofs.Common.{◌≡◌, ℕ, zero, suc, ◌<◌, ◌+◌, List, [], ◌∷◌, length, refl, sym, ap, ◌∙◌, subst}
+use Rattle.std.proofs.Common.{arith, map, slice_index_or, Contains}
 use Rattle.std.specs.List.{AllByRecursion}
-use Rattle.std.specs.Prelude.{map, slice_index_or, Contains}
 use Rattle.std.proofs.lemmas.List.Elements.{Contains-get_or}
 use Rattle.lw_base.specs.Types.{Bytes, NameTable}
 use Rattle.lw_base.specs.Lists.{EachOnce}
@@ -39,14 +39,13 @@ one_event names once (Evict c l) (Evict d m) h k same =
 one_list : (names : NameTable) → EachOnce names → (es fs : List Event) → AllByRecursion (IsEvent names) es → AllByRecursion (IsEvent names) fs
     → map (event_word names) es ≡ map (event_word names) fs → es ≡ fs
 one_list names once [] [] h k same = refl
-one_list names once [] (f ∷ fs) h k same = absurd cc
-one_list names once (e ∷ es) [] h k same = absurd cc
 one_list names once (e ∷ es) (f ∷ fs) h k same =
     let front : event_word names e ≡ event_word names f = cc in
     let rest : map (event_word names) es ≡ map (event_word names) fs = cc in
     let p = one_event names once e f h.0 k.0 front in
     let q = one_list names once es fs h.1 k.1 rest in
     cc
+one_list names once _ _ h k same = absurd cc
 
 pub one_schedule : (names : NameTable) → IsTable names → (text : Bytes) (events others : List Event) → IsSchedule names text events
     → IsSchedule names text others → events ≡ others

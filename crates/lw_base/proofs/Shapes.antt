@@ -1,12 +1,11 @@
 -- Words of an event's shape, and words that are refused.
-use Rattle.std.proofs.Common.{rules, ◌≡◌, ◌≢◌, ◌⊎◌, not, ℕ, zero, suc, ◌<◌, ◌+◌, ◌==◌, inl, inr, true, false, [], ◌∷◌, ◌++◌, length, refl, sym, ap}
-use Rattle.std.proofs.Common.{◌∙◌, subst, arith}
-use Rattle.std.proofs.lemmas.Bool.{true≢false, not-false, eqb-true, agree_below_at}
+use Rattle.std.proofs.Common.{rules, ◌≡◌, ◌≢◌, ◌⊎◌, not, ℕ, zero, suc, ◌<◌, ◌+◌, ◌==◌, inl, inr, true, false}
+use Rattle.std.proofs.Common.{[], ◌∷◌, ◌++◌, length, refl, sym, ap, ◌∙◌, subst, arith, true≢false, eqb-true}
+use Rattle.std.proofs.Common.{append-nil, slice_get, slice_index_or, Some, Contains}
+use Rattle.std.proofs.lemmas.Bool.{not-false, agree_below_at}
 use Rattle.std.proofs.lemmas.Bool.Decides.{nat_tests}
-use Rattle.std.proofs.lemmas.List.{append-nil}
 use Rattle.std.proofs.lemmas.List.Elements.{Contains-get_or}
 use Rattle.std.proofs.lemmas.Option.{slice_get_within, get_or_from_slice_get}
-use Rattle.std.specs.Prelude.{slice_get, slice_index_or, Some, Contains}
 use Rattle.std.specs.Char.{is_ascii_digit}
 use Rattle.std.specs.List.{AllByRecursion, list_all}
 use Rattle.lw_base.specs.Types.{Bytes, NameTable}
@@ -83,8 +82,7 @@ module _ (names : NameTable) (text digits name : Bytes) (cut : text ≡ digits +
   pub no_cpu : IsWordText name → (e : ScheduleCause) → HasBadDigits digits e → IsFaulty names (69 ∷ text) e
   no_cpu named Word bad = λ ds shape. true≢false (sym shape.0 ∙ ap are_digits (sym (eviction ds shape).0) ∙ bad)
   no_cpu named Cpu bad = (digits, (bad.0, inr (inr (name, named, ap (λ t. 69 ∷ t) cut))), bad.1)
-  no_cpu named Location bad = absurd bad
-  no_cpu named Memory bad = absurd bad
+  no_cpu named _ bad = absurd bad
 
   pub no_location : IsWordText name → IsCpu digits → (Contains names name → ⊥) → IsFaulty names (69 ∷ text) Location
   no_location named cpu missing = (digits, name, cpu, named, ap (λ t. 69 ∷ t) cut, missing)
@@ -204,8 +202,7 @@ bad_digits : (names : NameTable) (w rest : Bytes) → (w ≡ 80 ∷ rest) ⊎ (w
     → IsFaulty names w cause
 bad_digits names w rest is Word bad = not_shaped w rest is bad
 bad_digits names w rest is Cpu bad = (rest, (bad.0, parts_there w rest is), bad.1)
-bad_digits names w rest is Location bad = absurd bad
-bad_digits names w rest is Memory bad = absurd bad
+bad_digits names w rest is _ bad = absurd bad
 
 pub bad_step : (names : NameTable) (w rest : Bytes) (x : ℕ) (cause : ScheduleCause) → w ≡ x ∷ rest → x ≡ 80 → HasBadDigits rest cause
     → IsFaulty names w cause

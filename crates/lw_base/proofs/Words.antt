@@ -1,10 +1,10 @@
 -- The words of a text, the first of them and the rest.
-use Rattle.std.proofs.Common.{append_assoc, drop, ◌-◌, length-append, ◌≡◌, ◌<◌, ◌≤◌, ◌==◌, ℕ, zero, suc, true, false, not, List, [], ◌∷◌, ◌++◌, length}
-use Rattle.std.proofs.Common.{refl, sym, ap, ◌∙◌, arith}
-use Rattle.std.proofs.lemmas.Bool.{not-true, not-false, true≢false, eqb-true}
-use Rattle.std.proofs.lemmas.List.{append-nil, map-append}
+use Rattle.std.proofs.Common.{append_assoc, drop, ◌-◌, length-append, ◌≡◌, ◌<◌, ◌≤◌, ◌==◌, ℕ, zero, suc, true}
+use Rattle.std.proofs.Common.{false, not, List, [], ◌∷◌, ◌++◌, length, refl, sym, ap, ◌∙◌, arith, true≢false}
+use Rattle.std.proofs.Common.{eqb-true, append-nil, map}
+use Rattle.std.proofs.lemmas.Bool.{not-true, not-false}
+use Rattle.std.proofs.lemmas.List.{map-append}
 use Rattle.std.proofs.Math.Seq.{drop-append_seam}
-use Rattle.std.specs.Prelude.{map}
 use Rattle.std.specs.List.{AllByRecursion}
 use Rattle.lw_base.specs.Types.{Bytes, NameTable}
 use Rattle.lw_base.specs.Characters.{is_blank, begins}

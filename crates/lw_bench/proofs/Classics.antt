@@ -1,9 +1,9 @@
 -- The outcomes of the classic tests, by searches through their runs.
-use Rattle.std.proofs.Common.{◌≡◌, ℕ, zero, suc, ◌^◌, ◌<◌, ◌≤◌, ◌==◌, not, Bool, true, false, List, [], ◌∷◌, refl, sym, ap, ◌∙◌, subst, arith, slice_index}
-use Rattle.std.proofs.Common.{length, None, Some, slice_get}
+use Rattle.std.proofs.Common.{◌≡◌, ℕ, zero, suc, ◌^◌, ◌<◌, ◌≤◌, ◌==◌, not, Bool, true, false, List, [], ◌∷◌}
+use Rattle.std.proofs.Common.{refl, sym, ap, ◌∙◌, subst, arith, slice_index, length, None, Some, slice_get}
+use Rattle.std.proofs.Common.{codes, replicate, slice_index_or, Contains}
 use Rattle.std.specs.Char.{is_ascii_digit}
 use Rattle.std.specs.List.{AllByRecursion}
-use Rattle.std.specs.Prelude.{codes, replicate, slice_index_or, Contains}
 use Rattle.std.specs.Option.{ForSome}
 use Rattle.std.proofs.lemmas.Bool.{false≢true}
 use Rattle.std.proofs.lemmas.List.Elements.{All-nil, All-cons}
@@ -24,7 +24,6 @@ use Rattle.lw_litmus.specs.WellFormedTests.{IsWellFormedProgram}
 use Rattle.lw_litmus.specs.Tests.{ProgramTest}
 use Rattle.lw_litmus.specs.WellFormed.{IsStatement, IsThread}
 use Rattle.lw_litmus.specs.declared.instr.Instr.{Instr}
-use Rattle.lw_litmus.specs.declared.instr.Instr.TheVariants as instr
 use Rattle.lw_base.specs.declared.event.Event.{Event}
 use Rattle.lw_base.specs.declared.event.Event.TheVariants.{Step, Drain}
 use Rattle.lw_interleaving.specs.Runs.{start_of, SourceOutcome}
@@ -34,8 +33,10 @@ use Rattle.lw_tso.specs.Machines.{MachineState}
 use Rattle.lw_tso.specs.Processors.{Processor}
 use Rattle.lw_tso.specs.Runs.{MachineOutcome, MachineRan, machine_start, machine_outcome}
 use Rattle.lw_tso.proofs.api.Effects.{state}
-use Rattle.lw_bench.specs.Classics.{two_threads, both_loads_are_early, flag_without_message, store_buffering, store_buffering_in_x86, message_passing_in_x86}
+use Rattle.lw_bench.specs.Classics.{two_threads, both_loads_are_early, flag_without_message, store_buffering}
+use Rattle.lw_bench.specs.Classics.{store_buffering_in_x86, message_passing_in_x86}
 use Rattle.lw_bench.proofs.Searches.{ends_so, searched, machine_ends_so, machine_searched}
+use Rattle.lw_litmus.specs.declared.instr.Instr.TheVariants as instr
 
 is_false : (b : Bool) → not b ≡ true → b ≡ false
 is_false true e = absurd (false≢true e)

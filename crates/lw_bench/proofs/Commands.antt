@@ -1,11 +1,10 @@
 -- The words of a command, one after another.
-use Rattle.std.proofs.Common.{◌≡◌, ◌≤◌, ◌<◌, ◌-◌, ◌==◌, ℕ, Bool, true, false, not, nat_eq, Option, Some, None, List, [], ◌∷◌, length, map, take, drop, inl, inr}
-use Rattle.std.proofs.Common.{refl}
-use Rattle.std.proofs.Common.{sym, ap, ◌∙◌, subst, codes, arith, Bor, MatchOption}
-use Rattle.std.specs.Prelude.{slice_index_or}
+use Rattle.std.proofs.Common.{◌≡◌, ◌≤◌, ◌<◌, ◌-◌, ◌==◌, ℕ, Bool, true, false, not, nat_eq, Option, Some, None}
+use Rattle.std.proofs.Common.{List, [], ◌∷◌, length, map, take, drop, inl, inr, refl, sym, ap, ◌∙◌, subst}
+use Rattle.std.proofs.Common.{codes, arith, Bor, MatchOption, slice_index_or, take_all}
 use Rattle.std.specs.Cmp.{unsigned_Decides}
 use Rattle.std.specs.Cmp.Lexicographic.{pointwise, pointwise_decides}
-use Rattle.std.proofs.lemmas.List.{length-map, take_all}
+use Rattle.std.proofs.lemmas.List.{length-map}
 use Rattle.lw_base.specs.Refusals.{NoSuch}
 use Rattle.lw_mesi.specs.declared.protocol.Protocol.{Protocol}
 use Rattle.lw_bench.specs.declared.command.Task.{Task}
@@ -24,10 +23,9 @@ word_is name word differs is same = (pointwise_decides unsigned_Decides name wor
 -- two words
 two : (words : List (Bor (List ℕ))) (d : Bor (List ℕ)) → 2 ≤ length words → length words < 3
     → map (λ (w : Bor (List ℕ)). w.now) words ≡ (slice_index_or words 0 d).now ∷ (slice_index_or words 1 d).now ∷ []
-two [] d many few = absurd (omega (arith, many))
-two (x ∷ []) d many few = absurd (omega (arith, many))
 two (x ∷ y ∷ []) d many few = refl
 two (x ∷ y ∷ z ∷ rest) d many few = absurd (omega (arith, few))
+two _ d many few = absurd (omega (arith, many))
 
 same_first : (a b c e : List ℕ) → (let l : List (List ℕ) = a ∷ b ∷ [] in l) ≡ c ∷ e ∷ [] → a ≡ c
 same_first a b c e same = cc
@@ -100,12 +98,11 @@ first_byte a b u v l k same = cc
 pub no_replay : (words : List (Bor (List ℕ))) (d : Bor (List ℕ)) → 1 ≤ length words
     → NoSuch (IsProtocolOption (map (λ (w : Bor (List ℕ)). w.now) (take (length words - 1) (drop 1 words))))
     → (task : Task) → IsCommand (codes "replay" ∷ map (λ (w : Bor (List ℕ)). w.now) words) task → ⊥
-no_replay words d many none States said = absurd (omega (arith, first_byte 114 115 _ _ _ _ said))
-no_replay words d many none Schedules said = absurd (omega (arith, first_byte 114 115 _ _ _ _ said))
 no_replay words d many none Compile said = let other : codes "replay" ∷ map (λ (w : Bor (List ℕ)). w.now) words ≡ codes "compile" ∷ [] = said in cc
 no_replay words d many none (Replay schedule protocol) said =
     let behind = same_rest _ _ _ _ _ _ (sym (ap (λ (l : List (List ℕ)). codes "replay" ∷ l) (one_first words d many)) ∙ said.1) in
     none protocol (subst (λ (l : List (List ℕ)). IsProtocolOption l protocol) (sym behind) said.2)
+no_replay words d many none _ said = absurd (omega (arith, first_byte 114 115 _ _ _ _ said))
 
 -- ---- a word alone
 
@@ -132,10 +129,9 @@ only_states l Schedules said = let other : codes "states" ∷ l ≡ codes "sched
 only_states l (Replay schedule protocol) said = absurd (omega (arith, first_byte 115 114 _ _ _ _ said.1))
 
 only_compile : (l : List (List ℕ)) (t : Task) → IsCommand (codes "compile" ∷ l) t → l ≡ []
-only_compile l States said = absurd (omega (arith, first_byte 99 115 _ _ _ _ said))
 only_compile l Compile said = let is : codes "compile" ∷ l ≡ codes "compile" ∷ [] = said in cc
-only_compile l Schedules said = absurd (omega (arith, first_byte 99 115 _ _ _ _ said))
 only_compile l (Replay schedule protocol) said = absurd (omega (arith, first_byte 99 114 _ _ _ _ said.1))
+only_compile l _ said = absurd (omega (arith, first_byte 99 115 _ _ _ _ said))
 
 only_schedules : (l : List (List ℕ)) (t : Task) → IsCommand (codes "schedules" ∷ l) t → l ≡ []
 only_schedules l States said = let other : codes "schedules" ∷ l ≡ codes "states" ∷ [] = said in cc

@@ -1,5 +1,6 @@
 -- Which faults are a device's, and which are not.
-use Rattle.std.proofs.Common.{Bool, true, false, ◌↔◌, ◌≡◌, ◌≢◌, sym, ap, ◌∙◌, Result, Ok, Err, if◌then◌else◌, refl}
+use Rattle.std.proofs.Common.{Bool, true, false, ◌↔◌, ◌≡◌, ◌≢◌, sym, ap, ◌∙◌, Result, Ok, Err, if◌then◌else◌}
+use Rattle.std.proofs.Common.{refl}
 use Rattle.lw_bench.specs.declared.fault.BenchFault.{BenchFault}
 use Rattle.lw_bench.specs.declared.fault.BenchFault.TheVariants.{Memory, Read, Write}
 

@@ -1,7 +1,8 @@
 -- Bytes that came in and went out, one piece more.
-use Rattle.std.proofs.Common.{arith, inl, inr, refl, ◌≡◌, ◌≢◌, ℕ, zero, suc, ◌-◌, ◌<◌, ◌≤◌, Option, Some, None, List, [], ◌∷◌, ◌++◌, length, length-append}
-use Rattle.std.proofs.Common.{take, drop, sym, ap, ◌∙◌, subst, append_assoc}
-use Rattle.std.proofs.lemmas.List.{length-take-le, take-append-drop, take-append-le}
+use Rattle.std.proofs.Common.{arith, inl, inr, refl, ◌≡◌, ◌≢◌, ℕ, zero, suc, ◌-◌, ◌<◌, ◌≤◌, Option, Some}
+use Rattle.std.proofs.Common.{None, List, [], ◌∷◌, ◌++◌, length, length-append, take, drop, sym, ap, ◌∙◌}
+use Rattle.std.proofs.Common.{subst, append_assoc, length-take-le, take-append-drop}
+use Rattle.std.proofs.lemmas.List.{take-append-le}
 use Rattle.std.specs.Io.KnownBytes.{Appends, Consumes, IsAtEnd, Keeps}
 use Rattle.lw_bench.specs.Devices.{IsInput, TakesInput, TakesSome, Gets, Loses, Puts}
 

@@ -1,17 +1,17 @@
 -- From what is told of a listing to what is told of the set of its outcomes, whatever the set is and whatever a schedule
 -- leads to.
-use Rattle.std.proofs.Common.{◌≡◌, ◌⊎◌, inl, inr, ℕ, ◌<◌, ◌↔◌, List, [], ◌∷◌, zero, suc, Some, map, refl, sym, ap, ◌∙◌, subst, slice_get, arith}
-use Rattle.std.specs.Prelude.{All, Contains, slice_index_or}
+use Rattle.std.proofs.Common.{◌≡◌, ◌⊎◌, inl, inr, ℕ, ◌<◌, ◌↔◌, List, [], ◌∷◌, zero, suc, Some, map, refl, sym}
+use Rattle.std.proofs.Common.{ap, ◌∙◌, subst, slice_get, arith, All, Contains, slice_index_or, Less}
 use Rattle.std.proofs.lemmas.Bool.{cases_lt}
 use Rattle.std.proofs.lemmas.List.Elements.{All-map, All-weaker}
 use Rattle.std.proofs.lemmas.Option.{slice_get-get_or, slice_get_within, get_or_from_slice_get}
-use Rattle.std.specs.declared.cmp.Ordering.TheVariants.{Less}
 use Rattle.lw_base.specs.Heads.{TestHead}
 use Rattle.lw_base.specs.Outcomes.{Final, final_cmp}
 use Rattle.lw_base.specs.declared.event.Event.{Event}
 use Rattle.lw_listing.specs.Listings.{OutcomeEntries, outcomes_of, schedules_of, IsStrictlySorted}
 use Rattle.lw_report.specs.Reports.{IsReport, IsScheduleList, report_text, schedule_list_text, scheduled}
-use Rattle.lw_report.specs.States.{Shown, AreStatesOf, IsSmallestOf, ListedState, shown_of, ShowsFirst, AreListedStates}
+use Rattle.lw_report.specs.States.{Shown, AreStatesOf, IsSmallestOf, ListedState, shown_of, ShowsFirst}
+use Rattle.lw_report.specs.States.{AreListedStates}
 use Rattle.lw_report.specs.declared.judgement.Claim.{Claim}
 
 module _ (head : TestHead) (Has : Final → Type 0) (entries : OutcomeEntries) (same : (o : Final) → Contains (outcomes_of entries) o ↔ Has o) where

@@ -1,6 +1,6 @@
 -- What is said of the input, from what is said of the bytes of it that were read.
-use Rattle.std.proofs.Common.{◌≡◌, ◌≤◌, ◌⊎◌, inl, inr, ℕ, Option, Some, None, List, [], ◌++◌, length, sym, ap, ◌∙◌, subst, length-append, arith}
-use Rattle.std.proofs.lemmas.List.{append-nil}
+use Rattle.std.proofs.Common.{◌≡◌, ◌≤◌, ◌⊎◌, inl, inr, ℕ, Option, Some, None, List, [], ◌++◌, length, sym, ap}
+use Rattle.std.proofs.Common.{◌∙◌, subst, length-append, arith, append-nil}
 use Rattle.std.specs.Io.KnownBytes.{Appends}
 use Rattle.lw_bench.specs.Devices.{IsInput}
 use Rattle.lw_bench.specs.LitmusTests.{LitmusTest}

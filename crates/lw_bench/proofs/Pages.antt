@@ -1,12 +1,10 @@
 -- The text of a replay, one part more.
-use Rattle.std.proofs.Common.{◌≡◌, ℕ, zero, suc, ◌<◌, ◌≤◌, ◌+◌, Some, List, [], ◌∷◌, ◌++◌, length, map, drop, slice_get, refl, sym, ap, ◌∙◌, append_assoc}
-use Rattle.std.proofs.Common.{codes, Result, Ok, Err, OnOk, is_ok, if◌then◌else◌, arith}
-use Rattle.std.specs.Option.{option_map}
-use Rattle.std.specs.Fmt.{decimal}
-use Rattle.std.proofs.lemmas.List.{append-nil, drop_all}
+use Rattle.std.proofs.Common.{◌≡◌, ℕ, suc, ◌<◌, ◌≤◌, ◌+◌, Some, List, [], ◌∷◌, ◌++◌, length, map, drop}
+use Rattle.std.proofs.Common.{slice_get, refl, sym, ap, ◌∙◌, append_assoc, codes, Result, Ok, Err, OnOk}
+use Rattle.std.proofs.Common.{is_ok, if◌then◌else◌, arith, option_map, decimal, append-nil, drop-cons}
+use Rattle.std.proofs.lemmas.List.{drop_all}
 use Rattle.std.proofs.lemmas.Option.{slice_get-map, slice_get_within, get_or_from_slice_get}
 use Rattle.std.proofs.lemmas.Result.{on_ok_weaker}
-use Rattle.std.proofs.Math.Seq.{drop-cons}
 use Rattle.lw_base.specs.Heads.{TestHead}
 use Rattle.lw_base.specs.declared.head.Arch.{Arch}
 use Rattle.lw_base.specs.declared.stop.Replay.{Replay}
@@ -19,8 +17,8 @@ use Rattle.lw_interleaving.specs.Runs.{State}
 use Rattle.lw_interleaving.specs.declared.thread.Thread.{Thread}
 use Rattle.lw_tso.specs.Processors.{Processor}
 use Rattle.lw_memory.specs.declared.system.LineState.{LineState}
-use Rattle.lw_bench.specs.Pages.{numbered, first_lines, end_text, register_names, thread_line, word_line, processor_title, buffer_line}
-use Rattle.lw_bench.specs.Pages.{processor_lines, source_page, machine_page}
+use Rattle.lw_bench.specs.Pages.{numbered, first_lines, end_text, register_names, thread_line, word_line}
+use Rattle.lw_bench.specs.Pages.{processor_title, buffer_line, processor_lines, source_page, machine_page}
 
 drop_at : {X : Type 0} (xs : List X) (k : ℕ) (x : X) → slice_get xs k ≡ Some x → drop k xs ≡ x ∷ drop (k + 1) xs
 drop_at xs k x at =
@@ -84,13 +82,8 @@ named_written out new name n w v written is_name is_word =
 
 -- a register's name in its place
 pub register_at : (arch : Arch) (k : ℕ) → k < 6 → slice_get (register_names arch) k ≡ Some (register_name arch k)
-register_at arch zero below = refl
-register_at arch (suc zero) below = refl
-register_at arch (suc (suc zero)) below = refl
-register_at arch (suc (suc (suc zero))) below = refl
-register_at arch (suc (suc (suc (suc zero)))) below = refl
-register_at arch (suc (suc (suc (suc (suc zero))))) below = refl
 register_at arch (suc (suc (suc (suc (suc (suc k)))))) below = absurd (omega (arith, below))
+register_at arch _ below = refl
 
 pub text_written : (out new name text t : List ℕ) → new ≡ out ++ (32 ∷ (name ++ (61 ∷ text))) → text ≡ t → new ≡ out ++ (32 ∷ (name ++ (61 ∷ t)))
 text_written out new name text t written is = written ∙ ap (λ u. out ++ (32 ∷ (name ++ (61 ∷ u)))) is

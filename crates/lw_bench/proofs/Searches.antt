@@ -1,7 +1,7 @@
 -- Exhaustive searches through the runs of small tests: where a search finds that all ends are so, the end of every run is.
-use Rattle.std.proofs.Common.{◌≡◌, ℕ, zero, suc, ◌<◌, ◌&&◌, Bool, true, false, if◌then◌else◌, List, [], ◌∷◌, length, map, Result, Ok, Err, Option, Some, None}
-use Rattle.std.proofs.Common.{refl, sym, ap, ◌∙◌, subst, slice_get, slice_set, slice_index, option_map, nat_lt}
-use Rattle.std.specs.Prelude.{IsTrue}
+use Rattle.std.proofs.Common.{◌≡◌, ℕ, zero, suc, ◌<◌, ◌&&◌, Bool, true, false, if◌then◌else◌, List, [], ◌∷◌}
+use Rattle.std.proofs.Common.{length, map, Result, Ok, Err, Option, Some, None, refl, sym, ap, ◌∙◌, subst}
+use Rattle.std.proofs.Common.{slice_get, slice_set, slice_index, option_map, nat_lt, IsTrue}
 use Rattle.std.proofs.lemmas.Bool.{and_parts, agree_below, agree_below_at, false≢true}
 use Rattle.std.proofs.lemmas.Option.{slice_get_within, same_Some}
 use Rattle.lw_base.specs.Outcomes.{Final}
@@ -18,8 +18,8 @@ use Rattle.lw_memory.specs.Flat.{flat}
 use Rattle.lw_tso.specs.Acts.{Act, Refused, Goes, Loads, Stores, Swaps, Adds, Evicts, cpu_of, event_act}
 use Rattle.lw_tso.specs.Machines.{MachineState, Answer, ActDone, DoneBy, EventDone}
 use Rattle.lw_tso.specs.Processors.{Processor}
-use Rattle.lw_tso.specs.Runs as machine
 use Rattle.lw_tso.proofs.api.Effects.{state}
+use Rattle.lw_tso.specs.Runs as machine
 
 if_so : (b : Bool) (x : Bool) → (if b then x else true) ≡ true → b ≡ true → x ≡ true
 if_so true x so is = so
@@ -62,13 +62,12 @@ module _ (program : List (List Stmt)) (ok : Final → Bool) where
 
 -- the processor and the memory after an act that is done
 abbrev pub act_after : Act → List ℕ → Option (Processor × List ℕ)
-act_after (Refused stop) m = None
 act_after (Goes p) m = Some (p, m)
 act_after (Loads x next) m = Some (next (slice_index m x), m)
 act_after (Stores x w p) m = Some (p, slice_set m x w)
 act_after (Swaps x v next) m = Some (next (slice_index m x), slice_set m x v)
 act_after (Adds x v next) m = Some (next (slice_index m x), slice_set m x (sum_of (slice_index m x) v))
-act_after (Evicts x) m = None
+act_after _ m = None
 
 act_is : (t : ℕ) (act : Act) (p q : Processor) (m n : List ℕ) → ActDone flat t act p m (Ok tt) q n → act_after act m ≡ Some (q, n)
 act_is t (Refused stop) p q m n d = absurd (let e : ◌≡◌ {A = Answer} (Ok tt) (Err stop) = d.0 in cc)

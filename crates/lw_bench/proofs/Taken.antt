@@ -3,19 +3,15 @@ use Rattle.std.proofs.Common.{◌≡◌, Bool, true, false, ℕ, Option, List, i
 use Rattle.lw_bench.specs.Devices.{TakesInput, TakesSome}
 use Rattle.lw_bench.specs.Told.{TakesAt}
 use Rattle.lw_bench.specs.declared.fault.BenchFault.{BenchFault}
-use Rattle.lw_bench.specs.declared.fault.BenchFault.TheVariants.{Text, Cell, Schedule, Limit, Memory, Read, Write}
+use Rattle.lw_bench.specs.declared.fault.BenchFault.TheVariants.{Memory, Read}
 use Rattle.lw_bench.proofs.Devices.{all_is_some}
 
 module _ (before after : Option (List ℕ)) where
   -- all was taken
   pub taken_at : (f : BenchFault) → TakesInput before after → TakesAt f before after
-  taken_at (Text f) taken = taken
-  taken_at (Cell f) taken = taken
-  taken_at (Schedule f) taken = taken
-  taken_at (Limit f) taken = taken
   taken_at Memory taken = all_is_some before after taken
   taken_at Read taken = all_is_some before after taken
-  taken_at Write taken = taken
+  taken_at _ taken = taken
 
   -- some was taken, and the reader failed or memory ran out
   pub some_taken_at : (f : BenchFault) (failed : Bool) → f ≡ (if failed then Read else Memory) → TakesSome before after → TakesAt f before after

@@ -1,8 +1,7 @@
 -- From the list of a test to its report and to its list of schedules.
-use Rattle.std.proofs.Common.{◌≡◌, ◌↔◌, ℕ, List, length, map, refl, sym, subst}
-use Rattle.std.specs.Prelude.{All, Contains, Result, Ok, Err}
+use Rattle.std.proofs.Common.{◌≡◌, ◌↔◌, ℕ, List, length, map, refl, sym, subst, All, Contains, Result, Ok}
+use Rattle.std.proofs.Common.{Err, IfOk, OnOk}
 use Rattle.std.specs.List.{AllByRecursion}
-use Rattle.std.specs.Result.{IfOk, OnOk}
 use Rattle.std.proofs.lemmas.List.Elements.{All-map, All-weaker}
 use Rattle.lw_base.specs.Heads.{TestHead}
 use Rattle.lw_base.specs.Outcomes.{Final, IsOutcomeOf}

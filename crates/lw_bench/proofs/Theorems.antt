@@ -13,7 +13,8 @@ use Rattle.lw_tso.specs.Runs.{MachineOutcome}
 use Rattle.lw_whole.specs.OverCaches.{OutcomeOverCaches}
 use Rattle.lw_fence.specs.Compiling.{IsCompiled}
 use Rattle.lw_fence.specs.Unfenced.{IsCompiledWith}
-use Rattle.lw_fence.proofs.api.Compilations.{is_program, is_program_with, some_program, same_outcomes, has_outcomes, has_outcome}
+use Rattle.lw_fence.proofs.api.Compilations.{is_program, is_program_with, some_program, same_outcomes}
+use Rattle.lw_fence.proofs.api.Compilations.{has_outcomes, has_outcome}
 use Rattle.lw_report.proofs.api.OneList.{one_report}
 use Rattle.lw_text.proofs.api.Frames.{frame_well_formed, frame_columns}
 use Rattle.lw_source.proofs.api.Tests.{well_formed_source}

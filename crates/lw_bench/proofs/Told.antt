@@ -1,73 +1,55 @@
 -- What a refused run tells: from what the readers promise, and from the bytes that were read to the whole input.
-use Rattle.std.proofs.Common.{◌≡◌, ◌≢◌, ◌⊎◌, inl, inr, Bool, true, false, ℕ, Option, Some, None, List, [], ◌++◌, length, sym, ap, ◌∙◌, subst, length-append}
-use Rattle.std.proofs.Common.{if◌then◌else◌, arith}
-use Rattle.std.specs.Option.{IfSome}
-use Rattle.std.proofs.lemmas.List.{append-nil}
+use Rattle.std.proofs.Common.{◌≡◌, ◌≢◌, ◌⊎◌, inl, inr, Bool, true, false, ℕ, Option, Some, None, List, []}
+use Rattle.std.proofs.Common.{◌++◌, length, sym, ap, ◌∙◌, subst, length-append, if◌then◌else◌, arith, IfSome}
+use Rattle.std.proofs.Common.{append-nil}
 use Rattle.lw_base.specs.declared.fault.CellCause.{CellCause}
-use Rattle.lw_base.specs.declared.fault.CellCause.TheVariants as cell
 use Rattle.lw_base.specs.declared.fault.CellFault.{CellFault}
 use Rattle.lw_base.specs.declared.fault.ScheduleCause.{ScheduleCause}
-use Rattle.lw_base.specs.declared.fault.ScheduleCause.TheVariants as schedule
 use Rattle.lw_base.specs.declared.fault.ScheduleFault.{ScheduleFault}
 use Rattle.lw_text.specs.declared.fault.TextCause.{TextCause}
-use Rattle.lw_text.specs.declared.fault.TextCause.TheVariants as text
 use Rattle.lw_text.specs.declared.fault.TextFault.{TextFault}
 use Rattle.lw_choices.specs.declared.fault.ListFault.{ListFault}
-use Rattle.lw_choices.specs.declared.fault.ListFault.TheVariants as list
 use Rattle.lw_bench.specs.declared.fault.BenchFault.{BenchFault}
-use Rattle.lw_bench.specs.declared.fault.BenchFault.TheVariants.{Text, Cell, Schedule, Limit, Memory, Read, Write}
+use Rattle.lw_bench.specs.declared.fault.BenchFault.TheVariants.{Text, Cell, Schedule, Limit, Memory, Read}
 use Rattle.lw_bench.specs.Devices.{IsInput}
-use Rattle.lw_bench.specs.Faults.{text_fault, told_text, cell_fault, told_cell, schedule_fault, told_schedule, told_limit}
+use Rattle.lw_bench.specs.Faults.{text_fault, told_text, cell_fault, told_cell, schedule_fault, told_schedule}
+use Rattle.lw_bench.specs.Faults.{told_limit}
 use Rattle.lw_bench.specs.LitmusTests.{LitmusTest}
 use Rattle.lw_bench.specs.TestTexts.{HasTest}
 use Rattle.lw_bench.specs.Told.{TellsText, TellsCell, TellsTest, TellsRun, TellsInput, IsNoDevice}
 use Rattle.lw_bench.proofs.Outputs.{whole, in_whole}
+use Rattle.lw_base.specs.declared.fault.CellCause.TheVariants as cell
+use Rattle.lw_base.specs.declared.fault.ScheduleCause.TheVariants as schedule
+use Rattle.lw_text.specs.declared.fault.TextCause.TheVariants as text
+use Rattle.lw_choices.specs.declared.fault.ListFault.TheVariants as list
 
 -- A fault that is told as it is, unless memory ran out.
 module _ (P : BenchFault → Type 0) (memory : P Memory) where
   text_by : (f : TextFault) (cause : TextCause) → (cause ≢ text.Memory → P (Text f)) → P (text_fault f cause)
-  text_by f text.NotUtf8 known = known (λ same. cc)
-  text_by f text.TooLong known = known (λ same. cc)
-  text_by f text.Unterminated known = known (λ same. cc)
-  text_by f text.Unexpected known = known (λ same. cc)
-  text_by f text.Number known = known (λ same. cc)
-  text_by f text.Name known = known (λ same. cc)
-  text_by f text.Ragged known = known (λ same. cc)
-  text_by f text.TooManyThreads known = known (λ same. cc)
-  text_by f text.TooManyRows known = known (λ same. cc)
-  text_by f text.TooManyLocations known = known (λ same. cc)
-  text_by f text.Condition known = known (λ same. cc)
   text_by f text.Memory known = memory
+  text_by f _ known = known (λ same. cc)
 
   pub text_is_told : (f : TextFault) → (f.cause ≢ text.Memory → P (Text f)) → P (told_text f)
   text_is_told f known = text_by f f.cause known
 
   cell_by : (f : CellFault) (cause : CellCause) → (cause ≢ cell.Memory → P (Cell f)) → P (cell_fault f cause)
-  cell_by f cell.Form known = known (λ same. cc)
-  cell_by f cell.Register known = known (λ same. cc)
-  cell_by f cell.LabelMissing known = known (λ same. cc)
-  cell_by f cell.LabelTwice known = known (λ same. cc)
-  cell_by f cell.Backward known = known (λ same. cc)
-  cell_by f cell.TooMany known = known (λ same. cc)
   cell_by f cell.Memory known = memory
+  cell_by f _ known = known (λ same. cc)
 
   pub cell_is_told : (f : CellFault) → (f.cause ≢ cell.Memory → P (Cell f)) → P (told_cell f)
   cell_is_told f known = cell_by f f.cause known
 
   schedule_by : (f : ScheduleFault) (cause : ScheduleCause) → (cause ≢ schedule.Memory → P (Schedule f)) → P (schedule_fault f cause)
-  schedule_by f schedule.Word known = known (λ same. cc)
-  schedule_by f schedule.Cpu known = known (λ same. cc)
-  schedule_by f schedule.Location known = known (λ same. cc)
   schedule_by f schedule.Memory known = memory
+  schedule_by f _ known = known (λ same. cc)
 
   pub schedule_is_told : (f : ScheduleFault) → (f.cause ≢ schedule.Memory → P (Schedule f)) → P (told_schedule f)
   schedule_is_told f known = schedule_by f f.cause known
 
 -- A limit, unless memory ran out.
 pub limit_is_told : (P : BenchFault → Type 0) → P Memory → (f : ListFault) → (f ≢ list.Memory → P (Limit f)) → P (told_limit f)
-limit_is_told P memory list.TooManyItems known = known (λ same. cc)
-limit_is_told P memory list.TooManyOrders known = known (λ same. cc)
 limit_is_told P memory list.Memory known = memory
+limit_is_told P memory _ known = known (λ same. cc)
 
 -- None of these is a device's.
 pub memory_no_device : IsNoDevice Memory
@@ -127,9 +109,7 @@ module _ (input bytes : List ℕ) (is : (rest : List ℕ) × (input ≡ bytes ++
   test_in_whole (Cell f) told = cell_in_whole f told
   test_in_whole (Schedule f) told = told
   test_in_whole (Limit f) told = told
-  test_in_whole Memory told = tt
-  test_in_whole Read told = tt
-  test_in_whole Write told = tt
+  test_in_whole _ told = tt
 
   -- what a run tells
   pub run_in_whole : (Tells : LitmusTest → BenchFault → Type 0) (f : BenchFault) → TellsRun Tells bytes f → TellsRun Tells input f

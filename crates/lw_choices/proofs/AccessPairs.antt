@@ -1,10 +1,10 @@
 -- The conflicts of items are those of the items that access a location.
-use Rattle.std.proofs.Common.{◌≡◌, ℕ, suc, ◌+◌, ◌<◌, ◌≤◌, drop, get_or, Bool, true, false, if◌then◌else◌, ◌&&◌, ◌||◌, List, [], ◌∷◌, ◌++◌, length, map, Option}
-use Rattle.std.proofs.Common.{Some, None, refl, sym, ap, ap₂, ◌∙◌, inl, inr, arith}
-use Rattle.std.specs.Prelude.{filter, option_map}
-use Rattle.std.specs.Option.{option_to_list}
+use Rattle.std.proofs.Common.{◌≡◌, ℕ, suc, ◌+◌, ◌<◌, ◌≤◌, drop, get_or, Bool, true, false, if◌then◌else◌}
+use Rattle.std.proofs.Common.{◌&&◌, ◌||◌, List, [], ◌∷◌, ◌++◌, length, map, Option, Some, None, refl, sym, ap}
+use Rattle.std.proofs.Common.{ap₂, ◌∙◌, inl, inr, arith, filter, option_map, option_to_list, append_assoc}
+use Rattle.std.proofs.Common.{append-nil}
 use Rattle.std.proofs.lemmas.Bool.{cases_Bool}
-use Rattle.std.proofs.lemmas.List.{append_assoc, append-nil, drop_all, drop_more}
+use Rattle.std.proofs.lemmas.List.{drop_all, drop_more}
 use Rattle.std.proofs.lemmas.List.Elements.{filter-append}
 use Rattle.lw_orders.specs.Sequence.{numbers}
 use Rattle.lw_choices.specs.declared.conflicts.Access.{Access}
@@ -12,14 +12,14 @@ use Rattle.lw_choices.specs.declared.item.Item.{Item}
 use Rattle.lw_choices.specs.inner.Accesses.{meets, conflicts_with, conflicts_among, access_by, accesses_from}
 use Rattle.lw_litmus.specs.Conflicts.{is_one}
 use Rattle.lw_litmus.specs.Languages.{Language}
-use Rattle.lw_choices.specs.Items.{item_at, pairs_from, statement_of, location_by, writes_by, conflict_by, items_conflict, constraints_of}
+use Rattle.lw_choices.specs.Items.{item_at, pairs_from, statement_of, location_by, writes_by, conflict_by}
+use Rattle.lw_choices.specs.Items.{items_conflict, constraints_of}
 use Rattle.lw_choices.proofs.api.Pairs.{filter_takes, filter_skips}
 
 -- whether two items that may have accesses conflict
 abbrev both : Option Access → Option Access → Bool
-both None y = false
-both (Some a) None = false
 both (Some a) (Some b) = meets a b
+both _ _ = false
 
 abbrev access : ℕ → Bool → ℕ → Access
 access n w x = record { number = n; loc = x; writes = w }

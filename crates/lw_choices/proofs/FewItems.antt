@@ -1,6 +1,6 @@
 -- A source test never has too many items for a list: its threads are short, and none of its stores has a drain.
-use Rattle.std.proofs.Common.{◌≡◌, ℕ, suc, ◌+◌, ◌*◌, ◌≤◌, false, true, Option, Some, None, List, [], ◌∷◌, length, slice_get, refl, arith, length-append}
-use Rattle.std.specs.Prelude.{All}
+use Rattle.std.proofs.Common.{◌≡◌, ℕ, suc, ◌+◌, ◌*◌, ◌≤◌, false, true, Option, Some, None, List, [], ◌∷◌}
+use Rattle.std.proofs.Common.{length, slice_get, refl, arith, length-append, All}
 use Rattle.std.specs.Option.{option_map_or}
 use Rattle.std.proofs.lemmas.List.Elements.{All-head, All-tail}
 use Rattle.lw_litmus.specs.Flow.{IsPathFrom}

@@ -1,11 +1,10 @@
 -- Where no statement accesses a location each choice has one order, and there are at most twice as many choices for each branch.
-use Rattle.std.proofs.Common.{◌≡◌, inl, inr, ℕ, zero, suc, ◌+◌, ◌*◌, ◌^◌, ◌<◌, ◌≤◌, ◌==◌, ◌&&◌, ◌||◌, Bool, true, false, not, cond, Option, Some, None, List}
-use Rattle.std.proofs.Common.{[], ◌∷◌, ◌++◌, length, map, drop, get_or, refl, sym, ap, ◌∙◌, slice_get, length-append, arith, true≢false}
-use Rattle.std.specs.Prelude.{All, filter, if◌then◌else◌, is_some, is_none}
-use Rattle.std.specs.List.{count_by, sum_by, flat_map}
-use Rattle.std.proofs.Math.Nat.{suc-mul, mul-le-mul, one-le-pow}
-use Rattle.std.proofs.Math.Pow.{pow_mono}
-use Rattle.std.proofs.lemmas.Nat.{pow-add}
+use Rattle.std.proofs.Common.{◌≡◌, inl, inr, ℕ, zero, suc, ◌+◌, ◌*◌, ◌^◌, ◌<◌, ◌≤◌, ◌==◌, ◌&&◌, ◌||◌, Bool}
+use Rattle.std.proofs.Common.{true, false, not, cond, Option, Some, None, List, [], ◌∷◌, ◌++◌, length, map}
+use Rattle.std.proofs.Common.{drop, get_or, refl, sym, ap, ◌∙◌, slice_get, length-append, arith, true≢false}
+use Rattle.std.proofs.Common.{All, filter, if◌then◌else◌, is_some, is_none, count_by, sum_by, flat_map}
+use Rattle.std.proofs.Common.{suc-mul, mul-le-mul, pow_mono, pow-add}
+use Rattle.std.proofs.Math.Nat.{one-le-pow}
 use Rattle.std.proofs.lemmas.Bool.{cases_lt, cases_Bool}
 use Rattle.std.proofs.lemmas.List.{drop_more, length-map, get_or_past}
 use Rattle.std.proofs.lemmas.List.Folds.{list_all_at}
@@ -21,7 +20,8 @@ use Rattle.lw_orders.specs.Limits.{most_open, most_orders}
 use Rattle.lw_choices.specs.declared.item.Item.{Item}
 use Rattle.lw_choices.specs.Choices.{IsForward, led_by, led, paths_on, paths_from, paths_of, choices_of}
 use Rattle.lw_choices.specs.Counts.{orders_at_choice, orders_of, total_of}
-use Rattle.lw_choices.specs.Items.{is_drained, location_by, writes_by, conflict_by, items_conflict, statement_of, items_of, item_at, pairs_from, constraints_of}
+use Rattle.lw_choices.specs.Items.{is_drained, location_by, writes_by, conflict_by, items_conflict}
+use Rattle.lw_choices.specs.Items.{statement_of, items_of, item_at, pairs_from, constraints_of}
 use Rattle.lw_choices.specs.inner.Few.{branches, is_silent_code, is_silent}
 
 -- a list of lists that are each short
@@ -159,10 +159,9 @@ module _ {S : Type 0} (language : Language S) where
 
   none_conflict : (d e : Bool) (o q : Option S) → ((s : S) → o ≡ Some s → location_of (language.operation_of s) ≡ None)
       → conflict_by language d e o q ≡ false
-  none_conflict d e None q silent = refl
-  none_conflict d e (Some a) None silent = refl
   none_conflict d e (Some a) (Some b) silent =
       ap (λ x. is_one x (location_by language e b) && (writes_by language d a || writes_by language e b)) (no_location d a (silent a refl))
+  none_conflict d e _ _ silent = refl
 
   is_none_at : (o : Option ℕ) → is_none o ≡ true → o ≡ None
   is_none_at None e = refl

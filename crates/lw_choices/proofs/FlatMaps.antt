@@ -1,7 +1,5 @@
 -- Lists made by `map` and `flat_map`: of functions that agree, and of a `flat_map`.
-use Rattle.std.proofs.Common.{◌≡◌, List, [], ◌∷◌, ◌++◌, map, refl, ap, ap₂, ◌∙◌}
-use Rattle.std.specs.Prelude.{Contains}
-use Rattle.std.specs.List.{flat_map}
+use Rattle.std.proofs.Common.{◌≡◌, List, [], ◌∷◌, ◌++◌, map, refl, ap, ap₂, ◌∙◌, Contains, flat_map}
 use Rattle.std.proofs.lemmas.Grind.{flat_map-append}
 use Rattle.std.proofs.lemmas.List.{map-append}
 use Rattle.lw_choices.proofs.api.Members.{Contains-here, Contains-there}

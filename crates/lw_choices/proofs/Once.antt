@@ -1,7 +1,6 @@
 -- Each path, and each choice, is listed once.
-use Rattle.std.proofs.Common.{◌≡◌, ℕ, zero, suc, ◌<◌, ◌≤◌, List, [], ◌∷◌, ◌++◌, map, length, Option, Some, None, refl, sym, ◌∙◌, subst, inl, inr, slice_get}
-use Rattle.std.specs.Prelude.{Contains, All}
-use Rattle.std.specs.List.{flat_map}
+use Rattle.std.proofs.Common.{◌≡◌, ℕ, zero, suc, ◌<◌, ◌≤◌, List, [], ◌∷◌, ◌++◌, map, length, Option, Some}
+use Rattle.std.proofs.Common.{None, refl, sym, ◌∙◌, subst, inl, inr, slice_get, Contains, All, flat_map}
 use Rattle.std.proofs.lemmas.List.Elements.{All-head, All-tail, Contains-append_cases}
 use Rattle.lw_base.specs.Lists.{EachOnce}
 use Rattle.lw_litmus.specs.Languages.{Language}

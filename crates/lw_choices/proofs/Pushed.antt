@@ -1,23 +1,22 @@
 -- One turn of each loop that makes a list of the items, of their fixed pairs or of their accesses.
-use Rattle.std.proofs.Common.{◌≡◌, ℕ, suc, ◌+◌, ◌<◌, ◌≤◌, Bool, true, false, ◌||◌, List, [], ◌∷◌, ◌++◌, length, map, drop, get_or, slice_get, Option, Some}
-use Rattle.std.proofs.Common.{None, SomeIff, refl, sym, ap, ap₂, ◌∙◌, ◌^◌, arith}
-use Rattle.std.specs.Option.{IsSome}
-use Rattle.std.specs.Prelude.{if◌then◌else◌, filter, not}
+use Rattle.std.proofs.Common.{◌≡◌, ℕ, suc, ◌+◌, ◌<◌, ◌≤◌, Bool, false, ◌||◌, List, [], ◌∷◌, ◌++◌, length, map}
+use Rattle.std.proofs.Common.{drop, get_or, slice_get, Option, Some, None, SomeIff, refl, sym, ap, ap₂, ◌∙◌}
+use Rattle.std.proofs.Common.{◌^◌, arith, IsSome, if◌then◌else◌, filter, not, append_assoc, append-nil}
 use Rattle.lw_orders.specs.Order.{Constraints, count_of, is_decided}
-use Rattle.std.proofs.lemmas.List.{append_assoc, append-nil, drop_more, drop_all}
+use Rattle.std.proofs.lemmas.List.{drop_more, drop_all}
 use Rattle.lw_choices.specs.declared.item.Item.{Item}
 use Rattle.lw_choices.specs.declared.item.Last.{Last}
 use Rattle.lw_litmus.specs.Languages.{Language}
-use Rattle.lw_choices.specs.Items.{behind, fixed_at, last_with, last_of, items_at, path_items, items_from, does_wait, fixed_from}
+use Rattle.lw_choices.specs.Items.{behind, fixed_at, last_with, last_of, items_at, path_items, items_from}
+use Rattle.lw_choices.specs.Items.{does_wait, fixed_from}
 
 -- what was pushed, and what is still to be pushed
 on : {Y : Type 0} (old new here rest whole : List Y) → new ≡ old ++ here → old ++ (here ++ rest) ≡ whole → new ++ rest ≡ whole
 on old new here rest whole e h = ap (λ ys. ys ++ rest) e ∙ (append_assoc old here rest ∙ h)
 
 fixed_is : (d w : Bool) (last : Last) (n : ℕ) → behind last.statement n ++ (if d || w then behind last.drain n else []) ≡ fixed_at d w last n
-fixed_is true w last n = refl
-fixed_is false true last n = refl
 fixed_is false false last n = append-nil (behind last.statement n)
+fixed_is _ _ last n = refl
 
 -- the number that was asked for is the one that was given
 pub some_is : (P : Type 0) (o : Option ℕ) (n m : ℕ) → SomeIff o P n → o ≡ Some m → m ≡ n

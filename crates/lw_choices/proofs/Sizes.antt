@@ -1,10 +1,9 @@
 -- The most items of paths and of choices.
-use Rattle.std.proofs.Common.{◌≡◌, ◌⊎◌, inl, inr, ℕ, suc, ◌+◌, ◌<◌, ◌≤◌, Option, Some, None, List, [], ◌∷◌, length, refl, sym, ap, ap₂, ◌∙◌, subst, slice_get}
-use Rattle.std.proofs.Common.{length-append, arith}
-use Rattle.std.specs.Prelude.{Contains, slice_index, slice_set}
+use Rattle.std.proofs.Common.{◌≡◌, ◌⊎◌, inl, inr, ℕ, suc, ◌+◌, ◌<◌, ◌≤◌, Option, Some, None, List, [], ◌∷◌}
+use Rattle.std.proofs.Common.{length, refl, sym, ap, ap₂, ◌∙◌, subst, slice_get, length-append, arith}
+use Rattle.std.proofs.Common.{Contains, slice_index, slice_set, length-set, get_or-set_same, get_or-set_other}
+use Rattle.std.proofs.Common.{option_to_list}
 use Rattle.std.proofs.lemmas.Bool.{cases_lt}
-use Rattle.std.proofs.lemmas.List.{length-set, get_or-set_same, get_or-set_other}
-use Rattle.std.specs.Option.{option_to_list}
 use Rattle.std.proofs.lemmas.Option.{slice_get_within}
 use Rattle.lw_litmus.specs.Limits.{most_instructions}
 use Rattle.lw_litmus.specs.Languages.{Language}
@@ -120,12 +119,11 @@ module _ {S : Type 0} (language : Language S) where
 
   items_from_alike : (t u : ℕ) (program : List (List S)) (paths : List (List ℕ))
       → length (items_from language t program paths) ≡ length (items_from language u program paths)
-  items_from_alike t u [] paths = refl
-  items_from_alike t u (code ∷ program) [] = refl
   items_from_alike t u (code ∷ program) (path ∷ paths) =
       length-append (path_items language t code path) (items_from language (suc t) program paths)
       ∙ ap₂ (λ (m n : ℕ). m + n) (path_items_alike t u code path) (items_from_alike (suc t) (suc u) program paths)
       ∙ sym (length-append (path_items language u code path) (items_from language (suc u) program paths))
+  items_from_alike t u _ _ = refl
 
   together : (code : List S) (program : List (List S)) (path : List ℕ) (paths : List (List ℕ))
       → items_at_choice language (code ∷ program) (path ∷ paths) ≡ path_size language code path + items_at_choice language program paths

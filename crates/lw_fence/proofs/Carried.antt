@@ -1,10 +1,11 @@
 -- The instructions of a row carry out its statement: the last one does to its processor and to the memory what the statement does to
 -- its thread, and one before it leaves the memory and the store buffer as they are.
-use Rattle.std.proofs.Common.{◌≡◌, ℕ, ◌+◌, ◌<◌, ◌==◌, ◌%◌, ◌^◌, add_comm, Bool, true, false, not, true≢false, None, Some, List, [], ◌∷◌, ◌++◌, length}
-use Rattle.std.proofs.Common.{if◌then◌else◌, refl, sym, ap, ap₂, ◌∙◌, subst, subst₂, arith, slice_set, slice_index, eqb-true}
-use Rattle.std.specs.Prelude.{All}
+use Rattle.std.proofs.Common.{◌≡◌, ℕ, ◌+◌, ◌<◌, ◌==◌, ◌%◌, ◌^◌, add_comm, Bool, true, false, not, true≢false}
+use Rattle.std.proofs.Common.{None, Some, List, [], ◌∷◌, ◌++◌, length, if◌then◌else◌, refl, sym, ap, ap₂, ◌∙◌}
+use Rattle.std.proofs.Common.{subst, subst₂, arith, slice_set, slice_index, eqb-true, All, set-set}
+use Rattle.std.proofs.Common.{get_or-set_same, get_or-set_other}
 use Rattle.std.proofs.lemmas.Bool.{eqb-false}
-use Rattle.std.proofs.lemmas.List.{set-get_or, set-set, get_or-set_same, get_or-set_other}
+use Rattle.std.proofs.lemmas.List.{set-get_or}
 use Rattle.lw_base.specs.Sums.{sum_of}
 use Rattle.lw_base.specs.Threads.{value_of}
 use Rattle.lw_base.specs.WellFormed.{IsRegisterNumber}
@@ -13,11 +14,10 @@ use Rattle.lw_base.specs.declared.operand.Operand.TheVariants.{Register, Number}
 use Rattle.lw_base.specs.declared.stop.Stop.{Stop}
 use Rattle.lw_base.specs.declared.stop.Stop.TheVariants.{SwapWaits, FenceWaits}
 use Rattle.lw_litmus.specs.declared.operation.Operation.{Operation}
-use Rattle.lw_litmus.specs.declared.operation.Operation.TheVariants as operation
 use Rattle.lw_litmus.specs.declared.stmt.Stmt.{Stmt}
-use Rattle.lw_litmus.specs.declared.stmt.Stmt.TheVariants.{Store, Load, Swap, FetchAdd, Set, Sum, IfEq, IfNe, Goto}
+use Rattle.lw_litmus.specs.declared.stmt.Stmt.TheVariants.{Store, Load, Swap, FetchAdd, Set, Sum, IfEq, IfNe}
+use Rattle.lw_litmus.specs.declared.stmt.Stmt.TheVariants.{Goto}
 use Rattle.lw_litmus.specs.declared.instr.Instr.{Instr}
-use Rattle.lw_litmus.specs.declared.instr.Instr.TheVariants as x86
 use Rattle.lw_litmus.specs.Operations.{location_of, is_store, is_load}
 use Rattle.lw_litmus.specs.WellFormed.{registers_of}
 use Rattle.lw_litmus.specs.Sources.{source_operation}
@@ -32,6 +32,8 @@ use Rattle.lw_fence.specs.declared.row.Row.TheVariants.{One, Two}
 use Rattle.lw_fence.specs.Compiling.{moved, compared, row, instrs_of}
 use Rattle.lw_fence.proofs.Owes.{IsLocal}
 use Rattle.lw_fence.proofs.Placed.{chosen}
+use Rattle.lw_litmus.specs.declared.operation.Operation.TheVariants as operation
+use Rattle.lw_litmus.specs.declared.instr.Instr.TheVariants as x86
 
 -- a store buffer
 abbrev pub Buffer : Type 0

@@ -23,11 +23,8 @@ abbrev flat_invariant : Invariant (List ℕ)
 flat_invariant = record { cpus = λ words. most_threads; sound = λ words. Unit {0} }
 
 words_served : (m : List ℕ) (r : Request) (a : Option ℕ) (n : List ℕ) → WordsServe m r a n → Served flat flat_invariant m r a n
-words_served m (Load t x) a n s = record { possible = tt; answer = s.0; content = s.1; cpus = refl; sound = tt }
-words_served m (Store t x w) a n s = record { possible = tt; answer = s.0; content = s.1; cpus = refl; sound = tt }
-words_served m (Swap t x w) a n s = record { possible = tt; answer = s.0; content = s.1; cpus = refl; sound = tt }
-words_served m (FetchAdd t x w) a n s = record { possible = tt; answer = s.0; content = s.1; cpus = refl; sound = tt }
 words_served m (Evict t x) a n s = absurd s
+words_served m _ a n s = record { possible = tt; answer = s.0; content = s.1; cpus = refl; sound = tt }
 
 words_serve : (m : List ℕ) (r : Request) → IsPossible (λ t x. I) r → (n : List ℕ) × WordsServe m r (answer_of m r) n
 words_serve m (Load t x) h = (m, (refl, refl))

@@ -1,8 +1,8 @@
 -- The fences that are found, by the marks.
-use Rattle.std.proofs.Common.{◌≡◌, ◌↔◌, ℕ, ◌+◌, ◌<◌, ◌≤◌, List, [], ◌∷◌, ◌++◌, length, Option, Some, Bool, true, false, ◌&&◌, sym, ap, ◌∙◌, subst, ⊎_elim}
-use Rattle.std.proofs.Common.{arith, slice_get, length-append}
+use Rattle.std.proofs.Common.{◌≡◌, ◌↔◌, ℕ, ◌+◌, ◌<◌, ◌≤◌, List, [], ◌∷◌, ◌++◌, length, Option, Some, Bool}
+use Rattle.std.proofs.Common.{true, false, ◌&&◌, sym, ap, ◌∙◌, subst, ⊎_elim, arith, slice_get, length-append}
+use Rattle.std.proofs.Common.{slice_index_or}
 use Rattle.std.specs.Option.{option_map_or}
-use Rattle.std.specs.Prelude.{slice_index_or}
 use Rattle.std.proofs.lemmas.Option.{slice_get_past, slice_get_within}
 use Rattle.std.proofs.lemmas.Bool.{cases_lt, false≢true, and_parts, and_from}
 use Rattle.lw_base.proofs.api.Lists.{get_append, get_some}

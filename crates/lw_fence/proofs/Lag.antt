@@ -1,7 +1,8 @@
 -- A processor runs ahead of its source thread: the thread owes the local statements that the processor has carried out and
 -- the stores that are still in the store buffer, and the processor may stand in the middle of a statement.
-use Rattle.std.proofs.Common.{◌≡◌, ◌≢◌, ℕ, List, [], ◌∷◌, Some, sym, ◌∙◌, subst, subst₂, slice_get, slice_index, ◌↔◌, ◌+◌, length, Option, None, Bool, true}
-use Rattle.std.proofs.Common.{false, refl, ap, ⊎_elim, arith}
+use Rattle.std.proofs.Common.{◌≡◌, ◌≢◌, ℕ, List, [], ◌∷◌, Some, sym, ◌∙◌, subst, subst₂, slice_get}
+use Rattle.std.proofs.Common.{slice_index, ◌↔◌, ◌+◌, length, Option, None, Bool, true, false, refl, ap}
+use Rattle.std.proofs.Common.{⊎_elim, arith, append-nil}
 use Rattle.lw_base.specs.Threads.{code_of}
 use Rattle.lw_litmus.specs.declared.stmt.Stmt.{Stmt}
 use Rattle.lw_litmus.specs.declared.instr.Instr.{Instr}
@@ -14,7 +15,6 @@ use Rattle.lw_fence.proofs.Moves.{Turns, turns_none, turns_on, turn}
 use Rattle.lw_fence.proofs.Owes.{Owes, first_store, nothing, local, store, owes_on, catch_up, after_store}
 use Rattle.lw_fence.proofs.Steps.{Sane, Allowed, stays_sane}
 use Rattle.std.proofs.lemmas.Bool.{cases_lt, false≢true}
-use Rattle.std.proofs.lemmas.List.{append-nil}
 use Rattle.std.proofs.lemmas.Option.{none-some, slice_get_past}
 use Rattle.lw_base.proofs.api.Lists.{get_some}
 use Rattle.lw_litmus.specs.Operations.{is_load}

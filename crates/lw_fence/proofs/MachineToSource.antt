@@ -1,9 +1,9 @@
 -- At the end of a run of the machine each thread of the source catches up, and is then at its end with the registers of
 -- its processor.
-use Rattle.std.proofs.Common.{◌≡◌, ℕ, zero, suc, ◌<◌, ◌≤◌, ◌==◌, nat_le, List, [], length, Some, true, refl, sym, ap, ◌∙◌, subst, ⊎_elim, arith, slice_get}
-use Rattle.std.proofs.Common.{slice_set, slice_index, eqb-true}
-use Rattle.std.specs.Prelude.{IsTrue}
-use Rattle.std.proofs.lemmas.Bool.{cases_lt, and_parts, leb-true, le-leb}
+use Rattle.std.proofs.Common.{◌≡◌, ℕ, zero, suc, ◌<◌, ◌≤◌, ◌==◌, nat_le, List, [], length, Some, true, refl}
+use Rattle.std.proofs.Common.{sym, ap, ◌∙◌, subst, ⊎_elim, arith, slice_get, slice_set, slice_index, eqb-true}
+use Rattle.std.proofs.Common.{IsTrue, leb-true, le-leb}
+use Rattle.std.proofs.lemmas.Bool.{cases_lt, and_parts}
 use Rattle.std.proofs.lemmas.List.{nil_from_length}
 use Rattle.std.proofs.lemmas.Option.{slice_get_within, get_or_from_slice_get}
 use Rattle.lw_base.specs.Threads.{code_of}
@@ -11,7 +11,8 @@ use Rattle.lw_base.proofs.api.Lists.{fellows_after, get_some, at_index, set_own}
 use Rattle.lw_litmus.specs.declared.stmt.Stmt.{Stmt}
 use Rattle.lw_interleaving.specs.declared.thread.Thread.{Thread}
 use Rattle.lw_litmus.specs.Tests.{SourceTest, ProgramTest}
-use Rattle.lw_interleaving.specs.Runs.{State, RunsTo, SourceOutcome, start_of, starting_thread as thread_starting, is_source_final as is_over}
+use Rattle.lw_interleaving.specs.Runs.{State, RunsTo, SourceOutcome, start_of}
+use Rattle.lw_interleaving.specs.Runs.{starting_thread as thread_starting, is_source_final as is_over}
 use Rattle.lw_interleaving.proofs.api.Exchange.{state_of}
 use Rattle.lw_litmus.specs.declared.instr.Instr.{Instr}
 use Rattle.lw_tso.specs.Processors.{Processor}

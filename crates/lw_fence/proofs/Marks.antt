@@ -1,8 +1,9 @@
 -- One pass forward over the statements of a thread marks the positions that a flow path reaches from a store that may still
 -- wait in the store buffer.
-use Rattle.std.proofs.Common.{◌≡◌, ◌↔◌, ℕ, zero, suc, ◌+◌, ◌<◌, ◌≤◌, ◌⊎◌, inl, inr, List, [], ◌∷◌, ◌++◌, length, take, replicate, get_or, set, Option, Some}
-use Rattle.std.proofs.Common.{None, Bool, true, false, if◌then◌else◌, ◌||◌, ◌&&◌, refl, sym, ap, ap₂, ◌∙◌, subst, ⊎_elim, arith, slice_get, length-set}
-use Rattle.std.proofs.Common.{get_or-set_same, get_or-set_other}
+use Rattle.std.proofs.Common.{◌≡◌, ◌↔◌, ℕ, zero, suc, ◌+◌, ◌<◌, ◌≤◌, ◌⊎◌, inl, inr, List, [], ◌∷◌, ◌++◌}
+use Rattle.std.proofs.Common.{length, take, replicate, get_or, set, Option, Some, None, Bool, true, false}
+use Rattle.std.proofs.Common.{if◌then◌else◌, ◌||◌, ◌&&◌, refl, sym, ap, ap₂, ◌∙◌, subst, ⊎_elim, arith}
+use Rattle.std.proofs.Common.{slice_get, length-set, get_or-set_same, get_or-set_other}
 use Rattle.std.specs.List.{AllByRecursion}
 use Rattle.std.specs.Option.{ForSome}
 use Rattle.std.proofs.lemmas.Option.{same_Some, slice_get_within}
@@ -65,11 +66,9 @@ set_sound marks a j h =
     ⊎_elim (λ same. inr same) (λ ne. inl (sym (get_or-set_other marks a j true false ne) ∙ h)) (cases_eq j a)
 
 set_keeps : (marks : List Bool) (a j : ℕ) → at marks j ≡ true → at (set marks a true) j ≡ true
-set_keeps [] a j h = h
 set_keeps (b ∷ marks) zero zero h = refl
-set_keeps (b ∷ marks) zero (suc j) h = h
-set_keeps (b ∷ marks) (suc a) zero h = h
 set_keeps (b ∷ marks) (suc a) (suc j) h = set_keeps marks a j h
+set_keeps _ _ _ h = h
 
 -- one mark more, if there is a place for it: it is set there and nowhere else, and the others stay
 mark_sound : (o : Option ℕ) (marks : List Bool) (j : ℕ) → at (with_mark o marks) j ≡ true → (at marks j ≡ true) ⊎ (o ≡ Some j)
@@ -194,9 +193,8 @@ module _ (code : List Stmt)
   }
     where
       none_marked : (n j : ℕ) → at (replicate n false) j ≡ false
-      none_marked zero j = refl
-      none_marked (suc n) zero = refl
       none_marked (suc n) (suc j) = none_marked n j
+      none_marked _ _ = refl
 
   -- What is marked when all statements have been passed.
   pub marked_behind_stores : (marks : List Bool) → Marked code (length code) marks → (j : ℕ) → j ≤ length code

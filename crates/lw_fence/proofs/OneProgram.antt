@@ -1,5 +1,6 @@
 -- A source has at most one compiled program.
-use Rattle.std.proofs.Common.{◌≡◌, ℕ, suc, List, [], ◌∷◌, length, Some, Bool, true, false, refl, sym, ap, ap₂, ◌∙◌, arith, slice_get}
+use Rattle.std.proofs.Common.{◌≡◌, ℕ, suc, List, [], ◌∷◌, length, Some, Bool, true, false, refl, sym, ap, ap₂}
+use Rattle.std.proofs.Common.{◌∙◌, arith, slice_get}
 use Rattle.std.proofs.lemmas.Option.{slice_get_within}
 use Rattle.lw_base.proofs.api.Lists.{get_some}
 use Rattle.lw_base.specs.Heads.{TestHead}

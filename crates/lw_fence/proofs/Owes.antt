@@ -1,6 +1,7 @@
 -- What a thread of the source owes: how far its processor is ahead of it, by local statements and by stores that are still in
 -- the store buffer.
-use Rattle.std.proofs.Common.{◌≡◌, ◌≢◌, ℕ, List, [], ◌∷◌, ◌++◌, Some, None, refl, inl, inr, subst, subst₂, slice_get, slice_set}
+use Rattle.std.proofs.Common.{◌≡◌, ◌≢◌, ℕ, List, [], ◌∷◌, ◌++◌, Some, None, refl, inl, inr, subst, subst₂}
+use Rattle.std.proofs.Common.{slice_get, slice_set}
 use Rattle.lw_base.specs.Threads.{code_of, value_of}
 use Rattle.lw_base.specs.declared.operand.Operand.{Operand}
 use Rattle.lw_litmus.specs.declared.stmt.Stmt.{Stmt}

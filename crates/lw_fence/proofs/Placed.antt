@@ -1,7 +1,8 @@
 -- Where the instructions of a statement stand in the compiled code.
-use Rattle.std.proofs.Common.{◌≡◌, ◌↔◌, ℕ, zero, suc, ◌+◌, ◌*◌, ◌<◌, ◌≤◌, List, [], ◌∷◌, ◌++◌, length, Some, Bool, true, false, if◌then◌else◌, sym, refl, ap}
-use Rattle.std.proofs.Common.{◌∙◌, subst₂, arith, slice_get, slice_index, length-append, append_assoc, drop, get_or, ap₂, add-one}
-use Rattle.std.proofs.Math.Seq.{get_or-append_seam, drop-cons}
+use Rattle.std.proofs.Common.{◌≡◌, ◌↔◌, ℕ, zero, suc, ◌+◌, ◌*◌, ◌<◌, ◌≤◌, List, [], ◌∷◌, ◌++◌, length, Some}
+use Rattle.std.proofs.Common.{Bool, true, false, if◌then◌else◌, sym, refl, ap, ◌∙◌, subst₂, arith, slice_get}
+use Rattle.std.proofs.Common.{slice_index, length-append, append_assoc, drop, get_or, ap₂, add-one, drop-cons}
+use Rattle.std.proofs.Math.Seq.{get_or-append_seam}
 use Rattle.std.proofs.lemmas.Option.{same_Some, none-some, slice_get_within, slice_get-get_or}
 use Rattle.lw_base.specs.Threads.{code_of}
 use Rattle.lw_base.specs.declared.head.Arch.TheVariants.{X86}

@@ -1,7 +1,7 @@
 -- What is made of a well-formed source test is a well-formed program.
-use Rattle.std.proofs.Common.{◌≡◌, ℕ, zero, suc, ◌+◌, ◌-◌, ◌<◌, ◌≤◌, ◌==◌, List, [], ◌∷◌, length, Some, None, Bool, refl, sym, ap, ◌∙◌, subst, subst₂, ⊎_elim}
-use Rattle.std.proofs.Common.{arith, slice_get, slice_index}
-use Rattle.std.specs.Prelude.{All, slice_index_or}
+use Rattle.std.proofs.Common.{◌≡◌, ℕ, zero, suc, ◌+◌, ◌-◌, ◌<◌, ◌≤◌, ◌==◌, List, [], ◌∷◌, length, Some, None}
+use Rattle.std.proofs.Common.{Bool, refl, sym, ap, ◌∙◌, subst, subst₂, ⊎_elim, arith, slice_get, slice_index}
+use Rattle.std.proofs.Common.{All, slice_index_or}
 use Rattle.std.specs.Option.{ForSome}
 use Rattle.std.proofs.lemmas.Bool.{cases_eq, cases_lt}
 use Rattle.std.proofs.lemmas.List.Elements.{All-nil, All-cons}
@@ -15,19 +15,20 @@ use Rattle.lw_base.specs.declared.operand.Operand.TheVariants.{Register, Number}
 use Rattle.lw_litmus.specs.WellFormed.{IsStatement, IsThread}
 use Rattle.lw_base.proofs.api.Lists.{get_some, at_index}
 use Rattle.lw_litmus.specs.declared.stmt.Stmt.{Stmt}
-use Rattle.lw_litmus.specs.declared.stmt.Stmt.TheVariants.{Store, Load, Swap, FetchAdd, Set, Sum, IfEq, IfNe, Goto}
+use Rattle.lw_litmus.specs.declared.stmt.Stmt.TheVariants.{Store, Load, Swap, FetchAdd, Set, Sum, IfEq, IfNe}
+use Rattle.lw_litmus.specs.declared.stmt.Stmt.TheVariants.{Goto}
 use Rattle.lw_litmus.specs.Operands.{operand_registers, operand_numbers}
 use Rattle.lw_litmus.specs.Operations.{target_of}
 use Rattle.lw_litmus.specs.Sources.{source, source_operation}
 use Rattle.lw_litmus.specs.WellFormedTests.{IsWellFormedSource, IsWellFormedProgram}
 use Rattle.lw_litmus.specs.Tests.{SourceTest, ProgramTest}
 use Rattle.lw_litmus.specs.declared.instr.Instr.{Instr}
-use Rattle.lw_litmus.specs.declared.instr.Instr.TheVariants as instr
 use Rattle.lw_litmus.specs.Programs.{x86}
-use Rattle.lw_litmus.specs.Programs as programs
 use Rattle.lw_fence.specs.declared.row.Row.TheVariants.{One, Two}
 use Rattle.lw_fence.specs.Compiling.{moved, compared, row, instrs_of, IsCompiledThread, IsCompiled}
 use Rattle.lw_fence.proofs.Placed.{chosen, StandsAt, Laid, LaidOut, laid_out}
+use Rattle.lw_litmus.specs.declared.instr.Instr.TheVariants as instr
+use Rattle.lw_litmus.specs.Programs as programs
 
 -- what holds of each instruction, at its place
 abbrev AllAt : (ℕ → Instr → Type 0) → ℕ → List Instr → Type 0

@@ -1,8 +1,8 @@
 -- From source to machine: the schedule of a source run replays on the compiled program, to the same outcome.
-use Rattle.std.proofs.Common.{◌≡◌, ℕ, ◌+◌, ◌-◌, ◌<◌, ◌≤◌, nat_le, ◌==◌, List, [], ◌∷◌, ◌++◌, length, map, Some, Bool, true, false, refl, sym, ap, ◌∙◌, subst}
-use Rattle.std.proofs.Common.{subst₂, arith}
-use Rattle.std.specs.Prelude.{IsTrue, slice_get, slice_set, slice_index}
-use Rattle.std.proofs.lemmas.Bool.{and_from, le-leb, leb-true}
+use Rattle.std.proofs.Common.{◌≡◌, ℕ, ◌+◌, ◌-◌, ◌<◌, ◌≤◌, nat_le, ◌==◌, List, [], ◌∷◌, ◌++◌, length, map}
+use Rattle.std.proofs.Common.{Some, Bool, true, false, refl, sym, ap, ◌∙◌, subst, subst₂, arith, IsTrue}
+use Rattle.std.proofs.Common.{slice_get, slice_set, slice_index, le-leb, leb-true}
+use Rattle.std.proofs.lemmas.Bool.{and_from}
 use Rattle.std.proofs.lemmas.Option.{slice_get_within, get_or_from_slice_get}
 use Rattle.lw_base.specs.Outcomes.{Final}
 use Rattle.lw_base.specs.Threads.{code_of}
@@ -26,7 +26,8 @@ use Rattle.lw_tso.specs.Runs.{MachineRan, Replays, is_done, is_final}
 use Rattle.lw_tso.proofs.api.Effects.{state}
 use Rattle.lw_fence.specs.Compiling.{row, instrs_of, IsCompiled}
 use Rattle.lw_fence.specs.Schedules.{statement_events, thread_events, after_step, schedule}
-use Rattle.lw_fence.proofs.Beside.{Beside, thread_at, processor_at, gone_on, same_outcome, first, compiled_start, start_is}
+use Rattle.lw_fence.proofs.Beside.{Beside, thread_at, processor_at, gone_on, same_outcome, first}
+use Rattle.lw_fence.proofs.Beside.{compiled_start, start_is}
 use Rattle.lw_fence.proofs.Moves.{run_append}
 use Rattle.lw_fence.proofs.Placed.{Stands, LaidOut, laid_out}
 use Rattle.lw_fence.proofs.Statements.{standing, events_for, statement_turned}

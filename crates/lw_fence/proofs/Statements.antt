@@ -1,14 +1,13 @@
 -- A processor with an empty buffer carries out a statement by its row of instructions, and then a drain where it is a store.
-use Rattle.std.proofs.Common.{◌≡◌, ℕ, List, [], ◌∷◌, ◌++◌, length, replicate, Some, Bool, false, refl, sym, ap, ◌∙◌, subst, subst₂}
-use Rattle.std.specs.Prelude.{if◌then◌else◌, slice_get, slice_set, slice_index}
-use Rattle.std.proofs.lemmas.List.{append-nil}
+use Rattle.std.proofs.Common.{◌≡◌, ℕ, List, [], ◌∷◌, ◌++◌, length, replicate, Some, Bool, false, refl, sym}
+use Rattle.std.proofs.Common.{ap, ◌∙◌, subst, subst₂, if◌then◌else◌, slice_get, slice_set, slice_index}
+use Rattle.std.proofs.Common.{append-nil}
 use Rattle.lw_base.specs.Threads.{code_of, value_of}
 use Rattle.lw_base.specs.declared.event.Event.{Event}
 use Rattle.lw_base.specs.declared.event.Event.TheVariants.{Step, Drain}
 use Rattle.lw_litmus.specs.declared.instr.Instr.{Instr}
 use Rattle.lw_litmus.specs.declared.stmt.Stmt.{Stmt}
 use Rattle.lw_litmus.specs.Operations.{is_store}
-use Rattle.lw_litmus.specs.Programs as programs
 use Rattle.lw_litmus.specs.Sources.{source_operation}
 use Rattle.lw_interleaving.specs.declared.thread.Thread.{Thread}
 use Rattle.lw_interleaving.specs.Statements.{thread_after, words_after}
@@ -24,6 +23,7 @@ use Rattle.lw_fence.proofs.Carried.{Stored, apart, buffered, at_once, Carried, S
 use Rattle.lw_fence.proofs.Moves.{Moves, moves_on, step_moves, drain_moves}
 use Rattle.lw_fence.proofs.Placed.{StandsAt, Stands}
 use Rattle.lw_fence.proofs.Steps.{Allowed}
+use Rattle.lw_litmus.specs.Programs as programs
 
 -- An instruction can be carried out where the buffer is empty.
 possible : (m : List ℕ) (i : Instr) (p : Processor) → p.buffer ≡ [] → (q : Processor) × (n : List ℕ) × Does m (step_act (Some i) p) q n

@@ -1,6 +1,6 @@
 -- What the threads of a well-formed source keep, step by step.
-use Rattle.std.proofs.Common.{◌≡◌, ℕ, ◌<◌, ◌≤◌, List, [], length, Some, None, refl, ap, ◌∙◌, subst, ⊎_elim, arith, length-set}
-use Rattle.std.specs.Prelude.{All, slice_get, slice_index_or}
+use Rattle.std.proofs.Common.{◌≡◌, ℕ, ◌<◌, ◌≤◌, List, [], length, Some, refl, ap, ◌∙◌, subst, ⊎_elim, arith}
+use Rattle.std.proofs.Common.{length-set, All, slice_get, slice_index_or}
 use Rattle.std.specs.Option.{ForSome}
 use Rattle.std.proofs.lemmas.Bool.{cases_lt}
 use Rattle.std.proofs.lemmas.List.{get_or_past}
@@ -49,9 +49,8 @@ registers_kept (Set d v) th m = length-set th.regs d _
 registers_kept (Sum d a v) th m = length-set th.regs d _
 registers_kept (Load d x) th m = length-set th.regs d _
 registers_kept (Swap d x a) th m = length-set th.regs d _
-registers_kept (FetchAdd None x v) th m = refl
 registers_kept (FetchAdd (Some d) x v) th m = length-set th.regs d _
-registers_kept o th m = refl
+registers_kept _ th m = refl
 
 pub stays_sane : (code : List Stmt) (th : Thread) (m : List ℕ) (x : Stmt) → Allowed code th.position x → slice_get code th.position ≡ Some x
     → Sane code th → Sane code (thread_after (source_operation x) th m)

@@ -1,7 +1,6 @@
 -- What is gathered from all choices of a test is its complete list, in either language.
 use Rattle.std.proofs.Common.{◌≡◌, ℕ, inl, inr, List, [], ◌∷◌, length, Result, Ok, Err, refl, sym, ap, subst}
-use Rattle.std.specs.Result.{IfOk, OnOk}
-use Rattle.std.specs.Prelude.{All, Contains, ◌↔◌}
+use Rattle.std.proofs.Common.{IfOk, OnOk, All, Contains, ◌↔◌}
 use Rattle.std.proofs.lemmas.Bool.{cases_lt}
 use Rattle.std.proofs.lemmas.List.Elements.{All-nil, All-contains, All-weaker, Contains-append_right}
 use Rattle.lw_base.specs.Entries.{IsEntryOf}
@@ -19,7 +18,6 @@ use Rattle.lw_base.specs.declared.event.Event.TheVariants.{Step, Drain, Evict}
 use Rattle.lw_litmus.specs.Languages.{Language}
 use Rattle.lw_litmus.specs.Tests.{Test, ProgramTest}
 use Rattle.lw_litmus.specs.WellFormed.{IsThread, IsWellFormed}
-use Rattle.lw_orders.specs.Order as orders
 use Rattle.lw_orders.specs.Order.{Constraints, IsLinearExtension, Alike, ExactlyOne}
 use Rattle.lw_orders.specs.Limits.{most_items}
 use Rattle.lw_orders.specs.Sequence.{orders}
@@ -37,6 +35,7 @@ use Rattle.lw_finals.specs.X86Runs.{LeadsFlat}
 use Rattle.lw_finals.specs.inner.Gathered.{Gathers, EndsOfProgram}
 use Rattle.lw_finals.specs.inner.Listed.{AreComplete, AreFlat, IsComplete}
 use Rattle.lw_finals.proofs.Ordered.{OfChoice}
+use Rattle.lw_orders.specs.Order as orders
 
 -- what is known where there is an answer is known of it
 known_too : {T E : Type 0} (r : Result T E) (P R : T → Type 0) (Q : Type 0) → ((x : T) → P x → Q → R x) → IfOk r P → OnOk r Q → IfOk r R

@@ -1,6 +1,6 @@
 -- A run of an order of items, one item further.
-use Rattle.std.proofs.Common.{◌≡◌, ℕ, suc, ◌+◌, ◌<◌, ◌≤◌, false, List, ◌∷◌, length, drop, Some, refl, sym, ap, ◌∙◌, subst, arith, get_or, drop-cons}
-use Rattle.std.specs.Prelude.{IsTrue}
+use Rattle.std.proofs.Common.{◌≡◌, ℕ, suc, ◌+◌, ◌<◌, ◌≤◌, false, List, ◌∷◌, length, drop, Some, refl, sym, ap}
+use Rattle.std.proofs.Common.{◌∙◌, subst, arith, get_or, drop-cons, IsTrue}
 use Rattle.std.proofs.lemmas.List.{drop_all}
 use Rattle.std.proofs.lemmas.Option.{slice_get-get_or, get_or_from_slice_get}
 use Rattle.lw_base.specs.Outcomes.{Final}

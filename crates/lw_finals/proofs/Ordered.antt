@@ -1,8 +1,8 @@
 -- The order of the items that a run of a program to its end carries out, in either language: each item of the paths stands there
 -- once, and the fixed pairs are kept. So what the run ends with is an outcome of a choice of paths.
-use Rattle.std.proofs.Common.{◌≡◌, ℕ, zero, suc, ◌+◌, ◌<◌, inl, inr, List, [], ◌∷◌, map, length, Option, Some, Bool, true, false, Result, refl, sym, ap, ◌∙◌}
-use Rattle.std.proofs.Common.{subst, arith, slice_get}
-use Rattle.std.specs.Prelude.{All, Contains, IsTrue}
+use Rattle.std.proofs.Common.{◌≡◌, ℕ, zero, suc, ◌+◌, ◌<◌, inl, inr, List, [], ◌∷◌, map, length, Option, Some}
+use Rattle.std.proofs.Common.{Bool, true, false, Result, refl, sym, ap, ◌∙◌, subst, arith, slice_get, All}
+use Rattle.std.proofs.Common.{Contains, IsTrue}
 use Rattle.std.proofs.lemmas.Bool.{cases_eq, cases_lt, cases_order, cases_Bool}
 use Rattle.std.proofs.lemmas.Option.{none-some}
 use Rattle.std.proofs.lemmas.List.Elements.{All-nil, All-cons, All-head, All-tail, All-weaker}
@@ -21,7 +21,8 @@ use Rattle.lw_choices.specs.declared.item.Item.{Item}
 use Rattle.lw_choices.specs.Items.{item_at, items_of, constraints_of}
 use Rattle.lw_choices.proofs.api.FixedOrder.{AreOrdered, keeps_all}
 use Rattle.lw_choices.proofs.api.Members.{none_in, Contains-cons, from_map}
-use Rattle.lw_choices.proofs.api.Numbering.{In, Pairwise, Has, item, item_there, IsReal, as_many, real, slot_goes_up, same_number}
+use Rattle.lw_choices.proofs.api.Numbering.{In, Pairwise, Has, item, item_there, IsReal, as_many, real}
+use Rattle.lw_choices.proofs.api.Numbering.{slot_goes_up, same_number}
 use Rattle.lw_finals.specs.OrderRuns.{System, ItemsRan, ChoiceOutcome}
 use Rattle.lw_finals.proofs.Taken.{IsRight, IsAhead, Completed, Runs, completed}
 

@@ -1,7 +1,5 @@
 -- The complete list of a source test.
-use Rattle.std.proofs.Common.{ℕ, List, [], length, Result, subst}
-use Rattle.std.specs.Result.{IfOk, OnOk}
-use Rattle.std.specs.Prelude.{All, ◌↔◌}
+use Rattle.std.proofs.Common.{ℕ, List, [], length, Result, subst, IfOk, OnOk, All, ◌↔◌}
 use Rattle.std.specs.List.{AllByRecursion}
 use Rattle.std.proofs.lemmas.List.Elements.{All-weaker}
 use Rattle.lw_base.specs.Entries.{IsEntryOf}

@@ -1,6 +1,6 @@
 -- The schedules that orders of a source test's items stand for: they lead to the orders' outcomes.
-use Rattle.std.proofs.Common.{◌≡◌, ◌<◌, length, ℕ, subst, Result, List, [], ◌∷◌, ◌++◌, refl, sym, ap, ap₂, ◌∙◌}
-use Rattle.std.specs.Prelude.{All, slice_get}
+use Rattle.std.proofs.Common.{◌≡◌, ◌<◌, length, ℕ, subst, Result, List, [], ◌∷◌, ◌++◌, refl, sym, ap, ap₂}
+use Rattle.std.proofs.Common.{◌∙◌, All, slice_get}
 use Rattle.std.proofs.lemmas.List.Elements.{All-nil, All-cons}
 use Rattle.std.proofs.lemmas.Option.{slice_get_within, same_Some}
 use Rattle.lw_base.proofs.api.SideBySide.{got_map}

@@ -1,10 +1,11 @@
 -- The paths that the threads of a program take in a run to the end, in either language, and the items that it carries out. Of a test
 -- is asked that each event carries out an item.
-use Rattle.std.proofs.Common.{◌≡◌, ◌≢◌, ℕ, suc, ◌<◌, ◌≤◌, ◌==◌, if◌then◌else◌, ◌⊎◌, inl, inr, ⊎_elim, List, [], ◌∷◌, map, length, Option, Some, Bool, true}
-use Rattle.std.proofs.Common.{false, Result, Ok, refl, sym, ap, ◌∙◌, subst, arith, slice_get}
-use Rattle.std.specs.Prelude.{All, Contains, IsTrue}
-use Rattle.std.specs.Option.{option_map, option_map_or}
-use Rattle.std.proofs.lemmas.Bool.{true≢false, cases_eq, cases_Bool, eq-eqb, ne_eqb, cond-true, cond-false}
+use Rattle.std.proofs.Common.{◌≡◌, ◌≢◌, ℕ, suc, ◌<◌, ◌≤◌, ◌==◌, if◌then◌else◌, ◌⊎◌, inl, inr, ⊎_elim, List}
+use Rattle.std.proofs.Common.{[], ◌∷◌, map, length, Option, Some, Bool, true, false, Result, Ok, refl, sym}
+use Rattle.std.proofs.Common.{ap, ◌∙◌, subst, arith, slice_get, All, Contains, IsTrue, option_map, true≢false}
+use Rattle.std.proofs.Common.{eq-eqb, ne_eqb}
+use Rattle.std.specs.Option.{option_map_or}
+use Rattle.std.proofs.lemmas.Bool.{cases_eq, cases_Bool, cond-true, cond-false}
 use Rattle.std.proofs.lemmas.Option.{same_Some, slice_get-map}
 use Rattle.std.proofs.lemmas.List.Elements.{All-nil, All-cons, All-weaker}
 use Rattle.lw_base.specs.Replays.{Ran}
@@ -21,9 +22,11 @@ use Rattle.lw_choices.specs.Items.{drains, statement_waits}
 use Rattle.lw_choices.proofs.api.Led.{follows_within}
 use Rattle.lw_choices.proofs.api.Members.{Contains-here, Contains-there}
 use Rattle.lw_choices.proofs.api.FixedOrder.{AreOrdered}
-use Rattle.lw_choices.proofs.api.Numbering.{In, Pairwise, IsStoring, item, slot, slot_less, store_slot, GoesUp, goes_up_in, path_up}
+use Rattle.lw_choices.proofs.api.Numbering.{In, Pairwise, IsStoring, item, slot, slot_less, store_slot}
+use Rattle.lw_choices.proofs.api.Numbering.{GoesUp, goes_up_in, path_up}
 use Rattle.lw_finals.specs.OrderRuns.{System, ItemsRan}
-use Rattle.lw_finals.proofs.Waiting.{Climbs, climbs_in, stored, waits_after, from_after, in_after, store_after}
+use Rattle.lw_finals.proofs.Waiting.{Climbs, climbs_in, stored, waits_after, from_after, in_after}
+use Rattle.lw_finals.proofs.Waiting.{store_after}
 
 -- positions at the start
 module _ {X Y : Type 0} (starting : X → Y) (position : Y → ℕ) (at_first : (x : X) → position (starting x) ≡ 0) (xs : List X) where

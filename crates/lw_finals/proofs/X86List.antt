@@ -1,6 +1,5 @@
 -- The complete list of an x86 test.
-use Rattle.std.proofs.Common.{[], Result}
-use Rattle.std.specs.Result.{IfOk, OnOk}
+use Rattle.std.proofs.Common.{[], Result, IfOk, OnOk}
 use Rattle.lw_memory.specs.Flat.{flat}
 use Rattle.lw_litmus.specs.Programs.{x86}
 use Rattle.lw_litmus.specs.WellFormedTests.{IsWellFormedProgram}

@@ -1,9 +1,8 @@
 -- The outcomes over flat memory of the orders of all choices of paths are exactly the outcomes of an x86 test.
-use Rattle.std.proofs.Common.{◌≡◌, ℕ, ◌≤◌, ◌==◌, List, [], ◌∷◌, length, Option, Some, None, Bool, true, false, Ok, refl, sym, ap, ◌∙◌, subst, arith, slice_get}
-use Rattle.std.proofs.Common.{length-set}
-use Rattle.std.specs.Prelude.{◌↔◌, IsTrue, nat_le}
-use Rattle.std.specs.Option.{option_map}
-use Rattle.std.proofs.lemmas.Bool.{true≢false, and_parts, leb-true, eqb-true}
+use Rattle.std.proofs.Common.{◌≡◌, ℕ, ◌≤◌, ◌==◌, List, [], ◌∷◌, length, Option, Some, None, Bool, true, false}
+use Rattle.std.proofs.Common.{Ok, refl, sym, ap, ◌∙◌, subst, arith, slice_get, length-set, ◌↔◌, IsTrue}
+use Rattle.std.proofs.Common.{nat_le, option_map, true≢false, leb-true, eqb-true}
+use Rattle.std.proofs.lemmas.Bool.{and_parts}
 use Rattle.std.proofs.lemmas.List.{length-map, nil_from_length}
 use Rattle.std.proofs.lemmas.Option.{slice_get-map, slice_get_within}
 use Rattle.lw_base.specs.Outcomes.{Final}
@@ -34,7 +33,8 @@ use Rattle.lw_finals.specs.X86Runs.{events_of, CarriedOut, system_of, StaysAndEn
 use Rattle.lw_finals.proofs.Ordered.{run_of_choice}
 use Rattle.lw_finals.proofs.Taken.{One, Runs, starts, at_start}
 use Rattle.lw_finals.proofs.Waiting.{stored}
-use Rattle.lw_finals.proofs.X86Waiting.{Carried, carried, went, DrainShape, drain_shape, Waits, no_waits, Holds, AllHold, all_hold, hold_first}
+use Rattle.lw_finals.proofs.X86Waiting.{Carried, carried, went, DrainShape, drain_shape, Waits, no_waits}
+use Rattle.lw_finals.proofs.X86Waiting.{Holds, AllHold, all_hold, hold_first}
 
 -- the oldest entry is of the store that has waited longest
 oldest : (code : List Instr) (ws : List ℕ) (e : ℕ × ℕ) (newer : List (ℕ × ℕ)) → Waits code ws (e ∷ newer)

@@ -1,6 +1,6 @@
 -- What has been done, and which stores wait, after a part of an order of an x86 test's items that keeps the fixed pairs.
-use Rattle.std.proofs.Common.{◌≡◌, ℕ, suc, ◌<◌, ◌≤◌, Bool, true, false, true≢false, List, [], ◌∷◌, length, Some, refl, sym, ap, ap₂, ◌∙◌, subst, inl, inr}
-use Rattle.std.proofs.Common.{arith, slice_get}
+use Rattle.std.proofs.Common.{◌≡◌, ℕ, suc, ◌<◌, ◌≤◌, Bool, true, false, true≢false, List, [], ◌∷◌, length}
+use Rattle.std.proofs.Common.{Some, refl, sym, ap, ap₂, ◌∙◌, subst, inl, inr, arith, slice_get}
 use Rattle.std.proofs.lemmas.Bool.{cases_lt}
 use Rattle.lw_base.specs.Threads.{code_of}
 use Rattle.lw_orders.specs.Order.{place, Before, IsLinearExtension}
@@ -11,8 +11,10 @@ use Rattle.lw_choices.specs.Choices.{IsForward, IsChoice}
 use Rattle.lw_choices.specs.declared.item.Item.{Item}
 use Rattle.lw_choices.specs.Items.{item_at, items_of, statement_of, constraints_of}
 use Rattle.lw_choices.proofs.api.FixedOrder.{AreOrdered, kept}
-use Rattle.lw_choices.proofs.api.Numbering.{In, Has, item, slot, slot_less, store_slot, real, threads_up, number_less, same_number, beside}
-use Rattle.lw_finals.proofs.Waiting.{Climbs, climbs_in, stored, waits_after, from_after, in_after, store_after}
+use Rattle.lw_choices.proofs.api.Numbering.{In, Has, item, slot, slot_less, store_slot, real, threads_up}
+use Rattle.lw_choices.proofs.api.Numbering.{number_less, same_number, beside}
+use Rattle.lw_finals.proofs.Waiting.{Climbs, climbs_in, stored, waits_after, from_after, in_after}
+use Rattle.lw_finals.proofs.Waiting.{store_after}
 
 module _ (program : List (List Instr)) (forward : (t : ℕ) → IsForward x86 (code_of program t)) (paths : List (List ℕ))
     (choice : IsChoice x86 program paths) where

@@ -1,9 +1,7 @@
 -- Runs of the orders of an x86 test's items over any memory, seen over the flat one; and their events, which lead where they do.
-use Rattle.std.proofs.Common.{◌≡◌, ℕ, ◌+◌, ◌<◌, ◌≤◌, Bool, true, false, List, [], ◌∷◌, ◌++◌, length, get_or, Some, ◌↔◌, ◌==◌, Ok, Err, refl, sym, ap, ◌∙◌}
-use Rattle.std.proofs.Common.{subst}
-use Rattle.std.specs.Prelude.{IsTrue}
+use Rattle.std.proofs.Common.{◌≡◌, ℕ, ◌+◌, ◌<◌, ◌≤◌, Bool, true, false, List, [], ◌∷◌, ◌++◌, length, get_or}
+use Rattle.std.proofs.Common.{Some, ◌↔◌, ◌==◌, Ok, Err, refl, sym, ap, ◌∙◌, subst, IsTrue, eqb-true, eq-eqb}
 use Rattle.lw_base.proofs.api.Replays.{Ran-append}
-use Rattle.std.proofs.lemmas.Bool.{eqb-true, eq-eqb}
 use Rattle.std.proofs.lemmas.Option.{same_Some}
 use Rattle.lw_base.specs.Outcomes.{Final}
 use Rattle.lw_base.specs.declared.event.Event.{Event}

@@ -1,12 +1,11 @@
 -- Two neighbouring items of an x86 test's order that neither conflict nor are fixed are independent events.
-use Rattle.std.proofs.Common.{◌≡◌, ◌≢◌, ℕ, ◌<◌, Bool, true, false, List, [], ◌∷◌, length, Option, Some, None, refl, sym, ap, ◌∙◌, subst, inl, arith, slice_get}
-use Rattle.std.specs.Prelude.{◌||◌, if◌then◌else◌}
-use Rattle.std.proofs.lemmas.Bool.{cond-false, eq-eqb, and_from, or_left, or_right, false_from_ne_true}
+use Rattle.std.proofs.Common.{◌≡◌, ◌≢◌, ℕ, ◌<◌, Bool, true, false, List, [], ◌∷◌, length, Option, Some, None}
+use Rattle.std.proofs.Common.{refl, sym, ap, ◌∙◌, subst, inl, arith, slice_get, ◌||◌, if◌then◌else◌, eq-eqb}
+use Rattle.std.proofs.lemmas.Bool.{cond-false, and_from, or_left, or_right, false_from_ne_true}
 use Rattle.std.proofs.lemmas.Option.{same_Some, none-some}
 use Rattle.lw_base.specs.Threads.{code_of}
 use Rattle.lw_base.proofs.api.Lists.{got_set_same, got_set_other}
 use Rattle.lw_tso.specs.Acts.{cpu_of, event_act, operation_act, step_act, drain_act}
-use Rattle.lw_tso.specs.Exchange as machine
 use Rattle.lw_tso.specs.Exchange.{DoNotConflict, MayPass, MayPassOldest, ArePassing, AreIndependent}
 use Rattle.lw_tso.specs.Machines.{MachineState}
 use Rattle.lw_tso.specs.Processors.{Processor}
@@ -21,7 +20,9 @@ use Rattle.lw_choices.specs.declared.item.Item.{Item}
 use Rattle.lw_choices.specs.Items.{drains, statement_of, location_by, writes_by, conflict_by, items_conflict}
 use Rattle.lw_finals.specs.X86Runs.{event_by, event_of}
 use Rattle.lw_finals.proofs.Waiting.{Climbs, climbs_in, own_waits, stored, waits_after, waits_same}
-use Rattle.lw_finals.proofs.X86Waiting.{act_by, Carried, CarriedItem, went, DrainShape, drain_shape, Waits, AllHold}
+use Rattle.lw_finals.proofs.X86Waiting.{act_by, Carried, CarriedItem, went, DrainShape, drain_shape, Waits}
+use Rattle.lw_finals.proofs.X86Waiting.{AllHold}
+use Rattle.lw_tso.specs.Exchange as machine
 
 -- ---- what an item that is carried out accesses
 
@@ -107,8 +108,6 @@ module _ (program : List (List Instr)) (W : ℕ → List ℕ) (s m1 m2 : Machine
       → (b ≡ true → (rest : List ℕ) × (W t ≡ j ∷ rest)) → (c ≡ true → (rest : List ℕ) × (own_waits b o j (W t) ≡ k ∷ rest))
       → (conflict_by x86 b c (Some i) (Some h) ≡ true → ⊥) → Unfixed b c h j k
       → (x : Carried program t j b s m1) → Carried program t k c m1 m2 → ArePassing program (event_by b t) (event_by c t) x.old
-  passing t j k i h o false false ati ath headx heady never free x y = absurd (free.unlike refl)
-  passing t j k i h o true true ati ath headx heady never free x y = absurd (free.unlike refl)
   passing t j k i h o false true ati ath headx heady never free x y =
       let here : slice_get (code_of program t) x.old.position ≡ Some i = ap (λ n. slice_get (code_of program t) n) (x.stands refl) ∙ ati in
       let shape : Went (x86_operation i) x.old x.new = went program t j i s m1 x ati in
@@ -137,6 +136,7 @@ module _ (program : List (List Instr)) (W : ℕ → List ℕ) (s m1 m2 : Machine
           let same : x.new ≡ y.old = same_Some x.new y.old
           (sym (ap (λ (z : MachineState (List ℕ)). slice_get z.processors t) x.is ∙ got_set_same s.processors t x.new x.old x.was) ∙ y.was) in
           ap (λ (z : Processor). z.position) (sym d.is) ∙ (ap (λ (z : Processor). z.position) same ∙ y.stands refl)
+  passing t j k i h o _ _ ati ath headx heady never free x y = absurd (free.unlike refl)
 
   -- of two threads
   apart : (t u j k : ℕ) (i h : Instr) (b c : Bool) (V : ℕ → List ℕ) → t ≢ u → slice_get

@@ -1,8 +1,8 @@
 -- Which stores of a thread wait in its store buffer, by their positions, along a run of items of an x86 test.
-use Rattle.std.proofs.Common.{◌≡◌, ℕ, Bool, true, false, if◌then◌else◌, List, [], ◌∷◌, ◌++◌, map, Option, Some, None, refl, sym, ap, ◌∙◌, subst, inl, inr}
-use Rattle.std.proofs.Common.{arith, slice_get, slice_set}
-use Rattle.std.specs.Option.{option_map}
-use Rattle.std.proofs.lemmas.Bool.{cases_eq, true≢false, cond-true, cond-false}
+use Rattle.std.proofs.Common.{◌≡◌, ℕ, Bool, true, false, if◌then◌else◌, List, [], ◌∷◌, ◌++◌, map, Option}
+use Rattle.std.proofs.Common.{Some, None, refl, sym, ap, ◌∙◌, subst, inl, inr, arith, slice_get, slice_set}
+use Rattle.std.proofs.Common.{option_map, true≢false}
+use Rattle.std.proofs.lemmas.Bool.{cases_eq, cond-true, cond-false}
 use Rattle.std.proofs.lemmas.Option.{same_Some, slice_get-map}
 use Rattle.lw_base.specs.Threads.{code_of}
 use Rattle.lw_base.proofs.api.Lists.{got_set_same, got_set_other}
@@ -27,7 +27,8 @@ use Rattle.lw_choices.specs.Items.{drains, statement_of}
 use Rattle.lw_choices.proofs.api.Led.{follows_within}
 use Rattle.lw_choices.proofs.api.Numbering.{In}
 use Rattle.lw_finals.specs.X86Runs.{event_by}
-use Rattle.lw_finals.proofs.Waiting.{Climbs, own_waits, own_climbs, stored, waits_after, waits_same, waits_other}
+use Rattle.lw_finals.proofs.Waiting.{Climbs, own_waits, own_climbs, stored, waits_after, waits_same}
+use Rattle.lw_finals.proofs.Waiting.{waits_other}
 
 -- ---- what an item did
 
@@ -89,9 +90,8 @@ drain_shape p q m n d = drain_cases p.buffer p q m n refl d
 -- the buffer has the entries of the stores at these positions
 abbrev pub Waits : List Instr → List ℕ → List (ℕ × ℕ) → Type 0
 Waits code [] [] = Unit {0}
-Waits code [] (e ∷ b) = ⊥
-Waits code (w ∷ ws) [] = ⊥
 Waits code (w ∷ ws) (e ∷ b) = (stored x86 (slice_get code w) ≡ Some e.0) × Waits code ws b
+Waits code _ _ = ⊥
 
 pub no_waits : (code : List Instr) (ws : List ℕ) → Waits code ws [] → (j : ℕ) → In j ws → ⊥
 no_waits code [] h j g = g
@@ -100,9 +100,8 @@ no_waits code (w ∷ ws) h j g = h
 waits_pushed : (code : List Instr) (ws : List ℕ) (b : List (ℕ × ℕ)) (j x w : ℕ)
     → Waits code ws b → stored x86 (slice_get code j) ≡ Some x → Waits code (ws ++ j ∷ []) (b ++ (x, w) ∷ [])
 waits_pushed code [] [] j x w h e = (e, tt)
-waits_pushed code [] (f ∷ b) j x w h e = absurd h
-waits_pushed code (u ∷ ws) [] j x w h e = absurd h
 waits_pushed code (u ∷ ws) (f ∷ b) j x w h e = (h.0, waits_pushed code ws b j x w h.1 e)
+waits_pushed code _ _ j x w h e = absurd h
 
 -- the location of the entry that an operation makes
 abbrev pub entered : Operation → Option ℕ

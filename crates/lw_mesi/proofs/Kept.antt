@@ -1,11 +1,12 @@
 -- Caches go on keeping their protocol, line by line.
-use Rattle.std.proofs.Common.{◌≡◌, ℕ, suc, zero, ◌<◌, ◌≤◌, List, [], ◌∷◌, length, set, get_or, Result, Ok, Err, is_ok, OnOk, OnErr, refl, sym, ap, ◌∙◌, subst}
-use Rattle.std.proofs.Common.{arith, length-set}
+use Rattle.std.proofs.Common.{◌≡◌, ℕ, suc, zero, ◌<◌, ◌≤◌, List, [], ◌∷◌, length, set, get_or, Result, Ok}
+use Rattle.std.proofs.Common.{Err, is_ok, OnOk, OnErr, refl, sym, ap, ◌∙◌, subst, arith, length-set}
 use Rattle.std.proofs.lemmas.List.{length-map}
 use Rattle.lw_base.specs.Limits.{most_threads, most_locations}
 use Rattle.lw_memory.specs.Memory.{is_held}
 use Rattle.lw_mesi.specs.declared.protocol.Protocol.{Protocol}
-use Rattle.lw_mesi.specs.CacheLines.{CacheLine, Caches, unheld_line, copy_of, letter_of, line_at, content_of, contents_of}
+use Rattle.lw_mesi.specs.CacheLines.{CacheLine, Caches, unheld_line, copy_of, letter_of, line_at, content_of}
+use Rattle.lw_mesi.specs.CacheLines.{contents_of}
 use Rattle.lw_mesi.specs.Snooping.{line_evicted}
 use Rattle.lw_mesi.specs.Coherence.{IsKeptLine, IsKept}
 use Rattle.lw_mesi.specs.laws.ProtocolLaws.{set_kept, kept_line, evict_kept}

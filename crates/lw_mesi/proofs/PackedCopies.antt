@@ -1,13 +1,14 @@
 -- What each processor's copy is in a packed line, and what all of them are together: its content, and whether some cache holds it.
-use Rattle.std.proofs.Common.{◌≡◌, ℕ, zero, suc, ◌<◌, Option, Some, None, Bool, true, false, inl, inr, List, [], ◌∷◌, refl, sym, ap}
-use Rattle.std.proofs.Common.{ap₂, ◌∙◌, subst, arith}
-use Rattle.std.specs.Prelude.{if◌then◌else◌, slice_index_or}
-use Rattle.std.proofs.lemmas.Bool.{cases_lt, or_left, or_right, eqb-true, eq-eqb}
+use Rattle.std.proofs.Common.{◌≡◌, ℕ, zero, suc, ◌<◌, Option, Some, None, Bool, true, false, inl, inr, List}
+use Rattle.std.proofs.Common.{[], ◌∷◌, refl, sym, ap, ap₂, ◌∙◌, subst, arith, if◌then◌else◌, slice_index_or}
+use Rattle.std.proofs.Common.{eqb-true, eq-eqb}
+use Rattle.std.proofs.lemmas.Bool.{cases_lt, or_left, or_right}
 use Rattle.std.proofs.lemmas.List.{get_or_past}
 use Rattle.lw_base.specs.Limits.{most_threads}
 use Rattle.lw_memory.specs.declared.system.LineState.TheVariants.{S}
 use Rattle.lw_memory.specs.Memory.{is_held}
-use Rattle.lw_mesi.specs.CacheLines.{Copy, Owned, Shared, Invalid, CacheLine, copy_of, letter_of, copy_word, content_of}
+use Rattle.lw_mesi.specs.CacheLines.{Copy, Owned, Shared, Invalid, CacheLine, copy_of, letter_of, copy_word}
+use Rattle.lw_mesi.specs.CacheLines.{content_of}
 use Rattle.lw_mesi.specs.inner.Places.{is_owner}
 use Rattle.lw_mesi.specs.Snooping.{any_held}
 use Rattle.lw_mesi.specs.Coherence.{IsOnlyCopy, IsDirty}

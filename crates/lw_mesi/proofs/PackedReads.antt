@@ -1,8 +1,9 @@
 -- What a GetS leaves of a packed line.
-use Rattle.std.proofs.Common.{◌≡◌, ◌≢◌, ℕ, suc, ◌<◌, Option, Some, None, Bool, true, false, inl, inr, List, [], ◌∷◌, length, map, set, refl, sym, ap}
-use Rattle.std.proofs.Common.{ap₂, ◌∙◌, subst, arith, length-set, get_or-set_same, get_or-set_other}
-use Rattle.std.specs.Prelude.{◌==◌, slice_index_or}
-use Rattle.std.proofs.lemmas.Bool.{cases_lt, or_from, eqb-true, eqb-false, eq-eqb, ne_eqb, true_from_ne_false}
+use Rattle.std.proofs.Common.{◌≡◌, ◌≢◌, ℕ, suc, ◌<◌, Option, Some, None, Bool, true, false, inl, inr, List}
+use Rattle.std.proofs.Common.{[], ◌∷◌, length, map, set, refl, sym, ap, ap₂, ◌∙◌, subst, arith, length-set}
+use Rattle.std.proofs.Common.{get_or-set_same, get_or-set_other, ◌==◌, slice_index_or, eqb-true, eq-eqb}
+use Rattle.std.proofs.Common.{ne_eqb}
+use Rattle.std.proofs.lemmas.Bool.{cases_lt, or_from, eqb-false, true_from_ne_false}
 use Rattle.std.proofs.lemmas.List.{length-map, get_or_past}
 use Rattle.std.proofs.lemmas.List.FromFn.{fill_by_all}
 use Rattle.lw_base.specs.Limits.{most_threads}
@@ -19,7 +20,8 @@ use Rattle.lw_mesi.specs.laws.Rows.{none_held, from_word}
 use Rattle.lw_mesi.specs.declared.cache_line.PackedCacheLine.TheInside.{Inside}
 use Rattle.lw_mesi.specs.inner.Packed.{IsPacked, sharer_copy, copy_at, unpacked}
 use Rattle.lw_mesi.proofs.PlaceLemmas.{at_each_long, at_each_get, at_each_put}
-use Rattle.lw_mesi.proofs.PackedCopies.{copy_by, copy_there, sharer_is, owned_at, content_is, held_by, line_of, not_owner}
+use Rattle.lw_mesi.proofs.PackedCopies.{copy_by, copy_there, sharer_is, owned_at, content_is, held_by}
+use Rattle.lw_mesi.proofs.PackedCopies.{line_of, not_owner}
 
 -- ---- one processor's copy
 

@@ -1,12 +1,12 @@
 -- What a write and an eviction leave of a packed line.
-use Rattle.std.proofs.Common.{◌≡◌, ◌≢◌, ◌⊎◌, ℕ, ◌<◌, Option, Some, None, Bool, true, false, inl, inr, List, length, map, set, refl, sym, ap}
-use Rattle.std.proofs.Common.{ap₂, ◌∙◌, subst, arith, length-set, get_or-set_same, get_or-set_other}
-use Rattle.std.specs.Prelude.{slice_index_or}
-use Rattle.std.proofs.lemmas.Bool.{eq-eqb, ne_eqb}
+use Rattle.std.proofs.Common.{◌≡◌, ◌≢◌, ◌⊎◌, ℕ, ◌<◌, Option, Some, None, Bool, true, false, inl, inr, List}
+use Rattle.std.proofs.Common.{length, map, set, refl, sym, ap, ap₂, ◌∙◌, subst, arith, length-set}
+use Rattle.std.proofs.Common.{get_or-set_same, get_or-set_other, slice_index_or, eq-eqb, ne_eqb}
 use Rattle.std.proofs.lemmas.List.{length-map}
 use Rattle.lw_base.specs.Limits.{most_threads}
 use Rattle.lw_memory.specs.declared.system.LineState.TheVariants.{M, O, E, S}
-use Rattle.lw_mesi.specs.CacheLines.{Copy, Modified, Owned, Exclusive, Shared, Invalid, CacheLine, copy_of, letter_of, copy_word, content_of}
+use Rattle.lw_mesi.specs.CacheLines.{Copy, Modified, Owned, Exclusive, Shared, Invalid, CacheLine, copy_of}
+use Rattle.lw_mesi.specs.CacheLines.{letter_of, copy_word, content_of}
 use Rattle.lw_mesi.specs.inner.Places.{nobody, is_owner}
 use Rattle.lw_mesi.specs.Snooping.{line_to_write, on_write, line_written, on_evict, line_evicted}
 use Rattle.lw_mesi.specs.Coherence.{IsOnlyCopy}
@@ -14,7 +14,8 @@ use Rattle.lw_mesi.specs.laws.Coherent.{copy_in, copy_map, put_here, put_there}
 use Rattle.lw_mesi.specs.declared.cache_line.PackedCacheLine.TheInside.{Inside}
 use Rattle.lw_mesi.specs.inner.Packed.{IsPacked, sharer_copy, copy_at, unpacked}
 use Rattle.lw_mesi.proofs.PlaceLemmas.{at_each_long, at_each_get, at_each_put}
-use Rattle.lw_mesi.proofs.PackedCopies.{copy_by, copy_there, own_is, not_shared, only_owner, has_word, content_is, line_of}
+use Rattle.lw_mesi.proofs.PackedCopies.{copy_by, copy_there, own_is, not_shared, only_owner, has_word}
+use Rattle.lw_mesi.proofs.PackedCopies.{content_is, line_of}
 
 -- A writer is the one holder, in M.
 abbrev one_holder : ℕ → ℕ → ℕ → Inside
@@ -33,10 +34,8 @@ no_other p t u ok only within ne =
 -- The line into which a writer puts its word: as many copies, memory the same, and nobody else has a copy.
 write_long : (c : Copy) (t : ℕ) (line : CacheLine) → length (on_write c t line).copies ≡ length line.copies
 write_long (Modified v) t line = refl
-write_long (Owned v) t line = length-set (map (λ c. Invalid) line.copies) t (Modified (content_of line)) ∙ length-map line.copies (λ c. Invalid)
 write_long (Exclusive v) t line = refl
-write_long (Shared v) t line = length-set (map (λ c. Invalid) line.copies) t (Modified (content_of line)) ∙ length-map line.copies (λ c. Invalid)
-write_long Invalid t line = length-set (map (λ c. Invalid) line.copies) t (Modified (content_of line)) ∙ length-map line.copies (λ c. Invalid)
+write_long _ t line = length-set (map (λ c. Invalid) line.copies) t (Modified (content_of line)) ∙ length-map line.copies (λ c. Invalid)
 
 write_memory : (c : Copy) (t : ℕ) (line : CacheLine) → (on_write c t line).memory ≡ line.memory
 write_memory (Modified v) t line = refl
@@ -57,10 +56,8 @@ module _ (p : Inside) (t : ℕ) (ok : IsPacked p) (lt : t < most_threads) where
 
   write_others : (c : Copy) → copy_of (unpacked p) t ≡ c → (u : ℕ) → u < most_threads → u ≢ t → copy_of (on_write c t (unpacked p)) u ≡ Invalid
   write_others (Modified v) e u within ne = kept_alone (Modified v) e tt u within ne
-  write_others (Owned v) e u within ne = given_up u ne
   write_others (Exclusive v) e u within ne = kept_alone (Exclusive v) e tt u within ne
-  write_others (Shared v) e u within ne = given_up u ne
-  write_others Invalid e u within ne = given_up u ne
+  write_others _ e u within ne = given_up u ne
 
 -- A writer finds the line's word.
 pub write_word : (p : Inside) (t : ℕ) → IsPacked p → t < most_threads → Some p.word ≡ copy_word (copy_of (line_to_write t (unpacked p)) t)
@@ -86,10 +83,8 @@ write_word p t ok lt = go (copy_of (unpacked p) t) refl
 
     go : (c : Copy) → copy_of line t ≡ c → Some p.word ≡ copy_word (copy_of (on_write c t line) t)
     go (Modified v) e = kept (Modified v) v e refl
-    go (Owned v) e = brought
     go (Exclusive v) e = kept (Exclusive v) v e refl
-    go (Shared v) e = brought
-    go Invalid e = brought
+    go _ e = brought
 
 pub write_only : (p : Inside) (t w : ℕ)
     → IsPacked p → t < most_threads → unpacked (one_holder t w p.memory) ≡ line_written t w (unpacked p)
@@ -105,11 +100,8 @@ write_only p t w ok lt =
 
 shared_row : (c : Copy) (t : ℕ) (line : CacheLine)
     → letter_of c ≡ S → on_evict c t line ≡ record { copies = set line.copies t Invalid; memory = line.memory }
-shared_row (Modified w) t line e = cc
-shared_row (Owned w) t line e = cc
-shared_row (Exclusive w) t line e = cc
 shared_row (Shared w) t line e = refl
-shared_row Invalid t line e = cc
+shared_row _ t line e = cc
 
 -- An eviction takes a sharer out.
 pub sharer_gone : (p : Inside) (t : ℕ)

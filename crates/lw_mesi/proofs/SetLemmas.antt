@@ -1,8 +1,10 @@
 -- Sets of processors, by their bits.
-use Rattle.std.proofs.Common.{◌≡◌, ℕ, ◌-◌, ◌*◌, ◌/◌, ◌%◌, ◌^◌, ◌<◌, true, false, eqb, set, get_or, bit_and, bit_or, ap, ◌∙◌, sym, arith}
-use Rattle.std.specs.Int.{bit_at, w8}
+use Rattle.std.proofs.Common.{◌≡◌, ℕ, ◌-◌, ◌*◌, ◌/◌, ◌%◌, ◌^◌, ◌<◌, true, false, eqb, set, get_or, bit_and}
+use Rattle.std.proofs.Common.{bit_or, ap, ◌∙◌, sym, arith, w8}
+use Rattle.std.specs.Int.{bit_at}
 use Rattle.std.proofs.lemmas.Nat.{or_lt, pow_below}
-use Rattle.std.proofs.lemmas.Nat.Bits.{shr_and_one, bit_at_set_same, bit_at_set_other, bit_at_clear_same, bit_at_clear_other}
+use Rattle.std.proofs.lemmas.Nat.Bits.{shr_and_one, bit_at_set_same, bit_at_set_other, bit_at_clear_same}
+use Rattle.std.proofs.lemmas.Nat.Bits.{bit_at_clear_other}
 use Rattle.lw_base.specs.Limits.{most_threads}
 use Rattle.lw_mesi.specs.inner.Places.{members_of}
 use Rattle.lw_mesi.proofs.PlaceLemmas.{at_each_set, at_each_get}

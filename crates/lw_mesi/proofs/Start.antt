@@ -1,8 +1,10 @@
 -- Caches that hold nothing: coherent, in states of each protocol, and with memory's words as their content.
-use Rattle.std.proofs.Common.{◌≡◌, ℕ, zero, suc, ◌<◌, ◌≤◌, List, [], ◌∷◌, length, map, replicate, get_or, refl, sym, ap, subst, arith}
+use Rattle.std.proofs.Common.{◌≡◌, ℕ, zero, suc, ◌<◌, ◌≤◌, List, [], ◌∷◌, length, map, replicate, get_or}
+use Rattle.std.proofs.Common.{refl, sym, ap, subst, arith}
 use Rattle.lw_base.specs.Limits.{most_threads}
 use Rattle.lw_mesi.specs.declared.protocol.Protocol.{Protocol}
-use Rattle.lw_mesi.specs.CacheLines.{Invalid, unheld_line, empty_caches, copy_of, line_at, content_of, contents_of}
+use Rattle.lw_mesi.specs.CacheLines.{Invalid, unheld_line, empty_caches, copy_of, line_at, content_of}
+use Rattle.lw_mesi.specs.CacheLines.{contents_of}
 use Rattle.lw_mesi.specs.Coherence.{IsOnlyCopy, IsDirty, IsStateOf, HasStatesOf, IsKeptLine, IsKept}
 use Rattle.lw_mesi.specs.laws.Coherent.{no_word}
 use Rattle.lw_mesi.specs.laws.ProtocolRows.{invalid_state}
@@ -13,9 +15,8 @@ empty_content n (w ∷ ws) = ap (λ r. w ∷ r) (empty_content n ws)
 
 -- A row of one thing has it at every place, and past its end too, where nothing else is said to stand there.
 everywhere : {A : Type 0} (a : A) (n t : ℕ) → get_or (replicate n a) t a ≡ a
-everywhere a zero t = refl
-everywhere a (suc n) zero = refl
 everywhere a (suc n) (suc t) = everywhere a n t
+everywhere a _ _ = refl
 
 unheld : (w t : ℕ) → copy_of (unheld_line w) t ≡ Invalid
 unheld w t = everywhere Invalid most_threads t

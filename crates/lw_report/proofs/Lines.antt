@@ -1,11 +1,8 @@
 -- The lines of states, and of what is told of them.
-use Rattle.std.proofs.Common.{◌≡◌, ℕ, suc, slice_get, Some, ◌<◌, ◌≤◌, ◌+◌, List, [], ◌∷◌, ◌++◌, length, map, min, take, drop, get_or, refl, sym, ap, ◌∙◌}
-use Rattle.std.proofs.Common.{append_assoc, codes}
-use Rattle.std.proofs.Common.{length-take, arith}
-use Rattle.std.specs.Prelude.{zip}
-use Rattle.std.specs.List.{flat_map}
-use Rattle.std.specs.Fmt.{decimal}
-use Rattle.std.proofs.lemmas.List.{length-map, map-append, take_more, take_all}
+use Rattle.std.proofs.Common.{◌≡◌, ℕ, suc, slice_get, Some, ◌<◌, ◌≤◌, ◌+◌, List, [], ◌∷◌, ◌++◌, length, map}
+use Rattle.std.proofs.Common.{min, take, drop, get_or, refl, sym, ap, ◌∙◌, append_assoc, codes, length-take}
+use Rattle.std.proofs.Common.{arith, zip, flat_map, decimal, take_all}
+use Rattle.std.proofs.lemmas.List.{length-map, map-append, take_more}
 use Rattle.std.proofs.lemmas.Option.{get_or_from_slice_get}
 use Rattle.std.proofs.Math.Nat.{min-le_left, min-le_right}
 use Rattle.std.proofs.lemmas.Grind.{get_or_default_zero}
@@ -20,8 +17,8 @@ use Rattle.lw_base.specs.declared.head.Seen.{Seen}
 use Rattle.lw_base.specs.declared.head.Seen.TheVariants.{Register, Location}
 use Rattle.lw_report.specs.inner.Labels.{gap, label, labels, labelled_word, labelled_words}
 use Rattle.lw_report.specs.Judgement.{positive, negative, verdict_of}
-use Rattle.lw_report.specs.Reports.{kind_text, verdict_text, word_text, state_line, title_line, count_line, observation_line, claim_line}
-use Rattle.lw_report.specs.Reports.{judgement_lines, report_text}
+use Rattle.lw_report.specs.Reports.{kind_text, verdict_text, word_text, state_line, title_line, count_line}
+use Rattle.lw_report.specs.Reports.{observation_line, claim_line, judgement_lines, report_text}
 use Rattle.lw_report.specs.declared.judgement.Claim.{Claim}
 use Rattle.lw_report.specs.Observed.{observed}
 use Rattle.lw_report.specs.States.{Shown, ListedState, shown_of}
@@ -33,20 +30,18 @@ label_told head before s w = simp append_assoc
 -- the words behind the first
 next_told : (head : TestHead) (names : List Seen) (words : List ℕ)
     → flat_map labelled_word (zip (map (label head (codes " ")) names) words) ≡ flat_map (λ next. codes " " ++ next) (map (word_text head) (zip names words))
-next_told head [] words = refl
-next_told head (s ∷ names) [] = refl
 next_told head (s ∷ names) (w ∷ words) =
     ap (λ t. t ++ flat_map labelled_word (zip (map (label head (codes " ")) names) words)) (label_told head (codes " ") s w)
     ∙ ap (λ t. (codes " " ++ word_text head (s, w)) ++ t) (next_told head names words)
+next_told head _ _ = refl
 
 -- all words
 words_told : (head : TestHead) (names : List Seen) (words : List ℕ)
     → labelled_words (labels head names) words ≡ joined (codes " ") (map (word_text head) (zip names words))
-words_told head [] words = refl
-words_told head (s ∷ names) [] = refl
 words_told head (s ∷ names) (w ∷ words) =
     ap (λ t. t ++ flat_map labelled_word (zip (map (label head (codes " ")) names) words)) (label_told head [] s w)
     ∙ ap (λ t. word_text head (s, w) ++ t) (next_told head names words)
+words_told head _ _ = refl
 
 -- a state's line, by its labels
 pub line_told : (head : TestHead) (names : List Bytes) (words : List ℕ) → names ≡ labels head (observed head)

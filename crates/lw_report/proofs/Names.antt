@@ -1,10 +1,10 @@
 -- The observed names of a test are registers and locations that it has.
-use Rattle.std.proofs.Common.{◌≡◌, ℕ, zero, suc, ◌+◌, ◌<◌, ◌≤◌, Bool, List, [], ◌∷◌, ◌++◌, length, map, min, take, get_or, subst, sym, ap, ◌∙◌, append_assoc}
-use Rattle.std.proofs.Common.{zero-add, length-take, get_or-take, arith}
+use Rattle.std.proofs.Common.{◌≡◌, ℕ, zero, suc, ◌+◌, ◌<◌, ◌≤◌, Bool, List, [], ◌∷◌, ◌++◌, length, map, min}
+use Rattle.std.proofs.Common.{take, get_or, subst, sym, ap, ◌∙◌, append_assoc, zero-add, length-take}
+use Rattle.std.proofs.Common.{get_or-take, arith, flat_map, All, filter, append-nil, take_all}
 use Rattle.std.proofs.Math.Nat.{min-le_left}
-use Rattle.std.specs.List.{flat_map, range_with_len}
-use Rattle.std.specs.Prelude.{All, filter}
-use Rattle.std.proofs.lemmas.List.{append-nil, map-append, take_all, take_more}
+use Rattle.std.specs.List.{range_with_len}
+use Rattle.std.proofs.lemmas.List.{map-append, take_more}
 use Rattle.std.proofs.lemmas.List.Elements.{All-from_recursion, All-get_or, All-same, filter-append}
 use Rattle.std.proofs.lemmas.List.FromFn.{get_or-range_with_len, map-range_with_len_more}
 use Rattle.lw_base.specs.Heads.{TestHead}

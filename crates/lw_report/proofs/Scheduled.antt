@@ -1,12 +1,11 @@
 -- The states of a listing have entries in it, and each entry has a schedule.
-use Rattle.std.proofs.Common.{◌≡◌, ℕ, ◌<◌, Some, List, [], ◌∷◌, ◌++◌, refl, length, map, slice_get, sym, ap, ◌∙◌, append_assoc, subst, codes, arith}
-use Rattle.std.specs.Prelude.{All, slice_index_or}
-use Rattle.std.specs.List.{AllByRecursion, flat_map}
+use Rattle.std.proofs.Common.{◌≡◌, ℕ, ◌<◌, Some, List, [], ◌∷◌, ◌++◌, refl, length, map, slice_get, sym, ap}
+use Rattle.std.proofs.Common.{◌∙◌, append_assoc, subst, codes, arith, All, slice_index_or, flat_map, decimal}
+use Rattle.std.specs.List.{AllByRecursion}
 use Rattle.std.proofs.lemmas.List.{length-map}
 use Rattle.std.proofs.lemmas.List.Elements.{All-weaker, All-get_or}
 use Rattle.std.proofs.lemmas.Map.Entries.{length-keys_of}
 use Rattle.std.proofs.lemmas.Option.{slice_get_within, get_or_from_slice_get}
-use Rattle.std.specs.Fmt.{decimal}
 use Rattle.lw_base.specs.Types.{Bytes, NameTable}
 use Rattle.lw_base.specs.Heads.{TestHead}
 use Rattle.lw_base.specs.Schedules.{IsEvent, schedule_text}

@@ -1,15 +1,17 @@
 -- Outcomes with the same words of the observed names make a test's proposition true alike.
-use Rattle.std.proofs.Common.{◌≡◌, ℕ, ◌⊎◌, inl, inr, Bool, true, false, List, [], ◌∷◌, ◌++◌, length, map, ◌||◌, refl, sym, ap, ◌∙◌, subst}
-use Rattle.std.specs.Prelude.{filter, not, ◌==◌, ◌&&◌, slice_index, slice_index_or}
-use Rattle.std.proofs.lemmas.Bool.{cases_Bool, or_cases, or_right, true≢false}
-use Rattle.lw_base.specs.Formula.{Formula, Yes, No, Reg_is, Word_is, Not, And, Or}
+use Rattle.std.proofs.Common.{◌≡◌, ℕ, ◌⊎◌, inl, inr, Bool, true, false, List, [], ◌∷◌, ◌++◌, length, map}
+use Rattle.std.proofs.Common.{◌||◌, refl, sym, ap, ◌∙◌, subst, filter, not, ◌==◌, ◌&&◌, slice_index}
+use Rattle.std.proofs.Common.{slice_index_or, true≢false}
+use Rattle.std.proofs.lemmas.Bool.{cases_Bool, or_cases, or_right}
+use Rattle.lw_base.specs.Formula.{Formula, Reg_is, Word_is, Not, And, Or}
 use Rattle.lw_base.specs.Heads.{TestHead}
 use Rattle.lw_base.specs.Outcomes.{Final}
 use Rattle.lw_base.specs.WellFormed.{SpeaksOf}
 use Rattle.lw_base.specs.declared.head.Seen.{Seen}
 use Rattle.lw_base.specs.declared.head.Seen.TheVariants.{Register, Location}
 use Rattle.lw_base.specs.SeenLists.{same_seen, all_registers, locations}
-use Rattle.lw_base.proofs.api.ListedAgain.{has_seen, same_seen_is, same_seen_itself, has_left, has_right, has_register, has_location}
+use Rattle.lw_base.proofs.api.ListedAgain.{has_seen, same_seen_is, same_seen_itself, has_left, has_right}
+use Rattle.lw_base.proofs.api.ListedAgain.{has_register, has_location}
 use Rattle.lw_report.specs.Observed.{is_named, is_observed, projected}
 use Rattle.lw_report.specs.Truth.{final_word, is_true}
 
@@ -35,8 +37,6 @@ same_word f g p (u ∷ us) s e h k = go (cases_Bool (p u)) (or_cases (same_seen 
 module _ (threads locs : ℕ) (o p : Final) where
   same_truth : (phi : Formula) → SpeaksOf threads locs phi → ((s : Seen) → has_seen (all_registers threads ++ locations locs) s ≡ true
       → is_named phi s ≡ true → final_word o s ≡ final_word p s) → is_true phi o ≡ is_true phi p
-  same_truth Yes speaks same = refl
-  same_truth No speaks same = refl
   same_truth (Reg_is t r n) speaks same =
       ap (λ (w : ℕ). w == n) (same (Register t r) (has_left (all_registers threads) (locations locs) (Register t r)
       (has_register threads t r speaks.0 speaks.1)) (same_seen_itself (Register t r)))
@@ -52,6 +52,7 @@ module _ (threads locs : ℕ) (o p : Final) where
       let left : is_true phi o ≡ is_true phi p = same_truth phi speaks.0 (λ s h k. same s h (rw k refl)) in
       let right : is_true psi o ≡ is_true psi p = same_truth psi speaks.1 (λ s h k. same s h (or_right (is_named phi s) (is_named psi s) k)) in
       rw (left, right) refl
+  same_truth _ speaks same = refl
 
 pub words_agree : (head : TestHead) (o p : Final) → SpeaksOf head.threads (length head.locs) head.condition → projected head o ≡ projected head p
     → is_true head.condition o ≡ is_true head.condition p

@@ -1,9 +1,8 @@
 -- What an act and an event leave: a refused one changes nothing, and over a memory that keeps the laws each keeps the
 -- sizes.
-use Rattle.std.proofs.Common.{◌≡◌, ℕ, Bool, true, false, List, length, Ok, Err, Option, Some, None, refl, sym, ap, ◌∙◌, subst, slice_get, slice_set}
-use Rattle.std.proofs.lemmas.List.{length-set}
+use Rattle.std.proofs.Common.{◌≡◌, ℕ, Bool, true, false, List, length, Ok, Err, Option, Some, None, refl, sym}
+use Rattle.std.proofs.Common.{ap, ◌∙◌, subst, slice_get, slice_set, length-set, OnErr}
 use Rattle.lw_base.specs.declared.event.Event.{Event}
-use Rattle.std.specs.Result.{OnErr}
 use Rattle.lw_base.specs.declared.stop.Stop.{Stop}
 use Rattle.lw_memory.specs.declared.system.Request.{Request}
 use Rattle.lw_memory.specs.declared.system.Request.TheVariants.{Load, Store, Swap, FetchAdd, Evict}
@@ -18,11 +17,10 @@ use Rattle.lw_tso.specs.Machines.{MachineState, Answer, ActDone, EvictionDone, D
 use Rattle.lw_tso.specs.Runs.{Running}
 
 length-content_after : (words : List ℕ) (r : Request) → length (content_after words r) ≡ length words
-length-content_after words (Load t x) = refl
 length-content_after words (Store t x w) = length-set words x _
 length-content_after words (Swap t x w) = length-set words x _
 length-content_after words (FetchAdd t x w) = length-set words x _
-length-content_after words (Evict t x) = refl
+length-content_after words _ = refl
 
 module _ {M : Type 0} (mem : Memory M) (inv : Invariant M) where
   -- as many processors and locations, and sound
@@ -52,13 +50,12 @@ module _ {M : Type 0} (mem : Memory M) (inv : Invariant M) where
   -- an act keeps the memory's size
   pub act_kept : Lawful mem inv → (t : ℕ) (act : Act) (p q : Processor) (m n : M) (answer : Answer) → inv.sound m → ActDone mem t act p m answer q n
       → IsKept m n
-  act_kept laws t (Refused stop) p q m n answer sound done = unchanged m n sound done.2
-  act_kept laws t (Goes next) p q m n answer sound done = unchanged m n sound done.2
   act_kept laws t (Loads x next) p q m n answer sound done = served laws m n (Load t x) (Some done.0) sound done.3
   act_kept laws t (Stores x w next) p q m n answer sound done = served laws m n (Store t x w) None sound done.2
   act_kept laws t (Swaps x v next) p q m n answer sound done = served laws m n (Swap t x v) (Some done.0) sound done.3
   act_kept laws t (Adds x v next) p q m n answer sound done = served laws m n (FetchAdd t x v) (Some done.0) sound done.3
   act_kept laws t (Evicts x) p q m n answer sound done = evicted laws (is_held (mem.state m t x)) t x p q m n answer sound done
+  act_kept laws t _ p q m n answer sound done = unchanged m n sound done.2
 
   eviction_refused : (held : Bool) (t x : ℕ) (p q : Processor) (m n : M) (stop : Stop) → EvictionDone mem held t x p m (Err stop) q n → (q ≡ p) × (n ≡ m)
   eviction_refused false t x p q m n stop done = (done.1, done.2)
@@ -68,11 +65,9 @@ module _ {M : Type 0} (mem : Memory M) (inv : Invariant M) where
   pub act_refused : (t : ℕ) (act : Act) (p q : Processor) (m n : M) (stop : Stop) → ActDone mem t act p m (Err stop) q n → (q ≡ p) × (n ≡ m)
   act_refused t (Refused stop') p q m n stop done = (done.1, done.2)
   act_refused t (Goes next) p q m n stop done = absurd (let e : ◌≡◌ {A = Answer} (Err stop) (Ok tt) = done.0 in cc)
-  act_refused t (Loads x next) p q m n stop done = absurd (let e : ◌≡◌ {A = Answer} (Err stop) (Ok tt) = done.1 in cc)
   act_refused t (Stores x w next) p q m n stop done = absurd (let e : ◌≡◌ {A = Answer} (Err stop) (Ok tt) = done.0 in cc)
-  act_refused t (Swaps x v next) p q m n stop done = absurd (let e : ◌≡◌ {A = Answer} (Err stop) (Ok tt) = done.1 in cc)
-  act_refused t (Adds x v next) p q m n stop done = absurd (let e : ◌≡◌ {A = Answer} (Err stop) (Ok tt) = done.1 in cc)
   act_refused t (Evicts x) p q m n stop done = eviction_refused (is_held (mem.state m t x)) t x p q m n stop done
+  act_refused t _ p q m n stop done = absurd (let e : ◌≡◌ {A = Answer} (Err stop) (Ok tt) = done.1 in cc)
 
   -- a refused event changes nothing
   pub event_refused : (program : List (List Instr)) (e : Event) (s after : MachineState M) (stop : Stop) → EventDone mem program e s (Err stop) after

@@ -1,13 +1,13 @@
 -- Acts over the flat memory that commute: those that do not conflict, and a step beside an entry that it may pass.
-use Rattle.std.proofs.Common.{◌≡◌, ◌≢◌, ℕ, ◌==◌, Bool, true, false, if◌then◌else◌, List, ◌∷◌, Option, Some, None, refl, sym, ap, ◌∙◌, subst, slice_set}
-use Rattle.std.proofs.Common.{slice_index}
+use Rattle.std.proofs.Common.{◌≡◌, ◌≢◌, ℕ, ◌==◌, Bool, true, false, if◌then◌else◌, List, ◌∷◌, Option, Some}
+use Rattle.std.proofs.Common.{None, refl, sym, ap, ◌∙◌, subst, slice_set, slice_index, ne_eqb, true≢false}
+use Rattle.std.proofs.Common.{get_or-set_other}
 use Rattle.std.specs.Option.{option_or}
-use Rattle.std.proofs.lemmas.Bool.{ne_eqb, true≢false}
-use Rattle.std.proofs.lemmas.List.{get_or-set_other, set_comm}
+use Rattle.std.proofs.lemmas.List.{set_comm}
 use Rattle.std.proofs.lemmas.Option.{same_Some}
 use Rattle.lw_base.specs.Sums.{sum_of}
 use Rattle.lw_litmus.specs.declared.operation.Operation.{Operation}
-use Rattle.lw_litmus.specs.declared.operation.Operation.TheVariants.{Set, Sum, Compare, Store, Load, Swap, FetchAdd, Fence, Branch}
+use Rattle.lw_litmus.specs.declared.operation.Operation.TheVariants.{Load, Swap, FetchAdd, Fence}
 use Rattle.lw_tso.specs.Processors.{Processor, newest}
 use Rattle.lw_tso.specs.Acts.{Act, Refused, Goes, Loads, Stores, Swaps, Adds, Evicts, operation_act, load_act}
 use Rattle.lw_tso.specs.Exchange.{accessed, event_writes, DoNotConflict, MayPass}
@@ -18,18 +18,16 @@ use Rattle.lw_tso.proofs.api.Effects.{Does}
 -- a word that an act doesn't write stays
 word_kept : (act : Act) (m n : List ℕ) (q : Processor) (x : ℕ) → Does m act q n → (accessed act ≡ Some x → event_writes act ≡ false)
     → slice_index n x ≡ slice_index m x
-word_kept (Refused stop) m n q x d free = absurd d
 word_kept (Goes next) m n q x d free = ap (λ k. slice_index k x) d.1
 word_kept (Loads y next) m n q x d free = ap (λ k. slice_index k x) d.1
 word_kept (Stores y w next) m n q x d free = ap (λ k. slice_index k x) d.1 ∙ get_or-set_other m y x _ 0 (λ e. true≢false (free (ap Some (sym e))))
 word_kept (Swaps y v next) m n q x d free = ap (λ k. slice_index k x) d.1 ∙ get_or-set_other m y x _ 0 (λ e. true≢false (free (ap Some (sym e))))
 word_kept (Adds y v next) m n q x d free = ap (λ k. slice_index k x) d.1 ∙ get_or-set_other m y x _ 0 (λ e. true≢false (free (ap Some (sym e))))
-word_kept (Evicts y) m n q x d free = absurd d
+word_kept _ m n q x d free = absurd d
 
 -- an act does the same where a word that it doesn't access is another
 does_beside : (act : Act) (m n : List ℕ) (q : Processor) (x w : ℕ) → Does m act q n → (accessed act ≡ Some x → ⊥)
     → Does (slice_set m x w) act q (slice_set n x w)
-does_beside (Refused stop) m n q x w d free = absurd d
 does_beside (Goes next) m n q x w d free = (d.0, ap (λ k. slice_set k x w) d.1)
 does_beside (Loads y next) m n q x w d free =
     let same : slice_index (slice_set m x w) y ≡ slice_index m y = get_or-set_other m x y w 0 (λ e. free (ap Some e)) in
@@ -43,12 +41,11 @@ does_beside (Adds y v next) m n q x w d free =
       d.0 ∙ ap next (sym same),
       ap (λ k. slice_set k x w) d.1 ∙ set_comm m y x _ w (λ e. free (ap Some e)) ∙ ap (λ k. slice_set (slice_set m x w) y (sum_of k v)) (sym same),
     )
-does_beside (Evicts y) m n q x w d free = absurd d
+does_beside _ m n q x w d free = absurd d
 
 -- acts that do not conflict, the other way round
 pub acts_exchange : (a b : Act) (m n k : List ℕ) (p q : Processor) → DoNotConflict a b → Does m a p n → Does n b q k
     → (j : List ℕ) × Does m b q j × Does j a p k
-acts_exchange a (Refused stop) m n k p q free d e = absurd e
 acts_exchange a (Goes next) m n k p q free d e = (m, (e.0, refl), subst (Does m a p) (sym e.1) d)
 acts_exchange a (Loads x next) m n k p q free d e =
     let same = word_kept a m n p x d (λ at. (free x at refl).0) in
@@ -71,7 +68,7 @@ acts_exchange a (Adds x v next) m n k p q free d e =
       subst (Does (slice_set m x sum) a p) (sym end)
           (does_beside a m n p x sum d (λ at. true≢false (free x at refl).1)),
     )
-acts_exchange a (Evicts x) m n k p q free d e = absurd e
+acts_exchange a _ m n k p q free d e = absurd e
 
 -- ---- a step, and one entry more
 
@@ -91,22 +88,17 @@ keeping entry (Evicts x) = Evicts x
 
 pub keeping_does : (entry : ℕ × ℕ) (act : Act) (m n : List ℕ) (q : Processor) → Does m act q n → Does m (keeping entry act) (with_oldest entry q) n
 keeping_does entry (Refused stop) m n q d = absurd d
-keeping_does entry (Goes next) m n q d = (ap (with_oldest entry) d.0, d.1)
-keeping_does entry (Loads x next) m n q d = (ap (with_oldest entry) d.0, d.1)
-keeping_does entry (Stores x w next) m n q d = (ap (with_oldest entry) d.0, d.1)
-keeping_does entry (Swaps x v next) m n q d = (ap (with_oldest entry) d.0, d.1)
-keeping_does entry (Adds x v next) m n q d = (ap (with_oldest entry) d.0, d.1)
 keeping_does entry (Evicts x) m n q d = absurd d
+keeping_does entry _ m n q d = (ap (with_oldest entry) d.0, d.1)
 
 pub does_kept : (entry : ℕ × ℕ) (act : Act) (m n : List ℕ) (q : Processor) → Does m (keeping entry act) q n
     → (new : Processor) × (q ≡ with_oldest entry new) × Does m act new n
-does_kept entry (Refused stop) m n q d = absurd d
 does_kept entry (Goes next) m n q d = (next, d.0, (refl, d.1))
 does_kept entry (Loads x next) m n q d = (next (slice_index m x), d.0, (refl, d.1))
 does_kept entry (Stores x w next) m n q d = (next, d.0, (refl, d.1))
 does_kept entry (Swaps x v next) m n q d = (next (slice_index m x), d.0, (refl, d.1))
 does_kept entry (Adds x v next) m n q d = (next (slice_index m x), d.0, (refl, d.1))
-does_kept entry (Evicts x) m n q d = absurd d
+does_kept entry _ m n q d = absurd d
 
 -- the act keeps an entry for x, and does not access x
 pub record LeavesAlone (entry : ℕ × ℕ) (act with_entry : Act) : Type 0 where
@@ -124,12 +116,8 @@ load_alone entry None false y next not ne = record { same = refl; free = λ e. n
 
 pub operation_alone : (entry : ℕ × ℕ) (o : Operation) (p : Processor) → MayPass entry.0 o
     → LeavesAlone entry (operation_act o p) (operation_act o (with_oldest entry p))
-operation_alone entry (Set d v) p may = alone entry _
-operation_alone entry (Sum d a v) p may = alone entry _
-operation_alone entry (Compare a v) p may = alone entry _
-operation_alone entry (Store x v) p may = alone entry _
 operation_alone entry (Load d y) p may = load_alone entry (newest p.buffer y) (entry.0 == y) y _ (ne_eqb entry.0 y may) may
 operation_alone entry (Swap d y a) p may = absurd (true≢false may)
 operation_alone entry (FetchAdd d y v) p may = absurd (true≢false may)
 operation_alone entry Fence p may = absurd (true≢false may)
-operation_alone entry (Branch c to) p may = alone entry _
+operation_alone entry _ p may = alone entry _

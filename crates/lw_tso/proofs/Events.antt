@@ -1,18 +1,17 @@
 -- Events of a machine in memory, seen as events of the machine.
-use Rattle.std.proofs.Common.{◌≡◌, ℕ, [], ◌∷◌, get_or, ◌+◌, ◌<◌, ◌≤◌, ◌^◌, true, false, List, length, map, Ok, Err, Some, None, refl, sym, ap, ◌∙◌, subst}
-use Rattle.std.proofs.Common.{arith, slice_get, slice_set, ◌⊎◌, inl, inr}
-use Rattle.std.specs.Prelude.{All, ◌&&◌}
-use Rattle.std.specs.List.{list_all, zip}
-use Rattle.std.specs.Option.{ForSome, option_map}
+use Rattle.std.proofs.Common.{◌≡◌, ℕ, [], ◌∷◌, get_or, ◌+◌, ◌<◌, ◌≤◌, ◌^◌, true, false, List, length, map, Ok}
+use Rattle.std.proofs.Common.{Err, Some, None, refl, sym, ap, ◌∙◌, subst, arith, slice_get, slice_set, ◌⊎◌}
+use Rattle.std.proofs.Common.{inl, inr, All, ◌&&◌, zip, option_map, length-set, lt-ltb, le-ltb}
+use Rattle.std.specs.List.{list_all}
+use Rattle.std.specs.Option.{ForSome}
 use Rattle.std.proofs.lemmas.Simd.{map-map}
-use Rattle.std.proofs.lemmas.List.{map-set, length-map, length-set, get_or_past}
+use Rattle.std.proofs.lemmas.List.{map-set, length-map, get_or_past}
 use Rattle.std.proofs.lemmas.Option.{slice_get-map, slice_get_within, slice_get_past, slice_get_read}
-use Rattle.std.proofs.lemmas.Bool.{cases_lt, lt-ltb, le-ltb}
+use Rattle.std.proofs.lemmas.Bool.{cases_lt}
 use Rattle.lw_base.specs.Outcomes.{Final}
 use Rattle.lw_base.specs.declared.event.Event.{Event}
 use Rattle.lw_base.specs.declared.event.Event.TheVariants.{Step, Evict}
 use Rattle.lw_base.specs.declared.stop.Stop.TheVariants.{NoCpu, NoLocation, Ended, NotHeld}
-use Rattle.lw_memory.specs.declared.system.Request.TheVariants as to
 use Rattle.lw_memory.specs.Memory.{Memory, is_held}
 use Rattle.lw_memory.specs.MemoryLaws.{Lawful, Invariant}
 use Rattle.lw_base.proofs.api.Lists.{each_after, set_own}
@@ -31,6 +30,7 @@ use Rattle.lw_tso.specs.inner.Rooms.{stores_from, HasRoom, IsMachine}
 use Rattle.lw_tso.specs.inner.Views.{processor_of}
 use Rattle.lw_tso.proofs.Acts.{act_kept}
 use Rattle.lw_tso.proofs.Rooms.{counted, statement_at, stores_here, event_room}
+use Rattle.lw_memory.specs.declared.system.Request.TheVariants as to
 
 -- what is read at a place
 pub read : {X : Type 0} (xs ys : List X) (i t : ℕ) (x : X) → ys ≡ xs → i ≡ t → t < length xs → x ≡ get_or ys i x → slice_get xs t ≡ Some x
@@ -108,9 +108,8 @@ module _ {M A : Type 0} where
   -- whether all are done, by the processors in memory
   pub all_done : (codes : List (List Instr)) (processors : List (ProcessorInMemory A)) (m : M)
       → list_all (λ p. is_done p.0 (processor_of p.1)) (zip codes processors) ≡ is_final codes (state_of processors m)
-  all_done [] processors m = refl
-  all_done (code ∷ codes) [] m = refl
   all_done (code ∷ codes) (p ∷ processors) m = ap (λ b. is_done code (processor_of p) && b) (all_done codes processors m)
+  all_done _ _ m = refl
 
 module _ {M A : Type 0} (mem : Memory M) (program : List (List Instr)) where
   -- an act that a processor in memory has done is the event

@@ -1,11 +1,10 @@
 -- A run over a memory that keeps the laws is, evictions left out, a run over the flat one.
-use Rattle.std.proofs.Common.{◌≡◌, ℕ, Bool, true, false, nat_lt, if◌then◌else◌, List, [], ◌∷◌, length, Ok, Option, Some, None, refl, ap, ap₂, ◌∙◌, subst}
-use Rattle.std.proofs.Common.{slice_get, slice_set}
+use Rattle.std.proofs.Common.{◌≡◌, ℕ, Bool, true, false, nat_lt, if◌then◌else◌, List, [], ◌∷◌, length, Ok}
+use Rattle.std.proofs.Common.{Option, Some, None, refl, ap, ap₂, ◌∙◌, subst, slice_get, slice_set}
 use Rattle.lw_base.specs.Outcomes.{Final}
 use Rattle.lw_base.specs.declared.event.Event.{Event}
 use Rattle.lw_base.specs.declared.event.Event.TheVariants.{Step, Drain, Evict}
 use Rattle.lw_base.specs.declared.stop.Stop.TheVariants.{NoLocation}
-use Rattle.lw_memory.specs.declared.system.Request.TheVariants as to
 use Rattle.lw_memory.specs.Flat.{flat}
 use Rattle.lw_memory.specs.Memory.{Memory, is_held}
 use Rattle.lw_memory.specs.MemoryLaws.{Lawful, Invariant}
@@ -13,19 +12,18 @@ use Rattle.lw_base.proofs.api.Lists.{set_own}
 use Rattle.lw_litmus.specs.declared.instr.Instr.{Instr}
 use Rattle.lw_litmus.specs.Tests.{ProgramTest}
 use Rattle.lw_tso.specs.Processors.{Processor}
-use Rattle.lw_tso.specs.Acts.{Act, Refused, Goes, Loads, Stores, Swaps, Adds, Evicts, cpu_of, event_act}
+use Rattle.lw_tso.specs.Acts.{Act, Refused, Loads, Stores, Swaps, Adds, Evicts, cpu_of, event_act}
 use Rattle.lw_tso.specs.Machines.{MachineState, Answer, flatten, ActDone, EvictionDone, DoneBy, EventDone}
 use Rattle.lw_tso.specs.Runs.{MachineRan, Replays, machine_start}
 use Rattle.lw_tso.specs.Evictions.{without_evictions}
 use Rattle.lw_tso.proofs.Acts.{event_kept}
 use Rattle.lw_tso.proofs.EventActs.{IsNoEviction, EventComes, event_comes}
+use Rattle.lw_memory.specs.declared.system.Request.TheVariants as to
 
 module _ {M : Type 0} (mem : Memory M) (inv : Invariant M) (laws : Lawful mem inv) where
   -- an act that is no eviction
   act_flat : (t : ℕ) (act : Act) (p q : Processor) (m n : M) (answer : Answer) → inv.sound m → ((x : ℕ) → act ≡ Evicts x → ⊥)
       → ActDone mem t act p m answer q n → ActDone flat t act p (mem.content m) answer q (mem.content n)
-  act_flat t (Refused stop) p q m n answer sound none done = (done.0, done.1, ap mem.content done.2)
-  act_flat t (Goes next) p q m n answer sound none done = (done.0, done.1, ap mem.content done.2)
   act_flat t (Loads x next) p q m n answer sound none done =
       let s = laws.served m (to.Load t x) (Some done.0) n sound done.3 in
       (done.0, done.1, done.2, (s.answer, s.content))
@@ -39,6 +37,7 @@ module _ {M : Type 0} (mem : Memory M) (inv : Invariant M) (laws : Lawful mem in
       let s = laws.served m (to.FetchAdd t x v) (Some done.0) n sound done.3 in
       (done.0, done.1, done.2, (s.answer, s.content))
   act_flat t (Evicts x) p q m n answer sound none done = absurd (none x refl)
+  act_flat t _ p q m n answer sound none done = (done.0, done.1, ap mem.content done.2)
 
   by_flat : (o : Option Processor) (program : List (List Instr)) (e : Event) (s after : MachineState M) (answer : Answer)
       → inv.sound s.memory → IsNoEviction e → DoneBy mem o program e s answer after → DoneBy flat o program e (flatten mem s) answer (flatten mem after)

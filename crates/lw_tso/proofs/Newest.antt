@@ -1,7 +1,6 @@
 -- The newest word for a location, found from the newest entry on.
-use Rattle.std.proofs.Common.{◌≡◌, ℕ, suc, zero, ◌-◌, ◌<◌, true, false, List, [], ◌∷◌, slice_get, drop, Option, Some, None, ◌==◌, if◌then◌else◌, ap, sym, ◌∙◌}
-use Rattle.std.proofs.Common.{subst, arith}
-use Rattle.std.proofs.Math.Seq.{drop-cons}
+use Rattle.std.proofs.Common.{◌≡◌, ℕ, suc, ◌-◌, ◌<◌, true, false, List, [], ◌∷◌, slice_get, drop, Option}
+use Rattle.std.proofs.Common.{Some, None, ◌==◌, if◌then◌else◌, ap, sym, ◌∙◌, subst, arith, drop-cons}
 use Rattle.std.specs.Option.{option_or}
 use Rattle.std.proofs.lemmas.Option.{slice_get_within, get_or_from_slice_get}
 use Rattle.lw_tso.specs.Processors.{newest}
@@ -12,9 +11,8 @@ word_for x entry = if entry.0 == x then Some entry.1 else None
 
 -- a newest word of the newer entries is that of all
 newest_from_newer : (x k w : ℕ) (entries : List (ℕ × ℕ)) → newest (drop k entries) x ≡ Some w → newest entries x ≡ Some w
-newest_from_newer x zero w entries h = h
-newest_from_newer x (suc k) w [] h = h
 newest_from_newer x (suc k) w (entry ∷ entries) h = ap (λ q. option_or q (word_for x entry)) (newest_from_newer x k w entries h)
+newest_from_newer x _ w _ h = h
 
 -- one more entry, where none newer is for the location
 newest_at : (x k : ℕ) (entries : List (ℕ × ℕ)) (entry : ℕ × ℕ) → slice_get entries k ≡ Some entry → newest (drop (suc k) entries) x ≡ None

@@ -1,6 +1,8 @@
 -- Lists whose items are put in the places of others, one after another.
-use Rattle.std.proofs.Common.{◌≡◌, ℕ, ◌+◌, ◌<◌, ◌≤◌, List, [], ◌∷◌, ◌++◌, length, map, set, take, get_or, Some, refl, sym, ap, ap₂, ◌∙◌, arith, slice_get}
-use Rattle.std.proofs.lemmas.List.{get_or-take, length-take, map-append, map-set, map_more, take_all, take_more, take_more_set}
+use Rattle.std.proofs.Common.{◌≡◌, ℕ, ◌+◌, ◌<◌, ◌≤◌, List, [], ◌∷◌, ◌++◌, length, map, set, take, get_or}
+use Rattle.std.proofs.Common.{Some, refl, sym, ap, ap₂, ◌∙◌, arith, slice_get, get_or-take, length-take}
+use Rattle.std.proofs.Common.{take_all}
+use Rattle.std.proofs.lemmas.List.{map-append, map-set, map_more, take_more, take_more_set}
 use Rattle.std.proofs.lemmas.List.FromFn.{get_or-range_with_len}
 use Rattle.std.specs.List.{range_with_len}
 use Rattle.lw_base.proofs.api.Lists.{set_own}

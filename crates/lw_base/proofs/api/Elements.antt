@@ -1,7 +1,7 @@
 -- What holds of all elements, one by one.
-use Rattle.std.proofs.Common.{◌≡◌, ℕ, zero, suc, ◌+◌, ◌<◌, ◌≤◌, Bool, true, false, List, [], ◌∷◌, ◌++◌, map, refl, arith}
-use Rattle.std.specs.Prelude.{All, filter}
-use Rattle.std.specs.List.{AllByRecursion, flat_map, range_with_len}
+use Rattle.std.proofs.Common.{◌≡◌, ℕ, zero, suc, ◌+◌, ◌<◌, ◌≤◌, Bool, true, false, List, [], ◌∷◌, ◌++◌, map}
+use Rattle.std.proofs.Common.{refl, arith, All, filter, flat_map}
+use Rattle.std.specs.List.{AllByRecursion, range_with_len}
 
 pub each_of : {X : Type 0} (xs : List X) (P : X → Type 0) → All P xs → AllByRecursion P xs
 each_of [] P all = tt

@@ -1,14 +1,12 @@
 -- What is there where a formula speaks of so many threads and locations only.
 use Rattle.std.proofs.Common.{ℕ}
-use Rattle.lw_base.specs.Formula.{Formula, Yes, No, Reg_is, Word_is, Not, And, Or}
+use Rattle.lw_base.specs.Formula.{Formula, Word_is, Not, And, Or}
 use Rattle.lw_base.specs.WellFormed.{SpeaksOf, HasLocations}
 
 -- its locations
 pub has_locations : (threads locs : ℕ) (p : Formula) → SpeaksOf threads locs p → HasLocations locs p
-has_locations threads locs Yes h = tt
-has_locations threads locs No h = tt
-has_locations threads locs (Reg_is t r n) h = tt
 has_locations threads locs (Word_is x n) h = h.0
 has_locations threads locs (Not p) h = has_locations threads locs p h
 has_locations threads locs (And p q) h = (has_locations threads locs p h.0, has_locations threads locs q h.1)
 has_locations threads locs (Or p q) h = (has_locations threads locs p h.0, has_locations threads locs q h.1)
+has_locations threads locs _ h = tt

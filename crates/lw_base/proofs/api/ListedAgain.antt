@@ -1,9 +1,9 @@
 -- A list of registers and locations in their order is what is left of all of them by asking which are in it.
-use Rattle.std.proofs.Common.{◌≡◌, ℕ, zero, suc, ◌+◌, ◌*◌, ◌<◌, ◌≤◌, ◌⊎◌, inl, inr, Bool, true, false, List, [], ◌∷◌, ◌++◌, map, length, refl, sym, ap, ◌∙◌}
-use Rattle.std.proofs.Common.{subst, arith, length-append}
-use Rattle.std.specs.Prelude.{◌==◌, filter}
-use Rattle.std.specs.List.{AllByRecursion, list_any, flat_map, range_with_len}
-use Rattle.std.proofs.lemmas.Bool.{cases_Bool, and_parts, or_cases, or_right, eqb-true, eqb-false, eq-eqb}
+use Rattle.std.proofs.Common.{◌≡◌, ℕ, zero, suc, ◌+◌, ◌*◌, ◌<◌, ◌≤◌, ◌⊎◌, inl, inr, Bool, true, false, List}
+use Rattle.std.proofs.Common.{[], ◌∷◌, ◌++◌, map, length, refl, sym, ap, ◌∙◌, subst, arith, length-append}
+use Rattle.std.proofs.Common.{◌==◌, filter, flat_map, eqb-true, eq-eqb}
+use Rattle.std.specs.List.{AllByRecursion, list_any, range_with_len}
+use Rattle.std.proofs.lemmas.Bool.{cases_Bool, and_parts, or_cases, or_right, eqb-false}
 use Rattle.std.proofs.lemmas.List.FromFn.{length-map-range_with_len}
 use Rattle.lw_base.specs.declared.head.Seen.{Seen}
 use Rattle.lw_base.specs.declared.head.Seen.TheVariants.{Register, Location}
@@ -20,9 +20,8 @@ same_seen_is (Register t r) (Register u q) h =
     let e : t ≡ u = eqb-true t u both.0 in
     let f : r ≡ q = eqb-true r q both.1 in
     cc
-same_seen_is (Register t r) (Location x) h = absurd cc
-same_seen_is (Location x) (Register t r) h = absurd cc
 same_seen_is (Location x) (Location y) h = ap (λ (z : ℕ). Location z) (eqb-true x y h)
+same_seen_is _ _ h = absurd cc
 
 pub same_seen_itself : (s : Seen) → same_seen s s ≡ true
 same_seen_itself (Register t r) = rw (eq-eqb t t refl, eq-eqb r r refl) refl
@@ -47,12 +46,11 @@ before_before (Register a b) (Register c d) (Register e f) (inl h) (inl k) = inl
 before_before (Register a b) (Register c d) (Register e f) (inl h) (inr k) = inl (omega (arith, h, k.0))
 before_before (Register a b) (Register c d) (Register e f) (inr h) (inl k) = inl (omega (arith, h.0, k))
 before_before (Register a b) (Register c d) (Register e f) (inr h) (inr k) = inr (omega (arith, h.0, k.0), omega (arith, h.1, k.1))
-before_before (Register a b) (Register c d) (Location x) h k = tt
 before_before (Register a b) (Location x) (Register c d) h k = absurd k
-before_before (Register a b) (Location x) (Location y) h k = tt
 before_before (Location x) (Register a b) u h k = absurd h
 before_before (Location x) (Location y) (Register a b) h k = absurd k
 before_before (Location x) (Location y) (Location z) h k = omega (arith, h, k)
+before_before (Register a b) _ _ h k = tt
 
 -- ---- which are in a list
 

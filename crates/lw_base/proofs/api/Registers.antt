@@ -1,7 +1,6 @@
 -- A word names one register at most.
-use Rattle.std.proofs.Common.{◌≡◌, ℕ, zero, suc, ◌+◌, ◌<◌, [], ◌∷◌, Some, None, Option, refl, sym, ap, ◌∙◌, arith}
-use Rattle.std.specs.Prelude.{if◌then◌else◌, codes}
-use Rattle.std.specs.Str.{bytes_eq}
+use Rattle.std.proofs.Common.{◌≡◌, ℕ, suc, ◌+◌, ◌<◌, [], ◌∷◌, Some, None, Option, refl, sym, ap, ◌∙◌, arith}
+use Rattle.std.proofs.Common.{if◌then◌else◌, codes, bytes_eq}
 use Rattle.lw_base.specs.Types.{Bytes}
 use Rattle.lw_base.specs.declared.head.Arch.{Arch}
 use Rattle.lw_base.specs.declared.head.Arch.TheVariants.{Source, X86}
@@ -18,13 +17,8 @@ spelled w =
     else (if bytes_eq w (codes "edi") then Some 5 else None)))))
 
 spelled_name : (r : ℕ) → r < 6 → spelled (without_case X86 (register_name X86 r)) ≡ Some r
-spelled_name zero h = refl
-spelled_name (suc zero) h = refl
-spelled_name (suc (suc zero)) h = refl
-spelled_name (suc (suc (suc zero))) h = refl
-spelled_name (suc (suc (suc (suc zero)))) h = refl
-spelled_name (suc (suc (suc (suc (suc zero))))) h = refl
 spelled_name (suc (suc (suc (suc (suc (suc r)))))) h = absurd (omega arith)
+spelled_name _ h = refl
 
 pub register_unique : (arch : Arch) (w : Bytes) (r q : ℕ) → IsRegister arch w r → IsRegister arch w q → r ≡ q
 register_unique Source w r q h k =

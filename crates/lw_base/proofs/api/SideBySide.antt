@@ -1,7 +1,7 @@
 -- Items of two lists side by side, and of a list of images.
-use Rattle.std.proofs.Common.{◌≡◌, ℕ, zero, suc, Bool, true, List, [], ◌∷◌, length, map, Some, refl, sym, ap₂, ◌∙◌, arith}
-use Rattle.std.specs.Prelude.{slice_get}
-use Rattle.std.specs.List.{list_all, zip}
+use Rattle.std.proofs.Common.{◌≡◌, ℕ, zero, suc, Bool, true, List, [], ◌∷◌, length, map, Some, refl, sym, ap₂}
+use Rattle.std.proofs.Common.{◌∙◌, arith, slice_get, zip}
+use Rattle.std.specs.List.{list_all}
 use Rattle.std.proofs.lemmas.Bool.{and_parts, and_from}
 
 -- an item of a list of images is the image of an item
@@ -14,18 +14,16 @@ got_map f (x ∷ xs) (suc k) y at = got_map f xs k y at
 pub same_maps : {X Y Z : Type 0} (f : X → Z) (g : Y → Z) (xs : List X) (ys : List Y) → length xs ≡ length ys
     → ((k : ℕ) (x : X) (y : Y) → slice_get xs k ≡ Some x → slice_get ys k ≡ Some y → f x ≡ g y) → map f xs ≡ map g ys
 same_maps f g [] [] as_many alike = refl
-same_maps f g [] (y ∷ ys) as_many alike = absurd (omega arith)
-same_maps f g (x ∷ xs) [] as_many alike = absurd (omega arith)
 same_maps f g (x ∷ xs) (y ∷ ys) as_many alike = ap₂ (λ z zs. z ∷ zs) (alike 0 x y refl refl)
     (same_maps f g xs ys (omega arith) (λ k a b at and. alike (suc k) a b at and))
+same_maps f g _ _ as_many alike = absurd (omega arith)
 
 -- all pairs of fellows pass a test, and each does
 pub zip_pass : {X Y : Type 0} (test : X × Y → Bool) (xs : List X) (ys : List Y)
     → ((k : ℕ) (x : X) (y : Y) → slice_get xs k ≡ Some x → slice_get ys k ≡ Some y → test (x, y) ≡ true) → list_all test (zip xs ys) ≡ true
-zip_pass test [] ys each = refl
-zip_pass test (x ∷ xs) [] each = refl
 zip_pass test (x ∷ xs) (y ∷ ys) each = and_from (test (x, y)) (list_all test (zip xs ys)) (each 0 x y refl refl)
     (zip_pass test xs ys (λ k a b at and. each (suc k) a b at and))
+zip_pass test _ _ each = refl
 
 pub zip_passes : {X Y : Type 0} (test : X × Y → Bool) (xs : List X) (ys : List Y) (k : ℕ) (x : X) (y : Y) → list_all test (zip xs ys) ≡ true
     → slice_get xs k ≡ Some x → slice_get ys k ≡ Some y → test (x, y) ≡ true

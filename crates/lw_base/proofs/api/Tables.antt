@@ -1,19 +1,20 @@
 -- Where a name stands in a table, and a table with one name more.
+use Rattle.std.proofs.Common.{bytes_eq, true≢false, append-nil, append_assoc, ◌++◌, ◌∷◌, length-append, ◌≡◌}
+use Rattle.std.proofs.Common.{ℕ, ◌<◌, ◌+◌, true, false, suc, zero, List, [], map, length, take, get_or}
+use Rattle.std.proofs.Common.{slice_get, Option, Some, None, MatchOption, Contains, ◌⊎◌, inl, inr, refl, ap}
+use Rattle.std.proofs.Common.{sym, ◌∙◌, subst, nat_eq, arith, IsSome, option_map, SomeIff}
 use Rattle.lw_base.specs.Types.{Bytes, NameTable}
 use Rattle.lw_base.specs.Lists.{EachOnce}
 use Rattle.lw_base.specs.Names.{IsLocation, IsTable}
 use Rattle.lw_base.specs.Tables.{contains_name, with_name, with_names, index_of}
-use Rattle.std.specs.Str.{bytes_eq}
-use Rattle.std.proofs.lemmas.Bool.{false_from_ne_true, true≢false, or_right}
+use Rattle.std.proofs.lemmas.Bool.{false_from_ne_true, or_right}
 use Rattle.std.specs.List.{AllByRecursion}
-use Rattle.std.proofs.lemmas.List.{append-nil, append_assoc, map-append, take_more}
+use Rattle.std.proofs.lemmas.List.{map-append, take_more}
 use Rattle.std.proofs.lemmas.List.Elements.{Contains-push_cases, Contains-append_right}
-use Rattle.std.proofs.Common.{◌++◌, ◌∷◌, length-append, ◌≡◌, ℕ, ◌<◌, ◌+◌, true, false, suc, zero, List, [], map, length, take, get_or, slice_get, Option, Some}
-use Rattle.std.proofs.Common.{None, MatchOption, Contains, ◌⊎◌, inl, inr, refl, ap, sym, ◌∙◌, subst, nat_eq, arith}
-use Rattle.std.specs.Option.{IsSome, option_map, SomeIff}
 use Rattle.std.specs.Cmp.{unsigned_Decides}
 use Rattle.std.specs.Cmp.Lexicographic.{pointwise, pointwise_decides}
-use Rattle.std.proofs.lemmas.Option.{slice_get-get_or, slice_get-map, slice_get_read, slice_get_within, get_or_from_slice_get}
+use Rattle.std.proofs.lemmas.Option.{slice_get-get_or, slice_get-map, slice_get_read, slice_get_within}
+use Rattle.std.proofs.lemmas.Option.{get_or_from_slice_get}
 
 module _ {S : Type 0} (f : S → Bytes) (ss : List S) (p : ℕ) (s : S) (t name : Bytes) (lt : p < length ss) (is : s ≡ get_or ss p s) (text : t ≡ f s) where
   at_place : slice_get (map f ss) p ≡ Some t

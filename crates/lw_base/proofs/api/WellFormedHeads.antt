@@ -1,11 +1,11 @@
 -- A head is as well-formed with a longer table of locations.
 use Rattle.std.proofs.Common.{ℕ, zero, suc, ◌-◌, ◌≤◌, List, [], ◌∷◌, ◌++◌, length, arith, length-append}
-use Rattle.std.specs.Prelude.{replicate}
+use Rattle.std.proofs.Common.{replicate}
 use Rattle.std.specs.List.{AllByRecursion}
 use Rattle.std.proofs.lemmas.List.{length-replicate}
 use Rattle.lw_base.specs.declared.head.Seen.{Seen}
 use Rattle.lw_base.specs.declared.head.Seen.TheVariants.{Register, Location}
-use Rattle.lw_base.specs.Formula.{Formula, Yes, No, Reg_is, Word_is, Not, And, Or}
+use Rattle.lw_base.specs.Formula.{Formula, Word_is, Not, And, Or}
 use Rattle.lw_base.specs.Heads.{TestHead, with_table}
 use Rattle.lw_base.specs.Names.{IsTable}
 use Rattle.lw_base.specs.WellFormed.{IsSeen, IsWordNumber, SpeaksOf, IsWellFormedHead}
@@ -19,13 +19,11 @@ all_seen_more threads few more le [] h = tt
 all_seen_more threads few more le (s ∷ ss) h = (seen_more threads few more le s h.0, all_seen_more threads few more le ss h.1)
 
 speaks_more : (threads few more : ℕ) → few ≤ more → (p : Formula) → SpeaksOf threads few p → SpeaksOf threads more p
-speaks_more threads few more le Yes h = h
-speaks_more threads few more le No h = h
-speaks_more threads few more le (Reg_is t r n) h = h
 speaks_more threads few more le (Word_is x n) h = (omega (arith, h.0), h.1)
 speaks_more threads few more le (Not p) h = speaks_more threads few more le p h
 speaks_more threads few more le (And p q) h = (speaks_more threads few more le p h.0, speaks_more threads few more le q h.1)
 speaks_more threads few more le (Or p q) h = (speaks_more threads few more le p h.0, speaks_more threads few more le q h.1)
+speaks_more threads few more le _ h = h
 
 -- Words, and 0 for each location that is new.
 words_more : (ws : List ℕ) (n : ℕ) → AllByRecursion IsWordNumber ws → AllByRecursion IsWordNumber (ws ++ replicate n 0)

@@ -4,11 +4,10 @@ use Rattle.lw_base.specs.Types.{Bytes}
 use Rattle.lw_base.specs.Names.{are_digits}
 use Rattle.lw_base.specs.Schedules.{IsCpu}
 use Rattle.lw_base.specs.declared.fault.ScheduleCause.{ScheduleCause}
-use Rattle.lw_base.specs.declared.fault.ScheduleCause.TheVariants.{Word, Cpu, Location, Memory}
+use Rattle.lw_base.specs.declared.fault.ScheduleCause.TheVariants.{Word, Cpu}
 
 -- what is wrong with the digits of a word
 abbrev pub HasBadDigits : Bytes → ScheduleCause → Type 0
 HasBadDigits ds Word = are_digits ds ≡ false
 HasBadDigits ds Cpu = (are_digits ds ≡ true) × (IsCpu ds → ⊥)
-HasBadDigits ds Location = ⊥
-HasBadDigits ds Memory = ⊥
+HasBadDigits ds _ = ⊥

@@ -1,14 +1,14 @@
 -- The orders of all choices are counted, choice by choice; and what a refusal on the way tells.
-use Rattle.std.proofs.Common.{◌≡◌, ℕ, ◌+◌, ◌<◌, ◌≤◌, List, [], ◌∷◌, length, min, refl, ap, ◌∙◌, subst, inl, inr, arith}
-use Rattle.std.specs.Prelude.{All, Contains}
+use Rattle.std.proofs.Common.{◌≡◌, ℕ, ◌+◌, ◌<◌, ◌≤◌, List, [], ◌∷◌, length, min, refl, ap, ◌∙◌, subst, inl}
+use Rattle.std.proofs.Common.{inr, arith, All, Contains}
 use Rattle.lw_orders.specs.Order.{count_of}
 use Rattle.lw_orders.specs.Limits.{most_items, most_orders}
 use Rattle.lw_choices.specs.declared.fault.ListFault.{ListFault}
 use Rattle.lw_choices.specs.declared.fault.ListFault.TheVariants.{TooManyItems, TooManyOrders, Memory}
 use Rattle.lw_choices.specs.declared.item.Item.{Item}
 use Rattle.lw_choices.specs.Choices.{IsForward, choices_of}
-use Rattle.lw_choices.specs.Counts.{items_at_choice, orders_at_choice, orders_of, total_of, HasTooManyItems, TellsOfChoice, TellsOfGiven, TellsOfChoices}
-use Rattle.lw_choices.specs.Counts.{TellsLimit}
+use Rattle.lw_choices.specs.Counts.{items_at_choice, orders_at_choice, orders_of, total_of, HasTooManyItems}
+use Rattle.lw_choices.specs.Counts.{TellsOfChoice, TellsOfGiven, TellsOfChoices, TellsLimit}
 use Rattle.lw_litmus.specs.Languages.{Language}
 use Rattle.lw_choices.specs.Items.{items_of, constraints_of}
 use Rattle.lw_choices.specs.Visits.{Visited, Refused}

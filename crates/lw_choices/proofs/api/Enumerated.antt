@@ -1,7 +1,7 @@
 -- The lists of all paths and of all choices have each of them, and nothing else.
-use Rattle.std.proofs.Common.{◌≡◌, ℕ, zero, suc, ◌+◌, ◌<◌, ◌≤◌, List, [], ◌∷◌, map, length, Option, Some, None, refl, sym, subst, inl, inr, slice_get, arith}
-use Rattle.std.specs.Prelude.{Contains, All, ◌↔◌}
-use Rattle.std.specs.List.{flat_map}
+use Rattle.std.proofs.Common.{◌≡◌, ℕ, zero, suc, ◌+◌, ◌<◌, ◌≤◌, List, [], ◌∷◌, map, length, Option, Some}
+use Rattle.std.proofs.Common.{None, refl, sym, subst, inl, inr, slice_get, arith, Contains, All, ◌↔◌}
+use Rattle.std.proofs.Common.{flat_map}
 use Rattle.std.proofs.lemmas.Bool.{cases_lt}
 use Rattle.std.proofs.lemmas.Option.{slice_get_past}
 use Rattle.std.proofs.lemmas.List.Elements.{All-head, All-tail}
@@ -9,7 +9,8 @@ use Rattle.lw_base.proofs.api.Lists.{get_some}
 use Rattle.lw_litmus.specs.Languages.{Language}
 use Rattle.lw_litmus.specs.Flow.{Follows, IsPathFrom}
 use Rattle.lw_choices.specs.Choices.{IsForward, IsChoice, led, paths_on, paths_from, paths_of, choices_of}
-use Rattle.lw_choices.proofs.api.Members.{none_in, Contains-here, Contains-cons, Contains-map, from_map, Contains-flat_map, from_flat_map}
+use Rattle.lw_choices.proofs.api.Members.{none_in, Contains-here, Contains-cons, Contains-map, from_map}
+use Rattle.lw_choices.proofs.api.Members.{Contains-flat_map, from_flat_map}
 use Rattle.lw_choices.proofs.api.Led.{led-has, led-only, led_within}
 
 module _ {S : Type 0} (language : Language S) where
@@ -64,12 +65,11 @@ module _ {S : Type 0} (language : Language S) where
   choices-has : (program : List (List S)) → All (IsForward language) program → (paths : List (List ℕ))
       → IsChoice language program paths → Contains (choices_of language program) paths
   choices-has [] all [] is = Contains-here [] [] [] refl
-  choices-has [] all (p ∷ paths) is = absurd is
-  choices-has (code ∷ program) all [] is = absurd is
   choices-has (code ∷ program) all (p ∷ paths) (one, rest) =
       Contains-flat_map (λ path. map (λ paths. path ∷ paths) (choices_of language program)) (paths_of language code) p (p ∷ paths)
       (paths-has code (All-head (IsForward language) code program all) (length code) 0 p (omega arith) one)
       (Contains-map (λ paths. p ∷ paths) (choices_of language program) paths (choices-has program (All-tail (IsForward language) code program all) paths rest))
+  choices-has _ all _ is = absurd is
 
   choices-only : (program : List (List S)) → All (IsForward language) program → (paths : List (List ℕ))
       → Contains (choices_of language program) paths → IsChoice language program paths

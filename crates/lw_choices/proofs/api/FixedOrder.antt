@@ -1,11 +1,11 @@
 -- What the fixed pairs of items order. They are few, and order more: in each order that keeps them, of two items of a thread the
 -- first stands before the second where it is a statement, or where the second is a drain or waits for drains. And an order in
 -- which all these stand so keeps the fixed pairs.
-use Rattle.std.proofs.Common.{◌≡◌, ℕ, suc, ◌+◌, ◌-◌, ◌<◌, ◌≤◌, ◌⊎◌, inl, inr, List, [], ◌∷◌, length, Option, Some, None, Bool, true, false, refl, sym, ap, ◌∙◌}
-use Rattle.std.proofs.Common.{subst, arith, slice_get}
-use Rattle.std.specs.Prelude.{All}
+use Rattle.std.proofs.Common.{◌≡◌, ℕ, suc, ◌+◌, ◌-◌, ◌<◌, ◌≤◌, ◌⊎◌, inl, inr, List, [], ◌∷◌, length, Option}
+use Rattle.std.proofs.Common.{Some, None, Bool, true, false, refl, sym, ap, ◌∙◌, subst, arith, slice_get, All}
+use Rattle.std.proofs.Common.{true≢false}
 use Rattle.std.specs.Option.{ForSome}
-use Rattle.std.proofs.lemmas.Bool.{true≢false, cases_eq, cases_Bool}
+use Rattle.std.proofs.lemmas.Bool.{cases_eq, cases_Bool}
 use Rattle.std.proofs.lemmas.Option.{get_or_from_slice_get}
 use Rattle.std.proofs.lemmas.List.Elements.{All-nil, All-cons, All-head, All-append}
 use Rattle.lw_orders.specs.Order.{place, Before, Keeps}
@@ -13,7 +13,8 @@ use Rattle.lw_orders.proofs.api.Complete.{All-parts}
 use Rattle.lw_choices.specs.declared.item.Item.{Item}
 use Rattle.lw_choices.specs.declared.item.Last.{Last}
 use Rattle.lw_litmus.specs.Languages.{Language}
-use Rattle.lw_choices.specs.Items.{item_at, none_before, behind, fixed_at, last_with, last_of, does_wait, fixed_from, constraints_of}
+use Rattle.lw_choices.specs.Items.{item_at, none_before, behind, fixed_at, last_with, last_of, does_wait}
+use Rattle.lw_choices.specs.Items.{fixed_from, constraints_of}
 use Rattle.lw_choices.proofs.api.FixedPairs.{last_same, last_other, fixed_along}
 
 module _ {S : Type 0} (language : Language S) (program : List (List S)) where
@@ -57,14 +58,12 @@ module _ {S : Type 0} (language : Language S) (program : List (List S)) where
       behind_kept (Some m) n i all h = let b : Before o m n = All-head Stands (m, n) [] all in omega (arith, h, b)
 
       statement_kept : (d w : Bool) (last : Last) (n i : ℕ) → All Stands (fixed_at d w last n) → Reaches i last.statement → Before o i n
-      statement_kept true w last n i all h = behind_kept last.statement n i (All-parts Stands (behind last.statement n) (behind last.drain n) all).0 h
-      statement_kept false true last n i all h = behind_kept last.statement n i (All-parts Stands (behind last.statement n) (behind last.drain n) all).0 h
       statement_kept false false last n i all h = behind_kept last.statement n i all h
+      statement_kept _ _ last n i all h = behind_kept last.statement n i (All-parts Stands (behind last.statement n) (behind last.drain n) all).0 h
 
       drain_kept : (d w : Bool) (last : Last) (n i : ℕ) → (d ≡ true) ⊎ (w ≡ true) → All Stands (fixed_at d w last n) → Reaches i last.drain → Before o i n
-      drain_kept true w last n i is all h = behind_kept last.drain n i (All-parts Stands (behind last.statement n) (behind last.drain n) all).1 h
-      drain_kept false true last n i is all h = behind_kept last.drain n i (All-parts Stands (behind last.statement n) (behind last.drain n) all).1 h
       drain_kept false false last n i is all h = elim is [ inl e ↦ absurd (true≢false (sym e)) | inr e ↦ absurd (true≢false (sym e)) ]
+      drain_kept _ _ last n i is all h = behind_kept last.drain n i (All-parts Stands (behind last.statement n) (behind last.drain n) all).1 h
 
       module _ (up : (i j : ℕ) → i ≤ j → j < length all → (it i).thread ≤ (it j).thread) where
         covers_there : (n t : ℕ) (last : Last) → n < length all → ((m : ℕ) → suc m ≡ n → (it m).thread ≡ t)

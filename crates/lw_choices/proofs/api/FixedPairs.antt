@@ -1,19 +1,20 @@
 -- The fixed pairs of the items of a choice, in either language: each goes up along a thread. And the items with their fixed pairs
 -- and conflicts are well-formed.
-use Rattle.std.proofs.Common.{◌≡◌, Bool, true, false, ℕ, zero, suc, ◌+◌, ◌<◌, ◌≤◌, ◌==◌, List, [], ◌∷◌, length, Option, Some, None, refl, sym, ap, ◌∙◌, subst}
-use Rattle.std.proofs.Common.{inl, inr, slice_get, arith}
-use Rattle.std.specs.Prelude.{All, Contains}
+use Rattle.std.proofs.Common.{◌≡◌, Bool, true, false, ℕ, zero, suc, ◌+◌, ◌<◌, ◌≤◌, ◌==◌, List, [], ◌∷◌}
+use Rattle.std.proofs.Common.{length, Option, Some, None, refl, sym, ap, ◌∙◌, subst, inl, inr, slice_get}
+use Rattle.std.proofs.Common.{arith, All, Contains, eq-eqb, ne_eqb}
 use Rattle.std.specs.Option.{ForSome}
-use Rattle.std.proofs.lemmas.Bool.{cases_eq, eq-eqb, ne_eqb, cond-true, cond-false}
+use Rattle.std.proofs.lemmas.Bool.{cases_eq, cond-true, cond-false}
 use Rattle.std.proofs.lemmas.List.Elements.{All-nil, All-cons, All-append, All-weaker}
 use Rattle.lw_orders.specs.Order.{GoUp, IsWellFormed}
 use Rattle.lw_orders.specs.Limits.{most_items}
 use Rattle.lw_choices.specs.declared.item.Item.{Item}
 use Rattle.lw_choices.specs.declared.item.Last.{Last}
 use Rattle.lw_litmus.specs.Languages.{Language}
-use Rattle.lw_choices.specs.Items.{item_at, none_before, behind, fixed_at, last_with, last_of, pairs_from, items_conflict, does_wait, fixed_from}
-use Rattle.lw_choices.specs.Items.{constraints_of}
-use Rattle.lw_choices.proofs.api.Pairs.{In, All-passing, pairs_up, pairs_have, pairs_rise, Rises-filter, Rises-sorted, Contains-filter}
+use Rattle.lw_choices.specs.Items.{item_at, none_before, behind, fixed_at, last_with, last_of, pairs_from}
+use Rattle.lw_choices.specs.Items.{items_conflict, does_wait, fixed_from, constraints_of}
+use Rattle.lw_choices.proofs.api.Pairs.{In, All-passing, pairs_up, pairs_have, pairs_rise, Rises-filter}
+use Rattle.lw_choices.proofs.api.Pairs.{Rises-sorted, Contains-filter}
 
 -- the last items, given whether they are of the thread
 pub last_same : (t u : ℕ) (last : Last) → t ≡ u → last_of t u last ≡ last

@@ -1,15 +1,15 @@
 -- Where statements lead: the list of the positions that may follow one.
-use Rattle.std.proofs.Common.{◌≡◌, ◌≢◌, ℕ, ◌+◌, ◌<◌, ◌≤◌, ◌==◌, Bool, true, false, List, [], ◌∷◌, length, Option, Some, None, refl, sym, ap, ◌∙◌, subst, inl}
-use Rattle.std.proofs.Common.{inr, ◌⊎◌, slice_get, arith}
-use Rattle.std.specs.Prelude.{Contains}
-use Rattle.std.proofs.lemmas.Bool.{cases_eq, eq-eqb, ne_eqb, cond-true, cond-false, true≢false}
+use Rattle.std.proofs.Common.{◌≡◌, ◌≢◌, ℕ, ◌+◌, ◌<◌, ◌≤◌, ◌==◌, Bool, true, false, List, [], ◌∷◌, length}
+use Rattle.std.proofs.Common.{Option, Some, None, refl, sym, ap, ◌∙◌, subst, inl, inr, ◌⊎◌, slice_get, arith}
+use Rattle.std.proofs.Common.{Contains, eq-eqb, ne_eqb, true≢false}
+use Rattle.std.proofs.lemmas.Bool.{cases_eq, cond-true, cond-false}
 use Rattle.std.proofs.lemmas.Option.{slice_get_within, same_Some, none-some}
 use Rattle.lw_base.specs.Lists.{EachOnce}
 use Rattle.lw_litmus.specs.Languages.{Language}
 use Rattle.lw_litmus.specs.Flow.{Follows}
 use Rattle.lw_litmus.specs.Operations.{target_of, goes_on}
 use Rattle.lw_litmus.specs.declared.operation.Operation.{Operation}
-use Rattle.lw_litmus.specs.declared.operation.Operation.TheVariants.{Set, Sum, Compare, Store, Load, Swap, FetchAdd, Fence, Branch}
+use Rattle.lw_litmus.specs.declared.operation.Operation.TheVariants.{Branch}
 use Rattle.lw_choices.specs.Choices.{IsForward, next_or, led_by, led}
 use Rattle.lw_choices.proofs.api.Members.{none_in, of_one, Contains-here, Contains-there, Contains-cons}
 
@@ -56,14 +56,7 @@ led_to-once (Some to) false j = one_once to
 -- the list has what follows, and nothing else
 goes_without : (o : Operation) → target_of o ≡ None → goes_on o ≡ true
 goes_without (Branch c to) e = absurd cc
-goes_without (Set d v) e = refl
-goes_without (Sum d a v) e = refl
-goes_without (Compare a v) e = refl
-goes_without (Store x v) e = refl
-goes_without (Load d x) e = refl
-goes_without (Swap d x a) e = refl
-goes_without (FetchAdd d x v) e = refl
-goes_without Fence e = refl
+goes_without _ e = refl
 
 led_to-has : (o : Option ℕ) (goes : Bool) (j k : ℕ) → ((goes ≡ true) × (k ≡ j + 1)) ⊎ (o ≡ Some k) → Contains (led_by o goes j) k
 led_to-has None goes j k (inl (g, e)) = Contains-here (j + 1) k [] (sym e)

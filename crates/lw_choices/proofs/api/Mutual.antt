@@ -1,7 +1,8 @@
 -- Conflicts are mutual.
-use Rattle.std.proofs.Common.{◌≡◌, ℕ, Bool, ◌&&◌, Option, Some, None, refl, sym, ap₂, ◌∙◌, inl, inr}
+use Rattle.std.proofs.Common.{◌≡◌, ℕ, Bool, ◌&&◌, Option, Some, None, refl, sym, ap₂, ◌∙◌, inl, inr, eq-eqb}
+use Rattle.std.proofs.Common.{ne_eqb}
 use Rattle.std.proofs.Math.Bool.{or_comm}
-use Rattle.std.proofs.lemmas.Bool.{cases_eq, eq-eqb, ne_eqb}
+use Rattle.std.proofs.lemmas.Bool.{cases_eq}
 use Rattle.lw_litmus.specs.Conflicts.{is_one}
 use Rattle.lw_litmus.specs.Languages.{Language}
 use Rattle.lw_choices.specs.Items.{location_by, writes_by, conflict_by}

@@ -1,13 +1,13 @@
 -- The items of a choice of paths: the statements on them and the drains of their stores, thread by thread, and how their numbers
 -- go along the paths.
-use Rattle.std.proofs.Common.{◌≡◌, ℕ, zero, suc, ◌+◌, ◌<◌, ◌≤◌, ◌⊎◌, inl, inr, List, [], ◌∷◌, ◌++◌, length, Option, Some, None, Bool, true, false, refl, sym}
-use Rattle.std.proofs.Common.{ap, ◌∙◌, subst, arith, slice_get}
-use Rattle.std.specs.Prelude.{All, Contains}
+use Rattle.std.proofs.Common.{◌≡◌, ℕ, zero, suc, ◌+◌, ◌<◌, ◌≤◌, ◌⊎◌, inl, inr, List, [], ◌∷◌, ◌++◌, length}
+use Rattle.std.proofs.Common.{Option, Some, None, Bool, true, false, refl, sym, ap, ◌∙◌, subst, arith}
+use Rattle.std.proofs.Common.{slice_get, All, Contains, true≢false}
 use Rattle.std.specs.Option.{option_map_or}
-use Rattle.std.proofs.lemmas.Bool.{true≢false, cases_order}
+use Rattle.std.proofs.lemmas.Bool.{cases_order}
 use Rattle.std.proofs.lemmas.List.{get_or_default}
-use Rattle.std.proofs.lemmas.List.Elements.{All-nil, All-cons, All-append, All-head, All-tail, All-weaker, All-get_or, Contains-append_left}
-use Rattle.std.proofs.lemmas.List.Elements.{Contains-append_right}
+use Rattle.std.proofs.lemmas.List.Elements.{All-nil, All-cons, All-append, All-head, All-tail, All-weaker}
+use Rattle.std.proofs.lemmas.List.Elements.{All-get_or, Contains-append_left, Contains-append_right}
 use Rattle.lw_base.specs.Threads.{code_of}
 use Rattle.lw_litmus.specs.Flow.{IsPathFrom}
 use Rattle.lw_litmus.specs.Languages.{Language}
@@ -40,10 +40,9 @@ pairwise_all R P f (x ∷ xs) h =
     (All-weaker P (R x) (λ b. f x b (All-head P x xs h)) xs rest, pairwise_all R P f xs rest)
 
 pairwise_at : (R : Item → Item → Type 0) (xs : List Item) (i j : ℕ) → Pairwise R xs → i < j → j < length xs → R (item_at xs i) (item_at xs j)
-pairwise_at R [] i j h less l = absurd (omega arith)
-pairwise_at R (x ∷ xs) i zero h less l = absurd (omega arith)
 pairwise_at R (x ∷ xs) zero (suc j) h less l = All-get_or (R x) xs j _ (omega arith) h.0
 pairwise_at R (x ∷ xs) (suc i) (suc j) h less l = pairwise_at R xs i j h.1 (omega arith) (omega arith)
+pairwise_at R _ i _ h less l = absurd (omega arith)
 
 -- an item has a number
 abbrev pub Has : List Item → Item → Type 0
@@ -120,14 +119,13 @@ module _ {S : Type 0} (language : Language S) where
   -- holds of each item
   each_item : (P : Item → Type 0) (t : ℕ) (program : List (List S)) (paths : List (List ℕ))
       → ((k : ℕ) → k < length program → OnPath P (t + k) (code_of program k) (code_of paths k)) → All P (items_from language t program paths)
-  each_item P t [] paths f = All-nil P
-  each_item P t (code ∷ program) [] f = All-nil P
   each_item P t (code ∷ program) (path ∷ paths) f =
       let here : t + 0 ≡ t = omega arith in
       All-append P (path_items language t code path) (items_from language (suc t) program paths)
       (each_thread P t code path (subst (λ (k : ℕ). OnPath P k code path) here (f 0 (omega arith))))
       (each_item P (suc t) program paths (λ k l. let next : t + suc k ≡ suc t + k = omega arith in
       subst (λ (n : ℕ). OnPath P n (code_of program k) (code_of paths k)) next (f (suc k) (omega arith))))
+  each_item P t _ _ f = All-nil P
 
   -- and each statement on the paths, and each drain of a store there, is an item
   has_here : (t j : ℕ) (s : S) (b : Bool) → (b ≡ true → IsStoring s) → Contains (items_at language t j (Some s)) (item t j b)
@@ -149,8 +147,6 @@ module _ {S : Type 0} (language : Language S) where
   has_from : (t : ℕ) (program : List (List S)) (paths : List (List ℕ)) (k j : ℕ) (a : Item)
       → length paths ≡ length program → k < length program → In j (code_of paths k)
       → Contains (items_at language (t + k) j (slice_get (code_of program k) j)) a → Contains (items_from language t program paths) a
-  has_from t [] paths k j a len l h g = absurd (omega arith)
-  has_from t (code ∷ program) [] k j a len l h g = absurd (omega arith)
   has_from t (code ∷ program) (path ∷ paths) zero j a len l h g =
       let here : t + 0 ≡ t = omega arith in
       Contains-append_left (path_items language t code path) (items_from language (suc t) program paths) a
@@ -160,6 +156,7 @@ module _ {S : Type 0} (language : Language S) where
       Contains-append_right (path_items language t code path) (items_from language (suc t) program paths) a
       (has_from (suc t) program paths k j a (omega arith) (omega arith) h
       (subst (λ (n : ℕ). Contains (items_at language n j (slice_get (code_of program k) j)) a) next g))
+  has_from t _ _ k j a len l h g = absurd (omega arith)
 
   here_sorted : (t j : ℕ) (o : Option S) → Pairwise IsLower (items_at language t j o)
   here_sorted t j None = tt
@@ -183,17 +180,14 @@ module _ {S : Type 0} (language : Language S) where
 
   all_sorted : (t : ℕ) (program : List (List S)) (paths : List (List ℕ)) → ((k : ℕ) → k < length program
       → GoesUp 0 (code_of paths k)) → Pairwise IsLower (items_from language t program paths)
-  all_sorted t [] paths u = tt
-  all_sorted t (code ∷ program) [] u = tt
   all_sorted t (code ∷ program) (path ∷ paths) u =
       pairwise_append IsLower (path_items language t code path) (items_from language (suc t) program paths) (thread_sorted t 0 code path (u 0 (omega arith)))
       (all_sorted (suc t) program paths (λ k l. u (suc k) (omega arith)))
       (each_thread (λ (a : Item). All (IsLower a) (items_from language (suc t) program paths)) t code path (λ j s b h e store.
       each_item (IsLower (item t j b)) (suc t) program paths (λ k l i z c g f store same. absurd (omega arith))))
+  all_sorted t _ _ u = tt
 
   threads_sorted : (t : ℕ) (program : List (List S)) (paths : List (List ℕ)) → Pairwise IsNoLater (items_from language t program paths)
-  threads_sorted t [] paths = tt
-  threads_sorted t (code ∷ program) [] = tt
   threads_sorted t (code ∷ program) (path ∷ paths) =
       let own : All (λ (a : Item). a.thread ≡ t) (path_items language t code path) =
       each_thread (λ (a : Item). a.thread ≡ t) t code path (λ j s b h e store. refl) in
@@ -205,6 +199,7 @@ module _ {S : Type 0} (language : Language S) where
       (All-weaker (λ (a : Item). a.thread ≡ t) (λ (a : Item). All (IsNoLater a) (items_from language (suc t) program paths))
       (λ a e. All-weaker (λ (b : Item). t ≤ b.thread) (IsNoLater a) (λ b l. omega (arith, e, l)) (items_from language (suc t) program paths) later)
       (path_items language t code path) own)
+  threads_sorted t _ _ = tt
 
   -- a path goes up
   pub path_up : (code : List S) (j : ℕ) (path : List ℕ) → IsForward language code → IsPathFrom language code j path → GoesUp j path
@@ -216,9 +211,8 @@ module _ {S : Type 0} (language : Language S) where
   -- a choice has a path for each thread, and it is whole
   pub as_many : (program : List (List S)) (paths : List (List ℕ)) → IsChoice language program paths → length paths ≡ length program
   as_many [] [] c = refl
-  as_many [] (path ∷ paths) c = absurd c
-  as_many (code ∷ program) [] c = absurd c
   as_many (code ∷ program) (path ∷ paths) c = ap suc (as_many program paths c.1)
+  as_many _ _ c = absurd c
 
   whole : (program : List (List S)) (paths : List (List ℕ)) → IsChoice language program paths
       → (t : ℕ) → t < length program → IsPathFrom language (code_of program t) 0 (code_of paths t)

@@ -1,9 +1,10 @@
 -- Lists of pairs: those that pass a test, sorted.
-use Rattle.std.proofs.Common.{◌≡◌, ℕ, zero, suc, ◌+◌, ◌<◌, ◌≤◌, Bool, true, false, List, [], ◌∷◌, ◌++◌, map, refl, sym, ap, subst, inl, inr, ◌⊎◌, arith}
-use Rattle.std.specs.Prelude.{All, Contains, filter, cond}
+use Rattle.std.proofs.Common.{◌≡◌, ℕ, zero, suc, ◌+◌, ◌<◌, ◌≤◌, Bool, true, false, List, [], ◌∷◌, ◌++◌, map}
+use Rattle.std.proofs.Common.{refl, sym, ap, subst, inl, inr, ◌⊎◌, arith, All, Contains, filter, cond}
 use Rattle.std.proofs.lemmas.Bool.{cases_eq, cond-true}
-use Rattle.std.proofs.lemmas.List.Elements.{All-nil, All-cons, All-head, All-append, All-map, All-weaker, All-filter, Contains-append_left}
-use Rattle.std.proofs.lemmas.List.Elements.{Contains-append_right, filter_passes}
+use Rattle.std.proofs.lemmas.List.Elements.{All-nil, All-cons, All-head, All-append, All-map, All-weaker}
+use Rattle.std.proofs.lemmas.List.Elements.{All-filter, Contains-append_left, Contains-append_right}
+use Rattle.std.proofs.lemmas.List.Elements.{filter_passes}
 use Rattle.lw_orders.specs.Order.{AreSorted}
 use Rattle.lw_orders.specs.Sequence.{numbers}
 use Rattle.lw_choices.specs.Items.{pairs_from}
@@ -103,9 +104,8 @@ Rises-filter p [] r = tt
 Rises-filter p (q ∷ ps) r = rises_on p q ps (p q) refl r.0 (Rises-filter p ps r.1)
 
 pub Rises-sorted : (ps : List (ℕ × ℕ)) → Rises ps → AreSorted ps
-Rises-sorted [] r = tt
-Rises-sorted (p ∷ []) r = tt
 Rises-sorted (p ∷ q ∷ ps) (a, r) = (All-head (Less p) q ps a, Rises-sorted (q ∷ ps) r)
+Rises-sorted _ r = tt
 
 -- pairs with the lower number k, then others
 row_rises : (k : ℕ) (js : List ℕ) (ps : List (ℕ × ℕ)) → Mounts js → All (λ p. k < p.0) ps → Rises ps → Rises (map (with k) js ++ ps)

@@ -24,10 +24,9 @@ negated [] = []
 negated (p ∷ ps) = Not p ∷ ps
 
 abbrev connected : Bool → List Formula → List Formula
-connected b [] = []
-connected b (q ∷ []) = []
 connected true (q ∷ p ∷ ps) = And p q ∷ ps
 connected false (q ∷ p ∷ ps) = Or p q ∷ ps
+connected b _ = []
 
 -- the propositions read so far, and one part more
 abbrev with_part : Part → List Formula → List Formula
@@ -43,10 +42,6 @@ read_parts [] ps = ps
 read_parts (part ∷ parts) ps = read_parts parts (with_part part ps)
 
 pub read_written : (p : Formula) (rest : List Part) (ps : List Formula) → read_parts (written p rest) ps ≡ read_parts rest (p ∷ ps)
-read_written Yes rest ps = refl
-read_written No rest ps = refl
-read_written (Reg_is cpu reg word) rest ps = refl
-read_written (Word_is loc word) rest ps = refl
 read_written (Not p) rest ps = read_written p (inr (inr (inr None)) ∷ rest) ps
 read_written (And p q) rest ps =
     let last : List Part = inr (inr (inr (Some true))) ∷ rest in
@@ -54,6 +49,7 @@ read_written (And p q) rest ps =
 read_written (Or p q) rest ps =
     let last : List Part = inr (inr (inr (Some false))) ∷ rest in
     read_written p (written q last) ps ∙ read_written q last (p ∷ ps)
+read_written _ rest ps = refl
 
 abbrev the_first : List Formula → Formula
 the_first [] = Yes

@@ -1,9 +1,8 @@
 -- Steps of the threads: what each of them moves, where it leads, and which can be exchanged.
-use Rattle.std.proofs.Common.{◌≡◌, ◌≢◌, ℕ, ◌+◌, Bool, true, false, ◌||◌, ◌&&◌, if◌then◌else◌, List, Option, Some, None, Ok, refl, sym, ap, ap₂, ◌∙◌, subst, inl}
-use Rattle.std.proofs.Common.{inr, ◌⊎◌, slice_get, slice_set, slice_index}
-use Rattle.std.specs.Option.{option_map, option_and_then}
-use Rattle.std.proofs.lemmas.Bool.{eq-eqb}
-use Rattle.std.proofs.lemmas.List.{set_comm, set-get_or, get_or-set_other}
+use Rattle.std.proofs.Common.{◌≡◌, ◌≢◌, ℕ, ◌+◌, Bool, true, false, ◌||◌, ◌&&◌, if◌then◌else◌, List, Option}
+use Rattle.std.proofs.Common.{Some, None, Ok, refl, sym, ap, ap₂, ◌∙◌, subst, inl, inr, ◌⊎◌, slice_get}
+use Rattle.std.proofs.Common.{slice_set, slice_index, option_map, option_and_then, eq-eqb, get_or-set_other}
+use Rattle.std.proofs.lemmas.List.{set_comm, set-get_or}
 use Rattle.std.proofs.lemmas.Option.{slice_get-map}
 use Rattle.lw_base.proofs.api.Lists.{got_set_same, got_set_other}
 use Rattle.lw_litmus.specs.declared.operation.Condition.TheVariants.{Always}
@@ -93,9 +92,8 @@ words_alone o th m none = words_left o th m ∙ ap (λ l. put l (left_word o th 
 
 -- two operations work at different locations, or write none
 abbrev Apart : Option ℕ → Option ℕ → Type 0
-Apart None y = Unit {0}
-Apart (Some x) None = Unit {0}
 Apart (Some x) (Some y) = x ≢ y
+Apart _ _ = Unit {0}
 
 abbrev AreFree : Operation → Operation → Type 0
 AreFree o p = ((writes o ≡ false) × (writes p ≡ false)) ⊎ Apart (location_of o) (location_of p)
@@ -121,14 +119,12 @@ are_free a b none = go (location_of (source_operation a)) (location_of (source_o
     go (Some x) (Some y) false true e = inr (λ same. let e' = rw (eq-eqb x y same) at e in absurd cc)
 
 put_apart : (x y : Option ℕ) (w : ℕ) (m : List ℕ) → Apart x y → word_at x (put y w m) ≡ word_at x m
-put_apart None y w m apart = refl
-put_apart (Some x) None w m apart = refl
 put_apart (Some x) (Some y) w m apart = get_or-set_other m y x w 0 apart
+put_apart _ _ w m apart = refl
 
 put_exchanged : (x y : Option ℕ) (v w : ℕ) (m : List ℕ) → Apart x y → put x v (put y w m) ≡ put y w (put x v m)
-put_exchanged None y v w m apart = refl
-put_exchanged (Some x) None v w m apart = refl
 put_exchanged (Some x) (Some y) v w m apart = set_comm m y x w v (λ e. apart (sym e))
+put_exchanged _ _ v w m apart = refl
 
 -- an operation finds the same word behind one that is free of it, and both leave the same memory, whichever is first
 same_found : (o p : Operation) (tp : Thread) (m : List ℕ) → AreFree o p

@@ -1,13 +1,11 @@
 -- Runs, one event further.
-use Rattle.std.proofs.Common.{◌≡◌, ℕ, suc, ◌<◌, ◌≤◌, ◌+◌, List, [], ◌∷◌, ◌++◌, length, map, take, drop, get_or, refl, sym, ap, ◌∙◌, subst, Result, Ok, Err}
-use Rattle.std.proofs.Common.{arith}
-use Rattle.std.specs.Result.{MatchResult}
+use Rattle.std.proofs.Common.{◌≡◌, ℕ, suc, ◌<◌, ◌≤◌, ◌+◌, List, [], ◌∷◌, ◌++◌, length, map, take, drop}
+use Rattle.std.proofs.Common.{get_or, refl, sym, ap, ◌∙◌, subst, Result, Ok, Err, arith, MatchResult}
+use Rattle.std.proofs.Common.{length-set, take-suc, All, ◌^◌, slice_set, slice_get, slice_index, Option, Some}
+use Rattle.std.proofs.Common.{None, Bool, true, false, if◌then◌else◌, nat_lt, lt-ltb, append_assoc}
+use Rattle.std.proofs.Common.{length-take-le, take_all, option_map}
 use Rattle.lw_base.specs.declared.stop.Stop.{Stop}
 use Rattle.lw_base.specs.declared.stop.End.{End}
-use Rattle.lw_base.specs.declared.stop.End.TheVariants as at
-use Rattle.std.proofs.Math.ListN.{length-set}
-use Rattle.std.proofs.Math.Seq.{take-suc}
-use Rattle.std.specs.Prelude.{All, ◌^◌, slice_set, slice_get, slice_index, Option, Some, None, Bool, true, false, if◌then◌else◌, nat_lt}
 use Rattle.lw_base.specs.declared.event.Event.TheVariants.{Step, Drain, Evict}
 use Rattle.lw_base.specs.declared.stop.Stop.TheVariants.{NoCpu, NoLocation, Ended, BufferEmpty, NotHeld}
 use Rattle.lw_litmus.specs.declared.operation.Operation.{Operation}
@@ -22,13 +20,13 @@ use Rattle.lw_base.specs.declared.event.Event.{Event}
 use Rattle.lw_litmus.specs.declared.stmt.Stmt.{Stmt}
 use Rattle.lw_base.specs.Outcomes.{Final}
 use Rattle.lw_base.specs.Replays.{EndsAs}
-use Rattle.lw_interleaving.specs.Runs.{State, SourceRunState, SourceEventDone, SourceReplayed, SourceRan, is_source_final, outcome_of, source_step}
-use Rattle.lw_interleaving.specs.Runs.{source_event, carried_out, step_of}
-use Rattle.std.proofs.lemmas.Bool.{lt-ltb}
-use Rattle.std.proofs.lemmas.List.{append_assoc, drop_more, length-map, length-take-le, map-append, map_more, set_at, take_all}
+use Rattle.lw_interleaving.specs.Runs.{State, SourceRunState, SourceEventDone, SourceReplayed, SourceRan}
+use Rattle.lw_interleaving.specs.Runs.{is_source_final, outcome_of, source_step, source_event, carried_out}
+use Rattle.lw_interleaving.specs.Runs.{step_of}
+use Rattle.std.proofs.lemmas.List.{drop_more, length-map, map-append, map_more, set_at}
 use Rattle.std.proofs.lemmas.Option.{slice_get-map, slice_get_within}
-use Rattle.std.specs.Option.{option_map}
 use Rattle.lw_base.proofs.api.Lists.{at_index}
+use Rattle.lw_base.specs.declared.stop.End.TheVariants as at
 
 -- what a call answered, and the state that it left: the one after the event, or else Q says which
 abbrev pub Told : Type 0 → Result State Stop → Result (Unit {0}) Stop → State → Type 0

@@ -1,20 +1,21 @@
 -- Outcomes are keys: `==` says of two whether they are one, `cmp` is a total order of them, and so a sorted list of keys goes
 -- up strictly.
-use Rattle.std.proofs.Common.{◌≡◌, ◌≢◌, ◌↔◌, refl, sym, ap, ◌∙◌, ℕ, Bool, true, false, true≢false, ◌&&◌, ◌<◌, ⊎_elim, List, [], ◌∷◌, ◌++◌, nat_eq, get_or}
-use Rattle.std.proofs.Common.{slice_get, position, is_some, Contains, MatchOption, IsTrue, arith}
-use Rattle.std.specs.Prelude.{Option, None, Some, IsPermutation, IsSorted}
+use Rattle.std.proofs.Common.{◌≡◌, ◌≢◌, ◌↔◌, refl, sym, ap, ◌∙◌, ℕ, Bool, true, false, true≢false, ◌&&◌, ◌<◌}
+use Rattle.std.proofs.Common.{⊎_elim, List, [], ◌∷◌, ◌++◌, nat_eq, get_or, slice_get, position, is_some}
+use Rattle.std.proofs.Common.{Contains, MatchOption, IsTrue, arith, Option, None, Some, IsPermutation}
+use Rattle.std.proofs.Common.{IsSorted, Decides, is_eq, is_lt, nat_cmp, Ordering, Less, Equal, Greater}
 use Rattle.std.specs.List.{IsDistinct}
-use Rattle.std.specs.Bool.{Decides}
-use Rattle.std.specs.Cmp.{IsEquivalence, IsTotalOrder, first_so, second_so, both_tied, unsigned_ties, unsigned_Decides}
+use Rattle.std.specs.Cmp.{IsEquivalence, IsTotalOrder, first_so, second_so, both_tied, unsigned_ties}
+use Rattle.std.specs.Cmp.{unsigned_Decides}
 use Rattle.std.specs.Cmp.Lexicographic.{pointwise, pointwise_decides, lists_ties, slice_cmp}
 use Rattle.std.specs.Map.{lookup}
-use Rattle.std.specs.Ordering.{is_eq, is_lt, ordering_reverse, nat_cmp}
-use Rattle.std.specs.declared.cmp.Ordering.{Ordering}
-use Rattle.std.specs.declared.cmp.Ordering.TheVariants.{Less, Equal, Greater}
+use Rattle.std.specs.Ordering.{ordering_reverse}
 use Rattle.std.proofs.lemmas.Bool.{cases_lt}
-use Rattle.std.proofs.lemmas.Cmp.{tied_itself, and_equiv, on_equiv, lists_equiv, nat_list_eq_equiv, then_total, on_total, lists_total, nat_list_cmp_total}
+use Rattle.std.proofs.lemmas.Cmp.{tied_itself, and_equiv, on_equiv, lists_equiv, nat_list_eq_equiv}
+use Rattle.std.proofs.lemmas.Cmp.{then_total, on_total, lists_total, nat_list_cmp_total}
 use Rattle.std.proofs.lemmas.List.Quantifiers.{position-Some}
-use Rattle.std.proofs.lemmas.List.Sorted.{sorted_far, ranks_by, Contains-permutation, IsPermutation-sym, IsPermutation-map}
+use Rattle.std.proofs.lemmas.List.Sorted.{sorted_far, ranks_by, Contains-permutation, IsPermutation-sym}
+use Rattle.std.proofs.lemmas.List.Sorted.{IsPermutation-map}
 use Rattle.std.proofs.lemmas.Map.Made.{AllPairs-from_IsDistinct}
 use Rattle.std.proofs.lemmas.Map.Views.{Contains-keys_from_lookup, IsSome-lookup_from_Contains}
 use Rattle.std.proofs.lemmas.Option.{slice_get-get_or, slice_get_within, get_or_from_slice_get}

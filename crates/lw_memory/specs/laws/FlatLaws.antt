@@ -16,11 +16,8 @@ abbrev pub flats_invariant : Invariant Flat
 flats_invariant = invariant_of (λ (m : Flat). m.cpus) (λ (m : Flat). Unit {0})
 
 flat_served : (m : Flat) (r : Request) (a : Option ℕ) (n : Flat) → FlatServes m r a n → Served flats flats_invariant m r a n
-flat_served m (Load t x) a n s = record { possible = tt; answer = s.0.0; content = s.0.1; cpus = s.1; sound = tt }
-flat_served m (Store t x w) a n s = record { possible = tt; answer = s.0.0; content = s.0.1; cpus = s.1; sound = tt }
-flat_served m (Swap t x w) a n s = record { possible = tt; answer = s.0.0; content = s.0.1; cpus = s.1; sound = tt }
-flat_served m (FetchAdd t x w) a n s = record { possible = tt; answer = s.0.0; content = s.0.1; cpus = s.1; sound = tt }
 flat_served m (Evict t x) a n s = absurd s.0
+flat_served m _ a n s = record { possible = tt; answer = s.0.0; content = s.0.1; cpus = s.1; sound = tt }
 
 flat_serves : (m : Flat) (r : Request) → IsPossible (λ t x. I) r → (n : Flat) × FlatServes m r (answer_of m.words r) n
 flat_serves m (Load t x) h = (m, ((refl, refl), refl))

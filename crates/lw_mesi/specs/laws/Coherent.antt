@@ -29,46 +29,38 @@ copy_map f (c ∷ copies) (suc t) e = copy_map f copies t e
 -- With no M or O copy the content is memory's word.
 pub clean : (w : ℕ) (copies : List Copy) → ((t : ℕ) → IsDirty (copy_in copies t) → ⊥) → dirty_or w copies ≡ w
 clean w [] h = refl
-clean w (Modified v ∷ copies) h = absurd (h 0 tt)
-clean w (Owned v ∷ copies) h = absurd (h 0 tt)
 clean w (Exclusive v ∷ copies) h = clean w copies (λ t. h (suc t))
 clean w (Shared v ∷ copies) h = clean w copies (λ t. h (suc t))
 clean w (Invalid ∷ copies) h = clean w copies (λ t. h (suc t))
+clean w _ h = absurd (h 0 tt)
 
 -- With one M or O copy it is that copy's word.
 pub dirty : (w v : ℕ) (copies : List Copy) (t : ℕ)
     → IsDirty (copy_in copies t) → copy_word (copy_in copies t) ≡ Some v → ((u : ℕ) → t ≢ u → IsDirty (copy_in copies u) → ⊥)
     → dirty_or w copies ≡ v
-dirty w v [] t d e h = absurd d
 dirty w v (Modified k ∷ copies) zero d e h = cc
 dirty w v (Owned k ∷ copies) zero d e h = cc
-dirty w v (Exclusive k ∷ copies) zero d e h = absurd d
-dirty w v (Shared k ∷ copies) zero d e h = absurd d
-dirty w v (Invalid ∷ copies) zero d e h = absurd d
 dirty w v (Modified k ∷ copies) (suc t) d e h = absurd (h 0 (omega arith) tt)
 dirty w v (Owned k ∷ copies) (suc t) d e h = absurd (h 0 (omega arith) tt)
 dirty w v (Exclusive k ∷ copies) (suc t) d e h = dirty w v copies t d e (λ u ne. h (suc u) (λ same. ne (omega arith)))
 dirty w v (Shared k ∷ copies) (suc t) d e h = dirty w v copies t d e (λ u ne. h (suc u) (λ same. ne (omega arith)))
 dirty w v (Invalid ∷ copies) (suc t) d e h = dirty w v copies t d e (λ u ne. h (suc u) (λ same. ne (omega arith)))
+dirty w v _ _ d e h = absurd d
 
 -- A copy in another state says nothing of the content.
 skip : (w : ℕ) (c : Copy) (copies : List Copy) → (IsDirty c → ⊥) → dirty_or w (c ∷ copies) ≡ dirty_or w copies
 skip w (Modified v) copies h = absurd (h tt)
 skip w (Owned v) copies h = absurd (h tt)
-skip w (Exclusive v) copies h = refl
-skip w (Shared v) copies h = refl
-skip w Invalid copies h = refl
+skip w _ copies h = refl
 
 -- So it can be put in the place of another such one.
 pub put_clean : (w : ℕ) (copies : List Copy) (t : ℕ) (c : Copy)
     → (IsDirty (copy_in copies t) → ⊥) → (IsDirty c → ⊥) → dirty_or w (set copies t c) ≡ dirty_or w copies
-put_clean w [] t c old new = refl
 put_clean w (k ∷ copies) zero c old new = skip w c copies new ∙ sym (skip w k copies old)
-put_clean w (Modified k ∷ copies) (suc t) c old new = refl
-put_clean w (Owned k ∷ copies) (suc t) c old new = refl
 put_clean w (Exclusive k ∷ copies) (suc t) c old new = put_clean w copies t c old new
 put_clean w (Shared k ∷ copies) (suc t) c old new = put_clean w copies t c old new
 put_clean w (Invalid ∷ copies) (suc t) c old new = put_clean w copies t c old new
+put_clean w _ _ c old new = refl
 
 -- Every copy holds this word.
 abbrev pub AllHold : CacheLine → ℕ → Type 0

@@ -19,9 +19,8 @@ use Rattle.lw_mesi.specs.laws.ProtocolRows.{keeps, states_kept}
 
 contents_set : (lines : List CacheLine) (x : ℕ) (line : CacheLine)
     → map content_of (set lines x line) ≡ slice_set (map content_of lines) x (content_of line)
-contents_set [] x line = refl
-contents_set (l ∷ lines) zero line = refl
 contents_set (l ∷ lines) (suc x) line = ap (λ r. content_of l ∷ r) (contents_set lines x line)
+contents_set _ _ line = refl
 
 contents_same : (lines : List CacheLine) (x : ℕ) (line : CacheLine)
     → content_of line ≡ content_of (line_at lines x) → map content_of (set lines x line) ≡ map content_of lines
@@ -30,9 +29,8 @@ contents_same (l ∷ lines) zero line e = ap (λ c. c ∷ map content_of lines) 
 contents_same (l ∷ lines) (suc x) line e = ap (λ r. content_of l ∷ r) (contents_same lines x line e)
 
 contents_at : (lines : List CacheLine) (x : ℕ) → content_of (line_at lines x) ≡ slice_index (map content_of lines) x
-contents_at [] x = refl
-contents_at (l ∷ lines) zero = refl
 contents_at (l ∷ lines) (suc x) = contents_at lines x
+contents_at _ _ = refl
 
 -- One line is changed, and the protocol is still kept.
 pub set_kept : (p : Protocol) (m : Caches) (x : ℕ) (line : CacheLine)

@@ -61,20 +61,15 @@ shared_dirty Moesi Invalid d = d
 
 -- Under MESI nothing is dirty then.
 shared_clean : (c : Copy) → IsStateOf Mesi c → IsDirty (mesi_on_other_get_s c) → ⊥
-shared_clean (Modified w) s d = d
 shared_clean (Owned w) s d = s
-shared_clean (Exclusive w) s d = d
-shared_clean (Shared w) s d = d
-shared_clean Invalid s d = d
+shared_clean _ s d = d
 
 -- Under MOESI what is dirty stays so, with its word.
 shared_content : (m : ℕ) (copies : List Copy) → dirty_or m (map moesi_on_other_get_s copies) ≡ dirty_or m copies
-shared_content m [] = refl
-shared_content m (Modified w ∷ copies) = refl
-shared_content m (Owned w ∷ copies) = refl
 shared_content m (Exclusive w ∷ copies) = shared_content m copies
 shared_content m (Shared w ∷ copies) = shared_content m copies
 shared_content m (Invalid ∷ copies) = shared_content m copies
+shared_content m _ = refl
 
 -- So a GetS keeps the content.
 content_kept : (p : Protocol) (line : CacheLine) → HasStatesOf p line
@@ -87,10 +82,8 @@ content_kept Moesi line states = shared_content line.memory line.copies
 module _ (p : Protocol) (t : ℕ) (line : CacheLine) (lt : t < most_threads) (sound : IsCoherentCacheLine line) (states : HasStatesOf p line) where
   to_write : (c : Copy) → copy_of line t ≡ c → ToWrite t line lt sound (on_write c t line)
   to_write (Modified w) e = hit_to_write t line lt sound (Modified w) w e refl tt
-  to_write (Owned w) e = get_m_to_write t line lt sound
   to_write (Exclusive w) e = hit_to_write t line lt sound (Exclusive w) w e refl tt
-  to_write (Shared w) e = get_m_to_write t line lt sound
-  to_write Invalid e = get_m_to_write t line lt sound
+  to_write _ e = get_m_to_write t line lt sound
 
   shares : SharesOthers (table_of p).on_other_get_s line
   shares = record {
@@ -130,12 +123,8 @@ from_state Mesi false w = tt
 from_state Moesi b w = tt
 
 shared_state : (p : Protocol) (c : Copy) → IsStateOf p c → IsStateOf p ((table_of p).on_other_get_s c)
-shared_state Mesi (Modified w) s = tt
 shared_state Mesi (Owned w) s = s
-shared_state Mesi (Exclusive w) s = tt
-shared_state Mesi (Shared w) s = tt
-shared_state Mesi Invalid s = tt
-shared_state Moesi c s = tt
+shared_state _ _ s = tt
 
 put_state : (p : Protocol) (copies : List Copy) (t : ℕ) (c : Copy)
     → IsStateOf p c → ((u : ℕ) → IsStateOf p (copy_in copies u)) → (u : ℕ) → IsStateOf p (copy_in (set copies t c) u)
@@ -152,14 +141,11 @@ map_state p f copies invalid keeps states u = subst (IsStateOf p) (sym (copy_map
 
 module _ (p : Protocol) (line : CacheLine) (states : HasStatesOf p line) where
   load_states : (c : Copy) (t : ℕ) → HasStatesOf p (on_load (table_of p) c t line)
-  load_states (Modified w) t = states
-  load_states (Owned w) t = states
-  load_states (Exclusive w) t = states
-  load_states (Shared w) t = states
   load_states Invalid t =
       put_state p (map (table_of p).on_other_get_s line.copies) t (copy_from (any_held line.copies) (content_of line))
       (from_state p (any_held line.copies) (content_of line))
       (map_state p (table_of p).on_other_get_s line.copies (shared_invalid p) (shared_state p) states)
+  load_states _ t = states
 
   get_m_states : (t : ℕ) → HasStatesOf p (get_m t line)
   get_m_states t =
@@ -168,17 +154,12 @@ module _ (p : Protocol) (line : CacheLine) (states : HasStatesOf p line) where
 
   write_states : (c : Copy) (t : ℕ) → HasStatesOf p (on_write c t line)
   write_states (Modified w) t = states
-  write_states (Owned w) t = get_m_states t
   write_states (Exclusive w) t = states
-  write_states (Shared w) t = get_m_states t
-  write_states Invalid t = get_m_states t
+  write_states _ t = get_m_states t
 
   evict_states : (c : Copy) (t : ℕ) → HasStatesOf p (on_evict c t line)
-  evict_states (Modified w) t = put_state p line.copies t Invalid (invalid_state p) states
-  evict_states (Owned w) t = put_state p line.copies t Invalid (invalid_state p) states
-  evict_states (Exclusive w) t = put_state p line.copies t Invalid (invalid_state p) states
-  evict_states (Shared w) t = put_state p line.copies t Invalid (invalid_state p) states
   evict_states Invalid t = states
+  evict_states _ t = put_state p line.copies t Invalid (invalid_state p) states
 
   written_states : (t w : ℕ) → HasStatesOf p (line_after (table_of p) (Store t 0 w) line)
   written_states t w = put_state p (line_to_write t line).copies t (Modified w) (modified_state p w) (write_states (copy_of line t) t)

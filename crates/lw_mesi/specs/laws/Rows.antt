@@ -5,19 +5,16 @@ use Rattle.std.proofs.Common.{length-set}
 use Rattle.std.proofs.lemmas.List.{length-map}
 use Rattle.lw_base.specs.Limits.{most_threads}
 use Rattle.lw_memory.specs.Memory.{is_held}
-use Rattle.lw_mesi.specs.CacheLines.{Copy, Modified, Owned, Exclusive, Shared, Invalid, CacheLine, copy_of, letter_of, copy_word, dirty_or, content_of}
+use Rattle.lw_mesi.specs.CacheLines.{Copy, Modified, Invalid, CacheLine, copy_of, letter_of, copy_word, dirty_or, content_of}
 use Rattle.lw_mesi.specs.Coherence.{IsOnlyCopy, IsDirty, IsCoherentCacheLine}
 use Rattle.lw_mesi.specs.Snooping.{ProtocolTable, any_held, copy_from, get_m, line_to_read, line_to_write, line_with_word, line_evicted}
 use Rattle.lw_mesi.specs.laws.Coherent.{copy_in, at_place, put_here, put_there, copy_map, clean, dirty, put_clean, NobodyElse, no_word, one_word, single, After}
 
 pub none_held : (copies : List Copy) → any_held copies ≡ false → (t : ℕ) → copy_in copies t ≡ Invalid
 none_held [] h t = refl
-none_held (Modified v ∷ copies) h t = cc
-none_held (Owned v ∷ copies) h t = cc
-none_held (Exclusive v ∷ copies) h t = cc
-none_held (Shared v ∷ copies) h t = cc
 none_held (Invalid ∷ copies) h zero = refl
 none_held (Invalid ∷ copies) h (suc t) = none_held copies h t
+none_held _ h t = cc
 
 from_clean : (b : Bool) (w : ℕ) → IsDirty (copy_from b w) → ⊥
 from_clean true w h = h

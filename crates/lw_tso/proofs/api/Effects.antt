@@ -1,6 +1,6 @@
 -- What acts and events come to over the flat memory.
-use Rattle.std.proofs.Common.{◌≡◌, ℕ, List, length, Ok, Option, Some, None, Bool, true, false, refl, sym, ap, ap₂, ◌∙◌, subst, nat_lt, if◌then◌else◌, slice_get}
-use Rattle.std.proofs.Common.{slice_set, slice_index}
+use Rattle.std.proofs.Common.{◌≡◌, ℕ, List, length, Ok, Option, Some, None, Bool, true, false, refl, sym, ap}
+use Rattle.std.proofs.Common.{ap₂, ◌∙◌, subst, nat_lt, if◌then◌else◌, slice_get, slice_set, slice_index}
 use Rattle.lw_base.specs.Sums.{sum_of}
 use Rattle.lw_base.specs.declared.event.Event.{Event}
 use Rattle.lw_base.specs.declared.event.Event.TheVariants.{Evict}
@@ -21,13 +21,11 @@ same_word m x v w e f = cc
 
 act_once : (t : ℕ) (act : Act) (p q r : Processor) (m n k : List ℕ) (a b : Answer) → ActDone flat t act p m a q n → ActDone flat t act p m b r k
     → (a ≡ b) × (q ≡ r) × (n ≡ k)
-act_once t (Refused stop) p q r m n k a b d e = (d.0 ∙ sym e.0, d.1 ∙ sym e.1, d.2 ∙ sym e.2)
-act_once t (Goes next) p q r m n k a b d e = (d.0 ∙ sym e.0, d.1 ∙ sym e.1, d.2 ∙ sym e.2)
 act_once t (Loads x next) p q r m n k a b d e = (d.1 ∙ sym e.1, d.2 ∙ ap next (same_word m x d.0 e.0 d.3.0 e.3.0) ∙ sym e.2, d.3.1 ∙ sym e.3.1)
 act_once t (Stores x w next) p q r m n k a b d e = (d.0 ∙ sym e.0, d.1 ∙ sym e.1, d.2.1 ∙ sym e.2.1)
 act_once t (Swaps x v next) p q r m n k a b d e = (d.1 ∙ sym e.1, d.2 ∙ ap next (same_word m x d.0 e.0 d.3.0 e.3.0) ∙ sym e.2, d.3.1 ∙ sym e.3.1)
 act_once t (Adds x v next) p q r m n k a b d e = (d.1 ∙ sym e.1, d.2 ∙ ap next (same_word m x d.0 e.0 d.3.0 e.3.0) ∙ sym e.2, d.3.1 ∙ sym e.3.1)
-act_once t (Evicts x) p q r m n k a b d e = (d.0 ∙ sym e.0, d.1 ∙ sym e.1, d.2 ∙ sym e.2)
+act_once t _ p q r m n k a b d e = (d.0 ∙ sym e.0, d.1 ∙ sym e.1, d.2 ∙ sym e.2)
 
 pub event_once : (program : List (List Instr)) (e : Event) (s after other : MachineState (List ℕ)) (a b : Answer)
     → EventDone flat program e s a after → EventDone flat program e s b other → (a ≡ b) × (after ≡ other)
@@ -43,31 +41,28 @@ event_once program e s after other a b = go (slice_get s.processors (cpu_of e))
 
 -- what an act does
 abbrev pub Does : List ℕ → Act → Processor → List ℕ → Type 0
-Does m (Refused stop) q n = ⊥
 Does m (Goes p) q n = (q ≡ p) × (n ≡ m)
 Does m (Loads x next) q n = (q ≡ next (slice_index m x)) × (n ≡ m)
 Does m (Stores x w p) q n = (q ≡ p) × (n ≡ slice_set m x w)
 Does m (Swaps x v next) q n = (q ≡ next (slice_index m x)) × (n ≡ slice_set m x v)
 Does m (Adds x v next) q n = (q ≡ next (slice_index m x)) × (n ≡ slice_set m x (sum_of (slice_index m x) v))
-Does m (Evicts x) q n = ⊥
+Does m _ q n = ⊥
 
 pub does_done : (t : ℕ) (act : Act) (p q : Processor) (m n : List ℕ) → Does m act q n → ActDone flat t act p m (Ok tt) q n
-does_done t (Refused stop) p q m n d = absurd d
 does_done t (Goes next) p q m n d = (refl, d.0, d.1)
 does_done t (Loads x next) p q m n d = (slice_index m x, refl, d.0, (refl, d.1))
 does_done t (Stores x w next) p q m n d = (refl, d.0, (refl, d.1))
 does_done t (Swaps x v next) p q m n d = (slice_index m x, refl, d.0, (refl, d.1))
 does_done t (Adds x v next) p q m n d = (slice_index m x, refl, d.0, (refl, d.1))
-does_done t (Evicts x) p q m n d = absurd d
+does_done t _ p q m n d = absurd d
 
 pub done_does : (t : ℕ) (act : Act) (p q : Processor) (m n : List ℕ) → ActDone flat t act p m (Ok tt) q n → Does m act q n
-done_does t (Refused stop) p q m n d = absurd (let e = d.0 in cc)
 done_does t (Goes next) p q m n d = (d.1, d.2)
 done_does t (Loads x next) p q m n d = (d.2 ∙ ap next (same_word m x d.0 (slice_index m x) d.3.0 refl), d.3.1)
 done_does t (Stores x w next) p q m n d = (d.1, d.2.1)
 done_does t (Swaps x v next) p q m n d = (d.2 ∙ ap next (same_word m x d.0 (slice_index m x) d.3.0 refl), d.3.1)
 done_does t (Adds x v next) p q m n d = (d.2 ∙ ap next (same_word m x d.0 (slice_index m x) d.3.0 refl), d.3.1)
-done_does t (Evicts x) p q m n d = absurd (let e = d.0 in cc)
+done_does t _ p q m n d = absurd (let e = d.0 in cc)
 
 -- there is nothing to evict
 evicts_none : (m : List ℕ) (x : ℕ) (q : Processor) (n : List ℕ) (there : Bool) → Does m (if there then Evicts x else Refused NoLocation) q n → ⊥

@@ -1,16 +1,16 @@
 -- Every run of a program can be brought to its end: each processor is led to its own, one after another, by draining its
 -- buffer and stepping on once it is empty.
-use Rattle.std.proofs.Common.{inl, inr, ◌≡◌, ◌≢◌, ℕ, zero, suc, ◌+◌, ◌<◌, ◌≤◌, ◌==◌, nat_le, ◌&&◌, Bool, true, cond, List, [], ◌∷◌, ◌++◌, length, get_or, Ok}
-use Rattle.std.proofs.Common.{Option, Some, None, refl, sym, ap, ap₂, ◌∙◌, subst, arith, ⊎_elim, slice_get, slice_set, slice_index, ne_eqb}
-use Rattle.std.specs.Prelude.{All, IsTrue}
-use Rattle.std.specs.List.{list_all, zip}
-use Rattle.std.proofs.lemmas.Bool.{cases_eq, cases_lt, le-leb}
+use Rattle.std.proofs.Common.{inl, inr, ◌≡◌, ◌≢◌, ℕ, zero, suc, ◌+◌, ◌<◌, ◌≤◌, ◌==◌, nat_le, ◌&&◌, Bool, true}
+use Rattle.std.proofs.Common.{cond, List, [], ◌∷◌, ◌++◌, length, get_or, Ok, Option, Some, None, refl, sym}
+use Rattle.std.proofs.Common.{ap, ap₂, ◌∙◌, subst, arith, ⊎_elim, slice_get, slice_set, slice_index, ne_eqb}
+use Rattle.std.proofs.Common.{All, IsTrue, zip, le-leb}
+use Rattle.std.specs.List.{list_all}
+use Rattle.std.proofs.lemmas.Bool.{cases_eq, cases_lt}
 use Rattle.std.proofs.lemmas.List.Sums.{sum_by-append, sum_by-cons, count_by-le-length}
 use Rattle.std.proofs.lemmas.Option.{slice_get_within, slice_get-get_or, same_Some}
 use Rattle.circular_buffer.proofs.Places.{slice_get-set_same, slice_get-set_other}
 use Rattle.lw_base.specs.declared.event.Event.{Event}
 use Rattle.lw_base.specs.declared.event.Event.TheVariants.{Step, Drain, Evict}
-use Rattle.lw_memory.specs.declared.system.Request.TheVariants as to
 use Rattle.lw_memory.specs.MemoryLaws.{Invariant, Lawful}
 use Rattle.lw_memory.specs.Memory.{Memory}
 use Rattle.lw_litmus.specs.WellFormed.{IsThread}
@@ -22,7 +22,8 @@ use Rattle.lw_litmus.specs.Tests.{ProgramTest}
 use Rattle.lw_tso.specs.Processors.{Processor}
 use Rattle.lw_base.specs.Threads.{code_of}
 use Rattle.lw_base.proofs.api.Replays.{Ran-append}
-use Rattle.lw_tso.specs.Acts.{Act, Refused, Goes, Loads, Stores, Swaps, Adds, Evicts, cpu_of, event_act, operation_act, step_act, drain_act}
+use Rattle.lw_tso.specs.Acts.{Act, Goes, Loads, Stores, Swaps, Adds, cpu_of, event_act, operation_act}
+use Rattle.lw_tso.specs.Acts.{step_act, drain_act}
 use Rattle.lw_tso.specs.Machines.{MachineState, ActDone, DoneBy, EventDone}
 use Rattle.lw_tso.specs.inner.Rooms.{HasRoom, makes_entry, stores_from}
 use Rattle.lw_tso.specs.Runs.{MachineRan, machine_start, is_done, is_final}
@@ -32,6 +33,7 @@ use Rattle.lw_tso.specs.Starts.{CanStart}
 use Rattle.lw_tso.proofs.Rooms.{forward, event_room}
 use Rattle.lw_tso.proofs.api.Lift.{IsWithin, asks_within, thread_at, within_after, within_reached}
 use Rattle.lw_tso.proofs.api.Operations.{Comes, operation_comes}
+use Rattle.lw_memory.specs.declared.system.Request.TheVariants as to
 
 without_append : (es fs : List Event) → without_evictions (es ++ fs) ≡ without_evictions es ++ without_evictions fs
 without_append [] fs = refl
@@ -51,9 +53,8 @@ done_at code p past empty = and_true (nat_le (length code) p.position) (length p
 all_done : (codes : List (List Instr)) (ps : List Processor)
     → ((t : ℕ) (p : Processor) → slice_get ps t ≡ Some p → is_done (code_of codes t) p ≡ true)
     → list_all (λ p. is_done p.0 p.1) (zip codes ps) ≡ true
-all_done [] ps each = refl
-all_done (code ∷ codes) [] each = refl
 all_done (code ∷ codes) (p ∷ ps) each = and_true (is_done code p) _ (each 0 p refl) (all_done codes ps (λ t q at. each (suc t) q at))
+all_done _ _ each = refl
 
 module _ {M : Type 0} (mem : Memory M) (inv : Invariant M) (laws : Lawful mem inv) where
   -- an act, done, makes such a processor
@@ -63,7 +64,6 @@ module _ {M : Type 0} (mem : Memory M) (inv : Invariant M) (laws : Lawful mem in
   -- what is not refused, and asks for locations that are there, can be done
   possible : (t : ℕ) (act : Act) (p : Processor) (m : M) (Makes : Processor → Type 0) → inv.sound m → t < inv.cpus m
       → Comes ⊥ (λ x written. x < length (mem.content m)) Makes act → IsPossible t act p m Makes
-  possible t (Refused stop) p m Makes sound cpu comes = absurd comes
   possible t (Goes next) p m Makes sound cpu comes = (next, m, (refl, refl, refl), comes)
   possible t (Loads x next) p m Makes sound cpu comes =
       let g = laws.serves m (to.Load t x) sound (cpu, comes.0) tt in
@@ -76,7 +76,7 @@ module _ {M : Type 0} (mem : Memory M) (inv : Invariant M) (laws : Lawful mem in
   possible t (Adds x v next) p m Makes sound cpu comes =
       let g = laws.serves m (to.FetchAdd t x v) sound (cpu, comes.0) tt in
       (next _, g.0, (slice_index (mem.content m) x, refl, refl, g.1), comes.1 _)
-  possible t (Evicts x) p m Makes sound cpu comes = absurd comes
+  possible t _ p m Makes sound cpu comes = absurd comes
 
   module _ (program : List (List Instr)) (locs : ℕ) (threads : All (IsThread x86 locs) program) where
     abbrev Within : MachineState M → Type 0

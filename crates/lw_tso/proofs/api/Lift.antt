@@ -1,16 +1,14 @@
 -- A run over the flat memory is a run over every memory that keeps the laws.
-use Rattle.std.proofs.Common.{Bool, inl, inr, ◌≡◌, ◌↔◌, ℕ, ◌<◌, ◌≤◌, List, [], ◌∷◌, length, map, Ok, Option, Some, None, refl, sym, ap, ◌∙◌, subst, arith}
-use Rattle.std.proofs.Common.{slice_get, slice_set}
-use Rattle.std.specs.Prelude.{All, IsTrue}
-use Rattle.std.specs.Option.{option_map}
-use Rattle.std.proofs.lemmas.List.{length-map, length-set}
+use Rattle.std.proofs.Common.{Bool, inl, inr, ◌≡◌, ◌↔◌, ℕ, ◌<◌, ◌≤◌, List, [], ◌∷◌, length, map, Ok, Option}
+use Rattle.std.proofs.Common.{Some, None, refl, sym, ap, ◌∙◌, subst, arith, slice_get, slice_set, All, IsTrue}
+use Rattle.std.proofs.Common.{option_map, length-set}
+use Rattle.std.proofs.lemmas.List.{length-map}
 use Rattle.std.proofs.lemmas.List.Elements.{All-nil}
 use Rattle.std.proofs.lemmas.Option.{slice_get-map, slice_get_within, same_Some}
 use Rattle.lw_base.specs.Outcomes.{Final}
 use Rattle.lw_base.specs.declared.event.Event.{Event}
-use Rattle.lw_base.specs.declared.event.Event.TheVariants.{Step, Drain, Evict}
+use Rattle.lw_base.specs.declared.event.Event.TheVariants.{Evict}
 use Rattle.lw_memory.specs.declared.system.Request.{Request}
-use Rattle.lw_memory.specs.declared.system.Request.TheVariants as to
 use Rattle.lw_memory.specs.Content.{answer_of, content_after}
 use Rattle.lw_memory.specs.Flat.{flat}
 use Rattle.lw_memory.specs.Memory.{Memory, IsInRange, IsPossible}
@@ -23,7 +21,7 @@ use Rattle.lw_litmus.specs.WellFormedTests.{IsWellFormedProgram}
 use Rattle.lw_litmus.specs.Tests.{ProgramTest}
 use Rattle.lw_tso.specs.Processors.{Processor, starting}
 use Rattle.lw_base.specs.Threads.{code_of}
-use Rattle.lw_tso.specs.Acts.{Act, Refused, Goes, Loads, Stores, Swaps, Adds, Evicts, cpu_of, event_act}
+use Rattle.lw_tso.specs.Acts.{Act, Loads, Stores, Swaps, Adds, Evicts, cpu_of, event_act}
 use Rattle.lw_tso.specs.Machines.{MachineState, Answer, flatten, ActDone, DoneBy, EventDone}
 use Rattle.lw_tso.specs.inner.Rooms.{HasRoom, stores_from}
 use Rattle.lw_tso.specs.Runs.{MachineRan, Replays, MachineOutcome, machine_start, machine_outcome, is_final}
@@ -35,14 +33,14 @@ use Rattle.lw_tso.proofs.api.Effects.{no_eviction, leads_to}
 use Rattle.lw_tso.proofs.api.Operations.{Comes}
 use Rattle.lw_tso.proofs.EventActs.{IsNoEviction, AsksFor, event_comes}
 use Rattle.lw_tso.proofs.Flatten.{event_flat, replays_flat}
+use Rattle.lw_memory.specs.declared.system.Request.TheVariants as to
 
 -- what is possible over the flat memory is no eviction
 flat_evicts_none : (program : List (List Instr)) (e : Event) (s mid : MachineState (List ℕ)) → EventDone flat program e s (Ok tt) mid → IsNoEviction e
-flat_evicts_none program (Step t) s mid done = refl
-flat_evicts_none program (Drain t) s mid done = refl
 flat_evicts_none program (Evict t x) s mid done =
     let d = leads_to program (Evict t x) s mid done in
     absurd (no_eviction program (length s.memory) t x d.from d.to s.memory d.words d.does)
+flat_evicts_none program _ s mid done = refl
 
 module _ {M : Type 0} (mem : Memory M) (inv : Invariant M) (laws : Lawful mem inv) where
   -- a request, done over the content, is done over the memory
@@ -57,8 +55,6 @@ module _ {M : Type 0} (mem : Memory M) (inv : Invariant M) (laws : Lawful mem in
       (m : M) (words : List ℕ) (answer : Answer) → inv.sound m → t < inv.cpus m
       → ((x : ℕ) (w : Bool) → Asks x w → x < length (mem.content m)) → Comes Reason Asks Makes act
       → ActDone flat t act p (mem.content m) answer q words → (n : M) × ActDone mem t act p m answer q n × (mem.content n ≡ words)
-  act_lift R A K t (Refused stop) p q m words answer sound cpu within comes done = (m, (done.0, done.1, refl), sym done.2)
-  act_lift R A K t (Goes next) p q m words answer sound cpu within comes done = (m, (done.0, done.1, refl), sym done.2)
   act_lift R A K t (Loads x next) p q m words answer sound cpu within comes done =
       let g = served_too (to.Load t x) (Some done.0) m words sound (cpu, within x _ comes.0) tt done.3.0 done.3.1 in
       (g.0, (done.0, done.1, done.2, g.1), g.2)
@@ -72,6 +68,7 @@ module _ {M : Type 0} (mem : Memory M) (inv : Invariant M) (laws : Lawful mem in
       let g = served_too (to.FetchAdd t x v) (Some done.0) m words sound (cpu, within x _ comes.0) tt done.3.0 done.3.1 in
       (g.0, (done.0, done.1, done.2, g.1), g.2)
   act_lift R A K t (Evicts x) p q m words answer sound cpu within comes done = absurd comes
+  act_lift R A K t _ p q m words answer sound cpu within comes done = (m, (done.0, done.1, refl), sym done.2)
 
   module _ (program : List (List Instr)) (locs : ℕ) (threads : All (IsThread x86 locs) program) where
     -- the room that a processor's buffer never needs more of

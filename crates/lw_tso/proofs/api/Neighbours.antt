@@ -1,8 +1,8 @@
 -- Independent neighbouring events of the flat machine are exchanged.
-use Rattle.std.proofs.Common.{◌≡◌, ◌≢◌, ℕ, List, [], ◌∷◌, length, Ok, Option, Some, None, ⊎_elim, refl, sym, ap, ◌∙◌, subst, slice_get, slice_set}
-use Rattle.std.specs.Option.{option_map}
+use Rattle.std.proofs.Common.{◌≡◌, ◌≢◌, ℕ, List, [], ◌∷◌, length, Ok, Option, Some, ⊎_elim, refl, sym, ap}
+use Rattle.std.proofs.Common.{◌∙◌, subst, slice_get, slice_set, option_map, set-set}
 use Rattle.std.proofs.lemmas.Bool.{cases_eq}
-use Rattle.std.proofs.lemmas.List.{set-set, set_comm}
+use Rattle.std.proofs.lemmas.List.{set_comm}
 use Rattle.std.proofs.lemmas.Option.{same_Some, slice_get-map}
 use Rattle.lw_base.specs.Threads.{code_of}
 use Rattle.lw_base.specs.declared.event.Event.{Event}
@@ -14,8 +14,10 @@ use Rattle.lw_litmus.specs.Programs.{x86_operation}
 use Rattle.lw_tso.specs.Processors.{Processor}
 use Rattle.lw_tso.specs.Acts.{Act, Stores, cpu_of, event_act, step_act, drain_act}
 use Rattle.lw_tso.specs.Machines.{MachineState, position_of, EventDone}
-use Rattle.lw_tso.specs.Exchange.{MayPass, MayPassOldest, ArePassing, AreIndependent, StandsAt, DoneAt, IsExchangeable}
-use Rattle.lw_tso.proofs.Commuting.{acts_exchange, with_oldest, keeping, keeping_does, does_kept, LeavesAlone, operation_alone}
+use Rattle.lw_tso.specs.Exchange.{MayPass, MayPassOldest, ArePassing, AreIndependent, StandsAt, DoneAt}
+use Rattle.lw_tso.specs.Exchange.{IsExchangeable}
+use Rattle.lw_tso.proofs.Commuting.{acts_exchange, with_oldest, keeping, keeping_does, does_kept, LeavesAlone}
+use Rattle.lw_tso.proofs.Commuting.{operation_alone}
 use Rattle.lw_tso.proofs.api.Effects.{state, Does, no_eviction, Did, leads_from, leads_to}
 
 -- ---- positions
@@ -23,21 +25,18 @@ use Rattle.lw_tso.proofs.api.Effects.{state, Does, no_eviction, Did, leads_from,
 -- the position of an event of the processor p
 abbrev IsPlace : Event → ℕ → Processor → Type 0
 IsPlace (Step t) j p = p.position ≡ j
-IsPlace (Drain t) j p = Unit {0}
-IsPlace (Evict t x) j p = Unit {0}
+IsPlace _ j p = Unit {0}
 
 position_at : (s : MachineState (List ℕ)) (t : ℕ) (p : Processor) → slice_get s.processors t ≡ Some p → position_of s t ≡ Some p.position
 position_at s t p at = slice_get-map (λ (q : Processor). q.position) s.processors t ∙ ap (option_map (λ (q : Processor). q.position)) at
 
 place : (e : Event) (j : ℕ) (s : MachineState (List ℕ)) (p : Processor) → slice_get s.processors (cpu_of e) ≡ Some p → StandsAt e j s → IsPlace e j p
 place (Step t) j s p at stands = same_Some p.position j (sym (position_at s t p at) ∙ stands)
-place (Drain t) j s p at stands = tt
-place (Evict t x) j s p at stands = tt
+place _ j s p at stands = tt
 
 stands_there : (e : Event) (j : ℕ) (s : MachineState (List ℕ)) (p : Processor) → slice_get s.processors (cpu_of e) ≡ Some p → IsPlace e j p → StandsAt e j s
 stands_there (Step t) j s p at is = position_at s t p at ∙ ap Some is
-stands_there (Drain t) j s p at is = tt
-stands_there (Evict t x) j s p at is = tt
+stands_there _ j s p at is = tt
 
 -- ---- two events
 
@@ -51,16 +50,14 @@ record Passing (buffer : List (ℕ × ℕ)) (o : Option Instr) : Type 0 where
   may : MayPass entry.0 (x86_operation instr)
 
 passing : (buffer : List (ℕ × ℕ)) (o : Option Instr) → MayPassOldest buffer o → Passing buffer o
-passing [] o may = absurd may
-passing (entry ∷ newer) None may = absurd may
 passing (entry ∷ newer) (Some i) may = record { entry = entry; newer = newer; instr = i; full = refl; at = refl; may = may }
+passing _ _ may = absurd may
 
 module _ (program : List (List Instr)) where
   -- an act that is possible does not depend on the number of locations
   same_act : (e : Event) (k l : ℕ) (p q : Processor) (m n : List ℕ) → Does m (event_act program k e p) q n → event_act program k e p ≡ event_act program l e p
-  same_act (Step t) k l p q m n d = refl
-  same_act (Drain t) k l p q m n d = refl
   same_act (Evict t x) k l p q m n d = absurd (no_eviction program k t x p q m n d)
+  same_act _ k l p q m n d = refl
 
   done_at : (e : Event) (j : ℕ) (s mid : MachineState (List ℕ)) (d : Did program e s mid) → IsPlace e j d.from → DoneAt flat program e j s mid
   done_at e j s mid d is = record {

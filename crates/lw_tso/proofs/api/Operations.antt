@@ -1,7 +1,8 @@
 -- What an operation comes to, whatever it is: where it is refused, what it asks of the memory, and what it makes of its
 -- processor.
-use Rattle.std.proofs.Common.{◌≡◌, ◌≢◌, ℕ, ◌+◌, Bool, true, false, true≢false, if◌then◌else◌, List, [], ◌∷◌, ◌++◌, length, length-set, Ok, Err, Option, Some}
-use Rattle.std.proofs.Common.{None, refl, sym, subst, inl, inr, ◌⊎◌, ⊎_elim}
+use Rattle.std.proofs.Common.{◌≡◌, ◌≢◌, ℕ, ◌+◌, Bool, true, false, true≢false, if◌then◌else◌, List, [], ◌∷◌}
+use Rattle.std.proofs.Common.{◌++◌, length, length-set, Ok, Err, Option, Some, None, refl, sym, subst, inl}
+use Rattle.std.proofs.Common.{inr, ◌⊎◌, ⊎_elim}
 use Rattle.lw_base.specs.Threads.{value_of}
 use Rattle.lw_base.specs.declared.stop.Stop.{Stop}
 use Rattle.lw_base.specs.declared.stop.Stop.TheVariants.{FenceWaits, SwapWaits}
@@ -10,10 +11,12 @@ use Rattle.lw_memory.specs.Memory.{Memory}
 use Rattle.lw_litmus.specs.declared.operation.Condition.{Condition}
 use Rattle.lw_litmus.specs.declared.operation.Condition.TheVariants.{Always, Equal, NotEqual, Zero, NotZero}
 use Rattle.lw_litmus.specs.declared.operation.Operation.{Operation}
-use Rattle.lw_litmus.specs.declared.operation.Operation.TheVariants.{Set, Sum, Compare, Store, Load, Swap, FetchAdd, Fence, Branch}
+use Rattle.lw_litmus.specs.declared.operation.Operation.TheVariants.{Set, Sum, Compare, Store, Load, Swap}
+use Rattle.lw_litmus.specs.declared.operation.Operation.TheVariants.{FetchAdd, Fence, Branch}
 use Rattle.lw_litmus.specs.Operations.{location_of, is_store, is_locked, waits, goes_on, Leads, holds}
 use Rattle.lw_tso.specs.Processors.{Processor, newest}
-use Rattle.lw_tso.specs.Acts.{Act, Refused, Goes, Loads, Stores, Swaps, Adds, Evicts, operation_act, load_act, once_empty}
+use Rattle.lw_tso.specs.Acts.{Act, Refused, Goes, Loads, Stores, Swaps, Adds, Evicts, operation_act, load_act}
+use Rattle.lw_tso.specs.Acts.{once_empty}
 use Rattle.lw_tso.specs.Exchange.{accessed, event_writes}
 use Rattle.lw_tso.specs.Machines.{Answer, ActDone}
 use Rattle.lw_tso.proofs.api.Effects.{Does, does_done}
@@ -69,24 +72,21 @@ module _ (Reason : Type 0) (Asks : ℕ → Bool → Type 0) (Makes : Processor �
 
   -- what it accesses is such a location
   pub comes_accessed : (act : Act) (x : ℕ) → Comes act → accessed act ≡ Some x → Asks x (event_writes act)
-  comes_accessed (Refused stop) x comes at = absurd cc
-  comes_accessed (Goes next) x comes at = absurd cc
   comes_accessed (Loads y next) x comes at = let e : y ≡ x = cc in subst (λ z. Asks z false) e comes.0
   comes_accessed (Stores y w next) x comes at = let e : y ≡ x = cc in subst (λ z. Asks z true) e comes.0
   comes_accessed (Swaps y v next) x comes at = let e : y ≡ x = cc in subst (λ z. Asks z true) e comes.0
   comes_accessed (Adds y v next) x comes at = let e : y ≡ x = cc in subst (λ z. Asks z true) e comes.0
   comes_accessed (Evicts y) x comes at = absurd comes
+  comes_accessed _ x comes at = absurd cc
 
   -- done, it was refused and has left the processor as it was, or has made such a one
   pub comes_made : {M : Type 0} (mem : Memory M) (t : ℕ) (act : Act) (p q : Processor) (m n : M) (answer : Answer)
       → Comes act → ActDone mem t act p m answer q n → ((stop : Stop) × (answer ≡ Err stop) × (q ≡ p)) ⊎ Makes q
   comes_made mem t (Refused stop) p q m n answer comes done = inl (stop, done.0, done.1)
   comes_made mem t (Goes next) p q m n answer comes done = inr (subst Makes (sym done.1) comes)
-  comes_made mem t (Loads x next) p q m n answer comes done = inr (subst Makes (sym done.2) (comes.1 done.0))
   comes_made mem t (Stores x w next) p q m n answer comes done = inr (subst Makes (sym done.1) comes.1)
-  comes_made mem t (Swaps x v next) p q m n answer comes done = inr (subst Makes (sym done.2) (comes.1 done.0))
-  comes_made mem t (Adds x v next) p q m n answer comes done = inr (subst Makes (sym done.2) (comes.1 done.0))
   comes_made mem t (Evicts x) p q m n answer comes done = absurd comes
+  comes_made mem t _ p q m n answer comes done = inr (subst Makes (sym done.2) (comes.1 done.0))
 
   load_comes : (found : Option ℕ) (x : ℕ) (next : ℕ → Processor) → Asks x false → ((w : ℕ) → Makes (next w)) → Comes (load_act found x next)
   load_comes (Some w) x next asks makes = makes w

@@ -1,16 +1,16 @@
 -- A replay speaks of its test's processors and locations alone, and its outcome is of their numbers.
-use Rattle.std.proofs.Common.{◌≡◌, ℕ, zero, suc, ◌<◌, ◌≤◌, Bool, true, false, nat_lt, if◌then◌else◌, List, [], ◌∷◌, length, map, Ok, Err, Option, Some, None}
-use Rattle.std.proofs.Common.{refl, sym, ap, ◌∙◌, subst, slice_get, slice_set, arith}
+use Rattle.std.proofs.Common.{◌≡◌, ℕ, zero, suc, ◌<◌, ◌≤◌, Bool, true, false, nat_lt, if◌then◌else◌, List, []}
+use Rattle.std.proofs.Common.{◌∷◌, length, map, Ok, Err, Option, Some, None, refl, sym, ap, ◌∙◌, subst}
+use Rattle.std.proofs.Common.{slice_get, slice_set, arith, ltb-true}
 use Rattle.std.specs.List.{AllByRecursion}
 use Rattle.std.proofs.lemmas.List.{length-map}
-use Rattle.std.proofs.lemmas.Bool.{ltb-true}
 use Rattle.std.proofs.lemmas.Option.{slice_get_within}
 use Rattle.lw_base.specs.Outcomes.{Final, IsOutcomeOf}
 use Rattle.lw_base.specs.Schedules.{IsEvent}
 use Rattle.lw_base.specs.Threads.{code_of}
 use Rattle.lw_base.specs.Types.{NameTable}
 use Rattle.lw_base.specs.declared.event.Event.{Event}
-use Rattle.lw_base.specs.declared.event.Event.TheVariants.{Step, Drain, Evict}
+use Rattle.lw_base.specs.declared.event.Event.TheVariants.{Evict}
 use Rattle.lw_base.specs.Limits.{most_threads, registers}
 use Rattle.lw_base.specs.declared.stop.Stop.TheVariants.{NoCpu, NoLocation}
 use Rattle.lw_memory.specs.MemoryLaws.{Invariant, Lawful}
@@ -29,16 +29,14 @@ use Rattle.lw_tso.proofs.EventActs.{Becomes, Stays, Steps, Drains, event_becomes
 -- ---- lists
 
 all_at : {X : Type 0} (P : X → Type 0) (xs : List X) (i : ℕ) (x : X) → AllByRecursion P xs → slice_get xs i ≡ Some x → P x
-all_at P [] zero x all at = absurd cc
-all_at P [] (suc i) x all at = absurd cc
 all_at P (y ∷ ys) zero x all at = let e : y ≡ x = cc in subst P e all.0
 all_at P (y ∷ ys) (suc i) x all at = all_at P ys i x all.1 at
+all_at P [] _ x all at = absurd cc
 
 all_set : {X : Type 0} (P : X → Type 0) (xs : List X) (i : ℕ) (x : X) → AllByRecursion P xs → P x → AllByRecursion P (slice_set xs i x)
-all_set P [] zero x all is = tt
-all_set P [] (suc i) x all is = tt
 all_set P (y ∷ ys) zero x all is = (is, all.1)
 all_set P (y ∷ ys) (suc i) x all is = (all.0, all_set P ys i x all.1 is)
+all_set P [] _ x all is = tt
 
 -- ---- events
 
@@ -62,13 +60,12 @@ module _ {M : Type 0} (mem : Memory M) (inv : Invariant M) where
   there : (program : List (List Instr)) (names : NameTable) (e : Event) (p q : Processor) (m n : M) → cpu_of e < most_threads
       → length (mem.content m) ≡ length names
       → ActDone mem (cpu_of e) (event_act program (length (mem.content m)) e p) p m (Ok tt) q n → IsEvent names e
-  there program names (Step t) p q m n lt locs done = lt
-  there program names (Drain t) p q m n lt locs done = lt
   there program names (Evict t x) p q m n lt locs done = (
     lt,
     subst (λ k. x < k) locs
         (evicted_there (nat_lt x (length (mem.content m))) t x (length (mem.content m)) p q m n refl done),
   )
+  there program names _ p q m n lt locs done = lt
 
   -- ---- a machine of so many threads and locations
 

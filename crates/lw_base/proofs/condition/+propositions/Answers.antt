@@ -1,6 +1,4 @@
-use Rattle.std.proofs.Common.{◌++◌, [], refl, sym, ap}
-use Rattle.std.specs.Prelude.{codes}
-use Rattle.std.specs.Fmt.{decimal}
+use Rattle.std.proofs.Common.{◌++◌, [], refl, sym, ap, codes, decimal}
 use Rattle.std.proofs.lemmas.Option.{get_or_from_slice_get}
 use Rattle.lw_base.specs.Types.{Bytes}
 use Rattle.lw_base.specs.ConditionTexts.{is_or, is_joined}

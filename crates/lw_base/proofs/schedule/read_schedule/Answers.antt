@@ -5,8 +5,8 @@ use Rattle.lw_base.proofs.Shapes.{no_event}
 use Rattle.lw_base.specs.declared.fault.ScheduleFault.{ScheduleFault}
 use Rattle.lw_base.specs.declared.fault.ScheduleCause.TheVariants.{Memory}
 use Rattle.lw_base.proofs.api.Returns.{turned, out_of_memory}
-use Rattle.lw_base.proofs.Words.{no_schedule, words-first, words-behind, behind_more, more_events, more_words, no_longer, drop-back}
-use Rattle.lw_base.proofs.Words.{all_words, has_some, shrinks}
+use Rattle.lw_base.proofs.Words.{no_schedule, words-first, words-behind, behind_more, more_events, more_words}
+use Rattle.lw_base.proofs.Words.{no_longer, drop-back, all_words, has_some, shrinks}
 use Rattle.lw_base.proofs.schedule.read_schedule.Goals as goal
 
 pub loop-rest-init : goal.loop-rest-init

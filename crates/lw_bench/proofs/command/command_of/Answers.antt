@@ -1,5 +1,6 @@
 use Rattle.std.proofs.Common.{[]}
-use Rattle.lw_bench.proofs.Commands.{states_told, compile_told, schedules_told, replay_told, no_words, no_command}
+use Rattle.lw_bench.proofs.Commands.{states_told, compile_told, schedules_told, replay_told, no_words}
+use Rattle.lw_bench.proofs.Commands.{no_command}
 use Rattle.lw_bench.proofs.command.command_of.Goals as goal
 
 pub returns-in-states : goal.returns-in-states

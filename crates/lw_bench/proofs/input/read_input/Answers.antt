@@ -1,6 +1,7 @@
 use Rattle.std.proofs.Common.{length, ap, arith}
 use Rattle.std.proofs.lemmas.Result.{err_from_is_err_and}
-use Rattle.lw_bench.proofs.Devices.{takes_none, fewer_left, gets_more, input_ended, input_full, taken_ended, taken_full, taken_lost}
+use Rattle.lw_bench.proofs.Devices.{takes_none, fewer_left, gets_more, input_ended, input_full, taken_ended}
+use Rattle.lw_bench.proofs.Devices.{taken_full, taken_lost}
 use Rattle.lw_bench.proofs.input.read_input.Goals as goal
 
 pub returns-then-branch-eq0-clause-bytes : goal.returns-then-branch-eq0-clause-bytes

@@ -1,5 +1,4 @@
-use Rattle.std.proofs.Common.{Option, Some, None}
-use Rattle.std.specs.Option.{IfSome}
+use Rattle.std.proofs.Common.{Option, Some, None, IfSome}
 use Rattle.lw_base.specs.Types.{Bytes}
 use Rattle.lw_bench.specs.Lists.{IsReachedOnMachine}
 use Rattle.lw_bench.proofs.laws.what_is_known_is_reached_on_the_machine.Goals as goal

@@ -1,6 +1,4 @@
-use Rattle.std.proofs.Common.{◌≤◌, ◌++◌, [], codes, length, refl, sym, arith}
-use Rattle.std.specs.Prelude.{slice_index_or}
-use Rattle.std.specs.String.{string_bytes}
+use Rattle.std.proofs.Common.{◌≤◌, ◌++◌, [], codes, length, refl, sym, arith, slice_index_or, string_bytes}
 use Rattle.std.proofs.lemmas.Option.{get_or_from_slice_get}
 use Rattle.lw_tso.specs.Machines.{buffer_of}
 use Rattle.lw_bench.specs.Pages.{numbered, entry_text}

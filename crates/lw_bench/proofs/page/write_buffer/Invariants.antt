@@ -1,5 +1,4 @@
-use Rattle.std.proofs.Common.{◌≡◌, ◌++◌, drop}
-use Rattle.std.specs.String.{string_bytes}
+use Rattle.std.proofs.Common.{◌≡◌, ◌++◌, drop, string_bytes}
 use Rattle.lw_tso.specs.Machines.{buffer_of}
 use Rattle.lw_bench.specs.Pages.{numbered, entry_text}
 use Rattle.lw_bench.proofs.page.write_buffer.Given as goal

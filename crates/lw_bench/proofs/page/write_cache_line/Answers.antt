@@ -1,5 +1,5 @@
-use Rattle.std.proofs.Common.{◌≤◌, ◌++◌, ℕ, codes, length, take, slice_get, refl, sym, ap, ◌∙◌, arith, length-take}
-use Rattle.std.specs.String.{string_bytes}
+use Rattle.std.proofs.Common.{◌≤◌, ◌++◌, ℕ, codes, length, take, slice_get, refl, sym, ap, ◌∙◌, arith}
+use Rattle.std.proofs.Common.{length-take, string_bytes}
 use Rattle.lw_text.proofs.api.Indices.{is_index}
 use Rattle.lw_bench.specs.Pages.{numbered, named, letter}
 use Rattle.lw_bench.proofs.Pages.{numbered_more, numbered_all, text_written, processor_line_ended}

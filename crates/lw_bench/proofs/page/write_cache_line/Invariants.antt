@@ -1,5 +1,4 @@
-use Rattle.std.proofs.Common.{◌≡◌, ◌++◌, drop}
-use Rattle.std.specs.String.{string_bytes}
+use Rattle.std.proofs.Common.{◌≡◌, ◌++◌, drop, string_bytes}
 use Rattle.lw_bench.specs.Pages.{numbered, named, letter}
 use Rattle.lw_bench.proofs.page.write_cache_line.Given as goal
 

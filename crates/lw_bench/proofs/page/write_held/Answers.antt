@@ -1,5 +1,4 @@
-use Rattle.std.proofs.Common.{◌++◌, ap, codes}
-use Rattle.std.specs.String.{string_bytes}
+use Rattle.std.proofs.Common.{◌++◌, ap, codes, string_bytes}
 use Rattle.lw_base.specs.Types.{Bytes}
 use Rattle.lw_base.proofs.api.Writing.{written_as}
 use Rattle.lw_bench.specs.Pages.{named, letter}

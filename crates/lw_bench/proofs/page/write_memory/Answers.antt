@@ -1,6 +1,5 @@
-use Rattle.std.proofs.Common.{◌≤◌, ◌++◌, ℕ, codes, length, take, slice_get, refl, sym, ap, ◌∙◌, arith, length-take}
-use Rattle.std.specs.Prelude.{slice_index}
-use Rattle.std.specs.String.{string_bytes}
+use Rattle.std.proofs.Common.{◌≤◌, ◌++◌, ℕ, codes, length, take, slice_get, refl, sym, ap, ◌∙◌, arith}
+use Rattle.std.proofs.Common.{length-take, slice_index, string_bytes}
 use Rattle.lw_text.proofs.api.Indices.{is_index}
 use Rattle.lw_bench.specs.Pages.{numbered, named, word_at}
 use Rattle.lw_bench.proofs.Pages.{numbered_more, numbered_all, named_written, line_ended}

@@ -1,8 +1,6 @@
-use Rattle.std.proofs.Common.{[], length, map, refl, ap, ◌∙◌, arith}
-use Rattle.std.specs.Option.{option_map}
+use Rattle.std.proofs.Common.{[], length, map, refl, ap, ◌∙◌, arith, option_map, string_bytes}
 use Rattle.std.proofs.lemmas.Option.{slice_get-map, get_or_from_slice_get}
 use Rattle.std.proofs.lemmas.Result.{on_ok_weaker}
-use Rattle.std.specs.String.{string_bytes}
 use Rattle.lw_tso.specs.Machines.{buffer_of}
 use Rattle.lw_tso.specs.Processors.{Processor}
 use Rattle.lw_bench.proofs.Pages.{told_of, thread_told, buffer_told, three_written}

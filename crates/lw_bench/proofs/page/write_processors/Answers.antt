@@ -1,11 +1,10 @@
-use Rattle.std.proofs.Common.{◌<◌, ◌≤◌, ◌++◌, ℕ, List, [], length, length-take, map, take, refl, ap, ◌∙◌, arith}
-use Rattle.std.specs.Prelude.{slice_index_or}
+use Rattle.std.proofs.Common.{◌<◌, ◌≤◌, ◌++◌, ℕ, List, [], length, length-take, map, take, refl, ap, ◌∙◌}
+use Rattle.std.proofs.Common.{arith, slice_index_or, string_bytes}
 use Rattle.std.proofs.lemmas.List.{length-map}
 use Rattle.lw_base.specs.Heads.{head_of}
 use Rattle.lw_base.specs.Limits.{most_threads}
 use Rattle.lw_text.proofs.api.Indices.{is_index}
 use Rattle.lw_tso.specs.Processors.{Processor}
-use Rattle.std.specs.String.{string_bytes}
 use Rattle.lw_base.proofs.api.Lists.{get_some}
 use Rattle.lw_bench.specs.Pages.{numbered, processor_lines}
 use Rattle.lw_bench.proofs.Pages.{numbered_more, numbered_all, processor_told}

@@ -1,5 +1,4 @@
-use Rattle.std.proofs.Common.{◌≡◌, ◌++◌, drop}
-use Rattle.std.specs.String.{string_bytes}
+use Rattle.std.proofs.Common.{◌≡◌, ◌++◌, drop, string_bytes}
 use Rattle.lw_base.specs.Heads.{head_of}
 use Rattle.lw_bench.specs.Pages.{numbered, processor_lines}
 use Rattle.lw_bench.proofs.page.write_processors.Given as goal

@@ -1,12 +1,10 @@
-use Rattle.std.proofs.Common.{◌≡◌, ◌<◌, ◌≤◌, ◌++◌, ℕ, Some, List, [], length, length-take, map, take, slice_get, refl, sym, ap, ◌∙◌, arith}
-use Rattle.std.specs.Prelude.{slice_index_or}
-use Rattle.std.specs.Option.{option_map}
+use Rattle.std.proofs.Common.{◌≡◌, ◌<◌, ◌≤◌, ◌++◌, ℕ, Some, List, [], length, length-take, map, take}
+use Rattle.std.proofs.Common.{slice_get, refl, sym, ap, ◌∙◌, arith, slice_index_or, option_map, string_bytes}
 use Rattle.std.proofs.lemmas.Option.{slice_get-map, get_or_from_slice_get}
 use Rattle.std.proofs.lemmas.List.{length-map}
 use Rattle.lw_interleaving.specs.declared.thread.Thread.{Thread}
 use Rattle.lw_base.specs.Limits.{most_threads}
 use Rattle.lw_text.proofs.api.Indices.{is_index}
-use Rattle.std.specs.String.{string_bytes}
 use Rattle.lw_base.proofs.api.Lists.{get_some}
 use Rattle.lw_bench.specs.Pages.{numbered, thread_line}
 use Rattle.lw_bench.proofs.Pages.{numbered_more, numbered_all, told_of, thread_told}

@@ -1,10 +1,8 @@
-use Rattle.std.proofs.Common.{◌++◌, ◌∙◌, Vec, ap, arith, sym}
-use Rattle.std.proofs.lemmas.List.{append-nil}
-use Rattle.std.specs.Option.{option_to_list}
+use Rattle.std.proofs.Common.{◌++◌, ◌∙◌, Vec, ap, arith, sym, append-nil, option_to_list}
 use Rattle.lw_choices.specs.declared.conflicts.Access.{Access}
 use Rattle.lw_choices.proofs.AccessPairs.{access_pushed, accesses_done}
-use Rattle.lw_choices.proofs.conflicts.accesses_of.Goals as goal
 use Rattle.lw_choices.proofs.conflicts.accesses_of.Goals.{in-Some+in_ok-push, in_default}
+use Rattle.lw_choices.proofs.conflicts.accesses_of.Goals as goal
 
 pub overflow_cast-number : goal.overflow_cast-number
 overflow_cast-number g c = omega (arith, c.loop-number-test.true, c.requires)

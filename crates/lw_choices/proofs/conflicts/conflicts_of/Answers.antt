@@ -1,5 +1,5 @@
-use Rattle.std.proofs.Common.{◌++◌, ◌∙◌, ap, ap₂, append_assoc, sym}
-use Rattle.std.proofs.lemmas.List.{append-nil, nil_from_length}
+use Rattle.std.proofs.Common.{◌++◌, ◌∙◌, ap, ap₂, append_assoc, sym, append-nil}
+use Rattle.std.proofs.lemmas.List.{nil_from_length}
 use Rattle.lw_choices.specs.inner.Accesses.{conflicts_with, conflicts_among}
 use Rattle.lw_choices.proofs.AccessPairs.{conflicts_are}
 use Rattle.lw_choices.proofs.conflicts.conflicts_of.Goals as goal

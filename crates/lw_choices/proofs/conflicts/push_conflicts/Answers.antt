@@ -1,9 +1,9 @@
-use Rattle.std.proofs.Common.{ℕ, Bool, if◌then◌else◌, [], ◌∷◌, ◌++◌, ◌∙◌, Vec, ap, sym}
-use Rattle.std.proofs.lemmas.List.{append-nil, drop_all}
+use Rattle.std.proofs.Common.{ℕ, Bool, if◌then◌else◌, [], ◌∷◌, ◌++◌, ◌∙◌, Vec, ap, sym, append-nil}
+use Rattle.std.proofs.lemmas.List.{drop_all}
 use Rattle.lw_choices.specs.inner.Accesses.{conflicts_with}
 use Rattle.lw_choices.proofs.AccessPairs.{conflict_pushed}
-use Rattle.lw_choices.proofs.conflicts.push_conflicts.Goals as goal
 use Rattle.lw_choices.proofs.conflicts.push_conflicts.Goals.{then-meets+in_ok-push, else-meets}
+use Rattle.lw_choices.proofs.conflicts.push_conflicts.Goals as goal
 
 pub loop-second-preserved : goal.loop-second-preserved
 loop-second-preserved g c =

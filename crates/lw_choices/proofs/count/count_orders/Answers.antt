@@ -1,6 +1,4 @@
-use Rattle.std.proofs.Common.{◌≡◌, ◌≤◌, ◌<◌, ◌∙◌, ap, arith, length, subst, sym}
-use Rattle.std.specs.Prelude.{IfOk, MatchOption}
-use Rattle.std.proofs.lemmas.Bool.{eqb-true}
+use Rattle.std.proofs.Common.{◌≡◌, ◌≤◌, ◌<◌, ◌∙◌, ap, arith, length, subst, sym, IfOk, MatchOption, eqb-true}
 use Rattle.lw_orders.specs.Limits.{most_orders}
 use Rattle.lw_orders.specs.Order.{Constraints, count_of}
 use Rattle.lw_choices.specs.Items.{constraints_of}

@@ -1,5 +1,4 @@
-use Rattle.std.proofs.Common.{◌≡◌, ℕ, ◌+◌, ◌-◌, ◌<◌, ◌≤◌, List, length, take, drop, get_or, ap, arith}
-use Rattle.std.specs.List.{sum_by}
+use Rattle.std.proofs.Common.{◌≡◌, ℕ, ◌+◌, ◌-◌, ◌<◌, ◌≤◌, List, length, take, drop, get_or, ap, arith, sum_by}
 use Rattle.std.proofs.lemmas.List.Sums.{sum_by-cons, sum_by-take-drop}
 use Rattle.std.proofs.lemmas.List.{drop_more}
 use Rattle.lw_choices.specs.inner.Few.{branches}
@@ -26,3 +25,9 @@ pub loop-code-preserved : goal.loop-code-preserved
 loop-code-preserved g c =
     room_left (branches g.S.Statement.language) c.args.program.now c.loop-code.code-index c.code-item.result c.loop-code.room c.count_branches-count.result _
     c.loop-code-test.true c.code-item.is c.count_branches-count.ensures c.if-room-count.false c.loop-code.invariant
+
+pub offset_bounds-program-code-index : goal.offset_bounds-program-code-index
+offset_bounds-program-code-index g c = c.loop-code.auto.code-index-end
+
+pub bounds-program-code-index : goal.bounds-program-code-index
+bounds-program-code-index g c = c.loop-code-test.true

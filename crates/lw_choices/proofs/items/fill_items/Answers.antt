@@ -1,5 +1,4 @@
-use Rattle.std.proofs.Common.{◌≡◌, ◌++◌, sym, ap₂, length, arith}
-use Rattle.std.proofs.lemmas.Bool.{ltb-false}
+use Rattle.std.proofs.Common.{◌≡◌, ◌≤◌, ◌++◌, sym, ap₂, length, arith, ltb-false}
 use Rattle.lw_base.specs.Limits.{most_threads}
 use Rattle.lw_choices.specs.Items.{path_items}
 use Rattle.lw_choices.specs.Views.{path_of}
@@ -39,3 +38,7 @@ returns-in_default g c =
 
 pub bounds-path-items-thread : goal.bounds-path-items-thread
 bounds-path-items-thread g c = c.loop-thread-test.true
+
+pub offset_bounds-path-items-thread : goal.offset_bounds-path-items-thread
+offset_bounds-path-items-thread g c =
+    let few : length c.as_slice-path-items.result.now ≤ 4 = c.loop-thread.invariant.few in omega (arith, few, c.loop-thread-test.true)

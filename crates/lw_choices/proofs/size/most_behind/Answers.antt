@@ -1,6 +1,4 @@
-use Rattle.std.proofs.Common.{ℕ, Option, inr, refl, sym, ap, ◌∙◌, ◌∷◌, arith}
-use Rattle.std.specs.Prelude.{slice_index}
-use Rattle.std.specs.Option.{option_to_list}
+use Rattle.std.proofs.Common.{ℕ, Option, inr, refl, sym, ap, ◌∙◌, ◌∷◌, arith, slice_index, option_to_list}
 use Rattle.lw_choices.proofs.Sizes.{most_of_two, first_behind, second_behind}
 use Rattle.lw_choices.proofs.size.most_behind.Goals as goal
 

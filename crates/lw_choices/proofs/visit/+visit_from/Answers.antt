@@ -1,14 +1,14 @@
-use Rattle.std.proofs.Common.{rules, ◌≡◌, ℕ, ◌<◌, ◌≤◌, List, [], ◌∷◌, length, Some, None, sym, refl, ap, subst, arith, slice_get, ◌∙◌, suc}
-use Rattle.std.specs.Prelude.{Contains}
-use Rattle.std.specs.Option.{option_to_list}
+use Rattle.std.proofs.Common.{rules, ◌≡◌, ℕ, ◌<◌, ◌≤◌, List, [], ◌∷◌, length, Some, None, sym, refl, ap}
+use Rattle.std.proofs.Common.{subst, arith, slice_get, ◌∙◌, suc, Contains, option_to_list}
 use Rattle.std.proofs.lemmas.Result.{on_ok_weaker, IfErr-weaker, err_from_is_err_and}
 use Rattle.lw_base.specs.Limits.{most_threads}
 use Rattle.lw_base.specs.Threads.{code_of}
 use Rattle.lw_litmus.specs.Limits.{most_instructions}
 use Rattle.lw_choices.specs.Views.{path_of, choice_of}
 use Rattle.lw_choices.specs.Visits.{Refused, CanGoOn, choices_along}
-use Rattle.lw_choices.proofs.Along.{found_here, few_statements, goes_on, next_thread, last_visited, next_visited, one_visited, two_visited, last_refused}
-use Rattle.lw_choices.proofs.Along.{next_refused, first_refused, second_refused}
+use Rattle.lw_choices.proofs.Along.{found_here, few_statements, goes_on, next_thread, last_visited}
+use Rattle.lw_choices.proofs.Along.{next_visited, one_visited, two_visited, last_refused, next_refused}
+use Rattle.lw_choices.proofs.Along.{first_refused, second_refused}
 use Rattle.lw_choices.specs.Choices.{led}
 use Rattle.lw_choices.proofs.api.Members.{Contains-here, Contains-there}
 use Rattle.lw_choices.proofs.visit.+visit_from.Goals as goal

@@ -1,5 +1,4 @@
-use Rattle.std.proofs.Common.{◌≡◌, ◌+◌, ℕ, ap, arith, length, refl, sym, ◌∙◌, subst}
-use Rattle.std.specs.Prelude.{false, slice_index_or}
+use Rattle.std.proofs.Common.{◌≡◌, ◌+◌, ℕ, ap, arith, length, refl, sym, ◌∙◌, subst, false, slice_index_or}
 use Rattle.std.proofs.lemmas.Option.{slice_get_read}
 use Rattle.lw_litmus.specs.Operations.{target_of}
 use Rattle.lw_litmus.specs.Sources.{source_operation}

@@ -59,3 +59,29 @@ bounds-code-place g c =
     let code = code_read _ _ _ _ _ _ c.as_slice.ensures c.index.ensures.value h.within c.index-as_slice-index.is
     c.as_slice-code.ensures in
     omega (arith, c.requires.there, ap length code)
+
+pub offset_bounds-code-place : goal.offset_bounds-code-place
+offset_bounds-code-place g c =
+    let h = has_start _ _ _ _ c.args.cpu _ c.args.place _ _ c.requires.compiled c.requires.there c.as_slice-2.ensures
+    c.index-2.ensures.value c.index-as_slice-index-2.is c.as_slice-starts.ensures in
+    let code = code_read _ _ _ _ _ _ c.as_slice.ensures c.index.ensures.value h.within c.index-as_slice-index.is
+    c.as_slice-code.ensures in
+    omega (arith, c.requires.there, ap length code, c.as_slice-code.type_inv.1)
+
+pub overflow_add-place : goal.overflow_add-place
+overflow_add-place g c =
+    let h = has_start _ _ _ _ c.args.cpu _ c.args.place _ _ c.requires.compiled c.requires.there c.as_slice-2.ensures
+    c.index-2.ensures.value c.index-as_slice-index-2.is c.as_slice-starts.ensures in
+    omega (arith, h.next, c.as_slice-starts.type_inv.0)
+
+pub offset_bounds-starts-place : goal.offset_bounds-starts-place
+offset_bounds-starts-place g c =
+    let h = has_start _ _ _ _ c.args.cpu _ c.args.place _ _ c.requires.compiled c.requires.there c.as_slice-2.ensures
+    c.index-2.ensures.value c.index-as_slice-index-2.is c.as_slice-starts.ensures in
+    omega (arith, h.next, c.as_slice-starts.type_inv.1)
+
+pub offset_bounds-starts-place-2 : goal.offset_bounds-starts-place-2
+offset_bounds-starts-place-2 g c =
+    let h = has_start _ _ _ _ c.args.cpu _ c.args.place _ _ c.requires.compiled c.requires.there c.as_slice-2.ensures
+    c.index-2.ensures.value c.index-as_slice-index-2.is c.as_slice-starts.ensures in
+    omega (arith, h.next, c.as_slice-starts.type_inv.1)

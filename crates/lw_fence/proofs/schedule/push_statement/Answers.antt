@@ -1,5 +1,6 @@
-use Rattle.std.proofs.Common.{◌≡◌, ◌++◌, ◌∷◌, ◌∙◌, Bool, [], ap, append_assoc, arith, if◌then◌else◌, replicate, sym}
-use Rattle.std.proofs.lemmas.List.{append-nil, replicate-append-replicate}
+use Rattle.std.proofs.Common.{◌≡◌, ◌++◌, ◌∷◌, ◌∙◌, Bool, [], ap, append_assoc, arith, if◌then◌else◌}
+use Rattle.std.proofs.Common.{replicate, sym, append-nil}
+use Rattle.std.proofs.lemmas.List.{replicate-append-replicate}
 use Rattle.lw_base.specs.declared.event.Event.TheVariants.{Step, Drain}
 use Rattle.lw_litmus.specs.Operations.{is_store}
 use Rattle.lw_fence.proofs.schedule.push_statement.Goals as goal

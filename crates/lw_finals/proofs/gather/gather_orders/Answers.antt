@@ -1,5 +1,4 @@
-use Rattle.std.proofs.Common.{ℕ, List, length, ◌<◌, refl, sym, ◌∙◌, subst}
-use Rattle.std.specs.Prelude.{All, Contains}
+use Rattle.std.proofs.Common.{ℕ, List, length, ◌<◌, refl, sym, ◌∙◌, subst, All, Contains}
 use Rattle.std.proofs.lemmas.List.Elements.{All-contains}
 use Rattle.lw_orders.specs.Progress.{Progress}
 use Rattle.lw_choices.proofs.api.Members.{Contains-here}

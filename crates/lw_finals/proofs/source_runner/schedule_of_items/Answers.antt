@@ -1,5 +1,5 @@
-use Rattle.std.proofs.Common.{◌++◌, ◌∙◌, List, ap, sym}
-use Rattle.std.proofs.lemmas.List.{append-nil, drop_all}
+use Rattle.std.proofs.Common.{arith, ◌++◌, ◌∙◌, List, ap, sym, append-nil}
+use Rattle.std.proofs.lemmas.List.{drop_all}
 use Rattle.lw_base.specs.declared.event.Event.{Event}
 use Rattle.lw_finals.specs.inner.SourceRunners.{item_events}
 use Rattle.lw_finals.proofs.source_runner.schedule_of_items.Goals as goal
@@ -21,3 +21,6 @@ returns g c =
     sym (append-nil events)
     ∙ (ap (λ order. events ++ item_events c.args.source.now.threads c.args.compiled.now.starts c.args.items.now order)
     (sym (drop_all c.loop-number.number-index c.args.order.now c.loop-number-test.false)) ∙ c.loop-number.invariant)
+
+pub offset_bounds-items-from : goal.offset_bounds-items-from
+offset_bounds-items-from g c = omega (arith, c.from.ensures, c.type_inv.order c.loop-number.number-index)

@@ -1,5 +1,4 @@
-use Rattle.std.proofs.Common.{◌≡◌, ◌∙◌, subst}
-use Rattle.std.specs.Prelude.{IfOk}
+use Rattle.std.proofs.Common.{◌≡◌, ◌∙◌, subst, IfOk}
 use Rattle.lw_base.specs.Heads.{head_of}
 use Rattle.lw_report.specs.inner.Labels.{labels}
 use Rattle.lw_report.proofs.line.observed_labels.Goals as goal

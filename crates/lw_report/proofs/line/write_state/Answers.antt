@@ -1,7 +1,5 @@
-use Rattle.std.proofs.Common.{◌++◌, ◌∙◌, ap, append_assoc, codes, refl, get_or, arith}
-use Rattle.std.specs.Fmt.{decimal}
+use Rattle.std.proofs.Common.{◌++◌, ◌∙◌, ap, append_assoc, codes, refl, get_or, arith, decimal, string_bytes}
 use Rattle.lw_base.specs.Types.{Bytes}
-use Rattle.std.specs.String.{string_bytes}
 use Rattle.lw_base.proofs.api.Writing.{then_written, pushed}
 use Rattle.lw_report.specs.inner.Labels.{labelled_words}
 use Rattle.lw_report.proofs.Lines.{zip_more, zip_all}

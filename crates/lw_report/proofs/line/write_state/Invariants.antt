@@ -1,7 +1,4 @@
-use Rattle.std.proofs.Common.{◌≡◌, ◌++◌, drop}
-use Rattle.std.specs.Prelude.{zip}
-use Rattle.std.specs.List.{flat_map}
-use Rattle.std.specs.String.{string_bytes}
+use Rattle.std.proofs.Common.{◌≡◌, ◌++◌, drop, zip, flat_map, string_bytes}
 use Rattle.lw_report.specs.inner.Labels.{labelled_word, labelled_words}
 use Rattle.lw_report.proofs.line.write_state.Given as goal
 

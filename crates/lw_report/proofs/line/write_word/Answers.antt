@@ -1,6 +1,4 @@
-use Rattle.std.proofs.Common.{◌++◌, ◌∙◌, ap, sym, codes, refl, arith}
-use Rattle.std.specs.Fmt.{decimal}
-use Rattle.std.specs.String.{string_bytes}
+use Rattle.std.proofs.Common.{◌++◌, ◌∙◌, ap, sym, codes, refl, arith, decimal, string_bytes}
 use Rattle.std.proofs.lemmas.Fmt.{decimal_digit}
 use Rattle.lw_base.specs.Types.{Bytes}
 use Rattle.lw_base.proofs.api.Writing.{then_written, pushed}

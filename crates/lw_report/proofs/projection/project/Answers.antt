@@ -1,5 +1,4 @@
-use Rattle.std.proofs.Common.{◌≡◌, ◌∙◌, map, subst}
-use Rattle.std.specs.Prelude.{IfOk}
+use Rattle.std.proofs.Common.{◌≡◌, ◌∙◌, map, subst, IfOk}
 use Rattle.lw_report.specs.Truth.{final_word}
 use Rattle.lw_report.proofs.projection.project.Goals as goal
 

@@ -1,5 +1,4 @@
-use Rattle.std.proofs.Common.{◌<◌, ◌≤◌, ◌∙◌, sym, length, length-take, get_or-take, arith, ap}
-use Rattle.std.proofs.lemmas.List.{append-nil}
+use Rattle.std.proofs.Common.{◌<◌, ◌≤◌, ◌∙◌, sym, length, length-take, get_or-take, arith, ap, append-nil}
 use Rattle.lw_base.specs.Heads.{head_of}
 use Rattle.lw_base.specs.declared.head.Seen.TheVariants.{Location}
 use Rattle.lw_report.specs.Observed.{is_observed}

@@ -1,5 +1,4 @@
-use Rattle.std.proofs.Common.{◌≡◌, ◌++◌}
-use Rattle.std.specs.Prelude.{filter}
+use Rattle.std.proofs.Common.{◌≡◌, ◌++◌, filter}
 use Rattle.lw_base.specs.Heads.{head_of}
 use Rattle.lw_base.specs.SeenLists.{locations}
 use Rattle.lw_report.specs.Observed.{is_observed}

@@ -1,5 +1,4 @@
-use Rattle.std.proofs.Common.{refl, sym}
-use Rattle.std.proofs.lemmas.List.{append-nil}
+use Rattle.std.proofs.Common.{refl, sym, append-nil}
 use Rattle.lw_base.specs.Heads.{head_of}
 use Rattle.lw_base.specs.declared.head.Seen.TheVariants.{Register}
 use Rattle.lw_report.specs.Observed.{is_observed}

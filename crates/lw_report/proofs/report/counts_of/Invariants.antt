@@ -1,5 +1,4 @@
-use Rattle.std.proofs.Common.{◌≡◌, ◌≤◌, length, take}
-use Rattle.std.specs.Prelude.{filter}
+use Rattle.std.proofs.Common.{◌≡◌, ◌≤◌, length, take, filter}
 use Rattle.lw_report.specs.States.{ListedState}
 use Rattle.lw_report.proofs.report.counts_of.Given as goal
 

@@ -1,6 +1,4 @@
-use Rattle.std.proofs.Common.{◌++◌, ◌∙◌, ap, codes}
-use Rattle.std.specs.Fmt.{decimal}
-use Rattle.std.specs.String.{string_bytes}
+use Rattle.std.proofs.Common.{◌++◌, ◌∙◌, ap, codes, decimal, string_bytes}
 use Rattle.lw_base.specs.Heads.{head_of}
 use Rattle.lw_base.proofs.api.Writing.{then_written}
 use Rattle.lw_report.specs.Reports.{verdict_text, observation_line, claim_line, judgement_lines}

@@ -1,6 +1,4 @@
-use Rattle.std.proofs.Common.{◌≡◌, ◌++◌, drop}
-use Rattle.std.specs.List.{flat_map}
-use Rattle.std.specs.String.{string_bytes}
+use Rattle.std.proofs.Common.{◌≡◌, ◌++◌, drop, flat_map, string_bytes}
 use Rattle.lw_base.specs.Heads.{head_of}
 use Rattle.lw_listing.specs.Listings.{schedules_of}
 use Rattle.lw_report.specs.Reports.{scheduled, scheduled_lines}

@@ -1,5 +1,4 @@
-use Rattle.std.proofs.Common.{length}
-use Rattle.std.specs.Prelude.{All}
+use Rattle.std.proofs.Common.{length, All}
 use Rattle.lw_base.specs.Heads.{head_of}
 use Rattle.lw_base.specs.WellFormed.{IsSeen}
 use Rattle.lw_report.proofs.Names.{all_there}

@@ -3,7 +3,8 @@ use Rattle.lw_base.specs.Outcomes.{Final}
 use Rattle.lw_base.specs.Propositions.{formula_of}
 use Rattle.lw_base.specs.WellFormed.{SpeaksOf}
 use Rattle.lw_report.specs.Truth.{is_true}
-use Rattle.lw_report.proofs.Truths.{or_left_is, or_right_is, and_left_is, and_right_is, register_is, location_is}
+use Rattle.lw_report.proofs.Truths.{or_left_is, or_right_is, and_left_is, and_right_is, register_is}
+use Rattle.lw_report.proofs.Truths.{location_is}
 use Rattle.lw_report.proofs.truth.+holds.Goals as goal
 
 -- the places are there, since the proposition speaks of the outcome

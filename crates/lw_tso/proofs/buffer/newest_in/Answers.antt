@@ -1,5 +1,4 @@
-use Rattle.std.proofs.Common.{arith, sym, ap, ◌∙◌}
-use Rattle.std.specs.Option.{option_copied}
+use Rattle.std.proofs.Common.{arith, sym, ap, ◌∙◌, option_copied}
 use Rattle.lw_tso.proofs.Newest.{passed_one_more, found_newest}
 use Rattle.lw_tso.proofs.buffer.newest_in.Goals as goal
 

@@ -1,6 +1,6 @@
-use Rattle.std.proofs.Common.{◌<◌, ◌++◌, ◌∷◌, [], ap, ap₂, arith, length, sym, ◌∙◌}
-use Rattle.std.proofs.lemmas.List.{length-take, take_all, take_more}
-use Rattle.std.specs.Prelude.{slice_index}
+use Rattle.std.proofs.Common.{◌<◌, ◌++◌, ◌∷◌, [], ap, ap₂, arith, length, sym, ◌∙◌, length-take, take_all}
+use Rattle.std.proofs.Common.{slice_index}
+use Rattle.std.proofs.lemmas.List.{take_more}
 use Rattle.lw_tso.proofs.Refilled.{location_at}
 use Rattle.lw_tso.proofs.machine.content_of.Goals as goal
 

@@ -1,5 +1,4 @@
-use Rattle.std.proofs.Common.{◌≡◌, ◌<◌, ◌≤◌, [], get_or, length, map, arith, ap, sym, refl, ◌∙◌}
-use Rattle.std.proofs.lemmas.List.{take_all}
+use Rattle.std.proofs.Common.{◌≡◌, ◌<◌, ◌≤◌, [], get_or, length, map, arith, ap, sym, refl, ◌∙◌, take_all}
 use Rattle.std.proofs.lemmas.Option.{get_or_from_slice_get}
 use Rattle.lw_base.specs.Threads.{code_of}
 use Rattle.lw_tso.specs.inner.Rooms.{stores_from}
@@ -44,3 +43,19 @@ bounds-regs-items-thread g c = c.loop-thread-test.true
 
 pub loop-thread-init : goal.loop-thread-init
 loop-thread-init g c = rw c.new-processors.ensures.items (none_started c.args.program.now.threads c.args.program.now.head.init_regs)
+
+pub offset_bounds-as_slice-thread : goal.offset_bounds-as_slice-thread
+offset_bounds-as_slice-thread g c =
+    let known = c.args.program.now.well_formed in
+    omega (
+      arith,
+      c.loop-thread-test.true,
+      ap length c.as_slice-regs-items.ensures,
+      known.head.regs,
+      known.as_many,
+      ap length c.as_slice.ensures,
+      c.as_slice.type_inv.1,
+    )
+
+pub offset_bounds-regs-items-thread : goal.offset_bounds-regs-items-thread
+offset_bounds-regs-items-thread g c = omega (arith, c.loop-thread-test.true, c.as_slice-regs-items.type_inv.1)

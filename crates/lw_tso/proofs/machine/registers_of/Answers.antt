@@ -1,5 +1,5 @@
-use Rattle.std.proofs.Common.{◌++◌, ◌∷◌, [], ap, ap₂, map, sym, ◌∙◌}
-use Rattle.std.proofs.lemmas.List.{map_more, take_all}
+use Rattle.std.proofs.Common.{◌++◌, ◌∷◌, [], ap, ap₂, map, sym, ◌∙◌, take_all}
+use Rattle.std.proofs.lemmas.List.{map_more}
 use Rattle.lw_tso.specs.declared.processor.Processor.{Processor as ProcessorInMemory}
 use Rattle.lw_tso.proofs.machine.registers_of.Goals as goal
 

@@ -1,6 +1,4 @@
-use Rattle.std.proofs.Common.{◌+◌, ◌<◌, ap, arith, length, length-set, ◌∙◌}
-use Rattle.std.proofs.lemmas.List.{length-take}
-use Rattle.std.specs.Prelude.{slice_index, take}
+use Rattle.std.proofs.Common.{◌+◌, ◌<◌, ap, arith, length, length-set, ◌∙◌, length-take, slice_index, take}
 use Rattle.lw_tso.proofs.Refilled.{location_at, written_on}
 use Rattle.lw_tso.proofs.machine.write_content.Goals as goal
 

@@ -1,5 +1,6 @@
 use Rattle.std.proofs.Common.{◌+◌, ◌++◌, ◌∷◌, [], ap, ap₂, arith, length, length-set, map, sym, take, ◌∙◌}
-use Rattle.std.proofs.lemmas.List.{map_more, take_all, take_more_set}
+use Rattle.std.proofs.Common.{take_all}
+use Rattle.std.proofs.lemmas.List.{map_more, take_more_set}
 use Rattle.lw_tso.specs.declared.processor.Processor.{Processor as ProcessorInMemory}
 use Rattle.lw_tso.proofs.machine.write_registers.Goals as goal
 

@@ -1,6 +1,5 @@
-use Rattle.std.proofs.Common.{sym, ◌∙◌, ap, ◌++◌, ◌∷◌, [], arith, length}
+use Rattle.std.proofs.Common.{sym, ◌∙◌, ap, ◌++◌, ◌∷◌, [], arith, length, string_bytes}
 use Rattle.std.proofs.lemmas.List.{length-map}
-use Rattle.std.specs.String.{string_bytes}
 use Rattle.lw_base.proofs.api.Tables.{names_more, table_more, last_place, has_place}
 use Rattle.lw_base.proofs.location.LocNames.add.Goals as goal
 

@@ -1,6 +1,5 @@
-use Rattle.std.proofs.Common.{◌∙◌, ◌<◌, length, map, ap, arith}
-use Rattle.std.proofs.lemmas.List.{take_all}
-use Rattle.std.specs.String.{string_bytes}
+use Rattle.std.proofs.Common.{◌∙◌, ◌<◌, length, map, ap, sym, subst, arith, take_all, string_bytes}
+use Rattle.lw_base.specs.Names.{IsTable}
 use Rattle.lw_base.proofs.api.Tables.{copied_more}
 use Rattle.lw_base.proofs.location.LocNames.copy.Goals as goal
 
@@ -18,3 +17,8 @@ returns g c =
     c.loop-name.invariant
     ∙ ap (map string_bytes) (take_all c.loop-name.name-index c.deref-name-items.result.now c.loop-name-test.false ∙ c.deref-name-items.ensures.value)
     ∙ c.self.view_is
+
+pub invariant_of-result : goal.invariant_of-result
+invariant_of-result g c =
+    let same = take_all c.loop-name.name-index c.deref-name-items.result.now c.loop-name-test.false ∙ c.deref-name-items.ensures.value in
+    subst IsTable (sym (c.loop-name.invariant ∙ ap (map string_bytes) same)) c.self.invariant

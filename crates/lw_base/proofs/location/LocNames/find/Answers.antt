@@ -1,6 +1,5 @@
-use Rattle.std.proofs.Common.{arith, ap, sym, ◌∙◌, below_more, get_or, length, map, ◌<◌, []}
+use Rattle.std.proofs.Common.{arith, ap, sym, ◌∙◌, below_more, get_or, length, map, ◌<◌, [], string_bytes}
 use Rattle.std.proofs.lemmas.List.{get_or_read, length-map}
-use Rattle.std.specs.String.{string_bytes}
 use Rattle.lw_base.proofs.api.Tables.{not_here, here}
 use Rattle.lw_base.proofs.location.LocNames.find.Goals as goal
 

@@ -1,4 +1,4 @@
-use Rattle.std.proofs.Common.{[], ◌∷◌, sym, ◌∙◌, length-append, arith}
+use Rattle.std.proofs.Common.{[], ◌∷◌, ◌<◌, ◌≤◌, length, sym, ◌∙◌, length-append, arith}
 use Rattle.lw_base.proofs.api.Tables.{with_name-there, with_name-new, index_of-at, index_of-new}
 use Rattle.lw_base.proofs.location.LocNames.find_or_add.Goals as goal
 
@@ -18,3 +18,14 @@ returns-in-Ok-clause-place g c =
 
 pub returns-in-Ok-clause-names : goal.returns-in-Ok-clause-names
 returns-in-Ok-clause-names g c = c.in-Ok.ensures.ok ∙ sym (with_name-new c.args.self.now c.args.name.now c.in_default.ensures)
+
+pub add-requires-clause-few : goal.add-requires-clause-few
+add-requires-clause-few g c =
+    let few : length c.args.self.now ≤ 8 = c.len-len.ensures.table.few in
+    let free : length c.args.self.now < 8 = omega (arith, few, c.len-len.ensures.len, c.if-len-eq-MAX_LOCATIONS.false) in free
+
+pub add-requires-clause-name : goal.add-requires-clause-name
+add-requires-clause-name g c = c.requires
+
+pub add-requires-clause-fresh : goal.add-requires-clause-fresh
+add-requires-clause-fresh g c = c.in_default.ensures

@@ -1,6 +1,5 @@
-use Rattle.std.proofs.Common.{◌∙◌, ap, length, sym, arith}
+use Rattle.std.proofs.Common.{◌∙◌, ap, length, sym, arith, string_bytes}
 use Rattle.std.proofs.lemmas.List.{length-map}
-use Rattle.std.specs.String.{string_bytes}
 use Rattle.lw_base.proofs.api.Tables.{name_at}
 use Rattle.lw_base.proofs.location.LocNames.name.Goals as goal
 

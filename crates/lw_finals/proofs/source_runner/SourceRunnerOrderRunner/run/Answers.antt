@@ -1,4 +1,5 @@
-use Rattle.std.proofs.Common.{◌≡◌, ◌∙◌, ◌<◌, ℕ, List, Ok, length, ap, sym, subst, true, true≢false}
+use Rattle.std.proofs.Common.{arith, ◌≡◌, ◌∙◌, ◌<◌, ℕ, List, Ok, length, ap, sym, subst, true, true≢false}
+use Rattle.std.proofs.lemmas.List.{length-map}
 use Rattle.lw_litmus.specs.declared.stmt.Stmt.{Stmt}
 use Rattle.lw_base.specs.Outcomes.{Final}
 use Rattle.lw_interleaving.specs.Runs.{State, is_source_final, outcome_of}
@@ -83,3 +84,47 @@ returns-then-not-carry_out-clause-ends g c o stays =
     let within : c.from.result < length items = rw c.from.ensures (c.requires k 0 c.loop-number-test.true) in
     ran_off (system_of (source_of source)) items order k c.from.result 0 c.index-items-from.result now c.loop-number-test.true c.from.ensures within
     c.index-items-from.is none c.loop-number.invariant.ran run.end run.ran
+
+pub carry_out-requires : goal.carry_out-requires
+carry_out-requires g c = c.len-threads.ensures ∙ sym c.loop-number.invariant.many
+
+-- what a runner is of has not changed, and its run is of the source
+pub invariant_of-self : goal.invariant_of-self
+invariant_of-self g c =
+    let kept = c.loop-number.invariant in let done = c.carry_out.ensures in
+    rw (kept.source, kept.compiled, kept.end) (
+      c.self.invariant.0,
+      done.program ∙ kept.program,
+      done.start ∙ kept.start,
+      done.threads ∙ kept.many,
+      done.words ∙ kept.words,
+      c.self.invariant.5,
+      c.self.invariant.6,
+    )
+
+pub invariant_of-self-then-not-is_final : goal.invariant_of-self-then-not-is_final
+invariant_of-self-then-not-is_final g c =
+    let kept = c.loop-number.invariant in
+    rw (kept.source, kept.compiled, kept.end) (c.self.invariant.0, kept.program, kept.start, kept.many, kept.words, c.self.invariant.5, c.self.invariant.6)
+
+pub invariant_of-self-2 : goal.invariant_of-self-2
+invariant_of-self-2 g c =
+    let kept = c.loop-number.invariant in let state = c.loop-number.self-inside.run.state in
+    rw (kept.source, kept.compiled, c.write_outcome.ensures) (
+      c.self.invariant.0,
+      kept.program,
+      kept.start,
+      kept.many,
+      kept.words,
+      length-map state.threads _ ∙ kept.many,
+      kept.words,
+    )
+
+pub write_outcome-requires-clause-threads : goal.write_outcome-requires-clause-threads
+write_outcome-requires-clause-threads g c = rw c.loop-number.invariant.end (c.self.invariant.5 ∙ sym c.loop-number.invariant.many)
+
+pub write_outcome-requires-clause-words : goal.write_outcome-requires-clause-words
+write_outcome-requires-clause-words g c = rw c.loop-number.invariant.end (c.self.invariant.6 ∙ sym c.loop-number.invariant.words)
+
+pub offset_bounds-items-from : goal.offset_bounds-items-from
+offset_bounds-items-from g c = omega (arith, c.from.ensures, c.type_inv.order c.loop-number.number-index)

@@ -1,4 +1,4 @@
-use Rattle.std.proofs.Common.{◌≡◌, ◌∙◌, ℕ, List, Err, ap, subst, sym, true, true≢false}
+use Rattle.std.proofs.Common.{arith, ◌≡◌, ◌∙◌, ℕ, List, Err, ap, subst, sym, true, true≢false}
 use Rattle.lw_base.specs.Outcomes.{Final}
 use Rattle.lw_base.specs.declared.stop.Stop.{Stop}
 use Rattle.lw_memory.specs.Flat.{flat}
@@ -92,3 +92,22 @@ returns-clause-ends g c =
 
 pub bounds-items-from : goal.bounds-items-from
 bounds-items-from g c = rw c.from.ensures (c.requires c.loop-number.number-index 0 c.loop-number-test.true)
+
+-- what a runner is of has not changed, and its machine is of the program
+pub invariant_of-self : goal.invariant_of-self
+invariant_of-self g c =
+    let kept = c.loop-number.invariant in let done = c.carry_out.ensures in
+    rw (kept.program, kept.end) (
+      done.program ∙ kept.threads,
+      done.initial ∙ kept.initial ∙ c.restart.ensures.initial ∙ c.self.invariant.1,
+      c.self.invariant.2,
+      c.self.invariant.3,
+    )
+
+pub invariant_of-self-then-not-is_final : goal.invariant_of-self-then-not-is_final
+invariant_of-self-then-not-is_final g c =
+    let kept = c.loop-number.invariant in
+    rw (kept.program, kept.end) (kept.threads, kept.initial ∙ c.restart.ensures.initial ∙ c.self.invariant.1, c.self.invariant.2, c.self.invariant.3)
+
+pub offset_bounds-items-from : goal.offset_bounds-items-from
+offset_bounds-items-from g c = omega (arith, c.from.ensures, c.type_inv.order c.loop-number.number-index)

@@ -1,5 +1,4 @@
-use Rattle.std.proofs.Common.{ap, ◌∙◌}
-use Rattle.std.specs.Prelude.{slice_index}
+use Rattle.std.proofs.Common.{ap, ◌∙◌, slice_index}
 use Rattle.lw_interleaving.specs.declared.thread.Thread.{Thread}
 use Rattle.lw_interleaving.specs.Runs.{SourceRunState}
 use Rattle.lw_interleaving.proofs.api.Runs.{read_at}

@@ -1,7 +1,8 @@
 use Rattle.std.proofs.Common.{refl, length, ap, sym, ◌∙◌, arith}
 use Rattle.std.proofs.lemmas.Option.{slice_get_within}
 use Rattle.lw_interleaving.specs.Runs.{SourceRunState}
-use Rattle.lw_interleaving.proofs.api.Runs.{next_statement, stepped, no_thread, no_statement, set_length, words_kept}
+use Rattle.lw_interleaving.proofs.api.Runs.{next_statement, stepped, no_thread, no_statement, set_length}
+use Rattle.lw_interleaving.proofs.api.Runs.{words_kept}
 use Rattle.lw_interleaving.proofs.run.SourceRun.step.Goals as goal
 
 pub returns-clause-done : goal.returns-clause-done
@@ -63,3 +64,9 @@ returns-clause-words g c =
 
 pub returns-clause-start : goal.returns-clause-start
 returns-clause-start g c = ap (λ (r : SourceRunState). r.start) c.self.view_is
+
+pub offset_bounds-as_slice-index : goal.offset_bounds-as_slice-index
+offset_bounds-as_slice-index g c =
+    let thread = rw c.index.ensures.value at c.in-Some.ensures in
+    let within = slice_get_within c.self.inside.threads c.args.cpu c.in-Some.thread.now (sym thread) in
+    omega (arith, within, c.self.invariant.0, ap length c.as_slice.ensures, c.index-2.ensures.value)

@@ -16,3 +16,6 @@ loop-cpu-preserved g c =
           (omega (arith, many, c.loop-cpu-test.true, ap length threads));
       words = c.loop-cpu.invariant.words;
     }
+
+pub offset_bounds-thread-items-cpu : goal.offset_bounds-thread-items-cpu
+offset_bounds-thread-items-cpu g c = omega (arith, c.loop-cpu-test.true, c.as_slice-thread-items.type_inv.1)

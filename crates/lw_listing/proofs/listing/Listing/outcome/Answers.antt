@@ -1,5 +1,4 @@
-use Rattle.std.proofs.Common.{List, sym, ap, ◌∙◌}
-use Rattle.std.specs.Option.{option_map}
+use Rattle.std.proofs.Common.{List, sym, ap, ◌∙◌, option_map}
 use Rattle.std.proofs.lemmas.Option.{slice_get-map}
 use Rattle.lw_base.specs.Outcomes.{Final}
 use Rattle.lw_base.specs.declared.event.Event.{Event}

@@ -1,12 +1,13 @@
-use Rattle.std.proofs.Common.{◌≡◌, false, sym, ◌∙◌, subst, length-set}
-use Rattle.std.proofs.lemmas.Bool.{true≢false}
+use Rattle.std.proofs.Common.{◌≡◌, false, sym, ◌∙◌, subst, length-set, true≢false}
 use Rattle.lw_mesi.specs.CacheLines.{Invalid, copy_of}
 use Rattle.lw_mesi.specs.Coherence.{HasStatesOf}
 use Rattle.lw_mesi.specs.Protocols.{table_of}
-use Rattle.lw_mesi.proofs.PackedReads.{read_word, dirty_shared, owner_shared, first_reader, next_reader, unowned_then, no_owner}
+use Rattle.lw_mesi.proofs.PackedReads.{read_word, dirty_shared, owner_shared, first_reader, next_reader}
+use Rattle.lw_mesi.proofs.PackedReads.{unowned_then, no_owner}
 use Rattle.lw_mesi.specs.declared.protocol.Protocol.TheVariants.{Moesi}
+use Rattle.lw_mesi.proofs.cache_line.PackedCacheLine.get_s.Goals.{in_default-via-in-Moesi+else-self}
+use Rattle.lw_mesi.proofs.cache_line.PackedCacheLine.get_s.Goals.{in_default-via-in_default}
 use Rattle.lw_mesi.proofs.cache_line.PackedCacheLine.get_s.Goals as goal
-use Rattle.lw_mesi.proofs.cache_line.PackedCacheLine.get_s.Goals.{in_default-via-in-Moesi+else-self, in_default-via-in_default}
 
 clean : (c : goal.After-insert-in_default-2) → c.args.protocol ≡ Moesi → c.self.inside.is_dirty ≡ false
 clean c e = elim c.in_default.branch [ in_default-via-in-Moesi+else-self w ↦ w.if-self.false | in_default-via-in_default w ↦ absurd (w.in_default.not-Moesi e) ]

@@ -1,5 +1,6 @@
-use Rattle.std.proofs.Common.{◌≡◌, ◌≤◌, ◌<◌, ◌∙◌, ℕ, List, arith, length, length-set, map, take, refl, sym, ap, subst}
-use Rattle.std.proofs.lemmas.List.{length-map, map_more, take_all, take_more_set}
+use Rattle.std.proofs.Common.{◌≡◌, ◌≤◌, ◌<◌, ◌∙◌, ℕ, List, arith, length, length-set, map, take, refl, sym}
+use Rattle.std.proofs.Common.{ap, subst, take_all}
+use Rattle.std.proofs.lemmas.List.{length-map, map_more, take_more_set}
 use Rattle.lw_base.specs.Limits.{most_threads}
 use Rattle.lw_mesi.specs.CacheLines.{Caches, CacheLine, unheld_line, empty_caches, content_of, contents_of}
 use Rattle.lw_mesi.specs.Coherence.{IsKept}

@@ -1,8 +1,8 @@
 use Rattle.std.proofs.Common.{◌<◌, ◌∙◌, arith, refl, sym, length}
-use Rattle.lw_base.specs.declared.event.Event.TheVariants as of
 use Rattle.lw_memory.specs.Memory.{memory_of}
 use Rattle.lw_tso.specs.inner.Views.{processor_of}
 use Rattle.lw_tso.proofs.Events.{read, can_carry_out, step_done, at_end, done_by, machine_after}
+use Rattle.lw_base.specs.declared.event.Event.TheVariants as of
 use Rattle.lw_tso.proofs.machine.Machine.carry_out.Goals as goal
 
 pub carry_out-requires : goal.carry_out-requires

@@ -1,7 +1,7 @@
 use Rattle.std.proofs.Common.{◌<◌, arith, refl, length}
-use Rattle.lw_base.specs.declared.event.Event.TheVariants as of
 use Rattle.lw_memory.specs.Memory.{memory_of}
 use Rattle.lw_tso.proofs.Events.{read, entries_there, done_by, machine_after}
+use Rattle.lw_base.specs.declared.event.Event.TheVariants as of
 use Rattle.lw_tso.proofs.machine.Machine.drain.Goals as goal
 
 pub drain-requires-clause-locs : goal.drain-requires-clause-locs

@@ -1,10 +1,10 @@
 use Rattle.std.proofs.Common.{◌<◌, ◌≤◌, ap, arith, refl, sym, length}
 use Rattle.circular_buffer.proofs.Places.{slice_get-some}
-use Rattle.lw_base.specs.declared.event.Event.TheVariants as of
 use Rattle.lw_memory.specs.Memory.{memory_of}
 use Rattle.lw_tso.specs.Runs.{Running}
 use Rattle.lw_tso.specs.inner.Views.{processor_of}
 use Rattle.lw_tso.proofs.Events.{no_location, evicted, not_held, done_in_place}
+use Rattle.lw_base.specs.declared.event.Event.TheVariants as of
 use Rattle.lw_tso.proofs.machine.Machine.evict.Goals as goal
 
 pub returns-then-location_count-index-clause-done : goal.returns-then-location_count-index-clause-done

@@ -1,5 +1,6 @@
-use Rattle.std.proofs.Common.{◌≡◌, ◌≤◌, ◌++◌, ℕ, List, ap, ap₂, arith, drop, length, map, subst, sym, take, ◌∙◌}
-use Rattle.std.proofs.lemmas.List.{append-nil, drop_all, take_all}
+use Rattle.std.proofs.Common.{◌≡◌, ◌≤◌, ◌++◌, ℕ, List, ap, ap₂, arith, drop, length, map, subst, sym, take}
+use Rattle.std.proofs.Common.{◌∙◌, append-nil, take_all}
+use Rattle.std.proofs.lemmas.List.{drop_all}
 use Rattle.lw_memory.specs.MemoryLaws.{invariant_of}
 use Rattle.lw_memory.specs.Memory.{memory_of}
 use Rattle.lw_tso.specs.declared.processor.Processor.{Processor as ProcessorInMemory}
