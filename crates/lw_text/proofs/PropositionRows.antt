@@ -266,7 +266,8 @@ other_node arch threads here rest Close e is = absurd (let f = ap at_parenthesis
 other_node arch threads here rest _ e is = refl
 
 -- where there is room, one terminal more is not too many
-pub room_left : {arch : Arch} {threads : ℕ} {before behind : Cursor} {names after : NameTable} {s : Made} → TakenTerminal arch threads before behind names after s
+pub room_left : {arch : Arch} {threads : ℕ} {before behind : Cursor} {names after : NameTable} {s : Made}
+    → TakenTerminal arch threads before behind names after s
     → (nodes : ℕ) → nodes ≤ 256 → (not (nodes == 256) || at_parenthesis (left before)) ≡ true → nodes + (if is_node (terminal_of s) then 1 else 0) ≤ 256
 room_left {arch} {threads} {before} {behind} {after = after} {s = s} taken nodes few room =
     elim (or_cases (not (nodes == 256)) (at_parenthesis (left before)) room) [

@@ -141,7 +141,8 @@ module _ {X Y : Type 0} {kind : Kind X Y} {first names ts here : TokenList} {xs 
     names_are_more : after ≡ with_sites first (sites_of kind after (xs ++ x ∷ []))
     names_are_more =
         let s = named after (kind.site x) in
-        let same : sites_of kind after xs ≡ sites_of kind names xs = sym (syntax_sites kind after xs) ∙ ap (map kind.syntax) along.0 ∙ syntax_sites kind names xs in
+        let same : sites_of kind after xs ≡ sites_of kind names xs = sym (syntax_sites kind after xs)
+        ∙ ap (map kind.syntax) along.0 ∙ syntax_sites kind names xs in
         let e : sites_of kind after (xs ++ x ∷ []) ≡ sites_of kind names xs ++ s ∷ [] = map_push (λ x. named after (kind.site x)) xs x ∙ ap
         (λ l. l ++ s ∷ []) same in
         grows ∙ ap (λ ns. with_sites ns (s ∷ [])) read.names_are ∙ sym

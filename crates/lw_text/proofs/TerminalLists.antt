@@ -106,7 +106,8 @@ no_terminals arch threads (s ∷ ss) p = absurd (omega (arith, IsTerminal-shorte
 
 -- the terminals behind one of them
 terminals_behind : (arch : Arch) (threads : ℕ) (ts mid : TokenList) (s : Terminal AtomSyntax) (all : List (Terminal AtomSyntax))
-    → IsTerminal arch threads ts s mid → Terminals arch threads ts all → (more : List (Terminal AtomSyntax)) × (all ≡ s ∷ more) × Terminals arch threads mid more
+    → IsTerminal arch threads ts s mid → Terminals arch threads ts all → (more : List (Terminal AtomSyntax)) × (all ≡ s ∷ more)
+    × Terminals arch threads mid more
 terminals_behind arch threads ts mid s [] p e = absurd (omega (arith, IsTerminal-shorter arch threads ts mid s p, ap length e))
 terminals_behind arch threads ts mid s (t ∷ all) p q =
     let e = IsTerminal-unique arch threads ts s t mid q.0 p q.1 in
