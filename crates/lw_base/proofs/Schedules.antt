@@ -36,8 +36,8 @@ one_event names once (Evict c l) (Evict d m) h k same =
     let p = one_place names l m once h.1 k.1 n in
     cc
 
-one_list : (names : NameTable) → EachOnce names → (es fs : List Event) → AllByRecursion (IsEvent names) es → AllByRecursion (IsEvent names) fs
-    → map (event_word names) es ≡ map (event_word names) fs → es ≡ fs
+one_list : (names : NameTable) → EachOnce names → (es fs : List Event) → AllByRecursion (IsEvent names) es
+    → AllByRecursion (IsEvent names) fs → map (event_word names) es ≡ map (event_word names) fs → es ≡ fs
 one_list names once [] [] h k same = refl
 one_list names once (e ∷ es) (f ∷ fs) h k same =
     let front : event_word names e ≡ event_word names f = cc in
@@ -47,6 +47,6 @@ one_list names once (e ∷ es) (f ∷ fs) h k same =
     cc
 one_list names once _ _ h k same = absurd cc
 
-pub one_schedule : (names : NameTable) → IsTable names → (text : Bytes) (events others : List Event) → IsSchedule names text events
-    → IsSchedule names text others → events ≡ others
+pub one_schedule : (names : NameTable) → IsTable names → (text : Bytes) (events others : List Event)
+    → IsSchedule names text events → IsSchedule names text others → events ≡ others
 one_schedule names table text events others is also = one_list names table.once events others is.0 also.0 (sym is.1 ∙ also.1)

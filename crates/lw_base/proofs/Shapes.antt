@@ -29,14 +29,13 @@ no_colon [] h = tt
 no_colon (b ∷ ds) h =
     let front : is_ascii_digit b ≡ true = search rules in
     let rest : list_all is_ascii_digit ds ≡ true = search rules in
-    ((λ e. let k : is_ascii_digit 58 ≡ true = subst (λ c. is_ascii_digit c ≡ true) e front in absurd (true≢false (sym k))), no_colon ds rest)
+    ((λ e. let k : is_ascii_digit 58 ≡ true = rw e at front in absurd (true≢false (sym k))), no_colon ds rest)
 
 digits_no_colon : (ds : Bytes) → are_digits ds ≡ true → AllByRecursion (λ b. b ≢ 58) ds
 digits_no_colon [] h = tt
 digits_no_colon (b ∷ ds) h =
     let some : (length (b ∷ ds) == 0) ≡ false = search rules in
-    let all : list_all is_ascii_digit (b ∷ ds) ≡ true = rw some at h in
-    no_colon (b ∷ ds) all
+    no_colon (b ∷ ds) (rw some at h)
 
 -- a text has one first `:`
 cut_once : (a c n m : Bytes) → AllByRecursion (λ b. b ≢ 58) a → AllByRecursion (λ b. b ≢ 58) c → a ++ 58 ∷ n ≡ c ++ 58 ∷ m → (a ≡ c) × (n ≡ m)
@@ -44,10 +43,7 @@ cut_once [] [] n m h k e = (refl, cc)
 cut_once [] (d ∷ c) n m h k e = absurd (k.0 cc)
 cut_once (b ∷ a) [] n m h k e = absurd (h.0 cc)
 cut_once (b ∷ a) (d ∷ c) n m h k e =
-    let front : b ≡ d = cc in
-    let rest : a ++ 58 ∷ n ≡ c ++ 58 ∷ m = cc in
-    let p = cut_once a c n m h.1 k.1 rest in
-    let q : a ≡ c = p.0 in
+    let p = cut_once a c n m h.1 k.1 cc in
     (cc, p.1)
 
 colon_there : (ds n : Bytes) → AllByRecursion (λ b. b ≢ 58) (ds ++ 58 ∷ n) → ⊥
@@ -130,15 +126,14 @@ one_shape w ds es shape other = go shape.1 other.1
         (cut_once ds es e.0 f.0 (digits_no_colon ds shape.0) (digits_no_colon es other.0) same).0
 
 -- a refused word is no event's
-pub no_event : (names : NameTable) → IsTable names → (w : Bytes) (cause : ScheduleCause) → IsFaulty names w cause → (e : Event) → IsEvent names e
-    → event_word names e ≡ w → ⊥
+pub no_event : (names : NameTable) → IsTable names → (w : Bytes) (cause : ScheduleCause)
+    → IsFaulty names w cause → (e : Event) → IsEvent names e → event_word names e ≡ w → ⊥
 no_event names table w Word faulty e is same =
     let s = shape_of names table e is in
     faulty s.0 (subst (λ v. HasShape v s.0) same s.2)
 no_event names table w Cpu faulty e is same =
     let s = shape_of names table e is in
-    let one : s.0 ≡ faulty.0 = one_shape w s.0 faulty.0 (subst (λ v. HasShape v s.0) same s.2) faulty.1 in
-    faulty.2 (subst IsCpu one s.1)
+    faulty.2 (subst IsCpu (one_shape w s.0 faulty.0 (subst (λ v. HasShape v s.0) same s.2) faulty.1) s.1)
 no_event names table w Location (ds, n, cpu, text, is_word, missing) (Step c) is same = apart 80 69 _ _ (λ k. omega arith) (same ∙ is_word)
 no_event names table w Location (ds, n, cpu, text, is_word, missing) (Drain c) is same = apart 68 69 _ _ (λ k. omega arith) (same ∙ is_word)
 no_event names table w Location (ds, n, cpu, text, is_word, missing) (Evict c l) is same =
@@ -155,11 +150,11 @@ lacks_all b [] all = tt
 lacks_all b (c ∷ front) all = (differ, lacks_all b front all.1)
   where
     differ : c ≢ b
-    differ e = let k : not (b == b) ≡ true = subst (λ d. not (d == b) ≡ true) e all.0 in grind (arith, nat_tests)
+    differ e = let k = subst (λ d. not (d == b) ≡ true) e all.0 in grind (arith, nat_tests)
 
 -- a text without such bytes
-pub cut_nowhere : (b : ℕ) (text front rest : Bytes) → text ≡ front ++ rest → AllByRecursion (λ c. not (c == b) ≡ true) front → length rest ≡ 0
-    → Lacks b text
+pub cut_nowhere : (b : ℕ) (text front rest : Bytes) → text ≡ front ++ rest
+    → AllByRecursion (λ c. not (c == b) ≡ true) front → length rest ≡ 0 → Lacks b text
 cut_nowhere b text front [] parts all none = subst (Lacks b) (sym (parts ∙ append-nil front)) (lacks_all b front all)
 cut_nowhere b text front (c ∷ rest) parts all none = absurd (omega (arith, none))
 
@@ -198,19 +193,19 @@ not_shaped : (w rest : Bytes) → (w ≡ 80 ∷ rest) ⊎ (w ≡ 68 ∷ rest) �
 not_shaped w rest is bad ds shape =
     true≢false (sym (subst (λ r. are_digits r ≡ true) (sym (digits_are w rest ds is shape.1)) shape.0) ∙ bad)
 
-bad_digits : (names : NameTable) (w rest : Bytes) → (w ≡ 80 ∷ rest) ⊎ (w ≡ 68 ∷ rest) → (cause : ScheduleCause) → HasBadDigits rest cause
-    → IsFaulty names w cause
+bad_digits : (names : NameTable) (w rest : Bytes) → (w ≡ 80 ∷ rest) ⊎ (w ≡ 68 ∷ rest)
+    → (cause : ScheduleCause) → HasBadDigits rest cause → IsFaulty names w cause
 bad_digits names w rest is Word bad = not_shaped w rest is bad
 bad_digits names w rest is Cpu bad = (rest, (bad.0, parts_there w rest is), bad.1)
 bad_digits names w rest is _ bad = absurd bad
 
-pub bad_step : (names : NameTable) (w rest : Bytes) (x : ℕ) (cause : ScheduleCause) → w ≡ x ∷ rest → x ≡ 80 → HasBadDigits rest cause
-    → IsFaulty names w cause
-bad_step names w rest x cause is letter bad = bad_digits names w rest (inl (is ∙ ap (λ y. y ∷ rest) letter)) cause bad
+pub bad_step : (names : NameTable) (w rest : Bytes) (x : ℕ) (cause : ScheduleCause) → w ≡ x ∷ rest → x ≡ 80
+    → HasBadDigits rest cause → IsFaulty names w cause
+bad_step names w rest x cause is letter bad = bad_digits _ w rest (inl (is ∙ ap (λ y. y ∷ rest) letter)) _ bad
 
-pub bad_drain : (names : NameTable) (w rest : Bytes) (x : ℕ) (cause : ScheduleCause) → w ≡ x ∷ rest → x ≡ 68 → HasBadDigits rest cause
-    → IsFaulty names w cause
-bad_drain names w rest x cause is letter bad = bad_digits names w rest (inr (is ∙ ap (λ y. y ∷ rest) letter)) cause bad
+pub bad_drain : (names : NameTable) (w rest : Bytes) (x : ℕ) (cause : ScheduleCause) → w ≡ x ∷ rest → x ≡ 68
+    → HasBadDigits rest cause → IsFaulty names w cause
+bad_drain names w rest x cause is letter bad = bad_digits _ w _ (inr (is ∙ ap (λ y. y ∷ rest) letter)) _ bad
 
 -- a letter with what stands behind it
 pub lettered : (w rest told : Bytes) (x y : ℕ) → w ≡ x ∷ rest → x ≡ y → rest ≡ told → y ∷ told ≡ w

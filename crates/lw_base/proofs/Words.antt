@@ -26,9 +26,7 @@ pub words-first : (text w r : Bytes) → text ≡ w ++ r → 0 < length text →
     → begins (λ b. not (is_blank b)) r ≡ false → words text ≡ w ∷ words r
 words-first text [] [] e some front others ends = absurd (omega (arith, ap length e))
 words-first text [] (c ∷ r) e some front others ends =
-    let blank : is_blank c ≡ true = not-false (is_blank c) ends in
-    let none : is_blank c ≡ false = ap (begins is_blank) (sym e) ∙ front in
-    absurd (true≢false (sym blank ∙ none))
+    absurd (true≢false (sym (not-false (is_blank c) ends) ∙ (ap (begins is_blank) (sym e) ∙ front)))
 words-first text (b ∷ w) [] e some front others ends = rw (e, first_piece (b ∷ w) [] [] others refl) refl
 words-first text (b ∷ w) (c ∷ r) e some front others ends =
     let blank : is_blank c ≡ true = not-false (is_blank c) ends in
@@ -41,15 +39,14 @@ event_at names [] [] w ws all same = absurd cc
 event_at names [] (e ∷ events) w ws all same = (e, all.0, cc)
 event_at names (d ∷ done) [] w ws all same = absurd cc
 event_at names (d ∷ done) (e ∷ events) w ws all same =
-    let rest : map (event_word names) events ≡ map (event_word names) done ++ w ∷ ws = cc in
-    event_at names done events w ws all.1 rest
+    event_at names done events w ws all.1 cc
 
 -- a word that is no event's, behind the words of some events
 pub no_schedule : (names : NameTable) (text rest : Bytes) (done : List Event) (w : Bytes) (ws : List Bytes)
     → words text ≡ map (event_word names) done ++ words rest → words rest ≡ w ∷ ws → ((e : Event) → IsEvent names e → event_word names e ≡ w → ⊥)
     → (events : List Event) → IsSchedule names text events → ⊥
 no_schedule names text rest done w ws before first none events is =
-    let e = event_at names done events w ws is.0 (sym is.1 ∙ before ∙ ap (λ v. map (event_word names) done ++ v) first) in
+    let e = event_at _ _ _ w ws is.0 (sym is.1 ∙ before ∙ ap (λ v. map (event_word names) done ++ v) first) in
     none e.0 e.1 e.2
 
 -- what stands behind more of a text
@@ -67,8 +64,8 @@ pub no_longer : (text front rest : Bytes) → text ≡ front ++ rest → length 
 no_longer text front rest e = omega (arith, ap length e, length-append front rest)
 
 -- one more event
-pub more_events : (names : NameTable) (es fs : List Event) (e : Event) → fs ≡ es ++ e ∷ [] → AllByRecursion (IsEvent names) es → IsEvent names e
-    → AllByRecursion (IsEvent names) fs
+pub more_events : (names : NameTable) (es fs : List Event) (e : Event) → fs ≡ es ++ e ∷ []
+    → AllByRecursion (IsEvent names) es → IsEvent names e → AllByRecursion (IsEvent names) fs
 more_events names es fs e more all is = rw more (go es all)
   where
     go : (ds : List Event) → AllByRecursion (IsEvent names) ds → AllByRecursion (IsEvent names) (ds ++ e ∷ [])
@@ -81,9 +78,9 @@ pub more_words : (names : NameTable) (text rest w after last : Bytes) (es fs : L
     → fs ≡ es ++ e ∷ [] → words text ≡ map (event_word names) fs ++ words last
 more_words names text rest w after last es fs e before first further is more =
     let word = event_word names in
-    let one : map word fs ++ words last ≡ map word es ++ word e ∷ words last = ap (λ ds. map word ds ++ words last) more ∙ ap (λ ws. ws ++ words last)
-    (map-append word es (e ∷ [])) ∙ append_assoc (map word es) (word e ∷ []) (words last) in
-    let two : map word es ++ words rest ≡ map word es ++ w ∷ words last = ap (λ ws. map word es ++ ws) (first ∙ ap (λ ws. w ∷ ws) further) in
+    let one = ap (λ ds. map word ds ++ words last) more ∙ ap (λ ws. ws ++ words last) (map-append word es
+        (e ∷ [])) ∙ append_assoc (map word es) (word e ∷ []) (words last) in
+    let two = ap (λ ws. map word es ++ ws) (first ∙ ap (λ ws. w ∷ ws) further) in
     before ∙ two ∙ ap (λ v. map word es ++ v ∷ words last) (sym is) ∙ sym one
 
 -- the words of a text of which nothing is left
@@ -97,11 +94,9 @@ has_some zero e = absurd (true≢false (sym e))
 has_some (suc n) e = omega arith
 
 -- a text is longer than what stands behind its first word and the blanks there
-pub shrinks : (rest w after b last : Bytes) → rest ≡ w ++ after → after ≡ b ++ last → 0 < length rest → begins is_blank rest ≡ false
-    → begins (λ c. not (is_blank c)) after ≡ false → length last < length rest
+pub shrinks : (rest w after b last : Bytes) → rest ≡ w ++ after → after ≡ b ++ last → 0 < length rest
+    → begins is_blank rest ≡ false → begins (λ c. not (is_blank c)) after ≡ false → length last < length rest
 shrinks rest [] [] b last e f some front ends = absurd (omega (arith, some, ap length e))
 shrinks rest [] (c ∷ r) b last e f some front ends =
-    let blank : is_blank c ≡ true = not-false (is_blank c) ends in
-    let none : is_blank c ≡ false = ap (begins is_blank) (sym e) ∙ front in
-    absurd (true≢false (sym blank ∙ none))
+    absurd (true≢false (sym (not-false (is_blank c) ends) ∙ (ap (begins is_blank) (sym e) ∙ front)))
 shrinks rest (x ∷ w) after b last e f some front ends = omega (arith, ap length e, length-append w after, ap length f, length-append b last)

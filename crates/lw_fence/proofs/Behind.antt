@@ -45,17 +45,17 @@ module _ (s : SourceTest) (p : ProgramTest) (starts : List (List ℕ)) where
       let end = state_of (slice_set ss.threads t next) n in
       record {
         order = turns.order;
-        ran = subst (λ w. SourceRan s.threads (map Step turns.order) (state_of ss.threads w) end) b.words (turns.on ss.threads was);
+        ran = rw b.words at (turns.on ss.threads was);
         behind = subst (Behind end) (sym is) (gone_on s LagAt ss ms b t th next c q n was got lag);
       }
 
   -- one list of steps after another
-  pub caught_on : (ss mid end : State) (ms over : MachineState (List ℕ)) → Caught ss mid ms → Caught mid end over → Caught ss end over
-  caught_on ss mid end ms over a b =
+  pub caught_on : {ss : State} (mid end : State) {ms over : MachineState (List ℕ)} → Caught ss mid ms → Caught mid end over → Caught ss end over
+  caught_on {ss = ss} mid end a b =
       record { order = a.order ++ b.order; ran = source_append s.threads a.order b.order ss mid end a.ran b.ran; behind = b.behind }
 
-  pub not_moved : (ss : State) (ms : MachineState (List ℕ)) → Behind ss ms → Caught ss ss ms
-  not_moved ss ms b = record { order = []; ran = refl; behind = b }
+  pub not_moved : {ss : State} {ms : MachineState (List ℕ)} → Behind ss ms → Caught ss ss ms
+  not_moved b = record { order = []; ran = refl; behind = b }
 
 module _ (s : SourceTest) (p : ProgramTest) (starts : List (List ℕ)) (ok : IsWellFormedSource s) (compiled : IsCompiled s p starts) where
   -- what the source does at an event of processor t, which was c
@@ -63,25 +63,25 @@ module _ (s : SourceTest) (p : ProgramTest) (starts : List (List ℕ)) (ok : IsW
       → LagAt s p starts (cpu_of e) th c → Does ms.memory (event_act p.threads (length ms.memory) e c) q n
       → Followed s.threads (cpu_of e) (code_of p.threads (cpu_of e)) (code_of starts (cpu_of e)) th ms.memory q n
   follows (Step t) ss ms th c q n lt lag d =
-      stepped s.threads t (code_of p.threads t) (code_of starts t) (allowed_at s ok t) (placed_at s p starts compiled t lt) th c ms.memory
-      lag.ahead lag.owes lag.sane lag.stage q n d
+      stepped s.threads t (code_of p.threads t) (code_of starts t) (allowed_at s ok t) (placed_at s p starts
+          compiled t lt) th c ms.memory lag.ahead lag.owes lag.sane lag.stage q n d
   follows (Drain t) ss ms th c q n lt lag d =
       drained s.threads t (code_of p.threads t) (code_of starts t) th c ms.memory lag c.buffer refl q n d
   follows (Evict t x) ss ms th c q n lt lag d = absurd (no_eviction p.threads (length ms.memory) t x c q ms.memory n d)
 
-  event_caught : (e : Event) (ss : State) (ms mid : MachineState (List ℕ)) → Behind s p starts ss ms → Did p.threads e ms mid
-      → (end : State) × Caught s p starts ss end mid
+  event_caught : (e : Event) (ss : State) (ms mid : MachineState (List ℕ)) → Behind s p starts ss ms
+      → Did p.threads e ms mid → (end : State) × Caught s p starts ss end mid
   event_caught e ss ms mid b did =
       let t = cpu_of e in
       let lt : t < length s.threads = omega (arith, slice_get_within ms.processors t did.from did.was, b.as_many_processors) in
       let th = thread_at s (LagAt s p starts) ss ms b t lt in
-      let f = follows e ss ms th.0 did.from did.to did.words lt (b.at t th.0 did.from th.1 did.was) did.does in
-      (_, caught s p starts t ss ms mid th.0 f.now did.from did.to did.words b th.1 did.was f.turns f.lag did.is)
+      let f = follows e ss ms _ did.from did.to did.words lt (b.at t th.0 did.from th.1 did.was) did.does in
+      (_, caught s p starts t _ ms _ th.0 f.now did.from did.to did.words b th.1 did.was f.turns f.lag did.is)
 
-  pub all_caught : (es : List Event) (ss : State) (ms last : MachineState (List ℕ)) → Behind s p starts ss ms
+  pub all_caught : (es : List Event) (ss : State) {ms : MachineState (List ℕ)} (last : MachineState (List ℕ)) → Behind s p starts ss ms
       → MachineRan flat p.threads es ms last → (end : State) × Caught s p starts ss end last
-  all_caught [] ss ms last b ran = (ss, not_moved s p starts ss last (subst (λ a. Behind s p starts ss a) (sym ran) b))
-  all_caught (e ∷ es) ss ms last b ran =
+  all_caught [] ss last b ran = (ss, not_moved s p starts (subst (λ a. Behind s p starts ss a) (sym ran) b))
+  all_caught (e ∷ es) ss {ms = ms} last b ran =
       let a = event_caught e ss ms ran.0 b (leads_to p.threads e ms ran.0 ran.1) in
-      let c = all_caught es a.0 ran.0 last a.1.behind ran.2 in
-      (c.0, caught_on s p starts ss a.0 c.0 ran.0 last a.1 c.1)
+      let c = all_caught es a.0 last a.1.behind ran.2 in
+      (c.0, caught_on s p starts a.0 c.0 a.1 c.1)

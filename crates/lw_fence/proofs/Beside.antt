@@ -7,7 +7,6 @@ use Rattle.std.proofs.lemmas.Option.{same_Some, slice_get_within, get_or_from_sl
 use Rattle.lw_base.specs.Heads.{TestHead}
 use Rattle.lw_base.specs.Outcomes.{Final}
 use Rattle.lw_base.specs.declared.head.Arch.TheVariants.{X86}
-use Rattle.lw_base.specs.declared.limits.TheConstants.{REGISTERS}
 use Rattle.lw_base.proofs.api.Lists.{fellows_after, get_some}
 use Rattle.lw_base.proofs.api.SideBySide.{got_map, same_maps}
 use Rattle.lw_memory.specs.Flat.{flat}
@@ -52,7 +51,7 @@ module _ (s : SourceTest) (At : ℕ → Thread → Processor → Type 0) where
       words = refl;
       as_many = length-set ss.threads t next ∙ b.as_many;
       as_many_processors = length-set ms.processors t q ∙ b.as_many_processors;
-      at = fellows_after At ss.threads ms.processors t th next c q was got (λ u x d ne e f. b.at u x d e f) at;
+      at = fellows_after At ss.threads _ t th next c q was got (λ u x d ne e f. b.at u x d e f) at;
     }
 
     -- One outcome, where each thread has the registers of its processor.
@@ -60,8 +59,7 @@ module _ (s : SourceTest) (At : ℕ → Thread → Processor → Type 0) where
         → slice_get ms.processors t ≡ Some c → th.regs ≡ c.regs) → outcome_of ss ≡ machine_outcome flat ms
     same_outcome same =
         ap₂ (λ (r : List (List ℕ)) (w : List ℕ). let o : Final = record { regs = r; words = w } in o)
-        (same_maps (λ (th : Thread). th.regs) (λ (c : Processor). c.regs) ss.threads ms.processors (b.as_many ∙ sym b.as_many_processors) same)
-        (sym b.words)
+            (same_maps _ _ ss.threads ms.processors (b.as_many ∙ sym b.as_many_processors) same) (sym b.words)
 
   -- At the start, where it is so of a thread with six registers.
   pub first : IsWellFormedSource s → ((t : ℕ) (regs : List ℕ) → t < length s.threads → length regs ≡ 6
@@ -70,7 +68,7 @@ module _ (s : SourceTest) (At : ℕ → Thread → Processor → Type 0) where
     words = refl;
     as_many = length-map s.head.init_regs _ ∙ many;
     as_many_processors = length-map s.head.init_regs _ ∙ many;
-    at = λ t th c e f. go t th c (got_map thread_starting s.head.init_regs t th e) (got_map starting s.head.init_regs t c f);
+    at = λ t th c e f. go t th c (got_map thread_starting _ t th e) (got_map starting s.head.init_regs t c f);
   }
     where
       many : length s.head.init_regs ≡ length s.threads
@@ -80,7 +78,7 @@ module _ (s : SourceTest) (At : ℕ → Thread → Processor → Type 0) where
           → (r : List ℕ) × (slice_get s.head.init_regs t ≡ Some r) × (c ≡ starting r) → At t th c
       go t th c a b =
           let within = slice_get_within s.head.init_regs t a.0 a.1 in
-          let six = All-from_recursion (λ (r : List ℕ). length r ≡ REGISTERS) s.head.init_regs ok.head.six t a.0 within in
+          let six = All-from_recursion _ s.head.init_regs ok.head.six t a.0 within in
           let same = ap starting (same_Some a.0 b.0 (sym a.1 ∙ b.1)) ∙ sym b.2 in
-          subst₂ (λ x d. At t x d) (sym a.2) same
-          (each t a.0 (omega (arith, within, many)) (ap length (sym (get_or_from_slice_get s.head.init_regs t a.0 a.0 a.1)) ∙ six))
+          subst₂ (λ x d. At t x d) (sym a.2) same (each t a.0 (omega (arith, within, many))
+              (ap length (sym (get_or_from_slice_get s.head.init_regs t a.0 a.0 a.1)) ∙ six))

@@ -11,24 +11,25 @@ use Rattle.lw_fence.specs.Compiling.{IsCompiledThread}
 pub record AreCompiled (codes : List (List Stmt)) (n : ℕ) (threads : List (List Instr)) (starts : List (List ℕ)) : Type 0 where
   pub as_many : length threads ≡ n
   pub as_many_starts : length starts ≡ n
-  pub each :
-      (t : ℕ) (code : List Stmt) (instrs : List Instr) (begins : List ℕ) → slice_get codes t ≡ Some code
-      → slice_get threads t ≡ Some instrs → slice_get starts t ≡ Some begins → IsCompiledThread code instrs begins
+  pub each : (t : ℕ) (code : List Stmt) (instrs : List Instr) (begins : List ℕ)
+      → slice_get codes t ≡ Some code → slice_get threads t ≡ Some instrs → slice_get starts t ≡ Some begins
+      → IsCompiledThread code instrs begins
 
 module _ (codes : List (List Stmt)) where
-  pub none_compiled : (threads : List (List Instr)) (starts : List (List ℕ)) → threads ≡ [] → starts ≡ [] → AreCompiled codes 0 threads starts
-  none_compiled threads starts no_threads no_starts = record {
+  pub none_compiled : (threads : List (List Instr)) {starts : List (List ℕ)} → threads ≡ [] → starts ≡ [] → AreCompiled codes 0 threads starts
+  none_compiled threads no_threads no_starts = record {
     as_many = ap length no_threads;
     as_many_starts = ap length no_starts;
     each = λ t code instrs begins at there in_starts. absurd (omega (arith, slice_get_within threads t instrs there, ap length no_threads));
   }
 
-  pub one_compiled : (n : ℕ) (threads next : List (List Instr)) (starts more : List (List ℕ)) (code : List Stmt) (instrs : List Instr)
+  pub one_compiled : (n : ℕ) (threads : List (List Instr)) {next : List (List Instr)} (starts : List (List ℕ)) {more : List (List ℕ)}
+    {code : List Stmt} (instrs : List Instr)
       (begins : List ℕ) → AreCompiled codes n threads starts → slice_get codes n ≡ Some code → IsCompiledThread code instrs begins
       → next ≡ threads ++ instrs ∷ [] → more ≡ starts ++ begins ∷ [] → AreCompiled codes (n + 1) next more
-  one_compiled n threads next starts more code instrs begins before at compiled e f = record {
+  one_compiled n threads starts {code = code} instrs begins before at compiled e f = record {
     as_many = ap length e ∙ length-append threads (instrs ∷ []) ∙ ap (λ (k : ℕ). k + 1) before.as_many;
-    as_many_starts = ap length f ∙ length-append starts (begins ∷ []) ∙ ap (λ (k : ℕ). k + 1) before.as_many_starts;
+    as_many_starts = ap length f ∙ length-append starts (begins ∷ []) ∙ ap (λ k. k + 1) before.as_many_starts;
     each = λ t c i b in_codes in_next in_more. place t c i b in_codes
         (get_append threads instrs i t (subst (λ (l : List (List Instr)). slice_get l t ≡ Some i) e in_next))
         (get_append starts begins b t (subst (λ (l : List (List ℕ)). slice_get l t ≡ Some b) f in_more));
@@ -44,5 +45,5 @@ module _ (codes : List (List Stmt)) where
           absurd (omega (arith, slice_get_within starts t b old, last.0, before.as_many, before.as_many_starts))
       place t c i b in_codes (inr last) (inr last_too) =
           let here : n ≡ t = sym (last.0 ∙ before.as_many) in
-          let same : code ≡ c = same_Some code c (sym at ∙ ap (λ (k : ℕ). slice_get codes k) here ∙ in_codes) in
+          let same = same_Some code c (sym at ∙ ap (λ (k : ℕ). slice_get codes k) here ∙ in_codes) in
           subst₂ (IsCompiledThread c) last.1 last_too.1 (subst (λ (l : List Stmt). IsCompiledThread l instrs begins) same compiled)

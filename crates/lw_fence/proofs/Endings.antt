@@ -22,9 +22,9 @@ use Rattle.lw_fence.proofs.Programs.{is_program}
 abbrev flat_invariant : Invariant (List ℕ)
 flat_invariant = record { cpus = λ words. most_threads; sound = λ words. Unit {0} }
 
-words_served : (m : List ℕ) (r : Request) (a : Option ℕ) (n : List ℕ) → WordsServe m r a n → Served flat flat_invariant m r a n
-words_served m (Evict t x) a n s = absurd s
-words_served m _ a n s = record { possible = tt; answer = s.0; content = s.1; cpus = refl; sound = tt }
+words_served : {m : List ℕ} (r : Request) {a : Option ℕ} {n : List ℕ} → WordsServe m r a n → Served flat flat_invariant m r a n
+words_served (Evict t x) s = absurd s
+words_served _ s = record { possible = tt; answer = s.0; content = s.1; cpus = refl; sound = tt }
 
 words_serve : (m : List ℕ) (r : Request) → IsPossible (λ t x. I) r → (n : List ℕ) × WordsServe m r (answer_of m r) n
 words_serve m (Load t x) h = (m, (refl, refl))
@@ -36,7 +36,7 @@ words_serve m (Evict t x) h = cc
 -- The flat memory keeps the laws.
 words_lawful : Lawful flat flat_invariant
 words_lawful = record {
-  served = λ m r a n sound s. words_served m r a n s;
+  served = λ m r a n sound s. words_served r s;
   serves = λ m r sound there possible. words_serve m r possible;
 }
 
@@ -47,6 +47,7 @@ program_ends p ok events s ran =
     can_end flat flat_invariant words_lawful p ok p.head.init_words events s
     (record { sound = tt; cpus = omega (arith, ok.as_many, ok.head.few); words = refl }) ran
 
-pub compiled_ends : (s : SourceTest) (p : ProgramTest) (starts : List (List ℕ)) → IsWellFormedSource s → IsCompiled s p starts
-    → (events : List Event) (end : MachineState (List ℕ)) → MachineRan flat p.threads events (machine_start p p.head.init_words) end → CanEnd flat p.threads end
+pub compiled_ends : (s : SourceTest) (p : ProgramTest) (starts : List (List ℕ)) → IsWellFormedSource s
+    → IsCompiled s p starts → (events : List Event) (end : MachineState (List ℕ))
+    → MachineRan flat p.threads events (machine_start p p.head.init_words) end → CanEnd flat p.threads end
 compiled_ends s p starts ok compiled = program_ends p (is_program s p starts ok compiled)

@@ -37,9 +37,10 @@ module _ (code : List Stmt) (marks : List Bool) where
   }
 
   -- one more
-  pub found_more : (place : ℕ) (fences new : List Bool) (b : Bool) (s : Stmt) → Found place fences → slice_get code place ≡ Some s
-      → b ≡ (is_load (source_operation s) && slice_index_or marks place false) → new ≡ fences ++ b ∷ [] → Found (place + 1) new
-  found_more place fences new b s found at is e = record {
+  pub found_more : (place : ℕ) (fences : List Bool) {new : List Bool} (b : Bool) {s : Stmt} → Found place fences
+      → slice_get code place ≡ Some s → b ≡ (is_load (source_operation s) && slice_index_or marks place false)
+      → new ≡ fences ++ b ∷ [] → Found (place + 1) new
+  found_more place fences b found at is e = record {
     as_many = ap length e ∙ length-append fences (b ∷ []) ∙ ap (λ (n : ℕ). n + 1) found.as_many;
     each = λ j d got. ⊎_elim (λ old. found.each j d old) (λ last. newest j d last)
         (get_append fences b d j (subst (λ (l : List Bool). slice_get l j ≡ Some d) e got));
@@ -64,5 +65,5 @@ module _ (code : List Stmt) (marks : List Bool) where
       needed_stands needs =
           let within = load_within code j needs.0 in
           let at = get_some fences j (omega (arith, within, found.as_many)) in
-          let both = and_from (loads (slice_get code j)) (slice_index_or marks j false) needs.0 ((behind j (omega (arith, within))).1 needs.1) in
+          let both = and_from _ _ needs.0 ((behind j (omega (arith, within))).1 needs.1) in
           at.1 ∙ ap Some (found.each j at.0 at.1 ∙ both)

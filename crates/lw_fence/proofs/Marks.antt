@@ -27,14 +27,15 @@ longer_path : (code : List Stmt) (s : ℕ) (between : List ℕ) (i j : ℕ) → 
 longer_path code s [] i j path f = (path.0, (f, tt))
 longer_path code s (k ∷ between) i j path f = (path.0, longer_path code k between i j path.1 f)
 
-more_passed : (code : List Stmt) (between : List ℕ) (i : ℕ) → AllByRecursion (HasOperation lets_stores_wait code) between
-    → Is lets_stores_wait (slice_get code i) → AllByRecursion (HasOperation lets_stores_wait code) (between ++ i ∷ [])
+more_passed : (code : List Stmt) (between : List ℕ) (i : ℕ)
+    → AllByRecursion (HasOperation lets_stores_wait code) between → Is lets_stores_wait (slice_get code i)
+    → AllByRecursion (HasOperation lets_stores_wait code) (between ++ i ∷ [])
 more_passed code [] i a p = (p, tt)
 more_passed code (k ∷ between) i a p = (a.0, more_passed code between i a.1 p)
 
 -- a position is behind a store by a step from one where a store may wait
-by_step : (code : List Stmt) (i j : ℕ) → Follows source (slice_get code i) i j → MayWait code (slice_get code i) i
-    → IsBehindStore code j
+by_step : (code : List Stmt) (i j : ℕ) → Follows source (slice_get code i) i j
+    → MayWait code (slice_get code i) i → IsBehindStore code j
 by_step code i j f (inl s) = record { store = i; between = []; stores = s; path = (f, tt); waits = tt }
 by_step code i j f (inr p) =
     let b = p.1 in
@@ -46,9 +47,9 @@ by_step code i j f (inr p) =
       waits = more_passed code b.between i b.waits p.0;
     }
 
-pub step_from : (code : List Stmt) (i j : ℕ) (x : Stmt) → slice_get code i ≡ Some x → Leads (source_operation x) i j
-    → MayWait code (Some x) i → IsBehindStore code j
-step_from code i j x e = subst (λ o. Follows source o i j → MayWait code o i → IsBehindStore code j) e (by_step code i j)
+pub step_from : (code : List Stmt) {i : ℕ} (j : ℕ) {x : Stmt} → slice_get code i ≡ Some x
+    → Leads (source_operation x) i j → MayWait code (Some x) i → IsBehindStore code j
+step_from code {i = i} j e = subst (λ o. Follows source o i j → MayWait code o i → IsBehindStore code j) e (by_step code i j)
 
 -- and by such a step alone: the last one of the path
 last_step : (code : List Stmt) (j i : ℕ) (between : List ℕ) → MayWait code (slice_get code i) i
@@ -62,8 +63,7 @@ abbrev pub at : List Bool → ℕ → Bool
 at marks j = get_or marks j false
 
 set_sound : (marks : List Bool) (a j : ℕ) → at (set marks a true) j ≡ true → (at marks j ≡ true) ⊎ (j ≡ a)
-set_sound marks a j h =
-    ⊎_elim (λ same. inr same) (λ ne. inl (sym (get_or-set_other marks a j true false ne) ∙ h)) (cases_eq j a)
+set_sound marks a j h = ⊎_elim inr (λ ne. inl (sym (get_or-set_other marks a j true _ ne) ∙ h)) (cases_eq j a)
 
 set_keeps : (marks : List Bool) (a j : ℕ) → at marks j ≡ true → at (set marks a true) j ≡ true
 set_keeps (b ∷ marks) zero zero h = refl
@@ -73,7 +73,7 @@ set_keeps _ _ _ h = h
 -- one mark more, if there is a place for it: it is set there and nowhere else, and the others stay
 mark_sound : (o : Option ℕ) (marks : List Bool) (j : ℕ) → at (with_mark o marks) j ≡ true → (at marks j ≡ true) ⊎ (o ≡ Some j)
 mark_sound None marks j h = inl h
-mark_sound (Some a) marks j h = ⊎_elim (λ old. inl old) (λ same. inr (ap Some (sym same))) (set_sound marks a j h)
+mark_sound (Some a) marks j h = ⊎_elim inl (λ same. inr (ap Some (sym same))) (set_sound marks a j h)
 
 mark_keeps : (o : Option ℕ) (marks : List Bool) (j : ℕ) → at marks j ≡ true → at (with_mark o marks) j ≡ true
 mark_keeps None marks j h = h
@@ -98,24 +98,23 @@ spread_sound : (o : Operation) (i : ℕ) (marks : List Bool) (j : ℕ) → at (m
     → (at marks j ≡ true) ⊎ Leads o i j
 spread_sound o i marks j h =
     ⊎_elim (λ led. ⊎_elim (λ old. inl old) (λ e. inr (inr e)) (mark_sound (target_of o) marks j led))
-    (λ e. inr (inl (next_sound (goes_on o) i j e))) (mark_sound (next_of o i) (with_mark (target_of o) marks) j h)
+        (λ e. inr (inl (next_sound (goes_on o) i j e))) (mark_sound (next_of o i) _ j h)
 
 spread_keeps : (o : Operation) (i : ℕ) (marks : List Bool) (j : ℕ) → at marks j ≡ true → at (marked_behind o i marks) j ≡ true
-spread_keeps o i marks j h = mark_keeps (next_of o i) (with_mark (target_of o) marks) j (mark_keeps (target_of o) marks j h)
+spread_keeps o i marks j h = mark_keeps (next_of o i) _ j (mark_keeps (target_of o) marks j h)
 
 spread_there : (o : Operation) (i : ℕ) (marks : List Bool) (j : ℕ) → Leads o i j → j < length marks
     → at (marked_behind o i marks) j ≡ true
 spread_there o i marks j (inl next) lt =
-    mark_there (next_of o i) (with_mark (target_of o) marks) j
-    (ap (λ b. if b then Some (i + 1) else None) next.0 ∙ ap Some (sym next.1)) (omega (arith, lt, mark_length (target_of o) marks))
-spread_there o i marks j (inr target) lt =
-    mark_keeps (next_of o i) (with_mark (target_of o) marks) j (mark_there (target_of o) marks j target lt)
+    mark_there (next_of o i) (with_mark (target_of o) marks) j (ap (λ b. if b then Some (i + 1) else None)
+        next.0 ∙ ap Some (sym next.1)) (omega (arith, lt, mark_length (target_of o) marks))
+spread_there o i marks j (inr target) lt = mark_keeps _ _ j (mark_there (target_of o) marks j target lt)
 
 spread_length : (o : Operation) (i : ℕ) (marks : List Bool) → length (marked_behind o i marks) ≡ length marks
-spread_length o i marks = mark_length (next_of o i) (with_mark (target_of o) marks) ∙ mark_length (target_of o) marks
+spread_length o i marks = mark_length (next_of o i) _ ∙ mark_length (target_of o) marks
 
-wait_sound : (code : List Stmt) (i : ℕ) (x : Stmt) (b : Bool) → may_wait (source_operation x) b ≡ true → (b ≡ true → IsBehindStore code i)
-    → MayWait code (Some x) i
+wait_sound : (code : List Stmt) (i : ℕ) (x : Stmt) (b : Bool) → may_wait (source_operation x) b ≡ true
+    → (b ≡ true → IsBehindStore code i) → MayWait code (Some x) i
 wait_sound code i x b h d = go (is_store (source_operation x)) (lets_stores_wait (source_operation x)) b h d
   where
     go : (s w b : Bool) → (s || (w && b)) ≡ true → (b ≡ true → IsBehindStore code i) → (s ≡ true) ⊎ ((w ≡ true) × IsBehindStore code i)
@@ -123,18 +122,18 @@ wait_sound code i x b h d = go (is_store (source_operation x)) (lets_stores_wait
     go false true b h d = inr (refl, d h)
     go false false b h d = absurd (false≢true h)
 
-wait_there : (code : List Stmt) (i : ℕ) (x : Stmt) (b : Bool) → MayWait code (Some x) i → (IsBehindStore code i → b ≡ true)
-    → may_wait (source_operation x) b ≡ true
-wait_there code i x b (inl store) d = ap (λ s. s || (lets_stores_wait (source_operation x) && b)) store
-wait_there code i x b (inr waits) d = go (is_store (source_operation x)) (lets_stores_wait (source_operation x)) b waits.0 (d waits.1)
+wait_there : {code : List Stmt} {i : ℕ} (x : Stmt) (b : Bool) → MayWait code (Some x) i
+    → (IsBehindStore code i → b ≡ true) → may_wait (source_operation x) b ≡ true
+wait_there x b (inl store) d = ap (λ s. s || (lets_stores_wait (source_operation x) && b)) store
+wait_there x b (inr waits) d = go (is_store (source_operation x)) _ b waits.0 (d waits.1)
   where
     go : (s w b : Bool) → w ≡ true → b ≡ true → (s || (w && b)) ≡ true
     go true w b e f = refl
     go false w b e f = ap₂ (λ (p q : Bool). p && q) e f
 
 -- a successor lies behind, at most at the end
-pub forward : (n i j : ℕ) (o : Operation) → ForSome (target_of o) (λ to. (i < to) × (to ≤ n)) → i < n → Leads o i j
-    → (i < j) × (j ≤ n)
+pub forward : (n i j : ℕ) (o : Operation) → ForSome (target_of o) (λ to. (i < to) × (to ≤ n)) → i < n
+    → Leads o i j → (i < j) × (j ≤ n)
 forward n i j o ok lt (inl next) = (omega (arith, next.1), omega (arith, next.1))
 forward n i j o ok lt (inr target) = ok j target
 
@@ -144,8 +143,8 @@ pub record Marked (code : List Stmt) (i : ℕ) (marks : List Bool) : Type 0 wher
   pub sound : (j : ℕ) → at marks j ≡ true → IsBehindStore code j
   pub there : (k j : ℕ) → k < i → Follows source (slice_get code k) k j → MayWait code (slice_get code k) k → at marks j ≡ true
 
-module _ (code : List Stmt)
-    (ok : (j : ℕ) (x : Stmt) → slice_get code j ≡ Some x → ForSome (target_of (source_operation x)) (λ to. (j < to) × (to ≤ length code))) where
+module _ (code : List Stmt) (ok : (j : ℕ) (x : Stmt) → slice_get code j ≡ Some x
+    → ForSome (target_of (source_operation x)) (λ to. (j < to) × (to ≤ length code))) where
   some_forward : (i j : ℕ) (o : Option Stmt) → slice_get code i ≡ o → Follows source o i j → (i < length code) × (i < j) × (j ≤ length code)
   some_forward i j None e f = absurd f
   some_forward i j (Some x) e f =
@@ -153,8 +152,8 @@ module _ (code : List Stmt)
       let g = forward (length code) i j (source_operation x) (ok i x e) lt f in
       (lt, g.0, g.1)
 
-  behind_marked : (i : ℕ) (marks : List Bool) → Marked code i marks → (j : ℕ) → j ≤ i → IsBehindStore code j → at marks j ≡ true
-  behind_marked i marks m j le b =
+  behind_marked : {i : ℕ} {marks : List Bool} → Marked code i marks → (j : ℕ) → j ≤ i → IsBehindStore code j → at marks j ≡ true
+  behind_marked m j le b =
       let l = last_step code j b.store b.between (inl b.stores) b.path b.waits in
       m.there l.0 j (omega (arith, le, some_forward l.0 j (slice_get code l.0) refl l.1)) l.1 l.2
 
@@ -167,13 +166,11 @@ module _ (code : List Stmt)
       → Marked code (i + 1) (if b then marked_behind (source_operation x) i marks else marks)
   mark_step i x marks true e c m = record {
     as_many = spread_length (source_operation x) i marks ∙ m.as_many;
-    sound = λ j h. ⊎_elim (λ old. m.sound j old)
-        (λ f. step_from code i j x e f (wait_sound code i x (at marks i) c (λ h. m.sound i h)))
-        (spread_sound (source_operation x) i marks j h);
-    there = λ k j lt f g. ⊎_elim
-        (λ same. spread_there (source_operation x) i marks j (here (λ o n. Follows source o n j) k i x e same f)
-        (omega (arith, m.as_many, some_forward k j (slice_get code k) refl f)))
-        (λ ne. spread_keeps (source_operation x) i marks j (m.there k j (omega arith) f g)) (cases_eq k i);
+    sound = λ j h. ⊎_elim (λ old. m.sound j old) (λ f. step_from code j e f (wait_sound code i x
+        (at marks i) c (λ h. m.sound i h))) (spread_sound (source_operation x) i marks j h);
+    there = λ k j lt f g. ⊎_elim (λ same. spread_there _ i marks j (here (λ o n. Follows source o n j) k i x e
+        same f) (omega (arith, m.as_many, some_forward k j (slice_get code k) refl f))) (λ ne. spread_keeps
+        (source_operation x) i marks j (m.there k j (omega arith) f g)) (cases_eq k i);
   }
   mark_step i x marks false e c m = record {
     as_many = m.as_many;
@@ -183,7 +180,7 @@ module _ (code : List Stmt)
   }
     where
       not_here : MayWait code (Some x) i → ⊥
-      not_here g = false≢true (sym c ∙ wait_there code i x (at marks i) g (λ d. behind_marked i marks m i (omega arith) d))
+      not_here g = false≢true (sym c ∙ wait_there x _ g (λ d. behind_marked m i (omega arith) d))
 
   pub first_marks : Marked code 0 (replicate (suc (length code)) false)
   first_marks = record {
@@ -199,8 +196,7 @@ module _ (code : List Stmt)
   -- What is marked when all statements have been passed.
   pub marked_behind_stores : (marks : List Bool) → Marked code (length code) marks → (j : ℕ) → j ≤ length code
       → (at marks j ≡ true) ↔ IsBehindStore code j
-  marked_behind_stores marks right j le =
-      ((λ h. right.sound j h), (λ b. behind_marked (length code) marks right j le b))
+  marked_behind_stores marks right j le = ((λ h. right.sound j h), (λ b. behind_marked right j le b))
 
 -- The marks behind a borrow when it is given back.
 pub given_back : {X : Type 0} (xs new ys : List X) (n : ℕ) → n ≡ length xs → length new ≡ length xs → take n (new ++ ys) ≡ new

@@ -46,38 +46,36 @@ pub record Turns (program : List (List Stmt)) (t : ℕ) (th : Thread) (m : List 
       → SourceRan program (map Step order) (state_of threads m) (state_of (slice_set threads t end) n)
 
 module _ (program : List (List Instr)) (t : ℕ) where
-  pub moves_on : (p q r : Processor) (m n k : List ℕ) (es fs : List Event) → Moves program t p m es q n
+  pub moves_on : (p : Processor) {q : Processor} (r : Processor) {m n k : List ℕ} (es : List Event) {fs : List Event} → Moves program t p m es q n
       → Moves program t q n fs r k → Moves program t p m (es ++ fs) r k
-  moves_on p q r m n k es fs a b = record {
+  moves_on p {q = q} r es {fs = fs} a b = record {
     on = λ processors was.
-        let mid = slice_set processors t q in
-        let second = b.on mid (got_set_same processors t q p was) in
-        run_append flat program es fs (state processors m) (state mid n) _ (a.on processors was)
-        (subst (λ c. MachineRan flat program fs (state mid n) (state c k)) (set-set processors t q r) second);
+        let second = b.on (slice_set processors t q) (got_set_same processors t q p was) in
+        run_append flat program es fs _ _ _ (a.on processors was) (rw (set-set processors t q r) at second);
   }
 
-  pub step_moves : (p q : Processor) (m n : List ℕ) (i : Instr) → slice_get (code_of program t) p.position ≡ Some i
+  pub step_moves : (p q : Processor) (m n : List ℕ) {i : Instr} → slice_get (code_of program t) p.position ≡ Some i
       → Does m (step_act (Some i) p) q n → Moves program t p m (Step t ∷ []) q n
-  step_moves p q m n i next d = record {
+  step_moves p q m n next d = record {
     on = λ processors was. (
       state (slice_set processors t q) n,
-      leads_from program (Step t) processors p q m n was (subst (λ o. Does m (step_act o p) q n) (sym next) d),
+      leads_from program (Step t) _ p q m n was (subst (λ o. Does m (step_act o p) q n) (sym next) d),
       refl,
     );
   }
 
-  pub drain_moves : (p q : Processor) (m n : List ℕ) → Does m (drain_act p.buffer p) q n → Moves program t p m (Drain t ∷ []) q n
-  drain_moves p q m n d = record {
+  pub drain_moves : {p : Processor} (q : Processor) (m n : List ℕ) → Does m (drain_act p.buffer p) q n → Moves program t p m (Drain t ∷ []) q n
+  drain_moves {p = p} q m n d = record {
     on = λ processors was. (state (slice_set processors t q) n, leads_from program (Drain t) processors p q m n was d, refl);
   }
 
 module _ (program : List (List Stmt)) (t : ℕ) where
   pub turns_none : (th : Thread) (m : List ℕ) → Turns program t th m th m
-  turns_none th m = record { order = []; on = λ threads was. ap (λ l. state_of l m) (set_own threads t th was) }
+  turns_none th m = record { order = []; on = λ threads was. ap (λ l. state_of l m) (set_own _ t th was) }
 
-  pub turns_on : (th mid end : Thread) (m n k : List ℕ) → Turns program t th m mid n → Turns program t mid n end k
-      → Turns program t th m end k
-  turns_on th mid end m n k a b = record {
+  pub turns_on : (th : Thread) {mid : Thread} (end : Thread) (m n : List ℕ) {k : List ℕ}
+      → Turns program t th m mid n → Turns program t mid n end k → Turns program t th m end k
+  turns_on th {mid = mid} end m n {k = k} a b = record {
     order = a.order ++ b.order;
     on = λ threads was.
         let after = slice_set threads t mid in

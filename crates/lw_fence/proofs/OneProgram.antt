@@ -3,7 +3,6 @@ use Rattle.std.proofs.Common.{◌≡◌, ℕ, suc, List, [], ◌∷◌, length, 
 use Rattle.std.proofs.Common.{◌∙◌, arith, slice_get}
 use Rattle.std.proofs.lemmas.Option.{slice_get_within}
 use Rattle.lw_base.proofs.api.Lists.{get_some}
-use Rattle.lw_base.specs.Heads.{TestHead}
 use Rattle.lw_litmus.specs.declared.instr.Instr.{Instr}
 use Rattle.lw_litmus.specs.declared.stmt.Stmt.{Stmt}
 use Rattle.lw_litmus.specs.Tests.{SourceTest, ProgramTest}
@@ -29,8 +28,8 @@ same_flags fs gs as_many to from = same_lists fs gs as_many same
     same k true false e f = let g = to k e in cc
     same k false true e f = let g = from k f in cc
 
-module _ (code : List Stmt) (instrs others : List Instr) (starts begins : List ℕ) (c : IsCompiledThread code instrs starts)
-    (d : IsCompiledThread code others begins) where
+module _ (code : List Stmt) (instrs others : List Instr) (starts begins : List ℕ) (c : IsCompiledThread code
+    instrs starts) (d : IsCompiledThread code others begins) where
   fences : c.fences ≡ d.fences
   fences = same_flags c.fences d.fences (c.as_many ∙ sym d.as_many)
       (λ k e. (d.needed k).1 ((c.needed k).0 e)) (λ k e. (c.needed k).1 ((d.needed k).0 e))
@@ -71,4 +70,4 @@ module _ (s : SourceTest) (p q : ProgramTest) (starts begins : List (List ℕ)) 
       heads = c.head ∙ sym d.head
 
       same_test : p ≡ q
-      same_test = ap₂ (λ (h : TestHead) (ts : List (List Instr)). let t : ProgramTest = record { head = h; threads = ts } in t) heads threads
+      same_test = ap₂ (λ h ts. let t : ProgramTest = record { head = h; threads = ts } in t) heads threads

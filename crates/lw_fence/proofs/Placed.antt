@@ -1,12 +1,12 @@
 -- Where the instructions of a statement stand in the compiled code.
 use Rattle.std.proofs.Common.{◌≡◌, ◌↔◌, ℕ, zero, suc, ◌+◌, ◌*◌, ◌<◌, ◌≤◌, List, [], ◌∷◌, ◌++◌, length, Some}
-use Rattle.std.proofs.Common.{Bool, true, false, if◌then◌else◌, sym, refl, ap, ◌∙◌, subst₂, arith, slice_get}
+use Rattle.std.proofs.Common.{Bool, true, false, if◌then◌else◌, sym, refl, ap, ◌∙◌, subst, subst₂, arith, slice_get}
 use Rattle.std.proofs.Common.{slice_index, length-append, append_assoc, drop, get_or, ap₂, add-one, drop-cons}
 use Rattle.std.proofs.Math.Seq.{get_or-append_seam}
-use Rattle.std.proofs.lemmas.Option.{same_Some, none-some, slice_get_within, slice_get-get_or}
+use Rattle.std.proofs.lemmas.Option.{same_Some, none-some, slice_get_within, slice_get-get_or, get_or_from_slice_get}
 use Rattle.lw_base.specs.Threads.{code_of}
 use Rattle.lw_base.specs.declared.head.Arch.TheVariants.{X86}
-use Rattle.lw_base.proofs.api.Lists.{get_some, at_index}
+use Rattle.lw_base.proofs.api.Lists.{at_index}
 use Rattle.lw_litmus.specs.declared.stmt.Stmt.{Stmt}
 use Rattle.lw_litmus.specs.declared.stmt.Stmt.TheVariants.{IfEq}
 use Rattle.lw_litmus.specs.Tests.{SourceTest, ProgramTest}
@@ -31,27 +31,48 @@ has_all : (is pre post : List Instr) → StandsAt (pre ++ (is ++ post)) (length 
 has_all [] pre post = tt
 has_all (i ∷ is) pre post =
     let within : length pre < length (pre ++ i ∷ (is ++ post)) = omega (arith, length-append pre (i ∷ (is ++ post))) in
-    let here = slice_get-get_or (pre ++ i ∷ (is ++ post)) (length pre) i within ∙ ap Some (get_or-append_seam pre i (is ++ post) i) in
+    let here = slice_get-get_or _ (length pre) i within ∙ ap Some (get_or-append_seam pre i (is ++ post) i) in
     let next : length (pre ++ i ∷ []) ≡ length pre + 1 = omega (arith, length-append pre (i ∷ [])) in
-    (here, subst₂ (λ l k. StandsAt l k is) (append_assoc pre (i ∷ []) (is ++ post)) next (has_all is (pre ++ i ∷ []) post))
+    (here, subst₂ (λ l k. StandsAt l k is) (append_assoc pre (i ∷ []) (is ++ post)) next (has_all is _ post))
 
 -- a row is as long whatever its jumps lead to
 as_long : (starts : List ℕ) (f : Bool) (x : Stmt) → length (instrs_of (row [] f x)) ≡ length (instrs_of (row starts f x))
 as_long starts f (IfEq r n to) = refl
 as_long starts f x = refl
 
+-- The first statement's row and start, and the others', wherever the list of fences ends.
+abbrev behind_first : ℕ → List Bool → Stmt → ℕ
+behind_first n fences x = n + length (instrs_of (row [] (get_or fences 0 false) x))
+
+rows_cons : (starts : List ℕ) (fences : List Bool) (x : Stmt) (code : List Stmt)
+    → rows starts fences (x ∷ code) ≡ instrs_of (row starts (get_or fences 0 false) x) ++ rows starts (drop 1 fences) code
+rows_cons starts [] x code = refl
+rows_cons starts (f ∷ fences) x code = refl
+
+starts_cons : (n : ℕ) (fences : List Bool) (x : Stmt) (code : List Stmt)
+    → starts_from n fences (x ∷ code) ≡ n ∷ starts_from (behind_first n fences x) (drop 1 fences) code
+starts_cons n [] x code = refl
+starts_cons n (f ∷ fences) x code = refl
+
+next_fence : (fences : List Bool) (j : ℕ) → get_or (drop 1 fences) j false ≡ get_or fences (suc j) false
+next_fence [] j = refl
+next_fence (f ∷ fences) j = refl
+
+rows_long : (starts : List ℕ) (n : ℕ) (fences : List Bool) (x : Stmt) (code : List Stmt)
+    → n + length (rows starts fences (x ∷ code)) ≡ behind_first n fences x + length (rows starts (drop 1 fences) code)
+rows_long starts n fences x code =
+    omega (arith, ap length (rows_cons starts fences x code), as_long starts (get_or fences 0 false) x,
+        length-append (instrs_of (row starts (get_or fences 0 false) x)) (rows starts (drop 1 fences) code))
+
 begins : (n : ℕ) (fences : List Bool) (code : List Stmt) → slice_index (starts_from n fences code) 0 ≡ n
 begins n fences [] = refl
-begins n [] (x ∷ code) = refl
-begins n (f ∷ fences) (x ∷ code) = refl
+begins n fences (x ∷ code) = ap (λ l. slice_index l 0) (starts_cons n fences x code)
 
-ends : (starts : List ℕ) (n : ℕ) (fences : List Bool) (code : List Stmt) → length fences ≡ length code
+ends : (starts : List ℕ) (n : ℕ) (fences : List Bool) (code : List Stmt)
     → slice_index (starts_from n fences code) (length code) ≡ n + length (rows starts fences code)
-ends starts n fences [] len = omega arith
-ends starts n [] (x ∷ code) len = absurd (omega arith)
-ends starts n (f ∷ fences) (x ∷ code) len =
-    ends starts (n + length (instrs_of (row [] f x))) fences code (omega arith)
-    ∙ omega (arith, length-append (instrs_of (row starts f x)) (rows starts fences code), as_long starts f x)
+ends starts n fences [] = omega arith
+ends starts n fences (x ∷ code) = ap (λ l. slice_index l (suc (length code))) (starts_cons n fences x code)
+    ∙ ends starts (behind_first n fences x) (drop 1 fences) code ∙ sym (rows_long starts n fences x code)
 
 -- The rows, cut at the row of the statement j, and where that starts and the next one.
 record Cut (starts : List ℕ) (n : ℕ) (fences : List Bool) (code : List Stmt) (j : ℕ) (f : Bool) (x : Stmt) : Type 0 where
@@ -61,32 +82,32 @@ record Cut (starts : List ℕ) (n : ℕ) (fences : List Bool) (code : List Stmt)
   here : slice_index (starts_from n fences code) j ≡ n + length before
   next : slice_index (starts_from n fences code) (j + 1) ≡ n + (length before + length (instrs_of (row starts f x)))
 
-cut : (starts : List ℕ) (n : ℕ) (fences : List Bool) (code : List Stmt) (j : ℕ) (f : Bool) (x : Stmt)
-    → slice_get fences j ≡ Some f → slice_get code j ≡ Some x → Cut starts n fences code j f x
-cut starts n fences [] j f x fe e = absurd (none-some x e)
-cut starts n [] (y ∷ code) j f x fe e = absurd (none-some f fe)
-cut starts n (g ∷ fences) (y ∷ code) zero f x fe e =
-    let first : Cut starts n (g ∷ fences) (y ∷ code) 0 g y =
-    record {
-      before = [];
-      behind = rows starts fences code;
-      whole = refl;
-      here = omega arith;
-      next = begins (n + length (instrs_of (row [] g y))) fences code ∙ omega (arith, as_long starts g y);
-    } in
-    subst₂ (λ h z. Cut starts n (g ∷ fences) (y ∷ code) 0 h z) (same_Some g f fe) (same_Some y x e) first
-cut starts n (g ∷ fences) (y ∷ code) (suc j) f x fe e =
-    let is = instrs_of (row starts g y) in
-    let own = starts_from (n + length (instrs_of (row [] g y))) fences code in
-    let c = cut starts (n + length (instrs_of (row [] g y))) fences code j f x fe e in
+cut : (starts : List ℕ) (n : ℕ) (fences : List Bool) (code : List Stmt) (j : ℕ) (x : Stmt) → slice_get code j ≡ Some x
+    → Cut starts n fences code j (get_or fences j false) x
+cut starts n fences [] j x e = absurd (none-some x e)
+cut starts n fences (y ∷ code) zero x e = subst (Cut starts n fences (y ∷ code) 0 (get_or fences 0 false)) (same_Some y x e) (record {
+  before = [];
+  behind = rows starts (drop 1 fences) code;
+  whole = rows_cons starts fences y code;
+  here = omega (arith, begins n fences (y ∷ code));
+  next = ap (λ l. slice_index l 1) (starts_cons n fences y code) ∙ begins (behind_first n fences y) (drop 1 fences) code
+      ∙ omega (arith, as_long starts (get_or fences 0 false) y);
+})
+cut starts n fences (y ∷ code) (suc j) x e =
+    let is = instrs_of (row starts (get_or fences 0 false) y) in
+    let c = subst (λ f. Cut starts (behind_first n fences y) (drop 1 fences) code j f x) (next_fence fences j)
+    (cut starts (behind_first n fences y) (drop 1 fences) code j x e) in
     let long = length-append is c.before in
     let last : suc j + 1 ≡ suc (j + 1) = omega arith in
+    let first = as_long starts (get_or fences 0 false) y in
     record {
       before = is ++ c.before;
       behind = c.behind;
-      whole = ap (λ l. is ++ l) c.whole ∙ sym (append_assoc is c.before (instrs_of (row starts f x) ++ c.behind));
-      here = omega (arith, c.here, long, as_long starts g y);
-      next = ap (slice_index (n ∷ own)) last ∙ omega (arith, c.next, long, as_long starts g y);
+      whole = rows_cons starts fences y code ∙ ap (λ l. is ++ l) c.whole
+          ∙ sym (append_assoc is c.before (instrs_of (row starts (get_or fences (suc j) false) x) ++ c.behind));
+      here = ap (λ l. slice_index l (suc j)) (starts_cons n fences y code) ∙ omega (arith, c.here, long, first);
+      next = ap (λ l. slice_index l (suc j + 1)) (starts_cons n fences y code)
+          ∙ ap (slice_index (n ∷ starts_from (behind_first n fences y) (drop 1 fences) code)) last ∙ omega (arith, c.next, long, first);
     }
 
 -- statement j of a thread in x86, behind a fence or not
@@ -114,86 +135,48 @@ row_short (Two i j) = omega arith
 
 rows_short : (starts : List ℕ) (fences : List Bool) (code : List Stmt) → length (rows starts fences code) ≤ 2 * length code
 rows_short starts fences [] = omega arith
-rows_short starts [] (x ∷ code) =
-    omega (arith, length-append (instrs_of (row starts false x)) (rows starts [] code), row_short (row starts false x), rows_short starts [] code)
-rows_short starts (f ∷ fences) (x ∷ code) =
-    omega (arith, length-append (instrs_of (row starts f x)) (rows starts fences code), row_short (row starts f x), rows_short starts fences code)
+rows_short starts fences (x ∷ code) = omega (arith, rows_long starts 0 fences x code, as_long starts (get_or fences 0 false) x,
+    row_short (row starts (get_or fences 0 false) x), rows_short starts (drop 1 fences) code)
 
--- Rows of statements that each have a fence or none.
-module _ (fences : List Bool) (code : List Stmt) (instrs : List Instr) (starts : List ℕ) (as_many : length fences ≡ length code)
-    (starts_are : starts ≡ starts_from 0 fences code) (instrs_are : instrs ≡ rows starts fences code) where
-  fence_at : (j : ℕ) (x : Stmt) → slice_get code j ≡ Some x → (f : Bool) × (slice_get fences j ≡ Some f)
-  fence_at j x e = get_some fences j (omega (arith, as_many, slice_get_within code j x e))
+stands : {fences : List Bool} {code : List Stmt} {instrs : List Instr} {starts : List ℕ} → IsThreadWith fences code instrs starts
+    → (j : ℕ) (x : Stmt) → slice_get code j ≡ Some x → Stands instrs starts j x
+stands {fences} {code} {instrs} {starts} c j x e =
+    let a = cut starts 0 fences code j x e in
+    let is = instrs_of (row starts (get_or fences j false) x) in
+    let here : length a.before ≡ slice_index starts j = omega (arith, ap (λ s. slice_index s j) c.starts_are, a.here) in
+    record {
+      fence = get_or fences j false;
+      has = subst₂ (λ l k. StandsAt l k is) (sym (c.instrs_are ∙ a.whole)) here (has_all is a.before a.behind);
+      next = omega (arith, ap (λ s. slice_index s (j + 1)) c.starts_are, here, a.next);
+    }
 
-  stands : (j : ℕ) (x : Stmt) (f : Bool) → slice_get code j ≡ Some x → slice_get fences j ≡ Some f
-      → StandsAt instrs (slice_index starts j) (instrs_of (row starts f x))
-      × (slice_index starts (j + 1) ≡ slice_index starts j + length (instrs_of (row starts f x)))
-  stands j x f e g =
-      let a = cut starts 0 fences code j f x g e in
-      let is = instrs_of (row starts f x) in
-      let here : length a.before ≡ slice_index starts j = omega (arith, ap (λ s. slice_index s j) starts_are, a.here) in (
-        subst₂ (λ l k. StandsAt l k is) (sym (instrs_are ∙ a.whole)) here (has_all is a.before a.behind),
-        omega (arith, ap (λ s. slice_index s (j + 1)) starts_are, here, a.next),
-      )
-
-  laid : Laid code instrs starts
-  laid = record {
-    first = ap (λ s. slice_index s 0) starts_are ∙ begins 0 fences code;
-    last = omega (arith, ap (λ s. slice_index s (length code)) starts_are, ends starts 0 fences code as_many, ap length instrs_are);
-    short = omega (arith, rows_short starts fences code, ap length instrs_are);
-    at = λ j x e.
-        let f = fence_at j x e in
-        let s = stands j x f.0 e f.1 in
-        record { fence = f.0; has = s.0; next = s.1 };
-  }
-
-pub placed : (code : List Stmt) (instrs : List Instr) (starts : List ℕ) → IsCompiledThread code instrs starts → Placed code instrs starts
-unfolding fence_at laid
-placed code instrs starts c = record {
-  laid = laid c.fences code instrs starts c.as_many c.starts_are c.instrs_are;
-  needed = λ j x e.
-      let f = fence_at c.fences code instrs starts c.as_many c.starts_are c.instrs_are j x e in
-      ((λ h. (c.needed j).0 (f.1 ∙ ap Some h)), (λ h. same_Some f.0 true (sym f.1 ∙ (c.needed j).1 h)));
+laid_with : {fences : List Bool} {code : List Stmt} {instrs : List Instr} {starts : List ℕ} → IsThreadWith fences code instrs starts
+    → Laid code instrs starts
+laid_with {fences} {code} {instrs} {starts} c = record {
+  first = ap (λ s. slice_index s 0) c.starts_are ∙ begins 0 fences code;
+  last = omega (arith, ap (λ s. slice_index s (length code)) c.starts_are, ends starts 0 fences code, ap length c.instrs_are);
+  short = omega (arith, rows_short starts fences code, ap length c.instrs_are);
+  at = stands c;
 }
 
--- the fences of as many statements: where the list has no more, none
-padded : List Bool → List Stmt → List Bool
-padded fences [] = []
-padded [] (x ∷ code) = false ∷ padded [] code
-padded (f ∷ fences) (x ∷ code) = f ∷ padded fences code
-
-padded_many : (fences : List Bool) (code : List Stmt) → length (padded fences code) ≡ length code
-unfolding padded
-padded_many fences [] = refl
-padded_many [] (x ∷ code) = omega (arith, padded_many [] code)
-padded_many (f ∷ fences) (x ∷ code) = omega (arith, padded_many fences code)
-
-padded_rows : (starts : List ℕ) (fences : List Bool) (code : List Stmt) → rows starts fences code ≡ rows starts (padded fences code) code
-unfolding padded
-padded_rows starts fences [] = refl
-padded_rows starts [] (x ∷ code) = ap (λ is. instrs_of (row starts false x) ++ is) (padded_rows starts [] code)
-padded_rows starts (f ∷ fences) (x ∷ code) = ap (λ is. instrs_of (row starts f x) ++ is) (padded_rows starts fences code)
-
-padded_starts : (n : ℕ) (fences : List Bool) (code : List Stmt) → starts_from n fences code ≡ starts_from n (padded fences code) code
-unfolding padded
-padded_starts n fences [] = refl
-padded_starts n [] (x ∷ code) = ap (λ l. n ∷ l) (padded_starts (n + length (instrs_of (row [] false x))) [] code)
-padded_starts n (f ∷ fences) (x ∷ code) = ap (λ l. n ∷ l) (padded_starts (n + length (instrs_of (row [] f x))) fences code)
-
-laid_with : (fences : List Bool) (code : List Stmt) (instrs : List Instr) (starts : List ℕ) → IsThreadWith fences code instrs starts
-    → Laid code instrs starts
-laid_with fences code instrs starts c =
-    laid (padded fences code) code instrs starts (padded_many fences code) (c.starts_are ∙ padded_starts 0 fences code)
-    (c.instrs_are ∙ padded_rows starts fences code)
+pub placed : {code : List Stmt} {instrs : List Instr} {starts : List ℕ} → IsCompiledThread code instrs starts → Placed code instrs starts
+unfolding laid_with stands
+placed {code} c = record {
+  laid = laid_with (record { starts_are = c.starts_are; instrs_are = c.instrs_are });
+  needed = λ j x e.
+      let within = slice_get_within code j x e in (
+        (λ h. (c.needed j).0 (slice_get-get_or c.fences j false (omega (arith, c.as_many, within)) ∙ ap Some h)),
+        (λ h. get_or_from_slice_get c.fences j true false ((c.needed j).1 h)),
+      );
+}
 
 -- the same for thread t of a compiled source
-pub placed_at : (s : SourceTest) (p : ProgramTest) (starts : List (List ℕ)) → IsCompiled s p starts → (t : ℕ) → t < length s.threads
-    → Placed (code_of s.threads t) (code_of p.threads t) (code_of starts t)
+pub placed_at : (s : SourceTest) (p : ProgramTest) (starts : List (List ℕ)) → IsCompiled s p starts → (t : ℕ)
+    → t < length s.threads → Placed (code_of s.threads t) (code_of p.threads t) (code_of starts t)
 placed_at s p starts compiled t within =
-    let at = at_index s.threads t [] within in
     let instrs = at_index p.threads t [] (omega (arith, compiled.as_many)) in
     let begins = at_index starts t [] (omega (arith, compiled.as_many_starts)) in
-    placed (code_of s.threads t) (code_of p.threads t) (code_of starts t) (compiled.threads t _ _ _ at instrs begins)
+    placed (compiled.threads t _ _ _ (at_index s.threads t [] within) instrs begins)
 
 -- A source in x86, wherever fences stand.
 pub record LaidOut (s : SourceTest) (p : ProgramTest) (starts : List (List ℕ)) : Type 0 where
@@ -208,16 +191,15 @@ laid_out s p starts compiled = record {
   at = λ t within. (placed_at s p starts compiled t within).laid;
 }
 
-pub laid_out_with : (fences : List (List Bool)) (s : SourceTest) (p : ProgramTest) (starts : List (List ℕ)) → IsCompiledWith fences s p starts
-    → LaidOut s p starts
+pub laid_out_with : (fences : List (List Bool)) (s : SourceTest) (p : ProgramTest) (starts : List (List ℕ))
+    → IsCompiledWith fences s p starts → LaidOut s p starts
 laid_out_with fences s p starts compiled = record {
   head = compiled.head;
   as_many = compiled.as_many;
   at = λ t within.
-      let at = at_index s.threads t [] within in
       let instrs = at_index p.threads t [] (omega (arith, compiled.as_many)) in
       let begins = at_index starts t [] (omega (arith, compiled.as_many_starts)) in
-      laid_with (code_of fences t) (code_of s.threads t) (code_of p.threads t) (code_of starts t) (compiled.threads t _ _ _ at instrs begins);
+      laid_with (compiled.threads t _ _ _ (at_index s.threads t [] within) instrs begins);
 }
 
 -- Statement x, which stands at i, behind those that have been walked over.
@@ -232,13 +214,13 @@ module _ (fences : List Bool) (code : List Stmt) (i : ℕ) (x : Stmt) (within : 
   fence_here : drop i fences ≡ fence ∷ drop (suc i) fences
   fence_here = drop-cons fences i false (omega (arith, within, as_many))
 
-  pub rows_on : (starts : List ℕ) (out new : List Instr) → rows starts fences code ≡ out ++ rows starts (drop i fences) (drop i code)
+  pub rows_on : (starts : List ℕ) (out : List Instr) {new : List Instr} → rows starts fences code ≡ out ++ rows starts (drop i fences) (drop i code)
       → new ≡ out ++ instrs_of (row starts (get_or fences i false) x)
       → rows starts fences code ≡ new ++ rows starts (drop (i + 1) fences) (drop (i + 1) code)
-  rows_on starts out new so_far more =
+  rows_on starts out so_far more =
       let rest = rows starts (drop (suc i) fences) (drop (suc i) code) in
-      so_far ∙ ap₂ (λ a b. out ++ rows starts a b) fence_here here ∙ sym (append_assoc out (instrs_of (row starts fence x)) rest)
-      ∙ rw (more, add-one) refl
+      so_far ∙ ap₂ (λ a b. out ++ rows starts a b) fence_here here
+          ∙ sym (append_assoc out (instrs_of (row starts fence x)) rest) ∙ rw (more, add-one) refl
 
   pub starts_on : (k n : ℕ) (out new : List ℕ) → starts_from 0 fences code ≡ out ++ starts_from n (drop i fences) (drop i code)
       → k ≡ length (instrs_of (row [] (get_or fences i false) x)) → new ≡ out ++ n ∷ []
@@ -250,5 +232,5 @@ module _ (fences : List Bool) (code : List Stmt) (i : ℕ) (x : Stmt) (within : 
 -- A start for each statement, and the end.
 pub starts_many : (n : ℕ) (fences : List Bool) (code : List Stmt) → length (starts_from n fences code) ≡ length code + 1
 starts_many n fences [] = refl
-starts_many n [] (x ∷ code) = omega (arith, starts_many (n + length (instrs_of (row [] false x))) [] code)
-starts_many n (f ∷ fences) (x ∷ code) = omega (arith, starts_many (n + length (instrs_of (row [] f x))) fences code)
+starts_many n fences (x ∷ code) =
+    omega (arith, ap length (starts_cons n fences x code), starts_many (behind_first n fences x) (drop 1 fences) code)

@@ -35,14 +35,13 @@ abbrev AllAt : (ℕ → Instr → Type 0) → ℕ → List Instr → Type 0
 AllAt P k [] = Unit {0}
 AllAt P k (i ∷ is) = P k i × AllAt P (k + 1) is
 
-in_row : (P : ℕ → Instr → Type 0) (instrs : List Instr) (k : ℕ) (is : List Instr) (j : ℕ) (i : Instr) → StandsAt instrs k is → AllAt P k is
-    → k ≤ j → j < k + length is → slice_get instrs j ≡ Some i → P j i
+in_row : (P : ℕ → Instr → Type 0) (instrs : List Instr) (k : ℕ) (is : List Instr) (j : ℕ) (i : Instr)
+    → StandsAt instrs k is → AllAt P k is → k ≤ j → j < k + length is → slice_get instrs j ≡ Some i → P j i
 in_row P instrs k [] j i stands all le lt e = absurd (omega arith)
 in_row P instrs k (y ∷ is) j i stands all le lt e =
-    ⊎_elim
-    (λ same. subst₂ P same (same_Some y i (sym stands.0 ∙ subst (λ n. slice_get instrs n ≡ Some i) (sym same) e)) all.0)
-    (λ ne. in_row P instrs (k + 1) is j i stands.1 all.1 (omega arith) (omega arith) e)
-    (cases_eq k j)
+    ⊎_elim (λ same. subst₂ P same (same_Some y i (sym stands.0 ∙ subst (λ n. slice_get instrs n ≡ Some i)
+        (sym same) e)) all.0) (λ ne. in_row P instrs (k + 1) is j i stands.1 all.1 (omega arith) (omega arith)
+        e) (cases_eq k j)
 
 -- Code of so many instructions on so many locations, made of so many statements, each of which starts there.
 module _ (locs l n : ℕ) (starts : List ℕ) where
@@ -75,16 +74,16 @@ module _ (locs l n : ℕ) (starts : List ℕ) where
   moved_fits : (d a k : ℕ) (last : Instr) → IsRegisterNumber d → IsRegisterNumber a → ((m : ℕ) → Fits m last)
       → AllAt Fits k (instrs_of (moved d a last))
   moved_fits d a k last d_there a_there fits =
-      let moves = goes_on (instr.Set d (Register a)) refl (no_location, two d a d_there a_there, All-nil IsWordNumber) in
+      let moves = goes_on (instr.Set d (Register a)) refl (no_location, two d a d_there a_there, All-nil _) in
       chosen (λ r. AllAt Fits k (instrs_of r)) (d == a) (One last) (Two (instr.Set d (Register a)) last)
       (λ is. (fits k, tt)) (λ is. (moves k, (fits (k + 1), tt)))
 
   -- an `ADD` to d
-  added_fits : (d : ℕ) (v : Operand) → IsRegisterNumber d → All IsRegisterNumber (operand_registers v) → All IsWordNumber (operand_numbers v)
-      → (k : ℕ) → Fits k (instr.Add d v)
+  added_fits : (d : ℕ) (v : Operand) → IsRegisterNumber d → All IsRegisterNumber (operand_registers v)
+      → All IsWordNumber (operand_numbers v) → (k : ℕ) → Fits k (instr.Add d v)
   added_fits d v d_there regs words =
-      goes_on (instr.Add d v) refl
-      (no_location, All-cons IsRegisterNumber d (d ∷ operand_registers v) d_there (All-cons IsRegisterNumber d (operand_registers v) d_there regs), words)
+      goes_on (instr.Add d v) refl (no_location, All-cons IsRegisterNumber d (d ∷ operand_registers v) d_there
+          (All-cons IsRegisterNumber d (operand_registers v) d_there regs), words)
 
   -- a jump to where the target of the statement of number j starts
   jump_fits : (i : Instr) (j k end to : ℕ) → IsStatement x86 locs i → target_of (programs.x86_operation i) ≡ Some (slice_index starts to)
@@ -110,27 +109,27 @@ module _ (locs l n : ℕ) (starts : List ℕ) where
   row_fits f (Set d v) j k ok forward reaches = (goes_on (instr.Set d v) refl ok k, tt)
   row_fits f (Sum d a (Number m)) j k ok forward reaches =
       let d_there : IsRegisterNumber d = ok.1 0 0 (omega arith) in
-      moved_fits d a k (instr.Add d (Number m)) d_there (ok.1 1 0 (omega arith)) (added_fits d (Number m) d_there (All-nil IsRegisterNumber) ok.2)
+      moved_fits d a k _ d_there (ok.1 1 0 (omega arith)) (added_fits d (Number m) d_there (All-nil _) ok.2)
   row_fits f (Sum d a (Register b)) j k ok forward reaches =
       let d_there : IsRegisterNumber d = ok.1 0 0 (omega arith) in
       let a_there : IsRegisterNumber a = ok.1 1 0 (omega arith) in
-      chosen (λ r. AllAt Fits k (instrs_of r)) (d == b) (One (instr.Add d (Register a))) (moved d a (instr.Add d (Register b)))
-      (λ is. (added_fits d (Register a) d_there (one a a_there) ok.2 k, tt))
-      (λ is. moved_fits d a k (instr.Add d (Register b)) d_there a_there
-      (added_fits d (Register b) d_there (one b (ok.1 2 0 (omega arith))) ok.2))
+      chosen (λ r. AllAt Fits k (instrs_of r)) (d == b) (One (instr.Add d (Register a)))
+          (moved d a (instr.Add d (Register b))) (λ is. (added_fits d (Register a) d_there (one a a_there)
+          ok.2 k, tt)) (λ is. moved_fits d a k (instr.Add d (Register b)) d_there a_there
+          (added_fits d (Register b) d_there (one b (ok.1 2 0 (omega arith))) ok.2))
   row_fits f (IfEq r m to) j k ok forward reaches =
       (goes_on (compared r m) refl ok k, (jump_fits (instr.Je (slice_index starts to)) j (k + 1) (k + 2) to bare refl forward reaches (omega arith), tt))
   row_fits f (IfNe r m to) j k ok forward reaches =
       (goes_on (compared r m) refl ok k, (jump_fits (instr.Jne (slice_index starts to)) j (k + 1) (k + 2) to bare refl forward reaches (omega arith), tt))
   row_fits f (Goto to) j k ok forward reaches =
-      (jump_fits (instr.Jmp (slice_index starts to)) j k (k + 1) to bare refl forward reaches (omega arith), tt)
+      (jump_fits (instr.Jmp (slice_index starts to)) j k _ to bare refl forward reaches (omega arith), tt)
 
 all_at : {X : Type 0} (P : X → Type 0) (xs : List X) (k : ℕ) (x : X) → All P xs → slice_get xs k ≡ Some x → P x
 all_at P xs k x all e = subst P (get_or_from_slice_get xs k x x e) (all k x (slice_get_within xs k x e))
 
 -- A compiled thread.
-module _ (locs : ℕ) (code : List Stmt) (instrs : List Instr) (starts : List ℕ) (ok : IsThread source locs code)
-    (stands : Laid code instrs starts) where
+module _ (locs : ℕ) (code : List Stmt) (instrs : List Instr) (starts : List ℕ) (ok : IsThread source locs
+    code) (stands : Laid code instrs starts) where
   abbrev start : ℕ → ℕ
   start k = slice_index starts k
 
@@ -178,8 +177,8 @@ module _ (locs : ℕ) (code : List Stmt) (instrs : List Instr) (starts : List �
   }
 
 -- the head, of the other language
-in_x86 : (h : TestHead) → IsWellFormedHead h → IsWellFormedHead (record h { arch = X86 })
-in_x86 h ok = record {
+in_x86 : {h : TestHead} → IsWellFormedHead h → IsWellFormedHead (record h { arch = X86 })
+in_x86 ok = record {
   name = ok.name;
   some = ok.some;
   few = ok.few;
@@ -197,11 +196,11 @@ in_x86 h ok = record {
 
 pub laid_program : (s : SourceTest) (p : ProgramTest) (starts : List (List ℕ)) → IsWellFormedSource s → LaidOut s p starts → IsWellFormedProgram p
 laid_program s p starts ok laid = record {
-  head = subst IsWellFormedHead (sym laid.head) (in_x86 s.head ok.head);
+  head = subst IsWellFormedHead (sym laid.head) (in_x86 ok.head);
   arch = ap (λ (h : TestHead). h.arch) laid.head;
   as_many = laid.as_many ∙ ok.as_many ∙ sym (ap (λ (h : TestHead). h.threads) laid.head);
-  code = λ t d lt.
-      subst (λ (h : TestHead). IsThread x86 (length h.locs) (slice_index_or p.threads t d)) (sym laid.head) (at t _ (at_index p.threads t d lt));
+  code = λ t d lt. subst (λ (h : TestHead). IsThread x86 (length h.locs) (slice_index_or p.threads t d))
+      (sym laid.head) (at t _ (at_index p.threads t d lt));
 }
   where
     at : (t : ℕ) (instrs : List Instr) → slice_get p.threads t ≡ Some instrs → IsThread x86 (length s.head.locs) instrs
@@ -214,12 +213,13 @@ pub is_program : (s : SourceTest) (p : ProgramTest) (starts : List (List ℕ)) �
 is_program s p starts ok compiled = laid_program s p starts ok (laid_out s p starts compiled)
 
 -- A copy of the head, in x86, and compiled threads.
-pub compiled_of : (s : SourceTest) (head : TestHead) (threads : List (List Instr)) (starts : List (List ℕ)) → head ≡ s.head
-    → length threads ≡ length s.threads → length starts ≡ length s.threads
+pub compiled_of : {s : SourceTest} {head : TestHead} {threads : List (List Instr)} {starts : List (List ℕ)}
+    → head ≡ s.head → length threads ≡ length s.threads → length starts ≡ length s.threads
     → ((t : ℕ) (code : List Stmt) (instrs : List Instr) (begins : List ℕ) → slice_get s.threads t ≡ Some code
-    → slice_get threads t ≡ Some instrs → slice_get starts t ≡ Some begins → IsCompiledThread code instrs begins)
+    → slice_get threads t ≡ Some instrs → slice_get starts t ≡ Some begins → IsCompiledThread code instrs
+    begins)
     → IsCompiled s (record { head = record head { arch = X86 }; threads = threads }) starts
-compiled_of s head threads starts same as_many as_many_starts each = record {
+compiled_of {head = head} {threads = threads} same as_many as_many_starts each = record {
   head = ap (λ (h : TestHead). record h { arch = X86 }) same;
   as_many = as_many;
   as_many_starts = as_many_starts;

@@ -1,6 +1,6 @@
 -- The schedule of a source run, thread by thread of its order.
 use Rattle.std.proofs.Common.{◌≡◌, ℕ, ◌+◌, ◌-◌, ◌<◌, ◌≤◌, List, [], ◌∷◌, ◌++◌, length, Result, map, drop}
-use Rattle.std.proofs.Common.{replicate, Option, Some, Ok, Err, is_ok, sym, ap, ap₂, ◌∙◌, subst, ◌⊎◌, inl}
+use Rattle.std.proofs.Common.{replicate, Some, Ok, Err, is_ok, sym, ap, ap₂, ◌∙◌, subst, ◌⊎◌, inl}
 use Rattle.std.proofs.Common.{inr, arith, append_assoc, if◌then◌else◌, slice_get, slice_index, slice_index_or}
 use Rattle.std.proofs.Common.{IsOk}
 use Rattle.std.proofs.lemmas.Bool.{cases_lt}
@@ -24,9 +24,9 @@ use Rattle.lw_base.proofs.api.SideBySide.{got_map}
 use Rattle.lw_fence.proofs.Placed.{placed_at, starts_many}
 
 -- the code of a thread, as it is read
-pub code_read : {X : Type 0} (program lists : List (List X)) (t i : ℕ) (code list : List X) → lists ≡ program → i ≡ t
-    → t < length program → list ≡ slice_index_or lists i list → code ≡ list → code ≡ code_of program t
-code_read {X} program lists t i code list same place within is read =
+pub code_read : {X : Type 0} (program : List (List X)) {lists : List (List X)} (t : ℕ) {i : ℕ} {code : List X} (list : List X) → lists ≡ program
+    → i ≡ t → t < length program → list ≡ slice_index_or lists i list → code ≡ list → code ≡ code_of program t
+code_read {X} program t list same place within is read =
     let at = is ∙ ap₂ (λ (l : List (List X)) (k : ℕ). slice_index_or l k list) same place in
     read ∙ get_or_read program t list within at []
 
@@ -42,20 +42,21 @@ pub record HasStart (program : List (List Stmt)) (starts : List (List ℕ)) (t p
   pub next : place + 1 < length begins
   pub grows : slice_index begins place ≤ slice_index begins (place + 1)
 
-pub has_start : (s : SourceTest) (p : ProgramTest) (starts lists : List (List ℕ)) (t i place : ℕ) (begins list : List ℕ)
-    → IsCompiled s p starts → place < length (code_of s.threads t) → lists ≡ starts → i ≡ t → list ≡ slice_index_or lists i list
-    → begins ≡ list → HasStart s.threads starts t place begins
-has_start s p starts lists t i place begins list compiled there same at is read = go (cases_lt t (length s.threads))
+pub has_start : {s : SourceTest} {p : ProgramTest} (starts lists : List (List ℕ)) {t i place : ℕ}
+    (begins list : List ℕ)
+    → IsCompiled s p starts → place < length (code_of s.threads t) → lists ≡ starts → i ≡ t
+    → list ≡ slice_index_or lists i list → begins ≡ list → HasStart s.threads starts t place begins
+has_start {s = s} {p = p} starts lists {t = t} {i = i} {place = place} begins list compiled there same at is read = go (cases_lt t (length s.threads))
   where
     go : (t < length s.threads) ⊎ (length s.threads ≤ t) → HasStart s.threads starts t place begins
     go (inr past) = absurd (omega (arith, there, ap length (get_or_past s.threads t [] past)))
     go (inl within) =
         let stmt = get_some (code_of s.threads t) place there in
         let stands = (placed_at s p starts compiled t within).laid.at place stmt.0 stmt.1 in
-        let instrs = at_index p.threads t [] (omega (arith, compiled.as_many)) in
         let own = at_index starts t [] (omega (arith, compiled.as_many_starts)) in
-        let thread = compiled.threads t (code_of s.threads t) _ _ (at_index s.threads t [] within) instrs own in
-        let here = code_read starts lists t i begins list same at (omega (arith, within, compiled.as_many_starts)) is read in
+        let thread = compiled.threads t (code_of s.threads t) _ _ (at_index s.threads t [] within)
+            (at_index p.threads t [] (omega (arith, compiled.as_many))) own in
+        let here = code_read starts t list same at (omega (arith, within, compiled.as_many_starts)) is read in
         let many = starts_many 0 thread.fences (code_of s.threads t) in
         record {
           within = within;
@@ -71,8 +72,7 @@ pub events_of_statement : (t place : ℕ) (program : List (List Stmt)) (starts :
     ≡ replicate (slice_index begins (place + 1) - slice_index begins place) (Step t) ++ (if is_store (source_operation stmt) then Drain t ∷ [] else [])
 events_of_statement t place program starts code begins stmt same begin there is =
     let at : slice_get code place ≡ Some stmt = at_index code place stmt there ∙ ap Some (sym is) in
-    ap₂ (λ (b : List ℕ) (o : Option Stmt). statement_events t b place o) (sym begin)
-    (ap (λ (c : List Stmt). slice_get c place) (sym same) ∙ at)
+    ap₂ (λ b o. statement_events t b place o) (sym begin) (ap (λ c. slice_get c place) (sym same) ∙ at)
 
 -- a step that is possible is answered by no stop
 pub answered_ok : (step : Result State Stop) (answer : Result (Unit {0}) Stop) (before after : SourceRunState) (mid : State)
@@ -111,29 +111,28 @@ module _ (program : List (List Stmt)) (order : List ℕ) (i t : ℕ) (within : i
       → slice_get (map (λ (th : Thread). th.position) s.threads) t ≡ Some place → place ≡ turn.thread.position
   placed_in s turn place at =
       let a = got_map (λ (th : Thread). th.position) s.threads t place at in
-      let same : a.0 ≡ turn.thread = same_Some a.0 turn.thread (sym a.1 ∙ turn.was) in
-      a.2 ∙ ap (λ (th : Thread). th.position) same
+      a.2 ∙ ap (λ (th : Thread). th.position) (same_Some a.0 turn.thread (sym a.1 ∙ turn.was))
 
   -- the events of thread t for the statement of this number
   abbrev Events : List (List ℕ) → ℕ → List Event
   Events starts place = statement_events t (code_of starts t) place (slice_get (code_of program t) place)
 
   -- the schedule from here, by this step's events
-  schedule_next : (starts : List (List ℕ)) (s mid : State) (place : ℕ)
+  schedule_next : (starts : List (List ℕ)) (s : State) {mid : State} (place : ℕ)
       → slice_get (map (λ (th : Thread). th.position) s.threads) t ≡ Some place → source_step program t s ≡ Ok mid
       → schedule program starts (drop i order) s ≡ Events starts place ++ schedule program starts (drop (i + 1) order) mid
-  schedule_next starts s mid place at step =
+  schedule_next starts s place at step =
       let a = got_map (λ (th : Thread). th.position) s.threads t place at in
       let events = ap (thread_events program starts t) a.1 ∙ ap (Events starts) (sym a.2) in
-      ap (λ (ts : List ℕ). schedule program starts ts s) next_is
-      ∙ ap₂ (λ (es : List Event) (o : Result State Stop). es ++ after_step o (schedule program starts (drop (i + 1) order))) events step
+      ap (λ (ts : List ℕ). schedule program starts ts s) next_is ∙ ap₂ (λ (es : List Event) (o : Result State
+          Stop). es ++ after_step o (schedule program starts (drop (i + 1) order))) events step
 
   -- what has been pushed and what is to come are the whole, one thread further
-  pub one_further : (starts : List (List ℕ)) (s mid : State) (place : ℕ) (events more whole : List Event)
+  pub one_further : (starts : List (List ℕ)) (s mid : State) (place : ℕ) (events : List Event) {more whole : List Event}
       → slice_get (map (λ (th : Thread). th.position) s.threads) t ≡ Some place → source_step program t s ≡ Ok mid
       → more ≡ events ++ Events starts place → events ++ schedule program starts (drop i order) s ≡ whole
       → more ++ schedule program starts (drop (i + 1) order) mid ≡ whole
-  one_further starts s mid place events more whole at step pushed so_far =
+  one_further starts s mid place events at step pushed so_far =
       let rest = schedule program starts (drop (i + 1) order) mid in
       ap (λ (es : List Event). es ++ rest) pushed ∙ append_assoc events (Events starts place) rest
-      ∙ ap (λ (es : List Event). events ++ es) (sym (schedule_next starts s mid place at step)) ∙ so_far
+      ∙ ap (λ (es : List Event). events ++ es) (sym (schedule_next starts s place at step)) ∙ so_far

@@ -17,8 +17,8 @@ use Rattle.lw_fence.proofs.FencesFound.{Found, found_none, found_more, needed}
 use Rattle.lw_fence.proofs.Marks.{Marked, at, mark_step, marked_behind_stores, first_marks}
 use Rattle.lw_fence.proofs.Programs.{compiled_of}
 
-module _ (code : List Stmt)
-    (ok : (j : ℕ) (x : Stmt) → slice_get code j ≡ Some x → ForSome (target_of (source_operation x)) (λ to. (j < to) × (to ≤ length code))) where
+module _ (code : List Stmt) (ok : (j : ℕ) (x : Stmt) → slice_get code j ≡ Some x
+    → ForSome (target_of (source_operation x)) (λ to. (j < to) × (to ≤ length code))) where
   -- the marks behind the first statements
   marks_behind : (i : ℕ) → i ≤ length code → (marks : List Bool) × Marked code i marks
   marks_behind zero le = (replicate (suc (length code)) false, first_marks code ok)
@@ -26,8 +26,8 @@ module _ (code : List Stmt)
       let m = marks_behind i (omega arith) in
       let x = get_some code i (omega arith) in
       let b : Bool = may_wait (source_operation x.0) (at m.0 i) in
-      let next : i + 1 ≡ suc i = omega arith in
-      (_, subst (λ k. Marked code k (if b then marked_behind (source_operation x.0) i m.0 else m.0)) next (mark_step code ok i x.0 m.0 b x.1 refl m.1))
+      (_, subst (λ k. Marked code k (if b then marked_behind (source_operation x.0) i m.0 else m.0))
+          (omega arith) (mark_step code ok i x.0 m.0 b x.1 refl m.1))
 
   marks : (v : List Bool) × Marked code (length code) v
   marks = marks_behind (length code) (omega arith)
@@ -38,8 +38,8 @@ module _ (code : List Stmt)
       let f = fences_before i (omega arith) in
       let x = get_some code i (omega arith) in
       let b : Bool = is_load (source_operation x.0) && slice_index_or marks.0 i false in
-      let next : i + 1 ≡ suc i = omega arith in
-      (f.0 ++ b ∷ [], subst (λ k. Found code marks.0 k (f.0 ++ b ∷ [])) next (found_more code marks.0 i f.0 (f.0 ++ b ∷ []) b x.0 f.1 x.1 refl refl))
+      (f.0 ++ b ∷ [], subst (λ k. Found code marks.0 k (f.0 ++ b ∷ [])) (omega arith) (found_more code marks.0
+          i f.0 b f.1 x.1 refl refl))
 
   some_thread : (instrs : List Instr) × (starts : List ℕ) × IsCompiledThread code instrs starts
   some_thread =
@@ -61,18 +61,16 @@ module _ (s : SourceTest) (ok : IsWellFormedSource s) where
 
   threads_before : (n : ℕ) → n ≤ length s.threads
       → (threads : List (List Instr)) × (starts : List (List ℕ)) × AreCompiled s.threads n threads starts
-  threads_before zero le = ([], [], none_compiled s.threads [] [] refl refl)
+  threads_before zero le = ([], [], none_compiled s.threads [] refl refl)
   threads_before (suc n) le =
       let before = threads_before n (omega arith) in
       let own = thread_of n (omega arith) in
-      let next : n + 1 ≡ suc n = omega arith in
       let threads = before.0 ++ own.0 ∷ [] in
       let starts = before.1 ++ own.1 ∷ [] in
-      let all = one_compiled s.threads n before.0 threads before.1 starts (code_of s.threads n) own.0 own.1 before.2
-      (at_index s.threads n [] (omega arith)) own.2 refl refl in
-      (threads, starts, subst (λ k. AreCompiled s.threads k threads starts) next all)
+      let all = one_compiled _ n _ _ _ _ before.2 (at_index s.threads n [] (omega arith)) own.2 refl refl in
+      (threads, starts, subst (λ k. AreCompiled s.threads k threads starts) (omega arith) all)
 
   pub some_program : (p : ProgramTest) × (starts : List (List ℕ)) × IsCompiled s p starts
   some_program =
       let all = threads_before (length s.threads) (omega arith) in
-      (_, all.1, compiled_of s s.head all.0 all.1 refl all.2.as_many all.2.as_many_starts all.2.each)
+      (_, all.1, compiled_of refl all.2.as_many all.2.as_many_starts all.2.each)

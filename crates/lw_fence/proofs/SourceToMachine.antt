@@ -1,5 +1,5 @@
 -- From source to machine: the schedule of a source run replays on the compiled program, to the same outcome.
-use Rattle.std.proofs.Common.{◌≡◌, ℕ, ◌+◌, ◌-◌, ◌<◌, ◌≤◌, nat_le, ◌==◌, List, [], ◌∷◌, ◌++◌, length, map}
+use Rattle.std.proofs.Common.{◌≡◌, ℕ, ◌+◌, ◌-◌, ◌<◌, ◌≤◌, ◌==◌, List, [], ◌∷◌, ◌++◌, length, map}
 use Rattle.std.proofs.Common.{Some, Bool, true, false, refl, sym, ap, ◌∙◌, subst, subst₂, arith, IsTrue}
 use Rattle.std.proofs.Common.{slice_get, slice_set, slice_index, le-leb, leb-true}
 use Rattle.std.proofs.lemmas.Bool.{and_from}
@@ -65,30 +65,29 @@ module _ (s : SourceTest) (p : ProgramTest) (starts : List (List ℕ)) (ok : IsW
       let z = i.at t st.thread c.0 st.was c.1 in
       let stands = (laid.at t lt).at st.thread.position st.stmt st.at in
       let allowed = allowed_at s ok t st.thread.position st.stmt st.at in
-      let turned = statement_turned p.threads t (code_of starts t) st.thread z.0 ss.words st.stmt (code_of s.threads t) allowed z.1.six stands in
+      let turned = statement_turned p.threads t (code_of starts t) st.thread z.0 ss.words st.stmt allowed z.1.six stands in
       let next = thread_after (source_operation st.stmt) st.thread ss.words in
-      let good = stays_sane (code_of s.threads t) st.thread ss.words st.stmt allowed st.at z.1 in
       let q = standing (slice_index (code_of starts t) next.position) next turned.flag in
       let end = state (slice_set ms.processors t q) (words_after (source_operation st.stmt) st.thread ss.words) in
       record {
         end = end;
         ran = subst₂ (λ es w. MachineRan flat p.threads es (state ms.processors w) end)
             (sym (events_are t ss st.thread st.stmt stands st.was st.at)) (sym i.words) (turned.moves.on ms.processors (c.1 ∙ ap Some z.2));
-        in_step = subst (λ a. InStep a end) (sym st.is)
-            (gone_on s Standing ss ms i t st.thread next c.0 q _ st.was c.1 (turned.flag, good, refl));
+        in_step = subst (λ a. InStep a end) (sym st.is) (gone_on s Standing ss ms i t st.thread next c.0 q _
+            st.was c.1 (turned.flag, (stays_sane st.thread ss.words st.stmt allowed st.at z.1), refl));
       }
 
-  follow : (order : List ℕ) (ss after : State) (ms : MachineState (List ℕ)) → InStep ss ms → SourceRan s.threads (map Step order) ss after
-      → Followed (schedule s.threads starts order ss) ms after
-  follow [] ss after ms i r = record { end = ms; ran = refl; in_step = subst (λ a. InStep a ms) (sym r) i }
-  follow (t ∷ order) ss after ms i r =
+  follow : (order : List ℕ) {ss : State} (after : State) (ms : MachineState (List ℕ)) → InStep ss ms
+      → SourceRan s.threads (map Step order) ss after → Followed (schedule s.threads starts order ss) ms after
+  follow [] after ms i r = record { end = ms; ran = refl; in_step = subst (λ a. InStep a ms) (sym r) i }
+  follow (t ∷ order) {ss = ss} after ms i r =
       let now = thread_events s.threads starts t (slice_get ss.threads t) in
       let a = follow_step t ss r.0 ms i (stepped s.threads t ss r.0 r.1) in
-      let b = follow order r.0 after a.end a.in_step r.2 in
+      let b = follow order after a.end a.in_step r.2 in
       record {
         end = b.end;
-        ran = subst (λ o. MachineRan flat p.threads (now ++ after_step o (schedule s.threads starts order)) ms b.end) (sym r.1)
-            (run_append flat p.threads now (schedule s.threads starts order r.0) ms a.end b.end a.ran b.ran);
+        ran = subst (λ o. MachineRan flat p.threads (now ++ after_step o (schedule s.threads starts order)) ms
+            b.end) (sym r.1) (run_append flat p.threads now _ ms a.end b.end a.ran b.ran);
         in_step = b.in_step;
       }
 
@@ -101,7 +100,7 @@ module _ (s : SourceTest) (p : ProgramTest) (starts : List (List ℕ)) (ok : IsW
       ))
 
   ends_final : (ss : State) (ms : MachineState (List ℕ)) → InStep ss ms → IsTrue (is_over s.threads ss) → IsTrue (is_final p.threads ms)
-  ends_final ss ms i over = zip_pass (λ (x : List Instr × Processor). is_done x.0 x.1) p.threads ms.processors each
+  ends_final ss ms i over = zip_pass _ p.threads ms.processors each
     where
       each : (t : ℕ) (instrs : List Instr) (c : Processor) → slice_get p.threads t ≡ Some instrs → slice_get ms.processors t ≡ Some c → is_done instrs c ≡ true
       each t instrs c e f =
@@ -109,22 +108,21 @@ module _ (s : SourceTest) (p : ProgramTest) (starts : List (List ℕ)) (ok : IsW
           let th = thread_at s Standing ss ms i t lt in
           let code = get_some s.threads t lt in
           let z = i.at t th.0 c th.1 f in
-          let placed = laid.at t lt in
-          let own : code_of s.threads t ≡ code.0 = get_or_from_slice_get s.threads t code.0 [] code.1 in
-          let instrs_are : code_of p.threads t ≡ instrs = get_or_from_slice_get p.threads t instrs [] e in
-          let done = zip_passes (λ (x : List Stmt × Thread). nat_le (length x.0) x.1.position) s.threads ss.threads t code.0 th.0 over code.1 th.1 in
+          let done = zip_passes _ s.threads ss.threads t code.0 th.0 over code.1 th.1 in
           let past : length code.0 ≤ th.0.position = leb-true (length code.0) th.0.position done in
-          let here : th.0.position ≡ length (code_of s.threads t) = omega (arith, past, ap length own, z.1.within) in
+          let here : th.0.position ≡ length (code_of s.threads t) = omega (arith, past, ap length
+              (get_or_from_slice_get s.threads t code.0 [] code.1), z.1.within) in
           let at : c.position ≡ length instrs =
-          ap (λ (x : Processor). x.position) z.2 ∙ ap (slice_index (code_of starts t)) here ∙ placed.last ∙ ap length instrs_are in
-          and_from (nat_le (length instrs) c.position) (length c.buffer == 0) (le-leb (length instrs) c.position (omega (arith, at)))
-          (ap (λ (x : Processor). length x.buffer == 0) z.2)
+          ap (λ (x : Processor). x.position) z.2 ∙ ap (slice_index (code_of starts t)) here
+              ∙ (laid.at t lt).last ∙ ap length (get_or_from_slice_get p.threads t instrs [] e) in
+          and_from _ _ (le-leb _ c.position (omega (arith, at))) (ap (λ x. length x.buffer == 0) z.2)
 
 -- the schedule of a source run leads to the run's outcome, wherever fences stand
-pub laid_replays : (s : SourceTest) (p : ProgramTest) (starts : List (List ℕ)) (order : List ℕ) (o : Final) → IsWellFormedSource s
-    → LaidOut s p starts → RunsTo s order o → Replays flat p p.head.init_words (schedule s.threads starts order (start_of s)) o
-laid_replays s p starts order o ok laid run =
-    let f = follow s p starts ok laid order (start_of s) run.end (compiled_start s) (in_step_first s p starts ok laid) run.ran in
+pub laid_replays : (s : SourceTest) (p : ProgramTest) (starts : List (List ℕ)) (order : List ℕ) {o : Final}
+    → IsWellFormedSource s → LaidOut s p starts → RunsTo s order o
+    → Replays flat p p.head.init_words (schedule s.threads starts order (start_of s)) o
+laid_replays s p starts order ok laid run =
+    let f = follow s p starts ok laid order run.end (compiled_start s) (in_step_first s p starts ok laid) run.ran in
     record {
       end = f.end;
       ran = subst (λ b. MachineRan flat p.threads (schedule s.threads starts order (start_of s)) b f.end) (sym (start_is s p laid.head)) f.ran;
@@ -133,6 +131,6 @@ laid_replays s p starts order o ok laid run =
           (λ t th c e g. sym (ap (λ (x : Processor). x.regs) (f.in_step.at t th c e g).2));
     }
 
-pub schedule_replays : (s : SourceTest) (p : ProgramTest) (starts : List (List ℕ)) (order : List ℕ) (o : Final) → IsWellFormedSource s
+pub schedule_replays : {s : SourceTest} (p : ProgramTest) {starts : List (List ℕ)} (order : List ℕ) (o : Final) → IsWellFormedSource s
     → IsCompiled s p starts → RunsTo s order o → Replays flat p p.head.init_words (schedule s.threads starts order (start_of s)) o
-schedule_replays s p starts order o ok compiled run = laid_replays s p starts order o ok (laid_out s p starts compiled) run
+schedule_replays {s = s} p {starts = starts} order o ok compiled run = laid_replays s p starts order ok (laid_out s p starts compiled) run

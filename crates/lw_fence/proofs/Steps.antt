@@ -34,10 +34,9 @@ allowed locs code j x thread at =
 -- the statements of a well-formed source
 pub allowed_at : (s : SourceTest) → IsWellFormedSource s → (t j : ℕ) (x : Stmt) → slice_get (code_of s.threads t) j ≡ Some x → Allowed (code_of s.threads t) j x
 allowed_at s ok t j x at =
-    ⊎_elim
-    (λ within. allowed (length s.head.locs) (code_of s.threads t) j x (ok.code t [] within) at)
-    (λ past. absurd (omega (arith, slice_get_within (code_of s.threads t) j x at, ap length (get_or_past s.threads t [] past))))
-    (cases_lt t (length s.threads))
+    ⊎_elim (λ within. allowed (length s.head.locs) (code_of s.threads t) j x (ok.code t [] within) at)
+        (λ past. absurd (omega (arith, slice_get_within (code_of s.threads t) j x at, ap length
+        (get_or_past s.threads t [] past)))) (cases_lt t (length s.threads))
 
 -- What always holds of a thread of a source: six registers, and at most at its end.
 pub record Sane (code : List Stmt) (th : Thread) : Type 0 where
@@ -52,11 +51,11 @@ registers_kept (Swap d x a) th m = length-set th.regs d _
 registers_kept (FetchAdd (Some d) x v) th m = length-set th.regs d _
 registers_kept _ th m = refl
 
-pub stays_sane : (code : List Stmt) (th : Thread) (m : List ℕ) (x : Stmt) → Allowed code th.position x → slice_get code th.position ≡ Some x
-    → Sane code th → Sane code (thread_after (source_operation x) th m)
-stays_sane code th m x ok at sane =
+pub stays_sane : {code : List Stmt} (th : Thread) (m : List ℕ) (x : Stmt) → Allowed code th.position x
+    → slice_get code th.position ≡ Some x → Sane code th → Sane code (thread_after (source_operation x) th m)
+stays_sane {code = code} th m x ok at sane =
     let o = source_operation x in
     record {
       six = registers_kept o th m ∙ sane.six;
-      within = (forward (length code) th.position _ o ok.target (slice_get_within code th.position x at) (leads o th m)).1;
+      within = (forward _ _ _ o ok.target (slice_get_within code th.position x at) (leads o th m)).1;
     }

@@ -56,21 +56,19 @@ module _ {S : Type 0} (language : Language S) (program : List (List S)) (paths :
     apart = λ c. elim (cases_order e.x e.y) [
       | inl same ↦ differ same
       | inr (inl less) ↦ e.free (inl (Contains-append_right t.fixed t.conflicts (e.x, e.y) (conflict_there language program items e.x e.y less old.1 c)))
-      | inr (inr more) ↦ e.free (inr (Contains-append_right t.fixed t.conflicts (e.y, e.x) (conflict_there language program items e.y e.x more old.0
-          (conflict_mutual language (at e.y).is_drain (at e.x).is_drain (statement_of language program (at e.y))
-          (statement_of language program (at e.x)) ∙ c))))
+      | inr (inr more) ↦ e.free (inr (Contains-append_right t.fixed _ (e.y, e.x) (conflict_there language
+          program items e.y e.x more old.0 (conflict_mutual language (at e.y).is_drain (at e.x).is_drain
+          (statement_of language program (at e.y)) (statement_of language program (at e.x)) ∙ c))))
     ];
     forth = λ less same ordered. omega (
       arith,
-      kept language program items ys
-          (threads_up language program paths) iy.1 e.x e.y less old.1 same ordered,
+      kept language program items ys (threads_up language program paths) iy.1 e.x e.y less old.1 same ordered,
       new.2,
       new.3,
     );
     back = λ less same ordered. omega (
       arith,
-      kept language program items xs
-          (threads_up language program paths) ix.1 e.y e.x less old.0 same ordered,
+      kept language program items xs (threads_up language program paths) ix.1 e.y e.x less old.0 same ordered,
       old.2,
       old.3,
     );
@@ -80,9 +78,9 @@ module _ {S : Type 0} (language : Language S) (program : List (List S)) (paths :
       stand : (order front : List ℕ) (x y : ℕ) (rest : List ℕ) → IsOrder (length items) order → order ≡ front ++ x ∷ y ∷ rest
           → (x < length items) × (y < length items) × (place order x ≡ length front) × (place order y ≡ suc (length front))
       stand order front x y rest is split =
-          let again : order ≡ (front ++ x ∷ []) ++ y ∷ rest = split ∙ sym (append_assoc front (x ∷ []) (y ∷ rest)) in
+          let again = split ∙ sym (append_assoc front (x ∷ []) (y ∷ rest)) in
           let a = order_split (length items) x front (y ∷ rest) (subst (IsOrder (length items)) split is) in
-          let b = order_split (length items) y (front ++ x ∷ []) rest (subst (IsOrder (length items)) again is) in
+          let b = order_split (length items) y _ rest (subst (IsOrder (length items)) again is) in
           (a.0, b.0, ap (λ zs. place zs x) split ∙ a.1, ap (λ zs. place zs y) again ∙ (b.1 ∙ omega (arith, length-append front (x ∷ []))))
 
       old : (e.x < length items) × (e.y < length items) × (place xs e.x ≡ length e.front) × (place xs e.y ≡ suc (length e.front))
@@ -111,8 +109,8 @@ module _ {S : Type 0} (language : Language S) (program : List (List S)) (paths :
 
       exchanged : (xs ys : List ℕ) → Keeps xs → Keeps ys → Exchanged (IsTied t) xs ys → (end : State) → Ran xs system.start end → Ran ys system.start end
       exchanged xs ys ix iy e end ran =
-          subst (λ zs. Ran zs system.start end) (sym e.new)
-          (walk [] e.front system.start e.old refl (can.first xs) (subst (λ zs. Ran zs system.start end) e.old ran))
+          subst (λ zs. Ran zs system.start end) (sym e.new) (walk [] e.front system.start e.old refl
+              (can.first xs) (subst (λ zs. Ran zs system.start end) e.old ran))
         where
           -- up to the two neighbours
           walk : (before front : List ℕ) (s : State) → xs ≡ before ++ (front ++ e.x ∷ e.y ∷ e.rest) → before ++ front ≡ e.front → Holds xs (length before) s
@@ -128,9 +126,9 @@ module _ {S : Type 0} (language : Language S) (program : List (List S)) (paths :
               let more : suc (length before) ≡ length (before ++ i ∷ []) = omega (arith, length-append before (i ∷ [])) in (
                 mid,
                 one,
-                walk (before ++ i ∷ []) front mid (split ∙ sym (append_assoc before (i ∷ []) (front ++ e.x ∷ e.y ∷ e.rest)))
-                    (append_assoc before (i ∷ []) front ∙ is)
-                    (subst (λ (k : ℕ). Holds xs k mid) more (can.next xs ix (length before) i o.0 there s mid holds one)) rest,
+                walk (before ++ i ∷ []) front mid (split ∙ sym (append_assoc before (i ∷ []) (front ++ e.x
+                    ∷ e.y ∷ e.rest))) (append_assoc before (i ∷ []) front ∙ is) (subst (λ (k : ℕ). Holds xs k
+                    mid) more (can.next xs ix (length before) i o.0 there s mid holds one)) rest,
               )
 
       -- Where one of two alike orders stays on its paths the other does, and ends with the same outcome.

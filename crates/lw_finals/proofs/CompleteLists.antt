@@ -3,7 +3,6 @@ use Rattle.std.proofs.Common.{◌≡◌, ℕ, inl, inr, List, [], ◌∷◌, len
 use Rattle.std.proofs.Common.{IfOk, OnOk, All, Contains, ◌↔◌}
 use Rattle.std.proofs.lemmas.Bool.{cases_lt}
 use Rattle.std.proofs.lemmas.List.Elements.{All-nil, All-contains, All-weaker, Contains-append_right}
-use Rattle.lw_base.specs.Entries.{IsEntryOf}
 use Rattle.lw_base.specs.Outcomes.{Final}
 use Rattle.lw_memory.specs.Flat.{flat}
 use Rattle.lw_mesi.specs.declared.protocol.Protocol.{Protocol}
@@ -18,7 +17,7 @@ use Rattle.lw_base.specs.declared.event.Event.TheVariants.{Step, Drain, Evict}
 use Rattle.lw_litmus.specs.Languages.{Language}
 use Rattle.lw_litmus.specs.Tests.{Test, ProgramTest}
 use Rattle.lw_litmus.specs.WellFormed.{IsThread, IsWellFormed}
-use Rattle.lw_orders.specs.Order.{Constraints, IsLinearExtension, Alike, ExactlyOne}
+use Rattle.lw_orders.specs.Order.{Constraints, IsLinearExtension, Alike}
 use Rattle.lw_orders.specs.Limits.{most_items}
 use Rattle.lw_orders.specs.Sequence.{orders}
 use Rattle.lw_choices.specs.Choices.{IsForward, IsChoice}
@@ -76,11 +75,11 @@ module _ {S : Type 0} (language : Language S) (test : Test S) {State : Type 0} (
     given_end : (o : Final) → OfChoice language test.threads system o → EndsOfProgram language (StaysAndEnds system) test.threads o
     given_end o (paths, choice, c) =
         let t : Constraints = choice_constraints paths in
-        let given : ExactlyOne (Alike t.conflicts c.order) (orders t) = complete.exactly_one t (formed paths choice) c.order c.keeps in
+        let given = complete.exactly_one t (formed paths choice) c.order c.keeps in
         let there : Contains (orders t) given.one =
-        subst (λ (xs : List (List ℕ)). Contains xs given.one) (sym given.split)
-        (Contains-append_right given.before (given.one ∷ given.behind) given.one (Contains-here given.one given.one given.behind refl)) in
-        let keeps : IsLinearExtension t given.one = All-contains (IsLinearExtension t) (orders t) given.one (complete.each t (formed paths choice)) there in
+        subst (λ (xs : List (List ℕ)). Contains xs given.one) (sym given.split) (Contains-append_right
+            given.before _ given.one (Contains-here given.one given.one given.behind refl)) in
+        let keeps = All-contains (IsLinearExtension t) _ _ (complete.each t (formed paths choice)) there in
         let forward : All (IsForward language) test.threads = All-weaker (IsThread language
         (length test.head.locs)) (IsForward language) (λ code t. t.forward) test.threads is.code in (
           paths,
@@ -89,8 +88,9 @@ module _ {S : Type 0} (language : Language S) (test : Test S) {State : Type 0} (
         )
 
     module _ (Has : Final → Type 0) (choices : (o : Final) → Has o ↔ OfChoice language test.threads system o)
-        (program : ProgramTest) (same : (o : Final) → MachineOutcome flat program program.head.init_words o ↔ Has o) (flat_too : AreFlat program)
-        (entries : OutcomeEntries) (gathers : Gathers (EndsOfProgram language (StaysAndEnds system) test.threads) (LeadsFlat program) [] entries) where
+        (program : ProgramTest) (same : (o : Final) → MachineOutcome flat program program.head.init_words o ↔
+        Has o) (flat_too : AreFlat program) (entries : OutcomeEntries) (gathers : Gathers (EndsOfProgram
+        language (StaysAndEnds system) test.threads) (LeadsFlat program) [] entries) where
       -- each schedule leads to its outcome
       lead : All (λ e. LeadsFlat program e.1 e.0) entries
       lead = gathers.lead (All-nil (λ e. LeadsFlat program e.1 e.0))
@@ -105,17 +105,16 @@ module _ {S : Type 0} (language : Language S) (test : Test S) {State : Type 0} (
       replays : (protocol : Protocol) → All (λ e. ReplaysOverCaches protocol program e.1 e.0) entries
       replays protocol =
           All-weaker (λ e. LeadsFlat program e.1 e.0) (λ e. ReplaysOverCaches protocol program e.1 e.0)
-          (λ e h. (flat_too.replays protocol e.1 e.0 (no_evictions program.threads e.1 (machine_start program program.head.init_words) h.end h.ran)).1
-          h) entries lead
+              (λ e h. (flat_too.replays protocol e.1 e.0 (no_evictions program.threads e.1 (machine_start
+              program program.head.init_words) h.end h.ran)).1 h) entries lead
 
       complete_list : IsComplete Has program entries
       complete_list = record {
         exactly = exactly;
-        over_caches = λ protocol o.
-            ((λ c. (flat_too.outcomes protocol o).1 ((same o).1 ((exactly o).0 c))), (λ m. (exactly o).1 ((same o).0 ((flat_too.outcomes protocol o).0 m))));
+        over_caches = λ protocol o. ((λ c. (flat_too.outcomes protocol o).1 ((same o).1 ((exactly o).0 c))),
+            (λ m. (exactly o).1 ((same o).0 ((flat_too.outcomes protocol o).0 m))));
         replays = replays;
-        of_program = All-weaker (λ e. ReplaysOverCaches Mesi program e.1 e.0) (IsEntryOf program.head)
-            (λ e h. flat_too.of_test Mesi e.1 e.0 h) entries (replays Mesi);
+        of_program = All-weaker _ _ (λ e h. flat_too.of_test Mesi e.1 e.0 h) entries (replays Mesi);
       }
 
   -- the list of a test, where there is one
@@ -125,6 +124,6 @@ module _ {S : Type 0} (language : Language S) (test : Test S) {State : Type 0} (
       (λ l. Gathers (EndsOfProgram language (StaysAndEnds system) test.threads) (LeadsFlat program) [] l)
       → OnOk result (IsWithinLimits language test.threads) → IfOk result (IsComplete Has program)
   listed is alike complete Has choices program same flat_too result = known_too result
-      (λ l. Gathers (EndsOfProgram language (StaysAndEnds system) test.threads) (LeadsFlat program) [] l) (IsComplete Has program)
-      (IsWithinLimits language test.threads)
-      (λ l gathers within. complete_list is alike complete within.0 Has choices program same flat_too l gathers)
+      (λ l. Gathers (EndsOfProgram language (StaysAndEnds system) test.threads) (LeadsFlat program) [] l)
+      (IsComplete Has program) (IsWithinLimits language test.threads) (λ l gathers within. complete_list is
+      alike complete within.0 Has choices program same flat_too l gathers)

@@ -1,5 +1,5 @@
 -- A run of an order of items, one item further.
-use Rattle.std.proofs.Common.{◌≡◌, ℕ, suc, ◌+◌, ◌<◌, ◌≤◌, false, List, ◌∷◌, length, drop, Some, refl, sym, ap}
+use Rattle.std.proofs.Common.{◌≡◌, ℕ, suc, ◌+◌, ◌<◌, ◌≤◌, List, ◌∷◌, length, drop, Some, refl, sym, ap}
 use Rattle.std.proofs.Common.{◌∙◌, subst, arith, get_or, drop-cons, IsTrue}
 use Rattle.std.proofs.lemmas.List.{drop_all}
 use Rattle.std.proofs.lemmas.Option.{slice_get-get_or, get_or_from_slice_get}
@@ -10,8 +10,7 @@ use Rattle.lw_finals.specs.OrderRuns.{System, OrderRan, StaysAndEnds}
 
 -- what an index reads is the item
 read_item : (items : List Item) (n : ℕ) (x : Item) → n < length items → x ≡ get_or items n x → item_at items n ≡ x
-read_item items n x l e = get_or_from_slice_get items n x
-    (record { thread = 0; position = 0; is_drain = false }) (slice_get-get_or items n x l ∙ ap Some (sym e))
+read_item items n x l e = get_or_from_slice_get items n x _ (slice_get-get_or items n x l ∙ ap Some (sym e))
 
 module _ {State : Type 0} (system : System State) (items : List Item) where
   abbrev Ran : List ℕ → State → State → Type 0
@@ -31,7 +30,7 @@ module _ {State : Type 0} (system : System State) (items : List Item) where
       → k < length order → n ≡ get_or order k d → n < length items → x ≡ get_or items n x → ((next : State)
       → system.Carried x now next → ⊥) → RanFirst order k now → (end : State) → Ran order system.start end → ⊥
   ran_off order k n d x now l is there reads none r end o =
-      let m : Ran (n ∷ drop (suc k) order) now end = subst (λ (xs : List ℕ). Ran xs now end) (next_item order k n d l is) (r.goes end o) in
+      let m = subst (λ (xs : List ℕ). Ran xs now end) (next_item order k n d l is) (r.goes end o) in
       none m.0 (subst (λ (y : Item). system.Carried y now m.0) (read_item items n x there reads) m.1)
 
   -- one item more, which can lead to one state alone
@@ -42,9 +41,9 @@ module _ {State : Type 0} (system : System State) (items : List Item) where
       let more : suc k ≡ k + 1 = omega arith in
       let item = read_item items n x there reads in
       record {
-        goes = λ end o. let m : Ran (n ∷ drop (suc k) order) now end = subst (λ (xs : List ℕ). Ran xs now end) split (r.goes end o) in
-            subst (λ (s : State). Ran (drop (k + 1) order) s end)
-            (alone m.0 (subst (λ (y : Item). system.Carried y now m.0) item m.1)) (subst (λ (j : ℕ). Ran (drop j order) m.0 end) more m.2);
+        goes = λ end o. let m = subst (λ (xs : List ℕ). Ran xs now end) split (r.goes end o) in
+            subst (λ s. Ran (drop (k + 1) order) s end) (alone m.0 (subst (λ (y : Item). system.Carried y now
+                m.0) item m.1)) (subst (λ (j : ℕ). Ran (drop j order) m.0 end) more m.2);
         comes = λ end o. let m : Ran (n ∷ drop (suc k) order) now end =
             (next, subst (λ (y : Item). system.Carried y now next) (sym item) carried, subst (λ (j : ℕ). Ran (drop j order) next end) (sym more) o) in
             r.comes end (subst (λ (xs : List ℕ). Ran xs now end) (sym split) m);
@@ -52,10 +51,10 @@ module _ {State : Type 0} (system : System State) (items : List Item) where
 
   -- behind the last item a run has ended
   pub ran_out : (order : List ℕ) (k : ℕ) (now : State) → length order ≤ k → RanFirst order k now → (end : State) → Ran order system.start end → end ≡ now
-  ran_out order k now past r end o = subst (λ (xs : List ℕ). Ran xs now end) (drop_all k order past) (r.goes end o)
+  ran_out order k now past r end o = subst (λ xs. Ran xs now end) (drop_all k order past) (r.goes end o)
 
   pub ran_whole : (order : List ℕ) (k : ℕ) (now : State) → length order ≤ k → RanFirst order k now → Ran order system.start now
-  ran_whole order k now past r = r.comes now (subst (λ (xs : List ℕ). Ran xs now now) (sym (drop_all k order past)) refl)
+  ran_whole order k now past r = r.comes now (subst (λ xs. Ran xs now now) (sym (drop_all k order past)) refl)
 
   -- so it ends with the outcome of the state then, where that is final
   pub ends_alone : {order : List ℕ} {k : ℕ} {now : State} → length order ≤ k → RanFirst order k now

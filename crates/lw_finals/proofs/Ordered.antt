@@ -51,7 +51,7 @@ module _ {S : Type 0} (language : Language S) where
       let first : k + 0 ≡ k = omega arith in (
         subst (λ (n : ℕ). IsPathFrom language code 0 (P n)) first (each 0 (omega arith)),
         choice_listed program P (suc k) (λ t l. (let next : k + suc t ≡ suc k + t = omega arith in
-            subst (λ (n : ℕ). IsPathFrom language (code_of program t) 0 (P n)) next (each (suc t) (omega arith)))),
+            subst (λ n. IsPathFrom language (code_of program t) 0 (P n)) next (each (suc t) (omega arith)))),
       )
 
   code_within : (program : List (List S)) (t j : ℕ) (i : S) → slice_get (code_of program t) j ≡ Some i → t < length program
@@ -76,8 +76,7 @@ module _ {S : Type 0} (language : Language S) (program : List (List S)) (items :
       let n : Has items a = All-head (Has items) a done h in
       record {
         order = n.0 ∷ r.order;
-        same = ap (λ xs. it n.0 ∷ xs) r.same
-            ∙ ap (λ x. x ∷ done) n.2;
+        same = ap (λ xs. it n.0 ∷ xs) r.same ∙ ap (λ x. x ∷ done) n.2;
         below = All-cons (λ i. i < length items) n.0 r.order n.1 r.below;
       }
 
@@ -93,7 +92,7 @@ module _ {S : Type 0} (language : Language S) (program : List (List S)) (items :
   once [] h = tt
   once (x ∷ xs) h = (
     elim (cases_lt (place xs x) (length xs)) [
-      | inl l ↦ absurd (each_placed (IsRight language program (it x)) xs x h.0 l refl (omega arith) (λ d. inl d))
+      | inl l ↦ absurd (each_placed (IsRight language program (it x)) xs x h.0 l refl (omega arith) inl)
       | inr ge ↦ ge
     ],
     once xs h.1,
@@ -138,16 +137,16 @@ module _ {S : Type 0} (language : Language S) (program : List (List S)) {State :
     -- each item that was done is one of the paths
     has_number : (a : Item) → IsAhead language program c.paths (λ t. []) a → Has its a
     has_number a h =
-        let l : a.thread < length program = code_within language program a.thread a.position h.statement h.at in
+        let l = code_within language program a.thread a.position h.statement h.at in
         let on : In a.position (c.paths a.thread) = elim h.on [ inl g ↦ g | inr (d, g) ↦ absurd g ] in
-        item_there language program paths a.thread a.position h.statement a.is_drain
-        (as_many language program paths choice) l (subst (In a.position) (sym (path_is a.thread l)) on) h.at h.store
+        item_there language program paths a.thread a.position h.statement a.is_drain (as_many language program
+            paths choice) l (subst (In a.position) (sym (path_is a.thread l)) on) h.at h.store
 
     -- and each of the paths was done
     is_done : (i : ℕ) → i < length its → Contains c.done (at i)
     is_done i l =
         let r : IsReal language program paths (at i) = real language program paths i l in
-        let on : In (at i).position (c.paths (at i).thread) = subst (In (at i).position) (path_is (at i).thread r.within) r.on in
+        let on = subst (In (at i).position) (path_is (at i).thread r.within) r.on in
         let is : (b : Bool) → (at i).is_drain ≡ b → Contains c.done (item (at i).thread (at i).position b)
         → Contains c.done (at i) = λ b e. subst (λ (d : Bool). Contains c.done (item (at i).thread (at i).position d)) (sym e) in
         elim (cases_Bool (at i).is_drain) [
@@ -156,19 +155,18 @@ module _ {S : Type 0} (language : Language S) (program : List (List S)) {State :
         ]
 
     names : Named language program its c.done
-    names = named language program its c.done (All-weaker (IsAhead language program c.paths (λ t. [])) (Has its) has_number c.done c.ahead)
+    names = named language program its c.done (All-weaker _ (Has its) has_number c.done c.ahead)
 
     right : Pairwise (IsRight language program) (map at names.order)
     right = subst (Pairwise (IsRight language program)) (sym names.same) c.right
 
     stands : (i : ℕ) → i < length its → place names.order i < length names.order
     stands i l =
-        let m : (m : ℕ) × Contains names.order m × (at m ≡ at i) = from_map at names.order
-        (at i) (subst (λ xs. Contains xs (at i)) (sym names.same) (is_done i l)) in
+        let m = from_map at names.order (at i) (rw (← names.same) at (is_done i l)) in
         let found : place names.order m.0 < length names.order = found_there names.order m.0 m.1 in
         let below : m.0 < length its = All-stands (λ i. i < length its) names.order m.0 names.below found in
-        let same : m.0 ≡ i = same_number language program paths forward choice m.0 i below l
-        (ap (λ (x : Item). x.thread) m.2) (ap (λ (x : Item). x.position) m.2) (ap (λ (x : Item). x.is_drain) m.2) in
+        let same = same_number language program paths forward choice m.0 i below l (ap (λ x. x.thread) m.2)
+            (ap (λ (x : Item). x.position) m.2) (ap (λ (x : Item). x.is_drain) m.2) in
         subst (λ k. place names.order k < length names.order) same found
 
     keeps : Keeps (constraints_of language program its).fixed names.order
@@ -176,7 +174,7 @@ module _ {S : Type 0} (language : Language S) (program : List (List S)) {State :
       where
         in_order : (i j : ℕ) → i < j → j < length its → (at i).thread ≡ (at j).thread → AreOrdered language program (at i) (at j) → Before names.order i j
         in_order i j less l same ordered = elim (cases_order (place names.order i) (place names.order j)) [
-          | inl e ↦ absurd (let g : i ≡ j = same_place names.order i j e (stands i (omega arith)) in omega arith)
+          | inl e ↦ absurd (let g : i ≡ j = same_place _ i j e (stands i (omega arith)) in omega arith)
           | inr (inl b) ↦ b
           | inr (inr a) ↦ absurd (before_right language program its names.order j i right a
               (stands i (omega arith)) (sym same) (omega (arith, slot_goes_up language program paths forward choice i j less l same)) ordered)
@@ -199,5 +197,5 @@ module _ {S : Type 0} (language : Language S) (program : List (List S)) {State :
       → Runs language program system position_of Done Sound → ((t : ℕ) → IsForward language (code_of program t)) → (es : List Event) (end : State) (o : Final)
       → Ran Done es system.start end → IsTrue (system.is_final end) → o ≡ system.outcome_of end → OfChoice language program system o
   run_of_choice Done Sound runs forward es end o ran final is =
-      of_choice forward end runs.starts (completed language program system position_of Done Sound runs forward es (λ t. []) system.start end
-      (λ t p e. omega (arith, runs.at_start t p e)) runs.first ran final) o final is
+      of_choice forward end runs.starts (completed language _ _ position_of Done _ runs forward es (λ t. [])
+          system.start end (λ t p e. omega (arith, runs.at_start t p e)) runs.first ran final) o final is

@@ -24,16 +24,16 @@ use Rattle.lw_finals.proofs.CompleteLists.{listed}
 use Rattle.lw_finals.proofs.SourceOutcomes.{alike_orders_end_alike, outcomes_are_those_of_choices}
 
 pub source_listed : (s : SourceTest) → IsWellFormedSource s → AreComplete → (program : ProgramTest)
-    → ((o : Final) → MachineOutcome flat program program.head.init_words o ↔ SourceOutcome s o) → AreFlat program
-    → {E : Type 0} (result : Result OutcomeEntries E)
-    → IfOk result (λ l. Gathers (EndsOfProgram source (StaysAndEnds s) s.threads) (LeadsFlat program) [] l) → OnOk result (IsWithinLimits source s.threads)
-    → IfOk result (IsComplete (SourceOutcome s) program)
+    → ((o : Final) → MachineOutcome flat program program.head.init_words o ↔ SourceOutcome s o)
+    → AreFlat program → {E : Type 0} (result : Result OutcomeEntries E)
+    → IfOk result (λ l. Gathers (EndsOfProgram source (StaysAndEnds s) s.threads) (LeadsFlat program) [] l)
+    → OnOk result (IsWithinLimits source s.threads) → IfOk result (IsComplete (SourceOutcome s) program)
 source_listed s is complete program same flat_too =
     listed source s (system_of s) is (λ paths xs ys o choice. alike_orders_end_alike s paths xs ys o) complete
     (SourceOutcome s) (λ o. outcomes_are_those_of_choices s o is) program same flat_too
 
-module _ (s : SourceTest) (program : ProgramTest) (starts : List (List ℕ)) (compiled : IsCompiled s program starts) (entries : OutcomeEntries)
-    (c : IsComplete (SourceOutcome s) program entries) where
+module _ (s : SourceTest) (program : ProgramTest) (starts : List (List ℕ)) (compiled : IsCompiled s program
+    starts) (entries : OutcomeEntries) (c : IsComplete (SourceOutcome s) program entries) where
   pub on_machine : ListsMachine s entries
   on_machine = record { program = program; starts = starts; compiled = compiled; outcomes = c.over_caches; replays = c.replays }
 

@@ -1,7 +1,7 @@
 -- Alike orders of the items of a source test end alike; and the outcomes of the orders of all choices of paths are exactly its outcomes.
 use Rattle.std.proofs.Common.{◌≡◌, ℕ, ◌≤◌, ◌==◌, Bool, true, false, if◌then◌else◌, List, [], ◌∷◌, map, length}
 use Rattle.std.proofs.Common.{Option, Some, None, Result, Ok, refl, sym, subst, inl, inr, slice_get, arith}
-use Rattle.std.proofs.Common.{◌≢◌, ◌<◌, ap₂, ◌∙◌, ◌↔◌, IsTrue, nat_le, true≢false, leb-true}
+use Rattle.std.proofs.Common.{◌≢◌, ◌<◌, ap₂, ◌∙◌, ◌↔◌, IsTrue, true≢false, leb-true}
 use Rattle.std.proofs.lemmas.List.{get_or_past}
 use Rattle.std.proofs.lemmas.Bool.{cases_lt, cases_order, false_from_ne_true}
 use Rattle.lw_base.specs.Outcomes.{Final}
@@ -46,9 +46,9 @@ swapped : (program : List (List Stmt)) (a b : Item) (s mid end : State) → a.th
     → conflicts.do_conflict source (statement_of source program a) (statement_of source program b) ≡ false
     → CarriedOut program a s mid → CarriedOut program b mid end → (other : State) × CarriedOut program b s other × CarriedOut program a other end
 swapped program a b s mid end ne free (at_a, step_a) (at_b, step_b) =
-    let was_b : position_of s b.thread ≡ Some b.position = sym (others_placed program a.thread b.thread s mid ne step_a) ∙ at_b in
+    let was_b = sym (others_placed program a.thread b.thread s mid ne step_a) ∙ at_b in
     let apart : conflicts.do_conflict source (next_of program s a.thread) (next_of program s b.thread) ≡ false =
-    ap₂ (conflicts.do_conflict source) (next_is program s a.thread a.position at_a) (next_is program s b.thread b.position was_b) ∙ free in
+    ap₂ (conflicts.do_conflict source) (next_is program s _ _ at_a) (next_is program s _ _ was_b) ∙ free in
     let o : (o : State) × (source_step program b.thread s ≡ Ok o) × (source_step program a.thread o ≡ Ok end) =
     exchange program a.thread b.thread s ne apart mid end step_a step_b in
     (o.0, (was_b, o.1), (others_placed program b.thread a.thread s o.0 (λ e. ne (sym e)) o.1 ∙ at_a, o.2))
@@ -110,10 +110,9 @@ alike_orders_end_alike s paths = orders_end_alike source s.threads paths (system
 ended : (program : List (List Stmt)) (s : State) (t p : ℕ) → IsTrue (is_source_final program s) → position_of s t ≡ Some p → length (code_of program t) ≤ p
 ended program s t p final e = elim (cases_lt t (length program)) [
   | inl l ↦ (let th = got_map (λ (x : Thread). x.position) s.threads t p e in
-      let past = leb-true (length (code_of program t)) th.0.position
-      (zip_passes (λ x. nat_le (length x.0) x.1.position) program s.threads t (code_of program t) th.0 final (at_index program t [] l) th.1) in
+      let past = leb-true _ _ (zip_passes _ program _ t _ th.0 final (at_index program t [] l) th.1) in
       omega (arith, past, th.2))
-  | inr past ↦ subst (λ (code : List Stmt). length code ≤ p) (sym (get_or_past program t [] past)) (omega arith)
+  | inr past ↦ subst (λ code. length code ≤ p) (sym (get_or_past program t [] past)) (omega arith)
 ]
 
 -- no store waits
@@ -190,7 +189,7 @@ module _ (test : SourceTest) where
 scheduled : (s : SourceTest) (items : List Item) (order : List ℕ) (z end : State)
     → OrderRan (system_of s) items order z end → SourceRan s.threads (map Step (threads_of items order)) z end
 scheduled s items [] z end ran = ran
-scheduled s items (i ∷ order) z end (next, (at, step), ran) = (next, step, scheduled s items order next end ran)
+scheduled s items (i ∷ order) z end (next, (at, step), ran) = (next, step, scheduled s _ order next end ran)
 
 -- an order of any items that stays on its paths runs to its outcome
 pub order_runs_to : (s : SourceTest) (items : List Item) (order : List ℕ) (o : Final) → StaysAndEnds s items order o → RunsTo s (threads_of items order) o
@@ -200,7 +199,7 @@ order_runs_to s items order o r = record { end = r.end; ran = scheduled s items 
 pub outcomes_are_those_of_choices : (s : SourceTest) (o : Final) → IsWellFormedSource s
     → SourceOutcome s o ↔ ((paths : List (List ℕ)) × IsChoice source s.threads paths × ChoiceOutcome s paths o)
 outcomes_are_those_of_choices s o is = (
-  λ (order, u). run_of_choice source s.threads (system_of s) position_of (Steps s) NoneWaits
-      (runs s is) (forward_of source s is) (map Step order) u.end o (steps_alone s order (start_of s) u.end u.ran) u.final u.is,
+  λ (order, u). run_of_choice _ s.threads (system_of s) position_of (Steps s) _ (runs s is) (forward_of source
+      s is) (map Step order) u.end o (steps_alone s order (start_of s) u.end u.ran) u.final u.is,
   λ (paths, choice, c). (threads_of (items_of source s.threads paths) c.order, order_runs_to s (items_of source s.threads paths) c.order o c.run),
 )

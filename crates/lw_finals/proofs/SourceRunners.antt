@@ -1,5 +1,5 @@
 -- The schedules that orders of a source test's items stand for: they lead to the orders' outcomes.
-use Rattle.std.proofs.Common.{◌≡◌, ◌<◌, length, ℕ, subst, Result, List, [], ◌∷◌, ◌++◌, refl, sym, ap, ap₂}
+use Rattle.std.proofs.Common.{◌≡◌, ◌<◌, length, ℕ, subst, List, [], ◌∷◌, ◌++◌, refl, sym, ap, ap₂}
 use Rattle.std.proofs.Common.{◌∙◌, All, slice_get}
 use Rattle.std.proofs.lemmas.List.Elements.{All-nil, All-cons}
 use Rattle.std.proofs.lemmas.Option.{slice_get_within, same_Some}
@@ -8,7 +8,6 @@ use Rattle.lw_interleaving.proofs.api.Exchange.{stepped}
 use Rattle.lw_base.specs.Outcomes.{Final}
 use Rattle.lw_base.specs.Threads.{code_of}
 use Rattle.lw_base.specs.declared.event.Event.{Event}
-use Rattle.lw_base.specs.declared.stop.Stop.{Stop}
 use Rattle.lw_litmus.specs.declared.stmt.Stmt.{Stmt}
 use Rattle.lw_interleaving.specs.declared.thread.Thread.{Thread}
 use Rattle.lw_interleaving.specs.Runs.{State, RunsTo, start_of}
@@ -31,8 +30,7 @@ there program item s next (at, step) =
     let d = stepped program item.thread s next step in
     let same : a.0 ≡ d.thread = same_Some a.0 d.thread (sym a.1 ∙ d.was) in
     let place : item.position ≡ d.thread.position = a.2 ∙ ap (λ (th : Thread). th.position) same in
-    subst (λ (k : ℕ). k < length (code_of program item.thread)) (sym place)
-    (slice_get_within (code_of program item.thread) d.thread.position d.stmt d.at)
+    subst (λ (k : ℕ). k < length (code_of program item.thread)) (sym place) (slice_get_within _ _ d.stmt d.at)
 
 -- so are all of an order that stays on its paths
 pub all_there : (test : SourceTest) (items : List Item) (order : List ℕ) (s end : State)
@@ -51,11 +49,10 @@ of_items test starts items (i ∷ order) s end (next, (at, step), ran) =
     let item : Item = item_at items i in
     let a = got_map (λ (th : Thread). th.position) s.threads item.thread item.position at in
     let here : thread_events test.threads starts item.thread (slice_get s.threads item.thread) ≡ events_at test.threads starts item =
-    ap (thread_events test.threads starts item.thread) a.1
-    ∙ ap (λ (j : ℕ). statement_events item.thread (code_of starts item.thread) j (slice_get (code_of test.threads item.thread) j)) (sym a.2) in
-    ap₂ (λ (es fs : List Event). es ++ fs) here
-    (ap (λ (o : Result State Stop). after_step o (schedule test.threads starts (threads_of items order))) step
-    ∙ of_items test starts items order next end ran)
+    ap (thread_events test.threads starts item.thread) a.1 ∙ ap (λ (j : ℕ). statement_events item.thread
+        (code_of starts item.thread) j (slice_get (code_of test.threads item.thread) j)) (sym a.2) in
+    ap₂ (λ (es fs : List Event). es ++ fs) here (ap (λ o. after_step o (schedule test.threads starts
+        (threads_of items order))) step ∙ of_items test starts items order next end ran)
 
 -- The events of an order's items lead to its outcome.
 pub leads : (t : CompiledSource) (items : List Item) (order : List ℕ) (events : List Event) (o : Final)

@@ -33,8 +33,8 @@ module _ {X Y : Type 0} (starting : X → Y) (position : Y → ℕ) (at_first : 
   pub starts : (t : ℕ) → t < length xs → slice_get (map position (map starting xs)) t ≡ Some 0
   starts t l =
       let x = get_some xs t l in
-      slice_get-map position (map starting xs) t
-      ∙ (ap (option_map position) (slice_get-map starting xs t ∙ ap (option_map starting) x.1) ∙ ap Some (at_first x.0))
+      slice_get-map position (map starting xs) t ∙ (ap (option_map position) (slice_get-map starting xs t
+          ∙ ap (option_map starting) x.1) ∙ ap Some (at_first x.0))
 
   pub at_start : (t p : ℕ) → slice_get (map position (map starting xs)) t ≡ Some p → p ≡ 0
   at_start t p e =
@@ -136,9 +136,10 @@ module _ {S : Type 0} (language : Language S) (program : List (List S)) where
       -- each thread is still within its code
       pub within_next : IsWithin s → IsWithin mid
       within_next within u q e = elim (cases_eq t u) [
-        | inl same ↦ subst (λ (v : ℕ). q ≤ length (code_of program v)) same
-            (subst (λ (k : ℕ). k ≤ length (code_of program t)) (same_Some m.new q (sym m.now ∙ subst (λ (v : ℕ). position_of mid v ≡ Some q) (sym same) e))
-            (elim (cases_Bool b) [ inl f ↦ omega (arith, within t m.old m.was, m.stays f) | inr f ↦ (went f).1 ]))
+        | inl same ↦ subst (λ (v : ℕ). q ≤ length (code_of program v)) same (subst (λ (k : ℕ). k ≤ length
+            (code_of program t)) (same_Some m.new q (sym m.now ∙ subst (λ (v : ℕ). position_of mid v ≡ Some q)
+            (sym same) e)) (elim (cases_Bool b) [ inl f ↦ omega (arith, within t m.old m.was, m.stays f) | inr
+            f ↦ (went f).1 ]))
         | inr ne ↦ within u q (sym (m.others u ne) ∙ e)
       ]
 
@@ -154,8 +155,8 @@ module _ {S : Type 0} (language : Language S) (program : List (List S)) where
       right_here : (paths : ℕ → List ℕ) (x : Item) → GoesUp m.new (paths t) → IsAhead paths after x → IsRight a x
       right_here paths x up ahead same le ordered = elim ahead.on [
         | inl on ↦ later (omega (arith, beyond, goes_up_in m.new x.position (paths t) up (subst (λ (u : ℕ). In x.position (paths u)) (sym same) on)))
-        | inr (d, on) ↦ elim (from_after language program W a m.old m.climbs m.oldest x.thread x.position on) [
-          | inl (w, ne) ↦ (let w' : In x.position (W t) = subst (λ (u : ℕ). In x.position (W u)) (sym same) w in
+        | inr (d, on) ↦ elim (from_after language program W a m.old m.climbs m.oldest x.thread _ on) [
+          | inl (w, ne) ↦ (let w' = subst (λ (u : ℕ). In x.position (W u)) (sym same) w in
               elim (cases_Bool b) [
                 | inl f ↦ (let r = m.oldest f in
                     newer r.0 (subst (λ (ws : List ℕ). Climbs 0 ws m.old) r.1 m.climbs) (ne same f) (subst (In x.position) r.1 w'))
@@ -175,7 +176,7 @@ module _ {S : Type 0} (language : Language S) (program : List (List S)) where
           waits_at : b ≡ false → ((b ≡ true) ⊎ (option_map_or (statement_waits language) (slice_get (code_of program t) j) false ≡ true))
               → statement_waits language i ≡ true
           waits_at f (inl e) = absurd (true≢false (sym e ∙ f))
-          waits_at f (inr e) = sym (ap (λ (o : Option S). option_map_or (statement_waits language) o false) m.at) ∙ e
+          waits_at f (inr e) = sym (ap (λ o. option_map_or (statement_waits language) o false) m.at) ∙ e
 
       -- the run from an item on
       pub one_more : Completed after mid end → Completed W s end
@@ -188,8 +189,8 @@ module _ {S : Type 0} (language : Language S) (program : List (List S)) where
           | inr ne ↦ subst (IsPathFrom language (code_of program u) q) (sym (before_other u ne)) (r.flows u q (m.others u ne ∙ e))
         ];
         ran = (mid, m.carried, r.ran);
-        ahead = All-cons (IsAhead before W) a r.done
-            (record { statement = i; at = m.at; on = on_here; store = m.store }) (All-weaker (IsAhead r.paths after) (IsAhead before W) still r.done r.ahead);
+        ahead = All-cons (IsAhead before W) a r.done (record { statement = i; at = m.at; on = on_here; store
+            = m.store }) (All-weaker (IsAhead r.paths after) (IsAhead before W) still r.done r.ahead);
         statements = λ u k h. elim (from_before u k h) [
           | inl (same, f, e) ↦ Contains-here a (item u k false) r.done (this u k false same e f)
           | inr g ↦ Contains-there a (item u k false) r.done (r.statements u k g)
@@ -235,8 +236,9 @@ module _ {S : Type 0} (language : Language S) (program : List (List S)) where
 
           flows_here : (q : ℕ) → position_of s t ≡ Some q → IsPathFrom language (code_of program t) q (before t)
           flows_here q e =
-              subst (λ (k : ℕ). IsPathFrom language (code_of program t) k (before t)) (same_Some m.old q (sym m.was ∙ e))
-              (subst (IsPathFrom language (code_of program t) m.old) (sym (before_same t refl)) (own_flows b refl))
+              subst (λ (k : ℕ). IsPathFrom language (code_of program t) k (before t)) (same_Some m.old q
+                  (sym m.was ∙ e)) (subst (IsPathFrom language (code_of program t) m.old)
+                  (sym (before_same t refl)) (own_flows b refl))
 
           longer : (u p : ℕ) → position_of s u ≡ Some p → (q : ℕ) × (position_of mid u ≡ Some q)
           longer u p e = elim (cases_eq t u) [
@@ -310,11 +312,11 @@ module _ {S : Type 0} (language : Language S) (program : List (List S)) where
       pub starts : (t : ℕ) → t < length program → position_of system.start t ≡ Some 0
       pub at_start : (t p : ℕ) → position_of system.start t ≡ Some p → p ≡ 0
       pub one : (e : Event) (W : ℕ → List ℕ) (s mid : State) → Sound W s → Done e s (Ok tt) mid → One Sound W s mid
-      pub ended : (W : ℕ → List ℕ) (s : State) → Sound W s → IsTrue (system.is_final s) → (t p : ℕ) → position_of s t ≡ Some p
-          → (length (code_of program t) ≤ p) × ((j : ℕ) → In j (W t) → ⊥)
+      pub ended : (W : ℕ → List ℕ) (s : State) → Sound W s → IsTrue (system.is_final s) → (t p : ℕ)
+          → position_of s t ≡ Some p → (length (code_of program t) ≤ p) × ((j : ℕ) → In j (W t) → ⊥)
 
-    module _ (Done : Event → State → Result (Unit {0}) Stop → State → Type 0) (Sound : (ℕ → List ℕ) → State → Type 0)
-        (runs : Runs Done Sound) (forward : (t : ℕ) → IsForward language (code_of program t)) where
+    module _ (Done : Event → State → Result (Unit {0}) Stop → State → Type 0) (Sound : (ℕ → List ℕ) → State
+        → Type 0) (runs : Runs Done Sound) (forward : (t : ℕ) → IsForward language (code_of program t)) where
       -- every run to the end has its paths, and its items
       pub completed : (es : List Event) (W : ℕ → List ℕ) (s end : State) → IsWithin s → Sound W s
           → Ran Done es s end → IsTrue (system.is_final end) → Completed W s end

@@ -40,7 +40,7 @@ climbs_in low high x (w ∷ ws) c (inr h) = let u = climbs_in (suc w) high x ws 
 
 climbs_wider : (low l high h : ℕ) (ws : List ℕ) → l ≤ low → high ≤ h → Climbs low ws high → Climbs l ws h
 climbs_wider low l high h [] a b c = omega arith
-climbs_wider low l high h (w ∷ ws) a b c = (omega (arith, c.0), climbs_wider (suc w) (suc w) high h ws (omega arith) b c.1)
+climbs_wider _ l _ h (w ∷ ws) a b c = (omega (arith, c.0), climbs_wider (suc w) _ _ h ws (omega arith) b c.1)
 
 climbs_pushed : (low j : ℕ) (ws : List ℕ) → Climbs low ws j → Climbs low (ws ++ j ∷ []) (suc j)
 climbs_pushed low j [] c = (c, omega arith)
@@ -102,16 +102,14 @@ module _ {S : Type 0} (language : Language S) where
 
   pub waits_same : (program : List (List S)) (a : Item) (W : ℕ → List ℕ) (u : ℕ) → a.thread ≡ u
       → waits_after program a W u ≡ own_waits a.is_drain (stored (statement_of language program a)) a.position (W u)
-  waits_same program a W u e = cond-true (a.thread == u) (own_waits a.is_drain
-      (stored (statement_of language program a)) a.position (W u)) (W u) (eq-eqb a.thread u e)
+  waits_same program a W u e = cond-true (a.thread == u) _ (W u) (eq-eqb a.thread u e)
 
   pub waits_other : (program : List (List S)) (a : Item) (W : ℕ → List ℕ) (u : ℕ) → a.thread ≢ u → waits_after program a W u ≡ W u
-  waits_other program a W u ne = cond-false (a.thread == u) (own_waits a.is_drain
-      (stored (statement_of language program a)) a.position (W u)) (W u) (ne_eqb a.thread u ne)
+  waits_other program a W u ne = cond-false (a.thread == u) _ (W u) (ne_eqb a.thread u ne)
 
   -- behind an item which, if it is a drain, is that of the store that has waited longest
-  module _ (program : List (List S)) (W : ℕ → List ℕ)
-      (a : Item) (high : ℕ) (climbs : Climbs 0 (W a.thread) high) (oldest : a.is_drain ≡ true → (rest : List ℕ) × (W a.thread ≡ a.position ∷ rest)) where
+  module _ (program : List (List S)) (W : ℕ → List ℕ) (a : Item) (high : ℕ) (climbs : Climbs 0 (W a.thread)
+      high) (oldest : a.is_drain ≡ true → (rest : List ℕ) × (W a.thread ≡ a.position ∷ rest)) where
     abbrev entry : Option ℕ
     entry = stored (statement_of language program a)
 
@@ -140,4 +138,4 @@ module _ {S : Type 0} (language : Language S) where
     ]
 
     pub store_after : (u x : ℕ) → a.thread ≡ u → a.is_drain ≡ false → entry ≡ Some x → In a.position (after u)
-    store_after u x same f e = subst (In a.position) (sym (waits_same program a W u same)) (own_store a.is_drain entry a.position x (W u) f e)
+    store_after u x same f e = subst (In a.position) (sym (waits_same _ a W u same)) (own_store _ _ _ x _ f e)

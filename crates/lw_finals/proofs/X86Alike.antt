@@ -26,8 +26,8 @@ use Rattle.lw_finals.proofs.X86Waiting.{AllHold, all_hold, hold_first, CarriedIt
 use Rattle.lw_finals.proofs.X86Prefix.{Waiting, waiting_first, oldest, waiting_next}
 use Rattle.lw_finals.proofs.X86Swap.{Unfixed, independent}
 
-module _ (program : List (List Instr)) (forward : (u : ℕ) → IsForward x86 (code_of program u)) (paths : List (List ℕ))
-    (choice : IsChoice x86 program paths) where
+module _ (program : List (List Instr)) (forward : (u : ℕ) → IsForward x86 (code_of program u))
+    (paths : List (List ℕ)) (choice : IsChoice x86 program paths) where
   abbrev items : List Item
   items = items_of x86 program paths
 
@@ -62,14 +62,15 @@ module _ (program : List (List Instr)) (forward : (u : ℕ) → IsForward x86 (c
         did = c;
         head = oldest program forward paths choice order is k c.old.position i W r.waiting climbs l there;
         reached = record {
-          waiting = waiting_next program forward paths choice order is k c.old.position i W r.waiting climbs l there;
+          waiting = waiting_next _ forward _ choice order is k c.old.position i W r.waiting climbs l there;
           hold = all_hold program forward (at i) at_i.statement W s mid c at_i.at r.hold;
         };
       }
 
   -- what the fixed pairs leave free
-  unfixed : (order : List ℕ) (k x y : ℕ) → Neighbours x86 program paths order k x y → (h : Instr) → statement_of x86 program (at y) ≡ Some h
-      → (at x).thread ≡ (at y).thread → Unfixed (at x).is_drain (at y).is_drain h (at x).position (at y).position
+  unfixed : (order : List ℕ) (k x y : ℕ) → Neighbours x86 program paths order k x y → (h : Instr)
+      → statement_of x86 program (at y) ≡ Some h → (at x).thread ≡ (at y).thread
+      → Unfixed (at x).is_drain (at y).is_drain h (at x).position (at y).position
   unfixed order k x y n h is same = record {
     unlike = λ kind. elim (cases_order x y) [
       | inl is ↦ n.differ is
@@ -77,8 +78,8 @@ module _ (program : List (List Instr)) (forward : (u : ℕ) → IsForward x86 (c
       | inr (inr more) ↦ n.back more (sym same) (λ d. inl (kind ∙ d))
     ];
     others = λ dx dy p. forth (store_slot (at x).is_drain (at y).is_drain (at x).position (at y).position dx dy p) (λ d. absurd (true≢false (sym d ∙ dx)));
-    no_wait = λ dx dy less w. forth (slot_less (at x).is_drain (at y).is_drain (at x).position (at y).position less)
-        (λ d. inr (ap (λ o. option_map_or (statement_waits x86) o false) is ∙ w));
+    no_wait = λ dx dy less w. forth (slot_less (at x).is_drain (at y).is_drain (at x).position (at y).position
+        less) (λ d. inr (ap (λ o. option_map_or (statement_waits x86) o false) is ∙ w));
   }
     where
       forth : slot (at x) < slot (at y) → AreOrdered x86 program (at x) (at y) → ⊥
@@ -90,8 +91,8 @@ module _ (program : List (List Instr)) (forward : (u : ℕ) → IsForward x86 (c
   exchange order is k x y n W s mid end r one two =
       let u : Turn order k x W s mid = turn order is k x n.x_below n.x_place W s mid r one in
       let v = turn order is (suc k) y n.y_below n.y_place (waits_after x86 program (at x) W) mid end u.reached two in
-      let free = independent program W s mid end r.hold (at x) (at y) u.instr v.instr u.statement v.statement u.reached.hold u.head v.head
-      n.apart (unfixed order k x y n v.instr v.statement) u.did v.did in
+      let free = independent program W s mid end r.hold (at x) (at y) u.instr v.instr u.statement v.statement
+          u.reached.hold u.head v.head n.apart (unfixed order k x y n v.instr v.statement) u.did v.did in
       exchanged program (event_of (at x)) (event_of (at y)) s free (at x).position (at y).position mid end one two
 
 -- Where one of two alike orders stays on the paths the other does, with the same outcome.

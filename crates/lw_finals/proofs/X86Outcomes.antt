@@ -20,7 +20,7 @@ use Rattle.lw_litmus.specs.Tests.{ProgramTest}
 use Rattle.lw_tso.specs.Acts.{step_act}
 use Rattle.lw_tso.specs.Machines.{MachineState, position_of, EventDone}
 use Rattle.lw_tso.specs.Processors.{Processor, starting}
-use Rattle.lw_tso.specs.Runs.{is_done, is_final, MachineRan, Replays, MachineOutcome, machine_start}
+use Rattle.lw_tso.specs.Runs.{is_final, MachineRan, Replays, MachineOutcome, machine_start}
 use Rattle.lw_tso.proofs.api.Effects.{Does, Did, leads_to, no_eviction}
 use Rattle.lw_tso.proofs.api.Operations.{Went}
 use Rattle.lw_choices.specs.Choices.{IsForward, IsChoice}
@@ -51,23 +51,21 @@ module _ (test : ProgramTest) where
   program = test.threads
 
   -- at the end each thread is past its code, and nothing waits in its buffer
-  ended : (W : ℕ → List ℕ) (s : MachineState (List ℕ))
-      → AllHold program W s → length s.processors ≡ length program → IsTrue (is_final program s) → (t p : ℕ) → position_of s t ≡ Some p
-      → (length (code_of program t) ≤ p) × ((j : ℕ) → In j (W t) → ⊥)
+  ended : (W : ℕ → List ℕ) (s : MachineState (List ℕ)) → AllHold program W s
+      → length s.processors ≡ length program → IsTrue (is_final program s) → (t p : ℕ)
+      → position_of s t ≡ Some p → (length (code_of program t) ≤ p) × ((j : ℕ) → In j (W t) → ⊥)
   ended W s hold many final t p e =
       let q = got_map (λ (x : Processor). x.position) s.processors t p e in
       let l = slice_get_within s.processors t q.0 q.1 in
-      let done = zip_passes (λ (x : List Instr × Processor). is_done x.0 x.1) program s.processors t
-      (code_of program t) q.0 final (at_index program t [] (omega (arith, l, many))) q.1 in
+      let done = zip_passes _ program _ t _ q.0 final (at_index program t [] (omega (arith, l, many))) q.1 in
       let both = and_parts (nat_le (length (code_of program t)) q.0.position) (length q.0.buffer == 0) done in
       let empty = nil_from_length q.0.buffer (eqb-true (length q.0.buffer) 0 both.1) in (
         omega (arith, leb-true (length (code_of program t)) q.0.position both.0, q.2),
-        no_waits
-            (code_of program t) (W t) (subst (Waits (code_of program t) (W t)) empty (hold t q.0 q.1).waits),
+        no_waits _ (W t) (subst (Waits (code_of program t) (W t)) empty (hold t q.0 q.1).waits),
       )
 
   there : (z : MachineState (List ℕ)) (u : ℕ) (p : Processor) → slice_get z.processors u ≡ Some p → position_of z u ≡ Some p.position
-  there z u p e = slice_get-map (λ (x : Processor). x.position) z.processors u ∙ ap (option_map (λ (x : Processor). x.position)) e
+  there z u p e = slice_get-map _ z.processors u ∙ ap (option_map (λ (x : Processor). x.position)) e
 
   instr_there : (o : Option Instr) (p q : Processor) (m n : List ℕ) → Does m (step_act o p) q n → (i : Instr) × (o ≡ Some i)
   instr_there None p q m n d = absurd d
@@ -82,8 +80,9 @@ module _ (test : ProgramTest) where
     abbrev Carries : (ℕ → List ℕ) → MachineState (List ℕ) → MachineState (List ℕ) → Type 0
     Carries = One x86 program (system_of flat test test.head.init_words) position_of IsSound
 
-    carries : (t j : ℕ) (b : Bool) (i : Instr) (W : ℕ → List ℕ) (s mid : MachineState (List ℕ)) → IsSound W s → slice_get (code_of program t) j ≡ Some i
-        → CarriedOut flat program (item t j b) s mid → (b ≡ true → (rest : List ℕ) × (W t ≡ j ∷ rest)) → (b ≡ true → IsStoring x86 i) → Carries W s mid
+    carries : (t j : ℕ) (b : Bool) (i : Instr) (W : ℕ → List ℕ) (s mid : MachineState (List ℕ)) → IsSound W s
+        → slice_get (code_of program t) j ≡ Some i → CarriedOut flat program (item t j b) s mid
+        → (b ≡ true → (rest : List ℕ) × (W t ≡ j ∷ rest)) → (b ≡ true → IsStoring x86 i) → Carries W s mid
     carries t j b i W s mid sound at out head store = record {
       t = t;
       j = j;
@@ -96,10 +95,9 @@ module _ (test : ProgramTest) where
         new = c.new.position;
         was = there s t c.old c.was;
         now = there mid t c.new (ap (λ (z : MachineState (List ℕ)). slice_get z.processors t) c.is ∙ got_set_same s.processors t c.new c.old c.was);
-        others = λ u ne.
-            slice_get-map (λ (x : Processor). x.position) mid.processors u
-            ∙ (ap (option_map (λ (x : Processor). x.position))
-            (ap (λ (z : MachineState (List ℕ)). slice_get z.processors u) c.is ∙ got_set_other s.processors t u c.new ne)
+        others = λ u ne. slice_get-map (λ (x : Processor). x.position) mid.processors u
+            ∙ (ap (option_map (λ (x : Processor). x.position)) (ap (λ (z : MachineState (List ℕ)). slice_get
+            z.processors u) c.is ∙ got_set_other s.processors t u c.new ne)
             ∙ sym (slice_get-map (λ (x : Processor). x.position) s.processors u));
         climbs = held.climbs;
         follows = λ f. (c.stands f, subst (λ (k : ℕ). Leads (x86_operation i) k c.new.position) (c.stands f) (step b f c).leads);
@@ -132,9 +130,9 @@ module _ (test : ProgramTest) where
     one : (e : Event) (W : ℕ → List ℕ) (s mid : MachineState (List ℕ)) → IsSound W s → EventDone flat program e s (Ok tt) mid → Carries W s mid
     one (Step t) W s mid sound done =
         let d : Did program (Step t) s mid = leads_to program (Step t) s mid done in
-        let i = instr_there (slice_get (code_of program t) d.from.position) d.from d.to s.memory d.words d.does in
-        carries t d.from.position false i.0 W s mid sound i.1 (record { stands = there s t d.from d.was; done = done })
-        (λ f. absurd (true≢false (sym f))) (λ f. absurd (true≢false (sym f)))
+        let i = instr_there _ d.from d.to s.memory d.words d.does in
+        carries t d.from.position false i.0 W s mid sound i.1 (record { stands = there s t d.from d.was; done
+            = done }) (λ f. absurd (true≢false (sym f))) (λ f. absurd (true≢false (sym f)))
     one (Drain t) W s mid sound done =
         let d : Did program (Drain t) s mid = leads_to program (Drain t) s mid done in
         let shape : DrainShape d.from d.to = drain_shape d.from d.to s.memory d.words d.does in
@@ -159,7 +157,7 @@ module _ (test : ProgramTest) where
 scheduled : (test : ProgramTest) (items : List Item) (order : List ℕ) (s end : MachineState (List ℕ))
     → OrderRan (system_of flat test test.head.init_words) items order s end → MachineRan flat test.threads (events_of items order) s end
 scheduled test items [] s end ran = ran
-scheduled test items (i ∷ order) s end (next, out, ran) = (next, out.done, scheduled test items order next end ran)
+scheduled test _ (i ∷ order) s end (next, out, ran) = (next, out.done, scheduled test _ order next end ran)
 
 -- an order of any items that stays on its paths replays to its outcome
 pub order_replays : (test : ProgramTest) (items : List Item) (order : List ℕ) (o : Final)
@@ -169,8 +167,8 @@ order_replays test items order o r =
 
 -- The outcomes of a well-formed test are those of its choices of paths.
 pub x86_outcomes : (test : ProgramTest) (o : Final) → IsWellFormedProgram test
-    → MachineOutcome flat test test.head.init_words o ↔
-    ((paths : List (List ℕ)) × IsChoice x86 test.threads paths × ChoiceOutcome flat test test.head.init_words paths o)
+    → MachineOutcome flat test test.head.init_words o ↔ ((paths : List (List ℕ)) × IsChoice x86 test.threads
+    paths × ChoiceOutcome flat test test.head.init_words paths o)
 x86_outcomes test o ok = (
   λ (events, r). run_of_choice x86 test.threads (system_of flat test test.head.init_words) position_of (EventDone flat test.threads) (IsSound test)
       (runs test (forward_of x86 test ok) ok) (forward_of x86 test ok) events r.end o r.ran r.final r.is,

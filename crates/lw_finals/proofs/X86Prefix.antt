@@ -16,8 +16,8 @@ use Rattle.lw_choices.proofs.api.Numbering.{number_less, same_number, beside}
 use Rattle.lw_finals.proofs.Waiting.{Climbs, climbs_in, stored, waits_after, from_after, in_after}
 use Rattle.lw_finals.proofs.Waiting.{store_after}
 
-module _ (program : List (List Instr)) (forward : (t : ℕ) → IsForward x86 (code_of program t)) (paths : List (List ℕ))
-    (choice : IsChoice x86 program paths) where
+module _ (program : List (List Instr)) (forward : (t : ℕ) → IsForward x86 (code_of program t))
+    (paths : List (List ℕ)) (choice : IsChoice x86 program paths) where
   abbrev items : List Item
   items = items_of x86 program paths
 
@@ -51,21 +51,21 @@ module _ (program : List (List Instr)) (forward : (t : ℕ) → IsForward x86 (c
 
     stand_so : (i j : ℕ) → i < length items → j < length items → (it i).thread ≡ (it j).thread
         → slot (it i) < slot (it j) → AreOrdered x86 program (it i) (it j) → Before order i j
-    stand_so i j li lj same less ordered = kept x86 program items order (threads_up x86 program paths) keeps.1 i j
-        (number_less x86 program paths forward choice i j li same less) lj same ordered
+    stand_so i j li lj same less ordered = kept x86 program items order (threads_up x86 program paths) keeps.1
+        i j (number_less x86 program paths forward choice i j li same less) lj same ordered
 
     pair_stands : (s d : ℕ) → s < length items → d < length items → (it s).thread ≡ (it d).thread → (it s).position ≡ (it d).position
         → (it s).is_drain ≡ false → (it d).is_drain ≡ true → Before order s d
-    pair_stands s d ls ld same place f g = stand_so s d ls ld same
-        (store_slot (it s).is_drain (it d).is_drain (it s).position (it d).position f g place) (λ e. absurd (true≢false (sym e ∙ f)))
+    pair_stands s d ls ld same place f g = stand_so s d ls ld same (store_slot (it s).is_drain (it d).is_drain
+        (it s).position (it d).position f g place) (λ e. absurd (true≢false (sym e ∙ f)))
 
     store_of : (d : ℕ) → d < length items → (it d).is_drain ≡ true → (s : Partner d false) × Before order s.0 d
     store_of d l f =
-        let s : Partner d false = beside x86 program paths forward choice d false l (λ e. absurd (true≢false (sym e))) in
+        let s = beside x86 program paths forward choice d false l (λ e. absurd (true≢false (sym e))) in
         (s, pair_stands s.0 d s.1 l (ap (λ (a : Item). a.thread) s.2) (ap (λ (a : Item). a.position) s.2) (ap (λ (a : Item). a.is_drain) s.2) f)
 
-    drain_of : (s x : ℕ) → s < length items → (it s).is_drain ≡ false → stored x86 (statement_of x86 program (it s)) ≡ Some x
-        → (d : Partner s true) × Before order s d.0
+    drain_of : (s x : ℕ) → s < length items → (it s).is_drain ≡ false
+        → stored x86 (statement_of x86 program (it s)) ≡ Some x → (d : Partner s true) × Before order s d.0
     drain_of s x l f e =
         let d : Partner s true = beside x86 program paths forward choice s true l (λ b. (x, sym (ap (stored x86) (real x86 program paths s l).at) ∙ e)) in
         (d, pair_stands s d.0 l d.1 (ap (λ (a : Item). a.thread) (sym d.2)) (ap (λ (a : Item). a.position) (sym d.2)) f (ap (λ (a : Item). a.is_drain) d.2))
@@ -75,9 +75,9 @@ module _ (program : List (List Instr)) (forward : (t : ℕ) → IsForward x86 (c
         → i < length items → place order i ≡ k → (it i).is_drain ≡ true → (rest : List ℕ) × (W (it i).thread ≡ (it i).position ∷ rest)
     oldest k high i W w climbs lt at f =
         let s = store_of i lt f in
-        first (W (it i).thread) climbs (λ v h. w.coming (it i).thread v h)
-        (w.waits s.0.0 i s.0.1 lt (ap (λ (a : Item). a.thread) s.0.2) (ap (λ (a : Item). a.position) s.0.2) (ap (λ (a : Item). a.is_drain) s.0.2) f
-        (omega (arith, s.1, at)) (omega (arith, at)))
+        first (W (it i).thread) climbs (λ v h. w.coming (it i).thread v h) (w.waits s.0.0 i s.0.1 lt
+            (ap (λ (a : Item). a.thread) s.0.2) (ap (λ (a : Item). a.position) s.0.2)
+            (ap (λ (a : Item). a.is_drain) s.0.2) f (omega (arith, s.1, at)) (omega (arith, at)))
       where
         first : (ws : List ℕ) → Climbs 0 ws high → ((v : ℕ) → In v ws → Coming order k (it i).thread v)
             → In (it i).position ws → (rest : List ℕ) × (ws ≡ (it i).position ∷ rest)
@@ -109,8 +109,7 @@ module _ (program : List (List Instr)) (forward : (t : ℕ) → IsForward x86 (c
               number = d.0.0;
               below = d.0.1;
               thread = ap (λ (a : Item). a.thread) d.0.2 ∙ same;
-              position = ap (λ (a : Item). a.position) d.0.2
-                  ∙ e;
+              position = ap (λ (a : Item). a.position) d.0.2 ∙ e;
               is_drain = ap (λ (a : Item). a.is_drain) d.0.2;
               later = omega (arith, d.1, at);
             })
@@ -148,5 +147,5 @@ module _ (program : List (List Instr)) (forward : (t : ℕ) → IsForward x86 (c
             → suc k ≤ place order d → In (it d).position (W (it d).thread) → In (it d).position (waits_after x86 program (it i) W (it d).thread)
         keep d ld g later h =
             in_after x86 program W (it i) high climbs head (it d).thread (it d).position h
-            (λ same f e. (let n : d ≡ i = same_number x86 program paths forward choice d i ld lt (sym same) e (g ∙ sym f) in
-            let p : place order d ≡ place order i = ap (place order) n in absurd (omega (arith, p, later, at))))
+                (λ same f e. (let n = same_number x86 _ _ forward choice d i ld lt (sym same) e (g ∙ sym f) in
+            let p = ap (place order) n in absurd (omega (arith, p, later, at))))

@@ -22,8 +22,8 @@ use Rattle.lw_finals.specs.X86Runs.{event_by, event_of, CarriedOut, system_of, S
 use Rattle.lw_finals.proofs.OrderSteps.{RanFirst, ran_off, ran_on}
 
 -- a thread that is at a position stands where an item of its statements is exactly where that is the item's
-pub item_stands : {M : Type 0} (a : Item) (s : MachineState M) (p q : ℕ) → a.is_drain ≡ false → q ≡ a.position → position_of s a.thread ≡ Some p
-    → IsTrue (p == q) ↔ StandsAt (event_of a) a.position s
+pub item_stands : {M : Type 0} (a : Item) (s : MachineState M) (p q : ℕ) → a.is_drain ≡ false → q ≡ a.position
+    → position_of s a.thread ≡ Some p → IsTrue (p == q) ↔ StandsAt (event_of a) a.position s
 item_stands a s p q step same at =
     subst (λ (d : Bool). IsTrue (p == q) ↔ StandsAt (event_by d a.thread) a.position s) (sym step)
     ((λ t. at ∙ ap Some (eqb-true p q t ∙ same)), (λ h. eq-eqb p q (same_Some p a.position (sym at ∙ h) ∙ sym same)))
@@ -40,9 +40,10 @@ module _ {M : Type 0} (mem : Memory M) where
   stands_flat false t j s = ((λ h. h), (λ h. h))
 
   -- the memory on which a machine was put back to the start of the test
-  pub can_start : (test : ProgramTest) (m : M) (inv : Invariant M) {program threads : List (List Instr)} {words : List ℕ}
-      → inv.sound m → length program ≤ inv.cpus m → mem.content m ≡ words → program ≡ threads → threads ≡ test.threads → words ≡ test.head.init_words
-      → CanStart mem inv test m
+  pub can_start : (test : ProgramTest) (m : M) (inv : Invariant M) {program threads : List (List Instr)}
+      {words : List ℕ}
+      → inv.sound m → length program ≤ inv.cpus m → mem.content m ≡ words → program ≡ threads
+      → threads ≡ test.threads → words ≡ test.head.init_words → CanStart mem inv test m
   can_start test m inv sound cpus content same is initial =
       record { sound = sound; cpus = subst (λ (p : List (List Instr)). length p ≤ inv.cpus m) (same ∙ is) cpus; words = content ∙ initial }
 
@@ -78,9 +79,9 @@ module _ {M : Type 0} (mem : Memory M) where
             events = r.events ++ event_of item ∷ [];
             reached = Ran-append (EventDone mem test.threads) r.events
                 (event_of item ∷ []) (machine_start test m) now next r.reached (next, carried.done, refl);
-            first = ran_on (system_of flat test test.head.init_words) items order k n d item (flatten mem now) (flatten mem next) l is there reads
-                (record { stands = (stands_flat item.is_drain item.thread item.position now).0 carried.stands; done = done })
-                (λ other c. (event_once test.threads (event_of item) (flatten mem now) other (flatten mem next) (Ok tt) (Ok tt) c.done done).1) r.first;
+            first = ran_on _ _ _ k n d item _ _ l is there reads (record { stands = (stands_flat _ item.thread
+                item.position now).0 carried.stands; done = done }) (λ other c. (event_once test.threads
+                (event_of item) (flatten mem now) other _ (Ok tt) (Ok tt) c.done done).1) r.first;
           }
 
       -- an item that is not carried out
@@ -89,12 +90,11 @@ module _ {M : Type 0} (mem : Memory M) where
           → RanFlat order k now → (StandsAt (event_of item) item.position now → (stop : Stop) × EventDone mem test.threads (event_of item) now (Err stop) after)
           → (o : Final) → StaysAndEnds flat test test.head.init_words items order o → ⊥
       left_off {order} {k} {n} d item {now} after l is there reads r refused o run =
-          ran_off (system_of flat test test.head.init_words) items order k n d item (flatten mem now) l is there reads none r.first run.end run.ran
+          ran_off _ items order k n d item (flatten mem now) l is there reads none r.first run.end run.ran
         where
           none : (next : MachineState (List ℕ)) → CarriedOut flat test.threads item (flatten mem now) next → ⊥
           none next c =
               let no = refused ((stands_flat item.is_drain item.thread item.position now).1 c.stands) in
               let done = done_flat order k item now after (Err no.0) r no.1 in
-              let same : Ok tt ≡ Err no.0 = (event_once test.threads (event_of item)
-              (flatten mem now) next (flatten mem after) (Ok tt) (Err no.0) c.done done).0 in
+              let same = (event_once _ (event_of item) (flatten mem now) next _ (Ok tt) _ c.done done).0 in
               cc

@@ -14,7 +14,7 @@ use Rattle.lw_litmus.specs.declared.instr.Instr.{Instr}
 use Rattle.lw_litmus.specs.declared.operation.Operation.{Operation}
 use Rattle.lw_litmus.specs.declared.operation.Operation.TheVariants.{Store, Load}
 use Rattle.lw_litmus.specs.Conflicts.{is_one}
-use Rattle.lw_litmus.specs.Operations.{is_store, is_locked, location_of, writes, waits}
+use Rattle.lw_litmus.specs.Operations.{is_store, location_of, writes, waits}
 use Rattle.lw_litmus.specs.Programs.{x86_operation, x86}
 use Rattle.lw_choices.specs.declared.item.Item.{Item}
 use Rattle.lw_choices.specs.Items.{drains, statement_of, location_by, writes_by, conflict_by, items_conflict}
@@ -38,7 +38,7 @@ step_touches : (o : Operation) (q : Processor) (z : ℕ) → machine.accessed (o
     → (by_itself o ≡ Some z) × (machine.event_writes (operation_act o q) ≡ true → writes o ≡ true)
 step_touches o q z e =
     let found = operation_accessed o q z e in
-    (cond-false (is_store o) None (location_of o) (no_store o q z e) ∙ found.0, λ w. or_right (is_store o) (is_locked o) (found.1 ∙ w))
+    (cond-false (is_store o) None _ (no_store o q z e) ∙ found.0, λ w. or_right (is_store o) _ (found.1 ∙ w))
 
 -- the oldest entry is of the store that has waited longest
 oldest_entry : (code : List Instr) (k : ℕ) (ws : List ℕ) (b : List (ℕ × ℕ)) (h : Instr)
@@ -63,13 +63,13 @@ touches program t j i s mid W at hold true c head z e =
       λ f. refl,
     )
 touches program t j i s mid W at hold false c head z e =
-    let here : slice_get (code_of program t) c.old.position ≡ Some i = ap (λ k. slice_get (code_of program t) k) (c.stands refl) ∙ at in
-    let r = step_touches (x86_operation i) c.old z (ap (λ o. machine.accessed (step_act o c.old)) (sym here) ∙ e) in
+    let here = ap (λ k. slice_get (code_of program t) k) (c.stands refl) ∙ at in
+    let r = step_touches _ c.old z (ap (λ o. machine.accessed (step_act o c.old)) (sym here) ∙ e) in
     (r.0, λ f. r.1 (ap (λ o. machine.event_writes (step_act o c.old)) (sym here) ∙ f))
 
 -- items on one location of which one writes conflict
-conflicting : (b c : Bool) (i h : Instr) (z : ℕ) → location_by x86 b i ≡ Some z → location_by x86 c h ≡ Some z → (writes_by x86 b i || writes_by x86 c h) ≡ true
-    → conflict_by x86 b c (Some i) (Some h) ≡ true
+conflicting : (b c : Bool) (i h : Instr) (z : ℕ) → location_by x86 b i ≡ Some z → location_by x86 c h ≡ Some z
+    → (writes_by x86 b i || writes_by x86 c h) ≡ true → conflict_by x86 b c (Some i) (Some h) ≡ true
 conflicting b c i h z e f w =
     and_from (is_one (location_by x86 b i) (location_by x86 c h)) (writes_by x86 b i || writes_by x86 c h)
     (ap (λ o. is_one o (location_by x86 c h)) e ∙ (ap (λ o. is_one (Some z) o) f ∙ eq-eqb z z refl)) w
@@ -104,10 +104,12 @@ module _ (program : List (List Instr)) (W : ℕ → List ℕ) (s m1 m2 : Machine
   full_empty b e newer f g = cc
 
   -- of one thread
-  passing : (t j k : ℕ) (i h : Instr) (o : Option ℕ) (b c : Bool) → slice_get (code_of program t) j ≡ Some i → slice_get (code_of program t) k ≡ Some h
-      → (b ≡ true → (rest : List ℕ) × (W t ≡ j ∷ rest)) → (c ≡ true → (rest : List ℕ) × (own_waits b o j (W t) ≡ k ∷ rest))
+  passing : (t j k : ℕ) (i h : Instr) (o : Option ℕ) (b c : Bool) → slice_get (code_of program t) j ≡ Some i
+      → slice_get (code_of program t) k ≡ Some h → (b ≡ true → (rest : List ℕ) × (W t ≡ j ∷ rest))
+      → (c ≡ true → (rest : List ℕ) × (own_waits b o j (W t) ≡ k ∷ rest))
       → (conflict_by x86 b c (Some i) (Some h) ≡ true → ⊥) → Unfixed b c h j k
-      → (x : Carried program t j b s m1) → Carried program t k c m1 m2 → ArePassing program (event_by b t) (event_by c t) x.old
+      → (x : Carried program t j b s m1) → Carried program t k c m1 m2
+      → ArePassing program (event_by b t) (event_by c t) x.old
   passing t j k i h o false true ati ath headx heady never free x y =
       let here : slice_get (code_of program t) x.old.position ≡ Some i = ap (λ n. slice_get (code_of program t) n) (x.stands refl) ∙ ati in
       let shape : Went (x86_operation i) x.old x.new = went program t j i s m1 x ati in
@@ -126,16 +128,17 @@ module _ (program : List (List Instr)) (W : ℕ → List ℕ) (s m1 m2 : Machine
       let g = hold t x.old x.was in
       let f = oldest_entry (code_of program t) j a.0 x.old.buffer i (subst (λ ws. Waits (code_of program t) ws x.old.buffer) a.1 g.waits) ati in
       let at : x.old.position ≡ k = old_position in
-      let less = climbs_in 0 x.old.position j (j ∷ a.0) (subst (λ ws. Climbs 0 ws x.old.position) a.1 g.climbs) (inl refl) in
-      passes_oldest x.old.buffer (slice_get (code_of program t) x.old.position) f.0 f.1 h f.2 (ap (λ n. slice_get (code_of program t) n) at ∙ ath)
-      (passes f.0.0 (x86_operation h) (λ w. free.no_wait refl refl (omega (arith, less.1, at)) w) (λ e. never (conflicting true false i h f.0.0 f.3 e refl)))
+      let less = climbs_in 0 x.old.position j (j ∷ a.0) (rw a.1 at g.climbs) (inl refl) in
+      passes_oldest x.old.buffer (slice_get (code_of program t) x.old.position) f.0 f.1 h f.2
+          (ap (λ n. slice_get (code_of program t) n) at ∙ ath) (passes f.0.0 _ (λ w. free.no_wait refl refl
+          (omega (arith, less.1, at)) w) (λ e. never (conflicting true false i h f.0.0 f.3 e refl)))
     where
       old_position : x.old.position ≡ k
       old_position =
           let d : DrainShape x.old x.new = drain_shape x.old x.new s.memory x.words x.does in
-          let same : x.new ≡ y.old = same_Some x.new y.old
-          (sym (ap (λ (z : MachineState (List ℕ)). slice_get z.processors t) x.is ∙ got_set_same s.processors t x.new x.old x.was) ∙ y.was) in
-          ap (λ (z : Processor). z.position) (sym d.is) ∙ (ap (λ (z : Processor). z.position) same ∙ y.stands refl)
+          let same : x.new ≡ y.old = same_Some x.new y.old (sym (ap (λ (z : MachineState (List ℕ)). slice_get
+              z.processors t) x.is ∙ got_set_same s.processors t x.new x.old x.was) ∙ y.was) in
+          ap (λ (z : Processor). z.position) (sym d.is) ∙ (ap (λ z. z.position) same ∙ y.stands refl)
   passing t j k i h o _ _ ati ath headx heady never free x y = absurd (free.unlike refl)
 
   -- of two threads
@@ -150,10 +153,10 @@ module _ (program : List (List Instr)) (W : ℕ → List ℕ) (s m1 m2 : Machine
       same_Some y.old q (sym y.was ∙ (ap (λ (z : MachineState (List ℕ)). slice_get z.processors u) x.is ∙ (got_set_other s.processors t u x.new ne ∙ f))) in
       let one = touches program t j i s m1 W ati hold b x headx z (ap (λ r. machine.accessed (act_by program t b r)) xs ∙ az) in
       let two = touches program u k h m1 m2 V ath hold1 c y heady z (ap (λ r. machine.accessed (act_by program u c r)) ys ∙ bz) in (
-        false_from_ne_true (machine.event_writes (act_by program t b p)) (λ w. never (conflicting b c i h z one.0 two.0
-            (or_left (writes_by x86 b i) (writes_by x86 c h) (one.1 (ap (λ r. machine.event_writes (act_by program t b r)) xs ∙ w))))),
-        false_from_ne_true (machine.event_writes (act_by program u c q)) (λ w. never (conflicting b c i h z one.0 two.0
-            (or_right (writes_by x86 b i) (writes_by x86 c h) (two.1 (ap (λ r. machine.event_writes (act_by program u c r)) ys ∙ w))))),
+        false_from_ne_true _ (λ w. never (conflicting b c i h z one.0 two.0 (or_left (writes_by x86 b i)
+            (writes_by x86 c h) (one.1 (ap (λ r. machine.event_writes (act_by program t b r)) xs ∙ w))))),
+        false_from_ne_true _ (λ w. never (conflicting b c i h z one.0 two.0 (or_right (writes_by x86 b i)
+            (writes_by x86 c h) (two.1 (ap (λ r. machine.event_writes (act_by program u c r)) ys ∙ w))))),
       )
 
   act_is : (locs t : ℕ) (b : Bool) (p : Processor) → event_act program locs (event_by b t) p ≡ act_by program t b p
@@ -171,23 +174,25 @@ module _ (program : List (List Instr)) (W : ℕ → List ℕ) (s m1 m2 : Machine
       → (items_conflict x86 program a b ≡ true → ⊥) → (a.thread ≡ b.thread → Unfixed a.is_drain b.is_drain h a.position b.position)
       → CarriedItem program a s m1 → CarriedItem program b m1 m2 → AreIndependent program (event_of a) (event_of b) s
   independent a b i h ati ath hold1 heada headb free unfixed x y = record {
-    of_two = λ ne p q e f.
-        (let threads : a.thread ≢ b.thread = λ same. ne (cpu_is a.is_drain a.thread ∙ (same ∙ sym (cpu_is b.is_drain b.thread))) in
+    of_two = λ ne p q e f. (let threads : a.thread ≢ b.thread = λ same. ne (cpu_is a.is_drain a.thread
+        ∙ (same ∙ sym (cpu_is b.is_drain b.thread))) in
         let e' : slice_get s.processors a.thread ≡ Some p = ap (slice_get s.processors) (sym (cpu_is a.is_drain a.thread)) ∙ e in
         let f' : slice_get s.processors b.thread ≡ Some q = ap (slice_get s.processors) (sym (cpu_is b.is_drain b.thread)) ∙ f in
-        subst (λ act. DoNotConflict act (event_act program (length s.memory) (event_of b) q)) (sym (act_is (length s.memory) a.thread a.is_drain p))
-        (subst (λ act. DoNotConflict (act_by program a.thread a.is_drain p) act) (sym (act_is (length s.memory) b.thread b.is_drain q))
-        (apart a.thread b.thread a.position b.position i h a.is_drain b.is_drain
-        (waits_after x86 program a W) threads ati ath hold1 heada headb never x y p q e' f')));
-    of_one = λ same p e.
-        (let one : a.thread ≡ b.thread = sym (cpu_is a.is_drain a.thread) ∙ (same ∙ cpu_is b.is_drain b.thread) in
+        subst (λ act. DoNotConflict act (event_act program (length s.memory) (event_of b) q))
+            (sym (act_is (length s.memory) a.thread a.is_drain p)) (subst (λ act. DoNotConflict
+            (act_by program a.thread a.is_drain p) act) (sym (act_is (length s.memory) b.thread b.is_drain q))
+            (apart a.thread b.thread a.position b.position i h a.is_drain b.is_drain (waits_after x86 program
+            a W) threads ati ath hold1 heada headb never x y p q e' f')));
+    of_one = λ same p e. (let one : a.thread ≡ b.thread = sym (cpu_is a.is_drain a.thread)
+        ∙ (same ∙ cpu_is b.is_drain b.thread) in
         let is : x.old ≡ p = same_Some x.old p (sym x.was ∙ (ap (slice_get s.processors) (sym (cpu_is a.is_drain a.thread)) ∙ e)) in
         subst (λ u. ArePassing program (event_of a) (event_by b.is_drain u) p) one
-        (subst (λ r. ArePassing program (event_of a) (event_by b.is_drain a.thread) r) is
-        (passing a.thread a.position b.position i h (stored x86 (statement_of x86 program a)) a.is_drain b.is_drain ati
-        (subst (λ u. slice_get (code_of program u) b.position ≡ Some h) (sym one) ath) heada
-        (λ f. (let r = headb f in (r.0, sym (waits_same x86 program a W a.thread refl) ∙ (ap (waits_after x86 program a W) one ∙ r.1))))
-        never (unfixed one) x (subst (λ u. Carried program u b.position b.is_drain m1 m2) (sym one) y))));
+            (subst (λ r. ArePassing program (event_of a) (event_by b.is_drain a.thread) r) is
+            (passing a.thread a.position b.position i h (stored x86 (statement_of x86 program a)) a.is_drain
+            b.is_drain ati (subst (λ u. slice_get (code_of program u) b.position ≡ Some h) (sym one) ath)
+            heada (λ f. (let r = headb f in (r.0, sym (waits_same x86 program a W a.thread refl)
+            ∙ (ap (waits_after x86 program a W) one ∙ r.1)))) never (unfixed one) x
+            (subst (λ u. Carried program u b.position b.is_drain m1 m2) (sym one) y))));
   }
     where
       never : conflict_by x86 a.is_drain b.is_drain (Some i) (Some h) ≡ true → ⊥

@@ -11,7 +11,7 @@ use Rattle.lw_memory.specs.Flat.{flat}
 use Rattle.lw_litmus.specs.declared.operation.Operation.{Operation}
 use Rattle.lw_litmus.specs.declared.instr.Instr.{Instr}
 use Rattle.lw_litmus.specs.Flow.{Follows}
-use Rattle.lw_litmus.specs.Operations.{is_store, location_of, Leads}
+use Rattle.lw_litmus.specs.Operations.{is_store, location_of}
 use Rattle.lw_litmus.specs.Programs.{x86_operation, x86}
 use Rattle.lw_litmus.specs.Tests.{ProgramTest}
 use Rattle.lw_tso.specs.Acts.{Act, step_act, drain_act}
@@ -58,14 +58,13 @@ carried program t j false s mid d =
       new = x.to;
       words = x.words;
       was = x.was;
-      stands = λ f. same_Some x.from.position j
-          (sym (at x.from x.was) ∙ d.stands);
+      stands = λ f. same_Some x.from.position j (sym (at x.from x.was) ∙ d.stands);
       does = x.does;
       is = x.is;
     }
   where
     at : (p : Processor) → slice_get s.processors t ≡ Some p → slice_get (map (λ (q : Processor). q.position) s.processors) t ≡ Some p.position
-    at p was = slice_get-map (λ (q : Processor). q.position) s.processors t ∙ ap (option_map (λ (q : Processor). q.position)) was
+    at p was = slice_get-map _ s.processors t ∙ ap (option_map (λ (q : Processor). q.position)) was
 
 abbrev pub CarriedItem : List (List Instr) → Item → MachineState (List ℕ) → MachineState (List ℕ) → Type 0
 CarriedItem program a s mid = Carried program a.thread a.position a.is_drain s mid
@@ -135,8 +134,8 @@ module _ (program : List (List Instr)) where
   pub went : (t j : ℕ) (i : Instr) (s mid : MachineState (List ℕ)) (c : Carried program t j false s mid)
       → slice_get (code_of program t) j ≡ Some i → Went (x86_operation i) c.old c.new
   went t j i s mid c at =
-      let here : slice_get (code_of program t) c.old.position ≡ Some i = ap (λ k. slice_get (code_of program t) k) (c.stands refl) ∙ at in
-      operation_does (x86_operation i) c.old c.new s.memory c.words (subst (λ o. Does s.memory (step_act o c.old) c.new c.words) here c.does)
+      let here = ap (λ k. slice_get (code_of program t) k) (c.stands refl) ∙ at in
+      operation_does _ _ c.new _ _ (subst (λ o. Does s.memory (step_act o c.old) c.new c.words) here c.does)
 
   module _ (forward : (t : ℕ) → IsForward x86 (code_of program t)) where
     -- what an item that was carried out leaves at its processor
@@ -154,7 +153,7 @@ module _ (program : List (List Instr)) where
         let a : Went (x86_operation i) c.old c.new = went t j i s mid c at in
         let there : c.old.position ≡ j = c.stands refl in
         let lt = follows_within x86 (code_of program t) j c.new.position (forward t)
-        (subst (λ (o : Option Instr). Follows x86 o j c.new.position) (sym at) (subst (λ k. Leads (x86_operation i) k c.new.position) there a.leads)) in
+            (subst (λ (o : Option Instr). Follows x86 o j c.new.position) (sym at) (rw there at a.leads)) in
         record {
           waits = stepped_waits (code_of program t) (x86_operation i) ws c.old.buffer c.new.buffer j h.waits (ap (stored x86) at) a.buffers;
           climbs = own_climbs false (drains x86 i) ws j c.old.position c.new.position

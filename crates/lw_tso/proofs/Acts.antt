@@ -5,14 +5,14 @@ use Rattle.std.proofs.Common.{ap, ◌∙◌, subst, slice_get, slice_set, length
 use Rattle.lw_base.specs.declared.event.Event.{Event}
 use Rattle.lw_base.specs.declared.stop.Stop.{Stop}
 use Rattle.lw_memory.specs.declared.system.Request.{Request}
-use Rattle.lw_memory.specs.declared.system.Request.TheVariants.{Load, Store, Swap, FetchAdd, Evict}
+use Rattle.lw_memory.specs.declared.system.Request.TheVariants.{Store, Swap, FetchAdd}
 use Rattle.lw_memory.specs.Content.{content_after}
-use Rattle.lw_memory.specs.Memory.{Memory, is_held}
+use Rattle.lw_memory.specs.Memory.{Memory}
 use Rattle.lw_memory.specs.MemoryLaws.{Lawful, Served, Invariant}
 use Rattle.lw_base.proofs.api.Lists.{set_own}
 use Rattle.lw_litmus.specs.declared.instr.Instr.{Instr}
 use Rattle.lw_tso.specs.Processors.{Processor}
-use Rattle.lw_tso.specs.Acts.{Act, Refused, Goes, Loads, Stores, Swaps, Adds, Evicts, cpu_of, event_act}
+use Rattle.lw_tso.specs.Acts.{Act, Refused, Goes, Loads, Stores, Swaps, Adds, Evicts, cpu_of}
 use Rattle.lw_tso.specs.Machines.{MachineState, Answer, ActDone, EvictionDone, DoneBy, EventDone}
 use Rattle.lw_tso.specs.Runs.{Running}
 
@@ -29,59 +29,57 @@ module _ {M : Type 0} (mem : Memory M) (inv : Invariant M) where
     pub locations : length (mem.content n) ≡ length (mem.content m)
     pub sound : inv.sound n
 
-  unchanged : (m n : M) → inv.sound m → n ≡ m → IsKept m n
-  unchanged m n sound same =
+  unchanged : {m n : M} → inv.sound m → n ≡ m → IsKept m n
+  unchanged sound same =
       record {
         cpus = ap inv.cpus same;
         locations = ap (λ (l : M). length (mem.content l)) same;
         sound = subst inv.sound (sym same) sound;
       }
 
-  served : Lawful mem inv → (m n : M) (r : Request) (a : Option ℕ) → inv.sound m → mem.serves m r a n → IsKept m n
-  served laws m n r a sound serves =
+  served : Lawful mem inv → (m n : M) {r : Request} {a : Option ℕ} → inv.sound m → mem.serves m r a n → IsKept m n
+  served laws m n {r = r} {a = a} sound serves =
       let s : Served mem inv m r a n = laws.served m r a n sound serves in
       record { cpus = s.cpus; locations = ap length s.content ∙ length-content_after (mem.content m) r; sound = s.sound }
 
-  evicted : Lawful mem inv → (held : Bool) (t x : ℕ) (p q : Processor) (m n : M) (answer : Answer) → inv.sound m
-      → EvictionDone mem held t x p m answer q n → IsKept m n
-  evicted laws false t x p q m n answer sound done = unchanged m n sound done.2
-  evicted laws true t x p q m n answer sound done = served laws m n (Evict t x) None sound done.2
+  evicted : Lawful mem inv → (held : Bool) (t x : ℕ) (p q : Processor) (m n : M) (answer : Answer)
+      → inv.sound m → EvictionDone mem held t x p m answer q n → IsKept m n
+  evicted laws false t x p q m n answer sound done = unchanged sound done.2
+  evicted laws true t x p q m n answer sound done = served laws m n sound done.2
 
   -- an act keeps the memory's size
-  pub act_kept : Lawful mem inv → (t : ℕ) (act : Act) (p q : Processor) (m n : M) (answer : Answer) → inv.sound m → ActDone mem t act p m answer q n
-      → IsKept m n
-  act_kept laws t (Loads x next) p q m n answer sound done = served laws m n (Load t x) (Some done.0) sound done.3
-  act_kept laws t (Stores x w next) p q m n answer sound done = served laws m n (Store t x w) None sound done.2
-  act_kept laws t (Swaps x v next) p q m n answer sound done = served laws m n (Swap t x v) (Some done.0) sound done.3
-  act_kept laws t (Adds x v next) p q m n answer sound done = served laws m n (FetchAdd t x v) (Some done.0) sound done.3
-  act_kept laws t (Evicts x) p q m n answer sound done = evicted laws (is_held (mem.state m t x)) t x p q m n answer sound done
-  act_kept laws t _ p q m n answer sound done = unchanged m n sound done.2
+  pub act_kept : Lawful mem inv → (t : ℕ) (act : Act) (p q : Processor) (m n : M) (answer : Answer)
+      → inv.sound m → ActDone mem t act p m answer q n → IsKept m n
+  act_kept laws t (Loads x next) p q m n answer sound done = served laws m n sound done.3
+  act_kept laws t (Stores x w next) p q m n answer sound done = served laws m n sound done.2
+  act_kept laws t (Swaps x v next) p q m n answer sound done = served laws m n sound done.3
+  act_kept laws t (Adds x v next) p q m n answer sound done = served laws m n sound done.3
+  act_kept laws t (Evicts x) p q m n answer sound done = evicted laws _ t x p q m n answer sound done
+  act_kept laws t _ p q m n answer sound done = unchanged sound done.2
 
   eviction_refused : (held : Bool) (t x : ℕ) (p q : Processor) (m n : M) (stop : Stop) → EvictionDone mem held t x p m (Err stop) q n → (q ≡ p) × (n ≡ m)
   eviction_refused false t x p q m n stop done = (done.1, done.2)
-  eviction_refused true t x p q m n stop done = absurd (let e : ◌≡◌ {A = Answer} (Err stop) (Ok tt) = done.0 in cc)
+  eviction_refused true t x p q m n stop done = absurd (let e = done.0 in cc)
 
   -- a refused act changes nothing
   pub act_refused : (t : ℕ) (act : Act) (p q : Processor) (m n : M) (stop : Stop) → ActDone mem t act p m (Err stop) q n → (q ≡ p) × (n ≡ m)
   act_refused t (Refused stop') p q m n stop done = (done.1, done.2)
-  act_refused t (Goes next) p q m n stop done = absurd (let e : ◌≡◌ {A = Answer} (Err stop) (Ok tt) = done.0 in cc)
-  act_refused t (Stores x w next) p q m n stop done = absurd (let e : ◌≡◌ {A = Answer} (Err stop) (Ok tt) = done.0 in cc)
-  act_refused t (Evicts x) p q m n stop done = eviction_refused (is_held (mem.state m t x)) t x p q m n stop done
+  act_refused t (Goes next) p q m n stop done = absurd (let e = done.0 in cc)
+  act_refused t (Stores x w next) p q m n stop done = absurd (let e = done.0 in cc)
+  act_refused t (Evicts x) p q m n stop done = eviction_refused _ t x p q m n stop done
   act_refused t _ p q m n stop done = absurd (let e : ◌≡◌ {A = Answer} (Err stop) (Ok tt) = done.1 in cc)
 
   -- a refused event changes nothing
-  pub event_refused : (program : List (List Instr)) (e : Event) (s after : MachineState M) (stop : Stop) → EventDone mem program e s (Err stop) after
-      → after ≡ s
+  pub event_refused : (program : List (List Instr)) (e : Event) (s after : MachineState M) (stop : Stop)
+      → EventDone mem program e s (Err stop) after → after ≡ s
   event_refused program e s after stop = go (slice_get s.processors (cpu_of e)) refl
     where
       go : (o : Option Processor) → slice_get s.processors (cpu_of e) ≡ o → DoneBy mem o program e s (Err stop) after → after ≡ s
       go None at done = done.1
       go (Some p) at done =
-          let same = act_refused (cpu_of e) (event_act program (length (mem.content s.memory)) e p) p done.0 s.memory done.1 stop done.2 in
-          let processors : slice_set s.processors (cpu_of e) done.0 ≡ s.processors = ap (slice_set s.processors (cpu_of e)) same.0
-          ∙ set_own s.processors (cpu_of e) p at in
-          let left : after ≡ s = done.3 ∙ rw (processors, same.1) refl in
-          left
+          let same = act_refused (cpu_of e) _ p done.0 s.memory done.1 stop done.2 in
+          let processors = ap (slice_set s.processors (cpu_of e)) same.0 ∙ set_own _ (cpu_of e) p at in
+          done.3 ∙ rw (processors, same.1) refl
 
   -- as many processors and locations, over a sound memory
   pub record IsSameSize (s end : MachineState M) : Type 0 where
@@ -96,7 +94,7 @@ module _ {M : Type 0} (mem : Memory M) (inv : Invariant M) where
       go : (o : Option Processor) → DoneBy mem o program e s answer after → IsSameSize s after
       go None done = subst (IsSameSize s) (sym done.1) (record { processors = refl; locations = refl; sound = sound })
       go (Some p) done =
-          let kept = act_kept laws (cpu_of e) (event_act program (length (mem.content s.memory)) e p) p done.0 s.memory done.1 answer sound done.2 in
+          let kept = act_kept laws (cpu_of e) _ p done.0 s.memory done.1 answer sound done.2 in
           subst (IsSameSize s) (sym done.3) (record { processors = length-set s.processors (cpu_of e) done.0; locations = kept.locations; sound = kept.sound })
 
   -- what an event leaves of a running machine
@@ -105,8 +103,8 @@ module _ {M : Type 0} (mem : Memory M) (inv : Invariant M) where
     pub processors : length after.state.processors ≡ length before.state.processors
     pub words : length (mem.content after.state.memory) ≡ length (mem.content before.state.memory)
 
-  pub left : Lawful mem inv → (e : Event) (before after : Running M) (answer : Answer) → inv.sound before.state.memory → after.program ≡ before.program
-      → after.initial ≡ before.initial
+  pub left : Lawful mem inv → (e : Event) (before after : Running M) (answer : Answer)
+      → inv.sound before.state.memory → after.program ≡ before.program → after.initial ≡ before.initial
       → EventDone mem before.program e before.state answer after.state → IsLeft before answer after
   left laws e before after answer sound program initial done =
       let kept = event_kept laws before.program e before.state after.state answer sound done in
@@ -115,7 +113,7 @@ module _ {M : Type 0} (mem : Memory M) (inv : Invariant M) where
       go : (a : Answer) → EventDone mem before.program e before.state a after.state → OnErr a (after ≡ before)
       go (Ok u) done = tt
       go (Err stop) done =
-          let same = event_refused before.program e before.state after.state stop done in
           let running : (let r : Running M = record { program = after.program; initial = after.initial; state = after.state } in r) ≡ record
-          { program = before.program; initial = before.initial; state = before.state } = rw (program, initial, same) refl in
+          { program = before.program; initial = before.initial; state = before.state } = rw (program, initial,
+              (event_refused before.program e before.state after.state stop done)) refl in
           running

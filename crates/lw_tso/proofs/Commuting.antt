@@ -16,8 +16,8 @@ use Rattle.lw_tso.proofs.api.Effects.{Does}
 -- ---- two acts
 
 -- a word that an act doesn't write stays
-word_kept : (act : Act) (m n : List ℕ) (q : Processor) (x : ℕ) → Does m act q n → (accessed act ≡ Some x → event_writes act ≡ false)
-    → slice_index n x ≡ slice_index m x
+word_kept : (act : Act) (m n : List ℕ) (q : Processor) (x : ℕ) → Does m act q n
+    → (accessed act ≡ Some x → event_writes act ≡ false) → slice_index n x ≡ slice_index m x
 word_kept (Goes next) m n q x d free = ap (λ k. slice_index k x) d.1
 word_kept (Loads y next) m n q x d free = ap (λ k. slice_index k x) d.1
 word_kept (Stores y w next) m n q x d free = ap (λ k. slice_index k x) d.1 ∙ get_or-set_other m y x _ 0 (λ e. true≢false (free (ap Some (sym e))))
@@ -26,26 +26,25 @@ word_kept (Adds y v next) m n q x d free = ap (λ k. slice_index k x) d.1 ∙ ge
 word_kept _ m n q x d free = absurd d
 
 -- an act does the same where a word that it doesn't access is another
-does_beside : (act : Act) (m n : List ℕ) (q : Processor) (x w : ℕ) → Does m act q n → (accessed act ≡ Some x → ⊥)
-    → Does (slice_set m x w) act q (slice_set n x w)
+does_beside : (act : Act) (m n : List ℕ) (q : Processor) (x w : ℕ) → Does m act q n
+    → (accessed act ≡ Some x → ⊥) → Does (slice_set m x w) act q (slice_set n x w)
 does_beside (Goes next) m n q x w d free = (d.0, ap (λ k. slice_set k x w) d.1)
 does_beside (Loads y next) m n q x w d free =
-    let same : slice_index (slice_set m x w) y ≡ slice_index m y = get_or-set_other m x y w 0 (λ e. free (ap Some e)) in
-    (d.0 ∙ ap next (sym same), ap (λ k. slice_set k x w) d.1)
+    (d.0 ∙ ap next (sym (get_or-set_other m x y w 0 (λ e. free (ap Some e)))), ap (λ k. slice_set k x w) d.1)
 does_beside (Stores y v next) m n q x w d free = (d.0, ap (λ k. slice_set k x w) d.1 ∙ set_comm m y x v w (λ e. free (ap Some e)))
 does_beside (Swaps y v next) m n q x w d free =
-    let same : slice_index (slice_set m x w) y ≡ slice_index m y = get_or-set_other m x y w 0 (λ e. free (ap Some e)) in
+    let same = get_or-set_other m x y w 0 (λ e. free (ap Some e)) in
     (d.0 ∙ ap next (sym same), ap (λ k. slice_set k x w) d.1 ∙ set_comm m y x v w (λ e. free (ap Some e)))
 does_beside (Adds y v next) m n q x w d free =
-    let same : slice_index (slice_set m x w) y ≡ slice_index m y = get_or-set_other m x y w 0 (λ e. free (ap Some e)) in (
+    let same = get_or-set_other m x y w 0 (λ e. free (ap Some e)) in (
       d.0 ∙ ap next (sym same),
       ap (λ k. slice_set k x w) d.1 ∙ set_comm m y x _ w (λ e. free (ap Some e)) ∙ ap (λ k. slice_set (slice_set m x w) y (sum_of k v)) (sym same),
     )
 does_beside _ m n q x w d free = absurd d
 
 -- acts that do not conflict, the other way round
-pub acts_exchange : (a b : Act) (m n k : List ℕ) (p q : Processor) → DoNotConflict a b → Does m a p n → Does n b q k
-    → (j : List ℕ) × Does m b q j × Does j a p k
+pub acts_exchange : (a b : Act) (m n k : List ℕ) (p q : Processor) → DoNotConflict a b → Does m a p n
+    → Does n b q k → (j : List ℕ) × Does m b q j × Does j a p k
 acts_exchange a (Goes next) m n k p q free d e = (m, (e.0, refl), subst (Does m a p) (sym e.1) d)
 acts_exchange a (Loads x next) m n k p q free d e =
     let same = word_kept a m n p x d (λ at. (free x at refl).0) in
@@ -112,11 +111,11 @@ load_alone : (entry : ℕ × ℕ) (o : Option ℕ) (here : Bool) (y : ℕ) (next
     → LeavesAlone entry (load_act o y next) (load_act (option_or o (if here then Some entry.1 else None)) y (λ w. with_oldest entry (next w)))
 load_alone entry (Some w) here y next not ne = alone entry (next w)
 load_alone entry None true y next not ne = absurd (true≢false not)
-load_alone entry None false y next not ne = record { same = refl; free = λ e. ne (sym (same_Some y entry.0 e)) }
+load_alone entry None _ y next not ne = record { same = refl; free = λ e. ne (sym (same_Some y entry.0 e)) }
 
 pub operation_alone : (entry : ℕ × ℕ) (o : Operation) (p : Processor) → MayPass entry.0 o
     → LeavesAlone entry (operation_act o p) (operation_act o (with_oldest entry p))
-operation_alone entry (Load d y) p may = load_alone entry (newest p.buffer y) (entry.0 == y) y _ (ne_eqb entry.0 y may) may
+operation_alone entry (Load d y) p may = load_alone entry (newest p.buffer y) _ y _ (ne_eqb entry.0 y may) may
 operation_alone entry (Swap d y a) p may = absurd (true≢false may)
 operation_alone entry (FetchAdd d y v) p may = absurd (true≢false may)
 operation_alone entry Fence p may = absurd (true≢false may)

@@ -1,5 +1,5 @@
 -- A run over a memory that keeps the laws is, evictions left out, a run over the flat one.
-use Rattle.std.proofs.Common.{◌≡◌, ℕ, Bool, true, false, nat_lt, if◌then◌else◌, List, [], ◌∷◌, length, Ok}
+use Rattle.std.proofs.Common.{◌≡◌, ℕ, Bool, true, false, if◌then◌else◌, List, [], ◌∷◌, length, Ok}
 use Rattle.std.proofs.Common.{Option, Some, None, refl, ap, ap₂, ◌∙◌, subst, slice_get, slice_set}
 use Rattle.lw_base.specs.Outcomes.{Final}
 use Rattle.lw_base.specs.declared.event.Event.{Event}
@@ -45,29 +45,31 @@ module _ {M : Type 0} (mem : Memory M) (inv : Invariant M) (laws : Lawful mem in
   by_flat (Some p) program e s after answer sound none done =
       let l = length (mem.content s.memory) in
       let keeps = λ (x : ℕ) (is : event_act program l e p ≡ Evicts x). subst (EventComes program l e p) is (event_comes program l e p none) in
-      (done.0, mem.content done.1, act_flat (cpu_of e) _ p done.0 s.memory done.1 answer sound keeps done.2, ap (flatten mem) done.3)
+      (done.0, mem.content done.1, act_flat _ _ p _ _ _ answer sound keeps done.2, ap (flatten mem) done.3)
 
   -- an event that is no eviction has the same answer
-  pub event_flat : (program : List (List Instr)) (e : Event) (s after : MachineState M) (answer : Answer) → inv.sound s.memory → IsNoEviction e
-      → EventDone mem program e s answer after → EventDone flat program e (flatten mem s) answer (flatten mem after)
+  pub event_flat : (program : List (List Instr)) (e : Event) (s after : MachineState M) (answer : Answer)
+      → inv.sound s.memory → IsNoEviction e → EventDone mem program e s answer after
+      → EventDone flat program e (flatten mem s) answer (flatten mem after)
   event_flat program e s = by_flat (slice_get s.processors (cpu_of e)) program e s
 
   evicted_flat : (held : Bool) (t x : ℕ) (p q : Processor) (m n : M) → inv.sound m
       → EvictionDone mem held t x p m (Ok tt) q n → (q ≡ p) × (mem.content n ≡ mem.content m)
   evicted_flat false t x p q m n sound done = (done.1, ap mem.content done.2)
-  evicted_flat true t x p q m n sound done = (done.1, (laws.served m (to.Evict t x) None n sound done.2).content)
+  evicted_flat _ t x p q m n sound done = (done.1, (laws.served m (to.Evict t x) None n sound done.2).content)
 
   evict_flat : (there : Bool) (t x : ℕ) (p q : Processor) (m n : M) → inv.sound m
       → ActDone mem t (if there then Evicts x else Refused NoLocation) p m (Ok tt) q n → (q ≡ p) × (mem.content n ≡ mem.content m)
   evict_flat true t x p q m n sound done = evicted_flat (is_held (mem.state m t x)) t x p q m n sound done
   evict_flat false t x p q m n sound done = (done.1, ap mem.content done.2)
 
-  eviction_flat : (o : Option Processor) (program : List (List Instr)) (t x : ℕ) (s after : MachineState M) → inv.sound s.memory
-      → slice_get s.processors t ≡ o → DoneBy mem o program (Evict t x) s (Ok tt) after → flatten mem after ≡ flatten mem s
+  eviction_flat : (o : Option Processor) (program : List (List Instr)) (t x : ℕ) (s after : MachineState M)
+      → inv.sound s.memory → slice_get s.processors t ≡ o → DoneBy mem o program (Evict t x) s (Ok tt) after
+      → flatten mem after ≡ flatten mem s
   eviction_flat None program t x s after sound at done = ap (flatten mem) done.1
   eviction_flat (Some p) program t x s after sound at done =
-      let same = evict_flat (nat_lt x (length (mem.content s.memory))) t x p done.0 s.memory done.1 sound done.2 in
-      let processors : slice_set s.processors t done.0 ≡ s.processors = ap (slice_set s.processors t) same.0 ∙ set_own s.processors t p at in
+      let same = evict_flat _ t x p done.0 s.memory done.1 sound done.2 in
+      let processors = ap (slice_set s.processors t) same.0 ∙ set_own s.processors t p at in
       ap (flatten mem) done.3 ∙ ap₂ (λ (ps : List Processor) (words : List ℕ). let a : MachineState
       (List ℕ) = record { processors = ps; memory = words } in a) processors same.1
 
@@ -78,17 +80,17 @@ module _ {M : Type 0} (mem : Memory M) (inv : Invariant M) (laws : Lawful mem in
   run_flat program (Step t ∷ es) s end sound ran = (
     flatten mem ran.0,
     event_flat program (Step t) s ran.0 (Ok tt) sound refl ran.1,
-    run_flat program es ran.0 end (event_kept mem inv laws program (Step t) s ran.0 (Ok tt) sound ran.1).sound ran.2,
+    run_flat program es _ end (event_kept mem inv laws program (Step t) s ran.0 _ sound ran.1).sound ran.2,
   )
   run_flat program (Drain t ∷ es) s end sound ran = (
     flatten mem ran.0,
     event_flat program (Drain t) s ran.0 (Ok tt) sound refl ran.1,
-    run_flat program es ran.0 end (event_kept mem inv laws program (Drain t) s ran.0 (Ok tt) sound ran.1).sound ran.2,
+    run_flat program es _ end (event_kept mem inv laws program (Drain t) s ran.0 _ sound ran.1).sound ran.2,
   )
   run_flat program (Evict t x ∷ es) s end sound ran =
-      subst (λ (a : MachineState (List ℕ)). MachineRan flat program (without_evictions es) a (flatten mem end))
-      (eviction_flat (slice_get s.processors t) program t x s ran.0 sound refl ran.1)
-      (run_flat program es ran.0 end (event_kept mem inv laws program (Evict t x) s ran.0 (Ok tt) sound ran.1).sound ran.2)
+      subst (λ a. MachineRan flat program (without_evictions es) a (flatten mem end)) (eviction_flat
+      (slice_get s.processors t) program t x s ran.0 sound refl ran.1) (run_flat program es ran.0 end
+      (event_kept mem inv laws program (Evict t x) s ran.0 (Ok tt) sound ran.1).sound ran.2)
 
   -- a replay, evictions left out
   pub replays_flat : (test : ProgramTest) (m : M) (es : List Event) (o : Final) → inv.sound m

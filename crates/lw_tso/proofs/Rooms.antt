@@ -72,32 +72,28 @@ module _ (locs : ℕ) (code : List Instr) (room : ℕ) where
       → entry.0 < locs → q.buffer ≡ p.buffer ++ entry ∷ [] → Room p → Room q
   stored p q entry i at store later there is has =
       let here = stores_here code p.position i at in
-      let counts : one i ≡ 1 = counted i store in
       let longer = length-append p.buffer (entry ∷ []) in
       let fewer = stores_later code (p.position + 1) q.position (omega arith) in
       record {
-        fits = omega (arith, has.fits, here, counts, longer, fewer, ap length is);
-        there = subst (All (λ (e : ℕ × ℕ). e.0 < locs)) (sym is)
-            (All-append (λ (e : ℕ × ℕ). e.0 < locs) p.buffer (entry ∷ []) has.there (All-one (λ (e : ℕ × ℕ). e.0 < locs) entry there));
+        fits = omega (arith, has.fits, here, (counted i store), longer, fewer, ap length is);
+        there = subst (All (λ (e : ℕ × ℕ). e.0 < locs)) (sym is) (All-append (λ (e : ℕ × ℕ). e.0 < locs)
+            p.buffer (entry ∷ []) has.there (All-one (λ (e : ℕ × ℕ). e.0 < locs) entry there));
       }
 
   -- a drain
   drained : (p q : Processor) (entry : ℕ × ℕ) (newer : List (ℕ × ℕ)) → p.buffer ≡ entry ∷ newer → q ≡ record p { buffer = newer } → Room p → Room q
   drained p q entry newer was is has =
-      let all : All (λ (e : ℕ × ℕ). e.0 < locs) (entry ∷ newer) = subst (All (λ (e : ℕ × ℕ). e.0 < locs)) was has.there in
       subst Room (sym is) (record {
         fits = omega (arith, has.fits, ap length was);
-        there = λ k d within. all (suc k) d (omega arith);
+        there = λ k d within. (subst (All (λ (e : ℕ × ℕ). e.0 < locs)) was has.there) (suc k) d (omega arith);
       })
 
   -- what the instruction at its position makes of it
   went : IsThread x86 locs code → (p q : Processor) (i : Instr) → slice_get code p.position ≡ Some i → Went (x86_operation i) p q → Room p → Room q
   went thread p q i at w has =
       let later = forward locs code thread p.position q.position i at w.leads in
-      ⊎_elim
-      (λ plain. further p q (omega arith) plain.1 has)
-      (λ store. stored p q store.0 i at store.1 later ((statement_at locs code thread p.position i at).0 store.0.0 store.2) store.3 has)
-      w.buffers
+      ⊎_elim (λ plain. further p q (omega arith) plain.1 has) (λ store. stored p q store.0 i at store.1 later
+          ((statement_at locs code thread p.position i at).0 store.0.0 store.2) store.3 has) w.buffers
 
 -- an event leaves its processor's buffer with room
 pub event_room : {M : Type 0} (mem : Memory M) (program : List (List Instr)) (locs room : ℕ) (e : Event) (p q : Processor) (m n : M) (answer : Answer)

@@ -17,10 +17,10 @@ use Rattle.lw_tso.specs.inner.Rooms.{stores_from, HasRoom, IsMachine}
 use Rattle.lw_tso.specs.inner.Views.{processor_of}
 
 -- what holds at each place of a list, with one item more
-more_places : {X : Type 0} (P : ℕ → X → Type 0) (xs ys : List X) (x : X) → ys ≡ xs ++ x ∷ []
+more_places : {X : Type 0} (P : ℕ → X → Type 0) (xs : List X) {ys : List X} (x : X) → ys ≡ xs ++ x ∷ []
     → ((t : ℕ) (y : X) → slice_get xs t ≡ Some y → P t y) → P (length xs) x
     → (t : ℕ) (y : X) → slice_get ys t ≡ Some y → P t y
-more_places P xs ys x is before here t y at = go (cases_eq t (length xs))
+more_places P xs x is before here t y at = go (cases_eq t (length xs))
   where
     there : slice_get (xs ++ x ∷ []) t ≡ Some y
     there = ap (λ zs. slice_get zs t) (sym is) ∙ at
@@ -45,12 +45,12 @@ module _ {A : Type 0} (program : List (List Instr)) (regs : List (List ℕ)) whe
   one_more n processors next p so_far within is started roomy =
       let more : take (suc n) regs ≡ take n regs ++ get_or regs n [] ∷ [] = take-suc regs n [] within in
       let last : suc n ≡ n + 1 = omega arith in
-      let many : length processors ≡ n = sym (length-map processors processor_of) ∙ ap length so_far.start ∙ length-map (take n regs) starting
-      ∙ length-take-le n regs (omega (arith, within)) in
+      let many : length processors ≡ n = sym (length-map processors processor_of) ∙ ap length so_far.start
+          ∙ length-map (take n regs) starting ∙ length-take-le n regs (omega (arith, within)) in
       record {
         start = ap (map processor_of) is ∙ map-append processor_of processors (p ∷ []) ∙ rw (so_far.start, started, ← last, more)
             (sym (map-append starting (take n regs) (get_or regs n [] ∷ [])));
-        rooms = more_places (λ t q. stores_from 0 (code_of program t) ≤ q.buffer.room) processors next p is so_far.rooms (rw many roomy);
+        rooms = more_places _ processors p is so_far.rooms (rw many roomy);
       }
 
   -- processors with the same rooms have room for their codes too
@@ -67,32 +67,32 @@ module _ {A : Type 0} (program : List (List Instr)) (regs : List (List ℕ)) whe
       seen = sym (slice_get-map room before t) ∙ ap (λ (rooms : List ℕ). slice_get rooms t) (sym same) ∙ slice_get-map room now t ∙ ap (option_map room) at
 
       go : (o : Option (ProcessorInMemory A)) → slice_get before t ≡ o → stores_from 0 (code_of program t) ≤ p.buffer.room
-      go None e = absurd (let none : option_map room None ≡ Some (room p) = subst (λ o. option_map room o ≡ Some (room p)) e seen in cc)
+      go None e = absurd (let none = subst (λ o. option_map room o ≡ Some (room p)) e seen in cc)
       go (Some q) e = subst (λ (n : ℕ). stores_from 0 (code_of program t) ≤ n)
           (same_Some (room q) (room p) (subst (λ o. option_map room o ≡ Some (room p)) e seen)) (roomy t q e)
 
   module _ {M : Type 0} (mem : Memory M) (inv : Invariant M) (locs : ℕ) (m : M) (processors : List (ProcessorInMemory A)) where
-    starts_with : (t : ℕ) (p : ProcessorInMemory A) (o : Option (List ℕ)) → Some (processor_of p) ≡ option_map starting o
-        → (r : List ℕ) × (processor_of p ≡ starting r)
+    starts_with : (t : ℕ) (p : ProcessorInMemory A) (o : Option (List ℕ))
+        → Some (processor_of p) ≡ option_map starting o → (r : List ℕ) × (processor_of p ≡ starting r)
     starts_with t p None e = absurd cc
     starts_with t p (Some r) e = (r, same_Some (processor_of p) (starting r) e)
 
     -- the parts of a machine at the start
-    pub machine_made : inv.sound m → length (mem.content m) ≡ locs → length program ≤ inv.cpus m → length regs ≡ length program
-        → map processor_of processors ≡ map starting regs
-        → ((t : ℕ) (p : ProcessorInMemory A) → slice_get processors t ≡ Some p → stores_from 0 (code_of program t) ≤ p.buffer.room)
+    pub machine_made : inv.sound m → length (mem.content m) ≡ locs → length program ≤ inv.cpus m
+        → length regs ≡ length program → map processor_of processors ≡ map starting regs
+        → ((t : ℕ) (p : ProcessorInMemory A) → slice_get processors t ≡ Some p → stores_from 0
+        (code_of program t) ≤ p.buffer.room)
         → IsMachine mem inv program locs m processors
     machine_made sound locations cpus many started roomy =
-        let as_many : length processors ≡ length program = sym (length-map processors processor_of) ∙ ap length started ∙ length-map regs starting ∙ many in
+        let as_many = sym (length-map processors _) ∙ ap length started ∙ length-map regs starting ∙ many in
         record {
           sound = sound;
           locations = locations;
           cpus = omega (arith, as_many, cpus);
           as_many = as_many;
           rooms = λ t p at.
-              let seen : Some (processor_of p) ≡ option_map starting (slice_get regs t) = sym
-              (slice_get-map processor_of processors t ∙ ap (option_map processor_of) at) ∙ ap (λ ps. slice_get ps t) started
-              ∙ slice_get-map starting regs t in
+              let seen = sym (slice_get-map processor_of processors t ∙ ap (option_map processor_of) at)
+                  ∙ ap (λ ps. slice_get ps t) started ∙ slice_get-map starting regs t in
               let first = starts_with t p (slice_get regs t) seen in
               subst (λ q. HasRoom locs (code_of program t) q p.buffer.room) (sym first.1) (record { fits = omega (arith, roomy t p at); there = All-nil _ });
           whole = roomy;

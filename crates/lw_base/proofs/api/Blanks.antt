@@ -25,8 +25,8 @@ pub blank_all : (q : ℕ → Bool) (b : ℕ) → list_all q (32 ∷ 9 ∷ 10 ∷
 blank_all q b all h = any_all (λ x y. x == y) same_byte q (32 ∷ 9 ∷ 10 ∷ 13 ∷ []) b all h
 
 -- a text whose bytes pass a test has bytes below 128 alone, where the test has
-pub all_ascii : (q : ℕ → Bool) → ((b : ℕ) → q b ≡ true → b < 128) → (w : Bytes) → AllByRecursion (λ b. q b ≡ true) w → (i : ℕ)
-    → slice_index_or w i 0 < 128
+pub all_ascii : (q : ℕ → Bool) → ((b : ℕ) → q b ≡ true → b < 128) → (w : Bytes)
+    → AllByRecursion (λ b. q b ≡ true) w → (i : ℕ) → slice_index_or w i 0 < 128
 all_ascii q low [] all i = omega arith
 all_ascii q low (b ∷ w) all zero = low b all.0
 all_ascii q low (b ∷ w) all (suc i) = all_ascii q low w all.1 i

@@ -15,8 +15,8 @@ pub all_filter : {X : Type 0} (P : X → Type 0) (p : X → Bool) (xs : List X) 
 all_filter P p [] h = tt
 all_filter P p (x ∷ xs) h = one P p x xs (p x) refl h.0 (all_filter P p xs h.1)
   where
-    one : {X : Type 0} (P : X → Type 0) (p : X → Bool) (x : X) (xs : List X) (b : Bool) → p x ≡ b → P x → AllByRecursion P (filter p xs)
-        → AllByRecursion P (filter p (x ∷ xs))
+    one : {X : Type 0} (P : X → Type 0) (p : X → Bool) (x : X) (xs : List X) (b : Bool) → p x ≡ b → P x
+        → AllByRecursion P (filter p xs) → AllByRecursion P (filter p (x ∷ xs))
     one P p x xs true e h k = rw e (h, k)
     one P p x xs false e h k = rw e k
 
@@ -31,8 +31,8 @@ all_of_range P f a (suc n) h = (h a (omega arith) (omega arith), all_of_range P 
 pub all_of_flat : {X : Type 0} (P : X → Type 0) (f : ℕ → List X) (a n : ℕ) → ((k : ℕ) → a ≤ k → k < a + n → AllByRecursion P (f k))
     → AllByRecursion P (flat_map f (range_with_len a n))
 all_of_flat P f a zero h = tt
-all_of_flat P f a (suc n) h = all_append P (f a) (flat_map f (range_with_len (a + 1) n)) (h a (omega arith) (omega arith))
-    (all_of_flat P f (a + 1) n (λ k le lt. h k (omega (arith, le)) (omega (arith, lt))))
+all_of_flat P f a (suc n) h = all_append P (f a) (flat_map f (range_with_len (a + 1) n)) (h a (omega arith)
+    (omega arith)) (all_of_flat P f (a + 1) n (λ k le lt. h k (omega (arith, le)) (omega (arith, lt))))
 
 pub all_mapped : {X Y : Type 0} (P : Y → Type 0) (f : X → Y) → ((x : X) → P (f x)) → (xs : List X) → AllByRecursion P (map f xs)
 all_mapped P f each [] = tt

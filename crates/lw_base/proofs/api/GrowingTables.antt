@@ -50,7 +50,7 @@ index_of-append (m ∷ names) more n e = go (bytes_eq m n) refl (index_of-append
 
 pub contains_name-last : (names : NameTable) (n : Bytes) → contains_name (names ++ n ∷ []) n ≡ true
 contains_name-last [] n = or_left (bytes_eq n n) false ((pointwise_decides unsigned_Decides n n).1 refl)
-contains_name-last (m ∷ names) n = or_right (bytes_eq m n) (contains_name (names ++ n ∷ []) n) (contains_name-last names n)
+contains_name-last (m ∷ names) n = or_right (bytes_eq m n) _ (contains_name-last names n)
 
 pub contains_name-with_name : (names : NameTable) (n : Bytes) → contains_name (with_name names n) n ≡ true
 contains_name-with_name names n = go (contains_name names n) refl

@@ -63,8 +63,8 @@ module _ (us : List Seen) (u : Seen) where
   none_same (s ∷ ss) h = let e = h.0 in rw (e, none_same ss h.1) refl
 
   -- one that is behind the first of a list is in the rest
-  all_behind : (ls : List Seen) → AllByRecursion (λ x. same_seen u x ≡ false) ls → AllByRecursion (λ x. has_seen (u ∷ us) x ≡ true) ls
-      → AllByRecursion (λ x. has_seen us x ≡ true) ls
+  all_behind : (ls : List Seen) → AllByRecursion (λ x. same_seen u x ≡ false) ls
+      → AllByRecursion (λ x. has_seen (u ∷ us) x ≡ true) ls → AllByRecursion (λ x. has_seen us x ≡ true) ls
   all_behind [] h k = tt
   all_behind (l ∷ ls) h k = let e = h.0 in (rw e at k.0, all_behind ls h.1 k.1)
 
@@ -118,16 +118,15 @@ filtered_again (u ∷ us) (l ∷ ls) au al all = go (cases_Bool (same_seen l u))
         → (AllByRecursion (λ x. has_seen us x ≡ true) (l ∷ ls) → filter (has_seen (l ∷ ls)) us ≡ l ∷ ls) → filter (has_seen (l ∷ ls)) (u ∷ us) ≡ l ∷ ls
     go (inl e) first whole =
         let same : l ≡ u = same_seen_is l u e in
-        let behind : AllByRecursion (ComesBefore u) ls = subst (λ (x : Seen). AllByRecursion (ComesBefore x) ls) same al.0 in
-        let ahead : AllByRecursion (ComesBefore l) us = subst (λ (x : Seen). AllByRecursion (ComesBefore x) us) (sym same) au.0 in
-        let rest : filter (has_seen (l ∷ ls)) us ≡ ls = filter_agrees (has_seen (l ∷ ls)) (has_seen ls) us (without_first l ls us ahead) ∙ first
-        (all_behind us u ls (all_apart u ls behind) all.1) in
-        rw e (ap (λ (x : Seen). x ∷ filter (has_seen (l ∷ ls)) us) (sym same) ∙ ap (λ (xs : List Seen). l ∷ xs) rest)
+        let behind = subst (λ (x : Seen). AllByRecursion (ComesBefore x) ls) same al.0 in
+        let ahead = subst (λ (x : Seen). AllByRecursion (ComesBefore x) us) (sym same) au.0 in
+        let rest : filter (has_seen (l ∷ ls)) us ≡ ls = filter_agrees (has_seen (l ∷ ls)) (has_seen ls) us
+            (without_first l ls us ahead) ∙ first (all_behind us u ls (all_apart u ls behind) all.1) in
+        rw e (ap (λ (x : Seen). x ∷ filter (has_seen (l ∷ ls)) us) (sym same) ∙ ap (λ xs. l ∷ xs) rest)
     go (inr e) first whole =
-        let apart : same_seen u l ≡ false = other_seen u l (λ f. let g : same_seen l u ≡ true = subst (λ (x : Seen). same_seen l x ≡ true) (sym f)
-        (same_seen_itself l) in cc) in
-        let here : has_seen us l ≡ true = rw apart at all.0 in
-        let before : ComesBefore u l = found_behind u l us au.0 here in
+        let apart : same_seen u l ≡ false = other_seen u l (λ f. let g : same_seen l u ≡ true = subst
+            (λ (x : Seen). same_seen l x ≡ true) (sym f) (same_seen_itself l) in cc) in
+        let before : ComesBefore u l = found_behind u l us au.0 (rw apart at all.0) in
         let behind : AllByRecursion (ComesBefore u) (l ∷ ls) = all_before l u ls before al.0 in
         let none : has_seen (l ∷ ls) u ≡ false = none_same us u (l ∷ ls) (all_apart_from u (l ∷ ls) behind) in
         rw none (whole (all_behind us u (l ∷ ls) (all_apart u (l ∷ ls) behind) all))
@@ -147,8 +146,8 @@ has_mapped : (f : ℕ → Seen) (a n k : ℕ) → a ≤ k → k < a + n → has_
 has_mapped f a zero k le lt = absurd (omega (arith, le, lt))
 has_mapped f a (suc n) k le lt =
     elim (cases_Bool (a == k)) [
-      | inl e ↦ let same : same_seen (f a) (f k) ≡ true = subst (λ (j : ℕ). same_seen (f a) (f j) ≡ true) (eqb-true a k e)
-          (same_seen_itself (f a)) in rw same refl
+      | inl e ↦ let same : same_seen (f a) (f k) ≡ true = subst (λ (j : ℕ). same_seen (f a) (f j) ≡ true)
+          (eqb-true a k e) (same_seen_itself (f a)) in rw same refl
       | inr e ↦ or_right (same_seen (f a) (f k)) (has_seen (map f (range_with_len (a + 1) n)) (f k))
           (has_mapped f (a + 1) n k (omega (arith, le, eqb-false a k e)) (omega (arith, lt)))
     ]
@@ -157,21 +156,21 @@ has_joined : (f : ℕ → List Seen) (a n k : ℕ) (s : Seen) → a ≤ k → k 
 has_joined f a zero k s le lt h = absurd (omega (arith, le, lt))
 has_joined f a (suc n) k s le lt h =
     elim (cases_Bool (a == k)) [
-      | inl e ↦ has_left (f a) (flat_map f (range_with_len (a + 1) n)) s (subst (λ (j : ℕ). has_seen (f j) s ≡ true) (sym (eqb-true a k e)) h)
+      | inl e ↦ has_left (f a) _ s (subst (λ (j : ℕ). has_seen (f j) s ≡ true) (sym (eqb-true a k e)) h)
       | inr e ↦ has_right (f a) (flat_map f (range_with_len (a + 1) n)) s
           (has_joined f (a + 1) n k s (omega (arith, le, eqb-false a k e)) (omega (arith, lt)) h)
     ]
 
 pub has_register : (threads t r : ℕ) → t < threads → r < 6 → has_seen (all_registers threads) (Register t r) ≡ true
-has_register threads t r h k = has_joined thread_registers 0 threads t (Register t r) (omega arith) (omega (arith, h))
-    (has_mapped (λ q. Register t q) 0 6 r (omega arith) (omega (arith, k)))
+has_register threads t r h k = has_joined thread_registers 0 threads t (Register t r) (omega arith)
+    (omega (arith, h)) (has_mapped (λ q. Register t q) 0 6 r (omega arith) (omega (arith, k)))
 
 pub has_location : (locs x : ℕ) → x < locs → has_seen (locations locs) (Location x) ≡ true
 has_location locs x h = has_mapped (λ y. Location y) 0 locs x (omega arith) (omega (arith, h))
 
 has_all : (threads locs : ℕ) (s : Seen) → IsSeen threads locs s → has_seen (all_registers threads ++ locations locs) s ≡ true
 has_all threads locs (Register t r) h = has_left (all_registers threads) (locations locs) (Register t r) (has_register threads t r h.0 h.1)
-has_all threads locs (Location x) h = has_right (all_registers threads) (locations locs) (Location x) (has_location locs x h)
+has_all threads locs (Location x) h = has_right (all_registers threads) _ (Location x) (has_location locs x h)
 
 has_each : (threads locs : ℕ) (ss : List Seen) → AllByRecursion (IsSeen threads locs) ss
     → AllByRecursion (λ s. has_seen (all_registers threads ++ locations locs) s ≡ true) ss
@@ -180,8 +179,8 @@ has_each threads locs (s ∷ ss) h = (has_all threads locs s h.0, has_each threa
 
 pub listed_again : (threads locs : ℕ) (ss : List Seen) → Ascending ss → AllByRecursion (IsSeen threads locs) ss
     → filter (has_seen ss) (all_registers threads ++ locations locs) ≡ ss
-listed_again threads locs ss ascending there = filtered_again (all_registers threads ++ locations locs) ss (all_ascending threads locs) ascending
-    (has_each threads locs ss there)
+listed_again threads locs ss ascending there = filtered_again (all_registers threads ++ locations locs) ss
+    (all_ascending threads locs) ascending (has_each threads locs ss there)
 
 -- ---- how many there are
 
@@ -198,8 +197,7 @@ registers_length a zero = omega arith
 registers_length a (suc n) = omega (
   arith,
   length-append (thread_registers a) (flat_map thread_registers (range_with_len (a + 1) n)),
-  registers_length
-      (a + 1) n,
+  registers_length (a + 1) n,
 )
 
 pub seen_length : (threads locs : ℕ) → length (all_registers threads ++ locations locs) ≡ 6 * threads + locs
@@ -207,8 +205,7 @@ seen_length threads locs = omega (
   arith,
   length-append (all_registers threads) (locations locs),
   registers_length 0 threads,
-  length-map-range_with_len
-      (λ x. Location x) 0 locs,
+  length-map-range_with_len (λ x. Location x) 0 locs,
 )
 
 -- the most registers and locations of a test
@@ -220,7 +217,6 @@ listed_few threads locs ss ascending there =
     omega (
       arith,
       ap length (listed_again threads locs ss ascending there),
-      filter_shorter (has_seen ss)
-          (all_registers threads ++ locations locs),
+      filter_shorter (has_seen ss) (all_registers threads ++ locations locs),
       seen_length threads locs,
     )

@@ -93,17 +93,19 @@ each_after P xs i x within before here u y at = go (cases_eq u i)
   where
     go : (u ≡ i) ⊎ (u ≡ i → ⊥) → P u y
     go (inl e) =
-        let there : slice_get (slice_set xs i x) u ≡ Some x = ap (slice_get (slice_set xs i x)) e ∙ got_set_same xs i x (get_some xs i within).0
-        (get_some xs i within).1 in
+        let there : slice_get (slice_set xs i x) u ≡ Some x = ap (slice_get (slice_set xs i x)) e
+            ∙ got_set_same xs i x (get_some xs i within).0 (get_some xs i within).1 in
         let same : x ≡ y = cc in
         subst (λ (k : ℕ). P k y) (sym e) (subst (P i) same here)
     go (inr other) = before u y (sym (got_set_other xs i u x (λ e. other (sym e))) ∙ at)
 
 -- what holds of the fellows of two lists, where an item of each is set
-pub fellows_after : {X Y : Type 0} (P : ℕ → X → Y → Type 0) (xs : List X) (ys : List Y) (t : ℕ) (old x : X) (was y : Y) → slice_get xs t ≡ Some old
-    → slice_get ys t ≡ Some was
-    → ((u : ℕ) (a : X) (b : Y) → t ≢ u → slice_get xs u ≡ Some a → slice_get ys u ≡ Some b → P u a b) → P t x y
-    → (u : ℕ) (a : X) (b : Y) → slice_get (slice_set xs t x) u ≡ Some a → slice_get (slice_set ys t y) u ≡ Some b → P u a b
+pub fellows_after : {X Y : Type 0} (P : ℕ → X → Y → Type 0) (xs : List X) (ys : List Y) (t : ℕ) (old x : X)
+    (was y : Y)
+    → slice_get xs t ≡ Some old → slice_get ys t ≡ Some was
+    → ((u : ℕ) (a : X) (b : Y) → t ≢ u → slice_get xs u ≡ Some a → slice_get ys u ≡ Some b → P u a b)
+    → P t x y → (u : ℕ) (a : X) (b : Y) → slice_get (slice_set xs t x) u ≡ Some a
+    → slice_get (slice_set ys t y) u ≡ Some b → P u a b
 fellows_after {X} {Y} P xs ys t old x was y at there others now u a b e f =
     ⊎_elim here (λ ne. others u a b ne (sym (got_set_other xs t u x ne) ∙ e) (sym (got_set_other ys t u y ne) ∙ f)) (cases_eq t u)
   where
@@ -111,4 +113,4 @@ fellows_after {X} {Y} P xs ys t old x was y at there others now u a b e f =
     here same =
         let left : x ≡ a = same_Some x a (sym (got_set_same xs t x old at) ∙ ap (λ (k : ℕ). slice_get (slice_set xs t x) k) same ∙ e) in
         let right : y ≡ b = same_Some y b (sym (got_set_same ys t y was there) ∙ ap (λ (k : ℕ). slice_get (slice_set ys t y) k) same ∙ f) in
-        subst (λ (k : ℕ). P k a b) same (subst (λ (c : X). P t c b) left (subst (λ (d : Y). P t x d) right now))
+        subst (λ k. P k a b) same (subst (λ (c : X). P t c b) left (subst (λ (d : Y). P t x d) right now))

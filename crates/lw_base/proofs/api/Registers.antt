@@ -9,12 +9,9 @@ use Rattle.lw_base.specs.Registers.{IsRegister, register_name, without_case}
 -- the register of x86 that a word in small letters names
 abbrev spelled : Bytes → Option ℕ
 spelled w =
-    if bytes_eq w (codes "eax") then Some 0
-    else (if bytes_eq w (codes "ebx") then Some 1
-    else (if bytes_eq w (codes "ecx") then Some 2
-    else (if bytes_eq w (codes "edx") then Some 3
-    else (if bytes_eq w (codes "esi") then Some 4
-    else (if bytes_eq w (codes "edi") then Some 5 else None)))))
+    if bytes_eq w (codes "eax") then Some 0 else (if bytes_eq w (codes "ebx") then Some 1 else (if bytes_eq w
+    (codes "ecx") then Some 2 else (if bytes_eq w (codes "edx") then Some 3 else (if bytes_eq w (codes "esi")
+    then Some 4 else (if bytes_eq w (codes "edi") then Some 5 else None)))))
 
 spelled_name : (r : ℕ) → r < 6 → spelled (without_case X86 (register_name X86 r)) ≡ Some r
 spelled_name (suc (suc (suc (suc (suc (suc r)))))) h = absurd (omega arith)

@@ -19,6 +19,6 @@ module _ {State : Type 0} (Done : Event → State → Result (Unit {0}) Stop →
       → Ran Done (take n events) s mid → Done e mid (Ok tt) end → Ran Done (take (n + 1) events) s end
   Ran-more events n e s mid end within is ran done =
       let pushed = Ran-push (take n events) e s mid end ran done in
-      let more : take (suc n) events ≡ take n events ++ e ∷ [] = take-suc events n e within ∙ ap (λ (x : Event). take n events ++ x ∷ []) (sym is) in
+      let more = take-suc events n e within ∙ ap (λ (x : Event). take n events ++ x ∷ []) (sym is) in
       let next : suc n ≡ n + 1 = omega arith in
       subst (λ (es : List Event). Ran Done es s end) (sym more ∙ ap (λ (k : ℕ). take k events) next) pushed

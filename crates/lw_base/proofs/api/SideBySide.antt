@@ -21,8 +21,8 @@ same_maps f g _ _ as_many alike = absurd (omega arith)
 -- all pairs of fellows pass a test, and each does
 pub zip_pass : {X Y : Type 0} (test : X × Y → Bool) (xs : List X) (ys : List Y)
     → ((k : ℕ) (x : X) (y : Y) → slice_get xs k ≡ Some x → slice_get ys k ≡ Some y → test (x, y) ≡ true) → list_all test (zip xs ys) ≡ true
-zip_pass test (x ∷ xs) (y ∷ ys) each = and_from (test (x, y)) (list_all test (zip xs ys)) (each 0 x y refl refl)
-    (zip_pass test xs ys (λ k a b at and. each (suc k) a b at and))
+zip_pass test (x ∷ xs) (y ∷ ys) each = and_from (test (x, y)) (list_all test (zip xs ys)) (each 0 x y refl
+    refl) (zip_pass test xs ys (λ k a b at and. each (suc k) a b at and))
 zip_pass test _ _ each = refl
 
 pub zip_passes : {X Y : Type 0} (test : X × Y → Bool) (xs : List X) (ys : List Y) (k : ℕ) (x : X) (y : Y) → list_all test (zip xs ys) ≡ true
@@ -30,7 +30,5 @@ pub zip_passes : {X Y : Type 0} (test : X × Y → Bool) (xs : List X) (ys : Lis
 zip_passes test [] ys k x y all at and = absurd cc
 zip_passes test (a ∷ xs) [] k x y all at and = absurd cc
 zip_passes {X} {Y} test (a ∷ xs) (b ∷ ys) zero x y all at and =
-    let e : a ≡ x = cc in
-    let f : b ≡ y = cc in
-    ap₂ (λ (v : X) (w : Y). test (v, w)) (sym e) (sym f) ∙ (and_parts (test (a, b)) (list_all test (zip xs ys)) all).0
+    ap₂ (λ v w. test (v, w)) (sym cc) (sym cc) ∙ (and_parts (test (a, b)) (list_all test (zip xs ys)) all).0
 zip_passes test (a ∷ xs) (b ∷ ys) (suc k) x y all at and = zip_passes test xs ys k x y (and_parts (test (a, b)) (list_all test (zip xs ys)) all).1 at and

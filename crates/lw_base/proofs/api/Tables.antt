@@ -18,7 +18,7 @@ use Rattle.std.proofs.lemmas.Option.{get_or_from_slice_get}
 
 module _ {S : Type 0} (f : S → Bytes) (ss : List S) (p : ℕ) (s : S) (t name : Bytes) (lt : p < length ss) (is : s ≡ get_or ss p s) (text : t ≡ f s) where
   at_place : slice_get (map f ss) p ≡ Some t
-  at_place = slice_get-map f ss p ∙ ap (option_map f) (slice_get_read ss (length ss) p s refl lt is) ∙ ap Some (sym text)
+  at_place = slice_get-map f _ p ∙ ap (option_map f) (slice_get_read ss _ p s refl lt is) ∙ ap Some (sym text)
 
   pub not_here : pointwise nat_eq t name ≡ false → get_or (map f ss) p [] ≡ name → ⊥
   not_here other e =
@@ -58,11 +58,11 @@ names_more f ss ts s name more text = ap (map f) more ∙ map-append f ss (s ∷
 pub copied_more : {S : Type 0} (f : S → Bytes) (us ss ts : List S) (s t : S) (k : ℕ) → k < length us → map f ss ≡ map f (take k us) → ts ≡ ss ++ s ∷ []
     → f s ≡ f t → t ≡ get_or us k t → map f ts ≡ map f (take (k + 1) us)
 copied_more f us ss ts s t k lt done more same is =
-    names_more f ss ts s (f t) more same ∙ ap (λ ns. ns ++ f t ∷ []) done ∙ sym
-    (ap (map f) (take_more us k t lt) ∙ map-append f (take k us) (get_or us k t ∷ []) ∙ ap (λ x. map f (take k us) ++ f x ∷ []) (sym is))
+    names_more f ss ts s _ more same ∙ ap (λ ns. ns ++ f t ∷ []) done ∙ sym (ap (map f) (take_more us k t lt)
+    ∙ map-append f (take k us) (get_or us k t ∷ []) ∙ ap (λ x. map f (take k us) ++ f x ∷ []) (sym is))
 
-pub table_more : (names : NameTable) (name : Bytes) → length names < 8 → IsLocation name → (Contains names name → ⊥) → IsTable names
-    → IsTable (names ++ name ∷ [])
+pub table_more : (names : NameTable) (name : Bytes) → length names < 8 → IsLocation name
+    → (Contains names name → ⊥) → IsTable names → IsTable (names ++ name ∷ [])
 table_more names name few is fresh table =
     record {
       few = omega (arith, length-append names (name ∷ []));
@@ -98,8 +98,7 @@ contains_name-not : (names : NameTable) (n : Bytes) → (Contains names n → �
 contains_name-not [] n h = refl
 contains_name-not (m ∷ names) n h = rw (
   other_bytes m n (λ e. h (0, omega arith, e)),
-  contains_name-not names n
-      (λ k. h (Contains-append_right (m ∷ []) names n k)),
+  contains_name-not names n (λ k. h (Contains-append_right (m ∷ []) names n k)),
 ) refl
 
 pub with_name-there : (names : NameTable) (n : Bytes) (l : ℕ) → slice_get names l ≡ Some n → with_name names n ≡ names
@@ -148,8 +147,8 @@ with_names-new : (before ns : NameTable) → EachOnce (before ++ ns) → with_na
 with_names-new before [] once = sym (append-nil before)
 with_names-new before (n ∷ ns) once =
     let e : before ++ (n ∷ ns) ≡ (before ++ n ∷ []) ++ ns = sym (append_assoc before (n ∷ []) ns) in
-    ap (λ (t : NameTable). with_names t ns) (with_name-new before n (not_before before ns n once)) ∙ with_names-new (before ++ n ∷ []) ns
-    (subst EachOnce e once) ∙ sym e
+    ap (λ (t : NameTable). with_names t ns) (with_name-new before n (not_before before ns n once))
+        ∙ with_names-new (before ++ n ∷ []) ns (subst EachOnce e once) ∙ sym e
 
 -- a table's own names make it
 pub with_names-again : (names : NameTable) → EachOnce names → with_names [] names ≡ names

@@ -16,13 +16,13 @@ seen_more threads few more le (Location x) h = omega (arith, h)
 
 all_seen_more : (threads few more : ℕ) → few ≤ more → (ss : List Seen) → AllByRecursion (IsSeen threads few) ss → AllByRecursion (IsSeen threads more) ss
 all_seen_more threads few more le [] h = tt
-all_seen_more threads few more le (s ∷ ss) h = (seen_more threads few more le s h.0, all_seen_more threads few more le ss h.1)
+all_seen_more threads few more le (s ∷ ss) h = (seen_more _ few _ le s h.0, all_seen_more _ few _ le ss h.1)
 
 speaks_more : (threads few more : ℕ) → few ≤ more → (p : Formula) → SpeaksOf threads few p → SpeaksOf threads more p
 speaks_more threads few more le (Word_is x n) h = (omega (arith, h.0), h.1)
 speaks_more threads few more le (Not p) h = speaks_more threads few more le p h
-speaks_more threads few more le (And p q) h = (speaks_more threads few more le p h.0, speaks_more threads few more le q h.1)
-speaks_more threads few more le (Or p q) h = (speaks_more threads few more le p h.0, speaks_more threads few more le q h.1)
+speaks_more threads few more le (And p q) h = (speaks_more _ few _ le p h.0, speaks_more _ few more le q h.1)
+speaks_more threads few more le (Or p q) h = (speaks_more _ few _ le p h.0, speaks_more _ few more le q h.1)
 speaks_more threads few more le _ h = h
 
 -- Words, and 0 for each location that is new.
@@ -31,8 +31,8 @@ words_more [] zero h = tt
 words_more [] (suc n) h = (omega arith, words_more [] n tt)
 words_more (w ∷ ws) n h = (h.0, words_more ws n h.1)
 
-pub with_table-well_formed : (head : TestHead) (names : List (List ℕ)) → IsWellFormedHead head → IsTable names → length head.locs ≤ length names
-    → IsWellFormedHead (with_table head names)
+pub with_table-well_formed : (head : TestHead) (names : List (List ℕ)) → IsWellFormedHead head → IsTable names
+    → length head.locs ≤ length names → IsWellFormedHead (with_table head names)
 with_table-well_formed head names h table le =
     record {
       name = h.name;
@@ -46,8 +46,7 @@ with_table-well_formed head names h table le =
         arith,
         h.words,
         length-append head.init_words (replicate (length names - length head.locs) 0),
-        length-replicate {A = ℕ}
-            (length names - length head.locs) 0,
+        length-replicate {A = ℕ} (length names - length head.locs) 0,
       );
       location_words = words_more head.init_words (length names - length head.locs) h.location_words;
       there = all_seen_more head.threads (length head.locs) (length names) le head.listed h.there;

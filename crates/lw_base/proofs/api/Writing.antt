@@ -15,14 +15,14 @@ then_written (Ok x) start mid end first second whole before together written =
     written ∙ ap (λ t. t ++ second) before ∙ append_assoc start first second ∙ ap (λ t. start ++ t) together
 
 -- what `push_str` says
-pub pushed : {T E : Type 0} (answer : Result T E) (start end text : Bytes) → end ≡ (if is_ok answer then start ++ text else start)
-    → OnOk answer (end ≡ start ++ text)
+pub pushed : {T E : Type 0} (answer : Result T E) (start end text : Bytes)
+    → end ≡ (if is_ok answer then start ++ text else start) → OnOk answer (end ≡ start ++ text)
 pushed (Err x) start end text told = tt
 pushed (Ok x) start end text told = told
 
 -- a text by another name
-pub written_as : {T E : Type 0} (answer : Result T E) (start end text whole : Bytes) → text ≡ whole → OnOk answer (end ≡ start ++ text)
-    → OnOk answer (end ≡ start ++ whole)
+pub written_as : {T E : Type 0} (answer : Result T E) (start end text whole : Bytes) → text ≡ whole
+    → OnOk answer (end ≡ start ++ text) → OnOk answer (end ≡ start ++ whole)
 written_as (Err x) start end text whole same written = tt
 written_as (Ok x) start end text whole same written = written ∙ ap (λ t. start ++ t) same
 
@@ -53,8 +53,8 @@ both_written start mid end first second before written = written ∙ ap (λ t. t
 module _ (f : ℕ → Bytes) (len k : ℕ) (out goal : Bytes) (before : out ++ flat_map f (drop k (range_with_len 0 len)) ≡ goal) where
   pub numbers_more : (new : Bytes) → k < len → new ≡ out ++ f k → new ++ flat_map f (drop (k + 1) (range_with_len 0 len)) ≡ goal
   numbers_more new lt written =
-      let is : k ≡ get_or (range_with_len 0 len) k k = sym (get_or-range_with_len 0 len k k lt ∙ zero-add k) in
-      items_more f (range_with_len 0 len) k out goal before k new (omega (arith, length-range_with_len 0 len)) is written
+      let is = sym (get_or-range_with_len 0 len k k lt ∙ zero-add k) in
+      items_more f _ k out goal before k new (omega (arith, length-range_with_len 0 len)) is written
 
   pub numbers_all : len ≤ k → out ≡ goal
   numbers_all le = items_all f (range_with_len 0 len) k out goal before (omega (arith, length-range_with_len 0 len))

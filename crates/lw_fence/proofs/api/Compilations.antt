@@ -23,17 +23,17 @@ pub use Rattle.lw_fence.proofs.Programs.{is_program}
 pub same_outcomes : (s : SourceTest) (p : ProgramTest) (starts : List (List ℕ)) (o : Final) → IsWellFormedSource s → IsCompiled s p starts
     → MachineOutcome flat p p.head.init_words o ↔ SourceOutcome s o
 same_outcomes s p starts o ok compiled =
-    (machine_to_source s p starts o ok compiled, λ run. (schedule s.threads starts run.0 (start_of s), schedule_replays s p starts run.0 o ok compiled run.1))
+    (machine_to_source s p starts o ok compiled, λ run. (schedule s.threads starts run.0 (start_of s), schedule_replays p run.0 o ok compiled run.1))
 
 -- With fences elsewhere it is well-formed, and has them all.
-pub is_program_with : (fences : List (List Bool)) (s : SourceTest) (p : ProgramTest) (starts : List (List ℕ)) → IsWellFormedSource s
-    → IsCompiledWith fences s p starts → IsWellFormedProgram p
+pub is_program_with : (fences : List (List Bool)) (s : SourceTest) (p : ProgramTest) (starts : List (List ℕ))
+    → IsWellFormedSource s → IsCompiledWith fences s p starts → IsWellFormedProgram p
 is_program_with fences s p starts ok compiled = laid_program s p starts ok (laid_out_with fences s p starts compiled)
 
 pub has_outcomes : (fences : List (List Bool)) (s : SourceTest) (p : ProgramTest) (starts : List (List ℕ)) (o : Final) → IsWellFormedSource s
     → IsCompiledWith fences s p starts → SourceOutcome s o → MachineOutcome flat p p.head.init_words o
 has_outcomes fences s p starts o ok compiled run =
-    (schedule s.threads starts run.0 (start_of s), laid_replays s p starts run.0 o ok (laid_out_with fences s p starts compiled) run.1)
+    (schedule s.threads starts run.0 (start_of s), laid_replays s p starts run.0 ok (laid_out_with fences s p starts compiled) run.1)
 
 -- An x86 test has an outcome over flat memory.
 pub has_outcome : (p : ProgramTest) → IsWellFormedProgram p → (o : Final) × MachineOutcome flat p p.head.init_words o

@@ -22,8 +22,8 @@ pub record AreComplete : Type 0 where
 -- threads and locations.
 pub record AreFlat (program : ProgramTest) : Type 0 where
   pub outcomes : (protocol : Protocol) (o : Final) → OutcomeOverCaches protocol program o ↔ MachineOutcome flat program program.head.init_words o
-  pub replays : (protocol : Protocol) (events : List Event) (o : Final)
-      → without_evictions events ≡ events → ReplaysOverCaches protocol program events o ↔ Replays flat program program.head.init_words events o
+  pub replays : (protocol : Protocol) (events : List Event) (o : Final) → without_evictions events ≡ events
+      → ReplaysOverCaches protocol program events o ↔ Replays flat program program.head.init_words events o
   pub of_test : (protocol : Protocol) (events : List Event) (o : Final) → ReplaysOverCaches protocol program events o → IsEntryOf program.head (o, events)
 
 -- What a complete list has: exactly these outcomes, which are those of a program over caches, where its schedules lead to them

@@ -76,8 +76,8 @@ words_stay (FetchAdd d x v) th m e = absurd cc
 words_stay o th m e = refl
 
 -- a thread reads nothing but the word at its operation's location
-thread_reads : (o : Operation) (th : Thread) (m n : List ℕ) → word_at (location_of o) m ≡ word_at (location_of o) n
-    → thread_after o th m ≡ thread_after o th n
+thread_reads : (o : Operation) (th : Thread) (m n : List ℕ)
+    → word_at (location_of o) m ≡ word_at (location_of o) n → thread_after o th m ≡ thread_after o th n
 thread_reads (Load d x) th m n e = ap (at_next_with th d) e
 thread_reads (Swap d x a) th m n e = ap (at_next_with th d) e
 thread_reads (FetchAdd d x v) th m n e = ap (at_next_with_if th d) e
@@ -130,8 +130,7 @@ put_exchanged _ _ v w m apart = refl
 same_found : (o p : Operation) (tp : Thread) (m : List ℕ) → AreFree o p
     → word_at (location_of o) (words_after p tp m) ≡ word_at (location_of o) m
 same_found o p tp m (inl neither) = ap (word_at (location_of o)) (words_stay p tp m neither.1)
-same_found o p tp m (inr apart) =
-    ap (word_at (location_of o)) (words_left p tp m) ∙ put_apart (location_of o) (location_of p) (left_word p tp (word_at (location_of p) m)) m apart
+same_found o p tp m (inr apart) = ap (word_at (location_of o)) (words_left p tp m) ∙ put_apart _ _ _ m apart
 
 same_left : (o p : Operation) (to tp : Thread) (m : List ℕ) → AreFree o p
     → words_after o to (words_after p tp m) ≡ words_after p tp (words_after o to m)
@@ -142,33 +141,31 @@ same_left o p to tp m (inr apart) =
     both o p to tp (inr apart) ∙ put_exchanged (location_of o) (location_of p) _ _ m apart ∙ sym (both p o tp to (free_turned o p (inr apart)))
   where
     both : (a b : Operation) (ta tb : Thread) → AreFree a b
-        → words_after a ta (words_after b tb m)
-        ≡ put (location_of a) (left_word a ta (word_at (location_of a) m)) (put (location_of b) (left_word b tb (word_at (location_of b) m)) m)
+        → words_after a ta (words_after b tb m) ≡ put (location_of a) (left_word a ta (word_at (location_of a)
+        m)) (put (location_of b) (left_word b tb (word_at (location_of b) m)) m)
     both a b ta tb free =
         words_left a ta (words_after b tb m) ∙ ap₂ (λ w n. put (location_of a) (left_word a ta w) n) (same_found a b tb m free) (words_left b tb m)
 
 -- where a thread is
 pub positioned : (s : State) (t : ℕ) (th : Thread) → slice_get s.threads t ≡ Some th → position_of s t ≡ Some th.position
-positioned s t th was =
-    slice_get-map (λ (x : Thread). x.position) s.threads t ∙ ap (λ (o : Option Thread). option_map (λ (x : Thread). x.position) o) was
+positioned s t th was = slice_get-map _ s.threads t ∙ ap (λ o. option_map (λ (x : Thread). x.position) o) was
 
 pub next_is : (program : List (List Stmt)) (s : State) (t j : ℕ) → position_of s t ≡ Some j
     → next_of program s t ≡ slice_get (code_of program t) j
 next_is program s t j e = ap (λ (o : Option ℕ). option_and_then (λ k. slice_get (code_of program t) k) o) e
 
 -- a step moves no other thread
-pub others_stay : (program : List (List Stmt)) (t u : ℕ) (s mid : State) → t ≢ u → source_step program t s ≡ Ok mid
-    → slice_get mid.threads u ≡ slice_get s.threads u
+pub others_stay : (program : List (List Stmt)) (t u : ℕ) (s mid : State) → t ≢ u
+    → source_step program t s ≡ Ok mid → slice_get mid.threads u ≡ slice_get s.threads u
 others_stay program t u s mid ne a =
     let d = stepped program t s mid a in
     ap (λ (x : State). slice_get x.threads u) d.is ∙ got_set_other s.threads t u _ ne
 
-pub others_placed : (program : List (List Stmt)) (t u : ℕ) (s mid : State) → t ≢ u → source_step program t s ≡ Ok mid
-    → position_of mid u ≡ position_of s u
+pub others_placed : (program : List (List Stmt)) (t u : ℕ) (s mid : State) → t ≢ u
+    → source_step program t s ≡ Ok mid → position_of mid u ≡ position_of s u
 others_placed program t u s mid ne a =
-    slice_get-map (λ (x : Thread). x.position) mid.threads u
-    ∙ (ap (λ (o : Option Thread). option_map (λ (x : Thread). x.position) o) (others_stay program t u s mid ne a)
-    ∙ sym (slice_get-map (λ (x : Thread). x.position) s.threads u))
+    slice_get-map _ mid.threads u ∙ (ap (λ (o : Option Thread). option_map (λ (x : Thread). x.position) o)
+    (others_stay program t u s mid ne a) ∙ sym (slice_get-map (λ (x : Thread). x.position) s.threads u))
 
 -- where an operation leads
 pub leads : (o : Operation) (th : Thread) (m : List ℕ) → Leads o th.position (thread_after o th m).position
@@ -194,7 +191,7 @@ moved program t s mid a =
       follows =
           let led = leads (source_operation d.stmt) d.thread s.words in
           subst (λ (o : Option Stmt). Follows source o d.thread.position next.position) (sym d.at) led;
-      now = positioned mid t next (ap (λ (x : State). slice_get x.threads t) d.is ∙ got_set_same s.threads t next d.thread d.was);
+      now = positioned mid t next (ap (λ x. slice_get x.threads t) d.is ∙ got_set_same _ t next _ d.was);
     }
 
 -- t and then u lead where u and then t lead
@@ -244,10 +241,9 @@ exchange program t u s ne none mid end step_t step_u = (other, first, second)
     -- the threads go on as they did in the other sequence
     threads_are : (state_after t a.thread o other).threads ≡ (state_after u b.thread p after).threads
     threads_are =
-        ap (slice_set other.threads t) (thread_reads o a.thread other.words s.words (same_found o p b.thread s.words free))
-        ∙ set_comm s.threads u t y x (λ e. ne (sym e))
-        ∙ ap (slice_set after.threads u)
-        (sym (thread_reads p b.thread after.words s.words (same_found p o a.thread s.words (free_turned o p free))))
+        ap (slice_set other.threads t) (thread_reads o a.thread other.words s.words (same_found o p b.thread
+        s.words free)) ∙ set_comm s.threads u t y x (λ e. ne (sym e)) ∙ ap (slice_set after.threads u)
+        (sym (thread_reads p b.thread _ s.words (same_found p o a.thread s.words (free_turned o p free))))
 
     second : source_step program t other ≡ Ok end
     second =

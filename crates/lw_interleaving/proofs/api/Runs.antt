@@ -44,9 +44,10 @@ refusal Q (Ok next) answer stop end told failed = let e : answer ≡ Ok tt = tol
 refusal Q (Err s) answer stop end told failed = let e : answer ≡ Err s = told.0 in let same : s ≡ stop = cc in (ap Err same, told.1)
 
 -- a replay that meets a refused event
-pub stopped : (Q : Type 0) (program : List (List Stmt)) (events : List Event) (e : Event) (done : ℕ) (s mid end : State)
-    (answer : Result (Unit {0}) Stop) (stop : Stop) → Told Q (source_event program e mid) answer end → (Q → end ≡ mid)
-    → answer ≡ Err stop → done < length events → e ≡ get_or events done e → SourceRan program (take done events) s mid
+pub stopped : (Q : Type 0) (program : List (List Stmt)) (events : List Event) (e : Event) (done : ℕ)
+    (s mid end : State) (answer : Result (Unit {0}) Stop) (stop : Stop)
+    → Told Q (source_event program e mid) answer end → (Q → end ≡ mid) → answer ≡ Err stop
+    → done < length events → e ≡ get_or events done e → SourceRan program (take done events) s mid
     → SourceReplayed program events s (record { done = done; end = at.Stopped stop }) end
 stopped Q program events e done s mid end answer stop told kept failed within is ran =
     let r = refusal Q (source_event program e mid) answer stop end told failed in
@@ -69,8 +70,8 @@ replayed_all program events k s last end done ran ends =
     }
 
 -- no thread has a store to drain
-pub drained : (Q : Type 0) (answer : Result (Unit {0}) Stop) (s : State) (t n : ℕ) → t < n → answer ≡ Err BufferEmpty
-    → Q → Told Q (if nat_lt t n then Err BufferEmpty else Err NoCpu) answer s
+pub drained : (Q : Type 0) (answer : Result (Unit {0}) Stop) (s : State) (t n : ℕ) → t < n
+    → answer ≡ Err BufferEmpty → Q → Told Q (if nat_lt t n then Err BufferEmpty else Err NoCpu) answer s
 drained Q answer s t n within failed same = rw (lt-ltb t n within) (failed, same)
 
 pub set_length : {X : Type 0} (xs : List X) (i : ℕ) (x : X) → length (slice_set xs i x) ≡ length xs
@@ -98,7 +99,7 @@ event_kept program (Step t) s mid e = go (slice_get s.threads t) e
     carried th (Some stmt) e =
         let o : Operation = source_operation stmt in
         let next : State = record { threads = slice_set s.threads t (thread_after o th s.words); words = words_after o th s.words } in
-        let kept : SameSize s next = (set_length s.threads t (thread_after o th s.words), words_kept o th s.words) in
+        let kept : SameSize s next = (set_length s.threads t _, words_kept o th s.words) in
         subst (SameSize s) (let same : next ≡ mid = cc in same) kept
 
     go : (th : Option Thread) → step_of program t s th ≡ Ok mid → SameSize s mid
@@ -123,9 +124,8 @@ read_at f xs ys i j d same place within = slice_get-map f xs i ∙ ap (option_ma
 pub mapped_on : {X Y : Type 0} (f : X → Y) (xs ys : List X) (i : ℕ) (d : X) (out next : List Y) → ys ≡ xs
     → i < length ys → out ≡ map f (take i xs) → next ≡ out ++ f (get_or ys i d) ∷ [] → next ≡ map f (take (i + 1) xs)
 mapped_on {X} f xs ys i d out next same within so_far pushed =
-    let more : take (suc i) ys ≡ take i ys ++ get_or ys i d ∷ [] = take-suc ys i d within in
     let last : suc i ≡ i + 1 = omega arith in
-    pushed ∙ rw (so_far, ← same, ← last, more, map-append) refl
+    pushed ∙ rw (so_far, ← same, ← last, (take-suc ys i d within), map-append) refl
 
 the_code : (program : List (List Stmt)) (t : ℕ) (code : List Stmt) → t < length program → code ≡ get_or program t code → code_of program t ≡ code
 the_code program t code within is =
@@ -134,8 +134,9 @@ the_code program t code within is =
     cc
 
 -- the next statement of a thread is on the locations of the test, and stands among at most 16
-pub next_statement : (words locs : ℕ) (threads : List Thread) (program : List (List Stmt)) (t : ℕ) (th : Thread)
-    (code : List Stmt) (stmt : Stmt) → words ≡ locs → length threads ≡ length program → All (IsThread source locs) program
+pub next_statement : (words locs : ℕ) (threads : List Thread) (program : List (List Stmt)) (t : ℕ)
+    (th : Thread) (code : List Stmt) (stmt : Stmt)
+    → words ≡ locs → length threads ≡ length program → All (IsThread source locs) program
     → Some th ≡ slice_get threads t → code ≡ get_or program t code → Some stmt ≡ slice_get code th.position
     → IsStatement source words stmt × (th.position + 1 < 2 ^ 64)
 next_statement words locs threads program t th code stmt same many whole is_thread is_code is_stmt =
@@ -150,10 +151,13 @@ pub made : (a b : List Thread) (u v : List ℕ) → a ≡ b → u ≡ v → (let
 made a b u v e f = rw (e, f) refl
 
 -- a step of a thread that has a next statement
-pub stepped : (Q : Type 0) (answer : Result (Unit {0}) Stop) (before run : SourceRunState) (end : State) (t : ℕ) (th : Thread)
-    (code : List Stmt) (stmt : Stmt) → before ≡ run → answer ≡ Ok tt → length before.state.threads ≡ length before.program
-    → Some th ≡ slice_get before.state.threads t → code ≡ get_or before.program t code → Some stmt ≡ slice_get code th.position
-    → end.threads ≡ slice_set before.state.threads t (thread_after (source_operation stmt) th before.state.words)
+pub stepped : (Q : Type 0) (answer : Result (Unit {0}) Stop) (before run : SourceRunState) (end : State)
+    (t : ℕ) (th : Thread) (code : List Stmt) (stmt : Stmt)
+    → before ≡ run → answer ≡ Ok tt → length before.state.threads ≡ length before.program
+    → Some th ≡ slice_get before.state.threads t → code ≡ get_or before.program t code
+    → Some stmt ≡ slice_get code th.position
+    → end.threads ≡ slice_set before.state.threads t (thread_after (source_operation stmt) th
+    before.state.words)
     → end.words ≡ words_after (source_operation stmt) th before.state.words
     → Told Q (source_step run.program t run.state) answer end
 stepped Q answer before run end t th code stmt same ok many is_thread is_code is_stmt threads words =
@@ -162,8 +166,8 @@ stepped Q answer before run end t th code stmt same ok many is_thread is_code is
     rw (← same) (rw (← is_thread) (rw (at_code, ← is_stmt) (ok, made _ _ _ _ threads words)))
 
 -- a step of a thread that is not there
-pub no_thread : (Q : Type 0) (answer : Result (Unit {0}) Stop) (before run : SourceRunState) (t : ℕ) → before ≡ run
-    → answer ≡ Err NoCpu → None ≡ slice_get before.state.threads t → Q
+pub no_thread : (Q : Type 0) (answer : Result (Unit {0}) Stop) (before run : SourceRunState) (t : ℕ)
+    → before ≡ run → answer ≡ Err NoCpu → None ≡ slice_get before.state.threads t → Q
     → Told Q (source_step run.program t run.state) answer run.state
 no_thread Q answer before run t same failed is_thread kept = rw (← same) (rw (← is_thread) (failed, kept))
 
@@ -194,6 +198,7 @@ written_on f items ys old xs i d same is within there =
     let here : i < length ys = omega (arith, within, ap length same) in
     let front = length-map (take i ys) f ∙ length-take-le i ys (omega (arith, here)) in
     let new = f (get_or ys i d) in
-    ap (λ zs. slice_set xs i (f (get_or zs i d))) same ∙ ap (λ zs. slice_set zs i new) (is ∙ ap (λ zs. map f (take i ys) ++ zs) (drop_more old i new there))
-    ∙ set_at (map f (take i ys)) (get_or old i new) (drop (i + 1) old) new i front
-    ∙ sym (ap (λ zs. zs ++ drop (i + 1) old) (map_more f ys i d here) ∙ append_assoc (map f (take i ys)) (new ∷ []) (drop (i + 1) old))
+    ap (λ zs. slice_set xs i (f (get_or zs i d))) same ∙ ap (λ zs. slice_set zs i new) (is
+        ∙ ap (λ zs. map f (take i ys) ++ zs) (drop_more old i new there)) ∙ set_at (map f (take i ys))
+        (get_or old i new) (drop (i + 1) old) new i front ∙ sym (ap (λ zs. zs ++ drop (i + 1) old)
+        (map_more f ys i d here) ∙ append_assoc (map f (take i ys)) (new ∷ []) (drop (i + 1) old))

@@ -19,8 +19,8 @@ state processors m = record { processors = processors; memory = m }
 same_word : (m : List ℕ) (x v w : ℕ) → Some v ≡ Some (slice_index m x) → Some w ≡ Some (slice_index m x) → v ≡ w
 same_word m x v w e f = cc
 
-act_once : (t : ℕ) (act : Act) (p q r : Processor) (m n k : List ℕ) (a b : Answer) → ActDone flat t act p m a q n → ActDone flat t act p m b r k
-    → (a ≡ b) × (q ≡ r) × (n ≡ k)
+act_once : (t : ℕ) (act : Act) (p q r : Processor) (m n k : List ℕ) (a b : Answer)
+    → ActDone flat t act p m a q n → ActDone flat t act p m b r k → (a ≡ b) × (q ≡ r) × (n ≡ k)
 act_once t (Loads x next) p q r m n k a b d e = (d.1 ∙ sym e.1, d.2 ∙ ap next (same_word m x d.0 e.0 d.3.0 e.3.0) ∙ sym e.2, d.3.1 ∙ sym e.3.1)
 act_once t (Stores x w next) p q r m n k a b d e = (d.0 ∙ sym e.0, d.1 ∙ sym e.1, d.2.1 ∙ sym e.2.1)
 act_once t (Swaps x v next) p q r m n k a b d e = (d.1 ∙ sym e.1, d.2 ∙ ap next (same_word m x d.0 e.0 d.3.0 e.3.0) ∙ sym e.2, d.3.1 ∙ sym e.3.1)
@@ -34,7 +34,7 @@ event_once program e s after other a b = go (slice_get s.processors (cpu_of e))
     go : (o : Option Processor) → DoneBy flat o program e s a after → DoneBy flat o program e s b other → (a ≡ b) × (after ≡ other)
     go None d f = (d.0 ∙ sym f.0, d.1 ∙ sym f.1)
     go (Some p) d f =
-        let same = act_once (cpu_of e) (event_act program (length s.memory) e p) p d.0 f.0 s.memory d.1 f.1 a b d.2 f.2 in
+        let same = act_once (cpu_of e) _ p d.0 f.0 s.memory d.1 f.1 a b d.2 f.2 in
         (same.0, d.3 ∙ ap₂ (λ q n. state (slice_set s.processors (cpu_of e) q) n) same.1 same.2 ∙ sym f.3)
 
 -- ---- acts that are possible
@@ -60,8 +60,8 @@ pub done_does : (t : ℕ) (act : Act) (p q : Processor) (m n : List ℕ) → Act
 done_does t (Goes next) p q m n d = (d.1, d.2)
 done_does t (Loads x next) p q m n d = (d.2 ∙ ap next (same_word m x d.0 (slice_index m x) d.3.0 refl), d.3.1)
 done_does t (Stores x w next) p q m n d = (d.1, d.2.1)
-done_does t (Swaps x v next) p q m n d = (d.2 ∙ ap next (same_word m x d.0 (slice_index m x) d.3.0 refl), d.3.1)
-done_does t (Adds x v next) p q m n d = (d.2 ∙ ap next (same_word m x d.0 (slice_index m x) d.3.0 refl), d.3.1)
+done_does t (Swaps x v next) p q m n d = (d.2 ∙ ap next (same_word m x d.0 _ d.3.0 refl), d.3.1)
+done_does t (Adds x v next) p q m n d = (d.2 ∙ ap next (same_word m x d.0 _ d.3.0 refl), d.3.1)
 done_does t _ p q m n d = absurd (let e = d.0 in cc)
 
 -- there is nothing to evict
@@ -83,11 +83,12 @@ pub record Did (program : List (List Instr)) (e : Event) (s mid : MachineState (
 
 module _ (program : List (List Instr)) where
   -- an event, from what its act does
-  pub leads_from : (e : Event) (processors : List Processor) (p q : Processor) (m n : List ℕ) → slice_get processors (cpu_of e) ≡ Some p
-      → Does m (event_act program (length m) e p) q n → EventDone flat program e (state processors m) (Ok tt) (state (slice_set processors (cpu_of e) q) n)
+  pub leads_from : (e : Event) (processors : List Processor) (p q : Processor) (m n : List ℕ)
+      → slice_get processors (cpu_of e) ≡ Some p → Does m (event_act program (length m) e p) q n
+      → EventDone flat program e (state processors m) (Ok tt) (state (slice_set processors (cpu_of e) q) n)
   leads_from e processors p q m n was d =
-      subst (λ (o : Option Processor). DoneBy flat o program e (state processors m) (Ok tt) (state (slice_set processors (cpu_of e) q) n)) (sym was)
-      (q, n, does_done (cpu_of e) (event_act program (length m) e p) p q m n d, refl)
+      subst (λ o. DoneBy flat o program e (state processors m) (Ok tt) (state (slice_set processors (cpu_of e)
+          q) n)) (sym was) (q, n, does_done (cpu_of e) (event_act program (length m) e p) p q m n d, refl)
 
   -- what an event's act did
   pub leads_to : (e : Event) (s mid : MachineState (List ℕ)) → EventDone flat program e s (Ok tt) mid → Did program e s mid

@@ -1,6 +1,6 @@
 -- Every run of a program can be brought to its end: each processor is led to its own, one after another, by draining its
 -- buffer and stepping on once it is empty.
-use Rattle.std.proofs.Common.{inl, inr, ◌≡◌, ◌≢◌, ℕ, zero, suc, ◌+◌, ◌<◌, ◌≤◌, ◌==◌, nat_le, ◌&&◌, Bool, true}
+use Rattle.std.proofs.Common.{inl, inr, ◌≡◌, ◌≢◌, ℕ, zero, suc, ◌+◌, ◌<◌, ◌≤◌, ◌==◌, ◌&&◌, Bool, true}
 use Rattle.std.proofs.Common.{cond, List, [], ◌∷◌, ◌++◌, length, get_or, Ok, Option, Some, None, refl, sym}
 use Rattle.std.proofs.Common.{ap, ap₂, ◌∙◌, subst, arith, ⊎_elim, slice_get, slice_set, slice_index, ne_eqb}
 use Rattle.std.proofs.Common.{All, IsTrue, zip, le-leb}
@@ -41,19 +41,18 @@ without_append (Step t ∷ es) fs = ap (λ l. Step t ∷ l) (without_append es f
 without_append (Drain t ∷ es) fs = ap (λ l. Drain t ∷ l) (without_append es fs)
 without_append (Evict t x ∷ es) fs = without_append es fs
 
-and_true : (a b : Bool) → a ≡ true → b ≡ true → (a && b) ≡ true
-and_true a b e f = rw (e, f) refl
+and_true : {a b : Bool} → a ≡ true → b ≡ true → (a && b) ≡ true
+and_true e f = rw (e, f) refl
 
 -- past the end, with an empty buffer
 done_at : (code : List Instr) (p : Processor) → length code ≤ p.position → p.buffer ≡ [] → is_done code p ≡ true
-done_at code p past empty = and_true (nat_le (length code) p.position) (length p.buffer == 0) (le-leb (length code) p.position past)
-    (ap (λ (b : List (ℕ × ℕ)). length b == 0) empty)
+done_at code p past empty = and_true (le-leb _ p.position past) (ap (λ b. length b == 0) empty)
 
 -- all are done where each is
 all_done : (codes : List (List Instr)) (ps : List Processor)
     → ((t : ℕ) (p : Processor) → slice_get ps t ≡ Some p → is_done (code_of codes t) p ≡ true)
     → list_all (λ p. is_done p.0 p.1) (zip codes ps) ≡ true
-all_done (code ∷ codes) (p ∷ ps) each = and_true (is_done code p) _ (each 0 p refl) (all_done codes ps (λ t q at. each (suc t) q at))
+all_done (code ∷ codes) (p ∷ ps) each = and_true (each 0 p refl) (all_done codes ps (λ t q at. each (suc t) q at))
 all_done _ _ each = refl
 
 module _ {M : Type 0} (mem : Memory M) (inv : Invariant M) (laws : Lawful mem inv) where
@@ -94,8 +93,8 @@ module _ {M : Type 0} (mem : Memory M) (inv : Invariant M) (laws : Lawful mem in
       none : (u : ℕ) → u ≢ t → events_of u events ≡ 0
       kept : without_evictions events ≡ events
 
-    ended : (t k : ℕ) (s : MachineState M) (p : Processor) → Within s → slice_get s.processors t ≡ Some p → length (code_of program t) ≤ p.position
-        → p.buffer ≡ [] → Finished t k s
+    ended : (t k : ℕ) (s : MachineState M) (p : Processor) → Within s → slice_get s.processors t ≡ Some p
+        → length (code_of program t) ≤ p.position → p.buffer ≡ [] → Finished t k s
     ended t k s p within at past empty = record {
       events = [];
       end = s;
@@ -126,25 +125,25 @@ module _ {M : Type 0} (mem : Memory M) (inv : Invariant M) (laws : Lawful mem in
           others = λ u ne. f.others u ne ∙ slice_get-set_other s.processors (cpu_of e) u q ne;
           within = f.within;
           few = omega (arith, f.few);
-          none = λ u ne.
-              sum_by-cons (λ (d : Event). cond (cpu_of d == u) 1 0) e f.events
-              ∙ ap₂ (λ a b. a + b) (ap (λ b. cond b 1 0) (ne_eqb (cpu_of e) u (λ same. ne (sym same)))) (f.none u ne);
+          none = λ u ne. sum_by-cons (λ (d : Event). cond (cpu_of d == u) 1 0) e f.events ∙ ap₂ (λ a b. a + b)
+              (ap (λ b. cond b 1 0) (ne_eqb (cpu_of e) u (λ same. ne (sym same)))) (f.none u ne);
           kept = keeps f.events ∙ ap (λ l. e ∷ l) f.kept;
         }
 
     -- the next instruction of a processor with an empty buffer leads forward
-    stepped : (t : ℕ) (s : MachineState M) (p : Processor) → Within s → slice_get s.processors t ≡ Some p → p.buffer ≡ []
-        → p.position < length (code_of program t)
-        → IsPossible t (event_act program (length (mem.content s.memory)) (Step t) p) p s.memory (λ q. p.position < q.position)
+    stepped : (t : ℕ) (s : MachineState M) (p : Processor) → Within s → slice_get s.processors t ≡ Some p
+        → p.buffer ≡ [] → p.position < length (code_of program t)
+        → IsPossible t (event_act program (length (mem.content s.memory)) (Step t) p) p s.memory
+        (λ q. p.position < q.position)
     stepped t s p within at empty lt =
         let code = code_of program t in
         let thread = thread_at mem inv laws program locs threads s t p within at in
         let i : Instr = get_or code p.position Mfence in
         let next : slice_get code p.position ≡ Some i = slice_get-get_or code p.position Mfence lt in
         let cpu : t < inv.cpus s.memory = omega (arith, slice_get_within s.processors t p at, within.cpus) in
-        let comes = operation_comes ⊥ (λ x written. x < length (mem.content s.memory)) (λ q. p.position < q.position) (x86_operation i) p
-        (λ waits full. full empty) (λ x is. asks_within mem inv laws program locs threads t p s within at x (inl (i, next, is)))
-        (λ q went. forward locs code thread p.position q.position i next went.leads) in
+        let comes = operation_comes ⊥ (λ x written. x < length (mem.content s.memory)) (λ q. p.position
+            < q.position) _ p (λ waits full. full empty) (λ x is. asks_within mem inv laws _ locs threads t p
+            s within at x (inl (i, next, is))) (λ q went. forward locs code thread _ _ i next went.leads) in
         subst (λ o. IsPossible t (step_act o p) p s.memory (λ q. p.position < q.position)) (sym next)
         (possible t (operation_act (x86_operation i) p) p s.memory _ within.sound cpu comes)
 
@@ -153,25 +152,24 @@ module _ {M : Type 0} (mem : Memory M) (inv : Invariant M) (laws : Lawful mem in
         → IsPossible t (drain_act p.buffer p) p s.memory (λ q. q ≡ record p { buffer = newer })
     drained t s p entry newer within at full =
         let cpu : t < inv.cpus s.memory = omega (arith, slice_get_within s.processors t p at, within.cpus) in
-        let lt = asks_within mem inv laws program locs threads t p s within at entry.0 (inr (entry, newer, full, refl)) in
+        let lt = asks_within _ _ laws _ _ threads t p s within at entry.0 (inr (entry, newer, full, refl)) in
         possible t (drain_act p.buffer p) p s.memory _ within.sound cpu
         (subst (λ b. Comes ⊥ (λ x written. x < length (mem.content s.memory)) (λ q. q ≡ record p { buffer = newer }) (drain_act b p)) (sym full) (lt, refl))
 
     -- with at most r steps ahead, and k events
-    finish : (t k r : ℕ) (s : MachineState M) (p : Processor) (b : List (ℕ × ℕ)) → Within s → slice_get s.processors t ≡ Some p → p.buffer ≡ b
-        → length (code_of program t) ≤ r + p.position → r + (length b + stores_from p.position (code_of program t)) ≤ k → Finished t k s
+    finish : (t k r : ℕ) (s : MachineState M) (p : Processor) (b : List (ℕ × ℕ)) → Within s
+        → slice_get s.processors t ≡ Some p → p.buffer ≡ b → length (code_of program t) ≤ r + p.position
+        → r + (length b + stores_from p.position (code_of program t)) ≤ k → Finished t k s
     finish t zero r s p [] within at is ahead small = ended t 0 s p within at (omega arith) is
     finish t zero r s p (entry ∷ newer) within at is ahead small = absurd (omega arith)
     finish t (suc k) r s p (entry ∷ newer) within at is ahead small =
         let d = drained t s p entry newer within at is in
-        first (Drain t) s p d.0 d.1 k within at d.2 (λ es. refl)
-        (λ mid w got. finish t k r mid (record p { buffer = newer }) newer w (got ∙ ap Some d.3) refl ahead (omega arith))
+        first (Drain t) s p d.0 d.1 k within at d.2 (λ es. refl) (λ mid w got. finish t k r mid
+            (record p { buffer = newer }) newer w (got ∙ ap Some d.3) refl ahead (omega arith))
     finish t (suc k) zero s p [] within at is ahead small = ended t (suc k) s p within at (omega arith) is
     finish t (suc k) (suc r) s p [] within at is ahead small =
-        ⊎_elim
-        (λ lt. go lt (λ mid q w got. finish t k r mid q q.buffer w got refl))
-        (λ past. ended t (suc k) s p within at past is)
-        (cases_lt p.position (length (code_of program t)))
+        ⊎_elim (λ lt. go lt (λ mid q w got. finish t k r mid q q.buffer w got refl)) (λ past. ended t (suc k)
+            s p within at past is) (cases_lt p.position (length (code_of program t)))
       where
         go : p.position < length (code_of program t)
             → ((mid : MachineState M) (q : Processor) → Within mid → slice_get mid.processors t ≡ Some q → length (code_of program t) ≤ r + q.position
@@ -181,8 +179,8 @@ module _ {M : Type 0} (mem : Memory M) (inv : Invariant M) (laws : Lawful mem in
             let g = stepped t s p within at is lt in
             let had : HasRoom locs (code_of program t) p (stores_from p.position (code_of program t)) = record
             { fits = omega (arith, ap length is); there = (within.rooms t p at).there } in
-            let has = event_room mem program locs (stores_from p.position (code_of program t)) (Step t) p g.0 s.memory g.1 (Ok tt)
-            (thread_at mem inv laws program locs threads s t p within at) g.2 had in
+            let has = event_room mem program locs (stores_from p.position (code_of program t)) (Step t) p g.0
+                s.memory g.1 (Ok tt) (thread_at mem inv laws program locs threads s t p within at) g.2 had in
             first (Step t) s p g.0 g.1 k within at g.2 (λ es. refl)
             (λ mid w got. later mid g.0 w got (omega (arith, ahead, g.3)) (omega (arith, small, has.fits)))
 
@@ -206,11 +204,9 @@ module _ {M : Type 0} (mem : Memory M) (inv : Invariant M) (laws : Lawful mem in
       end = f.end;
       ran = Ran-append (EventDone mem program) a.events f.events s a.end f.end a.ran f.ran;
       within = f.within;
-      done = λ t p lt got. ⊎_elim
-          (λ same. subst (λ (u : ℕ). is_done (code_of program u) p ≡ true) (sym same)
-          (f.done p (subst (λ (u : ℕ). slice_get f.end.processors u ≡ Some p) same got)))
-          (λ ne. a.done t p (omega arith) (sym (f.others t ne) ∙ got))
-          (cases_eq t k);
+      done = λ t p lt got. ⊎_elim (λ same. subst (λ (u : ℕ). is_done (code_of program u) p ≡ true) (sym same)
+          (f.done p (subst (λ (u : ℕ). slice_get f.end.processors u ≡ Some p) same got))) (λ ne. a.done t p
+          (omega arith) (sym (f.others t ne) ∙ got)) (cases_eq t k);
       few = λ t. ⊎_elim (λ same. subst (λ (u : ℕ). events_of u (a.events ++ f.events) ≤ 64) (sym same) here) (λ ne. there t ne) (cases_eq t k);
       none = λ t le. absent t le;
       kept = without_append a.events f.events ∙ ap₂ (λ x y. x ++ y) a.kept f.kept;
@@ -225,8 +221,8 @@ module _ {M : Type 0} (mem : Memory M) (inv : Invariant M) (laws : Lawful mem in
         absent : (t : ℕ) → suc k ≤ t → events_of t (a.events ++ f.events) ≡ 0
         absent t le = let ne : t ≢ k = omega arith in omega (arith, count_append t a.events f.events, a.none t (omega arith), f.none t ne)
 
-    idle : (k : ℕ) (s : MachineState M) (a : Part k s) → slice_get a.end.processors k ≡ None → Finished k 64 a.end
-    idle k s a at = record {
+    idle : {k : ℕ} (s : MachineState M) (a : Part k s) → slice_get a.end.processors k ≡ None → Finished k 64 a.end
+    idle s a at = record {
       events = [];
       end = a.end;
       ran = refl;
@@ -245,8 +241,7 @@ module _ {M : Type 0} (mem : Memory M) (inv : Invariant M) (laws : Lawful mem in
       ran = refl;
       within = within;
       done = λ t p lt got. absurd (omega arith);
-      few =
-          λ t. omega arith;
+      few = λ t. omega arith;
       none = λ t le. refl;
       kept = refl;
     }
@@ -256,7 +251,7 @@ module _ {M : Type 0} (mem : Memory M) (inv : Invariant M) (laws : Lawful mem in
         more a = one_more k s a (go (slice_get a.end.processors k) refl)
           where
             go : (o : Option Processor) → slice_get a.end.processors k ≡ o → Finished k 64 a.end
-            go None at = idle k s a at
+            go None at = idle s a at
             go (Some p) at =
                 let code = code_of program k in
                 let thread = thread_at mem inv laws program locs threads a.end k p a.within at in
@@ -267,8 +262,8 @@ module _ {M : Type 0} (mem : Memory M) (inv : Invariant M) (laws : Lawful mem in
     ends_from : (s : MachineState M) → Within s → CanEnd mem program s
     ends_from s within =
         let a = parts (length program) s within in
-        let all : IsTrue (is_final program a.end) = all_done program a.end.processors
-        (λ t p got. a.done t p (omega (arith, slice_get_within a.end.processors t p got, a.within.as_many)) got) in
+        let all : IsTrue (is_final program a.end) = all_done program a.end.processors (λ t p got. a.done t p
+            (omega (arith, slice_get_within a.end.processors t p got, a.within.as_many)) got) in
         record {
           more = a.events;
           end = a.end;
@@ -281,6 +276,4 @@ module _ {M : Type 0} (mem : Memory M) (inv : Invariant M) (laws : Lawful mem in
   -- every run can be brought to its end
   pub can_end : (test : ProgramTest) → IsWellFormedProgram test → (m : M) (es : List Event) (s : MachineState M) → CanStart mem inv test m
       → MachineRan mem test.threads es (machine_start test m) s → CanEnd mem test.threads s
-  can_end test ok m es s start ran =
-      ends_from test.threads (length test.head.locs) ok.code s
-      (within_reached mem inv laws test ok m es s start ran)
+  can_end test ok m es s start ran = ends_from _ _ ok.code s (within_reached _ inv laws _ ok m es s start ran)

@@ -1,5 +1,5 @@
 -- A run over the flat memory is a run over every memory that keeps the laws.
-use Rattle.std.proofs.Common.{Bool, inl, inr, ◌≡◌, ◌↔◌, ℕ, ◌<◌, ◌≤◌, List, [], ◌∷◌, length, map, Ok, Option}
+use Rattle.std.proofs.Common.{Bool, inl, inr, ◌≡◌, ◌↔◌, ℕ, ◌<◌, ◌≤◌, List, [], ◌∷◌, length, Ok, Option}
 use Rattle.std.proofs.Common.{Some, None, refl, sym, ap, ◌∙◌, subst, arith, slice_get, slice_set, All, IsTrue}
 use Rattle.std.proofs.Common.{option_map, length-set}
 use Rattle.std.proofs.lemmas.List.{length-map}
@@ -44,28 +44,30 @@ flat_evicts_none program _ s mid done = refl
 
 module _ {M : Type 0} (mem : Memory M) (inv : Invariant M) (laws : Lawful mem inv) where
   -- a request, done over the content, is done over the memory
-  served_too : (r : Request) (a : Option ℕ) (m : M) (words : List ℕ) → inv.sound m → IsInRange (inv.cpus m) (length (mem.content m)) r
-      → IsPossible (mem.state m) r
-      → a ≡ answer_of (mem.content m) r → words ≡ content_after (mem.content m) r → (n : M) × mem.serves m r a n × (mem.content n ≡ words)
-  served_too r a m words sound there possible answer after =
+  served_too : {r : Request} {a : Option ℕ} (m : M) {words : List ℕ} → inv.sound m
+      → IsInRange (inv.cpus m) (length (mem.content m)) r → IsPossible (mem.state m) r
+      → a ≡ answer_of (mem.content m) r → words ≡ content_after (mem.content m) r
+      → (n : M) × mem.serves m r a n × (mem.content n ≡ words)
+  served_too {r = r} m sound there possible answer after =
       let g = laws.serves m r sound there possible in
       (g.0, subst (λ b. mem.serves m r b g.0) (sym answer) g.1, (laws.served m r (answer_of (mem.content m) r) g.0 sound g.1).content ∙ sym after)
 
-  act_lift : (Reason : Type 0) (Asks : ℕ → Bool → Type 0) (Makes : Processor → Type 0) (t : ℕ) (act : Act) (p q : Processor)
-      (m : M) (words : List ℕ) (answer : Answer) → inv.sound m → t < inv.cpus m
-      → ((x : ℕ) (w : Bool) → Asks x w → x < length (mem.content m)) → Comes Reason Asks Makes act
-      → ActDone flat t act p (mem.content m) answer q words → (n : M) × ActDone mem t act p m answer q n × (mem.content n ≡ words)
+  act_lift : (Reason : Type 0) (Asks : ℕ → Bool → Type 0) (Makes : Processor → Type 0) (t : ℕ) (act : Act)
+      (p q : Processor) (m : M) (words : List ℕ) (answer : Answer)
+      → inv.sound m → t < inv.cpus m → ((x : ℕ) (w : Bool) → Asks x w → x < length (mem.content m))
+      → Comes Reason Asks Makes act → ActDone flat t act p (mem.content m) answer q words
+      → (n : M) × ActDone mem t act p m answer q n × (mem.content n ≡ words)
   act_lift R A K t (Loads x next) p q m words answer sound cpu within comes done =
-      let g = served_too (to.Load t x) (Some done.0) m words sound (cpu, within x _ comes.0) tt done.3.0 done.3.1 in
+      let g = served_too m sound (cpu, within x _ comes.0) tt done.3.0 done.3.1 in
       (g.0, (done.0, done.1, done.2, g.1), g.2)
   act_lift R A K t (Stores x w next) p q m words answer sound cpu within comes done =
-      let g = served_too (to.Store t x w) None m words sound (cpu, within x _ comes.0) tt done.2.0 done.2.1 in
+      let g = served_too m sound (cpu, within x _ comes.0) tt done.2.0 done.2.1 in
       (g.0, (done.0, done.1, g.1), g.2)
   act_lift R A K t (Swaps x v next) p q m words answer sound cpu within comes done =
-      let g = served_too (to.Swap t x v) (Some done.0) m words sound (cpu, within x _ comes.0) tt done.3.0 done.3.1 in
+      let g = served_too m sound (cpu, within x _ comes.0) tt done.3.0 done.3.1 in
       (g.0, (done.0, done.1, done.2, g.1), g.2)
   act_lift R A K t (Adds x v next) p q m words answer sound cpu within comes done =
-      let g = served_too (to.FetchAdd t x v) (Some done.0) m words sound (cpu, within x _ comes.0) tt done.3.0 done.3.1 in
+      let g = served_too m sound (cpu, within x _ comes.0) tt done.3.0 done.3.1 in
       (g.0, (done.0, done.1, done.2, g.1), g.2)
   act_lift R A K t (Evicts x) p q m words answer sound cpu within comes done = absurd comes
   act_lift R A K t _ p q m words answer sound cpu within comes done = (m, (done.0, done.1, refl), sym done.2)
@@ -92,8 +94,8 @@ module _ {M : Type 0} (mem : Memory M) (inv : Invariant M) (laws : Lawful mem in
     within_after e s p q n answer within at done =
         let kept = act_kept mem inv laws (cpu_of e) (event_act program (length (mem.content s.memory)) e p) p q s.memory n answer within.sound done in
         let longer = length-set s.processors (cpu_of e) q in
-        let room = event_room mem program locs (stores_from 0 (code_of program (cpu_of e))) e p q s.memory n answer
-        (thread_at s (cpu_of e) p within at) done (within.rooms (cpu_of e) p at) in
+        let room = event_room mem program locs (stores_from 0 (code_of program (cpu_of e))) e p q s.memory n
+            answer (thread_at s (cpu_of e) p within at) done (within.rooms (cpu_of e) p at) in
         record {
           sound = kept.sound;
           locations = kept.locations ∙ within.locations;
@@ -116,11 +118,11 @@ module _ {M : Type 0} (mem : Memory M) (inv : Invariant M) (laws : Lawful mem in
       where
         go : (o : Option Processor) → slice_get s.processors (cpu_of e) ≡ o → DoneBy mem o program e s answer after → IsWithin after
         go None at done = subst IsWithin (sym done.1) within
-        go (Some p) at done = subst IsWithin (sym done.3) (within_after e s p done.0 done.1 answer within at done.2)
+        go (Some p) at done = subst IsWithin (sym done.3) (within_after e s p _ _ answer within at done.2)
 
     within_run : (es : List Event) (s end : MachineState M) → IsWithin s → MachineRan mem program es s end → IsWithin end
     within_run [] s end within ran = subst IsWithin (sym ran) within
-    within_run (e ∷ es) s end within ran = within_run es ran.0 end (within_event e s ran.0 (Ok tt) within ran.1) ran.2
+    within_run (e ∷ es) s end within ran = within_run es _ end (within_event e s _ (Ok tt) within ran.1) ran.2
 
     -- an event that is no eviction, done over the content, is done over the memory
     abbrev pub LiftedEvent : Event → MachineState M → Answer → MachineState (List ℕ) → Type 0
@@ -137,12 +139,12 @@ module _ {M : Type 0} (mem : Memory M) (inv : Invariant M) (laws : Lawful mem in
         let end : MachineState M = record { processors = slice_set s.processors (cpu_of e) done.0; memory = g.0 } in (
           end,
           subst (λ o. DoneBy mem o program e s answer end) (sym at) (done.0, g.0, g.1, refl),
-          ap (λ (words : List ℕ). let a : MachineState (List ℕ) = record { processors = slice_set s.processors (cpu_of e) done.0; memory = words } in a)
-              g.2 ∙ sym done.3,
+          ap (λ (words : List ℕ). let a : MachineState (List ℕ) = record { processors = slice_set s.processors
+              (cpu_of e) done.0; memory = words } in a) g.2 ∙ sym done.3,
         )
 
-    event_lift : (e : Event) (s : MachineState M) (answer : Answer) (mid : MachineState (List ℕ)) → IsWithin s → IsNoEviction e
-        → EventDone flat program e (flatten mem s) answer mid → LiftedEvent e s answer mid
+    event_lift : (e : Event) (s : MachineState M) (answer : Answer) (mid : MachineState (List ℕ)) → IsWithin s
+        → IsNoEviction e → EventDone flat program e (flatten mem s) answer mid → LiftedEvent e s answer mid
     event_lift e s answer mid within none done = by_lift (slice_get s.processors (cpu_of e)) e s answer mid within none refl done
 
     pub record LiftedRun (es : List Event) (s : MachineState M) (last : MachineState (List ℕ)) : Type 0 where
@@ -150,11 +152,11 @@ module _ {M : Type 0} (mem : Memory M) (inv : Invariant M) (laws : Lawful mem in
       pub ran : MachineRan mem program es s end
       pub is : flatten mem end ≡ last
 
-    pub run_lift : (es : List Event) (s : MachineState M) (last : MachineState (List ℕ)) → IsWithin s → MachineRan flat program es (flatten mem s) last
-        → LiftedRun es s last
+    pub run_lift : (es : List Event) (s : MachineState M) (last : MachineState (List ℕ)) → IsWithin s
+        → MachineRan flat program es (flatten mem s) last → LiftedRun es s last
     run_lift [] s last within ran = record { end = s; ran = refl; is = sym ran }
     run_lift (e ∷ es) s last within ran =
-        let a = event_lift e s (Ok tt) ran.0 within (flat_evicts_none program e (flatten mem s) ran.0 ran.1) ran.1 in
+        let a = event_lift e s (Ok tt) ran.0 within (flat_evicts_none program e _ ran.0 ran.1) ran.1 in
         let b = run_lift es a.0 last (within_event e s a.0 (Ok tt) within a.1)
         (subst (λ (x : MachineState (List ℕ)). MachineRan flat program es x last) (sym a.2) ran.2) in
         record { end = b.end; ran = (a.0, a.1, b.ran); is = b.is }
@@ -167,30 +169,31 @@ module _ {M : Type 0} (mem : Memory M) (inv : Invariant M) (laws : Lawful mem in
     started p None e = absurd cc
     started p (Some r) e = (r, same_Some p (starting r) e)
 
-    pub within_first : (m : M) → CanStart mem inv test m → IsWithin test.threads locs ok.code (machine_start test m)
-    within_first m start =
-        let many : length (map starting test.head.init_regs) ≡ length test.threads = length-map test.head.init_regs starting ∙ ok.head.regs ∙ sym ok.as_many in
+    pub within_first : {m : M} → CanStart mem inv test m → IsWithin test.threads locs ok.code (machine_start test m)
+    within_first start =
+        let many = length-map test.head.init_regs starting ∙ ok.head.regs ∙ sym ok.as_many in
         record {
           sound = start.sound;
           locations = ap length start.words ∙ ok.head.words;
           cpus = omega (arith, many, start.cpus);
           as_many = many;
           rooms = λ t p at.
-              let first = started p (slice_get test.head.init_regs t) (sym at ∙ slice_get-map starting test.head.init_regs t) in
-              subst (λ q. HasRoom locs (code_of test.threads t) q (stores_from 0 (code_of test.threads t))) (sym first.1)
-              (record { fits = omega arith; there = All-nil _ });
+              let first = started p _ (sym at ∙ slice_get-map starting test.head.init_regs t) in
+              subst (λ q. HasRoom locs (code_of test.threads t) q (stores_from 0 (code_of test.threads t)))
+                  (sym first.1) (record { fits = omega arith; there = All-nil _ });
         }
 
     pub within_reached : (m : M) (es : List Event) (s : MachineState M) → CanStart mem inv test m
         → MachineRan mem test.threads es (machine_start test m) s → IsWithin test.threads locs ok.code s
-    within_reached m es s start ran = within_run test.threads locs ok.code es (machine_start test m) s (within_first m start) ran
+    within_reached m es s start ran = within_run _ locs _ es (machine_start test m) s (within_first start) ran
 
     -- in a state that is reached, an event that is no eviction is one over the flat memory
-    pub reached_flat : (m : M) (es : List Event) (s after : MachineState M) (e : Event) (answer : Answer) → CanStart mem inv test m
-        → MachineRan mem test.threads es (machine_start test m) s → IsNoEviction e
-        → EventDone mem test.threads e s answer after → EventDone flat test.threads e (flatten mem s) answer (flatten mem after)
-    reached_flat m es s after e answer start ran none done = event_flat mem inv laws test.threads e s after answer
-        (within_reached m es s start ran).sound none done
+    pub reached_flat : (m : M) (es : List Event) (s after : MachineState M) (e : Event) (answer : Answer)
+        → CanStart mem inv test m → MachineRan mem test.threads es (machine_start test m) s → IsNoEviction e
+        → EventDone mem test.threads e s answer after
+        → EventDone flat test.threads e (flatten mem s) answer (flatten mem after)
+    reached_flat m es s after e answer start ran none done = event_flat mem inv laws test.threads e s after
+        answer (within_reached m es s start ran).sound none done
 
     -- and the other way round
     pub reached_lift : (m : M) (es : List Event) (s : MachineState M) (e : Event) (answer : Answer) (mid : MachineState (List ℕ)) → CanStart mem inv test m
@@ -201,8 +204,8 @@ module _ {M : Type 0} (mem : Memory M) (inv : Invariant M) (laws : Lawful mem in
     -- a list that replays over the flat memory replays over this one
     pub replays_lift : (m : M) (es : List Event) (o : Final) → CanStart mem inv test m → Replays flat test test.head.init_words es o → Replays mem test m es o
     replays_lift m es o start r =
-        let ran = subst (λ w. MachineRan flat test.threads es (machine_start test w) r.end) (sym start.words) r.ran in
-        let a = run_lift test.threads locs ok.code es (machine_start test m) r.end (within_first m start) ran in
+        let ran = rw (← start.words) at r.ran in
+        let a = run_lift _ locs ok.code es (machine_start test m) r.end (within_first start) ran in
         record {
           end = a.end;
           ran = a.ran;
@@ -222,10 +225,10 @@ module _ {M : Type 0} (mem : Memory M) (inv : Invariant M) (laws : Lawful mem in
     )
 
     -- a list without evictions replays over the one where it does over the other
-    pub replays_alike : (m : M) (es : List Event) (o : Final) → CanStart mem inv test m → without_evictions es ≡ es
-        → Replays mem test m es o ↔ Replays flat test test.head.init_words es o
+    pub replays_alike : (m : M) (es : List Event) (o : Final) → CanStart mem inv test m
+        → without_evictions es ≡ es → Replays mem test m es o ↔ Replays flat test test.head.init_words es o
     replays_alike m es o start none = (
-      (λ r. subst (λ fs. Replays flat test test.head.init_words fs o) none
-          (subst (λ w. Replays flat test w (without_evictions es) o) start.words (replays_flat mem inv laws test m es o start.sound r))),
+      (λ r. subst (λ fs. Replays flat test test.head.init_words fs o) none (subst (λ w. Replays flat test w
+          (without_evictions es) o) start.words (replays_flat mem inv laws test m es o start.sound r))),
       (λ r. replays_lift m es o start r),
     )

@@ -27,15 +27,15 @@ abbrev IsPlace : Event → ℕ → Processor → Type 0
 IsPlace (Step t) j p = p.position ≡ j
 IsPlace _ j p = Unit {0}
 
-position_at : (s : MachineState (List ℕ)) (t : ℕ) (p : Processor) → slice_get s.processors t ≡ Some p → position_of s t ≡ Some p.position
-position_at s t p at = slice_get-map (λ (q : Processor). q.position) s.processors t ∙ ap (option_map (λ (q : Processor). q.position)) at
+position_at : (s : MachineState (List ℕ)) (t : ℕ) {p : Processor} → slice_get s.processors t ≡ Some p → position_of s t ≡ Some p.position
+position_at s t at = slice_get-map _ s.processors t ∙ ap (option_map (λ (q : Processor). q.position)) at
 
 place : (e : Event) (j : ℕ) (s : MachineState (List ℕ)) (p : Processor) → slice_get s.processors (cpu_of e) ≡ Some p → StandsAt e j s → IsPlace e j p
-place (Step t) j s p at stands = same_Some p.position j (sym (position_at s t p at) ∙ stands)
+place (Step t) j s p at stands = same_Some p.position j (sym (position_at s t at) ∙ stands)
 place _ j s p at stands = tt
 
 stands_there : (e : Event) (j : ℕ) (s : MachineState (List ℕ)) (p : Processor) → slice_get s.processors (cpu_of e) ≡ Some p → IsPlace e j p → StandsAt e j s
-stands_there (Step t) j s p at is = position_at s t p at ∙ ap Some is
+stands_there (Step t) j s p at is = position_at s t at ∙ ap Some is
 stands_there _ j s p at is = tt
 
 -- ---- two events
@@ -76,8 +76,8 @@ module _ (program : List (List Instr)) where
     two e f j k ne free x y on off = (other, done_at f k s other first off, done_at e j other end second on)
       where
         there : slice_get s.processors (cpu_of f) ≡ Some y.from
-        there = sym (got_set_other s.processors (cpu_of e) (cpu_of f) x.to ne) ∙ ap (λ (z : MachineState (List ℕ)). slice_get z.processors (cpu_of f))
-            (sym x.is) ∙ y.was
+        there = sym (got_set_other s.processors (cpu_of e) (cpu_of f) x.to ne)
+            ∙ ap (λ (z : MachineState (List ℕ)). slice_get z.processors (cpu_of f)) (sym x.is) ∙ y.was
 
         a : Act
         a = event_act program (length s.memory) e x.from
@@ -88,7 +88,7 @@ module _ (program : List (List Instr)) where
         then_b : Does x.words b y.to y.words
         then_b =
             subst (λ (z : MachineState (List ℕ)). Does z.memory b y.to y.words) x.is
-            (subst (λ act. Does mid.memory act y.to y.words) (same_act f (length mid.memory) (length s.memory) y.from y.to mid.memory y.words y.does) y.does)
+            (subst (λ act. Does mid.memory act y.to y.words) (same_act f _ _ y.from y.to _ _ y.does) y.does)
 
         way : (m : List ℕ) × Does s.memory b y.to m × Does m a x.to y.words
         way = acts_exchange a b s.memory x.words y.words x.to y.to (free.of_two ne x.from y.from x.was there) x.does then_b
@@ -107,8 +107,8 @@ module _ (program : List (List Instr)) where
           was = got_set_other s.processors (cpu_of f) (cpu_of e) y.to (λ same. ne (sym same)) ∙ x.was;
           does = subst (λ act. Does way.0 act x.to y.words) (same_act e (length s.memory) (length way.0) x.from x.to way.0 y.words way.2) way.2;
           is =
-              y.is ∙ ap (λ (z : MachineState (List ℕ)). state (slice_set z.processors (cpu_of f) y.to) y.words) x.is
-              ∙ ap (λ ps. state ps y.words) (set_comm s.processors (cpu_of e) (cpu_of f) x.to y.to ne);
+              y.is ∙ ap (λ (z : MachineState (List ℕ)). state (slice_set z.processors (cpu_of f) y.to)
+                  y.words) x.is ∙ ap (λ ps. state ps y.words) (set_comm s.processors _ _ x.to y.to ne);
         }
 
     -- of one processor, which is at first this one, with this entry before the others
@@ -132,21 +132,22 @@ module _ (program : List (List Instr)) where
       first_act = ap (λ o. step_act o from) pass.at ∙ ap (step_act (Some pass.instr)) from_is ∙ leaves.same
 
       -- a step and then the drain
-      step_drain : (j k : ℕ) (x : Did program (Step t) s mid) (y : Did program (Drain t) mid end) → x.from ≡ from → from.position ≡ j
-          → Exchanged (Step t) (Drain t) j k s end
-      step_drain j k x y is on = (other, done_at (Drain t) k s other first tt, done_at (Step t) j other end second on)
+      step_drain : (j k : ℕ) (x : Did program (Step t) s mid) (y : Did program (Drain t) mid end)
+          → x.from ≡ from → from.position ≡ j → Exchanged (Step t) (Drain t) j k s end
+      step_drain j k x y is on = (other, done_at (Drain t) k s _ first tt, done_at _ j other end second on)
         where
           was : slice_get s.processors t ≡ Some from
           was = x.was ∙ ap Some is
 
           step : (new : Processor) × (x.to ≡ with_oldest pass.entry new) × Does s.memory stepping new x.words
           step =
-              does_kept pass.entry stepping s.memory x.words x.to (subst (λ act. Does s.memory act x.to x.words) first_act
-              (subst (λ (p : Processor). Does s.memory (step_act (slice_get (code_of program t) p.position) p) x.to x.words) is x.does))
+              does_kept pass.entry stepping s.memory x.words x.to (subst (λ act. Does s.memory act x.to
+                  x.words) first_act (subst (λ (p : Processor). Does s.memory
+                  (step_act (slice_get (code_of program t) p.position) p) x.to x.words) is x.does))
 
           now : y.from ≡ with_oldest pass.entry step.0
-          now = same_Some y.from _ (sym y.was ∙ ap (λ (z : MachineState (List ℕ)). slice_get z.processors t) x.is
-              ∙ got_set_same s.processors t x.to x.from x.was) ∙ step.1
+          now = same_Some y.from _ (sym y.was ∙ ap (λ (z : MachineState (List ℕ)). slice_get z.processors t)
+              x.is ∙ got_set_same s.processors t x.to x.from x.was) ∙ step.1
 
           drain : (y.to ≡ step.0) × (y.words ≡ slice_set mid.memory pass.entry.0 pass.entry.1)
           drain = subst (λ (p : Processor). Does mid.memory (drain_act p.buffer p) y.to y.words) now y.does
@@ -180,35 +181,35 @@ module _ (program : List (List Instr)) where
             does = subst (λ o. Does way.0 (step_act o behind) step.0 y.words) (sym pass.at) way.2;
             is =
                 y.is ∙ ap (λ (z : MachineState (List ℕ)). state (slice_set z.processors t y.to) y.words) x.is
-                ∙ ap (λ ps. state ps y.words) (set-set s.processors t x.to y.to ∙ ap (slice_set s.processors t) drain.0 ∙ sym
-                (set-set s.processors t behind step.0));
+                    ∙ ap (λ ps. state ps y.words) (set-set s.processors t x.to y.to
+                    ∙ ap (slice_set s.processors t) drain.0 ∙ sym (set-set s.processors t behind step.0));
           }
 
       -- the drain and then a step
-      drain_step : (j k : ℕ) (x : Did program (Drain t) s mid) (y : Did program (Step t) mid end) → x.from ≡ from → y.from.position ≡ k
-          → Exchanged (Drain t) (Step t) j k s end
+      drain_step : (j k : ℕ) (x : Did program (Drain t) s mid) (y : Did program (Step t) mid end)
+          → x.from ≡ from → y.from.position ≡ k → Exchanged (Drain t) (Step t) j k s end
       drain_step j k x y is off = (
         other,
         done_at (Step t) k s other first (ap (λ (p : Processor). p.position) (sym now) ∙ off),
-        done_at
-            (Drain t) j other end second tt,
+        done_at (Drain t) j other end second tt,
       )
         where
           was : slice_get s.processors t ≡ Some from
           was = x.was ∙ ap Some is
 
           drain : (x.to ≡ behind) × (x.words ≡ slice_set s.memory pass.entry.0 pass.entry.1)
-          drain = subst (λ (p : Processor). Does s.memory (drain_act p.buffer p) x.to x.words) (is ∙ from_is) x.does
+          drain = rw (is ∙ from_is) at x.does
 
           now : y.from ≡ behind
-          now = same_Some y.from _ (sym y.was ∙ ap (λ (z : MachineState (List ℕ)). slice_get z.processors t) x.is
-              ∙ got_set_same s.processors t x.to x.from x.was) ∙ drain.0
+          now = same_Some y.from _ (sym y.was ∙ ap (λ (z : MachineState (List ℕ)). slice_get z.processors t)
+              x.is ∙ got_set_same s.processors t x.to x.from x.was) ∙ drain.0
 
           step : Does x.words stepping y.to y.words
           step =
               subst (λ o. Does x.words (step_act o behind) y.to y.words) pass.at
-              (subst (λ (z : MachineState (List ℕ)). Does z.memory (step_act (slice_get (code_of program t) behind.position) behind) y.to y.words) x.is
-              (subst (λ (p : Processor). Does mid.memory (step_act (slice_get (code_of program t) p.position) p) y.to y.words) now y.does))
+              (subst (λ (z : MachineState (List ℕ)). Does z.memory (step_act (slice_get (code_of program t)
+              behind.position) behind) y.to y.words) x.is (subst (λ (p : Processor). Does mid.memory
+              (step_act (slice_get (code_of program t) p.position) p) y.to y.words) now y.does))
 
           way : (m : List ℕ) × Does s.memory stepping y.to m × Does m draining behind y.words
           way = acts_exchange draining stepping s.memory x.words y.words behind y.to (λ z e f. absurd (leaves.free (f ∙ sym e))) (refl, drain.1) step
@@ -225,8 +226,7 @@ module _ (program : List (List Instr)) where
             to = new;
             words = way.0;
             was = was;
-            does = subst (λ act. Does s.memory act new way.0) (sym first_act)
-                (keeping_does pass.entry stepping s.memory way.0 y.to way.1);
+            does = rw (← first_act) at (keeping_does pass.entry stepping s.memory way.0 y.to way.1);
             is = refl;
           }
 
@@ -250,8 +250,8 @@ module _ (program : List (List Instr)) where
     step_drain_exchange : (t : ℕ) → Pass (Step t) (Drain t) → IsExchangeable program (Step t) (Drain t) s
     step_drain_exchange t pass j k mid end a b =
         let x = leads_to program (Step t) s mid a.done in
-        let y = leads_to program (Drain t) mid end b.done in
-        step_drain s mid end t x.from (passing _ _ (pass x.from x.was)) j k x y refl (place (Step t) j s x.from x.was a.stands)
+        step_drain s mid end t x.from (passing _ _ (pass x.from x.was)) j k x (leads_to program (Drain t) mid
+            end b.done) refl (place (Step t) j s x.from x.was a.stands)
 
     drain_step_exchange : (t : ℕ) → Pass (Drain t) (Step t) → IsExchangeable program (Drain t) (Step t) s
     drain_step_exchange t pass j k mid end a b =
@@ -260,24 +260,24 @@ module _ (program : List (List Instr)) where
         drain_step s mid end t x.from (passing _ _ (pass x.from x.was)) j k x y refl (place (Step t) k mid y.from y.was b.stands)
 
     -- where nothing passes, no event is possible
-    none_pass : (e f : Event) → ((p : Processor) → slice_get s.processors (cpu_of e) ≡ Some p → ⊥) → IsExchangeable program e f s
-    none_pass e f never j k mid end a b = let x = leads_to program e s mid a.done in absurd (never x.from x.was)
+    none_pass : {e : Event} (f : Event) → ((p : Processor) → slice_get s.processors (cpu_of e) ≡ Some p → ⊥) → IsExchangeable program e f s
+    none_pass {e = e} f never j k mid end a b = let x = leads_to _ e s _ a.done in absurd (never x.from x.was)
 
     one_exchange : (e f : Event) → cpu_of e ≡ cpu_of f → Pass e f → IsExchangeable program e f s
-    one_exchange (Step t) (Step u) same pass = none_pass (Step t) (Step u) pass
+    one_exchange (Step t) (Step u) same pass = none_pass (Step u) pass
     one_exchange (Step t) (Drain u) same pass = subst (λ v. IsExchangeable program (Step t) (Drain v) s) same (step_drain_exchange t pass)
-    one_exchange (Step t) (Evict u x) same pass = none_pass (Step t) (Evict u x) pass
-    one_exchange (Drain t) (Step u) same pass = subst (λ v. Pass (Drain v) (Step u) → IsExchangeable program (Drain v) (Step u) s) (sym same)
-        (drain_step_exchange u) pass
-    one_exchange (Drain t) (Drain u) same pass = none_pass (Drain t) (Drain u) pass
-    one_exchange (Drain t) (Evict u x) same pass = none_pass (Drain t) (Evict u x) pass
-    one_exchange (Evict t x) f same pass = none_pass (Evict t x) f pass
+    one_exchange (Step t) (Evict u x) same pass = none_pass (Evict u x) pass
+    one_exchange (Drain t) (Step u) same pass = subst (λ v. Pass (Drain v) (Step u) → IsExchangeable program
+        (Drain v) (Step u) s) (sym same) (drain_step_exchange u) pass
+    one_exchange (Drain t) (Drain u) same pass = none_pass (Drain u) pass
+    one_exchange (Drain t) (Evict u x) same pass = none_pass (Evict u x) pass
+    one_exchange (Evict t x) f same pass = none_pass f pass
 
     two_exchange : (e f : Event) → cpu_of e ≢ cpu_of f → AreIndependent program e f s → IsExchangeable program e f s
     two_exchange e f ne free j k mid end a b =
         let x = leads_to program e s mid a.done in
         let y = leads_to program f mid end b.done in
-        two s mid end e f j k ne free x y (place e j s x.from x.was a.stands) (place f k mid y.from y.was b.stands)
+        two s mid end e f j k ne free x y (place e j s _ x.was a.stands) (place f k mid y.from y.was b.stands)
 
   -- independent events are exchanged
   pub exchanged : (e f : Event) (s : MachineState (List ℕ)) → AreIndependent program e f s → IsExchangeable program e f s

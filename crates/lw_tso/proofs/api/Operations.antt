@@ -5,7 +5,7 @@ use Rattle.std.proofs.Common.{◌++◌, length, length-set, Ok, Err, Option, Som
 use Rattle.std.proofs.Common.{inr, ◌⊎◌, ⊎_elim}
 use Rattle.lw_base.specs.Threads.{value_of}
 use Rattle.lw_base.specs.declared.stop.Stop.{Stop}
-use Rattle.lw_base.specs.declared.stop.Stop.TheVariants.{FenceWaits, SwapWaits}
+use Rattle.lw_base.specs.declared.stop.Stop.TheVariants.{SwapWaits}
 use Rattle.lw_memory.specs.Flat.{flat}
 use Rattle.lw_memory.specs.Memory.{Memory}
 use Rattle.lw_litmus.specs.declared.operation.Condition.{Condition}
@@ -92,8 +92,8 @@ module _ (Reason : Type 0) (Asks : ℕ → Bool → Type 0) (Makes : Processor �
   load_comes (Some w) x next asks makes = makes w
   load_comes None x next asks makes = (asks, makes)
 
-  once_comes : (buffer : List (ℕ × ℕ)) (stop : Stop) (act : Act) → (buffer ≢ [] → Reason) → (buffer ≡ [] → Comes act)
-      → Comes (once_empty buffer stop act)
+  once_comes : (buffer : List (ℕ × ℕ)) (stop : Stop) (act : Act) → (buffer ≢ [] → Reason)
+      → (buffer ≡ [] → Comes act) → Comes (once_empty buffer stop act)
   once_comes [] stop act reason comes = comes refl
   once_comes (entry ∷ newer) stop act reason comes = reason (λ e. absurd cc)
 
@@ -103,22 +103,22 @@ module _ (Reason : Type 0) (Asks : ℕ → Bool → Type 0) (Makes : Processor �
       → ((x : ℕ) → location_of o ≡ Some x → Asks x (is_locked o)) → ((q : Processor) → Went o p q → Makes q) → Comes (operation_act o p)
   operation_comes (Set d v) p reason asks makes = makes _ (next (Set d v) p _ refl refl never refl refl (length-set p.regs d _))
   operation_comes (Sum d a v) p reason asks makes = makes _ (next (Sum d a v) p _ refl refl never refl refl (length-set p.regs d _))
-  operation_comes (Compare a v) p reason asks makes = makes _ (next (Compare a v) p _ refl refl never refl refl refl)
+  operation_comes (Compare a v) p reason asks makes = makes _ (next _ p _ refl refl never refl refl refl)
   operation_comes (Store x v) p reason asks makes =
       makes _ (record { leads = inl (refl, refl); buffers = inr ((x, value_of v p.regs), refl, refl, refl); regs = refl; waited = never })
   operation_comes (Load d x) p reason asks makes =
       load_comes (newest p.buffer x) x _ (asks x refl) (λ w. makes _ (next (Load d x) p _ refl refl never refl refl (length-set p.regs d w)))
   operation_comes (Swap d x a) p reason asks makes =
-      once_comes p.buffer SwapWaits _ (reason refl)
-      (λ empty. (asks x refl, λ w. makes _ (next (Swap d x a) p _ refl refl (λ e. empty) refl refl (length-set p.regs d w))))
+      once_comes p.buffer SwapWaits _ (reason refl) (λ empty. (asks x refl, λ w. makes _ (next (Swap d x a) p
+          _ refl refl (λ e. empty) refl refl (length-set p.regs d w))))
   operation_comes (FetchAdd None x v) p reason asks makes =
-      once_comes p.buffer SwapWaits _ (reason refl)
-      (λ empty. (asks x refl, λ w. makes _ (next (FetchAdd None x v) p _ refl refl (λ e. empty) refl refl refl)))
+      once_comes p.buffer SwapWaits _ (reason refl) (λ empty. (asks x refl, λ w. makes _
+          (next (FetchAdd None x v) p _ refl refl (λ e. empty) refl refl refl)))
   operation_comes (FetchAdd (Some d) x v) p reason asks makes =
-      once_comes p.buffer SwapWaits _ (reason refl)
-      (λ empty. (asks x refl, λ w. makes _ (next (FetchAdd (Some d) x v) p _ refl refl (λ e. empty) refl refl (length-set p.regs d w))))
+      once_comes p.buffer SwapWaits _ (reason refl) (λ empty. (asks x refl, λ w. makes _
+          (next (FetchAdd (Some d) x v) p _ refl refl (λ e. empty) refl refl (length-set p.regs d w))))
   operation_comes Fence p reason asks makes =
-      once_comes p.buffer FenceWaits _ (reason refl) (λ empty. makes _ (next Fence p _ refl refl (λ e. empty) refl refl refl))
+      once_comes _ _ _ (reason refl) (λ empty. makes _ (next Fence p _ refl refl (λ e. empty) refl refl refl))
   operation_comes (Branch c to) p reason asks makes =
       makes _ (record { leads = branch_leads c to p.position p.regs p.zero_flag; buffers = inl (refl, refl); regs = refl; waited = never })
 

@@ -7,7 +7,6 @@ use Rattle.std.proofs.lemmas.List.{length-map}
 use Rattle.std.proofs.lemmas.Option.{slice_get_within}
 use Rattle.lw_base.specs.Outcomes.{Final, IsOutcomeOf}
 use Rattle.lw_base.specs.Schedules.{IsEvent}
-use Rattle.lw_base.specs.Threads.{code_of}
 use Rattle.lw_base.specs.Types.{NameTable}
 use Rattle.lw_base.specs.declared.event.Event.{Event}
 use Rattle.lw_base.specs.declared.event.Event.TheVariants.{Evict}
@@ -44,26 +43,26 @@ abbrev pub HasRegisters : Processor → Type 0
 HasRegisters p = length p.regs ≡ registers
 
 -- an event leaves its processor the registers
-still_has : (code : List Instr) (p q : Processor) → HasRegisters p → Becomes code p q → HasRegisters q
-still_has code p q has (Stays is) = ap (λ (r : Processor). length r.regs) is ∙ has
-still_has code p q has (Steps i at went) = went.regs ∙ has
-still_has code p q has (Drains entry newer was is) = ap (λ (r : Processor). length r.regs) is ∙ has
+still_has : {code : List Instr} {p q : Processor} → HasRegisters p → Becomes code p q → HasRegisters q
+still_has has (Stays is) = ap (λ (r : Processor). length r.regs) is ∙ has
+still_has has (Steps i at went) = went.regs ∙ has
+still_has has (Drains entry newer was is) = ap (λ (r : Processor). length r.regs) is ∙ has
 
 module _ {M : Type 0} (mem : Memory M) (inv : Invariant M) where
   -- an eviction that is carried out is of a location that is there
   evicted_there : (there : Bool) (t x locs : ℕ) (p q : Processor) (m n : M) → nat_lt x locs ≡ there
       → ActDone mem t (if there then Evicts x else Refused NoLocation) p m (Ok tt) q n → x < locs
   evicted_there true t x locs p q m n lt done = ltb-true x locs lt
-  evicted_there false t x locs p q m n lt done = absurd (let e : ◌≡◌ {A = Answer} (Ok tt) (Err NoLocation) = done.0 in cc)
+  evicted_there false t x locs p q m n lt done = absurd (let e = done.0 in cc)
 
   -- an event that is carried out, of a processor that is there
-  there : (program : List (List Instr)) (names : NameTable) (e : Event) (p q : Processor) (m n : M) → cpu_of e < most_threads
-      → length (mem.content m) ≡ length names
-      → ActDone mem (cpu_of e) (event_act program (length (mem.content m)) e p) p m (Ok tt) q n → IsEvent names e
+  there : (program : List (List Instr)) (names : NameTable) (e : Event) (p q : Processor) (m n : M)
+      → cpu_of e < most_threads → length (mem.content m) ≡ length names
+      → ActDone mem (cpu_of e) (event_act program (length (mem.content m)) e p) p m (Ok tt) q n
+      → IsEvent names e
   there program names (Evict t x) p q m n lt locs done = (
     lt,
-    subst (λ k. x < k) locs
-        (evicted_there (nat_lt x (length (mem.content m))) t x (length (mem.content m)) p q m n refl done),
+    subst (λ k. x < k) locs (evicted_there _ t x (length (mem.content m)) p q m n refl done),
   )
   there program names _ p q m n lt locs done = lt
 
@@ -76,8 +75,8 @@ module _ {M : Type 0} (mem : Memory M) (inv : Invariant M) where
     sound : inv.sound s.memory
 
   module _ (laws : Lawful mem inv) (program : List (List Instr)) (names : NameTable) (threads : ℕ) (few : threads ≤ most_threads) where
-    event_of : (e : Event) (s after : MachineState M) → IsMachineOf threads (length names) s → EventDone mem program e s (Ok tt) after
-        → IsEvent names e × IsMachineOf threads (length names) after
+    event_of : (e : Event) (s after : MachineState M) → IsMachineOf threads (length names) s
+        → EventDone mem program e s (Ok tt) after → IsEvent names e × IsMachineOf threads (length names) after
     event_of e s after is done = go (slice_get s.processors (cpu_of e)) refl done
       where
         kept : IsSameSize mem inv s after
@@ -88,10 +87,9 @@ module _ {M : Type 0} (mem : Memory M) (inv : Invariant M) where
         go None at by = absurd (let e : ◌≡◌ {A = Answer} (Ok tt) (Err NoCpu) = by.0 in cc)
         go (Some p) at by =
             let lt = slice_get_within s.processors (cpu_of e) p at in
-            let has = all_at HasRegisters s.processors (cpu_of e) p is.have at in
-            let becomes = event_becomes program (length (mem.content s.memory)) mem p by.0 s.memory by.1 (Ok tt) e by.2 in
-            let next = still_has (code_of program (cpu_of e)) p by.0 has becomes in (
-              there program names e p by.0 s.memory by.1 (omega (arith, lt, is.processors, few)) is.words by.2,
+            let becomes = event_becomes _ (length (mem.content s.memory)) mem p by.0 _ by.1 (Ok tt) e by.2 in
+            let next = still_has (all_at HasRegisters s.processors (cpu_of e) p is.have at) becomes in (
+              there program names e p _ s.memory by.1 (omega (arith, lt, is.processors, few)) is.words by.2,
               record {
                 processors = kept.processors ∙ is.processors;
                 have = subst (λ (a : MachineState M). AllByRecursion HasRegisters a.processors) (sym by.3)
@@ -101,12 +99,12 @@ module _ {M : Type 0} (mem : Memory M) (inv : Invariant M) where
               },
             )
 
-    run_of : (es : List Event) (s end : MachineState M) → IsMachineOf threads (length names) s → MachineRan mem program es s end
+    run_of : (es : List Event) {s : MachineState M} (end : MachineState M) → IsMachineOf threads (length names) s → MachineRan mem program es s end
         → AllByRecursion (IsEvent names) es × IsMachineOf threads (length names) end
-    run_of [] s end is ran = (tt, subst (IsMachineOf threads (length names)) (sym ran) is)
-    run_of (e ∷ es) s end is ran =
+    run_of [] end is ran = (tt, subst (IsMachineOf threads (length names)) (sym ran) is)
+    run_of (e ∷ es) {s = s} end is ran =
         let first = event_of e s ran.0 is ran.1 in
-        let rest = run_of es ran.0 end first.1 ran.2 in
+        let rest = run_of es end first.1 ran.2 in
         ((first.0, rest.0), rest.1)
 
 rows_have : (ps : List Processor) → AllByRecursion HasRegisters ps → AllByRecursion (λ row. length row ≡ registers) (map (λ p. p.regs) ps)
@@ -128,7 +126,7 @@ replayed_of_test mem inv laws test m events o ok start r =
       words = ap length start.words ∙ head.words;
       sound = start.sound;
     } in
-    let ran = run_of mem inv laws test.threads test.head.locs test.head.threads head.few events (machine_start test m) r.end first r.ran in (
+    let ran = run_of mem inv laws test.threads test.head.locs test.head.threads head.few events r.end first r.ran in (
       subst (IsOutcomeOf test.head.threads (length test.head.locs)) (sym r.is) (record {
         regs_of = length-map r.end.processors (λ p. p.regs) ∙ ran.1.processors;
         six = rows_have r.end.processors ran.1.have;

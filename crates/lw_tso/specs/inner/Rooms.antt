@@ -34,9 +34,7 @@ module _ {M A : Type 0} (mem : Memory M) (inv : Invariant M) where
     pub locations : length (mem.content m) ≡ locs
     pub cpus : length processors ≤ inv.cpus m
     pub as_many : length processors ≡ length program
-    pub rooms :
-        (t : ℕ) (p : ProcessorInMemory A) → slice_get processors t ≡ Some p
+    pub rooms : (t : ℕ) (p : ProcessorInMemory A) → slice_get processors t ≡ Some p
         → HasRoom locs (code_of program t) (processor_of p) p.buffer.room
-    pub whole :
-        (t : ℕ) (p : ProcessorInMemory A) → slice_get processors t ≡ Some p
+    pub whole : (t : ℕ) (p : ProcessorInMemory A) → slice_get processors t ≡ Some p
         → stores_from 0 (code_of program t) ≤ p.buffer.room

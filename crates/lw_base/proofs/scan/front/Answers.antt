@@ -3,4 +3,4 @@ use Rattle.lw_base.proofs.scan.front.Goals as goal
 
 pub returns-clause-parts : goal.returns-clause-parts
 returns-clause-parts c =
-    rw (c.split_at.ensures.front, c.split_at.ensures.back) (sym (take-append-drop c.count-count.result c.args.bytes.now))
+    rw (c.split_at.ensures.front, c.split_at.ensures.back) (sym (take-append-drop c.count-count.result _))

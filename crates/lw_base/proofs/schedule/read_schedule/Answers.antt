@@ -2,7 +2,6 @@ use Rattle.std.proofs.Common.{◌≡◌, ◌≤◌, ◌++◌, ◌∙◌, ap, sym
 use Rattle.lw_base.specs.Characters.{is_blank, begins}
 use Rattle.lw_base.specs.Schedules.{words, event_word}
 use Rattle.lw_base.proofs.Shapes.{no_event}
-use Rattle.lw_base.specs.declared.fault.ScheduleFault.{ScheduleFault}
 use Rattle.lw_base.specs.declared.fault.ScheduleCause.TheVariants.{Memory}
 use Rattle.lw_base.proofs.api.Returns.{turned, out_of_memory}
 use Rattle.lw_base.proofs.Words.{no_schedule, words-first, words-behind, behind_more, more_events, more_words}
@@ -23,16 +22,16 @@ loop-rest-init g c =
 pub loop-rest-preserved : goal.loop-rest-preserved
 loop-rest-preserved g c =
     let some = has_some (length c.loop-rest.rest.now) c.loop-rest-test.ensures in
-    let first = words-first _ _ _ c.front-in-loop-rest.ensures.parts some c.loop-rest.invariant.others c.front-in-loop-rest.ensures.all
-    c.front-in-loop-rest.ensures.longest in
+    let first = words-first _ _ _ c.front-in-loop-rest.ensures.parts some c.loop-rest.invariant.others
+        c.front-in-loop-rest.ensures.all c.front-in-loop-rest.ensures.longest in
     let rest = words-behind _ _ _ c.front-in-loop-rest-2.ensures.parts c.front-in-loop-rest-2.ensures.all in
     let back = behind_more _ _ _ _ _ _ _ c.loop-rest.invariant.back.1 c.front-in-loop-rest.ensures.parts c.front-in-loop-rest-2.ensures.parts in
     record {
-      events = more_events c.args.names.now c.loop-rest.events c.push.new.self c.in-Ok.event c.in_ok-push-in-Ok.ensures.ok c.loop-rest.invariant.events
-          c.in-Ok.ensures.ok.0;
-      words = more_words c.args.names.now c.args.text.now c.loop-rest.rest.now c.front-in-loop-rest.result.0.now c.front-in-loop-rest.result.1.now
-          c.front-in-loop-rest-2.result.1.now c.loop-rest.events c.push.new.self c.in-Ok.event c.loop-rest.invariant.words first rest
-          c.in-Ok.ensures.ok.1 c.in_ok-push-in-Ok.ensures.ok;
+      events = more_events c.args.names.now c.loop-rest.events c.push.new.self c.in-Ok.event
+          c.in_ok-push-in-Ok.ensures.ok c.loop-rest.invariant.events c.in-Ok.ensures.ok.0;
+      words = more_words _ c.args.text.now c.loop-rest.rest.now _ c.front-in-loop-rest.result.1.now
+          c.front-in-loop-rest-2.result.1.now c.loop-rest.events c.push.new.self c.in-Ok.event
+          c.loop-rest.invariant.words first rest c.in-Ok.ensures.ok.1 c.in_ok-push-in-Ok.ensures.ok;
       others = c.front-in-loop-rest-2.ensures.longest;
       shorter = no_longer _ _ _ back;
       back = (c.loop-rest.invariant.back.0 ++ c.front-in-loop-rest.result.0.now ++ c.front-in-loop-rest-2.result.0.now, back);
@@ -41,17 +40,17 @@ loop-rest-preserved g c =
 pub returns-in-Err-clause-fault : goal.returns-in-Err-clause-fault
 returns-in-Err-clause-fault g c known =
     let some = has_some (length c.loop-rest.rest.now) c.loop-rest-test.ensures in
-    let first = words-first _ _ _ c.front-in-loop-rest.ensures.parts some c.loop-rest.invariant.others c.front-in-loop-rest.ensures.all
-    c.front-in-loop-rest.ensures.longest in
-    no_schedule c.args.names.now c.args.text.now c.loop-rest.rest.now c.loop-rest.events _ _ c.loop-rest.invariant.words first
-    (no_event _ c.len-len.ensures.table _ _ c.in-Err.ensures.err)
+    let first = words-first _ _ _ c.front-in-loop-rest.ensures.parts some c.loop-rest.invariant.others
+        c.front-in-loop-rest.ensures.all c.front-in-loop-rest.ensures.longest in
+    no_schedule c.args.names.now c.args.text.now c.loop-rest.rest.now c.loop-rest.events _ _
+        c.loop-rest.invariant.words first (no_event _ c.len-len.ensures.table _ _ c.in-Err.ensures.err)
 
 pub returns-in-Err-clause-first : goal.returns-in-Err-clause-first
 returns-in-Err-clause-first g c known =
     let some = has_some (length c.loop-rest.rest.now) c.loop-rest-test.ensures in
-    let first = words-first _ _ _ c.front-in-loop-rest.ensures.parts some c.loop-rest.invariant.others c.front-in-loop-rest.ensures.all
-    c.front-in-loop-rest.ensures.longest in
-    let back = drop-back c.args.text.now c.loop-rest.invariant.back.0 c.loop-rest.rest.now c.loop-rest.invariant.back.1 in
+    let first = words-first _ _ _ c.front-in-loop-rest.ensures.parts some c.loop-rest.invariant.others
+        c.front-in-loop-rest.ensures.all c.front-in-loop-rest.ensures.longest in
+    let back = drop-back c.args.text.now _ c.loop-rest.rest.now c.loop-rest.invariant.back.1 in
     record {
       before = c.loop-rest.events;
       word = c.front-in-loop-rest.result.0.now;
@@ -64,26 +63,25 @@ returns-in-Err-clause-first g c known =
     }
 
 pub returns-in_err-push-in-Ok-clause-fault : goal.returns-in_err-push-in-Ok-clause-fault
-returns-in_err-push-in-Ok-clause-fault g c = out_of_memory (λ (f : ScheduleFault). f.cause) Memory (λ f. f.at ≡ 0) _ _ c.from_residual.ensures.1
+returns-in_err-push-in-Ok-clause-fault g c = out_of_memory _ Memory _ _ _ c.from_residual.ensures.1
 
 pub returns-in_err-push-in-Ok-clause-first : goal.returns-in_err-push-in-Ok-clause-first
-returns-in_err-push-in-Ok-clause-first g c = out_of_memory (λ (f : ScheduleFault). f.cause) Memory (λ f. f.at ≡ 0) _ _ c.from_residual.ensures.1
+returns-in_err-push-in-Ok-clause-first g c = out_of_memory _ Memory _ _ _ c.from_residual.ensures.1
 
 pub returns-in_err-push-in-Ok-clause-place : goal.returns-in_err-push-in-Ok-clause-place
 returns-in_err-push-in-Ok-clause-place g c =
-    turned (λ (f : ScheduleFault). f.at ≤ length c.args.text.now) _ c.from_residual.ensures.1 (λ y q. omega (arith, q.0))
+    turned (λ f. f.at ≤ length c.args.text.now) _ c.from_residual.ensures.1 (λ y q. omega (arith, q.0))
 
 pub returns-in-Err-clause-place : goal.returns-in-Err-clause-place
 returns-in-Err-clause-place g c = omega arith
 
 pub loop-rest-smaller : goal.loop-rest-smaller
 loop-rest-smaller g c =
-    shrinks c.loop-rest.rest.now _ _ _ c.front-in-loop-rest-2.result.1.now c.front-in-loop-rest.ensures.parts c.front-in-loop-rest-2.ensures.parts
-    (has_some (length c.loop-rest.rest.now) c.loop-rest-test.ensures) c.loop-rest.invariant.others c.front-in-loop-rest.ensures.longest
+    shrinks _ _ _ _ _ c.front-in-loop-rest.ensures.parts c.front-in-loop-rest-2.ensures.parts
+    (has_some _ c.loop-rest-test.ensures) c.loop-rest.invariant.others c.front-in-loop-rest.ensures.longest
 
 pub returns-clause-found : goal.returns-clause-found
 returns-clause-found g c = (
   c.loop-rest.invariant.events,
-  all_words c.args.names.now c.args.text.now c.loop-rest.rest.now c.loop-rest.events c.loop-rest.invariant.words
-      c.loop-rest-test.ensures,
+  all_words c.args.names.now c.args.text.now _ _ c.loop-rest.invariant.words c.loop-rest-test.ensures,
 )

@@ -1,4 +1,3 @@
-use Rattle.lw_base.specs.Heads.{head_of}
 use Rattle.lw_litmus.specs.Views.{source_of}
 use Rattle.lw_interleaving.specs.Runs.{start_of}
 use Rattle.lw_fence.specs.Schedules.{schedule}
@@ -12,8 +11,7 @@ pub invariant_of-result : goal.invariant_of-result
 invariant_of-result g c =
     let told = c.in_ok-codes.ensures in
     let codes = c.in_ok-codes.codes in
-    let compiled = compiled_of (source_of c.args.source.now) (head_of c.in_ok-head.head) codes.instrs codes.starts
-    c.in_ok-head.ensures told.as_many told.as_many_starts told.threads in
+    let compiled = compiled_of c.in_ok-head.ensures told.as_many told.as_many_starts told.threads in
     record { well_formed = is_program (source_of c.args.source.now) _ codes.starts c.args.source.now.well_formed compiled }
 
 pub returns : goal.returns
@@ -21,14 +19,13 @@ returns g c =
     let told = c.in_ok-codes.ensures in
     let codes = c.in_ok-codes.codes in
     let source = source_of c.args.source.now in
-    let compiled = compiled_of source (head_of c.in_ok-head.head) codes.instrs codes.starts c.in_ok-head.ensures told.as_many
-    told.as_many_starts told.threads in
+    let compiled = compiled_of c.in_ok-head.ensures told.as_many told.as_many_starts told.threads in
     let ok = c.args.source.now.well_formed in
     record {
       compiled = compiled;
       outcomes = λ o. (
         machine_to_source source _ codes.starts o ok compiled,
-        λ run. (schedule source.threads codes.starts run.0 (start_of source), schedule_replays source _ codes.starts run.0 o ok compiled run.1),
+        λ run. (schedule source.threads codes.starts run.0 (start_of source), schedule_replays _ run.0 o ok compiled run.1),
       );
       ends = compiled_ends source _ codes.starts ok compiled;
     }

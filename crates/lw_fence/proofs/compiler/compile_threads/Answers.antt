@@ -2,7 +2,6 @@ use Rattle.std.proofs.Common.{◌<◌, ◌∙◌, ap, arith, get_or, length, ref
 use Rattle.std.proofs.lemmas.Option.{slice_get_read}
 use Rattle.lw_litmus.specs.Sources.{source}
 use Rattle.lw_litmus.specs.WellFormed.{IsThread}
-use Rattle.lw_fence.specs.Compiling.{IsCompiledThread}
 use Rattle.lw_fence.proofs.CompiledThreads.{none_compiled, one_compiled}
 use Rattle.lw_fence.proofs.compiler.compile_threads.Given as given
 use Rattle.lw_fence.proofs.compiler.compile_threads.Goals as goal
@@ -13,21 +12,19 @@ thread_known g c =
     let stmts = c.stmts-item.result in
     let k = c.loop-stmts.stmts-index in
     let all = c.as_slice-stmts-items.ensures in
-    let within : k < length c.args.source.now.threads = omega (arith, c.loop-stmts-test.true, ap length all) in
     let is = c.as_slice.ensures ∙ (c.stmts-item.is ∙ ap (λ codes. get_or codes k stmts) all) in
-    subst (IsThread source (length c.args.source.now.head.locs)) (sym is) (c.args.source.now.well_formed.code k stmts within)
+    subst (IsThread source (length c.args.source.now.head.locs)) (sym is) (c.args.source.now.well_formed.code
+        k stmts (omega (arith, c.loop-stmts-test.true, ap length all)))
 
 pub loop-stmts-init : goal.loop-stmts-init
-loop-stmts-init g c = none_compiled c.args.source.now.threads _ _ c.new-instrs.ensures c.new-starts.ensures
+loop-stmts-init g c = none_compiled c.args.source.now.threads _ c.new-instrs.ensures c.new-starts.ensures
 
 pub loop-stmts-preserved : goal.loop-stmts-preserved
 loop-stmts-preserved g c =
-    let stmts = c.stmts-item.result in
-    let code = c.in_ok-code.code in
-    let read = slice_get_read c.as_slice-stmts-items.result.now _ c.loop-stmts.stmts-index stmts refl c.loop-stmts-test.true c.stmts-item.is in
+    let read = slice_get_read _ _ _ c.stmts-item.result refl c.loop-stmts-test.true c.stmts-item.is in
     let at = rw c.as_slice-stmts-items.ensures at read in
-    one_compiled _ _ _ _ _ _ _ _ _ c.loop-stmts.invariant at (subst (λ l. IsCompiledThread l code.instrs code.starts) c.as_slice.ensures c.in_ok-code.ensures)
-    c.in_ok-push.ensures.ok c.in_ok-push-2.ensures.ok
+    one_compiled _ _ _ _ _ _ c.loop-stmts.invariant at (rw c.as_slice.ensures at c.in_ok-code.ensures)
+        c.in_ok-push.ensures.ok c.in_ok-push-2.ensures.ok
 
 pub compile_thread-requires-clause-short : goal.compile_thread-requires-clause-short
 compile_thread-requires-clause-short g c = (thread_known g c).short

@@ -1,8 +1,6 @@
-use Rattle.std.proofs.Common.{◌≡◌, ◌+◌, ℕ, ap, arith, length, refl, sym, ◌∙◌, subst, false, slice_index_or}
+use Rattle.std.proofs.Common.{◌≡◌, ◌+◌, ℕ, ap, arith, length, refl, sym, ◌∙◌, subst, false}
 use Rattle.std.proofs.lemmas.Option.{slice_get_read}
 use Rattle.lw_litmus.specs.Operations.{target_of}
-use Rattle.lw_litmus.specs.Sources.{source_operation}
-use Rattle.lw_fence.specs.inner.Marks.{may_wait}
 use Rattle.lw_fence.proofs.Marks.{Marked, mark_step, marked_behind_stores, given_back}
 use Rattle.lw_fence.proofs.fences.marks_of.Goals as goal
 
@@ -11,20 +9,19 @@ loop-place-preserved g c =
     let code = c.args.code.now in
     let marks = c.loop-place.marks.items in
     let stmt = c.index-code-place.result in
-    let at = slice_get_read code _ c.loop-place.place stmt refl c.loop-place-test.true c.index-code-place.is in
-    let waits = may_wait (source_operation stmt) (slice_index_or marks c.loop-place.place false) in
-    let next = mark_step code c.requires.forward c.loop-place.place stmt marks waits at refl c.loop-place.invariant in
+    let at = slice_get_read _ _ c.loop-place.place stmt refl c.loop-place-test.true c.index-code-place.is in
+    let next = mark_step code c.requires.forward c.loop-place.place stmt _ _ at refl c.loop-place.invariant in
     let new : Marked code (c.loop-place.place + 1) c.pass_operation.new.marks =
     rw (c.pass_operation.ensures, c.operation.ensures, c.deref_mut.ensures.value) next in
-    let back = given_back marks c.pass_operation.new.marks _ c.loop-place.marks.len (omega arith) (new.as_many ∙ sym c.loop-place.invariant.as_many) in
+    let back = given_back marks _ _ _ (omega arith) (new.as_many ∙ sym c.loop-place.invariant.as_many) in
     subst (Marked code (c.loop-place.place + 1)) (sym back) new
 
 pub returns-clause-behind : goal.returns-clause-behind
 returns-clause-behind g c =
     let code = c.args.code.now in
     let marks = c.loop-place.marks.items in
-    let passed : c.loop-place.place ≡ length code = omega (arith, c.loop-place-test.false, c.loop-place.auto.place-end) in
-    marked_behind_stores code c.requires.forward marks (subst (λ (k : ℕ). Marked code k marks) passed c.loop-place.invariant)
+    marked_behind_stores code c.requires.forward marks (subst (λ (k : ℕ). Marked code k marks)
+        (omega (arith, c.loop-place-test.false, c.loop-place.auto.place-end)) c.loop-place.invariant)
 
 pub overflow_add-code : goal.overflow_add-code
 overflow_add-code g c = omega (arith, c.requires.short)
@@ -34,7 +31,7 @@ bounds-code-place g c = c.loop-place-test.true
 
 pub pass_operation-requires : goal.pass_operation-requires
 pass_operation-requires g c =
-    let at = slice_get_read c.args.code.now _ c.loop-place.place c.index-code-place.result refl c.loop-place-test.true c.index-code-place.is in
+    let at = slice_get_read c.args.code.now _ _ _ refl c.loop-place-test.true c.index-code-place.is in
     let many = ap length c.deref_mut.ensures.value in record {
       next = omega (arith, many, c.loop-place.invariant.as_many, c.loop-place-test.true);
       target = λ x is. omega (

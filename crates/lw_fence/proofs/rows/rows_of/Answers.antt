@@ -5,6 +5,5 @@ use Rattle.lw_fence.proofs.rows.rows_of.Goals as goal
 
 pub loop-place-preserved : goal.loop-place-preserved
 loop-place-preserved g c =
-    rows_on c.args.fences.now c.args.code.now c.loop-place.place c.index-code-place.result c.loop-place-test.true c.requires
-    c.index-code-place.is c.args.starts.now c.loop-place.instrs c.push_to.new.instrs c.loop-place.invariant
-    (c.in_ok-push_to.ensures ∙ ap (λ r. c.loop-place.instrs ++ instrs_of r) c.of.ensures)
+    rows_on _ _ _ _ c.loop-place-test.true c.requires c.index-code-place.is _ _ c.loop-place.invariant
+        (c.in_ok-push_to.ensures ∙ ap (λ r. c.loop-place.instrs ++ instrs_of r) c.of.ensures)

@@ -6,7 +6,7 @@ use Rattle.lw_base.specs.declared.event.Event.TheVariants.{Step}
 use Rattle.lw_memory.specs.Flat.{flat}
 use Rattle.lw_litmus.specs.declared.stmt.Stmt.{Stmt}
 use Rattle.lw_interleaving.specs.Runs.{State, SourceRan, source_step}
-use Rattle.lw_litmus.specs.Views.{source_of, program_of}
+use Rattle.lw_litmus.specs.Views.{program_of}
 use Rattle.lw_interleaving.proofs.api.Runs.{possible}
 use Rattle.lw_tso.specs.Runs.{Replays}
 use Rattle.lw_fence.specs.Schedules.{schedule}
@@ -22,24 +22,23 @@ position-place-requires g c =
 pub push_next-requires-clause-there : goal.push_next-requires-clause-there
 push_next-requires-clause-there g c =
     let turn = next_turn _ _ _ _ c.loop-cpu-test.true c.cpu-item.is _ c.loop-cpu.invariant.possible in
-    let place = placed_in _ _ _ _ c.loop-cpu-test.true c.cpu-item.is _ turn _ c.position-place.ensures in
-    rw place turn.there
+    rw (placed_in _ _ _ _ c.loop-cpu-test.true c.cpu-item.is _ turn _ c.position-place.ensures) turn.there
 
 pub loop-cpu-preserved : goal.loop-cpu-preserved
 loop-cpu-preserved g c =
     let program = c.loop-cpu.invariant.program in
     let turn = next_turn _ _ _ _ c.loop-cpu-test.true c.cpu-item.is _ c.loop-cpu.invariant.possible in
     let one = possible _ _ _ _ _ c.step.ensures.done c.unwrap.ensures in
-    let step = ap (λ (codes : List (List Stmt)). source_step codes c.cpu-item.result c.loop-cpu.run.state) (sym program) ∙ one in
+    let step = ap (λ codes. source_step codes c.cpu-item.result c.loop-cpu.run.state) (sym program) ∙ one in
     let same : turn.mid ≡ c.step.new.self.state = cc in
     record {
       program = c.step.ensures.program ∙ program;
       possible =
           let rest = map Step (drop (c.loop-cpu.cpu-index + 1) c.args.order.now) in
-          subst (λ (s : State). (end : State) × SourceRan c.args.source.now.threads rest s end) same turn.more;
+          subst (λ s. (end : State) × SourceRan c.args.source.now.threads rest s end) same turn.more;
       so_far =
-          one_further _ _ _ _ c.loop-cpu-test.true c.cpu-item.is _ _ _ _ _ _ _ c.position-place.ensures step c.in_ok-push_next.ensures
-          c.loop-cpu.invariant.so_far;
+          one_further _ _ _ _ c.loop-cpu-test.true c.cpu-item.is _ _ _ _ _ c.position-place.ensures step
+              c.in_ok-push_next.ensures c.loop-cpu.invariant.so_far;
     }
 
 pub loop-cpu-init : goal.loop-cpu-init
@@ -50,8 +49,8 @@ loop-cpu-init g c =
     record {
       program = c.in_ok-run.ensures.program;
       possible = subst begun (sym c.in_ok-run.ensures.state) c.requires.possible;
-      so_far = ap₂ (λ (es : List Event) (s : State). es ++ schedule program c.args.compiled.now.starts order s) c.new-events.ensures.items
-          c.in_ok-run.ensures.state;
+      so_far = ap₂ (λ (es : List Event) (s : State). es ++ schedule program c.args.compiled.now.starts order
+          s) c.new-events.ensures.items c.in_ok-run.ensures.state;
     }
 
 pub bounds-order-cpu-index : goal.bounds-order-cpu-index
@@ -61,9 +60,8 @@ pub returns-clause-schedule : goal.returns-clause-schedule
 returns-clause-schedule g c =
     let events = c.loop-cpu.events.items in
     let rest = λ (order : List ℕ). schedule c.args.source.now.threads c.args.compiled.now.starts order c.loop-cpu.run.state in
-    sym (append-nil events)
-    ∙ ap (λ (order : List ℕ). events ++ rest order) (sym (drop_all c.loop-cpu.cpu-index c.args.order.now c.loop-cpu-test.false))
-    ∙ c.loop-cpu.invariant.so_far
+    sym (append-nil events) ∙ ap (λ (order : List ℕ). events ++ rest order) (sym (drop_all _ c.args.order.now
+        c.loop-cpu-test.false)) ∙ c.loop-cpu.invariant.so_far
 
 pub returns-clause-replays : goal.returns-clause-replays
 returns-clause-replays g c =
@@ -73,7 +71,7 @@ returns-clause-replays g c =
     let none = drop_all c.loop-cpu.cpu-index c.args.order.now c.loop-cpu-test.false in
     let rest = λ (order : List ℕ). schedule c.args.source.now.threads c.args.compiled.now.starts order c.loop-cpu.run.state in
     let all = sym (append-nil events) ∙ ap (λ (order : List ℕ). events ++ rest order) (sym none) ∙ c.loop-cpu.invariant.so_far in
-    let replays = schedule_replays (source_of c.args.source.now) program _ _ o c.args.source.now.well_formed c.requires.compiled runs in
+    let replays = schedule_replays program _ o c.args.source.now.well_formed c.requires.compiled runs in
     subst (λ (es : List Event). Replays flat program program.head.init_words es o) (sym all) replays
 
 pub unwrap-requires : goal.unwrap-requires

@@ -2,4 +2,4 @@ use Rattle.lw_fence.proofs.SourceToMachine.{schedule_replays}
 use Rattle.lw_fence.proofs.schedule.schedules_replay.Goals as goal
 
 pub returns : goal.returns
-returns c s p starts order o ok compiled run = schedule_replays s p starts order o ok compiled run
+returns c s p starts order o ok compiled run = schedule_replays p order o ok compiled run

@@ -7,6 +7,5 @@ pub gather_one-requires-then-is_empty-clause-none : goal.gather_one-requires-the
 gather_one-requires-then-is_empty-clause-none g c =
     let conflicts : c.in_ok-conflicts.conflicts.items ≡ (constraints_of g.S.Statement.language c.args.program.now c.args.items.now).conflicts =
     c.in_ok-conflicts.ensures in
-    let none : c.in_ok-conflicts.conflicts.items ≡ [] = nothing_in c.in_ok-conflicts.conflicts.items
-    c.in_ok-conflicts.conflicts.len c.is_empty.result c.is_empty.ensures c.if-is_empty.true c.in_ok-conflicts.conflicts.ok.0 in
+    let none = nothing_in _ _ _ c.is_empty.ensures c.if-is_empty.true c.in_ok-conflicts.conflicts.ok.0 in
     sym conflicts ∙ none

@@ -15,5 +15,6 @@ returns-clause-gathered g c =
     let one = c.one_order_goes_up.ensures (constraints_of g.S.Statement.language c.args.program.now items)
     (constraints_well_formed g.S.Statement.language c.args.program.now items c.requires.few) in
     let given = rw (c.as_slice.ensures ∙ c.ascending-order.ensures) at c.in_ok-gather_order.ensures.gathered in
-    gathered_alone (g.R.OrderRunner.ends (g.R.OrderRunner.test c.args.runner.now) items) _ _ (numbers 0 (length items)) _ _
-    (one (ap (filter (λ p. not (is_decided (constraints_of g.S.Statement.language c.args.program.now items).fixed p))) c.requires.none)) given
+    gathered_alone _ _ _ (numbers 0 (length items)) _ _
+        (one (ap (filter (λ p. not (is_decided (constraints_of g.S.Statement.language c.args.program.now
+        items).fixed p))) c.requires.none)) given

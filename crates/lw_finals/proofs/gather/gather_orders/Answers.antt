@@ -11,11 +11,10 @@ gather_order-requires g c =
     let each : All (λ order. All (λ i. i < c.args.constraints.now.len) order) all =
     subst (λ (p : Progress). All (λ order. All (λ i. i < c.args.constraints.now.len) order) p.to_come)
     (sym c.into_iter-order-iterator.ensures.into_iter_gives) c.in_ok-order-items.ensures.within in
-    let first : Contains c.loop-order.order-iterator.to_come c.in-Some.order = subst (λ (xs : List (List ℕ)). Contains xs c.in-Some.order)
-    (sym c.in-Some.ensures.steps.first) (Contains-here c.in-Some.order c.in-Some.order c.next.new.self.to_come refl) in
+    let first = subst (λ (xs : List (List ℕ)). Contains xs c.in-Some.order)
+        (sym c.in-Some.ensures.steps.first) (Contains-here c.in-Some.order c.in-Some.order _ refl) in
     let there : Contains all c.in-Some.order = c.loop-order.invariant.run.among c.in-Some.order first in
-    let below : All (λ i. i < c.args.constraints.now.len) c.in-Some.order = All-contains
-    (λ order. All (λ i. i < c.args.constraints.now.len) order) all c.in-Some.order each there in
+    let below = All-contains (λ order. All (λ i. i < c.args.constraints.now.len) order) all _ each there in
     subst (λ (xs : List ℕ). All (λ i. i < length c.args.items.now) xs) (sym c.as_slice.ensures)
     (subst (λ (n : ℕ). All (λ i. i < n) c.in-Some.order) c.requires.as_many below)
 
@@ -27,6 +26,5 @@ loop-order-preserved g c =
     let more = rw (c.loop-order.invariant.same, c.as_slice.ensures) at c.in_ok-gather_order.ensures.gathered in
     record {
       same = c.gather_order.ensures.same ∙ c.loop-order.invariant.same;
-      run = up_to_more ends leads all c.args.found.now c.loop-order.order-iterator.to_come
-          c.next.new.self.to_come c.loop-order.found c.gather_order.new.found c.in-Some.order c.in-Some.ensures.steps.first c.loop-order.invariant.run more;
+      run = up_to_more ends _ all _ _ _ _ _ _ c.in-Some.ensures.steps.first c.loop-order.invariant.run more;
     }

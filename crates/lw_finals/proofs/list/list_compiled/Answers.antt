@@ -6,7 +6,7 @@ use Rattle.lw_finals.proofs.SourceList.{source_listed}
 use Rattle.lw_finals.proofs.list.list_compiled.Goals as goal
 
 pub list_program-requires : goal.list_program-requires
-list_program-requires g c = rw c.as_slice.ensures (visitable source (source_of c.args.source.now) c.args.source.now.well_formed (omega arith))
+list_program-requires g c = rw c.as_slice.ensures (visitable _ _ c.args.source.now.well_formed (omega arith))
 
 pub returns-clause-whole : goal.returns-clause-whole
 returns-clause-whole g c =

@@ -1,13 +1,12 @@
 use Rattle.std.proofs.Common.{arith}
 use Rattle.std.proofs.lemmas.Result.{IfOk-weaker}
 use Rattle.lw_litmus.specs.Views.{program_of}
-use Rattle.lw_litmus.specs.Programs.{x86}
 use Rattle.lw_choices.proofs.api.Visitable.{visitable}
 use Rattle.lw_finals.proofs.X86List.{program_listed}
 use Rattle.lw_finals.proofs.list.list_raw.Goals as goal
 
 pub list_program-requires : goal.list_program-requires
-list_program-requires g c = rw c.as_slice.ensures (visitable x86 (program_of c.args.program.now) c.args.program.now.well_formed (omega arith))
+list_program-requires g c = rw c.as_slice.ensures (visitable _ _ c.args.program.now.well_formed (omega arith))
 
 pub returns-clause-exactly : goal.returns-clause-exactly
 returns-clause-exactly g c =

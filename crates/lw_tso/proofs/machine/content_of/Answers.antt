@@ -7,19 +7,15 @@ use Rattle.lw_tso.proofs.machine.content_of.Goals as goal
 pub loop-loc-preserved : goal.loop-loc-preserved
 loop-loc-preserved g c =
     let content = g.M.MemorySystem.content c.args.memory.now in
-    let at = location_at c.location_count.result c.loop-loc.loc-index c.loc-item.result c.all.result c.all.ensures c.loop-loc-test.true c.loc-item.is in
+    let at = location_at _ _ _ c.all.ensures c.loop-loc-test.true c.loc-item.is in
     let there : c.loop-loc.loc-index < length content =
     omega (arith, c.loop-loc-test.true, length-take c.location_count.result c.all.result, c.location_count.ensures.count) in
-    c.in_ok-push.ensures.ok
-    ∙ ap₂ (λ words word. words ++ word ∷ []) c.loop-loc.invariant (c.word_at_end.ensures.word ∙ ap (slice_index content) at)
-    ∙ sym (take_more content c.loop-loc.loc-index 0 there)
+    c.in_ok-push.ensures.ok ∙ ap₂ (λ words word. words ++ word ∷ []) c.loop-loc.invariant
+        (c.word_at_end.ensures.word ∙ ap (slice_index content) at) ∙ sym (take_more content _ 0 there)
 
 pub returns : goal.returns
 returns g c =
-    let content = g.M.MemorySystem.content c.args.memory.now in
-    c.loop-loc.invariant
-    ∙ take_all c.loop-loc.loc-index content
-    (omega (
+    c.loop-loc.invariant ∙ take_all c.loop-loc.loc-index (g.M.MemorySystem.content c.args.memory.now) (omega (
       arith,
       c.loop-loc-test.false,
       length-take c.location_count.result c.all.result,

@@ -13,16 +13,13 @@ loop-thread-preserved g c =
     let known = c.args.program.now.well_formed in
     let within : c.loop-thread.thread < length c.args.program.now.head.init_regs = omega (arith, ap length c.as_slice-regs-items.ensures) in
     let there : c.loop-thread.thread < length c.args.program.now.threads = omega (arith, within, known.head.regs, known.as_many) in
-    let code = read c.args.program.now.threads c.as_slice.result.now _ c.loop-thread.thread c.index-as_slice-thread.result c.as_slice.ensures refl there
-    c.index-as_slice-thread.is in
-    let of : code_of c.args.program.now.threads c.loop-thread.thread ≡ c.as_slice-in-loop-thread.result.now = get_or_from_slice_get
-    c.args.program.now.threads c.loop-thread.thread _ [] code ∙ sym c.as_slice-in-loop-thread.ensures in
-    let started : processor_of c.in_ok-new.field-0 ≡ starting (get_or c.args.program.now.head.init_regs c.loop-thread.thread []) = rw
-    (← c.as_slice-regs-items.ensures) c.in_ok-new.ensures.processor in
-    let roomy : stores_from 0 (code_of c.args.program.now.threads c.loop-thread.thread) ≤ c.in_ok-new.field-0.buffer.room = rw of
-    (omega (arith, c.in_ok-new.ensures.room)) in
-    one_more c.args.program.now.threads c.args.program.now.head.init_regs c.loop-thread.thread c.loop-thread.processors.items c.push.new.self.items
-    c.in_ok-new.field-0 c.loop-thread.invariant within c.in_ok-push.ensures.items started roomy
+    let code = read _ _ _ c.loop-thread.thread _ c.as_slice.ensures refl there c.index-as_slice-thread.is in
+    let of = get_or_from_slice_get _ c.loop-thread.thread _ [] code ∙ sym c.as_slice-in-loop-thread.ensures in
+    let started : processor_of c.in_ok-new.field-0 ≡ starting (get_or c.args.program.now.head.init_regs
+        c.loop-thread.thread []) = rw (← c.as_slice-regs-items.ensures) c.in_ok-new.ensures.processor in
+    let roomy : stores_from 0 (code_of c.args.program.now.threads c.loop-thread.thread)
+        ≤ c.in_ok-new.field-0.buffer.room = rw of (omega (arith, c.in_ok-new.ensures.room)) in
+    one_more _ _ _ _ _ _ c.loop-thread.invariant within c.in_ok-push.ensures.items started roomy
 
 pub bounds-as_slice-thread : goal.bounds-as_slice-thread
 bounds-as_slice-thread g c =

@@ -7,11 +7,10 @@ pub loop-processor-preserved : goal.loop-processor-preserved
 loop-processor-preserved g c =
     let regs_in = λ (p : ProcessorInMemory g.row.B.Denot). p.regs in
     let all = c.args.processors.now in
-    c.in_ok-push.ensures.ok
-    ∙ ap₂ (λ front row. front ++ row ∷ []) c.loop-processor.invariant (ap regs_in c.processor-item.is)
-    ∙ sym (map_more regs_in all c.loop-processor.processor-index c.processor-item.result c.loop-processor-test.true)
+    c.in_ok-push.ensures.ok ∙ ap₂ (λ front row. front ++ row ∷ []) c.loop-processor.invariant
+        (ap regs_in c.processor-item.is) ∙ sym (map_more regs_in all _ _ c.loop-processor-test.true)
 
 pub returns : goal.returns
 returns g c =
-    let regs_in = λ (p : ProcessorInMemory g.row.B.Denot). p.regs in
-    c.loop-processor.invariant ∙ ap (map regs_in) (take_all c.loop-processor.processor-index c.args.processors.now c.loop-processor-test.false)
+    c.loop-processor.invariant ∙ ap (map (λ (p : ProcessorInMemory g.row.B.Denot). p.regs))
+        (take_all c.loop-processor.processor-index c.args.processors.now c.loop-processor-test.false)

@@ -1,6 +1,5 @@
 use Rattle.std.proofs.Common.{◌≡◌, map, take}
-use Rattle.lw_tso.specs.declared.processor.Processor.{Processor as ProcessorInMemory}
 use Rattle.lw_tso.proofs.machine.registers_of.Given as goal
 
 abbrev pub invariant-loop-processor : goal.invariant-loop-processor
-invariant-loop-processor g l = l.regs ≡ map (λ (p : ProcessorInMemory g.row.B.Denot). p.regs) (take l.processor-index l.processors)
+invariant-loop-processor g l = l.regs ≡ map (λ p. p.regs) (take l.processor-index l.processors)

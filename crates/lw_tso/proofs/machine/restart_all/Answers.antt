@@ -1,5 +1,4 @@
 use Rattle.std.proofs.Common.{◌<◌, arith, length, length-set, [], refl, ◌∙◌}
-use Rattle.lw_tso.specs.declared.processor.Processor.{Processor as ProcessorInMemory}
 use Rattle.lw_tso.specs.Processors.{starting}
 use Rattle.lw_tso.specs.inner.Views.{processor_of}
 use Rattle.lw_tso.proofs.Events.{read}
@@ -12,10 +11,9 @@ loop-thread-preserved g c =
     let within : t < length before = omega (arith, c.loop-thread.invariant.many, c.requires) in
     record {
       many = length-set before t c.restart.new.self ∙ c.loop-thread.invariant.many;
-      start = refilled processor_of starting before c.args.init_regs.now t c.restart.new.self [] within c.loop-thread-test.true
-          c.loop-thread.invariant.start c.restart.ensures.processor;
-      rooms = kept_in_place (λ (p : ProcessorInMemory g.row.A.Denot). p.buffer.room) before t c.restart.new.self c.index-processors-thread.result
-          (read before before t t c.index-processors-thread.result refl refl within c.index-processors-thread.is)
+      start = refilled processor_of starting before c.args.init_regs.now t c.restart.new.self [] within
+          c.loop-thread-test.true c.loop-thread.invariant.start c.restart.ensures.processor;
+      rooms = kept_in_place _ _ t _ _ (read before before t t _ refl refl within c.index-processors-thread.is)
           (rw c.index-processors-thread.is c.restart.ensures.room) ∙ c.loop-thread.invariant.rooms;
     }
 
@@ -24,8 +22,8 @@ bounds-processors-thread g c = omega (arith, c.loop-thread-test.true, c.loop-thr
 
 pub returns-clause-start : goal.returns-clause-start
 returns-clause-start g c =
-    refilled_all processor_of starting c.loop-thread.processors c.args.init_regs.now c.loop-thread.thread c.loop-thread.invariant.start
-    (omega (arith, c.loop-thread.invariant.many, c.requires)) c.loop-thread-test.false
+    refilled_all processor_of starting _ _ c.loop-thread.invariant.start
+        (omega (arith, c.loop-thread.invariant.many, c.requires)) c.loop-thread-test.false
 
 pub returns-clause-rooms : goal.returns-clause-rooms
 returns-clause-rooms g c = c.loop-thread.invariant.rooms

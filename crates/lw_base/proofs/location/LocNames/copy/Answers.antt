@@ -1,22 +1,20 @@
-use Rattle.std.proofs.Common.{◌∙◌, ◌<◌, length, map, ap, sym, subst, arith, take_all, string_bytes}
+use Rattle.std.proofs.Common.{◌∙◌, ◌<◌, map, ap, sym, subst, arith, take_all, string_bytes}
 use Rattle.lw_base.specs.Names.{IsTable}
 use Rattle.lw_base.proofs.api.Tables.{copied_more}
 use Rattle.lw_base.proofs.location.LocNames.copy.Goals as goal
 
 pub loop-name-preserved : goal.loop-name-preserved
 loop-name-preserved g c =
-    let within : c.loop-name.name-index < length c.deref-name-items.result.now = omega arith in
-    copied_more string_bytes _ _ _ _ _ _ within c.loop-name.invariant c.in_ok-push.ensures.items
-    (c.in_ok-from_str.ensures.ok ∙ c.as_str.ensures.value) c.name-item.is
+    copied_more string_bytes _ _ _ _ _ _ (omega arith) c.loop-name.invariant c.in_ok-push.ensures.items
+        (c.in_ok-from_str.ensures.ok ∙ c.as_str.ensures.value) c.name-item.is
 
 pub loop-name-init : goal.loop-name-init
 loop-name-init g c = ap (map string_bytes) c.new-names.ensures.items
 
 pub returns : goal.returns
 returns g c =
-    c.loop-name.invariant
-    ∙ ap (map string_bytes) (take_all c.loop-name.name-index c.deref-name-items.result.now c.loop-name-test.false ∙ c.deref-name-items.ensures.value)
-    ∙ c.self.view_is
+    c.loop-name.invariant ∙ ap (map string_bytes) (take_all c.loop-name.name-index
+    c.deref-name-items.result.now c.loop-name-test.false ∙ c.deref-name-items.ensures.value) ∙ c.self.view_is
 
 pub invariant_of-result : goal.invariant_of-result
 invariant_of-result g c =

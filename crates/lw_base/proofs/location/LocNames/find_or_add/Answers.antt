@@ -14,15 +14,15 @@ returns-then-len-eq-MAX_LOCATIONS-clause-place g c =
 
 pub returns-in-Ok-clause-place : goal.returns-in-Ok-clause-place
 returns-in-Ok-clause-place g c =
-    rw c.in-Ok.ensures.ok (c.in-Ok.ensures.place ∙ sym (index_of-new c.args.self.now c.args.name.now c.in_default.ensures))
+    rw c.in-Ok.ensures.ok (c.in-Ok.ensures.place ∙ sym (index_of-new _ c.args.name.now c.in_default.ensures))
 
 pub returns-in-Ok-clause-names : goal.returns-in-Ok-clause-names
-returns-in-Ok-clause-names g c = c.in-Ok.ensures.ok ∙ sym (with_name-new c.args.self.now c.args.name.now c.in_default.ensures)
+returns-in-Ok-clause-names g c = c.in-Ok.ensures.ok ∙ sym (with_name-new _ _ c.in_default.ensures)
 
 pub add-requires-clause-few : goal.add-requires-clause-few
 add-requires-clause-few g c =
-    let few : length c.args.self.now ≤ 8 = c.len-len.ensures.table.few in
-    let free : length c.args.self.now < 8 = omega (arith, few, c.len-len.ensures.len, c.if-len-eq-MAX_LOCATIONS.false) in free
+    let free : length c.args.self.now < 8 = omega (arith, c.len-len.ensures.table.few, c.len-len.ensures.len,
+        c.if-len-eq-MAX_LOCATIONS.false) in free
 
 pub add-requires-clause-name : goal.add-requires-clause-name
 add-requires-clause-name g c = c.requires

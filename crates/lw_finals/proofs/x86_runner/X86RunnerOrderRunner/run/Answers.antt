@@ -7,7 +7,7 @@ use Rattle.lw_mesi.specs.Coherence.{caches_invariant}
 use Rattle.lw_mesi.specs.declared.protocol.Protocol.TheVariants.{Mesi}
 use Rattle.lw_tso.specs.Exchange.{StandsAt}
 use Rattle.lw_tso.specs.Machines.{EventDone}
-use Rattle.lw_tso.specs.Runs.{Initial, is_final, machine_outcome}
+use Rattle.lw_tso.specs.Runs.{Initial, is_final}
 use Rattle.lw_litmus.specs.declared.instr.Instr.{Instr}
 use Rattle.lw_litmus.specs.Tests.{ProgramTest}
 use Rattle.lw_litmus.specs.Views.{program_of}
@@ -19,13 +19,15 @@ use Rattle.lw_finals.proofs.X86Runners.{can_start, carried_on, left_off}
 use Rattle.lw_finals.proofs.x86_runner.X86RunnerOrderRunner.run.Goals as goal
 
 -- what a run ends with, for the test and the outcome that these are
-ends_of : (items : List Item) (order : List ℕ) (test given : ProgramTest) (o end : Final) → test ≡ given → end ≡ o
-    → StaysAndEnds flat test test.head.init_words items order o → ((p : Final) → StaysAndEnds flat test test.head.init_words items order p → p ≡ o)
-    → StaysAndEnds flat given given.head.init_words items order end × ((p : Final) → StaysAndEnds flat given given.head.init_words items order p → p ≡ end)
+ends_of : (items : List Item) (order : List ℕ) (test given : ProgramTest) (o end : Final) → test ≡ given
+    → end ≡ o → StaysAndEnds flat test test.head.init_words items order o
+    → ((p : Final) → StaysAndEnds flat test test.head.init_words items order p → p ≡ o)
+    → StaysAndEnds flat given given.head.init_words items order end × ((p : Final) → StaysAndEnds flat given
+    given.head.init_words items order p → p ≡ end)
 ends_of items order test given o end same is run alone = (
   subst (λ (t : ProgramTest). StaysAndEnds flat t t.head.init_words items order end) same
       (subst (λ (p : Final). StaysAndEnds flat test test.head.init_words items order p) (sym is) run),
-  λ p h. alone p (subst (λ (t : ProgramTest). StaysAndEnds flat t t.head.init_words items order p) (sym same) h) ∙ sym is,
+  λ p h. alone p (subst (λ t. StaysAndEnds flat t t.head.init_words items order p) (sym same) h) ∙ sym is,
 )
 
 -- the machine over caches, which was put back to the start, is done over flat memory
@@ -44,10 +46,10 @@ loop-number-preserved g c =
       initial = c.carry_out.ensures.initial ∙ c.loop-number.invariant.initial;
       processors = c.carry_out.ensures.processors ∙ c.loop-number.invariant.processors;
       words = c.carry_out.ensures.words ∙ c.loop-number.invariant.words;
-      ran = carried_on mem test m c.args.items.now
-          (λ events s after e answer. c.events_are_flat.ensures.over_flat test m events s after e answer c.self.inside.program.now.well_formed start)
-          0 item c.loop-number-test.true c.from.ensures (rw c.from.ensures (c.requires c.loop-number.number-index 0 c.loop-number-test.true))
-          c.index-items-from.is c.loop-number.invariant.ran carried;
+      ran = carried_on _ _ m c.args.items.now (λ events s after e answer. c.events_are_flat.ensures.over_flat
+          test m events s after e answer c.self.inside.program.now.well_formed start) 0 item
+          c.loop-number-test.true c.from.ensures (rw c.from.ensures (c.requires c.loop-number.number-index 0
+          c.loop-number-test.true)) c.index-items-from.is c.loop-number.invariant.ran carried;
     }
 
 -- an item could not be carried out
@@ -58,24 +60,23 @@ returns-then-not-carry_out-clause-ends g c o stays =
     c.restart.ensures.program c.self.invariant.0 (ap (λ (i : Initial). i.words) c.self.invariant.1) in
     let item = c.index-items-from.result in
     let now = c.loop-number.self-inside.machine.state in
-    let run = subst (λ (t : ProgramTest). StaysAndEnds flat t t.head.init_words c.args.items.now c.args.order.now o)
-    (sym (ap (λ (r : Running ProgramTest). r.test) c.self.view_is)) stays in
+    let run = subst (λ (t : ProgramTest). StaysAndEnds flat t t.head.init_words c.args.items.now
+        c.args.order.now o) (sym (ap (λ (r : Running ProgramTest). r.test) c.self.view_is)) stays in
     let refused = subst (λ (p : List (List Instr)). StandsAt (event_of item) item.position now
     → (stop : Stop) × EventDone mem p (event_of item) now (Err stop) c.carry_out.new.machine.state)
     c.loop-number.invariant.threads (c.carry_out.ensures.left c.if-not-carry_out.true) in
-    left_off mem test m c.args.items.now
-    (λ events s after e answer. c.events_are_flat.ensures.over_flat test m events s after e answer c.self.inside.program.now.well_formed start)
-    0 item c.carry_out.new.machine.state c.loop-number-test.true c.from.ensures
-    (rw c.from.ensures (c.requires c.loop-number.number-index 0 c.loop-number-test.true))
-    c.index-items-from.is c.loop-number.invariant.ran refused o run
+    left_off mem _ m c.args.items.now (λ events s after e answer. c.events_are_flat.ensures.over_flat test m
+        events s after e answer c.self.inside.program.now.well_formed start) 0 _ c.carry_out.new.machine.state
+        c.loop-number-test.true c.from.ensures (rw c.from.ensures (c.requires c.loop-number.number-index 0
+        c.loop-number-test.true)) c.index-items-from.is c.loop-number.invariant.ran refused o run
 
 -- all items were carried out, but the state is not final
 pub returns-then-not-is_final-clause-ends : goal.returns-then-not-is_final-clause-ends
 returns-then-not-is_final-clause-ends g c o stays =
     let test = program_of c.self.inside.program.now in
-    let run = subst (λ (t : ProgramTest). StaysAndEnds flat t t.head.init_words c.args.items.now c.args.order.now o)
-    (sym (ap (λ (r : Running ProgramTest). r.test) c.self.view_is)) stays in
-    let at_end = ends_alone (system_of flat test test.head.init_words) c.args.items.now c.loop-number-test.false c.loop-number.invariant.ran.first o run in
+    let run = subst (λ (t : ProgramTest). StaysAndEnds flat t t.head.init_words c.args.items.now
+        c.args.order.now o) (sym (ap (λ (r : Running ProgramTest). r.test) c.self.view_is)) stays in
+    let at_end = ends_alone _ _ c.loop-number-test.false c.loop-number.invariant.ran.first o run in
     let final = subst (λ (p : List (List Instr)). is_final p c.loop-number.self-inside.machine.state ≡ true) (sym c.loop-number.invariant.threads) at_end.1 in
     true≢false (sym final ∙ sym c.is_final.ensures ∙ c.if-not-is_final.true)
 
@@ -85,10 +86,9 @@ returns-clause-ends g c =
     let now = c.loop-number.self-inside.machine.state in
     let final = subst (λ (p : List (List Instr)). is_final p now ≡ true) c.loop-number.invariant.threads
     (sym c.is_final.ensures ∙ c.if-not-is_final.false) in
-    ends_of c.args.items.now c.args.order.now test c.args.self.now.test (machine_outcome (caches_by Mesi) now) c.write_outcome.new.outcome
-    (ap (λ (r : Running ProgramTest). r.test) c.self.view_is) c.write_outcome.ensures
-    (ends_so system c.args.items.now c.loop-number-test.false c.loop-number.invariant.ran.first final)
-    (λ o run. (ends_alone system c.args.items.now c.loop-number-test.false c.loop-number.invariant.ran.first o run).0)
+    ends_of _ _ test _ _ _ (ap (λ r. r.test) c.self.view_is) c.write_outcome.ensures (ends_so system _
+        c.loop-number-test.false c.loop-number.invariant.ran.first final) (λ o run. (ends_alone system
+        c.args.items.now c.loop-number-test.false c.loop-number.invariant.ran.first o run).0)
 
 pub bounds-items-from : goal.bounds-items-from
 bounds-items-from g c = rw c.from.ensures (c.requires c.loop-number.number-index 0 c.loop-number-test.true)

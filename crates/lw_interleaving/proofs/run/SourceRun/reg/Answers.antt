@@ -1,5 +1,4 @@
-use Rattle.std.proofs.Common.{ap, ◌∙◌, slice_index}
-use Rattle.lw_interleaving.specs.declared.thread.Thread.{Thread}
+use Rattle.std.proofs.Common.{ap, ◌∙◌}
 use Rattle.lw_interleaving.specs.Runs.{SourceRunState}
 use Rattle.lw_interleaving.proofs.api.Runs.{read_at}
 use Rattle.lw_interleaving.proofs.run.SourceRun.reg.Goals as goal
@@ -7,5 +6,4 @@ use Rattle.lw_interleaving.proofs.run.SourceRun.reg.Goals as goal
 pub returns : goal.returns
 returns g c =
     let threads = c.as_slice.ensures ∙ ap (λ (r : SourceRunState). r.state.threads) c.self.view_is in
-    rw c.index-2.ensures.value
-    (read_at (λ (t : Thread). slice_index t.regs c.args.reg) _ _ c.args.cpu _ _ threads c.index.ensures.value c.requires)
+    rw c.index-2.ensures.value (read_at _ _ _ c.args.cpu _ _ threads c.index.ensures.value c.requires)

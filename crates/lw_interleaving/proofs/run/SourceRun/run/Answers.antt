@@ -1,16 +1,14 @@
 use Rattle.std.proofs.Common.{◌≡◌, ◌∙◌, ap, refl, sym, true≢false}
 use Rattle.lw_base.proofs.api.Replays.{Ran-more}
 use Rattle.lw_interleaving.proofs.api.Runs.{event_kept, possible, stopped, replayed_all}
-use Rattle.lw_interleaving.specs.Runs.{SourceEventDone, SourceRunState, source_event}
+use Rattle.lw_interleaving.specs.Runs.{SourceEventDone, SourceRunState}
 use Rattle.lw_interleaving.proofs.run.SourceRun.run.Goals as goal
 
 pub loop-done-preserved : goal.loop-done-preserved
 loop-done-preserved g c =
-    let before : SourceRunState = record { program = c.args.self.now.program; start = c.args.self.now.start; state = c.loop-done.self.state } in
     let done = rw (c.loop-done.invariant.program, c.loop-done.invariant.start) at c.act.ensures.done in
-    let one = possible (c.act.new.self ≡ before) (source_event c.args.self.now.program c.index-events-done.result c.loop-done.self.state)
-    c.act.result c.in_default.field-0 c.act.new.self.state done c.in_default.is in
-    let kept = event_kept c.args.self.now.program c.index-events-done.result c.loop-done.self.state c.act.new.self.state one in
+    let one = possible _ _ c.act.result c.in_default.field-0 c.act.new.self.state done c.in_default.is in
+    let kept = event_kept c.args.self.now.program _ c.loop-done.self.state c.act.new.self.state one in
     record {
       program = c.act.ensures.program ∙ c.loop-done.invariant.program;
       start = c.act.ensures.start ∙ c.loop-done.invariant.start;

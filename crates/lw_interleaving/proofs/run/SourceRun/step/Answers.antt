@@ -10,17 +10,17 @@ returns-clause-done g c =
     let thread = rw c.index.ensures.value at c.in-Some.ensures in
     let code = rw (c.as_slice.ensures, c.index-2.ensures.value) at c.index-as_slice-index.is in
     let next = rw c.operation.ensures at c.carry_out.ensures.thread in
-    let threads = rw (c.index-3.ensures.value, next) at c.set.ensures in
     let words = rw c.operation.ensures at c.carry_out.ensures.words in
-    stepped _ _ _ _ _ c.args.cpu _ _ _ c.self.view_is refl c.self.invariant.0 thread code c.in-Some-get.ensures threads words
+    stepped _ _ _ _ _ c.args.cpu _ _ _ c.self.view_is refl c.self.invariant.0 thread code
+        c.in-Some-get.ensures (rw (c.index-3.ensures.value, next) at c.set.ensures) words
 
 pub carry_out-requires : goal.carry_out-requires
 carry_out-requires g c =
     let thread = rw c.index.ensures.value at c.in-Some.ensures in
     let code = rw (c.as_slice.ensures, c.index-2.ensures.value) at c.index-as_slice-index.is in
     let next =
-    next_statement _ _ _ _ c.args.cpu _ _ _ c.self.invariant.1 c.self.invariant.0 c.self.inside.source.now.well_formed.code
-    thread code c.in-Some-get.ensures in
+    next_statement _ _ _ _ c.args.cpu _ _ _ c.self.invariant.1 c.self.invariant.0
+        c.self.inside.source.now.well_formed.code thread code c.in-Some-get.ensures in
     record { operation = rw c.operation.ensures next.0; room = next.1 }
 
 pub returns-in_default-clause-done : goal.returns-in_default-clause-done
@@ -60,7 +60,7 @@ returns-clause-threads g c =
 
 pub returns-clause-words : goal.returns-clause-words
 returns-clause-words g c =
-    ap length c.carry_out.ensures.words ∙ words_kept _ _ c.self.inside.words ∙ ap (λ (r : SourceRunState). length r.state.words) c.self.view_is
+    ap length c.carry_out.ensures.words ∙ words_kept _ _ _ ∙ ap (λ r. length r.state.words) c.self.view_is
 
 pub returns-clause-start : goal.returns-clause-start
 returns-clause-start g c = ap (λ (r : SourceRunState). r.start) c.self.view_is

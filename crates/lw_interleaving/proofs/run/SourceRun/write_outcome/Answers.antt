@@ -1,19 +1,15 @@
 use Rattle.std.proofs.Common.{ap, arith, length, ◌∙◌}
 use Rattle.lw_base.specs.Outcomes.{Final}
-use Rattle.lw_interleaving.specs.declared.thread.Thread.{Thread}
-use Rattle.lw_interleaving.specs.Runs.{SourceRunState}
 use Rattle.lw_interleaving.proofs.api.Runs.{written_on}
 use Rattle.lw_interleaving.proofs.run.SourceRun.write_outcome.Goals as goal
 
 pub loop-cpu-preserved : goal.loop-cpu-preserved
 loop-cpu-preserved g c =
-    let threads = c.as_slice-thread-items.ensures ∙ ap (λ (r : SourceRunState). r.state.threads) c.self.view_is in
+    let threads = c.as_slice-thread-items.ensures ∙ ap (λ r. r.state.threads) c.self.view_is in
     let many = ap (λ (o : Final). length o.regs) c.outcome.view_is ∙ c.requires.threads in
     record {
-      regs = c.set.ensures ∙ written_on (λ (t : Thread). t.regs) c.as_slice-thread-items.result.now
-          c.args.self.now.state.threads c.outcome.inside.regs c.loop-cpu.outcome-inside.regs c.loop-cpu.cpu _
-          threads c.loop-cpu.invariant.regs c.loop-cpu-test.true
-          (omega (arith, many, c.loop-cpu-test.true, ap length threads));
+      regs = c.set.ensures ∙ written_on _ _ _ _ _ c.loop-cpu.cpu _ threads c.loop-cpu.invariant.regs
+          c.loop-cpu-test.true (omega (arith, many, c.loop-cpu-test.true, ap length threads));
       words = c.loop-cpu.invariant.words;
     }
 

@@ -10,6 +10,5 @@ invariant_of-result g c =
     let inv = invariant_of g.M.MemorySystem.cpus g.M.MemorySystem.sound in
     let known = c.args.program.now.well_formed in
     let locations = ap length c.requires.words ∙ known.head.words in
-    machine_made c.args.program.now.threads c.args.program.now.head.init_regs mem inv
-    (length c.args.program.now.head.locs) c.args.memory c.in-Ok.processors.items c.cpu_count-cpus.ensures.sound locations c.requires.threads
-    (known.head.regs ∙ sym known.as_many) c.in-Ok.ensures.start c.in-Ok.ensures.rooms
+    machine_made _ _ mem inv _ c.args.memory _ c.cpu_count-cpus.ensures.sound locations c.requires.threads
+        (known.head.regs ∙ sym known.as_many) c.in-Ok.ensures.start c.in-Ok.ensures.rooms

@@ -3,7 +3,6 @@ use Rattle.std.proofs.Common.{◌∙◌, append-nil, take_all}
 use Rattle.std.proofs.lemmas.List.{drop_all}
 use Rattle.lw_memory.specs.MemoryLaws.{invariant_of}
 use Rattle.lw_memory.specs.Memory.{memory_of}
-use Rattle.lw_tso.specs.declared.processor.Processor.{Processor as ProcessorInMemory}
 use Rattle.lw_tso.specs.Processors.{Processor, starting}
 use Rattle.lw_tso.specs.Machines.{MachineState}
 use Rattle.lw_tso.specs.inner.Rooms.{IsMachine}
@@ -11,8 +10,8 @@ use Rattle.lw_tso.proofs.Starts.{machine_made, still_roomy}
 use Rattle.lw_tso.proofs.machine.Machine.restart.Goals as goal
 
 -- what is written over a whole list
-all_written : {X : Type 0} (xs ys : List X) (n : ℕ) → length xs ≡ length ys → n ≡ length ys → take n (xs ++ drop (length xs) ys) ≡ xs
-all_written xs ys n many is =
+all_written : {X : Type 0} (xs ys : List X) {n : ℕ} → length xs ≡ length ys → n ≡ length ys → take n (xs ++ drop (length xs) ys) ≡ xs
+all_written xs ys {n = n} many is =
     ap (λ (zs : List _). take n (xs ++ zs)) (drop_all (length xs) ys (omega arith)) ∙ ap (take n) (append-nil xs) ∙ take_all n xs (omega arith)
 
 abbrev state_of : {M : Type 0} → List Processor → M → MachineState M
@@ -25,18 +24,17 @@ invariant_of-self g c =
     let known = c.self.inside.program.now.well_formed in
     let program = c.self.inside.program.now.threads in
     let regs = c.self.inside.program.now.head.init_regs in
-    let before = c.self.inside.processors.items in
     let now = c.restart_all.new.processors in
     let locs = length c.self.inside.program.now.head.locs in
     let m = c.restart.new.self in
-    let locations : length (mem.content m) ≡ locs = ap length (c.restart.ensures.words ∙ c.as_slice-2.ensures) ∙ known.head.words in
+    let locations = ap length (c.restart.ensures.words ∙ c.as_slice-2.ensures) ∙ known.head.words in
     let cpus : length program ≤ inv.cpus m = omega (arith, c.restart.ensures.cpus, c.self.invariant.cpus, c.self.invariant.as_many) in
-    let rooms = c.restart_all.ensures.rooms ∙ ap (map (λ (p : ProcessorInMemory g.row.A.Denot). p.buffer.room)) c.deref_mut.ensures.value in
-    let roomy = still_roomy program regs before now rooms c.self.invariant.whole in
-    let made : IsMachine mem inv program locs m now = machine_made program regs mem inv locs m now c.restart.ensures.sound locations cpus
-    (known.head.regs ∙ sym known.as_many) (c.restart_all.ensures.start ∙ ap (map starting) c.as_slice.ensures) roomy in
-    let many : length now ≡ length before = c.restart_all.auto.processors ∙ ap length c.deref_mut.ensures.value in
-    subst (IsMachine mem inv program locs m) (sym (all_written now before c.self.inside.processors.len many c.self.inside.processors.ok.0)) made
+    let rooms = c.restart_all.ensures.rooms ∙ ap (map (λ p. p.buffer.room)) c.deref_mut.ensures.value in
+    let roomy = still_roomy program regs c.self.inside.processors.items now rooms c.self.invariant.whole in
+    let made = machine_made _ regs mem inv locs m now c.restart.ensures.sound locations cpus (known.head.regs
+        ∙ sym known.as_many) (c.restart_all.ensures.start ∙ ap (map starting) c.as_slice.ensures) roomy in
+    let many = c.restart_all.auto.processors ∙ ap length c.deref_mut.ensures.value in
+    subst (IsMachine mem inv program locs m) (sym (all_written now _ many c.self.inside.processors.ok.0)) made
 
 pub restart_all-requires : goal.restart_all-requires
 restart_all-requires g c =
@@ -50,10 +48,11 @@ pub returns-clause-state : goal.returns-clause-state
 returns-clause-state g c =
     let before = c.self.inside.processors.items in
     let now = c.restart_all.new.processors in
-    let many : length now ≡ length before = c.restart_all.auto.processors ∙ ap length c.deref_mut.ensures.value in
-    rw (all_written now before c.self.inside.processors.len many c.self.inside.processors.ok.0, ← c.self.view_is)
-    (ap₂ state_of (c.restart_all.ensures.start ∙ ap (map starting) c.as_slice.ensures)
-    (c.restart.ensures.start ∙ ap (g.M.MemorySystem.start (g.M.MemorySystem.cpus c.self.inside.memory)) c.as_slice-2.ensures))
+    let many = c.restart_all.auto.processors ∙ ap length c.deref_mut.ensures.value in
+    rw (all_written now before many c.self.inside.processors.ok.0, ←
+        c.self.view_is) (ap₂ state_of (c.restart_all.ensures.start ∙ ap (map starting) c.as_slice.ensures)
+        (c.restart.ensures.start ∙ ap (g.M.MemorySystem.start (g.M.MemorySystem.cpus c.self.inside.memory))
+        c.as_slice-2.ensures))
 
 pub returns-clause-words : goal.returns-clause-words
 returns-clause-words g c = rw (← c.self.view_is) (c.restart.ensures.words ∙ c.as_slice-2.ensures)

@@ -8,8 +8,8 @@ invariant-loop-done g l =
     record {
       program : l.self.program ≡ l.fn.self.program;
       initial : l.self.initial ≡ l.fn.self.initial;
-      ran : MachineRan (memory_of g.M.MemorySystem.content g.M.MemorySystem.state g.M.MemorySystem.serves) l.fn.self.program
-          (take l.done l.events) l.fn.self.state l.self.state;
+      ran : MachineRan (memory_of g.M.MemorySystem.content g.M.MemorySystem.state g.M.MemorySystem.serves)
+          l.fn.self.program (take l.done l.events) l.fn.self.state l.self.state;
       processors : length l.self.state.processors ≡ length l.fn.self.state.processors;
       words : length (g.M.MemorySystem.content l.self.state.memory) ≡ length (g.M.MemorySystem.content l.fn.self.state.memory);
     }

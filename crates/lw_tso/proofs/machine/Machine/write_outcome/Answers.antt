@@ -2,7 +2,6 @@ use Rattle.std.proofs.Common.{ap, arith, length, map, sym, ◌∙◌}
 use Rattle.std.proofs.lemmas.List.{length-map}
 use Rattle.lw_base.specs.Outcomes.{Final}
 use Rattle.lw_memory.specs.Memory.{memory_of}
-use Rattle.lw_tso.specs.declared.processor.Processor.{Processor as ProcessorInMemory}
 use Rattle.lw_tso.specs.Runs.{Running}
 use Rattle.lw_tso.specs.inner.Views.{processor_of}
 use Rattle.lw_tso.proofs.Events.{outcome_is}
@@ -21,11 +20,11 @@ write_registers-requires g c =
 
 pub write_content-requires : goal.write_content-requires
 write_content-requires g c =
-    ap (λ (o : Final). length o.words) c.outcome.view_is
-    ∙ (c.requires.words ∙ sym (ap (λ (r : Running g.row.M.Denot). length (g.M.MemorySystem.content r.state.memory)) c.self.view_is))
+    ap (λ (o : Final). length o.words) c.outcome.view_is ∙ (c.requires.words
+        ∙ sym (ap (λ r. length (g.M.MemorySystem.content r.state.memory)) c.self.view_is))
 
 pub returns : goal.returns
 returns g c =
     let mem = memory_of g.M.MemorySystem.content g.M.MemorySystem.state g.M.MemorySystem.serves in
-    let listed = c.write_registers.ensures ∙ ap (map (λ (p : ProcessorInMemory g.row.A.Denot). p.regs)) c.as_slice.ensures.value in
-    outcome_is mem c.args.self.now _ _ c.self.inside.processors.items c.self.inside.memory _ _ c.self.view_is listed c.write_content.ensures
+    let listed = c.write_registers.ensures ∙ ap (map (λ p. p.regs)) c.as_slice.ensures.value in
+    outcome_is mem _ _ _ c.self.view_is listed c.write_content.ensures
