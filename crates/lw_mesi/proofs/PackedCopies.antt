@@ -91,8 +91,8 @@ has_word false d b false w v h = cc
 
 pub owner_at : (p : Inside) (o : ℕ) → o < most_threads → p.owner ≡ Some o → copy_of (unpacked p) o ≡ owner_copy p.is_dirty p.is_owned p.word
 owner_at p o lt own =
-    copy_there p o lt
-    ∙ ap (λ (x : Bool). copy_by x p.is_dirty p.is_owned (slice_index_or p.sharers o false) p.word) (own_true p.owner o own)
+    copy_there p o lt ∙ ap (λ (x : Bool). copy_by x p.is_dirty p.is_owned (slice_index_or p.sharers o false)
+    p.word) (own_true p.owner o own)
 
 pub owned_at : (p : Inside) (o : ℕ) → o < most_threads → p.owner ≡ Some o → p.is_dirty ≡ true → p.is_owned ≡ true → copy_of (unpacked p) o ≡ Owned p.word
 owned_at p o lt own d b = owner_at p o lt own ∙ ap₂ (λ (x y : Bool). owner_copy x y p.word) d b
@@ -100,7 +100,7 @@ owned_at p o lt own d b = owner_at p o lt own ∙ ap₂ (λ (x y : Bool). owner_
 -- Every dirty copy is a dirty owner's.
 pub dirty_at : (p : Inside) (t : ℕ) → IsDirty (copy_in (unpacked p).copies t) → (is_owner p.owner t ≡ true) × (p.is_dirty ≡ true)
 dirty_at p t h = elim (cases_lt t most_threads) [
-  | inl lt ↦ dirty_owner (is_owner p.owner t) p.is_dirty p.is_owned (slice_index_or p.sharers t false) p.word (subst IsDirty (copy_there p t lt) h)
+  | inl lt ↦ dirty_owner _ p.is_dirty p.is_owned _ p.word (subst IsDirty (copy_there p t lt) h)
   | inr past ↦ absurd (subst IsDirty (get_or_past (unpacked p).copies t Invalid (omega (arith, at_each_long (copy_at p)))) h)
 ]
 
@@ -109,19 +109,18 @@ pub content_is : (p : Inside) → IsPacked p → content_of (unpacked p) ≡ p.w
 content_is p ok = go p.is_dirty refl p.owner refl
   where
     go : (d : Bool) → p.is_dirty ≡ d → (owner : Option ℕ) → p.owner ≡ owner → content_of (unpacked p) ≡ p.word
-    go false ed owner eo = clean p.memory (unpacked p).copies (λ t h. let k = (dirty_at p t h).1 in cc) ∙ ok.clean ed
+    go false ed owner eo = clean _ (unpacked p).copies (λ t h. let k = (dirty_at p t h).1 in cc) ∙ ok.clean ed
     go true ed None eo = absurd (let k = ok.unowned eo in cc)
     go true ed (Some o) eo =
-        let at : copy_of (unpacked p) o ≡ owner_copy true p.is_owned p.word = owner_at p o (ok.in_range o eo) eo
-        ∙ ap (λ (x : Bool). owner_copy x p.is_owned p.word) ed in
+        let at = owner_at p o (ok.in_range o eo) eo ∙ ap (λ (x : Bool). owner_copy x p.is_owned p.word) ed in
         dirty p.memory p.word (unpacked p).copies o (subst IsDirty (sym at) (owner_dirty p.is_owned p.word))
-        (ap copy_word at ∙ owner_word p.is_owned p.word)
-        (λ u ne h. let e : p.owner ≡ Some u = own_is p.owner u (dirty_at p u h).0 in ne (let same : o ≡ u = cc in same))
+            (ap copy_word at ∙ owner_word p.is_owned p.word) (λ u ne h. let e : p.owner ≡ Some u = own_is
+            p.owner u (dirty_at p u h).0 in ne (let same : o ≡ u = cc in same))
 
 pub held_somewhere : (copies : List Copy) (t : ℕ) → is_held (letter_of (copy_in copies t)) ≡ true → any_held copies ≡ true
 held_somewhere [] t h = cc
 held_somewhere (c ∷ copies) zero h = or_left (is_held (letter_of c)) (any_held copies) h
-held_somewhere (c ∷ copies) (suc t) h = or_right (is_held (letter_of c)) (any_held copies) (held_somewhere copies t h)
+held_somewhere (c ∷ copies) (suc t) h = or_right _ (any_held copies) (held_somewhere copies t h)
 
 -- The owner holds the line.
 pub held_by : (p : Inside) (o : ℕ) → o < most_threads → p.owner ≡ Some o → any_held (unpacked p).copies ≡ true
@@ -132,5 +131,4 @@ abbrev pub line_of : List Copy → ℕ → CacheLine
 line_of copies memory = record { copies = copies; memory = memory }
 
 pub not_owner : (p : Inside) (t : ℕ) → t < most_threads → copy_of (unpacked p) t ≡ Invalid → is_owner p.owner t ≡ false
-not_owner p t lt free =
-    not_held (is_owner p.owner t) p.is_dirty p.is_owned (slice_index_or p.sharers t false) p.word (sym (copy_there p t lt) ∙ free)
+not_owner p t lt free = not_held _ p.is_dirty p.is_owned _ p.word (sym (copy_there p t lt) ∙ free)

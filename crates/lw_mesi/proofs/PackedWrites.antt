@@ -24,18 +24,18 @@ one_holder t w m = record { owner = Some t; is_dirty = true; is_owned = false; s
 -- Beside the only copy there is no other.
 no_other : (p : Inside) (t u : ℕ) → IsPacked p → IsOnlyCopy (copy_at p t) → u < most_threads → u ≢ t → copy_at p u ≡ Invalid
 no_other p t u ok only within ne =
-    let o = only_owner (is_owner p.owner t) p.is_dirty p.is_owned (slice_index_or p.sharers t false) p.word ok.owned only in
+    let o = only_owner (is_owner p.owner t) p.is_dirty p.is_owned _ p.word ok.owned only in
     let own : p.owner ≡ Some t = own_is p.owner t o.0 in
-    let none : slice_index_or p.sharers u false ≡ false = ap (λ (xs : List Bool). slice_index_or xs u false) (ok.alone t own o.1)
-    ∙ at_each_get (λ k. false) u false within in
-    let other : is_owner p.owner u ≡ false = ap (λ (x : Option ℕ). is_owner x u) own ∙ ne_eqb t u (λ e. ne (sym e)) in
+    let none : slice_index_or p.sharers u false ≡ false = ap (λ (xs : List Bool). slice_index_or xs u false)
+        (ok.alone t own o.1) ∙ at_each_get (λ k. false) u false within in
+    let other = ap (λ (x : Option ℕ). is_owner x u) own ∙ ne_eqb t u (λ e. ne (sym e)) in
     ap₂ (λ (x s : Bool). copy_by x p.is_dirty p.is_owned s p.word) other none
 
 -- The line into which a writer puts its word: as many copies, memory the same, and nobody else has a copy.
 write_long : (c : Copy) (t : ℕ) (line : CacheLine) → length (on_write c t line).copies ≡ length line.copies
 write_long (Modified v) t line = refl
 write_long (Exclusive v) t line = refl
-write_long _ t line = length-set (map (λ c. Invalid) line.copies) t (Modified (content_of line)) ∙ length-map line.copies (λ c. Invalid)
+write_long _ t line = length-set (map (λ c. Invalid) line.copies) t _ ∙ length-map line.copies (λ c. Invalid)
 
 write_memory : (c : Copy) (t : ℕ) (line : CacheLine) → (on_write c t line).memory ≡ line.memory
 write_memory (Modified v) t line = refl
@@ -51,8 +51,8 @@ module _ (p : Inside) (t : ℕ) (ok : IsPacked p) (lt : t < most_threads) where
 
   given_up : (u : ℕ) → u ≢ t → copy_in (set (map (λ c. Invalid) (unpacked p).copies) t (Modified (content_of (unpacked p)))) u ≡ Invalid
   given_up u ne =
-      put_there (map (λ c. Invalid) (unpacked p).copies) t (Modified (content_of (unpacked p))) u (λ e. ne (sym e))
-      ∙ copy_map (λ c. Invalid) (unpacked p).copies u refl
+      put_there (map (λ c. Invalid) (unpacked p).copies) t (Modified (content_of (unpacked p))) u
+      (λ e. ne (sym e)) ∙ copy_map (λ c. Invalid) (unpacked p).copies u refl
 
   write_others : (c : Copy) → copy_of (unpacked p) t ≡ c → (u : ℕ) → u < most_threads → u ≢ t → copy_of (on_write c t (unpacked p)) u ≡ Invalid
   write_others (Modified v) e u within ne = kept_alone (Modified v) e tt u within ne
@@ -72,8 +72,7 @@ write_word p t ok lt = go (copy_of (unpacked p) t) refl
     kept : (c : Copy) (v : ℕ) → copy_of line t ≡ c → copy_word c ≡ Some v → Some p.word ≡ copy_word (copy_of line t)
     kept c v e h =
         has_word (is_owner p.owner t) p.is_dirty p.is_owned (slice_index_or p.sharers t false) p.word v
-        (ap copy_word (sym (copy_there p t lt) ∙ e) ∙ h)
-        ∙ sym (ap copy_word e ∙ h)
+        (ap copy_word (sym (copy_there p t lt) ∙ e) ∙ h) ∙ sym (ap copy_word e ∙ h)
 
     brought : Some p.word ≡ copy_word (copy_in (set gone t (Modified (content_of line))) t)
     brought =
@@ -92,14 +91,15 @@ write_only p t w ok lt =
     let line : CacheLine = unpacked p in
     let l : CacheLine = on_write (copy_of line t) t line in
     let copies : (unpacked (one_holder t w p.memory)).copies ≡ set l.copies t (Modified w) =
-    at_each_put (copy_at (one_holder t w p.memory)) l.copies t (Modified w) Invalid (write_long (copy_of line t) t line ∙ at_each_long (copy_at p)) lt
-    (ap (λ (x : Bool). copy_by x true false (slice_index_or nobody t false) w) (eq-eqb t t refl))
-    (λ u within ne. ap₂ (λ (x s : Bool). copy_by x true false s w) (ne_eqb t u (λ e. ne (sym e))) (at_each_get (λ k. false) u false within)
-    ∙ sym (write_others p t ok lt (copy_of line t) refl u within ne)) in
+    at_each_put (copy_at (one_holder t w p.memory)) l.copies t (Modified w) Invalid
+        (write_long (copy_of line t) t line ∙ at_each_long (copy_at p)) lt (ap (λ (x : Bool). copy_by x true
+        false (slice_index_or nobody t false) w) (eq-eqb t t refl)) (λ u within ne. ap₂ (λ (x s : Bool).
+        copy_by x true false s w) (ne_eqb t u (λ e. ne (sym e))) (at_each_get (λ k. false) u false within)
+        ∙ sym (write_others p t ok lt (copy_of line t) refl u within ne)) in
     ap₂ line_of copies (sym (write_memory (copy_of line t) t line))
 
-shared_row : (c : Copy) (t : ℕ) (line : CacheLine)
-    → letter_of c ≡ S → on_evict c t line ≡ record { copies = set line.copies t Invalid; memory = line.memory }
+shared_row : (c : Copy) (t : ℕ) (line : CacheLine) → letter_of c ≡ S
+    → on_evict c t line ≡ record { copies = set line.copies t Invalid; memory = line.memory }
 shared_row (Shared w) t line e = refl
 shared_row _ t line e = cc
 
@@ -108,14 +108,14 @@ pub sharer_gone : (p : Inside) (t : ℕ)
     → IsPacked p → t < most_threads → letter_of (copy_of (unpacked p) t) ≡ S
     → unpacked (record p { sharers = set p.sharers t false }) ≡ line_evicted t (unpacked p)
 sharer_gone p t ok lt shared =
-    let other : is_owner p.owner t ≡ false = not_shared (is_owner p.owner t) p.is_dirty p.is_owned (slice_index_or p.sharers t false) p.word
-    (sym (ap letter_of (copy_there p t lt)) ∙ shared) in
+    let other = not_shared _ _ p.is_owned _ p.word (sym (ap letter_of (copy_there p t lt)) ∙ shared) in
     let copies : (unpacked (record p { sharers = set p.sharers t false })).copies ≡ set (unpacked p).copies t Invalid =
-    at_each_put (copy_at (record p { sharers = set p.sharers t false })) (unpacked p).copies t Invalid Invalid (at_each_long (copy_at p)) lt
-    (ap₂ (λ (x s : Bool). copy_by x p.is_dirty p.is_owned s p.word) other (get_or-set_same p.sharers t false false (omega (arith, ok.as_many))))
-    (λ u within ne. ap (λ (s : Bool). copy_by (is_owner p.owner u) p.is_dirty p.is_owned s p.word) (get_or-set_other p.sharers t u false false ne)
-    ∙ sym (copy_there p u within)) in
-    ap (λ (cs : List Copy). line_of cs p.memory) copies ∙ sym (shared_row (copy_of (unpacked p) t) t (unpacked p) shared)
+    at_each_put (copy_at (record p { sharers = set p.sharers t false })) (unpacked p).copies t Invalid Invalid
+        (at_each_long (copy_at p)) lt (ap₂ (λ (x s : Bool). copy_by x p.is_dirty p.is_owned s p.word) other
+        (get_or-set_same p.sharers t false false (omega (arith, ok.as_many)))) (λ u within ne. ap
+        (λ (s : Bool). copy_by (is_owner p.owner u) p.is_dirty p.is_owned s p.word) (get_or-set_other
+        p.sharers t u false false ne) ∙ sym (copy_there p u within)) in
+    ap (λ (cs : List Copy). line_of cs p.memory) copies ∙ sym (shared_row _ t (unpacked p) shared)
 
 -- An owner's copy is given up.
 owner_gone : (p : Inside) (t m : ℕ) (d b : Bool) → IsPacked p → t < most_threads → p.owner ≡ Some t
@@ -124,9 +124,8 @@ owner_gone p t m d b ok lt own =
     let q : Inside = record p { owner = None; is_dirty = d; is_owned = b; memory = m } in
     let copies : (unpacked q).copies ≡ set (unpacked p).copies t Invalid =
     at_each_put (copy_at q) (unpacked p).copies t Invalid Invalid (at_each_long (copy_at p)) lt
-    (ap (λ (s : Bool). sharer_copy s p.word) (ok.apart t own))
-    (λ u within ne.
-    let other : is_owner p.owner u ≡ false = ap (λ (x : Option ℕ). is_owner x u) own ∙ ne_eqb t u (λ e. ne (sym e)) in
+        (ap (λ (s : Bool). sharer_copy s p.word) (ok.apart t own)) (λ u within ne.
+    let other = ap (λ (x : Option ℕ). is_owner x u) own ∙ ne_eqb t u (λ e. ne (sym e)) in
     sym (ap (λ (x : Bool). copy_by x p.is_dirty p.is_owned (slice_index_or p.sharers u false) p.word) other) ∙ sym (copy_there p u within)) in
     ap (λ (cs : List Copy). line_of cs m) copies
 
@@ -151,18 +150,18 @@ clean_row true false b s w t line h = (refl, refl)
 clean_row false d b true w t line h = cc
 clean_row false d b false w t line h = cc
 
-pub dirty_gone : (p : Inside) (t : ℕ)
-    → IsPacked p → t < most_threads → (letter_of (copy_of (unpacked p) t) ≡ M) ⊎ (letter_of (copy_of (unpacked p) t) ≡ O)
-    → unpacked (record p { owner = None; is_dirty = false; is_owned = false; memory = p.word }) ≡ line_evicted t (unpacked p)
+pub dirty_gone : (p : Inside) (t : ℕ) → IsPacked p → t < most_threads
+    → (letter_of (copy_of (unpacked p) t) ≡ M) ⊎ (letter_of (copy_of (unpacked p) t) ≡ O)
+    → unpacked (record p { owner = None; is_dirty = false; is_owned = false; memory = p.word }) ≡ line_evicted
+    t (unpacked p)
 dirty_gone p t ok lt h =
-    let row = dirty_row (is_owner p.owner t) p.is_dirty p.is_owned (slice_index_or p.sharers t false) p.word t (unpacked p)
-    (subst (λ (c : Copy). (letter_of c ≡ M) ⊎ (letter_of c ≡ O)) (copy_there p t lt) h) in
+    let row = dirty_row (is_owner p.owner t) p.is_dirty p.is_owned (slice_index_or p.sharers t false) p.word t
+        (unpacked p) (subst (λ (c : Copy). (letter_of c ≡ M) ⊎ (letter_of c ≡ O)) (copy_there p t lt) h) in
     owner_gone p t p.word false false ok lt (own_is p.owner t row.0) ∙ sym row.1 ∙ ap (λ (c : Copy). on_evict c t (unpacked p)) (sym (copy_there p t lt))
 
-pub clean_gone : (p : Inside) (t : ℕ)
-    → IsPacked p → t < most_threads → letter_of (copy_of (unpacked p) t) ≡ E → unpacked (record p { owner = None }) ≡ line_evicted t (unpacked p)
+pub clean_gone : (p : Inside) (t : ℕ) → IsPacked p → t < most_threads → letter_of (copy_of (unpacked p) t) ≡ E
+    → unpacked (record p { owner = None }) ≡ line_evicted t (unpacked p)
 clean_gone p t ok lt h =
-    let row = clean_row (is_owner p.owner t) p.is_dirty p.is_owned (slice_index_or p.sharers t false) p.word t (unpacked p)
-    (subst (λ (c : Copy). letter_of c ≡ E) (copy_there p t lt) h) in
+    let row = clean_row _ _ p.is_owned _ p.word t _ (subst (λ c. letter_of c ≡ E) (copy_there p t lt) h) in
     owner_gone p t p.memory p.is_dirty p.is_owned ok lt (own_is p.owner t row.0) ∙ sym row.1
     ∙ ap (λ (c : Copy). on_evict c t (unpacked p)) (sym (copy_there p t lt))

@@ -17,9 +17,8 @@ pub at_each_put : {A : Type 0} (f : ℕ → A) (xs : List A) (t : ℕ) (a d : A)
     → ((u : ℕ) → u < most_threads → u ≢ t → f u ≡ get_or xs u d) → at_each f ≡ set xs t a
 at_each_put f xs t a d long lt here there =
     sym (fill_by_all f (set xs t a) most_threads d (length-set xs t a ∙ long)
-    (at_place t (λ u. u < most_threads → get_or (set xs t a) u d ≡ f u)
-    (λ within. get_or-set_same xs t a d (omega (arith, long, lt)) ∙ sym here)
-    (λ u ne within. get_or-set_other xs t u a d (λ e. ne (sym e)) ∙ sym (there u within (λ e. ne (sym e))))))
+    (at_place t _ (λ within. get_or-set_same xs t a d (omega (arith, long, lt)) ∙ sym here) (λ u ne within.
+    get_or-set_other xs t u a d (λ e. ne (sym e)) ∙ sym (there u within (λ e. ne (sym e))))))
 
 -- Two functions that differ at one of them.
 pub at_each_set : {A : Type 0} (f g : ℕ → A) (t : ℕ) (a : A) → t < most_threads → f t ≡ a

@@ -80,66 +80,65 @@ module _ (p : Protocol) (t : ℕ) (line : CacheLine) (lt : t < most_threads) (ok
 
 -- Each row of the table keeps the laws.
 module _ (p : Protocol) (m : Caches) (ok : IsKept p m) where
-  row_served : (r : Request)
-      → IsInRange m.cpus (length m.lines) r → IsPossible (state_in m) r
-      → Served (caches_by p) (caches_invariant p) m r (answer_from (table_of p) r (line_at m.lines (loc_of r))) (caches_after (table_of p) r m)
-  row_served (Load t x) there possible =
-      let line : CacheLine = line_at m.lines x in
-      let lt : t < most_threads = omega (arith, ok.coherent.few, there.0) in
-      let kept : IsKeptLine p line = kept_line p m x ok there.1 in
-      record {
-        possible = tt;
-        answer = load_word p t line lt kept ∙ ap Some (contents_at m.lines x);
-        content = contents_same m.lines x _ (load_after p t line lt kept).content;
-        cpus = refl;
-        sound = set_kept p m x _ ok there.1 (load_kept p t line lt kept);
-      }
-  row_served (Store t x w) there possible =
-      let line : CacheLine = line_at m.lines x in
-      let lt : t < most_threads = omega (arith, ok.coherent.few, there.0) in
-      let kept : IsKeptLine p line = kept_line p m x ok there.1 in
-      record {
-        possible = tt;
-        answer = refl;
-        content = contents_set m.lines x _ ∙ ap (λ c. slice_set (map content_of m.lines) x c) (write_after p t line lt kept w).content;
-        cpus = refl;
-        sound = set_kept p m x _ ok there.1 (write_kept p t line lt kept w);
-      }
-  row_served (Swap t x w) there possible =
-      let line : CacheLine = line_at m.lines x in
-      let lt : t < most_threads = omega (arith, ok.coherent.few, there.0) in
-      let kept : IsKeptLine p line = kept_line p m x ok there.1 in
-      record {
-        possible = tt;
-        answer = write_word p t line lt kept ∙ ap Some (contents_at m.lines x);
-        content = contents_set m.lines x _ ∙ ap (λ c. slice_set (map content_of m.lines) x c) (write_after p t line lt kept w).content;
-        cpus = refl;
-        sound = set_kept p m x _ ok there.1 (write_kept p t line lt kept w);
-      }
-  row_served (FetchAdd t x w) there possible =
-      let line : CacheLine = line_at m.lines x in
-      let lt : t < most_threads = omega (arith, ok.coherent.few, there.0) in
-      let kept : IsKeptLine p line = kept_line p m x ok there.1 in
-      record {
-        possible = tt;
-        answer = write_word p t line lt kept ∙ ap Some (contents_at m.lines x);
-        content = contents_set m.lines x _
-            ∙ (ap (λ c. slice_set (map content_of m.lines) x c) (write_after p t line lt kept (sum_of (content_of line) w)).content
-            ∙ ap (λ c. slice_set (map content_of m.lines) x (sum_of c w)) (contents_at m.lines x));
-        cpus = refl;
-        sound = set_kept p m x _ ok there.1 (write_kept p t line lt kept (sum_of (content_of line) w));
-      }
-  row_served (Evict t x) there possible =
-      let line : CacheLine = line_at m.lines x in
-      let lt : t < most_threads = omega (arith, ok.coherent.few, there.0) in
-      let kept : IsKeptLine p line = kept_line p m x ok there.1 in
-      record {
-        possible = possible;
-        answer = refl;
-        content = contents_same m.lines x _ (evict_after p t line lt kept possible).content;
-        cpus = refl;
-        sound = set_kept p m x _ ok there.1 (evict_kept p t line lt kept possible);
-      }
+  abbrev IsServed : Request → Type 0
+  IsServed r = Served (caches_by p) (caches_invariant p) m r (answer_from (table_of p) r (line_at m.lines (loc_of r))) (caches_after (table_of p) r m)
+
+  -- at one processor and one line
+  module _ (t x : ℕ) (cpu : t < m.cpus) (loc : x < length m.lines) where
+    abbrev line : CacheLine
+    line = line_at m.lines x
+
+    lt : t < most_threads
+    lt = omega (arith, ok.coherent.few, cpu)
+
+    kept : IsKeptLine p line
+    kept = kept_line p m x ok loc
+
+    -- what a write of v leaves
+    abbrev writes : ℕ → Caches
+    writes v = record { cpus = m.cpus; lines = set m.lines x (line_written t v line) }
+
+    written_content : (v : ℕ) → map content_of (set m.lines x (line_written t v line)) ≡ slice_set (map content_of m.lines) x v
+    written_content v = contents_set m.lines x _ ∙ ap (slice_set (map content_of m.lines) x) (write_after p t line lt kept v).content
+
+    written_kept : (v : ℕ) → IsKept p (writes v)
+    written_kept v = set_kept p m x _ ok loc (write_kept p t line lt kept v)
+
+    old_word : copy_word (copy_of (line_to_write t line) t) ≡ Some (slice_index (map content_of m.lines) x)
+    old_word = write_word p t line lt kept ∙ ap Some (contents_at m.lines x)
+
+  row_served : (r : Request) → IsInRange m.cpus (length m.lines) r → IsPossible (state_in m) r → IsServed r
+  row_served (Load t x) (cpu, loc) possible = record {
+    possible = tt;
+    answer = load_word p t (line_at m.lines x) (lt t x cpu loc) (kept t x cpu loc) ∙ ap Some (contents_at m.lines x);
+    content = contents_same m.lines x _ (load_after p t (line_at m.lines x) (lt t x cpu loc) (kept t x cpu loc)).content;
+    cpus = refl;
+    sound = set_kept p m x _ ok loc (load_kept p t (line_at m.lines x) (lt t x cpu loc) (kept t x cpu loc));
+  }
+  row_served (Store t x w) (cpu, loc) possible =
+      record { possible = tt; answer = refl; content = written_content t x cpu loc w; cpus = refl; sound = written_kept t x cpu loc w }
+  row_served (Swap t x w) (cpu, loc) possible = record {
+    possible = tt;
+    answer = old_word t x cpu loc;
+    content = written_content t x cpu loc w;
+    cpus = refl;
+    sound = written_kept t x cpu loc w;
+  }
+  row_served (FetchAdd t x w) (cpu, loc) possible = record {
+    possible = tt;
+    answer = old_word t x cpu loc;
+    content = written_content t x cpu loc (sum_of (content_of (line_at m.lines x)) w)
+        ∙ ap (λ c. slice_set (map content_of m.lines) x (sum_of c w)) (contents_at m.lines x);
+    cpus = refl;
+    sound = written_kept t x cpu loc (sum_of (content_of (line_at m.lines x)) w);
+  }
+  row_served (Evict t x) (cpu, loc) possible = record {
+    possible = possible;
+    answer = refl;
+    content = contents_same m.lines x _ (evict_after p t (line_at m.lines x) (lt t x cpu loc) (kept t x cpu loc) possible).content;
+    cpus = refl;
+    sound = set_kept p m x _ ok loc (evict_kept p t (line_at m.lines x) (lt t x cpu loc) (kept t x cpu loc) possible);
+  }
 
 pub protocol_lawful : (p : Protocol) → Lawful (caches_by p) (caches_invariant p)
 protocol_lawful p = record {

@@ -23,41 +23,12 @@ shared_invalid : (p : Protocol) → (table_of p).on_other_get_s Invalid ≡ Inva
 shared_invalid Mesi = refl
 shared_invalid Moesi = refl
 
-shared_word : (p : Protocol) (c : Copy) → copy_word ((table_of p).on_other_get_s c) ≡ copy_word c
-shared_word Mesi (Modified w) = refl
-shared_word Mesi (Owned w) = refl
-shared_word Mesi (Exclusive w) = refl
-shared_word Mesi (Shared w) = refl
-shared_word Mesi Invalid = refl
-shared_word Moesi (Modified w) = refl
-shared_word Moesi (Owned w) = refl
-shared_word Moesi (Exclusive w) = refl
-shared_word Moesi (Shared w) = refl
-shared_word Moesi Invalid = refl
-
-shared_free : (p : Protocol) (c : Copy) → IsOnlyCopy ((table_of p).on_other_get_s c) → ⊥
-shared_free Mesi (Modified w) h = h
-shared_free Mesi (Owned w) h = h
-shared_free Mesi (Exclusive w) h = h
-shared_free Mesi (Shared w) h = h
-shared_free Mesi Invalid h = h
-shared_free Moesi (Modified w) h = h
-shared_free Moesi (Owned w) h = h
-shared_free Moesi (Exclusive w) h = h
-shared_free Moesi (Shared w) h = h
-shared_free Moesi Invalid h = h
-
-shared_dirty : (p : Protocol) (c : Copy) → IsDirty ((table_of p).on_other_get_s c) → IsDirty c
-shared_dirty Mesi (Modified w) d = absurd d
-shared_dirty Mesi (Owned w) d = d
-shared_dirty Mesi (Exclusive w) d = absurd d
-shared_dirty Mesi (Shared w) d = d
-shared_dirty Mesi Invalid d = d
-shared_dirty Moesi (Modified w) d = d
-shared_dirty Moesi (Owned w) d = d
-shared_dirty Moesi (Exclusive w) d = d
-shared_dirty Moesi (Shared w) d = d
-shared_dirty Moesi Invalid d = d
+-- What a GetS makes of another's copy keeps its word, is no M or E, and is dirty only where the copy was.
+shared_copy : (p : Protocol) (c : Copy) → let d = (table_of p).on_other_get_s c in
+    (copy_word d ≡ copy_word c) × (IsOnlyCopy d → ⊥) × (IsDirty d → IsDirty c)
+shared_copy Mesi (Modified w) = (refl, (λ h. h), (λ d. absurd d))
+shared_copy Moesi (Modified w) = (refl, (λ h. h), (λ d. d))
+shared_copy _ _ = (refl, (λ h. h), (λ d. d))
 
 -- Under MESI nothing is dirty then.
 shared_clean : (c : Copy) → IsStateOf Mesi c → IsDirty (mesi_on_other_get_s c) → ⊥
@@ -88,9 +59,9 @@ module _ (p : Protocol) (t : ℕ) (line : CacheLine) (lt : t < most_threads) (so
   shares : SharesOthers (table_of p).on_other_get_s line
   shares = record {
     invalid = shared_invalid p;
-    word = λ u. shared_word p (copy_of line u);
-    free = λ u. shared_free p (copy_of line u);
-    dirty = λ u. shared_dirty p (copy_of line u);
+    word = λ u. (shared_copy p (copy_of line u)).0;
+    free = λ u. (shared_copy p (copy_of line u)).1;
+    dirty = λ u. (shared_copy p (copy_of line u)).2;
   }
 
   loaded : (c : Copy) → copy_of line t ≡ c → Loaded t line lt sound (on_load (table_of p) c t line)

@@ -83,11 +83,38 @@ module _ (t : ℕ) (line : CacheLine) (lt : t < most_threads) (sound : IsCoheren
     word = (ap copy_word e ∙ h) ∙ ap Some (sound.same_word t w (ap copy_word e ∙ h));
   }
 
-  -- Where the requestor is in E after a GetS, nobody else has a copy.
-  alone_here : (f : Copy → Copy) → f Invalid ≡ Invalid → (b : Bool) → (b ≡ false → any_held line.copies ≡ false)
-      → (u : ℕ) → IsOnlyCopy (copy_from b (content_of line)) → f (copy_of line u) ≡ Invalid
-  alone_here f invalid true e u own = absurd own
-  alone_here f invalid false e u own = ap f (none_held line.copies (e refl) u) ∙ invalid
+  -- A line whose content is the same, where the own copy is now c, which is not dirty and holds the content, and the others are what f
+  -- makes of them.
+  changed : (f : Copy → Copy) (c : Copy) (copies : List Copy) (m : ℕ) → f Invalid ≡ Invalid → length copies ≡ most_threads
+      → ((u : ℕ) → copy_in copies u ≡ f (copy_of line u)) → dirty_or m (set copies t c) ≡ content_of line → (IsDirty c → ⊥)
+      → ((w : ℕ) → copy_word c ≡ Some w → w ≡ content_of line) → ((u : ℕ) → copy_word (f (copy_of line u)) ≡ copy_word (copy_of line u))
+      → ((u : ℕ) → IsDirty (f (copy_of line u)) → IsDirty (copy_of line u))
+      → (IsOnlyCopy c → (u : ℕ) → f (copy_of line u) ≡ Invalid)
+      → ((u : ℕ) → IsOnlyCopy (f (copy_of line u)) → IsOnlyCopy (copy_of line u) × (c ≡ Invalid))
+      → After (content_of line) (record { copies = set copies t c; memory = m })
+  changed f c copies m invalid long are content clean own word dirty alone free =
+      let l : CacheLine = record { copies = set copies t c; memory = m } in
+      let here : copy_of l t ≡ c = put_here copies t c (omega (arith, long)) in
+      let there : (u : ℕ) → t ≢ u → copy_of l u ≡ f (copy_of line u) = λ u ne. put_there copies t c u ne ∙ are u in
+      record {
+        content = content;
+        sound = record {
+          as_many = length-set copies t c ∙ long;
+          alone = at_place t (λ a. (u : ℕ) → IsOnlyCopy (copy_of l a) → a ≢ u → copy_of l u ≡ Invalid)
+              (λ u only ne. there u ne ∙ alone (subst IsOnlyCopy here only) u)
+              (λ a na u only. at_place t (λ u. a ≢ u → copy_of l u ≡ Invalid)
+              (λ ne. here ∙ (free a (subst IsOnlyCopy (there a na) only)).1)
+              (λ u nu ne. there u nu ∙ ap f (sound.alone a u (free a (subst IsOnlyCopy (there a na) only)).0 ne) ∙ invalid) u);
+          one_dirty = at_place t (λ a. (u : ℕ) → IsDirty (copy_of l a) → IsDirty (copy_of l u) → a ≡ u)
+              (λ u d e. absurd (clean (subst IsDirty here d)))
+              (λ a na. at_place t (λ u. IsDirty (copy_of l a) → IsDirty (copy_of l u) → a ≡ u)
+              (λ d e. absurd (clean (subst IsDirty here e)))
+              (λ u nu d e. sound.one_dirty a u (dirty a (subst IsDirty (there a na) d)) (dirty u (subst IsDirty (there u nu) e))));
+          same_word = at_place t (λ u. (w : ℕ) → copy_word (copy_of l u) ≡ Some w → w ≡ content_of l)
+              (λ w h. own w (sym (ap copy_word here) ∙ h) ∙ sym content)
+              (λ u ne w h. sound.same_word u w (sym (ap copy_word (there u ne) ∙ word u) ∙ h) ∙ sym content);
+        };
+      }
 
   -- A load without a copy: a GetS, after which the other copies are shared and the content is the same.
   pub get_s_loaded : (f : Copy → Copy) (m : ℕ)
@@ -96,63 +123,27 @@ module _ (t : ℕ) (line : CacheLine) (lt : t < most_threads) (sound : IsCoheren
       → Loaded (record { copies = set (map f line.copies) t (copy_from b (content_of line)); memory = m })
   get_s_loaded f m shared same mine b held =
       let v : ℕ = content_of line in
-      let mine_too : copy_in (map f line.copies) t ≡ Invalid = copy_map f line.copies t shared.invalid ∙ (ap f mine ∙ shared.invalid) in
+      let are : (u : ℕ) → copy_in (map f line.copies) u ≡ f (copy_of line u) = λ u. copy_map f line.copies u shared.invalid in
       let long : length (map f line.copies) ≡ most_threads = length-map line.copies f ∙ sound.as_many in
-      let l : CacheLine = record { copies = set (map f line.copies) t (copy_from b v); memory = m } in
-      let here : copy_of l t ≡ copy_from b v = put_here (map f line.copies) t (copy_from b v) (omega (arith, long)) in
-      let there : (u : ℕ) → t ≢ u → copy_of l u ≡ f (copy_of line u) =
-      λ u ne. put_there (map f line.copies) t (copy_from b v) u ne ∙ copy_map f line.copies u shared.invalid in
-      let content : content_of l ≡ v =
-      put_clean m (map f line.copies) t (copy_from b v) (λ d. subst IsDirty mine_too d) (from_clean b v) ∙ same in
-      let here_clean : IsDirty (copy_of l t) → ⊥ = λ d. from_clean b v (subst IsDirty here d) in
-      let there_dirty : (u : ℕ) → t ≢ u → IsDirty (copy_of l u) → IsDirty (copy_of line u) = λ u ne d. shared.dirty u (subst IsDirty (there u ne) d) in
+      let old_clean : IsDirty (copy_in (map f line.copies) t) → ⊥ = λ d. subst IsDirty (are t ∙ ap f mine ∙ shared.invalid) d in
       record {
-        after = record {
-          content = content;
-          sound = record {
-            as_many = length-set (map f line.copies) t (copy_from b v) ∙ long;
-            alone = at_place t (λ a. (u : ℕ) → IsOnlyCopy (copy_of l a) → a ≢ u → copy_of l u ≡ Invalid)
-                (λ u own ne. there u ne ∙ alone_here f shared.invalid b held u (subst IsOnlyCopy here own))
-                (λ a na u own ne. absurd (shared.free a (subst IsOnlyCopy (there a na) own)));
-            one_dirty = at_place t (λ a. (u : ℕ) → IsDirty (copy_of l a) → IsDirty (copy_of l u) → a ≡ u)
-                (λ u d e. absurd (here_clean d))
-                (λ a na. at_place t (λ u. IsDirty (copy_of l a) → IsDirty (copy_of l u) → a ≡ u)
-                (λ d e. absurd (here_clean e))
-                (λ u nu d e. sound.one_dirty a u (there_dirty a na d) (there_dirty u nu e)));
-            same_word = at_place t (λ u. (w : ℕ) → copy_word (copy_of l u) ≡ Some w → w ≡ content_of l)
-                (λ w h. one_word (copy_of l t) w v (ap copy_word here ∙ from_word b v) h ∙ sym content)
-                (λ u ne w h. sound.same_word u w (sym (ap copy_word (there u ne) ∙ shared.word u) ∙ h) ∙ sym content);
-          };
-        };
-        word = ap copy_word here ∙ from_word b v;
+        after = changed f (copy_from b v) (map f line.copies) m shared.invalid long are
+            (put_clean m (map f line.copies) t (copy_from b v) old_clean (from_clean b v) ∙ same) (from_clean b v)
+            (λ w h. one_word (copy_from b v) w v (from_word b v) h) shared.word shared.dirty
+            (λ only u. nobody b held only u) (λ u only. absurd (shared.free u only));
+        word = ap copy_word (put_here (map f line.copies) t (copy_from b v) (omega (arith, long))) ∙ from_word b v;
       }
+    where
+      -- where the requestor is in E nobody else has a copy
+      nobody : (b : Bool) → (b ≡ false → any_held line.copies ≡ false) → IsOnlyCopy (copy_from b (content_of line)) → (u : ℕ) → f (copy_of line u) ≡ Invalid
+      nobody true e own u = absurd own
+      nobody false e own u = ap f (none_held line.copies (e refl) u) ∙ shared.invalid
 
   -- The line without the own copy, where the content is the same.
   without_own : (m : ℕ)
       → dirty_or m (set line.copies t Invalid) ≡ content_of line → After (content_of line) (record { copies = set line.copies t Invalid; memory = m })
-  without_own m content =
-      let l : CacheLine = record { copies = set line.copies t Invalid; memory = m } in
-      let here : copy_of l t ≡ Invalid = put_here line.copies t Invalid (omega (arith, sound.as_many)) in
-      let there : (u : ℕ) → t ≢ u → copy_of l u ≡ copy_of line u = put_there line.copies t Invalid in
-      record {
-        content = content;
-        sound = record {
-          as_many = length-set line.copies t Invalid ∙ sound.as_many;
-          alone = at_place t (λ a. (u : ℕ) → IsOnlyCopy (copy_of l a) → a ≢ u → copy_of l u ≡ Invalid)
-              (λ u own ne. absurd (subst IsOnlyCopy here own))
-              (λ a na. at_place t (λ u. IsOnlyCopy (copy_of l a) → a ≢ u → copy_of l u ≡ Invalid)
-              (λ own ne. here)
-              (λ u nu own ne. there u nu ∙ sound.alone a u (subst IsOnlyCopy (there a na) own) ne));
-          one_dirty = at_place t (λ a. (u : ℕ) → IsDirty (copy_of l a) → IsDirty (copy_of l u) → a ≡ u)
-              (λ u d e. absurd (subst IsDirty here d))
-              (λ a na. at_place t (λ u. IsDirty (copy_of l a) → IsDirty (copy_of l u) → a ≡ u)
-              (λ d e. absurd (subst IsDirty here e))
-              (λ u nu d e. sound.one_dirty a u (subst IsDirty (there a na) d) (subst IsDirty (there u nu) e)));
-          same_word = at_place t (λ u. (w : ℕ) → copy_word (copy_of l u) ≡ Some w → w ≡ content_of l)
-              (λ w h. no_word (copy_of l t) w (content_of l) here h)
-              (λ u ne w h. sound.same_word u w (sym (ap copy_word (there u ne)) ∙ h) ∙ sym content);
-        };
-      }
+  without_own m content = changed (λ c. c) Invalid line.copies m refl sound.as_many (λ u. refl) content (λ d. d)
+      (λ w h. no_word Invalid w (content_of line) refl h) (λ u. refl) (λ u d. d) (λ only. absurd only) (λ u only. (only, refl))
 
   -- An eviction of a dirty copy, whose word goes to memory.
   pub written_back : (c : Copy) (w : ℕ) → copy_of line t ≡ c → copy_word c ≡ Some w → IsDirty c

@@ -1,5 +1,5 @@
 use Rattle.std.proofs.Common.{◌≡◌, ◌⊎◌, sym, ap, subst, ◌∙◌}
-use Rattle.lw_memory.specs.declared.system.LineState.TheVariants.{M, O, E, S}
+use Rattle.lw_memory.specs.declared.system.LineState.TheVariants.{E, S}
 use Rattle.lw_mesi.specs.CacheLines.{copy_of, letter_of}
 use Rattle.lw_mesi.proofs.PackedWrites.{sharer_gone, dirty_gone, clean_gone}
 use Rattle.lw_mesi.proofs.cache_line.PackedCacheLine.evict.Goals as goal
@@ -12,7 +12,7 @@ returns-in-S-clause-ok c =
 pub returns-in-M-clause-ok : goal.returns-in-M-clause-ok
 returns-in-M-clause-ok c =
     rw (← c.self.view_is) (dirty_gone c.self.inside c.args.cpu c.self.invariant c.requires
-    (subst (λ l. (l ≡ M) ⊎ (l ≡ O)) (c.state_of.ensures ∙ ap (λ l. letter_of (copy_of l c.args.cpu)) (sym c.self.view_is)) c.in-M.is))
+    (rw (c.state_of.ensures ∙ ap (λ l. letter_of (copy_of l c.args.cpu)) (sym c.self.view_is)) at c.in-M.is))
 
 pub returns-in-E-clause-ok : goal.returns-in-E-clause-ok
 returns-in-E-clause-ok c =

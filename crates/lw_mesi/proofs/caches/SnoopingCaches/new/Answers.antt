@@ -12,14 +12,14 @@ all_lines lines words k each past = sym (append-nil lines) ∙ ap (λ (rest : Li
 
 pub invariant_of-result : goal.invariant_of-result
 invariant_of-result g c =
-    let lines = all_lines c.loop-word.lines.items c.args.words.now c.loop-word.word-index c.loop-word.invariant c.loop-word-test.false in (
+    let lines = all_lines _ c.args.words.now _ c.loop-word.invariant c.loop-word-test.false in (
       omega (arith, ap length lines, length-map c.args.words.now unheld_line, c.requires.words),
-      subst (λ (ls : List CacheLine). let m : Caches = record { cpus = c.args.cpus; lines = ls } in IsKept g.P.KeptProtocol.protocol m) (sym lines)
-          (empty_kept g.P.KeptProtocol.protocol c.args.cpus c.args.words.now c.requires.cpus),
+      subst (λ (ls : List CacheLine). let m : Caches = record { cpus = c.args.cpus; lines = ls } in IsKept
+          g.P.KeptProtocol.protocol m) (sym lines) (empty_kept _ c.args.cpus _ c.requires.cpus),
     )
 
 pub returns-clause-lines : goal.returns-clause-lines
-returns-clause-lines g c = all_lines c.loop-word.lines.items c.args.words.now c.loop-word.word-index c.loop-word.invariant c.loop-word-test.false
+returns-clause-lines g c = all_lines _ c.args.words.now _ c.loop-word.invariant c.loop-word-test.false
 
 pub returns-clause-kept : goal.returns-clause-kept
 returns-clause-kept g c = (invariant_of-result g c).1

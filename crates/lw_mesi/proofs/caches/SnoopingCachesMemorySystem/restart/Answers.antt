@@ -12,15 +12,15 @@ emptied : (before : Caches) (lines old : List CacheLine) (cpus was k : ℕ) (wor
     → cpus ≡ was → length lines ≡ length old → take k lines ≡ map unheld_line (take k words) → length words ≤ k → length words ≡ length (contents_of before)
     → (let m : Caches = record { cpus = cpus; lines = lines } in m) ≡ empty_caches before.cpus words
 emptied before lines old cpus was k words is same many each past as_many =
-    let olds : length old ≡ length words = sym (length-map old content_of) ∙ ap (λ (m : Caches). length (contents_of m)) is ∙ sym as_many in
+    let olds = sym (length-map old content_of) ∙ ap (λ m. length (contents_of m)) is ∙ sym as_many in
     let all : lines ≡ map unheld_line words = sym (take_all k lines (omega (arith, many, olds))) ∙ each ∙ ap (map unheld_line) (take_all k words past) in
     rw (all, same ∙ ap (λ (m : Caches). m.cpus) is) refl
 
 pub loop-place-preserved : goal.loop-place-preserved
 loop-place-preserved g c =
     let lines = c.loop-place.self-inside.lines.items in let k = c.loop-place.place in let words = c.args.words.now in
-    let as_many : length c.self.inside.lines.items ≡ length words = sym (length-map c.self.inside.lines.items content_of) ∙ ap
-    (λ (m : Caches). length (contents_of m)) c.self.view_is ∙ sym c.requires in
+    let as_many : length c.self.inside.lines.items ≡ length words = sym (length-map c.self.inside.lines.items
+        content_of) ∙ ap (λ (m : Caches). length (contents_of m)) c.self.view_is ∙ sym c.requires in
     let within : k < length lines = omega (arith, c.loop-place.invariant.many, as_many) in
     record {
       cpus = c.loop-place.invariant.cpus;
@@ -31,17 +31,16 @@ loop-place-preserved g c =
 
 pub returns-clause-start : goal.returns-clause-start
 returns-clause-start g c =
-    emptied c.args.self.now c.loop-place.self-inside.lines.items c.self.inside.lines.items c.loop-place.self-inside.cpus c.self.inside.cpus
-    c.loop-place.place c.args.words.now c.self.view_is
-    c.loop-place.invariant.cpus c.loop-place.invariant.many c.loop-place.invariant.lines c.loop-place-test.false c.requires
+    emptied c.args.self.now _ _ _ _ _ c.args.words.now c.self.view_is c.loop-place.invariant.cpus
+    c.loop-place.invariant.many c.loop-place.invariant.lines c.loop-place-test.false c.requires
 
 pub returns-clause-words : goal.returns-clause-words
-returns-clause-words g c = ap contents_of (returns-clause-start g c) ∙ empty_content c.args.self.now.cpus c.args.words.now
+returns-clause-words g c = ap contents_of (returns-clause-start g c) ∙ empty_content c.args.self.now.cpus _
 
 pub returns-clause-sound : goal.returns-clause-sound
 returns-clause-sound g c =
     let few : c.args.self.now.cpus ≤ most_threads = omega (arith, ap (λ (m : Caches). m.cpus) c.self.view_is, c.self.invariant.1.coherent.few) in
-    subst (IsKept g.P.KeptProtocol.protocol) (sym (returns-clause-start g c)) (empty_kept g.P.KeptProtocol.protocol c.args.self.now.cpus c.args.words.now few)
+    subst (IsKept g.P.KeptProtocol.protocol) (sym (returns-clause-start g c)) (empty_kept _ _ _ few)
 
 pub invariant_of-self : goal.invariant_of-self
 invariant_of-self g c = (omega (arith, c.loop-place.invariant.many, c.self.invariant.0), returns-clause-sound g c)
