@@ -1,5 +1,5 @@
 -- How many states make the proposition true, and how many do not.
-use Rattle.std.proofs.Common.{◌≡◌, ℕ, suc, ◌+◌, ◌-◌, ◌<◌, ◌≤◌, Bool, true, false, not, List, [], ◌∷◌, length}
+use Rattle.std.proofs.Common.{◌≡◌, ℕ, suc, ◌+◌, ◌-◌, ◌<◌, ◌≤◌, Bool, true, false, List, [], ◌∷◌, length}
 use Rattle.std.proofs.Common.{map, take, get_or, refl, sym, ap, ◌∙◌, cond, arith, filter, take_all}
 use Rattle.std.specs.Int.{from_bool}
 use Rattle.std.proofs.lemmas.List.{length-map}
@@ -20,26 +20,25 @@ pub counted_more : (states : List ListedState) (k : ℕ) (s : ListedState) (b : 
     → b ≡ s.holds → count ≡ length (filter (λ (t : ListedState). t.holds) (take k states)) → n ≡ from_bool b
     → count + n ≡ length (filter (λ (t : ListedState). t.holds) (take (k + 1) states))
 counted_more states k s b count n lt is is_b before added =
-    let one : n ≡ cond (get_or states k s).holds 1 0 = added ∙ ap from_bool (is_b ∙ ap (λ (t : ListedState). t.holds) is) ∙ number_of
-    (get_or states k s).holds in
-    ap (λ (m : ℕ). m + n) before ∙ ap (λ (m : ℕ). length (filter (λ (t : ListedState). t.holds) (take k states)) + m) one
-    ∙ sym (length-filter_more (λ (t : ListedState). t.holds) states k s lt)
+    let one = added ∙ ap from_bool (is_b ∙ ap (λ t. t.holds) is) ∙ number_of (get_or states k s).holds in
+    ap (λ (m : ℕ). m + n) before ∙ ap (λ (m : ℕ). length (filter (λ (t : ListedState). t.holds)
+        (take k states)) + m) one ∙ sym (length-filter_more (λ (t : ListedState). t.holds) states k s lt)
 
 counted : (states : List ListedState) → length (filter (λ (s : ListedState). s.holds) states) ≡ positive (map shown_of states)
 counted [] = refl
 counted (s ∷ states) =
-    elim s.holds as (λ (b : Bool). length (cond b (s ∷ filter (λ (t : ListedState). t.holds) states) (filter (λ (t : ListedState). t.holds) states)) ≡
-    length (cond b (shown_of s ∷ filter (λ (t : Shown). t.holds) (map shown_of states)) (filter (λ (t : Shown). t.holds) (map shown_of states))))
-    [ true ↦ ap (λ (n : ℕ). suc n) (counted states) | false ↦ counted states ]
+    elim s.holds as (λ b. length (cond b (s ∷ filter (λ t. t.holds) states) (filter (λ t. t.holds) states))
+    ≡ length (cond b (shown_of s ∷ filter (λ t. t.holds) (map shown_of states)) (filter (λ t. t.holds)
+    (map shown_of states)))) [ true ↦ ap (λ (n : ℕ). suc n) (counted states) | false ↦ counted states ]
 
 -- all of them
 pub shown_counted : (states : List ListedState) (k count : ℕ) → length states ≤ k → count ≡ length (filter (λ (t : ListedState). t.holds) (take k states))
     → count ≡ positive (map shown_of states)
 shown_counted states k count le is =
-    is ∙ ap (λ (l : List ListedState). length (filter (λ (t : ListedState). t.holds) l)) (take_all k states le) ∙ counted states
+    is ∙ ap (λ l. length (filter (λ (t : ListedState). t.holds) l)) (take_all k states le) ∙ counted states
 
 -- the others
 pub others_counted : (states : List ListedState) (count : ℕ) → count ≡ positive (map shown_of states) → length states - count ≡ negative (map shown_of states)
 others_counted states count is =
-    let both = length-filter_both (λ (s : Shown). s.holds) (λ (s : Shown). not s.holds) (λ s. refl) (map shown_of states) in
+    let both = length-filter_both (λ (s : Shown). s.holds) _ (λ s. refl) (map shown_of states) in
     omega (arith, is, both, length-map states shown_of)

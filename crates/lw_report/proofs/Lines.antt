@@ -31,23 +31,23 @@ label_told head before s w = simp append_assoc
 next_told : (head : TestHead) (names : List Seen) (words : List ℕ)
     → flat_map labelled_word (zip (map (label head (codes " ")) names) words) ≡ flat_map (λ next. codes " " ++ next) (map (word_text head) (zip names words))
 next_told head (s ∷ names) (w ∷ words) =
-    ap (λ t. t ++ flat_map labelled_word (zip (map (label head (codes " ")) names) words)) (label_told head (codes " ") s w)
-    ∙ ap (λ t. (codes " " ++ word_text head (s, w)) ++ t) (next_told head names words)
+    ap (λ t. t ++ flat_map labelled_word (zip (map (label head (codes " ")) names) words)) (label_told head
+    (codes " ") s w) ∙ ap (λ t. (codes " " ++ word_text head (s, w)) ++ t) (next_told head names words)
 next_told head _ _ = refl
 
 -- all words
 words_told : (head : TestHead) (names : List Seen) (words : List ℕ)
     → labelled_words (labels head names) words ≡ joined (codes " ") (map (word_text head) (zip names words))
 words_told head (s ∷ names) (w ∷ words) =
-    ap (λ t. t ++ flat_map labelled_word (zip (map (label head (codes " ")) names) words)) (label_told head [] s w)
-    ∙ ap (λ t. word_text head (s, w) ++ t) (next_told head names words)
+    ap (λ t. t ++ flat_map labelled_word (zip (map (label head (codes " ")) names) words)) (label_told head []
+    s w) ∙ ap (λ t. word_text head (s, w) ++ t) (next_told head names words)
 words_told head _ _ = refl
 
 -- a state's line, by its labels
 pub line_told : (head : TestHead) (names : List Bytes) (words : List ℕ) → names ≡ labels head (observed head)
     → labelled_words names words ++ codes "\n" ≡ state_line head words
 line_told head names words are =
-    ap (λ (ns : List Bytes). labelled_words ns words ++ codes "\n") are ∙ ap (λ t. t ++ codes "\n") (words_told head (observed head) words)
+    ap (λ ns. labelled_words ns words ++ codes "\n") are ∙ ap (λ t. t ++ codes "\n") (words_told head _ words)
 
 pub state_written : (head : TestHead) (names : List Bytes) (ws words : List ℕ) (out new : Bytes) → new ≡ out ++ (labelled_words names ws ++ codes "\n")
     → names ≡ labels head (observed head) → ws ≡ words → new ≡ out ++ state_line head words
@@ -56,13 +56,14 @@ state_written head names ws words out new written are same =
 
 -- ---- a label's text
 
-pub register_told : (head : TestHead) (before register : Bytes) (index cpu reg : ℕ) (name : Seen) → index ≡ cpu → register ≡ register_name head.arch reg
-    → name ≡ Register cpu reg → before ++ (decimal index ++ (codes ":" ++ (register ++ codes "="))) ≡ label head before name
+pub register_told : (head : TestHead) (before register : Bytes) (index cpu reg : ℕ) (name : Seen)
+    → index ≡ cpu → register ≡ register_name head.arch reg → name ≡ Register cpu reg
+    → before ++ (decimal index ++ (codes ":" ++ (register ++ codes "="))) ≡ label head before name
 register_told head before register index cpu reg name is_index is_register is =
     ap (λ (n : ℕ). before ++ (decimal n ++ (codes ":" ++ (register ++ codes "=")))) is_index
     ∙ ap (λ (r : Bytes). before ++ (decimal cpu ++ (codes ":" ++ (r ++ codes "=")))) is_register
-    ∙ ap (λ (t : Bytes). before ++ t) (sym (append_assoc (decimal cpu) (codes ":" ++ register_name head.arch reg) (codes "=")))
-    ∙ ap (label head before) (sym is)
+    ∙ ap (λ (t : Bytes). before ++ t) (sym (append_assoc (decimal cpu) (codes ":" ++ register_name head.arch
+    reg) (codes "="))) ∙ ap (label head before) (sym is)
 
 pub location_told : (head : TestHead) (before text : Bytes) (loc : ℕ) (name : Seen) → slice_get head.locs loc ≡ Some text → name ≡ Location loc
     → before ++ (text ++ codes "=") ≡ label head before name
@@ -76,19 +77,19 @@ labels_pushed : (head : TestHead) (names : List Seen) (x : Seen)
 labels_pushed head [] x = refl
 labels_pushed head (s ∷ names) x = ap (λ (ts : List Bytes). label head [] s ∷ ts) (map-append (label head (codes " ")) names (x ∷ []))
 
-pub label_more : (head : TestHead) (names : List Seen) (k : ℕ) (x : Seen) (before text : Bytes) (texts new : List Bytes) → k < length names
-    → x ≡ get_or names k x → texts ≡ labels head (take k names) → before ≡ gap k → text ≡ label head before x → new ≡ texts ++ text ∷ []
-    → new ≡ labels head (take (k + 1) names)
+pub label_more : (head : TestHead) (names : List Seen) (k : ℕ) (x : Seen) (before text : Bytes)
+    (texts new : List Bytes)
+    → k < length names → x ≡ get_or names k x → texts ≡ labels head (take k names) → before ≡ gap k
+    → text ≡ label head before x → new ≡ texts ++ text ∷ [] → new ≡ labels head (take (k + 1) names)
 label_more head names k x before text texts new lt is made first told pushed =
-    let more : take (k + 1) names ≡ take k names ++ x ∷ [] = take_more names k x lt ∙ ap (λ y. take k names ++ y ∷ []) (sym is) in
+    let more = take_more names k x lt ∙ ap (λ y. take k names ++ y ∷ []) (sym is) in
     let many : k ≡ length (take k names) = omega (arith, lt, length-take k names) in
-    let here : text ≡ label head (gap (length (take k names))) x = told ∙ ap (λ (b : Bytes). label head b x) first ∙ ap
-    (λ (n : ℕ). label head (gap n) x) many in
-    pushed ∙ ap (λ (ts : List Bytes). ts ++ text ∷ []) made ∙ ap (λ (t : Bytes). labels head (take k names) ++ t ∷ []) here
-    ∙ sym (ap (labels head) more ∙ labels_pushed head (take k names) x)
+    let here = told ∙ ap (λ (b : Bytes). label head b x) first ∙ ap (λ (n : ℕ). label head (gap n) x) many in
+    pushed ∙ ap (λ (ts : List Bytes). ts ++ text ∷ []) made ∙ ap (λ (t : Bytes). labels head (take k names)
+        ++ t ∷ []) here ∙ sym (ap (labels head) more ∙ labels_pushed head (take k names) x)
 
-pub label_all : (head : TestHead) (names : List Seen) (k : ℕ) (texts : List Bytes) → length names ≤ k → texts ≡ labels head (take k names)
-    → texts ≡ labels head names
+pub label_all : (head : TestHead) (names : List Seen) (k : ℕ) (texts : List Bytes) → length names ≤ k
+    → texts ≡ labels head (take k names) → texts ≡ labels head names
 label_all head names k texts le made = made ∙ ap (labels head) (take_all k names le)
 
 pub next_gap : (k : ℕ) → codes " " ≡ gap (k + 1)
@@ -96,22 +97,24 @@ next_gap k = let next : suc k ≡ k + 1 = omega arith in ap gap next
 
 -- ---- the words of a line, one more
 
-pub zip_more : (names : List Bytes) (words : List ℕ) (k end : ℕ) (name text : Bytes) (w : ℕ) (out new goal : Bytes) → k < end
-    → end ≡ min (length names) (length words) → name ≡ get_or names k name → text ≡ name → w ≡ get_or words k 0
-    → out ++ flat_map labelled_word (drop k (zip names words)) ≡ goal → new ≡ out ++ (text ++ (decimal w ++ codes ";"))
+pub zip_more : (names : List Bytes) (words : List ℕ) (k end : ℕ) (name text : Bytes) (w : ℕ) (out new goal
+    : Bytes)
+    → k < end → end ≡ min (length names) (length words) → name ≡ get_or names k name → text ≡ name
+    → w ≡ get_or words k 0 → out ++ flat_map labelled_word (drop k (zip names words)) ≡ goal
+    → new ≡ out ++ (text ++ (decimal w ++ codes ";"))
     → new ++ flat_map labelled_word (drop (k + 1) (zip names words)) ≡ goal
 zip_more names words k end name text w out new goal lt least is_name same is_word before written =
     let first : k < length names = omega (arith, lt, least, min-le_left (length names) (length words)) in
     let second : k < length words = omega (arith, lt, least, min-le_right (length names) (length words)) in
-    let within : k < length (zip names words) = omega (arith, length-zip names words, lt, least) in
-    let is : (name, w) ≡ get_or (zip names words) k (name, w) = cc
-    (get_or-zip names words k (name, w) first second, is_name, is_word, get_or_default_zero words k w second) in
-    items_more labelled_word (zip names words) k out goal before (name, w) new within is (written ∙ ap (λ t. out ++ (t ++ (decimal w ++ codes ";"))) same)
+    let is : (name, w) ≡ get_or (zip names words) k (name, w) = cc (get_or-zip names words k (name, w) first
+        second, is_name, is_word, get_or_default_zero words k w second) in
+    items_more labelled_word (zip names words) k out goal before (name, w) new (omega (arith, length-zip names
+        words, lt, least)) is (written ∙ ap (λ t. out ++ (t ++ (decimal w ++ codes ";"))) same)
 
 pub zip_all : (names : List Bytes) (words : List ℕ) (k end : ℕ) (out goal : Bytes) → end ≤ k → end ≡ min (length names) (length words)
     → out ++ flat_map labelled_word (drop k (zip names words)) ≡ goal → out ≡ goal
-zip_all names words k end out goal le least before = items_all labelled_word (zip names words) k out goal before
-    (omega (arith, length-zip names words, le, least))
+zip_all names words k end out goal le least before = items_all labelled_word (zip names words) k out goal
+    before (omega (arith, length-zip names words, le, least))
 
 -- ---- what is told of all states
 
@@ -140,14 +143,16 @@ lines_shown head [] = refl
 lines_shown head (s ∷ states) = ap (λ t. state_line head s.words ++ t) (lines_shown head states)
 
 -- the parts of a report
-pub report_written : (head : TestHead) (claim : Claim) (states : List ListedState) (first title lines end : Bytes) (n p q : ℕ) → first ≡ []
-    → title ≡ first ++ (title_line head ++ count_line n) → n ≡ length states
-    → lines ≡ title ++ flat_map (λ (s : ListedState). state_line head s.words) states → end ≡ lines ++ judgement_lines head claim p q
-    → p ≡ positive (map shown_of states) → q ≡ negative (map shown_of states) → end ≡ report_text head claim (map shown_of states)
+pub report_written : (head : TestHead) (claim : Claim) (states : List ListedState) (first title lines end
+    : Bytes) (n p q : ℕ)
+    → first ≡ [] → title ≡ first ++ (title_line head ++ count_line n) → n ≡ length states
+    → lines ≡ title ++ flat_map (λ (s : ListedState). state_line head s.words) states
+    → end ≡ lines ++ judgement_lines head claim p q → p ≡ positive (map shown_of states)
+    → q ≡ negative (map shown_of states) → end ≡ report_text head claim (map shown_of states)
 report_written head claim states first title lines end n p q none titled is_length lined ended is_p is_q =
     let shown = map shown_of states in
-    let begun : title ≡ title_line head ++ count_line (length shown) = titled ∙ ap (λ t. t ++ (title_line head ++ count_line n)) none ∙ ap
-    (λ (m : ℕ). title_line head ++ count_line m) (is_length ∙ sym (length-map states shown_of)) in
+    let begun = titled ∙ ap (λ t. t ++ (title_line head ++ count_line n)) none
+        ∙ ap (λ (m : ℕ). title_line head ++ count_line m) (is_length ∙ sym (length-map states shown_of)) in
     let all : Bytes = flat_map (λ (s : Shown). state_line head s.words) shown in
     let told : lines ≡ title_line head ++ (count_line (length shown) ++ all) =
     lined ∙ ap (λ t. title ++ t) (lines_shown head states) ∙ ap (λ t. t ++ all) begun ∙ append_assoc (title_line head) (count_line (length shown)) all in

@@ -22,11 +22,11 @@ use Rattle.lw_report.proofs.Truths.{words_agree}
 -- ---- the outcomes of entries
 
 pub outcome_of_entry : (head : TestHead) (entries : OutcomeEntries) (k : ℕ) (o : Final)
-    → All (IsOutcomeOf head.threads (length head.locs)) (outcomes_of entries) → slice_get (outcomes_of entries) k ≡ Some o
-    → IsOutcomeOf head.threads (length head.locs) o
+    → All (IsOutcomeOf head.threads (length head.locs)) (outcomes_of entries)
+    → slice_get (outcomes_of entries) k ≡ Some o → IsOutcomeOf head.threads (length head.locs) o
 outcome_of_entry head entries k o each at =
     let P : Final → Type 0 = IsOutcomeOf head.threads (length head.locs) in
-    subst P (get_or_from_slice_get (outcomes_of entries) k o o at) (All-get_or P (outcomes_of entries) k o (slice_get_within (outcomes_of entries) k o at) each)
+    subst P (get_or_from_slice_get _ k o o at) (All-get_or P _ k o (slice_get_within _ k o at) each)
 
 -- ---- one for each
 
@@ -34,8 +34,9 @@ module _ (head : TestHead) (outcomes : List Final) where
   pub states_none : AreStatesOfFirst head outcomes 0 []
   states_none = record { shows = λ k d lt. absurd (omega (arith, lt)); each = λ i o lt e. absurd (omega (arith, lt)) }
 
-  pub states_more : (count : ℕ) (states after : List ListedState) (o : Final) → AreStatesOfFirst head outcomes count states
-      → slice_get outcomes count ≡ Some o → after ≡ states ++ state_at head count o ∷ [] → AreStatesOfFirst head outcomes (count + 1) after
+  pub states_more : (count : ℕ) (states after : List ListedState) (o : Final)
+      → AreStatesOfFirst head outcomes count states → slice_get outcomes count ≡ Some o
+      → after ≡ states ++ state_at head count o ∷ [] → AreStatesOfFirst head outcomes (count + 1) after
   states_more count states after o are at e = subst (AreStatesOfFirst head outcomes (count + 1)) (sym e)
       (record { shows = All-push (Shows head outcomes) states x are.shows (record { outcome = o; at = at; shows = refl }); each = found })
     where
@@ -44,16 +45,16 @@ module _ (head : TestHead) (outcomes : List Final) where
 
       found : (i : ℕ) (p : Final) → i < count + 1 → slice_get outcomes i ≡ Some p → Contains (states ++ state_at head count o ∷ []) (state_at head i p)
       found i p lt there = elim (cases_lt i count) [
-        | inl before ↦ Contains-append_left states (state_at head count o ∷ []) (state_at head i p) (are.each i p before there)
+        | inl before ↦ Contains-append_left states _ (state_at head i p) (are.each i p before there)
         | inr le ↦
             let same : count ≡ i = omega (arith, lt, le) in
             let is : o ≡ p = same_Some o p (sym at ∙ ap (slice_get outcomes) same ∙ there) in
-            let whole : state_at head count o ≡ state_at head i p = ap (λ (n : ℕ). state_at head n o) same ∙ ap (state_at head i) is in
-            subst (Contains (states ++ state_at head count o ∷ [])) whole (Contains-push states (state_at head count o))
+            let whole = ap (λ (n : ℕ). state_at head n o) same ∙ ap (state_at head i) is in
+            subst (Contains (states ++ state_at head count o ∷ [])) whole (Contains-push states _)
       ]
 
-  pub states_in_order : (count : ℕ) (states sorted : List ListedState) → IsPermutation states sorted → AreStatesOfFirst head outcomes count states
-      → AreStatesOfFirst head outcomes count sorted
+  pub states_in_order : (count : ℕ) (states sorted : List ListedState) → IsPermutation states sorted
+      → AreStatesOfFirst head outcomes count states → AreStatesOfFirst head outcomes count sorted
   states_in_order count states sorted p are = record {
     shows = All-permutation (Shows head outcomes) states sorted p are.shows;
     each = λ i o lt e. Contains-permutation states sorted (state_at head i o) p (are.each i o lt e);
@@ -71,15 +72,15 @@ module _ (states : List ListedState) where
   there_of_shown s h =
       let d : ListedState = record { words = s.words; entry = 0; holds = s.holds } in
       let within : h.0 < length states = omega (arith, h.1, length-map states shown_of) in
-      (get_or states h.0 d, Contains-get_or states h.0 d within, sym (get_or-map shown_of states h.0 d s within) ∙ h.2)
+      (get_or states h.0 d, Contains-get_or _ h.0 d within, sym (get_or-map _ states h.0 d s within) ∙ h.2)
 
   shown_in_order : AllPairs (λ (first later : ListedState). slice_cmp nat_cmp first.words later.words ≡ Less) states
       → AllPairs (λ (first later : Shown). slice_cmp nat_cmp first.words later.words ≡ Less) (map shown_of states)
   shown_in_order up i j d less lt =
       let e : ListedState = record { words = d.words; entry = 0; holds = d.holds } in
       let within : j < length states = omega (arith, lt, length-map states shown_of) in
-      let earlier : i < length states = omega (arith, less, within) in
-      rw (get_or-map shown_of states i e d earlier, get_or-map shown_of states j e d within) (up i j e less within)
+      rw (get_or-map shown_of states i e d (omega (arith, less, within)), get_or-map shown_of states j e d
+          within) (up i j e less within)
 
 -- ---- the first of each
 
@@ -108,8 +109,7 @@ module _ (head : TestHead) (outcomes : List Final) (all states : List ListedStat
         (
           found.0.entry,
           slice_get_within outcomes found.0.entry from.outcome from.at,
-          get_or_from_slice_get outcomes found.0.entry
-              from.outcome from.outcome from.at,
+          get_or_from_slice_get outcomes found.0.entry from.outcome from.outcome from.at,
         ),
         from.shows ∙ found.2,
       )

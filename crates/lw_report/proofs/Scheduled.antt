@@ -22,8 +22,7 @@ entry_within head entries s first = omega (arith, slice_get_within (outcomes_of 
 
 pub entries_within : (head : TestHead) (entries : OutcomeEntries) (states : List ListedState) → AreListedStates head (outcomes_of entries) states
     → All (λ (s : ListedState). s.entry < length entries) states
-entries_within head entries states are =
-    All-weaker (ShowsFirst head (outcomes_of entries)) (λ (s : ListedState). s.entry < length entries) (λ s. entry_within head entries s) states are.entries
+entries_within head entries states are = All-weaker _ _ (λ s. entry_within head entries s) states are.entries
 
 -- what holds of all states holds of each
 pub state_within : (len : ℕ) (states : List ListedState) (k : ℕ) (s : ListedState) → All (λ (t : ListedState). t.entry < len) states → k < length states
@@ -32,23 +31,23 @@ state_within len states k s all lt is = subst (λ (t : ListedState). t.entry < l
 
 -- the schedule of an entry speaks of the test's locations
 pub schedule_there : (head : TestHead) (entries : OutcomeEntries) (k : ℕ) (events : List Event)
-    → All (AllByRecursion (IsEvent head.locs)) (schedules_of entries) → slice_get (schedules_of entries) k ≡ Some events
-    → AllByRecursion (IsEvent head.locs) events
+    → All (AllByRecursion (IsEvent head.locs)) (schedules_of entries)
+    → slice_get (schedules_of entries) k ≡ Some events → AllByRecursion (IsEvent head.locs) events
 schedule_there head entries k events all at =
     let P : List Event → Type 0 = AllByRecursion (IsEvent head.locs) in
-    subst P (get_or_from_slice_get (schedules_of entries) k events events at)
-    (All-get_or P (schedules_of entries) k events (slice_get_within (schedules_of entries) k events at) all)
+    subst P (get_or_from_slice_get _ k _ _ at) (All-get_or P _ k events (slice_get_within _ k events at) all)
 
 -- a state's line, and its schedule's
-pub both_told : (names : NameTable) (schedules : List (List Event)) (labels : List Bytes) (s : ListedState) (words : List ℕ) (k : ℕ) (events : List Event)
-    (text : Bytes) → words ≡ s.words → k ≡ s.entry → slice_get schedules k ≡ Some events → text ≡ schedule_text names events
-    → (labelled_words labels words ++ codes "\n") ++ (codes " " ++ (text ++ codes "\n"))
-    ≡ (labelled_words labels s.words ++ codes "\n") ++ schedule_line names schedules s.entry
+pub both_told : (names : NameTable) (schedules : List (List Event)) (labels : List Bytes) (s : ListedState)
+    (words : List ℕ) (k : ℕ) (events : List Event) (text : Bytes)
+    → words ≡ s.words → k ≡ s.entry → slice_get schedules k ≡ Some events → text ≡ schedule_text names events
+    → (labelled_words labels words ++ codes "\n") ++ (codes " " ++ (text ++ codes "\n")) ≡ (labelled_words
+    labels s.words ++ codes "\n") ++ schedule_line names schedules s.entry
 both_told names schedules labels s words k events text is_words is_entry at is =
-    ap (λ (ws : List ℕ). (labelled_words labels ws ++ codes "\n") ++ (codes " " ++ (text ++ codes "\n"))) is_words
+    ap (λ ws. (labelled_words labels ws ++ codes "\n") ++ (codes " " ++ (text ++ codes "\n"))) is_words
     ∙ ap (λ (t : Bytes). (labelled_words labels s.words ++ codes "\n") ++ (codes " " ++ (t ++ codes "\n")))
     (is ∙ ap (schedule_text names) (sym (get_or_from_slice_get schedules k events [] at)))
-    ∙ ap (λ (e : ℕ). (labelled_words labels s.words ++ codes "\n") ++ schedule_line names schedules e) is_entry
+    ∙ ap (λ e. (labelled_words labels s.words ++ codes "\n") ++ schedule_line names schedules e) is_entry
 
 -- the two lines of a state, by the labels
 pub scheduled_told : (head : TestHead) (schedules : List (List Event)) (names : List Bytes) (s : ListedState) (out new : Bytes)
@@ -56,7 +55,7 @@ pub scheduled_told : (head : TestHead) (schedules : List (List Event)) (names : 
     → new ≡ out ++ ((labelled_words names s.words ++ codes "\n") ++ schedule_line head.locs schedules s.entry)
     → new ≡ out ++ scheduled_lines head (scheduled schedules s)
 scheduled_told head schedules names s out new are written =
-    written ∙ ap (λ (t : Bytes). out ++ (t ++ schedule_line head.locs schedules s.entry)) (line_told head names s.words are)
+    written ∙ ap (λ t. out ++ (t ++ schedule_line head.locs schedules s.entry)) (line_told head names _ are)
 
 lines_scheduled : (head : TestHead) (schedules : List (List Event)) (states : List ListedState)
     → flat_map (λ (s : ListedState). scheduled_lines head (scheduled schedules s)) states ≡ flat_map (scheduled_lines head) (map (scheduled schedules) states)
@@ -82,5 +81,5 @@ list_written head schedules states first title end name n none titled is_name is
     let begun : title ≡ (codes "Test " ++ (head.name ++ codes "\n")) ++ count_line len =
     titled ∙ ap (λ t. t ++ (codes "Test " ++ (name ++ (codes "\nStates " ++ (decimal n ++ codes "\n"))))) none
     ∙ head_told name n head.name len is_name (is_length ∙ sym (length-map states (scheduled schedules))) in
-    ended ∙ ap (λ t. title ++ t) (lines_scheduled head schedules states) ∙ ap (λ t. t ++ all) begun ∙ regroup (codes "Test ") head.name (codes "\n")
-    (count_line len) all
+    ended ∙ ap (λ t. title ++ t) (lines_scheduled head schedules states) ∙ ap (λ t. t ++ all) begun
+        ∙ regroup (codes "Test ") head.name (codes "\n") (count_line len) all

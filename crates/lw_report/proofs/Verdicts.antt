@@ -16,7 +16,7 @@ Kept {X} p xs =
     ⊎ ((length (filter p xs) == 0) ≡ false) × ((x : X) × Contains xs x × (p x ≡ true))
 
 not_zero : (n : ℕ) → (suc n == 0) ≡ false
-not_zero n = elim (cases_Bool (suc n == 0)) [ inl e ↦ absurd (omega (arith, eqb-true (suc n) 0 e)) | inr e ↦ e ]
+not_zero n = elim (cases_Bool _) [ inl e ↦ absurd (omega (arith, eqb-true (suc n) 0 e)) | inr e ↦ e ]
 
 kept : {X : Type 0} (p : X → Bool) (xs : List X) → Kept p xs
 kept {X} p [] = inl (refl, λ x h. absurd (let lt = h.1 in omega arith))
@@ -31,8 +31,9 @@ kept {X} p (x ∷ xs) = go (cases_Bool (p x)) (kept p xs)
 module _ (head : TestHead) (Has : Final → Type 0) (states : List Shown) (are : AreStatesOf head Has states) (p : Bool → Bool) where
   abbrev pub Counted : Type 0
   Counted =
-      ((length (filter (λ (s : Shown). p s.holds) states) == 0) ≡ true) × ((o : Final) → Has o → p (is_true head.condition o) ≡ false)
-      ⊎ ((length (filter (λ (s : Shown). p s.holds) states) == 0) ≡ false) × ((o : Final) × Has o × (p (is_true head.condition o) ≡ true))
+      ((length (filter (λ (s : Shown). p s.holds) states) == 0) ≡ true) × ((o : Final) → Has o
+      → p (is_true head.condition o) ≡ false) ⊎ ((length (filter (λ (s : Shown). p s.holds) states) == 0)
+      ≡ false) × ((o : Final) × Has o × (p (is_true head.condition o) ≡ true))
 
   counted : Counted
   counted = go (kept (λ (s : Shown). p s.holds) states)
@@ -63,8 +64,7 @@ module _ (head : TestHead) (Has : Final → Type 0) (states : List Shown) (are :
     exists_none = rw no_true.0 (λ e. no_true.1, λ f. refl);
     all = rw some_false.0 (
       λ e. absurd cc,
-      λ f. absurd (let t = f some_false.1.0 some_false.1.1 in let u = not_true
-          (is_true head.condition some_false.1.0) some_false.1.2 in cc),
+      λ f. absurd (let t = f some_false.1.0 some_false.1.1 in let u = not_true _ some_false.1.2 in cc),
     );
   }
   meant (inr some_true) (inl no_false) = record {
@@ -77,8 +77,7 @@ module _ (head : TestHead) (Has : Final → Type 0) (states : List Shown) (are :
     exists_none = rw some_true.0 (λ e. absurd cc, λ f. absurd (let t = f some_true.1.0 some_true.1.1 in let u = some_true.1.2 in cc));
     all = rw some_false.0 (
       λ e. absurd cc,
-      λ f. absurd (let t = f some_false.1.0 some_false.1.1 in let u = not_true
-          (is_true head.condition some_false.1.0) some_false.1.2 in cc),
+      λ f. absurd (let t = f some_false.1.0 some_false.1.1 in let u = not_true _ some_false.1.2 in cc),
     );
   }
 

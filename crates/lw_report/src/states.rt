@@ -1,5 +1,5 @@
 //! The states that a report shows: what is shown of each outcome, sorted, each once.
-ghost use Rattle.std.specs.Prelude.{◌≡◌, ◌≤◌, ◌↔◌, ◌++◌, ◌∷◌, [], length, All, IfOk, OnOk, IsTrue};
+ghost use Rattle.std.specs.Prelude.{◌≡◌, ◌≤◌, length, All, IfOk};
 ghost use Rattle.std.specs.List.Sorted.{IsSorted};
 ghost use Rattle.lw_base.specs.Heads.{head_of};
 ghost use Rattle.lw_base.specs.Limits.{most_threads};
@@ -7,7 +7,7 @@ ghost use Rattle.lw_base.specs.Outcomes.{IsOutcomeOf};
 ghost use Rattle.lw_base.specs.Propositions.{formula_of};
 ghost use Rattle.lw_base.specs.WellFormed.{SpeaksOf};
 ghost use Rattle.lw_listing.specs.Listings.{outcomes_of};
-ghost use Rattle.lw_report.specs.inner.Gathered.{state_at, state_cmp, AreStatesOfFirst, AreFirstStates, LastHas};
+ghost use Rattle.lw_report.specs.inner.Gathered.{state_at, state_cmp, AreStatesOfFirst, AreFirstStates};
 ghost use Rattle.lw_report.specs.Observed as specs;
 ghost use Rattle.lw_report.specs.States.{AreListedStates};
 
@@ -15,7 +15,7 @@ use crate::projection::{observed, words_of};
 use crate::truth::holds;
 use lw_base::{Head, Outcome, Seen, Sequence, Word};
 use lw_listing::Listing;
-use std::alloc::{AllocError, AllocFailed, Allocator, Global};
+use std::alloc::{AllocError, Allocator, Global};
 use std::marker::Model;
 
 /// What is shown of outcomes. States are ordered by their words, and then by their numbers.
@@ -58,7 +58,7 @@ pub fn states_of<A: Allocator + Copy>(
 {
     let mut states = gathered(alloc, head, listing)?;
     states.sort()?;
-    firsts(alloc, states)
+    Ok(firsts(states))
 }
 
 /// The states of all outcomes, one for each.
@@ -118,37 +118,11 @@ fn state_of<A: Allocator + Copy>(
 }
 
 /// Of the states with the same words the first.
-fn firsts<A: Allocator>(alloc: A, sorted: Vec<State<A>, A>) -> Result<States<A>, AllocError>
+fn firsts<A: Allocator>(sorted: Vec<State<A>, A>) -> States<A>
     requires { IsSorted state_cmp sorted.items }
-    ensures { IfOk result (λ states. AreFirstStates sorted.items states) }
+    ensures { AreFirstStates sorted.items result }
 {
-    let mut states = Sequence::new(alloc);
-    for state in sorted {
-        push_unless_shown(&mut states, state)?;
-    }
-    Ok(states)
-}
-
-/// Puts a state at the end, unless the last has its words.
-fn push_unless_shown<A: Allocator>(
-    states: &mut States<A>,
-    state: State<A>,
-) -> Result<(), AllocFailed<State<A>>>
-    ensures known { OnOk result (LastHas states.old state.words → states.new ≡ states.old) }
-    ensures added { OnOk result (¬ LastHas states.old state.words → states.new ≡ states.old ++ state ∷ []) }
-{
-    if last_has(states, &state.words) {
-        return Ok(());
-    }
-    states.push(state)
-}
-
-/// Whether the last of the states has these words.
-fn last_has<A: Allocator>(states: &States<A>, words: &Sequence<Word, A>) -> bool
-    ensures { IsTrue result ↔ LastHas states.now words.now }
-{
-    match states.as_slice().last() {
-        None => false,
-        Some(last) => last.words == *words,
-    }
+    let mut states = sorted;
+    states.dedup_by(|later, first| later.words == first.words);
+    Sequence::from(states)
 }

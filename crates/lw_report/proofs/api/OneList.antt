@@ -44,8 +44,7 @@ module _ {X : Type 0} (R : X → X → Type 0) (strict : (x y : X) → R x y →
   rest_has x y xs ys same above has s h =
       elim (front_or_behind y ys s (has s (behind_front x xs s h))) [
         | inl e ↦
-            let up : R x s = All-contains (R x) xs s above h in
-            let itself : R s s = subst (λ (z : X). R z s) (same ∙ e) up in
+            let itself : R s s = subst (λ (z : X). R z s) (same ∙ e) (All-contains (R x) xs s above h) in
             absurd (strict s s itself itself)
         | inr k ↦ k
       ]
@@ -58,15 +57,15 @@ module _ {X : Type 0} (R : X → X → Type 0) (strict : (x y : X) → R x y →
   one_list (x ∷ xs) (y ∷ ys) up above h k =
       let same : x ≡ y = fronts (front_or_behind y ys x (h x (at_front x xs))) (front_or_behind x xs y (k y (at_front y ys))) in
       let rest : xs ≡ ys =
-      one_list xs ys (from_rest R x xs up) (from_rest R y ys above)
-      (rest_has x y xs ys same (from_front R x xs up) h) (rest_has y x ys xs (sym same) (from_front R y ys above) k) in
+      one_list xs ys (from_rest R x xs up) (from_rest R y ys above) (rest_has x y xs ys same (from_front R x
+          xs up) h) (rest_has y x ys xs (sym same) (from_front R y ys above) k) in
       cc
     where
       fronts : (y ≡ x) ⊎ Contains ys x → (x ≡ y) ⊎ Contains xs y → x ≡ y
       fronts (inl e) there = sym e
       fronts (inr here) (inl e) = e
-      fronts (inr here) (inr there) = absurd (strict x y (All-contains (R x) xs y (from_front R x xs up) there)
-          (All-contains (R y) ys x (from_front R y ys above) here))
+      fronts (inr here) (inr there) = absurd (strict x y (All-contains (R x) xs y (from_front R x xs up)
+          there) (All-contains (R y) ys x (from_front R y ys above) here))
 
 -- ---- states
 
@@ -80,9 +79,9 @@ module _ (head : TestHead) (Has Also : Final → Type 0) (same : (o : Final) →
   -- sets with the same outcomes have the same states
   pub one_list_of_states : (states others : List Shown) → AreStatesOf head Has states → AreStatesOf head Also others → states ≡ others
   one_list_of_states states others a b =
-      one_list (λ (first later : Shown). slice_cmp nat_cmp first.words later.words ≡ Less) strict_words states others a.sorted b.sorted
-      (λ s h. let e = (a.exactly s).0 h in (b.exactly s).1 (e.0, (same e.0).0 e.1, e.2))
-      (λ s h. let e = (b.exactly s).0 h in (a.exactly s).1 (e.0, (same e.0).1 e.1, e.2))
+      one_list (λ (first later : Shown). slice_cmp nat_cmp first.words later.words ≡ Less) strict_words states
+      others a.sorted b.sorted (λ s h. let e = (a.exactly s).0 h in (b.exactly s).1 (e.0, (same e.0).0 e.1,
+      e.2)) (λ s h. let e = (b.exactly s).0 h in (a.exactly s).1 (e.0, (same e.0).1 e.1, e.2))
 
   -- and the same report
   pub one_report : (claim : Claim) (text other : List ℕ) → IsReport head Has claim text → IsReport head Also claim other → text ≡ other

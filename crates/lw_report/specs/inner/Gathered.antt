@@ -1,6 +1,6 @@
 -- For readers of this crate, no public call cites it: how the states of a listing are gathered, one for each outcome, then
 -- sorted, then the first of those with the same words.
-use Rattle.std.specs.Prelude.{◌≡◌, ℕ, ◌-◌, ◌<◌, ◌≤◌, List, length, Some, slice_get, All, Contains}
+use Rattle.std.specs.Prelude.{◌≡◌, ℕ, ◌<◌, ◌≤◌, List, Some, slice_get, All, Contains}
 use Rattle.std.specs.List.{AllPairs}
 use Rattle.std.specs.Cmp.Lexicographic.{slice_cmp}
 use Rattle.std.specs.Ordering.{nat_cmp, bool_cmp, ordering_then}
@@ -30,10 +30,6 @@ pub record AreStatesOfFirst (head : TestHead) (outcomes : List Final) (count : �
 -- The order of states: by their words, by their numbers where the words are the same.
 abbrev pub state_cmp : ListedState → ListedState → Ordering
 state_cmp s t = ordering_then (slice_cmp nat_cmp s.words t.words) (ordering_then (nat_cmp s.entry t.entry) (bool_cmp s.holds t.holds))
-
--- The last of the states has these words.
-abbrev pub LastHas : List ListedState → List ℕ → Type 0
-LastHas states words = (last : ListedState) × (slice_get states (length states - 1) ≡ Some last) × (last.words ≡ words)
 
 -- Of the states with the same words the one with the smallest number, sorted by the words.
 pub record AreFirstStates (all states : List ListedState) : Type 0 where

@@ -8,17 +8,17 @@ use Rattle.lw_report.proofs.line.labels_of.Goals as goal
 pub label_of-requires : goal.label_of-requires
 label_of-requires g c =
     let P = IsSeen c.args.head.now.threads (length c.args.head.now.locs) in
-    subst P (sym c.name-item.is) (All-get_or P c.args.names.now c.loop-name.name-index c.name-item.result c.loop-name-test.true c.requires)
+    subst P (sym c.name-item.is) (All-get_or P c.args.names.now _ _ c.loop-name-test.true c.requires)
 
 pub loop-name-init : goal.loop-name-init
 loop-name-init g c = record { made = c.new-texts.ensures; first = refl }
 
 pub loop-name-preserved : goal.loop-name-preserved
 loop-name-preserved g c = record {
-  made = label_more (head_of c.args.head.now) c.args.names.now c.loop-name.name-index c.name-item.result _ _ c.loop-name.texts c.push.new.self
-      c.loop-name-test.true c.name-item.is c.loop-name.invariant.made c.loop-name.invariant.first c.in_ok-label_of.ensures c.in_ok-push.ensures.ok;
+  made = label_more (head_of c.args.head.now) _ _ _ _ _ _ c.push.new.self c.loop-name-test.true c.name-item.is
+      c.loop-name.invariant.made c.loop-name.invariant.first c.in_ok-label_of.ensures c.in_ok-push.ensures.ok;
   first = next_gap c.loop-name.name-index;
 }
 
 pub returns : goal.returns
-returns g c = label_all (head_of c.args.head.now) c.args.names.now c.loop-name.name-index c.loop-name.texts c.loop-name-test.false c.loop-name.invariant.made
+returns g c = label_all (head_of c.args.head.now) _ _ _ c.loop-name-test.false c.loop-name.invariant.made

@@ -1,4 +1,4 @@
-use Rattle.std.proofs.Common.{◌++◌, ◌∙◌, ap, sym, codes, refl, arith, decimal, string_bytes}
+use Rattle.std.proofs.Common.{◌++◌, ◌∙◌, ap, sym, codes, refl, arith, string_bytes}
 use Rattle.std.proofs.lemmas.Fmt.{decimal_digit}
 use Rattle.lw_base.specs.Types.{Bytes}
 use Rattle.lw_base.proofs.api.Writing.{then_written, pushed}
@@ -12,6 +12,5 @@ returns-then-word-lt10 g c =
     let digit = string_bytes c.push.new.self in
     let end = string_bytes c.push-then-word-lt10.new.self in
     let is_digit = c.in_ok-push.ensures.ascii (omega (arith, c.if-word-lt10.true)) ∙ sym (decimal_digit c.args.word c.if-word-lt10.true) in
-    then_written c.push-then-word-lt10.result out digit end (decimal c.args.word) (codes ";") _
-    (c.in_ok-push.ensures.bytes ∙ ap (λ (t : Bytes). out ++ t) is_digit) refl
-    (pushed c.push-then-word-lt10.result digit end (codes ";") c.push-then-word-lt10.ensures.bytes)
+    then_written _ out digit end _ (codes ";") _ (c.in_ok-push.ensures.bytes ∙ ap (λ (t : Bytes). out ++ t)
+        is_digit) refl (pushed _ digit end (codes ";") c.push-then-word-lt10.ensures.bytes)

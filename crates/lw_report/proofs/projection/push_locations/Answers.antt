@@ -1,7 +1,5 @@
 use Rattle.std.proofs.Common.{◌<◌, ◌≤◌, ◌∙◌, sym, length, length-take, get_or-take, arith, ap, append-nil}
-use Rattle.lw_base.specs.Heads.{head_of}
 use Rattle.lw_base.specs.declared.head.Seen.TheVariants.{Location}
-use Rattle.lw_report.specs.Observed.{is_observed}
 use Rattle.lw_report.proofs.Names.{put_more, put_all}
 use Rattle.lw_report.proofs.projection.push_locations.Goals as goal
 
@@ -14,17 +12,15 @@ loop-loc-preserved g c =
     let taken = length-take c.len.result c.all.result in
     let within : k < c.len.result = omega (arith, c.loop-loc-test.true, taken) in
     let below : k < 8 = omega (arith, c.loop-loc-test.true, taken, ap length c.all.ensures) in
-    put_more (is_observed (head_of c.args.head.now)) (λ x. Location x) k c.args.names.now c.loop-loc.names c.loop-loc.invariant 8 c.all.result
-    c.loc-item.result c.loc-item.result c.push_observed.new.names c.all.ensures below
-    (c.loc-item.is ∙ get_or-take c.len.result c.all.result k c.loc-item.result within) c.in_ok-push_observed.ensures
+    put_more _ _ k c.args.names.now c.loop-loc.names c.loop-loc.invariant 8 c.all.result _ _ _ c.all.ensures
+        below (c.loc-item.is ∙ get_or-take c.len.result c.all.result k _ within) c.in_ok-push_observed.ensures
 
 pub returns : goal.returns
 returns g c =
     let k = c.loop-loc.loc-index in
-    let table : length c.args.head.now.locs ≤ 8 = c.len.ensures.table.few in
     let taken = length-take c.len.result c.all.result in
     let eight = ap length c.all.ensures in
     let most : k ≤ length c.args.head.now.locs = omega (arith, taken, c.len.ensures.len, c.loop-loc.auto.loc-index-end) in
-    let least : length c.args.head.now.locs ≤ k = omega (arith, taken, eight, c.len.ensures.len, table, c.loop-loc-test.false) in
-    put_all (is_observed (head_of c.args.head.now)) (λ x. Location x) k c.args.names.now c.loop-loc.names c.loop-loc.invariant
-    (length c.args.head.now.locs) most least
+    let least : length c.args.head.now.locs ≤ k = omega (arith, taken, eight, c.len.ensures.len,
+        c.len.ensures.table.few, c.loop-loc-test.false) in
+    put_all _ (λ x. Location x) k c.args.names.now c.loop-loc.names c.loop-loc.invariant _ most least

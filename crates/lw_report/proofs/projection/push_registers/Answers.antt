@@ -1,7 +1,4 @@
 use Rattle.std.proofs.Common.{refl, sym, append-nil}
-use Rattle.lw_base.specs.Heads.{head_of}
-use Rattle.lw_base.specs.declared.head.Seen.TheVariants.{Register}
-use Rattle.lw_report.specs.Observed.{is_observed}
 use Rattle.lw_report.proofs.Names.{put_more, put_all}
 use Rattle.lw_report.proofs.projection.push_registers.Goals as goal
 
@@ -10,10 +7,8 @@ loop-reg-init g c = sym (append-nil c.args.names.now)
 
 pub loop-reg-preserved : goal.loop-reg-preserved
 loop-reg-preserved g c =
-    put_more (is_observed (head_of c.args.head.now)) (λ r. Register c.args.cpu r) c.loop-reg.reg-index c.args.names.now c.loop-reg.names
-    c.loop-reg.invariant 6 c.all.result _ c.reg-item.result c.push_observed.new.names c.all.ensures c.loop-reg-test.true refl c.in_ok-push_observed.ensures
+    put_more _ _ c.loop-reg.reg-index c.args.names.now c.loop-reg.names c.loop-reg.invariant 6 c.all.result _
+    c.reg-item.result _ c.all.ensures c.loop-reg-test.true refl c.in_ok-push_observed.ensures
 
 pub returns : goal.returns
-returns g c = put_all (is_observed (head_of c.args.head.now))
-    (λ r. Register c.args.cpu r) c.loop-reg.reg-index c.args.names.now c.loop-reg.names c.loop-reg.invariant 6 c.loop-reg.auto.reg-index-end
-    c.loop-reg-test.false
+returns g c = put_all _ _ _ _ _ c.loop-reg.invariant 6 c.loop-reg.auto.reg-index-end c.loop-reg-test.false

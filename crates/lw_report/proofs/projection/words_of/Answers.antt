@@ -1,15 +1,14 @@
 use Rattle.std.proofs.Common.{◌∙◌, length, subst, sym}
 use Rattle.std.proofs.lemmas.List.Elements.{All-get_or}
 use Rattle.lw_base.specs.WellFormed.{IsSeen}
-use Rattle.lw_report.specs.Truth.{final_word}
 use Rattle.lw_report.proofs.Names.{made_more, made_all}
 use Rattle.lw_report.proofs.projection.words_of.Goals as goal
 
 pub word_of-requires : goal.word_of-requires
 word_of-requires g c =
     let outcome = c.args.outcome.now in
-    let there = All-get_or (IsSeen (length outcome.regs) (length outcome.words)) c.args.names.now c.loop-name.name-index c.name-item.result
-    c.loop-name-test.true c.requires.names in
+    let there = All-get_or (IsSeen (length outcome.regs) (length outcome.words)) c.args.names.now
+        c.loop-name.name-index c.name-item.result c.loop-name-test.true c.requires.names in
     record { name = subst (IsSeen (length outcome.regs) (length outcome.words)) (sym c.name-item.is) there; outcome = c.requires.outcome }
 
 pub loop-name-init : goal.loop-name-init
@@ -17,9 +16,8 @@ loop-name-init g c = c.in_ok-words.ensures.items
 
 pub loop-name-preserved : goal.loop-name-preserved
 loop-name-preserved g c =
-    made_more (final_word c.args.outcome.now) c.args.names.now c.loop-name.name-index c.loop-name.words.items c.loop-name.invariant c.name-item.result
-    c.word_of.result c.push.new.self.items c.loop-name-test.true c.name-item.is c.word_of.ensures c.in_ok-push.ensures.items
+    made_more _ c.args.names.now _ _ c.loop-name.invariant c.name-item.result c.word_of.result
+    c.push.new.self.items c.loop-name-test.true c.name-item.is c.word_of.ensures c.in_ok-push.ensures.items
 
 pub returns : goal.returns
-returns g c = c.from.ensures ∙ made_all (final_word c.args.outcome.now) c.args.names.now c.loop-name.name-index c.loop-name.words.items
-    c.loop-name.invariant c.loop-name-test.false
+returns g c = c.from.ensures ∙ made_all _ c.args.names.now _ _ c.loop-name.invariant c.loop-name-test.false

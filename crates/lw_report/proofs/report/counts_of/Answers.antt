@@ -8,17 +8,17 @@ loop-state-init g c = record { counted = refl; few = omega arith }
 
 pub loop-state-preserved : goal.loop-state-preserved
 loop-state-preserved g c = record {
-  counted = counted_more c.args.states.now c.loop-state.state-index c.state-item.result c.state.inside.holds c.loop-state.positive c.from-positive.result
-      c.loop-state-test.true c.state-item.is (ap (λ (s : ListedState). s.holds) c.state.view_is) c.loop-state.invariant.counted c.from-positive.ensures;
+  counted = counted_more _ c.loop-state.state-index _ c.state.inside.holds c.loop-state.positive
+      c.from-positive.result c.loop-state-test.true c.state-item.is (ap (λ (s : ListedState). s.holds)
+      c.state.view_is) c.loop-state.invariant.counted c.from-positive.ensures;
   few = omega (arith, c.loop-state.invariant.few, one_at_most c.state.inside.holds c.from-positive.result c.from-positive.ensures);
 }
 
 pub returns-clause-positive : goal.returns-clause-positive
-returns-clause-positive g c = shown_counted c.args.states.now c.loop-state.state-index c.loop-state.positive c.loop-state-test.false
-    c.loop-state.invariant.counted
+returns-clause-positive g c = shown_counted _ _ _ c.loop-state-test.false c.loop-state.invariant.counted
 
 pub returns-clause-negative : goal.returns-clause-negative
-returns-clause-negative g c = others_counted c.args.states.now c.loop-state.positive (returns-clause-positive g c)
+returns-clause-negative g c = others_counted c.args.states.now _ (returns-clause-positive g c)
 
 pub overflow_sub-result : goal.overflow_sub-result
 overflow_sub-result g c = omega (arith, c.loop-state.invariant.few, c.loop-state.auto.state-index-end)

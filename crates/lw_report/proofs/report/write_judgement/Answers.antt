@@ -1,7 +1,7 @@
-use Rattle.std.proofs.Common.{◌++◌, ◌∙◌, ap, codes, decimal, string_bytes}
+use Rattle.std.proofs.Common.{◌++◌, ◌∙◌, ap, codes, decimal}
 use Rattle.lw_base.specs.Heads.{head_of}
 use Rattle.lw_base.proofs.api.Writing.{then_written}
-use Rattle.lw_report.specs.Reports.{verdict_text, observation_line, claim_line, judgement_lines}
+use Rattle.lw_report.specs.Reports.{verdict_text}
 use Rattle.lw_report.proofs.Lines.{judgement_told}
 use Rattle.lw_report.proofs.report.write_judgement.Goals as goal
 
@@ -15,7 +15,6 @@ returns g c =
     let q = c.args.counts.negative in
     let first = c.word.result.now ++ (codes "\nPositive: " ++ (decimal p ++ (codes " Negative: " ++ (decimal q
     ++ (codes "\nCondition " ++ (c.as_str.result.now ++ codes "\n")))))) in
-    then_written c.write_observation.result (string_bytes c.args.out.now) (string_bytes c.writeln.new.self) (string_bytes c.write_observation.new.out)
-    first (observation_line head c.args.claim p q ++ claim_line c.args.claim) (judgement_lines head c.args.claim p q) c.in_ok-writeln.ensures.bytes
-    (judgement_told head c.args.claim p q c.word.result.now c.as_str.result.now (c.word.ensures ∙ ap verdict_text c.verdict_of.ensures)
-    (c.as_str.ensures ∙ c.in_ok-condition.ensures)) c.write_observation.ensures
+    then_written c.write_observation.result _ _ _ first _ _ c.in_ok-writeln.ensures.bytes (judgement_told head
+        c.args.claim p q c.word.result.now c.as_str.result.now (c.word.ensures ∙ ap verdict_text
+        c.verdict_of.ensures) (c.as_str.ensures ∙ c.in_ok-condition.ensures)) c.write_observation.ensures

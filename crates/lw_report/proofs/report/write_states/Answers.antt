@@ -1,7 +1,6 @@
 use Rattle.std.proofs.Common.{◌∙◌, ap, refl}
 use Rattle.lw_base.specs.Heads.{head_of}
 use Rattle.lw_base.proofs.api.Writing.{items_more, items_all}
-use Rattle.lw_report.specs.Reports.{state_line}
 use Rattle.lw_report.specs.States.{ListedState}
 use Rattle.lw_report.proofs.Lines.{state_written}
 use Rattle.lw_report.proofs.report.write_states.Goals as goal
@@ -11,13 +10,10 @@ loop-state-init g c = refl
 
 pub loop-state-preserved : goal.loop-state-preserved
 loop-state-preserved g c =
-    let written = state_written (head_of c.args.head.now) c.as_slice.result.now c.as_slice-in-loop-state.result.now c.state-item.result.words _ _
-    c.in_ok-write_state.ensures (c.as_slice.ensures ∙ c.in_ok-labels.ensures)
-    (c.as_slice-in-loop-state.ensures ∙ ap (λ (s : ListedState). s.words) c.state.view_is) in
-    items_more (λ (s : ListedState). state_line (head_of c.args.head.now) s.words) c.args.states.now c.loop-state.state-index _ _ c.loop-state.invariant
-    _ _ c.loop-state-test.true c.state-item.is written
+    let written = state_written (head_of c.args.head.now) c.as_slice.result.now _ c.state-item.result.words _
+        _ c.in_ok-write_state.ensures (c.as_slice.ensures ∙ c.in_ok-labels.ensures)
+        (c.as_slice-in-loop-state.ensures ∙ ap (λ (s : ListedState). s.words) c.state.view_is) in
+    items_more _ _ _ _ _ c.loop-state.invariant _ _ c.loop-state-test.true c.state-item.is written
 
 pub returns : goal.returns
-returns g c =
-    items_all (λ (s : ListedState). state_line (head_of c.args.head.now) s.words) c.args.states.now c.loop-state.state-index _ _ c.loop-state.invariant
-    c.loop-state-test.false
+returns g c = items_all _ c.args.states.now _ _ _ c.loop-state.invariant c.loop-state-test.false

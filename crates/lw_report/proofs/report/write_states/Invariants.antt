@@ -1,10 +1,9 @@
 use Rattle.std.proofs.Common.{◌≡◌, ◌++◌, drop, flat_map, string_bytes}
 use Rattle.lw_base.specs.Heads.{head_of}
 use Rattle.lw_report.specs.Reports.{state_line}
-use Rattle.lw_report.specs.States.{ListedState}
 use Rattle.lw_report.proofs.report.write_states.Given as goal
 
 abbrev pub invariant-loop-state : goal.invariant-loop-state
 invariant-loop-state g l =
-    string_bytes l.out ++ flat_map (λ (s : ListedState). state_line (head_of l.fn.head) s.words) (drop l.state-index l.states)
-    ≡ string_bytes l.initial.out ++ flat_map (λ (s : ListedState). state_line (head_of l.fn.head) s.words) l.states
+    string_bytes l.out ++ flat_map (λ s. state_line (head_of l.fn.head) s.words) (drop l.state-index l.states)
+    ≡ string_bytes l.initial.out ++ flat_map (λ s. state_line (head_of l.fn.head) s.words) l.states

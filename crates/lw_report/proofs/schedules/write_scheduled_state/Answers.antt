@@ -1,9 +1,7 @@
-use Rattle.std.proofs.Common.{◌++◌, ◌∙◌, ap, codes, arith}
+use Rattle.std.proofs.Common.{◌∙◌, ap, arith}
 use Rattle.lw_base.specs.Heads.{head_of}
 use Rattle.lw_base.proofs.api.Writing.{then_written}
-use Rattle.lw_listing.specs.Listings.{schedules_of}
 use Rattle.lw_report.specs.States.{ListedState}
-use Rattle.lw_report.specs.inner.Labels.{labelled_words}
 use Rattle.lw_report.proofs.Scheduled.{schedule_there, both_told}
 use Rattle.lw_report.proofs.schedules.write_scheduled_state.Goals as goal
 
@@ -12,12 +10,11 @@ schedule-requires g c = omega (arith, c.requires.within, ap (λ (s : ListedState
 
 pub write_schedule-requires : goal.write_schedule-requires
 write_schedule-requires g c =
-    schedule_there (head_of c.args.head.now) c.args.listing.now _ c.schedule.result.now c.requires.schedules c.schedule.ensures
+    schedule_there (head_of c.args.head.now) c.args.listing.now _ _ c.requires.schedules c.schedule.ensures
 
 pub returns : goal.returns
 returns g c =
-    let told = both_told c.args.head.now.locs (schedules_of c.args.listing.now) c.args.labels.now c.args.state.now c.as_slice.result.now
-    c.state.inside.entry c.schedule.result.now c.as_str.result.now (c.as_slice.ensures ∙ ap (λ (s : ListedState). s.words) c.state.view_is)
-    (ap (λ (s : ListedState). s.entry) c.state.view_is) c.schedule.ensures (c.as_str.ensures ∙ c.in_ok-schedule.ensures) in
-    then_written c.writeln.result _ _ _ (labelled_words c.args.labels.now c.as_slice.result.now ++ codes "\n")
-    (codes " " ++ (c.as_str.result.now ++ codes "\n")) _ c.in_ok-write_state.ensures told c.writeln.ensures.bytes
+    let told = both_told _ _ c.args.labels.now c.args.state.now _ _ _ c.as_str.result.now (c.as_slice.ensures
+        ∙ ap (λ (s : ListedState). s.words) c.state.view_is) (ap (λ (s : ListedState). s.entry)
+        c.state.view_is) c.schedule.ensures (c.as_str.ensures ∙ c.in_ok-schedule.ensures) in
+    then_written c.writeln.result _ _ _ _ _ _ c.in_ok-write_state.ensures told c.writeln.ensures.bytes

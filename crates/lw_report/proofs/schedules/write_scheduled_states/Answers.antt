@@ -2,8 +2,6 @@ use Rattle.std.proofs.Common.{◌∙◌, length, refl}
 use Rattle.lw_base.specs.Heads.{head_of}
 use Rattle.lw_base.proofs.api.Writing.{items_more, items_all}
 use Rattle.lw_listing.specs.Listings.{schedules_of}
-use Rattle.lw_report.specs.Reports.{scheduled, scheduled_lines}
-use Rattle.lw_report.specs.States.{ListedState}
 use Rattle.lw_report.proofs.Scheduled.{state_within, scheduled_told}
 use Rattle.lw_report.proofs.schedules.write_scheduled_states.Goals as goal
 
@@ -15,19 +13,15 @@ write_scheduled_state-requires-clause-schedules g c = c.requires.schedules
 
 pub write_scheduled_state-requires-clause-within : goal.write_scheduled_state-requires-clause-within
 write_scheduled_state-requires-clause-within g c =
-    state_within (length c.args.listing.now) c.args.states.now c.loop-state.state-index c.state-item.result c.requires.within c.loop-state-test.true
-    c.state-item.is
+    state_within (length c.args.listing.now) c.args.states.now c.loop-state.state-index c.state-item.result
+    c.requires.within c.loop-state-test.true c.state-item.is
 
 pub loop-state-preserved : goal.loop-state-preserved
 loop-state-preserved g c =
-    let head = head_of c.args.head.now in
     let schedules = schedules_of c.args.listing.now in
-    let written = scheduled_told head schedules c.as_slice.result.now c.state-item.result _ _ (c.as_slice.ensures ∙ c.in_ok-labels.ensures)
-    c.in_ok-write_scheduled_state.ensures in
-    items_more (λ (s : ListedState). scheduled_lines head (scheduled schedules s)) c.args.states.now c.loop-state.state-index _ _ c.loop-state.invariant
-    c.state-item.result _ c.loop-state-test.true c.state-item.is written
+    let written = scheduled_told (head_of c.args.head.now) schedules c.as_slice.result.now c.state-item.result
+        _ _ (c.as_slice.ensures ∙ c.in_ok-labels.ensures) c.in_ok-write_scheduled_state.ensures in
+    items_more _ _ _ _ _ c.loop-state.invariant _ _ c.loop-state-test.true c.state-item.is written
 
 pub returns : goal.returns
-returns g c =
-    items_all (λ (s : ListedState). scheduled_lines (head_of c.args.head.now) (scheduled (schedules_of c.args.listing.now) s)) c.args.states.now
-    c.loop-state.state-index _ _ c.loop-state.invariant c.loop-state-test.false
+returns g c = items_all _ c.args.states.now _ _ _ c.loop-state.invariant c.loop-state-test.false

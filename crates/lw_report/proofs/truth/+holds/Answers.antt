@@ -1,7 +1,6 @@
-use Rattle.std.proofs.Common.{not, length, sym, ap, ◌∙◌, subst, arith}
+use Rattle.std.proofs.Common.{not, length, sym, ap, ◌∙◌, arith}
 use Rattle.lw_base.specs.Outcomes.{Final}
 use Rattle.lw_base.specs.Propositions.{formula_of}
-use Rattle.lw_base.specs.WellFormed.{SpeaksOf}
 use Rattle.lw_report.specs.Truth.{is_true}
 use Rattle.lw_report.proofs.Truths.{or_left_is, or_right_is, and_left_is, and_right_is, register_is}
 use Rattle.lw_report.proofs.Truths.{location_is}
@@ -10,32 +9,28 @@ use Rattle.lw_report.proofs.truth.+holds.Goals as goal
 -- the places are there, since the proposition speaks of the outcome
 pub bounds-as_slice-index : goal.bounds-as_slice-index
 bounds-as_slice-index g n c =
-    let o = c.args.outcome.now in
-    let there = subst (λ p. SpeaksOf (length o.regs) (length o.words) (formula_of p)) c.in-RegIs.is c.requires.prop in
-    omega (arith, there.0, c.index.ensures.value, ap length (c.as_slice.ensures ∙ ap (λ (p : Final). p.regs) c.outcome.view_is))
+    omega (arith, (rw c.in-RegIs.is at c.requires.prop).0, c.index.ensures.value, ap length
+        (c.as_slice.ensures ∙ ap (λ (p : Final). p.regs) c.outcome.view_is))
 
 pub bounds-as_slice-index-in-RegIs : goal.bounds-as_slice-index-in-RegIs
 bounds-as_slice-index-in-RegIs g n c = c.index-in-RegIs.ensures.below
 
 pub bounds-as_slice-index-in-WordIs : goal.bounds-as_slice-index-in-WordIs
 bounds-as_slice-index-in-WordIs g n c =
-    let o = c.args.outcome.now in
-    let there = subst (λ p. SpeaksOf (length o.regs) (length o.words) (formula_of p)) c.in-WordIs.is c.requires.prop in
-    omega (arith, there.0, c.index-in-WordIs.ensures.value, ap length (c.as_slice-in-WordIs.ensures ∙ ap (λ (p : Final). p.words) c.outcome.view_is))
+    omega (arith, (rw c.in-WordIs.is at c.requires.prop).0, c.index-in-WordIs.ensures.value, ap length
+        (c.as_slice-in-WordIs.ensures ∙ ap (λ (p : Final). p.words) c.outcome.view_is))
 
 pub returns-in-RegIs : goal.returns-in-RegIs
 returns-in-RegIs g n c =
     let o = c.args.outcome.now in
-    register_is c.as_slice.result.now o c.index.result c.index-in-RegIs.result c.in-RegIs.cpu c.in-RegIs.reg c.in-RegIs.word
-    (c.as_slice.ensures ∙ ap (λ (p : Final). p.regs) c.outcome.view_is) c.index.ensures.value c.index-in-RegIs.ensures.value
-    ∙ ap (λ p. is_true (formula_of p) o) (sym c.in-RegIs.is)
+    register_is _ o _ _ _ _ _ (c.as_slice.ensures ∙ ap (λ p. p.regs) c.outcome.view_is) c.index.ensures.value
+        c.index-in-RegIs.ensures.value ∙ ap (λ p. is_true (formula_of p) o) (sym c.in-RegIs.is)
 
 pub returns-in-WordIs : goal.returns-in-WordIs
 returns-in-WordIs g n c =
     let o = c.args.outcome.now in
-    location_is c.as_slice-in-WordIs.result.now o c.index-in-WordIs.result c.in-WordIs.loc c.in-WordIs.word
-    (c.as_slice-in-WordIs.ensures ∙ ap (λ (p : Final). p.words) c.outcome.view_is) c.index-in-WordIs.ensures.value
-    ∙ ap (λ p. is_true (formula_of p) o) (sym c.in-WordIs.is)
+    location_is _ o _ _ _ (c.as_slice-in-WordIs.ensures ∙ ap (λ (p : Final). p.words) c.outcome.view_is)
+        c.index-in-WordIs.ensures.value ∙ ap (λ p. is_true (formula_of p) o) (sym c.in-WordIs.is)
 
 pub returns-in-Neg : goal.returns-in-Neg
 returns-in-Neg g n c =
@@ -48,28 +43,25 @@ returns-then-holds g n c =
     let o = c.args.outcome.now in
     let left = c.holds-in-Both.ensures ∙ ap (λ p. is_true (formula_of p) o) c.deref-in-Both.ensures in
     let right = c.holds-then-holds.ensures ∙ ap (λ p. is_true (formula_of p) o) c.deref-then-holds.ensures in
-    and_right_is c.holds-then-holds.result c.holds-in-Both.result (is_true (formula_of c.in-Both.left.value) o)
-    (is_true (formula_of c.in-Both.right.value) o) c.if-holds.true left right ∙ ap (λ p. is_true (formula_of p) o) (sym c.in-Both.is)
+    and_right_is _ _ _ _ c.if-holds.true left right ∙ ap (λ p. is_true (formula_of p) o) (sym c.in-Both.is)
 
 pub returns-else-holds : goal.returns-else-holds
 returns-else-holds g n c =
     let o = c.args.outcome.now in
     let left = c.holds-in-Both.ensures ∙ ap (λ p. is_true (formula_of p) o) c.deref-in-Both.ensures in
-    and_left_is c.holds-in-Both.result (is_true (formula_of c.in-Both.left.value) o) (is_true (formula_of c.in-Both.right.value) o) c.if-holds.false left
-    ∙ ap (λ p. is_true (formula_of p) o) (sym c.in-Both.is)
+    and_left_is _ _ _ c.if-holds.false left ∙ ap (λ p. is_true (formula_of p) o) (sym c.in-Both.is)
 
 -- of either: where the left part is true, and where it isn't
 pub returns-then-holds-2 : goal.returns-then-holds-2
 returns-then-holds-2 g n c =
     let o = c.args.outcome.now in
     let left = c.holds-in-Either.ensures ∙ ap (λ p. is_true (formula_of p) o) c.deref-in-Either.ensures in
-    or_left_is c.holds-in-Either.result (is_true (formula_of c.in-Either.left.value) o) (is_true (formula_of c.in-Either.right.value) o) c.if-holds-2.true left
-    ∙ ap (λ p. is_true (formula_of p) o) (sym c.in-Either.is)
+    or_left_is _ _ _ c.if-holds-2.true left ∙ ap (λ p. is_true (formula_of p) o) (sym c.in-Either.is)
 
 pub returns-else-holds-2 : goal.returns-else-holds-2
 returns-else-holds-2 g n c =
     let o = c.args.outcome.now in
     let left = c.holds-in-Either.ensures ∙ ap (λ p. is_true (formula_of p) o) c.deref-in-Either.ensures in
     let right = c.holds-else-holds-2.ensures ∙ ap (λ p. is_true (formula_of p) o) c.deref-else-holds-2.ensures in
-    or_right_is c.holds-else-holds-2.result c.holds-in-Either.result (is_true (formula_of c.in-Either.left.value) o)
-    (is_true (formula_of c.in-Either.right.value) o) c.if-holds-2.false left right ∙ ap (λ p. is_true (formula_of p) o) (sym c.in-Either.is)
+    or_right_is c.holds-else-holds-2.result c.holds-in-Either.result _ _ c.if-holds-2.false left right
+        ∙ ap (λ p. is_true (formula_of p) o) (sym c.in-Either.is)
