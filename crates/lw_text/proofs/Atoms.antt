@@ -1,8 +1,9 @@
--- Numbers, values and sites are read in one way.
+-- Numbers, values, sites and entries are read in one way.
 use Rattle.std.proofs.Common.{◌≡◌, ℕ, ◌<◌, ◌⊎◌, inl, inr, Bool, true, false, not, [], ◌∷◌, length, ap, subst}
-use Rattle.std.proofs.Common.{arith, codes, ◌&&◌, ◌||◌, ◌==◌}
+use Rattle.std.proofs.Common.{arith, codes, ◌&&◌, ◌||◌, ◌==◌, ◌+◌, ◌≤◌, sym, ◌∙◌}
 use Rattle.std.specs.Char.{is_ascii_digit}
 use Rattle.std.proofs.lemmas.Bool.{and_parts, or_cases, not-true}
+use Rattle.lw_base.specs.Refusals.{NoSuch, NoneRead}
 use Rattle.lw_base.specs.Characters.{is_word_byte, begins}
 use Rattle.lw_base.specs.Types.{Bytes, TokenList}
 use Rattle.lw_base.specs.declared.head.Arch.{Arch}
@@ -12,12 +13,13 @@ use Rattle.lw_base.proofs.api.Registers.{register_unique}
 use Rattle.lw_text.specs.Tokens.{IsNumber}
 use Rattle.lw_text.specs.Sites.{SiteSyntax, InMemory, InThread, IsSite, Value}
 use Rattle.lw_text.proofs.api.Numbers.{number_first, bracket_no_number, number-unique}
+use Rattle.lw_text.proofs.Lists.{IsOne}
+use Rattle.lw_text.specs.Frames.{IsEntry}
 
 pub number_no_name : (w : Bytes) (n : ℕ) → IsNumber w n → IsName w → ⊥
 number_no_name w n p q = let h = number_first w n p in let k = q.0.front in cc
 
-pub value_none : (ts l m : TokenList) (t : Bytes) → ts ≡ codes "=" ∷ l → l ≡ t ∷ m → ((n : ℕ) → IsNumber t n → ⊥) → (v : ℕ) (rest : TokenList)
-    → Value ts v rest → ⊥
+pub value_none : (ts l m : TokenList) (t : Bytes) → ts ≡ codes "=" ∷ l → l ≡ t ∷ m → NoSuch (IsNumber t) → NoneRead (Value ts)
 value_none ts l m t e f none v rest p =
     let g = p.1 in
     let i : p.0 ≡ t = cc in
@@ -38,19 +40,19 @@ Value-shorter ts rest v p = omega (arith, ap length p.1)
 pub bracket_no_name : IsName (codes "[") → ⊥
 bracket_no_name n = let h = n.0.all.0 in cc
 
-pub IsSite-unique : (arch : Arch) (ts : TokenList) (a b : SiteSyntax) (r s : TokenList) → IsSite arch ts a r → IsSite arch ts b s → (a ≡ b) × (r ≡ s)
+pub IsSite-unique : (arch : Arch) → IsOne (IsSite arch)
 IsSite-unique arch ts (InMemory x) (InMemory y) r s (p, inl e) (q, inl f) = let k : x ≡ y = cc in (ap InMemory k, cc)
 IsSite-unique arch ts (InMemory x) (InMemory y) r s (p, inl e) (q, inr f) = let k : x ≡ codes "[" = cc in absurd (bracket_no_name (subst IsName k p.0))
 IsSite-unique arch ts (InMemory x) (InMemory y) r s (p, inr e) (q, inl f) = let k : y ≡ codes "[" = cc in absurd (bracket_no_name (subst IsName k q.0))
 IsSite-unique arch ts (InMemory x) (InMemory y) r s (p, inr e) (q, inr f) = let k : x ≡ y = cc in (ap InMemory k, cc)
-IsSite-unique arch ts (InMemory x) (InThread t n) r s (p, inl e) q = let f = q.2 in let k : x ≡ q.0 = cc in absurd
-    (number_no_name q.0 t q.3 (subst IsName k p.0))
-IsSite-unique arch ts (InMemory x) (InThread t n) r s (p, inr e) q = let f = q.2 in let k : q.0 ≡ codes "[" = cc in absurd
-    (bracket_no_number t (subst (λ w. IsNumber w t) k q.3))
-IsSite-unique arch ts (InThread t n) (InMemory x) r s p (q, inl e) = let f = p.2 in let k : x ≡ p.0 = cc in absurd
-    (number_no_name p.0 t p.3 (subst IsName k q.0))
-IsSite-unique arch ts (InThread t n) (InMemory x) r s p (q, inr e) = let f = p.2 in let k : p.0 ≡ codes "[" = cc in absurd
-    (bracket_no_number t (subst (λ w. IsNumber w t) k p.3))
+IsSite-unique arch ts (InMemory x) (InThread t n) r s (p, inl e) q = let f = q.2 in let k : x ≡ q.0 = cc in
+    absurd (number_no_name q.0 t q.3 (subst IsName k p.0))
+IsSite-unique arch ts (InMemory x) (InThread t n) r s (p, inr e) q = let f = q.2 in let k : q.0 ≡ codes "["
+    = cc in absurd (bracket_no_number t (subst (λ w. IsNumber w t) k q.3))
+IsSite-unique arch ts (InThread t n) (InMemory x) r s p (q, inl e) = let f = p.2 in let k : x ≡ p.0 = cc in
+    absurd (number_no_name p.0 t p.3 (subst IsName k q.0))
+IsSite-unique arch ts (InThread t n) (InMemory x) r s p (q, inr e) = let f = p.2 in let k : p.0 ≡ codes "["
+    = cc in absurd (bracket_no_number t (subst (λ w. IsNumber w t) k p.3))
 IsSite-unique arch ts (InThread t n) (InThread u m) r s p q =
     let f = p.2 in
     let g = q.2 in
@@ -66,8 +68,8 @@ IsSite-shorter arch ts rest (InMemory x) (p, inr e) = omega (arith, ap length e)
 IsSite-shorter arch ts rest (InThread t r) p = omega (arith, ap length p.2)
 
 -- a site begins with a location's name, a number or a `[`
-site_front : (arch : Arch) (ts rest : TokenList) (s : SiteSyntax) → IsSite arch ts s rest → (t : Bytes) (l : TokenList) → ts ≡ t ∷ l
-    → IsLocation t ⊎ (((n : ℕ) × IsNumber t n) ⊎ (t ≡ codes "["))
+site_front : (arch : Arch) (ts rest : TokenList) (s : SiteSyntax) → IsSite arch ts s rest
+    → (t : Bytes) (l : TokenList) → ts ≡ t ∷ l → IsLocation t ⊎ (((n : ℕ) × IsNumber t n) ⊎ (t ≡ codes "["))
 site_front arch ts rest (InMemory x) (p, inl e) t l f = let k : x ≡ t = cc in inl (subst IsLocation k p)
 site_front arch ts rest (InMemory x) (p, inr e) t l f = inr (inr cc)
 site_front arch ts rest (InThread u r) p t l f = let g = p.2 in let k : p.0 ≡ t = cc in inr (inl (u, subst (λ w. IsNumber w u) k p.3))
@@ -88,11 +90,33 @@ no_site (b ∷ w) h arch ts rest mid site e p =
         | inl f ↦ let g = x.0.0.all.0 in let i = not-true (is_word_byte b) f in cc
         | inr r ↦ let g = x.1 in cc
       ]
-      | inr (inl n) ↦ let g = number_first (b ∷ w) n.0 n.1 in let i = not-true (is_ascii_digit b) first.0 in cc
-      | inr (inr k) ↦ let g : (b == 91) ≡ true = ap (begins (λ x. x == 91)) k in let i = not-true (b == 91) more.0 in cc
+      | inr (inl n) ↦ let g = number_first _ n.0 n.1 in let i = not-true (is_ascii_digit b) first.0 in cc
+      | inr (inr k) ↦ let g = ap (begins (λ x. x == 91)) k in let i = not-true (b == 91) more.0 in cc
     ]
 
 pub site_none : (arch : Arch) (ts rest : TokenList) (s : SiteSyntax) → ts ≡ [] → IsSite arch ts s rest → ⊥
 site_none arch ts rest (InMemory x) e (p, inl f) = cc
 site_none arch ts rest (InMemory x) e (p, inr f) = cc
 site_none arch ts rest (InThread t r) e p = let f = p.2 in cc
+
+-- ---- entries
+
+pub IsEntry-unique : (arch : Arch) → IsOne (IsEntry arch)
+IsEntry-unique arch ts a b r s p q =
+    let e = IsSite-unique arch ts a.site b.site p.0 q.0 p.1 q.1 in
+    let f = Value-unique p.0 r s a.word b.word p.2 (subst (λ l. Value l b.word s) (sym e.1) q.2) in
+    (ap (λ x. record { site = x; word = a.word }) e.0 ∙ ap (λ w. record { site = b.site; word = w }) f.0, f.1)
+
+pub value_missing : (arch : Arch) (ts mid : TokenList) (site : SiteSyntax) → IsSite arch ts site mid
+    → NoneRead (Value mid) → NoneRead (IsEntry arch ts)
+value_missing arch ts mid site s never e rest p = never e.word rest (subst (λ l. Value l e.word rest) (IsSite-unique arch ts e.site site p.0 mid p.1 s).1 p.2)
+
+-- the marks of lists
+abbrev pub brace : Bytes
+brace = codes "}"
+
+abbrev pub bracket : Bytes
+bracket = codes "]"
+
+abbrev pub semicolon : Bytes
+semicolon = codes ";"

@@ -1,19 +1,26 @@
 -- Cells and rows in memory, each token at its place, are cut from the tokens.
-use Rattle.std.proofs.Common.{◌≡◌, ℕ, ◌≤◌, true, List, [], ◌∷◌, ◌++◌, refl, sym, ap, ◌∙◌, subst, All}
+use Rattle.std.proofs.Common.{◌≡◌, ℕ, ◌≤◌, true, false, List, [], ◌∷◌, ◌++◌, refl, sym, ap, ◌∙◌, subst, All, codes, bytes_eq}
 use Rattle.std.specs.List.{AllByRecursion}
-use Rattle.std.proofs.lemmas.List.{map-append}
+use Rattle.std.proofs.lemmas.List.{map-append, map_push}
 use Rattle.std.proofs.lemmas.List.Elements.{All-from_recursion}
 use Rattle.lw_base.specs.declared.head.Arch.{Arch}
 use Rattle.lw_text.specs.declared.token.Token.{Token}
 use Rattle.lw_text.specs.declared.cell.Cell.{Cell}
 use Rattle.lw_text.specs.Spans.{texts, Leaves}
-use Rattle.lw_text.specs.Rows.{ends_cell, Rows}
+use Rattle.lw_base.specs.Types.{Bytes}
+use Rattle.lw_text.specs.declared.cursor.Cursor.{Cursor}
+use Rattle.lw_text.specs.Rows as words
+use Rattle.lw_text.specs.Rows.{ends_cell, RowCells, Rows}
 use Rattle.lw_text.specs.PlacedTokens.{PlacedToken, texts_of_tokens}
 use Rattle.lw_text.specs.PlacedCells.{PlacedCell, texts_of_grid, CellsFrom, RowsFrom, HasRows}
 use Rattle.lw_text.specs.Places.{placed, placed_tokens, placed_cell, placed_row, placed_cells, all_texts}
-use Rattle.lw_text.specs.Places.{IsWithin}
+use Rattle.lw_text.specs.Places.{IsWithin, cell_texts, cells_texts}
+use Rattle.lw_text.specs.Views.{remaining, left}
+use Rattle.lw_text.specs.inner.Taken.{TakenCell}
 use Rattle.lw_base.proofs.api.Elements.{each_of, all_map, all_parts, all_unmap}
-use Rattle.lw_text.proofs.Lists.{Chain-push}
+use Rattle.lw_text.proofs.Cells.{is_bar}
+use Rattle.lw_text.proofs.Lists.{Chain-push, Before, Before-close}
+use Rattle.lw_text.proofs.Texts.{is_text}
 use Rattle.lw_text.proofs.api.Places.{texts_placed, grid_placed}
 
 -- ---- without places
@@ -21,10 +28,7 @@ use Rattle.lw_text.proofs.api.Places.{texts_placed, grid_placed}
 -- rows in memory are rows of tokens with places
 pub rows_placed : {A : Type 0} (n : ℕ) (ts rest : List Token) (rows : List (List (Cell A))) → Rows n (texts ts) (all_texts rows) (texts rest)
     → Rows n (texts_of_tokens (placed_tokens ts)) (texts_of_grid (placed_cells rows)) (texts_of_tokens (placed_tokens rest))
-rows_placed n ts rest rows r =
-    subst (λ l. Rows n l (texts_of_grid (placed_cells rows)) (texts_of_tokens (placed_tokens rest))) (sym (texts_placed ts))
-    (subst (λ l. Rows n (texts ts) l (texts_of_tokens (placed_tokens rest))) (sym (grid_placed rows))
-    (subst (λ l. Rows n (texts ts) (all_texts rows) l) (sym (texts_placed rest)) r))
+rows_placed n ts rest rows r = rw (texts_placed ts, grid_placed rows, texts_placed rest) r
 
 pub front_placed : (whole behind : List Token) (l : Leaves whole behind) → placed_tokens whole ≡ placed_tokens l.0 ++ placed_tokens behind
 front_placed whole behind l = ap placed_tokens l.1 ∙ map-append placed l.0 behind
@@ -37,21 +41,48 @@ CellsFrom-push before here after [] cell mark cut parts is at = (mark, after, cu
 CellsFrom-push before here after (c ∷ cells) cell mark cut parts is at =
     (cut.0, cut.1, cut.2, cut.3, cut.4, CellsFrom-push cut.1 here after cells cell mark cut.5 parts is at)
 
-pub cells_more : {A : Type 0} (before here after : List Token) (cells : List (Cell A)) (cell : Cell A) (mark : Token)
-    → CellsFrom (placed_tokens before) (placed_row cells) (placed_tokens here) → here ≡ cell.tokens ++ mark ∷ after → mark.at ≡ cell.end
-    → ends_cell mark.text.now ≡ true
-    → CellsFrom (placed_tokens before) (placed_row (cells ++ cell ∷ [])) (placed_tokens after)
-cells_more before here after cells cell mark cut parts at is =
-    subst (λ cs. CellsFrom (placed_tokens before) cs (placed_tokens after)) (sym (map-append placed_cell cells (cell ∷ [])))
-    (CellsFrom-push (placed_tokens before) (placed_tokens here) (placed_tokens after) (placed_row cells) (placed_cell cell) (placed mark) cut
-    (ap placed_tokens parts ∙ map-append placed cell.tokens (mark ∷ after)) is at)
+-- Cells have been read, each cut from the tokens with a `|` behind it, and then comes what is here.
+pub record CellsRead {A : Type 0} (start here : List Token) (cells : List (Cell A)) : Type 0 where
+  pub before : Before words.Cell (codes "|") (codes ";") (texts start) (cells_texts cells) (texts here)
+  pub cut : CellsFrom (placed_tokens start) (placed_row cells) (placed_tokens here)
+
+module _ {A : Type 0} {start : List Token} {here after : Cursor} {cells : List (Cell A)} (read : CellsRead start (remaining here) cells)
+    {tokens : List Token} {mark : Token} (taken : TakenCell here after tokens mark) where
+  abbrev more : List (Cell A)
+  more = cells ++ record { tokens = tokens; end = mark.at } ∷ []
+
+  parts_as : (w : Bytes) → mark.text.now ≡ w → words.Cell (left here) (texts tokens) (w ∷ left after)
+  parts_as w e = (
+    ap texts taken.parts ∙ map-append (λ (t : Token). t.text.now) tokens (mark ∷ remaining after) ∙ ap (λ m. texts tokens ++ m ∷ left after) e,
+    taken.plain,
+  )
+
+  cut_more : CellsFrom (placed_tokens start) (placed_row more) (placed_tokens (remaining after))
+  cut_more = rw (map-append placed_cell cells (record { tokens = tokens; end = mark.at } ∷ []))
+      (CellsFrom-push (placed_tokens start) _ _ (placed_row cells) _ (placed mark) read.cut (ap placed_tokens
+      taken.parts ∙ map-append placed tokens (mark ∷ remaining after)) taken.ends refl)
+
+  pub cells_more : bytes_eq mark.text.now (codes ";") ≡ false → CellsRead start (remaining after) more
+  cells_more e = record {
+    before = rw (map_push cell_texts cells (record { tokens = tokens; end = mark.at })) (Chain-push _ _ _
+        (left here) (left after) _ read.before (parts_as (codes "|") (is_bar mark.text.now taken.ends e)));
+    cut = cut_more;
+  }
+
+  pub cells_closed : bytes_eq mark.text.now (codes ";") ≡ true
+      → RowCells (texts start) (cells_texts more) (left after) × CellsFrom (placed_tokens start) (placed_row more) (placed_tokens (remaining after))
+  cells_closed e = (
+    rw (map_push cell_texts cells (record { tokens = tokens; end = mark.at })) (Before-close words.Cell _
+        (codes ";") _ _ (left here) _ _ read.before (parts_as (codes ";") (is_text _ (codes ";") e))),
+    cut_more,
+  )
 
 pub rows_more : {A : Type 0} (before here after : List Token) (rows : List (List (Cell A))) (row : List (Cell A))
     → RowsFrom (placed_tokens before) (placed_cells rows) (placed_tokens here) → CellsFrom (placed_tokens here) (placed_row row) (placed_tokens after)
     → RowsFrom (placed_tokens before) (placed_cells (rows ++ row ∷ [])) (placed_tokens after)
 rows_more before here after rows row cut more =
-    subst (λ rs. RowsFrom (placed_tokens before) rs (placed_tokens after)) (sym (map-append placed_row rows (row ∷ [])))
-    (Chain-push CellsFrom (placed_cells rows) (placed_tokens before) (placed_tokens here) (placed_tokens after) (placed_row row) cut more)
+    subst (λ rs. RowsFrom (placed_tokens before) rs (placed_tokens after)) (sym (map-append placed_row rows
+    (row ∷ []))) (Chain-push CellsFrom (placed_cells rows) _ (placed_tokens here) _ (placed_row row) cut more)
 
 -- ---- no place is past the end
 
@@ -62,12 +93,10 @@ cells_within : {A : Type 0} (len : ℕ) (ts : List PlacedToken) (cells : List (C
     → Within len ts → AllByRecursion (IsWithin len) cells × Within len rest
 cells_within len ts [] rest cut all = (tt, subst (Within len) cut all)
 cells_within len ts (cell ∷ cells) rest cut all =
-    let parts = all_parts (λ (t : PlacedToken). t.at ≤ len) (placed_tokens cell.tokens) (cut.0 ∷ cut.1) (subst (Within len) cut.2 all) in
-    let tokens : All (λ t. t.at ≤ len) cell.tokens = All-from_recursion (λ (t : Token). t.at ≤ len) cell.tokens
-    (all_unmap (λ (t : PlacedToken). t.at ≤ len) placed cell.tokens parts.0) in
+    let parts = all_parts _ (placed_tokens cell.tokens) (cut.0 ∷ cut.1) (subst (Within len) cut.2 all) in
     let end : cell.end ≤ len = subst (λ (n : ℕ). n ≤ len) cut.4 parts.1.0 in
     let more = cells_within len cut.1 cells rest cut.5 parts.1.1 in
-    (((tokens, end), more.0), more.1)
+    ((((All-from_recursion _ cell.tokens (all_unmap _ placed cell.tokens parts.0)), end), more.0), more.1)
 
 rows_within : {A : Type 0} (len : ℕ) (ts : List PlacedToken) (rows : List (List (Cell A))) (rest : List PlacedToken)
     → RowsFrom ts (placed_cells rows) rest → Within len ts → AllByRecursion (λ row. All (IsWithin len) row) rows
@@ -79,6 +108,6 @@ rows_within len ts (row ∷ rows) rest cut all =
 pub HasRows-within : {A : Type 0} (len : ℕ) (arch : Arch) (tokens : List Token) (threads : ℕ) (rows : List (List (Cell A)))
     → HasRows arch (placed_tokens tokens) threads (placed_cells rows) → All (λ t. t.at ≤ len) tokens → All (λ row. All (IsWithin len) row) rows
 HasRows-within len arch tokens threads rows has all =
-    let each : Within len (placed_tokens tokens) = all_map (λ (t : PlacedToken). t.at ≤ len) placed tokens (each_of tokens (λ (t : Token). t.at ≤ len) all) in
-    let behind = (all_parts (λ (t : PlacedToken). t.at ≤ len) has.front has.behind_header (subst (Within len) has.parts each)).1 in
-    All-from_recursion (λ row. All (IsWithin len) row) rows (rows_within len has.behind_header rows has.behind_rows has.cut behind)
+    let each = all_map _ placed tokens (each_of tokens (λ (t : Token). t.at ≤ len) all) in
+    let behind = (all_parts _ has.front has.behind_header (subst (Within len) has.parts each)).1 in
+    All-from_recursion _ rows (rows_within len has.behind_header rows has.behind_rows has.cut behind)

@@ -3,28 +3,26 @@ use Rattle.std.proofs.Common.{◌≡◌, ℕ, ◌<◌, ◌≤◌, inl, inr, true
 use Rattle.std.proofs.Common.{◌∙◌, subst, arith, length-append, codes, bytes_eq}
 use Rattle.std.specs.List.{AllByRecursion}
 use Rattle.std.proofs.lemmas.Bool.{or_cases}
+use Rattle.lw_base.specs.Refusals.{NoneRead}
 use Rattle.lw_base.specs.Types.{Bytes, TokenList, Cells, CellGrid}
 use Rattle.lw_text.specs.Lists.{Separated, Until}
 use Rattle.lw_text.specs.Rows.{ends_cell, Cell, Row, begins_stop, Rows}
 use Rattle.lw_text.proofs.Texts.{is_text, marks_apart}
-use Rattle.lw_text.proofs.Lists.{Chain-push, Passed, Passed-stop, Passed-peel, Until-unique, Before}
-use Rattle.lw_text.proofs.Lists.{Before-close, Before-fault, IsMark, IsExact, Separated-front}
+use Rattle.lw_text.proofs.Lists.{Chain-push, Passed, Passed-stop, Passed-peel, Until-unique, Before, IsOne}
+use Rattle.lw_text.proofs.Lists.{Before-fault, IsMark, IsExact, Separated-front}
 use Rattle.lw_text.proofs.Lists.{Separated-unique}
 
 abbrev pub Plain : TokenList → Type 0
 Plain c = AllByRecursion (λ t. ends_cell t ≡ false) c
 
 -- up to its first end a row of tokens is read in one way
-split-unique : (w v : TokenList) (a b : Bytes) (r s : TokenList) → Plain w → Plain v → ends_cell a ≡ true → ends_cell b ≡ true → w ++ a ∷ r ≡ v ++ b ∷ s
-    → (w ≡ v) × (a ≡ b) × (r ≡ s)
+split-unique : (w v : TokenList) (a b : Bytes) (r s : TokenList) → Plain w → Plain v → ends_cell a ≡ true
+    → ends_cell b ≡ true → w ++ a ∷ r ≡ v ++ b ∷ s → (w ≡ v) × (a ≡ b) × (r ≡ s)
 split-unique [] [] a b r s p q m n e = (refl, cc, cc)
-split-unique [] (c ∷ v) a b r s p q m n e = absurd (let k : a ≡ c = cc in let h : ends_cell a ≡ ends_cell c = ap ends_cell k in cc (q.0))
-split-unique (c ∷ w) [] a b r s p q m n e = absurd (let k : c ≡ b = cc in let h : ends_cell c ≡ ends_cell b = ap ends_cell k in cc (p.0))
+split-unique [] (c ∷ v) a b r s p q m n e = absurd (let k : a ≡ c = cc in let h = ap ends_cell k in cc (q.0))
+split-unique (c ∷ w) [] a b r s p q m n e = absurd (let k : c ≡ b = cc in let h = ap ends_cell k in cc (p.0))
 split-unique (c ∷ w) (d ∷ v) a b r s p q m n e =
-    let k : c ≡ d = cc in
-    let h : w ++ a ∷ r ≡ v ++ b ∷ s = cc in
-    let both = split-unique w v a b r s p.1 q.1 m n h in
-    let i : w ≡ v = both.0 in
+    let both = split-unique w v a b r s p.1 q.1 m n cc in
     (cc, both.1, both.2)
 
 mark_ends : (a : Bytes) → IsMark Cell (codes "|") (codes ";") a → ends_cell a ≡ true
@@ -34,8 +32,8 @@ mark_ends a (inr e) = ap ends_cell e
 pub Cell-exact : IsExact Cell (codes "|") (codes ";")
 Cell-exact ts x y a b r s m n p q = split-unique x y a b r s p.1 q.1 (mark_ends a m) (mark_ends b n) (sym p.0 ∙ q.0)
 
-pub Row-one : (threads : ℕ) (ts : TokenList) (x y : Cells) (r s : TokenList) → Row threads ts x r → Row threads ts y s → (x ≡ y) × (r ≡ s)
-Row-one threads ts x y r s p q = Separated-unique Cell (codes "|") (codes ";") Cell-exact marks_apart x y ts r s p.0 q.0
+pub Row-one : (threads : ℕ) → IsOne (Row threads)
+Row-one threads ts x y r s p q = Separated-unique Cell _ (codes ";") Cell-exact marks_apart x y ts r s p.0 q.0
 
 -- a mark that is no `;` is a `|`
 pub is_bar : (m : Bytes) → ends_cell m ≡ true → bytes_eq m (codes ";") ≡ false → m ≡ codes "|"
@@ -47,24 +45,16 @@ plain_mark [] m l p e = let h = p.0 in cc
 plain_mark (t ∷ x) m l p e = plain_mark x m l p.1 e
 
 module _ (ts here : TokenList) (cells : Cells) (before : Before Cell (codes "|") (codes ";") ts cells here) where
-  pub Cells-open : Plain here → (all : Cells) (rest : TokenList) → Separated Cell (codes "|") (codes ";") ts all rest → ⊥
+  pub Cells-open : Plain here → NoneRead (Separated Cell (codes "|") (codes ";") ts)
   Cells-open plain all rest row =
-      Before-fault Cell (codes "|") (codes ";") Cell-exact marks_apart cells all ts here rest before
-      (λ zs l s. let f = Separated-front Cell (codes "|") (codes ";") zs here l s in plain_mark f.0 f.1 f.2 (subst Plain f.4.0 plain) (mark_ends f.1 f.3))
-      row
-
-  module _ (cell : TokenList) (mark : Bytes) (next : TokenList) (parts : here ≡ cell ++ mark ∷ next) (plain : Plain cell) where
-    pub Cells-more : mark ≡ codes "|" → Before Cell (codes "|") (codes ";") ts (cells ++ cell ∷ []) next
-    Cells-more e = Chain-push (λ ts x mid. Cell ts x (codes "|" ∷ mid)) cells ts here next cell before (subst (λ m. here ≡ cell ++ m ∷ next) e parts, plain)
-
-    pub Cells-closed : mark ≡ codes ";" → Separated Cell (codes "|") (codes ";") ts (cells ++ cell ∷ []) next
-    Cells-closed e = Before-close Cell (codes "|") (codes ";") cells ts here next cell before (subst (λ m. here ≡ cell ++ m ∷ next) e parts, plain)
+      Before-fault Cell _ _ Cell-exact marks_apart _ all ts _ rest before (λ zs l s. let f = Separated-front
+      Cell _ _ zs here l s in plain_mark f.0 f.1 f.2 (subst Plain f.4.0 plain) (mark_ends f.1 f.3)) row
 
 -- a row of another number of cells is no line
-pub Row-ragged : (ts next : TokenList) (cells : Cells) → Separated Cell (codes "|") (codes ";") ts cells next → (threads : ℕ)
-    → (length cells ≡ threads → ⊥) → (all : Cells) (rest : TokenList) → Row threads ts all rest → ⊥
-Row-ragged ts next cells row threads ne all rest line = ne (ap length
-    (Separated-unique Cell (codes "|") (codes ";") Cell-exact marks_apart cells all ts next rest row line.0).0 ∙ line.1)
+pub Row-ragged : (ts next : TokenList) (cells : Cells) → Separated Cell (codes "|") (codes ";") ts cells next
+    → (threads : ℕ) → (length cells ≡ threads → ⊥) → NoneRead (Row threads ts)
+Row-ragged ts next cells row threads ne all rest line = ne (ap length (Separated-unique Cell (codes "|")
+    (codes ";") Cell-exact marks_apart cells all ts next rest row line.0).0 ∙ line.1)
 
 -- ---- rows
 
@@ -85,7 +75,7 @@ module _ (threads : ℕ) (ts here : TokenList) (rows : CellGrid) (passed : Passe
 
   pub Rows-more : (next : TokenList) (row : Cells) → begins_stop here ≡ false → Row threads here row next
       → Passed begins_stop (Row threads) ts (rows ++ row ∷ []) next
-  Rows-more next row go line = Chain-push (λ ts x mid. (begins_stop ts ≡ false) × Row threads ts x mid) rows ts here next row passed (go, line)
+  Rows-more next row go line = Chain-push _ rows ts here next row passed (go, line)
 
   -- the rows go on with one that stands here
   next_row : begins_stop here ≡ false → (all : CellGrid) (rest : TokenList) → Rows threads ts all rest
@@ -100,12 +90,11 @@ module _ (threads : ℕ) (ts here : TokenList) (rows : CellGrid) (passed : Passe
       at (row ∷ more) e u = (row, more, u.1.0, e, u.1.1)
 
   -- where no row stands and none may end, there are no rows
-  pub Rows-fault : begins_stop here ≡ false → ((row : Cells) (mid : TokenList) → Row threads here row mid → ⊥) → (all : CellGrid) (rest : TokenList)
-      → Rows threads ts all rest → ⊥
+  pub Rows-fault : begins_stop here ≡ false → NoneRead (Row threads here) → NoneRead (Rows threads ts)
   Rows-fault go never all rest r = let k = next_row go all rest r in never k.0 k.2 k.4
 
-  pub Rows-many : begins_stop here ≡ false → length rows ≡ 64 → (all : CellGrid) (rest : TokenList) → Rows threads ts all rest → ⊥
+  pub Rows-many : begins_stop here ≡ false → length rows ≡ 64 → NoneRead (Rows threads ts)
   Rows-many go full all rest r = let k = next_row go all rest r in omega (arith, ap length k.3, length-append rows (k.0 ∷ k.1), r.1)
 
 pub Rows-unique : (threads : ℕ) (ts a b : TokenList) (x y : CellGrid) → Rows threads ts x a → Rows threads ts y b → (x ≡ y) × (a ≡ b)
-Rows-unique threads ts a b x y p q = Until-unique begins_stop (Row threads) (Row-one threads) x y ts a b p.0 q.0
+Rows-unique threads ts a b x y p q = Until-unique begins_stop _ (Row-one threads) x y ts a b p.0 q.0

@@ -14,18 +14,18 @@ Closes (suc n) text rest = (mid : Bytes) × Comment text mid × Closes n mid res
 -- how a comment goes on behind a `(*`, behind a `*)`, and behind another byte
 at_open : {ts rest : Bytes} → Comment ts rest → (text : Bytes) → ts ≡ 40 ∷ 42 ∷ text → (inner : Bytes) × Comment text inner × Comment inner rest
 at_open closed text e = absurd (let h : false ≡ true = ap (begins_pair 40 42) e in cc)
-at_open (nested {text = t} {inner} c d) text e = (inner, subst (λ x. Comment x inner) (let k : t ≡ text = cc in k) c, d)
-at_open (other {b} {text = t} m c) text e = absurd (let h : begins_mark (b ∷ t) ≡ true = ap begins_mark e in cc)
+at_open (nested {text = t} {inner} c d) text e = (inner, rw (let k : t ≡ text = cc in k) at c, d)
+at_open (other {b} {text = t} m c) text e = absurd (let h = ap begins_mark e in cc)
 
 at_close : {ts rest : Bytes} → Comment ts rest → (text : Bytes) → ts ≡ 42 ∷ 41 ∷ text → text ≡ rest
 at_close closed text e = cc
 at_close (nested c d) text e = absurd (let h : true ≡ false = ap (begins_pair 40 42) e in cc)
-at_close (other {b} {text = t} m c) text e = absurd (let h : begins_mark (b ∷ t) ≡ true = ap begins_mark e in cc)
+at_close (other {b} {text = t} m c) text e = absurd (let h = ap begins_mark e in cc)
 
 at_other : {ts rest : Bytes} → Comment ts rest → (b : ℕ) (text : Bytes) → ts ≡ b ∷ text → begins_mark (b ∷ text) ≡ false → Comment text rest
 at_other closed b text e m = absurd (let h : true ≡ begins_mark (b ∷ text) = ap begins_mark e in cc)
 at_other (nested c d) b text e m = absurd (let h : true ≡ begins_mark (b ∷ text) = ap begins_mark e in cc)
-at_other {rest = rest} (other {text = t} n c) b text e m = subst (λ x. Comment x rest) (let k : t ≡ text = cc in k) c
+at_other {rest = rest} (other {text = t} n c) b text e m = rw (let k : t ≡ text = cc in k) at c
 
 -- a comment ends at one place
 pub Comment-unique : {text a b : Bytes} → Comment text a → Comment text b → a ≡ b
@@ -49,28 +49,28 @@ pub record Progress (bytes : Bytes) (depth : ℕ) (rest : Bytes) : Type 0 where
   pub only : (end : Bytes) → Comment bytes end → Closes (suc depth) rest end
   pub bound : depth + length rest ≤ length bytes
 
-pub Progress-open : {bytes rest after : Bytes} {depth : ℕ} → Progress bytes depth rest → rest ≡ 40 ∷ 42 ∷ after → Progress bytes (depth + 1) after
-Progress-open {bytes} {rest} {after} {depth} p e = rw add-one (record {
+pub Progress_open : {bytes rest after : Bytes} {depth : ℕ} → Progress bytes depth rest → rest ≡ 40 ∷ 42 ∷ after → Progress bytes (depth + 1) after
+Progress_open {bytes} {rest} {after} {depth} p e = rw add-one (record {
   given = λ end c. p.given end (let d = c.2 in (d.0, rw e (nested c.1 d.1), d.2));
   only = λ end c. let d = p.only end c in let o = at_open d.1 after e in (o.0, o.1, (d.0, o.2, d.2));
   bound = omega (arith, p.bound, ap length e);
 })
 
-pub Progress-close : {bytes rest after : Bytes} {depth : ℕ} → Progress bytes depth rest → rest ≡ 42 ∷ 41 ∷ after → (depth ≡ 0 → ⊥)
-    → Progress bytes (depth - 1) after
-Progress-close {depth = zero} p e ne = absurd (ne refl)
-Progress-close {bytes} {rest} {after} {depth = suc depth} p e ne = rw sub-one (record {
+pub Progress_close : {bytes rest after : Bytes} {depth : ℕ} → Progress bytes depth rest
+    → rest ≡ 42 ∷ 41 ∷ after → (depth ≡ 0 → ⊥) → Progress bytes (depth - 1) after
+Progress_close {depth = zero} p e ne = absurd (ne refl)
+Progress_close {bytes} {rest} {after} {depth = suc depth} p e ne = rw sub-one (record {
   given = λ end c. p.given end (after, rw e closed, c);
-  only = λ end c. let d = p.only end c in let o = at_close d.1 after e in subst (λ x. Closes (suc depth) x end) (sym o) d.2;
+  only = λ end c. let d = p.only end c in let o = at_close d.1 after e in rw (← o) at d.2;
   bound = omega (arith, p.bound, ap length e);
 })
 
-pub Progress-done : {bytes rest after : Bytes} {depth : ℕ} → Progress bytes depth rest → rest ≡ 42 ∷ 41 ∷ after → depth ≡ 0 → Comment bytes after
-Progress-done {bytes} {rest} {after} {depth} p e z = p.given after (after, rw e closed, rw z refl)
+pub Progress_done : {bytes rest after : Bytes} {depth : ℕ} → Progress bytes depth rest → rest ≡ 42 ∷ 41 ∷ after → depth ≡ 0 → Comment bytes after
+Progress_done {bytes} {rest} {after} {depth} p e z = p.given after (after, rw e closed, rw z refl)
 
-pub Progress-other : {bytes rest next : Bytes} {depth b : ℕ} → Progress bytes depth rest → rest ≡ b ∷ next → begins_pair 40 42 rest ≡ false
-    → begins_pair 42 41 rest ≡ false → Progress bytes depth next
-Progress-other {bytes} {rest} {next} {depth} {b} p e m n =
+pub Progress_other : {bytes rest next : Bytes} {depth b : ℕ} → Progress bytes depth rest → rest ≡ b ∷ next
+    → begins_pair 40 42 rest ≡ false → begins_pair 42 41 rest ≡ false → Progress bytes depth next
+Progress_other {bytes} {rest} {next} {depth} {b} p e m n =
     let mark : begins_mark (b ∷ next) ≡ false = subst (λ x. begins_mark x ≡ false) e (no_mark rest m n) in
     record {
       given = λ end c. p.given end (c.0, rw e (other mark c.1), c.2);
@@ -82,3 +82,4 @@ pub Comment-suffix : {text rest : Bytes} → Comment text rest → Leaves text r
 Comment-suffix closed = (42 ∷ 41 ∷ [], refl)
 Comment-suffix (nested c d) = Leaves-join (40 ∷ 42 ∷ [], refl) (Leaves-join (Comment-suffix c) (Comment-suffix d))
 Comment-suffix (other {b} m c) = Leaves-join (b ∷ [], refl) (Comment-suffix c)
+

@@ -11,8 +11,6 @@ Names-unique k (suc zero) (suc zero) ts r s p q = (refl, cc)
 Names-unique k (suc zero) (suc (suc n)) ts r s p q = absurd (let f = q.1 in marks_apart (let i : codes "|" ≡ codes ";" = cc in i))
 Names-unique k (suc (suc m)) (suc zero) ts r s p q = absurd (let f = p.1 in marks_apart (let i : codes "|" ≡ codes ";" = cc in i))
 Names-unique k (suc (suc m)) (suc (suc n)) ts r s p q =
-    let f = p.1 in
-    let g = q.1 in
     let i : q.0 ≡ p.0 = cc in
     let e = Names-unique (suc k) (suc m) (suc n) p.0 r s p.2 (subst (λ l. Names (suc k) (suc n) l s) i q.2) in
     (ap suc e.0, e.1)
@@ -36,11 +34,13 @@ module _ (start here : TokenList) (k : ℕ) (p : NamesTo start k here) where
   module _ (l : TokenList) (e : here ≡ thread_name k ∷ l) where
     pub Names-more : (next : TokenList) → l ≡ codes "|" ∷ next → NamesTo start (k + 1) next
     Names-more next f = rw add-one (record {
-      given = λ m rest h. subst (λ x. Names 0 x start rest) (let i : k + suc (suc m) ≡ suc k + suc m = omega arith in i)
-          (p.given (suc m) rest (next, e ∙ ap (λ x. thread_name k ∷ x) f, h));
+      given = λ m rest h. subst (λ x. Names 0 x start rest) (let i : k + suc (suc m) ≡ suc k + suc m = omega
+          arith in i) (p.given (suc m) rest (next, e ∙ ap (λ x. thread_name k ∷ x) f, h));
       only = λ n rest h. let o = p.only n rest h in at n rest o.0 o.1 o.2;
     })
       where
         at : (n : ℕ) (rest : TokenList) (m : ℕ) → n ≡ k + suc m → Names k (suc m) here rest → (j : ℕ) × (n ≡ suc k + suc j) × Names (suc k) (suc j) next rest
         at n rest zero i q = absurd (marks_apart (let j : codes "|" ≡ codes ";" = cc in j))
-        at n rest (suc m) i q = let g = q.1 in let j : q.0 ≡ next = cc in (m, omega (arith, i), subst (λ x. Names (suc k) (suc m) x rest) j q.2)
+        at n rest (suc m) i q = let g = q.1 in let j : q.0 ≡ next = cc in (m, omega (arith, i), rw j at q.2)
+
+pub ruleset names_read = (NamesTo-start, Names-more)

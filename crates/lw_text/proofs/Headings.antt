@@ -1,10 +1,11 @@
 -- The word of a language, blanks, a test's name and its notes are read in one way.
-use Rattle.std.proofs.Common.{◌≡◌, ℕ, ◌<◌, inl, inr, true, false, not, [], ◌∷◌, ◌++◌, refl, sym, ap, ◌∙◌}
+use Rattle.std.proofs.Common.{◌≡◌, ℕ, ◌<◌, true, false, not, [], ◌∷◌, ◌++◌, refl, sym, ap, ◌∙◌}
 use Rattle.std.proofs.Common.{subst, arith, codes, slice_index_or}
 use Rattle.std.proofs.lemmas.Bool.Decides.{nat_tests}
 use Rattle.std.specs.List.{AllByRecursion}
 use Rattle.std.specs.Char.{is_ascii_graphic}
-use Rattle.std.proofs.lemmas.Bool.{not-true, cases_Bool}
+use Rattle.std.proofs.lemmas.Bool.{not-true, false_from_ne_true}
+use Rattle.lw_base.specs.Refusals.{NoSuch, NoneRead}
 use Rattle.lw_base.specs.Types.{Bytes}
 use Rattle.lw_base.specs.declared.head.Arch.{Arch}
 use Rattle.lw_base.specs.declared.head.Arch.TheVariants.{Source, X86}
@@ -23,11 +24,8 @@ abbrev Plain : Bytes → Type 0
 Plain name = AllByRecursion (λ b. not (is_blank b) ≡ true) name
 
 graphic_no_blank : (b : ℕ) → is_ascii_graphic b ≡ true → is_blank b ≡ false
-graphic_no_blank b h = elim (cases_Bool (is_blank b)) [
-  | inl e ↦ absurd
-      (let k = not-true (is_ascii_graphic b) (blank_all (λ x. not (is_ascii_graphic x)) b refl e) in cc)
-  | inr e ↦ e
-]
+graphic_no_blank b h =
+    false_from_ne_true (is_blank b) (λ e. let k = not-true (is_ascii_graphic b) (blank_all (λ x. not (is_ascii_graphic x)) b refl e) in cc)
 
 graphic_plain : (name : Bytes) → AllByRecursion (λ b. is_ascii_graphic b ≡ true) name → Plain name
 graphic_plain [] all = tt
@@ -38,11 +36,12 @@ name_front [] rest h = absurd (let k = h.some in omega arith)
 name_front (b ∷ name) rest h = graphic_no_blank b h.all.0
 
 -- what a text's name and its neighbours are, where it was taken apart at the blanks
-module _ (text space after name rest : Bytes) (e : text ≡ space ++ after) (blank : AllByRecursion (λ b. is_blank b ≡ true) space)
-    (stop : begins is_blank after ≡ false) (f : after ≡ name ++ rest) (plain : Plain name) (longest : begins (λ b. not (is_blank b)) rest ≡ false) where
+module _ (text space after name rest : Bytes) (e : text ≡ space ++ after) (blank : AllByRecursion
+    (λ b. is_blank b ≡ true) space) (stop : begins is_blank after ≡ false) (f : after ≡ name ++ rest)
+    (plain : Plain name) (longest : begins (λ b. not (is_blank b)) rest ≡ false) where
   pub Named-parts : (n r : Bytes) → (p : Named text n r) → (p.blanks ≡ space) × (n ≡ name) × (r ≡ rest)
   Named-parts n r p =
-      let outer = run-unique is_blank p.blanks (n ++ r) space after p.blank blank (name_front n r p.is_name) stop (sym p.parts ∙ e) in
+      let outer = run-unique _ _ _ _ after p.blank blank (name_front n r p.is_name) stop (sym p.parts ∙ e) in
       let inner = run-unique (λ b. not (is_blank b)) n r name rest (graphic_plain n p.is_name.all) plain p.longest longest (outer.1 ∙ f) in
       (outer.0, inner.0, inner.1)
 
@@ -57,13 +56,12 @@ arch_word-unique X86 Source e = absurd (is_no_text (codes "X86") (codes "SRC") r
 arch_word-unique _ _ e = refl
 
 -- where no name stands behind the word there is no heading
-pub no_named : (text mid : Bytes) (arch : Arch) → First text (arch_word arch) mid → ((n r : Bytes) → Named mid n r → ⊥) → (a : Arch) (n r : Bytes)
-    → Heading text a n r → ⊥
+pub no_named : (text mid : Bytes) (arch : Arch) → First text (arch_word arch) mid → NoneRead (Named mid) → (a : Arch) → NoneRead (Heading text a)
 no_named text mid arch word never a n r p = never n p.1 (subst (λ x. Named x n p.1) (First-unique text (arch_word a) p.0 (arch_word arch) mid p.2 word).1 p.3)
 
 -- nor where the notes behind the name don't come to a `{`
-pub no_notes : (text mid name after : Bytes) (arch : Arch) → First text (arch_word arch) mid → Named mid name after → ((r : Bytes) → Notes after r → ⊥)
-    → (a : Arch) (n r : Bytes) → Heading text a n r → ⊥
+pub no_notes : (text mid name after : Bytes) (arch : Arch) → First text (arch_word arch) mid
+    → Named mid name after → NoSuch (Notes after) → (a : Arch) → NoneRead (Heading text a)
 no_notes text mid name after arch word named never a n r p =
     let e = (First-unique text (arch_word a) p.0 (arch_word arch) mid p.2 word).1 in
     let f = (Named-unique mid n p.1 name after (subst (λ x. Named x n p.1) e p.3) named).1 in
@@ -81,3 +79,5 @@ graphic_ascii b is = grind (arith, nat_tests)
 
 pub name_ascii : (name : Bytes) → IsTestName name → (i : ℕ) → slice_index_or name i 0 < 128
 name_ascii name is = all_ascii is_ascii_graphic graphic_ascii name is.all
+
+pub ruleset headings_read = (no_named, no_notes, Named-parts, name_ascii)

@@ -1,8 +1,13 @@
 -- Lists that are written out are read in one way.
 use Rattle.std.proofs.Common.{◌≡◌, ◌⊎◌, inl, inr, Bool, true, false, List, [], ◌∷◌, ◌++◌, refl, sym, ap, ◌∙◌}
 use Rattle.std.proofs.Common.{subst, append_assoc}
+use Rattle.lw_base.specs.Refusals.{NoneRead}
 use Rattle.lw_text.specs.Lists.{Chain, Separated, Until, Ended}
 use Rattle.lw_text.specs.Spans.{Leaves}
+
+-- what stands first is read in one way
+abbrev pub IsOne : {T X : Type 0} → (List T → X → List T → Type 0) → Type 0
+IsOne {T} {X} P = (ts : List T) (x y : X) (r s : List T) → P ts x r → P ts y s → (x ≡ y) × (r ≡ s)
 
 -- what is left of what is left of a list is left of it
 pub Leaves-join : {X : Type 0} {a b c : List X} → Leaves a b → Leaves b c → Leaves a c
@@ -57,7 +62,6 @@ module _ {T X : Type 0} (P : List T → X → List T → Type 0) (sep close : T)
     Separated-behind rest ts mid x (y ∷ []) p s = absurd (apart (exact ts x y sep close mid rest (inl refl) (inr refl) p s).1)
     Separated-behind rest ts mid x (y ∷ v ∷ ys) p s =
         let e = exact ts x y sep sep mid s.0 (inl refl) (inl refl) p s.1 in
-        let k : x ≡ y = e.0 in
         (v ∷ ys, cc, subst (λ l. Separated P sep close l (v ∷ ys) rest) (sym e.2) s.2)
 
     pub Separated-unique : (xs ys : List X) (ts r s : List T) → Separated P sep close ts xs r → Separated P sep close ts ys s → (xs ≡ ys) × (r ≡ s)
@@ -71,10 +75,10 @@ module _ {T X : Type 0} (P : List T → X → List T → Type 0) (sep close : T)
         (ap (λ l. x ∷ l) h.0 ∙ sym k.1, h.1)
 
     -- where the rest is no list, the whole is none
-    pub Before-fault : (xs ys : List X) (ts here rest : List T) → Before ts xs here → ((zs : List X) (l : List T) → Separated P sep close here zs l → ⊥)
-        → Separated P sep close ts ys rest → ⊥
+    pub Before-fault : (xs ys : List X) (ts here rest : List T) → Before ts xs here
+        → NoneRead (Separated P sep close here) → Separated P sep close ts ys rest → ⊥
     Before-fault xs ys ts here rest b never s =
-        let p = Chain-peel (λ ts x mid. P ts x (sep ∷ mid)) (λ l zs. Separated P sep close l zs rest) (Separated-behind rest) xs ys ts here b s in
+        let p = Chain-peel (λ ts x mid. P ts x (sep ∷ mid)) _ (Separated-behind rest) xs ys ts here b s in
         never p.0 rest p.2
 
 -- ---- up to a stop
@@ -88,17 +92,13 @@ module _ {T X : Type 0} (stop : List T → Bool) (P : List T → X → List T �
   Passed-stop [] ts here b h = (b, ap stop b ∙ h)
   Passed-stop (y ∷ xs) ts here b h = (b.1.0, (b.0, b.1.1, Passed-stop xs b.0 here b.2 h))
 
-  abbrev pub IsOne : Type 0
-  IsOne = (ts : List T) (x y : X) (r s : List T) → P ts x r → P ts y s → (x ≡ y) × (r ≡ s)
-
-  module _ (one : IsOne) where
+  module _ (one : IsOne P) where
     -- the lines behind one of them
-    Until-behind : (rest ts mid : List T) (x : X) (ys : List X) → (stop ts ≡ false) × P ts x mid → Until stop P ts ys rest
-        → (more : List X) × (ys ≡ x ∷ more) × Until stop P mid more rest
+    Until-behind : (rest ts mid : List T) (x : X) (ys : List X) → (stop ts ≡ false) × P ts x mid
+        → Until stop P ts ys rest → (more : List X) × (ys ≡ x ∷ more) × Until stop P mid more rest
     Until-behind rest ts mid x [] p s = let h = s.1 in let k = p.0 in absurd cc
     Until-behind rest ts mid x (y ∷ ys) p s =
         let e = one ts x y mid s.1.0 p.1 s.1.1 in
-        let k : x ≡ y = e.0 in
         (ys, cc, subst (λ l. Until stop P l ys rest) (sym e.1) s.1.2)
 
     pub Until-unique : (xs ys : List X) (ts r s : List T) → Until stop P ts xs r → Until stop P ts ys s → (xs ≡ ys) × (r ≡ s)
@@ -112,8 +112,7 @@ module _ {T X : Type 0} (stop : List T → Bool) (P : List T → X → List T �
     -- what all lines are is what has been read and what the rest is
     pub Passed-peel : (xs ys : List X) (ts here rest : List T) → Passed ts xs here → Until stop P ts ys rest
         → (more : List X) × (ys ≡ xs ++ more) × Until stop P here more rest
-    Passed-peel xs ys ts here rest b s =
-        Chain-peel (λ ts x mid. (stop ts ≡ false) × P ts x mid) (λ l zs. Until stop P l zs rest) (Until-behind rest) xs ys ts here b s
+    Passed-peel xs ys ts here rest b s = Chain-peel _ _ (Until-behind rest) xs ys ts here b s
 
 -- ---- with an end behind each
 
@@ -132,25 +131,21 @@ module _ {T X : Type 0} (P : List T → X → List T → Type 0) (sep close : T)
   Listing-end (y ∷ xs) ts here rest b e = (b.1.0, b.1.1, inr (b.0, b.1.2, Listing-end xs b.0 here rest b.2 e))
 
   -- or behind an element
-  pub Listing-last : (xs : List X) (ts here mid rest : List T) (x : X) → Listing ts xs here → P here x mid → mid ≡ close ∷ rest
-      → Ended P sep close ts (xs ++ x ∷ []) rest
+  pub Listing-last : (xs : List X) (ts here mid rest : List T) (x : X) → Listing ts xs here → P here x mid
+      → mid ≡ close ∷ rest → Ended P sep close ts (xs ++ x ∷ []) rest
   Listing-last [] ts here mid rest x b p e = (mid, subst (λ l. P l x mid) (sym b) p, inl (refl, e))
   Listing-last (y ∷ xs) ts here mid rest x b p e = (b.1.0, b.1.1, inr (b.0, b.1.2, Listing-last xs b.0 here mid rest x b.2 p e))
 
-  module _ (one : (ts : List T) (x y : X) (r s : List T) → P ts x r → P ts y s → (x ≡ y) × (r ≡ s)) (apart : sep ≡ close → ⊥)
-      (unlike : (ts r l : List T) (x : X) → ts ≡ close ∷ l → P ts x r → ⊥) where
+  module _ (one : IsOne P) (apart : sep ≡ close → ⊥) (unlike : (ts r l : List T) (x : X) → ts ≡ close ∷ l → P ts x r → ⊥) where
     -- the list behind one of its elements and a separator
-    Ended-behind : (rest ts next : List T) (x : X) (ys : List X) → Listed ts x next → Ended P sep close ts ys rest
-        → (more : List X) × (ys ≡ x ∷ more) × Ended P sep close next more rest
+    Ended-behind : (rest ts next : List T) (x : X) (ys : List X) → Listed ts x next
+        → Ended P sep close ts ys rest → (more : List X) × (ys ≡ x ∷ more) × Ended P sep close next more rest
     Ended-behind rest ts next x [] p s = absurd (unlike ts p.0 rest x s p.1)
     Ended-behind rest ts next x (y ∷ ys) p s =
         let e = one ts x y p.0 s.0 p.1 s.1 in
-        let k : x ≡ y = e.0 in
-        let m = e.1 in
-        let c = p.2 in
         elim s.2 [
           | inl f ↦ absurd (let d = f.1 in apart cc)
-          | inr f ↦ let d = f.1 in let n : f.0 ≡ next = cc in (ys, cc, subst (λ l. Ended P sep close l ys rest) n f.2)
+          | inr f ↦ let d = f.1 in let n : f.0 ≡ next = cc in (ys, cc, rw n at f.2)
         ]
 
     pub Ended-unique : (xs ys : List X) (ts r s : List T) → Ended P sep close ts xs r → Ended P sep close ts ys s → (xs ≡ ys) × (r ≡ s)
@@ -161,10 +156,6 @@ module _ {T X : Type 0} (P : List T → X → List T → Type 0) (sep close : T)
         elim p.2 [
           | inl f ↦
               let e = one ts x y p.0 q.0 p.1 q.1 in
-              let k : x ≡ y = e.0 in
-              let m = e.1 in
-              let c = f.1 in
-              let a = f.0 in
               elim q.2 [
                 | inl g ↦ let b = g.0 in let d = g.1 in (cc, cc)
                 | inr g ↦ absurd (let d = g.1 in apart cc)
@@ -178,7 +169,7 @@ module _ {T X : Type 0} (P : List T → X → List T → Type 0) (sep close : T)
     -- what all elements are is what has been read and what the rest is
     Listing-peel : (xs ys : List X) (ts here rest : List T) → Listing ts xs here → Ended P sep close ts ys rest
         → (more : List X) × (ys ≡ xs ++ more) × Ended P sep close here more rest
-    Listing-peel xs ys ts here rest b s = Chain-peel Listed (λ l zs. Ended P sep close l zs rest) (Ended-behind rest) xs ys ts here b s
+    Listing-peel xs ys ts here rest b s = Chain-peel Listed _ (Ended-behind rest) xs ys ts here b s
 
     -- where neither the end nor an element stands, the whole is no list
     pub Listing-here : (xs ys : List X) (ts here rest : List T) → Listing ts xs here → (here ≡ close ∷ rest → ⊥)

@@ -29,13 +29,13 @@ there_at [] t h = absurd cc
 there_at (y ∷ names) t h =
     elim (cases_Bool (bytes_eq y t)) [
       | inl e ↦ rw e (ap Some ((bytes_eq-Decides y t).0 e))
-      | inr e ↦ let k : contains_name names t ≡ true = rw e at h in rw e
-          (subst (λ i. slice_get (y ∷ names) i ≡ Some t) (let j : suc (index_of names t) ≡ 1 + index_of names t = omega arith in j) (there_at names t k))
+      | inr e ↦ let k = rw e at h in rw e (subst (λ i. slice_get (y ∷ names) i ≡ Some t)
+          (let j : suc (index_of names t) ≡ 1 + index_of names t = omega arith in j) (there_at names t k))
     ]
 
 -- a name that appeared stands at its place
 pub appeared_at : (before after : NameTable) (loc : ℕ) (t : Bytes) → after ≡ with_name before t → loc ≡ index_of after t → slice_get after loc ≡ Some t
-appeared_at before after loc t e f = rw (f, e) (there_at (with_name before t) t (contains_name-with_name before t))
+appeared_at before after loc t e f = rw (f, e) (there_at _ t (contains_name-with_name before t))
 
 -- the location at a place, by its name
 pub named-at : (names : NameTable) (loc : ℕ) (t : Bytes) → slice_get names loc ≡ Some t → named names (made.Location loc) ≡ InMemory t
@@ -60,8 +60,8 @@ in-along : (names ns : NameTable) (s : Site) → IsIn names s → IsIn (with_nam
 in-along names ns s h = omega (arith, h, with_names-longer names ns)
 
 -- lists of what stands on sites
-module _ {X Y : Type 0} (site : X → Site) (at : TokenList → X → Y)
-    (stable : (names ns : NameTable) (x : X) → IsIn names (site x) → at (with_names names ns) x ≡ at names x) where
+module _ {X Y : Type 0} (site : X → Site) (at : TokenList → X → Y) (stable : (names ns : NameTable) (x : X)
+    → IsIn names (site x) → at (with_names names ns) x ≡ at names x) where
   pub all_along : (names after ns : NameTable) (xs : List X) → after ≡ with_names names ns → AllByRecursion (λ x. IsIn names (site x)) xs
       → (map (at after) xs ≡ map (at names) xs) × AllByRecursion (λ x. IsIn after (site x)) xs
   all_along names after ns [] e h = (refl, tt)
@@ -81,16 +81,17 @@ resolved-named names (made.Location loc) once h = ap (λ (l : ℕ). seen.Locatio
     (index_of-at names (get_or names loc []) loc once (slice_get-get_or names loc [] h))
 resolved-named names (made.Register t r) once h = refl
 
-words-step : (names : NameTable) (es : List Entry) (s : Seen) (w : ℕ) → EachOnce names → AllByRecursion (λ e. IsIn names e.site) es
-    → fold (λ w e. if same_seen (seen_in names e.site) s then e.word else w) w (map (named_entry names) es) ≡ fold
-    (λ w e. if same_seen (seen_of e.site) s then e.word else w) w es
+words-step : (names : NameTable) (es : List Entry) (s : Seen) (w : ℕ) → EachOnce names
+    → AllByRecursion (λ e. IsIn names e.site) es
+    → fold (λ w e. if same_seen (seen_in names e.site) s then e.word else w) w (map (named_entry names) es)
+    ≡ fold (λ w e. if same_seen (seen_of e.site) s then e.word else w) w es
 words-step names [] s w once h = refl
 words-step names (e ∷ es) s w once h =
-    words-step names es s (if same_seen (seen_in names (named names e.site)) s then e.word else w) once h.1
-    ∙ ap (λ x. fold (λ w e. if same_seen (seen_of e.site) s then e.word else w) (if same_seen x s then e.word else w) es) (resolved-named names e.site once h.0)
+    words-step names es s _ once h.1 ∙ ap (λ x. fold (λ w e. if same_seen (seen_of e.site) s then e.word else
+    w) (if same_seen x s then e.word else w) es) (resolved-named names e.site once h.0)
 
-pub words-named : (names : NameTable) (es : List Entry) (s : Seen) → EachOnce names → AllByRecursion (λ e. IsIn names e.site) es
-    → word_of names (map (named_entry names) es) s ≡ word_at es s
+pub words-named : (names : NameTable) (es : List Entry) (s : Seen) → EachOnce names
+    → AllByRecursion (λ e. IsIn names e.site) es → word_of names (map (named_entry names) es) s ≡ word_at es s
 words-named names es s once h = words-step names es s 0 once h
 
 pub listed-named : (names : NameTable) (sites : List Site) (s : Seen) → EachOnce names → AllByRecursion (IsIn names) sites

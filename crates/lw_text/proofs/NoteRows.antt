@@ -3,6 +3,7 @@ use Rattle.std.proofs.Common.{◌≡◌, ℕ, ◌<◌, ◌≤◌, inl, inr, Bool
 use Rattle.std.proofs.Common.{length-append, append_assoc, refl, sym, ap, ◌∙◌, subst, arith, ◌==◌, eqb-true}
 use Rattle.std.specs.List.{AllByRecursion, list_all}
 use Rattle.std.proofs.lemmas.Bool.{not-true, not-false}
+use Rattle.lw_base.specs.Refusals.{NoSuch}
 use Rattle.lw_base.specs.Types.{Bytes}
 use Rattle.lw_base.specs.Characters.{begins, is_key_byte, is_space}
 use Rattle.lw_text.specs.Tokens.{begins_trivia, Trivia}
@@ -21,21 +22,21 @@ abbrev pub Without : ℕ → Bytes → Type 0
 Without c bytes = AllByRecursion (λ b. not (b == c) ≡ true) bytes
 
 without : (c : ℕ) (bytes : Bytes) → AllByRecursion (λ b. (b == c) ≡ false) bytes → Without c bytes
-without c bytes all = all_weaker (λ b. (b == c) ≡ false) (λ b. not (b == c) ≡ true) (λ b e. ap not e) bytes all
+without c bytes all = all_weaker (λ b. (b == c) ≡ false) _ (λ b e. ap not e) bytes all
 
 with_none : (c : ℕ) (bytes : Bytes) → Without c bytes → AllByRecursion (λ b. (b == c) ≡ false) bytes
-with_none c bytes all = all_weaker (λ b. not (b == c) ≡ true) (λ b. (b == c) ≡ false) (λ b e. not-true (b == c) e) bytes all
+with_none c bytes all = all_weaker _ (λ b. (b == c) ≡ false) (λ b e. not-true (b == c) e) bytes all
 
 -- what a text's quote is, where it was taken apart at the quotes
-module _ (text inside quoted rest : Bytes) (e : text ≡ 34 ∷ inside) (f : inside ≡ quoted ++ rest) (all : Without 34 quoted)
-    (longest : begins (λ b. not (b == 34)) rest ≡ false) where
+module _ (text inside quoted rest : Bytes) (e : text ≡ 34 ∷ inside) (f : inside ≡ quoted ++ rest)
+    (all : Without 34 quoted) (longest : begins (λ b. not (b == 34)) rest ≡ false) where
   pub Quoted-rest : (end : Bytes) → Quoted text end → rest ≡ 34 ∷ end
   Quoted-rest end q =
       let p = q.parts in
       let g : q.inside ++ 34 ∷ end ≡ inside = cc in
-      sym (run-unique (λ b. not (b == 34)) q.inside (34 ∷ end) quoted rest (without 34 q.inside q.plain) all refl longest (g ∙ f)).1
+      sym (run-unique _ q.inside _ quoted rest (without 34 q.inside q.plain) all refl longest (g ∙ f)).1
 
-  pub Quoted-open : rest ≡ [] → (end : Bytes) → Quoted text end → ⊥
+  pub Quoted-open : rest ≡ [] → NoSuch (Quoted text)
   Quoted-open gone end q = let k = Quoted-rest end q in cc
 
   pub Quoted-made : (b : ℕ) (after : Bytes) → rest ≡ b ∷ after → Quoted text after
@@ -82,16 +83,15 @@ module _ (text key rest spaces left : Bytes) (e : text ≡ key ++ rest) (all : K
     (f : rest ≡ spaces ++ left) (spaced : Spaces spaces) (stop : begins is_space left ≡ false) where
   pub KeyLine-parts : (end : Bytes) → (p : KeyLine text end) → (p.key ≡ key) × (left ≡ 61 ∷ p.value ++ end)
   KeyLine-parts end p =
-      let outer = run-unique is_key_byte p.key (p.spaces ++ 61 ∷ (p.value ++ end)) key rest p.all all
-      (behind_key p.spaces (p.value ++ end) p.spaced) longest (sym (line_parts p.key p.spaces p.value end) ∙ sym p.parts ∙ e) in
-      let inner = run-unique is_space p.spaces (61 ∷ (p.value ++ end)) spaces left p.spaced spaced refl stop (outer.1 ∙ f) in
-      (outer.0, sym inner.1)
+      let outer = run-unique is_key_byte p.key _ key rest p.all all (behind_key p.spaces (p.value ++ end)
+          p.spaced) longest (sym (line_parts p.key p.spaces p.value end) ∙ sym p.parts ∙ e) in
+      (outer.0, sym (run-unique is_space p.spaces _ spaces left p.spaced spaced refl stop (outer.1 ∙ f)).1)
 
-  pub no_equals : begins (λ b. b == 61) left ≡ false → (end : Bytes) → KeyLine text end → ⊥
+  pub no_equals : begins (λ b. b == 61) left ≡ false → NoSuch (KeyLine text)
   no_equals other end p = let k = KeyLine-parts end p in let h = ap (begins (λ b. b == 61)) k.1 in cc
 
-  pub KeyLine-made : (more value end : Bytes) → 0 < length key → left ≡ 61 ∷ more → more ≡ value ++ end → Without 10 value
-      → begins (λ b. not (b == 10)) end ≡ false → KeyLine text end
+  pub KeyLine-made : (more value end : Bytes) → 0 < length key → left ≡ 61 ∷ more → more ≡ value ++ end
+      → Without 10 value → begins (λ b. not (b == 10)) end ≡ false → KeyLine text end
   KeyLine-made more value end some g h one last = record {
     key = key;
     spaces = spaces;
@@ -106,11 +106,9 @@ module _ (text key rest spaces left : Bytes) (e : text ≡ key ++ rest) (all : K
 
 pub KeyLine-unique : (text a b : Bytes) → KeyLine text a → KeyLine text b → a ≡ b
 KeyLine-unique text a b p q =
-    let k = KeyLine-parts text q.key (q.spaces ++ 61 ∷ (q.value ++ b)) q.spaces (61 ∷ (q.value ++ b))
-    (q.parts ∙ line_parts q.key q.spaces q.value b) q.all (behind_key q.spaces (q.value ++ b) q.spaced) refl q.spaced refl a p in
-    let e = k.1 in
-    let f : p.value ++ a ≡ q.value ++ b = cc in
-    (run-unique (λ x. not (x == 10)) p.value a q.value b (without 10 p.value p.one_line) (without 10 q.value q.one_line) p.longest q.longest f).1
+    let k = KeyLine-parts text q.key (q.spaces ++ 61 ∷ (q.value ++ b)) q.spaces (61 ∷ (q.value ++ b)) (q.parts
+        ∙ line_parts q.key _ q.value b) q.all (behind_key q.spaces _ q.spaced) refl q.spaced refl a p in
+    (run-unique _ _ a _ b (without 10 _ p.one_line) (without 10 q.value q.one_line) p.longest q.longest cc).1
 
 key_front : (key more : Bytes) → 0 < length key → Keys key → begins is_key_byte (key ++ more) ≡ true
 key_front [] more some all = absurd (omega (arith, some))
@@ -122,7 +120,7 @@ KeyLine-front text end p =
     ap (begins is_key_byte) e ∙ key_front p.key (p.spaces ++ 61 ∷ (p.value ++ end)) p.some p.all
 
 -- where the longest key is empty
-pub no_key : (text key rest : Bytes) → text ≡ key ++ rest → begins is_key_byte rest ≡ false → length key ≡ 0 → (end : Bytes) → KeyLine text end → ⊥
+pub no_key : (text key rest : Bytes) → text ≡ key ++ rest → begins is_key_byte rest ≡ false → length key ≡ 0 → NoSuch (KeyLine text)
 no_key text [] rest e longest gone end p = let h = KeyLine-front text end p in let k = ap (begins is_key_byte) e in cc
 no_key text (b ∷ key) rest e longest gone end p = omega (arith, gone)
 
@@ -145,8 +143,8 @@ Note-unique text a b (inl p) (inr q) = absurd (no_quote_is_key text a b p q)
 Note-unique text a b (inr p) (inl q) = absurd (no_quote_is_key text b a q p)
 Note-unique text a b (inr p) (inr q) = KeyLine-unique text a b p q
 
-trivia_free : (p : ℕ → Bool) (text : Bytes) → list_all (λ x. not (p x)) (32 ∷ 9 ∷ 10 ∷ 13 ∷ []) ≡ true → p 40 ≡ false → begins p text ≡ true
-    → begins_trivia text ≡ false
+trivia_free : (p : ℕ → Bool) (text : Bytes) → list_all (λ x. not (p x)) (32 ∷ 9 ∷ 10 ∷ 13 ∷ []) ≡ true
+    → p 40 ≡ false → begins p text ≡ true → begins_trivia text ≡ false
 trivia_free p [] blanks bracket h = refl
 trivia_free p (b ∷ text) blanks bracket h = no_trivia_at p b text blanks bracket h
 
@@ -161,15 +159,15 @@ block_no_trivia text h = trivia_free (λ b. b == 123) text refl refl h
 -- no note begins with a `{`
 pub note_no_block : (text end : Bytes) → begins (λ b. b == 123) text ≡ true → Note text end → ⊥
 note_no_block text end h (inl q) = apart (λ b. b == 34) (λ b. b == 123) text (Quoted-front text end q) h (λ b k. ap (λ x. x == 123) (eqb-true b 34 k))
-note_no_block text end h (inr p) = apart (λ b. b == 123) is_key_byte text h (KeyLine-front text end p) (λ b k. byte_no_key 123 b refl k)
+note_no_block text end h (inr p) = apart _ _ text h (KeyLine-front _ end p) (λ b k. byte_no_key 123 b refl k)
 
 -- a text that begins with no quote has a key as its note
-pub no_note : (text : Bytes) → begins (λ b. b == 34) text ≡ false → ((end : Bytes) → KeyLine text end → ⊥) → (end : Bytes) → Note text end → ⊥
+pub no_note : (text : Bytes) → begins (λ b. b == 34) text ≡ false → NoSuch (KeyLine text) → NoSuch (Note text)
 no_note text other never end (inl q) = let h = Quoted-front text end q in cc
 no_note text other never end (inr p) = never end p
 
 -- a text that begins with a quote has a quoted text as its note
-pub no_quote : (text : Bytes) → begins (λ b. b == 34) text ≡ true → ((end : Bytes) → Quoted text end → ⊥) → (end : Bytes) → Note text end → ⊥
+pub no_quote : (text : Bytes) → begins (λ b. b == 34) text ≡ true → NoSuch (Quoted text) → NoSuch (Note text)
 no_quote text here never end (inl q) = never end q
 no_quote text here never end (inr p) = apart (λ b. b == 34) is_key_byte text here (KeyLine-front text end p) (λ b h. byte_no_key 34 b refl h)
 
@@ -186,8 +184,7 @@ at_note {mid = mid} {after} (none {rest = rest} t h) g n = absurd (
     note_no_block mid after (subst (λ x. begins (λ b. b == 123) x ≡ true) (sym e) h) n)
 at_note {mid = mid} {after} {rest} (note {mid = m} {after = a} t f more) g n =
     let e : m ≡ mid = Trivia-unique t g (note_no_trivia m a f) (note_no_trivia mid after n) in
-    let k : a ≡ after = Note-unique mid a after (subst (λ x. Note x a) e f) n in
-    subst (λ x. Notes x rest) k more
+    subst (λ x. Notes x rest) (Note-unique mid a after (subst (λ x. Note x a) e f) n) more
 
 -- at the block
 at_block : {text start rest : Bytes} → Notes text rest → Trivia text start → begins (λ b. b == 123) start ≡ true → start ≡ rest
@@ -214,8 +211,8 @@ pub record Passed (bytes rest : Bytes) : Type 0 where
   pub only : (end : Bytes) → Notes bytes end → Notes rest end
   pub bound : length rest ≤ length bytes
 
-pub Passed-note : {bytes rest start after : Bytes} → Passed bytes rest → Trivia rest start → Note start after → Passed bytes after
-Passed-note {bytes} {rest} {start} {after} p g n =
+pub Passed_note : {bytes rest start after : Bytes} → Passed bytes rest → Trivia rest start → Note start after → Passed bytes after
+Passed_note {bytes} {rest} {start} {after} p g n =
     let t = Note-suffix start after n in
     record {
       given = λ end m. p.given end (note g n m);
@@ -223,13 +220,13 @@ Passed-note {bytes} {rest} {start} {after} p g n =
       bound = omega (arith, p.bound, Trivia-shorter g, ap length t.1, length-append t.0 after);
     }
 
-pub Passed-shorter : {rest start after : Bytes} → Trivia rest start → Note start after → length after < length rest
-Passed-shorter {rest} {start} {after} g n =
+pub Passed_shorter : {rest start after : Bytes} → Trivia rest start → Note start after → length after < length rest
+Passed_shorter {rest} {start} {after} g n =
     let t = Note-suffix start after n in
     omega (arith, Trivia-shorter g, ap length t.1, length-append t.0 after, t.2)
 
-pub Passed-done : {bytes rest start : Bytes} → Passed bytes rest → Trivia rest start → begins (λ b. b == 123) start ≡ true → Notes bytes start
-Passed-done {start = start} p g h = p.given start (none g h)
+pub Passed_done : {bytes rest start : Bytes} → Passed bytes rest → Trivia rest start → begins (λ b. b == 123) start ≡ true → Notes bytes start
+Passed_done {start = start} p g h = p.given start (none g h)
 
 -- what stands behind the first trivia
 first_start : {text rest : Bytes} → Notes text rest → (start : Bytes) × Trivia text start × (begins_trivia start ≡ false)
@@ -237,20 +234,17 @@ first_start (none {rest = rest} t h) = (rest, t, block_no_trivia rest h)
 first_start (note {mid = mid} {after = after} t n m) = (mid, t, note_no_trivia mid after n)
 
 -- a comment among the notes isn't closed
-pub Passed-open : {bytes rest : Bytes} → Passed bytes rest → ((start : Bytes) → begins_trivia start ≡ false → Trivia rest start → ⊥) → (end : Bytes)
-    → Notes bytes end → ⊥
-Passed-open p never end m = let k = first_start (p.only end m) in never k.0 k.2 k.1
+pub Passed_open : {bytes rest : Bytes} → Passed bytes rest → ((start : Bytes) → begins_trivia start ≡ false → Trivia rest start → ⊥) → NoSuch (Notes bytes)
+Passed_open p never end m = let k = first_start (p.only end m) in never k.0 k.2 k.1
 
 -- neither a `{` nor a note stands behind the trivia
-pub Passed-none : {bytes rest start : Bytes} → Passed bytes rest → Trivia rest start → begins_trivia start ≡ false
-    → begins (λ b. b == 123) start ≡ false → ((after : Bytes) → Note start after → ⊥) → (end : Bytes) → Notes bytes end → ⊥
-Passed-none {bytes} {rest} {start} p g stop other never end m = at (p.only end m)
+pub Passed_none : {bytes rest start : Bytes} → Passed bytes rest → Trivia rest start → begins_trivia start ≡ false
+    → begins (λ b. b == 123) start ≡ false → NoSuch (Note start) → NoSuch (Notes bytes)
+Passed_none {bytes} {rest} {start} p g stop other never end m = at (p.only end m)
   where
     at : {text : Bytes} → Notes rest text → ⊥
     at (none {rest = last} t h) =
         let e : start ≡ last = Trivia-unique g t stop (block_no_trivia last h) in
-        let k = subst (λ x. begins (λ b. b == 123) x ≡ false) e other in
         cc
     at (note {mid = m} {after = a} t f more) =
-        let e : m ≡ start = Trivia-unique t g (note_no_trivia m a f) stop in
-        never a (subst (λ x. Note x a) e f)
+        never a (subst (λ x. Note x a) (Trivia-unique t g (note_no_trivia m a f) stop) f)

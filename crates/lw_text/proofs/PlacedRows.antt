@@ -7,7 +7,7 @@ use Rattle.lw_base.specs.Types.{Bytes}
 use Rattle.lw_base.specs.declared.head.Arch.{Arch}
 use Rattle.lw_base.specs.Languages.{arch_word}
 use Rattle.lw_text.specs.Headings.{Heading}
-use Rattle.lw_text.specs.Rows.{Header, Rows, columns}
+use Rattle.lw_text.specs.Rows.{columns}
 use Rattle.lw_text.specs.PlacedTokens.{PlacedToken, texts_of_tokens, PlacedTokens}
 use Rattle.lw_text.specs.PlacedCells.{PlacedCell, texts_of_cells, texts_of_grid, CellsFrom, RowsFrom, HasRows}
 use Rattle.lw_text.specs.PlacedCells.{HasCells}
@@ -18,7 +18,7 @@ use Rattle.lw_text.proofs.TokenRows.{PlacedTokens-unique}
 use Rattle.lw_text.proofs.NoteRows.{Notes-suffix}
 use Rattle.lw_text.proofs.Headings.{Heading-unique}
 use Rattle.lw_text.proofs.Headers.{Names-unique}
-use Rattle.lw_text.proofs.Blocks.{Block-unique}
+use Rattle.lw_text.proofs.SiteLists.{Block-unique}
 use Rattle.lw_text.proofs.Cells.{Rows-unique}
 
 -- ---- cells are cut in one way
@@ -31,19 +31,19 @@ cut_same xs ys us vs len e = (
 )
 
 same_cell : (a b : PlacedCell) → a.tokens ≡ b.tokens → a.end ≡ b.end → a ≡ b
-same_cell a b tokens end = ap (λ (ts : List PlacedToken). let c : PlacedCell = record { tokens = ts; end = a.end } in c) tokens ∙ ap
-    (λ (n : ℕ). let c : PlacedCell = record { tokens = b.tokens; end = n } in c) end
+same_cell a b tokens end = ap (λ ts. let c : PlacedCell = record { tokens = ts; end = a.end } in c) tokens
+    ∙ ap (λ (n : ℕ). let c : PlacedCell = record { tokens = b.tokens; end = n } in c) end
 
 as_long : (ts us : List PlacedToken) → texts_of_tokens ts ≡ texts_of_tokens us → length ts ≡ length us
 as_long ts us e = sym (length-map ts (λ t. t.text)) ∙ ap length e ∙ length-map us (λ t. t.text)
 
-cells_same : (ts a b : List PlacedToken) (xs ys : List PlacedCell) → CellsFrom ts xs a → CellsFrom ts ys b → texts_of_cells xs ≡ texts_of_cells ys
-    → (xs ≡ ys) × (a ≡ b)
+cells_same : (ts a b : List PlacedToken) (xs ys : List PlacedCell) → CellsFrom ts xs a → CellsFrom ts ys b
+    → texts_of_cells xs ≡ texts_of_cells ys → (xs ≡ ys) × (a ≡ b)
 cells_same ts a b [] [] p q e = (refl, sym p ∙ q)
 cells_same ts a b (x ∷ xs) (y ∷ ys) p q e =
     let head : texts_of_tokens x.tokens ≡ texts_of_tokens y.tokens = cc in
     let tail : texts_of_cells xs ≡ texts_of_cells ys = cc in
-    let s = cut_same x.tokens y.tokens (p.0 ∷ p.1) (q.0 ∷ q.1) (as_long x.tokens y.tokens head) (sym p.2 ∙ q.2) in
+    let s = cut_same x.tokens y.tokens _ (q.0 ∷ q.1) (as_long x.tokens y.tokens head) (sym p.2 ∙ q.2) in
     let behind : p.0 ∷ p.1 ≡ q.0 ∷ q.1 = s.1 in
     let mark : p.0 ≡ q.0 = cc in
     let after : p.1 ≡ q.1 = cc in
@@ -64,33 +64,30 @@ rows_same ts a b (x ∷ xs) (y ∷ ys) p q e =
     cc
 rows_same ts a b _ _ p q e = absurd cc
 
-HasRows-unique : (arch : Arch) (tokens : List PlacedToken) (m n : ℕ) (x y : List (List PlacedCell)) → HasRows arch tokens m x → HasRows arch tokens n y
-    → (m ≡ n) × (x ≡ y)
+HasRows-unique : (arch : Arch) (tokens : List PlacedToken) (m n : ℕ) (x y : List (List PlacedCell))
+    → HasRows arch tokens m x → HasRows arch tokens n y → (m ≡ n) × (x ≡ y)
 HasRows-unique arch tokens m n x y p q =
     let block = Block-unique arch (texts_of_tokens tokens) p.entries q.entries p.behind_block q.behind_block p.block q.block in
-    let header = Names-unique 0 m n q.behind_block (texts_of_tokens p.behind_header) (texts_of_tokens q.behind_header)
-    (subst (λ l. Header l m (texts_of_tokens p.behind_header)) block.1 p.header).0 q.header.0 in
+    let header = Names-unique 0 m n q.behind_block _ _ (rw block.1 at p.header).0 q.header.0 in
     let whole = sym p.parts ∙ q.parts in
     let fronts : length p.front ≡ length q.front = omega (
       arith,
       ap length whole,
       length-append p.front p.behind_header,
-      length-append q.front
-          q.behind_header,
+      length-append q.front q.behind_header,
       as_long p.behind_header q.behind_header header.1,
     ) in
     let behind = (cut_same p.front q.front p.behind_header q.behind_header fronts whole).1 in
-    let says = subst (λ l. Rows n l (texts_of_grid x) (texts_of_tokens p.behind_rows)) header.1
-    (subst (λ (k : ℕ). Rows k (texts_of_tokens p.behind_header) (texts_of_grid x) (texts_of_tokens p.behind_rows)) header.0 p.says) in
-    let rows = Rows-unique n (texts_of_tokens q.behind_header) (texts_of_tokens p.behind_rows) (texts_of_tokens q.behind_rows) (texts_of_grid x)
-    (texts_of_grid y) says q.says in
-    (header.0, rows_same q.behind_header p.behind_rows q.behind_rows x y (subst (λ l. RowsFrom l x p.behind_rows) behind p.cut) q.cut rows.0)
+    let says = rw (header.0, header.1) at p.says in
+    let rows = Rows-unique n _ _ _ (texts_of_grid x) (texts_of_grid y) says q.says in
+    (header.0, rows_same _ _ _ x y (subst (λ l. RowsFrom l x p.behind_rows) behind p.cut) q.cut rows.0)
 
 pub HasCells-unique : (text : Bytes) (c d : List (List PlacedCell)) → HasCells text c → HasCells text d → c ≡ d
 HasCells-unique text c d p q =
     let head = Heading-unique text p.arch p.name p.rest q.arch q.name q.rest p.heading q.heading in
-    let tokens = PlacedTokens-unique (length text) p.tokens q.tokens q.rest (subst (λ x. PlacedTokens (length text) x p.tokens) head.2 p.stream) q.stream in
-    let has = subst (λ l. HasRows q.arch l p.threads p.rows) tokens (subst (λ (a : Arch). HasRows a p.tokens p.threads p.rows) head.0 p.has_rows) in
+    let stream = rw head.2 at p.stream in
+    let tokens = PlacedTokens-unique (length text) p.tokens q.tokens q.rest stream q.stream in
+    let has = rw (head.0, tokens) at p.has_rows in
     let rows = HasRows-unique q.arch q.tokens p.threads q.threads p.rows q.rows has q.has_rows in
     p.are ∙ ap (λ (n : ℕ). columns n p.rows) rows.0 ∙ ap (columns q.threads) rows.1 ∙ sym q.are
 
@@ -101,19 +98,18 @@ Spans-earlier text from mid to [] le s = omega (arith, s, le)
 Spans-earlier text from mid to (t ∷ ts) le s = (omega (arith, s.0, le), s.1, s.2)
 
 -- the tokens of the end of a text
-stream_spans : (text front rest : Bytes) (ts : List PlacedToken) → text ≡ front ++ rest → PlacedTokens (length text) rest ts
-    → Spans text (length front) ts (length text)
+stream_spans : (text front rest : Bytes) (ts : List PlacedToken) → text ≡ front ++ rest
+    → PlacedTokens (length text) rest ts → Spans text (length front) ts (length text)
 stream_spans text front rest [] e p = omega (arith, ap length e, length-append front rest)
 stream_spans text front rest (t ∷ ts) e p =
-    let g = Trivia-suffix p.1.0 in
-    let here = Leaves-join (front, e) g in
+    let here = Leaves-join (front, e) (Trivia-suffix p.1.0) in
     let before = here.0 in
     let whole : text ≡ before ++ (t.text ++ p.0) = here.1 in
     let at : length before ≡ t.at = omega (arith, p.2, ap length whole, length-append before (t.text ++ p.0), length-append t.text p.0) in
     let behind : length (before ++ t.text) ≡ t.at + length t.text = omega (arith, at, length-append before t.text) in (
       omega (arith, p.2, ap length e, length-append front rest, Trivia-shorter p.1.0, length-append t.text p.0),
-      ap (take (length t.text)) (ap (λ (k : ℕ). drop k text) (sym at) ∙ ap (drop (length before)) whole ∙ drop-append_seam before (t.text ++ p.0))
-          ∙ take_at t.text p.0 (length t.text) refl,
+      ap (take (length t.text)) (ap (λ (k : ℕ). drop k text) (sym at) ∙ ap (drop (length before)) whole
+          ∙ drop-append_seam before (t.text ++ p.0)) ∙ take_at t.text p.0 (length t.text) refl,
       subst (λ (k : ℕ). Spans text k ts (length text)) behind
           (stream_spans text (before ++ t.text) p.0 ts (whole ∙ sym (append_assoc before t.text p.0)) p.3),
     )
@@ -126,4 +122,4 @@ heading_rest text arch name rest h = Leaves-join (Trivia-suffix h.2.0) (Leaves-j
 pub tokens_spans : (text : Bytes) (cells : List (List PlacedCell)) (has : HasCells text cells) → Spans text 0 has.tokens (length text)
 tokens_spans text cells has =
     let front = heading_rest text has.arch has.name has.rest has.heading in
-    Spans-earlier text 0 (length front.0) (length text) has.tokens (omega arith) (stream_spans text front.0 has.rest has.tokens front.1 has.stream)
+    Spans-earlier text 0 _ _ _ (omega arith) (stream_spans text front.0 has.rest _ front.1 has.stream)

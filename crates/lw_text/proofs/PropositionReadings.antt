@@ -1,109 +1,166 @@
--- What the grammar of propositions derives is what its reader reads from left to right.
-use Rattle.std.proofs.Common.{◌≡◌, false, [], ◌∷◌, ◌++◌, refl, sym, ap, ◌∙◌, subst, append_assoc, append-nil}
-use Rattle.lw_base.specs.Formula.{Formula, And, Or}
-use Rattle.lw_text.specs.Propositions.{Open, Close, Negation, Conjunction, Disjunction, Atom, Level}
+-- Terminals are a proposition if and only if they lead its reader to where it says that proposition.
+use Rattle.std.proofs.Common.{◌≡◌, ℕ, zero, suc, List, [], ◌∷◌, ◌++◌, Option, Some, None, option_and_then, fold, refl, sym, ap, ◌∙◌}
+use Rattle.std.proofs.Common.{subst, append_assoc, append-nil}
+use Rattle.lw_base.specs.Formula.{Formula, Not, Or}
+use Rattle.lw_text.specs.Propositions.{Terminal, Open, Close, Negation, Conjunction, Disjunction, Atom, Level}
 use Rattle.lw_text.specs.Propositions.{PartLevel, ConjunctionLevel, DisjunctionLevel, Derives, atom, negated}
 use Rattle.lw_text.specs.Propositions.{parens, part, and, conjunction, or, IsProposition}
-use Rattle.lw_text.specs.inner.LeftToRight.{begins_and, Nonterminal, Part, Ands, Ors, Reads, IsReadWhole}
-use Rattle.lw_text.proofs.Derivations.{Terminals, IsReadWhole-unique}
-use Rattle.lw_text.specs.inner.LeftToRight as left_to_right
+use Rattle.lw_text.specs.inner.Pending.{Pending, ReaderState, BeforePart, BehindPart, begun, negations, after_and}
+use Rattle.lw_text.specs.inner.Pending.{after_or, ands_of, opened, with_not, state_behind, said}
 
--- ---- what is derived is read
+abbrev pub Terms : Type 0
+Terms = List (Terminal Formula)
 
--- A part stands first, and goes on to all that a row of `/\` with p so far does before rest; and so for rows of `\/`.
-abbrev AndsFirst : Formula → Terminals → Terminals → Type 0
-AndsFirst p ss rest =
-    (a : Formula) × (m : Terminals) × Reads Part ss a m
-    × ((q : Formula) (end : Terminals) → Reads (Ands p) rest q end → Reads (Ands a) m q end)
+-- where some terminals lead, and what is said there
+abbrev pub lead : Option ReaderState → Terms → Option ReaderState
+lead o ss = fold (λ o s. option_and_then (λ r. state_behind r s) o) o ss
 
-abbrev OrsFirst : Formula → Terminals → Terminals → Type 0
-OrsFirst p ss rest =
-    (a b : Formula) × (m n : Terminals) × Reads Part ss a m × Reads (Ands a) m b n
-    × ((q : Formula) (end : Terminals) → Reads (Ors p) rest q end → Reads (Ors b) n q end)
+abbrev pub said_at : Option ReaderState → Option Formula
+said_at o = option_and_then said o
 
--- the terminals of a level are read before any rest that can stand there
-abbrev IsRead : Level → Terminals → Formula → Type 0
-IsRead PartLevel ss p = (rest : Terminals) → Reads Part (ss ++ rest) p rest
-IsRead ConjunctionLevel ss p = (rest : Terminals) → AndsFirst p (ss ++ rest) rest
-IsRead DisjunctionLevel ss p = (rest : Terminals) → begins_and rest ≡ false → OrsFirst p (ss ++ rest) rest
+negations-not : (n : ℕ) (p : Formula) → negations n (Not p) ≡ Not (negations n p)
+negations-not zero p = refl
+negations-not (suc n) p = ap Not (negations-not n p)
 
-level_read : {k : Level} {ss : Terminals} {p : Formula} → Derives k ss p → IsRead k ss p
-level_read atom = λ rest. left_to_right.atom
-level_read (negated d) = λ rest. left_to_right.negated (level_read d rest)
-level_read (parens {ss} {p} d) = λ rest.
-    let o = level_read d (Close ∷ rest) refl in
-    let whole = left_to_right.parens o.4 o.5 (o.6 p (Close ∷ rest) (left_to_right.no_or refl)) in
-    subst (λ l. Reads Part (Open ∷ l) p rest) (sym (append_assoc ss (Close ∷ []) rest)) whole
-level_read (part {p = p} d) = λ rest. (p, rest, level_read d rest, λ q end e. e)
-level_read (and {ss} {ts} {p} {q} d e) = λ rest.
-    let l = level_read d (Conjunction ∷ (ts ++ rest)) in
-    let whole : AndsFirst (And p q) (ss ++ Conjunction ∷ (ts ++ rest)) rest = (l.0, l.1, l.2, λ r end f. l.3 r end (left_to_right.and (level_read e rest) f)) in
-    subst (λ x. AndsFirst (And p q) x rest) (sym (append_assoc ss (Conjunction ∷ ts) rest)) whole
-level_read (conjunction {p = p} d) = λ rest h. let f = level_read d rest in (f.0, p, f.1, rest, f.2, f.3 p rest (left_to_right.no_and h), λ q end e. e)
-level_read (or {ss} {ts} {p} {q} d e) = λ rest h.
-    let l = level_read d (Disjunction ∷ (ts ++ rest)) refl in
-    let r = level_read e rest in
-    let whole : OrsFirst (Or p q) (ss ++ Disjunction ∷ (ts ++ rest)) rest =
-    (l.0, l.1, l.2, l.3, l.4, l.5, λ c end f. l.6 c end (left_to_right.or r.2 (r.3 q rest (left_to_right.no_and h)) f)) in
-    subst (λ x. OrsFirst (Or p q) x rest) (sym (append_assoc ss (Disjunction ∷ ts) rest)) whole
+ands_of-not : (l : Pending) (p : Formula) → ands_of (with_not l) p ≡ ands_of l (Not p)
+ands_of-not l p = ap (after_and l.both) (sym (negations-not l.nots p))
 
-pub derived_read : {ss : Terminals} {p : Formula} → IsProposition ss p → IsReadWhole ss p
-derived_read {ss} {p} d =
-    let o = subst (λ x. OrsFirst p x []) (append-nil ss) (level_read d [] refl) in
-    (o.0, o.1, o.2, o.3, o.4, o.5, o.6 p [] (left_to_right.no_or refl))
+-- ---- what is derived is said
 
--- ---- what is read is derived
+-- behind a `\/` so far, or at the front
+abbrev row_begun : Option Formula → Pending
+row_begun e = record { either = e; both = None; nots = 0 }
 
--- what more terminals make of a formula so far, whatever terminals say it
-abbrev Adds : Nonterminal → Terminals → Formula → Type 0
-Adds Part ss p = Derives PartLevel ss p
-Adds (Ands a) ss p = (front : Terminals) → Derives ConjunctionLevel front a → Derives ConjunctionLevel (front ++ ss) p
-Adds (Ors c) ss p = (front : Terminals) → Derives DisjunctionLevel front c → Derives DisjunctionLevel (front ++ ss) p
+-- the terminals of a level lead from where it may begin to where it has been read
+abbrev Leads : Level → Terms → Formula → Type 0
+Leads PartLevel ss p = (l : Pending) (os : List Pending) (rest : Terms)
+    → lead (Some (BeforePart l os)) (ss ++ rest) ≡ lead (Some (BehindPart l.either (ands_of l p) os)) rest
+Leads ConjunctionLevel ss p = (e : Option Formula) (os : List Pending) (rest : Terms)
+    → lead (Some (BeforePart (row_begun e) os)) (ss ++ rest) ≡ lead (Some (BehindPart e p os)) rest
+Leads DisjunctionLevel ss p = (os : List Pending) (rest : Terms) → (e : Option Formula) × (a : Formula) × (after_or e a ≡ p)
+    × (lead (Some (BeforePart opened os)) (ss ++ rest) ≡ lead (Some (BehindPart e a os)) rest)
 
--- what was read stands before rest
-abbrev Takes : Nonterminal → Terminals → Formula → Terminals → Type 0
-Takes k ss p rest = (taken : Terminals) × (ss ≡ taken ++ rest) × Adds k taken p
-
--- a part with how a row of `/\` goes on, and so for rows of `\/`
-takes_row : {a b : Formula} {ss m n : Terminals} → Takes Part ss a m → Takes (Ands a) m b n
-    → (taken : Terminals) × (ss ≡ taken ++ n) × Derives ConjunctionLevel taken b
-takes_row {n = n} x y = (x.0 ++ y.0, x.1 ∙ ap (λ l. x.0 ++ l) y.1 ∙ sym (append_assoc x.0 y.0 n), y.2 x.0 (part x.2))
-
-takes_whole : {a b p : Formula} {ss m n rest : Terminals} → Takes Part ss a m → Takes (Ands a) m b n → Takes (Ors b) n p rest
-    → (taken : Terminals) × (ss ≡ taken ++ rest) × Derives DisjunctionLevel taken p
-takes_whole {rest = rest} x y z =
-    let r = takes_row x y in
-    (r.0 ++ z.0, r.1 ∙ ap (λ l. r.0 ++ l) z.1 ∙ sym (append_assoc r.0 z.0 rest), z.2 r.0 (conjunction r.2))
-
-read_takes : {k : Nonterminal} {ss rest : Terminals} {p : Formula} → Reads k ss p rest → Takes k ss p rest
-read_takes (left_to_right.atom {p}) = (Atom p ∷ [], refl, atom)
-read_takes (left_to_right.negated d) = let t = read_takes d in (Negation ∷ t.0, ap (λ l. Negation ∷ l) t.1, negated t.2)
-read_takes (left_to_right.parens {rest = rest} d e f) =
-    let t = takes_whole (read_takes d) (read_takes e) (read_takes f) in
-    (Open ∷ (t.0 ++ Close ∷ []), ap (λ l. Open ∷ l) (t.1 ∙ sym (append_assoc t.0 (Close ∷ []) rest)), parens t.2)
-read_takes (left_to_right.no_and {p = p} h) = ([], refl, λ front d. subst (λ l. Derives ConjunctionLevel l p) (sym (append-nil front)) d)
-read_takes (left_to_right.and {rest = rest} {p = p} d e) =
-    let x = read_takes d in
-    let y = read_takes e in (
-      Conjunction ∷ (x.0 ++ y.0),
-      ap (λ l. Conjunction ∷ l) (x.1 ∙ ap (λ l. x.0 ++ l) y.1 ∙ sym (append_assoc x.0 y.0 rest)),
-      λ front f. subst (λ l. Derives ConjunctionLevel l p) (append_assoc front (Conjunction ∷ x.0) y.0) (y.2 (front ++ Conjunction ∷ x.0) (and f x.2)),
-    )
-read_takes (left_to_right.no_or {p = p} h) = ([], refl, λ front d. subst (λ l. Derives DisjunctionLevel l p) (sym (append-nil front)) d)
-read_takes (left_to_right.or {rest = rest} {p = p} d e f) =
-    let x = takes_row (read_takes d) (read_takes e) in
-    let y = read_takes f in (
-      Disjunction ∷ (x.0 ++ y.0),
-      ap (λ l. Disjunction ∷ l) (x.1 ∙ ap (λ l. x.0 ++ l) y.1 ∙ sym (append_assoc x.0 y.0 rest)),
-      λ front g. subst (λ l. Derives DisjunctionLevel l p) (append_assoc front (Disjunction ∷ x.0) y.0) (y.2 (front ++ Disjunction ∷ x.0) (or g x.2)),
+leads : {k : Level} {ss : Terms} {p : Formula} → Derives k ss p → Leads k ss p
+leads atom = λ l os rest. refl
+leads (negated {p = p} d) = λ l os rest. leads d (with_not l) os rest ∙ ap (λ a. lead (Some (BehindPart l.either a os)) rest) (ands_of-not l p)
+leads (parens {ss} d) = λ l os rest.
+    let k = leads d (l ∷ os) (Close ∷ rest) in
+    ap (lead (Some (BeforePart opened (l ∷ os)))) (append_assoc ss (Close ∷ []) rest) ∙ k.3
+    ∙ ap (λ a. lead (Some (BehindPart l.either (ands_of l a) os)) rest) k.2
+leads (part d) = λ e os rest. leads d (row_begun e) os rest
+leads (and {ss} {ts} {p} d e) = λ f os rest. ap (lead (Some (BeforePart (row_begun f) os))) (append_assoc ss
+    (Conjunction ∷ ts) rest) ∙ leads d f os (Conjunction ∷ (ts ++ rest))
+    ∙ leads e (record { either = f; both = Some p; nots = 0 }) os rest
+leads (conjunction {p = p} d) = λ os rest. (None, p, refl, leads d None os rest)
+leads (or {ss} {ts} {p} {q} d e) = λ os rest.
+    let k = leads d os (Disjunction ∷ (ts ++ rest)) in (
+      Some p,
+      q,
+      refl,
+      ap (lead (Some (BeforePart opened os))) (append_assoc ss (Disjunction ∷ ts) rest) ∙ k.3
+          ∙ ap (λ a. lead (Some (BeforePart (row_begun (Some a)) os)) (ts ++ rest)) k.2 ∙ leads e (Some p) os rest,
     )
 
-pub read_derived : {ss : Terminals} {p : Formula} → IsReadWhole ss p → IsProposition ss p
-read_derived {ss} {p} h =
-    let t = takes_whole (read_takes h.4) (read_takes h.5) (read_takes h.6) in
-    subst (λ l. Derives DisjunctionLevel l p) (sym (t.1 ∙ append-nil t.0)) t.2
+pub derived_said : {ss : Terms} {p : Formula} → IsProposition ss p → said_at (lead (Some begun) ss) ≡ Some p
+derived_said {ss} d =
+    let k = leads d [] [] in
+    ap (λ l. said_at (lead (Some begun) l)) (sym (append-nil ss)) ∙ ap said_at k.3 ∙ ap Some k.2
 
--- ---- terminals say one formula
+-- terminals say one formula
+pub IsProposition-unique : (ss : Terms) (p q : Formula) → IsProposition ss p → IsProposition ss q → p ≡ q
+IsProposition-unique ss p q d e = let h = derived_said d in let k = derived_said e in cc
 
-pub IsProposition-unique : (ss : Terminals) (p q : Formula) → IsProposition ss p → IsProposition ss q → p ≡ q
-IsProposition-unique ss p q x y = IsReadWhole-unique ss p q (derived_read x) (derived_read y)
+-- ---- what is said is derived
+
+-- what stands before a row of `/\`: a formula and a `\/`, or nothing
+abbrev Front : Option Formula → Terms → Type 0
+Front None ts = ts ≡ []
+Front (Some a) ts = (ss : Terms) × (ts ≡ ss ++ Disjunction ∷ []) × Derives DisjunctionLevel ss a
+
+-- The terminals are what stands outside of a group, a front, and a row.
+record Row (Outside : Terms → Type 0) (ts : Terms) (e : Option Formula) (p : Formula) : Type 0 where
+  outside : Terms
+  front : Terms
+  row : Terms
+  is : ts ≡ outside ++ (front ++ row)
+  around : Outside outside
+  before : Front e front
+  says : Derives ConjunctionLevel row p
+
+-- what stands outside of some pairs of parentheses
+abbrev Outside : List Pending → Terms → Type 0
+Outside [] ts = ts ≡ []
+Outside (o ∷ os) ts = (before : Terms) × (ts ≡ before ++ Open ∷ []) × ((ss : Terms) (p : Formula)
+    → Derives PartLevel ss p → Row (Outside os) (before ++ ss) o.either (ands_of o p))
+
+-- the terminals so far are as the state says; before a part this is so of all parts that may come
+abbrev Stands : Option ReaderState → Terms → Type 0
+Stands None ts = Unit {0}
+Stands (Some (BeforePart l os)) ts = (ss : Terms) (p : Formula) → Derives PartLevel ss p → Row (Outside os) (ts ++ ss) l.either (ands_of l p)
+Stands (Some (BehindPart e p os)) ts = Row (Outside os) ts e p
+
+-- a group begins
+first_part : (os : List Pending) (ts : Terms) → Outside os ts → Stands (Some (BeforePart opened os)) ts
+first_part os ts out = λ ss p d. record { outside = ts; front = []; row = ss; is = refl; around = out; before = refl; says = part d }
+
+-- what a group says
+group_says : {Out : Terms → Type 0} {ts : Terms} {e : Option Formula} {p : Formula} (r : Row Out ts e p)
+    → Derives DisjunctionLevel (r.front ++ r.row) (after_or e p)
+group_says {e = None} {p = p} r = subst (λ l. Derives DisjunctionLevel (l ++ r.row) p) (sym r.before) (conjunction r.says)
+group_says {e = Some a} {p = p} r =
+    let f = r.before in
+    subst (λ l. Derives DisjunctionLevel l (Or a p)) (sym (ap (λ l. l ++ r.row) f.1 ∙ append_assoc f.0 (Disjunction ∷ []) r.row)) (or f.2 r.says)
+
+one_more : (o : Option ReaderState) (s : Terminal Formula) (ts : Terms) → Stands o ts
+    → Stands (option_and_then (λ r. state_behind r s) o) (ts ++ s ∷ [])
+one_more (Some (BeforePart l os)) Open ts h = first_part (l ∷ os) (ts ++ Open ∷ []) (ts, refl, h)
+one_more (Some (BeforePart l os)) Negation ts h = λ ss p d. subst (λ x. Row (Outside os) x l.either
+    (ands_of (with_not l) p)) (sym (append_assoc ts (Negation ∷ []) ss)) (subst (λ a. Row (Outside os)
+    (ts ++ Negation ∷ ss) l.either a) (sym (ands_of-not l p)) (h (Negation ∷ ss) (Not p) (negated d)))
+one_more (Some (BeforePart l os)) (Atom p) ts h = h (Atom p ∷ []) p atom
+one_more (Some (BehindPart e p (o ∷ os))) Close ts h =
+    let k = h.around in
+    let inside = h.front ++ h.row in
+    let whole : ts ++ Close ∷ [] ≡ k.0 ++ (Open ∷ (inside ++ Close ∷ [])) = ap (λ x. x ++ Close ∷ []) (h.is
+        ∙ ap (λ x. x ++ inside) k.1) ∙ append_assoc (k.0 ++ Open ∷ []) inside (Close ∷ []) ∙ append_assoc k.0
+        (Open ∷ []) (inside ++ Close ∷ []) in
+    subst (λ x. Row (Outside os) x o.either (ands_of o (after_or e p))) (sym whole)
+    (k.2 (Open ∷ (inside ++ Close ∷ [])) (after_or e p) (parens (group_says h)))
+one_more (Some (BehindPart e p os)) Conjunction ts h = λ ss q d. record {
+  outside = h.outside;
+  front = h.front;
+  row = h.row ++ Conjunction ∷ ss;
+  is = append_assoc ts (Conjunction ∷ []) ss ∙ ap (λ x. x ++ Conjunction ∷ ss) h.is ∙ append_assoc h.outside (h.front ++ h.row) (Conjunction ∷ ss)
+      ∙ ap (λ x. h.outside ++ x) (append_assoc h.front h.row (Conjunction ∷ ss));
+  around = h.around;
+  before = h.before;
+  says = and h.says d;
+}
+one_more (Some (BehindPart e p os)) Disjunction ts h = λ ss q d.
+    let inside = h.front ++ h.row in
+    record {
+      outside = h.outside;
+      front = inside ++ Disjunction ∷ [];
+      row = ss;
+      is = ap (λ x. (x ++ Disjunction ∷ []) ++ ss) h.is ∙ ap (λ x. x ++ ss) (append_assoc h.outside inside
+          (Disjunction ∷ [])) ∙ append_assoc h.outside (inside ++ Disjunction ∷ []) ss;
+      around = h.around;
+      before = (inside, refl, group_says h);
+      says = part d;
+    }
+one_more _ _ ts h = tt
+
+all_more : (ss : Terms) (o : Option ReaderState) (ts : Terms) → Stands o ts → Stands (lead o ss) (ts ++ ss)
+all_more [] o ts h = subst (Stands o) (sym (append-nil ts)) h
+all_more (s ∷ ss) o ts h =
+    let next = option_and_then (λ r. state_behind r s) o in
+    subst (Stands (lead next ss)) (append_assoc ts (s ∷ []) ss) (all_more ss next _ (one_more o s ts h))
+
+whole_said : (o : Option ReaderState) (ts : Terms) (p : Formula) → Stands o ts → said_at o ≡ Some p → IsProposition ts p
+whole_said (Some (BehindPart e a [])) ts p h is =
+    subst (λ l. IsProposition l p) (sym (h.is ∙ ap (λ x. x ++ (h.front ++ h.row)) h.around))
+    (subst (IsProposition (h.front ++ h.row)) (let k : after_or e a ≡ p = cc in k) (group_says h))
+whole_said _ ts p h is = absurd cc
+
+pub said_derived : {ss : Terms} {p : Formula} → said_at (lead (Some begun) ss) ≡ Some p → IsProposition ss p
+said_derived {ss} {p} is = whole_said _ ss p (all_more ss (Some begun) [] (first_part [] [] refl)) is

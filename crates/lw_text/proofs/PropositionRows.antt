@@ -1,14 +1,17 @@
 -- A proposition that is read terminal by terminal, with the table of its names.
-use Rattle.std.proofs.Common.{◌≡◌, ℕ, ◌+◌, ◌<◌, ◌≤◌, inl, inr, Bool, true, false, List, [], ◌∷◌, ◌++◌, length}
-use Rattle.std.proofs.Common.{map, get_or, refl, sym, ap, ◌∙◌, subst, arith, append_assoc, reverse, codes}
-use Rattle.std.proofs.Common.{not, if◌then◌else◌, ◌||◌, ◌==◌, ◌↔◌, Some, None, is_some, eqb-true, append-nil}
+use Rattle.std.proofs.Common.{◌≡◌, ℕ, ◌+◌, ◌≤◌, inl, inr, Bool, true, false, List, [], ◌∷◌, ◌++◌, length}
+use Rattle.std.proofs.Common.{map, get_or, refl, sym, ap, ◌∙◌, subst, arith, codes}
+use Rattle.std.proofs.Common.{not, if◌then◌else◌, ◌||◌, ◌==◌, ◌≢◌, Option, Some, None, is_some, option_map, eqb-true}
 use Rattle.std.specs.List.{AllByRecursion}
-use Rattle.std.proofs.lemmas.Bool.{eqb-false, not-true, not-false, or_cases, or_parts}
+use Rattle.std.proofs.lemmas.Bool.{eqb-false, not-true, not-false, or_cases, or_parts, false_from_ne_true}
 use Rattle.std.proofs.lemmas.List.{map-append}
 use Rattle.std.proofs.lemmas.List.Elements.{filter_map-append}
+use Rattle.std.proofs.lemmas.List.Folds.{fold_stays}
+use Rattle.std.proofs.lemmas.List.Sums.{fold-append}
 use Rattle.std.proofs.lemmas.Option.{slice_get-get_or}
 use Rattle.lw_base.specs.Types.{Bytes, NameTable, TokenList}
 use Rattle.lw_base.specs.declared.head.Arch.{Arch}
+use Rattle.lw_base.specs.declared.proposition.Prop.{Prop}
 use Rattle.lw_base.specs.Formula.{Formula, Word_is}
 use Rattle.lw_base.specs.Lists.{EachOnce}
 use Rattle.lw_base.specs.Propositions.{formula_of}
@@ -20,21 +23,20 @@ use Rattle.lw_text.specs.declared.cursor.Cursor.{Cursor}
 use Rattle.lw_text.specs.declared.proposition_reader.PropositionReader.{PropositionReader}
 use Rattle.lw_text.specs.declared.terminal.Terminal.{Terminal as Made}
 use Rattle.lw_text.specs.Lists.{Chain}
-use Rattle.lw_text.specs.Sites.{with_sites, HasRoomFor, InMemory, site_names}
-use Rattle.lw_text.specs.Propositions.{HasFewNodes, Terminal, Open, Close, Negation, Atom, is_node}
+use Rattle.lw_text.specs.Sites.{with_sites, HasRoomFor, SiteSyntax, InMemory, IsSite, site_names}
+use Rattle.lw_text.specs.Propositions.{Terminal, Open, Close, Negation, Conjunction, Disjunction, Atom, is_node}
 use Rattle.lw_text.specs.Propositions.{IsProposition}
 use Rattle.lw_text.specs.Views.{left}
-use Rattle.lw_text.specs.inner.Pending.{Completes, GoesOn, begins_part, begun, group_of, state_of}
-use Rattle.lw_text.specs.inner.Pending.{state_behind}
+use Rattle.lw_text.specs.inner.Pending.{Pending, begins_part, begun, group_of, standing, state_of, state_behind, said}
 use Rattle.lw_text.specs.inner.Terminals.{terminal_of}
 use Rattle.lw_text.specs.Conditions.{AtomSyntax, Holds, IsTerminal, Terminals, begins_word, site_of, sites_in}
 use Rattle.lw_text.specs.Conditions.{resolved}
 use Rattle.lw_text.specs.inner.Resolved.{named_terminal, TerminalIn}
-use Rattle.lw_text.specs.inner.Taken.{TakenTerminal}
+use Rattle.lw_text.specs.inner.Taken.{TakenTerminal, TakenProposition, NoProposition, Fits}
 use Rattle.lw_text.proofs.api.PropositionNodes.{count, count_append}
-use Rattle.lw_text.proofs.Atoms.{no_site}
+use Rattle.lw_text.proofs.Atoms.{no_site, is_apart}
 use Rattle.lw_text.proofs.Lists.{Chain-push}
-use Rattle.lw_text.proofs.Pending.{next_begins, next_exact, begun_given, begun_only}
+use Rattle.lw_text.proofs.PropositionReadings.{lead, said_at, derived_said, said_derived}
 use Rattle.lw_text.proofs.Readings.{with_sites-append}
 use Rattle.lw_text.proofs.Texts.{is_text}
 use Rattle.lw_text.proofs.TerminalLists.{Terminals-peel, Terminals-unique, IsTerminal-unique}
@@ -88,7 +90,7 @@ pub record TerminalsRead {A : Type 0} (arch : Arch) (threads : ℕ) (first names
   pub names_are : names ≡ with_sites first (sites_in terminals)
   pub count : nodes ≡ count terminals
   pub few : nodes ≤ 256
-  pub says : (ss : List (Terminal Formula)) (p : Formula) → Completes reader ss p ↔ IsProposition (map (resolved names) terminals ++ ss) p
+  pub leads : lead (Some begun) (map (resolved names) terminals) ≡ Some (state_of reader)
 
 pub terminals_none : {A : Type 0} (arch : Arch) (threads : ℕ) (names start : TokenList) (reader : PropositionReader A) → state_of reader ≡ begun
     → TerminalsRead arch threads names names start start 0 reader
@@ -98,7 +100,7 @@ terminals_none arch threads names start reader e = record {
   names_are = refl;
   count = refl;
   few = omega arith;
-  says = λ ss p. subst (λ r. GoesOn r ss p ↔ IsProposition ss p) (sym e) (begun_given ss p, begun_only ss p);
+  leads = ap Some (sym e);
 }
 
 module _ {A : Type 0} {arch : Arch} {threads : ℕ} {first names start here : TokenList} {nodes : ℕ} {reader : PropositionReader A}
@@ -108,181 +110,181 @@ module _ {A : Type 0} {arch : Arch} {threads : ℕ} {first names start here : To
   table_of more = with_sites_in-append first read.terminals more ∙ ap (λ ns. with_sites ns (sites_in more)) (sym read.names_are)
 
   same_behind : (ns : NameTable) → map (resolved (with_names names ns)) read.terminals ≡ map (resolved names) read.terminals
-  same_behind ns = map_resolved-along names ns read.terminals
-      (subst (λ l. AllThere l read.terminals) (sym read.names_are) (all_now first (site_names (sites_in read.terminals))))
+  same_behind ns = map_resolved-along names ns read.terminals (subst (λ l. AllThere l read.terminals)
+      (sym read.names_are) (all_now first (site_names (sites_in read.terminals))))
 
-  -- what is left of a whole proposition
+  -- where more terminals lead
+  lead_on : (ss : List (Terminal Formula)) → lead (Some begun) (map (resolved names) read.terminals ++ ss) ≡ lead (Some (state_of reader)) ss
+  lead_on ss = fold-append _ _ (map (resolved names) read.terminals) ss ∙ ap (λ o. lead o ss) read.leads
+
+  -- what is left of a whole proposition says it
   whole_left : (more : List (Terminal AtomSyntax)) (p : Formula)
       → IsProposition (map (resolved (with_sites first (sites_in (read.terminals ++ more)))) (read.terminals ++ more)) p
-      → Completes reader (map (resolved (with_sites names (sites_in more))) more) p
+      → said_at (lead (Some (state_of reader)) (map (resolved (with_sites names (sites_in more))) more)) ≡ Some p
   whole_left more p whole =
       let after = with_sites names (sites_in more) in
       let e : map (resolved (with_sites first (sites_in (read.terminals ++ more)))) (read.terminals ++ more) ≡ map
       (resolved names) read.terminals ++ map (resolved after) more =
       ap (λ ns. map (resolved ns) (read.terminals ++ more)) (table_of more) ∙ map-append (resolved after) read.terminals more ∙ ap
       (λ l. l ++ map (resolved after) more) (same_behind (site_names (sites_in more))) in
-      (read.says (map (resolved after) more) p).1 (subst (λ l. IsProposition l p) e whole)
+      sym (ap said_at (ap (lead (Some begun)) e ∙ lead_on (map (resolved after) more))) ∙ derived_said whole
 
   -- the end of the tokens
-  pub terminals_end : here ≡ [] → (p : Formula) → Completes reader [] p
-      → (ss : List (Terminal AtomSyntax)) × Terminals arch threads start ss × (names ≡ with_sites first (sites_in ss)) ×
-      (HasFewNodes ss) × IsProposition (map (resolved names) ss) p
-  terminals_end e p left = (
-    read.terminals,
-    subst (Chain (IsTerminal arch threads) start read.terminals) e read.gone,
-    read.names_are,
-    omega (arith, read.count, read.few),
-    subst (λ l. IsProposition l p) (append-nil (map (resolved names) read.terminals)) ((read.says [] p).0 left),
-  )
+  pub terminals_end : here ≡ [] → (p : Prop A) → said (state_of reader) ≡ Some (formula_of p) → TakenProposition arch threads start first names p
+  terminals_end e p is = record {
+    terminals = read.terminals;
+    is = subst (Chain (IsTerminal arch threads) start read.terminals) e read.gone;
+    names_are = read.names_are;
+    few = omega (arith, read.count, read.few);
+    says = said_derived (ap said_at read.leads ∙ is);
+  }
 
-  pub terminals_open : here ≡ [] → ((p : Formula) → Completes reader [] p → ⊥) → (all : List (Terminal AtomSyntax)) (p : Formula)
-      → Terminals arch threads start all → IsProposition (map (resolved (with_sites first (sites_in all))) all) p → ⊥
-  terminals_open e never all p s whole =
+  pub terminals_open : here ≡ [] → said (state_of reader) ≡ None → NoProposition arch threads start first
+  terminals_open e none all p s fits =
       let k = Terminals-peel arch threads read.terminals all start here read.gone s in
       let same : [] ≡ k.0 = Terminals-unique arch threads [] k.0 here e k.2 in
-      let f : all ≡ read.terminals ++ [] = k.1 ∙ ap (λ l. read.terminals ++ l) (sym same) in
-      never p (whole_left [] p (subst (λ l. IsProposition (map (resolved (with_sites first (sites_in l))) l) p) f whole))
+      let left = whole_left [] p (rw (k.1 ∙ ap (λ l. read.terminals ++ l) (sym same)) at fits).says in
+      cc
 
   -- where no terminal stands that can come next and whose name has room, the whole is no proposition
-  pub terminals_fault : (here ≡ [] → ⊥) → ((s : Terminal AtomSyntax) (rest : TokenList) (ss : List (Terminal Formula)) (p : Formula)
-      → IsTerminal arch threads here s rest → Completes reader (resolved (with_sites names (sites_in (s ∷ []))) s ∷ ss) p
-      → HasRoomFor names (sites_in (s ∷ [])) → nodes + count (s ∷ []) ≤ 256 → ⊥)
-      → (all : List (Terminal AtomSyntax)) (p : Formula) → Terminals arch threads start all → HasRoomFor first (sites_in all)
-      → HasFewNodes all → IsProposition (map (resolved (with_sites first (sites_in all))) all) p → ⊥
-  terminals_fault some never all p s few room whole =
+  pub terminals_fault : (here ≡ [] → ⊥) → ((s : Terminal AtomSyntax) (rest : TokenList) → IsTerminal arch threads here s rest
+      → state_behind (state_of reader) (resolved (with_sites names (sites_in (s ∷ []))) s) ≢ None
+      → HasRoomFor names (sites_in (s ∷ [])) → nodes + count (s ∷ []) ≤ 256 → ⊥) → NoProposition arch threads start first
+  terminals_fault some never all p s whole =
       let k = Terminals-peel arch threads read.terminals all start here read.gone s in
-      at k.0 k.1 k.2
+      at k.0 (subst (λ l. Fits first l p) k.1 whole) k.2
     where
-      at : (more : List (Terminal AtomSyntax)) → all ≡ read.terminals ++ more → Terminals arch threads here more → ⊥
-      at [] e q = some q
-      at (t ∷ back) e q =
+      at : (more : List (Terminal AtomSyntax)) → Fits first (read.terminals ++ more) p → Terminals arch threads here more → ⊥
+      at [] fits q = some q
+      at (t ∷ back) fits q =
           let now = with_sites names (sites_in (t ∷ [])) in
           let last = with_sites names (sites_in (t ∷ back)) in
           let after : last ≡ with_sites now (sites_in back) = with_sites_in-append names (t ∷ []) back in
-          let left = whole_left (t ∷ back) p (subst (λ l. IsProposition (map (resolved (with_sites first (sites_in l))) l) p) e whole) in
+          let left = whole_left (t ∷ back) p fits.says in
           let alone : resolved last t ∷ [] ≡ resolved now t ∷ [] = ap (λ ns. resolved ns t ∷ []) after
           ∙ map_resolved-along now (site_names (sites_in back)) (t ∷ []) (all_now names (site_names (sites_in (t ∷ [])))) in
           let same : resolved last t ≡ resolved now t = cc in
-          let names_fit : length now ≤ 8 = omega (
-            arith,
-            few,
-            ap (λ l. length (with_sites first (sites_in l))) e,
-            ap length (table_of (t ∷ back)),
-            ap length after,
-            with_names-longer now (site_names (sites_in back)),
-          ) in
-          let nodes_fit : nodes + count (t ∷ []) ≤ 256 = omega
-          (arith, room, ap count e, count_append read.terminals (t ∷ back), count_append (t ∷ []) back, read.count) in
-          never t q.0 (map (resolved last) back) p q.1 (subst (λ x. Completes reader (x ∷ map (resolved last) back) p) same left) names_fit nodes_fit
+          let room : length now ≤ 8 = omega (arith, fits.room, ap length (table_of (t ∷ back)), ap length
+              after, with_names-longer now (site_names (sites_in back))) in
+          let few : nodes + count (t ∷ []) ≤ 256 = omega
+          (arith, fits.few, count_append read.terminals (t ∷ back), count_append (t ∷ []) back, read.count) in
+          let more = map (resolved last) back in
+          never t q.0 q.1 (λ none. let nowhere = ap said_at (ap (λ o. lead o more) (ap (state_behind (state_of reader)) same ∙ none)
+            ∙ fold_stays _ None (λ s. refl) more) in cc)
+          room few
 
   pub once_here : EachOnce first → EachOnce names
   once_here once = subst EachOnce (sym read.names_are) (once-along first (site_names (sites_in read.terminals)) once)
 
--- a terminal that was taken is in the table what it is in memory
-same_terminal : {arch : Arch} {threads : ℕ} {before behind : Cursor} {names after : NameTable} {s : Made} → EachOnce names
-    → TakenTerminal arch threads before behind names after s → resolved after (named_terminal after s) ≡ terminal_of s
-same_terminal {names = names} {after = after} {s = s} once taken =
-    resolved_named after s (subst EachOnce (sym taken.names_are) (once-along names (site_names (sites_in (named_terminal after s ∷ []))) once)) taken.within
+one_node : (b : Bool) (t : Terminal AtomSyntax) → is_node t ≡ b → count (t ∷ []) ≡ (if b then 1 else 0)
+one_node true t e = rw e refl
+one_node false t e = rw e refl
 
--- one more terminal
-pub terminals_more : {A : Type 0} {arch : Arch} {threads : ℕ} {first names start : TokenList} {nodes : ℕ} {reader reader_after : PropositionReader A}
-    {before behind : Cursor} {after : NameTable} {s : Made} → TerminalsRead arch threads first names start (left before) nodes reader → EachOnce first
-    → TakenTerminal arch threads before behind names after s → state_behind (state_of reader) (terminal_of s) ≡ Some (state_of reader_after)
-    → (nodes_after : ℕ) → nodes_after ≡ nodes + (if is_node (terminal_of s) then 1 else 0) → nodes_after ≤ 256
-    → TerminalsRead arch threads first after start (left behind) nodes_after reader_after
-terminals_more {arch = arch} {threads} {first} {names} {start} {nodes} {reader} {reader_after} {before} {behind} {after} {s} read once taken step
-    nodes_after counts few =
-    let t = named_terminal after s in
-    let ns = site_names (sites_in (t ∷ [])) in
-    let made_more : map (resolved after) (read.terminals ++ t ∷ []) ≡ map (resolved names) read.terminals ++ terminal_of s ∷ [] =
-    map-append (resolved after) read.terminals (t ∷ [])
-    ∙ ap (λ l. l ++ resolved after t ∷ []) (ap (λ ns. map (resolved ns) read.terminals) taken.names_are ∙ same_behind read ns)
-    ∙ ap (λ (x : Terminal Formula). map (resolved names) read.terminals ++ x ∷ []) (same_terminal (once_here read once) taken) in
-    let exact = λ (ss : List (Terminal Formula)) (p : Formula). next_exact (state_of reader) (terminal_of s) ss p (Some (state_of reader_after)) step in
-    record {
-      terminals = read.terminals ++ t ∷ [];
-      gone = Chain-push (IsTerminal arch threads) read.terminals start (left before) (left behind) t read.gone taken.is;
-      names_are = taken.names_are ∙ sym (table_of read (t ∷ []));
-      count = omega (arith, counts, read.count, count_append read.terminals (t ∷ []), one_node (is_node (terminal_of s)) t (node_named after s));
-      few = few;
-      says = λ ss p.
-          let joined : map (resolved after) (read.terminals ++ t ∷ []) ++ ss ≡ map (resolved names) read.terminals ++ terminal_of s ∷ ss =
-          ap (λ l. l ++ ss) made_more ∙ append_assoc (map (resolved names) read.terminals) (terminal_of s ∷ []) ss in
-          let whole = read.says (terminal_of s ∷ ss) p in
-          subst (λ l. Completes reader_after ss p ↔ IsProposition l p) (sym joined)
-          (λ h. whole.0 ((exact ss p).0 h), λ h. (exact ss p).1 (whole.1 h));
-    }
-  where
-    one_node : (b : Bool) (t : Terminal AtomSyntax) → is_node t ≡ b → count (t ∷ []) ≡ (if b then 1 else 0)
-    one_node true t e = rw e refl
-    one_node false t e = rw e refl
+-- a terminal that was taken
+module _ {arch : Arch} {threads : ℕ} {before behind : Cursor} {names after : NameTable} {s : Made}
+    (taken : TakenTerminal arch threads before behind names after s) where
+  -- it is in the table what it is in memory
+  same_terminal : EachOnce names → resolved after (named_terminal after s) ≡ terminal_of s
+  same_terminal once =
+      resolved_named after s (subst EachOnce (sym taken.names_are) (once-along names (site_names (sites_in (named_terminal after s ∷ []))) once)) taken.within
 
--- a terminal that can't come next
-pub terminal_refused : {A : Type 0} {arch : Arch} {threads : ℕ} {before behind : Cursor} {names after : NameTable} {s : Made} (reader : PropositionReader A)
-    → EachOnce names → TakenTerminal arch threads before behind names after s → state_behind (state_of reader) (terminal_of s) ≡ None
-    → (t : Terminal AtomSyntax) (rest : TokenList) (ss : List (Terminal Formula)) (p : Formula) → IsTerminal arch threads (left before) t rest
-    → Completes reader (resolved (with_sites names (sites_in (t ∷ []))) t ∷ ss) p → ⊥
-terminal_refused {arch = arch} {threads} {before} {behind} {names} {after} {s} reader once taken step t rest ss p is goes =
-    let e : t ≡ named_terminal after s = (IsTerminal-unique arch threads (left before) t (named_terminal after s) rest (left behind) is taken.is).0 in
-    let f : resolved (with_sites names (sites_in (t ∷ []))) t ≡ terminal_of s =
-    ap (λ (x : Terminal AtomSyntax). resolved (with_sites names (sites_in (x ∷ []))) x) e
-    ∙ ap (λ ns. resolved ns (named_terminal after s)) (sym taken.names_are) ∙ same_terminal once taken in
-    next_exact (state_of reader) (terminal_of s) ss p None step (subst (λ x. Completes reader (x ∷ ss) p) f goes)
+  -- one more
+  pub terminals_more : {A : Type 0} {first start : TokenList} {nodes : ℕ} {reader reader_after
+      : PropositionReader A}
+      → TerminalsRead arch threads first names start (left before) nodes reader → EachOnce first
+      → state_behind (state_of reader) (terminal_of s) ≡ Some (state_of reader_after) → (nodes_after : ℕ)
+      → nodes_after ≡ nodes + (if is_node (terminal_of s) then 1 else 0) → nodes_after ≤ 256
+      → TerminalsRead arch threads first after start (left behind) nodes_after reader_after
+  terminals_more {start = start} read once step nodes_after counts few =
+      let t = named_terminal after s in
+      let ns = site_names (sites_in (t ∷ [])) in
+      let made_more : map (resolved after) (read.terminals ++ t ∷ []) ≡ map (resolved names) read.terminals ++ terminal_of s ∷ [] =
+      map-append (resolved after) read.terminals (t ∷ []) ∙ ap (λ l. l ++ resolved after t ∷ [])
+          (ap (λ ns. map (resolved ns) read.terminals) taken.names_are ∙ same_behind read ns)
+          ∙ ap (λ x. map (resolved names) read.terminals ++ x ∷ []) (same_terminal (once_here read once)) in
+      record {
+        terminals = read.terminals ++ t ∷ [];
+        gone = Chain-push _ read.terminals start (left before) (left behind) t read.gone taken.is;
+        names_are = taken.names_are ∙ sym (table_of read (t ∷ []));
+        count = omega (arith, counts, read.count, count_append read.terminals (t ∷ []), one_node (is_node (terminal_of s)) t (node_named after s));
+        few = few;
+        leads = ap (lead (Some begun)) made_more ∙ lead_on read (terminal_of s ∷ []) ∙ step;
+      }
+
+  -- one that can't come next
+  pub terminal_refused : {A : Type 0} (reader : PropositionReader A) → EachOnce names → state_behind (state_of reader) (terminal_of s) ≡ None
+      → (t : Terminal AtomSyntax) (rest : TokenList) → IsTerminal arch threads (left before) t rest
+      → state_behind (state_of reader) (resolved (with_sites names (sites_in (t ∷ []))) t) ≡ None
+  terminal_refused reader once step t rest is =
+      let e : t ≡ named_terminal after s = (IsTerminal-unique arch threads (left before) t (named_terminal after s) rest (left behind) is taken.is).0 in
+      let f : resolved (with_sites names (sites_in (t ∷ []))) t ≡ terminal_of s =
+      ap (λ (x : Terminal AtomSyntax). resolved (with_sites names (sites_in (x ∷ []))) x) e
+      ∙ ap (λ ns. resolved ns (named_terminal after s)) (sym taken.names_are) ∙ same_terminal once in
+      ap (state_behind (state_of reader)) f ∙ step
 
 -- a terminal begins as one that may come next
-pub begins_right : {A : Type 0} (reader : PropositionReader A) (part : Bool) → is_some reader.part ≡ not part → (names : NameTable)
-    (s : Terminal AtomSyntax) (ss : List (Terminal Formula)) (p : Formula) → Completes reader (resolved names s ∷ ss) p → begins_part s ≡ part
-begins_right reader part next names s ss p goes = sym (begins_resolved names s) ∙ next_begins (group_of reader.group) ss p formula_of reader.part
-    (reverse (map group_of reader.outer.items)) (resolved names s) part next goes
+next_begins : (o : Option Formula) (l : Pending) (os : List Pending) (s : Terminal Formula) (b : Bool)
+    → is_some o ≡ not b → state_behind (standing o l os) s ≢ None → begins_part s ≡ b
+next_begins None l os Open true e some = refl
+next_begins None l os Negation true e some = refl
+next_begins None l os (Atom p) true e some = refl
+next_begins (Some x) l os Close false e some = refl
+next_begins (Some x) l os Conjunction false e some = refl
+next_begins (Some x) l os Disjunction false e some = refl
+next_begins None l os _ false e some = absurd cc
+next_begins (Some x) l os _ true e some = absurd cc
+next_begins _ l os _ _ e some = absurd (some refl)
+
+pub begins_right : {A : Type 0} (reader : PropositionReader A) (part : Bool) → is_some reader.part ≡ not part
+    → (names : NameTable) (s : Terminal AtomSyntax) → state_behind (state_of reader) (resolved names s) ≢ None
+    → begins_part s ≡ part
+begins_right reader part next names s some = sym (begins_resolved names s) ∙ next_begins _
+    (group_of reader.group) _ (resolved names s) part (same_some formula_of reader.part ∙ next) some
+  where
+    same_some : {X Y : Type 0} (f : X → Y) (o : Option X) → is_some (option_map f o) ≡ is_some o
+    same_some f None = refl
+    same_some f (Some x) = refl
 
 -- ---- parentheses
 
 abbrev pub at_parenthesis : TokenList → Bool
 at_parenthesis here = begins_word (codes "(") here || begins_word (codes ")") here
 
-word_at : (w : Bytes) (here : TokenList) → begins_word w here ≡ true → (l : TokenList) × (here ≡ w ∷ l)
-word_at w [] h = absurd cc
-word_at w (t ∷ l) h = (l, ap (λ x. x ∷ l) (is_text t w h))
+-- a site stands at none
+site_elsewhere : (arch : Arch) (w : Bytes) → is_apart w ≡ true → (here rest : TokenList) (site : SiteSyntax)
+    → IsSite arch here site rest → begins_word w here ≡ false
+site_elsewhere arch w apart [] rest site is = refl
+site_elsewhere arch w apart (t ∷ here) rest site is = false_from_ne_true (begins_word w (t ∷ here))
+    (λ e. no_site w apart arch (t ∷ here) here rest site (ap (λ x. x ∷ here) (is_text t w e)) is)
 
--- a terminal at a parenthesis makes no node
-parenthesis_node : (arch : Arch) (threads : ℕ) (here rest : TokenList) (s : Terminal AtomSyntax) → at_parenthesis here ≡ true
-    → IsTerminal arch threads here s rest → is_node s ≡ false
-parenthesis_node arch threads here rest Open e is = refl
-parenthesis_node arch threads here rest Close e is = refl
-parenthesis_node arch threads here rest Negation e (inl is) = absurd (let f = ap at_parenthesis is in cc)
-parenthesis_node arch threads here rest Negation e (inr is) = absurd (let f = ap at_parenthesis is in cc)
-parenthesis_node arch threads here rest (Atom (Holds site n)) e is =
-    elim (or_cases (begins_word (codes "(") here) (begins_word (codes ")") here) e) [
-      | inl h ↦ let k = word_at (codes "(") here h in absurd (no_site (codes "(") refl arch here k.0 is.0 site k.1 is.1)
-      | inr h ↦ let k = word_at (codes ")") here h in absurd (no_site (codes ")") refl arch here k.0 is.0 site k.1 is.1)
-    ]
-parenthesis_node arch threads here rest s e is = absurd (let f = ap at_parenthesis is in cc)
-
--- and another makes one
-other_node : (arch : Arch) (threads : ℕ) (here rest : TokenList) (s : Terminal AtomSyntax) → at_parenthesis here ≡ false
-    → IsTerminal arch threads here s rest → count (s ∷ []) ≡ 1
-other_node arch threads here rest Open e is = absurd (let f = ap at_parenthesis is in cc)
-other_node arch threads here rest Close e is = absurd (let f = ap at_parenthesis is in cc)
-other_node arch threads here rest _ e is = refl
+-- a terminal makes a node, unless it stands at a parenthesis
+node_here : (arch : Arch) (threads : ℕ) (here rest : TokenList) (s : Terminal AtomSyntax)
+    → IsTerminal arch threads here s rest → is_node s ≡ not (at_parenthesis here)
+node_here arch threads here rest Negation (inl is) = sym (ap (λ l. not (at_parenthesis l)) is)
+node_here arch threads here rest Negation (inr is) = sym (ap (λ l. not (at_parenthesis l)) is)
+node_here arch threads here rest (Atom (Holds site n)) is =
+    rw (site_elsewhere arch (codes "(") refl here is.0 site is.1, site_elsewhere arch (codes ")") refl here is.0 site is.1) refl
+node_here arch threads here rest _ is = sym (ap (λ l. not (at_parenthesis l)) is)
 
 -- where there is room, one terminal more is not too many
 pub room_left : {arch : Arch} {threads : ℕ} {before behind : Cursor} {names after : NameTable} {s : Made}
     → TakenTerminal arch threads before behind names after s
     → (nodes : ℕ) → nodes ≤ 256 → (not (nodes == 256) || at_parenthesis (left before)) ≡ true → nodes + (if is_node (terminal_of s) then 1 else 0) ≤ 256
 room_left {arch} {threads} {before} {behind} {after = after} {s = s} taken nodes few room =
-    elim (or_cases (not (nodes == 256)) (at_parenthesis (left before)) room) [
-      | inl h ↦ go (is_node (terminal_of s)) (omega (arith, few, eqb-false nodes 256 (not-true (nodes == 256) h)))
-      | inr h ↦ let e : is_node (terminal_of s) ≡ false = sym (node_named after s) ∙ parenthesis_node arch threads (left before) (left behind)
-          (named_terminal after s) h taken.is in rw e (omega (arith, few))
-    ]
+    rw (sym (node_named after s) ∙ node_here arch threads (left before) (left behind) (named_terminal after s) taken.is)
+      (at (at_parenthesis (left before)) room)
   where
-    go : (b : Bool) → nodes < 256 → nodes + (if b then 1 else 0) ≤ 256
-    go true lt = omega (arith, lt)
-    go false lt = omega (arith, lt)
+    at : (b : Bool) → (not (nodes == 256) || b) ≡ true → nodes + (if not b then 1 else 0) ≤ 256
+    at true room = omega (arith, few)
+    at false room = elim (or_cases (not (nodes == 256)) false room) [
+      | inl h ↦ omega (arith, few, eqb-false nodes 256 (not-true (nodes == 256) h))
+      | inr h ↦ absurd cc
+    ]
 
 -- where there is none, no terminal fits
 pub no_room : (arch : Arch) (threads nodes : ℕ) (here rest : TokenList) (s : Terminal AtomSyntax) → (not (nodes == 256) || at_parenthesis here) ≡ false
     → IsTerminal arch threads here s rest → nodes + count (s ∷ []) ≤ 256 → ⊥
 no_room arch threads nodes here rest s none is le =
     let e = or_parts (not (nodes == 256)) (at_parenthesis here) none in
-    omega (arith, le, other_node arch threads here rest s e.1 is, eqb-true nodes 256 (not-false (nodes == 256) e.0))
+    let one = one_node true s (node_here arch threads here rest s is ∙ ap not e.1) in
+    omega (arith, le, one, eqb-true nodes 256 (not-false (nodes == 256) e.0))

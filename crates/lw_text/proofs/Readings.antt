@@ -4,6 +4,7 @@ use Rattle.std.proofs.Common.{All}
 use Rattle.std.specs.List.{AllByRecursion}
 use Rattle.std.proofs.lemmas.List.{append_cancel_left, map-append, map_push}
 use Rattle.std.proofs.lemmas.List.Elements.{filter_map-append, All-from_recursion}
+use Rattle.lw_base.specs.Refusals.{NoneRead}
 use Rattle.lw_base.specs.Types.{Bytes, NameTable, TokenList}
 use Rattle.lw_base.specs.Tables.{with_names}
 use Rattle.lw_base.proofs.api.Elements.{all_append, all_parts}
@@ -12,8 +13,8 @@ use Rattle.lw_text.specs.declared.site.Site.{Site as Made}
 use Rattle.lw_text.specs.Lists.{Ended}
 use Rattle.lw_text.specs.Sites.{with_sites, HasRoomFor, SiteSyntax, site_name, site_names}
 use Rattle.lw_text.specs.inner.Resolved.{named, IsIn}
-use Rattle.lw_text.proofs.Entries.{semicolon}
-use Rattle.lw_text.proofs.Lists.{Chain-push, Ended-unique, Listed, Listing, Listing-end, Listing-last}
+use Rattle.lw_text.proofs.Atoms.{semicolon}
+use Rattle.lw_text.proofs.Lists.{Chain-push, Ended-unique, Listing, Listing-end, Listing-last, IsOne}
 use Rattle.lw_text.proofs.Lists.{Listing-here, Listing-mark}
 use Rattle.lw_text.proofs.NameTables.{all_along}
 
@@ -47,7 +48,7 @@ pub record Kind (X Y : Type 0) : Type 1 where
   pub syntax : Y → SiteSyntax
   pub same : (names : NameTable) (x : X) → syntax (at names x) ≡ named names (site x)
   pub stable : (names ns : NameTable) (x : X) → IsIn names (site x) → at (with_names names ns) x ≡ at names x
-  pub one : (ts : TokenList) (x y : Y) (r s : TokenList) → stands ts x r → stands ts y s → (x ≡ y) × (r ≡ s)
+  pub one : IsOne stands
   pub apart : semicolon ≡ close → ⊥
   pub unlike : (ts r l : TokenList) (x : Y) → ts ≡ close ∷ l → stands ts x r → ⊥
 
@@ -83,20 +84,19 @@ module _ {X Y : Type 0} (kind : Kind X Y) where
   syntax_sites names (x ∷ xs) = let e = kind.same names x in let f = syntax_sites names xs in cc
 
   -- the list behind its opening
-  behind_opening : (ts start : TokenList) → ts ≡ kind.opening ++ start → (ys : List Y) (rest : TokenList) → Whole ts ys rest
-      → Ended kind.stands semicolon kind.close start ys rest
-  behind_opening ts start e ys rest w =
-      subst (λ l. Ended kind.stands semicolon kind.close l ys rest) (append_cancel_left kind.opening w.0 start (sym w.1 ∙ e)) w.2
+  behind_opening : (ts start : TokenList) → ts ≡ kind.opening ++ start → (ys : List Y) (rest : TokenList)
+      → Whole ts ys rest → Ended kind.stands semicolon kind.close start ys rest
+  behind_opening ts start e ys rest w = rw (append_cancel_left kind.opening w.0 start (sym w.1 ∙ e)) at w.2
 
   -- a list is read in one way
-  pub Whole-unique : (ts : TokenList) (a b : List Y) (r s : TokenList) → Whole ts a r → Whole ts b s → (a ≡ b) × (r ≡ s)
+  pub Whole-unique : IsOne Whole
   Whole-unique ts a b r s p q = Ended-unique kind.stands semicolon kind.close kind.one kind.apart kind.unlike a b p.0 r s p.2 (behind_opening ts p.0 p.1 b s q)
 
 module _ {X Y : Type 0} {kind : Kind X Y} {first names ts here : TokenList} {xs : List X} (read : Read kind first names ts here xs) where
   -- the end behind a separator
   pub read_end : (rest : TokenList) → here ≡ kind.close ∷ rest → ReadWhole kind first names ts rest xs
   read_end rest e = record {
-    whole = (read.start, read.begun, Listing-end kind.stands semicolon kind.close (map (kind.at names) xs) read.start here rest read.listing e);
+    whole = (read.start, read.begun, Listing-end _ semicolon _ _ read.start here rest read.listing e);
     names_are = read.names_are;
     within = All-from_recursion (λ x. IsIn names (kind.site x)) xs read.within;
     there = read.there;
@@ -109,12 +109,11 @@ module _ {X Y : Type 0} {kind : Kind X Y} {first names ts here : TokenList} {xs 
       → HasRoomFor first (map kind.syntax ys) → ⊥
   read_none_here no_end never ys rest w all few =
       let before = map (kind.at names) xs in
-      Listing-here kind.stands semicolon kind.close kind.one kind.apart kind.unlike before ys read.start here rest read.listing (no_end rest)
-      (λ y more mid e p.
-      let f : map kind.syntax ys ≡ sites_of kind names xs ++ kind.syntax y ∷ map kind.syntax more = ap (map kind.syntax) e
-      ∙ map-append kind.syntax before (y ∷ more) ∙ ap (λ l. l ++ kind.syntax y ∷ map kind.syntax more) (syntax_sites kind names xs) in
-      never y mid p (all_parts kind.asks before (y ∷ more) (subst (AllByRecursion kind.asks) e all)).1.0
-      (omega (
+      Listing-here kind.stands semicolon kind.close kind.one kind.apart kind.unlike before ys read.start here
+          rest read.listing (no_end rest) (λ y more mid e p.
+      let f = ap (map kind.syntax) e ∙ map-append kind.syntax before (y ∷ more) ∙ ap (λ l. l ++ kind.syntax y
+          ∷ map kind.syntax more) (syntax_sites kind names xs) in
+      never y mid p (all_parts kind.asks before _ (subst (AllByRecursion kind.asks) e all)).1.0 (omega (
         arith,
         few,
         names_up_to first (sites_of kind names xs) (kind.syntax y) (map kind.syntax more),
@@ -124,16 +123,17 @@ module _ {X Y : Type 0} {kind : Kind X Y} {first names ts here : TokenList} {xs 
 
   -- nor where another mark stands behind an element
   pub read_no_mark : (x : Y) (mid : TokenList) → kind.stands here x mid → ((l : TokenList) → mid ≡ semicolon ∷ l → ⊥)
-      → ((l : TokenList) → mid ≡ kind.close ∷ l → ⊥) → (ys : List Y) (rest : TokenList) → Whole kind ts ys rest → ⊥
+      → ((l : TokenList) → mid ≡ kind.close ∷ l → ⊥) → NoneRead (Whole kind ts)
   read_no_mark x mid p no_sep no_close ys rest w =
-      Listing-mark kind.stands semicolon kind.close kind.one kind.apart kind.unlike (map (kind.at names) xs) ys read.start here mid rest x read.listing p
-      no_sep no_close (behind_opening kind ts read.start read.begun ys rest w)
+      Listing-mark kind.stands semicolon kind.close kind.one kind.apart kind.unlike _ ys read.start here mid
+      rest x read.listing p no_sep no_close (behind_opening kind ts read.start read.begun ys rest w)
 
   -- one more
-  module _ (after : NameTable) (x : X) (grows : after ≡ with_sites names (named after (kind.site x) ∷ [])) (is_in : IsIn after (kind.site x))
-      (fits : kind.asks (kind.at after x)) (mid : TokenList) (p : kind.stands here (kind.at after x) mid) where
+  module _ (after : NameTable) (x : X) (grows : after ≡ with_sites names (named after (kind.site x) ∷ []))
+      (is_in : IsIn after (kind.site x)) (fits : kind.asks (kind.at after x)) (mid : TokenList)
+      (p : kind.stands here (kind.at after x) mid) where
     along : (map (kind.at after) xs ≡ map (kind.at names) xs) × AllByRecursion (λ x. IsIn after (kind.site x)) xs
-    along = all_along kind.site kind.at kind.stable names after (site_names (named after (kind.site x) ∷ [])) xs grows read.within
+    along = all_along _ _ kind.stable _ _ (site_names (named after (kind.site x) ∷ [])) xs grows read.within
 
     at_more : map (kind.at after) (xs ++ x ∷ []) ≡ map (kind.at names) xs ++ kind.at after x ∷ []
     at_more = map_push (kind.at after) xs x ∙ ap (λ l. l ++ kind.at after x ∷ []) along.0
@@ -141,10 +141,8 @@ module _ {X Y : Type 0} {kind : Kind X Y} {first names ts here : TokenList} {xs 
     names_are_more : after ≡ with_sites first (sites_of kind after (xs ++ x ∷ []))
     names_are_more =
         let s = named after (kind.site x) in
-        let same : sites_of kind after xs ≡ sites_of kind names xs = sym (syntax_sites kind after xs)
-        ∙ ap (map kind.syntax) along.0 ∙ syntax_sites kind names xs in
-        let e : sites_of kind after (xs ++ x ∷ []) ≡ sites_of kind names xs ++ s ∷ [] = map_push (λ x. named after (kind.site x)) xs x ∙ ap
-        (λ l. l ++ s ∷ []) same in
+        let same = sym (syntax_sites kind _ xs) ∙ ap (map kind.syntax) along.0 ∙ syntax_sites kind names xs in
+        let e = map_push (λ x. named after (kind.site x)) xs x ∙ ap (λ l. l ++ s ∷ []) same in
         grows ∙ ap (λ ns. with_sites ns (s ∷ [])) read.names_are ∙ sym
         (ap (λ l. with_sites first l) e ∙ with_sites-append first (sites_of kind names xs) (s ∷ []))
 
@@ -152,14 +150,14 @@ module _ {X Y : Type 0} {kind : Kind X Y} {first names ts here : TokenList} {xs 
     within_more = all_push (λ x. IsIn after (kind.site x)) xs x along.1 is_in
 
     there_more : AllByRecursion kind.asks (map (kind.at after) (xs ++ x ∷ []))
-    there_more = subst (AllByRecursion kind.asks) (sym at_more) (all_push kind.asks (map (kind.at names) xs) (kind.at after x) read.there fits)
+    there_more = subst (AllByRecursion kind.asks) (sym at_more) (all_push kind.asks _ _ read.there fits)
 
     pub read_more : (next : TokenList) → mid ≡ semicolon ∷ next → Read kind first after ts next (xs ++ x ∷ [])
     read_more next e = record {
       start = read.start;
       begun = read.begun;
       listing = subst (λ l. Listing kind.stands semicolon kind.close read.start l next) (sym at_more)
-          (Chain-push (Listed kind.stands semicolon kind.close) (map (kind.at names) xs) read.start here next (kind.at after x) read.listing (mid, p, e));
+          (Chain-push _ _ read.start here next (kind.at after x) read.listing (mid, p, e));
       names_are = names_are_more;
       within = within_more;
       there = there_more;
@@ -171,7 +169,7 @@ module _ {X Y : Type 0} {kind : Kind X Y} {first names ts here : TokenList} {xs 
         read.start,
         read.begun,
         subst (λ l. Ended kind.stands semicolon kind.close read.start l rest) (sym at_more)
-            (Listing-last kind.stands semicolon kind.close (map (kind.at names) xs) read.start here mid rest (kind.at after x) read.listing p e),
+            (Listing-last kind.stands semicolon kind.close _ read.start here mid rest _ read.listing p e),
       );
       names_are = names_are_more;
       within = All-from_recursion (λ x. IsIn after (kind.site x)) (xs ++ x ∷ []) within_more;

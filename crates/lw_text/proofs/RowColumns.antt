@@ -7,10 +7,9 @@ use Rattle.std.proofs.lemmas.List.{take_more}
 use Rattle.std.proofs.lemmas.List.FromFn.{length-map-range_with_len}
 use Rattle.std.proofs.lemmas.List.Elements.{filter_map-append, All-from_recursion}
 use Rattle.std.proofs.lemmas.Option.{slice_get_read, slice_get_within, get_or_from_slice_get, slice_get-map}
-use Rattle.lw_text.specs.declared.cell.Cell.{Cell}
 use Rattle.lw_text.specs.Rows.{column, columns}
 use Rattle.lw_base.proofs.api.Elements.{each_of, all_of_range}
-use Rattle.lw_text.specs.Places.{cell_texts, all_texts, placed_cell, placed_cells, height}
+use Rattle.lw_text.specs.Places.{height}
 use Rattle.lw_base.proofs.api.Lists.{get_some}
 
 -- one more row
@@ -18,28 +17,26 @@ pub column-more : {X : Type 0} (rows : List (List X)) (i k : ℕ) (row : List X)
     → x ≡ get_or row k x → column (take (i + 1) rows) k ≡ column (take i rows) k ++ x ∷ []
 column-more rows i k row x lt is within at =
     let h : slice_get row k ≡ Some x = slice_get_read row (length row) k x refl within at in
-    ap (λ l. column l k) (take_more rows i row lt) ∙ filter_map-append (λ r. slice_get r k) (take i rows) (get_or rows i row ∷ []) ∙ rw (← is, h) refl
+    ap (λ l. column l k) (take_more rows i row lt) ∙ filter_map-append _ (take i rows) _ ∙ rw (← is, h) refl
 
 -- ---- what each column is
 
 all_columns : {X : Type 0} (Q : List X → Type 0) (n : ℕ) (rows : List (List X)) → ((k : ℕ) → k < n → Q (column rows k)) → All Q (columns n rows)
-all_columns Q n rows h = All-from_recursion Q (columns n rows) (all_of_range Q (column rows) 0 n (λ k le lt. h k (omega (arith, lt))))
+all_columns Q n rows h = All-from_recursion Q _ (all_of_range Q _ 0 n (λ k le lt. h k (omega (arith, lt))))
 
 column-length : {X : Type 0} (n k : ℕ) (rows : List (List X)) → k < n → AllByRecursion (λ row. length row ≡ n) rows → length (column rows k) ≡ length rows
 column-length n k [] lt all = refl
 column-length n k (row ∷ rows) lt all =
-    let h = get_some row k (omega (arith, lt, all.0)) in
-    let e = h.1 in
-    rw e (ap suc (column-length n k rows lt all.1))
+    rw ((get_some row k (omega (arith, lt, all.0))).1) (ap suc (column-length n k rows lt all.1))
 
-cons_each : {X : Type 0} (P : X → Type 0) (row more : List X) (k : ℕ) (o : Option X) → slice_get row k ≡ o → All P row → AllByRecursion P more
-    → AllByRecursion P (cons_option o more)
+cons_each : {X : Type 0} (P : X → Type 0) (row more : List X) (k : ℕ) (o : Option X) → slice_get row k ≡ o
+    → All P row → AllByRecursion P more → AllByRecursion P (cons_option o more)
 cons_each P row more k None e all rest = rest
 cons_each P row more k (Some x) e all rest = (subst P (get_or_from_slice_get row k x x e) (all k x (slice_get_within row k x e)), rest)
 
 column-each : {X : Type 0} (P : X → Type 0) (k : ℕ) (rows : List (List X)) → AllByRecursion (λ row. All P row) rows → AllByRecursion P (column rows k)
 column-each P k [] all = tt
-column-each P k (row ∷ rows) all = cons_each P row (column rows k) k (slice_get row k) refl all.0 (column-each P k rows all.1)
+column-each P k (row ∷ rows) all = cons_each P row (column rows k) k _ refl all.0 (column-each P k rows all.1)
 
 -- ---- columns of rows of which each has a cell for each thread
 
@@ -52,15 +49,15 @@ module _ {X : Type 0} (n : ℕ) (rows : List (List X)) (even : All (λ row. leng
     where
       at : (m : ℕ) → n ≡ m → 1 ≤ n → height (columns n rows) ≡ length rows
       at zero e some = absurd (omega arith)
-      at (suc m) e some = rw e (column-length n 0 rows (omega (arith, some)) (each_of rows (λ row. length row ≡ n) even))
+      at (suc m) e some = rw e (column-length n 0 rows (omega (arith, some)) (each_of rows _ even))
 
   pub columns-even : 1 ≤ n → All (λ c. length c ≡ height (columns n rows)) (columns n rows)
-  columns-even some = all_columns (λ c. length c ≡ height (columns n rows)) n rows
-      (λ k lt. column-length n k rows lt (each_of rows (λ row. length row ≡ n) even) ∙ sym (columns-height some))
+  columns-even some = all_columns (λ c. length c ≡ height (columns n rows)) n rows (λ k lt. column-length n k
+      rows lt (each_of rows (λ row. length row ≡ n) even) ∙ sym (columns-height some))
 
 pub columns-each : {X : Type 0} (P : X → Type 0) (n : ℕ) (rows : List (List X)) → All (λ row. All P row) rows → All (λ c. All P c) (columns n rows)
-columns-each {X} P n rows all = all_columns (λ c. All P c) n rows
-    (λ k lt. All-from_recursion P (column rows k) (column-each P k rows (each_of rows (λ row. All P row) all)))
+columns-each {X} P n rows all = all_columns (λ c. All P c) n rows (λ k lt. All-from_recursion P
+    (column rows k) (column-each P k rows (each_of rows (λ row. All P row) all)))
 
 -- ---- columns of rows that are seen otherwise, as without places
 
@@ -81,9 +78,3 @@ range-map f rows a (suc n) = let e = column-map f rows a in let g = range-map f 
 
 pub columns-map : {X Y : Type 0} (f : X → Y) (n : ℕ) (rows : List (List X)) → map (map f) (columns n rows) ≡ columns n (map (map f) rows)
 columns-map f n rows = range-map f rows 0 n
-
-pub columns-texts : {A : Type 0} (n : ℕ) (rows : List (List (Cell A))) → all_texts (columns n rows) ≡ columns n (all_texts rows)
-columns-texts n rows = columns-map cell_texts n rows
-
-pub columns-placed : {A : Type 0} (n : ℕ) (rows : List (List (Cell A))) → placed_cells (columns n rows) ≡ columns n (placed_cells rows)
-columns-placed n rows = columns-map placed_cell n rows

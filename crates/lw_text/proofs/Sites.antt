@@ -2,6 +2,7 @@
 use Rattle.std.proofs.Common.{◌≡◌, ◌⊎◌, ℕ, ◌<◌, inl, inr, [], ◌∷◌, Option, None, Some, true, false, slice_get}
 use Rattle.std.proofs.Common.{subst, sym, ap, ◌∙◌, arith, codes, true≢false, ltb-false, ltb-true}
 use Rattle.std.proofs.lemmas.Option.{slice_get_within}
+use Rattle.lw_base.specs.Refusals.{NoSuch, NoneRead}
 use Rattle.lw_base.specs.Types.{Bytes, NameTable, TokenList}
 use Rattle.lw_base.specs.declared.head.Arch.{Arch}
 use Rattle.lw_base.specs.Names.{IsName, IsLocation}
@@ -29,17 +30,17 @@ allowed_thread None t r e = tt
 allowed_thread (Some threads) t r e = ltb-true t threads e
 
 -- a location that was entered, as it stands or in brackets
-pub entered : {arch : Arch} {threads : Option ℕ} {before after : Cursor} {names table : NameTable} {loc : ℕ} {t : Bytes} → IsLocation t
-    → slice_get table loc ≡ Some t → table ≡ with_name names t → MovesOn before after
+pub entered : {arch : Arch} {threads : Option ℕ} {before after : Cursor} {names table : NameTable} {loc : ℕ} {t : Bytes}
+    → IsLocation t × (slice_get table loc ≡ Some t) × (table ≡ with_name names t) → MovesOn before after
     → (left before ≡ t ∷ left after) ⊎ (left before ≡ codes "[" ∷ t ∷ codes "]" ∷ left after)
     → TakenSite arch threads before after names table (made.Location loc)
-entered {arch} {threads} {before} {after} {names} {table} {loc} {t} is stands grows leaves e =
-    let same = sym (named-at table loc t stands) in
+entered {arch} {threads} {before} {after} {names} {table} {loc} {t} made leaves e =
+    let same = sym (named-at table loc t made.1) in
     record {
-      is = subst (λ s. IsSite arch (left before) s (left after)) same (is, e);
+      is = subst (λ s. IsSite arch (left before) s (left after)) same (made.0, e);
       there = allowed_location threads _;
-      names_are = grows ∙ ap (λ s. with_sites names (s ∷ [])) same;
-      within = slice_get_within table loc t stands;
+      names_are = made.2 ∙ ap (λ s. with_sites names (s ∷ [])) same;
+      within = slice_get_within table loc t made.1;
       leaves = leaves;
     }
 
@@ -62,23 +63,22 @@ module _ (arch : Arch) (names : NameTable) {ts l : TokenList} {t : Bytes} (e : t
       let same : u ≡ n = number-unique t u n (subst (λ w. IsNumber w u) k p.3) number in
       (p.1, r, ap (λ (v : ℕ). InThread v r) same, cc, p.4)
 
-  pub thread_refused : (n : ℕ) → IsNumber t n → (threads : Option ℕ) → is_allowed threads n ≡ false → (s : SiteSyntax) (rest : TokenList)
-      → IsSite arch ts s rest → ThreadAllowed threads s → ⊥
+  pub thread_refused : (n : ℕ) → IsNumber t n → (threads : Option ℕ) → is_allowed threads n ≡ false
+      → (s : SiteSyntax) (rest : TokenList) → IsSite arch ts s rest → ThreadAllowed threads s → ⊥
   thread_refused n number None refused s rest p there = absurd (true≢false refused)
   thread_refused n number (Some threads) refused s rest p there =
-      let same = (behind_number n number s rest p).2 in
-      let exists : n < threads = subst (ThreadExists threads) same there in
+      let exists : n < threads = subst (ThreadExists threads) ((behind_number n number s rest p).2) there in
       omega (arith, exists, ltb-false n threads refused)
 
   pub register_none : (n : ℕ) → IsNumber t n
       → ((q : Bytes) (r : ℕ) (rest : TokenList) → l ≡ codes ":" ∷ q ∷ rest → IsRegister arch q r → ⊥)
-      → (s : SiteSyntax) (rest : TokenList) → IsSite arch ts s rest → ⊥
-  register_none n number never s rest p = let k = behind_number n number s rest p in never k.0 k.1 rest k.3 k.4
+      → NoneRead (IsSite arch ts)
+  register_none n number never s rest p = let k = behind_number n number s _ p in never k.0 k.1 rest k.3 k.4
 
   -- at another token
-  pub location_none : (t ≡ codes "[" → ⊥) → ((n : ℕ) → IsNumber t n → ⊥) → (IsLocation t → HasRoomForName names t → ⊥)
+  pub location_none : (t ≡ codes "[" → ⊥) → NoSuch (IsNumber t) → (IsLocation t → HasRoomForName names t → ⊥)
       → (s : SiteSyntax) (rest : TokenList) → IsSite arch ts s rest → HasRoomFor names (s ∷ []) → ⊥
-  location_none no_bracket no_number never (InMemory x) rest (p, inl f) few = let k : x ≡ t = cc in never (subst IsLocation k p)
-      (subst (λ y. HasRoomForName names y) k few)
+  location_none no_bracket no_number never (InMemory x) rest (p, inl f) few = let k : x ≡ t = cc in never
+      (subst IsLocation k p) (subst (λ y. HasRoomForName names y) k few)
   location_none no_bracket no_number never (InMemory x) rest (p, inr f) few = let k : t ≡ codes "[" = cc in no_bracket k
   location_none no_bracket no_number never (InThread u r) rest p few = let f = p.2 in let k : p.0 ≡ t = cc in no_number u (subst (λ w. IsNumber w u) k p.3)

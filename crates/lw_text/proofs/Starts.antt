@@ -1,9 +1,9 @@
--- What registers and locations begin with, one further.
+-- What registers and locations begin with, one further, and what is known of all that a loop has passed.
 use Rattle.std.proofs.Common.{◌≡◌, ℕ, ◌+◌, ◌<◌, Bool, true, false, List, [], ◌∷◌, ◌++◌, length, map, take}
 use Rattle.std.proofs.Common.{get_or, refl, sym, ap, ◌∙◌, append_assoc, zero-add, filter, if◌then◌else◌}
-use Rattle.std.proofs.Common.{flat_map, map-id, append-nil}
-use Rattle.std.specs.List.{list_any, range_with_len}
-use Rattle.std.proofs.lemmas.List.Folds.{list_any_more, list_any_at}
+use Rattle.std.proofs.Common.{flat_map, map-id, append-nil, ◌≤◌, drop, take_all, take-append-drop}
+use Rattle.std.specs.List.{list_any, range_with_len, list_all}
+use Rattle.std.proofs.lemmas.List.Folds.{list_any_more, list_any_at, list_all-append, list_all_more}
 use Rattle.std.proofs.lemmas.Grind.{flat_map-append}
 use Rattle.std.proofs.lemmas.List.{take_more, map_push}
 use Rattle.std.proofs.lemmas.List.Sums.{fold-append}
@@ -25,18 +25,18 @@ word_more es i e s lt is =
 -- those among some, and one more
 pub filter_more : {X : Type 0} (p : X → Bool) (f : ℕ → X) (n : ℕ)
     → filter p (map f (range_with_len 0 (n + 1))) ≡ filter p (map f (range_with_len 0 n)) ++ filter p (f n ∷ [])
-filter_more p f n = ap (filter p) (map-range_with_len_more f 0 n n (zero-add n)) ∙ filter-append p (map f (range_with_len 0 n)) (f n ∷ [])
+filter_more p f n = ap (filter p) (map-range_with_len_more f 0 n n (zero-add n)) ∙ filter-append p _ _
 
 -- what is put at the end of those that were seen
 pub seen_more : {X : Type 0} (p : X → Bool) (before seen after : List X) (f : ℕ → X) (n : ℕ) → seen ≡ before ++ filter p (map f (range_with_len 0 n))
     → after ≡ seen ++ filter p (f n ∷ []) → after ≡ before ++ filter p (map f (range_with_len 0 (n + 1)))
 seen_more p before seen after f n e h =
-    h ∙ ap (λ l. l ++ filter p (f n ∷ [])) e ∙ append_assoc before (filter p (map f (range_with_len 0 n))) (filter p (f n ∷ [])) ∙ ap (λ l. before ++ l)
-    (sym (filter_more p f n))
+    h ∙ ap (λ l. l ++ filter p (f n ∷ [])) e ∙ append_assoc before (filter p (map f (range_with_len 0 n)))
+    (filter p (f n ∷ [])) ∙ ap (λ l. before ++ l) (sym (filter_more p f n))
 
 -- whether one is among some: at a step of a loop over these, behind it, and where it is found
-pub none_more : {X : Type 0} (p : X → Bool) (xs : List X) (i : ℕ) (x : X) → i < length xs → x ≡ get_or xs i x → p x ≡ false
-    → list_any p (take i xs) ≡ false → list_any p (take (i + 1) xs) ≡ false
+pub none_more : {X : Type 0} (p : X → Bool) (xs : List X) (i : ℕ) (x : X) → i < length xs → x ≡ get_or xs i x
+    → p x ≡ false → list_any p (take i xs) ≡ false → list_any p (take (i + 1) xs) ≡ false
 none_more p xs i x lt is h none = list_any_more p xs i x lt ∙ rw (none, ← is, h) refl
 
 pub some_at : {X : Type 0} (p : X → Bool) (xs : List X) (i : ℕ) (x : X) → i < length xs → x ≡ get_or xs i x → p x ≡ true → list_any p xs ≡ true
@@ -53,14 +53,30 @@ range-more a n = sym (map-id (range_with_len a (n + 1))) ∙ map-range_with_len_
     ∙ ap (λ l. l ++ (a + n) ∷ []) (map-id (range_with_len a n))
 
 -- the registers of one more thread
-pub registers_more : (p : Seen → Bool) (seen after : List Seen) (n : ℕ) → seen ≡ filter p (all_registers n) → after ≡ seen ++ filter p (thread_registers n)
-    → after ≡ filter p (all_registers (n + 1))
+pub registers_more : (p : Seen → Bool) (seen after : List Seen) (n : ℕ) → seen ≡ filter p (all_registers n)
+    → after ≡ seen ++ filter p (thread_registers n) → after ≡ filter p (all_registers (n + 1))
 registers_more p seen after n e f =
-    let more : all_registers (n + 1) ≡ all_registers n ++ thread_registers n = ap (flat_map thread_registers)
-    (range-more 0 n ∙ ap (λ (k : ℕ). range_with_len 0 n ++ k ∷ []) (zero-add n)) ∙ flat_map-append thread_registers (range_with_len 0 n) (n ∷ []) ∙ ap
-    (λ l. all_registers n ++ l) (append-nil (thread_registers n)) in
-    f ∙ ap (λ l. l ++ filter p (thread_registers n)) e ∙ sym (ap (filter p) more ∙ filter-append p (all_registers n) (thread_registers n))
+    let more = ap (flat_map thread_registers) (range-more 0 n ∙ ap (λ (k : ℕ). range_with_len 0 n ++ k ∷ [])
+        (zero-add n)) ∙ flat_map-append thread_registers (range_with_len 0 n) (n ∷ [])
+        ∙ ap (λ l. all_registers n ++ l) (append-nil (thread_registers n)) in
+    f ∙ ap (λ l. l ++ filter p (thread_registers n)) e ∙ sym (ap (filter p) more ∙ filter-append p _ _)
 
 -- the words of one more location
 pub words_more : (f : Seen → ℕ) (n : ℕ) → map f (locations (n + 1)) ≡ map f (locations n) ++ f (Location n) ∷ []
-words_more f n = ap (map f) (map-range_with_len_more (λ x. Location x) 0 n n (zero-add n)) ∙ map_push f (locations n) (Location n)
+words_more f n = ap (map f) (map-range_with_len_more _ 0 n n (zero-add n)) ∙ map_push f _ (Location n)
+
+-- ---- all of a list
+
+pub all_more : {X : Type 0} (p : X → Bool) (xs : List X) (i : ℕ) (x : X) → i < length xs → x ≡ get_or xs i x
+    → p x ≡ true → list_all p (take i xs) ≡ true → list_all p (take (i + 1) xs) ≡ true
+all_more p xs i x lt is h all = list_all_more p xs i x lt ∙ rw (all, ← is, h) refl
+
+-- what is known of all that a loop has passed, behind it
+pub at_end : {X Y : Type 0} (f : List X → Y) (xs : List X) (i : ℕ) (y : Y) → length xs ≤ i → f (take i xs) ≡ y → f xs ≡ y
+at_end f xs i y le all = ap f (sym (take_all i xs le)) ∙ all
+
+pub all_missed : {X : Type 0} (p : X → Bool) (xs : List X) (i : ℕ) (x : X) → i < length xs → x ≡ get_or xs i x
+    → p x ≡ false → list_all p (take i xs) ≡ true → list_all p xs ≡ false
+all_missed p xs i x lt is h all =
+    ap (list_all p) (sym (take-append-drop (i + 1) xs)) ∙ list_all-append p (take (i + 1) xs)
+    (drop (i + 1) xs) ∙ rw (list_all_more p xs i x lt, all, ← is, h) refl

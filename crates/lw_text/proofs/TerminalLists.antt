@@ -2,17 +2,17 @@
 use Rattle.std.proofs.Common.{◌≡◌, ℕ, ◌<◌, inl, inr, true, false, List, [], ◌∷◌, ◌++◌, length, refl, sym, ap}
 use Rattle.std.proofs.Common.{◌∙◌, subst, arith, codes, if◌then◌else◌, ◌⊎◌, Option, Some, None, bytes_eq}
 use Rattle.std.proofs.Common.{append-nil}
-use Rattle.lw_base.specs.Types.{Bytes, NameTable, TokenList}
+use Rattle.lw_base.specs.Refusals.{NoneRead}
+use Rattle.lw_base.specs.Types.{Bytes, TokenList}
 use Rattle.lw_base.specs.declared.head.Arch.{Arch}
 use Rattle.lw_text.specs.Lists.{Chain}
-use Rattle.lw_text.specs.Sites.{HasRoomFor, SiteSyntax, IsSite, ThreadExists, Value}
+use Rattle.lw_text.specs.Sites.{SiteSyntax, IsSite, Value}
 use Rattle.lw_text.specs.Propositions.{Terminal, Open, Close, Negation, Conjunction, Disjunction, Atom}
 use Rattle.lw_text.specs.Conditions.{AtomSyntax, Always, Never, Holds, IsTerminal, Terminals, begins_word}
-use Rattle.lw_text.specs.Conditions.{sites_in}
 use Rattle.lw_text.specs.inner.Pending.{begins_part}
 use Rattle.lw_text.proofs.Atoms.{IsSite-unique, IsSite-shorter, Value-unique, Value-shorter, is_apart}
 use Rattle.lw_text.proofs.Atoms.{no_site}
-use Rattle.lw_text.proofs.Lists.{Chain-peel}
+use Rattle.lw_text.proofs.Lists.{Chain-peel, IsOne}
 use Rattle.lw_text.proofs.Texts.{no_word_next}
 
 -- ---- terminals are read in one way
@@ -20,15 +20,11 @@ use Rattle.lw_text.proofs.Texts.{no_word_next}
 -- the terminal that a word is
 abbrev terminal_word : Bytes → Option (Terminal AtomSyntax)
 terminal_word w =
-    if bytes_eq w (codes "(") then Some Open
-    else if bytes_eq w (codes ")") then Some Close
-    else if bytes_eq w (codes "~") then Some Negation
-    else if bytes_eq w (codes "not") then Some Negation
-    else if bytes_eq w (codes "/\\") then Some Conjunction
-    else if bytes_eq w (codes "\\/") then Some Disjunction
-    else if bytes_eq w (codes "true") then Some (Atom Always)
-    else if bytes_eq w (codes "false") then Some (Atom Never)
-    else None
+    if bytes_eq w (codes "(") then Some Open else if bytes_eq w (codes ")") then Some Close else if bytes_eq w
+    (codes "~") then Some Negation else if bytes_eq w (codes "not") then Some Negation else if bytes_eq w
+    (codes "/\\") then Some Conjunction else if bytes_eq w (codes "\\/") then Some Disjunction else if
+    bytes_eq w (codes "true") then Some (Atom Always) else if bytes_eq w (codes "false") then Some
+    (Atom Never) else None
 
 -- a terminal is a word, or a site and its value
 record Word (ts : TokenList) (s : Terminal AtomSyntax) (rest : TokenList) : Type 0 where
@@ -45,8 +41,8 @@ record Claimed (arch : Arch) (threads : ℕ) (ts : TokenList) (s : Terminal Atom
   pub site_is : IsSite arch ts site mid
   pub value : Value mid n rest
 
-front : (arch : Arch) (threads : ℕ) (ts rest : TokenList) (s : Terminal AtomSyntax) → IsTerminal arch threads ts s rest
-    → Word ts s rest ⊎ Claimed arch threads ts s rest
+front : (arch : Arch) (threads : ℕ) (ts rest : TokenList) (s : Terminal AtomSyntax)
+    → IsTerminal arch threads ts s rest → Word ts s rest ⊎ Claimed arch threads ts s rest
 front arch threads ts rest Open e = inl (record { word = codes "("; stands = e; is = refl; apart = refl })
 front arch threads ts rest Close e = inl (record { word = codes ")"; stands = e; is = refl; apart = refl })
 front arch threads ts rest Negation (inl e) = inl (record { word = codes "~"; stands = e; is = refl; apart = refl })
@@ -58,16 +54,15 @@ front arch threads ts rest (Atom Never) e = inl (record { word = codes "false"; 
 front arch threads ts rest (Atom (Holds site n)) p = inr (record { site = site; n = n; mid = p.0; is = refl; site_is = p.1; value = p.3 })
 
 -- where a site stands and no value behind it, no terminal stands
-pub site_alone : (arch : Arch) (threads : ℕ) (ts mid : TokenList) (site : SiteSyntax) → IsSite arch ts site mid
-    → ((v : ℕ) (rest : TokenList) → Value mid v rest → ⊥) → (s : Terminal AtomSyntax) (rest : TokenList) → IsTerminal arch threads ts s rest → ⊥
+pub site_alone : (arch : Arch) (threads : ℕ) (ts mid : TokenList) (site : SiteSyntax)
+    → IsSite arch ts site mid → NoneRead (Value mid) → NoneRead (IsTerminal arch threads ts)
 site_alone arch threads ts mid site p never s rest is =
     elim (front arch threads ts rest s is) [
       | inl w ↦ no_site w.word w.apart arch ts rest mid site w.stands p
       | inr w ↦ never w.n rest (subst (λ l. Value l w.n rest) (IsSite-unique arch ts w.site site w.mid mid w.site_is p).1 w.value)
     ]
 
-pub IsTerminal-unique : (arch : Arch) (threads : ℕ) (ts : TokenList) (a b : Terminal AtomSyntax) (r s : TokenList) → IsTerminal arch threads ts a r
-    → IsTerminal arch threads ts b s → (a ≡ b) × (r ≡ s)
+pub IsTerminal-unique : (arch : Arch) (threads : ℕ) → IsOne (IsTerminal arch threads)
 IsTerminal-unique arch threads ts a b r s p q =
     elim (front arch threads ts r a p) [
       | inl v ↦ elim (front arch threads ts s b q) [
@@ -75,7 +70,6 @@ IsTerminal-unique arch threads ts a b r s p q =
             let e = v.stands in
             let f = w.stands in
             let k : v.word ≡ w.word = cc in
-            let i : Some a ≡ Some b = sym v.is ∙ ap terminal_word k ∙ w.is in
             (cc, cc)
         | inr w ↦ absurd (no_site v.word v.apart arch ts r w.mid w.site v.stands w.site_is)
       ]
@@ -90,8 +84,8 @@ IsTerminal-unique arch threads ts a b r s p q =
       ]
     ]
 
-pub IsTerminal-shorter : (arch : Arch) (threads : ℕ) (ts rest : TokenList) (s : Terminal AtomSyntax) → IsTerminal arch threads ts s rest
-    → length rest < length ts
+pub IsTerminal-shorter : (arch : Arch) (threads : ℕ) (ts rest : TokenList) (s : Terminal AtomSyntax)
+    → IsTerminal arch threads ts s rest → length rest < length ts
 IsTerminal-shorter arch threads ts rest s p =
     elim (front arch threads ts rest s p) [
       | inl w ↦ omega (arith, ap length w.stands)
@@ -105,9 +99,10 @@ no_terminals arch threads [] p = refl
 no_terminals arch threads (s ∷ ss) p = absurd (omega (arith, IsTerminal-shorter arch threads [] p.0 s p.1))
 
 -- the terminals behind one of them
-terminals_behind : (arch : Arch) (threads : ℕ) (ts mid : TokenList) (s : Terminal AtomSyntax) (all : List (Terminal AtomSyntax))
-    → IsTerminal arch threads ts s mid → Terminals arch threads ts all → (more : List (Terminal AtomSyntax)) × (all ≡ s ∷ more)
-    × Terminals arch threads mid more
+terminals_behind : (arch : Arch) (threads : ℕ) (ts mid : TokenList) (s : Terminal AtomSyntax)
+    (all : List (Terminal AtomSyntax))
+    → IsTerminal arch threads ts s mid → Terminals arch threads ts all
+    → (more : List (Terminal AtomSyntax)) × (all ≡ s ∷ more) × Terminals arch threads mid more
 terminals_behind arch threads ts mid s [] p e = absurd (omega (arith, IsTerminal-shorter arch threads ts mid s p, ap length e))
 terminals_behind arch threads ts mid s (t ∷ all) p q =
     let e = IsTerminal-unique arch threads ts s t mid q.0 p q.1 in
@@ -118,24 +113,24 @@ terminals_behind arch threads ts mid s (t ∷ all) p q =
 pub Terminals-peel : (arch : Arch) (threads : ℕ) (ss all : List (Terminal AtomSyntax)) (ts here : TokenList)
     → Chain (IsTerminal arch threads) ts ss here → Terminals arch threads ts all
     → (more : List (Terminal AtomSyntax)) × (all ≡ ss ++ more) × Terminals arch threads here more
-Terminals-peel arch threads = Chain-peel (IsTerminal arch threads) (Terminals arch threads) (terminals_behind arch threads)
+Terminals-peel arch threads = Chain-peel _ (Terminals arch threads) (terminals_behind arch threads)
 
-pub Terminals-unique : (arch : Arch) (threads : ℕ) (a b : List (Terminal AtomSyntax)) (ts : TokenList) → Terminals arch threads ts a
-    → Terminals arch threads ts b → a ≡ b
+pub Terminals-unique : (arch : Arch) (threads : ℕ) (a b : List (Terminal AtomSyntax)) (ts : TokenList)
+    → Terminals arch threads ts a → Terminals arch threads ts b → a ≡ b
 Terminals-unique arch threads a b ts p q =
     let k = Terminals-peel arch threads a b ts [] p q in
     sym (k.1 ∙ ap (λ l. a ++ l) (no_terminals arch threads k.0 k.2) ∙ append-nil a)
 
--- where a part has to begin: none of the words, and no site
-pub no_opening : (arch : Arch) (threads : ℕ) (names : NameTable) (ts : TokenList) → begins_word (codes "(") ts ≡ false
-    → begins_word (codes "~") ts ≡ false → begins_word (codes "not") ts ≡ false → begins_word (codes "true") ts ≡ false
-    → begins_word (codes "false") ts ≡ false → ((site : SiteSyntax) (mid : TokenList) → IsSite arch ts site mid → ThreadExists threads site
-    → HasRoomFor names (site ∷ []) → ⊥) → (s : Terminal AtomSyntax) (rest : TokenList) → IsTerminal arch threads ts s rest
-    → begins_part s ≡ true → HasRoomFor names (sites_in (s ∷ [])) → ⊥
-no_opening arch threads names ts a b c d e never Open rest p begins few = no_word_next (codes "(") ts rest a p
-no_opening arch threads names ts a b c d e never Negation rest (inl p) begins few = no_word_next (codes "~") ts rest b p
-no_opening arch threads names ts a b c d e never Negation rest (inr p) begins few = no_word_next (codes "not") ts rest c p
-no_opening arch threads names ts a b c d e never (Atom Always) rest p begins few = no_word_next (codes "true") ts rest d p
-no_opening arch threads names ts a b c d e never (Atom Never) rest p begins few = no_word_next (codes "false") ts rest e p
-no_opening arch threads names ts a b c d e never (Atom (Holds site n)) rest p begins few = never site p.0 p.1 p.2 few
-no_opening arch threads names ts a b c d e never _ rest p begins few = absurd cc
+-- where none of the words stands with which a part begins, only a site's atom begins one
+pub only_claim : (arch : Arch) (threads : ℕ) (ts : TokenList)
+    → begins_word (codes "(") ts ≡ false → begins_word (codes "~") ts ≡ false → begins_word (codes "not") ts
+    ≡ false → begins_word (codes "true") ts ≡ false → begins_word (codes "false") ts ≡ false
+    → (s : Terminal AtomSyntax) (rest : TokenList) → IsTerminal arch threads ts s rest → begins_part s ≡ true
+    → (site : SiteSyntax) × (n : ℕ) × (s ≡ Atom (Holds site n))
+only_claim arch threads ts a b c d e Open rest p begins = absurd (no_word_next (codes "(") ts rest a p)
+only_claim arch threads ts a b c d e Negation rest (inl p) begins = absurd (no_word_next _ ts rest b p)
+only_claim arch threads ts a b c d e Negation rest (inr p) begins = absurd (no_word_next _ ts rest c p)
+only_claim arch threads ts a b c d e (Atom Always) rest p begins = absurd (no_word_next _ ts rest d p)
+only_claim arch threads ts a b c d e (Atom Never) rest p begins = absurd (no_word_next _ ts rest e p)
+only_claim arch threads ts a b c d e (Atom (Holds site n)) rest p begins = (site, n, refl)
+only_claim arch threads ts a b c d e _ rest p begins = absurd cc

@@ -38,7 +38,7 @@ pub word_next : (tokens : List Token) (next : ℕ) (w : Bytes) → begins_word w
     → (next < length tokens) × (texts (drop next tokens) ≡ w ∷ texts (drop (next + 1) tokens)) × Leaves (drop next tokens) (drop (next + 1) tokens)
 word_next [] zero w h = absurd cc
 word_next [] (suc next) w h = absurd cc
-word_next (t ∷ tokens) zero w h = (omega arith, ap (λ x. x ∷ texts tokens) (is_text t.text.now w h), (t ∷ [], refl))
+word_next (t ∷ tokens) zero w h = (omega arith, ap (λ x. x ∷ texts tokens) (is_text _ w h), (t ∷ [], refl))
 word_next (t ∷ tokens) (suc next) w h =
     let r = word_next tokens next w h in
     let k : suc (next + 1) ≡ suc next + 1 = omega arith in

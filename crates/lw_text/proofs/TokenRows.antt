@@ -1,6 +1,7 @@
 -- A text has one row of tokens, each at one place.
-use Rattle.std.proofs.Common.{◌≡◌, ℕ, ◌+◌, ◌<◌, false, List, [], ◌∷◌, ◌++◌, length, Option, None, Some, refl}
-use Rattle.std.proofs.Common.{sym, ap, ◌∙◌, subst, arith, length-append, IfNone}
+use Rattle.std.proofs.Common.{◌≡◌, ℕ, ◌+◌, ◌<◌, false, List, [], ◌∷◌, ◌++◌, length, refl}
+use Rattle.std.proofs.Common.{sym, ap, ◌∙◌, subst, arith, length-append}
+use Rattle.lw_base.specs.Refusals.{NoSuch, NoneRead}
 use Rattle.lw_base.specs.Types.{Bytes, TokenList}
 use Rattle.lw_text.specs.declared.token.Token.{Token}
 use Rattle.lw_text.specs.Lists.{Chain}
@@ -47,12 +48,11 @@ Read-done len [] text rest p g = subst (λ x. Trivia x []) (sym p) g
 Read-done len (u ∷ ts) text rest p g = (p.0, p.1.0, p.1.1, Read-done len ts p.0 rest p.2 g)
 
 -- where the rest has no row of tokens, the text has none
-pub Read-fault : (len : ℕ) (ts : List PlacedToken) (text rest : Bytes) → Read len text ts rest → ((us : TokenList) → Tokens rest us → ⊥)
-    → (us : TokenList) → Tokens text us → ⊥
+pub Read-fault : (len : ℕ) (ts : List PlacedToken) (text rest : Bytes) → Read len text ts rest → NoSuch (Tokens rest) → NoSuch (Tokens text)
 Read-fault len [] text rest p never us q = never us (subst (λ x. Tokens x us) p q)
 Read-fault len (t ∷ ts) text rest p never [] q = no_first text t.text p.0 q p.1.0
 Read-fault len (t ∷ ts) text rest p never (u ∷ us) q =
-    Read-fault len ts p.0 rest p.2 never us (subst (λ x. Tokens x us) (sym (First-unique text t.text p.0 u q.0 p.1.0 q.1).1) q.2)
+    Read-fault _ ts _ _ p.2 never us (subst (λ x. Tokens x us) (sym (First-unique _ _ _ u _ p.1.0 q.1).1) q.2)
 
 -- ---- what the reader of the next token owes
 
@@ -60,15 +60,15 @@ module _ (text start : Bytes) (g : Trivia text start) (stop : begins_trivia star
   pub not_ended : 0 < length start → Trivia text [] → ⊥
   not_ended pos q = omega (arith, ap length (Trivia-unique g q stop refl))
 
-  pub no_first_from : ((t rest : Bytes) → start ≡ t ++ rest → IsToken t rest → ⊥) → (t rest : Bytes) → First text t rest → ⊥
+  pub no_first_from : ((t rest : Bytes) → start ≡ t ++ rest → IsToken t rest → ⊥) → NoneRead (First text)
   no_first_from never t rest q = never t rest (Trivia-unique g q.0 stop (token_no_trivia t rest q.1)) q.1
 
 -- where a comment isn't closed
-pub no_first_open : (text : Bytes) → ((start : Bytes) → begins_trivia start ≡ false → Trivia text start → ⊥) → (t rest : Bytes) → First text t rest → ⊥
+pub no_first_open : (text : Bytes) → ((start : Bytes) → begins_trivia start ≡ false → Trivia text start → ⊥) → NoneRead (First text)
 no_first_open text never t rest q = never (t ++ rest) (token_no_trivia t rest q.1) q.0
 
 -- a text that does not end and has no token first has no row of tokens
-pub Tokens-none : (text : Bytes) → (Trivia text [] → ⊥) → ((t rest : Bytes) → First text t rest → ⊥) → (ts : TokenList) → Tokens text ts → ⊥
+pub Tokens-none : (text : Bytes) → (Trivia text [] → ⊥) → NoneRead (First text) → NoSuch (Tokens text)
 Tokens-none text no_end no_token [] q = no_end q
 Tokens-none text no_end no_token (t ∷ ts) q = no_token t q.0 q.1
 
@@ -85,10 +85,8 @@ Tokens-of len text [] p = p
 Tokens-of len text (t ∷ ts) p = (p.0, p.1, Tokens-of len p.0 ts p.3)
 
 -- the tokens of a text that was read to its end
-pub read_whole : {F : Type 0} (o : Option F) (len : ℕ) (rest : Bytes) (ts : List Token) → IfNone o (PlacedTokens len rest (placed_tokens ts))
-    → IfNone o (Tokens rest (texts ts))
-read_whole None len rest ts p = subst (Tokens rest) (texts_placed ts) (Tokens-of len rest (placed_tokens ts) p)
-read_whole (Some f) len rest ts p = tt
+pub read_whole : (len : ℕ) (rest : Bytes) (ts : List Token) → PlacedTokens len rest (placed_tokens ts) → Tokens rest (texts ts)
+read_whole len rest ts p = subst (Tokens rest) (texts_placed ts) (Tokens-of len rest (placed_tokens ts) p)
 
 pub same_token : (a b : PlacedToken) → a.at ≡ b.at → a.text ≡ b.text → a ≡ b
 same_token a b at text = ap (λ (n : ℕ). let t : PlacedToken = record { at = n; text = a.text } in t) at ∙ ap
@@ -102,5 +100,11 @@ PlacedTokens-unique len (t ∷ ts) (u ∷ us) text p q =
     let e = First-unique text t.text p.0 u.text q.0 p.1 q.1 in
     let at : t.at ≡ u.at = omega (arith, p.2, q.2, ap length e.0, ap length e.1) in
     let i : t ≡ u = same_token t u at e.0 in
-    let h : ts ≡ us = PlacedTokens-unique len ts us p.0 p.3 (subst (λ r. PlacedTokens len r us) (sym e.1) q.3) in
+    let h = PlacedTokens-unique len ts us p.0 p.3 (subst (λ r. PlacedTokens len r us) (sym e.1) q.3) in
     cc
+
+pub ruleset next_read = (not_ended, no_first_from, no_first_open)
+
+pub ruleset first_read = (no_first, First-unique)
+
+pub ruleset stream_read = (First-shorter)

@@ -2,6 +2,7 @@
 use Rattle.std.proofs.Common.{◌≡◌, ℕ, true, false, ◌||◌, [], ◌∷◌, ◌++◌, ◌≤◌, length, length-append, arith}
 use Rattle.std.proofs.Common.{refl, sym, ap, ◌∙◌, subst}
 use Rattle.std.specs.List.{AllByRecursion}
+use Rattle.lw_base.specs.Refusals.{NoSuch}
 use Rattle.lw_base.specs.Types.{Bytes}
 use Rattle.lw_base.specs.Characters.{is_blank, begins}
 use Rattle.lw_text.specs.Tokens.{begins_pair, begins_trivia, Comment, Trivia, none, blank, comment}
@@ -9,11 +10,11 @@ use Rattle.lw_text.specs.Spans.{Leaves}
 use Rattle.lw_text.proofs.Comments.{Comment-unique, Comment-suffix}
 use Rattle.lw_text.proofs.Lists.{Leaves-join}
 
-at_comment : {ts rest : Bytes} → Trivia ts rest → (text : Bytes) → ts ≡ 40 ∷ 42 ∷ text → begins_trivia rest ≡ false
-    → (after : Bytes) × Comment text after × Trivia after rest
+at_comment : {ts rest : Bytes} → Trivia ts rest → (text : Bytes) → ts ≡ 40 ∷ 42 ∷ text
+    → begins_trivia rest ≡ false → (after : Bytes) × Comment text after × Trivia after rest
 at_comment (none {rest}) text e stop = absurd (let h : begins_trivia rest ≡ true = ap begins_trivia e in cc)
 at_comment (blank {b} t g) text e stop = absurd (let h : is_blank b ≡ false = ap (begins is_blank) e in cc)
-at_comment (comment {text = t} {after} c g) text e stop = (after, subst (λ x. Comment x after) (let k : t ≡ text = cc in k) c, g)
+at_comment (comment {text = t} {after} c g) text e stop = (after, rw (let k : t ≡ text = cc in k) at c, g)
 
 -- what passes as a blank begins a trivia
 blank_begins : (l : Bytes) → begins is_blank l ≡ true → begins_trivia l ≡ false → ⊥
@@ -21,7 +22,7 @@ blank_begins l p q = let h : true || begins_pair 40 42 l ≡ false = rw p at q i
 
 at_blank : {ts rest : Bytes} → Trivia ts rest → (b : ℕ) (text : Bytes) → ts ≡ b ∷ text → is_blank b ≡ true → begins_trivia rest ≡ false → Trivia text rest
 at_blank (none {rest}) b text e test stop = absurd (blank_begins rest (ap (begins is_blank) e ∙ test) stop)
-at_blank {rest = rest} (blank {text = t} h g) b text e test stop = subst (λ x. Trivia x rest) (let k : t ≡ text = cc in k) g
+at_blank {rest = rest} (blank {text = t} h g) b text e test stop = rw (let k : t ≡ text = cc in k) at g
 at_blank (comment c g) b text e test stop = absurd (let h : false ≡ is_blank b = ap (begins is_blank) e in cc)
 
 -- where no trivia begins, there is none
@@ -70,15 +71,15 @@ Skipped-none bytes = record { given = λ end g. g; only = λ end stop g. g }
 pub Skipped-comment : {bytes rest inner after : Bytes} → Skipped bytes rest → rest ≡ 40 ∷ 42 ∷ inner → Comment inner after → Skipped bytes after
 Skipped-comment {bytes} {rest} {inner} {after} s e c = record {
   given = λ end g. s.given end (rw e (comment c g));
-  only = λ end stop g. let o = at_comment (s.only end stop g) inner e stop in subst (λ x. Trivia x end)
-      (Comment-unique o.1 c) o.2;
+  only = λ end stop g. let o = at_comment (s.only end stop g) _ e stop in rw (Comment-unique o.1 c) at o.2;
 }
 
 -- a comment that isn't closed
-pub Skipped-open : {bytes rest inner : Bytes} → Skipped bytes rest → rest ≡ 40 ∷ 42 ∷ inner → ((after : Bytes) → Comment inner after → ⊥)
-    → (end : Bytes) → begins_trivia end ≡ false → Trivia bytes end → ⊥
+pub Skipped-open : {bytes rest inner : Bytes} → Skipped bytes rest → rest ≡ 40 ∷ 42 ∷ inner
+    → NoSuch (Comment inner) → (end : Bytes) → begins_trivia end ≡ false → Trivia bytes end → ⊥
 Skipped-open {bytes} {rest} {inner} s e never end stop g =
     let o = at_comment (s.only end stop g) inner e stop in never o.0 o.1
 
 pub Skipped-done : {bytes rest : Bytes} → Skipped bytes rest → Trivia bytes rest
 Skipped-done {bytes} {rest} s = s.given rest none
+

@@ -1,14 +1,14 @@
--- The head of a text's frame is well-formed.
+-- The head of a text's frame is well-formed, and a body in memory has the head that its text says.
 use Rattle.std.proofs.Common.{◌≡◌, ℕ, ◌<◌, inl, inr, Bool, true, false, List, [], ◌∷◌, ◌++◌, length, map}
-use Rattle.std.proofs.Common.{refl, sym, ap, ◌∙◌, subst, arith, fold, if◌then◌else◌, codes}
-use Rattle.std.specs.List.{AllByRecursion}
+use Rattle.std.proofs.Common.{refl, sym, ◌∙◌, subst, arith, fold, if◌then◌else◌, codes, ap, filter}
+use Rattle.std.specs.List.{AllByRecursion, range_with_len}
 use Rattle.std.proofs.lemmas.List.{length-map}
 use Rattle.std.proofs.lemmas.List.FromFn.{length-map-range_with_len}
 use Rattle.lw_base.specs.declared.head.Seen.{Seen}
 use Rattle.lw_base.specs.declared.head.Seen.TheVariants.{Location}
 use Rattle.lw_base.specs.Formula.{Formula}
 use Rattle.lw_base.specs.Propositions.{formula_of}
-use Rattle.lw_base.specs.WellFormed.{IsWordNumber, IsSeen, SpeaksOf, IsWellFormedHead}
+use Rattle.lw_base.specs.WellFormed.{IsWordNumber, SpeaksOf, IsWellFormedHead}
 use Rattle.lw_base.specs.Names.{IsLocation, IsTestName}
 use Rattle.lw_base.specs.Tables.{contains_name, with_name, with_names}
 use Rattle.lw_base.proofs.api.GrowingTables.{once-along, index_of-within}
@@ -16,21 +16,25 @@ use Rattle.lw_base.specs.declared.head.Arch.{Arch}
 use Rattle.lw_text.specs.Lists.{Ended}
 use Rattle.lw_text.specs.Sites.{with_sites, SiteSyntax, InMemory, InThread, IsSite, ThreadExists, site_names}
 use Rattle.lw_text.specs.Sites.{seen_in}
-use Rattle.lw_text.specs.Propositions.{Terminal, Close, Conjunction, Disjunction, Atom, Level, Derives, atom}
+use Rattle.lw_text.specs.Propositions.{Terminal, Close, Atom, Level, Derives, atom}
 use Rattle.lw_text.specs.Propositions.{negated, parens, part, and, conjunction, or, IsProposition}
 use Rattle.lw_text.specs.Conditions.{AtomSyntax, Holds, IsTerminal, Terminals, Listed, sites_in, resolved}
 use Rattle.lw_text.specs.Frames.{EntrySyntax, IsEntry, Block, word_of, table, TestSyntax, Parts, TestFrame}
 use Rattle.lw_text.specs.Frames.{HasFrame, head_of_syntax, sites_of}
 use Rattle.lw_base.specs.SeenLists.{same_seen, thread_registers, all_registers, locations}
 use Rattle.lw_text.specs.declared.parts.Body.{Body}
-use Rattle.lw_text.specs.inner.Resolved.{HasSyntax, resolved_head}
+use Rattle.lw_text.specs.inner.Resolved.{syntax_of, HasSyntax, resolved_head, IsIn}
 use Rattle.lw_base.proofs.api.Elements.{all_append, all_map, all_parts, all_filter, all_of_range, all_mapped}
+use Rattle.lw_base.proofs.api.Elements.{each_of}
 use Rattle.lw_base.proofs.api.SeenLists.{ascending_filter, all_seen, all_ascending}
 use Rattle.lw_text.proofs.api.ConditionTokens.{all_names, all_sites}
 use Rattle.lw_text.proofs.api.PropositionNodes.{proposition_nodes, resolved_single, resolved_count}
-use Rattle.lw_text.proofs.ResolvedHeads.{head_made}
 use Rattle.lw_text.proofs.PropositionRows.{AllThere, all_now}
 use Rattle.lw_text.proofs.Whole.{header_some, table_parts}
+use Rattle.std.proofs.Math.Path.{fun_ext}
+use Rattle.lw_base.specs.Types.{Bytes, TokenList}
+use Rattle.lw_base.specs.Lists.{EachOnce}
+use Rattle.lw_text.proofs.NameTables.{words-named, listed-named}
 
 -- ---- names
 
@@ -48,22 +52,21 @@ ended_right : {X : Type 0} (P : List (List ℕ) → X → List (List ℕ) → Ty
 ended_right P Q f sep close [] ts rest e = tt
 ended_right P Q f sep close (x ∷ xs) ts rest e = (
   f ts e.0 x e.1,
-  elim e.2
-      [ inl g ↦ subst (AllByRecursion Q) (sym g.0) tt | inr g ↦ ended_right P Q f sep close xs g.0 rest g.2 ],
+  elim e.2 [ inl g ↦ subst (AllByRecursion Q) (sym g.0) tt | inr g ↦ ended_right P Q f sep _ xs g.0 _ g.2 ],
 )
 
 listed_right : (arch : Arch) (ts rest : List (List ℕ)) (ss : List SiteSyntax) → Listed arch ts ss rest → AllByRecursion IsRight ss
-listed_right arch ts rest ss (inl p) = ended_right (IsSite arch) IsRight (site_right arch) (codes ";") (codes "]") ss p.0 rest p.2
+listed_right arch ts rest ss (inl p) = ended_right _ IsRight (site_right arch) _ (codes "]") ss p.0 rest p.2
 listed_right arch ts rest ss (inr p) = subst (AllByRecursion IsRight) (sym p.1) tt
 
 block_right : (arch : Arch) (ts rest : List (List ℕ)) (es : List EntrySyntax) → Block arch ts es rest → AllByRecursion IsRight (sites_of es)
-block_right arch ts rest es b = all_map IsRight (λ e. e.site) es (ended_right (IsEntry arch) (λ e. IsRight e.site)
-    (λ ts rest e p. site_right arch ts p.0 e.site p.1) (codes ";") (codes "}") es b.0 rest b.2)
+block_right arch ts rest es b = all_map IsRight (λ e. e.site) es (ended_right (IsEntry arch) _ (λ ts rest e p.
+    site_right arch ts p.0 e.site p.1) (codes ";") (codes "}") es b.0 rest b.2)
 
 -- ---- words
 
 block_words : (arch : Arch) (ts rest : List (List ℕ)) (es : List EntrySyntax) → Block arch ts es rest → AllByRecursion (λ e. IsWordNumber e.word) es
-block_words arch ts rest es b = ended_right (IsEntry arch) (λ e. IsWordNumber e.word) (λ ts rest e p. p.2.2.0) (codes ";") (codes "}") es b.0 rest b.2
+block_words arch ts rest es b = ended_right _ _ (λ ts rest e p. p.2.2.0) _ (codes "}") es b.0 rest b.2
 
 -- one of two words
 either_word : (b : Bool) (v w : ℕ) → IsWordNumber v → IsWordNumber w → IsWordNumber (if b then v else w)
@@ -92,10 +95,10 @@ terminal_fit : (arch : Arch) (threads : ℕ) (ts rest : List (List ℕ)) (s : Te
 terminal_fit arch threads ts rest (Atom (Holds s n)) p = (site_right arch ts p.0 s p.1, p.2, p.3.2.0)
 terminal_fit arch threads ts rest _ p = tt
 
-terminals_fit : (arch : Arch) (threads : ℕ) (ts : List (List ℕ)) (ss : List (Terminal AtomSyntax)) → Terminals arch threads ts ss
-    → AllByRecursion (IsFit threads) ss
+terminals_fit : (arch : Arch) (threads : ℕ) (ts : List (List ℕ)) (ss : List (Terminal AtomSyntax))
+    → Terminals arch threads ts ss → AllByRecursion (IsFit threads) ss
 terminals_fit arch threads ts [] p = tt
-terminals_fit arch threads ts (s ∷ ss) p = (terminal_fit arch threads ts p.0 s p.1, terminals_fit arch threads p.0 ss p.2)
+terminals_fit arch threads ts (s ∷ ss) p = (terminal_fit arch _ ts p.0 s p.1, terminals_fit arch _ p.0 ss p.2)
 
 table_right : (names ns : List (List ℕ)) → AllByRecursion IsLocation names → AllByRecursion IsLocation ns → AllByRecursion IsLocation (with_names names ns)
 table_right names [] h k = h
@@ -117,9 +120,9 @@ module _ (threads locs : ℕ) where
   says_speaks (negated d) h = says_speaks d h.1
   says_speaks (parens {ss} d) h = says_speaks d (all_parts (IsSpoken threads locs) ss (Close ∷ []) h.1).0
   says_speaks (part d) h = says_speaks d h
-  says_speaks (and {ss} {ts} d e) h = let k = all_parts (IsSpoken threads locs) ss (Conjunction ∷ ts) h in (says_speaks d k.0, says_speaks e k.1.1)
+  says_speaks (and {ss} {ts} d e) h = let k = all_parts _ ss _ h in (says_speaks d k.0, says_speaks e k.1.1)
   says_speaks (conjunction d) h = says_speaks d h
-  says_speaks (or {ss} {ts} d e) h = let k = all_parts (IsSpoken threads locs) ss (Disjunction ∷ ts) h in (says_speaks d k.0, says_speaks e k.1.1)
+  says_speaks (or {ss} {ts} d e) h = let k = all_parts _ ss _ h in (says_speaks d k.0, says_speaks e k.1.1)
 
 terminals_spoken : (threads : ℕ) (names : List (List ℕ)) (ss : List (Terminal AtomSyntax)) → AllByRecursion (IsFit threads) ss → AllThere names ss
     → AllByRecursion (IsSpoken threads (length names)) (map (resolved names) ss)
@@ -136,12 +139,13 @@ head_well_formed : (arch : Arch) (ts : List (List ℕ)) (name : List ℕ) (s : T
 head_well_formed arch ts name s p allowed parts whole =
     let c = parts.condition in
     let fit = terminals_fit arch s.threads c.behind_quant s.terminals c.says in
-    let right = all_append IsRight (sites_of s.entries ++ s.listed) (sites_in s.terminals)
-    (all_append IsRight (sites_of s.entries) s.listed (block_right arch ts parts.behind_block s.entries parts.block)
-    (listed_right arch parts.behind_rows c.behind_list s.listed c.lists)) (all_sites (IsFit s.threads) IsRight (λ s n h. h.0) s.terminals fit) in
-    let named = subst (λ ns. AllThere ns s.terminals) (sym (table_parts s))
-    (all_now (with_sites (with_sites [] (sites_of s.entries)) s.listed) (site_names (sites_in s.terminals))) in
-    let begins = first_word (table s) s.entries (block_words arch ts parts.behind_block s.entries parts.block) in
+    let right = all_append IsRight (sites_of s.entries ++ s.listed) (sites_in s.terminals) (all_append IsRight
+        (sites_of s.entries) s.listed (block_right arch ts parts.behind_block s.entries parts.block)
+        (listed_right arch parts.behind_rows c.behind_list s.listed c.lists)) (all_sites (IsFit s.threads)
+        IsRight (λ s n h. h.0) s.terminals fit) in
+    let named = rw (← table_parts s) at (all_now (with_sites (with_sites [] (sites_of s.entries)) s.listed)
+        (site_names (sites_in s.terminals))) in
+    let begins = first_word _ s.entries (block_words arch ts parts.behind_block s.entries parts.block) in
     record {
       name = allowed;
       some = header_some parts.behind_block parts.behind_header s.threads parts.header;
@@ -149,18 +153,17 @@ head_well_formed arch ts name s p allowed parts whole =
       table = record {
         few = parts.few_names;
         all = table_right [] (site_names (sites_of s.entries ++ s.listed ++ sites_in s.terminals)) tt
-            (all_names IsRight IsLocation (λ x h. h) (sites_of s.entries ++ s.listed ++ sites_in s.terminals) right);
+            (all_names IsRight _ (λ x h. h) (sites_of s.entries ++ s.listed ++ sites_in s.terminals) right);
         once = once-along [] (site_names (sites_of s.entries ++ s.listed ++ sites_in s.terminals)) tt;
       };
-      regs = length-map-range_with_len (λ t. map (word_of (table s) s.entries) (thread_registers t)) 0 s.threads;
+      regs = length-map-range_with_len (λ t. map (word_of (table s) s.entries) (thread_registers t)) 0 _;
       six = all_of_range (λ row. length row ≡ 6) (λ t. map (word_of (table s) s.entries) (thread_registers t)) 0 s.threads (λ t le lt. refl);
       register_words =
           all_of_range (AllByRecursion IsWordNumber) (λ t. map (word_of (table s) s.entries) (thread_registers t)) 0 s.threads
           (λ t le lt. all_mapped IsWordNumber (word_of (table s) s.entries) begins (thread_registers t));
       words = length-map (locations (length (table s))) (word_of (table s) s.entries) ∙ length-map-range_with_len (λ x. Location x) 0 (length (table s));
-      location_words = all_mapped IsWordNumber (word_of (table s) s.entries) begins (locations (length (table s)));
-      there = all_filter (IsSeen s.threads (length (table s))) _ (all_registers s.threads ++ locations (length (table s)))
-          (all_seen s.threads (length (table s)));
+      location_words = all_mapped IsWordNumber _ begins (locations (length (table s)));
+      there = all_filter _ _ (all_registers s.threads ++ locations (length (table s))) (all_seen s.threads _);
       ascending = ascending_filter _ (all_registers s.threads ++ locations (length (table s))) (all_ascending s.threads (length (table s)));
       nodes_few = omega (arith, proposition_nodes whole (resolved_single (table s) s.terminals), resolved_count (table s) s.terminals, parts.few_nodes);
       condition = says_speaks s.threads (length (table s)) whole (terminals_spoken s.threads (table s) s.terminals fit named);
@@ -170,16 +173,31 @@ pub frame_well_formed : (text : List ℕ) (f : TestFrame) → HasFrame text f �
 frame_well_formed text f h = subst (λ (g : TestFrame). IsWellFormedHead g.head) (sym h.made)
     (head_well_formed h.arch h.tokens h.name h.syntax h.condition h.heading.3.is_name h.parts h.proposition)
 
+-- ---- bodies in memory
+
+-- the head by places in its table is the head by names
+pub head_made : {A : Type 0} (arch : Arch) (name : Bytes) (ts : TokenList) (b : Body A) (says : HasSyntax arch ts b)
+    → resolved_head arch name b.parts ≡ head_of_syntax arch name (syntax_of b says.terminals) (formula_of b.parts.prop)
+head_made arch name ts b says =
+    let s = b.parts in
+    let syntax = syntax_of b says.terminals in
+    let es_in = each_of s.entries (λ e. IsIn s.locs e.site) says.entries_in in
+    let ss_in = each_of s.listed (IsIn s.locs) says.listed_in in
+    let once : EachOnce s.locs = subst EachOnce (sym says.names) (once-along [] (site_names (map (λ e. e.site)
+        syntax.entries ++ syntax.listed ++ sites_in says.terminals)) tt) in
+    let word = fun_ext (λ (x : Seen). sym (words-named s.locs s.entries x once es_in)) in
+    let is_seen = fun_ext (λ (x : Seen). sym (listed-named s.locs s.listed x once ss_in)) in
+    let regs = ap (λ f. map (λ t. map f (thread_registers t)) (range_with_len 0 s.threads)) word in
+    let listed = ap (λ p. filter p (all_registers s.threads ++ locations (length s.locs))) is_seen in
+    rw (regs, (ap (λ (f : Seen → ℕ). map f (locations (length s.locs))) word), listed, ← says.names) refl
+
 -- The proposition of a body in memory, by the table that its text gives.
 pub body_proposition : {A : Type 0} (arch : Arch) (ts : List (List ℕ)) (b : Body A) (says : HasSyntax arch ts b)
-    → IsProposition (map (resolved (table says.syntax)) says.syntax.terminals) (formula_of b.parts.prop)
-body_proposition arch ts b says =
-    let q = formula_of b.parts.prop in
-    subst (λ names. IsProposition (map (resolved names) says.syntax.terminals) q) says.names
-    (subst (λ ss. IsProposition (map (resolved b.parts.locs) ss) q) (sym (ap (λ (s : TestSyntax). s.terminals) says.is)) says.proposition)
+    → IsProposition (map (resolved (table (syntax_of b says.terminals))) says.terminals) (formula_of b.parts.prop)
+body_proposition arch ts b says = rw says.names at says.proposition
 
-pub resolved_well_formed : {A : Type 0} (arch : Arch) (ts : List (List ℕ)) (name : List ℕ) (b : Body A) → IsTestName name → HasSyntax arch ts b
-    → IsWellFormedHead (resolved_head arch name b.parts)
+pub resolved_well_formed : {A : Type 0} (arch : Arch) (ts : List (List ℕ)) (name : List ℕ) (b : Body A)
+    → IsTestName name → HasSyntax arch ts b → IsWellFormedHead (resolved_head arch name b.parts)
 resolved_well_formed arch ts name b allowed says =
-    subst IsWellFormedHead (sym (head_made arch name ts b says))
-    (head_well_formed arch ts name says.syntax (formula_of b.parts.prop) allowed says.parts (body_proposition arch ts b says))
+    subst IsWellFormedHead (sym (head_made arch name ts b says)) (head_well_formed arch ts name
+    (syntax_of b says.terminals) _ allowed says.parts (body_proposition arch ts b says))

@@ -1,14 +1,14 @@
 -- A text's frame is that of its one heading and its one row of tokens.
 use Rattle.std.proofs.Common.{◌≡◌, ℕ, zero, suc, ◌≤◌, true, false, List, [], ◌∷◌, ◌++◌, length, map, refl}
-use Rattle.std.proofs.Common.{sym, ap, ◌∙◌, subst, arith, Option, Some, None, IfNone, OnSome, codes, All}
+use Rattle.std.proofs.Common.{sym, ap, ◌∙◌, subst, arith, Option, Some, None, MatchOption, IfNone, codes, All}
 use Rattle.std.specs.List.{AllByRecursion, list_all}
 use Rattle.std.proofs.lemmas.List.{length-map}
 use Rattle.std.proofs.lemmas.List.Elements.{All-from_recursion}
+use Rattle.lw_base.specs.Refusals.{NoSuch, NoneRead}
 use Rattle.lw_base.specs.Types.{Bytes, NameTable, TokenList, CellGrid}
 use Rattle.lw_base.specs.declared.head.Arch.{Arch}
 use Rattle.lw_base.specs.declared.head.Quant.{Quant}
 use Rattle.lw_base.specs.declared.head.Quant.TheVariants.{Exists, NotExists, Forall}
-use Rattle.lw_base.specs.Formula.{Formula}
 use Rattle.lw_base.proofs.api.Elements.{all_map, all_weaker}
 use Rattle.lw_text.proofs.api.Spelling.{all_pass}
 use Rattle.lw_base.proofs.api.GrowingTables.{with_names-longer}
@@ -16,29 +16,32 @@ use Rattle.lw_text.specs.declared.cell.Cell.{Cell}
 use Rattle.lw_text.specs.declared.cursor.Cursor.{Cursor}
 use Rattle.lw_text.specs.declared.site.Site.{Site as MadeSite}
 use Rattle.lw_text.specs.declared.block.Entry.{Entry as MadeEntry}
+use Rattle.lw_text.specs.declared.token.Token.{Token}
 use Rattle.lw_text.specs.Tokens.{Tokens}
+use Rattle.lw_text.specs.PlacedTokens.{PlacedTokens}
+use Rattle.lw_text.specs.Spans.{texts}
 use Rattle.lw_text.specs.Headings.{Heading}
 use Rattle.lw_text.specs.Lists.{Until}
 use Rattle.lw_text.specs.Rows.{Header, Row, Rows, begins_stop}
 use Rattle.lw_text.specs.Sites.{with_sites, HasRoomFor, SiteSyntax, ThreadExists, site_names}
-use Rattle.lw_text.specs.Propositions.{HasFewNodes, Terminal, IsProposition}
-use Rattle.lw_text.specs.Conditions.{AtomSyntax, Quantified, Terminals, Condition, begins_word, sites_in}
+use Rattle.lw_text.specs.Propositions.{Terminal, IsProposition}
+use Rattle.lw_text.specs.Conditions.{AtomSyntax, Quantified, Condition, begins_word, sites_in}
 use Rattle.lw_text.specs.Conditions.{resolved}
-use Rattle.lw_text.specs.Frames.{EntrySyntax, sites_of, Block, TestSyntax, table, Parts, IsNoTest, TestFrame}
+use Rattle.lw_text.specs.Frames.{EntrySyntax, sites_of, Block, TestSyntax, table, Parts, IsNoTest}
 use Rattle.lw_text.specs.Frames.{HasFrame}
-use Rattle.lw_text.specs.Places.{cell_texts, all_texts}
+use Rattle.lw_text.specs.Places.{all_texts, placed_tokens}
 use Rattle.lw_text.specs.Views.{left}
 use Rattle.lw_text.specs.inner.Resolved.{named, named_entry, thread_exists}
-use Rattle.lw_text.specs.inner.Taken.{TakenList}
-use Rattle.lw_text.proofs.Blocks.{Block-unique}
+use Rattle.lw_text.specs.inner.Taken.{TakenList, NoProposition, NoCondition}
+use Rattle.lw_text.proofs.SiteLists.{Block-unique, Listed-unique}
 use Rattle.lw_text.proofs.Cells.{Rows-unique}
 use Rattle.lw_text.proofs.Headers.{Names-unique}
 use Rattle.lw_text.proofs.Headings.{Heading-unique}
-use Rattle.lw_text.proofs.Listings.{Listed-unique}
 use Rattle.lw_text.proofs.Readings.{with_sites-append}
 use Rattle.lw_text.proofs.TerminalLists.{Terminals-unique}
 use Rattle.lw_text.proofs.Texts.{is_no_text, no_word_next, same_front}
-use Rattle.lw_text.proofs.TokenRows.{Tokens-unique}
+use Rattle.lw_text.proofs.TokenRows.{Tokens-unique, read_whole}
+use Rattle.lw_text.proofs.Lists.{IsOne}
 use Rattle.lw_text.specs.declared.site.Site.TheVariants as made
 
 -- ---- the table of names
@@ -63,8 +66,7 @@ one_there threads names (made.Register t r) h = grind arith
 
 pub all_there : (threads : ℕ) (names : NameTable) (es : List MadeEntry) → list_all (λ e. thread_exists threads e.site) es ≡ true
     → AllByRecursion (λ e. ThreadExists threads e.site) (map (named_entry names) es)
-all_there threads names es h = all_map (λ e. ThreadExists threads e.site) (named_entry names) es (all_weaker (λ e. thread_exists threads e.site ≡ true)
-    (λ e. ThreadExists threads (named names e.site)) (λ e. there_one threads names e.site) es (all_pass (λ e. thread_exists threads e.site) es h))
+all_there threads names es h = all_map _ _ es (all_weaker _ _ (λ e. there_one _ names _) es (all_pass _ es h))
 
 pub there_all : (threads : ℕ) (names : NameTable) (es : List MadeEntry) → AllByRecursion (λ e. ThreadExists threads e.site) (map (named_entry names) es)
     → list_all (λ e. thread_exists threads e.site) es ≡ true
@@ -73,13 +75,13 @@ there_all threads names (e ∷ es) h = rw (one_there threads names e.site h.0, t
 
 -- ---- the quantifier
 
-pub Quantified-unique : (ts : TokenList) (p q : Quant) (r s : TokenList) → Quantified ts p r → Quantified ts q s → (p ≡ q) × (r ≡ s)
-Quantified-unique ts Exists NotExists r s e f = absurd (let k : codes "exists" ≡ codes "~" = cc in is_no_text (codes "exists") (codes "~") refl k)
-Quantified-unique ts Exists Forall r s e f = absurd (let k : codes "exists" ≡ codes "forall" = cc in is_no_text (codes "exists") (codes "forall") refl k)
-Quantified-unique ts NotExists Exists r s e f = absurd (let k : codes "exists" ≡ codes "~" = cc in is_no_text (codes "exists") (codes "~") refl k)
-Quantified-unique ts NotExists Forall r s e f = absurd (let k : codes "forall" ≡ codes "~" = cc in is_no_text (codes "forall") (codes "~") refl k)
-Quantified-unique ts Forall Exists r s e f = absurd (let k : codes "exists" ≡ codes "forall" = cc in is_no_text (codes "exists") (codes "forall") refl k)
-Quantified-unique ts Forall NotExists r s e f = absurd (let k : codes "forall" ≡ codes "~" = cc in is_no_text (codes "forall") (codes "~") refl k)
+pub Quantified-unique : IsOne Quantified
+Quantified-unique ts Exists NotExists r s e f = absurd (is_no_text (codes "exists") (codes "~") refl (cc))
+Quantified-unique ts Exists Forall r s e f = absurd (is_no_text (codes "exists") (codes "forall") refl (cc))
+Quantified-unique ts NotExists Exists r s e f = absurd (is_no_text (codes "exists") (codes "~") refl (cc))
+Quantified-unique ts NotExists Forall r s e f = absurd (is_no_text (codes "forall") (codes "~") refl (cc))
+Quantified-unique ts Forall Exists r s e f = absurd (is_no_text (codes "exists") (codes "forall") refl (cc))
+Quantified-unique ts Forall NotExists r s e f = absurd (is_no_text (codes "forall") (codes "~") refl (cc))
 Quantified-unique ts _ _ r s e f = (refl, cc)
 
 -- ---- where the block ends early
@@ -99,16 +101,11 @@ few_first arch ts s p = omega (
 -- behind its list and its quantifier there are its terminals, with the names of the list
 pub no_terminals : {arch : Arch} {threads : ℕ} {before behind : Cursor} {first names : NameTable} {made : List MadeSite}
     → TakenList arch threads before behind first names made → (quant : Quant) (end : TokenList) → Quantified (left behind) quant end
-    → ((ss : List (Terminal AtomSyntax)) (p : Formula) → Terminals arch threads end ss → HasRoomFor names (sites_in ss) → HasFewNodes ss
-    → IsProposition (map (resolved (with_sites names (sites_in ss))) ss) p → ⊥) → (all : List SiteSyntax) (q : Quant) (ss : List (Terminal AtomSyntax))
-    (p : Formula) → Condition arch threads (left before) all q ss → HasRoomFor (with_sites first all) (sites_in ss) → HasFewNodes ss
-    → IsProposition (map (resolved (with_sites (with_sites first all) (sites_in ss))) ss) p → ⊥
-no_terminals {arch} {threads} {before} {behind} {first} {names} {made} taken quant end quantifies never all q ss p c few nodes whole =
+    → NoProposition arch threads end names → NoCondition arch threads (left before) first
+no_terminals {arch} {threads} {before} {behind} {first} {names} {made} taken quant end quantifies never all q ss p c fits =
     let u = Listed-unique arch (left before) all (map (named names) made) c.behind_list (left behind) c.lists taken.is in
-    let v = Quantified-unique (left behind) q quant c.behind_quant end (subst (λ l. Quantified l q c.behind_quant) u.1 c.quantifies) quantifies in
-    let same : with_sites first all ≡ names = ap (with_sites first) u.0 ∙ sym taken.names_are in
-    never ss p (subst (λ l. Terminals arch threads l ss) v.1 c.says) (subst (λ ns. HasRoomFor ns (sites_in ss)) same few) nodes
-    (subst (λ ns. IsProposition (map (resolved (with_sites ns (sites_in ss))) ss) p) same whole)
+    let v = Quantified-unique (left behind) q quant c.behind_quant end (rw u.1 at c.quantifies) quantifies in
+    never ss p (rw v.1 at c.says) (rw (ap (with_sites first) u.0 ∙ sym taken.names_are) at fits)
 
 -- ---- where the parts end early
 
@@ -118,7 +115,7 @@ module _ (arch : Arch) (ts a : TokenList) (entries : List EntrySyntax) (block : 
       let e = Block-unique arch ts s.entries entries p.behind_block a p.block block in
       (e.0, subst (λ l. Header l s.threads p.behind_header) e.1 p.header)
 
-  pub no_header : ((n : ℕ) (rest : TokenList) → Header a n rest → ⊥) → (s : TestSyntax) → Parts arch ts s → ⊥
+  pub no_header : NoneRead (Header a) → NoSuch (Parts arch ts)
   no_header never s p = never s.threads p.behind_header (at_header s p).1
 
   module _ (n : ℕ) (b : TokenList) (header : Header a n b) where
@@ -129,19 +126,19 @@ module _ (arch : Arch) (ts a : TokenList) (entries : List EntrySyntax) (block : 
         let u = Names-unique 0 s.threads n a p.behind_header b e.1.0 header.0 in (
           e.0,
           u.0,
-          subst (λ l. Rows n l s.rows p.behind_rows) u.1 (subst (λ m. Rows m p.behind_header s.rows p.behind_rows) u.0 p.rows),
-          subst (λ m. Condition arch m p.behind_rows s.listed s.quant s.terminals) u.0 p.condition,
+          rw (u.0, u.1) at p.rows,
+          rw u.0 at p.condition,
         )
 
     pub no_thread : (names : NameTable) (made : List MadeEntry) → entries ≡ map (named_entry names) made
-        → list_all (λ e. thread_exists n e.site) made ≡ false → (s : TestSyntax) → Parts arch ts s → ⊥
+        → list_all (λ e. thread_exists n e.site) made ≡ false → NoSuch (Parts arch ts)
     no_thread names made is none s p =
         let h = at_rows s p in
-        let all = there_all n names made (subst (λ l. AllByRecursion (λ e. ThreadExists n e.site) l) (h.0 ∙ is)
-        (subst (λ k. AllByRecursion (λ e. ThreadExists k e.site) s.entries) h.1 p.there)) in
+        let all = there_all n names made (subst (λ l. AllByRecursion (λ e. ThreadExists n e.site) l) (h.0
+            ∙ is) (subst (λ k. AllByRecursion (λ e. ThreadExists k e.site) s.entries) h.1 p.there)) in
         cc
 
-    pub no_rows : ((rows : CellGrid) (rest : TokenList) → Rows n b rows rest → ⊥) → (s : TestSyntax) → Parts arch ts s → ⊥
+    pub no_rows : NoneRead (Rows n b) → NoSuch (Parts arch ts)
     no_rows never s p = never s.rows p.behind_rows (at_rows s p).2
 
     module _ (rows : CellGrid) (c : TokenList) (are_rows : Rows n b rows c) (first : TokenList)
@@ -153,29 +150,28 @@ module _ (arch : Arch) (ts a : TokenList) (entries : List EntrySyntax) (block : 
           let u = Rows-unique n b p.behind_rows c s.rows rows h.2 are_rows in
           (h.0, h.1, u.0, subst (λ l. Condition arch n l s.listed s.quant s.terminals) u.1 h.3)
 
-      pub no_condition : ((listed : List SiteSyntax) (quant : Quant) (ss : List (Terminal AtomSyntax)) (p : Formula) → Condition arch n c listed quant ss
-          → HasRoomFor (with_sites first listed) (sites_in ss) → HasFewNodes ss
-          → IsProposition (map (resolved (with_sites (with_sites first listed) (sites_in ss))) ss) p → ⊥)
-          → (s : TestSyntax) (p : Formula) → Parts arch ts s → IsProposition (map (resolved (table s)) s.terminals) p → ⊥
+      pub no_condition : NoCondition arch n c first → IsNoTest arch ts
       no_condition never s f p whole =
           let h = at_condition s p in
-          let names : with_sites [] (sites_of s.entries) ≡ first = ap (λ es. with_sites [] (sites_of es)) h.0 ∙ sym is_first in
-          let all : table s ≡ with_sites (with_sites first s.listed) (sites_in s.terminals) = table_parts s ∙ ap
-          (λ ns. with_sites (with_sites ns s.listed) (sites_in s.terminals)) names in
-          never s.listed s.quant s.terminals f h.3 (omega (arith, p.few_names, ap length all)) p.few_nodes
-          (subst (λ ns. IsProposition (map (resolved ns) s.terminals) f) all whole)
+          let names = ap (λ es. with_sites [] (sites_of es)) h.0 ∙ sym is_first in
+          let all : table s ≡ with_sites (with_sites first s.listed) (sites_in s.terminals) = table_parts s
+              ∙ ap (λ ns. with_sites (with_sites ns s.listed) (sites_in s.terminals)) names in
+          never s.listed s.quant s.terminals f h.3 (record {
+            room = omega (arith, p.few_names, ap length all);
+            few = p.few_nodes;
+            says = subst (λ ns. IsProposition (map (resolved ns) s.terminals) f) all whole;
+          })
 
 pub Parts-unique : (arch : Arch) (ts : TokenList) (s t : TestSyntax) → Parts arch ts s → Parts arch ts t → s ≡ t
 Parts-unique arch ts s t p q =
-    let h = at_condition arch ts q.behind_block t.entries q.block t.threads q.behind_header q.header t.rows q.behind_rows q.rows
-    (with_sites [] (sites_of t.entries)) refl s p in
+    let h = at_condition arch ts _ t.entries q.block t.threads _ q.header t.rows _ q.rows _ refl s p in
     let u = Listed-unique arch q.behind_rows s.listed t.listed h.3.behind_list q.condition.behind_list h.3.lists q.condition.lists in
-    let v = Quantified-unique q.condition.behind_list s.quant t.quant h.3.behind_quant q.condition.behind_quant
-    (subst (λ l. Quantified l s.quant h.3.behind_quant) u.1 h.3.quantifies) q.condition.quantifies in
-    let w = Terminals-unique arch t.threads s.terminals t.terminals q.condition.behind_quant
-    (subst (λ l. Terminals arch t.threads l s.terminals) v.1 h.3.says) q.condition.says in
-    let made = λ (es : List EntrySyntax) (n : ℕ) (rows : CellGrid) (ls : List SiteSyntax) (quant : Quant) (ss : List (Terminal AtomSyntax)).
-    (let x : TestSyntax = record { entries = es; threads = n; rows = rows; listed = ls; quant = quant; terminals = ss } in x) in
+    let v = Quantified-unique q.condition.behind_list s.quant t.quant h.3.behind_quant
+        q.condition.behind_quant (rw u.1 at h.3.quantifies) q.condition.quantifies in
+    let w = Terminals-unique arch t.threads s.terminals t.terminals _ (rw v.1 at h.3.says) q.condition.says in
+    let made = λ (es : List EntrySyntax) (n : ℕ) (rows : CellGrid) (ls : List SiteSyntax) (quant : Quant)
+        (ss : List (Terminal AtomSyntax)). (let x : TestSyntax = record { entries = es; threads = n; rows
+        = rows; listed = ls; quant = quant; terminals = ss } in x) in
     let same : made s.entries s.threads s.rows s.listed s.quant s.terminals ≡ made t.entries t.threads t.rows t.listed t.quant t.terminals =
     cc (h.0, h.1, h.2, u.0, v.0, w) in
     same
@@ -192,10 +188,10 @@ pub header_some : (ts rest : TokenList) (n : ℕ) → Header ts n rest → 1 ≤
 header_some ts rest zero h = absurd h.0
 header_some ts rest (suc n) h = omega arith
 
-lines_even : {A : Type 0} (n : ℕ) (rows : List (List (Cell A))) (ts rest : TokenList) → Until begins_stop (Row n) ts (all_texts rows) rest
-    → AllByRecursion (λ row. length row ≡ n) rows
+lines_even : {A : Type 0} (n : ℕ) (rows : List (List (Cell A))) (ts rest : TokenList)
+    → Until begins_stop (Row n) ts (all_texts rows) rest → AllByRecursion (λ row. length row ≡ n) rows
 lines_even n [] ts rest u = tt
-lines_even n (row ∷ rows) ts rest u = (sym (length-map row cell_texts) ∙ u.1.1.1, lines_even n rows u.1.0 rest u.1.2)
+lines_even n (row ∷ rows) ts rest u = (sym (length-map row _) ∙ u.1.1.1, lines_even n rows u.1.0 rest u.1.2)
 
 -- the rows have a cell for each thread
 pub Rows-even : {A : Type 0} (n : ℕ) (rows : List (List (Cell A))) (ts rest : TokenList) → Rows n ts (all_texts rows) rest → All (λ row. length row ≡ n) rows
@@ -205,26 +201,27 @@ Rows-even n rows ts rest r = All-from_recursion (λ row. length row ≡ n) rows 
 
 -- where a text's tokens, if it has some, are no test's, it has no frame
 pub no_frame : (text : Bytes) (arch : Arch) (name rest : Bytes) → Heading text arch name rest → ((ts : TokenList) → Tokens rest ts → IsNoTest arch ts)
-    → (frame : TestFrame) → HasFrame text frame → ⊥
+    → NoSuch (HasFrame text)
 no_frame text arch name rest heading never frame h =
     let e = Heading-unique text h.arch h.name h.rest arch name rest h.heading heading in
     never h.tokens (subst (λ x. Tokens x h.tokens) e.2 h.row) h.syntax h.condition (subst (λ a. Parts a h.tokens h.syntax) e.0 h.parts) h.proposition
 
 -- the tokens up to the first lexical fault, if there is one, are no test's
-pub no_test : {F : Type 0} (arch : Arch) (o : Option F) (rest : Bytes) (ts : TokenList) → IfNone o (Tokens rest ts)
-    → OnSome o ((us : TokenList) → Tokens rest us → ⊥) → IfNone o (IsNoTest arch ts) → (us : TokenList) → Tokens rest us → IsNoTest arch us
-no_test arch None rest ts row fault never us other s p parts whole = never s p (subst (λ x. Parts arch x s) (Tokens-unique us ts rest other row) parts) whole
-no_test arch (Some f) rest ts row fault never us other s p parts whole = fault us other
+pub no_test : {F : Type 0} (arch : Arch) (o : Option F) (Q : F → Type 0) (len : ℕ) (rest : Bytes) (ts : List Token)
+    → MatchOption o (PlacedTokens len rest (placed_tokens ts)) (λ f. NoSuch (Tokens rest) × Q f)
+    → IfNone o (IsNoTest arch (texts ts)) → (us : TokenList) → Tokens rest us → IsNoTest arch us
+no_test arch None Q len rest ts row never us other s p parts whole = never s p (subst (λ x. Parts arch x s)
+    (Tokens-unique us (texts ts) rest other (read_whole len rest ts row)) parts) whole
+no_test arch (Some f) Q len rest ts row never us other s p parts whole = row.0 us other
 
 -- where no quantifier stands
-pub no_exists : (ts l : TokenList) → ts ≡ codes "~" ∷ l → ((rest : TokenList) → l ≡ codes "exists" ∷ rest → ⊥) → (q : Quant) (rest : TokenList)
-    → Quantified ts q rest → ⊥
-no_exists ts l e never Exists rest f = is_no_text (codes "exists") (codes "~") refl (same_front ts l rest (codes "~") (codes "exists") e f).0
-no_exists ts l e never NotExists rest f = never rest (same_front ts l (codes "exists" ∷ rest) (codes "~") (codes "~") e f).1
-no_exists ts l e never Forall rest f = is_no_text (codes "forall") (codes "~") refl (same_front ts l rest (codes "~") (codes "forall") e f).0
+pub no_exists : (ts l : TokenList) → ts ≡ codes "~" ∷ l → ((rest : TokenList) → l ≡ codes "exists" ∷ rest → ⊥) → NoneRead (Quantified ts)
+no_exists ts l e never Exists rest f = is_no_text _ _ refl (same_front ts l rest (codes "~") _ e f).0
+no_exists ts l e never NotExists rest f = never rest (same_front ts l _ (codes "~") (codes "~") e f).1
+no_exists ts l e never Forall rest f = is_no_text _ _ refl (same_front ts l rest (codes "~") _ e f).0
 
 pub no_quantifier : (ts : TokenList) → begins_word (codes "~") ts ≡ false → ((rest : TokenList) → ts ≡ codes "exists" ∷ rest → ⊥)
-    → ((rest : TokenList) → ts ≡ codes "forall" ∷ rest → ⊥) → (q : Quant) (rest : TokenList) → Quantified ts q rest → ⊥
+    → ((rest : TokenList) → ts ≡ codes "forall" ∷ rest → ⊥) → NoneRead (Quantified ts)
 no_quantifier ts no_tilde no_first no_second Exists rest f = no_first rest f
-no_quantifier ts no_tilde no_first no_second NotExists rest f = no_word_next (codes "~") ts (codes "exists" ∷ rest) no_tilde f
+no_quantifier ts no_tilde no_first no_second NotExists rest f = no_word_next (codes "~") ts _ no_tilde f
 no_quantifier ts no_tilde no_first no_second Forall rest f = no_second rest f

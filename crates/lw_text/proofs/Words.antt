@@ -1,14 +1,15 @@
 -- Words and symbols, and what stands behind them.
-use Rattle.std.proofs.Common.{◌≡◌, ℕ, zero, suc, ◌<◌, inl, inr, Bool, true, false, not, [], ◌∷◌, ◌++◌, length}
+use Rattle.std.proofs.Common.{◌≡◌, ℕ, ◌<◌, inl, inr, Bool, true, false, not, [], ◌∷◌, ◌++◌, length}
 use Rattle.std.proofs.Common.{take, drop, refl, sym, ap, ◌∙◌, subst, arith, ◌==◌, nat_lt, slice_index_or}
 use Rattle.std.proofs.Common.{Option, Some, None, MatchOption, is_some, bytes_eq, ltb-true, eqb-true}
 use Rattle.std.specs.List.{AllByRecursion, list_all}
 use Rattle.std.proofs.lemmas.Slice.Eq.{bytes_eq-Decides}
-use Rattle.std.proofs.lemmas.Bool.{and_parts, not-true, cases_Bool}
+use Rattle.std.proofs.lemmas.Bool.{not-true, false_from_ne_true}
 use Rattle.lw_base.specs.Types.{Bytes}
 use Rattle.lw_base.specs.Characters.{is_blank, is_word_byte, begins}
 use Rattle.lw_base.specs.Names.{IsName}
-use Rattle.lw_base.proofs.api.Blanks.{any_all, same_byte, blank_all}
+use Rattle.lw_base.proofs.api.Blanks.{any_all, same_byte, blank_all, all_ascii}
+use Rattle.lw_text.proofs.api.Spelling.{all_pass}
 use Rattle.lw_text.specs.Tokens.{begins_trivia, begins_pair, is_single, is_pair, pairs, singles, IsNumber}
 use Rattle.lw_text.specs.Tokens.{IsKind, IsWord, IsSymbol, IsToken}
 
@@ -21,10 +22,7 @@ run-unique p [] r [] s a c m n e = (refl, e)
 run-unique p [] r (b ∷ v) s a c m n e = absurd (let h : begins p r ≡ p b = ap (begins p) e in cc (c.0))
 run-unique p (b ∷ w) r [] s a c m n e = absurd (let h : p b ≡ begins p s = ap (begins p) e in cc (a.0))
 run-unique p (b ∷ w) r (d ∷ v) s a c m n e =
-    let h : w ++ r ≡ v ++ s = cc in
-    let k : b ≡ d = cc in
-    let both = run-unique p w r v s a.1 c.1 m n h in
-    let i : w ≡ v = both.0 in
+    let both = run-unique p w r v s a.1 c.1 m n cc in
     (cc, both.1)
 
 abbrev pub Words : Bytes → Type 0
@@ -55,27 +53,16 @@ symbol_front _ rest h = absurd h
 pub no_trivia_at : (p : ℕ → Bool) (b : ℕ) (text : Bytes) → list_all (λ x. not (p x)) (32 ∷ 9 ∷ 10 ∷ 13 ∷ []) ≡ true → p 40 ≡ false → p b ≡ true
     → begins_trivia (b ∷ text) ≡ false
 no_trivia_at p b text blanks bracket h =
-    let k : is_blank b ≡ false = elim (cases_Bool (is_blank b))
-    [ inl e ↦ absurd (let i = not-true (p b) (blank_all (λ x. not (p x)) b blanks e) in cc) | inr e ↦ e ] in
-    let m : (b == 40) ≡ false = elim (cases_Bool (b == 40)) [
-      | inl e ↦ absurd
-          (let i : b ≡ 40 = eqb-true b 40 e in let j : p b ≡ p 40 = ap p i in cc)
-      | inr e ↦ e
-    ] in
-    rw (k, m) refl
+    let k = false_from_ne_true (is_blank b) (λ e. let i = not-true (p b) (blank_all (λ x. not (p x)) b blanks e) in cc) in
+    rw (k, (false_from_ne_true (b == 40) (λ e. let i = ap p (eqb-true b 40 e) in cc))) refl
 
 -- no trivia begins where a token does
 pub token_no_trivia : (t rest : Bytes) → IsToken t rest → begins_trivia (t ++ rest) ≡ false
 token_no_trivia [] rest (inl w) = absurd (let n = kind_nonempty [] w.kind in omega arith)
 token_no_trivia (b ∷ t) rest (inl w) = no_trivia_at (is_word_byte) b (t ++ rest) refl refl w.all.0
 token_no_trivia (b ∷ []) rest (inr s) =
-    let h = not-true (is_blank b) (single_all (λ x. not (is_blank x)) b refl s.0) in
-    let k = s.2 in
-    rw (h, k) refl
-token_no_trivia (b ∷ c ∷ []) rest (inr s) =
-    let h = not-true (is_blank b) (pair_all (begins (λ x. not (is_blank x))) b c refl s) in
-    let k = not-true (b == 40) (pair_all (begins (λ x. not (x == 40))) b c refl s) in
-    rw (h, k) refl
+    rw ((not-true (is_blank b) (single_all (λ x. not (is_blank x)) b refl s.0)), s.2) refl
+token_no_trivia (b ∷ c ∷ []) rest (inr s) = not-true (begins_trivia (b ∷ c ∷ [])) (pair_all (λ w. not (begins_trivia w)) b c refl s)
 token_no_trivia _ rest (inr s) = absurd s
 
 pub token_nonempty : (t rest : Bytes) → IsToken t rest → 0 < length t
@@ -85,18 +72,16 @@ token_nonempty (b ∷ t) rest (inr s) = omega arith
 
 -- ---- one token begins at a place
 
+-- where a symbol of one byte stands no longer one does
+no_longer_there : (b d : ℕ) (r s : Bytes) → r ≡ d ∷ s → begins (is_pair b) r ≡ false → is_pair b d ≡ true → ⊥
+no_longer_there b d r s e shut pair = let h = ap (begins (is_pair b)) e in cc
+
 symbol-unique : (t r u s : Bytes) → IsSymbol t r → IsSymbol u s → t ++ r ≡ u ++ s → (t ≡ u) × (r ≡ s)
-symbol-unique [] r u s p q e = absurd p
 symbol-unique (b ∷ []) r (c ∷ []) s p q e = (cc, cc)
-symbol-unique (b ∷ []) r (c ∷ d ∷ []) s p q e =
-    let k : b ≡ c = cc in
-    absurd (let h : begins (is_pair b) r ≡ is_pair b d = ap (begins (is_pair b)) (let i : r ≡ d ∷ s = cc in i) in let i : is_pair b d ≡ true = subst
-    (λ x. is_pair x d ≡ true) (sym k) q in cc (p.1))
-symbol-unique (a ∷ b ∷ []) r (c ∷ []) s p q e =
-    let k : c ≡ a = cc in
-    absurd (let h : is_pair c b ≡ begins (is_pair c) s = ap (begins (is_pair c)) (let i : b ∷ r ≡ s = cc in i) in let i : is_pair c b ≡ true = subst
-    (λ x. is_pair x b ≡ true) (sym k) p in cc (q.1))
+symbol-unique (b ∷ []) r (c ∷ d ∷ []) s p q e = absurd (no_longer_there b d r s (cc) p.1 (let k : c ≡ b = cc in subst (λ x. is_pair x d ≡ true) k q))
+symbol-unique (a ∷ b ∷ []) r (c ∷ []) s p q e = absurd (no_longer_there c b s r (cc) q.1 (let k : a ≡ c = cc in subst (λ x. is_pair x b ≡ true) k p))
 symbol-unique (a ∷ b ∷ []) r (c ∷ d ∷ []) s p q e = (cc, cc)
+symbol-unique [] r u s p q e = absurd p
 symbol-unique (a ∷ b ∷ c ∷ t) r u s p q e = absurd p
 symbol-unique _ r _ s p q e = absurd q
 
@@ -120,7 +105,7 @@ pub no_token : (bytes rest : Bytes) (b : ℕ) → bytes ≡ b ∷ rest → is_wo
 no_token bytes rest b e no_word no_single short t more f (inl p) = let h = word_front t more p in let i = ap (begins is_word_byte) (sym e ∙ f) in cc
 no_token bytes rest b e no_word no_single short (c ∷ []) more f (inr p) =
     let k : b ≡ c = let i = sym e ∙ f in cc in
-    no_single (subst (λ x. is_single x ≡ true) (sym k) p.0, subst (λ l. begins_pair 40 42 l ≡ false) (sym f) p.2)
+    no_single (rw (← k) at p.0, subst (λ l. begins_pair 40 42 l ≡ false) (sym f) p.2)
 no_token bytes rest b e no_word no_single short (c ∷ d ∷ []) more f (inr p) = short c d more f p
 no_token bytes rest b e no_word no_single short _ more f (inr p) = p
 
@@ -132,14 +117,13 @@ long_symbol bytes t rest (b, c, more, e, p) f g = rw (f, g, e) (refl, inr p)
 -- one of a single byte, where no longer one begins
 no_longer : (more : Bytes) (b : ℕ) → ((d : ℕ) (l : Bytes) → more ≡ d ∷ l → is_pair b d ≡ true → ⊥) → begins (is_pair b) more ≡ false
 no_longer [] b h = refl
-no_longer (d ∷ l) b h = elim (cases_Bool (is_pair b d)) [ inl e ↦ absurd (h d l refl e) | inr e ↦ e ]
+no_longer (d ∷ l) b h = false_from_ne_true (is_pair b d) (h d l refl)
 
 pub short_symbol : (bytes more t rest : Bytes) (b : ℕ) → bytes ≡ b ∷ more → ((c d : ℕ) (l : Bytes) → bytes ≡ c ∷ d ∷ l → is_pair c d ≡ true → ⊥)
     → (is_single b ≡ true) × (begins_pair 40 42 bytes ≡ false) → t ≡ take 1 bytes → rest ≡ drop 1 bytes → (bytes ≡ t ++ rest) × IsToken t rest
 short_symbol bytes more t rest b e no_pair single f g =
     let longer = no_longer more b (λ d l k. no_pair b d l (e ∙ ap (λ x. b ∷ x) k)) in
-    let shut : begins_pair 40 42 (b ∷ more) ≡ false = subst (λ x. begins_pair 40 42 x ≡ false) e single.1 in
-    rw (f, g, e) (refl, inr (single.0, longer, shut))
+    rw (f, g, e) (refl, inr (single.0, longer, (subst (λ x. begins_pair 40 42 x ≡ false) e single.1)))
 
 -- a word that is no name is told by whether it is a number
 pub kind_number : (w : Bytes) (name number : Bool) (o : Option ℕ) → (IsName w → name ≡ true) → name ≡ false
@@ -150,9 +134,7 @@ kind_number w name number (Some m) is other found e = (λ h. inr (m, found), λ 
 -- ---- symbols have bytes below 128 alone
 
 below_all : (w : Bytes) → list_all (λ b. nat_lt b 128) w ≡ true → (i : ℕ) → slice_index_or w i 0 < 128
-below_all [] h i = omega arith
-below_all (b ∷ w) h zero = ltb-true b 128 (and_parts (nat_lt b 128) (list_all (λ c. nat_lt c 128) w) h).0
-below_all (b ∷ w) h (suc i) = below_all w (and_parts (nat_lt b 128) (list_all (λ c. nat_lt c 128) w) h).1 i
+below_all w h = all_ascii (λ b. nat_lt b 128) (λ b k. ltb-true b 128 k) w (all_pass (λ b. nat_lt b 128) w h)
 
 pub long_ascii : (bytes t : Bytes) → ((b c : ℕ) × (more : Bytes) × (bytes ≡ b ∷ c ∷ more) × (is_pair b c ≡ true)) → t ≡ take 2 bytes → (i : ℕ)
     → slice_index_or t i 0 < 128
@@ -162,5 +144,5 @@ long_ascii bytes t (b, c, more, e, p) f i =
 
 pub short_ascii : (bytes more t : Bytes) (b : ℕ) → bytes ≡ b ∷ more → is_single b ≡ true → t ≡ take 1 bytes → (i : ℕ) → slice_index_or t i 0 < 128
 short_ascii bytes more t b e single f i =
-    let low = any_all (λ x y. x == y) same_byte (λ d. list_all (λ d. nat_lt d 128) (d ∷ [])) singles b refl single in
+    let low = any_all _ same_byte (λ d. list_all (λ d. nat_lt d 128) (d ∷ [])) singles b refl single in
     subst (λ w. slice_index_or w i 0 < 128) (sym (f ∙ ap (take 1) e)) (below_all (b ∷ []) low i)

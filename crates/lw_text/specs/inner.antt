@@ -1,6 +1,5 @@
 -- What only the readers within the crate speak of: no public call cites it.
 pub mod Terminals
-pub mod LeftToRight
 pub mod Pending
 pub mod Resolved
 pub mod Taken

@@ -1,5 +1,5 @@
 //! The initial block of a test: its entries, each a site and the word that it begins with.
-ghost use Rattle.std.specs.Prelude.{◌≡◌, true, false, OnOk, OnErr, IfOk, IfErr};
+ghost use Rattle.std.specs.Prelude.{◌≡◌, true, false, MatchResult, OnOk, OnErr};
 ghost use Rattle.std.specs.List.{list_all};
 ghost use Rattle.lw_base.specs.Refusals.{NotReadWhere};
 ghost use Rattle.lw_text.specs.Frames.{sites_of, Block};
@@ -27,15 +27,15 @@ impl<'t, 'a> Cursor<'t, 'a> {
 
     /// Takes the block. The names of its locations go into the table. The threads of its entries are looked at
     /// behind the header, which says how many there are.
+    #[tactic(auto, using(crate::proofs::Faults::ran_out))]
     pub(crate) fn block<A: Allocator + Copy>(
         &mut self,
         alloc: A,
         arch: Arch,
         locs: &mut LocNames<A>,
     ) -> Result<Sequence<Entry, A>, Refusal>
-        ensures found { IfOk result (λ es. TakenBlock arch self.old self.new locs.old locs.new es) }
-        ensures fault { IfErr result (λ f. NotReadWhere Memory f.cause (Block arch (left self.old))
-            (λ es. HasRoomFor locs.old (sites_of es))) }
+        ensures { MatchResult result (λ es. TakenBlock arch self.old self.new locs.old locs.new es)
+            (λ f. NotReadWhere Memory f.cause (Block arch (left self.old)) (λ es. HasRoomFor locs.old (sites_of es))) }
     {
         self.expect("{", Cause::Unexpected)?;
         let mut entries = Sequence::new(alloc);
@@ -55,6 +55,7 @@ impl<'t, 'a> Cursor<'t, 'a> {
 }
 
 /// Each entry's thread is one of so many.
+#[tactic(auto, using(crate::proofs::Starts::all_more, crate::proofs::Starts::at_end, crate::proofs::Starts::all_missed))]
 pub(crate) fn check_threads(entries: &[Entry], threads: usize) -> Result<(), Refusal>
     ensures ok { OnOk result (list_all (λ e. thread_exists threads e.site) entries.now ≡ true) }
     ensures err { OnErr result (list_all (λ e. thread_exists threads e.site) entries.now ≡ false) }

@@ -1,5 +1,5 @@
 //! The reader of all that stands behind a test's heading.
-ghost use Rattle.std.specs.Prelude.{◌≡◌, ◌≢◌, ◌≤◌, All, IfOk, IfErr, IfSome, IfNone, None};
+ghost use Rattle.std.specs.Prelude.{◌≡◌, ◌≢◌, ◌≤◌, All, MatchResult, IfSome, IfNone, None};
 ghost use Rattle.lw_text.specs.Frames.{IsNoTest};
 ghost use Rattle.lw_text.specs.declared.fault.Cause.TheVariants.{Memory};
 ghost use Rattle.lw_text.specs.Spans.{texts};
@@ -24,9 +24,9 @@ impl<'t, 'a> Cursor<'t, 'a> {
         alloc: A,
         arch: Arch,
     ) -> Result<Body<'a, A>, Refusal>
-        ensures found { IfOk result (λ b. HasSyntax arch (left self.old) b
-            × HasRows arch (placed_tokens (remaining self.old)) b.parts.threads (placed_cells b.rows)) }
-        ensures fault { IfErr result (λ f. f.cause ≢ Memory → IsNoTest arch (left self.old)) }
+        ensures { MatchResult result (λ b. HasSyntax arch (left self.old) b
+            × HasRows arch (placed_tokens (remaining self.old)) b.parts.threads (placed_cells b.rows))
+            (λ f. f.cause ≢ Memory → IsNoTest arch (left self.old)) }
     {
         let mut locs = LocNames::new(alloc);
         let entries = self.block(alloc, arch, &mut locs)?;
@@ -54,14 +54,13 @@ impl<'t, 'a> Cursor<'t, 'a> {
 impl<'a, A: Allocator + Copy> TokenStream<'a, A> {
     /// What the tokens say, in a text of the language and of this length. Where a fault ends them they
     /// say nothing.
+    #[tactic(auto, using(crate::proofs::Numbers::if_none))]
     pub(crate) fn body(&self, alloc: A, arch: Arch, len: usize) -> Result<Body<'a, A>, Fault>
         requires places { All (λ t. t.at ≤ len) self.now.tokens }
         requires fault { IfSome self.now.fault (λ f. f.at ≤ len) }
-        ensures found { IfOk result (λ b. (self.now.fault ≡ None) × HasSyntax arch (texts self.now.tokens) b
-            × HasRows arch (placed_tokens self.now.tokens) b.parts.threads (placed_cells b.rows)) }
-        ensures fault { IfErr result (λ f. f.cause ≢ Memory
-            → IfNone self.now.fault (IsNoTest arch (texts self.now.tokens))) }
-        ensures place { IfErr result (λ f. f.at ≤ len) }
+        ensures { MatchResult result (λ b. (self.now.fault ≡ None) × HasSyntax arch (texts self.now.tokens) b
+            × HasRows arch (placed_tokens self.now.tokens) b.parts.threads (placed_cells b.rows))
+            (λ f. (f.cause ≢ Memory → IfNone self.now.fault (IsNoTest arch (texts self.now.tokens))) × (f.at ≤ len)) }
     {
         let mut cursor = Cursor::new(self.tokens.as_slice());
         match cursor.body(alloc, arch) {

@@ -1,7 +1,8 @@
 //! The cursor over the tokens that are still to be read.
-ghost use Rattle.std.specs.Prelude.{◌≡◌, ◌≤◌, true, false, if◌then◌else◌, [], ◌∷◌, length, OnOk, OnErr, IfOk};
+ghost use Rattle.std.specs.Prelude.{◌≡◌, ◌≤◌, ◌<◌, ◌+◌, true, false, if◌then◌else◌, [], ◌∷◌, length, drop, MatchOption, MatchResult, OnOk, OnErr, IfOk};
 ghost use Rattle.lw_base.specs.Types.{TokenList};
 ghost use Rattle.lw_text.specs.Conditions.{begins_word};
+ghost use Rattle.lw_text.specs.Spans.{texts};
 
 use crate::fault::{Cause, Refusal};
 use crate::token::Token;
@@ -31,22 +32,35 @@ impl<'t, 'a> Cursor<'t, 'a> {
         }
     }
 
+    /// The next token.
+    pub(crate) fn peek(&self) -> Option<Token<'a>>
+        ensures { MatchOption result (left self.now ≡ []) (λ t. (self.now.next < length self.now.tokens.now)
+            × (remaining self.now ≡ t ∷ drop (self.now.next + 1) self.now.tokens.now)
+            × (left self.now ≡ t.text.now ∷ texts (drop (self.now.next + 1) self.now.tokens.now))) }
+    {
+        match self.tokens.get(self.next) {
+            Some(token) => Some(*token),
+            None => None,
+        }
+    }
+
     /// Takes the next token.
     pub(crate) fn take(&mut self) -> Result<Token<'a>, Refusal>
         ensures token { IfOk result (λ t. remaining self.old ≡ t ∷ remaining self.new) }
         ensures ok { IfOk result (λ t. left self.old ≡ t.text.now ∷ left self.new) }
         ensures err { OnErr result (left self.old ≡ []) }
     {
-        match self.tokens.get(self.next) {
+        match self.peek() {
             Some(token) => {
                 self.next += 1;
-                Ok(*token)
+                Ok(token)
             }
             None => Err(self.refusal(Cause::Unterminated)),
         }
     }
 
     /// Takes the next token, which is to be this text. Another is refused with the cause.
+    #[tactic(auto, using(crate::proofs::Texts::no_word_next))]
     pub(crate) fn expect(&mut self, text: &str, cause: Cause) -> Result<(), Refusal>
         ensures ok { OnOk result (left self.old ≡ text.now ∷ left self.new) }
         ensures err { OnErr result ((rest : TokenList) → left self.old ≡ text.now ∷ rest → ⊥) }
@@ -62,13 +76,14 @@ impl<'t, 'a> Cursor<'t, 'a> {
     pub(crate) fn is_next(&self, text: &str) -> bool
         ensures { result ≡ begins_word text.now (left self.now) }
     {
-        match self.tokens.get(self.next) {
+        match self.peek() {
             Some(token) => token.text == text,
             None => false,
         }
     }
 
     /// Takes this text, if it is next, and says whether it was.
+    #[tactic(auto, using(crate::proofs::Texts::word_next))]
     pub(crate) fn takes(&mut self, text: &str) -> bool
         ensures taken { result ≡ true → left self.old ≡ text.now ∷ left self.new }
         ensures other { result ≡ false → begins_word text.now (left self.old) ≡ false }
@@ -84,19 +99,17 @@ impl<'t, 'a> Cursor<'t, 'a> {
 
     /// Takes the one text or the other, and says whether it is the first. Another token is refused with
     /// the cause.
+    #[tactic(auto, using(crate::proofs::Texts::no_word_next))]
     pub(crate) fn either(
         &mut self,
         first: &str,
         second: &str,
         cause: Cause,
     ) -> Result<bool, Refusal>
-        ensures ok { IfOk result (λ b. left self.old
-            ≡ (if b then first.now else second.now) ∷ left self.new) }
-        ensures no_first { OnErr result ((rest : TokenList) → left self.old ≡ first.now ∷ rest
-            → ⊥) }
-        ensures no_second { OnErr result ((rest : TokenList) → left self.old ≡ second.now ∷ rest
-            → ⊥) }
-        ensures leaves { OnOk result (MovesOn self.old self.new) }
+        ensures { MatchResult result
+            (λ b. (left self.old ≡ (if b then first.now else second.now) ∷ left self.new) × MovesOn self.old self.new)
+            (λ _. ((rest : TokenList) → left self.old ≡ first.now ∷ rest → ⊥)
+            × ((rest : TokenList) → left self.old ≡ second.now ∷ rest → ⊥)) }
     {
         if self.takes(first) {
             return Ok(true);

@@ -1,5 +1,5 @@
 //! The heading of a test: the word of its language, its name, and notes up to the `{`.
-ghost use Rattle.std.specs.Prelude.{◌≡◌, ◌≤◌, ◌↔◌, length, IsTrue, IfOk, OnErr, IfErr, MatchOption};
+ghost use Rattle.std.specs.Prelude.{◌≡◌, ◌≤◌, ◌↔◌, length, IsTrue, MatchResult, MatchOption};
 ghost use Rattle.lw_base.specs.Refusals.{NoSuch, NoneRead};
 ghost use Rattle.lw_base.specs.Names.{IsTestName};
 ghost use Rattle.lw_base.specs.Languages.{arch_word};
@@ -19,12 +19,10 @@ pub(crate) struct Heading<'a> {
 
 impl<'a> Lexer<'a> {
     /// Takes the word of a language, the blanks behind it, the test's name, and the notes up to a `{`.
+    #[tactic(auto, using(crate::proofs::Headings::headings_read, crate::proofs::TokenRows::first_read, crate::proofs::Faults::refused))]
     pub(crate) fn heading(&mut self) -> Result<Heading<'a>, Fault>
-        ensures found { IfOk result (λ h. wanted.Heading self.old.rest.now h.arch h.name.now
-            self.new.rest.now) }
-        ensures fault { OnErr result ((arch : Arch)
-            → NoneRead (wanted.Heading self.old.rest.now arch)) }
-        ensures place { IfErr result (λ f. f.at ≤ length self.old.text.now) }
+        ensures reads { MatchResult result (λ h. wanted.Heading self.old.rest.now h.arch h.name.now self.new.rest.now)
+            (λ f. ((arch : Arch) → NoneRead (wanted.Heading self.old.rest.now arch)) × (f.at ≤ length self.old.text.now)) }
         ensures same { self.new.text.now ≡ self.old.text.now }
     {
         let Some(token) = self.next()? else {
@@ -47,10 +45,10 @@ impl<'a> Lexer<'a> {
     }
 
     /// Takes the blanks behind the word, and the test's name.
+    #[tactic(auto, using(crate::proofs::Headings::headings_read))]
     fn test_name(&mut self) -> Result<&'a str, Fault>
-        ensures found { IfOk result (λ name. Named self.old.rest.now name.now self.new.rest.now) }
-        ensures fault { OnErr result (NoneRead (Named self.old.rest.now)) }
-        ensures place { IfErr result (λ f. f.at ≤ length self.old.text.now) }
+        ensures reads { MatchResult result (λ name. Named self.old.rest.now name.now self.new.rest.now)
+            (λ f. NoneRead (Named self.old.rest.now) × (f.at ≤ length self.old.text.now)) }
         ensures same { self.new.text.now ≡ self.old.text.now }
     {
         let (space, after) = front(self.rest, ByteKind::Blank);

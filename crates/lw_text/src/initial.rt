@@ -10,6 +10,7 @@ use lw_base::{Cpu, Loc, MAX_LOCATIONS, MAX_THREADS, Reg, Sequence, Word};
 use std::alloc::{AllocError, Allocator};
 
 /// The words of the registers of so many threads.
+#[tactic(auto, using(crate::proofs::api::Indices::is_index))]
 pub(crate) fn initial_registers<A: Allocator>(
     alloc: A,
     entries: &[Entry],
@@ -44,6 +45,7 @@ fn words_of_thread(entries: &[Entry], cpu: Cpu) -> [Word; 6]
 }
 
 /// The words of so many locations.
+#[tactic(auto, using(crate::proofs::api::Indices::is_index, crate::proofs::Starts::words_more))]
 pub(crate) fn initial_words<A: Allocator>(
     alloc: A,
     entries: &[Entry],
@@ -60,6 +62,7 @@ pub(crate) fn initial_words<A: Allocator>(
 }
 
 /// The word of the last entry for a site, or 0.
+#[tactic(auto, using(crate::proofs::Starts::word_more))]
 fn word_of(entries: &[Entry], site: Site) -> Word
     ensures { result ≡ word_at entries.now (seen_of site) }
 {

@@ -80,6 +80,7 @@ fn begins_short(bytes: &[u8], first: u8) -> bool
 }
 
 /// Whether the word is a name or a number.
+#[tactic(auto, using(crate::proofs::Words::kind_number))]
 fn is_kind(word: &str) -> bool
     ensures { IsTrue result ↔ IsKind word.now }
 {
@@ -98,6 +99,7 @@ fn word_fault(first: u8) -> Cause
 }
 
 /// The token at the front, and what stands behind it.
+#[tactic(auto, using(crate::proofs::Words::no_kind, crate::proofs::Words::no_token, crate::proofs::Words::long_symbol, crate::proofs::Words::short_symbol, crate::proofs::Words::long_ascii, crate::proofs::Words::short_ascii))]
 pub(crate) fn token(bytes: &[u8]) -> Result<(&str, &[u8]), Cause>
     ensures found { IfOk result (λ x. (bytes.now ≡ x.0.now ++ x.1.now) × IsToken x.0.now x.1.now) }
     ensures none { OnErr result ((t rest : Bytes) → bytes.now ≡ t ++ rest → IsToken t rest → ⊥) }

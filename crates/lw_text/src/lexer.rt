@@ -1,5 +1,5 @@
 //! The lexer: the tokens of a text, one after another.
-ghost use Rattle.std.specs.Prelude.{◌≡◌, ◌+◌, ◌≤◌, [], length, IfOk, OnErr, IfErr, IfSome, MatchOption};
+ghost use Rattle.std.specs.Prelude.{◌≡◌, ◌+◌, ◌≤◌, [], length, MatchResult, MatchOption};
 ghost use Rattle.lw_base.specs.Types.{Bytes};
 
 use crate::fault::{Cause, Fault};
@@ -26,14 +26,13 @@ impl<'a> Lexer<'a> {
     }
 
     /// The next token, or `None` where only blanks and comments are left.
+    #[tactic(auto, using(crate::proofs::TokenRows::next_read))]
     pub(crate) fn next(&mut self) -> Result<Option<Token<'a>>, Fault>
-        ensures end { IfOk result (λ o. MatchOption o (Trivia self.old.rest.now [])
-            (λ t. First self.old.rest.now t.text.now self.new.rest.now)) }
-        ensures no_end { OnErr result (Trivia self.old.rest.now [] → ⊥) }
-        ensures no_token { OnErr result ((t rest : Bytes) → First self.old.rest.now t rest → ⊥) }
-        ensures place { IfErr result (λ f. f.at ≤ length self.old.text.now) }
-        ensures stands { IfOk result (λ o. IfSome o
-            (λ t. t.at + length t.text.now + length self.new.rest.now ≡ length self.old.text.now)) }
+        ensures reads { MatchResult result
+            (λ o. MatchOption o (Trivia self.old.rest.now []) (λ t. First self.old.rest.now t.text.now self.new.rest.now
+            × (t.at + length t.text.now + length self.new.rest.now ≡ length self.old.text.now)))
+            (λ f. (Trivia self.old.rest.now [] → ⊥) × ((t rest : Bytes) → First self.old.rest.now t rest → ⊥)
+            × (f.at ≤ length self.old.text.now)) }
         ensures same { self.new.text.now ≡ self.old.text.now }
     {
         let Some(start) = after_trivia(self.rest) else {

@@ -1,5 +1,5 @@
 //! The list of names in a test's condition, which a report shows.
-ghost use Rattle.std.specs.Prelude.{◌≢◌, List, IfOk, IfErr};
+ghost use Rattle.std.specs.Prelude.{◌≢◌, List, MatchResult};
 ghost use Rattle.std.specs.List.{AllByRecursion};
 ghost use Rattle.lw_base.specs.Types.{TokenList};
 ghost use Rattle.lw_text.specs.Conditions.{Listed};
@@ -17,6 +17,7 @@ impl<'t, 'a> Cursor<'t, 'a> {
     ghost use Rattle.lw_text.specs.Views.{left};
 
     /// Takes the list of names, where one stands. The names of its locations go into the table.
+    #[tactic(auto, using(crate::proofs::Faults::ran_out))]
     pub(crate) fn listed<A: Allocator + Copy>(
         &mut self,
         alloc: A,
@@ -24,9 +25,8 @@ impl<'t, 'a> Cursor<'t, 'a> {
         threads: usize,
         locs: &mut LocNames<A>,
     ) -> Result<Sequence<Site, A>, Refusal>
-        ensures found { IfOk result (λ ss. TakenList arch threads self.old self.new locs.old locs.new ss) }
-        ensures fault { IfErr result (λ f. f.cause ≢ Memory
-            → (ss : List SiteSyntax) (rest : TokenList) → Listed arch (left self.old) ss rest
+        ensures { MatchResult result (λ ss. TakenList arch threads self.old self.new locs.old locs.new ss)
+            (λ f. f.cause ≢ Memory → (ss : List SiteSyntax) (rest : TokenList) → Listed arch (left self.old) ss rest
             → AllByRecursion (ThreadExists threads) ss → HasRoomFor locs.old ss → ⊥) }
     {
         if !self.takes("locations") {

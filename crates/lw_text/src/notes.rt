@@ -3,7 +3,7 @@
 //!
 //! A reader of a part answers what stands behind it, or else what stands from the fault on, which is
 //! empty where the text ends too early.
-ghost use Rattle.std.specs.Prelude.{◌≡◌, ◌≢◌, ◌≤◌, length, IfOk, OnOk, OnErr, IfErr};
+ghost use Rattle.std.specs.Prelude.{◌≡◌, ◌≢◌, ◌≤◌, length, MatchResult};
 ghost use Rattle.lw_base.specs.Refusals.{NoSuch};
 ghost use Rattle.lw_text.specs.declared.fault.Cause.TheVariants.{Memory};
 ghost use Rattle.lw_text.specs.Headings.{KeyLine, Note, Notes};
@@ -16,9 +16,8 @@ use lw_base::{ByteKind, front};
 
 /// What stands behind the line `Key=value` at the front.
 fn after_key_line(bytes: &[u8]) -> Result<&[u8], &[u8]>
-    ensures found { IfOk result (λ rest. KeyLine bytes.now rest.now) }
-    ensures fault { OnErr result (NoSuch (KeyLine bytes.now)) }
-    ensures place { IfErr result (λ left. length left.now ≤ length bytes.now) }
+    ensures { MatchResult result (λ rest. KeyLine bytes.now rest.now)
+        (λ left. NoSuch (KeyLine bytes.now) × (length left.now ≤ length bytes.now)) }
 {
     let (key, rest) = front(bytes, ByteKind::Key);
     if key.is_empty() {
@@ -33,9 +32,8 @@ fn after_key_line(bytes: &[u8]) -> Result<&[u8], &[u8]>
 
 /// What stands behind the note at the front.
 fn after_note(bytes: &[u8]) -> Result<&[u8], &[u8]>
-    ensures found { IfOk result (λ rest. Note bytes.now rest.now) }
-    ensures fault { OnErr result (NoSuch (Note bytes.now)) }
-    ensures place { IfErr result (λ left. length left.now ≤ length bytes.now) }
+    ensures { MatchResult result (λ rest. Note bytes.now rest.now)
+        (λ left. NoSuch (Note bytes.now) × (length left.now ≤ length bytes.now)) }
 {
     let Some(inside) = behind_byte(bytes, b'"') else {
         return after_key_line(bytes);
@@ -48,10 +46,10 @@ fn after_note(bytes: &[u8]) -> Result<&[u8], &[u8]>
 }
 
 /// What stands behind the notes, from the `{` on.
+#[tactic(auto, using(crate::proofs::NoteRows::Passed_note, crate::proofs::NoteRows::Passed_shorter, crate::proofs::NoteRows::Passed_done, crate::proofs::NoteRows::Passed_open, crate::proofs::NoteRows::Passed_none, crate::proofs::Faults::refused))]
 fn after_notes(bytes: &[u8]) -> Result<&[u8], &[u8]>
-    ensures found { IfOk result (λ rest. Notes bytes.now rest.now) }
-    ensures fault { OnErr result (NoSuch (Notes bytes.now)) }
-    ensures place { IfErr result (λ left. length left.now ≤ length bytes.now) }
+    ensures { MatchResult result (λ rest. Notes bytes.now rest.now)
+        (λ left. NoSuch (Notes bytes.now) × (length left.now ≤ length bytes.now)) }
 {
     let mut rest = bytes;
     'notes: loop {
@@ -68,9 +66,8 @@ fn after_notes(bytes: &[u8]) -> Result<&[u8], &[u8]>
 impl<'a> Lexer<'a> {
     /// Passes the notes, up to a `{`.
     pub(crate) fn notes(&mut self) -> Result<(), Fault>
-        ensures found { OnOk result (Notes self.old.rest.now self.new.rest.now) }
-        ensures fault { OnErr result (NoSuch (Notes self.old.rest.now)) }
-        ensures place { IfErr result (λ f. f.at ≤ length self.old.text.now) }
+        ensures reads { MatchResult result (λ _. Notes self.old.rest.now self.new.rest.now)
+            (λ f. NoSuch (Notes self.old.rest.now) × (f.at ≤ length self.old.text.now)) }
         ensures same { self.new.text.now ≡ self.old.text.now }
     {
         match after_notes(self.rest) {

@@ -1,16 +1,15 @@
 //! The proposition of a condition, taken terminal by terminal up to the end of the text.
-ghost use Rattle.std.specs.Prelude.{◌≡◌, ◌≢◌, ◌+◌, ◌≤◌, ◌==◌, ◌||◌, not, true, codes, List, [], ◌∷◌, length, map, filter, Some, IfOk, IfErr};
+ghost use Rattle.std.specs.Prelude.{◌≡◌, ◌≢◌, ◌+◌, ◌≤◌, ◌==◌, ◌||◌, not, true, codes, List, [], ◌∷◌, length, map, filter, Some, None, MatchResult};
 ghost use Rattle.lw_base.specs.Types.{TokenList};
 ghost use Rattle.lw_base.specs.Formula.{Formula};
-ghost use Rattle.lw_base.specs.Propositions.{formula_of};
 ghost use Rattle.lw_base.specs.Lists.{EachOnce};
-ghost use Rattle.lw_text.specs.Propositions.{HasFewNodes, Terminal as TerminalSyntax, is_node, IsProposition};
+ghost use Rattle.lw_text.specs.Propositions.{Terminal as TerminalSyntax, is_node};
 ghost use Rattle.lw_text.specs.Sites.{HasRoomFor, with_sites};
 ghost use Rattle.lw_text.specs.declared.fault.Cause.TheVariants.{Memory};
-ghost use Rattle.lw_text.specs.inner.Pending.{Completes, state_of, state_behind};
+ghost use Rattle.lw_text.specs.inner.Pending.{state_of, state_behind};
 ghost use Rattle.lw_text.specs.inner.Terminals.{terminal_of};
 ghost use Rattle.lw_text.specs.Conditions.{AtomSyntax, begins_word, IsTerminal, Terminals, sites_in, resolved};
-ghost use Rattle.lw_text.specs.inner.Taken.{TakenTerminal};
+ghost use Rattle.lw_text.specs.inner.Taken.{TakenTerminal, TakenProposition, NoProposition};
 
 use crate::cursor::Cursor;
 use crate::fault::{Cause, Refusal};
@@ -32,14 +31,8 @@ impl<'t, 'a> Cursor<'t, 'a> {
     ) -> Result<Prop<A>, Refusal>
         requires threads { threads ≤ MAX_THREADS }
         requires once { EachOnce locs.old }
-        ensures found { IfOk result (λ p. (ss : List (TerminalSyntax AtomSyntax))
-            × Terminals arch threads (left self.old) ss × (locs.new ≡ with_sites locs.old (sites_in ss))
-            × HasFewNodes ss × IsProposition (map (resolved locs.new) ss) (formula_of p)) }
-        ensures fault { IfErr result (λ f. f.cause ≢ Memory
-            → (ss : List (TerminalSyntax AtomSyntax)) (p : Formula)
-            → Terminals arch threads (left self.old) ss → HasRoomFor locs.old (sites_in ss)
-            → HasFewNodes ss → IsProposition
-            (map (resolved (with_sites locs.old (sites_in ss))) ss) p → ⊥) }
+        ensures { MatchResult result (λ p. TakenProposition arch threads (left self.old) locs.old locs.new p)
+            (λ f. f.cause ≢ Memory → NoProposition arch threads (left self.old) locs.old) }
     {
         let mut reader = PropositionReader::new(alloc);
         let mut nodes = 0;
@@ -61,6 +54,7 @@ impl<'t, 'a> Cursor<'t, 'a> {
 
     /// Takes a terminal that may come next behind so many nodes, and gives it to the reader. The names
     /// of its locations go into the table.
+    #[tactic(auto, using(crate::proofs::Faults::ran_out, crate::proofs::Faults::refused, crate::proofs::PropositionRows::no_room, crate::proofs::PropositionRows::terminal_refused, crate::proofs::PropositionRows::begins_right))]
     fn next_terminal<A: Allocator + Copy>(
         &mut self,
         arch: Arch,
@@ -71,15 +65,14 @@ impl<'t, 'a> Cursor<'t, 'a> {
     ) -> Result<Terminal, Refusal>
         requires threads { threads ≤ MAX_THREADS }
         requires once { EachOnce locs.old }
-        ensures found { IfOk result (λ s. TakenTerminal arch threads self.old self.new locs.old locs.new s
+        ensures { MatchResult result (λ s. TakenTerminal arch threads self.old self.new locs.old locs.new s
             × (state_behind (state_of reader.old) (terminal_of s) ≡ Some (state_of reader.new))
             × ((not (nodes == MAX_NODES) ||
-            (begins_word (codes "(") (left self.old) || begins_word (codes ")") (left self.old))) ≡ true)) }
-        ensures fault { IfErr result (λ f. f.cause ≢ Memory
+            (begins_word (codes "(") (left self.old) || begins_word (codes ")") (left self.old))) ≡ true))
+            (λ f. f.cause ≢ Memory
             → (s : TerminalSyntax AtomSyntax) (rest : TokenList)
-            (ss : List (TerminalSyntax Formula)) (p : Formula)
             → IsTerminal arch threads (left self.old) s rest
-            → Completes reader.old (resolved (with_sites locs.old (sites_in (s ∷ []))) s ∷ ss) p
+            → state_behind (state_of reader.old) (resolved (with_sites locs.old (sites_in (s ∷ []))) s) ≢ None
             → HasRoomFor locs.old (sites_in (s ∷ []))
             → nodes + length (filter is_node (s ∷ [])) ≤ MAX_NODES → ⊥) }
     {

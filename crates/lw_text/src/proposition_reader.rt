@@ -1,10 +1,9 @@
 //! The reader of a proposition, which keeps a list of what stands open in place of recursion.
-ghost use Rattle.std.specs.Prelude.{◌≡◌, ◌≢◌, not, [], map, reverse, is_some, Some, None, IfOk, IfErr, if◌then◌else◌};
-ghost use Rattle.lw_base.specs.Refusals.{NoSuch};
+ghost use Rattle.std.specs.Prelude.{◌≡◌, ◌≢◌, not, [], map, reverse, is_some, Some, None, IfOk, MatchResult, if◌then◌else◌};
 ghost use Rattle.lw_base.specs.Propositions.{formula_of};
 ghost use Rattle.lw_text.specs.declared.fault.Cause.TheVariants.{Memory};
 ghost use Rattle.lw_text.specs.inner.Terminals.{terminal_of};
-ghost use Rattle.lw_text.specs.inner.Pending.{Completes, begun, group_of, state_of, state_behind, step_before, step_behind};
+ghost use Rattle.lw_text.specs.inner.Pending.{begun, group_of, standing, state_of, state_behind, said};
 
 use crate::fault::Refusal;
 use crate::open_group::OpenGroup;
@@ -13,8 +12,8 @@ use lw_base::Prop;
 use std::alloc::{AllocError, Allocator, Global};
 use std::mem;
 
-/// What the terminals so far leave open. A clause sees it as a `ReaderState`, and says by `Completes` which terminals
-/// complete it to which proposition.
+/// What the terminals so far leave open. A clause sees it as a `ReaderState`, and says by `said` which proposition the
+/// terminals so far are.
 #[derive(Drop)]
 pub(crate) struct PropositionReader<A: Allocator + Copy = Global> {
     alloc: A,
@@ -58,8 +57,8 @@ impl<A: Allocator + Copy> PropositionReader<A> {
     /// Takes a terminal where a part has to come.
     fn before_part(&mut self, terminal: Terminal) -> Result<bool, AllocError>
         requires { self.old.part ≡ None }
-        ensures { IfOk result (λ b. step_before (group_of self.old.group)
-            (reverse (map group_of self.old.outer.items)) (terminal_of terminal)
+        ensures { IfOk result (λ b. state_behind (standing None (group_of self.old.group)
+            (reverse (map group_of self.old.outer.items))) (terminal_of terminal)
             ≡ (if b then Some (state_of self.new) else None)) }
     {
         match terminal {
@@ -83,8 +82,8 @@ impl<A: Allocator + Copy> PropositionReader<A> {
     /// Takes a terminal behind a part, which was taken out.
     fn behind_part(&mut self, part: Prop<A>, terminal: Terminal) -> Result<bool, AllocError>
         requires { self.old.part ≡ None }
-        ensures { IfOk result (λ b. step_behind (formula_of part) (group_of self.old.group)
-            (reverse (map group_of self.old.outer.items)) (terminal_of terminal)
+        ensures { IfOk result (λ b. state_behind (standing (Some (formula_of part)) (group_of self.old.group)
+            (reverse (map group_of self.old.outer.items))) (terminal_of terminal)
             ≡ (if b then Some (state_of self.new) else None)) }
     {
         match terminal {
@@ -115,9 +114,10 @@ impl<A: Allocator + Copy> PropositionReader<A> {
 
     /// The proposition, where the terminals so far are one. Otherwise it answers this refusal. The reader is of
     /// no more use then.
+    #[tactic(auto, using(crate::proofs::Faults::ran_out))]
     pub(crate) fn finish(&mut self, open: Refusal) -> Result<Prop<A>, Refusal>
-        ensures found { IfOk result (λ prop. Completes self.old [] (formula_of prop)) }
-        ensures fault { IfErr result (λ f. f.cause ≢ Memory → NoSuch (Completes self.old [])) }
+        ensures { MatchResult result (λ prop. said (state_of self.old) ≡ Some (formula_of prop))
+            (λ f. f.cause ≢ Memory → said (state_of self.old) ≡ None) }
     {
         if !self.outer.is_empty() {
             return Err(open);

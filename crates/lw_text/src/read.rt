@@ -1,5 +1,5 @@
 //! Reads a text's frame, and the laws on frames.
-ghost use Rattle.std.specs.Prelude.{◌≡◌, ◌<◌, ◌≤◌, List, length, Err, IfOk, IfErr};
+ghost use Rattle.std.specs.Prelude.{◌≡◌, ◌<◌, ◌≤◌, List, length, Err, MatchResult, IfOk, IfErr};
 ghost use Rattle.std.specs.Str.{IsUtf8, IsValidUpTo};
 ghost use Rattle.std.specs.Str.Lossy.{utf8_valid_len};
 ghost use Rattle.lw_base.specs.Limits.{most_text_bytes};
@@ -61,7 +61,10 @@ pub fn read_frame<'a, A: Allocator + Copy>(
             cause: TextCause::NotUtf8,
         });
     }
-    Ok(read_text(alloc, text)?)
+    match read_text(alloc, text) {
+        Ok(frame) => Ok(frame),
+        Err(fault) => Err(TextFault::from(fault)),
+    }
 }
 
 /// A text has at most one frame.
@@ -89,10 +92,9 @@ pub fn what_a_frame_keeps()
 fn read_text<'a, A: Allocator + Copy>(alloc: A, text: &'a [u8]) -> Result<Frame<'a, A>, Fault>
     requires short { length text.now ≤ most_text_bytes }
     requires utf8 { IsUtf8 text.now }
-    ensures found { IfOk result (λ f. HasFrame text.now (frame_of f)
-        × HasCells text.now (placed_cells f.cells) × (f.len ≡ length text.now)) }
-    ensures fault { IfErr result (λ f. NotFound inner.Memory f.cause (HasFrame text.now)) }
-    ensures place { IfErr result (λ f. f.at ≤ length text.now) }
+    ensures { MatchResult result (λ f. HasFrame text.now (frame_of f)
+        × HasCells text.now (placed_cells f.cells) × (f.len ≡ length text.now))
+        (λ f. NotFound inner.Memory f.cause (HasFrame text.now) × (f.at ≤ length text.now)) }
 {
     let mut lexer = Lexer::new(text);
     let heading = lexer.heading()?;

@@ -1,10 +1,10 @@
 //! The header and the rows of a test.
-ghost use Rattle.std.specs.Prelude.{◌≡◌, ◌≢◌, ◌+◌, ◌<◌, true, false, [], ◌∷◌, ◌++◌, OnOk, OnErr, IfOk, IfErr};
+ghost use Rattle.std.specs.Prelude.{◌≡◌, ◌≢◌, ◌+◌, ◌<◌, true, false, [], ◌∷◌, ◌++◌, MatchResult};
 ghost use Rattle.std.specs.List.{AllByRecursion};
 ghost use Rattle.lw_base.specs.Refusals.{NoneRead, NotRead};
 ghost use Rattle.lw_text.specs.Rows.{thread_name, Header, Row, Rows, begins_stop};
 ghost use Rattle.lw_text.specs.declared.fault.Cause.TheVariants.{Memory};
-ghost use Rattle.lw_text.specs.Spans.{texts};
+ghost use Rattle.lw_text.specs.inner.Taken.{TakenCell};
 ghost use Rattle.lw_text.specs.Places.{cells_texts, all_texts, placed_tokens, placed_row, placed_cells};
 ghost use Rattle.lw_text.specs.PlacedCells.{CellsFrom, RowsFrom};
 ghost use Rattle.lw_text.specs.Rows as words;
@@ -23,10 +23,10 @@ impl<'t, 'a> Cursor<'t, 'a> {
     ghost use Rattle.lw_text.specs.Views.{remaining, left, MovesOn};
 
     /// Takes the header, and counts the threads.
+    #[tactic(auto, using(crate::proofs::Headers::names_read))]
     pub(crate) fn header(&mut self) -> Result<usize, Refusal>
-        ensures found { IfOk result (λ n. Header (left self.old) n (left self.new)) }
-        ensures fault { OnErr result (NoneRead (Header (left self.old))) }
-        ensures leaves { OnOk result (MovesOn self.old self.new) }
+        ensures { MatchResult result (λ n. Header (left self.old) n (left self.new) × MovesOn self.old self.new)
+            (λ _. NoneRead (Header (left self.old))) }
     {
         for thread in 0..MAX_THREADS {
             self.expect(thread_name(thread), Cause::Unexpected)?;
@@ -41,15 +41,15 @@ impl<'t, 'a> Cursor<'t, 'a> {
     }
 
     /// Takes the rows up to a word that ends them, which stays.
+    #[tactic(auto, using(crate::proofs::Faults::ran_out))]
     pub(crate) fn rows<A: Allocator + Copy>(
         &mut self,
         alloc: A,
         threads: usize,
     ) -> Result<Sequence<CellSequence<'a, A>, A>, Refusal>
-        ensures found { IfOk result (λ v. Rows threads (left self.old) (all_texts v) (left self.new)
-            × RowsFrom (placed_tokens (remaining self.old)) (placed_cells v)
-            (placed_tokens (remaining self.new))) }
-        ensures fault { IfErr result (λ f. NotRead Memory f.cause (Rows threads (left self.old))) }
+        ensures { MatchResult result (λ v. Rows threads (left self.old) (all_texts v) (left self.new)
+            × RowsFrom (placed_tokens (remaining self.old)) (placed_cells v) (placed_tokens (remaining self.new)))
+            (λ f. NotRead Memory f.cause (Rows threads (left self.old))) }
     {
         let mut rows = Sequence::new(alloc);
         'rows: loop {
@@ -67,22 +67,22 @@ impl<'t, 'a> Cursor<'t, 'a> {
     fn at_stop(&self) -> bool
         ensures { result ≡ begins_stop (left self.now) }
     {
-        match self.tokens.get(self.next) {
-            Some(token) => is_stop(token),
+        match self.peek() {
+            Some(token) => is_stop(&token),
             None => false,
         }
     }
 
     /// Takes a row of so many cells, and the `;` behind it.
+    #[tactic(auto, using(crate::proofs::Faults::ran_out))]
     fn row<A: Allocator + Copy>(
         &mut self,
         alloc: A,
         threads: usize,
     ) -> Result<CellSequence<'a, A>, Refusal>
-        ensures found { IfOk result (λ v. Row threads (left self.old) (cells_texts v) (left self.new)
-            × CellsFrom (placed_tokens (remaining self.old)) (placed_row v)
-            (placed_tokens (remaining self.new))) }
-        ensures fault { IfErr result (λ f. NotRead Memory f.cause (Row threads (left self.old))) }
+        ensures { MatchResult result (λ v. Row threads (left self.old) (cells_texts v) (left self.new)
+            × CellsFrom (placed_tokens (remaining self.old)) (placed_row v) (placed_tokens (remaining self.new)))
+            (λ f. NotRead Memory f.cause (Row threads (left self.old))) }
     {
         let mut cells = Sequence::new(alloc);
         'cells: loop {
@@ -111,12 +111,8 @@ impl<'t, 'a> Cursor<'t, 'a> {
         cell: &mut Sequence<Token<'a>, A>,
     ) -> Result<(Token<'a>, usize), Refusal>
         requires { cell.old ≡ [] }
-        ensures ok { IfOk result (λ x. (remaining self.old ≡ cell.new ++ x.0 ∷ remaining self.new)
-            × (left self.old ≡ texts cell.new ++ x.0.text.now ∷ left self.new)
-            × AllByRecursion (λ t. words.ends_cell t ≡ false) (texts cell.new)
-            × (words.ends_cell x.0.text.now ≡ true)) }
-        ensures err { IfErr result (λ f. f.cause ≢ Memory → AllByRecursion
-            (λ t. words.ends_cell t ≡ false) (left self.old)) }
+        ensures { MatchResult result (λ x. TakenCell self.old self.new cell.new x.0)
+            (λ f. f.cause ≢ Memory → AllByRecursion (λ t. words.ends_cell t ≡ false) (left self.old)) }
     {
         'cell: loop {
             let number = self.next;

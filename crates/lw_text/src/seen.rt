@@ -1,6 +1,6 @@
 //! What a report shows: the registers and locations that a test's list of names has, each once.
 ghost use Rattle.std.specs.Prelude.{◌≡◌, ◌≤◌, ◌<◌, ◌∷◌, [], ◌++◌, filter, IfOk, OnOk};
-ghost use Rattle.lw_base.specs.SeenLists.{all_registers, locations};
+ghost use Rattle.lw_base.specs.SeenLists.{all_registers, thread_registers, locations};
 ghost use Rattle.lw_text.specs.inner.Resolved.{seen_of, is_listed};
 
 use crate::site::Site;
@@ -8,6 +8,7 @@ use lw_base::{Cpu, Loc, MAX_LOCATIONS, MAX_THREADS, Reg, Seen, Sequence, Word};
 use std::alloc::{AllocError, AllocFailed, Allocator};
 
 /// Which of the registers of so many threads and of so many locations are among the sites.
+#[tactic(auto, using(crate::proofs::api::Indices::is_index, crate::proofs::Starts::registers_more))]
 pub(crate) fn seen_among<A: Allocator>(
     alloc: A,
     sites: &[Site],
@@ -21,18 +22,46 @@ pub(crate) fn seen_among<A: Allocator>(
 {
     let mut seen = Sequence::new(alloc);
     for cpu in &Cpu::all()[..threads] {
-        for reg in &Reg::all() {
-            let site = Site::Register(cpu.index() as Word, *reg);
-            see(&mut seen, sites, site, Seen::Register(*cpu, *reg))?;
-        }
+        see_registers(&mut seen, sites, *cpu)?;
     }
-    for loc in &Loc::all()[..len] {
-        see(&mut seen, sites, Site::Location(*loc), Seen::Location(*loc))?;
-    }
+    see_locations(&mut seen, sites, len)?;
     Ok(seen)
 }
 
+/// Puts those of a thread's registers at the end that are among the sites.
+#[tactic(auto, using(crate::proofs::api::Indices::is_index, crate::proofs::Starts::seen_more))]
+fn see_registers<A: Allocator>(
+    seen: &mut Sequence<Seen, A>,
+    sites: &[Site],
+    cpu: Cpu,
+) -> Result<(), AllocFailed<Seen>>
+    ensures { OnOk result (seen.new ≡ seen.old ++ filter (is_listed sites.now) (thread_registers cpu)) }
+{
+    for reg in &Reg::all() {
+        let site = Site::Register(cpu.index() as Word, *reg);
+        see(seen, sites, site, Seen::Register(cpu, *reg))?;
+    }
+    Ok(())
+}
+
+/// Puts those of so many locations at the end that are among the sites.
+#[tactic(auto, using(crate::proofs::api::Indices::is_index, crate::proofs::Starts::seen_more))]
+fn see_locations<A: Allocator>(
+    seen: &mut Sequence<Seen, A>,
+    sites: &[Site],
+    len: usize,
+) -> Result<(), AllocFailed<Seen>>
+    requires { len ≤ MAX_LOCATIONS }
+    ensures { OnOk result (seen.new ≡ seen.old ++ filter (is_listed sites.now) (locations len)) }
+{
+    for loc in &Loc::all()[..len] {
+        see(seen, sites, Site::Location(*loc), Seen::Location(*loc))?;
+    }
+    Ok(())
+}
+
 /// Puts a register or a location at the end, if its site is among the sites.
+#[tactic(auto, using(crate::proofs::Starts::none_more, crate::proofs::Starts::some_at, crate::proofs::Starts::at_end))]
 fn see<A: Allocator>(
     seen: &mut Sequence<Seen, A>,
     sites: &[Site],

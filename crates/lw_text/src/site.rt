@@ -1,5 +1,5 @@
 //! A site: a location or a register of a thread, as the block, the list of names and atoms speak of.
-ghost use Rattle.std.specs.Prelude.{◌≡◌, ◌≢◌, ℕ, [], ◌∷◌, codes, nat_lt, Some, slice_get, OnOk, OnErr, IfOk, IfErr};
+ghost use Rattle.std.specs.Prelude.{◌≡◌, ◌≢◌, ℕ, [], ◌∷◌, codes, nat_lt, Some, slice_get, MatchResult};
 ghost use Rattle.lw_base.specs.Refusals.{NoneRead};
 ghost use Rattle.lw_base.specs.Types.{Bytes, TokenList};
 ghost use Rattle.lw_base.specs.Names.{IsLocation};
@@ -69,18 +69,14 @@ impl<'t, 'a> Cursor<'t, 'a> {
         threads: Option<usize>,
         cause: Cause,
     ) -> Result<Site, Refusal>
-        ensures found { IfOk result (λ s. TakenSite arch threads self.old self.new locs.old locs.new s) }
-        ensures fault { IfErr result (λ f. f.cause ≢ Memory → (s : SiteSyntax) (rest : TokenList)
-            → IsSite arch (left self.old) s rest → ThreadAllowed threads s → HasRoomFor locs.old (s ∷ [])
-            → ⊥) }
+        ensures { MatchResult result (λ s. TakenSite arch threads self.old self.new locs.old locs.new s)
+            (λ f. f.cause ≢ Memory → (s : SiteSyntax) (rest : TokenList) → IsSite arch (left self.old) s rest
+            → ThreadAllowed threads s → HasRoomFor locs.old (s ∷ []) → ⊥) }
     {
         let token = self.next;
         let first = self.take()?;
         if first.text == "[" {
-            let misfit = self.refusal(cause);
-            let name = self.take()?;
-            let inside = enter(name.text, locs, misfit)?;
-            self.expect("]", cause)?;
+            let inside = self.bracketed(locs, cause)?;
             return Ok(Site::Location(inside));
         }
         if let Some(thread) = number(first.text) {
@@ -98,13 +94,35 @@ impl<'t, 'a> Cursor<'t, 'a> {
         }
     }
 
+    /// Takes the name of a location, which goes into the table, and a `]`.
+    #[tactic(auto, using(crate::proofs::Faults::refused, crate::proofs::Texts::no_front, crate::proofs::Texts::same_front))]
+    fn bracketed<A: Allocator + Copy>(
+        &mut self,
+        locs: &mut LocNames<A>,
+        cause: Cause,
+    ) -> Result<Loc, Refusal>
+        ensures { MatchResult result
+            (λ loc. (x : Bytes) × (left self.old ≡ x ∷ codes "]" ∷ left self.new)
+            × (IsLocation x × (slice_get locs.new loc ≡ Some x) × (locs.new ≡ with_name locs.old x))
+            × MovesOn self.old self.new)
+            (λ f. f.cause ≢ Memory → (x : Bytes) (rest : TokenList) → left self.old ≡ x ∷ codes "]" ∷ rest
+            → IsLocation x → HasRoomForName locs.old x → ⊥) }
+    {
+        let misfit = self.refusal(cause);
+        let name = self.take()?;
+        let loc = enter(name.text, locs, misfit)?;
+        self.expect("]", cause)?;
+        Ok(loc)
+    }
+
     /// Takes a `:` and the name of a register of the thread, in the language.
+    #[tactic(auto, using(crate::proofs::Texts::no_front, crate::proofs::Texts::same_front, crate::proofs::Faults::refused))]
     fn of_thread(&mut self, arch: Arch, thread: Word, cause: Cause) -> Result<Site, Refusal>
-        ensures found { IfOk result (λ s. (q : Bytes) × (r : ℕ)
-            × (left self.old ≡ codes ":" ∷ q ∷ left self.new) × IsRegister arch q r
-            × (s ≡ Register thread r) × MovesOn self.old self.new) }
-        ensures fault { OnErr result ((q : Bytes) (r : ℕ) (rest : TokenList) → left self.old
-            ≡ codes ":" ∷ q ∷ rest → IsRegister arch q r → ⊥) }
+        ensures { MatchResult result
+            (λ s. (q : Bytes) × (r : ℕ) × (left self.old ≡ codes ":" ∷ q ∷ left self.new) × IsRegister arch q r
+            × (s ≡ Register thread r) × MovesOn self.old self.new)
+            (λ _. (q : Bytes) (r : ℕ) (rest : TokenList) → left self.old ≡ codes ":" ∷ q ∷ rest
+            → IsRegister arch q r → ⊥) }
     {
         self.expect(":", cause)?;
         let misfit = self.refusal(cause);
@@ -116,10 +134,10 @@ impl<'t, 'a> Cursor<'t, 'a> {
     }
 
     /// Takes a `=` and a number.
+    #[tactic(auto, using(crate::proofs::Atoms::value_none, crate::proofs::Texts::no_front, crate::proofs::Texts::same_front, crate::proofs::Faults::refused))]
     pub(crate) fn value(&mut self, cause: Cause) -> Result<Word, Refusal>
-        ensures ok { IfOk result (λ v. Value (left self.old) v (left self.new)
-            × MovesOn self.old self.new) }
-        ensures err { OnErr result (NoneRead (Value (left self.old))) }
+        ensures { MatchResult result (λ v. Value (left self.old) v (left self.new) × MovesOn self.old self.new)
+            (λ _. NoneRead (Value (left self.old))) }
     {
         self.expect("=", cause)?;
         let misfit = self.refusal(cause);
@@ -150,16 +168,15 @@ fn is_allowed(number: Word, threads: Option<usize>) -> bool
 
 /// The number of the location of this name. It is put into the table where it isn't there yet. Another
 /// word is refused as a misfit.
+#[tactic(auto, using(crate::proofs::Faults::ran_out, crate::proofs::NameTables::appeared_at))]
 fn enter<A: Allocator + Copy>(
     name: &str,
     locs: &mut LocNames<A>,
     misfit: Refusal,
 ) -> Result<Loc, Refusal>
-    ensures name { OnOk result (IsLocation name.now) }
-    ensures found { IfOk result (λ loc. slice_get locs.new loc ≡ Some name.now) }
-    ensures names { OnOk result (locs.new ≡ with_name locs.old name.now) }
-    ensures fault { IfErr result (λ f. f.cause ≢ Memory → IsLocation name.now
-        → HasRoomForName locs.old name.now → ⊥) }
+    ensures { MatchResult result
+        (λ loc. IsLocation name.now × (slice_get locs.new loc ≡ Some name.now) × (locs.new ≡ with_name locs.old name.now))
+        (λ f. f.cause ≢ Memory → IsLocation name.now → HasRoomForName locs.old name.now → ⊥) }
 {
     if !is_location(name) {
         return Err(no_name(name, misfit));

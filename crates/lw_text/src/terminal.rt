@@ -1,9 +1,9 @@
 //! The terminals of a proposition's grammar: parentheses, connectives and atoms.
-ghost use Rattle.std.specs.Prelude.{◌≡◌, if◌then◌else◌, ◌≢◌, ℕ, ◌+◌, ◌≤◌, not, true, false, [], ◌∷◌, OnErr, IfOk, IfErr};
+ghost use Rattle.std.specs.Prelude.{◌≡◌, if◌then◌else◌, ◌≢◌, ℕ, ◌+◌, ◌≤◌, not, true, false, [], ◌∷◌, IfSome, IfNone, None, MatchResult};
 ghost use Rattle.lw_base.specs.Types.{NameTable, TokenList};
 ghost use Rattle.lw_base.specs.Propositions.{formula_of};
-ghost use Rattle.lw_text.specs.Sites.{HasRoomFor};
-ghost use Rattle.lw_text.specs.Propositions.{is_node, Terminal as TerminalSyntax};
+ghost use Rattle.lw_text.specs.Sites.{HasRoomFor, SiteSyntax};
+ghost use Rattle.lw_text.specs.Propositions.{is_node, Terminal as TerminalSyntax, Atom as Claims};
 ghost use Rattle.lw_text.specs.inner.Terminals.{atom_formula, terminal_of};
 ghost use Rattle.lw_text.specs.declared.fault.Cause.TheVariants.{Memory};
 ghost use Rattle.lw_text.specs.inner.Pending.{begins_part};
@@ -78,8 +78,8 @@ impl<'t, 'a> Cursor<'t, 'a> {
         locs: &mut LocNames<A>,
     ) -> Result<Terminal, Refusal>
         requires { threads ≤ MAX_THREADS }
-        ensures found { IfOk result (λ s. TakenTerminal arch threads self.old self.new locs.old locs.new s) }
-        ensures fault { IfErr result (λ f. f.cause ≢ Memory
+        ensures { MatchResult result (λ s. TakenTerminal arch threads self.old self.new locs.old locs.new s)
+            (λ f. f.cause ≢ Memory
             → (s : TerminalSyntax AtomSyntax) (rest : TokenList)
             → IsTerminal arch threads (left self.old) s rest → begins_part s ≡ part
             → HasRoomFor locs.old (sites_in (s ∷ [])) → ⊥) }
@@ -99,39 +99,53 @@ impl<'t, 'a> Cursor<'t, 'a> {
         locs: &mut LocNames<A>,
     ) -> Result<Terminal, Refusal>
         requires { threads ≤ MAX_THREADS }
-        ensures found { IfOk result (λ s. TakenTerminal arch threads self.old self.new locs.old locs.new s) }
-        ensures fault { IfErr result (λ f. f.cause ≢ Memory
+        ensures { MatchResult result (λ s. TakenTerminal arch threads self.old self.new locs.old locs.new s)
+            (λ f. f.cause ≢ Memory
             → (s : TerminalSyntax AtomSyntax) (rest : TokenList)
             → IsTerminal arch threads (left self.old) s rest → begins_part s ≡ true
             → HasRoomFor locs.old (sites_in (s ∷ [])) → ⊥) }
     {
-        if self.takes("(") {
-            return Ok(Terminal::Open);
-        }
-        if self.takes("~") {
-            return Ok(Terminal::Negation);
-        }
-        if self.takes("not") {
-            return Ok(Terminal::Negation);
-        }
-        if self.takes("true") {
-            return Ok(Terminal::Atom(Atom::Always));
-        }
-        if self.takes("false") {
-            return Ok(Terminal::Atom(Atom::Never));
+        if let Some(terminal) = self.opening_word() {
+            return Ok(terminal);
         }
         let site = self.site(arch, locs, Some(threads), Cause::Condition)?;
         let word = self.value(Cause::Condition)?;
         Ok(Terminal::Atom(atom_at(site, word)))
     }
 
+    /// Takes a word with which a part begins, if one is next.
+    fn opening_word(&mut self) -> Option<Terminal>
+        ensures found { IfSome result (λ s. (arch : Arch) (threads : ℕ) (names : NameTable)
+            → TakenTerminal arch threads self.old self.new names names s) }
+        ensures none { IfNone result ((arch : Arch) (threads : ℕ) (s : TerminalSyntax AtomSyntax) (rest : TokenList)
+            → IsTerminal arch threads (left self.old) s rest → begins_part s ≡ true
+            → (site : SiteSyntax) × (n : ℕ) × (s ≡ Claims (Holds site n))) }
+        ensures kept { result ≡ None → self.new ≡ self.old }
+    {
+        if self.takes("(") {
+            return Some(Terminal::Open);
+        }
+        if self.takes("~") {
+            return Some(Terminal::Negation);
+        }
+        if self.takes("not") {
+            return Some(Terminal::Negation);
+        }
+        if self.takes("true") {
+            return Some(Terminal::Atom(Atom::Always));
+        }
+        if self.takes("false") {
+            return Some(Terminal::Atom(Atom::Never));
+        }
+        None
+    }
+
     /// Takes a `)`, a `/\` or a `\/`.
     fn joint(&mut self) -> Result<Terminal, Refusal>
-        ensures found { IfOk result (λ s. (arch : Arch) (threads : ℕ) (names : NameTable)
-            → TakenTerminal arch threads self.old self.new names names s) }
-        ensures fault { OnErr result ((arch : Arch) (threads : ℕ) (s : TerminalSyntax AtomSyntax)
-            (rest : TokenList) → IsTerminal arch threads (left self.old) s rest → begins_part s ≡ false
-            → ⊥) }
+        ensures { MatchResult result (λ s. (arch : Arch) (threads : ℕ) (names : NameTable)
+            → TakenTerminal arch threads self.old self.new names names s)
+            (λ _. (arch : Arch) (threads : ℕ) (s : TerminalSyntax AtomSyntax) (rest : TokenList)
+            → IsTerminal arch threads (left self.old) s rest → begins_part s ≡ false → ⊥) }
     {
         if self.takes(")") {
             return Ok(Terminal::Close);

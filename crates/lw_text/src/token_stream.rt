@@ -1,5 +1,5 @@
 //! The token stream of a text: all tokens behind its heading, up to the first lexical fault.
-ghost use Rattle.std.specs.Prelude.{◌≡◌, ◌≤◌, length, None, All, IfOk, IfSome, IfNone, OnSome};
+ghost use Rattle.std.specs.Prelude.{◌≡◌, ◌≤◌, length, None, All, IfOk, IfSome, MatchOption};
 ghost use Rattle.lw_base.specs.Refusals.{NoSuch};
 ghost use Rattle.lw_text.specs.Tokens.{Tokens};
 ghost use Rattle.lw_text.specs.PlacedTokens.{PlacedTokens};
@@ -47,14 +47,12 @@ impl<'a, A: Allocator> TokenStream<'a, A> {
     }
 
     /// The tokens of what the lexer has still to read.
+    #[tactic(auto, using(crate::proofs::TokenRows::stream_read))]
     pub(crate) fn read(alloc: A, mut lexer: Lexer<'a>) -> Result<Self, AllocError>
-        ensures found { IfOk result (λ r. IfNone r.fault
-            (PlacedTokens (length lexer.entry.text.now) lexer.entry.rest.now (placed_tokens r.tokens))) }
-        ensures fault { IfOk result (λ r. OnSome r.fault (NoSuch (Tokens lexer.entry.rest.now))) }
-        ensures place { IfOk result (λ r. IfSome r.fault
-            (λ f. f.at ≤ length lexer.entry.text.now)) }
-        ensures within { IfOk result (λ r. All
-            (λ t. t.at ≤ length lexer.entry.text.now) r.tokens) }
+        ensures { IfOk result (λ r. MatchOption r.fault
+            (PlacedTokens (length lexer.entry.text.now) lexer.entry.rest.now (placed_tokens r.tokens))
+            (λ f. NoSuch (Tokens lexer.entry.rest.now) × (f.at ≤ length lexer.entry.text.now))
+            × All (λ t. t.at ≤ length lexer.entry.text.now) r.tokens) }
     {
         let mut tokens = Sequence::new(alloc);
         'tokens: loop {

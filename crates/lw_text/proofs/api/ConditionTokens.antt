@@ -101,8 +101,8 @@ module _ (arch : Arch) (threads : ℕ) (few : threads ≤ most_threads) (names :
   terminal_said Negation rest h = inl refl
   terminal_said (Atom (Holds s n)) rest h = (
     value_tokens n ++ rest,
-    subst (λ (ts : TokenList). IsSite arch ts s (value_tokens n ++ rest))
-        (sym (append_assoc (site_tokens arch s) (value_tokens n) rest)) (site_said s (value_tokens n ++ rest) h.0),
+    subst (λ ts. IsSite arch ts s (value_tokens n ++ rest)) (sym (append_assoc (site_tokens arch s)
+        (value_tokens n) rest)) (site_said s (value_tokens n ++ rest) h.0),
     site_exists s h.0,
     value_said n rest h.1,
   )
@@ -114,8 +114,8 @@ module _ (arch : Arch) (threads : ℕ) (few : threads ≤ most_threads) (names :
   terminals_said (s ∷ ss) h = (flat_map (terminal_tokens arch) ss, terminal_said s (flat_map (terminal_tokens arch) ss) h.0, terminals_said ss h.1)
 
 -- what the locations among sites are, and the sites of terminals
-pub all_names : (P : SiteSyntax → Type 0) (Q : Bytes → Type 0) → ((x : Bytes) → P (InMemory x) → Q x) → (ss : List SiteSyntax) → AllByRecursion P ss
-    → AllByRecursion Q (site_names ss)
+pub all_names : (P : SiteSyntax → Type 0) (Q : Bytes → Type 0) → ((x : Bytes) → P (InMemory x) → Q x)
+    → (ss : List SiteSyntax) → AllByRecursion P ss → AllByRecursion Q (site_names ss)
 all_names P Q f [] h = tt
 all_names P Q f (InMemory x ∷ ss) h = (f x h.0, all_names P Q f ss h.1)
 all_names P Q f (InThread t r ∷ ss) h = all_names P Q f ss h.1
@@ -127,18 +127,18 @@ all_sites P Q f (Atom (Holds s n) ∷ ss) h = (f s n h.0, all_sites P Q f ss h.1
 all_sites P Q f (_ ∷ ss) h = all_sites P Q f ss h.1
 
 -- the names of sites and of terminals are in the table
-pub sites_in_table : (threads : ℕ) (names : NameTable) (ss : List SiteSyntax) → AllByRecursion (IsPrintable threads names) ss
-    → AllByRecursion (IsInTable names) (site_names ss)
+pub sites_in_table : (threads : ℕ) (names : NameTable) (ss : List SiteSyntax)
+    → AllByRecursion (IsPrintable threads names) ss → AllByRecursion (IsInTable names) (site_names ss)
 sites_in_table threads names = all_names (IsPrintable threads names) (IsInTable names) (λ x h. h.1)
 
 pub sites_printable : (threads : ℕ) (names : NameTable) (ss : List (Terminal AtomSyntax)) → AllByRecursion (IsPrintableTerminal threads names) ss
     → AllByRecursion (IsPrintable threads names) (sites_in ss)
-sites_printable threads names = all_sites (IsPrintableTerminal threads names) (IsPrintable threads names) (λ s n h. h.0)
+sites_printable threads names = all_sites _ (IsPrintable threads names) (λ s n h. h.0)
 
 module _ (threads : ℕ) (names : NameTable) (table : AllByRecursion IsLocation names) where
   pub named_printable : (s : Seen) → IsSeen threads (length names) s → IsPrintable threads names (named_site names s)
   named_printable (Register t r) h = h
-  named_printable (Location x) h = (All-from_recursion IsLocation names table x [] h, (x, slice_get-get_or names x [] h))
+  named_printable (Location x) h = (All-from_recursion _ _ table x [] h, (x, slice_get-get_or names x [] h))
 
   abbrev AreFine : List (Terminal AtomSyntax) → Type 0
   AreFine ss = AllByRecursion (IsPrintableTerminal threads names) ss
@@ -152,15 +152,14 @@ module _ (threads : ℕ) (names : NameTable) (table : AllByRecursion IsLocation 
 
   joined_fine : (a b : Bool) (ss us : List (Terminal AtomSyntax)) (t : Terminal AtomSyntax) → IsPrintableTerminal threads names t → AreFine ss → AreFine us
       → AreFine (enclosed_if a ss ++ (t ∷ enclosed_if b us))
-  joined_fine a b ss us t k h i = all_append (IsPrintableTerminal threads names) (enclosed_if a ss) (t ∷ enclosed_if b us) (part_fine a ss h)
-      (k, part_fine b us i)
+  joined_fine a b ss us t k h i = all_append _ (enclosed_if a ss) _ (part_fine a ss h) (k, part_fine b us i)
 
   terminals_fine : (p : Formula) → SpeaksOf threads (length names) p → AreFine (terminals_of (named_claim names) p)
   terminals_fine (Reg_is t r n) h = (((h.0, h.1), h.2), tt)
   terminals_fine (Word_is x n) h = ((named_printable (Location x) h.0, h.1), tt)
-  terminals_fine (Not p) h = (tt, part_fine (is_joined p) (terminals_of (named_claim names) p) (terminals_fine p h))
-  terminals_fine (And p q) h = joined_fine (is_or p) (is_joined q) _ _ Conjunction tt (terminals_fine p h.0) (terminals_fine q h.1)
-  terminals_fine (Or p q) h = joined_fine false (is_or q) _ _ Disjunction tt (terminals_fine p h.0) (terminals_fine q h.1)
+  terminals_fine (Not p) h = (tt, part_fine (is_joined p) _ (terminals_fine p h))
+  terminals_fine (And p q) h = joined_fine (is_or p) _ _ _ _ tt (terminals_fine p h.0) (terminals_fine q h.1)
+  terminals_fine (Or p q) h = joined_fine false _ _ _ _ tt (terminals_fine p h.0) (terminals_fine q h.1)
   terminals_fine _ h = (tt, tt)
 
   pub whole_fine : (p : Formula) → SpeaksOf threads (length names) p → AreFine (enclosed (terminals_of (named_claim names) p))
@@ -173,13 +172,13 @@ module _ (threads : ℕ) (names : NameTable) (once : EachOnce names) where
   seen_again (Register t r) h = refl
   seen_again (Location x) h = ap (λ (y : ℕ). Location y) (index_of-again names once x h)
 
-  enclosed_again : (ss : List (Terminal AtomSyntax)) (us : List (Terminal Formula)) → map (resolved names) ss ≡ us
-      → map (resolved names) (enclosed ss) ≡ enclosed us
-  enclosed_again ss us e = ap (λ (l : List (Terminal Formula)). Open ∷ l)
-      (map-append (resolved names) ss (Close ∷ []) ∙ ap (λ (l : List (Terminal Formula)). l ++ (Close ∷ [])) e)
+  enclosed_again : (ss : List (Terminal AtomSyntax)) (us : List (Terminal Formula))
+      → map (resolved names) ss ≡ us → map (resolved names) (enclosed ss) ≡ enclosed us
+  enclosed_again ss us e = ap (λ (l : List (Terminal Formula)). Open ∷ l) (map-append (resolved names) ss
+      (Close ∷ []) ∙ ap (λ (l : List (Terminal Formula)). l ++ (Close ∷ [])) e)
 
-  part_again : (needed : Bool) (ss : List (Terminal AtomSyntax)) (us : List (Terminal Formula)) → map (resolved names) ss ≡ us
-      → map (resolved names) (enclosed_if needed ss) ≡ enclosed_if needed us
+  part_again : (needed : Bool) (ss : List (Terminal AtomSyntax)) (us : List (Terminal Formula))
+      → map (resolved names) ss ≡ us → map (resolved names) (enclosed_if needed ss) ≡ enclosed_if needed us
   part_again true ss us e = enclosed_again ss us e
   part_again false ss us e = e
 
@@ -187,9 +186,8 @@ module _ (threads : ℕ) (names : NameTable) (once : EachOnce names) where
       → map (resolved names) ss ≡ us → map (resolved names) ws ≡ vs
       → map (resolved names) (enclosed_if a ss ++ (t ∷ enclosed_if b ws)) ≡ enclosed_if a us ++ (resolved names t ∷ enclosed_if b vs)
   joined_again a b ss ws us vs t e f =
-      let i = part_again a ss us e in
       let j = part_again b ws vs f in
-      map-append (resolved names) (enclosed_if a ss) (t ∷ enclosed_if b ws) ∙ cc (i, j)
+      map-append (resolved names) (enclosed_if a ss) (t ∷ enclosed_if b ws) ∙ cc ((part_again a ss us e), j)
 
   abbrev named_terms : Formula → List (Terminal AtomSyntax)
   named_terms p = terminals_of (named_claim names) p
@@ -199,12 +197,9 @@ module _ (threads : ℕ) (names : NameTable) (once : EachOnce names) where
 
   terminals_again : (p : Formula) → SpeaksOf threads (length names) p → map (resolved names) (named_terms p) ≡ formula_terms p
   terminals_again (Word_is x n) h = ap (λ (y : ℕ). Atom (Word_is y n) ∷ []) (index_of-again names once x h.0)
-  terminals_again (Not p) h = ap (λ (l : List (Terminal Formula)). Negation ∷ l)
-      (part_again (is_joined p) (named_terms p) (formula_terms p) (terminals_again p h))
-  terminals_again (And p q) h = joined_again (is_or p) (is_joined q) (named_terms p) (named_terms q) (formula_terms p) (formula_terms q) Conjunction
-      (terminals_again p h.0) (terminals_again q h.1)
-  terminals_again (Or p q) h = joined_again false (is_or q) (named_terms p) (named_terms q) (formula_terms p) (formula_terms q) Disjunction
-      (terminals_again p h.0) (terminals_again q h.1)
+  terminals_again (Not p) h = ap (λ l. Negation ∷ l) (part_again (is_joined p) _ _ (terminals_again p h))
+  terminals_again (And p q) h = joined_again _ _ _ _ _ _ _ (terminals_again p h.0) (terminals_again q h.1)
+  terminals_again (Or p q) h = joined_again false _ _ _ _ _ _ (terminals_again p h.0) (terminals_again q h.1)
   terminals_again _ h = refl
 
   pub whole_again : (p : Formula) → SpeaksOf threads (length names) p → map (resolved names) (enclosed (named_terms p)) ≡ enclosed (formula_terms p)

@@ -9,6 +9,5 @@ pub is_index : (n len k x : ℕ) (all xs : List ℕ) → all ≡ range_with_len 
 is_index n len k x all xs e f lt is =
     let cut : xs ≡ take len (range_with_len 0 n) = f ∙ ap (take len) e in
     let short : length xs ≤ n = omega (arith, ap length cut, length-take len (range_with_len 0 n), length-range_with_len 0 n) in
-    let at : get_or (take len (range_with_len 0 n)) k x ≡ get_or (range_with_len 0 n) k x = get_or-take len (range_with_len 0 n) k x
-    (omega (arith, ap length cut, length-take len (range_with_len 0 n))) in
+    let at = get_or-take len _ k x (omega (arith, ap length cut, length-take len (range_with_len 0 n))) in
     is ∙ ap (λ l. get_or l k x) cut ∙ at ∙ get_or-range_with_len 0 n k x (omega arith) ∙ zero-add k

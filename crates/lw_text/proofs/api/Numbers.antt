@@ -21,7 +21,7 @@ bracket_no_number n h = let k = number_first (codes "[") n h in cc
 
 -- decimal digits don't begin with `0x`
 no_both : (w ds : Bytes) (n : ℕ) → Digits 10 0 w n → w ≡ codes "0x" ++ ds → ⊥
-no_both w ds n d e = let h : Digits 10 0 (48 ∷ 120 ∷ ds) n = subst (λ l. Digits 10 0 l n) e d in omega (arith, h.1.0)
+no_both w ds n d e = let h = subst (λ l. Digits 10 0 l n) e d in omega (arith, h.1.0)
 
 pub number-unique : (w : Bytes) (m n : ℕ) → IsNumber w m → IsNumber w n → m ≡ n
 number-unique w m n (a, inl p) (b, inl q) = Digits-unique 10 0 w m n p.1 q.1

@@ -16,7 +16,7 @@ use Rattle.lw_base.specs.declared.head.Quant.TheVariants.{Exists, NotExists, For
 use Rattle.lw_base.specs.declared.head.Seen.{Seen}
 use Rattle.lw_base.specs.declared.head.Seen.TheVariants.{Register, Location}
 use Rattle.lw_base.specs.Characters.{is_word_byte, begins}
-use Rattle.lw_base.specs.ConditionTexts.{site_text, assignment, in_parentheses, parenthesized_if, is_or}
+use Rattle.lw_base.specs.ConditionTexts.{site_text, assignment, in_parentheses, parenthesized_if}
 use Rattle.lw_base.specs.ConditionTexts.{is_joined, proposition_text, quantifier_text}
 use Rattle.lw_base.specs.Formula.{Formula, Yes, No, Reg_is, Word_is, Not, And, Or, nodes}
 use Rattle.lw_base.specs.Limits.{most_threads}
@@ -24,7 +24,7 @@ use Rattle.lw_base.specs.Names.{IsName, IsLocation}
 use Rattle.lw_base.specs.Registers.{register_name}
 use Rattle.lw_base.specs.WellFormed.{IsSeen, SpeaksOf}
 use Rattle.lw_text.specs.Tokens.{is_pair}
-use Rattle.lw_text.specs.Propositions.{Terminal, Close, Conjunction, Disjunction, Atom}
+use Rattle.lw_text.specs.Propositions.{Terminal, Conjunction, Disjunction, Atom}
 use Rattle.lw_text.specs.Conditions.{AtomSyntax, Always, Never, Holds}
 use Rattle.lw_base.proofs.api.Blanks.{blank_all}
 use Rattle.lw_text.proofs.api.Spelling.{Anything, EndsWord, IsBlankNext, HasNoStar, HasNoEquals, Spells}
@@ -86,9 +86,8 @@ module _ (arch : Arch) (threads : ℕ) (few : threads ≤ most_threads) (names :
   pub site_spelled : (s : Seen) → IsSeen threads (length names) s → Spells EndsWord 43 (site_text arch names s) (site_tokens arch (named_site names s))
   site_spelled (Register t r) h =
       let number = Spells-number t (omega (arith, h.0, few)) in
-      let register = Spells-register arch r h.1 in
-      (Spells-then (λ rest g. refl) number (Spells-then (λ rest g. name_no_equals (register_name arch r) rest (register_is_name arch r h.1))
-      Spells-colon register))
+      (Spells-then (λ rest g. refl) number (Spells-then (λ rest g. name_no_equals (register_name arch r) rest
+          (register_is_name arch r h.1)) Spells-colon (Spells-register arch r h.1)))
   site_spelled (Location x) h = Spells-within 43 (omega arith) (Spells-name (slice_index_or names x []) (name_there names x table h).0)
 
   site_starts : (s : Seen) → IsSeen threads (length names) s → Starts (site_text arch names s)
@@ -119,35 +118,36 @@ module _ (arch : Arch) (threads : ℕ) (few : threads ≤ most_threads) (names :
   enclosed_spelled : (text : Bytes) (most : ℕ) (ss : List (Terminal AtomSyntax)) → IsSpelled text most ss
       → Spells Anything (most + 2) (in_parentheses text) (tokens_of (enclosed ss))
   enclosed_spelled text most ss s =
-      let opening = Spells-symbol {F = HasNoStar} 40 refl (λ rest f. alone rest) (λ rest f. f) (omega arith) in
+      let opening = Spells-symbol {F = HasNoStar} 40 refl (λ rest f. alone _) (λ rest f. f) (omega arith) in
       let closing = Spells-mark 41 refl (λ c. refl) refl (omega arith) in
-      let whole : Spells Anything (1 + (most + 1)) (in_parentheses text) ((codes "(" ∷ []) ++ (tokens_of ss ++ (codes ")" ∷ []))) = Spells-then
-      (λ rest g. subst HasNoStar (sym (append_assoc text (codes ")") rest)) (starts_no_star text (codes ")" ++ rest) s.starts)) opening
-      (Spells-then (λ rest g. refl) s.spells closing) in
+      let whole : Spells Anything (1 + (most + 1)) (in_parentheses text) ((codes "(" ∷ []) ++ (tokens_of ss
+          ++ (codes ")" ∷ []))) = Spells-then (λ rest g. subst HasNoStar (sym (append_assoc text (codes ")")
+          rest)) (starts_no_star text (codes ")" ++ rest) s.starts)) opening (Spells-then (λ rest g. refl)
+          s.spells closing) in
       subst (λ (ts : TokenList). Spells Anything (most + 2) (in_parentheses text) (codes "(" ∷ ts))
-      (sym (flat_map-append (terminal_tokens arch) ss (Close ∷ []))) (Spells-within (most + 2) (omega arith) whole)
+          (sym (flat_map-append (terminal_tokens arch) ss _)) (Spells-within (most + 2) (omega arith) whole)
     where
       alone : (rest : Bytes) → begins (is_pair 40) rest ≡ false
       alone [] = refl
       alone (b ∷ rest) = refl
 
-  part_spelled : (needed : Bool) (text : Bytes) (most : ℕ) (ss : List (Terminal AtomSyntax)) → IsSpelled text most ss
-      → IsSpelled (parenthesized_if needed text) (most + 2) (enclosed_if needed ss)
+  part_spelled : (needed : Bool) (text : Bytes) (most : ℕ) (ss : List (Terminal AtomSyntax))
+      → IsSpelled text most ss → IsSpelled (parenthesized_if needed text) (most + 2) (enclosed_if needed ss)
   part_spelled true text most ss s = record {
     spells = Spells-before EndsWord (λ rest g. tt) (enclosed_spelled text most ss s);
-    starts =
-        (40, text ++ codes ")", refl, refl);
+    starts = (40, text ++ codes ")", refl, refl);
   }
   part_spelled false text most ss s = record { spells = Spells-within (most + 2) (omega arith) s.spells; starts = s.starts }
 
   -- two parts with a connective between
-  joined_spelled : (a b : Bytes) (m n : ℕ) (ss us : List (Terminal AtomSyntax)) (between : Bytes) (t : Terminal AtomSyntax)
-      → ((rest : Bytes) → EndsWord (between ++ rest)) → Spells Anything 4 between (terminal_tokens arch t) → IsSpelled a m ss → IsSpelled b n us
-      → IsSpelled (a ++ (between ++ b)) (m + (4 + n)) (ss ++ (t ∷ us))
+  joined_spelled : (a b : Bytes) (m n : ℕ) (ss us : List (Terminal AtomSyntax)) (between : Bytes)
+      (t : Terminal AtomSyntax)
+      → ((rest : Bytes) → EndsWord (between ++ rest)) → Spells Anything 4 between (terminal_tokens arch t)
+      → IsSpelled a m ss → IsSpelled b n us → IsSpelled (a ++ (between ++ b)) (m + (4 + n)) (ss ++ (t ∷ us))
   joined_spelled a b m n ss us between t ends mid s u = record {
     spells = subst (λ (ts : TokenList). Spells EndsWord (m + (4 + n)) (a ++ (between ++ b)) ts)
-        (sym (flat_map-append (terminal_tokens arch) ss (t ∷ us)))
-        (Spells-then (λ rest g. subst EndsWord (sym (append_assoc between b rest)) (ends (b ++ rest))) s.spells (Spells-on mid u.spells));
+        (sym (flat_map-append (terminal_tokens arch) ss (t ∷ us))) (Spells-then (λ rest g. subst EndsWord
+        (sym (append_assoc between b rest)) (ends (b ++ rest))) s.spells (Spells-on mid u.spells));
     starts = starts-then a (between ++ b) s.starts;
   }
 
@@ -169,8 +169,8 @@ module _ (arch : Arch) (threads : ℕ) (few : threads ≤ most_threads) (names :
   claim_spelled : (s : Seen) (n : ℕ) → IsSeen threads (length names) s → n < 2 ^ 32
       → IsSpelled (assignment (site_text arch names s) n) 60 (Atom (Holds (named_site names s) n) ∷ [])
   claim_spelled s n h small = record {
-    spells = subst (λ (ts : TokenList). Spells EndsWord 60 (assignment (site_text arch names s) n) ts) (nil_behind s)
-        (Spells-within 60 (omega arith) (assignment_spelled s n h small));
+    spells = subst (λ (ts : TokenList). Spells EndsWord 60 (assignment (site_text arch names s) n) ts)
+        (nil_behind s) (Spells-within 60 (omega arith) (assignment_spelled s n h small));
     starts = starts-then (site_text arch names s) (codes "=" ++ decimal n) (site_starts s h);
   }
     where
@@ -184,26 +184,26 @@ module _ (arch : Arch) (threads : ℕ) (few : threads ≤ most_threads) (names :
   proposition_spelled (Reg_is t r n) h = claim_spelled (Register t r) n (h.0, h.1) h.2
   proposition_spelled (Word_is x n) h = claim_spelled (Location x) n h.0 h.1
   proposition_spelled (Not p) h =
-      let part = part_spelled (is_joined p) (proposition_text arch names p) (60 * nodes p) (terms p) (proposition_spelled p h) in
+      let part = part_spelled _ (proposition_text arch names p) _ (terms p) (proposition_spelled p h) in
       record {
         spells = Spells-within (60 * suc (nodes p)) (omega arith) (Spells-on (Spells-mark 126 refl (λ c. refl) refl (omega arith)) part.spells);
         starts = (126, parenthesized_if (is_joined p) (proposition_text arch names p), refl, refl);
       }
   proposition_spelled (And p q) h =
-      let left = part_spelled (is_or p) (proposition_text arch names p) (60 * nodes p) (terms p) (proposition_spelled p h.0) in
-      let right = part_spelled (is_joined q) (proposition_text arch names q) (60 * nodes q) (terms q) (proposition_spelled q h.1) in
+      let left = part_spelled _ (proposition_text arch names p) _ (terms p) (proposition_spelled p h.0) in
+      let right = part_spelled _ (proposition_text arch names q) _ (terms q) (proposition_spelled q h.1) in
       within _ _ (60 * suc (nodes p + nodes q)) _ (omega arith) (joined_spelled _ _ _ _ _ _ (codes " /\\ ") Conjunction (λ rest. refl) conjunction left right)
   proposition_spelled (Or p q) h =
-      let left = proposition_spelled p h.0 in
-      let right = part_spelled (is_or q) (proposition_text arch names q) (60 * nodes q) (terms q) (proposition_spelled q h.1) in
-      within _ _ (60 * suc (nodes p + nodes q)) _ (omega arith) (joined_spelled _ _ _ _ _ _ (codes " \\/ ") Disjunction (λ rest. refl) disjunction left right)
+      let right = part_spelled _ (proposition_text arch names q) _ (terms q) (proposition_spelled q h.1) in
+      within _ _ (60 * suc (nodes p + nodes q)) _ (omega arith) (joined_spelled _ _ _ _ _ _ (codes " \\/ ")
+          Disjunction (λ rest. refl) disjunction (proposition_spelled p h.0) right)
 
   -- a proposition in parentheses
   pub whole_spelled : (p : Formula) → SpeaksOf threads (length names) p
       → Spells Anything (60 * nodes p + 2) (in_parentheses (proposition_text arch names p)) (tokens_of (enclosed (terms p)))
-  whole_spelled p h = enclosed_spelled (proposition_text arch names p) (60 * nodes p) (terms p) (proposition_spelled p h)
+  whole_spelled p h = enclosed_spelled (proposition_text arch names p) _ (terms p) (proposition_spelled p h)
 
 pub quantifier_spelled : (q : Quant) → Spells EndsWord 33 (quantifier_text q) (quantifier_tokens q)
-quantifier_spelled Exists = Spells-within 33 (omega arith) (Spells-name (codes "exists") (name_by_test _ refl))
+quantifier_spelled Exists = Spells-within 33 (omega arith) (Spells-name _ (name_by_test _ refl))
 quantifier_spelled NotExists = Spells-on (Spells-mark 126 refl (λ c. refl) refl (omega arith)) (Spells-name (codes "exists") (name_by_test _ refl))
-quantifier_spelled Forall = Spells-within 33 (omega arith) (Spells-name (codes "forall") (name_by_test _ refl))
+quantifier_spelled Forall = Spells-within 33 (omega arith) (Spells-name _ (name_by_test _ refl))

@@ -57,8 +57,8 @@ shown (And p q) =
     let d = and (any_row p (shown p) (is_or p) refl) (any_part q (shown q) (is_joined q) refl) in
     record { part = λ h. absurd cc; row = λ h. d; whole = conjunction d }
 shown (Or p q) =
-    let left = shown p in
-    record { part = λ h. absurd cc; row = λ h. absurd cc; whole = or left.whole (any_row q (shown q) (is_or q) refl) }
+    record { part = λ h. absurd cc; row = λ h. absurd cc; whole = or (shown p).whole (any_row q (shown q)
+        (is_or q) refl) }
 
 -- A formula in parentheses is a proposition that says it.
 pub printed_proposition : (p : Formula) → IsProposition (enclosed (terminals_of (λ q. q) p)) p

@@ -20,7 +20,7 @@ IsSingle (Atom p) = nodes p ≡ 1
 IsSingle _ = Unit {0}
 
 pub count_append : {A : Type 0} (ss ts : List (Terminal A)) → count (ss ++ ts) ≡ count ss + count ts
-count_append ss ts = ap length (filter-append is_node ss ts) ∙ length-append (filter is_node ss) (filter is_node ts)
+count_append ss ts = ap length (filter-append _ ss ts) ∙ length-append (filter is_node ss) (filter is_node ts)
 
 pub proposition_nodes : {k : Level} {ss : List (Terminal Formula)} {p : Formula} → Derives k ss p → AllByRecursion IsSingle ss → nodes p ≡ count ss
 proposition_nodes atom h = h.0

@@ -16,7 +16,7 @@ use Rattle.lw_base.specs.Characters.{is_blank, is_word_byte, begins}
 use Rattle.lw_base.specs.Names.{IsName}
 use Rattle.lw_text.specs.Tokens.{opens_comment, none, blank, Digits, IsNumber, IsKind, is_pair, is_single}
 use Rattle.lw_text.specs.Tokens.{Tokens}
-use Rattle.lw_base.proofs.api.Blanks.{blank_all}
+use Rattle.lw_base.proofs.api.Blanks.{blank_all, word_ascii}
 
 -- ---- what may follow a text: anything, no byte of a word, a blank, no `*`, or nothing that makes a symbol with a `:`
 
@@ -54,13 +54,13 @@ Spells-then {F} {G} {m} {n} {a} {b} {ts} {us} joint p q = record {
 }
 
 -- behind a text that anything may follow
-pub Spells-on : {G : Bytes → Type 0} {m n : ℕ} {a b : Bytes} {ts us : TokenList} → Spells Anything m a ts → Spells G n b us
-    → Spells G (m + n) (a ++ b) (ts ++ us)
+pub Spells-on : {G : Bytes → Type 0} {m n : ℕ} {a b : Bytes} {ts us : TokenList} → Spells Anything m a ts
+    → Spells G n b us → Spells G (m + n) (a ++ b) (ts ++ us)
 Spells-on p q = Spells-then (λ rest g. tt) p q
 
 -- the same text, where less may follow it, or with a greater bound
-pub Spells-before : {F : Bytes → Type 0} (G : Bytes → Type 0) {m : ℕ} {a : Bytes} {ts : TokenList} → ((rest : Bytes) → G rest → F rest)
-    → Spells F m a ts → Spells G m a ts
+pub Spells-before : {F : Bytes → Type 0} (G : Bytes → Type 0) {m : ℕ} {a : Bytes} {ts : TokenList}
+    → ((rest : Bytes) → G rest → F rest) → Spells F m a ts → Spells G m a ts
 Spells-before G less p = record { before = λ rest more g t. p.before rest more (less rest g) t; short = p.short; utf8 = p.utf8 }
 
 pub Spells-within : {F : Bytes → Type 0} {m : ℕ} {a : Bytes} {ts : TokenList} (n : ℕ) → m ≤ n → Spells F m a ts → Spells F n a ts
@@ -85,8 +85,7 @@ pub Spells-blank : (b : ℕ) → is_blank b ≡ true → b < 128 → Spells Anyt
 Spells-blank b h low = record {
   before = λ rest more f t. tokens-blank b rest more h t;
   short = omega arith;
-  utf8 = IsUtf8-from_ascii (b ∷ [])
-      (ascii_one b low);
+  utf8 = IsUtf8-from_ascii (b ∷ []) (ascii_one b low);
 }
 
 pub Spells-space : Spells Anything 1 (32 ∷ []) []
@@ -133,14 +132,6 @@ Spells-pair b c pair h k = record {
 
 -- ---- words
 
-word_low : (b : ℕ) → is_word_byte b ≡ true → b < 128
-word_low b h = grind (arith, nat_tests)
-
-word_ascii : (w : Bytes) → AllByRecursion (λ b. is_word_byte b ≡ true) w → IsAscii w
-word_ascii [] h i = omega arith
-word_ascii (b ∷ w) h zero = word_low b h.0
-word_ascii (b ∷ w) h (suc i) = word_ascii w h.1 i
-
 pub Spells-word : (n : ℕ) (w : Bytes) → AllByRecursion (λ b. is_word_byte b ≡ true) w → IsKind w → length w ≤ n → Spells EndsWord n w (w ∷ [])
 Spells-word n w all kind short = record {
   before = λ rest more f t. (rest, (none, inl (record { all = all; longest = f; kind = kind })), t);
@@ -163,8 +154,7 @@ name_by_test w h =
     let bytes = and_parts (list_all is_word_byte w) (not (begins is_ascii_digit w)) halves.1 in
     let most : length w < 33 = ltb-true (length w) 33 long.1 in (
       record { some = ltb-true 0 (length w) long.0; all = all_pass is_word_byte w bytes.0; front = not-true (begins is_ascii_digit w) bytes.1 },
-      omega
-          (arith, most),
+      omega (arith, most),
     )
 
 pub Spells-name : (w : Bytes) → IsName w → Spells EndsWord 32 w (w ∷ [])
@@ -175,8 +165,8 @@ Spells-name w name = Spells-word 32 w name.0.all (inl name) name.1
 digits_say : (n : ℕ) (ds : Bytes) (v : ℕ) → AllDigits 10 ds → digits_value_after 10 n ds ≡ v → Digits 10 n ds v
 digits_say n [] v all e = e
 digits_say n (d ∷ ds) v all e =
-    let same : n * 10 + digit_value d ≡ 10 * n + digit_value d = omega arith in
-    (all.0, digits_say (10 * n + digit_value d) ds v all.1 (ap (λ (m : ℕ). digits_value_after 10 m ds) (sym same) ∙ e))
+    (all.0, digits_say (10 * n + digit_value d) ds v all.1 (ap (λ (m : ℕ). digits_value_after 10 m ds)
+        (sym (omega arith)) ∙ e))
 
 -- a number's decimal digits are a number
 pub decimal_is_number : (n : ℕ) → n < 2 ^ 32 → IsNumber (decimal n) n

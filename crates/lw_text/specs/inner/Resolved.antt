@@ -81,22 +81,23 @@ resolved_head arch name s =
       condition = formula_of s.prop;
     }
 
--- What a `Body` in memory says of the tokens that it was made of: the parts and the proposition of a text of the language,
--- by the names of its table.
+-- what a `Body` in memory says by the names of its table, where its proposition was read from these terminals
+abbrev pub syntax_of : {A : Type 0} → Body A → List (Terminal AtomSyntax) → frames.TestSyntax
+syntax_of b terminals =
+    record {
+      entries = map (named_entry b.parts.locs) b.parts.entries;
+      threads = b.parts.threads;
+      rows = all_texts b.rows;
+      listed = map (named b.parts.locs) b.parts.listed;
+      quant = b.parts.quant;
+      terminals = terminals;
+    }
+
+-- The body says the parts and the proposition of a text of the language, whose tokens these are.
 pub record HasSyntax {A : Type 0} (arch : Arch) (ts : TokenList) (b : Body A) : Type 0 where
   pub terminals : List (Terminal AtomSyntax)
-  pub syntax : frames.TestSyntax
-  pub is :
-      syntax ≡ record {
-        entries = map (named_entry b.parts.locs) b.parts.entries;
-        threads = b.parts.threads;
-        rows = all_texts b.rows;
-        listed = map (named b.parts.locs) b.parts.listed;
-        quant = b.parts.quant;
-        terminals = terminals;
-      }
-  pub parts : Parts arch ts syntax
-  pub names : b.parts.locs ≡ table syntax
+  pub parts : Parts arch ts (syntax_of b terminals)
+  pub names : b.parts.locs ≡ table (syntax_of b terminals)
   pub proposition : IsProposition (map (resolved b.parts.locs) terminals) (formula_of b.parts.prop)
   pub entries_in : All (λ e. IsIn b.parts.locs e.site) b.parts.entries
   pub listed_in : All (IsIn b.parts.locs) b.parts.listed

@@ -1,17 +1,32 @@
 -- Used within the crate: what a reader of tokens has taken between two places, with the names that it put into the table.
-use Rattle.std.specs.Prelude.{◌≡◌, ℕ, Option, List, [], ◌∷◌, map, All}
+use Rattle.std.specs.Prelude.{◌≡◌, ℕ, Option, true, false, List, [], ◌∷◌, ◌++◌, map, All}
 use Rattle.std.specs.List.{AllByRecursion}
-use Rattle.lw_base.specs.Types.{NameTable}
+use Rattle.lw_base.specs.Types.{NameTable, TokenList}
 use Rattle.lw_base.specs.declared.head.Arch.{Arch}
+use Rattle.lw_base.specs.declared.head.Quant.{Quant}
+use Rattle.lw_base.specs.declared.proposition.Prop.{Prop}
+use Rattle.lw_base.specs.Formula.{Formula}
+use Rattle.lw_base.specs.Propositions.{formula_of}
 use Rattle.lw_text.specs.declared.cursor.Cursor.{Cursor}
+use Rattle.lw_text.specs.declared.token.Token.{Token}
+use Rattle.lw_text.specs.Spans.{texts}
+use Rattle.lw_text.specs.Rows.{ends_cell}
 use Rattle.lw_text.specs.declared.site.Site.{Site}
 use Rattle.lw_text.specs.declared.block.Entry.{Entry}
 use Rattle.lw_text.specs.declared.terminal.Terminal.{Terminal}
-use Rattle.lw_text.specs.Sites.{IsSite, ThreadExists, ThreadAllowed, with_sites}
-use Rattle.lw_text.specs.Conditions.{IsTerminal, Listed, sites_in}
+use Rattle.lw_text.specs.Sites.{SiteSyntax, IsSite, ThreadExists, ThreadAllowed, HasRoomFor, with_sites}
+use Rattle.lw_text.specs.Propositions as syntax
+use Rattle.lw_text.specs.Propositions.{HasFewNodes, IsProposition}
+use Rattle.lw_text.specs.Conditions.{AtomSyntax, IsTerminal, Terminals, Listed, Condition, sites_in, resolved}
 use Rattle.lw_text.specs.Frames.{Block}
-use Rattle.lw_text.specs.Views.{left, MovesOn}
+use Rattle.lw_text.specs.Views.{remaining, left, MovesOn}
 use Rattle.lw_text.specs.inner.Resolved.{named, named_entry, named_terminal, IsIn, TerminalIn}
+
+-- the tokens of a cell, and the mark behind them
+pub record TakenCell (before after : Cursor) (cell : List Token) (mark : Token) : Type 0 where
+  pub parts : remaining before ≡ cell ++ mark ∷ remaining after
+  pub plain : AllByRecursion (λ t. ends_cell t ≡ false) (texts cell)
+  pub ends : ends_cell mark.text.now ≡ true
 
 -- a site, whose thread is allowed
 pub record TakenSite (arch : Arch) (threads : Option ℕ) (before after : Cursor) (names table : NameTable) (s : Site) : Type 0 where
@@ -39,4 +54,38 @@ pub record TakenList (arch : Arch) (threads : ℕ) (before after : Cursor) (name
   pub is : Listed arch (left before) (map (named table) ss) (left after)
   pub there : AllByRecursion (ThreadExists threads) (map (named table) ss)
   pub names_are : table ≡ with_sites names (map (named table) ss)
+  pub within : All (IsIn table) ss
+
+-- The terminals are a proposition that says p, of not too many nodes, and the table has room for their names.
+pub record Fits (names : NameTable) (ss : List (syntax.Terminal AtomSyntax)) (p : Formula) : Type 0 where
+  pub room : HasRoomFor names (sites_in ss)
+  pub few : HasFewNodes ss
+  pub says : IsProposition (map (resolved (with_sites names (sites_in ss))) ss) p
+
+-- no such proposition stands here; and no condition, behind whose list there is room for its proposition's names
+abbrev pub NoProposition : Arch → ℕ → TokenList → NameTable → Type 0
+NoProposition arch threads ts names =
+    (ss : List (syntax.Terminal AtomSyntax)) (p : Formula) → Terminals arch threads ts ss → Fits names ss p → ⊥
+
+abbrev pub NoCondition : Arch → ℕ → TokenList → NameTable → Type 0
+NoCondition arch threads ts names =
+    (listed : List SiteSyntax) (quant : Quant) (ss : List (syntax.Terminal AtomSyntax)) (p : Formula)
+    → Condition arch threads ts listed quant ss → Fits (with_sites names listed) ss p → ⊥
+
+-- a proposition, which ends the text
+pub record TakenProposition {A : Type 0} (arch : Arch) (threads : ℕ) (before : TokenList) (names table : NameTable) (p : Prop A) : Type 0 where
+  pub terminals : List (syntax.Terminal AtomSyntax)
+  pub is : Terminals arch threads before terminals
+  pub names_are : table ≡ with_sites names (sites_in terminals)
+  pub few : HasFewNodes terminals
+  pub says : IsProposition (map (resolved table) terminals) (formula_of p)
+
+-- a condition, which ends the text
+pub record TakenCondition {A : Type 0} (arch : Arch) (threads : ℕ) (before : TokenList) (names table : NameTable) (ss : List Site) (quant : Quant) (p : Prop A)
+    : Type 0 where
+  pub terminals : List (syntax.Terminal AtomSyntax)
+  pub is : Condition arch threads before (map (named table) ss) quant terminals
+  pub names_are : table ≡ with_sites (with_sites names (map (named table) ss)) (sites_in terminals)
+  pub few : HasFewNodes terminals
+  pub says : IsProposition (map (resolved table) terminals) (formula_of p)
   pub within : All (IsIn table) ss

@@ -1,5 +1,4 @@
-use Rattle.std.proofs.Common.{◌≡◌, ◌<◌, ◌∙◌, sym, ap, subst, length, get_or, arith, take_all}
-use Rattle.lw_text.specs.Rows.{column}
+use Rattle.std.proofs.Common.{◌≡◌, ◌<◌, sym, subst, length, get_or, arith}
 use Rattle.lw_text.proofs.RowColumns.{column-more}
 use Rattle.lw_text.proofs.columns.column.Goals as goal
 
@@ -9,27 +8,14 @@ loop-row-preserved g c =
     let i = c.loop-row.row-index in
     let place = c.args.place in
     let x = c.index-as_slice-place.result in
-    let within : place < length row = subst (λ r. place < length r) (sym c.row-item.is) (c.requires i row c.loop-row-test.true) in
-    let at : x ≡ get_or row place x = subst (λ l. x ≡ get_or l place x) c.as_slice.ensures c.index-as_slice-place.is in
+    let within = subst (λ r. place < length r) (sym c.row-item.is) (c.requires i row c.loop-row-test.true) in
+    let at = subst (λ l. x ≡ get_or l place x) c.as_slice.ensures c.index-as_slice-place.is in
     rw (c.in_ok-push.ensures.ok, c.loop-row.invariant, c.in_ok-copy.ensures)
     (sym (column-more c.args.rows.now i place row x c.loop-row-test.true c.row-item.is within at))
 
 pub bounds-as_slice-place : goal.bounds-as_slice-place
 bounds-as_slice-place g c =
     rw (c.as_slice.ensures, c.row-item.is) (c.requires c.loop-row.row-index c.row-item.result c.loop-row-test.true)
-
-pub loop-row-init : goal.loop-row-init
-loop-row-init g c = c.new-column.ensures
-
-pub bounds-rows-row-index : goal.bounds-rows-row-index
-bounds-rows-row-index g c = c.loop-row-test.true
-
-pub loop-row-smaller : goal.loop-row-smaller
-loop-row-smaller g c = omega (arith, c.loop-row-test.true)
-
-pub returns : goal.returns
-returns g c =
-    c.loop-row.invariant ∙ ap (λ l. column l c.args.place) (take_all c.loop-row.row-index c.args.rows.now (omega (arith, c.loop-row-test.false)))
 
 pub offset_bounds-as_slice-place : goal.offset_bounds-as_slice-place
 offset_bounds-as_slice-place g c =

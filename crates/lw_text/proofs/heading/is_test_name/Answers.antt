@@ -1,31 +1,18 @@
-use Rattle.std.proofs.Common.{◌≡◌, ◌∙◌, not, true, length, sym, refl, ap, arith, ne_eqb}
+use Rattle.std.proofs.Common.{◌∙◌, not, true, length, sym, ap, arith, ne_eqb}
 use Rattle.std.specs.Char.{is_ascii_graphic}
 use Rattle.std.specs.List.{list_all}
-use Rattle.std.proofs.lemmas.Bool.{false≢true, not-true, eqb-false}
-use Rattle.std.proofs.lemmas.List.Elements.{All-from_recursion}
-use Rattle.std.proofs.lemmas.List.Folds.{list_all_more}
-use Rattle.lw_text.proofs.Entries.{at_end}
+use Rattle.std.proofs.lemmas.Bool.{not-true, eqb-false}
+use Rattle.lw_text.proofs.Starts.{at_end}
 use Rattle.lw_text.proofs.api.Spelling.{all_pass}
 use Rattle.lw_text.proofs.heading.is_test_name.Goals as goal
-
-pub loop-byte-preserved : goal.loop-byte-preserved
-loop-byte-preserved c = list_all_more is_ascii_graphic c.args.name.now c.loop-byte.byte-index 0 c.loop-byte-test.true ∙ rw
-    (c.loop-byte.invariant, ← c.if-not-is_ascii_graphic.ensures.value) refl
-
-pub returns-then-not-is_ascii_graphic : goal.returns-then-not-is_ascii_graphic
-returns-then-not-is_ascii_graphic c = (
-  λ e. absurd (false≢true e),
-  λ is. c.if-not-is_ascii_graphic.ensures.value ∙ All-from_recursion
-      (λ b. is_ascii_graphic b ≡ true) c.args.name.now is.all c.loop-byte.byte-index 0 c.loop-byte-test.true,
-)
 
 pub returns : goal.returns
 returns c = (
   λ e. record {
     some = omega (arith, eqb-false _ _ (sym c.is_empty.ensures ∙ not-true _ e));
     short = c.if-name-gt-MAX_TEST_NAME_BYTES.false;
-    all = all_pass is_ascii_graphic c.args.name.now (at_end (list_all is_ascii_graphic) c.args.name.now c.loop-byte.byte-index true c.loop-byte-test.false
-        c.loop-byte.invariant);
+    all = all_pass is_ascii_graphic c.args.name.now (at_end (list_all is_ascii_graphic) c.args.name.now
+        c.loop-byte.byte-index true c.loop-byte-test.false c.loop-byte.invariant);
   },
   λ is. ap not (c.is_empty.ensures ∙ ne_eqb (length c.args.name.now) 0 (λ e. omega (arith, e, is.some))),
 )

@@ -1,88 +1,87 @@
-use Rattle.std.proofs.Common.{◌≡◌, ◌≤◌, length, sym, ap, ◌∙◌, subst, arith, All, IfNone, IfSome}
-use Rattle.lw_base.proofs.api.Returns.{passed_on, turned, out_of_memory}
+use Rattle.std.proofs.Common.{◌≡◌, ◌≢◌, ℕ, ◌≤◌, length, sym, ap, ◌∙◌, subst, arith, All, IfSome, Option, None}
+use Rattle.std.proofs.Common.{Some, MatchOption, Result, IsErrAnd}
+use Rattle.std.specs.Result.{MatchResult}
 use Rattle.lw_text.specs.declared.fault.Fault.{Fault}
 use Rattle.lw_text.specs.declared.fault.Cause.TheVariants.{Memory}
+use Rattle.std.proofs.lemmas.Option.{MatchOption-at_none}
 use Rattle.lw_text.specs.Spans.{texts}
 use Rattle.lw_text.specs.PlacedTokens.{PlacedTokens}
 use Rattle.lw_base.specs.Heads.{head_of}
 use Rattle.lw_text.specs.Rows.{columns}
 use Rattle.lw_text.specs.Headings.{Heading}
-use Rattle.lw_text.specs.Tokens.{Tokens}
 use Rattle.lw_base.specs.Propositions.{formula_of}
-use Rattle.lw_text.specs.Frames.{TestSyntax, head_of_syntax}
-use Rattle.lw_text.specs.Places.{all_texts, placed_tokens, placed_cells}
+use Rattle.lw_text.specs.Frames.{head_of_syntax}
+use Rattle.lw_text.specs.inner.Resolved.{syntax_of}
+use Rattle.lw_text.specs.Places.{cell_texts, all_texts, placed_tokens, placed_cells}
 use Rattle.lw_text.proofs.TokenRows.{read_whole}
 use Rattle.lw_text.proofs.CellPlaces.{HasRows-within}
-use Rattle.lw_text.proofs.RowColumns.{columns-texts, columns-placed}
-use Rattle.lw_text.proofs.ResolvedHeads.{head_made}
-use Rattle.lw_text.proofs.WellFormedHeads.{body_proposition}
+use Rattle.lw_text.proofs.RowColumns.{columns-map}
+use Rattle.lw_text.proofs.WellFormedHeads.{head_made, body_proposition}
 use Rattle.lw_text.proofs.Whole.{no_frame, no_test}
-use Rattle.lw_text.proofs.Faults.{not_ok}
+use Rattle.lw_text.proofs.Faults.{exits, refused}
 use Rattle.lw_text.proofs.read.read_text.Goals as goal
 
+some_within : {F : Type 0} (P : Type 0) (Q R : F → Type 0) (o : Option F) → MatchOption o P Q → ((f : F) → Q f → R f) → IfSome o R
+some_within P Q R None p h = tt
+some_within P Q R (Some f) q h = h f q
+
+no_memory : {T : Type 0} (P : T → Type 0) (X : Type 0) (len : ℕ) (r : Result T Fault) → IsErrAnd r (λ f. (f.at ≡ 0) × (f.cause ≡ Memory))
+    → MatchResult r P (λ f. (f.cause ≢ Memory → X) × (f.at ≤ len))
+no_memory P X len r h = exits P _ r h (λ f k. (λ other. absurd (other k.1), omega (arith, k.0)))
+
 pub returns-in_err-heading : goal.returns-in_err-heading
-returns-in_err-heading g c = record {
-  found = not_ok _ _ c.from_residual.ensures.0;
-  fault = passed_on _ _ c.from_residual.ensures.1 (λ _ frame h. c.in_err-heading.ensures.fault h.arch h.name h.rest
-      (subst (λ t. Heading t h.arch h.name h.rest) (sym c.new-lexer.ensures.rest) h.heading));
-  place = passed_on _ _ c.from_residual.ensures.1 (omega (arith, c.in_err-heading.ensures.place, ap length c.new-lexer.ensures.text));
-}
+returns-in_err-heading g c = refused _ _ _ c.from_residual.ensures.1 (
+  λ _ frame h. c.in_err-heading.ensures.reads.0 h.arch h.name h.rest (subst (λ t. Heading t h.arch h.name h.rest) (sym c.new-lexer.ensures.rest) h.heading),
+  omega (arith, c.in_err-heading.ensures.reads.1, ap length c.new-lexer.ensures.text),
+)
 
 pub body-read-requires-clause-places : goal.body-read-requires-clause-places
 body-read-requires-clause-places g c =
     let whole = c.in_ok-heading.ensures.same ∙ c.new-lexer.ensures.text in
-    subst (λ t. All (λ token. token.at ≤ length t) c.in_ok-row.row.tokens) whole c.in_ok-row.ensures.within
+    subst (λ t. All (λ token. token.at ≤ length t) c.in_ok-row.row.tokens) whole c.in_ok-row.ensures.1
 
 pub body-read-requires-clause-fault : goal.body-read-requires-clause-fault
-body-read-requires-clause-fault g c = subst (λ t. IfSome c.in_ok-row.row.fault (λ f. f.at ≤ length t))
-    (c.in_ok-heading.ensures.same ∙ c.new-lexer.ensures.text) c.in_ok-row.ensures.place
+body-read-requires-clause-fault g c =
+    let whole = c.in_ok-heading.ensures.same ∙ c.new-lexer.ensures.text in
+    some_within _ _ _ c.in_ok-row.row.fault c.in_ok-row.ensures.0 (λ f h. omega (arith, h.1, ap length whole))
 
 pub returns-in_err-body : goal.returns-in_err-body
-returns-in_err-body g c = record {
-  found = not_ok _ _ c.from_residual-in_err-body.ensures.0;
-  fault =
+returns-in_err-body g c = refused _ _ _ c.from_residual-in_err-body.ensures.1 (
+  (
       let row = c.in_ok-row.row in
-      let heading = subst (λ t. Heading t c.in_ok-heading.heading.arch c.in_ok-heading.heading.name.now c.heading.new.self.rest.now)
-      c.new-lexer.ensures.rest c.in_ok-heading.ensures.found in
-      passed_on _ _ c.from_residual-in_err-body.ensures.1 (λ ne. no_frame c.args.text.now c.in_ok-heading.heading.arch c.in_ok-heading.heading.name.now
-      c.heading.new.self.rest.now heading (no_test c.in_ok-heading.heading.arch row.fault c.heading.new.self.rest.now (texts row.tokens)
-      (read_whole row.fault _ _ row.tokens c.in_ok-row.ensures.found) c.in_ok-row.ensures.fault (c.in_err-body.ensures.fault ne)));
-  place = passed_on _ _ c.from_residual-in_err-body.ensures.1 c.in_err-body.ensures.place;
-}
-
-pub finish-requires-clause-says : goal.finish-requires-clause-says
-finish-requires-clause-says g c = (_, c.in_ok-body.ensures.found.1)
-
-pub finish-requires-clause-name : goal.finish-requires-clause-name
-finish-requires-clause-name g c = c.in_ok-heading.ensures.found.3.is_name
+      let heading = subst (λ t. Heading t c.in_ok-heading.heading.arch c.in_ok-heading.heading.name.now
+          c.heading.new.self.rest.now) c.new-lexer.ensures.rest c.in_ok-heading.ensures.reads in
+      λ ne. no_frame c.args.text.now c.in_ok-heading.heading.arch c.in_ok-heading.heading.name.now
+          c.heading.new.self.rest.now heading (no_test c.in_ok-heading.heading.arch row.fault _ _
+          c.heading.new.self.rest.now row.tokens c.in_ok-row.ensures.0 (c.in_err-body.ensures.0 ne))
+      ),
+  c.in_err-body.ensures.1,
+)
 
 pub finish-requires-clause-within : goal.finish-requires-clause-within
 finish-requires-clause-within g c =
     let body = c.in_ok-body.body in
     let len = length c.args.text.now in
-    let whole = c.in_ok-heading.ensures.same ∙ c.new-lexer.ensures.text in
-    let within = subst (λ t. All (λ token. token.at ≤ length t) c.in_ok-row.row.tokens) whole c.in_ok-row.ensures.within in
-    HasRows-within len c.in_ok-heading.heading.arch c.in_ok-row.row.tokens body.parts.threads body.rows c.in_ok-body.ensures.found.2 within
+    let within = rw (c.in_ok-heading.ensures.same ∙ c.new-lexer.ensures.text) at c.in_ok-row.ensures.1 in
+    HasRows-within len _ c.in_ok-row.row.tokens body.parts.threads body.rows c.in_ok-body.ensures.2 within
 
-pub returns-clause-found : goal.returns-clause-found
-returns-clause-found g c =
+pub returns : goal.returns
+returns g c =
     let arch = c.in_ok-heading.heading.arch in
     let name = c.in_ok-heading.heading.name.now in
     let rest = c.heading.new.self.rest.now in
     let body = c.in_ok-body.body in
     let row = c.in_ok-row.row in
     let frame = c.in_ok-finish.field-0 in
-    let says = c.in_ok-body.ensures.found.1 in
-    let heading = subst (λ t. Heading t arch name rest) c.new-lexer.ensures.rest c.in_ok-heading.ensures.found in
-    let head : head_of frame.head ≡ head_of_syntax arch name says.syntax (formula_of body.parts.prop) = c.in_ok-finish.ensures.head
-    ∙ head_made arch name _ body says in
-    let cells : all_texts frame.cells ≡ columns body.parts.threads (all_texts body.rows) = ap all_texts c.in_ok-finish.ensures.cells
-    ∙ columns-texts body.parts.threads body.rows in
-    let same : columns body.parts.threads (all_texts body.rows) ≡ columns says.syntax.threads says.syntax.rows = ap
-    (λ (s : TestSyntax). columns s.threads s.rows) (sym says.is) in
+    let says = c.in_ok-body.ensures.1 in
+    let heading = subst (λ t. Heading t arch name rest) c.new-lexer.ensures.rest c.in_ok-heading.ensures.reads in
+    let head : head_of frame.head ≡ head_of_syntax arch name (syntax_of body says.terminals)
+        (formula_of body.parts.prop) = c.in_ok-finish.ensures.head ∙ head_made arch name _ body says in
+    let cells : all_texts frame.cells ≡ columns body.parts.threads (all_texts body.rows) = ap all_texts
+        c.in_ok-finish.ensures.cells ∙ columns-map cell_texts body.parts.threads body.rows in
     let whole = c.in_ok-heading.ensures.same ∙ c.new-lexer.ensures.text in
-    let stream = subst (λ o. IfNone o (PlacedTokens (length c.heading.new.self.text.now) rest (placed_tokens row.tokens))) c.in_ok-body.ensures.found.0
-    c.in_ok-row.ensures.found in (
+    let stream = subst (λ t. PlacedTokens (length t) rest (placed_tokens row.tokens)) whole
+    (MatchOption-at_none _ _ c.in_ok-body.ensures.0 c.in_ok-row.ensures.0) in (
       record {
         short = c.requires.short;
         utf8 = c.requires.utf8;
@@ -90,14 +89,13 @@ returns-clause-found g c =
         name = name;
         rest = rest;
         tokens = texts row.tokens;
-        syntax = says.syntax;
+        syntax = syntax_of body says.terminals;
         condition = formula_of body.parts.prop;
         heading = heading;
-        row = subst (λ o. IfNone o (Tokens rest (texts row.tokens))) c.in_ok-body.ensures.found.0
-            (read_whole row.fault _ _ row.tokens c.in_ok-row.ensures.found);
+        row = read_whole (length c.args.text.now) rest row.tokens stream;
         parts = says.parts;
         proposition = body_proposition arch (texts row.tokens) body says;
-        made = cc (head, cells, same);
+        made = cc (head, cells);
       },
       record {
         arch = arch;
@@ -105,25 +103,17 @@ returns-clause-found g c =
         rest = rest;
         heading = heading;
         tokens = placed_tokens row.tokens;
-        stream = subst (λ t. PlacedTokens (length t) rest (placed_tokens row.tokens)) whole stream;
+        stream = stream;
         threads = body.parts.threads;
         rows = placed_cells body.rows;
-        has_rows = c.in_ok-body.ensures.found.2;
-        are = ap placed_cells c.in_ok-finish.ensures.cells ∙ columns-placed body.parts.threads body.rows;
+        has_rows = c.in_ok-body.ensures.2;
+        are = ap placed_cells c.in_ok-finish.ensures.cells ∙ columns-map _ body.parts.threads body.rows;
       },
       c.in_ok-finish.ensures.len,
     )
 
 pub returns-in_err-row : goal.returns-in_err-row
-returns-in_err-row g c = record {
-  found = not_ok _ _ c.from_residual-in_err-row.ensures.0;
-  fault = out_of_memory (λ (f : Fault). f.cause) Memory (λ f. f.at ≡ 0) _ _ c.from_residual-in_err-row.ensures.1;
-  place = turned (λ (f : Fault). f.at ≤ length c.args.text.now) _ c.from_residual-in_err-row.ensures.1 (λ f q. omega (arith, q.0));
-}
+returns-in_err-row g c = no_memory _ _ _ _ c.from_residual-in_err-row.ensures.1
 
 pub returns-in_err-finish : goal.returns-in_err-finish
-returns-in_err-finish g c = record {
-  found = not_ok _ _ c.from_residual-in_err-finish.ensures.0;
-  fault = out_of_memory (λ (f : Fault). f.cause) Memory (λ f. f.at ≡ 0) _ _ c.from_residual-in_err-finish.ensures.1;
-  place = turned (λ (f : Fault). f.at ≤ length c.args.text.now) _ c.from_residual-in_err-finish.ensures.1 (λ f q. omega (arith, q.0));
-}
+returns-in_err-finish g c = no_memory _ _ _ _ c.from_residual-in_err-finish.ensures.1

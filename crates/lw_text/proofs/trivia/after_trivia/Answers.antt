@@ -9,7 +9,7 @@ pub loop-inner-init : goal.loop-inner-init
 loop-inner-init c =
     let b = c.front.ensures in
     record {
-      skipped = Skipped-blanks c.front.result.0.now c.args.bytes.now c.args.bytes.now _ (Skipped-none c.args.bytes.now) b.parts b.all;
+      skipped = Skipped-blanks _ _ c.args.bytes.now _ (Skipped-none c.args.bytes.now) b.parts b.all;
       no_blank = b.longest;
     }
 
@@ -18,14 +18,12 @@ returns-in_err-after_comment-clause-none c = if_none _ _ (Skipped-open c.loop-in
 
 pub loop-inner-smaller : goal.loop-inner-smaller
 loop-inner-smaller c =
-    let b = c.front-in-Some.ensures in
     omega (
       arith,
       Comment-shorter c.in_ok-after_comment.ensures.found,
       ap length c.in-Some.ensures,
-      ap length b.parts,
-      length-append
-          c.front-in-Some.result.0.now c.front-in-Some.result.1.now,
+      ap length c.front-in-Some.ensures.parts,
+      length-append c.front-in-Some.result.0.now c.front-in-Some.result.1.now,
     )
 
 pub loop-inner-preserved : goal.loop-inner-preserved

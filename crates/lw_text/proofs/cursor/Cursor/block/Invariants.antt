@@ -1,7 +1,7 @@
 use Rattle.std.proofs.Common.{length}
 use Rattle.lw_text.specs.Spans.{Leaves}
 use Rattle.lw_text.specs.Views.{remaining, left}
-use Rattle.lw_text.proofs.Blocks.{entries}
+use Rattle.lw_text.proofs.SiteLists.{entries}
 use Rattle.lw_text.proofs.Readings.{Read}
 use Rattle.lw_text.proofs.cursor.Cursor.block.Given as goal
 

@@ -1,108 +1,71 @@
 use Rattle.std.proofs.Common.{refl, sym, map, arith, subst}
 use Rattle.std.proofs.lemmas.List.{length-map}
-use Rattle.lw_base.proofs.api.Returns.{passed_on}
 use Rattle.lw_text.specs.Rows.{Header}
 use Rattle.lw_text.specs.Frames.{Block}
 use Rattle.lw_text.specs.inner.Resolved.{named_entry}
-use Rattle.lw_text.specs.Places.{cells_texts, all_texts, placed_tokens}
+use Rattle.lw_text.specs.Places.{cells_texts, placed_tokens}
 use Rattle.lw_text.specs.Views.{remaining, left}
 use Rattle.lw_text.proofs.CellPlaces.{rows_placed, front_placed}
 use Rattle.lw_text.proofs.Lists.{Leaves-join}
 use Rattle.lw_text.proofs.api.Places.{texts_placed}
-use Rattle.lw_text.proofs.Bodies.{syntax_by, agrees}
+use Rattle.lw_text.proofs.Bodies.{taken_body}
 use Rattle.lw_text.proofs.Whole.{first_names, few_first, no_header, no_thread, no_rows, no_condition}
 use Rattle.lw_text.proofs.Whole.{header_some, Rows-even}
-use Rattle.lw_text.proofs.Faults.{not_ok}
+use Rattle.lw_text.proofs.Faults.{refused}
 use Rattle.lw_text.proofs.cursor.Cursor.body.Goals as goal
 
 pub returns-in_err-entries : goal.returns-in_err-entries
-returns-in_err-entries g c = record {
-  found = not_ok _ _ c.from_residual.ensures.0;
-  fault = passed_on _ _ c.from_residual.ensures.1 (λ ne s f p whole. (rw c.new-locs.ensures at (c.in_err-entries.ensures.fault ne)) s.entries
-      p.behind_block p.block (few_first c.args.arch (left c.args.self.now) s p));
-}
+returns-in_err-entries g c = refused _ _ _ c.from_residual.ensures.1 (λ ne s f p whole. (rw c.new-locs.ensures at (c.in_err-entries.ensures ne)) s.entries
+    p.behind_block p.block (few_first c.args.arch (left c.args.self.now) s p))
 
 pub returns-in_err-threads : goal.returns-in_err-threads
-returns-in_err-threads g c = record {
-  found = not_ok _ _ c.from_residual-in_err-threads.ensures.0;
-  fault = passed_on _ _ c.from_residual-in_err-threads.ensures.1 (λ ne s f p whole. no_header c.args.arch (left c.args.self.now) (left c.block.new.self) _
-      c.in_ok-entries.ensures.found.is c.in_err-threads.ensures.fault s p);
-}
+returns-in_err-threads g c = refused _ _ _ c.from_residual-in_err-threads.ensures.1 (λ ne s f p whole.
+    no_header c.args.arch (left c.args.self.now) _ _ c.in_ok-entries.ensures.is c.in_err-threads.ensures s p)
 
 pub returns-in_err-check_threads : goal.returns-in_err-check_threads
-returns-in_err-check_threads g c = record {
-  found = not_ok _ _ c.from_residual-in_err-check_threads.ensures.0;
-  fault = passed_on _ _ c.from_residual-in_err-check_threads.ensures.1 (λ ne s f p whole. no_thread c.args.arch (left c.args.self.now)
-      (left c.block.new.self) _ c.in_ok-entries.ensures.found.is c.in_ok-threads.threads (left c.header.new.self) c.in_ok-threads.ensures.found
-      c.block.new.locs c.in_ok-entries.entries refl (rw c.as_slice.ensures at c.in_err-check_threads.ensures.err) s p);
-}
-
-pub check_threads-requires : goal.check_threads-requires
-check_threads-requires g c = tt
+returns-in_err-check_threads g c = refused _ _ _ c.from_residual-in_err-check_threads.ensures.1
+    (λ ne s f p whole. no_thread c.args.arch _ _ _ c.in_ok-entries.ensures.is _ _ c.in_ok-threads.ensures.0
+    c.block.new.locs _ refl (rw c.as_slice.ensures at c.in_err-check_threads.ensures.err) s p)
 
 pub returns-in_err-rows : goal.returns-in_err-rows
-returns-in_err-rows g c = record {
-  found = not_ok _ _ c.from_residual-in_err-rows.ensures.0;
-  fault = passed_on _ _ c.from_residual-in_err-rows.ensures.1 (λ ne s f p whole. no_rows c.args.arch (left c.args.self.now) (left c.block.new.self) _
-      c.in_ok-entries.ensures.found.is c.in_ok-threads.threads (left c.header.new.self) c.in_ok-threads.ensures.found (c.in_err-rows.ensures.fault ne) s p);
-}
+returns-in_err-rows g c = refused _ _ _ c.from_residual-in_err-rows.ensures.1 (λ ne s f p whole. no_rows
+    c.args.arch _ _ _ c.in_ok-entries.ensures.is _ _ c.in_ok-threads.ensures.0 (c.in_err-rows.ensures ne) s p)
 
 pub returns : goal.returns
-returns g c = record {
-  found = tt;
-  fault = λ ne. no_condition c.args.arch (left c.args.self.now) (left c.block.new.self) _ c.in_ok-entries.ensures.found.is c.in_ok-threads.threads
-      (left c.header.new.self) c.in_ok-threads.ensures.found _ (left c.rows.new.self) c.in_ok-rows.ensures.found.0 c.block.new.locs
-      (first_names c.block.new.locs c.in_ok-entries.entries (rw c.new-locs.ensures at c.in_ok-entries.ensures.found.names_are)) (c.in-Err.ensures.fault ne);
-}
-
-pub condition-requires-clause-threads : goal.condition-requires-clause-threads
-condition-requires-clause-threads g c = c.in_ok-threads.ensures.found.1
-
-pub invariant_of-parts : goal.invariant_of-parts
-invariant_of-parts g c = record { few = c.in_ok-threads.ensures.found.1 }
+returns g c = λ ne. no_condition c.args.arch (left c.args.self.now) (left c.block.new.self) _
+    c.in_ok-entries.ensures.is c.in_ok-threads.threads (left c.header.new.self) c.in_ok-threads.ensures.0 _ _
+    c.in_ok-rows.ensures.0 c.block.new.locs (first_names c.block.new.locs c.in_ok-entries.entries
+    (rw c.new-locs.ensures at c.in_ok-entries.ensures.names_are)) (c.in-Err.ensures ne)
 
 pub invariant_of-result : goal.invariant_of-result
 invariant_of-result g c =
     let rows = c.in_ok-rows.rows in
     record {
-      some = header_some _ _ c.in_ok-threads.threads c.in_ok-threads.ensures.found;
-      even = Rows-even c.in_ok-threads.threads rows _ _ c.in_ok-rows.ensures.found.0;
-      low = omega (arith, length-map rows cells_texts, c.in_ok-rows.ensures.found.0.1);
+      some = header_some _ _ c.in_ok-threads.threads c.in_ok-threads.ensures.0;
+      even = Rows-even c.in_ok-threads.threads rows _ _ c.in_ok-rows.ensures.0;
+      low = omega (arith, length-map rows cells_texts, c.in_ok-rows.ensures.0.1);
     }
 
-pub returns-in-Ok-clause-found : goal.returns-in-Ok-clause-found
-returns-in-Ok-clause-found g c =
-    let found = c.in-Ok.ensures.found in
-    let rows = all_texts c.in_ok-rows.rows in
+pub returns-in-Ok : goal.returns-in-Ok
+returns-in-Ok g c =
     let threads = c.in_ok-threads.threads in
-    let block = rw c.new-locs.ensures at c.in_ok-entries.ensures.found in
-    let all = agrees block threads (left c.header.new.self) (left c.rows.new.self) rows c.in_ok-threads.ensures.found
-    (rw c.as_slice.ensures at c.in_ok-check_threads.ensures.ok) c.in_ok-rows.ensures.found.0 c.condition.new.locs c.in-Ok.listed c.in-Ok.quant found.0
-    found.1 found.2 c.len-len.ensures.table.few found.3 in
-    let leaves = Leaves-join block.leaves c.in_ok-threads.ensures.leaves in
+    let block = rw c.new-locs.ensures at c.in_ok-entries.ensures in
+    let leaves = Leaves-join block.leaves c.in_ok-threads.ensures.1 in
     let whole = remaining c.args.self.now in
     let behind = remaining c.header.new.self in (
-      record {
-        terminals = found.0;
-        syntax = syntax_by c.condition.new.locs c.in_ok-entries.entries threads rows c.in-Ok.listed c.in-Ok.quant found.0;
-        is = refl;
-        parts = all.parts;
-        names = all.names_are;
-        proposition = found.4;
-        entries_in = all.entries_in;
-        listed_in = found.5;
-      },
+      taken_body block (left c.header.new.self) (left c.rows.new.self) c.in_ok-threads.ensures.0 (rw c.as_slice.ensures at c.in_ok-check_threads.ensures.ok)
+          c.in_ok-rows.ensures.0 c.in-Ok.ensures c.len-len.ensures.table.few,
       record {
         entries = map (named_entry c.block.new.locs) c.in_ok-entries.entries;
         behind_block = left c.block.new.self;
         front = placed_tokens leaves.0;
         behind_header = placed_tokens behind;
         behind_rows = placed_tokens (remaining c.rows.new.self);
-        block = subst (λ ts. Block c.args.arch ts (map (named_entry c.block.new.locs) c.in_ok-entries.entries) (left c.block.new.self))
-            (sym (texts_placed whole)) block.is;
-        header = subst (λ ts. Header (left c.block.new.self) threads ts) (sym (texts_placed behind)) c.in_ok-threads.ensures.found;
+        block = subst (λ ts. Block c.args.arch ts (map (named_entry c.block.new.locs) c.in_ok-entries.entries)
+            (left c.block.new.self)) (sym (texts_placed whole)) block.is;
+        header = subst (λ ts. Header (left c.block.new.self) threads ts) (sym (texts_placed behind)) c.in_ok-threads.ensures.0;
         parts = front_placed whole behind leaves;
-        says = rows_placed threads behind (remaining c.rows.new.self) c.in_ok-rows.rows c.in_ok-rows.ensures.found.0;
-        cut = c.in_ok-rows.ensures.found.1;
+        says = rows_placed _ behind (remaining c.rows.new.self) c.in_ok-rows.rows c.in_ok-rows.ensures.0;
+        cut = c.in_ok-rows.ensures.1;
       },
     )

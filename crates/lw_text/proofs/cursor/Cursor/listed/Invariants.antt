@@ -1,6 +1,6 @@
 use Rattle.std.proofs.Common.{length}
 use Rattle.lw_text.specs.Views.{left}
-use Rattle.lw_text.proofs.Listings.{sites}
+use Rattle.lw_text.proofs.SiteLists.{sites}
 use Rattle.lw_text.proofs.Readings.{Read}
 use Rattle.lw_text.proofs.cursor.Cursor.listed.Given as goal
 

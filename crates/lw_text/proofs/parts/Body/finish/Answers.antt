@@ -1,7 +1,7 @@
 use Rattle.std.proofs.Common.{◌≡◌, ◌∙◌, sym, ap, subst, arith, ◌≤◌}
 use Rattle.lw_base.specs.WellFormed.{IsWellFormedHead}
 use Rattle.lw_text.specs.Rows.{columns}
-use Rattle.lw_text.specs.Places.{IsWithin, height}
+use Rattle.lw_text.specs.Places.{IsWithin}
 use Rattle.lw_text.proofs.WellFormedHeads.{resolved_well_formed}
 use Rattle.lw_text.proofs.RowColumns.{columns-length, columns-height, columns-even, columns-each}
 use Rattle.lw_text.proofs.parts.Body.finish.Goals as goal
@@ -11,22 +11,14 @@ invariant_of-result g c =
     let body = c.args.self in
     let parts = body.parts in
     let threads : c.in-Ok-head.head.threads ≡ parts.threads = ap (λ h. h.threads) c.in-Ok-head.ensures in
-    let cells : c.in-Ok.cells ≡ columns parts.threads body.rows = c.in-Ok.ensures ∙ ap (columns parts.threads) c.as_slice.ensures in
-    let few : height (columns parts.threads body.rows) ≤ 64 = omega (arith, columns-height parts.threads body.rows body.even body.some, body.low) in
-    rw cells (record {
-      well_formed = subst IsWellFormedHead (sym c.in-Ok-head.ensures)
-          (resolved_well_formed c.args.heading.arch c.requires.says.0 c.args.heading.name.now body c.requires.name c.requires.says.1);
+    rw (c.in-Ok.ensures ∙ ap (columns parts.threads) c.as_slice.ensures) (record {
+      well_formed = subst IsWellFormedHead (sym c.in-Ok-head.ensures) (resolved_well_formed
+          c.args.heading.arch _ c.args.heading.name.now body c.requires.name c.requires.says.1);
       columns = columns-length parts.threads body.rows body.even ∙ sym threads;
       even = columns-even parts.threads body.rows body.even body.some;
-      low = few;
+      low = (omega (arith, columns-height parts.threads body.rows body.even body.some, body.low));
       places = columns-each (IsWithin c.args.len) parts.threads body.rows c.requires.within;
     })
-
-pub returns-in-Ok-head-clause-head : goal.returns-in-Ok-head-clause-head
-returns-in-Ok-head-clause-head g c = c.in-Ok-head.ensures
-
-pub returns-in-Ok-head-clause-cells : goal.returns-in-Ok-head-clause-cells
-returns-in-Ok-head-clause-cells g c = c.in-Ok.ensures ∙ ap (columns c.args.self.parts.threads) c.as_slice.ensures
 
 pub columns-made-requires : goal.columns-made-requires
 columns-made-requires g c = rw c.as_slice.ensures c.args.self.even

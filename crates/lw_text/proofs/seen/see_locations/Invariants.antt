@@ -1,0 +1,7 @@
+use Rattle.std.proofs.Common.{◌≡◌, ◌++◌, filter}
+use Rattle.lw_base.specs.SeenLists.{locations}
+use Rattle.lw_text.specs.inner.Resolved.{is_listed}
+use Rattle.lw_text.proofs.seen.see_locations.Given as goal
+
+abbrev pub invariant-loop-loc : goal.invariant-loop-loc
+invariant-loop-loc g l = l.seen ≡ l.fn.seen ++ filter (is_listed l.sites) (locations l.loc-index)

@@ -1,0 +1,8 @@
+use Rattle.std.proofs.Common.{◌≡◌, ◌++◌, map, filter}
+use Rattle.std.specs.List.{range_with_len}
+use Rattle.lw_base.specs.declared.head.Seen.TheVariants.{Register}
+use Rattle.lw_text.specs.inner.Resolved.{is_listed}
+use Rattle.lw_text.proofs.seen.see_registers.Given as goal
+
+abbrev pub invariant-loop-reg : goal.invariant-loop-reg
+invariant-loop-reg g l = l.seen ≡ l.fn.seen ++ filter (is_listed l.sites) (map (λ r. Register l.cpu r) (range_with_len 0 l.reg-index))
