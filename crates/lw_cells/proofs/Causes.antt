@@ -1,23 +1,43 @@
--- What the fault of a token that a reader of statements met is in its statement.
-use Rattle.std.proofs.Common.{◌≡◌, ℕ, Some, List, take, slice_get}
+-- Why what was read is refused: what a cause tells, and what it tells elsewhere.
+use Rattle.std.proofs.Common.{◌≡◌, ℕ, sym, subst, arith}
 use Rattle.lw_base.specs.declared.fault.CellCause.{CellCause}
-use Rattle.lw_base.specs.declared.fault.CellCause.TheVariants.{Form, Register, TooMany}
-use Rattle.lw_text.specs.declared.token.Token.{Token}
-use Rattle.lw_text.specs.Spans.{texts}
-use Rattle.lw_cells.specs.Grammars.{Grammar, BeforeLocation}
-use Rattle.lw_cells.specs.Words.{IsMisfit, NameCause}
-use Rattle.lw_cells.specs.Reading.{StatementCause}
+use Rattle.lw_base.specs.declared.fault.CellCause.TheVariants.{Form, Register, LabelTwice}
+use Rattle.lw_base.specs.declared.fault.CellCause.TheVariants.{TooMany, Memory}
+use Rattle.lw_base.specs.declared.fault.CellFault.{CellFault}
+use Rattle.lw_cells.specs.Words.{IsMisfit, Telling, Refused}
 
-module _ {Syntax Stmt : Type 0} (grammar : Grammar Syntax Stmt) where
-  -- a location is refused at the place where it stands
-  pub statement_cause : (tokens : List Token) (names : List (List ℕ)) (k : ℕ) (t : Token) → slice_get tokens k ≡ Some t
-      → BeforeLocation grammar (texts (take k tokens)) → (at : ℕ) (cause : CellCause) → NameCause names t at cause
-      → StatementCause grammar tokens names at cause
-  statement_cause tokens names k t is before at TooMany c = record { place = k; token = t; is = is; before = before; ninth = c }
-  statement_cause tokens names k t is before at cause c = c
+-- a token that does not fit tells nothing, nor does it that memory ran out
+pub misfit_tells : {no_label second_label backward one_more : Type 0} (cause : CellCause) → IsMisfit cause
+    → Telling no_label second_label backward one_more cause
+misfit_tells Form m = record { missing = λ e. absurd cc; twice = λ e. absurd cc; back = λ e. absurd cc; many = λ e. absurd cc }
+misfit_tells Register m = record { missing = λ e. absurd cc; twice = λ e. absurd cc; back = λ e. absurd cc; many = λ e. absurd cc }
+misfit_tells cause m = absurd m
 
-  -- a token that does not fit, in a statement
-  pub misfit_cause : (tokens : List Token) (names : List (List ℕ)) (at : ℕ) (cause : CellCause) → IsMisfit cause → StatementCause grammar tokens names at cause
-  misfit_cause tokens names at Form m = tt
-  misfit_cause tokens names at Register m = tt
-  misfit_cause tokens names at cause m = absurd m
+pub memory_tells : {no_label second_label backward one_more : Type 0} → Telling no_label second_label backward one_more Memory
+memory_tells = record { missing = λ e. absurd cc; twice = λ e. absurd cc; back = λ e. absurd cc; many = λ e. absurd cc }
+
+pub twice_tells : {no_label second_label backward one_more : Type 0} → second_label → Telling no_label second_label backward one_more LabelTwice
+twice_tells here = record { missing = λ e. absurd cc; twice = λ e. here; back = λ e. absurd cc; many = λ e. absurd cc }
+
+pub many_tells : {no_label second_label backward one_more : Type 0} → one_more → Telling no_label second_label backward one_more TooMany
+many_tells here = record { missing = λ e. absurd cc; twice = λ e. absurd cc; back = λ e. absurd cc; many = λ e. here }
+
+-- what tells of one thing tells of another that follows from it
+pub twice_further : {here no_label there backward one_more : Type 0} {cause : CellCause} → (here → there)
+    → Telling ⊥ here ⊥ ⊥ cause → Telling no_label there backward one_more cause
+twice_further f t =
+    record { missing = λ e. absurd (t.missing e); twice = λ e. f (t.twice e); back = λ e. absurd (t.back e); many = λ e. absurd (t.many e) }
+
+pub many_further : {here no_label second_label backward there : Type 0} {cause : CellCause} → (here → there)
+    → Telling ⊥ ⊥ ⊥ here cause → Telling no_label second_label backward there cause
+many_further f t =
+    record { missing = λ e. absurd (t.missing e); twice = λ e. absurd (t.twice e); back = λ e. absurd (t.back e); many = λ e. f (t.many e) }
+
+-- memory ran out
+pub refused_memory : {unfit : Type 0} {told : ℕ → CellCause → Type 0} {lies : ℕ → Type 0} (f : CellFault)
+    → ((at : ℕ) → told at Memory) → f.cause ≡ Memory → f.at ≡ 0 → Refused unfit told lies f
+refused_memory {unfit} {told} {lies} f tells memory first = record {
+  none = λ known. absurd (known memory);
+  cause = subst (told f.at) (sym memory) (tells f.at);
+  place = λ len within. omega (arith, first);
+}

@@ -1,74 +1,117 @@
 -- Where a cell of a thread is refused, so is the thread.
-use Rattle.std.proofs.Common.{◌≡◌, ℕ, List, [], ◌∷◌, ◌++◌, drop, refl, sym, subst, arith}
+use Rattle.std.proofs.Common.{◌≡◌, ℕ, ◌≤◌, ◌+◌, List, [], ◌∷◌, ◌++◌, drop, length, sym, ap, ◌∙◌}
+use Rattle.std.proofs.Common.{append_assoc, subst, arith}
+use Rattle.std.proofs.lemmas.List.{map-append}
+use Rattle.std.proofs.lemmas.List.Elements.{Contains-append_left}
+use Rattle.lw_base.specs.Limits.{most_locations}
+use Rattle.lw_base.specs.Lists.{EachOnce}
+use Rattle.lw_base.specs.Tables.{with_names}
 use Rattle.lw_base.specs.Types.{NameTable}
-use Rattle.lw_base.specs.declared.fault.CellCause.{CellCause}
 use Rattle.lw_base.specs.declared.fault.CellCause.TheVariants.{Memory}
 use Rattle.lw_base.specs.declared.fault.CellFault.{CellFault}
 use Rattle.lw_text.specs.declared.cell.Cell.{Cell}
-use Rattle.lw_text.specs.declared.token.Token.{Token}
-use Rattle.lw_text.specs.Places.{IsWithin, placed_row, placed_cells}
+use Rattle.lw_text.specs.Places.{IsWithin, cell_texts, cells_texts}
 use Rattle.lw_text.specs.Spans.{texts}
 use Rattle.lw_cells.specs.declared.column.DraftColumn.{DraftColumn}
 use Rattle.lw_cells.specs.declared.phrase.Phrase.{Phrase}
 use Rattle.lw_cells.specs.Grammars.{Grammar, IsGrammar}
-use Rattle.lw_cells.specs.Faults.{TellsBy}
+use Rattle.lw_cells.specs.Cells.{CellSyntax, MaybeStatement, CellSays, statements, labels_of, names_in}
 use Rattle.lw_cells.specs.Words.{LiesWithin}
-use Rattle.lw_cells.specs.Drafts.{LabelMap, ColumnDrafted, leading_in}
-use Rattle.lw_cells.specs.Reading.{LabelsRead, LabelsTaken, LabelsRefused, FitsBelow, MaybeCause}
-use Rattle.lw_cells.specs.Reading.{MaybeRefused, ColumnRefused, ColumnsRefused}
+use Rattle.lw_cells.specs.Drafts.{LabelMap, draft_cell, ColumnDrafted}
+use Rattle.lw_cells.specs.Reading.{LabelsTaken, LabelsRefused, MaybeRefused, ColumnFits, ColumnRefused, bare}
+use Rattle.lw_cells.proofs.Causes.{refused_memory}
+use Rattle.lw_cells.proofs.Drafts.{draft_stays, drafted_knows}
 use Rattle.lw_cells.proofs.Elements.{all_amid}
-use Rattle.lw_cells.proofs.Drafts.{labels_none, statement_none}
-use Rattle.lw_cells.proofs.FaultPlaces.{labels_tell, statement_tells}
+use Rattle.lw_cells.proofs.FaultPlaces.{labels_told, statement_told}
+use Rattle.lw_cells.proofs.FrontLabels.{Labels-whole, Labels-unique}
+use Rattle.lw_cells.proofs.Leads.{labels_of-append, count-append}
+use Rattle.lw_cells.proofs.OneReading.{cell_unique, no_label}
+use Rattle.lw_cells.proofs.ResolvedNames.{names_in-append}
+use Rattle.lw_cells.proofs.TablesRead.{read_same, read_room}
+use Rattle.lw_cells.proofs.api.Zips.{Cut, zip_cut}
+
+once_front : (xs ys : List (List ℕ)) → EachOnce (xs ++ ys) → EachOnce xs
+once_front [] ys h = tt
+once_front (x ∷ xs) ys h = ((λ there. h.0 (Contains-append_left xs ys x there)), once_front xs ys h.1)
 
 module _ {Syntax Stmt : Type 0} (grammar : Grammar Syntax Stmt) where
   -- where memory ran out
-  pub column_out_of_memory : {A : Type 0} (names : NameTable) (cells : List (Cell A)) (f : CellFault) → f.cause ≡ Memory → f.at ≡ 0
-      → ColumnRefused grammar names cells f
-  column_out_of_memory names cells f memory first = record {
-    none = λ known. absurd (known memory);
-    cause = subst (λ (c : CellCause). TellsBy grammar names (placed_row cells ∷ []) f.at c) (sym memory) tt;
-    place = λ len within. omega (arith, first);
-  }
-
-  pub columns_out_of_memory : {A : Type 0} (names : NameTable) (columns : List (List (Cell A))) (f : CellFault) → f.cause ≡ Memory → f.at ≡ 0
-      → ColumnsRefused grammar names columns f
-  columns_out_of_memory names columns f memory first = record {
-    none = λ known. absurd (known memory);
-    cause = subst (λ (c : CellCause). TellsBy grammar names (placed_cells columns) f.at c) (sym memory) tt;
-    place = λ len within. omega (arith, first);
-  }
+  pub column_out_of_memory : {A : Type 0} (names : NameTable) (cells : List (Cell A)) (f : CellFault)
+      → f.cause ≡ Memory → f.at ≡ 0 → ColumnRefused grammar names cells f
+  column_out_of_memory names cells f = refused_memory f (λ at table front rest threads says grown. tt)
 
   module _ (lawful : IsGrammar grammar) {D : Type 0} (draft_of : ℕ → Syntax → D) where
     -- A cell behind those that were read, and before any others.
     module _ {A : Type 0} (front : List (Cell A)) (before mid : NameTable) (column : DraftColumn D A)
-        (drafted : ColumnDrafted grammar draft_of front before column mid) (cell : Cell A) (rest : List (Cell A)) (f : CellFault) where
-      pub labels_refused : LabelsRefused cell.tokens column.labels f → ColumnRefused grammar before (front ++ cell ∷ rest) f
-      labels_refused r =
-          let read = drafted.read in
-          record {
-            none = λ known t (said, few). labels_none grammar draft_of lawful front before mid column.cells column.labels read cell
-                (front ++ cell ∷ rest) rest refl t said few
-                (λ ls m says none once. r.none (leading_in 0 read.syntaxes) read.leads known ls m (says, none, once));
-            cause = labels_tell (front ++ cell ∷ rest) front rest cell refl grammar draft_of before mid column.cells column.labels read f.at f.cause
-                (r.cause (leading_in 0 read.syntaxes) read.leads);
-            place = λ len within. r.place len (all_amid (IsWithin len) front rest cell within).0;
-          }
+        (drafted : ColumnDrafted grammar draft_of front before column mid) (cell : Cell A) (rest : List (Cell A)) where
+      -- what all of them say, and fits, begins with what was read
+      module _ (t : List (CellSyntax Syntax)) (fits : ColumnFits grammar before (cells_texts (front ++ cell ∷ rest)) t) where
+        cut : Cut (CellSays grammar) (cells_texts front) (cell_texts cell) (cells_texts rest) t
+        cut = zip_cut _ _ _ _ t (rw (map-append cell_texts front (cell ∷ rest)) at fits.0.says)
 
-      pub statement_refused : (next : ℕ) (more : LabelMap) → LabelsTaken cell.tokens column.count column.labels next more → (phrase : Phrase)
+        same : cut.above ≡ drafted.read.syntax
+        same = read_same (names_in grammar) (draft_cell grammar draft_of) (names_in-append grammar)
+            (draft_stays grammar draft_of) (CellSays grammar) (cells_texts front) before mid column.cells
+            drafted.read (cell_texts cell) (cell_unique grammar lawful) (cells_texts rest) t cut
+
+        names_fit : length (with_names mid (names_in grammar (cut.here ∷ []))) ≤ most_locations
+        names_fit =
+            let room = read_room _ _ (names_in-append grammar) (draft_stays grammar draft_of) _ _ before mid
+                column.cells drafted.read (cell_texts cell) (cell_unique grammar lawful) _ t cut in
+            omega (arith, room, fits.1)
+
+        count_fits : column.count + length (statements (bare cut.here.stmt ∷ [])) ≤ grammar.language.most
+        count_fits = omega (
+          arith,
+          fits.0.few,
+          ap (λ (ss : List (CellSyntax Syntax)). length (statements ss)) cut.whole,
+          count-append cut.above (cut.here ∷ cut.below),
+          count-append (cut.here ∷ []) cut.below,
+          ap (λ (ss : List (CellSyntax Syntax)). length (statements ss)) same,
+          drafted.counted,
+        )
+
+        once_fits : EachOnce (labels_of drafted.read.syntax ++ cut.here.labels)
+        once_fits =
+            let whole : labels_of t ≡ (labels_of drafted.read.syntax ++ cut.here.labels) ++ labels_of cut.below =
+            ap labels_of cut.whole ∙ labels_of-append cut.above (cut.here ∷ cut.below)
+                ∙ ap (λ ss. labels_of ss ++ (cut.here.labels ++ labels_of cut.below)) same
+                ∙ sym (append_assoc (labels_of drafted.read.syntax) cut.here.labels (labels_of cut.below)) in
+            once_front _ (labels_of cut.below) (subst EachOnce whole fits.0.once)
+
+      pub labels_refused : (f : CellFault) → LabelsRefused cell.tokens column.labels f → ColumnRefused grammar before (front ++ cell ∷ rest) f
+      labels_refused f r = record {
+        none = λ known t fits.
+            let y = cut t fits in
+            r.none known y.here.labels (record {
+              known = labels_of drafted.read.syntax;
+              knows = drafted_knows grammar draft_of front before mid column drafted;
+              rest = y.says.0;
+              says = y.says.1;
+              stops = no_label grammar lawful y.says.0 y.here.stmt y.says.2;
+              once = once_fits t fits;
+            });
+        cause = labels_told grammar front rest cell drafted.read.syntax drafted.read.says f.at f.cause before
+            column.labels (drafted_knows grammar draft_of front before mid column drafted) r.cause;
+        place = λ len within. r.place len (all_amid (IsWithin len) front rest cell within).0;
+      }
+
+      pub statement_refused : (f : CellFault) (next : ℕ) (after : LabelMap) → LabelsTaken cell.tokens column.count column.labels next after → (phrase : Phrase)
           → phrase.tokens.now ≡ drop next cell.tokens → ((len : ℕ) → IsWithin len cell → LiesWithin len phrase)
           → MaybeRefused grammar column.count mid phrase f → ColumnRefused grammar before (front ++ cell ∷ rest) f
-      statement_refused next more taken phrase behind lies r =
-          let read = drafted.read in
-          let labels = subst (λ (k : ℕ). LabelsRead cell.tokens k (leading_in 0 read.syntaxes) next more) drafted.counted
-          (taken.read (leading_in 0 read.syntaxes) read.leads) in
-          let cause = subst (λ (k : ℕ). MaybeCause grammar k (drop next cell.tokens) mid f.at f.cause) drafted.counted
-          (subst (λ (ts : List Token). MaybeCause grammar column.count ts mid f.at f.cause) behind r.cause) in
-          record {
-            none = λ known t (said, few). statement_none grammar draft_of lawful front before mid column.cells column.labels read cell
-                (front ++ cell ∷ rest) rest refl t said few next more labels taken.stops
-                (λ s fits. r.none known s (subst (λ (ts : List Token). FitsBelow grammar column.count mid (texts ts) s) (sym behind)
-                (subst (λ (k : ℕ). FitsBelow grammar k mid (texts (drop next cell.tokens)) s) (sym drafted.counted) fits)));
-            cause = statement_tells (front ++ cell ∷ rest) front rest cell refl grammar draft_of before mid column.cells column.labels read
-                next more labels taken.stops f.at f.cause cause;
-            place = λ len within. r.place len (lies len (all_amid (IsWithin len) front rest cell within));
-          }
+      statement_refused f next after taken phrase behind lies r = record {
+        none = λ known t fits.
+            let y = cut t fits in
+            let stops = no_label grammar lawful y.says.0 y.here.stmt y.says.2 in
+            let one = Labels-unique (cell_texts cell) y.says.0 _ y.here.labels taken.read.names y.says.1
+                (Labels-whole cell.tokens next taken.read.names taken.read.says) stops taken.stops in
+            let rest_is : y.says.0 ≡ texts phrase.tokens.now = one.1 ∙ ap texts (sym behind) in
+            r.none known y.here.stmt (record {
+              says = subst (λ u. MaybeStatement grammar u y.here.stmt) rest_is y.says.2;
+              few = count_fits t fits;
+              room = names_fit t fits;
+            });
+        cause = statement_told _ front rest cell _ drafted.read.says f.at _ before mid drafted.read.names
+            column.labels after next (rw drafted.counted at taken) (rw (drafted.counted, behind) at r.cause);
+        place = λ len within. r.place len (lies len (all_amid (IsWithin len) front rest cell within));
+      }

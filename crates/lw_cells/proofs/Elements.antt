@@ -10,7 +10,7 @@ pub all_at : {X : Type 0} (P : X → Type 0) (xs : List X) (k : ℕ) (x : X) →
 all_at P xs k x is all = subst P (get_or_from_slice_get xs k x x is) (all k x (slice_get_within xs k x is))
 
 pub all_amid : {X : Type 0} (P : X → Type 0) (front rest : List X) (x : X) → All P (front ++ x ∷ rest) → P x
-all_amid P front rest x all = all_at P (front ++ x ∷ rest) (length front) x (get_seam front x rest (length front) refl) all
+all_amid P front rest x all = all_at P _ (length front) x (get_seam front x rest (length front) refl) all
 
 -- the item that a loop has come to
 pub item_at : {X : Type 0} (xs : List X) (k : ℕ) (x : X) → k < length xs → x ≡ get_or xs k x → slice_get xs k ≡ Some x
@@ -29,19 +29,7 @@ pub all_joined : {X : Type 0} (P : X → Type 0) (o : Option X) (xs : List X) �
 all_joined P None xs here all = all
 all_joined P (Some x) xs here all = (here x refl, all)
 
-pub all_apart : {X : Type 0} (P : X → Type 0) (o : Option X) (xs : List X) → AllByRecursion P (cons_option o xs) → ForSome o P × AllByRecursion P xs
-all_apart P None xs all = (λ x is. absurd cc, all)
-all_apart P (Some y) xs all = (λ x is. (let same : y ≡ x = cc in subst P same all.0), all.1)
-
 -- what may be mapped
-pub mapped_alike : {X Y : Type 0} (f g : X → Y) (o : Option X) → ForSome o (λ x. f x ≡ g x) → option_map f o ≡ option_map g o
-mapped_alike f g None same = refl
-mapped_alike f g (Some x) same = ap Some (same x refl)
-
 pub mapped_some : {X Y : Type 0} (f : X → Y) (o : Option X) (y : Y) → Some y ≡ option_map f o → (x : X) × (o ≡ Some x) × (y ≡ f x)
 mapped_some f None y e = absurd cc
 mapped_some f (Some x) y e = (x, refl, cc)
-
-pub mapped_none : {X Y : Type 0} (f : X → Y) (o : Option X) → None ≡ option_map f o → o ≡ None
-mapped_none f None e = refl
-mapped_none f (Some x) e = absurd cc

@@ -1,5 +1,5 @@
 -- What a function owes where it returns early by `?`, in a clause for both cases.
-use Rattle.std.proofs.Common.{◌≡◌, ◌⊎◌, inl, inr, ℕ, ◌≤◌, sym, subst, arith, Result, Ok, Err, IsErrAnd}
+use Rattle.std.proofs.Common.{◌≡◌, ◌⊎◌, inl, inr, sym, subst, Result, Ok, Err, IsErrAnd}
 use Rattle.std.proofs.Common.{MatchResult}
 use Rattle.std.proofs.lemmas.Result.{MatchResult-at_ok, MatchResult-at_err}
 use Rattle.lw_base.specs.declared.fault.CellCause.TheVariants.{Memory}
@@ -25,13 +25,9 @@ pub handed_on : {T U : Type 0} (P : T → Type 0) (Q : CellFault → Type 0) (R 
 handed_on {T} P Q R S part first next (Ok u) h made put refused =
     let m = MatchResult-at_ok (λ t. R × (first ≡ Ok t)) (λ f. (first ≡ Err f) ⊎ ((f.at ≡ 0) × (f.cause ≡ Memory))) (part u) put.1 made in
     (put.0, m.0, MatchResult-at_ok P Q (part u) m.1 h)
-handed_on {T} P Q R S part first next (Err f) h made put refused = go
-    (MatchResult-at_err (λ t. R × (first ≡ Ok t)) (λ f. (first ≡ Err f) ⊎ ((f.at ≡ 0) × (f.cause ≡ Memory))) f put made)
+handed_on {T} P Q R S part first next (Err f) h made put refused = go (MatchResult-at_err (λ t. R
+    × (first ≡ Ok t)) (λ f. (first ≡ Err f) ⊎ ((f.at ≡ 0) × (f.cause ≡ Memory))) f put made)
   where
     go : (first ≡ Err f) ⊎ ((f.at ≡ 0) × (f.cause ≡ Memory)) → Q f
     go (inl same) = MatchResult-at_err P Q f same h
     go (inr memory) = refused f memory.1 memory.0
-
--- The place is that of something that lies within the text.
-pub place_within : (at place len : ℕ) → at ≡ place → place ≤ len → at ≤ len
-place_within at place len same within = omega (arith, same, within)

@@ -1,97 +1,101 @@
 -- Where the labels of a thread lead.
-use Rattle.std.proofs.Common.{◌≡◌, ℕ, ◌≤◌, ◌+◌, Bool, true, false, Some, None, List, [], ◌∷◌, ◌++◌, length}
-use Rattle.std.proofs.Common.{length-append, refl, sym, ap, ◌∙◌, subst, arith, Contains, if◌then◌else◌}
-use Rattle.std.proofs.Common.{append-nil, append_assoc, bytes_eq}
-use Rattle.std.proofs.lemmas.List.{map-append}
+use Rattle.std.proofs.Common.{◌≡◌, ℕ, ◌≤◌, ◌+◌, Bool, true, false, true≢false, ◌||◌, Option, Some, None, List, []}
+use Rattle.std.proofs.Common.{◌∷◌, ◌++◌, length, length-append, refl, sym, ap, ◌∙◌, arith, Contains, is_some}
+use Rattle.std.proofs.Common.{if◌then◌else◌, bytes_eq}
+use Rattle.std.specs.Option.{option_or}
+use Rattle.std.proofs.lemmas.Bool.{false_from_ne_true}
 use Rattle.std.proofs.lemmas.Grind.{flat_map-append}
 use Rattle.std.proofs.lemmas.List.Elements.{filter_map-append}
+use Rattle.std.proofs.lemmas.List.Folds.{list_any-append}
+use Rattle.lw_base.specs.Lists.{EachOnce}
 use Rattle.lw_base.specs.Tables.{contains_name}
+use Rattle.lw_base.specs.Types.{Bytes}
+use Rattle.lw_base.proofs.api.Tables.{contains_name-Contains}
 use Rattle.lw_cells.specs.Cells.{CellSyntax, statements, labels_of, target_in}
-use Rattle.lw_cells.specs.Drafts.{leading, leading_in, leads_to, first_names}
-use Rattle.lw_cells.proofs.FrontLabels.{leads_contains, leads_not, first_names-leading}
-
--- where a name leads behind labels that lead to one statement
-leads_to-append : (ls : List (List ℕ)) (k : ℕ) (ps : List (List ℕ × ℕ)) (n : List ℕ)
-    → leads_to (leading k ls ++ ps) n ≡ (if contains_name ls n then Some k else leads_to ps n)
-leads_to-append [] k ps n = refl
-leads_to-append (l ∷ ls) k ps n = go (bytes_eq l n) refl (leads_to-append ls k ps n)
-  where
-    go : (b : Bool) → bytes_eq l n ≡ b → leads_to (leading k ls ++ ps) n ≡ (if contains_name ls n then Some k else leads_to ps n)
-        → leads_to (leading k (l ∷ ls) ++ ps) n ≡ (if contains_name (l ∷ ls) n then Some k else leads_to ps n)
-    go true e further = rw e refl
-    go false e further = rw e further
+use Rattle.lw_cells.specs.Drafts.{leads_in}
+use Rattle.lw_cells.proofs.FrontLabels.{name_contained, once_apart}
 
 module _ {Syntax : Type 0} where
-  -- as many statements
-  pub count_of : CellSyntax Syntax → ℕ
-  count_of syntax = length (statements (syntax ∷ []))
-
   pub statements-append : (xs ys : List (CellSyntax Syntax)) → statements (xs ++ ys) ≡ statements xs ++ statements ys
   statements-append xs ys = filter_map-append (λ (syntax : CellSyntax Syntax). syntax.stmt) xs ys
 
   pub labels_of-append : (xs ys : List (CellSyntax Syntax)) → labels_of (xs ++ ys) ≡ labels_of xs ++ labels_of ys
   labels_of-append xs ys = flat_map-append (λ (syntax : CellSyntax Syntax). syntax.labels) xs ys
 
-  pub statements-cons : (syntax : CellSyntax Syntax) (syntaxes : List (CellSyntax Syntax))
-      → length (statements (syntax ∷ syntaxes)) ≡ length (statements (syntax ∷ [])) + length (statements syntaxes)
-  statements-cons syntax syntaxes = ap length (statements-append (syntax ∷ []) syntaxes) ∙ length-append (statements (syntax ∷ [])) (statements syntaxes)
+  -- as many statements as both have
+  pub count-append : (xs ys : List (CellSyntax Syntax)) → length (statements (xs ++ ys)) ≡ length (statements xs) + length (statements ys)
+  count-append xs ys = ap length (statements-append xs ys) ∙ length-append (statements xs) (statements ys)
 
   -- where a name leads is where it leads in the cells
-  pub leads_as : (syntaxes : List (CellSyntax Syntax)) (k : ℕ) (n : List ℕ) (to : ℕ) → leads_to (leading_in k syntaxes) n ≡ Some to
-      → to ≡ k + target_in syntaxes n
+  leads_as : (syntaxes : List (CellSyntax Syntax)) (k : ℕ) (n : Bytes) (to : ℕ) → leads_in k syntaxes n ≡ Some to → to ≡ k + target_in syntaxes n
   leads_as [] k n to e = absurd cc
   leads_as (syntax ∷ syntaxes) k n to e = go (contains_name syntax.labels n) refl (leads_as syntaxes (k + length (statements (syntax ∷ []))) n to)
     where
-      both : leads_to (leading_in k (syntax ∷ syntaxes)) n ≡ (if contains_name syntax.labels n then Some k else leads_to
-          (leading_in (k + length (statements (syntax ∷ []))) syntaxes) n)
-      both = leads_to-append syntax.labels k (leading_in (k + length (statements (syntax ∷ []))) syntaxes) n
-
-      go : (b : Bool) → contains_name syntax.labels n ≡ b → (leads_to (leading_in (k + length (statements (syntax ∷ []))) syntaxes) n ≡ Some to
+      go : (b : Bool) → contains_name syntax.labels n ≡ b → (leads_in (k + length (statements (syntax ∷ []))) syntaxes n ≡ Some to
           → to ≡ (k + length (statements (syntax ∷ []))) + target_in syntaxes n) → to ≡ k + target_in (syntax ∷ syntaxes) n
-      go true f further =
-          let g : Some k ≡ Some to = rw f at (sym both ∙ e) in
-          let h : k ≡ to = cc in
-          rw f (omega (arith, h))
-      go false f further =
-          let g : leads_to (leading_in (k + length (statements (syntax ∷ []))) syntaxes) n ≡ Some to = rw f at (sym both ∙ e) in
-          rw f (omega (arith, further g))
+      go true f further = let g : Some k ≡ Some to = rw f at e in let h : k ≡ to = cc in rw f (omega (arith, h))
+      go false f further = let h = further (rw f at e) in rw f (omega (arith, h))
 
-  pub first_names_in : (syntaxes : List (CellSyntax Syntax)) (k : ℕ) → first_names (leading_in k syntaxes) ≡ labels_of syntaxes
-  first_names_in [] k = refl
-  first_names_in (syntax ∷ syntaxes) k =
-      map-append (λ p. p.0) (leading k syntax.labels) (leading_in (k + length (statements (syntax ∷ []))) syntaxes)
-      ∙ ap (λ (ns : List (List ℕ)). ns ++ first_names (leading_in (k + length (statements (syntax ∷ []))) syntaxes)) (first_names-leading k syntax.labels)
-      ∙ ap (λ (ns : List (List ℕ)). syntax.labels ++ ns) (first_names_in syntaxes (k + length (statements (syntax ∷ []))))
+  -- the names that lead somewhere are the labels
+  pub leads_known : (syntaxes : List (CellSyntax Syntax)) (k : ℕ) (n : Bytes) → is_some (leads_in k syntaxes n) ≡ contains_name (labels_of syntaxes) n
+  leads_known [] k n = refl
+  leads_known (syntax ∷ syntaxes) k n =
+      go (contains_name syntax.labels n) (leads_known syntaxes (k + length (statements (syntax ∷ []))) n)
+      ∙ sym (list_any-append (λ m. bytes_eq m n) syntax.labels (labels_of syntaxes))
+    where
+      go : (b : Bool) → is_some (leads_in (k + length (statements (syntax ∷ []))) syntaxes n) ≡ contains_name (labels_of syntaxes) n
+          → is_some (if b then Some k else leads_in (k + length (statements (syntax ∷ []))) syntaxes n) ≡ (b || contains_name (labels_of syntaxes) n)
+      go true further = refl
+      go false further = further
 
-  pub leads_in : (syntaxes : List (CellSyntax Syntax)) (n : List ℕ) (to : ℕ) → leads_to (leading_in 0 syntaxes) n ≡ Some to
+  pub leads_there : (syntaxes : List (CellSyntax Syntax)) (n : Bytes) (to : ℕ) → leads_in 0 syntaxes n ≡ Some to
       → Contains (labels_of syntaxes) n × (to ≡ target_in syntaxes n)
-  leads_in syntaxes n to e = (
-    subst (λ (ns : List (List ℕ)). Contains ns n) (first_names_in syntaxes 0) (leads_contains (leading_in 0 syntaxes) n to e),
-    omega
-        (arith, leads_as syntaxes 0 n to e),
-  )
+  leads_there syntaxes n to e =
+      (name_contained (labels_of syntaxes) n (sym (leads_known syntaxes 0 n) ∙ ap is_some e), omega (arith, leads_as syntaxes 0 n to e))
 
-  pub leads_nowhere : (syntaxes : List (CellSyntax Syntax)) (n : List ℕ) → leads_to (leading_in 0 syntaxes) n ≡ None → Contains (labels_of syntaxes) n → ⊥
-  leads_nowhere syntaxes n e there = leads_not (leading_in 0 syntaxes) n e
-      (subst (λ (ns : List (List ℕ)). Contains ns n) (sym (first_names_in syntaxes 0)) there)
+  pub leads_nowhere : (syntaxes : List (CellSyntax Syntax)) (n : Bytes) → leads_in 0 syntaxes n ≡ None → Contains (labels_of syntaxes) n → ⊥
+  leads_nowhere syntaxes n e there =
+      true≢false (sym (contains_name-Contains (labels_of syntaxes) n there) ∙ sym (leads_known syntaxes 0 n) ∙ ap is_some e)
 
   -- no label leads past the end
-  pub target_within : (syntaxes : List (CellSyntax Syntax)) (n : List ℕ) → target_in syntaxes n ≤ length (statements syntaxes)
+  pub target_within : (syntaxes : List (CellSyntax Syntax)) (n : Bytes) → target_in syntaxes n ≤ length (statements syntaxes)
   target_within [] n = omega arith
   target_within (syntax ∷ syntaxes) n = go (contains_name syntax.labels n) refl (target_within syntaxes n)
     where
       go : (b : Bool) → contains_name syntax.labels n ≡ b → target_in syntaxes n ≤ length (statements syntaxes)
           → target_in (syntax ∷ syntaxes) n ≤ length (statements (syntax ∷ syntaxes))
       go true e further = rw e (omega arith)
-      go false e further = rw e (omega (arith, further, statements-cons syntax syntaxes))
+      go false e further = rw e (omega (arith, further, count-append (syntax ∷ []) syntaxes))
 
-  -- the labels of one line more
-  pub leading_in-append : (xs : List (CellSyntax Syntax)) (k : ℕ) (syntax : CellSyntax Syntax)
-      → leading_in k (xs ++ syntax ∷ []) ≡ leading_in k xs ++ leading (k + length (statements xs)) syntax.labels
-  leading_in-append [] k syntax = append-nil (leading k syntax.labels) ∙ ap (λ (n : ℕ). leading n syntax.labels) (let e : k ≡ k + 0 = omega arith in e)
-  leading_in-append (x ∷ xs) k syntax =
-      let c = length (statements (x ∷ [])) in
-      let e : (k + c) + length (statements xs) ≡ k + length (statements (x ∷ xs)) = omega (arith, statements-cons x xs) in
-      ap (λ (ps : List (List ℕ × ℕ)). leading k x.labels ++ ps) (leading_in-append xs (k + c) syntax) ∙ sym
-      (append_assoc (leading k x.labels) (leading_in (k + c) xs) (leading ((k + c) + length (statements xs)) syntax.labels))
-      ∙ ap (λ (n : ℕ). (leading k x.labels ++ leading_in (k + c) xs) ++ leading n syntax.labels) e
+  -- the labels of one cell more
+  module _ (syntax : CellSyntax Syntax) (n : Bytes) where
+    abbrev last : ℕ → Option ℕ
+    last to = if contains_name syntax.labels n then Some to else None
+
+    leads_further : (xs : List (CellSyntax Syntax)) (k : ℕ)
+        → leads_in k (xs ++ syntax ∷ []) n ≡ option_or (leads_in k xs n) (last (k + length (statements xs)))
+    leads_further [] k = let e : k ≡ k + 0 = omega arith in ap last e
+    leads_further (x ∷ xs) k = go (contains_name x.labels n) (leads_further xs (k + length (statements (x ∷ []))))
+      where
+        go : (b : Bool) → leads_in (k + length (statements (x ∷ []))) (xs ++ syntax ∷ []) n ≡ option_or (leads_in (k + length (statements (x ∷ []))) xs n)
+            (last ((k + length (statements (x ∷ []))) + length (statements xs)))
+            → (if b then Some k else leads_in (k + length (statements (x ∷ []))) (xs ++ syntax ∷ []) n)
+            ≡ option_or (if b then Some k else leads_in (k + length (statements (x ∷ []))) xs n) (last (k + length (statements (x ∷ xs))))
+        go true further = refl
+        go false further =
+            let e : (k + length (statements (x ∷ []))) + length (statements xs) ≡ k + length (statements (x ∷ xs)) =
+            omega (arith, count-append (x ∷ []) xs) in
+            further ∙ ap (λ (to : ℕ). option_or (leads_in (k + length (statements (x ∷ []))) xs n) (last to)) e
+
+    pub leads_more : (xs : List (CellSyntax Syntax)) → EachOnce (labels_of xs ++ syntax.labels)
+        → leads_in 0 (xs ++ syntax ∷ []) n ≡ (if contains_name syntax.labels n then Some (length (statements xs)) else leads_in 0 xs n)
+    leads_more xs once = leads_further xs 0 ∙ pick (leads_in 0 xs n) (contains_name syntax.labels n)
+        (λ here. leads_known xs 0 n ∙ false_from_ne_true (contains_name (labels_of xs) n) (λ there.
+        once_apart (labels_of xs) syntax.labels n once (name_contained (labels_of xs) n there) (name_contained syntax.labels n here)))
+      where
+        pick : (o : Option ℕ) (b : Bool) → (b ≡ true → is_some o ≡ false)
+            → option_or o (if b then Some (0 + length (statements xs)) else None) ≡ (if b then Some (length (statements xs)) else o)
+        pick None true new = let e : 0 + length (statements xs) ≡ length (statements xs) = omega arith in ap Some e
+        pick (Some k) true new = absurd (let e : true ≡ false = new refl in cc)
+        pick None false new = refl
+        pick (Some k) false new = refl

@@ -1,6 +1,5 @@
 pub mod api
 pub mod FrontLabels
-pub mod NewNames
 pub mod Leads
 pub mod OneReading
 pub mod ResolvedNames
@@ -8,6 +7,7 @@ pub mod FaultPlaces
 pub mod Causes
 pub mod Drafts
 pub mod Elements
+pub mod TablesRead
 pub mod Exits
 pub mod CellsRefused
 pub mod Slots
@@ -16,5 +16,4 @@ pub mod Beginnings
 pub mod StatementsRead
 pub mod JumpsResolved
 pub mod Resolved
-pub mod ColumnsRead
 pub mod Threads

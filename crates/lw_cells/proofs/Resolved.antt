@@ -1,285 +1,281 @@
 -- Resolving the jumps of a thread, one cell further.
 use Rattle.std.proofs.Common.{◌≡◌, ℕ, suc, ◌<◌, ◌≤◌, ◌+◌, ◌*◌, Option, Some, None, List, [], ◌∷◌, ◌++◌}
-use Rattle.std.proofs.Common.{length, map, take, drop, get_or, refl, sym, ap, ◌∙◌, subst, arith, ◌⊎◌, inl}
-use Rattle.std.proofs.Common.{inr, slice_get, All, Contains, option_map, append-nil, append_assoc}
+use Rattle.std.proofs.Common.{length, length-take, get_or, map, take, drop, refl, sym, ap, ◌∙◌, subst, arith, ◌⊎◌, inl, inr}
+use Rattle.std.proofs.Common.{slice_get, All, Contains, IfSome, MatchOption, option_map, append-nil, append_assoc}
 use Rattle.std.proofs.Common.{take-append-drop}
 use Rattle.std.specs.List.{AllZip, cons_option}
-use Rattle.std.proofs.lemmas.Option.{slice_get-map}
-use Rattle.std.proofs.lemmas.List.{map-append, length-map, take-map, drop-map}
+use Rattle.std.proofs.lemmas.Option.{slice_get-map, same_Some}
+use Rattle.std.proofs.lemmas.List.{map-append, length-map, drop-map}
 use Rattle.lw_base.specs.declared.fault.CellCause.{CellCause}
-use Rattle.lw_base.specs.declared.fault.CellFault.{CellFault}
 use Rattle.lw_base.specs.declared.fault.CellCause.TheVariants.{LabelMissing, Backward}
+use Rattle.lw_base.specs.declared.fault.CellFault.{CellFault}
+use Rattle.lw_base.specs.Types.{Bytes, NameTable, TokenList}
+use Rattle.lw_base.proofs.api.Lists.{get_append, get_seam}
 use Rattle.lw_text.specs.declared.cell.Cell.{Cell}
 use Rattle.lw_text.specs.declared.token.Token.{Token}
 use Rattle.lw_text.specs.Spans.{texts}
-use Rattle.lw_text.specs.PlacedTokens.{texts_of_tokens}
-use Rattle.lw_text.specs.PlacedCells.{texts_of_cells}
-use Rattle.lw_text.specs.Places.{cell_texts, cells_texts, placed_tokens, placed_row, IsWithin}
+use Rattle.lw_text.specs.Places.{cell_texts, cells_texts, placed_row, IsWithin}
 use Rattle.lw_text.proofs.api.Places.{texts_placed, cells_placed}
+use Rattle.lw_cells.specs.declared.column.DraftColumn.{DraftColumn}
+use Rattle.lw_cells.specs.declared.draft.Draft.{Draft}
 use Rattle.lw_cells.specs.declared.draft.DraftCell.{DraftCell}
-use Rattle.lw_cells.specs.Grammars.{Grammar, IsGrammar}
+use Rattle.lw_cells.specs.declared.draft.Operands.{Operands}
+use Rattle.lw_cells.specs.Grammars.{Grammar}
 use Rattle.lw_cells.specs.Cells.{CellSyntax, MaybeStatement, CellSays, statements, labels_of, target_in}
-use Rattle.lw_cells.specs.Cells.{resolved_statement, code_in, LeadsForward}
-use Rattle.lw_cells.specs.Faults.{Standing, IsJumpLabel, TellsBy}
-use Rattle.lw_cells.specs.Drafts.{draft_in, draft_cell, DraftRead, IsCellDraft, LabelMap}
-use Rattle.lw_cells.specs.Reading.{IsDraft, JumpRefused, JumpFault, IsUnresolved, IsCellResolved, AllForward}
-use Rattle.lw_cells.specs.Reading.{ColumnRefused}
-use Rattle.lw_cells.proofs.FrontLabels.{labels_rest}
-use Rattle.lw_cells.proofs.Leads.{statements-append, leads_in, leads_nowhere}
-use Rattle.lw_base.proofs.api.Lists.{cut_at, get_some, take_one, take_whole, get_append, get_seam}
-use Rattle.lw_cells.proofs.api.Zips.{zip_length, zip_at, zip_take, zip_drop}
-use Rattle.lw_cells.proofs.FaultPlaces.{standing}
-use Rattle.lw_cells.proofs.Elements.{all_at, all_amid, item_at, mapped_some, mapped_none}
+use Rattle.lw_cells.specs.Cells.{resolved_statement, LeadsForward}
+use Rattle.lw_cells.specs.Faults.{Standing, IsJumpLabel, IsBackward}
+use Rattle.lw_cells.specs.Drafts.{draft_in, draft_cell, target_by, ColumnDrafted}
+use Rattle.lw_cells.specs.Reading.{JumpCause, IsResolvable, IsCellResolved, IsUnresolved, AllForward}
+use Rattle.lw_cells.specs.Reading.{ColumnRead, ColumnTold, ColumnRefused, IsResolved}
+use Rattle.lw_cells.specs.Found.{draft_of, IsSpelling}
+use Rattle.lw_cells.specs.Spellings.{Spelling, Said, grammar_of}
 use Rattle.lw_cells.proofs.CellsRefused.{column_out_of_memory}
-use Rattle.lw_cells.proofs.ColumnsRead.{column_none}
-use Rattle.lw_cells.proofs.JumpsResolved.{not_forward}
+use Rattle.lw_cells.proofs.Elements.{all_amid, cut_there, item_at, mapped_some, take_further}
+use Rattle.lw_cells.proofs.FaultPlaces.{standing, tells_by}
+use Rattle.lw_cells.proofs.FrontLabels.{labels_rest}
+use Rattle.lw_cells.proofs.JumpsResolved.{label_last, is_resolvable, is_resolved}
+use Rattle.lw_cells.proofs.Leads.{statements-append, leads_there, leads_nowhere}
+use Rattle.lw_cells.proofs.OneReading.{cell_unique}
+use Rattle.lw_cells.proofs.api.Forms.{is_grammar}
+use Rattle.lw_cells.proofs.api.Zips.{Cut, zip_unique, zip_more, zip_length, zip_cut}
 
-module _ {Syntax Stmt : Type 0} (grammar : Grammar Syntax Stmt) where
-  -- The statements of so many cells are resolved.
-  pub record Resolved (names : List (List ℕ)) (syntaxes : List (CellSyntax Syntax)) (row : ℕ) (code : List Stmt) : Type 0 where
-    pub made : code ≡ map (resolved_statement grammar names syntaxes) (statements (take row syntaxes))
-    pub ahead : (k : ℕ) (s : Syntax) → slice_get (statements (take row syntaxes)) k ≡ Some s → LeadsForward grammar syntaxes k s
+module _ {W Form Stmt : Type 0} (spelling : Spelling W Form Stmt) where
+  abbrev grammar : Grammar (Said spelling) Stmt
+  grammar = grammar_of spelling
 
-  pub resolved_none : (names : List (List ℕ)) (syntaxes : List (CellSyntax Syntax)) → Resolved names syntaxes 0 []
-  resolved_none names syntaxes = record { made = refl; ahead = λ k s e. absurd cc }
+  abbrev drafting : ℕ → Said spelling → Draft Form
+  drafting = draft_of spelling
 
-  module _ {D : Type 0} (draft_of : ℕ → Syntax → D) where
-    -- A cell that was drafted.
-    module _ {A : Type 0} (names : List (List ℕ)) (cell : Cell A) (draft : DraftCell D) (syntax : CellSyntax Syntax)
-        (drafted : IsCellDraft grammar draft_of names cell draft syntax) where
-      -- what stands behind so many tokens is the statement
-      behind_labels : (draft.start ≤ length cell.tokens) × (texts (drop draft.start cell.tokens) ≡ drafted.says.0)
-      behind_labels =
-          let start : draft.start ≡ 2 * length syntax.labels = ap (λ (c : DraftCell D). c.start) drafted.made in
-          let rest = labels_rest (texts cell.tokens) syntax.labels drafted.says.0 drafted.says.1 in (
-            omega (arith, start, rest.0, length-map cell.tokens (λ (t : Token). t.text.now)),
-            sym
-                (drop-map (λ (t : Token). t.text.now) draft.start cell.tokens) ∙ ap (λ (n : ℕ). drop n (texts cell.tokens)) start ∙ rest.1,
+  abbrev CellSaid : Type 0
+  CellSaid = CellSyntax (Said spelling)
+
+  abbrev Says : TokenList → CellSaid → Type 0
+  Says = CellSays grammar
+
+  -- The statements of some cells, which say this, are resolved.
+  pub record Resolved {A : Type 0} (names : NameTable) (syntaxes : List CellSaid) (front : List (Cell A)) (code : List Stmt) : Type 0 where
+    pub above : List CellSaid
+    pub says : AllZip Says (cells_texts front) above
+    pub made : code ≡ map (resolved_statement grammar names syntaxes) (statements above)
+    pub ahead : (k : ℕ) (s : Said spelling) → slice_get (statements above) k ≡ Some s → LeadsForward grammar syntaxes k s
+
+  pub resolved_none : {A : Type 0} (names : NameTable) (syntaxes : List CellSaid) → Resolved {A = A} names syntaxes [] []
+  resolved_none names syntaxes = record { above = []; says = tt; made = refl; ahead = λ k s e. absurd cc }
+
+  module _ (made : Form → Operands → Option Stmt) (lawful : IsSpelling spelling made) {A : Type 0} (cells : List (Cell A)) (before after : NameTable)
+      (column : DraftColumn (Draft Form) A) (drafted : ColumnDrafted grammar drafting cells before column after) where
+    abbrev syntaxes : List CellSaid
+    syntaxes = drafted.read.syntax
+
+    abbrev resolve : Said spelling → Stmt
+    resolve = resolved_statement grammar after syntaxes
+
+    one : (cell : TokenList) (x y : CellSaid) → Says cell x → Says cell y → x ≡ y
+    one = cell_unique grammar (is_grammar spelling made lawful)
+
+    pub as_many_rows : length column.cells ≡ length cells
+    as_many_rows =
+        ap length drafted.read.made ∙ length-map syntaxes (draft_cell grammar drafting after)
+        ∙ sym (zip_length Says (cells_texts cells) syntaxes drafted.read.says) ∙ length-map cells cell_texts
+
+    -- all are resolved
+    pub column_found : (code : List Stmt) → Resolved after syntaxes cells code → ColumnRead grammar (cells_texts cells) before code after
+    column_found code r =
+        let same = zip_unique Says one (cells_texts cells) r.above syntaxes r.says drafted.read.says in
+        record {
+          syntax = syntaxes;
+          says = record {
+            says = drafted.read.says;
+            few = drafted.few;
+            once = drafted.once;
+            forward = subst (λ (ys : List CellSaid). (k : ℕ) (s : Said spelling) → slice_get (statements ys) k ≡ Some s
+                → LeadsForward grammar syntaxes k s) same r.ahead;
+          };
+          names = drafted.read.names;
+          made = r.made ∙ ap (λ (ys : List CellSaid). map resolve (statements ys)) same;
+        }
+
+    -- A cell and its draft, behind those whose statements are resolved.
+    module _ (row : ℕ) (cell : Cell A) (within : row < length cells) (at_row : cell ≡ get_or cells row cell) (d : DraftCell (Draft Form))
+        (drafted_at : d ≡ get_or column.cells row d) where
+      abbrev front : List (Cell A)
+      front = take row cells
+
+      abbrev rest : List (Cell A)
+      rest = drop (suc row) cells
+
+      whole : cells ≡ front ++ cell ∷ rest
+      whole = cut_there cells row cell within at_row
+
+      cut : Cut Says (cells_texts front) (cell_texts cell) (cells_texts rest) syntaxes
+      cut = zip_cut Says (cells_texts front) (cell_texts cell) (cells_texts rest) syntaxes
+          (subst (λ cs. AllZip Says cs syntaxes)
+          (ap cells_texts whole ∙ map-append cell_texts front (cell ∷ rest)) drafted.read.says)
+
+      is_draft : d ≡ draft_cell grammar drafting after cut.here
+      is_draft =
+          let long : row ≡ length cut.above =
+          omega (arith, length-take row cells, length-map front cell_texts, zip_length Says (cells_texts front) cut.above cut.above_says) in
+          let is : slice_get column.cells row ≡ Some d = item_at column.cells row d (omega (arith, within, as_many_rows)) drafted_at in
+          let draft = draft_cell grammar drafting after in
+          same_Some _ _ (sym is ∙ ap (λ (ds : List (DraftCell (Draft Form))). slice_get ds row) drafted.read.made
+          ∙ slice_get-map draft syntaxes row ∙ ap (option_map draft)
+          (ap (λ (ys : List CellSaid). slice_get ys row) cut.whole ∙ get_seam cut.above cut.here cut.below row long))
+
+      -- what stands behind the labels is the statement
+      abbrev tail : List Token
+      tail = drop d.start cell.tokens
+
+      behind : (d.start ≤ length cell.tokens) × MaybeStatement grammar (texts tail) cut.here.stmt
+      behind =
+          let start : d.start ≡ 2 * length cut.here.labels = ap (λ (c : DraftCell (Draft Form)). c.start) is_draft in
+          let r = labels_rest (texts cell.tokens) cut.here.labels cut.says.0 cut.says.1 in (
+            omega (arith, start, r.0, length-map cell.tokens (λ (t : Token). t.text.now)),
+            subst (λ (ts : TokenList). MaybeStatement grammar ts cut.here.stmt)
+                (sym r.1 ∙ ap (λ (n : ℕ). drop n (texts cell.tokens)) (sym start) ∙ drop-map (λ (t : Token). t.text.now) d.start cell.tokens) cut.says.2,
           )
 
-      pub start_within : draft.start ≤ length cell.tokens
-      start_within = behind_labels.0
+      pub start_within : d.start ≤ length cell.tokens
+      start_within = behind.0
 
-      drafted_as : (o : Option D) → draft.stmt ≡ o → o ≡ option_map (draft_in grammar draft_of names) syntax.stmt
-      drafted_as o is = sym is ∙ ap (λ (c : DraftCell D). c.stmt) drafted.made
+      drafted_as : d.stmt ≡ option_map (draft_in grammar drafting after) cut.here.stmt
+      drafted_as = ap (λ (c : DraftCell (Draft Form)). c.stmt) is_draft
 
-      -- the statement of a draft
-      pub statement_of : (stmt : D) → draft.stmt ≡ Some stmt
-          → (s : Syntax) × (syntax.stmt ≡ Some s) × IsDraft grammar draft_of names (texts (drop draft.start cell.tokens)) stmt s
-      statement_of stmt is =
-          let m = mapped_some (draft_in grammar draft_of names) syntax.stmt stmt (drafted_as (Some stmt) is) in
-          let says : grammar.says drafted.says.0 m.0 = subst (MaybeStatement grammar drafted.says.0) m.1 drafted.says.2 in
-          (m.0, m.1, record { says = subst (λ (ts : List (List ℕ)). grammar.says ts m.0) (sym behind_labels.1) says; made = m.2 })
+      pub resolvable : IfSome d.stmt (IsResolvable made tail)
+      resolvable = rw drafted_as (go cut.here.stmt behind.1)
+        where
+          go : (o : Option (Said spelling)) → MaybeStatement grammar (texts tail) o
+              → IfSome (option_map (draft_in grammar drafting after) o) (IsResolvable made tail)
+          go None says = tt
+          go (Some s) says = is_resolvable spelling made lawful after tail s says
 
-      -- a cell without a statement
-      pub cell_skipped : (syntaxes : List (CellSyntax Syntax)) (code : List Stmt) → draft.stmt ≡ None
-          → IsCellResolved grammar names syntaxes syntax code code
-      cell_skipped syntaxes code is =
-          let none = mapped_none (draft_in grammar draft_of names) syntax.stmt (drafted_as None is) in
-          record {
-            made = sym (ap (λ (o : Option Syntax). code ++ map (resolved_statement grammar names syntaxes) (cons_option o [])) none ∙ append-nil code);
-            ahead = λ s here. (let e : None ≡ Some s = sym none ∙ here in absurd cc);
-          }
+      module _ (code : List Stmt) (r : Resolved after syntaxes front code) where
+        same : cut.above ≡ r.above
+        same = zip_unique Says one (cells_texts front) cut.above r.above cut.above_says r.says
 
-      -- a cell whose statement is resolved
-      pub cell_resolved : (syntaxes : List (CellSyntax Syntax)) (code more : List Stmt) (stmt : D) → draft.stmt ≡ Some stmt → (made : Stmt)
-          → more ≡ code ++ made ∷ []
-          → ((s : Syntax) → IsDraft grammar draft_of names (texts (drop draft.start cell.tokens)) stmt s
-          → (made ≡ resolved_statement grammar names syntaxes s) × LeadsForward grammar syntaxes (length code) s)
-          → IsCellResolved grammar names syntaxes syntax code more
-      cell_resolved syntaxes code more stmt is made pushed done =
-          let w = statement_of stmt is in
-          let one = done w.0 w.2 in
-          record {
-            made = pushed ∙ ap (λ (x : Stmt). code ++ x ∷ []) one.0 ∙ ap
-                (λ (o : Option Syntax). code ++ map (resolved_statement grammar names syntaxes) (cons_option o [])) (sym w.1);
-            ahead = λ s here. (let e : Some w.0 ≡ Some s = sym w.1 ∙ here in let same : w.0 ≡ s = cc in subst
-                (λ (u : Syntax). LeadsForward grammar syntaxes (length code) u) same one.1);
-          }
-
-      -- a cell whose jump is refused
-      pub cell_unresolved : (labels : LabelMap) (number : ℕ) (f : CellFault) (stmt : D) → draft.stmt ≡ Some stmt
-          → ((s : Syntax) → IsDraft grammar draft_of names (texts (drop draft.start cell.tokens)) stmt s
-          → JumpFault grammar labels number (drop draft.start cell.tokens) s f) → IsUnresolved grammar labels number cell syntax f
-      cell_unresolved labels number f stmt is fault =
-          let w = statement_of stmt is in
-          let j = fault w.0 w.2 in
-          inr (
-            w.0,
-            w.1,
-            record {
-              front = take draft.start cell.tokens ++ j.front;
-              token = j.token;
-              last = sym (take-append-drop draft.start cell.tokens) ∙ ap (λ (ts : List Token). take draft.start cell.tokens ++ ts) j.last
-                  ∙ sym (append_assoc (take draft.start cell.tokens) j.front (j.token ∷ []));
-              is = j.is;
-              begins = j.begins;
-              because = j.because;
-            },
-          )
-
-    -- What was drafted of a thread's cells, at the cell of this row.
-    module _ {A : Type 0} (cells : List (Cell A)) (before after : List (List ℕ)) (drafts : List (DraftCell D)) (labels : LabelMap)
-        (draft : DraftRead grammar draft_of cells before drafts labels after) where
-      as_many_syntaxes : length cells ≡ length draft.syntaxes
-      as_many_syntaxes = sym (length-map cells cell_texts) ∙ zip_length (CellSays grammar) (cells_texts cells) draft.syntaxes draft.says
-
-      pub as_many_rows : length drafts ≡ length cells
-      as_many_rows = ap length draft.made ∙ length-map draft.syntaxes (draft_cell grammar draft_of after) ∙ sym as_many_syntaxes
-
-      pub all_rows : take (length cells) draft.syntaxes ≡ draft.syntaxes
-      all_rows = ap (λ (n : ℕ). take n draft.syntaxes) as_many_syntaxes ∙ take_whole draft.syntaxes
-
-      pub resolved_all : (row : ℕ) (code : List Stmt) → length cells ≤ row → row ≤ length cells → Resolved after draft.syntaxes row code
-          → (code ≡ code_in grammar after draft.syntaxes) × AllForward grammar draft.syntaxes
-      resolved_all row code low high r =
-          let e : row ≡ length cells = omega (arith, low, high) in
-          let whole : take row draft.syntaxes ≡ draft.syntaxes = ap (λ (n : ℕ). take n draft.syntaxes) e ∙ all_rows in (
-            r.made ∙ ap (λ (ls : List (CellSyntax Syntax)). map (resolved_statement grammar after draft.syntaxes) (statements ls)) whole,
-            λ k s at. r.ahead k s
-                (ap (λ (ls : List (CellSyntax Syntax)). slice_get (statements ls) k) whole ∙ at),
-          )
-
-      module _ (row : ℕ) (cell : Cell A) (within : row < length cells) (is : cell ≡ get_or cells row cell) where
-        pub syntax_at : (y : CellSyntax Syntax) × (slice_get draft.syntaxes row ≡ Some y)
-        syntax_at = get_some draft.syntaxes row (omega (arith, within, as_many_syntaxes))
-
-        cell_at : slice_get cells row ≡ Some cell
-        cell_at = item_at cells row cell within is
-
-        says_at : CellSays grammar (cell_texts cell) syntax_at.0
-        says_at = zip_at (CellSays grammar) (cells_texts cells) draft.syntaxes row (cell_texts cell) syntax_at.0 draft.says
-            (slice_get-map cell_texts cells row ∙ ap (option_map cell_texts) cell_at) syntax_at.1
-
-        pub row_drafted : (d : DraftCell D) → d ≡ get_or drafts row d → IsCellDraft grammar draft_of after cell d syntax_at.0
-        row_drafted d e =
-            let at : slice_get drafts row ≡ Some d = item_at drafts row d (omega (arith, within, as_many_rows)) e in
-            let f : Some d ≡ Some (draft_cell grammar draft_of after syntax_at.0) = sym at ∙ ap
-            (λ (ds : List (DraftCell D)). slice_get ds row) draft.made ∙ slice_get-map (draft_cell grammar draft_of after) draft.syntaxes row ∙ ap
-            (option_map (draft_cell grammar draft_of after)) syntax_at.1 in
-            record { says = says_at; made = cc }
-
-        next_syntaxes : take (row + 1) draft.syntaxes ≡ take row draft.syntaxes ++ syntax_at.0 ∷ []
-        next_syntaxes = let e : row + 1 ≡ suc row = omega arith in ap (λ (n : ℕ). take n draft.syntaxes) e ∙ take_one draft.syntaxes row syntax_at.0 syntax_at.1
-
-        next_statements : (o : Option Syntax) → syntax_at.0.stmt ≡ o
-            → statements (take (row + 1) draft.syntaxes) ≡ statements (take row draft.syntaxes) ++ cons_option o []
-        next_statements o e = ap statements next_syntaxes ∙ statements-append (take row draft.syntaxes) (syntax_at.0 ∷ []) ∙ ap
-            (λ (p : Option Syntax). statements (take row draft.syntaxes) ++ cons_option p []) e
-
-        -- as many statements are resolved as stand above
-        as_many : (code : List Stmt) → Resolved after draft.syntaxes row code → length code ≡ length (statements (take row draft.syntaxes))
-        as_many code r = ap length r.made ∙ length-map (statements (take row draft.syntaxes)) (resolved_statement grammar after draft.syntaxes)
+        as_many : length code ≡ length (statements r.above)
+        as_many = ap length r.made ∙ length-map (statements r.above) resolve
 
         -- one cell further
-        pub resolved_further : (code more : List Stmt) → IsCellResolved grammar after draft.syntaxes syntax_at.0 code more
-            → Resolved after draft.syntaxes row code → Resolved after draft.syntaxes (row + 1) more
-        resolved_further code more one r = go syntax_at.0.stmt refl
+        pub resolved_further : (more : List Stmt) → IsCellResolved made column.labels cell d code more
+            → Resolved after syntaxes (take (row + 1) cells) more
+        resolved_further more here =
+            let done = go cut.here.stmt behind.1 (rw drafted_as at here) in
+            let both = statements-append r.above (cut.here ∷ []) in
+            record {
+              above = r.above ++ cut.here ∷ [];
+              says = rw (take_further cells row cell within at_row, map-append cell_texts front (cell ∷ []))
+                  (zip_more Says (cells_texts front) r.above (cell_texts cell) cut.here r.says cut.says);
+              made = rw both done.0;
+              ahead = rw both done.1;
+            }
           where
-            whole : more ≡ map (resolved_statement grammar after draft.syntaxes) (statements (take (row + 1) draft.syntaxes))
-            whole =
-                one.made ∙ ap (λ (ss : List Stmt). ss ++ map (resolved_statement grammar after draft.syntaxes) (statements (syntax_at.0 ∷ []))) r.made
-                ∙ sym (map-append (resolved_statement grammar after draft.syntaxes) (statements (take row draft.syntaxes)) (statements (syntax_at.0 ∷ [])))
-                ∙ ap (map (resolved_statement grammar after draft.syntaxes)) (sym (next_statements syntax_at.0.stmt refl))
+            go : (o : Option (Said spelling)) → MaybeStatement grammar (texts tail) o
+                → MatchOption (option_map (draft_in grammar drafting after) o) (more ≡ code)
+                (λ draft. (stmt : Stmt) × IsResolved made column.labels (length code) tail draft stmt × (more ≡ code ++ stmt ∷ []))
+                → (more ≡ map resolve (statements r.above ++ cons_option o [])) × ((k : ℕ) (s : Said spelling)
+                → slice_get (statements r.above ++ cons_option o []) k ≡ Some s → LeadsForward grammar syntaxes k s)
+            go None says e = rw append-nil (e ∙ r.made, r.ahead)
+            go (Some s) says (stmt, resolved, e) =
+                let q = is_resolved spelling made lawful after tail s says syntaxes column.labels (length code) stmt drafted.leads resolved in (
+                  e ∙ ap (λ (ss : List Stmt). ss ++ stmt ∷ []) r.made ∙ ap (λ (x : Stmt). map resolve (statements r.above) ++ x ∷ []) q.0
+                      ∙ sym (map-append resolve (statements r.above) (s ∷ [])),
+                  λ k t at. ahead k t q.1 (get_append (statements r.above) s t k at),
+                )
+              where
+                ahead : (k : ℕ) (t : Said spelling) → LeadsForward grammar syntaxes (length code) s
+                    → (slice_get (statements r.above) k ≡ Some t) ⊎ ((k ≡ length (statements r.above)) × (s ≡ t))
+                    → LeadsForward grammar syntaxes k t
+                ahead k t forward (inl old) = r.ahead k t old
+                ahead k t forward (inr (last, one)) = rw (last, ← as_many, ← one) forward
 
-            ahead_at : (k : ℕ) (s t : Syntax) → syntax_at.0.stmt ≡ Some s
-                → (slice_get (statements (take row draft.syntaxes)) k ≡ Some t) ⊎ ((k ≡ length (statements (take row draft.syntaxes))) × (s ≡ t))
-                → LeadsForward grammar draft.syntaxes k t
-            ahead_at k s t is (inl f) = r.ahead k t f
-            ahead_at k s t is (inr f) = subst (λ (n : ℕ). LeadsForward grammar draft.syntaxes n t) (as_many code r ∙ sym f.0)
-                (subst (λ (u : Syntax). LeadsForward grammar draft.syntaxes (length code) u) f.1 (one.ahead s is))
+        -- A token that is the label of its jump, which is refused.
+        module _ (s : Said spelling) (jump : cut.here.stmt ≡ Some s) (token : Token) (label : grammar.label_of s ≡ Some token.text.now)
+            (before_label : List Token) (last : cell.tokens ≡ before_label ++ token ∷ []) (f : CellFault) (begins : token.at ≡ f.at)
+            (because : JumpCause column.labels (length code) token.text.now f.cause) where
+          abbrev word : Bytes
+          word = token.text.now
 
-            go : (o : Option Syntax) → syntax_at.0.stmt ≡ o → Resolved after draft.syntaxes (row + 1) more
-            go None is = record {
-              made = whole;
-              ahead = λ k s at. r.ahead k s (ap (λ (ss : List Syntax). slice_get ss k)
-                  (sym (next_statements None is ∙ append-nil (statements (take row draft.syntaxes)))) ∙ at);
-            }
-            go (Some s) is = record {
-              made = whole;
-              ahead = λ k t at. ahead_at k s t is (get_append (statements (take row draft.syntaxes)) s t k
-                  (ap (λ (ss : List Syntax). slice_get ss k) (sym (next_statements (Some s) is)) ∙ at));
-            }
+          missing : target_by column.labels word ≡ None → Contains (labels_of syntaxes) word → ⊥
+          missing none = leads_nowhere syntaxes word (sym (drafted.leads word) ∙ none)
 
-        -- what the cells above say, the cell, and those below it
-        above_placed : AllZip (CellSays grammar) (texts_of_cells (placed_row (take row cells))) (take row draft.syntaxes)
-        above_placed = subst (λ (cs : List (List (List ℕ))). AllZip (CellSays grammar) cs (take row draft.syntaxes))
-            (take-map cell_texts row cells ∙ sym (cells_placed (take row cells)))
-            (zip_take (CellSays grammar) (cells_texts cells) draft.syntaxes row draft.says)
+          found : (to : ℕ) → target_by column.labels word ≡ Some to
+              → Contains (labels_of syntaxes) word × (to ≡ target_in syntaxes word)
+          found to by = leads_there syntaxes word to (sym (drafted.leads word) ∙ by)
 
-        placed_says : CellSays grammar (texts_of_tokens (placed_tokens cell.tokens)) syntax_at.0
-        placed_says = subst (λ (ts : List (List ℕ)). CellSays grammar ts syntax_at.0) (sym (texts_placed cell.tokens)) says_at
+          not_forward : (cause : CellCause) → JumpCause column.labels (length code) word cause
+              → LeadsForward grammar syntaxes (length code) s → ⊥
+          not_forward LabelMissing none ahead = missing none (ahead word label).0
+          not_forward Backward (to, by, less) ahead = omega (arith, less, (found to by).1, (ahead word label).1)
+          not_forward cause none ahead = none
 
-        below_placed : AllZip (CellSays grammar) (texts_of_cells (placed_row (drop (suc row) cells))) (drop (suc row) draft.syntaxes)
-        below_placed = subst (λ (cs : List (List (List ℕ))). AllZip (CellSays grammar) cs (drop (suc row) draft.syntaxes))
-            (drop-map cell_texts (suc row) cells ∙ sym (cells_placed (drop (suc row) cells)))
-            (zip_drop (CellSays grammar) (cells_texts cells) draft.syntaxes (suc row) draft.says)
+          -- all jumps do not lead forward, then
+          not_all : AllForward grammar syntaxes → ⊥
+          not_all all =
+              let parts : statements syntaxes ≡ statements r.above ++ s ∷ statements cut.below =
+              ap statements cut.whole ∙ statements-append cut.above (cut.here ∷ cut.below)
+              ∙ ap (λ (o : Option (Said spelling)). statements cut.above ++ cons_option o (statements cut.below)) jump
+              ∙ ap (λ (ys : List CellSaid). statements ys ++ s ∷ statements cut.below) same in
+              not_forward f.cause because (all (length code) s (ap (λ (ss : List (Said spelling)). slice_get ss (length code)) parts
+              ∙ get_seam (statements r.above) s (statements cut.below) (length code) as_many))
 
-        -- where the statement does not lead forward, not all do
-        not_all_forward : (code : List Stmt) (s : Syntax) → syntax_at.0.stmt ≡ Some s → Resolved after draft.syntaxes row code
-            → (LeadsForward grammar draft.syntaxes (length code) s → ⊥) → AllForward grammar draft.syntaxes → ⊥
-        not_all_forward code s is r none all =
-            let whole : statements draft.syntaxes ≡ statements (take row draft.syntaxes) ++ s ∷ statements (drop (suc row) draft.syntaxes) =
-            ap statements (cut_at draft.syntaxes row syntax_at.0 syntax_at.1) ∙ statements-append (take row draft.syntaxes)
-            (syntax_at.0 ∷ drop (suc row) draft.syntaxes) ∙ ap
-            (λ (o : Option Syntax). statements (take row draft.syntaxes) ++ cons_option o (statements (drop (suc row) draft.syntaxes))) is in
-            none (all (length code) s (ap (λ (ss : List Syntax). slice_get ss (length code)) whole ∙ get_seam (statements (take row draft.syntaxes)) s
-            (statements (drop (suc row) draft.syntaxes)) (length code) (as_many code r)))
+          told : ColumnTold grammar (placed_row cells) before f.at f.cause
+          told names others others_behind threads others_say grown =
+              tells_by grammar names (others ++ placed_row cells ∷ others_behind) f.at f.cause (record {
+                missing = λ e. (place, (cut.above, cut.here, cut.below, is_jump, λ there. missing (rw e at because) (rw (← cut.whole) at there)));
+                twice = λ e. absurd (rw e at because);
+                back = λ e. backward (rw e at because);
+                many = λ e. absurd (rw e at because);
+              })
+            where
+              place : Standing (others ++ placed_row cells ∷ others_behind) f.at
+              place = standing others others_behind cells front rest cell whole f.at before_label [] token last begins
 
-        -- where a jump stands that is refused
-        abbrev jump_at : (number at : ℕ) (s : Syntax) (cause : CellCause) → JumpRefused grammar labels number cell.tokens s at cause
-            → Standing (placed_row cells ∷ []) at
-        jump_at number at s cause f =
-            standing cells (take row cells) (drop (suc row) cells) cell (cut_at cells row cell cell_at) at f.front f.token [] f.last f.begins
+              is_jump : IsJumpLabel grammar place cut.above cut.here cut.below
+              is_jump = record {
+                above_says = rw (cells_placed front) cut.above_says;
+                says = rw (texts_placed cell.tokens) cut.says;
+                below_says = rw (cells_placed rest) cut.below_says;
+                last = refl;
+                jump = (s, jump, label);
+              }
 
-        jump_label : (number at : ℕ) (s : Syntax) (cause : CellCause) (f : JumpRefused grammar labels number cell.tokens s at cause)
-            → syntax_at.0.stmt ≡ Some s
-            → IsJumpLabel grammar (jump_at number at s cause f) (take row draft.syntaxes) syntax_at.0 (drop (suc row) draft.syntaxes)
-        jump_label number at s cause f is =
-            record { above_says = above_placed; says = placed_says; below_says = below_placed; last = refl; jump = (s, is, f.is) }
+              backward : (to : ℕ) × (target_by column.labels word ≡ Some to) × (to ≤ length code)
+                  → (p : Standing (others ++ placed_row cells ∷ others_behind) f.at) × IsBackward grammar p
+              backward (to, by, less) =
+                  let l = found to by in
+                  let at : target_in syntaxes word ≤ length (statements cut.above) =
+                  omega (arith, l.1, less, as_many, ap (λ (ys : List CellSaid). length (statements ys)) same) in (
+                    place,
+                    (
+                      cut.above,
+                      cut.here,
+                      cut.below,
+                      is_jump,
+                      rw cut.whole at l.0,
+                      subst (λ (ys : List CellSaid). target_in ys word ≤ length (statements cut.above)) cut.whole at,
+                    ),
+                  )
 
-        jump_tells : (names : List (List ℕ)) (code : List Stmt) (s : Syntax) (at : ℕ) (cause : CellCause) → syntax_at.0.stmt ≡ Some s
-            → Resolved after draft.syntaxes row code → JumpRefused grammar labels (length code) cell.tokens s at cause
-            → TellsBy grammar names (placed_row cells ∷ []) at cause
-        jump_tells names code s at LabelMissing is r f = (
-          jump_at (length code) at s LabelMissing f,
-          (
-            take row draft.syntaxes,
-            syntax_at.0,
-            drop (suc row) draft.syntaxes,
-            jump_label (length code) at s LabelMissing f is,
-            λ there. leads_nowhere draft.syntaxes f.token.text.now (sym (draft.leads f.token.text.now) ∙ f.because)
-                (subst (λ (ls : List (CellSyntax Syntax)). Contains (labels_of ls) f.token.text.now)
-                (sym (cut_at draft.syntaxes row syntax_at.0 syntax_at.1)) there),
-          ),
-        )
-        jump_tells names code s at Backward is r f =
-            let b = f.because in
-            let l = leads_in draft.syntaxes f.token.text.now b.0 (sym (draft.leads f.token.text.now) ∙ b.1) in
-            let cut = cut_at draft.syntaxes row syntax_at.0 syntax_at.1 in (
-              jump_at (length code) at s Backward f,
-              (
-                take row draft.syntaxes,
-                syntax_at.0,
-                drop (suc row) draft.syntaxes,
-                jump_label (length code) at s Backward f is,
-                subst (λ (ls : List (CellSyntax Syntax)). Contains (labels_of ls) f.token.text.now) cut l.0,
-                subst (λ (ls : List (CellSyntax Syntax)). target_in ls f.token.text.now ≤ length (statements (take row draft.syntaxes))) cut
-                    (omega (arith, b.2, l.1, as_many code r)),
-              ),
-            )
-        jump_tells names code s at cause is r f = absurd f.because
+          jump_refused : ColumnRefused grammar before cells f
+          jump_refused = record {
+            none = λ known t (column_says, few). not_all (subst (AllForward grammar)
+                (zip_unique Says one (cells_texts cells) t syntaxes column_says.says drafted.read.says)
+                column_says.forward);
+            cause = told;
+            place = λ len all.
+                let here = (all_amid (IsWithin len) front rest cell (subst (All (IsWithin len)) whole all)).0 in
+                omega (arith, begins, all_amid (λ (t : Token). t.at ≤ len) before_label [] token (subst (All (λ (t : Token). t.at ≤ len)) last here));
+          }
 
         -- where its jump is refused, so is the thread
-        pub row_refused : IsGrammar grammar → (code : List Stmt) (f : CellFault) → Resolved after draft.syntaxes row code
-            → IsUnresolved grammar labels (length code) cell syntax_at.0 f → ColumnRefused grammar before cells f
-        row_refused lawful code f r (inl (memory, first)) = column_out_of_memory grammar before cells f memory first
-        row_refused lawful code f r (inr (s, is, jump)) = record {
-          none = λ known t (column, few). column_none grammar lawful draft_of cells before after drafts labels draft
-              (not_all_forward code s is r (not_forward grammar draft.syntaxes labels (length code) cell.tokens s f.at f.cause draft.leads jump)) t column;
-          cause = jump_tells before code s f.at f.cause is r jump;
-          place = λ len all.
-              let here : All (λ (t : Token). t.at ≤ len) cell.tokens = (all_at (IsWithin len) cells row cell cell_at all).0 in
-              let there : All (λ (t : Token). t.at ≤ len) (jump.front ++ jump.token ∷ []) = subst (All (λ (t : Token). t.at ≤ len)) jump.last here in
-              omega (arith, jump.begins, all_amid (λ (t : Token). t.at ≤ len) jump.front [] jump.token there);
-        }
+        pub row_refused : (f : CellFault) → IsUnresolved column.labels (length code) cell d f → ColumnRefused grammar before cells f
+        row_refused f (inl (memory, first)) = column_out_of_memory grammar before cells f memory first
+        row_refused f (inr (draft, there, lost)) =
+            let m = mapped_some (draft_in grammar drafting after) cut.here.stmt draft (sym there ∙ drafted_as) in
+            let label = label_last spelling made lawful after tail m.0 (rw m.1 at behind.1) lost.index lost.token
+            (ap (λ (x : Draft Form). x.label) (sym m.2) ∙ lost.labelled) lost.is in
+            let front_part = take d.start cell.tokens ++ take lost.index tail in
+            jump_refused m.0 m.1 lost.token label.0 front_part
+            (sym (take-append-drop d.start cell.tokens) ∙ ap (λ (ts : List Token). take d.start cell.tokens ++ ts) label.1
+            ∙ sym (append_assoc (take d.start cell.tokens) (take lost.index tail) (lost.token ∷ []))) f lost.begins lost.because

@@ -1,11 +1,10 @@
 -- What tokens at slots give, as the reader finds it.
 use Rattle.std.proofs.Common.{◌≡◌, ℕ, zero, suc, ◌+◌, ◌<◌, ◌≤◌, Bool, true, false, true≢false, eqb, Option}
-use Rattle.std.proofs.Common.{Some, None, List, [], ◌∷◌, ◌++◌, length, take, get_or, inl, inr, refl, sym, ap}
+use Rattle.std.proofs.Common.{Some, None, List, [], ◌∷◌, ◌++◌, length, take, get_or, refl, sym, ap}
 use Rattle.std.proofs.Common.{◌∙◌, subst, arith, slice_get, MatchBool, MatchOption, IsTrue, ◌↔◌, Contains}
-use Rattle.std.proofs.Common.{is_some, bytes_eq, eqb-true}
+use Rattle.std.proofs.Common.{is_some, bytes_eq, eqb-true, All, take_all}
 use Rattle.std.proofs.lemmas.Slice.Eq.{bytes_eq-Decides}
-use Rattle.std.proofs.lemmas.Bool.{cases_lt}
-use Rattle.lw_base.proofs.api.Lists.{at_index}
+use Rattle.std.proofs.lemmas.List.Elements.{All-contains, All-more}
 use Rattle.lw_base.specs.Types.{Bytes, TokenList}
 use Rattle.lw_base.specs.declared.head.Arch.{Arch}
 use Rattle.lw_base.specs.declared.operand.Operand.{Operand}
@@ -19,7 +18,7 @@ use Rattle.lw_cells.specs.declared.slot.Slot.TheVariants.{Word, Location}
 use Rattle.lw_cells.specs.declared.spelled.Found.{Found}
 use Rattle.lw_cells.specs.Operands.{IsOperand}
 use Rattle.lw_cells.specs.Spellings.{Spelling, Given, Filling, Gives, Fills}
-use Rattle.lw_cells.specs.Found.{CanStand, BeginsWith, nothing, found_with, found_of, reach_of}
+use Rattle.lw_cells.specs.Found.{BeginsWith, CanStand, nothing, found_with, found_of, reach_of}
 use Rattle.lw_base.specs.declared.operand.Operand.TheVariants as operand
 
 -- a token that is neither a register nor a number is no operand
@@ -51,48 +50,36 @@ module _ {W Form Stmt : Type 0} (spelling : Spelling W Form Stmt) where
       MatchBool b ((f : Filling slots) × Fills spelling ts slots f × (all ≡ found_of k slots f)) ((f : Filling slots) → Fills spelling ts slots f → ⊥)
 
   -- a token in front, and those behind it
-  pub taken_more : (slots rest : List (Slot W)) (slot : Slot W) (tokens more : List Token) (token : Token) (k : ℕ) (found all : Found)
-      (b : Bool) → slots ≡ slot ∷ rest → tokens ≡ token ∷ more
-      → (f : Filling rest) × Fills spelling (texts more) rest f × (found ≡ found_of (k + 1) rest f) → IsAdded slot token.text.now k found b all
-      → AreTaken (texts tokens) k slots b all
-  taken_more slots rest slot tokens more token k found all false a e behind h = rw (a, e) (λ g s. h g.0 s.0)
-  taken_more slots rest slot tokens more token k found all true a e (f, fills, is) (g, gives, made) = rw (a, e)
+  pub taken_more : (rest : List (Slot W)) (slot : Slot W) (ts : TokenList) (t : Bytes) (k : ℕ)
+      (found all : Found) (b : Bool)
+      → (f : Filling rest) × Fills spelling ts rest f × (found ≡ found_of (k + 1) rest f)
+      → IsAdded slot t k found b all → AreTaken (t ∷ ts) k (slot ∷ rest) b all
+  taken_more rest slot ts t k found all false behind h = λ g s. h g.0 s.0
+  taken_more rest slot ts t k found all true (f, fills, is) (g, gives, made) =
       ((g, f), (gives, fills), made ∙ ap (found_with k slot g) is)
 
   -- whether a token is a word
   pub word_or_not : (w : W) (t : Bytes) (b : Bool) → b ≡ bytes_eq (without_case spelling.language.arch (spelling.text_of w))
       (without_case spelling.language.arch t) → IsTrue b ↔ Gives spelling t (Word w) tt
   word_or_not w t b is =
-      let d = bytes_eq-Decides (without_case spelling.language.arch (spelling.text_of w)) (without_case spelling.language.arch t) in
+      let d = bytes_eq-Decides _ (without_case spelling.language.arch t) in
       (λ yes. d.0 (sym is ∙ yes), λ same. is ∙ d.1 same)
 
   -- the word in front, and the tokens behind it
-  pub taken_behind : (slots rest : List (Slot W)) (w : W) (tokens more : List Token) (token : Token) (k : ℕ) (b : Bool) (all : Found)
-      → slots ≡ Word w ∷ rest → tokens ≡ token ∷ more → Gives spelling token.text.now (Word w) tt → AreTaken (texts more) (k + 1) rest b all
-      → AreTaken (texts tokens) k slots b all
-  taken_behind slots rest w tokens more token k false all a e here h = rw (a, e) (λ f s. h f.1 s.1)
-  taken_behind slots rest w tokens more token k true all a e here (f, fills, is) = rw (a, e) ((tt, f), (here, fills), is)
-
-  -- another word in front
-  pub other_word : (slots rest : List (Slot W)) (w : W) (tokens more : List Token) (token : Token) → slots ≡ Word w ∷ rest → tokens ≡ token ∷ more
-      → (Gives spelling token.text.now (Word w) tt → ⊥) → (f : Filling slots) → Fills spelling (texts tokens) slots f → ⊥
-  other_word slots rest w tokens more token a b other = rw (a, b) (λ f s. other s.0)
-
-  -- the token in front cannot stand, or those behind it cannot
-  pub none_more : (slots rest : List (Slot W)) (slot : Slot W) (tokens more : List Token) (token : Token) → slots ≡ slot ∷ rest → tokens ≡ token ∷ more
-      → ((f : Filling rest) → Fills spelling (texts more) rest f → ⊥) → (f : Filling slots) → Fills spelling (texts tokens) slots f → ⊥
-  none_more slots rest slot tokens more token a b none = rw (a, b) (λ f s. none f.1 s.1)
+  pub taken_behind : (rest : List (Slot W)) (w : W) (ts : TokenList) (t : Bytes) (k : ℕ) (b : Bool) (all : Found)
+      → Gives spelling t (Word w) tt → AreTaken ts (k + 1) rest b all → AreTaken (t ∷ ts) k (Word w ∷ rest) b all
+  taken_behind rest w ts t k false all here h = λ f s. h f.1 s.1
+  taken_behind rest w ts t k true all here (f, fills, is) = ((tt, f), (here, fills), is)
 
   -- a slot is left, and no token
-  pub none_filled : (slots rest : List (Slot W)) (slot : Slot W) (tokens : List Token) → slots ≡ slot ∷ rest → length tokens ≡ 0 → (f : Filling slots)
-      → Fills spelling (texts tokens) slots f → ⊥
-  none_filled [] rest slot tokens a b = absurd (omega (arith, ap length a))
-  none_filled (s ∷ slots) rest slot [] a b = λ f h. h
-  none_filled (s ∷ slots) rest slot (t ∷ tokens) a b = absurd (omega (arith, b))
+  pub none_filled : (rest : List (Slot W)) (slot : Slot W) (tokens : List Token) → length tokens ≡ 0
+      → (f : Filling (slot ∷ rest)) → Fills spelling (texts tokens) (slot ∷ rest) f → ⊥
+  none_filled rest slot [] b = λ f h. h
+  none_filled rest slot (t ∷ tokens) b = absurd (omega (arith, b))
 
   -- all slots are filled: a token is left, or none is
-  pub taken_none : (slots : List (Slot W)) (tokens : List Token) (k : ℕ) (b : Bool) (all : Found) → length slots ≡ 0 → b ≡ eqb (length tokens) 0
-      → all ≡ nothing → AreTaken (texts tokens) k slots b all
+  pub taken_none : (slots : List (Slot W)) (tokens : List Token) (k : ℕ) (b : Bool) (all : Found)
+      → length slots ≡ 0 → b ≡ eqb (length tokens) 0 → all ≡ nothing → AreTaken (texts tokens) k slots b all
   taken_none [] [] k true all a e is = (tt, tt, is)
   taken_none [] (t ∷ tokens) k false all a e is = λ f s. s
   taken_none [] [] k false all a e is = absurd (true≢false (sym e))
@@ -100,27 +87,18 @@ module _ {W Form Stmt : Type 0} (spelling : Spelling W Form Stmt) where
   taken_none (slot ∷ slots) tokens k b all a e is = absurd (omega (arith, a))
 
   -- there are more slots than tokens, or fewer
-  pub not_filled : (slots : List (Slot W)) (tokens : List Token) → (length slots ≡ length tokens → ⊥) → (f : Filling slots)
-      → Fills spelling (texts tokens) slots f → ⊥
+  pub not_filled : (slots : List (Slot W)) (tokens : List Token) → (length slots ≡ length tokens → ⊥)
+      → (f : Filling slots) → Fills spelling (texts tokens) slots f → ⊥
   not_filled [] [] differ f h = differ refl
   not_filled [] (t ∷ tokens) differ f h = h
   not_filled (slot ∷ slots) [] differ f h = h
   not_filled (slot ∷ slots) (t ∷ tokens) differ f h = not_filled slots tokens (λ e. differ (ap suc e)) f.1 h.1
 
   -- whether a token can stand at a slot
-  pub can_stand_alone : (t : Bytes) (slot : Slot W) (k : ℕ) (found : Found) (result : Option Found) → IsTaken slot t k found result
-      → IsTrue (is_some result) ↔ CanStand spelling (t ∷ []) (slot ∷ [])
+  pub can_stand_alone : (t : Bytes) (slot : Slot W) (k : ℕ) (found : Found) (result : Option Found)
+      → IsTaken slot t k found result → IsTrue (is_some result) ↔ CanStand spelling (t ∷ []) (slot ∷ [])
   can_stand_alone t slot k found None h = (λ e. absurd cc, λ s. absurd (h s.0.0 s.1.0))
   can_stand_alone t slot k found (Some all) h = (λ e. ((h.0, tt), (h.1, tt)), λ s. refl)
-
-  -- the slots begin with one, at which the token can stand or not
-  pub begins_as : (slots rest : List (Slot W)) (slot : Slot W) (t : Bytes) → slots ≡ slot ∷ rest → BeginsWith spelling slots t
-      → CanStand spelling (t ∷ []) (slot ∷ [])
-  begins_as slots rest slot t a (other, more, b, stands) = let same : other ≡ slot = heads (sym b ∙ a) in subst
-      (λ (s : Slot W). CanStand spelling (t ∷ []) (s ∷ [])) same stands
-    where
-      heads : other ∷ more ≡ slot ∷ rest → other ≡ slot
-      heads e = cc
 
   -- ---- how far statements go on
 
@@ -133,14 +111,9 @@ module _ {W Form Stmt : Type 0} (spelling : Spelling W Form Stmt) where
   reach_end (slot ∷ slots) [] b = refl
   reach_end (slot ∷ slots) (t ∷ tokens) b = absurd (omega (arith, b))
 
-  pub reach_stop : (slots rest : List (Slot W)) (slot : Slot W) (tokens more : List Token) (token : Token) → slots ≡ slot ∷ rest → tokens ≡ token ∷ more
-      → (CanStand spelling (token.text.now ∷ []) (slot ∷ []) → ⊥) → reach_of spelling (texts tokens) slots 0
-  reach_stop slots rest slot tokens more token a b none = rw (a, b) none
-
-  pub reach_more : (slots rest : List (Slot W)) (slot : Slot W) (tokens more : List Token) (token : Token) (k : ℕ) → slots ≡ slot ∷ rest
-      → tokens ≡ token ∷ more → CanStand spelling (token.text.now ∷ []) (slot ∷ []) → reach_of spelling (texts more) rest k
-      → reach_of spelling (texts tokens) slots (1 + k)
-  reach_more slots rest slot tokens more token k a b stands h = let e : 1 + k ≡ suc k = omega arith in rw (e, a, b) (stands, h)
+  pub reach_more : (rest : List (Slot W)) (slot : Slot W) (ts : TokenList) (t : Bytes) (k : ℕ) → CanStand spelling (t ∷ []) (slot ∷ [])
+      → reach_of spelling ts rest k → reach_of spelling (t ∷ ts) (slot ∷ rest) (1 + k)
+  reach_more rest slot ts t k stands h = let e : 1 + k ≡ suc k = omega arith in rw e (stands, h)
 
   -- no further than there are slots and tokens
   pub reach_within : (slots : List (Slot W)) (ts : TokenList) (n : ℕ) → reach_of spelling ts slots n → (n ≤ length slots) × (n ≤ length ts)
@@ -155,8 +128,8 @@ module _ {W Form Stmt : Type 0} (spelling : Spelling W Form Stmt) where
       (front back : List (Slot W)) × (slots ≡ front ++ Location ∷ back) × CanStand spelling (take k ts) front
       × ((t : Bytes) → slice_get ts k ≡ Some t → IsLocation t)
 
-  pub reached : (slots : List (Slot W)) (ts : TokenList) (n k : ℕ) → reach_of spelling ts slots n → k < n → slice_get slots k ≡ Some Location
-      → IsReached slots ts k
+  pub reached : (slots : List (Slot W)) (ts : TokenList) (n k : ℕ) → reach_of spelling ts slots n → k < n
+      → slice_get slots k ≡ Some Location → IsReached slots ts k
   reached [] ts n k h less e = absurd cc
   reached (slot ∷ slots) [] n k h less e = absurd (omega (arith, h, less))
   reached (slot ∷ slots) (t ∷ ts) zero k h less e = absurd (omega (arith, less))
@@ -181,22 +154,23 @@ module _ {W Form Stmt : Type 0} (spelling : Spelling W Form Stmt) where
   at_most (t ∷ ts) (slot ∷ slots) (suc m) zero h k = absurd (k h.0)
   at_most (t ∷ ts) (slot ∷ slots) (suc m) (suc n) h k = let less = at_most ts slots m n h.1 k.1 in omega (arith, less)
 
--- ---- a walk through a list
+  -- ---- what a walk through the forms has found of each: it is another, begins otherwise, or does not reach further
 
--- what holds of all before an element, and of it
-pub all_further : {X : Type 0} (P : X → Type 0) (xs : List X) (i : ℕ) (x : X) → i < length xs → x ≡ get_or xs i x → P x
-    → ((k : ℕ) (y : X) → k < i → slice_get xs k ≡ Some y → P y) → (k : ℕ) (y : X) → k < i + 1 → slice_get xs k ≡ Some y → P y
-all_further {X} P xs i x within is here before k y less at =
-    elim (cases_lt k i) [
-      | inl h ↦ before k y h at
-      | inr h ↦ (
-          let same : k ≡ i = omega (arith, h, less) in
-          let found : Some x ≡ Some y = ap Some is ∙ sym (at_index xs i x within) ∙ ap (slice_get xs) (sym same) ∙ at in
-          let one : x ≡ y = cc in
-          subst P one here)
-    ]
+  abbrev pub IsOther : TokenList → Form → Type 0
+  IsOther ts form = (f : Filling (spelling.slots_of form)) → Fills spelling ts (spelling.slots_of form) f → ⊥
 
--- what holds of all holds of each
-pub all_contained : {X : Type 0} (P : X → Type 0) (xs : List X) (i : ℕ) → length xs ≤ i → ((k : ℕ) (y : X) → k < i → slice_get xs k ≡ Some y → P y)
-    → (x : X) → Contains xs x → P x
-all_contained P xs i end all x (k, within, is) = all k x (omega (arith, end, within)) (at_index xs k x within ∙ ap Some is)
+  abbrev pub BeginsOtherwise : Bytes → Form → Type 0
+  BeginsOtherwise t form = BeginsWith spelling (spelling.slots_of form) t → ⊥
+
+  abbrev pub ReachesTo : TokenList → ℕ → Form → Type 0
+  ReachesTo ts k form = (n : ℕ) → reach_of spelling ts (spelling.slots_of form) n → n ≤ k
+
+-- one form more
+pub form_more : {X : Type 0} (P : X → Type 0) (forms : List X) (i : ℕ) (form : X) → i < length forms
+    → form ≡ get_or forms i form → All P (take i forms) → P form → All P (take (i + 1) forms)
+form_more P forms i form within is before here = All-more P forms i form within before (subst P is here)
+
+-- all of them
+pub forms_all : {X : Type 0} (P : X → Type 0) (forms : List X) (i : ℕ) → length forms ≤ i
+    → All P (take i forms) → (form : X) → Contains forms form → P form
+forms_all P forms i end all form there = All-contains P _ _ (subst (All P) (take_all i forms end) all) there

@@ -1,9 +1,10 @@
 -- Tokens at slots: what they give is theirs alone, and forms whose slots differ exclude each other.
-use Rattle.std.proofs.Common.{◌≡◌, ℕ, zero, suc, ◌<◌, Bool, true, false, true≢false, List, [], ◌∷◌, length}
+use Rattle.std.proofs.Common.{◌≡◌, ℕ, ◌<◌, Bool, true, false, true≢false, List, [], ◌∷◌}
 use Rattle.std.proofs.Common.{map, get_or, refl, sym, ap, ◌∙◌, subst, arith, inl, inr, not, ◌||◌, codes}
-use Rattle.std.proofs.Common.{bytes_eq}
+use Rattle.std.proofs.Common.{bytes_eq, eqb, eqb-true}
 use Rattle.std.specs.List.{list_any}
-use Rattle.std.proofs.lemmas.Bool.{cases_Bool, or_right}
+use Rattle.std.proofs.lemmas.Bool.{agree_below_at, cases_Bool, or_right}
+use Rattle.std.proofs.lemmas.List.Folds.{list_any_at}
 use Rattle.std.proofs.lemmas.Slice.Eq.{bytes_eq-Decides}
 use Rattle.lw_base.specs.Types.{Bytes, TokenList}
 use Rattle.lw_base.specs.Characters.{begins}
@@ -25,22 +26,12 @@ use Rattle.lw_base.specs.declared.operand.Operand.TheVariants as operand
 
 -- ---- words
 
--- what holds of each register holds of all
-each_register : (P : ℕ → Type 0) → P 0 → P 1 → P 2 → P 3 → P 4 → P 5 → (r : ℕ) → r < 6 → P r
-each_register P a b c d e f zero h = a
-each_register P a b c d e f (suc zero) h = b
-each_register P a b c d e f (suc (suc zero)) h = c
-each_register P a b c d e f (suc (suc (suc zero))) h = d
-each_register P a b c d e f (suc (suc (suc (suc zero)))) h = e
-each_register P a b c d e f (suc (suc (suc (suc (suc zero))))) h = f
-each_register P a b c d e f (suc (suc (suc (suc (suc (suc r)))))) h = absurd (omega arith)
-
 -- the name of a register is reserved
 numbered : (r : ℕ) → r < 6 → is_reserved (register_name Source r) ≡ true
-numbered = each_register (λ r. is_reserved (register_name Source r) ≡ true) refl refl refl refl refl refl
+numbered r h = agree_below_at (λ q. is_reserved (register_name Source q)) (λ q. true) 6 r refl h
 
 of_x86 : (r : ℕ) → r < 6 → list_any (λ k. bytes_eq (without_case X86 (register_name X86 r)) k) x86_registers ≡ true
-of_x86 = each_register (λ r. list_any (λ k. bytes_eq (without_case X86 (register_name X86 r)) k) x86_registers ≡ true) refl refl refl refl refl refl
+of_x86 r h = agree_below_at (λ q. list_any (λ k. bytes_eq (without_case X86 (register_name X86 q)) k) x86_registers) (λ q. true) 6 r refl h
 
 register_reserved : (arch : Arch) (w : Bytes) (r : ℕ) → IsRegister arch w r → is_reserved w ≡ true
 register_reserved Source w r h = ap is_reserved (sym h.1) ∙ numbered r h.0
@@ -58,8 +49,7 @@ number_apart w n num loc = true≢false (sym (number_first w n num) ∙ loc.0.0.
 
 letter_first : (arch : Arch) (r : ℕ) → r < 6 → begins is_ascii_digit (without_case arch (register_name arch r)) ≡ false
 letter_first Source r h = refl
-letter_first X86 r h =
-    each_register (λ q. begins is_ascii_digit (without_case X86 (register_name X86 q)) ≡ false) refl refl refl refl refl refl r h
+letter_first X86 r h = agree_below_at (λ q. begins is_ascii_digit (without_case X86 (register_name X86 q))) (λ q. false) 6 r refl h
 
 digit_lower : (c : ℕ) → is_ascii_digit c ≡ true → is_ascii_digit (to_ascii_lowercase c) ≡ true
 digit_lower c d = grind arith
@@ -107,16 +97,11 @@ module _ {W Form Stmt : Type 0} (spelling : Spelling W Form Stmt) where
 
   named : (w : Bytes) (r : ℕ) → r < 6 → without_case spelling.language.arch
       (register_name spelling.language.arch r) ≡ without_case spelling.language.arch w → names_register spelling w ≡ true
-  named w r h e = at r (0 ∷ 1 ∷ 2 ∷ 3 ∷ 4 ∷ 5 ∷ []) r
-      (each_register (λ q. get_or (0 ∷ 1 ∷ 2 ∷ 3 ∷ 4 ∷ 5 ∷ []) q q ≡ q) refl refl refl refl refl refl r h) h ((bytes_eq-Decides _ _).1 e)
-    where
-      same : ℕ → Bool
-      same q = bytes_eq (without_case spelling.language.arch (register_name spelling.language.arch q)) (without_case spelling.language.arch w)
-
-      at : (k : ℕ) (qs : List ℕ) (q : ℕ) → get_or qs k q ≡ q → k < length qs → same q ≡ true → list_any same qs ≡ true
-      at k [] q e h s = absurd (omega (arith, h))
-      at zero (p ∷ qs) q e h s = let f : same p ≡ true = ap same e ∙ s in rw f refl
-      at (suc k) (p ∷ qs) q e h s = or_right (same p) (list_any same qs) (at k qs q e (omega (arith, h)) s)
+  named w r h e =
+      let all = 0 ∷ 1 ∷ 2 ∷ 3 ∷ 4 ∷ 5 ∷ [] in
+      let there = eqb-true _ r (agree_below_at (λ q. eqb (get_or all q q) q) (λ q. true) 6 r refl h) in
+      list_any_at (λ q. bytes_eq (without_case spelling.language.arch (register_name spelling.language.arch
+          q)) (without_case spelling.language.arch w)) all r r h (rw there ((bytes_eq-Decides _ _).1 e))
 
   no_register : (t : Bytes) (w : W) (r : ℕ) → not (names_register spelling (spelling.text_of w)) ≡ true
       → without_case spelling.language.arch (spelling.text_of w) ≡ without_case spelling.language.arch t → IsRegister spelling.language.arch t r → ⊥
@@ -127,19 +112,19 @@ module _ {W Form Stmt : Type 0} (spelling : Spelling W Form Stmt) where
   differ_apart t (Word v) (Word w) g h d x y = unequal _ _ d (x ∙ sym y)
   differ_apart t (Word w) Register g r d x y = no_register t w r d x y
   differ_apart t Register (Word w) r h d x y = no_register t w r d y x
-  differ_apart t Register Location r n d x y = register_apart spelling.language.arch t r x (subst IsLocation (sym y.0) y.1)
-  differ_apart t Location Register n r d x y = register_apart spelling.language.arch t r y (subst IsLocation (sym x.0) x.1)
-  differ_apart t Location Value n v d x y = operand_apart spelling.language.arch t v y (subst IsLocation (sym x.0) x.1)
-  differ_apart t Value Location v n d x y = operand_apart spelling.language.arch t v x (subst IsLocation (sym y.0) y.1)
+  differ_apart t Register Location r n d x y = register_apart _ t r x (subst IsLocation (sym y.0) y.1)
+  differ_apart t Location Register n r d x y = register_apart _ t r y (subst IsLocation (sym x.0) x.1)
+  differ_apart t Location Value n v d x y = operand_apart _ t v y (subst IsLocation (sym x.0) x.1)
+  differ_apart t Value Location v n d x y = operand_apart _ t v x (subst IsLocation (sym y.0) y.1)
   differ_apart t a b g h d x y = absurd cc
 
   -- a `:` stands at no slot but its own
-  pub colon_gives : (slot : Slot W) (slots : List (Slot W)) (g : Given slot) → is_no_colon spelling (slot ∷ slots) ≡ true
-      → Gives spelling (codes ":") slot g → ⊥
+  pub colon_gives : (slot : Slot W) (slots : List (Slot W)) (g : Given slot)
+      → is_no_colon spelling (slot ∷ slots) ≡ true → Gives spelling (codes ":") slot g → ⊥
   colon_gives (Word w) slots g apart h = unequal _ _ apart (h ∙ colon_case spelling.language.arch)
-  colon_gives Register slots r apart h = true≢false (sym (register_reserved spelling.language.arch (codes ":") r h))
+  colon_gives Register slots r apart h = true≢false (sym (register_reserved _ (codes ":") r h))
   colon_gives Location slots x apart h = colon_location (subst IsLocation (sym h.0) h.1)
-  colon_gives Value slots (operand.Register r) apart h = true≢false (sym (register_reserved spelling.language.arch (codes ":") r h))
+  colon_gives Value slots (operand.Register r) apart h = true≢false (sym (register_reserved _ _ r h))
   colon_gives Value slots (operand.Number n) apart h = true≢false (sym (number_first (codes ":") n h))
   colon_gives Number slots n apart h = true≢false (sym (number_first (codes ":") n h))
   colon_gives Label slots l apart h = colon_location (subst IsLocation (sym h.0) h.1)
@@ -151,12 +136,11 @@ module _ {W Form Stmt : Type 0} (spelling : Spelling W Form Stmt) where
   filling_unique [] (slot ∷ slots) f g a b = absurd a
   filling_unique (t ∷ ts) [] f g a b = absurd a
   filling_unique (t ∷ ts) (slot ∷ slots) (x, f) (y, g) a b =
-      let e = given_unique t slot x y a.0 b.0 in
       let h = filling_unique ts slots f g a.1 b.1 in
-      ap (λ (z : Given slot). (z, f)) e ∙ ap (λ (z : Filling slots). (y, z)) h
+      ap (λ (z : Given slot). (z, f)) (given_unique t slot x y a.0 b.0) ∙ ap (λ (z : Filling slots). (y, z)) h
 
-  pub slots_apart : (ts : TokenList) (first second : List (Slot W)) (f : Filling first) (g : Filling second) → are_apart spelling first second ≡ true
-      → Fills spelling ts first f → Fills spelling ts second g → ⊥
+  pub slots_apart : (ts : TokenList) (first second : List (Slot W)) (f : Filling first) (g : Filling second)
+      → are_apart spelling first second ≡ true → Fills spelling ts first f → Fills spelling ts second g → ⊥
   slots_apart [] [] [] f g d x y = absurd cc
   slots_apart (t ∷ ts) [] second f g d x y = x
   slots_apart [] (a ∷ first) second f g d x y = x
@@ -165,6 +149,6 @@ module _ {W Form Stmt : Type 0} (spelling : Spelling W Form Stmt) where
   slots_apart (t ∷ ts) (a ∷ first) (b ∷ second) (p, f) (q, g) d x y =
       elim (cases_Bool (differ spelling a b)) [
         | inl e ↦ differ_apart t a b p q e x.0 y.0
-        | inr e ↦ slots_apart ts first second f g (let h : (false || are_apart spelling first second) ≡ true = subst
-            (λ (z : Bool). (z || are_apart spelling first second) ≡ true) e d in h) x.1 y.1
+        | inr e ↦ slots_apart ts first second f g (let h : (false || are_apart spelling first second) ≡ true
+            = subst (λ (z : Bool). (z || are_apart spelling first second) ≡ true) e d in h) x.1 y.1
       ]

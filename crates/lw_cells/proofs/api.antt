@@ -2,3 +2,4 @@
 pub mod Zips
 pub mod Forms
 pub mod Tests
+pub mod Greater

@@ -1,26 +1,32 @@
 -- What a reader of cells has read, and why it stopped.
-use Rattle.std.specs.Prelude.{◌≡◌, ◌≢◌, ◌<◌, ◌≤◌, ◌+◌, ◌⊎◌, ℕ, Option, Some, None, List, [], ◌∷◌, ◌++◌, length, map, take, codes, slice_get, All, Contains}
+use Rattle.std.specs.Prelude.{◌≡◌, ◌≢◌, ◌<◌, ◌≤◌, ◌+◌, ◌*◌, ◌⊎◌, ℕ, if◌then◌else◌, Option, Some, None, List, [], ◌∷◌, ◌++◌, length, map, take, drop}
+use Rattle.std.specs.Prelude.{codes, slice_get, All, Contains, IsSome, IfSome, MatchOption, is_some}
 use Rattle.std.specs.List.{AllZip, filter_map}
 use Rattle.std.specs.Option.{option_map, ForSome}
 use Rattle.lw_base.specs.Limits.{most_locations}
 use Rattle.lw_base.specs.Types.{Bytes, NameTable, TokenList, Cells, CellGrid}
 use Rattle.lw_base.specs.declared.fault.CellFault.{CellFault}
 use Rattle.lw_base.specs.declared.fault.CellCause.{CellCause}
-use Rattle.lw_base.specs.declared.fault.CellCause.TheVariants.{Form, Register, LabelMissing, LabelTwice, Backward, TooMany, Memory}
+use Rattle.lw_base.specs.declared.fault.CellCause.TheVariants.{LabelMissing, Backward, Memory}
 use Rattle.lw_base.specs.Lists.{EachOnce}
-use Rattle.lw_base.specs.Refusals.{NotFound, NotRead}
-use Rattle.lw_base.specs.Tables.{with_names}
+use Rattle.lw_base.specs.Refusals.{NoSuch}
+use Rattle.lw_base.specs.Tables.{contains_name, with_names}
 use Rattle.lw_text.specs.declared.cell.Cell.{Cell}
 use Rattle.lw_text.specs.declared.token.Token.{Token}
+use Rattle.lw_text.specs.PlacedCells.{PlacedCell, texts_of_grid}
 use Rattle.lw_text.specs.Places.{cells_texts, all_texts, placed_row, placed_cells, IsWithin}
 use Rattle.lw_text.specs.Spans.{texts}
 use Rattle.lw_cells.specs.declared.phrase.Phrase.{Phrase}
+use Rattle.lw_cells.specs.declared.draft.Draft.{Draft}
+use Rattle.lw_cells.specs.declared.draft.DraftCell.{DraftCell}
+use Rattle.lw_cells.specs.declared.draft.Operands.{Operands}
 use Rattle.lw_cells.specs.Grammars.{Grammar, CanBegin, BeforeLocation}
-use Rattle.lw_cells.specs.Cells.{CellSyntax, MaybeStatement, Labels, Column, statements, LeadsForward, names_in, names_of, code_in, resolved_statement}
+use Rattle.lw_cells.specs.Cells.{CellSyntax, MaybeStatement, Labels, Column, statements, LeadsForward, names_in, names_of, code_in}
 use Rattle.lw_cells.specs.declared.column.DraftColumn.{DraftColumn}
-use Rattle.lw_cells.specs.Drafts.{LabelMap, Targets, target_by, first_names, leading, LeadsAs, draft_in, ColumnDrafted}
-use Rattle.lw_cells.specs.Faults.{Tells}
-use Rattle.lw_cells.specs.Words.{IsNinthName, LiesWithin}
+use Rattle.lw_cells.specs.Drafts.{LabelMap, target_by, ReadOn, draft_in, ColumnDrafted}
+use Rattle.lw_cells.specs.Faults.{TellsBy}
+use Rattle.lw_cells.specs.Found.{leading_to}
+use Rattle.lw_cells.specs.Words.{Telling, Refused, IsNinthName, LiesWithin}
 
 -- ---- labels
 
@@ -28,21 +34,35 @@ use Rattle.lw_cells.specs.Words.{IsNinthName, LiesWithin}
 abbrev pub AtLabel : TokenList → Type 0
 AtLabel ts = slice_get ts 1 ≡ Some (codes ":")
 
--- So many tokens at the front of a cell are labels, which lead to this statement. The thread had those before.
-pub record LabelsRead (tokens : List Token) (to : ℕ) (before : Targets) (next : ℕ) (after : LabelMap) : Type 0 where
+-- The map leads these names somewhere, and no others.
+abbrev pub Knows : LabelMap → List Bytes → Type 0
+Knows labels names = (n : Bytes) → is_some (target_by labels n) ≡ contains_name names n
+
+-- So many tokens at the front of a cell are labels, which lead to this statement. The thread had those of a map before.
+pub record LabelsRead (tokens : List Token) (to : ℕ) (labels : LabelMap) (next : ℕ) (after : LabelMap) : Type 0 where
   pub names : List Bytes
   pub within : next ≤ length tokens
+  pub two_each : next ≡ 2 * length names
   pub says : Labels (texts (take next tokens)) names []
-  pub made : LeadsAs after (before ++ leading to names)
-  pub once : EachOnce (first_names before) → EachOnce (first_names before ++ names)
+  pub made : (n : Bytes) → target_by after n ≡ (if contains_name names n then Some to else target_by labels n)
+  pub once : (known : List Bytes) → Knows labels known → EachOnce known → EachOnce (known ++ names)
 
--- All labels of a cell, and what stands behind them; none of them is one of those before, or stands twice.
-abbrev pub LabelsFit : Targets → TokenList → List Bytes → TokenList → Type 0
-LabelsFit before ts names rest =
-    Labels ts names rest × (AtLabel rest → ⊥) × EachOnce (first_names before ++ names)
+-- These are all labels of the cell, and what stands behind them is none.
+pub record LabelsTaken (tokens : List Token) (to : ℕ) (labels : LabelMap) (next : ℕ) (after : LabelMap) : Type 0 where
+  pub read : LabelsRead tokens to labels next after
+  pub stops : AtLabel (texts (drop next tokens)) → ⊥
+
+-- All labels of a cell; none of them is one of those before, or stands twice.
+pub record LabelsFit (labels : LabelMap) (ts : TokenList) (names : List Bytes) : Type 0 where
+  pub known : List Bytes
+  pub knows : Knows labels known
+  pub rest : TokenList
+  pub says : Labels ts names rest
+  pub stops : AtLabel rest → ⊥
+  pub once : EachOnce (known ++ names)
 
 -- A label stands in a cell that its thread has already.
-pub record TwiceIn (tokens : List Token) (before : List Bytes) (at : ℕ) : Type 0 where
+pub record TwiceIn (tokens : List Token) (labels : LabelMap) (at : ℕ) : Type 0 where
   pub names : List Bytes
   pub place : ℕ
   pub token : Token
@@ -50,30 +70,12 @@ pub record TwiceIn (tokens : List Token) (before : List Bytes) (at : ℕ) : Type
   pub begins : token.at ≡ at
   pub says : Labels (texts (take place tokens)) names []
   pub colon : slice_get (texts tokens) (place + 1) ≡ Some (codes ":")
-  pub there : Contains (before ++ names) token.text.now
+  pub there : (known : List Bytes) → Knows labels known → Contains (known ++ names) token.text.now
 
--- why the labels of a cell are refused
-abbrev pub LabelCause : List Token → List Bytes → ℕ → CellCause → Type 0
-LabelCause tokens before at Form = Unit {0}
-LabelCause tokens before at Register = Unit {0}
-LabelCause tokens before at LabelTwice = TwiceIn tokens before at
-LabelCause tokens before at Memory = Unit {0}
-LabelCause tokens before at cause = ⊥
-
-abbrev pub LabelFault : List Token → List Bytes → CellFault → Type 0
-LabelFault tokens before f = LabelCause tokens before f.at f.cause
-
--- So many tokens at the front of a cell are its labels, and what stands behind them is none.
-pub record LabelsTaken (tokens : List Token) (to : ℕ) (labels : LabelMap) (next : ℕ) (after : LabelMap) : Type 0 where
-  pub within : next ≤ length tokens
-  pub read : (before : Targets) → LeadsAs labels before → LabelsRead tokens to before next after
-  pub stops : slice_get (texts tokens) (next + 1) ≡ Some (codes ":") → ⊥
-
--- The labels of a cell are refused, where the thread had those of the map before.
-pub record LabelsRefused (tokens : List Token) (labels : LabelMap) (fault : CellFault) : Type 0 where
-  pub none : (before : Targets) → LeadsAs labels before → NotRead Memory fault.cause (LabelsFit before (texts tokens))
-  pub cause : (before : Targets) → LeadsAs labels before → LabelFault tokens (first_names before) fault
-  pub place : (len : ℕ) → All (λ t. t.at ≤ len) tokens → fault.at ≤ len
+abbrev pub LabelsRefused : List Token → LabelMap → CellFault → Type 0
+LabelsRefused tokens labels =
+    Refused (NoSuch (LabelsFit labels (texts tokens))) (λ at. Telling ⊥ (TwiceIn tokens labels at) ⊥ ⊥)
+    (λ len. All (λ t. t.at ≤ len) tokens)
 
 -- ---- jumps
 
@@ -98,35 +100,37 @@ pub record LabelLost (labels : LabelMap) (number : ℕ) (tokens : List Token) (l
   pub begins : token.at ≡ fault.at
   pub because : JumpCause labels number token.text.now fault.cause
 
+-- Drafts that are resolved, by the statement that a form makes of operands.
+module _ {Form Stmt : Type 0} (make : Form → Operands → Option Stmt) where
+  -- The label of a draft, if it has one, is one of the tokens, and it makes a statement wherever that leads.
+  pub record IsResolvable (tokens : List Token) (draft : Draft Form) : Type 0 where
+    pub labelled : IfSome draft.label (λ k. k < length tokens)
+    pub makes : (labels : LabelMap) (number : ℕ) (to : Option ℕ) → LedForward labels number tokens draft.label to
+        → IsSome (make draft.form (leading_to to draft.operands))
+
+  -- This is made of it, and its label, if it has one, leads forward.
+  pub record IsResolved (labels : LabelMap) (number : ℕ) (tokens : List Token) (draft : Draft Form) (stmt : Stmt) : Type 0 where
+    pub to : Option ℕ
+    pub led : LedForward labels number tokens draft.label to
+    pub made : make draft.form (leading_to to draft.operands) ≡ Some stmt
+
+  -- The statement of a cell, if it has one, is resolved, and stands behind those before.
+  abbrev pub IsCellResolved : {A : Type 0} → LabelMap → Cell A → DraftCell (Draft Form) → List Stmt → List Stmt → Type 0
+  IsCellResolved labels cell draft before after =
+      MatchOption draft.stmt (after ≡ before)
+      (λ d. (stmt : Stmt) × IsResolved labels (length before) (drop draft.start cell.tokens) d stmt × (after ≡ before ++ stmt ∷ []))
+
+-- Memory ran out, or the label of the cell's jump, which is that of this number, is refused.
+abbrev pub IsUnresolved : {Form A : Type 0} → LabelMap → ℕ → Cell A → DraftCell (Draft Form) → CellFault → Type 0
+IsUnresolved {Form} labels number cell draft f =
+    ((f.cause ≡ Memory) × (f.at ≡ 0))
+    ⊎ ((d : Draft Form) × (draft.stmt ≡ Some d) × LabelLost labels number (drop draft.start cell.tokens) d.label f)
+
 -- what a cell without labels says
 abbrev pub bare : {Syntax : Type 0} → Option Syntax → CellSyntax Syntax
 bare o = record { labels = []; stmt = o }
 
 module _ {Syntax Stmt : Type 0} (grammar : Grammar Syntax Stmt) where
-  -- The label of the jump of this number, which is the last of these tokens, is refused.
-  pub record JumpRefused
-      (labels : LabelMap) (number : ℕ) (tokens : List Token) (s : Syntax) (at : ℕ) (cause : CellCause) : Type 0 where
-    pub front : List Token
-    pub token : Token
-    pub last : tokens ≡ front ++ token ∷ []
-    pub is : grammar.label_of s ≡ Some token.text.now
-    pub begins : token.at ≡ at
-    pub because : JumpCause labels number token.text.now cause
-
-  abbrev pub JumpFault : LabelMap → ℕ → List Token → Syntax → CellFault → Type 0
-  JumpFault labels number tokens s f = JumpRefused labels number tokens s f.at f.cause
-
-  -- Memory ran out, or the jump of the cell, which is that of this number, is refused.
-  abbrev pub IsUnresolved : {A : Type 0} → LabelMap → ℕ → Cell A → CellSyntax Syntax → CellFault → Type 0
-  IsUnresolved labels number cell syntax f =
-      ((f.cause ≡ Memory) × (f.at ≡ 0)) ⊎ ((s : Syntax) × (syntax.stmt ≡ Some s) × JumpFault labels number cell.tokens s f)
-
-  -- The statement of a cell, if it has one, is resolved, and stands behind those before. It leads forward.
-  pub record IsCellResolved
-      (names : NameTable) (syntaxes : List (CellSyntax Syntax)) (syntax : CellSyntax Syntax) (before after : List Stmt) : Type 0 where
-    pub made : after ≡ before ++ map (resolved_statement grammar names syntaxes) (statements (syntax ∷ []))
-    pub ahead : ForSome syntax.stmt (λ s. LeadsForward grammar syntaxes (length before) s)
-
   -- ---- statements
 
   -- A ninth location stands in a statement, where one may stand.
@@ -137,16 +141,9 @@ module _ {Syntax Stmt : Type 0} (grammar : Grammar Syntax Stmt) where
     pub before : BeforeLocation grammar (texts (take place tokens))
     pub ninth : IsNinthName names token at
 
-  -- why a statement is refused
-  abbrev pub StatementCause : List Token → NameTable → ℕ → CellCause → Type 0
-  StatementCause tokens names at Form = Unit {0}
-  StatementCause tokens names at Register = Unit {0}
-  StatementCause tokens names at TooMany = NinthIn tokens names at
-  StatementCause tokens names at Memory = Unit {0}
-  StatementCause tokens names at cause = ⊥
-
-  abbrev pub StatementFault : List Token → NameTable → CellFault → Type 0
-  StatementFault tokens names f = StatementCause tokens names f.at f.cause
+  -- what is told of a statement that is refused
+  abbrev pub StatementTold : List Token → NameTable → ℕ → CellCause → Type 0
+  StatementTold tokens names at = Telling ⊥ ⊥ ⊥ (NinthIn tokens names at)
 
   -- the name of a statement's location, if it has one
   abbrev pub named_by : Syntax → List Bytes
@@ -156,11 +153,9 @@ module _ {Syntax Stmt : Type 0} (grammar : Grammar Syntax Stmt) where
   abbrev pub Fits : NameTable → TokenList → Syntax → Type 0
   Fits names ts s = grammar.says ts s × (length (with_names names (named_by s)) ≤ most_locations)
 
-  -- A statement is refused.
-  pub record StatementRefused (names : NameTable) (phrase : Phrase) (fault : CellFault) : Type 0 where
-    pub none : NotFound Memory fault.cause (Fits names (texts phrase.tokens.now))
-    pub cause : StatementFault phrase.tokens.now names fault
-    pub place : (len : ℕ) → LiesWithin len phrase → fault.at ≤ len
+  abbrev pub StatementRefused : NameTable → Phrase → CellFault → Type 0
+  StatementRefused names phrase =
+      Refused (NoSuch (Fits names (texts phrase.tokens.now))) (StatementTold phrase.tokens.now names) (λ len. LiesWithin len phrase)
 
   -- The tokens say this, the table has room for it, and so has the thread, in which so many statements stand above.
   pub record FitsBelow (above : ℕ) (names : NameTable) (ts : TokenList) (o : Option Syntax) : Type 0 where
@@ -172,22 +167,14 @@ module _ {Syntax Stmt : Type 0} (grammar : Grammar Syntax Stmt) where
   abbrev pub BeginsAt : List Token → ℕ → Type 0
   BeginsAt tokens at = (t : Token) × (slice_get tokens 0 ≡ Some t) × (t.at ≡ at) × CanBegin grammar t.text.now
 
-  -- why what stands behind a cell's labels is refused, where so many statements stand above
-  abbrev pub MaybeCause : ℕ → List Token → NameTable → ℕ → CellCause → Type 0
-  MaybeCause above tokens names at Form = Unit {0}
-  MaybeCause above tokens names at Register = Unit {0}
-  MaybeCause above tokens names at TooMany = ((above ≡ grammar.language.most) × BeginsAt tokens at) ⊎ NinthIn tokens names at
-  MaybeCause above tokens names at Memory = Unit {0}
-  MaybeCause above tokens names at cause = ⊥
+  -- what is told of what stands behind a cell's labels, where so many statements stand above
+  abbrev pub MaybeTold : ℕ → List Token → NameTable → ℕ → CellCause → Type 0
+  MaybeTold above tokens names at =
+      Telling ⊥ ⊥ ⊥ (((above ≡ grammar.language.most) × BeginsAt tokens at) ⊎ NinthIn tokens names at)
 
-  abbrev pub MaybeFault : ℕ → List Token → NameTable → CellFault → Type 0
-  MaybeFault above tokens names f = MaybeCause above tokens names f.at f.cause
-
-  -- What stands behind a cell's labels is refused.
-  pub record MaybeRefused (above : ℕ) (names : NameTable) (phrase : Phrase) (fault : CellFault) : Type 0 where
-    pub none : NotFound Memory fault.cause (FitsBelow above names (texts phrase.tokens.now))
-    pub cause : MaybeFault above phrase.tokens.now names fault
-    pub place : (len : ℕ) → LiesWithin len phrase → fault.at ≤ len
+  abbrev pub MaybeRefused : ℕ → NameTable → Phrase → CellFault → Type 0
+  MaybeRefused above names phrase =
+      Refused (NoSuch (FitsBelow above names (texts phrase.tokens.now))) (MaybeTold above phrase.tokens.now names) (λ len. LiesWithin len phrase)
 
   -- ---- columns
 
@@ -206,52 +193,42 @@ module _ {Syntax Stmt : Type 0} (grammar : Grammar Syntax Stmt) where
       AllZip (Column grammar) columns t × (length (with_names names (names_of grammar t)) ≤ most_locations)
 
   -- The cells of a thread say its statements.
-  pub record ColumnRead (cells : Cells) (before : NameTable) (stmts : List Stmt) (after : NameTable) : Type 0 where
-    pub syntaxes : List (CellSyntax Syntax)
-    pub says : Column grammar cells syntaxes
-    pub names : after ≡ with_names before (names_in grammar syntaxes)
-    pub made : stmts ≡ code_in grammar after syntaxes
+  abbrev pub ColumnRead : Cells → NameTable → List Stmt → NameTable → Type 0
+  ColumnRead cells = ReadOn (Column grammar cells) (names_in grammar) (code_in grammar)
 
   -- So do those of some threads.
-  pub record ColumnsRead (columns : CellGrid) (before : NameTable) (threads : List (List Stmt)) (after : NameTable) : Type 0 where
-    pub syntaxes : List (List (CellSyntax Syntax))
-    pub says : AllZip (Column grammar) columns syntaxes
-    pub names : after ≡ with_names before (names_of grammar syntaxes)
-    pub made : threads ≡ map (code_in grammar after) syntaxes
+  abbrev pub ColumnsRead : CellGrid → NameTable → List (List Stmt) → NameTable → Type 0
+  ColumnsRead columns = ReadOn (AllZip (Column grammar) columns) (names_of grammar) (λ names. map (code_in grammar names))
+
+  -- what a thread's fault tells of its place, wherever the thread stands behind others that were read
+  abbrev pub ColumnTold : List PlacedCell → NameTable → ℕ → CellCause → Type 0
+  ColumnTold column mid at cause =
+      (names : NameTable) (front rest : List (List PlacedCell)) (threads : List (List (CellSyntax Syntax)))
+      → AllZip (Column grammar) (texts_of_grid front) threads → mid ≡ with_names names (names_of grammar threads)
+      → TellsBy grammar names (front ++ column ∷ rest) at cause
 
   -- The cells of a thread are refused.
-  pub record ColumnRefused {A : Type 0} (names : NameTable) (cells : List (Cell A)) (fault : CellFault) : Type 0 where
-    pub none : NotFound Memory fault.cause (ColumnFits names (cells_texts cells))
-    pub cause : Tells grammar names (placed_row cells ∷ []) fault
-    pub place : (len : ℕ) → All (IsWithin len) cells → fault.at ≤ len
+  abbrev pub ColumnRefused : {A : Type 0} → NameTable → List (Cell A) → CellFault → Type 0
+  ColumnRefused names cells =
+      Refused (NoSuch (ColumnFits names (cells_texts cells))) (ColumnTold (placed_row cells) names) (λ len. All (IsWithin len) cells)
 
   -- Those of some threads are.
-  pub record ColumnsRefused {A : Type 0} (names : NameTable) (columns : List (List (Cell A))) (fault : CellFault) : Type 0 where
-    pub none : NotFound Memory fault.cause (ColumnsFit names (all_texts columns))
-    pub cause : Tells grammar names (placed_cells columns) fault
-    pub place : (len : ℕ) → All (λ column. All (IsWithin len) column) columns → fault.at ≤ len
+  abbrev pub ColumnsRefused : {A : Type 0} → NameTable → List (List (Cell A)) → CellFault → Type 0
+  ColumnsRefused names columns =
+      Refused (NoSuch (ColumnsFit names (all_texts columns))) (TellsBy grammar names (placed_cells columns))
+      (λ len. All (λ column. All (IsWithin len) column) columns)
 
 -- What is read on a table, drafted.
 module _ {Syntax Stmt D : Type 0} (grammar : Grammar Syntax Stmt) (draft_of : ℕ → Syntax → D) where
-  -- The tokens say a statement, which takes one table to another.
-  pub record StatementRead (ts : TokenList) (before : NameTable) (draft : D) (after : NameTable) : Type 0 where
-    pub syntax : Syntax
-    pub says : grammar.says ts syntax
-    pub names : after ≡ with_names before (named_by grammar syntax)
-    pub made : draft ≡ draft_in grammar draft_of after syntax
+  -- The tokens say a statement.
+  abbrev pub StatementRead : TokenList → NameTable → D → NameTable → Type 0
+  StatementRead ts = ReadOn (grammar.says ts) (named_by grammar) (draft_in grammar draft_of)
 
   -- The tokens say nothing, or a statement, for which the thread has room.
   pub record MaybeRead (above : ℕ) (ts : TokenList) (before : NameTable) (draft : Option D) (after : NameTable) : Type 0 where
     pub room : ForSome draft (λ _. above ≢ grammar.language.most)
-    pub syntax : Option Syntax
-    pub says : MaybeStatement grammar ts syntax
-    pub names : after ≡ with_names before (names_in grammar (bare syntax ∷ []))
-    pub made : draft ≡ option_map (draft_in grammar draft_of after) syntax
-
-  -- The tokens say the statement, and this is its draft.
-  pub record IsDraft (names : NameTable) (ts : TokenList) (draft : D) (s : Syntax) : Type 0 where
-    pub says : grammar.says ts s
-    pub made : draft ≡ draft_in grammar draft_of names s
+    pub read : ReadOn (MaybeStatement grammar ts) (λ o. names_in grammar (bare o ∷ [])) (λ names. option_map (draft_in grammar draft_of names))
+        before draft after
 
   -- The column has a further cell; or is refused, whatever stands below the cell.
   abbrev pub CellRead : {A : Type 0} → Cell A → DraftColumn D A → NameTable → DraftColumn D A → NameTable → Type 0

@@ -4,7 +4,7 @@ use Rattle.lw_base.specs.Limits.{most_locations}
 use Rattle.lw_base.specs.Types.{Bytes, NameTable}
 use Rattle.lw_base.specs.declared.fault.CellFault.{CellFault}
 use Rattle.lw_base.specs.declared.fault.CellCause.{CellCause}
-use Rattle.lw_base.specs.declared.fault.CellCause.TheVariants.{Form, Register, TooMany, Memory}
+use Rattle.lw_base.specs.declared.fault.CellCause.TheVariants.{Form, Register, LabelMissing, LabelTwice, Backward, TooMany, Memory}
 use Rattle.lw_base.specs.Names.{IsLocation}
 use Rattle.lw_base.specs.Tables.{with_name, index_of}
 use Rattle.lw_text.specs.declared.token.Token.{Token}
@@ -29,16 +29,19 @@ abbrev pub IsNinthName : NameTable → Token → ℕ → Type 0
 IsNinthName names t at =
     (t.at ≡ at) × IsLocation t.text.now × (length names ≡ most_locations) × (Contains names t.text.now → ⊥)
 
--- why a token is refused where a location is wanted
-abbrev pub NameCause : NameTable → Token → ℕ → CellCause → Type 0
-NameCause names t at Form = Unit {0}
-NameCause names t at Register = Unit {0}
-NameCause names t at TooMany = IsNinthName names t at
-NameCause names t at Memory = Unit {0}
-NameCause names t at cause = ⊥
+-- What a cause tells of its place, where a label is missing or stands twice, a jump leads back, or one is too many. The others
+-- tell nothing.
+pub record Telling (no_label second_label backward one_more : Type 0) (cause : CellCause) : Type 0 where
+  pub missing : cause ≡ LabelMissing → no_label
+  pub twice : cause ≡ LabelTwice → second_label
+  pub back : cause ≡ Backward → backward
+  pub many : cause ≡ TooMany → one_more
 
-abbrev pub NameFault : NameTable → Token → CellFault → Type 0
-NameFault names t f = NameCause names t f.at f.cause
+-- Nothing fits, unless memory ran out; the cause tells this of its place, which lies where all does that was read.
+pub record Refused (unfit : Type 0) (told : ℕ → CellCause → Type 0) (lies : ℕ → Type 0) (fault : CellFault) : Type 0 where
+  pub none : fault.cause ≢ Memory → unfit
+  pub cause : told fault.at fault.cause
+  pub place : (len : ℕ) → lies len → fault.at ≤ len
 
 -- The token names a location, which has this number in the table with it.
 pub record NameRead (before : NameTable) (t : Token) (loc : ℕ) (after : NameTable) : Type 0 where
@@ -47,7 +50,6 @@ pub record NameRead (before : NameTable) (t : Token) (loc : ℕ) (after : NameTa
   pub number : loc ≡ index_of after t.text.now
 
 -- It names none that the table has or has room for.
-pub record NameRefused (names : NameTable) (t : Token) (fault : CellFault) : Type 0 where
-  pub none : fault.cause ≢ Memory → FitsTable names t.text.now → ⊥
-  pub cause : NameFault names t fault
-  pub place : (len : ℕ) → t.at ≤ len → fault.at ≤ len
+abbrev pub NameRefused : NameTable → Token → CellFault → Type 0
+NameRefused names t =
+    Refused (FitsTable names t.text.now → ⊥) (λ at. Telling ⊥ ⊥ ⊥ (IsNinthName names t at)) (λ len. t.at ≤ len)

@@ -1,18 +1,17 @@
 //! Reads the cells of a thread, from top to bottom, and then resolves its jumps.
-ghost use Rattle.std.specs.Prelude.{◌≡◌, ◌⊎◌, ℕ, ◌<◌, ◌≤◌, List, [], ◌∷◌, ◌++◌, Some, length, MatchResult, IfSome, IfOk, IfErr};
+ghost use Rattle.std.specs.Prelude.{◌≡◌, ◌⊎◌, ◌<◌, ◌≤◌, [], ◌∷◌, ◌++◌, Some, length, drop, MatchResult, IfSome, IfOk, IfErr};
 ghost use Rattle.std.specs.Option.{option_len};
 ghost use Rattle.lw_base.specs.Types.{NameTable};
 ghost use Rattle.lw_base.specs.declared.fault.CellCause.TheVariants.{TooMany, Memory};
 ghost use Rattle.lw_text.specs.Places.{cells_texts};
 ghost use Rattle.lw_text.specs.Spans.{texts};
 ghost use Rattle.lw_cells.specs.Grammars.{most_of, CanBegin};
-ghost use Rattle.lw_cells.specs.Spellings.{grammar_of, Said};
+ghost use Rattle.lw_cells.specs.Spellings.{grammar_of};
 ghost use Rattle.lw_cells.specs.Found.{draft_of, IsSpelling};
-ghost use Rattle.lw_cells.specs.Cells.{CellSyntax, LeadsForward, resolved_statement};
 ghost use Rattle.lw_cells.specs.Words.{IsMisfit};
-ghost use Rattle.lw_cells.specs.Drafts.{IsFresh, ColumnDrafted, IsCellDraft, LeadsAs, leading_in, target_by};
-ghost use Rattle.lw_cells.specs.Reading.{MaybeRead, MaybeRefused, IsDraft, LedForward, LabelLost, JumpCause, JumpFault, ColumnRead, ColumnRefused};
-ghost use Rattle.lw_cells.specs.Reading.{CellRead, CellRefused, IsCellResolved, IsUnresolved};
+ghost use Rattle.lw_cells.specs.Drafts.{IsFresh, ColumnDrafted, target_by};
+ghost use Rattle.lw_cells.specs.Reading.{MaybeRead, MaybeRefused, LedForward, LabelLost, JumpCause, ColumnRead, ColumnRefused};
+ghost use Rattle.lw_cells.specs.Reading.{CellRead, CellRefused, IsResolvable, IsResolved, IsCellResolved, IsUnresolved};
 
 use crate::draft::{Draft, DraftCell, Operands};
 use crate::labels::read_labels;
@@ -186,16 +185,10 @@ fn resolve_cell<L: StatementReader, A: Allocator + Copy>(
     labels: &BTreeMap<&str, usize, A>,
     code: &mut Sequence<L::Stmt, A>,
 ) -> Result<(), CellFault>
-    requires lawful { IsSpelling L.spelling L.made }
-    requires draft { (names : NameTable) × (syntax : CellSyntax (Said L.spelling))
-        × IsCellDraft (grammar_of L.spelling) (draft_of L.spelling) names cell.now draft syntax }
-    ensures { MatchResult result
-        (λ _. (names : NameTable) (syntax : CellSyntax (Said L.spelling)) (syntaxes : List (CellSyntax (Said L.spelling)))
-        → IsCellDraft (grammar_of L.spelling) (draft_of L.spelling) names cell.now draft syntax → LeadsAs labels.now (leading_in 0 syntaxes)
-        → IsCellResolved (grammar_of L.spelling) names syntaxes syntax code.old code.new)
-        (λ f. (names : NameTable) (syntax : CellSyntax (Said L.spelling))
-        → IsCellDraft (grammar_of L.spelling) (draft_of L.spelling) names cell.now draft syntax
-        → IsUnresolved (grammar_of L.spelling) labels.now (length code.old) cell.now syntax f) }
+    requires start { draft.start ≤ length cell.now.tokens }
+    requires resolvable { IfSome draft.stmt (IsResolvable L.made (drop draft.start cell.now.tokens)) }
+    ensures { MatchResult result (λ _. IsCellResolved L.made labels.now cell.now draft code.old code.new)
+        (IsUnresolved labels.now (length code.old) cell.now draft) }
 {
     let DraftCell { start, stmt } = draft;
     let Some(stmt) = stmt else {
@@ -213,16 +206,8 @@ fn resolve_one<L: StatementReader, A: Allocator>(
     number: usize,
     labels: &BTreeMap<&str, usize, A>,
 ) -> Result<L::Stmt, CellFault>
-    requires lawful { IsSpelling L.spelling L.made }
-    requires draft { (names : NameTable) × (s : (Said L.spelling))
-        × IsDraft (grammar_of L.spelling) (draft_of L.spelling) names (texts tokens.now) draft s }
-    ensures { MatchResult result
-        (λ stmt. (names : NameTable) (s : (Said L.spelling)) (syntaxes : List (CellSyntax (Said L.spelling)))
-        → IsDraft (grammar_of L.spelling) (draft_of L.spelling) names (texts tokens.now) draft s → LeadsAs labels.now (leading_in 0 syntaxes)
-        → (stmt ≡ resolved_statement (grammar_of L.spelling) names syntaxes s) × LeadsForward (grammar_of L.spelling) syntaxes number s)
-        (λ f. (names : NameTable) (s : Said L.spelling)
-        → IsDraft (grammar_of L.spelling) (draft_of L.spelling) names (texts tokens.now) draft s
-        → JumpFault (grammar_of L.spelling) labels.now number tokens.now s f) }
+    requires resolvable { IsResolvable L.made tokens.now draft }
+    ensures { MatchResult result (IsResolved L.made labels.now number tokens.now draft) (LabelLost labels.now number tokens.now draft.label) }
 {
     let to = jump_target(draft.label, tokens, number, labels)?;
     let operands = Operands {

@@ -17,7 +17,7 @@ ghost use Rattle.lw_cells.specs.Spellings.{grammar_of, Given, Gives, Filling, Fi
 ghost use Rattle.lw_cells.specs.Found.{CanStand, BeginsWith};
 ghost use Rattle.lw_cells.specs.Found as drafts;
 ghost use Rattle.lw_cells.specs.Found.{found_with, found_of, draft_of, IsNameAmong, IsDrafted, IsNotDrafted, IsNinthSlot, reach_of, AreFront, IsSpelling};
-ghost use Rattle.lw_cells.specs.Reading.{StatementRead, StatementFault, StatementRefused};
+ghost use Rattle.lw_cells.specs.Reading.{StatementRead, StatementTold, StatementRefused};
 
 use crate::draft::{Draft, Operands};
 use crate::phrase::Phrase;
@@ -317,7 +317,7 @@ fn refusal<L: StatementReader, A: Allocator>(
     locs: &LocNames<A>,
 ) -> CellFault
     requires { IsSpelling L.spelling L.made }
-    ensures { StatementFault (grammar_of L.spelling) phrase.now.tokens.now locs.now result
+    ensures { StatementTold (grammar_of L.spelling) phrase.now.tokens.now locs.now result.at result.cause
         × ((len : ℕ) → LiesWithin len phrase.now → result.at ≤ len) }
 {
     for form in L::forms() {
@@ -391,10 +391,7 @@ fn longest_reach<L: StatementReader>(tokens: &[Token<'_>]) -> usize
 {
     let mut longest = 0;
     for form in L::forms() {
-        let further = reach::<L>(L::slots(*form), tokens);
-        if longest < further {
-            longest = further;
-        }
+        longest = longest.max(reach::<L>(L::slots(*form), tokens));
     }
     longest
 }

@@ -1,5 +1,5 @@
 -- The entries of an initial block, one by one.
-use Rattle.std.proofs.Common.{◌≡◌, ℕ, List, [], ◌∷◌, ◌++◌, map, refl, ap, ◌∙◌, flat_map}
+use Rattle.std.proofs.Common.{◌≡◌, ℕ, List, [], ◌∷◌, map, refl, flat_map}
 use Rattle.std.specs.List.{range_with_len}
 use Rattle.std.proofs.lemmas.Grind.{flat_map-append}
 use Rattle.lw_base.specs.Types.{Bytes}
@@ -20,18 +20,15 @@ thread_entries head t = flat_map (register_entry head) (thread_registers t)
 
 flat_map-map : {X Y : Type 0} (f : Y → Bytes) (g : X → Y) (xs : List X) → flat_map f (map g xs) ≡ flat_map (λ x. f (g x)) xs
 flat_map-map f g [] = refl
-flat_map-map f g (x ∷ xs) = ap (λ t. f (g x) ++ t) (flat_map-map f g xs)
+flat_map-map f g (x ∷ xs) = rw (flat_map-map f g xs) refl
 
 flat_map-flat_map : {X Y : Type 0} (f : Y → Bytes) (g : X → List Y) (xs : List X) → flat_map f (flat_map g xs) ≡ flat_map (λ x. flat_map f (g x)) xs
 flat_map-flat_map f g [] = refl
-flat_map-flat_map f g (x ∷ xs) = flat_map-append f (g x) (flat_map g xs) ∙ ap (λ t. flat_map f (g x) ++ t) (flat_map-flat_map f g xs)
+flat_map-flat_map f g (x ∷ xs) = rw (flat_map-append f (g x), flat_map-flat_map f g xs) refl
 
 pub locations_are : (head : TestHead) (len : ℕ) → flat_map (entry_text head) (locations len) ≡ flat_map (location_entry head) (range_with_len 0 len)
 locations_are head len = flat_map-map (entry_text head) (λ x. Location x) (range_with_len 0 len)
 
-pub thread_is : (head : TestHead) (t : ℕ) → thread_entries head t ≡ flat_map (entry_of head t) (range_with_len 0 6)
-thread_is head t = flat_map-map (register_entry head) (λ r. Register t r) (range_with_len 0 6)
-
 pub registers_are : (head : TestHead) (threads : ℕ) → flat_map (register_entry head) (all_registers threads) ≡ flat_map (thread_entries head)
     (range_with_len 0 threads)
-registers_are head threads = flat_map-flat_map (register_entry head) thread_registers (range_with_len 0 threads)
+registers_are head threads = flat_map-flat_map (register_entry head) thread_registers _

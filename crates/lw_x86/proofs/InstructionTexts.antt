@@ -1,6 +1,6 @@
 -- The texts of operands make up an instruction's.
-use Rattle.std.proofs.Common.{◌≡◌, ℕ, ◌++◌, refl, ap, append_assoc, codes, slice_index_or, [], decimal}
-use Rattle.lw_base.specs.Types.{NameTable}
+use Rattle.std.proofs.Common.{◌≡◌, ℕ, refl, append_assoc, codes, slice_index_or, []}
+use Rattle.lw_base.specs.Types.{Bytes, NameTable}
 use Rattle.lw_base.specs.declared.head.Arch.TheVariants.{X86}
 use Rattle.lw_base.specs.declared.operand.Operand.{Operand}
 use Rattle.lw_base.specs.declared.operand.Operand.TheVariants.{Register, Number}
@@ -10,15 +10,18 @@ use Rattle.lw_x86.specs.CanonicalTexts.{instruction_text}
 use Rattle.lw_x86.specs.inner.OperandTexts.{operand_text, memory_text, with_operands}
 
 module _ (names : NameTable) (x : ℕ) where
+  abbrev name : Bytes
+  name = slice_index_or names x []
+
   pub store_text : (v : Operand) → with_operands (codes "MOV") (memory_text names x) (operand_text v) ≡ instruction_text names (Store x v)
-  store_text (Register r) = ap (λ t. codes "MOV [" ++ t) (append_assoc (slice_index_or names x []) (codes "]") (codes "," ++ register_name X86 r))
-  store_text (Number n) = ap (λ t. codes "MOV [" ++ t) (append_assoc (slice_index_or names x []) (codes "]") (codes ",$" ++ decimal n))
+  store_text (Register r) = rw (append_assoc name (codes "]")) refl
+  store_text (Number n) = rw (append_assoc name (codes "]")) refl
 
   pub exchange_text : (r : ℕ) → with_operands (codes "XCHG") (memory_text names x) (register_name X86 r) ≡ instruction_text names (Xchg x r)
-  exchange_text r = ap (λ t. codes "XCHG [" ++ t) (append_assoc (slice_index_or names x []) (codes "]") (codes "," ++ register_name X86 r))
+  exchange_text r = rw (append_assoc name (codes "]")) refl
 
   pub exchange_add_text : (r : ℕ) → with_operands (codes "LOCK XADD") (memory_text names x) (register_name X86 r) ≡ instruction_text names (Xadd x r)
-  exchange_add_text r = ap (λ t. codes "LOCK XADD [" ++ t) (append_assoc (slice_index_or names x []) (codes "]") (codes "," ++ register_name X86 r))
+  exchange_add_text r = rw (append_assoc name (codes "]")) refl
 
 module _ (names : NameTable) (d : ℕ) where
   pub set_text : (v : Operand) → with_operands (codes "MOV") (register_name X86 d) (operand_text v) ≡ instruction_text names (Set d v)

@@ -2,8 +2,7 @@ pub mod api
 pub mod X86Laws
 pub mod CellLists
 pub mod BlockTexts
-pub mod HeaderTexts
-pub mod ListedTexts
+pub mod SeparatedTexts
 pub mod InstructionTexts
 pub mod PrintedSlots
 pub mod PrintedInstructions

@@ -3,11 +3,10 @@ use Rattle.std.proofs.Common.{◌≡◌, ℕ, zero, suc, ◌+◌, ◌<◌, ◌||
 use Rattle.std.proofs.Common.{◌∷◌, ◌++◌, map, length, refl, sym, ap, ◌∙◌, arith, ◌==◌, if◌then◌else◌, filter}
 use Rattle.std.proofs.Common.{fold, slice_index_or, eqb-true}
 use Rattle.std.specs.List.{AllByRecursion, list_any, range_with_len}
-use Rattle.std.proofs.lemmas.Bool.{or_cases, or_right}
+use Rattle.std.proofs.lemmas.Map.Views.{any-filter_same}
 use Rattle.std.proofs.lemmas.List.{map-append}
 use Rattle.std.proofs.lemmas.List.FromFn.{fill_by_all}
-use Rattle.std.proofs.lemmas.List.Elements.{filter_map-append, filter_agree}
-use Rattle.lw_base.specs.Types.{NameTable}
+use Rattle.std.proofs.lemmas.List.Elements.{All-from_recursion, All-get_or, filter_map-append, filter_agree}
 use Rattle.lw_base.specs.declared.head.Seen.{Seen}
 use Rattle.lw_base.specs.declared.head.Seen.TheVariants.{Register, Location}
 use Rattle.lw_base.specs.Heads.{TestHead}
@@ -30,11 +29,15 @@ map_twice f g [] = refl
 map_twice f g (x ∷ xs) = let e = map_twice f g xs in cc
 
 module _ (head : TestHead) (well : IsWellFormedHead head) where
+  -- The site is of the test.
+  abbrev Sees : Seen → Type 0
+  Sees = IsSeen head.threads (length head.locs)
+
   -- ---- the table
 
   sites_are : (ss : List Seen) → map (λ e. e.site) (map (entry_of head) ss) ≡ map (named_site head.locs) ss
   sites_are [] = refl
-  sites_are (s ∷ ss) = ap (λ (l : List SiteSyntax). named_site head.locs s ∷ l) (sites_are ss)
+  sites_are (s ∷ ss) = rw (sites_are ss) refl
 
   abbrev InNoMemory : Seen → Type 0
   InNoMemory (Register t r) = Unit {0}
@@ -48,31 +51,33 @@ module _ (head : TestHead) (well : IsWellFormedHead head) where
   location_names : (a n : ℕ) → site_names (map (named_site head.locs) (map (λ x. Location x) (range_with_len a n))) ≡ map
       (λ x. slice_index_or head.locs x []) (range_with_len a n)
   location_names a zero = refl
-  location_names a (suc n) = ap (λ (l : NameTable). slice_index_or head.locs a [] ∷ l) (location_names (a + 1) n)
+  location_names a (suc n) = rw (location_names (a + 1) n) refl
 
   entered_names : site_names (map (λ e. e.site) (entries_of head)) ≡ head.locs
   entered_names =
       let registers = filter (has_entry head) (all_registers head.threads) in
-      let all = locations (length head.locs) in
       let none = no_names registers (all_filter InNoMemory (has_entry head) (all_registers head.threads)
       (all_of_flat InNoMemory thread_registers 0 head.threads (λ t le lt. all_of_range InNoMemory (λ r. Register t r) 0 6 (λ r le2 lt2. tt)))) in
-      ap site_names (sites_are (entered head) ∙ map-append (named_site head.locs) registers all)
-      ∙ filter_map-append site_name (map (named_site head.locs) registers) (map (named_site head.locs) all)
-      ∙ ap (λ (l : NameTable). l ++ site_names (map (named_site head.locs) all)) none
-      ∙ location_names 0 (length head.locs)
-      ∙ sym (fill_by_all (λ x. slice_index_or head.locs x []) head.locs (length head.locs) [] refl (λ k lt. refl))
+      rw (
+        sites_are (entered head),
+        map-append (named_site head.locs) registers (locations (length head.locs)),
+        filter_map-append site_name (map (named_site head.locs) registers),
+        none,
+        location_names 0 (length head.locs),
+      ) (sym (fill_by_all (λ x. slice_index_or head.locs x []) head.locs (length head.locs) [] refl (λ k lt. refl)))
 
   pub table_again : (more : List SiteSyntax) → AllByRecursion (IsPrintable head.threads head.locs) more
       → with_names [] (site_names (map (λ e. e.site) (entries_of head) ++ more)) ≡ head.locs
-  table_again more h =
-      ap (with_names []) (filter_map-append site_name (map (λ e. e.site) (entries_of head)) more ∙ ap (λ (l : NameTable). l ++ site_names more) entered_names)
-      ∙ with_names-append [] head.locs (site_names more)
-      ∙ ap (λ (t : NameTable). with_names t (site_names more)) (with_names-again head.locs well.table.once)
-      ∙ with_names-there head.locs (site_names more) (sites_in_table head.threads head.locs more h)
+  table_again more h = rw (
+    filter_map-append site_name (map (λ e. e.site) (entries_of head)) more,
+    entered_names,
+    with_names-append [] head.locs (site_names more),
+    with_names-again head.locs well.table.once,
+  ) (with_names-there head.locs (site_names more) (sites_in_table head.threads head.locs more h))
 
   -- ---- the words at the start
 
-  same_again : (x : Seen) → IsSeen head.threads (length head.locs) x → (s : Seen) → same_seen (seen_in head.locs (named_site head.locs x)) s ≡ same_seen x s
+  same_again : (x : Seen) → Sees x → (s : Seen) → same_seen (seen_in head.locs (named_site head.locs x)) s ≡ same_seen x s
   same_again x h s = ap (λ (y : Seen). same_seen y s) (seen_again head.threads head.locs well.table.once x h)
 
   abbrev last_word : Seen → ℕ → List EntrySyntax → ℕ
@@ -81,51 +86,33 @@ module _ (head : TestHead) (well : IsWellFormedHead head) where
   abbrev word_if : Bool → Seen → ℕ → ℕ
   word_if b s w = if b then initial_word head s else w
 
-  words_step : (ss : List Seen) (s : Seen) (w : ℕ) → AllByRecursion (IsSeen head.threads (length head.locs)) ss
+  words_step : (ss : List Seen) (s : Seen) (w : ℕ) → AllByRecursion Sees ss
       → last_word s w (map (entry_of head) ss) ≡ word_if (has_seen ss s) s w
   words_step [] s w h = refl
   words_step (x ∷ ss) s w h =
       ap (λ (b : Bool). last_word s (word_if b x w) (map (entry_of head) ss)) (same_again x h.0 s)
-      ∙ go (same_seen x s) refl (words_step ss s (initial_word head s) h.1) (words_step ss s w h.1)
+      ∙ go (same_seen x s) refl (λ v. words_step ss s v h.1)
     where
-      go : (b : Bool) → same_seen x s ≡ b
-          → last_word s (initial_word head s) (map (entry_of head) ss) ≡ word_if (has_seen ss s) s (initial_word head s)
-          → last_word s w (map (entry_of head) ss) ≡ word_if (has_seen ss s) s w
-          → last_word s (word_if (same_seen x s) x w) (map (entry_of head) ss) ≡ word_if (has_seen (x ∷ ss) s) s w
-      go true e now later =
-          ap (λ (b : Bool). last_word s (word_if b x w) (map (entry_of head) ss)) e
-          ∙ ap (λ (y : Seen). last_word s (initial_word head y) (map (entry_of head) ss)) (same_seen_is x s e)
-          ∙ now ∙ either (has_seen ss s) ∙ sym (ap (λ (b : Bool). word_if (b || has_seen ss s) s w) e)
+      go : (b : Bool) → same_seen x s ≡ b → ((v : ℕ) → last_word s v (map (entry_of head) ss) ≡ word_if (has_seen ss s) s v)
+          → last_word s (word_if b x w) (map (entry_of head) ss) ≡ word_if (b || has_seen ss s) s w
+      go true e step = step (initial_word head x) ∙ either (has_seen ss s)
         where
-          either : (b : Bool) → word_if b s (initial_word head s) ≡ initial_word head s
+          either : (b : Bool) → word_if b s (initial_word head x) ≡ initial_word head s
           either true = refl
-          either false = refl
-      go false e now later =
-          ap (λ (b : Bool). last_word s (word_if b x w) (map (entry_of head) ss)) e ∙ later ∙ sym (ap (λ (b : Bool). word_if (b || has_seen ss s) s w) e)
+          either false = ap (initial_word head) (same_seen_is x s e)
+      go false e step = step w
 
-  -- one whose word is not 0 has an entry
-  has_filtered : (p : Seen → Bool) (ss : List Seen) (s : Seen) → p s ≡ true → has_seen ss s ≡ true → has_seen (filter p ss) s ≡ true
-  has_filtered p [] s h k = k
-  has_filtered p (x ∷ ss) s h k = go (p x) refl (has_filtered p ss s h)
+  word_again : (s : Seen) → (initial_word head s ≡ 0) ⊎ (has_seen (entered head) s ≡ true) → word_of head.locs (entries_of head) s ≡ initial_word head s
+  word_again s = go (has_seen (entered head) s) (words_step (entered head) s 0 (entered_seen head well))
     where
-      go : (b : Bool) → p x ≡ b → (has_seen ss s ≡ true → has_seen (filter p ss) s ≡ true) → has_seen (filter p (x ∷ ss)) s ≡ true
-      go true e rest = rw e (elim (or_cases (same_seen x s) (has_seen ss s) k)
-          [ inl f ↦ rw f refl | inr g ↦ or_right (same_seen x s) (has_seen (filter p ss) s) (rest g) ])
-      go false e rest =
-          rw e (elim (or_cases (same_seen x s) (has_seen ss s) k) [
-            | inl f ↦ absurd (let g : p x ≡ p s = ap p (same_seen_is x s f) in cc)
-            | inr g ↦ rest g
-          ])
+      go : (b : Bool) → word_of head.locs (entries_of head) s ≡ word_if b s 0 → (initial_word head s ≡ 0) ⊎ (b ≡ true)
+          → word_of head.locs (entries_of head) s ≡ initial_word head s
+      go true step there = step
+      go false step (inl zero_word) = step ∙ sym zero_word
+      go false step (inr e) = absurd cc
 
-  words_if : (s : Seen) (b : Bool) → (initial_word head s ≡ 0) ⊎ (b ≡ true) → word_if b s 0 ≡ initial_word head s
-  words_if s true h = refl
-  words_if s false (inl e) = sym e
-  words_if s false (inr e) = absurd cc
-
-  pub register_again : (t r : ℕ) → t < head.threads → r < 6 → word_of head.locs (entries_of head) (Register t r) ≡ initial_word head (Register t r)
-  register_again t r h k =
-      words_step (entered head) (Register t r) 0 (entered_seen head well) ∙ words_if (Register t r) (has_seen (entered head) (Register t r))
-      (there (initial_word head (Register t r) == 0) refl)
+  register_again : (t r : ℕ) → t < head.threads → r < 6 → word_of head.locs (entries_of head) (Register t r) ≡ initial_word head (Register t r)
+  register_again t r h k = word_again (Register t r) (there (initial_word head (Register t r) == 0) refl)
     where
       there : (b : Bool) → (initial_word head (Register t r) == 0) ≡ b
           → (initial_word head (Register t r) ≡ 0) ⊎ (has_seen (entered head) (Register t r) ≡ true)
@@ -133,35 +120,27 @@ module _ (head : TestHead) (well : IsWellFormedHead head) where
       there false e =
           let entry : has_entry head (Register t r) ≡ true = rw e refl in
           inr (has_left (filter (has_entry head) (all_registers head.threads)) (locations (length head.locs)) (Register t r)
-          (has_filtered (has_entry head) (all_registers head.threads) (Register t r) entry (has_register head.threads t r h k)))
-
-  pub location_again : (x : ℕ) → x < length head.locs → word_of head.locs (entries_of head) (Location x) ≡ initial_word head (Location x)
-  location_again x h =
-      words_step (entered head) (Location x) 0 (entered_seen head well)
-      ∙ words_if (Location x) (has_seen (entered head) (Location x))
-      (inr (has_right (filter (has_entry head) (all_registers head.threads)) (locations (length head.locs)) (Location x)
-      (has_location (length head.locs) x h)))
-
-  row_long : (rows : List (List ℕ)) (t : ℕ) → t < length rows → AllByRecursion (λ row. length row ≡ 6) rows → length (slice_index_or rows t []) ≡ 6
-  row_long [] t lt h = absurd (omega arith)
-  row_long (row ∷ rows) zero lt h = h.0
-  row_long (row ∷ rows) (suc t) lt h = row_long rows t (omega (arith, lt)) h.1
+          (any-filter_same (λ x. same_seen x (Register t r)) (has_entry head) true
+          (λ x same. ap (has_entry head) (same_seen_is x (Register t r) same) ∙ entry) (all_registers head.threads) ∙ has_register head.threads t r h k))
 
   pub registers_again : map (λ t. map (word_of head.locs (entries_of head)) (thread_registers t)) (range_with_len 0 head.threads) ≡ head.init_regs
   registers_again =
       sym (fill_by_all (λ t. map (word_of head.locs (entries_of head)) (thread_registers t)) head.init_regs head.threads [] well.regs
       (λ t lt. fill_by_all (λ r. word_of head.locs (entries_of head) (Register t r)) (slice_index_or head.init_regs t []) 6 0
-      (row_long head.init_regs t (omega (arith, lt, well.regs)) well.six) (λ r k. sym (register_again t r lt k))))
+      (All-get_or (λ row. length row ≡ 6) head.init_regs t [] (omega (arith, lt, well.regs))
+        (All-from_recursion (λ row. length row ≡ 6) head.init_regs well.six))
+      (λ r k. sym (register_again t r lt k))))
 
   pub words_again : map (word_of head.locs (entries_of head)) (locations (length head.locs)) ≡ head.init_words
   words_again =
       map_twice (word_of head.locs (entries_of head)) (λ x. Location x) (range_with_len 0 (length head.locs))
       ∙ sym (fill_by_all (λ x. word_of head.locs (entries_of head) (Location x)) head.init_words (length head.locs) 0 well.words
-      (λ x lt. sym (location_again x lt)))
+      (λ x lt. sym (word_again (Location x) (inr (has_right (filter (has_entry head) (all_registers head.threads)) (locations (length head.locs))
+      (Location x) (has_location (length head.locs) x lt))))))
 
   -- ---- what is listed
 
-  listed_agrees : (ss : List Seen) → AllByRecursion (IsSeen head.threads (length head.locs)) ss → (s : Seen)
+  listed_agrees : (ss : List Seen) → AllByRecursion Sees ss → (s : Seen)
       → list_any (λ site. same_seen (seen_in head.locs site) s) (map (named_site head.locs) ss) ≡ has_seen ss s
   listed_agrees [] h s = refl
   listed_agrees (x ∷ ss) h s = rw (same_again x h.0 s, listed_agrees ss h.1 s) refl

@@ -1,10 +1,11 @@
 -- The labels of a thread as it is printed: each once, and each leads to its instruction.
 use Rattle.std.proofs.Common.{◌≡◌, ℕ, zero, suc, ◌+◌, ◌<◌, ◌≤◌, ◌^◌, inl, inr, Bool, true, false, Some, List}
-use Rattle.std.proofs.Common.{[], ◌∷◌, ◌++◌, map, length, refl, sym, ap, ◌∙◌, subst, arith, ◌==◌}
-use Rattle.std.proofs.Common.{if◌then◌else◌, slice_get, Contains, bytes_eq, decimal, eq-eqb, eqb-true}
-use Rattle.std.specs.List.{AllByRecursion, list_any}
-use Rattle.std.specs.Option.{option_map_or}
-use Rattle.std.proofs.lemmas.Bool.{cases_Bool, or_right, eqb-false}
+use Rattle.std.proofs.Common.{[], ◌∷◌, ◌++◌, map, drop, length, refl, sym, ap, ◌∙◌, arith, ◌==◌}
+use Rattle.std.proofs.Common.{slice_get, Contains, bytes_eq, decimal, eq-eqb, eqb-true, option_map}
+use Rattle.std.specs.List.{AllByRecursion, range_with_len, cons_option}
+use Rattle.std.proofs.lemmas.Bool.{cases_Bool, eqb-false, false_from_ne_true}
+use Rattle.std.proofs.lemmas.List.Folds.{list_any_at}
+use Rattle.std.proofs.lemmas.Option.{get_or_from_slice_get, slice_get_within}
 use Rattle.std.proofs.lemmas.Fmt.{decimal_injective}
 use Rattle.std.proofs.lemmas.Slice.Eq.{bytes_eq-Decides}
 use Rattle.std.proofs.lemmas.List.Elements.{All-contains, All-from_recursion, Contains-append_right}
@@ -12,14 +13,17 @@ use Rattle.lw_base.specs.Types.{Bytes, NameTable}
 use Rattle.lw_base.specs.Lists.{EachOnce}
 use Rattle.lw_base.specs.Tables.{contains_name}
 use Rattle.lw_base.proofs.api.Elements.{all_append, all_weaker}
-use Rattle.lw_cells.specs.Cells.{statements, labels_of, target_in}
+use Rattle.lw_base.proofs.api.Lists.{drop_all, get_some}
+use Rattle.lw_cells.specs.Cells.{CellSyntax, statements, labels_of, target_in}
+use Rattle.lw_cells.specs.Spellings.{Said}
 use Rattle.lw_litmus.specs.declared.instr.Instr.{Instr}
 use Rattle.lw_litmus.specs.Operations.{target_of}
 use Rattle.lw_litmus.specs.Programs.{x86_operation}
+use Rattle.lw_x86.specs.Spelling.{x86_spelling}
 use Rattle.lw_x86.specs.CanonicalTexts.{label, printed_as, jumps_to, is_target}
-use Rattle.lw_x86.proofs.PrintedCells.{front_labels, end_syntaxes, syntaxes_from}
+use Rattle.lw_x86.proofs.PrintedCells.{front_labels, cell_syntax}
 
-pub label_injective : (j k : ℕ) → j < 2 ^ 32 → k < 2 ^ 32 → label j ≡ label k → j ≡ k
+label_injective : (j k : ℕ) → j < 2 ^ 32 → k < 2 ^ 32 → label j ≡ label k → j ≡ k
 label_injective j k h l e = let f : decimal j ≡ decimal k = cc in decimal_injective j k (omega (arith, h)) (omega (arith, l)) f
 
 same_label : (k : ℕ) → bytes_eq (label k) (label k) ≡ true
@@ -27,29 +31,12 @@ same_label k = (bytes_eq-Decides (label k) (label k)).1 refl
 
 other_label : (j k : ℕ) → j < 2 ^ 32 → k < 2 ^ 32 → (j ≡ k → ⊥) → bytes_eq (label j) (label k) ≡ false
 other_label j k h l ne =
-    elim (cases_Bool (bytes_eq (label j) (label k))) [ inl e ↦ absurd (ne (label_injective j k h l ((bytes_eq-Decides (label j) (label k)).0 e))) | inr e ↦ e ]
+    false_from_ne_true (bytes_eq (label j) (label k)) (λ e. ne (label_injective j k h l ((bytes_eq-Decides (label j) (label k)).0 e)))
 
 -- an instruction's target is a target
 pub target_is : (code : List Instr) (k to : ℕ) (i : Instr) → slice_get code k ≡ Some i → target_of (x86_operation i) ≡ Some to → is_target code to ≡ true
-target_is [] k to i at e = absurd cc
-target_is (j ∷ code) zero to i at e =
-    let same : j ≡ i = cc in
-    let here : jumps_to to j ≡ true = ap (λ o. option_map_or (λ t. t == to) o false) (ap (λ i. target_of (x86_operation i)) same ∙ e) ∙ eq-eqb to to refl in
-    rw here refl
-target_is (j ∷ code) (suc k) to i at e = let further = target_is code k to i at e in or_right (jumps_to to j) (list_any (jumps_to to) code) further
-
--- ---- statements
-
-pub statements_are : (names : NameTable) (code : List Instr) (k : ℕ) (rest : List Instr)
-    → statements (syntaxes_from names code k rest) ≡ map (printed_as names) rest
-statements_are names code k [] = none (is_target code k)
-  where
-    none : (b : Bool) → statements (end_syntaxes b k) ≡ []
-    none true = refl
-    none false = refl
-statements_are names code k (i ∷ rest) = ap (λ ss. printed_as names i ∷ ss) (statements_are names code (suc k) rest)
-
--- ---- labels
+target_is code k to i at e =
+    list_any_at (jumps_to to) code k i (slice_get_within code k i at) (rw (get_or_from_slice_get code k i i at, e) (eq-eqb to to refl))
 
 -- a label of an instruction from the k-th on
 abbrev IsLabelFrom : ℕ → Bytes → Type 0
@@ -59,81 +46,73 @@ front_from : (b : Bool) (k : ℕ) → k < 2 ^ 32 → AllByRecursion (IsLabelFrom
 front_from true k h = ((k, omega arith, h, refl), tt)
 front_from false k h = tt
 
-labels_from : (names : NameTable) (code : List Instr) (k : ℕ) (rest : List Instr) → k + length rest < 2 ^ 32
-    → AllByRecursion (IsLabelFrom k) (labels_of (syntaxes_from names code k rest))
-labels_from names code k [] h = ends (is_target code k)
-  where
-    ends : (b : Bool) → AllByRecursion (IsLabelFrom k) (labels_of (end_syntaxes b k))
-    ends true = ((k, omega arith, omega (arith, h), refl), tt)
-    ends false = tt
-labels_from names code k (i ∷ rest) h =
-    all_append (IsLabelFrom k) (front_labels (is_target code k) k) (labels_of (syntaxes_from names code (suc k) rest))
-    (front_from (is_target code k) k (omega (arith, h)))
-    (all_weaker (IsLabelFrom (suc k)) (IsLabelFrom k) (λ l f. (f.0, omega (arith, f.1), f.2, f.3)) (labels_of (syntaxes_from names code (suc k) rest))
-    (labels_from names code (suc k) rest (omega (arith, h))))
-
-front_once : (b : Bool) (k : ℕ) (ls : List Bytes) → k < 2 ^ 32 → AllByRecursion (IsLabelFrom (suc k)) ls → EachOnce ls → EachOnce (front_labels b k ++ ls)
+front_once : (b : Bool) (k : ℕ) (ls : List Bytes) → k < 2 ^ 32 → AllByRecursion (IsLabelFrom (k + 1)) ls → EachOnce ls → EachOnce (front_labels b k ++ ls)
 front_once true k ls h from once = (
-  (λ there. let f = All-contains (IsLabelFrom (suc k)) ls (label k) (All-from_recursion (IsLabelFrom (suc k)) ls from) there in omega
+  (λ there. let f = All-contains (IsLabelFrom (k + 1)) ls (label k) (All-from_recursion (IsLabelFrom (k + 1)) ls from) there in omega
       (arith, f.1, label_injective k f.0 h f.2 f.3)),
   once,
 )
 front_once false k ls h from once = once
 
-pub labels_once : (names : NameTable) (code : List Instr) (k : ℕ) (rest : List Instr) → k + length rest < 2 ^ 32
-    → EachOnce (labels_of (syntaxes_from names code k rest))
-labels_once names code k [] h = ends (is_target code k)
-  where
-    ends : (b : Bool) → EachOnce (labels_of (end_syntaxes b k))
-    ends true = ((λ there. let e : there.0 < 0 = there.1 in omega arith), tt)
-    ends false = tt
-labels_once names code k (i ∷ rest) h =
-    front_once (is_target code k) k (labels_of (syntaxes_from names code (suc k) rest)) (omega (arith, h))
-    (labels_from names code (suc k) rest (omega (arith, h))) (labels_once names code (suc k) rest (omega (arith, h)))
+module _ (names : NameTable) (code : List Instr) where
+  -- what so many cells say, from the k-th on
+  abbrev pub syntaxes_from : ℕ → ℕ → List (CellSyntax (Said x86_spelling))
+  syntaxes_from k n = map (cell_syntax names code) (range_with_len k n)
 
--- ---- where they lead
+  -- ---- statements
 
-module _ (names : NameTable) (code : List Instr) (to : ℕ) (small : to < 2 ^ 32) (target : is_target code to ≡ true) where
-  pub label_there : (k : ℕ) (rest : List Instr) → k ≤ to → to ≤ k + length rest → Contains (labels_of (syntaxes_from names code k rest)) (label to)
-  label_there k [] le most =
-      let e : to ≡ k = omega (arith, le, most) in
-      subst (λ (j : ℕ). Contains (labels_of (end_syntaxes (is_target code j) j)) (label to)) e (rw target (0, omega arith, refl))
-  label_there k (i ∷ rest) le most =
-      elim (cases_Bool (to == k)) [
-        | inl e ↦ subst (λ (j : ℕ). Contains (front_labels (is_target code j) j ++ labels_of (syntaxes_from names code (suc j) rest)) (label to))
-            (eqb-true to k e) (rw target (0, omega arith, refl))
-        | inr e ↦ Contains-append_right (front_labels (is_target code k) k) (labels_of (syntaxes_from names code (suc k) rest)) (label to)
-            (label_there (suc k) rest (omega (arith, le, eqb-false to k e)) (omega (arith, most)))
-      ]
+  next_statement : (rest : List Instr) (k : ℕ)
+      → map (printed_as names) (drop k rest) ≡ cons_option (option_map (printed_as names) (slice_get rest k)) (map (printed_as names) (drop (suc k) rest))
+  next_statement [] zero = refl
+  next_statement [] (suc k) = refl
+  next_statement (i ∷ rest) zero = refl
+  next_statement (i ∷ rest) (suc k) = next_statement rest k
 
-  ends_lead : (b : Bool) (k : ℕ) → target_in (end_syntaxes b k) (label to) ≡ 0
-  ends_lead true k = go (contains_name (label k ∷ []) (label to))
-    where
-      go : (c : Bool) → (if c then 0 else 0 + 0) ≡ 0
-      go true = refl
-      go false = refl
-  ends_lead false k = refl
+  pub statements_are : (k n : ℕ) → length code ≤ k + n → statements (syntaxes_from k n) ≡ map (printed_as names) (drop k code)
+  statements_are k zero all = ap (map (printed_as names)) (sym (drop_all code k (omega (arith, all))))
+  statements_are k (suc n) all =
+      let next : k + 1 ≡ suc k = omega arith in
+      ap (cons_option (option_map (printed_as names) (slice_get code k))) (statements_are (k + 1) n (omega (arith, all))
+      ∙ ap (λ (j : ℕ). map (printed_as names) (drop j code)) next) ∙ sym (next_statement code k)
 
-  fronts_other : (b : Bool) (k : ℕ) → k < 2 ^ 32 → (k ≡ to → ⊥) → contains_name (front_labels b k) (label to) ≡ false
-  fronts_other true k h ne = rw (other_label k to h small ne) refl
-  fronts_other false k h ne = refl
+  -- ---- labels
 
-  front_here : (b : Bool) → b ≡ true → contains_name (front_labels b to) (label to) ≡ true
-  front_here true e = rw (same_label to) refl
-  front_here false e = absurd cc
+  pub labels_fine : (k n : ℕ) → k + n < 2 ^ 32
+      → AllByRecursion (IsLabelFrom k) (labels_of (syntaxes_from k n)) × EachOnce (labels_of (syntaxes_from k n))
+  labels_fine k zero h = (tt, tt)
+  labels_fine k (suc n) h =
+      let more = labels_fine (k + 1) n (omega (arith, h)) in
+      let labels = labels_of (syntaxes_from (k + 1) n) in
+      let small : k < 2 ^ 32 = omega (arith, h) in (
+        all_append (IsLabelFrom k) (front_labels (is_target code k) k) labels (front_from (is_target code k) k small)
+            (all_weaker (IsLabelFrom (k + 1)) (IsLabelFrom k) (λ l f. (f.0, omega (arith, f.1), f.2, f.3)) labels more.0),
+        front_once (is_target code k) k labels small more.0 more.1,
+      )
 
-  pub label_leads : (k : ℕ) (rest : List Instr) → k ≤ to → to ≤ k + length rest → k + target_in (syntaxes_from names code k rest) (label to) ≡ to
-  label_leads k [] le most = omega (arith, ends_lead (is_target code k) k, le, most)
-  label_leads k (i ∷ rest) le most =
-      elim (cases_Bool (to == k)) [
-        | inl e ↦
-            let same : to ≡ k = eqb-true to k e in
-            let here : contains_name (front_labels (is_target code k) k) (label to) ≡ true = subst
-            (λ (j : ℕ). contains_name (front_labels (is_target code j) j) (label to) ≡ true) same (front_here (is_target code to) target) in
-            rw here (omega (arith, same))
-        | inr e ↦
-            let apart : contains_name (front_labels (is_target code k) k) (label to) ≡ false = fronts_other (is_target code k) k
-            (omega (arith, le, small)) (λ f. eqb-false to k e (sym f)) in
-            let further = label_leads (suc k) rest (omega (arith, le, eqb-false to k e)) (omega (arith, most)) in
-            rw apart (omega (arith, further))
-      ]
+  -- ---- where they lead
+
+  module _ (to : ℕ) (small : to < 2 ^ 32) (target : is_target code to ≡ true) where
+    fronts_other : (b : Bool) (k : ℕ) → k < 2 ^ 32 → (k ≡ to → ⊥) → contains_name (front_labels b k) (label to) ≡ false
+    fronts_other true k h ne = rw (other_label k to h small ne) refl
+    fronts_other false k h ne = refl
+
+    -- each cell above it has an instruction
+    pub label_leads : to ≤ length code → (k n : ℕ) → k ≤ to → to < k + n
+        → Contains (labels_of (syntaxes_from k n)) (label to) × (k + target_in (syntaxes_from k n) (label to) ≡ to)
+    label_leads within k zero le lt = absurd (omega (arith, le, lt))
+    label_leads within k (suc n) le lt =
+        elim (cases_Bool (to == k)) [
+          | inl e ↦
+              let same : k ≡ to = sym (eqb-true to k e) in
+              let needed : is_target code k ≡ true = rw same target in
+              let here : contains_name (front_labels (is_target code k) k) (label to) ≡ true = rw (needed, same, same_label to) refl in
+              (rw needed (0, omega arith, ap label same), rw here (omega (arith, same)))
+          | inr e ↦
+              let apart : contains_name (front_labels (is_target code k) k) (label to) ≡ false = fronts_other (is_target code k) k
+              (omega (arith, le, small)) (λ f. eqb-false to k e (sym f)) in
+              let some = get_some code k (omega (arith, le, within, eqb-false to k e)) in
+              let more = label_leads within (k + 1) n (omega (arith, le, eqb-false to k e)) (omega (arith, lt)) in (
+                Contains-append_right (front_labels (is_target code k) k) (labels_of (syntaxes_from (k + 1) n)) (label to) more.0,
+                rw (apart, some.1) (omega (arith, more.1)),
+              )
+        ]

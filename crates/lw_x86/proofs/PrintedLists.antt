@@ -1,20 +1,20 @@
 -- What is listed, and the condition, as they are printed: their texts spell tokens, which say them again.
 use Rattle.std.proofs.Common.{◌≡◌, ℕ, suc, ◌+◌, ◌*◌, inl, inr, true, false, List, [], ◌∷◌, ◌++◌, map, length}
-use Rattle.std.proofs.Common.{refl, sym, subst, arith, append_assoc, append-nil, codes, flat_map}
+use Rattle.std.proofs.Common.{refl, arith, append_assoc, append-nil, codes, flat_map}
 use Rattle.std.specs.List.{AllByRecursion}
 use Rattle.lw_base.specs.Types.{NameTable, TokenList}
 use Rattle.lw_base.specs.declared.head.Arch.TheVariants.{X86}
 use Rattle.lw_base.specs.declared.head.Quant.{Quant}
 use Rattle.lw_base.specs.declared.head.Quant.TheVariants.{Exists}
 use Rattle.lw_base.specs.declared.head.Seen.{Seen}
-use Rattle.lw_base.specs.ConditionTexts.{in_parentheses, proposition_text, quantifier_text, condition_text}
+use Rattle.lw_base.specs.ConditionTexts.{condition_text}
 use Rattle.lw_base.specs.Heads.{TestHead}
 use Rattle.lw_base.specs.WellFormed.{IsSeen, IsWellFormedHead}
 use Rattle.lw_text.specs.Sites.{SiteSyntax, IsSite}
 use Rattle.lw_text.specs.Rows.{begins_stop}
-use Rattle.lw_text.specs.Conditions.{AtomSyntax, Listed, Sites, Condition, begins_word}
+use Rattle.lw_text.specs.Conditions.{AtomSyntax, Listed, Condition, begins_word}
 use Rattle.lw_text.specs.Propositions.{Terminal}
-use Rattle.lw_base.proofs.api.Elements.{all_weaker}
+use Rattle.lw_base.proofs.api.Elements.{all_map, all_weaker}
 use Rattle.lw_base.proofs.api.ListedAgain.{listed_few, most_seen}
 use Rattle.lw_text.proofs.api.Spelling.{Anything, Spells, Spells-nothing, Spells-then, Spells-on}
 use Rattle.lw_text.proofs.api.Spelling.{Spells-within, Spells-space, Spells-newline, Spells-mark, Spells-name}
@@ -54,14 +54,18 @@ abbrev pub condition_bytes : ℕ
 condition_bytes = 15397
 
 module _ (head : TestHead) (well : IsWellFormedHead head) where
+  -- The site is of the test.
+  abbrev Sees : Seen → Type 0
+  Sees = IsSeen head.threads (length head.locs)
+
   -- ---- the texts
 
-  element_spelled : (s : Seen) → IsSeen head.threads (length head.locs) s
+  element_spelled : (s : Seen) → Sees s
       → Spells Anything 44 (element_text head.locs s) (element_tokens (named_site head.locs s))
   element_spelled s h = Spells-then (λ rest g. refl) (site_spelled X86 head.threads well.few head.locs well.table.all s h)
       (Spells-mark 59 refl (λ c. refl) refl (omega arith))
 
-  elements_spelled : (ss : List Seen) → AllByRecursion (IsSeen head.threads (length head.locs)) ss
+  elements_spelled : (ss : List Seen) → AllByRecursion Sees ss
       → Spells Anything (45 * length ss) (flat_map (λ next. codes " " ++ next) (map (element_text head.locs) ss))
       (flat_map element_tokens (named_sites head.locs ss))
   elements_spelled [] h = Spells-within (45 * 0) (omega arith) (Spells-nothing Anything)
@@ -73,7 +77,7 @@ module _ (head : TestHead) (well : IsWellFormedHead head) where
       Spells-then (λ rest g. refl) (Spells-name (codes "locations") (name_by_test (codes "locations") refl))
       (Spells-on Spells-space (Spells-mark 91 refl (λ c. refl) refl (omega arith)))
 
-  list_spelled : (ss : List Seen) → AllByRecursion (IsSeen head.threads (length head.locs)) ss
+  list_spelled : (ss : List Seen) → AllByRecursion Sees ss
       → Spells Anything (80 + 45 * length ss) (listed_text head.locs ss) (listed_tokens head.locs ss)
   list_spelled [] h = Spells-within (80 + 45 * 0) (omega arith) (Spells-nothing Anything)
   list_spelled (s ∷ ss) h =
@@ -94,47 +98,38 @@ module _ (head : TestHead) (well : IsWellFormedHead head) where
   condition_spelled arch =
       let proposition = whole_spelled X86 head.threads well.few head.locs well.table.all head.condition well.condition in
       let line = Spells-on (Spells-then {G = Anything} (λ rest g. refl) (quantifier_spelled head.quant) (Spells-on Spells-space proposition)) Spells-newline in
-      subst (λ (ts : TokenList). Spells Anything condition_bytes (condition_text head ++ codes "\n") ts) (append-nil (condition_tokens head))
-      (subst (λ a. Spells Anything condition_bytes
-      ((quantifier_text head.quant ++ (codes " " ++ in_parentheses (proposition_text a head.locs head.condition))) ++ codes "\n")
-      (condition_tokens head ++ [])) (sym arch)
-      (Spells-within condition_bytes (omega (arith, well.nodes_few)) line))
+      rw (arch, ← append-nil (condition_tokens head)) (Spells-within condition_bytes (omega (arith, well.nodes_few)) line)
 
   -- ---- what the tokens say
 
-  sites_printable : (ss : List Seen) → AllByRecursion (IsSeen head.threads (length head.locs)) ss
-      → AllByRecursion (IsPrintable head.threads head.locs) (named_sites head.locs ss)
-  sites_printable [] h = tt
-  sites_printable (s ∷ ss) h = (named_printable head.threads head.locs well.table.all s h.0, sites_printable ss h.1)
-
   pub listed_printable : AllByRecursion (IsPrintable head.threads head.locs) (named_sites head.locs head.listed)
-  listed_printable = sites_printable head.listed well.there
+  listed_printable = all_map (IsPrintable head.threads head.locs) (named_site head.locs) head.listed
+      (all_weaker _ _ (named_printable head.threads head.locs well.table.all) head.listed well.there)
 
   list_said : (ss : List Seen) (rest : TokenList) → AllByRecursion (IsPrintable head.threads head.locs) (named_sites head.locs ss)
       → begins_word (codes "locations") rest ≡ false → Listed X86 (listed_tokens head.locs ss ++ rest) (named_sites head.locs ss) rest
   list_said [] rest h other = inr (other, refl, refl)
   list_said (s ∷ ss) rest h other =
       let sites = named_sites head.locs (s ∷ ss) in
-      let elements = flat_map element_tokens sites in
-      let said = ended_said (IsSite X86) (site_tokens X86) (codes ";") (codes "]") sites rest
-      (all_weaker _ _ (λ site p l. site_said X86 head.threads well.few head.locs site l p) sites h) in
       inl (
-        (elements ++ (codes "]" ∷ [])) ++ rest,
+        (flat_map element_tokens sites ++ (codes "]" ∷ [])) ++ rest,
         refl,
-        subst (λ (ts : TokenList). Sites X86 ts sites rest)
-            (sym (append_assoc elements (codes "]" ∷ []) rest)) said,
+        rw (append_assoc (flat_map element_tokens sites)) (ended_said (IsSite X86) (site_tokens X86) (codes ";") (codes "]") sites rest
+            (all_weaker _ _ (λ site p l. site_said X86 head.threads well.few head.locs site l p) sites h)),
       )
 
-  quantifier_other : (q : Quant) (rest : TokenList) → begins_word (codes "locations") (quantifier_tokens q ++ rest) ≡ false
-  quantifier_other Exists rest = refl
-  quantifier_other q rest = refl
+  -- a quantifier begins no list, and ends the rows
+  quantifier_begins : (q : Quant) (rest : TokenList)
+      → (begins_word (codes "locations") (quantifier_tokens q ++ rest) ≡ false) × (begins_stop (quantifier_tokens q ++ rest) ≡ true)
+  quantifier_begins Exists rest = (refl, refl)
+  quantifier_begins q rest = (refl, refl)
 
   pub condition_said : Condition X86 head.threads (listed_tokens head.locs head.listed ++ condition_tokens head)
       (named_sites head.locs head.listed) head.quant (terminals_in head)
   condition_said = record {
     behind_list = condition_tokens head;
     behind_quant = flat_map (terminal_tokens X86) (terminals_in head);
-    lists = list_said head.listed (condition_tokens head) listed_printable (quantifier_other head.quant (flat_map (terminal_tokens X86) (terminals_in head)));
+    lists = list_said head.listed (condition_tokens head) listed_printable (quantifier_begins head.quant _).0;
     there = all_weaker _ _ (λ site p. site_exists X86 head.threads well.few head.locs site p) (named_sites head.locs head.listed) listed_printable;
     quantifies = quantifier_said head.quant (flat_map (terminal_tokens X86) (terminals_in head));
     says = terminals_said X86 head.threads well.few head.locs (terminals_in head)
@@ -142,13 +137,9 @@ module _ (head : TestHead) (well : IsWellFormedHead head) where
   }
 
   -- the rows end where the list or the condition begins
-  quantifier_stops : (q : Quant) (rest : TokenList) → begins_stop (quantifier_tokens q ++ rest) ≡ true
-  quantifier_stops Exists rest = refl
-  quantifier_stops q rest = refl
-
   list_stops : (ss : List Seen) (rest : TokenList) → begins_stop rest ≡ true → begins_stop (listed_tokens head.locs ss ++ rest) ≡ true
   list_stops [] rest h = h
   list_stops (s ∷ ss) rest h = refl
 
   pub rows_stop : begins_stop (listed_tokens head.locs head.listed ++ condition_tokens head) ≡ true
-  rows_stop = list_stops head.listed (condition_tokens head) (quantifier_stops head.quant (flat_map (terminal_tokens X86) (terminals_in head)))
+  rows_stop = list_stops head.listed (condition_tokens head) (quantifier_begins head.quant (flat_map (terminal_tokens X86) (terminals_in head))).1

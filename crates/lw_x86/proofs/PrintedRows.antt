@@ -1,23 +1,21 @@
 -- Rows as they are printed: their texts spell tokens, which are cells between bars.
 use Rattle.std.proofs.Common.{◌≡◌, ℕ, zero, suc, ◌+◌, ◌*◌, ◌<◌, ◌≤◌, true, false, List, [], ◌∷◌, ◌++◌, map}
-use Rattle.std.proofs.Common.{length, refl, sym, ap, ◌∙◌, subst, arith, append_assoc, codes, slice_index_or}
+use Rattle.std.proofs.Common.{length, refl, arith, append_assoc, codes}
 use Rattle.std.proofs.Common.{flat_map}
 use Rattle.std.specs.List.{AllByRecursion, AllZip, range_with_len}
 use Rattle.std.proofs.lemmas.Bool.{agree_below_at}
-use Rattle.std.proofs.lemmas.List.{length-map}
-use Rattle.std.proofs.lemmas.List.FromFn.{length-range_with_len}
+use Rattle.std.proofs.lemmas.List.FromFn.{length-map-range_with_len}
 use Rattle.lw_base.specs.Types.{Bytes, TokenList, Cells, CellGrid}
 use Rattle.lw_base.specs.Characters.{begins, is_blank}
 use Rattle.lw_base.specs.Limits.{most_threads}
-use Rattle.lw_base.specs.Names.{IsName}
 use Rattle.lw_text.specs.Lists.{Until}
 use Rattle.lw_text.specs.Rows.{thread_name, Names, Header, RowCells, Row, begins_stop}
 use Rattle.lw_text.proofs.api.Spelling.{Anything, IsBlankNext, Spells, Spells-then, Spells-on, Spells-before}
 use Rattle.lw_text.proofs.api.Spelling.{Spells-within, Spells-nothing, Spells-space, Spells-newline}
 use Rattle.lw_text.proofs.api.Spelling.{Spells-mark, Spells-name, is_name_text, name_by_test, blank_ends_word}
-use Rattle.lw_x86.specs.CanonicalTexts.{row_text, row_of, header_text}
+use Rattle.lw_x86.specs.CanonicalTexts.{row_text, header_text}
 use Rattle.lw_x86.proofs.PrintedSlots.{EndsNoCell, name_no_end}
-use Rattle.lw_x86.proofs.PrintedCells.{IsPrintedCell, empty_printed}
+use Rattle.lw_x86.proofs.PrintedCells.{IsPrintedCell}
 
 -- ---- one row
 
@@ -47,11 +45,7 @@ behind_spelled : (cells : List Bytes) (ts : Cells) → AllZip IsPrintedCell cell
     → Spells Anything (153 * length cells + 3) (behind_text cells) (tokens_behind ts)
 behind_spelled [] [] h = Spells-within (153 * 0 + 3) (omega arith) row_end
 behind_spelled (c ∷ cells) (t ∷ ts) h =
-    let rest = flat_map (λ next. codes " | " ++ next) cells in
-    let e : ((codes " | " ++ c) ++ rest) ++ codes " ;\n" ≡ codes " | " ++ (c ++ (rest ++ codes " ;\n")) = append_assoc (codes " | " ++ c) rest
-    (codes " ;\n") ∙ append_assoc (codes " | ") c (rest ++ codes " ;\n") in
-    subst (λ (text : Bytes). Spells Anything (153 * suc (length cells) + 3) text (tokens_behind (t ∷ ts))) (sym e)
-    (Spells-within (153 * suc (length cells) + 3) (omega arith)
+    rw (append_assoc c) (Spells-within (153 * suc (length cells) + 3) (omega arith)
     (Spells-on bar (Spells-then (λ more g. begins_behind cells more) h.0.spells (behind_spelled cells ts h.1))))
 behind_spelled cells ts h = absurd h
 
@@ -60,11 +54,7 @@ pub row_spelled : (cells : List Bytes) (ts : Cells) → 1 ≤ length cells → A
 row_spelled [] ts some h = absurd (omega arith)
 row_spelled (c ∷ cells) [] some h = absurd h
 row_spelled (c ∷ cells) (t ∷ ts) some h =
-    let rest = flat_map (λ next. codes " | " ++ next) cells in
-    let e : codes " " ++ ((c ++ rest) ++ codes " ;\n") ≡ codes " " ++ (c ++ (rest ++ codes " ;\n")) = ap (λ (text : Bytes). codes " " ++ text)
-    (append_assoc c rest (codes " ;\n")) in
-    subst (λ (text : Bytes). Spells Anything (153 * suc (length cells) + 1) text (row_tokens (t ∷ ts))) (sym e)
-    (Spells-within (153 * suc (length cells) + 1) (omega arith)
+    rw (append_assoc c) (Spells-within (153 * suc (length cells) + 1) (omega arith)
     (Spells-on Spells-space (Spells-then (λ more g. begins_behind cells more) h.0.spells (behind_spelled cells ts h.1))))
 
 -- ---- what the tokens of a row are
@@ -93,14 +83,9 @@ pub rows_said : (threads : ℕ) (rows : CellGrid) (rest : TokenList) → 1 ≤ t
 rows_said threads [] rest some h stop = (refl, stop)
 rows_said threads (row ∷ rows) rest some h stop =
     let more = flat_map row_tokens rows ++ rest in
-    let e : (row_tokens row ++ flat_map row_tokens rows) ++ rest ≡ row_tokens row ++ more = append_assoc (row_tokens row) (flat_map row_tokens rows) rest in (
-      ap begins_stop e ∙ row_starts row more h.0.2,
-      (
-        more,
-        subst (λ (ts : TokenList). Row threads ts row more) (sym e)
-            (row_said threads row more some h.0.0 h.0.1),
-        rows_said threads rows rest some h.1 stop,
-      ),
+    rw (append_assoc (row_tokens row)) (
+      row_starts row more h.0.2,
+      (more, row_said threads row more some h.0.0 h.0.1, rows_said threads rows rest some h.1 stop),
     )
 
 -- ---- the header
@@ -108,18 +93,14 @@ rows_said threads (row ∷ rows) rest some h stop =
 abbrev pub header_tokens : ℕ → TokenList
 header_tokens threads = row_tokens (map (λ k. thread_name k ∷ []) (range_with_len 0 threads))
 
-cell_of : (w : Bytes) → IsName w → begins_stop (w ∷ []) ≡ false → IsPrintedCell w (w ∷ [])
-cell_of w name starts = record {
-  spells = Spells-within 150 (omega arith) (Spells-before IsBlankNext blank_ends_word (Spells-name w name));
-  plain =
-      (name_no_end w name, tt);
-  starts = starts;
-}
-
 thread_cell : (k : ℕ) → k < most_threads → IsPrintedCell (thread_name k) (thread_name k ∷ [])
 thread_cell k lt =
-    cell_of (thread_name k) (name_by_test (thread_name k) (agree_below_at (λ j. is_name_text (thread_name j)) (λ j. true) most_threads k refl lt))
-    (agree_below_at (λ j. begins_stop (thread_name j ∷ [])) (λ j. false) most_threads k refl lt)
+    let name = name_by_test (thread_name k) (agree_below_at (λ j. is_name_text (thread_name j)) (λ j. true) most_threads k refl lt) in
+    record {
+      spells = Spells-within 150 (omega arith) (Spells-before IsBlankNext blank_ends_word (Spells-name (thread_name k) name));
+      plain = (name_no_end (thread_name k) name, tt);
+      starts = agree_below_at (λ j. begins_stop (thread_name j ∷ [])) (λ j. false) most_threads k refl lt;
+    }
 
 -- the tokens of so many threads' names from the k-th on
 abbrev names_from : ℕ → ℕ → Cells
@@ -135,43 +116,21 @@ row_bytes = 153 * most_threads + 1
 
 pub header_spelled : (threads : ℕ) → 1 ≤ threads → threads ≤ most_threads → Spells Anything row_bytes (header_text threads) (header_tokens threads)
 header_spelled threads some few =
-    let long : length (map thread_name (range_with_len 0 threads)) ≡ threads = length-map (range_with_len 0 threads) thread_name
-    ∙ length-range_with_len 0 threads in
+    let long = length-map-range_with_len thread_name 0 threads in
     Spells-within row_bytes (omega (arith, long, few)) (row_spelled (map thread_name (range_with_len 0 threads))
     (names_from 0 threads) (omega (arith, long, some)) (header_cells 0 threads (omega (arith, few))))
 
 names_said : (k n : ℕ) (rest : TokenList) → Names k (suc n) (row_tokens (names_from k (suc n)) ++ rest) rest
 names_said k zero rest = refl
-names_said k (suc n) rest = (
-  row_tokens (names_from (k + 1) (suc n)) ++ rest,
-  refl,
-  let next : k + 1 ≡ suc k = omega arith in
-      subst (λ (j : ℕ). Names j (suc n) (row_tokens (names_from (k + 1) (suc n)) ++ rest) rest) next (names_said (k + 1) n rest),
-)
+names_said k (suc n) rest =
+    let next : k + 1 ≡ suc k = omega arith in
+    (row_tokens (names_from (k + 1) (suc n)) ++ rest, refl, rw (← next) (names_said (k + 1) n rest))
 
 pub header_said : (threads : ℕ) (rest : TokenList) → 1 ≤ threads → threads ≤ most_threads → Header (header_tokens threads ++ rest) threads rest
 header_said zero rest some few = absurd (omega arith)
 header_said (suc n) rest some few = (names_said 0 n rest, few)
 
--- ---- the rows of some threads
-
--- the cells in a row of this number, empty where a thread has no more
-abbrev pub row_at : List Cells → ℕ → Cells
-row_at threads k = map (λ cells. slice_index_or cells k []) threads
-
-cell_at : (cells : List Bytes) (ts : Cells) (k : ℕ) → AllZip IsPrintedCell cells ts → IsPrintedCell (slice_index_or cells k []) (slice_index_or ts k [])
-cell_at [] [] k h = empty_printed
-cell_at (c ∷ cells) (t ∷ ts) zero h = h.0
-cell_at (c ∷ cells) (t ∷ ts) (suc k) h = cell_at cells ts k h.1
-cell_at cells ts k h = absurd h
-
-abbrev pub ArePrinted : List (List Bytes) → List Cells → Type 0
-ArePrinted texts grid = AllZip (AllZip IsPrintedCell) texts grid
-
-row_printed : (texts : List (List Bytes)) (grid : List Cells) (k : ℕ) → ArePrinted texts grid → AllZip IsPrintedCell (row_of texts k) (row_at grid k)
-row_printed [] [] k h = tt
-row_printed (t ∷ texts) (g ∷ grid) k h = (cell_at t g k h.0, row_printed texts grid k h.1)
-row_printed texts grid k h = absurd h
+-- ---- rows
 
 plain_cells : (texts : List Bytes) (cells : Cells) → AllZip IsPrintedCell texts cells
     → AllByRecursion EndsNoCell cells × AllByRecursion (λ t. begins_stop t ≡ false) cells
@@ -179,24 +138,21 @@ plain_cells [] [] h = (tt, tt)
 plain_cells (t ∷ texts) (c ∷ cells) h = let more = plain_cells texts cells h.1 in ((h.0.plain, more.0), (h.0.starts, more.1))
 plain_cells texts cells h = absurd h
 
--- a number of rows from the k-th on
-abbrev pub rows_at : List Cells → ℕ → ℕ → CellGrid
-rows_at grid k n = map (row_at grid) (range_with_len k n)
+-- Rows by their numbers, below some number, with their tokens.
+module _ (text : ℕ → List Bytes) (row : ℕ → Cells) (threads most : ℕ) (some : 1 ≤ threads) (few : threads ≤ most_threads)
+    (printed : (k : ℕ) → k < most → AllZip IsPrintedCell (text k) (row k)) (long : (k : ℕ) → length (text k) ≡ threads)
+    (as_long : (k : ℕ) → length (row k) ≡ threads) where
+  pub rows_spelled : (k n : ℕ) → k + n ≤ most
+      → Spells Anything (row_bytes * n) (flat_map (λ j. row_text (text j)) (range_with_len k n)) (flat_map row_tokens (map row (range_with_len k n)))
+  rows_spelled k zero within = Spells-within (row_bytes * 0) (omega arith) (Spells-nothing Anything)
+  rows_spelled k (suc n) within =
+      let e = long k in
+      let here = row_spelled (text k) (row k) (omega (arith, e, some)) (printed k (omega (arith, within))) in
+      Spells-within (row_bytes * suc n) (omega arith)
+      (Spells-on (Spells-within row_bytes (omega (arith, e, few)) here) (rows_spelled (k + 1) n (omega (arith, within))))
 
-module _ (texts : List (List Bytes)) (grid : List Cells) (printed : ArePrinted texts grid) (threads : ℕ) (some : 1 ≤ threads) (few : threads ≤ most_threads)
-    (long : length texts ≡ threads) (as_long : length grid ≡ threads) where
-  row_bound : (k : ℕ) → Spells Anything row_bytes (row_text (row_of texts k)) (row_tokens (row_at grid k))
-  row_bound k =
-      let e : length (row_of texts k) ≡ threads = length-map texts (λ cells. slice_index_or cells k []) ∙ long in
-      Spells-within row_bytes (omega (arith, e, few)) (row_spelled (row_of texts k) (row_at grid k) (omega (arith, e, some)) (row_printed texts grid k printed))
-
-  pub rows_spelled : (k n : ℕ) → Spells Anything (row_bytes * n) (flat_map (λ j. row_text (row_of texts j)) (range_with_len k n))
-      (flat_map row_tokens (rows_at grid k n))
-  rows_spelled k zero = Spells-within (row_bytes * 0) (omega arith) (Spells-nothing Anything)
-  rows_spelled k (suc n) = Spells-within (row_bytes * suc n) (omega arith) (Spells-on (row_bound k) (rows_spelled (k + 1) n))
-
-  pub rows_plain : (k n : ℕ) → AllByRecursion (IsPlainRow threads) (rows_at grid k n)
-  rows_plain k zero = tt
-  rows_plain k (suc n) =
-      let plain = plain_cells (row_of texts k) (row_at grid k) (row_printed texts grid k printed) in
-      ((length-map grid (λ cells. slice_index_or cells k []) ∙ as_long, plain.0, plain.1), rows_plain (k + 1) n)
+  pub rows_plain : (k n : ℕ) → k + n ≤ most → AllByRecursion (IsPlainRow threads) (map row (range_with_len k n))
+  rows_plain k zero within = tt
+  rows_plain k (suc n) within =
+      let plain = plain_cells (text k) (row k) (printed k (omega (arith, within))) in
+      ((as_long k, plain.0, plain.1), rows_plain (k + 1) n (omega (arith, within)))

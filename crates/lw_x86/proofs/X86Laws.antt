@@ -1,14 +1,12 @@
 -- The spelling of x86 is one that the rule of cells can rest on.
-use Rattle.std.proofs.Common.{ℕ, refl, arith}
+use Rattle.std.proofs.Common.{ℕ, refl, arith, rules}
 use Rattle.lw_base.specs.declared.operand.Operand.TheVariants.{Register, Number}
 use Rattle.lw_cells.specs.Grammars.{IsGrammar}
 use Rattle.lw_cells.specs.Spellings.{Filling}
 use Rattle.lw_cells.specs.Found.{IsMade, IsSpelling}
 use Rattle.lw_cells.proofs.api.Forms.{is_grammar}
 use Rattle.lw_x86.specs.declared.language.X86Form.{X86Form}
-use Rattle.lw_x86.specs.declared.language.X86Form.TheVariants.{Store, Set, Add, AddNumber, Compare, Exchange}
-use Rattle.lw_x86.specs.declared.language.X86Form.TheVariants.{ExchangeLast, LockedExchange}
-use Rattle.lw_x86.specs.declared.language.X86Form.TheVariants.{LockedExchangeLast, ExchangeAdd}
+use Rattle.lw_x86.specs.declared.language.X86Form.TheVariants.{Store, Set, Add, Compare}
 use Rattle.lw_x86.specs.Spelling.{x86_slots, x86_spelling}
 use Rattle.lw_x86.specs.Grammar.{x86_grammar}
 use Rattle.lw_x86.specs.inner.Operands.{made}
@@ -20,15 +18,9 @@ making x to Set (_, (d, (_, (Register r, _)))) = record { is = refl; located = r
 making x to Set (_, (d, (_, (Number n, _)))) = record { is = refl; located = refl; led = refl; given = λ p q. (p, q) }
 making x to Add (_, (d, (_, (Register r, _)))) = record { is = refl; located = refl; led = refl; given = λ p q. ((p.0, p), q) }
 making x to Add (_, (d, (_, (Number n, _)))) = record { is = refl; located = refl; led = refl; given = λ p q. ((p.0, p), q) }
-making x to AddNumber (_, (d, (_, (_, (n, _))))) = record { is = refl; located = refl; led = refl; given = λ p q. ((p.0, p), q) }
 making x to Compare (_, (d, (_, (Register r, _)))) = record { is = refl; located = refl; led = refl; given = λ p q. (p, q) }
 making x to Compare (_, (d, (_, (Number n, _)))) = record { is = refl; located = refl; led = refl; given = λ p q. (p, q) }
-making x to Exchange (_, (_, (y, (_, (_, (d, _)))))) = record { is = refl; located = refl; led = refl; given = λ p q. ((p.0, p), q) }
-making x to ExchangeLast (_, (d, (_, (_, (y, (_, _)))))) = record { is = refl; located = refl; led = refl; given = λ p q. ((p.0, p), q) }
-making x to LockedExchange (_, (_, (_, (y, (_, (_, (d, _))))))) = record { is = refl; located = refl; led = refl; given = λ p q. ((p.0, p), q) }
-making x to LockedExchangeLast (_, (_, (d, (_, (_, (y, (_, _))))))) = record { is = refl; located = refl; led = refl; given = λ p q. ((p.0, p), q) }
-making x to ExchangeAdd (_, (_, (_, (y, (_, (_, (d, _))))))) = record { is = refl; located = refl; led = refl; given = λ p q. ((p.0, p), q) }
-making x to form f = record { is = refl; located = refl; led = refl; given = λ p q. (p, q) }
+making x to form f = record { is = refl; located = refl; led = refl; given = λ p q. search rules }
 
 pub x86_spelled : IsSpelling x86_spelling made
 x86_spelled = record { countable = omega arith; apart = refl; statements = refl; names = refl; making = making }

@@ -8,7 +8,7 @@ ghost use Rattle.lw_base.specs.declared.head.Seen.TheVariants as seen;
 ghost use Rattle.lw_base.specs.SeenLists.{thread_registers, all_registers, locations};
 ghost use Rattle.lw_x86.specs.CanonicalTexts.{entry_text, register_entry, block_text};
 
-use lw_base::{Arch, Cpu, Head, Loc, Reg, reg_name};
+use lw_base::{Arch, Head, Loc, Reg, reg_name};
 use std::alloc::{AllocError, Allocator};
 
 /// The block: an entry for each register that does not begin with 0, by thread and number, and for each location.
@@ -33,8 +33,8 @@ fn write_registers<A: Allocator, B: Allocator>(
     ensures { OnOk result (string_bytes out.new ≡ string_bytes out.old
         ++ flat_map (register_entry (head_of head.now)) (all_registers head.now.threads)) }
 {
-    for cpu in &Cpu::all()[..head.threads] {
-        write_registers_of(out, head, *cpu)?;
+    for thread in 0..head.threads {
+        write_registers_of(out, head, thread)?;
     }
     Ok(())
 }
@@ -43,14 +43,14 @@ fn write_registers<A: Allocator, B: Allocator>(
 fn write_registers_of<A: Allocator, B: Allocator>(
     out: &mut String<A>,
     head: &Head<B>,
-    cpu: Cpu,
+    thread: usize,
 ) -> Result<(), AllocError>
-    requires { cpu < length head.now.init_regs }
+    requires { thread < length head.now.init_regs }
     ensures { OnOk result (string_bytes out.new ≡ string_bytes out.old
-        ++ flat_map (register_entry (head_of head.now)) (thread_registers cpu)) }
+        ++ flat_map (register_entry (head_of head.now)) (thread_registers thread)) }
 {
     for reg in Reg::all() {
-        write_register(out, head, cpu, reg)?;
+        write_register(out, head, thread, reg)?;
     }
     Ok(())
 }
@@ -59,19 +59,19 @@ fn write_registers_of<A: Allocator, B: Allocator>(
 fn write_register<A: Allocator, B: Allocator>(
     out: &mut String<A>,
     head: &Head<B>,
-    cpu: Cpu,
+    thread: usize,
     reg: Reg,
 ) -> Result<(), AllocError>
-    requires { cpu < length head.now.init_regs }
+    requires { thread < length head.now.init_regs }
     ensures { OnOk result (string_bytes out.new ≡ string_bytes out.old
-        ++ register_entry (head_of head.now) (seen.Register cpu reg)) }
+        ++ register_entry (head_of head.now) (seen.Register thread reg)) }
 {
-    let word = head.init_regs.as_slice()[cpu.index()][reg.index()];
+    let word = head.init_regs.as_slice()[thread][reg.index()];
     if word == 0 {
         return Ok(());
     }
     let name = reg_name(Arch::X86, reg);
-    writeln!(out, " {}:{}={};", cpu.index(), name, word)
+    writeln!(out, " {}:{}={};", thread, name, word)
 }
 
 fn write_locations<A: Allocator, B: Allocator>(

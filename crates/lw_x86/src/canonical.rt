@@ -11,6 +11,7 @@ ghost use Rattle.lw_x86.specs.Texts.{IsTextOf};
 
 use crate::block::write_block;
 use crate::rows::write_rows;
+use crate::separator::write_separator;
 use lw_base::{Arch, Head, LocNames, Seen, Text, reg_name, write_condition};
 use lw_litmus::Program;
 use std::alloc::{AllocError, Allocator};
@@ -56,13 +57,13 @@ pub fn a_canonical_text_reads_back()
 
 /// The line of the threads' names.
 fn write_header<A: Allocator>(out: &mut String<A>, threads: usize) -> Result<(), AllocError>
-    requires some { 1 ≤ threads }
-    requires few { threads ≤ most_threads }
+    requires { threads ≤ most_threads }
     ensures { OnOk result (string_bytes out.new ≡ string_bytes out.old ++ header_text threads) }
 {
-    out.push_str(" P0")?;
-    for thread in 1..threads {
-        write!(out, " | P{}", thread)?;
+    out.push_str(" ")?;
+    for thread in 0..threads {
+        write_separator(out, thread, " | ")?;
+        write!(out, "P{}", thread)?;
     }
     out.push_str(" ;\n")
 }
@@ -76,15 +77,14 @@ fn write_listed<A: Allocator, B: Allocator>(
     ensures { OnOk result (string_bytes out.new
         ≡ string_bytes out.old ++ listed_text head.now.locs head.now.listed) }
 {
-    let names = &head.locs;
-    let Some((first, others)) = head.listed.as_slice().split_first() else {
+    let listed = head.listed.as_slice();
+    if listed.is_empty() {
         return Ok(());
-    };
+    }
     out.push_str("locations [")?;
-    write_element(out, names, *first)?;
-    for site in others {
-        out.push_str(" ")?;
-        write_element(out, names, *site)?;
+    for (number, site) in listed.iter().enumerate() {
+        write_separator(out, number, " ")?;
+        write_element(out, &head.locs, *site)?;
     }
     out.push_str("]\n")
 }

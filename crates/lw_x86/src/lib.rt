@@ -12,6 +12,7 @@ mod instruction_text;
 mod language;
 mod read;
 mod rows;
+mod separator;
 
 pub use canonical::{a_canonical_text_reads_back, write_program};
 pub use lw_litmus::{Instr, MAX_INSTRUCTIONS, Program};

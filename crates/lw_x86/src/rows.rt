@@ -8,6 +8,7 @@ ghost use Rattle.lw_x86.specs.CanonicalTexts.{label_in_front, end_cells, cells_o
 ghost use Rattle.lw_litmus.specs.Programs.{x86};
 
 use crate::instruction_text::write_instruction;
+use crate::separator::write_separator;
 use lw_base::{LocNames, Sequence};
 use lw_litmus::{Instr, Program, Statement};
 use std::alloc::{AllocError, Allocator};
@@ -72,12 +73,8 @@ fn write_cells<A: Allocator, B: Allocator>(
     ensures { OnOk result (string_bytes out.new ≡ string_bytes out.old
         ++ joined (codes " | ") (row_of (map (cells_of names.now) threads.now) row)) }
 {
-    let Some((first, others)) = threads.split_first() else {
-        return Ok(());
-    };
-    write_cell(out, names, first.as_slice(), row)?;
-    for code in others {
-        out.push_str(" | ")?;
+    for (number, code) in threads.iter().enumerate() {
+        write_separator(out, number, " | ")?;
         write_cell(out, names, code.as_slice(), row)?;
     }
     Ok(())
@@ -99,8 +96,7 @@ fn write_cell<A: Allocator, B: Allocator>(
             write_label(out, code, row)?;
             write_instruction(out, names, *instr)
         }
-        None if row == code.len() => write_end(out, code),
-        None => Ok(()),
+        None => write_end(out, code, row),
     }
 }
 
@@ -118,13 +114,16 @@ fn write_label<A: Allocator>(
     Ok(())
 }
 
-/// The cell behind a thread's instructions: the label of the end, where some instruction jumps there.
-fn write_end<A: Allocator>(out: &mut String<A>, code: &[Instr]) -> Result<(), AllocError>
-    ensures { OnOk result (string_bytes out.new
-        ≡ string_bytes out.old ++ slice_index_or (end_cells code.now (length code.now)) 0 []) }
+/// A cell behind a thread's instructions: the label of the end, where some instruction jumps there.
+fn write_end<A: Allocator>(
+    out: &mut String<A>,
+    code: &[Instr],
+    number: usize,
+) -> Result<(), AllocError>
+    ensures { OnOk result (string_bytes out.new ≡ string_bytes out.old ++ slice_index_or (end_cells code.now number) 0 []) }
 {
-    if is_target(code, code.len()) {
-        return write!(out, "L{}:", code.len());
+    if is_target(code, number) {
+        return write!(out, "L{}:", number);
     }
     Ok(())
 }

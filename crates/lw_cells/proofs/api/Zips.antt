@@ -1,7 +1,17 @@
 -- Two lists of which each item of one stands to its fellow in a relation. The printer of canonical texts uses this.
-use Rattle.std.proofs.Common.{◌≡◌, ℕ, zero, suc, Some, List, [], ◌∷◌, ◌++◌, length, take, drop, replicate}
-use Rattle.std.proofs.Common.{refl, ap, subst, slice_get}
+use Rattle.std.proofs.Common.{◌≡◌, ℕ, zero, suc, List, [], ◌∷◌, ◌++◌, length, replicate}
+use Rattle.std.proofs.Common.{refl, ap}
 use Rattle.std.specs.List.{AllZip}
+
+-- A place in the first list, and what each part of the second says of the first's.
+pub record Cut {X Y : Type 0} (R : X → Y → Type 0) (front : List X) (x : X) (rest : List X) (zs : List Y) : Type 0 where
+  pub above : List Y
+  pub here : Y
+  pub below : List Y
+  pub whole : zs ≡ above ++ here ∷ below
+  pub above_says : AllZip R front above
+  pub says : R x here
+  pub below_says : AllZip R rest below
 
 module _ {X Y : Type 0} (R : X → Y → Type 0) where
   -- where each says one thing, so do all
@@ -25,32 +35,20 @@ module _ {X Y : Type 0} (R : X → Y → Type 0) where
   zip_length (x ∷ xs) (y ∷ ys) h = ap suc (zip_length xs ys h.1)
   zip_length xs ys h = absurd h
 
-  -- what the front says, what the next one says, and what the rest says
-  pub zip_cut : (front : List X) (x : X) (rest : List X) (zs : List Y) → AllZip R (front ++ x ∷ rest) zs
-      → (ys : List Y) × (y : Y) × (more : List Y) × (zs ≡ ys ++ y ∷ more) × AllZip R front ys × R x y × AllZip R rest more
-  zip_cut [] x rest (z ∷ zs) h = ([], z, zs, refl, tt, h.0, h.1)
+  pub zip_cut : (front : List X) (x : X) (rest : List X) (zs : List Y) → AllZip R (front ++ x ∷ rest) zs → Cut R front x rest zs
+  zip_cut [] x rest (z ∷ zs) h = record { above = []; here = z; below = zs; whole = refl; above_says = tt; says = h.0; below_says = h.1 }
   zip_cut (w ∷ front) x rest (z ∷ zs) h =
       let k = zip_cut front x rest zs h.1 in
-      (z ∷ k.0, k.1, k.2, ap (λ ts. z ∷ ts) k.3, (h.0, k.4), k.5, k.6)
+      record {
+        above = z ∷ k.above;
+        here = k.here;
+        below = k.below;
+        whole = ap (λ ts. z ∷ ts) k.whole;
+        above_says = (h.0, k.above_says);
+        says = k.says;
+        below_says = k.below_says;
+      }
   zip_cut front x rest zs h = absurd h
-
-  pub zip_at : (xs : List X) (ys : List Y) (k : ℕ) (x : X) (y : Y) → AllZip R xs ys → slice_get xs k ≡ Some x → slice_get ys k ≡ Some y → R x y
-  zip_at [] ys k x y h e f = absurd cc
-  zip_at (a ∷ xs) [] k x y h e f = absurd h
-  zip_at (a ∷ xs) (b ∷ ys) zero x y h e f = let p : a ≡ x = cc in let q : b ≡ y = cc in subst (λ (v : X). R v y) p (subst (λ (w : Y). R a w) q h.0)
-  zip_at (a ∷ xs) (b ∷ ys) (suc k) x y h e f = zip_at xs ys k x y h.1 e f
-
-  pub zip_take : (xs : List X) (ys : List Y) (k : ℕ) → AllZip R xs ys → AllZip R (take k xs) (take k ys)
-  zip_take xs ys zero h = tt
-  zip_take [] [] (suc k) h = tt
-  zip_take (a ∷ xs) (b ∷ ys) (suc k) h = (h.0, zip_take xs ys k h.1)
-  zip_take xs ys k h = absurd h
-
-  pub zip_drop : (xs : List X) (ys : List Y) (k : ℕ) → AllZip R xs ys → AllZip R (drop k xs) (drop k ys)
-  zip_drop xs ys zero h = h
-  zip_drop [] [] (suc k) h = tt
-  zip_drop (a ∷ xs) (b ∷ ys) (suc k) h = zip_drop xs ys k h.1
-  zip_drop xs ys k h = absurd h
 
   pub zip_append : (xs us : List X) (ys vs : List Y) → AllZip R xs ys → AllZip R us vs → AllZip R (xs ++ us) (ys ++ vs)
   zip_append [] us [] vs h k = k

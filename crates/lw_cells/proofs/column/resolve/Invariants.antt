@@ -1,4 +1,5 @@
-use Rattle.std.proofs.Common.{ℕ, List}
+use Rattle.std.proofs.Common.{take}
+use Rattle.lw_base.specs.Types.{NameTable}
 use Rattle.lw_cells.specs.Drafts.{ColumnDrafted}
 use Rattle.lw_cells.proofs.Resolved.{Resolved}
 use Rattle.lw_cells.specs.Spellings.{grammar_of}
@@ -6,6 +7,6 @@ use Rattle.lw_cells.specs.Found.{draft_of}
 use Rattle.lw_cells.proofs.column.resolve.Given as goal
 
 abbrev pub invariant-loop-row : goal.invariant-loop-row
-invariant-loop-row g l = (before after : List (List ℕ)) (drafted : ColumnDrafted (grammar_of g.L.StatementReader.spelling)
-    (draft_of g.L.StatementReader.spelling) l.cells before l.column after)
-    → Resolved (grammar_of g.L.StatementReader.spelling) after drafted.read.syntaxes l.row l.code
+invariant-loop-row g l = (before after : NameTable) (drafted : ColumnDrafted
+    (grammar_of g.L.StatementReader.spelling) (draft_of g.L.StatementReader.spelling) l.cells before l.column
+    after) → Resolved g.L.StatementReader.spelling after drafted.read.syntax (take l.row l.cells) l.code

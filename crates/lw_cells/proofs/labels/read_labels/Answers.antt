@@ -1,61 +1,55 @@
-use Rattle.std.proofs.Common.{sym, ◌∙◌, arith, true≢false}
+use Rattle.std.proofs.Common.{sym, ap, ◌∙◌, arith, true≢false, is_some}
 use Rattle.std.proofs.lemmas.Map.Text.{btree_map_updates_str}
-use Rattle.lw_cells.proofs.Exits.{out_of_memory, place_within}
-use Rattle.lw_cells.proofs.FrontLabels.{label_cause, labels_start, labels_more, labels_on, labels_twice}
-use Rattle.lw_cells.proofs.FrontLabels.{label_known, twice_in, next_within, two_within, no_memory_for_labels}
 use Rattle.lw_base.proofs.api.Lists.{at_index}
+use Rattle.lw_cells.proofs.Causes.{misfit_tells, memory_tells, twice_tells, refused_memory}
+use Rattle.lw_cells.proofs.Exits.{out_of_memory}
+use Rattle.lw_cells.proofs.FrontLabels.{get_behind, next_within, labels_start, labels_more, labels_on, labels_twice, twice_in}
 use Rattle.lw_cells.proofs.labels.read_labels.Goals as goal
 
 pub loop-token-init : goal.loop-token-init
-loop-token-init g c = record { within = omega arith; read = λ ps known. labels_start _ _ ps _ known }
+loop-token-init g c = labels_start _ _ _
+
+pub bounds-tokens-next : goal.bounds-tokens-next
+bounds-tokens-next g c = let within = next_within c.args.tokens.now c.loop-token.next _ (c.stands_at.ensures.0 c.loop-token-test.true) in omega arith
 
 pub loop-token-preserved : goal.loop-token-preserved
 loop-token-preserved g c =
     let colon = c.stands_at.ensures.0 c.loop-token-test.true in
-    record {
-      within = two_within _ _ _ colon;
-      read = λ ps known.
-          labels_more _ _ ps _ _ (c.loop-token.invariant.read ps known) _
-          (at_index c.args.tokens.now c.loop-token.next _ (next_within _ _ _ colon)) colon c.insert.new.self _
-          (c.is_location.ensures.0 c.if-not-is_location.false)
-          c.in_ok-insert.ensures.old (sym c.is_some.ensures ∙ c.if-is_some.false)
-          (btree_map_updates_str _ c.loop-token.labels c.insert.new.self _ c.in_ok-insert.ensures.updates);
-    }
-
-pub bounds-tokens-next : goal.bounds-tokens-next
-bounds-tokens-next g c = next_within _ _ _ (c.stands_at.ensures.0 c.loop-token-test.true)
+    let within = next_within c.args.tokens.now c.loop-token.next _ colon in
+    labels_more _ _ _ _ _ c.loop-token.invariant _ (at_index c.args.tokens.now c.loop-token.next _
+        (omega arith)) colon _ (c.is_location.ensures.0 c.if-not-is_location.false)
+        (ap is_some (sym c.in_ok-insert.ensures.old) ∙ sym c.is_some.ensures ∙ c.if-is_some.false)
+        (btree_map_updates_str _ c.loop-token.labels c.insert.new.self _ c.in_ok-insert.ensures.updates)
 
 pub returns-then-not-is_location : goal.returns-then-not-is_location
 returns-then-not-is_location g c =
     let colon = c.stands_at.ensures.0 c.loop-token-test.true in
-    let token = at_index c.args.tokens.now c.loop-token.next _ (next_within _ _ _ colon) in
+    let within = next_within c.args.tokens.now c.loop-token.next _ colon in
+    let token = at_index c.args.tokens.now c.loop-token.next _ (omega arith) in
     record {
-      none = λ ps leads known ks mid (h, none, once). true≢false (sym (c.is_location.ensures.1
-          (labels_on _ _ ps _ _ (c.loop-token.invariant.read ps leads) _ token colon ks mid h none).2) ∙ c.if-not-is_location.true);
-      cause = λ ps leads. label_cause _ _ _ _ c.misfit.ensures.cause;
-      place = λ len within. place_within _ _ _ c.misfit.ensures.place (within c.loop-token.next _ (next_within _ _ _ colon));
+      none = λ known ks fit. true≢false (sym (c.is_location.ensures.1 (labels_on _ _ _ _ _
+          c.loop-token.invariant _ token colon ks _ fit.says fit.stops).2) ∙ c.if-not-is_location.true);
+      cause = misfit_tells _ c.misfit.ensures.cause;
+      place = λ len lies. rw c.misfit.ensures.place (lies c.loop-token.next _ (omega arith));
     }
 
 pub returns-then-is_some : goal.returns-then-is_some
 returns-then-is_some g c =
     let colon = c.stands_at.ensures.0 c.loop-token-test.true in
-    let token = at_index c.args.tokens.now c.loop-token.next _ (next_within _ _ _ colon) in
+    let within = next_within c.args.tokens.now c.loop-token.next _ colon in
+    let token = at_index c.args.tokens.now c.loop-token.next _ (omega arith) in
+    let led = ap is_some (sym c.in_ok-insert.ensures.old) ∙ sym c.is_some.ensures ∙ c.if-is_some.true in
     record {
-      none = λ ps leads known ks mid (h, none, once). labels_twice _ _ ps _ _ (c.loop-token.invariant.read ps leads) _ token colon ks mid h none once
-          (label_known _ _ ps _ _ (c.loop-token.invariant.read ps leads) _ token colon _ c.in_ok-insert.ensures.old
-          (sym c.is_some.ensures ∙ c.if-is_some.true));
-      cause = λ ps leads. twice_in _ _ ps _ _ (c.loop-token.invariant.read ps leads) _ token colon
-          (label_known _ _ ps _ _ (c.loop-token.invariant.read ps leads) _ token colon _ c.in_ok-insert.ensures.old
-          (sym c.is_some.ensures ∙ c.if-is_some.true));
-      place = λ len within. within c.loop-token.next _ (next_within _ _ _ colon);
+      none = λ known. labels_twice _ _ _ _ _ c.loop-token.invariant _ token colon led;
+      cause = twice_tells (twice_in _ _ _ _ _ c.loop-token.invariant _ token colon led);
+      place = λ len lies. lies c.loop-token.next _ (omega arith);
     }
 
 pub returns-in_err-insert : goal.returns-in_err-insert
-returns-in_err-insert g c = out_of_memory _ _ _ c.from_residual.ensures.1 (no_memory_for_labels _ _)
+returns-in_err-insert g c = out_of_memory _ _ _ c.from_residual.ensures.1 (λ f. refused_memory f (λ at. memory_tells))
 
 pub returns : goal.returns
 returns g c = record {
-  within = c.loop-token.invariant.within;
-  read = λ ps leads. c.loop-token.invariant.read ps leads;
-  stops = λ colon. true≢false (sym (c.stands_at.ensures.1 colon) ∙ c.loop-token-test.false);
+  read = c.loop-token.invariant;
+  stops = λ at. true≢false (sym (c.stands_at.ensures.1 (sym (get_behind c.args.tokens.now c.loop-token.next 1) ∙ at)) ∙ c.loop-token-test.false);
 }

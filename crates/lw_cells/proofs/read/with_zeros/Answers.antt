@@ -11,5 +11,5 @@ returns-in_err-fill g c = out_of_memory _ _ _ c.from_residual-in_err-fill.ensure
 pub returns : goal.returns
 returns g c =
     let old = c.args.head.now.init_words in
-    let words = c.in_ok-fill.ensures ∙ ap (λ (n : ℕ). old ++ replicate (n - length old) 0) c.len-len.ensures.len in
+    let words = c.in_ok-fill.ensures ∙ ap (λ n. old ++ replicate (n - length old) 0) c.len-len.ensures.len in
     ((rw words refl, c.len-len.ensures.table), c.in_ok-threads.was)

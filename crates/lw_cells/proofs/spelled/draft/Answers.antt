@@ -23,5 +23,5 @@ returns-in_err-loc g c =
 
 pub returns : goal.returns
 returns g c =
-    let name = rw c.in-Some.is at c.requires in
-    rw c.in-Some.is (_, c.in_ok-loc.loc, at_index c.args.tokens.now c.in-Some.index _ name.0, c.in_ok-loc.ensures, c.draft_on-2.ensures)
+    rw c.in-Some.is (_, c.in_ok-loc.loc, at_index c.args.tokens.now c.in-Some.index _ (rw c.in-Some.is
+        at c.requires).0, c.in_ok-loc.ensures, c.draft_on-2.ensures)

@@ -1,9 +1,8 @@
-use Rattle.std.proofs.Common.{◌<◌, length, sym, arith}
+use Rattle.std.proofs.Common.{◌<◌, sym, arith}
 use Rattle.std.proofs.lemmas.Option.{slice_get_within}
 use Rattle.std.proofs.lemmas.List.{length-map}
 use Rattle.lw_text.specs.declared.token.Token.{Token}
-use Rattle.lw_cells.specs.Spellings.{grammar_of}
-use Rattle.lw_cells.proofs.Causes.{misfit_cause}
+use Rattle.lw_cells.proofs.Causes.{misfit_tells, many_tells}
 use Rattle.lw_cells.proofs.SlotTokens.{reach_within}
 use Rattle.lw_cells.proofs.StatementsRead.{ninth_in}
 use Rattle.lw_cells.proofs.spelled.refusal.Goals as goal
@@ -15,16 +14,16 @@ ninth-requires g c =
 
 pub returns-in-Some : goal.returns-in-Some
 returns-in-Some g c =
-    let within : c.loop-form.form-index < length g.L.StatementReader.spelling.forms = rw c.forms-form-items.ensures at c.loop-form-test.true in
+    let within = rw c.forms-form-items.ensures at c.loop-form-test.true in
     let n = rw (c.in-Some.is, c.slots-slots.ensures) at c.ninth.ensures in (
-      ninth_in g.L.StatementReader.spelling g.L.StatementReader.made c.requires c.form-item.result
-          (c.loop-form.form-index, within, sym (rw c.forms-form-items.ensures at c.form-item.is)) c.args.phrase.now.tokens.now c.args.locs.now
-          c.reach-front.result c.in-Some.index _ (rw c.slots-slots.ensures at c.reach-front.ensures) n,
-      λ len lies. lies.0 c.in-Some.index _ (slice_get_within c.args.phrase.now.tokens.now c.in-Some.index n.token n.is),
+      many_tells (ninth_in _ g.L.StatementReader.made c.requires c.form-item.result (c.loop-form.form-index,
+          within, sym (rw c.forms-form-items.ensures at c.form-item.is)) _ c.args.locs.now
+          c.reach-front.result c.in-Some.index _ (rw c.slots-slots.ensures at c.reach-front.ensures) n),
+      λ len lies. lies.0 c.in-Some.index _ (slice_get_within _ c.in-Some.index n.token n.is),
     )
 
 pub bounds-phrase-index : goal.bounds-phrase-index
-bounds-phrase-index g c = slice_get_within c.args.phrase.now.tokens.now c.in-Some.index c.in-Some.ensures.token c.in-Some.ensures.is
+bounds-phrase-index g c = slice_get_within _ c.in-Some.index c.in-Some.ensures.token c.in-Some.ensures.is
 
 pub offset_bounds-phrase-index : goal.offset_bounds-phrase-index
 offset_bounds-phrase-index g c =
@@ -34,4 +33,4 @@ pub invariant_of-result : goal.invariant_of-result
 invariant_of-result g c = record { memory = λ e. absurd cc }
 
 pub returns : goal.returns
-returns g c = (misfit_cause (grammar_of g.L.StatementReader.spelling) _ _ _ _ c.stop.ensures.0, c.stop.ensures.1)
+returns g c = (misfit_tells _ c.stop.ensures.0, c.stop.ensures.1)

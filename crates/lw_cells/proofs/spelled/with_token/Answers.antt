@@ -1,14 +1,11 @@
-use Rattle.lw_cells.specs.Found.{with_name_at, with_label_at}
 use Rattle.lw_cells.proofs.SlotTokens.{taken_name}
 use Rattle.lw_cells.proofs.spelled.with_token.Goals as goal
 
 pub returns-in-Location : goal.returns-in-Location
-returns-in-Location g c =
-    rw c.in-Location.is (taken_name _ (with_name_at c.args.index c.args.found) c.with_name.result c.with_name.ensures)
+returns-in-Location g c = rw c.in-Location.is (taken_name _ _ c.with_name.result c.with_name.ensures)
 
 pub returns-in-Label : goal.returns-in-Label
-returns-in-Label g c =
-    rw c.in-Label.is (taken_name _ (with_label_at c.args.index c.args.found) c.with_label.result c.with_label.ensures)
+returns-in-Label g c = rw c.in-Label.is (taken_name _ _ c.with_label.result c.with_label.ensures)
 
 pub returns-in-Register : goal.returns-in-Register
 returns-in-Register g c = rw c.in-Register.is (rw c.arch.ensures at c.with_register.ensures)

@@ -1,7 +1,18 @@
-use Rattle.std.proofs.Common.{refl, arith}
+use Rattle.std.proofs.Common.{◌≡◌, ◌<◌, ◌≤◌, [], ◌∷◌, length, length-append, refl, sym, ap, arith, Contains}
+use Rattle.std.proofs.lemmas.Option.{slice_get_read}
+use Rattle.lw_base.specs.Tables.{with_name}
+use Rattle.lw_base.specs.Types.{Bytes, NameTable}
+use Rattle.lw_base.proofs.api.Tables.{with_name-there, with_name-new}
 use Rattle.lw_cells.proofs.Exits.{out_of_memory}
-use Rattle.lw_cells.proofs.NewNames.{is_ninth, no_memory_for_name}
+use Rattle.lw_cells.proofs.Causes.{memory_tells, many_tells, refused_memory}
 use Rattle.lw_cells.proofs.token.location.Goals as goal
+
+-- the table is full, and lacks it
+is_ninth : (names : NameTable) (n : Bytes) → length names ≤ 8 → 8 < length (with_name names n) → (length names ≡ 8) × (Contains names n → ⊥)
+is_ninth names n few many =
+    let fresh : Contains names n → ⊥ =
+    λ h. let at = slice_get_read names (length names) h.0 n refl h.1 (sym h.2) in omega (arith, few, many, ap length (with_name-there names n h.0 at)) in
+    (omega (arith, few, many, ap length (with_name-new names n fresh), length-append names (n ∷ [])), fresh)
 
 pub returns-in-Some : goal.returns-in-Some
 returns-in-Some g c = record {
@@ -16,9 +27,9 @@ returns-in-None g c =
     let n = is_ninth _ _ c.len-known.ensures.table.few full in
     record {
       none = λ known (loc, few). omega (arith, few, full);
-      cause = (refl, c.requires, n.0, n.1);
+      cause = many_tells (refl, c.requires, n.0, n.1);
       place = λ len within. within;
     }
 
 pub returns-in_err-loc : goal.returns-in_err-loc
-returns-in_err-loc g c = out_of_memory _ _ _ c.from_residual.ensures.1 (no_memory_for_name _ _)
+returns-in_err-loc g c = out_of_memory _ _ _ c.from_residual.ensures.1 (λ f. refused_memory f (λ at. memory_tells))

@@ -4,7 +4,7 @@ use Rattle.lw_base.specs.Heads.{head_of}
 use Rattle.lw_x86.proofs.BlockTexts.{thread_entries}
 use Rattle.lw_x86.proofs.block.write_registers.Given as goal
 
-abbrev pub invariant-loop-cpu : goal.invariant-loop-cpu
-invariant-loop-cpu g l =
-    string_bytes l.out ++ flat_map (thread_entries (head_of l.head)) (drop l.cpu-index (range_with_len 0 l.head.threads))
+abbrev pub invariant-loop-thread : goal.invariant-loop-thread
+invariant-loop-thread g l =
+    string_bytes l.out ++ flat_map (thread_entries (head_of l.head)) (drop l.thread (range_with_len 0 l.head.threads))
     ≡ string_bytes l.fn.out ++ flat_map (thread_entries (head_of l.head)) (range_with_len 0 l.head.threads)

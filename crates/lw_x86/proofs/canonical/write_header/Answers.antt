@@ -1,20 +1,28 @@
-use Rattle.std.proofs.Common.{◌<◌, refl, arith, codes, string_bytes}
-use Rattle.lw_x86.specs.CanonicalTexts.{header_text}
-use Rattle.lw_x86.proofs.HeaderTexts.{names_text, name_more, names_all}
-use Rattle.lw_base.proofs.api.Writing.{then_written, pushed}
+use Rattle.std.proofs.Common.{map, codes, arith, append-nil, sym}
+use Rattle.std.specs.List.{range_with_len}
+use Rattle.std.proofs.lemmas.Fmt.{decimal_digit}
+use Rattle.std.proofs.lemmas.List.FromFn.{get_or-map-range_with_len, length-map-range_with_len}
+use Rattle.std.proofs.lemmas.Option.{slice_get_read}
+use Rattle.lw_text.specs.Rows.{thread_name}
+use Rattle.lw_base.proofs.api.Writing.{both_written}
+use Rattle.lw_x86.proofs.SeparatedTexts.{parts_more, parts_all, line_written}
 use Rattle.lw_x86.proofs.canonical.write_header.Goals as goal
+
+pub loop-thread-init : goal.loop-thread-init
+loop-thread-init g c = sym (append-nil _)
 
 pub loop-thread-preserved : goal.loop-thread-preserved
 loop-thread-preserved g c =
-    let small : c.loop-thread.thread-counter < 10 = omega (arith, c.loop-thread-test.true, c.requires.few) in
-    name_more c.args.threads c.loop-thread.thread-counter _ _ _ c.loop-thread-test.true small c.loop-thread.invariant c.in_ok-write.ensures.bytes
+    let names = map thread_name (range_with_len 0 c.args.threads) in
+    let k = c.loop-thread.thread-counter in
+    let name = rw (decimal_digit k (omega (arith, c.loop-thread-test.true, c.requires))) at c.in_ok-write.ensures.bytes in
+    parts_more _ _ k _ _ c.loop-thread.invariant _ _ (slice_get_read _ _ k _ (sym (length-map-range_with_len
+        thread_name 0 _)) c.loop-thread-test.true (sym (get_or-map-range_with_len thread_name 0 _ k k _
+        c.loop-thread-test.true (omega arith)))) (both_written _ _ _ _ _ c.in_ok-write_separator.ensures name)
 
 pub returns : goal.returns
 returns g c =
-    let start = string_bytes c.args.out.now in
-    let last = string_bytes c.loop-thread.out in
-    let end = string_bytes c.push_str-2.new.self in
-    let all = names_all c.args.threads start (string_bytes c.push_str.new.self) last c.loop-thread.thread-counter c.requires.some
-    c.in_ok-push_str.ensures.bytes c.loop-thread.invariant c.loop-thread-test.false in
-    then_written c.push_str-2.result start last end (names_text c.args.threads) (codes " ;\n") (header_text c.args.threads) all refl
-    (pushed c.push_str-2.result last end (codes " ;\n") c.push_str-2.ensures.bytes)
+    let names = map thread_name (range_with_len 0 c.args.threads) in
+    let written = parts_all (codes " | ") names c.loop-thread.thread-counter _ _ c.loop-thread.invariant
+    (omega (arith, length-map-range_with_len thread_name 0 c.args.threads, c.loop-thread-test.false)) in
+    line_written _ _ (codes " ") _ _ _ _ _ c.in_ok-push_str.ensures.bytes written c.push_str-2.ensures.bytes

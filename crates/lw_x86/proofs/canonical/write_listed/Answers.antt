@@ -1,39 +1,45 @@
-use Rattle.std.proofs.Common.{arith, codes, string_bytes}
-use Rattle.lw_x86.specs.CanonicalTexts.{listed_text}
-use Rattle.lw_x86.proofs.ListedTexts.{first_there, other_there, next_element, elements_text, elements_written}
-use Rattle.lw_x86.proofs.ListedTexts.{list_is}
-use Rattle.lw_base.proofs.api.Writing.{both_written, items_more, items_all, then_written, pushed}
+use Rattle.std.proofs.Common.{◌≡◌, ◌++◌, ◌==◌, List, [], ◌∷◌, length, map, codes, refl, ap, ◌∙◌, false, sym, arith}
+use Rattle.std.proofs.lemmas.List.{length-map}
+use Rattle.std.proofs.lemmas.List.Elements.{All-from_recursion}
+use Rattle.std.proofs.lemmas.Option.{slice_get-map, slice_get_read}
+use Rattle.std.specs.Option.{option_map}
+use Rattle.lw_base.specs.Texts.{joined}
+use Rattle.lw_base.specs.Types.{NameTable}
+use Rattle.lw_base.specs.declared.head.Seen.{Seen}
+use Rattle.lw_base.proofs.api.Writing.{both_written, written_as}
+use Rattle.lw_x86.specs.CanonicalTexts.{element_text, listed_text}
+use Rattle.lw_x86.proofs.SeparatedTexts.{parts_more, parts_all, line_written}
 use Rattle.lw_x86.proofs.canonical.write_listed.Goals as goal
+
+-- what is listed is no empty list
+listed_is : (names : NameTable) (ss : List Seen) → (length ss == 0) ≡ false
+    → codes "locations [" ++ (joined (codes " ") (map (element_text names) ss) ++ codes "]\n") ≡ listed_text names ss
+listed_is names [] some = absurd cc
+listed_is names (s ∷ ss) some = refl
 
 pub write_element-requires : goal.write_element-requires
 write_element-requires g c =
     let head = c.args.head.now in
-    let are = rw c.as_slice.ensures at c.in-Some.ensures.cases.0 in
-    first_there head.threads head.locs head.listed c.in-Some.first.now c.in-Some.others.now c.requires are
+    let is = rw c.as_slice-listed.ensures at c.index-listed-number.is in
+    let lt = rw c.as_slice-listed.ensures at c.loop-number-test.true in
+    (head.threads, rw is (All-from_recursion _ head.listed c.requires c.loop-number.number _ lt))
 
-pub write_element-requires-in-loop-site : goal.write_element-requires-in-loop-site
-write_element-requires-in-loop-site g c =
+pub loop-number-preserved : goal.loop-number-preserved
+loop-number-preserved g c =
     let head = c.args.head.now in
-    let are = rw c.as_slice.ensures at c.in-Some.ensures.cases.0 in
-    other_there head.threads head.locs head.listed c.in-Some.first.now c.in-Some.others.now c.requires are c.loop-site.site-index _
-    c.loop-site-test.true c.site-item.is
-
-pub loop-site-preserved : goal.loop-site-preserved
-loop-site-preserved g c =
-    items_more (next_element c.args.head.now.locs) c.in-Some.others.now c.loop-site.site-index _ _ c.loop-site.invariant _ _ c.loop-site-test.true
-    c.site-item.is (both_written _ _ _ _ _ c.in_ok-push_str-2.ensures.bytes c.in_ok-write_element-2.ensures)
+    let k = c.loop-number.number in
+    let is = rw c.as_slice-listed.ensures at c.index-listed-number.is in
+    let lt = rw c.as_slice-listed.ensures at c.loop-number-test.true in
+    parts_more (codes " ") _ k _ _ c.loop-number.invariant _ _ (slice_get-map (element_text head.locs)
+        head.listed k ∙ ap (option_map (element_text head.locs)) (slice_get_read head.listed _ k _ refl lt
+        is)) (both_written _ _ _ _ _ c.in_ok-write_separator.ensures c.in_ok-write_element.ensures)
 
 pub returns : goal.returns
 returns g c =
     let head = c.args.head.now in
-    let first = c.in-Some.first.now in
-    let others = c.in-Some.others.now in
-    let start = string_bytes c.args.out.now in
-    let last = string_bytes c.loop-site.out in
-    let end = string_bytes c.push_str-2.new.self in
-    let are = rw c.as_slice.ensures at c.in-Some.ensures.cases.0 in
-    let elements = items_all (next_element head.locs) others c.loop-site.site-index _ _ c.loop-site.invariant (omega arith) in
-    let line = elements_written head.locs first others start (string_bytes c.push_str.new.self)
-    (string_bytes c.write_element.new.out) last c.in_ok-push_str.ensures.bytes c.in_ok-write_element.ensures elements in
-    then_written c.push_str-2.result start last end (elements_text head.locs first others) (codes "]\n") (listed_text head.locs head.listed) line
-    (list_is head.locs first others head.listed are) (pushed c.push_str-2.result last end (codes "]\n") c.push_str-2.ensures.bytes)
+    let parts = map (element_text head.locs) head.listed in
+    let elements = parts_all (codes " ") parts c.loop-number.number _ _ c.loop-number.invariant
+    (omega (arith, length-map head.listed (element_text head.locs), ap length c.as_slice-listed.ensures, c.loop-number-test.false)) in
+    let some = rw c.as_slice-listed.ensures at (sym c.is_empty.ensures ∙ c.if-is_empty.false) in
+    written_as _ _ _ _ _ (listed_is head.locs head.listed some) (line_written c.push_str-2.result _ _ _
+        (codes "]\n") _ _ _ c.in_ok-push_str.ensures.bytes elements c.push_str-2.ensures.bytes)

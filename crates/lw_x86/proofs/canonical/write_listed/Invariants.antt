@@ -1,8 +1,8 @@
-use Rattle.std.proofs.Common.{◌≡◌, ◌++◌, drop, flat_map, string_bytes}
-use Rattle.lw_x86.proofs.ListedTexts.{next_element}
+use Rattle.std.proofs.Common.{◌≡◌, ◌++◌, map, take, codes, string_bytes}
+use Rattle.lw_base.specs.Texts.{joined}
+use Rattle.lw_x86.specs.CanonicalTexts.{element_text}
 use Rattle.lw_x86.proofs.canonical.write_listed.Given as goal
 
-abbrev pub invariant-loop-site : goal.invariant-loop-site
-invariant-loop-site g l =
-    string_bytes l.out ++ flat_map (next_element l.names) (drop l.site-index l.others)
-    ≡ string_bytes l.initial.out ++ flat_map (next_element l.names) l.others
+abbrev pub invariant-loop-number : goal.invariant-loop-number
+invariant-loop-number g l =
+    string_bytes l.out ≡ string_bytes l.initial.out ++ joined (codes " ") (take l.number (map (element_text l.head.locs) l.head.listed))

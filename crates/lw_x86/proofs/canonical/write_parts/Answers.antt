@@ -1,4 +1,4 @@
-use Rattle.std.proofs.Common.{length, arith}
+use Rattle.std.proofs.Common.{arith}
 use Rattle.std.proofs.lemmas.Grind.{common_steps}
 use Rattle.lw_base.proofs.api.Formulas.{has_locations}
 use Rattle.lw_litmus.specs.Tests.{test_of}
@@ -7,7 +7,7 @@ use Rattle.lw_x86.proofs.canonical.write_parts.Goals as goal
 pub write_condition-requires : goal.write_condition-requires
 write_condition-requires g c =
     let p = test_of c.args.program.now.head c.args.program.now.threads in
-    has_locations p.head.threads (length p.head.locs) p.head.condition c.args.program.now.well_formed.head.condition
+    has_locations p.head.threads _ p.head.condition c.args.program.now.well_formed.head.condition
 
 pub returns : goal.returns
 returns g c = grind (arith, common_steps)

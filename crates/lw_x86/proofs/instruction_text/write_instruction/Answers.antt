@@ -1,22 +1,20 @@
-use Rattle.std.proofs.Common.{ap}
+use Rattle.std.proofs.Common.{refl}
 use Rattle.lw_base.proofs.api.Writing.{written_as}
 use Rattle.lw_x86.proofs.InstructionTexts.{store_text, set_text, add_text, compare_text, exchange_text}
 use Rattle.lw_x86.proofs.InstructionTexts.{exchange_add_text}
-use Rattle.lw_litmus.specs.Operations.{location_of}
-use Rattle.lw_litmus.specs.Programs.{x86_operation}
 use Rattle.lw_x86.proofs.instruction_text.write_instruction.Goals as goal
 
 pub write_on_memory-requires : goal.write_on_memory-requires
-write_on_memory-requires g c = c.requires c.in-Store.loc (ap (λ i. location_of (x86_operation i)) c.in-Store.is)
+write_on_memory-requires g c = (rw c.in-Store.is at c.requires) _ refl
 
 pub write_load-requires : goal.write_load-requires
-write_load-requires g c = c.requires c.in-Load.loc (ap (λ i. location_of (x86_operation i)) c.in-Load.is)
+write_load-requires g c = (rw c.in-Load.is at c.requires) _ refl
 
 pub write_on_memory-requires-in-Xchg : goal.write_on_memory-requires-in-Xchg
-write_on_memory-requires-in-Xchg g c = c.requires c.in-Xchg.loc (ap (λ i. location_of (x86_operation i)) c.in-Xchg.is)
+write_on_memory-requires-in-Xchg g c = (rw c.in-Xchg.is at c.requires) _ refl
 
 pub write_on_memory-requires-in-Xadd : goal.write_on_memory-requires-in-Xadd
-write_on_memory-requires-in-Xadd g c = c.requires c.in-Xadd.loc (ap (λ i. location_of (x86_operation i)) c.in-Xadd.is)
+write_on_memory-requires-in-Xadd g c = (rw c.in-Xadd.is at c.requires) _ refl
 
 pub returns-in-Store : goal.returns-in-Store
 returns-in-Store g c = rw c.in-Store.is (written_as c.write_on_memory.result _ _ _ _

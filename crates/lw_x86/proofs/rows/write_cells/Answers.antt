@@ -1,31 +1,26 @@
-use Rattle.std.proofs.Common.{◌∙◌, ◌∷◌, List, length, arith, ap, sym}
-use Rattle.lw_litmus.specs.declared.instr.Instr.{Instr}
-use Rattle.lw_x86.proofs.CellLists.{first_thread, further_thread, next_cell, row_begun}
-use Rattle.lw_base.proofs.api.Writing.{both_written, items_more, items_all}
+use Rattle.std.proofs.Common.{arith, append-nil, codes, map, sym, string_bytes}
+use Rattle.lw_base.proofs.api.Writing.{both_written}
+use Rattle.lw_x86.specs.CanonicalTexts.{cells_of, row_of}
+use Rattle.lw_x86.proofs.CellLists.{row_length, part_of_row}
+use Rattle.lw_x86.proofs.SeparatedTexts.{parts_more, parts_all}
 use Rattle.lw_x86.proofs.rows.write_cells.Goals as goal
+
+pub loop-number-init : goal.loop-number-init
+loop-number-init g c = sym (append-nil (string_bytes c.args.out.now))
 
 pub write_cell-requires : goal.write_cell-requires
 write_cell-requires g c =
-    first_thread (length c.args.names.now) c.args.threads.now c.as_slice.result.now c.in-Some.others.now c.requires
-    (c.in-Some.ensures.cases.0 ∙ ap (λ (t : List Instr). t ∷ c.in-Some.others.now) (sym c.as_slice.ensures))
+    rw (c.as_slice.ensures, c.index-threads-number.is) (c.requires c.loop-number.number _ c.loop-number-test.true)
 
-pub loop-code-init : goal.loop-code-init
-loop-code-init g c =
-    row_begun c.args.names.now c.args.row c.args.threads.now c.as_slice.result.now c.in-Some.others.now _ _
-    (c.in-Some.ensures.cases.0 ∙ ap (λ (t : List Instr). t ∷ c.in-Some.others.now) (sym c.as_slice.ensures)) c.in_ok-write_cell.ensures
-
-pub write_cell-requires-in-loop-code : goal.write_cell-requires-in-loop-code
-write_cell-requires-in-loop-code g c =
-    let is = rw (← c.as_slice-in-loop-code.ensures) at c.code-item.is in
-    further_thread (length c.args.names.now) c.args.threads.now c.in-Some.first.now c.in-Some.others.now c.requires c.in-Some.ensures.cases.0
-    c.loop-code.code-index c.as_slice-in-loop-code.result.now c.loop-code-test.true is
-
-pub loop-code-preserved : goal.loop-code-preserved
-loop-code-preserved g c =
-    let is = rw (← c.as_slice-in-loop-code.ensures) at c.code-item.is in
-    items_more (next_cell c.args.names.now c.args.row) c.in-Some.others.now c.loop-code.code-index _ _ c.loop-code.invariant
-    c.as_slice-in-loop-code.result.now _ c.loop-code-test.true is (both_written _ _ _ _ _ c.in_ok-push_str.ensures.bytes c.in_ok-write_cell-2.ensures)
+pub loop-number-preserved : goal.loop-number-preserved
+loop-number-preserved g c =
+    let cell = rw c.as_slice.ensures at c.in_ok-write_cell.ensures in
+    parts_more (codes " | ") (row_of (map (cells_of c.args.names.now) c.args.threads.now) c.args.row)
+        c.loop-number.number _ _ c.loop-number.invariant _ _ (part_of_row c.args.names.now c.args.threads.now
+        c.args.row c.loop-number.number c.index-threads-number.result c.loop-number-test.true
+        c.index-threads-number.is) (both_written _ _ _ _ _ c.in_ok-write_separator.ensures cell)
 
 pub returns : goal.returns
 returns g c =
-    items_all (next_cell c.args.names.now c.args.row) c.in-Some.others.now c.loop-code.code-index _ _ c.loop-code.invariant (omega arith)
+    parts_all (codes " | ") _ c.loop-number.number _ _ c.loop-number.invariant
+    (omega (arith, row_length c.args.names.now c.args.threads.now c.args.row, c.loop-number-test.false))

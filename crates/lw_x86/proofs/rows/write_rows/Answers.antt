@@ -1,4 +1,4 @@
-use Rattle.std.proofs.Common.{map, ◌<◌, ◌≤◌, arith}
+use Rattle.std.proofs.Common.{map}
 use Rattle.lw_x86.specs.CanonicalTexts.{cells_of, longest}
 use Rattle.lw_x86.proofs.CellLists.{whole_row}
 use Rattle.lw_base.proofs.api.Writing.{numbers_more, numbers_all}
@@ -7,11 +7,10 @@ use Rattle.lw_x86.proofs.rows.write_rows.Goals as goal
 pub loop-row-preserved : goal.loop-row-preserved
 loop-row-preserved g c =
     let threads = map (cells_of c.args.program.now.head.locs) c.args.program.now.threads in
-    let within : c.loop-row.row < longest threads = omega (arith, c.loop-row-test.true, c.height-row-end.ensures) in
-    numbers_more (whole_row threads) (longest threads) c.loop-row.row _ _ c.loop-row.invariant _ within c.in_ok-write_row.ensures
+    numbers_more (whole_row threads) (longest threads) c.loop-row.row _ _ c.loop-row.invariant _ (rw c.height-row-end.ensures at c.loop-row-test.true)
+    c.in_ok-write_row.ensures
 
 pub returns : goal.returns
 returns g c =
     let threads = map (cells_of c.args.program.now.head.locs) c.args.program.now.threads in
-    let whole : longest threads ≤ c.loop-row.row = omega (arith, c.loop-row-test.false, c.height-row-end.ensures) in
-    numbers_all (whole_row threads) (longest threads) c.loop-row.row _ _ c.loop-row.invariant whole
+    numbers_all (whole_row threads) (longest threads) c.loop-row.row _ _ c.loop-row.invariant (rw c.height-row-end.ensures at c.loop-row-test.false)

@@ -1,0 +1,38 @@
+-- Parts of a line, each written behind what separates it from the one before.
+use Rattle.std.proofs.Common.{◌≡◌, ℕ, suc, ◌+◌, ◌≤◌, List, [], ◌∷◌, ◌++◌, length, length-take, take}
+use Rattle.std.proofs.Common.{arith, append_assoc, append-nil, Some, slice_get, take_all, ◌==◌, false, refl, Result, OnOk, is_ok, if◌then◌else◌}
+use Rattle.std.proofs.lemmas.Bool.Decides.{nat_tests}
+use Rattle.std.proofs.lemmas.Grind.{flat_map-append}
+use Rattle.std.proofs.lemmas.Option.{slice_get_within}
+use Rattle.lw_base.specs.Texts.{joined}
+use Rattle.lw_base.specs.Types.{Bytes}
+use Rattle.lw_base.proofs.api.Lists.{take_one}
+use Rattle.lw_base.proofs.api.Writing.{both_written, then_written, pushed}
+use Rattle.lw_x86.specs.inner.Separators.{separator}
+
+joined_more : (between : Bytes) (parts : List Bytes) (part : Bytes)
+    → joined between (parts ++ part ∷ []) ≡ joined between parts ++ (separator (length parts) between ++ part)
+joined_more between [] part = append-nil part
+joined_more between (first ∷ parts) part =
+    let later : (suc (length parts) == 0) ≡ false = grind (arith, nat_tests) in
+    rw (later, flat_map-append (λ p. between ++ p) parts (part ∷ []), append-nil (between ++ part), append_assoc first) refl
+
+module _ (between : Bytes) (parts : List Bytes) (k : ℕ) (start out : Bytes) (before : out ≡ start ++ joined between (take k parts)) where
+  -- one more
+  pub parts_more : (part new : Bytes) → slice_get parts k ≡ Some part → new ≡ out ++ (separator k between ++ part)
+      → new ≡ start ++ joined between (take (k + 1) parts)
+  parts_more part new is written =
+      let next : k + 1 ≡ suc k = omega arith in
+      let long : length (take k parts) ≡ k = omega (arith, length-take k parts, slice_get_within parts k part is) in
+      rw (next, take_one parts k part is, joined_more between (take k parts) part, long, ← append_assoc start (joined between (take k parts)), ← before) written
+
+  -- all of them
+  pub parts_all : length parts ≤ k → out ≡ start ++ joined between parts
+  parts_all all = rw (← take_all k parts all) before
+
+-- a line: what stands in front of the parts, these, and its end
+pub line_written : {T E : Type 0} (answer : Result T E) (start front parts back opened told end : Bytes) → opened ≡ start ++ front
+    → told ≡ opened ++ parts → end ≡ (if is_ok answer then told ++ back else told) → OnOk answer (end ≡ start ++ (front ++ (parts ++ back)))
+line_written answer start front parts back opened told end opens tells ends =
+    then_written answer start told end (front ++ parts) back (front ++ (parts ++ back)) (both_written start opened told front parts opens tells)
+    (append_assoc front parts back) (pushed answer told end back ends)

@@ -1,0 +1,7 @@
+-- What stands between the parts of a line.
+use Rattle.std.specs.Prelude.{ℕ, if◌then◌else◌, ◌==◌, []}
+use Rattle.lw_base.specs.Types.{Bytes}
+
+-- what stands before the part of a number
+abbrev pub separator : ℕ → Bytes → Bytes
+separator number between = if number == 0 then [] else between

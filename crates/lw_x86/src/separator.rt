@@ -1,0 +1,20 @@
+//! What stands between the parts of a line.
+ghost use Rattle.std.specs.Prelude.{◌≡◌, ◌++◌, OnOk};
+ghost use Rattle.std.specs.String.{string_bytes};
+ghost use Rattle.lw_x86.specs.inner.Separators.{separator};
+
+use std::alloc::{AllocError, Allocator};
+
+/// What stands before the part of this number: nothing before the first.
+pub(crate) fn write_separator<A: Allocator>(
+    out: &mut String<A>,
+    number: usize,
+    between: &str,
+) -> Result<(), AllocError>
+    ensures { OnOk result (string_bytes out.new ≡ string_bytes out.old ++ separator number between.now) }
+{
+    if number == 0 {
+        return Ok(());
+    }
+    out.push_str(between)
+}
