@@ -1,172 +1,110 @@
 -- The conflicts of items are those of the items that access a location.
-use Rattle.std.proofs.Common.{◌≡◌, ℕ, suc, ◌+◌, ◌<◌, ◌≤◌, drop, get_or, Bool, true, false, if◌then◌else◌}
-use Rattle.std.proofs.Common.{◌&&◌, ◌||◌, List, [], ◌∷◌, ◌++◌, length, map, Option, Some, None, refl, sym, ap}
-use Rattle.std.proofs.Common.{ap₂, ◌∙◌, inl, inr, arith, filter, option_map, option_to_list, append_assoc}
-use Rattle.std.proofs.Common.{append-nil}
+use Rattle.std.proofs.Common.{◌≡◌, ℕ, zero, suc, ◌+◌, ◌<◌, ◌≤◌, drop, drop-cons, get_or, Bool, false}
+use Rattle.std.proofs.Common.{if◌then◌else◌, ◌&&◌, ◌||◌, List, [], ◌∷◌, ◌++◌, length, map, Option, Some, None}
+use Rattle.std.proofs.Common.{refl, sym, ap, ap₂, ◌∙◌, inl, inr, arith, filter, option_to_list}
+use Rattle.std.proofs.Common.{flat_map, append_assoc, append-nil}
 use Rattle.std.proofs.lemmas.Bool.{cases_Bool}
 use Rattle.std.proofs.lemmas.List.{drop_all, drop_more}
-use Rattle.std.proofs.lemmas.List.Elements.{filter-append}
+use Rattle.std.proofs.lemmas.List.Elements.{filter-append, filter_agree}
 use Rattle.lw_orders.specs.Sequence.{numbers}
 use Rattle.lw_choices.specs.declared.conflicts.Access.{Access}
 use Rattle.lw_choices.specs.declared.item.Item.{Item}
 use Rattle.lw_choices.specs.inner.Accesses.{meets, conflicts_with, conflicts_among, access_by, accesses_from}
-use Rattle.lw_litmus.specs.Conflicts.{is_one}
 use Rattle.lw_litmus.specs.Languages.{Language}
-use Rattle.lw_choices.specs.Items.{item_at, pairs_from, statement_of, location_by, writes_by, conflict_by}
-use Rattle.lw_choices.specs.Items.{items_conflict, constraints_of}
-use Rattle.lw_choices.proofs.api.Pairs.{filter_takes, filter_skips}
+use Rattle.lw_choices.specs.Items.{item_at, pairs_from, statement_of, conflict_by}
+use Rattle.lw_choices.specs.Items.{constraints_of}
 
 -- whether two items that may have accesses conflict
 abbrev both : Option Access → Option Access → Bool
 both (Some a) (Some b) = meets a b
-both _ _ = false
+both (Some a) None = false
+both None b = false
 
-abbrev access : ℕ → Bool → ℕ → Access
-access n w x = record { number = n; loc = x; writes = w }
+-- ---- pair by pair of items that may have accesses, each with its number
+module _ (acc : ℕ → Option Access) (numbered : (i : ℕ) (a : Access) → acc i ≡ Some a → a.number ≡ i) where
+  abbrev conflict : ℕ × ℕ → Bool
+  conflict p = both (acc p.0) (acc p.1)
 
-both_none : (n : ℕ) (v : Bool) (x : Option ℕ) → false ≡ both (option_map (access n v) x) None
-both_none n v None = refl
-both_none n v (Some x) = refl
+  abbrev pair : ℕ → ℕ → ℕ × ℕ
+  pair k j = (k, j)
 
-both_by : (n m : ℕ) (v w : Bool) (x y : Option ℕ) → (is_one x y && (v || w)) ≡ both (option_map (access n v) x) (option_map (access m w) y)
-both_by n m v w None y = refl
-both_by n m v w (Some x) None = refl
-both_by n m v w (Some x) (Some y) = refl
+  -- the accesses of d items from number m on
+  abbrev from : ℕ → ℕ → List Access
+  from m d = flat_map (λ i. option_to_list (acc i)) (numbers m d)
 
-numbered : (n : ℕ) (v : Bool) (x : Option ℕ) (a : Access) → option_map (access n v) x ≡ Some a → a.number ≡ n
-numbered n v None a e = absurd (let bad : None ≡ Some a = e in cc)
-numbered n v (Some x) a e = (let same : Some (access n v x) ≡ Some a = e in let is : access n v x ≡ a = cc in ap (λ (b : Access). b.number) (sym is))
+  none_row : (k : ℕ) → acc k ≡ None → (js : List ℕ) → filter conflict (map (pair k) js) ≡ []
+  none_row k e [] = refl
+  none_row k e (j ∷ js) = rw e (none_row k e js)
+
+  module _ (k : ℕ) (x : Access) (ex : acc k ≡ Some x) where
+    one : (m d : ℕ) (y : Option Access) → acc m ≡ y → filter conflict (map (pair k) (numbers (suc m) d)) ≡ conflicts_with x (from (suc m) d)
+        → filter conflict (map (pair k) (m ∷ numbers (suc m) d)) ≡ conflicts_with x (option_to_list y ++ from (suc m) d)
+    one m d None ey rest = rw (ex, ey) rest
+    one m d (Some y) ey rest = elim (cases_Bool (meets x y)) [
+      | inl t ↦ rw (ex, ey, t) (ap₂ (λ (p : ℕ × ℕ) ps. p ∷ ps) (ap₂ (λ (i j : ℕ). (i, j)) (sym (numbered k x ex)) (sym (numbered m y ey))) rest)
+      | inr f ↦ rw (ex, ey, f) rest
+    ]
+
+    row : (d m : ℕ) → filter conflict (map (pair k) (numbers m d)) ≡ conflicts_with x (from m d)
+    row zero m = refl
+    row (suc d) m = one m d (acc m) refl (row d (suc m))
+
+  rows_by : (m d : ℕ) (x : Option Access) → acc m ≡ x → filter conflict (pairs_from (suc m) d) ≡ conflicts_among (from (suc m) d)
+      → filter conflict (pairs_from m (suc d)) ≡ conflicts_among (option_to_list x ++ from (suc m) d)
+  rows_by m d None e rest = filter-append conflict (map (pair m) (numbers (suc m) d)) (pairs_from (suc m) d)
+      ∙ ap₂ (λ ps qs. ps ++ qs) (none_row m e (numbers (suc m) d)) rest
+  rows_by m d (Some x) e rest = filter-append conflict (map (pair m) (numbers (suc m) d)) (pairs_from (suc m) d)
+      ∙ ap₂ (λ ps qs. ps ++ qs) (row m x e d (suc m)) rest
+
+  rows : (d m : ℕ) → filter conflict (pairs_from m d) ≡ conflicts_among (from m d)
+  rows zero m = refl
+  rows (suc d) m = rows_by m d (acc m) refl (rows d (suc m))
 
 module _ {S : Type 0} (language : Language S) (program : List (List S)) where
   conflict_says : (n m : ℕ) (d e : Bool) (s t : Option S) → conflict_by language d e s t ≡ both (access_by language n d s) (access_by language m e t)
-  conflict_says n m d e None t = refl
-  conflict_says n m d e (Some s) None = both_none n (writes_by language d s) (location_by language d s)
-  conflict_says n m d e (Some s) (Some t) = both_by n m (writes_by language d s) (writes_by language e t) (location_by language d s) (location_by language e t)
+  conflict_says n m d e s t = grind arith
 
   access_numbered : (n : ℕ) (d : Bool) (s : Option S) (a : Access) → access_by language n d s ≡ Some a → a.number ≡ n
-  access_numbered n d None a e = absurd (let bad : None ≡ Some a = e in cc)
-  access_numbered n d (Some s) a e = numbered n (writes_by language d s) (location_by language d s) a e
-
-  -- the access of an item
-  abbrev access_at : ℕ → Item → Option Access
-  access_at n a = access_by language n a.is_drain (statement_of language program a)
-
-  module _ (whole : List Item) where
-    abbrev conflict_at : ℕ × ℕ → Bool
-    conflict_at p = items_conflict language program (item_at whole p.0) (item_at whole p.1)
-
-    -- the items from number m on are these
-    abbrev Stand : ℕ → List Item → Type 0
-    Stand m items = (j : ℕ) → item_at whole (m + j) ≡ item_at items j
-
-    first : (m : ℕ) (a : Item) (items : List Item) → Stand m (a ∷ items) → item_at whole m ≡ a
-    first m a items h = ap (item_at whole) (let e : m ≡ m + 0 = omega arith in e) ∙ h 0
-
-    later : (m : ℕ) (a : Item) (items : List Item) → Stand m (a ∷ items) → Stand (suc m) items
-    later m a items h j = ap (item_at whole) (let e : suc m + j ≡ m + suc j = omega arith in e) ∙ h (suc j)
-
-    abbrev pair : ℕ → ℕ → ℕ × ℕ
-    pair k j = (k, j)
-
-    abbrev with_it : Access → Access → ℕ × ℕ
-    with_it a b = (a.number, b.number)
-
-    conflict_is : (k m : ℕ) (a b : Item) → item_at whole k ≡ a → item_at whole m ≡ b → conflict_at (k, m) ≡ both (access_at k a) (access_at m b)
-    conflict_is k m a b ea eb = ap₂ (λ x y. items_conflict language program x y) ea eb
-        ∙ conflict_says k m a.is_drain b.is_drain (statement_of language program a) (statement_of language program b)
-
-    -- an item without an access conflicts with none
-    none_row : (k : ℕ) (a : Item) → item_at whole k ≡ a → access_at k a ≡ None → (js : List ℕ) → filter conflict_at (map (pair k) js) ≡ []
-    none_row k a ea none [] = refl
-    none_row k a ea none (j ∷ js) =
-        let no : conflict_at (k, j) ≡ false = conflict_is k j a (item_at whole j) ea refl ∙ ap (λ x. both x (access_at j (item_at whole j))) none in
-        filter_skips conflict_at (k, j) (map (pair k) js) no ∙ none_row k a ea none js
-
-    module _ (k : ℕ) (a : Item) (x : Access) (ea : item_at whole k ≡ a) (ex : access_at k a ≡ Some x) where
-      number_is : x.number ≡ k
-      number_is = access_numbered k a.is_drain (statement_of language program a) x ex
-
-      -- one later item, given its access
-      one : (m : ℕ) (b : Item) (js : List ℕ) (others : List Access) (y : Option Access) → item_at whole m ≡ b → access_at m b ≡ y
-          → filter conflict_at (map (pair k) js) ≡ map (with_it x) (filter (meets x) others)
-          → filter conflict_at (map (pair k) (m ∷ js)) ≡ map (with_it x) (filter (meets x) (option_to_list y ++ others))
-      one m b js others None eb ey rest =
-          filter_skips conflict_at (k, m) (map (pair k) js) (conflict_is k m a b ea eb ∙ ap₂ both ex ey) ∙ rest
-      one m b js others (Some y) eb ey rest =
-          let is : conflict_at (k, m) ≡ meets x y = conflict_is k m a b ea eb ∙ ap₂ both ex ey in
-          let number : y.number ≡ m = access_numbered m b.is_drain (statement_of language program b) y ey in
-          let same : (k, m) ≡ with_it x y = ap₂ (λ (i j : ℕ). (i, j)) (sym number_is) (sym number) in
-          elim (cases_Bool (meets x y)) [
-            | inl t ↦ filter_takes conflict_at (k, m) (map (pair k) js) (is ∙ t)
-                ∙ (ap₂ (λ (p : ℕ × ℕ) (ps : List (ℕ × ℕ)). p ∷ ps) same rest
-                ∙ ap (map (with_it x)) (sym (filter_takes (meets x) y others t)))
-            | inr f ↦ filter_skips conflict_at (k, m) (map (pair k) js) (is ∙ f)
-                ∙ (rest ∙ ap (map (with_it x)) (sym (filter_skips (meets x) y others f)))
-          ]
-
-      row : (items : List Item) (m : ℕ) → Stand m items → filter conflict_at (map
-          (pair k) (numbers m (length items))) ≡ conflicts_with x (accesses_from language program m items)
-      row [] m h = refl
-      row (b ∷ items) m h =
-          one m b (numbers (suc m) (length items)) (accesses_from language program (suc m) items)
-          (access_at m b) (first m b items h) refl (row items (suc m) (later m b items h))
-
-    rows_by : (k : ℕ) (a : Item) (items : List Item) (x : Option Access) → Stand k (a ∷ items) → access_at k a ≡ x
-        → filter conflict_at (pairs_from (suc k) (length items)) ≡ conflicts_among (accesses_from language program (suc k) items)
-        → filter conflict_at (pairs_from k (suc (length items))) ≡ conflicts_among (option_to_list x ++ accesses_from language program (suc k) items)
-    rows_by k a items None h e rest =
-        filter-append conflict_at (map (pair k) (numbers (suc k) (length items))) (pairs_from (suc k) (length items))
-        ∙ ap₂ (λ ps qs. ps ++ qs) (none_row k a (first k a items h) e (numbers (suc k) (length items))) rest
-    rows_by k a items (Some x) h e rest =
-        filter-append conflict_at (map (pair k) (numbers (suc k) (length items))) (pairs_from (suc k) (length items))
-        ∙ ap₂ (λ ps qs. ps ++ qs) (row k a x (first k a items h) e items (suc k) (later k a items h)) rest
-
-    rows : (items : List Item) (k : ℕ) → Stand k items → filter conflict_at
-        (pairs_from k (length items)) ≡ conflicts_among (accesses_from language program k items)
-    rows [] k h = refl
-    rows (a ∷ items) k h = rows_by k a items (access_at k a) h refl (rows items (suc k) (later k a items h))
+  access_numbered n d s a e = grind arith
 
   -- pair by pair of the accesses
-  pub conflicts_are : (items : List Item) → conflicts_among (accesses_from language program 0 items) ≡ (constraints_of language program items).conflicts
-  conflicts_are items = sym (rows items items 0 (λ j. ap (item_at items) (let e : 0 + j ≡ j = omega arith in e)))
+  module _ (items : List Item) where
+    abbrev access_at : ℕ → Option Access
+    access_at i = access_by language i (item_at items i).is_drain (statement_of language program (item_at items i))
+
+    accesses_are : (d m : ℕ) → m + d ≡ length items
+        → accesses_from language program m (drop m items) ≡ flat_map (λ i. option_to_list (access_at i)) (numbers m d)
+    accesses_are zero m e = ap (accesses_from language program m) (drop_all m items (omega arith))
+    accesses_are (suc d) m e = ap (accesses_from language program m) (drop-cons items m _ (omega arith))
+        ∙ ap (λ xs. option_to_list (access_at m) ++ xs) (accesses_are d (suc m) (omega arith))
+
+    pub conflicts_are : conflicts_among (accesses_from language program 0 items) ≡ (constraints_of language program items).conflicts
+    conflicts_are =
+        ap conflicts_among (accesses_are (length items) 0 (omega arith))
+        ∙ (sym (rows access_at (λ i a e. access_numbered i (item_at items i).is_drain (statement_of language program (item_at items i)) a e) (length items) 0)
+        ∙ filter_agree _ _ (λ (p : ℕ × ℕ). sym (conflict_says p.0 p.1 (item_at items p.0).is_drain (item_at items p.1).is_drain
+        (statement_of language program (item_at items p.0)) (statement_of language program (item_at items p.1)))) (pairs_from 0 (length items)))
 
 -- the accesses of the items so far, with that of one item more, if it has one
-pub access_pushed : {S : Type 0} (language : Language S) (program : List (List S)) (items : List Item) (n : ℕ) (item : Item) (o : Option Access)
-    (found new whole : List Access)
+pub access_pushed : {S : Type 0} {item : Item} {o : Option Access} {new whole : List Access} (language : Language S) (program : List (List S))
+    (items : List Item) (n : ℕ) (found : List Access)
     → n < length items → item ≡ get_or items n item → o ≡ access_by language n item.is_drain (statement_of language program item)
     → found ++ accesses_from language program n (drop n items) ≡ whole → new ≡ found ++ option_to_list o
     → new ++ accesses_from language program (n + 1) (drop (n + 1) items) ≡ whole
-access_pushed language program items n item o found new whole within is accessed so_far pushed =
-    let rest = accesses_from language program (n + 1) (drop (n + 1) items) in
-    let plus : suc n ≡ n + 1 = omega arith in
+access_pushed {item = item} {o = o} {whole = whole} language program items n found within is accessed so_far pushed =
     let split : drop n items ≡ item ∷ drop (n + 1) items = drop_more items n item within ∙ ap (λ a. a ∷ drop (n + 1) items) (sym is) in
-    let next : accesses_from language program n (drop n items) ≡ option_to_list o ++ rest =
-    ap (accesses_from language program n) split
-    ∙ ap₂ (λ a k. option_to_list a ++ accesses_from language program k (drop (n + 1) items)) (sym accessed) plus in
-    ap (λ xs. xs ++ rest) pushed ∙ (append_assoc found (option_to_list o) rest ∙ (ap (λ xs. found ++ xs) (sym next) ∙ so_far))
-
--- and of all
-pub accesses_done : {S : Type 0} (language : Language S) (program : List (List S)) (items : List Item) (n : ℕ) (found whole : List Access)
-    → length items ≤ n → found ++ accesses_from language program n (drop n items) ≡ whole → found ≡ whole
-accesses_done language program items n found whole past so_far =
-    sym (append-nil found) ∙ (ap (λ xs. found ++ accesses_from language program n xs) (sym (drop_all n items past)) ∙ so_far)
+    let plus : suc n ≡ n + 1 = omega arith in
+    let whole_is : found ++ (option_to_list o ++ accesses_from language program (n + 1) (drop (n + 1) items)) ≡ whole =
+    rw (accessed, ← so_far, split, ← plus) refl in
+    rw (pushed, append_assoc) whole_is
 
 -- the conflicts of an access with those so far, and one more
-pub conflict_pushed : (a : Access) (later : List Access) (n : ℕ) (b : Access) (found new whole : List (ℕ × ℕ))
+pub conflict_pushed : {b : Access} {new whole : List (ℕ × ℕ)} (a : Access) (later : List Access) (n : ℕ) (found : List (ℕ × ℕ))
     → n < length later → b ≡ get_or later n b → found ++ conflicts_with a (drop n later) ≡ whole
     → new ≡ found ++ (if meets a b then (a.number, b.number) ∷ [] else []) → new ++ conflicts_with a (drop (n + 1) later) ≡ whole
-conflict_pushed a later n b found new whole within is so_far pushed = go (meets a b) refl
-  where
-    split : drop n later ≡ b ∷ drop (n + 1) later
-    split = drop_more later n b within ∙ ap (λ c. c ∷ drop (n + 1) later) (sym is)
-
-    rest : List (ℕ × ℕ)
-    rest = conflicts_with a (drop (n + 1) later)
-
-    go : (h : Bool) → meets a b ≡ h → new ++ rest ≡ whole
-    go true h =
-        let next : conflicts_with a (drop n later) ≡ (a.number, b.number) ∷ rest = ap (conflicts_with a) split ∙ rw h refl in
-        ap (λ xs. xs ++ rest) (pushed ∙ rw h refl) ∙ (append_assoc found ((a.number, b.number) ∷ []) rest ∙ (ap (λ xs. found ++ xs) (sym next) ∙ so_far))
-    go false h =
-        let next : conflicts_with a (drop n later) ≡ rest = ap (conflicts_with a) split ∙ rw h refl in
-        ap (λ xs. xs ++ rest) (pushed ∙ rw h (append-nil found)) ∙ (ap (λ xs. found ++ xs) (sym next) ∙ so_far)
+conflict_pushed {b = b} a later n found within is so_far pushed =
+    let split : drop n later ≡ b ∷ drop (n + 1) later = drop_more later n b within ∙ ap (λ c. c ∷ drop (n + 1) later) (sym is) in
+    elim (cases_Bool (meets a b)) [
+      | inl t ↦ rw (pushed, ← so_far, split, t) (append_assoc found ((a.number, b.number) ∷ []) (conflicts_with a (drop (n + 1) later)))
+      | inr f ↦ rw (pushed, ← so_far, split, f, append-nil) refl
+    ]

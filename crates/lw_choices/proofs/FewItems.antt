@@ -26,8 +26,8 @@ module _ {S : Type 0} (language : Language S) (undrained : (s : S) → drains la
       go (Some x) e = absurd (cc)
 
   -- at most one for each position that is passed
-  path_few : (t : ℕ) (code : List S) (at : ℕ) (path : List ℕ)
-      → IsForward language code → IsPathFrom language code at path → length (path_items language t code path) + at ≤ length code
+  path_few : (t : ℕ) (code : List S) (at : ℕ) (path : List ℕ) → IsForward language code
+      → IsPathFrom language code at path → length (path_items language t code path) + at ≤ length code
   path_few t code at [] forward h = omega (arith, h)
   path_few t code at (j ∷ path) forward (same, next, f, goes) =
       omega (
@@ -40,8 +40,8 @@ module _ {S : Type 0} (language : Language S) (undrained : (s : S) → drains la
 
   module _ (locs : ℕ) (short : language.most ≤ most_statements) where
     choice_few : (t : ℕ) (program : List (List S)) (paths : List (List ℕ))
-        → All (IsThread language locs) program → IsChoice language program paths → length (items_from language t program paths)
-        ≤ most_statements * length program
+        → All (IsThread language locs) program → IsChoice language program paths
+        → length (items_from language t program paths) ≤ most_statements * length program
     choice_few t [] paths all c = omega arith
     choice_few t (code ∷ program) [] all c = absurd c
     choice_few t (code ∷ program) (path ∷ paths) all c =

@@ -14,7 +14,7 @@ map-same f g (x ∷ xs) h = ap₂ (λ a b. a ∷ b) (h x) (map-same f g xs h)
 
 pub over_flat_map : {X Y Z : Type 0} (f : Y → List Z) (g : X → List Y) (xs : List X) → flat_map f (flat_map g xs) ≡ flat_map (λ x. flat_map f (g x)) xs
 over_flat_map f g [] = refl
-over_flat_map f g (x ∷ xs) = flat_map-append f (g x) (flat_map g xs) ∙ ap (λ b. flat_map f (g x) ++ b) (over_flat_map f g xs)
+over_flat_map f g (x ∷ xs) = flat_map-append f _ _ ∙ ap (λ b. flat_map f (g x) ++ b) (over_flat_map f g xs)
 
 pub map_of_flat_map : {X Y Z : Type 0} (f : Y → Z) (g : X → List Y) (xs : List X) → map f (flat_map g xs) ≡ flat_map (λ x. map f (g x)) xs
 map_of_flat_map f g [] = refl

@@ -1,3 +1,4 @@
 pub mod Accesses
 pub mod Sizes
 pub mod Few
+pub mod Visiting

@@ -6,6 +6,7 @@ ghost use Rattle.lw_litmus.specs.Limits.{most_instructions};
 ghost use Rattle.lw_choices.specs.Choices.{led, choices_of};
 ghost use Rattle.lw_choices.specs.Views.{path_of, choice_of};
 ghost use Rattle.lw_choices.specs.Visits.{Visited, Refused, IsVisitable, CanGoOn, choices_along};
+ghost use Rattle.lw_choices.specs.inner.Visiting.{Done};
 
 use crate::path::{Choice, Path};
 use lw_base::Sequence;
@@ -56,8 +57,7 @@ fn visit_from<S: Statement, A: Allocator, V: Visitor>(
     visitor: &mut V,
 ) -> Result<(), V::Fault>
     requires { CanGoOn S.language program.now (choice_of choice) (path_of path) at }
-    ensures ok { OnOk result (Visited V.visits (choices_along S.language program.now (choice_of choice) (path_of path) at) visitor.old visitor.new) }
-    ensures err { IfErr result (λ e. Refused V.visits V.refuses (choices_along S.language program.now (choice_of choice) (path_of path) at) visitor.old e) }
+    ensures { Done V.visits V.refuses (choices_along S.language program.now (choice_of choice) (path_of path) at) visitor.old result visitor.new }
 {
     let code = &program[choice.len()];
     let Some(stmt) = code.get(at) else {

@@ -1,12 +1,12 @@
 -- Where each pair goes up, the items going up are the lowest order.
 use Rattle.std.proofs.Common.{ℕ, zero, suc, ◌≡◌, ◌+◌, ◌<◌, List, [], ◌∷◌, ◌++◌, ap, ◌∙◌, refl, arith, true}
-use Rattle.std.proofs.Common.{Some, find, filter_map, append-nil}
+use Rattle.std.proofs.Common.{Some, find, filter_map, append-nil, eq-eqb}
 use Rattle.std.specs.List.{cons_option}
 use Rattle.std.proofs.lemmas.Bool.{cond-true}
 use Rattle.std.proofs.lemmas.List.Elements.{All-weaker}
 use Rattle.lw_orders.specs.Order.{Constraints, GoUp, open_pairs}
 use Rattle.lw_orders.specs.Sequence.{directions, numbers, without, is_free, in_turn, lowest_order, orders}
-use Rattle.lw_orders.proofs.api.Places.{place-numbers_within, without-same}
+use Rattle.lw_orders.proofs.api.Places.{place-numbers_within}
 use Rattle.lw_orders.proofs.LowestOrder.{Ranks, least_is_free}
 
 -- at each turn the first item that is left is free
@@ -16,8 +16,8 @@ in_turn_up pairs up (suc n) k =
     let free : is_free pairs (numbers k (suc n)) k ≡ true =
     least_is_free (λ i. i) (numbers k (suc n)) k (λ i l. (place-numbers_within k (suc n) i l).0) pairs up in
     let first : find (is_free pairs (numbers k (suc n))) (numbers k (suc n)) ≡ Some k =
-    cond-true (is_free pairs (numbers k (suc n)) k) (Some k) (find (is_free pairs (numbers k (suc n))) (numbers (suc k) n)) free in
-    let rest : without (numbers k (suc n)) k ≡ numbers (suc k) n = without-same k (numbers (suc k) n) k refl in
+    cond-true (is_free pairs (numbers k (suc n)) k) (Some k) _ free in
+    let rest : without (numbers k (suc n)) k ≡ numbers (suc k) n = rw (eq-eqb k k refl) refl in
     rw first (rw rest (rw (in_turn_up pairs up n (suc k)) refl))
 
 -- so it is the one order that is given, where no pair is open

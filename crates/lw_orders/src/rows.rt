@@ -1,6 +1,6 @@
 //! Rows: a set of items for each item.
 
-ghost use Rattle.std.specs.Prelude.{◌≡◌, ℕ, ◌<◌, ◌≤◌, ◌||◌, List, [], ◌++◌, length, slice_index, slice_index_or};
+ghost use Rattle.std.specs.Prelude.{◌≡◌, ℕ, ◌<◌, ◌≤◌, ◌==◌, ◌&&◌, ◌||◌, List, [], ◌++◌, length, slice_index, slice_index_or};
 ghost use Rattle.lw_orders.specs.Limits.{most_items};
 ghost use Rattle.lw_orders.specs.Sequence.{Within};
 ghost use Rattle.lw_orders.specs.inner.Sets.{has, joins, AreRows, LeadInto, AreNeighbours};
@@ -60,8 +60,7 @@ fn add_pairs(rows: &mut Rows, pairs: &[(u8, u8)])
         has (slice_index rows.new i) j ≡ (has (slice_index rows.old i) j || joins pairs.now j i) }
 {
     for pair in pairs {
-        let (first, second) = *pair;
-        rows[second as usize] = row(rows, second as usize).with(first as usize);
+        put(rows, pair.1 as usize, pair.0 as usize);
     }
 }
 
@@ -72,9 +71,18 @@ fn add_turned(rows: &mut Rows, pairs: &[(u8, u8)])
         has (slice_index rows.new i) j ≡ (has (slice_index rows.old i) j || joins pairs.now i j) }
 {
     for pair in pairs {
-        let (first, second) = *pair;
-        rows[first as usize] = row(rows, first as usize).with(second as usize);
+        put(rows, pair.0 as usize, pair.1 as usize);
     }
+}
+
+/// Puts an item into the set of another.
+fn put(rows: &mut Rows, at: usize, item: usize)
+    requires at { at < most_items }
+    requires item { item < most_items }
+    ensures { (i j : ℕ) → i < most_items → j < most_items →
+        has (slice_index rows.new i) j ≡ (has (slice_index rows.old i) j || ((item == j) && (at == i))) }
+{
+    rows[at] = row(rows, at).with(item);
 }
 
 /// Writes the rows of the fixed and the chosen pairs behind those of the fixed ones.

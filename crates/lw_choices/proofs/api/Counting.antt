@@ -1,5 +1,5 @@
 -- The orders of all choices are counted, choice by choice; and what a refusal on the way tells.
-use Rattle.std.proofs.Common.{◌≡◌, ℕ, ◌+◌, ◌<◌, ◌≤◌, List, [], ◌∷◌, length, min, refl, ap, ◌∙◌, subst, inl}
+use Rattle.std.proofs.Common.{◌≡◌, ℕ, ◌+◌, ◌<◌, ◌≤◌, List, [], ◌∷◌, length, min, refl, ◌∙◌, inl}
 use Rattle.std.proofs.Common.{inr, arith, All, Contains}
 use Rattle.lw_orders.specs.Order.{count_of}
 use Rattle.lw_orders.specs.Limits.{most_items, most_orders}
@@ -28,9 +28,8 @@ module _ {S : Type 0} (language : Language S) where
       → length made ≤ most_items → items ≡ made → (orders ≡ count_of (constraints_of language program items)) × (orders ≤ most_orders)
       → after ≡ min (before + orders) 18446744073709551615 → after ≤ most_orders → Counts program before paths program after
   choice_counted program before orders after paths made items are few shown (count, least) total within =
-      let same : orders ≡ orders_at_choice language program paths =
-      count ∙ ap (λ (xs : List Item). count_of (constraints_of language program xs)) (shown ∙ are) in
-      (refl, subst (λ (xs : List Item). length xs ≤ most_items) are few, omega (arith, total, within, same), within)
+      let same : orders ≡ orders_at_choice language program paths = rw (← are, ← shown) count in
+      (refl, rw are at few, omega (arith, total, within, same), within)
 
   -- why one of some choices was refused, where those before them have so many orders
   abbrev Tells : List (List S) → ℕ → List (List (List ℕ)) → ListFault → Type 0
@@ -46,7 +45,7 @@ module _ {S : Type 0} (language : Language S) where
 
   tells_there : (program : List (List S)) (before after : ℕ) (paths : List (List ℕ)) (choices : List (List (List ℕ))) (e : ListFault)
       → after ≤ before + orders_at_choice language program paths → Tells program after choices e → Tells program before (paths ∷ choices) e
-  tells_there program before after paths choices TooManyItems l (p, c, h) = (p, Contains-there paths p choices c, h)
+  tells_there program before after paths choices TooManyItems l (p, c, h) = (p, Contains-there paths p _ c, h)
   tells_there program before after paths choices TooManyOrders l h = omega (arith, l, h)
   tells_there program before after paths choices Memory l h = tt
 
@@ -62,35 +61,40 @@ module _ {S : Type 0} (language : Language S) where
     none_too_many all (paths, is, h) = let l : items_at_choice language program paths ≤ most_items =
         all paths ((choices_are_all language program paths forward).1 is) in omega arith
 
-  module _ {V : Type 0} (program_of : V → List (List S))
-      (count : V → ℕ) (visits : V → List (List ℕ) → V → Type 0) (refuses : V → List (List ℕ) → ListFault → Type 0) (program : List (List S)) where
+  -- one of some choices was refused, for the visitor's reasons
+  module _ {V : Type 0} (program_of : V → List (List S)) (before : V → ℕ) (visits : V → List (List ℕ) → V
+      → Type 0) (refuses : V → List (List ℕ) → ListFault → Type 0) (program : List (List S)) (each : (v : V)
+      (paths : List (List ℕ)) (w : V) → visits v paths w → (program_of w ≡ program_of v)
+      × (before w ≤ before v + orders_at_choice language (program_of v) paths)) (why : (v : V)
+      (paths : List (List ℕ)) (e : ListFault) → refuses v paths e → TellsOfChoice language (program_of v)
+      (before v) paths e) where
+    refused : (choices : List (List (List ℕ))) (v : V) (e : ListFault)
+        → program_of v ≡ program → Refused visits refuses choices v e → Tells program (before v) choices e
+    refused [] v e is h = absurd h
+    refused (paths ∷ choices) v e is (inl h) = tells_here _ _ paths choices e (rw is at (why v paths e h))
+    refused (paths ∷ choices) v e is (inr (mid, one, rest)) = (let (same, most) = each v paths mid one in
+        tells_there program _ _ paths choices e (rw is at most) (refused choices mid e (same ∙ is) rest))
+
+  module _ {V : Type 0} (program_of : V → List (List S)) (count : V → ℕ) (visits : V → List (List ℕ) → V
+      → Type 0) (refuses : V → List (List ℕ) → ListFault → Type 0) (program : List (List S)) where
     -- the counter counts, and refuses for its reasons
-    module _ (each : (v : V) (paths : List (List ℕ)) (w : V) → visits v paths w → Counts (program_of v) (count v) paths (program_of w) (count w))
-        (why : (v : V) (paths : List (List ℕ)) (e : ListFault) → refuses v paths e → TellsOfChoice language (program_of v) (count v) paths e) where
-      counted : (choices : List (List (List ℕ))) (v w : V) → program_of v ≡ program → count v ≤ most_orders → Visited visits choices v w
-          → ((paths : List (List ℕ))
-          → Contains choices paths → items_at_choice language program paths ≤ most_items) × (count v + orders_of language program choices ≤ most_orders)
+    module _ (each : (v : V) (paths : List (List ℕ)) (w : V) → visits v paths w → Counts (program_of v)
+        (count v) paths (program_of w) (count w)) (why : (v : V) (paths : List (List ℕ)) (e : ListFault)
+        → refuses v paths e → TellsOfChoice language (program_of v) (count v) paths e) where
+      counted : (choices : List (List (List ℕ))) (v w : V) → program_of v ≡ program → count v ≤ most_orders
+          → Visited visits choices v w
+          → ((paths : List (List ℕ)) → Contains choices paths → items_at_choice language program paths
+          ≤ most_items) × (count v + orders_of language program choices ≤ most_orders)
       counted [] v w is few h = ((λ paths c. absurd (none_in paths c)), omega arith)
       counted (paths ∷ choices) v w is few (mid, one, rest) =
-          let h : Counts program (count v) paths (program_of mid) (count mid) =
-          subst (λ (p : List (List S)). Counts p (count v) paths (program_of mid) (count mid)) is (each v paths mid one) in
-          let more = counted choices mid w h.0 h.3 rest in (
+          let (same, items, orders, within) = each v paths mid one in
+          let more = counted choices mid w (same ∙ is) within rest in (
             (λ p c. elim (Contains-cons paths p choices c) [
-              | inl e ↦ subst (λ (q : List (List ℕ)). items_at_choice language program q ≤ most_items) e h.1
+              | inl e ↦ rw (← e, ← is) items
               | inr r ↦ more.0 p r
             ]),
-            omega (arith, more.1, h.2),
+            omega (arith, more.1, rw is at orders),
           )
-
-      refused : (choices : List (List (List ℕ))) (v : V) (e : ListFault)
-          → program_of v ≡ program → Refused visits refuses choices v e → Tells program (count v) choices e
-      refused [] v e is h = absurd h
-      refused (paths ∷ choices) v e is (inl h) = tells_here program (count v) paths choices e
-          (subst (λ (p : List (List S)). TellsOfChoice language p (count v) paths e) is (why v paths e h))
-      refused (paths ∷ choices) v e is (inr (mid, one, rest)) =
-          let h : Counts program (count v) paths (program_of mid) (count mid) =
-          subst (λ (p : List (List S)). Counts p (count v) paths (program_of mid) (count mid)) is (each v paths mid one) in
-          tells_there program (count v) (count mid) paths choices e (omega (arith, h.2)) (refused choices mid e h.0 rest)
 
       module _ (forward : All (IsForward language) program) where
         -- all choices were counted
@@ -102,23 +106,17 @@ module _ {S : Type 0} (language : Language S) where
 
         pub count_refused : (v : V) (e : ListFault) → program_of v ≡ program → count v ≡ 0
             → Refused visits refuses (choices_of language program) v e → TellsOfChoices language program e
-        count_refused v e is none h = tells_all program forward e (subst (λ (n : ℕ). Tells program n
-            (choices_of language program) e) none (refused (choices_of language program) v e is h))
+        count_refused v e is none h = tells_all program forward e (rw none at (refused program_of count visits
+            refuses program (λ v paths w h. (let (same, items, orders, within) = each v paths w h in
+            (same, omega (arith, orders)))) why (choices_of language program) v e is h))
 
     -- one that doesn't count, for its reasons
     module _ (each : (v : V) (paths : List (List ℕ)) (w : V) → visits v paths w → program_of w ≡ program_of v)
         (why : (v : V) (paths : List (List ℕ)) (e : ListFault) → refuses v paths e → TellsOfChoice language (program_of v) 0 paths e) where
-      uncounted : (choices : List (List (List ℕ))) (v : V) (e : ListFault)
-          → program_of v ≡ program → Refused visits refuses choices v e → Tells program 0 choices e
-      uncounted [] v e is h = absurd h
-      uncounted (paths ∷ choices) v e is (inl h) = tells_here program 0 paths choices e
-          (subst (λ (p : List (List S)). TellsOfChoice language p 0 paths e) is (why v paths e h))
-      uncounted (paths ∷ choices) v e is (inr (mid, one, rest)) = tells_there program 0 0 paths choices e
-          (omega arith) (uncounted choices mid e (each v paths mid one ∙ is) rest)
-
       pub visit_refused : All (IsForward language) program → (v : V) (e : ListFault) → program_of v ≡ program
           → Refused visits refuses (choices_of language program) v e → TellsOfChoices language program e
-      visit_refused forward v e is h = tells_all program forward e (uncounted (choices_of language program) v e is h)
+      visit_refused forward v e is h = tells_all program forward e (refused program_of (λ _. 0) visits refuses
+          program (λ v paths w h. (each v paths w h, omega arith)) why (choices_of language program) v e is h)
 
   pub given_refused : (program : List (List S)) (paths : List (List ℕ)) (e : ListFault)
       → TellsOfGiven language program (items_of language program paths) e → TellsOfChoice language program 0 paths e

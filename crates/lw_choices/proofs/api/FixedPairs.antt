@@ -1,13 +1,15 @@
--- The fixed pairs of the items of a choice, in either language: each goes up along a thread. And the items with their fixed pairs
--- and conflicts are well-formed.
-use Rattle.std.proofs.Common.{◌≡◌, Bool, true, false, ℕ, zero, suc, ◌+◌, ◌<◌, ◌≤◌, ◌==◌, List, [], ◌∷◌}
-use Rattle.std.proofs.Common.{length, Option, Some, None, refl, sym, ap, ◌∙◌, subst, inl, inr, slice_get}
-use Rattle.std.proofs.Common.{arith, All, Contains, eq-eqb, ne_eqb}
-use Rattle.std.specs.Option.{ForSome}
+-- The fixed pairs of the items of a choice, in either language, number by number: each goes up along a thread. And the items with
+-- their fixed pairs and conflicts are well-formed.
+use Rattle.std.proofs.Common.{◌≡◌, Bool, true, false, ℕ, zero, suc, ◌+◌, ◌<◌, ◌≤◌, ◌==◌, ◌⊎◌, List, [], ◌∷◌, ◌++◌}
+use Rattle.std.proofs.Common.{length, drop, drop-cons, flat_map, Option, Some, None, refl, ap, ◌∙◌, subst}
+use Rattle.std.proofs.Common.{inl, inr, arith, All, Contains, eq-eqb, ne_eqb}
 use Rattle.std.proofs.lemmas.Bool.{cases_eq, cond-true, cond-false}
-use Rattle.std.proofs.lemmas.List.Elements.{All-nil, All-cons, All-append, All-weaker}
+use Rattle.std.proofs.lemmas.List.{drop_all}
+use Rattle.std.proofs.lemmas.List.Elements.{All-nil, All-cons, All-append}
 use Rattle.lw_orders.specs.Order.{GoUp, IsWellFormed}
 use Rattle.lw_orders.specs.Limits.{most_items}
+use Rattle.lw_orders.specs.Sequence.{numbers}
+use Rattle.lw_orders.proofs.api.Complete.{All-parts}
 use Rattle.lw_choices.specs.declared.item.Item.{Item}
 use Rattle.lw_choices.specs.declared.item.Last.{Last}
 use Rattle.lw_litmus.specs.Languages.{Language}
@@ -23,91 +25,107 @@ last_same t u last e = cond-true (t == u) last none_before (eq-eqb t u e)
 pub last_other : (t u : ℕ) (last : Last) → (t ≡ u → ⊥) → last_of t u last ≡ none_before
 last_other t u last ne = cond-false (t == u) last none_before (ne_eqb t u ne)
 
-module _ (whole : List Item) where
-  -- an item before number n, of a thread
-  abbrev IsBefore : ℕ → ℕ → ℕ → Type 0
-  IsBefore n t m = (m < n) × ((item_at whole m).thread ≡ t)
+-- the last statement, and the last drain
+abbrev pub last_by : Bool → Last → Option ℕ
+last_by true last = last.drain
+last_by false last = last.statement
 
-  record AreLast (n t : ℕ) (last : Last) : Type 0 where
-    pub statement : ForSome last.statement (IsBefore n t)
-    pub drain : ForSome last.drain (IsBefore n t)
+module _ (Q : ℕ × ℕ → Type 0) (n : ℕ) where
+  All-behind : (o : Option ℕ) → ((m : ℕ) → o ≡ Some m → Q (m, n)) → All Q (behind o n)
+  All-behind None each = All-nil Q
+  All-behind (Some m) each = All-cons Q (m, n) [] (each m refl) (All-nil Q)
 
-  -- a pair goes up along a thread
-  abbrev pub GoesAlong : ℕ → ℕ × ℕ → Type 0
-  GoesAlong n p = (p.0 < p.1) × (p.1 < n) × ((item_at whole p.0).thread ≡ (item_at whole p.1).thread)
+  pub All-fixed_at : (d w : Bool) (last : Last) → ((m : ℕ) → last.statement ≡ Some m → Q (m, n))
+      → ((d ≡ true) ⊎ (w ≡ true) → (m : ℕ) → last.drain ≡ Some m → Q (m, n)) → All Q (fixed_at d w last n)
+  All-fixed_at true w last s d = All-append Q _ _ (All-behind _ s) (All-behind last.drain (d (inl refl)))
+  All-fixed_at false true last s d = All-append Q _ _ (All-behind _ s) (All-behind last.drain (d (inr refl)))
+  All-fixed_at false false last s d = All-behind last.statement s
 
-  behind_goes : (o : Option ℕ) (n t len : ℕ) → n < len → (item_at whole n).thread ≡ t → ForSome o (IsBefore n t) → All (GoesAlong len) (behind o n)
-  behind_goes None n t len l e h = All-nil (GoesAlong len)
-  behind_goes (Some m) n t len l e h =
-      let b : IsBefore n t m = h m refl in
-      All-cons (GoesAlong len) (m, n) [] (b.0, l, b.1 ∙ sym e) (All-nil (GoesAlong len))
+module _ (Q : ℕ × ℕ → Type 0) (f : ℕ → List (ℕ × ℕ)) where
+  All-numbered : (k n : ℕ) → ((i : ℕ) → k ≤ i → i < k + n → All Q (f i)) → All Q (flat_map f (numbers k n))
+  All-numbered k zero each = All-nil Q
+  All-numbered k (suc n) each = All-append Q (f k) (flat_map f (numbers (suc k) n)) (each k (omega arith)
+      (omega arith)) (All-numbered (suc k) n (λ i a b. each i (omega arith) (omega arith)))
 
-  at_goes : (d w : Bool) (last : Last) (n t len : ℕ) → n < len → (item_at whole n).thread ≡ t → AreLast n t last → All (GoesAlong len) (fixed_at d w last n)
-  at_goes true w last n t len l e h = All-append (GoesAlong len)
-      (behind last.statement n) (behind last.drain n) (behind_goes last.statement n t len l e h.statement) (behind_goes last.drain n t len l e h.drain)
-  at_goes false true last n t len l e h = All-append (GoesAlong len)
-      (behind last.statement n) (behind last.drain n) (behind_goes last.statement n t len l e h.statement) (behind_goes last.drain n t len l e h.drain)
-  at_goes false false last n t len l e h = behind_goes last.statement n t len l e h.statement
+  All-number : (k n : ℕ) → All Q (flat_map f (numbers k n)) → (i : ℕ) → k ≤ i → i < k + n → All Q (f i)
+  All-number k zero all i a b = absurd (omega arith)
+  All-number k (suc n) all i a b = (let (here, rest) = All-parts Q (f k) _ all in elim (cases_eq k i) [
+    | inl e ↦ subst (λ j. All Q (f j)) e here
+    | inr ne ↦ All-number (suc k) n rest i (omega arith) (omega arith)
+  ])
+
+module _ (all : List Item) where
+  abbrev it : ℕ → Item
+  it i = item_at all i
+
+  -- the thread of the item before number n, and its last items
+  abbrev pub thread_upto : ℕ → ℕ
+  thread_upto zero = 0
+  thread_upto (suc n) = (it n).thread
+
+  abbrev pub last_upto : ℕ → Last
+  last_upto zero = none_before
+  last_upto (suc n) = last_with (it n).is_drain (last_of (thread_upto n) (it n).thread (last_upto n)) n
+
+  -- the last items of the thread of number n
+  abbrev pub last_at : ℕ → Last
+  last_at n = last_of (thread_upto n) (it n).thread (last_upto n)
+
+  -- a last item stands before, on the thread, and is a statement or a drain as it is named
+  abbrev AreLast : ℕ → ℕ → Last → Type 0
+  AreLast n t last = (b : Bool) (m : ℕ) → last_by b last ≡ Some m → (m < n) × ((it m).thread ≡ t) × ((it m).is_drain ≡ b)
 
   none_last : (n t : ℕ) → AreLast n t none_before
-  none_last n t = record { statement = λ m e. absurd (nothing m e); drain = λ m e. absurd (nothing m e) }
-    where
-      nothing : (m : ℕ) → None ≡ Some m → ⊥
-      nothing m e = cc
+  none_last n t true m e = cc
+  none_last n t false m e = cc
 
   last_there : (n t u : ℕ) (last : Last) → AreLast n t last → AreLast n u (last_of t u last)
   last_there n t u last h = elim (cases_eq t u) [
-    | inl e ↦ subst (AreLast n u) (sym (last_same t u last e)) (subst (λ v. AreLast n v last) e h)
-    | inr ne ↦ subst (AreLast n u) (sym (last_other t u last ne)) (none_last n u)
+    | inl e ↦ rw (last_same t u last e, ← e) h
+    | inr ne ↦ rw (last_other t u last ne) (none_last n u)
   ]
 
-  later : (n t : ℕ) (o : Option ℕ) → ForSome o (IsBefore n t) → ForSome o (IsBefore (suc n) t)
-  later n t o h m e = let b : IsBefore n t m = h m e in (omega (arith, b.0), b.1)
+  last_on : (d : Bool) (n t : ℕ) (last : Last) → (it n).is_drain ≡ d → (it n).thread ≡ t → AreLast n t last → AreLast (suc n) t (last_with d last n)
+  last_on true n t last is on h true m e = (let same : n ≡ m = cc in rw (← same) (omega arith, on, is))
+  last_on true n t last is on h false m e = (let (less, there, kind) = h false m e in (omega (arith, less), there, kind))
+  last_on false n t last is on h true m e = (let (less, there, kind) = h true m e in (omega (arith, less), there, kind))
+  last_on false n t last is on h false m e = (let same : n ≡ m = cc in rw (← same) (omega arith, on, is))
 
-  one_last : (n t m : ℕ) → n ≡ m → (item_at whole n).thread ≡ t → IsBefore (suc n) t m
-  one_last n t m e is = (omega arith, ap (λ k. (item_at whole k).thread) (sym e) ∙ is)
-
-  some_same : (n m : ℕ) → Some n ≡ Some m → n ≡ m
-  some_same n m e = cc
-
-  last_on : (d : Bool) (n t : ℕ) (last : Last) → (item_at whole n).thread ≡ t → AreLast n t last → AreLast (suc n) t (last_with d last n)
-  last_on true n t last is h = record { statement = later n t last.statement h.statement; drain = λ m e. one_last n t m (some_same n m e) is }
-  last_on false n t last is h = record { statement = λ m e. one_last n t m (some_same n m e) is; drain = later n t last.drain h.drain }
+  are_last : (n : ℕ) → AreLast n (thread_upto n) (last_upto n)
+  are_last zero = none_last 0 0
+  are_last (suc n) = last_on (it n).is_drain n (it n).thread (last_at n) refl refl (last_there n (thread_upto n) (it n).thread (last_upto n) (are_last n))
 
   module _ {S : Type 0} (language : Language S) (program : List (List S)) where
-    along_from : (items : List Item) (n t : ℕ) (last : Last) → ((k : ℕ) (a : Item)
-        → slice_get items k ≡ Some a → (item_at whole (n + k)).thread ≡ a.thread) → AreLast n t last
-        → All (GoesAlong (n + length items)) (fixed_from language program n t last items)
-    along_from [] n t last own h = All-nil (GoesAlong (n + 0))
-    along_from (a ∷ items) n t last own h =
-        let now : Last = last_of t a.thread last in
-        let there : AreLast n a.thread now = last_there n t a.thread last h in
-        let zero_more : n + 0 ≡ n = omega arith in
-        let is : (item_at whole n).thread ≡ a.thread = subst (λ (m : ℕ). (item_at whole m).thread ≡ a.thread) zero_more (own 0 a refl) in
-        let len : suc n + length items ≡ n + length (a ∷ items) = omega arith in
-        All-append (GoesAlong (n + length (a ∷ items)))
-        (fixed_at a.is_drain (does_wait language program a) now n) (fixed_from language program (suc n) a.thread (last_with a.is_drain now n) items)
-        (at_goes a.is_drain (does_wait language program a) now n a.thread (n + length (a ∷ items)) (omega arith) is there)
-        (subst (λ (m : ℕ). All (GoesAlong m) (fixed_from language program (suc n) a.thread (last_with a.is_drain now n) items)) len
-        (along_from items (suc n) a.thread (last_with a.is_drain now n) (λ k b e.
-        (let more : n + suc k ≡ suc n + k = omega arith in
-        subst (λ (m : ℕ). (item_at whole m).thread ≡ b.thread) more (own (suc k) b e))) (last_on a.is_drain n a.thread now is there)))
+    abbrev fixed_of : ℕ → List (ℕ × ℕ)
+    fixed_of n = fixed_at (it n).is_drain (does_wait language program (it n)) (last_at n) n
 
--- a thing that stands at a place is found there
-got_at : (items : List Item) (k : ℕ) (a : Item) → slice_get items k ≡ Some a → (item_at items k) ≡ a
-got_at [] k a e = absurd cc
-got_at (b ∷ items) zero a e = cc
-got_at (b ∷ items) (suc k) a e = got_at items k a e
+    fixed_is : (d n : ℕ) → n + d ≡ length all → fixed_from language program n (thread_upto n) (last_upto n) (drop n all) ≡ flat_map fixed_of (numbers n d)
+    fixed_is zero n e = ap (fixed_from language program n (thread_upto n) (last_upto n)) (drop_all n all (omega arith))
+    fixed_is (suc d) n e =
+        ap (fixed_from language program n (thread_upto n) (last_upto n)) (drop-cons all n _ (omega arith))
+        ∙ ap (λ ps. fixed_of n ++ ps) (fixed_is d (suc n) (omega arith))
+
+    whole : (constraints_of language program all).fixed ≡ flat_map fixed_of (numbers 0 (length all))
+    whole = fixed_is (length all) 0 (omega arith)
+
+    -- what holds of the fixed pairs, number by number
+    pub fixed-at : (Q : ℕ × ℕ → Type 0) → All Q (constraints_of language program all).fixed → (n : ℕ) → n < length all → All Q (fixed_of n)
+    fixed-at Q each n l = All-number Q fixed_of 0 _ (rw whole at each) n (omega arith) (omega arith)
+
+    -- each is of a last item of a thread and one behind it
+    pub each_fixed : (Q : ℕ × ℕ → Type 0) → ((b : Bool) (m n : ℕ) → m < n → n < length all → (it m).thread ≡ (it n).thread → (it m).is_drain ≡ b
+        → (b ≡ true → ((it n).is_drain ≡ true) ⊎ (does_wait language program (it n) ≡ true)) → Q (m, n)) → All Q (constraints_of language program all).fixed
+    each_fixed Q each = rw whole (All-numbered Q fixed_of 0 (length all) (λ n a l.
+        (let last = last_there n (thread_upto n) (it n).thread (last_upto n) (are_last n) in
+        All-fixed_at Q n (it n).is_drain (does_wait language program (it n)) (last_at n)
+            (λ m e. (let (less, same, is) = last false m e in each false m n less (omega (arith, l)) same is
+            (λ bad. cc (bad)))) (λ ordered m e. (let (less, same, is) = last true m e in each true m n less
+            (omega (arith, l)) same is (λ _. ordered))))))
 
 module _ {S : Type 0} (language : Language S) (program : List (List S)) where
-  -- each fixed pair goes up along a thread
-  pub fixed_along : (items : List Item) → All (GoesAlong items (length items)) (constraints_of language program items).fixed
-  fixed_along items =
-      let len : 0 + length items ≡ length items = omega arith in
-      subst (λ (n : ℕ). All (GoesAlong items n) (constraints_of language program items).fixed) len
-      (along_from items language program items 0 0 none_before (λ k a e.
-      (let same : 0 + k ≡ k = omega arith in
-      ap (λ (n : ℕ). (item_at items n).thread) same ∙ ap (λ (x : Item). x.thread) (got_at items k a e))) (none_last items 0 0))
+  -- each fixed pair goes up
+  pub fixed_up : (items : List Item) → GoUp (length items) (constraints_of language program items).fixed
+  fixed_up items = each_fixed items language program (λ p. (p.0 < p.1) × (p.1 < length items)) (λ b m n less l same is ordered. (less, l))
 
   abbrev conflict_at : List Item → ℕ × ℕ → Bool
   conflict_at items p = items_conflict language program (item_at items p.0) (item_at items p.1)
@@ -126,8 +144,7 @@ module _ {S : Type 0} (language : Language S) (program : List (List S)) where
   pub constraints_well_formed : (items : List Item) → length items ≤ most_items → IsWellFormed (constraints_of language program items)
   constraints_well_formed items few = record {
     few = few;
-    fixed_up = All-weaker (GoesAlong items (length items)) (λ (p : ℕ × ℕ). (p.0 < p.1) × (p.1 < length items))
-        (λ p h. (h.0, h.1)) (constraints_of language program items).fixed (fixed_along items);
+    fixed_up = fixed_up items;
     conflicts_up = conflicts_up items;
     sorted = Rises-sorted (constraints_of language program items).conflicts
         (Rises-filter (conflict_at items) (pairs_from 0 (length items)) (pairs_rise 0 (length items)));
@@ -137,7 +154,4 @@ module _ {S : Type 0} (language : Language S) (program : List (List S)) where
   pub well_formed_with : (items : List Item) (fixed conflicts : List (ℕ × ℕ))
       → length items ≤ most_items → fixed ≡ fixed_from language program 0 0 none_before items → conflicts ≡ (constraints_of language program items).conflicts
       → IsWellFormed (record { len = length items; fixed = fixed; conflicts = conflicts })
-  well_formed_with items fixed conflicts few f c =
-      subst (λ (ps : List (ℕ × ℕ)). IsWellFormed (record { len = length items; fixed = ps; conflicts = conflicts })) (sym f)
-      (subst (λ (ps : List (ℕ × ℕ)). IsWellFormed (record { len = length items; fixed = fixed_from language program 0 0 none_before items; conflicts = ps }))
-      (sym c) (constraints_well_formed items few))
+  well_formed_with items fixed conflicts few f c = rw (f, c) (constraints_well_formed items few)

@@ -1,8 +1,8 @@
 -- Where statements lead: the list of the positions that may follow one.
 use Rattle.std.proofs.Common.{◌≡◌, ◌≢◌, ℕ, ◌+◌, ◌<◌, ◌≤◌, ◌==◌, Bool, true, false, List, [], ◌∷◌, length}
-use Rattle.std.proofs.Common.{Option, Some, None, refl, sym, ap, ◌∙◌, subst, inl, inr, ◌⊎◌, slice_get, arith}
+use Rattle.std.proofs.Common.{Option, Some, None, refl, sym, ap, ◌∙◌, inl, inr, ◌⊎◌, slice_get, arith}
 use Rattle.std.proofs.Common.{Contains, eq-eqb, ne_eqb, true≢false}
-use Rattle.std.proofs.lemmas.Bool.{cases_eq, cond-true, cond-false}
+use Rattle.std.proofs.lemmas.Bool.{cases_eq}
 use Rattle.std.proofs.lemmas.Option.{slice_get_within, same_Some, none-some}
 use Rattle.lw_base.specs.Lists.{EachOnce}
 use Rattle.lw_litmus.specs.Languages.{Language}
@@ -13,17 +13,10 @@ use Rattle.lw_litmus.specs.declared.operation.Operation.TheVariants.{Branch}
 use Rattle.lw_choices.specs.Choices.{IsForward, next_or, led_by, led}
 use Rattle.lw_choices.proofs.api.Members.{none_in, of_one, Contains-here, Contains-there, Contains-cons}
 
--- where the target is the next position, and where it is another
-next_or-same : (next to : ℕ) → next ≡ to → next_or next to ≡ next ∷ []
-next_or-same next to e = cond-true (next == to) (next ∷ []) (next ∷ to ∷ []) (eq-eqb next to e)
-
-next_or-other : (next to : ℕ) → next ≢ to → next_or next to ≡ next ∷ to ∷ []
-next_or-other next to ne = cond-false (next == to) (next ∷ []) (next ∷ to ∷ []) (ne_eqb next to ne)
-
 pub next_or-has : (next to k : ℕ) → (k ≡ to) ⊎ (k ≡ next) → Contains (next_or next to) k
 next_or-has next to k o = elim (cases_eq next to) [
-  | inl e ↦ subst (λ (xs : List ℕ). Contains xs k) (sym (next_or-same next to e)) (Contains-here next k [] (elim o [ inl h ↦ e ∙ sym h | inr h ↦ sym h ]))
-  | inr ne ↦ subst (λ (xs : List ℕ). Contains xs k) (sym (next_or-other next to ne)) (elim o [
+  | inl e ↦ rw (eq-eqb next to e) (Contains-here next k [] (elim o [ inl h ↦ e ∙ sym h | inr h ↦ sym h ]))
+  | inr ne ↦ rw (ne_eqb next to ne) (elim o [
     | inl h ↦ Contains-there next k (to ∷ []) (Contains-here to k [] (sym h))
     | inr h ↦ Contains-here next k (to ∷ []) (sym h)
   ])
@@ -31,8 +24,8 @@ next_or-has next to k o = elim (cases_eq next to) [
 
 pub next_or-only : (next to k : ℕ) → Contains (next_or next to) k → (k ≡ to) ⊎ (k ≡ next)
 next_or-only next to k c = elim (cases_eq next to) [
-  | inl e ↦ inr (of_one next k (subst (λ (xs : List ℕ). Contains xs k) (next_or-same next to e) c))
-  | inr ne ↦ elim (Contains-cons next k (to ∷ []) (subst (λ (xs : List ℕ). Contains xs k) (next_or-other next to ne) c)) [
+  | inl e ↦ inr (of_one next k (rw (eq-eqb next to e) at c))
+  | inr ne ↦ elim (Contains-cons next k (to ∷ []) (rw (ne_eqb next to ne) at c)) [
     | inl h ↦ inr (sym h)
     | inr r ↦ inl (of_one to k r)
   ]
@@ -43,9 +36,8 @@ one_once k = (none_in k, tt)
 
 next_or-once : (next to : ℕ) → EachOnce (next_or next to)
 next_or-once next to = elim (cases_eq next to) [
-  | inl e ↦ subst (λ (xs : List ℕ). EachOnce xs) (sym (next_or-same next to e)) (one_once next)
-  | inr ne ↦ subst (λ (xs : List ℕ). EachOnce xs) (sym (next_or-other next to ne))
-      (λ c. elim (Contains-cons to next [] c) [ inl h ↦ ne (sym h) | inr h ↦ none_in next h ], one_once to)
+  | inl e ↦ rw (eq-eqb next to e) (one_once next)
+  | inr ne ↦ rw (ne_eqb next to ne) (λ c. elim (Contains-cons to next [] c) [ inl h ↦ ne (sym h) | inr h ↦ none_in next h ], one_once to)
 ]
 
 pub led_to-once : (o : Option ℕ) (goes : Bool) (j : ℕ) → EachOnce (led_by o goes j)
@@ -73,13 +65,10 @@ led_to-only (Some to) false j k on c = inr (ap Some (sym (of_one to k c)))
 
 module _ {S : Type 0} (language : Language S) where
   pub led-has : (o : Option S) (s : S) (j k : ℕ) → o ≡ Some s → Follows language o j k → Contains (led language s j) k
-  led-has o s j k e f =
-      led_to-has (target_of (language.operation_of s)) (goes_on (language.operation_of s)) j k (subst (λ (o : Option S). Follows language o j k) e f)
+  led-has o s j k e f = led_to-has _ (goes_on (language.operation_of s)) j k (rw e at f)
 
   pub led-only : (o : Option S) (s : S) (j k : ℕ) → o ≡ Some s → Contains (led language s j) k → Follows language o j k
-  led-only o s j k e c =
-      subst (λ (o : Option S). Follows language o j k) (sym e)
-      (led_to-only (target_of (language.operation_of s)) (goes_on (language.operation_of s)) j k (goes_without (language.operation_of s)) c)
+  led-only o s j k e c = rw e (led_to-only _ _ j k (goes_without (language.operation_of s)) c)
 
   -- the flow of a code whose jumps lead forward goes on, at most to the end
   pub follows_within : (code : List S) (j k : ℕ) → IsForward language code → Follows language (slice_get code j) j k → (j < k) × (k ≤ length code)

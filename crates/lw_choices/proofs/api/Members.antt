@@ -34,7 +34,7 @@ pub from_map : {X Y : Type 0} (f : X → Y) (xs : List X) (y : Y) → Contains (
 from_map f [] y (k, l, e) = absurd (omega arith)
 from_map f (z ∷ xs) y c = elim (Contains-cons (f z) y (map f xs) c) [
   | inl e ↦ (z, Contains-here z z xs refl, e)
-  | inr r ↦ (let g : (x : _) × Contains xs x × (f x ≡ y) = from_map f xs y r in (g.0, Contains-there z g.0 xs g.1, g.2))
+  | inr r ↦ (let g = from_map f xs y r in (g.0, Contains-there z g.0 xs g.1, g.2))
 ]
 
 pub Contains-flat_map : {X Y : Type 0} (f : X → List Y) (xs : List X) (x : X) (y : Y) → Contains xs x → Contains (f x) y → Contains (flat_map f xs) y

@@ -4,7 +4,7 @@ use Rattle.std.proofs.Common.{◌≡◌, ℕ, zero, suc, ◌+◌, ◌<◌, ◌�
 use Rattle.std.proofs.Common.{Option, Some, None, Bool, true, false, refl, sym, ap, ◌∙◌, subst, arith}
 use Rattle.std.proofs.Common.{slice_get, All, Contains, true≢false}
 use Rattle.std.specs.Option.{option_map_or}
-use Rattle.std.proofs.lemmas.Bool.{cases_order}
+use Rattle.std.proofs.lemmas.Bool.{cases_eq, cases_order}
 use Rattle.std.proofs.lemmas.List.{get_or_default}
 use Rattle.std.proofs.lemmas.List.Elements.{All-nil, All-cons, All-append, All-head, All-tail, All-weaker}
 use Rattle.std.proofs.lemmas.List.Elements.{All-get_or, Contains-append_left, Contains-append_right}
@@ -68,15 +68,10 @@ abbrev IsNoLater : Item → Item → Type 0
 IsNoLater a b = a.thread ≤ b.thread
 
 pub slot_less : (b c : Bool) (j k : ℕ) → j < k → slot_by b j < slot_by c k
-slot_less true true j k l = omega arith
-slot_less true false j k l = omega arith
-slot_less false true j k l = omega arith
-slot_less false false j k l = omega arith
+slot_less b c j k l = grind arith
 
 pub store_slot : (b c : Bool) (j k : ℕ) → b ≡ false → c ≡ true → j ≡ k → slot_by b j < slot_by c k
-store_slot false true j k e f g = omega arith
-store_slot false false j k e f g = absurd (true≢false (sym f))
-store_slot true c j k e f g = absurd (true≢false e)
+store_slot b c j k e f g = rw (e, f) (omega arith)
 
 -- numbers from low on, each greater than the one before
 abbrev pub GoesUp : ℕ → List ℕ → Type 0
@@ -113,27 +108,23 @@ module _ {S : Type 0} (language : Language S) where
   each_thread : (P : Item → Type 0) (t : ℕ) (code : List S) (path : List ℕ) → OnPath P t code path → All P (path_items language t code path)
   each_thread P t code [] f = All-nil P
   each_thread P t code (j ∷ path) f =
-      All-append P (items_at language t j (slice_get code j)) (path_items language t code path)
-      (each_here P t j (slice_get code j) (λ s b. f j s b (inl refl))) (each_thread P t code path (λ k s b h. f k s b (inr h)))
+      All-append P _ (path_items language t code path) (each_here P t j (slice_get code j) (λ s b. f j s b
+      (inl refl))) (each_thread P t code path (λ k s b h. f k s b (inr h)))
 
   -- holds of each item
   each_item : (P : Item → Type 0) (t : ℕ) (program : List (List S)) (paths : List (List ℕ))
-      → ((k : ℕ) → k < length program → OnPath P (t + k) (code_of program k) (code_of paths k)) → All P (items_from language t program paths)
+      → ((k u : ℕ) → u ≡ t + k → k < length program → OnPath P u (code_of program k) (code_of paths k)) → All P (items_from language t program paths)
   each_item P t (code ∷ program) (path ∷ paths) f =
-      let here : t + 0 ≡ t = omega arith in
-      All-append P (path_items language t code path) (items_from language (suc t) program paths)
-      (each_thread P t code path (subst (λ (k : ℕ). OnPath P k code path) here (f 0 (omega arith))))
-      (each_item P (suc t) program paths (λ k l. let next : t + suc k ≡ suc t + k = omega arith in
-      subst (λ (n : ℕ). OnPath P n (code_of program k) (code_of paths k)) next (f (suc k) (omega arith))))
+      All-append P (path_items language t code path) _ (each_thread P t code path (f 0 t (omega arith)
+      (omega arith))) (each_item P (suc t) program paths (λ k u e l. f (suc k) u (omega arith) (omega arith)))
   each_item P t _ _ f = All-nil P
 
   -- and each statement on the paths, and each drain of a store there, is an item
   has_here : (t j : ℕ) (s : S) (b : Bool) → (b ≡ true → IsStoring s) → Contains (items_at language t j (Some s)) (item t j b)
   has_here t j s false store = Contains-here (item t j false) (item t j false) _ refl
   has_here t j s true store =
-      Contains-there (item t j false) (item t j true) _
-      (subst (λ (o : Option ℕ). Contains (option_map_or (λ x. item t j true ∷ []) o []) (item t j true))
-      (sym (store refl).1) (Contains-here (item t j true) (item t j true) [] refl))
+      Contains-there _ _ _ (subst (λ (o : Option ℕ). Contains (option_map_or (λ x. item t j true ∷ []) o [])
+      (item t j true)) (sym (store refl).1) (Contains-here (item t j true) (item t j true) [] refl))
 
   has_thread : (t : ℕ) (code : List S) (path : List ℕ) (j : ℕ) (a : Item) → In j path
       → Contains (items_at language t j (slice_get code j)) a → Contains (path_items language t code path) a
@@ -141,22 +132,18 @@ module _ {S : Type 0} (language : Language S) where
   has_thread t code (k ∷ path) j a (inl same) g =
       Contains-append_left (items_at language t k (slice_get code k)) (path_items language t code path) a
       (subst (λ (n : ℕ). Contains (items_at language t n (slice_get code n)) a) (sym same) g)
-  has_thread t code (k ∷ path) j a (inr h) g =
-      Contains-append_right (items_at language t k (slice_get code k)) (path_items language t code path) a (has_thread t code path j a h g)
+  has_thread t code (k ∷ path) j a (inr h) g = Contains-append_right _ _ a (has_thread t code path j a h g)
 
-  has_from : (t : ℕ) (program : List (List S)) (paths : List (List ℕ)) (k j : ℕ) (a : Item)
-      → length paths ≡ length program → k < length program → In j (code_of paths k)
-      → Contains (items_at language (t + k) j (slice_get (code_of program k) j)) a → Contains (items_from language t program paths) a
-  has_from t (code ∷ program) (path ∷ paths) zero j a len l h g =
-      let here : t + 0 ≡ t = omega arith in
-      Contains-append_left (path_items language t code path) (items_from language (suc t) program paths) a
-      (has_thread t code path j a h (subst (λ (n : ℕ). Contains (items_at language n j (slice_get code j)) a) here g))
-  has_from t (code ∷ program) (path ∷ paths) (suc k) j a len l h g =
-      let next : t + suc k ≡ suc t + k = omega arith in
+  has_from : (t : ℕ) (program : List (List S)) (paths : List (List ℕ)) (k u j : ℕ) (a : Item)
+      → u ≡ t + k → length paths ≡ length program → k < length program → In j (code_of paths k)
+      → Contains (items_at language u j (slice_get (code_of program k) j)) a → Contains (items_from language t program paths) a
+  has_from t (code ∷ program) (path ∷ paths) zero u j a e len l h g =
+      let same : t ≡ u = omega arith in
+      Contains-append_left (path_items language t code path) _ a (has_thread t code path j a h (rw same g))
+  has_from t (code ∷ program) (path ∷ paths) (suc k) u j a e len l h g =
       Contains-append_right (path_items language t code path) (items_from language (suc t) program paths) a
-      (has_from (suc t) program paths k j a (omega arith) (omega arith) h
-      (subst (λ (n : ℕ). Contains (items_at language n j (slice_get (code_of program k) j)) a) next g))
-  has_from t _ _ k j a len l h g = absurd (omega arith)
+      (has_from (suc t) program paths k u j a (omega arith) (omega arith) (omega arith) h g)
+  has_from t _ _ k u j a e len l h g = absurd (omega arith)
 
   here_sorted : (t j : ℕ) (o : Option S) → Pairwise IsLower (items_at language t j o)
   here_sorted t j None = tt
@@ -165,8 +152,7 @@ module _ {S : Type 0} (language : Language S) where
       go : (d : Option ℕ) → Pairwise IsLower (item t j false ∷ option_map_or (λ x. item t j true ∷ []) d [])
       go None = (All-nil (IsLower (item t j false)), tt)
       go (Some x) = (
-        All-cons (IsLower (item t j false)) (item t j true) []
-            (λ same. omega arith) (All-nil (IsLower (item t j false))),
+        All-cons _ (item t j true) [] (λ same. omega arith) (All-nil (IsLower (item t j false))),
         (All-nil (IsLower (item t j true)), tt),
       )
 
@@ -175,31 +161,25 @@ module _ {S : Type 0} (language : Language S) where
   thread_sorted t low code (j ∷ path) u =
       pairwise_append IsLower (items_at language t j (slice_get code j)) (path_items language t code path)
       (here_sorted t j (slice_get code j)) (thread_sorted t (suc j) code path u.1)
-      (each_here (λ (a : Item). All (IsLower a) (path_items language t code path)) t j (slice_get code j) (λ s b e store.
-      each_thread (IsLower (item t j b)) t code path (λ k z c h f g same. slot_less b c j k (goes_up_in (suc j) k path u.1 h))))
+      (each_here (λ (a : Item). All (IsLower a) (path_items language t code path)) t j (slice_get code j)
+      (λ s b e store. each_thread (IsLower (item t j b)) t code path (λ k z c h f g same. slot_less b c j k
+      (goes_up_in (suc j) k path u.1 h))))
 
-  all_sorted : (t : ℕ) (program : List (List S)) (paths : List (List ℕ)) → ((k : ℕ) → k < length program
-      → GoesUp 0 (code_of paths k)) → Pairwise IsLower (items_from language t program paths)
-  all_sorted t (code ∷ program) (path ∷ paths) u =
-      pairwise_append IsLower (path_items language t code path) (items_from language (suc t) program paths) (thread_sorted t 0 code path (u 0 (omega arith)))
-      (all_sorted (suc t) program paths (λ k l. u (suc k) (omega arith)))
-      (each_thread (λ (a : Item). All (IsLower a) (items_from language (suc t) program paths)) t code path (λ j s b h e store.
-      each_item (IsLower (item t j b)) (suc t) program paths (λ k l i z c g f store same. absurd (omega arith))))
-  all_sorted t _ _ u = tt
+  -- what holds along each path, and of items of different threads, holds of all
+  all_sorted : (R : Item → Item → Type 0) (Q : List ℕ → Type 0)
+      → ((t : ℕ) (code : List S) (path : List ℕ) → Q path → Pairwise R (path_items language t code path))
+      → ((a b : Item) → a.thread < b.thread → R a b) → (t : ℕ) (program : List (List S)) (paths : List (List ℕ))
+      → ((k : ℕ) → k < length program → Q (code_of paths k)) → Pairwise R (items_from language t program paths)
+  all_sorted R Q own across t (code ∷ program) (path ∷ paths) q =
+      pairwise_append R _ _ (own t code path (q 0 (omega arith))) (all_sorted R Q own across (suc t) program
+      paths (λ k l. q (suc k) (omega arith))) (each_thread (λ a. All (R a) (items_from language (suc t)
+      program paths)) t code path (λ j s b h e store. each_item (R (item t j b)) (suc t) program paths
+      (λ k u e l i z c g f store. across (item t j b) (item u i c) (omega arith))))
+  all_sorted R Q own across t _ _ q = tt
 
-  threads_sorted : (t : ℕ) (program : List (List S)) (paths : List (List ℕ)) → Pairwise IsNoLater (items_from language t program paths)
-  threads_sorted t (code ∷ program) (path ∷ paths) =
-      let own : All (λ (a : Item). a.thread ≡ t) (path_items language t code path) =
-      each_thread (λ (a : Item). a.thread ≡ t) t code path (λ j s b h e store. refl) in
-      let later : All (λ (a : Item). t ≤ a.thread) (items_from language (suc t) program paths) =
-      each_item (λ (a : Item). t ≤ a.thread) (suc t) program paths (λ k l j s b h e store. omega arith) in
-      pairwise_append IsNoLater (path_items language t code path) (items_from language (suc t) program paths)
-      (pairwise_all IsNoLater (λ (a : Item). a.thread ≡ t) (λ a b e f. omega (arith, e, f)) (path_items language t code path) own)
-      (threads_sorted (suc t) program paths)
-      (All-weaker (λ (a : Item). a.thread ≡ t) (λ (a : Item). All (IsNoLater a) (items_from language (suc t) program paths))
-      (λ a e. All-weaker (λ (b : Item). t ≤ b.thread) (IsNoLater a) (λ b l. omega (arith, e, l)) (items_from language (suc t) program paths) later)
-      (path_items language t code path) own)
-  threads_sorted t _ _ = tt
+  of_thread : (t : ℕ) (code : List S) (path : List ℕ) → Pairwise IsNoLater (path_items language t code path)
+  of_thread t code path = pairwise_all IsNoLater (λ a. a.thread ≡ t) (λ a b e f. omega (arith, e, f)) _
+      (each_thread (λ a. a.thread ≡ t) t code path (λ j s b h e store. refl))
 
   -- a path goes up
   pub path_up : (code : List S) (j : ℕ) (path : List ℕ) → IsForward language code → IsPathFrom language code j path → GoesUp j path
@@ -216,10 +196,10 @@ module _ {S : Type 0} (language : Language S) where
 
   whole : (program : List (List S)) (paths : List (List ℕ)) → IsChoice language program paths
       → (t : ℕ) → t < length program → IsPathFrom language (code_of program t) 0 (code_of paths t)
-  whole [] paths c t l = absurd (omega arith)
-  whole (code ∷ program) [] c t l = absurd c
   whole (code ∷ program) (path ∷ paths) c zero l = c.0
   whole (code ∷ program) (path ∷ paths) c (suc t) l = whole program paths c.1 t (omega arith)
+  whole [] paths c t l = absurd (omega arith)
+  whole (code ∷ program) [] c t l = absurd c
 
   module _ (program : List (List S)) (paths : List (List ℕ)) where
     abbrev items : List Item
@@ -231,12 +211,9 @@ module _ {S : Type 0} (language : Language S) where
     pub item_there : (t j : ℕ) (s : S) (b : Bool) → length paths ≡ length program
         → t < length program → In j (code_of paths t) → slice_get (code_of program t) j ≡ Some s → (b ≡ true → IsStoring s) → Has items (item t j b)
     item_there t j s b len l h e store =
-        let there : Contains (items_at language t j (slice_get (code_of program t) j)) (item t j b) =
-        subst (λ (o : Option S). Contains (items_at language t j o) (item t j b)) (sym e) (has_here t j s b store) in
-        let z : t ≡ 0 + t = omega arith in
-        let c : Contains items (item t j b) = has_from 0 program paths t j
-        (item t j b) len l h (subst (λ (n : ℕ). Contains (items_at language n j (slice_get (code_of program t) j)) (item t j b)) z there) in
-        (c.0, c.1, get_or_default items c.0 _ (item t j b) c.1 ∙ c.2)
+        let there : Contains (items_at language t j (slice_get (code_of program t) j)) (item t j b) = rw e (has_here t j s b store) in
+        let (i, li, is) = has_from 0 program paths t t j (item t j b) (omega arith) len l h there in
+        (i, li, get_or_default items i _ (item t j b) li ∙ is)
 
     -- what an item of a choice is
     pub record IsReal (a : Item) : Type 0 where
@@ -247,32 +224,32 @@ module _ {S : Type 0} (language : Language S) where
       pub store : a.is_drain ≡ true → IsStoring statement
 
     all_real : All IsReal items
-    all_real =
-        each_item IsReal 0 program paths (λ k l j s b h e store. let z : k ≡ 0 + k = omega arith in
-        subst (λ (n : ℕ). IsReal (item n j b)) z (record { statement = s; within = l; on = h; at = e; store = store }))
+    all_real = each_item IsReal 0 _ paths (λ k u at_u l j s b h e store. let same : u ≡ k = omega arith in
+        rw same (record { statement = s; within = l; on = h; at = e; store = store }))
 
     pub real : (i : ℕ) → i < length items → IsReal (at i)
     real i l = All-get_or IsReal items i _ l all_real
 
     -- the threads go up with the numbers
     pub threads_up : (i j : ℕ) → i ≤ j → j < length items → (at i).thread ≤ (at j).thread
-    threads_up i j le l = elim (cases_order i j) [
-      | inl e ↦ (let f : (at i).thread ≡ (at j).thread = ap (λ k. (at k).thread) e in omega arith)
-      | inr (inl less) ↦ pairwise_at IsNoLater items i j (threads_sorted 0 program paths) less l
-      | inr (inr more) ↦ absurd (omega arith)
+    threads_up i j le l = elim (cases_eq i j) [
+      | inl e ↦ rw e (omega arith)
+      | inr ne ↦ pairwise_at IsNoLater items i j (all_sorted IsNoLater (λ _. Unit {0}) (λ t code path q.
+          of_thread t code path) (λ a b less. omega (arith, less)) 0 _ paths (λ k l. tt)) (omega arith) l
     ]
 
     module _ (forward : (t : ℕ) → IsForward language (code_of program t)) (choice : IsChoice language program paths) where
       -- places on the path go up with the numbers
       pub slot_goes_up : (i j : ℕ) → i < j → j < length items → (at i).thread ≡ (at j).thread → slot (at i) < slot (at j)
       slot_goes_up i j less l same =
-          pairwise_at IsLower items i j (all_sorted 0 program paths (λ t l. path_up (code_of program t) 0
-          (code_of paths t) (forward t) (whole program paths choice t l))) less l same
+          pairwise_at IsLower items i j (all_sorted IsLower (GoesUp 0) (λ t code path up. thread_sorted t 0
+          code path up) (λ a b less same. absurd (omega (arith, less, same))) 0 program paths (λ t l. path_up
+          (code_of program t) 0 (code_of paths t) (forward t) (whole program paths choice t l))) less l same
 
       -- and numbers with the places
       pub number_less : (i j : ℕ) → i < length items → (at i).thread ≡ (at j).thread → slot (at i) < slot (at j) → i < j
       number_less i j li same less = elim (cases_order i j) [
-        | inl e ↦ absurd (let f : slot (at i) ≡ slot (at j) = ap (λ k. slot (at k)) e in omega arith)
+        | inl e ↦ absurd (omega (arith, less, ap (λ k. slot (at k)) e))
         | inr (inl l) ↦ l
         | inr (inr g) ↦ absurd (omega (arith, less, slot_goes_up j i g li (sym same)))
       ]
@@ -281,7 +258,7 @@ module _ {S : Type 0} (language : Language S) where
       pub same_number : (i j : ℕ) → i < length items → j < length items → (at i).thread ≡ (at j).thread
           → (at i).position ≡ (at j).position → (at i).is_drain ≡ (at j).is_drain → i ≡ j
       same_number i j li lj same place kind =
-          let e : slot (at i) ≡ slot (at j) = ap (λ b. slot_by b (at i).position) kind ∙ ap (λ k. slot_by (at j).is_drain k) place in
+          let e = ap (λ b. slot_by b (at i).position) kind ∙ ap (λ k. slot_by (at j).is_drain k) place in
           elim (cases_order i j) [
             | inl is ↦ is
             | inr (inl l) ↦ absurd (omega (arith, slot_goes_up i j l lj same))
@@ -292,4 +269,4 @@ module _ {S : Type 0} (language : Language S) where
       pub beside : (i : ℕ) (b : Bool) (l : i < length items) → (b ≡ true → IsStoring (real i l).statement) → Has items (item (at i).thread (at i).position b)
       beside i b l store =
           let r : IsReal (at i) = real i l in
-          item_there (at i).thread (at i).position r.statement b (as_many program paths choice) r.within r.on r.at store
+          item_there (at i).thread (at i).position r.statement b (as_many _ _ choice) r.within r.on r.at store

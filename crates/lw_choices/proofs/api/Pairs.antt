@@ -1,7 +1,7 @@
 -- Lists of pairs: those that pass a test, sorted.
-use Rattle.std.proofs.Common.{◌≡◌, ℕ, zero, suc, ◌+◌, ◌<◌, ◌≤◌, Bool, true, false, List, [], ◌∷◌, ◌++◌, map}
-use Rattle.std.proofs.Common.{refl, sym, ap, subst, inl, inr, ◌⊎◌, arith, All, Contains, filter, cond}
-use Rattle.std.proofs.lemmas.Bool.{cases_eq, cond-true}
+use Rattle.std.proofs.Common.{◌≡◌, ℕ, zero, suc, ◌+◌, ◌<◌, ◌≤◌, Bool, true, List, [], ◌∷◌, ◌++◌, map}
+use Rattle.std.proofs.Common.{refl, subst, inl, inr, ◌⊎◌, arith, All, Contains, filter}
+use Rattle.std.proofs.lemmas.Bool.{cases_eq, cases_Bool}
 use Rattle.std.proofs.lemmas.List.Elements.{All-nil, All-cons, All-head, All-append, All-map, All-weaker}
 use Rattle.std.proofs.lemmas.List.Elements.{All-filter, Contains-append_left, Contains-append_right}
 use Rattle.std.proofs.lemmas.List.Elements.{filter_passes}
@@ -10,30 +10,18 @@ use Rattle.lw_orders.specs.Sequence.{numbers}
 use Rattle.lw_choices.specs.Items.{pairs_from}
 use Rattle.lw_choices.proofs.api.Members.{Contains-here, Contains-there, Contains-cons, Contains-map}
 
-pub filter_takes : {X : Type 0} (p : X → Bool) (x : X) (xs : List X) → p x ≡ true → filter p (x ∷ xs) ≡ x ∷ filter p xs
-filter_takes p x xs e = cond-true (p x) (x ∷ filter p xs) (filter p xs) e
-
-pub filter_skips : {X : Type 0} (p : X → Bool) (x : X) (xs : List X) → p x ≡ false → filter p (x ∷ xs) ≡ filter p xs
-filter_skips p x xs e = cond-false-is (p x) (x ∷ filter p xs) (filter p xs) e
-  where
-    cond-false-is : {A : Type 0} (b : Bool) (x y : A) → b ≡ false → cond b x y ≡ y
-    cond-false-is true x y e = absurd cc
-    cond-false-is false x y e = refl
-
-filter_has : {X : Type 0} (p : X → Bool) (z x : X) (xs : List X) (b : Bool) → p z ≡ b → p x ≡ true
-    → (z ≡ x) ⊎ Contains xs x → (Contains xs x → Contains (filter p xs) x) → Contains (filter p (z ∷ xs)) x
-filter_has {X = X} p z x xs true e h cs rest = subst (λ (ys : List X). Contains ys x) (sym (filter_takes p z xs e)) (elim cs [
-  | inl same ↦ Contains-here z x (filter p xs) same
-  | inr c ↦ Contains-there z x (filter p xs) (rest c)
-])
-filter_has {X = X} p z x xs false e h cs rest = elim cs [
-  | inl same ↦ (let q : p z ≡ p x = ap p same in absurd cc)
-  | inr c ↦ subst (λ (ys : List X). Contains ys x) (sym (filter_skips p z xs e)) (rest c)
-]
-
 pub Contains-filter : {X : Type 0} (p : X → Bool) (xs : List X) (x : X) → Contains xs x → p x ≡ true → Contains (filter p xs) x
 Contains-filter p [] x (k, l, e) h = absurd (omega arith)
-Contains-filter p (z ∷ xs) x c h = filter_has p z x xs (p z) refl h (Contains-cons z x xs c) (λ r. Contains-filter p xs x r h)
+Contains-filter p (z ∷ xs) x c h = elim (cases_Bool (p z)) [
+  | inl e ↦ rw e (elim (Contains-cons z x xs c) [
+    | inl same ↦ Contains-here z x (filter p xs) same
+    | inr r ↦ Contains-there z x (filter p xs) (Contains-filter p xs x r h)
+  ])
+  | inr e ↦ rw e (elim (Contains-cons z x xs c) [
+    | inl same ↦ cc (e, h, same)
+    | inr r ↦ Contains-filter p xs x r h
+  ])
+]
 
 -- a property of the elements that pass
 pub All-passing : {X : Type 0} (p : X → Bool) (P Q : X → Type 0) (xs : List X) → All P xs → ((x : X) → P x → p x ≡ true → Q x) → All Q (filter p xs)
@@ -63,17 +51,17 @@ pub pairs_up : (k n : ℕ) → All (In k n) (pairs_from k n)
 pairs_up k zero = All-nil (In k zero)
 pairs_up k (suc n) =
     All-append (In k (suc n)) (map (with k) (numbers (suc k) n)) (pairs_from (suc k) n)
-    (All-map (In k (suc n)) (with k) (numbers (suc k) n) (All-weaker (λ (j : ℕ). (suc k ≤ j) × (j < suc k + n)) (λ (j : ℕ). In k (suc n) (k, j))
-    (λ j h. (omega arith, omega arith, omega arith)) (numbers (suc k) n) (numbers_up (suc k) n)))
-    (All-weaker (In (suc k) n) (In k (suc n)) (λ p h. (omega arith, omega arith, omega arith)) (pairs_from (suc k) n) (pairs_up (suc k) n))
+    (All-map (In k (suc n)) (with k) (numbers (suc k) n) (All-weaker (λ (j : ℕ). (suc k ≤ j)
+    × (j < suc k + n)) (λ (j : ℕ). In k (suc n) (k, j)) (λ j h. (omega arith, omega arith, omega arith))
+    (numbers (suc k) n) (numbers_up (suc k) n))) (All-weaker (In (suc k) n) (In k (suc n))
+    (λ p h. (omega arith, omega arith, omega arith)) (pairs_from (suc k) n) (pairs_up (suc k) n))
 
 pub pairs_have : (k n i j : ℕ) → k ≤ i → i < j → j < k + n → Contains (pairs_from k n) (i, j)
 pairs_have k zero i j a b c = absurd (omega arith)
 pairs_have k (suc n) i j a b c = elim (cases_eq k i) [
-  | inl e ↦ Contains-append_left (map (with k) (numbers (suc k) n)) (pairs_from (suc k) n) (i, j)
-      (subst (λ (h : ℕ). Contains {X = ℕ × ℕ} (map (with k) (numbers (suc k) n)) (h, j)) e
-      (Contains-map (with k) (numbers (suc k) n) j (numbers_have (suc k) n j (omega arith) (omega arith))))
-  | inr ne ↦ Contains-append_right (map (with k) (numbers (suc k) n)) (pairs_from (suc k) n) (i, j) (pairs_have (suc k) n i j (omega arith) b (omega arith))
+  | inl e ↦ Contains-append_left _ _ (i, j) (subst (λ (h : ℕ). Contains (map (with k) (numbers (suc k) n))
+      (h, j)) e (Contains-map (with k) _ j (numbers_have (suc k) n j (omega arith) (omega arith))))
+  | inr ne ↦ Contains-append_right _ _ (i, j) (pairs_have (suc k) n i j (omega arith) b (omega arith))
 ]
 
 -- each number is below all behind it
@@ -95,13 +83,12 @@ abbrev pub Rises : List (ℕ × ℕ) → Type 0
 Rises [] = Unit {0}
 Rises (p ∷ ps) = All (Less p) ps × Rises ps
 
-rises_on : (p : ℕ × ℕ → Bool) (q : ℕ × ℕ) (ps : List (ℕ × ℕ)) (b : Bool) → p q ≡ b → All (Less q) ps → Rises (filter p ps) → Rises (filter p (q ∷ ps))
-rises_on p q ps true e a r = subst Rises (sym (filter_takes p q ps e)) (All-filter p (Less q) ps a, r)
-rises_on p q ps false e a r = subst Rises (sym (filter_skips p q ps e)) r
-
 pub Rises-filter : (p : ℕ × ℕ → Bool) (ps : List (ℕ × ℕ)) → Rises ps → Rises (filter p ps)
 Rises-filter p [] r = tt
-Rises-filter p (q ∷ ps) r = rises_on p q ps (p q) refl r.0 (Rises-filter p ps r.1)
+Rises-filter p (q ∷ ps) r = elim (cases_Bool (p q)) [
+  | inl e ↦ rw e (All-filter p (Less q) ps r.0, Rises-filter p ps r.1)
+  | inr e ↦ rw e (Rises-filter p ps r.1)
+]
 
 pub Rises-sorted : (ps : List (ℕ × ℕ)) → Rises ps → AreSorted ps
 Rises-sorted (p ∷ q ∷ ps) (a, r) = (All-head (Less p) q ps a, Rises-sorted (q ∷ ps) r)
@@ -111,8 +98,8 @@ Rises-sorted _ r = tt
 row_rises : (k : ℕ) (js : List ℕ) (ps : List (ℕ × ℕ)) → Mounts js → All (λ p. k < p.0) ps → Rises ps → Rises (map (with k) js ++ ps)
 row_rises k [] ps m a r = r
 row_rises k (j ∷ js) ps m a r = (
-  All-append (Less (k, j)) (map (with k) js) ps
-      (All-map (Less (k, j)) (with k) js (All-weaker (λ (i : ℕ). j < i) (λ (i : ℕ). Less (k, j) (k, i)) (λ i h. inr (refl, h)) js m.0))
+  All-append (Less (k, j)) (map (with k) js) ps (All-map (Less (k, j)) (with k) js
+      (All-weaker (λ (i : ℕ). j < i) (λ (i : ℕ). Less (k, j) (k, i)) (λ i h. inr (refl, h)) js m.0))
       (All-weaker (λ (p : ℕ × ℕ). k < p.0) (Less (k, j)) (λ p h. inl h) ps a),
   row_rises k js ps m.1 a r,
 )

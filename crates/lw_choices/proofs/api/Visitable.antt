@@ -15,7 +15,7 @@ module _ {S : Type 0} (language : Language S) (test : Test S) (is : IsWellFormed
   visitable short = record {
     few = omega (arith, is.as_many, is.head.few);
     short = All-weaker (IsThread language (length test.head.locs)) (λ code. length code ≤ 32) (λ code t. omega (arith, short, t.short)) test.threads is.code;
-    forward = All-weaker (IsThread language (length test.head.locs)) (IsForward language) (λ code t. t.forward) test.threads is.code;
+    forward = All-weaker (IsThread language (length test.head.locs)) _ (λ code t. t.forward) _ is.code;
   }
 
   -- each thread's jumps lead forward, and so they do in the empty code past the last
@@ -23,7 +23,7 @@ module _ {S : Type 0} (language : Language S) (test : Test S) (is : IsWellFormed
   forward_of t = elim (cases_lt t (length test.threads)) [
     | inl h ↦ (let thread : IsThread language (length test.head.locs) (code_of test.threads t) = All-get_or
         (IsThread language (length test.head.locs)) test.threads t [] h is.code in thread.forward)
-    | inr h ↦ subst (IsForward language) (sym (get_or_past test.threads t [] h)) (λ k s e. absurd (nothing k s e))
+    | inr h ↦ subst (IsForward language) (sym (get_or_past _ t [] h)) (λ k s e. absurd (nothing k s e))
   ]
     where
       nothing : (k : ℕ) (s : S) → slice_get [] k ≡ Some s → ⊥

@@ -1,13 +1,7 @@
 -- One direction of an open pair that is tried: it closes a cycle and is given up, or it is taken.
 use Rattle.std.specs.Prelude.{ℕ, ◌≡◌, ◌+◌, ◌<◌, Bool, true, false, ◌&&◌, ◌||◌, List, [], length, take, Option, Some, slice_index_or, slice_set}
-use Rattle.lw_orders.specs.inner.Search.{turned, TurnedLast}
+use Rattle.lw_orders.specs.inner.Search.{Chosen, turned, TurnedLast}
 use Rattle.lw_orders.specs.inner.Remaining.{reach}
-
--- which pairs are turned round, the pairs so, and what is reached with the first of them
-pub record Chosen : Type 0 where
-  pub ways : List Bool
-  pub chosen : List (ℕ × ℕ)
-  pub saved : List (List ℕ)
 
 -- the pair p is chosen at a level, and what is reached with it is saved for the next, whose pair stands as it is
 pub record IsTaken (len : ℕ) (p : ℕ × ℕ) (level : ℕ) (old new : Chosen) : Type 0 where

@@ -1,18 +1,15 @@
-use Rattle.std.proofs.Common.{◌++◌, ◌∙◌, Vec, ap, arith, sym, append-nil, option_to_list}
+use Rattle.std.proofs.Common.{◌++◌, ◌∙◌, Vec, ap, sym, append-nil, option_to_list}
+use Rattle.std.proofs.lemmas.List.{drop_all}
 use Rattle.lw_choices.specs.declared.conflicts.Access.{Access}
-use Rattle.lw_choices.proofs.AccessPairs.{access_pushed, accesses_done}
+use Rattle.lw_choices.proofs.AccessPairs.{access_pushed}
 use Rattle.lw_choices.proofs.conflicts.accesses_of.Goals.{in-Some+in_ok-push, in_default}
 use Rattle.lw_choices.proofs.conflicts.accesses_of.Goals as goal
-
-pub overflow_cast-number : goal.overflow_cast-number
-overflow_cast-number g c = omega (arith, c.loop-number-test.true, c.requires)
 
 pub loop-number-preserved : goal.loop-number-preserved
 loop-number-preserved g c =
     let found = c.loop-number.accesses.items in
     let items_in = λ (v : Vec Access g.row.A.Denot). v.items in
-    access_pushed g.S.Statement.language c.args.program.now c.args.items.now c.loop-number.number c.index-items-number.result c.access_of.result found
-    c.match-access_of.accesses.items _
+    access_pushed g.S.Statement.language c.args.program.now c.args.items.now c.loop-number.number found
     c.loop-number-test.true c.index-items-number.is c.access_of.ensures c.loop-number.invariant
     (elim c.match-access_of.branch [
       | in-Some+in_ok-push w ↦ ap items_in w.accesses-is ∙ (w.in_ok-push.ensures.items ∙ ap (λ o. found ++ option_to_list o) (sym w.in-Some.is))
@@ -20,5 +17,4 @@ loop-number-preserved g c =
     ])
 
 pub returns : goal.returns
-returns g c = accesses_done g.S.Statement.language c.args.program.now c.args.items.now c.loop-number.number c.loop-number.accesses.items _
-    c.loop-number-test.false c.loop-number.invariant
+returns g c = rw (drop_all c.loop-number.number c.args.items.now c.loop-number-test.false, append-nil) at c.loop-number.invariant

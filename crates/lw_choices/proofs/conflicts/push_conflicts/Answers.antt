@@ -1,6 +1,5 @@
 use Rattle.std.proofs.Common.{ℕ, Bool, if◌then◌else◌, [], ◌∷◌, ◌++◌, ◌∙◌, Vec, ap, sym, append-nil}
 use Rattle.std.proofs.lemmas.List.{drop_all}
-use Rattle.lw_choices.specs.inner.Accesses.{conflicts_with}
 use Rattle.lw_choices.proofs.AccessPairs.{conflict_pushed}
 use Rattle.lw_choices.proofs.conflicts.push_conflicts.Goals.{then-meets+in_ok-push, else-meets}
 use Rattle.lw_choices.proofs.conflicts.push_conflicts.Goals as goal
@@ -10,7 +9,7 @@ loop-second-preserved g c =
     let found = c.loop-second.pairs.items in
     let items_in = λ (v : Vec (ℕ × ℕ) g.row.A.Denot). v.items in
     let pushed = λ (h : Bool). found ++ (if h then (c.args.first.now.number, c.second-item.result.number) ∷ [] else []) in
-    conflict_pushed c.args.first.now c.args.later.now c.loop-second.second-index c.second-item.result c.loop-second.pairs.items c.if-meets.pairs.items _
+    conflict_pushed c.args.first.now c.args.later.now c.loop-second.second-index c.loop-second.pairs.items
     c.loop-second-test.true c.second-item.is c.loop-second.invariant
     (elim c.if-meets.branch [
       | then-meets+in_ok-push w ↦ (
@@ -21,9 +20,4 @@ loop-second-preserved g c =
     ])
 
 pub returns : goal.returns
-returns g c =
-    let found = c.loop-second.pairs.items in
-    let later = c.args.later.now in
-    sym (append-nil found)
-    ∙ (ap (λ rest. found ++ conflicts_with c.args.first.now rest) (sym (drop_all c.loop-second.second-index later c.loop-second-test.false))
-    ∙ c.loop-second.invariant)
+returns g c = rw (drop_all c.loop-second.second-index c.args.later.now c.loop-second-test.false, append-nil) at c.loop-second.invariant

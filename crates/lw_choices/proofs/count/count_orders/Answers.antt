@@ -14,5 +14,5 @@ returns-then-is_empty g c =
 
 pub returns : goal.returns
 returns g c =
-    subst (λ (t : Constraints). IfOk c.count.result (λ n. MatchOption n (most_orders < count_of t) (λ k. (k ≡ count_of t) × (k ≤ most_orders))))
-    c.in_ok-constraints.ensures c.count.ensures.number
+    subst (λ (t : Constraints). IfOk c.count.result (λ n. MatchOption n (most_orders < count_of t)
+    (λ k. (k ≡ count_of t) × (k ≤ most_orders)))) c.in_ok-constraints.ensures c.count.ensures.number

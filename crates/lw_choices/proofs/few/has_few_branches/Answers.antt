@@ -1,7 +1,6 @@
 use Rattle.std.proofs.Common.{◌≡◌, ℕ, ◌+◌, ◌-◌, ◌<◌, ◌≤◌, List, length, take, drop, get_or, ap, arith, sum_by}
 use Rattle.std.proofs.lemmas.List.Sums.{sum_by-cons, sum_by-take-drop}
 use Rattle.std.proofs.lemmas.List.{drop_more}
-use Rattle.lw_choices.specs.inner.Few.{branches}
 use Rattle.lw_choices.proofs.few.has_few_branches.Goals as goal
 
 -- the room that is left when one more is taken
@@ -13,8 +12,7 @@ room_left f xs i x room count most lt at is few whole =
       sum_by-take-drop f xs i,
       sum_by-take-drop f xs (i + 1),
       sum_by-cons f (get_or xs i x) (drop (i + 1) xs),
-      ap (sum_by f)
-          (drop_more xs i x lt),
+      ap (sum_by f) (drop_more xs i x lt),
       ap f at,
       is,
       few,
@@ -23,11 +21,5 @@ room_left f xs i x room count most lt at is few whole =
 
 pub loop-code-preserved : goal.loop-code-preserved
 loop-code-preserved g c =
-    room_left (branches g.S.Statement.language) c.args.program.now c.loop-code.code-index c.code-item.result c.loop-code.room c.count_branches-count.result _
-    c.loop-code-test.true c.code-item.is c.count_branches-count.ensures c.if-room-count.false c.loop-code.invariant
-
-pub offset_bounds-program-code-index : goal.offset_bounds-program-code-index
-offset_bounds-program-code-index g c = c.loop-code.auto.code-index-end
-
-pub bounds-program-code-index : goal.bounds-program-code-index
-bounds-program-code-index g c = c.loop-code-test.true
+    room_left _ c.args.program.now _ c.code-item.result c.loop-code.room _ _ c.loop-code-test.true
+    c.code-item.is c.count_branches-count.ensures c.if-room-count.false c.loop-code.invariant

@@ -1,8 +1,9 @@
-use Rattle.std.proofs.Common.{◌≡◌, ◌≤◌, ◌++◌, sym, ap₂, length, arith, ltb-false}
+use Rattle.std.proofs.Common.{◌≡◌, ◌≤◌, ◌++◌, sym, ap₂, length, drop, append-nil, arith, ltb-false}
+use Rattle.std.proofs.lemmas.List.{drop_all}
 use Rattle.lw_base.specs.Limits.{most_threads}
 use Rattle.lw_choices.specs.Items.{path_items}
 use Rattle.lw_choices.specs.Views.{path_of}
-use Rattle.lw_choices.proofs.Pushed.{some_is, some_there, thread_pushed, paths_done, threads_done}
+use Rattle.lw_choices.proofs.Pushed.{some_is, some_there, thread_pushed, no_paths}
 use Rattle.lw_choices.proofs.items.fill_items.Goals as goal
 
 pub loop-thread-preserved : goal.loop-thread-preserved
@@ -15,14 +16,15 @@ loop-thread-preserved g c =
     g.S.Statement.language c.loop-thread.thread c.in-Some.code.now (path_of c.path-item.result) =
     rw (← same) c.in_ok-push_path.ensures in record {
       few = c.loop-thread.invariant.few;
-      items = thread_pushed g.S.Statement.language path_of c.args.program.now
-          c.as_slice-path-items.result.now c.loop-thread.thread c.in-Some.code.now c.path-item.result c.loop-thread.items.items c.push_path.new.items.items _
-          c.in-Some.ensures.lookup.3.0 c.loop-thread-test.true c.in-Some.ensures.lookup.1 c.path-item.is pushed c.loop-thread.invariant.items;
+      items = thread_pushed g.S.Statement.language path_of c.args.program.now c.as_slice-path-items.result.now c.loop-thread.thread
+          c.loop-thread.items.items c.in-Some.ensures.lookup.3.0 c.loop-thread-test.true c.in-Some.ensures.lookup.1 c.path-item.is pushed
+          c.loop-thread.invariant.items;
     }
 
 pub returns : goal.returns
-returns g c = paths_done g.S.Statement.language path_of c.args.program.now c.as_slice-path-items.result.now
-    c.loop-thread.thread c.loop-thread.items.items _ c.loop-thread-test.false c.loop-thread.invariant.items
+returns g c =
+    rw (drop_all c.loop-thread.thread c.as_slice-path-items.result.now c.loop-thread-test.false,
+    no_paths g.S.Statement.language c.loop-thread.thread (drop c.loop-thread.thread c.args.program.now), append-nil) at c.loop-thread.invariant.items
 
 pub overflow_cast-thread : goal.overflow_cast-thread
 overflow_cast-thread g c = omega (arith, c.loop-thread-test.true, c.loop-thread.invariant.few)
@@ -33,8 +35,8 @@ unwrap-cpu-requires g c =
 
 pub returns-in_default : goal.returns-in_default
 returns-in_default g c =
-    threads_done g.S.Statement.language path_of c.args.program.now c.as_slice-path-items.result.now c.loop-thread.thread c.loop-thread.items.items _
-    (ltb-false c.loop-thread.thread (length c.args.program.now) (sym c.in_default.ensures.lookup.0)) c.loop-thread.invariant.items
+    rw (drop_all c.loop-thread.thread c.args.program.now (ltb-false c.loop-thread.thread (length c.args.program.now) (sym c.in_default.ensures.lookup.0)),
+    append-nil) at c.loop-thread.invariant.items
 
 pub bounds-path-items-thread : goal.bounds-path-items-thread
 bounds-path-items-thread g c = c.loop-thread-test.true

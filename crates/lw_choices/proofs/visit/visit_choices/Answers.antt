@@ -1,39 +1,32 @@
-use Rattle.std.proofs.Common.{ℕ, List, inl, refl, subst}
+use Rattle.std.proofs.Common.{◌∷◌, [], refl, inl, subst}
 use Rattle.std.proofs.lemmas.Result.{on_ok_weaker, IfErr-weaker}
 use Rattle.lw_choices.specs.Views.{path_of, choice_of}
-use Rattle.lw_choices.specs.Visits.{Visited, Refused}
-use Rattle.lw_choices.proofs.Along.{can_start, start_with_some, start_with_none}
+use Rattle.lw_choices.specs.inner.Visiting.{Done}
+use Rattle.lw_choices.specs.Choices.{choices_of}
+use Rattle.lw_choices.proofs.Along.{start_with_some, start_with_none, done_ok, done_err}
+use Rattle.lw_choices.proofs.visit.visit_choices.Goals.{After-visit_from}
+use Rattle.lw_choices.proofs.visit.visit_choices.Given.{Over}
 use Rattle.lw_choices.proofs.visit.visit_choices.Goals as goal
-
-pub visit_from-requires : goal.visit_from-requires
-visit_from-requires g c =
-    can_start g.S.Statement.language c.args.program.now
-    (choice_of c.new-2.result) (path_of c.new-3.result) c.if-is_empty.ensures c.new-2.ensures c.new-3.ensures c.requires
 
 pub returns-then-is_empty-clause-ok : goal.returns-then-is_empty-clause-ok
 returns-then-is_empty-clause-ok g c =
-    on_ok_weaker c.visit.result (λ visited.
-    subst (λ (choices : List (List (List ℕ))). Visited g.V.Visitor.visits choices c.args.visitor.now c.visit.new.self)
-    (start_with_none g.S.Statement.language c.args.program.now (choice_of c.new.result) c.if-is_empty.ensures c.new.ensures)
-    (c.visit.new.self, visited, refl)) c.visit.ensures.ok
+    on_ok_weaker c.visit.result (λ visited. rw (← start_with_none g.S.Statement.language c.args.program.now (choice_of c.new.result)
+    c.if-is_empty.ensures c.new.ensures) (c.visit.new.self, visited, refl)) c.visit.ensures.ok
 
 pub returns-then-is_empty-clause-err : goal.returns-then-is_empty-clause-err
 returns-then-is_empty-clause-err g c =
-    IfErr-weaker c.visit.result _ _ (λ e refused.
-    subst (λ (choices : List (List (List ℕ))). Refused g.V.Visitor.visits g.V.Visitor.refuses choices c.args.visitor.now e)
-    (start_with_none g.S.Statement.language c.args.program.now (choice_of c.new.result) c.if-is_empty.ensures c.new.ensures) (inl refused))
-    c.visit.ensures.err
+    IfErr-weaker c.visit.result _ _ (λ e refused. rw (← start_with_none g.S.Statement.language c.args.program.now (choice_of c.new.result)
+    c.if-is_empty.ensures c.new.ensures) (inl refused)) c.visit.ensures.err
+
+visited : (g : Over) (c : After-visit_from g) → Done g.V.Visitor.visits g.V.Visitor.refuses (choices_of g.S.Statement.language c.args.program.now)
+    c.args.visitor.now c.visit_from.result c.visit_from.new.visitor
+visited g c =
+    subst (λ choices. Done g.V.Visitor.visits g.V.Visitor.refuses choices c.args.visitor.now
+    c.visit_from.result c.visit_from.new.visitor) (start_with_some g.S.Statement.language c.args.program.now _
+    (path_of c.new-3.result) c.if-is_empty.ensures c.new-2.ensures c.new-3.ensures) c.visit_from.ensures
 
 pub returns-clause-ok : goal.returns-clause-ok
-returns-clause-ok g c =
-    on_ok_weaker c.visit_from.result
-    (subst (λ (choices : List (List (List ℕ))). Visited g.V.Visitor.visits choices c.args.visitor.now c.visit_from.new.visitor)
-    (start_with_some g.S.Statement.language c.args.program.now
-    (choice_of c.new-2.result) (path_of c.new-3.result) c.if-is_empty.ensures c.new-2.ensures c.new-3.ensures)) c.visit_from.ensures.ok
+returns-clause-ok g c = done_ok _ _ _ _ _ _ (visited g (goal.at.returns-clause-ok g c).After-visit_from)
 
 pub returns-clause-err : goal.returns-clause-err
-returns-clause-err g c =
-    IfErr-weaker c.visit_from.result _ _ (λ e.
-    subst (λ (choices : List (List (List ℕ))). Refused g.V.Visitor.visits g.V.Visitor.refuses choices c.args.visitor.now e)
-    (start_with_some g.S.Statement.language c.args.program.now
-    (choice_of c.new-2.result) (path_of c.new-3.result) c.if-is_empty.ensures c.new-2.ensures c.new-3.ensures)) c.visit_from.ensures.err
+returns-clause-err g c = done_err _ _ _ _ _ _ (visited g (goal.at.returns-clause-err g c).After-visit_from)

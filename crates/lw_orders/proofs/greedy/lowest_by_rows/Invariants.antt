@@ -1,6 +1,5 @@
 use Rattle.std.proofs.Common.{ℕ, ◌≡◌, ◌<◌, ◌^◌, List, length}
-use Rattle.lw_orders.specs.inner.Sets.{AreRows, LeadInto, leads_by}
-use Rattle.lw_orders.specs.inner.Closure.{Closes}
+use Rattle.lw_orders.specs.inner.Closure.{IsDrawn}
 use Rattle.lw_orders.proofs.LowestByRows.{Searching}
 use Rattle.lw_orders.proofs.greedy.lowest_by_rows.Given as goal
 
@@ -8,6 +7,6 @@ abbrev pub invariant-loop-turn : goal.invariant-loop-turn
 invariant-loop-turn g l = record {
   room : length l.items ≡ 128;
   fits : g.S.ItemBits.number l.left < 2 ^ 128;
-  searching : (pairs : List (ℕ × ℕ)) → AreRows l.len pairs l.rows → Closes l.len pairs (leads_by l.reach) → LeadInto pairs l.near
+  searching : (pairs : List (ℕ × ℕ)) → IsDrawn l.len pairs l.rows l.reach l.near
       → Searching pairs l.len l.rows l.reach l.items (g.S.ItemBits.number l.left) (g.S.ItemBits.number l.candidates) l.turn;
 }

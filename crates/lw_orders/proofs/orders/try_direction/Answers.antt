@@ -4,7 +4,8 @@ use Rattle.std.proofs.Common.{length-set}
 use Rattle.std.proofs.lemmas.List.{take-set, get_or_past}
 use Rattle.lw_orders.specs.inner.Sets.{has}
 use Rattle.lw_orders.specs.inner.Remaining.{reach}
-use Rattle.lw_orders.specs.inner.Directions.{Chosen, TriedAs, Tried, pair_at}
+use Rattle.lw_orders.specs.inner.Search.{Chosen}
+use Rattle.lw_orders.specs.inner.Directions.{TriedAs, Tried, pair_at}
 use Rattle.lw_orders.proofs.orders.try_direction.Goals.{then-level-undecided, else-level-undecided}
 use Rattle.lw_orders.proofs.orders.try_direction.Goals as goal
 
@@ -20,8 +21,7 @@ put_back : (ways now : List Bool) (k : ℕ) → ((k < length ways) × (now ≡ s
 put_back ways now k (inl (l, e)) = (
   ap length e ∙ length-set ways k false,
   ap (take k) e ∙ take-set ways k false,
-  ap (λ ws. get_or ws k false) e
-      ∙ get_or-set_same ways k false false l,
+  ap (λ ws. get_or ws k false) e ∙ get_or-set_same ways k false false l,
 )
 put_back ways now k (inr (l, e)) = (ap length e, ap (take k) e, ap (λ ws. get_or ws k false) e ∙ get_or_past ways k false l)
 
@@ -32,7 +32,7 @@ returns-then-contains c =
 
 pub returns : goal.returns
 returns c =
-    let ways = put_back c.args.ways.now c.if-level-undecided.ways (c.args.level + 1) (elim c.if-level-undecided.branch [
+    let ways = put_back c.args.ways.now _ (c.args.level + 1) (elim c.if-level-undecided.branch [
       | then-level-undecided w ↦ inl (omega (arith, w.if-level-undecided.true, c.requires.ways), w.ways-is)
       | else-level-undecided w ↦ inr (omega (arith, w.if-level-undecided.false, c.requires.ways), w.ways-is)
     ]) in

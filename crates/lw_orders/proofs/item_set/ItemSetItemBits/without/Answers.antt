@@ -3,4 +3,4 @@ use Rattle.lw_orders.proofs.Bits.{has-without}
 use Rattle.lw_orders.proofs.item_set.ItemSetItemBits.without.Goals as goal
 
 pub returns-clause-items : goal.returns-clause-items
-returns-clause-items c k l = rw (← c.self.view_is) (has-without w128 c.self.inside.0 c.args.item k c.self.invariant c.requires)
+returns-clause-items c k l = rw (← c.self.view_is) (has-without w128 _ _ k c.self.invariant c.requires)

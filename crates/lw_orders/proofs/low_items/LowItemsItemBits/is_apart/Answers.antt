@@ -3,4 +3,4 @@ use Rattle.lw_orders.proofs.Bits.{apart_low}
 use Rattle.lw_orders.proofs.low_items.LowItemsItemBits.is_apart.Goals as goal
 
 pub returns : goal.returns
-returns c = rw (← c.self.view_is, c.low.ensures) (ap (λ n. eqb n 0) (apart_low w64 c.args.row c.self.inside.0 c.self.invariant))
+returns c = rw (← c.self.view_is, c.low.ensures) (ap (λ n. eqb n 0) (apart_low w64 _ _ c.self.invariant))

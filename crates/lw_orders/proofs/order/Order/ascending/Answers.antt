@@ -6,6 +6,6 @@ use Rattle.lw_orders.proofs.order.Order.ascending.Goals as goal
 pub loop-item-preserved : goal.loop-item-preserved
 loop-item-preserved c = (
   length-set c.loop-item.items c.loop-item.item c.loop-item.item ∙ c.loop-item.invariant.0,
-  take_more_set c.loop-item.items c.loop-item.item c.loop-item.item (omega (arith, c.loop-item.invariant.0, c.requires, c.loop-item-test.true))
-      ∙ (ap (λ xs. xs ++ c.loop-item.item ∷ []) c.loop-item.invariant.1 ∙ sym (numbers_more c.loop-item.item)),
+  take_more_set _ _ _ (omega (arith, c.loop-item.invariant.0, c.requires, c.loop-item-test.true))
+      ∙ (ap (λ xs. xs ++ c.loop-item.item ∷ []) c.loop-item.invariant.1 ∙ sym (numbers_more _)),
 )
