@@ -51,8 +51,8 @@ search_of_store_buffering = refl
 
 pub store_buffering_forbidden : (o : Final) → SourceOutcome store_buffering o → is_true store_buffering.head.condition o ≡ false
 store_buffering_forbidden o run =
-    is_false _ (subst (λ e. is_early e ≡ true) (sym run.1.is)
-    (searched store_buffering.threads is_early 5 run.0 (start_of store_buffering) run.1.end search_of_store_buffering run.1.ran run.1.final))
+    is_false _ (subst (λ e. is_early e ≡ true) (sym run.1.is) (searched store_buffering.threads is_early 5
+    run.0 (start_of store_buffering) run.1.end search_of_store_buffering run.1.ran run.1.final))
 
 abbrev lacks_message : Final → Bool
 lacks_message o = not (is_true message_passing_in_x86.head.condition o)
@@ -65,9 +65,9 @@ search_of_message_passing = refl
 pub message_passing_forbidden : (o : Final) → MachineOutcome flat message_passing_in_x86 message_passing_in_x86.head.init_words o
     → is_true message_passing_in_x86.head.condition o ≡ false
 message_passing_forbidden o run =
-    is_false _ (subst (λ e. lacks_message e ≡ true) (sym run.1.is)
-    (machine_searched message_passing_in_x86.threads lacks_message 7 run.0
-    (machine_start message_passing_in_x86 message_passing_in_x86.head.init_words) run.1.end search_of_message_passing run.1.ran run.1.final))
+    is_false _ (subst (λ e. lacks_message e ≡ true) (sym run.1.is) (machine_searched
+    message_passing_in_x86.threads lacks_message 7 run.0 (machine_start message_passing_in_x86
+    message_passing_in_x86.head.init_words) run.1.end search_of_message_passing run.1.ran run.1.final))
 
 -- ---- the x86 tests are well-formed, so what they do over flat memory they do over caches
 
@@ -90,7 +90,7 @@ head_formed name arch quant condition named few speaks = record {
   few = omega arith;
   table = record {
     few = omega arith;
-    all = (one_letter (codes "x") 120 refl refl refl refl, (one_letter (codes "y") 121 refl refl refl refl, tt));
+    all = (one_letter _ 120 refl refl refl refl, (one_letter (codes "y") 121 refl refl refl refl, tt));
     once = (apart, ((λ c. omega (arith, c.1)), tt));
   };
   regs = refl;
@@ -112,24 +112,22 @@ store_formed : (x n : ℕ) → x < 2 → n < 2 ^ 32 → IsStatement x86 2 (instr
 store_formed x n there word = (
   λ y same. subst (λ k. k < 2) (same_Some x y same) there,
   All-nil IsRegisterNumber,
-  All-cons IsWordNumber n [] word
-      (All-nil IsWordNumber),
+  All-cons IsWordNumber n [] word (All-nil IsWordNumber),
 )
 
 load_formed : (d x : ℕ) → d < 6 → x < 2 → IsStatement x86 2 (instr.Load d x)
 load_formed d x register there = (
   λ y same. subst (λ k. k < 2) (same_Some x y same) there,
-  All-cons IsRegisterNumber d [] register
-      (All-nil IsRegisterNumber),
+  All-cons IsRegisterNumber d [] register (All-nil IsRegisterNumber),
   All-nil IsWordNumber,
 )
 
-two_formed : (first second : Instr) → target_of (x86_operation first) ≡ None → target_of (x86_operation second) ≡ None → IsStatement x86 2 first
-    → IsStatement x86 2 second
+two_formed : (first second : Instr) → target_of (x86_operation first) ≡ None
+    → target_of (x86_operation second) ≡ None → IsStatement x86 2 first → IsStatement x86 2 second
     → IsThread x86 2 (first ∷ second ∷ [])
 two_formed first second on too a b = record {
   short = omega arith;
-  there = All-cons (IsStatement x86 2) first (second ∷ []) a (All-cons (IsStatement x86 2) second [] b (All-nil (IsStatement x86 2)));
+  there = All-cons (IsStatement x86 2) _ (second ∷ []) a (All-cons (IsStatement x86 2) _ [] b (All-nil _));
   forward = forward;
 }
   where
@@ -152,21 +150,21 @@ program_formed test a b is two locs arch head first second = record {
 
 pub store_buffering_formed : IsWellFormedProgram store_buffering_in_x86
 store_buffering_formed =
-    program_formed store_buffering_in_x86 _ _ refl refl refl refl
-    (head_formed (codes "SB-x86") X86 Exists both_loads_are_early
-    (record { some = omega arith; short = omega arith; all = (refl, (refl, (refl, (refl, (refl, (refl, tt)))))) }) (omega arith)
-    ((omega arith, omega arith, omega arith), (omega arith, omega arith, omega arith)))
-    (two_formed _ _ refl refl (store_formed 0 1 (omega arith) (omega arith)) (load_formed 0 1 (omega arith) (omega arith)))
-    (two_formed _ _ refl refl (store_formed 1 1 (omega arith) (omega arith)) (load_formed 0 0 (omega arith) (omega arith)))
+    program_formed store_buffering_in_x86 _ _ refl refl refl refl (head_formed (codes "SB-x86") X86 Exists
+    both_loads_are_early (record { some = omega arith; short = omega arith; all
+    = (refl, (refl, (refl, (refl, (refl, (refl, tt)))))) }) (omega arith) ((omega arith, omega arith, omega
+    arith), (omega arith, omega arith, omega arith))) (two_formed _ _ refl refl (store_formed 0 1
+    (omega arith) (omega arith)) (load_formed 0 1 (omega arith) (omega arith))) (two_formed _ _ refl refl
+    (store_formed 1 1 (omega arith) (omega arith)) (load_formed 0 0 (omega arith) (omega arith)))
 
 pub message_passing_formed : IsWellFormedProgram message_passing_in_x86
 message_passing_formed =
-    program_formed message_passing_in_x86 _ _ refl refl refl refl
-    (head_formed (codes "MP-x86") X86 NotExists flag_without_message
-    (record { some = omega arith; short = omega arith; all = (refl, (refl, (refl, (refl, (refl, (refl, tt)))))) }) (omega arith)
-    ((omega arith, omega arith, omega arith), (omega arith, omega arith, omega arith)))
-    (two_formed _ _ refl refl (store_formed 0 1 (omega arith) (omega arith)) (store_formed 1 1 (omega arith) (omega arith)))
-    (two_formed _ _ refl refl (load_formed 0 1 (omega arith) (omega arith)) (load_formed 1 0 (omega arith) (omega arith)))
+    program_formed message_passing_in_x86 _ _ refl refl refl refl (head_formed (codes "MP-x86") X86 NotExists
+    flag_without_message (record { some = omega arith; short = omega arith; all
+    = (refl, (refl, (refl, (refl, (refl, (refl, tt)))))) }) (omega arith) ((omega arith, omega arith, omega
+    arith), (omega arith, omega arith, omega arith))) (two_formed _ _ refl refl (store_formed 0 1
+    (omega arith) (omega arith)) (store_formed 1 1 (omega arith) (omega arith))) (two_formed _ _ refl refl
+    (load_formed 0 1 (omega arith) (omega arith)) (load_formed 1 0 (omega arith) (omega arith)))
 
 -- both threads store, both load, and then both drain
 early_events : List Event
@@ -175,8 +173,8 @@ early_events = Step 0 ∷ Step 1 ∷ Step 0 ∷ Step 1 ∷ Drain 0 ∷ Drain 1 �
 abbrev at : ℕ → List (ℕ × ℕ) → Processor
 at k buffer = record { position = k; regs = replicate 6 0; zero_flag = false; buffer = buffer }
 
-early_run : MachineRan flat store_buffering_in_x86.threads early_events (machine_start store_buffering_in_x86 (replicate 2 0))
-    (state (at 2 [] ∷ at 2 [] ∷ []) (1 ∷ 1 ∷ []))
+early_run : MachineRan flat store_buffering_in_x86.threads early_events (machine_start store_buffering_in_x86
+    (replicate 2 0)) (state (at 2 [] ∷ at 2 [] ∷ []) (1 ∷ 1 ∷ []))
 unfolding early_events
 early_run = (
   state (at 1 ((0, 1) ∷ []) ∷ at 0 [] ∷ []) (0 ∷ 0 ∷ []),
@@ -204,8 +202,8 @@ early_run = (
   ),
 )
 
-pub store_buffering_allowed : (o : Final) × MachineOutcome flat store_buffering_in_x86 store_buffering_in_x86.head.init_words o
-    × (is_true store_buffering_in_x86.head.condition o ≡ true)
+pub store_buffering_allowed : (o : Final) × MachineOutcome flat store_buffering_in_x86
+    store_buffering_in_x86.head.init_words o × (is_true store_buffering_in_x86.head.condition o ≡ true)
 store_buffering_allowed =
     let end : MachineState (List ℕ) = state (at 2 [] ∷ at 2 [] ∷ []) (1 ∷ 1 ∷ []) in
     (machine_outcome flat end, (early_events, record { end = end; ran = early_run; final = refl; is = refl }), refl)

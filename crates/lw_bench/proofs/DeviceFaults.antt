@@ -15,8 +15,8 @@ unlike : {b : Bool} → b ≡ false → b ≡ true → ⊥
 unlike is_no is_yes = cc
 
 -- no fault of a device is told, and the device has not failed
-pub fault_apart : {T : Type 0} (result : Result T BenchFault) (given fault other : BenchFault) (failed : Bool) → result ≡ Err given → given ≡ fault
-    → fault ≢ other → failed ≡ false → result ≡ Err other ↔ failed ≡ true
+pub fault_apart : {T : Type 0} (result : Result T BenchFault) (given fault other : BenchFault) (failed : Bool)
+    → result ≡ Err given → given ≡ fault → fault ≢ other → failed ≡ false → result ≡ Err other ↔ failed ≡ true
 fault_apart result given fault other failed is same apart working =
     (λ told. absurd (apart (sym same ∙ err_is (sym is ∙ told))), λ yes. absurd (unlike working yes))
 

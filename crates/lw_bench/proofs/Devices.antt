@@ -27,14 +27,15 @@ puts_more a b c bytes rest n puts more =
     }
 
 -- the front of a buffer was added, which has no more room than is still to be read
-pub gets_front : (known left : Option (List ℕ)) (before after buffer behind : List ℕ) (room count : ℕ) → length before < 65537
-    → 0 < room → room ≤ 65537 - length before → length buffer ≡ room → count ≤ length buffer
-    → Consumes known left (take count buffer) × (count ≡ 0 → 0 < length buffer → IsAtEnd left) → after ≡ before ++ take count (buffer ++ behind)
-    → Gets known left before after count
+pub gets_front : (known left : Option (List ℕ)) (before after buffer behind : List ℕ) (room count : ℕ)
+    → length before < 65537 → 0 < room → room ≤ 65537 - length before → length buffer ≡ room
+    → count ≤ length buffer
+    → Consumes known left (take count buffer) × (count ≡ 0 → 0 < length buffer → IsAtEnd left)
+    → after ≡ before ++ take count (buffer ++ behind) → Gets known left before after count
 gets_front known left before after buffer behind room count short some is_room whole within consumed added =
     let got = take count buffer in
     let many : length got ≡ count = length-take-le count buffer within in
-    let more : after ≡ before ++ got = added ∙ ap (λ t. before ++ t) (take-append-le count buffer behind within) in
+    let more = added ∙ ap (λ t. before ++ t) (take-append-le count buffer behind within) in
     record {
       got = got;
       as_many = many;
@@ -91,7 +92,7 @@ taken_ended (Some x) (Some y) bytes h end le =
 pub taken_full : (a b : Option (List ℕ)) (bytes : List ℕ) → Consumes a b bytes → length bytes ≡ 65537 → TakesInput a b
 taken_full None b bytes h full = tt
 taken_full (Some x) None bytes h full = absurd h
-taken_full (Some x) (Some y) bytes h full = ap Some (sym (subst (λ n. drop n x ≡ y) full (left_is x bytes y h)))
+taken_full (Some x) (Some y) bytes h full = ap Some (sym (subst (λ n. drop n x ≡ y) full (left_is x _ y h)))
 
 taken_some : (a b : Option (List ℕ)) (bytes : List ℕ) → Consumes a b bytes → length bytes ≤ 65537 → TakesSome a b
 taken_some None b bytes h le = tt
@@ -116,13 +117,14 @@ pub loses_none : (known left : Option (List ℕ)) (before : List ℕ) → length
 loses_none known left before short kept = record { got = []; limit = omega (arith, short); consumed = kept_consumes known left kept }
 
 -- the front of a buffer was lost, which has no more room than is still to be read
-pub loses_front : (known left : Option (List ℕ)) (before buffer : List ℕ) (room count : ℕ) → length before < 65537
-    → room ≤ 65537 - length before → length buffer ≡ room → count ≤ length buffer → Consumes known left (take count buffer) → Loses known left before
+pub loses_front : (known left : Option (List ℕ)) (before buffer : List ℕ) (room count : ℕ)
+    → length before < 65537 → room ≤ 65537 - length before → length buffer ≡ room → count ≤ length buffer
+    → Consumes known left (take count buffer) → Loses known left before
 loses_front known left before buffer room count short is_room whole within consumed =
     record { got = take count buffer; limit = omega (arith, length-take-le count buffer within, within, whole, is_room, short); consumed = consumed }
 
 -- where some came, fewer are still to be read
-pub fewer_left : (known left : Option (List ℕ)) (before after : List ℕ) (count : ℕ) → Gets known left before after count → count ≢ 0
-    → 65537 - length after < 65537 - length before
+pub fewer_left : (known left : Option (List ℕ)) (before after : List ℕ) (count : ℕ)
+    → Gets known left before after count → count ≢ 0 → 65537 - length after < 65537 - length before
 fewer_left known left before after count gets some =
     omega (arith, some, gets.limit, gets.as_many, ap length gets.added, length-append before gets.got)

@@ -28,12 +28,12 @@ module _ (head : TestHead) (Has : Final → Type 0) (entries : OutcomeEntries) (
 
   module _ (sorted : IsStrictlySorted entries) where
     -- what stands behind an outcome is larger
-    larger : (i j : ℕ) (o other : Final) → slice_get (outcomes_of entries) i ≡ Some o → slice_get (outcomes_of entries) j ≡ Some other → i < j
-        → final_cmp o other ≡ Less
+    larger : (i j : ℕ) (o other : Final) → slice_get (outcomes_of entries) i ≡ Some o
+        → slice_get (outcomes_of entries) j ≡ Some other → i < j → final_cmp o other ≡ Less
     larger i j o other at to lt =
         let first = get_or_from_slice_get (outcomes_of entries) i o o at in
         let later = get_or_from_slice_get (outcomes_of entries) j other o to in
-        (λ k. final_cmp (sym first k) (sym later k)) ∙ sorted i j o lt (slice_get_within (outcomes_of entries) j other to)
+        (λ k. final_cmp (sym first k) (sym later k)) ∙ sorted i j o lt (slice_get_within _ j other to)
 
     some_same : (o other : Final) → (let a = Some o in a) ≡ Some other → o ≡ other
     some_same o other e = cc
@@ -54,8 +54,7 @@ module _ (head : TestHead) (Has : Final → Type 0) (entries : OutcomeEntries) (
       has = (same shows.outcome).0 (
         s.entry,
         slice_get_within (outcomes_of entries) s.entry shows.outcome shows.at,
-        get_or_from_slice_get
-            (outcomes_of entries) s.entry shows.outcome shows.outcome shows.at,
+        get_or_from_slice_get (outcomes_of entries) s.entry shows.outcome shows.outcome shows.at,
       );
       shows = ap (λ (x : Shown). x.words) shows.shows;
       least = λ other has words.
@@ -69,8 +68,8 @@ module _ (head : TestHead) (Has : Final → Type 0) (entries : OutcomeEntries) (
       leads_at : (i : ℕ) (o : Final) → slice_get (outcomes_of entries) i ≡ Some o → Leads (slice_index_or (schedules_of entries) i []) o
       leads_at i o at = go entries i lead at
         where
-          go : (es : OutcomeEntries) (k : ℕ) → All (λ e. Leads e.1 e.0) es → slice_get (outcomes_of es) k ≡ Some o
-              → Leads (slice_index_or (schedules_of es) k []) o
+          go : (es : OutcomeEntries) (k : ℕ) → All (λ e. Leads e.1 e.0) es
+              → slice_get (outcomes_of es) k ≡ Some o → Leads (slice_index_or (schedules_of es) k []) o
           go [] k all at = absurd (omega (arith, slice_get_within (outcomes_of []) k o at))
           go (e ∷ es) zero all at = subst (Leads e.1) (some_same e.0 o at) (all 0 e (omega arith))
           go (e ∷ es) (suc k) all at = go es k (λ j d lt. all (suc j) d (omega (arith, lt))) at
@@ -80,11 +79,12 @@ module _ (head : TestHead) (Has : Final → Type 0) (entries : OutcomeEntries) (
           → text ≡ schedule_list_text head (map (scheduled (schedules_of entries)) states) → IsScheduleList head Has Leads text
       schedule_list_is states text listed is = record {
         states = map (scheduled (schedules_of entries)) states;
-        are = subst (AreStatesOf head Has) (sym (shown_again states)) (states_of_set (map shown_of states) listed.are);
-        lead = All-map (λ s. (o : Final) × IsSmallestOf head Has s.0.words o × Leads s.1 o) (scheduled (schedules_of entries)) states
-            (All-weaker (ShowsFirst head (outcomes_of entries))
-            (λ (s : ListedState). (o : Final) × IsSmallestOf head Has s.words o × Leads (slice_index_or (schedules_of entries) s.entry []) o)
-            (λ s shows. (shows.outcome, smallest s shows, leads_at s.entry shows.outcome shows.at)) states listed.entries);
+        are = subst (AreStatesOf head Has) (sym (shown_again states)) (states_of_set _ listed.are);
+        lead = All-map (λ s. (o : Final) × IsSmallestOf head Has s.0.words o × Leads s.1 o)
+            (scheduled (schedules_of entries)) states (All-weaker (ShowsFirst head (outcomes_of entries))
+            (λ (s : ListedState). (o : Final) × IsSmallestOf head Has s.words o
+            × Leads (slice_index_or (schedules_of entries) s.entry []) o) (λ s shows. (shows.outcome, smallest
+            s shows, leads_at s.entry shows.outcome shows.at)) states listed.entries);
         is = is;
       }
         where

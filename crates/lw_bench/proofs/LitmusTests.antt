@@ -12,9 +12,9 @@ use Rattle.lw_bench.specs.TestTexts.{FrameSays}
 apart : (let arch : Arch = Source in arch) ≡ X86 → ⊥
 apart same = cc
 
-module _
-    (one_source : (frame : TestFrame) (s t : SourceTest) → HasSource frame s → HasSource frame t → s ≡ t)
-    (one_program : (frame : TestFrame) (p q : ProgramTest) → HasProgram frame p → HasProgram frame q → p ≡ q) where
+module _ (one_source : (frame : TestFrame) (s t : SourceTest) → HasSource frame s → HasSource frame t → s ≡ t)
+    (one_program : (frame : TestFrame) (p q : ProgramTest) → HasProgram frame p → HasProgram frame q → p ≡ q)
+    where
   pub one_test : (frame : TestFrame) (s t : LitmusTest) → FrameSays frame s → FrameSays frame t → s ≡ t
   one_test frame (Of_source s) (Of_source t) says other = ap Of_source (one_source frame s t says other)
   one_test frame (Of_source s) (Of_x86 t) says other = absurd (apart (sym says.arch ∙ other.arch))

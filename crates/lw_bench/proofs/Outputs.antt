@@ -30,4 +30,4 @@ pub output_written : (IsMade : LitmusTest → List ℕ → Type 0) (known before
     → Makes IsMade bytes made → Appends before after made → Writes IsMade known before after
 output_written IsMade None before after bytes made is makes put = tt
 output_written IsMade (Some input) before after bytes made is makes put =
-    (made, record { test = makes.test; has_test = in_whole input bytes is makes.test makes.has_test; is = makes.is }, put)
+    (made, record { test = makes.test; has_test = in_whole _ bytes is _ makes.has_test; is = makes.is }, put)

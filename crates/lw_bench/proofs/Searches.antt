@@ -51,11 +51,10 @@ module _ (program : List (List Stmt)) (ok : Final → Bool) where
   unfolding ends_so
   searched zero order s end so ran final = absurd (false≢true so)
   searched (suc n) [] s end so ran final =
-      if_so (is_source_final program end) (ok (outcome_of end))
-      (subst (λ e. (if is_source_final program e then ok (outcome_of e) else true) ≡ true) (sym ran) (and_parts _ _ so).0) final
+      if_so (is_source_final program end) (ok (outcome_of end)) (subst (λ e. (if is_source_final program e
+      then ok (outcome_of e) else true) ≡ true) (sym ran) (and_parts _ _ so).0) final
   searched (suc n) (t ∷ order) s end so ran final =
-      let each = agree_below_at (λ t. after_ok (ends_so n) (source_step program t s)) (λ t. true) (length s.threads) t (and_parts _ _ so).1
-      (step_within t s ran.0 ran.1) in
+      let each = agree_below_at _ (λ t. true) _ t (and_parts _ _ so).1 (step_within t s ran.0 ran.1) in
       searched n order ran.0 end (subst (λ r. after_ok (ends_so n) r ≡ true) ran.1 each) ran.2 final
 
 -- ---- x86 tests, over flat memory
@@ -72,17 +71,17 @@ act_after _ m = None
 act_is : (t : ℕ) (act : Act) (p q : Processor) (m n : List ℕ) → ActDone flat t act p m (Ok tt) q n → act_after act m ≡ Some (q, n)
 act_is t (Refused stop) p q m n d = absurd (let e : ◌≡◌ {A = Answer} (Ok tt) (Err stop) = d.0 in cc)
 act_is t (Goes next) p q m n d = rw (d.1, d.2) refl
-act_is t (Loads x next) p q m n d = let w : Some d.0 ≡ Some (slice_index m x) = d.3.0 in rw (d.2, d.3.1, same_Some d.0 (slice_index m x) w) refl
+act_is t (Loads x next) p q m n d = let w = d.3.0 in rw (d.2, d.3.1, same_Some d.0 (slice_index m x) w) refl
 act_is t (Stores x w next) p q m n d = rw (d.1, d.2.1) refl
-act_is t (Swaps x v next) p q m n d = let w : Some d.0 ≡ Some (slice_index m x) = d.3.0 in rw (d.2, d.3.1, same_Some d.0 (slice_index m x) w) refl
-act_is t (Adds x v next) p q m n d = let w : Some d.0 ≡ Some (slice_index m x) = d.3.0 in rw (d.2, d.3.1, same_Some d.0 (slice_index m x) w) refl
+act_is t (Swaps x v next) p q m n d = let w = d.3.0 in rw (d.2, d.3.1, same_Some d.0 (slice_index m x) w) refl
+act_is t (Adds x v next) p q m n d = let w = d.3.0 in rw (d.2, d.3.1, same_Some d.0 (slice_index m x) w) refl
 act_is t (Evicts x) p q m n d = absurd (let e : ◌≡◌ {A = Answer} (Ok tt) (Err NotHeld) = d.0 in cc)
 
 module _ (program : List (List Instr)) where
   abbrev pub done_after : Option Processor → Event → MachineState (List ℕ) → Option (MachineState (List ℕ))
   done_after None e s = None
-  done_after (Some p) e s = option_map (λ (r : Processor × List ℕ). state (slice_set s.processors (cpu_of e) r.0) r.1)
-      (act_after (event_act program (length s.memory) e p) s.memory)
+  done_after (Some p) e s = option_map (λ (r : Processor × List ℕ). state (slice_set s.processors (cpu_of e)
+      r.0) r.1) (act_after (event_act program (length s.memory) e p) s.memory)
 
   -- the state after an event that is done
   abbrev pub event_after : Event → MachineState (List ℕ) → Option (MachineState (List ℕ))
@@ -95,8 +94,7 @@ module _ (program : List (List Instr)) where
       go None d = absurd (let e : ◌≡◌ {A = Answer} (Ok tt) (Err NoCpu) = d.0 in cc)
       go (Some p) d =
           ap (option_map (λ (r : Processor × List ℕ). state (slice_set s.processors (cpu_of e) r.0) r.1))
-          (act_is (cpu_of e) (event_act program (length s.memory) e p) p d.0 s.memory d.1 d.2)
-          ∙ ap Some (sym d.3)
+          (act_is (cpu_of e) _ p d.0 s.memory d.1 d.2) ∙ ap Some (sym d.3)
 
   module _ (ok : Final → Bool) where
     abbrev reached_ok : (MachineState (List ℕ) → Bool) → Option (MachineState (List ℕ)) → Bool
@@ -107,9 +105,10 @@ module _ (program : List (List Instr)) where
     unfoldable pub machine_ends_so : ℕ → MachineState (List ℕ) → Bool
     machine_ends_so zero s = false
     machine_ends_so (suc n) s =
-        (if machine.is_final program s then ok (machine.machine_outcome flat s) else true)
-        && (agree_below (λ t. reached_ok (machine_ends_so n) (event_after (Step t) s)) (λ t. true) (length s.processors)
-        && agree_below (λ t. reached_ok (machine_ends_so n) (event_after (Drain t) s)) (λ t. true) (length s.processors))
+        (if machine.is_final program s then ok (machine.machine_outcome flat s) else true) &&
+        (agree_below (λ t. reached_ok (machine_ends_so n) (event_after (Step t) s)) (λ t. true)
+        (length s.processors) && agree_below (λ t. reached_ok (machine_ends_so n) (event_after (Drain t) s))
+        (λ t. true) (length s.processors))
 
     there : (e : Event) (s after : MachineState (List ℕ)) → EventDone flat program e s (Ok tt) after → cpu_of e < length s.processors
     there e s after = go (slice_get s.processors (cpu_of e)) refl
@@ -129,19 +128,19 @@ module _ (program : List (List Instr)) where
         go None d = let e : ◌≡◌ {A = Answer} (Ok tt) (Err NoCpu) = d.0 in cc
         go (Some p) d = given_up (nat_lt x (length s.memory)) p d.0 s.memory d.1 d.2
 
-    pub machine_searched : (n : ℕ) (events : List Event) (s end : MachineState (List ℕ)) → machine_ends_so n s ≡ true
-        → machine.MachineRan flat program events s end → IsTrue (machine.is_final program end) → ok (machine.machine_outcome flat end) ≡ true
+    pub machine_searched : (n : ℕ) (events : List Event) (s end : MachineState (List ℕ))
+        → machine_ends_so n s ≡ true → machine.MachineRan flat program events s end
+        → IsTrue (machine.is_final program end) → ok (machine.machine_outcome flat end) ≡ true
     unfolding machine_ends_so
     machine_searched zero events s end so ran final = absurd (false≢true so)
     machine_searched (suc n) [] s end so ran final =
-        if_so (machine.is_final program end) (ok (machine.machine_outcome flat end))
-        (subst (λ e. (if machine.is_final program e then ok (machine.machine_outcome flat e) else true) ≡ true) (sym ran) (and_parts _ _ so).0) final
+        if_so (machine.is_final program end) _ (subst (λ e. (if machine.is_final program e then ok
+        (machine.machine_outcome flat e) else true) ≡ true) (sym ran) (and_parts _ _ so).0) final
     machine_searched (suc n) (Step t ∷ events) s end so ran final =
-        let each = agree_below_at (λ t. reached_ok (machine_ends_so n) (event_after (Step t) s)) (λ t. true) (length s.processors) t
-        (and_parts _ _ (and_parts _ _ so).1).0 (there (Step t) s ran.0 ran.1) in
+        let each = agree_below_at _ _ _ t (and_parts _ _ (and_parts _ _ so).1).0 (there (Step t) s _ ran.1) in
         machine_searched n events ran.0 end (subst (λ r. reached_ok (machine_ends_so n) r ≡ true) (event_is (Step t) s ran.0 ran.1) each) ran.2 final
     machine_searched (suc n) (Drain t ∷ events) s end so ran final =
-        let each = agree_below_at (λ t. reached_ok (machine_ends_so n) (event_after (Drain t) s)) (λ t. true) (length s.processors) t
-        (and_parts _ _ (and_parts _ _ so).1).1 (there (Drain t) s ran.0 ran.1) in
+        let each = agree_below_at (λ t. reached_ok (machine_ends_so n) (event_after (Drain t) s)) (λ t. true)
+            (length s.processors) t (and_parts _ _ (and_parts _ _ so).1).1 (there (Drain t) s ran.0 ran.1) in
         machine_searched n events ran.0 end (subst (λ r. reached_ok (machine_ends_so n) r ≡ true) (event_is (Drain t) s ran.0 ran.1) each) ran.2 final
     machine_searched (suc n) (Evict t x ∷ events) s end so ran final = absurd (none_evicted t x s ran.0 ran.1)

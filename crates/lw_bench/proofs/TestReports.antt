@@ -27,8 +27,8 @@ use Rattle.lw_bench.proofs.ListingTexts.{report_is, schedule_list_is}
 
 -- what is told of the list of a source test
 pub source_list : (test : SourceTest) (entries : OutcomeEntries) → IsStrictlySorted entries
-    → ((o : Final) → Contains (outcomes_of entries) o ↔ SourceOutcome test o)
-    → ListsMachine test entries → All (IsEntryOf test.head) entries → HasList (Of_source test) → IsListOf (Of_source test) entries
+    → ((o : Final) → Contains (outcomes_of entries) o ↔ SourceOutcome test o) → ListsMachine test entries
+    → All (IsEntryOf test.head) entries → HasList (Of_source test) → IsListOf (Of_source test) entries
 source_list test entries sorted exactly lists of within = record {
   within = within;
   program = lists.program;
@@ -53,9 +53,10 @@ source_listed test (Err e) sorted exactly lists of within = tt
 
 -- and of that of an x86 test
 pub x86_list : (test : ProgramTest) (entries : OutcomeEntries) → IsStrictlySorted entries
-    → ((protocol : Protocol) (o : Final) → Contains (outcomes_of entries) o ↔ OutcomeOverCaches protocol test o)
-    → ((protocol : Protocol) → All (λ e. ReplaysOverCaches protocol test e.1 e.0) entries) → All (IsEntryOf test.head) entries → HasList (Of_x86 test)
-    → IsListOf (Of_x86 test) entries
+    → ((protocol : Protocol) (o : Final) → Contains (outcomes_of entries) o ↔ OutcomeOverCaches protocol test
+    o)
+    → ((protocol : Protocol) → All (λ e. ReplaysOverCaches protocol test e.1 e.0) entries)
+    → All (IsEntryOf test.head) entries → HasList (Of_x86 test) → IsListOf (Of_x86 test) entries
 x86_list test entries sorted exactly replays of within = record {
   within = within;
   program = test;
@@ -84,9 +85,8 @@ module _ (test : LitmusTest) (entries : OutcomeEntries) (list : IsListOf test en
       → text ≡ report_text head Exact (map shown_of states) → IsStatesReport test text
   report_of_list states text listed is = record {
     within = list.within;
-    is = report_is (head_of_test test) (OutcomeOf test) entries list.exactly Exact states text
-        (subst (λ (d : TestHead). AreListedStates d (outcomes_of entries) states) same listed)
-        (subst (λ (d : TestHead). text ≡ report_text d Exact (map shown_of states)) same is);
+    is = report_is _ _ _ list.exactly Exact states text (subst (λ d. AreListedStates d (outcomes_of entries)
+        states) same listed) (subst (λ d. text ≡ report_text d Exact (map shown_of states)) same is);
   }
 
   pub schedules_of_list : (states : List ListedState) (text : List ℕ) → AreListedStates head (outcomes_of entries) states
@@ -95,21 +95,20 @@ module _ (test : LitmusTest) (entries : OutcomeEntries) (list : IsListOf test en
     within = list.within;
     program = list.program;
     of_test = list.of_test;
-    is = schedule_list_is (head_of_test test) (OutcomeOf test) entries list.exactly list.sorted (LeadsTo list.program) list.lead states text
-        (subst (λ (d : TestHead). AreListedStates d (outcomes_of entries) states) same listed)
-        (subst (λ (d : TestHead). text ≡ schedule_list_text d (map (scheduled (schedules_of entries)) states)) same is);
+    is = schedule_list_is _ (OutcomeOf test) entries list.exactly list.sorted (LeadsTo list.program) list.lead
+        states text (subst (λ d. AreListedStates d (outcomes_of entries) states) same listed) (rw same at is);
   }
 
   -- the outcomes are of the test's threads and locations
   pub outcomes_there : All (IsOutcomeOf head.threads (length head.locs)) (outcomes_of entries)
   outcomes_there =
       All-map (IsOutcomeOf head.threads (length head.locs)) (λ (e : Final × List Event). e.0) entries
-      (All-weaker (IsEntryOf (head_of_test test)) (λ (e : Final × List Event). IsOutcomeOf head.threads (length head.locs) e.0)
-      (λ e is. subst (λ (d : TestHead). IsOutcomeOf d.threads (length d.locs) e.0) (sym same) is.outcome) entries list.entries_are)
+      (All-weaker (IsEntryOf (head_of_test test)) (λ (e : Final × List Event). IsOutcomeOf head.threads
+      (length head.locs) e.0) (λ e is. rw (← same) at is.outcome) entries list.entries_are)
 
   -- and the schedules speak of its locations
   pub schedules_there : All (AllByRecursion (IsEvent head.locs)) (schedules_of entries)
   schedules_there =
       All-map (AllByRecursion (IsEvent head.locs)) (λ (e : Final × List Event). e.1) entries
-      (All-weaker (IsEntryOf (head_of_test test)) (λ (e : Final × List Event). AllByRecursion (IsEvent head.locs) e.1)
-      (λ e is. subst (λ (d : TestHead). AllByRecursion (IsEvent d.locs) e.1) (sym same) is.schedule) entries list.entries_are)
+      (All-weaker (IsEntryOf (head_of_test test)) (λ e. AllByRecursion (IsEvent head.locs) e.1) (λ e is. subst
+      (λ d. AllByRecursion (IsEvent d.locs) e.1) (sym same) is.schedule) entries list.entries_are)

@@ -19,7 +19,7 @@ use Rattle.lw_report.proofs.api.OneList.{one_report}
 use Rattle.lw_text.proofs.api.Frames.{frame_well_formed, frame_columns}
 use Rattle.lw_source.proofs.api.Tests.{well_formed_source}
 use Rattle.lw_x86.proofs.api.Tests.{well_formed_program}
-use Rattle.lw_bench.specs.LitmusTests.{LitmusTest, Of_source, Of_x86, head_of_test}
+use Rattle.lw_bench.specs.LitmusTests.{LitmusTest, Of_source, Of_x86}
 use Rattle.lw_bench.specs.WellFormedTests.{IsWellFormedTest}
 use Rattle.lw_bench.specs.Lists.{IsStatesReport}
 use Rattle.lw_bench.specs.Outcomes.{OutcomeOf, IsRunFor, IsProgramOf}
@@ -37,20 +37,21 @@ CachesAreFlat =
 
 pub well_formed : (text : Bytes) (test : LitmusTest) → HasTest text test → IsWellFormedTest test
 well_formed text (Of_source test) h =
-    well_formed_source h.frame test (frame_well_formed text h.frame h.has_frame) (frame_columns text h.frame h.has_frame) h.says
+    well_formed_source _ test (frame_well_formed text _ h.has_frame) (frame_columns text _ h.has_frame) h.says
 well_formed text (Of_x86 test) h =
-    well_formed_program h.frame test (frame_well_formed text h.frame h.has_frame) (frame_columns text h.frame h.has_frame) h.says
+    well_formed_program _ _ (frame_well_formed text _ h.has_frame) (frame_columns text _ h.has_frame) h.says
 
 pub one_report_of : ((text : Bytes) (s t : LitmusTest) → HasTest text s → HasTest text t → s ≡ t)
     → (text a b : Bytes) → Makes IsStatesReport text a → Makes IsStatesReport text b → a ≡ b
 one_report_of one text a b m n =
     let other = subst (λ (test : LitmusTest). IsStatesReport test b) (sym (one text m.test n.test m.has_test n.has_test)) n.is in
-    one_report (head_of_test m.test) (OutcomeOf m.test) (OutcomeOf m.test) (λ o. ((λ h. h), (λ h. h))) Exact a b m.is.is other.is
+    one_report _ (OutcomeOf m.test) (OutcomeOf m.test) (λ o. ((λ h. h), (λ h. h))) Exact a b m.is.is other.is
 
 -- ---- compiled programs
 
-pub outcomes_over_caches : CachesAreFlat → (s : SourceTest) (p : ProgramTest) (starts : List (List ℕ)) → IsWellFormedSource s
-    → IsCompiled s p starts → (protocol : Protocol) (o : Final) → OutcomeOverCaches protocol p o ↔ SourceOutcome s o
+pub outcomes_over_caches : CachesAreFlat → (s : SourceTest) (p : ProgramTest) (starts : List (List ℕ))
+    → IsWellFormedSource s → IsCompiled s p starts → (protocol : Protocol) (o : Final)
+    → OutcomeOverCaches protocol p o ↔ SourceOutcome s o
 outcomes_over_caches caches s p starts ok compiled protocol o =
     let over = caches protocol p o (is_program s p starts ok compiled) in
     let same = same_outcomes s p starts o ok compiled in
@@ -60,12 +61,12 @@ pub outcomes_with_fences : CachesAreFlat → (fences : List (List Bool)) (s : So
     → IsWellFormedSource s → IsCompiledWith fences s p starts → (protocol : Protocol) (o : Final)
     → SourceOutcome s o → OutcomeOverCaches protocol p o
 outcomes_with_fences caches fences s p starts ok compiled protocol o outcome =
-    (caches protocol p o (is_program_with fences s p starts ok compiled)).1 (has_outcomes fences s p starts o ok compiled outcome)
+    (caches protocol p o (is_program_with _ s p _ ok compiled)).1 (has_outcomes _ s p _ o ok compiled outcome)
 
 -- ---- the program that runs for a test
 
-pub program_runs : CachesAreFlat → (test : LitmusTest) (program : ProgramTest) → IsWellFormedTest test → IsRunFor test program
-    → IsProgramOf test program
+pub program_runs : CachesAreFlat → (test : LitmusTest) (program : ProgramTest) → IsWellFormedTest test
+    → IsRunFor test program → IsProgramOf test program
 program_runs caches (Of_source test) program ok runs = record {
   runs = runs;
   outcomes = outcomes_over_caches caches test program runs.0 ok runs.1;

@@ -1,6 +1,6 @@
 -- What a refused run tells: from what the readers promise, and from the bytes that were read to the whole input.
 use Rattle.std.proofs.Common.{◌≡◌, ◌≢◌, ◌⊎◌, inl, inr, Bool, true, false, ℕ, Option, Some, None, List, []}
-use Rattle.std.proofs.Common.{◌++◌, length, sym, ap, ◌∙◌, subst, length-append, if◌then◌else◌, arith, IfSome}
+use Rattle.std.proofs.Common.{◌++◌, length, ap, ◌∙◌, subst, length-append, if◌then◌else◌, arith, IfSome}
 use Rattle.std.proofs.Common.{append-nil}
 use Rattle.lw_base.specs.declared.fault.CellCause.{CellCause}
 use Rattle.lw_base.specs.declared.fault.CellFault.{CellFault}
@@ -81,12 +81,11 @@ module _ (input bytes : List ℕ) (is : (rest : List ℕ) × (input ≡ bytes ++
   -- a text that is too long, whatever stands behind what was read
   long_text : (f : TextFault) → length bytes ≡ 65537 → TellsText bytes f → TellsText input f
   long_text f long told =
-      let known = told.too_long (omega (arith, long)) in
       let total = ap length is.1 ∙ length-append bytes is.0 in
       record {
         none = λ frame has. omega (arith, has.short, total, long);
         place = omega (arith, told.place, total);
-        too_long = λ more. known;
+        too_long = λ more. (told.too_long (omega (arith, long)));
         only_too_long = λ same. omega (arith, total, long);
         not_utf8 = λ short other. absurd (omega (arith, short, total, long));
         only_not_utf8 = λ same. absurd (omega (arith, (told.only_not_utf8 same).0, long));
@@ -97,7 +96,7 @@ module _ (input bytes : List ℕ) (is : (rest : List ℕ) × (input ≡ bytes ++
   text_in_whole f told = go is.2
     where
       go : (is.0 ≡ []) ⊎ (length bytes ≡ 65537) → TellsText input f
-      go (inl none) = subst (λ t. TellsText t f) (sym (is.1 ∙ ap (λ rest. bytes ++ rest) none ∙ append-nil bytes)) told
+      go (inl none) = rw (← is.1 ∙ ap (λ rest. bytes ++ rest) none ∙ append-nil bytes) at told
       go (inr long) = long_text f long told
 
   pub cell_in_whole : (f : CellFault) → TellsCell bytes f → TellsCell input f
@@ -122,8 +121,8 @@ pub told_of_input : (Tells : LitmusTest → BenchFault → Type 0) (known : Opti
 told_of_input Tells None bytes f is told = tt
 told_of_input Tells (Some input) bytes f is told = run_in_whole input bytes is Tells f told
 
-pub some_told : (Tells : List ℕ → BenchFault → Type 0) (known : Option (List ℕ)) (f : BenchFault) → ((bytes : List ℕ) → Tells bytes f)
-    → IfSome known (λ bytes. Tells bytes f)
+pub some_told : (Tells : List ℕ → BenchFault → Type 0) (known : Option (List ℕ)) (f : BenchFault)
+    → ((bytes : List ℕ) → Tells bytes f) → IfSome known (λ bytes. Tells bytes f)
 some_told Tells None f told = tt
 some_told Tells (Some input) f told = told input
 

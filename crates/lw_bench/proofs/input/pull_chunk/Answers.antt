@@ -26,8 +26,8 @@ pub returns-in_err-extend_from_slice-clause-lost : goal.returns-in_err-extend_fr
 returns-in_err-extend_from_slice-clause-lost g c =
     let p = err_from_is_err_and c.from_residual.result c.from_residual.ensures.1 in
     let room : c.min-room.result ≤ 65537 - length c.args.bytes.now.items = omega (arith, c.min-room.ensures, c.len.ensures, c.args.bytes.now.ok.0) in
-    let all : length c.pull.new.buf ≡ c.min-room.result = c.pull.auto.buf ∙ length-take-le c.min-room.result _ (omega (arith, c.min-room.ensures)) in
-    rw p.1 (loses_front _ _ _ c.pull.new.buf c.min-room.result c.in-Ok.count c.requires.room room all c.in-Ok.ensures.bound c.in-Ok.ensures.bytes.0)
+    let all = c.pull.auto.buf ∙ length-take-le c.min-room.result _ (omega (arith, c.min-room.ensures)) in
+    rw p.1 (loses_front _ _ _ _ _ _ c.requires.room room all c.in-Ok.ensures.bound c.in-Ok.ensures.bytes.0)
 
 pub returns-in_err-extend_from_slice-clause-err : goal.returns-in_err-extend_from_slice-clause-err
 returns-in_err-extend_from_slice-clause-err g c =

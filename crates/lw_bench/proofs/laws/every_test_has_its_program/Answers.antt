@@ -6,5 +6,5 @@ returns c =
     let caches = c.outcomes_over_caches_are_flat.ensures in
     record {
       there = λ text test says. has_program caches test (well_formed text test says);
-      each = λ text test program says runs. program_runs caches test program (well_formed text test says) runs;
+      each = λ text test program says runs. program_runs caches test _ (well_formed text test says) runs;
     }

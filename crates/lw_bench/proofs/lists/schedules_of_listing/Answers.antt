@@ -24,6 +24,5 @@ write_schedules-list-requires-clause-states g c = c.in_ok-states.ensures
 
 pub returns : goal.returns
 returns g c =
-    IfOk-weaker c.write_schedules-list.result _ (IsScheduleReport (litmus_test_of c.args.test.now))
-    (λ text is. schedules_of_list (litmus_test_of c.args.test.now) c.args.listing.now c.requires _ c.head-head.ensures.head c.in_ok-states.states text
-    c.in_ok-states.ensures is) c.write_schedules-list.ensures
+    IfOk-weaker _ _ (IsScheduleReport (litmus_test_of c.args.test.now)) (λ text is. schedules_of_list _ _
+    c.requires _ c.head-head.ensures.head _ text c.in_ok-states.ensures is) c.write_schedules-list.ensures

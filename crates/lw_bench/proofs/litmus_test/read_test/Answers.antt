@@ -22,8 +22,7 @@ returns-in_err-frame-clause-told g c =
     }))
 
 pub returns-in_err-frame-clause-device : goal.returns-in_err-frame-clause-device
-returns-in_err-frame-clause-device g c =
-    passed_on _ _ c.from_residual.ensures.1 (text_no_device _)
+returns-in_err-frame-clause-device g c = passed_on _ _ c.from_residual.ensures.1 (text_no_device _)
 
 pub returns-in_err-read-clause-told : goal.returns-in_err-read-clause-told
 returns-in_err-read-clause-told g c =
@@ -40,5 +39,4 @@ returns-in_err-read-clause-told g c =
     }))
 
 pub returns-in_err-read-clause-device : goal.returns-in_err-read-clause-device
-returns-in_err-read-clause-device g c =
-    passed_on _ _ c.from_residual-in_err-read.ensures.1 (cell_no_device _)
+returns-in_err-read-clause-device g c = passed_on _ _ c.from_residual-in_err-read.ensures.1 (cell_no_device _)

@@ -1,11 +1,10 @@
 use Rattle.std.proofs.Common.{◌++◌, ap, codes, string_bytes}
 use Rattle.lw_base.specs.Types.{Bytes}
 use Rattle.lw_base.proofs.api.Writing.{written_as}
-use Rattle.lw_bench.specs.Pages.{named, letter}
+use Rattle.lw_bench.specs.Pages.{letter}
 use Rattle.lw_bench.proofs.page.write_held.Goals as goal
 
 pub returns : goal.returns
 returns g c =
-    written_as c.write.result (string_bytes c.args.out.now) (string_bytes c.write.new.self)
-    (codes " " ++ (c.args.name.now ++ (codes "=" ++ c.letter.result.now))) (named (λ _. letter c.args.state) 0 c.args.name.now)
-    (ap (λ (t : Bytes). codes " " ++ (c.args.name.now ++ (codes "=" ++ t))) c.letter.ensures) c.write.ensures.bytes
+    written_as c.write.result (string_bytes c.args.out.now) _ _ _ (ap (λ (t : Bytes). codes " "
+    ++ (c.args.name.now ++ (codes "=" ++ t))) c.letter.ensures) c.write.ensures.bytes

@@ -11,8 +11,7 @@ write_processors-requires g c =
       few = c.requires.few;
       threads = c.requires.threads;
       words = c.requires.words;
-      regs = c.as_slice.ensures ∙ ap (λ (o : Final). o.regs)
-          (c.state.view_is ∙ c.requires.outcome);
+      regs = c.as_slice.ensures ∙ ap (λ (o : Final). o.regs) (c.state.view_is ∙ c.requires.outcome);
     }
 
 pub write_memory-requires : goal.write_memory-requires
@@ -23,12 +22,7 @@ write_words-requires g c = ap length (c.as_slice-2.ensures ∙ ap (λ (o : Final
 
 pub returns : goal.returns
 returns g c =
-    let state = c.args.machine.now.state in
-    on_ok_weaker c.write_words.result
-    (λ is. machine_page_told (head_of c.args.head.now) c.args.replay state.processors (g.M.MemorySystem.state state.memory)
-    (g.M.MemorySystem.memory state.memory) (g.M.MemorySystem.content state.memory) _ _ _ _ _
-    (g.M.MemorySystem.memory c.memory.result.now) c.as_slice-2.result.now
-    c.in_ok-write_first_lines.ensures c.in_ok-write_processors.ensures c.in_ok-write_memory.ensures is
-    (ap (λ m. g.M.MemorySystem.memory m) c.memory.ensures.memory)
-    (c.as_slice-2.ensures ∙ ap (λ (o : Final). o.words) (c.state.view_is ∙ c.requires.outcome)))
-    c.write_words.ensures
+    on_ok_weaker c.write_words.result (λ is. machine_page_told (head_of c.args.head.now) _ _ _ _ _ _ _ _ _ _ _
+        _ c.in_ok-write_first_lines.ensures c.in_ok-write_processors.ensures c.in_ok-write_memory.ensures is
+        (ap (λ m. g.M.MemorySystem.memory m) c.memory.ensures.memory) (c.as_slice-2.ensures
+        ∙ ap (λ (o : Final). o.words) (c.state.view_is ∙ c.requires.outcome))) c.write_words.ensures

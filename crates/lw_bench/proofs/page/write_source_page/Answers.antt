@@ -14,8 +14,6 @@ write_words-requires g c = ap length (c.as_slice-2.ensures ∙ ap (λ (o : Final
 
 pub returns : goal.returns
 returns g c =
-    on_ok_weaker c.write_words.result
-    (λ is. source_page_told (head_of c.args.head.now) c.args.replay c.args.run.now.state _ _ _ _ c.as_slice-2.result.now
-    c.in_ok-write_first_lines.ensures c.in_ok-write_threads.ensures is
-    (c.as_slice-2.ensures ∙ ap (λ (o : Final). o.words) (c.state.view_is ∙ c.requires.outcome)))
-    c.write_words.ensures
+    on_ok_weaker c.write_words.result (λ is. source_page_told (head_of c.args.head.now) c.args.replay _ _ _ _
+    _ _ c.in_ok-write_first_lines.ensures c.in_ok-write_threads.ensures is (c.as_slice-2.ensures
+    ∙ ap (λ (o : Final). o.words) (c.state.view_is ∙ c.requires.outcome))) c.write_words.ensures

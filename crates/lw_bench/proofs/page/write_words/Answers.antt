@@ -1,45 +1,34 @@
-use Rattle.std.proofs.Common.{◌≤◌, ◌++◌, ℕ, length, take, slice_get, refl, sym, ap, ◌∙◌, arith, length-take}
-use Rattle.std.proofs.Common.{slice_index, string_bytes}
+use Rattle.std.proofs.Common.{◌≤◌, decimal, length, slice_get, slice_index, refl, sym, ap, ◌∙◌, arith}
+use Rattle.std.proofs.Common.{length-take}
 use Rattle.lw_text.proofs.api.Indices.{is_index}
-use Rattle.lw_bench.specs.Pages.{numbered, named, word_at}
-use Rattle.lw_bench.proofs.Pages.{numbered_more, numbered_all, named_written, line_ended}
+use Rattle.lw_bench.specs.Pages.{named}
+use Rattle.lw_bench.proofs.Pages.{told_more, told_all, line_ended}
 use Rattle.lw_bench.proofs.page.write_words.Goals as goal
 
 pub loop-loc-init : goal.loop-loc-init
-loop-loc-init g c = refl
+loop-loc-init g c = record { left = refl }
 
 pub loop-loc-preserved : goal.loop-loc-preserved
 loop-loc-preserved g c =
-    let words = c.args.words.now in
-    let is = is_index 8 c.len.result c.loop-loc.loc-index c.loc-item.result c.all.result
-    (take c.len.result c.all.result) c.all.ensures refl c.loop-loc-test.true c.loc-item.is in
-    let written = named_written (string_bytes c.loop-loc.out) (string_bytes c.write_named.new.out) c.name.result.now c.name.result.now
-    (slice_index words c.index.result) (slice_index words c.loop-loc.loc-index) c.in_ok-write_named.ensures refl
-    (ap (λ (x : ℕ). slice_index words x) (c.index.ensures.value ∙ is)) in
-    numbered_more (named (word_at words)) c.args.locs.now c.loop-loc.loc-index c.name.result.now (string_bytes c.loop-loc.out)
-    (string_bytes c.write_named.new.out) (string_bytes c.push_str.new.self ++ numbered (named (word_at words)) 0 c.args.locs.now)
-    (ap (slice_get c.args.locs.now) (sym is) ∙ c.name.ensures) c.loop-loc.invariant written
+    let is = is_index 8 _ _ _ _ _ c.all.ensures refl c.loop-loc-test.true c.loc-item.is in
+    told_more c.loop-loc.invariant c.name.result.now _ _ (ap (slice_get c.args.locs.now) (sym is)
+        ∙ c.name.ensures) (ap (λ k. named (λ _. decimal (slice_index c.args.words.now k)) 0 c.name.result.now)
+        (c.index.ensures.value ∙ is)) c.in_ok-write_named.ensures
 
 pub returns : goal.returns
 returns g c =
-    let words = c.args.words.now in
     let table : length c.args.locs.now ≤ 8 = c.len.ensures.table.few in
-    let whole : length c.args.locs.now ≤ c.loop-loc.loc-index = omega
-    (arith, length-take c.len.result c.all.result, ap length c.all.ensures, c.len.ensures.len, table, c.loop-loc-test.false) in
-    let told = numbered_all (named (word_at words)) c.args.locs.now c.loop-loc.loc-index (string_bytes c.loop-loc.out)
-    (string_bytes c.push_str.new.self ++ numbered (named (word_at words)) 0 c.args.locs.now) whole c.loop-loc.invariant in
-    line_ended c.push_str-2.result (string_bytes c.args.out.now) c.args.title.now (numbered (named (word_at words)) 0 c.args.locs.now)
-    (string_bytes c.push_str.new.self) (string_bytes c.loop-loc.out) (string_bytes c.push_str-2.new.self) c.in_ok-push_str.ensures.bytes told
-    c.push_str-2.ensures.bytes
+    let whole : length c.args.locs.now ≤ c.loop-loc.loc-index = omega (arith, length-take c.len.result
+        c.all.result, ap length c.all.ensures, c.len.ensures.len, table, c.loop-loc-test.false) in
+    line_ended c.push_str-2.result _ c.args.title.now _ _ _ _ _ c.in_ok-push_str.ensures.bytes
+        (told_all c.loop-loc.invariant whole) refl c.push_str-2.ensures.bytes
 
 pub name-requires : goal.name-requires
 name-requires g c =
-    let is = is_index 8 c.len.result c.loop-loc.loc-index c.loc-item.result c.all.result
-    (take c.len.result c.all.result) c.all.ensures refl c.loop-loc-test.true c.loc-item.is in
+    let is = is_index 8 _ _ _ _ _ c.all.ensures refl c.loop-loc-test.true c.loc-item.is in
     omega (arith, is, c.loop-loc-test.true, length-take c.len.result c.all.result, c.len.ensures.len)
 
 pub bounds-words-index : goal.bounds-words-index
 bounds-words-index g c =
-    let is = is_index 8 c.len.result c.loop-loc.loc-index c.loc-item.result c.all.result
-    (take c.len.result c.all.result) c.all.ensures refl c.loop-loc-test.true c.loc-item.is in
+    let is = is_index 8 _ _ _ _ _ c.all.ensures refl c.loop-loc-test.true c.loc-item.is in
     omega (arith, is, c.index.ensures.value, c.loop-loc-test.true, length-take c.len.result c.all.result, c.len.ensures.len, c.requires)

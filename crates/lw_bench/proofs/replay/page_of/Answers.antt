@@ -1,11 +1,10 @@
-use Rattle.std.proofs.Common.{◌≡◌, ◌⊎◌, inl, inr, ap, refl, subst}
+use Rattle.std.proofs.Common.{◌≡◌, ◌⊎◌, inl, inr, ap, refl}
 use Rattle.std.proofs.lemmas.Result.{IfOk-weaker, IfErr-weaker}
 use Rattle.lw_base.proofs.api.Returns.{passed_on}
 use Rattle.lw_base.specs.Heads.{TestHead}
-use Rattle.lw_base.specs.Schedules.{IsFirstFault}
 use Rattle.lw_bench.specs.LitmusTests.{litmus_test_of}
-use Rattle.lw_bench.specs.Replays.{IsPageOf, IsReplayPage}
-use Rattle.lw_bench.specs.Told.{TellsReplay, IsNoDevice}
+use Rattle.lw_bench.specs.Replays.{IsReplayPage}
+use Rattle.lw_bench.specs.Told.{TellsReplay}
 use Rattle.lw_bench.specs.declared.fault.BenchFault.TheVariants.{Memory}
 use Rattle.lw_bench.proofs.Replays.{page_told}
 use Rattle.lw_bench.proofs.Told.{schedule_is_told, schedule_no_device, memory_is_no_device}
@@ -17,8 +16,7 @@ returns-in_err-events-clause-told g c =
     let table = ap (λ (h : TestHead). h.locs) c.head.ensures.head in
     passed_on _ _ c.from_residual.ensures.1 (schedule_is_told (λ f. (f ≡ Memory) ⊎ TellsReplay c.args.schedule.now test f) (inl refl) _ (λ known. inr (record {
       none = λ events is. c.in_err-events.ensures.fault known events (rw table is);
-      first = subst (λ l. IsFirstFault l c.args.schedule.now c.in_err-events.field-0.0.at c.in_err-events.field-0.0.cause) table
-          (c.in_err-events.ensures.first known);
+      first = rw table at (c.in_err-events.ensures.first known);
     })))
 
 pub returns-in_err-events-clause-device : goal.returns-in_err-events-clause-device
@@ -28,15 +26,12 @@ pub returns-clause-found : goal.returns-clause-found
 returns-clause-found g c =
     let test = litmus_test_of c.args.test.now in
     let table = ap (λ (h : TestHead). h.locs) c.head.ensures.head in
-    IfOk-weaker c.page_of_events-page.result (λ x. IsPageOf c.args.protocol test c.as_slice.result.now x.0 x.1)
-    (λ x. IsReplayPage c.args.protocol test c.args.schedule.now x.0 x.1)
-    (λ x tells. page_told c.args.protocol test _ c.args.schedule.now _ c.as_slice.result.now x.0 x.1 table c.in_ok-events.ensures.found
-    c.as_slice.ensures tells) c.page_of_events-page.ensures.found
+    IfOk-weaker c.page_of_events-page.result _ (λ x. IsReplayPage c.args.protocol test c.args.schedule.now x.0
+        x.1) (λ x tells. page_told c.args.protocol test _ c.args.schedule.now _ c.as_slice.result.now x.0 x.1
+        table c.in_ok-events.ensures.found c.as_slice.ensures tells) c.page_of_events-page.ensures.found
 
 pub returns-clause-told : goal.returns-clause-told
-returns-clause-told g c =
-    IfErr-weaker c.page_of_events-page.result (λ f. f ≡ Memory) (λ f. (f ≡ Memory) ⊎ TellsReplay c.args.schedule.now (litmus_test_of c.args.test.now) f)
-    (λ f is. inl is) c.page_of_events-page.ensures.fault
+returns-clause-told g c = IfErr-weaker _ _ _ (λ f is. inl is) c.page_of_events-page.ensures.fault
 
 pub returns-clause-device : goal.returns-clause-device
-returns-clause-device g c = IfErr-weaker c.page_of_events-page.result (λ f. f ≡ Memory) IsNoDevice memory_is_no_device c.page_of_events-page.ensures.fault
+returns-clause-device g c = IfErr-weaker _ _ _ memory_is_no_device c.page_of_events-page.ensures.fault

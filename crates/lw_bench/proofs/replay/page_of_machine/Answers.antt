@@ -15,8 +15,8 @@ machine_page-page-requires g c =
     let program = c.args.program.now in
     record {
       few = program.well_formed.head.few;
-      threads = c.run-replay.ensures.processors ∙ ap (λ s. length s.processors) c.in-Ok.ensures.start ∙ length-map program.head.init_regs _
-          ∙ program.well_formed.head.regs;
-      words = c.run-replay.ensures.words ∙ ap (λ s. length (g.M.MemorySystem.content s.memory)) c.in-Ok.ensures.start
-          ∙ ap length c.requires.words ∙ program.well_formed.head.words;
+      threads = c.run-replay.ensures.processors ∙ ap (λ s. length s.processors) c.in-Ok.ensures.start
+          ∙ length-map program.head.init_regs _ ∙ program.well_formed.head.regs;
+      words = c.run-replay.ensures.words ∙ ap (λ s. length (g.M.MemorySystem.content s.memory))
+          c.in-Ok.ensures.start ∙ ap length c.requires.words ∙ program.well_formed.head.words;
     }

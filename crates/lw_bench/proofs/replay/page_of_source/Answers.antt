@@ -13,7 +13,7 @@ source_page-page-requires g c =
     let source = c.args.source.now in
     record {
       few = source.well_formed.head.few;
-      threads = c.run-replay.ensures.threads ∙ ap (λ (s : State). length s.threads) c.in_ok-run.ensures.state ∙ length-map source.head.init_regs _
-          ∙ source.well_formed.head.regs;
+      threads = c.run-replay.ensures.threads ∙ ap (λ (s : State). length s.threads) c.in_ok-run.ensures.state
+          ∙ length-map source.head.init_regs _ ∙ source.well_formed.head.regs;
       words = c.run-replay.ensures.words ∙ ap (λ (s : State). length s.words) c.in_ok-run.ensures.state ∙ source.well_formed.head.words;
     }

@@ -24,23 +24,21 @@ returns-in-Ok-clause-written g c =
 pub returns-in_err-made-clause-read : goal.returns-in_err-made-clause-read
 returns-in_err-made-clause-read g c =
     let p = err_from_is_err_and c.from_residual-in_err-made.result c.from_residual-in_err-made.ensures.1 in
-    fault_apart c.from_residual-in_err-made.result p.0 c.in_err-made.field-0.0 Read
-    (g.R.ByteReader.failed c.read_input.new.reader) p.1 p.2 c.in_err-made.ensures.device.0 c.in_ok-text.ensures.failed
+    fault_apart _ p.0 _ Read _ p.1 p.2 c.in_err-made.ensures.device.0 c.in_ok-text.ensures.failed
 
 pub returns-in_err-made-clause-write : goal.returns-in_err-made-clause-write
 returns-in_err-made-clause-write g c =
     let p = err_from_is_err_and c.from_residual-in_err-made.result c.from_residual-in_err-made.ensures.1 in
-    fault_apart c.from_residual-in_err-made.result p.0 c.in_err-made.field-0.0 Write
-    (g.W.ByteWriter.failed c.args.writer.now) p.1 p.2 c.in_err-made.ensures.device.1 c.requires.writer
+    fault_apart _ p.0 c.in_err-made.field-0.0 Write _ p.1 p.2 c.in_err-made.ensures.device.1 c.requires.writer
 
 pub returns-in-Ok-clause-read : goal.returns-in-Ok-clause-read
-returns-in-Ok-clause-read g c = answer_apart _ Read (g.R.ByteReader.failed c.read_input.new.reader) c.in_ok-text.ensures.failed
+returns-in-Ok-clause-read g c = answer_apart _ Read _ c.in_ok-text.ensures.failed
 
 pub returns-in-Ok-clause-write : goal.returns-in-Ok-clause-write
-returns-in-Ok-clause-write g c = answer_apart _ Write (g.W.ByteWriter.failed c.write_output.new.writer) c.in-Ok.ensures.failed
+returns-in-Ok-clause-write g c = answer_apart _ Write _ c.in-Ok.ensures.failed
 
 pub returns-clause-read : goal.returns-clause-read
-returns-clause-read g c = write_apart (g.R.ByteReader.failed c.read_input.new.reader) c.in_ok-text.ensures.failed
+returns-clause-read g c = write_apart _ c.in_ok-text.ensures.failed
 
 pub returns-clause-write : goal.returns-clause-write
 returns-clause-write g c = (λ same. c.in-Err.ensures.failed, λ failed. refl)
@@ -51,22 +49,23 @@ returns-clause-untouched g c = λ other. absurd (other refl)
 pub returns-in_err-text-clause-read : goal.returns-in_err-text-clause-read
 returns-in_err-text-clause-read g c =
     let p = err_from_is_err_and c.from_residual.result c.from_residual.ensures.1 in
-    input_told c.from_residual.result p.0 c.in_err-text.field-0.0 (g.R.ByteReader.failed c.read_input.new.reader) p.1 p.2 c.in_err-text.ensures.err
+    input_told c.from_residual.result p.0 c.in_err-text.field-0.0 _ p.1 p.2 c.in_err-text.ensures.err
 
 pub returns-in_err-text-clause-write : goal.returns-in_err-text-clause-write
 returns-in_err-text-clause-write g c =
     let p = err_from_is_err_and c.from_residual.result c.from_residual.ensures.1 in
-    let apart = input_apart c.in_err-text.field-0.0 (g.R.ByteReader.failed c.read_input.new.reader) c.in_err-text.ensures.err in
-    fault_apart c.from_residual.result p.0 c.in_err-text.field-0.0 Write (g.W.ByteWriter.failed c.args.writer.now) p.1 p.2 apart c.requires.writer
+    let apart = input_apart c.in_err-text.field-0.0 _ c.in_err-text.ensures.err in
+    fault_apart c.from_residual.result p.0 c.in_err-text.field-0.0 Write _ p.1 p.2 apart c.requires.writer
 
 pub returns-in_err-text-clause-told : goal.returns-in_err-text-clause-told
 returns-in_err-text-clause-told g c =
     let p = err_from_is_err_and c.from_residual.result c.from_residual.ensures.1 in
-    rw (p.1, p.2) (device_told (TellsRun (g.O.Output.tells c.args.output.now)) (g.R.ByteReader.remaining c.args.reader.now) c.in_err-text.field-0.0
-    (g.R.ByteReader.failed c.read_input.new.reader) (λ bytes. inl tt) (λ bytes. inl tt) c.in_err-text.ensures.err)
+    rw (p.1, p.2) (device_told (TellsRun (g.O.Output.tells c.args.output.now)) (g.R.ByteReader.remaining
+        c.args.reader.now) c.in_err-text.field-0.0 (g.R.ByteReader.failed c.read_input.new.reader)
+        (λ bytes. inl tt) (λ bytes. inl tt) c.in_err-text.ensures.err)
 
 pub returns-clause-told : goal.returns-clause-told
-returns-clause-told g c = some_told (TellsRun (g.O.Output.tells c.args.output.now)) (g.R.ByteReader.remaining c.args.reader.now) Write (λ bytes. inl tt)
+returns-clause-told g c = some_told (TellsRun (g.O.Output.tells c.args.output.now)) _ Write (λ bytes. inl tt)
 
 pub returns-in_err-text-clause-left : goal.returns-in_err-text-clause-left
 returns-in_err-text-clause-left g c =
@@ -75,7 +74,7 @@ returns-in_err-text-clause-left g c =
 
 pub returns-in_err-made-clause-left : goal.returns-in_err-made-clause-left
 returns-in_err-made-clause-left g c =
-    passed_on _ _ c.from_residual-in_err-made.ensures.1 (taken_at _ _ c.in_err-made.field-0.0 c.in_ok-text.ensures.taken)
+    passed_on _ _ c.from_residual-in_err-made.ensures.1 (taken_at _ _ _ c.in_ok-text.ensures.taken)
 
 pub read_input-requires : goal.read_input-requires
 read_input-requires g c = c.requires.reader
