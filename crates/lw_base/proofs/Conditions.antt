@@ -1,11 +1,7 @@
 -- Conditions as they are written: propositions, their parts, and what stands between these.
-use Rattle.std.proofs.Common.{◌≡◌, Bool, true, ◌++◌, append_assoc, sym, ap, ◌∙◌, subst, Result, OnOk, codes}
-use Rattle.lw_base.specs.Types.{Bytes, NameTable}
-use Rattle.lw_base.specs.declared.head.Arch.{Arch}
-use Rattle.lw_base.specs.declared.proposition.Prop.{Prop}
-use Rattle.lw_base.specs.Formula.{Formula}
-use Rattle.lw_base.specs.Propositions.{formula_of}
-use Rattle.lw_base.specs.ConditionTexts.{proposition_text, parenthesized_if}
+use Rattle.lw_base.proofs.Common.{◌≡◌, Bool, true, ◌++◌, append_assoc, sym, ap, ◌∙◌, subst, Result, OnOk}
+use Rattle.lw_base.proofs.Common.{codes, Bytes, NameTable, Arch, Prop, Formula, formula_of, proposition_text}
+use Rattle.lw_base.proofs.Common.{parenthesized_if}
 use Rattle.lw_base.proofs.api.Writing.{then_written, both_written}
 
 -- a text between parentheses

@@ -1,15 +1,9 @@
 -- The word of an event says which event it is.
-use Rattle.std.proofs.Common.{◌≡◌, ℕ, zero, suc, ◌<◌, ◌+◌, List, [], ◌∷◌, length, refl, sym, ap, ◌∙◌, subst}
-use Rattle.std.proofs.Common.{arith, map, slice_index_or, Contains}
-use Rattle.std.specs.List.{AllByRecursion}
-use Rattle.std.proofs.lemmas.List.Elements.{Contains-get_or}
-use Rattle.lw_base.specs.Types.{Bytes, NameTable}
-use Rattle.lw_base.specs.Lists.{EachOnce}
-use Rattle.lw_base.specs.Names.{IsTable}
+use Rattle.lw_base.proofs.Common.{◌≡◌, ℕ, zero, suc, ◌<◌, ◌+◌, List, [], ◌∷◌, length, refl, sym, ap, ◌∙◌}
+use Rattle.lw_base.proofs.Common.{subst, arith, map, slice_index_or, Contains, AllByRecursion}
+use Rattle.lw_base.proofs.Common.{Contains-get_or, Bytes, NameTable, EachOnce, IsTable, IsEvent, event_word}
+use Rattle.lw_base.proofs.Common.{IsSchedule, Event, Step, Drain, Evict}
 use Rattle.lw_base.proofs.api.Lists.{apart}
-use Rattle.lw_base.specs.Schedules.{IsEvent, event_word, IsSchedule}
-use Rattle.lw_base.specs.declared.event.Event.{Event}
-use Rattle.lw_base.specs.declared.event.Event.TheVariants.{Step, Drain, Evict}
 
 -- where each name stands once, a name has one place
 pub one_place : (names : NameTable) (i j : ℕ) → EachOnce names → i < length names → j < length names

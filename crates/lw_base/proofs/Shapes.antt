@@ -1,24 +1,15 @@
 -- Words of an event's shape, and words that are refused.
-use Rattle.std.proofs.Common.{rules, ◌≡◌, ◌≢◌, ◌⊎◌, not, ℕ, zero, suc, ◌<◌, ◌+◌, ◌==◌, inl, inr, true, false}
-use Rattle.std.proofs.Common.{[], ◌∷◌, ◌++◌, length, refl, sym, ap, ◌∙◌, subst, arith, true≢false, eqb-true}
-use Rattle.std.proofs.Common.{append-nil, slice_get, slice_index_or, Some, Contains}
-use Rattle.std.proofs.lemmas.Bool.{not-false, agree_below_at}
-use Rattle.std.proofs.lemmas.Bool.Decides.{nat_tests}
-use Rattle.std.proofs.lemmas.List.Elements.{Contains-get_or}
-use Rattle.std.proofs.lemmas.Option.{slice_get_within, get_or_from_slice_get}
-use Rattle.std.specs.Char.{is_ascii_digit}
-use Rattle.std.specs.List.{AllByRecursion, list_all}
-use Rattle.lw_base.specs.Types.{Bytes, NameTable}
-use Rattle.lw_base.specs.Characters.{Lacks, IsCutAt, begins}
-use Rattle.lw_base.specs.Limits.{most_threads}
-use Rattle.lw_base.specs.Names.{IsLocation, IsWordText, IsTable, are_digits}
-use Rattle.lw_base.specs.Schedules.{HasParts, HasShape, IsCpu, IsFaulty, IsEvent, event_word}
+use Rattle.lw_base.proofs.Common.{rules, ◌≡◌, ◌≢◌, ◌⊎◌, not, ℕ, zero, suc, ◌<◌, ◌+◌, ◌==◌, inl, inr, true}
+use Rattle.lw_base.proofs.Common.{false, [], ◌∷◌, ◌++◌, length, refl, sym, ap, ◌∙◌, subst, arith, true≢false}
+use Rattle.lw_base.proofs.Common.{eqb-true, append-nil, slice_get, slice_index_or, Some, Contains, not-false}
+use Rattle.lw_base.proofs.Common.{agree_below_at, nat_tests, Contains-get_or, slice_get_within}
+use Rattle.lw_base.proofs.Common.{get_or_from_slice_get, is_ascii_digit, AllByRecursion, list_all, Bytes}
+use Rattle.lw_base.proofs.Common.{NameTable, Lacks, IsCutAt, begins, most_threads, IsLocation, IsWordText}
+use Rattle.lw_base.proofs.Common.{IsTable, are_digits, HasParts, HasShape, IsCpu, IsFaulty, IsEvent}
+use Rattle.lw_base.proofs.Common.{event_word, HasBadDigits, Event, Step, Drain, Evict, ScheduleCause, Word}
+use Rattle.lw_base.proofs.Common.{Cpu, Memory}
 use Rattle.lw_base.proofs.api.Lists.{apart}
-use Rattle.lw_base.specs.inner.Digits.{HasBadDigits}
-use Rattle.lw_base.specs.declared.event.Event.{Event}
-use Rattle.lw_base.specs.declared.event.Event.TheVariants.{Step, Drain, Evict}
-use Rattle.lw_base.specs.declared.fault.ScheduleCause.{ScheduleCause}
-use Rattle.lw_base.specs.declared.fault.ScheduleCause.TheVariants.{Word, Cpu, Location, Memory}
+use Rattle.lw_base.specs.declared.fault.ScheduleCause.TheVariants.{Location}
 
 behind : (a b : ℕ) (u v : Bytes) → a ∷ u ≡ b ∷ v → u ≡ v
 behind a b u v same = cc

@@ -1,15 +1,9 @@
 -- The words of a text, the first of them and the rest.
-use Rattle.std.proofs.Common.{append_assoc, drop, ◌-◌, length-append, ◌≡◌, ◌<◌, ◌≤◌, ◌==◌, ℕ, zero, suc, true}
-use Rattle.std.proofs.Common.{false, not, List, [], ◌∷◌, ◌++◌, length, refl, sym, ap, ◌∙◌, arith, true≢false}
-use Rattle.std.proofs.Common.{eqb-true, append-nil, map}
-use Rattle.std.proofs.lemmas.Bool.{not-true, not-false}
-use Rattle.std.proofs.lemmas.List.{map-append}
-use Rattle.std.proofs.Math.Seq.{drop-append_seam}
-use Rattle.std.specs.List.{AllByRecursion}
-use Rattle.lw_base.specs.Types.{Bytes, NameTable}
-use Rattle.lw_base.specs.Characters.{is_blank, begins}
-use Rattle.lw_base.specs.declared.event.Event.{Event}
-use Rattle.lw_base.specs.Schedules.{pieces, words, IsEvent, event_word, IsSchedule}
+use Rattle.lw_base.proofs.Common.{append_assoc, drop, ◌-◌, length-append, ◌≡◌, ◌<◌, ◌≤◌, ◌==◌, ℕ, zero, suc}
+use Rattle.lw_base.proofs.Common.{true, false, not, List, [], ◌∷◌, ◌++◌, length, refl, sym, ap, ◌∙◌, arith}
+use Rattle.lw_base.proofs.Common.{true≢false, eqb-true, append-nil, map, not-true, not-false, map-append}
+use Rattle.lw_base.proofs.Common.{drop-append_seam, AllByRecursion, Bytes, NameTable, is_blank, begins, Event}
+use Rattle.lw_base.proofs.Common.{pieces, words, IsEvent, event_word, IsSchedule}
 
 -- bytes before a blank or the end are one piece
 first_piece : (w r : Bytes) (ps : List Bytes) → AllByRecursion (λ b. not (is_blank b) ≡ true) w → pieces r ≡ [] ∷ ps → pieces (w ++ r) ≡ w ∷ ps
@@ -79,7 +73,7 @@ pub more_words : (names : NameTable) (text rest w after last : Bytes) (es fs : L
 more_words names text rest w after last es fs e before first further is more =
     let word = event_word names in
     let one = ap (λ ds. map word ds ++ words last) more ∙ ap (λ ws. ws ++ words last) (map-append word es
-        (e ∷ [])) ∙ append_assoc (map word es) (word e ∷ []) (words last) in
+    (e ∷ [])) ∙ append_assoc (map word es) (word e ∷ []) (words last) in
     let two = ap (λ ws. map word es ++ ws) (first ∙ ap (λ ws. w ∷ ws) further) in
     before ∙ two ∙ ap (λ v. map word es ++ v ∷ words last) (sym is) ∙ sym one
 

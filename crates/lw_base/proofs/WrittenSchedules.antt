@@ -1,18 +1,11 @@
 -- Schedules that are written: the words of their events, and that they are read again.
-use Rattle.std.proofs.Common.{◌≡◌, ℕ, zero, suc, ◌<◌, ◌+◌, inl, inr, true, false, not, Some, List, [], ◌∷◌}
-use Rattle.std.proofs.Common.{◌++◌, length, refl, sym, ap, ◌∙◌, subst, slice_get, arith, drop, flat_map}
-use Rattle.std.proofs.Common.{decimal, map, slice_index_or, codes}
-use Rattle.std.specs.List.{AllByRecursion}
-use Rattle.std.proofs.lemmas.Bool.{not-true, cases_Bool, agree_below_at}
-use Rattle.std.proofs.lemmas.Fmt.{decimal_digit}
-use Rattle.std.proofs.lemmas.Option.{get_or_from_slice_get}
-use Rattle.lw_base.specs.Types.{Bytes, NameTable}
-use Rattle.lw_base.specs.Characters.{digit, is_blank, is_word_byte, begins}
-use Rattle.lw_base.specs.Limits.{most_threads}
-use Rattle.lw_base.specs.Names.{IsLocation, IsTable}
-use Rattle.lw_base.specs.Schedules.{IsEvent, event_word, schedule_text, words, IsSchedule}
-use Rattle.lw_base.specs.declared.event.Event.{Event}
-use Rattle.lw_base.specs.declared.event.Event.TheVariants.{Step, Drain, Evict}
+use Rattle.lw_base.proofs.Common.{◌≡◌, ℕ, zero, suc, ◌<◌, ◌+◌, inl, inr, true, false, not, Some, List, []}
+use Rattle.lw_base.proofs.Common.{◌∷◌, ◌++◌, length, refl, sym, ap, ◌∙◌, subst, slice_get, arith, drop}
+use Rattle.lw_base.proofs.Common.{flat_map, decimal, map, slice_index_or, codes, AllByRecursion, not-true}
+use Rattle.lw_base.proofs.Common.{cases_Bool, agree_below_at, decimal_digit, get_or_from_slice_get, Bytes}
+use Rattle.lw_base.proofs.Common.{NameTable, digit, is_blank, is_word_byte, begins, most_threads, IsLocation}
+use Rattle.lw_base.proofs.Common.{IsTable, IsEvent, event_word, schedule_text, words, IsSchedule, Event, Step}
+use Rattle.lw_base.proofs.Common.{Drain, Evict}
 use Rattle.lw_base.proofs.api.Blanks.{blank_all}
 use Rattle.lw_base.proofs.Words.{words-behind, words-first}
 
@@ -110,7 +103,7 @@ module _ (names : NameTable) (table : IsTable names) where
   row_read e [] is all = first_word e [] is refl
   row_read e (f ∷ es) is all =
       let behind : words (rest_of (f ∷ es)) ≡ words (event_word names f ++ rest_of es) = words-behind
-          (rest_of (f ∷ es)) (32 ∷ []) (event_word names f ++ rest_of es) refl (refl, tt) in
+      (rest_of (f ∷ es)) (32 ∷ []) (event_word names f ++ rest_of es) refl (refl, tt) in
       first_word e (rest_of (f ∷ es)) is refl ∙ ap (λ ws. event_word names e ∷ ws) (behind ∙ row_read f es all.0 all.1)
 
 pub written_is_read : (names : NameTable) (events : List Event) → IsTable names

@@ -1,40 +1,17 @@
 -- The outcomes of the classic tests, by searches through their runs.
-use Rattle.std.proofs.Common.{◌≡◌, ℕ, zero, suc, ◌^◌, ◌<◌, ◌≤◌, ◌==◌, not, Bool, true, false, List, [], ◌∷◌}
-use Rattle.std.proofs.Common.{refl, sym, ap, ◌∙◌, subst, arith, slice_index, length, None, Some, slice_get}
-use Rattle.std.proofs.Common.{codes, replicate, slice_index_or, Contains}
-use Rattle.std.specs.Char.{is_ascii_digit}
-use Rattle.std.specs.List.{AllByRecursion}
-use Rattle.std.specs.Option.{ForSome}
-use Rattle.std.proofs.lemmas.Bool.{false≢true}
-use Rattle.std.proofs.lemmas.List.Elements.{All-nil, All-cons}
-use Rattle.std.proofs.lemmas.Option.{none-some, same_Some}
-use Rattle.lw_base.specs.Characters.{is_word_byte}
-use Rattle.lw_base.specs.Formula.{Formula, nodes}
-use Rattle.lw_base.specs.Names.{is_reserved, IsLocation, IsTestName}
-use Rattle.lw_base.specs.Outcomes.{Final}
-use Rattle.lw_base.specs.WellFormed.{IsRegisterNumber, IsWordNumber, SpeaksOf, IsWellFormedHead}
-use Rattle.lw_base.specs.declared.head.Arch.{Arch}
-use Rattle.lw_base.specs.declared.head.Arch.TheVariants.{X86}
-use Rattle.lw_base.specs.declared.head.Quant.{Quant}
-use Rattle.lw_base.specs.declared.head.Quant.TheVariants.{Exists, NotExists}
-use Rattle.lw_base.specs.declared.operand.Operand.TheVariants.{Number}
-use Rattle.lw_litmus.specs.Operations.{target_of}
-use Rattle.lw_litmus.specs.Programs.{x86, x86_operation}
-use Rattle.lw_litmus.specs.WellFormedTests.{IsWellFormedProgram}
-use Rattle.lw_litmus.specs.Tests.{ProgramTest}
-use Rattle.lw_litmus.specs.WellFormed.{IsStatement, IsThread}
-use Rattle.lw_litmus.specs.declared.instr.Instr.{Instr}
-use Rattle.lw_base.specs.declared.event.Event.{Event}
-use Rattle.lw_base.specs.declared.event.Event.TheVariants.{Step, Drain}
-use Rattle.lw_interleaving.specs.Runs.{start_of, SourceOutcome}
-use Rattle.lw_memory.specs.Flat.{flat}
-use Rattle.lw_report.specs.Truth.{is_true}
-use Rattle.lw_tso.specs.Machines.{MachineState}
-use Rattle.lw_tso.specs.Processors.{Processor}
-use Rattle.lw_tso.specs.Runs.{MachineOutcome, MachineRan, machine_start, machine_outcome}
-use Rattle.lw_tso.proofs.api.Effects.{state}
-use Rattle.lw_bench.specs.Classics.{two_threads, both_loads_are_early, flag_without_message, store_buffering}
-use Rattle.lw_bench.specs.Classics.{store_buffering_in_x86, message_passing_in_x86}
+use Rattle.lw_bench.proofs.Common.{◌≡◌, ℕ, zero, suc, ◌^◌, ◌<◌, ◌≤◌, ◌==◌, not, Bool, true, false, List, []}
+use Rattle.lw_bench.proofs.Common.{◌∷◌, refl, sym, ap, ◌∙◌, subst, arith, slice_index, length, None, Some}
+use Rattle.lw_bench.proofs.Common.{slice_get, codes, replicate, slice_index_or, Contains, is_ascii_digit}
+use Rattle.lw_bench.proofs.Common.{AllByRecursion, ForSome, false≢true, All-nil, All-cons, none-some}
+use Rattle.lw_bench.proofs.Common.{same_Some, is_word_byte, Formula, nodes, is_reserved, IsLocation}
+use Rattle.lw_bench.proofs.Common.{IsTestName, Final, IsRegisterNumber, IsWordNumber, SpeaksOf}
+use Rattle.lw_bench.proofs.Common.{IsWellFormedHead, Arch, X86, Quant, Exists, NotExists, Number, target_of}
+use Rattle.lw_bench.proofs.Common.{x86, x86_operation, IsWellFormedProgram, ProgramTest, IsStatement}
+use Rattle.lw_bench.proofs.Common.{IsThread, Instr, Event, Step, Drain, start_of, SourceOutcome, flat}
+use Rattle.lw_bench.proofs.Common.{is_true, MachineState, Processor, MachineOutcome, MachineRan}
+use Rattle.lw_bench.proofs.Common.{machine_start, machine_outcome, state, two_threads, both_loads_are_early}
+use Rattle.lw_bench.proofs.Common.{flag_without_message, store_buffering, store_buffering_in_x86}
+use Rattle.lw_bench.proofs.Common.{message_passing_in_x86}
 use Rattle.lw_bench.proofs.Searches.{ends_so, searched, machine_ends_so, machine_searched}
 use Rattle.lw_litmus.specs.declared.instr.Instr.TheVariants as instr
 
@@ -151,18 +128,40 @@ program_formed test a b is two locs arch head first second = record {
 pub store_buffering_formed : IsWellFormedProgram store_buffering_in_x86
 store_buffering_formed =
     program_formed store_buffering_in_x86 _ _ refl refl refl refl (head_formed (codes "SB-x86") X86 Exists
-    both_loads_are_early (record { some = omega arith; short = omega arith; all
-    = (refl, (refl, (refl, (refl, (refl, (refl, tt)))))) }) (omega arith) ((omega arith, omega arith, omega
-    arith), (omega arith, omega arith, omega arith))) (two_formed _ _ refl refl (store_formed 0 1
+    both_loads_are_early (record {
+      some = omega arith;
+      short = omega arith;
+      all
+          = (refl, (refl, (refl, (refl, (refl, (refl, tt))))));
+    }) (omega arith) (
+      (
+        omega arith,
+        omega arith,
+        omega
+            arith,
+      ),
+      (omega arith, omega arith, omega arith),
+    )) (two_formed _ _ refl refl (store_formed 0 1
     (omega arith) (omega arith)) (load_formed 0 1 (omega arith) (omega arith))) (two_formed _ _ refl refl
     (store_formed 1 1 (omega arith) (omega arith)) (load_formed 0 0 (omega arith) (omega arith)))
 
 pub message_passing_formed : IsWellFormedProgram message_passing_in_x86
 message_passing_formed =
     program_formed message_passing_in_x86 _ _ refl refl refl refl (head_formed (codes "MP-x86") X86 NotExists
-    flag_without_message (record { some = omega arith; short = omega arith; all
-    = (refl, (refl, (refl, (refl, (refl, (refl, tt)))))) }) (omega arith) ((omega arith, omega arith, omega
-    arith), (omega arith, omega arith, omega arith))) (two_formed _ _ refl refl (store_formed 0 1
+    flag_without_message (record {
+      some = omega arith;
+      short = omega arith;
+      all
+          = (refl, (refl, (refl, (refl, (refl, (refl, tt))))));
+    }) (omega arith) (
+      (
+        omega arith,
+        omega arith,
+        omega
+            arith,
+      ),
+      (omega arith, omega arith, omega arith),
+    )) (two_formed _ _ refl refl (store_formed 0 1
     (omega arith) (omega arith)) (store_formed 1 1 (omega arith) (omega arith))) (two_formed _ _ refl refl
     (load_formed 0 1 (omega arith) (omega arith)) (load_formed 1 0 (omega arith) (omega arith)))
 

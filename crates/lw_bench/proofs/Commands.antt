@@ -1,16 +1,11 @@
 -- The words of a command, one after another.
-use Rattle.std.proofs.Common.{◌≡◌, ◌≤◌, ◌<◌, ◌-◌, ◌==◌, ℕ, Bool, true, false, not, nat_eq, Option, Some, None}
-use Rattle.std.proofs.Common.{List, [], ◌∷◌, length, map, take, drop, inl, inr, refl, sym, ap, ◌∙◌, subst}
-use Rattle.std.proofs.Common.{codes, arith, Bor, MatchOption, slice_index_or, take_all}
-use Rattle.std.specs.Cmp.{unsigned_Decides}
-use Rattle.std.specs.Cmp.Lexicographic.{pointwise, pointwise_decides}
-use Rattle.lw_base.specs.Refusals.{NoSuch}
-use Rattle.lw_base.proofs.api.Lists.{cons_head}
-use Rattle.lw_mesi.specs.declared.protocol.Protocol.{Protocol}
-use Rattle.lw_bench.specs.declared.command.Task.{Task}
-use Rattle.lw_bench.specs.declared.command.Task.TheVariants.{States, Compile, Schedules, Replay}
-use Rattle.lw_mesi.specs.Protocols.{protocol_name}
-use Rattle.lw_bench.specs.Commands.{IsProtocolOption, IsCommand}
+use Rattle.lw_bench.proofs.Common.{◌≡◌, ◌≤◌, ◌<◌, ◌-◌, ◌==◌, ℕ, Bool, true, false, not, nat_eq, Option, Some}
+use Rattle.lw_bench.proofs.Common.{None, List, [], ◌∷◌, length, map, take, drop, inl, inr, refl, sym, ap, ◌∙◌}
+use Rattle.lw_bench.proofs.Common.{subst, codes, arith, Bor, MatchOption, slice_index_or, take_all}
+use Rattle.lw_bench.proofs.Common.{unsigned_Decides, pointwise, pointwise_decides, NoSuch, cons_head}
+use Rattle.lw_bench.proofs.Common.{Protocol, Task, States, Compile, Schedules, protocol_name}
+use Rattle.lw_bench.proofs.Common.{IsProtocolOption, IsCommand}
+use Rattle.lw_bench.specs.declared.command.Task.TheVariants.{Replay}
 
 abbrev pub Words : Type 0
 Words = List (Bor (List ℕ))
@@ -74,7 +69,7 @@ module _ (words : Words) (many : 2 ≤ length words) (few : length words < 3) (d
       (λ p. protocol_name p ≡ word_at words 1) → Gives IsProtocolOption (texts words) r
   option_told (Some p) same known =
       inl (two words many few ∙ ap (λ n. n ∷ word_at words 1 ∷ []) (is_equal (word_at words 0)
-          (codes "--protocol") differs is same) ∙ ap (λ n. codes "--protocol" ∷ n ∷ []) (sym known))
+      (codes "--protocol") differs is same) ∙ ap (λ n. codes "--protocol" ∷ n ∷ []) (sym known))
   option_told None same none = go
     where
       go : (p : Protocol) → IsProtocolOption (texts words) p → ⊥

@@ -1,13 +1,6 @@
 -- Outcomes of compiled programs.
-use Rattle.std.proofs.Common.{◌↔◌}
-use Rattle.lw_base.specs.Outcomes.{Final}
-use Rattle.lw_memory.specs.Flat.{flat}
-use Rattle.lw_mesi.specs.declared.protocol.Protocol.{Protocol}
-use Rattle.lw_interleaving.specs.Runs.{SourceOutcome}
-use Rattle.lw_litmus.specs.Tests.{SourceTest, ProgramTest}
-use Rattle.lw_tso.specs.Runs.{MachineOutcome}
-use Rattle.lw_litmus.specs.WellFormedTests.{IsWellFormedProgram}
-use Rattle.lw_whole.specs.OverCaches.{OutcomeOverCaches}
+use Rattle.lw_bench.proofs.Common.{◌↔◌, Final, flat, Protocol, SourceOutcome, SourceTest, ProgramTest}
+use Rattle.lw_bench.proofs.Common.{MachineOutcome, IsWellFormedProgram, OutcomeOverCaches}
 
 -- outcomes over caches, by those over flat memory
 pub by_flat : (test : SourceTest) (program : ProgramTest)

@@ -1,8 +1,6 @@
 -- Which faults are a device's, and which are not.
-use Rattle.std.proofs.Common.{Bool, true, false, ◌↔◌, ◌≡◌, ◌≢◌, sym, ap, ◌∙◌, Result, Ok, Err, if◌then◌else◌}
-use Rattle.std.proofs.Common.{refl}
-use Rattle.lw_bench.specs.declared.fault.BenchFault.{BenchFault}
-use Rattle.lw_bench.specs.declared.fault.BenchFault.TheVariants.{Memory, Read, Write}
+use Rattle.lw_bench.proofs.Common.{Bool, true, false, ◌↔◌, ◌≡◌, ◌≢◌, sym, ap, ◌∙◌, Result, Ok, Err}
+use Rattle.lw_bench.proofs.Common.{if◌then◌else◌, refl, BenchFault, Memory, Read, Write}
 
 -- two answers that are the same fault
 pub err_is : {T E : Type 0} {a b : E} → (let e : Result T E = Err a in e) ≡ Err b → a ≡ b

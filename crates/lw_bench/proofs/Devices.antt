@@ -1,10 +1,9 @@
 -- Bytes that came in and went out, one piece more.
-use Rattle.std.proofs.Common.{arith, inl, inr, refl, ◌≡◌, ◌≢◌, ℕ, zero, suc, ◌-◌, ◌<◌, ◌≤◌, Option, Some}
-use Rattle.std.proofs.Common.{None, List, [], ◌∷◌, ◌++◌, length, length-append, take, drop, sym, ap, ◌∙◌}
-use Rattle.std.proofs.Common.{subst, append_assoc, length-take-le, take-append-drop}
-use Rattle.std.proofs.lemmas.List.{take-append-le}
-use Rattle.std.specs.Io.KnownBytes.{Appends, Consumes, IsAtEnd, Keeps}
-use Rattle.lw_bench.specs.Devices.{IsInput, TakesInput, TakesSome, Gets, Loses, Puts}
+use Rattle.lw_bench.proofs.Common.{arith, inl, inr, refl, ◌≡◌, ◌≢◌, ℕ, zero, suc, ◌-◌, ◌<◌, ◌≤◌, Option, Some}
+use Rattle.lw_bench.proofs.Common.{None, List, [], ◌∷◌, ◌++◌, length, length-append, take, drop, sym, ap, ◌∙◌}
+use Rattle.lw_bench.proofs.Common.{subst, append_assoc, length-take-le, take-append-drop, take-append-le}
+use Rattle.lw_bench.proofs.Common.{Appends, Consumes, IsAtEnd, Keeps, IsInput, TakesInput, TakesSome, Gets}
+use Rattle.lw_bench.proofs.Common.{Loses, Puts}
 
 Appends-more : (a b c : Option (List ℕ)) (xs ys : List ℕ) → Appends a b xs → Appends b c ys → Appends a c (xs ++ ys)
 Appends-more None b c xs ys h k = tt

@@ -1,18 +1,12 @@
 -- From what is told of a listing to what is told of the set of its outcomes, whatever the set is and whatever a schedule
 -- leads to.
-use Rattle.std.proofs.Common.{◌≡◌, ◌⊎◌, inl, inr, ℕ, ◌<◌, ◌↔◌, List, [], ◌∷◌, zero, suc, Some, map, refl, sym}
-use Rattle.std.proofs.Common.{ap, ◌∙◌, subst, slice_get, arith, All, Contains, slice_index_or, Less}
-use Rattle.std.proofs.lemmas.Bool.{cases_lt}
-use Rattle.std.proofs.lemmas.List.Elements.{All-map, All-weaker}
-use Rattle.std.proofs.lemmas.Option.{slice_get-get_or, slice_get_within, get_or_from_slice_get}
-use Rattle.lw_base.specs.Heads.{TestHead}
-use Rattle.lw_base.specs.Outcomes.{Final, final_cmp}
-use Rattle.lw_base.specs.declared.event.Event.{Event}
-use Rattle.lw_listing.specs.Listings.{OutcomeEntries, outcomes_of, schedules_of, IsStrictlySorted}
-use Rattle.lw_report.specs.Reports.{IsReport, IsScheduleList, report_text, schedule_list_text, scheduled}
-use Rattle.lw_report.specs.States.{Shown, AreStatesOf, IsSmallestOf, ListedState, shown_of, ShowsFirst}
-use Rattle.lw_report.specs.States.{AreListedStates}
-use Rattle.lw_report.specs.declared.judgement.Claim.{Claim}
+use Rattle.lw_bench.proofs.Common.{◌≡◌, ◌⊎◌, inl, inr, ℕ, ◌<◌, ◌↔◌, List, [], ◌∷◌, zero, suc, Some, map, refl}
+use Rattle.lw_bench.proofs.Common.{sym, ap, ◌∙◌, subst, slice_get, arith, All, Contains, slice_index_or, Less}
+use Rattle.lw_bench.proofs.Common.{cases_lt, All-map, All-weaker, slice_get-get_or, slice_get_within}
+use Rattle.lw_bench.proofs.Common.{get_or_from_slice_get, TestHead, Final, final_cmp, Event, OutcomeEntries}
+use Rattle.lw_bench.proofs.Common.{outcomes_of, schedules_of, IsStrictlySorted, IsReport, IsScheduleList}
+use Rattle.lw_bench.proofs.Common.{report_text, schedule_list_text, scheduled, Shown, AreStatesOf}
+use Rattle.lw_bench.proofs.Common.{IsSmallestOf, ListedState, shown_of, ShowsFirst, AreListedStates, Claim}
 
 module _ (head : TestHead) (Has : Final → Type 0) (entries : OutcomeEntries) (same : (o : Final) → Contains (outcomes_of entries) o ↔ Has o) where
   states_of_set : (states : List Shown) → AreStatesOf head (Contains (outcomes_of entries)) states → AreStatesOf head Has states
@@ -83,8 +77,12 @@ module _ (head : TestHead) (Has : Final → Type 0) (entries : OutcomeEntries) (
         lead = All-map (λ s. (o : Final) × IsSmallestOf head Has s.0.words o × Leads s.1 o)
             (scheduled (schedules_of entries)) states (All-weaker (ShowsFirst head (outcomes_of entries))
             (λ (s : ListedState). (o : Final) × IsSmallestOf head Has s.words o
-            × Leads (slice_index_or (schedules_of entries) s.entry []) o) (λ s shows. (shows.outcome, smallest
-            s shows, leads_at s.entry shows.outcome shows.at)) states listed.entries);
+            × Leads (slice_index_or (schedules_of entries) s.entry []) o) (λ s shows. (
+              shows.outcome,
+              smallest
+                  s shows,
+              leads_at s.entry shows.outcome shows.at,
+            )) states listed.entries);
         is = is;
       }
         where

@@ -1,25 +1,18 @@
 -- A frame says one test, of its own language.
-use Rattle.std.proofs.Common.{◌≡◌, sym, ap, ◌∙◌}
-use Rattle.lw_base.specs.declared.head.Arch.{Arch}
-use Rattle.lw_base.specs.declared.head.Arch.TheVariants.{Source, X86}
-use Rattle.lw_text.specs.Frames.{TestFrame}
-use Rattle.lw_litmus.specs.Tests.{SourceTest, ProgramTest}
-use Rattle.lw_source.specs.Grammar.{HasSource}
-use Rattle.lw_x86.specs.Grammar.{HasProgram}
-use Rattle.lw_bench.specs.LitmusTests.{LitmusTest, Of_source, Of_x86}
-use Rattle.lw_bench.specs.TestTexts.{FrameSays}
+use Rattle.lw_bench.proofs.Common.{◌≡◌, sym, ap, ◌∙◌, Arch, Source, X86, TestFrame, SourceTest, ProgramTest}
+use Rattle.lw_bench.proofs.Common.{HasSource, HasProgram, LitmusTest, Of_source, Of_x86, FrameSays}
 
 apart : (let arch : Arch = Source in arch) ≡ X86 → ⊥
 apart same = cc
 
 module _ (one_source : (frame : TestFrame) (s t : SourceTest) → HasSource frame s → HasSource frame t → s ≡ t)
     (one_program : (frame : TestFrame) (p q : ProgramTest) → HasProgram frame p → HasProgram frame q → p ≡ q)
-    where
-  pub one_test : (frame : TestFrame) (s t : LitmusTest) → FrameSays frame s → FrameSays frame t → s ≡ t
-  one_test frame (Of_source s) (Of_source t) says other = ap Of_source (one_source frame s t says other)
-  one_test frame (Of_source s) (Of_x86 t) says other = absurd (apart (sym says.arch ∙ other.arch))
-  one_test frame (Of_x86 s) (Of_source t) says other = absurd (apart (sym other.arch ∙ says.arch))
-  one_test frame (Of_x86 s) (Of_x86 t) says other = ap Of_x86 (one_program frame s t says other)
+  where
+    pub one_test : (frame : TestFrame) (s t : LitmusTest) → FrameSays frame s → FrameSays frame t → s ≡ t
+    one_test frame (Of_source s) (Of_source t) says other = ap Of_source (one_source frame s t says other)
+    one_test frame (Of_source s) (Of_x86 t) says other = absurd (apart (sym says.arch ∙ other.arch))
+    one_test frame (Of_x86 s) (Of_source t) says other = absurd (apart (sym other.arch ∙ says.arch))
+    one_test frame (Of_x86 s) (Of_x86 t) says other = ap Of_x86 (one_program frame s t says other)
 
 -- A frame of a language, whose cells say no test of it, says none.
 pub no_source : (frame : TestFrame) → frame.head.arch ≡ Source → ((s : SourceTest) → HasSource frame s → ⊥) → (test : LitmusTest) → FrameSays frame test → ⊥

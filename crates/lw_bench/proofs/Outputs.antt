@@ -1,11 +1,7 @@
 -- What is said of the input, from what is said of the bytes of it that were read.
-use Rattle.std.proofs.Common.{◌≡◌, ◌≤◌, ◌⊎◌, inl, inr, ℕ, Option, Some, None, List, [], ◌++◌, length, sym, ap}
-use Rattle.std.proofs.Common.{◌∙◌, subst, length-append, arith, append-nil}
-use Rattle.std.specs.Io.KnownBytes.{Appends}
-use Rattle.lw_bench.specs.Devices.{IsInput}
-use Rattle.lw_bench.specs.LitmusTests.{LitmusTest}
-use Rattle.lw_bench.specs.TestTexts.{HasTest}
-use Rattle.lw_bench.specs.Outputs.{Makes, Writes}
+use Rattle.lw_bench.proofs.Common.{◌≡◌, ◌≤◌, ◌⊎◌, inl, inr, ℕ, Option, Some, None, List, [], ◌++◌, length}
+use Rattle.lw_bench.proofs.Common.{sym, ap, ◌∙◌, subst, length-append, arith, append-nil, Appends, IsInput}
+use Rattle.lw_bench.proofs.Common.{LitmusTest, HasTest, Makes, Writes}
 
 -- Bytes that came in: the whole input, or more than a test has.
 module _ (input bytes : List ℕ) (is : (rest : List ℕ) × (input ≡ bytes ++ rest) × ((rest ≡ []) ⊎ (length bytes ≡ 65537))) where

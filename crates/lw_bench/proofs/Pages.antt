@@ -1,25 +1,12 @@
 -- The text of a replay, one part more.
-use Rattle.std.proofs.Common.{◌≡◌, ℕ, suc, ◌<◌, ◌≤◌, ◌+◌, Some, List, [], ◌∷◌, ◌++◌, length, map, drop}
-use Rattle.std.proofs.Common.{slice_get, refl, sym, ap, ◌∙◌, append_assoc, codes, Result, Ok, Err, OnOk}
-use Rattle.std.proofs.Common.{is_ok, if◌then◌else◌, arith, option_map, decimal, append-nil, drop-cons}
-use Rattle.std.proofs.lemmas.List.{drop_all}
-use Rattle.std.proofs.lemmas.Option.{slice_get-map, slice_get_within, get_or_from_slice_get}
-use Rattle.std.proofs.lemmas.Result.{on_ok_weaker}
-use Rattle.lw_base.proofs.api.Writing.{both_written}
-use Rattle.lw_base.specs.Heads.{TestHead}
-use Rattle.lw_base.specs.declared.head.Arch.{Arch}
-use Rattle.lw_base.specs.declared.stop.Replay.{Replay}
-use Rattle.lw_base.specs.declared.stop.Stop.{Stop}
-use Rattle.lw_base.specs.declared.stop.End.{End}
-use Rattle.lw_base.specs.declared.stop.End.TheVariants.{Stopped}
-use Rattle.lw_base.specs.Registers.{register_name}
-use Rattle.lw_base.specs.Stops.{stop_number, stop_name}
-use Rattle.lw_interleaving.specs.Runs.{State}
-use Rattle.lw_interleaving.specs.declared.thread.Thread.{Thread}
-use Rattle.lw_tso.specs.Processors.{Processor}
-use Rattle.lw_memory.specs.declared.system.LineState.{LineState}
-use Rattle.lw_bench.specs.Pages.{numbered, first_lines, end_text, register_names, thread_line, word_line}
-use Rattle.lw_bench.specs.Pages.{processor_title, processor_lines, source_page, machine_page}
+use Rattle.lw_bench.proofs.Common.{◌≡◌, ℕ, suc, ◌<◌, ◌≤◌, ◌+◌, Some, List, [], ◌∷◌, ◌++◌, length, map, drop}
+use Rattle.lw_bench.proofs.Common.{slice_get, refl, sym, ap, ◌∙◌, append_assoc, codes, Result, Ok, Err, OnOk}
+use Rattle.lw_bench.proofs.Common.{is_ok, if◌then◌else◌, arith, option_map, decimal, append-nil, drop-cons}
+use Rattle.lw_bench.proofs.Common.{drop_all, slice_get-map, slice_get_within, get_or_from_slice_get}
+use Rattle.lw_bench.proofs.Common.{on_ok_weaker, both_written, TestHead, Arch, Replay, Stop, End, Stopped}
+use Rattle.lw_bench.proofs.Common.{register_name, stop_number, stop_name, State, Thread, Processor, LineState}
+use Rattle.lw_bench.proofs.Common.{numbered, first_lines, end_text, register_names, thread_line, word_line}
+use Rattle.lw_bench.proofs.Common.{processor_title, processor_lines, source_page, machine_page}
 
 drop_at : {X : Type 0} (xs : List X) (k : ℕ) (x : X) → slice_get xs k ≡ Some x → drop k xs ≡ x ∷ drop (k + 1) xs
 drop_at xs k x at =
@@ -48,7 +35,7 @@ module _ {X : Type 0} {tell : ℕ → X → List ℕ} {xs : List X} {start out :
 
       parts : numbered tell k (drop k xs) ≡ tell k x ++ rest
       parts = ap (numbered tell k) (drop_at xs k x at) ∙ ap (λ (n : ℕ). tell k x ++ numbered tell n (drop (k + 1) xs))
-        (let e : suc k ≡ k + 1 = omega arith in e)
+          (let e : suc k ≡ k + 1 = omega arith in e)
 
   -- all of them
   pub told_all : length xs ≤ k → out ≡ start ++ numbered tell 0 xs
@@ -120,5 +107,5 @@ machine_page_told head r processors held memory content start one two three new 
     let second = word_line (codes "Content") head.locs in
     let all = numbered (processor_lines head held) 0 processors in
     let last = three_written one all (first memory) _ two three new f (h ∙ ap (λ (ws : List ℕ). two ++ first
-        ws) is_memory) (i ∙ ap (λ (ws : List ℕ). three ++ second ws) is_content) in
+    ws) is_memory) (i ∙ ap (λ (ws : List ℕ). three ++ second ws) is_content) in
     both_written start one new (first_lines head r) (all ++ (first memory ++ second content)) e last

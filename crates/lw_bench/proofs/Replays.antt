@@ -1,11 +1,6 @@
 -- Pages of replays: from what was read to what they tell.
-use Rattle.std.proofs.Common.{◌≡◌, ℕ, List, subst}
-use Rattle.lw_base.specs.declared.event.Event.{Event}
-use Rattle.lw_base.specs.declared.stop.End.{End}
-use Rattle.lw_base.specs.Schedules.{IsSchedule}
-use Rattle.lw_mesi.specs.declared.protocol.Protocol.{Protocol}
-use Rattle.lw_bench.specs.LitmusTests.{LitmusTest, head_of_test}
-use Rattle.lw_bench.specs.Replays.{IsPageOf, IsReplayPage}
+use Rattle.lw_bench.proofs.Common.{◌≡◌, ℕ, List, subst, Event, End, IsSchedule, Protocol, LitmusTest}
+use Rattle.lw_bench.proofs.Common.{head_of_test, IsPageOf, IsReplayPage}
 
 -- A page tells of a test that was read, by the schedule's events, over the caches of a protocol.
 pub page_told : (protocol : Protocol) (test : LitmusTest) (locs : List (List ℕ)) (schedule : List ℕ) (events listed : List Event) (page : List ℕ) (end : End)

@@ -1,24 +1,13 @@
 -- Exhaustive searches through the runs of small tests: where a search finds that all ends are so, the end of every run is.
-use Rattle.std.proofs.Common.{◌≡◌, ℕ, zero, suc, ◌<◌, ◌&&◌, Bool, true, false, if◌then◌else◌, List, [], ◌∷◌}
-use Rattle.std.proofs.Common.{length, map, Result, Ok, Err, Option, Some, None, refl, sym, ap, ◌∙◌, subst}
-use Rattle.std.proofs.Common.{slice_get, slice_set, slice_index, option_map, nat_lt, IsTrue}
-use Rattle.std.proofs.lemmas.Bool.{and_parts, agree_below, agree_below_at, false≢true}
-use Rattle.std.proofs.lemmas.Option.{slice_get_within, same_Some}
-use Rattle.lw_base.specs.Outcomes.{Final}
-use Rattle.lw_base.specs.Sums.{sum_of}
-use Rattle.lw_base.specs.declared.event.Event.{Event}
-use Rattle.lw_base.specs.declared.event.Event.TheVariants.{Step, Drain, Evict}
-use Rattle.lw_base.specs.declared.stop.Stop.{Stop}
-use Rattle.lw_base.specs.declared.stop.Stop.TheVariants.{NoCpu, NoLocation, NotHeld}
-use Rattle.lw_interleaving.specs.Runs.{State, step_of, source_step, is_source_final, outcome_of, SourceRan}
-use Rattle.lw_interleaving.specs.declared.thread.Thread.{Thread}
-use Rattle.lw_litmus.specs.declared.instr.Instr.{Instr}
-use Rattle.lw_litmus.specs.declared.stmt.Stmt.{Stmt}
-use Rattle.lw_memory.specs.Flat.{flat}
-use Rattle.lw_tso.specs.Acts.{Act, Refused, Goes, Loads, Stores, Swaps, Adds, Evicts, cpu_of, event_act}
-use Rattle.lw_tso.specs.Machines.{MachineState, Answer, ActDone, DoneBy, EventDone}
-use Rattle.lw_tso.specs.Processors.{Processor}
-use Rattle.lw_tso.proofs.api.Effects.{state}
+use Rattle.lw_bench.proofs.Common.{◌≡◌, ℕ, zero, suc, ◌<◌, ◌&&◌, Bool, true, false, if◌then◌else◌, List, []}
+use Rattle.lw_bench.proofs.Common.{◌∷◌, length, map, Result, Ok, Err, Option, Some, None, refl, sym, ap, ◌∙◌}
+use Rattle.lw_bench.proofs.Common.{subst, slice_get, slice_set, slice_index, option_map, nat_lt, IsTrue}
+use Rattle.lw_bench.proofs.Common.{and_parts, agree_below, agree_below_at, false≢true, slice_get_within}
+use Rattle.lw_bench.proofs.Common.{same_Some, Final, sum_of, Event, Step, Drain, Evict, Stop, NoCpu}
+use Rattle.lw_bench.proofs.Common.{NoLocation, NotHeld, State, step_of, source_step, is_source_final}
+use Rattle.lw_bench.proofs.Common.{outcome_of, SourceRan, Thread, Instr, Stmt, flat, Act, Refused, Goes}
+use Rattle.lw_bench.proofs.Common.{Loads, Stores, Swaps, Adds, Evicts, cpu_of, event_act, MachineState}
+use Rattle.lw_bench.proofs.Common.{Answer, ActDone, DoneBy, EventDone, Processor, state}
 use Rattle.lw_tso.specs.Runs as machine
 
 if_so : (b : Bool) (x : Bool) → (if b then x else true) ≡ true → b ≡ true → x ≡ true
@@ -141,6 +130,6 @@ module _ (program : List (List Instr)) where
         machine_searched n events ran.0 end (subst (λ r. reached_ok (machine_ends_so n) r ≡ true) (event_is (Step t) s ran.0 ran.1) each) ran.2 final
     machine_searched (suc n) (Drain t ∷ events) s end so ran final =
         let each = agree_below_at (λ t. reached_ok (machine_ends_so n) (event_after (Drain t) s)) (λ t. true)
-            (length s.processors) t (and_parts _ _ (and_parts _ _ so).1).1 (there (Drain t) s ran.0 ran.1) in
+        (length s.processors) t (and_parts _ _ (and_parts _ _ so).1).1 (there (Drain t) s ran.0 ran.1) in
         machine_searched n events ran.0 end (subst (λ r. reached_ok (machine_ends_so n) r ≡ true) (event_is (Drain t) s ran.0 ran.1) each) ran.2 final
     machine_searched (suc n) (Evict t x ∷ events) s end so ran final = absurd (none_evicted t x s ran.0 ran.1)

@@ -1,9 +1,6 @@
 -- What a run takes from its reader, whatever it tells.
-use Rattle.std.proofs.Common.{◌≡◌, Bool, true, false, ℕ, Option, List, if◌then◌else◌, subst, sym}
-use Rattle.lw_bench.specs.Devices.{TakesInput, TakesSome}
-use Rattle.lw_bench.specs.Told.{TakesAt}
-use Rattle.lw_bench.specs.declared.fault.BenchFault.{BenchFault}
-use Rattle.lw_bench.specs.declared.fault.BenchFault.TheVariants.{Memory, Read}
+use Rattle.lw_bench.proofs.Common.{◌≡◌, Bool, true, false, ℕ, Option, List, if◌then◌else◌, subst, sym}
+use Rattle.lw_bench.proofs.Common.{TakesInput, TakesSome, TakesAt, BenchFault, Memory, Read}
 use Rattle.lw_bench.proofs.Devices.{all_is_some}
 
 module _ (before after : Option (List ℕ)) where

@@ -1,28 +1,13 @@
 -- From the list of a test to its report and to its list of schedules.
-use Rattle.std.proofs.Common.{◌≡◌, ◌↔◌, ℕ, List, length, map, refl, sym, subst, All, Contains, Result, Ok}
-use Rattle.std.proofs.Common.{Err, IfOk, OnOk}
-use Rattle.std.specs.List.{AllByRecursion}
-use Rattle.std.proofs.lemmas.List.Elements.{All-map, All-weaker}
-use Rattle.lw_base.specs.Heads.{TestHead}
-use Rattle.lw_base.specs.Outcomes.{Final, IsOutcomeOf}
-use Rattle.lw_base.specs.Schedules.{IsEvent}
-use Rattle.lw_base.specs.declared.event.Event.{Event}
-use Rattle.lw_choices.specs.declared.fault.ListFault.{ListFault}
-use Rattle.lw_base.specs.Entries.{IsEntryOf}
-use Rattle.lw_listing.specs.Listings.{OutcomeEntries, outcomes_of, schedules_of, IsStrictlySorted}
-use Rattle.lw_finals.specs.Lists.{ListsMachine}
-use Rattle.lw_whole.specs.OverCaches.{ReplaysOverCaches, OutcomeOverCaches}
-use Rattle.lw_mesi.specs.declared.protocol.Protocol.{Protocol}
-use Rattle.lw_mesi.specs.declared.protocol.Protocol.TheVariants.{Mesi}
-use Rattle.lw_report.specs.Reports.{report_text, schedule_list_text, scheduled}
-use Rattle.lw_report.specs.States.{ListedState, shown_of, AreListedStates}
-use Rattle.lw_report.specs.declared.judgement.Claim.TheVariants.{Exact}
-use Rattle.lw_interleaving.specs.Runs.{SourceOutcome}
-use Rattle.lw_litmus.specs.Tests.{SourceTest, ProgramTest}
-use Rattle.lw_bench.specs.LitmusTests.{LitmusTest, Of_source, Of_x86, head_of_test}
-use Rattle.lw_bench.specs.Outcomes.{OutcomeOf, LeadsTo}
-use Rattle.lw_bench.specs.Lists.{HasList, IsStatesReport, IsScheduleReport}
-use Rattle.lw_bench.specs.inner.Listed.{IsListOf}
+use Rattle.lw_bench.proofs.Common.{◌≡◌, ◌↔◌, ℕ, List, length, map, refl, sym, subst, All, Contains, Result}
+use Rattle.lw_bench.proofs.Common.{Ok, Err, IfOk, OnOk, AllByRecursion, All-map, All-weaker, TestHead, Final}
+use Rattle.lw_bench.proofs.Common.{IsOutcomeOf, IsEvent, Event, ListFault, IsEntryOf, OutcomeEntries}
+use Rattle.lw_bench.proofs.Common.{outcomes_of, schedules_of, IsStrictlySorted, ListsMachine}
+use Rattle.lw_bench.proofs.Common.{ReplaysOverCaches, OutcomeOverCaches, Protocol, Mesi, report_text}
+use Rattle.lw_bench.proofs.Common.{schedule_list_text, scheduled, ListedState, shown_of, AreListedStates}
+use Rattle.lw_bench.proofs.Common.{Exact, SourceOutcome, SourceTest, ProgramTest, LitmusTest, Of_source}
+use Rattle.lw_bench.proofs.Common.{Of_x86, head_of_test, OutcomeOf, LeadsTo, HasList, IsStatesReport}
+use Rattle.lw_bench.proofs.Common.{IsScheduleReport, IsListOf}
 use Rattle.lw_bench.proofs.ListingTexts.{report_is, schedule_list_is}
 
 -- what is told of the list of a source test

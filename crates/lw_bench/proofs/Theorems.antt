@@ -1,31 +1,13 @@
 -- The theorems on tests as values, by those of the crates below. That outcomes over caches are those over flat memory is a premise,
 -- which the laws meet by a call.
-use Rattle.std.proofs.Common.{◌≡◌, ◌↔◌, ℕ, List, Bool, refl, sym, subst}
-use Rattle.lw_base.specs.Outcomes.{Final}
-use Rattle.lw_base.specs.Types.{Bytes}
-use Rattle.lw_interleaving.specs.Runs.{SourceOutcome}
-use Rattle.lw_litmus.specs.Tests.{SourceTest, ProgramTest}
-use Rattle.lw_litmus.specs.WellFormedTests.{IsWellFormedSource, IsWellFormedProgram}
-use Rattle.lw_memory.specs.Flat.{flat}
-use Rattle.lw_mesi.specs.declared.protocol.Protocol.{Protocol}
-use Rattle.lw_mesi.specs.declared.protocol.Protocol.TheVariants.{Mesi}
-use Rattle.lw_tso.specs.Runs.{MachineOutcome}
-use Rattle.lw_whole.specs.OverCaches.{OutcomeOverCaches}
-use Rattle.lw_fence.specs.Compiling.{IsCompiled}
-use Rattle.lw_fence.specs.Unfenced.{IsCompiledWith}
-use Rattle.lw_fence.proofs.api.Compilations.{is_program, is_program_with, some_program, same_outcomes}
-use Rattle.lw_fence.proofs.api.Compilations.{has_outcomes, has_outcome}
-use Rattle.lw_report.proofs.api.OneList.{one_report}
-use Rattle.lw_text.proofs.api.Frames.{frame_well_formed, frame_columns}
-use Rattle.lw_source.proofs.api.Tests.{well_formed_source}
-use Rattle.lw_x86.proofs.api.Tests.{well_formed_program}
-use Rattle.lw_bench.specs.LitmusTests.{LitmusTest, Of_source, Of_x86}
-use Rattle.lw_bench.specs.WellFormedTests.{IsWellFormedTest}
-use Rattle.lw_bench.specs.Lists.{IsStatesReport}
-use Rattle.lw_bench.specs.Outcomes.{OutcomeOf, IsRunFor, IsProgramOf}
-use Rattle.lw_bench.specs.Outputs.{Makes}
-use Rattle.lw_bench.specs.TestTexts.{HasTest}
-use Rattle.lw_report.specs.declared.judgement.Claim.TheVariants.{Exact}
+use Rattle.lw_bench.proofs.Common.{◌≡◌, ◌↔◌, ℕ, List, Bool, refl, sym, subst, Final, Bytes, SourceOutcome}
+use Rattle.lw_bench.proofs.Common.{SourceTest, ProgramTest, IsWellFormedSource, IsWellFormedProgram, flat}
+use Rattle.lw_bench.proofs.Common.{Protocol, Mesi, MachineOutcome, OutcomeOverCaches, IsCompiled}
+use Rattle.lw_bench.proofs.Common.{IsCompiledWith, is_program, is_program_with, some_program, same_outcomes}
+use Rattle.lw_bench.proofs.Common.{has_outcomes, has_outcome, one_report, frame_well_formed, frame_columns}
+use Rattle.lw_bench.proofs.Common.{well_formed_source, well_formed_program, LitmusTest, Of_source, Of_x86}
+use Rattle.lw_bench.proofs.Common.{IsWellFormedTest, IsStatesReport, OutcomeOf, IsRunFor, IsProgramOf, Makes}
+use Rattle.lw_bench.proofs.Common.{HasTest, Exact}
 
 -- Outcomes over caches are those over flat memory.
 abbrev pub CachesAreFlat : Type 0

@@ -1,22 +1,11 @@
 -- What a refused run tells: from what the readers promise, and from the bytes that were read to the whole input.
-use Rattle.std.proofs.Common.{◌≡◌, ◌≢◌, ◌⊎◌, inl, inr, Bool, true, false, ℕ, Option, Some, None, List, []}
-use Rattle.std.proofs.Common.{◌++◌, length, ap, ◌∙◌, subst, length-append, if◌then◌else◌, arith, IfSome}
-use Rattle.std.proofs.Common.{append-nil}
-use Rattle.lw_base.specs.declared.fault.CellCause.{CellCause}
-use Rattle.lw_base.specs.declared.fault.CellFault.{CellFault}
-use Rattle.lw_base.specs.declared.fault.ScheduleCause.{ScheduleCause}
-use Rattle.lw_base.specs.declared.fault.ScheduleFault.{ScheduleFault}
-use Rattle.lw_text.specs.declared.fault.TextCause.{TextCause}
-use Rattle.lw_text.specs.declared.fault.TextFault.{TextFault}
-use Rattle.lw_choices.specs.declared.fault.ListFault.{ListFault}
-use Rattle.lw_bench.specs.declared.fault.BenchFault.{BenchFault}
-use Rattle.lw_bench.specs.declared.fault.BenchFault.TheVariants.{Text, Cell, Schedule, Limit, Memory, Read}
-use Rattle.lw_bench.specs.Devices.{IsInput}
-use Rattle.lw_bench.specs.Faults.{text_fault, told_text, cell_fault, told_cell, schedule_fault, told_schedule}
-use Rattle.lw_bench.specs.Faults.{told_limit}
-use Rattle.lw_bench.specs.LitmusTests.{LitmusTest}
-use Rattle.lw_bench.specs.TestTexts.{HasTest}
-use Rattle.lw_bench.specs.Told.{TellsText, TellsCell, TellsTest, TellsRun, TellsInput, IsNoDevice}
+use Rattle.lw_bench.proofs.Common.{◌≡◌, ◌≢◌, ◌⊎◌, inl, inr, Bool, true, false, ℕ, Option, Some, None, List}
+use Rattle.lw_bench.proofs.Common.{[], ◌++◌, length, ap, ◌∙◌, subst, length-append, if◌then◌else◌, arith}
+use Rattle.lw_bench.proofs.Common.{IfSome, append-nil, CellCause, CellFault, ScheduleCause, ScheduleFault}
+use Rattle.lw_bench.proofs.Common.{TextCause, TextFault, ListFault, BenchFault, Text, Cell, Schedule, Limit}
+use Rattle.lw_bench.proofs.Common.{Memory, Read, IsInput, text_fault, told_text, cell_fault, told_cell}
+use Rattle.lw_bench.proofs.Common.{schedule_fault, told_schedule, told_limit, LitmusTest, HasTest, TellsText}
+use Rattle.lw_bench.proofs.Common.{TellsCell, TellsTest, TellsRun, TellsInput, IsNoDevice}
 use Rattle.lw_bench.proofs.Outputs.{whole, in_whole}
 use Rattle.lw_base.specs.declared.fault.CellCause.TheVariants as cell
 use Rattle.lw_base.specs.declared.fault.ScheduleCause.TheVariants as schedule

@@ -1,16 +1,10 @@
 -- With what statements begin, and behind what locations stand.
-use Rattle.std.proofs.Common.{◌≡◌, true, Option, Some, List, [], ◌∷◌, ◌++◌, refl, sym, subst, arith, codes}
-use Rattle.std.proofs.Common.{Contains, decimal}
-use Rattle.lw_base.specs.Names.{IsLocation}
-use Rattle.lw_base.specs.Registers.{register_name}
-use Rattle.lw_base.specs.Types.{Bytes, TokenList}
-use Rattle.lw_text.proofs.api.Spelling.{name_by_test, decimal_is_number}
-use Rattle.lw_cells.specs.declared.draft.Operands.{Operands}
-use Rattle.lw_cells.specs.declared.slot.Slot.{Slot}
-use Rattle.lw_cells.specs.declared.slot.Slot.TheVariants.{Word, Register, Location, Value, Number, Label}
-use Rattle.lw_cells.specs.Grammars.{CanBegin, BeforeLocation}
-use Rattle.lw_cells.specs.Spellings.{Spelling, Given, Filling, Gives, Fills, grammar_of, name_in}
-use Rattle.lw_cells.specs.Found.{CanStand, BeginsWith, names_none, names_one, IsSpelling}
+use Rattle.lw_cells.proofs.Common.{◌≡◌, true, Option, Some, List, [], ◌∷◌, ◌++◌, refl, sym, subst, arith}
+use Rattle.lw_cells.proofs.Common.{codes, Contains, decimal, IsLocation, register_name, Bytes, TokenList}
+use Rattle.lw_cells.proofs.Common.{name_by_test, decimal_is_number, Operands, Slot, Word, Register, Location}
+use Rattle.lw_cells.proofs.Common.{Value, Number, Label, CanBegin, BeforeLocation, Spelling, Given, Filling}
+use Rattle.lw_cells.proofs.Common.{Gives, Fills, grammar_of, name_in, CanStand, BeginsWith, names_none}
+use Rattle.lw_cells.proofs.Common.{names_one, IsSpelling}
 use Rattle.lw_cells.proofs.api.Forms.{passes}
 use Rattle.lw_base.specs.declared.operand.Operand.TheVariants as operand
 
@@ -74,7 +68,7 @@ module _ {W Form Stmt : Type 0} (spelling : Spelling W Form Stmt) where
       let one = passes _ spelling.forms there.0 form lawful.names there.1 there.2 in
       let whole : (f : Filling (spelling.slots_of form)) × Fills spelling (ts ++ x ∷ rest.0) _ f
       × (name_in (spelling.slots_of form) f ≡ Some x) =
-          subst (λ (slots : List (Slot W)). names_one spelling slots ≡ true → (f : Filling slots)
-          × Fills spelling (ts ++ x ∷ rest.0) slots f × (name_in slots f ≡ Some x)) (sym cut) (located x loc
-          back rest.0 rest.1.0 rest.1.1 ts front here.0 here.1) one in
+      subst (λ (slots : List (Slot W)). names_one spelling slots ≡ true → (f : Filling slots)
+      × Fills spelling (ts ++ x ∷ rest.0) slots f × (name_in slots f ≡ Some x)) (sym cut) (located x loc
+      back rest.0 rest.1.0 rest.1.1 ts front here.0 here.1) one in
       (rest.0, record { form = form; filling = whole.0 }, (there, whole.1), whole.2)

@@ -1,10 +1,7 @@
 -- Why what was read is refused: what a cause tells, and what it tells elsewhere.
-use Rattle.std.proofs.Common.{◌≡◌, ℕ, sym, subst, arith}
-use Rattle.lw_base.specs.declared.fault.CellCause.{CellCause}
-use Rattle.lw_base.specs.declared.fault.CellCause.TheVariants.{Form, Register, LabelTwice}
-use Rattle.lw_base.specs.declared.fault.CellCause.TheVariants.{TooMany, Memory}
-use Rattle.lw_base.specs.declared.fault.CellFault.{CellFault}
-use Rattle.lw_cells.specs.Words.{IsMisfit, Telling, Refused}
+use Rattle.lw_cells.proofs.Common.{◌≡◌, ℕ, sym, subst, arith, CellCause, Form, LabelTwice, TooMany, Memory}
+use Rattle.lw_cells.proofs.Common.{CellFault, IsMisfit, Telling, Refused}
+use Rattle.lw_base.specs.declared.fault.CellCause.TheVariants.{Register}
 
 -- a token that does not fit tells nothing, nor does it that memory ran out
 pub misfit_tells : {no_label second_label backward one_more : Type 0} (cause : CellCause) → IsMisfit cause

@@ -1,24 +1,11 @@
 -- Where a cell of a thread is refused, so is the thread.
-use Rattle.std.proofs.Common.{◌≡◌, ℕ, ◌≤◌, ◌+◌, List, [], ◌∷◌, ◌++◌, drop, length, sym, ap, ◌∙◌}
-use Rattle.std.proofs.Common.{append_assoc, subst, arith}
-use Rattle.std.proofs.lemmas.List.{map-append}
-use Rattle.std.proofs.lemmas.List.Elements.{Contains-append_left}
-use Rattle.lw_base.specs.Limits.{most_locations}
-use Rattle.lw_base.specs.Lists.{EachOnce}
-use Rattle.lw_base.specs.Tables.{with_names}
-use Rattle.lw_base.specs.Types.{NameTable}
-use Rattle.lw_base.specs.declared.fault.CellCause.TheVariants.{Memory}
-use Rattle.lw_base.specs.declared.fault.CellFault.{CellFault}
-use Rattle.lw_text.specs.declared.cell.Cell.{Cell}
-use Rattle.lw_text.specs.Places.{IsWithin, cell_texts, cells_texts}
-use Rattle.lw_text.specs.Spans.{texts}
-use Rattle.lw_cells.specs.declared.column.DraftColumn.{DraftColumn}
-use Rattle.lw_cells.specs.declared.phrase.Phrase.{Phrase}
-use Rattle.lw_cells.specs.Grammars.{Grammar, IsGrammar}
-use Rattle.lw_cells.specs.Cells.{CellSyntax, MaybeStatement, CellSays, statements, labels_of, names_in}
-use Rattle.lw_cells.specs.Words.{LiesWithin}
-use Rattle.lw_cells.specs.Drafts.{LabelMap, draft_cell, ColumnDrafted}
-use Rattle.lw_cells.specs.Reading.{LabelsTaken, LabelsRefused, MaybeRefused, ColumnFits, ColumnRefused, bare}
+use Rattle.lw_cells.proofs.Common.{◌≡◌, ℕ, ◌≤◌, ◌+◌, List, [], ◌∷◌, ◌++◌, drop, length, sym, ap, ◌∙◌}
+use Rattle.lw_cells.proofs.Common.{append_assoc, subst, arith, map-append, Contains-append_left}
+use Rattle.lw_cells.proofs.Common.{most_locations, EachOnce, with_names, NameTable, Memory, CellFault, Cell}
+use Rattle.lw_cells.proofs.Common.{IsWithin, cell_texts, cells_texts, texts, DraftColumn, Phrase, Grammar}
+use Rattle.lw_cells.proofs.Common.{IsGrammar, CellSyntax, MaybeStatement, CellSays, statements, labels_of}
+use Rattle.lw_cells.proofs.Common.{names_in, LiesWithin, LabelMap, draft_cell, ColumnDrafted, LabelsTaken}
+use Rattle.lw_cells.proofs.Common.{LabelsRefused, MaybeRefused, ColumnFits, ColumnRefused, bare}
 use Rattle.lw_cells.proofs.Causes.{refused_memory}
 use Rattle.lw_cells.proofs.Drafts.{draft_stays, drafted_knows}
 use Rattle.lw_cells.proofs.Elements.{all_amid}
@@ -57,7 +44,7 @@ module _ {Syntax Stmt : Type 0} (grammar : Grammar Syntax Stmt) where
         names_fit : length (with_names mid (names_in grammar (cut.here ∷ []))) ≤ most_locations
         names_fit =
             let room = read_room _ _ (names_in-append grammar) (draft_stays grammar draft_of) _ _ before mid
-                column.cells drafted.read (cell_texts cell) (cell_unique grammar lawful) _ t cut in
+            column.cells drafted.read (cell_texts cell) (cell_unique grammar lawful) _ t cut in
             omega (arith, room, fits.1)
 
         count_fits : column.count + length (statements (bare cut.here.stmt ∷ [])) ≤ grammar.language.most
@@ -75,8 +62,8 @@ module _ {Syntax Stmt : Type 0} (grammar : Grammar Syntax Stmt) where
         once_fits =
             let whole : labels_of t ≡ (labels_of drafted.read.syntax ++ cut.here.labels) ++ labels_of cut.below =
             ap labels_of cut.whole ∙ labels_of-append cut.above (cut.here ∷ cut.below)
-                ∙ ap (λ ss. labels_of ss ++ (cut.here.labels ++ labels_of cut.below)) same
-                ∙ sym (append_assoc (labels_of drafted.read.syntax) cut.here.labels (labels_of cut.below)) in
+            ∙ ap (λ ss. labels_of ss ++ (cut.here.labels ++ labels_of cut.below)) same
+            ∙ sym (append_assoc (labels_of drafted.read.syntax) cut.here.labels (labels_of cut.below)) in
             once_front _ (labels_of cut.below) (subst EachOnce whole fits.0.once)
 
       pub labels_refused : (f : CellFault) → LabelsRefused cell.tokens column.labels f → ColumnRefused grammar before (front ++ cell ∷ rest) f
@@ -104,7 +91,7 @@ module _ {Syntax Stmt : Type 0} (grammar : Grammar Syntax Stmt) where
             let y = cut t fits in
             let stops = no_label grammar lawful y.says.0 y.here.stmt y.says.2 in
             let one = Labels-unique (cell_texts cell) y.says.0 _ y.here.labels taken.read.names y.says.1
-                (Labels-whole cell.tokens next taken.read.names taken.read.says) stops taken.stops in
+            (Labels-whole cell.tokens next taken.read.names taken.read.says) stops taken.stops in
             let rest_is : y.says.0 ≡ texts phrase.tokens.now = one.1 ∙ ap texts (sym behind) in
             r.none known y.here.stmt (record {
               says = subst (λ u. MaybeStatement grammar u y.here.stmt) rest_is y.says.2;

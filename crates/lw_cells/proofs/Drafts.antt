@@ -1,27 +1,13 @@
 -- Reading the cells of a thread, one further.
-use Rattle.std.proofs.Common.{◌≡◌, ℕ, ◌≤◌, ◌+◌, ◌*◌, Option, Some, None, ◌⊎◌, inl, inr, List, [], ◌∷◌, ◌++◌}
-use Rattle.std.proofs.Common.{length, drop, sym, ap, ◌∙◌, arith, refl, is_some}
-use Rattle.std.proofs.Common.{slice_get, option_map, append-nil}
-use Rattle.std.specs.Option.{option_len, ForSome}
-use Rattle.std.proofs.lemmas.List.{map-append}
-use Rattle.lw_base.specs.declared.fault.CellCause.{CellCause}
-use Rattle.lw_base.specs.declared.fault.CellCause.TheVariants.{TooMany}
-use Rattle.lw_base.specs.declared.fault.CellFault.{CellFault}
-use Rattle.lw_base.specs.Tables.{with_names}
-use Rattle.lw_base.specs.Types.{NameTable, TokenList}
-use Rattle.lw_text.specs.declared.cell.Cell.{Cell}
-use Rattle.lw_text.specs.declared.token.Token.{Token}
-use Rattle.lw_text.specs.Spans.{texts}
-use Rattle.lw_text.specs.Places.{cell_texts, cells_texts}
-use Rattle.lw_cells.specs.declared.column.DraftColumn.{DraftColumn}
-use Rattle.lw_cells.specs.declared.draft.DraftCell.{DraftCell}
-use Rattle.lw_cells.specs.declared.phrase.Phrase.{Phrase}
-use Rattle.lw_cells.specs.Grammars.{Grammar, CanBegin}
-use Rattle.lw_cells.specs.Cells.{CellSyntax, CellSays, statements, labels_of, names_in}
-use Rattle.lw_cells.specs.Drafts.{draft_in, draft_cell, IsFresh, ColumnDrafted}
-use Rattle.lw_cells.specs.Reading.{Fits, FitsBelow, MaybeTold, Knows, LabelsTaken, StatementRead, MaybeRead, bare, StatementRefused}
-use Rattle.lw_cells.specs.Reading.{MaybeRefused}
-use Rattle.lw_cells.specs.Words.{IsMisfit}
+use Rattle.lw_cells.proofs.Common.{◌≡◌, ℕ, ◌≤◌, ◌+◌, ◌*◌, Option, Some, None, ◌⊎◌, inl, inr, List, [], ◌∷◌}
+use Rattle.lw_cells.proofs.Common.{◌++◌, length, drop, sym, ap, ◌∙◌, arith, refl, is_some, slice_get}
+use Rattle.lw_cells.proofs.Common.{option_map, append-nil, option_len, ForSome, map-append, CellCause}
+use Rattle.lw_cells.proofs.Common.{TooMany, CellFault, with_names, NameTable, TokenList, Cell, Token, texts}
+use Rattle.lw_cells.proofs.Common.{cell_texts, cells_texts, DraftColumn, DraftCell, Phrase, Grammar, CanBegin}
+use Rattle.lw_cells.proofs.Common.{CellSyntax, CellSays, statements, labels_of, names_in, draft_in}
+use Rattle.lw_cells.proofs.Common.{draft_cell, IsFresh, ColumnDrafted, Fits, FitsBelow, MaybeTold, Knows}
+use Rattle.lw_cells.proofs.Common.{LabelsTaken, StatementRead, MaybeRead, bare, StatementRefused}
+use Rattle.lw_cells.proofs.Common.{MaybeRefused, IsMisfit}
 use Rattle.lw_cells.proofs.Causes.{misfit_tells, many_tells, many_further}
 use Rattle.lw_cells.proofs.Elements.{all_at}
 use Rattle.lw_cells.proofs.FrontLabels.{get_text, Labels-whole}

@@ -1,10 +1,8 @@
 -- An item of a list: what holds of all holds of it, and the list is cut there. The same of what may be there.
-use Rattle.std.proofs.Common.{◌≡◌, ℕ, suc, ◌+◌, ◌<◌, Option, Some, None, List, [], ◌∷◌, ◌++◌, length, get_or}
-use Rattle.std.proofs.Common.{take, drop, refl, sym, ap, ◌∙◌, subst, arith, slice_get, All, option_map}
-use Rattle.std.specs.List.{AllByRecursion, cons_option}
-use Rattle.std.specs.Option.{ForSome}
-use Rattle.std.proofs.lemmas.Option.{slice_get_within, get_or_from_slice_get}
-use Rattle.lw_base.proofs.api.Lists.{at_index, get_seam, cut_at, take_one}
+use Rattle.lw_cells.proofs.Common.{◌≡◌, ℕ, suc, ◌+◌, ◌<◌, Option, Some, None, List, [], ◌∷◌, ◌++◌, length}
+use Rattle.lw_cells.proofs.Common.{get_or, take, drop, refl, sym, ap, ◌∙◌, subst, arith, slice_get, All}
+use Rattle.lw_cells.proofs.Common.{option_map, AllByRecursion, cons_option, ForSome, slice_get_within}
+use Rattle.lw_cells.proofs.Common.{get_or_from_slice_get, at_index, get_seam, cut_at, take_one}
 
 pub all_at : {X : Type 0} (P : X → Type 0) (xs : List X) (k : ℕ) (x : X) → slice_get xs k ≡ Some x → All P xs → P x
 all_at P xs k x is all = subst P (get_or_from_slice_get xs k x x is) (all k x (slice_get_within xs k x is))

@@ -1,9 +1,6 @@
 -- What a function owes where it returns early by `?`, in a clause for both cases.
-use Rattle.std.proofs.Common.{◌≡◌, ◌⊎◌, inl, inr, sym, subst, Result, Ok, Err, IsErrAnd}
-use Rattle.std.proofs.Common.{MatchResult}
-use Rattle.std.proofs.lemmas.Result.{MatchResult-at_ok, MatchResult-at_err}
-use Rattle.lw_base.specs.declared.fault.CellCause.TheVariants.{Memory}
-use Rattle.lw_base.specs.declared.fault.CellFault.{CellFault}
+use Rattle.lw_cells.proofs.Common.{◌≡◌, ◌⊎◌, inl, inr, sym, subst, Result, Ok, Err, IsErrAnd, MatchResult}
+use Rattle.lw_cells.proofs.Common.{MatchResult-at_ok, MatchResult-at_err, Memory, CellFault}
 
 -- The callee's error is returned as it is.
 pub refused_as : {T E : Type 0} {e : E} (P : T → Type 0) (Q : E → Type 0) (r : Result T E) → IsErrAnd r (λ y. y ≡ e) → Q e → MatchResult r P Q

@@ -1,28 +1,15 @@
 -- The place of a cell's fault among the columns.
-use Rattle.std.proofs.Common.{◌≡◌, ℕ, suc, ◌+◌, inl, inr, ◌⊎◌, Some, List, [], ◌∷◌, ◌++◌, length, take, drop, refl}
-use Rattle.std.proofs.Common.{sym, ap, ◌∙◌, subst, arith, slice_get, Contains, codes, append_assoc}
-use Rattle.std.proofs.Common.{take-append-drop}
-use Rattle.std.specs.List.{AllZip}
-use Rattle.std.proofs.lemmas.List.{map-append, drop-map}
-use Rattle.lw_base.specs.declared.fault.CellCause.{CellCause}
-use Rattle.lw_base.specs.declared.fault.CellCause.TheVariants.{LabelMissing, LabelTwice, Backward, TooMany}
-use Rattle.lw_base.specs.Tables.{with_names}
-use Rattle.lw_base.specs.Types.{NameTable}
-use Rattle.lw_base.proofs.api.GrowingTables.{with_names-append}
-use Rattle.lw_base.proofs.api.Lists.{cut_at, drop_at}
-use Rattle.lw_text.specs.declared.cell.Cell.{Cell}
-use Rattle.lw_text.specs.declared.token.Token.{Token}
-use Rattle.lw_text.specs.Spans.{texts}
-use Rattle.lw_text.specs.PlacedTokens.{texts_of_tokens}
-use Rattle.lw_text.specs.PlacedCells.{PlacedCell}
-use Rattle.lw_text.specs.Places.{placed, placed_tokens, placed_cell, placed_row, cells_texts}
-use Rattle.lw_text.proofs.api.Places.{texts_placed, cells_placed}
-use Rattle.lw_cells.specs.Grammars.{Grammar}
-use Rattle.lw_cells.specs.Cells.{CellSyntax, CellSays, Labels, statements, labels_of, names_in, names_of}
-use Rattle.lw_cells.specs.Faults.{Standing, IsMissing, IsSecondLabel, IsBackward, IsSurplus, IsNinth, TellsBy, BeginsWithColon}
-use Rattle.lw_cells.specs.Drafts.{LabelMap}
-use Rattle.lw_cells.specs.Reading.{AtLabel, Knows, LabelsTaken, TwiceIn, BeginsAt, NinthIn, MaybeTold, ColumnTold}
-use Rattle.lw_cells.specs.Words.{Telling}
+use Rattle.lw_cells.proofs.Common.{◌≡◌, ℕ, suc, ◌+◌, inl, inr, ◌⊎◌, Some, List, [], ◌∷◌, ◌++◌, length, take}
+use Rattle.lw_cells.proofs.Common.{drop, refl, sym, ap, ◌∙◌, subst, arith, slice_get, Contains, codes}
+use Rattle.lw_cells.proofs.Common.{append_assoc, take-append-drop, AllZip, map-append, drop-map, CellCause}
+use Rattle.lw_cells.proofs.Common.{LabelMissing, LabelTwice, Backward, TooMany, with_names, NameTable}
+use Rattle.lw_cells.proofs.Common.{with_names-append, cut_at, drop_at, Cell, Token, texts, texts_of_tokens}
+use Rattle.lw_cells.proofs.Common.{PlacedCell, placed, placed_tokens, placed_cell, placed_row, cells_texts}
+use Rattle.lw_cells.proofs.Common.{texts_placed, cells_placed, Grammar, CellSyntax, CellSays, Labels}
+use Rattle.lw_cells.proofs.Common.{statements, labels_of, names_in, names_of, Standing, IsMissing}
+use Rattle.lw_cells.proofs.Common.{IsSecondLabel, IsBackward, IsSurplus, IsNinth, TellsBy, BeginsWithColon}
+use Rattle.lw_cells.proofs.Common.{LabelMap, AtLabel, Knows, LabelsTaken, TwiceIn, BeginsAt, NinthIn}
+use Rattle.lw_cells.proofs.Common.{MaybeTold, ColumnTold, Telling}
 use Rattle.lw_cells.proofs.Causes.{twice_further, many_further}
 use Rattle.lw_cells.proofs.FrontLabels.{Labels-rest}
 
@@ -104,8 +91,11 @@ module _ {Syntax Stmt A : Type 0} (grammar : Grammar Syntax Stmt) (front rest : 
           is) ∙ sym (append_assoc (take next cell.tokens) (take k tail) (t ∷ drop (suc k) tail))) begins
 
       in_front : (k : ℕ) → Labels (texts_of_tokens (placed_tokens (take next cell.tokens ++ take k tail))) taken.read.names (texts (take k tail))
-      in_front k = rw (texts_placed (take next cell.tokens ++ take k tail), map-append (λ (t : Token).
-          t.text.now) (take next cell.tokens) (take k tail)) (Labels-rest _ _ _ taken.read.says)
+      in_front k = rw (
+        texts_placed (take next cell.tokens ++ take k tail),
+        map-append (λ (t : Token).
+            t.text.now) (take next cell.tokens) (take k tail),
+      ) (Labels-rest _ _ _ taken.read.says)
 
       no_label : (k : ℕ) (t : Token) → slice_get tail k ≡ Some t → texts (take k tail) ≡ []
           → BeginsWithColon (texts_of_tokens (placed_tokens (drop (suc k) tail))) → ⊥

@@ -1,27 +1,14 @@
 -- The labels at the front of a cell, one further.
-use Rattle.std.proofs.Common.{◌≡◌, ℕ, zero, suc, ◌<◌, ◌≤◌, ◌+◌, ◌*◌, Bool, true, false, true≢false, ◌||◌, Option}
-use Rattle.std.proofs.Common.{Some, None, List, [], ◌∷◌, ◌++◌, length, length-append, take, drop, refl, sym}
-use Rattle.std.proofs.Common.{ap, ◌∙◌, subst, arith, ◌↔◌, IsTrue, slice_get, slice_index_or, codes, Contains}
-use Rattle.std.proofs.Common.{if◌then◌else◌, option_map, is_some, append-nil, append_assoc, take-append-drop}
-use Rattle.std.proofs.Common.{bytes_eq}
-use Rattle.std.proofs.lemmas.Option.{slice_get-map, slice_get_within}
-use Rattle.std.proofs.lemmas.List.{take-map, drop-map, length-map, map-append}
-use Rattle.std.proofs.lemmas.List.Folds.{list_any-append}
-use Rattle.std.proofs.lemmas.List.Elements.{Contains-append_right}
-use Rattle.std.specs.Cmp.{unsigned_Decides}
-use Rattle.std.specs.Cmp.Lexicographic.{pointwise_decides}
-use Rattle.std.specs.Map.{update}
-use Rattle.lw_base.specs.Lists.{EachOnce}
-use Rattle.lw_base.specs.Names.{IsLocation}
-use Rattle.lw_base.specs.Tables.{contains_name}
-use Rattle.lw_base.specs.Types.{Bytes, TokenList}
-use Rattle.lw_base.proofs.api.Lists.{take_one}
-use Rattle.lw_base.proofs.api.Tables.{contains_name-Contains, once_more}
-use Rattle.lw_text.specs.declared.token.Token.{Token}
-use Rattle.lw_text.specs.Spans.{texts}
-use Rattle.lw_cells.specs.Cells.{Labels}
-use Rattle.lw_cells.specs.Drafts.{LabelMap, target_by}
-use Rattle.lw_cells.specs.Reading.{AtLabel, Knows, LabelsRead, LabelsFit, TwiceIn}
+use Rattle.lw_cells.proofs.Common.{◌≡◌, ℕ, zero, suc, ◌<◌, ◌≤◌, ◌+◌, ◌*◌, Bool, true, false, true≢false, ◌||◌}
+use Rattle.lw_cells.proofs.Common.{Option, Some, None, List, [], ◌∷◌, ◌++◌, length, length-append, take, drop}
+use Rattle.lw_cells.proofs.Common.{refl, sym, ap, ◌∙◌, subst, arith, ◌↔◌, IsTrue, slice_get, slice_index_or}
+use Rattle.lw_cells.proofs.Common.{codes, Contains, if◌then◌else◌, option_map, is_some, append-nil}
+use Rattle.lw_cells.proofs.Common.{append_assoc, take-append-drop, bytes_eq, slice_get-map, slice_get_within}
+use Rattle.lw_cells.proofs.Common.{take-map, drop-map, length-map, map-append, list_any-append}
+use Rattle.lw_cells.proofs.Common.{Contains-append_right, unsigned_Decides, pointwise_decides, update}
+use Rattle.lw_cells.proofs.Common.{EachOnce, IsLocation, contains_name, Bytes, TokenList, take_one}
+use Rattle.lw_cells.proofs.Common.{contains_name-Contains, once_more, Token, texts, Labels, LabelMap}
+use Rattle.lw_cells.proofs.Common.{target_by, AtLabel, Knows, LabelsRead, LabelsFit, TwiceIn}
 
 -- ---- tokens and their texts
 

@@ -1,24 +1,12 @@
 -- Resolving one statement: a jump leads where its label stands.
-use Rattle.std.proofs.Common.{◌≡◌, ℕ, suc, ◌<◌, ◌+◌, true, Option, Some, None, refl, List, [], ◌∷◌, ◌++◌}
-use Rattle.std.proofs.Common.{length, take, drop, sym, ap, ◌∙◌, subst, arith, Contains, slice_get, IfSome}
-use Rattle.std.proofs.Common.{option_map}
-use Rattle.std.specs.Option.{ForSome}
-use Rattle.std.proofs.lemmas.List.{length-map}
-use Rattle.std.proofs.lemmas.Option.{same_Some}
-use Rattle.lw_base.specs.Types.{Bytes, NameTable, TokenList}
-use Rattle.lw_text.specs.declared.token.Token.{Token}
-use Rattle.lw_text.specs.Spans.{texts}
-use Rattle.lw_cells.specs.declared.draft.Draft.{Draft}
-use Rattle.lw_cells.specs.declared.draft.Operands.{Operands}
-use Rattle.lw_cells.specs.declared.slot.Slot.{Slot}
-use Rattle.lw_cells.specs.declared.slot.Slot.TheVariants.{Label}
-use Rattle.lw_cells.specs.Spellings.{Spelling, Filling, Fills, Said, grammar_of, label_in}
-use Rattle.lw_cells.specs.Found.{found_of, draft_of, leading_to, is_label_last, IsSpelling}
-use Rattle.lw_cells.specs.Cells.{CellSyntax, labels_of, target_in, number_in, led_to, resolved_statement}
-use Rattle.lw_cells.specs.Cells.{LeadsForward}
-use Rattle.lw_cells.specs.Drafts.{LabelMap, LeadsAs, draft_in, target_by}
-use Rattle.lw_cells.specs.Reading.{LedForward, IsResolvable, IsResolved}
-use Rattle.lw_base.proofs.api.Lists.{cut_at, drop_all}
+use Rattle.lw_cells.proofs.Common.{◌≡◌, ℕ, suc, ◌<◌, ◌+◌, true, Option, Some, None, refl, List, [], ◌∷◌, ◌++◌}
+use Rattle.lw_cells.proofs.Common.{length, take, drop, sym, ap, ◌∙◌, subst, arith, Contains, slice_get}
+use Rattle.lw_cells.proofs.Common.{IfSome, option_map, ForSome, length-map, same_Some, Bytes, NameTable}
+use Rattle.lw_cells.proofs.Common.{TokenList, Token, texts, Draft, Operands, Slot, Label, Spelling, Filling}
+use Rattle.lw_cells.proofs.Common.{Fills, Said, grammar_of, label_in, found_of, draft_of, leading_to}
+use Rattle.lw_cells.proofs.Common.{is_label_last, IsSpelling, CellSyntax, labels_of, target_in, number_in}
+use Rattle.lw_cells.proofs.Common.{led_to, resolved_statement, LeadsForward, LabelMap, LeadsAs, draft_in}
+use Rattle.lw_cells.proofs.Common.{target_by, LedForward, IsResolvable, IsResolved, cut_at, drop_all}
 use Rattle.lw_cells.proofs.FrontLabels.{get_text}
 use Rattle.lw_cells.proofs.Leads.{leads_there}
 use Rattle.lw_cells.proofs.api.Forms.{well_spelled}

@@ -1,18 +1,10 @@
 -- Where the labels of a thread lead.
-use Rattle.std.proofs.Common.{◌≡◌, ℕ, ◌≤◌, ◌+◌, Bool, true, false, true≢false, ◌||◌, Option, Some, None, List, []}
-use Rattle.std.proofs.Common.{◌∷◌, ◌++◌, length, length-append, refl, sym, ap, ◌∙◌, arith, Contains, is_some}
-use Rattle.std.proofs.Common.{if◌then◌else◌, bytes_eq}
-use Rattle.std.specs.Option.{option_or}
-use Rattle.std.proofs.lemmas.Bool.{false_from_ne_true}
-use Rattle.std.proofs.lemmas.Grind.{flat_map-append}
-use Rattle.std.proofs.lemmas.List.Elements.{filter_map-append}
-use Rattle.std.proofs.lemmas.List.Folds.{list_any-append}
-use Rattle.lw_base.specs.Lists.{EachOnce}
-use Rattle.lw_base.specs.Tables.{contains_name}
-use Rattle.lw_base.specs.Types.{Bytes}
-use Rattle.lw_base.proofs.api.Tables.{contains_name-Contains}
-use Rattle.lw_cells.specs.Cells.{CellSyntax, statements, labels_of, target_in}
-use Rattle.lw_cells.specs.Drafts.{leads_in}
+use Rattle.lw_cells.proofs.Common.{◌≡◌, ℕ, ◌≤◌, ◌+◌, Bool, true, false, true≢false, ◌||◌, Option, Some, None}
+use Rattle.lw_cells.proofs.Common.{List, [], ◌∷◌, ◌++◌, length, length-append, refl, sym, ap, ◌∙◌, arith}
+use Rattle.lw_cells.proofs.Common.{Contains, is_some, if◌then◌else◌, bytes_eq, option_or, false_from_ne_true}
+use Rattle.lw_cells.proofs.Common.{flat_map-append, filter_map-append, list_any-append, EachOnce}
+use Rattle.lw_cells.proofs.Common.{contains_name, Bytes, contains_name-Contains, CellSyntax, statements}
+use Rattle.lw_cells.proofs.Common.{labels_of, target_in, leads_in}
 use Rattle.lw_cells.proofs.FrontLabels.{name_contained, once_apart}
 
 module _ {Syntax : Type 0} where

@@ -1,3 +1,4 @@
+pub mod Common
 pub mod api
 pub mod FrontLabels
 pub mod Leads

@@ -1,9 +1,7 @@
 -- A cell says one thing.
-use Rattle.std.proofs.Common.{◌≡◌, Option, Some, None, List, refl, sym, ap, subst, slice_get}
-use Rattle.lw_base.specs.Types.{TokenList, Cells}
-use Rattle.lw_cells.specs.Grammars.{Grammar, IsGrammar}
-use Rattle.lw_cells.specs.Cells.{CellSyntax, MaybeStatement, CellSays, Column}
-use Rattle.lw_cells.specs.Reading.{AtLabel}
+use Rattle.lw_cells.proofs.Common.{◌≡◌, Option, Some, None, List, refl, sym, ap, subst, slice_get, TokenList}
+use Rattle.lw_cells.proofs.Common.{Cells, Grammar, IsGrammar, CellSyntax, MaybeStatement, CellSays, Column}
+use Rattle.lw_cells.proofs.Common.{AtLabel}
 use Rattle.lw_cells.proofs.FrontLabels.{Labels-unique}
 use Rattle.lw_cells.proofs.api.Zips.{zip_unique}
 

@@ -1,34 +1,18 @@
 -- Resolving the jumps of a thread, one cell further.
-use Rattle.std.proofs.Common.{◌≡◌, ℕ, suc, ◌<◌, ◌≤◌, ◌+◌, ◌*◌, Option, Some, None, List, [], ◌∷◌, ◌++◌}
-use Rattle.std.proofs.Common.{length, length-take, get_or, map, take, drop, refl, sym, ap, ◌∙◌, subst, arith, ◌⊎◌, inl, inr}
-use Rattle.std.proofs.Common.{slice_get, All, Contains, IfSome, MatchOption, option_map, append-nil, append_assoc}
-use Rattle.std.proofs.Common.{take-append-drop}
-use Rattle.std.specs.List.{AllZip, cons_option}
-use Rattle.std.proofs.lemmas.Option.{slice_get-map, same_Some}
-use Rattle.std.proofs.lemmas.List.{map-append, length-map, drop-map}
-use Rattle.lw_base.specs.declared.fault.CellCause.{CellCause}
-use Rattle.lw_base.specs.declared.fault.CellCause.TheVariants.{LabelMissing, Backward}
-use Rattle.lw_base.specs.declared.fault.CellFault.{CellFault}
-use Rattle.lw_base.specs.Types.{Bytes, NameTable, TokenList}
-use Rattle.lw_base.proofs.api.Lists.{get_append, get_seam}
-use Rattle.lw_text.specs.declared.cell.Cell.{Cell}
-use Rattle.lw_text.specs.declared.token.Token.{Token}
-use Rattle.lw_text.specs.Spans.{texts}
-use Rattle.lw_text.specs.Places.{cell_texts, cells_texts, placed_row, IsWithin}
-use Rattle.lw_text.proofs.api.Places.{texts_placed, cells_placed}
-use Rattle.lw_cells.specs.declared.column.DraftColumn.{DraftColumn}
-use Rattle.lw_cells.specs.declared.draft.Draft.{Draft}
-use Rattle.lw_cells.specs.declared.draft.DraftCell.{DraftCell}
-use Rattle.lw_cells.specs.declared.draft.Operands.{Operands}
-use Rattle.lw_cells.specs.Grammars.{Grammar}
-use Rattle.lw_cells.specs.Cells.{CellSyntax, MaybeStatement, CellSays, statements, labels_of, target_in}
-use Rattle.lw_cells.specs.Cells.{resolved_statement, LeadsForward}
-use Rattle.lw_cells.specs.Faults.{Standing, IsJumpLabel, IsBackward}
-use Rattle.lw_cells.specs.Drafts.{draft_in, draft_cell, target_by, ColumnDrafted}
-use Rattle.lw_cells.specs.Reading.{JumpCause, IsResolvable, IsCellResolved, IsUnresolved, AllForward}
-use Rattle.lw_cells.specs.Reading.{ColumnRead, ColumnTold, ColumnRefused, IsResolved}
-use Rattle.lw_cells.specs.Found.{draft_of, IsSpelling}
-use Rattle.lw_cells.specs.Spellings.{Spelling, Said, grammar_of}
+use Rattle.lw_cells.proofs.Common.{◌≡◌, ℕ, suc, ◌<◌, ◌≤◌, ◌+◌, ◌*◌, Option, Some, None, List, [], ◌∷◌, ◌++◌}
+use Rattle.lw_cells.proofs.Common.{length, length-take, get_or, map, take, drop, refl, sym, ap, ◌∙◌, subst}
+use Rattle.lw_cells.proofs.Common.{arith, ◌⊎◌, inl, inr, slice_get, All, Contains, IfSome, MatchOption}
+use Rattle.lw_cells.proofs.Common.{option_map, append-nil, append_assoc, take-append-drop, AllZip}
+use Rattle.lw_cells.proofs.Common.{cons_option, slice_get-map, same_Some, map-append, length-map, drop-map}
+use Rattle.lw_cells.proofs.Common.{CellCause, LabelMissing, Backward, CellFault, Bytes, NameTable, TokenList}
+use Rattle.lw_cells.proofs.Common.{get_append, get_seam, Cell, Token, texts, cell_texts, cells_texts}
+use Rattle.lw_cells.proofs.Common.{placed_row, IsWithin, texts_placed, cells_placed, DraftColumn, Draft}
+use Rattle.lw_cells.proofs.Common.{DraftCell, Operands, Grammar, CellSyntax, MaybeStatement, CellSays}
+use Rattle.lw_cells.proofs.Common.{statements, labels_of, target_in, resolved_statement, LeadsForward}
+use Rattle.lw_cells.proofs.Common.{Standing, IsJumpLabel, IsBackward, draft_in, draft_cell, target_by}
+use Rattle.lw_cells.proofs.Common.{ColumnDrafted, JumpCause, IsResolvable, IsCellResolved, IsUnresolved}
+use Rattle.lw_cells.proofs.Common.{AllForward, ColumnRead, ColumnTold, ColumnRefused, IsResolved, draft_of}
+use Rattle.lw_cells.proofs.Common.{IsSpelling, Spelling, Said, grammar_of}
 use Rattle.lw_cells.proofs.CellsRefused.{column_out_of_memory}
 use Rattle.lw_cells.proofs.Elements.{all_amid, cut_there, item_at, mapped_some, take_further}
 use Rattle.lw_cells.proofs.FaultPlaces.{standing, tells_by}

@@ -1,21 +1,12 @@
 -- Statements on a table that grows, and the threads that they make.
-use Rattle.std.proofs.Common.{◌≡◌, ℕ, ◌<◌, ◌≤◌, Option, Some, None, List, [], ◌∷◌, ◌++◌, length, sym, ap}
-use Rattle.std.proofs.Common.{refl, ◌∙◌, subst, arith, map, slice_get, filter_map, option_map}
-use Rattle.std.specs.List.{AllByRecursion, cons_option}
-use Rattle.std.specs.Option.{ForSome}
-use Rattle.std.proofs.lemmas.List.{length-map}
-use Rattle.std.proofs.lemmas.List.Elements.{All-from_recursion, filter_map-append}
-use Rattle.std.proofs.lemmas.Option.{slice_get-map}
-use Rattle.lw_base.specs.Tables.{with_names, index_of}
-use Rattle.lw_base.specs.Types.{Bytes, NameTable, TokenList}
-use Rattle.lw_base.proofs.api.Elements.{all_parts}
-use Rattle.lw_base.proofs.api.GrowingTables.{index_of-with_names, index_of-within}
-use Rattle.lw_litmus.specs.Operations.{target_of}
-use Rattle.lw_litmus.specs.WellFormed.{IsStatement, IsThread}
-use Rattle.lw_cells.specs.Grammars.{Grammar, IsGrammar}
-use Rattle.lw_cells.specs.Cells.{CellSyntax, statements, target_in, number_in, led_to, names_in}
-use Rattle.lw_cells.specs.Cells.{resolved_statement, code_in}
-use Rattle.lw_cells.specs.Reading.{AllForward, named_by}
+use Rattle.lw_cells.proofs.Common.{◌≡◌, ℕ, ◌<◌, ◌≤◌, Option, Some, None, List, [], ◌∷◌, ◌++◌, length, sym, ap}
+use Rattle.lw_cells.proofs.Common.{refl, ◌∙◌, subst, arith, map, slice_get, filter_map, option_map}
+use Rattle.lw_cells.proofs.Common.{AllByRecursion, cons_option, ForSome, length-map, All-from_recursion}
+use Rattle.lw_cells.proofs.Common.{filter_map-append, slice_get-map, with_names, index_of, Bytes, NameTable}
+use Rattle.lw_cells.proofs.Common.{TokenList, all_parts, index_of-with_names, index_of-within, target_of}
+use Rattle.lw_cells.proofs.Common.{IsStatement, IsThread, Grammar, IsGrammar, CellSyntax, statements}
+use Rattle.lw_cells.proofs.Common.{target_in, number_in, led_to, names_in, resolved_statement, code_in}
+use Rattle.lw_cells.proofs.Common.{AllForward, named_by}
 use Rattle.lw_cells.proofs.Elements.{mapped_some}
 use Rattle.lw_cells.proofs.Leads.{statements-append, target_within}
 use Rattle.lw_cells.proofs.TablesRead.{AreIn, all_stay}
@@ -59,7 +50,7 @@ module _ {Syntax Stmt : Type 0} (grammar : Grammar Syntax Stmt) where
           let x = number_in names (grammar.name_of s) in
           let to = led_to syntaxes (grammar.label_of s) in
           let parts = all_parts _ (named_by grammar s) (filter_map grammar.name_of ss) (subst (AreIn names)
-              (filter_map-append grammar.name_of (s ∷ []) ss) all) in (
+          (filter_map-append grammar.name_of (s ∷ []) ss) all) in (
             (
               subst (λ (o : Option ℕ). ForSome o (λ y. y < length names)) (sym (lawful.located x to s)) (located (grammar.name_of s) parts.0),
               lawful.registers said.0.0 x to s said.0.1,

@@ -1,24 +1,12 @@
 -- What tokens at slots give, as the reader finds it.
-use Rattle.std.proofs.Common.{◌≡◌, ℕ, zero, suc, ◌+◌, ◌<◌, ◌≤◌, Bool, true, false, true≢false, eqb, Option}
-use Rattle.std.proofs.Common.{Some, None, List, [], ◌∷◌, ◌++◌, length, take, get_or, refl, sym, ap}
-use Rattle.std.proofs.Common.{◌∙◌, subst, arith, slice_get, MatchBool, MatchOption, IsTrue, ◌↔◌, Contains}
-use Rattle.std.proofs.Common.{is_some, bytes_eq, eqb-true, All, take_all}
-use Rattle.std.proofs.lemmas.Slice.Eq.{bytes_eq-Decides}
-use Rattle.std.proofs.lemmas.List.Elements.{All-contains, All-more}
-use Rattle.lw_base.specs.Types.{Bytes, TokenList}
-use Rattle.lw_base.specs.declared.head.Arch.{Arch}
-use Rattle.lw_base.specs.declared.operand.Operand.{Operand}
-use Rattle.lw_base.specs.Names.{IsLocation}
-use Rattle.lw_base.specs.Registers.{IsRegister, without_case}
-use Rattle.lw_text.specs.Tokens.{IsNumber}
-use Rattle.lw_text.specs.declared.token.Token.{Token}
-use Rattle.lw_text.specs.Spans.{texts}
-use Rattle.lw_cells.specs.declared.slot.Slot.{Slot}
-use Rattle.lw_cells.specs.declared.slot.Slot.TheVariants.{Word, Location}
-use Rattle.lw_cells.specs.declared.spelled.Found.{Found}
-use Rattle.lw_cells.specs.Operands.{IsOperand}
-use Rattle.lw_cells.specs.Spellings.{Spelling, Given, Filling, Gives, Fills}
-use Rattle.lw_cells.specs.Found.{BeginsWith, CanStand, nothing, found_with, found_of, reach_of}
+use Rattle.lw_cells.proofs.Common.{◌≡◌, ℕ, zero, suc, ◌+◌, ◌<◌, ◌≤◌, Bool, true, false, true≢false, eqb}
+use Rattle.lw_cells.proofs.Common.{Option, Some, None, List, [], ◌∷◌, ◌++◌, length, take, get_or, refl, sym}
+use Rattle.lw_cells.proofs.Common.{ap, ◌∙◌, subst, arith, slice_get, MatchBool, MatchOption, IsTrue, ◌↔◌}
+use Rattle.lw_cells.proofs.Common.{Contains, is_some, bytes_eq, eqb-true, All, take_all, bytes_eq-Decides}
+use Rattle.lw_cells.proofs.Common.{All-contains, All-more, Bytes, TokenList, Arch, Operand, IsLocation}
+use Rattle.lw_cells.proofs.Common.{IsRegister, without_case, IsNumber, Token, texts, Slot, Word, Location}
+use Rattle.lw_cells.proofs.Common.{Found, IsOperand, Spelling, Given, Filling, Gives, Fills, BeginsWith}
+use Rattle.lw_cells.proofs.Common.{CanStand, nothing, found_with, found_of, reach_of}
 use Rattle.lw_base.specs.declared.operand.Operand.TheVariants as operand
 
 -- a token that is neither a register nor a number is no operand

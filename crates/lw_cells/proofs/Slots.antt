@@ -1,27 +1,13 @@
 -- Tokens at slots: what they give is theirs alone, and forms whose slots differ exclude each other.
-use Rattle.std.proofs.Common.{◌≡◌, ℕ, ◌<◌, Bool, true, false, true≢false, List, [], ◌∷◌}
-use Rattle.std.proofs.Common.{map, get_or, refl, sym, ap, ◌∙◌, subst, arith, inl, inr, not, ◌||◌, codes}
-use Rattle.std.proofs.Common.{bytes_eq, eqb, eqb-true}
-use Rattle.std.specs.List.{list_any}
-use Rattle.std.proofs.lemmas.Bool.{agree_below_at, cases_Bool, or_right}
-use Rattle.std.proofs.lemmas.List.Folds.{list_any_at}
-use Rattle.std.proofs.lemmas.Slice.Eq.{bytes_eq-Decides}
-use Rattle.lw_base.specs.Types.{Bytes, TokenList}
-use Rattle.lw_base.specs.Characters.{begins}
-use Rattle.std.specs.Char.{is_ascii_digit, to_ascii_lowercase}
-use Rattle.lw_base.specs.declared.head.Arch.{Arch}
-use Rattle.lw_base.specs.declared.head.Arch.TheVariants.{Source, X86}
-use Rattle.lw_base.specs.declared.operand.Operand.{Operand}
-use Rattle.lw_base.specs.Names.{IsLocation, is_reserved, is_numbered, keywords, x86_registers}
-use Rattle.lw_base.specs.Registers.{IsRegister, register_name, without_case}
-use Rattle.lw_base.proofs.api.Registers.{register_unique}
-use Rattle.lw_text.specs.Tokens.{IsNumber}
-use Rattle.lw_text.proofs.api.Numbers.{number-unique, number_first}
-use Rattle.lw_cells.specs.declared.slot.Slot.{Slot}
-use Rattle.lw_cells.specs.declared.slot.Slot.TheVariants.{Word, Register, Location, Value, Number, Label}
-use Rattle.lw_cells.specs.Operands.{IsOperand}
-use Rattle.lw_cells.specs.Spellings.{Spelling, Given, Filling, Gives, Fills}
-use Rattle.lw_cells.specs.Found.{names_register, differ, are_apart, is_no_colon}
+use Rattle.lw_cells.proofs.Common.{◌≡◌, ℕ, ◌<◌, Bool, true, false, true≢false, List, [], ◌∷◌, map, get_or}
+use Rattle.lw_cells.proofs.Common.{refl, sym, ap, ◌∙◌, subst, arith, inl, inr, not, ◌||◌, codes, bytes_eq}
+use Rattle.lw_cells.proofs.Common.{eqb, eqb-true, list_any, agree_below_at, cases_Bool, or_right, list_any_at}
+use Rattle.lw_cells.proofs.Common.{bytes_eq-Decides, Bytes, TokenList, begins, is_ascii_digit}
+use Rattle.lw_cells.proofs.Common.{to_ascii_lowercase, Arch, Source, X86, Operand, IsLocation, is_reserved}
+use Rattle.lw_cells.proofs.Common.{is_numbered, keywords, x86_registers, IsRegister, register_name}
+use Rattle.lw_cells.proofs.Common.{without_case, register_unique, IsNumber, number-unique, number_first, Slot}
+use Rattle.lw_cells.proofs.Common.{Word, Register, Location, Value, Number, Label, IsOperand, Spelling, Given}
+use Rattle.lw_cells.proofs.Common.{Filling, Gives, Fills, names_register, differ, are_apart, is_no_colon}
 use Rattle.lw_base.specs.declared.operand.Operand.TheVariants as operand
 
 -- ---- words
@@ -101,7 +87,7 @@ module _ {W Form Stmt : Type 0} (spelling : Spelling W Form Stmt) where
       let all = 0 ∷ 1 ∷ 2 ∷ 3 ∷ 4 ∷ 5 ∷ [] in
       let there = eqb-true _ r (agree_below_at (λ q. eqb (get_or all q q) q) (λ q. true) 6 r refl h) in
       list_any_at (λ q. bytes_eq (without_case spelling.language.arch (register_name spelling.language.arch
-          q)) (without_case spelling.language.arch w)) all r r h (rw there ((bytes_eq-Decides _ _).1 e))
+      q)) (without_case spelling.language.arch w)) all r r h (rw there ((bytes_eq-Decides _ _).1 e))
 
   no_register : (t : Bytes) (w : W) (r : ℕ) → not (names_register spelling (spelling.text_of w)) ≡ true
       → without_case spelling.language.arch (spelling.text_of w) ≡ without_case spelling.language.arch t → IsRegister spelling.language.arch t r → ⊥

@@ -1,25 +1,13 @@
 -- A statement is read, or is refused, as its language's grammar says.
-use Rattle.std.proofs.Common.{◌≡◌, ℕ, suc, ◌<◌, ◌≤◌, ◌+◌, Option, Some, None, List, [], ◌∷◌, ◌++◌, length}
-use Rattle.std.proofs.Common.{take, get_or, refl, sym, ap, ◌∙◌, subst, arith, slice_get, Contains}
-use Rattle.std.proofs.Common.{IfSome, MatchOption}
-use Rattle.std.proofs.lemmas.Option.{slice_get_within, get_or_from_slice_get, same_Some}
-use Rattle.std.proofs.lemmas.List.{length-map, take-map}
-use Rattle.lw_base.specs.Names.{IsLocation}
-use Rattle.lw_base.specs.Types.{Bytes, NameTable, TokenList}
-use Rattle.lw_base.specs.declared.fault.CellFault.{CellFault}
-use Rattle.lw_text.specs.declared.token.Token.{Token}
-use Rattle.lw_text.specs.Spans.{texts}
-use Rattle.lw_cells.specs.declared.draft.Draft.{Draft}
-use Rattle.lw_cells.specs.declared.draft.Operands.{Operands}
-use Rattle.lw_cells.specs.declared.slot.Slot.{Slot}
-use Rattle.lw_cells.specs.declared.slot.Slot.TheVariants.{Location}
-use Rattle.lw_cells.specs.declared.spelled.Found.{Found}
-use Rattle.lw_cells.specs.Words.{NameRead}
-use Rattle.lw_cells.specs.Spellings.{Spelling, Filling, Fills, Said, grammar_of, name_in}
-use Rattle.lw_cells.specs.Found.{CanStand, found_of, draft_on, draft_of, IsNameAmong, IsDrafted}
-use Rattle.lw_cells.specs.Found.{IsNotDrafted, IsNinthSlot, reach_of, IsSpelling}
-use Rattle.lw_cells.specs.declared.phrase.Phrase.{Phrase}
-use Rattle.lw_cells.specs.Reading.{Fits, StatementRead, StatementRefused, NinthIn}
+use Rattle.lw_cells.proofs.Common.{◌≡◌, ℕ, suc, ◌<◌, ◌≤◌, ◌+◌, Option, Some, None, List, [], ◌∷◌, ◌++◌}
+use Rattle.lw_cells.proofs.Common.{length, take, get_or, refl, sym, ap, ◌∙◌, subst, arith, slice_get}
+use Rattle.lw_cells.proofs.Common.{Contains, IfSome, MatchOption, slice_get_within, get_or_from_slice_get}
+use Rattle.lw_cells.proofs.Common.{same_Some, length-map, take-map, IsLocation, Bytes, NameTable, TokenList}
+use Rattle.lw_cells.proofs.Common.{CellFault, Token, texts, Draft, Operands, Slot, Location, Found, NameRead}
+use Rattle.lw_cells.proofs.Common.{Spelling, Filling, Fills, Said, grammar_of, name_in, CanStand, found_of}
+use Rattle.lw_cells.proofs.Common.{draft_on, draft_of, IsNameAmong, IsDrafted, IsNotDrafted, IsNinthSlot}
+use Rattle.lw_cells.proofs.Common.{reach_of, IsSpelling, Phrase, Fits, StatementRead, StatementRefused}
+use Rattle.lw_cells.proofs.Common.{NinthIn}
 use Rattle.lw_cells.proofs.Elements.{all_at}
 use Rattle.lw_cells.proofs.FrontLabels.{get_text}
 use Rattle.lw_cells.proofs.SlotTokens.{reached}
@@ -128,7 +116,7 @@ module _ {W Form Stmt : Type 0} (spelling : Spelling W Form Stmt) where
         let is = name_is h.index h.token h.name h.is in
         let front : CanStand spelling (texts (take h.index tokens)) n.2 =
         subst (λ (ts : TokenList). CanStand spelling ts n.2) (ap (λ (m : ℕ). take m (texts tokens))
-            (omega (arith, n.5)) ∙ take-map (λ (t : Token). t.text.now) h.index tokens) n.8 in
+        (omega (arith, n.5)) ∙ take-map (λ (t : Token). t.text.now) h.index tokens) n.8 in
         record {
           none = λ known s fits.
               let same : s ≡ said = (is_grammar _ _ lawful).one (texts tokens) s said fits.0 (there, fills) in

@@ -1,13 +1,8 @@
 -- Things that are read one after another on a table that grows by their names: one further, and other readings of the same.
-use Rattle.std.proofs.Common.{◌≡◌, ◌≤◌, true, List, [], ◌∷◌, ◌++◌, length, map, refl, sym, ap, ◌∙◌, subst, arith}
-use Rattle.std.specs.List.{AllZip, AllByRecursion}
-use Rattle.std.proofs.lemmas.List.{map-append}
-use Rattle.lw_base.specs.Tables.{contains_name, with_name, with_names}
-use Rattle.lw_base.specs.Types.{Bytes, NameTable}
-use Rattle.lw_base.proofs.api.Elements.{all_parts}
-use Rattle.lw_base.proofs.api.GrowingTables.{contains_name-with_name, contains_name-with_names, with_names-append}
-use Rattle.lw_base.proofs.api.GrowingTables.{with_names-longer}
-use Rattle.lw_cells.specs.Drafts.{ReadOn}
+use Rattle.lw_cells.proofs.Common.{◌≡◌, ◌≤◌, true, List, [], ◌∷◌, ◌++◌, length, map, refl, sym, ap, ◌∙◌}
+use Rattle.lw_cells.proofs.Common.{subst, arith, AllZip, AllByRecursion, map-append, contains_name, with_name}
+use Rattle.lw_cells.proofs.Common.{with_names, Bytes, NameTable, all_parts, contains_name-with_name}
+use Rattle.lw_cells.proofs.Common.{contains_name-with_names, with_names-append, with_names-longer, ReadOn}
 use Rattle.lw_cells.proofs.api.Zips.{Cut, zip_unique, zip_more}
 
 -- The names are in the table.
@@ -39,7 +34,7 @@ module _ {X D : Type 0} (names_by : List X → List Bytes) (make : NameTable →
     read_more x d after says grown is =
         let old : map (make after) read.syntax ≡ ds =
         ap (λ ns. map (make ns) read.syntax) grown ∙ all_stay mid (names_by (x ∷ [])) read.syntax
-            (rw (← read.names) at (are_in before (names_by read.syntax))) ∙ sym read.made in
+        (rw (← read.names) at (are_in before (names_by read.syntax))) ∙ sym read.made in
         let both = map-append (make after) read.syntax (x ∷ []) in
         let names = split read.syntax (x ∷ []) in
         let table = with_names-append before (names_by read.syntax) (names_by (x ∷ [])) in

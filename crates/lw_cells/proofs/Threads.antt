@@ -1,21 +1,11 @@
 -- Reading the threads of a test, one further.
-use Rattle.std.proofs.Common.{◌≡◌, ℕ, ◌<◌, ◌≤◌, ◌+◌, ◌-◌, List, [], ◌∷◌, ◌++◌, length, suc, take, drop, get_or, refl}
-use Rattle.std.proofs.Common.{sym, ap, ◌∙◌, subst, arith, All, replicate, append-nil}
-use Rattle.std.specs.List.{AllZip}
-use Rattle.std.proofs.lemmas.List.{map-append}
-use Rattle.std.proofs.lemmas.Grind.{flat_map-append}
-use Rattle.lw_base.specs.Heads.{TestHead, with_table}
-use Rattle.lw_base.specs.Limits.{most_locations}
-use Rattle.lw_base.specs.Tables.{with_names}
-use Rattle.lw_base.specs.Types.{CellGrid, NameTable}
-use Rattle.lw_base.specs.declared.fault.CellCause.TheVariants.{Memory}
-use Rattle.lw_base.specs.declared.fault.CellFault.{CellFault}
-use Rattle.lw_text.specs.declared.cell.Cell.{Cell}
-use Rattle.lw_text.specs.Places.{cells_texts, all_texts, placed_row, placed_cells, IsWithin}
-use Rattle.lw_text.proofs.api.Places.{grid_placed}
-use Rattle.lw_cells.specs.Grammars.{Grammar, IsGrammar}
-use Rattle.lw_cells.specs.Cells.{CellSyntax, Column, names_in, names_of, code_in, FrameHasTest}
-use Rattle.lw_cells.specs.Reading.{ColumnRead, ColumnsRead, ColumnRefused, ColumnsRefused}
+use Rattle.lw_cells.proofs.Common.{◌≡◌, ℕ, ◌<◌, ◌≤◌, ◌+◌, ◌-◌, List, [], ◌∷◌, ◌++◌, length, suc, take, drop}
+use Rattle.lw_cells.proofs.Common.{get_or, refl, sym, ap, ◌∙◌, subst, arith, All, replicate, append-nil}
+use Rattle.lw_cells.proofs.Common.{AllZip, map-append, flat_map-append, TestHead, with_table, most_locations}
+use Rattle.lw_cells.proofs.Common.{with_names, CellGrid, NameTable, Memory, CellFault, Cell, cells_texts}
+use Rattle.lw_cells.proofs.Common.{all_texts, placed_row, placed_cells, IsWithin, grid_placed, Grammar}
+use Rattle.lw_cells.proofs.Common.{IsGrammar, CellSyntax, Column, names_in, names_of, code_in, FrameHasTest}
+use Rattle.lw_cells.proofs.Common.{ColumnRead, ColumnsRead, ColumnRefused, ColumnsRefused}
 use Rattle.lw_cells.proofs.Causes.{refused_memory}
 use Rattle.lw_cells.proofs.Elements.{all_amid, cut_there, take_further}
 use Rattle.lw_cells.proofs.OneReading.{column_unique}
@@ -65,9 +55,16 @@ module _ {Syntax Stmt : Type 0} (grammar : Grammar Syntax Stmt) where
               let cut = zip_cut (Column grammar) (all_texts front) (cells_texts column) (all_texts rest) ts
               (subst (λ (cs : CellGrid). AllZip (Column grammar) cs ts) (ap all_texts whole ∙ map-append cells_texts front (column ∷ rest)) all) in
               let room = read_room (names_of grammar) (code_in grammar) names_of-append stays (Column grammar)
-                  _ before mid threads read _ (column_unique grammar lawful) (all_texts rest) ts cut in
-              r.none known cut.here (cut.says, omega (arith, few, room,
-                ap (λ (ns : NameTable). length (with_names mid ns)) (append-nil (names_in grammar cut.here))));
+              _ before mid threads read _ (column_unique grammar lawful) (all_texts rest) ts cut in
+              r.none known cut.here (
+                cut.says,
+                omega (
+                  arith,
+                  few,
+                  room,
+                  ap (λ (ns : NameTable). length (with_names mid ns)) (append-nil (names_in grammar cut.here)),
+                ),
+              );
           cause = rw (← ap placed_cells whole ∙ map-append placed_row front (column ∷ rest))
               at (r.cause before (placed_cells front) (placed_cells rest) read.syntax (rw (grid_placed front)
               read.says) read.names);
@@ -79,8 +76,10 @@ module _ {Syntax Stmt : Type 0} (grammar : Grammar Syntax Stmt) where
       → frame_head.arch ≡ grammar.language.arch → length frame_head.init_words ≡ length frame_head.locs
       → ColumnsRead grammar cells head.locs threads names → length names ≤ most_locations
       → words ≡ head.init_words ++ replicate (length names - length head.init_words) 0
-      → FrameHasTest grammar (record { head = frame_head; cells = cells }) (record { head = record (with_table head names) { init_words = words };
-        threads = threads })
+      → FrameHasTest grammar (record { head = frame_head; cells = cells }) (record {
+        head = record (with_table head names) { init_words = words };
+        threads = threads;
+      })
   test_found frame_head head same cells threads names words arch long read few filled =
       let zeros : words ≡ frame_head.init_words ++ replicate (length names - length frame_head.locs) 0 = rw (← long, ← same) filled in
       let grown : names ≡ with_names frame_head.locs (names_of grammar read.syntax) = rw (← same) read.names in

@@ -1,18 +1,11 @@
 -- The conflicts of items are those of the items that access a location.
-use Rattle.std.proofs.Common.{◌≡◌, ℕ, zero, suc, ◌+◌, ◌<◌, ◌≤◌, drop, drop-cons, get_or, Bool, false}
-use Rattle.std.proofs.Common.{if◌then◌else◌, ◌&&◌, ◌||◌, List, [], ◌∷◌, ◌++◌, length, map, Option, Some, None}
-use Rattle.std.proofs.Common.{refl, sym, ap, ap₂, ◌∙◌, inl, inr, arith, filter, option_to_list}
-use Rattle.std.proofs.Common.{flat_map, append_assoc, append-nil}
-use Rattle.std.proofs.lemmas.Bool.{cases_Bool}
-use Rattle.std.proofs.lemmas.List.{drop_all, drop_more}
-use Rattle.std.proofs.lemmas.List.Elements.{filter-append, filter_agree}
-use Rattle.lw_orders.specs.Sequence.{numbers}
-use Rattle.lw_choices.specs.declared.conflicts.Access.{Access}
-use Rattle.lw_choices.specs.declared.item.Item.{Item}
-use Rattle.lw_choices.specs.inner.Accesses.{meets, conflicts_with, conflicts_among, access_by, accesses_from}
-use Rattle.lw_litmus.specs.Languages.{Language}
-use Rattle.lw_choices.specs.Items.{item_at, pairs_from, statement_of, conflict_by}
-use Rattle.lw_choices.specs.Items.{constraints_of}
+use Rattle.lw_choices.proofs.Common.{◌≡◌, ℕ, zero, suc, ◌+◌, ◌<◌, drop, drop-cons, get_or, Bool, false}
+use Rattle.lw_choices.proofs.Common.{if◌then◌else◌, List, [], ◌∷◌, ◌++◌, length, map, Option, Some, None}
+use Rattle.lw_choices.proofs.Common.{refl, sym, ap, ap₂, ◌∙◌, inl, inr, arith, filter, option_to_list}
+use Rattle.lw_choices.proofs.Common.{flat_map, append_assoc, append-nil, cases_Bool, drop_all, drop_more}
+use Rattle.lw_choices.proofs.Common.{filter-append, filter_agree, numbers, Access, Item, meets}
+use Rattle.lw_choices.proofs.Common.{conflicts_with, conflicts_among, access_by, accesses_from, Language}
+use Rattle.lw_choices.proofs.Common.{item_at, pairs_from, statement_of, conflict_by, constraints_of}
 
 -- whether two items that may have accesses conflict
 abbrev both : Option Access → Option Access → Bool

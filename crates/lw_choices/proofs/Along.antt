@@ -1,17 +1,13 @@
 -- All choices, as they are visited one after another: what is still to come at a position of a path.
-use Rattle.std.proofs.Common.{◌≡◌, ℕ, zero, suc, ◌+◌, ◌-◌, ◌<◌, ◌≤◌, ◌==◌, true, false, List, [], ◌∷◌, ◌++◌}
-use Rattle.std.proofs.Common.{map, length, drop, Option, Some, None, refl, sym, ap, ◌∙◌, subst, inl, inr}
-use Rattle.std.proofs.Common.{slice_get, arith, append_assoc, append-nil, length-append, drop-cons, get_or}
-use Rattle.std.proofs.Common.{Contains, eqb-true, flat_map, Result, Ok, Err, OnOk, IfErr}
-use Rattle.std.proofs.lemmas.List.Folds.{flat_map-map}
-use Rattle.std.proofs.lemmas.Simd.{map-map}
-use Rattle.std.proofs.lemmas.Option.{slice_get_within, slice_get_read, get_or_from_slice_get}
-use Rattle.lw_base.specs.Threads.{code_of}
+use Rattle.lw_choices.proofs.Common.{◌≡◌, ℕ, zero, suc, ◌+◌, ◌-◌, ◌<◌, ◌≤◌, ◌==◌, true, false, List, [], ◌∷◌}
+use Rattle.lw_choices.proofs.Common.{◌++◌, map, length, drop, Option, Some, None, refl, sym, ap, ◌∙◌, subst}
+use Rattle.lw_choices.proofs.Common.{inl, inr, slice_get, arith, append_assoc, append-nil, length-append}
+use Rattle.lw_choices.proofs.Common.{drop-cons, get_or, Contains, eqb-true, flat_map, Result, Ok, Err, OnOk}
+use Rattle.lw_choices.proofs.Common.{IfErr, flat_map-map, map-map, slice_get_within, slice_get_read}
+use Rattle.lw_choices.proofs.Common.{get_or_from_slice_get, code_of, Language, IsForward, paths_on}
+use Rattle.lw_choices.proofs.Common.{paths_from, paths_of, choices_of, led, Visited, Refused, CanGoOn}
+use Rattle.lw_choices.proofs.Common.{paths_at, choices_along, Done}
 use Rattle.lw_base.proofs.api.Lists.{drop_all}
-use Rattle.lw_litmus.specs.Languages.{Language}
-use Rattle.lw_choices.specs.Choices.{IsForward, paths_on, paths_from, paths_of, choices_of, led}
-use Rattle.lw_choices.specs.Visits.{Visited, Refused, CanGoOn, paths_at, choices_along}
-use Rattle.lw_choices.specs.inner.Visiting.{Done}
 use Rattle.lw_choices.proofs.api.Led.{led_within}
 use Rattle.lw_choices.proofs.FlatMaps.{flat_map-same, over_flat_map, map_of_flat_map}
 

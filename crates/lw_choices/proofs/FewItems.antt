@@ -1,18 +1,9 @@
 -- A source test never has too many items for a list: its threads are short, and none of its stores has a drain.
-use Rattle.std.proofs.Common.{◌≡◌, ℕ, suc, ◌+◌, ◌*◌, ◌≤◌, false, true, Option, Some, None, List, [], ◌∷◌}
-use Rattle.std.proofs.Common.{length, slice_get, refl, arith, length-append, All}
-use Rattle.std.specs.Option.{option_map_or}
-use Rattle.std.proofs.lemmas.List.Elements.{All-head, All-tail}
-use Rattle.lw_litmus.specs.Flow.{IsPathFrom}
-use Rattle.lw_litmus.specs.Languages.{Language}
-use Rattle.lw_litmus.specs.Limits.{most_statements}
-use Rattle.lw_litmus.specs.Sources.{source}
-use Rattle.lw_litmus.specs.WellFormedTests.{IsWellFormedSource}
-use Rattle.lw_litmus.specs.Tests.{SourceTest}
-use Rattle.lw_litmus.specs.WellFormed.{IsThread}
-use Rattle.lw_choices.specs.Choices.{IsForward, IsChoice}
-use Rattle.lw_choices.specs.Counts.{HasTooManyItems}
-use Rattle.lw_choices.specs.Items.{items_at, path_items, items_from, drains}
+use Rattle.lw_choices.proofs.Common.{◌≡◌, ℕ, suc, ◌+◌, ◌*◌, ◌≤◌, false, true, Option, Some, None, List, []}
+use Rattle.lw_choices.proofs.Common.{◌∷◌, length, slice_get, refl, arith, length-append, All, option_map_or}
+use Rattle.lw_choices.proofs.Common.{All-head, All-tail, IsPathFrom, Language, most_statements, source}
+use Rattle.lw_choices.proofs.Common.{IsWellFormedSource, SourceTest, IsThread, IsForward, IsChoice}
+use Rattle.lw_choices.proofs.Common.{HasTooManyItems, items_at, path_items, items_from, drains}
 use Rattle.lw_choices.proofs.api.Led.{follows_within}
 use Rattle.lw_choices.proofs.api.Numbering.{item}
 

@@ -1,27 +1,17 @@
 -- Where no statement accesses a location each choice has one order, and there are at most twice as many choices for each branch.
-use Rattle.std.proofs.Common.{◌≡◌, inl, inr, ℕ, zero, suc, ◌+◌, ◌*◌, ◌^◌, ◌<◌, ◌≤◌, ◌==◌, ◌&&◌, ◌||◌, Bool}
-use Rattle.std.proofs.Common.{true, false, cond, Option, Some, None, List, [], ◌∷◌, ◌++◌, length, map}
-use Rattle.std.proofs.Common.{drop, refl, ap, ◌∙◌, slice_get, length-append, arith, true≢false}
-use Rattle.std.proofs.Common.{All, filter, if◌then◌else◌, is_some, is_none, count_by, sum_by, flat_map}
-use Rattle.std.proofs.Common.{suc-mul, mul-le-mul, pow_mono, pow-add}
-use Rattle.std.proofs.Math.Nat.{one-le-pow}
-use Rattle.std.proofs.lemmas.Bool.{cases_lt, cond_both}
-use Rattle.std.proofs.lemmas.List.{drop_more, length-map, get_or_past}
-use Rattle.std.proofs.lemmas.List.Sums.{sum_by-cons, AllPass-from_list_all}
-use Rattle.std.proofs.Math.Seq.{drop-nil}
-use Rattle.std.proofs.lemmas.List.Elements.{All-head, All-tail}
-use Rattle.std.proofs.lemmas.Option.{slice_get_within, get_or_from_slice_get}
-use Rattle.lw_base.specs.Threads.{code_of}
-use Rattle.lw_litmus.specs.Conflicts.{is_one}
-use Rattle.lw_litmus.specs.Languages.{Language}
-use Rattle.lw_litmus.specs.Operations.{target_of, goes_on, location_of}
-use Rattle.lw_orders.specs.Limits.{most_open, most_orders}
-use Rattle.lw_choices.specs.declared.item.Item.{Item}
-use Rattle.lw_choices.specs.Choices.{IsForward, led_by, led, paths_on, paths_from, paths_of, choices_of}
-use Rattle.lw_choices.specs.Counts.{orders_at_choice, orders_of, total_of}
-use Rattle.lw_choices.specs.Items.{is_drained, location_by, writes_by, conflict_by, items_conflict}
-use Rattle.lw_choices.specs.Items.{statement_of, items_of, item_at, pairs_from, constraints_of}
-use Rattle.lw_choices.specs.inner.Few.{branches, is_silent_code, is_silent}
+use Rattle.lw_choices.proofs.Common.{◌≡◌, inl, inr, ℕ, zero, suc, ◌+◌, ◌*◌, ◌^◌, ◌<◌, ◌≤◌, ◌==◌, ◌&&◌, ◌||◌}
+use Rattle.lw_choices.proofs.Common.{Bool, true, false, cond, Option, Some, None, List, [], ◌∷◌, ◌++◌, length}
+use Rattle.lw_choices.proofs.Common.{map, drop, refl, ap, ◌∙◌, slice_get, length-append, arith, All, filter}
+use Rattle.lw_choices.proofs.Common.{if◌then◌else◌, is_some, is_none, count_by, sum_by, flat_map, suc-mul}
+use Rattle.lw_choices.proofs.Common.{mul-le-mul, pow_mono, pow-add, one-le-pow, cases_lt, cond_both}
+use Rattle.lw_choices.proofs.Common.{drop_more, length-map, get_or_past, sum_by-cons, AllPass-from_list_all}
+use Rattle.lw_choices.proofs.Common.{drop-nil, All-head, All-tail, slice_get_within, get_or_from_slice_get}
+use Rattle.lw_choices.proofs.Common.{code_of, is_one, Language, target_of, goes_on, location_of, most_open}
+use Rattle.lw_choices.proofs.Common.{most_orders, Item, IsForward, led_by, led, paths_on, paths_from}
+use Rattle.lw_choices.proofs.Common.{paths_of, choices_of, orders_at_choice, orders_of, total_of, is_drained}
+use Rattle.lw_choices.proofs.Common.{location_by, writes_by, conflict_by, items_conflict, statement_of}
+use Rattle.lw_choices.proofs.Common.{items_of, item_at, pairs_from, constraints_of, branches, is_silent_code}
+use Rattle.lw_choices.proofs.Common.{is_silent}
 
 -- a list of lists that are each short
 flat_few : {X Y : Type 0} (f : X → List Y) (m : ℕ) (xs : List X) → ((x : X) → length (f x) ≤ m) → length (flat_map f xs) ≤ length xs * m
@@ -62,7 +52,7 @@ module _ {S : Type 0} (language : Language S) where
     two_led to is later =
         let more : behind code j ≡ 1 + behind code (j + 1) =
         ap (branches language) split ∙ (sum_by-cons (λ y. cond (is_some (target_of (language.operation_of y)))
-            1 0) s (drop (j + 1) code) ∙ ap (λ o. cond (is_some o) 1 0 + behind code (j + 1)) is) in
+        1 0) s (drop (j + 1) code) ∙ ap (λ o. cond (is_some o) 1 0 + behind code (j + 1)) is) in
         let mono : 2 ^ behind code to ≤ 2 ^ behind code (j + 1) =
         pow_mono (fewer_behind _ code (j + 1) to (omega arith)) in
         omega (
@@ -111,8 +101,13 @@ module _ {S : Type 0} (language : Language S) where
       (λ path. omega (arith, length-map (choices_of language program) (λ choice. path ∷ choice))) in
       let product : length (paths_of language code) * length (choices_of language program)
       ≤ 2 ^ branches language code * 2 ^ sum_by (branches language) program = mul-le-mul paths later in
-      omega (arith, all, product, pow-add 2 (branches language code) (sum_by (branches language) program),
-      ap (λ n. 2 ^ n) (sum_by-cons (branches language) code program))
+      omega (
+        arith,
+        all,
+        product,
+        pow-add 2 (branches language code) (sum_by (branches language) program),
+        ap (λ n. 2 ^ n) (sum_by-cons (branches language) code program),
+      )
 
   -- ---- orders
 

@@ -1,7 +1,6 @@
 -- Lists made by `map` and `flat_map`: of functions that agree, and of a `flat_map`.
-use Rattle.std.proofs.Common.{◌≡◌, List, [], ◌∷◌, ◌++◌, map, refl, ap, ap₂, ◌∙◌, Contains, flat_map}
-use Rattle.std.proofs.lemmas.Grind.{flat_map-append}
-use Rattle.std.proofs.lemmas.List.{map-append}
+use Rattle.lw_choices.proofs.Common.{◌≡◌, List, [], ◌∷◌, ◌++◌, map, refl, ap, ap₂, ◌∙◌, Contains, flat_map}
+use Rattle.lw_choices.proofs.Common.{flat_map-append, map-append}
 use Rattle.lw_choices.proofs.api.Members.{Contains-here, Contains-there}
 
 pub flat_map-same : {X Y : Type 0} (f g : X → List Y) (xs : List X) → ((x : X) → Contains xs x → f x ≡ g x) → flat_map f xs ≡ flat_map g xs

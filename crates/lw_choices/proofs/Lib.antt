@@ -1,3 +1,4 @@
+pub mod Common
 pub mod api
 mod Once
 mod FlatMaps

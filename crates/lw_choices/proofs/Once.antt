@@ -1,11 +1,8 @@
 -- Each path, and each choice, is listed once.
-use Rattle.std.proofs.Common.{◌≡◌, ℕ, zero, suc, ◌<◌, ◌≤◌, List, [], ◌∷◌, ◌++◌, map, length, Option, Some}
-use Rattle.std.proofs.Common.{None, refl, sym, ◌∙◌, subst, inl, inr, slice_get, Contains, All, flat_map}
-use Rattle.std.proofs.lemmas.List.Elements.{All-head, All-tail, Contains-append_cases}
-use Rattle.lw_base.specs.Lists.{EachOnce}
-use Rattle.lw_litmus.specs.Languages.{Language}
-use Rattle.lw_litmus.specs.Flow.{IsPathFrom}
-use Rattle.lw_choices.specs.Choices.{IsForward, paths_on, paths_from, paths_of, choices_of, led}
+use Rattle.lw_choices.proofs.Common.{◌≡◌, ℕ, zero, suc, ◌<◌, ◌≤◌, List, [], ◌∷◌, ◌++◌, map, length, Option}
+use Rattle.lw_choices.proofs.Common.{Some, None, refl, sym, ◌∙◌, subst, inl, inr, slice_get, Contains, All}
+use Rattle.lw_choices.proofs.Common.{flat_map, All-head, All-tail, Contains-append_cases, EachOnce, Language}
+use Rattle.lw_choices.proofs.Common.{IsPathFrom, IsForward, paths_on, paths_from, paths_of, choices_of, led}
 use Rattle.lw_choices.proofs.api.Members.{none_in, Contains-here, Contains-there, from_map, from_flat_map}
 use Rattle.lw_choices.proofs.api.Led.{led_within, led_to-once}
 use Rattle.lw_choices.proofs.api.Enumerated.{paths-only}
@@ -26,8 +23,8 @@ once_flat_map : {X Y : Type 0} (f : X → List Y) (xs : List X) → EachOnce xs 
 once_flat_map f [] o each apart = tt
 once_flat_map f (x ∷ xs) o each apart =
     once_append (f x) (flat_map f xs) (each x (Contains-here x x xs refl)) (once_flat_map f xs o.1
-        (λ y c. each y (Contains-there x y xs c)) (λ y z w a b. apart y z w (Contains-there x y xs a)
-        (Contains-there x z xs b))) (λ z c d. (let g = from_flat_map f xs z d in
+    (λ y c. each y (Contains-there x y xs c)) (λ y z w a b. apart y z w (Contains-there x y xs a)
+    (Contains-there x z xs b))) (λ z c d. (let g = from_flat_map f xs z d in
     o.0 (subst (λ w. Contains xs w) (sym (apart x g.0 z (Contains-here x x xs refl) (Contains-there x g.0 xs g.1) c g.2)) g.1)))
 
 cons_same : {X : Type 0} (x : X) (xs ys : List X) → x ∷ xs ≡ x ∷ ys → xs ≡ ys
@@ -52,8 +49,8 @@ module _ {S : Type 0} (language : Language S) where
         go (Some s) e =
             let in_code : (k : ℕ) → Contains (led language s j) k → (j < k) × (k ≤ length code) = λ k c. led_within language code j k s is e c in
             once_map _ _ (λ p q h. cons_same j p q h) (once_flat_map rest (led language s j) (led_to-once _ _
-                j) (λ k c. each k (in_code k c).0 (in_code k c).1) (λ k m p a b c d. one_start code k m p
-                (only k p (in_code k a).1 c) (only m p (in_code m b).1 d)))
+            j) (λ k c. each k (in_code k c).0 (in_code k c).1) (λ k m p a b c d. one_start code k m p
+            (only k p (in_code k a).1 c) (only m p (in_code m b).1 d)))
 
     pub paths-once : (n j : ℕ) → EachOnce (paths_from language n code j)
     paths-once zero j = on_once (λ k. []) j (λ k a b. tt) (λ k p l c. absurd (none_in p c))
@@ -65,9 +62,9 @@ module _ {S : Type 0} (language : Language S) where
   choices_differ (code ∷ program) all =
       let tails = choices_of language program in
       once_flat_map (λ (path : List ℕ). map (λ (paths : List (List ℕ)). path ∷ paths) tails)
-          (paths_of language code) (paths-once code (All-head (IsForward language) code program all)
-          (length code) 0) (λ path c. once_map (λ (paths : List (List ℕ)). path ∷ paths) tails
-          (λ a b h. cons_same path a b h) (choices_differ program (All-tail (IsForward language) code program
-          all))) (λ p q z a b c d. (let m = from_map (λ (paths : List (List ℕ)). p ∷ paths) tails z c in
+      (paths_of language code) (paths-once code (All-head (IsForward language) code program all)
+      (length code) 0) (λ path c. once_map (λ (paths : List (List ℕ)). path ∷ paths) tails
+      (λ a b h. cons_same path a b h) (choices_differ program (All-tail (IsForward language) code program
+      all))) (λ p q z a b c d. (let m = from_map (λ (paths : List (List ℕ)). p ∷ paths) tails z c in
       let n = from_map (λ (paths : List (List ℕ)). q ∷ paths) tails z d in
       heads_same p q m.0 n.0 (m.2 ∙ sym n.2)))

@@ -1,14 +1,10 @@
 -- One turn of each loop that makes a list of the items, of their fixed pairs or of their accesses.
-use Rattle.std.proofs.Common.{◌≡◌, ℕ, suc, ◌+◌, ◌<◌, ◌≤◌, Bool, false, ◌||◌, List, [], ◌∷◌, ◌++◌, length, map}
-use Rattle.std.proofs.Common.{drop, get_or, slice_get, Option, Some, None, SomeIff, refl, sym, ◌∙◌}
-use Rattle.std.proofs.Common.{◌^◌, arith, IsSome, if◌then◌else◌, filter, not, append_assoc, append-nil}
-use Rattle.lw_orders.specs.Order.{Constraints, count_of, is_decided}
-use Rattle.std.proofs.lemmas.List.{drop_more}
-use Rattle.lw_choices.specs.declared.item.Item.{Item}
-use Rattle.lw_choices.specs.declared.item.Last.{Last}
-use Rattle.lw_litmus.specs.Languages.{Language}
-use Rattle.lw_choices.specs.Items.{behind, fixed_at, last_with, last_of, items_at, path_items, items_from}
-use Rattle.lw_choices.specs.Items.{does_wait, fixed_from}
+use Rattle.lw_choices.proofs.Common.{◌≡◌, ℕ, suc, ◌+◌, ◌<◌, Bool, false, ◌||◌, List, [], ◌∷◌, ◌++◌, length}
+use Rattle.lw_choices.proofs.Common.{map, drop, get_or, slice_get, Option, Some, None, SomeIff, refl, sym}
+use Rattle.lw_choices.proofs.Common.{◌∙◌, ◌^◌, arith, IsSome, if◌then◌else◌, filter, not, append_assoc}
+use Rattle.lw_choices.proofs.Common.{append-nil, Constraints, count_of, is_decided, drop_more, Item, Last}
+use Rattle.lw_choices.proofs.Common.{Language, behind, fixed_at, last_with, last_of, items_at, path_items}
+use Rattle.lw_choices.proofs.Common.{items_from, does_wait, fixed_from}
 
 fixed_is : (d w : Bool) (last : Last) (n : ℕ) → behind last.statement n ++ (if d || w then behind last.drain n else []) ≡ fixed_at d w last n
 fixed_is false false last n = append-nil (behind last.statement n)
@@ -57,8 +53,15 @@ module _ {S : Type 0} (language : Language S) where
       let plus : n + 1 ≡ suc n = omega arith in
       let here : behind last.statement n ++ (if waits then behind last.drain n else []) ≡ fixed_at a.is_drain
       (does_wait language program a) (last_of t a.thread before) n = rw (← el, ew) (fixed_is _ _ last n) in
-      rw (is, append_assoc old (behind last.statement n) (if waits then behind last.drain n else []), here,
-          append_assoc, en, el, plus) (rw (drop_more items n a l, ← ea, plus) at h)
+      rw (
+        is,
+        append_assoc old (behind last.statement n) (if waits then behind last.drain n else []),
+        here,
+        append_assoc,
+        en,
+        el,
+        plus,
+      ) (rw (drop_more items n a l, ← ea, plus) at h)
 
 -- where nothing conflicts, there is one order
 pub one_order : (t : Constraints) → length t.conflicts ≡ 0 → 1 ≡ count_of t

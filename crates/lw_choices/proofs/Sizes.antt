@@ -1,18 +1,11 @@
 -- The most items of paths and of choices.
-use Rattle.std.proofs.Common.{◌≡◌, ◌⊎◌, inl, inr, ℕ, suc, ◌+◌, ◌<◌, ◌≤◌, Option, Some, None, List, [], ◌∷◌}
-use Rattle.std.proofs.Common.{length, refl, sym, ap, ap₂, ◌∙◌, slice_get, length-append, arith}
-use Rattle.std.proofs.Common.{Contains, slice_index, slice_set, length-set, get_or-set_same, get_or-set_other}
-use Rattle.std.proofs.Common.{option_to_list}
-use Rattle.std.proofs.lemmas.Bool.{cases_eq}
-use Rattle.std.proofs.lemmas.Option.{slice_get_within, slice_get_past}
-use Rattle.lw_litmus.specs.Limits.{most_instructions}
-use Rattle.lw_litmus.specs.Languages.{Language}
-use Rattle.lw_litmus.specs.Flow.{IsPathFrom}
-use Rattle.lw_choices.specs.Choices.{IsForward, IsChoice, led}
-use Rattle.lw_choices.specs.Counts.{items_at_choice}
-use Rattle.lw_choices.specs.Items.{items_at, path_items, items_from}
-use Rattle.lw_choices.specs.inner.Sizes.{IsMost, statement_size, path_size}
-use Rattle.lw_choices.specs.Visits.{IsVisitable}
+use Rattle.lw_choices.proofs.Common.{◌≡◌, ◌⊎◌, inl, inr, ℕ, suc, ◌+◌, ◌<◌, ◌≤◌, Option, Some, None, List, []}
+use Rattle.lw_choices.proofs.Common.{◌∷◌, length, refl, sym, ap, ap₂, ◌∙◌, slice_get, length-append, arith}
+use Rattle.lw_choices.proofs.Common.{Contains, slice_index, slice_set, length-set, get_or-set_same}
+use Rattle.lw_choices.proofs.Common.{get_or-set_other, option_to_list, cases_eq, slice_get_within}
+use Rattle.lw_choices.proofs.Common.{slice_get_past, most_instructions, Language, IsPathFrom, IsForward}
+use Rattle.lw_choices.proofs.Common.{IsChoice, led, items_at_choice, items_at, path_items, items_from, IsMost}
+use Rattle.lw_choices.proofs.Common.{statement_size, path_size, IsVisitable}
 use Rattle.lw_choices.proofs.api.Led.{led-has, led-only, led_within}
 use Rattle.lw_choices.proofs.api.Members.{of_one, Contains-here, Contains-there, Contains-cons}
 
@@ -94,8 +87,12 @@ module _ {S : Type 0} {language : Language S} {code : List S} where
         more [] ends = absurd (omega (arith, slice_get_within code at s is, ends))
         more (j ∷ path) (same, next, follows, further) =
             let c = led-has language (slice_get code at) s at next is follows in
-            omega (arith, longer language code j path s (ap (slice_get code) same ∙ is),
-            (known_behind next c).is_most.none_more path further, largest.none_more next c)
+            omega (
+              arith,
+              longer language code j path s (ap (slice_get code) same ∙ is),
+              (known_behind next c).is_most.none_more path further,
+              largest.none_more next c,
+            )
 
 -- From position k on the most items of the paths are known.
 pub record AreKnownFrom {S : Type 0} (language : Language S) (code : List S) (k : ℕ) (most : List ℕ) : Type 0 where

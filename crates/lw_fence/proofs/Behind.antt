@@ -1,22 +1,9 @@
 -- A source that lags behind the machine, through whole runs: whatever the machine does, the source follows.
-use Rattle.std.proofs.Common.{◌≡◌, ℕ, ◌<◌, List, [], ◌∷◌, ◌++◌, length, map, Some, refl, sym, subst, arith}
-use Rattle.std.proofs.Common.{slice_get, slice_set}
-use Rattle.std.proofs.lemmas.Option.{slice_get_within}
-use Rattle.lw_base.specs.Threads.{code_of}
-use Rattle.lw_base.specs.declared.event.Event.{Event}
-use Rattle.lw_base.specs.declared.event.Event.TheVariants.{Step, Drain, Evict}
-use Rattle.lw_memory.specs.Flat.{flat}
-use Rattle.lw_interleaving.specs.declared.thread.Thread.{Thread}
-use Rattle.lw_litmus.specs.WellFormedTests.{IsWellFormedSource}
-use Rattle.lw_litmus.specs.Tests.{SourceTest, ProgramTest}
-use Rattle.lw_interleaving.specs.Runs.{State, SourceRan}
-use Rattle.lw_interleaving.proofs.api.Exchange.{state_of}
-use Rattle.lw_tso.specs.Acts.{cpu_of, event_act}
-use Rattle.lw_tso.specs.Processors.{Processor}
-use Rattle.lw_tso.specs.Machines.{MachineState}
-use Rattle.lw_tso.specs.Runs.{MachineRan}
-use Rattle.lw_tso.proofs.api.Effects.{state, Does, Did, leads_to, no_eviction}
-use Rattle.lw_fence.specs.Compiling.{IsCompiled}
+use Rattle.lw_fence.proofs.Common.{◌≡◌, ℕ, ◌<◌, List, [], ◌∷◌, ◌++◌, length, map, Some, refl, sym, subst}
+use Rattle.lw_fence.proofs.Common.{arith, slice_get, slice_set, slice_get_within, code_of, Event, Step, Drain}
+use Rattle.lw_fence.proofs.Common.{Evict, flat, Thread, IsWellFormedSource, SourceTest, ProgramTest, State}
+use Rattle.lw_fence.proofs.Common.{SourceRan, state_of, cpu_of, event_act, Processor, MachineState}
+use Rattle.lw_fence.proofs.Common.{MachineRan, state, Does, Did, leads_to, no_eviction, IsCompiled}
 use Rattle.lw_fence.proofs.Beside.{Beside, thread_at, gone_on}
 use Rattle.lw_fence.proofs.Lag.{Lag, Followed, drained, stepped}
 use Rattle.lw_fence.proofs.Moves.{Turns, source_append}
@@ -64,7 +51,7 @@ module _ (s : SourceTest) (p : ProgramTest) (starts : List (List ℕ)) (ok : IsW
       → Followed s.threads (cpu_of e) (code_of p.threads (cpu_of e)) (code_of starts (cpu_of e)) th ms.memory q n
   follows (Step t) ss ms th c q n lt lag d =
       stepped s.threads t (code_of p.threads t) (code_of starts t) (allowed_at s ok t) (placed_at s p starts
-          compiled t lt) th c ms.memory lag.ahead lag.owes lag.sane lag.stage q n d
+      compiled t lt) th c ms.memory lag.ahead lag.owes lag.sane lag.stage q n d
   follows (Drain t) ss ms th c q n lt lag d =
       drained s.threads t (code_of p.threads t) (code_of starts t) th c ms.memory lag c.buffer refl q n d
   follows (Evict t x) ss ms th c q n lt lag d = absurd (no_eviction p.threads (length ms.memory) t x c q ms.memory n d)

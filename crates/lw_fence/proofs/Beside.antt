@@ -1,24 +1,11 @@
 -- A state of the source and one of the machine, thread by thread with its processor.
-use Rattle.std.proofs.Common.{◌≡◌, ℕ, ◌<◌, List, length, map, Some, refl, sym, ap, ap₂, ◌∙◌, subst₂, arith}
-use Rattle.std.proofs.Common.{length-set, slice_get, slice_set}
-use Rattle.std.proofs.lemmas.List.{length-map}
-use Rattle.std.proofs.lemmas.List.Elements.{All-from_recursion}
-use Rattle.std.proofs.lemmas.Option.{same_Some, slice_get_within, get_or_from_slice_get}
-use Rattle.lw_base.specs.Heads.{TestHead}
-use Rattle.lw_base.specs.Outcomes.{Final}
-use Rattle.lw_base.specs.declared.head.Arch.TheVariants.{X86}
-use Rattle.lw_base.proofs.api.Lists.{fellows_after, get_some}
-use Rattle.lw_base.proofs.api.SideBySide.{got_map, same_maps}
-use Rattle.lw_memory.specs.Flat.{flat}
-use Rattle.lw_litmus.specs.WellFormedTests.{IsWellFormedSource}
-use Rattle.lw_litmus.specs.Tests.{SourceTest, ProgramTest}
-use Rattle.lw_interleaving.specs.declared.thread.Thread.{Thread}
-use Rattle.lw_interleaving.specs.Runs.{State, start_of, outcome_of, starting_thread as thread_starting}
-use Rattle.lw_interleaving.proofs.api.Exchange.{state_of}
-use Rattle.lw_tso.specs.Machines.{MachineState}
-use Rattle.lw_tso.specs.Processors.{Processor, starting}
-use Rattle.lw_tso.specs.Runs.{machine_start, machine_outcome}
-use Rattle.lw_tso.proofs.api.Effects.{state}
+use Rattle.lw_fence.proofs.Common.{◌≡◌, ℕ, ◌<◌, List, length, map, Some, refl, sym, ap, ap₂, ◌∙◌, subst₂}
+use Rattle.lw_fence.proofs.Common.{arith, length-set, slice_get, slice_set, length-map, All-from_recursion}
+use Rattle.lw_fence.proofs.Common.{same_Some, slice_get_within, get_or_from_slice_get, TestHead, Final, X86}
+use Rattle.lw_fence.proofs.Common.{fellows_after, get_some, got_map, same_maps, flat, IsWellFormedSource}
+use Rattle.lw_fence.proofs.Common.{SourceTest, ProgramTest, Thread, State, start_of, outcome_of, state_of}
+use Rattle.lw_fence.proofs.Common.{MachineState, Processor, starting, machine_start, machine_outcome, state}
+use Rattle.lw_interleaving.specs.Runs.{starting_thread as thread_starting}
 
 -- the machine at the start of a compiled source
 abbrev pub compiled_start : SourceTest → MachineState (List ℕ)
@@ -59,7 +46,7 @@ module _ (s : SourceTest) (At : ℕ → Thread → Processor → Type 0) where
         → slice_get ms.processors t ≡ Some c → th.regs ≡ c.regs) → outcome_of ss ≡ machine_outcome flat ms
     same_outcome same =
         ap₂ (λ (r : List (List ℕ)) (w : List ℕ). let o : Final = record { regs = r; words = w } in o)
-            (same_maps _ _ ss.threads ms.processors (b.as_many ∙ sym b.as_many_processors) same) (sym b.words)
+        (same_maps _ _ ss.threads ms.processors (b.as_many ∙ sym b.as_many_processors) same) (sym b.words)
 
   -- At the start, where it is so of a thread with six registers.
   pub first : IsWellFormedSource s → ((t : ℕ) (regs : List ℕ) → t < length s.threads → length regs ≡ 6
@@ -81,4 +68,4 @@ module _ (s : SourceTest) (At : ℕ → Thread → Processor → Type 0) where
           let six = All-from_recursion _ s.head.init_regs ok.head.six t a.0 within in
           let same = ap starting (same_Some a.0 b.0 (sym a.1 ∙ b.1)) ∙ sym b.2 in
           subst₂ (λ x d. At t x d) (sym a.2) same (each t a.0 (omega (arith, within, many))
-              (ap length (sym (get_or_from_slice_get s.head.init_regs t a.0 a.0 a.1)) ∙ six))
+          (ap length (sym (get_or_from_slice_get s.head.init_regs t a.0 a.0 a.1)) ∙ six))

@@ -1,35 +1,15 @@
 -- The instructions of a row carry out its statement: the last one does to its processor and to the memory what the statement does to
 -- its thread, and one before it leaves the memory and the store buffer as they are.
-use Rattle.std.proofs.Common.{◌≡◌, ℕ, ◌+◌, ◌<◌, ◌==◌, ◌%◌, ◌^◌, add_comm, Bool, true, false, not, true≢false}
-use Rattle.std.proofs.Common.{None, Some, List, [], ◌∷◌, ◌++◌, length, if◌then◌else◌, refl, sym, ap, ap₂, ◌∙◌}
-use Rattle.std.proofs.Common.{subst, subst₂, arith, slice_set, slice_index, eqb-true, All, set-set}
-use Rattle.std.proofs.Common.{get_or-set_same, get_or-set_other}
-use Rattle.std.proofs.lemmas.Bool.{eqb-false}
-use Rattle.std.proofs.lemmas.List.{set-get_or}
-use Rattle.lw_base.specs.Sums.{sum_of}
-use Rattle.lw_base.specs.Threads.{value_of}
-use Rattle.lw_base.specs.WellFormed.{IsRegisterNumber}
-use Rattle.lw_base.specs.declared.operand.Operand.{Operand}
-use Rattle.lw_base.specs.declared.operand.Operand.TheVariants.{Register, Number}
-use Rattle.lw_base.specs.declared.stop.Stop.{Stop}
-use Rattle.lw_base.specs.declared.stop.Stop.TheVariants.{SwapWaits, FenceWaits}
-use Rattle.lw_litmus.specs.declared.operation.Operation.{Operation}
-use Rattle.lw_litmus.specs.declared.stmt.Stmt.{Stmt}
-use Rattle.lw_litmus.specs.declared.stmt.Stmt.TheVariants.{Store, Load, Swap, FetchAdd, Set, Sum, IfEq, IfNe}
-use Rattle.lw_litmus.specs.declared.stmt.Stmt.TheVariants.{Goto}
-use Rattle.lw_litmus.specs.declared.instr.Instr.{Instr}
-use Rattle.lw_litmus.specs.Operations.{location_of, is_store, is_load}
-use Rattle.lw_litmus.specs.WellFormed.{registers_of}
-use Rattle.lw_litmus.specs.Sources.{source_operation}
-use Rattle.lw_interleaving.specs.declared.thread.Thread.{Thread}
-use Rattle.lw_interleaving.specs.Statements.{thread_after, words_after}
-use Rattle.lw_interleaving.proofs.api.Exchange.{thread_alone}
-use Rattle.lw_tso.specs.Processors.{Processor, newest, going_on, getting, jumping}
-use Rattle.lw_tso.specs.Acts.{Act, Goes, load_act, once_empty, step_act}
-use Rattle.lw_tso.proofs.api.Effects.{Does}
-use Rattle.lw_fence.specs.declared.row.Row.{Row}
-use Rattle.lw_fence.specs.declared.row.Row.TheVariants.{One, Two}
-use Rattle.lw_fence.specs.Compiling.{moved, compared, row, instrs_of}
+use Rattle.lw_fence.proofs.Common.{◌≡◌, ℕ, ◌+◌, ◌<◌, ◌==◌, ◌%◌, ◌^◌, add_comm, Bool, true, false, not}
+use Rattle.lw_fence.proofs.Common.{true≢false, None, Some, List, [], ◌∷◌, ◌++◌, length, if◌then◌else◌, refl}
+use Rattle.lw_fence.proofs.Common.{sym, ap, ap₂, ◌∙◌, subst, subst₂, arith, slice_set, slice_index, eqb-true}
+use Rattle.lw_fence.proofs.Common.{All, set-set, get_or-set_same, get_or-set_other, eqb-false, set-get_or}
+use Rattle.lw_fence.proofs.Common.{sum_of, value_of, IsRegisterNumber, Operand, Register, Number, Stop}
+use Rattle.lw_fence.proofs.Common.{SwapWaits, FenceWaits, Operation, Stmt, Store, Load, Swap, FetchAdd, Set}
+use Rattle.lw_fence.proofs.Common.{Sum, IfEq, IfNe, Goto, Instr, location_of, is_store, is_load, registers_of}
+use Rattle.lw_fence.proofs.Common.{source_operation, Thread, thread_after, words_after, thread_alone}
+use Rattle.lw_fence.proofs.Common.{Processor, newest, going_on, getting, jumping, Act, Goes, load_act}
+use Rattle.lw_fence.proofs.Common.{once_empty, step_act, Does, Row, One, Two, moved, compared, row, instrs_of}
 use Rattle.lw_fence.proofs.Owes.{IsLocal}
 use Rattle.lw_fence.proofs.Placed.{chosen}
 use Rattle.lw_litmus.specs.declared.operation.Operation.TheVariants as operation
@@ -107,7 +87,7 @@ module _ (starts : List ℕ) (v : Thread) where
     carries = λ b m load q n done.
         let next = thread_alone (source_operation s) v [] m l in
         carried s b m m n _ q (position ∙ ap (λ (t : Thread). slice_index starts t.position) next) (same
-            ∙ ap (λ t. t.regs) next) (apart l refl refl) (subst (λ act. Does m act q n) (goes b) done);
+        ∙ ap (λ t. t.regs) next) (apart l refl refl) (subst (λ act. Does m act q n) (goes b) done);
   }
 
   -- the terms of a sum in the other sequence
@@ -200,8 +180,11 @@ module _ (starts : List ℕ) (v : Thread) where
     jump_serves : {s : Stmt} (a k to : ℕ) {i : Instr} (told : Bool → Bool) → IsLocal s
         → ((q : Processor) → step_act (Some i) q ≡ Goes (jumping q (told q.zero_flag) (slice_index starts
         to)))
-        → thread_after (source_operation s) v [] ≡ record { position = if told (slice_index v.regs a == k)
-        then to else (v.position + 1); regs = v.regs }
+        → thread_after (source_operation s) v [] ≡ record {
+          position = if told (slice_index v.regs a == k)
+              then to else (v.position + 1);
+          regs = v.regs;
+        }
         → From s (Two (compared a k) i)
     jump_serves {s = s} a k to {i = i} told l goes after next m q n done =
         let behind = p.position + 1 + 1 in
@@ -209,8 +192,8 @@ module _ (starts : List ℕ) (v : Thread) where
         record { position = p.position + 1; regs = p.regs; zero_flag = slice_index p.regs a == k; buffer = p.buffer } in
         let jump = jumps (told (slice_index v.regs a == k)) to (omega arith) in
         leads s r q i m n refl refl (local_ends l (λ b. goes (record r { buffer = b }))
-            (ap (λ l. if told (slice_index l a == k) then slice_index starts to else behind) regs ∙ jump
-            ∙ ap (λ t. slice_index starts t.position) (sym after)) (regs ∙ ap (λ t. t.regs) (sym after))) done
+        (ap (λ l. if told (slice_index l a == k) then slice_index starts to else behind) regs ∙ jump
+        ∙ ap (λ t. slice_index starts t.position) (sym after)) (regs ∙ ap (λ t. t.regs) (sym after))) done
 
     -- the row of the statement, with a fence or without
     pub row_serves : (s : Stmt) {fence : Bool} → length v.regs ≡ 6 → All IsRegisterNumber (registers_of (source_operation s))
@@ -218,7 +201,7 @@ module _ (starts : List ℕ) (v : Thread) where
     row_serves (Store x w) six registers empty = λ next. store_ends p next x w regs
     row_serves (Load d x) {fence = fence} six registers empty =
         chosen (From (Load d x)) fence (Two x86.Mfence (x86.Load d x)) (One (x86.Load d x))
-            (λ is. fenced_serves d x) (λ is next. load_ends p next d x regs (empty refl is))
+        (λ is. fenced_serves d x) (λ is next. load_ends p next d x regs (empty refl is))
     row_serves (Swap d x a) six registers empty =
         moved_serves (Swap d x a) d a (x86.Xchg x d)
         (λ q next moved. swap_ends q next d a (omega (arith, registers 0 0 (omega arith))) moved x)
@@ -229,14 +212,14 @@ module _ (starts : List ℕ) (v : Thread) where
         λ next. local_ends refl (λ b. refl) (sym next) (ap (λ r. slice_set r d (value_of w r)) regs)
     row_serves (Sum d a (Number k)) six registers empty =
         moved_serves (Sum d a (Number k)) d a (x86.Add d (Number k)) (λ q next moved. add_ends q next d a
-            (omega (arith, registers 0 0 (omega arith))) moved (Number k) refl)
+        (omega (arith, registers 0 0 (omega arith))) moved (Number k) refl)
     row_serves (Sum d a (Register b)) six registers empty =
         let there : d < length v.regs = omega (arith, registers 0 0 (omega arith)) in
         chosen (From (Sum d a (Register b))) (d == b) (One (x86.Add d (Register a))) _ (λ is next. local_ends
-            refl (λ c. refl) (sym next) (ap (λ r. slice_set r d (sum_of (slice_index r d) (slice_index r a)))
-            regs ∙ ap (slice_set v.regs d) (swapped d a b is))) (λ is. moved_serves (Sum d a (Register b)) d a
-            _ (λ q next moved. add_ends q next d a there moved (Register b) (ap (λ r. slice_index r b) moved
-            ∙ get_or-set_other v.regs d b (slice_index v.regs a) 0 (λ e. eqb-false d b is (sym e)))))
+        refl (λ c. refl) (sym next) (ap (λ r. slice_set r d (sum_of (slice_index r d) (slice_index r a)))
+        regs ∙ ap (slice_set v.regs d) (swapped d a b is))) (λ is. moved_serves (Sum d a (Register b)) d a
+        _ (λ q next moved. add_ends q next d a there moved (Register b) (ap (λ r. slice_index r b) moved
+        ∙ get_or-set_other v.regs d b (slice_index v.regs a) 0 (λ e. eqb-false d b is (sym e)))))
     row_serves (IfEq a k to) six registers empty = jump_serves a k to (λ flag. flag) refl (λ q. refl) refl
     row_serves (IfNe a k to) six registers empty = jump_serves a k to not refl (λ q. refl) refl
     row_serves (Goto to) six registers empty = λ next. local_ends refl (λ b. refl) refl regs

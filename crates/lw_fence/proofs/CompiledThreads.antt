@@ -1,11 +1,7 @@
 -- The threads of a test, compiled one after another.
-use Rattle.std.proofs.Common.{◌≡◌, ℕ, ◌+◌, ◌⊎◌, inl, inr, List, [], ◌∷◌, ◌++◌, length, length-append, Some}
-use Rattle.std.proofs.Common.{sym, ap, ◌∙◌, subst, subst₂, arith, slice_get}
-use Rattle.std.proofs.lemmas.Option.{same_Some, slice_get_within}
-use Rattle.lw_base.proofs.api.Lists.{get_append}
-use Rattle.lw_litmus.specs.declared.stmt.Stmt.{Stmt}
-use Rattle.lw_litmus.specs.declared.instr.Instr.{Instr}
-use Rattle.lw_fence.specs.Compiling.{IsCompiledThread}
+use Rattle.lw_fence.proofs.Common.{◌≡◌, ℕ, ◌+◌, ◌⊎◌, inl, inr, List, [], ◌∷◌, ◌++◌, length, length-append}
+use Rattle.lw_fence.proofs.Common.{Some, sym, ap, ◌∙◌, subst, subst₂, arith, slice_get, same_Some}
+use Rattle.lw_fence.proofs.Common.{slice_get_within, get_append, Stmt, Instr, IsCompiledThread}
 
 -- The first so many threads are compiled.
 pub record AreCompiled (codes : List (List Stmt)) (n : ℕ) (threads : List (List Instr)) (starts : List (List ℕ)) : Type 0 where
@@ -24,7 +20,7 @@ module _ (codes : List (List Stmt)) where
   }
 
   pub one_compiled : (n : ℕ) (threads : List (List Instr)) {next : List (List Instr)} (starts : List (List ℕ)) {more : List (List ℕ)}
-    {code : List Stmt} (instrs : List Instr)
+      {code : List Stmt} (instrs : List Instr)
       (begins : List ℕ) → AreCompiled codes n threads starts → slice_get codes n ≡ Some code → IsCompiledThread code instrs begins
       → next ≡ threads ++ instrs ∷ [] → more ≡ starts ++ begins ∷ [] → AreCompiled codes (n + 1) next more
   one_compiled n threads starts {code = code} instrs begins before at compiled e f = record {

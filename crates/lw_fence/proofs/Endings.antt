@@ -1,21 +1,9 @@
 -- Each run of the compiled program over flat memory can be brought to its end.
-use Rattle.std.proofs.Common.{ℕ, List, Option, refl, arith}
-use Rattle.lw_base.specs.Limits.{most_threads}
-use Rattle.lw_base.specs.declared.event.Event.{Event}
-use Rattle.lw_memory.specs.declared.system.LineState.TheVariants.{I}
-use Rattle.lw_memory.specs.declared.system.Request.{Request}
+use Rattle.lw_fence.proofs.Common.{ℕ, List, Option, refl, arith, most_threads, Event, I, Request, answer_of}
+use Rattle.lw_fence.proofs.Common.{content_after, flat, WordsServe, Invariant, Lawful, Served, IsPossible}
+use Rattle.lw_fence.proofs.Common.{IsWellFormedSource, IsWellFormedProgram, SourceTest, ProgramTest, CanEnd}
+use Rattle.lw_fence.proofs.Common.{MachineState, MachineRan, machine_start, can_end, IsCompiled}
 use Rattle.lw_memory.specs.declared.system.Request.TheVariants.{Load, Store, Swap, FetchAdd, Evict}
-use Rattle.lw_memory.specs.Content.{answer_of, content_after}
-use Rattle.lw_memory.specs.Flat.{flat, WordsServe}
-use Rattle.lw_memory.specs.MemoryLaws.{Invariant, Lawful, Served}
-use Rattle.lw_memory.specs.Memory.{IsPossible}
-use Rattle.lw_litmus.specs.WellFormedTests.{IsWellFormedSource, IsWellFormedProgram}
-use Rattle.lw_litmus.specs.Tests.{SourceTest, ProgramTest}
-use Rattle.lw_tso.specs.Endings.{CanEnd}
-use Rattle.lw_tso.specs.Machines.{MachineState}
-use Rattle.lw_tso.specs.Runs.{MachineRan, machine_start}
-use Rattle.lw_tso.proofs.api.Endings.{can_end}
-use Rattle.lw_fence.specs.Compiling.{IsCompiled}
 use Rattle.lw_fence.proofs.Programs.{is_program}
 
 -- As many processors as there can be.

@@ -1,15 +1,10 @@
 -- The fences that are found, by the marks.
-use Rattle.std.proofs.Common.{◌≡◌, ◌↔◌, ℕ, ◌+◌, ◌<◌, ◌≤◌, List, [], ◌∷◌, ◌++◌, length, Option, Some, Bool}
-use Rattle.std.proofs.Common.{true, false, ◌&&◌, sym, ap, ◌∙◌, subst, ⊎_elim, arith, slice_get, length-append}
-use Rattle.std.proofs.Common.{slice_index_or}
-use Rattle.std.specs.Option.{option_map_or}
-use Rattle.std.proofs.lemmas.Option.{slice_get_past, slice_get_within}
-use Rattle.std.proofs.lemmas.Bool.{cases_lt, false≢true, and_parts, and_from}
-use Rattle.lw_base.proofs.api.Lists.{get_append, get_some}
-use Rattle.lw_litmus.specs.declared.stmt.Stmt.{Stmt}
-use Rattle.lw_litmus.specs.Operations.{is_load}
-use Rattle.lw_litmus.specs.Sources.{source_operation}
-use Rattle.lw_fence.specs.Fences.{HasOperation, IsBehindStore, NeedsFence}
+use Rattle.lw_fence.proofs.Common.{◌≡◌, ◌↔◌, ℕ, ◌+◌, ◌<◌, ◌≤◌, List, [], ◌∷◌, ◌++◌, length, Option, Some}
+use Rattle.lw_fence.proofs.Common.{Bool, true, false, ◌&&◌, sym, ap, ◌∙◌, subst, ⊎_elim, arith, slice_get}
+use Rattle.lw_fence.proofs.Common.{length-append, slice_index_or, option_map_or, slice_get_past}
+use Rattle.lw_fence.proofs.Common.{slice_get_within, cases_lt, false≢true, and_parts, and_from, get_append}
+use Rattle.lw_fence.proofs.Common.{get_some, Stmt, is_load, source_operation, HasOperation, IsBehindStore}
+use Rattle.lw_fence.proofs.Common.{NeedsFence}
 
 -- a load is there
 abbrev loads : Option Stmt → Bool

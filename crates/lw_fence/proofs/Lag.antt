@@ -1,30 +1,15 @@
 -- A processor runs ahead of its source thread: the thread owes the local statements that the processor has carried out and
 -- the stores that are still in the store buffer, and the processor may stand in the middle of a statement.
-use Rattle.std.proofs.Common.{◌≡◌, ◌≢◌, ℕ, List, [], ◌∷◌, Some, sym, ◌∙◌, subst, subst₂, slice_get}
-use Rattle.std.proofs.Common.{slice_index, ◌↔◌, ◌+◌, length, Option, None, Bool, true, false, refl, ap}
-use Rattle.std.proofs.Common.{⊎_elim, arith, append-nil}
-use Rattle.lw_base.specs.Threads.{code_of}
-use Rattle.lw_litmus.specs.declared.stmt.Stmt.{Stmt}
-use Rattle.lw_litmus.specs.declared.instr.Instr.{Instr}
-use Rattle.lw_interleaving.specs.declared.thread.Thread.{Thread}
-use Rattle.lw_tso.specs.Processors.{Processor}
-use Rattle.lw_tso.specs.Acts.{drain_act, Act, step_act}
-use Rattle.lw_tso.proofs.api.Effects.{Does}
+use Rattle.lw_fence.proofs.Common.{◌≡◌, ◌≢◌, ℕ, List, [], ◌∷◌, Some, sym, ◌∙◌, subst, subst₂, slice_get}
+use Rattle.lw_fence.proofs.Common.{slice_index, ◌↔◌, ◌+◌, length, Option, None, Bool, true, false, refl, ap}
+use Rattle.lw_fence.proofs.Common.{⊎_elim, arith, append-nil, code_of, Stmt, Instr, Thread, Processor}
+use Rattle.lw_fence.proofs.Common.{drain_act, Act, step_act, Does, cases_lt, false≢true, none-some}
+use Rattle.lw_fence.proofs.Common.{slice_get_past, get_some, is_load, source_operation, thread_after}
+use Rattle.lw_fence.proofs.Common.{thread_alone, Row, One, Two, row, instrs_of, Is, NeedsFence}
 use Rattle.lw_fence.proofs.Carried.{Ends, Stored, apart, buffered, at_once, Carried, Led, Serves, row_serves}
 use Rattle.lw_fence.proofs.Moves.{Turns, turns_none, turns_on, turn}
 use Rattle.lw_fence.proofs.Owes.{Owes, first_store, nothing, local, store, owes_on, catch_up, after_store}
 use Rattle.lw_fence.proofs.Steps.{Sane, Allowed, stays_sane}
-use Rattle.std.proofs.lemmas.Bool.{cases_lt, false≢true}
-use Rattle.std.proofs.lemmas.Option.{none-some, slice_get_past}
-use Rattle.lw_base.proofs.api.Lists.{get_some}
-use Rattle.lw_litmus.specs.Operations.{is_load}
-use Rattle.lw_litmus.specs.Sources.{source_operation}
-use Rattle.lw_interleaving.specs.Statements.{thread_after}
-use Rattle.lw_interleaving.proofs.api.Exchange.{thread_alone}
-use Rattle.lw_fence.specs.declared.row.Row.{Row}
-use Rattle.lw_fence.specs.declared.row.Row.TheVariants.{One, Two}
-use Rattle.lw_fence.specs.Compiling.{row, instrs_of}
-use Rattle.lw_fence.specs.Fences.{Is, NeedsFence}
 use Rattle.lw_fence.proofs.Placed.{Placed, StandsAt}
 
 -- The processor is at the first instruction of the statement at which v is, or in its middle, before its last instruction.
@@ -114,7 +99,7 @@ module _ (program : List (List Stmt)) (t : ℕ) (instrs : List Instr) (starts : 
           (thread_alone (source_operation s) v [] m l) (owes_on v owes (local s at l nothing))) same
       go (buffered x w is more same) =
           waits (subst₂ (λ b w. Owes code th b w) (sym more) (ap (λ z. thread_after (source_operation z) v m)
-              (sym is)) (owes_on v owes (store x w (at ∙ ap Some is) nothing))) same
+          (sym is)) (owes_on v owes (store x w (at ∙ ap Some is) nothing))) same
       go (at_once none empty still left) = record {
         now = next;
         turns = subst (λ k. Turns program t th m next k) (sym left) (turns_on program t th next m m (catch_up _ t th v _ m owes empty) (turn _ t v m s at));
@@ -165,7 +150,7 @@ module _ (program : List (List Stmt)) (t : ℕ) (instrs : List Instr) (starts : 
       let has = subst (λ k. StandsAt instrs k (instrs_of (row starts stands.fence s))) (sym position) stands.has in
       let next : slice_index starts (v.position + 1) ≡ p.position + length (instrs_of (row starts stands.fence s)) = omega (arith, stands.next, position) in
       row_begun s at (row starts stands.fence s) has (row_serves starts v p regs s sane.six
-          (allowed v.position s at).registers (unfenced at stands.fence (placed.needed v.position s at)) next)
+      (allowed v.position s at).registers (unfenced at stands.fence (placed.needed v.position s at)) next)
 
   -- Whatever the processor's next instruction does, the source follows.
   pub stepped : Stage code instrs starts v p → After (step_act (slice_get instrs p.position) p)

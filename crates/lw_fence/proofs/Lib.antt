@@ -1,3 +1,4 @@
+pub mod Common
 pub mod api
 mod Marks
 mod FencesFound

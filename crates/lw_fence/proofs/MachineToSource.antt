@@ -1,36 +1,20 @@
 -- At the end of a run of the machine each thread of the source catches up, and is then at its end with the registers of
 -- its processor.
-use Rattle.std.proofs.Common.{◌≡◌, ℕ, zero, suc, ◌<◌, ◌≤◌, ◌==◌, nat_le, List, [], length, Some, true, refl}
-use Rattle.std.proofs.Common.{sym, ap, ◌∙◌, subst, ⊎_elim, arith, slice_get, slice_set, slice_index, eqb-true}
-use Rattle.std.proofs.Common.{IsTrue, leb-true, le-leb}
-use Rattle.std.proofs.lemmas.Bool.{cases_lt, and_parts}
-use Rattle.std.proofs.lemmas.List.{nil_from_length}
-use Rattle.std.proofs.lemmas.Option.{slice_get_within, get_or_from_slice_get}
-use Rattle.lw_base.specs.Threads.{code_of}
-use Rattle.lw_base.proofs.api.Lists.{fellows_after, get_some, at_index, set_own}
-use Rattle.lw_litmus.specs.declared.stmt.Stmt.{Stmt}
-use Rattle.lw_interleaving.specs.declared.thread.Thread.{Thread}
-use Rattle.lw_litmus.specs.Tests.{SourceTest, ProgramTest}
-use Rattle.lw_interleaving.specs.Runs.{State, RunsTo, SourceOutcome, start_of}
+use Rattle.lw_fence.proofs.Common.{◌≡◌, ℕ, zero, suc, ◌<◌, ◌≤◌, ◌==◌, nat_le, List, [], length, Some, true}
+use Rattle.lw_fence.proofs.Common.{refl, sym, ap, ◌∙◌, subst, ⊎_elim, arith, slice_get, slice_set}
+use Rattle.lw_fence.proofs.Common.{slice_index, eqb-true, IsTrue, leb-true, le-leb, cases_lt, and_parts}
+use Rattle.lw_fence.proofs.Common.{nil_from_length, slice_get_within, get_or_from_slice_get, code_of}
+use Rattle.lw_fence.proofs.Common.{fellows_after, get_some, at_index, set_own, Stmt, Thread, SourceTest}
+use Rattle.lw_fence.proofs.Common.{ProgramTest, State, RunsTo, SourceOutcome, start_of, state_of, Instr}
+use Rattle.lw_fence.proofs.Common.{Processor, MachineState, is_done, is_final, MachineRan, MachineOutcome}
+use Rattle.lw_fence.proofs.Common.{Row, One, Two, row, instrs_of, IsCompiled, zip_passes, zip_pass, state}
+use Rattle.lw_fence.proofs.Common.{Final, flat, IsWellFormedSource}
 use Rattle.lw_interleaving.specs.Runs.{starting_thread as thread_starting, is_source_final as is_over}
-use Rattle.lw_interleaving.proofs.api.Exchange.{state_of}
-use Rattle.lw_litmus.specs.declared.instr.Instr.{Instr}
-use Rattle.lw_tso.specs.Processors.{Processor}
-use Rattle.lw_tso.specs.Machines.{MachineState}
-use Rattle.lw_tso.specs.Runs.{is_done, is_final, MachineRan, MachineOutcome}
-use Rattle.lw_fence.specs.declared.row.Row.{Row}
-use Rattle.lw_fence.specs.declared.row.Row.TheVariants.{One, Two}
-use Rattle.lw_fence.specs.Compiling.{row, instrs_of, IsCompiled}
 use Rattle.lw_fence.proofs.Behind.{LagAt, Behind, Caught, caught, caught_on, not_moved, all_caught}
 use Rattle.lw_fence.proofs.Beside.{thread_at, processor_at, same_outcome, first, compiled_start, start_is}
 use Rattle.lw_fence.proofs.Lag.{Stage, whole, midway}
-use Rattle.lw_base.proofs.api.SideBySide.{zip_passes, zip_pass}
-use Rattle.lw_tso.proofs.api.Effects.{state}
 use Rattle.lw_fence.proofs.Owes.{Owes, nothing, catch_up}
 use Rattle.lw_fence.proofs.Placed.{Placed, StandsAt, placed_at}
-use Rattle.lw_base.specs.Outcomes.{Final}
-use Rattle.lw_memory.specs.Flat.{flat}
-use Rattle.lw_litmus.specs.WellFormedTests.{IsWellFormedSource}
 
 -- A statement has an instruction.
 row_within : (instrs : List Instr) (k : ℕ) (r : Row) → StandsAt instrs k (instrs_of r) → k < length instrs
@@ -67,7 +51,7 @@ module _ (s : SourceTest) (p : ProgramTest) (starts : List (List ℕ)) (compiled
   abbrev pub Over : State → ℕ → Type 0
   Over ss n =
       (t : ℕ) (th : Thread) (c : Processor) → slice_get ss.threads t ≡ Some th → slice_get ms.processors t
-          ≡ Some c → t < n → HasEnded (code_of s.threads t) th c
+      ≡ Some c → t < n → HasEnded (code_of s.threads t) th c
 
   pub record CaughtUp (ss : State) (n : ℕ) : Type 0 where
     pub end : State

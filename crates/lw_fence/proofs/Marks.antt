@@ -1,22 +1,14 @@
 -- One pass forward over the statements of a thread marks the positions that a flow path reaches from a store that may still
 -- wait in the store buffer.
-use Rattle.std.proofs.Common.{◌≡◌, ◌↔◌, ℕ, zero, suc, ◌+◌, ◌<◌, ◌≤◌, ◌⊎◌, inl, inr, List, [], ◌∷◌, ◌++◌}
-use Rattle.std.proofs.Common.{length, take, replicate, get_or, set, Option, Some, None, Bool, true, false}
-use Rattle.std.proofs.Common.{if◌then◌else◌, ◌||◌, ◌&&◌, refl, sym, ap, ap₂, ◌∙◌, subst, ⊎_elim, arith}
-use Rattle.std.proofs.Common.{slice_get, length-set, get_or-set_same, get_or-set_other}
-use Rattle.std.specs.List.{AllByRecursion}
-use Rattle.std.specs.Option.{ForSome}
-use Rattle.std.proofs.lemmas.Option.{same_Some, slice_get_within}
-use Rattle.std.proofs.lemmas.Bool.{cases_eq, false≢true}
-use Rattle.std.proofs.Math.ListN.{length-replicate}
-use Rattle.std.proofs.Math.Seq.{take-append_seam}
-use Rattle.lw_litmus.specs.declared.operation.Operation.{Operation}
-use Rattle.lw_litmus.specs.declared.stmt.Stmt.{Stmt}
-use Rattle.lw_litmus.specs.Flow.{Follows}
-use Rattle.lw_litmus.specs.Operations.{is_store, target_of, goes_on, Leads}
-use Rattle.lw_litmus.specs.Sources.{source, source_operation}
-use Rattle.lw_fence.specs.inner.Marks.{may_wait, with_mark, marked_behind}
-use Rattle.lw_fence.specs.Fences.{lets_stores_wait, Is, HasOperation, IsFlowPath, IsBehindStore}
+use Rattle.lw_fence.proofs.Common.{◌≡◌, ◌↔◌, ℕ, zero, suc, ◌+◌, ◌<◌, ◌≤◌, ◌⊎◌, inl, inr, List, [], ◌∷◌, ◌++◌}
+use Rattle.lw_fence.proofs.Common.{length, take, replicate, get_or, set, Option, Some, None, Bool, true}
+use Rattle.lw_fence.proofs.Common.{false, if◌then◌else◌, ◌||◌, ◌&&◌, refl, sym, ap, ap₂, ◌∙◌, subst, ⊎_elim}
+use Rattle.lw_fence.proofs.Common.{arith, slice_get, length-set, get_or-set_same, get_or-set_other}
+use Rattle.lw_fence.proofs.Common.{AllByRecursion, ForSome, same_Some, slice_get_within, cases_eq, false≢true}
+use Rattle.lw_fence.proofs.Common.{length-replicate, take-append_seam, Operation, Stmt, Follows, is_store}
+use Rattle.lw_fence.proofs.Common.{target_of, goes_on, Leads, source, source_operation, may_wait, with_mark}
+use Rattle.lw_fence.proofs.Common.{marked_behind, lets_stores_wait, Is, HasOperation, IsFlowPath}
+use Rattle.lw_fence.proofs.Common.{IsBehindStore}
 
 -- a store is buffered where the statement at i is left
 abbrev pub MayWait : List Stmt → Option Stmt → ℕ → Type 0
@@ -98,7 +90,7 @@ spread_sound : (o : Operation) (i : ℕ) (marks : List Bool) (j : ℕ) → at (m
     → (at marks j ≡ true) ⊎ Leads o i j
 spread_sound o i marks j h =
     ⊎_elim (λ led. ⊎_elim (λ old. inl old) (λ e. inr (inr e)) (mark_sound (target_of o) marks j led))
-        (λ e. inr (inl (next_sound (goes_on o) i j e))) (mark_sound (next_of o i) _ j h)
+    (λ e. inr (inl (next_sound (goes_on o) i j e))) (mark_sound (next_of o i) _ j h)
 
 spread_keeps : (o : Operation) (i : ℕ) (marks : List Bool) (j : ℕ) → at marks j ≡ true → at (marked_behind o i marks) j ≡ true
 spread_keeps o i marks j h = mark_keeps (next_of o i) _ j (mark_keeps (target_of o) marks j h)
@@ -107,7 +99,7 @@ spread_there : (o : Operation) (i : ℕ) (marks : List Bool) (j : ℕ) → Leads
     → at (marked_behind o i marks) j ≡ true
 spread_there o i marks j (inl next) lt =
     mark_there (next_of o i) (with_mark (target_of o) marks) j (ap (λ b. if b then Some (i + 1) else None)
-        next.0 ∙ ap Some (sym next.1)) (omega (arith, lt, mark_length (target_of o) marks))
+    next.0 ∙ ap Some (sym next.1)) (omega (arith, lt, mark_length (target_of o) marks))
 spread_there o i marks j (inr target) lt = mark_keeps _ _ j (mark_there (target_of o) marks j target lt)
 
 spread_length : (o : Operation) (i : ℕ) (marks : List Bool) → length (marked_behind o i marks) ≡ length marks

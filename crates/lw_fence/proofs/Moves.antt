@@ -1,26 +1,11 @@
 -- What one processor's events do over the flat memory, and one source thread's steps, within any whole state.
-use Rattle.std.proofs.Common.{◌≡◌, ℕ, List, [], ◌∷◌, ◌++◌, map, Some, refl, sym, ap, ◌∙◌, subst, slice_get}
-use Rattle.std.proofs.Common.{slice_set, set-set}
-use Rattle.std.proofs.lemmas.List.{map-append}
-use Rattle.lw_base.proofs.api.Replays.{Ran-append}
-use Rattle.lw_base.specs.Threads.{code_of}
-use Rattle.lw_base.specs.declared.event.Event.{Event}
-use Rattle.lw_base.specs.declared.event.Event.TheVariants.{Step, Drain}
-use Rattle.lw_memory.specs.Flat.{flat}
-use Rattle.lw_memory.specs.Memory.{Memory}
-use Rattle.lw_base.proofs.api.Lists.{got_set_same, set_own}
-use Rattle.lw_litmus.specs.declared.stmt.Stmt.{Stmt}
-use Rattle.lw_litmus.specs.Sources.{source_operation}
-use Rattle.lw_interleaving.specs.declared.thread.Thread.{Thread}
-use Rattle.lw_interleaving.specs.Statements.{thread_after, words_after}
-use Rattle.lw_interleaving.specs.Runs.{State, SourceEventDone as SourceDone, SourceRan, carried_out, step_of}
-use Rattle.lw_interleaving.proofs.api.Exchange.{state_of, state_after}
-use Rattle.lw_litmus.specs.declared.instr.Instr.{Instr}
-use Rattle.lw_tso.specs.Processors.{Processor}
-use Rattle.lw_tso.specs.Acts.{step_act, drain_act}
-use Rattle.lw_tso.specs.Machines.{MachineState, EventDone}
-use Rattle.lw_tso.specs.Runs.{MachineRan}
-use Rattle.lw_tso.proofs.api.Effects.{Does, state, leads_from}
+use Rattle.lw_fence.proofs.Common.{◌≡◌, ℕ, List, [], ◌∷◌, ◌++◌, map, Some, refl, sym, ap, ◌∙◌, subst}
+use Rattle.lw_fence.proofs.Common.{slice_get, slice_set, set-set, map-append, Ran-append, code_of, Event}
+use Rattle.lw_fence.proofs.Common.{Step, Drain, flat, Memory, got_set_same, set_own, Stmt, source_operation}
+use Rattle.lw_fence.proofs.Common.{Thread, thread_after, words_after, State, SourceRan, carried_out, step_of}
+use Rattle.lw_fence.proofs.Common.{state_of, state_after, Instr, Processor, step_act, drain_act, MachineState}
+use Rattle.lw_fence.proofs.Common.{EventDone, MachineRan, Does, state, leads_from}
+use Rattle.lw_interleaving.specs.Runs.{SourceEventDone as SourceDone}
 
 -- one list of events after another
 pub run_append : {M : Type 0} (mem : Memory M) (program : List (List Instr)) (es fs : List Event) (s mid end : MachineState M)

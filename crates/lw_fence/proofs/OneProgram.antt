@@ -1,12 +1,7 @@
 -- A source has at most one compiled program.
-use Rattle.std.proofs.Common.{◌≡◌, ℕ, suc, List, [], ◌∷◌, length, Some, Bool, true, false, refl, sym, ap, ap₂}
-use Rattle.std.proofs.Common.{◌∙◌, arith, slice_get}
-use Rattle.std.proofs.lemmas.Option.{slice_get_within}
-use Rattle.lw_base.proofs.api.Lists.{get_some}
-use Rattle.lw_litmus.specs.declared.instr.Instr.{Instr}
-use Rattle.lw_litmus.specs.declared.stmt.Stmt.{Stmt}
-use Rattle.lw_litmus.specs.Tests.{SourceTest, ProgramTest}
-use Rattle.lw_fence.specs.Compiling.{rows, starts_from, IsCompiledThread, IsCompiled}
+use Rattle.lw_fence.proofs.Common.{◌≡◌, ℕ, suc, List, [], ◌∷◌, length, Some, Bool, true, false, refl, sym, ap}
+use Rattle.lw_fence.proofs.Common.{ap₂, ◌∙◌, arith, slice_get, slice_get_within, get_some, Instr, Stmt}
+use Rattle.lw_fence.proofs.Common.{SourceTest, ProgramTest, rows, starts_from, IsCompiledThread, IsCompiled}
 
 -- as many items, the same at each place
 same_lists : {X : Type 0} (xs ys : List X) → length xs ≡ length ys

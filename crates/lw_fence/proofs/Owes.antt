@@ -1,17 +1,10 @@
 -- What a thread of the source owes: how far its processor is ahead of it, by local statements and by stores that are still in
 -- the store buffer.
-use Rattle.std.proofs.Common.{◌≡◌, ◌≢◌, ℕ, List, [], ◌∷◌, ◌++◌, Some, None, refl, inl, inr, subst, subst₂}
-use Rattle.std.proofs.Common.{slice_get, slice_set}
-use Rattle.lw_base.specs.Threads.{code_of, value_of}
-use Rattle.lw_base.specs.declared.operand.Operand.{Operand}
-use Rattle.lw_litmus.specs.declared.stmt.Stmt.{Stmt}
-use Rattle.lw_litmus.specs.declared.stmt.Stmt.TheVariants.{Store, Load, Swap, FetchAdd}
-use Rattle.lw_litmus.specs.Operations.{location_of}
-use Rattle.lw_litmus.specs.Sources.{source_operation}
-use Rattle.lw_interleaving.specs.declared.thread.Thread.{Thread}
-use Rattle.lw_interleaving.specs.Statements.{at_next, thread_after}
-use Rattle.lw_interleaving.proofs.api.Exchange.{leads, thread_alone, words_alone}
-use Rattle.lw_fence.specs.Fences.{lets_stores_wait, Is, IsBehindStore}
+use Rattle.lw_fence.proofs.Common.{◌≡◌, ◌≢◌, ℕ, List, [], ◌∷◌, ◌++◌, Some, None, refl, inl, inr, subst}
+use Rattle.lw_fence.proofs.Common.{subst₂, slice_get, slice_set, code_of, value_of, Operand, Stmt, Store}
+use Rattle.lw_fence.proofs.Common.{Load, Swap, FetchAdd, location_of, source_operation, Thread, at_next}
+use Rattle.lw_fence.proofs.Common.{thread_after, leads, thread_alone, words_alone, lets_stores_wait, Is}
+use Rattle.lw_fence.proofs.Common.{IsBehindStore}
 use Rattle.lw_fence.proofs.Marks.{step_from}
 use Rattle.lw_fence.proofs.Moves.{Turns, turns_none, turns_on, turn}
 
@@ -63,7 +56,7 @@ module _ (program : List (List Stmt)) (t : ℕ) where
       → IsLocal s → Turns program t th m (thread_after (source_operation s) th []) m
   local_turn th m s at l =
       subst₂ (λ a n. Turns program t th m a n) (thread_alone (source_operation s) th m [] l)
-          (words_alone (source_operation s) th m l) (turn program t th m s at)
+      (words_alone (source_operation s) th m l) (turn program t th m s at)
 
   -- With an empty buffer the thread catches up.
   pub catch_up : (th end : Thread) (buffer : List (ℕ × ℕ)) (m : List ℕ)

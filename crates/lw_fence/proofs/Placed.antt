@@ -1,21 +1,12 @@
 -- Where the instructions of a statement stand in the compiled code.
-use Rattle.std.proofs.Common.{◌≡◌, ◌↔◌, ℕ, zero, suc, ◌+◌, ◌*◌, ◌<◌, ◌≤◌, List, [], ◌∷◌, ◌++◌, length, Some}
-use Rattle.std.proofs.Common.{Bool, true, false, if◌then◌else◌, sym, refl, ap, ◌∙◌, subst, subst₂, arith, slice_get}
-use Rattle.std.proofs.Common.{slice_index, length-append, append_assoc, drop, get_or, ap₂, add-one, drop-cons}
-use Rattle.std.proofs.Math.Seq.{get_or-append_seam}
-use Rattle.std.proofs.lemmas.Option.{same_Some, none-some, slice_get_within, slice_get-get_or, get_or_from_slice_get}
-use Rattle.lw_base.specs.Threads.{code_of}
-use Rattle.lw_base.specs.declared.head.Arch.TheVariants.{X86}
-use Rattle.lw_base.proofs.api.Lists.{at_index}
-use Rattle.lw_litmus.specs.declared.stmt.Stmt.{Stmt}
-use Rattle.lw_litmus.specs.declared.stmt.Stmt.TheVariants.{IfEq}
-use Rattle.lw_litmus.specs.Tests.{SourceTest, ProgramTest}
-use Rattle.lw_litmus.specs.declared.instr.Instr.{Instr}
-use Rattle.lw_fence.specs.declared.row.Row.{Row}
-use Rattle.lw_fence.specs.declared.row.Row.TheVariants.{One, Two}
-use Rattle.lw_fence.specs.Fences.{NeedsFence}
-use Rattle.lw_fence.specs.Compiling.{row, instrs_of, rows, starts_from, IsCompiledThread, IsCompiled}
-use Rattle.lw_fence.specs.Unfenced.{IsThreadWith, IsCompiledWith}
+use Rattle.lw_fence.proofs.Common.{◌≡◌, ◌↔◌, ℕ, zero, suc, ◌+◌, ◌*◌, ◌<◌, ◌≤◌, List, [], ◌∷◌, ◌++◌, length}
+use Rattle.lw_fence.proofs.Common.{Some, Bool, true, false, if◌then◌else◌, sym, refl, ap, ◌∙◌, subst, subst₂}
+use Rattle.lw_fence.proofs.Common.{arith, slice_get, slice_index, length-append, append_assoc, drop, get_or}
+use Rattle.lw_fence.proofs.Common.{ap₂, add-one, drop-cons, get_or-append_seam, same_Some, none-some}
+use Rattle.lw_fence.proofs.Common.{slice_get_within, slice_get-get_or, get_or_from_slice_get, code_of, X86}
+use Rattle.lw_fence.proofs.Common.{at_index, Stmt, IfEq, SourceTest, ProgramTest, Instr, Row, One, Two}
+use Rattle.lw_fence.proofs.Common.{NeedsFence, row, instrs_of, rows, starts_from, IsCompiledThread}
+use Rattle.lw_fence.proofs.Common.{IsCompiled, IsThreadWith, IsCompiledWith}
 
 -- what holds of a row that a test chooses
 pub chosen : (P : Row → Type 0) (b : Bool) (r s : Row) → (b ≡ true → P r) → (b ≡ false → P s) → P (if b then r else s)
@@ -61,8 +52,12 @@ next_fence (f ∷ fences) j = refl
 rows_long : (starts : List ℕ) (n : ℕ) (fences : List Bool) (x : Stmt) (code : List Stmt)
     → n + length (rows starts fences (x ∷ code)) ≡ behind_first n fences x + length (rows starts (drop 1 fences) code)
 rows_long starts n fences x code =
-    omega (arith, ap length (rows_cons starts fences x code), as_long starts (get_or fences 0 false) x,
-        length-append (instrs_of (row starts (get_or fences 0 false) x)) (rows starts (drop 1 fences) code))
+    omega (
+      arith,
+      ap length (rows_cons starts fences x code),
+      as_long starts (get_or fences 0 false) x,
+      length-append (instrs_of (row starts (get_or fences 0 false) x)) (rows starts (drop 1 fences) code),
+    )
 
 begins : (n : ℕ) (fences : List Bool) (code : List Stmt) → slice_index (starts_from n fences code) 0 ≡ n
 begins n fences [] = refl
@@ -135,8 +130,13 @@ row_short (Two i j) = omega arith
 
 rows_short : (starts : List ℕ) (fences : List Bool) (code : List Stmt) → length (rows starts fences code) ≤ 2 * length code
 rows_short starts fences [] = omega arith
-rows_short starts fences (x ∷ code) = omega (arith, rows_long starts 0 fences x code, as_long starts (get_or fences 0 false) x,
-    row_short (row starts (get_or fences 0 false) x), rows_short starts (drop 1 fences) code)
+rows_short starts fences (x ∷ code) = omega (
+  arith,
+  rows_long starts 0 fences x code,
+  as_long starts (get_or fences 0 false) x,
+  row_short (row starts (get_or fences 0 false) x),
+  rows_short starts (drop 1 fences) code,
+)
 
 stands : {fences : List Bool} {code : List Stmt} {instrs : List Instr} {starts : List ℕ} → IsThreadWith fences code instrs starts
     → (j : ℕ) (x : Stmt) → slice_get code j ≡ Some x → Stands instrs starts j x
@@ -220,7 +220,7 @@ module _ (fences : List Bool) (code : List Stmt) (i : ℕ) (x : Stmt) (within : 
   rows_on starts out so_far more =
       let rest = rows starts (drop (suc i) fences) (drop (suc i) code) in
       so_far ∙ ap₂ (λ a b. out ++ rows starts a b) fence_here here
-          ∙ sym (append_assoc out (instrs_of (row starts fence x)) rest) ∙ rw (more, add-one) refl
+      ∙ sym (append_assoc out (instrs_of (row starts fence x)) rest) ∙ rw (more, add-one) refl
 
   pub starts_on : (k n : ℕ) (out new : List ℕ) → starts_from 0 fences code ≡ out ++ starts_from n (drop i fences) (drop i code)
       → k ≡ length (instrs_of (row [] (get_or fences i false) x)) → new ≡ out ++ n ∷ []

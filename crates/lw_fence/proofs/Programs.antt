@@ -1,31 +1,14 @@
 -- What is made of a well-formed source test is a well-formed program.
-use Rattle.std.proofs.Common.{◌≡◌, ℕ, zero, suc, ◌+◌, ◌-◌, ◌<◌, ◌≤◌, ◌==◌, List, [], ◌∷◌, length, Some, None}
-use Rattle.std.proofs.Common.{Bool, refl, sym, ap, ◌∙◌, subst, subst₂, ⊎_elim, arith, slice_get, slice_index}
-use Rattle.std.proofs.Common.{All, slice_index_or}
-use Rattle.std.specs.Option.{ForSome}
-use Rattle.std.proofs.lemmas.Bool.{cases_eq, cases_lt}
-use Rattle.std.proofs.lemmas.List.Elements.{All-nil, All-cons}
-use Rattle.std.proofs.lemmas.Option.{same_Some, none-some, slice_get_within, get_or_from_slice_get}
-use Rattle.lw_base.specs.Heads.{TestHead}
-use Rattle.lw_base.specs.Threads.{code_of}
-use Rattle.lw_base.specs.WellFormed.{IsWordNumber, IsRegisterNumber, IsWellFormedHead}
-use Rattle.lw_base.specs.declared.head.Arch.TheVariants.{X86}
-use Rattle.lw_base.specs.declared.operand.Operand.{Operand}
-use Rattle.lw_base.specs.declared.operand.Operand.TheVariants.{Register, Number}
-use Rattle.lw_litmus.specs.WellFormed.{IsStatement, IsThread}
-use Rattle.lw_base.proofs.api.Lists.{get_some, at_index}
-use Rattle.lw_litmus.specs.declared.stmt.Stmt.{Stmt}
-use Rattle.lw_litmus.specs.declared.stmt.Stmt.TheVariants.{Store, Load, Swap, FetchAdd, Set, Sum, IfEq, IfNe}
-use Rattle.lw_litmus.specs.declared.stmt.Stmt.TheVariants.{Goto}
-use Rattle.lw_litmus.specs.Operands.{operand_registers, operand_numbers}
-use Rattle.lw_litmus.specs.Operations.{target_of}
-use Rattle.lw_litmus.specs.Sources.{source, source_operation}
-use Rattle.lw_litmus.specs.WellFormedTests.{IsWellFormedSource, IsWellFormedProgram}
-use Rattle.lw_litmus.specs.Tests.{SourceTest, ProgramTest}
-use Rattle.lw_litmus.specs.declared.instr.Instr.{Instr}
-use Rattle.lw_litmus.specs.Programs.{x86}
-use Rattle.lw_fence.specs.declared.row.Row.TheVariants.{One, Two}
-use Rattle.lw_fence.specs.Compiling.{moved, compared, row, instrs_of, IsCompiledThread, IsCompiled}
+use Rattle.lw_fence.proofs.Common.{◌≡◌, ℕ, zero, suc, ◌+◌, ◌-◌, ◌<◌, ◌≤◌, ◌==◌, List, [], ◌∷◌, length, Some}
+use Rattle.lw_fence.proofs.Common.{None, Bool, refl, sym, ap, ◌∙◌, subst, subst₂, ⊎_elim, arith, slice_get}
+use Rattle.lw_fence.proofs.Common.{slice_index, All, slice_index_or, ForSome, cases_eq, cases_lt, All-nil}
+use Rattle.lw_fence.proofs.Common.{All-cons, same_Some, none-some, slice_get_within, get_or_from_slice_get}
+use Rattle.lw_fence.proofs.Common.{TestHead, code_of, IsWordNumber, IsRegisterNumber, IsWellFormedHead, X86}
+use Rattle.lw_fence.proofs.Common.{Operand, Register, Number, IsStatement, IsThread, get_some, at_index, Stmt}
+use Rattle.lw_fence.proofs.Common.{Store, Load, Swap, FetchAdd, Set, Sum, IfEq, IfNe, Goto, operand_registers}
+use Rattle.lw_fence.proofs.Common.{operand_numbers, target_of, source, source_operation, IsWellFormedSource}
+use Rattle.lw_fence.proofs.Common.{IsWellFormedProgram, SourceTest, ProgramTest, Instr, x86, One, Two, moved}
+use Rattle.lw_fence.proofs.Common.{compared, row, instrs_of, IsCompiledThread, IsCompiled}
 use Rattle.lw_fence.proofs.Placed.{chosen, StandsAt, Laid, LaidOut, laid_out}
 use Rattle.lw_litmus.specs.declared.instr.Instr.TheVariants as instr
 use Rattle.lw_litmus.specs.Programs as programs
@@ -40,8 +23,8 @@ in_row : (P : ℕ → Instr → Type 0) (instrs : List Instr) (k : ℕ) (is : Li
 in_row P instrs k [] j i stands all le lt e = absurd (omega arith)
 in_row P instrs k (y ∷ is) j i stands all le lt e =
     ⊎_elim (λ same. subst₂ P same (same_Some y i (sym stands.0 ∙ subst (λ n. slice_get instrs n ≡ Some i)
-        (sym same) e)) all.0) (λ ne. in_row P instrs (k + 1) is j i stands.1 all.1 (omega arith) (omega arith)
-        e) (cases_eq k j)
+    (sym same) e)) all.0) (λ ne. in_row P instrs (k + 1) is j i stands.1 all.1 (omega arith) (omega arith)
+    e) (cases_eq k j)
 
 -- Code of so many instructions on so many locations, made of so many statements, each of which starts there.
 module _ (locs l n : ℕ) (starts : List ℕ) where
@@ -82,8 +65,12 @@ module _ (locs l n : ℕ) (starts : List ℕ) where
   added_fits : (d : ℕ) (v : Operand) → IsRegisterNumber d → All IsRegisterNumber (operand_registers v)
       → All IsWordNumber (operand_numbers v) → (k : ℕ) → Fits k (instr.Add d v)
   added_fits d v d_there regs words =
-      goes_on (instr.Add d v) refl (no_location, All-cons IsRegisterNumber d (d ∷ operand_registers v) d_there
-          (All-cons IsRegisterNumber d (operand_registers v) d_there regs), words)
+      goes_on (instr.Add d v) refl (
+        no_location,
+        All-cons IsRegisterNumber d (d ∷ operand_registers v) d_there
+            (All-cons IsRegisterNumber d (operand_registers v) d_there regs),
+        words,
+      )
 
   -- a jump to where the target of the statement of number j starts
   jump_fits : (i : Instr) (j k end to : ℕ) → IsStatement x86 locs i → target_of (programs.x86_operation i) ≡ Some (slice_index starts to)
@@ -114,9 +101,12 @@ module _ (locs l n : ℕ) (starts : List ℕ) where
       let d_there : IsRegisterNumber d = ok.1 0 0 (omega arith) in
       let a_there : IsRegisterNumber a = ok.1 1 0 (omega arith) in
       chosen (λ r. AllAt Fits k (instrs_of r)) (d == b) (One (instr.Add d (Register a)))
-          (moved d a (instr.Add d (Register b))) (λ is. (added_fits d (Register a) d_there (one a a_there)
-          ok.2 k, tt)) (λ is. moved_fits d a k (instr.Add d (Register b)) d_there a_there
-          (added_fits d (Register b) d_there (one b (ok.1 2 0 (omega arith))) ok.2))
+      (moved d a (instr.Add d (Register b))) (λ is. (
+        added_fits d (Register a) d_there (one a a_there)
+            ok.2 k,
+        tt,
+      )) (λ is. moved_fits d a k (instr.Add d (Register b)) d_there a_there
+      (added_fits d (Register b) d_there (one b (ok.1 2 0 (omega arith))) ok.2))
   row_fits f (IfEq r m to) j k ok forward reaches =
       (goes_on (compared r m) refl ok k, (jump_fits (instr.Je (slice_index starts to)) j (k + 1) (k + 2) to bare refl forward reaches (omega arith), tt))
   row_fits f (IfNe r m to) j k ok forward reaches =

@@ -1,26 +1,12 @@
 -- The schedule of a source run, thread by thread of its order.
-use Rattle.std.proofs.Common.{◌≡◌, ℕ, ◌+◌, ◌-◌, ◌<◌, ◌≤◌, List, [], ◌∷◌, ◌++◌, length, Result, map, drop}
-use Rattle.std.proofs.Common.{replicate, Some, Ok, Err, is_ok, sym, ap, ap₂, ◌∙◌, subst, ◌⊎◌, inl}
-use Rattle.std.proofs.Common.{inr, arith, append_assoc, if◌then◌else◌, slice_get, slice_index, slice_index_or}
-use Rattle.std.proofs.Common.{IsOk}
-use Rattle.std.proofs.lemmas.Bool.{cases_lt}
-use Rattle.std.proofs.lemmas.List.{drop_more, get_or_read, get_or_past}
-use Rattle.std.proofs.lemmas.Option.{slice_get_within, same_Some}
-use Rattle.lw_base.specs.Threads.{code_of}
-use Rattle.lw_base.specs.declared.event.Event.{Event}
-use Rattle.lw_base.specs.declared.event.Event.TheVariants.{Step, Drain}
-use Rattle.lw_base.specs.declared.stop.Stop.{Stop}
-use Rattle.lw_base.proofs.api.Lists.{get_some, at_index}
-use Rattle.lw_litmus.specs.declared.stmt.Stmt.{Stmt}
-use Rattle.lw_interleaving.specs.declared.thread.Thread.{Thread}
-use Rattle.lw_litmus.specs.Tests.{SourceTest, ProgramTest}
-use Rattle.lw_interleaving.specs.Runs.{State, SourceRan, SourceRunState, Answers, source_step}
-use Rattle.lw_interleaving.proofs.api.Exchange.{stepped}
-use Rattle.lw_litmus.specs.Operations.{is_store}
-use Rattle.lw_litmus.specs.Sources.{source_operation}
-use Rattle.lw_fence.specs.Compiling.{IsCompiled}
-use Rattle.lw_fence.specs.Schedules.{statement_events, thread_events, after_step, schedule}
-use Rattle.lw_base.proofs.api.SideBySide.{got_map}
+use Rattle.lw_fence.proofs.Common.{◌≡◌, ℕ, ◌+◌, ◌-◌, ◌<◌, ◌≤◌, List, [], ◌∷◌, ◌++◌, length, Result, map, drop}
+use Rattle.lw_fence.proofs.Common.{replicate, Some, Ok, Err, is_ok, sym, ap, ap₂, ◌∙◌, subst, ◌⊎◌, inl, inr}
+use Rattle.lw_fence.proofs.Common.{arith, append_assoc, if◌then◌else◌, slice_get, slice_index, slice_index_or}
+use Rattle.lw_fence.proofs.Common.{IsOk, cases_lt, drop_more, get_or_read, get_or_past, slice_get_within}
+use Rattle.lw_fence.proofs.Common.{same_Some, code_of, Event, Step, Drain, Stop, get_some, at_index, Stmt}
+use Rattle.lw_fence.proofs.Common.{Thread, SourceTest, ProgramTest, State, SourceRan, SourceRunState, Answers}
+use Rattle.lw_fence.proofs.Common.{source_step, stepped, is_store, source_operation, IsCompiled}
+use Rattle.lw_fence.proofs.Common.{statement_events, thread_events, after_step, schedule, got_map}
 use Rattle.lw_fence.proofs.Placed.{placed_at, starts_many}
 
 -- the code of a thread, as it is read
@@ -55,7 +41,7 @@ has_start {s = s} {p = p} starts lists {t = t} {i = i} {place = place} begins li
         let stands = (placed_at s p starts compiled t within).laid.at place stmt.0 stmt.1 in
         let own = at_index starts t [] (omega (arith, compiled.as_many_starts)) in
         let thread = compiled.threads t (code_of s.threads t) _ _ (at_index s.threads t [] within)
-            (at_index p.threads t [] (omega (arith, compiled.as_many))) own in
+        (at_index p.threads t [] (omega (arith, compiled.as_many))) own in
         let here = code_read starts t list same at (omega (arith, within, compiled.as_many_starts)) is read in
         let many = starts_many 0 thread.fences (code_of s.threads t) in
         record {
@@ -125,7 +111,7 @@ module _ (program : List (List Stmt)) (order : List ℕ) (i t : ℕ) (within : i
       let a = got_map (λ (th : Thread). th.position) s.threads t place at in
       let events = ap (thread_events program starts t) a.1 ∙ ap (Events starts) (sym a.2) in
       ap (λ (ts : List ℕ). schedule program starts ts s) next_is ∙ ap₂ (λ (es : List Event) (o : Result State
-          Stop). es ++ after_step o (schedule program starts (drop (i + 1) order))) events step
+      Stop). es ++ after_step o (schedule program starts (drop (i + 1) order))) events step
 
   -- what has been pushed and what is to come are the whole, one thread further
   pub one_further : (starts : List (List ℕ)) (s mid : State) (place : ℕ) (events : List Event) {more whole : List Event}

@@ -1,17 +1,10 @@
 -- A well-formed source has a compiled program.
-use Rattle.std.proofs.Common.{◌≡◌, ℕ, zero, suc, ◌+◌, ◌<◌, ◌≤◌, List, [], ◌∷◌, ◌++◌, length, replicate, Some}
-use Rattle.std.proofs.Common.{Bool, false, ◌&&◌, if◌then◌else◌, refl, subst, arith, slice_get, slice_index_or}
-use Rattle.std.specs.Option.{ForSome}
-use Rattle.lw_base.specs.Threads.{code_of}
-use Rattle.lw_base.proofs.api.Lists.{get_some, at_index}
-use Rattle.lw_litmus.specs.declared.instr.Instr.{Instr}
-use Rattle.lw_litmus.specs.declared.stmt.Stmt.{Stmt}
-use Rattle.lw_litmus.specs.Operations.{target_of, is_load}
-use Rattle.lw_litmus.specs.Sources.{source_operation}
-use Rattle.lw_litmus.specs.Tests.{SourceTest, ProgramTest}
-use Rattle.lw_litmus.specs.WellFormedTests.{IsWellFormedSource}
-use Rattle.lw_fence.specs.Compiling.{rows, starts_from, IsCompiledThread, IsCompiled}
-use Rattle.lw_fence.specs.inner.Marks.{may_wait, marked_behind}
+use Rattle.lw_fence.proofs.Common.{◌≡◌, ℕ, zero, suc, ◌<◌, ◌≤◌, List, [], ◌∷◌, ◌++◌, length, replicate, Some}
+use Rattle.lw_fence.proofs.Common.{Bool, false, ◌&&◌, if◌then◌else◌, refl, subst, arith, slice_get}
+use Rattle.lw_fence.proofs.Common.{slice_index_or, ForSome, code_of, get_some, at_index, Instr, Stmt}
+use Rattle.lw_fence.proofs.Common.{target_of, is_load, source_operation, SourceTest, ProgramTest}
+use Rattle.lw_fence.proofs.Common.{IsWellFormedSource, rows, starts_from, IsCompiledThread, IsCompiled}
+use Rattle.lw_fence.proofs.Common.{may_wait, marked_behind}
 use Rattle.lw_fence.proofs.CompiledThreads.{AreCompiled, none_compiled, one_compiled}
 use Rattle.lw_fence.proofs.FencesFound.{Found, found_none, found_more, needed}
 use Rattle.lw_fence.proofs.Marks.{Marked, at, mark_step, marked_behind_stores, first_marks}
@@ -25,9 +18,11 @@ module _ (code : List Stmt) (ok : (j : ℕ) (x : Stmt) → slice_get code j ≡ 
   marks_behind (suc i) le =
       let m = marks_behind i (omega arith) in
       let x = get_some code i (omega arith) in
-      let b : Bool = may_wait (source_operation x.0) (at m.0 i) in
-      (_, subst (λ k. Marked code k (if b then marked_behind (source_operation x.0) i m.0 else m.0))
-          (omega arith) (mark_step code ok i x.0 m.0 b x.1 refl m.1))
+      let b : Bool = may_wait (source_operation x.0) (at m.0 i) in (
+        _,
+        subst (λ k. Marked code k (if b then marked_behind (source_operation x.0) i m.0 else m.0))
+            (omega arith) (mark_step code ok i x.0 m.0 b x.1 refl m.1),
+      )
 
   marks : (v : List Bool) × Marked code (length code) v
   marks = marks_behind (length code) (omega arith)
@@ -37,9 +32,11 @@ module _ (code : List Stmt) (ok : (j : ℕ) (x : Stmt) → slice_get code j ≡ 
   fences_before (suc i) le =
       let f = fences_before i (omega arith) in
       let x = get_some code i (omega arith) in
-      let b : Bool = is_load (source_operation x.0) && slice_index_or marks.0 i false in
-      (f.0 ++ b ∷ [], subst (λ k. Found code marks.0 k (f.0 ++ b ∷ [])) (omega arith) (found_more code marks.0
-          i f.0 b f.1 x.1 refl refl))
+      let b : Bool = is_load (source_operation x.0) && slice_index_or marks.0 i false in (
+        f.0 ++ b ∷ [],
+        subst (λ k. Found code marks.0 k (f.0 ++ b ∷ [])) (omega arith) (found_more code marks.0
+            i f.0 b f.1 x.1 refl refl),
+      )
 
   some_thread : (instrs : List Instr) × (starts : List ℕ) × IsCompiledThread code instrs starts
   some_thread =

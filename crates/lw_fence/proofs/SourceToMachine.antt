@@ -1,31 +1,15 @@
 -- From source to machine: the schedule of a source run replays on the compiled program, to the same outcome.
-use Rattle.std.proofs.Common.{◌≡◌, ℕ, ◌+◌, ◌-◌, ◌<◌, ◌≤◌, ◌==◌, List, [], ◌∷◌, ◌++◌, length, map}
-use Rattle.std.proofs.Common.{Some, Bool, true, false, refl, sym, ap, ◌∙◌, subst, subst₂, arith, IsTrue}
-use Rattle.std.proofs.Common.{slice_get, slice_set, slice_index, le-leb, leb-true}
-use Rattle.std.proofs.lemmas.Bool.{and_from}
-use Rattle.std.proofs.lemmas.Option.{slice_get_within, get_or_from_slice_get}
-use Rattle.lw_base.specs.Outcomes.{Final}
-use Rattle.lw_base.specs.Threads.{code_of}
-use Rattle.lw_base.specs.declared.event.Event.{Event}
-use Rattle.lw_base.specs.declared.event.Event.TheVariants.{Step}
-use Rattle.lw_base.proofs.api.Lists.{get_some}
-use Rattle.lw_base.proofs.api.SideBySide.{zip_pass, zip_passes}
-use Rattle.lw_memory.specs.Flat.{flat}
-use Rattle.lw_litmus.specs.declared.stmt.Stmt.{Stmt}
-use Rattle.lw_litmus.specs.declared.instr.Instr.{Instr}
-use Rattle.lw_litmus.specs.Sources.{source_operation}
-use Rattle.lw_litmus.specs.WellFormedTests.{IsWellFormedSource}
-use Rattle.lw_litmus.specs.Tests.{SourceTest, ProgramTest}
-use Rattle.lw_interleaving.specs.declared.thread.Thread.{Thread}
-use Rattle.lw_interleaving.specs.Statements.{thread_after, words_after}
-use Rattle.lw_interleaving.specs.Runs.{State, SourceRan, RunsTo, start_of, is_source_final as is_over}
-use Rattle.lw_interleaving.proofs.api.Exchange.{Stepped, stepped}
-use Rattle.lw_tso.specs.Processors.{Processor}
-use Rattle.lw_tso.specs.Machines.{MachineState}
-use Rattle.lw_tso.specs.Runs.{MachineRan, Replays, is_done, is_final}
-use Rattle.lw_tso.proofs.api.Effects.{state}
-use Rattle.lw_fence.specs.Compiling.{row, instrs_of, IsCompiled}
-use Rattle.lw_fence.specs.Schedules.{statement_events, thread_events, after_step, schedule}
+use Rattle.lw_fence.proofs.Common.{◌≡◌, ℕ, ◌+◌, ◌-◌, ◌<◌, ◌≤◌, ◌==◌, List, [], ◌∷◌, ◌++◌, length, map, Some}
+use Rattle.lw_fence.proofs.Common.{Bool, true, false, refl, sym, ap, ◌∙◌, subst, subst₂, arith, IsTrue}
+use Rattle.lw_fence.proofs.Common.{slice_get, slice_set, slice_index, le-leb, leb-true, and_from}
+use Rattle.lw_fence.proofs.Common.{slice_get_within, get_or_from_slice_get, Final, code_of, Event, Step}
+use Rattle.lw_fence.proofs.Common.{get_some, zip_pass, zip_passes, flat, Stmt, Instr, source_operation}
+use Rattle.lw_fence.proofs.Common.{IsWellFormedSource, SourceTest, ProgramTest, Thread, thread_after}
+use Rattle.lw_fence.proofs.Common.{words_after, State, SourceRan, RunsTo, start_of, Stepped, stepped}
+use Rattle.lw_fence.proofs.Common.{Processor, MachineState, MachineRan, Replays, is_done, is_final, state}
+use Rattle.lw_fence.proofs.Common.{row, instrs_of, IsCompiled, statement_events, thread_events, after_step}
+use Rattle.lw_fence.proofs.Common.{schedule}
+use Rattle.lw_interleaving.specs.Runs.{is_source_final as is_over}
 use Rattle.lw_fence.proofs.Beside.{Beside, thread_at, processor_at, gone_on, same_outcome, first}
 use Rattle.lw_fence.proofs.Beside.{compiled_start, start_is}
 use Rattle.lw_fence.proofs.Moves.{run_append}
@@ -110,11 +94,16 @@ module _ (s : SourceTest) (p : ProgramTest) (starts : List (List ℕ)) (ok : IsW
           let z = i.at t th.0 c th.1 f in
           let done = zip_passes _ s.threads ss.threads t code.0 th.0 over code.1 th.1 in
           let past : length code.0 ≤ th.0.position = leb-true (length code.0) th.0.position done in
-          let here : th.0.position ≡ length (code_of s.threads t) = omega (arith, past, ap length
-              (get_or_from_slice_get s.threads t code.0 [] code.1), z.1.within) in
+          let here : th.0.position ≡ length (code_of s.threads t) = omega (
+            arith,
+            past,
+            ap length
+                (get_or_from_slice_get s.threads t code.0 [] code.1),
+            z.1.within,
+          ) in
           let at : c.position ≡ length instrs =
           ap (λ (x : Processor). x.position) z.2 ∙ ap (slice_index (code_of starts t)) here
-              ∙ (laid.at t lt).last ∙ ap length (get_or_from_slice_get p.threads t instrs [] e) in
+          ∙ (laid.at t lt).last ∙ ap length (get_or_from_slice_get p.threads t instrs [] e) in
           and_from _ _ (le-leb _ c.position (omega (arith, at))) (ap (λ x. length x.buffer == 0) z.2)
 
 -- the schedule of a source run leads to the run's outcome, wherever fences stand

@@ -1,24 +1,11 @@
 -- A processor with an empty buffer carries out a statement by its row of instructions, and then a drain where it is a store.
-use Rattle.std.proofs.Common.{◌≡◌, ℕ, List, [], ◌∷◌, ◌++◌, length, replicate, Some, Bool, false, refl, sym}
-use Rattle.std.proofs.Common.{ap, ◌∙◌, subst, subst₂, if◌then◌else◌, slice_get, slice_set, slice_index}
-use Rattle.std.proofs.Common.{append-nil}
-use Rattle.lw_base.specs.Threads.{code_of, value_of}
-use Rattle.lw_base.specs.declared.event.Event.{Event}
-use Rattle.lw_base.specs.declared.event.Event.TheVariants.{Step, Drain}
-use Rattle.lw_litmus.specs.declared.instr.Instr.{Instr}
-use Rattle.lw_litmus.specs.declared.stmt.Stmt.{Stmt}
-use Rattle.lw_litmus.specs.Operations.{is_store}
-use Rattle.lw_litmus.specs.Sources.{source_operation}
-use Rattle.lw_interleaving.specs.declared.thread.Thread.{Thread}
-use Rattle.lw_interleaving.specs.Statements.{thread_after, words_after}
-use Rattle.lw_interleaving.proofs.api.Exchange.{words_alone}
-use Rattle.lw_tso.specs.Acts.{Act, Refused, Goes, Loads, Stores, Swaps, Adds, Evicts, step_act}
-use Rattle.lw_tso.specs.Processors.{Processor}
-use Rattle.lw_tso.proofs.api.Effects.{Does}
-use Rattle.lw_tso.proofs.api.Operations.{Comes, operation_comes}
-use Rattle.lw_fence.specs.declared.row.Row.{Row}
-use Rattle.lw_fence.specs.declared.row.Row.TheVariants.{One, Two}
-use Rattle.lw_fence.specs.Compiling.{row, instrs_of}
+use Rattle.lw_fence.proofs.Common.{◌≡◌, ℕ, List, [], ◌∷◌, ◌++◌, length, replicate, Some, Bool, false, refl}
+use Rattle.lw_fence.proofs.Common.{sym, ap, ◌∙◌, subst, subst₂, if◌then◌else◌, slice_get, slice_set}
+use Rattle.lw_fence.proofs.Common.{slice_index, append-nil, code_of, value_of, Event, Step, Drain, Instr}
+use Rattle.lw_fence.proofs.Common.{Stmt, is_store, source_operation, Thread, thread_after, words_after}
+use Rattle.lw_fence.proofs.Common.{words_alone, Act, Refused, Goes, Loads, Stores, Swaps, Adds, Evicts}
+use Rattle.lw_fence.proofs.Common.{step_act, Processor, Does, Comes, operation_comes, Row, One, Two, row}
+use Rattle.lw_fence.proofs.Common.{instrs_of}
 use Rattle.lw_fence.proofs.Carried.{Stored, apart, buffered, at_once, Carried, Serves, quiet, row_serves}
 use Rattle.lw_fence.proofs.Moves.{Moves, moves_on, step_moves, drain_moves}
 use Rattle.lw_fence.proofs.Placed.{StandsAt, Stands}
@@ -29,7 +16,7 @@ use Rattle.lw_litmus.specs.Programs as programs
 possible : (m : List ℕ) (i : Instr) (p : Processor) → p.buffer ≡ [] → (q : Processor) × (n : List ℕ) × Does m (step_act (Some i) p) q n
 possible m i p empty =
     go (step_act (Some i) p) (operation_comes ⊥ (λ x w. Unit {0}) (λ q. Unit {0}) (programs.x86_operation i) p
-        (λ waits full. full empty) (λ x e. tt) (λ q w. tt))
+    (λ waits full. full empty) (λ x e. tt) (λ q w. tt))
   where
     go : (act : Act) → Comes ⊥ (λ x w. Unit {0}) (λ q. Unit {0}) act → (q : Processor) × (n : List ℕ) × Does m act q n
     go (Refused stop) comes = absurd comes
@@ -110,7 +97,7 @@ module _ (program : List (List Instr)) (t : ℕ) (starts : List ℕ) (th : Threa
       let first = subst (λ k. Moves program t begin m (Step t ∷ []) a.0 k) l.1 (step_moves program t begin a.0 m a.1 has.0 a.2) in
       let at = subst (λ k. slice_get (code_of program t) k ≡ Some j) (sym l.0.position) has.1.0 in
       arrived b.0 b.1 (moves_on program t begin b.0 (Step t ∷ []) first (step_moves program t a.0 b.0 m b.1
-          at b.2)) (rw l.0.buffer at (l.0.ends.carries a.0.buffer m (λ e. l.0.buffer) b.0 b.1 b.2))
+      at b.2)) (rw l.0.buffer at (l.0.ends.carries a.0.buffer m (λ e. l.0.buffer) b.0 b.1 b.2))
 
   -- the statement at which the thread stands
   pub statement_turned : {code : List Stmt} → Allowed code th.position x → length th.regs ≡ 6

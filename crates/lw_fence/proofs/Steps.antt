@@ -1,23 +1,11 @@
 -- What the threads of a well-formed source keep, step by step.
-use Rattle.std.proofs.Common.{◌≡◌, ℕ, ◌<◌, ◌≤◌, List, [], length, Some, refl, ap, ◌∙◌, subst, ⊎_elim, arith}
-use Rattle.std.proofs.Common.{length-set, All, slice_get, slice_index_or}
-use Rattle.std.specs.Option.{ForSome}
-use Rattle.std.proofs.lemmas.Bool.{cases_lt}
-use Rattle.std.proofs.lemmas.List.{get_or_past}
-use Rattle.std.proofs.lemmas.Option.{slice_get_within, get_or_from_slice_get}
-use Rattle.lw_base.specs.Threads.{code_of}
-use Rattle.lw_base.specs.WellFormed.{IsRegisterNumber}
-use Rattle.lw_litmus.specs.WellFormed.{IsThread, IsStatement, registers_of}
-use Rattle.lw_litmus.specs.declared.stmt.Stmt.{Stmt}
-use Rattle.lw_litmus.specs.declared.operation.Operation.{Operation}
+use Rattle.lw_fence.proofs.Common.{◌≡◌, ℕ, ◌<◌, ◌≤◌, List, [], length, Some, refl, ap, ◌∙◌, subst, ⊎_elim}
+use Rattle.lw_fence.proofs.Common.{arith, length-set, All, slice_get, slice_index_or, ForSome, cases_lt}
+use Rattle.lw_fence.proofs.Common.{get_or_past, slice_get_within, get_or_from_slice_get, code_of}
+use Rattle.lw_fence.proofs.Common.{IsRegisterNumber, IsThread, IsStatement, registers_of, Stmt, Operation}
+use Rattle.lw_fence.proofs.Common.{Thread, target_of, source, source_operation, IsWellFormedSource}
+use Rattle.lw_fence.proofs.Common.{SourceTest, thread_after, leads}
 use Rattle.lw_litmus.specs.declared.operation.Operation.TheVariants.{Load, Swap, FetchAdd, Set, Sum}
-use Rattle.lw_interleaving.specs.declared.thread.Thread.{Thread}
-use Rattle.lw_litmus.specs.Operations.{target_of}
-use Rattle.lw_litmus.specs.Sources.{source, source_operation}
-use Rattle.lw_litmus.specs.WellFormedTests.{IsWellFormedSource}
-use Rattle.lw_litmus.specs.Tests.{SourceTest}
-use Rattle.lw_interleaving.specs.Statements.{thread_after}
-use Rattle.lw_interleaving.proofs.api.Exchange.{leads}
 use Rattle.lw_fence.proofs.Marks.{forward}
 
 -- What a statement of a well-formed thread has: its registers are there, and a jump leads forward, at most to the end.
@@ -35,8 +23,12 @@ allowed locs code j x thread at =
 pub allowed_at : (s : SourceTest) → IsWellFormedSource s → (t j : ℕ) (x : Stmt) → slice_get (code_of s.threads t) j ≡ Some x → Allowed (code_of s.threads t) j x
 allowed_at s ok t j x at =
     ⊎_elim (λ within. allowed (length s.head.locs) (code_of s.threads t) j x (ok.code t [] within) at)
-        (λ past. absurd (omega (arith, slice_get_within (code_of s.threads t) j x at, ap length
-        (get_or_past s.threads t [] past)))) (cases_lt t (length s.threads))
+    (λ past. absurd (omega (
+      arith,
+      slice_get_within (code_of s.threads t) j x at,
+      ap length
+          (get_or_past s.threads t [] past),
+    ))) (cases_lt t (length s.threads))
 
 -- What always holds of a thread of a source: six registers, and at most at its end.
 pub record Sane (code : List Stmt) (th : Thread) : Type 0 where

@@ -1,22 +1,14 @@
 -- Alike orders of the items of a choice end alike, in either language, where two neighbours can change places that neither conflict
 -- nor are fixed.
-use Rattle.std.proofs.Common.{◌≡◌, ◌≢◌, ℕ, suc, ◌<◌, true, List, [], ◌∷◌, ◌++◌, length, refl, sym, ap, ◌∙◌}
-use Rattle.std.proofs.Common.{subst, inl, inr, arith, append_assoc, append-nil, length-append}
-use Rattle.std.proofs.lemmas.Bool.{cases_order}
-use Rattle.std.proofs.lemmas.List.Elements.{Contains-append_right}
-use Rattle.lw_base.specs.Outcomes.{Final}
-use Rattle.lw_litmus.specs.Languages.{Language}
-use Rattle.lw_orders.specs.Order.{Constraints, place, IsOrder, IsLinearExtension, Alike}
-use Rattle.lw_orders.specs.Exchange.{IsTied, Exchanged}
-use Rattle.lw_orders.proofs.api.Places.{order_split}
-use Rattle.lw_orders.proofs.api.Kept.{alike_orders_are_joined, kept_along}
-use Rattle.lw_choices.specs.declared.item.Item.{Item}
-use Rattle.lw_choices.specs.Items.{item_at, items_of, statement_of, items_conflict, constraints_of}
-use Rattle.lw_choices.proofs.api.FixedOrder.{AreOrdered, kept}
-use Rattle.lw_choices.proofs.api.FixedPairs.{conflict_there, conflicts_up}
-use Rattle.lw_choices.proofs.api.Mutual.{conflict_mutual}
-use Rattle.lw_choices.proofs.api.Numbering.{threads_up}
-use Rattle.lw_finals.specs.OrderRuns.{System, OrderRan, StaysAndEnds}
+use Rattle.lw_finals.proofs.Common.{◌≡◌, ◌≢◌, ℕ, suc, ◌<◌, true, List, [], ◌∷◌, ◌++◌, length, refl, sym, ap}
+use Rattle.lw_finals.proofs.Common.{◌∙◌, subst, inl, inr, arith, append_assoc, append-nil, length-append}
+use Rattle.lw_finals.proofs.Common.{cases_order, Contains-append_right, Final, Language, Constraints, place}
+use Rattle.lw_finals.proofs.Common.{IsOrder, IsLinearExtension, Alike, IsTied, Exchanged, order_split}
+use Rattle.lw_finals.proofs.Common.{alike_orders_are_joined, kept_along, Item, item_at, items_of}
+use Rattle.lw_finals.proofs.Common.{statement_of, items_conflict, constraints_of, AreOrdered, kept}
+use Rattle.lw_finals.proofs.Common.{conflict_there, conflicts_up, conflict_mutual, threads_up, System}
+use Rattle.lw_finals.proofs.Common.{OrderRan}
+use Rattle.lw_finals.specs.OrderRuns.{StaysAndEnds}
 
 module _ {S : Type 0} (language : Language S) (program : List (List S)) (paths : List (List ℕ)) where
   abbrev items : List Item
@@ -110,7 +102,7 @@ module _ {S : Type 0} (language : Language S) (program : List (List S)) (paths :
       exchanged : (xs ys : List ℕ) → Keeps xs → Keeps ys → Exchanged (IsTied t) xs ys → (end : State) → Ran xs system.start end → Ran ys system.start end
       exchanged xs ys ix iy e end ran =
           subst (λ zs. Ran zs system.start end) (sym e.new) (walk [] e.front system.start e.old refl
-              (can.first xs) (subst (λ zs. Ran zs system.start end) e.old ran))
+          (can.first xs) (subst (λ zs. Ran zs system.start end) e.old ran))
         where
           -- up to the two neighbours
           walk : (before front : List ℕ) (s : State) → xs ≡ before ++ (front ++ e.x ∷ e.y ∷ e.rest) → before ++ front ≡ e.front → Holds xs (length before) s

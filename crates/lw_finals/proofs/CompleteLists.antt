@@ -1,38 +1,17 @@
 -- What is gathered from all choices of a test is its complete list, in either language.
-use Rattle.std.proofs.Common.{◌≡◌, ℕ, inl, inr, List, [], ◌∷◌, length, Result, Ok, Err, refl, sym, ap, subst}
-use Rattle.std.proofs.Common.{IfOk, OnOk, All, Contains, ◌↔◌}
-use Rattle.std.proofs.lemmas.Bool.{cases_lt}
-use Rattle.std.proofs.lemmas.List.Elements.{All-nil, All-contains, All-weaker, Contains-append_right}
-use Rattle.lw_base.specs.Outcomes.{Final}
-use Rattle.lw_memory.specs.Flat.{flat}
-use Rattle.lw_mesi.specs.declared.protocol.Protocol.{Protocol}
-use Rattle.lw_mesi.specs.declared.protocol.Protocol.TheVariants.{Mesi}
-use Rattle.lw_litmus.specs.declared.instr.Instr.{Instr}
-use Rattle.lw_tso.specs.Evictions.{without_evictions}
-use Rattle.lw_tso.specs.Machines.{MachineState}
-use Rattle.lw_tso.specs.Runs.{MachineRan, MachineOutcome, machine_start}
-use Rattle.lw_tso.proofs.api.Effects.{Did, leads_to, no_eviction}
-use Rattle.lw_base.specs.declared.event.Event.{Event}
-use Rattle.lw_base.specs.declared.event.Event.TheVariants.{Step, Drain, Evict}
-use Rattle.lw_litmus.specs.Languages.{Language}
-use Rattle.lw_litmus.specs.Tests.{Test, ProgramTest}
-use Rattle.lw_litmus.specs.WellFormed.{IsThread, IsWellFormed}
-use Rattle.lw_orders.specs.Order.{Constraints, IsLinearExtension, Alike}
-use Rattle.lw_orders.specs.Limits.{most_items}
-use Rattle.lw_orders.specs.Sequence.{orders}
-use Rattle.lw_choices.specs.Choices.{IsForward, IsChoice}
-use Rattle.lw_choices.specs.Counts.{HasTooManyItems, IsWithinLimits, items_at_choice}
-use Rattle.lw_choices.specs.Items.{items_of, constraints_of}
-use Rattle.lw_choices.specs.declared.item.Item.{Item}
-use Rattle.lw_choices.proofs.api.Enumerated.{choices_are_all}
-use Rattle.lw_choices.proofs.api.FixedPairs.{constraints_well_formed}
-use Rattle.lw_choices.proofs.api.Members.{Contains-here, from_map}
-use Rattle.lw_listing.specs.Listings.{OutcomeEntries, outcomes_of}
-use Rattle.lw_whole.specs.OverCaches.{ReplaysOverCaches}
-use Rattle.lw_finals.specs.OrderRuns.{System, StaysAndEnds}
-use Rattle.lw_finals.specs.X86Runs.{LeadsFlat}
-use Rattle.lw_finals.specs.inner.Gathered.{Gathers, EndsOfProgram}
-use Rattle.lw_finals.specs.inner.Listed.{AreComplete, AreFlat, IsComplete}
+use Rattle.lw_finals.proofs.Common.{◌≡◌, ℕ, inl, inr, List, [], ◌∷◌, length, Result, Ok, Err, refl, sym, ap}
+use Rattle.lw_finals.proofs.Common.{subst, IfOk, OnOk, All, Contains, ◌↔◌, cases_lt, All-nil, All-contains}
+use Rattle.lw_finals.proofs.Common.{All-weaker, Contains-append_right, Final, flat, Protocol, Mesi, Instr}
+use Rattle.lw_finals.proofs.Common.{without_evictions, MachineState, MachineRan, MachineOutcome}
+use Rattle.lw_finals.proofs.Common.{machine_start, Did, leads_to, no_eviction, Event, Step, Drain, Evict}
+use Rattle.lw_finals.proofs.Common.{Language, Test, ProgramTest, IsThread, IsWellFormed, Constraints}
+use Rattle.lw_finals.proofs.Common.{IsLinearExtension, Alike, most_items, orders, IsForward, IsChoice}
+use Rattle.lw_finals.proofs.Common.{HasTooManyItems, IsWithinLimits, items_at_choice, items_of}
+use Rattle.lw_finals.proofs.Common.{constraints_of, Item, choices_are_all, constraints_well_formed}
+use Rattle.lw_finals.proofs.Common.{Contains-here, from_map, OutcomeEntries, outcomes_of, ReplaysOverCaches}
+use Rattle.lw_finals.proofs.Common.{System, LeadsFlat, Gathers, EndsOfProgram, AreComplete, AreFlat}
+use Rattle.lw_finals.proofs.Common.{IsComplete}
+use Rattle.lw_finals.specs.OrderRuns.{StaysAndEnds}
 use Rattle.lw_finals.proofs.Ordered.{OfChoice}
 use Rattle.lw_orders.specs.Order as orders
 
@@ -78,7 +57,7 @@ module _ {S : Type 0} (language : Language S) (test : Test S) {State : Type 0} (
         let given = complete.exactly_one t (formed paths choice) c.order c.keeps in
         let there : Contains (orders t) given.one =
         subst (λ (xs : List (List ℕ)). Contains xs given.one) (sym given.split) (Contains-append_right
-            given.before _ given.one (Contains-here given.one given.one given.behind refl)) in
+        given.before _ given.one (Contains-here given.one given.one given.behind refl)) in
         let keeps = All-contains (IsLinearExtension t) _ _ (complete.each t (formed paths choice)) there in
         let forward : All (IsForward language) test.threads = All-weaker (IsThread language
         (length test.head.locs)) (IsForward language) (λ code t. t.forward) test.threads is.code in (
@@ -105,14 +84,16 @@ module _ {S : Type 0} (language : Language S) (test : Test S) {State : Type 0} (
       replays : (protocol : Protocol) → All (λ e. ReplaysOverCaches protocol program e.1 e.0) entries
       replays protocol =
           All-weaker (λ e. LeadsFlat program e.1 e.0) (λ e. ReplaysOverCaches protocol program e.1 e.0)
-              (λ e h. (flat_too.replays protocol e.1 e.0 (no_evictions program.threads e.1 (machine_start
-              program program.head.init_words) h.end h.ran)).1 h) entries lead
+          (λ e h. (flat_too.replays protocol e.1 e.0 (no_evictions program.threads e.1 (machine_start
+          program program.head.init_words) h.end h.ran)).1 h) entries lead
 
       complete_list : IsComplete Has program entries
       complete_list = record {
         exactly = exactly;
-        over_caches = λ protocol o. ((λ c. (flat_too.outcomes protocol o).1 ((same o).1 ((exactly o).0 c))),
-            (λ m. (exactly o).1 ((same o).0 ((flat_too.outcomes protocol o).0 m))));
+        over_caches = λ protocol o. (
+          (λ c. (flat_too.outcomes protocol o).1 ((same o).1 ((exactly o).0 c))),
+          (λ m. (exactly o).1 ((same o).0 ((flat_too.outcomes protocol o).0 m))),
+        );
         replays = replays;
         of_program = All-weaker _ _ (λ e h. flat_too.of_test Mesi e.1 e.0 h) entries (replays Mesi);
       }

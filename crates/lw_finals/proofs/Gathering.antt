@@ -1,18 +1,10 @@
 -- What is gathered by one run after another, and by one choice after another.
-use Rattle.std.proofs.Common.{◌≡◌, ◌==◌, Bool, true, ℕ, ◌+◌, ◌<◌, ◌≤◌, List, [], ◌∷◌, ◌++◌, length, refl, sym}
-use Rattle.std.proofs.Common.{◌∙◌, subst, inl, inr, arith, All, Contains, IsPermutation, eqb-true}
-use Rattle.std.proofs.lemmas.List.{map-append}
-use Rattle.std.proofs.lemmas.List.Elements.{All-nil, All-cons, All-append, All-weaker, Contains-append_left}
-use Rattle.std.proofs.lemmas.List.Elements.{Contains-append_right}
-use Rattle.lw_base.specs.Outcomes.{Final}
-use Rattle.lw_base.specs.declared.event.Event.{Event}
-use Rattle.lw_orders.specs.Sequence.{numbers}
-use Rattle.lw_finals.specs.inner.Gathered.{Gathers, EndsOfOne}
-use Rattle.lw_listing.specs.Listings.{OutcomeEntries, outcomes_of}
-use Rattle.lw_choices.specs.Visits.{Visited}
-use Rattle.lw_listing.proofs.api.Listings.{stays_listed}
-use Rattle.lw_choices.proofs.api.Members.{Contains-here, Contains-there, Contains-cons, none_in, of_one}
-use Rattle.lw_choices.proofs.api.Pairs.{numbers_up}
+use Rattle.lw_finals.proofs.Common.{◌≡◌, ◌==◌, Bool, true, ℕ, ◌+◌, ◌<◌, ◌≤◌, List, [], ◌∷◌, ◌++◌, length}
+use Rattle.lw_finals.proofs.Common.{refl, sym, ◌∙◌, subst, inl, inr, arith, All, Contains, IsPermutation}
+use Rattle.lw_finals.proofs.Common.{eqb-true, map-append, All-nil, All-cons, All-append, All-weaker}
+use Rattle.lw_finals.proofs.Common.{Contains-append_left, Contains-append_right, Final, Event, numbers}
+use Rattle.lw_finals.proofs.Common.{Gathers, EndsOfOne, OutcomeEntries, outcomes_of, Visited, stays_listed}
+use Rattle.lw_finals.proofs.Common.{Contains-here, Contains-there, Contains-cons, none_in, of_one, numbers_up}
 
 module _ (Leads : List Event → Final → Type 0) where
   -- whatever has no end gathers nothing
@@ -82,7 +74,7 @@ module _ {V : Type 0} (Test : Type 0) (test_of : V → Test) (found_of : V → O
       → Gathers (EndsOfOne (Ends test) choices) (Leads test) (found_of v) (found_of w)
   visits_gather test [] v w is same =
       subst (λ (u : V). Gathers (EndsOfOne (Ends test) []) (Leads test) (found_of v) (found_of u)) (sym same)
-          (none_gathered (Leads test) _ (found_of v) (λ o (paths, c, e). none_in paths c))
+      (none_gathered (Leads test) _ (found_of v) (λ o (paths, c, e). none_in paths c))
   visits_gather test (paths ∷ choices) v w is (mid, one, rest) =
       let h : (test_of mid ≡ test) × Gathers (Ends test paths) (Leads test) (found_of v) (found_of mid) =
       subst (λ (t : Test). (test_of mid ≡ t) × Gathers (Ends t paths) (Leads t) (found_of v) (found_of mid)) is (each v paths mid one) in

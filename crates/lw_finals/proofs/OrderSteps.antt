@@ -1,12 +1,8 @@
 -- A run of an order of items, one item further.
-use Rattle.std.proofs.Common.{◌≡◌, ℕ, suc, ◌+◌, ◌<◌, ◌≤◌, List, ◌∷◌, length, drop, Some, refl, sym, ap}
-use Rattle.std.proofs.Common.{◌∙◌, subst, arith, get_or, drop-cons, IsTrue}
-use Rattle.std.proofs.lemmas.List.{drop_all}
-use Rattle.std.proofs.lemmas.Option.{slice_get-get_or, get_or_from_slice_get}
-use Rattle.lw_base.specs.Outcomes.{Final}
-use Rattle.lw_choices.specs.declared.item.Item.{Item}
-use Rattle.lw_choices.specs.Items.{item_at}
-use Rattle.lw_finals.specs.OrderRuns.{System, OrderRan, StaysAndEnds}
+use Rattle.lw_finals.proofs.Common.{◌≡◌, ℕ, suc, ◌+◌, ◌<◌, ◌≤◌, List, ◌∷◌, length, drop, Some, refl, sym, ap}
+use Rattle.lw_finals.proofs.Common.{◌∙◌, subst, arith, get_or, drop-cons, IsTrue, drop_all, slice_get-get_or}
+use Rattle.lw_finals.proofs.Common.{get_or_from_slice_get, Final, Item, item_at, System, OrderRan}
+use Rattle.lw_finals.specs.OrderRuns.{StaysAndEnds}
 
 -- what an index reads is the item
 read_item : (items : List Item) (n : ℕ) (x : Item) → n < length items → x ≡ get_or items n x → item_at items n ≡ x
@@ -43,7 +39,7 @@ module _ {State : Type 0} (system : System State) (items : List Item) where
       record {
         goes = λ end o. let m = subst (λ (xs : List ℕ). Ran xs now end) split (r.goes end o) in
             subst (λ s. Ran (drop (k + 1) order) s end) (alone m.0 (subst (λ (y : Item). system.Carried y now
-                m.0) item m.1)) (subst (λ (j : ℕ). Ran (drop j order) m.0 end) more m.2);
+            m.0) item m.1)) (subst (λ (j : ℕ). Ran (drop j order) m.0 end) more m.2);
         comes = λ end o. let m : Ran (n ∷ drop (suc k) order) now end =
             (next, subst (λ (y : Item). system.Carried y now next) (sym item) carried, subst (λ (j : ℕ). Ran (drop j order) next end) (sym more) o) in
             r.comes end (subst (λ (xs : List ℕ). Ran xs now end) (sym split) m);

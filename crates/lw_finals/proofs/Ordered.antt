@@ -1,29 +1,15 @@
 -- The order of the items that a run of a program to its end carries out, in either language: each item of the paths stands there
 -- once, and the fixed pairs are kept. So what the run ends with is an outcome of a choice of paths.
-use Rattle.std.proofs.Common.{◌≡◌, ℕ, zero, suc, ◌+◌, ◌<◌, inl, inr, List, [], ◌∷◌, map, length, Option, Some}
-use Rattle.std.proofs.Common.{Bool, true, false, Result, refl, sym, ap, ◌∙◌, subst, arith, slice_get, All}
-use Rattle.std.proofs.Common.{Contains, IsTrue}
-use Rattle.std.proofs.lemmas.Bool.{cases_eq, cases_lt, cases_order, cases_Bool}
-use Rattle.std.proofs.lemmas.Option.{none-some}
-use Rattle.std.proofs.lemmas.List.Elements.{All-nil, All-cons, All-head, All-tail, All-weaker}
-use Rattle.lw_base.specs.Outcomes.{Final}
-use Rattle.lw_base.specs.Replays.{Ran}
-use Rattle.lw_base.specs.Threads.{code_of}
-use Rattle.lw_base.specs.declared.event.Event.{Event}
-use Rattle.lw_base.specs.declared.stop.Stop.{Stop}
-use Rattle.lw_orders.specs.Order.{place, Before, Once, Keeps}
-use Rattle.lw_orders.specs.Sequence.{numbers}
-use Rattle.lw_orders.proofs.api.Places.{place-same, place-other, same_place, All-stands, order_from}
-use Rattle.lw_litmus.specs.Flow.{IsPathFrom}
-use Rattle.lw_litmus.specs.Languages.{Language}
-use Rattle.lw_choices.specs.Choices.{IsForward, IsChoice}
-use Rattle.lw_choices.specs.declared.item.Item.{Item}
-use Rattle.lw_choices.specs.Items.{item_at, items_of, constraints_of}
-use Rattle.lw_choices.proofs.api.FixedOrder.{AreOrdered, keeps_all}
-use Rattle.lw_choices.proofs.api.Members.{none_in, Contains-cons, from_map}
-use Rattle.lw_choices.proofs.api.Numbering.{In, Pairwise, Has, item, item_there, IsReal, as_many, real}
-use Rattle.lw_choices.proofs.api.Numbering.{slot_goes_up, same_number}
-use Rattle.lw_finals.specs.OrderRuns.{System, ItemsRan, ChoiceOutcome}
+use Rattle.lw_finals.proofs.Common.{◌≡◌, ℕ, zero, suc, ◌+◌, ◌<◌, inl, inr, List, [], ◌∷◌, map, length, Option}
+use Rattle.lw_finals.proofs.Common.{Some, Bool, true, false, Result, refl, sym, ap, ◌∙◌, subst, arith}
+use Rattle.lw_finals.proofs.Common.{slice_get, All, Contains, IsTrue, cases_eq, cases_lt, cases_order}
+use Rattle.lw_finals.proofs.Common.{cases_Bool, none-some, All-nil, All-cons, All-head, All-tail, All-weaker}
+use Rattle.lw_finals.proofs.Common.{Final, Ran, code_of, Event, Stop, place, Before, Once, Keeps, numbers}
+use Rattle.lw_finals.proofs.Common.{place-same, place-other, same_place, All-stands, order_from, IsPathFrom}
+use Rattle.lw_finals.proofs.Common.{Language, IsForward, IsChoice, Item, item_at, items_of, constraints_of}
+use Rattle.lw_finals.proofs.Common.{AreOrdered, keeps_all, none_in, Contains-cons, from_map, In, Pairwise}
+use Rattle.lw_finals.proofs.Common.{Has, item, item_there, IsReal, as_many, real, slot_goes_up, same_number}
+use Rattle.lw_finals.proofs.Common.{System, ItemsRan, ChoiceOutcome}
 use Rattle.lw_finals.proofs.Taken.{IsRight, IsAhead, Completed, Runs, completed}
 
 -- what is in a list is found there
@@ -140,7 +126,7 @@ module _ {S : Type 0} (language : Language S) (program : List (List S)) {State :
         let l = code_within language program a.thread a.position h.statement h.at in
         let on : In a.position (c.paths a.thread) = elim h.on [ inl g ↦ g | inr (d, g) ↦ absurd g ] in
         item_there language program paths a.thread a.position h.statement a.is_drain (as_many language program
-            paths choice) l (subst (In a.position) (sym (path_is a.thread l)) on) h.at h.store
+        paths choice) l (subst (In a.position) (sym (path_is a.thread l)) on) h.at h.store
 
     -- and each of the paths was done
     is_done : (i : ℕ) → i < length its → Contains c.done (at i)
@@ -166,7 +152,7 @@ module _ {S : Type 0} (language : Language S) (program : List (List S)) {State :
         let found : place names.order m.0 < length names.order = found_there names.order m.0 m.1 in
         let below : m.0 < length its = All-stands (λ i. i < length its) names.order m.0 names.below found in
         let same = same_number language program paths forward choice m.0 i below l (ap (λ x. x.thread) m.2)
-            (ap (λ (x : Item). x.position) m.2) (ap (λ (x : Item). x.is_drain) m.2) in
+        (ap (λ (x : Item). x.position) m.2) (ap (λ (x : Item). x.is_drain) m.2) in
         subst (λ k. place names.order k < length names.order) same found
 
     keeps : Keeps (constraints_of language program its).fixed names.order
@@ -198,4 +184,4 @@ module _ {S : Type 0} (language : Language S) (program : List (List S)) {State :
       → Ran Done es system.start end → IsTrue (system.is_final end) → o ≡ system.outcome_of end → OfChoice language program system o
   run_of_choice Done Sound runs forward es end o ran final is =
       of_choice forward end runs.starts (completed language _ _ position_of Done _ runs forward es (λ t. [])
-          system.start end (λ t p e. omega (arith, runs.at_start t p e)) runs.first ran final) o final is
+      system.start end (λ t p e. omega (arith, runs.at_start t p e)) runs.first ran final) o final is

@@ -1,25 +1,10 @@
 -- The complete list of a source test.
-use Rattle.std.proofs.Common.{ℕ, List, [], length, Result, subst, IfOk, OnOk, All, ◌↔◌}
-use Rattle.std.specs.List.{AllByRecursion}
-use Rattle.std.proofs.lemmas.List.Elements.{All-weaker}
-use Rattle.lw_base.specs.Entries.{IsEntryOf}
-use Rattle.lw_base.specs.Heads.{TestHead}
-use Rattle.lw_base.specs.Outcomes.{Final, IsOutcomeOf}
-use Rattle.lw_base.specs.Schedules.{IsEvent}
-use Rattle.lw_fence.specs.Compiling.{IsCompiled}
-use Rattle.lw_memory.specs.Flat.{flat}
-use Rattle.lw_interleaving.specs.Runs.{SourceOutcome}
-use Rattle.lw_litmus.specs.Sources.{source}
-use Rattle.lw_litmus.specs.WellFormedTests.{IsWellFormedSource}
-use Rattle.lw_litmus.specs.Tests.{SourceTest, ProgramTest}
-use Rattle.lw_tso.specs.Runs.{MachineOutcome}
-use Rattle.lw_choices.specs.Counts.{IsWithinLimits}
-use Rattle.lw_listing.specs.Listings.{OutcomeEntries}
-use Rattle.lw_finals.specs.Lists.{ListsMachine}
-use Rattle.lw_finals.specs.SourceRuns.{system_of, StaysAndEnds}
-use Rattle.lw_finals.specs.X86Runs.{LeadsFlat}
-use Rattle.lw_finals.specs.inner.Gathered.{Gathers, EndsOfProgram}
-use Rattle.lw_finals.specs.inner.Listed.{AreComplete, AreFlat, IsComplete}
+use Rattle.lw_finals.proofs.Common.{ℕ, List, [], length, Result, subst, IfOk, OnOk, All, ◌↔◌, AllByRecursion}
+use Rattle.lw_finals.proofs.Common.{All-weaker, IsEntryOf, TestHead, Final, IsOutcomeOf, IsEvent, IsCompiled}
+use Rattle.lw_finals.proofs.Common.{flat, SourceOutcome, source, IsWellFormedSource, SourceTest, ProgramTest}
+use Rattle.lw_finals.proofs.Common.{MachineOutcome, IsWithinLimits, OutcomeEntries, ListsMachine, system_of}
+use Rattle.lw_finals.proofs.Common.{StaysAndEnds, LeadsFlat, Gathers, EndsOfProgram, AreComplete, AreFlat}
+use Rattle.lw_finals.proofs.Common.{IsComplete}
 use Rattle.lw_finals.proofs.CompleteLists.{listed}
 use Rattle.lw_finals.proofs.SourceOutcomes.{alike_orders_end_alike, outcomes_are_those_of_choices}
 

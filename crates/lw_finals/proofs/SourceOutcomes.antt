@@ -1,40 +1,20 @@
 -- Alike orders of the items of a source test end alike; and the outcomes of the orders of all choices of paths are exactly its outcomes.
-use Rattle.std.proofs.Common.{◌≡◌, ℕ, ◌≤◌, ◌==◌, Bool, true, false, if◌then◌else◌, List, [], ◌∷◌, map, length}
-use Rattle.std.proofs.Common.{Option, Some, None, Result, Ok, refl, sym, subst, inl, inr, slice_get, arith}
-use Rattle.std.proofs.Common.{◌≢◌, ◌<◌, ap₂, ◌∙◌, ◌↔◌, IsTrue, true≢false, leb-true}
-use Rattle.std.proofs.lemmas.List.{get_or_past}
-use Rattle.std.proofs.lemmas.Bool.{cases_lt, cases_order, false_from_ne_true}
-use Rattle.lw_base.specs.Outcomes.{Final}
-use Rattle.lw_base.specs.Threads.{code_of}
-use Rattle.lw_base.specs.declared.event.Event.{Event}
-use Rattle.lw_base.specs.declared.event.Event.TheVariants.{Step}
-use Rattle.lw_base.specs.declared.stop.Stop.{Stop}
-use Rattle.lw_base.proofs.api.Lists.{at_index}
-use Rattle.lw_base.proofs.api.SideBySide.{got_map, zip_passes}
-use Rattle.lw_litmus.specs.declared.stmt.Stmt.{Stmt}
-use Rattle.lw_litmus.specs.Flow.{Follows}
-use Rattle.lw_litmus.specs.Sources.{source}
-use Rattle.lw_litmus.specs.WellFormedTests.{IsWellFormedSource}
-use Rattle.lw_litmus.specs.Tests.{SourceTest}
-use Rattle.lw_interleaving.specs.declared.thread.Thread.{Thread}
-use Rattle.lw_interleaving.specs.Runs.{State, source_step, SourceRan, RunsTo, is_source_final, start_of}
-use Rattle.lw_interleaving.specs.Runs.{starting_thread, SourceOutcome}
-use Rattle.lw_interleaving.specs.Steps.{FollowsFlow, position_of, next_of}
-use Rattle.lw_interleaving.proofs.api.Exchange.{moved, others_placed, exchange, next_is}
-use Rattle.lw_choices.specs.Choices.{IsChoice}
-use Rattle.lw_choices.specs.declared.item.Item.{Item}
-use Rattle.lw_choices.specs.Items.{items_of, item_at, statement_of, conflict_by, items_conflict}
-use Rattle.lw_choices.specs.Items.{constraints_of}
-use Rattle.lw_choices.proofs.api.Numbering.{In, item, IsReal, real}
-use Rattle.lw_choices.proofs.api.Visitable.{forward_of}
-use Rattle.lw_finals.specs.OrderRuns.{OrderRan}
-use Rattle.lw_finals.specs.SourceRuns.{system_of, StaysAndEnds, ChoiceOutcome, CarriedOut}
-use Rattle.lw_finals.specs.inner.SourceRunners.{threads_of}
+use Rattle.lw_finals.proofs.Common.{◌≡◌, ℕ, ◌≤◌, ◌==◌, Bool, true, false, if◌then◌else◌, List, [], ◌∷◌, map}
+use Rattle.lw_finals.proofs.Common.{length, Option, Some, None, Result, Ok, refl, sym, subst, inl, inr}
+use Rattle.lw_finals.proofs.Common.{slice_get, arith, ◌≢◌, ◌<◌, ap₂, ◌∙◌, ◌↔◌, IsTrue, true≢false, leb-true}
+use Rattle.lw_finals.proofs.Common.{get_or_past, cases_lt, cases_order, false_from_ne_true, Final, code_of}
+use Rattle.lw_finals.proofs.Common.{Event, Step, Stop, at_index, got_map, zip_passes, Stmt, Follows, source}
+use Rattle.lw_finals.proofs.Common.{IsWellFormedSource, SourceTest, Thread, State, source_step, SourceRan}
+use Rattle.lw_finals.proofs.Common.{RunsTo, is_source_final, start_of, starting_thread, SourceOutcome}
+use Rattle.lw_finals.proofs.Common.{FollowsFlow, next_of, moved, others_placed, exchange, next_is, IsChoice}
+use Rattle.lw_finals.proofs.Common.{Item, items_of, item_at, statement_of, conflict_by, items_conflict}
+use Rattle.lw_finals.proofs.Common.{constraints_of, In, item, IsReal, real, forward_of, OrderRan, system_of}
+use Rattle.lw_finals.proofs.Common.{StaysAndEnds, threads_of, none-some, IsLinearExtension, Alike}
+use Rattle.lw_interleaving.specs.Steps.{position_of}
+use Rattle.lw_finals.specs.SourceRuns.{ChoiceOutcome, CarriedOut}
 use Rattle.lw_finals.proofs.Ordered.{run_of_choice}
 use Rattle.lw_finals.proofs.Taken.{One, Runs, starts, at_start}
 use Rattle.lw_finals.proofs.Waiting.{Climbs, own_waits, stored, waits_after}
-use Rattle.std.proofs.lemmas.Option.{none-some}
-use Rattle.lw_orders.specs.Order.{IsLinearExtension, Alike}
 use Rattle.lw_finals.proofs.Alike.{Neighbours, orders_end_alike}
 use Rattle.lw_base.specs.Replays as replays
 use Rattle.lw_litmus.specs.Conflicts as conflicts

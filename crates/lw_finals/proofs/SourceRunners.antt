@@ -1,26 +1,11 @@
 -- The schedules that orders of a source test's items stand for: they lead to the orders' outcomes.
-use Rattle.std.proofs.Common.{◌≡◌, ◌<◌, length, ℕ, subst, List, [], ◌∷◌, ◌++◌, refl, sym, ap, ap₂}
-use Rattle.std.proofs.Common.{◌∙◌, All, slice_get}
-use Rattle.std.proofs.lemmas.List.Elements.{All-nil, All-cons}
-use Rattle.std.proofs.lemmas.Option.{slice_get_within, same_Some}
-use Rattle.lw_base.proofs.api.SideBySide.{got_map}
-use Rattle.lw_interleaving.proofs.api.Exchange.{stepped}
-use Rattle.lw_base.specs.Outcomes.{Final}
-use Rattle.lw_base.specs.Threads.{code_of}
-use Rattle.lw_base.specs.declared.event.Event.{Event}
-use Rattle.lw_litmus.specs.declared.stmt.Stmt.{Stmt}
-use Rattle.lw_interleaving.specs.declared.thread.Thread.{Thread}
-use Rattle.lw_interleaving.specs.Runs.{State, RunsTo, start_of}
-use Rattle.lw_memory.specs.Flat.{flat}
-use Rattle.lw_tso.specs.Runs.{Replays}
-use Rattle.lw_litmus.specs.Tests.{SourceTest}
-use Rattle.lw_fence.specs.Schedules.{statement_events, thread_events, after_step, schedule}
-use Rattle.lw_choices.specs.declared.item.Item.{Item}
-use Rattle.lw_choices.specs.Items.{item_at}
-use Rattle.lw_finals.specs.OrderRuns.{OrderRan}
-use Rattle.lw_finals.specs.SourceRuns.{CarriedOut, system_of, StaysAndEnds}
-use Rattle.lw_finals.specs.X86Runs.{LeadsFlat}
-use Rattle.lw_finals.specs.inner.SourceRunners.{CompiledSource, IsThere, events_at, item_events, threads_of}
+use Rattle.lw_finals.proofs.Common.{◌≡◌, ◌<◌, length, ℕ, subst, List, [], ◌∷◌, ◌++◌, refl, sym, ap, ap₂, ◌∙◌}
+use Rattle.lw_finals.proofs.Common.{All, slice_get, All-nil, All-cons, slice_get_within, same_Some, got_map}
+use Rattle.lw_finals.proofs.Common.{stepped, Final, code_of, Event, Stmt, Thread, State, RunsTo, start_of}
+use Rattle.lw_finals.proofs.Common.{flat, Replays, SourceTest, statement_events, thread_events, after_step}
+use Rattle.lw_finals.proofs.Common.{schedule, Item, item_at, OrderRan, system_of, StaysAndEnds, LeadsFlat}
+use Rattle.lw_finals.proofs.Common.{CompiledSource, IsThere, events_at, item_events, threads_of}
+use Rattle.lw_finals.specs.SourceRuns.{CarriedOut}
 use Rattle.lw_finals.proofs.SourceOutcomes.{order_runs_to}
 
 -- an item that is carried out is there
@@ -50,9 +35,9 @@ of_items test starts items (i ∷ order) s end (next, (at, step), ran) =
     let a = got_map (λ (th : Thread). th.position) s.threads item.thread item.position at in
     let here : thread_events test.threads starts item.thread (slice_get s.threads item.thread) ≡ events_at test.threads starts item =
     ap (thread_events test.threads starts item.thread) a.1 ∙ ap (λ (j : ℕ). statement_events item.thread
-        (code_of starts item.thread) j (slice_get (code_of test.threads item.thread) j)) (sym a.2) in
+    (code_of starts item.thread) j (slice_get (code_of test.threads item.thread) j)) (sym a.2) in
     ap₂ (λ (es fs : List Event). es ++ fs) here (ap (λ o. after_step o (schedule test.threads starts
-        (threads_of items order))) step ∙ of_items test starts items order next end ran)
+    (threads_of items order))) step ∙ of_items test starts items order next end ran)
 
 -- The events of an order's items lead to its outcome.
 pub leads : (t : CompiledSource) (items : List Item) (order : List ℕ) (events : List Event) (o : Final)

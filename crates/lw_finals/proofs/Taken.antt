@@ -1,30 +1,15 @@
 -- The paths that the threads of a program take in a run to the end, in either language, and the items that it carries out. Of a test
 -- is asked that each event carries out an item.
-use Rattle.std.proofs.Common.{◌≡◌, ◌≢◌, ℕ, suc, ◌<◌, ◌≤◌, ◌==◌, if◌then◌else◌, ◌⊎◌, inl, inr, ⊎_elim, List}
-use Rattle.std.proofs.Common.{[], ◌∷◌, map, length, Option, Some, Bool, true, false, Result, Ok, refl, sym}
-use Rattle.std.proofs.Common.{ap, ◌∙◌, subst, arith, slice_get, All, Contains, IsTrue, option_map, true≢false}
-use Rattle.std.proofs.Common.{eq-eqb, ne_eqb}
-use Rattle.std.specs.Option.{option_map_or}
-use Rattle.std.proofs.lemmas.Bool.{cases_eq, cases_Bool, cond-true, cond-false}
-use Rattle.std.proofs.lemmas.Option.{same_Some, slice_get-map}
-use Rattle.std.proofs.lemmas.List.Elements.{All-nil, All-cons, All-weaker}
-use Rattle.lw_base.specs.Replays.{Ran}
-use Rattle.lw_base.specs.Threads.{code_of}
-use Rattle.lw_base.specs.declared.event.Event.{Event}
-use Rattle.lw_base.specs.declared.stop.Stop.{Stop}
-use Rattle.lw_base.proofs.api.Lists.{get_some}
-use Rattle.lw_base.proofs.api.SideBySide.{got_map}
-use Rattle.lw_litmus.specs.Languages.{Language}
-use Rattle.lw_litmus.specs.Flow.{Follows, IsPathFrom}
-use Rattle.lw_choices.specs.Choices.{IsForward}
-use Rattle.lw_choices.specs.declared.item.Item.{Item}
-use Rattle.lw_choices.specs.Items.{drains, statement_waits}
-use Rattle.lw_choices.proofs.api.Led.{follows_within}
-use Rattle.lw_choices.proofs.api.Members.{Contains-here, Contains-there}
-use Rattle.lw_choices.proofs.api.FixedOrder.{AreOrdered}
-use Rattle.lw_choices.proofs.api.Numbering.{In, Pairwise, IsStoring, item, slot, slot_less, store_slot}
-use Rattle.lw_choices.proofs.api.Numbering.{GoesUp, goes_up_in, path_up}
-use Rattle.lw_finals.specs.OrderRuns.{System, ItemsRan}
+use Rattle.lw_finals.proofs.Common.{◌≡◌, ◌≢◌, ℕ, suc, ◌<◌, ◌≤◌, ◌==◌, if◌then◌else◌, ◌⊎◌, inl, inr, ⊎_elim}
+use Rattle.lw_finals.proofs.Common.{List, [], ◌∷◌, map, length, Option, Some, Bool, true, false, Result, Ok}
+use Rattle.lw_finals.proofs.Common.{refl, sym, ap, ◌∙◌, subst, arith, slice_get, All, Contains, IsTrue}
+use Rattle.lw_finals.proofs.Common.{option_map, true≢false, eq-eqb, ne_eqb, option_map_or, cases_eq}
+use Rattle.lw_finals.proofs.Common.{cases_Bool, cond-true, cond-false, same_Some, slice_get-map, All-nil}
+use Rattle.lw_finals.proofs.Common.{All-cons, All-weaker, Ran, code_of, Event, Stop, get_some, got_map}
+use Rattle.lw_finals.proofs.Common.{Language, Follows, IsPathFrom, IsForward, Item, drains, statement_waits}
+use Rattle.lw_finals.proofs.Common.{follows_within, Contains-here, Contains-there, AreOrdered, In, Pairwise}
+use Rattle.lw_finals.proofs.Common.{IsStoring, item, slot, slot_less, store_slot, GoesUp, goes_up_in, path_up}
+use Rattle.lw_finals.proofs.Common.{System, ItemsRan}
 use Rattle.lw_finals.proofs.Waiting.{Climbs, climbs_in, stored, waits_after, from_after, in_after}
 use Rattle.lw_finals.proofs.Waiting.{store_after}
 
@@ -34,7 +19,7 @@ module _ {X Y : Type 0} (starting : X → Y) (position : Y → ℕ) (at_first : 
   starts t l =
       let x = get_some xs t l in
       slice_get-map position (map starting xs) t ∙ (ap (option_map position) (slice_get-map starting xs t
-          ∙ ap (option_map starting) x.1) ∙ ap Some (at_first x.0))
+      ∙ ap (option_map starting) x.1) ∙ ap Some (at_first x.0))
 
   pub at_start : (t p : ℕ) → slice_get (map position (map starting xs)) t ≡ Some p → p ≡ 0
   at_start t p e =
@@ -138,8 +123,11 @@ module _ {S : Type 0} (language : Language S) (program : List (List S)) where
       within_next within u q e = elim (cases_eq t u) [
         | inl same ↦ subst (λ (v : ℕ). q ≤ length (code_of program v)) same (subst (λ (k : ℕ). k ≤ length
             (code_of program t)) (same_Some m.new q (sym m.now ∙ subst (λ (v : ℕ). position_of mid v ≡ Some q)
-            (sym same) e)) (elim (cases_Bool b) [ inl f ↦ omega (arith, within t m.old m.was, m.stays f) | inr
-            f ↦ (went f).1 ]))
+            (sym same) e)) (elim (cases_Bool b) [
+              | inl f ↦ omega (arith, within t m.old m.was, m.stays f)
+              | inr
+                  f ↦ (went f).1
+            ]))
         | inr ne ↦ within u q (sym (m.others u ne) ∙ e)
       ]
 
@@ -189,8 +177,13 @@ module _ {S : Type 0} (language : Language S) (program : List (List S)) where
           | inr ne ↦ subst (IsPathFrom language (code_of program u) q) (sym (before_other u ne)) (r.flows u q (m.others u ne ∙ e))
         ];
         ran = (mid, m.carried, r.ran);
-        ahead = All-cons (IsAhead before W) a r.done (record { statement = i; at = m.at; on = on_here; store
-            = m.store }) (All-weaker (IsAhead r.paths after) (IsAhead before W) still r.done r.ahead);
+        ahead = All-cons (IsAhead before W) a r.done (record {
+          statement = i;
+          at = m.at;
+          on = on_here;
+          store
+              = m.store;
+        }) (All-weaker (IsAhead r.paths after) (IsAhead before W) still r.done r.ahead);
         statements = λ u k h. elim (from_before u k h) [
           | inl (same, f, e) ↦ Contains-here a (item u k false) r.done (this u k false same e f)
           | inr g ↦ Contains-there a (item u k false) r.done (r.statements u k g)
@@ -237,8 +230,8 @@ module _ {S : Type 0} (language : Language S) (program : List (List S)) where
           flows_here : (q : ℕ) → position_of s t ≡ Some q → IsPathFrom language (code_of program t) q (before t)
           flows_here q e =
               subst (λ (k : ℕ). IsPathFrom language (code_of program t) k (before t)) (same_Some m.old q
-                  (sym m.was ∙ e)) (subst (IsPathFrom language (code_of program t) m.old)
-                  (sym (before_same t refl)) (own_flows b refl))
+              (sym m.was ∙ e)) (subst (IsPathFrom language (code_of program t) m.old)
+              (sym (before_same t refl)) (own_flows b refl))
 
           longer : (u p : ℕ) → position_of s u ≡ Some p → (q : ℕ) × (position_of mid u ≡ Some q)
           longer u p e = elim (cases_eq t u) [

@@ -1,13 +1,8 @@
 -- Which stores of a thread wait for their drains, by their positions, along a run of items.
-use Rattle.std.proofs.Common.{◌≡◌, ◌≢◌, ℕ, suc, ◌<◌, ◌≤◌, ◌==◌, Bool, true, false, if◌then◌else◌, List, []}
-use Rattle.std.proofs.Common.{◌∷◌, ◌++◌, Option, Some, None, refl, sym, ◌∙◌, subst, inl, inr, ◌⊎◌, ⊎_elim}
-use Rattle.std.proofs.Common.{arith, eq-eqb, ne_eqb, true≢false}
-use Rattle.std.specs.Option.{option_map_or}
-use Rattle.std.proofs.lemmas.Bool.{cases_eq, cond-true, cond-false}
-use Rattle.lw_litmus.specs.Languages.{Language}
-use Rattle.lw_choices.specs.declared.item.Item.{Item}
-use Rattle.lw_choices.specs.Items.{drains, statement_of}
-use Rattle.lw_choices.proofs.api.Numbering.{In}
+use Rattle.lw_finals.proofs.Common.{◌≡◌, ◌≢◌, ℕ, suc, ◌<◌, ◌≤◌, ◌==◌, Bool, true, false, if◌then◌else◌, List}
+use Rattle.lw_finals.proofs.Common.{[], ◌∷◌, ◌++◌, Option, Some, None, refl, sym, ◌∙◌, subst, inl, inr, ◌⊎◌}
+use Rattle.lw_finals.proofs.Common.{⊎_elim, arith, eq-eqb, ne_eqb, true≢false, option_map_or, cases_eq}
+use Rattle.lw_finals.proofs.Common.{cond-true, cond-false, Language, Item, drains, statement_of, In}
 
 in_pushed : (x j : ℕ) (ws : List ℕ) → In x ws → In x (ws ++ j ∷ [])
 in_pushed x j [] h = absurd h

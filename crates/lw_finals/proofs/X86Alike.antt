@@ -1,25 +1,12 @@
 -- Alike orders of the items of an x86 test end alike over flat memory.
-use Rattle.std.proofs.Common.{◌≡◌, ℕ, suc, ◌<◌, true, false, true≢false, List, [], ◌∷◌, length, Some, sym, ap}
-use Rattle.std.proofs.Common.{◌∙◌, inl, inr}
-use Rattle.std.specs.Option.{option_map_or}
-use Rattle.std.proofs.lemmas.Bool.{cases_order}
-use Rattle.lw_base.specs.Outcomes.{Final}
-use Rattle.lw_base.specs.Threads.{code_of}
-use Rattle.lw_memory.specs.Flat.{flat}
-use Rattle.lw_orders.specs.Order.{place, IsLinearExtension, Alike}
-use Rattle.lw_tso.specs.Machines.{MachineState}
-use Rattle.lw_tso.proofs.api.Neighbours.{exchanged}
-use Rattle.lw_litmus.specs.declared.instr.Instr.{Instr}
-use Rattle.lw_litmus.specs.Programs.{x86}
-use Rattle.lw_litmus.specs.WellFormedTests.{IsWellFormedProgram}
-use Rattle.lw_litmus.specs.Tests.{ProgramTest}
-use Rattle.lw_choices.specs.Choices.{IsForward, IsChoice}
-use Rattle.lw_choices.specs.declared.item.Item.{Item}
-use Rattle.lw_choices.specs.Items.{item_at, items_of, statement_of, statement_waits, constraints_of}
-use Rattle.lw_choices.proofs.api.Numbering.{IsReal, real, slot, slot_less, store_slot, number_less}
-use Rattle.lw_choices.proofs.api.FixedOrder.{AreOrdered}
-use Rattle.lw_choices.proofs.api.Visitable.{forward_of}
-use Rattle.lw_finals.specs.X86Runs.{event_of, CarriedOut, system_of, StaysAndEnds}
+use Rattle.lw_finals.proofs.Common.{◌≡◌, ℕ, suc, ◌<◌, true, false, true≢false, List, [], ◌∷◌, length, Some}
+use Rattle.lw_finals.proofs.Common.{sym, ap, ◌∙◌, inl, inr, option_map_or, cases_order, Final, code_of, flat}
+use Rattle.lw_finals.proofs.Common.{place, IsLinearExtension, Alike, MachineState, exchanged, Instr, x86}
+use Rattle.lw_finals.proofs.Common.{IsWellFormedProgram, ProgramTest, IsForward, IsChoice, Item, item_at}
+use Rattle.lw_finals.proofs.Common.{items_of, statement_of, statement_waits, constraints_of, IsReal, real}
+use Rattle.lw_finals.proofs.Common.{slot, slot_less, store_slot, number_less, AreOrdered, forward_of}
+use Rattle.lw_finals.proofs.Common.{event_of, CarriedOut}
+use Rattle.lw_finals.specs.X86Runs.{system_of, StaysAndEnds}
 use Rattle.lw_finals.proofs.Alike.{Neighbours, orders_end_alike}
 use Rattle.lw_finals.proofs.Waiting.{waits_after}
 use Rattle.lw_finals.proofs.X86Waiting.{AllHold, all_hold, hold_first, CarriedItem, carried}
@@ -92,7 +79,7 @@ module _ (program : List (List Instr)) (forward : (u : ℕ) → IsForward x86 (c
       let u : Turn order k x W s mid = turn order is k x n.x_below n.x_place W s mid r one in
       let v = turn order is (suc k) y n.y_below n.y_place (waits_after x86 program (at x) W) mid end u.reached two in
       let free = independent program W s mid end r.hold (at x) (at y) u.instr v.instr u.statement v.statement
-          u.reached.hold u.head v.head n.apart (unfixed order k x y n v.instr v.statement) u.did v.did in
+      u.reached.hold u.head v.head n.apart (unfixed order k x y n v.instr v.statement) u.did v.did in
       exchanged program (event_of (at x)) (event_of (at y)) s free (at x).position (at y).position mid end one two
 
 -- Where one of two alike orders stays on the paths the other does, with the same outcome.

@@ -1,15 +1,8 @@
 -- The complete list of an x86 test.
-use Rattle.std.proofs.Common.{[], Result, IfOk, OnOk}
-use Rattle.lw_memory.specs.Flat.{flat}
-use Rattle.lw_litmus.specs.Programs.{x86}
-use Rattle.lw_litmus.specs.WellFormedTests.{IsWellFormedProgram}
-use Rattle.lw_litmus.specs.Tests.{ProgramTest}
-use Rattle.lw_tso.specs.Runs.{MachineOutcome}
-use Rattle.lw_choices.specs.Counts.{IsWithinLimits}
-use Rattle.lw_listing.specs.Listings.{OutcomeEntries}
-use Rattle.lw_finals.specs.X86Runs.{system_of, StaysAndEnds, LeadsFlat}
-use Rattle.lw_finals.specs.inner.Gathered.{Gathers, EndsOfProgram}
-use Rattle.lw_finals.specs.inner.Listed.{AreComplete, AreFlat, IsComplete}
+use Rattle.lw_finals.proofs.Common.{[], Result, IfOk, OnOk, flat, x86, IsWellFormedProgram, ProgramTest}
+use Rattle.lw_finals.proofs.Common.{MachineOutcome, IsWithinLimits, OutcomeEntries, LeadsFlat, Gathers}
+use Rattle.lw_finals.proofs.Common.{EndsOfProgram, AreComplete, AreFlat, IsComplete}
+use Rattle.lw_finals.specs.X86Runs.{system_of, StaysAndEnds}
 use Rattle.lw_finals.proofs.CompleteLists.{listed}
 use Rattle.lw_finals.proofs.X86Alike.{x86_orders_end_alike}
 use Rattle.lw_finals.proofs.X86Outcomes.{x86_outcomes}
@@ -19,5 +12,5 @@ pub program_listed : (test : ProgramTest) → IsWellFormedProgram test → AreCo
     → OnOk result (IsWithinLimits x86 test.threads) → IfOk result (IsComplete (MachineOutcome flat test test.head.init_words) test)
 program_listed test is complete flat_too =
     listed x86 test (system_of flat test test.head.init_words) is (λ paths xs ys o choice.
-        x86_orders_end_alike test paths xs ys o is choice) complete (MachineOutcome flat test
-        test.head.init_words) (λ o. x86_outcomes test o is) test (λ o. ((λ m. m), (λ m. m))) flat_too
+    x86_orders_end_alike test paths xs ys o is choice) complete (MachineOutcome flat test
+    test.head.init_words) (λ o. x86_outcomes test o is) test (λ o. ((λ m. m), (λ m. m))) flat_too

@@ -1,35 +1,16 @@
 -- The outcomes over flat memory of the orders of all choices of paths are exactly the outcomes of an x86 test.
-use Rattle.std.proofs.Common.{◌≡◌, ℕ, ◌≤◌, ◌==◌, List, [], ◌∷◌, length, Option, Some, None, Bool, true, false}
-use Rattle.std.proofs.Common.{Ok, refl, sym, ap, ◌∙◌, subst, arith, slice_get, length-set, ◌↔◌, IsTrue}
-use Rattle.std.proofs.Common.{nat_le, option_map, true≢false, leb-true, eqb-true}
-use Rattle.std.proofs.lemmas.Bool.{and_parts}
-use Rattle.std.proofs.lemmas.List.{length-map, nil_from_length}
-use Rattle.std.proofs.lemmas.Option.{slice_get-map, slice_get_within}
-use Rattle.lw_base.specs.Outcomes.{Final}
-use Rattle.lw_base.specs.Threads.{code_of}
-use Rattle.lw_base.specs.declared.event.Event.{Event}
-use Rattle.lw_base.specs.declared.event.Event.TheVariants.{Step, Drain, Evict}
-use Rattle.lw_base.proofs.api.Lists.{got_set_same, got_set_other, at_index}
-use Rattle.lw_base.proofs.api.SideBySide.{got_map, zip_passes}
-use Rattle.lw_memory.specs.Flat.{flat}
-use Rattle.lw_litmus.specs.declared.instr.Instr.{Instr}
-use Rattle.lw_litmus.specs.Operations.{Leads}
-use Rattle.lw_litmus.specs.Programs.{x86_operation, x86}
-use Rattle.lw_litmus.specs.WellFormedTests.{IsWellFormedProgram}
-use Rattle.lw_litmus.specs.Tests.{ProgramTest}
-use Rattle.lw_tso.specs.Acts.{step_act}
-use Rattle.lw_tso.specs.Machines.{MachineState, position_of, EventDone}
-use Rattle.lw_tso.specs.Processors.{Processor, starting}
-use Rattle.lw_tso.specs.Runs.{is_final, MachineRan, Replays, MachineOutcome, machine_start}
-use Rattle.lw_tso.proofs.api.Effects.{Does, Did, leads_to, no_eviction}
-use Rattle.lw_tso.proofs.api.Operations.{Went}
-use Rattle.lw_choices.specs.Choices.{IsForward, IsChoice}
-use Rattle.lw_choices.specs.declared.item.Item.{Item}
-use Rattle.lw_choices.specs.Items.{items_of}
-use Rattle.lw_choices.proofs.api.Numbering.{In, IsStoring, item}
-use Rattle.lw_choices.proofs.api.Visitable.{forward_of}
-use Rattle.lw_finals.specs.OrderRuns.{OrderRan}
-use Rattle.lw_finals.specs.X86Runs.{events_of, CarriedOut, system_of, StaysAndEnds, ChoiceOutcome}
+use Rattle.lw_finals.proofs.Common.{◌≡◌, ℕ, ◌≤◌, ◌==◌, List, [], ◌∷◌, length, Option, Some, None, Bool, true}
+use Rattle.lw_finals.proofs.Common.{false, Ok, refl, sym, ap, ◌∙◌, subst, arith, slice_get, length-set, ◌↔◌}
+use Rattle.lw_finals.proofs.Common.{IsTrue, nat_le, option_map, true≢false, leb-true, eqb-true, and_parts}
+use Rattle.lw_finals.proofs.Common.{length-map, nil_from_length, slice_get-map, slice_get_within, Final}
+use Rattle.lw_finals.proofs.Common.{code_of, Event, Step, Drain, Evict, got_set_same, got_set_other, at_index}
+use Rattle.lw_finals.proofs.Common.{got_map, zip_passes, flat, Instr, Leads, x86_operation, x86}
+use Rattle.lw_finals.proofs.Common.{IsWellFormedProgram, ProgramTest, step_act, MachineState, position_of}
+use Rattle.lw_finals.proofs.Common.{EventDone, Processor, starting, is_final, MachineRan, Replays}
+use Rattle.lw_finals.proofs.Common.{MachineOutcome, machine_start, Does, Did, leads_to, no_eviction, Went}
+use Rattle.lw_finals.proofs.Common.{IsForward, IsChoice, Item, items_of, In, IsStoring, item, forward_of}
+use Rattle.lw_finals.proofs.Common.{OrderRan, events_of, CarriedOut}
+use Rattle.lw_finals.specs.X86Runs.{system_of, StaysAndEnds, ChoiceOutcome}
 use Rattle.lw_finals.proofs.Ordered.{run_of_choice}
 use Rattle.lw_finals.proofs.Taken.{One, Runs, starts, at_start}
 use Rattle.lw_finals.proofs.Waiting.{stored}
@@ -131,8 +112,11 @@ module _ (test : ProgramTest) where
     one (Step t) W s mid sound done =
         let d : Did program (Step t) s mid = leads_to program (Step t) s mid done in
         let i = instr_there _ d.from d.to s.memory d.words d.does in
-        carries t d.from.position false i.0 W s mid sound i.1 (record { stands = there s t d.from d.was; done
-            = done }) (λ f. absurd (true≢false (sym f))) (λ f. absurd (true≢false (sym f)))
+        carries t d.from.position false i.0 W s mid sound i.1 (record {
+          stands = there s t d.from d.was;
+          done
+              = done;
+        }) (λ f. absurd (true≢false (sym f))) (λ f. absurd (true≢false (sym f)))
     one (Drain t) W s mid sound done =
         let d : Did program (Drain t) s mid = leads_to program (Drain t) s mid done in
         let shape : DrainShape d.from d.to = drain_shape d.from d.to s.memory d.words d.does in

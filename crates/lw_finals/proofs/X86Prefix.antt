@@ -1,18 +1,10 @@
 -- What has been done, and which stores wait, after a part of an order of an x86 test's items that keeps the fixed pairs.
-use Rattle.std.proofs.Common.{◌≡◌, ℕ, suc, ◌<◌, ◌≤◌, Bool, true, false, true≢false, List, [], ◌∷◌, length}
-use Rattle.std.proofs.Common.{Some, refl, sym, ap, ap₂, ◌∙◌, subst, inl, inr, arith, slice_get}
-use Rattle.std.proofs.lemmas.Bool.{cases_lt}
-use Rattle.lw_base.specs.Threads.{code_of}
-use Rattle.lw_orders.specs.Order.{place, Before, IsLinearExtension}
-use Rattle.lw_orders.proofs.api.Places.{same_place}
-use Rattle.lw_litmus.specs.declared.instr.Instr.{Instr}
-use Rattle.lw_litmus.specs.Programs.{x86}
-use Rattle.lw_choices.specs.Choices.{IsForward, IsChoice}
-use Rattle.lw_choices.specs.declared.item.Item.{Item}
-use Rattle.lw_choices.specs.Items.{item_at, items_of, statement_of, constraints_of}
-use Rattle.lw_choices.proofs.api.FixedOrder.{AreOrdered, kept}
-use Rattle.lw_choices.proofs.api.Numbering.{In, Has, item, slot, slot_less, store_slot, real, threads_up}
-use Rattle.lw_choices.proofs.api.Numbering.{number_less, same_number, beside}
+use Rattle.lw_finals.proofs.Common.{◌≡◌, ℕ, suc, ◌<◌, ◌≤◌, Bool, true, false, true≢false, List, [], ◌∷◌}
+use Rattle.lw_finals.proofs.Common.{length, Some, refl, sym, ap, ap₂, ◌∙◌, subst, inl, inr, arith, slice_get}
+use Rattle.lw_finals.proofs.Common.{cases_lt, code_of, place, Before, IsLinearExtension, same_place, Instr}
+use Rattle.lw_finals.proofs.Common.{x86, IsForward, IsChoice, Item, item_at, items_of, statement_of}
+use Rattle.lw_finals.proofs.Common.{constraints_of, AreOrdered, kept, In, Has, item, slot, slot_less}
+use Rattle.lw_finals.proofs.Common.{store_slot, real, threads_up, number_less, same_number, beside}
 use Rattle.lw_finals.proofs.Waiting.{Climbs, climbs_in, stored, waits_after, from_after, in_after}
 use Rattle.lw_finals.proofs.Waiting.{store_after}
 
@@ -76,8 +68,8 @@ module _ (program : List (List Instr)) (forward : (t : ℕ) → IsForward x86 (c
     oldest k high i W w climbs lt at f =
         let s = store_of i lt f in
         first (W (it i).thread) climbs (λ v h. w.coming (it i).thread v h) (w.waits s.0.0 i s.0.1 lt
-            (ap (λ (a : Item). a.thread) s.0.2) (ap (λ (a : Item). a.position) s.0.2)
-            (ap (λ (a : Item). a.is_drain) s.0.2) f (omega (arith, s.1, at)) (omega (arith, at)))
+        (ap (λ (a : Item). a.thread) s.0.2) (ap (λ (a : Item). a.position) s.0.2)
+        (ap (λ (a : Item). a.is_drain) s.0.2) f (omega (arith, s.1, at)) (omega (arith, at)))
       where
         first : (ws : List ℕ) → Climbs 0 ws high → ((v : ℕ) → In v ws → Coming order k (it i).thread v)
             → In (it i).position ws → (rest : List ℕ) × (ws ≡ (it i).position ∷ rest)
@@ -147,5 +139,5 @@ module _ (program : List (List Instr)) (forward : (t : ℕ) → IsForward x86 (c
             → suc k ≤ place order d → In (it d).position (W (it d).thread) → In (it d).position (waits_after x86 program (it i) W (it d).thread)
         keep d ld g later h =
             in_after x86 program W (it i) high climbs head (it d).thread (it d).position h
-                (λ same f e. (let n = same_number x86 _ _ forward choice d i ld lt (sym same) e (g ∙ sym f) in
+            (λ same f e. (let n = same_number x86 _ _ forward choice d i ld lt (sym same) e (g ∙ sym f) in
             let p = ap (place order) n in absurd (omega (arith, p, later, at))))

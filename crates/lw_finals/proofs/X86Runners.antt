@@ -1,24 +1,11 @@
 -- Runs of the orders of an x86 test's items over any memory, seen over the flat one; and their events, which lead where they do.
-use Rattle.std.proofs.Common.{◌≡◌, ℕ, ◌+◌, ◌<◌, ◌≤◌, Bool, true, false, List, [], ◌∷◌, ◌++◌, length, get_or}
-use Rattle.std.proofs.Common.{Some, ◌↔◌, ◌==◌, Ok, Err, refl, sym, ap, ◌∙◌, subst, IsTrue, eqb-true, eq-eqb}
-use Rattle.lw_base.proofs.api.Replays.{Ran-append}
-use Rattle.std.proofs.lemmas.Option.{same_Some}
-use Rattle.lw_base.specs.Outcomes.{Final}
-use Rattle.lw_base.specs.declared.event.Event.{Event}
-use Rattle.lw_base.specs.declared.stop.Stop.{Stop}
-use Rattle.lw_memory.specs.Flat.{flat}
-use Rattle.lw_memory.specs.MemoryLaws.{Invariant}
-use Rattle.lw_memory.specs.Memory.{Memory}
-use Rattle.lw_tso.specs.Evictions.{without_evictions}
-use Rattle.lw_tso.specs.Exchange.{StandsAt}
-use Rattle.lw_tso.specs.Machines.{MachineState, position_of, Answer, EventDone, flatten}
-use Rattle.lw_tso.specs.Runs.{MachineRan, machine_start}
-use Rattle.lw_tso.specs.Starts.{CanStart}
-use Rattle.lw_tso.proofs.api.Effects.{event_once}
-use Rattle.lw_litmus.specs.declared.instr.Instr.{Instr}
-use Rattle.lw_litmus.specs.Tests.{ProgramTest}
-use Rattle.lw_choices.specs.declared.item.Item.{Item}
-use Rattle.lw_finals.specs.X86Runs.{event_by, event_of, CarriedOut, system_of, StaysAndEnds}
+use Rattle.lw_finals.proofs.Common.{◌≡◌, ℕ, ◌+◌, ◌<◌, ◌≤◌, Bool, true, false, List, [], ◌∷◌, ◌++◌, length}
+use Rattle.lw_finals.proofs.Common.{get_or, Some, ◌↔◌, ◌==◌, Ok, Err, refl, sym, ap, ◌∙◌, subst, IsTrue}
+use Rattle.lw_finals.proofs.Common.{eqb-true, eq-eqb, Ran-append, same_Some, Final, Event, Stop, flat}
+use Rattle.lw_finals.proofs.Common.{Invariant, Memory, without_evictions, StandsAt, MachineState, position_of}
+use Rattle.lw_finals.proofs.Common.{Answer, EventDone, flatten, MachineRan, machine_start, CanStart}
+use Rattle.lw_finals.proofs.Common.{event_once, Instr, ProgramTest, Item, event_by, event_of, CarriedOut}
+use Rattle.lw_finals.specs.X86Runs.{system_of, StaysAndEnds}
 use Rattle.lw_finals.proofs.OrderSteps.{RanFirst, ran_off, ran_on}
 
 -- a thread that is at a position stands where an item of its statements is exactly where that is the item's
@@ -79,8 +66,11 @@ module _ {M : Type 0} (mem : Memory M) where
             events = r.events ++ event_of item ∷ [];
             reached = Ran-append (EventDone mem test.threads) r.events
                 (event_of item ∷ []) (machine_start test m) now next r.reached (next, carried.done, refl);
-            first = ran_on _ _ _ k n d item _ _ l is there reads (record { stands = (stands_flat _ item.thread
-                item.position now).0 carried.stands; done = done }) (λ other c. (event_once test.threads
+            first = ran_on _ _ _ k n d item _ _ l is there reads (record {
+              stands = (stands_flat _ item.thread
+                  item.position now).0 carried.stands;
+              done = done;
+            }) (λ other c. (event_once test.threads
                 (event_of item) (flatten mem now) other _ (Ok tt) (Ok tt) c.done done).1) r.first;
           }
 

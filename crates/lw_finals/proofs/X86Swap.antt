@@ -1,24 +1,14 @@
 -- Two neighbouring items of an x86 test's order that neither conflict nor are fixed are independent events.
-use Rattle.std.proofs.Common.{◌≡◌, ◌≢◌, ℕ, ◌<◌, Bool, true, false, List, [], ◌∷◌, length, Option, Some, None}
-use Rattle.std.proofs.Common.{refl, sym, ap, ◌∙◌, subst, inl, arith, slice_get, ◌||◌, if◌then◌else◌, eq-eqb}
-use Rattle.std.proofs.lemmas.Bool.{cond-false, and_from, or_left, or_right, false_from_ne_true}
-use Rattle.std.proofs.lemmas.Option.{same_Some, none-some}
-use Rattle.lw_base.specs.Threads.{code_of}
-use Rattle.lw_base.proofs.api.Lists.{got_set_same, got_set_other}
-use Rattle.lw_tso.specs.Acts.{cpu_of, event_act, operation_act, step_act, drain_act}
-use Rattle.lw_tso.specs.Exchange.{DoNotConflict, MayPass, MayPassOldest, ArePassing, AreIndependent}
-use Rattle.lw_tso.specs.Machines.{MachineState}
-use Rattle.lw_tso.specs.Processors.{Processor}
-use Rattle.lw_tso.proofs.api.Operations.{Went, operation_accessed}
-use Rattle.lw_litmus.specs.declared.instr.Instr.{Instr}
-use Rattle.lw_litmus.specs.declared.operation.Operation.{Operation}
-use Rattle.lw_litmus.specs.declared.operation.Operation.TheVariants.{Store, Load}
-use Rattle.lw_litmus.specs.Conflicts.{is_one}
-use Rattle.lw_litmus.specs.Operations.{is_store, location_of, writes, waits}
-use Rattle.lw_litmus.specs.Programs.{x86_operation, x86}
-use Rattle.lw_choices.specs.declared.item.Item.{Item}
-use Rattle.lw_choices.specs.Items.{drains, statement_of, location_by, writes_by, conflict_by, items_conflict}
-use Rattle.lw_finals.specs.X86Runs.{event_by, event_of}
+use Rattle.lw_finals.proofs.Common.{◌≡◌, ◌≢◌, ℕ, ◌<◌, Bool, true, false, List, [], ◌∷◌, length, Option, Some}
+use Rattle.lw_finals.proofs.Common.{None, refl, sym, ap, ◌∙◌, subst, inl, arith, slice_get, ◌||◌}
+use Rattle.lw_finals.proofs.Common.{if◌then◌else◌, eq-eqb, cond-false, and_from, or_left, or_right}
+use Rattle.lw_finals.proofs.Common.{false_from_ne_true, same_Some, none-some, code_of, got_set_same}
+use Rattle.lw_finals.proofs.Common.{got_set_other, cpu_of, event_act, operation_act, step_act, drain_act}
+use Rattle.lw_finals.proofs.Common.{DoNotConflict, MayPass, MayPassOldest, ArePassing, AreIndependent}
+use Rattle.lw_finals.proofs.Common.{MachineState, Processor, Went, operation_accessed, Instr, Operation}
+use Rattle.lw_finals.proofs.Common.{Store, Load, is_one, is_store, location_of, writes, waits, x86_operation}
+use Rattle.lw_finals.proofs.Common.{x86, Item, drains, statement_of, location_by, writes_by, conflict_by}
+use Rattle.lw_finals.proofs.Common.{items_conflict, event_by, event_of}
 use Rattle.lw_finals.proofs.Waiting.{Climbs, climbs_in, own_waits, stored, waits_after, waits_same}
 use Rattle.lw_finals.proofs.X86Waiting.{act_by, Carried, CarriedItem, went, DrainShape, drain_shape, Waits}
 use Rattle.lw_finals.proofs.X86Waiting.{AllHold}
@@ -130,14 +120,14 @@ module _ (program : List (List Instr)) (W : ℕ → List ℕ) (s m1 m2 : Machine
       let at : x.old.position ≡ k = old_position in
       let less = climbs_in 0 x.old.position j (j ∷ a.0) (rw a.1 at g.climbs) (inl refl) in
       passes_oldest x.old.buffer (slice_get (code_of program t) x.old.position) f.0 f.1 h f.2
-          (ap (λ n. slice_get (code_of program t) n) at ∙ ath) (passes f.0.0 _ (λ w. free.no_wait refl refl
-          (omega (arith, less.1, at)) w) (λ e. never (conflicting true false i h f.0.0 f.3 e refl)))
+      (ap (λ n. slice_get (code_of program t) n) at ∙ ath) (passes f.0.0 _ (λ w. free.no_wait refl refl
+      (omega (arith, less.1, at)) w) (λ e. never (conflicting true false i h f.0.0 f.3 e refl)))
     where
       old_position : x.old.position ≡ k
       old_position =
           let d : DrainShape x.old x.new = drain_shape x.old x.new s.memory x.words x.does in
           let same : x.new ≡ y.old = same_Some x.new y.old (sym (ap (λ (z : MachineState (List ℕ)). slice_get
-              z.processors t) x.is ∙ got_set_same s.processors t x.new x.old x.was) ∙ y.was) in
+          z.processors t) x.is ∙ got_set_same s.processors t x.new x.old x.was) ∙ y.was) in
           ap (λ (z : Processor). z.position) (sym d.is) ∙ (ap (λ z. z.position) same ∙ y.stands refl)
   passing t j k i h o _ _ ati ath headx heady never free x y = absurd (free.unlike refl)
 
@@ -179,20 +169,23 @@ module _ (program : List (List Instr)) (W : ℕ → List ℕ) (s m1 m2 : Machine
         let e' : slice_get s.processors a.thread ≡ Some p = ap (slice_get s.processors) (sym (cpu_is a.is_drain a.thread)) ∙ e in
         let f' : slice_get s.processors b.thread ≡ Some q = ap (slice_get s.processors) (sym (cpu_is b.is_drain b.thread)) ∙ f in
         subst (λ act. DoNotConflict act (event_act program (length s.memory) (event_of b) q))
-            (sym (act_is (length s.memory) a.thread a.is_drain p)) (subst (λ act. DoNotConflict
-            (act_by program a.thread a.is_drain p) act) (sym (act_is (length s.memory) b.thread b.is_drain q))
-            (apart a.thread b.thread a.position b.position i h a.is_drain b.is_drain (waits_after x86 program
-            a W) threads ati ath hold1 heada headb never x y p q e' f')));
+        (sym (act_is (length s.memory) a.thread a.is_drain p)) (subst (λ act. DoNotConflict
+        (act_by program a.thread a.is_drain p) act) (sym (act_is (length s.memory) b.thread b.is_drain q))
+        (apart a.thread b.thread a.position b.position i h a.is_drain b.is_drain (waits_after x86 program
+        a W) threads ati ath hold1 heada headb never x y p q e' f')));
     of_one = λ same p e. (let one : a.thread ≡ b.thread = sym (cpu_is a.is_drain a.thread)
         ∙ (same ∙ cpu_is b.is_drain b.thread) in
         let is : x.old ≡ p = same_Some x.old p (sym x.was ∙ (ap (slice_get s.processors) (sym (cpu_is a.is_drain a.thread)) ∙ e)) in
         subst (λ u. ArePassing program (event_of a) (event_by b.is_drain u) p) one
-            (subst (λ r. ArePassing program (event_of a) (event_by b.is_drain a.thread) r) is
-            (passing a.thread a.position b.position i h (stored x86 (statement_of x86 program a)) a.is_drain
-            b.is_drain ati (subst (λ u. slice_get (code_of program u) b.position ≡ Some h) (sym one) ath)
-            heada (λ f. (let r = headb f in (r.0, sym (waits_same x86 program a W a.thread refl)
-            ∙ (ap (waits_after x86 program a W) one ∙ r.1)))) never (unfixed one) x
-            (subst (λ u. Carried program u b.position b.is_drain m1 m2) (sym one) y))));
+        (subst (λ r. ArePassing program (event_of a) (event_by b.is_drain a.thread) r) is
+        (passing a.thread a.position b.position i h (stored x86 (statement_of x86 program a)) a.is_drain
+        b.is_drain ati (subst (λ u. slice_get (code_of program u) b.position ≡ Some h) (sym one) ath)
+        heada (λ f. (let r = headb f in (
+          r.0,
+          sym (waits_same x86 program a W a.thread refl)
+              ∙ (ap (waits_after x86 program a W) one ∙ r.1),
+        ))) never (unfixed one) x
+        (subst (λ u. Carried program u b.position b.is_drain m1 m2) (sym one) y))));
   }
     where
       never : conflict_by x86 a.is_drain b.is_drain (Some i) (Some h) ≡ true → ⊥

@@ -1,32 +1,13 @@
 -- Which stores of a thread wait in its store buffer, by their positions, along a run of items of an x86 test.
-use Rattle.std.proofs.Common.{◌≡◌, ℕ, Bool, true, false, if◌then◌else◌, List, [], ◌∷◌, ◌++◌, map, Option}
-use Rattle.std.proofs.Common.{Some, None, refl, sym, ap, ◌∙◌, subst, inl, inr, arith, slice_get, slice_set}
-use Rattle.std.proofs.Common.{option_map, true≢false}
-use Rattle.std.proofs.lemmas.Bool.{cases_eq, cond-true, cond-false}
-use Rattle.std.proofs.lemmas.Option.{same_Some, slice_get-map}
-use Rattle.lw_base.specs.Threads.{code_of}
-use Rattle.lw_base.proofs.api.Lists.{got_set_same, got_set_other}
-use Rattle.lw_base.proofs.api.SideBySide.{got_map}
-use Rattle.lw_memory.specs.Flat.{flat}
-use Rattle.lw_litmus.specs.declared.operation.Operation.{Operation}
-use Rattle.lw_litmus.specs.declared.instr.Instr.{Instr}
-use Rattle.lw_litmus.specs.Flow.{Follows}
-use Rattle.lw_litmus.specs.Operations.{is_store, location_of}
-use Rattle.lw_litmus.specs.Programs.{x86_operation, x86}
-use Rattle.lw_litmus.specs.Tests.{ProgramTest}
-use Rattle.lw_tso.specs.Acts.{Act, step_act, drain_act}
-use Rattle.lw_tso.specs.Exchange.{DoneAt}
-use Rattle.lw_tso.specs.Machines.{MachineState}
-use Rattle.lw_tso.specs.Processors.{Processor, starting}
-use Rattle.lw_tso.specs.Runs.{machine_start}
-use Rattle.lw_tso.proofs.api.Effects.{state, Does, Did, leads_to}
-use Rattle.lw_tso.proofs.api.Operations.{Buffers, Went, operation_does}
-use Rattle.lw_choices.specs.Choices.{IsForward}
-use Rattle.lw_choices.specs.declared.item.Item.{Item}
-use Rattle.lw_choices.specs.Items.{drains, statement_of}
-use Rattle.lw_choices.proofs.api.Led.{follows_within}
-use Rattle.lw_choices.proofs.api.Numbering.{In}
-use Rattle.lw_finals.specs.X86Runs.{event_by}
+use Rattle.lw_finals.proofs.Common.{◌≡◌, ℕ, Bool, true, false, if◌then◌else◌, List, [], ◌∷◌, ◌++◌, map}
+use Rattle.lw_finals.proofs.Common.{Option, Some, None, refl, sym, ap, ◌∙◌, subst, inl, inr, arith, slice_get}
+use Rattle.lw_finals.proofs.Common.{slice_set, option_map, true≢false, cases_eq, cond-true, cond-false}
+use Rattle.lw_finals.proofs.Common.{same_Some, slice_get-map, code_of, got_set_same, got_set_other, got_map}
+use Rattle.lw_finals.proofs.Common.{flat, Operation, Instr, Follows, is_store, location_of, x86_operation}
+use Rattle.lw_finals.proofs.Common.{x86, ProgramTest, Act, step_act, drain_act, DoneAt, MachineState}
+use Rattle.lw_finals.proofs.Common.{Processor, starting, machine_start, state, Does, Did, leads_to, Buffers}
+use Rattle.lw_finals.proofs.Common.{Went, operation_does, IsForward, Item, drains, statement_of}
+use Rattle.lw_finals.proofs.Common.{follows_within, In, event_by}
 use Rattle.lw_finals.proofs.Waiting.{Climbs, own_waits, own_climbs, stored, waits_after, waits_same}
 use Rattle.lw_finals.proofs.Waiting.{waits_other}
 
@@ -153,7 +134,7 @@ module _ (program : List (List Instr)) where
         let a : Went (x86_operation i) c.old c.new = went t j i s mid c at in
         let there : c.old.position ≡ j = c.stands refl in
         let lt = follows_within x86 (code_of program t) j c.new.position (forward t)
-            (subst (λ (o : Option Instr). Follows x86 o j c.new.position) (sym at) (rw there at a.leads)) in
+        (subst (λ (o : Option Instr). Follows x86 o j c.new.position) (sym at) (rw there at a.leads)) in
         record {
           waits = stepped_waits (code_of program t) (x86_operation i) ws c.old.buffer c.new.buffer j h.waits (ap (stored x86) at) a.buffers;
           climbs = own_climbs false (drains x86 i) ws j c.old.position c.new.position

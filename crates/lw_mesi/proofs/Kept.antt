@@ -1,15 +1,9 @@
 -- Caches go on keeping their protocol, line by line.
-use Rattle.std.proofs.Common.{◌≡◌, ℕ, suc, zero, ◌<◌, ◌≤◌, List, [], ◌∷◌, length, set, get_or, Result, Ok}
-use Rattle.std.proofs.Common.{Err, is_ok, OnOk, OnErr, refl, sym, ap, ◌∙◌, subst, arith, length-set}
-use Rattle.std.proofs.lemmas.List.{length-map}
-use Rattle.lw_base.specs.Limits.{most_threads, most_locations}
-use Rattle.lw_memory.specs.Memory.{is_held}
-use Rattle.lw_mesi.specs.declared.protocol.Protocol.{Protocol}
-use Rattle.lw_mesi.specs.CacheLines.{CacheLine, Caches, unheld_line, copy_of, letter_of, content_of}
-use Rattle.lw_mesi.specs.CacheLines.{contents_of}
-use Rattle.lw_mesi.specs.Snooping.{line_evicted}
-use Rattle.lw_mesi.specs.Coherence.{IsKeptLine, IsKept}
-use Rattle.lw_mesi.specs.laws.ProtocolLaws.{set_kept, kept_line, evict_kept}
+use Rattle.lw_mesi.proofs.Common.{◌≡◌, ℕ, suc, zero, ◌<◌, ◌≤◌, List, [], ◌∷◌, length, set, get_or, Result, Ok}
+use Rattle.lw_mesi.proofs.Common.{Err, is_ok, OnOk, OnErr, refl, sym, ap, ◌∙◌, subst, arith, length-set}
+use Rattle.lw_mesi.proofs.Common.{length-map, most_threads, most_locations, is_held, Protocol, CacheLine}
+use Rattle.lw_mesi.proofs.Common.{Caches, unheld_line, copy_of, letter_of, content_of, contents_of}
+use Rattle.lw_mesi.proofs.Common.{line_evicted, IsKeptLine, IsKept, set_kept, kept_line, evict_kept}
 
 any_default : {A : Type 0} (xs : List A) (i : ℕ) (c d : A) → i < length xs → get_or xs i c ≡ get_or xs i d
 any_default [] i c d lt = absurd (omega arith)
@@ -27,8 +21,11 @@ borrowed_kept p m now x i before same ok loc place found =
 pub still_kept : (p : Protocol) (m now : Caches) (t x i : ℕ) (before after : CacheLine) → m ≡ now → IsKept p m
     → t < now.cpus → x < length (contents_of now) → i ≡ x → before ≡ get_or m.lines i before
     → (t < most_threads → IsKeptLine p before → IsKeptLine p after) → length m.lines ≤ most_locations
-    → (length (set m.lines i after) ≤ most_locations) × IsKept p (record { cpus = m.cpus; lines = set m.lines
-    i after })
+    → (length (set m.lines i after) ≤ most_locations) × IsKept p (record {
+      cpus = m.cpus;
+      lines = set m.lines
+          i after;
+    })
 still_kept p m now t x i before after same ok cpu loc place found keeps few =
     let cpus : m.cpus ≡ now.cpus = ap (λ (k : Caches). k.cpus) same in
     let lt : i < length m.lines = omega (arith, ap (λ (k : Caches). length (contents_of k)) same, length-map m.lines content_of) in (

@@ -1,3 +1,4 @@
+pub mod Common
 mod PlaceLemmas
 mod SetLemmas
 mod PackedCopies

@@ -1,20 +1,11 @@
 -- What each processor's copy is in a packed line, and what all of them are together: its content, and whether some cache holds it.
-use Rattle.std.proofs.Common.{◌≡◌, ℕ, zero, suc, ◌<◌, Option, Some, None, Bool, true, false, inl, inr, List}
-use Rattle.std.proofs.Common.{[], ◌∷◌, refl, sym, ap, ap₂, ◌∙◌, subst, arith, if◌then◌else◌, slice_index_or}
-use Rattle.std.proofs.Common.{eqb-true, eq-eqb}
-use Rattle.std.proofs.lemmas.Bool.{cases_lt, or_left, or_right}
-use Rattle.std.proofs.lemmas.List.{get_or_past}
-use Rattle.lw_base.specs.Limits.{most_threads}
-use Rattle.lw_memory.specs.declared.system.LineState.TheVariants.{S}
-use Rattle.lw_memory.specs.Memory.{is_held}
-use Rattle.lw_mesi.specs.CacheLines.{Copy, Owned, Shared, Invalid, CacheLine, copy_of, letter_of, copy_word}
-use Rattle.lw_mesi.specs.CacheLines.{content_of}
-use Rattle.lw_mesi.specs.inner.Places.{is_owner}
-use Rattle.lw_mesi.specs.Snooping.{any_held}
-use Rattle.lw_mesi.specs.Coherence.{IsOnlyCopy, IsDirty}
-use Rattle.lw_mesi.specs.laws.Coherent.{copy_in, clean, dirty}
-use Rattle.lw_mesi.specs.declared.cache_line.PackedCacheLine.TheInside.{Inside}
-use Rattle.lw_mesi.specs.inner.Packed.{IsPacked, owner_copy, sharer_copy, copy_at, unpacked}
+use Rattle.lw_mesi.proofs.Common.{◌≡◌, ℕ, zero, suc, ◌<◌, Option, Some, None, Bool, true, false, inl, inr}
+use Rattle.lw_mesi.proofs.Common.{List, [], ◌∷◌, refl, sym, ap, ap₂, ◌∙◌, subst, arith, if◌then◌else◌}
+use Rattle.lw_mesi.proofs.Common.{slice_index_or, eqb-true, eq-eqb, cases_lt, or_left, or_right, get_or_past}
+use Rattle.lw_mesi.proofs.Common.{most_threads, S, is_held, Copy, Owned, Shared, Invalid, CacheLine, copy_of}
+use Rattle.lw_mesi.proofs.Common.{letter_of, copy_word, content_of, is_owner, any_held, IsOnlyCopy, IsDirty}
+use Rattle.lw_mesi.proofs.Common.{copy_in, clean, dirty, Inside, IsPacked, owner_copy, sharer_copy, copy_at}
+use Rattle.lw_mesi.proofs.Common.{unpacked}
 use Rattle.lw_mesi.proofs.PlaceLemmas.{at_each_long, at_each_get}
 
 -- ---- one processor's copy
@@ -114,8 +105,8 @@ content_is p ok = go p.is_dirty refl p.owner refl
     go true ed (Some o) eo =
         let at = owner_at p o (ok.in_range o eo) eo ∙ ap (λ (x : Bool). owner_copy x p.is_owned p.word) ed in
         dirty p.memory p.word (unpacked p).copies o (subst IsDirty (sym at) (owner_dirty p.is_owned p.word))
-            (ap copy_word at ∙ owner_word p.is_owned p.word) (λ u ne h. let e : p.owner ≡ Some u = own_is
-            p.owner u (dirty_at p u h).0 in ne (let same : o ≡ u = cc in same))
+        (ap copy_word at ∙ owner_word p.is_owned p.word) (λ u ne h. let e : p.owner ≡ Some u = own_is
+        p.owner u (dirty_at p u h).0 in ne (let same : o ≡ u = cc in same))
 
 pub held_somewhere : (copies : List Copy) (t : ℕ) → is_held (letter_of (copy_in copies t)) ≡ true → any_held copies ≡ true
 held_somewhere [] t h = cc

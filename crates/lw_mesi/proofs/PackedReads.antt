@@ -1,24 +1,14 @@
 -- What a GetS leaves of a packed line.
-use Rattle.std.proofs.Common.{◌≡◌, ◌≢◌, ℕ, suc, ◌<◌, Option, Some, None, Bool, true, false, inl, inr, List}
-use Rattle.std.proofs.Common.{[], ◌∷◌, length, map, set, refl, sym, ap, ap₂, ◌∙◌, subst, arith, length-set}
-use Rattle.std.proofs.Common.{get_or-set_same, get_or-set_other, ◌==◌, slice_index_or, eqb-true, eq-eqb}
-use Rattle.std.proofs.Common.{ne_eqb}
-use Rattle.std.proofs.lemmas.Bool.{cases_lt, or_from, eqb-false, true_from_ne_false}
-use Rattle.std.proofs.lemmas.List.{length-map, get_or_past}
-use Rattle.std.proofs.lemmas.List.FromFn.{fill_by_all}
-use Rattle.lw_base.specs.Limits.{most_threads}
-use Rattle.lw_memory.specs.Memory.{is_held}
-use Rattle.lw_mesi.specs.declared.protocol.Protocol.{Protocol}
-use Rattle.lw_mesi.specs.declared.protocol.Protocol.TheVariants.{Mesi, Moesi}
-use Rattle.lw_mesi.specs.CacheLines.{Copy, Invalid, CacheLine, copy_of, letter_of, copy_word, content_of}
-use Rattle.lw_mesi.specs.inner.Places.{nobody, is_owner}
-use Rattle.lw_mesi.specs.Snooping.{ProtocolTable, any_held, copy_from, line_to_read, on_load}
-use Rattle.lw_mesi.specs.Protocols.{table_of, moesi_on_other_get_s}
-use Rattle.lw_mesi.specs.Coherence.{IsStateOf, HasStatesOf}
-use Rattle.lw_mesi.specs.laws.Coherent.{copy_in, copy_map, put_here}
-use Rattle.lw_mesi.specs.laws.Rows.{none_held, from_word}
-use Rattle.lw_mesi.specs.declared.cache_line.PackedCacheLine.TheInside.{Inside}
-use Rattle.lw_mesi.specs.inner.Packed.{IsPacked, sharer_copy, copy_at, unpacked}
+use Rattle.lw_mesi.proofs.Common.{◌≡◌, ◌≢◌, ℕ, suc, ◌<◌, Option, Some, None, Bool, true, false, inl, inr}
+use Rattle.lw_mesi.proofs.Common.{List, [], ◌∷◌, length, map, set, refl, sym, ap, ap₂, ◌∙◌, subst, arith}
+use Rattle.lw_mesi.proofs.Common.{length-set, get_or-set_same, get_or-set_other, ◌==◌, slice_index_or}
+use Rattle.lw_mesi.proofs.Common.{eqb-true, eq-eqb, ne_eqb, cases_lt, or_from, eqb-false, true_from_ne_false}
+use Rattle.lw_mesi.proofs.Common.{length-map, get_or_past, fill_by_all, most_threads, is_held, Protocol, Mesi}
+use Rattle.lw_mesi.proofs.Common.{Moesi, Copy, Invalid, CacheLine, copy_of, letter_of, copy_word, content_of}
+use Rattle.lw_mesi.proofs.Common.{nobody, is_owner, ProtocolTable, any_held, copy_from, line_to_read, on_load}
+use Rattle.lw_mesi.proofs.Common.{table_of, moesi_on_other_get_s, IsStateOf, HasStatesOf, copy_in, copy_map}
+use Rattle.lw_mesi.proofs.Common.{put_here, none_held, from_word, Inside, IsPacked, sharer_copy, copy_at}
+use Rattle.lw_mesi.proofs.Common.{unpacked}
 use Rattle.lw_mesi.proofs.PlaceLemmas.{at_each_long, at_each_get, at_each_put}
 use Rattle.lw_mesi.proofs.PackedCopies.{copy_by, copy_there, sharer_is, owned_at, content_is, held_by}
 use Rattle.lw_mesi.proofs.PackedCopies.{line_of, not_owner}
@@ -86,10 +76,10 @@ got p q t table held lt invalid free content holds memory here there =
     let others : List Copy = map table.on_other_get_s line.copies in
     let copies : (unpacked q).copies ≡ set others t (copy_from held p.word) =
     at_each_put (copy_at q) others t (copy_from held p.word) _ (length-map line.copies table.on_other_get_s
-        ∙ at_each_long (copy_at p)) lt here (λ u within ne. there u within ne ∙ ap table.on_other_get_s
-        (sym (copy_there p u within)) ∙ sym (copy_map table.on_other_get_s line.copies u invalid)) in
+    ∙ at_each_long (copy_at p)) lt here (λ u within ne. there u within ne ∙ ap table.on_other_get_s
+    (sym (copy_there p u within)) ∙ sym (copy_map table.on_other_get_s line.copies u invalid)) in
     ap (λ (cs : List Copy). line_of cs q.memory) copies ∙ sym (ap₂ (λ c (m : ℕ). line_of (set others t c) m)
-        (ap₂ copy_from holds content) memory) ∙ sym (ap (λ (c : Copy). on_load table c t line) free)
+    (ap₂ copy_from holds content) memory) ∙ sym (ap (λ (c : Copy). on_load table c t line) free)
 
 -- A reader without a copy takes the line's word.
 pub read_word : (p : Inside) (t : ℕ) (table : ProtocolTable) → IsPacked p → t < most_threads → copy_of (unpacked p) t ≡ Invalid
@@ -100,8 +90,8 @@ read_word p t table ok lt free =
     let mine : Copy = copy_from (any_held line.copies) (content_of line) in
     let long : length others ≡ most_threads = length-map line.copies table.on_other_get_s ∙ at_each_long (copy_at p) in
     ap (λ (v : ℕ). Some v) (sym (content_is p ok))
-        ∙ sym (ap (λ (c : Copy). copy_word (copy_of (on_load table c t line) t)) free ∙ ap copy_word
-        (put_here others t mine (omega (arith, long))) ∙ from_word (any_held line.copies) (content_of line))
+    ∙ sym (ap (λ (c : Copy). copy_word (copy_of (on_load table c t line) t)) free ∙ ap copy_word
+    (put_here others t mine (omega (arith, long))) ∙ from_word (any_held line.copies) (content_of line))
 
 -- A dirty owner goes to O, or stays there, beside a new sharer.
 pub dirty_shared : (p : Inside) (t o : ℕ) → IsPacked p → t < most_threads → o < most_threads
@@ -111,11 +101,11 @@ pub dirty_shared : (p : Inside) (t o : ℕ) → IsPacked p → t < most_threads 
 dirty_shared p t o ok lt lo own dirty free =
     let w : ℕ = p.word in
     got p _ t _ _ lt refl free (content_is p ok) (held_by p o lo own) refl (sharer_is _ _ _ _ w (not_owner p t
-        lt free) (get_or-set_same p.sharers t true false (omega (arith, ok.as_many)))) (λ u within ne.
+    lt free) (get_or-set_same p.sharers t true false (omega (arith, ok.as_many)))) (λ u within ne.
     let s : Bool = slice_index_or p.sharers u false in
     ap₂ (λ (d x : Bool). copy_by (is_owner p.owner u) d true x w) dirty (get_or-set_other p.sharers t u true
-        false ne) ∙ moesi_dirty (is_owner p.owner u) p.is_owned s w ∙ ap (λ (d : Bool). moesi_on_other_get_s
-        (copy_by (is_owner p.owner u) d p.is_owned s w)) (sym dirty))
+    false ne) ∙ moesi_dirty (is_owner p.owner u) p.is_owned s w ∙ ap (λ (d : Bool). moesi_on_other_get_s
+    (copy_by (is_owner p.owner u) d p.is_owned s w)) (sym dirty))
 
 invalid_stays : (q : Protocol) → (table_of q).on_other_get_s Invalid ≡ Invalid
 invalid_stays Mesi = refl
@@ -125,12 +115,17 @@ invalid_stays Moesi = refl
 pub owner_shared : (p : Inside) (t o : ℕ) (q : Protocol) → IsPacked p → t < most_threads → o < most_threads
     → p.owner ≡ Some o → p.is_owned ≡ false → (q ≡ Moesi → p.is_dirty ≡ false)
     → copy_of (unpacked p) t ≡ Invalid
-    → unpacked (record p { owner = None; is_dirty = false; sharers = set (set p.sharers o true) t true; memory
-    = p.word }) ≡ line_to_read (table_of q) t (unpacked p)
+    → unpacked (record p {
+      owner = None;
+      is_dirty = false;
+      sharers = set (set p.sharers o true) t true;
+      memory
+          = p.word;
+    }) ≡ line_to_read (table_of q) t (unpacked p)
 owner_shared p t o q ok lt lo own unowned clean free =
     got p (record p { owner = None; is_dirty = false; sharers = set mid t true; memory = p.word }) t _ true lt
-        (invalid_stays q) free (content_is p ok) (held_by p o lo own) (memory_then q clean) (sharer_is false
-        false p.is_owned _ p.word refl (get_or-set_same mid t true false (omega (arith, long)))) others
+    (invalid_stays q) free (content_is p ok) (held_by p o lo own) (memory_then q clean) (sharer_is false
+    false p.is_owned _ p.word refl (get_or-set_same mid t true false (omega (arith, long)))) others
   where
     mid : List Bool
     mid = set p.sharers o true
@@ -148,10 +143,10 @@ owner_shared p t o q ok lt lo own unowned clean free =
         let kept = get_or-set_other mid t u true false ne in
         let is : (o == u) ≡ is_owner p.owner u = sym (ap (λ (x : Option ℕ). is_owner x u) own) in
         to_sharer q (is_owner p.owner u) p.is_dirty s _ p.word clean (λ h. kept
-            ∙ subst (λ (k : ℕ). slice_index_or mid k false ≡ true) (eqb-true o u (is ∙ h)) (get_or-set_same
-            p.sharers o true false (omega (arith, ok.as_many)))) (λ h. kept ∙ get_or-set_other p.sharers o u
-            true false (λ e. eqb-false o u (is ∙ h) (sym e))) ∙ ap (λ (b : Bool). (table_of q).on_other_get_s
-            (copy_by (is_owner p.owner u) p.is_dirty b s p.word)) (sym unowned)
+        ∙ subst (λ (k : ℕ). slice_index_or mid k false ≡ true) (eqb-true o u (is ∙ h)) (get_or-set_same
+        p.sharers o true false (omega (arith, ok.as_many)))) (λ h. kept ∙ get_or-set_other p.sharers o u
+        true false (λ e. eqb-false o u (is ∙ h) (sym e))) ∙ ap (λ (b : Bool). (table_of q).on_other_get_s
+        (copy_by (is_owner p.owner u) p.is_dirty b s p.word)) (sym unowned)
 
 -- ---- a line without an owner
 
@@ -184,10 +179,10 @@ module _ (p : Inside) (t : ℕ) (q : Protocol) (ok : IsPacked p) (lt : t < most_
   pub first_reader : p.sharers ≡ nobody → unpacked (record p { owner = Some t }) ≡ line_to_read (table_of q) t (unpacked p)
   first_reader alone =
       got p (record p { owner = Some t }) t (table_of q) false lt (invalid_stays q) free (content_is p ok)
-          (nowhere_held (unpacked p).copies none) (memory_stays q) (ap₂ (λ (x d : Bool). copy_by x d
-          p.is_owned (slice_index_or p.sharers t false) p.word) (eq-eqb t t refl) (ok.unowned own))
-          (λ u within ne. ap (λ (x : Bool). copy_by x p.is_dirty p.is_owned (slice_index_or p.sharers u false)
-          p.word) (ne_eqb t u (λ e. ne (sym e))) ∙ sharer_stays u)
+      (nowhere_held (unpacked p).copies none) (memory_stays q) (ap₂ (λ (x d : Bool). copy_by x d
+      p.is_owned (slice_index_or p.sharers t false) p.word) (eq-eqb t t refl) (ok.unowned own))
+      (λ u within ne. ap (λ (x : Bool). copy_by x p.is_dirty p.is_owned (slice_index_or p.sharers u false)
+      p.word) (ne_eqb t u (λ e. ne (sym e))) ∙ sharer_stays u)
     where
       none : (u : ℕ) → copy_in (unpacked p).copies u ≡ Invalid
       none u = elim (cases_lt u most_threads) [
@@ -200,10 +195,10 @@ module _ (p : Inside) (t : ℕ) (q : Protocol) (ok : IsPacked p) (lt : t < most_
   pub next_reader : (p.sharers ≡ nobody → ⊥) → unpacked (record p { sharers = set p.sharers t true }) ≡ line_to_read (table_of q) t (unpacked p)
   next_reader some =
       got p _ t (table_of q) true lt (invalid_stays q) free (content_is p ok) (true_from_ne_false _
-          (λ none. some (fill_by_all (λ k. false) p.sharers most_threads false ok.as_many (nobody_if none))))
-          (memory_stays q) (sharer_is _ p.is_dirty p.is_owned _ p.word (unowned t) (get_or-set_same p.sharers
-          t true false (omega (arith, ok.as_many)))) (λ u within ne. ap₂ (λ (x s : Bool). copy_by x p.is_dirty
-          p.is_owned s p.word) (unowned u) (get_or-set_other p.sharers t u true false ne) ∙ sharer_stays u)
+      (λ none. some (fill_by_all (λ k. false) p.sharers most_threads false ok.as_many (nobody_if none))))
+      (memory_stays q) (sharer_is _ p.is_dirty p.is_owned _ p.word (unowned t) (get_or-set_same p.sharers
+      t true false (omega (arith, ok.as_many)))) (λ u within ne. ap₂ (λ (x s : Bool). copy_by x p.is_dirty
+      p.is_owned s p.word) (unowned u) (get_or-set_other p.sharers t u true false ne) ∙ sharer_stays u)
     where
       nobody_if : any_held (unpacked p).copies ≡ false → (u : ℕ) → u < most_threads → slice_index_or p.sharers u false ≡ false
       nobody_if none u within =

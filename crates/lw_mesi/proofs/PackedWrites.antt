@@ -1,18 +1,12 @@
 -- What a write and an eviction leave of a packed line.
-use Rattle.std.proofs.Common.{◌≡◌, ◌≢◌, ◌⊎◌, ℕ, ◌<◌, Option, Some, None, Bool, true, false, inl, inr, List}
-use Rattle.std.proofs.Common.{length, map, set, refl, sym, ap, ap₂, ◌∙◌, subst, arith, length-set}
-use Rattle.std.proofs.Common.{get_or-set_same, get_or-set_other, slice_index_or, eq-eqb, ne_eqb}
-use Rattle.std.proofs.lemmas.List.{length-map}
-use Rattle.lw_base.specs.Limits.{most_threads}
-use Rattle.lw_memory.specs.declared.system.LineState.TheVariants.{M, O, E, S}
-use Rattle.lw_mesi.specs.CacheLines.{Copy, Modified, Owned, Exclusive, Shared, Invalid, CacheLine, copy_of}
-use Rattle.lw_mesi.specs.CacheLines.{letter_of, copy_word, content_of}
-use Rattle.lw_mesi.specs.inner.Places.{nobody, is_owner}
-use Rattle.lw_mesi.specs.Snooping.{line_to_write, on_write, line_written, on_evict, line_evicted}
-use Rattle.lw_mesi.specs.Coherence.{IsOnlyCopy}
-use Rattle.lw_mesi.specs.laws.Coherent.{copy_in, copy_map, put_here, put_there}
-use Rattle.lw_mesi.specs.declared.cache_line.PackedCacheLine.TheInside.{Inside}
-use Rattle.lw_mesi.specs.inner.Packed.{IsPacked, sharer_copy, copy_at, unpacked}
+use Rattle.lw_mesi.proofs.Common.{◌≡◌, ◌≢◌, ◌⊎◌, ℕ, ◌<◌, Option, Some, None, Bool, true, false, inl, inr}
+use Rattle.lw_mesi.proofs.Common.{List, length, map, set, refl, sym, ap, ap₂, ◌∙◌, subst, arith, length-set}
+use Rattle.lw_mesi.proofs.Common.{get_or-set_same, get_or-set_other, slice_index_or, eq-eqb, ne_eqb}
+use Rattle.lw_mesi.proofs.Common.{length-map, most_threads, M, O, E, S, Copy, Modified, Owned, Exclusive}
+use Rattle.lw_mesi.proofs.Common.{Shared, Invalid, CacheLine, copy_of, letter_of, copy_word, content_of}
+use Rattle.lw_mesi.proofs.Common.{nobody, is_owner, line_to_write, on_write, line_written, on_evict}
+use Rattle.lw_mesi.proofs.Common.{line_evicted, IsOnlyCopy, copy_in, copy_map, put_here, put_there, Inside}
+use Rattle.lw_mesi.proofs.Common.{IsPacked, sharer_copy, copy_at, unpacked}
 use Rattle.lw_mesi.proofs.PlaceLemmas.{at_each_long, at_each_get, at_each_put}
 use Rattle.lw_mesi.proofs.PackedCopies.{copy_by, copy_there, own_is, not_shared, only_owner, has_word}
 use Rattle.lw_mesi.proofs.PackedCopies.{content_is, line_of}
@@ -27,7 +21,7 @@ no_other p t u ok only within ne =
     let o = only_owner (is_owner p.owner t) p.is_dirty p.is_owned _ p.word ok.owned only in
     let own : p.owner ≡ Some t = own_is p.owner t o.0 in
     let none : slice_index_or p.sharers u false ≡ false = ap (λ (xs : List Bool). slice_index_or xs u false)
-        (ok.alone t own o.1) ∙ at_each_get (λ k. false) u false within in
+    (ok.alone t own o.1) ∙ at_each_get (λ k. false) u false within in
     let other = ap (λ (x : Option ℕ). is_owner x u) own ∙ ne_eqb t u (λ e. ne (sym e)) in
     ap₂ (λ (x s : Bool). copy_by x p.is_dirty p.is_owned s p.word) other none
 
@@ -92,10 +86,10 @@ write_only p t w ok lt =
     let l : CacheLine = on_write (copy_of line t) t line in
     let copies : (unpacked (one_holder t w p.memory)).copies ≡ set l.copies t (Modified w) =
     at_each_put (copy_at (one_holder t w p.memory)) l.copies t (Modified w) Invalid
-        (write_long (copy_of line t) t line ∙ at_each_long (copy_at p)) lt (ap (λ (x : Bool). copy_by x true
-        false (slice_index_or nobody t false) w) (eq-eqb t t refl)) (λ u within ne. ap₂ (λ (x s : Bool).
-        copy_by x true false s w) (ne_eqb t u (λ e. ne (sym e))) (at_each_get (λ k. false) u false within)
-        ∙ sym (write_others p t ok lt (copy_of line t) refl u within ne)) in
+    (write_long (copy_of line t) t line ∙ at_each_long (copy_at p)) lt (ap (λ (x : Bool). copy_by x true
+    false (slice_index_or nobody t false) w) (eq-eqb t t refl)) (λ u within ne. ap₂ (λ (x s : Bool).
+    copy_by x true false s w) (ne_eqb t u (λ e. ne (sym e))) (at_each_get (λ k. false) u false within)
+    ∙ sym (write_others p t ok lt (copy_of line t) refl u within ne)) in
     ap₂ line_of copies (sym (write_memory (copy_of line t) t line))
 
 shared_row : (c : Copy) (t : ℕ) (line : CacheLine) → letter_of c ≡ S
@@ -111,10 +105,10 @@ sharer_gone p t ok lt shared =
     let other = not_shared _ _ p.is_owned _ p.word (sym (ap letter_of (copy_there p t lt)) ∙ shared) in
     let copies : (unpacked (record p { sharers = set p.sharers t false })).copies ≡ set (unpacked p).copies t Invalid =
     at_each_put (copy_at (record p { sharers = set p.sharers t false })) (unpacked p).copies t Invalid Invalid
-        (at_each_long (copy_at p)) lt (ap₂ (λ (x s : Bool). copy_by x p.is_dirty p.is_owned s p.word) other
-        (get_or-set_same p.sharers t false false (omega (arith, ok.as_many)))) (λ u within ne. ap
-        (λ (s : Bool). copy_by (is_owner p.owner u) p.is_dirty p.is_owned s p.word) (get_or-set_other
-        p.sharers t u false false ne) ∙ sym (copy_there p u within)) in
+    (at_each_long (copy_at p)) lt (ap₂ (λ (x s : Bool). copy_by x p.is_dirty p.is_owned s p.word) other
+    (get_or-set_same p.sharers t false false (omega (arith, ok.as_many)))) (λ u within ne. ap
+    (λ (s : Bool). copy_by (is_owner p.owner u) p.is_dirty p.is_owned s p.word) (get_or-set_other
+    p.sharers t u false false ne) ∙ sym (copy_there p u within)) in
     ap (λ (cs : List Copy). line_of cs p.memory) copies ∙ sym (shared_row _ t (unpacked p) shared)
 
 -- An owner's copy is given up.
@@ -124,7 +118,7 @@ owner_gone p t m d b ok lt own =
     let q : Inside = record p { owner = None; is_dirty = d; is_owned = b; memory = m } in
     let copies : (unpacked q).copies ≡ set (unpacked p).copies t Invalid =
     at_each_put (copy_at q) (unpacked p).copies t Invalid Invalid (at_each_long (copy_at p)) lt
-        (ap (λ (s : Bool). sharer_copy s p.word) (ok.apart t own)) (λ u within ne.
+    (ap (λ (s : Bool). sharer_copy s p.word) (ok.apart t own)) (λ u within ne.
     let other = ap (λ (x : Option ℕ). is_owner x u) own ∙ ne_eqb t u (λ e. ne (sym e)) in
     sym (ap (λ (x : Bool). copy_by x p.is_dirty p.is_owned (slice_index_or p.sharers u false) p.word) other) ∙ sym (copy_there p u within)) in
     ap (λ (cs : List Copy). line_of cs m) copies
@@ -156,7 +150,7 @@ pub dirty_gone : (p : Inside) (t : ℕ) → IsPacked p → t < most_threads
     t (unpacked p)
 dirty_gone p t ok lt h =
     let row = dirty_row (is_owner p.owner t) p.is_dirty p.is_owned (slice_index_or p.sharers t false) p.word t
-        (unpacked p) (subst (λ (c : Copy). (letter_of c ≡ M) ⊎ (letter_of c ≡ O)) (copy_there p t lt) h) in
+    (unpacked p) (subst (λ (c : Copy). (letter_of c ≡ M) ⊎ (letter_of c ≡ O)) (copy_there p t lt) h) in
     owner_gone p t p.word false false ok lt (own_is p.owner t row.0) ∙ sym row.1 ∙ ap (λ (c : Copy). on_evict c t (unpacked p)) (sym (copy_there p t lt))
 
 pub clean_gone : (p : Inside) (t : ℕ) → IsPacked p → t < most_threads → letter_of (copy_of (unpacked p) t) ≡ E

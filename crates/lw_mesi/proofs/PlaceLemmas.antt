@@ -1,10 +1,7 @@
 -- What stands at each of the processors.
-use Rattle.std.proofs.Common.{◌≡◌, ◌≢◌, ℕ, ◌<◌, List, length, set, get_or, sym, ◌∙◌, arith, zero-add}
-use Rattle.std.proofs.Common.{length-set, get_or-set_same, get_or-set_other}
-use Rattle.std.proofs.lemmas.List.FromFn.{length-map-range_with_len, get_or-map-range_with_len, fill_by_all}
-use Rattle.lw_base.specs.Limits.{most_threads}
-use Rattle.lw_mesi.specs.inner.Places.{at_each}
-use Rattle.lw_mesi.specs.laws.Coherent.{at_place}
+use Rattle.lw_mesi.proofs.Common.{◌≡◌, ◌≢◌, ℕ, ◌<◌, List, length, set, get_or, sym, ◌∙◌, arith, zero-add}
+use Rattle.lw_mesi.proofs.Common.{length-set, get_or-set_same, get_or-set_other, length-map-range_with_len}
+use Rattle.lw_mesi.proofs.Common.{get_or-map-range_with_len, fill_by_all, most_threads, at_each, at_place}
 
 pub at_each_long : {A : Type 0} (f : ℕ → A) → length (at_each f) ≡ most_threads
 at_each_long f = length-map-range_with_len f 0 most_threads

@@ -1,12 +1,8 @@
 -- Sets of processors, by their bits.
-use Rattle.std.proofs.Common.{◌≡◌, ℕ, ◌-◌, ◌*◌, ◌/◌, ◌%◌, ◌^◌, ◌<◌, true, false, eqb, set, get_or, bit_and}
-use Rattle.std.proofs.Common.{bit_or, ap, ◌∙◌, sym, arith, w8}
-use Rattle.std.specs.Int.{bit_at}
-use Rattle.std.proofs.lemmas.Nat.{or_lt, pow_below}
-use Rattle.std.proofs.lemmas.Nat.Bits.{shr_and_one, bit_at_set_same, bit_at_set_other, bit_at_clear_same}
-use Rattle.std.proofs.lemmas.Nat.Bits.{bit_at_clear_other}
-use Rattle.lw_base.specs.Limits.{most_threads}
-use Rattle.lw_mesi.specs.inner.Places.{members_of}
+use Rattle.lw_mesi.proofs.Common.{◌≡◌, ℕ, ◌-◌, ◌*◌, ◌/◌, ◌%◌, ◌^◌, ◌<◌, true, false, eqb, set, get_or}
+use Rattle.lw_mesi.proofs.Common.{bit_and, bit_or, ap, ◌∙◌, sym, arith, w8, bit_at, or_lt, pow_below}
+use Rattle.lw_mesi.proofs.Common.{shr_and_one, bit_at_set_same, bit_at_set_other, bit_at_clear_same}
+use Rattle.lw_mesi.proofs.Common.{bit_at_clear_other, most_threads, members_of}
 use Rattle.lw_mesi.proofs.PlaceLemmas.{at_each_set, at_each_get}
 
 pub bit_is_member : (n t : ℕ) → t < most_threads → eqb (bit_and (n / 2 ^ t) 1) 1 ≡ get_or (members_of n) t false

@@ -1,13 +1,8 @@
 -- Caches that hold nothing: coherent, in states of each protocol, and with memory's words as their content.
-use Rattle.std.proofs.Common.{◌≡◌, ℕ, zero, suc, ◌<◌, ◌≤◌, List, [], ◌∷◌, length, map, replicate, get_or}
-use Rattle.std.proofs.Common.{refl, sym, ap, subst, arith}
-use Rattle.lw_base.specs.Limits.{most_threads}
-use Rattle.lw_mesi.specs.declared.protocol.Protocol.{Protocol}
-use Rattle.lw_mesi.specs.CacheLines.{Invalid, unheld_line, empty_caches, copy_of, line_at, content_of}
-use Rattle.lw_mesi.specs.CacheLines.{contents_of}
-use Rattle.lw_mesi.specs.Coherence.{IsOnlyCopy, IsDirty, IsStateOf, HasStatesOf, IsKeptLine, IsKept}
-use Rattle.lw_mesi.specs.laws.Coherent.{no_word}
-use Rattle.lw_mesi.specs.laws.ProtocolRows.{invalid_state}
+use Rattle.lw_mesi.proofs.Common.{◌≡◌, ℕ, zero, suc, ◌<◌, ◌≤◌, List, [], ◌∷◌, length, map, replicate, get_or}
+use Rattle.lw_mesi.proofs.Common.{refl, sym, ap, subst, arith, most_threads, Protocol, Invalid, unheld_line}
+use Rattle.lw_mesi.proofs.Common.{empty_caches, copy_of, line_at, content_of, contents_of, IsOnlyCopy}
+use Rattle.lw_mesi.proofs.Common.{IsDirty, IsStateOf, HasStatesOf, IsKeptLine, IsKept, no_word, invalid_state}
 
 pub empty_content : (cpus : ℕ) (words : List ℕ) → contents_of (empty_caches cpus words) ≡ words
 empty_content n [] = refl

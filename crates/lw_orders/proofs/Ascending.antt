@@ -1,11 +1,8 @@
 -- Where each pair goes up, the items going up are the lowest order.
-use Rattle.std.proofs.Common.{ℕ, zero, suc, ◌≡◌, ◌+◌, ◌<◌, List, [], ◌∷◌, ◌++◌, ap, ◌∙◌, refl, arith, true}
-use Rattle.std.proofs.Common.{Some, find, filter_map, append-nil, eq-eqb}
-use Rattle.std.specs.List.{cons_option}
-use Rattle.std.proofs.lemmas.Bool.{cond-true}
-use Rattle.std.proofs.lemmas.List.Elements.{All-weaker}
-use Rattle.lw_orders.specs.Order.{Constraints, GoUp, open_pairs}
-use Rattle.lw_orders.specs.Sequence.{directions, numbers, without, is_free, in_turn, lowest_order, orders}
+use Rattle.lw_orders.proofs.Common.{ℕ, zero, suc, ◌≡◌, ◌+◌, ◌<◌, List, [], ◌∷◌, ◌++◌, ap, ◌∙◌, refl, arith}
+use Rattle.lw_orders.proofs.Common.{true, Some, find, filter_map, append-nil, eq-eqb, cons_option, cond-true}
+use Rattle.lw_orders.proofs.Common.{All-weaker, Constraints, GoUp, open_pairs, directions, numbers, without}
+use Rattle.lw_orders.proofs.Common.{is_free, in_turn, lowest_order, orders}
 use Rattle.lw_orders.proofs.api.Places.{place-numbers_within}
 use Rattle.lw_orders.proofs.LowestOrder.{Ranks, least_is_free}
 

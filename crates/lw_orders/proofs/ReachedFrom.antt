@@ -1,13 +1,7 @@
 -- What is reached from an item, by what is reached from those to which a step leads from it.
-use Rattle.std.proofs.Common.{ℕ, zero, suc, ◌≡◌, ◌<◌, ◌≤◌, List, sym, ◌∙◌, inl, inr, ◌⊎◌, arith}
-use Rattle.std.proofs.Common.{true, false, not, ◌&&◌, ◌||◌, eqb}
-use Rattle.std.specs.Bool.{Decides}
-use Rattle.std.proofs.lemmas.Bool.{cases_eq, or_cases}
-use Rattle.std.proofs.lemmas.Bool.Decides.{nat_tests}
-use Rattle.std.proofs.lemmas.List.Elements.{All-contains}
-use Rattle.lw_orders.specs.Order.{GoUp, Walk}
-use Rattle.lw_orders.specs.inner.Sets.{has, joins, leads_by}
-use Rattle.lw_orders.specs.inner.Closure.{IsReachedFrom}
+use Rattle.lw_orders.proofs.Common.{ℕ, zero, suc, ◌≡◌, ◌<◌, ◌≤◌, List, sym, ◌∙◌, inl, inr, ◌⊎◌, arith, true}
+use Rattle.lw_orders.proofs.Common.{false, not, ◌&&◌, ◌||◌, eqb, Decides, cases_eq, or_cases, nat_tests}
+use Rattle.lw_orders.proofs.Common.{All-contains, GoUp, Walk, has, joins, leads_by, IsReachedFrom}
 use Rattle.lw_orders.proofs.Walks.{joins_gives, joins_from}
 
 -- Of the steps those in `left` are still to be taken, from this one on.

@@ -1,11 +1,8 @@
 -- How many states make the proposition true, and how many do not.
-use Rattle.std.proofs.Common.{◌≡◌, ℕ, suc, ◌+◌, ◌-◌, ◌<◌, ◌≤◌, Bool, true, false, List, [], ◌∷◌, length}
-use Rattle.std.proofs.Common.{map, take, get_or, refl, sym, ap, ◌∙◌, cond, arith, filter, take_all}
-use Rattle.std.specs.Int.{from_bool}
-use Rattle.std.proofs.lemmas.List.{length-map}
-use Rattle.std.proofs.lemmas.List.Filters.{length-filter_both, length-filter_more}
-use Rattle.lw_report.specs.Judgement.{positive, negative}
-use Rattle.lw_report.specs.States.{Shown, ListedState, shown_of}
+use Rattle.lw_report.proofs.Common.{◌≡◌, ℕ, suc, ◌+◌, ◌-◌, ◌<◌, ◌≤◌, Bool, true, false, List, [], ◌∷◌, length}
+use Rattle.lw_report.proofs.Common.{map, take, get_or, refl, sym, ap, ◌∙◌, cond, arith, filter, take_all}
+use Rattle.lw_report.proofs.Common.{from_bool, length-map, length-filter_both, length-filter_more, positive}
+use Rattle.lw_report.proofs.Common.{negative, Shown, ListedState, shown_of}
 
 pub one_at_most : (b : Bool) (n : ℕ) → n ≡ from_bool b → n ≤ 1
 one_at_most true n e = omega (arith, e)
@@ -22,7 +19,7 @@ pub counted_more : (states : List ListedState) (k : ℕ) (s : ListedState) (b : 
 counted_more states k s b count n lt is is_b before added =
     let one = added ∙ ap from_bool (is_b ∙ ap (λ t. t.holds) is) ∙ number_of (get_or states k s).holds in
     ap (λ (m : ℕ). m + n) before ∙ ap (λ (m : ℕ). length (filter (λ (t : ListedState). t.holds)
-        (take k states)) + m) one ∙ sym (length-filter_more (λ (t : ListedState). t.holds) states k s lt)
+    (take k states)) + m) one ∙ sym (length-filter_more (λ (t : ListedState). t.holds) states k s lt)
 
 counted : (states : List ListedState) → length (filter (λ (s : ListedState). s.holds) states) ≡ positive (map shown_of states)
 counted [] = refl

@@ -1,24 +1,17 @@
 -- Of states in order, the first of those with the same words.
-use Rattle.std.proofs.Common.{◌≡◌, ℕ, zero, suc, ◌+◌, ◌≤◌, ◌⊎◌, inl, inr, Bool, true, false, List, [], ◌∷◌, get_or, refl, sym, ap}
-use Rattle.std.proofs.Common.{◌∙◌, subst, arith, All, Contains, nat_eq, IsSorted, nat_cmp, is_lt, Ordering, Less}
-use Rattle.std.proofs.Common.{Equal, Greater, lt-ltb}
-use Rattle.std.specs.Cmp.Lexicographic.{slice_cmp, same_text, other_text, on_texts_equal}
-use Rattle.std.specs.Cmp.{IsTotalOrder, bool_cmp_total}
-use Rattle.std.specs.List.{AllPairs, dedup, dedup_from}
+use Rattle.lw_report.proofs.Common.{◌≡◌, ℕ, zero, suc, ◌+◌, ◌≤◌, ◌⊎◌, inl, inr, Bool, true, false, List, []}
+use Rattle.lw_report.proofs.Common.{◌∷◌, get_or, refl, sym, ap, ◌∙◌, subst, arith, All, Contains, nat_eq}
+use Rattle.lw_report.proofs.Common.{IsSorted, nat_cmp, is_lt, Ordering, Less, Equal, Greater, lt-ltb}
+use Rattle.lw_report.proofs.Common.{slice_cmp, same_text, other_text, on_texts_equal, IsTotalOrder}
+use Rattle.lw_report.proofs.Common.{bool_cmp_total, AllPairs, dedup, dedup_from, ordering_then}
+use Rattle.lw_report.proofs.Common.{ordering_reverse, cases_Bool, cases_lt, nat_cmp_total, nat_list_cmp_total}
+use Rattle.lw_report.proofs.Common.{on_total, then_total, All-weaker, All-nil, All-cons, All-head, All-tail}
+use Rattle.lw_report.proofs.Common.{All-contains, All-from_recursion, Contains-get_or, AllPairs-cons}
+use Rattle.lw_report.proofs.Common.{Any-dedup, Contains-from_dedup, IsStrictlySortedBy-dedup, ranks_by}
+use Rattle.lw_report.proofs.Common.{sorted_far, exact_bytes, is_eq-slice_cmp, state_cmp, AreFirstStates}
+use Rattle.lw_report.proofs.Common.{ListedState, pointwise}
 use Rattle.std.specs.List.Sorted.{IsStrictlySortedBy}
-use Rattle.std.specs.Ordering.{ordering_then, ordering_reverse}
-use Rattle.std.proofs.lemmas.Bool.{cases_Bool, cases_lt}
-use Rattle.std.proofs.lemmas.Cmp.{nat_cmp_total, nat_list_cmp_total, on_total, then_total}
-use Rattle.std.proofs.lemmas.List.Elements.{All-weaker, All-nil, All-cons, All-head, All-tail, All-contains}
-use Rattle.std.proofs.lemmas.List.Elements.{All-from_recursion, Contains-get_or}
-use Rattle.std.proofs.lemmas.List.Kept.{AllPairs-cons, Any-dedup, Contains-from_dedup, IsStrictlySortedBy-dedup}
-use Rattle.std.proofs.lemmas.List.Sorted.{ranks_by, sorted_far}
-use Rattle.std.proofs.lemmas.Map.Lookups.{exact_bytes}
-use Rattle.std.proofs.lemmas.Map.Text.{is_eq-slice_cmp}
-use Rattle.lw_report.specs.inner.Gathered.{state_cmp, AreFirstStates}
-use Rattle.lw_report.specs.States.{ListedState}
 use Rattle.lw_report.proofs.api.OneList.{not_below_itself}
-use lib.Pointwise.{pointwise}
 
 -- ---- the order
 

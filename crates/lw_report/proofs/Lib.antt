@@ -1,3 +1,4 @@
+pub mod Common
 pub mod api
 pub mod Truths
 pub mod Names

@@ -1,27 +1,14 @@
 -- The lines of states, and of what is told of them.
-use Rattle.std.proofs.Common.{◌≡◌, ℕ, suc, slice_get, Some, ◌<◌, ◌≤◌, ◌+◌, List, [], ◌∷◌, ◌++◌, length, map}
-use Rattle.std.proofs.Common.{min, take, drop, get_or, refl, sym, ap, ◌∙◌, append_assoc, codes, length-take}
-use Rattle.std.proofs.Common.{arith, zip, flat_map, decimal, take_all}
-use Rattle.std.proofs.lemmas.List.{length-map, map-append, take_more}
-use Rattle.std.proofs.lemmas.Option.{get_or_from_slice_get}
-use Rattle.std.proofs.Math.Nat.{min-le_left, min-le_right}
-use Rattle.std.proofs.lemmas.Grind.{get_or_default_zero}
-use Rattle.std.proofs.lemmas.Slice.Zip.{length-zip, get_or-zip}
-use Rattle.lw_base.proofs.api.Writing.{items_more, items_all}
-use Rattle.lw_base.specs.Types.{Bytes}
-use Rattle.lw_base.specs.Registers.{register_name}
-use Rattle.lw_base.specs.ConditionTexts.{condition_text}
-use Rattle.lw_base.specs.Heads.{TestHead}
-use Rattle.lw_base.specs.Texts.{joined}
-use Rattle.lw_base.specs.declared.head.Seen.{Seen}
-use Rattle.lw_base.specs.declared.head.Seen.TheVariants.{Register, Location}
-use Rattle.lw_report.specs.inner.Labels.{gap, label, labels, labelled_word, labelled_words}
-use Rattle.lw_report.specs.Judgement.{positive, negative, verdict_of}
-use Rattle.lw_report.specs.Reports.{kind_text, verdict_text, word_text, state_line, title_line, count_line}
-use Rattle.lw_report.specs.Reports.{observation_line, claim_line, judgement_lines, report_text}
-use Rattle.lw_report.specs.declared.judgement.Claim.{Claim}
-use Rattle.lw_report.specs.Observed.{observed}
-use Rattle.lw_report.specs.States.{Shown, ListedState, shown_of}
+use Rattle.lw_report.proofs.Common.{◌≡◌, ℕ, suc, slice_get, Some, ◌<◌, ◌≤◌, ◌+◌, List, [], ◌∷◌, ◌++◌, length}
+use Rattle.lw_report.proofs.Common.{map, min, take, drop, get_or, refl, sym, ap, ◌∙◌, append_assoc, codes}
+use Rattle.lw_report.proofs.Common.{length-take, arith, zip, flat_map, decimal, take_all, length-map}
+use Rattle.lw_report.proofs.Common.{map-append, take_more, get_or_from_slice_get, min-le_left, min-le_right}
+use Rattle.lw_report.proofs.Common.{get_or_default_zero, length-zip, get_or-zip, items_more, items_all, Bytes}
+use Rattle.lw_report.proofs.Common.{register_name, condition_text, TestHead, joined, Seen, Register, Location}
+use Rattle.lw_report.proofs.Common.{gap, label, labels, labelled_word, labelled_words, positive, negative}
+use Rattle.lw_report.proofs.Common.{verdict_of, kind_text, verdict_text, word_text, state_line, title_line}
+use Rattle.lw_report.proofs.Common.{count_line, observation_line, claim_line, judgement_lines, report_text}
+use Rattle.lw_report.proofs.Common.{Claim, observed, Shown, ListedState, shown_of}
 
 -- a word behind its label
 label_told : (head : TestHead) (before : Bytes) (s : Seen) (w : ℕ) → labelled_word (label head before s, w) ≡ before ++ word_text head (s, w)
@@ -86,7 +73,7 @@ label_more head names k x before text texts new lt is made first told pushed =
     let many : k ≡ length (take k names) = omega (arith, lt, length-take k names) in
     let here = told ∙ ap (λ (b : Bytes). label head b x) first ∙ ap (λ (n : ℕ). label head (gap n) x) many in
     pushed ∙ ap (λ (ts : List Bytes). ts ++ text ∷ []) made ∙ ap (λ (t : Bytes). labels head (take k names)
-        ++ t ∷ []) here ∙ sym (ap (labels head) more ∙ labels_pushed head (take k names) x)
+    ++ t ∷ []) here ∙ sym (ap (labels head) more ∙ labels_pushed head (take k names) x)
 
 pub label_all : (head : TestHead) (names : List Seen) (k : ℕ) (texts : List Bytes) → length names ≤ k
     → texts ≡ labels head (take k names) → texts ≡ labels head names
@@ -106,10 +93,20 @@ pub zip_more : (names : List Bytes) (words : List ℕ) (k end : ℕ) (name text 
 zip_more names words k end name text w out new goal lt least is_name same is_word before written =
     let first : k < length names = omega (arith, lt, least, min-le_left (length names) (length words)) in
     let second : k < length words = omega (arith, lt, least, min-le_right (length names) (length words)) in
-    let is : (name, w) ≡ get_or (zip names words) k (name, w) = cc (get_or-zip names words k (name, w) first
-        second, is_name, is_word, get_or_default_zero words k w second) in
-    items_more labelled_word (zip names words) k out goal before (name, w) new (omega (arith, length-zip names
-        words, lt, least)) is (written ∙ ap (λ t. out ++ (t ++ (decimal w ++ codes ";"))) same)
+    let is : (name, w) ≡ get_or (zip names words) k (name, w) = cc (
+      get_or-zip names words k (name, w) first
+          second,
+      is_name,
+      is_word,
+      get_or_default_zero words k w second,
+    ) in
+    items_more labelled_word (zip names words) k out goal before (name, w) new (omega (
+      arith,
+      length-zip names
+          words,
+      lt,
+      least,
+    )) is (written ∙ ap (λ t. out ++ (t ++ (decimal w ++ codes ";"))) same)
 
 pub zip_all : (names : List Bytes) (words : List ℕ) (k end : ℕ) (out goal : Bytes) → end ≤ k → end ≡ min (length names) (length words)
     → out ++ flat_map labelled_word (drop k (zip names words)) ≡ goal → out ≡ goal
@@ -152,7 +149,7 @@ pub report_written : (head : TestHead) (claim : Claim) (states : List ListedStat
 report_written head claim states first title lines end n p q none titled is_length lined ended is_p is_q =
     let shown = map shown_of states in
     let begun = titled ∙ ap (λ t. t ++ (title_line head ++ count_line n)) none
-        ∙ ap (λ (m : ℕ). title_line head ++ count_line m) (is_length ∙ sym (length-map states shown_of)) in
+    ∙ ap (λ (m : ℕ). title_line head ++ count_line m) (is_length ∙ sym (length-map states shown_of)) in
     let all : Bytes = flat_map (λ (s : Shown). state_line head s.words) shown in
     let told : lines ≡ title_line head ++ (count_line (length shown) ++ all) =
     lined ∙ ap (λ t. title ++ t) (lines_shown head states) ∙ ap (λ t. t ++ all) begun ∙ append_assoc (title_line head) (count_line (length shown)) all in

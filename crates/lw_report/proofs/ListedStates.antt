@@ -1,22 +1,13 @@
 -- The states of a list of outcomes, gathered one for each.
-use Rattle.std.proofs.Common.{◌≡◌, ℕ, ◌+◌, ◌<◌, inl, inr, List, [], ◌∷◌, ◌++◌, length, map, get_or, refl, sym}
-use Rattle.std.proofs.Common.{ap, ◌∙◌, subst, arith, All, Contains, Some, slice_get, IsPermutation, AllPairs}
-use Rattle.std.proofs.Common.{nat_cmp, Less}
-use Rattle.std.specs.Cmp.Lexicographic.{slice_cmp}
-use Rattle.std.proofs.lemmas.Bool.{cases_lt}
-use Rattle.std.proofs.lemmas.List.{get_or-map, length-map}
-use Rattle.std.proofs.lemmas.List.Elements.{All-push, All-contains, All-get_or, Contains-append_left}
-use Rattle.std.proofs.lemmas.List.Elements.{Contains-push, Contains-get_or}
-use Rattle.std.proofs.lemmas.List.Sorted.{All-permutation, Contains-permutation}
-use Rattle.std.proofs.lemmas.Option.{same_Some, slice_get_within, slice_get-get_or, get_or_from_slice_get}
-use Rattle.lw_base.specs.Heads.{TestHead}
-use Rattle.lw_base.specs.Outcomes.{Final, IsOutcomeOf}
-use Rattle.lw_base.specs.WellFormed.{SpeaksOf}
-use Rattle.lw_listing.specs.Listings.{OutcomeEntries, outcomes_of}
-use Rattle.lw_report.specs.inner.Gathered.{state_at, Shows, AreStatesOfFirst, AreFirstStates}
-use Rattle.lw_report.specs.Observed.{projected}
-use Rattle.lw_report.specs.States.{Shown, ListedState, shown, shown_of, ShowsFirst, AreListedStates}
-use Rattle.lw_report.specs.Truth.{is_true}
+use Rattle.lw_report.proofs.Common.{◌≡◌, ℕ, ◌+◌, ◌<◌, inl, inr, List, [], ◌∷◌, ◌++◌, length, map, get_or}
+use Rattle.lw_report.proofs.Common.{refl, sym, ap, ◌∙◌, subst, arith, All, Contains, Some, slice_get}
+use Rattle.lw_report.proofs.Common.{IsPermutation, AllPairs, nat_cmp, Less, slice_cmp, cases_lt, get_or-map}
+use Rattle.lw_report.proofs.Common.{length-map, All-push, All-contains, All-get_or, Contains-append_left}
+use Rattle.lw_report.proofs.Common.{Contains-push, Contains-get_or, All-permutation, Contains-permutation}
+use Rattle.lw_report.proofs.Common.{same_Some, slice_get_within, slice_get-get_or, get_or_from_slice_get}
+use Rattle.lw_report.proofs.Common.{TestHead, Final, IsOutcomeOf, SpeaksOf, OutcomeEntries, outcomes_of}
+use Rattle.lw_report.proofs.Common.{state_at, Shows, AreStatesOfFirst, AreFirstStates, projected, Shown}
+use Rattle.lw_report.proofs.Common.{ListedState, shown, shown_of, ShowsFirst, AreListedStates, is_true}
 use Rattle.lw_report.proofs.Truths.{words_agree}
 
 -- ---- the outcomes of entries
@@ -79,8 +70,11 @@ module _ (states : List ListedState) where
   shown_in_order up i j d less lt =
       let e : ListedState = record { words = d.words; entry = 0; holds = d.holds } in
       let within : j < length states = omega (arith, lt, length-map states shown_of) in
-      rw (get_or-map shown_of states i e d (omega (arith, less, within)), get_or-map shown_of states j e d
-          within) (up i j e less within)
+      rw (
+        get_or-map shown_of states i e d (omega (arith, less, within)),
+        get_or-map shown_of states j e d
+            within,
+      ) (up i j e less within)
 
 -- ---- the first of each
 

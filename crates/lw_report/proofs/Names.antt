@@ -1,26 +1,18 @@
 -- The observed names of a test are registers and locations that it has.
-use Rattle.std.proofs.Common.{◌≡◌, ℕ, zero, suc, ◌+◌, ◌<◌, ◌≤◌, Bool, List, [], ◌∷◌, ◌++◌, length, map, min}
-use Rattle.std.proofs.Common.{take, get_or, subst, sym, ap, ◌∙◌, append_assoc, zero-add, length-take}
-use Rattle.std.proofs.Common.{get_or-take, arith, flat_map, All, filter, append-nil, take_all}
-use Rattle.std.proofs.Math.Nat.{min-le_left}
-use Rattle.std.specs.List.{range_with_len}
-use Rattle.std.proofs.lemmas.List.{map-append, take_more}
-use Rattle.std.proofs.lemmas.List.Elements.{All-from_recursion, All-get_or, All-same, filter-append}
-use Rattle.std.proofs.lemmas.List.FromFn.{get_or-range_with_len, map-range_with_len_more}
-use Rattle.lw_base.specs.Heads.{TestHead}
-use Rattle.lw_base.specs.Limits.{most_threads}
-use Rattle.lw_base.specs.WellFormed.{IsSeen}
-use Rattle.lw_base.specs.declared.head.Seen.{Seen}
-use Rattle.lw_base.specs.SeenLists.{thread_registers, all_registers, locations}
-use Rattle.lw_base.proofs.api.Elements.{all_filter}
-use Rattle.lw_base.proofs.api.SeenLists.{all_seen}
-use Rattle.lw_report.specs.Observed.{is_observed, observed}
+use Rattle.lw_report.proofs.Common.{◌≡◌, ℕ, zero, suc, ◌+◌, ◌<◌, ◌≤◌, Bool, List, [], ◌∷◌, ◌++◌, length, map}
+use Rattle.lw_report.proofs.Common.{min, take, get_or, subst, sym, ap, ◌∙◌, append_assoc, zero-add}
+use Rattle.lw_report.proofs.Common.{length-take, get_or-take, arith, flat_map, All, filter, append-nil}
+use Rattle.lw_report.proofs.Common.{take_all, min-le_left, range_with_len, map-append, take_more}
+use Rattle.lw_report.proofs.Common.{All-from_recursion, All-get_or, All-same, filter-append}
+use Rattle.lw_report.proofs.Common.{get_or-range_with_len, map-range_with_len_more, TestHead, most_threads}
+use Rattle.lw_report.proofs.Common.{IsSeen, Seen, thread_registers, all_registers, locations, all_filter}
+use Rattle.lw_report.proofs.Common.{all_seen, is_observed, observed}
 
 pub all_there : (head : TestHead) (names : List Seen) → names ≡ observed head → All (IsSeen head.threads (length head.locs)) names
 all_there head names e =
     let seen : List Seen = all_registers head.threads ++ locations (length head.locs) in
     All-same (IsSeen head.threads (length head.locs)) names (observed head) e (All-from_recursion _
-        (observed head) (all_filter _ (is_observed head) seen (all_seen head.threads (length head.locs))))
+    (observed head) (all_filter _ (is_observed head) seen (all_seen head.threads (length head.locs))))
 
 pub name_there : (threads locs : ℕ) (names : List Seen) (words end k : ℕ) (s : Seen) → All (IsSeen threads locs) names → end ≡ min (length names) words
     → k < end → s ≡ get_or names k s → IsSeen threads locs s
@@ -38,7 +30,7 @@ module _ (p : Seen → Bool) (f : ℕ → Seen) (k : ℕ) (start names : List Se
       let done = filter p (map f (range_with_len 0 k)) in
       let more = ap (filter p) (map-range_with_len_more f 0 k k (zero-add k)) ∙ filter-append p _ _ in
       added ∙ ap (λ l. l ++ filter p (f x ∷ [])) before ∙ append_assoc start done (filter p (f x ∷ []))
-          ∙ ap (λ (y : ℕ). start ++ (done ++ filter p (f y ∷ []))) number ∙ ap (λ l. start ++ l) (sym more)
+      ∙ ap (λ (y : ℕ). start ++ (done ++ filter p (f y ∷ []))) number ∙ ap (λ l. start ++ l) (sym more)
 
   -- all of them
   pub put_all : (n : ℕ) → k ≤ n → n ≤ k → names ≡ start ++ filter p (map f (range_with_len 0 n))
@@ -50,7 +42,7 @@ registers_from a (suc n) =
     let done = flat_map thread_registers (range_with_len (a + 1) n) in
     let is : a + 1 + n ≡ a + suc n = omega arith in
     ap (λ l. thread_registers a ++ l) (registers_from (a + 1) n) ∙ sym (append_assoc (thread_registers a) done
-        (thread_registers (a + 1 + n))) ∙ ap (λ t. (thread_registers a ++ done) ++ thread_registers t) is
+    (thread_registers (a + 1 + n))) ∙ ap (λ t. (thread_registers a ++ done) ++ thread_registers t) is
 
 -- a thread's registers more
 pub registers_more : (p : Seen → Bool) (k cpu : ℕ) (cpus : List ℕ) (threads : ℕ) (names new : List Seen)
@@ -64,9 +56,9 @@ registers_more p k cpu cpus threads names new all lt is before added =
     (omega (arith, lt, many, length-take threads cpus)) ∙ zero-add k in
     let next : suc k ≡ k + 1 = omega arith in
     let more : all_registers (k + 1) ≡ all_registers k ++ thread_registers k = ap all_registers (sym next)
-        ∙ registers_from 0 k ∙ ap (λ (t : ℕ). all_registers k ++ thread_registers t) (zero-add k) in
+    ∙ registers_from 0 k ∙ ap (λ (t : ℕ). all_registers k ++ thread_registers t) (zero-add k) in
     added ∙ ap (λ l. l ++ filter p (thread_registers cpu)) before ∙ ap (λ (t : ℕ). filter p (all_registers k)
-        ++ filter p (thread_registers t)) number ∙ sym (ap (filter p) more ∙ filter-append p _ _)
+    ++ filter p (thread_registers t)) number ∙ sym (ap (filter p) more ∙ filter-append p _ _)
 
 -- all of them, and then the locations
 pub observed_all : (head : TestHead) (k : ℕ) (cpus : List ℕ) (names new : List Seen)
@@ -78,7 +70,7 @@ observed_all head k cpus names new few all most least before added =
     let is : k ≡ head.threads = omega (arith, few, many, most, least, length-take head.threads cpus) in
     let p = is_observed head in
     added ∙ ap (λ (l : List Seen). l ++ filter p (locations (length head.locs))) (before
-        ∙ ap (λ (n : ℕ). filter p (all_registers n)) is) ∙ sym (filter-append p _ _)
+    ∙ ap (λ (n : ℕ). filter p (all_registers n)) is) ∙ sym (filter-append p _ _)
 
 -- ---- what is made of each name, one more, and of all
 

@@ -1,21 +1,13 @@
 -- The states of a listing have entries in it, and each entry has a schedule.
-use Rattle.std.proofs.Common.{◌≡◌, ℕ, ◌<◌, Some, List, [], ◌∷◌, ◌++◌, refl, length, map, slice_get, sym, ap}
-use Rattle.std.proofs.Common.{◌∙◌, append_assoc, subst, codes, arith, All, slice_index_or, flat_map, decimal}
-use Rattle.std.specs.List.{AllByRecursion}
-use Rattle.std.proofs.lemmas.List.{length-map}
-use Rattle.std.proofs.lemmas.List.Elements.{All-weaker, All-get_or}
-use Rattle.std.proofs.lemmas.Map.Entries.{length-keys_of}
-use Rattle.std.proofs.lemmas.Option.{slice_get_within, get_or_from_slice_get}
-use Rattle.lw_base.specs.Types.{Bytes, NameTable}
-use Rattle.lw_base.specs.Heads.{TestHead}
-use Rattle.lw_base.specs.Schedules.{IsEvent, schedule_text}
-use Rattle.lw_base.specs.declared.event.Event.{Event}
-use Rattle.lw_listing.specs.Listings.{OutcomeEntries, outcomes_of, schedules_of}
-use Rattle.lw_report.specs.inner.Labels.{labels, labelled_words, schedule_line}
-use Rattle.lw_report.specs.Observed.{observed}
+use Rattle.lw_report.proofs.Common.{◌≡◌, ℕ, ◌<◌, Some, List, [], ◌∷◌, ◌++◌, refl, length, map, slice_get, sym}
+use Rattle.lw_report.proofs.Common.{ap, ◌∙◌, append_assoc, subst, codes, arith, All, slice_index_or, flat_map}
+use Rattle.lw_report.proofs.Common.{decimal, AllByRecursion, length-map, All-weaker, All-get_or}
+use Rattle.lw_report.proofs.Common.{length-keys_of, slice_get_within, get_or_from_slice_get, Bytes, NameTable}
+use Rattle.lw_report.proofs.Common.{TestHead, IsEvent, schedule_text, Event, OutcomeEntries, outcomes_of}
+use Rattle.lw_report.proofs.Common.{schedules_of, labels, labelled_words, schedule_line, observed, scheduled}
+use Rattle.lw_report.proofs.Common.{scheduled_lines, count_line, schedule_list_text, ListedState, ShowsFirst}
+use Rattle.lw_report.proofs.Common.{AreListedStates}
 use Rattle.lw_report.proofs.Lines.{line_told}
-use Rattle.lw_report.specs.Reports.{scheduled, scheduled_lines, count_line, schedule_list_text}
-use Rattle.lw_report.specs.States.{ListedState, ShowsFirst, AreListedStates}
 
 entry_within : (head : TestHead) (entries : OutcomeEntries) (s : ListedState) → ShowsFirst head (outcomes_of entries) s → s.entry < length entries
 entry_within head entries s first = omega (arith, slice_get_within (outcomes_of entries) s.entry first.outcome first.at, length-keys_of entries)
@@ -82,4 +74,4 @@ list_written head schedules states first title end name n none titled is_name is
     titled ∙ ap (λ t. t ++ (codes "Test " ++ (name ++ (codes "\nStates " ++ (decimal n ++ codes "\n"))))) none
     ∙ head_told name n head.name len is_name (is_length ∙ sym (length-map states (scheduled schedules))) in
     ended ∙ ap (λ t. title ++ t) (lines_scheduled head schedules states) ∙ ap (λ t. t ++ all) begun
-        ∙ regroup (codes "Test ") head.name (codes "\n") (count_line len) all
+    ∙ regroup (codes "Test ") head.name (codes "\n") (count_line len) all

@@ -1,19 +1,11 @@
 -- Outcomes with the same words of the observed names make a test's proposition true alike.
-use Rattle.std.proofs.Common.{◌≡◌, ℕ, ◌⊎◌, inl, inr, Bool, true, false, List, [], ◌∷◌, ◌++◌, length, map}
-use Rattle.std.proofs.Common.{◌||◌, refl, sym, ap, ◌∙◌, subst, filter, not, ◌==◌, ◌&&◌, slice_index}
-use Rattle.std.proofs.Common.{slice_index_or, true≢false}
-use Rattle.std.proofs.lemmas.Bool.{cases_Bool, or_cases, or_right}
-use Rattle.lw_base.specs.Formula.{Formula, Reg_is, Word_is, Not, And, Or}
-use Rattle.lw_base.specs.Heads.{TestHead}
-use Rattle.lw_base.specs.Outcomes.{Final}
-use Rattle.lw_base.specs.WellFormed.{SpeaksOf}
-use Rattle.lw_base.specs.declared.head.Seen.{Seen}
-use Rattle.lw_base.specs.declared.head.Seen.TheVariants.{Register, Location}
-use Rattle.lw_base.specs.SeenLists.{same_seen, all_registers, locations}
-use Rattle.lw_base.proofs.api.ListedAgain.{has_seen, same_seen_is, same_seen_itself, has_left, has_right}
-use Rattle.lw_base.proofs.api.ListedAgain.{has_register, has_location}
-use Rattle.lw_report.specs.Observed.{is_named, is_observed, projected}
-use Rattle.lw_report.specs.Truth.{final_word, is_true}
+use Rattle.lw_report.proofs.Common.{◌≡◌, ℕ, ◌⊎◌, inl, inr, Bool, true, false, List, [], ◌∷◌, ◌++◌, length}
+use Rattle.lw_report.proofs.Common.{map, ◌||◌, refl, sym, ap, ◌∙◌, subst, filter, not, ◌==◌, ◌&&◌}
+use Rattle.lw_report.proofs.Common.{slice_index, slice_index_or, true≢false, cases_Bool, or_cases, or_right}
+use Rattle.lw_report.proofs.Common.{Formula, Reg_is, Word_is, Not, And, Or, TestHead, Final, SpeaksOf, Seen}
+use Rattle.lw_report.proofs.Common.{Register, Location, same_seen, all_registers, locations, has_seen}
+use Rattle.lw_report.proofs.Common.{same_seen_is, same_seen_itself, has_left, has_right, has_register}
+use Rattle.lw_report.proofs.Common.{has_location, is_named, is_observed, projected, final_word, is_true}
 
 -- where two functions give the same row of words of the names that pass, they agree at each of these
 same_word : (f g : Seen → ℕ) (p : Seen → Bool) (us : List Seen) (s : Seen)

@@ -1,12 +1,8 @@
 -- What the numbers of states say of all outcomes.
-use Rattle.std.proofs.Common.{◌≡◌, ℕ, suc, ◌⊎◌, inl, inr, Bool, true, false, List, [], ◌∷◌, length, refl, sym}
-use Rattle.std.proofs.Common.{ap, ◌∙◌, arith, filter, not, ◌==◌, Contains, eqb-true}
-use Rattle.std.proofs.lemmas.Bool.{cases_Bool}
-use Rattle.lw_base.specs.Heads.{TestHead}
-use Rattle.lw_base.specs.Outcomes.{Final}
-use Rattle.lw_report.specs.Judgement.{positive, negative, MeansOfAll}
-use Rattle.lw_report.specs.States.{Shown, shown, AreStatesOf}
-use Rattle.lw_report.specs.Truth.{is_true}
+use Rattle.lw_report.proofs.Common.{◌≡◌, ℕ, suc, ◌⊎◌, inl, inr, Bool, true, false, List, [], ◌∷◌, length}
+use Rattle.lw_report.proofs.Common.{refl, sym, ap, ◌∙◌, arith, filter, not, ◌==◌, Contains, eqb-true}
+use Rattle.lw_report.proofs.Common.{cases_Bool, TestHead, Final, positive, negative, MeansOfAll, Shown, shown}
+use Rattle.lw_report.proofs.Common.{AreStatesOf, is_true}
 use Rattle.lw_report.proofs.api.OneList.{at_front, behind_front, front_or_behind}
 
 -- A filter keeps nothing, and no element passes; or it keeps something, and some element passes.

@@ -1,20 +1,12 @@
 -- Numbers, values, sites and entries are read in one way.
-use Rattle.std.proofs.Common.{◌≡◌, ℕ, ◌<◌, ◌⊎◌, inl, inr, Bool, true, false, not, [], ◌∷◌, length, ap, subst}
-use Rattle.std.proofs.Common.{arith, codes, ◌&&◌, ◌||◌, ◌==◌, ◌+◌, ◌≤◌, sym, ◌∙◌}
-use Rattle.std.specs.Char.{is_ascii_digit}
-use Rattle.std.proofs.lemmas.Bool.{and_parts, or_cases, not-true}
-use Rattle.lw_base.specs.Refusals.{NoSuch, NoneRead}
-use Rattle.lw_base.specs.Characters.{is_word_byte, begins}
-use Rattle.lw_base.specs.Types.{Bytes, TokenList}
-use Rattle.lw_base.specs.declared.head.Arch.{Arch}
-use Rattle.lw_base.specs.Names.{IsName, IsLocation, is_reserved}
-use Rattle.lw_base.specs.Registers.{IsRegister}
-use Rattle.lw_base.proofs.api.Registers.{register_unique}
-use Rattle.lw_text.specs.Tokens.{IsNumber}
-use Rattle.lw_text.specs.Sites.{SiteSyntax, InMemory, InThread, IsSite, Value}
+use Rattle.lw_text.proofs.Common.{◌≡◌, ℕ, ◌<◌, ◌⊎◌, inl, inr, Bool, true, false, not, [], ◌∷◌, length, ap}
+use Rattle.lw_text.proofs.Common.{subst, arith, codes, ◌&&◌, ◌||◌, ◌==◌, sym, ◌∙◌, is_ascii_digit, and_parts}
+use Rattle.lw_text.proofs.Common.{or_cases, not-true, NoSuch, NoneRead, is_word_byte, begins, Bytes}
+use Rattle.lw_text.proofs.Common.{TokenList, Arch, IsName, IsLocation, is_reserved, IsRegister}
+use Rattle.lw_text.proofs.Common.{register_unique, IsNumber, SiteSyntax, InMemory, InThread, IsSite, Value}
+use Rattle.lw_text.proofs.Common.{IsEntry}
 use Rattle.lw_text.proofs.api.Numbers.{number_first, bracket_no_number, number-unique}
 use Rattle.lw_text.proofs.Lists.{IsOne}
-use Rattle.lw_text.specs.Frames.{IsEntry}
 
 pub number_no_name : (w : Bytes) (n : ℕ) → IsNumber w n → IsName w → ⊥
 number_no_name w n p q = let h = number_first w n p in let k = q.0.front in cc

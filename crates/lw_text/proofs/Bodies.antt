@@ -1,25 +1,12 @@
 -- What a body in memory says, by the names of its table.
-use Rattle.std.proofs.Common.{◌≡◌, ℕ, ◌≤◌, true, List, [], ◌++◌, length, map, sym, ap, ◌∙◌, subst, arith}
-use Rattle.std.specs.List.{AllByRecursion, list_all}
-use Rattle.std.proofs.lemmas.List.Elements.{All-from_recursion}
-use Rattle.lw_base.specs.Types.{NameTable, TokenList}
-use Rattle.lw_base.specs.declared.head.Arch.{Arch}
-use Rattle.lw_base.specs.declared.head.Quant.{Quant}
-use Rattle.lw_base.specs.declared.proposition.Prop.{Prop}
-use Rattle.lw_base.specs.Tables.{with_names}
-use Rattle.lw_base.proofs.api.GrowingTables.{with_names-append}
-use Rattle.lw_text.specs.declared.cursor.Cursor.{Cursor}
+use Rattle.lw_text.proofs.Common.{◌≡◌, ℕ, ◌≤◌, true, List, [], ◌++◌, length, map, sym, ap, ◌∙◌, subst, arith}
+use Rattle.lw_text.proofs.Common.{AllByRecursion, list_all, All-from_recursion, NameTable, TokenList, Arch}
+use Rattle.lw_text.proofs.Common.{Quant, Prop, with_names, with_names-append, Cursor, Header, Rows}
+use Rattle.lw_text.proofs.Common.{with_sites, ThreadExists, site_names, Listed, Quantified, sites_in, Block}
+use Rattle.lw_text.proofs.Common.{table, sites_of, all_texts, left, named, named_entry, thread_exists, IsIn}
+use Rattle.lw_text.proofs.Common.{syntax_of, HasSyntax, Body, TakenBlock, TakenList, TakenProposition}
+use Rattle.lw_text.proofs.Common.{TakenCondition, each_of}
 use Rattle.lw_text.specs.declared.site.Site.{Site as MadeSite}
-use Rattle.lw_text.specs.Rows.{Header, Rows}
-use Rattle.lw_text.specs.Sites.{with_sites, ThreadExists, site_names}
-use Rattle.lw_text.specs.Conditions.{Listed, Quantified, sites_in}
-use Rattle.lw_text.specs.Frames.{Block, table, sites_of}
-use Rattle.lw_text.specs.Places.{all_texts}
-use Rattle.lw_text.specs.Views.{left}
-use Rattle.lw_text.specs.inner.Resolved.{named, named_entry, thread_exists, IsIn, syntax_of, HasSyntax}
-use Rattle.lw_text.specs.declared.parts.Body.{Body}
-use Rattle.lw_text.specs.inner.Taken.{TakenBlock, TakenList, TakenProposition, TakenCondition}
-use Rattle.lw_base.proofs.api.Elements.{each_of}
 use Rattle.lw_text.proofs.NameTables.{named-along, entry-along, all_along}
 use Rattle.lw_text.proofs.Whole.{first_names, all_there, table_parts}
 
@@ -63,11 +50,11 @@ taken_body {arch = arch} {before} {behind} {first} {b} block rest end header the
     let listed = site_names (map (named last) b.parts.listed) in
     let more = site_names (sites_in condition.terminals) in
     let along = all_along _ named_entry entry-along first last (listed ++ more) es (condition.names_are
-        ∙ sym (with_names-append first listed more)) (each_of es (λ e. IsIn first e.site) block.within) in
+    ∙ sym (with_names-append first listed more)) (each_of es (λ e. IsIn first e.site) block.within) in
     let syntax = syntax_of b condition.terminals in
     let last_table : last ≡ table syntax = condition.names_are ∙ ap (λ ns. with_names (with_names ns listed)
-        more) (first_names first es block.names_are ∙ ap (λ l. with_sites [] (sites_of l)) (sym along.0))
-        ∙ sym (table_parts syntax) in
+    more) (first_names first es block.names_are ∙ ap (λ l. with_sites [] (sites_of l)) (sym along.0))
+    ∙ sym (table_parts syntax) in
     record {
       terminals = condition.terminals;
       parts = record {

@@ -1,27 +1,17 @@
 -- Cells and rows in memory, each token at its place, are cut from the tokens.
-use Rattle.std.proofs.Common.{◌≡◌, ℕ, ◌≤◌, true, false, List, [], ◌∷◌, ◌++◌, refl, sym, ap, ◌∙◌, subst, All, codes, bytes_eq}
-use Rattle.std.specs.List.{AllByRecursion}
-use Rattle.std.proofs.lemmas.List.{map-append, map_push}
-use Rattle.std.proofs.lemmas.List.Elements.{All-from_recursion}
-use Rattle.lw_base.specs.declared.head.Arch.{Arch}
-use Rattle.lw_text.specs.declared.token.Token.{Token}
-use Rattle.lw_text.specs.declared.cell.Cell.{Cell}
-use Rattle.lw_text.specs.Spans.{texts, Leaves}
-use Rattle.lw_base.specs.Types.{Bytes}
-use Rattle.lw_text.specs.declared.cursor.Cursor.{Cursor}
-use Rattle.lw_text.specs.Rows as words
-use Rattle.lw_text.specs.Rows.{ends_cell, RowCells, Rows}
-use Rattle.lw_text.specs.PlacedTokens.{PlacedToken, texts_of_tokens}
-use Rattle.lw_text.specs.PlacedCells.{PlacedCell, texts_of_grid, CellsFrom, RowsFrom, HasRows}
-use Rattle.lw_text.specs.Places.{placed, placed_tokens, placed_cell, placed_row, placed_cells, all_texts}
-use Rattle.lw_text.specs.Places.{IsWithin, cell_texts, cells_texts}
-use Rattle.lw_text.specs.Views.{remaining, left}
-use Rattle.lw_text.specs.inner.Taken.{TakenCell}
-use Rattle.lw_base.proofs.api.Elements.{each_of, all_map, all_parts, all_unmap}
+use Rattle.lw_text.proofs.Common.{◌≡◌, ℕ, ◌≤◌, true, false, List, [], ◌∷◌, ◌++◌, refl, sym, ap, ◌∙◌, subst}
+use Rattle.lw_text.proofs.Common.{All, codes, bytes_eq, AllByRecursion, map-append, map_push}
+use Rattle.lw_text.proofs.Common.{All-from_recursion, Arch, Token, Cell, texts, Leaves, Bytes, Cursor}
+use Rattle.lw_text.proofs.Common.{ends_cell, RowCells, Rows, PlacedToken, texts_of_tokens, PlacedCell}
+use Rattle.lw_text.proofs.Common.{texts_of_grid, CellsFrom, RowsFrom, HasRows, placed, placed_tokens}
+use Rattle.lw_text.proofs.Common.{placed_cell, placed_row, placed_cells, all_texts, IsWithin, cell_texts}
+use Rattle.lw_text.proofs.Common.{cells_texts, remaining, left, TakenCell, each_of, all_map, all_parts}
+use Rattle.lw_text.proofs.Common.{all_unmap}
 use Rattle.lw_text.proofs.Cells.{is_bar}
 use Rattle.lw_text.proofs.Lists.{Chain-push, Before, Before-close}
 use Rattle.lw_text.proofs.Texts.{is_text}
 use Rattle.lw_text.proofs.api.Places.{texts_placed, grid_placed}
+use Rattle.lw_text.specs.Rows as words
 
 -- ---- without places
 

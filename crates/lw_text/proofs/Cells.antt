@@ -1,16 +1,12 @@
 -- Cells and rows are read in one way.
-use Rattle.std.proofs.Common.{◌≡◌, ℕ, ◌<◌, ◌≤◌, inl, inr, true, false, [], ◌∷◌, ◌++◌, length, refl, sym, ap}
-use Rattle.std.proofs.Common.{◌∙◌, subst, arith, length-append, codes, bytes_eq}
-use Rattle.std.specs.List.{AllByRecursion}
-use Rattle.std.proofs.lemmas.Bool.{or_cases}
-use Rattle.lw_base.specs.Refusals.{NoneRead}
-use Rattle.lw_base.specs.Types.{Bytes, TokenList, Cells, CellGrid}
-use Rattle.lw_text.specs.Lists.{Separated, Until}
-use Rattle.lw_text.specs.Rows.{ends_cell, Cell, Row, begins_stop, Rows}
+use Rattle.lw_text.proofs.Common.{◌≡◌, ℕ, ◌<◌, ◌≤◌, inl, inr, true, false, [], ◌∷◌, ◌++◌, length, refl, sym}
+use Rattle.lw_text.proofs.Common.{ap, ◌∙◌, subst, arith, length-append, codes, bytes_eq, AllByRecursion}
+use Rattle.lw_text.proofs.Common.{or_cases, NoneRead, Bytes, TokenList, Cells, CellGrid, Separated, Until}
+use Rattle.lw_text.proofs.Common.{ends_cell, Row, begins_stop, Rows}
+use Rattle.lw_text.specs.Rows.{Cell}
 use Rattle.lw_text.proofs.Texts.{is_text, marks_apart}
 use Rattle.lw_text.proofs.Lists.{Chain-push, Passed, Passed-stop, Passed-peel, Until-unique, Before, IsOne}
-use Rattle.lw_text.proofs.Lists.{Before-fault, IsMark, IsExact, Separated-front}
-use Rattle.lw_text.proofs.Lists.{Separated-unique}
+use Rattle.lw_text.proofs.Lists.{Before-fault, IsMark, IsExact, Separated-front, Separated-unique}
 
 abbrev pub Plain : TokenList → Type 0
 Plain c = AllByRecursion (λ t. ends_cell t ≡ false) c

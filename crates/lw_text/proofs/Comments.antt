@@ -1,9 +1,7 @@
 -- How comments that are open are closed.
-use Rattle.std.proofs.Common.{◌≡◌, ℕ, zero, suc, ◌+◌, ◌-◌, ◌<◌, ◌≤◌, true, false, [], ◌∷◌, length, refl, sym}
-use Rattle.std.proofs.Common.{ap, subst, arith, add-one, sub-one}
-use Rattle.lw_base.specs.Types.{Bytes}
-use Rattle.lw_text.specs.Spans.{Leaves}
-use Rattle.lw_text.specs.Tokens.{begins_pair, begins_mark, Comment, closed, nested, other}
+use Rattle.lw_text.proofs.Common.{◌≡◌, ℕ, zero, suc, ◌+◌, ◌-◌, ◌<◌, ◌≤◌, true, false, [], ◌∷◌, length, refl}
+use Rattle.lw_text.proofs.Common.{sym, ap, subst, arith, add-one, sub-one, Bytes, Leaves, begins_pair}
+use Rattle.lw_text.proofs.Common.{begins_mark, Comment, closed, nested, other}
 use Rattle.lw_text.proofs.Lists.{Leaves-join}
 
 -- n comments are to be closed, each behind the one before
@@ -82,4 +80,3 @@ pub Comment-suffix : {text rest : Bytes} → Comment text rest → Leaves text r
 Comment-suffix closed = (42 ∷ 41 ∷ [], refl)
 Comment-suffix (nested c d) = Leaves-join (40 ∷ 42 ∷ [], refl) (Leaves-join (Comment-suffix c) (Comment-suffix d))
 Comment-suffix (other {b} m c) = Leaves-join (b ∷ [], refl) (Comment-suffix c)
-

@@ -1,9 +1,6 @@
 -- What a reader owes at the exit of a `?`.
-use Rattle.std.proofs.Common.{◌≡◌, ◌≢◌, sym, subst, Result, Ok, Err, IsErrAnd}
-use Rattle.std.specs.Result.{MatchResult}
-use Rattle.lw_text.specs.declared.fault.Cause.TheVariants.{Memory}
-use Rattle.lw_text.specs.declared.fault.Refusal.{Refusal}
-use Rattle.lw_text.specs.declared.fault.TextCause.TheVariants as text
+use Rattle.lw_text.proofs.Common.{◌≡◌, ◌≢◌, sym, subst, Result, Ok, Err, IsErrAnd, MatchResult, Memory}
+use Rattle.lw_text.proofs.Common.{Refusal}
 
 -- the exit of a `?`: what holds of all errors that it can return
 pub exits : {T E : Type 0} {K : E → Type 0} (P : T → Type 0) (Q : E → Type 0) (r : Result T E) → IsErrAnd r K → ((y : E) → K y → Q y) → MatchResult r P Q

@@ -1,7 +1,6 @@
 -- The header, read name by name.
-use Rattle.std.proofs.Common.{◌≡◌, ℕ, zero, suc, ◌+◌, ◌∷◌, refl, ap, ◌∙◌, subst, arith, add-one, codes}
-use Rattle.lw_base.specs.Types.{TokenList}
-use Rattle.lw_text.specs.Rows.{thread_name, Names}
+use Rattle.lw_text.proofs.Common.{◌≡◌, ℕ, zero, suc, ◌+◌, ◌∷◌, refl, ap, ◌∙◌, subst, arith, add-one, codes}
+use Rattle.lw_text.proofs.Common.{TokenList, thread_name, Names}
 use Rattle.lw_text.proofs.Texts.{marks_apart}
 
 pub Names-unique : (k m n : ℕ) (ts r s : TokenList) → Names k m ts r → Names k n ts s → (m ≡ n) × (r ≡ s)

@@ -1,21 +1,10 @@
 -- The word of a language, blanks, a test's name and its notes are read in one way.
-use Rattle.std.proofs.Common.{◌≡◌, ℕ, ◌<◌, true, false, not, [], ◌∷◌, ◌++◌, refl, sym, ap, ◌∙◌}
-use Rattle.std.proofs.Common.{subst, arith, codes, slice_index_or}
-use Rattle.std.proofs.lemmas.Bool.Decides.{nat_tests}
-use Rattle.std.specs.List.{AllByRecursion}
-use Rattle.std.specs.Char.{is_ascii_graphic}
-use Rattle.std.proofs.lemmas.Bool.{not-true, false_from_ne_true}
-use Rattle.lw_base.specs.Refusals.{NoSuch, NoneRead}
-use Rattle.lw_base.specs.Types.{Bytes}
-use Rattle.lw_base.specs.declared.head.Arch.{Arch}
-use Rattle.lw_base.specs.declared.head.Arch.TheVariants.{Source, X86}
-use Rattle.lw_base.specs.Languages.{arch_word}
-use Rattle.lw_base.specs.Characters.{is_blank, begins}
-use Rattle.lw_text.specs.Tokens.{First}
-use Rattle.lw_base.specs.Names.{IsTestName}
-use Rattle.lw_text.specs.Headings.{Named, Notes, Heading}
+use Rattle.lw_text.proofs.Common.{◌≡◌, ℕ, ◌<◌, true, false, not, [], ◌∷◌, ◌++◌, refl, sym, ap, ◌∙◌, subst}
+use Rattle.lw_text.proofs.Common.{arith, codes, slice_index_or, nat_tests, AllByRecursion, is_ascii_graphic}
+use Rattle.lw_text.proofs.Common.{not-true, false_from_ne_true, NoSuch, NoneRead, Bytes, Arch, Source, X86}
+use Rattle.lw_text.proofs.Common.{arch_word, is_blank, begins, First, IsTestName, Named, Notes, Heading}
+use Rattle.lw_text.proofs.Common.{blank_all, all_ascii}
 use Rattle.lw_text.proofs.Texts.{is_no_text}
-use Rattle.lw_base.proofs.api.Blanks.{blank_all, all_ascii}
 use Rattle.lw_text.proofs.Words.{run-unique}
 use Rattle.lw_text.proofs.TokenRows.{First-unique}
 use Rattle.lw_text.proofs.NoteRows.{Notes-unique}

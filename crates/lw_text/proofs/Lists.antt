@@ -1,9 +1,6 @@
 -- Lists that are written out are read in one way.
-use Rattle.std.proofs.Common.{◌≡◌, ◌⊎◌, inl, inr, Bool, true, false, List, [], ◌∷◌, ◌++◌, refl, sym, ap, ◌∙◌}
-use Rattle.std.proofs.Common.{subst, append_assoc}
-use Rattle.lw_base.specs.Refusals.{NoneRead}
-use Rattle.lw_text.specs.Lists.{Chain, Separated, Until, Ended}
-use Rattle.lw_text.specs.Spans.{Leaves}
+use Rattle.lw_text.proofs.Common.{◌≡◌, ◌⊎◌, inl, inr, Bool, true, false, List, [], ◌∷◌, ◌++◌, refl, sym, ap}
+use Rattle.lw_text.proofs.Common.{◌∙◌, subst, append_assoc, NoneRead, Chain, Separated, Until, Ended, Leaves}
 
 -- what stands first is read in one way
 abbrev pub IsOne : {T X : Type 0} → (List T → X → List T → Type 0) → Type 0

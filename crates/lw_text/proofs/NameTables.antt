@@ -1,24 +1,12 @@
 -- Sites in a table of names that grows, and by their places in it.
-use Rattle.std.proofs.Common.{◌≡◌, ℕ, suc, ◌+◌, inl, inr, true, List, [], ◌∷◌, map, get_or, slice_get, Some}
-use Rattle.std.proofs.Common.{refl, sym, ap, ◌∙◌, subst, arith, ◌++◌, append_assoc, append-nil, fold}
-use Rattle.std.proofs.Common.{if◌then◌else◌, bytes_eq}
-use Rattle.std.specs.List.{AllByRecursion, list_any}
-use Rattle.std.proofs.Math.ListN.{get_or-append}
-use Rattle.std.proofs.lemmas.Bool.{cases_Bool}
-use Rattle.std.proofs.lemmas.Slice.Eq.{bytes_eq-Decides}
-use Rattle.std.proofs.lemmas.Option.{slice_get-get_or, get_or_from_slice_get}
-use Rattle.lw_base.specs.Types.{Bytes, NameTable, TokenList}
-use Rattle.lw_base.specs.Lists.{EachOnce}
-use Rattle.lw_base.specs.Tables.{contains_name, with_name, with_names, index_of}
-use Rattle.lw_base.specs.declared.head.Seen.{Seen}
-use Rattle.lw_base.proofs.api.Tables.{index_of-at}
-use Rattle.lw_base.proofs.api.GrowingTables.{with_name-grows, with_names-longer, contains_name-with_name}
-use Rattle.lw_text.specs.declared.site.Site.{Site}
-use Rattle.lw_text.specs.declared.block.Entry.{Entry}
-use Rattle.lw_text.specs.Sites.{InMemory, seen_in}
-use Rattle.lw_base.specs.SeenLists.{same_seen}
-use Rattle.lw_text.specs.Frames.{word_of}
-use Rattle.lw_text.specs.inner.Resolved.{named, named_entry, seen_of, IsIn, word_at, is_listed}
+use Rattle.lw_text.proofs.Common.{◌≡◌, ℕ, suc, ◌+◌, inl, inr, true, List, [], ◌∷◌, map, get_or, slice_get}
+use Rattle.lw_text.proofs.Common.{Some, refl, sym, ap, ◌∙◌, subst, arith, ◌++◌, append_assoc, append-nil}
+use Rattle.lw_text.proofs.Common.{fold, if◌then◌else◌, bytes_eq, AllByRecursion, list_any, get_or-append}
+use Rattle.lw_text.proofs.Common.{cases_Bool, bytes_eq-Decides, slice_get-get_or, get_or_from_slice_get}
+use Rattle.lw_text.proofs.Common.{Bytes, NameTable, TokenList, EachOnce, contains_name, with_name, with_names}
+use Rattle.lw_text.proofs.Common.{index_of, Seen, index_of-at, with_name-grows, with_names-longer}
+use Rattle.lw_text.proofs.Common.{contains_name-with_name, Site, Entry, InMemory, seen_in, same_seen, word_of}
+use Rattle.lw_text.proofs.Common.{named, named_entry, seen_of, IsIn, word_at, is_listed}
 use Rattle.lw_base.specs.declared.head.Seen.TheVariants as seen
 use Rattle.lw_text.specs.declared.site.Site.TheVariants as made
 

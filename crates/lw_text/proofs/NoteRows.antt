@@ -1,18 +1,12 @@
 -- Quoted texts and lines `Key=value` are read in one way, and so are rows of them.
-use Rattle.std.proofs.Common.{◌≡◌, ℕ, ◌<◌, ◌≤◌, inl, inr, Bool, true, false, not, [], ◌∷◌, ◌++◌, length}
-use Rattle.std.proofs.Common.{length-append, append_assoc, refl, sym, ap, ◌∙◌, subst, arith, ◌==◌, eqb-true}
-use Rattle.std.specs.List.{AllByRecursion, list_all}
-use Rattle.std.proofs.lemmas.Bool.{not-true, not-false}
-use Rattle.lw_base.specs.Refusals.{NoSuch}
-use Rattle.lw_base.specs.Types.{Bytes}
-use Rattle.lw_base.specs.Characters.{begins, is_key_byte, is_space}
-use Rattle.lw_text.specs.Tokens.{begins_trivia, Trivia}
-use Rattle.lw_text.specs.Headings.{Quoted, KeyLine, Note, Notes, none, note}
-use Rattle.lw_text.specs.Spans.{Leaves}
+use Rattle.lw_text.proofs.Common.{◌≡◌, ℕ, ◌<◌, ◌≤◌, inl, inr, Bool, true, false, not, [], ◌∷◌, ◌++◌, length}
+use Rattle.lw_text.proofs.Common.{length-append, append_assoc, refl, sym, ap, ◌∙◌, subst, arith, ◌==◌}
+use Rattle.lw_text.proofs.Common.{eqb-true, AllByRecursion, list_all, not-true, not-false, NoSuch, Bytes}
+use Rattle.lw_text.proofs.Common.{begins, is_key_byte, is_space, begins_trivia, Trivia, Quoted, KeyLine, Note}
+use Rattle.lw_text.proofs.Common.{Notes, note, Leaves, any_all, same_byte, all_weaker}
+use Rattle.lw_text.specs.Headings.{none}
 use Rattle.lw_text.proofs.Lists.{Leaves-join}
 use Rattle.lw_text.proofs.TriviaLemmas.{Trivia-unique, Trivia-suffix, Trivia-shorter}
-use Rattle.lw_base.proofs.api.Blanks.{any_all, same_byte}
-use Rattle.lw_base.proofs.api.Elements.{all_weaker}
 use Rattle.lw_text.proofs.Words.{run-unique, no_trivia_at}
 
 -- ---- quoted texts
@@ -84,7 +78,7 @@ module _ (text key rest spaces left : Bytes) (e : text ≡ key ++ rest) (all : K
   pub KeyLine-parts : (end : Bytes) → (p : KeyLine text end) → (p.key ≡ key) × (left ≡ 61 ∷ p.value ++ end)
   KeyLine-parts end p =
       let outer = run-unique is_key_byte p.key _ key rest p.all all (behind_key p.spaces (p.value ++ end)
-          p.spaced) longest (sym (line_parts p.key p.spaces p.value end) ∙ sym p.parts ∙ e) in
+      p.spaced) longest (sym (line_parts p.key p.spaces p.value end) ∙ sym p.parts ∙ e) in
       (outer.0, sym (run-unique is_space p.spaces _ spaces left p.spaced spaced refl stop (outer.1 ∙ f)).1)
 
   pub no_equals : begins (λ b. b == 61) left ≡ false → NoSuch (KeyLine text)
@@ -107,7 +101,7 @@ module _ (text key rest spaces left : Bytes) (e : text ≡ key ++ rest) (all : K
 pub KeyLine-unique : (text a b : Bytes) → KeyLine text a → KeyLine text b → a ≡ b
 KeyLine-unique text a b p q =
     let k = KeyLine-parts text q.key (q.spaces ++ 61 ∷ (q.value ++ b)) q.spaces (61 ∷ (q.value ++ b)) (q.parts
-        ∙ line_parts q.key _ q.value b) q.all (behind_key q.spaces _ q.spaced) refl q.spaced refl a p in
+    ∙ line_parts q.key _ q.value b) q.all (behind_key q.spaces _ q.spaced) refl q.spaced refl a p in
     (run-unique _ _ a _ b (without 10 _ p.one_line) (without 10 q.value q.one_line) p.longest q.longest cc).1
 
 key_front : (key more : Bytes) → 0 < length key → Keys key → begins is_key_byte (key ++ more) ≡ true

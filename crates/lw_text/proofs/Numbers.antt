@@ -1,9 +1,7 @@
 -- What digits stand for.
-use Rattle.std.proofs.Common.{◌≡◌, ℕ, ◌+◌, ◌*◌, ◌^◌, ◌<◌, ◌≤◌, [], ◌∷◌, sym, ap, ◌∙◌, subst, arith}
-use Rattle.std.proofs.Common.{mul-le-mul_left, mul_comm, Option, Some, None, IfNone}
-use Rattle.std.specs.Char.{digit_value}
-use Rattle.lw_base.specs.Types.{Bytes}
-use Rattle.lw_text.specs.Tokens.{Digits}
+use Rattle.lw_text.proofs.Common.{◌≡◌, ℕ, ◌+◌, ◌*◌, ◌^◌, ◌<◌, ◌≤◌, [], ◌∷◌, sym, ap, ◌∙◌, subst, arith}
+use Rattle.lw_text.proofs.Common.{mul-le-mul_left, mul_comm, Option, Some, None, IfNone, digit_value, Bytes}
+use Rattle.lw_text.proofs.Common.{Digits}
 
 -- further digits make no number smaller
 pub Digits-grow : (base n : ℕ) (ds : Bytes) (v : ℕ) → 1 ≤ base → Digits base n ds v → n ≤ v

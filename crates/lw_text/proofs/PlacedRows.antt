@@ -1,17 +1,9 @@
 -- A text has its cells at one place each, and its tokens are the slices of their spans.
-use Rattle.std.proofs.Common.{◌≡◌, ℕ, ◌+◌, ◌≤◌, List, [], ◌∷◌, ◌++◌, length, take, drop, refl, sym, ap, ◌∙◌}
-use Rattle.std.proofs.Common.{subst, arith, append_assoc, length-append, take_at}
-use Rattle.std.proofs.Math.Seq.{take-append_seam, drop-append_seam}
-use Rattle.std.proofs.lemmas.List.{length-map}
-use Rattle.lw_base.specs.Types.{Bytes}
-use Rattle.lw_base.specs.declared.head.Arch.{Arch}
-use Rattle.lw_base.specs.Languages.{arch_word}
-use Rattle.lw_text.specs.Headings.{Heading}
-use Rattle.lw_text.specs.Rows.{columns}
-use Rattle.lw_text.specs.PlacedTokens.{PlacedToken, texts_of_tokens, PlacedTokens}
-use Rattle.lw_text.specs.PlacedCells.{PlacedCell, texts_of_cells, texts_of_grid, CellsFrom, RowsFrom, HasRows}
-use Rattle.lw_text.specs.PlacedCells.{HasCells}
-use Rattle.lw_text.specs.Spans.{Spans, Leaves}
+use Rattle.lw_text.proofs.Common.{◌≡◌, ℕ, ◌+◌, ◌≤◌, List, [], ◌∷◌, ◌++◌, length, take, drop, refl, sym, ap}
+use Rattle.lw_text.proofs.Common.{◌∙◌, subst, arith, append_assoc, length-append, take_at, take-append_seam}
+use Rattle.lw_text.proofs.Common.{drop-append_seam, length-map, Bytes, Arch, arch_word, Heading, columns}
+use Rattle.lw_text.proofs.Common.{PlacedToken, texts_of_tokens, PlacedTokens, PlacedCell, texts_of_cells}
+use Rattle.lw_text.proofs.Common.{texts_of_grid, CellsFrom, RowsFrom, HasRows, HasCells, Spans, Leaves}
 use Rattle.lw_text.proofs.TriviaLemmas.{Trivia-suffix, Trivia-shorter}
 use Rattle.lw_text.proofs.Lists.{Leaves-join}
 use Rattle.lw_text.proofs.TokenRows.{PlacedTokens-unique}

@@ -1,12 +1,11 @@
 -- Terminals are a proposition if and only if they lead its reader to where it says that proposition.
-use Rattle.std.proofs.Common.{◌≡◌, ℕ, zero, suc, List, [], ◌∷◌, ◌++◌, Option, Some, None, option_and_then, fold, refl, sym, ap, ◌∙◌}
-use Rattle.std.proofs.Common.{subst, append_assoc, append-nil}
-use Rattle.lw_base.specs.Formula.{Formula, Not, Or}
-use Rattle.lw_text.specs.Propositions.{Terminal, Open, Close, Negation, Conjunction, Disjunction, Atom, Level}
-use Rattle.lw_text.specs.Propositions.{PartLevel, ConjunctionLevel, DisjunctionLevel, Derives, atom, negated}
-use Rattle.lw_text.specs.Propositions.{parens, part, and, conjunction, or, IsProposition}
-use Rattle.lw_text.specs.inner.Pending.{Pending, ReaderState, BeforePart, BehindPart, begun, negations, after_and}
-use Rattle.lw_text.specs.inner.Pending.{after_or, ands_of, opened, with_not, state_behind, said}
+use Rattle.lw_text.proofs.Common.{◌≡◌, ℕ, zero, suc, List, [], ◌∷◌, ◌++◌, Option, Some, None, option_and_then}
+use Rattle.lw_text.proofs.Common.{fold, refl, sym, ap, ◌∙◌, subst, append_assoc, append-nil, Formula, Not, Or}
+use Rattle.lw_text.proofs.Common.{Terminal, Open, Close, Negation, Conjunction, Disjunction, Atom, Level}
+use Rattle.lw_text.proofs.Common.{PartLevel, ConjunctionLevel, DisjunctionLevel, Derives, atom, negated}
+use Rattle.lw_text.proofs.Common.{parens, part, and, conjunction, or, IsProposition, Pending, ReaderState}
+use Rattle.lw_text.proofs.Common.{BeforePart, BehindPart, begun, negations, after_and, after_or, ands_of}
+use Rattle.lw_text.proofs.Common.{opened, with_not, state_behind, said}
 
 abbrev pub Terms : Type 0
 Terms = List (Terminal Formula)
@@ -122,8 +121,8 @@ one_more (Some (BehindPart e p (o ∷ os))) Close ts h =
     let k = h.around in
     let inside = h.front ++ h.row in
     let whole : ts ++ Close ∷ [] ≡ k.0 ++ (Open ∷ (inside ++ Close ∷ [])) = ap (λ x. x ++ Close ∷ []) (h.is
-        ∙ ap (λ x. x ++ inside) k.1) ∙ append_assoc (k.0 ++ Open ∷ []) inside (Close ∷ []) ∙ append_assoc k.0
-        (Open ∷ []) (inside ++ Close ∷ []) in
+    ∙ ap (λ x. x ++ inside) k.1) ∙ append_assoc (k.0 ++ Open ∷ []) inside (Close ∷ []) ∙ append_assoc k.0
+    (Open ∷ []) (inside ++ Close ∷ []) in
     subst (λ x. Row (Outside os) x o.either (ands_of o (after_or e p))) (sym whole)
     (k.2 (Open ∷ (inside ++ Close ∷ [])) (after_or e p) (parens (group_says h)))
 one_more (Some (BehindPart e p os)) Conjunction ts h = λ ss q d. record {

@@ -1,38 +1,20 @@
 -- A proposition that is read terminal by terminal, with the table of its names.
-use Rattle.std.proofs.Common.{◌≡◌, ℕ, ◌+◌, ◌≤◌, inl, inr, Bool, true, false, List, [], ◌∷◌, ◌++◌, length}
-use Rattle.std.proofs.Common.{map, get_or, refl, sym, ap, ◌∙◌, subst, arith, codes}
-use Rattle.std.proofs.Common.{not, if◌then◌else◌, ◌||◌, ◌==◌, ◌≢◌, Option, Some, None, is_some, option_map, eqb-true}
-use Rattle.std.specs.List.{AllByRecursion}
-use Rattle.std.proofs.lemmas.Bool.{eqb-false, not-true, not-false, or_cases, or_parts, false_from_ne_true}
-use Rattle.std.proofs.lemmas.List.{map-append}
-use Rattle.std.proofs.lemmas.List.Elements.{filter_map-append}
-use Rattle.std.proofs.lemmas.List.Folds.{fold_stays}
-use Rattle.std.proofs.lemmas.List.Sums.{fold-append}
-use Rattle.std.proofs.lemmas.Option.{slice_get-get_or}
-use Rattle.lw_base.specs.Types.{Bytes, NameTable, TokenList}
-use Rattle.lw_base.specs.declared.head.Arch.{Arch}
-use Rattle.lw_base.specs.declared.proposition.Prop.{Prop}
-use Rattle.lw_base.specs.Formula.{Formula, Word_is}
-use Rattle.lw_base.specs.Lists.{EachOnce}
-use Rattle.lw_base.specs.Propositions.{formula_of}
-use Rattle.lw_base.specs.Tables.{contains_name, with_name, with_names}
-use Rattle.lw_base.proofs.api.Tables.{index_of-at}
-use Rattle.lw_base.proofs.api.GrowingTables.{with_names-longer, contains_name-with_name}
-use Rattle.lw_base.proofs.api.GrowingTables.{contains_name-with_names, index_of-with_names, once-along}
-use Rattle.lw_text.specs.declared.cursor.Cursor.{Cursor}
-use Rattle.lw_text.specs.declared.proposition_reader.PropositionReader.{PropositionReader}
+use Rattle.lw_text.proofs.Common.{◌≡◌, ℕ, ◌+◌, ◌≤◌, inl, inr, Bool, true, false, List, [], ◌∷◌, ◌++◌, length}
+use Rattle.lw_text.proofs.Common.{map, get_or, refl, sym, ap, ◌∙◌, subst, arith, codes, not, if◌then◌else◌}
+use Rattle.lw_text.proofs.Common.{◌||◌, ◌==◌, ◌≢◌, Option, Some, None, is_some, option_map, eqb-true}
+use Rattle.lw_text.proofs.Common.{AllByRecursion, eqb-false, not-true, not-false, or_cases, or_parts}
+use Rattle.lw_text.proofs.Common.{false_from_ne_true, map-append, filter_map-append, fold_stays, fold-append}
+use Rattle.lw_text.proofs.Common.{slice_get-get_or, Bytes, NameTable, TokenList, Arch, Prop, Formula, Word_is}
+use Rattle.lw_text.proofs.Common.{EachOnce, formula_of, contains_name, with_name, with_names, index_of-at}
+use Rattle.lw_text.proofs.Common.{with_names-longer, contains_name-with_name, contains_name-with_names}
+use Rattle.lw_text.proofs.Common.{index_of-with_names, once-along, Cursor, PropositionReader, Chain}
+use Rattle.lw_text.proofs.Common.{with_sites, HasRoomFor, SiteSyntax, InMemory, IsSite, site_names, Terminal}
+use Rattle.lw_text.proofs.Common.{Open, Close, Negation, Conjunction, Disjunction, Atom, is_node}
+use Rattle.lw_text.proofs.Common.{IsProposition, left, Pending, begins_part, begun, group_of, standing}
+use Rattle.lw_text.proofs.Common.{state_of, state_behind, said, terminal_of, AtomSyntax, Holds, IsTerminal}
+use Rattle.lw_text.proofs.Common.{Terminals, begins_word, site_of, sites_in, resolved, named_terminal}
+use Rattle.lw_text.proofs.Common.{TerminalIn, TakenTerminal, TakenProposition, NoProposition, Fits}
 use Rattle.lw_text.specs.declared.terminal.Terminal.{Terminal as Made}
-use Rattle.lw_text.specs.Lists.{Chain}
-use Rattle.lw_text.specs.Sites.{with_sites, HasRoomFor, SiteSyntax, InMemory, IsSite, site_names}
-use Rattle.lw_text.specs.Propositions.{Terminal, Open, Close, Negation, Conjunction, Disjunction, Atom, is_node}
-use Rattle.lw_text.specs.Propositions.{IsProposition}
-use Rattle.lw_text.specs.Views.{left}
-use Rattle.lw_text.specs.inner.Pending.{Pending, begins_part, begun, group_of, standing, state_of, state_behind, said}
-use Rattle.lw_text.specs.inner.Terminals.{terminal_of}
-use Rattle.lw_text.specs.Conditions.{AtomSyntax, Holds, IsTerminal, Terminals, begins_word, site_of, sites_in}
-use Rattle.lw_text.specs.Conditions.{resolved}
-use Rattle.lw_text.specs.inner.Resolved.{named_terminal, TerminalIn}
-use Rattle.lw_text.specs.inner.Taken.{TakenTerminal, TakenProposition, NoProposition, Fits}
 use Rattle.lw_text.proofs.api.PropositionNodes.{count, count_append}
 use Rattle.lw_text.proofs.Atoms.{no_site, is_apart}
 use Rattle.lw_text.proofs.Lists.{Chain-push}
@@ -164,13 +146,19 @@ module _ {A : Type 0} {arch : Arch} {threads : ℕ} {first names start here : To
           let alone : resolved last t ∷ [] ≡ resolved now t ∷ [] = ap (λ ns. resolved ns t ∷ []) after
           ∙ map_resolved-along now (site_names (sites_in back)) (t ∷ []) (all_now names (site_names (sites_in (t ∷ [])))) in
           let same : resolved last t ≡ resolved now t = cc in
-          let room : length now ≤ 8 = omega (arith, fits.room, ap length (table_of (t ∷ back)), ap length
-              after, with_names-longer now (site_names (sites_in back))) in
+          let room : length now ≤ 8 = omega (
+            arith,
+            fits.room,
+            ap length (table_of (t ∷ back)),
+            ap length
+                after,
+            with_names-longer now (site_names (sites_in back)),
+          ) in
           let few : nodes + count (t ∷ []) ≤ 256 = omega
           (arith, fits.few, count_append read.terminals (t ∷ back), count_append (t ∷ []) back, read.count) in
           let more = map (resolved last) back in
           never t q.0 q.1 (λ none. let nowhere = ap said_at (ap (λ o. lead o more) (ap (state_behind (state_of reader)) same ∙ none)
-            ∙ fold_stays _ None (λ s. refl) more) in cc)
+          ∙ fold_stays _ None (λ s. refl) more) in cc)
           room few
 
   pub once_here : EachOnce first → EachOnce names
@@ -200,8 +188,8 @@ module _ {arch : Arch} {threads : ℕ} {before behind : Cursor} {names after : N
       let ns = site_names (sites_in (t ∷ [])) in
       let made_more : map (resolved after) (read.terminals ++ t ∷ []) ≡ map (resolved names) read.terminals ++ terminal_of s ∷ [] =
       map-append (resolved after) read.terminals (t ∷ []) ∙ ap (λ l. l ++ resolved after t ∷ [])
-          (ap (λ ns. map (resolved ns) read.terminals) taken.names_are ∙ same_behind read ns)
-          ∙ ap (λ x. map (resolved names) read.terminals ++ x ∷ []) (same_terminal (once_here read once)) in
+      (ap (λ ns. map (resolved ns) read.terminals) taken.names_are ∙ same_behind read ns)
+      ∙ ap (λ x. map (resolved names) read.terminals ++ x ∷ []) (same_terminal (once_here read once)) in
       record {
         terminals = read.terminals ++ t ∷ [];
         gone = Chain-push _ read.terminals start (left before) (left behind) t read.gone taken.is;
@@ -272,7 +260,7 @@ pub room_left : {arch : Arch} {threads : ℕ} {before behind : Cursor} {names af
     → (nodes : ℕ) → nodes ≤ 256 → (not (nodes == 256) || at_parenthesis (left before)) ≡ true → nodes + (if is_node (terminal_of s) then 1 else 0) ≤ 256
 room_left {arch} {threads} {before} {behind} {after = after} {s = s} taken nodes few room =
     rw (sym (node_named after s) ∙ node_here arch threads (left before) (left behind) (named_terminal after s) taken.is)
-      (at (at_parenthesis (left before)) room)
+    (at (at_parenthesis (left before)) room)
   where
     at : (b : Bool) → (not (nodes == 256) || b) ≡ true → nodes + (if not b then 1 else 0) ≤ 256
     at true room = omega (arith, few)

@@ -1,18 +1,11 @@
 -- Lists of entries and of sites that are read one after another, with the table of their names.
-use Rattle.std.proofs.Common.{◌≡◌, ◌≤◌, List, [], ◌∷◌, ◌++◌, length, map, refl, sym, ap, ◌∙◌, subst, arith}
-use Rattle.std.proofs.Common.{All}
-use Rattle.std.specs.List.{AllByRecursion}
-use Rattle.std.proofs.lemmas.List.{append_cancel_left, map-append, map_push}
-use Rattle.std.proofs.lemmas.List.Elements.{filter_map-append, All-from_recursion}
-use Rattle.lw_base.specs.Refusals.{NoneRead}
-use Rattle.lw_base.specs.Types.{Bytes, NameTable, TokenList}
-use Rattle.lw_base.specs.Tables.{with_names}
-use Rattle.lw_base.proofs.api.Elements.{all_append, all_parts}
-use Rattle.lw_base.proofs.api.GrowingTables.{with_names-append, with_names-longer}
+use Rattle.lw_text.proofs.Common.{◌≡◌, ◌≤◌, List, [], ◌∷◌, ◌++◌, length, map, refl, sym, ap, ◌∙◌, subst}
+use Rattle.lw_text.proofs.Common.{arith, All, AllByRecursion, append_cancel_left, map-append, map_push}
+use Rattle.lw_text.proofs.Common.{filter_map-append, All-from_recursion, NoneRead, Bytes, NameTable}
+use Rattle.lw_text.proofs.Common.{TokenList, with_names, all_append, all_parts, with_names-append}
+use Rattle.lw_text.proofs.Common.{with_names-longer, Ended, with_sites, HasRoomFor, SiteSyntax, site_name}
+use Rattle.lw_text.proofs.Common.{site_names, named, IsIn}
 use Rattle.lw_text.specs.declared.site.Site.{Site as Made}
-use Rattle.lw_text.specs.Lists.{Ended}
-use Rattle.lw_text.specs.Sites.{with_sites, HasRoomFor, SiteSyntax, site_name, site_names}
-use Rattle.lw_text.specs.inner.Resolved.{named, IsIn}
 use Rattle.lw_text.proofs.Atoms.{semicolon}
 use Rattle.lw_text.proofs.Lists.{Chain-push, Ended-unique, Listing, Listing-end, Listing-last, IsOne}
 use Rattle.lw_text.proofs.Lists.{Listing-here, Listing-mark}
@@ -110,9 +103,9 @@ module _ {X Y : Type 0} {kind : Kind X Y} {first names ts here : TokenList} {xs 
   read_none_here no_end never ys rest w all few =
       let before = map (kind.at names) xs in
       Listing-here kind.stands semicolon kind.close kind.one kind.apart kind.unlike before ys read.start here
-          rest read.listing (no_end rest) (λ y more mid e p.
+      rest read.listing (no_end rest) (λ y more mid e p.
       let f = ap (map kind.syntax) e ∙ map-append kind.syntax before (y ∷ more) ∙ ap (λ l. l ++ kind.syntax y
-          ∷ map kind.syntax more) (syntax_sites kind names xs) in
+      ∷ map kind.syntax more) (syntax_sites kind names xs) in
       never y mid p (all_parts kind.asks before _ (subst (AllByRecursion kind.asks) e all)).1.0 (omega (
         arith,
         few,

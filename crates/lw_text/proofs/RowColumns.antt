@@ -1,16 +1,10 @@
 -- Columns of rows.
-use Rattle.std.proofs.Common.{◌≡◌, ℕ, zero, suc, ◌+◌, ◌<◌, ◌≤◌, List, [], ◌∷◌, ◌++◌, length, map, take}
-use Rattle.std.proofs.Common.{slice_get, Option, Some, None, get_or, refl, sym, ap, ◌∙◌, subst, arith, All}
-use Rattle.std.proofs.Common.{option_map}
-use Rattle.std.specs.List.{cons_option, range_with_len, AllByRecursion}
-use Rattle.std.proofs.lemmas.List.{take_more}
-use Rattle.std.proofs.lemmas.List.FromFn.{length-map-range_with_len}
-use Rattle.std.proofs.lemmas.List.Elements.{filter_map-append, All-from_recursion}
-use Rattle.std.proofs.lemmas.Option.{slice_get_read, slice_get_within, get_or_from_slice_get, slice_get-map}
-use Rattle.lw_text.specs.Rows.{column, columns}
-use Rattle.lw_base.proofs.api.Elements.{each_of, all_of_range}
-use Rattle.lw_text.specs.Places.{height}
-use Rattle.lw_base.proofs.api.Lists.{get_some}
+use Rattle.lw_text.proofs.Common.{◌≡◌, ℕ, zero, suc, ◌+◌, ◌<◌, ◌≤◌, List, [], ◌∷◌, ◌++◌, length, map, take}
+use Rattle.lw_text.proofs.Common.{slice_get, Option, Some, None, get_or, refl, sym, ap, ◌∙◌, subst, arith}
+use Rattle.lw_text.proofs.Common.{All, option_map, cons_option, range_with_len, AllByRecursion, take_more}
+use Rattle.lw_text.proofs.Common.{length-map-range_with_len, filter_map-append, All-from_recursion}
+use Rattle.lw_text.proofs.Common.{slice_get_read, slice_get_within, get_or_from_slice_get, slice_get-map}
+use Rattle.lw_text.proofs.Common.{column, columns, each_of, all_of_range, height, get_some}
 
 -- one more row
 pub column-more : {X : Type 0} (rows : List (List X)) (i k : ℕ) (row : List X) (x : X) → i < length rows → row ≡ get_or rows i row → k < length row

@@ -1,14 +1,9 @@
 -- The entries of an initial block, and the list of names, read one after another.
-use Rattle.std.proofs.Common.{◌≡◌, false, List, [], ◌∷◌, refl, codes, ℕ, inl, inr, map, sym, ◌∙◌, subst}
-use Rattle.std.proofs.Common.{map-id}
-use Rattle.std.specs.List.{AllByRecursion}
-use Rattle.lw_base.specs.Types.{TokenList}
-use Rattle.lw_base.specs.declared.head.Arch.{Arch}
+use Rattle.lw_text.proofs.Common.{◌≡◌, false, List, [], ◌∷◌, refl, codes, ℕ, inl, inr, map, sym, ◌∙◌, subst}
+use Rattle.lw_text.proofs.Common.{map-id, AllByRecursion, TokenList, Arch, HasRoomFor, SiteSyntax, IsSite}
+use Rattle.lw_text.proofs.Common.{ThreadExists, begins_word, Listed, EntrySyntax, IsEntry, Block, sites_of}
+use Rattle.lw_text.proofs.Common.{named_entry, named}
 use Rattle.lw_text.specs.declared.block.Entry.{Entry as MadeEntry}
-use Rattle.lw_text.specs.Sites.{HasRoomFor, SiteSyntax, IsSite, ThreadExists}
-use Rattle.lw_text.specs.Conditions.{begins_word, Listed}
-use Rattle.lw_text.specs.Frames.{EntrySyntax, IsEntry, Block, sites_of}
-use Rattle.lw_text.specs.inner.Resolved.{named_entry, named}
 use Rattle.lw_text.proofs.Atoms.{no_site, IsSite-unique, IsEntry-unique, brace, semicolon, bracket}
 use Rattle.lw_text.proofs.NameTables.{entry-along, named-along}
 use Rattle.lw_text.proofs.Readings.{Kind, Read, read_none_here, Whole-unique, Whole}

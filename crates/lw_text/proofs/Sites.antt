@@ -1,20 +1,10 @@
 -- Where a site stands, and where none does.
-use Rattle.std.proofs.Common.{◌≡◌, ◌⊎◌, ℕ, ◌<◌, inl, inr, [], ◌∷◌, Option, None, Some, true, false, slice_get}
-use Rattle.std.proofs.Common.{subst, sym, ap, ◌∙◌, arith, codes, true≢false, ltb-false, ltb-true}
-use Rattle.std.proofs.lemmas.Option.{slice_get_within}
-use Rattle.lw_base.specs.Refusals.{NoSuch, NoneRead}
-use Rattle.lw_base.specs.Types.{Bytes, NameTable, TokenList}
-use Rattle.lw_base.specs.declared.head.Arch.{Arch}
-use Rattle.lw_base.specs.Names.{IsName, IsLocation}
-use Rattle.lw_base.specs.Registers.{IsRegister}
-use Rattle.lw_base.specs.Tables.{with_name}
-use Rattle.lw_text.specs.declared.cursor.Cursor.{Cursor}
-use Rattle.lw_text.specs.Tokens.{IsNumber}
-use Rattle.lw_text.specs.Sites.{with_sites, HasRoomFor, HasRoomForName, SiteSyntax, InMemory, InThread}
-use Rattle.lw_text.specs.Sites.{IsSite, ThreadExists, ThreadAllowed}
-use Rattle.lw_text.specs.Views.{left, MovesOn}
-use Rattle.lw_text.specs.inner.Resolved.{is_allowed}
-use Rattle.lw_text.specs.inner.Taken.{TakenSite}
+use Rattle.lw_text.proofs.Common.{◌≡◌, ◌⊎◌, ℕ, ◌<◌, inl, inr, [], ◌∷◌, Option, None, Some, true, false}
+use Rattle.lw_text.proofs.Common.{slice_get, subst, sym, ap, ◌∙◌, arith, codes, true≢false, ltb-false}
+use Rattle.lw_text.proofs.Common.{ltb-true, slice_get_within, NoSuch, NoneRead, Bytes, NameTable, TokenList}
+use Rattle.lw_text.proofs.Common.{Arch, IsName, IsLocation, IsRegister, with_name, Cursor, IsNumber}
+use Rattle.lw_text.proofs.Common.{with_sites, HasRoomFor, HasRoomForName, SiteSyntax, InMemory, InThread}
+use Rattle.lw_text.proofs.Common.{IsSite, ThreadExists, ThreadAllowed, left, MovesOn, is_allowed, TakenSite}
 use Rattle.lw_text.proofs.Atoms.{number_no_name, bracket_no_name}
 use Rattle.lw_text.proofs.api.Numbers.{bracket_no_number, number-unique}
 use Rattle.lw_text.proofs.NameTables.{named-at}

@@ -1,19 +1,11 @@
 -- What registers and locations begin with, one further, and what is known of all that a loop has passed.
-use Rattle.std.proofs.Common.{◌≡◌, ℕ, ◌+◌, ◌<◌, Bool, true, false, List, [], ◌∷◌, ◌++◌, length, map, take}
-use Rattle.std.proofs.Common.{get_or, refl, sym, ap, ◌∙◌, append_assoc, zero-add, filter, if◌then◌else◌}
-use Rattle.std.proofs.Common.{flat_map, map-id, append-nil, ◌≤◌, drop, take_all, take-append-drop}
-use Rattle.std.specs.List.{list_any, range_with_len, list_all}
-use Rattle.std.proofs.lemmas.List.Folds.{list_any_more, list_any_at, list_all-append, list_all_more}
-use Rattle.std.proofs.lemmas.Grind.{flat_map-append}
-use Rattle.std.proofs.lemmas.List.{take_more, map_push}
-use Rattle.std.proofs.lemmas.List.Sums.{fold-append}
-use Rattle.std.proofs.lemmas.List.Elements.{filter-append}
-use Rattle.std.proofs.lemmas.List.FromFn.{map-range_with_len_more}
-use Rattle.lw_base.specs.declared.head.Seen.{Seen}
-use Rattle.lw_base.specs.declared.head.Seen.TheVariants.{Location}
-use Rattle.lw_text.specs.declared.block.Entry.{Entry}
-use Rattle.lw_base.specs.SeenLists.{same_seen, thread_registers, all_registers, locations}
-use Rattle.lw_text.specs.inner.Resolved.{seen_of, word_at}
+use Rattle.lw_text.proofs.Common.{◌≡◌, ℕ, ◌+◌, ◌<◌, Bool, true, false, List, [], ◌∷◌, ◌++◌, length, map, take}
+use Rattle.lw_text.proofs.Common.{get_or, refl, sym, ap, ◌∙◌, append_assoc, zero-add, filter, if◌then◌else◌}
+use Rattle.lw_text.proofs.Common.{flat_map, map-id, append-nil, ◌≤◌, drop, take_all, take-append-drop}
+use Rattle.lw_text.proofs.Common.{list_any, range_with_len, list_all, list_any_more, list_any_at}
+use Rattle.lw_text.proofs.Common.{list_all-append, list_all_more, flat_map-append, take_more, map_push}
+use Rattle.lw_text.proofs.Common.{fold-append, filter-append, map-range_with_len_more, Seen, Location, Entry}
+use Rattle.lw_text.proofs.Common.{same_seen, thread_registers, all_registers, locations, seen_of, word_at}
 
 -- the word after one more entry
 pub word_more : (es : List Entry) (i : ℕ) (e : Entry) (s : Seen) → i < length es → e ≡ get_or es i e
@@ -57,8 +49,8 @@ pub registers_more : (p : Seen → Bool) (seen after : List Seen) (n : ℕ) → 
     → after ≡ seen ++ filter p (thread_registers n) → after ≡ filter p (all_registers (n + 1))
 registers_more p seen after n e f =
     let more = ap (flat_map thread_registers) (range-more 0 n ∙ ap (λ (k : ℕ). range_with_len 0 n ++ k ∷ [])
-        (zero-add n)) ∙ flat_map-append thread_registers (range_with_len 0 n) (n ∷ [])
-        ∙ ap (λ l. all_registers n ++ l) (append-nil (thread_registers n)) in
+    (zero-add n)) ∙ flat_map-append thread_registers (range_with_len 0 n) (n ∷ [])
+    ∙ ap (λ l. all_registers n ++ l) (append-nil (thread_registers n)) in
     f ∙ ap (λ l. l ++ filter p (thread_registers n)) e ∙ sym (ap (filter p) more ∙ filter-append p _ _)
 
 -- the words of one more location

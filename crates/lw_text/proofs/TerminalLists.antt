@@ -1,15 +1,10 @@
 -- The terminals of a proposition are read in one way.
-use Rattle.std.proofs.Common.{◌≡◌, ℕ, ◌<◌, inl, inr, true, false, List, [], ◌∷◌, ◌++◌, length, refl, sym, ap}
-use Rattle.std.proofs.Common.{◌∙◌, subst, arith, codes, if◌then◌else◌, ◌⊎◌, Option, Some, None, bytes_eq}
-use Rattle.std.proofs.Common.{append-nil}
-use Rattle.lw_base.specs.Refusals.{NoneRead}
-use Rattle.lw_base.specs.Types.{Bytes, TokenList}
-use Rattle.lw_base.specs.declared.head.Arch.{Arch}
-use Rattle.lw_text.specs.Lists.{Chain}
-use Rattle.lw_text.specs.Sites.{SiteSyntax, IsSite, Value}
-use Rattle.lw_text.specs.Propositions.{Terminal, Open, Close, Negation, Conjunction, Disjunction, Atom}
-use Rattle.lw_text.specs.Conditions.{AtomSyntax, Always, Never, Holds, IsTerminal, Terminals, begins_word}
-use Rattle.lw_text.specs.inner.Pending.{begins_part}
+use Rattle.lw_text.proofs.Common.{◌≡◌, ℕ, ◌<◌, inl, inr, true, false, List, [], ◌∷◌, ◌++◌, length, refl, sym}
+use Rattle.lw_text.proofs.Common.{ap, ◌∙◌, subst, arith, codes, if◌then◌else◌, ◌⊎◌, Option, Some, None}
+use Rattle.lw_text.proofs.Common.{bytes_eq, append-nil, NoneRead, Bytes, TokenList, Arch, Chain, SiteSyntax}
+use Rattle.lw_text.proofs.Common.{IsSite, Value, Terminal, Open, Close, Negation, Conjunction, Disjunction}
+use Rattle.lw_text.proofs.Common.{Atom, AtomSyntax, Always, Never, Holds, IsTerminal, Terminals, begins_word}
+use Rattle.lw_text.proofs.Common.{begins_part}
 use Rattle.lw_text.proofs.Atoms.{IsSite-unique, IsSite-shorter, Value-unique, Value-shorter, is_apart}
 use Rattle.lw_text.proofs.Atoms.{no_site}
 use Rattle.lw_text.proofs.Lists.{Chain-peel, IsOne}

@@ -1,14 +1,8 @@
 -- A text has one row of tokens, each at one place.
-use Rattle.std.proofs.Common.{◌≡◌, ℕ, ◌+◌, ◌<◌, false, List, [], ◌∷◌, ◌++◌, length, refl}
-use Rattle.std.proofs.Common.{sym, ap, ◌∙◌, subst, arith, length-append}
-use Rattle.lw_base.specs.Refusals.{NoSuch, NoneRead}
-use Rattle.lw_base.specs.Types.{Bytes, TokenList}
-use Rattle.lw_text.specs.declared.token.Token.{Token}
-use Rattle.lw_text.specs.Lists.{Chain}
-use Rattle.lw_text.specs.Tokens.{begins_trivia, Trivia, IsToken, First, Tokens}
-use Rattle.lw_text.specs.PlacedTokens.{PlacedToken, texts_of_tokens, PlacedTokens}
-use Rattle.lw_text.specs.Spans.{texts}
-use Rattle.lw_text.specs.Places.{placed_tokens}
+use Rattle.lw_text.proofs.Common.{◌≡◌, ℕ, ◌+◌, ◌<◌, false, List, [], ◌∷◌, ◌++◌, length, refl, sym, ap, ◌∙◌}
+use Rattle.lw_text.proofs.Common.{subst, arith, length-append, NoSuch, NoneRead, Bytes, TokenList, Token}
+use Rattle.lw_text.proofs.Common.{Chain, begins_trivia, Trivia, IsToken, First, Tokens, PlacedToken}
+use Rattle.lw_text.proofs.Common.{texts_of_tokens, PlacedTokens, texts, placed_tokens}
 use Rattle.lw_text.proofs.api.Places.{texts_placed}
 use Rattle.lw_text.proofs.TriviaLemmas.{Trivia-unique, Trivia-shorter}
 use Rattle.lw_text.proofs.Words.{token-unique, token_no_trivia, token_nonempty}

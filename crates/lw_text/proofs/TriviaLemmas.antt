@@ -1,12 +1,7 @@
 -- What stands behind blanks and comments.
-use Rattle.std.proofs.Common.{◌≡◌, ℕ, true, false, ◌||◌, [], ◌∷◌, ◌++◌, ◌≤◌, length, length-append, arith}
-use Rattle.std.proofs.Common.{refl, sym, ap, ◌∙◌, subst}
-use Rattle.std.specs.List.{AllByRecursion}
-use Rattle.lw_base.specs.Refusals.{NoSuch}
-use Rattle.lw_base.specs.Types.{Bytes}
-use Rattle.lw_base.specs.Characters.{is_blank, begins}
-use Rattle.lw_text.specs.Tokens.{begins_pair, begins_trivia, Comment, Trivia, none, blank, comment}
-use Rattle.lw_text.specs.Spans.{Leaves}
+use Rattle.lw_text.proofs.Common.{◌≡◌, ℕ, true, false, ◌||◌, [], ◌∷◌, ◌++◌, ◌≤◌, length, length-append, arith}
+use Rattle.lw_text.proofs.Common.{refl, sym, ap, ◌∙◌, subst, AllByRecursion, NoSuch, Bytes, is_blank, begins}
+use Rattle.lw_text.proofs.Common.{begins_pair, begins_trivia, Comment, Trivia, none, blank, comment, Leaves}
 use Rattle.lw_text.proofs.Comments.{Comment-unique, Comment-suffix}
 use Rattle.lw_text.proofs.Lists.{Leaves-join}
 
@@ -82,4 +77,3 @@ Skipped-open {bytes} {rest} {inner} s e never end stop g =
 
 pub Skipped-done : {bytes rest : Bytes} → Skipped bytes rest → Trivia bytes rest
 Skipped-done {bytes} {rest} s = s.given rest none
-

@@ -1,39 +1,23 @@
 -- The head of a text's frame is well-formed, and a body in memory has the head that its text says.
-use Rattle.std.proofs.Common.{◌≡◌, ℕ, ◌<◌, inl, inr, Bool, true, false, List, [], ◌∷◌, ◌++◌, length, map}
-use Rattle.std.proofs.Common.{refl, sym, ◌∙◌, subst, arith, fold, if◌then◌else◌, codes, ap, filter}
-use Rattle.std.specs.List.{AllByRecursion, range_with_len}
-use Rattle.std.proofs.lemmas.List.{length-map}
-use Rattle.std.proofs.lemmas.List.FromFn.{length-map-range_with_len}
-use Rattle.lw_base.specs.declared.head.Seen.{Seen}
-use Rattle.lw_base.specs.declared.head.Seen.TheVariants.{Location}
-use Rattle.lw_base.specs.Formula.{Formula}
-use Rattle.lw_base.specs.Propositions.{formula_of}
-use Rattle.lw_base.specs.WellFormed.{IsWordNumber, SpeaksOf, IsWellFormedHead}
-use Rattle.lw_base.specs.Names.{IsLocation, IsTestName}
-use Rattle.lw_base.specs.Tables.{contains_name, with_name, with_names}
-use Rattle.lw_base.proofs.api.GrowingTables.{once-along, index_of-within}
-use Rattle.lw_base.specs.declared.head.Arch.{Arch}
-use Rattle.lw_text.specs.Lists.{Ended}
-use Rattle.lw_text.specs.Sites.{with_sites, SiteSyntax, InMemory, InThread, IsSite, ThreadExists, site_names}
-use Rattle.lw_text.specs.Sites.{seen_in}
-use Rattle.lw_text.specs.Propositions.{Terminal, Close, Atom, Level, Derives, atom}
-use Rattle.lw_text.specs.Propositions.{negated, parens, part, and, conjunction, or, IsProposition}
-use Rattle.lw_text.specs.Conditions.{AtomSyntax, Holds, IsTerminal, Terminals, Listed, sites_in, resolved}
-use Rattle.lw_text.specs.Frames.{EntrySyntax, IsEntry, Block, word_of, table, TestSyntax, Parts, TestFrame}
-use Rattle.lw_text.specs.Frames.{HasFrame, head_of_syntax, sites_of}
-use Rattle.lw_base.specs.SeenLists.{same_seen, thread_registers, all_registers, locations}
-use Rattle.lw_text.specs.declared.parts.Body.{Body}
-use Rattle.lw_text.specs.inner.Resolved.{syntax_of, HasSyntax, resolved_head, IsIn}
-use Rattle.lw_base.proofs.api.Elements.{all_append, all_map, all_parts, all_filter, all_of_range, all_mapped}
-use Rattle.lw_base.proofs.api.Elements.{each_of}
-use Rattle.lw_base.proofs.api.SeenLists.{ascending_filter, all_seen, all_ascending}
+use Rattle.lw_text.proofs.Common.{◌≡◌, ℕ, ◌<◌, inl, inr, Bool, true, false, List, [], ◌∷◌, ◌++◌, length, map}
+use Rattle.lw_text.proofs.Common.{refl, sym, ◌∙◌, subst, arith, fold, if◌then◌else◌, codes, ap, filter}
+use Rattle.lw_text.proofs.Common.{AllByRecursion, range_with_len, length-map, length-map-range_with_len, Seen}
+use Rattle.lw_text.proofs.Common.{Location, Formula, formula_of, IsWordNumber, SpeaksOf, IsWellFormedHead}
+use Rattle.lw_text.proofs.Common.{IsLocation, IsTestName, contains_name, with_name, with_names, once-along}
+use Rattle.lw_text.proofs.Common.{index_of-within, Arch, Ended, with_sites, SiteSyntax, InMemory, InThread}
+use Rattle.lw_text.proofs.Common.{IsSite, ThreadExists, site_names, seen_in, Terminal, Close, Atom, Level}
+use Rattle.lw_text.proofs.Common.{Derives, atom, negated, parens, part, and, conjunction, or, IsProposition}
+use Rattle.lw_text.proofs.Common.{AtomSyntax, Holds, IsTerminal, Terminals, Listed, sites_in, resolved}
+use Rattle.lw_text.proofs.Common.{EntrySyntax, IsEntry, Block, word_of, table, TestSyntax, Parts, TestFrame}
+use Rattle.lw_text.proofs.Common.{HasFrame, head_of_syntax, sites_of, same_seen, thread_registers}
+use Rattle.lw_text.proofs.Common.{all_registers, locations, Body, syntax_of, HasSyntax, resolved_head, IsIn}
+use Rattle.lw_text.proofs.Common.{all_append, all_map, all_parts, all_filter, all_of_range, all_mapped}
+use Rattle.lw_text.proofs.Common.{each_of, ascending_filter, all_seen, all_ascending, fun_ext, Bytes}
+use Rattle.lw_text.proofs.Common.{TokenList, EachOnce}
 use Rattle.lw_text.proofs.api.ConditionTokens.{all_names, all_sites}
 use Rattle.lw_text.proofs.api.PropositionNodes.{proposition_nodes, resolved_single, resolved_count}
 use Rattle.lw_text.proofs.PropositionRows.{AllThere, all_now}
 use Rattle.lw_text.proofs.Whole.{header_some, table_parts}
-use Rattle.std.proofs.Math.Path.{fun_ext}
-use Rattle.lw_base.specs.Types.{Bytes, TokenList}
-use Rattle.lw_base.specs.Lists.{EachOnce}
 use Rattle.lw_text.proofs.NameTables.{words-named, listed-named}
 
 -- ---- names
@@ -140,11 +124,11 @@ head_well_formed arch ts name s p allowed parts whole =
     let c = parts.condition in
     let fit = terminals_fit arch s.threads c.behind_quant s.terminals c.says in
     let right = all_append IsRight (sites_of s.entries ++ s.listed) (sites_in s.terminals) (all_append IsRight
-        (sites_of s.entries) s.listed (block_right arch ts parts.behind_block s.entries parts.block)
-        (listed_right arch parts.behind_rows c.behind_list s.listed c.lists)) (all_sites (IsFit s.threads)
-        IsRight (λ s n h. h.0) s.terminals fit) in
+    (sites_of s.entries) s.listed (block_right arch ts parts.behind_block s.entries parts.block)
+    (listed_right arch parts.behind_rows c.behind_list s.listed c.lists)) (all_sites (IsFit s.threads)
+    IsRight (λ s n h. h.0) s.terminals fit) in
     let named = rw (← table_parts s) at (all_now (with_sites (with_sites [] (sites_of s.entries)) s.listed)
-        (site_names (sites_in s.terminals))) in
+    (site_names (sites_in s.terminals))) in
     let begins = first_word _ s.entries (block_words arch ts parts.behind_block s.entries parts.block) in
     record {
       name = allowed;
@@ -184,7 +168,7 @@ head_made arch name ts b says =
     let es_in = each_of s.entries (λ e. IsIn s.locs e.site) says.entries_in in
     let ss_in = each_of s.listed (IsIn s.locs) says.listed_in in
     let once : EachOnce s.locs = subst EachOnce (sym says.names) (once-along [] (site_names (map (λ e. e.site)
-        syntax.entries ++ syntax.listed ++ sites_in says.terminals)) tt) in
+    syntax.entries ++ syntax.listed ++ sites_in says.terminals)) tt) in
     let word = fun_ext (λ (x : Seen). sym (words-named s.locs s.entries x once es_in)) in
     let is_seen = fun_ext (λ (x : Seen). sym (listed-named s.locs s.listed x once ss_in)) in
     let regs = ap (λ f. map (λ t. map f (thread_registers t)) (range_with_len 0 s.threads)) word in

@@ -1,38 +1,18 @@
 -- A text's frame is that of its one heading and its one row of tokens.
-use Rattle.std.proofs.Common.{◌≡◌, ℕ, zero, suc, ◌≤◌, true, false, List, [], ◌∷◌, ◌++◌, length, map, refl}
-use Rattle.std.proofs.Common.{sym, ap, ◌∙◌, subst, arith, Option, Some, None, MatchOption, IfNone, codes, All}
-use Rattle.std.specs.List.{AllByRecursion, list_all}
-use Rattle.std.proofs.lemmas.List.{length-map}
-use Rattle.std.proofs.lemmas.List.Elements.{All-from_recursion}
-use Rattle.lw_base.specs.Refusals.{NoSuch, NoneRead}
-use Rattle.lw_base.specs.Types.{Bytes, NameTable, TokenList, CellGrid}
-use Rattle.lw_base.specs.declared.head.Arch.{Arch}
-use Rattle.lw_base.specs.declared.head.Quant.{Quant}
-use Rattle.lw_base.specs.declared.head.Quant.TheVariants.{Exists, NotExists, Forall}
-use Rattle.lw_base.proofs.api.Elements.{all_map, all_weaker}
+use Rattle.lw_text.proofs.Common.{◌≡◌, ℕ, zero, suc, ◌≤◌, true, false, List, [], ◌∷◌, ◌++◌, length, map, refl}
+use Rattle.lw_text.proofs.Common.{sym, ap, ◌∙◌, subst, arith, Option, Some, None, MatchOption, IfNone, codes}
+use Rattle.lw_text.proofs.Common.{All, AllByRecursion, list_all, length-map, All-from_recursion, NoSuch}
+use Rattle.lw_text.proofs.Common.{NoneRead, Bytes, NameTable, TokenList, CellGrid, Arch, Quant, Exists}
+use Rattle.lw_text.proofs.Common.{NotExists, Forall, all_map, all_weaker, with_names-longer, Cell, Cursor}
+use Rattle.lw_text.proofs.Common.{Token, Tokens, PlacedTokens, texts, Heading, Until, Header, Row, Rows}
+use Rattle.lw_text.proofs.Common.{begins_stop, with_sites, HasRoomFor, SiteSyntax, ThreadExists, site_names}
+use Rattle.lw_text.proofs.Common.{Terminal, IsProposition, AtomSyntax, Quantified, Condition, begins_word}
+use Rattle.lw_text.proofs.Common.{sites_in, resolved, EntrySyntax, sites_of, Block, TestSyntax, table, Parts}
+use Rattle.lw_text.proofs.Common.{IsNoTest, HasFrame, all_texts, placed_tokens, left, named, named_entry}
+use Rattle.lw_text.proofs.Common.{thread_exists, TakenList, NoProposition, NoCondition}
 use Rattle.lw_text.proofs.api.Spelling.{all_pass}
-use Rattle.lw_base.proofs.api.GrowingTables.{with_names-longer}
-use Rattle.lw_text.specs.declared.cell.Cell.{Cell}
-use Rattle.lw_text.specs.declared.cursor.Cursor.{Cursor}
 use Rattle.lw_text.specs.declared.site.Site.{Site as MadeSite}
 use Rattle.lw_text.specs.declared.block.Entry.{Entry as MadeEntry}
-use Rattle.lw_text.specs.declared.token.Token.{Token}
-use Rattle.lw_text.specs.Tokens.{Tokens}
-use Rattle.lw_text.specs.PlacedTokens.{PlacedTokens}
-use Rattle.lw_text.specs.Spans.{texts}
-use Rattle.lw_text.specs.Headings.{Heading}
-use Rattle.lw_text.specs.Lists.{Until}
-use Rattle.lw_text.specs.Rows.{Header, Row, Rows, begins_stop}
-use Rattle.lw_text.specs.Sites.{with_sites, HasRoomFor, SiteSyntax, ThreadExists, site_names}
-use Rattle.lw_text.specs.Propositions.{Terminal, IsProposition}
-use Rattle.lw_text.specs.Conditions.{AtomSyntax, Quantified, Condition, begins_word, sites_in}
-use Rattle.lw_text.specs.Conditions.{resolved}
-use Rattle.lw_text.specs.Frames.{EntrySyntax, sites_of, Block, TestSyntax, table, Parts, IsNoTest}
-use Rattle.lw_text.specs.Frames.{HasFrame}
-use Rattle.lw_text.specs.Places.{all_texts, placed_tokens}
-use Rattle.lw_text.specs.Views.{left}
-use Rattle.lw_text.specs.inner.Resolved.{named, named_entry, thread_exists}
-use Rattle.lw_text.specs.inner.Taken.{TakenList, NoProposition, NoCondition}
 use Rattle.lw_text.proofs.SiteLists.{Block-unique, Listed-unique}
 use Rattle.lw_text.proofs.Cells.{Rows-unique}
 use Rattle.lw_text.proofs.Headers.{Names-unique}
@@ -135,7 +115,7 @@ module _ (arch : Arch) (ts a : TokenList) (entries : List EntrySyntax) (block : 
     no_thread names made is none s p =
         let h = at_rows s p in
         let all = there_all n names made (subst (λ l. AllByRecursion (λ e. ThreadExists n e.site) l) (h.0
-            ∙ is) (subst (λ k. AllByRecursion (λ e. ThreadExists k e.site) s.entries) h.1 p.there)) in
+        ∙ is) (subst (λ k. AllByRecursion (λ e. ThreadExists k e.site) s.entries) h.1 p.there)) in
         cc
 
     pub no_rows : NoneRead (Rows n b) → NoSuch (Parts arch ts)
@@ -155,7 +135,7 @@ module _ (arch : Arch) (ts a : TokenList) (entries : List EntrySyntax) (block : 
           let h = at_condition s p in
           let names = ap (λ es. with_sites [] (sites_of es)) h.0 ∙ sym is_first in
           let all : table s ≡ with_sites (with_sites first s.listed) (sites_in s.terminals) = table_parts s
-              ∙ ap (λ ns. with_sites (with_sites ns s.listed) (sites_in s.terminals)) names in
+          ∙ ap (λ ns. with_sites (with_sites ns s.listed) (sites_in s.terminals)) names in
           never s.listed s.quant s.terminals f h.3 (record {
             room = omega (arith, p.few_names, ap length all);
             few = p.few_nodes;
@@ -167,11 +147,18 @@ Parts-unique arch ts s t p q =
     let h = at_condition arch ts _ t.entries q.block t.threads _ q.header t.rows _ q.rows _ refl s p in
     let u = Listed-unique arch q.behind_rows s.listed t.listed h.3.behind_list q.condition.behind_list h.3.lists q.condition.lists in
     let v = Quantified-unique q.condition.behind_list s.quant t.quant h.3.behind_quant
-        q.condition.behind_quant (rw u.1 at h.3.quantifies) q.condition.quantifies in
+    q.condition.behind_quant (rw u.1 at h.3.quantifies) q.condition.quantifies in
     let w = Terminals-unique arch t.threads s.terminals t.terminals _ (rw v.1 at h.3.says) q.condition.says in
     let made = λ (es : List EntrySyntax) (n : ℕ) (rows : CellGrid) (ls : List SiteSyntax) (quant : Quant)
-        (ss : List (Terminal AtomSyntax)). (let x : TestSyntax = record { entries = es; threads = n; rows
-        = rows; listed = ls; quant = quant; terminals = ss } in x) in
+    (ss : List (Terminal AtomSyntax)). (let x : TestSyntax = record {
+      entries = es;
+      threads = n;
+      rows
+          = rows;
+      listed = ls;
+      quant = quant;
+      terminals = ss;
+    } in x) in
     let same : made s.entries s.threads s.rows s.listed s.quant s.terminals ≡ made t.entries t.threads t.rows t.listed t.quant t.terminals =
     cc (h.0, h.1, h.2, u.0, v.0, w) in
     same

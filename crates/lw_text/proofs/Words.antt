@@ -1,17 +1,12 @@
 -- Words and symbols, and what stands behind them.
-use Rattle.std.proofs.Common.{◌≡◌, ℕ, ◌<◌, inl, inr, Bool, true, false, not, [], ◌∷◌, ◌++◌, length}
-use Rattle.std.proofs.Common.{take, drop, refl, sym, ap, ◌∙◌, subst, arith, ◌==◌, nat_lt, slice_index_or}
-use Rattle.std.proofs.Common.{Option, Some, None, MatchOption, is_some, bytes_eq, ltb-true, eqb-true}
-use Rattle.std.specs.List.{AllByRecursion, list_all}
-use Rattle.std.proofs.lemmas.Slice.Eq.{bytes_eq-Decides}
-use Rattle.std.proofs.lemmas.Bool.{not-true, false_from_ne_true}
-use Rattle.lw_base.specs.Types.{Bytes}
-use Rattle.lw_base.specs.Characters.{is_blank, is_word_byte, begins}
-use Rattle.lw_base.specs.Names.{IsName}
-use Rattle.lw_base.proofs.api.Blanks.{any_all, same_byte, blank_all, all_ascii}
+use Rattle.lw_text.proofs.Common.{◌≡◌, ℕ, ◌<◌, inl, inr, Bool, true, false, not, [], ◌∷◌, ◌++◌, length, take}
+use Rattle.lw_text.proofs.Common.{drop, refl, sym, ap, ◌∙◌, subst, arith, ◌==◌, nat_lt, slice_index_or}
+use Rattle.lw_text.proofs.Common.{Option, Some, None, MatchOption, is_some, bytes_eq, ltb-true, eqb-true}
+use Rattle.lw_text.proofs.Common.{AllByRecursion, list_all, bytes_eq-Decides, not-true, false_from_ne_true}
+use Rattle.lw_text.proofs.Common.{Bytes, is_blank, is_word_byte, begins, IsName, any_all, same_byte}
+use Rattle.lw_text.proofs.Common.{blank_all, all_ascii, begins_trivia, begins_pair, is_single, is_pair, pairs}
+use Rattle.lw_text.proofs.Common.{singles, IsNumber, IsKind, IsWord, IsSymbol, IsToken}
 use Rattle.lw_text.proofs.api.Spelling.{all_pass}
-use Rattle.lw_text.specs.Tokens.{begins_trivia, begins_pair, is_single, is_pair, pairs, singles, IsNumber}
-use Rattle.lw_text.specs.Tokens.{IsKind, IsWord, IsSymbol, IsToken}
 
 -- ---- rows of bytes
 

@@ -1,20 +1,11 @@
 -- What an act and an event leave: a refused one changes nothing, and over a memory that keeps the laws each keeps the
 -- sizes.
-use Rattle.std.proofs.Common.{◌≡◌, ℕ, Bool, true, false, List, length, Ok, Err, Option, Some, None, refl, sym}
-use Rattle.std.proofs.Common.{ap, ◌∙◌, subst, slice_get, slice_set, length-set, OnErr}
-use Rattle.lw_base.specs.declared.event.Event.{Event}
-use Rattle.lw_base.specs.declared.stop.Stop.{Stop}
-use Rattle.lw_memory.specs.declared.system.Request.{Request}
+use Rattle.lw_tso.proofs.Common.{◌≡◌, ℕ, Bool, true, false, List, length, Ok, Err, Option, Some, None, refl}
+use Rattle.lw_tso.proofs.Common.{sym, ap, ◌∙◌, subst, slice_get, slice_set, length-set, OnErr, Event, Stop}
+use Rattle.lw_tso.proofs.Common.{Request, content_after, Memory, Lawful, Served, Invariant, set_own, Instr}
+use Rattle.lw_tso.proofs.Common.{Processor, Act, Refused, Goes, Loads, Stores, Swaps, Adds, Evicts, cpu_of}
+use Rattle.lw_tso.proofs.Common.{MachineState, Answer, ActDone, EvictionDone, DoneBy, EventDone, Running}
 use Rattle.lw_memory.specs.declared.system.Request.TheVariants.{Store, Swap, FetchAdd}
-use Rattle.lw_memory.specs.Content.{content_after}
-use Rattle.lw_memory.specs.Memory.{Memory}
-use Rattle.lw_memory.specs.MemoryLaws.{Lawful, Served, Invariant}
-use Rattle.lw_base.proofs.api.Lists.{set_own}
-use Rattle.lw_litmus.specs.declared.instr.Instr.{Instr}
-use Rattle.lw_tso.specs.Processors.{Processor}
-use Rattle.lw_tso.specs.Acts.{Act, Refused, Goes, Loads, Stores, Swaps, Adds, Evicts, cpu_of}
-use Rattle.lw_tso.specs.Machines.{MachineState, Answer, ActDone, EvictionDone, DoneBy, EventDone}
-use Rattle.lw_tso.specs.Runs.{Running}
 
 length-content_after : (words : List ℕ) (r : Request) → length (content_after words r) ≡ length words
 length-content_after words (Store t x w) = length-set words x _
@@ -114,6 +105,9 @@ module _ {M : Type 0} (mem : Memory M) (inv : Invariant M) where
       go (Ok u) done = tt
       go (Err stop) done =
           let running : (let r : Running M = record { program = after.program; initial = after.initial; state = after.state } in r) ≡ record
-          { program = before.program; initial = before.initial; state = before.state } = rw (program, initial,
-              (event_refused before.program e before.state after.state stop done)) refl in
+          { program = before.program; initial = before.initial; state = before.state } = rw (
+            program,
+            initial,
+            (event_refused before.program e before.state after.state stop done),
+          ) refl in
           running

@@ -1,16 +1,10 @@
 -- Acts over the flat memory that commute: those that do not conflict, and a step beside an entry that it may pass.
-use Rattle.std.proofs.Common.{◌≡◌, ◌≢◌, ℕ, ◌==◌, Bool, true, false, if◌then◌else◌, List, ◌∷◌, Option, Some}
-use Rattle.std.proofs.Common.{None, refl, sym, ap, ◌∙◌, subst, slice_set, slice_index, ne_eqb, true≢false}
-use Rattle.std.proofs.Common.{get_or-set_other}
-use Rattle.std.specs.Option.{option_or}
-use Rattle.std.proofs.lemmas.List.{set_comm}
-use Rattle.std.proofs.lemmas.Option.{same_Some}
-use Rattle.lw_base.specs.Sums.{sum_of}
-use Rattle.lw_litmus.specs.declared.operation.Operation.{Operation}
-use Rattle.lw_litmus.specs.declared.operation.Operation.TheVariants.{Load, Swap, FetchAdd, Fence}
-use Rattle.lw_tso.specs.Processors.{Processor, newest}
-use Rattle.lw_tso.specs.Acts.{Act, Refused, Goes, Loads, Stores, Swaps, Adds, Evicts, operation_act, load_act}
-use Rattle.lw_tso.specs.Exchange.{accessed, event_writes, DoNotConflict, MayPass}
+use Rattle.lw_tso.proofs.Common.{◌≡◌, ◌≢◌, ℕ, Bool, true, false, if◌then◌else◌, List, ◌∷◌, Option, Some, None}
+use Rattle.lw_tso.proofs.Common.{refl, sym, ap, ◌∙◌, subst, slice_set, slice_index, ne_eqb, true≢false}
+use Rattle.lw_tso.proofs.Common.{get_or-set_other, option_or, set_comm, same_Some, sum_of, Operation, Load}
+use Rattle.lw_tso.proofs.Common.{Swap, FetchAdd, Fence, Processor, newest, Act, Refused, Goes, Loads, Stores}
+use Rattle.lw_tso.proofs.Common.{Swaps, Adds, Evicts, operation_act, load_act, accessed, event_writes}
+use Rattle.lw_tso.proofs.Common.{DoNotConflict, MayPass}
 use Rattle.lw_tso.proofs.api.Effects.{Does}
 
 -- ---- two acts

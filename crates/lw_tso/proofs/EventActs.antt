@@ -1,18 +1,9 @@
 -- What an event asks of the memory, and what it makes of its processor, over any memory.
-use Rattle.std.proofs.Common.{◌≡◌, ℕ, Bool, true, false, nat_lt, if◌then◌else◌, List, [], ◌∷◌, Option, Some}
-use Rattle.std.proofs.Common.{None, refl, inl, inr, ◌⊎◌, ⊎_elim, slice_get}
-use Rattle.lw_base.specs.Threads.{code_of}
-use Rattle.lw_base.specs.declared.event.Event.{Event}
-use Rattle.lw_base.specs.declared.event.Event.TheVariants.{Step, Drain, Evict}
-use Rattle.lw_base.specs.declared.stop.Stop.TheVariants.{NoLocation}
-use Rattle.lw_memory.specs.Memory.{Memory, is_held}
-use Rattle.lw_litmus.specs.declared.instr.Instr.{Instr}
-use Rattle.lw_litmus.specs.Operations.{location_of}
-use Rattle.lw_litmus.specs.Programs.{x86_operation}
-use Rattle.lw_tso.specs.Processors.{Processor}
-use Rattle.lw_tso.specs.Acts.{Act, Evicts, Refused, cpu_of, event_act, step_act, drain_act}
-use Rattle.lw_tso.specs.Evictions.{without_evictions}
-use Rattle.lw_tso.specs.Machines.{Answer, ActDone, EvictionDone}
+use Rattle.lw_tso.proofs.Common.{◌≡◌, ℕ, Bool, true, false, nat_lt, if◌then◌else◌, List, [], ◌∷◌, Option}
+use Rattle.lw_tso.proofs.Common.{Some, None, refl, inl, inr, ◌⊎◌, ⊎_elim, slice_get, code_of, Event, Step}
+use Rattle.lw_tso.proofs.Common.{Drain, Evict, NoLocation, Memory, is_held, Instr, location_of, x86_operation}
+use Rattle.lw_tso.proofs.Common.{Processor, Act, Evicts, Refused, cpu_of, event_act, step_act, drain_act}
+use Rattle.lw_tso.proofs.Common.{without_evictions, Answer, ActDone, EvictionDone}
 use Rattle.lw_tso.proofs.api.Operations.{Comes, comes_made, Went, operation_comes}
 
 -- it is no eviction
@@ -39,7 +30,7 @@ module _ (program : List (List Instr)) (locs : ℕ) where
   step_comes t p None at = tt
   step_comes t p (Some i) at =
       operation_comes (Unit {0}) (λ x written. AsksFor (code_of program t) p x) (Becomes (code_of program t)
-          p) (x86_operation i) p (λ waits full. tt) (λ x is. inl (i, at, is)) (λ q went. Steps i at went)
+      p) (x86_operation i) p (λ waits full. tt) (λ x is. inl (i, at, is)) (λ q went. Steps i at went)
 
   drain_comes : (t : ℕ) (p : Processor) (buffer : List (ℕ × ℕ)) → p.buffer ≡ buffer → EventComes (Drain t) p (drain_act buffer p)
   drain_comes t p [] is = tt
@@ -64,7 +55,7 @@ module _ (program : List (List Instr)) (locs : ℕ) where
     made e none done =
         let code = code_of program (cpu_of e) in
         ⊎_elim (λ refused. Stays refused.2) (λ becomes. becomes) (comes_made (Unit {0}) (λ x w. AsksFor code p
-            x) (Becomes code p) mem (cpu_of e) _ p q m n answer (event_comes e p none) done)
+        x) (Becomes code p) mem (cpu_of e) _ p q m n answer (event_comes e p none) done)
 
     pub event_becomes : (e : Event) → ActDone mem (cpu_of e) (event_act program locs e p) p m answer q n → Becomes (code_of program (cpu_of e)) p q
     event_becomes (Step t) done = made (Step t) refl done

@@ -1,33 +1,16 @@
 -- Events of a machine in memory, seen as events of the machine.
-use Rattle.std.proofs.Common.{◌≡◌, ℕ, [], ◌∷◌, get_or, ◌+◌, ◌<◌, ◌≤◌, ◌^◌, true, false, List, length, map, Ok}
-use Rattle.std.proofs.Common.{Err, Some, None, refl, sym, ap, ◌∙◌, subst, arith, slice_get, slice_set, ◌⊎◌}
-use Rattle.std.proofs.Common.{inl, inr, All, ◌&&◌, zip, option_map, length-set, lt-ltb, le-ltb}
-use Rattle.std.specs.List.{list_all}
-use Rattle.std.specs.Option.{ForSome}
-use Rattle.std.proofs.lemmas.Simd.{map-map}
-use Rattle.std.proofs.lemmas.List.{map-set, length-map, get_or_past}
-use Rattle.std.proofs.lemmas.Option.{slice_get-map, slice_get_within, slice_get_past, slice_get_read}
-use Rattle.std.proofs.lemmas.Bool.{cases_lt}
-use Rattle.lw_base.specs.Outcomes.{Final}
-use Rattle.lw_base.specs.declared.event.Event.{Event}
-use Rattle.lw_base.specs.declared.event.Event.TheVariants.{Step, Evict}
-use Rattle.lw_base.specs.declared.stop.Stop.TheVariants.{NoCpu, NoLocation, Ended, NotHeld}
-use Rattle.lw_memory.specs.Memory.{Memory, is_held}
-use Rattle.lw_memory.specs.MemoryLaws.{Lawful, Invariant}
-use Rattle.lw_base.proofs.api.Lists.{each_after, set_own}
-use Rattle.lw_litmus.specs.WellFormed.{IsThread}
-use Rattle.lw_litmus.specs.declared.instr.Instr.{Instr}
-use Rattle.lw_litmus.specs.declared.operation.Operation.{Operation}
-use Rattle.lw_litmus.specs.Operations.{location_of, is_store}
-use Rattle.lw_litmus.specs.Programs.{x86_operation, x86}
+use Rattle.lw_tso.proofs.Common.{◌≡◌, ℕ, [], ◌∷◌, get_or, ◌+◌, ◌<◌, ◌≤◌, ◌^◌, true, false, List, length, map}
+use Rattle.lw_tso.proofs.Common.{Ok, Err, Some, None, refl, sym, ap, ◌∙◌, subst, arith, slice_get, slice_set}
+use Rattle.lw_tso.proofs.Common.{◌⊎◌, inl, inr, All, ◌&&◌, zip, option_map, length-set, lt-ltb, le-ltb}
+use Rattle.lw_tso.proofs.Common.{list_all, ForSome, map-map, map-set, length-map, get_or_past, slice_get-map}
+use Rattle.lw_tso.proofs.Common.{slice_get_within, slice_get_past, slice_get_read, cases_lt, Final, Event}
+use Rattle.lw_tso.proofs.Common.{Step, Evict, NoCpu, NoLocation, Ended, NotHeld, Memory, is_held, Lawful}
+use Rattle.lw_tso.proofs.Common.{Invariant, each_after, set_own, IsThread, Instr, Operation, location_of}
+use Rattle.lw_tso.proofs.Common.{is_store, x86_operation, x86, Processor, code_of, cpu_of, operation_act}
+use Rattle.lw_tso.proofs.Common.{step_act, event_act, MachineState, Answer, buffer_of, ActDone, DoneBy}
+use Rattle.lw_tso.proofs.Common.{EventDone, Running, Initial, is_done, is_final, machine_outcome, stores_from}
+use Rattle.lw_tso.proofs.Common.{HasRoom, IsMachine, processor_of}
 use Rattle.lw_tso.specs.declared.processor.Processor.{Processor as ProcessorInMemory}
-use Rattle.lw_tso.specs.Processors.{Processor}
-use Rattle.lw_base.specs.Threads.{code_of}
-use Rattle.lw_tso.specs.Acts.{cpu_of, operation_act, step_act, event_act}
-use Rattle.lw_tso.specs.Machines.{MachineState, Answer, buffer_of, ActDone, DoneBy, EventDone}
-use Rattle.lw_tso.specs.Runs.{Running, Initial, is_done, is_final, machine_outcome}
-use Rattle.lw_tso.specs.inner.Rooms.{stores_from, HasRoom, IsMachine}
-use Rattle.lw_tso.specs.inner.Views.{processor_of}
 use Rattle.lw_tso.proofs.Acts.{act_kept}
 use Rattle.lw_tso.proofs.Rooms.{counted, statement_at, stores_here, event_room}
 use Rattle.lw_memory.specs.declared.system.Request.TheVariants as to
@@ -103,7 +86,7 @@ module _ {M A : Type 0} where
   outcome_is mem processors {m = m} regs words same listed content =
       let seen = sym (map-map (λ (p : Processor). p.regs) processor_of processors) in
       let outcome : (let o : Final = record { regs = regs; words = words } in o) ≡ machine_outcome mem
-          (state_of processors m) = rw (listed, content, seen) refl in
+      (state_of processors m) = rw (listed, content, seen) refl in
       outcome ∙ ap (λ (r : Running M). machine_outcome mem r.state) same
 
   -- whether all are done, by the processors in memory
@@ -126,8 +109,12 @@ module _ {M A : Type 0} (mem : Memory M) (program : List (List Instr)) where
       let end : MachineState M = state_of (slice_set processors (cpu_of e) q) n in
       let set = map-set processor_of processors (cpu_of e) q in
       subst (λ (r : Running M). EventDone mem r.program e r.state answer end) same
-          (subst (λ o. DoneBy mem o program e (state_of processors m) answer end) (sym there) (processor_of q,
-          n, done, ap (λ c. let s : MachineState M = record { processors = c; memory = n } in s) set))
+      (subst (λ o. DoneBy mem o program e (state_of processors m) answer end) (sym there) (
+        processor_of q,
+        n,
+        done,
+        ap (λ c. let s : MachineState M = record { processors = c; memory = n } in s) set,
+      ))
 
   -- the same where the processor stays as it is
   pub done_in_place : (e : Event) (run : Running M) (initial : Initial) (p : ProcessorInMemory A)
@@ -188,12 +175,12 @@ module _ {M A : Type 0} (mem : Memory M) (inv : Invariant M) (program : List (Li
         → IsMachine mem inv program locs n (slice_set processors (cpu_of e) q)
     machine_after laws e p q processors m n answer ok at done same =
         let kept = act_kept mem inv laws (cpu_of e) (event_act program (length (mem.content m)) e
-            (processor_of p)) (processor_of p) (processor_of q) m n answer ok.sound done in
+        (processor_of p)) (processor_of p) (processor_of q) m n answer ok.sound done in
         let longer = length-set processors (cpu_of e) q in
         let thread = thread_at processors m (cpu_of e) p ok at in
         let room : HasRoom locs (code_of program (cpu_of e)) (processor_of q) q.buffer.room =
         subst (HasRoom locs (code_of program (cpu_of e)) (processor_of q)) (sym same) (event_room mem _ locs
-            p.buffer.room e (processor_of p) (processor_of q) m n _ thread done (ok.rooms (cpu_of e) p at)) in
+        p.buffer.room e (processor_of p) (processor_of q) m n _ thread done (ok.rooms (cpu_of e) p at)) in
         record {
           sound = kept.sound;
           locations = kept.locations ∙ ok.locations;

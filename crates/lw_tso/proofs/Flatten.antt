@@ -1,21 +1,11 @@
 -- A run over a memory that keeps the laws is, evictions left out, a run over the flat one.
-use Rattle.std.proofs.Common.{◌≡◌, ℕ, Bool, true, false, if◌then◌else◌, List, [], ◌∷◌, length, Ok}
-use Rattle.std.proofs.Common.{Option, Some, None, refl, ap, ap₂, ◌∙◌, subst, slice_get, slice_set}
-use Rattle.lw_base.specs.Outcomes.{Final}
-use Rattle.lw_base.specs.declared.event.Event.{Event}
-use Rattle.lw_base.specs.declared.event.Event.TheVariants.{Step, Drain, Evict}
-use Rattle.lw_base.specs.declared.stop.Stop.TheVariants.{NoLocation}
-use Rattle.lw_memory.specs.Flat.{flat}
-use Rattle.lw_memory.specs.Memory.{Memory, is_held}
-use Rattle.lw_memory.specs.MemoryLaws.{Lawful, Invariant}
-use Rattle.lw_base.proofs.api.Lists.{set_own}
-use Rattle.lw_litmus.specs.declared.instr.Instr.{Instr}
-use Rattle.lw_litmus.specs.Tests.{ProgramTest}
-use Rattle.lw_tso.specs.Processors.{Processor}
-use Rattle.lw_tso.specs.Acts.{Act, Refused, Loads, Stores, Swaps, Adds, Evicts, cpu_of, event_act}
-use Rattle.lw_tso.specs.Machines.{MachineState, Answer, flatten, ActDone, EvictionDone, DoneBy, EventDone}
-use Rattle.lw_tso.specs.Runs.{MachineRan, Replays, machine_start}
-use Rattle.lw_tso.specs.Evictions.{without_evictions}
+use Rattle.lw_tso.proofs.Common.{◌≡◌, ℕ, Bool, true, false, if◌then◌else◌, List, [], ◌∷◌, length, Ok, Option}
+use Rattle.lw_tso.proofs.Common.{Some, None, refl, ap, ap₂, ◌∙◌, subst, slice_get, slice_set, Final, Event}
+use Rattle.lw_tso.proofs.Common.{Step, Drain, Evict, NoLocation, flat, Memory, is_held, Lawful, Invariant}
+use Rattle.lw_tso.proofs.Common.{set_own, Instr, ProgramTest, Processor, Act, Refused, Loads, Stores, Swaps}
+use Rattle.lw_tso.proofs.Common.{Adds, Evicts, cpu_of, event_act, MachineState, Answer, flatten, ActDone}
+use Rattle.lw_tso.proofs.Common.{EvictionDone, DoneBy, EventDone, MachineRan, Replays, machine_start}
+use Rattle.lw_tso.proofs.Common.{without_evictions}
 use Rattle.lw_tso.proofs.Acts.{event_kept}
 use Rattle.lw_tso.proofs.EventActs.{IsNoEviction, EventComes, event_comes}
 use Rattle.lw_memory.specs.declared.system.Request.TheVariants as to

@@ -1,9 +1,7 @@
 -- The newest word for a location, found from the newest entry on.
-use Rattle.std.proofs.Common.{◌≡◌, ℕ, suc, ◌-◌, ◌<◌, true, false, List, [], ◌∷◌, slice_get, drop, Option}
-use Rattle.std.proofs.Common.{Some, None, ◌==◌, if◌then◌else◌, ap, sym, ◌∙◌, subst, arith, drop-cons}
-use Rattle.std.specs.Option.{option_or}
-use Rattle.std.proofs.lemmas.Option.{slice_get_within, get_or_from_slice_get}
-use Rattle.lw_tso.specs.Processors.{newest}
+use Rattle.lw_tso.proofs.Common.{◌≡◌, ℕ, suc, ◌-◌, ◌<◌, true, false, List, ◌∷◌, slice_get, drop, Option, Some}
+use Rattle.lw_tso.proofs.Common.{None, ◌==◌, if◌then◌else◌, ap, sym, ◌∙◌, subst, arith, drop-cons, option_or}
+use Rattle.lw_tso.proofs.Common.{slice_get_within, get_or_from_slice_get, newest}
 
 -- what one entry has for a location
 abbrev word_for : ℕ → ℕ × ℕ → Option ℕ
@@ -19,7 +17,7 @@ newest_at : (x k : ℕ) (entries : List (ℕ × ℕ)) (entry : ℕ × ℕ) → s
     → newest (drop (suc k) entries) x ≡ None → newest (drop k entries) x ≡ word_for x entry
 newest_at x k entries entry at h =
     let parts = drop-cons entries k entry (slice_get_within entries k entry at)
-        ∙ ap (λ y. y ∷ drop (suc k) entries) (get_or_from_slice_get entries k entry entry at) in
+    ∙ ap (λ y. y ∷ drop (suc k) entries) (get_or_from_slice_get entries k entry entry at) in
     ap (λ es. newest es x) parts ∙ ap (λ q. option_or q (word_for x entry)) h
 
 -- the entry before the place p, where none from p on is for the location

@@ -1,11 +1,8 @@
 -- Lists whose items are put in the places of others, one after another.
-use Rattle.std.proofs.Common.{◌≡◌, ℕ, ◌+◌, ◌<◌, ◌≤◌, List, [], ◌∷◌, ◌++◌, length, map, set, take, get_or}
-use Rattle.std.proofs.Common.{Some, refl, sym, ap, ap₂, ◌∙◌, arith, slice_get, get_or-take, length-take}
-use Rattle.std.proofs.Common.{take_all}
-use Rattle.std.proofs.lemmas.List.{map-append, map-set, map_more, take_more, take_more_set}
-use Rattle.std.proofs.lemmas.List.FromFn.{get_or-range_with_len}
-use Rattle.std.specs.List.{range_with_len}
-use Rattle.lw_base.proofs.api.Lists.{set_own}
+use Rattle.lw_tso.proofs.Common.{◌≡◌, ℕ, ◌+◌, ◌<◌, ◌≤◌, List, [], ◌∷◌, ◌++◌, length, map, set, take, get_or}
+use Rattle.lw_tso.proofs.Common.{Some, refl, sym, ap, ap₂, ◌∙◌, arith, slice_get, get_or-take, length-take}
+use Rattle.lw_tso.proofs.Common.{take_all, map-append, map-set, map_more, take_more, take_more_set}
+use Rattle.lw_tso.proofs.Common.{get_or-range_with_len, range_with_len, set_own}
 
 -- one item more
 pub refilled : {X Y Z : Type 0} (f : X → Z) (g : Y → Z) (xs : List X) (ys : List Y) (i : ℕ) (x : X) (d : Y)
@@ -29,7 +26,7 @@ pub location_at : (n i l : ℕ) {all : List ℕ} → all ≡ range_with_len 0 8 
 location_at n i l {all = all} are within is =
     let inside = length-take n all in
     is ∙ get_or-take n all i l (omega (arith, within, inside)) ∙ ap (λ (xs : List ℕ). get_or xs i l) are
-        ∙ get_or-range_with_len 0 8 i l (omega (arith, within, inside, ap length are)) ∙ (omega arith)
+    ∙ get_or-range_with_len 0 8 i l (omega (arith, within, inside, ap length are)) ∙ (omega arith)
 
 -- one word more is that of the other list
 pub written_on : (xs ys : List ℕ) (i : ℕ) {j : ℕ} (w : ℕ) → j ≡ i → i < length xs → i < length ys

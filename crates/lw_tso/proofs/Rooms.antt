@@ -1,21 +1,10 @@
 -- A store buffer's room, through every event of its processor.
-use Rattle.std.proofs.Common.{◌≡◌, ℕ, zero, suc, ◌+◌, ◌<◌, ◌≤◌, true, cond, List, [], ◌∷◌, ◌++◌, length}
-use Rattle.std.proofs.Common.{length-append, get_or, Some, refl, sym, ap, ◌∙◌, subst, arith, slice_get}
-use Rattle.std.proofs.Common.{⊎_elim, All}
-use Rattle.std.proofs.lemmas.List.Elements.{All-append}
-use Rattle.std.proofs.lemmas.List.Sums.{sum_by-take-drop, sum_by-drop_more}
-use Rattle.std.proofs.lemmas.Option.{slice_get_within, get_or_from_slice_get}
-use Rattle.lw_base.specs.Threads.{code_of}
-use Rattle.lw_base.specs.declared.event.Event.{Event}
-use Rattle.lw_memory.specs.Memory.{Memory}
-use Rattle.lw_litmus.specs.WellFormed.{IsThread, IsStatement}
-use Rattle.lw_litmus.specs.declared.instr.Instr.{Instr}
-use Rattle.lw_litmus.specs.Operations.{Leads}
-use Rattle.lw_litmus.specs.Programs.{x86_operation, x86}
-use Rattle.lw_tso.specs.Processors.{Processor}
-use Rattle.lw_tso.specs.Acts.{cpu_of, event_act}
-use Rattle.lw_tso.specs.Machines.{Answer, ActDone}
-use Rattle.lw_tso.specs.inner.Rooms.{makes_entry, stores_from, HasRoom}
+use Rattle.lw_tso.proofs.Common.{◌≡◌, ℕ, zero, suc, ◌+◌, ◌<◌, ◌≤◌, true, cond, List, [], ◌∷◌, ◌++◌, length}
+use Rattle.lw_tso.proofs.Common.{length-append, get_or, Some, refl, sym, ap, ◌∙◌, subst, arith, slice_get}
+use Rattle.lw_tso.proofs.Common.{⊎_elim, All, All-append, sum_by-take-drop, sum_by-drop_more}
+use Rattle.lw_tso.proofs.Common.{slice_get_within, get_or_from_slice_get, code_of, Event, Memory, IsThread}
+use Rattle.lw_tso.proofs.Common.{IsStatement, Instr, Leads, x86_operation, x86, Processor, cpu_of, event_act}
+use Rattle.lw_tso.proofs.Common.{Answer, ActDone, makes_entry, stores_from, HasRoom}
 use Rattle.lw_tso.proofs.api.Operations.{Went}
 use Rattle.lw_tso.proofs.EventActs.{Becomes, Stays, Steps, Drains, event_becomes}
 
@@ -93,7 +82,7 @@ module _ (locs : ℕ) (code : List Instr) (room : ℕ) where
   went thread p q i at w has =
       let later = forward locs code thread p.position q.position i at w.leads in
       ⊎_elim (λ plain. further p q (omega arith) plain.1 has) (λ store. stored p q store.0 i at store.1 later
-          ((statement_at locs code thread p.position i at).0 store.0.0 store.2) store.3 has) w.buffers
+      ((statement_at locs code thread p.position i at).0 store.0.0 store.2) store.3 has) w.buffers
 
 -- an event leaves its processor's buffer with room
 pub event_room : {M : Type 0} (mem : Memory M) (program : List (List Instr)) (locs room : ℕ) (e : Event) (p q : Processor) (m n : M) (answer : Answer)

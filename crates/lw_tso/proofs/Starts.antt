@@ -1,20 +1,11 @@
 -- Processors at the start of a program, and a machine of them.
-use Rattle.std.proofs.Common.{◌≡◌, ℕ, suc, ◌+◌, ◌<◌, ◌≤◌, List, [], ◌∷◌, ◌++◌, length, map, take, get_or}
-use Rattle.std.proofs.Common.{Option, Some, None, refl, sym, ap, ◌∙◌, subst, arith, slice_get, inl, inr, ◌⊎◌}
-use Rattle.std.proofs.Common.{option_map, take-suc, length-take-le}
-use Rattle.std.proofs.lemmas.Bool.{cases_eq}
-use Rattle.std.proofs.lemmas.List.{map-append, length-map}
-use Rattle.std.proofs.lemmas.List.Elements.{All-nil}
-use Rattle.std.proofs.lemmas.Option.{slice_get-map, slice_get_within, same_Some}
-use Rattle.circular_buffer.proofs.Places.{slice_get-push, slice_get-last}
-use Rattle.lw_memory.specs.MemoryLaws.{Invariant}
-use Rattle.lw_memory.specs.Memory.{Memory}
-use Rattle.lw_litmus.specs.declared.instr.Instr.{Instr}
+use Rattle.lw_tso.proofs.Common.{◌≡◌, ℕ, suc, ◌+◌, ◌<◌, ◌≤◌, List, [], ◌∷◌, ◌++◌, length, map, take, get_or}
+use Rattle.lw_tso.proofs.Common.{Option, Some, None, refl, sym, ap, ◌∙◌, subst, arith, slice_get, inl, inr}
+use Rattle.lw_tso.proofs.Common.{◌⊎◌, option_map, take-suc, length-take-le, cases_eq, map-append, length-map}
+use Rattle.lw_tso.proofs.Common.{All-nil, slice_get-map, slice_get_within, same_Some, slice_get-push}
+use Rattle.lw_tso.proofs.Common.{slice_get-last, Invariant, Memory, Instr, starting, code_of, stores_from}
+use Rattle.lw_tso.proofs.Common.{HasRoom, IsMachine, processor_of}
 use Rattle.lw_tso.specs.declared.processor.Processor.{Processor as ProcessorInMemory}
-use Rattle.lw_tso.specs.Processors.{starting}
-use Rattle.lw_base.specs.Threads.{code_of}
-use Rattle.lw_tso.specs.inner.Rooms.{stores_from, HasRoom, IsMachine}
-use Rattle.lw_tso.specs.inner.Views.{processor_of}
 
 -- what holds at each place of a list, with one item more
 more_places : {X : Type 0} (P : ℕ → X → Type 0) (xs : List X) {ys : List X} (x : X) → ys ≡ xs ++ x ∷ []
@@ -46,7 +37,7 @@ module _ {A : Type 0} (program : List (List Instr)) (regs : List (List ℕ)) whe
       let more : take (suc n) regs ≡ take n regs ++ get_or regs n [] ∷ [] = take-suc regs n [] within in
       let last : suc n ≡ n + 1 = omega arith in
       let many : length processors ≡ n = sym (length-map processors processor_of) ∙ ap length so_far.start
-          ∙ length-map (take n regs) starting ∙ length-take-le n regs (omega (arith, within)) in
+      ∙ length-map (take n regs) starting ∙ length-take-le n regs (omega (arith, within)) in
       record {
         start = ap (map processor_of) is ∙ map-append processor_of processors (p ∷ []) ∙ rw (so_far.start, started, ← last, more)
             (sym (map-append starting (take n regs) (get_or regs n [] ∷ [])));
@@ -92,7 +83,7 @@ module _ {A : Type 0} (program : List (List Instr)) (regs : List (List ℕ)) whe
           as_many = as_many;
           rooms = λ t p at.
               let seen = sym (slice_get-map processor_of processors t ∙ ap (option_map processor_of) at)
-                  ∙ ap (λ ps. slice_get ps t) started ∙ slice_get-map starting regs t in
+              ∙ ap (λ ps. slice_get ps t) started ∙ slice_get-map starting regs t in
               let first = starts_with t p (slice_get regs t) seen in
               subst (λ q. HasRoom locs (code_of program t) q p.buffer.room) (sym first.1) (record { fits = omega (arith, roomy t p at); there = All-nil _ });
           whole = roomy;

@@ -1,12 +1,7 @@
 -- The entries of an initial block, one by one.
-use Rattle.std.proofs.Common.{◌≡◌, ℕ, List, [], ◌∷◌, map, refl, flat_map}
-use Rattle.std.specs.List.{range_with_len}
-use Rattle.std.proofs.lemmas.Grind.{flat_map-append}
-use Rattle.lw_base.specs.Types.{Bytes}
-use Rattle.lw_base.specs.Heads.{TestHead}
-use Rattle.lw_base.specs.declared.head.Seen.TheVariants.{Register, Location}
-use Rattle.lw_base.specs.SeenLists.{thread_registers, all_registers, locations}
-use Rattle.lw_x86.specs.CanonicalTexts.{entry_text, register_entry}
+use Rattle.lw_x86.proofs.Common.{◌≡◌, ℕ, List, [], ◌∷◌, map, refl, flat_map, range_with_len, flat_map-append}
+use Rattle.lw_x86.proofs.Common.{Bytes, TestHead, Register, Location, thread_registers, all_registers}
+use Rattle.lw_x86.proofs.Common.{locations, entry_text, register_entry}
 
 -- of a location, of a thread's register, and of all registers of a thread
 abbrev pub location_entry : TestHead → ℕ → Bytes

@@ -1,23 +1,12 @@
 -- The cells of a thread, one by one.
-use Rattle.std.proofs.Common.{◌≡◌, ℕ, zero, suc, ◌+◌, ◌<◌, ◌≤◌, ◌==◌, max, Bool, true, false, Option, Some, None}
-use Rattle.std.proofs.Common.{List, [], ◌∷◌, ◌++◌, length, map, take, get_or, refl}
-use Rattle.std.proofs.Common.{ap, ◌∙◌, arith, slice_get, slice_index_or}
-use Rattle.std.proofs.Common.{codes, nat_cmp, if◌then◌else◌, option_map}
-use Rattle.std.proofs.lemmas.Bool.Decides.{nat_tests}
-use Rattle.std.proofs.lemmas.Option.{slice_get-get_or, slice_get-map, slice_get_read}
-use Rattle.std.proofs.lemmas.List.{take_more, map-append, length-map}
-use Rattle.std.proofs.lemmas.List.Folds.{list_any_none}
-use Rattle.std.proofs.lemmas.List.Sums.{fold-append}
-use Rattle.std.specs.Option.{ForSome, option_map_or}
-use Rattle.std.specs.Ordering.{ord_max}
-use Rattle.lw_litmus.specs.WellFormed.{IsThread}
-use Rattle.lw_base.specs.Types.{Bytes, NameTable}
-use Rattle.lw_litmus.specs.declared.instr.Instr.{Instr}
-use Rattle.lw_litmus.specs.Operations.{target_of}
-use Rattle.lw_litmus.specs.Programs.{x86, x86_operation}
-use Rattle.lw_cells.proofs.api.Greater.{greater_is}
-use Rattle.lw_x86.specs.CanonicalTexts.{label, jumps_to, is_target, cell_text, end_cells, cells_from, cells_of}
-use Rattle.lw_x86.specs.CanonicalTexts.{row_text, row_of, longest}
+use Rattle.lw_x86.proofs.Common.{◌≡◌, ℕ, zero, suc, ◌+◌, ◌<◌, ◌≤◌, ◌==◌, max, Bool, true, false, Option, Some}
+use Rattle.lw_x86.proofs.Common.{None, List, [], ◌∷◌, ◌++◌, length, map, take, get_or, refl, ap, ◌∙◌, arith}
+use Rattle.lw_x86.proofs.Common.{slice_get, slice_index_or, codes, nat_cmp, if◌then◌else◌, option_map}
+use Rattle.lw_x86.proofs.Common.{nat_tests, slice_get-get_or, slice_get-map, slice_get_read, take_more}
+use Rattle.lw_x86.proofs.Common.{map-append, length-map, list_any_none, fold-append, ForSome, option_map_or}
+use Rattle.lw_x86.proofs.Common.{ord_max, IsThread, Bytes, NameTable, Instr, target_of, x86, x86_operation}
+use Rattle.lw_x86.proofs.Common.{greater_is, label, jumps_to, is_target, cell_text, end_cells, cells_from}
+use Rattle.lw_x86.proofs.Common.{cells_of, row_text, row_of, longest}
 
 -- what stands in a row of a thread, which may have an instruction there
 abbrev pub at_row : NameTable → List Instr → ℕ → Option Instr → Bytes

@@ -1,13 +1,8 @@
 -- The texts of operands make up an instruction's.
-use Rattle.std.proofs.Common.{◌≡◌, ℕ, refl, append_assoc, codes, slice_index_or, []}
-use Rattle.lw_base.specs.Types.{Bytes, NameTable}
-use Rattle.lw_base.specs.declared.head.Arch.TheVariants.{X86}
-use Rattle.lw_base.specs.declared.operand.Operand.{Operand}
-use Rattle.lw_base.specs.declared.operand.Operand.TheVariants.{Register, Number}
-use Rattle.lw_base.specs.Registers.{register_name}
-use Rattle.lw_litmus.specs.declared.instr.Instr.TheVariants.{Store, Set, Add, Cmp, Xchg, Xadd}
-use Rattle.lw_x86.specs.CanonicalTexts.{instruction_text}
-use Rattle.lw_x86.specs.inner.OperandTexts.{operand_text, memory_text, with_operands}
+use Rattle.lw_x86.proofs.Common.{◌≡◌, ℕ, refl, append_assoc, codes, slice_index_or, [], Bytes, NameTable, X86}
+use Rattle.lw_x86.proofs.Common.{Operand, Number, register_name, Store, Set, Add, Cmp, Xchg, Xadd}
+use Rattle.lw_x86.proofs.Common.{instruction_text, operand_text, memory_text, with_operands}
+use Rattle.lw_base.specs.declared.operand.Operand.TheVariants.{Register}
 
 module _ (names : NameTable) (x : ℕ) where
   abbrev name : Bytes

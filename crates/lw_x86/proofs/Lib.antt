@@ -1,3 +1,4 @@
+pub mod Common
 pub mod api
 pub mod X86Laws
 pub mod CellLists

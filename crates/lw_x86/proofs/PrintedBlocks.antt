@@ -1,28 +1,16 @@
 -- The initial block as it is printed: its text spells tokens, which say its entries.
-use Rattle.std.proofs.Common.{◌≡◌, ℕ, zero, suc, ◌+◌, ◌*◌, ◌<◌, ◌≤◌, ◌^◌, Bool, true, false, not, List, []}
-use Rattle.std.proofs.Common.{◌∷◌, ◌++◌, map, length, refl, arith, append_assoc}
-use Rattle.std.proofs.Common.{length-append, ◌==◌, codes, filter, slice_index, slice_index_or, flat_map}
-use Rattle.std.specs.List.{AllByRecursion}
-use Rattle.std.proofs.lemmas.Grind.{flat_map-append}
-use Rattle.lw_base.specs.Types.{TokenList}
-use Rattle.lw_base.specs.declared.head.Arch.TheVariants.{X86}
-use Rattle.lw_base.specs.declared.head.Seen.{Seen}
-use Rattle.lw_base.specs.declared.head.Seen.TheVariants.{Register, Location}
-use Rattle.lw_base.specs.Heads.{TestHead}
-use Rattle.lw_base.specs.WellFormed.{IsSeen, IsWellFormedHead, IsWordNumber}
-use Rattle.lw_text.specs.Sites.{ThreadExists}
-use Rattle.lw_text.specs.Frames.{EntrySyntax, IsEntry, Block}
-use Rattle.lw_base.specs.SeenLists.{thread_registers, all_registers, locations}
-use Rattle.lw_base.proofs.api.Elements.{all_append, all_filter, all_map, all_weaker, all_of_range}
-use Rattle.lw_base.proofs.api.Elements.{all_of_flat}
-use Rattle.lw_base.proofs.api.ListedAgain.{filter_shorter, seen_length, most_seen}
-use Rattle.lw_text.proofs.api.Spelling.{Anything, Spells, Spells-then, Spells-on, Spells-within}
-use Rattle.lw_text.proofs.api.Spelling.{Spells-nothing, Spells-space, Spells-newline, Spells-mark}
-use Rattle.lw_text.proofs.api.ConditionTokens.{named_site, site_tokens, value_tokens, IsPrintable}
-use Rattle.lw_text.proofs.api.ConditionTokens.{named_printable, site_said, value_said, site_exists}
-use Rattle.lw_text.proofs.api.ConditionTokens.{ended_said}
-use Rattle.lw_text.proofs.api.PrintedConditions.{assignment_spelled}
-use Rattle.lw_x86.specs.CanonicalTexts.{initial_word, entry_text, register_entry, block_text}
+use Rattle.lw_x86.proofs.Common.{◌≡◌, ℕ, zero, suc, ◌+◌, ◌*◌, ◌<◌, ◌≤◌, ◌^◌, Bool, true, false, not, List, []}
+use Rattle.lw_x86.proofs.Common.{◌∷◌, ◌++◌, map, length, refl, arith, append_assoc, length-append, ◌==◌}
+use Rattle.lw_x86.proofs.Common.{codes, filter, slice_index, slice_index_or, flat_map, AllByRecursion}
+use Rattle.lw_x86.proofs.Common.{flat_map-append, TokenList, X86, Seen, Register, Location, TestHead, IsSeen}
+use Rattle.lw_x86.proofs.Common.{IsWellFormedHead, IsWordNumber, ThreadExists, EntrySyntax, IsEntry, Block}
+use Rattle.lw_x86.proofs.Common.{thread_registers, all_registers, locations, all_append, all_filter, all_map}
+use Rattle.lw_x86.proofs.Common.{all_weaker, all_of_range, all_of_flat, filter_shorter, seen_length}
+use Rattle.lw_x86.proofs.Common.{most_seen, Anything, Spells, Spells-then, Spells-on, Spells-within}
+use Rattle.lw_x86.proofs.Common.{Spells-nothing, Spells-space, Spells-newline, Spells-mark, named_site}
+use Rattle.lw_x86.proofs.Common.{site_tokens, value_tokens, IsPrintable, named_printable, site_said}
+use Rattle.lw_x86.proofs.Common.{value_said, site_exists, ended_said, assignment_spelled, initial_word}
+use Rattle.lw_x86.proofs.Common.{entry_text, register_entry, block_text}
 
 -- ---- entries
 
@@ -73,8 +61,10 @@ module _ (head : TestHead) (well : IsWellFormedHead head) where
   pub entered_seen : AllByRecursion Sees (entered head)
   entered_seen =
       all_append Sees _ _ (all_filter Sees (has_entry head) _ (all_of_flat Sees thread_registers 0
-      head.threads (λ t le lt. all_of_range Sees (λ r. Register t r) 0 6 (λ r le2 lt2. (omega (arith, lt),
-      omega (arith, lt2)))))) (all_of_range Sees (λ x. Location x) 0 _ (λ x le lt. omega (arith, lt)))
+      head.threads (λ t le lt. all_of_range Sees (λ r. Register t r) 0 6 (λ r le2 lt2. (
+        omega (arith, lt),
+        omega (arith, lt2),
+      ))))) (all_of_range Sees (λ x. Location x) 0 _ (λ x le lt. omega (arith, lt)))
 
   -- ---- the text of the block
 
@@ -124,7 +114,7 @@ module _ (head : TestHead) (well : IsWellFormedHead head) where
   pub block_spelled : Spells Anything block_bytes (block_text head) (block_tokens head)
   block_spelled =
       rw (← block_is) (Spells-within block_bytes (omega (arith, entered_few)) (Spells-on (Spells-on (Spells-mark 123 refl
-        (λ c. refl) refl (omega arith)) Spells-newline)
+      (λ c. refl) refl (omega arith)) Spells-newline)
       (Spells-on (entries_spelled (entered head) entered_seen) (Spells-on (Spells-mark 125 refl (λ c. refl) refl (omega arith)) Spells-newline))))
 
   -- ---- what the block says

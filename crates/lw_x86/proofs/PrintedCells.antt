@@ -1,23 +1,13 @@
 -- A thread's cells as they are printed, by their rows: each text spells tokens, which say a label and an instruction.
-use Rattle.std.proofs.Common.{◌≡◌, ℕ, ◌<◌, ◌^◌, Bool, true, false, Option, Some, None, List, [], ◌∷◌, ◌++◌, length}
-use Rattle.std.proofs.Common.{refl, arith, if◌then◌else◌, codes, option_map, slice_get, slice_index_or, subst}
-use Rattle.std.specs.List.{AllByRecursion}
-use Rattle.std.proofs.lemmas.Option.{slice_get_within, get_or_from_slice_get}
-use Rattle.lw_base.specs.Types.{Bytes, NameTable, TokenList}
-use Rattle.lw_base.specs.Names.{IsLocation}
-use Rattle.lw_text.specs.Rows.{begins_stop}
-use Rattle.lw_base.proofs.api.Elements.{all_append}
-use Rattle.lw_text.proofs.api.Spelling.{Anything, IsBlankNext, Spells, Spells-then, Spells-on, Spells-before}
-use Rattle.lw_text.proofs.api.Spelling.{Spells-within, Spells-nothing, Spells-space, blank_ends_word}
-use Rattle.lw_text.proofs.api.PrintedConditions.{Spells-colon, blank_no_equals}
-use Rattle.lw_cells.specs.Cells.{CellSyntax, MaybeStatement, Labels, CellSays}
-use Rattle.lw_litmus.specs.WellFormed.{IsStatement, IsThread}
-use Rattle.lw_litmus.specs.declared.instr.Instr.{Instr}
-use Rattle.lw_cells.specs.Spellings.{Said}
-use Rattle.lw_x86.specs.Spelling.{x86_spelling}
-use Rattle.lw_litmus.specs.Programs.{x86}
-use Rattle.lw_x86.specs.CanonicalTexts.{label, printed_as, is_target, cells_of}
-use Rattle.lw_x86.specs.Grammar.{x86_grammar}
+use Rattle.lw_x86.proofs.Common.{◌≡◌, ℕ, ◌<◌, ◌^◌, Bool, true, false, Option, Some, None, List, [], ◌∷◌, ◌++◌}
+use Rattle.lw_x86.proofs.Common.{length, refl, arith, if◌then◌else◌, codes, option_map, slice_get}
+use Rattle.lw_x86.proofs.Common.{slice_index_or, subst, AllByRecursion, slice_get_within}
+use Rattle.lw_x86.proofs.Common.{get_or_from_slice_get, Bytes, NameTable, TokenList, IsLocation, begins_stop}
+use Rattle.lw_x86.proofs.Common.{all_append, Anything, IsBlankNext, Spells, Spells-then, Spells-on}
+use Rattle.lw_x86.proofs.Common.{Spells-before, Spells-within, Spells-nothing, Spells-space, blank_ends_word}
+use Rattle.lw_x86.proofs.Common.{Spells-colon, blank_no_equals, CellSyntax, MaybeStatement, Labels, CellSays}
+use Rattle.lw_x86.proofs.Common.{IsStatement, IsThread, Instr, Said, x86_spelling, x86, label, printed_as}
+use Rattle.lw_x86.proofs.Common.{is_target, cells_of, x86_grammar}
 use Rattle.lw_x86.proofs.CellLists.{at_row, cell_at}
 use Rattle.lw_x86.proofs.PrintedSlots.{EndsNoCell, name_no_end}
 use Rattle.lw_x86.proofs.PrintedInstructions.{instruction_tokens, HasTarget, label_is_location, Spells-label}

@@ -1,26 +1,13 @@
 -- A thread's cells as they are printed say the thread's code again.
-use Rattle.std.proofs.Common.{◌≡◌, ℕ, zero, suc, ◌+◌, ◌<◌, ◌≤◌, ◌^◌, Option, Some, None, List, [], ◌∷◌}
-use Rattle.std.proofs.Common.{map, length, refl, sym, ap, ◌∙◌, subst, arith, true, inl, inr}
-use Rattle.std.proofs.Common.{slice_get, slice_index_or, Contains, filter_map, option_map}
-use Rattle.std.specs.List.{AllByRecursion, AllZip, cons_option, range_with_len}
-use Rattle.std.specs.Option.{ForSome}
-use Rattle.std.proofs.lemmas.Bool.{cases_lt}
-use Rattle.std.proofs.lemmas.List.{length-map}
-use Rattle.std.proofs.lemmas.Option.{slice_get-get_or}
-use Rattle.lw_base.specs.Types.{Bytes, NameTable}
-use Rattle.lw_base.specs.Lists.{EachOnce}
-use Rattle.lw_base.specs.Names.{IsTable}
-use Rattle.lw_base.proofs.api.Tables.{IsInTable, index_of-again}
-use Rattle.lw_cells.specs.Cells.{CellSyntax, CellSays, statements, labels_of, target_in, number_in, led_to}
-use Rattle.lw_cells.specs.Cells.{resolved_statement, code_in, names_in, LeadsForward, Column}
-use Rattle.lw_litmus.specs.WellFormed.{IsThread}
-use Rattle.lw_litmus.specs.declared.instr.Instr.{Instr}
-use Rattle.lw_cells.specs.Spellings.{Said}
-use Rattle.lw_x86.specs.Spelling.{x86_spelling}
-use Rattle.lw_litmus.specs.Operations.{target_of, location_of}
-use Rattle.lw_litmus.specs.Programs.{x86, x86_operation}
-use Rattle.lw_x86.specs.CanonicalTexts.{label, printed_as, is_target, end_cells, cells_of}
-use Rattle.lw_x86.specs.Grammar.{x86_grammar}
+use Rattle.lw_x86.proofs.Common.{◌≡◌, ℕ, zero, suc, ◌+◌, ◌<◌, ◌≤◌, ◌^◌, Option, Some, None, List, [], ◌∷◌}
+use Rattle.lw_x86.proofs.Common.{map, length, refl, sym, ap, ◌∙◌, subst, arith, true, inl, inr, slice_get}
+use Rattle.lw_x86.proofs.Common.{slice_index_or, Contains, filter_map, option_map, AllByRecursion, AllZip}
+use Rattle.lw_x86.proofs.Common.{cons_option, range_with_len, ForSome, cases_lt, length-map, slice_get-get_or}
+use Rattle.lw_x86.proofs.Common.{Bytes, NameTable, EachOnce, IsTable, IsInTable, index_of-again, CellSyntax}
+use Rattle.lw_x86.proofs.Common.{CellSays, statements, labels_of, target_in, number_in, led_to}
+use Rattle.lw_x86.proofs.Common.{resolved_statement, code_in, names_in, LeadsForward, Column, IsThread, Instr}
+use Rattle.lw_x86.proofs.Common.{Said, x86_spelling, target_of, location_of, x86, x86_operation, label}
+use Rattle.lw_x86.proofs.Common.{printed_as, is_target, end_cells, cells_of, x86_grammar}
 use Rattle.lw_x86.proofs.CellLists.{cells-length}
 use Rattle.lw_x86.proofs.PrintedInstructions.{printed}
 use Rattle.lw_x86.proofs.PrintedCells.{cell_tokens, cell_said, statement_at, target_small}

@@ -1,41 +1,23 @@
 -- The text of a test as it is printed is the text of a frame: the test's head, and its threads' cells.
-use Rattle.std.proofs.Common.{◌≡◌, ℕ, zero, suc, ◌+◌, ◌*◌, ◌<◌, ◌≤◌, inl, true, List, [], ◌∷◌, ◌++◌, map}
-use Rattle.std.proofs.Common.{length, refl, sym, ap, ◌∙◌, subst, arith, append_assoc, length-append, codes}
-use Rattle.std.proofs.Common.{flat_map, IsUtf8, IsAscii, slice_index_or}
-use Rattle.std.specs.List.{AllByRecursion, AllZip, range_with_len}
-use Rattle.std.specs.Char.{is_ascii_graphic}
-use Rattle.std.proofs.lemmas.Bool.Decides.{nat_tests}
-use Rattle.std.proofs.lemmas.List.{length-map}
-use Rattle.std.proofs.lemmas.List.FromFn.{length-map-range_with_len}
-use Rattle.std.proofs.lemmas.List.Elements.{recursion_from_All}
-use Rattle.std.proofs.lemmas.Str.{IsUtf8-append, IsUtf8-from_ascii}
-use Rattle.lw_base.specs.Types.{Bytes, NameTable, TokenList, Cells, CellGrid}
-use Rattle.lw_base.specs.declared.head.Arch.TheVariants.{X86}
-use Rattle.lw_base.specs.ConditionTexts.{condition_text}
-use Rattle.lw_base.specs.Names.{IsName}
-use Rattle.lw_text.specs.Tokens.{blank, none as no_trivia}
-use Rattle.lw_text.specs.Headings.{Heading, none as no_notes}
-use Rattle.lw_text.specs.Rows.{columns}
-use Rattle.lw_text.specs.Propositions.{HasFewNodes, IsProposition}
-use Rattle.lw_text.specs.Conditions.{sites_in, resolved}
-use Rattle.lw_text.specs.Frames.{TestSyntax, TestFrame, Parts, HasFrame, table}
-use Rattle.lw_text.specs.Frames.{head_of_syntax, made_of}
-use Rattle.lw_base.proofs.api.Elements.{all_append, all_map, all_weaker}
-use Rattle.lw_text.proofs.api.PropositionNodes.{proposition_nodes, resolved_single, resolved_count}
-use Rattle.lw_text.proofs.api.Spelling.{Anything, Spells, Spells-on, Spells-within, Spells-whole}
-use Rattle.lw_text.proofs.api.Spelling.{Spells-space, Spells-newline, Spells-name, name_by_test}
-use Rattle.lw_text.proofs.api.PrintedPropositions.{printed_proposition}
-use Rattle.lw_text.proofs.api.ConditionTokens.{IsPrintable, sites_printable, whole_fine, whole_again}
-use Rattle.lw_litmus.specs.WellFormed.{IsThread}
-use Rattle.lw_litmus.specs.declared.instr.Instr.{Instr}
-use Rattle.lw_litmus.specs.Programs.{x86}
-use Rattle.lw_litmus.specs.WellFormedTests.{IsWellFormedProgram}
-use Rattle.lw_litmus.specs.Tests.{ProgramTest}
-use Rattle.lw_x86.specs.CanonicalTexts.{cells_of, row_of, longest, rows_text, header_text, block_text, listed_text}
-use Rattle.lw_x86.specs.CanonicalTexts.{canonical_text}
+use Rattle.lw_x86.proofs.Common.{◌≡◌, ℕ, zero, suc, ◌+◌, ◌*◌, ◌<◌, ◌≤◌, inl, true, List, [], ◌∷◌, ◌++◌, map}
+use Rattle.lw_x86.proofs.Common.{length, refl, sym, ap, ◌∙◌, subst, arith, append_assoc, length-append, codes}
+use Rattle.lw_x86.proofs.Common.{flat_map, IsUtf8, IsAscii, slice_index_or, AllByRecursion, AllZip}
+use Rattle.lw_x86.proofs.Common.{range_with_len, is_ascii_graphic, nat_tests, length-map}
+use Rattle.lw_x86.proofs.Common.{length-map-range_with_len, recursion_from_All, IsUtf8-append}
+use Rattle.lw_x86.proofs.Common.{IsUtf8-from_ascii, Bytes, NameTable, TokenList, Cells, CellGrid, X86}
+use Rattle.lw_x86.proofs.Common.{condition_text, IsName, blank, Heading, columns, HasFewNodes, IsProposition}
+use Rattle.lw_x86.proofs.Common.{sites_in, resolved, TestSyntax, TestFrame, Parts, HasFrame, table}
+use Rattle.lw_x86.proofs.Common.{head_of_syntax, made_of, all_append, all_map, all_weaker, proposition_nodes}
+use Rattle.lw_x86.proofs.Common.{resolved_single, resolved_count, Anything, Spells, Spells-on, Spells-within}
+use Rattle.lw_x86.proofs.Common.{Spells-whole, Spells-space, Spells-newline, Spells-name, name_by_test}
+use Rattle.lw_x86.proofs.Common.{printed_proposition, IsPrintable, sites_printable, whole_fine, whole_again}
+use Rattle.lw_x86.proofs.Common.{IsThread, Instr, x86, IsWellFormedProgram, ProgramTest, cells_of, row_of}
+use Rattle.lw_x86.proofs.Common.{longest, rows_text, header_text, block_text, listed_text, canonical_text}
+use Rattle.lw_text.specs.Tokens.{none as no_trivia}
+use Rattle.lw_text.specs.Headings.{none as no_notes}
 use Rattle.lw_x86.proofs.PrintedCells.{IsPrintedCell, cell_tokens, cell_printed}
-use Rattle.lw_x86.proofs.PrintedRows.{row_tokens, header_tokens, row_bytes}
-use Rattle.lw_x86.proofs.PrintedRows.{header_spelled, header_said, rows_spelled, rows_plain, rows_said}
+use Rattle.lw_x86.proofs.PrintedRows.{row_tokens, header_tokens, row_bytes, header_spelled, header_said}
+use Rattle.lw_x86.proofs.PrintedRows.{rows_spelled, rows_plain, rows_said}
 use Rattle.lw_x86.proofs.PrintedGrids.{columns_are, longest_under, cells_few}
 use Rattle.lw_x86.proofs.PrintedBlocks.{entries_of, block_tokens, block_bytes, block_spelled, block_said}
 use Rattle.lw_x86.proofs.PrintedBlocks.{entries_exist}

@@ -1,17 +1,10 @@
 -- The columns of the rows of a test as it is printed, and the longest of its threads.
-use Rattle.std.proofs.Common.{◌≡◌, ℕ, zero, suc, ◌+◌, ◌≤◌, max, Bool, true, false, Some, List, []}
-use Rattle.std.proofs.Common.{◌∷◌, ◌++◌, map, length, refl, sym, ap, ◌∙◌, arith}
-use Rattle.std.proofs.Common.{fold, if◌then◌else◌, codes, slice_get, option_map}
-use Rattle.std.specs.List.{AllByRecursion, range_with_len}
-use Rattle.std.proofs.lemmas.List.{length-map}
-use Rattle.std.proofs.lemmas.List.FromFn.{fill_by_all}
-use Rattle.std.proofs.lemmas.Option.{slice_get-map, get_or_from_slice_get}
-use Rattle.lw_base.specs.Types.{Bytes, NameTable}
-use Rattle.lw_text.specs.Rows.{column, columns}
-use Rattle.lw_base.proofs.api.Elements.{all_map, all_unmap}
-use Rattle.lw_base.proofs.api.Lists.{get_some}
-use Rattle.lw_litmus.specs.declared.instr.Instr.{Instr}
-use Rattle.lw_x86.specs.CanonicalTexts.{label, cells_of, longest, is_target}
+use Rattle.lw_x86.proofs.Common.{◌≡◌, ℕ, zero, suc, ◌+◌, ◌≤◌, max, Bool, true, false, Some, List, [], ◌∷◌}
+use Rattle.lw_x86.proofs.Common.{◌++◌, map, length, refl, sym, ap, ◌∙◌, arith, fold, if◌then◌else◌, codes}
+use Rattle.lw_x86.proofs.Common.{slice_get, option_map, AllByRecursion, range_with_len, length-map}
+use Rattle.lw_x86.proofs.Common.{fill_by_all, slice_get-map, get_or_from_slice_get, Bytes, NameTable, column}
+use Rattle.lw_x86.proofs.Common.{columns, all_map, all_unmap, get_some, Instr, label, cells_of, longest}
+use Rattle.lw_x86.proofs.Common.{is_target}
 use Rattle.lw_x86.proofs.CellLists.{cells-length}
 
 -- ---- columns

@@ -1,27 +1,16 @@
 -- The head of a test as it is printed: what its text says is the head again.
-use Rattle.std.proofs.Common.{◌≡◌, ℕ, zero, suc, ◌+◌, ◌<◌, ◌||◌, ◌⊎◌, inl, inr, Bool, true, false, List, []}
-use Rattle.std.proofs.Common.{◌∷◌, ◌++◌, map, length, refl, sym, ap, ◌∙◌, arith, ◌==◌, if◌then◌else◌, filter}
-use Rattle.std.proofs.Common.{fold, slice_index_or, eqb-true}
-use Rattle.std.specs.List.{AllByRecursion, list_any, range_with_len}
-use Rattle.std.proofs.lemmas.Map.Views.{any-filter_same}
-use Rattle.std.proofs.lemmas.List.{map-append}
-use Rattle.std.proofs.lemmas.List.FromFn.{fill_by_all}
-use Rattle.std.proofs.lemmas.List.Elements.{All-from_recursion, All-get_or, filter_map-append, filter_agree}
-use Rattle.lw_base.specs.declared.head.Seen.{Seen}
-use Rattle.lw_base.specs.declared.head.Seen.TheVariants.{Register, Location}
-use Rattle.lw_base.specs.Heads.{TestHead}
-use Rattle.lw_base.specs.Tables.{with_names}
-use Rattle.lw_base.specs.WellFormed.{IsSeen, IsWellFormedHead}
-use Rattle.lw_base.proofs.api.Tables.{with_names-there, with_names-again}
-use Rattle.lw_base.proofs.api.GrowingTables.{with_names-append}
-use Rattle.lw_text.specs.Sites.{SiteSyntax, site_name, site_names, seen_in}
-use Rattle.lw_text.specs.Frames.{EntrySyntax, word_of, listed_in}
-use Rattle.lw_base.specs.SeenLists.{same_seen, thread_registers, all_registers, locations}
-use Rattle.lw_base.proofs.api.Elements.{all_filter, all_of_range, all_of_flat}
-use Rattle.lw_base.proofs.api.ListedAgain.{same_seen_is, has_seen, has_register, has_location, has_left}
-use Rattle.lw_base.proofs.api.ListedAgain.{has_right, listed_again}
-use Rattle.lw_text.proofs.api.ConditionTokens.{named_site, IsPrintable, sites_in_table, seen_again}
-use Rattle.lw_x86.specs.CanonicalTexts.{initial_word}
+use Rattle.lw_x86.proofs.Common.{◌≡◌, ℕ, zero, suc, ◌+◌, ◌<◌, ◌||◌, ◌⊎◌, inl, inr, Bool, true, false, List}
+use Rattle.lw_x86.proofs.Common.{[], ◌∷◌, ◌++◌, map, length, refl, sym, ap, ◌∙◌, arith, ◌==◌, if◌then◌else◌}
+use Rattle.lw_x86.proofs.Common.{filter, fold, slice_index_or, eqb-true, AllByRecursion, list_any}
+use Rattle.lw_x86.proofs.Common.{range_with_len, any-filter_same, map-append, fill_by_all, All-from_recursion}
+use Rattle.lw_x86.proofs.Common.{All-get_or, filter_map-append, filter_agree, Seen, Register, Location}
+use Rattle.lw_x86.proofs.Common.{TestHead, with_names, IsSeen, IsWellFormedHead, with_names-there}
+use Rattle.lw_x86.proofs.Common.{with_names-again, with_names-append, SiteSyntax, site_name, site_names}
+use Rattle.lw_x86.proofs.Common.{seen_in, EntrySyntax, word_of, listed_in, same_seen, thread_registers}
+use Rattle.lw_x86.proofs.Common.{all_registers, locations, all_filter, all_of_range, all_of_flat}
+use Rattle.lw_x86.proofs.Common.{same_seen_is, has_seen, has_register, has_location, has_left, has_right}
+use Rattle.lw_x86.proofs.Common.{listed_again, named_site, IsPrintable, sites_in_table, seen_again}
+use Rattle.lw_x86.proofs.Common.{initial_word}
 use Rattle.lw_x86.proofs.PrintedBlocks.{has_entry, entered, entry_of, entries_of, entered_seen}
 
 map_twice : {X Y Z : Type 0} (f : Y → Z) (g : X → Y) (xs : List X) → map f (map g xs) ≡ map (λ x. f (g x)) xs
@@ -128,7 +117,7 @@ module _ (head : TestHead) (well : IsWellFormedHead head) where
       sym (fill_by_all (λ t. map (word_of head.locs (entries_of head)) (thread_registers t)) head.init_regs head.threads [] well.regs
       (λ t lt. fill_by_all (λ r. word_of head.locs (entries_of head) (Register t r)) (slice_index_or head.init_regs t []) 6 0
       (All-get_or (λ row. length row ≡ 6) head.init_regs t [] (omega (arith, lt, well.regs))
-        (All-from_recursion (λ row. length row ≡ 6) head.init_regs well.six))
+      (All-from_recursion (λ row. length row ≡ 6) head.init_regs well.six))
       (λ r k. sym (register_again t r lt k))))
 
   pub words_again : map (word_of head.locs (entries_of head)) (locations (length head.locs)) ≡ head.init_words

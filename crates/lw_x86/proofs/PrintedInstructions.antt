@@ -1,26 +1,14 @@
 -- Instructions as they are printed: their texts spell tokens, which say them again.
-use Rattle.std.proofs.Common.{◌≡◌, ℕ, ◌<◌, ◌≤◌, ◌^◌, inl, true, false, [], ◌∷◌, length, refl, ap, arith}
-use Rattle.std.proofs.Common.{slice_index_or, Contains, option_map}
-use Rattle.std.specs.List.{AllByRecursion}
-use Rattle.std.specs.Option.{ForSome}
-use Rattle.std.proofs.lemmas.List.Elements.{recursion_from_All}
-use Rattle.lw_base.specs.Types.{NameTable, TokenList}
-use Rattle.lw_base.specs.declared.operand.Operand.TheVariants.{Register, Number}
-use Rattle.lw_base.specs.Names.{IsLocation}
-use Rattle.lw_base.specs.WellFormed.{IsRegisterNumber, IsWordNumber}
-use Rattle.lw_text.specs.Rows.{begins_stop}
-use Rattle.lw_text.proofs.api.Spelling.{EndsWord, Spells, Spells-within, Spells-word, decimal_is_word}
-use Rattle.lw_text.proofs.api.Spelling.{decimal_is_short}
-use Rattle.lw_text.proofs.api.PrintedConditions.{name_there}
-use Rattle.lw_litmus.specs.WellFormed.{IsStatement, registers_of, numbers_of}
-use Rattle.lw_litmus.specs.declared.instr.Instr.{Instr}
-use Rattle.lw_litmus.specs.declared.instr.Instr.TheVariants.{Store, Load, Set, Add, Cmp, Xchg, Xadd, Mfence}
-use Rattle.lw_litmus.specs.declared.instr.Instr.TheVariants.{Je, Jne, Jmp}
-use Rattle.lw_litmus.specs.Operations.{target_of, location_of}
-use Rattle.lw_litmus.specs.Programs.{x86, x86_operation}
-use Rattle.lw_cells.specs.Spellings.{Fills, Said, name_in, label_in}
-use Rattle.lw_x86.specs.Spelling.{x86_forms, x86_slots, instruction, x86_spelling}
-use Rattle.lw_x86.specs.CanonicalTexts.{label, printed_as, instruction_text}
+use Rattle.lw_x86.proofs.Common.{◌≡◌, ℕ, ◌<◌, ◌≤◌, ◌^◌, inl, true, false, [], ◌∷◌, length, refl, ap, arith}
+use Rattle.lw_x86.proofs.Common.{slice_index_or, Contains, option_map, AllByRecursion, ForSome}
+use Rattle.lw_x86.proofs.Common.{recursion_from_All, NameTable, TokenList, Number, IsLocation}
+use Rattle.lw_x86.proofs.Common.{IsRegisterNumber, IsWordNumber, begins_stop, EndsWord, Spells, Spells-within}
+use Rattle.lw_x86.proofs.Common.{Spells-word, decimal_is_word, decimal_is_short, name_there, IsStatement}
+use Rattle.lw_x86.proofs.Common.{registers_of, numbers_of, Instr, Store, Load, Set, Add, Cmp, Xchg, Xadd}
+use Rattle.lw_x86.proofs.Common.{Mfence, Je, Jne, Jmp, target_of, location_of, x86, x86_operation, Fills}
+use Rattle.lw_x86.proofs.Common.{Said, name_in, label_in, x86_forms, x86_slots, instruction, x86_spelling}
+use Rattle.lw_x86.proofs.Common.{label, printed_as, instruction_text}
+use Rattle.lw_base.specs.declared.operand.Operand.TheVariants.{Register}
 use Rattle.lw_x86.proofs.PrintedSlots.{EndsNoCell, ArePrintable, are_spaced, most_in, slots_tokens}
 use Rattle.lw_x86.proofs.PrintedSlots.{slots_spelled, slots_said, slots_no_end}
 

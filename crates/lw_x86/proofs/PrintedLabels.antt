@@ -1,26 +1,14 @@
 -- The labels of a thread as it is printed: each once, and each leads to its instruction.
-use Rattle.std.proofs.Common.{◌≡◌, ℕ, zero, suc, ◌+◌, ◌<◌, ◌≤◌, ◌^◌, inl, inr, Bool, true, false, Some, List}
-use Rattle.std.proofs.Common.{[], ◌∷◌, ◌++◌, map, drop, length, refl, sym, ap, ◌∙◌, arith, ◌==◌}
-use Rattle.std.proofs.Common.{slice_get, Contains, bytes_eq, decimal, eq-eqb, eqb-true, option_map}
-use Rattle.std.specs.List.{AllByRecursion, range_with_len, cons_option}
-use Rattle.std.proofs.lemmas.Bool.{cases_Bool, eqb-false, false_from_ne_true}
-use Rattle.std.proofs.lemmas.List.Folds.{list_any_at}
-use Rattle.std.proofs.lemmas.Option.{get_or_from_slice_get, slice_get_within}
-use Rattle.std.proofs.lemmas.Fmt.{decimal_injective}
-use Rattle.std.proofs.lemmas.Slice.Eq.{bytes_eq-Decides}
-use Rattle.std.proofs.lemmas.List.Elements.{All-contains, All-from_recursion, Contains-append_right}
-use Rattle.lw_base.specs.Types.{Bytes, NameTable}
-use Rattle.lw_base.specs.Lists.{EachOnce}
-use Rattle.lw_base.specs.Tables.{contains_name}
-use Rattle.lw_base.proofs.api.Elements.{all_append, all_weaker}
-use Rattle.lw_base.proofs.api.Lists.{drop_all, get_some}
-use Rattle.lw_cells.specs.Cells.{CellSyntax, statements, labels_of, target_in}
-use Rattle.lw_cells.specs.Spellings.{Said}
-use Rattle.lw_litmus.specs.declared.instr.Instr.{Instr}
-use Rattle.lw_litmus.specs.Operations.{target_of}
-use Rattle.lw_litmus.specs.Programs.{x86_operation}
-use Rattle.lw_x86.specs.Spelling.{x86_spelling}
-use Rattle.lw_x86.specs.CanonicalTexts.{label, printed_as, jumps_to, is_target}
+use Rattle.lw_x86.proofs.Common.{◌≡◌, ℕ, zero, suc, ◌+◌, ◌<◌, ◌≤◌, ◌^◌, inl, inr, Bool, true, false, Some}
+use Rattle.lw_x86.proofs.Common.{List, [], ◌∷◌, ◌++◌, map, drop, length, refl, sym, ap, ◌∙◌, arith, ◌==◌}
+use Rattle.lw_x86.proofs.Common.{slice_get, Contains, bytes_eq, decimal, eq-eqb, eqb-true, option_map}
+use Rattle.lw_x86.proofs.Common.{AllByRecursion, range_with_len, cons_option, cases_Bool, eqb-false}
+use Rattle.lw_x86.proofs.Common.{false_from_ne_true, list_any_at, get_or_from_slice_get, slice_get_within}
+use Rattle.lw_x86.proofs.Common.{decimal_injective, bytes_eq-Decides, All-contains, All-from_recursion}
+use Rattle.lw_x86.proofs.Common.{Contains-append_right, Bytes, NameTable, EachOnce, contains_name, all_append}
+use Rattle.lw_x86.proofs.Common.{all_weaker, drop_all, get_some, CellSyntax, statements, labels_of, target_in}
+use Rattle.lw_x86.proofs.Common.{Said, Instr, target_of, x86_operation, x86_spelling, label, printed_as}
+use Rattle.lw_x86.proofs.Common.{jumps_to, is_target}
 use Rattle.lw_x86.proofs.PrintedCells.{front_labels, cell_syntax}
 
 label_injective : (j k : ℕ) → j < 2 ^ 32 → k < 2 ^ 32 → label j ≡ label k → j ≡ k

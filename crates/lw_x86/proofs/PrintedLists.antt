@@ -1,31 +1,16 @@
 -- What is listed, and the condition, as they are printed: their texts spell tokens, which say them again.
-use Rattle.std.proofs.Common.{◌≡◌, ℕ, suc, ◌+◌, ◌*◌, inl, inr, true, false, List, [], ◌∷◌, ◌++◌, map, length}
-use Rattle.std.proofs.Common.{refl, arith, append_assoc, append-nil, codes, flat_map}
-use Rattle.std.specs.List.{AllByRecursion}
-use Rattle.lw_base.specs.Types.{NameTable, TokenList}
-use Rattle.lw_base.specs.declared.head.Arch.TheVariants.{X86}
-use Rattle.lw_base.specs.declared.head.Quant.{Quant}
-use Rattle.lw_base.specs.declared.head.Quant.TheVariants.{Exists}
-use Rattle.lw_base.specs.declared.head.Seen.{Seen}
-use Rattle.lw_base.specs.ConditionTexts.{condition_text}
-use Rattle.lw_base.specs.Heads.{TestHead}
-use Rattle.lw_base.specs.WellFormed.{IsSeen, IsWellFormedHead}
-use Rattle.lw_text.specs.Sites.{SiteSyntax, IsSite}
-use Rattle.lw_text.specs.Rows.{begins_stop}
-use Rattle.lw_text.specs.Conditions.{AtomSyntax, Listed, Condition, begins_word}
-use Rattle.lw_text.specs.Propositions.{Terminal}
-use Rattle.lw_base.proofs.api.Elements.{all_map, all_weaker}
-use Rattle.lw_base.proofs.api.ListedAgain.{listed_few, most_seen}
-use Rattle.lw_text.proofs.api.Spelling.{Anything, Spells, Spells-nothing, Spells-then, Spells-on}
-use Rattle.lw_text.proofs.api.Spelling.{Spells-within, Spells-space, Spells-newline, Spells-mark, Spells-name}
-use Rattle.lw_text.proofs.api.Spelling.{name_by_test}
-use Rattle.lw_text.proofs.api.PrintedPropositions.{enclosed, terminals_of}
-use Rattle.lw_text.proofs.api.ConditionTokens.{named_site, site_tokens, terminal_tokens, quantifier_tokens}
-use Rattle.lw_text.proofs.api.ConditionTokens.{named_claim, IsPrintable, site_said, site_exists}
-use Rattle.lw_text.proofs.api.ConditionTokens.{terminals_said, named_printable, whole_fine, quantifier_said}
-use Rattle.lw_text.proofs.api.ConditionTokens.{ended_said}
-use Rattle.lw_text.proofs.api.PrintedConditions.{site_spelled, whole_spelled, quantifier_spelled}
-use Rattle.lw_x86.specs.CanonicalTexts.{element_text, listed_text}
+use Rattle.lw_x86.proofs.Common.{◌≡◌, ℕ, suc, ◌+◌, ◌*◌, inl, inr, true, false, List, [], ◌∷◌, ◌++◌, map}
+use Rattle.lw_x86.proofs.Common.{length, refl, arith, append_assoc, append-nil, codes, flat_map}
+use Rattle.lw_x86.proofs.Common.{AllByRecursion, NameTable, TokenList, X86, Quant, Exists, Seen}
+use Rattle.lw_x86.proofs.Common.{condition_text, TestHead, IsSeen, IsWellFormedHead, SiteSyntax, IsSite}
+use Rattle.lw_x86.proofs.Common.{begins_stop, AtomSyntax, Listed, Condition, begins_word, Terminal, all_map}
+use Rattle.lw_x86.proofs.Common.{all_weaker, listed_few, most_seen, Anything, Spells, Spells-nothing}
+use Rattle.lw_x86.proofs.Common.{Spells-then, Spells-on, Spells-within, Spells-space, Spells-newline}
+use Rattle.lw_x86.proofs.Common.{Spells-mark, Spells-name, name_by_test, enclosed, terminals_of, named_site}
+use Rattle.lw_x86.proofs.Common.{site_tokens, terminal_tokens, quantifier_tokens, named_claim, IsPrintable}
+use Rattle.lw_x86.proofs.Common.{site_said, site_exists, terminals_said, named_printable, whole_fine}
+use Rattle.lw_x86.proofs.Common.{quantifier_said, ended_said, site_spelled, whole_spelled, quantifier_spelled}
+use Rattle.lw_x86.proofs.Common.{element_text, listed_text}
 
 -- ---- tokens
 

@@ -1,19 +1,12 @@
 -- Rows as they are printed: their texts spell tokens, which are cells between bars.
-use Rattle.std.proofs.Common.{◌≡◌, ℕ, zero, suc, ◌+◌, ◌*◌, ◌<◌, ◌≤◌, true, false, List, [], ◌∷◌, ◌++◌, map}
-use Rattle.std.proofs.Common.{length, refl, arith, append_assoc, codes}
-use Rattle.std.proofs.Common.{flat_map}
-use Rattle.std.specs.List.{AllByRecursion, AllZip, range_with_len}
-use Rattle.std.proofs.lemmas.Bool.{agree_below_at}
-use Rattle.std.proofs.lemmas.List.FromFn.{length-map-range_with_len}
-use Rattle.lw_base.specs.Types.{Bytes, TokenList, Cells, CellGrid}
-use Rattle.lw_base.specs.Characters.{begins, is_blank}
-use Rattle.lw_base.specs.Limits.{most_threads}
-use Rattle.lw_text.specs.Lists.{Until}
-use Rattle.lw_text.specs.Rows.{thread_name, Names, Header, RowCells, Row, begins_stop}
-use Rattle.lw_text.proofs.api.Spelling.{Anything, IsBlankNext, Spells, Spells-then, Spells-on, Spells-before}
-use Rattle.lw_text.proofs.api.Spelling.{Spells-within, Spells-nothing, Spells-space, Spells-newline}
-use Rattle.lw_text.proofs.api.Spelling.{Spells-mark, Spells-name, is_name_text, name_by_test, blank_ends_word}
-use Rattle.lw_x86.specs.CanonicalTexts.{row_text, header_text}
+use Rattle.lw_x86.proofs.Common.{◌≡◌, ℕ, zero, suc, ◌+◌, ◌*◌, ◌<◌, ◌≤◌, true, false, List, [], ◌∷◌, ◌++◌, map}
+use Rattle.lw_x86.proofs.Common.{length, refl, arith, append_assoc, codes, flat_map, AllByRecursion, AllZip}
+use Rattle.lw_x86.proofs.Common.{range_with_len, agree_below_at, length-map-range_with_len, Bytes, TokenList}
+use Rattle.lw_x86.proofs.Common.{Cells, CellGrid, begins, is_blank, most_threads, Until, thread_name, Names}
+use Rattle.lw_x86.proofs.Common.{Header, RowCells, Row, begins_stop, Anything, IsBlankNext, Spells}
+use Rattle.lw_x86.proofs.Common.{Spells-then, Spells-on, Spells-before, Spells-within, Spells-nothing}
+use Rattle.lw_x86.proofs.Common.{Spells-space, Spells-newline, Spells-mark, Spells-name, is_name_text}
+use Rattle.lw_x86.proofs.Common.{name_by_test, blank_ends_word, row_text, header_text}
 use Rattle.lw_x86.proofs.PrintedSlots.{EndsNoCell, name_no_end}
 use Rattle.lw_x86.proofs.PrintedCells.{IsPrintedCell}
 

@@ -1,27 +1,15 @@
 -- Slots as they are printed: their texts spell a token each, which gives again what stands there.
-use Rattle.std.proofs.Common.{◌≡◌, ℕ, ◌+◌, ◌<◌, ◌⊎◌, inl, inr, Bool, true, false, List, [], ◌∷◌, ◌++◌, length}
-use Rattle.std.proofs.Common.{refl, arith, append_assoc, ◌==◌, ◌&&◌, ◌||◌, decimal, eqb-true}
-use Rattle.std.specs.List.{AllByRecursion}
-use Rattle.std.proofs.lemmas.Bool.{cases_Bool, and_parts}
-use Rattle.std.proofs.lemmas.Fmt.{decimal_nonempty}
-use Rattle.lw_base.specs.Types.{Bytes, TokenList}
-use Rattle.lw_base.specs.declared.head.Arch.TheVariants.{X86}
-use Rattle.lw_base.specs.Characters.{is_word_byte}
-use Rattle.lw_base.specs.Names.{IsName, IsLocation}
-use Rattle.lw_base.specs.Registers.{register_name}
-use Rattle.lw_base.specs.WellFormed.{IsRegisterNumber, IsWordNumber}
-use Rattle.lw_text.specs.Rows.{ends_cell}
-use Rattle.lw_text.proofs.api.Spelling.{Anything, EndsWord, Spells, Spells-then, Spells-on, Spells-within, Spells-before}
-use Rattle.lw_text.proofs.api.Spelling.{Spells-nothing, Spells-space, Spells-mark, Spells-name, Spells-number}
-use Rattle.lw_text.proofs.api.Spelling.{name_by_test, decimal_is_number, decimal_is_word}
-use Rattle.lw_text.proofs.api.PrintedConditions.{Spells-register, register_is_name}
-use Rattle.lw_cells.specs.declared.slot.Slot.{Slot}
-use Rattle.lw_cells.specs.declared.slot.Slot.TheVariants.{Word, Register, Location, Value, Number, Label}
-use Rattle.lw_cells.specs.Spellings.{Given, Filling, Gives, Fills}
-use Rattle.lw_x86.specs.declared.language.X86Word.{X86Word}
-use Rattle.lw_x86.specs.declared.language.X86Word.TheVariants.{Open, Close, Comma, Dollar}
-use Rattle.lw_x86.specs.Spelling.{x86_text, x86_spelling}
-use Rattle.lw_x86.specs.CanonicalTexts.{slot_text, is_sign, slots_text}
+use Rattle.lw_x86.proofs.Common.{◌≡◌, ℕ, ◌+◌, ◌<◌, ◌⊎◌, inl, inr, Bool, true, false, List, [], ◌∷◌, ◌++◌}
+use Rattle.lw_x86.proofs.Common.{length, refl, arith, append_assoc, ◌==◌, ◌&&◌, ◌||◌, decimal, eqb-true}
+use Rattle.lw_x86.proofs.Common.{AllByRecursion, cases_Bool, and_parts, decimal_nonempty, Bytes, TokenList}
+use Rattle.lw_x86.proofs.Common.{X86, is_word_byte, IsName, IsLocation, register_name, IsRegisterNumber}
+use Rattle.lw_x86.proofs.Common.{IsWordNumber, ends_cell, Anything, EndsWord, Spells, Spells-then, Spells-on}
+use Rattle.lw_x86.proofs.Common.{Spells-within, Spells-before, Spells-nothing, Spells-space, Spells-mark}
+use Rattle.lw_x86.proofs.Common.{Spells-name, Spells-number, name_by_test, decimal_is_number, decimal_is_word}
+use Rattle.lw_x86.proofs.Common.{Spells-register, register_is_name, Slot, Word, Value, Label, Given, Filling}
+use Rattle.lw_x86.proofs.Common.{Gives, Fills, X86Word, Open, Close, Comma, Dollar, x86_text, x86_spelling}
+use Rattle.lw_x86.proofs.Common.{slot_text, is_sign, slots_text}
+use Rattle.lw_cells.specs.declared.slot.Slot.TheVariants.{Register, Location, Number}
 use Rattle.lw_base.specs.declared.operand.Operand.TheVariants as operand
 
 -- ---- no token ends a cell

@@ -1,22 +1,10 @@
 -- The frame of a test as it is printed says the test again.
-use Rattle.std.proofs.Common.{◌≡◌, ◌-◌, ◌≤◌, List, [], ◌∷◌, map, length, refl, sym, ap}
-use Rattle.std.proofs.Common.{arith, append-nil}
-use Rattle.std.specs.List.{AllByRecursion, AllZip, range_with_len}
-use Rattle.lw_base.specs.Types.{NameTable}
-use Rattle.lw_base.specs.Tables.{with_names}
-use Rattle.lw_base.proofs.api.Tables.{IsInTable, with_names-there}
-use Rattle.lw_base.proofs.api.Elements.{all_append, all_unmap}
-use Rattle.lw_cells.specs.Cells.{CellSyntax, Column, code_in, names_in, names_of, test_on}
-use Rattle.lw_litmus.specs.WellFormed.{IsThread}
-use Rattle.lw_litmus.specs.declared.instr.Instr.{Instr}
-use Rattle.lw_cells.specs.Spellings.{Said}
-use Rattle.lw_x86.specs.Spelling.{x86_spelling}
-use Rattle.lw_litmus.specs.Programs.{x86}
-use Rattle.lw_litmus.specs.WellFormedTests.{IsWellFormedProgram}
-use Rattle.lw_litmus.specs.Tests.{ProgramTest}
-use Rattle.lw_x86.specs.Grammar.{HasProgram, x86_grammar}
-use Rattle.lw_x86.specs.CanonicalTexts.{cells_of, canonical_text}
-use Rattle.lw_x86.specs.Texts.{IsTextOf}
+use Rattle.lw_x86.proofs.Common.{◌≡◌, ◌-◌, ◌≤◌, List, [], ◌∷◌, map, length, refl, sym, ap, arith, append-nil}
+use Rattle.lw_x86.proofs.Common.{AllByRecursion, AllZip, range_with_len, NameTable, with_names, IsInTable}
+use Rattle.lw_x86.proofs.Common.{with_names-there, all_append, all_unmap, CellSyntax, Column, code_in}
+use Rattle.lw_x86.proofs.Common.{names_in, names_of, test_on, IsThread, Instr, Said, x86_spelling, x86}
+use Rattle.lw_x86.proofs.Common.{IsWellFormedProgram, ProgramTest, HasProgram, x86_grammar, cells_of}
+use Rattle.lw_x86.proofs.Common.{canonical_text, IsTextOf}
 use Rattle.lw_x86.proofs.PrintedCells.{cell_tokens}
 use Rattle.lw_x86.proofs.PrintedLabels.{syntaxes_from}
 use Rattle.lw_x86.proofs.PrintedColumns.{thread_said}

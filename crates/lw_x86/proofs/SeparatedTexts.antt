@@ -1,14 +1,9 @@
 -- Parts of a line, each written behind what separates it from the one before.
-use Rattle.std.proofs.Common.{◌≡◌, ℕ, suc, ◌+◌, ◌≤◌, List, [], ◌∷◌, ◌++◌, length, length-take, take}
-use Rattle.std.proofs.Common.{arith, append_assoc, append-nil, Some, slice_get, take_all, ◌==◌, false, refl, Result, OnOk, is_ok, if◌then◌else◌}
-use Rattle.std.proofs.lemmas.Bool.Decides.{nat_tests}
-use Rattle.std.proofs.lemmas.Grind.{flat_map-append}
-use Rattle.std.proofs.lemmas.Option.{slice_get_within}
-use Rattle.lw_base.specs.Texts.{joined}
-use Rattle.lw_base.specs.Types.{Bytes}
-use Rattle.lw_base.proofs.api.Lists.{take_one}
-use Rattle.lw_base.proofs.api.Writing.{both_written, then_written, pushed}
-use Rattle.lw_x86.specs.inner.Separators.{separator}
+use Rattle.lw_x86.proofs.Common.{◌≡◌, ℕ, suc, ◌+◌, ◌≤◌, List, [], ◌∷◌, ◌++◌, length, length-take, take, arith}
+use Rattle.lw_x86.proofs.Common.{append_assoc, append-nil, Some, slice_get, take_all, ◌==◌, false, refl}
+use Rattle.lw_x86.proofs.Common.{Result, OnOk, is_ok, if◌then◌else◌, nat_tests, flat_map-append}
+use Rattle.lw_x86.proofs.Common.{slice_get_within, joined, Bytes, take_one, both_written, then_written}
+use Rattle.lw_x86.proofs.Common.{pushed, separator}
 
 joined_more : (between : Bytes) (parts : List Bytes) (part : Bytes)
     → joined between (parts ++ part ∷ []) ≡ joined between parts ++ (separator (length parts) between ++ part)

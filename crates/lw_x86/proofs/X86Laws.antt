@@ -1,15 +1,8 @@
 -- The spelling of x86 is one that the rule of cells can rest on.
-use Rattle.std.proofs.Common.{ℕ, refl, arith, rules}
-use Rattle.lw_base.specs.declared.operand.Operand.TheVariants.{Register, Number}
-use Rattle.lw_cells.specs.Grammars.{IsGrammar}
-use Rattle.lw_cells.specs.Spellings.{Filling}
-use Rattle.lw_cells.specs.Found.{IsMade, IsSpelling}
-use Rattle.lw_cells.proofs.api.Forms.{is_grammar}
-use Rattle.lw_x86.specs.declared.language.X86Form.{X86Form}
-use Rattle.lw_x86.specs.declared.language.X86Form.TheVariants.{Store, Set, Add, Compare}
-use Rattle.lw_x86.specs.Spelling.{x86_slots, x86_spelling}
-use Rattle.lw_x86.specs.Grammar.{x86_grammar}
-use Rattle.lw_x86.specs.inner.Operands.{made}
+use Rattle.lw_x86.proofs.Common.{ℕ, refl, arith, rules, Number, IsGrammar, Filling, IsMade, IsSpelling}
+use Rattle.lw_x86.proofs.Common.{is_grammar, X86Form, Compare, x86_slots, x86_spelling, x86_grammar, made}
+use Rattle.lw_base.specs.declared.operand.Operand.TheVariants.{Register}
+use Rattle.lw_x86.specs.declared.language.X86Form.TheVariants.{Store, Set, Add}
 
 making : (x to : ℕ) (form : X86Form) (f : Filling (x86_slots form)) → IsMade x86_spelling made x to form f
 making x to Store (_, (_, (y, (_, (_, (Register r, _)))))) = record { is = refl; located = refl; led = refl; given = λ p q. (p, q) }

@@ -1,11 +1,7 @@
 -- What holds of blanks, of the bytes of words, and of bytes that are found in a list.
-use Rattle.std.proofs.Common.{◌≡◌, ℕ, zero, suc, ◌<◌, ◌==◌, inl, inr, Bool, true, List, [], ◌∷◌, subst, arith}
-use Rattle.std.proofs.Common.{slice_index_or, eqb-true}
-use Rattle.std.specs.List.{list_any, list_all, AllByRecursion}
-use Rattle.std.proofs.lemmas.Bool.{or_cases, and_parts}
-use Rattle.std.proofs.lemmas.Bool.Decides.{nat_tests}
-use Rattle.lw_base.specs.Types.{Bytes}
-use Rattle.lw_base.specs.Characters.{is_blank, is_word_byte}
+use Rattle.lw_base.proofs.Common.{◌≡◌, ℕ, zero, suc, ◌<◌, ◌==◌, inl, inr, Bool, true, List, [], ◌∷◌, subst}
+use Rattle.lw_base.proofs.Common.{arith, slice_index_or, eqb-true, list_any, list_all, AllByRecursion}
+use Rattle.lw_base.proofs.Common.{or_cases, and_parts, nat_tests, Bytes, is_blank, is_word_byte}
 
 -- what holds of each of a list holds of one that is found there
 pub any_all : {X : Type 0} (same : X → X → Bool) → ((x y : X) → same x y ≡ true → x ≡ y) → (q : X → Bool) (xs : List X) (b : X) → list_all q xs ≡ true

@@ -1,7 +1,6 @@
 -- What holds of all elements, one by one.
-use Rattle.std.proofs.Common.{◌≡◌, ℕ, zero, suc, ◌+◌, ◌<◌, ◌≤◌, Bool, true, false, List, [], ◌∷◌, ◌++◌, map}
-use Rattle.std.proofs.Common.{refl, arith, All, filter, flat_map}
-use Rattle.std.specs.List.{AllByRecursion, range_with_len}
+use Rattle.lw_base.proofs.Common.{◌≡◌, ℕ, zero, suc, ◌+◌, ◌<◌, ◌≤◌, Bool, true, false, List, [], ◌∷◌, ◌++◌}
+use Rattle.lw_base.proofs.Common.{map, refl, arith, All, filter, flat_map, AllByRecursion, range_with_len}
 
 pub each_of : {X : Type 0} (xs : List X) (P : X → Type 0) → All P xs → AllByRecursion P xs
 each_of [] P all = tt

@@ -1,7 +1,5 @@
 -- What is there where a formula speaks of so many threads and locations only.
-use Rattle.std.proofs.Common.{ℕ}
-use Rattle.lw_base.specs.Formula.{Formula, Word_is, Not, And, Or}
-use Rattle.lw_base.specs.WellFormed.{SpeaksOf, HasLocations}
+use Rattle.lw_base.proofs.Common.{ℕ, Formula, Word_is, Not, And, Or, SpeaksOf, HasLocations}
 
 -- its locations
 pub has_locations : (threads locs : ℕ) (p : Formula) → SpeaksOf threads locs p → HasLocations locs p

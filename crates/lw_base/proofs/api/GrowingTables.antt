@@ -1,12 +1,8 @@
 -- Tables that grow: what is in one stays at its place.
-use Rattle.std.proofs.Common.{◌≡◌, ℕ, ◌<◌, ◌≤◌, ◌+◌, Bool, true, false, [], ◌∷◌, ◌++◌, length, refl, sym, ap}
-use Rattle.std.proofs.Common.{◌∙◌, length-append, arith, if◌then◌else◌, bytes_eq, append-nil}
-use Rattle.std.proofs.lemmas.Bool.{or_left, or_right}
-use Rattle.std.specs.Cmp.{unsigned_Decides}
-use Rattle.std.specs.Cmp.Lexicographic.{pointwise_decides}
-use Rattle.lw_base.specs.Types.{Bytes, NameTable}
-use Rattle.lw_base.specs.Lists.{EachOnce}
-use Rattle.lw_base.specs.Tables.{contains_name, with_name, with_names, index_of}
+use Rattle.lw_base.proofs.Common.{◌≡◌, ℕ, ◌<◌, ◌≤◌, ◌+◌, Bool, true, false, [], ◌∷◌, ◌++◌, length, refl, sym}
+use Rattle.lw_base.proofs.Common.{ap, ◌∙◌, length-append, arith, if◌then◌else◌, bytes_eq, append-nil, or_left}
+use Rattle.lw_base.proofs.Common.{or_right, unsigned_Decides, pointwise_decides, Bytes, NameTable, EachOnce}
+use Rattle.lw_base.proofs.Common.{contains_name, with_name, with_names, index_of}
 use Rattle.lw_base.proofs.api.Tables.{once_more, contains_name-Contains}
 
 with_name-case : (names : NameTable) (n : Bytes) (b : Bool) → contains_name names n ≡ b → with_name names n ≡ (if b then names else names ++ n ∷ [])

@@ -1,15 +1,11 @@
 -- A list of registers and locations in their order is what is left of all of them by asking which are in it.
-use Rattle.std.proofs.Common.{◌≡◌, ℕ, zero, suc, ◌+◌, ◌*◌, ◌<◌, ◌≤◌, ◌⊎◌, inl, inr, Bool, true, false, List}
-use Rattle.std.proofs.Common.{[], ◌∷◌, ◌++◌, map, length, refl, sym, ap, ◌∙◌, subst, arith, length-append}
-use Rattle.std.proofs.Common.{◌==◌, filter, flat_map, eqb-true, eq-eqb}
-use Rattle.std.specs.List.{AllByRecursion, list_any, range_with_len}
-use Rattle.std.proofs.lemmas.Bool.{cases_Bool, and_parts, or_cases, or_right, eqb-false}
-use Rattle.std.proofs.lemmas.List.FromFn.{length-map-range_with_len}
-use Rattle.lw_base.specs.declared.head.Seen.{Seen}
-use Rattle.lw_base.specs.declared.head.Seen.TheVariants.{Register, Location}
-use Rattle.lw_base.specs.Limits.{most_threads, most_locations, registers}
-use Rattle.lw_base.specs.WellFormed.{IsSeen, ComesBefore, Ascending}
-use Rattle.lw_base.specs.SeenLists.{same_seen, thread_registers, all_registers, locations}
+use Rattle.lw_base.proofs.Common.{◌≡◌, ℕ, zero, suc, ◌+◌, ◌*◌, ◌<◌, ◌≤◌, ◌⊎◌, inl, inr, Bool, true, false}
+use Rattle.lw_base.proofs.Common.{List, [], ◌∷◌, ◌++◌, map, length, refl, sym, ap, ◌∙◌, subst, arith}
+use Rattle.lw_base.proofs.Common.{length-append, ◌==◌, filter, flat_map, eqb-true, eq-eqb, AllByRecursion}
+use Rattle.lw_base.proofs.Common.{list_any, range_with_len, cases_Bool, and_parts, or_cases, or_right}
+use Rattle.lw_base.proofs.Common.{eqb-false, length-map-range_with_len, Seen, Register, Location}
+use Rattle.lw_base.proofs.Common.{most_threads, most_locations, registers, IsSeen, ComesBefore, Ascending}
+use Rattle.lw_base.proofs.Common.{same_seen, thread_registers, all_registers, locations}
 use Rattle.lw_base.proofs.api.SeenLists.{all_ascending}
 
 -- ---- the same register or location
@@ -121,11 +117,11 @@ filtered_again (u ∷ us) (l ∷ ls) au al all = go (cases_Bool (same_seen l u))
         let behind = subst (λ (x : Seen). AllByRecursion (ComesBefore x) ls) same al.0 in
         let ahead = subst (λ (x : Seen). AllByRecursion (ComesBefore x) us) (sym same) au.0 in
         let rest : filter (has_seen (l ∷ ls)) us ≡ ls = filter_agrees (has_seen (l ∷ ls)) (has_seen ls) us
-            (without_first l ls us ahead) ∙ first (all_behind us u ls (all_apart u ls behind) all.1) in
+        (without_first l ls us ahead) ∙ first (all_behind us u ls (all_apart u ls behind) all.1) in
         rw e (ap (λ (x : Seen). x ∷ filter (has_seen (l ∷ ls)) us) (sym same) ∙ ap (λ xs. l ∷ xs) rest)
     go (inr e) first whole =
         let apart : same_seen u l ≡ false = other_seen u l (λ f. let g : same_seen l u ≡ true = subst
-            (λ (x : Seen). same_seen l x ≡ true) (sym f) (same_seen_itself l) in cc) in
+        (λ (x : Seen). same_seen l x ≡ true) (sym f) (same_seen_itself l) in cc) in
         let before : ComesBefore u l = found_behind u l us au.0 (rw apart at all.0) in
         let behind : AllByRecursion (ComesBefore u) (l ∷ ls) = all_before l u ls before al.0 in
         let none : has_seen (l ∷ ls) u ≡ false = none_same us u (l ∷ ls) (all_apart_from u (l ∷ ls) behind) in

@@ -1,10 +1,7 @@
 -- Items of a list by their places.
-use Rattle.std.proofs.Common.{◌≡◌, ◌≢◌, ℕ, zero, suc, ◌<◌, ◌≤◌, Some, ◌⊎◌, inl, inr, ⊎_elim, List, [], ◌∷◌}
-use Rattle.std.proofs.Common.{◌++◌, length, take, drop, refl, sym, ap, ◌∙◌, subst, arith, slice_get}
-use Rattle.std.proofs.Common.{slice_set}
-use Rattle.std.proofs.lemmas.List.{set-get_or}
-use Rattle.std.proofs.lemmas.Bool.{cases_eq}
-use Rattle.std.proofs.lemmas.Option.{same_Some, get_or_from_slice_get}
+use Rattle.lw_base.proofs.Common.{◌≡◌, ◌≢◌, ℕ, zero, suc, ◌<◌, ◌≤◌, Some, ◌⊎◌, inl, inr, ⊎_elim, List, []}
+use Rattle.lw_base.proofs.Common.{◌∷◌, ◌++◌, length, take, drop, refl, sym, ap, ◌∙◌, subst, arith, slice_get}
+use Rattle.lw_base.proofs.Common.{slice_set, set-get_or, cases_eq, same_Some, get_or_from_slice_get}
 -- the item at a place that is there
 pub use Rattle.std.proofs.lemmas.Option.{slice_get-get_or as at_index}
 
@@ -94,7 +91,7 @@ each_after P xs i x within before here u y at = go (cases_eq u i)
     go : (u ≡ i) ⊎ (u ≡ i → ⊥) → P u y
     go (inl e) =
         let there : slice_get (slice_set xs i x) u ≡ Some x = ap (slice_get (slice_set xs i x)) e
-            ∙ got_set_same xs i x (get_some xs i within).0 (get_some xs i within).1 in
+        ∙ got_set_same xs i x (get_some xs i within).0 (get_some xs i within).1 in
         let same : x ≡ y = cc in
         subst (λ (k : ℕ). P k y) (sym e) (subst (P i) same here)
     go (inr other) = before u y (sym (got_set_other xs i u x (λ e. other (sym e))) ∙ at)

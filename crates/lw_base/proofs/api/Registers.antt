@@ -1,10 +1,7 @@
 -- A word names one register at most.
-use Rattle.std.proofs.Common.{◌≡◌, ℕ, suc, ◌+◌, ◌<◌, [], ◌∷◌, Some, None, Option, refl, sym, ap, ◌∙◌, arith}
-use Rattle.std.proofs.Common.{if◌then◌else◌, codes, bytes_eq}
-use Rattle.lw_base.specs.Types.{Bytes}
-use Rattle.lw_base.specs.declared.head.Arch.{Arch}
-use Rattle.lw_base.specs.declared.head.Arch.TheVariants.{Source, X86}
-use Rattle.lw_base.specs.Registers.{IsRegister, register_name, without_case}
+use Rattle.lw_base.proofs.Common.{◌≡◌, ℕ, suc, ◌+◌, ◌<◌, [], ◌∷◌, Some, None, Option, refl, sym, ap, ◌∙◌}
+use Rattle.lw_base.proofs.Common.{arith, if◌then◌else◌, codes, bytes_eq, Bytes, Arch, Source, X86, IsRegister}
+use Rattle.lw_base.proofs.Common.{register_name, without_case}
 
 -- the register of x86 that a word in small letters names
 abbrev spelled : Bytes → Option ℕ

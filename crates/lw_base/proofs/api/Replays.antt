@@ -1,9 +1,6 @@
 -- Runs, one behind another, and one event further.
-use Rattle.std.proofs.Common.{◌≡◌, ℕ, suc, ◌+◌, ◌<◌, List, [], ◌∷◌, ◌++◌, length, take, get_or, Ok, Result}
-use Rattle.std.proofs.Common.{refl, sym, ap, ◌∙◌, subst, arith, take-suc}
-use Rattle.lw_base.specs.declared.event.Event.{Event}
-use Rattle.lw_base.specs.declared.stop.Stop.{Stop}
-use Rattle.lw_base.specs.Replays.{Ran}
+use Rattle.lw_base.proofs.Common.{◌≡◌, ℕ, suc, ◌+◌, ◌<◌, List, [], ◌∷◌, ◌++◌, length, take, get_or, Ok}
+use Rattle.lw_base.proofs.Common.{Result, refl, sym, ap, ◌∙◌, subst, arith, take-suc, Event, Stop, Ran}
 
 module _ {State : Type 0} (Done : Event → State → Result (Unit {0}) Stop → State → Type 0) where
   -- one list of events after another

@@ -1,6 +1,6 @@
 -- What a function owes where it returns early by `?`.
-use Rattle.std.proofs.Common.{◌≡◌, ◌≢◌, sym, subst, Option, None, Result, Ok, Err, IfErr, IsErrAnd}
-use Rattle.std.proofs.Common.{MatchOption}
+use Rattle.lw_base.proofs.Common.{◌≡◌, ◌≢◌, sym, subst, Option, None, Result, Ok, Err, IfErr, IsErrAnd}
+use Rattle.lw_base.proofs.Common.{MatchOption}
 
 -- The callee's error is returned as it is: what is known of it holds of what is returned.
 pub passed_on : {T E : Type 0} {e : E} (P : E → Type 0) (r : Result T E) → IsErrAnd r (λ y. y ≡ e) → P e → IfErr r P

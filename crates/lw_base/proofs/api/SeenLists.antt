@@ -1,11 +1,8 @@
 -- The registers and locations of a test, in their order.
-use Rattle.std.proofs.Common.{◌≡◌, ℕ, zero, suc, ◌+◌, inl, inr, Bool, true, false, List, [], ◌∷◌, ◌++◌, map}
-use Rattle.std.proofs.Common.{refl, arith, filter, flat_map}
-use Rattle.std.specs.List.{AllByRecursion, range_with_len}
-use Rattle.lw_base.specs.declared.head.Seen.{Seen}
-use Rattle.lw_base.specs.declared.head.Seen.TheVariants.{Register, Location}
-use Rattle.lw_base.specs.WellFormed.{IsSeen, ComesBefore, Ascending}
-use Rattle.lw_base.specs.SeenLists.{thread_registers, all_registers, locations}
+use Rattle.lw_base.proofs.Common.{◌≡◌, ℕ, zero, suc, ◌+◌, inl, inr, Bool, true, false, List, [], ◌∷◌, ◌++◌}
+use Rattle.lw_base.proofs.Common.{map, refl, arith, filter, flat_map, AllByRecursion, range_with_len, Seen}
+use Rattle.lw_base.proofs.Common.{Register, Location, IsSeen, ComesBefore, Ascending, thread_registers}
+use Rattle.lw_base.proofs.Common.{all_registers, locations}
 use Rattle.lw_base.proofs.api.Elements.{all_append, all_filter, all_of_range, all_of_flat}
 
 pub ascending_append : (xs ys : List Seen) → Ascending xs → Ascending ys → AllByRecursion (λ x. AllByRecursion (ComesBefore x) ys) xs → Ascending (xs ++ ys)

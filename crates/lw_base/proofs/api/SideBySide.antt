@@ -1,8 +1,6 @@
 -- Items of two lists side by side, and of a list of images.
-use Rattle.std.proofs.Common.{◌≡◌, ℕ, zero, suc, Bool, true, List, [], ◌∷◌, length, map, Some, refl, sym, ap₂}
-use Rattle.std.proofs.Common.{◌∙◌, arith, slice_get, zip}
-use Rattle.std.specs.List.{list_all}
-use Rattle.std.proofs.lemmas.Bool.{and_parts, and_from}
+use Rattle.lw_base.proofs.Common.{◌≡◌, ℕ, zero, suc, Bool, true, List, [], ◌∷◌, length, map, Some, refl, sym}
+use Rattle.lw_base.proofs.Common.{ap₂, ◌∙◌, arith, slice_get, zip, list_all, and_parts, and_from}
 
 -- an item of a list of images is the image of an item
 pub got_map : {X Y : Type 0} (f : X → Y) (xs : List X) (k : ℕ) (y : Y) → slice_get (map f xs) k ≡ Some y → (x : X) × (slice_get xs k ≡ Some x) × (y ≡ f x)

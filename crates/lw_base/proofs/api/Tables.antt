@@ -1,20 +1,13 @@
 -- Where a name stands in a table, and a table with one name more.
-use Rattle.std.proofs.Common.{bytes_eq, true≢false, append-nil, append_assoc, ◌++◌, ◌∷◌, length-append, ◌≡◌}
-use Rattle.std.proofs.Common.{ℕ, ◌<◌, ◌+◌, true, false, suc, zero, List, [], map, length, take, get_or}
-use Rattle.std.proofs.Common.{slice_get, Option, Some, None, MatchOption, Contains, ◌⊎◌, inl, inr, refl, ap}
-use Rattle.std.proofs.Common.{sym, ◌∙◌, subst, nat_eq, arith, IsSome, option_map, SomeIff}
-use Rattle.lw_base.specs.Types.{Bytes, NameTable}
-use Rattle.lw_base.specs.Lists.{EachOnce}
-use Rattle.lw_base.specs.Names.{IsLocation, IsTable}
-use Rattle.lw_base.specs.Tables.{contains_name, with_name, with_names, index_of}
-use Rattle.std.proofs.lemmas.Bool.{false_from_ne_true, or_right}
-use Rattle.std.specs.List.{AllByRecursion}
-use Rattle.std.proofs.lemmas.List.{map-append, take_more}
-use Rattle.std.proofs.lemmas.List.Elements.{Contains-push_cases, Contains-append_right}
-use Rattle.std.specs.Cmp.{unsigned_Decides}
-use Rattle.std.specs.Cmp.Lexicographic.{pointwise, pointwise_decides}
-use Rattle.std.proofs.lemmas.Option.{slice_get-get_or, slice_get-map, slice_get_read, slice_get_within}
-use Rattle.std.proofs.lemmas.Option.{get_or_from_slice_get}
+use Rattle.lw_base.proofs.Common.{bytes_eq, true≢false, append-nil, append_assoc, ◌++◌, ◌∷◌, length-append}
+use Rattle.lw_base.proofs.Common.{◌≡◌, ℕ, ◌<◌, ◌+◌, true, false, suc, zero, List, [], map, length, take}
+use Rattle.lw_base.proofs.Common.{get_or, slice_get, Option, Some, None, MatchOption, Contains, ◌⊎◌, inl, inr}
+use Rattle.lw_base.proofs.Common.{refl, ap, sym, ◌∙◌, subst, nat_eq, arith, IsSome, option_map, SomeIff}
+use Rattle.lw_base.proofs.Common.{Bytes, NameTable, EachOnce, IsLocation, IsTable, contains_name, with_name}
+use Rattle.lw_base.proofs.Common.{with_names, index_of, false_from_ne_true, or_right, AllByRecursion}
+use Rattle.lw_base.proofs.Common.{map-append, take_more, Contains-push_cases, Contains-append_right}
+use Rattle.lw_base.proofs.Common.{unsigned_Decides, pointwise, pointwise_decides, slice_get-get_or}
+use Rattle.lw_base.proofs.Common.{slice_get-map, slice_get_read, slice_get_within, get_or_from_slice_get}
 
 module _ {S : Type 0} (f : S → Bytes) (ss : List S) (p : ℕ) (s : S) (t name : Bytes) (lt : p < length ss) (is : s ≡ get_or ss p s) (text : t ≡ f s) where
   at_place : slice_get (map f ss) p ≡ Some t
@@ -148,7 +141,7 @@ with_names-new before [] once = sym (append-nil before)
 with_names-new before (n ∷ ns) once =
     let e : before ++ (n ∷ ns) ≡ (before ++ n ∷ []) ++ ns = sym (append_assoc before (n ∷ []) ns) in
     ap (λ (t : NameTable). with_names t ns) (with_name-new before n (not_before before ns n once))
-        ∙ with_names-new (before ++ n ∷ []) ns (subst EachOnce e once) ∙ sym e
+    ∙ with_names-new (before ++ n ∷ []) ns (subst EachOnce e once) ∙ sym e
 
 -- a table's own names make it
 pub with_names-again : (names : NameTable) → EachOnce names → with_names [] names ≡ names

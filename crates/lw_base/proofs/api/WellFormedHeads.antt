@@ -1,14 +1,8 @@
 -- A head is as well-formed with a longer table of locations.
-use Rattle.std.proofs.Common.{ℕ, zero, suc, ◌-◌, ◌≤◌, List, [], ◌∷◌, ◌++◌, length, arith, length-append}
-use Rattle.std.proofs.Common.{replicate}
-use Rattle.std.specs.List.{AllByRecursion}
-use Rattle.std.proofs.lemmas.List.{length-replicate}
-use Rattle.lw_base.specs.declared.head.Seen.{Seen}
-use Rattle.lw_base.specs.declared.head.Seen.TheVariants.{Register, Location}
-use Rattle.lw_base.specs.Formula.{Formula, Word_is, Not, And, Or}
-use Rattle.lw_base.specs.Heads.{TestHead, with_table}
-use Rattle.lw_base.specs.Names.{IsTable}
-use Rattle.lw_base.specs.WellFormed.{IsSeen, IsWordNumber, SpeaksOf, IsWellFormedHead}
+use Rattle.lw_base.proofs.Common.{ℕ, zero, suc, ◌-◌, ◌≤◌, List, [], ◌∷◌, ◌++◌, length, arith, length-append}
+use Rattle.lw_base.proofs.Common.{replicate, AllByRecursion, length-replicate, Seen, Register, Location}
+use Rattle.lw_base.proofs.Common.{Formula, Word_is, Not, And, Or, TestHead, with_table, IsTable, IsSeen}
+use Rattle.lw_base.proofs.Common.{IsWordNumber, SpeaksOf, IsWellFormedHead}
 
 seen_more : (threads few more : ℕ) → few ≤ more → (s : Seen) → IsSeen threads few s → IsSeen threads more s
 seen_more threads few more le (Register t r) h = h

@@ -1,11 +1,8 @@
 -- Texts that were written one behind another.
-use Rattle.std.proofs.Common.{◌≡◌, ℕ, suc, ◌+◌, ◌<◌, ◌≤◌, List, [], ◌∷◌, ◌++◌, length, drop, get_or}
-use Rattle.std.proofs.Common.{append_assoc, drop-cons, zero-add, sym, ap, ◌∙◌, arith, flat_map, append-nil}
-use Rattle.std.proofs.Common.{Result, Ok, Err, OnOk, is_ok, if◌then◌else◌}
-use Rattle.std.specs.List.{range_with_len}
-use Rattle.std.proofs.lemmas.List.FromFn.{get_or-range_with_len, length-range_with_len}
-use Rattle.std.proofs.lemmas.List.{drop_all}
-use Rattle.lw_base.specs.Types.{Bytes}
+use Rattle.lw_base.proofs.Common.{◌≡◌, ℕ, suc, ◌+◌, ◌<◌, ◌≤◌, List, [], ◌∷◌, ◌++◌, length, drop, get_or}
+use Rattle.lw_base.proofs.Common.{append_assoc, drop-cons, zero-add, sym, ap, ◌∙◌, arith, flat_map}
+use Rattle.lw_base.proofs.Common.{append-nil, Result, Ok, Err, OnOk, is_ok, if◌then◌else◌, range_with_len}
+use Rattle.lw_base.proofs.Common.{get_or-range_with_len, length-range_with_len, drop_all, Bytes}
 
 -- a text, and then another
 pub then_written : {T E : Type 0} (answer : Result T E) (start mid end first second whole : Bytes) → mid ≡ start ++ first → first ++ second ≡ whole

@@ -1,23 +1,12 @@
 -- Tokens say one statement at most, and what is made of it is what the rule of cells rests on.
-use Rattle.std.proofs.Common.{◌≡◌, ℕ, zero, suc, ◌<◌, Bool, true, Option, Some, List, [], ◌∷◌, length, get_or}
-use Rattle.std.proofs.Common.{sym, ap, ◌∙◌, subst, arith, ◌&&◌, codes, Contains, slice_get}
-use Rattle.std.specs.List.{AllByRecursion, list_all}
-use Rattle.std.specs.Option.{ForSome}
-use Rattle.std.proofs.lemmas.Bool.{and_parts}
-use Rattle.std.proofs.lemmas.Option.{same_Some, none-some}
-use Rattle.std.proofs.lemmas.List.Elements.{All-from_recursion}
-use Rattle.lw_base.specs.Names.{IsLocation}
-use Rattle.lw_base.specs.WellFormed.{IsRegisterNumber, IsWordNumber}
-use Rattle.lw_base.specs.Types.{Bytes, TokenList}
-use Rattle.lw_litmus.specs.WellFormed.{registers_of, numbers_of}
-use Rattle.lw_litmus.specs.declared.operation.Operation.{Operation}
-use Rattle.lw_cells.specs.declared.draft.Operands.{Operands}
-use Rattle.lw_cells.specs.declared.slot.Slot.{Slot}
-use Rattle.lw_cells.specs.declared.slot.Slot.TheVariants.{Register, Location, Value, Number}
-use Rattle.lw_cells.specs.Grammars.{IsGrammar}
-use Rattle.lw_cells.specs.Spellings.{Spelling, Filling, Gives, Fills, Said, grammar_of, name_in}
-use Rattle.lw_cells.specs.Found.{are_apart, all_apart, is_statement, is_label_last, registers_in, numbers_in}
-use Rattle.lw_cells.specs.Found.{IsSpelling}
+use Rattle.lw_cells.proofs.Common.{◌≡◌, ℕ, zero, suc, ◌<◌, Bool, true, Option, Some, List, [], ◌∷◌, length}
+use Rattle.lw_cells.proofs.Common.{get_or, sym, ap, ◌∙◌, subst, arith, codes, Contains, slice_get}
+use Rattle.lw_cells.proofs.Common.{AllByRecursion, list_all, ForSome, and_parts, same_Some, none-some}
+use Rattle.lw_cells.proofs.Common.{All-from_recursion, IsLocation, IsRegisterNumber, IsWordNumber, Bytes}
+use Rattle.lw_cells.proofs.Common.{TokenList, registers_of, numbers_of, Operation, Operands, Slot, Register}
+use Rattle.lw_cells.proofs.Common.{Location, Value, Number, IsGrammar, Spelling, Filling, Gives, Fills, Said}
+use Rattle.lw_cells.proofs.Common.{grammar_of, name_in, are_apart, all_apart, is_statement, is_label_last}
+use Rattle.lw_cells.proofs.Common.{registers_in, numbers_in, IsSpelling}
 use Rattle.lw_cells.proofs.Slots.{filling_unique, slots_apart, colon_gives}
 use Rattle.lw_base.specs.declared.operand.Operand.TheVariants as operand
 
@@ -39,11 +28,11 @@ module _ {W Form Stmt : Type 0} (spelling : Spelling W Form Stmt) where
     form_unique (form ∷ forms) all (zero, less, e) (zero, more, h) = sym e ∙ h
     form_unique (form ∷ forms) all (zero, less, e) (suc j, more, h) =
         let others = passes (are_others form) forms j b (and_parts (list_all (are_others form) forms) (all_apart spelling forms) all).0
-          (omega (arith, more)) h in
+        (omega (arith, more)) h in
         absurd (slots_apart spelling ts (spelling.slots_of a) (spelling.slots_of b) f g (rw e at others) x y)
     form_unique (form ∷ forms) all (suc i, less, e) (zero, more, h) =
         let others = passes (are_others form) forms i a (and_parts (list_all (are_others form) forms) (all_apart spelling forms) all).0
-          (omega (arith, less)) e in
+        (omega (arith, less)) e in
         absurd (slots_apart spelling ts (spelling.slots_of b) (spelling.slots_of a) g f (rw h at others) y x)
     form_unique (form ∷ forms) all (suc i, less, e) (suc j, more, h) =
         form_unique forms (and_parts (list_all (are_others form) forms) (all_apart spelling forms) all).1

@@ -1,7 +1,6 @@
 -- The greater of two numbers, as the code takes it.
-use Rattle.std.proofs.Common.{◌≡◌, ℕ, ◌<◌, ◌≤◌, max, Bool, true, false, refl, arith, eqb, ltb, ltb-true, ltb-false}
-use Rattle.std.proofs.Common.{nat_cmp}
-use Rattle.std.specs.Ordering.{ord_max}
+use Rattle.lw_cells.proofs.Common.{◌≡◌, ℕ, ◌<◌, ◌≤◌, max, Bool, true, false, refl, arith, eqb, ltb, ltb-true}
+use Rattle.lw_cells.proofs.Common.{ltb-false, nat_cmp, ord_max}
 
 pub greater_is : (a b : ℕ) → ord_max nat_cmp a b ≡ max a b
 greater_is a b = go (ltb b a) (eqb b a) refl refl

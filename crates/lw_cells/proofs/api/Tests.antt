@@ -1,23 +1,12 @@
 -- A frame has at most one test, which is well-formed. The languages' proofs use this.
-use Rattle.std.proofs.Common.{◌≡◌, Bool, true, false, List, [], ◌∷◌, length, refl, sym, ap, ◌∙◌, subst}
-use Rattle.std.proofs.Common.{filter_map, map}
-use Rattle.std.specs.List.{AllZip, AllByRecursion}
-use Rattle.std.specs.Option.{ForSome}
-use Rattle.std.proofs.lemmas.List.{length-map}
-use Rattle.std.proofs.lemmas.List.Elements.{All-from_recursion}
-use Rattle.lw_base.specs.Names.{IsLocation, IsTable}
-use Rattle.lw_base.specs.Tables.{contains_name, with_name, with_names}
-use Rattle.lw_base.specs.Types.{Bytes, NameTable, TokenList, Cells, CellGrid}
-use Rattle.lw_base.specs.WellFormed.{IsWellFormedHead}
-use Rattle.lw_base.proofs.api.Elements.{all_append, all_parts}
-use Rattle.lw_base.proofs.api.GrowingTables.{once-along, with_names-longer}
-use Rattle.lw_base.proofs.api.WellFormedHeads.{with_table-well_formed}
-use Rattle.lw_litmus.specs.WellFormed.{IsThread, IsWellFormed}
-use Rattle.lw_litmus.specs.Tests.{Test}
-use Rattle.lw_text.specs.Frames.{TestFrame}
-use Rattle.lw_cells.specs.Grammars.{Grammar, IsGrammar}
-use Rattle.lw_cells.specs.Cells.{CellSyntax, MaybeStatement, CellSays, Column, statements, names_of, code_in, test_on}
-use Rattle.lw_cells.specs.Cells.{FrameHasTest}
+use Rattle.lw_cells.proofs.Common.{◌≡◌, Bool, true, false, List, [], ◌∷◌, length, refl, sym, ap, ◌∙◌, subst}
+use Rattle.lw_cells.proofs.Common.{filter_map, map, AllZip, AllByRecursion, ForSome, length-map}
+use Rattle.lw_cells.proofs.Common.{All-from_recursion, IsLocation, IsTable, contains_name, with_name}
+use Rattle.lw_cells.proofs.Common.{with_names, Bytes, NameTable, TokenList, Cells, CellGrid, IsWellFormedHead}
+use Rattle.lw_cells.proofs.Common.{all_append, all_parts, once-along, with_names-longer}
+use Rattle.lw_cells.proofs.Common.{with_table-well_formed, IsThread, IsWellFormed, Test, TestFrame, Grammar}
+use Rattle.lw_cells.proofs.Common.{IsGrammar, CellSyntax, MaybeStatement, CellSays, Column, statements}
+use Rattle.lw_cells.proofs.Common.{names_of, code_in, test_on, FrameHasTest}
 use Rattle.lw_cells.proofs.Elements.{all_joined}
 use Rattle.lw_cells.proofs.OneReading.{column_unique}
 use Rattle.lw_cells.proofs.api.Zips.{zip_unique, zip_length}

@@ -1,7 +1,6 @@
 -- Two lists of which each item of one stands to its fellow in a relation. The printer of canonical texts uses this.
-use Rattle.std.proofs.Common.{◌≡◌, ℕ, zero, suc, List, [], ◌∷◌, ◌++◌, length, replicate}
-use Rattle.std.proofs.Common.{refl, ap}
-use Rattle.std.specs.List.{AllZip}
+use Rattle.lw_cells.proofs.Common.{◌≡◌, ℕ, zero, suc, List, [], ◌∷◌, ◌++◌, length, replicate, refl, ap}
+use Rattle.lw_cells.proofs.Common.{AllZip}
 
 -- A place in the first list, and what each part of the second says of the first's.
 pub record Cut {X Y : Type 0} (R : X → Y → Type 0) (front : List X) (x : X) (rest : List X) (zs : List Y) : Type 0 where

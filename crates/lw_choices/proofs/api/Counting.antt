@@ -1,17 +1,10 @@
 -- The orders of all choices are counted, choice by choice; and what a refusal on the way tells.
-use Rattle.std.proofs.Common.{◌≡◌, ℕ, ◌+◌, ◌<◌, ◌≤◌, List, [], ◌∷◌, length, min, refl, ◌∙◌, inl}
-use Rattle.std.proofs.Common.{inr, arith, All, Contains}
-use Rattle.lw_orders.specs.Order.{count_of}
-use Rattle.lw_orders.specs.Limits.{most_items, most_orders}
-use Rattle.lw_choices.specs.declared.fault.ListFault.{ListFault}
-use Rattle.lw_choices.specs.declared.fault.ListFault.TheVariants.{TooManyItems, TooManyOrders, Memory}
-use Rattle.lw_choices.specs.declared.item.Item.{Item}
-use Rattle.lw_choices.specs.Choices.{IsForward, choices_of}
-use Rattle.lw_choices.specs.Counts.{items_at_choice, orders_at_choice, orders_of, total_of, HasTooManyItems}
-use Rattle.lw_choices.specs.Counts.{TellsOfChoice, TellsOfGiven, TellsOfChoices, TellsLimit}
-use Rattle.lw_litmus.specs.Languages.{Language}
-use Rattle.lw_choices.specs.Items.{items_of, constraints_of}
-use Rattle.lw_choices.specs.Visits.{Visited, Refused}
+use Rattle.lw_choices.proofs.Common.{◌≡◌, ℕ, ◌+◌, ◌<◌, ◌≤◌, List, [], ◌∷◌, length, min, refl, ◌∙◌, inl, inr}
+use Rattle.lw_choices.proofs.Common.{arith, All, Contains, count_of, most_items, most_orders, ListFault}
+use Rattle.lw_choices.proofs.Common.{TooManyItems, TooManyOrders, Memory, Item, IsForward, choices_of}
+use Rattle.lw_choices.proofs.Common.{items_at_choice, orders_at_choice, orders_of, total_of, HasTooManyItems}
+use Rattle.lw_choices.proofs.Common.{TellsOfChoice, TellsOfGiven, TellsOfChoices, TellsLimit, Language}
+use Rattle.lw_choices.proofs.Common.{items_of, constraints_of, Visited, Refused}
 use Rattle.lw_choices.proofs.api.Enumerated.{choices_are_all}
 use Rattle.lw_choices.proofs.api.Members.{Contains-here, Contains-there, Contains-cons, none_in}
 

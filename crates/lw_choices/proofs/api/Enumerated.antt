@@ -1,14 +1,9 @@
 -- The lists of all paths and of all choices have each of them, and nothing else.
-use Rattle.std.proofs.Common.{◌≡◌, ℕ, zero, suc, ◌+◌, ◌<◌, ◌≤◌, List, [], ◌∷◌, map, length, Option, Some}
-use Rattle.std.proofs.Common.{None, refl, inl, inr, slice_get, arith, Contains, All, ◌↔◌}
-use Rattle.std.proofs.Common.{flat_map}
-use Rattle.std.proofs.lemmas.Bool.{cases_lt}
-use Rattle.std.proofs.lemmas.Option.{slice_get_past}
-use Rattle.std.proofs.lemmas.List.Elements.{All-head, All-tail}
-use Rattle.lw_base.proofs.api.Lists.{get_some}
-use Rattle.lw_litmus.specs.Languages.{Language}
-use Rattle.lw_litmus.specs.Flow.{Follows, IsPathFrom}
-use Rattle.lw_choices.specs.Choices.{IsForward, IsChoice, led, paths_on, paths_from, paths_of, choices_of}
+use Rattle.lw_choices.proofs.Common.{◌≡◌, ℕ, zero, suc, ◌+◌, ◌<◌, ◌≤◌, List, [], ◌∷◌, map, length, Option}
+use Rattle.lw_choices.proofs.Common.{Some, None, refl, inl, inr, slice_get, arith, Contains, All, ◌↔◌}
+use Rattle.lw_choices.proofs.Common.{flat_map, cases_lt, slice_get_past, All-head, All-tail, get_some}
+use Rattle.lw_choices.proofs.Common.{Language, Follows, IsPathFrom, IsForward, IsChoice, led, paths_on}
+use Rattle.lw_choices.proofs.Common.{paths_from, paths_of, choices_of}
 use Rattle.lw_choices.proofs.api.Members.{none_in, Contains-here, Contains-cons, Contains-map, from_map}
 use Rattle.lw_choices.proofs.api.Members.{Contains-flat_map, from_flat_map}
 use Rattle.lw_choices.proofs.api.Led.{led-has, led-only, led_within}

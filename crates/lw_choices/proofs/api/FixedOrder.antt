@@ -1,18 +1,12 @@
 -- What the fixed pairs of items order. They are few, and order more: in each order that keeps them, of two items of a thread the
 -- first stands before the second where it is a statement, or where the second is a drain or waits for drains. And an order in
 -- which all these stand so keeps the fixed pairs.
-use Rattle.std.proofs.Common.{◌≡◌, ℕ, zero, suc, ◌+◌, ◌<◌, ◌≤◌, ◌⊎◌, inl, inr, List, [], ◌∷◌, length, Option}
-use Rattle.std.proofs.Common.{Some, None, Bool, true, false, refl, sym, ap, ◌∙◌, arith, All}
-use Rattle.std.proofs.lemmas.Bool.{cases_eq}
-use Rattle.std.proofs.lemmas.List.Elements.{All-head}
-use Rattle.lw_orders.specs.Order.{place, Before, Keeps}
-use Rattle.lw_orders.proofs.api.Complete.{All-parts}
-use Rattle.lw_choices.specs.declared.item.Item.{Item}
-use Rattle.lw_choices.specs.declared.item.Last.{Last}
-use Rattle.lw_litmus.specs.Languages.{Language}
-use Rattle.lw_choices.specs.Items.{item_at, behind, fixed_at, last_with, does_wait, constraints_of}
-use Rattle.lw_choices.proofs.api.FixedPairs.{last_same, last_by, thread_upto, last_upto, last_at}
-use Rattle.lw_choices.proofs.api.FixedPairs.{fixed-at, each_fixed}
+use Rattle.lw_choices.proofs.Common.{◌≡◌, ℕ, zero, suc, ◌<◌, ◌≤◌, ◌⊎◌, inl, inr, List, [], length, Option}
+use Rattle.lw_choices.proofs.Common.{Some, None, Bool, true, false, refl, sym, ap, ◌∙◌, arith, All, cases_eq}
+use Rattle.lw_choices.proofs.Common.{All-head, place, Before, Keeps, All-parts, Item, Last, Language, item_at}
+use Rattle.lw_choices.proofs.Common.{behind, fixed_at, last_with, does_wait, constraints_of}
+use Rattle.lw_choices.proofs.api.FixedPairs.{last_same, last_by, thread_upto, last_upto, last_at, fixed-at}
+use Rattle.lw_choices.proofs.api.FixedPairs.{each_fixed}
 
 module _ {S : Type 0} (language : Language S) (program : List (List S)) where
   -- Of two items of a thread the first stands before the second: where it is a statement, or where the second is a drain or waits
@@ -69,9 +63,9 @@ module _ {S : Type 0} (language : Language S) (program : List (List S)) where
           covers (suc n) l b i less same is =
               let there = covers_there n (omega arith) (covers n (omega arith)) in
               covers_next (at n).is_drain b n i (last_at all n) refl (λ e. sym is ∙ ap (λ k. (at k).is_drain)
-                  e) (λ same_kind ne. fixed_kept (at n).is_drain _ b (last_at all n) n i
-                  (fixed-at all language program Stands kept n (omega arith)) (λ drain. inl (sym same_kind
-                  ∙ drain)) (there b i (omega arith) same is)) (λ ne. there b i (omega arith) same is)
+              e) (λ same_kind ne. fixed_kept (at n).is_drain _ b (last_at all n) n i
+              (fixed-at all language program Stands kept n (omega arith)) (λ drain. inl (sym same_kind
+              ∙ drain)) (there b i (omega arith) same is)) (λ ne. there b i (omega arith) same is)
 
         -- what the fixed pairs order
         pub kept : Keeps (constraints_of language program all).fixed o → (i j : ℕ)

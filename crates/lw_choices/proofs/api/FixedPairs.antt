@@ -1,20 +1,13 @@
 -- The fixed pairs of the items of a choice, in either language, number by number: each goes up along a thread. And the items with
 -- their fixed pairs and conflicts are well-formed.
-use Rattle.std.proofs.Common.{◌≡◌, Bool, true, false, ℕ, zero, suc, ◌+◌, ◌<◌, ◌≤◌, ◌==◌, ◌⊎◌, List, [], ◌∷◌, ◌++◌}
-use Rattle.std.proofs.Common.{length, drop, drop-cons, flat_map, Option, Some, None, refl, ap, ◌∙◌, subst}
-use Rattle.std.proofs.Common.{inl, inr, arith, All, Contains, eq-eqb, ne_eqb}
-use Rattle.std.proofs.lemmas.Bool.{cases_eq, cond-true, cond-false}
-use Rattle.std.proofs.lemmas.List.{drop_all}
-use Rattle.std.proofs.lemmas.List.Elements.{All-nil, All-cons, All-append}
-use Rattle.lw_orders.specs.Order.{GoUp, IsWellFormed}
-use Rattle.lw_orders.specs.Limits.{most_items}
-use Rattle.lw_orders.specs.Sequence.{numbers}
-use Rattle.lw_orders.proofs.api.Complete.{All-parts}
-use Rattle.lw_choices.specs.declared.item.Item.{Item}
-use Rattle.lw_choices.specs.declared.item.Last.{Last}
-use Rattle.lw_litmus.specs.Languages.{Language}
-use Rattle.lw_choices.specs.Items.{item_at, none_before, behind, fixed_at, last_with, last_of, pairs_from}
-use Rattle.lw_choices.specs.Items.{items_conflict, does_wait, fixed_from, constraints_of}
+use Rattle.lw_choices.proofs.Common.{◌≡◌, Bool, true, false, ℕ, zero, suc, ◌+◌, ◌<◌, ◌≤◌, ◌==◌, ◌⊎◌, List, []}
+use Rattle.lw_choices.proofs.Common.{◌++◌, length, drop, drop-cons, flat_map, Option, Some, None, refl, ap}
+use Rattle.lw_choices.proofs.Common.{◌∙◌, subst, inl, inr, arith, All, Contains, eq-eqb, ne_eqb, cases_eq}
+use Rattle.lw_choices.proofs.Common.{cond-true, cond-false, drop_all, All-nil, All-cons, All-append, GoUp}
+use Rattle.lw_choices.proofs.Common.{most_items, numbers, All-parts, Item, Last, Language, item_at}
+use Rattle.lw_choices.proofs.Common.{none_before, behind, fixed_at, last_with, last_of, pairs_from}
+use Rattle.lw_choices.proofs.Common.{items_conflict, does_wait, fixed_from, constraints_of}
+use Rattle.lw_orders.specs.Order.{IsWellFormed}
 use Rattle.lw_choices.proofs.api.Pairs.{In, All-passing, pairs_up, pairs_have, pairs_rise, Rises-filter}
 use Rattle.lw_choices.proofs.api.Pairs.{Rises-sorted, Contains-filter}
 
@@ -118,9 +111,9 @@ module _ (all : List Item) where
     each_fixed Q each = rw whole (All-numbered Q fixed_of 0 (length all) (λ n a l.
         (let last = last_there n (thread_upto n) (it n).thread (last_upto n) (are_last n) in
         All-fixed_at Q n (it n).is_drain (does_wait language program (it n)) (last_at n)
-            (λ m e. (let (less, same, is) = last false m e in each false m n less (omega (arith, l)) same is
-            (λ bad. cc (bad)))) (λ ordered m e. (let (less, same, is) = last true m e in each true m n less
-            (omega (arith, l)) same is (λ _. ordered))))))
+        (λ m e. (let (less, same, is) = last false m e in each false m n less (omega (arith, l)) same is
+        (λ bad. cc (bad)))) (λ ordered m e. (let (less, same, is) = last true m e in each true m n less
+        (omega (arith, l)) same is (λ _. ordered))))))
 
 module _ {S : Type 0} (language : Language S) (program : List (List S)) where
   -- each fixed pair goes up

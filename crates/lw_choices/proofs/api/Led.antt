@@ -1,16 +1,9 @@
 -- Where statements lead: the list of the positions that may follow one.
-use Rattle.std.proofs.Common.{◌≡◌, ◌≢◌, ℕ, ◌+◌, ◌<◌, ◌≤◌, ◌==◌, Bool, true, false, List, [], ◌∷◌, length}
-use Rattle.std.proofs.Common.{Option, Some, None, refl, sym, ap, ◌∙◌, inl, inr, ◌⊎◌, slice_get, arith}
-use Rattle.std.proofs.Common.{Contains, eq-eqb, ne_eqb, true≢false}
-use Rattle.std.proofs.lemmas.Bool.{cases_eq}
-use Rattle.std.proofs.lemmas.Option.{slice_get_within, same_Some, none-some}
-use Rattle.lw_base.specs.Lists.{EachOnce}
-use Rattle.lw_litmus.specs.Languages.{Language}
-use Rattle.lw_litmus.specs.Flow.{Follows}
-use Rattle.lw_litmus.specs.Operations.{target_of, goes_on}
-use Rattle.lw_litmus.specs.declared.operation.Operation.{Operation}
-use Rattle.lw_litmus.specs.declared.operation.Operation.TheVariants.{Branch}
-use Rattle.lw_choices.specs.Choices.{IsForward, next_or, led_by, led}
+use Rattle.lw_choices.proofs.Common.{◌≡◌, ℕ, ◌+◌, ◌<◌, ◌≤◌, Bool, true, false, List, [], ◌∷◌, length, Option}
+use Rattle.lw_choices.proofs.Common.{Some, None, refl, sym, ap, ◌∙◌, inl, inr, ◌⊎◌, slice_get, arith}
+use Rattle.lw_choices.proofs.Common.{Contains, eq-eqb, ne_eqb, true≢false, cases_eq, slice_get_within}
+use Rattle.lw_choices.proofs.Common.{same_Some, none-some, EachOnce, Language, Follows, target_of, goes_on}
+use Rattle.lw_choices.proofs.Common.{Operation, Branch, IsForward, next_or, led_by, led}
 use Rattle.lw_choices.proofs.api.Members.{none_in, of_one, Contains-here, Contains-there, Contains-cons}
 
 pub next_or-has : (next to k : ℕ) → (k ≡ to) ⊎ (k ≡ next) → Contains (next_or next to) k

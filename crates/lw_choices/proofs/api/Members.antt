@@ -1,8 +1,7 @@
 -- Membership in lists: of a list with one item in front, of a `map`, of a `flat_map`, of the empty list and of a list of one.
-use Rattle.std.proofs.Common.{◌≡◌, zero, suc, List, [], ◌∷◌, map, refl, sym, ap, subst, inl, inr, ◌⊎◌, arith}
-use Rattle.std.proofs.Common.{Contains, flat_map}
-use Rattle.std.proofs.lemmas.List.Elements.{Contains-append_left, Contains-append_right}
-use Rattle.std.proofs.lemmas.List.Elements.{Contains-append_cases}
+use Rattle.lw_choices.proofs.Common.{◌≡◌, zero, suc, List, [], ◌∷◌, map, refl, sym, ap, subst, inl, inr, ◌⊎◌}
+use Rattle.lw_choices.proofs.Common.{arith, Contains, flat_map, Contains-append_left, Contains-append_right}
+use Rattle.lw_choices.proofs.Common.{Contains-append_cases}
 
 pub none_in : {X : Type 0} (x : X) → Contains [] x → ⊥
 none_in x (k, l, e) = absurd (omega arith)

@@ -1,11 +1,7 @@
 -- Conflicts are mutual.
-use Rattle.std.proofs.Common.{◌≡◌, ℕ, Bool, ◌&&◌, Option, Some, None, refl, sym, ap₂, ◌∙◌, inl, inr, eq-eqb}
-use Rattle.std.proofs.Common.{ne_eqb}
-use Rattle.std.proofs.Math.Bool.{or_comm}
-use Rattle.std.proofs.lemmas.Bool.{cases_eq}
-use Rattle.lw_litmus.specs.Conflicts.{is_one}
-use Rattle.lw_litmus.specs.Languages.{Language}
-use Rattle.lw_choices.specs.Items.{location_by, writes_by, conflict_by}
+use Rattle.lw_choices.proofs.Common.{◌≡◌, ℕ, Bool, ◌&&◌, Option, Some, None, refl, sym, ap₂, ◌∙◌, inl, inr}
+use Rattle.lw_choices.proofs.Common.{eq-eqb, ne_eqb, or_comm, cases_eq, is_one, Language, location_by}
+use Rattle.lw_choices.proofs.Common.{writes_by, conflict_by}
 
 one_sym : (o p : Option ℕ) → is_one o p ≡ is_one p o
 one_sym None None = refl

@@ -1,19 +1,13 @@
 -- The items of a choice of paths: the statements on them and the drains of their stores, thread by thread, and how their numbers
 -- go along the paths.
-use Rattle.std.proofs.Common.{◌≡◌, ℕ, zero, suc, ◌+◌, ◌<◌, ◌≤◌, ◌⊎◌, inl, inr, List, [], ◌∷◌, ◌++◌, length}
-use Rattle.std.proofs.Common.{Option, Some, None, Bool, true, false, refl, sym, ap, ◌∙◌, subst, arith}
-use Rattle.std.proofs.Common.{slice_get, All, Contains, true≢false}
-use Rattle.std.specs.Option.{option_map_or}
-use Rattle.std.proofs.lemmas.Bool.{cases_eq, cases_order}
-use Rattle.std.proofs.lemmas.List.{get_or_default}
-use Rattle.std.proofs.lemmas.List.Elements.{All-nil, All-cons, All-append, All-head, All-tail, All-weaker}
-use Rattle.std.proofs.lemmas.List.Elements.{All-get_or, Contains-append_left, Contains-append_right}
-use Rattle.lw_base.specs.Threads.{code_of}
-use Rattle.lw_litmus.specs.Flow.{IsPathFrom}
-use Rattle.lw_litmus.specs.Languages.{Language}
-use Rattle.lw_choices.specs.Choices.{IsForward, IsChoice}
-use Rattle.lw_choices.specs.declared.item.Item.{Item}
-use Rattle.lw_choices.specs.Items.{item_at, items_at, path_items, items_from, items_of, drains}
+use Rattle.lw_choices.proofs.Common.{◌≡◌, ℕ, zero, suc, ◌+◌, ◌<◌, ◌≤◌, ◌⊎◌, inl, inr, List, [], ◌∷◌, ◌++◌}
+use Rattle.lw_choices.proofs.Common.{length, Option, Some, None, Bool, true, false, refl, sym, ap, ◌∙◌, subst}
+use Rattle.lw_choices.proofs.Common.{arith, slice_get, All, Contains, true≢false, option_map_or, cases_eq}
+use Rattle.lw_choices.proofs.Common.{cases_order, get_or_default, All-nil, All-cons, All-append, All-head}
+use Rattle.lw_choices.proofs.Common.{All-tail, All-weaker, All-get_or, Contains-append_left}
+use Rattle.lw_choices.proofs.Common.{Contains-append_right, code_of, IsPathFrom, Language, IsForward}
+use Rattle.lw_choices.proofs.Common.{IsChoice, Item, item_at, items_at, path_items, items_from, items_of}
+use Rattle.lw_choices.proofs.Common.{drains}
 use Rattle.lw_choices.proofs.api.Led.{follows_within}
 use Rattle.lw_choices.proofs.api.Members.{Contains-here, Contains-there}
 

@@ -1,13 +1,9 @@
 -- Lists of pairs: those that pass a test, sorted.
-use Rattle.std.proofs.Common.{◌≡◌, ℕ, zero, suc, ◌+◌, ◌<◌, ◌≤◌, Bool, true, List, [], ◌∷◌, ◌++◌, map}
-use Rattle.std.proofs.Common.{refl, subst, inl, inr, ◌⊎◌, arith, All, Contains, filter}
-use Rattle.std.proofs.lemmas.Bool.{cases_eq, cases_Bool}
-use Rattle.std.proofs.lemmas.List.Elements.{All-nil, All-cons, All-head, All-append, All-map, All-weaker}
-use Rattle.std.proofs.lemmas.List.Elements.{All-filter, Contains-append_left, Contains-append_right}
-use Rattle.std.proofs.lemmas.List.Elements.{filter_passes}
-use Rattle.lw_orders.specs.Order.{AreSorted}
-use Rattle.lw_orders.specs.Sequence.{numbers}
-use Rattle.lw_choices.specs.Items.{pairs_from}
+use Rattle.lw_choices.proofs.Common.{◌≡◌, ℕ, zero, suc, ◌+◌, ◌<◌, ◌≤◌, Bool, true, List, [], ◌∷◌, ◌++◌, map}
+use Rattle.lw_choices.proofs.Common.{refl, subst, inl, inr, ◌⊎◌, arith, All, Contains, filter, cases_eq}
+use Rattle.lw_choices.proofs.Common.{cases_Bool, All-nil, All-cons, All-head, All-append, All-map, All-weaker}
+use Rattle.lw_choices.proofs.Common.{All-filter, Contains-append_left, Contains-append_right, filter_passes}
+use Rattle.lw_choices.proofs.Common.{AreSorted, numbers, pairs_from}
 use Rattle.lw_choices.proofs.api.Members.{Contains-here, Contains-there, Contains-cons, Contains-map}
 
 pub Contains-filter : {X : Type 0} (p : X → Bool) (xs : List X) (x : X) → Contains xs x → p x ≡ true → Contains (filter p xs) x

@@ -1,14 +1,7 @@
 -- A well-formed test of either language is a program whose choices can be visited.
-use Rattle.std.proofs.Common.{◌≡◌, ℕ, ◌≤◌, inl, inr, [], Some, length, sym, subst, slice_get, arith}
-use Rattle.std.proofs.lemmas.Bool.{cases_lt}
-use Rattle.std.proofs.lemmas.List.{get_or_past}
-use Rattle.std.proofs.lemmas.List.Elements.{All-weaker, All-get_or}
-use Rattle.lw_base.specs.Threads.{code_of}
-use Rattle.lw_litmus.specs.Languages.{Language}
-use Rattle.lw_litmus.specs.Tests.{Test}
-use Rattle.lw_litmus.specs.WellFormed.{IsThread, IsWellFormed}
-use Rattle.lw_choices.specs.Choices.{IsForward}
-use Rattle.lw_choices.specs.Visits.{IsVisitable}
+use Rattle.lw_choices.proofs.Common.{◌≡◌, ℕ, ◌≤◌, inl, inr, [], Some, length, sym, subst, slice_get, arith}
+use Rattle.lw_choices.proofs.Common.{cases_lt, get_or_past, All-weaker, All-get_or, code_of, Language, Test}
+use Rattle.lw_choices.proofs.Common.{IsThread, IsWellFormed, IsForward, IsVisitable}
 
 module _ {S : Type 0} (language : Language S) (test : Test S) (is : IsWellFormed language test) where
   pub visitable : language.most ≤ 32 → IsVisitable language test.threads

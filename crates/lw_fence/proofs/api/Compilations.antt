@@ -1,14 +1,7 @@
 -- Compiled programs of tests as values, by definitions alone.
-use Rattle.std.proofs.Common.{◌↔◌, ℕ, List, [], Bool, refl}
-use Rattle.lw_base.specs.Outcomes.{Final}
-use Rattle.lw_interleaving.specs.Runs.{SourceOutcome, start_of}
-use Rattle.lw_litmus.specs.Tests.{SourceTest, ProgramTest}
-use Rattle.lw_litmus.specs.WellFormedTests.{IsWellFormedSource, IsWellFormedProgram}
-use Rattle.lw_memory.specs.Flat.{flat}
-use Rattle.lw_tso.specs.Runs.{MachineOutcome}
-use Rattle.lw_fence.specs.Compiling.{IsCompiled}
-use Rattle.lw_fence.specs.Unfenced.{IsCompiledWith}
-use Rattle.lw_fence.specs.Schedules.{schedule}
+use Rattle.lw_fence.proofs.Common.{◌↔◌, ℕ, List, [], Bool, refl, Final, SourceOutcome, start_of, SourceTest}
+use Rattle.lw_fence.proofs.Common.{ProgramTest, IsWellFormedSource, IsWellFormedProgram, flat, MachineOutcome}
+use Rattle.lw_fence.proofs.Common.{IsCompiled, IsCompiledWith, schedule}
 use Rattle.lw_fence.proofs.Endings.{program_ends}
 use Rattle.lw_fence.proofs.MachineToSource.{machine_to_source}
 use Rattle.lw_fence.proofs.Placed.{laid_out_with}

@@ -1,24 +1,14 @@
 -- Steps of the threads: what each of them moves, where it leads, and which can be exchanged.
-use Rattle.std.proofs.Common.{◌≡◌, ◌≢◌, ℕ, ◌+◌, Bool, true, false, ◌||◌, ◌&&◌, if◌then◌else◌, List, Option}
-use Rattle.std.proofs.Common.{Some, None, Ok, refl, sym, ap, ap₂, ◌∙◌, subst, inl, inr, ◌⊎◌, slice_get}
-use Rattle.std.proofs.Common.{slice_set, slice_index, option_map, option_and_then, eq-eqb, get_or-set_other}
-use Rattle.std.proofs.lemmas.List.{set_comm, set-get_or}
-use Rattle.std.proofs.lemmas.Option.{slice_get-map}
-use Rattle.lw_base.proofs.api.Lists.{got_set_same, got_set_other}
-use Rattle.lw_litmus.specs.declared.operation.Condition.TheVariants.{Always}
-use Rattle.lw_litmus.specs.declared.operation.Operation.{Operation}
-use Rattle.lw_litmus.specs.declared.operation.Operation.TheVariants.{Store, Load, Swap, FetchAdd, Branch}
-use Rattle.lw_litmus.specs.declared.stmt.Stmt.{Stmt}
-use Rattle.lw_litmus.specs.Operations.{location_of, writes, Leads, holds}
-use Rattle.lw_litmus.specs.Sources.{source, source_operation}
-use Rattle.lw_interleaving.specs.declared.thread.Thread.{Thread}
-use Rattle.lw_base.specs.Sums.{sum_of}
-use Rattle.lw_base.specs.Threads.{value_of, code_of}
-use Rattle.lw_interleaving.specs.Statements.{at_next_with, at_next_with_if, thread_after, words_after}
-use Rattle.lw_interleaving.specs.Runs.{State, carried_out, step_of, source_step}
-use Rattle.lw_litmus.specs.Flow.{Follows}
-use Rattle.lw_interleaving.specs.Steps.{FollowsFlow, position_of, next_of, IsExchangeable}
-use Rattle.lw_litmus.specs.Conflicts.{is_one, do_conflict}
+use Rattle.lw_interleaving.proofs.Common.{◌≡◌, ◌≢◌, ℕ, ◌+◌, Bool, true, false, ◌||◌, ◌&&◌, if◌then◌else◌}
+use Rattle.lw_interleaving.proofs.Common.{List, Option, Some, None, Ok, refl, sym, ap, ap₂, ◌∙◌, subst, inl}
+use Rattle.lw_interleaving.proofs.Common.{inr, ◌⊎◌, slice_get, slice_set, slice_index, option_map}
+use Rattle.lw_interleaving.proofs.Common.{option_and_then, eq-eqb, get_or-set_other, set_comm, set-get_or}
+use Rattle.lw_interleaving.proofs.Common.{slice_get-map, got_set_same, got_set_other, Always, Operation}
+use Rattle.lw_interleaving.proofs.Common.{Store, Load, Swap, FetchAdd, Branch, Stmt, location_of, writes}
+use Rattle.lw_interleaving.proofs.Common.{Leads, holds, source, source_operation, Thread, sum_of, value_of}
+use Rattle.lw_interleaving.proofs.Common.{code_of, at_next_with, at_next_with_if, thread_after, words_after}
+use Rattle.lw_interleaving.proofs.Common.{State, carried_out, step_of, source_step, Follows, FollowsFlow}
+use Rattle.lw_interleaving.proofs.Common.{position_of, next_of, IsExchangeable, is_one, do_conflict}
 
 abbrev pub state_of : List Thread → List ℕ → State
 state_of threads m = record { threads = threads; words = m }

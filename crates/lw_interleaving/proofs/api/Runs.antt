@@ -1,31 +1,17 @@
 -- Runs, one event further.
-use Rattle.std.proofs.Common.{◌≡◌, ℕ, suc, ◌<◌, ◌≤◌, ◌+◌, List, [], ◌∷◌, ◌++◌, length, map, take, drop}
-use Rattle.std.proofs.Common.{get_or, refl, sym, ap, ◌∙◌, subst, Result, Ok, Err, arith, MatchResult}
-use Rattle.std.proofs.Common.{length-set, take-suc, All, ◌^◌, slice_set, slice_get, slice_index, Option, Some}
-use Rattle.std.proofs.Common.{None, Bool, true, false, if◌then◌else◌, nat_lt, lt-ltb, append_assoc}
-use Rattle.std.proofs.Common.{length-take-le, take_all, option_map}
-use Rattle.lw_base.specs.declared.stop.Stop.{Stop}
-use Rattle.lw_base.specs.declared.stop.End.{End}
-use Rattle.lw_base.specs.declared.event.Event.TheVariants.{Step, Drain, Evict}
-use Rattle.lw_base.specs.declared.stop.Stop.TheVariants.{NoCpu, NoLocation, Ended, BufferEmpty, NotHeld}
-use Rattle.lw_litmus.specs.declared.operation.Operation.{Operation}
-use Rattle.lw_litmus.specs.declared.operation.Operation.TheVariants.{Store, Swap, FetchAdd}
-use Rattle.lw_interleaving.specs.declared.thread.Thread.{Thread}
-use Rattle.lw_litmus.specs.WellFormed.{IsStatement, IsThread}
-use Rattle.lw_litmus.specs.Sources.{source, source_operation}
-use Rattle.lw_base.specs.Sums.{sum_of}
-use Rattle.lw_base.specs.Threads.{value_of, code_of}
-use Rattle.lw_interleaving.specs.Statements.{thread_after, words_after}
-use Rattle.lw_base.specs.declared.event.Event.{Event}
-use Rattle.lw_litmus.specs.declared.stmt.Stmt.{Stmt}
-use Rattle.lw_base.specs.Outcomes.{Final}
-use Rattle.lw_base.specs.Replays.{EndsAs}
-use Rattle.lw_interleaving.specs.Runs.{State, SourceRunState, SourceEventDone, SourceReplayed, SourceRan}
-use Rattle.lw_interleaving.specs.Runs.{is_source_final, outcome_of, source_step, source_event, carried_out}
-use Rattle.lw_interleaving.specs.Runs.{step_of}
-use Rattle.std.proofs.lemmas.List.{drop_more, length-map, map-append, map_more, set_at}
-use Rattle.std.proofs.lemmas.Option.{slice_get-map, slice_get_within}
-use Rattle.lw_base.proofs.api.Lists.{at_index}
+use Rattle.lw_interleaving.proofs.Common.{◌≡◌, ℕ, suc, ◌<◌, ◌≤◌, ◌+◌, List, [], ◌∷◌, ◌++◌, length, map, take}
+use Rattle.lw_interleaving.proofs.Common.{drop, get_or, refl, sym, ap, ◌∙◌, subst, Result, Ok, Err, arith}
+use Rattle.lw_interleaving.proofs.Common.{MatchResult, length-set, take-suc, All, ◌^◌, slice_set, slice_get}
+use Rattle.lw_interleaving.proofs.Common.{slice_index, Option, Some, None, Bool, true, false, if◌then◌else◌}
+use Rattle.lw_interleaving.proofs.Common.{nat_lt, lt-ltb, append_assoc, length-take-le, take_all, option_map}
+use Rattle.lw_interleaving.proofs.Common.{Stop, End, Step, Drain, Evict, NoCpu, NoLocation, Ended}
+use Rattle.lw_interleaving.proofs.Common.{BufferEmpty, NotHeld, Operation, Store, Swap, FetchAdd, Thread}
+use Rattle.lw_interleaving.proofs.Common.{IsStatement, IsThread, source, source_operation, sum_of, value_of}
+use Rattle.lw_interleaving.proofs.Common.{code_of, thread_after, words_after, Event, Stmt, Final, EndsAs}
+use Rattle.lw_interleaving.proofs.Common.{State, SourceRunState, SourceEventDone, SourceReplayed, SourceRan}
+use Rattle.lw_interleaving.proofs.Common.{is_source_final, outcome_of, source_step, source_event, carried_out}
+use Rattle.lw_interleaving.proofs.Common.{step_of, drop_more, length-map, map-append, map_more, set_at}
+use Rattle.lw_interleaving.proofs.Common.{slice_get-map, slice_get_within, at_index}
 use Rattle.lw_base.specs.declared.stop.End.TheVariants as at
 
 -- what a call answered, and the state that it left: the one after the event, or else Q says which
@@ -199,6 +185,6 @@ written_on f items ys old xs i d same is within there =
     let front = length-map (take i ys) f ∙ length-take-le i ys (omega (arith, here)) in
     let new = f (get_or ys i d) in
     ap (λ zs. slice_set xs i (f (get_or zs i d))) same ∙ ap (λ zs. slice_set zs i new) (is
-        ∙ ap (λ zs. map f (take i ys) ++ zs) (drop_more old i new there)) ∙ set_at (map f (take i ys))
-        (get_or old i new) (drop (i + 1) old) new i front ∙ sym (ap (λ zs. zs ++ drop (i + 1) old)
-        (map_more f ys i d here) ∙ append_assoc (map f (take i ys)) (new ∷ []) (drop (i + 1) old))
+    ∙ ap (λ zs. map f (take i ys) ++ zs) (drop_more old i new there)) ∙ set_at (map f (take i ys))
+    (get_or old i new) (drop (i + 1) old) new i front ∙ sym (ap (λ zs. zs ++ drop (i + 1) old)
+    (map_more f ys i d here) ∙ append_assoc (map f (take i ys)) (new ∷ []) (drop (i + 1) old))

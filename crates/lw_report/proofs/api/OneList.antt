@@ -1,14 +1,8 @@
 -- Two lists in one strict order that have the same elements are one.
-use Rattle.std.proofs.Common.{◌≡◌, ◌↔◌, ℕ, zero, suc, ◌<◌, ◌⊎◌, inl, inr, List, [], ◌∷◌, length, refl, sym}
-use Rattle.std.proofs.Common.{ap, ◌∙◌, subst, arith, All, Contains, slice_index_or, AllPairs, nat_cmp, Less}
-use Rattle.std.specs.Cmp.Lexicographic.{slice_cmp}
-use Rattle.std.proofs.lemmas.Cmp.{nat_list_cmp_total, tied_itself}
-use Rattle.std.proofs.lemmas.List.Elements.{All-contains}
-use Rattle.lw_base.specs.Heads.{TestHead}
-use Rattle.lw_base.specs.Outcomes.{Final}
-use Rattle.lw_report.specs.Reports.{IsReport, report_text}
-use Rattle.lw_report.specs.States.{Shown, AreStatesOf}
-use Rattle.lw_report.specs.declared.judgement.Claim.{Claim}
+use Rattle.lw_report.proofs.Common.{◌≡◌, ◌↔◌, ℕ, zero, suc, ◌<◌, ◌⊎◌, inl, inr, List, [], ◌∷◌, length, refl}
+use Rattle.lw_report.proofs.Common.{sym, ap, ◌∙◌, subst, arith, All, Contains, slice_index_or, AllPairs}
+use Rattle.lw_report.proofs.Common.{nat_cmp, Less, slice_cmp, nat_list_cmp_total, tied_itself, All-contains}
+use Rattle.lw_report.proofs.Common.{TestHead, Final, IsReport, report_text, Shown, AreStatesOf, Claim}
 
 -- ---- members
 
@@ -58,7 +52,7 @@ module _ {X : Type 0} (R : X → X → Type 0) (strict : (x y : X) → R x y →
       let same : x ≡ y = fronts (front_or_behind y ys x (h x (at_front x xs))) (front_or_behind x xs y (k y (at_front y ys))) in
       let rest : xs ≡ ys =
       one_list xs ys (from_rest R x xs up) (from_rest R y ys above) (rest_has x y xs ys same (from_front R x
-          xs up) h) (rest_has y x ys xs (sym same) (from_front R y ys above) k) in
+      xs up) h) (rest_has y x ys xs (sym same) (from_front R y ys above) k) in
       cc
     where
       fronts : (y ≡ x) ⊎ Contains ys x → (x ≡ y) ⊎ Contains xs y → x ≡ y
@@ -80,8 +74,11 @@ module _ (head : TestHead) (Has Also : Final → Type 0) (same : (o : Final) →
   pub one_list_of_states : (states others : List Shown) → AreStatesOf head Has states → AreStatesOf head Also others → states ≡ others
   one_list_of_states states others a b =
       one_list (λ (first later : Shown). slice_cmp nat_cmp first.words later.words ≡ Less) strict_words states
-      others a.sorted b.sorted (λ s h. let e = (a.exactly s).0 h in (b.exactly s).1 (e.0, (same e.0).0 e.1,
-      e.2)) (λ s h. let e = (b.exactly s).0 h in (a.exactly s).1 (e.0, (same e.0).1 e.1, e.2))
+      others a.sorted b.sorted (λ s h. let e = (a.exactly s).0 h in (b.exactly s).1 (
+        e.0,
+        (same e.0).0 e.1,
+        e.2,
+      )) (λ s h. let e = (b.exactly s).0 h in (a.exactly s).1 (e.0, (same e.0).1 e.1, e.2))
 
   -- and the same report
   pub one_report : (claim : Claim) (text other : List ℕ) → IsReport head Has claim text → IsReport head Also claim other → text ≡ other

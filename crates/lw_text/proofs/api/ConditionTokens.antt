@@ -1,32 +1,15 @@
 -- The tokens of sites and of conditions, which say them again. The crates above that print tests use this.
-use Rattle.std.proofs.Common.{◌≡◌, ℕ, ◌<◌, ◌≤◌, ◌^◌, inl, inr, Bool, true, false, List, [], ◌∷◌, ◌++◌, map}
-use Rattle.std.proofs.Common.{length, refl, sym, ap, ◌∙◌, subst, arith, append_assoc, codes, slice_index_or}
-use Rattle.std.proofs.Common.{flat_map, decimal}
-use Rattle.std.specs.List.{AllByRecursion}
-use Rattle.std.proofs.lemmas.List.{map-append}
-use Rattle.std.proofs.lemmas.List.Elements.{All-from_recursion}
-use Rattle.std.proofs.lemmas.Option.{slice_get-get_or}
-use Rattle.lw_base.specs.Types.{Bytes, NameTable, TokenList}
-use Rattle.lw_base.specs.declared.head.Arch.{Arch}
-use Rattle.lw_base.specs.declared.head.Quant.{Quant}
-use Rattle.lw_base.specs.declared.head.Quant.TheVariants.{Exists, NotExists, Forall}
-use Rattle.lw_base.specs.declared.head.Seen.{Seen}
-use Rattle.lw_base.specs.declared.head.Seen.TheVariants.{Register, Location}
-use Rattle.lw_base.specs.ConditionTexts.{is_or, is_joined}
-use Rattle.lw_base.specs.Formula.{Formula, No, Reg_is, Word_is, Not, And, Or}
-use Rattle.lw_base.specs.Limits.{most_threads}
-use Rattle.lw_base.specs.Lists.{EachOnce}
-use Rattle.lw_base.specs.Names.{IsLocation}
-use Rattle.lw_base.proofs.api.Tables.{IsInTable, index_of-again}
-use Rattle.lw_base.specs.Registers.{register_name}
-use Rattle.lw_base.specs.WellFormed.{IsSeen, SpeaksOf}
-use Rattle.lw_text.specs.Sites.{SiteSyntax, InMemory, InThread, IsSite, ThreadExists, Value, site_names}
-use Rattle.lw_text.specs.Sites.{seen_in}
-use Rattle.lw_text.specs.Lists.{Ended}
-use Rattle.lw_text.specs.Propositions.{Terminal, Open, Close, Negation, Conjunction, Disjunction, Atom}
-use Rattle.lw_text.specs.Conditions.{AtomSyntax, Always, Never, Holds, IsTerminal, Terminals, Quantified}
-use Rattle.lw_text.specs.Conditions.{sites_in, resolved}
-use Rattle.lw_base.proofs.api.Elements.{all_append}
+use Rattle.lw_text.proofs.Common.{◌≡◌, ℕ, ◌<◌, ◌≤◌, ◌^◌, inl, inr, Bool, true, false, List, [], ◌∷◌, ◌++◌}
+use Rattle.lw_text.proofs.Common.{map, length, refl, sym, ap, ◌∙◌, subst, arith, append_assoc, codes}
+use Rattle.lw_text.proofs.Common.{slice_index_or, flat_map, decimal, AllByRecursion, map-append}
+use Rattle.lw_text.proofs.Common.{All-from_recursion, slice_get-get_or, Bytes, NameTable, TokenList, Arch}
+use Rattle.lw_text.proofs.Common.{Quant, Exists, NotExists, Forall, Seen, Register, Location, is_or}
+use Rattle.lw_text.proofs.Common.{is_joined, Formula, No, Reg_is, Word_is, Not, And, Or, most_threads}
+use Rattle.lw_text.proofs.Common.{EachOnce, IsLocation, IsInTable, index_of-again, register_name, IsSeen}
+use Rattle.lw_text.proofs.Common.{SpeaksOf, SiteSyntax, InMemory, InThread, IsSite, ThreadExists, Value}
+use Rattle.lw_text.proofs.Common.{site_names, seen_in, Ended, Terminal, Open, Close, Negation, Conjunction}
+use Rattle.lw_text.proofs.Common.{Disjunction, Atom, AtomSyntax, Always, Never, Holds, IsTerminal, Terminals}
+use Rattle.lw_text.proofs.Common.{Quantified, sites_in, resolved, all_append}
 use Rattle.lw_text.proofs.api.Spelling.{decimal_is_number}
 use Rattle.lw_text.proofs.api.PrintedPropositions.{enclosed, enclosed_if, terminals_of}
 

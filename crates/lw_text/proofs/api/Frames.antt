@@ -1,13 +1,7 @@
 -- A text has at most one frame, whose head is well-formed, with cells for each thread. lw_x86 and lw_bench use this.
-use Rattle.std.proofs.Common.{◌≡◌, length, map, sym, ap, ◌∙◌, subst}
-use Rattle.std.proofs.lemmas.List.FromFn.{length-map-range_with_len}
-use Rattle.lw_base.specs.Types.{Bytes}
-use Rattle.lw_base.specs.declared.head.Arch.{Arch}
-use Rattle.lw_base.specs.Formula.{Formula}
-use Rattle.lw_text.specs.Tokens.{Tokens}
-use Rattle.lw_text.specs.Propositions.{IsProposition}
-use Rattle.lw_text.specs.Conditions.{resolved}
-use Rattle.lw_text.specs.Frames.{TestSyntax, table, Parts, TestFrame, HasFrame, made_of}
+use Rattle.lw_text.proofs.Common.{◌≡◌, length, map, sym, ap, ◌∙◌, subst, length-map-range_with_len, Bytes}
+use Rattle.lw_text.proofs.Common.{Arch, Formula, Tokens, IsProposition, resolved, TestSyntax, table, Parts}
+use Rattle.lw_text.proofs.Common.{TestFrame, HasFrame, made_of}
 use Rattle.lw_text.proofs.Headings.{Heading-unique}
 use Rattle.lw_text.proofs.PropositionReadings.{IsProposition-unique}
 use Rattle.lw_text.proofs.TokenRows.{Tokens-unique}
@@ -21,13 +15,13 @@ HasFrame-unique text f g p q =
     let parts = subst (λ a. Parts a q.tokens p.syntax) head.0 (subst (λ x. Parts p.arch x p.syntax) tokens p.parts) in
     let syntax : p.syntax ≡ q.syntax = Parts-unique q.arch q.tokens p.syntax q.syntax parts q.parts in
     let condition : p.condition ≡ q.condition = IsProposition-unique (map (resolved (table q.syntax))
-        q.syntax.terminals) p.condition q.condition (subst (λ (s : TestSyntax). IsProposition
-        (map (resolved (table s)) s.terminals) p.condition) syntax p.proposition) q.proposition in
+    q.syntax.terminals) p.condition q.condition (subst (λ (s : TestSyntax). IsProposition
+    (map (resolved (table s)) s.terminals) p.condition) syntax p.proposition) q.proposition in
     let arch : p.arch ≡ q.arch = head.0 in
     let name : p.name ≡ q.name = head.1 in
     p.made ∙ ap (λ (a : Arch). made_of a p.name p.syntax p.condition) arch
-        ∙ ap (λ n. made_of q.arch n p.syntax p.condition) name ∙ ap (λ (s : TestSyntax). made_of q.arch q.name
-        s p.condition) syntax ∙ ap (λ (c : Formula). made_of q.arch q.name q.syntax c) condition ∙ sym q.made
+    ∙ ap (λ n. made_of q.arch n p.syntax p.condition) name ∙ ap (λ (s : TestSyntax). made_of q.arch q.name
+    s p.condition) syntax ∙ ap (λ (c : Formula). made_of q.arch q.name q.syntax c) condition ∙ sym q.made
 
 pub frame_columns : (text : Bytes) (f : TestFrame) → HasFrame text f → length f.cells ≡ f.head.threads
 frame_columns text f p =

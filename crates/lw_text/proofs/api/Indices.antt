@@ -1,8 +1,7 @@
 -- The first so many of all numbers are their own indices. The page of a replay is printed by this.
-use Rattle.std.proofs.Common.{◌≡◌, ℕ, ◌<◌, ◌≤◌, List, length, take, get_or, ap, ◌∙◌, arith, zero-add}
-use Rattle.std.proofs.Common.{get_or-take, length-take}
-use Rattle.std.specs.List.{range_with_len}
-use Rattle.std.proofs.lemmas.List.FromFn.{get_or-range_with_len, length-range_with_len}
+use Rattle.lw_text.proofs.Common.{◌≡◌, ℕ, ◌<◌, ◌≤◌, List, length, take, get_or, ap, ◌∙◌, arith, zero-add}
+use Rattle.lw_text.proofs.Common.{get_or-take, length-take, range_with_len, get_or-range_with_len}
+use Rattle.lw_text.proofs.Common.{length-range_with_len}
 
 -- an element of the first so many numbers is its index
 pub is_index : (n len k x : ℕ) (all xs : List ℕ) → all ≡ range_with_len 0 n → xs ≡ take len all → k < length xs → x ≡ get_or xs k x → x ≡ k

@@ -1,10 +1,6 @@
 -- What the tokens of numbers begin with, and that each stands for one number. The crates of the languages use this.
-use Rattle.std.proofs.Common.{◌≡◌, ℕ, ◌<◌, inl, inr, true, [], ◌∷◌, ◌++◌, ap, subst, arith, codes}
-use Rattle.std.specs.Char.{digit_value, is_ascii_digit}
-use Rattle.std.proofs.lemmas.Bool.Decides.{nat_tests}
-use Rattle.lw_base.specs.Characters.{begins}
-use Rattle.lw_base.specs.Types.{Bytes}
-use Rattle.lw_text.specs.Tokens.{Digits, IsNumber}
+use Rattle.lw_text.proofs.Common.{◌≡◌, ℕ, ◌<◌, inl, inr, true, [], ◌∷◌, ◌++◌, ap, subst, arith, codes}
+use Rattle.lw_text.proofs.Common.{digit_value, is_ascii_digit, nat_tests, begins, Bytes, Digits, IsNumber}
 use Rattle.lw_text.proofs.Numbers.{Digits-unique}
 
 decimal_first : (b : ℕ) → digit_value b < 10 → is_ascii_digit b ≡ true

@@ -1,11 +1,7 @@
 -- Tokens and cells in memory are those with places when the places are left out. The crates above use this.
-use Rattle.std.proofs.Common.{◌≡◌, List, [], ◌∷◌, refl, ap, ◌∙◌}
-use Rattle.lw_text.specs.declared.token.Token.{Token}
-use Rattle.lw_text.specs.declared.cell.Cell.{Cell}
-use Rattle.lw_text.specs.Spans.{texts}
-use Rattle.lw_text.specs.PlacedTokens.{texts_of_tokens}
-use Rattle.lw_text.specs.PlacedCells.{texts_of_cells, texts_of_grid}
-use Rattle.lw_text.specs.Places.{placed_tokens, placed_row, placed_cells, cells_texts, all_texts}
+use Rattle.lw_text.proofs.Common.{◌≡◌, List, [], ◌∷◌, refl, ap, ◌∙◌, Token, Cell, texts, texts_of_tokens}
+use Rattle.lw_text.proofs.Common.{texts_of_cells, texts_of_grid, placed_tokens, placed_row, placed_cells}
+use Rattle.lw_text.proofs.Common.{cells_texts, all_texts}
 
 pub texts_placed : (ts : List Token) → texts_of_tokens (placed_tokens ts) ≡ texts ts
 texts_placed [] = refl

@@ -1,32 +1,15 @@
 -- Sites and conditions as they are printed: their texts spell tokens. The crates above that print tests use this.
-use Rattle.std.proofs.Common.{◌≡◌, ℕ, suc, ◌+◌, ◌*◌, ◌<◌, ◌≤◌, ◌^◌, Bool, true, false, not, List, [], ◌∷◌}
-use Rattle.std.proofs.Common.{◌++◌, length, refl, sym, ap, ◌∙◌, subst, arith, append_assoc, ◌==◌, codes}
-use Rattle.std.proofs.Common.{slice_index_or, flat_map, decimal}
-use Rattle.std.specs.List.{AllByRecursion}
-use Rattle.std.proofs.lemmas.Bool.{not-true}
-use Rattle.std.proofs.lemmas.Bool.Decides.{nat_tests}
-use Rattle.std.proofs.lemmas.Fmt.{decimal_nonempty}
-use Rattle.std.proofs.lemmas.Grind.{flat_map-append}
-use Rattle.std.proofs.lemmas.List.Elements.{All-from_recursion}
-use Rattle.lw_base.specs.Types.{Bytes, NameTable, TokenList}
-use Rattle.lw_base.specs.declared.head.Arch.{Arch}
-use Rattle.lw_base.specs.declared.head.Arch.TheVariants.{Source, X86}
-use Rattle.lw_base.specs.declared.head.Quant.{Quant}
-use Rattle.lw_base.specs.declared.head.Quant.TheVariants.{Exists, NotExists, Forall}
-use Rattle.lw_base.specs.declared.head.Seen.{Seen}
-use Rattle.lw_base.specs.declared.head.Seen.TheVariants.{Register, Location}
-use Rattle.lw_base.specs.Characters.{is_word_byte, begins}
-use Rattle.lw_base.specs.ConditionTexts.{site_text, assignment, in_parentheses, parenthesized_if}
-use Rattle.lw_base.specs.ConditionTexts.{is_joined, proposition_text, quantifier_text}
-use Rattle.lw_base.specs.Formula.{Formula, Yes, No, Reg_is, Word_is, Not, And, Or, nodes}
-use Rattle.lw_base.specs.Limits.{most_threads}
-use Rattle.lw_base.specs.Names.{IsName, IsLocation}
-use Rattle.lw_base.specs.Registers.{register_name}
-use Rattle.lw_base.specs.WellFormed.{IsSeen, SpeaksOf}
-use Rattle.lw_text.specs.Tokens.{is_pair}
-use Rattle.lw_text.specs.Propositions.{Terminal, Conjunction, Disjunction, Atom}
-use Rattle.lw_text.specs.Conditions.{AtomSyntax, Always, Never, Holds}
-use Rattle.lw_base.proofs.api.Blanks.{blank_all}
+use Rattle.lw_text.proofs.Common.{◌≡◌, ℕ, suc, ◌+◌, ◌*◌, ◌<◌, ◌≤◌, ◌^◌, Bool, true, false, not, List, [], ◌∷◌}
+use Rattle.lw_text.proofs.Common.{◌++◌, length, refl, sym, ap, ◌∙◌, subst, arith, append_assoc, ◌==◌, codes}
+use Rattle.lw_text.proofs.Common.{slice_index_or, flat_map, decimal, AllByRecursion, not-true, nat_tests}
+use Rattle.lw_text.proofs.Common.{decimal_nonempty, flat_map-append, All-from_recursion, Bytes, NameTable}
+use Rattle.lw_text.proofs.Common.{TokenList, Arch, Source, X86, Quant, Exists, NotExists, Forall, Seen}
+use Rattle.lw_text.proofs.Common.{Register, Location, is_word_byte, begins, site_text, assignment}
+use Rattle.lw_text.proofs.Common.{in_parentheses, parenthesized_if, is_joined, proposition_text}
+use Rattle.lw_text.proofs.Common.{quantifier_text, Formula, Yes, No, Reg_is, Word_is, Not, And, Or, nodes}
+use Rattle.lw_text.proofs.Common.{most_threads, IsName, IsLocation, register_name, IsSeen, SpeaksOf, is_pair}
+use Rattle.lw_text.proofs.Common.{Terminal, Conjunction, Disjunction, Atom, AtomSyntax, Always, Never, Holds}
+use Rattle.lw_text.proofs.Common.{blank_all}
 use Rattle.lw_text.proofs.api.Spelling.{Anything, EndsWord, IsBlankNext, HasNoStar, HasNoEquals, Spells}
 use Rattle.lw_text.proofs.api.Spelling.{name_by_test, Spells-then, Spells-on, Spells-before, Spells-within}
 use Rattle.lw_text.proofs.api.Spelling.{Spells-space, Spells-symbol, Spells-mark, Spells-pair, Spells-name}
@@ -87,7 +70,7 @@ module _ (arch : Arch) (threads : ℕ) (few : threads ≤ most_threads) (names :
   site_spelled (Register t r) h =
       let number = Spells-number t (omega (arith, h.0, few)) in
       (Spells-then (λ rest g. refl) number (Spells-then (λ rest g. name_no_equals (register_name arch r) rest
-          (register_is_name arch r h.1)) Spells-colon (Spells-register arch r h.1)))
+      (register_is_name arch r h.1)) Spells-colon (Spells-register arch r h.1)))
   site_spelled (Location x) h = Spells-within 43 (omega arith) (Spells-name (slice_index_or names x []) (name_there names x table h).0)
 
   site_starts : (s : Seen) → IsSeen threads (length names) s → Starts (site_text arch names s)
@@ -121,11 +104,11 @@ module _ (arch : Arch) (threads : ℕ) (few : threads ≤ most_threads) (names :
       let opening = Spells-symbol {F = HasNoStar} 40 refl (λ rest f. alone _) (λ rest f. f) (omega arith) in
       let closing = Spells-mark 41 refl (λ c. refl) refl (omega arith) in
       let whole : Spells Anything (1 + (most + 1)) (in_parentheses text) ((codes "(" ∷ []) ++ (tokens_of ss
-          ++ (codes ")" ∷ []))) = Spells-then (λ rest g. subst HasNoStar (sym (append_assoc text (codes ")")
-          rest)) (starts_no_star text (codes ")" ++ rest) s.starts)) opening (Spells-then (λ rest g. refl)
-          s.spells closing) in
+      ++ (codes ")" ∷ []))) = Spells-then (λ rest g. subst HasNoStar (sym (append_assoc text (codes ")")
+      rest)) (starts_no_star text (codes ")" ++ rest) s.starts)) opening (Spells-then (λ rest g. refl)
+      s.spells closing) in
       subst (λ (ts : TokenList). Spells Anything (most + 2) (in_parentheses text) (codes "(" ∷ ts))
-          (sym (flat_map-append (terminal_tokens arch) ss _)) (Spells-within (most + 2) (omega arith) whole)
+      (sym (flat_map-append (terminal_tokens arch) ss _)) (Spells-within (most + 2) (omega arith) whole)
     where
       alone : (rest : Bytes) → begins (is_pair 40) rest ≡ false
       alone [] = refl
@@ -196,7 +179,7 @@ module _ (arch : Arch) (threads : ℕ) (few : threads ≤ most_threads) (names :
   proposition_spelled (Or p q) h =
       let right = part_spelled _ (proposition_text arch names q) _ (terms q) (proposition_spelled q h.1) in
       within _ _ (60 * suc (nodes p + nodes q)) _ (omega arith) (joined_spelled _ _ _ _ _ _ (codes " \\/ ")
-          Disjunction (λ rest. refl) disjunction (proposition_spelled p h.0) right)
+      Disjunction (λ rest. refl) disjunction (proposition_spelled p h.0) right)
 
   -- a proposition in parentheses
   pub whole_spelled : (p : Formula) → SpeaksOf threads (length names) p

@@ -1,10 +1,9 @@
 -- The terminals of a formula as it is printed, and that they say it again. The crates above that print tests use this.
-use Rattle.std.proofs.Common.{◌≡◌, Bool, true, false, List, [], ◌∷◌, ◌++◌, refl, if◌then◌else◌}
-use Rattle.lw_base.specs.Formula.{Formula, Yes, No, Reg_is, Word_is, Not, And, Or}
-use Rattle.lw_base.specs.ConditionTexts.{is_or, is_joined}
-use Rattle.lw_text.specs.Propositions.{Terminal, Open, Close, Negation, Conjunction, Disjunction, Atom}
-use Rattle.lw_text.specs.Propositions.{PartLevel, ConjunctionLevel, DisjunctionLevel, Derives, atom, negated}
-use Rattle.lw_text.specs.Propositions.{parens, part, and, conjunction, or, IsProposition}
+use Rattle.lw_text.proofs.Common.{◌≡◌, Bool, true, false, List, [], ◌∷◌, ◌++◌, refl, if◌then◌else◌, Formula}
+use Rattle.lw_text.proofs.Common.{Yes, No, Reg_is, Word_is, Not, And, Or, is_or, is_joined, Terminal, Open}
+use Rattle.lw_text.proofs.Common.{Close, Negation, Conjunction, Disjunction, Atom, PartLevel}
+use Rattle.lw_text.proofs.Common.{ConjunctionLevel, DisjunctionLevel, Derives, atom, negated, parens, part}
+use Rattle.lw_text.proofs.Common.{and, conjunction, or, IsProposition}
 
 abbrev pub enclosed : {A : Type 0} → List (Terminal A) → List (Terminal A)
 enclosed ss = Open ∷ (ss ++ Close ∷ [])
@@ -57,8 +56,12 @@ shown (And p q) =
     let d = and (any_row p (shown p) (is_or p) refl) (any_part q (shown q) (is_joined q) refl) in
     record { part = λ h. absurd cc; row = λ h. d; whole = conjunction d }
 shown (Or p q) =
-    record { part = λ h. absurd cc; row = λ h. absurd cc; whole = or (shown p).whole (any_row q (shown q)
-        (is_or q) refl) }
+    record {
+      part = λ h. absurd cc;
+      row = λ h. absurd cc;
+      whole = or (shown p).whole (any_row q (shown q)
+          (is_or q) refl);
+    }
 
 -- A formula in parentheses is a proposition that says it.
 pub printed_proposition : (p : Formula) → IsProposition (enclosed (terminals_of (λ q. q) p)) p

@@ -1,14 +1,9 @@
 -- The nodes of a proposition are those of its terminals.
-use Rattle.std.proofs.Common.{◌≡◌, ℕ, suc, ◌+◌, List, [], ◌∷◌, ◌++◌, length, map, refl, ap, ◌∙◌}
-use Rattle.std.proofs.Common.{length-append, arith, filter}
-use Rattle.std.proofs.lemmas.List.Elements.{filter-append}
-use Rattle.std.specs.List.{AllByRecursion}
-use Rattle.lw_base.specs.Formula.{Formula, nodes}
-use Rattle.lw_base.proofs.api.Elements.{all_parts}
-use Rattle.lw_text.specs.Sites.{InMemory, InThread}
-use Rattle.lw_text.specs.Propositions.{Terminal, Open, Close, Conjunction, Disjunction, Atom, is_node, Level}
-use Rattle.lw_text.specs.Propositions.{Derives, atom, negated, parens, part, and, conjunction, or}
-use Rattle.lw_text.specs.Conditions.{AtomSyntax, Holds, resolved}
+use Rattle.lw_text.proofs.Common.{◌≡◌, ℕ, suc, ◌+◌, List, [], ◌∷◌, ◌++◌, length, map, refl, ap, ◌∙◌}
+use Rattle.lw_text.proofs.Common.{length-append, arith, filter, filter-append, AllByRecursion, Formula, nodes}
+use Rattle.lw_text.proofs.Common.{all_parts, InMemory, InThread, Terminal, Open, Close, Conjunction}
+use Rattle.lw_text.proofs.Common.{Disjunction, Atom, is_node, Level, Derives, atom, negated, parens, part}
+use Rattle.lw_text.proofs.Common.{and, conjunction, or, AtomSyntax, Holds, resolved}
 
 -- how many of the terminals are nodes
 abbrev pub count : {A : Type 0} → List (Terminal A) → ℕ

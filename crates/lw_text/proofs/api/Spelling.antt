@@ -1,22 +1,13 @@
 -- Texts that spell tokens, before whatever may follow them. The crates above that print tests use this.
-use Rattle.std.proofs.Common.{◌≡◌, ℕ, zero, suc, ◌+◌, ◌*◌, ◌<◌, ◌≤◌, ◌^◌, inl, inr, Bool, true, false, not}
-use Rattle.std.proofs.Common.{List, [], ◌∷◌, ◌++◌, length, refl, sym, ap, ◌∙◌, subst, arith, append_assoc}
-use Rattle.std.proofs.Common.{append-nil, length-append, ◌==◌, ◌&&◌, nat_lt, IsUtf8, IsAscii, decimal}
-use Rattle.std.proofs.Common.{ltb-true}
-use Rattle.std.specs.List.{AllByRecursion, list_all}
-use Rattle.std.specs.Str.Parse.{AllDigits, digits_value_after}
-use Rattle.std.specs.Char.{digit_value, is_ascii_digit}
-use Rattle.std.proofs.lemmas.Bool.{not-true, and_parts}
-use Rattle.std.proofs.lemmas.Bool.Decides.{nat_tests}
-use Rattle.std.proofs.lemmas.Fmt.{decimal_is_IsNumeral, length-decimal-le}
-use Rattle.std.proofs.lemmas.Str.{IsUtf8-nil, IsUtf8-append, IsUtf8-from_ascii}
-use Rattle.std.proofs.lemmas.Str.Parse.{digit_from_value}
-use Rattle.lw_base.specs.Types.{Bytes, TokenList}
-use Rattle.lw_base.specs.Characters.{is_blank, is_word_byte, begins}
-use Rattle.lw_base.specs.Names.{IsName}
-use Rattle.lw_text.specs.Tokens.{opens_comment, none, blank, Digits, IsNumber, IsKind, is_pair, is_single}
-use Rattle.lw_text.specs.Tokens.{Tokens}
-use Rattle.lw_base.proofs.api.Blanks.{blank_all, word_ascii}
+use Rattle.lw_text.proofs.Common.{◌≡◌, ℕ, zero, suc, ◌+◌, ◌*◌, ◌<◌, ◌≤◌, ◌^◌, inl, inr, Bool, true, false}
+use Rattle.lw_text.proofs.Common.{not, List, [], ◌∷◌, ◌++◌, length, refl, sym, ap, ◌∙◌, subst, arith}
+use Rattle.lw_text.proofs.Common.{append_assoc, append-nil, length-append, ◌==◌, ◌&&◌, nat_lt, IsUtf8}
+use Rattle.lw_text.proofs.Common.{IsAscii, decimal, ltb-true, AllByRecursion, list_all, AllDigits}
+use Rattle.lw_text.proofs.Common.{digits_value_after, digit_value, is_ascii_digit, not-true, and_parts}
+use Rattle.lw_text.proofs.Common.{nat_tests, decimal_is_IsNumeral, length-decimal-le, IsUtf8-nil}
+use Rattle.lw_text.proofs.Common.{IsUtf8-append, IsUtf8-from_ascii, digit_from_value, Bytes, TokenList}
+use Rattle.lw_text.proofs.Common.{is_blank, is_word_byte, begins, IsName, opens_comment, none, blank, Digits}
+use Rattle.lw_text.proofs.Common.{IsNumber, IsKind, is_pair, is_single, Tokens, blank_all, word_ascii}
 
 -- ---- what may follow a text: anything, no byte of a word, a blank, no `*`, or nothing that makes a symbol with a `:`
 
@@ -164,9 +155,11 @@ Spells-name w name = Spells-word 32 w name.0.all (inl name) name.1
 
 digits_say : (n : ℕ) (ds : Bytes) (v : ℕ) → AllDigits 10 ds → digits_value_after 10 n ds ≡ v → Digits 10 n ds v
 digits_say n [] v all e = e
-digits_say n (d ∷ ds) v all e =
-    (all.0, digits_say (10 * n + digit_value d) ds v all.1 (ap (λ (m : ℕ). digits_value_after 10 m ds)
-        (sym (omega arith)) ∙ e))
+digits_say n (d ∷ ds) v all e = (
+  all.0,
+  digits_say (10 * n + digit_value d) ds v all.1 (ap (λ (m : ℕ). digits_value_after 10 m ds)
+      (sym (omega arith)) ∙ e),
+)
 
 -- a number's decimal digits are a number
 pub decimal_is_number : (n : ℕ) → n < 2 ^ 32 → IsNumber (decimal n) n

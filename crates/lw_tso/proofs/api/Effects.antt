@@ -1,15 +1,9 @@
 -- What acts and events come to over the flat memory.
-use Rattle.std.proofs.Common.{◌≡◌, ℕ, List, length, Ok, Option, Some, None, Bool, true, false, refl, sym, ap}
-use Rattle.std.proofs.Common.{ap₂, ◌∙◌, subst, nat_lt, if◌then◌else◌, slice_get, slice_set, slice_index}
-use Rattle.lw_base.specs.Sums.{sum_of}
-use Rattle.lw_base.specs.declared.event.Event.{Event}
-use Rattle.lw_base.specs.declared.event.Event.TheVariants.{Evict}
-use Rattle.lw_base.specs.declared.stop.Stop.TheVariants.{NoLocation}
-use Rattle.lw_memory.specs.Flat.{flat}
-use Rattle.lw_litmus.specs.declared.instr.Instr.{Instr}
-use Rattle.lw_tso.specs.Processors.{Processor}
-use Rattle.lw_tso.specs.Acts.{Act, Refused, Goes, Loads, Stores, Swaps, Adds, Evicts, cpu_of, event_act}
-use Rattle.lw_tso.specs.Machines.{MachineState, Answer, ActDone, DoneBy, EventDone}
+use Rattle.lw_tso.proofs.Common.{◌≡◌, ℕ, List, length, Ok, Option, Some, None, Bool, true, false, refl, sym}
+use Rattle.lw_tso.proofs.Common.{ap, ap₂, ◌∙◌, subst, nat_lt, if◌then◌else◌, slice_get, slice_set}
+use Rattle.lw_tso.proofs.Common.{slice_index, sum_of, Event, Evict, NoLocation, flat, Instr, Processor, Act}
+use Rattle.lw_tso.proofs.Common.{Refused, Goes, Loads, Stores, Swaps, Adds, Evicts, cpu_of, event_act}
+use Rattle.lw_tso.proofs.Common.{MachineState, Answer, ActDone, DoneBy, EventDone}
 
 abbrev pub state : List Processor → List ℕ → MachineState (List ℕ)
 state processors m = record { processors = processors; memory = m }
@@ -88,7 +82,7 @@ module _ (program : List (List Instr)) where
       → EventDone flat program e (state processors m) (Ok tt) (state (slice_set processors (cpu_of e) q) n)
   leads_from e processors p q m n was d =
       subst (λ o. DoneBy flat o program e (state processors m) (Ok tt) (state (slice_set processors (cpu_of e)
-          q) n)) (sym was) (q, n, does_done (cpu_of e) (event_act program (length m) e p) p q m n d, refl)
+      q) n)) (sym was) (q, n, does_done (cpu_of e) (event_act program (length m) e p) p q m n d, refl)
 
   -- what an event's act did
   pub leads_to : (e : Event) (s mid : MachineState (List ℕ)) → EventDone flat program e s (Ok tt) mid → Did program e s mid

@@ -1,35 +1,17 @@
 -- Every run of a program can be brought to its end: each processor is led to its own, one after another, by draining its
 -- buffer and stepping on once it is empty.
-use Rattle.std.proofs.Common.{inl, inr, ◌≡◌, ◌≢◌, ℕ, zero, suc, ◌+◌, ◌<◌, ◌≤◌, ◌==◌, ◌&&◌, Bool, true}
-use Rattle.std.proofs.Common.{cond, List, [], ◌∷◌, ◌++◌, length, get_or, Ok, Option, Some, None, refl, sym}
-use Rattle.std.proofs.Common.{ap, ap₂, ◌∙◌, subst, arith, ⊎_elim, slice_get, slice_set, slice_index, ne_eqb}
-use Rattle.std.proofs.Common.{All, IsTrue, zip, le-leb}
-use Rattle.std.specs.List.{list_all}
-use Rattle.std.proofs.lemmas.Bool.{cases_eq, cases_lt}
-use Rattle.std.proofs.lemmas.List.Sums.{sum_by-append, sum_by-cons, count_by-le-length}
-use Rattle.std.proofs.lemmas.Option.{slice_get_within, slice_get-get_or, same_Some}
-use Rattle.circular_buffer.proofs.Places.{slice_get-set_same, slice_get-set_other}
-use Rattle.lw_base.specs.declared.event.Event.{Event}
-use Rattle.lw_base.specs.declared.event.Event.TheVariants.{Step, Drain, Evict}
-use Rattle.lw_memory.specs.MemoryLaws.{Invariant, Lawful}
-use Rattle.lw_memory.specs.Memory.{Memory}
-use Rattle.lw_litmus.specs.WellFormed.{IsThread}
-use Rattle.lw_litmus.specs.declared.instr.Instr.{Instr}
-use Rattle.lw_litmus.specs.declared.instr.Instr.TheVariants.{Mfence}
-use Rattle.lw_litmus.specs.Programs.{x86_operation, x86}
-use Rattle.lw_litmus.specs.WellFormedTests.{IsWellFormedProgram}
-use Rattle.lw_litmus.specs.Tests.{ProgramTest}
-use Rattle.lw_tso.specs.Processors.{Processor}
-use Rattle.lw_base.specs.Threads.{code_of}
-use Rattle.lw_base.proofs.api.Replays.{Ran-append}
-use Rattle.lw_tso.specs.Acts.{Act, Goes, Loads, Stores, Swaps, Adds, cpu_of, event_act, operation_act}
-use Rattle.lw_tso.specs.Acts.{step_act, drain_act}
-use Rattle.lw_tso.specs.Machines.{MachineState, ActDone, DoneBy, EventDone}
-use Rattle.lw_tso.specs.inner.Rooms.{HasRoom, makes_entry, stores_from}
-use Rattle.lw_tso.specs.Runs.{MachineRan, machine_start, is_done, is_final}
-use Rattle.lw_tso.specs.Evictions.{without_evictions}
-use Rattle.lw_tso.specs.Endings.{events_of, CanEnd}
-use Rattle.lw_tso.specs.Starts.{CanStart}
+use Rattle.lw_tso.proofs.Common.{inl, inr, ◌≡◌, ◌≢◌, ℕ, zero, suc, ◌+◌, ◌<◌, ◌≤◌, ◌==◌, ◌&&◌, Bool, true}
+use Rattle.lw_tso.proofs.Common.{cond, List, [], ◌∷◌, ◌++◌, length, get_or, Ok, Option, Some, None, refl, sym}
+use Rattle.lw_tso.proofs.Common.{ap, ap₂, ◌∙◌, subst, arith, ⊎_elim, slice_get, slice_set, slice_index}
+use Rattle.lw_tso.proofs.Common.{ne_eqb, All, IsTrue, zip, le-leb, list_all, cases_eq, cases_lt}
+use Rattle.lw_tso.proofs.Common.{sum_by-append, sum_by-cons, count_by-le-length, slice_get_within}
+use Rattle.lw_tso.proofs.Common.{slice_get-get_or, same_Some, slice_get-set_same, slice_get-set_other, Event}
+use Rattle.lw_tso.proofs.Common.{Step, Drain, Evict, Invariant, Lawful, Memory, IsThread, Instr, Mfence}
+use Rattle.lw_tso.proofs.Common.{x86_operation, x86, IsWellFormedProgram, ProgramTest, Processor, code_of}
+use Rattle.lw_tso.proofs.Common.{Ran-append, Act, Goes, Loads, Stores, Swaps, Adds, cpu_of, event_act}
+use Rattle.lw_tso.proofs.Common.{operation_act, step_act, drain_act, MachineState, ActDone, DoneBy, EventDone}
+use Rattle.lw_tso.proofs.Common.{HasRoom, makes_entry, stores_from, MachineRan, machine_start, is_done}
+use Rattle.lw_tso.proofs.Common.{is_final, without_evictions, events_of, CanEnd, CanStart}
 use Rattle.lw_tso.proofs.Rooms.{forward, event_room}
 use Rattle.lw_tso.proofs.api.Lift.{IsWithin, asks_within, thread_at, within_after, within_reached}
 use Rattle.lw_tso.proofs.api.Operations.{Comes, operation_comes}
@@ -142,8 +124,8 @@ module _ {M : Type 0} (mem : Memory M) (inv : Invariant M) (laws : Lawful mem in
         let next : slice_get code p.position ≡ Some i = slice_get-get_or code p.position Mfence lt in
         let cpu : t < inv.cpus s.memory = omega (arith, slice_get_within s.processors t p at, within.cpus) in
         let comes = operation_comes ⊥ (λ x written. x < length (mem.content s.memory)) (λ q. p.position
-            < q.position) _ p (λ waits full. full empty) (λ x is. asks_within mem inv laws _ locs threads t p
-            s within at x (inl (i, next, is))) (λ q went. forward locs code thread _ _ i next went.leads) in
+        < q.position) _ p (λ waits full. full empty) (λ x is. asks_within mem inv laws _ locs threads t p
+        s within at x (inl (i, next, is))) (λ q went. forward locs code thread _ _ i next went.leads) in
         subst (λ o. IsPossible t (step_act o p) p s.memory (λ q. p.position < q.position)) (sym next)
         (possible t (operation_act (x86_operation i) p) p s.memory _ within.sound cpu comes)
 
@@ -165,11 +147,11 @@ module _ {M : Type 0} (mem : Memory M) (inv : Invariant M) (laws : Lawful mem in
     finish t (suc k) r s p (entry ∷ newer) within at is ahead small =
         let d = drained t s p entry newer within at is in
         first (Drain t) s p d.0 d.1 k within at d.2 (λ es. refl) (λ mid w got. finish t k r mid
-            (record p { buffer = newer }) newer w (got ∙ ap Some d.3) refl ahead (omega arith))
+        (record p { buffer = newer }) newer w (got ∙ ap Some d.3) refl ahead (omega arith))
     finish t (suc k) zero s p [] within at is ahead small = ended t (suc k) s p within at (omega arith) is
     finish t (suc k) (suc r) s p [] within at is ahead small =
         ⊎_elim (λ lt. go lt (λ mid q w got. finish t k r mid q q.buffer w got refl)) (λ past. ended t (suc k)
-            s p within at past is) (cases_lt p.position (length (code_of program t)))
+        s p within at past is) (cases_lt p.position (length (code_of program t)))
       where
         go : p.position < length (code_of program t)
             → ((mid : MachineState M) (q : Processor) → Within mid → slice_get mid.processors t ≡ Some q → length (code_of program t) ≤ r + q.position
@@ -180,7 +162,7 @@ module _ {M : Type 0} (mem : Memory M) (inv : Invariant M) (laws : Lawful mem in
             let had : HasRoom locs (code_of program t) p (stores_from p.position (code_of program t)) = record
             { fits = omega (arith, ap length is); there = (within.rooms t p at).there } in
             let has = event_room mem program locs (stores_from p.position (code_of program t)) (Step t) p g.0
-                s.memory g.1 (Ok tt) (thread_at mem inv laws program locs threads s t p within at) g.2 had in
+            s.memory g.1 (Ok tt) (thread_at mem inv laws program locs threads s t p within at) g.2 had in
             first (Step t) s p g.0 g.1 k within at g.2 (λ es. refl)
             (λ mid w got. later mid g.0 w got (omega (arith, ahead, g.3)) (omega (arith, small, has.fits)))
 
@@ -263,7 +245,7 @@ module _ {M : Type 0} (mem : Memory M) (inv : Invariant M) (laws : Lawful mem in
     ends_from s within =
         let a = parts (length program) s within in
         let all : IsTrue (is_final program a.end) = all_done program a.end.processors (λ t p got. a.done t p
-            (omega (arith, slice_get_within a.end.processors t p got, a.within.as_many)) got) in
+        (omega (arith, slice_get_within a.end.processors t p got, a.within.as_many)) got) in
         record {
           more = a.events;
           end = a.end;

@@ -1,39 +1,20 @@
 -- A run over the flat memory is a run over every memory that keeps the laws.
-use Rattle.std.proofs.Common.{Bool, inl, inr, ◌≡◌, ◌↔◌, ℕ, ◌<◌, ◌≤◌, List, [], ◌∷◌, length, Ok, Option}
-use Rattle.std.proofs.Common.{Some, None, refl, sym, ap, ◌∙◌, subst, arith, slice_get, slice_set, All, IsTrue}
-use Rattle.std.proofs.Common.{option_map, length-set}
-use Rattle.std.proofs.lemmas.List.{length-map}
-use Rattle.std.proofs.lemmas.List.Elements.{All-nil}
-use Rattle.std.proofs.lemmas.Option.{slice_get-map, slice_get_within, same_Some}
-use Rattle.lw_base.specs.Outcomes.{Final}
-use Rattle.lw_base.specs.declared.event.Event.{Event}
-use Rattle.lw_base.specs.declared.event.Event.TheVariants.{Evict}
-use Rattle.lw_memory.specs.declared.system.Request.{Request}
-use Rattle.lw_memory.specs.Content.{answer_of, content_after}
-use Rattle.lw_memory.specs.Flat.{flat}
-use Rattle.lw_memory.specs.Memory.{Memory, IsInRange, IsPossible}
-use Rattle.lw_memory.specs.MemoryLaws.{Lawful, Invariant}
-use Rattle.lw_litmus.specs.WellFormed.{IsThread}
-use Rattle.lw_base.proofs.api.Lists.{each_after}
-use Rattle.lw_litmus.specs.declared.instr.Instr.{Instr}
-use Rattle.lw_litmus.specs.Programs.{x86}
-use Rattle.lw_litmus.specs.WellFormedTests.{IsWellFormedProgram}
-use Rattle.lw_litmus.specs.Tests.{ProgramTest}
-use Rattle.lw_tso.specs.Processors.{Processor, starting}
-use Rattle.lw_base.specs.Threads.{code_of}
-use Rattle.lw_tso.specs.Acts.{Act, Loads, Stores, Swaps, Adds, Evicts, cpu_of, event_act}
-use Rattle.lw_tso.specs.Machines.{MachineState, Answer, flatten, ActDone, DoneBy, EventDone}
-use Rattle.lw_tso.specs.inner.Rooms.{HasRoom, stores_from}
-use Rattle.lw_tso.specs.Runs.{MachineRan, Replays, MachineOutcome, machine_start, machine_outcome, is_final}
-use Rattle.lw_tso.specs.Evictions.{without_evictions}
-use Rattle.lw_tso.specs.Starts.{CanStart}
+use Rattle.lw_tso.proofs.Common.{Bool, inl, inr, ◌≡◌, ◌↔◌, ℕ, ◌<◌, ◌≤◌, List, [], ◌∷◌, length, Ok, Option}
+use Rattle.lw_tso.proofs.Common.{Some, None, refl, sym, ap, ◌∙◌, subst, arith, slice_get, slice_set, All}
+use Rattle.lw_tso.proofs.Common.{IsTrue, option_map, length-set, length-map, All-nil, slice_get-map}
+use Rattle.lw_tso.proofs.Common.{slice_get_within, same_Some, Final, Event, Evict, Request, answer_of}
+use Rattle.lw_tso.proofs.Common.{content_after, flat, Memory, IsInRange, IsPossible, Lawful, Invariant}
+use Rattle.lw_tso.proofs.Common.{IsThread, each_after, Instr, x86, IsWellFormedProgram, ProgramTest}
+use Rattle.lw_tso.proofs.Common.{Processor, starting, code_of, Act, Loads, Stores, Swaps, Adds, Evicts}
+use Rattle.lw_tso.proofs.Common.{cpu_of, event_act, MachineState, Answer, flatten, ActDone, DoneBy, EventDone}
+use Rattle.lw_tso.proofs.Common.{HasRoom, stores_from, MachineRan, Replays, MachineOutcome, machine_start}
+use Rattle.lw_tso.proofs.Common.{machine_outcome, is_final, without_evictions, CanStart}
 use Rattle.lw_tso.proofs.Acts.{act_kept}
 use Rattle.lw_tso.proofs.Rooms.{statement_at, event_room}
 use Rattle.lw_tso.proofs.api.Effects.{no_eviction, leads_to}
 use Rattle.lw_tso.proofs.api.Operations.{Comes}
 use Rattle.lw_tso.proofs.EventActs.{IsNoEviction, AsksFor, event_comes}
 use Rattle.lw_tso.proofs.Flatten.{event_flat, replays_flat}
-use Rattle.lw_memory.specs.declared.system.Request.TheVariants as to
 
 -- what is possible over the flat memory is no eviction
 flat_evicts_none : (program : List (List Instr)) (e : Event) (s mid : MachineState (List ℕ)) → EventDone flat program e s (Ok tt) mid → IsNoEviction e
@@ -95,7 +76,7 @@ module _ {M : Type 0} (mem : Memory M) (inv : Invariant M) (laws : Lawful mem in
         let kept = act_kept mem inv laws (cpu_of e) (event_act program (length (mem.content s.memory)) e p) p q s.memory n answer within.sound done in
         let longer = length-set s.processors (cpu_of e) q in
         let room = event_room mem program locs (stores_from 0 (code_of program (cpu_of e))) e p q s.memory n
-            answer (thread_at s (cpu_of e) p within at) done (within.rooms (cpu_of e) p at) in
+        answer (thread_at s (cpu_of e) p within at) done (within.rooms (cpu_of e) p at) in
         record {
           sound = kept.sound;
           locations = kept.locations ∙ within.locations;
@@ -139,8 +120,11 @@ module _ {M : Type 0} (mem : Memory M) (inv : Invariant M) (laws : Lawful mem in
         let end : MachineState M = record { processors = slice_set s.processors (cpu_of e) done.0; memory = g.0 } in (
           end,
           subst (λ o. DoneBy mem o program e s answer end) (sym at) (done.0, g.0, g.1, refl),
-          ap (λ (words : List ℕ). let a : MachineState (List ℕ) = record { processors = slice_set s.processors
-              (cpu_of e) done.0; memory = words } in a) g.2 ∙ sym done.3,
+          ap (λ (words : List ℕ). let a : MachineState (List ℕ) = record {
+            processors = slice_set s.processors
+                (cpu_of e) done.0;
+            memory = words;
+          } in a) g.2 ∙ sym done.3,
         )
 
     event_lift : (e : Event) (s : MachineState M) (answer : Answer) (mid : MachineState (List ℕ)) → IsWithin s
@@ -180,7 +164,7 @@ module _ {M : Type 0} (mem : Memory M) (inv : Invariant M) (laws : Lawful mem in
           rooms = λ t p at.
               let first = started p _ (sym at ∙ slice_get-map starting test.head.init_regs t) in
               subst (λ q. HasRoom locs (code_of test.threads t) q (stores_from 0 (code_of test.threads t)))
-                  (sym first.1) (record { fits = omega arith; there = All-nil _ });
+              (sym first.1) (record { fits = omega arith; there = All-nil _ });
         }
 
     pub within_reached : (m : M) (es : List Event) (s : MachineState M) → CanStart mem inv test m

@@ -1,21 +1,11 @@
 -- Independent neighbouring events of the flat machine are exchanged.
-use Rattle.std.proofs.Common.{◌≡◌, ◌≢◌, ℕ, List, [], ◌∷◌, length, Ok, Option, Some, ⊎_elim, refl, sym, ap}
-use Rattle.std.proofs.Common.{◌∙◌, subst, slice_get, slice_set, option_map, set-set}
-use Rattle.std.proofs.lemmas.Bool.{cases_eq}
-use Rattle.std.proofs.lemmas.List.{set_comm}
-use Rattle.std.proofs.lemmas.Option.{same_Some, slice_get-map}
-use Rattle.lw_base.specs.Threads.{code_of}
-use Rattle.lw_base.specs.declared.event.Event.{Event}
-use Rattle.lw_base.specs.declared.event.Event.TheVariants.{Step, Drain, Evict}
-use Rattle.lw_memory.specs.Flat.{flat}
-use Rattle.lw_base.proofs.api.Lists.{got_set_same, got_set_other}
-use Rattle.lw_litmus.specs.declared.instr.Instr.{Instr}
-use Rattle.lw_litmus.specs.Programs.{x86_operation}
-use Rattle.lw_tso.specs.Processors.{Processor}
-use Rattle.lw_tso.specs.Acts.{Act, Stores, cpu_of, event_act, step_act, drain_act}
-use Rattle.lw_tso.specs.Machines.{MachineState, position_of, EventDone}
-use Rattle.lw_tso.specs.Exchange.{MayPass, MayPassOldest, ArePassing, AreIndependent, StandsAt, DoneAt}
-use Rattle.lw_tso.specs.Exchange.{IsExchangeable}
+use Rattle.lw_tso.proofs.Common.{◌≡◌, ◌≢◌, ℕ, List, ◌∷◌, length, Ok, Option, Some, ⊎_elim, refl, sym, ap, ◌∙◌}
+use Rattle.lw_tso.proofs.Common.{subst, slice_get, slice_set, option_map, set-set, cases_eq, set_comm}
+use Rattle.lw_tso.proofs.Common.{same_Some, slice_get-map, code_of, Event, Step, Drain, Evict, flat}
+use Rattle.lw_tso.proofs.Common.{got_set_same, got_set_other, Instr, x86_operation, Processor, Act, Stores}
+use Rattle.lw_tso.proofs.Common.{cpu_of, event_act, step_act, drain_act, MachineState, position_of, EventDone}
+use Rattle.lw_tso.proofs.Common.{MayPass, MayPassOldest, ArePassing, AreIndependent, StandsAt, DoneAt}
+use Rattle.lw_tso.proofs.Common.{IsExchangeable}
 use Rattle.lw_tso.proofs.Commuting.{acts_exchange, with_oldest, keeping, keeping_does, does_kept, LeavesAlone}
 use Rattle.lw_tso.proofs.Commuting.{operation_alone}
 use Rattle.lw_tso.proofs.api.Effects.{state, Does, no_eviction, Did, leads_from, leads_to}
@@ -108,7 +98,7 @@ module _ (program : List (List Instr)) where
           does = subst (λ act. Does way.0 act x.to y.words) (same_act e (length s.memory) (length way.0) x.from x.to way.0 y.words way.2) way.2;
           is =
               y.is ∙ ap (λ (z : MachineState (List ℕ)). state (slice_set z.processors (cpu_of f) y.to)
-                  y.words) x.is ∙ ap (λ ps. state ps y.words) (set_comm s.processors _ _ x.to y.to ne);
+              y.words) x.is ∙ ap (λ ps. state ps y.words) (set_comm s.processors _ _ x.to y.to ne);
         }
 
     -- of one processor, which is at first this one, with this entry before the others
@@ -142,8 +132,8 @@ module _ (program : List (List Instr)) where
           step : (new : Processor) × (x.to ≡ with_oldest pass.entry new) × Does s.memory stepping new x.words
           step =
               does_kept pass.entry stepping s.memory x.words x.to (subst (λ act. Does s.memory act x.to
-                  x.words) first_act (subst (λ (p : Processor). Does s.memory
-                  (step_act (slice_get (code_of program t) p.position) p) x.to x.words) is x.does))
+              x.words) first_act (subst (λ (p : Processor). Does s.memory
+              (step_act (slice_get (code_of program t) p.position) p) x.to x.words) is x.does))
 
           now : y.from ≡ with_oldest pass.entry step.0
           now = same_Some y.from _ (sym y.was ∙ ap (λ (z : MachineState (List ℕ)). slice_get z.processors t)
@@ -181,8 +171,8 @@ module _ (program : List (List Instr)) where
             does = subst (λ o. Does way.0 (step_act o behind) step.0 y.words) (sym pass.at) way.2;
             is =
                 y.is ∙ ap (λ (z : MachineState (List ℕ)). state (slice_set z.processors t y.to) y.words) x.is
-                    ∙ ap (λ ps. state ps y.words) (set-set s.processors t x.to y.to
-                    ∙ ap (slice_set s.processors t) drain.0 ∙ sym (set-set s.processors t behind step.0));
+                ∙ ap (λ ps. state ps y.words) (set-set s.processors t x.to y.to
+                ∙ ap (slice_set s.processors t) drain.0 ∙ sym (set-set s.processors t behind step.0));
           }
 
       -- the drain and then a step
@@ -251,7 +241,7 @@ module _ (program : List (List Instr)) where
     step_drain_exchange t pass j k mid end a b =
         let x = leads_to program (Step t) s mid a.done in
         step_drain s mid end t x.from (passing _ _ (pass x.from x.was)) j k x (leads_to program (Drain t) mid
-            end b.done) refl (place (Step t) j s x.from x.was a.stands)
+        end b.done) refl (place (Step t) j s x.from x.was a.stands)
 
     drain_step_exchange : (t : ℕ) → Pass (Drain t) (Step t) → IsExchangeable program (Drain t) (Step t) s
     drain_step_exchange t pass j k mid end a b =

@@ -1,24 +1,13 @@
 -- What an operation comes to, whatever it is: where it is refused, what it asks of the memory, and what it makes of its
 -- processor.
-use Rattle.std.proofs.Common.{◌≡◌, ◌≢◌, ℕ, ◌+◌, Bool, true, false, true≢false, if◌then◌else◌, List, [], ◌∷◌}
-use Rattle.std.proofs.Common.{◌++◌, length, length-set, Ok, Err, Option, Some, None, refl, sym, subst, inl}
-use Rattle.std.proofs.Common.{inr, ◌⊎◌, ⊎_elim}
-use Rattle.lw_base.specs.Threads.{value_of}
-use Rattle.lw_base.specs.declared.stop.Stop.{Stop}
-use Rattle.lw_base.specs.declared.stop.Stop.TheVariants.{SwapWaits}
-use Rattle.lw_memory.specs.Flat.{flat}
-use Rattle.lw_memory.specs.Memory.{Memory}
-use Rattle.lw_litmus.specs.declared.operation.Condition.{Condition}
-use Rattle.lw_litmus.specs.declared.operation.Condition.TheVariants.{Always, Equal, NotEqual, Zero, NotZero}
-use Rattle.lw_litmus.specs.declared.operation.Operation.{Operation}
-use Rattle.lw_litmus.specs.declared.operation.Operation.TheVariants.{Set, Sum, Compare, Store, Load, Swap}
-use Rattle.lw_litmus.specs.declared.operation.Operation.TheVariants.{FetchAdd, Fence, Branch}
-use Rattle.lw_litmus.specs.Operations.{location_of, is_store, is_locked, waits, goes_on, Leads, holds}
-use Rattle.lw_tso.specs.Processors.{Processor, newest}
-use Rattle.lw_tso.specs.Acts.{Act, Refused, Goes, Loads, Stores, Swaps, Adds, Evicts, operation_act, load_act}
-use Rattle.lw_tso.specs.Acts.{once_empty}
-use Rattle.lw_tso.specs.Exchange.{accessed, event_writes}
-use Rattle.lw_tso.specs.Machines.{Answer, ActDone}
+use Rattle.lw_tso.proofs.Common.{◌≡◌, ◌≢◌, ℕ, ◌+◌, Bool, true, false, true≢false, if◌then◌else◌, List, []}
+use Rattle.lw_tso.proofs.Common.{◌∷◌, ◌++◌, length, length-set, Ok, Err, Option, Some, None, refl, sym, subst}
+use Rattle.lw_tso.proofs.Common.{inl, inr, ◌⊎◌, ⊎_elim, value_of, Stop, SwapWaits, flat, Memory, Condition}
+use Rattle.lw_tso.proofs.Common.{Always, Equal, NotEqual, Zero, NotZero, Operation, Set, Sum, Compare, Store}
+use Rattle.lw_tso.proofs.Common.{Load, Swap, FetchAdd, Fence, Branch, location_of, is_store, is_locked, waits}
+use Rattle.lw_tso.proofs.Common.{goes_on, Leads, holds, Processor, newest, Act, Refused, Goes, Loads, Stores}
+use Rattle.lw_tso.proofs.Common.{Swaps, Adds, Evicts, operation_act, load_act, once_empty, accessed}
+use Rattle.lw_tso.proofs.Common.{event_writes, Answer, ActDone}
 use Rattle.lw_tso.proofs.api.Effects.{Does, does_done}
 
 -- a store adds an entry for its location to the buffer p, and nothing else does
@@ -109,14 +98,23 @@ module _ (Reason : Type 0) (Asks : ℕ → Bool → Type 0) (Makes : Processor �
   operation_comes (Load d x) p reason asks makes =
       load_comes (newest p.buffer x) x _ (asks x refl) (λ w. makes _ (next (Load d x) p _ refl refl never refl refl (length-set p.regs d w)))
   operation_comes (Swap d x a) p reason asks makes =
-      once_comes p.buffer SwapWaits _ (reason refl) (λ empty. (asks x refl, λ w. makes _ (next (Swap d x a) p
-          _ refl refl (λ e. empty) refl refl (length-set p.regs d w))))
+      once_comes p.buffer SwapWaits _ (reason refl) (λ empty. (
+        asks x refl,
+        λ w. makes _ (next (Swap d x a) p
+            _ refl refl (λ e. empty) refl refl (length-set p.regs d w)),
+      ))
   operation_comes (FetchAdd None x v) p reason asks makes =
-      once_comes p.buffer SwapWaits _ (reason refl) (λ empty. (asks x refl, λ w. makes _
-          (next (FetchAdd None x v) p _ refl refl (λ e. empty) refl refl refl)))
+      once_comes p.buffer SwapWaits _ (reason refl) (λ empty. (
+        asks x refl,
+        λ w. makes _
+            (next (FetchAdd None x v) p _ refl refl (λ e. empty) refl refl refl),
+      ))
   operation_comes (FetchAdd (Some d) x v) p reason asks makes =
-      once_comes p.buffer SwapWaits _ (reason refl) (λ empty. (asks x refl, λ w. makes _
-          (next (FetchAdd (Some d) x v) p _ refl refl (λ e. empty) refl refl (length-set p.regs d w))))
+      once_comes p.buffer SwapWaits _ (reason refl) (λ empty. (
+        asks x refl,
+        λ w. makes _
+            (next (FetchAdd (Some d) x v) p _ refl refl (λ e. empty) refl refl (length-set p.regs d w)),
+      ))
   operation_comes Fence p reason asks makes =
       once_comes _ _ _ (reason refl) (λ empty. makes _ (next Fence p _ refl refl (λ e. empty) refl refl refl))
   operation_comes (Branch c to) p reason asks makes =

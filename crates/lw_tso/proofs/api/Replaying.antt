@@ -1,27 +1,12 @@
 -- A replay speaks of its test's processors and locations alone, and its outcome is of their numbers.
-use Rattle.std.proofs.Common.{◌≡◌, ℕ, zero, suc, ◌<◌, ◌≤◌, Bool, true, false, nat_lt, if◌then◌else◌, List, []}
-use Rattle.std.proofs.Common.{◌∷◌, length, map, Ok, Err, Option, Some, None, refl, sym, ap, ◌∙◌, subst}
-use Rattle.std.proofs.Common.{slice_get, slice_set, arith, ltb-true}
-use Rattle.std.specs.List.{AllByRecursion}
-use Rattle.std.proofs.lemmas.List.{length-map}
-use Rattle.std.proofs.lemmas.Option.{slice_get_within}
-use Rattle.lw_base.specs.Outcomes.{Final, IsOutcomeOf}
-use Rattle.lw_base.specs.Schedules.{IsEvent}
-use Rattle.lw_base.specs.Types.{NameTable}
-use Rattle.lw_base.specs.declared.event.Event.{Event}
-use Rattle.lw_base.specs.declared.event.Event.TheVariants.{Evict}
-use Rattle.lw_base.specs.Limits.{most_threads, registers}
-use Rattle.lw_base.specs.declared.stop.Stop.TheVariants.{NoCpu, NoLocation}
-use Rattle.lw_memory.specs.MemoryLaws.{Invariant, Lawful}
-use Rattle.lw_memory.specs.Memory.{Memory}
-use Rattle.lw_litmus.specs.declared.instr.Instr.{Instr}
-use Rattle.lw_litmus.specs.WellFormedTests.{IsWellFormedProgram}
-use Rattle.lw_litmus.specs.Tests.{ProgramTest}
-use Rattle.lw_tso.specs.Processors.{Processor, starting}
-use Rattle.lw_tso.specs.Acts.{Refused, Evicts, cpu_of, event_act}
-use Rattle.lw_tso.specs.Machines.{MachineState, Answer, ActDone, DoneBy, EventDone}
-use Rattle.lw_tso.specs.Runs.{MachineRan, Replays, machine_start}
-use Rattle.lw_tso.specs.Starts.{CanStart}
+use Rattle.lw_tso.proofs.Common.{◌≡◌, ℕ, zero, suc, ◌<◌, ◌≤◌, Bool, true, false, nat_lt, if◌then◌else◌, List}
+use Rattle.lw_tso.proofs.Common.{[], ◌∷◌, length, map, Ok, Err, Option, Some, None, refl, sym, ap, ◌∙◌, subst}
+use Rattle.lw_tso.proofs.Common.{slice_get, slice_set, arith, ltb-true, AllByRecursion, length-map}
+use Rattle.lw_tso.proofs.Common.{slice_get_within, Final, IsOutcomeOf, IsEvent, NameTable, Event, Evict}
+use Rattle.lw_tso.proofs.Common.{most_threads, registers, NoCpu, NoLocation, Invariant, Lawful, Memory, Instr}
+use Rattle.lw_tso.proofs.Common.{IsWellFormedProgram, ProgramTest, Processor, starting, Refused, Evicts}
+use Rattle.lw_tso.proofs.Common.{cpu_of, event_act, MachineState, Answer, ActDone, DoneBy, EventDone}
+use Rattle.lw_tso.proofs.Common.{MachineRan, Replays, machine_start, CanStart}
 use Rattle.lw_tso.proofs.Acts.{IsSameSize, event_kept}
 use Rattle.lw_tso.proofs.EventActs.{Becomes, Stays, Steps, Drains, event_becomes}
 

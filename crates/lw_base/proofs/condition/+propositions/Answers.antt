@@ -1,7 +1,5 @@
-use Rattle.std.proofs.Common.{◌++◌, [], refl, sym, ap, codes, decimal}
-use Rattle.std.proofs.lemmas.Option.{get_or_from_slice_get}
-use Rattle.lw_base.specs.Types.{Bytes}
-use Rattle.lw_base.specs.ConditionTexts.{is_or, is_joined}
+use Rattle.lw_base.proofs.Common.{◌++◌, [], refl, sym, ap, codes, decimal, get_or_from_slice_get, Bytes}
+use Rattle.lw_base.proofs.Common.{is_or, is_joined}
 use Rattle.lw_base.proofs.api.Writing.{then_written, written_as, pushed}
 use Rattle.lw_base.proofs.Conditions.{enclosed, joined_written, text_of, told_of, part_told}
 use Rattle.lw_base.proofs.condition.+propositions.Goals as goal

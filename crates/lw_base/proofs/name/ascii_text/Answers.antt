@@ -1,5 +1,4 @@
-use Rattle.std.proofs.Common.{rules}
-use Rattle.std.proofs.lemmas.Str.{IsUtf8-from_ascii}
+use Rattle.lw_base.proofs.Common.{rules, IsUtf8-from_ascii}
 use Rattle.lw_base.proofs.name.ascii_text.Goals as goal
 
 pub unreachable-requires : goal.unreachable-requires

@@ -1,4 +1,4 @@
-use Rattle.std.proofs.Common.{rules}
+use Rattle.lw_base.proofs.Common.{rules}
 use Rattle.lw_base.proofs.name.is_location.Goals as goal
 
 pub returns-then-is_name : goal.returns-then-is_name

@@ -1,4 +1,4 @@
-use Rattle.std.proofs.Common.{rules}
+use Rattle.lw_base.proofs.Common.{rules}
 use Rattle.lw_base.proofs.name.is_name.Goals as goal
 
 pub returns-then-text-le-MAX_NAME_BYTES : goal.returns-then-text-le-MAX_NAME_BYTES

@@ -1,4 +1,4 @@
-use Rattle.std.proofs.Common.{rules}
+use Rattle.lw_base.proofs.Common.{rules}
 use Rattle.lw_base.proofs.name.is_word_text.Goals as goal
 
 pub returns-in-Some : goal.returns-in-Some

@@ -1,4 +1,4 @@
-use Rattle.std.proofs.Common.{rules}
+use Rattle.lw_base.proofs.Common.{rules}
 use Rattle.lw_base.proofs.register.reg_name.Goals as goal
 
 pub returns-in-X86-eq1 : goal.returns-in-X86-eq1

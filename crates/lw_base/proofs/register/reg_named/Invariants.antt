@@ -1,5 +1,4 @@
-use Rattle.std.proofs.Common.{ℕ, ◌<◌}
-use Rattle.lw_base.specs.Registers.{IsRegister}
+use Rattle.lw_base.proofs.Common.{ℕ, ◌<◌, IsRegister}
 use Rattle.lw_base.proofs.register.reg_named.Given as goal
 
 abbrev pub invariant-loop-reg : goal.invariant-loop-reg

@@ -1,4 +1,4 @@
-use Rattle.std.proofs.Common.{sym, take-append-drop}
+use Rattle.lw_base.proofs.Common.{sym, take-append-drop}
 use Rattle.lw_base.proofs.scan.front.Goals as goal
 
 pub returns-clause-parts : goal.returns-clause-parts

@@ -1,6 +1,4 @@
-use Rattle.std.proofs.Common.{◌∙◌, subst, refl}
-use Rattle.lw_base.specs.Schedules.{IsFaulty}
-use Rattle.lw_base.specs.Types.{Bytes}
+use Rattle.lw_base.proofs.Common.{◌∙◌, subst, refl, IsFaulty, Bytes}
 use Rattle.lw_base.proofs.api.Returns.{passed_on}
 use Rattle.lw_base.proofs.Shapes.{none_shaped, bad_step, bad_drain, lettered}
 use Rattle.lw_base.proofs.schedule.event_of.Goals as goal

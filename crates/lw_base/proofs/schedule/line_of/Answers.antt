@@ -1,5 +1,4 @@
-use Rattle.std.proofs.Common.{◌∙◌, ap, subst, sym, Some, Contains}
-use Rattle.std.proofs.lemmas.Bool.{false≢true}
+use Rattle.lw_base.proofs.Common.{◌∙◌, ap, subst, sym, Some, Contains, false≢true}
 use Rattle.lw_base.proofs.api.Blanks.{word_ascii}
 use Rattle.lw_base.proofs.api.Returns.{passed_on}
 use Rattle.lw_base.proofs.Shapes.{uncut, no_name, no_cpu, no_location, found}

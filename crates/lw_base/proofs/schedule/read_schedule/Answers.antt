@@ -1,8 +1,6 @@
-use Rattle.std.proofs.Common.{◌≡◌, ◌≤◌, ◌++◌, ◌∙◌, ap, sym, map, length, arith}
-use Rattle.lw_base.specs.Characters.{is_blank, begins}
-use Rattle.lw_base.specs.Schedules.{words, event_word}
+use Rattle.lw_base.proofs.Common.{◌≤◌, ◌++◌, ◌∙◌, ap, sym, map, length, arith, is_blank, begins, words}
+use Rattle.lw_base.proofs.Common.{event_word, Memory}
 use Rattle.lw_base.proofs.Shapes.{no_event}
-use Rattle.lw_base.specs.declared.fault.ScheduleCause.TheVariants.{Memory}
 use Rattle.lw_base.proofs.api.Returns.{turned, out_of_memory}
 use Rattle.lw_base.proofs.Words.{no_schedule, words-first, words-behind, behind_more, more_events, more_words}
 use Rattle.lw_base.proofs.Words.{no_longer, drop-back, all_words, has_some, shrinks}
@@ -23,7 +21,7 @@ pub loop-rest-preserved : goal.loop-rest-preserved
 loop-rest-preserved g c =
     let some = has_some (length c.loop-rest.rest.now) c.loop-rest-test.ensures in
     let first = words-first _ _ _ c.front-in-loop-rest.ensures.parts some c.loop-rest.invariant.others
-        c.front-in-loop-rest.ensures.all c.front-in-loop-rest.ensures.longest in
+    c.front-in-loop-rest.ensures.all c.front-in-loop-rest.ensures.longest in
     let rest = words-behind _ _ _ c.front-in-loop-rest-2.ensures.parts c.front-in-loop-rest-2.ensures.all in
     let back = behind_more _ _ _ _ _ _ _ c.loop-rest.invariant.back.1 c.front-in-loop-rest.ensures.parts c.front-in-loop-rest-2.ensures.parts in
     record {
@@ -41,15 +39,15 @@ pub returns-in-Err-clause-fault : goal.returns-in-Err-clause-fault
 returns-in-Err-clause-fault g c known =
     let some = has_some (length c.loop-rest.rest.now) c.loop-rest-test.ensures in
     let first = words-first _ _ _ c.front-in-loop-rest.ensures.parts some c.loop-rest.invariant.others
-        c.front-in-loop-rest.ensures.all c.front-in-loop-rest.ensures.longest in
+    c.front-in-loop-rest.ensures.all c.front-in-loop-rest.ensures.longest in
     no_schedule c.args.names.now c.args.text.now c.loop-rest.rest.now c.loop-rest.events _ _
-        c.loop-rest.invariant.words first (no_event _ c.len-len.ensures.table _ _ c.in-Err.ensures.err)
+    c.loop-rest.invariant.words first (no_event _ c.len-len.ensures.table _ _ c.in-Err.ensures.err)
 
 pub returns-in-Err-clause-first : goal.returns-in-Err-clause-first
 returns-in-Err-clause-first g c known =
     let some = has_some (length c.loop-rest.rest.now) c.loop-rest-test.ensures in
     let first = words-first _ _ _ c.front-in-loop-rest.ensures.parts some c.loop-rest.invariant.others
-        c.front-in-loop-rest.ensures.all c.front-in-loop-rest.ensures.longest in
+    c.front-in-loop-rest.ensures.all c.front-in-loop-rest.ensures.longest in
     let back = drop-back c.args.text.now _ c.loop-rest.rest.now c.loop-rest.invariant.back.1 in
     record {
       before = c.loop-rest.events;

@@ -1,7 +1,5 @@
-use Rattle.std.proofs.Common.{ℕ, List, ◌≡◌, ◌≤◌, ◌++◌, length, map, false}
-use Rattle.std.specs.List.{AllByRecursion}
-use Rattle.lw_base.specs.Characters.{is_blank, begins}
-use Rattle.lw_base.specs.Schedules.{words, event_word, IsEvent}
+use Rattle.lw_base.proofs.Common.{ℕ, List, ◌≡◌, ◌≤◌, ◌++◌, length, map, false, AllByRecursion, is_blank}
+use Rattle.lw_base.proofs.Common.{begins, words, event_word, IsEvent}
 use Rattle.lw_base.proofs.schedule.read_schedule.Given as goal
 
 abbrev pub invariant-loop-rest : goal.invariant-loop-rest

@@ -1,7 +1,5 @@
-use Rattle.std.proofs.Common.{◌∙◌, ◌++◌, ap, subst, sym}
-use Rattle.std.specs.List.{AllByRecursion}
-use Rattle.std.proofs.lemmas.List.Elements.{All-from_recursion}
-use Rattle.lw_base.specs.Schedules.{IsEvent, event_word}
+use Rattle.lw_base.proofs.Common.{◌∙◌, ◌++◌, ap, subst, sym, AllByRecursion, All-from_recursion, IsEvent}
+use Rattle.lw_base.proofs.Common.{event_word}
 use Rattle.lw_base.proofs.api.Writing.{both_written, items_more, items_all}
 use Rattle.lw_base.proofs.WrittenSchedules.{schedule_none, schedule_begun, next_word}
 use Rattle.lw_base.proofs.schedule.write_schedule.Goals as goal
@@ -18,7 +16,7 @@ pub write_event-requires-in-loop-event : goal.write_event-requires-in-loop-event
 write_event-requires-in-loop-event g c =
     let others = (subst (AllByRecursion (IsEvent c.args.names.now)) c.in-Some.ensures.cases.0 c.requires).1 in
     subst (IsEvent c.args.names.now) (sym c.event-item.is) (All-from_recursion (IsEvent c.args.names.now)
-        c.in-Some.others.now others c.loop-event.event-index c.event-item.result c.loop-event-test.true)
+    c.in-Some.others.now others c.loop-event.event-index c.event-item.result c.loop-event-test.true)
 
 pub returns-in_default : goal.returns-in_default
 returns-in_default g c = c.from.ensures ∙ schedule_none c.args.names.now c.args.events.now _ c.in_default.ensures.cases c.new-out.ensures.bytes

@@ -1,5 +1,4 @@
-use Rattle.std.proofs.Common.{◌≡◌, ◌++◌, drop, flat_map, string_bytes}
-use Rattle.lw_base.specs.Schedules.{schedule_text}
+use Rattle.lw_base.proofs.Common.{◌≡◌, ◌++◌, drop, flat_map, string_bytes, schedule_text}
 use Rattle.lw_base.proofs.WrittenSchedules.{next_word}
 use Rattle.lw_base.proofs.schedule.write_schedule.Given as goal
 

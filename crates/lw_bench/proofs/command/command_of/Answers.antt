@@ -1,6 +1,4 @@
-use Rattle.std.proofs.Common.{refl, codes, arith}
-use Rattle.lw_base.proofs.api.Lists.{cons_head}
-use Rattle.lw_bench.specs.declared.command.Task.TheVariants.{States, Compile, Schedules}
+use Rattle.lw_bench.proofs.Common.{refl, codes, arith, cons_head, States, Compile, Schedules}
 use Rattle.lw_bench.proofs.Commands.{alone_told, replay_told, no_words, no_command}
 use Rattle.lw_bench.proofs.command.command_of.Goals as goal
 

@@ -1,4 +1,4 @@
-use Rattle.std.proofs.Common.{sym, ◌∙◌, arith}
+use Rattle.lw_bench.proofs.Common.{sym, ◌∙◌, arith}
 use Rattle.lw_bench.proofs.Commands.{option_told, no_option, other_option}
 use Rattle.lw_bench.proofs.command.protocol_of.Goals as goal
 

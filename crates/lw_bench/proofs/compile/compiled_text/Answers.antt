@@ -1,7 +1,4 @@
-use Rattle.std.proofs.Common.{◌≡◌}
-use Rattle.std.proofs.lemmas.Result.{IfOk-weaker}
-use Rattle.lw_litmus.specs.Views.{source_of, program_of}
-use Rattle.lw_bench.specs.Compilations.{IsCompiledText}
+use Rattle.lw_bench.proofs.Common.{IfOk-weaker, source_of, program_of, IsCompiledText}
 use Rattle.lw_bench.proofs.Compilations.{by_flat}
 use Rattle.lw_bench.proofs.compile.compiled_text.Goals as goal
 

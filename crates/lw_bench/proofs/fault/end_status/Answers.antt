@@ -1,4 +1,4 @@
-use Rattle.std.proofs.Common.{rules}
+use Rattle.lw_bench.proofs.Common.{rules}
 use Rattle.lw_bench.proofs.fault.end_status.Goals as goal
 
 pub returns-in-NotFinal : goal.returns-in-NotFinal

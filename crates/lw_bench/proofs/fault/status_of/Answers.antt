@@ -1,4 +1,4 @@
-use Rattle.std.proofs.Common.{rules}
+use Rattle.lw_bench.proofs.Common.{rules}
 use Rattle.lw_bench.proofs.fault.status_of.Goals as goal
 
 pub returns-in-Memory : goal.returns-in-Memory

@@ -1,5 +1,5 @@
-use Rattle.std.proofs.Common.{ℕ, arith, refl, ◌≡◌, ◌∙◌, ◌-◌, ◌≤◌, length, length-append, length-take-le}
-use Rattle.std.proofs.lemmas.Result.{err_from_is_err_and}
+use Rattle.lw_bench.proofs.Common.{ℕ, arith, refl, ◌≡◌, ◌∙◌, ◌-◌, ◌≤◌, length, length-append, length-take-le}
+use Rattle.lw_bench.proofs.Common.{err_from_is_err_and}
 use Rattle.lw_bench.proofs.Devices.{gets_front, loses_none, loses_front}
 use Rattle.lw_bench.proofs.input.pull_chunk.Goals as goal
 

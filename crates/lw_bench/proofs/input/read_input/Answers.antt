@@ -1,5 +1,4 @@
-use Rattle.std.proofs.Common.{length, ap, arith}
-use Rattle.std.proofs.lemmas.Result.{err_from_is_err_and}
+use Rattle.lw_bench.proofs.Common.{length, ap, arith, err_from_is_err_and}
 use Rattle.lw_bench.proofs.Devices.{takes_none, fewer_left, gets_more, input_ended, input_full, taken_ended}
 use Rattle.lw_bench.proofs.Devices.{taken_full, taken_lost}
 use Rattle.lw_bench.proofs.input.read_input.Goals as goal

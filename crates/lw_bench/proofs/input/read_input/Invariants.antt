@@ -1,5 +1,4 @@
-use Rattle.std.proofs.Common.{◌≡◌, ◌-◌, ◌≤◌, false, length}
-use Rattle.std.specs.Io.KnownBytes.{Consumes}
+use Rattle.lw_bench.proofs.Common.{◌≡◌, ◌-◌, ◌≤◌, false, length, Consumes}
 use Rattle.lw_bench.proofs.input.read_input.Given as goal
 
 abbrev pub invariant-loop-reader : goal.invariant-loop-reader

@@ -1,4 +1,4 @@
-use Rattle.lw_fence.proofs.api.Compilations.{same_outcomes}
+use Rattle.lw_bench.proofs.Common.{same_outcomes}
 use Rattle.lw_bench.proofs.Theorems.{outcomes_over_caches}
 use Rattle.lw_bench.proofs.laws.compiled_programs_have_their_sources_outcomes.Goals as goal
 

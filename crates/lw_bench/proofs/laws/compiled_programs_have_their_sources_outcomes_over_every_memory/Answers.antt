@@ -1,4 +1,4 @@
-use Rattle.lw_fence.proofs.api.Compilations.{is_program, same_outcomes}
+use Rattle.lw_bench.proofs.Common.{is_program, same_outcomes}
 use Rattle.lw_bench.proofs.laws.compiled_programs_have_their_sources_outcomes_over_every_memory.Goals as goal
 
 pub returns : goal.returns

@@ -1,4 +1,4 @@
-use Rattle.lw_fence.proofs.api.Compilations.{has_outcome}
+use Rattle.lw_bench.proofs.Common.{has_outcome}
 use Rattle.lw_bench.proofs.Theorems.{source_outcome, cached_outcome}
 use Rattle.lw_bench.proofs.laws.every_test_has_an_outcome.Goals as goal
 

@@ -1,4 +1,4 @@
-use Rattle.std.proofs.Common.{[]}
+use Rattle.lw_bench.proofs.Common.{[]}
 use Rattle.lw_bench.proofs.Theorems.{outcomes_with_fences}
 use Rattle.lw_bench.proofs.laws.interleaving_outcomes_need_no_fences.Goals as goal
 

@@ -1,5 +1,5 @@
+use Rattle.lw_bench.proofs.Common.{store_buffering_in_x86}
 use Rattle.lw_bench.proofs.Classics.{store_buffering_formed, store_buffering_allowed}
-use Rattle.lw_bench.specs.Classics.{store_buffering_in_x86}
 use Rattle.lw_bench.proofs.laws.store_buffering_is_allowed_on_x86.Goals as goal
 
 pub returns : goal.returns

@@ -1,6 +1,4 @@
-use Rattle.std.proofs.Common.{Option, Some, None, IfSome}
-use Rattle.lw_base.specs.Types.{Bytes}
-use Rattle.lw_bench.specs.Lists.{IsReachedOnMachine}
+use Rattle.lw_bench.proofs.Common.{Option, Some, None, IfSome, Bytes, IsReachedOnMachine}
 use Rattle.lw_bench.proofs.laws.what_is_known_is_reached_on_the_machine.Goals as goal
 
 if_known : ((text : Bytes) → IsReachedOnMachine text) → (known : Option Bytes) → IfSome known IsReachedOnMachine

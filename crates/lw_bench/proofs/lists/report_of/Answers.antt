@@ -1,7 +1,4 @@
-use Rattle.std.proofs.Common.{length}
-use Rattle.lw_base.proofs.api.Formulas.{has_locations}
-use Rattle.lw_base.specs.Heads.{TestHead, head_of}
-use Rattle.lw_bench.specs.LitmusTests.{litmus_test_of}
+use Rattle.lw_bench.proofs.Common.{length, has_locations, TestHead, head_of, litmus_test_of}
 use Rattle.lw_bench.proofs.TestReports.{report_of_list, outcomes_there}
 use Rattle.lw_bench.proofs.lists.report_of.Goals as goal
 

@@ -1,6 +1,4 @@
-use Rattle.std.proofs.lemmas.Result.{IfOk-weaker}
-use Rattle.lw_bench.specs.LitmusTests.{litmus_test_of}
-use Rattle.lw_bench.specs.Lists.{IsScheduleReport}
+use Rattle.lw_bench.proofs.Common.{IfOk-weaker, litmus_test_of, IsScheduleReport}
 use Rattle.lw_bench.proofs.TestReports.{schedules_of_list, outcomes_there, schedules_there}
 use Rattle.lw_bench.proofs.lists.schedules_of_listing.Goals as goal
 

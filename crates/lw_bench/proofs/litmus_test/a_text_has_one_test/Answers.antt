@@ -1,6 +1,4 @@
-use Rattle.std.proofs.Common.{subst}
-use Rattle.lw_text.specs.Frames.{TestFrame}
-use Rattle.lw_bench.specs.TestTexts.{FrameSays}
+use Rattle.lw_bench.proofs.Common.{subst, TestFrame, FrameSays}
 use Rattle.lw_bench.proofs.LitmusTests.{one_test}
 use Rattle.lw_bench.proofs.litmus_test.a_text_has_one_test.Goals as goal
 

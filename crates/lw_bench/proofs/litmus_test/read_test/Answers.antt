@@ -1,10 +1,5 @@
-use Rattle.std.proofs.Common.{arith}
-use Rattle.lw_base.proofs.api.Returns.{passed_on}
-use Rattle.lw_text.specs.Views.{frame_of}
-use Rattle.lw_text.specs.Places.{placed_cells}
-use Rattle.lw_text.proofs.api.Places.{grid_placed}
+use Rattle.lw_bench.proofs.Common.{arith, passed_on, frame_of, placed_cells, grid_placed, TellsTest}
 use Rattle.lw_bench.proofs.DeviceFaults.{err_is}
-use Rattle.lw_bench.specs.Told.{TellsTest}
 use Rattle.lw_bench.proofs.Told.{text_is_told, cell_is_told, text_no_device, cell_no_device}
 use Rattle.lw_bench.proofs.litmus_test.read_test.Goals as goal
 

@@ -1,5 +1,4 @@
-use Rattle.std.proofs.Common.{◌≡◌, false, length}
-use Rattle.lw_bench.specs.Devices.{Puts}
+use Rattle.lw_bench.proofs.Common.{◌≡◌, false, length, Puts}
 use Rattle.lw_bench.proofs.output.write_output.Given as goal
 
 abbrev pub invariant-loop-rest : goal.invariant-loop-rest

@@ -1,7 +1,5 @@
-use Rattle.std.proofs.Common.{◌≤◌, [], codes, decimal, length, refl, sym, ap, arith}
-use Rattle.std.proofs.lemmas.Option.{get_or_from_slice_get}
-use Rattle.lw_tso.specs.Machines.{buffer_of}
-use Rattle.lw_bench.specs.Pages.{named}
+use Rattle.lw_bench.proofs.Common.{◌≤◌, [], codes, decimal, length, refl, sym, ap, arith}
+use Rattle.lw_bench.proofs.Common.{get_or_from_slice_get, buffer_of, named}
 use Rattle.lw_bench.proofs.Pages.{told_more, told_all, line_ended, titled}
 use Rattle.lw_bench.proofs.page.write_buffer.Goals as goal
 

@@ -1,6 +1,4 @@
-use Rattle.std.proofs.Common.{string_bytes}
-use Rattle.lw_tso.specs.Machines.{buffer_of}
-use Rattle.lw_bench.specs.Pages.{entry_text}
+use Rattle.lw_bench.proofs.Common.{string_bytes, buffer_of, entry_text}
 use Rattle.lw_bench.proofs.Pages.{Told}
 use Rattle.lw_bench.proofs.page.write_buffer.Given as goal
 

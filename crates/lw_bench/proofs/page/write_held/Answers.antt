@@ -1,7 +1,4 @@
-use Rattle.std.proofs.Common.{◌++◌, ap, codes, string_bytes}
-use Rattle.lw_base.specs.Types.{Bytes}
-use Rattle.lw_base.proofs.api.Writing.{written_as}
-use Rattle.lw_bench.specs.Pages.{letter}
+use Rattle.lw_bench.proofs.Common.{◌++◌, ap, codes, string_bytes, Bytes, written_as}
 use Rattle.lw_bench.proofs.page.write_held.Goals as goal
 
 pub returns : goal.returns

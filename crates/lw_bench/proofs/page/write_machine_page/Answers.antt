@@ -1,7 +1,4 @@
-use Rattle.std.proofs.Common.{◌∙◌, length, ap}
-use Rattle.std.proofs.lemmas.Result.{on_ok_weaker}
-use Rattle.lw_base.specs.Heads.{head_of}
-use Rattle.lw_base.specs.Outcomes.{Final}
+use Rattle.lw_bench.proofs.Common.{◌∙◌, length, ap, on_ok_weaker, head_of, Final}
 use Rattle.lw_bench.proofs.Pages.{machine_page_told}
 use Rattle.lw_bench.proofs.page.write_machine_page.Goals as goal
 
@@ -23,6 +20,6 @@ write_words-requires g c = ap length (c.as_slice-2.ensures ∙ ap (λ (o : Final
 pub returns : goal.returns
 returns g c =
     on_ok_weaker c.write_words.result (λ is. machine_page_told (head_of c.args.head.now) _ _ _ _ _ _ _ _ _ _ _
-        _ c.in_ok-write_first_lines.ensures c.in_ok-write_processors.ensures c.in_ok-write_memory.ensures is
-        (ap (λ m. g.M.MemorySystem.memory m) c.memory.ensures.memory) (c.as_slice-2.ensures
-        ∙ ap (λ (o : Final). o.words) (c.state.view_is ∙ c.requires.outcome))) c.write_words.ensures
+    _ c.in_ok-write_first_lines.ensures c.in_ok-write_processors.ensures c.in_ok-write_memory.ensures is
+    (ap (λ m. g.M.MemorySystem.memory m) c.memory.ensures.memory) (c.as_slice-2.ensures
+    ∙ ap (λ (o : Final). o.words) (c.state.view_is ∙ c.requires.outcome))) c.write_words.ensures

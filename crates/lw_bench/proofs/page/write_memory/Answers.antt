@@ -1,7 +1,5 @@
-use Rattle.std.proofs.Common.{◌≤◌, codes, decimal, length, slice_get, slice_index, refl, sym, ap, ◌∙◌, arith}
-use Rattle.std.proofs.Common.{length-take}
-use Rattle.lw_text.proofs.api.Indices.{is_index}
-use Rattle.lw_bench.specs.Pages.{named}
+use Rattle.lw_bench.proofs.Common.{◌≤◌, codes, decimal, length, slice_get, slice_index, refl, sym, ap, ◌∙◌}
+use Rattle.lw_bench.proofs.Common.{arith, length-take, is_index, named}
 use Rattle.lw_bench.proofs.Pages.{told_more, told_all, line_ended}
 use Rattle.lw_bench.proofs.page.write_memory.Goals as goal
 
@@ -13,15 +11,22 @@ loop-loc-preserved g c =
     let is = is_index 8 _ _ _ _ _ c.all.ensures refl c.loop-loc-test.true c.loc-item.is in
     let word = c.word_in_memory.ensures.word ∙ ap (slice_index (g.M.MemorySystem.memory c.args.memory.now)) is in
     told_more c.loop-loc.invariant _ _ _ (ap (slice_get c.args.locs.now) (sym is) ∙ c.name.ensures)
-        (ap (λ w. named (λ _. decimal w) 0 c.name.result.now) word) c.in_ok-write_named.ensures
+    (ap (λ w. named (λ _. decimal w) 0 c.name.result.now) word) c.in_ok-write_named.ensures
 
 pub returns : goal.returns
 returns g c =
     let table : length c.args.locs.now ≤ 8 = c.len.ensures.table.few in
-    let whole : length c.args.locs.now ≤ c.loop-loc.loc-index = omega (arith, length-take c.len.result
-        c.all.result, ap length c.all.ensures, c.len.ensures.len, table, c.loop-loc-test.false) in
+    let whole : length c.args.locs.now ≤ c.loop-loc.loc-index = omega (
+      arith,
+      length-take c.len.result
+          c.all.result,
+      ap length c.all.ensures,
+      c.len.ensures.len,
+      table,
+      c.loop-loc-test.false,
+    ) in
     line_ended c.push_str-2.result _ (codes "Memory") _ _ _ _ _ c.in_ok-push_str.ensures.bytes
-        (told_all c.loop-loc.invariant whole) refl c.push_str-2.ensures.bytes
+    (told_all c.loop-loc.invariant whole) refl c.push_str-2.ensures.bytes
 
 pub name-requires : goal.name-requires
 name-requires g c =
@@ -30,5 +35,11 @@ name-requires g c =
 
 pub word_in_memory-requires : goal.word_in_memory-requires
 word_in_memory-requires g c =
-    omega (arith, (is_index 8 _ _ _ _ _ c.all.ensures refl c.loop-loc-test.true c.loc-item.is),
-        c.loop-loc-test.true, length-take c.len.result c.all.result, c.len.ensures.len, c.requires)
+    omega (
+      arith,
+      (is_index 8 _ _ _ _ _ c.all.ensures refl c.loop-loc-test.true c.loc-item.is),
+      c.loop-loc-test.true,
+      length-take c.len.result c.all.result,
+      c.len.ensures.len,
+      c.requires,
+    )

@@ -1,8 +1,6 @@
-use Rattle.std.proofs.Common.{List, ℕ, [], ◌++◌, length, map, ap, ap₂, ◌∙◌, arith, option_map, string_bytes}
-use Rattle.std.proofs.lemmas.Option.{slice_get-map, get_or_from_slice_get}
-use Rattle.std.proofs.lemmas.Result.{on_ok_weaker}
-use Rattle.lw_tso.specs.Processors.{Processor}
-use Rattle.lw_bench.specs.Pages.{thread_line, buffer_line}
+use Rattle.lw_bench.proofs.Common.{List, ℕ, [], ◌++◌, length, map, ap, ap₂, ◌∙◌, arith, option_map}
+use Rattle.lw_bench.proofs.Common.{string_bytes, slice_get-map, get_or_from_slice_get, on_ok_weaker}
+use Rattle.lw_bench.proofs.Common.{Processor, thread_line, buffer_line}
 use Rattle.lw_bench.proofs.Pages.{told_of, three_written}
 use Rattle.lw_bench.proofs.page.write_processor.Goals as goal
 
@@ -21,11 +19,11 @@ returns g c p at =
     let processors = c.args.machine.now.state.processors in
     let position = told_of _ processors c.args.cpu p c.position.result at c.position.ensures in
     let regs = c.requires.regs ∙ get_or_from_slice_get _ c.args.cpu p.regs [] (slice_get-map
-        (λ (q : Processor). q.regs) processors c.args.cpu ∙ ap (option_map (λ (q : Processor). q.regs)) at) in
+    (λ (q : Processor). q.regs) processors c.args.cpu ∙ ap (option_map (λ (q : Processor). q.regs)) at) in
     let buffer = get_or_from_slice_get (map (λ q. q.buffer) processors) c.args.cpu p.buffer [] (slice_get-map
-        (λ q. q.buffer) processors c.args.cpu ∙ ap (option_map (λ (q : Processor). q.buffer)) at) in
+    (λ q. q.buffer) processors c.args.cpu ∙ ap (option_map (λ (q : Processor). q.buffer)) at) in
     let first = c.in_ok-write_thread.ensures ∙ ap₂ (λ (i : ℕ) (rs : List ℕ). string_bytes c.args.out.now
-        ++ thread_line c.args.head.now.arch c.args.cpu i rs) position regs in
+    ++ thread_line c.args.head.now.arch c.args.cpu i rs) position regs in
     let second = c.in_ok-write_buffer.ensures
     ∙ ap (λ b. string_bytes c.write_thread.new.out ++ buffer_line c.args.head.now.locs c.args.cpu b) buffer in
     on_ok_weaker c.write_cache_line.result (λ third. three_written _ _ _ _ _ _ _ first second third)

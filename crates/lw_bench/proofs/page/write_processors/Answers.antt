@@ -1,12 +1,6 @@
-use Rattle.std.proofs.Common.{◌<◌, ◌≤◌, List, ℕ, [], length, length-take, map, slice_get, slice_index_or, refl}
-use Rattle.std.proofs.Common.{ap, ◌∙◌, arith}
-use Rattle.std.proofs.lemmas.List.{length-map}
-use Rattle.lw_base.specs.Heads.{head_of}
-use Rattle.lw_base.specs.Limits.{most_threads}
-use Rattle.lw_text.proofs.api.Indices.{is_index}
-use Rattle.lw_tso.specs.Processors.{Processor}
-use Rattle.lw_base.proofs.api.Lists.{get_some}
-use Rattle.lw_bench.specs.Pages.{processor_lines}
+use Rattle.lw_bench.proofs.Common.{List, ℕ, [], length, length-take, map, slice_get, slice_index_or, refl, ap}
+use Rattle.lw_bench.proofs.Common.{◌∙◌, arith, length-map, head_of, most_threads, is_index, Processor}
+use Rattle.lw_bench.proofs.Common.{get_some, processor_lines}
 use Rattle.lw_bench.proofs.Pages.{told_more, told_all}
 use Rattle.lw_bench.proofs.page.write_processors.Goals as goal
 
@@ -20,12 +14,18 @@ loop-cpu-preserved g c =
     let is = is_index most_threads _ _ _ _ _ c.all.ensures refl c.loop-cpu-test.true c.cpu-item.is in
     let here = get_some processors k (omega (arith, c.requires.threads, c.loop-cpu-test.true, length-take c.args.head.now.threads c.all.result)) in
     told_more c.loop-cpu.invariant here.0 _ _ here.1 (ap (λ k. processor_lines (head_of c.args.head.now)
-        (g.M.MemorySystem.state c.args.machine.now.state.memory) k here.0) is)
-        (c.in_ok-write_processor.ensures here.0 (ap (slice_get processors) is ∙ here.1))
+    (g.M.MemorySystem.state c.args.machine.now.state.memory) k here.0) is)
+    (c.in_ok-write_processor.ensures here.0 (ap (slice_get processors) is ∙ here.1))
 
 pub returns : goal.returns
-returns g c = told_all c.loop-cpu.invariant (omega (arith, length-take c.args.head.now.threads c.all.result,
-    ap length c.all.ensures, c.requires.threads, c.requires.few, c.loop-cpu-test.false))
+returns g c = told_all c.loop-cpu.invariant (omega (
+  arith,
+  length-take c.args.head.now.threads c.all.result,
+  ap length c.all.ensures,
+  c.requires.threads,
+  c.requires.few,
+  c.loop-cpu-test.false,
+))
 
 pub bounds-regs-index : goal.bounds-regs-index
 bounds-regs-index g c =

@@ -1,6 +1,4 @@
-use Rattle.std.proofs.Common.{string_bytes}
-use Rattle.lw_base.specs.Heads.{head_of}
-use Rattle.lw_bench.specs.Pages.{processor_lines}
+use Rattle.lw_bench.proofs.Common.{string_bytes, head_of, processor_lines}
 use Rattle.lw_bench.proofs.Pages.{Told}
 use Rattle.lw_bench.proofs.page.write_processors.Given as goal
 

@@ -1,7 +1,4 @@
-use Rattle.std.proofs.Common.{◌∙◌, length, ap}
-use Rattle.std.proofs.lemmas.Result.{on_ok_weaker}
-use Rattle.lw_base.specs.Heads.{head_of}
-use Rattle.lw_base.specs.Outcomes.{Final}
+use Rattle.lw_bench.proofs.Common.{◌∙◌, length, ap, on_ok_weaker, head_of, Final}
 use Rattle.lw_bench.proofs.Pages.{source_page_told}
 use Rattle.lw_bench.proofs.page.write_source_page.Goals as goal
 

@@ -1,7 +1,5 @@
-use Rattle.std.proofs.Common.{◌≡◌, ◌<◌, codes, decimal, length, take, slice_index, refl, sym, ap, ◌∙◌, ◌++◌, arith}
-use Rattle.lw_base.specs.Registers.{register_name}
-use Rattle.lw_text.proofs.api.Indices.{is_index}
-use Rattle.lw_bench.specs.Pages.{named}
+use Rattle.lw_bench.proofs.Common.{◌<◌, codes, decimal, length, take, slice_index, refl, sym, ap, ◌∙◌, ◌++◌}
+use Rattle.lw_bench.proofs.Common.{arith, register_name, is_index, named}
 use Rattle.lw_bench.proofs.Pages.{told_more, told_all, register_at, line_ended, titled}
 use Rattle.lw_bench.proofs.page.write_thread.Goals as goal
 
@@ -17,8 +15,8 @@ loop-reg-preserved g c =
     let name = c.reg_name.ensures ∙ ap (register_name c.args.arch) is in
     let word = ap (slice_index c.args.regs.now) (c.index-in-loop-reg.ensures.value ∙ is) in
     told_more c.loop-reg.invariant _ _ _ (register_at c.args.arch k c.loop-reg-test.true)
-        (ap (λ n. named (λ _. decimal (slice_index c.args.regs.now c.index-in-loop-reg.result)) 0 n) name
-        ∙ ap (λ w. named (λ _. decimal w) 0 (register_name c.args.arch k)) word) c.in_ok-write_named.ensures
+    (ap (λ n. named (λ _. decimal (slice_index c.args.regs.now c.index-in-loop-reg.result)) 0 n) name
+    ∙ ap (λ w. named (λ _. decimal w) 0 (register_name c.args.arch k)) word) c.in_ok-write_named.ensures
 
 pub returns : goal.returns
 returns g c =

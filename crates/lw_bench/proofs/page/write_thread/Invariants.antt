@@ -1,5 +1,4 @@
-use Rattle.std.proofs.Common.{string_bytes}
-use Rattle.lw_bench.specs.Pages.{named, word_at, register_names}
+use Rattle.lw_bench.proofs.Common.{string_bytes, named, word_at, register_names}
 use Rattle.lw_bench.proofs.Pages.{Told}
 use Rattle.lw_bench.proofs.page.write_thread.Given as goal
 

@@ -1,12 +1,6 @@
-use Rattle.std.proofs.Common.{◌≡◌, ◌<◌, ◌≤◌, [], length, length-take, map, slice_get, slice_index_or, refl}
-use Rattle.std.proofs.Common.{sym, ap, ap₂, ◌∙◌, arith, option_map}
-use Rattle.std.proofs.lemmas.Option.{slice_get-map, get_or_from_slice_get}
-use Rattle.std.proofs.lemmas.List.{length-map}
-use Rattle.lw_interleaving.specs.declared.thread.Thread.{Thread}
-use Rattle.lw_base.specs.Limits.{most_threads}
-use Rattle.lw_text.proofs.api.Indices.{is_index}
-use Rattle.lw_base.proofs.api.Lists.{get_some}
-use Rattle.lw_bench.specs.Pages.{thread_line}
+use Rattle.lw_bench.proofs.Common.{[], length, length-take, map, slice_get, slice_index_or, refl, sym, ap}
+use Rattle.lw_bench.proofs.Common.{ap₂, ◌∙◌, arith, option_map, slice_get-map, get_or_from_slice_get}
+use Rattle.lw_bench.proofs.Common.{length-map, Thread, most_threads, is_index, get_some, thread_line}
 use Rattle.lw_bench.proofs.Pages.{told_more, told_all, told_of}
 use Rattle.lw_bench.proofs.page.write_threads.Goals as goal
 
@@ -26,17 +20,28 @@ loop-cpu-preserved g c =
     let regs = ap (λ i. slice_index_or c.args.regs.now i []) (c.index.ensures.value ∙ is)
     ∙ get_or_from_slice_get c.args.regs.now k here.0.regs [] listed in
     let line = ap (λ t. thread_line c.args.head.now.arch t c.position.result (slice_index_or c.args.regs.now
-        c.index.result [])) is ∙ ap₂ (thread_line c.args.head.now.arch k) position regs in
+    c.index.result [])) is ∙ ap₂ (thread_line c.args.head.now.arch k) position regs in
     told_more c.loop-cpu.invariant here.0 _ _ here.1 line c.in_ok-write_thread.ensures
 
 pub returns : goal.returns
-returns g c = told_all c.loop-cpu.invariant (omega (arith, length-take c.args.head.now.threads c.all.result,
-    ap length c.all.ensures, c.requires.threads, c.requires.few, c.loop-cpu-test.false))
+returns g c = told_all c.loop-cpu.invariant (omega (
+  arith,
+  length-take c.args.head.now.threads c.all.result,
+  ap length c.all.ensures,
+  c.requires.threads,
+  c.requires.few,
+  c.loop-cpu-test.false,
+))
 
 pub position-requires : goal.position-requires
 position-requires g c =
-    omega (arith, (is_index most_threads _ _ _ _ _ c.all.ensures refl c.loop-cpu-test.true c.cpu-item.is),
-        c.loop-cpu-test.true, length-take c.args.head.now.threads c.all.result, c.requires.threads)
+    omega (
+      arith,
+      (is_index most_threads _ _ _ _ _ c.all.ensures refl c.loop-cpu-test.true c.cpu-item.is),
+      c.loop-cpu-test.true,
+      length-take c.args.head.now.threads c.all.result,
+      c.requires.threads,
+    )
 
 pub bounds-regs-index : goal.bounds-regs-index
 bounds-regs-index g c =

@@ -1,6 +1,4 @@
-use Rattle.std.proofs.Common.{string_bytes}
-use Rattle.lw_interleaving.specs.declared.thread.Thread.{Thread}
-use Rattle.lw_bench.specs.Pages.{thread_line}
+use Rattle.lw_bench.proofs.Common.{string_bytes, Thread, thread_line}
 use Rattle.lw_bench.proofs.Pages.{Told}
 use Rattle.lw_bench.proofs.page.write_threads.Given as goal
 

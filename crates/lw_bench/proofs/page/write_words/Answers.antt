@@ -1,7 +1,5 @@
-use Rattle.std.proofs.Common.{◌≤◌, decimal, length, slice_get, slice_index, refl, sym, ap, ◌∙◌, arith}
-use Rattle.std.proofs.Common.{length-take}
-use Rattle.lw_text.proofs.api.Indices.{is_index}
-use Rattle.lw_bench.specs.Pages.{named}
+use Rattle.lw_bench.proofs.Common.{◌≤◌, decimal, length, slice_get, slice_index, refl, sym, ap, ◌∙◌, arith}
+use Rattle.lw_bench.proofs.Common.{length-take, is_index, named}
 use Rattle.lw_bench.proofs.Pages.{told_more, told_all, line_ended}
 use Rattle.lw_bench.proofs.page.write_words.Goals as goal
 
@@ -12,16 +10,23 @@ pub loop-loc-preserved : goal.loop-loc-preserved
 loop-loc-preserved g c =
     let is = is_index 8 _ _ _ _ _ c.all.ensures refl c.loop-loc-test.true c.loc-item.is in
     told_more c.loop-loc.invariant c.name.result.now _ _ (ap (slice_get c.args.locs.now) (sym is)
-        ∙ c.name.ensures) (ap (λ k. named (λ _. decimal (slice_index c.args.words.now k)) 0 c.name.result.now)
-        (c.index.ensures.value ∙ is)) c.in_ok-write_named.ensures
+    ∙ c.name.ensures) (ap (λ k. named (λ _. decimal (slice_index c.args.words.now k)) 0 c.name.result.now)
+    (c.index.ensures.value ∙ is)) c.in_ok-write_named.ensures
 
 pub returns : goal.returns
 returns g c =
     let table : length c.args.locs.now ≤ 8 = c.len.ensures.table.few in
-    let whole : length c.args.locs.now ≤ c.loop-loc.loc-index = omega (arith, length-take c.len.result
-        c.all.result, ap length c.all.ensures, c.len.ensures.len, table, c.loop-loc-test.false) in
+    let whole : length c.args.locs.now ≤ c.loop-loc.loc-index = omega (
+      arith,
+      length-take c.len.result
+          c.all.result,
+      ap length c.all.ensures,
+      c.len.ensures.len,
+      table,
+      c.loop-loc-test.false,
+    ) in
     line_ended c.push_str-2.result _ c.args.title.now _ _ _ _ _ c.in_ok-push_str.ensures.bytes
-        (told_all c.loop-loc.invariant whole) refl c.push_str-2.ensures.bytes
+    (told_all c.loop-loc.invariant whole) refl c.push_str-2.ensures.bytes
 
 pub name-requires : goal.name-requires
 name-requires g c =

@@ -1,11 +1,5 @@
-use Rattle.std.proofs.Common.{◌≡◌, ◌⊎◌, inl, inr, ap, refl}
-use Rattle.std.proofs.lemmas.Result.{IfOk-weaker, IfErr-weaker}
-use Rattle.lw_base.proofs.api.Returns.{passed_on}
-use Rattle.lw_base.specs.Heads.{TestHead}
-use Rattle.lw_bench.specs.LitmusTests.{litmus_test_of}
-use Rattle.lw_bench.specs.Replays.{IsReplayPage}
-use Rattle.lw_bench.specs.Told.{TellsReplay}
-use Rattle.lw_bench.specs.declared.fault.BenchFault.TheVariants.{Memory}
+use Rattle.lw_bench.proofs.Common.{◌≡◌, ◌⊎◌, inl, inr, ap, refl, IfOk-weaker, IfErr-weaker, passed_on}
+use Rattle.lw_bench.proofs.Common.{TestHead, litmus_test_of, IsReplayPage, TellsReplay, Memory}
 use Rattle.lw_bench.proofs.Replays.{page_told}
 use Rattle.lw_bench.proofs.Told.{schedule_is_told, schedule_no_device, memory_is_no_device}
 use Rattle.lw_bench.proofs.replay.page_of.Goals as goal
@@ -27,8 +21,8 @@ returns-clause-found g c =
     let test = litmus_test_of c.args.test.now in
     let table = ap (λ (h : TestHead). h.locs) c.head.ensures.head in
     IfOk-weaker c.page_of_events-page.result _ (λ x. IsReplayPage c.args.protocol test c.args.schedule.now x.0
-        x.1) (λ x tells. page_told c.args.protocol test _ c.args.schedule.now _ c.as_slice.result.now x.0 x.1
-        table c.in_ok-events.ensures.found c.as_slice.ensures tells) c.page_of_events-page.ensures.found
+    x.1) (λ x tells. page_told c.args.protocol test _ c.args.schedule.now _ c.as_slice.result.now x.0 x.1
+    table c.in_ok-events.ensures.found c.as_slice.ensures tells) c.page_of_events-page.ensures.found
 
 pub returns-clause-told : goal.returns-clause-told
 returns-clause-told g c = IfErr-weaker _ _ _ (λ f is. inl is) c.page_of_events-page.ensures.fault

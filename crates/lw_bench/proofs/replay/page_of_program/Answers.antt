@@ -1,5 +1,4 @@
-use Rattle.std.proofs.Common.{map, ap, ◌∙◌}
-use Rattle.lw_mesi.specs.CacheLines.{unheld_line, content_of}
+use Rattle.lw_bench.proofs.Common.{map, ap, ◌∙◌, unheld_line, content_of}
 use Rattle.lw_bench.proofs.replay.page_of_program.Goals as goal
 
 pub page_of_machine-requires-clause-words : goal.page_of_machine-requires-clause-words

@@ -1,6 +1,4 @@
-use Rattle.std.proofs.Common.{refl, ap, ◌∙◌, length}
-use Rattle.std.proofs.lemmas.List.{length-map}
-use Rattle.lw_interleaving.specs.Runs.{State}
+use Rattle.lw_bench.proofs.Common.{refl, ap, ◌∙◌, length, length-map, State}
 use Rattle.lw_bench.proofs.replay.page_of_source.Goals as goal
 
 pub returns-clause-found : goal.returns-clause-found

@@ -1,7 +1,4 @@
-use Rattle.std.proofs.Common.{inl}
-use Rattle.std.proofs.lemmas.Result.{IfOk-weaker, IfErr-weaker}
-use Rattle.lw_base.proofs.api.Returns.{passed_on}
-use Rattle.lw_bench.specs.LitmusTests.{litmus_test_of}
+use Rattle.lw_bench.proofs.Common.{inl, IfOk-weaker, IfErr-weaker, passed_on, litmus_test_of}
 use Rattle.lw_bench.proofs.Told.{told_of_test}
 use Rattle.lw_bench.proofs.run.make_of_text.Goals as goal
 
@@ -13,8 +10,12 @@ returns-in_err-test-clause-device g c = passed_on _ _ c.from_residual.ensures.1 
 
 pub returns-clause-found : goal.returns-clause-found
 returns-clause-found g c =
-    IfOk-weaker c.make-made.result _ _ (λ x made. record { test = litmus_test_of c.in_ok-test.test; has_test
-    = c.in_ok-test.ensures.found; is = made }) c.make-made.ensures.found
+    IfOk-weaker c.make-made.result _ _ (λ x made. record {
+      test = litmus_test_of c.in_ok-test.test;
+      has_test
+          = c.in_ok-test.ensures.found;
+      is = made;
+    }) c.make-made.ensures.found
 
 pub returns-clause-told : goal.returns-clause-told
 returns-clause-told g c =

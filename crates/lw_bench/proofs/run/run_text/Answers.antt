@@ -1,8 +1,4 @@
-use Rattle.std.proofs.Common.{refl, inl}
-use Rattle.std.proofs.lemmas.Result.{err_from_is_err_and}
-use Rattle.lw_base.proofs.api.Returns.{passed_on}
-use Rattle.lw_bench.specs.declared.fault.BenchFault.TheVariants.{Read, Write}
-use Rattle.lw_bench.specs.Told.{TellsRun}
+use Rattle.lw_bench.proofs.Common.{refl, inl, err_from_is_err_and, passed_on, Read, Write, TellsRun}
 use Rattle.lw_bench.proofs.DeviceFaults.{input_told, input_apart, write_apart, fault_apart, answer_apart}
 use Rattle.lw_bench.proofs.Outputs.{output_written}
 use Rattle.lw_bench.proofs.Taken.{taken_at, some_taken_at}
@@ -61,8 +57,8 @@ pub returns-in_err-text-clause-told : goal.returns-in_err-text-clause-told
 returns-in_err-text-clause-told g c =
     let p = err_from_is_err_and c.from_residual.result c.from_residual.ensures.1 in
     rw (p.1, p.2) (device_told (TellsRun (g.O.Output.tells c.args.output.now)) (g.R.ByteReader.remaining
-        c.args.reader.now) c.in_err-text.field-0.0 (g.R.ByteReader.failed c.read_input.new.reader)
-        (λ bytes. inl tt) (λ bytes. inl tt) c.in_err-text.ensures.err)
+    c.args.reader.now) c.in_err-text.field-0.0 (g.R.ByteReader.failed c.read_input.new.reader)
+    (λ bytes. inl tt) (λ bytes. inl tt) c.in_err-text.ensures.err)
 
 pub returns-clause-told : goal.returns-clause-told
 returns-clause-told g c = some_told (TellsRun (g.O.Output.tells c.args.output.now)) _ Write (λ bytes. inl tt)

@@ -1,5 +1,4 @@
-use Rattle.std.proofs.Common.{refl, sym}
-use Rattle.lw_base.proofs.api.Lists.{at_index}
+use Rattle.lw_cells.proofs.Common.{refl, sym, at_index}
 use Rattle.lw_cells.proofs.Exits.{refused_as}
 use Rattle.lw_cells.proofs.column.jump_target.Goals as goal
 

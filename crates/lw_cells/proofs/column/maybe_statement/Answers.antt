@@ -1,8 +1,6 @@
-use Rattle.std.proofs.Common.{sym, ◌∙◌}
+use Rattle.lw_cells.proofs.Common.{sym, ◌∙◌, grammar_of, draft_of}
 use Rattle.lw_cells.proofs.Exits.{refused_as}
 use Rattle.lw_cells.proofs.Drafts.{maybe_some, maybe_none, maybe_refused, surplus_refused}
-use Rattle.lw_cells.specs.Spellings.{grammar_of}
-use Rattle.lw_cells.specs.Found.{draft_of}
 use Rattle.lw_cells.proofs.column.maybe_statement.Goals as goal
 
 pub returns : goal.returns

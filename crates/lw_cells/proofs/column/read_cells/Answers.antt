@@ -1,8 +1,5 @@
-use Rattle.std.proofs.Common.{take, drop, suc, subst, take_all}
-use Rattle.std.proofs.lemmas.Result.{MatchResult-weaker}
-use Rattle.lw_cells.specs.Drafts.{ColumnDrafted}
-use Rattle.lw_cells.specs.Spellings.{grammar_of}
-use Rattle.lw_cells.specs.Found.{draft_of}
+use Rattle.lw_cells.proofs.Common.{take, drop, suc, subst, take_all, MatchResult-weaker, ColumnDrafted}
+use Rattle.lw_cells.proofs.Common.{grammar_of, draft_of}
 use Rattle.lw_cells.proofs.Exits.{refused_as}
 use Rattle.lw_cells.proofs.Drafts.{draft_none, few_drafted}
 use Rattle.lw_cells.proofs.Elements.{cut_there, take_further}
@@ -40,4 +37,4 @@ returns g c =
     (draft_of g.L.StatementReader.spelling) cells c.args.locs.now c.loop-cell.column c.loop-cell.locs)
     (take_all c.loop-cell.cell-index c.args.cells.now c.loop-cell-test.false) c.loop-cell.invariant in
     MatchResult-weaker c.resolve.result c.resolve.ensures (λ code read. read c.args.locs.now c.loop-cell.locs
-        drafted) (λ f refused. refused c.args.locs.now c.loop-cell.locs drafted)
+    drafted) (λ f refused. refused c.args.locs.now c.loop-cell.locs drafted)

@@ -1,7 +1,4 @@
-use Rattle.std.proofs.Common.{take}
-use Rattle.lw_cells.specs.Drafts.{ColumnDrafted}
-use Rattle.lw_cells.specs.Spellings.{grammar_of}
-use Rattle.lw_cells.specs.Found.{draft_of}
+use Rattle.lw_cells.proofs.Common.{take, ColumnDrafted, grammar_of, draft_of}
 use Rattle.lw_cells.proofs.column.read_cells.Given as goal
 
 abbrev pub invariant-loop-cell : goal.invariant-loop-cell

@@ -1,9 +1,5 @@
-use Rattle.std.proofs.Common.{take}
-use Rattle.lw_base.specs.Types.{NameTable}
-use Rattle.lw_cells.specs.Drafts.{ColumnDrafted}
+use Rattle.lw_cells.proofs.Common.{take, NameTable, ColumnDrafted, grammar_of, draft_of}
 use Rattle.lw_cells.proofs.Resolved.{Resolved}
-use Rattle.lw_cells.specs.Spellings.{grammar_of}
-use Rattle.lw_cells.specs.Found.{draft_of}
 use Rattle.lw_cells.proofs.column.resolve.Given as goal
 
 abbrev pub invariant-loop-row : goal.invariant-loop-row

@@ -1,5 +1,4 @@
-use Rattle.std.proofs.Common.{inl, inr}
-use Rattle.std.proofs.lemmas.Result.{MatchResult-weaker}
+use Rattle.lw_cells.proofs.Common.{inl, inr, MatchResult-weaker}
 use Rattle.lw_cells.proofs.Exits.{refused_as}
 use Rattle.lw_cells.proofs.column.resolve_cell.Goals as goal
 

@@ -1,9 +1,8 @@
-use Rattle.std.proofs.Common.{sym, ap, ◌∙◌, arith, true≢false, is_some}
-use Rattle.std.proofs.lemmas.Map.Text.{btree_map_updates_str}
-use Rattle.lw_base.proofs.api.Lists.{at_index}
+use Rattle.lw_cells.proofs.Common.{sym, ap, ◌∙◌, arith, true≢false, is_some, btree_map_updates_str, at_index}
 use Rattle.lw_cells.proofs.Causes.{misfit_tells, memory_tells, twice_tells, refused_memory}
 use Rattle.lw_cells.proofs.Exits.{out_of_memory}
-use Rattle.lw_cells.proofs.FrontLabels.{get_behind, next_within, labels_start, labels_more, labels_on, labels_twice, twice_in}
+use Rattle.lw_cells.proofs.FrontLabels.{get_behind, next_within, labels_start, labels_more, labels_on}
+use Rattle.lw_cells.proofs.FrontLabels.{labels_twice, twice_in}
 use Rattle.lw_cells.proofs.labels.read_labels.Goals as goal
 
 pub loop-token-init : goal.loop-token-init
@@ -17,9 +16,9 @@ loop-token-preserved g c =
     let colon = c.stands_at.ensures.0 c.loop-token-test.true in
     let within = next_within c.args.tokens.now c.loop-token.next _ colon in
     labels_more _ _ _ _ _ c.loop-token.invariant _ (at_index c.args.tokens.now c.loop-token.next _
-        (omega arith)) colon _ (c.is_location.ensures.0 c.if-not-is_location.false)
-        (ap is_some (sym c.in_ok-insert.ensures.old) ∙ sym c.is_some.ensures ∙ c.if-is_some.false)
-        (btree_map_updates_str _ c.loop-token.labels c.insert.new.self _ c.in_ok-insert.ensures.updates)
+    (omega arith)) colon _ (c.is_location.ensures.0 c.if-not-is_location.false)
+    (ap is_some (sym c.in_ok-insert.ensures.old) ∙ sym c.is_some.ensures ∙ c.if-is_some.false)
+    (btree_map_updates_str _ c.loop-token.labels c.insert.new.self _ c.in_ok-insert.ensures.updates)
 
 pub returns-then-not-is_location : goal.returns-then-not-is_location
 returns-then-not-is_location g c =

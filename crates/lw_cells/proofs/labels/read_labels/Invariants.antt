@@ -1,5 +1,4 @@
-use Rattle.std.proofs.Common.{◌-◌, length}
-use Rattle.lw_cells.specs.Reading.{LabelsRead}
+use Rattle.lw_cells.proofs.Common.{◌-◌, length, LabelsRead}
 use Rattle.lw_cells.proofs.labels.read_labels.Given as goal
 
 abbrev pub invariant-loop-token : goal.invariant-loop-token

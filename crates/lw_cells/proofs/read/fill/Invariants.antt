@@ -1,4 +1,4 @@
-use Rattle.std.proofs.Common.{◌≡◌, ◌++◌, replicate}
+use Rattle.lw_cells.proofs.Common.{◌≡◌, ◌++◌, replicate}
 use Rattle.lw_cells.proofs.read.fill.Given as goal
 
 abbrev pub invariant-loop-word : goal.invariant-loop-word

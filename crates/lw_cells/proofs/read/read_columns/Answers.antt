@@ -1,7 +1,6 @@
-use Rattle.std.proofs.Common.{refl, [], take_all}
+use Rattle.lw_cells.proofs.Common.{refl, [], take_all, grammar_of}
 use Rattle.lw_cells.proofs.Exits.{refused_as}
 use Rattle.lw_cells.proofs.Threads.{columns_out_of_memory, threads_more, threads_refused}
-use Rattle.lw_cells.specs.Spellings.{grammar_of}
 use Rattle.lw_cells.proofs.api.Forms.{is_grammar}
 use Rattle.lw_cells.proofs.read.read_columns.Goals as goal
 
@@ -12,9 +11,9 @@ pub returns-in_err-stmts : goal.returns-in_err-stmts
 returns-in_err-stmts g c =
     let spelling = g.L.StatementReader.spelling in
     refused_as _ _ _ c.from_residual.ensures.1 (threads_refused (grammar_of spelling) c.args.columns.now
-        c.loop-column.column-index c.column-item.result c.loop-column-test.true c.column-item.is _ _ _
-        c.loop-column.invariant (is_grammar spelling g.L.StatementReader.made c.requires.lawful) _
-        (rw c.as_slice.ensures at c.in_err-stmts.ensures))
+    c.loop-column.column-index c.column-item.result c.loop-column-test.true c.column-item.is _ _ _
+    c.loop-column.invariant (is_grammar spelling g.L.StatementReader.made c.requires.lawful) _
+    (rw c.as_slice.ensures at c.in_err-stmts.ensures))
 
 pub loop-column-preserved : goal.loop-column-preserved
 loop-column-preserved g c = rw c.in_ok-push.ensures (threads_more (grammar_of g.L.StatementReader.spelling)

@@ -1,7 +1,4 @@
-use Rattle.std.proofs.Common.{take}
-use Rattle.lw_text.specs.Places.{all_texts}
-use Rattle.lw_cells.specs.Reading.{ColumnsRead}
-use Rattle.lw_cells.specs.Spellings.{grammar_of}
+use Rattle.lw_cells.proofs.Common.{take, all_texts, ColumnsRead, grammar_of}
 use Rattle.lw_cells.proofs.read.read_columns.Given as goal
 
 abbrev pub invariant-loop-column : goal.invariant-loop-column

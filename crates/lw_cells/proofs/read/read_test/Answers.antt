@@ -1,14 +1,7 @@
-use Rattle.std.proofs.Common.{◌≡◌, refl, ap, ◌∙◌, subst, length, arith, rules, IfOk}
-use Rattle.std.proofs.lemmas.List.{length-map}
-use Rattle.std.proofs.lemmas.Result.{err_from_is_err_and, MatchResult-weaker}
-use Rattle.lw_base.specs.Heads.{TestHead, head_of}
-use Rattle.lw_base.specs.Tables.{with_names}
-use Rattle.lw_litmus.specs.Tests.{test_of}
-use Rattle.lw_text.specs.Places.{all_texts, cells_texts, placed_cells}
-use Rattle.lw_text.specs.Views.{frame_of}
-use Rattle.lw_cells.specs.Cells.{names_of, FrameHasTest}
-use Rattle.lw_cells.specs.Faults.{TellsBy}
-use Rattle.lw_cells.specs.Spellings.{grammar_of}
+use Rattle.lw_cells.proofs.Common.{◌≡◌, refl, ap, ◌∙◌, subst, length, arith, rules, IfOk, length-map}
+use Rattle.lw_cells.proofs.Common.{err_from_is_err_and, MatchResult-weaker, TestHead, head_of, with_names}
+use Rattle.lw_cells.proofs.Common.{test_of, all_texts, cells_texts, placed_cells, frame_of, names_of}
+use Rattle.lw_cells.proofs.Common.{FrameHasTest, TellsBy, grammar_of}
 use Rattle.lw_cells.proofs.Exits.{handed_on}
 use Rattle.lw_cells.proofs.Threads.{columns_out_of_memory, test_found}
 use Rattle.lw_cells.proofs.api.Forms.{is_grammar, names_allowed}
@@ -25,8 +18,8 @@ returns g c =
     let made = handed_on _ _ _ _ _ _ _ _ columns c.with_zeros-threads.ensures c.parts_of.ensures (columns_out_of_memory grammar _ _) in
     let found : IfOk c.parts_of.result (λ parts. FrameHasTest grammar (frame_of frame) (test_of parts.head parts.threads)) =
     MatchResult-weaker c.parts_of.result made (λ parts m. rw (m.0, m.1.0) (test_found grammar
-        (head_of frame.head) (head_of c.in_ok-head.head) same (all_texts frame.cells) parts.threads _ _
-        c.requires.arch frame.well_formed.words m.2 m.1.1.few refl)) (λ f refused. tt) in
+    (head_of frame.head) (head_of c.in_ok-head.head) same (all_texts frame.cells) parts.threads _ _
+    c.requires.arch frame.well_formed.words m.2 m.1.1.few refl)) (λ f refused. tt) in
     record {
       found = found;
       well_formed = MatchResult-weaker c.parts_of.result found (λ parts has. well_formed_test grammar

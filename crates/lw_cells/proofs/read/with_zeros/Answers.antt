@@ -1,4 +1,4 @@
-use Rattle.std.proofs.Common.{ℕ, inl, inr, ap, ◌∙◌, ◌++◌, ◌-◌, length, refl, replicate}
+use Rattle.lw_cells.proofs.Common.{inl, inr, ap, ◌∙◌, ◌++◌, ◌-◌, length, refl, replicate}
 use Rattle.lw_cells.proofs.Exits.{refused_as, out_of_memory}
 use Rattle.lw_cells.proofs.read.with_zeros.Goals as goal
 

@@ -1,6 +1,4 @@
-use Rattle.std.proofs.Common.{◌<◌, length, ap, true≢false, sym, ◌∙◌, rules, arith}
-use Rattle.std.proofs.lemmas.List.{length-map}
-use Rattle.lw_text.specs.declared.token.Token.{Token}
+use Rattle.lw_cells.proofs.Common.{◌<◌, length, ap, true≢false, sym, ◌∙◌, rules, arith, length-map, Token}
 use Rattle.lw_cells.proofs.SlotTokens.{reach_none, reach_end, reach_more, reach_within}
 use Rattle.lw_cells.proofs.spelled.+reach.Goals as goal
 

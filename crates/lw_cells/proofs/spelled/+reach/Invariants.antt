@@ -1,4 +1,4 @@
-use Rattle.std.proofs.Common.{length}
+use Rattle.lw_cells.proofs.Common.{length}
 use Rattle.lw_cells.proofs.spelled.+reach.Given as goal
 
 -- the slots that are left

@@ -1,4 +1,4 @@
-use Rattle.std.proofs.Common.{length, ap, sym, ◌∙◌, true≢false, arith}
+use Rattle.lw_cells.proofs.Common.{length, ap, sym, ◌∙◌, true≢false, arith}
 use Rattle.lw_cells.proofs.SlotTokens.{word_or_not, taken_behind, taken_more, taken_none, none_filled}
 use Rattle.lw_cells.proofs.spelled.+read_slots.Goals as goal
 
@@ -6,7 +6,7 @@ pub returns : goal.returns
 returns g t c =
     let behind = rw c.if-not-read_slots.false at c.read_slots-2.ensures in
     rw (c.in-Some.ensures.cases.0, c.in-Some-split_first.ensures.cases.0)
-        (taken_more g.L.StatementReader.spelling _ c.in-Some.slot.now _ _ _ _ _ _ behind c.add_token.ensures)
+    (taken_more g.L.StatementReader.spelling _ c.in-Some.slot.now _ _ _ _ _ _ behind c.add_token.ensures)
 
 pub returns-in-Word : goal.returns-in-Word
 returns-in-Word g t c =

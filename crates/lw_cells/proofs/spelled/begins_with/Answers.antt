@@ -1,6 +1,4 @@
-use Rattle.std.proofs.Common.{subst, sym, ◌∙◌, ◌∷◌, []}
-use Rattle.lw_base.proofs.api.Lists.{cons_head}
-use Rattle.lw_cells.specs.Found.{CanStand}
+use Rattle.lw_cells.proofs.Common.{subst, sym, ◌∙◌, ◌∷◌, [], cons_head, CanStand}
 use Rattle.lw_cells.proofs.spelled.begins_with.Goals as goal
 
 pub returns-in-Some : goal.returns-in-Some

@@ -1,4 +1,4 @@
-use Rattle.std.proofs.Common.{◌<◌, refl, sym, ◌∙◌, true≢false}
+use Rattle.lw_cells.proofs.Common.{refl, sym, ◌∙◌, true≢false}
 use Rattle.lw_cells.proofs.SlotTokens.{BeginsOtherwise, form_more, forms_all}
 use Rattle.lw_cells.proofs.Beginnings.{begins as can_begin, begun}
 use Rattle.lw_cells.proofs.spelled.can_begin.Goals as goal
@@ -17,8 +17,8 @@ loop-form-preserved g c =
     let spelling = g.L.StatementReader.spelling in
     let here = rw c.slots.ensures at c.begins_with.ensures.1 in
     form_more (BeginsOtherwise spelling c.args.token.now.text.now) _ _ _ (rw c.forms-form-items.ensures
-        at c.loop-form-test.true) (rw c.forms-form-items.ensures at c.form-item.is) c.loop-form.invariant
-        (λ begins. true≢false (sym (here begins) ∙ c.if-begins_with.false))
+    at c.loop-form-test.true) (rw c.forms-form-items.ensures at c.form-item.is) c.loop-form.invariant
+    (λ begins. true≢false (sym (here begins) ∙ c.if-begins_with.false))
 
 pub returns : goal.returns
 returns g c =

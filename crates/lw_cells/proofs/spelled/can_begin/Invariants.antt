@@ -1,4 +1,4 @@
-use Rattle.std.proofs.Common.{All, take}
+use Rattle.lw_cells.proofs.Common.{All, take}
 use Rattle.lw_cells.proofs.SlotTokens.{BeginsOtherwise}
 use Rattle.lw_cells.proofs.spelled.can_begin.Given as goal
 

@@ -1,4 +1,4 @@
-use Rattle.lw_base.proofs.api.Lists.{at_index}
+use Rattle.lw_cells.proofs.Common.{at_index}
 use Rattle.lw_cells.proofs.Exits.{refused_as}
 use Rattle.lw_cells.proofs.spelled.draft.Goals as goal
 
@@ -23,5 +23,11 @@ returns-in_err-loc g c =
 
 pub returns : goal.returns
 returns g c =
-    rw c.in-Some.is (_, c.in_ok-loc.loc, at_index c.args.tokens.now c.in-Some.index _ (rw c.in-Some.is
-        at c.requires).0, c.in_ok-loc.ensures, c.draft_on-2.ensures)
+    rw c.in-Some.is (
+      _,
+      c.in_ok-loc.loc,
+      at_index c.args.tokens.now c.in-Some.index _ (rw c.in-Some.is
+          at c.requires).0,
+      c.in_ok-loc.ensures,
+      c.draft_on-2.ensures,
+    )

@@ -1,7 +1,4 @@
-use Rattle.std.proofs.Common.{◌≡◌, ◌∙◌, take, arith}
-use Rattle.std.proofs.lemmas.List.{length-map}
-use Rattle.std.proofs.lemmas.List.Elements.{All-weaker}
-use Rattle.lw_text.specs.Spans.{texts}
+use Rattle.lw_cells.proofs.Common.{◌∙◌, take, arith, length-map, All-weaker, texts}
 use Rattle.lw_cells.proofs.SlotTokens.{ReachesTo, at_most, form_more, forms_all, reach_within}
 use Rattle.lw_cells.proofs.api.Greater.{greater_is}
 use Rattle.lw_cells.proofs.spelled.longest_reach.Goals as goal
@@ -10,7 +7,7 @@ pub returns-clause-front : goal.returns-clause-front
 returns-clause-front g c form there =
     let spelling = g.L.StatementReader.spelling in
     forms_all (ReachesTo spelling (texts c.args.tokens.now) c.loop-form.longest) spelling.forms _
-        (rw c.forms-form-items.ensures at c.loop-form-test.false) c.loop-form.invariant.1 form there
+    (rw c.forms-form-items.ensures at c.loop-form-test.false) c.loop-form.invariant.1 form there
 
 pub loop-form-preserved : goal.loop-form-preserved
 loop-form-preserved g c =
@@ -20,11 +17,15 @@ loop-form-preserved g c =
     let longer = c.max-longest.ensures ∙ greater_is longest c.reach.result in
     let within = (reach_within spelling _ _ _ c.reach.ensures).1 in
     let before = All-weaker (ReachesTo spelling tokens longest) (ReachesTo spelling tokens
-        c.max-longest.result) (λ form reaches n r. omega (arith, longer, reaches n r))
-        (take c.loop-form.form-index spelling.forms) c.loop-form.invariant.1 in (
+    c.max-longest.result) (λ form reaches n r. omega (arith, longer, reaches n r))
+    (take c.loop-form.form-index spelling.forms) c.loop-form.invariant.1 in (
       omega (arith, longer, within, c.loop-form.invariant.0, length-map c.args.tokens.now (λ t. t.text.now)),
       form_more (ReachesTo spelling tokens c.max-longest.result) spelling.forms c.loop-form.form-index
           c.form-item.result (rw c.forms-form-items.ensures at c.loop-form-test.true)
-          (rw c.forms-form-items.ensures at c.form-item.is) before (λ n r. omega (arith, longer, at_most
-          spelling _ _ n c.reach.result r (rw c.slots.ensures at c.reach.ensures))),
+          (rw c.forms-form-items.ensures at c.form-item.is) before (λ n r. omega (
+            arith,
+            longer,
+            at_most
+                spelling _ _ n c.reach.result r (rw c.slots.ensures at c.reach.ensures),
+          )),
     )

@@ -1,5 +1,4 @@
-use Rattle.std.proofs.Common.{◌≤◌, All, length, take}
-use Rattle.lw_text.specs.Spans.{texts}
+use Rattle.lw_cells.proofs.Common.{◌≤◌, All, length, take, texts}
 use Rattle.lw_cells.proofs.SlotTokens.{ReachesTo}
 use Rattle.lw_cells.proofs.spelled.longest_reach.Given as goal
 

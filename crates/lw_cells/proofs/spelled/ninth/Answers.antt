@@ -1,5 +1,4 @@
-use Rattle.std.proofs.Common.{◌∙◌, ap, arith, Some}
-use Rattle.lw_base.proofs.api.Lists.{at_index}
+use Rattle.lw_cells.proofs.Common.{◌∙◌, ap, arith, Some, at_index}
 use Rattle.lw_cells.proofs.spelled.ninth.Goals as goal
 
 pub bounds-slots-index : goal.bounds-slots-index

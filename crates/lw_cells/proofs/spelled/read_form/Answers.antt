@@ -1,20 +1,27 @@
-use Rattle.std.proofs.Common.{◌<◌, sym}
-use Rattle.lw_text.specs.Spans.{texts}
+use Rattle.lw_cells.proofs.Common.{sym, texts}
 use Rattle.lw_cells.proofs.SlotTokens.{IsOther, form_more, forms_all}
 use Rattle.lw_cells.proofs.spelled.read_form.Goals as goal
 
 pub returns-in-Some : goal.returns-in-Some
 returns-in-Some g c =
-    let read = rw (c.slots.ensures, c.in-Some.is) at c.read_as.ensures in
-    (read.0, (c.loop-form.form-index, (rw c.forms-form-items.ensures at c.loop-form-test.true), sym
-        (rw c.forms-form-items.ensures at c.form-item.is)), read.1, read.2)
+    let read = rw (c.slots.ensures, c.in-Some.is) at c.read_as.ensures in (
+      read.0,
+      (
+        c.loop-form.form-index,
+        (rw c.forms-form-items.ensures at c.loop-form-test.true),
+        sym
+            (rw c.forms-form-items.ensures at c.form-item.is),
+      ),
+      read.1,
+      read.2,
+    )
 
 pub loop-form-preserved : goal.loop-form-preserved
 loop-form-preserved g c =
     let spelling = g.L.StatementReader.spelling in
     form_more (IsOther spelling (texts c.args.tokens.now)) spelling.forms _ c.form-item.result
-        (rw c.forms-form-items.ensures at c.loop-form-test.true) (rw c.forms-form-items.ensures
-        at c.form-item.is) c.loop-form.invariant (rw c.slots.ensures at c.in_default.ensures)
+    (rw c.forms-form-items.ensures at c.loop-form-test.true) (rw c.forms-form-items.ensures
+    at c.form-item.is) c.loop-form.invariant (rw c.slots.ensures at c.in_default.ensures)
 
 pub returns : goal.returns
 returns g c form f there =

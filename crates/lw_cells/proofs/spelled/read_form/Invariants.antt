@@ -1,5 +1,4 @@
-use Rattle.std.proofs.Common.{All, take}
-use Rattle.lw_text.specs.Spans.{texts}
+use Rattle.lw_cells.proofs.Common.{All, take, texts}
 use Rattle.lw_cells.proofs.SlotTokens.{IsOther}
 use Rattle.lw_cells.proofs.spelled.read_form.Given as goal
 

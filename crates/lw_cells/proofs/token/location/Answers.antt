@@ -1,8 +1,6 @@
-use Rattle.std.proofs.Common.{◌≡◌, ◌<◌, ◌≤◌, [], ◌∷◌, length, length-append, refl, sym, ap, arith, Contains}
-use Rattle.std.proofs.lemmas.Option.{slice_get_read}
-use Rattle.lw_base.specs.Tables.{with_name}
-use Rattle.lw_base.specs.Types.{Bytes, NameTable}
-use Rattle.lw_base.proofs.api.Tables.{with_name-there, with_name-new}
+use Rattle.lw_cells.proofs.Common.{◌≡◌, ◌<◌, ◌≤◌, [], ◌∷◌, length, length-append, refl, sym, ap, arith}
+use Rattle.lw_cells.proofs.Common.{Contains, slice_get_read, with_name, Bytes, NameTable, with_name-there}
+use Rattle.lw_cells.proofs.Common.{with_name-new}
 use Rattle.lw_cells.proofs.Exits.{out_of_memory}
 use Rattle.lw_cells.proofs.Causes.{memory_tells, many_tells, refused_memory}
 use Rattle.lw_cells.proofs.token.location.Goals as goal

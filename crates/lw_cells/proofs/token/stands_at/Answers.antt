@@ -1,6 +1,5 @@
-use Rattle.lw_text.specs.Spans.{texts}
+use Rattle.lw_cells.proofs.Common.{texts, at_index}
 use Rattle.lw_cells.proofs.FrontLabels.{sign_or_not, get_text}
-use Rattle.lw_base.proofs.api.Lists.{at_index}
 use Rattle.lw_cells.proofs.token.stands_at.Goals as goal
 
 pub returns : goal.returns

@@ -1,6 +1,4 @@
-use Rattle.std.proofs.Common.{◌++◌, ◌∙◌, Vec, ap, sym, append-nil, option_to_list}
-use Rattle.std.proofs.lemmas.List.{drop_all}
-use Rattle.lw_choices.specs.declared.conflicts.Access.{Access}
+use Rattle.lw_choices.proofs.Common.{◌++◌, ◌∙◌, Vec, ap, sym, append-nil, option_to_list, drop_all, Access}
 use Rattle.lw_choices.proofs.AccessPairs.{access_pushed}
 use Rattle.lw_choices.proofs.conflicts.accesses_of.Goals.{in-Some+in_ok-push, in_default}
 use Rattle.lw_choices.proofs.conflicts.accesses_of.Goals as goal

@@ -1,5 +1,4 @@
-use Rattle.std.proofs.Common.{◌≡◌, ◌++◌, drop}
-use Rattle.lw_choices.specs.inner.Accesses.{accesses_from}
+use Rattle.lw_choices.proofs.Common.{◌≡◌, ◌++◌, drop, accesses_from}
 use Rattle.lw_choices.proofs.conflicts.accesses_of.Given as goal
 
 abbrev pub invariant-loop-number : goal.invariant-loop-number

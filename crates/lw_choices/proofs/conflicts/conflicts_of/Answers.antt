@@ -1,5 +1,4 @@
-use Rattle.std.proofs.Common.{append_assoc, append-nil}
-use Rattle.std.proofs.lemmas.List.{nil_from_length}
+use Rattle.lw_choices.proofs.Common.{append_assoc, append-nil, nil_from_length}
 use Rattle.lw_choices.proofs.AccessPairs.{conflicts_are}
 use Rattle.lw_choices.proofs.conflicts.conflicts_of.Goals as goal
 

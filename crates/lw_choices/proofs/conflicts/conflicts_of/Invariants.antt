@@ -1,6 +1,4 @@
-use Rattle.std.proofs.Common.{◌≡◌, ◌++◌, length}
-use Rattle.lw_choices.specs.inner.Accesses.{conflicts_among}
-use Rattle.lw_choices.specs.Items.{constraints_of}
+use Rattle.lw_choices.proofs.Common.{◌≡◌, ◌++◌, length, conflicts_among, constraints_of}
 use Rattle.lw_choices.proofs.conflicts.conflicts_of.Given as goal
 
 abbrev pub invariant-loop-first : goal.invariant-loop-first

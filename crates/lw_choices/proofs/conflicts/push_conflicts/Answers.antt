@@ -1,5 +1,5 @@
-use Rattle.std.proofs.Common.{ℕ, Bool, if◌then◌else◌, [], ◌∷◌, ◌++◌, ◌∙◌, Vec, ap, sym, append-nil}
-use Rattle.std.proofs.lemmas.List.{drop_all}
+use Rattle.lw_choices.proofs.Common.{ℕ, Bool, if◌then◌else◌, [], ◌∷◌, ◌++◌, ◌∙◌, Vec, ap, sym, append-nil}
+use Rattle.lw_choices.proofs.Common.{drop_all}
 use Rattle.lw_choices.proofs.AccessPairs.{conflict_pushed}
 use Rattle.lw_choices.proofs.conflicts.push_conflicts.Goals.{then-meets+in_ok-push, else-meets}
 use Rattle.lw_choices.proofs.conflicts.push_conflicts.Goals as goal

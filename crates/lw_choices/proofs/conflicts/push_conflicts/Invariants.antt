@@ -1,5 +1,4 @@
-use Rattle.std.proofs.Common.{◌≡◌, ◌++◌, drop}
-use Rattle.lw_choices.specs.inner.Accesses.{conflicts_with}
+use Rattle.lw_choices.proofs.Common.{◌≡◌, ◌++◌, drop, conflicts_with}
 use Rattle.lw_choices.proofs.conflicts.push_conflicts.Given as goal
 
 abbrev pub invariant-loop-second : goal.invariant-loop-second

@@ -1,7 +1,5 @@
-use Rattle.std.proofs.Common.{◌≡◌, ◌≤◌, ◌<◌, ◌∙◌, ap, arith, length, subst, sym, IfOk, MatchOption, eqb-true}
-use Rattle.lw_orders.specs.Limits.{most_orders}
-use Rattle.lw_orders.specs.Order.{Constraints, count_of}
-use Rattle.lw_choices.specs.Items.{constraints_of}
+use Rattle.lw_choices.proofs.Common.{◌≡◌, ◌≤◌, ◌<◌, ◌∙◌, ap, arith, length, subst, sym, IfOk, MatchOption}
+use Rattle.lw_choices.proofs.Common.{eqb-true, most_orders, Constraints, count_of, constraints_of}
 use Rattle.lw_choices.proofs.Pushed.{one_order}
 use Rattle.lw_choices.proofs.count.count_orders.Goals as goal
 

@@ -1,6 +1,5 @@
-use Rattle.std.proofs.Common.{◌≡◌, ℕ, ◌+◌, ◌-◌, ◌<◌, ◌≤◌, List, length, take, drop, get_or, ap, arith, sum_by}
-use Rattle.std.proofs.lemmas.List.Sums.{sum_by-cons, sum_by-take-drop}
-use Rattle.std.proofs.lemmas.List.{drop_more}
+use Rattle.lw_choices.proofs.Common.{◌≡◌, ℕ, ◌+◌, ◌-◌, ◌<◌, ◌≤◌, List, length, take, drop, get_or, ap, arith}
+use Rattle.lw_choices.proofs.Common.{sum_by, sum_by-cons, sum_by-take-drop, drop_more}
 use Rattle.lw_choices.proofs.few.has_few_branches.Goals as goal
 
 -- the room that is left when one more is taken

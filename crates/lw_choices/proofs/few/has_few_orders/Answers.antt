@@ -1,4 +1,4 @@
-use Rattle.std.proofs.Common.{◌∙◌, sym}
+use Rattle.lw_choices.proofs.Common.{◌∙◌, sym}
 use Rattle.lw_choices.proofs.FewOrders.{few_orders}
 use Rattle.lw_choices.proofs.few.has_few_orders.Goals as goal
 

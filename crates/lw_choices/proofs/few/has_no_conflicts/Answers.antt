@@ -1,4 +1,4 @@
-use Rattle.std.proofs.Common.{◌∙◌, sym}
+use Rattle.lw_choices.proofs.Common.{◌∙◌, sym}
 use Rattle.lw_choices.proofs.FewOrders.{no_conflicts}
 use Rattle.lw_choices.proofs.few.has_no_conflicts.Goals as goal
 

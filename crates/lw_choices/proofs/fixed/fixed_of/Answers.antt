@@ -1,6 +1,4 @@
-use Rattle.std.proofs.Common.{refl}
-use Rattle.std.proofs.Common.{append-nil}
-use Rattle.std.proofs.lemmas.List.{drop_all}
+use Rattle.lw_choices.proofs.Common.{refl, append-nil, drop_all}
 use Rattle.lw_choices.proofs.Pushed.{fixed_pushed}
 use Rattle.lw_choices.proofs.fixed.fixed_of.Goals as goal
 

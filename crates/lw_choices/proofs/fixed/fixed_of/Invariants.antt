@@ -1,5 +1,4 @@
-use Rattle.std.proofs.Common.{◌≡◌, ◌++◌, drop}
-use Rattle.lw_choices.specs.Items.{none_before, fixed_from}
+use Rattle.lw_choices.proofs.Common.{◌≡◌, ◌++◌, drop, none_before, fixed_from}
 use Rattle.lw_choices.proofs.fixed.fixed_of.Given as goal
 
 abbrev pub invariant-loop-number : goal.invariant-loop-number

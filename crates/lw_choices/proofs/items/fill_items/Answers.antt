@@ -1,8 +1,5 @@
-use Rattle.std.proofs.Common.{◌≡◌, ◌≤◌, ◌++◌, sym, ap₂, length, drop, append-nil, arith, ltb-false}
-use Rattle.std.proofs.lemmas.List.{drop_all}
-use Rattle.lw_base.specs.Limits.{most_threads}
-use Rattle.lw_choices.specs.Items.{path_items}
-use Rattle.lw_choices.specs.Views.{path_of}
+use Rattle.lw_choices.proofs.Common.{◌≡◌, ◌≤◌, ◌++◌, sym, ap₂, length, drop, append-nil, arith, ltb-false}
+use Rattle.lw_choices.proofs.Common.{drop_all, most_threads, path_items, path_of}
 use Rattle.lw_choices.proofs.Pushed.{some_is, some_there, thread_pushed, no_paths}
 use Rattle.lw_choices.proofs.items.fill_items.Goals as goal
 
@@ -23,8 +20,11 @@ loop-thread-preserved g c =
 
 pub returns : goal.returns
 returns g c =
-    rw (drop_all c.loop-thread.thread c.as_slice-path-items.result.now c.loop-thread-test.false,
-    no_paths g.S.Statement.language c.loop-thread.thread (drop c.loop-thread.thread c.args.program.now), append-nil) at c.loop-thread.invariant.items
+    rw (
+      drop_all c.loop-thread.thread c.as_slice-path-items.result.now c.loop-thread-test.false,
+      no_paths g.S.Statement.language c.loop-thread.thread (drop c.loop-thread.thread c.args.program.now),
+      append-nil,
+    ) at c.loop-thread.invariant.items
 
 pub overflow_cast-thread : goal.overflow_cast-thread
 overflow_cast-thread g c = omega (arith, c.loop-thread-test.true, c.loop-thread.invariant.few)
@@ -35,8 +35,10 @@ unwrap-cpu-requires g c =
 
 pub returns-in_default : goal.returns-in_default
 returns-in_default g c =
-    rw (drop_all c.loop-thread.thread c.args.program.now (ltb-false c.loop-thread.thread (length c.args.program.now) (sym c.in_default.ensures.lookup.0)),
-    append-nil) at c.loop-thread.invariant.items
+    rw (
+      drop_all c.loop-thread.thread c.args.program.now (ltb-false c.loop-thread.thread (length c.args.program.now) (sym c.in_default.ensures.lookup.0)),
+      append-nil,
+    ) at c.loop-thread.invariant.items
 
 pub bounds-path-items-thread : goal.bounds-path-items-thread
 bounds-path-items-thread g c = c.loop-thread-test.true

@@ -1,7 +1,5 @@
-use Rattle.std.proofs.Common.{◌≡◌, ◌++◌, ◌≤◌, length, map, drop}
-use Rattle.lw_base.specs.Limits.{most_threads}
-use Rattle.lw_choices.specs.Items.{items_from, items_of}
-use Rattle.lw_choices.specs.Views.{path_of, choice_of}
+use Rattle.lw_choices.proofs.Common.{◌≡◌, ◌++◌, ◌≤◌, length, map, drop, most_threads, items_from, items_of}
+use Rattle.lw_choices.proofs.Common.{path_of, choice_of}
 use Rattle.lw_choices.proofs.items.fill_items.Given as goal
 
 abbrev pub invariant-loop-thread : goal.invariant-loop-thread

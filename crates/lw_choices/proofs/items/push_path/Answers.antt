@@ -1,4 +1,4 @@
-use Rattle.std.proofs.Common.{◌∙◌, ap, slice_get}
+use Rattle.lw_choices.proofs.Common.{◌∙◌, ap, slice_get}
 use Rattle.lw_choices.proofs.Pushed.{path_pushed}
 use Rattle.lw_choices.proofs.items.push_path.Goals as goal
 

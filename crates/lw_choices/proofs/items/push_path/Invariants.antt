@@ -1,5 +1,4 @@
-use Rattle.std.proofs.Common.{◌≡◌, ◌++◌, drop}
-use Rattle.lw_choices.specs.Items.{path_items}
+use Rattle.lw_choices.proofs.Common.{◌≡◌, ◌++◌, drop, path_items}
 use Rattle.lw_choices.proofs.items.push_path.Given as goal
 
 abbrev pub invariant-loop-position : goal.invariant-loop-position

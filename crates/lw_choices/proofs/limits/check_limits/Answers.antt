@@ -1,4 +1,4 @@
-use Rattle.std.proofs.lemmas.Result.{on_ok_weaker, IfErr-weaker}
+use Rattle.lw_choices.proofs.Common.{on_ok_weaker, IfErr-weaker}
 use Rattle.lw_choices.proofs.api.Counting.{limit_told}
 use Rattle.lw_choices.proofs.limits.check_limits.Goals as goal
 

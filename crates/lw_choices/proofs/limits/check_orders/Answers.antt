@@ -1,7 +1,4 @@
-use Rattle.std.proofs.Common.{refl}
-use Rattle.std.proofs.lemmas.Result.{on_ok_weaker, IfErr-weaker}
-use Rattle.lw_choices.specs.Counts.{TellsOfChoice}
-use Rattle.lw_choices.specs.declared.count.Counter.{Counter}
+use Rattle.lw_choices.proofs.Common.{refl, on_ok_weaker, IfErr-weaker, TellsOfChoice, Counter}
 use Rattle.lw_choices.proofs.api.Counting.{all_counted, count_refused}
 use Rattle.lw_choices.proofs.limits.check_orders.Goals as goal
 

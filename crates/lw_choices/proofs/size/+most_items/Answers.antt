@@ -1,5 +1,4 @@
-use Rattle.std.proofs.Common.{arith, rules, ap, ◌<◌, length}
-use Rattle.lw_choices.specs.Visits.{IsVisitable}
+use Rattle.lw_choices.proofs.Common.{arith, rules, ap, ◌<◌, length, IsVisitable}
 use Rattle.lw_choices.proofs.Sizes.{most_of_more, most_of_none, visitable_first, visitable_rest}
 use Rattle.lw_choices.proofs.size.+most_items.Goals as goal
 

@@ -1,4 +1,4 @@
-use Rattle.std.proofs.Common.{length}
+use Rattle.lw_choices.proofs.Common.{length}
 use Rattle.lw_choices.proofs.size.+most_items.Given as goal
 
 -- proposed from what the function passes where it calls itself

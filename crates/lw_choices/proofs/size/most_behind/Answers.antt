@@ -1,4 +1,5 @@
-use Rattle.std.proofs.Common.{ℕ, Option, inr, refl, sym, ap, ◌∙◌, ◌∷◌, arith, slice_index, option_to_list}
+use Rattle.lw_choices.proofs.Common.{ℕ, Option, inr, refl, sym, ap, ◌∙◌, ◌∷◌, arith, slice_index}
+use Rattle.lw_choices.proofs.Common.{option_to_list}
 use Rattle.lw_choices.proofs.Sizes.{most_of_two, first_behind, second_behind}
 use Rattle.lw_choices.proofs.size.most_behind.Goals as goal
 
@@ -8,8 +9,11 @@ offset_bounds-most-first g c =
     omega (arith, lt)
 
 pub bounds-most-first : goal.bounds-most-first
-bounds-most-first g c = omega (arith, c.requires.within c.successors-first.result.0 (first_behind _
-    c.successors-first.result.0 c.successors-first.result.1 c.successors-first.ensures))
+bounds-most-first g c = omega (
+  arith,
+  c.requires.within c.successors-first.result.0 (first_behind _
+      c.successors-first.result.0 c.successors-first.result.1 c.successors-first.ensures),
+)
 
 pub offset_bounds-most-to : goal.offset_bounds-most-to
 offset_bounds-most-to g c =

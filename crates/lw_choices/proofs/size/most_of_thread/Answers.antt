@@ -1,6 +1,5 @@
-use Rattle.std.proofs.Common.{◌+◌, ◌-◌, ◌∙◌, ap, sym, subst, refl, Some, length, slice_set, arith}
-use Rattle.std.proofs.lemmas.Option.{slice_get-get_or}
-use Rattle.std.proofs.lemmas.List.{get_or-replicate}
+use Rattle.lw_choices.proofs.Common.{◌+◌, ◌-◌, ◌∙◌, ap, sym, subst, refl, Some, length, slice_set, arith}
+use Rattle.lw_choices.proofs.Common.{slice_get-get_or, get_or-replicate}
 use Rattle.lw_choices.proofs.api.Led.{led_within}
 use Rattle.lw_choices.proofs.Sizes.{AreKnownFrom, known_at_first, known_before, few_behind}
 use Rattle.lw_choices.proofs.size.most_of_thread.Goals as goal
@@ -22,7 +21,7 @@ pub overflow_add-most : goal.overflow_add-most
 overflow_add-most g c =
     let stmts = c.as_slice-stmts.result.now in
     let is = slice_get-get_or stmts (length stmts - 1 - c.loop-done.done) c.index-stmts-at.result
-        (omega (arith, c.loop-done-test.true)) ∙ ap Some (sym c.index-stmts-at.is) in
+    (omega (arith, c.loop-done-test.true)) ∙ ap Some (sym c.index-stmts-at.is) in
     let few = few_behind c.loop-done.invariant (omega (arith, c.loop-done-test.true)) is (rw c.as_slice-stmts.ensures c.requires.forward)
     (omega (arith, c.requires.short, ap length c.as_slice-stmts.ensures)) c.most_behind.ensures in
     omega (arith, few, c.count_items.ensures)
@@ -33,11 +32,15 @@ loop-done-preserved g c =
     let at = length stmts - 1 - c.loop-done.done in
     let is = slice_get-get_or stmts at c.index-stmts-at.result (omega (arith, c.loop-done-test.true)) ∙ ap Some (sym c.index-stmts-at.is) in
     subst (λ k. AreKnownFrom g.S.Statement.language stmts k (slice_set c.loop-done.most
-        at (c.count_items.result + c.most_behind.result))) (omega (arith, c.loop-done-test.true))
-        (known_before c.loop-done.invariant (omega (arith, c.loop-done-test.true)) is
-        (rw c.as_slice-stmts.ensures c.requires.forward) (omega (arith, c.requires.short, ap length
-        c.as_slice-stmts.ensures)) c.most_behind.ensures _ (ap (λ n. n + c.most_behind.result)
-        c.count_items.ensures))
+    at (c.count_items.result + c.most_behind.result))) (omega (arith, c.loop-done-test.true))
+    (known_before c.loop-done.invariant (omega (arith, c.loop-done-test.true)) is
+    (rw c.as_slice-stmts.ensures c.requires.forward) (omega (
+      arith,
+      c.requires.short,
+      ap length
+          c.as_slice-stmts.ensures,
+    )) c.most_behind.ensures _ (ap (λ n. n + c.most_behind.result)
+    c.count_items.ensures))
 
 pub returns-clause-most : goal.returns-clause-most
 returns-clause-most g c = rw (← c.as_slice-stmts.ensures) (c.loop-done.invariant.each 0 (omega arith) (omega arith)).is_most

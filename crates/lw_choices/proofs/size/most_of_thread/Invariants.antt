@@ -1,4 +1,4 @@
-use Rattle.std.proofs.Common.{◌-◌, length}
+use Rattle.lw_choices.proofs.Common.{◌-◌, length}
 use Rattle.lw_choices.proofs.Sizes.{AreKnownFrom}
 use Rattle.lw_choices.proofs.size.most_of_thread.Given as goal
 

@@ -1,10 +1,6 @@
-use Rattle.std.proofs.Common.{rules, ◌≡◌, ℕ, ◌<◌, ◌≤◌, [], ◌∷◌, length, sym, refl, ap}
-use Rattle.std.proofs.Common.{subst, arith, ◌∙◌, suc, Contains, option_to_list}
-use Rattle.std.proofs.lemmas.Result.{err_from_is_err_and}
-use Rattle.lw_base.specs.Limits.{most_threads}
-use Rattle.lw_litmus.specs.Limits.{most_instructions}
-use Rattle.lw_choices.specs.Views.{path_of, choice_of}
-use Rattle.lw_choices.specs.Visits.{CanGoOn}
+use Rattle.lw_choices.proofs.Common.{rules, ◌≡◌, ◌<◌, ◌≤◌, [], ◌∷◌, length, sym, refl, ap, subst, arith, ◌∙◌}
+use Rattle.lw_choices.proofs.Common.{suc, Contains, option_to_list, err_from_is_err_and, most_threads}
+use Rattle.lw_choices.proofs.Common.{most_instructions, path_of, choice_of, CanGoOn}
 use Rattle.lw_choices.proofs.Along.{found_here, few_statements, goes_on, next_thread, one_visited, both_done}
 use Rattle.lw_choices.proofs.Along.{first_refused, last_done, next_done}
 use Rattle.lw_choices.proofs.api.Members.{Contains-here, Contains-there}
@@ -21,7 +17,7 @@ returns-in_default g t c =
     let end = found_here c.requires c.index-program-len.is c.len.ensures c.in_default.ensures in
     next_done c.requires g.V.Visitor.visits g.V.Visitor.refuses c.args.visitor.now c.visit_from.new.visitor (choice_of c.with-choice.result)
     (path_of c.new.result) c.visit_from.result end c.with-choice.ensures c.new.ensures (λ s. c.if-len-program.false (c.len-in_default.ensures ∙ s))
-      c.visit_from.ensures
+    c.visit_from.ensures
 
 pub with-path-requires : goal.with-path-requires
 with-path-requires g t c =
@@ -79,7 +75,7 @@ returns-in-None g t c =
     let e = found_here c.requires c.index-program-len.is c.len.ensures c.in-Some.ensures in
     one_visited c.requires g.V.Visitor.visits g.V.Visitor.refuses c.args.visitor.now c.visit_from-2.new.visitor e c.with-path.ensures
     c.successors-first.result.0 (ap (λ o. c.successors-first.result.0 ∷ option_to_list o) (sym c.in-None.is) ∙ c.successors-first.ensures)
-      c.in_ok-visit_from.ensures
+    c.in_ok-visit_from.ensures
 
 pub returns-in_err-visit_from : goal.returns-in_err-visit_from
 returns-in_err-visit_from g t c =

@@ -1,7 +1,4 @@
-use Rattle.std.proofs.Common.{suc, ◌+◌, ◌-◌, ◌*◌, length}
-use Rattle.lw_base.specs.Limits.{most_threads}
-use Rattle.lw_litmus.specs.Limits.{most_instructions}
-use Rattle.lw_choices.specs.Views.{choice_of}
+use Rattle.lw_choices.proofs.Common.{suc, ◌+◌, ◌-◌, ◌*◌, length, most_threads, most_instructions, choice_of}
 use Rattle.lw_choices.proofs.visit.+visit_from.Given as goal
 
 -- the threads whose paths are still to come, then the statements

@@ -1,8 +1,5 @@
-use Rattle.std.proofs.Common.{◌∷◌, [], refl, inl, subst}
-use Rattle.std.proofs.lemmas.Result.{on_ok_weaker, IfErr-weaker}
-use Rattle.lw_choices.specs.Views.{path_of, choice_of}
-use Rattle.lw_choices.specs.inner.Visiting.{Done}
-use Rattle.lw_choices.specs.Choices.{choices_of}
+use Rattle.lw_choices.proofs.Common.{refl, inl, subst, on_ok_weaker, IfErr-weaker, path_of, choice_of, Done}
+use Rattle.lw_choices.proofs.Common.{choices_of}
 use Rattle.lw_choices.proofs.Along.{start_with_some, start_with_none, done_ok, done_err}
 use Rattle.lw_choices.proofs.visit.visit_choices.Goals.{After-visit_from}
 use Rattle.lw_choices.proofs.visit.visit_choices.Given.{Over}

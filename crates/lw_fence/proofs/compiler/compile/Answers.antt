@@ -1,6 +1,4 @@
-use Rattle.lw_litmus.specs.Views.{source_of}
-use Rattle.lw_interleaving.specs.Runs.{start_of}
-use Rattle.lw_fence.specs.Schedules.{schedule}
+use Rattle.lw_fence.proofs.Common.{source_of, start_of, schedule}
 use Rattle.lw_fence.proofs.Endings.{compiled_ends}
 use Rattle.lw_fence.proofs.MachineToSource.{machine_to_source}
 use Rattle.lw_fence.proofs.Programs.{compiled_of, is_program}

@@ -1,5 +1,4 @@
-use Rattle.std.proofs.Common.{ap, ap₂, ◌∙◌}
-use Rattle.lw_fence.specs.Compiling.{rows, starts_from}
+use Rattle.lw_fence.proofs.Common.{ap, ap₂, ◌∙◌, rows, starts_from}
 use Rattle.lw_fence.proofs.compiler.compile_thread.Goals as goal
 
 pub returns : goal.returns

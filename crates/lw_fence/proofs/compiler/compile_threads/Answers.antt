@@ -1,7 +1,5 @@
-use Rattle.std.proofs.Common.{◌<◌, ◌∙◌, ap, arith, get_or, length, refl, subst, sym}
-use Rattle.std.proofs.lemmas.Option.{slice_get_read}
-use Rattle.lw_litmus.specs.Sources.{source}
-use Rattle.lw_litmus.specs.WellFormed.{IsThread}
+use Rattle.lw_fence.proofs.Common.{◌∙◌, ap, arith, get_or, length, refl, subst, sym, slice_get_read, source}
+use Rattle.lw_fence.proofs.Common.{IsThread}
 use Rattle.lw_fence.proofs.CompiledThreads.{none_compiled, one_compiled}
 use Rattle.lw_fence.proofs.compiler.compile_threads.Given as given
 use Rattle.lw_fence.proofs.compiler.compile_threads.Goals as goal
@@ -14,7 +12,7 @@ thread_known g c =
     let all = c.as_slice-stmts-items.ensures in
     let is = c.as_slice.ensures ∙ (c.stmts-item.is ∙ ap (λ codes. get_or codes k stmts) all) in
     subst (IsThread source (length c.args.source.now.head.locs)) (sym is) (c.args.source.now.well_formed.code
-        k stmts (omega (arith, c.loop-stmts-test.true, ap length all)))
+    k stmts (omega (arith, c.loop-stmts-test.true, ap length all)))
 
 pub loop-stmts-init : goal.loop-stmts-init
 loop-stmts-init g c = none_compiled c.args.source.now.threads _ c.new-instrs.ensures c.new-starts.ensures
@@ -24,7 +22,7 @@ loop-stmts-preserved g c =
     let read = slice_get_read _ _ _ c.stmts-item.result refl c.loop-stmts-test.true c.stmts-item.is in
     let at = rw c.as_slice-stmts-items.ensures at read in
     one_compiled _ _ _ _ _ _ c.loop-stmts.invariant at (rw c.as_slice.ensures at c.in_ok-code.ensures)
-        c.in_ok-push.ensures.ok c.in_ok-push-2.ensures.ok
+    c.in_ok-push.ensures.ok c.in_ok-push-2.ensures.ok
 
 pub compile_thread-requires-clause-short : goal.compile_thread-requires-clause-short
 compile_thread-requires-clause-short g c = (thread_known g c).short

@@ -1,6 +1,5 @@
-use Rattle.std.proofs.Common.{◌≡◌, ◌&&◌, ◌∙◌, ℕ, false, ap₂, arith, length, refl, subst, sym}
-use Rattle.std.proofs.lemmas.Option.{slice_get_read, get_or_from_slice_get}
-use Rattle.lw_litmus.specs.Operations.{is_load}
+use Rattle.lw_fence.proofs.Common.{◌≡◌, ◌&&◌, ◌∙◌, ℕ, false, ap₂, arith, length, refl, subst, sym}
+use Rattle.lw_fence.proofs.Common.{slice_get_read, get_or_from_slice_get, is_load}
 use Rattle.lw_fence.proofs.FencesFound.{Found, found_none, found_more, needed}
 use Rattle.lw_fence.proofs.fences.fences_of.Goals as goal
 
@@ -13,10 +12,10 @@ loop-place-preserved g c =
     let at = slice_get_read c.args.code.now _ _ stmt refl c.loop-place-test.true c.index-code-place.is in
     let marks = c.in_ok-marks.marks.items in
     let there = slice_get_read marks _ c.loop-place.place c.index.result.now refl
-        (omega (arith, c.in_ok-marks.ensures.as_many, c.loop-place-test.true)) c.index.ensures in
+    (omega (arith, c.in_ok-marks.ensures.as_many, c.loop-place-test.true)) c.index.ensures in
     let mark = sym (get_or_from_slice_get marks c.loop-place.place c.index.result.now false there) in
     found_more c.args.code.now marks _ _ _ c.loop-place.invariant at (c.is_load_behind.ensures
-        ∙ ap₂ (λ o b. is_load o && b) c.operation-operation.ensures mark) c.in_ok-push.ensures.items
+    ∙ ap₂ (λ o b. is_load o && b) c.operation-operation.ensures mark) c.in_ok-push.ensures.items
 
 pub returns-clause-needed : goal.returns-clause-needed
 returns-clause-needed g c =

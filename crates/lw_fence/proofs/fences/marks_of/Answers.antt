@@ -1,6 +1,5 @@
-use Rattle.std.proofs.Common.{◌≡◌, ◌+◌, ℕ, ap, arith, length, refl, sym, ◌∙◌, subst, false}
-use Rattle.std.proofs.lemmas.Option.{slice_get_read}
-use Rattle.lw_litmus.specs.Operations.{target_of}
+use Rattle.lw_fence.proofs.Common.{◌+◌, ℕ, ap, arith, length, refl, sym, ◌∙◌, subst, slice_get_read}
+use Rattle.lw_fence.proofs.Common.{target_of}
 use Rattle.lw_fence.proofs.Marks.{Marked, mark_step, marked_behind_stores, given_back}
 use Rattle.lw_fence.proofs.fences.marks_of.Goals as goal
 
@@ -21,7 +20,7 @@ returns-clause-behind g c =
     let code = c.args.code.now in
     let marks = c.loop-place.marks.items in
     marked_behind_stores code c.requires.forward marks (subst (λ (k : ℕ). Marked code k marks)
-        (omega (arith, c.loop-place-test.false, c.loop-place.auto.place-end)) c.loop-place.invariant)
+    (omega (arith, c.loop-place-test.false, c.loop-place.auto.place-end)) c.loop-place.invariant)
 
 pub overflow_add-code : goal.overflow_add-code
 overflow_add-code g c = omega (arith, c.requires.short)

@@ -1,5 +1,4 @@
-use Rattle.std.proofs.Common.{◌≡◌, drop, ◌++◌}
-use Rattle.lw_fence.specs.Compiling.{rows}
+use Rattle.lw_fence.proofs.Common.{◌≡◌, drop, ◌++◌, rows}
 use Rattle.lw_fence.proofs.rows.rows_of.Given as goal
 
 abbrev pub invariant-loop-place : goal.invariant-loop-place

@@ -1,8 +1,6 @@
-use Rattle.std.proofs.Common.{◌≡◌, ◌++◌, ◌∷◌, ◌∙◌, Bool, [], ap, append_assoc, arith, if◌then◌else◌}
-use Rattle.std.proofs.Common.{replicate, sym, append-nil}
-use Rattle.std.proofs.lemmas.List.{replicate-append-replicate}
-use Rattle.lw_base.specs.declared.event.Event.TheVariants.{Step, Drain}
-use Rattle.lw_litmus.specs.Operations.{is_store}
+use Rattle.lw_fence.proofs.Common.{◌≡◌, ◌++◌, ◌∷◌, ◌∙◌, Bool, [], ap, append_assoc, arith, if◌then◌else◌}
+use Rattle.lw_fence.proofs.Common.{replicate, sym, append-nil, replicate-append-replicate, Step, Drain}
+use Rattle.lw_fence.proofs.Common.{is_store}
 use Rattle.lw_fence.proofs.schedule.push_statement.Goals as goal
 
 pub loop-instr-preserved : goal.loop-instr-preserved
@@ -10,8 +8,8 @@ loop-instr-preserved g c =
     let old = c.args.events.now.items in
     let step = Step c.args.cpu in
     c.in_ok-push.ensures.items ∙ (ap (λ es. es ++ step ∷ []) c.loop-instr.invariant
-        ∙ (append_assoc old (replicate c.loop-instr._instr step) (step ∷ []) ∙ ap (λ es. old ++ es)
-        (replicate-append-replicate c.loop-instr._instr 1 step)))
+    ∙ (append_assoc old (replicate c.loop-instr._instr step) (step ∷ []) ∙ ap (λ es. old ++ es)
+    (replicate-append-replicate c.loop-instr._instr 1 step)))
 
 pub returns-in_ok-push-2 : goal.returns-in_ok-push-2
 returns-in_ok-push-2 g c =
@@ -21,8 +19,8 @@ returns-in_ok-push-2 g c =
     let all : c.loop-instr._instr ≡ c.args.instructions = omega (arith, c.loop-instr-test.false, c.loop-instr.auto._instr-end) in
     let stores = sym (c.is_store.ensures ∙ ap is_store c.operation.ensures) ∙ c.if-is_store.true in
     c.in_ok-push-2.ensures.items ∙ (ap (λ es. es ++ drain) (c.loop-instr.invariant
-        ∙ ap (λ n. old ++ replicate n (Step c.args.cpu)) all) ∙ (append_assoc old steps drain
-        ∙ ap (λ (b : Bool). old ++ (steps ++ (if b then drain else []))) (sym stores)))
+    ∙ ap (λ n. old ++ replicate n (Step c.args.cpu)) all) ∙ (append_assoc old steps drain
+    ∙ ap (λ (b : Bool). old ++ (steps ++ (if b then drain else []))) (sym stores)))
 
 pub returns-else-is_store : goal.returns-else-is_store
 returns-else-is_store g c =
@@ -32,5 +30,5 @@ returns-else-is_store g c =
     let all : c.loop-instr._instr ≡ c.args.instructions = omega (arith, c.loop-instr-test.false, c.loop-instr.auto._instr-end) in
     let stores_not = sym (c.is_store.ensures ∙ ap is_store c.operation.ensures) ∙ c.if-is_store.false in
     c.loop-instr.invariant ∙ (ap (λ n. old ++ replicate n (Step c.args.cpu)) all
-        ∙ (ap (λ es. old ++ es) (sym (append-nil steps))
-        ∙ ap (λ (b : Bool). old ++ (steps ++ (if b then drain else []))) (sym stores_not)))
+    ∙ (ap (λ es. old ++ es) (sym (append-nil steps))
+    ∙ ap (λ (b : Bool). old ++ (steps ++ (if b then drain else []))) (sym stores_not)))

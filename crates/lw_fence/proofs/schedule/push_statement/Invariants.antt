@@ -1,5 +1,4 @@
-use Rattle.std.proofs.Common.{◌≡◌, ◌++◌, replicate}
-use Rattle.lw_base.specs.declared.event.Event.TheVariants.{Step}
+use Rattle.lw_fence.proofs.Common.{◌≡◌, ◌++◌, replicate, Step}
 use Rattle.lw_fence.proofs.schedule.push_statement.Given as goal
 
 abbrev pub invariant-loop-instr : goal.invariant-loop-instr

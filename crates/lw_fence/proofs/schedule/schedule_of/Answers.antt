@@ -1,15 +1,6 @@
-use Rattle.std.proofs.Common.{◌≡◌, ◌+◌, ◌++◌, ◌∙◌, ℕ, List, map, drop, ap, ap₂, sym, subst, append-nil}
-use Rattle.std.proofs.lemmas.List.{drop_all}
-use Rattle.std.proofs.lemmas.Option.{slice_get_within}
-use Rattle.lw_base.specs.declared.event.Event.{Event}
-use Rattle.lw_base.specs.declared.event.Event.TheVariants.{Step}
-use Rattle.lw_memory.specs.Flat.{flat}
-use Rattle.lw_litmus.specs.declared.stmt.Stmt.{Stmt}
-use Rattle.lw_interleaving.specs.Runs.{State, SourceRan, source_step}
-use Rattle.lw_litmus.specs.Views.{program_of}
-use Rattle.lw_interleaving.proofs.api.Runs.{possible}
-use Rattle.lw_tso.specs.Runs.{Replays}
-use Rattle.lw_fence.specs.Schedules.{schedule}
+use Rattle.lw_fence.proofs.Common.{◌≡◌, ◌+◌, ◌++◌, ◌∙◌, ℕ, List, map, drop, ap, ap₂, sym, subst, append-nil}
+use Rattle.lw_fence.proofs.Common.{drop_all, slice_get_within, Event, Step, flat, Stmt, State, SourceRan}
+use Rattle.lw_fence.proofs.Common.{source_step, program_of, possible, Replays, schedule}
 use Rattle.lw_fence.proofs.Scheduling.{answered_ok, next_turn, placed_in, one_further}
 use Rattle.lw_fence.proofs.SourceToMachine.{schedule_replays}
 use Rattle.lw_fence.proofs.schedule.schedule_of.Goals as goal
@@ -38,7 +29,7 @@ loop-cpu-preserved g c =
           subst (λ s. (end : State) × SourceRan c.args.source.now.threads rest s end) same turn.more;
       so_far =
           one_further _ _ _ _ c.loop-cpu-test.true c.cpu-item.is _ _ _ _ _ c.position-place.ensures step
-              c.in_ok-push_next.ensures c.loop-cpu.invariant.so_far;
+          c.in_ok-push_next.ensures c.loop-cpu.invariant.so_far;
     }
 
 pub loop-cpu-init : goal.loop-cpu-init
@@ -61,7 +52,7 @@ returns-clause-schedule g c =
     let events = c.loop-cpu.events.items in
     let rest = λ (order : List ℕ). schedule c.args.source.now.threads c.args.compiled.now.starts order c.loop-cpu.run.state in
     sym (append-nil events) ∙ ap (λ (order : List ℕ). events ++ rest order) (sym (drop_all _ c.args.order.now
-        c.loop-cpu-test.false)) ∙ c.loop-cpu.invariant.so_far
+    c.loop-cpu-test.false)) ∙ c.loop-cpu.invariant.so_far
 
 pub returns-clause-replays : goal.returns-clause-replays
 returns-clause-replays g c =

@@ -1,8 +1,5 @@
-use Rattle.std.proofs.Common.{◌≡◌, ◌++◌, map, drop}
-use Rattle.lw_base.specs.declared.event.Event.TheVariants.{Step}
-use Rattle.lw_interleaving.specs.Runs.{State, SourceRan, start_of}
-use Rattle.lw_litmus.specs.Views.{source_of}
-use Rattle.lw_fence.specs.Schedules.{schedule}
+use Rattle.lw_fence.proofs.Common.{◌≡◌, ◌++◌, map, drop, Step, State, SourceRan, start_of, source_of}
+use Rattle.lw_fence.proofs.Common.{schedule}
 use Rattle.lw_fence.proofs.schedule.schedule_of.Given as goal
 
 abbrev pub invariant-loop-cpu : goal.invariant-loop-cpu

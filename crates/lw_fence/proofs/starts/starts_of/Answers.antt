@@ -1,6 +1,4 @@
-use Rattle.std.proofs.Common.{ap, ap₂, arith, length, sym, ◌++◌, ◌∙◌}
-use Rattle.std.proofs.lemmas.List.{drop_all}
-use Rattle.lw_fence.specs.Compiling.{instrs_of, starts_from}
+use Rattle.lw_fence.proofs.Common.{ap, ap₂, arith, length, sym, ◌++◌, ◌∙◌, drop_all, instrs_of, starts_from}
 use Rattle.lw_fence.proofs.Placed.{starts_on}
 use Rattle.lw_fence.proofs.starts.starts_of.Goals as goal
 
@@ -8,8 +6,8 @@ pub loop-place-preserved : goal.loop-place-preserved
 loop-place-preserved g c = record {
   so_far =
       starts_on _ c.args.code.now _ _ c.loop-place-test.true c.requires.as_many c.index-code-place.is
-          c.len-next.result c.loop-place.next _ c.push.new.self c.loop-place.invariant.so_far
-          (c.len-next.ensures.is ∙ ap (λ r. length (instrs_of r)) c.of.ensures) c.in_ok-push.ensures.ok;
+      c.len-next.result c.loop-place.next _ c.push.new.self c.loop-place.invariant.so_far
+      (c.len-next.ensures.is ∙ ap (λ r. length (instrs_of r)) c.of.ensures) c.in_ok-push.ensures.ok;
   few = omega (arith, c.loop-place.invariant.few, c.len-next.ensures.few);
 }
 
@@ -33,4 +31,4 @@ returns g c =
     let past = c.loop-place-test.false in
     let fences = drop_all c.loop-place.place c.args.fences.now (omega (arith, past, c.requires.as_many)) in
     c.in_ok-push-2.ensures.ok ∙ sym (c.loop-place.invariant.so_far ∙ ap₂ (λ fs code. c.loop-place.starts
-        ++ starts_from c.loop-place.next fs code) fences (drop_all c.loop-place.place c.args.code.now past))
+    ++ starts_from c.loop-place.next fs code) fences (drop_all c.loop-place.place c.args.code.now past))

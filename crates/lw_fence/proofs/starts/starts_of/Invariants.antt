@@ -1,5 +1,4 @@
-use Rattle.std.proofs.Common.{◌≡◌, ◌≤◌, ◌*◌, drop, ◌++◌}
-use Rattle.lw_fence.specs.Compiling.{starts_from}
+use Rattle.lw_fence.proofs.Common.{◌≡◌, ◌≤◌, ◌*◌, drop, ◌++◌, starts_from}
 use Rattle.lw_fence.proofs.starts.starts_of.Given as goal
 
 abbrev pub invariant-loop-place : goal.invariant-loop-place

@@ -1,7 +1,4 @@
-use Rattle.std.proofs.Common.{subst}
-use Rattle.lw_orders.specs.Order.{Constraints}
-use Rattle.lw_orders.specs.Sequence.{orders}
-use Rattle.lw_finals.specs.inner.Gathered.{EndsOfOne, Gathers}
+use Rattle.lw_finals.proofs.Common.{subst, Constraints, orders, EndsOfOne, Gathers}
 use Rattle.lw_finals.proofs.gather.gather_conflicting.Goals as goal
 
 pub returns-clause-same : goal.returns-clause-same

@@ -1,5 +1,4 @@
-use Rattle.std.proofs.Common.{◌≡◌, [], sym, ◌∙◌}
-use Rattle.lw_choices.specs.Items.{constraints_of}
+use Rattle.lw_finals.proofs.Common.{◌≡◌, sym, ◌∙◌, constraints_of}
 use Rattle.lw_finals.proofs.Gathering.{nothing_in}
 use Rattle.lw_finals.proofs.gather.gather_items.Goals as goal
 

@@ -1,8 +1,5 @@
-use Rattle.std.proofs.Common.{length, ap, ◌∙◌, filter, not}
-use Rattle.lw_orders.specs.Order.{is_decided}
-use Rattle.lw_orders.specs.Sequence.{numbers}
-use Rattle.lw_choices.specs.Items.{constraints_of}
-use Rattle.lw_choices.proofs.api.FixedPairs.{constraints_well_formed}
+use Rattle.lw_finals.proofs.Common.{length, ap, ◌∙◌, filter, not, is_decided, numbers, constraints_of}
+use Rattle.lw_finals.proofs.Common.{constraints_well_formed}
 use Rattle.lw_finals.proofs.Gathering.{gathered_alone, below}
 use Rattle.lw_finals.proofs.gather.gather_one.Goals as goal
 
@@ -16,5 +13,5 @@ returns-clause-gathered g c =
     (constraints_well_formed g.S.Statement.language c.args.program.now items c.requires.few) in
     let given = rw (c.as_slice.ensures ∙ c.ascending-order.ensures) at c.in_ok-gather_order.ensures.gathered in
     gathered_alone _ _ _ (numbers 0 (length items)) _ _
-        (one (ap (filter (λ p. not (is_decided (constraints_of g.S.Statement.language c.args.program.now
-        items).fixed p))) c.requires.none)) given
+    (one (ap (filter (λ p. not (is_decided (constraints_of g.S.Statement.language c.args.program.now
+    items).fixed p))) c.requires.none)) given

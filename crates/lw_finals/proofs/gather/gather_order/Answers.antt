@@ -1,5 +1,4 @@
-use Rattle.std.proofs.Common.{sym, ◌∙◌, true≢false}
-use Rattle.std.proofs.lemmas.Result.{on_ok_weaker}
+use Rattle.lw_finals.proofs.Common.{sym, ◌∙◌, true≢false, on_ok_weaker}
 use Rattle.lw_finals.proofs.Gathering.{one_added}
 use Rattle.lw_finals.proofs.gather.gather_order.Goals as goal
 
@@ -16,6 +15,6 @@ returns-clause-gathered g c =
     let same = c.in_ok-outcome.ensures.outcome in
     let test = g.R.OrderRunner.test c.args.runner.now in
     on_ok_weaker c.add_new.result (λ h. one_added (g.R.OrderRunner.leads test) (g.R.OrderRunner.ends test
-        c.args.items.now c.args.order.now) c.args.found.now c.add_new.new.self (g.R.OrderRunner.end
-        c.run.new.self) c.in_ok-outcome.outcome c.in_ok-outcome.schedule ran.1 same leads h)
-        c.add_new.ensures.added
+    c.args.items.now c.args.order.now) c.args.found.now c.add_new.new.self (g.R.OrderRunner.end
+    c.run.new.self) c.in_ok-outcome.outcome c.in_ok-outcome.schedule ran.1 same leads h)
+    c.add_new.ensures.added

@@ -1,7 +1,5 @@
-use Rattle.std.proofs.Common.{ℕ, List, length, ◌<◌, refl, sym, ◌∙◌, subst, All, Contains}
-use Rattle.std.proofs.lemmas.List.Elements.{All-contains}
-use Rattle.lw_orders.specs.Progress.{Progress}
-use Rattle.lw_choices.proofs.api.Members.{Contains-here}
+use Rattle.lw_finals.proofs.Common.{ℕ, List, length, ◌<◌, refl, sym, ◌∙◌, subst, All, Contains, All-contains}
+use Rattle.lw_finals.proofs.Common.{Progress, Contains-here}
 use Rattle.lw_finals.proofs.Gathering.{up_to_more}
 use Rattle.lw_finals.proofs.gather.gather_orders.Goals as goal
 
@@ -12,7 +10,7 @@ gather_order-requires g c =
     subst (λ (p : Progress). All (λ order. All (λ i. i < c.args.constraints.now.len) order) p.to_come)
     (sym c.into_iter-order-iterator.ensures.into_iter_gives) c.in_ok-order-items.ensures.within in
     let first = subst (λ (xs : List (List ℕ)). Contains xs c.in-Some.order)
-        (sym c.in-Some.ensures.steps.first) (Contains-here c.in-Some.order c.in-Some.order _ refl) in
+    (sym c.in-Some.ensures.steps.first) (Contains-here c.in-Some.order c.in-Some.order _ refl) in
     let there : Contains all c.in-Some.order = c.loop-order.invariant.run.among c.in-Some.order first in
     let below = All-contains (λ order. All (λ i. i < c.args.constraints.now.len) order) all _ each there in
     subst (λ (xs : List ℕ). All (λ i. i < length c.args.items.now) xs) (sym c.as_slice.ensures)

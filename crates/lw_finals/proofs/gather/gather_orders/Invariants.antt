@@ -1,4 +1,4 @@
-use Rattle.std.proofs.Common.{◌≡◌}
+use Rattle.lw_finals.proofs.Common.{◌≡◌}
 use Rattle.lw_finals.proofs.Gathering.{UpTo}
 use Rattle.lw_finals.proofs.gather.gather_orders.Given as goal
 

@@ -1,7 +1,4 @@
-use Rattle.std.proofs.Common.{arith}
-use Rattle.lw_litmus.specs.Views.{source_of, program_of}
-use Rattle.lw_litmus.specs.Sources.{source}
-use Rattle.lw_choices.proofs.api.Visitable.{visitable}
+use Rattle.lw_finals.proofs.Common.{arith, source_of, program_of, visitable}
 use Rattle.lw_finals.proofs.SourceList.{source_listed}
 use Rattle.lw_finals.proofs.list.list_compiled.Goals as goal
 

@@ -1,7 +1,4 @@
-use Rattle.std.proofs.Common.{arith}
-use Rattle.std.proofs.lemmas.Result.{IfOk-weaker}
-use Rattle.lw_litmus.specs.Views.{program_of}
-use Rattle.lw_choices.proofs.api.Visitable.{visitable}
+use Rattle.lw_finals.proofs.Common.{arith, IfOk-weaker, program_of, visitable}
 use Rattle.lw_finals.proofs.X86List.{program_listed}
 use Rattle.lw_finals.proofs.list.list_raw.Goals as goal
 

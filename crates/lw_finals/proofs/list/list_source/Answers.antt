@@ -1,5 +1,4 @@
-use Rattle.std.proofs.lemmas.Result.{IfOk-weaker}
-use Rattle.lw_litmus.specs.Views.{program_of}
+use Rattle.lw_finals.proofs.Common.{IfOk-weaker, program_of}
 use Rattle.lw_finals.proofs.SourceList.{on_machine, of_source}
 use Rattle.lw_finals.proofs.list.list_source.Goals as goal
 
@@ -10,10 +9,10 @@ pub returns-clause-machine : goal.returns-clause-machine
 returns-clause-machine g c =
     let compiled = c.in_ok-compiled.compiled in
     IfOk-weaker c.list_compiled.result _ _ (λ l whole. on_machine _ (program_of compiled.program)
-        compiled.starts c.in_ok-compiled.ensures.compiled l whole) c.list_compiled.ensures.whole
+    compiled.starts c.in_ok-compiled.ensures.compiled l whole) c.list_compiled.ensures.whole
 
 pub returns-clause-of_test : goal.returns-clause-of_test
 returns-clause-of_test g c =
     let compiled = c.in_ok-compiled.compiled in
     IfOk-weaker c.list_compiled.result _ _ (λ l whole. of_source _ (program_of compiled.program)
-        compiled.starts c.in_ok-compiled.ensures.compiled l whole) c.list_compiled.ensures.whole
+    compiled.starts c.in_ok-compiled.ensures.compiled l whole) c.list_compiled.ensures.whole

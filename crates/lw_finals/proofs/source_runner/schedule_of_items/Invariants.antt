@@ -1,5 +1,4 @@
-use Rattle.std.proofs.Common.{◌≡◌, ◌++◌, drop}
-use Rattle.lw_finals.specs.inner.SourceRunners.{item_events}
+use Rattle.lw_finals.proofs.Common.{◌≡◌, ◌++◌, drop, item_events}
 use Rattle.lw_finals.proofs.source_runner.schedule_of_items.Given as goal
 
 abbrev pub invariant-loop-number : goal.invariant-loop-number

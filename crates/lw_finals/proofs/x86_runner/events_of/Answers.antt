@@ -1,4 +1,4 @@
-use Rattle.std.proofs.Common.{arith}
+use Rattle.lw_finals.proofs.Common.{arith}
 use Rattle.lw_finals.proofs.x86_runner.events_of.Goals as goal
 
 pub offset_bounds-items-from : goal.offset_bounds-items-from

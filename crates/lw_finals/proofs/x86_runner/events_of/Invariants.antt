@@ -1,5 +1,4 @@
-use Rattle.std.proofs.Common.{◌≡◌, take}
-use Rattle.lw_finals.specs.X86Runs.{events_of}
+use Rattle.lw_finals.proofs.Common.{◌≡◌, take, events_of}
 use Rattle.lw_finals.proofs.x86_runner.events_of.Given as goal
 
 abbrev pub invariant-loop-number : goal.invariant-loop-number

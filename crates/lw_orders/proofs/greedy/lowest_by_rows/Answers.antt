@@ -1,6 +1,4 @@
-use Rattle.std.proofs.Common.{◌||◌, ◌&&◌, ◌∙◌, ap, sym, refl, length-set, arith}
-use Rattle.std.proofs.lemmas.List.{get_or_read}
-use Rattle.lw_orders.specs.inner.Sets.{has}
+use Rattle.lw_orders.proofs.Common.{◌||◌, ◌&&◌, ◌∙◌, ap, sym, refl, length-set, arith, get_or_read, has}
 use Rattle.lw_orders.proofs.LowestByRows.{Searching-start, Searching-none, Searching-more}
 use Rattle.lw_orders.proofs.greedy.lowest_by_rows.Goals as goal
 

@@ -1,5 +1,4 @@
-use Rattle.std.proofs.Common.{ℕ, ◌≡◌, ◌<◌, ◌^◌, List, length}
-use Rattle.lw_orders.specs.inner.Closure.{IsDrawn}
+use Rattle.lw_orders.proofs.Common.{ℕ, ◌≡◌, ◌<◌, ◌^◌, List, length, IsDrawn}
 use Rattle.lw_orders.proofs.LowestByRows.{Searching}
 use Rattle.lw_orders.proofs.greedy.lowest_by_rows.Given as goal
 

@@ -1,11 +1,7 @@
-use Rattle.std.proofs.Common.{◌≡◌, ℕ, List, ◌+◌, ◌<◌, ◌≤◌, Bool, true, false, ◌⊎◌, inl, inr, Option, length}
-use Rattle.std.proofs.Common.{get_or, set, take, ap, sym, ◌∙◌, subst, refl, arith, get_or-set_same}
-use Rattle.std.proofs.Common.{length-set}
-use Rattle.std.proofs.lemmas.List.{take-set, get_or_past}
-use Rattle.lw_orders.specs.inner.Sets.{has}
-use Rattle.lw_orders.specs.inner.Remaining.{reach}
-use Rattle.lw_orders.specs.inner.Search.{Chosen}
-use Rattle.lw_orders.specs.inner.Directions.{TriedAs, Tried, pair_at}
+use Rattle.lw_orders.proofs.Common.{◌≡◌, ℕ, List, ◌+◌, ◌<◌, ◌≤◌, Bool, true, false, ◌⊎◌, inl, inr, Option}
+use Rattle.lw_orders.proofs.Common.{length, get_or, set, take, ap, sym, ◌∙◌, subst, refl, arith}
+use Rattle.lw_orders.proofs.Common.{get_or-set_same, length-set, take-set, get_or_past, has, reach, Chosen}
+use Rattle.lw_orders.proofs.Common.{TriedAs, Tried, pair_at}
 use Rattle.lw_orders.proofs.orders.try_direction.Goals.{then-level-undecided, else-level-undecided}
 use Rattle.lw_orders.proofs.orders.try_direction.Goals as goal
 

@@ -1,5 +1,4 @@
-use Rattle.std.proofs.Common.{◌≡◌, ◌<◌, ◌≤◌, ◌^◌, ◌||◌, not, arith, ap, sym, ◌∙◌}
-use Rattle.lw_orders.specs.inner.Sets.{has, apart, leads_by}
+use Rattle.lw_orders.proofs.Common.{◌≡◌, ◌^◌, ◌||◌, not, arith, ap, sym, ◌∙◌, has, apart, leads_by}
 use Rattle.lw_orders.proofs.Bits.{has-bit}
 use Rattle.lw_orders.proofs.WalkRows.{joined_row, kept_row}
 use Rattle.lw_orders.proofs.reach.reach_more.Given.{Over}

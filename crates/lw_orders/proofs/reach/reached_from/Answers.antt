@@ -1,14 +1,15 @@
-use Rattle.std.proofs.Common.{ℕ, ◌≡◌, ◌<◌, ap, ◌∙◌, ◌||◌, eqb, arith}
-use Rattle.std.proofs.lemmas.Nat.Bits.{bit_at-zero}
-use Rattle.lw_orders.specs.inner.Sets.{has, leads_by}
+use Rattle.lw_orders.proofs.Common.{ℕ, ◌≡◌, ◌<◌, ap, ◌∙◌, ◌||◌, eqb, arith, bit_at-zero, has, leads_by}
 use Rattle.lw_orders.proofs.ReachedFrom.{reaching_start, reaching_more, reaching_end, goes_further}
 use Rattle.lw_orders.proofs.reach.reached_from.Goals.{After-lowest-next-in-loop-next}
 use Rattle.lw_orders.proofs.reach.reached_from.Goals as goal
 
 pub loop-next-init : goal.loop-next-init
 loop-next-init c =
-    reaching_start c.args.item c.with-set.result c.empty.result _ (omega (arith, c.requires.below,
-    c.requires.few)) c.with-set.ensures (λ k lk. ap (λ n. has n k) c.empty.ensures ∙ ap (λ n. eqb n 1)
+    reaching_start c.args.item c.with-set.result c.empty.result _ (omega (
+      arith,
+      c.requires.below,
+      c.requires.few,
+    )) c.with-set.ensures (λ k lk. ap (λ n. has n k) c.empty.ensures ∙ ap (λ n. eqb n 1)
     (bit_at-zero k)) c.lowest-next.ensures.below c.lowest-next.ensures.found
 
 join : (c : After-lowest-next-in-loop-next) (k : ℕ) → k < 128
@@ -25,9 +26,9 @@ loop-next-preserved c =
 pub loop-next-smaller : goal.loop-next-smaller
 loop-next-smaller c =
     let further = goes_further c.requires.few (omega (arith, c.requires.below, c.requires.few))
-        c.loop-next.invariant c.union-set.result c.without-left.result _ c.loop-next-test.true
-        (join (goal.at.loop-next-smaller c).After-lowest-next-in-loop-next) c.without-left.ensures.items
-        c.lowest-next-in-loop-next.ensures.below c.lowest-next-in-loop-next.ensures.found in
+    c.loop-next.invariant c.union-set.result c.without-left.result _ c.loop-next-test.true
+    (join (goal.at.loop-next-smaller c).After-lowest-next-in-loop-next) c.without-left.ensures.items
+    c.lowest-next-in-loop-next.ensures.below c.lowest-next-in-loop-next.ensures.found in
     omega (arith, further, c.loop-next-test.true)
 
 pub returns : goal.returns

@@ -1,5 +1,4 @@
-use Rattle.std.proofs.Common.{◌&&◌, arith, eqb}
-use Rattle.std.proofs.lemmas.List.Folds.{list_any_more}
+use Rattle.lw_orders.proofs.Common.{◌&&◌, arith, eqb, list_any_more}
 use Rattle.lw_orders.proofs.rows.add_turned.Goals as goal
 
 pub loop-pair-preserved : goal.loop-pair-preserved

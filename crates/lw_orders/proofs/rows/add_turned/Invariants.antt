@@ -1,5 +1,4 @@
-use Rattle.std.proofs.Common.{ℕ, ◌≡◌, ◌<◌, ◌||◌, slice_index, take}
-use Rattle.lw_orders.specs.inner.Sets.{has, joins}
+use Rattle.lw_orders.proofs.Common.{ℕ, ◌≡◌, ◌<◌, ◌||◌, slice_index, take, has, joins}
 use Rattle.lw_orders.proofs.rows.add_turned.Given as goal
 
 abbrev pub invariant-loop-pair : goal.invariant-loop-pair

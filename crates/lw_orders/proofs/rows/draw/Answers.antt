@@ -1,5 +1,4 @@
-use Rattle.std.proofs.Common.{◌||◌, arith, ap, ◌∙◌}
-use Rattle.lw_orders.specs.inner.Sets.{has, joins}
+use Rattle.lw_orders.proofs.Common.{◌||◌, arith, ap, ◌∙◌, has, joins}
 use Rattle.lw_orders.proofs.LowestByRows.{rows_with, copied_row}
 use Rattle.lw_orders.proofs.rows.draw.Goals as goal
 

@@ -1,6 +1,4 @@
-use Rattle.std.proofs.Common.{◌∙◌, get_or}
-use Rattle.std.proofs.lemmas.Bool.{or_left, or_right}
-use Rattle.std.proofs.lemmas.List.Elements.{Contains-get_or}
+use Rattle.lw_orders.proofs.Common.{◌∙◌, get_or, or_left, or_right, Contains-get_or}
 use Rattle.lw_orders.proofs.Walks.{joins_from}
 use Rattle.lw_orders.proofs.rows.neighbours_of.Goals as goal
 

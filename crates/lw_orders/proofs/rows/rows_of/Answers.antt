@@ -1,5 +1,4 @@
-use Rattle.std.proofs.Common.{[], ◌∙◌, replicate}
-use Rattle.std.proofs.lemmas.List.{get_or-replicate}
+use Rattle.lw_orders.proofs.Common.{[], ◌∙◌, replicate, get_or-replicate}
 use Rattle.lw_orders.proofs.LowestByRows.{rows_with, no_rows}
 use Rattle.lw_orders.proofs.rows.rows_of.Goals as goal
 

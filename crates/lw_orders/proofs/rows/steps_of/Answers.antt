@@ -1,6 +1,4 @@
-use Rattle.std.proofs.Common.{ap, ◌∙◌, ◌||◌, replicate}
-use Rattle.std.proofs.lemmas.List.{get_or-replicate}
-use Rattle.lw_orders.specs.inner.Sets.{joins}
+use Rattle.lw_orders.proofs.Common.{ap, ◌∙◌, ◌||◌, replicate, get_or-replicate, joins}
 use Rattle.lw_orders.proofs.LowestByRows.{no_rows}
 use Rattle.lw_orders.proofs.rows.steps_of.Goals as goal
 

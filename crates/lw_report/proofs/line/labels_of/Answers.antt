@@ -1,7 +1,4 @@
-use Rattle.std.proofs.Common.{length, refl, subst, sym}
-use Rattle.std.proofs.lemmas.List.Elements.{All-get_or}
-use Rattle.lw_base.specs.Heads.{head_of}
-use Rattle.lw_base.specs.WellFormed.{IsSeen}
+use Rattle.lw_report.proofs.Common.{length, refl, subst, sym, All-get_or, head_of, IsSeen}
 use Rattle.lw_report.proofs.Lines.{label_more, label_all, next_gap}
 use Rattle.lw_report.proofs.line.labels_of.Goals as goal
 

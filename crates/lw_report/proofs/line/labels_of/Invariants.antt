@@ -1,6 +1,4 @@
-use Rattle.std.proofs.Common.{◌≡◌, take}
-use Rattle.lw_base.specs.Heads.{head_of}
-use Rattle.lw_report.specs.inner.Labels.{gap, labels}
+use Rattle.lw_report.proofs.Common.{◌≡◌, take, head_of, gap, labels}
 use Rattle.lw_report.proofs.line.labels_of.Given as goal
 
 abbrev pub invariant-loop-name : goal.invariant-loop-name

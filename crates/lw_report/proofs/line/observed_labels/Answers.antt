@@ -1,4 +1,4 @@
-use Rattle.std.proofs.Common.{◌∙◌}
+use Rattle.lw_report.proofs.Common.{◌∙◌}
 use Rattle.lw_report.proofs.line.observed_labels.Goals as goal
 
 pub labels_of-labels-requires : goal.labels_of-labels-requires

@@ -1,5 +1,4 @@
-use Rattle.lw_base.specs.Heads.{head_of}
-use Rattle.lw_base.proofs.api.Writing.{written_as}
+use Rattle.lw_report.proofs.Common.{head_of, written_as}
 use Rattle.lw_report.proofs.Lines.{register_told, location_told}
 use Rattle.lw_report.proofs.line.write_label.Goals as goal
 

@@ -1,6 +1,5 @@
-use Rattle.std.proofs.Common.{◌++◌, ◌∙◌, ap, append_assoc, codes, refl, get_or, arith, decimal, string_bytes}
-use Rattle.lw_base.specs.Types.{Bytes}
-use Rattle.lw_base.proofs.api.Writing.{then_written, pushed}
+use Rattle.lw_report.proofs.Common.{◌++◌, ◌∙◌, ap, append_assoc, codes, refl, get_or, arith, decimal}
+use Rattle.lw_report.proofs.Common.{string_bytes, Bytes, then_written, pushed}
 use Rattle.lw_report.proofs.Lines.{zip_more, zip_all}
 use Rattle.lw_report.proofs.line.write_state.Goals as goal
 
@@ -8,9 +7,9 @@ pub loop-place-preserved : goal.loop-place-preserved
 loop-place-preserved g c =
     let rest = decimal (get_or c.args.words.now c.loop-place.place 0) ++ codes ";" in
     let written = c.in_ok-write_word.ensures ∙ (ap (λ (t : Bytes). t ++ rest) c.in_ok-push_str.ensures.bytes
-        ∙ append_assoc (string_bytes c.loop-place.out) c.as_str.result.now rest) in
+    ∙ append_assoc (string_bytes c.loop-place.out) c.as_str.result.now rest) in
     zip_more c.args.labels.now c.args.words.now c.loop-place.place _ _ _ _ _ _ _ c.loop-place-test.true
-        c.min-place-end.ensures c.index-labels-place.is c.as_str.ensures refl c.loop-place.invariant written
+    c.min-place-end.ensures c.index-labels-place.is c.as_str.ensures refl c.loop-place.invariant written
 
 pub returns : goal.returns
 returns g c =
@@ -18,5 +17,5 @@ returns g c =
     let last = string_bytes c.loop-place.out in
     let end = string_bytes c.push_str-2.new.self in
     let told = zip_all c.args.labels.now c.args.words.now c.loop-place.place c.min-place-end.result _ _
-        (omega (arith, c.loop-place-test.false)) c.min-place-end.ensures c.loop-place.invariant in
+    (omega (arith, c.loop-place-test.false)) c.min-place-end.ensures c.loop-place.invariant in
     then_written _ start last end _ _ _ told refl (pushed _ last end (codes "\n") c.push_str-2.ensures.bytes)

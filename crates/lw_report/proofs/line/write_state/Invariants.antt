@@ -1,5 +1,5 @@
-use Rattle.std.proofs.Common.{◌≡◌, ◌++◌, drop, zip, flat_map, string_bytes}
-use Rattle.lw_report.specs.inner.Labels.{labelled_word, labelled_words}
+use Rattle.lw_report.proofs.Common.{◌≡◌, ◌++◌, drop, zip, flat_map, string_bytes, labelled_word}
+use Rattle.lw_report.proofs.Common.{labelled_words}
 use Rattle.lw_report.proofs.line.write_state.Given as goal
 
 abbrev pub invariant-loop-place : goal.invariant-loop-place

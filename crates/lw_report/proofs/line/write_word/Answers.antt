@@ -1,7 +1,5 @@
-use Rattle.std.proofs.Common.{◌++◌, ◌∙◌, ap, sym, codes, refl, arith, string_bytes}
-use Rattle.std.proofs.lemmas.Fmt.{decimal_digit}
-use Rattle.lw_base.specs.Types.{Bytes}
-use Rattle.lw_base.proofs.api.Writing.{then_written, pushed}
+use Rattle.lw_report.proofs.Common.{◌++◌, ◌∙◌, ap, sym, codes, refl, arith, string_bytes, decimal_digit}
+use Rattle.lw_report.proofs.Common.{Bytes, then_written, pushed}
 use Rattle.lw_report.proofs.line.write_word.Goals as goal
 
 -- a digit, and what ends a word
@@ -13,4 +11,4 @@ returns-then-word-lt10 g c =
     let end = string_bytes c.push-then-word-lt10.new.self in
     let is_digit = c.in_ok-push.ensures.ascii (omega (arith, c.if-word-lt10.true)) ∙ sym (decimal_digit c.args.word c.if-word-lt10.true) in
     then_written _ out digit end _ (codes ";") _ (c.in_ok-push.ensures.bytes ∙ ap (λ (t : Bytes). out ++ t)
-        is_digit) refl (pushed _ digit end (codes ";") c.push-then-word-lt10.ensures.bytes)
+    is_digit) refl (pushed _ digit end (codes ";") c.push-then-word-lt10.ensures.bytes)

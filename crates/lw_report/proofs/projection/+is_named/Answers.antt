@@ -1,6 +1,4 @@
-use Rattle.std.proofs.Common.{◌≡◌, sym, ap, ◌∙◌, subst}
-use Rattle.lw_base.specs.Propositions.{formula_of}
-use Rattle.lw_report.specs.Observed.{is_named}
+use Rattle.lw_report.proofs.Common.{◌≡◌, sym, ap, ◌∙◌, subst, formula_of, is_named}
 use Rattle.lw_report.proofs.projection.+is_named.Goals as goal
 
 pub returns-in-Neg : goal.returns-in-Neg

@@ -1,5 +1,4 @@
-use Rattle.lw_base.specs.Heads.{head_of}
-use Rattle.lw_report.specs.Observed.{is_observed}
+use Rattle.lw_report.proofs.Common.{head_of, is_observed}
 use Rattle.lw_report.proofs.Names.{all_there, registers_more, observed_all}
 use Rattle.lw_report.proofs.projection.observed.Goals as goal
 

@@ -1,7 +1,4 @@
-use Rattle.std.proofs.Common.{◌≡◌, filter}
-use Rattle.lw_base.specs.Heads.{head_of}
-use Rattle.lw_base.specs.SeenLists.{all_registers}
-use Rattle.lw_report.specs.Observed.{is_observed}
+use Rattle.lw_report.proofs.Common.{◌≡◌, filter, head_of, all_registers, is_observed}
 use Rattle.lw_report.proofs.projection.observed.Given as goal
 
 abbrev pub invariant-loop-cpu : goal.invariant-loop-cpu

@@ -1,4 +1,4 @@
-use Rattle.std.proofs.Common.{◌∙◌}
+use Rattle.lw_report.proofs.Common.{◌∙◌}
 use Rattle.lw_report.proofs.projection.project.Goals as goal
 
 pub words_of-words-requires-clause-names : goal.words_of-words-requires-clause-names

@@ -1,7 +1,4 @@
-use Rattle.std.proofs.Common.{◌≡◌, ◌++◌, filter}
-use Rattle.lw_base.specs.Heads.{head_of}
-use Rattle.lw_base.specs.SeenLists.{locations}
-use Rattle.lw_report.specs.Observed.{is_observed}
+use Rattle.lw_report.proofs.Common.{◌≡◌, ◌++◌, filter, head_of, locations, is_observed}
 use Rattle.lw_report.proofs.projection.push_locations.Given as goal
 
 abbrev pub invariant-loop-loc : goal.invariant-loop-loc

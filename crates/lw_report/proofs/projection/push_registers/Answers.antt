@@ -1,4 +1,4 @@
-use Rattle.std.proofs.Common.{refl, sym, append-nil}
+use Rattle.lw_report.proofs.Common.{refl, sym, append-nil}
 use Rattle.lw_report.proofs.Names.{put_more, put_all}
 use Rattle.lw_report.proofs.projection.push_registers.Goals as goal
 

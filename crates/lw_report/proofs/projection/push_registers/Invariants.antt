@@ -1,8 +1,4 @@
-use Rattle.std.proofs.Common.{◌≡◌, ◌++◌, map, filter}
-use Rattle.std.specs.List.{range_with_len}
-use Rattle.lw_base.specs.Heads.{head_of}
-use Rattle.lw_base.specs.declared.head.Seen.TheVariants.{Register}
-use Rattle.lw_report.specs.Observed.{is_observed}
+use Rattle.lw_report.proofs.Common.{◌≡◌, ◌++◌, map, filter, range_with_len, head_of, Register, is_observed}
 use Rattle.lw_report.proofs.projection.push_registers.Given as goal
 
 abbrev pub invariant-loop-reg : goal.invariant-loop-reg

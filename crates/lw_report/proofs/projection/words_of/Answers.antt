@@ -1,6 +1,4 @@
-use Rattle.std.proofs.Common.{◌∙◌, length, subst, sym}
-use Rattle.std.proofs.lemmas.List.Elements.{All-get_or}
-use Rattle.lw_base.specs.WellFormed.{IsSeen}
+use Rattle.lw_report.proofs.Common.{◌∙◌, length, subst, sym, All-get_or, IsSeen}
 use Rattle.lw_report.proofs.Names.{made_more, made_all}
 use Rattle.lw_report.proofs.projection.words_of.Goals as goal
 
@@ -8,7 +6,7 @@ pub word_of-requires : goal.word_of-requires
 word_of-requires g c =
     let outcome = c.args.outcome.now in
     let there = All-get_or (IsSeen (length outcome.regs) (length outcome.words)) c.args.names.now
-        c.loop-name.name-index c.name-item.result c.loop-name-test.true c.requires.names in
+    c.loop-name.name-index c.name-item.result c.loop-name-test.true c.requires.names in
     record { name = subst (IsSeen (length outcome.regs) (length outcome.words)) (sym c.name-item.is) there; outcome = c.requires.outcome }
 
 pub loop-name-init : goal.loop-name-init

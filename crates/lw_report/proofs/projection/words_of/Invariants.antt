@@ -1,5 +1,4 @@
-use Rattle.std.proofs.Common.{◌≡◌, map, take}
-use Rattle.lw_report.specs.Truth.{final_word}
+use Rattle.lw_report.proofs.Common.{◌≡◌, map, take, final_word}
 use Rattle.lw_report.proofs.projection.words_of.Given as goal
 
 abbrev pub invariant-loop-name : goal.invariant-loop-name

@@ -1,5 +1,4 @@
-use Rattle.std.proofs.Common.{ap, refl, arith}
-use Rattle.lw_report.specs.States.{ListedState}
+use Rattle.lw_report.proofs.Common.{ap, refl, arith, ListedState}
 use Rattle.lw_report.proofs.Counted.{one_at_most, counted_more, shown_counted, others_counted}
 use Rattle.lw_report.proofs.report.counts_of.Goals as goal
 

@@ -1,5 +1,4 @@
-use Rattle.std.proofs.Common.{◌≡◌, ◌≤◌, length, take, filter}
-use Rattle.lw_report.specs.States.{ListedState}
+use Rattle.lw_report.proofs.Common.{◌≡◌, ◌≤◌, length, take, filter, ListedState}
 use Rattle.lw_report.proofs.report.counts_of.Given as goal
 
 abbrev pub invariant-loop-state : goal.invariant-loop-state

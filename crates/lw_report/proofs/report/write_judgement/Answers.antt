@@ -1,7 +1,4 @@
-use Rattle.std.proofs.Common.{◌++◌, ◌∙◌, ap, codes, decimal}
-use Rattle.lw_base.specs.Heads.{head_of}
-use Rattle.lw_base.proofs.api.Writing.{then_written}
-use Rattle.lw_report.specs.Reports.{verdict_text}
+use Rattle.lw_report.proofs.Common.{◌++◌, ◌∙◌, ap, codes, decimal, head_of, then_written, verdict_text}
 use Rattle.lw_report.proofs.Lines.{judgement_told}
 use Rattle.lw_report.proofs.report.write_judgement.Goals as goal
 
@@ -16,5 +13,5 @@ returns g c =
     let first = c.word.result.now ++ (codes "\nPositive: " ++ (decimal p ++ (codes " Negative: " ++ (decimal q
     ++ (codes "\nCondition " ++ (c.as_str.result.now ++ codes "\n")))))) in
     then_written c.write_observation.result _ _ _ first _ _ c.in_ok-writeln.ensures.bytes (judgement_told head
-        c.args.claim p q c.word.result.now c.as_str.result.now (c.word.ensures ∙ ap verdict_text
-        c.verdict_of.ensures) (c.as_str.ensures ∙ c.in_ok-condition.ensures)) c.write_observation.ensures
+    c.args.claim p q c.word.result.now c.as_str.result.now (c.word.ensures ∙ ap verdict_text
+    c.verdict_of.ensures) (c.as_str.ensures ∙ c.in_ok-condition.ensures)) c.write_observation.ensures

@@ -1,6 +1,4 @@
-use Rattle.std.proofs.Common.{◌∙◌, ap}
-use Rattle.lw_base.proofs.api.Writing.{written_as}
-use Rattle.lw_report.specs.Reports.{observation_text}
+use Rattle.lw_report.proofs.Common.{◌∙◌, ap, written_as, observation_text}
 use Rattle.lw_report.proofs.Lines.{observation_told}
 use Rattle.lw_report.proofs.report.write_observation.Goals as goal
 

@@ -1,5 +1,4 @@
-use Rattle.std.proofs.Common.{◌∙◌}
-use Rattle.lw_base.specs.Heads.{head_of}
+use Rattle.lw_report.proofs.Common.{◌∙◌, head_of}
 use Rattle.lw_report.proofs.Lines.{report_written}
 use Rattle.lw_report.proofs.report.write_report.Goals as goal
 
@@ -9,4 +8,4 @@ returns g c =
     let p = rw c.as_slice-2.ensures at c.counts_of.ensures.positive in
     let q = rw c.as_slice-2.ensures at c.counts_of.ensures.negative in
     c.from.ensures ∙ report_written (head_of c.args.head.now) _ _ _ _ _ _ _ _ _ c.new-out.ensures.bytes
-        c.in_ok-write_title.ensures c.len.ensures lines c.in_ok-write_judgement.ensures p q
+    c.in_ok-write_title.ensures c.len.ensures lines c.in_ok-write_judgement.ensures p q

@@ -1,7 +1,4 @@
-use Rattle.std.proofs.Common.{◌∙◌, ap, refl}
-use Rattle.lw_base.specs.Heads.{head_of}
-use Rattle.lw_base.proofs.api.Writing.{items_more, items_all}
-use Rattle.lw_report.specs.States.{ListedState}
+use Rattle.lw_report.proofs.Common.{◌∙◌, ap, refl, head_of, items_more, items_all, ListedState}
 use Rattle.lw_report.proofs.Lines.{state_written}
 use Rattle.lw_report.proofs.report.write_states.Goals as goal
 
@@ -11,8 +8,8 @@ loop-state-init g c = refl
 pub loop-state-preserved : goal.loop-state-preserved
 loop-state-preserved g c =
     let written = state_written (head_of c.args.head.now) c.as_slice.result.now _ c.state-item.result.words _
-        _ c.in_ok-write_state.ensures (c.as_slice.ensures ∙ c.in_ok-labels.ensures)
-        (c.as_slice-in-loop-state.ensures ∙ ap (λ (s : ListedState). s.words) c.state.view_is) in
+    _ c.in_ok-write_state.ensures (c.as_slice.ensures ∙ c.in_ok-labels.ensures)
+    (c.as_slice-in-loop-state.ensures ∙ ap (λ (s : ListedState). s.words) c.state.view_is) in
     items_more _ _ _ _ _ c.loop-state.invariant _ _ c.loop-state-test.true c.state-item.is written
 
 pub returns : goal.returns

@@ -1,6 +1,4 @@
-use Rattle.std.proofs.Common.{◌≡◌, ◌++◌, drop, flat_map, string_bytes}
-use Rattle.lw_base.specs.Heads.{head_of}
-use Rattle.lw_report.specs.Reports.{state_line}
+use Rattle.lw_report.proofs.Common.{◌≡◌, ◌++◌, drop, flat_map, string_bytes, head_of, state_line}
 use Rattle.lw_report.proofs.report.write_states.Given as goal
 
 abbrev pub invariant-loop-state : goal.invariant-loop-state

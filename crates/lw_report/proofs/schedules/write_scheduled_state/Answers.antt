@@ -1,7 +1,4 @@
-use Rattle.std.proofs.Common.{◌∙◌, ap, arith}
-use Rattle.lw_base.specs.Heads.{head_of}
-use Rattle.lw_base.proofs.api.Writing.{then_written}
-use Rattle.lw_report.specs.States.{ListedState}
+use Rattle.lw_report.proofs.Common.{◌∙◌, ap, arith, head_of, then_written, ListedState}
 use Rattle.lw_report.proofs.Scheduled.{schedule_there, both_told}
 use Rattle.lw_report.proofs.schedules.write_scheduled_state.Goals as goal
 
@@ -15,6 +12,6 @@ write_schedule-requires g c =
 pub returns : goal.returns
 returns g c =
     let told = both_told _ _ c.args.labels.now c.args.state.now _ _ _ c.as_str.result.now (c.as_slice.ensures
-        ∙ ap (λ (s : ListedState). s.words) c.state.view_is) (ap (λ (s : ListedState). s.entry)
-        c.state.view_is) c.schedule.ensures (c.as_str.ensures ∙ c.in_ok-schedule.ensures) in
+    ∙ ap (λ (s : ListedState). s.words) c.state.view_is) (ap (λ (s : ListedState). s.entry)
+    c.state.view_is) c.schedule.ensures (c.as_str.ensures ∙ c.in_ok-schedule.ensures) in
     then_written c.writeln.result _ _ _ _ _ _ c.in_ok-write_state.ensures told c.writeln.ensures.bytes

@@ -1,7 +1,4 @@
-use Rattle.std.proofs.Common.{◌∙◌, length, refl}
-use Rattle.lw_base.specs.Heads.{head_of}
-use Rattle.lw_base.proofs.api.Writing.{items_more, items_all}
-use Rattle.lw_listing.specs.Listings.{schedules_of}
+use Rattle.lw_report.proofs.Common.{◌∙◌, length, refl, head_of, items_more, items_all, schedules_of}
 use Rattle.lw_report.proofs.Scheduled.{state_within, scheduled_told}
 use Rattle.lw_report.proofs.schedules.write_scheduled_states.Goals as goal
 
@@ -20,7 +17,7 @@ pub loop-state-preserved : goal.loop-state-preserved
 loop-state-preserved g c =
     let schedules = schedules_of c.args.listing.now in
     let written = scheduled_told (head_of c.args.head.now) schedules c.as_slice.result.now c.state-item.result
-        _ _ (c.as_slice.ensures ∙ c.in_ok-labels.ensures) c.in_ok-write_scheduled_state.ensures in
+    _ _ (c.as_slice.ensures ∙ c.in_ok-labels.ensures) c.in_ok-write_scheduled_state.ensures in
     items_more _ _ _ _ _ c.loop-state.invariant _ _ c.loop-state-test.true c.state-item.is written
 
 pub returns : goal.returns

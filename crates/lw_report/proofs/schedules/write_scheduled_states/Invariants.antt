@@ -1,8 +1,5 @@
-use Rattle.std.proofs.Common.{◌≡◌, ◌++◌, drop, flat_map, string_bytes}
-use Rattle.lw_base.specs.Heads.{head_of}
-use Rattle.lw_listing.specs.Listings.{schedules_of}
-use Rattle.lw_report.specs.Reports.{scheduled, scheduled_lines}
-use Rattle.lw_report.specs.States.{ListedState}
+use Rattle.lw_report.proofs.Common.{◌≡◌, ◌++◌, drop, flat_map, string_bytes, head_of, schedules_of, scheduled}
+use Rattle.lw_report.proofs.Common.{scheduled_lines, ListedState}
 use Rattle.lw_report.proofs.schedules.write_scheduled_states.Given as goal
 
 abbrev pub invariant-loop-state : goal.invariant-loop-state

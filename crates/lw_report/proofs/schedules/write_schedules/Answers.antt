@@ -1,6 +1,4 @@
-use Rattle.std.proofs.Common.{◌∙◌}
-use Rattle.lw_base.specs.Heads.{head_of}
-use Rattle.lw_listing.specs.Listings.{schedules_of}
+use Rattle.lw_report.proofs.Common.{◌∙◌, head_of, schedules_of}
 use Rattle.lw_report.proofs.Scheduled.{entries_within, list_written}
 use Rattle.lw_report.proofs.schedules.write_schedules.Goals as goal
 
@@ -12,4 +10,4 @@ pub returns : goal.returns
 returns g c =
     let lines = rw c.as_slice.ensures at c.in_ok-write_scheduled_states.ensures in
     c.from.ensures ∙ list_written (head_of c.args.head.now) (schedules_of c.args.listing.now) _ _ _ _ _ _
-        c.new-out.ensures.bytes c.in_ok-writeln.ensures.bytes c.as_str.ensures c.len.ensures lines
+    c.new-out.ensures.bytes c.in_ok-writeln.ensures.bytes c.as_str.ensures c.len.ensures lines

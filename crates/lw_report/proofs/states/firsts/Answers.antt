@@ -1,6 +1,4 @@
-use Rattle.std.proofs.Common.{sym, ◌∙◌, subst, rules}
-use Rattle.std.proofs.lemmas.Fn.{dedup_same}
-use Rattle.lw_report.specs.inner.Gathered.{AreFirstStates}
+use Rattle.lw_report.proofs.Common.{sym, ◌∙◌, subst, rules, dedup_same, AreFirstStates}
 use Rattle.lw_report.proofs.FirstStates.{same_words, are_firsts}
 use Rattle.lw_report.proofs.states.firsts.Goals as goal
 

@@ -1,8 +1,5 @@
-use Rattle.std.proofs.Common.{◌≡◌, ℕ, ◌∷◌, [], ◌++◌, ◌∙◌, length, ap, subst, arith}
-use Rattle.lw_base.specs.Heads.{head_of}
-use Rattle.lw_listing.specs.Listings.{outcomes_of}
-use Rattle.lw_report.specs.inner.Gathered.{AreStatesOfFirst}
-use Rattle.lw_report.specs.States.{ListedState}
+use Rattle.lw_report.proofs.Common.{◌≡◌, ℕ, ◌∷◌, [], ◌++◌, ◌∙◌, length, ap, subst, arith, head_of}
+use Rattle.lw_report.proofs.Common.{outcomes_of, AreStatesOfFirst, ListedState}
 use Rattle.lw_report.proofs.ListedStates.{outcome_of_entry, states_more}
 use Rattle.lw_report.proofs.states.shown_by.Goals as goal
 

@@ -1,6 +1,4 @@
-use Rattle.lw_base.specs.Heads.{head_of}
-use Rattle.lw_listing.specs.Listings.{outcomes_of}
-use Rattle.lw_report.specs.inner.Gathered.{AreStatesOfFirst}
+use Rattle.lw_report.proofs.Common.{head_of, outcomes_of, AreStatesOfFirst}
 use Rattle.lw_report.proofs.states.shown_by.Given as goal
 
 abbrev pub invariant-loop-entry : goal.invariant-loop-entry

@@ -1,7 +1,4 @@
-use Rattle.std.proofs.Common.{not, length, sym, ap, ◌∙◌, arith}
-use Rattle.lw_base.specs.Outcomes.{Final}
-use Rattle.lw_base.specs.Propositions.{formula_of}
-use Rattle.lw_report.specs.Truth.{is_true}
+use Rattle.lw_report.proofs.Common.{not, length, sym, ap, ◌∙◌, arith, Final, formula_of, is_true}
 use Rattle.lw_report.proofs.Truths.{or_left_is, or_right_is, and_left_is, and_right_is, register_is}
 use Rattle.lw_report.proofs.Truths.{location_is}
 use Rattle.lw_report.proofs.truth.+holds.Goals as goal
@@ -9,28 +6,38 @@ use Rattle.lw_report.proofs.truth.+holds.Goals as goal
 -- the places are there, since the proposition speaks of the outcome
 pub bounds-as_slice-index : goal.bounds-as_slice-index
 bounds-as_slice-index g n c =
-    omega (arith, (rw c.in-RegIs.is at c.requires.prop).0, c.index.ensures.value, ap length
-        (c.as_slice.ensures ∙ ap (λ (p : Final). p.regs) c.outcome.view_is))
+    omega (
+      arith,
+      (rw c.in-RegIs.is at c.requires.prop).0,
+      c.index.ensures.value,
+      ap length
+          (c.as_slice.ensures ∙ ap (λ (p : Final). p.regs) c.outcome.view_is),
+    )
 
 pub bounds-as_slice-index-in-RegIs : goal.bounds-as_slice-index-in-RegIs
 bounds-as_slice-index-in-RegIs g n c = c.index-in-RegIs.ensures.below
 
 pub bounds-as_slice-index-in-WordIs : goal.bounds-as_slice-index-in-WordIs
 bounds-as_slice-index-in-WordIs g n c =
-    omega (arith, (rw c.in-WordIs.is at c.requires.prop).0, c.index-in-WordIs.ensures.value, ap length
-        (c.as_slice-in-WordIs.ensures ∙ ap (λ (p : Final). p.words) c.outcome.view_is))
+    omega (
+      arith,
+      (rw c.in-WordIs.is at c.requires.prop).0,
+      c.index-in-WordIs.ensures.value,
+      ap length
+          (c.as_slice-in-WordIs.ensures ∙ ap (λ (p : Final). p.words) c.outcome.view_is),
+    )
 
 pub returns-in-RegIs : goal.returns-in-RegIs
 returns-in-RegIs g n c =
     let o = c.args.outcome.now in
     register_is _ o _ _ _ _ _ (c.as_slice.ensures ∙ ap (λ p. p.regs) c.outcome.view_is) c.index.ensures.value
-        c.index-in-RegIs.ensures.value ∙ ap (λ p. is_true (formula_of p) o) (sym c.in-RegIs.is)
+    c.index-in-RegIs.ensures.value ∙ ap (λ p. is_true (formula_of p) o) (sym c.in-RegIs.is)
 
 pub returns-in-WordIs : goal.returns-in-WordIs
 returns-in-WordIs g n c =
     let o = c.args.outcome.now in
     location_is _ o _ _ _ (c.as_slice-in-WordIs.ensures ∙ ap (λ (p : Final). p.words) c.outcome.view_is)
-        c.index-in-WordIs.ensures.value ∙ ap (λ p. is_true (formula_of p) o) (sym c.in-WordIs.is)
+    c.index-in-WordIs.ensures.value ∙ ap (λ p. is_true (formula_of p) o) (sym c.in-WordIs.is)
 
 pub returns-in-Neg : goal.returns-in-Neg
 returns-in-Neg g n c =
@@ -64,4 +71,4 @@ returns-else-holds-2 g n c =
     let left = c.holds-in-Either.ensures ∙ ap (λ p. is_true (formula_of p) o) c.deref-in-Either.ensures in
     let right = c.holds-else-holds-2.ensures ∙ ap (λ p. is_true (formula_of p) o) c.deref-else-holds-2.ensures in
     or_right_is c.holds-else-holds-2.result c.holds-in-Either.result _ _ c.if-holds-2.false left right
-        ∙ ap (λ p. is_true (formula_of p) o) (sym c.in-Either.is)
+    ∙ ap (λ p. is_true (formula_of p) o) (sym c.in-Either.is)

@@ -1,6 +1,4 @@
-use Rattle.std.proofs.Common.{◌≡◌, take, true}
-use Rattle.std.specs.List.{list_all}
-use Rattle.lw_text.specs.inner.Resolved.{thread_exists}
+use Rattle.lw_text.proofs.Common.{◌≡◌, take, true, list_all, thread_exists}
 use Rattle.lw_text.proofs.block.check_threads.Given as goal
 
 abbrev pub invariant-loop-entry : goal.invariant-loop-entry

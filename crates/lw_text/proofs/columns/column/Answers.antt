@@ -1,4 +1,4 @@
-use Rattle.std.proofs.Common.{◌≡◌, ◌<◌, sym, subst, length, get_or, arith}
+use Rattle.lw_text.proofs.Common.{◌≡◌, ◌<◌, sym, subst, length, get_or, arith}
 use Rattle.lw_text.proofs.RowColumns.{column-more}
 use Rattle.lw_text.proofs.columns.column.Goals as goal
 

@@ -1,5 +1,4 @@
-use Rattle.std.proofs.Common.{◌≡◌, take}
-use Rattle.lw_text.specs.Rows.{column}
+use Rattle.lw_text.proofs.Common.{◌≡◌, take, column}
 use Rattle.lw_text.proofs.columns.column.Given as goal
 
 abbrev pub invariant-loop-row : goal.invariant-loop-row

@@ -1,6 +1,4 @@
-use Rattle.std.proofs.Common.{sym, zero-add}
-use Rattle.std.proofs.lemmas.List.FromFn.{map-range_with_len_more}
-use Rattle.lw_text.specs.Rows.{column}
+use Rattle.lw_text.proofs.Common.{sym, zero-add, map-range_with_len_more, column}
 use Rattle.lw_text.proofs.columns.columns.Goals as goal
 
 pub loop-place-preserved : goal.loop-place-preserved

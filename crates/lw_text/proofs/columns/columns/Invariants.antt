@@ -1,5 +1,4 @@
-use Rattle.std.proofs.Common.{◌≡◌}
-use Rattle.lw_text.specs.Rows.{columns}
+use Rattle.lw_text.proofs.Common.{◌≡◌, columns}
 use Rattle.lw_text.proofs.columns.columns.Given as goal
 
 abbrev pub invariant-loop-place : goal.invariant-loop-place

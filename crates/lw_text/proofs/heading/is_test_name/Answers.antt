@@ -1,7 +1,5 @@
-use Rattle.std.proofs.Common.{◌∙◌, not, true, length, sym, ap, arith, ne_eqb}
-use Rattle.std.specs.Char.{is_ascii_graphic}
-use Rattle.std.specs.List.{list_all}
-use Rattle.std.proofs.lemmas.Bool.{not-true, eqb-false}
+use Rattle.lw_text.proofs.Common.{◌∙◌, not, true, length, sym, ap, arith, ne_eqb, is_ascii_graphic, list_all}
+use Rattle.lw_text.proofs.Common.{not-true, eqb-false}
 use Rattle.lw_text.proofs.Starts.{at_end}
 use Rattle.lw_text.proofs.api.Spelling.{all_pass}
 use Rattle.lw_text.proofs.heading.is_test_name.Goals as goal

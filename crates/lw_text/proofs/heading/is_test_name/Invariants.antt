@@ -1,6 +1,4 @@
-use Rattle.std.proofs.Common.{◌≡◌, take, true}
-use Rattle.std.specs.List.{list_all}
-use Rattle.std.specs.Char.{is_ascii_graphic}
+use Rattle.lw_text.proofs.Common.{◌≡◌, take, true, list_all, is_ascii_graphic}
 use Rattle.lw_text.proofs.heading.is_test_name.Given as goal
 
 abbrev pub invariant-loop-byte : goal.invariant-loop-byte

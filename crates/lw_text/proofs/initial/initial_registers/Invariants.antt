@@ -1,7 +1,4 @@
-use Rattle.std.proofs.Common.{◌≡◌, map}
-use Rattle.std.specs.List.{range_with_len}
-use Rattle.lw_base.specs.SeenLists.{thread_registers}
-use Rattle.lw_text.specs.inner.Resolved.{word_at}
+use Rattle.lw_text.proofs.Common.{◌≡◌, map, range_with_len, thread_registers, word_at}
 use Rattle.lw_text.proofs.initial.initial_registers.Given as goal
 
 abbrev pub invariant-loop-cpu : goal.invariant-loop-cpu

@@ -1,5 +1,4 @@
-use Rattle.std.proofs.Common.{◌≡◌, take}
-use Rattle.lw_text.specs.inner.Resolved.{seen_of, word_at}
+use Rattle.lw_text.proofs.Common.{◌≡◌, take, seen_of, word_at}
 use Rattle.lw_text.proofs.initial.word_of.Given as goal
 
 abbrev pub invariant-loop-entry : goal.invariant-loop-entry

@@ -1,5 +1,4 @@
-use Rattle.std.proofs.Common.{◌≡◌, ◌<◌, arith, ap}
-use Rattle.std.specs.Char.{digit_value}
+use Rattle.lw_text.proofs.Common.{◌≡◌, ◌<◌, arith, ap, digit_value}
 use Rattle.lw_text.proofs.Numbers.{Reads-large, Reads-next, next_value}
 use Rattle.lw_text.proofs.lexeme.digits.Goals as goal
 

@@ -1,4 +1,4 @@
-use Rattle.std.proofs.Common.{◌<◌, ◌^◌, length}
+use Rattle.lw_text.proofs.Common.{◌<◌, ◌^◌, length}
 use Rattle.lw_text.proofs.Numbers.{Reads}
 use Rattle.lw_text.proofs.lexeme.digits.Given as goal
 

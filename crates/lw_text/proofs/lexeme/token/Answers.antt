@@ -1,7 +1,5 @@
-use Rattle.std.proofs.Common.{refl, sym, ◌∙◌, ap, subst, length, arith}
-use Rattle.std.proofs.lemmas.Bool.{false≢true}
-use Rattle.lw_base.specs.Characters.{is_word_byte, begins}
-use Rattle.lw_text.specs.Tokens.{IsKind}
+use Rattle.lw_text.proofs.Common.{refl, sym, ◌∙◌, ap, subst, length, arith, false≢true, is_word_byte, begins}
+use Rattle.lw_text.proofs.Common.{IsKind}
 use Rattle.lw_text.proofs.Words.{no_kind}
 use Rattle.lw_text.proofs.lexeme.token.Goals as goal
 

@@ -1,5 +1,4 @@
-use Rattle.std.proofs.Common.{ℕ, ap, length, length-append, arith}
-use Rattle.std.proofs.lemmas.Bool.Decides.{nat_tests}
+use Rattle.lw_text.proofs.Common.{ℕ, ap, length, length-append, arith, nat_tests}
 use Rattle.lw_text.proofs.NoteRows.{no_key, no_equals, KeyLine-made}
 use Rattle.lw_text.proofs.notes.after_key_line.Goals as goal
 
@@ -19,6 +18,12 @@ returns-in-Some c =
 pub returns-in-None : goal.returns-in-None
 returns-in-None c =
     let k = c.front.ensures in
-    let s = c.front-2.ensures in
-    (no_equals c.args.bytes.now _ _ _ _ k.parts k.all k.longest s.parts s.all s.longest c.in-None.ensures, omega (arith, ap length k.parts, ap length s.parts,
-      length-append {A = ℕ}))
+    let s = c.front-2.ensures in (
+      no_equals c.args.bytes.now _ _ _ _ k.parts k.all k.longest s.parts s.all s.longest c.in-None.ensures,
+      omega (
+        arith,
+        ap length k.parts,
+        ap length s.parts,
+        length-append {A = ℕ},
+      ),
+    )

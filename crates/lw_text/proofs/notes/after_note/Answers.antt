@@ -1,6 +1,5 @@
-use Rattle.std.proofs.Common.{ℕ, inl, inr, ap, length, length-append, arith, ◌==◌}
-use Rattle.std.proofs.lemmas.Result.{MatchResult-weaker}
-use Rattle.lw_base.specs.Characters.{begins}
+use Rattle.lw_text.proofs.Common.{ℕ, inl, inr, ap, length, length-append, arith, ◌==◌, MatchResult-weaker}
+use Rattle.lw_text.proofs.Common.{begins}
 use Rattle.lw_text.proofs.NoteRows.{no_note, no_quote, Quoted-made, Quoted-open}
 use Rattle.lw_text.proofs.notes.after_note.Goals as goal
 

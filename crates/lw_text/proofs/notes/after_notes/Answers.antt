@@ -1,4 +1,4 @@
-use Rattle.std.proofs.Common.{arith}
+use Rattle.lw_text.proofs.Common.{arith}
 use Rattle.lw_text.proofs.Faults.{refused}
 use Rattle.lw_text.proofs.TriviaLemmas.{Trivia-shorter}
 use Rattle.lw_text.proofs.NoteRows.{Passed_none, Passed_note, Passed_open}

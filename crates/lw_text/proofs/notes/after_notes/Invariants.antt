@@ -1,4 +1,4 @@
-use Rattle.std.proofs.Common.{length}
+use Rattle.lw_text.proofs.Common.{length}
 use Rattle.lw_text.proofs.NoteRows.{Passed}
 use Rattle.lw_text.proofs.notes.after_notes.Given as goal
 

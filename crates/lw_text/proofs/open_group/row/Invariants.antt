@@ -1,6 +1,4 @@
-use Rattle.std.proofs.Common.{◌≡◌}
-use Rattle.lw_base.specs.Propositions.{formula_of}
-use Rattle.lw_text.specs.inner.Pending.{negations}
+use Rattle.lw_text.proofs.Common.{◌≡◌, formula_of, negations}
 use Rattle.lw_text.proofs.open_group.row.Given as goal
 
 abbrev pub invariant-loop-taken : goal.invariant-loop-taken

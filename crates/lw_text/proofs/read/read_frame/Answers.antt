@@ -1,5 +1,4 @@
-use Rattle.std.proofs.Common.{◌∙◌, ap, arith}
-use Rattle.lw_text.specs.Causes.{told}
+use Rattle.lw_text.proofs.Common.{◌∙◌, ap, arith, told}
 use Rattle.lw_text.proofs.read.read_frame.Goals as goal
 
 pub returns-in-Err-clause-too_long : goal.returns-in-Err-clause-too_long

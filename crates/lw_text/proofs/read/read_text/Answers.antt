@@ -1,18 +1,8 @@
-use Rattle.std.proofs.Common.{◌≡◌, ◌≢◌, ℕ, ◌≤◌, length, sym, ap, ◌∙◌, subst, arith, All, IfSome, Option, None}
-use Rattle.std.proofs.Common.{Some, MatchOption, Result, IsErrAnd}
-use Rattle.std.specs.Result.{MatchResult}
-use Rattle.lw_text.specs.declared.fault.Fault.{Fault}
-use Rattle.lw_text.specs.declared.fault.Cause.TheVariants.{Memory}
-use Rattle.std.proofs.lemmas.Option.{MatchOption-at_none}
-use Rattle.lw_text.specs.Spans.{texts}
-use Rattle.lw_text.specs.PlacedTokens.{PlacedTokens}
-use Rattle.lw_base.specs.Heads.{head_of}
-use Rattle.lw_text.specs.Rows.{columns}
-use Rattle.lw_text.specs.Headings.{Heading}
-use Rattle.lw_base.specs.Propositions.{formula_of}
-use Rattle.lw_text.specs.Frames.{head_of_syntax}
-use Rattle.lw_text.specs.inner.Resolved.{syntax_of}
-use Rattle.lw_text.specs.Places.{cell_texts, all_texts, placed_tokens, placed_cells}
+use Rattle.lw_text.proofs.Common.{◌≡◌, ◌≢◌, ℕ, ◌≤◌, length, sym, ap, ◌∙◌, subst, arith, All, IfSome, Option}
+use Rattle.lw_text.proofs.Common.{None, Some, MatchOption, Result, IsErrAnd, MatchResult, Fault, Memory}
+use Rattle.lw_text.proofs.Common.{MatchOption-at_none, texts, PlacedTokens, head_of, columns, Heading}
+use Rattle.lw_text.proofs.Common.{formula_of, head_of_syntax, syntax_of, cell_texts, all_texts, placed_tokens}
+use Rattle.lw_text.proofs.Common.{placed_cells}
 use Rattle.lw_text.proofs.TokenRows.{read_whole}
 use Rattle.lw_text.proofs.CellPlaces.{HasRows-within}
 use Rattle.lw_text.proofs.RowColumns.{columns-map}
@@ -50,10 +40,10 @@ returns-in_err-body g c = refused _ _ _ c.from_residual-in_err-body.ensures.1 (
   (
       let row = c.in_ok-row.row in
       let heading = subst (λ t. Heading t c.in_ok-heading.heading.arch c.in_ok-heading.heading.name.now
-          c.heading.new.self.rest.now) c.new-lexer.ensures.rest c.in_ok-heading.ensures.reads in
+      c.heading.new.self.rest.now) c.new-lexer.ensures.rest c.in_ok-heading.ensures.reads in
       λ ne. no_frame c.args.text.now c.in_ok-heading.heading.arch c.in_ok-heading.heading.name.now
-          c.heading.new.self.rest.now heading (no_test c.in_ok-heading.heading.arch row.fault _ _
-          c.heading.new.self.rest.now row.tokens c.in_ok-row.ensures.0 (c.in_err-body.ensures.0 ne))
+      c.heading.new.self.rest.now heading (no_test c.in_ok-heading.heading.arch row.fault _ _
+      c.heading.new.self.rest.now row.tokens c.in_ok-row.ensures.0 (c.in_err-body.ensures.0 ne))
       ),
   c.in_err-body.ensures.1,
 )
@@ -76,9 +66,9 @@ returns g c =
     let says = c.in_ok-body.ensures.1 in
     let heading = subst (λ t. Heading t arch name rest) c.new-lexer.ensures.rest c.in_ok-heading.ensures.reads in
     let head : head_of frame.head ≡ head_of_syntax arch name (syntax_of body says.terminals)
-        (formula_of body.parts.prop) = c.in_ok-finish.ensures.head ∙ head_made arch name _ body says in
+    (formula_of body.parts.prop) = c.in_ok-finish.ensures.head ∙ head_made arch name _ body says in
     let cells : all_texts frame.cells ≡ columns body.parts.threads (all_texts body.rows) = ap all_texts
-        c.in_ok-finish.ensures.cells ∙ columns-map cell_texts body.parts.threads body.rows in
+    c.in_ok-finish.ensures.cells ∙ columns-map cell_texts body.parts.threads body.rows in
     let whole = c.in_ok-heading.ensures.same ∙ c.new-lexer.ensures.text in
     let stream = subst (λ t. PlacedTokens (length t) rest (placed_tokens row.tokens)) whole
     (MatchOption-at_none _ _ c.in_ok-body.ensures.0 c.in_ok-row.ensures.0) in (

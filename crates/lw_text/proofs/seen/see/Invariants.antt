@@ -1,5 +1,4 @@
-use Rattle.std.proofs.Common.{◌≡◌, false, take}
-use Rattle.lw_text.specs.inner.Resolved.{seen_of, is_listed}
+use Rattle.lw_text.proofs.Common.{◌≡◌, false, take, seen_of, is_listed}
 use Rattle.lw_text.proofs.seen.see.Given as goal
 
 abbrev pub invariant-loop-listed : goal.invariant-loop-listed

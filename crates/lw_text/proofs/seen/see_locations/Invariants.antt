@@ -1,6 +1,4 @@
-use Rattle.std.proofs.Common.{◌≡◌, ◌++◌, filter}
-use Rattle.lw_base.specs.SeenLists.{locations}
-use Rattle.lw_text.specs.inner.Resolved.{is_listed}
+use Rattle.lw_text.proofs.Common.{◌≡◌, ◌++◌, filter, locations, is_listed}
 use Rattle.lw_text.proofs.seen.see_locations.Given as goal
 
 abbrev pub invariant-loop-loc : goal.invariant-loop-loc

@@ -1,7 +1,4 @@
-use Rattle.std.proofs.Common.{◌≡◌, ◌++◌, map, filter}
-use Rattle.std.specs.List.{range_with_len}
-use Rattle.lw_base.specs.declared.head.Seen.TheVariants.{Register}
-use Rattle.lw_text.specs.inner.Resolved.{is_listed}
+use Rattle.lw_text.proofs.Common.{◌≡◌, ◌++◌, map, filter, range_with_len, Register, is_listed}
 use Rattle.lw_text.proofs.seen.see_registers.Given as goal
 
 abbrev pub invariant-loop-reg : goal.invariant-loop-reg

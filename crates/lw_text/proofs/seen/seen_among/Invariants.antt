@@ -1,6 +1,4 @@
-use Rattle.std.proofs.Common.{◌≡◌, filter}
-use Rattle.lw_base.specs.SeenLists.{all_registers}
-use Rattle.lw_text.specs.inner.Resolved.{is_listed}
+use Rattle.lw_text.proofs.Common.{◌≡◌, filter, all_registers, is_listed}
 use Rattle.lw_text.proofs.seen.seen_among.Given as goal
 
 abbrev pub invariant-loop-cpu : goal.invariant-loop-cpu

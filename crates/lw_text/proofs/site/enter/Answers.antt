@@ -1,5 +1,4 @@
-use Rattle.std.proofs.Common.{arith}
-use Rattle.std.proofs.lemmas.Bool.{false≢true}
+use Rattle.lw_text.proofs.Common.{arith}
 use Rattle.lw_text.proofs.site.enter.Goals as goal
 
 pub returns-in-None : goal.returns-in-None

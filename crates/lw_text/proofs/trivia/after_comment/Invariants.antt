@@ -1,4 +1,4 @@
-use Rattle.std.proofs.Common.{length}
+use Rattle.lw_text.proofs.Common.{length}
 use Rattle.lw_text.proofs.Comments.{Progress}
 use Rattle.lw_text.proofs.trivia.after_comment.Given as goal
 

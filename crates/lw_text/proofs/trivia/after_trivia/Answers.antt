@@ -1,4 +1,4 @@
-use Rattle.std.proofs.Common.{arith, ap, length, length-append}
+use Rattle.lw_text.proofs.Common.{arith, ap, length, length-append}
 use Rattle.lw_text.proofs.Comments.{Comment-shorter}
 use Rattle.lw_text.proofs.TriviaLemmas.{Skipped-none, Skipped-blanks, Skipped-comment, Skipped-open}
 use Rattle.lw_text.proofs.TriviaLemmas.{Skipped-done}

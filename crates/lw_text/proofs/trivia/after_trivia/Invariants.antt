@@ -1,5 +1,4 @@
-use Rattle.std.proofs.Common.{◌≡◌, false, length}
-use Rattle.lw_base.specs.Characters.{is_blank, begins}
+use Rattle.lw_text.proofs.Common.{◌≡◌, false, length, is_blank, begins}
 use Rattle.lw_text.proofs.TriviaLemmas.{Skipped}
 use Rattle.lw_text.proofs.trivia.after_trivia.Given as goal
 

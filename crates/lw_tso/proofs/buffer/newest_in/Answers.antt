@@ -1,4 +1,4 @@
-use Rattle.std.proofs.Common.{arith, sym, ap, ◌∙◌, option_copied}
+use Rattle.lw_tso.proofs.Common.{arith, sym, ap, ◌∙◌, option_copied}
 use Rattle.lw_tso.proofs.Newest.{passed_one_more, found_newest}
 use Rattle.lw_tso.proofs.buffer.newest_in.Goals as goal
 
@@ -13,4 +13,4 @@ loop-place-preserved g c =
 pub returns-then-eq : goal.returns-then-eq
 returns-then-eq g c =
     sym (found_newest _ c.loop-place.place _ c.unwrap.result.now (omega arith) (sym c.get.ensures
-        ∙ ap option_copied c.unwrap.ensures) (sym c.eq.ensures ∙ c.if-eq.true) c.loop-place.invariant.passed)
+    ∙ ap option_copied c.unwrap.ensures) (sym c.eq.ensures ∙ c.if-eq.true) c.loop-place.invariant.passed)

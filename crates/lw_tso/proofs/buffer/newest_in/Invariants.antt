@@ -1,5 +1,4 @@
-use Rattle.std.proofs.Common.{◌≡◌, ◌≤◌, drop, length, None}
-use Rattle.lw_tso.specs.Processors.{newest}
+use Rattle.lw_tso.proofs.Common.{◌≡◌, ◌≤◌, drop, length, None, newest}
 use Rattle.lw_tso.proofs.buffer.newest_in.Given as goal
 
 abbrev pub invariant-loop-place : goal.invariant-loop-place

@@ -1,6 +1,5 @@
-use Rattle.std.proofs.Common.{◌<◌, ◌++◌, ◌∷◌, [], ap, ap₂, arith, length, sym, ◌∙◌, length-take, take_all}
-use Rattle.std.proofs.Common.{slice_index}
-use Rattle.std.proofs.lemmas.List.{take_more}
+use Rattle.lw_tso.proofs.Common.{◌<◌, ◌++◌, ◌∷◌, [], ap, ap₂, arith, length, sym, ◌∙◌, length-take, take_all}
+use Rattle.lw_tso.proofs.Common.{slice_index, take_more}
 use Rattle.lw_tso.proofs.Refilled.{location_at}
 use Rattle.lw_tso.proofs.machine.content_of.Goals as goal
 
@@ -11,7 +10,7 @@ loop-loc-preserved g c =
     let there : c.loop-loc.loc-index < length content =
     omega (arith, c.loop-loc-test.true, length-take c.location_count.result c.all.result, c.location_count.ensures.count) in
     c.in_ok-push.ensures.ok ∙ ap₂ (λ words word. words ++ word ∷ []) c.loop-loc.invariant
-        (c.word_at_end.ensures.word ∙ ap (slice_index content) at) ∙ sym (take_more content _ 0 there)
+    (c.word_at_end.ensures.word ∙ ap (slice_index content) at) ∙ sym (take_more content _ 0 there)
 
 pub returns : goal.returns
 returns g c =

@@ -1,4 +1,4 @@
-use Rattle.std.proofs.Common.{◌≡◌, take}
+use Rattle.lw_tso.proofs.Common.{◌≡◌, take}
 use Rattle.lw_tso.proofs.machine.content_of.Given as goal
 
 abbrev pub invariant-loop-loc : goal.invariant-loop-loc

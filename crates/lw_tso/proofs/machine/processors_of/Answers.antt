@@ -1,9 +1,5 @@
-use Rattle.std.proofs.Common.{◌≡◌, ◌<◌, ◌≤◌, [], get_or, length, map, arith, ap, sym, refl, ◌∙◌, take_all}
-use Rattle.std.proofs.lemmas.Option.{get_or_from_slice_get}
-use Rattle.lw_base.specs.Threads.{code_of}
-use Rattle.lw_tso.specs.inner.Rooms.{stores_from}
-use Rattle.lw_tso.specs.Processors.{starting}
-use Rattle.lw_tso.specs.inner.Views.{processor_of}
+use Rattle.lw_tso.proofs.Common.{◌≡◌, ◌<◌, ◌≤◌, [], get_or, length, map, arith, ap, sym, refl, ◌∙◌, take_all}
+use Rattle.lw_tso.proofs.Common.{get_or_from_slice_get, code_of, stores_from, starting, processor_of}
 use Rattle.lw_tso.proofs.Events.{read}
 use Rattle.lw_tso.proofs.Starts.{none_started, one_more}
 use Rattle.lw_tso.proofs.machine.processors_of.Goals as goal
@@ -16,9 +12,9 @@ loop-thread-preserved g c =
     let code = read _ _ _ c.loop-thread.thread _ c.as_slice.ensures refl there c.index-as_slice-thread.is in
     let of = get_or_from_slice_get _ c.loop-thread.thread _ [] code ∙ sym c.as_slice-in-loop-thread.ensures in
     let started : processor_of c.in_ok-new.field-0 ≡ starting (get_or c.args.program.now.head.init_regs
-        c.loop-thread.thread []) = rw (← c.as_slice-regs-items.ensures) c.in_ok-new.ensures.processor in
+    c.loop-thread.thread []) = rw (← c.as_slice-regs-items.ensures) c.in_ok-new.ensures.processor in
     let roomy : stores_from 0 (code_of c.args.program.now.threads c.loop-thread.thread)
-        ≤ c.in_ok-new.field-0.buffer.room = rw of (omega (arith, c.in_ok-new.ensures.room)) in
+    ≤ c.in_ok-new.field-0.buffer.room = rw of (omega (arith, c.in_ok-new.ensures.room)) in
     one_more _ _ _ _ _ _ c.loop-thread.invariant within c.in_ok-push.ensures.items started roomy
 
 pub bounds-as_slice-thread : goal.bounds-as_slice-thread

@@ -1,5 +1,4 @@
-use Rattle.std.proofs.Common.{◌++◌, ◌∷◌, [], ap, ap₂, map, sym, ◌∙◌, take_all}
-use Rattle.std.proofs.lemmas.List.{map_more}
+use Rattle.lw_tso.proofs.Common.{◌++◌, ◌∷◌, [], ap, ap₂, map, sym, ◌∙◌, take_all, map_more}
 use Rattle.lw_tso.specs.declared.processor.Processor.{Processor as ProcessorInMemory}
 use Rattle.lw_tso.proofs.machine.registers_of.Goals as goal
 
@@ -8,9 +7,9 @@ loop-processor-preserved g c =
     let regs_in = λ (p : ProcessorInMemory g.row.B.Denot). p.regs in
     let all = c.args.processors.now in
     c.in_ok-push.ensures.ok ∙ ap₂ (λ front row. front ++ row ∷ []) c.loop-processor.invariant
-        (ap regs_in c.processor-item.is) ∙ sym (map_more regs_in all _ _ c.loop-processor-test.true)
+    (ap regs_in c.processor-item.is) ∙ sym (map_more regs_in all _ _ c.loop-processor-test.true)
 
 pub returns : goal.returns
 returns g c =
     c.loop-processor.invariant ∙ ap (map (λ (p : ProcessorInMemory g.row.B.Denot). p.regs))
-        (take_all c.loop-processor.processor-index c.args.processors.now c.loop-processor-test.false)
+    (take_all c.loop-processor.processor-index c.args.processors.now c.loop-processor-test.false)

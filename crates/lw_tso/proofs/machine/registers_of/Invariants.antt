@@ -1,4 +1,4 @@
-use Rattle.std.proofs.Common.{◌≡◌, map, take}
+use Rattle.lw_tso.proofs.Common.{◌≡◌, map, take}
 use Rattle.lw_tso.proofs.machine.registers_of.Given as goal
 
 abbrev pub invariant-loop-processor : goal.invariant-loop-processor

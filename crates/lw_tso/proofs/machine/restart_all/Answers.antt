@@ -1,6 +1,4 @@
-use Rattle.std.proofs.Common.{◌<◌, arith, length, length-set, [], refl, ◌∙◌}
-use Rattle.lw_tso.specs.Processors.{starting}
-use Rattle.lw_tso.specs.inner.Views.{processor_of}
+use Rattle.lw_tso.proofs.Common.{◌<◌, arith, length, length-set, [], refl, ◌∙◌, starting, processor_of}
 use Rattle.lw_tso.proofs.Events.{read}
 use Rattle.lw_tso.proofs.Refilled.{refilled, refilled_all, kept_in_place}
 use Rattle.lw_tso.proofs.machine.restart_all.Goals as goal
@@ -23,7 +21,7 @@ bounds-processors-thread g c = omega (arith, c.loop-thread-test.true, c.loop-thr
 pub returns-clause-start : goal.returns-clause-start
 returns-clause-start g c =
     refilled_all processor_of starting _ _ c.loop-thread.invariant.start
-        (omega (arith, c.loop-thread.invariant.many, c.requires)) c.loop-thread-test.false
+    (omega (arith, c.loop-thread.invariant.many, c.requires)) c.loop-thread-test.false
 
 pub returns-clause-rooms : goal.returns-clause-rooms
 returns-clause-rooms g c = c.loop-thread.invariant.rooms

@@ -1,7 +1,5 @@
-use Rattle.std.proofs.Common.{◌≡◌, length, map, take}
+use Rattle.lw_tso.proofs.Common.{◌≡◌, length, map, take, starting, processor_of}
 use Rattle.lw_tso.specs.declared.processor.Processor.{Processor as ProcessorInMemory}
-use Rattle.lw_tso.specs.Processors.{starting}
-use Rattle.lw_tso.specs.inner.Views.{processor_of}
 use Rattle.lw_tso.proofs.machine.restart_all.Given as goal
 
 abbrev pub invariant-loop-thread : goal.invariant-loop-thread

@@ -1,4 +1,4 @@
-use Rattle.std.proofs.Common.{◌≡◌, length, take}
+use Rattle.lw_tso.proofs.Common.{◌≡◌, length, take}
 use Rattle.lw_tso.proofs.machine.write_content.Given as goal
 
 abbrev pub invariant-loop-loc : goal.invariant-loop-loc

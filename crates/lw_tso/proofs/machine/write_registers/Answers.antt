@@ -1,6 +1,5 @@
-use Rattle.std.proofs.Common.{◌+◌, ◌++◌, ◌∷◌, [], ap, ap₂, arith, length, length-set, map, sym, take, ◌∙◌}
-use Rattle.std.proofs.Common.{take_all}
-use Rattle.std.proofs.lemmas.List.{map_more, take_more_set}
+use Rattle.lw_tso.proofs.Common.{◌+◌, ◌++◌, ◌∷◌, [], ap, ap₂, arith, length, length-set, map, sym, take, ◌∙◌}
+use Rattle.lw_tso.proofs.Common.{take_all, map_more, take_more_set}
 use Rattle.lw_tso.specs.declared.processor.Processor.{Processor as ProcessorInMemory}
 use Rattle.lw_tso.proofs.machine.write_registers.Goals as goal
 
@@ -22,6 +21,10 @@ loop-thread-preserved g c =
 pub returns : goal.returns
 returns g c =
     let k = c.loop-thread.thread in
-    sym (take_all k c.loop-thread.regs (omega (arith, c.loop-thread-test.false, c.loop-thread.invariant.many,
-        c.requires))) ∙ (c.loop-thread.invariant.regs ∙ ap (map (λ (p : ProcessorInMemory g.row.A.Denot).
-            p.regs)) (take_all k c.args.processors.now c.loop-thread-test.false))
+    sym (take_all k c.loop-thread.regs (omega (
+      arith,
+      c.loop-thread-test.false,
+      c.loop-thread.invariant.many,
+      c.requires,
+    ))) ∙ (c.loop-thread.invariant.regs ∙ ap (map (λ (p : ProcessorInMemory g.row.A.Denot).
+    p.regs)) (take_all k c.args.processors.now c.loop-thread-test.false))

@@ -1,4 +1,4 @@
-use Rattle.std.proofs.Common.{ap, arith, length}
+use Rattle.lw_x86.proofs.Common.{ap, arith, length}
 use Rattle.lw_x86.proofs.block.write_location.Goals as goal
 
 pub offset_bounds-as_slice-index : goal.offset_bounds-as_slice-index

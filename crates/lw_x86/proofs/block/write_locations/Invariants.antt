@@ -1,6 +1,4 @@
-use Rattle.std.proofs.Common.{◌≡◌, ◌++◌, drop, length, flat_map, string_bytes}
-use Rattle.std.specs.List.{range_with_len}
-use Rattle.lw_base.specs.Heads.{head_of}
+use Rattle.lw_x86.proofs.Common.{◌≡◌, ◌++◌, drop, length, flat_map, string_bytes, range_with_len, head_of}
 use Rattle.lw_x86.proofs.BlockTexts.{location_entry}
 use Rattle.lw_x86.proofs.block.write_locations.Given as goal
 
@@ -8,4 +6,4 @@ abbrev pub invariant-loop-loc : goal.invariant-loop-loc
 invariant-loop-loc g l =
     let names = length l.head.locs in
     string_bytes l.out ++ flat_map (location_entry (head_of l.head)) (drop l.loc-index (range_with_len 0
-        names)) ≡ string_bytes l.fn.out ++ flat_map (location_entry (head_of l.head)) (range_with_len 0 names)
+    names)) ≡ string_bytes l.fn.out ++ flat_map (location_entry (head_of l.head)) (range_with_len 0 names)

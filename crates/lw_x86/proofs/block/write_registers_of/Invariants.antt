@@ -1,6 +1,4 @@
-use Rattle.std.proofs.Common.{◌≡◌, ◌++◌, drop, flat_map, string_bytes}
-use Rattle.std.specs.List.{range_with_len}
-use Rattle.lw_base.specs.Heads.{head_of}
+use Rattle.lw_x86.proofs.Common.{◌≡◌, ◌++◌, drop, flat_map, string_bytes, range_with_len, head_of}
 use Rattle.lw_x86.proofs.BlockTexts.{entry_of}
 use Rattle.lw_x86.proofs.block.write_registers_of.Given as goal
 

@@ -1,5 +1,4 @@
-use Rattle.std.proofs.Common.{arith}
-use Rattle.std.proofs.lemmas.Grind.{common_steps}
+use Rattle.lw_x86.proofs.Common.{arith, common_steps}
 use Rattle.lw_x86.proofs.canonical.write_element.Goals as goal
 
 pub returns-in-Register : goal.returns-in-Register

@@ -1,10 +1,6 @@
-use Rattle.std.proofs.Common.{map, codes, arith, append-nil, sym}
-use Rattle.std.specs.List.{range_with_len}
-use Rattle.std.proofs.lemmas.Fmt.{decimal_digit}
-use Rattle.std.proofs.lemmas.List.FromFn.{get_or-map-range_with_len, length-map-range_with_len}
-use Rattle.std.proofs.lemmas.Option.{slice_get_read}
-use Rattle.lw_text.specs.Rows.{thread_name}
-use Rattle.lw_base.proofs.api.Writing.{both_written}
+use Rattle.lw_x86.proofs.Common.{map, codes, arith, append-nil, sym, range_with_len, decimal_digit}
+use Rattle.lw_x86.proofs.Common.{get_or-map-range_with_len, length-map-range_with_len, slice_get_read}
+use Rattle.lw_x86.proofs.Common.{thread_name, both_written}
 use Rattle.lw_x86.proofs.SeparatedTexts.{parts_more, parts_all, line_written}
 use Rattle.lw_x86.proofs.canonical.write_header.Goals as goal
 
@@ -17,8 +13,8 @@ loop-thread-preserved g c =
     let k = c.loop-thread.thread-counter in
     let name = rw (decimal_digit k (omega (arith, c.loop-thread-test.true, c.requires))) at c.in_ok-write.ensures.bytes in
     parts_more _ _ k _ _ c.loop-thread.invariant _ _ (slice_get_read _ _ k _ (sym (length-map-range_with_len
-        thread_name 0 _)) c.loop-thread-test.true (sym (get_or-map-range_with_len thread_name 0 _ k k _
-        c.loop-thread-test.true (omega arith)))) (both_written _ _ _ _ _ c.in_ok-write_separator.ensures name)
+    thread_name 0 _)) c.loop-thread-test.true (sym (get_or-map-range_with_len thread_name 0 _ k k _
+    c.loop-thread-test.true (omega arith)))) (both_written _ _ _ _ _ c.in_ok-write_separator.ensures name)
 
 pub returns : goal.returns
 returns g c =

@@ -1,13 +1,7 @@
-use Rattle.std.proofs.Common.{◌≡◌, ◌++◌, ◌==◌, List, [], ◌∷◌, length, map, codes, refl, ap, ◌∙◌, false, sym, arith}
-use Rattle.std.proofs.lemmas.List.{length-map}
-use Rattle.std.proofs.lemmas.List.Elements.{All-from_recursion}
-use Rattle.std.proofs.lemmas.Option.{slice_get-map, slice_get_read}
-use Rattle.std.specs.Option.{option_map}
-use Rattle.lw_base.specs.Texts.{joined}
-use Rattle.lw_base.specs.Types.{NameTable}
-use Rattle.lw_base.specs.declared.head.Seen.{Seen}
-use Rattle.lw_base.proofs.api.Writing.{both_written, written_as}
-use Rattle.lw_x86.specs.CanonicalTexts.{element_text, listed_text}
+use Rattle.lw_x86.proofs.Common.{◌≡◌, ◌++◌, ◌==◌, List, [], ◌∷◌, length, map, codes, refl, ap, ◌∙◌, false}
+use Rattle.lw_x86.proofs.Common.{sym, arith, length-map, All-from_recursion, slice_get-map, slice_get_read}
+use Rattle.lw_x86.proofs.Common.{option_map, joined, NameTable, Seen, both_written, written_as, element_text}
+use Rattle.lw_x86.proofs.Common.{listed_text}
 use Rattle.lw_x86.proofs.SeparatedTexts.{parts_more, parts_all, line_written}
 use Rattle.lw_x86.proofs.canonical.write_listed.Goals as goal
 
@@ -31,8 +25,8 @@ loop-number-preserved g c =
     let is = rw c.as_slice-listed.ensures at c.index-listed-number.is in
     let lt = rw c.as_slice-listed.ensures at c.loop-number-test.true in
     parts_more (codes " ") _ k _ _ c.loop-number.invariant _ _ (slice_get-map (element_text head.locs)
-        head.listed k ∙ ap (option_map (element_text head.locs)) (slice_get_read head.listed _ k _ refl lt
-        is)) (both_written _ _ _ _ _ c.in_ok-write_separator.ensures c.in_ok-write_element.ensures)
+    head.listed k ∙ ap (option_map (element_text head.locs)) (slice_get_read head.listed _ k _ refl lt
+    is)) (both_written _ _ _ _ _ c.in_ok-write_separator.ensures c.in_ok-write_element.ensures)
 
 pub returns : goal.returns
 returns g c =
@@ -42,4 +36,4 @@ returns g c =
     (omega (arith, length-map head.listed (element_text head.locs), ap length c.as_slice-listed.ensures, c.loop-number-test.false)) in
     let some = rw c.as_slice-listed.ensures at (sym c.is_empty.ensures ∙ c.if-is_empty.false) in
     written_as _ _ _ _ _ (listed_is head.locs head.listed some) (line_written c.push_str-2.result _ _ _
-        (codes "]\n") _ _ _ c.in_ok-push_str.ensures.bytes elements c.push_str-2.ensures.bytes)
+    (codes "]\n") _ _ _ c.in_ok-push_str.ensures.bytes elements c.push_str-2.ensures.bytes)

@@ -1,6 +1,4 @@
-use Rattle.std.proofs.Common.{◌≡◌, ◌++◌, map, take, codes, string_bytes}
-use Rattle.lw_base.specs.Texts.{joined}
-use Rattle.lw_x86.specs.CanonicalTexts.{element_text}
+use Rattle.lw_x86.proofs.Common.{◌≡◌, ◌++◌, map, take, codes, string_bytes, joined, element_text}
 use Rattle.lw_x86.proofs.canonical.write_listed.Given as goal
 
 abbrev pub invariant-loop-number : goal.invariant-loop-number

@@ -1,7 +1,4 @@
-use Rattle.std.proofs.Common.{arith}
-use Rattle.std.proofs.lemmas.Grind.{common_steps}
-use Rattle.lw_base.proofs.api.Formulas.{has_locations}
-use Rattle.lw_litmus.specs.Tests.{test_of}
+use Rattle.lw_x86.proofs.Common.{arith, common_steps, has_locations, test_of}
 use Rattle.lw_x86.proofs.canonical.write_parts.Goals as goal
 
 pub write_condition-requires : goal.write_condition-requires

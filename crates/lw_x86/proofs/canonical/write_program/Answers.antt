@@ -1,9 +1,5 @@
-use Rattle.std.proofs.Common.{◌≡◌, length, sym, ap, subst, arith}
-use Rattle.std.proofs.lemmas.Grind.{common_steps}
-use Rattle.lw_base.specs.Types.{Bytes}
-use Rattle.lw_litmus.specs.Tests.{test_of}
-use Rattle.lw_x86.specs.CanonicalTexts.{canonical_text}
-use Rattle.lw_x86.specs.Texts.{IsTextOf}
+use Rattle.lw_x86.proofs.Common.{◌≡◌, length, sym, ap, subst, arith, common_steps, Bytes, test_of}
+use Rattle.lw_x86.proofs.Common.{canonical_text, IsTextOf}
 use Rattle.lw_x86.proofs.PrintedTests.{reads_back}
 use Rattle.lw_x86.proofs.canonical.write_program.Goals as goal
 

@@ -1,5 +1,4 @@
-use Rattle.std.proofs.Common.{refl}
-use Rattle.lw_base.proofs.api.Writing.{written_as}
+use Rattle.lw_x86.proofs.Common.{refl, written_as}
 use Rattle.lw_x86.proofs.InstructionTexts.{store_text, set_text, add_text, compare_text, exchange_text}
 use Rattle.lw_x86.proofs.InstructionTexts.{exchange_add_text}
 use Rattle.lw_x86.proofs.instruction_text.write_instruction.Goals as goal

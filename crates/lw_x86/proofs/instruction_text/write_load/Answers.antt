@@ -1,5 +1,4 @@
-use Rattle.std.proofs.Common.{[]}
-use Rattle.std.proofs.lemmas.Option.{get_or_from_slice_get}
+use Rattle.lw_x86.proofs.Common.{[], get_or_from_slice_get}
 use Rattle.lw_x86.proofs.instruction_text.write_load.Goals as goal
 
 pub returns : goal.returns

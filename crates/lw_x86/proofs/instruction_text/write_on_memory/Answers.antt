@@ -1,7 +1,5 @@
-use Rattle.std.proofs.Common.{◌≡◌, [], ◌∷◌, ◌++◌, append_assoc, refl}
-use Rattle.std.proofs.lemmas.Option.{get_or_from_slice_get}
-use Rattle.lw_base.specs.Types.{Bytes}
-use Rattle.lw_base.proofs.api.Writing.{then_written}
+use Rattle.lw_x86.proofs.Common.{◌≡◌, [], ◌∷◌, ◌++◌, append_assoc, refl, get_or_from_slice_get, Bytes}
+use Rattle.lw_x86.proofs.Common.{then_written}
 use Rattle.lw_x86.proofs.instruction_text.write_on_memory.Goals as goal
 
 on_memory : (mnemonic name x operand : Bytes) → x ≡ name → (mnemonic ++ (32 ∷ 91 ∷ (name ++ (93 ∷ 44 ∷ [])))) ++ operand ≡ mnemonic ++

@@ -1,5 +1,4 @@
-use Rattle.lw_cells.proofs.api.Tests.{one_test}
-use Rattle.lw_x86.specs.Grammar.{x86_grammar}
+use Rattle.lw_x86.proofs.Common.{one_test, x86_grammar}
 use Rattle.lw_x86.proofs.X86Laws.{x86_lawful}
 use Rattle.lw_x86.proofs.read.a_frame_has_one_program.Goals as goal
 

@@ -1,8 +1,4 @@
-use Rattle.std.proofs.Common.{subst}
-use Rattle.lw_text.proofs.api.Frames.{HasFrame-unique}
-use Rattle.lw_text.specs.Frames.{TestFrame}
-use Rattle.lw_cells.proofs.api.Tests.{one_test}
-use Rattle.lw_x86.specs.Grammar.{HasProgram, x86_grammar}
+use Rattle.lw_x86.proofs.Common.{subst, HasFrame-unique, TestFrame, one_test, HasProgram, x86_grammar}
 use Rattle.lw_x86.proofs.X86Laws.{x86_lawful}
 use Rattle.lw_x86.proofs.read.a_text_has_one_program.Goals as goal
 

@@ -1,4 +1,4 @@
-use Rattle.lw_base.proofs.api.Returns.{passed_on}
+use Rattle.lw_x86.proofs.Common.{passed_on}
 use Rattle.lw_x86.proofs.X86Laws.{x86_spelled}
 use Rattle.lw_x86.proofs.read.read_program.Goals as goal
 

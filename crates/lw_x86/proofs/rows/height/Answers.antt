@@ -1,5 +1,4 @@
-use Rattle.std.proofs.Common.{◌<◌, length, arith, ap}
-use Rattle.lw_x86.specs.CanonicalTexts.{cells_of}
+use Rattle.lw_x86.proofs.Common.{◌<◌, length, arith, ap, cells_of}
 use Rattle.lw_x86.proofs.CellLists.{count_is, longest_more}
 use Rattle.lw_x86.proofs.rows.height.Goals as goal
 

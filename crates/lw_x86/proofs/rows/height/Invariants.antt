@@ -1,5 +1,4 @@
-use Rattle.std.proofs.Common.{◌≡◌, map, take}
-use Rattle.lw_x86.specs.CanonicalTexts.{cells_of, longest}
+use Rattle.lw_x86.proofs.Common.{◌≡◌, map, take, cells_of, longest}
 use Rattle.lw_x86.proofs.rows.height.Given as goal
 
 abbrev pub invariant-loop-code : goal.invariant-loop-code

@@ -1,7 +1,6 @@
-use Rattle.std.proofs.Common.{◌≡◌, Some, None, length, slice_get, refl, sym, ap, ◌∙◌, arith, ltb-true, ltb-false}
-use Rattle.std.proofs.lemmas.Option.{slice_get_past, slice_get_read}
+use Rattle.lw_x86.proofs.Common.{◌≡◌, Some, None, length, slice_get, refl, sym, ap, ◌∙◌, arith, ltb-true}
+use Rattle.lw_x86.proofs.Common.{ltb-false, slice_get_past, slice_get_read, then_written, written_as}
 use Rattle.lw_x86.proofs.CellLists.{at_row, cell_at}
-use Rattle.lw_base.proofs.api.Writing.{then_written, written_as}
 use Rattle.lw_x86.proofs.rows.write_cell.Goals as goal
 
 pub write_instruction-requires : goal.write_instruction-requires

@@ -1,6 +1,4 @@
-use Rattle.std.proofs.Common.{◌≡◌, ◌++◌, map, take, codes, string_bytes}
-use Rattle.lw_base.specs.Texts.{joined}
-use Rattle.lw_x86.specs.CanonicalTexts.{cells_of, row_of}
+use Rattle.lw_x86.proofs.Common.{◌≡◌, ◌++◌, map, take, codes, string_bytes, joined, cells_of, row_of}
 use Rattle.lw_x86.proofs.rows.write_cells.Given as goal
 
 abbrev pub invariant-loop-number : goal.invariant-loop-number

@@ -1,4 +1,4 @@
-use Rattle.std.proofs.Common.{◌∙◌, sym}
+use Rattle.lw_x86.proofs.Common.{◌∙◌, sym}
 use Rattle.lw_x86.proofs.rows.write_end.Goals as goal
 
 pub returns-then-is_target : goal.returns-then-is_target

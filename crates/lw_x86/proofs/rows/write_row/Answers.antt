@@ -1,4 +1,4 @@
-use Rattle.std.proofs.Common.{codes}
+use Rattle.lw_x86.proofs.Common.{codes}
 use Rattle.lw_x86.proofs.SeparatedTexts.{line_written}
 use Rattle.lw_x86.proofs.rows.write_row.Goals as goal
 

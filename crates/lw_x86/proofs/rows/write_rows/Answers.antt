@@ -1,7 +1,5 @@
-use Rattle.std.proofs.Common.{map}
-use Rattle.lw_x86.specs.CanonicalTexts.{cells_of, longest}
+use Rattle.lw_x86.proofs.Common.{map, cells_of, longest, numbers_more, numbers_all}
 use Rattle.lw_x86.proofs.CellLists.{whole_row}
-use Rattle.lw_base.proofs.api.Writing.{numbers_more, numbers_all}
 use Rattle.lw_x86.proofs.rows.write_rows.Goals as goal
 
 pub loop-row-preserved : goal.loop-row-preserved

@@ -1,6 +1,5 @@
-use Rattle.std.proofs.Common.{◌≡◌, ◌++◌, map, drop, flat_map, string_bytes}
-use Rattle.std.specs.List.{range_with_len}
-use Rattle.lw_x86.specs.CanonicalTexts.{cells_of, longest, rows_text}
+use Rattle.lw_x86.proofs.Common.{◌≡◌, ◌++◌, map, drop, flat_map, string_bytes, range_with_len, cells_of}
+use Rattle.lw_x86.proofs.Common.{longest, rows_text}
 use Rattle.lw_x86.proofs.CellLists.{whole_row}
 use Rattle.lw_x86.proofs.rows.write_rows.Given as goal
 

@@ -1,4 +1,4 @@
-use Rattle.std.proofs.Common.{refl}
+use Rattle.lw_base.proofs.Common.{refl}
 use Rattle.lw_base.proofs.fault.CellCause.name.Goals as goal
 
 pub returns-in-LabelTwice : goal.returns-in-LabelTwice

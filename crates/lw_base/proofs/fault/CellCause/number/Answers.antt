@@ -1,4 +1,4 @@
-use Rattle.std.proofs.Common.{refl}
+use Rattle.lw_base.proofs.Common.{refl}
 use Rattle.lw_base.proofs.fault.CellCause.number.Goals as goal
 
 pub returns-in-Backward : goal.returns-in-Backward

@@ -1,4 +1,4 @@
-use Rattle.std.proofs.Common.{refl}
+use Rattle.lw_base.proofs.Common.{refl}
 use Rattle.lw_base.proofs.fault.ScheduleCause.name.Goals as goal
 
 pub returns-in-Location : goal.returns-in-Location

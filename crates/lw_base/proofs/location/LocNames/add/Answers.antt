@@ -1,5 +1,4 @@
-use Rattle.std.proofs.Common.{sym, ◌∙◌, ap, ◌++◌, ◌∷◌, [], arith, length, string_bytes}
-use Rattle.std.proofs.lemmas.List.{length-map}
+use Rattle.lw_base.proofs.Common.{sym, ◌∙◌, ap, ◌++◌, ◌∷◌, [], arith, length, string_bytes, length-map}
 use Rattle.lw_base.proofs.api.Tables.{names_more, table_more, last_place, has_place}
 use Rattle.lw_base.proofs.location.LocNames.add.Goals as goal
 

@@ -1,12 +1,11 @@
-use Rattle.std.proofs.Common.{◌∙◌, ◌<◌, map, ap, sym, subst, arith, take_all, string_bytes}
-use Rattle.lw_base.specs.Names.{IsTable}
+use Rattle.lw_base.proofs.Common.{◌∙◌, map, ap, sym, subst, arith, take_all, string_bytes, IsTable}
 use Rattle.lw_base.proofs.api.Tables.{copied_more}
 use Rattle.lw_base.proofs.location.LocNames.copy.Goals as goal
 
 pub loop-name-preserved : goal.loop-name-preserved
 loop-name-preserved g c =
     copied_more string_bytes _ _ _ _ _ _ (omega arith) c.loop-name.invariant c.in_ok-push.ensures.items
-        (c.in_ok-from_str.ensures.ok ∙ c.as_str.ensures.value) c.name-item.is
+    (c.in_ok-from_str.ensures.ok ∙ c.as_str.ensures.value) c.name-item.is
 
 pub loop-name-init : goal.loop-name-init
 loop-name-init g c = ap (map string_bytes) c.new-names.ensures.items

@@ -1,4 +1,4 @@
-use Rattle.std.proofs.Common.{◌≡◌, map, take, string_bytes}
+use Rattle.lw_base.proofs.Common.{◌≡◌, map, take, string_bytes}
 use Rattle.lw_base.proofs.location.LocNames.copy.Given as goal
 
 abbrev pub invariant-loop-name : goal.invariant-loop-name

@@ -1,5 +1,5 @@
-use Rattle.std.proofs.Common.{arith, ap, sym, ◌∙◌, below_more, get_or, length, map, ◌<◌, [], string_bytes}
-use Rattle.std.proofs.lemmas.List.{get_or_read, length-map}
+use Rattle.lw_base.proofs.Common.{arith, ap, sym, ◌∙◌, below_more, get_or, length, map, ◌<◌, [], string_bytes}
+use Rattle.lw_base.proofs.Common.{get_or_read, length-map}
 use Rattle.lw_base.proofs.api.Tables.{not_here, here}
 use Rattle.lw_base.proofs.location.LocNames.find.Goals as goal
 
@@ -11,8 +11,13 @@ loop-place-preserved g c =
 pub returns-then-eq : goal.returns-then-eq
 returns-then-eq g c =
     let within : c.loop-place.place < length c.deref-known-items.result.now = omega arith in
-    let few : length c.deref-known-items.result.now < 9 = omega (arith, length-map c.self.inside.names.items
-        string_bytes, c.self.invariant.few, c.deref-known-items.ensures) in
+    let few : length c.deref-known-items.result.now < 9 = omega (
+      arith,
+      length-map c.self.inside.names.items
+          string_bytes,
+      c.self.invariant.few,
+      c.deref-known-items.ensures,
+    ) in
     let stands = here string_bytes _ _ _ _ _ within c.known-item.is c.as_str.ensures.value _ few c.new.ensures (sym c.eq.ensures ∙ c.if-eq.true) in
     rw (← c.self.view_is, ← c.deref-known-items.ensures.value) stands
 
@@ -24,6 +29,12 @@ pub returns : goal.returns
 returns g c has =
     let known = c.deref-known-items.result.now in
     let table = ap (map string_bytes) c.deref-known-items.ensures.value ∙ c.self.view_is in
-    c.loop-place.invariant has.0 (omega (arith, has.1, c.loop-place-test.false, ap length table, length-map
-        known string_bytes)) (ap (λ names. get_or names has.0 []) table ∙ sym (get_or_read c.args.self.now
-        has.0 c.args.name.now has.1 (sym has.2) []))
+    c.loop-place.invariant has.0 (omega (
+      arith,
+      has.1,
+      c.loop-place-test.false,
+      ap length table,
+      length-map
+          known string_bytes,
+    )) (ap (λ names. get_or names has.0 []) table ∙ sym (get_or_read c.args.self.now
+    has.0 c.args.name.now has.1 (sym has.2) []))

@@ -1,4 +1,4 @@
-use Rattle.std.proofs.Common.{◌≡◌, ℕ, ◌<◌, [], map, get_or, string_bytes}
+use Rattle.lw_base.proofs.Common.{◌≡◌, ℕ, ◌<◌, [], map, get_or, string_bytes}
 use Rattle.lw_base.proofs.location.LocNames.find.Given as goal
 
 abbrev pub invariant-loop-place : goal.invariant-loop-place

@@ -1,4 +1,4 @@
-use Rattle.std.proofs.Common.{[], ◌∷◌, ◌<◌, ◌≤◌, length, sym, ◌∙◌, length-append, arith}
+use Rattle.lw_base.proofs.Common.{[], ◌∷◌, ◌<◌, length, sym, ◌∙◌, length-append, arith}
 use Rattle.lw_base.proofs.api.Tables.{with_name-there, with_name-new, index_of-at, index_of-new}
 use Rattle.lw_base.proofs.location.LocNames.find_or_add.Goals as goal
 
@@ -21,8 +21,12 @@ returns-in-Ok-clause-names g c = c.in-Ok.ensures.ok ∙ sym (with_name-new _ _ c
 
 pub add-requires-clause-few : goal.add-requires-clause-few
 add-requires-clause-few g c =
-    let free : length c.args.self.now < 8 = omega (arith, c.len-len.ensures.table.few, c.len-len.ensures.len,
-        c.if-len-eq-MAX_LOCATIONS.false) in free
+    let free : length c.args.self.now < 8 = omega (
+      arith,
+      c.len-len.ensures.table.few,
+      c.len-len.ensures.len,
+      c.if-len-eq-MAX_LOCATIONS.false,
+    ) in free
 
 pub add-requires-clause-name : goal.add-requires-clause-name
 add-requires-clause-name g c = c.requires

@@ -1,5 +1,4 @@
-use Rattle.std.proofs.Common.{◌∙◌, sym}
-use Rattle.std.proofs.lemmas.List.{length-map}
+use Rattle.lw_base.proofs.Common.{◌∙◌, sym, length-map}
 use Rattle.lw_base.proofs.location.LocNames.len.Goals as goal
 
 pub returns-clause-len : goal.returns-clause-len

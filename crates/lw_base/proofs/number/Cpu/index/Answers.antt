@@ -1,4 +1,4 @@
-use Rattle.std.proofs.Common.{rules}
+use Rattle.lw_base.proofs.Common.{rules}
 use Rattle.lw_base.proofs.number.Cpu.index.Goals as goal
 
 pub returns-clause-value : goal.returns-clause-value

@@ -1,4 +1,4 @@
-use Rattle.std.proofs.Common.{rules}
+use Rattle.lw_base.proofs.Common.{rules}
 use Rattle.lw_base.proofs.sequence.Sequence.as_slice.Goals as goal
 
 pub returns : goal.returns

@@ -1,4 +1,4 @@
-use Rattle.std.proofs.Common.{◌∙◌}
+use Rattle.lw_base.proofs.Common.{◌∙◌}
 use Rattle.lw_base.proofs.sequence.Sequence.len.Goals as goal
 
 pub returns : goal.returns

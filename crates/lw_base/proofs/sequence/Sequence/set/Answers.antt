@@ -1,4 +1,4 @@
-use Rattle.std.proofs.Common.{refl}
+use Rattle.lw_base.proofs.Common.{refl}
 use Rattle.lw_base.proofs.sequence.Sequence.set.Goals as goal
 
 pub returns : goal.returns

@@ -1,4 +1,4 @@
-use Rattle.std.proofs.Common.{refl}
+use Rattle.lw_base.proofs.Common.{refl}
 use Rattle.lw_base.proofs.stop.Stop.number.Goals as goal
 
 pub returns-in-FenceWaits : goal.returns-in-FenceWaits

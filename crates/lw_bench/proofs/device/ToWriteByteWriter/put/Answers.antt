@@ -1,4 +1,4 @@
-use Rattle.std.proofs.Common.{rules}
+use Rattle.lw_bench.proofs.Common.{rules}
 use Rattle.lw_bench.proofs.device.ToWriteByteWriter.put.Goals as goal
 
 pub returns-in-Ok-clause-some : goal.returns-in-Ok-clause-some

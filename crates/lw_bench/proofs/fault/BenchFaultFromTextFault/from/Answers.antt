@@ -1,4 +1,4 @@
-use Rattle.std.proofs.Common.{rules}
+use Rattle.lw_bench.proofs.Common.{rules}
 use Rattle.lw_bench.proofs.fault.BenchFaultFromTextFault.from.Goals as goal
 
 pub returns-then-eq : goal.returns-then-eq

@@ -1,4 +1,4 @@
-use Rattle.std.proofs.Common.{refl}
+use Rattle.lw_cells.proofs.Common.{refl}
 use Rattle.lw_cells.proofs.column.DraftColumn.new.Goals as goal
 
 pub returns : goal.returns

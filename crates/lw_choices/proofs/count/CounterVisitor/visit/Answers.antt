@@ -1,4 +1,4 @@
-use Rattle.std.proofs.Common.{arith}
+use Rattle.lw_choices.proofs.Common.{arith}
 use Rattle.lw_choices.proofs.api.Counting.{choice_counted}
 use Rattle.lw_choices.proofs.count.CounterVisitor.visit.Goals as goal
 

@@ -1,7 +1,4 @@
-use Rattle.std.proofs.Common.{refl, ◌∙◌}
-use Rattle.std.proofs.lemmas.Result.{on_ok_weaker, IfErr-weaker}
-use Rattle.lw_choices.specs.Views.{choice_of}
-use Rattle.lw_choices.proofs.api.Counting.{given_refused}
+use Rattle.lw_finals.proofs.Common.{refl, ◌∙◌, on_ok_weaker, IfErr-weaker, choice_of, given_refused}
 use Rattle.lw_finals.proofs.gather.GathererVisitor.visit.Goals as goal
 
 pub returns-clause-ok : goal.returns-clause-ok

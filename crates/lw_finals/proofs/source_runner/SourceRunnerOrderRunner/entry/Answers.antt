@@ -1,13 +1,5 @@
-use Rattle.std.proofs.Common.{◌≡◌, List, ap, sym, ◌∙◌, subst}
-use Rattle.lw_base.specs.Outcomes.{Final}
-use Rattle.lw_base.specs.declared.event.Event.{Event}
-use Rattle.lw_litmus.specs.Tests.{SourceTest}
-use Rattle.lw_litmus.specs.Views.{source_of, program_of}
-use Rattle.lw_interleaving.specs.Runs.{start_of}
-use Rattle.lw_finals.specs.SourceRuns.{StaysAndEnds}
-use Rattle.lw_finals.specs.X86Runs.{LeadsFlat}
-use Rattle.lw_finals.specs.inner.Gathered.{Running}
-use Rattle.lw_finals.specs.inner.SourceRunners.{CompiledSource}
+use Rattle.lw_finals.proofs.Common.{◌≡◌, List, ap, sym, ◌∙◌, subst, Final, Event, SourceTest, source_of}
+use Rattle.lw_finals.proofs.Common.{program_of, start_of, StaysAndEnds, LeadsFlat, Running, CompiledSource}
 use Rattle.lw_finals.proofs.SourceRunners.{all_there, leads}
 use Rattle.lw_finals.proofs.source_runner.SourceRunnerOrderRunner.entry.Goals as goal
 

@@ -1,14 +1,8 @@
-use Rattle.std.proofs.Common.{arith, ◌≡◌, ◌∙◌, ◌<◌, ℕ, List, Ok, length, ap, sym, subst, true, true≢false}
-use Rattle.std.proofs.lemmas.List.{length-map}
-use Rattle.lw_litmus.specs.declared.stmt.Stmt.{Stmt}
-use Rattle.lw_base.specs.Outcomes.{Final}
-use Rattle.lw_interleaving.specs.Runs.{State, is_source_final, outcome_of}
-use Rattle.lw_choices.specs.declared.item.Item.{Item}
-use Rattle.lw_litmus.specs.Tests.{SourceTest}
-use Rattle.lw_litmus.specs.Views.{source_of}
-use Rattle.lw_finals.specs.SourceRuns.{CarriedOut, system_of, StaysAndEnds}
-use Rattle.lw_finals.specs.inner.Gathered.{Running}
-use Rattle.lw_finals.specs.inner.SourceRunners.{CompiledSource}
+use Rattle.lw_finals.proofs.Common.{arith, ◌≡◌, ◌∙◌, ◌<◌, ℕ, List, Ok, length, ap, sym, subst, true}
+use Rattle.lw_finals.proofs.Common.{true≢false, length-map, Stmt, Final, State, is_source_final, outcome_of}
+use Rattle.lw_finals.proofs.Common.{Item, SourceTest, source_of, system_of, StaysAndEnds, Running}
+use Rattle.lw_finals.proofs.Common.{CompiledSource}
+use Rattle.lw_finals.specs.SourceRuns.{CarriedOut}
 use Rattle.lw_finals.proofs.OrderSteps.{ran_off, ran_on, ends_alone, ends_so}
 use Rattle.lw_finals.proofs.source_runner.SourceRunnerOrderRunner.run.Goals as goal
 
@@ -68,8 +62,8 @@ returns-clause-ends g c =
     let final = subst (λ (p : List (List Stmt)). is_source_final p now ≡ true) c.loop-number.invariant.program
     (sym c.is_final.ensures ∙ c.if-not-is_final.false) in
     ends_of _ _ source _ (outcome_of now) _ (ap (λ r. r.test.source) c.self.view_is) c.write_outcome.ensures
-        (ends_so (system_of source) c.args.items.now c.loop-number-test.false c.loop-number.invariant.ran
-        final) (λ o run. (ends_alone _ _ c.loop-number-test.false c.loop-number.invariant.ran o run).0)
+    (ends_so (system_of source) c.args.items.now c.loop-number-test.false c.loop-number.invariant.ran
+    final) (λ o run. (ends_alone _ _ c.loop-number-test.false c.loop-number.invariant.ran o run).0)
 
 -- an item could not be carried out
 pub returns-then-not-carry_out-clause-ends : goal.returns-then-not-carry_out-clause-ends
@@ -79,10 +73,10 @@ returns-then-not-carry_out-clause-ends g c o stays =
     let run : StaysAndEnds (source_of source) items order o =
     subst (λ s. StaysAndEnds s items order o) (sym (ap (λ r. r.test.source) c.self.view_is)) stays in
     let none = subst (λ (p : List (List Stmt)). (next : State) → CarriedOut p c.index-items-from.result now
-        next → ⊥) c.loop-number.invariant.program (c.carry_out.ensures.left c.if-not-carry_out.true) in
+    next → ⊥) c.loop-number.invariant.program (c.carry_out.ensures.left c.if-not-carry_out.true) in
     let within : c.from.result < length items = rw c.from.ensures (c.requires k 0 c.loop-number-test.true) in
     ran_off _ items order k c.from.result 0 c.index-items-from.result now c.loop-number-test.true
-        c.from.ensures within c.index-items-from.is none c.loop-number.invariant.ran run.end run.ran
+    c.from.ensures within c.index-items-from.is none c.loop-number.invariant.ran run.end run.ran
 
 pub carry_out-requires : goal.carry_out-requires
 carry_out-requires g c = c.len-threads.ensures ∙ sym c.loop-number.invariant.many

@@ -1,7 +1,4 @@
-use Rattle.std.proofs.Common.{◌≡◌, length}
-use Rattle.lw_litmus.specs.Views.{source_of}
-use Rattle.lw_interleaving.specs.Runs.{start_of}
-use Rattle.lw_finals.specs.SourceRuns.{system_of}
+use Rattle.lw_finals.proofs.Common.{◌≡◌, length, source_of, start_of, system_of}
 use Rattle.lw_finals.proofs.OrderSteps.{RanFirst}
 use Rattle.lw_finals.proofs.source_runner.SourceRunnerOrderRunner.run.Given as goal
 

@@ -1,5 +1,4 @@
-use Rattle.std.proofs.Common.{map, ap, ◌∙◌}
-use Rattle.lw_mesi.specs.CacheLines.{unheld_line, content_of}
+use Rattle.lw_finals.proofs.Common.{map, ap, ◌∙◌, unheld_line, content_of}
 use Rattle.lw_finals.proofs.x86_runner.X86Runner.new.Goals as goal
 
 pub new-requires-2-clause-words : goal.new-requires-2-clause-words

@@ -1,9 +1,5 @@
-use Rattle.std.proofs.Common.{List, ap, sym, ◌∙◌, subst}
-use Rattle.lw_base.specs.Outcomes.{Final}
-use Rattle.lw_base.specs.declared.event.Event.{Event}
-use Rattle.lw_litmus.specs.Tests.{ProgramTest}
-use Rattle.lw_finals.specs.inner.Gathered.{Running}
-use Rattle.lw_finals.specs.X86Runs.{events_of, LeadsFlat}
+use Rattle.lw_finals.proofs.Common.{List, ap, sym, ◌∙◌, subst, Final, Event, ProgramTest, Running, events_of}
+use Rattle.lw_finals.proofs.Common.{LeadsFlat}
 use Rattle.lw_finals.proofs.X86Outcomes.{order_replays}
 use Rattle.lw_finals.proofs.x86_runner.X86RunnerOrderRunner.entry.Goals as goal
 

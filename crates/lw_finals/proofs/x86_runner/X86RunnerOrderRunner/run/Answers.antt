@@ -1,19 +1,8 @@
-use Rattle.std.proofs.Common.{arith, ◌≡◌, ◌∙◌, ℕ, List, Err, ap, subst, sym, true, true≢false}
-use Rattle.lw_base.specs.Outcomes.{Final}
-use Rattle.lw_base.specs.declared.stop.Stop.{Stop}
-use Rattle.lw_memory.specs.Flat.{flat}
-use Rattle.lw_mesi.specs.Protocols.{caches_by}
-use Rattle.lw_mesi.specs.Coherence.{caches_invariant}
-use Rattle.lw_mesi.specs.declared.protocol.Protocol.TheVariants.{Mesi}
-use Rattle.lw_tso.specs.Exchange.{StandsAt}
-use Rattle.lw_tso.specs.Machines.{EventDone}
-use Rattle.lw_tso.specs.Runs.{Initial, is_final}
-use Rattle.lw_litmus.specs.declared.instr.Instr.{Instr}
-use Rattle.lw_litmus.specs.Tests.{ProgramTest}
-use Rattle.lw_litmus.specs.Views.{program_of}
-use Rattle.lw_choices.specs.declared.item.Item.{Item}
-use Rattle.lw_finals.specs.inner.Gathered.{Running}
-use Rattle.lw_finals.specs.X86Runs.{event_of, CarriedOut, system_of, StaysAndEnds}
+use Rattle.lw_finals.proofs.Common.{arith, ◌≡◌, ◌∙◌, ℕ, List, Err, ap, subst, sym, true, true≢false, Final}
+use Rattle.lw_finals.proofs.Common.{Stop, flat, caches_by, caches_invariant, Mesi, StandsAt, EventDone}
+use Rattle.lw_finals.proofs.Common.{Initial, is_final, Instr, ProgramTest, program_of, Item, Running}
+use Rattle.lw_finals.proofs.Common.{event_of, CarriedOut}
+use Rattle.lw_finals.specs.X86Runs.{system_of, StaysAndEnds}
 use Rattle.lw_finals.proofs.OrderSteps.{ends_alone, ends_so}
 use Rattle.lw_finals.proofs.X86Runners.{can_start, carried_on, left_off}
 use Rattle.lw_finals.proofs.x86_runner.X86RunnerOrderRunner.run.Goals as goal
@@ -61,21 +50,21 @@ returns-then-not-carry_out-clause-ends g c o stays =
     let item = c.index-items-from.result in
     let now = c.loop-number.self-inside.machine.state in
     let run = subst (λ (t : ProgramTest). StaysAndEnds flat t t.head.init_words c.args.items.now
-        c.args.order.now o) (sym (ap (λ (r : Running ProgramTest). r.test) c.self.view_is)) stays in
+    c.args.order.now o) (sym (ap (λ (r : Running ProgramTest). r.test) c.self.view_is)) stays in
     let refused = subst (λ (p : List (List Instr)). StandsAt (event_of item) item.position now
     → (stop : Stop) × EventDone mem p (event_of item) now (Err stop) c.carry_out.new.machine.state)
     c.loop-number.invariant.threads (c.carry_out.ensures.left c.if-not-carry_out.true) in
     left_off mem _ m c.args.items.now (λ events s after e answer. c.events_are_flat.ensures.over_flat test m
-        events s after e answer c.self.inside.program.now.well_formed start) 0 _ c.carry_out.new.machine.state
-        c.loop-number-test.true c.from.ensures (rw c.from.ensures (c.requires c.loop-number.number-index 0
-        c.loop-number-test.true)) c.index-items-from.is c.loop-number.invariant.ran refused o run
+    events s after e answer c.self.inside.program.now.well_formed start) 0 _ c.carry_out.new.machine.state
+    c.loop-number-test.true c.from.ensures (rw c.from.ensures (c.requires c.loop-number.number-index 0
+    c.loop-number-test.true)) c.index-items-from.is c.loop-number.invariant.ran refused o run
 
 -- all items were carried out, but the state is not final
 pub returns-then-not-is_final-clause-ends : goal.returns-then-not-is_final-clause-ends
 returns-then-not-is_final-clause-ends g c o stays =
     let test = program_of c.self.inside.program.now in
     let run = subst (λ (t : ProgramTest). StaysAndEnds flat t t.head.init_words c.args.items.now
-        c.args.order.now o) (sym (ap (λ (r : Running ProgramTest). r.test) c.self.view_is)) stays in
+    c.args.order.now o) (sym (ap (λ (r : Running ProgramTest). r.test) c.self.view_is)) stays in
     let at_end = ends_alone _ _ c.loop-number-test.false c.loop-number.invariant.ran.first o run in
     let final = subst (λ (p : List (List Instr)). is_final p c.loop-number.self-inside.machine.state ≡ true) (sym c.loop-number.invariant.threads) at_end.1 in
     true≢false (sym final ∙ sym c.is_final.ensures ∙ c.if-not-is_final.true)
@@ -87,8 +76,8 @@ returns-clause-ends g c =
     let final = subst (λ (p : List (List Instr)). is_final p now ≡ true) c.loop-number.invariant.threads
     (sym c.is_final.ensures ∙ c.if-not-is_final.false) in
     ends_of _ _ test _ _ _ (ap (λ r. r.test) c.self.view_is) c.write_outcome.ensures (ends_so system _
-        c.loop-number-test.false c.loop-number.invariant.ran.first final) (λ o run. (ends_alone system
-        c.args.items.now c.loop-number-test.false c.loop-number.invariant.ran.first o run).0)
+    c.loop-number-test.false c.loop-number.invariant.ran.first final) (λ o run. (ends_alone system
+    c.args.items.now c.loop-number-test.false c.loop-number.invariant.ran.first o run).0)
 
 pub bounds-items-from : goal.bounds-items-from
 bounds-items-from g c = rw c.from.ensures (c.requires c.loop-number.number-index 0 c.loop-number-test.true)

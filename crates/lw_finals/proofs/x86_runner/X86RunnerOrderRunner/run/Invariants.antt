@@ -1,7 +1,4 @@
-use Rattle.std.proofs.Common.{◌≡◌, length}
-use Rattle.lw_mesi.specs.Protocols.{caches_by}
-use Rattle.lw_mesi.specs.declared.protocol.Protocol.TheVariants.{Mesi}
-use Rattle.lw_litmus.specs.Views.{program_of}
+use Rattle.lw_finals.proofs.Common.{◌≡◌, length, caches_by, Mesi, program_of}
 use Rattle.lw_finals.proofs.X86Runners.{RanFlat}
 use Rattle.lw_finals.proofs.x86_runner.X86RunnerOrderRunner.run.Given as goal
 

@@ -1,5 +1,4 @@
-use Rattle.std.proofs.Common.{ap, refl, length}
-use Rattle.lw_interleaving.specs.Runs.{SourceRunState}
+use Rattle.lw_interleaving.proofs.Common.{ap, refl, length, SourceRunState}
 use Rattle.lw_interleaving.proofs.api.Runs.{drained}
 use Rattle.lw_interleaving.proofs.run.SourceRun.act.Goals as goal
 

@@ -1,6 +1,4 @@
-use Rattle.std.proofs.Common.{ap, refl, sym, ◌∙◌, length}
-use Rattle.std.proofs.lemmas.List.{length-map}
-use Rattle.lw_interleaving.specs.Runs.{starting_thread}
+use Rattle.lw_interleaving.proofs.Common.{ap, refl, sym, ◌∙◌, length, length-map, starting_thread}
 use Rattle.lw_interleaving.proofs.api.Runs.{made, mapped_on, mapped_all}
 use Rattle.lw_interleaving.proofs.run.SourceRun.new.Goals as goal
 
@@ -28,7 +26,7 @@ pub invariant_of-result : goal.invariant_of-result
 invariant_of-result g c =
     let source = c.args.source.now in
     let threads = mapped_all starting_thread source.head.init_regs _ c.loop-regs.regs-index _
-        c.as_slice-regs-items.ensures c.loop-regs-test.false c.loop-regs.invariant in (
+    c.as_slice-regs-items.ensures c.loop-regs-test.false c.loop-regs.invariant in (
       ap length threads ∙ length-map source.head.init_regs starting_thread ∙ source.well_formed.head.regs ∙ sym source.well_formed.as_many,
       ap length (c.in_ok-words.ensures ∙ c.as_slice.ensures) ∙ source.well_formed.head.words,
     )

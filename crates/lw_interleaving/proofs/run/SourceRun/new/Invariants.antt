@@ -1,5 +1,4 @@
-use Rattle.std.proofs.Common.{◌≡◌, map, take}
-use Rattle.lw_interleaving.specs.Runs.{starting_thread}
+use Rattle.lw_interleaving.proofs.Common.{◌≡◌, map, take, starting_thread}
 use Rattle.lw_interleaving.proofs.run.SourceRun.new.Given as goal
 
 abbrev pub invariant-loop-regs : goal.invariant-loop-regs

@@ -1,5 +1,4 @@
-use Rattle.std.proofs.Common.{ap, ◌∙◌}
-use Rattle.lw_interleaving.specs.Runs.{SourceRunState}
+use Rattle.lw_interleaving.proofs.Common.{ap, ◌∙◌, SourceRunState}
 use Rattle.lw_interleaving.proofs.api.Runs.{mapped_on, mapped_all, outcome_is}
 use Rattle.lw_interleaving.proofs.run.SourceRun.outcome.Goals as goal
 
@@ -16,4 +15,4 @@ returns g c =
     let threads = c.as_slice-thread-items.ensures ∙ ap (λ r. r.state.threads) c.self.view_is in
     let listed = mapped_all _ _ _ _ _ threads c.loop-thread-test.false c.loop-thread.invariant in
     outcome_is _ _ c.args.self.now.state (c.regs-2.view_is ∙ listed) (c.in_ok-from_slice.ensures
-        ∙ c.as_slice.ensures ∙ ap (λ (r : SourceRunState). r.state.words) c.self.view_is)
+    ∙ c.as_slice.ensures ∙ ap (λ (r : SourceRunState). r.state.words) c.self.view_is)

@@ -1,5 +1,4 @@
-use Rattle.std.proofs.Common.{◌≡◌, map, take}
-use Rattle.lw_interleaving.specs.declared.thread.Thread.{Thread}
+use Rattle.lw_interleaving.proofs.Common.{◌≡◌, map, take, Thread}
 use Rattle.lw_interleaving.proofs.run.SourceRun.outcome.Given as goal
 
 abbrev pub invariant-loop-thread : goal.invariant-loop-thread

@@ -1,6 +1,4 @@
-use Rattle.std.proofs.Common.{ap, ◌∙◌}
-use Rattle.lw_interleaving.specs.declared.thread.Thread.{Thread}
-use Rattle.lw_interleaving.specs.Runs.{SourceRunState}
+use Rattle.lw_interleaving.proofs.Common.{ap, ◌∙◌, Thread, SourceRunState}
 use Rattle.lw_interleaving.proofs.api.Runs.{read_at}
 use Rattle.lw_interleaving.proofs.run.SourceRun.position.Goals as goal
 

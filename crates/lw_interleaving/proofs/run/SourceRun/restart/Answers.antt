@@ -1,4 +1,4 @@
-use Rattle.std.proofs.Common.{arith}
+use Rattle.lw_interleaving.proofs.Common.{arith}
 use Rattle.lw_interleaving.proofs.run.SourceRun.restart.Goals as goal
 
 pub offset_bounds-regs-items-cpu : goal.offset_bounds-regs-items-cpu

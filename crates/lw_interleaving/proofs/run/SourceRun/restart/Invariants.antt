@@ -1,5 +1,4 @@
-use Rattle.std.proofs.Common.{◌≡◌, ◌++◌, map, take, drop}
-use Rattle.lw_interleaving.specs.Runs.{starting_thread}
+use Rattle.lw_interleaving.proofs.Common.{◌≡◌, ◌++◌, map, take, drop, starting_thread}
 use Rattle.lw_interleaving.proofs.run.SourceRun.restart.Given as goal
 
 abbrev pub invariant-loop-cpu : goal.invariant-loop-cpu

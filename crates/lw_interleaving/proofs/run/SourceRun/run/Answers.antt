@@ -1,7 +1,6 @@
-use Rattle.std.proofs.Common.{◌≡◌, ◌∙◌, ap, refl, sym, true≢false}
-use Rattle.lw_base.proofs.api.Replays.{Ran-more}
+use Rattle.lw_interleaving.proofs.Common.{◌≡◌, ◌∙◌, ap, refl, sym, true≢false, Ran-more, SourceEventDone}
+use Rattle.lw_interleaving.proofs.Common.{SourceRunState}
 use Rattle.lw_interleaving.proofs.api.Runs.{event_kept, possible, stopped, replayed_all}
-use Rattle.lw_interleaving.specs.Runs.{SourceEventDone, SourceRunState}
 use Rattle.lw_interleaving.proofs.run.SourceRun.run.Goals as goal
 
 pub loop-done-preserved : goal.loop-done-preserved

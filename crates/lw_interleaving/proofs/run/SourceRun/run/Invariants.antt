@@ -1,5 +1,4 @@
-use Rattle.std.proofs.Common.{◌≡◌, length, take}
-use Rattle.lw_interleaving.specs.Runs.{SourceRan}
+use Rattle.lw_interleaving.proofs.Common.{◌≡◌, length, take, SourceRan}
 use Rattle.lw_interleaving.proofs.run.SourceRun.run.Given as goal
 
 abbrev pub invariant-loop-done : goal.invariant-loop-done

@@ -1,6 +1,4 @@
-use Rattle.std.proofs.Common.{refl, length, ap, sym, ◌∙◌, arith}
-use Rattle.std.proofs.lemmas.Option.{slice_get_within}
-use Rattle.lw_interleaving.specs.Runs.{SourceRunState}
+use Rattle.lw_interleaving.proofs.Common.{refl, length, ap, sym, ◌∙◌, arith, slice_get_within, SourceRunState}
 use Rattle.lw_interleaving.proofs.api.Runs.{next_statement, stepped, no_thread, no_statement, set_length}
 use Rattle.lw_interleaving.proofs.api.Runs.{words_kept}
 use Rattle.lw_interleaving.proofs.run.SourceRun.step.Goals as goal
@@ -12,7 +10,7 @@ returns-clause-done g c =
     let next = rw c.operation.ensures at c.carry_out.ensures.thread in
     let words = rw c.operation.ensures at c.carry_out.ensures.words in
     stepped _ _ _ _ _ c.args.cpu _ _ _ c.self.view_is refl c.self.invariant.0 thread code
-        c.in-Some-get.ensures (rw (c.index-3.ensures.value, next) at c.set.ensures) words
+    c.in-Some-get.ensures (rw (c.index-3.ensures.value, next) at c.set.ensures) words
 
 pub carry_out-requires : goal.carry_out-requires
 carry_out-requires g c =
@@ -20,7 +18,7 @@ carry_out-requires g c =
     let code = rw (c.as_slice.ensures, c.index-2.ensures.value) at c.index-as_slice-index.is in
     let next =
     next_statement _ _ _ _ c.args.cpu _ _ _ c.self.invariant.1 c.self.invariant.0
-        c.self.inside.source.now.well_formed.code thread code c.in-Some-get.ensures in
+    c.self.inside.source.now.well_formed.code thread code c.in-Some-get.ensures in
     record { operation = rw c.operation.ensures next.0; room = next.1 }
 
 pub returns-in_default-clause-done : goal.returns-in_default-clause-done

@@ -1,5 +1,4 @@
-use Rattle.std.proofs.Common.{ap, ◌∙◌}
-use Rattle.lw_interleaving.specs.Runs.{SourceRunState}
+use Rattle.lw_interleaving.proofs.Common.{ap, ◌∙◌, SourceRunState}
 use Rattle.lw_interleaving.proofs.api.Runs.{found_at}
 use Rattle.lw_interleaving.proofs.run.SourceRun.word.Goals as goal
 

@@ -1,5 +1,4 @@
-use Rattle.std.proofs.Common.{ap, arith, length, ◌∙◌}
-use Rattle.lw_base.specs.Outcomes.{Final}
+use Rattle.lw_interleaving.proofs.Common.{ap, arith, length, ◌∙◌, Final}
 use Rattle.lw_interleaving.proofs.api.Runs.{written_on}
 use Rattle.lw_interleaving.proofs.run.SourceRun.write_outcome.Goals as goal
 

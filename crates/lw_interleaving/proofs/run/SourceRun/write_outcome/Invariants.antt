@@ -1,5 +1,4 @@
-use Rattle.std.proofs.Common.{◌≡◌, ◌++◌, map, take, drop}
-use Rattle.lw_interleaving.specs.declared.thread.Thread.{Thread}
+use Rattle.lw_interleaving.proofs.Common.{◌≡◌, ◌++◌, map, take, drop, Thread}
 use Rattle.lw_interleaving.proofs.run.SourceRun.write_outcome.Given as goal
 
 abbrev pub invariant-loop-cpu : goal.invariant-loop-cpu

@@ -1,5 +1,4 @@
-use Rattle.std.proofs.Common.{ap, arith, length}
-use Rattle.lw_litmus.specs.Operations.{location_of}
+use Rattle.lw_interleaving.proofs.Common.{ap, arith, length, location_of}
 use Rattle.lw_interleaving.proofs.thread.Thread.carry_out.Goals as goal
 
 pub bounds-as_slice-index : goal.bounds-as_slice-index

@@ -1,4 +1,4 @@
-use Rattle.std.proofs.Common.{rules}
+use Rattle.lw_interleaving.proofs.Common.{rules}
 use Rattle.lw_interleaving.proofs.thread.Thread.is_at_end.Goals as goal
 
 pub returns : goal.returns

@@ -1,6 +1,4 @@
-use Rattle.std.proofs.Common.{◌≡◌, ◌⊎◌, sym, ap, subst, ◌∙◌}
-use Rattle.lw_memory.specs.declared.system.LineState.TheVariants.{E, S}
-use Rattle.lw_mesi.specs.CacheLines.{copy_of, letter_of}
+use Rattle.lw_mesi.proofs.Common.{◌≡◌, sym, ap, subst, ◌∙◌, E, S, copy_of, letter_of}
 use Rattle.lw_mesi.proofs.PackedWrites.{sharer_gone, dirty_gone, clean_gone}
 use Rattle.lw_mesi.proofs.cache_line.PackedCacheLine.evict.Goals as goal
 

@@ -1,10 +1,7 @@
-use Rattle.std.proofs.Common.{◌≡◌, false, sym, ◌∙◌, subst, length-set, true≢false}
-use Rattle.lw_mesi.specs.CacheLines.{Invalid, copy_of}
-use Rattle.lw_mesi.specs.Coherence.{HasStatesOf}
-use Rattle.lw_mesi.specs.Protocols.{table_of}
+use Rattle.lw_mesi.proofs.Common.{◌≡◌, false, sym, ◌∙◌, subst, length-set, true≢false, Invalid, copy_of}
+use Rattle.lw_mesi.proofs.Common.{HasStatesOf, table_of, Moesi}
 use Rattle.lw_mesi.proofs.PackedReads.{read_word, dirty_shared, owner_shared, first_reader, next_reader}
 use Rattle.lw_mesi.proofs.PackedReads.{unowned_then, no_owner}
-use Rattle.lw_mesi.specs.declared.protocol.Protocol.TheVariants.{Moesi}
 use Rattle.lw_mesi.proofs.cache_line.PackedCacheLine.get_s.Goals.{in_default-via-in-Moesi+else-self}
 use Rattle.lw_mesi.proofs.cache_line.PackedCacheLine.get_s.Goals.{in_default-via-in_default}
 use Rattle.lw_mesi.proofs.cache_line.PackedCacheLine.get_s.Goals as goal
@@ -19,8 +16,10 @@ unowned c =
 
 pub invariant_of-self-in_default : goal.invariant_of-self-in_default
 invariant_of-self-in_default c =
-    no_owner c.self.inside.word c.self.inside.is_owned _ (unowned c) (rw (c.insert-in_default-2.ensures,
-    c.insert-in_default.ensures) (length-set _ _ _ ∙ (length-set _ _ _ ∙ c.self.invariant.as_many)))
+    no_owner c.self.inside.word c.self.inside.is_owned _ (unowned c) (rw (
+      c.insert-in_default-2.ensures,
+      c.insert-in_default.ensures,
+    ) (length-set _ _ _ ∙ (length-set _ _ _ ∙ c.self.invariant.as_many)))
 
 pub returns-in-Moesi-clause-line : goal.returns-in-Moesi-clause-line
 returns-in-Moesi-clause-line c =

@@ -1,8 +1,5 @@
-use Rattle.std.proofs.Common.{◌≡◌, ◌≤◌, ◌++◌, ◌∙◌, ℕ, List, arith, drop, length, map, sym, ap, subst}
-use Rattle.std.proofs.Common.{append-nil}
-use Rattle.std.proofs.lemmas.List.{drop_all, length-map}
-use Rattle.lw_mesi.specs.CacheLines.{CacheLine, Caches, unheld_line}
-use Rattle.lw_mesi.specs.Coherence.{IsKept}
+use Rattle.lw_mesi.proofs.Common.{◌≡◌, ◌≤◌, ◌++◌, ◌∙◌, ℕ, List, arith, drop, length, map, sym, ap, subst}
+use Rattle.lw_mesi.proofs.Common.{append-nil, drop_all, length-map, CacheLine, Caches, unheld_line, IsKept}
 use Rattle.lw_mesi.proofs.Start.{empty_kept}
 use Rattle.lw_mesi.proofs.caches.SnoopingCaches.new.Goals as goal
 

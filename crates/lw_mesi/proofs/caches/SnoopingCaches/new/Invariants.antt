@@ -1,5 +1,4 @@
-use Rattle.std.proofs.Common.{◌≡◌, ◌++◌, drop, map}
-use Rattle.lw_mesi.specs.CacheLines.{unheld_line}
+use Rattle.lw_mesi.proofs.Common.{◌≡◌, ◌++◌, drop, map, unheld_line}
 use Rattle.lw_mesi.proofs.caches.SnoopingCaches.new.Given as goal
 
 abbrev pub invariant-loop-word : goal.invariant-loop-word

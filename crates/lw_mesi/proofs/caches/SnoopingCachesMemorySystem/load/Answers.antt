@@ -1,8 +1,4 @@
-use Rattle.std.proofs.Common.{ap, sym, ◌∙◌, subst}
-use Rattle.lw_mesi.specs.Snooping.{line_to_read}
-use Rattle.lw_mesi.specs.Protocols.{table_of}
-use Rattle.lw_mesi.specs.Coherence.{IsKeptLine}
-use Rattle.lw_mesi.specs.laws.ProtocolLaws.{load_kept}
+use Rattle.lw_mesi.proofs.Common.{ap, sym, ◌∙◌, subst, line_to_read, table_of, IsKeptLine, load_kept}
 use Rattle.lw_mesi.proofs.Kept.{still_kept}
 use Rattle.lw_mesi.proofs.caches.SnoopingCachesMemorySystem.load.Goals as goal
 

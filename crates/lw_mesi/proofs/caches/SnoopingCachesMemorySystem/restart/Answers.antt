@@ -1,9 +1,7 @@
-use Rattle.std.proofs.Common.{◌≡◌, ◌≤◌, ◌<◌, ◌∙◌, ℕ, List, arith, length, length-set, map, take, refl, sym}
-use Rattle.std.proofs.Common.{ap, subst, take_all}
-use Rattle.std.proofs.lemmas.List.{length-map, map_more, take_more_set}
-use Rattle.lw_base.specs.Limits.{most_threads}
-use Rattle.lw_mesi.specs.CacheLines.{Caches, CacheLine, unheld_line, empty_caches, content_of, contents_of}
-use Rattle.lw_mesi.specs.Coherence.{IsKept}
+use Rattle.lw_mesi.proofs.Common.{◌≡◌, ◌≤◌, ◌<◌, ◌∙◌, ℕ, List, arith, length, length-set, map, take, refl}
+use Rattle.lw_mesi.proofs.Common.{sym, ap, subst, take_all, length-map, map_more, take_more_set, most_threads}
+use Rattle.lw_mesi.proofs.Common.{Caches, CacheLine, unheld_line, empty_caches, content_of, contents_of}
+use Rattle.lw_mesi.proofs.Common.{IsKept}
 use Rattle.lw_mesi.proofs.Start.{empty_content, empty_kept}
 use Rattle.lw_mesi.proofs.caches.SnoopingCachesMemorySystem.restart.Goals as goal
 
@@ -20,7 +18,7 @@ pub loop-place-preserved : goal.loop-place-preserved
 loop-place-preserved g c =
     let lines = c.loop-place.self-inside.lines.items in let k = c.loop-place.place in let words = c.args.words.now in
     let as_many : length c.self.inside.lines.items ≡ length words = sym (length-map c.self.inside.lines.items
-        content_of) ∙ ap (λ (m : Caches). length (contents_of m)) c.self.view_is ∙ sym c.requires in
+    content_of) ∙ ap (λ (m : Caches). length (contents_of m)) c.self.view_is ∙ sym c.requires in
     let within : k < length lines = omega (arith, c.loop-place.invariant.many, as_many) in
     record {
       cpus = c.loop-place.invariant.cpus;

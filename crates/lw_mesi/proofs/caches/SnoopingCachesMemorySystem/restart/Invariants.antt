@@ -1,5 +1,4 @@
-use Rattle.std.proofs.Common.{◌≡◌, length, map, take}
-use Rattle.lw_mesi.specs.CacheLines.{unheld_line}
+use Rattle.lw_mesi.proofs.Common.{◌≡◌, length, map, take, unheld_line}
 use Rattle.lw_mesi.proofs.caches.SnoopingCachesMemorySystem.restart.Given as goal
 
 -- the lines so far hold nothing but their words

@@ -1,6 +1,4 @@
-use Rattle.std.proofs.Common.{sym, subst}
-use Rattle.lw_mesi.specs.Coherence.{IsKeptLine}
-use Rattle.lw_mesi.specs.laws.ProtocolLaws.{write_kept}
+use Rattle.lw_mesi.proofs.Common.{sym, subst, IsKeptLine, write_kept}
 use Rattle.lw_mesi.proofs.Kept.{still_kept}
 use Rattle.lw_mesi.proofs.caches.SnoopingCachesMemorySystem.swap.Goals as goal
 

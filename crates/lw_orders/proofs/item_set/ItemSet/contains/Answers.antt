@@ -1,5 +1,4 @@
-use Rattle.std.proofs.Common.{ap, ◌∙◌, not, eqb, bit_and}
-use Rattle.std.proofs.lemmas.Nat.{one_shl}
+use Rattle.lw_orders.proofs.Common.{ap, ◌∙◌, not, eqb, bit_and, one_shl}
 use Rattle.lw_orders.proofs.Bits.{has-bit}
 use Rattle.lw_orders.proofs.item_set.ItemSet.contains.Goals as goal
 

@@ -1,5 +1,4 @@
-use Rattle.std.proofs.Common.{arith}
-use Rattle.std.specs.Int.{w128}
+use Rattle.lw_orders.proofs.Common.{arith, w128}
 use Rattle.lw_orders.proofs.Bits.{has-ones, has-below}
 use Rattle.lw_orders.proofs.item_set.ItemSetItemBits.below.Goals as goal
 

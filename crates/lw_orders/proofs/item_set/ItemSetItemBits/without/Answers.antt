@@ -1,4 +1,4 @@
-use Rattle.std.specs.Int.{w128}
+use Rattle.lw_orders.proofs.Common.{w128}
 use Rattle.lw_orders.proofs.Bits.{has-without}
 use Rattle.lw_orders.proofs.item_set.ItemSetItemBits.without.Goals as goal
 

@@ -1,4 +1,4 @@
-use Rattle.std.proofs.Common.{arith, w64}
+use Rattle.lw_orders.proofs.Common.{arith, w64}
 use Rattle.lw_orders.proofs.Bits.{has-ones, has-below}
 use Rattle.lw_orders.proofs.low_items.LowItemsItemBits.below.Goals as goal
 

@@ -1,4 +1,4 @@
-use Rattle.std.proofs.Common.{ap, eqb, w64}
+use Rattle.lw_orders.proofs.Common.{ap, eqb, w64}
 use Rattle.lw_orders.proofs.Bits.{apart_low}
 use Rattle.lw_orders.proofs.low_items.LowItemsItemBits.is_apart.Goals as goal
 

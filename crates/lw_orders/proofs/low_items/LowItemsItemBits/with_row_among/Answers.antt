@@ -1,4 +1,4 @@
-use Rattle.std.proofs.Common.{w64}
+use Rattle.lw_orders.proofs.Common.{w64}
 use Rattle.lw_orders.proofs.Bits.{among_low}
 use Rattle.lw_orders.proofs.low_items.LowItemsItemBits.with_row_among.Goals as goal
 

@@ -1,4 +1,4 @@
-use Rattle.std.proofs.Common.{w64}
+use Rattle.lw_orders.proofs.Common.{w64}
 use Rattle.lw_orders.proofs.Bits.{has-without}
 use Rattle.lw_orders.proofs.low_items.LowItemsItemBits.without.Goals as goal
 

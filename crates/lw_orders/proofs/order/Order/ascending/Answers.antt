@@ -1,5 +1,4 @@
-use Rattle.std.proofs.Common.{◌∙◌, sym, ap, arith, length-set, [], ◌∷◌, ◌++◌}
-use Rattle.std.proofs.lemmas.List.{take_more_set}
+use Rattle.lw_orders.proofs.Common.{◌∙◌, sym, ap, arith, length-set, [], ◌∷◌, ◌++◌, take_more_set}
 use Rattle.lw_orders.proofs.Ascending.{numbers_more}
 use Rattle.lw_orders.proofs.order.Order.ascending.Goals as goal
 

@@ -1,5 +1,4 @@
-use Rattle.std.proofs.Common.{◌≡◌, length, take}
-use Rattle.lw_orders.specs.Sequence.{numbers}
+use Rattle.lw_orders.proofs.Common.{◌≡◌, length, take, numbers}
 use Rattle.lw_orders.proofs.order.Order.ascending.Given as goal
 
 abbrev pub invariant-loop-item : goal.invariant-loop-item

@@ -1,6 +1,5 @@
-use Rattle.std.proofs.Common.{ap, length, arith}
+use Rattle.lw_text.proofs.Common.{ap, length, arith, left}
 use Rattle.lw_text.proofs.Faults.{refused}
-use Rattle.lw_text.specs.Views.{left}
 use Rattle.lw_text.proofs.Lists.{Leaves-join}
 use Rattle.lw_text.proofs.Atoms.{IsSite-shorter, Value-shorter, value_missing}
 use Rattle.lw_text.proofs.SiteLists.{entries, entries_fault}
@@ -36,24 +35,34 @@ pub returns-in_err-word : goal.returns-in_err-word
 returns-in_err-word g c =
     let kept = ap left (c.takes.ensures.kept c.if-takes.false) in
     refused _ _ _ c.from_residual-in_err-word.ensures.1 (λ ne. entries_fault c.args.arch
-        c.entries.invariant.read (c.takes.ensures.other c.if-takes.false) (λ e back entry some. value_missing
-        c.args.arch _ _ _ (rw kept at c.in_ok-site.ensures.is) c.in_err-word.ensures e back entry))
+    c.entries.invariant.read (c.takes.ensures.other c.if-takes.false) (λ e back entry some. value_missing
+    c.args.arch _ _ _ (rw kept at c.in_ok-site.ensures.is) c.in_err-word.ensures e back entry))
 
 pub returns-in_err-either : goal.returns-in_err-either
 returns-in_err-either g c =
     let kept = ap left (c.takes.ensures.kept c.if-takes.false) in
     refused _ _ _ c.from_residual-in_err-either.ensures.1 (λ ne es rest block few. read_no_mark
-        c.entries.invariant.read _ _ (left c.site.new.self, rw kept at c.in_ok-site.ensures.is,
-        c.in_ok-word.ensures.0) c.in_err-either.ensures.1 c.in_err-either.ensures.0 es rest block)
+    c.entries.invariant.read _ _ (
+      left c.site.new.self,
+      rw kept at c.in_ok-site.ensures.is,
+      c.in_ok-word.ensures.0,
+    ) c.in_err-either.ensures.1 c.in_err-either.ensures.0 es rest block)
 
 pub returns-then-branch : goal.returns-then-branch
 returns-then-branch g c =
     let mark = rw c.if-branch.true at c.in_ok-either.ensures.0 in
     let kept = ap left (c.takes.ensures.kept c.if-takes.false) in
-    let whole = read_last c.entries.invariant.read c.site.new.locs (record { token = c.takes.new.self.next;
-        site = c.in_ok-site.site; word = c.in_ok-word.word }) c.in_ok-site.ensures.names_are
-        c.in_ok-site.ensures.within tt (left c.value.new.self) (left c.site.new.self, rw kept
-        at c.in_ok-site.ensures.is, c.in_ok-word.ensures.0) (left c.either.new.self) mark in
+    let whole = read_last c.entries.invariant.read c.site.new.locs (record {
+      token = c.takes.new.self.next;
+      site = c.in_ok-site.site;
+      word = c.in_ok-word.word;
+    }) c.in_ok-site.ensures.names_are
+    c.in_ok-site.ensures.within tt (left c.value.new.self) (
+      left c.site.new.self,
+      rw kept
+          at c.in_ok-site.ensures.is,
+      c.in_ok-word.ensures.0,
+    ) (left c.either.new.self) mark in
     rw c.in_ok-push.ensures.ok (record {
       is = whole.whole;
       names_are = whole.names_are;
@@ -79,10 +88,18 @@ entries-preserved g c =
     let mark = rw c.if-branch.false at c.in_ok-either.ensures.0 in
     let kept = ap left (c.takes.ensures.kept c.if-takes.false) in
     rw c.in_ok-push.ensures.ok (record {
-      read = read_more c.entries.invariant.read c.site.new.locs (record { token = c.takes.new.self.next; site
-          = c.in_ok-site.site; word = c.in_ok-word.word }) c.in_ok-site.ensures.names_are
-          c.in_ok-site.ensures.within tt (left c.value.new.self) (left c.site.new.self, rw kept
-          at c.in_ok-site.ensures.is, c.in_ok-word.ensures.0) (left c.either.new.self) mark;
+      read = read_more c.entries.invariant.read c.site.new.locs (record {
+        token = c.takes.new.self.next;
+        site
+            = c.in_ok-site.site;
+        word = c.in_ok-word.word;
+      }) c.in_ok-site.ensures.names_are
+          c.in_ok-site.ensures.within tt (left c.value.new.self) (
+            left c.site.new.self,
+            rw kept
+                at c.in_ok-site.ensures.is,
+            c.in_ok-word.ensures.0,
+          ) (left c.either.new.self) mark;
       leaves = Leaves-join c.entries.invariant.leaves (Leaves-join c.takes.ensures.leaves
           (Leaves-join c.in_ok-site.ensures.leaves (Leaves-join c.in_ok-word.ensures.1 c.in_ok-either.ensures.1)));
     })

@@ -1,6 +1,4 @@
-use Rattle.std.proofs.Common.{length}
-use Rattle.lw_text.specs.Spans.{Leaves}
-use Rattle.lw_text.specs.Views.{remaining, left}
+use Rattle.lw_text.proofs.Common.{length, Leaves, remaining, left}
 use Rattle.lw_text.proofs.SiteLists.{entries}
 use Rattle.lw_text.proofs.Readings.{Read}
 use Rattle.lw_text.proofs.cursor.Cursor.block.Given as goal

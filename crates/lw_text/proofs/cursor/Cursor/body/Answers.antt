@@ -1,10 +1,5 @@
-use Rattle.std.proofs.Common.{refl, sym, map, arith, subst}
-use Rattle.std.proofs.lemmas.List.{length-map}
-use Rattle.lw_text.specs.Rows.{Header}
-use Rattle.lw_text.specs.Frames.{Block}
-use Rattle.lw_text.specs.inner.Resolved.{named_entry}
-use Rattle.lw_text.specs.Places.{cells_texts, placed_tokens}
-use Rattle.lw_text.specs.Views.{remaining, left}
+use Rattle.lw_text.proofs.Common.{refl, sym, map, arith, subst, length-map, Header, Block, named_entry}
+use Rattle.lw_text.proofs.Common.{cells_texts, placed_tokens, remaining, left}
 use Rattle.lw_text.proofs.CellPlaces.{rows_placed, front_placed}
 use Rattle.lw_text.proofs.Lists.{Leaves-join}
 use Rattle.lw_text.proofs.api.Places.{texts_placed}

@@ -1,4 +1,4 @@
-use Rattle.std.proofs.Common.{◌∷◌, [], ◌∙◌, ap}
+use Rattle.lw_text.proofs.Common.{◌∷◌, [], ◌∙◌, ap}
 use Rattle.lw_text.proofs.Lists.{Leaves-join}
 use Rattle.lw_text.proofs.cursor.Cursor.bracketed.Goals as goal
 

@@ -1,4 +1,4 @@
-use Rattle.std.proofs.Common.{◌≡◌, ◌∷◌, [], ◌++◌, ◌∙◌, ap, length, arith}
+use Rattle.lw_text.proofs.Common.{ap, length, arith}
 use Rattle.lw_text.proofs.cursor.Cursor.cell.Goals as goal
 
 pub cell-smaller : goal.cell-smaller

@@ -1,8 +1,4 @@
-use Rattle.std.proofs.Common.{◌≡◌, ◌++◌, false, length}
-use Rattle.std.specs.List.{AllByRecursion}
-use Rattle.lw_text.specs.Rows.{ends_cell}
-use Rattle.lw_text.specs.Spans.{texts}
-use Rattle.lw_text.specs.Views.{remaining}
+use Rattle.lw_text.proofs.Common.{◌≡◌, ◌++◌, false, length, AllByRecursion, ends_cell, texts, remaining}
 use Rattle.lw_text.proofs.cursor.Cursor.cell.Given as goal
 
 abbrev pub invariant-cell : goal.invariant-cell

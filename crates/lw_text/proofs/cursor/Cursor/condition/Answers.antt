@@ -1,10 +1,5 @@
-use Rattle.std.proofs.Common.{map, sym, subst, arith}
-use Rattle.lw_base.specs.Lists.{EachOnce}
-use Rattle.lw_base.proofs.api.GrowingTables.{once-along, with_names-longer}
-use Rattle.lw_text.specs.Sites.{site_names, with_sites}
-use Rattle.lw_text.specs.Conditions.{sites_in}
-use Rattle.lw_text.specs.inner.Resolved.{named}
-use Rattle.lw_text.specs.Views.{left}
+use Rattle.lw_text.proofs.Common.{map, sym, subst, arith, EachOnce, once-along, with_names-longer, site_names}
+use Rattle.lw_text.proofs.Common.{with_sites, sites_in, named, left}
 use Rattle.lw_text.proofs.Bodies.{taken_condition}
 use Rattle.lw_text.proofs.SiteLists.{Listed-unique}
 use Rattle.lw_text.proofs.Whole.{no_terminals}
@@ -19,7 +14,7 @@ returns-in_err-listed g c = refused _ _ _ c.from_residual.ensures.1 (λ ne all q
 pub returns-in_err-quant : goal.returns-in_err-quant
 returns-in_err-quant g c = refused _ _ _ c.from_residual-in_err-quant.ensures.1 (λ ne all q ss p condition fits.
     let u = Listed-unique c.args.arch (left c.args.self.now) all _ condition.behind_list
-        (left c.listed.new.self) condition.lists c.in_ok-listed.ensures.is in
+    (left c.listed.new.self) condition.lists c.in_ok-listed.ensures.is in
     c.in_err-quant.ensures q condition.behind_quant (rw u.1 at condition.quantifies))
 
 pub proposition-requires-clause-once : goal.proposition-requires-clause-once

@@ -1,6 +1,4 @@
-use Rattle.std.proofs.Common.{◌∷◌, ◌∙◌, ap, arith}
-use Rattle.lw_text.specs.Rows.{thread_name}
-use Rattle.lw_text.specs.Views.{left}
+use Rattle.lw_text.proofs.Common.{◌∷◌, ◌∙◌, ap, arith, thread_name, left}
 use Rattle.lw_text.proofs.Headers.{Names-more}
 use Rattle.lw_text.proofs.Lists.{Leaves-join}
 use Rattle.lw_text.proofs.cursor.Cursor.header.Goals as goal

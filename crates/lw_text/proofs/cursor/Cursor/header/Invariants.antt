@@ -1,5 +1,4 @@
-use Rattle.lw_text.specs.Spans.{Leaves}
-use Rattle.lw_text.specs.Views.{remaining, left}
+use Rattle.lw_text.proofs.Common.{Leaves, remaining, left}
 use Rattle.lw_text.proofs.Headers.{NamesTo}
 use Rattle.lw_text.proofs.cursor.Cursor.header.Given as goal
 

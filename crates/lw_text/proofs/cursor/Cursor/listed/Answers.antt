@@ -1,10 +1,8 @@
-use Rattle.std.proofs.Common.{◌∷◌, ◌∙◌, inl, inr, refl, ap, sym, length, arith, codes}
-use Rattle.std.proofs.lemmas.List.Elements.{All-nil}
-use Rattle.lw_text.specs.inner.Resolved.{IsIn}
-use Rattle.lw_text.specs.Views.{left}
+use Rattle.lw_text.proofs.Common.{◌∷◌, ◌∙◌, inl, inr, refl, ap, sym, length, arith, codes, All-nil, IsIn}
+use Rattle.lw_text.proofs.Common.{left}
 use Rattle.lw_text.proofs.Atoms.{IsSite-shorter, bracket}
 use Rattle.lw_text.proofs.Faults.{refused}
-use Rattle.lw_text.proofs.SiteLists.{sites, list_behind, syntax_same}
+use Rattle.lw_text.proofs.SiteLists.{list_behind, syntax_same}
 use Rattle.lw_text.proofs.Readings.{read_none, read_end, read_more, read_last, read_none_here, read_no_mark}
 use Rattle.lw_text.proofs.Texts.{no_word_next}
 use Rattle.lw_text.proofs.cursor.Cursor.listed.Goals as goal
@@ -38,26 +36,26 @@ pub returns-in_err-site : goal.returns-in_err-site
 returns-in_err-site g c =
     let kept = ap left (c.takes-in-sites.ensures.kept c.if-takes.false) in
     refused _ _ _ c.from_residual-in_err-site.ensures.1 (λ ne all rest listed there few. read_none_here
-        c.sites.invariant.read (λ l. no_word_next bracket (left c.sites.self) l
-        (c.takes-in-sites.ensures.other c.if-takes.false)) (rw kept at (c.in_err-site.ensures ne)) all rest
-        (list_behind _ c.args.threads (left c.args.self.now) (codes "[" ∷ c.sites.invariant.read.start)
-        c.sites.invariant.read.begun all rest listed) there (syntax_same c.args.locs.now all few))
+    c.sites.invariant.read (λ l. no_word_next bracket (left c.sites.self) l
+    (c.takes-in-sites.ensures.other c.if-takes.false)) (rw kept at (c.in_err-site.ensures ne)) all rest
+    (list_behind _ c.args.threads (left c.args.self.now) (codes "[" ∷ c.sites.invariant.read.start)
+    c.sites.invariant.read.begun all rest listed) there (syntax_same c.args.locs.now all few))
 
 pub returns-in_err-either : goal.returns-in_err-either
 returns-in_err-either g c =
     let kept = ap left (c.takes-in-sites.ensures.kept c.if-takes.false) in
     refused _ _ _ c.from_residual-in_err-either.ensures.1 (λ ne all rest listed there few. read_no_mark
-        c.sites.invariant.read _ (left c.site.new.self) (rw kept at c.in_ok-site.ensures.is)
-        c.in_err-either.ensures.1 c.in_err-either.ensures.0 all rest (list_behind c.args.arch c.args.threads
-        (left c.args.self.now) _ c.sites.invariant.read.begun all rest listed))
+    c.sites.invariant.read _ (left c.site.new.self) (rw kept at c.in_ok-site.ensures.is)
+    c.in_err-either.ensures.1 c.in_err-either.ensures.0 all rest (list_behind c.args.arch c.args.threads
+    (left c.args.self.now) _ c.sites.invariant.read.begun all rest listed))
 
 pub returns-then-branch : goal.returns-then-branch
 returns-then-branch g c =
     let mark = rw c.if-branch.true at c.in_ok-either.ensures.0 in
     let kept = ap left (c.takes-in-sites.ensures.kept c.if-takes.false) in
     let whole = read_last c.sites.invariant.read c.site.new.locs c.in_ok-site.field-0
-        c.in_ok-site.ensures.names_are c.in_ok-site.ensures.within c.in_ok-site.ensures.there
-        (left c.site.new.self) (rw kept at c.in_ok-site.ensures.is) (left c.either.new.self) mark in
+    c.in_ok-site.ensures.names_are c.in_ok-site.ensures.within c.in_ok-site.ensures.there
+    (left c.site.new.self) (rw kept at c.in_ok-site.ensures.is) (left c.either.new.self) mark in
     rw c.in_ok-push.ensures.ok (record { is = inl whole.whole; there = whole.there; names_are = whole.names_are; within = whole.within })
 
 pub sites-smaller : goal.sites-smaller

@@ -1,5 +1,4 @@
-use Rattle.std.proofs.Common.{length}
-use Rattle.lw_text.specs.Views.{left}
+use Rattle.lw_text.proofs.Common.{length, left}
 use Rattle.lw_text.proofs.SiteLists.{sites}
 use Rattle.lw_text.proofs.Readings.{Read}
 use Rattle.lw_text.proofs.cursor.Cursor.listed.Given as goal

@@ -1,4 +1,4 @@
-use Rattle.std.proofs.Common.{codes, ◌∷◌, [], ◌∙◌, refl, ap}
+use Rattle.lw_text.proofs.Common.{codes, ◌∷◌, [], ◌∙◌, refl, ap}
 use Rattle.lw_text.proofs.Lists.{Leaves-join}
 use Rattle.lw_text.proofs.cursor.Cursor.of_thread.Goals as goal
 

@@ -1,8 +1,4 @@
-use Rattle.std.proofs.Common.{◌≡◌, ◌∷◌, [], sym, ap, subst}
-use Rattle.lw_text.specs.Sites.{with_sites}
-use Rattle.lw_text.specs.Propositions.{Atom}
-use Rattle.lw_text.specs.Conditions.{IsAtom, sites_in}
-use Rattle.lw_text.specs.Views.{left}
+use Rattle.lw_text.proofs.Common.{◌≡◌, ◌∷◌, [], sym, ap, subst, with_sites, Atom, IsAtom, sites_in, left}
 use Rattle.lw_text.proofs.TerminalLists.{site_alone}
 use Rattle.lw_text.proofs.Faults.{refused}
 use Rattle.lw_text.proofs.cursor.Cursor.opening.Goals as goal
@@ -20,7 +16,7 @@ returns-in_err-word g c =
     let kept = ap left (c.opening_word.ensures.kept c.in_default.is) in
     let stands = rw kept at c.in_ok-site.ensures.is in
     refused _ _ _ c.from_residual-in_err-word.ensures.1 (λ ne s rest terminal begins few. site_alone
-        c.args.arch c.args.threads _ (left c.site.new.self) _ stands c.in_err-word.ensures s rest terminal)
+    c.args.arch c.args.threads _ (left c.site.new.self) _ stands c.in_err-word.ensures s rest terminal)
 
 pub returns : goal.returns
 returns g c =

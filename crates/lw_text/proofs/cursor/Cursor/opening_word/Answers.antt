@@ -1,4 +1,4 @@
-use Rattle.std.proofs.Common.{refl}
+use Rattle.lw_text.proofs.Common.{refl}
 use Rattle.lw_text.proofs.TerminalLists.{only_claim}
 use Rattle.lw_text.proofs.cursor.Cursor.opening_word.Goals as goal
 

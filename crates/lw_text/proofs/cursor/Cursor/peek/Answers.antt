@@ -1,5 +1,4 @@
-use Rattle.std.proofs.Common.{ap}
-use Rattle.lw_text.specs.Spans.{texts}
+use Rattle.lw_text.proofs.Common.{ap, texts}
 use Rattle.lw_text.proofs.Texts.{token_next, nothing_left}
 use Rattle.lw_text.proofs.cursor.Cursor.peek.Goals as goal
 

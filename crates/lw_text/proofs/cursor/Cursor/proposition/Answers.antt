@@ -1,5 +1,4 @@
-use Rattle.std.proofs.Common.{ℕ, ◌+◌, ◌≤◌, sym, ap, subst, arith}
-use Rattle.std.proofs.lemmas.Result.{MatchResult-weaker}
+use Rattle.lw_text.proofs.Common.{ℕ, ◌+◌, ◌≤◌, sym, ap, subst, arith, MatchResult-weaker}
 use Rattle.lw_text.proofs.Texts.{nothing_left, some_left}
 use Rattle.lw_text.proofs.TerminalLists.{IsTerminal-shorter}
 use Rattle.lw_text.proofs.PropositionRows.{terminals_none, terminals_end, terminals_open, terminals_fault}

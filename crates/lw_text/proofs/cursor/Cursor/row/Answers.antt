@@ -1,9 +1,6 @@
-use Rattle.std.proofs.Common.{◌∷◌, ◌∙◌, ap, sym, length, arith, length-append}
-use Rattle.std.proofs.lemmas.List.{length-map}
+use Rattle.lw_text.proofs.Common.{◌∷◌, ◌∙◌, ap, sym, length, arith, length-append, length-map, RowCells}
+use Rattle.lw_text.proofs.Common.{cell_texts, cells_texts, remaining, left}
 use Rattle.lw_text.proofs.Faults.{refused}
-use Rattle.lw_text.specs.Rows.{RowCells}
-use Rattle.lw_text.specs.Places.{cell_texts, cells_texts}
-use Rattle.lw_text.specs.Views.{remaining, left}
 use Rattle.lw_text.proofs.Cells.{Cells-open, Row-ragged}
 use Rattle.lw_text.proofs.CellPlaces.{cells_more, cells_closed}
 use Rattle.lw_text.proofs.cursor.Cursor.row.Goals as goal
@@ -17,7 +14,7 @@ returns-then-eq g c =
     let closed = cells_closed c.cells.invariant.read c.in_ok-mark.ensures (sym c.eq.ensures ∙ c.if-eq.true) in
     let line : RowCells (left c.args.self.now) (cells_texts c.push.new.self) (left c.cell.new.self) = rw c.in_ok-push.ensures.ok closed.0 in
     λ _. Row-ragged (left c.args.self.now) (left c.cell.new.self) _ line c.args.threads
-        (λ e. c.if-len-threads.false (omega (arith, c.len.ensures, length-map c.push.new.self cell_texts, e)))
+    (λ e. c.if-len-threads.false (omega (arith, c.len.ensures, length-map c.push.new.self cell_texts, e)))
 
 pub returns-then-len-threads : goal.returns-then-len-threads
 returns-then-len-threads g c =

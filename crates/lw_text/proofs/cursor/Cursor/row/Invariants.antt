@@ -1,5 +1,4 @@
-use Rattle.std.proofs.Common.{length}
-use Rattle.lw_text.specs.Views.{remaining}
+use Rattle.lw_text.proofs.Common.{length, remaining}
 use Rattle.lw_text.proofs.CellPlaces.{CellsRead}
 use Rattle.lw_text.proofs.cursor.Cursor.row.Given as goal
 

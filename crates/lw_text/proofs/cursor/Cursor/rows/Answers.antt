@@ -1,8 +1,6 @@
-use Rattle.std.proofs.Common.{◌∷◌, [], ◌∙◌, ap, sym, length, arith, length-append}
-use Rattle.std.proofs.lemmas.List.{map_push, length-map}
+use Rattle.lw_text.proofs.Common.{◌∷◌, [], ◌∙◌, ap, sym, length, arith, length-append, map_push, length-map}
+use Rattle.lw_text.proofs.Common.{cells_texts, left}
 use Rattle.lw_text.proofs.Faults.{refused}
-use Rattle.lw_text.specs.Places.{cells_texts}
-use Rattle.lw_text.specs.Views.{left}
 use Rattle.lw_text.proofs.Cells.{Row-shorter, Rows-found, Rows-more, Rows-fault, Rows-many}
 use Rattle.lw_text.proofs.CellPlaces.{rows_more}
 use Rattle.lw_text.proofs.cursor.Cursor.rows.Goals as goal

@@ -1,8 +1,5 @@
-use Rattle.std.proofs.Common.{◌≤◌, length}
-use Rattle.lw_text.specs.Rows.{Row, begins_stop}
-use Rattle.lw_text.specs.Places.{all_texts, placed_tokens, placed_cells}
-use Rattle.lw_text.specs.PlacedCells.{RowsFrom}
-use Rattle.lw_text.specs.Views.{remaining, left}
+use Rattle.lw_text.proofs.Common.{◌≤◌, length, Row, begins_stop, all_texts, placed_tokens, placed_cells}
+use Rattle.lw_text.proofs.Common.{RowsFrom, remaining, left}
 use Rattle.lw_text.proofs.Lists.{Passed}
 use Rattle.lw_text.proofs.cursor.Cursor.rows.Given as goal
 

@@ -1,7 +1,5 @@
-use Rattle.std.proofs.Common.{◌∷◌, [], ◌∙◌, inl, inr, refl, sym, ap, subst, arith, codes}
-use Rattle.std.proofs.lemmas.Result.{MatchResult-weaker}
-use Rattle.lw_text.specs.Views.{left}
-use Rattle.lw_text.specs.inner.Taken.{TakenSite}
+use Rattle.lw_text.proofs.Common.{◌∷◌, [], ◌∙◌, inl, inr, refl, sym, ap, subst, arith, codes}
+use Rattle.lw_text.proofs.Common.{MatchResult-weaker, left, TakenSite}
 use Rattle.lw_text.proofs.Atoms.{site_none}
 use Rattle.lw_text.proofs.Lists.{Leaves-join}
 use Rattle.lw_text.proofs.Texts.{is_text, is_no_text}
@@ -46,7 +44,7 @@ returns-in-Some g c =
       within = omega arith;
       leaves = Leaves-join (c.in_ok-first.first ∷ [], c.in_ok-first.ensures.token) reg.5;
     })) (λ f never ne s rest p there few. register_none c.args.arch c.args.locs.now c.in_ok-first.ensures.ok
-        c.in-Some.thread c.in-Some.ensures never s rest p)
+    c.in-Some.thread c.in-Some.ensures never s rest p)
 
 pub returns-in-Ok : goal.returns-in-Ok
 returns-in-Ok g c = entered c.in-Ok.ensures

@@ -1,4 +1,4 @@
-use Rattle.std.proofs.Common.{codes, ◌∷◌, [], ◌∙◌, ap}
+use Rattle.lw_text.proofs.Common.{codes, ◌∷◌, [], ◌∙◌, ap}
 use Rattle.lw_text.proofs.Lists.{Leaves-join}
 use Rattle.lw_text.proofs.Atoms.{value_none}
 use Rattle.lw_text.proofs.cursor.Cursor.value.Goals as goal

@@ -1,5 +1,4 @@
-use Rattle.std.proofs.Common.{◌∙◌, sym, ap, subst, length, arith}
-use Rattle.lw_text.specs.Tokens.{First}
+use Rattle.lw_text.proofs.Common.{◌∙◌, sym, ap, subst, length, arith, First}
 use Rattle.lw_text.proofs.Faults.{refused}
 use Rattle.lw_text.proofs.Headings.{no_named, no_notes}
 use Rattle.lw_text.proofs.lexer.Lexer.heading.Goals as goal

@@ -1,5 +1,4 @@
-use Rattle.std.proofs.Common.{arith, ap, subst, length, length-append}
-use Rattle.lw_text.specs.Tokens.{Trivia}
+use Rattle.lw_text.proofs.Common.{arith, ap, subst, length, length-append, Trivia}
 use Rattle.lw_text.proofs.TriviaLemmas.{Trivia-shorter}
 use Rattle.lw_text.proofs.lexer.Lexer.next.Goals as goal
 

@@ -1,4 +1,4 @@
-use Rattle.std.proofs.Common.{arith, ap, length, length-append}
+use Rattle.lw_text.proofs.Common.{arith, ap, length, length-append}
 use Rattle.lw_text.proofs.NoteRows.{Notes-suffix}
 use Rattle.lw_text.proofs.lexer.Lexer.notes.Goals as goal
 

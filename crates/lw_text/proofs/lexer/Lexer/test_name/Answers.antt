@@ -1,9 +1,5 @@
-use Rattle.lw_text.proofs.Headings.{Named-parts}
-use Rattle.std.proofs.Common.{◌≡◌, arith, ap, ◌++◌, subst, ◌∙◌, length, length-append}
-use Rattle.std.proofs.Common.{◌≡◌, arith, ap, subst, length}
-use Rattle.std.proofs.lemmas.Bool.{false≢true}
-use Rattle.std.proofs.lemmas.Bool.Decides.{nat_tests}
-use Rattle.lw_base.specs.Names.{IsTestName}
+use Rattle.lw_text.proofs.Common.{◌≡◌, arith, ap, subst, length, length-append, false≢true, nat_tests}
+use Rattle.lw_text.proofs.Common.{IsTestName}
 use Rattle.lw_text.proofs.Headings.{Named-parts}
 use Rattle.lw_text.proofs.lexer.Lexer.test_name.Goals as goal
 

@@ -1,7 +1,4 @@
-use Rattle.std.proofs.Common.{◌≡◌, ◌∙◌, sym, ap, subst, arith, ◌≤◌}
-use Rattle.lw_base.specs.WellFormed.{IsWellFormedHead}
-use Rattle.lw_text.specs.Rows.{columns}
-use Rattle.lw_text.specs.Places.{IsWithin}
+use Rattle.lw_text.proofs.Common.{◌≡◌, ◌∙◌, sym, ap, subst, arith, IsWellFormedHead, columns, IsWithin}
 use Rattle.lw_text.proofs.WellFormedHeads.{resolved_well_formed}
 use Rattle.lw_text.proofs.RowColumns.{columns-length, columns-height, columns-even, columns-each}
 use Rattle.lw_text.proofs.parts.Body.finish.Goals as goal

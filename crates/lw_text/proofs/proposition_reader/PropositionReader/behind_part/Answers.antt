@@ -1,4 +1,4 @@
-use Rattle.std.proofs.Common.{refl}
+use Rattle.lw_text.proofs.Common.{refl}
 use Rattle.lw_text.proofs.proposition_reader.PropositionReader.behind_part.Goals as goal
 
 pub returns-in_ok-conjoin-in-Conjunction : goal.returns-in_ok-conjoin-in-Conjunction

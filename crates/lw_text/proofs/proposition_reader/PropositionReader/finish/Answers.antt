@@ -1,9 +1,6 @@
-use Rattle.std.proofs.Common.{◌≡◌, ◌≢◌, List, [], ◌∷◌, Option, Some, None, length, map, reverse, refl, ap, sym, ◌∙◌, arith, eqb-true}
-use Rattle.std.proofs.lemmas.Bool.{eqb-false}
-use Rattle.std.proofs.lemmas.List.{nil_from_length, length-reverse, length-map}
-use Rattle.lw_base.specs.Formula.{Formula}
-use Rattle.lw_base.specs.Propositions.{formula_of}
-use Rattle.lw_text.specs.inner.Pending.{Pending, group_of, ors_of, standing, said}
+use Rattle.lw_text.proofs.Common.{◌≡◌, ◌≢◌, List, [], ◌∷◌, Option, Some, None, length, map, reverse, refl, ap}
+use Rattle.lw_text.proofs.Common.{sym, ◌∙◌, arith, eqb-true, eqb-false, nil_from_length, length-reverse}
+use Rattle.lw_text.proofs.Common.{length-map, Formula, formula_of, Pending, group_of, ors_of, standing, said}
 use Rattle.lw_text.proofs.proposition_reader.PropositionReader.finish.Goals as goal
 
 said_inside : (o : Option Formula) (l : Pending) (os : List Pending) → os ≢ [] → said (standing o l os) ≡ None
@@ -15,8 +12,13 @@ pub returns-then-not-is_empty : goal.returns-then-not-is_empty
 returns-then-not-is_empty g c =
     let groups = c.args.self.now.outer.items in
     λ _. said_inside _ _ (reverse (map group_of groups)) (λ e. eqb-false _ _ (sym c.is_empty.ensures
-        ∙ c.if-not-is_empty.true) (omega (arith, ap (λ l. length l) e, length-reverse (map group_of groups),
-        length-map groups group_of, c.args.self.now.outer.ok.0)))
+    ∙ c.if-not-is_empty.true) (omega (
+      arith,
+      ap (λ l. length l) e,
+      length-reverse (map group_of groups),
+      length-map groups group_of,
+      c.args.self.now.outer.ok.0,
+    )))
 
 pub returns-in_ok-close-in-Some : goal.returns-in_ok-close-in-Some
 returns-in_ok-close-in-Some g c =
@@ -24,4 +26,4 @@ returns-in_ok-close-in-Some g c =
     let none : r.outer.items ≡ [] = nil_from_length r.outer.items
     (omega (arith, eqb-true _ _ (sym c.is_empty.ensures ∙ c.if-not-is_empty.false), r.outer.ok.0)) in
     rw (← c.in-Some.ensures.value, none) (ap Some (sym (c.in_ok-close-in-Some.ensures
-        ∙ ap (λ l. ors_of (group_of l) (formula_of c.in-Some.part)) c.replace-group.ensures.value)))
+    ∙ ap (λ l. ors_of (group_of l) (formula_of c.in-Some.part)) c.replace-group.ensures.value)))

@@ -1,6 +1,4 @@
-use Rattle.std.proofs.Common.{◌≡◌, ◌∙◌, ap, subst, sym}
-use Rattle.lw_text.specs.Frames.{Parts, IsNoTest}
-use Rattle.lw_text.specs.Spans.{texts}
+use Rattle.lw_text.proofs.Common.{◌∙◌, ap, subst, sym, Parts, IsNoTest, texts}
 use Rattle.lw_text.proofs.Numbers.{if_none}
 use Rattle.lw_text.proofs.token_stream.TokenStream.body.Goals as goal
 

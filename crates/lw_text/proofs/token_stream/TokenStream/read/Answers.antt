@@ -1,8 +1,5 @@
-use Rattle.std.proofs.Common.{◌≤◌, ◌∙◌, ap, length, arith}
-use Rattle.std.proofs.lemmas.List.{map_push}
-use Rattle.std.proofs.lemmas.List.Elements.{All-from_recursion}
-use Rattle.lw_text.specs.declared.token.Token.{Token}
-use Rattle.lw_text.specs.Places.{placed, placed_tokens}
+use Rattle.lw_text.proofs.Common.{◌≤◌, ◌∙◌, ap, length, arith, map_push, All-from_recursion, Token, placed}
+use Rattle.lw_text.proofs.Common.{placed_tokens}
 use Rattle.lw_text.proofs.Lists.{Chain-push}
 use Rattle.lw_text.proofs.Readings.{all_push}
 use Rattle.lw_text.proofs.TokenRows.{Placed, Read-done, Read-fault, Tokens-none}

@@ -1,6 +1,4 @@
-use Rattle.std.proofs.Common.{◌≡◌, ◌≤◌, length}
-use Rattle.std.specs.List.{AllByRecursion}
-use Rattle.lw_text.specs.Places.{placed_tokens}
+use Rattle.lw_text.proofs.Common.{◌≡◌, ◌≤◌, length, AllByRecursion, placed_tokens}
 use Rattle.lw_text.proofs.TokenRows.{Read}
 use Rattle.lw_text.proofs.token_stream.TokenStream.read.Given as goal
 

@@ -1,5 +1,4 @@
-use Rattle.std.proofs.Common.{◌<◌, arith, refl, length}
-use Rattle.lw_memory.specs.Memory.{memory_of}
+use Rattle.lw_tso.proofs.Common.{◌<◌, arith, refl, length, memory_of}
 use Rattle.lw_tso.proofs.Events.{read, entries_there, done_by, machine_after}
 use Rattle.lw_base.specs.declared.event.Event.TheVariants as of
 use Rattle.lw_tso.proofs.machine.Machine.drain.Goals as goal
@@ -16,11 +15,11 @@ invariant_of-self g c =
     let mem = memory_of g.M.MemorySystem.content g.M.MemorySystem.state g.M.MemorySystem.serves in
     let within : c.args.cpu < length c.self.inside.processors.items = omega (arith, c.len.ensures, c.index.ensures.value) in
     let at = read c.self.inside.processors.items _ _ c.args.cpu c.index_mut-processor.result.now refl
-        c.index-2.ensures.value within c.index_mut-processor.ensures.value in
+    c.index-2.ensures.value within c.index_mut-processor.ensures.value in
     rw c.index-2.ensures.value (machine_after mem _ c.self.inside.program.now.threads _
-        c.self.inside.program.now.well_formed.code g.met.M.MemorySystem.lawful (of.Drain c.args.cpu)
-        c.index_mut-processor.result.now c.drain.new.self c.self.inside.processors.items c.self.inside.memory
-        c.drain.new.memory c.drain.result c.self.invariant at c.drain.ensures.done c.drain.ensures.room)
+    c.self.inside.program.now.well_formed.code g.met.M.MemorySystem.lawful (of.Drain c.args.cpu)
+    c.index_mut-processor.result.now c.drain.new.self c.self.inside.processors.items c.self.inside.memory
+    c.drain.new.memory c.drain.result c.self.invariant at c.drain.ensures.done c.drain.ensures.room)
 
 pub returns-clause-done : goal.returns-clause-done
 returns-clause-done g c =
@@ -28,4 +27,4 @@ returns-clause-done g c =
     let within : c.args.cpu < length c.self.inside.processors.items = omega (arith, c.len.ensures, c.index.ensures.value) in
     let at = read _ _ _ _ _ refl c.index-2.ensures.value within c.index_mut-processor.ensures.value in
     rw c.index-2.ensures.value (done_by mem _ (of.Drain c.args.cpu) c.args.self.now _ _ c.drain.new.self _
-        c.self.inside.memory c.drain.new.memory c.drain.result c.self.view_is at c.drain.ensures.done)
+    c.self.inside.memory c.drain.new.memory c.drain.result c.self.view_is at c.drain.ensures.done)

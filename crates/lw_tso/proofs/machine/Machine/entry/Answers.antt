@@ -1,8 +1,5 @@
-use Rattle.std.proofs.Common.{◌≡◌, ◌<◌, ℕ, [], ap, refl, arith, length, subst}
-use Rattle.std.proofs.lemmas.List.{length-map}
-use Rattle.std.proofs.lemmas.Option.{get_or_from_slice_get, slice_get_within}
-use Rattle.lw_memory.specs.Memory.{memory_of}
-use Rattle.lw_tso.specs.inner.Views.{processor_of}
+use Rattle.lw_tso.proofs.Common.{◌<◌, ℕ, [], ap, refl, arith, length, subst, length-map}
+use Rattle.lw_tso.proofs.Common.{get_or_from_slice_get, slice_get_within, memory_of, processor_of}
 use Rattle.lw_tso.proofs.Events.{read, shown, buffer_there, entries_there}
 use Rattle.lw_tso.proofs.machine.Machine.entry.Goals as goal
 
@@ -10,7 +7,7 @@ pub returns-clause-entry : goal.returns-clause-entry
 returns-clause-entry g c =
     let within = buffer_there c.args.self.now.state c.args.cpu c.args.place c.requires in
     let at = shown (λ p. p.buffer) c.self.inside.processors.items _
-        c.args.cpu c.self.view_is c.index.ensures.value within c.index-2.ensures in
+    c.args.cpu c.self.view_is c.index.ensures.value within c.index-2.ensures in
     rw (get_or_from_slice_get _ c.args.cpu _ [] at) c.entry.ensures
 
 pub returns-clause-location : goal.returns-clause-location

@@ -1,5 +1,4 @@
-use Rattle.std.proofs.Common.{ap, ◌∙◌}
-use Rattle.lw_tso.specs.Runs.{Running, is_final}
+use Rattle.lw_tso.proofs.Common.{ap, ◌∙◌, Running, is_final}
 use Rattle.lw_tso.proofs.Events.{all_done}
 use Rattle.lw_tso.proofs.machine.Machine.is_final.Goals as goal
 

@@ -1,6 +1,4 @@
-use Rattle.std.proofs.Common.{ap, sym, length, ◌∙◌}
-use Rattle.lw_memory.specs.MemoryLaws.{invariant_of}
-use Rattle.lw_memory.specs.Memory.{memory_of}
+use Rattle.lw_tso.proofs.Common.{ap, sym, length, ◌∙◌, invariant_of, memory_of}
 use Rattle.lw_tso.proofs.Starts.{machine_made}
 use Rattle.lw_tso.proofs.machine.Machine.new.Goals as goal
 
@@ -11,4 +9,4 @@ invariant_of-result g c =
     let known = c.args.program.now.well_formed in
     let locations = ap length c.requires.words ∙ known.head.words in
     machine_made _ _ mem inv _ c.args.memory _ c.cpu_count-cpus.ensures.sound locations c.requires.threads
-        (known.head.regs ∙ sym known.as_many) c.in-Ok.ensures.start c.in-Ok.ensures.rooms
+    (known.head.regs ∙ sym known.as_many) c.in-Ok.ensures.start c.in-Ok.ensures.rooms

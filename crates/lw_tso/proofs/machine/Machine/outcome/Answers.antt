@@ -1,5 +1,4 @@
-use Rattle.std.proofs.Common.{ap, ◌∙◌, map}
-use Rattle.lw_memory.specs.Memory.{memory_of}
+use Rattle.lw_tso.proofs.Common.{ap, ◌∙◌, map, memory_of}
 use Rattle.lw_tso.proofs.Events.{outcome_is}
 use Rattle.lw_tso.proofs.machine.Machine.outcome.Goals as goal
 

@@ -1,11 +1,6 @@
-use Rattle.std.proofs.Common.{◌≡◌, ◌≤◌, ◌++◌, ℕ, List, ap, ap₂, arith, drop, length, map, subst, sym, take}
-use Rattle.std.proofs.Common.{◌∙◌, append-nil, take_all}
-use Rattle.std.proofs.lemmas.List.{drop_all}
-use Rattle.lw_memory.specs.MemoryLaws.{invariant_of}
-use Rattle.lw_memory.specs.Memory.{memory_of}
-use Rattle.lw_tso.specs.Processors.{Processor, starting}
-use Rattle.lw_tso.specs.Machines.{MachineState}
-use Rattle.lw_tso.specs.inner.Rooms.{IsMachine}
+use Rattle.lw_tso.proofs.Common.{◌≡◌, ◌≤◌, ◌++◌, ℕ, List, ap, ap₂, arith, drop, length, map, subst, sym, take}
+use Rattle.lw_tso.proofs.Common.{◌∙◌, append-nil, take_all, drop_all, invariant_of, memory_of, Processor}
+use Rattle.lw_tso.proofs.Common.{starting, MachineState, IsMachine}
 use Rattle.lw_tso.proofs.Starts.{machine_made, still_roomy}
 use Rattle.lw_tso.proofs.machine.Machine.restart.Goals as goal
 
@@ -32,7 +27,7 @@ invariant_of-self g c =
     let rooms = c.restart_all.ensures.rooms ∙ ap (map (λ p. p.buffer.room)) c.deref_mut.ensures.value in
     let roomy = still_roomy program regs c.self.inside.processors.items now rooms c.self.invariant.whole in
     let made = machine_made _ regs mem inv locs m now c.restart.ensures.sound locations cpus (known.head.regs
-        ∙ sym known.as_many) (c.restart_all.ensures.start ∙ ap (map starting) c.as_slice.ensures) roomy in
+    ∙ sym known.as_many) (c.restart_all.ensures.start ∙ ap (map starting) c.as_slice.ensures) roomy in
     let many = c.restart_all.auto.processors ∙ ap length c.deref_mut.ensures.value in
     subst (IsMachine mem inv program locs m) (sym (all_written now _ many c.self.inside.processors.ok.0)) made
 
@@ -49,10 +44,13 @@ returns-clause-state g c =
     let before = c.self.inside.processors.items in
     let now = c.restart_all.new.processors in
     let many = c.restart_all.auto.processors ∙ ap length c.deref_mut.ensures.value in
-    rw (all_written now before many c.self.inside.processors.ok.0, ←
-        c.self.view_is) (ap₂ state_of (c.restart_all.ensures.start ∙ ap (map starting) c.as_slice.ensures)
-        (c.restart.ensures.start ∙ ap (g.M.MemorySystem.start (g.M.MemorySystem.cpus c.self.inside.memory))
-        c.as_slice-2.ensures))
+    rw (
+      all_written now before many c.self.inside.processors.ok.0,
+      ←
+          c.self.view_is,
+    ) (ap₂ state_of (c.restart_all.ensures.start ∙ ap (map starting) c.as_slice.ensures)
+    (c.restart.ensures.start ∙ ap (g.M.MemorySystem.start (g.M.MemorySystem.cpus c.self.inside.memory))
+    c.as_slice-2.ensures))
 
 pub returns-clause-words : goal.returns-clause-words
 returns-clause-words g c = rw (← c.self.view_is) (c.restart.ensures.words ∙ c.as_slice-2.ensures)

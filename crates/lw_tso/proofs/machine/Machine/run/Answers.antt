@@ -1,9 +1,5 @@
-use Rattle.std.proofs.Common.{Some, Err, ap, arith, subst, sym, take, ◌∙◌}
-use Rattle.lw_memory.specs.Memory.{memory_of}
-use Rattle.lw_tso.specs.Machines.{MachineState, EventDone}
-use Rattle.lw_tso.specs.Runs.{MachineRan, Running}
-use Rattle.lw_base.proofs.api.Lists.{at_index}
-use Rattle.lw_base.proofs.api.Replays.{Ran-more}
+use Rattle.lw_tso.proofs.Common.{Some, Err, ap, arith, subst, sym, take, ◌∙◌, memory_of, MachineState}
+use Rattle.lw_tso.proofs.Common.{EventDone, MachineRan, Running, at_index, Ran-more}
 use Rattle.lw_tso.proofs.machine.Machine.run.Goals as goal
 
 pub loop-done-preserved : goal.loop-done-preserved

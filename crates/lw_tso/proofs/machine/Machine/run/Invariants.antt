@@ -1,6 +1,4 @@
-use Rattle.std.proofs.Common.{◌≡◌, length, take}
-use Rattle.lw_memory.specs.Memory.{memory_of}
-use Rattle.lw_tso.specs.Runs.{MachineRan}
+use Rattle.lw_tso.proofs.Common.{◌≡◌, length, take, memory_of, MachineRan}
 use Rattle.lw_tso.proofs.machine.Machine.run.Given as goal
 
 abbrev pub invariant-loop-done : goal.invariant-loop-done

@@ -1,9 +1,5 @@
-use Rattle.std.proofs.Common.{ap, arith, length, map, sym, ◌∙◌}
-use Rattle.std.proofs.lemmas.List.{length-map}
-use Rattle.lw_base.specs.Outcomes.{Final}
-use Rattle.lw_memory.specs.Memory.{memory_of}
-use Rattle.lw_tso.specs.Runs.{Running}
-use Rattle.lw_tso.specs.inner.Views.{processor_of}
+use Rattle.lw_tso.proofs.Common.{ap, arith, length, map, sym, ◌∙◌, length-map, Final, memory_of, Running}
+use Rattle.lw_tso.proofs.Common.{processor_of}
 use Rattle.lw_tso.proofs.Events.{outcome_is}
 use Rattle.lw_tso.proofs.machine.Machine.write_outcome.Goals as goal
 
@@ -21,7 +17,7 @@ write_registers-requires g c =
 pub write_content-requires : goal.write_content-requires
 write_content-requires g c =
     ap (λ (o : Final). length o.words) c.outcome.view_is ∙ (c.requires.words
-        ∙ sym (ap (λ r. length (g.M.MemorySystem.content r.state.memory)) c.self.view_is))
+    ∙ sym (ap (λ r. length (g.M.MemorySystem.content r.state.memory)) c.self.view_is))
 
 pub returns : goal.returns
 returns g c =

@@ -1,5 +1,4 @@
-use Rattle.std.proofs.Common.{ap, refl}
-use Rattle.lw_litmus.specs.Operations.{location_of}
+use Rattle.lw_tso.proofs.Common.{ap, refl, location_of}
 use Rattle.lw_tso.proofs.processor.Processor.carry_out.Goals as goal
 
 pub load-requires-clause-loc : goal.load-requires-clause-loc

@@ -1,0 +1,67 @@
+-- What proofs cite of std, of lower crates and of this crate's definitions, passed on from one place. Declares nothing.
+pub use Rattle.std.proofs.Common.{All, Bool, Contains, Err, IfErr, IsErrAnd, IsSome, List, MatchOption, None}
+pub use Rattle.std.proofs.Common.{Ok, OnOk, Option, Result, Some, SomeIff, [], ap, append-nil, append_assoc}
+pub use Rattle.std.proofs.Common.{ap₂, arith, below_more, bytes_eq, codes, decimal, drop, drop-cons, eq-eqb}
+pub use Rattle.std.proofs.Common.{eqb-true, false, filter, flat_map, get_or, if◌then◌else◌, inl, inr, is_ok}
+pub use Rattle.std.proofs.Common.{length, length-append, map, nat_eq, not, option_map, refl, replicate, rules}
+pub use Rattle.std.proofs.Common.{slice_get, slice_index_or, slice_set, string_bytes, subst, suc, sym, take}
+pub use Rattle.std.proofs.Common.{take-append-drop, take-suc, take_all, true, true≢false, zero, zero-add, zip}
+pub use Rattle.std.proofs.Common.{ℕ, ⊎_elim, ◌*◌, ◌++◌, ◌+◌, ◌-◌, ◌<◌, ◌==◌, ◌∙◌, ◌∷◌, ◌≡◌, ◌≢◌, ◌≤◌, ◌⊎◌}
+pub use Rattle.std.proofs.Math.Seq.{drop-append_seam}
+pub use Rattle.std.proofs.lemmas.Bool.{agree_below_at, and_from, and_parts, cases_Bool, cases_eq, eqb-false}
+pub use Rattle.std.proofs.lemmas.Bool.{false_from_ne_true, false≢true, not-false, not-true, or_cases, or_left}
+pub use Rattle.std.proofs.lemmas.Bool.{or_right}
+pub use Rattle.std.proofs.lemmas.Bool.Decides.{nat_tests}
+pub use Rattle.std.proofs.lemmas.Fmt.{decimal_digit}
+pub use Rattle.std.proofs.lemmas.List.{drop_all, get_or_read, length-map, length-replicate, map-append}
+pub use Rattle.std.proofs.lemmas.List.{set-get_or, take_more}
+pub use Rattle.std.proofs.lemmas.List.Elements.{All-from_recursion, Contains-append_right, Contains-get_or}
+pub use Rattle.std.proofs.lemmas.List.Elements.{Contains-push_cases}
+pub use Rattle.std.proofs.lemmas.List.FromFn.{get_or-range_with_len, length-map-range_with_len}
+pub use Rattle.std.proofs.lemmas.List.FromFn.{length-range_with_len}
+pub use Rattle.std.proofs.lemmas.Option.{get_or_from_slice_get, same_Some, slice_get-get_or, slice_get-map}
+pub use Rattle.std.proofs.lemmas.Option.{slice_get_read, slice_get_within}
+pub use Rattle.std.proofs.lemmas.Str.{IsUtf8-from_ascii}
+pub use Rattle.std.specs.Char.{is_ascii_digit}
+pub use Rattle.std.specs.Cmp.{unsigned_Decides}
+pub use Rattle.std.specs.Cmp.Lexicographic.{pointwise, pointwise_decides}
+pub use Rattle.std.specs.List.{AllByRecursion, list_all, list_any, range_with_len}
+pub use Rattle.lw_base.specs.Characters.{IsCutAt, Lacks, begins, digit, is_blank, is_key_byte, is_space}
+pub use Rattle.lw_base.specs.Characters.{is_word_byte}
+pub use Rattle.lw_base.specs.ConditionTexts.{assignment, condition_text, in_parentheses, is_joined, is_or}
+pub use Rattle.lw_base.specs.ConditionTexts.{parenthesized_if, proposition_text, quantifier_text, site_text}
+pub use Rattle.lw_base.specs.Entries.{IsEntryOf}
+pub use Rattle.lw_base.specs.Formula.{And, Formula, No, Not, Or, Reg_is, Word_is, Yes, nodes}
+pub use Rattle.lw_base.specs.Heads.{TestHead, head_of, with_table}
+pub use Rattle.lw_base.specs.Languages.{arch_word}
+pub use Rattle.lw_base.specs.Limits.{most_locations, most_threads, registers}
+pub use Rattle.lw_base.specs.Lists.{EachOnce}
+pub use Rattle.lw_base.specs.Names.{IsLocation, IsName, IsTable, IsTestName, IsWordText, are_digits}
+pub use Rattle.lw_base.specs.Names.{is_numbered, is_reserved, keywords, x86_registers}
+pub use Rattle.lw_base.specs.Outcomes.{Final, IsOutcomeOf, final_cmp}
+pub use Rattle.lw_base.specs.Propositions.{formula_of}
+pub use Rattle.lw_base.specs.Refusals.{NoSuch, NoneRead}
+pub use Rattle.lw_base.specs.Registers.{IsRegister, register_name, without_case}
+pub use Rattle.lw_base.specs.Replays.{EndsAs, Ran}
+pub use Rattle.lw_base.specs.Schedules.{HasParts, HasShape, IsCpu, IsEvent, IsFaulty, IsSchedule, event_word}
+pub use Rattle.lw_base.specs.Schedules.{pieces, schedule_text, words}
+pub use Rattle.lw_base.specs.SeenLists.{all_registers, locations, same_seen, thread_registers}
+pub use Rattle.lw_base.specs.Stops.{stop_name, stop_number}
+pub use Rattle.lw_base.specs.Sums.{sum_of}
+pub use Rattle.lw_base.specs.Tables.{contains_name, index_of, with_name, with_names}
+pub use Rattle.lw_base.specs.Texts.{joined}
+pub use Rattle.lw_base.specs.Threads.{code_of, value_of}
+pub use Rattle.lw_base.specs.Types.{Bytes, CellGrid, Cells, NameTable, TokenList}
+pub use Rattle.lw_base.specs.WellFormed.{Ascending, ComesBefore, HasLocations, IsRegisterNumber, IsSeen}
+pub use Rattle.lw_base.specs.WellFormed.{IsWellFormedHead, IsWordNumber, SpeaksOf}
+pub use Rattle.lw_base.specs.declared.event.Event.{Event}
+pub use Rattle.lw_base.specs.declared.event.Event.TheVariants.{Drain, Evict, Step}
+pub use Rattle.lw_base.specs.declared.fault.ScheduleCause.{ScheduleCause}
+pub use Rattle.lw_base.specs.declared.fault.ScheduleCause.TheVariants.{Cpu, Memory, Word}
+pub use Rattle.lw_base.specs.declared.head.Arch.{Arch}
+pub use Rattle.lw_base.specs.declared.head.Arch.TheVariants.{Source, X86}
+pub use Rattle.lw_base.specs.declared.head.Seen.{Seen}
+pub use Rattle.lw_base.specs.declared.head.Seen.TheVariants.{Location, Register}
+pub use Rattle.lw_base.specs.declared.proposition.Prop.{Prop}
+pub use Rattle.lw_base.specs.declared.stop.Stop.{Stop}
+pub use Rattle.lw_base.specs.inner.Digits.{HasBadDigits}

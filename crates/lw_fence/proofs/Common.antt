@@ -1,0 +1,68 @@
+-- What proofs cite of std, of lower crates and of this crate's definitions, passed on from one place. Declares nothing.
+pub use Rattle.std.proofs.Common.{All, Bool, Err, IfOk, IsOk, IsTrue, List, None, Ok, Option, Result, Some}
+pub use Rattle.std.proofs.Common.{[], add-one, add_comm, ap, append-nil, append_assoc, ap₂, arith, drop}
+pub use Rattle.std.proofs.Common.{drop-cons, eqb-true, false, get_or, get_or-set_other, get_or-set_same}
+pub use Rattle.std.proofs.Common.{if◌then◌else◌, inl, inr, is_ok, le-leb, leb-true, length, length-append}
+pub use Rattle.std.proofs.Common.{length-set, map, nat_le, not, refl, replicate, set, set-set, slice_get}
+pub use Rattle.std.proofs.Common.{slice_index, slice_index_or, slice_set, subst, subst₂, suc, sym, take, true}
+pub use Rattle.std.proofs.Common.{true≢false, zero, ℕ, ⊎_elim, ◌%◌, ◌&&◌, ◌*◌, ◌++◌, ◌+◌, ◌-◌, ◌<◌, ◌==◌, ◌^◌}
+pub use Rattle.std.proofs.Common.{◌||◌, ◌↔◌, ◌∙◌, ◌∷◌, ◌≡◌, ◌≢◌, ◌≤◌, ◌⊎◌}
+pub use Rattle.std.proofs.Math.ListN.{length-replicate}
+pub use Rattle.std.proofs.Math.Seq.{get_or-append_seam, take-append_seam}
+pub use Rattle.std.proofs.lemmas.Bool.{and_from, and_parts, cases_eq, cases_lt, eqb-false, false≢true}
+pub use Rattle.std.proofs.lemmas.List.{drop_all, drop_more, get_or_past, get_or_read, length-map, map-append}
+pub use Rattle.std.proofs.lemmas.List.{nil_from_length, replicate-append-replicate, set-get_or}
+pub use Rattle.std.proofs.lemmas.List.Elements.{All-cons, All-from_recursion, All-nil}
+pub use Rattle.std.proofs.lemmas.Option.{get_or_from_slice_get, none-some, same_Some, slice_get-get_or}
+pub use Rattle.std.proofs.lemmas.Option.{slice_get_past, slice_get_read, slice_get_within}
+pub use Rattle.std.specs.List.{AllByRecursion}
+pub use Rattle.std.specs.Option.{ForSome, option_map_or}
+pub use Rattle.lw_base.proofs.Common.{Final, IsRegisterNumber, IsWellFormedHead, IsWordNumber, TestHead}
+pub use Rattle.lw_base.proofs.Common.{code_of, most_threads, sum_of, value_of}
+pub use Rattle.lw_base.proofs.api.Lists.{at_index, fellows_after, get_append, get_some, got_set_same, set_own}
+pub use Rattle.lw_base.proofs.api.Replays.{Ran-append}
+pub use Rattle.lw_base.proofs.api.SideBySide.{got_map, same_maps, zip_pass, zip_passes}
+pub use Rattle.lw_base.specs.declared.event.Event.{Event}
+pub use Rattle.lw_base.specs.declared.event.Event.TheVariants.{Drain, Evict, Step}
+pub use Rattle.lw_base.specs.declared.head.Arch.TheVariants.{X86}
+pub use Rattle.lw_base.specs.declared.operand.Operand.{Operand}
+pub use Rattle.lw_base.specs.declared.operand.Operand.TheVariants.{Number, Register}
+pub use Rattle.lw_base.specs.declared.stop.Stop.{Stop}
+pub use Rattle.lw_base.specs.declared.stop.Stop.TheVariants.{FenceWaits, SwapWaits}
+pub use Rattle.lw_litmus.proofs.Common.{Follows, IsStatement, IsThread, IsWellFormedProgram}
+pub use Rattle.lw_litmus.proofs.Common.{IsWellFormedSource, Leads, ProgramTest, SourceTest, goes_on, is_load}
+pub use Rattle.lw_litmus.proofs.Common.{is_store, location_of, operand_numbers, operand_registers, program_of}
+pub use Rattle.lw_litmus.proofs.Common.{registers_of, source, source_of, source_operation, target_of, x86}
+pub use Rattle.lw_litmus.specs.declared.instr.Instr.{Instr}
+pub use Rattle.lw_litmus.specs.declared.operation.Operation.{Operation}
+pub use Rattle.lw_litmus.specs.declared.stmt.Stmt.{Stmt}
+pub use Rattle.lw_litmus.specs.declared.stmt.Stmt.TheVariants.{FetchAdd, Goto, IfEq, IfNe, Load, Set, Store}
+pub use Rattle.lw_litmus.specs.declared.stmt.Stmt.TheVariants.{Sum, Swap}
+pub use Rattle.lw_interleaving.proofs.Common.{Answers, RunsTo, SourceOutcome, SourceRan, SourceRunState}
+pub use Rattle.lw_interleaving.proofs.Common.{State, at_next, carried_out, outcome_of, source_step, start_of}
+pub use Rattle.lw_interleaving.proofs.Common.{step_of, thread_after, words_after}
+pub use Rattle.lw_interleaving.proofs.api.Exchange.{Stepped, leads, state_after, state_of, stepped}
+pub use Rattle.lw_interleaving.proofs.api.Exchange.{thread_alone, words_alone}
+pub use Rattle.lw_interleaving.proofs.api.Runs.{possible}
+pub use Rattle.lw_interleaving.specs.declared.thread.Thread.{Thread}
+pub use Rattle.lw_memory.proofs.Common.{Invariant, IsPossible, Lawful, Memory, Served, WordsServe, answer_of}
+pub use Rattle.lw_memory.proofs.Common.{content_after, flat}
+pub use Rattle.lw_memory.specs.declared.system.LineState.TheVariants.{I}
+pub use Rattle.lw_memory.specs.declared.system.Request.{Request}
+pub use Rattle.lw_tso.proofs.Common.{Act, Adds, CanEnd, EventDone, Evicts, Goes, Loads, MachineOutcome}
+pub use Rattle.lw_tso.proofs.Common.{MachineRan, MachineState, Processor, Refused, Replays, Stores, Swaps}
+pub use Rattle.lw_tso.proofs.Common.{cpu_of, drain_act, event_act, getting, going_on, is_done, is_final}
+pub use Rattle.lw_tso.proofs.Common.{jumping, load_act, machine_outcome, machine_start, newest, once_empty}
+pub use Rattle.lw_tso.proofs.Common.{starting, step_act}
+pub use Rattle.lw_tso.proofs.api.Effects.{Did, Does, leads_from, leads_to, no_eviction, state}
+pub use Rattle.lw_tso.proofs.api.Endings.{can_end}
+pub use Rattle.lw_tso.proofs.api.Operations.{Comes, operation_comes}
+pub use Rattle.lw_fence.specs.Compiling.{IsCompiled, IsCompiledThread, compared, instrs_of, moved, row, rows}
+pub use Rattle.lw_fence.specs.Compiling.{starts_from}
+pub use Rattle.lw_fence.specs.Fences.{HasOperation, Is, IsBehindStore, IsFlowPath, NeedsFence}
+pub use Rattle.lw_fence.specs.Fences.{lets_stores_wait}
+pub use Rattle.lw_fence.specs.Schedules.{after_step, schedule, statement_events, thread_events}
+pub use Rattle.lw_fence.specs.Unfenced.{IsCompiledWith, IsThreadWith}
+pub use Rattle.lw_fence.specs.declared.row.Row.{Row}
+pub use Rattle.lw_fence.specs.declared.row.Row.TheVariants.{One, Two}
+pub use Rattle.lw_fence.specs.inner.Marks.{marked_behind, may_wait, with_mark}

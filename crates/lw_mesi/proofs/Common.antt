@@ -1,0 +1,36 @@
+-- What proofs cite of std, of lower crates and of this crate's definitions, passed on from one place. Declares nothing.
+pub use Rattle.std.proofs.Common.{Bool, Err, List, None, Ok, OnErr, OnOk, Option, Result, Some, [], ap}
+pub use Rattle.std.proofs.Common.{append-nil, ap₂, arith, bit_and, bit_or, drop, eq-eqb, eqb, eqb-true, false}
+pub use Rattle.std.proofs.Common.{get_or, get_or-set_other, get_or-set_same, if◌then◌else◌, inl, inr, is_ok}
+pub use Rattle.std.proofs.Common.{length, length-set, map, ne_eqb, refl, replicate, set, slice_index_or}
+pub use Rattle.std.proofs.Common.{subst, suc, sym, take, take_all, true, true≢false, w8, zero, zero-add, ℕ}
+pub use Rattle.std.proofs.Common.{◌%◌, ◌*◌, ◌++◌, ◌-◌, ◌/◌, ◌<◌, ◌==◌, ◌^◌, ◌∙◌, ◌∷◌, ◌≡◌, ◌≢◌, ◌≤◌, ◌⊎◌}
+pub use Rattle.std.proofs.lemmas.Bool.{cases_lt, eqb-false, or_from, or_left, or_right, true_from_ne_false}
+pub use Rattle.std.proofs.lemmas.List.{drop_all, get_or_past, length-map, map_more, take_more_set}
+pub use Rattle.std.proofs.lemmas.List.FromFn.{fill_by_all, get_or-map-range_with_len}
+pub use Rattle.std.proofs.lemmas.List.FromFn.{length-map-range_with_len}
+pub use Rattle.std.proofs.lemmas.Nat.{or_lt, pow_below}
+pub use Rattle.std.proofs.lemmas.Nat.Bits.{bit_at_clear_other, bit_at_clear_same, bit_at_set_other}
+pub use Rattle.std.proofs.lemmas.Nat.Bits.{bit_at_set_same, shr_and_one}
+pub use Rattle.std.specs.Int.{bit_at}
+pub use Rattle.lw_base.proofs.Common.{most_locations, most_threads}
+pub use Rattle.lw_memory.proofs.Common.{is_held}
+pub use Rattle.lw_memory.specs.declared.system.LineState.TheVariants.{E, M, O, S}
+pub use Rattle.lw_mesi.specs.CacheLines.{CacheLine, Caches, Copy, Exclusive, Invalid, Modified, Owned, Shared}
+pub use Rattle.lw_mesi.specs.CacheLines.{content_of, contents_of, copy_of, copy_word, empty_caches, letter_of}
+pub use Rattle.lw_mesi.specs.CacheLines.{line_at, unheld_line}
+pub use Rattle.lw_mesi.specs.Coherence.{HasStatesOf, IsDirty, IsKept, IsKeptLine, IsOnlyCopy, IsStateOf}
+pub use Rattle.lw_mesi.specs.Coherence.{caches_invariant}
+pub use Rattle.lw_mesi.specs.Protocols.{caches_by, moesi_on_other_get_s, protocol_name, table_of}
+pub use Rattle.lw_mesi.specs.Snooping.{ProtocolTable, any_held, copy_from, line_evicted, line_to_read}
+pub use Rattle.lw_mesi.specs.Snooping.{line_to_write, line_written, on_evict, on_load, on_write}
+pub use Rattle.lw_mesi.specs.declared.cache_line.PackedCacheLine.TheInside.{Inside}
+pub use Rattle.lw_mesi.specs.declared.protocol.Protocol.{Protocol}
+pub use Rattle.lw_mesi.specs.declared.protocol.Protocol.TheVariants.{Mesi, Moesi}
+pub use Rattle.lw_mesi.specs.inner.Packed.{IsPacked, copy_at, owner_copy, sharer_copy, unpacked}
+pub use Rattle.lw_mesi.specs.inner.Places.{at_each, is_owner, members_of, nobody}
+pub use Rattle.lw_mesi.specs.laws.Coherent.{at_place, clean, copy_in, copy_map, dirty, no_word, put_here}
+pub use Rattle.lw_mesi.specs.laws.Coherent.{put_there}
+pub use Rattle.lw_mesi.specs.laws.ProtocolLaws.{evict_kept, kept_line, load_kept, set_kept, write_kept}
+pub use Rattle.lw_mesi.specs.laws.ProtocolRows.{invalid_state}
+pub use Rattle.lw_mesi.specs.laws.Rows.{from_word, none_held}

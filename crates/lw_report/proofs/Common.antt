@@ -1,0 +1,60 @@
+-- What proofs cite of std, of lower crates and of this crate's definitions, passed on from one place. Declares nothing.
+pub use Rattle.std.proofs.Common.{All, AllPairs, Bool, Contains, Equal, Greater, IsPermutation, IsSorted}
+pub use Rattle.std.proofs.Common.{Less, List, Ordering, Some, [], ap, append-nil, append_assoc, arith, codes}
+pub use Rattle.std.proofs.Common.{cond, decimal, drop, eqb-true, false, filter, flat_map, get_or, get_or-take}
+pub use Rattle.std.proofs.Common.{inl, inr, is_lt, length, length-take, lt-ltb, map, min, nat_cmp, nat_eq}
+pub use Rattle.std.proofs.Common.{not, refl, rules, slice_get, slice_index, slice_index_or, string_bytes}
+pub use Rattle.std.proofs.Common.{subst, suc, sym, take, take_all, true, true≢false, zero, zero-add, zip, ℕ}
+pub use Rattle.std.proofs.Common.{◌&&◌, ◌++◌, ◌+◌, ◌-◌, ◌<◌, ◌==◌, ◌||◌, ◌↔◌, ◌∙◌, ◌∷◌, ◌≡◌, ◌≤◌, ◌⊎◌}
+pub use Rattle.std.proofs.Math.Nat.{min-le_left, min-le_right}
+pub use Rattle.std.proofs.lemmas.Bool.{cases_Bool, cases_lt, or_cases, or_right}
+pub use Rattle.std.proofs.lemmas.Cmp.{nat_cmp_total, nat_list_cmp_total, on_total, then_total, tied_itself}
+pub use Rattle.std.proofs.lemmas.Fmt.{decimal_digit}
+pub use Rattle.std.proofs.lemmas.Fn.{dedup_same}
+pub use Rattle.std.proofs.lemmas.Grind.{get_or_default_zero}
+pub use Rattle.std.proofs.lemmas.List.{get_or-map, length-map, map-append, take_more}
+pub use Rattle.std.proofs.lemmas.List.Elements.{All-cons, All-contains, All-from_recursion, All-get_or}
+pub use Rattle.std.proofs.lemmas.List.Elements.{All-head, All-nil, All-push, All-same, All-tail, All-weaker}
+pub use Rattle.std.proofs.lemmas.List.Elements.{Contains-append_left, Contains-get_or, Contains-push}
+pub use Rattle.std.proofs.lemmas.List.Elements.{filter-append}
+pub use Rattle.std.proofs.lemmas.List.Filters.{length-filter_both, length-filter_more}
+pub use Rattle.std.proofs.lemmas.List.FromFn.{get_or-range_with_len, map-range_with_len_more}
+pub use Rattle.std.proofs.lemmas.List.Kept.{AllPairs-cons, Any-dedup, Contains-from_dedup}
+pub use Rattle.std.proofs.lemmas.List.Kept.{IsStrictlySortedBy-dedup}
+pub use Rattle.std.proofs.lemmas.List.Sorted.{All-permutation, Contains-permutation, ranks_by, sorted_far}
+pub use Rattle.std.proofs.lemmas.Map.Entries.{length-keys_of}
+pub use Rattle.std.proofs.lemmas.Map.Lookups.{exact_bytes}
+pub use Rattle.std.proofs.lemmas.Map.Text.{is_eq-slice_cmp}
+pub use Rattle.std.proofs.lemmas.Option.{get_or_from_slice_get, same_Some, slice_get-get_or, slice_get_within}
+pub use Rattle.std.proofs.lemmas.Slice.Zip.{get_or-zip, length-zip}
+pub use Rattle.std.specs.Cmp.{IsTotalOrder, bool_cmp_total}
+pub use Rattle.std.specs.Cmp.Lexicographic.{on_texts_equal, other_text, same_text, slice_cmp}
+pub use Rattle.std.specs.Int.{from_bool}
+pub use Rattle.std.specs.List.{AllByRecursion, dedup, dedup_from, range_with_len}
+pub use Rattle.std.specs.Ordering.{ordering_reverse, ordering_then}
+pub use lib.Pointwise.{pointwise}
+pub use Rattle.lw_base.proofs.Common.{And, Bytes, Final, Formula, IsEvent, IsOutcomeOf, IsSeen, NameTable}
+pub use Rattle.lw_base.proofs.Common.{Not, Or, Reg_is, SpeaksOf, TestHead, Word_is, all_registers}
+pub use Rattle.lw_base.proofs.Common.{condition_text, formula_of, head_of, joined, locations, most_threads}
+pub use Rattle.lw_base.proofs.Common.{register_name, same_seen, schedule_text, thread_registers}
+pub use Rattle.lw_base.proofs.api.Elements.{all_filter}
+pub use Rattle.lw_base.proofs.api.ListedAgain.{has_left, has_location, has_register, has_right, has_seen}
+pub use Rattle.lw_base.proofs.api.ListedAgain.{same_seen_is, same_seen_itself}
+pub use Rattle.lw_base.proofs.api.SeenLists.{all_seen}
+pub use Rattle.lw_base.proofs.api.Writing.{items_all, items_more, pushed, then_written, written_as}
+pub use Rattle.lw_base.specs.declared.event.Event.{Event}
+pub use Rattle.lw_base.specs.declared.head.Seen.{Seen}
+pub use Rattle.lw_base.specs.declared.head.Seen.TheVariants.{Location, Register}
+pub use Rattle.lw_listing.specs.Listings.{OutcomeEntries, outcomes_of, schedules_of}
+pub use Rattle.lw_report.specs.Judgement.{MeansOfAll, negative, positive, verdict_of}
+pub use Rattle.lw_report.specs.Observed.{is_named, is_observed, observed, projected}
+pub use Rattle.lw_report.specs.Reports.{IsReport, IsScheduleList, claim_line, count_line, judgement_lines}
+pub use Rattle.lw_report.specs.Reports.{kind_text, observation_line, observation_text, report_text}
+pub use Rattle.lw_report.specs.Reports.{schedule_list_text, scheduled, scheduled_lines, state_line}
+pub use Rattle.lw_report.specs.Reports.{title_line, verdict_text, word_text}
+pub use Rattle.lw_report.specs.States.{AreListedStates, AreStatesOf, IsSmallestOf, ListedState, Shown}
+pub use Rattle.lw_report.specs.States.{ShowsFirst, shown, shown_of}
+pub use Rattle.lw_report.specs.Truth.{final_word, is_true}
+pub use Rattle.lw_report.specs.declared.judgement.Claim.{Claim}
+pub use Rattle.lw_report.specs.inner.Gathered.{AreFirstStates, AreStatesOfFirst, Shows, state_at, state_cmp}
+pub use Rattle.lw_report.specs.inner.Labels.{gap, label, labelled_word, labelled_words, labels, schedule_line}

@@ -1,0 +1,110 @@
+-- What proofs cite of std, of lower crates and of this crate's definitions, passed on from one place. Declares nothing.
+pub use Rattle.std.proofs.Common.{All, Bool, Err, IfNone, IfSome, IsAscii, IsErrAnd, IsUtf8, List}
+pub use Rattle.std.proofs.Common.{MatchOption, MatchResult, None, Ok, Option, Result, Some, [], add-one, ap}
+pub use Rattle.std.proofs.Common.{append-nil, append_assoc, arith, bytes_eq, codes, decimal, drop, drop-cons}
+pub use Rattle.std.proofs.Common.{eqb-true, false, filter, flat_map, fold, get_or, get_or-take, if◌then◌else◌}
+pub use Rattle.std.proofs.Common.{inl, inr, is_some, length, length-append, length-drop, length-take}
+pub use Rattle.std.proofs.Common.{ltb-false, ltb-true, map, map-id, mul-le-mul_left, mul_comm, nat_lt, ne_eqb}
+pub use Rattle.std.proofs.Common.{not, option_and_then, option_map, refl, reverse, slice_get, slice_index_or}
+pub use Rattle.std.proofs.Common.{sub-one, subst, suc, sym, take, take-append-drop, take_all, take_at, true}
+pub use Rattle.std.proofs.Common.{true≢false, zero, zero-add, ℕ, ◌&&◌, ◌*◌, ◌++◌, ◌+◌, ◌-◌, ◌<◌, ◌==◌, ◌^◌}
+pub use Rattle.std.proofs.Common.{◌||◌, ◌∙◌, ◌∷◌, ◌≡◌, ◌≢◌, ◌≤◌, ◌⊎◌}
+pub use Rattle.std.proofs.Math.ListN.{get_or-append}
+pub use Rattle.std.proofs.Math.Path.{fun_ext}
+pub use Rattle.std.proofs.Math.Seq.{drop-append_seam, take-append_seam}
+pub use Rattle.std.proofs.lemmas.Bool.{and_parts, cases_Bool, eqb-false, false_from_ne_true, false≢true}
+pub use Rattle.std.proofs.lemmas.Bool.{not-false, not-true, or_cases, or_parts}
+pub use Rattle.std.proofs.lemmas.Bool.Decides.{nat_tests}
+pub use Rattle.std.proofs.lemmas.Fmt.{decimal_is_IsNumeral, decimal_nonempty, length-decimal-le}
+pub use Rattle.std.proofs.lemmas.Grind.{flat_map-append}
+pub use Rattle.std.proofs.lemmas.List.{append_cancel_left, drop_all, length-map, length-reverse, map-append}
+pub use Rattle.std.proofs.lemmas.List.{map_push, nil_from_length, take_more}
+pub use Rattle.std.proofs.lemmas.List.Elements.{All-from_recursion, All-nil, filter-append, filter_map-append}
+pub use Rattle.std.proofs.lemmas.List.Folds.{fold_stays, list_all-append, list_all_more, list_any_at}
+pub use Rattle.std.proofs.lemmas.List.Folds.{list_any_more}
+pub use Rattle.std.proofs.lemmas.List.FromFn.{get_or-range_with_len, length-map-range_with_len}
+pub use Rattle.std.proofs.lemmas.List.FromFn.{length-range_with_len, map-range_with_len_more}
+pub use Rattle.std.proofs.lemmas.List.Sums.{fold-append}
+pub use Rattle.std.proofs.lemmas.Option.{MatchOption-at_none, get_or_from_slice_get, slice_get-get_or}
+pub use Rattle.std.proofs.lemmas.Option.{slice_get-map, slice_get_read, slice_get_within}
+pub use Rattle.std.proofs.lemmas.Result.{MatchResult-weaker}
+pub use Rattle.std.proofs.lemmas.Slice.Eq.{bytes_eq-Decides}
+pub use Rattle.std.proofs.lemmas.Str.{IsUtf8-append, IsUtf8-from_ascii, IsUtf8-nil}
+pub use Rattle.std.proofs.lemmas.Str.Parse.{digit_from_value}
+pub use Rattle.std.specs.Char.{digit_value, is_ascii_digit, is_ascii_graphic}
+pub use Rattle.std.specs.List.{AllByRecursion, cons_option, list_all, list_any, range_with_len}
+pub use Rattle.std.specs.Str.Parse.{AllDigits, digits_value_after}
+pub use Rattle.lw_base.proofs.Common.{And, Bytes, CellGrid, Cells, EachOnce, Formula, IsLocation, IsName}
+pub use Rattle.lw_base.proofs.Common.{IsRegister, IsSeen, IsTestName, IsWellFormedHead, IsWordNumber}
+pub use Rattle.lw_base.proofs.Common.{NameTable, No, NoSuch, NoneRead, Not, Or, Reg_is, SpeaksOf, TokenList}
+pub use Rattle.lw_base.proofs.Common.{Word_is, Yes, all_registers, arch_word, assignment, begins}
+pub use Rattle.lw_base.proofs.Common.{contains_name, formula_of, head_of, in_parentheses, index_of, is_blank}
+pub use Rattle.lw_base.proofs.Common.{is_joined, is_key_byte, is_or, is_reserved, is_space, is_word_byte}
+pub use Rattle.lw_base.proofs.Common.{locations, most_threads, nodes, parenthesized_if, proposition_text}
+pub use Rattle.lw_base.proofs.Common.{quantifier_text, register_name, same_seen, site_text, thread_registers}
+pub use Rattle.lw_base.proofs.Common.{with_name, with_names}
+pub use Rattle.lw_base.proofs.api.Blanks.{all_ascii, any_all, blank_all, same_byte, word_ascii}
+pub use Rattle.lw_base.proofs.api.Elements.{all_append, all_filter, all_map, all_mapped, all_of_range}
+pub use Rattle.lw_base.proofs.api.Elements.{all_parts, all_unmap, all_weaker, each_of}
+pub use Rattle.lw_base.proofs.api.GrowingTables.{contains_name-with_name, contains_name-with_names}
+pub use Rattle.lw_base.proofs.api.GrowingTables.{index_of-with_names, index_of-within, once-along}
+pub use Rattle.lw_base.proofs.api.GrowingTables.{with_name-grows, with_names-append, with_names-longer}
+pub use Rattle.lw_base.proofs.api.Lists.{get_some}
+pub use Rattle.lw_base.proofs.api.Registers.{register_unique}
+pub use Rattle.lw_base.proofs.api.SeenLists.{all_ascending, all_seen, ascending_filter}
+pub use Rattle.lw_base.proofs.api.Tables.{IsInTable, index_of-again, index_of-at}
+pub use Rattle.lw_base.specs.declared.head.Arch.{Arch}
+pub use Rattle.lw_base.specs.declared.head.Arch.TheVariants.{Source, X86}
+pub use Rattle.lw_base.specs.declared.head.Quant.{Quant}
+pub use Rattle.lw_base.specs.declared.head.Quant.TheVariants.{Exists, Forall, NotExists}
+pub use Rattle.lw_base.specs.declared.head.Seen.{Seen}
+pub use Rattle.lw_base.specs.declared.head.Seen.TheVariants.{Location, Register}
+pub use Rattle.lw_base.specs.declared.proposition.Prop.{Prop}
+pub use Rattle.lw_text.specs.Causes.{told}
+pub use Rattle.lw_text.specs.Conditions.{Always, AtomSyntax, Condition, Holds, IsAtom, IsTerminal, Listed}
+pub use Rattle.lw_text.specs.Conditions.{Never, Quantified, Terminals, begins_word, resolved, site_of}
+pub use Rattle.lw_text.specs.Conditions.{sites_in}
+pub use Rattle.lw_text.specs.Frames.{Block, EntrySyntax, HasFrame, IsEntry, IsNoTest, Parts, TestFrame}
+pub use Rattle.lw_text.specs.Frames.{TestSyntax, head_of_syntax, listed_in, made_of, sites_of, table, word_of}
+pub use Rattle.lw_text.specs.Headings.{Heading, KeyLine, Named, Note, Notes, Quoted, note}
+pub use Rattle.lw_text.specs.Lists.{Chain, Ended, Separated, Until}
+pub use Rattle.lw_text.specs.PlacedCells.{CellsFrom, HasCells, HasRows, PlacedCell, RowsFrom, texts_of_cells}
+pub use Rattle.lw_text.specs.PlacedCells.{texts_of_grid}
+pub use Rattle.lw_text.specs.PlacedTokens.{PlacedToken, PlacedTokens, texts_of_tokens}
+pub use Rattle.lw_text.specs.Places.{IsWithin, all_texts, cell_texts, cells_texts, height, placed}
+pub use Rattle.lw_text.specs.Places.{placed_cell, placed_cells, placed_row, placed_tokens}
+pub use Rattle.lw_text.specs.Propositions.{Atom, Close, Conjunction, ConjunctionLevel, Derives, Disjunction}
+pub use Rattle.lw_text.specs.Propositions.{DisjunctionLevel, HasFewNodes, IsProposition, Level, Negation}
+pub use Rattle.lw_text.specs.Propositions.{Open, PartLevel, Terminal, and, atom, conjunction, is_node}
+pub use Rattle.lw_text.specs.Propositions.{negated, or, parens, part}
+pub use Rattle.lw_text.specs.Rows.{Header, Names, Row, RowCells, Rows, begins_stop, column, columns}
+pub use Rattle.lw_text.specs.Rows.{ends_cell, thread_name}
+pub use Rattle.lw_text.specs.Sites.{HasRoomFor, HasRoomForName, InMemory, InThread, IsSite, SiteSyntax}
+pub use Rattle.lw_text.specs.Sites.{ThreadAllowed, ThreadExists, Value, seen_in, site_name, site_names}
+pub use Rattle.lw_text.specs.Sites.{with_sites}
+pub use Rattle.lw_text.specs.Spans.{Leaves, Spans, texts}
+pub use Rattle.lw_text.specs.Tokens.{Comment, Digits, First, IsKind, IsNumber, IsSymbol, IsToken, IsWord}
+pub use Rattle.lw_text.specs.Tokens.{Tokens, Trivia, begins_mark, begins_pair, begins_trivia, blank, closed}
+pub use Rattle.lw_text.specs.Tokens.{comment, is_pair, is_single, nested, none, opens_comment, other, pairs}
+pub use Rattle.lw_text.specs.Tokens.{singles}
+pub use Rattle.lw_text.specs.Views.{MovesOn, frame_of, left, remaining}
+pub use Rattle.lw_text.specs.declared.block.Entry.{Entry}
+pub use Rattle.lw_text.specs.declared.cell.Cell.{Cell}
+pub use Rattle.lw_text.specs.declared.cursor.Cursor.{Cursor}
+pub use Rattle.lw_text.specs.declared.fault.Cause.TheVariants.{Memory}
+pub use Rattle.lw_text.specs.declared.fault.Fault.{Fault}
+pub use Rattle.lw_text.specs.declared.fault.Refusal.{Refusal}
+pub use Rattle.lw_text.specs.declared.parts.Body.{Body}
+pub use Rattle.lw_text.specs.declared.proposition_reader.PropositionReader.{PropositionReader}
+pub use Rattle.lw_text.specs.declared.site.Site.{Site}
+pub use Rattle.lw_text.specs.declared.token.Token.{Token}
+pub use Rattle.lw_text.specs.inner.Pending.{BeforePart, BehindPart, Pending, ReaderState, after_and, after_or}
+pub use Rattle.lw_text.specs.inner.Pending.{ands_of, begins_part, begun, group_of, negations, opened, ors_of}
+pub use Rattle.lw_text.specs.inner.Pending.{said, standing, state_behind, state_of, with_not}
+pub use Rattle.lw_text.specs.inner.Resolved.{HasSyntax, IsIn, TerminalIn, is_allowed, is_listed, named}
+pub use Rattle.lw_text.specs.inner.Resolved.{named_entry, named_terminal, resolved_head, seen_of, syntax_of}
+pub use Rattle.lw_text.specs.inner.Resolved.{thread_exists, word_at}
+pub use Rattle.lw_text.specs.inner.Taken.{Fits, NoCondition, NoProposition, TakenBlock, TakenCell}
+pub use Rattle.lw_text.specs.inner.Taken.{TakenCondition, TakenList, TakenProposition, TakenSite}
+pub use Rattle.lw_text.specs.inner.Taken.{TakenTerminal}
+pub use Rattle.lw_text.specs.inner.Terminals.{terminal_of}

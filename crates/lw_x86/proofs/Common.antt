@@ -1,0 +1,106 @@
+-- What proofs cite of std, of lower crates and of this crate's definitions, passed on from one place. Declares nothing.
+pub use Rattle.std.proofs.Common.{Bool, Contains, IsAscii, IsUtf8, List, None, OnOk, Option, Result, Some, []}
+pub use Rattle.std.proofs.Common.{ap, append-nil, append_assoc, arith, bytes_eq, codes, decimal, drop, eq-eqb}
+pub use Rattle.std.proofs.Common.{eqb-true, false, filter, filter_map, flat_map, fold, get_or, if◌then◌else◌}
+pub use Rattle.std.proofs.Common.{inl, inr, is_ok, length, length-append, length-take, ltb-false, ltb-true}
+pub use Rattle.std.proofs.Common.{map, max, nat_cmp, not, option_map, refl, rules, slice_get, slice_index}
+pub use Rattle.std.proofs.Common.{slice_index_or, string_bytes, subst, suc, sym, take, take_all, true, zero}
+pub use Rattle.std.proofs.Common.{ℕ, ◌&&◌, ◌*◌, ◌++◌, ◌+◌, ◌-◌, ◌<◌, ◌==◌, ◌^◌, ◌||◌, ◌∙◌, ◌∷◌, ◌≡◌, ◌≤◌, ◌⊎◌}
+pub use Rattle.std.proofs.lemmas.Bool.{agree_below_at, and_parts, cases_Bool, cases_lt, eqb-false}
+pub use Rattle.std.proofs.lemmas.Bool.{false_from_ne_true}
+pub use Rattle.std.proofs.lemmas.Bool.Decides.{nat_tests}
+pub use Rattle.std.proofs.lemmas.Fmt.{decimal_digit, decimal_injective, decimal_nonempty}
+pub use Rattle.std.proofs.lemmas.Grind.{common_steps, flat_map-append}
+pub use Rattle.std.proofs.lemmas.List.{length-map, map-append, take_more}
+pub use Rattle.std.proofs.lemmas.List.Elements.{All-contains, All-from_recursion, All-get_or}
+pub use Rattle.std.proofs.lemmas.List.Elements.{Contains-append_right, filter_agree, filter_map-append}
+pub use Rattle.std.proofs.lemmas.List.Elements.{recursion_from_All}
+pub use Rattle.std.proofs.lemmas.List.Folds.{list_any_at, list_any_none}
+pub use Rattle.std.proofs.lemmas.List.FromFn.{fill_by_all, get_or-map-range_with_len}
+pub use Rattle.std.proofs.lemmas.List.FromFn.{length-map-range_with_len}
+pub use Rattle.std.proofs.lemmas.List.Sums.{fold-append}
+pub use Rattle.std.proofs.lemmas.Map.Views.{any-filter_same}
+pub use Rattle.std.proofs.lemmas.Option.{get_or_from_slice_get, slice_get-get_or, slice_get-map}
+pub use Rattle.std.proofs.lemmas.Option.{slice_get_past, slice_get_read, slice_get_within}
+pub use Rattle.std.proofs.lemmas.Slice.Eq.{bytes_eq-Decides}
+pub use Rattle.std.proofs.lemmas.Str.{IsUtf8-append, IsUtf8-from_ascii}
+pub use Rattle.std.specs.Char.{is_ascii_graphic}
+pub use Rattle.std.specs.List.{AllByRecursion, AllZip, cons_option, list_any, range_with_len}
+pub use Rattle.std.specs.Option.{ForSome, option_map_or}
+pub use Rattle.std.specs.Ordering.{ord_max}
+pub use Rattle.lw_base.proofs.Common.{Bytes, CellGrid, Cells, EachOnce, IsLocation, IsName, IsRegisterNumber}
+pub use Rattle.lw_base.proofs.Common.{IsSeen, IsTable, IsWellFormedHead, IsWordNumber, NameTable, TestHead}
+pub use Rattle.lw_base.proofs.Common.{TokenList, all_registers, begins, condition_text, contains_name}
+pub use Rattle.lw_base.proofs.Common.{head_of, is_blank, is_word_byte, joined, locations, most_threads}
+pub use Rattle.lw_base.proofs.Common.{register_name, same_seen, thread_registers, with_names}
+pub use Rattle.lw_base.proofs.api.Elements.{all_append, all_filter, all_map, all_of_flat, all_of_range}
+pub use Rattle.lw_base.proofs.api.Elements.{all_unmap, all_weaker}
+pub use Rattle.lw_base.proofs.api.Formulas.{has_locations}
+pub use Rattle.lw_base.proofs.api.GrowingTables.{with_names-append}
+pub use Rattle.lw_base.proofs.api.ListedAgain.{filter_shorter, has_left, has_location, has_register}
+pub use Rattle.lw_base.proofs.api.ListedAgain.{has_right, has_seen, listed_again, listed_few, most_seen}
+pub use Rattle.lw_base.proofs.api.ListedAgain.{same_seen_is, seen_length}
+pub use Rattle.lw_base.proofs.api.Lists.{drop_all, get_some, take_one}
+pub use Rattle.lw_base.proofs.api.Returns.{passed_on}
+pub use Rattle.lw_base.proofs.api.Tables.{IsInTable, index_of-again, with_names-again, with_names-there}
+pub use Rattle.lw_base.proofs.api.Writing.{both_written, numbers_all, numbers_more, pushed, then_written}
+pub use Rattle.lw_base.proofs.api.Writing.{written_as}
+pub use Rattle.lw_base.specs.declared.head.Arch.TheVariants.{X86}
+pub use Rattle.lw_base.specs.declared.head.Quant.{Quant}
+pub use Rattle.lw_base.specs.declared.head.Quant.TheVariants.{Exists}
+pub use Rattle.lw_base.specs.declared.head.Seen.{Seen}
+pub use Rattle.lw_base.specs.declared.head.Seen.TheVariants.{Location, Register}
+pub use Rattle.lw_base.specs.declared.operand.Operand.{Operand}
+pub use Rattle.lw_base.specs.declared.operand.Operand.TheVariants.{Number}
+pub use Rattle.lw_litmus.proofs.Common.{IsStatement, IsThread, IsWellFormedProgram, ProgramTest, location_of}
+pub use Rattle.lw_litmus.proofs.Common.{numbers_of, registers_of, target_of, test_of, x86, x86_operation}
+pub use Rattle.lw_litmus.specs.declared.instr.Instr.{Instr}
+pub use Rattle.lw_litmus.specs.declared.instr.Instr.TheVariants.{Add, Cmp, Je, Jmp, Jne, Load, Mfence, Set}
+pub use Rattle.lw_litmus.specs.declared.instr.Instr.TheVariants.{Store, Xadd, Xchg}
+pub use Rattle.lw_text.proofs.Common.{AtomSyntax, Block, Condition, EntrySyntax, HasFewNodes, HasFrame}
+pub use Rattle.lw_text.proofs.Common.{Header, Heading, IsEntry, IsProposition, IsSite, Listed, Names, Parts}
+pub use Rattle.lw_text.proofs.Common.{Row, RowCells, SiteSyntax, Terminal, TestFrame, TestSyntax}
+pub use Rattle.lw_text.proofs.Common.{ThreadExists, Until, begins_stop, begins_word, blank, column, columns}
+pub use Rattle.lw_text.proofs.Common.{ends_cell, head_of_syntax, listed_in, made_of, resolved, seen_in}
+pub use Rattle.lw_text.proofs.Common.{site_name, site_names, sites_in, table, thread_name, word_of}
+pub use Rattle.lw_text.proofs.api.ConditionTokens.{IsPrintable, ended_said, named_claim, named_printable}
+pub use Rattle.lw_text.proofs.api.ConditionTokens.{named_site, quantifier_said, quantifier_tokens, seen_again}
+pub use Rattle.lw_text.proofs.api.ConditionTokens.{site_exists, site_said, site_tokens, sites_in_table}
+pub use Rattle.lw_text.proofs.api.ConditionTokens.{sites_printable, terminal_tokens, terminals_said}
+pub use Rattle.lw_text.proofs.api.ConditionTokens.{value_said, value_tokens, whole_again, whole_fine}
+pub use Rattle.lw_text.proofs.api.Frames.{HasFrame-unique}
+pub use Rattle.lw_text.proofs.api.Indices.{is_index}
+pub use Rattle.lw_text.proofs.api.PrintedConditions.{Spells-colon, Spells-register, assignment_spelled}
+pub use Rattle.lw_text.proofs.api.PrintedConditions.{blank_no_equals, name_there, quantifier_spelled}
+pub use Rattle.lw_text.proofs.api.PrintedConditions.{register_is_name, site_spelled, whole_spelled}
+pub use Rattle.lw_text.proofs.api.PrintedPropositions.{enclosed, printed_proposition, terminals_of}
+pub use Rattle.lw_text.proofs.api.PropositionNodes.{proposition_nodes, resolved_count, resolved_single}
+pub use Rattle.lw_text.proofs.api.Spelling.{Anything, EndsWord, IsBlankNext, Spells, Spells-before}
+pub use Rattle.lw_text.proofs.api.Spelling.{Spells-mark, Spells-name, Spells-newline, Spells-nothing}
+pub use Rattle.lw_text.proofs.api.Spelling.{Spells-number, Spells-on, Spells-space, Spells-then, Spells-whole}
+pub use Rattle.lw_text.proofs.api.Spelling.{Spells-within, Spells-word, blank_ends_word, decimal_is_number}
+pub use Rattle.lw_text.proofs.api.Spelling.{decimal_is_short, decimal_is_word, is_name_text, name_by_test}
+pub use Rattle.lw_cells.proofs.Common.{CellSays, CellSyntax, Column, Filling, Fills, Given, Gives, IsGrammar}
+pub use Rattle.lw_cells.proofs.Common.{IsMade, IsSpelling, Labels, LeadsForward, MaybeStatement, Said}
+pub use Rattle.lw_cells.proofs.Common.{code_in, label_in, labels_of, led_to, name_in, names_in, names_of}
+pub use Rattle.lw_cells.proofs.Common.{number_in, resolved_statement, statements, target_in, test_on}
+pub use Rattle.lw_cells.proofs.api.Forms.{is_grammar, names_allowed}
+pub use Rattle.lw_cells.proofs.api.Greater.{greater_is}
+pub use Rattle.lw_cells.proofs.api.Tests.{one_test, well_formed_test}
+pub use Rattle.lw_cells.specs.declared.slot.Slot.{Slot}
+pub use Rattle.lw_cells.specs.declared.slot.Slot.TheVariants.{Label, Value, Word}
+pub use Rattle.lw_x86.specs.CanonicalTexts.{block_text, canonical_text, cell_text, cells_from, cells_of}
+pub use Rattle.lw_x86.specs.CanonicalTexts.{element_text, end_cells, entry_text, header_text, initial_word}
+pub use Rattle.lw_x86.specs.CanonicalTexts.{instruction_text, is_sign, is_target, jumps_to, label}
+pub use Rattle.lw_x86.specs.CanonicalTexts.{listed_text, longest, printed_as, register_entry, row_of}
+pub use Rattle.lw_x86.specs.CanonicalTexts.{row_text, rows_text, slot_text, slots_text}
+pub use Rattle.lw_x86.specs.Grammar.{HasProgram, x86_grammar}
+pub use Rattle.lw_x86.specs.Spelling.{instruction, x86_forms, x86_slots, x86_spelling, x86_text}
+pub use Rattle.lw_x86.specs.Texts.{IsTextOf}
+pub use Rattle.lw_x86.specs.declared.language.X86Form.{X86Form}
+pub use Rattle.lw_x86.specs.declared.language.X86Form.TheVariants.{Compare}
+pub use Rattle.lw_x86.specs.declared.language.X86Word.{X86Word}
+pub use Rattle.lw_x86.specs.declared.language.X86Word.TheVariants.{Close, Comma, Dollar, Open}
+pub use Rattle.lw_x86.specs.inner.OperandTexts.{memory_text, operand_text, with_operands}
+pub use Rattle.lw_x86.specs.inner.Operands.{made}
+pub use Rattle.lw_x86.specs.inner.Separators.{separator}
