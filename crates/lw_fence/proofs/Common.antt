@@ -1,18 +1,19 @@
 -- What proofs cite of std, of lower crates and of this crate's definitions, passed on from one place. Declares nothing.
-pub use Rattle.std.proofs.Common.{All, Bool, Err, IfOk, IsOk, IsTrue, List, None, Ok, Option, Result, Some}
-pub use Rattle.std.proofs.Common.{[], add-one, add_comm, ap, append-nil, append_assoc, ap₂, arith, drop}
-pub use Rattle.std.proofs.Common.{drop-cons, eqb-true, false, get_or, get_or-set_other, get_or-set_same}
-pub use Rattle.std.proofs.Common.{if◌then◌else◌, inl, inr, is_ok, le-leb, leb-true, length, length-append}
-pub use Rattle.std.proofs.Common.{length-set, map, nat_le, not, refl, replicate, set, set-set, slice_get}
-pub use Rattle.std.proofs.Common.{slice_index, slice_index_or, slice_set, subst, subst₂, suc, sym, take, true}
-pub use Rattle.std.proofs.Common.{true≢false, zero, ℕ, ⊎_elim, ◌%◌, ◌&&◌, ◌*◌, ◌++◌, ◌+◌, ◌-◌, ◌<◌, ◌==◌, ◌^◌}
-pub use Rattle.std.proofs.Common.{◌||◌, ◌↔◌, ◌∙◌, ◌∷◌, ◌≡◌, ◌≢◌, ◌≤◌, ◌⊎◌}
+pub use Rattle.std.proofs.Common.{All, Bool, Err, IsOk, IsTrue, List, None, Ok, OnErr, Option, Result, Some}
+pub use Rattle.std.proofs.Common.{[], add-one, add_comm, ap, append-nil, append_assoc, ap₂, arith, cond}
+pub use Rattle.std.proofs.Common.{count_by, drop, drop-cons, eqb-true, false, get_or, get_or-set_other}
+pub use Rattle.std.proofs.Common.{get_or-set_same, if◌then◌else◌, inl, inr, is_ok, le-leb, leb-true, length}
+pub use Rattle.std.proofs.Common.{length-append, length-set, map, nat_le, not, refl, replicate, set, set-set}
+pub use Rattle.std.proofs.Common.{slice_get, slice_index, slice_index_or, slice_set, subst, subst₂, suc, sym}
+pub use Rattle.std.proofs.Common.{take, true, true≢false, zero, ℕ, ⊎_elim, ◌%◌, ◌&&◌, ◌*◌, ◌++◌, ◌+◌, ◌-◌}
+pub use Rattle.std.proofs.Common.{◌<◌, ◌==◌, ◌^◌, ◌||◌, ◌↔◌, ◌∙◌, ◌∷◌, ◌≡◌, ◌≢◌, ◌≤◌, ◌⊎◌}
 pub use Rattle.std.proofs.Math.ListN.{length-replicate}
 pub use Rattle.std.proofs.Math.Seq.{get_or-append_seam, take-append_seam}
 pub use Rattle.std.proofs.lemmas.Bool.{and_from, and_parts, cases_eq, cases_lt, eqb-false, false≢true}
 pub use Rattle.std.proofs.lemmas.List.{drop_all, drop_more, get_or_past, get_or_read, length-map, map-append}
 pub use Rattle.std.proofs.lemmas.List.{nil_from_length, replicate-append-replicate, set-get_or}
 pub use Rattle.std.proofs.lemmas.List.Elements.{All-cons, All-from_recursion, All-nil}
+pub use Rattle.std.proofs.lemmas.List.Sums.{sum_by-append, sum_by-cons}
 pub use Rattle.std.proofs.lemmas.Option.{get_or_from_slice_get, none-some, same_Some, slice_get-get_or}
 pub use Rattle.std.proofs.lemmas.Option.{slice_get_past, slice_get_read, slice_get_within}
 pub use Rattle.std.specs.List.{AllByRecursion}
@@ -49,20 +50,23 @@ pub use Rattle.lw_memory.proofs.Common.{Invariant, IsPossible, Lawful, Memory, S
 pub use Rattle.lw_memory.proofs.Common.{content_after, flat}
 pub use Rattle.lw_memory.specs.declared.system.LineState.TheVariants.{I}
 pub use Rattle.lw_memory.specs.declared.system.Request.{Request}
-pub use Rattle.lw_tso.proofs.Common.{Act, Adds, CanEnd, EventDone, Evicts, Goes, Loads, MachineOutcome}
-pub use Rattle.lw_tso.proofs.Common.{MachineRan, MachineState, Processor, Refused, Replays, Stores, Swaps}
-pub use Rattle.lw_tso.proofs.Common.{cpu_of, drain_act, event_act, getting, going_on, is_done, is_final}
-pub use Rattle.lw_tso.proofs.Common.{jumping, load_act, machine_outcome, machine_start, newest, once_empty}
-pub use Rattle.lw_tso.proofs.Common.{starting, step_act}
+pub use Rattle.lw_tso.proofs.Common.{Act, Adds, AreFences, CanEnd, EventDone, Evicts, Goes, IsFencedCode}
+pub use Rattle.lw_tso.proofs.Common.{IsFencedTest, Loads, MachineOutcome, MachineRan, MachineState, Processor}
+pub use Rattle.lw_tso.proofs.Common.{Refused, Replays, Stores, Swaps, cpu_of, drain_act, event_act, getting}
+pub use Rattle.lw_tso.proofs.Common.{going_on, in_blocks, is_done, is_final, jumping, kept, kept_before}
+pub use Rattle.lw_tso.proofs.Common.{load_act, machine_outcome, machine_start, newest, once_empty, starting}
+pub use Rattle.lw_tso.proofs.Common.{step_act}
 pub use Rattle.lw_tso.proofs.api.Effects.{Did, Does, leads_from, leads_to, no_eviction, state}
 pub use Rattle.lw_tso.proofs.api.Endings.{can_end}
+pub use Rattle.lw_tso.proofs.api.LeavingOut.{fences_append, kept_append, kept_first, kept_on, left_out}
 pub use Rattle.lw_tso.proofs.api.Operations.{Comes, operation_comes}
 pub use Rattle.lw_fence.specs.Compiling.{IsCompiled, IsCompiledThread, compared, instrs_of, moved, row, rows}
 pub use Rattle.lw_fence.specs.Compiling.{starts_from}
 pub use Rattle.lw_fence.specs.Fences.{HasOperation, Is, IsBehindStore, IsFlowPath, NeedsFence}
 pub use Rattle.lw_fence.specs.Fences.{lets_stores_wait}
 pub use Rattle.lw_fence.specs.Schedules.{after_step, schedule, statement_events, thread_events}
-pub use Rattle.lw_fence.specs.Unfenced.{IsCompiledWith, IsThreadWith}
+pub use Rattle.lw_fence.specs.Unfenced.{AreAmong, IsCompiledWith, IsCompiledWithoutFences, IsThreadWith}
+pub use Rattle.lw_fence.specs.Unfenced.{NeedsNoFence}
 pub use Rattle.lw_fence.specs.declared.row.Row.{Row}
 pub use Rattle.lw_fence.specs.declared.row.Row.TheVariants.{One, Two}
 pub use Rattle.lw_fence.specs.inner.Marks.{marked_behind, may_wait, with_mark}

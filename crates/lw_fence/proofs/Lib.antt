@@ -16,6 +16,8 @@ mod MachineToSource
 mod Programs
 mod CompiledThreads
 mod OneProgram
+mod NoFence
+mod MoreFences
 mod SomeProgram
 mod Endings
 mod Scheduling

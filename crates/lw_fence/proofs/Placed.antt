@@ -27,25 +27,25 @@ has_all (i ∷ is) pre post =
     (here, subst₂ (λ l k. StandsAt l k is) (append_assoc pre (i ∷ []) (is ++ post)) next (has_all is _ post))
 
 -- a row is as long whatever its jumps lead to
-as_long : (starts : List ℕ) (f : Bool) (x : Stmt) → length (instrs_of (row [] f x)) ≡ length (instrs_of (row starts f x))
+pub as_long : (starts : List ℕ) (f : Bool) (x : Stmt) → length (instrs_of (row [] f x)) ≡ length (instrs_of (row starts f x))
 as_long starts f (IfEq r n to) = refl
 as_long starts f x = refl
 
 -- The first statement's row and start, and the others', wherever the list of fences ends.
-abbrev behind_first : ℕ → List Bool → Stmt → ℕ
+abbrev pub behind_first : ℕ → List Bool → Stmt → ℕ
 behind_first n fences x = n + length (instrs_of (row [] (get_or fences 0 false) x))
 
-rows_cons : (starts : List ℕ) (fences : List Bool) (x : Stmt) (code : List Stmt)
+pub rows_cons : (starts : List ℕ) (fences : List Bool) (x : Stmt) (code : List Stmt)
     → rows starts fences (x ∷ code) ≡ instrs_of (row starts (get_or fences 0 false) x) ++ rows starts (drop 1 fences) code
 rows_cons starts [] x code = refl
 rows_cons starts (f ∷ fences) x code = refl
 
-starts_cons : (n : ℕ) (fences : List Bool) (x : Stmt) (code : List Stmt)
+pub starts_cons : (n : ℕ) (fences : List Bool) (x : Stmt) (code : List Stmt)
     → starts_from n fences (x ∷ code) ≡ n ∷ starts_from (behind_first n fences x) (drop 1 fences) code
 starts_cons n [] x code = refl
 starts_cons n (f ∷ fences) x code = refl
 
-next_fence : (fences : List Bool) (j : ℕ) → get_or (drop 1 fences) j false ≡ get_or fences (suc j) false
+pub next_fence : (fences : List Bool) (j : ℕ) → get_or (drop 1 fences) j false ≡ get_or fences (suc j) false
 next_fence [] j = refl
 next_fence (f ∷ fences) j = refl
 
@@ -59,7 +59,7 @@ rows_long starts n fences x code =
       length-append (instrs_of (row starts (get_or fences 0 false) x)) (rows starts (drop 1 fences) code),
     )
 
-begins : (n : ℕ) (fences : List Bool) (code : List Stmt) → slice_index (starts_from n fences code) 0 ≡ n
+pub begins : (n : ℕ) (fences : List Bool) (code : List Stmt) → slice_index (starts_from n fences code) 0 ≡ n
 begins n fences [] = refl
 begins n fences (x ∷ code) = ap (λ l. slice_index l 0) (starts_cons n fences x code)
 

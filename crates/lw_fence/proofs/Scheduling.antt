@@ -1,13 +1,20 @@
 -- The schedule of a source run, thread by thread of its order.
 use Rattle.lw_fence.proofs.Common.{◌≡◌, ℕ, ◌+◌, ◌-◌, ◌<◌, ◌≤◌, List, [], ◌∷◌, ◌++◌, length, Result, map, drop}
-use Rattle.lw_fence.proofs.Common.{replicate, Some, Ok, Err, is_ok, sym, ap, ap₂, ◌∙◌, subst, ◌⊎◌, inl, inr}
-use Rattle.lw_fence.proofs.Common.{arith, append_assoc, if◌then◌else◌, slice_get, slice_index, slice_index_or}
-use Rattle.lw_fence.proofs.Common.{IsOk, cases_lt, drop_more, get_or_read, get_or_past, slice_get_within}
-use Rattle.lw_fence.proofs.Common.{same_Some, code_of, Event, Step, Drain, Stop, get_some, at_index, Stmt}
-use Rattle.lw_fence.proofs.Common.{Thread, SourceTest, ProgramTest, State, SourceRan, SourceRunState, Answers}
-use Rattle.lw_fence.proofs.Common.{source_step, stepped, is_store, source_operation, IsCompiled}
-use Rattle.lw_fence.proofs.Common.{statement_events, thread_events, after_step, schedule, got_map}
+use Rattle.lw_fence.proofs.Common.{take, take-append_seam, OnErr, replicate, Some, Ok, Err, is_ok, sym, ap}
+use Rattle.lw_fence.proofs.Common.{ap₂, ◌∙◌, subst, ◌⊎◌, inl, inr, arith, append_assoc, if◌then◌else◌}
+use Rattle.lw_fence.proofs.Common.{slice_get, slice_index, slice_index_or, IsOk, cases_lt, drop_more}
+use Rattle.lw_fence.proofs.Common.{get_or_read, get_or_past, slice_get_within, same_Some, code_of, Event}
+use Rattle.lw_fence.proofs.Common.{Step, Drain, Stop, get_some, at_index, Stmt, Thread, SourceTest}
+use Rattle.lw_fence.proofs.Common.{ProgramTest, State, SourceRan, SourceRunState, Answers, source_step}
+use Rattle.lw_fence.proofs.Common.{stepped, is_store, source_operation, IsCompiled, statement_events}
+use Rattle.lw_fence.proofs.Common.{thread_events, after_step, schedule, got_map}
 use Rattle.lw_fence.proofs.Placed.{placed_at, starts_many}
+
+-- What was there is still there, where more was pushed before a refusal.
+pub kept : {T E : Type 0} (r : Result T E) (old more : List Event) {new : List Event} → new ≡ old ++ more
+    → OnErr r (take (length old) new ≡ old)
+kept (Ok x) old more is = tt
+kept (Err e) old more is = ap (take (length old)) is ∙ take-append_seam old more
 
 -- the code of a thread, as it is read
 pub code_read : {X : Type 0} (program : List (List X)) {lists : List (List X)} (t : ℕ) {i : ℕ} {code : List X} (list : List X) → lists ≡ program

@@ -1,11 +1,12 @@
 -- A source test in x86 with other fences than the compiler's, or with none.
-use Rattle.std.specs.Prelude.{◌≡◌, ℕ, Bool, Some, List, [], length, slice_get}
+use Rattle.std.specs.Prelude.{◌≡◌, ℕ, Bool, true, Some, List, [], length, slice_get}
 use Rattle.lw_base.specs.Threads.{code_of}
 use Rattle.lw_base.specs.declared.head.Arch.TheVariants.{X86}
 use Rattle.lw_litmus.specs.declared.stmt.Stmt.{Stmt}
 use Rattle.lw_litmus.specs.declared.instr.Instr.{Instr}
 use Rattle.lw_litmus.specs.Tests.{SourceTest, ProgramTest}
 use Rattle.lw_fence.specs.Compiling.{rows, starts_from}
+use Rattle.lw_fence.specs.Fences.{NeedsFence}
 
 -- These are the instructions of a thread, and the first of each statement, where a fence stands before each statement of these that
 -- is a load, needed or not; behind the end of the list stands none.
@@ -26,3 +27,11 @@ pub record IsCompiledWith (fences : List (List Bool)) (source : SourceTest) (pro
 -- The same without a fence.
 abbrev pub IsCompiledWithoutFences : SourceTest → ProgramTest → List (List ℕ) → Type 0
 IsCompiledWithoutFences = IsCompiledWith []
+
+-- No statement of the source needs a fence by the compiler's rule.
+abbrev pub NeedsNoFence : SourceTest → Type 0
+NeedsNoFence source = (t j : ℕ) → NeedsFence (code_of source.threads t) j → ⊥
+
+-- Each of the first fences is one of the others.
+abbrev pub AreAmong : List (List Bool) → List (List Bool) → Type 0
+AreAmong fences others = (t j : ℕ) → slice_get (code_of fences t) j ≡ Some true → slice_get (code_of others t) j ≡ Some true

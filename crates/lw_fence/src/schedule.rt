@@ -1,5 +1,5 @@
 //! The schedule of a compiled program that a source run stands for.
-ghost use Rattle.std.specs.Prelude.{◌≡◌, ℕ, List, ◌<◌, ◌++◌, ◌∷◌, [], if◌then◌else◌, length, map, replicate, slice_get, IfOk};
+ghost use Rattle.std.specs.Prelude.{◌≡◌, ℕ, List, ◌<◌, ◌++◌, ◌∷◌, [], if◌then◌else◌, length, map, replicate, take, slice_get, IfOk, OnErr};
 ghost use Rattle.lw_base.specs.Outcomes.{Final};
 ghost use Rattle.lw_base.specs.Threads.{code_of};
 ghost use Rattle.lw_base.specs.declared.event.Event.TheVariants.{Step, Drain};
@@ -20,15 +20,17 @@ use lw_interleaving::SourceRun;
 use lw_litmus::{Source, Statement, Stmt};
 use std::alloc::{AllocError, Allocator};
 
-/// Pushes the events of a statement: a step for each of its instructions, and after a store a drain.
+/// Pushes the events of a statement: a step for each of its instructions, and after a store a drain. Where there is no memory for
+/// all of them, some of them may stand behind those that were there.
 fn push_statement<A: Allocator>(
     events: &mut Vec<Event, A>,
     cpu: Cpu,
     stmt: &Stmt,
     instructions: usize,
 ) -> Result<(), AllocError>
-    ensures { IfOk result (λ _. events.new.items ≡ events.old.items
+    ensures ok { IfOk result (λ _. events.new.items ≡ events.old.items
         ++ (replicate instructions (Step cpu) ++ (if is_store (source_operation stmt.now) then Drain cpu ∷ [] else []))) }
+    ensures err { OnErr result (take (length events.old.items) events.new.items ≡ events.old.items) }
 {
     for _instr in 0..instructions {
         events.push(Event::Step(cpu))?;
@@ -40,6 +42,7 @@ fn push_statement<A: Allocator>(
 }
 
 /// Pushes the events of the statement at a place of a thread: a step for each of its instructions, and after a store a drain.
+/// Where there is no memory for all of them, none is pushed.
 pub fn push_next<A: Allocator>(
     events: &mut Vec<Event, A>,
     source: &Source<A>,
@@ -49,14 +52,22 @@ pub fn push_next<A: Allocator>(
 ) -> Result<(), AllocError>
     requires compiled { IsCompiled (source_of source.now) (program_of compiled.now.program) compiled.now.starts }
     requires there { place < length (code_of source.now.threads cpu) }
-    ensures { IfOk result (λ _. events.new.items ≡ events.old.items
+    ensures ok { IfOk result (λ _. events.new.items ≡ events.old.items
         ++ statement_events cpu (code_of compiled.now.starts cpu) place (slice_get (code_of source.now.threads cpu) place)) }
+    ensures err { OnErr result (events.new.items ≡ events.old.items) }
 {
     let code = &source.threads.as_slice()[cpu.index()];
     let starts = &compiled.starts.as_slice()[cpu.index()];
     let code = code.as_slice();
     let starts = starts.as_slice();
-    push_statement(events, cpu, &code[place], starts[place + 1] - starts[place])
+    let len = events.len();
+    match push_statement(events, cpu, &code[place], starts[place + 1] - starts[place]) {
+        Ok(()) => Ok(()),
+        Err(error) => {
+            events.truncate(len);
+            Err(error)
+        }
+    }
 }
 
 /// The schedule of the compiled program that a run of the source stands for: for each thread of the

@@ -31,6 +31,7 @@ pub use Rattle.lw_mesi.specs.inner.Packed.{IsPacked, copy_at, owner_copy, sharer
 pub use Rattle.lw_mesi.specs.inner.Places.{at_each, is_owner, members_of, nobody}
 pub use Rattle.lw_mesi.specs.laws.Coherent.{at_place, clean, copy_in, copy_map, dirty, no_word, put_here}
 pub use Rattle.lw_mesi.specs.laws.Coherent.{put_there}
-pub use Rattle.lw_mesi.specs.laws.ProtocolLaws.{evict_kept, kept_line, load_kept, set_kept, write_kept}
+pub use Rattle.lw_mesi.specs.laws.ProtocolLaws.{evict_kept, kept_line, load_kept, protocol_lawful, set_kept}
+pub use Rattle.lw_mesi.specs.laws.ProtocolLaws.{write_kept}
 pub use Rattle.lw_mesi.specs.laws.ProtocolRows.{invalid_state}
 pub use Rattle.lw_mesi.specs.laws.Rows.{from_word, none_held}

@@ -1,12 +1,24 @@
-//! The public law: what holds of the caches before any request.
-ghost use Rattle.std.specs.Prelude.{◌≡◌, ◌≤◌, ℕ, List};
+//! Laws of the caches' definitions: what holds before any request, and what every request keeps.
+//! A law is a function without a body, whose contract is the law; who needs it calls the function.
+ghost use Rattle.std.specs.Prelude.{◌≡◌, ◌≤◌, ℕ, List, Option};
 ghost use Rattle.lw_base.specs.Limits.{most_threads};
+ghost use Rattle.lw_memory.specs.declared.system.Request.{Request};
 ghost use Rattle.lw_mesi.specs.declared.protocol.Protocol.{Protocol};
-ghost use Rattle.lw_mesi.specs.CacheLines.{empty_caches, contents_of};
+ghost use Rattle.lw_mesi.specs.CacheLines.{Caches, empty_caches, contents_of};
+ghost use Rattle.lw_mesi.specs.Snooping.{Serves};
+ghost use Rattle.lw_mesi.specs.Protocols.{table_of};
 ghost use Rattle.lw_mesi.specs.Coherence.{IsKept};
 
 /// Caches that hold nothing are coherent, in states of each protocol, and have memory's words as their content.
 pub fn empty_caches_are_kept()
     ensures kept { (p : Protocol) (cpus : ℕ) (words : List ℕ) → cpus ≤ most_threads → IsKept p (empty_caches cpus words) }
     ensures content { (cpus : ℕ) (words : List ℕ) → contents_of (empty_caches cpus words) ≡ words }
+{}
+
+/// A theorem for readers: every request that is served (a load, a store, a swap, a fetch-and-add or an eviction) keeps the
+/// caches coherent, in each protocol. Beside a copy in M or E there is no other, at most one copy is in M or O, and every
+/// copy holds the content, after it as before it; and the copies are in states of the protocol.
+pub fn requests_keep_coherence()
+    ensures { (p : Protocol) (m n : Caches) (r : Request) (a : Option ℕ)
+        → IsKept p m → Serves (table_of p) m r a n → IsKept p n }
 {}

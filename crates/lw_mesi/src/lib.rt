@@ -10,5 +10,5 @@ mod laws;
 mod protocol;
 
 pub use caches::{Mesi, Moesi, SnoopingCaches};
-pub use laws::empty_caches_are_kept;
+pub use laws::{empty_caches_are_kept, requests_keep_coherence};
 pub use protocol::{ByMesi, ByMoesi, KeptProtocol, Protocol};

@@ -1,15 +1,16 @@
 -- What proofs cite of std, of lower crates and of this crate's definitions, passed on from one place. Declares nothing.
 pub use Rattle.std.proofs.Common.{All, Bool, Err, IsTrue, List, None, Ok, OnErr, Option, Some, [], ap}
-pub use Rattle.std.proofs.Common.{append-nil, ap₂, arith, cond, drop, drop-cons, false, get_or}
-pub use Rattle.std.proofs.Common.{get_or-set_other, get_or-take, if◌then◌else◌, inl, inr, le-leb, le-ltb}
-pub use Rattle.std.proofs.Common.{length, length-append, length-set, length-take, length-take-le, lt-ltb}
-pub use Rattle.std.proofs.Common.{ltb-true, map, nat_lt, ne_eqb, option_copied, option_map, refl, set}
-pub use Rattle.std.proofs.Common.{set-set, slice_get, slice_index, slice_set, subst, suc, sym, take, take-suc}
-pub use Rattle.std.proofs.Common.{take_all, true, true≢false, zero, zip, ℕ, ⊎_elim, ◌&&◌, ◌++◌, ◌+◌, ◌-◌, ◌<◌}
-pub use Rattle.std.proofs.Common.{◌==◌, ◌^◌, ◌↔◌, ◌∙◌, ◌∷◌, ◌≡◌, ◌≢◌, ◌≤◌, ◌⊎◌}
+pub use Rattle.std.proofs.Common.{append-nil, ap₂, arith, cond, drop, drop-cons, eq-eqb, false, get_or}
+pub use Rattle.std.proofs.Common.{get_or-set_other, get_or-set_same, get_or-take, if◌then◌else◌, inl, inr}
+pub use Rattle.std.proofs.Common.{le-leb, le-ltb, leb-true, length, length-append, length-set, length-take}
+pub use Rattle.std.proofs.Common.{length-take-le, lt-ltb, ltb-true, map, nat_le, nat_lt, ne_eqb, not}
+pub use Rattle.std.proofs.Common.{option_copied, option_map, refl, set, set-set, slice_get, slice_index}
+pub use Rattle.std.proofs.Common.{slice_set, subst, suc, sym, take, take-suc, take_all, true, true≢false}
+pub use Rattle.std.proofs.Common.{unwrap_or, zero, zip, ℕ, ⊎_elim, ◌&&◌, ◌++◌, ◌+◌, ◌-◌, ◌<◌, ◌==◌, ◌^◌, ◌↔◌}
+pub use Rattle.std.proofs.Common.{◌∙◌, ◌∷◌, ◌≡◌, ◌≢◌, ◌≤◌, ◌⊎◌}
 pub use Rattle.circular_buffer.proofs.Places.{slice_get-last, slice_get-push, slice_get-set_other}
 pub use Rattle.circular_buffer.proofs.Places.{slice_get-set_same, slice_get-some}
-pub use Rattle.std.proofs.lemmas.Bool.{cases_eq, cases_lt}
+pub use Rattle.std.proofs.lemmas.Bool.{and_from, and_parts, cases_eq, cases_lt}
 pub use Rattle.std.proofs.lemmas.List.{drop_all, get_or_past, length-map, map-append, map-set, map_more}
 pub use Rattle.std.proofs.lemmas.List.{set_comm, take_more, take_more_set}
 pub use Rattle.std.proofs.lemmas.List.Elements.{All-append, All-nil}
@@ -21,19 +22,22 @@ pub use Rattle.std.proofs.lemmas.Option.{slice_get_past, slice_get_read, slice_g
 pub use Rattle.std.proofs.lemmas.Simd.{map-map}
 pub use Rattle.std.specs.List.{AllByRecursion, list_all, range_with_len}
 pub use Rattle.std.specs.Option.{ForSome, option_or}
-pub use Rattle.lw_base.proofs.Common.{Final, IsEvent, IsOutcomeOf, NameTable, code_of, most_threads}
-pub use Rattle.lw_base.proofs.Common.{registers, sum_of, value_of}
-pub use Rattle.lw_base.proofs.api.Lists.{at_index, each_after, got_set_other, got_set_same, set_own}
+pub use Rattle.lw_base.proofs.Common.{Final, IsEvent, IsOutcomeOf, IsTestName, IsWellFormedHead, NameTable}
+pub use Rattle.lw_base.proofs.Common.{TestHead, code_of, most_threads, registers, sum_of, value_of}
+pub use Rattle.lw_base.proofs.api.Lists.{at_index, each_after, fellows_after, get_some, got_set_other}
+pub use Rattle.lw_base.proofs.api.Lists.{got_set_same, set_own}
 pub use Rattle.lw_base.proofs.api.Replays.{Ran-append, Ran-more}
+pub use Rattle.lw_base.proofs.api.SideBySide.{got_map, same_maps, zip_pass, zip_passes}
 pub use Rattle.lw_base.specs.declared.event.Event.{Event}
 pub use Rattle.lw_base.specs.declared.event.Event.TheVariants.{Drain, Evict, Step}
 pub use Rattle.lw_base.specs.declared.stop.Stop.{Stop}
-pub use Rattle.lw_base.specs.declared.stop.Stop.TheVariants.{Ended, NoCpu, NoLocation, NotHeld, SwapWaits}
+pub use Rattle.lw_base.specs.declared.stop.Stop.TheVariants.{Ended, FenceWaits, NoCpu, NoLocation, NotHeld}
+pub use Rattle.lw_base.specs.declared.stop.Stop.TheVariants.{SwapWaits}
 pub use Rattle.lw_litmus.proofs.Common.{IsStatement, IsThread, IsWellFormedProgram, Leads, ProgramTest}
-pub use Rattle.lw_litmus.proofs.Common.{goes_on, holds, is_locked, is_store, location_of, waits, x86}
-pub use Rattle.lw_litmus.proofs.Common.{x86_operation}
+pub use Rattle.lw_litmus.proofs.Common.{goes_on, holds, is_locked, is_store, location_of, target_of, waits}
+pub use Rattle.lw_litmus.proofs.Common.{x86, x86_operation}
 pub use Rattle.lw_litmus.specs.declared.instr.Instr.{Instr}
-pub use Rattle.lw_litmus.specs.declared.instr.Instr.TheVariants.{Mfence}
+pub use Rattle.lw_litmus.specs.declared.instr.Instr.TheVariants.{Je, Jmp, Jne, Mfence}
 pub use Rattle.lw_litmus.specs.declared.operation.Condition.{Condition}
 pub use Rattle.lw_litmus.specs.declared.operation.Condition.TheVariants.{Always, Equal, NotEqual, NotZero}
 pub use Rattle.lw_litmus.specs.declared.operation.Condition.TheVariants.{Zero}
@@ -49,9 +53,16 @@ pub use Rattle.lw_tso.specs.Endings.{CanEnd, events_of}
 pub use Rattle.lw_tso.specs.Evictions.{without_evictions}
 pub use Rattle.lw_tso.specs.Exchange.{AreIndependent, ArePassing, DoNotConflict, DoneAt, IsExchangeable}
 pub use Rattle.lw_tso.specs.Exchange.{MayPass, MayPassOldest, StandsAt, accessed, event_writes}
+pub use Rattle.lw_tso.specs.Fencing.{AreFences, EndsBlock, IsFencedCode, IsFencedTest, IsInserted}
+pub use Rattle.lw_tso.specs.Fencing.{code_without, in_blocks, kept, kept_before}
+pub use Rattle.lw_tso.specs.LockPhases.{Begun, Drains, Free, HasRead, HasWritten, HeldBy, IsAtLocked}
+pub use Rattle.lw_tso.specs.LockPhases.{IsNotBlocked, Lock, Locked, Locks, Phase, PhasedDone, PhasedEvent}
+pub use Rattle.lw_tso.specs.LockPhases.{PhasedRan, PhasedState, Reads, Stepped, Steps, Unlocks, Writes}
+pub use Rattle.lw_tso.specs.LockPhases.{emptied, having_written, locked_by, locked_next, unlocked, word_seen}
 pub use Rattle.lw_tso.specs.Machines.{ActDone, Answer, DoneBy, EventDone, EvictionDone, MachineState}
 pub use Rattle.lw_tso.specs.Machines.{buffer_of, flatten, position_of}
-pub use Rattle.lw_tso.specs.Processors.{Processor, getting, going_on, jumping, newest, starting}
+pub use Rattle.lw_tso.specs.Processors.{Processor, buffering, flagging, getting, going_on, jumping, newest}
+pub use Rattle.lw_tso.specs.Processors.{starting}
 pub use Rattle.lw_tso.specs.Runs.{Initial, MachineOutcome, MachineRan, Replays, Running, is_done, is_final}
 pub use Rattle.lw_tso.specs.Runs.{machine_outcome, machine_start}
 pub use Rattle.lw_tso.specs.Starts.{CanStart}

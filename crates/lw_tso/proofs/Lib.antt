@@ -9,3 +9,6 @@ mod Starts
 mod Flatten
 mod Commuting
 mod Refilled
+mod LockedSteps
+mod IntoPhases
+mod FromPhases

@@ -6,4 +6,6 @@ pub mod Evictions
 pub mod Starts
 pub mod Endings
 pub mod Exchange
+pub mod LockPhases
+pub mod Fencing
 pub mod inner

@@ -1,7 +1,8 @@
 //! Laws of runs and of their events, over every memory system that keeps its laws.
 //! A law is a function without a body, whose contract is the law; who needs it calls the function.
-ghost use Rattle.std.specs.Prelude.{◌≡◌, ◌↔◌, ℕ, List, [], ◌∷◌, length};
+ghost use Rattle.std.specs.Prelude.{◌≡◌, ◌↔◌, ℕ, Bool, List, [], ◌∷◌, length};
 ghost use Rattle.std.specs.List.{AllByRecursion};
+ghost use Rattle.lw_base.specs.Names.{IsTestName};
 ghost use Rattle.lw_base.specs.Outcomes.{Final, IsOutcomeOf};
 ghost use Rattle.lw_base.specs.Schedules.{IsEvent};
 ghost use Rattle.lw_base.specs.declared.event.Event.{Event};
@@ -14,6 +15,7 @@ ghost use Rattle.lw_litmus.specs.Tests.{ProgramTest};
 ghost use Rattle.lw_tso.specs.Endings.{CanEnd};
 ghost use Rattle.lw_tso.specs.Evictions.{without_evictions};
 ghost use Rattle.lw_tso.specs.Exchange.{AreIndependent, IsExchangeable};
+ghost use Rattle.lw_tso.specs.Fencing.{IsFencedCode, IsFencedTest, AreFences, code_without};
 ghost use Rattle.lw_tso.specs.Machines.{MachineState, Answer, flatten, EventDone};
 ghost use Rattle.lw_tso.specs.Runs.{MachineRan, Replays, MachineOutcome, machine_start};
 ghost use Rattle.lw_tso.specs.Starts.{CanStart};
@@ -84,4 +86,37 @@ pub fn flat_events_are_determined()
 pub fn independent_events_can_be_exchanged()
     ensures { (program : List (List Instr)) (e f : Event) (s : MachineState (List ℕ)) → AreIndependent program e f s
         → IsExchangeable program e f s }
+{}
+
+/// A theorem for readers: fences only take outcomes away. Of a test with MFENCEs inserted, at any places, every outcome is one of
+/// the test.
+pub fn fences_only_take_outcomes_away()
+    ensures { (test fenced : ProgramTest) (o : Final) → IsFencedTest test fenced
+        → MachineOutcome flat fenced fenced.head.init_words o → MachineOutcome flat test test.head.init_words o }
+{}
+
+/// The same over every memory system.
+pub fn fences_only_take_outcomes_away_over_every_memory<M: MemorySystem>()
+    ensures { (test fenced : ProgramTest) (m n : M) (o : Final) → IsTestName test.head.name → IsWellFormedProgram fenced
+        → IsFencedTest test fenced
+        → CanStart (memory_of M.content M.state M.serves) (invariant_of M.cpus M.sound) test m
+        → CanStart (memory_of M.content M.state M.serves) (invariant_of M.cpus M.sound) fenced n
+        → MachineOutcome (memory_of M.content M.state M.serves) fenced n o
+        → MachineOutcome (memory_of M.content M.state M.serves) test m o }
+{
+    outcomes_are_flat::<M>();
+    fences_only_take_outcomes_away();
+    tests_without_fences_are_well_formed();
+}
+
+/// What is left of a well-formed test without some of its MFENCEs is well-formed, by whatever name a test may have.
+pub fn tests_without_fences_are_well_formed()
+    ensures { (test fenced : ProgramTest) → IsTestName test.head.name → IsWellFormedProgram fenced → IsFencedTest test fenced
+        → IsWellFormedProgram test }
+{}
+
+/// Any MFENCEs of a code can be left out: it is the code without them, with these inserted.
+pub fn fences_can_be_left_out()
+    ensures { (left_out : List Bool) (code : List Instr) → AreFences left_out code
+        → IsFencedCode (code_without left_out code) code }
 {}

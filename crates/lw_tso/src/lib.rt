@@ -7,12 +7,15 @@
 
 mod buffer;
 mod laws;
+mod lock_laws;
 mod machine;
 mod processor;
 
 pub use laws::{
-    events_are_flat, every_run_ends, flat_events_are_determined,
+    events_are_flat, every_run_ends, fences_can_be_left_out, fences_only_take_outcomes_away,
+    fences_only_take_outcomes_away_over_every_memory, flat_events_are_determined,
     independent_events_can_be_exchanged, outcomes_are_flat, replays_are_flat,
-    replays_are_of_their_test,
+    replays_are_of_their_test, tests_without_fences_are_well_formed,
 };
+pub use lock_laws::lock_phases_change_no_outcome;
 pub use machine::Machine;

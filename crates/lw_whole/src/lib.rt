@@ -1,5 +1,5 @@
 //! The whole machine: the processors and store buffers of lw_tso over the caches of lw_mesi, of each protocol. Its outcomes
-//! and replays are those over flat memory.
+//! and replays are those over flat memory, its caches are coherent in every state of every run, and every run can be ended.
 //!
 //! It names lw_base; of lw_litmus the x86 tests; lw_tso, lw_memory and lw_mesi, and is the lowest crate that names both the
 //! machine and the caches. There is no code here: `laws` has what the crates above use.
@@ -8,6 +8,8 @@
 mod laws;
 
 pub use laws::{
-    outcomes_over_caches_are_flat, protocols_have_the_same_outcomes, replays_over_caches_are_flat,
+    caches_are_coherent_in_every_run, every_run_over_caches_ends,
+    fences_only_take_outcomes_away_over_caches, outcomes_over_caches_are_flat,
+    protocols_have_the_same_outcomes, replays_over_caches_are_flat,
     replays_over_caches_are_of_their_test,
 };

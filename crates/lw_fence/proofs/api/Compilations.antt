@@ -11,6 +11,10 @@ use Rattle.lw_fence.proofs.SourceToMachine.{laid_replays, schedule_replays}
 pub use Rattle.lw_fence.proofs.OneProgram.{one_program}
 pub use Rattle.lw_fence.proofs.SomeProgram.{some_program}
 pub use Rattle.lw_fence.proofs.Programs.{is_program}
+-- Where no statement needs a fence, it is the program without fences.
+pub use Rattle.lw_fence.proofs.NoFence.{without_needless_fences}
+-- With more fences it is the one with fewer, with MFENCEs inserted.
+pub use Rattle.lw_fence.proofs.MoreFences.{more_fences, none_among}
 
 -- It has over flat memory exactly the outcomes of its source.
 pub same_outcomes : (s : SourceTest) (p : ProgramTest) (starts : List (List ℕ)) (o : Final) → IsWellFormedSource s → IsCompiled s p starts

@@ -1,4 +1,4 @@
-use Rattle.lw_fence.proofs.Common.{◌≡◌, ◌++◌, List, IfOk, ap, arith, length, subst, sym, Event}
+use Rattle.lw_fence.proofs.Common.{◌≡◌, ◌++◌, ◌∙◌, List, ap, arith, length, sym, take, Event}
 use Rattle.lw_fence.proofs.Scheduling.{has_start, thread_of_place, code_read, events_of_statement}
 use Rattle.lw_fence.proofs.schedule.push_next.Goals as goal
 
@@ -38,17 +38,20 @@ overflow_sub-starts g c =
     c.as_slice-2.ensures c.index-2.ensures.value c.index-as_slice-index-2.is c.as_slice-starts.ensures in
     h.grows
 
-pub returns : goal.returns
-returns g c =
+pub returns-in-Ok-clause-ok : goal.returns-in-Ok-clause-ok
+returns-in-Ok-clause-ok g c =
     let h = has_start _ _ _ _ c.requires.compiled c.requires.there
     c.as_slice-2.ensures c.index-2.ensures.value c.index-as_slice-index-2.is c.as_slice-starts.ensures in
     let code = code_read _ _ _ c.as_slice.ensures c.index.ensures.value h.within
     c.index-as_slice-index.is c.as_slice-code.ensures in
     let events = events_of_statement c.args.cpu c.args.place _ _ _ _ _ code h.same
     (omega (arith, c.requires.there, ap length code)) c.index-code-place.is in
-    let pushed : List Event → Type 0 =
-    λ es. IfOk c.push_statement.result (λ u. c.push_statement.new.events.items ≡ c.args.events.now.items ++ es) in
-    subst pushed (sym events) c.push_statement.ensures
+    c.in-Ok.ensures.ok ∙ ap (λ (es : List Event). c.args.events.now.items ++ es) (sym events)
+
+pub returns-in-Err-clause-err : goal.returns-in-Err-clause-err
+returns-in-Err-clause-err g c =
+    let len : c.len-len.result ≡ length c.args.events.now.items = c.len-len.ensures ∙ c.args.events.now.ok.0 in
+    c.truncate.ensures.items ∙ (ap (λ n. take n c.push_statement.new.events.items) len ∙ c.in-Err.ensures.err)
 
 pub bounds-code-place : goal.bounds-code-place
 bounds-code-place g c =

@@ -1,6 +1,7 @@
 use Rattle.lw_fence.proofs.Common.{◌≡◌, ◌++◌, ◌∷◌, ◌∙◌, Bool, [], ap, append_assoc, arith, if◌then◌else◌}
 use Rattle.lw_fence.proofs.Common.{replicate, sym, append-nil, replicate-append-replicate, Step, Drain}
 use Rattle.lw_fence.proofs.Common.{is_store}
+use Rattle.lw_fence.proofs.Scheduling.{kept}
 use Rattle.lw_fence.proofs.schedule.push_statement.Goals as goal
 
 pub loop-instr-preserved : goal.loop-instr-preserved
@@ -11,8 +12,8 @@ loop-instr-preserved g c =
     ∙ (append_assoc old (replicate c.loop-instr._instr step) (step ∷ []) ∙ ap (λ es. old ++ es)
     (replicate-append-replicate c.loop-instr._instr 1 step)))
 
-pub returns-in_ok-push-2 : goal.returns-in_ok-push-2
-returns-in_ok-push-2 g c =
+pub returns-in_ok-push-2-clause-ok : goal.returns-in_ok-push-2-clause-ok
+returns-in_ok-push-2-clause-ok g c =
     let old = c.args.events.now.items in
     let steps = replicate c.args.instructions (Step c.args.cpu) in
     let drain = Drain c.args.cpu ∷ [] in
@@ -22,8 +23,8 @@ returns-in_ok-push-2 g c =
     ∙ ap (λ n. old ++ replicate n (Step c.args.cpu)) all) ∙ (append_assoc old steps drain
     ∙ ap (λ (b : Bool). old ++ (steps ++ (if b then drain else []))) (sym stores)))
 
-pub returns-else-is_store : goal.returns-else-is_store
-returns-else-is_store g c =
+pub returns-else-is_store-clause-ok : goal.returns-else-is_store-clause-ok
+returns-else-is_store-clause-ok g c =
     let old = c.args.events.now.items in
     let steps = replicate c.args.instructions (Step c.args.cpu) in
     let drain = Drain c.args.cpu ∷ [] in
@@ -32,3 +33,10 @@ returns-else-is_store g c =
     c.loop-instr.invariant ∙ (ap (λ n. old ++ replicate n (Step c.args.cpu)) all
     ∙ (ap (λ es. old ++ es) (sym (append-nil steps))
     ∙ ap (λ (b : Bool). old ++ (steps ++ (if b then drain else []))) (sym stores_not)))
+
+pub returns-in_err-push-clause-err : goal.returns-in_err-push-clause-err
+returns-in_err-push-clause-err g c = kept c.from_residual.result _ _ (c.in_err-push.ensures.items ∙ c.loop-instr.invariant)
+
+pub returns-in_err-push-2-clause-err : goal.returns-in_err-push-2-clause-err
+returns-in_err-push-2-clause-err g c =
+    kept c.from_residual-in_err-push-2.result _ _ (c.in_err-push-2.ensures.items ∙ c.loop-instr.invariant)

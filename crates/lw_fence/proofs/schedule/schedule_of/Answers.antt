@@ -29,7 +29,7 @@ loop-cpu-preserved g c =
           subst (λ s. (end : State) × SourceRan c.args.source.now.threads rest s end) same turn.more;
       so_far =
           one_further _ _ _ _ c.loop-cpu-test.true c.cpu-item.is _ _ _ _ _ c.position-place.ensures step
-          c.in_ok-push_next.ensures c.loop-cpu.invariant.so_far;
+          c.in_ok-push_next.ensures.ok c.loop-cpu.invariant.so_far;
     }
 
 pub loop-cpu-init : goal.loop-cpu-init

@@ -1,0 +1,288 @@
+-- Fences only take outcomes away: a run of a test with MFENCEs inserted is, the steps at these left out, one of the test.
+use Rattle.lw_tso.proofs.Common.{◌≡◌, ℕ, ◌+◌, ◌≤◌, Bool, true, false, if◌then◌else◌, List, [], ◌∷◌, ◌++◌}
+use Rattle.lw_tso.proofs.Common.{length, map, Option, Some, None, ◌⊎◌, inl, inr, ⊎_elim, refl, sym, ap, ◌∙◌}
+use Rattle.lw_tso.proofs.Common.{subst, arith, IsTrue, ◌==◌, le-leb, cases_lt, get_or_past, same_Some}
+use Rattle.lw_tso.proofs.Common.{slice_get, slice_set, slice_index, length-set, slice_get_within}
+use Rattle.lw_tso.proofs.Common.{get_or_from_slice_get, sum_of, value_of, code_of, set_own, Final, Event}
+use Rattle.lw_tso.proofs.Common.{Step, Drain, Evict, flat, Instr, ProgramTest, x86_operation, holds}
+use Rattle.lw_tso.proofs.Common.{Operation, Set, Sum, Compare, Store, Load, Swap, FetchAdd, Fence, Branch}
+use Rattle.lw_tso.proofs.Common.{Ran-append, Processor, starting, going_on, getting, newest, Act, Goes}
+use Rattle.lw_tso.proofs.Common.{cpu_of, event_act, operation_act, step_act, drain_act, load_act, once_empty}
+use Rattle.lw_tso.proofs.Common.{MachineState, EventDone, MachineRan, MachineOutcome, machine_start, is_done}
+use Rattle.lw_tso.proofs.Common.{is_final, flagging, buffering, in_blocks, IsInserted, EndsBlock}
+use Rattle.lw_tso.proofs.Common.{IsFencedCode, IsFencedTest, get_some, fellows_after, got_map, same_maps}
+use Rattle.lw_tso.proofs.Common.{zip_pass, zip_passes, Je, Jne, Jmp, Stop, FenceWaits, leb-true, nat_le}
+use Rattle.lw_tso.proofs.Common.{and_from, and_parts}
+use Rattle.lw_tso.proofs.api.Effects.{Did, Does, leads_from, leads_to, no_eviction, state}
+
+-- ---- one processor
+
+-- what is done once the buffer is empty
+once_does : (buffer : List (ℕ × ℕ)) (stop : Stop) (a b : Act) (q r : Processor) (m n : List ℕ)
+    → (Does m a q n → Does m b r n) → Does m (once_empty buffer stop a) q n → Does m (once_empty buffer stop b) r n
+once_does [] stop a b q r m n same does = same does
+once_does (entry ∷ newer) stop a b q r m n same does = does
+
+fence_does : (buffer : List (ℕ × ℕ)) (p q : Processor) (m n : List ℕ)
+    → Does m (once_empty buffer FenceWaits (Goes p)) q n → (q ≡ p) × (n ≡ m)
+fence_does [] p q m n does = does
+fence_does (entry ∷ newer) p q m n does = absurd does
+
+module _ (block : ℕ → ℕ) where
+  -- a processor of the test without the fences, where one with them is
+  abbrev pub without : Processor → Processor
+  without p = record p { position = block p.position }
+
+  abbrev at : Processor → ℕ → Processor
+  at p position = record p { position = position }
+
+  -- what an operation is there
+  abbrev operation_without : Operation → Operation
+  operation_without (Branch c to) = Branch c (block to)
+  operation_without o = o
+
+  instruction_without : (i : Instr) → x86_operation (in_blocks block i) ≡ operation_without (x86_operation i)
+  instruction_without (Je to) = refl
+  instruction_without (Jne to) = refl
+  instruction_without (Jmp to) = refl
+  instruction_without i = refl
+
+  load_does : (found : Option ℕ) (x : ℕ) (before after : ℕ → Processor) (q : Processor) (m n : List ℕ)
+      → ((w : ℕ) → without (before w) ≡ after w) → Does m (load_act found x before) q n
+      → Does m (load_act found x after) (without q) n
+  load_does (Some w) x before after q m n same does = (ap without does.0 ∙ same w, does.1)
+  load_does None x before after q m n same does = (ap without does.0 ∙ same (slice_index m x), does.1)
+
+  module _ (p q : Processor) (m n : List ℕ) (next : block (p.position + 1) ≡ block p.position + 1) where
+    -- to the next instruction, with the same block's
+    on : (r : Processor) → without (at r (p.position + 1)) ≡ at r (block p.position + 1)
+    on r = ap (at r) next
+
+    jumped : (jumps : Bool) (to : ℕ)
+        → block (if jumps then to else (p.position + 1)) ≡ (if jumps then block to else (block p.position + 1))
+    jumped true to = refl
+    jumped false to = next
+
+    -- an operation that ends its block does there what it does here
+    same_operation : (o : Operation) → Does m (operation_act o p) q n
+        → Does m (operation_act (operation_without o) (without p)) (without q) n
+    same_operation (Set d v) does = (ap without does.0 ∙ on (getting p d (value_of v p.regs)), does.1)
+    same_operation (Sum d a v) does =
+        let sum = sum_of (slice_index p.regs a) (value_of v p.regs) in
+        (ap without does.0 ∙ on (flagging (getting p d sum) (sum == 0)), does.1)
+    same_operation (Compare a v) does =
+        (ap without does.0 ∙ on (flagging p (slice_index p.regs a == value_of v p.regs)), does.1)
+    same_operation (Store x v) does = (ap without does.0 ∙ on (buffering p x (value_of v p.regs)), does.1)
+    same_operation (Load d x) does = load_does (newest p.buffer x) x _ _ q m n (λ w. on (getting p d w)) does
+    same_operation (Swap d x a) does = once_does p.buffer _ _ _ q (without q) m n (λ swaps. (
+      ap without swaps.0 ∙ on (getting p d (slice_index m x)),
+      swaps.1,
+    )) does
+    same_operation (FetchAdd None x v) does = once_does p.buffer _ _ _ q (without q) m n (λ adds. (
+      ap without adds.0 ∙ on (flagging p (sum_of (slice_index m x) (value_of v p.regs) == 0)),
+      adds.1,
+    )) does
+    same_operation (FetchAdd (Some d) x v) does = once_does p.buffer _ _ _ q (without q) m n (λ adds. (
+      ap without adds.0 ∙ on (flagging (getting p d (slice_index m x)) (sum_of (slice_index m x) (value_of v p.regs) == 0)),
+      adds.1,
+    )) does
+    same_operation Fence does = once_does p.buffer _ _ _ q (without q) m n (λ goes. (ap without goes.0 ∙ on p, goes.1)) does
+    same_operation (Branch c to) does = (ap without does.0 ∙ ap (at p) (jumped (holds c p.regs p.zero_flag) to), does.1)
+
+  -- a drain does what it does here
+  same_drain : (buffer : List (ℕ × ℕ)) (p q : Processor) (m n : List ℕ) → Does m (drain_act buffer p) q n
+      → Does m (drain_act buffer (without p)) (without q) n
+  same_drain [] p q m n does = does
+  same_drain (entry ∷ newer) p q m n does = (ap without does.0, does.1)
+
+module _ (code fenced : List Instr) (f : IsFencedCode code fenced) where
+  -- A step is one of the code, or it is at an inserted MFENCE and changes nothing there.
+  abbrev pub IsStep : Processor → Processor → List ℕ → List ℕ → Type 0
+  IsStep p q m n =
+      ((without f.block q ≡ without f.block p) × (n ≡ m))
+      ⊎ Does m (step_act (slice_get code (f.block p.position)) (without f.block p)) (without f.block q) n
+
+  step_of : (p q : Processor) (m n : List ℕ) (i : Instr) → IsInserted f.block p.position i ⊎ EndsBlock f.block code p.position i
+      → Does m (step_act (Some i) p) q n → IsStep p q m n
+  step_of p q m n i (inl inserted) does =
+      let fence = subst (λ (j : Instr). Does m (step_act (Some j) p) q n) inserted.0 does in
+      let passed = fence_does p.buffer (going_on p) q m n fence in
+      inl (ap (without f.block) passed.0 ∙ ap (at f.block p) inserted.1, passed.1)
+  step_of p q m n i (inr ends) does =
+      let from = without f.block p in
+      let to = without f.block q in
+      let same = same_operation f.block p q m n ends.1 (x86_operation i) does in
+      let here = subst (λ (o : Operation). Does m (operation_act o from) to n) (sym (instruction_without f.block i)) same in
+      inr (subst (λ (o : Option Instr). Does m (step_act o from) to n) (sym ends.0) here)
+
+  pub step : (p q : Processor) (m n : List ℕ) → Does m (step_act (slice_get fenced p.position) p) q n → IsStep p q m n
+  step p q m n = go (slice_get fenced p.position) refl
+    where
+      go : (o : Option Instr) → slice_get fenced p.position ≡ o → Does m (step_act o p) q n → IsStep p q m n
+      go None there does = absurd does
+      go (Some i) there does = step_of p q m n i (f.each p.position i there) does
+
+  -- at its end it is at the code's
+  pub ended : (p : Processor) → is_done fenced p ≡ true → is_done code (without f.block p) ≡ true
+  ended p done =
+      let both = and_parts (nat_le (length fenced) p.position) (length p.buffer == 0) done in
+      let last = f.last p.position (leb-true (length fenced) p.position both.0) in
+      let past = le-leb (length code) (f.block p.position) (omega (arith, last)) in
+      and_from (nat_le (length code) (f.block p.position)) (length p.buffer == 0) past both.1
+
+-- ---- whole states
+
+no_code : IsFencedCode [] []
+no_code = record { block = λ place. 0; first = refl; each = λ place i there. absurd cc; last = λ place past. refl }
+
+module _ (test fenced : ProgramTest) (f : IsFencedTest test fenced) where
+  code_at : (t : ℕ) → IsFencedCode (code_of test.threads t) (code_of fenced.threads t)
+  code_at t = ⊎_elim (f.threads t) past (cases_lt t (length test.threads))
+    where
+      past : length test.threads ≤ t → IsFencedCode (code_of test.threads t) (code_of fenced.threads t)
+      past beyond =
+          let one = get_or_past test.threads t [] beyond in
+          let other = get_or_past fenced.threads t [] (omega (arith, beyond, f.as_many)) in
+          subst (λ (code : List Instr). IsFencedCode code (code_of fenced.threads t)) (sym one)
+          (subst (λ (code : List Instr). IsFencedCode [] code) (sym other) no_code)
+
+  -- a processor of thread t in the test without the fences
+  abbrev there : ℕ → Processor → Processor
+  there t = without (code_at t).block
+
+  -- a state of the test, and one of the test with fences
+  record AreAlike (s r : MachineState (List ℕ)) : Type 0 where
+    as_many : length s.processors ≡ length r.processors
+    each : (t : ℕ) (p q : Processor) → slice_get s.processors t ≡ Some p → slice_get r.processors t ≡ Some q → p ≡ there t q
+    words : s.memory ≡ r.memory
+
+  own : (s r : MachineState (List ℕ)) (t : ℕ) (p : Processor) → AreAlike s r → slice_get r.processors t ≡ Some p
+      → slice_get s.processors t ≡ Some (there t p)
+  own s r t p alike was =
+      let q = get_some s.processors t (omega (arith, slice_get_within r.processors t p was, alike.as_many)) in
+      q.1 ∙ ap Some (alike.each t q.0 p q.1 was)
+
+  -- one processor is another, over other words
+  moved : (s r : MachineState (List ℕ)) (t : ℕ) (p q : Processor) (words : List ℕ) → AreAlike s r
+      → slice_get r.processors t ≡ Some p
+      → AreAlike (state (slice_set s.processors t (there t q)) words) (state (slice_set r.processors t q) words)
+  moved s r t p q words alike was = record {
+    as_many = length-set s.processors t (there t q) ∙ alike.as_many ∙ sym (length-set r.processors t q);
+    each = fellows_after (λ u a b. a ≡ there u b) s.processors r.processors t (there t p) (there t q) p q
+        (own s r t p alike was) was (λ u a b other. alike.each u a b) refl;
+    words = refl;
+  }
+
+  -- From this state events lead to one that is alike to that.
+  record Follows (s after : MachineState (List ℕ)) : Type 0 where
+    events : List Event
+    end : MachineState (List ℕ)
+    ran : MachineRan flat test.threads events s end
+    alike : AreAlike end after
+
+  module _ (s r after : MachineState (List ℕ)) (alike : AreAlike s r) where
+    -- the same event
+    same_event : (e : Event) (d : Did fenced.threads e r after)
+        → Does r.memory (event_act test.threads (length s.memory) e (there (cpu_of e) d.from)) (there (cpu_of e) d.to) d.words
+        → Follows s after
+    same_event e d does =
+        let t = cpu_of e in
+        let act = event_act test.threads (length s.memory) e (there t d.from) in
+        let here = subst (λ (m : List ℕ). Does m act (there t d.to) d.words) (sym alike.words) does in
+        let was = own s r t d.from alike d.was in
+        let end = state (slice_set s.processors t (there t d.to)) d.words in
+        record {
+          events = e ∷ [];
+          end = end;
+          ran = (end, leads_from test.threads e s.processors (there t d.from) (there t d.to) s.memory d.words was here, refl);
+          alike = subst (AreAlike end) (sym d.is) (moved s r t d.from d.to d.words alike d.was);
+        }
+
+    -- no event, where nothing has changed
+    no_event : (e : Event) (d : Did fenced.threads e r after) → there (cpu_of e) d.to ≡ there (cpu_of e) d.from
+        → d.words ≡ r.memory → Follows s after
+    no_event e d same words =
+        let t = cpu_of e in
+        let was = own s r t d.from alike d.was in
+        let processors = ap (slice_set s.processors t) same ∙ set_own s.processors t (there t d.from) was in
+        let end = state (slice_set s.processors t (there t d.to)) d.words in
+        record {
+          events = [];
+          end = end;
+          ran = rw (processors, words, ← alike.words) refl;
+          alike = subst (AreAlike end) (sym d.is) (moved s r t d.from d.to d.words alike d.was);
+        }
+
+    follow : (e : Event) → Did fenced.threads e r after → Follows s after
+    follow (Step t) d =
+        ⊎_elim (λ none. no_event (Step t) d none.0 none.1) (same_event (Step t) d)
+        (step (code_of test.threads t) (code_of fenced.threads t) (code_at t) d.from d.to r.memory d.words d.does)
+    follow (Drain t) d = same_event (Drain t) d (same_drain (code_at t).block d.from.buffer d.from d.to r.memory d.words d.does)
+    follow (Evict t x) d = absurd (no_eviction fenced.threads (length r.memory) t x d.from d.to r.memory d.words d.does)
+
+  follow_all : (events : List Event) (s r end : MachineState (List ℕ)) → AreAlike s r
+      → MachineRan flat fenced.threads events r end → Follows s end
+  follow_all [] s r end alike ran = record { events = []; end = s; ran = refl; alike = subst (AreAlike s) (sym ran) alike }
+  follow_all (e ∷ events) s r end alike ran =
+      let a = follow s r ran.0 alike e (leads_to fenced.threads e r ran.0 ran.1) in
+      let b = follow_all events a.end ran.0 end a.alike ran.2 in
+      record {
+        events = a.events ++ b.events;
+        end = b.end;
+        ran = Ran-append (EventDone flat test.threads) a.events b.events s a.end b.end a.ran b.ran;
+        alike = b.alike;
+      }
+
+  -- ---- starts and ends
+
+  regs_same : fenced.head.init_regs ≡ test.head.init_regs
+  regs_same = ap (λ h. h.init_regs) f.head
+
+  starts : AreAlike (machine_start test test.head.init_words) (machine_start fenced fenced.head.init_words)
+  starts = record {
+    as_many = ap (λ (rows : List (List ℕ)). length (map starting rows)) (sym regs_same);
+    each = each;
+    words = ap (λ h. h.init_words) (sym f.head);
+  }
+    where
+      each : (t : ℕ) (p q : Processor) → slice_get (map starting test.head.init_regs) t ≡ Some p
+          → slice_get (map starting fenced.head.init_regs) t ≡ Some q → p ≡ there t q
+      each t p q one other =
+          let first = got_map starting test.head.init_regs t p one in
+          let one_start = ap (λ (rows : List (List ℕ)). slice_get (map starting rows) t) regs_same in
+          let same : q ≡ p = same_Some q p (sym other ∙ one_start ∙ one) in
+          let block = code_at t in
+          first.2 ∙ ap (at block.block (starting first.0)) (sym block.first) ∙ sym (ap (there t) (same ∙ first.2))
+
+  final : (s r : MachineState (List ℕ)) → AreAlike s r → IsTrue (is_final fenced.threads r) → IsTrue (is_final test.threads s)
+  final s r alike over = zip_pass _ test.threads s.processors each
+    where
+      each : (t : ℕ) (code : List Instr) (p : Processor) → slice_get test.threads t ≡ Some code
+          → slice_get s.processors t ≡ Some p → is_done code p ≡ true
+      each t code p one was =
+          let other = get_some fenced.threads t (omega (arith, slice_get_within test.threads t code one, f.as_many)) in
+          let q = get_some r.processors t (omega (arith, slice_get_within s.processors t p was, alike.as_many)) in
+          let done = zip_passes (λ x. is_done x.0 x.1) fenced.threads r.processors t other.0 q.0 over other.1 q.1 in
+          let its_code = get_or_from_slice_get fenced.threads t other.0 [] other.1 in
+          let here = subst (λ (c : List Instr). is_done c q.0 ≡ true) (sym its_code) done in
+          let own_code = code_of test.threads t in
+          let without = ended own_code (code_of fenced.threads t) (code_at t) q.0 here in
+          subst (λ (c : List Instr). is_done c p ≡ true) (get_or_from_slice_get test.threads t code [] one)
+          (subst (λ (x : Processor). is_done own_code x ≡ true) (sym (alike.each t p q.0 was q.1)) without)
+
+  -- An outcome of the test with the fences is one of the test.
+  pub outcome_without : (o : Final) → MachineOutcome flat fenced fenced.head.init_words o
+      → MachineOutcome flat test test.head.init_words o
+  outcome_without o (events, r) =
+      let a = follow_all events _ _ r.end starts r.ran in
+      let regs_of = λ (p : Processor). p.regs in
+      let regs = same_maps regs_of regs_of a.end.processors r.end.processors a.alike.as_many
+      (λ t p q one other. ap regs_of (a.alike.each t p q one other)) in (
+        a.events,
+        record {
+          end = a.end;
+          ran = a.ran;
+          final = final a.end r.end a.alike r.final;
+          is = r.is ∙ rw (regs, a.alike.words) refl;
+        },
+      )

@@ -1,0 +1,105 @@
+-- A code is the code without some of its MFENCEs, with these inserted.
+use Rattle.lw_tso.proofs.Common.{◌≡◌, ℕ, zero, suc, ◌+◌, ◌≤◌, Bool, true, false, List, [], ◌∷◌, ◌++◌, length}
+use Rattle.lw_tso.proofs.Common.{map, take, cond, Some, ◌⊎◌, inl, inr, refl, sym, ap, ◌∙◌, subst, arith}
+use Rattle.lw_tso.proofs.Common.{slice_get, same_Some, sum_by-cons, Instr, Mfence, in_blocks, IsFencedCode}
+use Rattle.lw_tso.proofs.Common.{kept_before, kept, code_without, AreFences, not}
+
+pub kept_first : (marks : List Bool) → kept_before marks 0 ≡ 0
+kept_first [] = refl
+kept_first (mark ∷ marks) = refl
+
+pub kept_on : (mark : Bool) (marks : List Bool) (place : ℕ)
+    → kept_before (mark ∷ marks) (suc place) ≡ cond (not mark) 1 0 + kept_before marks place
+kept_on mark marks place = sum_by-cons (λ (m : Bool). cond (not m) 1 0) mark (take place marks)
+
+pub kept_append : (marks others : List Bool) (code more : List Instr) → AreFences marks code
+    → kept (marks ++ others) (code ++ more) ≡ kept marks code ++ kept others more
+kept_append [] others [] more fences = refl
+kept_append (true ∷ marks) others (i ∷ code) more fences = kept_append marks others code more fences.1
+kept_append (false ∷ marks) others (i ∷ code) more fences =
+    ap (λ (is : List Instr). i ∷ is) (kept_append marks others code more fences)
+kept_append _ others _ more fences = absurd fences
+
+pub fences_append : (marks others : List Bool) (code more : List Instr) → AreFences marks code → AreFences others more
+    → AreFences (marks ++ others) (code ++ more)
+fences_append [] others [] more fences rest = rest
+fences_append (true ∷ marks) others (i ∷ code) more fences rest = (fences.0, fences_append marks others code more fences.1 rest)
+fences_append (false ∷ marks) others (i ∷ code) more fences rest = fences_append marks others code more fences rest
+fences_append _ others _ more fences rest = absurd fences
+
+module _ (lead : Instr → Instr) where
+  -- what the instruction at a place is: left out, or the next that is kept
+  abbrev IsEither : List Bool → List Instr → ℕ → Instr → Type 0
+  IsEither marks code place i =
+      ((i ≡ Mfence) × (kept_before marks (place + 1) ≡ kept_before marks place))
+      ⊎ ((slice_get (map lead (kept marks code)) (kept_before marks place) ≡ Some (lead i))
+      × (kept_before marks (place + 1) ≡ kept_before marks place + 1))
+
+  behind_out : (marks : List Bool) (code : List Instr) (j i : Instr) (place : ℕ) → IsEither marks code place i
+      → IsEither (true ∷ marks) (j ∷ code) (suc place) i
+  behind_out marks code j i place = go
+    where
+      next : kept_before (true ∷ marks) (suc place + 1) ≡ kept_before marks (place + 1)
+      next =
+          let further : suc place + 1 ≡ suc (place + 1) = omega arith in
+          ap (kept_before (true ∷ marks)) further ∙ kept_on true marks (place + 1) ∙ omega arith
+
+      here : kept_before (true ∷ marks) (suc place) ≡ kept_before marks place
+      here = kept_on true marks place ∙ omega arith
+
+      go : IsEither marks code place i → IsEither (true ∷ marks) (j ∷ code) (suc place) i
+      go (inl out) = inl (out.0, next ∙ out.1 ∙ sym here)
+      go (inr stays) = inr (
+        subst (λ k. slice_get (map lead (kept marks code)) k ≡ Some (lead i)) (sym here) stays.0,
+        omega (arith, next, here, stays.1),
+      )
+
+  behind_kept : (marks : List Bool) (code : List Instr) (j i : Instr) (place : ℕ) → IsEither marks code place i
+      → IsEither (false ∷ marks) (j ∷ code) (suc place) i
+  behind_kept marks code j i place = go
+    where
+      next : kept_before (false ∷ marks) (suc place + 1) ≡ suc (kept_before marks (place + 1))
+      next =
+          let further : suc place + 1 ≡ suc (place + 1) = omega arith in
+          ap (kept_before (false ∷ marks)) further ∙ kept_on false marks (place + 1) ∙ omega arith
+
+      here : kept_before (false ∷ marks) (suc place) ≡ suc (kept_before marks place)
+      here = kept_on false marks place ∙ omega arith
+
+      go : IsEither marks code place i → IsEither (false ∷ marks) (j ∷ code) (suc place) i
+      go (inl out) = inl (out.0, next ∙ ap suc out.1 ∙ sym here)
+      go (inr stays) = inr (
+        subst (λ k. slice_get (lead j ∷ map lead (kept marks code)) k ≡ Some (lead i)) (sym here) stays.0,
+        omega (arith, next, here, stays.1),
+      )
+
+  each : (marks : List Bool) (code : List Instr) → AreFences marks code → (place : ℕ) (i : Instr) → slice_get code place ≡ Some i
+      → IsEither marks code place i
+  each [] [] fences place i at = absurd cc
+  each (true ∷ marks) (j ∷ code) fences zero i at =
+      inl (same_Some i j (sym at) ∙ fences.0, omega (arith, kept_on true marks 0, kept_first marks))
+  each (true ∷ marks) (j ∷ code) fences (suc place) i at = behind_out marks code j i place (each marks code fences.1 place i at)
+  each (false ∷ marks) (j ∷ code) fences zero i at =
+      inr (ap (λ (k : Instr). Some (lead k)) (same_Some j i at), omega (arith, kept_on false marks 0, kept_first marks))
+  each (false ∷ marks) (j ∷ code) fences (suc place) i at = behind_kept marks code j i place (each marks code fences place i at)
+  each _ _ fences place i at = absurd fences
+
+  last : (marks : List Bool) (code : List Instr) → AreFences marks code → (place : ℕ) → length code ≤ place
+      → kept_before marks place ≡ length (map lead (kept marks code))
+  last [] [] fences zero past = refl
+  last [] [] fences (suc place) past = refl
+  last (true ∷ marks) (j ∷ code) fences zero past = absurd (omega arith)
+  last (true ∷ marks) (j ∷ code) fences (suc place) past =
+      omega (arith, kept_on true marks place, last marks code fences.1 place (omega (arith, past)))
+  last (false ∷ marks) (j ∷ code) fences zero past = absurd (omega arith)
+  last (false ∷ marks) (j ∷ code) fences (suc place) past =
+      omega (arith, kept_on false marks place, last marks code fences place (omega (arith, past)))
+  last _ _ fences place past = absurd fences
+
+pub left_out : (marks : List Bool) (code : List Instr) → AreFences marks code → IsFencedCode (code_without marks code) code
+left_out marks code fences = record {
+  block = kept_before marks;
+  first = kept_first marks;
+  each = each (in_blocks (kept_before marks)) marks code fences;
+  last = last (in_blocks (kept_before marks)) marks code fences;
+}

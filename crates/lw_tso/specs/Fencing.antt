@@ -1,0 +1,61 @@
+-- x86 tests with MFENCEs inserted.
+-- With MFENCEs inserted a code falls into blocks: of each of its instructions the MFENCEs that were inserted before it, if any, and
+-- then it; and last the MFENCEs behind all instructions, if any. Where a jump led to an instruction, it leads to any place of that
+-- instruction's block, to one of its MFENCEs or past them; where it led to the end, to any place of the last block. So where an MFENCE
+-- is left out, a jump to it leads to what stands behind it, as tools/fences.py has it. The law `fences_can_be_left_out` says that any
+-- MFENCEs of any code can be such.
+use Rattle.std.specs.Prelude.{◌≡◌, ◌⊎◌, ℕ, ◌+◌, ◌<◌, ◌≤◌, Bool, true, false, not, Some, List, [], ◌∷◌, length, map}
+use Rattle.std.specs.Prelude.{take, slice_get}
+use Rattle.std.specs.List.{count_by}
+use Rattle.lw_base.specs.Threads.{code_of}
+use Rattle.lw_litmus.specs.declared.instr.Instr.{Instr}
+use Rattle.lw_litmus.specs.declared.instr.Instr.TheVariants.{Mfence, Je, Jne, Jmp}
+use Rattle.lw_litmus.specs.Tests.{ProgramTest}
+
+abbrev pub in_blocks : (ℕ → ℕ) → Instr → Instr  -- an instruction, with the block of a place where it names the place
+in_blocks block (Je place) = Je (block place)
+in_blocks block (Jne place) = Jne (block place)
+in_blocks block (Jmp place) = Jmp (block place)
+in_blocks block i = i
+
+-- The instruction at this place was inserted: it is an MFENCE, and behind it its block goes on.
+abbrev pub IsInserted : (ℕ → ℕ) → ℕ → Instr → Type 0
+IsInserted block place i = (i ≡ Mfence) × (block (place + 1) ≡ block place)
+
+-- It is the instruction of the code whose block it is in, and behind it the next block begins.
+abbrev pub EndsBlock : (ℕ → ℕ) → List Instr → ℕ → Instr → Type 0
+EndsBlock block code place i = (slice_get code (block place) ≡ Some (in_blocks block i)) × (block (place + 1) ≡ block place + 1)
+
+-- `fenced` is `code` with MFENCEs inserted: its first place is in the first block, and behind its end is the last one.
+pub record IsFencedCode (code fenced : List Instr) : Type 0 where
+  pub block : ℕ → ℕ  -- the block that a place of `fenced` is in, by the number of its instruction in `code`
+  pub first : block 0 ≡ 0
+  pub each :
+      (place : ℕ) (i : Instr) → slice_get fenced place ≡ Some i
+      → IsInserted block place i ⊎ EndsBlock block code place i
+  pub last : (place : ℕ) → length fenced ≤ place → block place ≡ length code
+
+-- `fenced` is `test` with MFENCEs inserted: its head is the same, but for its name, and each of its threads has such a code.
+pub record IsFencedTest (test fenced : ProgramTest) : Type 0 where
+  pub head : fenced.head ≡ record test.head { name = fenced.head.name }
+  pub as_many : length fenced.threads ≡ length test.threads
+  pub threads : (t : ℕ) → t < length test.threads → IsFencedCode (code_of test.threads t) (code_of fenced.threads t)
+
+-- ---- leaving fences out
+
+abbrev pub kept_before : List Bool → ℕ → ℕ  -- how many instructions before a place are kept, the marked ones left out
+kept_before left_out place = count_by not (take place left_out)
+
+abbrev pub kept : List Bool → List Instr → List Instr  -- the instructions that are kept
+kept (true ∷ left_out) (i ∷ code) = kept left_out code
+kept (false ∷ left_out) (i ∷ code) = i ∷ kept left_out code
+kept left_out code = []
+
+abbrev pub code_without : List Bool → List Instr → List Instr  -- the code without the marked instructions
+code_without left_out code = map (in_blocks (kept_before left_out)) (kept left_out code)
+
+abbrev pub AreFences : List Bool → List Instr → Type 0  -- As many marks as instructions, and each that is marked is an MFENCE.
+AreFences [] [] = Unit {0}
+AreFences (true ∷ left_out) (i ∷ code) = (i ≡ Mfence) × AreFences left_out code
+AreFences (false ∷ left_out) (i ∷ code) = AreFences left_out code
+AreFences left_out code = ⊥
