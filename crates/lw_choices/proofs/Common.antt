@@ -1,25 +1,27 @@
 -- What proofs cite of std, of lower crates and of this crate's definitions, passed on from one place. Declares nothing.
 pub use Rattle.std.proofs.Common.{All, Bool, Contains, Err, IfErr, IfOk, IsSome, List, MatchOption, None, Ok}
-pub use Rattle.std.proofs.Common.{OnOk, Option, Result, Some, SomeIff, Vec, [], ap, append-nil, append_assoc}
-pub use Rattle.std.proofs.Common.{ap₂, arith, cond, count_by, drop, drop-cons, eq-eqb, eqb-true, false}
-pub use Rattle.std.proofs.Common.{filter, flat_map, get_or, get_or-set_other, get_or-set_same, if◌then◌else◌}
-pub use Rattle.std.proofs.Common.{inl, inr, is_none, is_some, length, length-append, length-set, ltb-false}
-pub use Rattle.std.proofs.Common.{map, min, mul-le-mul, ne_eqb, not, option_to_list, pow-add, pow_mono, refl}
-pub use Rattle.std.proofs.Common.{rules, slice_get, slice_index, slice_set, subst, suc, suc-mul, sum_by, sym}
-pub use Rattle.std.proofs.Common.{take, true, true≢false, zero, ℕ, ◌&&◌, ◌*◌, ◌++◌, ◌+◌, ◌-◌, ◌<◌, ◌==◌, ◌^◌}
-pub use Rattle.std.proofs.Common.{◌||◌, ◌↔◌, ◌∙◌, ◌∷◌, ◌≡◌, ◌≤◌, ◌⊎◌}
+pub use Rattle.std.proofs.Common.{OnErr, OnOk, Option, Result, Some, SomeIff, Vec, [], ap, append-nil}
+pub use Rattle.std.proofs.Common.{append_assoc, ap₂, arith, cond, count_by, drop, drop-cons, eq-eqb, eqb-true}
+pub use Rattle.std.proofs.Common.{false, filter, flat_map, get_or, get_or-set_other, get_or-set_same}
+pub use Rattle.std.proofs.Common.{if◌then◌else◌, inl, inr, is_none, is_some, length, length-append}
+pub use Rattle.std.proofs.Common.{length-set, ltb-false, map, min, mul-le-mul, ne_eqb, not, option_copied}
+pub use Rattle.std.proofs.Common.{option_to_list, pow-add, pow_mono, refl, rules, slice_get, slice_index}
+pub use Rattle.std.proofs.Common.{slice_set, subst, suc, suc-mul, sum_by, sym, take, true, true≢false, zero}
+pub use Rattle.std.proofs.Common.{ℕ, ◌&&◌, ◌*◌, ◌++◌, ◌+◌, ◌-◌, ◌<◌, ◌==◌, ◌^◌, ◌||◌, ◌↔◌, ◌∙◌, ◌∷◌, ◌≡◌, ◌≢◌}
+pub use Rattle.std.proofs.Common.{◌≤◌, ◌⊎◌}
 pub use Rattle.std.proofs.Math.Bool.{or_comm}
 pub use Rattle.std.proofs.Math.Nat.{one-le-pow}
-pub use Rattle.std.proofs.Math.Seq.{drop-nil}
-pub use Rattle.std.proofs.lemmas.Bool.{cases_Bool, cases_eq, cases_lt, cases_order, cond-false, cond-true}
-pub use Rattle.std.proofs.lemmas.Bool.{cond_both}
+pub use Rattle.std.proofs.Math.Seq.{drop-nil, take-append_seam}
+pub use Rattle.std.proofs.lemmas.Bool.{and_parts, cases_Bool, cases_eq, cases_lt, cases_order, cond-false}
+pub use Rattle.std.proofs.lemmas.Bool.{cond-true, cond_both}
 pub use Rattle.std.proofs.lemmas.Grind.{flat_map-append}
 pub use Rattle.std.proofs.lemmas.List.{drop_all, drop_more, get_or-replicate, get_or_default, get_or_past}
 pub use Rattle.std.proofs.lemmas.List.{length-map, map-append, nil_from_length}
-pub use Rattle.std.proofs.lemmas.List.Elements.{All-append, All-cons, All-filter, All-get_or, All-head}
-pub use Rattle.std.proofs.lemmas.List.Elements.{All-map, All-nil, All-tail, All-weaker, Contains-append_cases}
-pub use Rattle.std.proofs.lemmas.List.Elements.{Contains-append_left, Contains-append_right, filter-append}
-pub use Rattle.std.proofs.lemmas.List.Elements.{filter_agree, filter_passes}
+pub use Rattle.std.proofs.lemmas.List.Elements.{All-append, All-cons, All-contains, All-filter, All-get_or}
+pub use Rattle.std.proofs.lemmas.List.Elements.{All-head, All-map, All-nil, All-tail, All-weaker}
+pub use Rattle.std.proofs.lemmas.List.Elements.{Contains-append_cases, Contains-append_left}
+pub use Rattle.std.proofs.lemmas.List.Elements.{Contains-append_right, filter-append, filter_agree}
+pub use Rattle.std.proofs.lemmas.List.Elements.{filter_passes}
 pub use Rattle.std.proofs.lemmas.List.Folds.{flat_map-map}
 pub use Rattle.std.proofs.lemmas.List.Sums.{AllPass-from_list_all, sum_by-cons, sum_by-take-drop}
 pub use Rattle.std.proofs.lemmas.Option.{get_or_from_slice_get, none-some, same_Some, slice_get-get_or}
@@ -29,23 +31,28 @@ pub use Rattle.std.proofs.lemmas.Simd.{map-map}
 pub use Rattle.std.specs.Option.{option_map_or}
 pub use Rattle.lw_base.proofs.Common.{EachOnce, code_of, most_threads}
 pub use Rattle.lw_base.proofs.api.Lists.{get_some}
-pub use Rattle.lw_litmus.proofs.Common.{Follows, IsPathFrom, IsThread, IsWellFormed, IsWellFormedSource}
-pub use Rattle.lw_litmus.proofs.Common.{Language, SourceTest, Test, goes_on, is_one, location_of}
-pub use Rattle.lw_litmus.proofs.Common.{most_instructions, most_statements, source, target_of}
+pub use Rattle.lw_litmus.proofs.Common.{Follows, IsPathFrom, IsThread, IsWellFormedSource, Language}
+pub use Rattle.lw_litmus.proofs.Common.{SourceTest, Test, goes_on, is_one, location_of, most_instructions}
+pub use Rattle.lw_litmus.proofs.Common.{most_statements, source, target_of}
 pub use Rattle.lw_litmus.specs.declared.operation.Operation.{Operation}
 pub use Rattle.lw_litmus.specs.declared.operation.Operation.TheVariants.{Branch}
-pub use Rattle.lw_orders.proofs.Common.{AreSorted, Before, Constraints, GoUp, Keeps, count_of, is_decided}
-pub use Rattle.lw_orders.proofs.Common.{most_items, most_open, most_orders, numbers, place}
+pub use Rattle.lw_orders.proofs.Common.{AreSorted, Before, Constraints, GoUp, IsDecided, IsLinearExtension}
+pub use Rattle.lw_orders.proofs.Common.{IsWellFormed, Keeps, count_of, is_decided, most_items, most_open}
+pub use Rattle.lw_orders.proofs.Common.{most_orders, numbers}
 pub use Rattle.lw_orders.proofs.api.Complete.{All-parts}
-pub use Rattle.lw_choices.specs.Choices.{IsChoice, IsForward, choices_of, led, led_by, next_or, paths_from}
-pub use Rattle.lw_choices.specs.Choices.{paths_of, paths_on}
-pub use Rattle.lw_choices.specs.Counts.{HasTooManyItems, IsWithinLimits, TellsLimit, TellsOfChoice}
-pub use Rattle.lw_choices.specs.Counts.{TellsOfChoices, TellsOfGiven, items_at_choice, orders_at_choice}
-pub use Rattle.lw_choices.specs.Counts.{orders_of, total_of}
-pub use Rattle.lw_choices.specs.Items.{behind, conflict_by, constraints_of, does_wait, drains, fixed_at}
-pub use Rattle.lw_choices.specs.Items.{fixed_from, is_drained, item_at, items_at, items_conflict, items_from}
-pub use Rattle.lw_choices.specs.Items.{items_of, last_of, last_with, location_by, none_before, pairs_from}
-pub use Rattle.lw_choices.specs.Items.{path_items, statement_of, statement_waits, writes_by}
+pub use Rattle.lw_orders.proofs.api.Decided.{Leads, decided_along, leads_itself, leads_on, same_count}
+pub use Rattle.lw_orders.proofs.api.OpenPairs.{ways_are, ways_are_one}
+pub use Rattle.lw_choices.specs.ChoiceLists.{choices_of, led, led_by, next_or, paths_from, paths_of, paths_on}
+pub use Rattle.lw_choices.specs.Choices.{IsChoice, IsForward}
+pub use Rattle.lw_choices.specs.Counts.{HasFewOrders, HasOrders, HasTooManyItems, HaveOrders, IsTotal}
+pub use Rattle.lw_choices.specs.Counts.{IsWithinLimits, TellsLimit, items_at_choice}
+pub use Rattle.lw_choices.specs.Items.{conflict_by, constraints_of, does_wait, drains, is_drained, is_fixed}
+pub use Rattle.lw_choices.specs.Items.{item_at, items_at, items_conflict, items_from, items_of, location_by}
+pub use Rattle.lw_choices.specs.Items.{pairs_from, path_items, statement_of, statement_waits, writes_by}
+pub use Rattle.lw_choices.specs.Reduced.{behind, fixed_at, fixed_from, last_of, last_with, none_before}
+pub use Rattle.lw_choices.specs.Reduced.{reduced_of}
+pub use Rattle.lw_choices.specs.Totals.{TellsOfChoice, TellsOfChoices, TellsOfGiven, orders_at_choice}
+pub use Rattle.lw_choices.specs.Totals.{orders_of, total_of}
 pub use Rattle.lw_choices.specs.Views.{choice_of, path_of}
 pub use Rattle.lw_choices.specs.Visits.{CanGoOn, IsVisitable, Refused, Visited, choices_along, paths_at}
 pub use Rattle.lw_choices.specs.declared.conflicts.Access.{Access}

@@ -2,6 +2,7 @@ pub mod Common
 pub mod api
 mod Once
 mod FlatMaps
+mod Drains
 mod Along
 mod Sizes
 mod AccessPairs

@@ -1,14 +1,28 @@
 -- One turn of each loop that makes a list of the items, of their fixed pairs or of their accesses.
-use Rattle.lw_choices.proofs.Common.{◌≡◌, ℕ, suc, ◌+◌, ◌<◌, Bool, false, ◌||◌, List, [], ◌∷◌, ◌++◌, length}
-use Rattle.lw_choices.proofs.Common.{map, drop, get_or, slice_get, Option, Some, None, SomeIff, refl, sym}
-use Rattle.lw_choices.proofs.Common.{◌∙◌, ◌^◌, arith, IsSome, if◌then◌else◌, filter, not, append_assoc}
-use Rattle.lw_choices.proofs.Common.{append-nil, Constraints, count_of, is_decided, drop_more, Item, Last}
-use Rattle.lw_choices.proofs.Common.{Language, behind, fixed_at, last_with, last_of, items_at, path_items}
-use Rattle.lw_choices.proofs.Common.{items_from, does_wait, fixed_from}
+use Rattle.lw_choices.proofs.Common.{take-append_seam, take, ap, Result, Ok, Err, OnErr, ◌≡◌, ℕ, suc, ◌+◌}
+use Rattle.lw_choices.proofs.Common.{◌<◌, Bool, false, ◌||◌, List, [], ◌∷◌, ◌++◌, length, map, drop, get_or}
+use Rattle.lw_choices.proofs.Common.{slice_get, Option, Some, None, SomeIff, refl, sym, ◌∙◌, ◌^◌, arith}
+use Rattle.lw_choices.proofs.Common.{IsSome, if◌then◌else◌, filter, not, append_assoc, append-nil}
+use Rattle.lw_choices.proofs.Common.{Constraints, count_of, is_decided, drop_more, Item, Last, Language}
+use Rattle.lw_choices.proofs.Common.{behind, fixed_at, last_with, last_of, items_at, path_items, items_from}
+use Rattle.lw_choices.proofs.Common.{does_wait, fixed_from}
 
 fixed_is : (d w : Bool) (last : Last) (n : ℕ) → behind last.statement n ++ (if d || w then behind last.drain n else []) ≡ fixed_at d w last n
 fixed_is false false last n = append-nil (behind last.statement n)
 fixed_is _ _ last n = refl
+
+-- what is left behind a refusal
+pub of_refusal : {T E P : Type 0} (r : Result T E) → P → OnErr r P
+of_refusal (Ok x) p = tt
+of_refusal (Err e) p = p
+
+-- a part in front, and the rest of it that is missing
+pub is_front : (new rest more : List Item) {all : List Item} → new ++ rest ++ more ≡ all → new ++ (rest ++ more) ≡ all
+is_front new rest more e = sym (append_assoc new rest more) ∙ e
+
+-- it is as many of the first
+pub first_of : (new rest : List Item) {all : List Item} → new ++ rest ≡ all → (filled : ℕ) × (new ≡ take filled all)
+first_of new rest e = (length new, sym (take-append_seam new rest) ∙ ap (take (length new)) e)
 
 -- the number that was asked for is the one that was given
 pub some_is : (P : Type 0) (o : Option ℕ) (n m : ℕ) → SomeIff o P n → o ≡ Some m → m ≡ n

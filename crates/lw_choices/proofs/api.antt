@@ -7,5 +7,8 @@ pub mod Pairs
 pub mod Numbering
 pub mod FixedPairs
 pub mod FixedOrder
+pub mod ReducedPairs
+pub mod Reduced
 pub mod Mutual
+pub mod Totals
 pub mod Counting

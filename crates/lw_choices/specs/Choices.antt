@@ -1,31 +1,14 @@
 -- Choices of flow paths: one whole path for each thread, in either language.
-use Rattle.std.specs.Prelude.{◌≡◌, ◌+◌, ◌<◌, ◌≤◌, ◌==◌, ℕ, zero, suc, Bool, true, false, if◌then◌else◌, Option, Some, None, List, [], ◌∷◌, length, map}
-use Rattle.std.specs.Prelude.{slice_get}
-use Rattle.std.specs.List.{flat_map}
+use Rattle.std.specs.Prelude.{◌≡◌, ◌<◌, ◌≤◌, ℕ, Some, List, [], ◌∷◌, length, slice_get}
 use Rattle.std.specs.Option.{ForSome}
 use Rattle.lw_litmus.specs.Flow.{IsPathFrom}
 use Rattle.lw_litmus.specs.Languages.{Language}
-use Rattle.lw_litmus.specs.Operations.{target_of, goes_on}
-
--- the next position, and a target, once where they are one
-abbrev pub next_or : ℕ → ℕ → List ℕ
-next_or next to = if next == to then next ∷ [] else next ∷ to ∷ []
-
--- what may follow the position j, given the statement's target and whether the next may follow, the lowest first (a jump leads
--- forward)
-abbrev pub led_by : Option ℕ → Bool → ℕ → List ℕ
-led_by None goes j = (j + 1) ∷ []
-led_by (Some to) true j = next_or (j + 1) to
-led_by (Some to) false j = to ∷ []
+use Rattle.lw_litmus.specs.Operations.{target_of}
 
 module _ {S : Type 0} (language : Language S) where
   -- jumps lead forward, at most to the end
   abbrev pub IsForward : List S → Type 0
   IsForward code = (j : ℕ) (s : S) → slice_get code j ≡ Some s → ForSome (target_of (language.operation_of s)) (λ to. (j < to) × (to ≤ length code))
-
-  -- the positions that may follow the position j, at which this statement is, as lw_litmus's `Follows` says
-  abbrev pub led : S → ℕ → List ℕ
-  led s j = led_by (target_of (language.operation_of s)) (goes_on (language.operation_of s)) j
 
   -- for each thread of a program a whole path
   abbrev pub IsChoice : List (List S) → List (List ℕ) → Type 0
@@ -33,21 +16,3 @@ module _ {S : Type 0} (language : Language S) where
   IsChoice [] (path ∷ paths) = ⊥
   IsChoice (code ∷ program) [] = ⊥
   IsChoice (code ∷ program) (path ∷ paths) = IsPathFrom language code 0 path × IsChoice program paths
-
-  -- the paths that begin with a statement at a position, where its successors lead on by these
-  abbrev pub paths_on : (ℕ → List (List ℕ)) → Option S → ℕ → List (List ℕ)
-  paths_on rest None j = [] ∷ []
-  paths_on rest (Some s) j = map (λ path. j ∷ path) (flat_map rest (led s j))
-
-  -- the whole paths of at most n statements from a position, in lexicographic order
-  abbrev pub paths_from : ℕ → List S → ℕ → List (List ℕ)
-  paths_from zero code j = paths_on (λ k. []) (slice_get code j) j
-  paths_from (suc n) code j = paths_on (λ k. paths_from n code k) (slice_get code j) j
-
-  abbrev pub paths_of : List S → List (List ℕ)
-  paths_of code = paths_from (length code) code 0
-
-  -- all choices, the first thread's path changing slowest
-  abbrev pub choices_of : List (List S) → List (List (List ℕ))
-  choices_of [] = [] ∷ []
-  choices_of (code ∷ program) = flat_map (λ path. map (λ paths. path ∷ paths) (choices_of program)) (paths_of code)

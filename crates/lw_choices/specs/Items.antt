@@ -1,6 +1,6 @@
 -- The items of a choice of paths, in either language: what is put in order. Which pairs of them stand in a fixed order, and which
 -- conflict.
-use Rattle.std.specs.Prelude.{ℕ, zero, suc, ◌==◌, Bool, true, false, ◌&&◌, ◌||◌, if◌then◌else◌, Option, Some, None, List, [], ◌∷◌, ◌++◌, length, map, filter}
+use Rattle.std.specs.Prelude.{ℕ, zero, suc, ◌==◌, Bool, true, false, not, ◌&&◌, ◌||◌, if◌then◌else◌, Option, Some, None, List, [], ◌∷◌, ◌++◌, length, map, filter}
 use Rattle.std.specs.Prelude.{slice_get, slice_index_or}
 use Rattle.std.specs.List.{flat_map}
 use Rattle.std.specs.Option.{option_map_or}
@@ -12,39 +12,27 @@ use Rattle.lw_litmus.specs.Operations as operations
 use Rattle.lw_orders.specs.Order.{Constraints}
 use Rattle.lw_orders.specs.Sequence.{numbers}
 use Rattle.lw_choices.specs.declared.item.Item.{Item}
-use Rattle.lw_choices.specs.declared.item.Last.{Last}
 
 -- the item with a number
 abbrev pub item_at : List Item → ℕ → Item
 item_at items i = slice_index_or items i (record { thread = 0; position = 0; is_drain = false })
 
--- the last items of each thread at its first
-abbrev pub none_before : Last
-none_before = record { statement = None; drain = None }
-
-abbrev pub behind : Option ℕ → ℕ → List (ℕ × ℕ)
-behind None n = []
-behind (Some m) n = (m, n) ∷ []
-
--- The pairs of the item of number n with what must stand before it and does not stand before that already: the statement
--- before it; for a drain (whose own statement is the last one) and for what waits for drains, the last drain too.
-abbrev pub fixed_at : Bool → Bool → Last → ℕ → List (ℕ × ℕ)
-fixed_at true statement_waits last n = behind last.statement n ++ behind last.drain n
-fixed_at false true last n = behind last.statement n ++ behind last.drain n
-fixed_at false false last n = behind last.statement n
-
-abbrev pub last_with : Bool → Last → ℕ → Last
-last_with true last n = record last { drain = Some n }
-last_with false last n = record last { statement = Some n }
-
--- the last items of this thread, given those of the thread of the item before
-abbrev pub last_of : ℕ → ℕ → Last → Last
-last_of t u last = if t == u then last else none_before
-
 -- the pairs of n numbers from k up, the lower first, sorted
 abbrev pub pairs_from : ℕ → ℕ → List (ℕ × ℕ)
 pairs_from k zero = []
 pairs_from k (suc n) = map (λ j. (k, j)) (numbers (suc k) n) ++ pairs_from (suc k) n
+
+-- two statements: a thread carries its own out in the order of its path
+abbrev pub are_statements : Item → Item → Bool
+are_statements a b = not a.is_drain && not b.is_drain
+
+-- a store, and the drain of the entry that it made
+abbrev pub is_store_drained : Item → Item → Bool
+is_store_drained a b = not a.is_drain && (b.is_drain && (a.position == b.position))
+
+-- two drains: a store buffer is first in, first out
+abbrev pub are_drains : Item → Item → Bool
+are_drains a b = a.is_drain && b.is_drain
 
 module _ {S : Type 0} (language : Language S) where
   -- it is a store that goes by way of a store buffer, so that its drain is an item of its own
@@ -109,20 +97,24 @@ module _ {S : Type 0} (language : Language S) where
   abbrev pub items_conflict : List (List S) → Item → Item → Bool
   items_conflict program a b = conflict_by a.is_drain b.is_drain (statement_of program a) (statement_of program b)
 
+  -- whether the statement of an item waits
   abbrev pub does_wait : List (List S) → Item → Bool
   does_wait program a = option_map_or statement_waits (statement_of program a) false
 
-  -- the fixed pairs of the items from number n on, the item before which is of thread t
-  abbrev pub fixed_from : List (List S) → ℕ → ℕ → Last → List Item → List (ℕ × ℕ)
-  fixed_from program n t last [] = []
-  fixed_from program n t last (a ∷ items) =
-      fixed_at a.is_drain (does_wait program a) (last_of t a.thread last) n
-      ++ fixed_from program (suc n) a.thread (last_with a.is_drain (last_of t a.thread last) n) items
+  -- a drain, and a statement that goes on only when the store buffer is empty
+  abbrev pub is_waited_for : List (List S) → Item → Item → Bool
+  is_waited_for program a b = a.is_drain && (not b.is_drain && does_wait program b)
+
+  -- An item always stands before a later one of its thread where both are statements, where they are a store and its drain, where
+  -- both are drains, or where the later one waits for the drain.
+  abbrev pub is_fixed : List (List S) → Item → Item → Bool
+  is_fixed program a b =
+      (a.thread == b.thread) && (are_statements a b || (is_store_drained a b || (are_drains a b || is_waited_for program a b)))
 
   -- items, with their fixed pairs and their conflicts
   abbrev pub constraints_of : List (List S) → List Item → Constraints
   constraints_of program items = record {
     len = length items;
-    fixed = fixed_from program 0 0 none_before items;
+    fixed = filter (λ (p : ℕ × ℕ). is_fixed program (item_at items p.0) (item_at items p.1)) (pairs_from 0 (length items));
     conflicts = filter (λ (p : ℕ × ℕ). items_conflict program (item_at items p.0) (item_at items p.1)) (pairs_from 0 (length items));
   }

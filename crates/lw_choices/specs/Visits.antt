@@ -5,7 +5,8 @@ use Rattle.lw_base.specs.Limits.{most_threads}
 use Rattle.lw_base.specs.Threads.{code_of}
 use Rattle.lw_litmus.specs.Limits.{most_instructions}
 use Rattle.lw_litmus.specs.Languages.{Language}
-use Rattle.lw_choices.specs.Choices.{IsForward, paths_from, choices_of}
+use Rattle.lw_choices.specs.ChoiceLists.{paths_from, choices_of}
+use Rattle.lw_choices.specs.Choices.{IsForward}
 
 -- each of the choices is visited once, in their order
 abbrev pub Visited : {V : Type 0} → (V → List (List ℕ) → V → Type 0) → List (List (List ℕ)) → V → V → Type 0

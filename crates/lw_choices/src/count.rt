@@ -1,9 +1,11 @@
 //! How many orders there may be.
-ghost use Rattle.std.specs.Prelude.{◌≡◌, ◌+◌, ◌<◌, ◌≤◌, length, IfOk, IfErr, OnOk, MatchOption};
-ghost use Rattle.lw_orders.specs.Order.{count_of};
+ghost use Rattle.std.specs.Prelude.{◌≡◌, ◌+◌, ◌<◌, ◌≤◌, ℕ, List, length, take, IfOk, IfErr, OnOk, OnErr, MatchOption};
+ghost use Rattle.lw_orders.specs.Ways.{count_of};
 ghost use Rattle.lw_orders.specs.Limits.{most_items, most_orders};
-ghost use Rattle.lw_choices.specs.Counts.{items_at_choice, orders_at_choice, TellsOfItems, TellsOfChoice};
+ghost use Rattle.lw_choices.specs.Counts.{items_at_choice};
+ghost use Rattle.lw_choices.specs.Totals.{orders_at_choice, TellsOfItems, TellsOfChoice};
 ghost use Rattle.lw_choices.specs.Items.{constraints_of, items_of};
+ghost use Rattle.lw_choices.specs.Reduced.{reduced_of};
 ghost use Rattle.lw_choices.specs.Views.{choice_of};
 
 use crate::conflicts::conflicts_of;
@@ -18,7 +20,8 @@ use lw_litmus::Statement;
 use lw_orders::{Items, MAX_ITEMS, MAX_ORDERS, count};
 use std::alloc::{AllocError, Allocator};
 
-/// Makes a list the items of a choice, where they aren't too many.
+/// Makes a list the items of a choice, where they aren't too many. Otherwise, and where there is no memory for all of them, it is
+/// left with the first of them.
 pub fn fill_few_items<S: Statement, A: Allocator, B: Allocator>(
     program: &[Sequence<S, B>],
     choice: &Choice,
@@ -27,6 +30,7 @@ pub fn fill_few_items<S: Statement, A: Allocator, B: Allocator>(
     ensures ok { OnOk result (items.new.items ≡ items_of S.language program.now (choice_of choice.now)) }
     ensures few { OnOk result (length items.new.items ≤ most_items) }
     ensures err { IfErr result (TellsOfItems S.language program.now (choice_of choice.now)) }
+    ensures left { OnErr result ((filled : ℕ) × (items.new.items ≡ take filled (items_of S.language program.now (choice_of choice.now)))) }
 {
     fill_items(program, choice, items)?;
     if items.len() > MAX_ITEMS {
@@ -35,7 +39,7 @@ pub fn fill_few_items<S: Statement, A: Allocator, B: Allocator>(
     Ok(())
 }
 
-/// The items with their fixed pairs and these conflicts, which are theirs.
+/// The items with the reduced ones of their fixed pairs, which come to the same, and these conflicts, which are theirs.
 pub fn constrained<S: Statement, A: Allocator, B: Allocator>(
     alloc: A,
     program: &[Sequence<S, B>],
@@ -44,20 +48,21 @@ pub fn constrained<S: Statement, A: Allocator, B: Allocator>(
 ) -> Result<Items<A>, AllocError>
     requires few { length items.now ≤ most_items }
     requires conflicts { conflicts.items ≡ (constraints_of S.language program.now items.now).conflicts }
-    ensures { IfOk result (λ t. t ≡ constraints_of S.language program.now items.now) }
+    ensures { IfOk result (λ t. t ≡ reduced_of S.language program.now items.now) }
 {
     let fixed = fixed_of(alloc, program, items)?;
     Ok(Items::new(items.len(), fixed, conflicts))
 }
 
-/// In how many ways the open conflicts of items can each be taken one way round or the other; None above the most orders.
-/// Where nothing conflicts, there is one, and no pairs are made.
+/// In how many ways the open conflicts of a choice's items can each be taken one way round or the other; None above the most
+/// orders. Where nothing conflicts, there is one, and no pairs are made.
 fn count_orders<S: Statement, A: Allocator + Copy, B: Allocator>(
     alloc: A,
     program: &[Sequence<S, B>],
     items: &[Item],
 ) -> Result<Option<u64>, AllocError>
-    requires { length items.now ≤ most_items }
+    requires few { length items.now ≤ most_items }
+    requires of_choice { (paths : List (List ℕ)) × (items.now ≡ items_of S.language program.now paths) }
     ensures { IfOk result (λ c. MatchOption c
         (most_orders < count_of (constraints_of S.language program.now items.now))
         (λ n. (n ≡ count_of (constraints_of S.language program.now items.now)) × (n ≤ most_orders))) }

@@ -2,7 +2,7 @@
 ghost use Rattle.std.specs.Prelude.{◌≡◌, ◌≤◌, true, List, []};
 ghost use Rattle.std.specs.List.{sum_by};
 ghost use Rattle.lw_orders.specs.Limits.{most_open, most_orders};
-ghost use Rattle.lw_choices.specs.Counts.{total_of};
+ghost use Rattle.lw_choices.specs.Totals.{total_of};
 ghost use Rattle.lw_choices.specs.Items.{constraints_of};
 ghost use Rattle.lw_choices.specs.declared.item.Item.{Item};
 ghost use Rattle.lw_choices.specs.Visits.{IsVisitable};

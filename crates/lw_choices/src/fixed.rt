@@ -1,8 +1,9 @@
-//! The fixed pairs of the items of a choice.
+//! The fixed pairs of the items of a choice, but those that others decide: these are few, and come to the same.
 ghost use Rattle.std.specs.Prelude.{◌≡◌, ◌≤◌, ◌++◌, ◌||◌, [], if◌then◌else◌, length, IfOk, OnOk, option_copied};
 ghost use Rattle.lw_orders.specs.Limits.{most_items};
 ghost use Rattle.lw_choices.specs.Items as choice_items;
-ghost use Rattle.lw_choices.specs.Items.{none_before, behind, last_with, last_of, does_wait, fixed_from};
+ghost use Rattle.lw_choices.specs.Items.{does_wait};
+ghost use Rattle.lw_choices.specs.Reduced.{none_before, behind, last_with, last_of, fixed_from};
 
 use crate::item::{Item, Last};
 use crate::statement::waits;
@@ -102,7 +103,7 @@ fn push_fixed<A: Allocator>(
     Ok(())
 }
 
-/// The fixed pairs of items.
+/// The fixed pairs of items, but those that others decide.
 pub(crate) fn fixed_of<S: Statement, A: Allocator, B: Allocator>(
     alloc: A,
     program: &[Sequence<S, B>],

@@ -1,12 +1,20 @@
 //! Laws of choices of flow paths.
 //! A law is a function without a body, whose contract is the law; who needs it calls the function.
-ghost use Rattle.std.specs.Prelude.{◌↔◌, ℕ, List, All, Contains};
+ghost use Rattle.std.specs.Prelude.{◌≡◌, ◌≢◌, ◌↔◌, ℕ, List, All, Contains};
 ghost use Rattle.lw_litmus.specs.Tests.{SourceTest};
 ghost use Rattle.lw_litmus.specs.Sources.{source};
 ghost use Rattle.lw_litmus.specs.WellFormedTests.{IsWellFormedSource};
 ghost use Rattle.lw_base.specs.Lists.{EachOnce};
-ghost use Rattle.lw_choices.specs.Choices.{IsForward, IsChoice, choices_of};
-ghost use Rattle.lw_choices.specs.Counts.{HasTooManyItems};
+ghost use Rattle.lw_choices.specs.Choices.{IsForward, IsChoice};
+ghost use Rattle.lw_choices.specs.ChoiceLists.{choices_of};
+ghost use Rattle.lw_choices.specs.Counts.{HasTooManyItems, IsTotal, TellsLimit, IsWithinLimits};
+ghost use Rattle.lw_choices.specs.declared.fault.ListFault.{ListFault};
+ghost use Rattle.lw_choices.specs.declared.fault.ListFault.TheVariants.{Memory};
+ghost use Rattle.lw_choices.specs.Totals.{total_of};
+ghost use Rattle.lw_choices.specs.Items.{items_of, constraints_of};
+ghost use Rattle.lw_choices.specs.Reduced.{reduced_of};
+ghost use Rattle.lw_orders.specs.Order.{IsLinearExtension, IsDecided};
+ghost use Rattle.lw_orders.specs.Ways.{count_of};
 
 use lw_litmus::Statement;
 
@@ -16,6 +24,31 @@ pub fn choices_are_complete<S: Statement>()
     ensures all { (program : List (List S)) (paths : List (List ℕ)) → All (IsForward S.language) program
         → Contains (choices_of S.language program) paths ↔ IsChoice S.language program paths }
     ensures once { (program : List (List S)) → All (IsForward S.language) program → EachOnce (choices_of S.language program) }
+{}
+
+/// The orders of the items of a choice are made with a part of the fixed pairs, which comes to the same as all: the same orders keep
+/// it, it decides the same pairs, and it leaves as many ways to take the conflicts.
+pub fn reduced_pairs_fix_the_same<S: Statement>()
+    ensures orders { (program : List (List S)) (paths : List (List ℕ)) (order : List ℕ)
+        → IsLinearExtension (reduced_of S.language program (items_of S.language program paths)) order
+        ↔ IsLinearExtension (constraints_of S.language program (items_of S.language program paths)) order }
+    ensures decided { (program : List (List S)) (paths : List (List ℕ)) (p : ℕ × ℕ)
+        → IsDecided (reduced_of S.language program (items_of S.language program paths)).fixed p
+        ↔ IsDecided (constraints_of S.language program (items_of S.language program paths)).fixed p }
+    ensures ways { (program : List (List S)) (paths : List (List ℕ))
+        → count_of (reduced_of S.language program (items_of S.language program paths))
+        ≡ count_of (constraints_of S.language program (items_of S.language program paths)) }
+{}
+
+/// The orders of all choices of a program have one total, which the code counts, where jumps lead forward, at most to the end. So a
+/// program that is past a limit is not within the limits.
+pub fn totals_are_counted<S: Statement>()
+    ensures counted { (program : List (List S)) → All (IsForward S.language) program
+        → IsTotal S.language program (total_of S.language program) }
+    ensures one { (program : List (List S)) (n m : ℕ)
+        → IsTotal S.language program n → IsTotal S.language program m → n ≡ m }
+    ensures apart { (program : List (List S)) (f : ListFault) → f ≢ Memory
+        → TellsLimit S.language program f → IsWithinLimits S.language program → ⊥ }
 {}
 
 /// A source test never has too many items for a list.

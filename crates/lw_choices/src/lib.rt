@@ -33,7 +33,10 @@ pub use count::{constrained, fill_few_items};
 pub use fault::ListFault;
 pub use few::has_no_conflicts;
 pub use item::Item;
-pub use laws::{choices_are_complete, source_tests_have_few_items};
+pub use laws::{
+    choices_are_complete, reduced_pairs_fix_the_same, source_tests_have_few_items,
+    totals_are_counted,
+};
 pub use limits::check_limits;
 pub use path::{Choice, Path};
 pub use visit::{Visitor, visit_choices};

@@ -1,7 +1,8 @@
 //! Whether a program is within the limits of a list.
 ghost use Rattle.std.specs.Prelude.{◌≤◌, OnOk, IfErr};
 ghost use Rattle.lw_orders.specs.Limits.{most_orders};
-ghost use Rattle.lw_choices.specs.Counts.{total_of, HasTooManyItems, TellsOfChoices, TellsLimit, IsWithinLimits};
+ghost use Rattle.lw_choices.specs.Counts.{HasTooManyItems, TellsLimit, IsWithinLimits};
+ghost use Rattle.lw_choices.specs.Totals.{total_of, TellsOfChoices};
 ghost use Rattle.lw_choices.specs.Visits.{IsVisitable};
 
 use crate::count::Counter;

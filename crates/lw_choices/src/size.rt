@@ -2,7 +2,8 @@
 ghost use Rattle.std.specs.Prelude.{◌≡◌, ◌+◌, ◌*◌, ◌<◌, ◌≤◌, ℕ, Contains, length, OnOk, IfErr, slice_index, Some};
 ghost use Rattle.lw_litmus.specs.Limits.{most_instructions};
 ghost use Rattle.lw_litmus.specs.Flow.{IsPathFrom};
-ghost use Rattle.lw_choices.specs.Choices.{IsForward, IsChoice, led};
+ghost use Rattle.lw_choices.specs.Choices.{IsForward, IsChoice};
+ghost use Rattle.lw_choices.specs.ChoiceLists.{led};
 ghost use Rattle.lw_choices.specs.Counts.{HasTooManyItems, items_at_choice};
 ghost use Rattle.lw_choices.specs.inner.Sizes.{IsMost, statement_size, path_size};
 ghost use Rattle.lw_choices.specs.Visits.{IsVisitable};

@@ -3,7 +3,7 @@ ghost use Rattle.std.specs.Prelude.{◌≡◌, ℕ, ◌<◌, ◌≤◌, List, []
 ghost use Rattle.std.specs.Option.{option_to_list};
 ghost use Rattle.lw_base.specs.Threads.{code_of};
 ghost use Rattle.lw_litmus.specs.Limits.{most_instructions};
-ghost use Rattle.lw_choices.specs.Choices.{led, choices_of};
+ghost use Rattle.lw_choices.specs.ChoiceLists.{led, choices_of};
 ghost use Rattle.lw_choices.specs.Views.{path_of, choice_of};
 ghost use Rattle.lw_choices.specs.Visits.{Visited, Refused, IsVisitable, CanGoOn, choices_along};
 ghost use Rattle.lw_choices.specs.inner.Visiting.{Done};

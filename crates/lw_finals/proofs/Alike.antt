@@ -6,8 +6,7 @@ use Rattle.lw_finals.proofs.Common.{cases_order, Contains-append_right, Final, L
 use Rattle.lw_finals.proofs.Common.{IsOrder, IsLinearExtension, Alike, IsTied, Exchanged, order_split}
 use Rattle.lw_finals.proofs.Common.{alike_orders_are_joined, kept_along, Item, item_at, items_of}
 use Rattle.lw_finals.proofs.Common.{statement_of, items_conflict, constraints_of, AreOrdered, kept}
-use Rattle.lw_finals.proofs.Common.{conflict_there, conflicts_up, conflict_mutual, threads_up, System}
-use Rattle.lw_finals.proofs.Common.{OrderRan}
+use Rattle.lw_finals.proofs.Common.{conflict_there, conflicts_up, conflict_mutual, System, OrderRan}
 use Rattle.lw_finals.specs.OrderRuns.{StaysAndEnds}
 
 module _ {S : Type 0} (language : Language S) (program : List (List S)) (paths : List (List ℕ)) where
@@ -54,13 +53,13 @@ module _ {S : Type 0} (language : Language S) (program : List (List S)) (paths :
     ];
     forth = λ less same ordered. omega (
       arith,
-      kept language program items ys (threads_up language program paths) iy.1 e.x e.y less old.1 same ordered,
+      kept language program paths ys iy.1 e.x e.y less old.1 same ordered,
       new.2,
       new.3,
     );
     back = λ less same ordered. omega (
       arith,
-      kept language program items xs (threads_up language program paths) ix.1 e.y e.x less old.0 same ordered,
+      kept language program paths xs ix.1 e.y e.x less old.0 same ordered,
       old.2,
       old.3,
     );

@@ -61,12 +61,12 @@ pub use Rattle.lw_listing.proofs.api.Listings.{stays_listed}
 pub use Rattle.lw_listing.specs.Listings.{OutcomeEntries, outcomes_of}
 pub use Rattle.lw_choices.proofs.Common.{HasTooManyItems, IsChoice, IsForward, IsWithinLimits, Visited}
 pub use Rattle.lw_choices.proofs.Common.{choice_of, conflict_by, constraints_of, drains, item_at}
-pub use Rattle.lw_choices.proofs.Common.{items_at_choice, items_conflict, items_of, location_by, statement_of}
-pub use Rattle.lw_choices.proofs.Common.{statement_waits, writes_by}
+pub use Rattle.lw_choices.proofs.Common.{items_at_choice, items_conflict, items_of, location_by, reduced_of}
+pub use Rattle.lw_choices.proofs.Common.{statement_of, statement_waits, writes_by}
 pub use Rattle.lw_choices.proofs.api.Counting.{given_refused, limit_told, visit_refused}
 pub use Rattle.lw_choices.proofs.api.Enumerated.{choices_are_all}
 pub use Rattle.lw_choices.proofs.api.FixedOrder.{AreOrdered, keeps_all, kept}
-pub use Rattle.lw_choices.proofs.api.FixedPairs.{conflict_there, conflicts_up, constraints_well_formed}
+pub use Rattle.lw_choices.proofs.api.FixedPairs.{conflict_there, conflicts_up}
 pub use Rattle.lw_choices.proofs.api.Led.{follows_within}
 pub use Rattle.lw_choices.proofs.api.Members.{Contains-cons, Contains-here, Contains-there, from_map, none_in}
 pub use Rattle.lw_choices.proofs.api.Members.{of_one}
@@ -74,8 +74,9 @@ pub use Rattle.lw_choices.proofs.api.Mutual.{conflict_mutual}
 pub use Rattle.lw_choices.proofs.api.Numbering.{GoesUp, Has, In, IsReal, IsStoring, Pairwise, as_many, beside}
 pub use Rattle.lw_choices.proofs.api.Numbering.{goes_up_in, item, item_there, number_less, path_up, real}
 pub use Rattle.lw_choices.proofs.api.Numbering.{same_number, slot, slot_goes_up, slot_less, store_slot}
-pub use Rattle.lw_choices.proofs.api.Numbering.{threads_up}
 pub use Rattle.lw_choices.proofs.api.Pairs.{numbers_up}
+pub use Rattle.lw_choices.proofs.api.Reduced.{same_orders}
+pub use Rattle.lw_choices.proofs.api.ReducedPairs.{reduced_well_formed}
 pub use Rattle.lw_choices.proofs.api.Visitable.{forward_of, visitable}
 pub use Rattle.lw_choices.specs.declared.item.Item.{Item}
 pub use Rattle.lw_whole.specs.OverCaches.{ReplaysOverCaches}

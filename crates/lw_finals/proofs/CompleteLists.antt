@@ -7,10 +7,10 @@ use Rattle.lw_finals.proofs.Common.{machine_start, Did, leads_to, no_eviction, E
 use Rattle.lw_finals.proofs.Common.{Language, Test, ProgramTest, IsThread, IsWellFormed, Constraints}
 use Rattle.lw_finals.proofs.Common.{IsLinearExtension, Alike, most_items, orders, IsForward, IsChoice}
 use Rattle.lw_finals.proofs.Common.{HasTooManyItems, IsWithinLimits, items_at_choice, items_of}
-use Rattle.lw_finals.proofs.Common.{constraints_of, Item, choices_are_all, constraints_well_formed}
-use Rattle.lw_finals.proofs.Common.{Contains-here, from_map, OutcomeEntries, outcomes_of, ReplaysOverCaches}
-use Rattle.lw_finals.proofs.Common.{System, LeadsFlat, Gathers, EndsOfProgram, AreComplete, AreFlat}
-use Rattle.lw_finals.proofs.Common.{IsComplete}
+use Rattle.lw_finals.proofs.Common.{constraints_of, reduced_of, Item, choices_are_all, reduced_well_formed}
+use Rattle.lw_finals.proofs.Common.{same_orders, Contains-here, from_map, OutcomeEntries, outcomes_of}
+use Rattle.lw_finals.proofs.Common.{ReplaysOverCaches, System, LeadsFlat, Gathers, EndsOfProgram, AreComplete}
+use Rattle.lw_finals.proofs.Common.{AreFlat, IsComplete}
 use Rattle.lw_finals.specs.OrderRuns.{StaysAndEnds}
 use Rattle.lw_finals.proofs.Ordered.{OfChoice}
 use Rattle.lw_orders.specs.Order as orders
@@ -36,6 +36,10 @@ module _ {S : Type 0} (language : Language S) (test : Test S) {State : Type 0} (
   abbrev choice_constraints : List (List ℕ) → Constraints
   choice_constraints paths = constraints_of language test.threads (choice_items paths)
 
+  -- those that the orders are made with
+  abbrev pub reduced_constraints : List (List ℕ) → Constraints
+  reduced_constraints paths = reduced_of language test.threads (choice_items paths)
+
   -- alike orders of a choice end alike
   abbrev pub AreAlike : Type 0
   AreAlike =
@@ -44,21 +48,22 @@ module _ {S : Type 0} (language : Language S) (test : Test S) {State : Type 0} (
       → Alike (choice_constraints paths).conflicts xs ys → StaysAndEnds system (choice_items paths) xs o → StaysAndEnds system (choice_items paths) ys o
 
   module _ (is : IsWellFormed language test) (alike : AreAlike) (complete : AreComplete) (few : HasTooManyItems language test.threads → ⊥) where
-    formed : (paths : List (List ℕ)) → IsChoice language test.threads paths → orders.IsWellFormed (choice_constraints paths)
+    formed : (paths : List (List ℕ)) → IsChoice language test.threads paths → orders.IsWellFormed (reduced_constraints paths)
     formed paths choice = elim (cases_lt most_items (items_at_choice language test.threads paths)) [
       | inl many ↦ absurd (few (paths, choice, many))
-      | inr within ↦ constraints_well_formed language test.threads (choice_items paths) within
+      | inr within ↦ reduced_well_formed language test.threads (choice_items paths) within
     ]
 
     -- what an order of a choice ends with, one ends with that is given
     given_end : (o : Final) → OfChoice language test.threads system o → EndsOfProgram language (StaysAndEnds system) test.threads o
     given_end o (paths, choice, c) =
-        let t : Constraints = choice_constraints paths in
-        let given = complete.exactly_one t (formed paths choice) c.order c.keeps in
+        let t : Constraints = reduced_constraints paths in
+        let same = same_orders language test.threads paths in
+        let given = complete.exactly_one t (formed paths choice) c.order ((same c.order).1 c.keeps) in
         let there : Contains (orders t) given.one =
         subst (λ (xs : List (List ℕ)). Contains xs given.one) (sym given.split) (Contains-append_right
         given.before _ given.one (Contains-here given.one given.one given.behind refl)) in
-        let keeps = All-contains (IsLinearExtension t) _ _ (complete.each t (formed paths choice)) there in
+        let keeps = (same given.one).0 (All-contains (IsLinearExtension t) _ _ (complete.each t (formed paths choice)) there) in
         let forward : All (IsForward language) test.threads = All-weaker (IsThread language
         (length test.head.locs)) (IsForward language) (λ code t. t.forward) test.threads is.code in (
           paths,

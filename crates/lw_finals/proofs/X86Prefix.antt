@@ -4,7 +4,7 @@ use Rattle.lw_finals.proofs.Common.{length, Some, refl, sym, ap, ap₂, ◌∙�
 use Rattle.lw_finals.proofs.Common.{cases_lt, code_of, place, Before, IsLinearExtension, same_place, Instr}
 use Rattle.lw_finals.proofs.Common.{x86, IsForward, IsChoice, Item, item_at, items_of, statement_of}
 use Rattle.lw_finals.proofs.Common.{constraints_of, AreOrdered, kept, In, Has, item, slot, slot_less}
-use Rattle.lw_finals.proofs.Common.{store_slot, real, threads_up, number_less, same_number, beside}
+use Rattle.lw_finals.proofs.Common.{store_slot, real, number_less, same_number, beside}
 use Rattle.lw_finals.proofs.Waiting.{Climbs, climbs_in, stored, waits_after, from_after, in_after}
 use Rattle.lw_finals.proofs.Waiting.{store_after}
 
@@ -43,7 +43,7 @@ module _ (program : List (List Instr)) (forward : (t : ℕ) → IsForward x86 (c
 
     stand_so : (i j : ℕ) → i < length items → j < length items → (it i).thread ≡ (it j).thread
         → slot (it i) < slot (it j) → AreOrdered x86 program (it i) (it j) → Before order i j
-    stand_so i j li lj same less ordered = kept x86 program items order (threads_up x86 program paths) keeps.1
+    stand_so i j li lj same less ordered = kept x86 program paths order keeps.1
         i j (number_less x86 program paths forward choice i j li same less) lj same ordered
 
     pair_stands : (s d : ℕ) → s < length items → d < length items → (it s).thread ≡ (it d).thread → (it s).position ≡ (it d).position

@@ -1,11 +1,12 @@
 //! The outcomes of a program are gathered, choice by choice and order by order.
 ghost use Rattle.std.specs.Prelude.{◌≡◌, ◌<◌, ◌≤◌, true, List, [], length, All, IfOk, IfErr, OnOk};
-ghost use Rattle.lw_orders.specs.Order.{count_of};
+ghost use Rattle.lw_orders.specs.Ways.{count_of};
 ghost use Rattle.lw_orders.specs.Sequence.{orders};
 ghost use Rattle.lw_orders.specs.Limits.{most_items, most_orders};
 ghost use Rattle.lw_choices.specs.Items.{constraints_of};
 ghost use Rattle.lw_choices.specs.declared.item.Item.{Item};
-ghost use Rattle.lw_choices.specs.Counts.{TellsOfChoice, TellsOfGiven, TellsLimit, IsWithinLimits};
+ghost use Rattle.lw_choices.specs.Counts.{TellsLimit, IsWithinLimits};
+ghost use Rattle.lw_choices.specs.Totals.{TellsOfChoice, TellsOfGiven};
 ghost use Rattle.lw_finals.specs.inner.Gathered.{Gathers, EndsOfOne, EndsOfItems, EndsOfChoice, EndsOfProgram};
 ghost use Rattle.lw_listing.specs.Listings.{IsStrictlySorted};
 ghost use Rattle.lw_choices.specs.Visits.{IsVisitable};

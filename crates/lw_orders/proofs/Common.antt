@@ -7,7 +7,7 @@ pub use Rattle.std.proofs.Common.{length-take, length-take-le, lt-ltb, ltb, map,
 pub use Rattle.std.proofs.Common.{option_and_then, option_map, pow_mono, pow_pos, refl, replicate, set}
 pub use Rattle.std.proofs.Common.{slice_index, slice_index_or, slice_set, subst, suc, sym, take, take-take}
 pub use Rattle.std.proofs.Common.{take_all, true, unwrap_or, w64, zero, ℕ, ◌%◌, ◌&&◌, ◌*◌, ◌++◌, ◌+◌, ◌-◌}
-pub use Rattle.std.proofs.Common.{◌<◌, ◌^◌, ◌||◌, ◌∙◌, ◌∷◌, ◌≡◌, ◌≤◌, ◌⊎◌}
+pub use Rattle.std.proofs.Common.{◌<◌, ◌^◌, ◌||◌, ◌↔◌, ◌∙◌, ◌∷◌, ◌≡◌, ◌≤◌, ◌⊎◌}
 pub use Rattle.std.proofs.Math.Pow.{pow-lt}
 pub use Rattle.std.proofs.lemmas.Bool.{and_from, and_parts, and_right, both_ways, cases_Bool, cases_eq}
 pub use Rattle.std.proofs.lemmas.Bool.{cases_lt, cases_order, cond-false, cond-true, eqb-false}
@@ -17,10 +17,11 @@ pub use Rattle.std.proofs.lemmas.Iterator.Adapters.{option_map_id}
 pub use Rattle.std.proofs.lemmas.List.{drop_all, drop_more, get_or-replicate, get_or_append_left, get_or_past}
 pub use Rattle.std.proofs.lemmas.List.{get_or_read, length-replicate, nil_from_length, take-set, take-set-le}
 pub use Rattle.std.proofs.lemmas.List.{take_more, take_more_set, with_items_is}
-pub use Rattle.std.proofs.lemmas.List.Elements.{All-append, All-cons, All-contains, All-drop, All-filter}
-pub use Rattle.std.proofs.lemmas.List.Elements.{All-head, All-nil, All-push, All-tail, All-weaker}
-pub use Rattle.std.proofs.lemmas.List.Elements.{Contains-append_cases, Contains-append_left, Contains-get_or}
-pub use Rattle.std.proofs.lemmas.List.Elements.{Contains-push, Contains-push_cases, filter_map-append}
+pub use Rattle.std.proofs.lemmas.List.Elements.{All-append, All-cons, All-contains, All-contains_itself}
+pub use Rattle.std.proofs.lemmas.List.Elements.{All-drop, All-filter, All-head, All-nil, All-push, All-tail}
+pub use Rattle.std.proofs.lemmas.List.Elements.{All-weaker, Contains-append_cases, Contains-append_left}
+pub use Rattle.std.proofs.lemmas.List.Elements.{Contains-get_or, Contains-push, Contains-push_cases}
+pub use Rattle.std.proofs.lemmas.List.Elements.{filter_agree, filter_map-append, filter_passes}
 pub use Rattle.std.proofs.lemmas.List.Folds.{Any-from_list_any, list_any-append, list_any_at, list_any_more}
 pub use Rattle.std.proofs.lemmas.List.Sums.{AllPass-from_list_all, list_all-from_AllPass}
 pub use Rattle.std.proofs.lemmas.Nat.{one_shl, or_lt, pow_below}
@@ -37,12 +38,13 @@ pub use Rattle.std.specs.Vec.{with_items}
 pub use mir.Val.{bits}
 pub use Rattle.lw_orders.specs.Exchange.{AreJoined, Exchanged, IsKeptByExchanges, IsTied, JoinedBy}
 pub use Rattle.lw_orders.specs.Limits.{most_items, most_open, most_orders}
-pub use Rattle.lw_orders.specs.Order.{Alike, AreSorted, Before, Constraints, ExactlyOne, GoUp, IsDecided}
-pub use Rattle.lw_orders.specs.Order.{IsLinearExtension, IsOrder, IsWellFormed, Keeps, Once, SameWayRound}
-pub use Rattle.lw_orders.specs.Order.{Walk, count_of, is_decided, leads, open_pairs, place}
+pub use Rattle.lw_orders.specs.Order.{Alike, AreOpen, AreSorted, Before, Constraints, ExactlyOne, GoUp}
+pub use Rattle.lw_orders.specs.Order.{HasWays, IsBelow, IsDecided, IsLinearExtension, IsOrder, IsWellFormed}
+pub use Rattle.lw_orders.specs.Order.{Keeps, Once, SameWayRound, Walk, place}
 pub use Rattle.lw_orders.specs.Progress.{Progress}
 pub use Rattle.lw_orders.specs.Sequence.{Within, directions, in_turn, is_free, lowest_order, numbers, orders}
 pub use Rattle.lw_orders.specs.Sequence.{without}
+pub use Rattle.lw_orders.specs.Ways.{count_of, is_decided, leads, open_pairs}
 pub use Rattle.lw_orders.specs.inner.Candidates.{IsFound, Narrowed, Waits}
 pub use Rattle.lw_orders.specs.inner.Closure.{Closes, GoesOn, IsDrawn, IsReachedFrom, Reaches}
 pub use Rattle.lw_orders.specs.inner.Directions.{IsTaken, Tried, TriedAs, pair_at}

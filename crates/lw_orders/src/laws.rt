@@ -1,8 +1,9 @@
 //! The public laws: what holds of all orders, whoever makes them.
 
 ghost use Rattle.std.specs.Prelude.{◌≡◌, ◌↔◌, ◌<◌, ◌++◌, [], ◌∷◌, ℕ, List, Bool, IsTrue, All, length};
-ghost use Rattle.lw_orders.specs.Order.{Constraints, IsWellFormed, IsLinearExtension, IsOrder, Once, place, Alike, ExactlyOne, open_pairs, is_decided};
-ghost use Rattle.lw_orders.specs.Order.{IsDecided};
+ghost use Rattle.lw_orders.specs.Order.{Constraints, IsWellFormed, IsLinearExtension, IsOrder, Once, place, Alike, ExactlyOne};
+ghost use Rattle.lw_orders.specs.Order.{IsDecided, AreOpen, HasWays};
+ghost use Rattle.lw_orders.specs.Ways.{open_pairs, is_decided, count_of};
 ghost use Rattle.lw_orders.specs.Sequence.{numbers, orders};
 ghost use Rattle.lw_orders.specs.Exchange.{AreJoined, IsKeptByExchanges};
 
@@ -26,6 +27,13 @@ pub fn alike_orders_agree()
 /// second.
 pub fn decided_by_walks()
     ensures { (t : Constraints) → IsWellFormed t → (p : ℕ × ℕ) → IsTrue (is_decided t.fixed p) ↔ IsDecided t.fixed p }
+{}
+
+/// A theorem for readers: the conflicts that are computed to be open are those that no walk decides, and the ways to take them are 2
+/// to their number, and no other number.
+pub fn ways_are_computed()
+    ensures pairs { (t : Constraints) → IsWellFormed t → AreOpen t (open_pairs t) }
+    ensures number { (t : Constraints) → IsWellFormed t → (n : ℕ) → HasWays t n ↔ (n ≡ count_of t) }
 {}
 
 /// Of any well-formed items: the orders that `Orders` gives keep the fixed pairs, and each order that keeps them is alike

@@ -36,7 +36,7 @@ mod rows;
 pub use items::{Items, count};
 pub use laws::{
     alike_orders_agree, alike_orders_are_joined, decided_by_walks, items_stand_once,
-    one_order_goes_up, orders_are_complete,
+    one_order_goes_up, orders_are_complete, ways_are_computed,
 };
 pub use limits::{MAX_ITEMS, MAX_OPEN, MAX_ORDERS, the_constants_are_the_limits};
 pub use order::Order;

@@ -3,10 +3,12 @@ use Rattle.lw_choices.proofs.Common.{◌≡◌, ℕ, ◌+◌, ◌<◌, ◌≤◌
 use Rattle.lw_choices.proofs.Common.{arith, All, Contains, count_of, most_items, most_orders, ListFault}
 use Rattle.lw_choices.proofs.Common.{TooManyItems, TooManyOrders, Memory, Item, IsForward, choices_of}
 use Rattle.lw_choices.proofs.Common.{items_at_choice, orders_at_choice, orders_of, total_of, HasTooManyItems}
-use Rattle.lw_choices.proofs.Common.{TellsOfChoice, TellsOfGiven, TellsOfChoices, TellsLimit, Language}
-use Rattle.lw_choices.proofs.Common.{items_of, constraints_of, Visited, Refused}
+use Rattle.lw_choices.proofs.Common.{TellsOfChoice, TellsOfGiven, TellsOfChoices, TellsLimit, IsWithinLimits}
+use Rattle.lw_choices.proofs.Common.{Language, items_of, constraints_of, Visited, Refused}
 use Rattle.lw_choices.proofs.api.Enumerated.{choices_are_all}
 use Rattle.lw_choices.proofs.api.Members.{Contains-here, Contains-there, Contains-cons, none_in}
+use Rattle.lw_choices.proofs.api.Reduced.{same_ways}
+use Rattle.lw_choices.proofs.api.Totals.{total_is}
 
 module _ {S : Type 0} (language : Language S) where
   -- what a counter is after a visit
@@ -114,12 +116,16 @@ module _ {S : Type 0} (language : Language S) where
   pub given_refused : (program : List (List S)) (paths : List (List ℕ)) (e : ListFault)
       → TellsOfGiven language program (items_of language program paths) e → TellsOfChoice language program 0 paths e
   given_refused program paths TooManyItems h = absurd h
-  given_refused program paths TooManyOrders h = omega (arith, h)
+  given_refused program paths TooManyOrders h = omega (arith, h, same_ways language program paths)
   given_refused program paths Memory h = tt
 
 -- where no choice has too many items, only the orders can be too many
-pub limit_told : {S : Type 0} (language : Language S) (program : List (List S))
+pub limit_told : {S : Type 0} (language : Language S) (program : List (List S)) → All (IsForward language) program
     → (HasTooManyItems language program → ⊥) → (e : ListFault) → TellsOfChoices language program e → TellsLimit language program e
-limit_told language program few TooManyItems h = h
-limit_told language program few TooManyOrders h = (few, h)
-limit_told language program few Memory h = tt
+limit_told language program forward few TooManyItems h = h
+limit_told language program forward few TooManyOrders h = (few, (total_of language program, total_is language program forward, h))
+limit_told language program forward few Memory h = tt
+
+pub limit_kept : {S : Type 0} (language : Language S) (program : List (List S)) → All (IsForward language) program
+    → (HasTooManyItems language program → ⊥) → total_of language program ≤ most_orders → IsWithinLimits language program
+limit_kept language program forward few within = (few, (total_of language program, total_is language program forward, within))

@@ -1,137 +1,43 @@
--- The fixed pairs of the items of a choice, in either language, number by number: each goes up along a thread. And the items with
--- their fixed pairs and conflicts are well-formed.
-use Rattle.lw_choices.proofs.Common.{◌≡◌, Bool, true, false, ℕ, zero, suc, ◌+◌, ◌<◌, ◌≤◌, ◌==◌, ◌⊎◌, List, []}
-use Rattle.lw_choices.proofs.Common.{◌++◌, length, drop, drop-cons, flat_map, Option, Some, None, refl, ap}
-use Rattle.lw_choices.proofs.Common.{◌∙◌, subst, inl, inr, arith, All, Contains, eq-eqb, ne_eqb, cases_eq}
-use Rattle.lw_choices.proofs.Common.{cond-true, cond-false, drop_all, All-nil, All-cons, All-append, GoUp}
-use Rattle.lw_choices.proofs.Common.{most_items, numbers, All-parts, Item, Last, Language, item_at}
-use Rattle.lw_choices.proofs.Common.{none_before, behind, fixed_at, last_with, last_of, pairs_from}
-use Rattle.lw_choices.proofs.Common.{items_conflict, does_wait, fixed_from, constraints_of}
-use Rattle.lw_orders.specs.Order.{IsWellFormed}
+-- The fixed pairs and the conflicts of items, in either language: each pair goes up, and each that goes up and passes the test is
+-- there. And the items with them are well-formed.
+use Rattle.lw_choices.proofs.Common.{◌≡◌, Bool, true, ℕ, ◌<◌, ◌≤◌, List, length, filter, arith, Contains}
+use Rattle.lw_choices.proofs.Common.{AreSorted, GoUp, most_items, Item, Language, item_at, pairs_from}
+use Rattle.lw_choices.proofs.Common.{is_fixed, items_conflict, constraints_of, IsWellFormed}
 use Rattle.lw_choices.proofs.api.Pairs.{In, All-passing, pairs_up, pairs_have, pairs_rise, Rises-filter}
 use Rattle.lw_choices.proofs.api.Pairs.{Rises-sorted, Contains-filter}
 
--- the last items, given whether they are of the thread
-pub last_same : (t u : ℕ) (last : Last) → t ≡ u → last_of t u last ≡ last
-last_same t u last e = cond-true (t == u) last none_before (eq-eqb t u e)
-
-pub last_other : (t u : ℕ) (last : Last) → (t ≡ u → ⊥) → last_of t u last ≡ none_before
-last_other t u last ne = cond-false (t == u) last none_before (ne_eqb t u ne)
-
--- the last statement, and the last drain
-abbrev pub last_by : Bool → Last → Option ℕ
-last_by true last = last.drain
-last_by false last = last.statement
-
-module _ (Q : ℕ × ℕ → Type 0) (n : ℕ) where
-  All-behind : (o : Option ℕ) → ((m : ℕ) → o ≡ Some m → Q (m, n)) → All Q (behind o n)
-  All-behind None each = All-nil Q
-  All-behind (Some m) each = All-cons Q (m, n) [] (each m refl) (All-nil Q)
-
-  pub All-fixed_at : (d w : Bool) (last : Last) → ((m : ℕ) → last.statement ≡ Some m → Q (m, n))
-      → ((d ≡ true) ⊎ (w ≡ true) → (m : ℕ) → last.drain ≡ Some m → Q (m, n)) → All Q (fixed_at d w last n)
-  All-fixed_at true w last s d = All-append Q _ _ (All-behind _ s) (All-behind last.drain (d (inl refl)))
-  All-fixed_at false true last s d = All-append Q _ _ (All-behind _ s) (All-behind last.drain (d (inr refl)))
-  All-fixed_at false false last s d = All-behind last.statement s
-
-module _ (Q : ℕ × ℕ → Type 0) (f : ℕ → List (ℕ × ℕ)) where
-  All-numbered : (k n : ℕ) → ((i : ℕ) → k ≤ i → i < k + n → All Q (f i)) → All Q (flat_map f (numbers k n))
-  All-numbered k zero each = All-nil Q
-  All-numbered k (suc n) each = All-append Q (f k) (flat_map f (numbers (suc k) n)) (each k (omega arith)
-      (omega arith)) (All-numbered (suc k) n (λ i a b. each i (omega arith) (omega arith)))
-
-  All-number : (k n : ℕ) → All Q (flat_map f (numbers k n)) → (i : ℕ) → k ≤ i → i < k + n → All Q (f i)
-  All-number k zero all i a b = absurd (omega arith)
-  All-number k (suc n) all i a b = (let (here, rest) = All-parts Q (f k) _ all in elim (cases_eq k i) [
-    | inl e ↦ subst (λ j. All Q (f j)) e here
-    | inr ne ↦ All-number (suc k) n rest i (omega arith) (omega arith)
-  ])
-
-module _ (all : List Item) where
-  abbrev it : ℕ → Item
-  it i = item_at all i
-
-  -- the thread of the item before number n, and its last items
-  abbrev pub thread_upto : ℕ → ℕ
-  thread_upto zero = 0
-  thread_upto (suc n) = (it n).thread
-
-  abbrev pub last_upto : ℕ → Last
-  last_upto zero = none_before
-  last_upto (suc n) = last_with (it n).is_drain (last_of (thread_upto n) (it n).thread (last_upto n)) n
-
-  -- the last items of the thread of number n
-  abbrev pub last_at : ℕ → Last
-  last_at n = last_of (thread_upto n) (it n).thread (last_upto n)
-
-  -- a last item stands before, on the thread, and is a statement or a drain as it is named
-  abbrev AreLast : ℕ → ℕ → Last → Type 0
-  AreLast n t last = (b : Bool) (m : ℕ) → last_by b last ≡ Some m → (m < n) × ((it m).thread ≡ t) × ((it m).is_drain ≡ b)
-
-  none_last : (n t : ℕ) → AreLast n t none_before
-  none_last n t true m e = cc
-  none_last n t false m e = cc
-
-  last_there : (n t u : ℕ) (last : Last) → AreLast n t last → AreLast n u (last_of t u last)
-  last_there n t u last h = elim (cases_eq t u) [
-    | inl e ↦ rw (last_same t u last e, ← e) h
-    | inr ne ↦ rw (last_other t u last ne) (none_last n u)
-  ]
-
-  last_on : (d : Bool) (n t : ℕ) (last : Last) → (it n).is_drain ≡ d → (it n).thread ≡ t → AreLast n t last → AreLast (suc n) t (last_with d last n)
-  last_on true n t last is on h true m e = (let same : n ≡ m = cc in rw (← same) (omega arith, on, is))
-  last_on true n t last is on h false m e = (let (less, there, kind) = h false m e in (omega (arith, less), there, kind))
-  last_on false n t last is on h true m e = (let (less, there, kind) = h true m e in (omega (arith, less), there, kind))
-  last_on false n t last is on h false m e = (let same : n ≡ m = cc in rw (← same) (omega arith, on, is))
-
-  are_last : (n : ℕ) → AreLast n (thread_upto n) (last_upto n)
-  are_last zero = none_last 0 0
-  are_last (suc n) = last_on (it n).is_drain n (it n).thread (last_at n) refl refl (last_there n (thread_upto n) (it n).thread (last_upto n) (are_last n))
-
-  module _ {S : Type 0} (language : Language S) (program : List (List S)) where
-    abbrev fixed_of : ℕ → List (ℕ × ℕ)
-    fixed_of n = fixed_at (it n).is_drain (does_wait language program (it n)) (last_at n) n
-
-    fixed_is : (d n : ℕ) → n + d ≡ length all → fixed_from language program n (thread_upto n) (last_upto n) (drop n all) ≡ flat_map fixed_of (numbers n d)
-    fixed_is zero n e = ap (fixed_from language program n (thread_upto n) (last_upto n)) (drop_all n all (omega arith))
-    fixed_is (suc d) n e =
-        ap (fixed_from language program n (thread_upto n) (last_upto n)) (drop-cons all n _ (omega arith))
-        ∙ ap (λ ps. fixed_of n ++ ps) (fixed_is d (suc n) (omega arith))
-
-    whole : (constraints_of language program all).fixed ≡ flat_map fixed_of (numbers 0 (length all))
-    whole = fixed_is (length all) 0 (omega arith)
-
-    -- what holds of the fixed pairs, number by number
-    pub fixed-at : (Q : ℕ × ℕ → Type 0) → All Q (constraints_of language program all).fixed → (n : ℕ) → n < length all → All Q (fixed_of n)
-    fixed-at Q each n l = All-number Q fixed_of 0 _ (rw whole at each) n (omega arith) (omega arith)
-
-    -- each is of a last item of a thread and one behind it
-    pub each_fixed : (Q : ℕ × ℕ → Type 0) → ((b : Bool) (m n : ℕ) → m < n → n < length all → (it m).thread ≡ (it n).thread → (it m).is_drain ≡ b
-        → (b ≡ true → ((it n).is_drain ≡ true) ⊎ (does_wait language program (it n) ≡ true)) → Q (m, n)) → All Q (constraints_of language program all).fixed
-    each_fixed Q each = rw whole (All-numbered Q fixed_of 0 (length all) (λ n a l.
-        (let last = last_there n (thread_upto n) (it n).thread (last_upto n) (are_last n) in
-        All-fixed_at Q n (it n).is_drain (does_wait language program (it n)) (last_at n)
-        (λ m e. (let (less, same, is) = last false m e in each false m n less (omega (arith, l)) same is
-        (λ bad. cc (bad)))) (λ ordered m e. (let (less, same, is) = last true m e in each true m n less
-        (omega (arith, l)) same is (λ _. ordered))))))
-
 module _ {S : Type 0} (language : Language S) (program : List (List S)) where
-  -- each fixed pair goes up
-  pub fixed_up : (items : List Item) → GoUp (length items) (constraints_of language program items).fixed
-  fixed_up items = each_fixed items language program (λ p. (p.0 < p.1) × (p.1 < length items)) (λ b m n less l same is ordered. (less, l))
+  abbrev fixed_at : List Item → ℕ × ℕ → Bool
+  fixed_at items p = is_fixed language program (item_at items p.0) (item_at items p.1)
 
   abbrev conflict_at : List Item → ℕ × ℕ → Bool
   conflict_at items p = items_conflict language program (item_at items p.0) (item_at items p.1)
 
-  -- a pair that goes up and conflicts is among the conflicts
+  -- a pair that goes up and is fixed is among the fixed ones
+  pub fixed_there : (items : List Item) (i j : ℕ) → i < j → j < length items
+      → is_fixed language program (item_at items i) (item_at items j) ≡ true → Contains (constraints_of language program items).fixed (i, j)
+  fixed_there items i j less below f = Contains-filter (fixed_at items) (pairs_from 0 (length items))
+      (i, j) (pairs_have 0 (length items) i j (omega arith) less (omega arith)) f
+
+  -- and one that conflicts is among the conflicts
   pub conflict_there : (items : List Item) (i j : ℕ) → i < j → j < length items
       → items_conflict language program (item_at items i) (item_at items j) ≡ true → Contains (constraints_of language program items).conflicts (i, j)
   conflict_there items i j less below c = Contains-filter (conflict_at items) (pairs_from 0 (length items))
       (i, j) (pairs_have 0 (length items) i j (omega arith) less (omega arith)) c
 
+  -- each goes up
+  all_up : (test : ℕ × ℕ → Bool) (n : ℕ) → GoUp n (filter test (pairs_from 0 n))
+  all_up test n = All-passing test (In 0 n) (λ p. (p.0 < p.1) × (p.1 < n)) (pairs_from 0 n) (pairs_up 0 n) (λ p h e. (h.1, omega (arith, h.2)))
+
+  pub fixed_up : (items : List Item) → GoUp (length items) (constraints_of language program items).fixed
+  fixed_up items = all_up (fixed_at items) (length items)
+
   pub conflicts_up : (items : List Item) → GoUp (length items) (constraints_of language program items).conflicts
-  conflicts_up items = All-passing (conflict_at items) (In 0 (length items))
-      (λ p. (p.0 < p.1) × (p.1 < length items)) (pairs_from 0 (length items)) (pairs_up 0 (length items)) (λ p h e. (h.1, omega (arith, h.2)))
+  conflicts_up items = all_up (conflict_at items) (length items)
+
+  pub conflicts_sorted : (items : List Item) → AreSorted (constraints_of language program items).conflicts
+  conflicts_sorted items = Rises-sorted (constraints_of language program items).conflicts
+      (Rises-filter (conflict_at items) (pairs_from 0 (length items)) (pairs_rise 0 (length items)))
 
   -- items that aren't too many are well-formed with their pairs
   pub constraints_well_formed : (items : List Item) → length items ≤ most_items → IsWellFormed (constraints_of language program items)
@@ -139,12 +45,5 @@ module _ {S : Type 0} (language : Language S) (program : List (List S)) where
     few = few;
     fixed_up = fixed_up items;
     conflicts_up = conflicts_up items;
-    sorted = Rises-sorted (constraints_of language program items).conflicts
-        (Rises-filter (conflict_at items) (pairs_from 0 (length items)) (pairs_rise 0 (length items)));
+    sorted = conflicts_sorted items;
   }
-
-  -- so are items with pairs that are theirs
-  pub well_formed_with : (items : List Item) (fixed conflicts : List (ℕ × ℕ))
-      → length items ≤ most_items → fixed ≡ fixed_from language program 0 0 none_before items → conflicts ≡ (constraints_of language program items).conflicts
-      → IsWellFormed (record { len = length items; fixed = fixed; conflicts = conflicts })
-  well_formed_with items fixed conflicts few f c = rw (f, c) (constraints_well_formed items few)

@@ -1,7 +1,8 @@
 -- A well-formed test of either language is a program whose choices can be visited.
 use Rattle.lw_choices.proofs.Common.{◌≡◌, ℕ, ◌≤◌, inl, inr, [], Some, length, sym, subst, slice_get, arith}
 use Rattle.lw_choices.proofs.Common.{cases_lt, get_or_past, All-weaker, All-get_or, code_of, Language, Test}
-use Rattle.lw_choices.proofs.Common.{IsThread, IsWellFormed, IsForward, IsVisitable}
+use Rattle.lw_choices.proofs.Common.{IsThread, IsForward, IsVisitable}
+use Rattle.lw_litmus.specs.WellFormed.{IsWellFormed}
 
 module _ {S : Type 0} (language : Language S) (test : Test S) (is : IsWellFormed language test) where
   pub visitable : language.most ≤ 32 → IsVisitable language test.threads

@@ -5,9 +5,10 @@ use Rattle.lw_base.specs.Outcomes.{Final}
 use Rattle.lw_base.specs.declared.event.Event.{Event}
 use Rattle.lw_orders.specs.Sequence.{orders}
 use Rattle.lw_choices.specs.declared.item.Item.{Item}
-use Rattle.lw_choices.specs.Choices.{choices_of}
+use Rattle.lw_choices.specs.ChoiceLists.{choices_of}
 use Rattle.lw_litmus.specs.Languages.{Language}
-use Rattle.lw_choices.specs.Items.{items_of, constraints_of}
+use Rattle.lw_choices.specs.Items.{items_of}
+use Rattle.lw_choices.specs.Reduced.{reduced_of}
 use Rattle.lw_listing.specs.Listings.{OutcomeEntries, outcomes_of}
 
 -- What runs orders: a test, with the outcome with which its last run ended.
@@ -35,7 +36,7 @@ EndsOfOne {X} Ends xs o = (x : X) × Contains xs x × Ends x o
 module _ {S : Type 0} (language : Language S) (Ends : List Item → List ℕ → Final → Type 0) (program : List (List S)) where
   -- what one of the orders that are given for items ends with
   abbrev pub EndsOfItems : List Item → Final → Type 0
-  EndsOfItems items = EndsOfOne (Ends items) (orders (constraints_of language program items))
+  EndsOfItems items = EndsOfOne (Ends items) (orders (reduced_of language program items))
 
   -- the same for the items of a choice
   abbrev pub EndsOfChoice : List (List ℕ) → Final → Type 0

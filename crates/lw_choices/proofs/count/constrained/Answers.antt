@@ -1,4 +1,4 @@
-use Rattle.lw_choices.proofs.api.FixedPairs.{well_formed_with}
+use Rattle.lw_choices.proofs.api.ReducedPairs.{well_formed_with}
 use Rattle.lw_choices.proofs.count.constrained.Goals as goal
 
 pub new-requires : goal.new-requires

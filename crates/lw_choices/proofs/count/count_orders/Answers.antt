@@ -1,6 +1,7 @@
-use Rattle.lw_choices.proofs.Common.{◌≡◌, ◌≤◌, ◌<◌, ◌∙◌, ap, arith, length, subst, sym, IfOk, MatchOption}
+use Rattle.lw_choices.proofs.Common.{◌≡◌, ◌≤◌, ◌<◌, ℕ, ◌∙◌, ap, arith, length, subst, sym, IfOk, MatchOption}
 use Rattle.lw_choices.proofs.Common.{eqb-true, most_orders, Constraints, count_of, constraints_of}
 use Rattle.lw_choices.proofs.Pushed.{one_order}
+use Rattle.lw_choices.proofs.api.Reduced.{ways_given}
 use Rattle.lw_choices.proofs.count.count_orders.Goals as goal
 
 pub returns-then-is_empty : goal.returns-then-is_empty
@@ -12,5 +13,8 @@ returns-then-is_empty g c =
 
 pub returns : goal.returns
 returns g c =
-    subst (λ (t : Constraints). IfOk c.count.result (λ n. MatchOption n (most_orders < count_of t)
-    (λ k. (k ≡ count_of t) × (k ≤ most_orders)))) c.in_ok-constraints.ensures c.count.ensures.number
+    let counted = subst (λ (t : Constraints). IfOk c.count.result (λ n. MatchOption n (most_orders < count_of t)
+    (λ k. (k ≡ count_of t) × (k ≤ most_orders)))) c.in_ok-constraints.ensures c.count.ensures.number in
+    subst (λ (ways : ℕ). IfOk c.count.result (λ n. MatchOption n (most_orders < ways)
+    (λ k. (k ≡ ways) × (k ≤ most_orders)))) (ways_given g.S.Statement.language c.args.program.now
+    c.args.items.now c.requires.of_choice.0 c.requires.of_choice.1) counted

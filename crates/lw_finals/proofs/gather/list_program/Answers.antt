@@ -10,7 +10,7 @@ returns-in_err-visit_choices-clause-err g c =
     let told = visit_refused g.S.Statement.language (λ v. v.program.now) (λ (v : Gatherer g.row.S.Denot
     g.row.A.Denot g.row.B.Denot g.row.R.Denot g.S.Statement). 0) _ _ c.args.program.now (λ v paths w h.
     h.0) (λ v paths e h. h) c.requires.forward _ c.in_err-visit_choices.field-0.0 refl refused in
-    rw (p.1, p.2) (limit_told g.S.Statement.language c.args.program.now c.in_ok-check_limits.ensures.within.0 _ told)
+    rw (p.1, p.2) (limit_told g.S.Statement.language c.args.program.now c.requires.forward c.in_ok-check_limits.ensures.within.0 _ told)
 
 pub returns-clause-gathered : goal.returns-clause-gathered
 returns-clause-gathered g c =

@@ -1,0 +1,51 @@
+-- The orders of choices as they are counted, and why the parts of the code refuse a choice. `totals_are_counted` says that the count of
+-- all choices is the total that the limits speak of.
+use Rattle.std.specs.Prelude.{◌<◌, ◌+◌, ℕ, List, [], ◌∷◌}
+use Rattle.lw_litmus.specs.Languages.{Language}
+use Rattle.lw_orders.specs.Limits.{most_items, most_orders}
+use Rattle.lw_orders.specs.Ways.{count_of}
+use Rattle.lw_choices.specs.ChoiceLists.{choices_of}
+use Rattle.lw_choices.specs.Counts.{items_at_choice, HasTooManyItems}
+use Rattle.lw_choices.specs.Items.{items_of, constraints_of}
+use Rattle.lw_choices.specs.Reduced.{reduced_of}
+use Rattle.lw_choices.specs.declared.fault.ListFault.{ListFault}
+use Rattle.lw_choices.specs.declared.fault.ListFault.TheVariants.{TooManyItems, TooManyOrders, Memory}
+use Rattle.lw_choices.specs.declared.item.Item.{Item}
+
+module _ {S : Type 0} (language : Language S) (program : List (List S)) where
+  -- the orders of a choice
+  abbrev pub orders_at_choice : List (List ℕ) → ℕ
+  orders_at_choice paths = count_of (constraints_of language program (items_of language program paths))
+
+  -- those of some choices together
+  abbrev pub orders_of : List (List (List ℕ)) → ℕ
+  orders_of [] = 0
+  orders_of (paths ∷ choices) = orders_at_choice paths + orders_of choices
+
+  -- those of all choices
+  abbrev pub total_of : ℕ
+  total_of = orders_of (choices_of language program)
+
+  -- why a choice is refused, where those before it have so many orders
+  abbrev pub TellsOfChoice : ℕ → List (List ℕ) → ListFault → Type 0
+  TellsOfChoice before paths TooManyItems = most_items < items_at_choice language program paths
+  TellsOfChoice before paths TooManyOrders = most_orders < before + orders_at_choice paths
+  TellsOfChoice before paths Memory = Unit {0}
+
+  -- why its items are refused
+  abbrev pub TellsOfItems : List (List ℕ) → ListFault → Type 0
+  TellsOfItems paths TooManyItems = most_items < items_at_choice language program paths
+  TellsOfItems paths TooManyOrders = ⊥
+  TellsOfItems paths Memory = Unit {0}
+
+  -- why there are no runs of some items' orders
+  abbrev pub TellsOfGiven : List Item → ListFault → Type 0
+  TellsOfGiven items TooManyItems = ⊥
+  TellsOfGiven items TooManyOrders = most_orders < count_of (reduced_of language program items)
+  TellsOfGiven items Memory = Unit {0}
+
+  -- why a visit of all choices is refused
+  abbrev pub TellsOfChoices : ListFault → Type 0
+  TellsOfChoices TooManyItems = HasTooManyItems language program
+  TellsOfChoices TooManyOrders = most_orders < total_of
+  TellsOfChoices Memory = Unit {0}

@@ -1,0 +1,135 @@
+-- The open conflicts, in their order: those that are computed are they, and no others are.
+use Rattle.lw_orders.proofs.Common.{◌≡◌, ℕ, zero, suc, ◌^◌, ◌⊎◌, inl, inr, Bool, true, false, not, List, []}
+use Rattle.lw_orders.proofs.Common.{◌∷◌, length, filter, refl, sym, ap, ◌∙◌, subst, arith, All, Contains}
+use Rattle.lw_orders.proofs.Common.{cases_Bool, All-nil, All-cons, All-head, All-weaker, All-filter}
+use Rattle.lw_orders.proofs.Common.{All-contains, Constraints, GoUp, IsBelow, AreSorted, AreOpen, HasWays}
+use Rattle.lw_orders.proofs.Common.{is_decided, open_pairs, count_of, ◌↔◌, All-contains_itself, filter_passes}
+use Rattle.lw_orders.proofs.Walks.{decided_walk, walk_decided}
+
+none_in : {X : Type 0} (x : X) → Contains [] x → ⊥
+none_in x (k, l, e) = absurd (omega arith)
+
+here : (p : ℕ × ℕ) (ps : List (ℕ × ℕ)) → Contains (p ∷ ps) p
+here p ps = (0, omega arith, refl)
+
+there : (p q : ℕ × ℕ) (ps : List (ℕ × ℕ)) → Contains ps q → Contains (p ∷ ps) q
+there p q ps (k, l, e) = (suc k, omega arith, e)
+
+here_or_there : (p q : ℕ × ℕ) (ps : List (ℕ × ℕ)) → Contains (p ∷ ps) q → (p ≡ q) ⊎ Contains ps q
+here_or_there p q ps (zero, l, e) = inl e
+here_or_there p q ps (suc k, l, e) = inr (k, omega arith, e)
+
+-- ---- sorted pairs
+below_on : (p q r : ℕ × ℕ) → IsBelow p q → IsBelow q r → IsBelow p r
+below_on p q r (inl a) (inl b) = inl (omega (arith, a, b))
+below_on p q r (inl a) (inr b) = inl (omega (arith, a, b.0))
+below_on p q r (inr a) (inl b) = inl (omega (arith, a.0, b))
+below_on p q r (inr a) (inr b) = inr (a.0 ∙ b.0, omega (arith, a.1, b.1))
+
+below_differ : (p q : ℕ × ℕ) → IsBelow p q → p ≡ q → ⊥
+below_differ p q (inl a) e = absurd (omega (arith, a, ap (λ (r : ℕ × ℕ). r.0) e))
+below_differ p q (inr a) e = absurd (omega (arith, a.1, ap (λ (r : ℕ × ℕ). r.1) e))
+
+all_above : (p : ℕ × ℕ) (ps : List (ℕ × ℕ)) → AreSorted (p ∷ ps) → All (IsBelow p) ps
+all_above p [] s = All-nil (IsBelow p)
+all_above p (q ∷ ps) s =
+    All-cons (IsBelow p) q ps s.0 (All-weaker (IsBelow q) (IsBelow p) (λ r b. below_on p q r s.0 b) ps (all_above q ps s.1))
+
+sorted_rest : (p : ℕ × ℕ) (ps : List (ℕ × ℕ)) → AreSorted (p ∷ ps) → AreSorted ps
+sorted_rest p [] s = tt
+sorted_rest p (q ∷ ps) s = s.1
+
+sorted_with : (p : ℕ × ℕ) (ps : List (ℕ × ℕ)) → All (IsBelow p) ps → AreSorted ps → AreSorted (p ∷ ps)
+sorted_with p [] above s = tt
+sorted_with p (q ∷ ps) above s = (All-head (IsBelow p) q ps above, s)
+
+sorted_filter : (test : ℕ × ℕ → Bool) (ps : List (ℕ × ℕ)) → AreSorted ps → AreSorted (filter test ps)
+sorted_filter test [] s = tt
+sorted_filter test (p ∷ ps) s = (let rest = sorted_filter test ps (sorted_rest p ps s) in elim (cases_Bool (test p)) [
+  | inl e ↦ rw e (sorted_with p (filter test ps) (All-filter test (IsBelow p) ps (all_above p ps s)) rest)
+  | inr e ↦ rw e rest
+])
+
+stands_once : (p : ℕ × ℕ) (ps : List (ℕ × ℕ)) → AreSorted (p ∷ ps) → Contains ps p → ⊥
+stands_once p ps s c = below_differ p p (All-contains (IsBelow p) ps p (all_above p ps s) c) refl
+
+-- two sorted lists of the same pairs are one
+same_sorted : (ps qs : List (ℕ × ℕ)) → AreSorted ps → AreSorted qs → ((r : ℕ × ℕ) → Contains ps r ↔ Contains qs r) → ps ≡ qs
+same_sorted [] [] s t same = refl
+same_sorted [] (q ∷ qs) s t same = absurd (none_in q ((same q).1 (here q qs)))
+same_sorted (p ∷ ps) [] s t same = absurd (none_in p ((same p).0 (here p ps)))
+same_sorted (p ∷ ps) (q ∷ qs) s t same =
+    let first : p ≡ q = elim (here_or_there q p qs ((same p).0 (here p ps))) [
+      | inl e ↦ sym e
+      | inr above_q ↦ elim (here_or_there p q ps ((same q).1 (here q qs))) [
+        | inl e ↦ e
+        | inr above_p ↦ absurd (below_differ p p (below_on p q p (All-contains (IsBelow p) ps q (all_above p ps s) above_p)
+            (All-contains (IsBelow q) qs p (all_above q qs t) above_q)) refl)
+      ]
+    ] in
+    let rest : ps ≡ qs = same_sorted ps qs (sorted_rest p ps s) (sorted_rest q qs t) (λ r. (
+      λ c. elim (here_or_there q r qs ((same r).0 (there p r ps c))) [
+        | inl e ↦ absurd (stands_once p ps s (subst (Contains ps) (sym (first ∙ e)) c))
+        | inr d ↦ d
+      ],
+      λ c. elim (here_or_there p r ps ((same r).1 (there q r qs c))) [
+        | inl e ↦ absurd (stands_once q qs t (subst (Contains qs) (sym (sym first ∙ e)) c))
+        | inr d ↦ d
+      ],
+    )) in
+    cc
+
+-- ---- pairs that pass a test
+filter_has : (test : ℕ × ℕ → Bool) (ps : List (ℕ × ℕ)) (p : ℕ × ℕ) → Contains ps p → test p ≡ true → Contains (filter test ps) p
+filter_has test [] p c e = absurd (none_in p c)
+filter_has test (q ∷ ps) p c e = elim (cases_Bool (test q)) [
+  | inl f ↦ rw f (elim (here_or_there q p ps c) [
+    | inl is ↦ subst (λ r. Contains (r ∷ filter test ps) p) (sym is) (here p (filter test ps))
+    | inr r ↦ there q p (filter test ps) (filter_has test ps p r e)
+  ])
+  | inr f ↦ rw f (elim (here_or_there q p ps c) [
+    | inl is ↦ absurd cc
+    | inr r ↦ filter_has test ps p r e
+  ])
+]
+
+filter_from : (test : ℕ × ℕ → Bool) (ps : List (ℕ × ℕ)) (p : ℕ × ℕ) → Contains (filter test ps) p → Contains ps p × (test p ≡ true)
+filter_from test ps p c = (
+  All-contains (Contains ps) (filter test ps) p (All-filter test (Contains ps) ps (All-contains_itself ps)) c,
+  All-contains (λ q. test q ≡ true) (filter test ps) p (filter_passes test ps) c,
+)
+
+-- ---- the open conflicts
+module _ (t : Constraints) where
+  -- those that are computed
+  pub open_are : GoUp t.len t.fixed → AreSorted t.conflicts → AreOpen t (open_pairs t)
+  open_are up sorted = record {
+    all = λ p. (
+      λ c. (let (there, passes) = filter_from (λ q. not (is_decided t.fixed q)) t.conflicts p c in (
+        there,
+        λ decided. (let bad : false ≡ true = rw (walk_decided t.len t.fixed p up decided) at passes in absurd cc),
+      )),
+      λ c. filter_has (λ q. not (is_decided t.fixed q)) t.conflicts p c.0 (elim (cases_Bool (is_decided t.fixed p)) [
+        | inl e ↦ absurd (c.1 (decided_walk t.fixed p e))
+        | inr e ↦ ap not e
+      ]),
+    );
+    sorted = sorted_filter (λ q. not (is_decided t.fixed q)) t.conflicts sorted;
+  }
+
+  pub ways_are : GoUp t.len t.fixed → AreSorted t.conflicts → HasWays t (count_of t)
+  ways_are up sorted = (open_pairs t, open_are up sorted, refl)
+
+  -- and no others
+  pub open_are_one : (ps qs : List (ℕ × ℕ)) → AreOpen t ps → AreOpen t qs → ps ≡ qs
+  open_are_one ps qs p q = same_sorted ps qs p.sorted q.sorted (λ r. ((λ c. (q.all r).1 ((p.all r).0 c)), λ c. (p.all r).1 ((q.all r).0 c)))
+
+  pub ways_are_one : (n m : ℕ) → HasWays t n → HasWays t m → n ≡ m
+  ways_are_one n m (ps, p, n_is) (qs, q, m_is) = n_is ∙ (ap (λ (rs : List (ℕ × ℕ)). 2 ^ length rs) (open_are_one ps qs p q) ∙ sym m_is)
+
+  -- so they have one number, which is computed
+  pub ways_computed : GoUp t.len t.fixed → AreSorted t.conflicts → (n : ℕ) → HasWays t n ↔ (n ≡ count_of t)
+  ways_computed up sorted n = (
+    λ ways. ways_are_one n (count_of t) ways (ways_are up sorted),
+    λ is. subst (HasWays t) (sym is) (ways_are up sorted),
+  )
