@@ -40,17 +40,18 @@ source_slots IfEqual = Word word.If ∷ Register ∷ Word word.Equals ∷ Number
 source_slots IfNotEqual = Word word.If ∷ Register ∷ Word word.Differs ∷ Number ∷ Word word.Goto ∷ Label ∷ []
 source_slots Goto = Word word.Goto ∷ Label ∷ []
 
--- the statement of what the tokens give, on the location of a number, with a target
+-- The statement of what the tokens give, on the location of a number, with a target. A slot is named as above, by the letter that
+-- stands there, by its word or sign, which gives nothing, or as a location or a label.
 abbrev pub statement : ℕ → ℕ → (form : SourceForm) → Filling (source_slots form) → Stmt
-statement x to Store (n, (_, (v, _))) = stmt.Store x v
-statement x to Load (d, (_, (n, _))) = stmt.Load d x
-statement x to Swap (d, (_, (_, (n, (a, _))))) = stmt.Swap d x a
-statement x to FetchAdd (d, (_, (_, (n, (a, _))))) = stmt.FetchAdd d x a
-statement x to Set (d, (_, (v, _))) = stmt.Set d v
-statement x to Sum (d, (_, (a, (_, (v, _))))) = stmt.Sum d a v
-statement x to IfEqual (_, (a, (_, (n, (_, (l, _)))))) = stmt.IfEq a n to
-statement x to IfNotEqual (_, (a, (_, (n, (_, (l, _)))))) = stmt.IfNe a n to
-statement x to Goto (_, (l, _)) = stmt.Goto to
+statement x target Store (location, (assign, (v, end))) = stmt.Store x v
+statement x target Load (d, (assign, (location, end))) = stmt.Load d x
+statement x target Swap (d, (assign, (swap, (location, (a, end))))) = stmt.Swap d x a
+statement x target FetchAdd (d, (assign, (fetch_add, (location, (a, end))))) = stmt.FetchAdd d x a
+statement x target Set (d, (assign, (v, end))) = stmt.Set d v
+statement x target Sum (d, (assign, (a, (plus, (v, end))))) = stmt.Sum d a v
+statement x target IfEqual (if_word, (a, (equals, (n, (goto, (label, end)))))) = stmt.IfEq a n target
+statement x target IfNotEqual (if_word, (a, (differs, (n, (goto, (label, end)))))) = stmt.IfNe a n target
+statement x target Goto (goto, (label, end)) = stmt.Goto target
 
 abbrev pub source_spelling : Spelling SourceWord SourceForm Stmt
 source_spelling = record {

@@ -81,26 +81,27 @@ x86_slots JumpNotEqual = Word word.Jne ∷ Label ∷ []
 -- `JMP L`
 x86_slots Jump = Word word.Jmp ∷ Label ∷ []
 
--- the instruction of what the tokens give, on the location of a number, with a target
+-- The instruction of what the tokens give, on the location of a number, with a target. A slot is named as above, by the letter that
+-- stands there, by its word or sign, which gives nothing (`[` opens and `]` closes), or as a location or a label.
 abbrev pub instruction : ℕ → ℕ → (form : X86Form) → Filling (x86_slots form) → Instr
-instruction x to Store (_, (_, (y, (_, (_, (v, _)))))) = instr.Store x v
-instruction x to StoreNumber (_, (_, (y, (_, (_, (_, (n, _))))))) = instr.Store x (operand.Number n)
-instruction x to Load (_, (d, (_, (_, (y, (_, _)))))) = instr.Load d x
-instruction x to Set (_, (d, (_, (v, _)))) = instr.Set d v
-instruction x to SetNumber (_, (d, (_, (_, (n, _))))) = instr.Set d (operand.Number n)
-instruction x to Add (_, (d, (_, (v, _)))) = instr.Add d v
-instruction x to AddNumber (_, (d, (_, (_, (n, _))))) = instr.Add d (operand.Number n)
-instruction x to Compare (_, (d, (_, (v, _)))) = instr.Cmp d v
-instruction x to CompareNumber (_, (d, (_, (_, (n, _))))) = instr.Cmp d (operand.Number n)
-instruction x to Exchange (_, (_, (y, (_, (_, (d, _)))))) = instr.Xchg x d
-instruction x to ExchangeLast (_, (d, (_, (_, (y, (_, _)))))) = instr.Xchg x d
-instruction x to LockedExchange (_, (_, (_, (y, (_, (_, (d, _))))))) = instr.Xchg x d
-instruction x to LockedExchangeLast (_, (_, (d, (_, (_, (y, (_, _))))))) = instr.Xchg x d
-instruction x to ExchangeAdd (_, (_, (_, (y, (_, (_, (d, _))))))) = instr.Xadd x d
-instruction x to Fence (_, _) = instr.Mfence
-instruction x to JumpEqual (_, (l, _)) = instr.Je to
-instruction x to JumpNotEqual (_, (l, _)) = instr.Jne to
-instruction x to Jump (_, (l, _)) = instr.Jmp to
+instruction x target Store (mov, (opens, (location, (closes, (comma, (a, end)))))) = instr.Store x a
+instruction x target StoreNumber (mov, (opens, (location, (closes, (comma, (dollar, (n, end))))))) = instr.Store x (operand.Number n)
+instruction x target Load (mov, (d, (comma, (opens, (location, (closes, end)))))) = instr.Load d x
+instruction x target Set (mov, (d, (comma, (a, end)))) = instr.Set d a
+instruction x target SetNumber (mov, (d, (comma, (dollar, (n, end))))) = instr.Set d (operand.Number n)
+instruction x target Add (add, (d, (comma, (a, end)))) = instr.Add d a
+instruction x target AddNumber (add, (d, (comma, (dollar, (n, end))))) = instr.Add d (operand.Number n)
+instruction x target Compare (cmp, (a, (comma, (b, end)))) = instr.Cmp a b
+instruction x target CompareNumber (cmp, (a, (comma, (dollar, (n, end))))) = instr.Cmp a (operand.Number n)
+instruction x target Exchange (xchg, (opens, (location, (closes, (comma, (a, end)))))) = instr.Xchg x a
+instruction x target ExchangeLast (xchg, (a, (comma, (opens, (location, (closes, end)))))) = instr.Xchg x a
+instruction x target LockedExchange (lock, (xchg, (opens, (location, (closes, (comma, (a, end))))))) = instr.Xchg x a
+instruction x target LockedExchangeLast (lock, (xchg, (a, (comma, (opens, (location, (closes, end))))))) = instr.Xchg x a
+instruction x target ExchangeAdd (lock, (xadd, (opens, (location, (closes, (comma, (a, end))))))) = instr.Xadd x a
+instruction x target Fence (mfence, end) = instr.Mfence
+instruction x target JumpEqual (je, (label, end)) = instr.Je target
+instruction x target JumpNotEqual (jne, (label, end)) = instr.Jne target
+instruction x target Jump (jmp, (label, end)) = instr.Jmp target
 
 abbrev pub x86_spelling : Spelling X86Word X86Form Instr
 x86_spelling = record {
