@@ -1,11 +1,12 @@
 //! The program: `lw states` reports the final states of the test on standard input; `lw compile` compiles it; `lw schedules`
 //! lists a schedule for each of its final states; `lw replay SCHEDULE`, perhaps with `--protocol` and a protocol's name
-//! behind it, replays it. Everything but the system's words and streams is lw_bench's.
+//! behind it, replays it. It reads standard input, has lw_bench answer those bytes, and writes what that makes to standard output;
+//! the system's words and streams are all that it adds.
 #![tactic(auto)]
 
 use lw_bench::{
-    BenchFault, FromRead, Task, ToWrite, carry_out, command_of, fault_line, memory_line, status_of,
-    usage_line, usage_status,
+    BenchFault, FromRead, Task, ToWrite, answer, command_of, fault_line, memory_line, read_input,
+    status_of, usage_line, usage_status, write_output,
 };
 use std::alloc::Global;
 use std::process::ExitCode;
@@ -42,7 +43,7 @@ fn run_words(rt: &HostRuntime, words: &[String]) -> u8 {
     match texts_of(rt.alloc(), words) {
         Err(fault) => refuse(rt, &fault),
         Ok(texts) => match command_of(&texts) {
-            Some(task) => carry_out_task(rt, task),
+            Some(task) => carry_out(rt, task),
             None => {
                 complain(rt, usage_line());
                 usage_status()
@@ -52,13 +53,19 @@ fn run_words(rt: &HostRuntime, words: &[String]) -> u8 {
 }
 
 /// Carries a task out on standard input, with its output on standard output, and answers the exit status.
-fn carry_out_task(rt: &HostRuntime, task: Task<'_>) -> u8 {
-    let mut reader = FromRead::new(rt.stdin());
-    let mut writer = ToWrite::new(rt.stdout());
-    match carry_out(rt.alloc(), task, &mut reader, &mut writer) {
+fn carry_out(rt: &HostRuntime, task: Task<'_>) -> u8 {
+    match answer_input(rt, task) {
         Ok(status) => status,
         Err(fault) => refuse(rt, &fault),
     }
+}
+
+/// Reads standard input, writes what the task makes of its bytes to standard output, and answers the exit status.
+fn answer_input(rt: &HostRuntime, task: Task<'_>) -> Result<u8, BenchFault> {
+    let text = read_input(rt.alloc(), &mut FromRead::new(rt.stdin()))?;
+    let (made, status) = answer(rt.alloc(), task, text.as_slice())?;
+    write_output(&mut ToWrite::new(rt.stdout()), made.as_str().as_bytes())?;
+    Ok(status)
 }
 
 /// The texts of the words.

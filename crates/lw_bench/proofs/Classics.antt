@@ -48,7 +48,7 @@ message_passing_forbidden o run =
 
 -- ---- the x86 tests are well-formed, so what they do over flat memory they do over caches
 
-one_letter : (w : List ℕ) (b : ℕ) → w ≡ b ∷ [] → is_word_byte b ≡ true → is_ascii_digit b ≡ false → is_reserved (b ∷ []) ≡ false → IsLocation w
+pub one_letter : (w : List ℕ) (b : ℕ) → w ≡ b ∷ [] → is_word_byte b ≡ true → is_ascii_digit b ≡ false → is_reserved (b ∷ []) ≡ false → IsLocation w
 one_letter w b is word front free =
     rw is ((record { some = omega arith; all = (word, tt); front = front }, omega arith), free)
 

@@ -1,29 +1,33 @@
 -- What proofs cite of std, of lower crates and of this crate's definitions, passed on from one place. Declares nothing.
-pub use Rattle.std.proofs.Common.{All, Bool, Bor, Contains, Err, IfOk, IfSome, IsTrue, Less, List}
-pub use Rattle.std.proofs.Common.{MatchOption, None, Ok, OnOk, Option, Result, Some, [], ap, append-nil}
-pub use Rattle.std.proofs.Common.{append_assoc, ap₂, arith, codes, decimal, drop, drop-cons, false}
-pub use Rattle.std.proofs.Common.{if◌then◌else◌, inl, inr, is_ok, length, length-append, length-take}
-pub use Rattle.std.proofs.Common.{length-take-le, map, nat_eq, nat_lt, not, option_map, refl, replicate}
-pub use Rattle.std.proofs.Common.{rules, slice_get, slice_index, slice_index_or, slice_set, string_bytes}
-pub use Rattle.std.proofs.Common.{subst, suc, sym, take, take-append-drop, take_all, true, zero, ℕ, ◌&&◌}
-pub use Rattle.std.proofs.Common.{◌++◌, ◌+◌, ◌-◌, ◌<◌, ◌==◌, ◌^◌, ◌↔◌, ◌∙◌, ◌∷◌, ◌≡◌, ◌≢◌, ◌≤◌, ◌⊎◌}
-pub use Rattle.std.proofs.lemmas.Bool.{agree_below, agree_below_at, and_parts, cases_lt, false≢true}
+pub use Rattle.std.proofs.Common.{All, AllPairs, Bool, Bor, Contains, Err, IfOk, IfSome, IsAscii, IsTrue}
+pub use Rattle.std.proofs.Common.{Less, List, MatchOption, None, Ok, OnOk, Option, Result, Some, [], ap}
+pub use Rattle.std.proofs.Common.{append-nil, append_assoc, ap₂, arith, codes, decimal, drop, drop-cons}
+pub use Rattle.std.proofs.Common.{eqb-true, false, if◌then◌else◌, inl, inr, is_ok, length, length-append}
+pub use Rattle.std.proofs.Common.{length-take, length-take-le, ltb-true, map, nat_cmp, nat_eq, nat_lt, not}
+pub use Rattle.std.proofs.Common.{option_map, refl, replicate, rules, slice_get, slice_index, slice_index_or}
+pub use Rattle.std.proofs.Common.{slice_set, string_bytes, subst, suc, sym, take, take-append-drop, take_all}
+pub use Rattle.std.proofs.Common.{true, zero, ℕ, ◌&&◌, ◌++◌, ◌+◌, ◌-◌, ◌<◌, ◌==◌, ◌^◌, ◌||◌, ◌↔◌, ◌∙◌, ◌∷◌}
+pub use Rattle.std.proofs.Common.{◌≡◌, ◌≢◌, ◌≤◌, ◌⊎◌}
+pub use Rattle.std.proofs.lemmas.Bool.{agree_below, agree_below_at, and_parts, cases_lt, false≢true, not-true}
+pub use Rattle.std.proofs.lemmas.Bool.Decides.{nat_tests}
 pub use Rattle.std.proofs.lemmas.List.{drop_all, length-map, take-append-le}
-pub use Rattle.std.proofs.lemmas.List.Elements.{All-cons, All-map, All-nil, All-weaker}
+pub use Rattle.std.proofs.lemmas.List.Elements.{All-cons, All-from_recursion, All-map, All-nil, All-weaker}
+pub use Rattle.std.proofs.lemmas.List.Kept.{AllPairs-cons}
 pub use Rattle.std.proofs.lemmas.Option.{get_or_from_slice_get, none-some, same_Some, slice_get-get_or}
 pub use Rattle.std.proofs.lemmas.Option.{slice_get-map, slice_get_within}
 pub use Rattle.std.proofs.lemmas.Result.{IfErr-weaker, IfOk-weaker, err_from_is_err_and, on_ok_weaker}
-pub use Rattle.std.specs.Char.{is_ascii_digit}
+pub use Rattle.std.proofs.lemmas.Str.{IsUtf8-from_ascii}
+pub use Rattle.std.specs.Char.{digit_value, is_ascii_digit}
 pub use Rattle.std.specs.Cmp.{unsigned_Decides}
-pub use Rattle.std.specs.Cmp.Lexicographic.{pointwise, pointwise_decides}
+pub use Rattle.std.specs.Cmp.Lexicographic.{pointwise, pointwise_decides, slice_cmp}
 pub use Rattle.std.specs.Io.KnownBytes.{Appends, Consumes, IsAtEnd, Keeps}
-pub use Rattle.std.specs.List.{AllByRecursion}
+pub use Rattle.std.specs.List.{AllByRecursion, list_all}
 pub use Rattle.std.specs.Option.{ForSome}
 pub use Rattle.lw_base.proofs.Common.{Bytes, Final, Formula, IsEntryOf, IsEvent, IsLocation, IsOutcomeOf}
-pub use Rattle.lw_base.proofs.Common.{IsRegisterNumber, IsSchedule, IsTestName, IsWellFormedHead}
-pub use Rattle.lw_base.proofs.Common.{IsWordNumber, NoSuch, SpeaksOf, TestHead, final_cmp, head_of}
-pub use Rattle.lw_base.proofs.Common.{is_reserved, is_word_byte, most_threads, nodes, register_name}
-pub use Rattle.lw_base.proofs.Common.{stop_name, stop_number, sum_of}
+pub use Rattle.lw_base.proofs.Common.{IsRegister, IsRegisterNumber, IsSchedule, IsTestName, IsWellFormedHead}
+pub use Rattle.lw_base.proofs.Common.{IsWordNumber, NoSuch, Reg_is, SpeaksOf, TestHead, TokenList, begins}
+pub use Rattle.lw_base.proofs.Common.{code_of, final_cmp, head_of, is_blank, is_reserved, is_word_byte}
+pub use Rattle.lw_base.proofs.Common.{most_threads, nodes, register_name, stop_name, stop_number, sum_of}
 pub use Rattle.lw_base.proofs.api.Formulas.{has_locations}
 pub use Rattle.lw_base.proofs.api.Lists.{cons_head, get_some}
 pub use Rattle.lw_base.proofs.api.Returns.{passed_on}
@@ -38,6 +42,7 @@ pub use Rattle.lw_base.specs.declared.head.Arch.{Arch}
 pub use Rattle.lw_base.specs.declared.head.Arch.TheVariants.{Source, X86}
 pub use Rattle.lw_base.specs.declared.head.Quant.{Quant}
 pub use Rattle.lw_base.specs.declared.head.Quant.TheVariants.{Exists, NotExists}
+pub use Rattle.lw_base.specs.declared.head.Seen.TheVariants.{Register}
 pub use Rattle.lw_base.specs.declared.operand.Operand.TheVariants.{Number}
 pub use Rattle.lw_base.specs.declared.stop.End.{End}
 pub use Rattle.lw_base.specs.declared.stop.End.TheVariants.{NotFinal, Stopped}
@@ -57,48 +62,67 @@ pub use Rattle.lw_memory.specs.declared.system.LineState.{LineState}
 pub use Rattle.lw_mesi.proofs.Common.{content_of, protocol_name, unheld_line}
 pub use Rattle.lw_mesi.specs.declared.protocol.Protocol.{Protocol}
 pub use Rattle.lw_mesi.specs.declared.protocol.Protocol.TheVariants.{Mesi}
-pub use Rattle.lw_tso.proofs.Common.{Act, ActDone, Adds, Answer, DoneBy, EventDone, Evicts, Goes, Loads}
-pub use Rattle.lw_tso.proofs.Common.{MachineOutcome, MachineRan, MachineState, Processor, Refused, Stores}
-pub use Rattle.lw_tso.proofs.Common.{Swaps, buffer_of, cpu_of, event_act, machine_outcome, machine_start}
-pub use Rattle.lw_tso.proofs.api.Effects.{state}
+pub use Rattle.lw_tso.proofs.Common.{Act, ActDone, Adds, Answer, DoneBy, EventDone, Evicts, Goes}
+pub use Rattle.lw_tso.proofs.Common.{IsFencedCode, IsFencedTest, Loads, MachineOutcome, MachineRan}
+pub use Rattle.lw_tso.proofs.Common.{MachineState, Processor, Refused, Stores, Swaps, buffer_of, cpu_of}
+pub use Rattle.lw_tso.proofs.Common.{event_act, machine_outcome, machine_start}
+pub use Rattle.lw_tso.proofs.api.Effects.{Does, leads_from, state}
+pub use Rattle.lw_tso.proofs.api.LeavingOut.{left_out}
 pub use Rattle.lw_fence.proofs.Common.{IsCompiled, IsCompiledWith}
 pub use Rattle.lw_fence.proofs.api.Compilations.{has_outcome, has_outcomes, is_program, is_program_with}
-pub use Rattle.lw_fence.proofs.api.Compilations.{one_program, same_outcomes, some_program}
+pub use Rattle.lw_fence.proofs.api.Compilations.{more_fences, none_among, one_program, same_outcomes}
+pub use Rattle.lw_fence.proofs.api.Compilations.{some_program, without_needless_fences}
 pub use Rattle.lw_listing.specs.Listings.{IsStrictlySorted, OutcomeEntries, outcomes_of, schedules_of}
+pub use Rattle.lw_choices.proofs.Common.{HasFewOrders, HasTooManyItems, IsForward, choices_of}
+pub use Rattle.lw_choices.proofs.Common.{items_at_choice, total_of}
+pub use Rattle.lw_choices.proofs.api.Enumerated.{choices_are_all}
+pub use Rattle.lw_choices.proofs.api.Totals.{total_is}
 pub use Rattle.lw_choices.specs.declared.fault.ListFault.{ListFault}
 pub use Rattle.lw_whole.specs.OverCaches.{OutcomeOverCaches, ReplaysOverCaches}
 pub use Rattle.lw_finals.proofs.Common.{ListsMachine}
 pub use Rattle.lw_report.proofs.Common.{AreListedStates, AreStatesOf, IsReport, IsScheduleList, IsSmallestOf}
-pub use Rattle.lw_report.proofs.Common.{ListedState, Shown, ShowsFirst, is_true, report_text}
-pub use Rattle.lw_report.proofs.Common.{schedule_list_text, scheduled, shown_of}
+pub use Rattle.lw_report.proofs.Common.{ListedState, Shown, ShowsFirst, final_word, is_true, report_text}
+pub use Rattle.lw_report.proofs.Common.{schedule_list_text, scheduled, shown, shown_of}
 pub use Rattle.lw_report.proofs.api.OneList.{one_report}
 pub use Rattle.lw_report.specs.declared.judgement.Claim.{Claim}
 pub use Rattle.lw_report.specs.declared.judgement.Claim.TheVariants.{Exact}
-pub use Rattle.lw_text.proofs.Common.{TestFrame, frame_of, placed_cells}
+pub use Rattle.lw_text.proofs.Common.{Atom, Close, Comment, Condition, Conjunction, Derives, DisjunctionLevel}
+pub use Rattle.lw_text.proofs.Common.{HasFrame, Heading, Holds, InThread, IsKind, IsNumber, IsSymbol, IsToken}
+pub use Rattle.lw_text.proofs.Common.{Open, Parts, Terminal, TestFrame, TestSyntax, Tokens, and, atom}
+pub use Rattle.lw_text.proofs.Common.{begins_mark, blank, closed, comment, conjunction, ends_cell, frame_of}
+pub use Rattle.lw_text.proofs.Common.{is_pair, is_single, made_of, none, opens_comment, other, parens, part}
+pub use Rattle.lw_text.proofs.Common.{placed_cells}
 pub use Rattle.lw_text.proofs.api.Frames.{frame_columns, frame_well_formed}
 pub use Rattle.lw_text.proofs.api.Indices.{is_index}
 pub use Rattle.lw_text.proofs.api.Places.{grid_placed}
+pub use Rattle.lw_text.proofs.api.Spelling.{all_pass, is_name_text, name_by_test}
 pub use Rattle.lw_text.specs.declared.fault.TextCause.{TextCause}
 pub use Rattle.lw_text.specs.declared.fault.TextFault.{TextFault}
+pub use Rattle.lw_cells.proofs.Common.{CellSays, CellSyntax, Column, LeadsForward, Said, statements}
 pub use Rattle.lw_source.proofs.api.Tests.{well_formed_source}
 pub use Rattle.lw_source.specs.Grammar.{HasSource}
-pub use Rattle.lw_x86.proofs.Common.{HasProgram}
+pub use Rattle.lw_x86.proofs.Common.{HasProgram, IsTextOf, canonical_text, printed_as, x86_grammar}
+pub use Rattle.lw_x86.proofs.Common.{x86_spelling}
 pub use Rattle.lw_x86.proofs.api.Tests.{well_formed_program}
 pub use Rattle.lw_bench.specs.Classics.{both_loads_are_early, flag_without_message, message_passing_in_x86}
 pub use Rattle.lw_bench.specs.Classics.{store_buffering, store_buffering_in_x86, two_threads}
 pub use Rattle.lw_bench.specs.Commands.{IsCommand, IsProtocolOption}
-pub use Rattle.lw_bench.specs.Compilations.{IsCompiledText}
+pub use Rattle.lw_bench.specs.Compilations.{IsCompilation, IsCompiledText}
 pub use Rattle.lw_bench.specs.Devices.{Gets, IsInput, Loses, Puts, TakesInput, TakesSome}
+pub use Rattle.lw_bench.specs.Examples.{store_buffering_body, store_buffering_notes, store_buffering_report}
+pub use Rattle.lw_bench.specs.Examples.{store_buffering_text}
 pub use Rattle.lw_bench.specs.Faults.{cell_fault, schedule_fault, text_fault, told_cell, told_limit}
 pub use Rattle.lw_bench.specs.Faults.{told_schedule, told_text}
-pub use Rattle.lw_bench.specs.Lists.{HasList, IsReachedOnMachine, IsScheduleReport, IsStatesReport}
+pub use Rattle.lw_bench.specs.Lists.{HasList, IsReachedOnMachine, IsReachedOverCaches, IsScheduleReport}
+pub use Rattle.lw_bench.specs.Lists.{IsStatesReport}
 pub use Rattle.lw_bench.specs.LitmusTests.{LitmusTest, Of_source, Of_x86, head_of_test, litmus_test_of}
-pub use Rattle.lw_bench.specs.Outcomes.{IsProgramOf, IsRunFor, LeadsTo, OutcomeOf}
+pub use Rattle.lw_bench.specs.Outcomes.{HasOverCaches, IsProgramOf, IsRunFor, LeadsTo, OutcomeOf}
 pub use Rattle.lw_bench.specs.Outputs.{Makes, Writes}
 pub use Rattle.lw_bench.specs.Pages.{buffer_line, end_text, entry_text, first_lines, letter, machine_page}
 pub use Rattle.lw_bench.specs.Pages.{named, numbered, processor_lines, processor_title, register_names}
 pub use Rattle.lw_bench.specs.Pages.{source_page, thread_line, word_at, word_line}
 pub use Rattle.lw_bench.specs.Replays.{IsPageOf, IsReplayPage}
+pub use Rattle.lw_bench.specs.Runs.{Devices, IsRun, devices}
 pub use Rattle.lw_bench.specs.TestTexts.{FrameSays, HasTest}
 pub use Rattle.lw_bench.specs.Told.{IsNoDevice, TakesAt, TellsCell, TellsInput, TellsReplay, TellsRun}
 pub use Rattle.lw_bench.specs.Told.{TellsTest, TellsText}

@@ -6,7 +6,7 @@ use Rattle.lw_bench.proofs.Common.{if◌then◌else◌, refl, BenchFault, Memory
 pub err_is : {T E : Type 0} {a b : E} → (let e : Result T E = Err a in e) ≡ Err b → a ≡ b
 err_is same = cc
 
-ok_apart : {T E : Type 0} {a : T} {b : E} → (let r : Result T E = Ok a in r) ≡ Err b → ⊥
+pub ok_apart : {T E : Type 0} {a : T} {b : E} → (let r : Result T E = Ok a in r) ≡ Err b → ⊥
 ok_apart same = cc
 
 unlike : {b : Bool} → b ≡ false → b ≡ true → ⊥

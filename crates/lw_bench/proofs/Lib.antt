@@ -9,8 +9,13 @@ pub mod Outputs
 pub mod Replays
 pub mod Compilations
 pub mod Told
+pub mod Runs
+pub mod Rows
+pub mod ExampleTexts
+pub mod ExampleReports
 pub mod ListingTexts
 pub mod TestReports
 pub mod Searches
 pub mod Classics
+pub mod FencedClassics
 pub mod Theorems

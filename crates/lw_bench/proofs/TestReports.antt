@@ -7,22 +7,21 @@ use Rattle.lw_bench.proofs.Common.{ReplaysOverCaches, OutcomeOverCaches, Protoco
 use Rattle.lw_bench.proofs.Common.{schedule_list_text, scheduled, ListedState, shown_of, AreListedStates}
 use Rattle.lw_bench.proofs.Common.{Exact, SourceOutcome, SourceTest, ProgramTest, LitmusTest, Of_source}
 use Rattle.lw_bench.proofs.Common.{Of_x86, head_of_test, OutcomeOf, LeadsTo, HasList, IsStatesReport}
-use Rattle.lw_bench.proofs.Common.{IsScheduleReport, IsListOf}
+use Rattle.lw_bench.proofs.Common.{IsScheduleReport, IsListOf, IsWellFormedSource, IsWellFormedProgram}
+use Rattle.lw_bench.proofs.Common.{same_outcomes}
 use Rattle.lw_bench.proofs.ListingTexts.{report_is, schedule_list_is}
+use Rattle.lw_bench.proofs.Theorems.{CachesAreFlat}
 
 -- what is told of the list of a source test
-pub source_list : (test : SourceTest) (entries : OutcomeEntries) → IsStrictlySorted entries
+pub source_list : (test : SourceTest) (entries : OutcomeEntries) → IsWellFormedSource test → IsStrictlySorted entries
     → ((o : Final) → Contains (outcomes_of entries) o ↔ SourceOutcome test o) → ListsMachine test entries
     → All (IsEntryOf test.head) entries → HasList (Of_source test) → IsListOf (Of_source test) entries
-source_list test entries sorted exactly lists of within = record {
+source_list test entries ok sorted exactly lists of within = record {
   within = within;
   program = lists.program;
   of_test = record {
     runs = (lists.starts, lists.compiled);
-    outcomes = λ protocol o. (
-      (λ reached. (exactly o).0 ((lists.outcomes protocol o).1 reached)),
-      (λ reached. (lists.outcomes protocol o).0 ((exactly o).1 reached)),
-    );
+    outcomes = λ o. same_outcomes test lists.program lists.starts o ok lists.compiled;
   };
   sorted = sorted;
   exactly = exactly;
@@ -30,40 +29,40 @@ source_list test entries sorted exactly lists of within = record {
   lead = λ k d lt protocol. lists.replays protocol k d lt;
 }
 
-pub source_listed : (test : SourceTest) (r : Result OutcomeEntries ListFault) → IfOk r IsStrictlySorted
+pub source_listed : (test : SourceTest) (r : Result OutcomeEntries ListFault) → IsWellFormedSource test → IfOk r IsStrictlySorted
     → IfOk r (λ l. (o : Final) → Contains (outcomes_of l) o ↔ SourceOutcome test o)
     → IfOk r (ListsMachine test) → IfOk r (λ l. All (IsEntryOf test.head) l) → OnOk r (HasList (Of_source test)) → IfOk r (IsListOf (Of_source test))
-source_listed test (Ok l) sorted exactly lists of within = source_list test l sorted exactly lists of within
-source_listed test (Err e) sorted exactly lists of within = tt
+source_listed test (Ok l) ok sorted exactly lists of within = source_list test l ok sorted exactly lists of within
+source_listed test (Err e) ok sorted exactly lists of within = tt
 
 -- and of that of an x86 test
-pub x86_list : (test : ProgramTest) (entries : OutcomeEntries) → IsStrictlySorted entries
+pub x86_list : CachesAreFlat → (test : ProgramTest) (entries : OutcomeEntries) → IsWellFormedProgram test → IsStrictlySorted entries
     → ((protocol : Protocol) (o : Final) → Contains (outcomes_of entries) o ↔ OutcomeOverCaches protocol test
     o)
     → ((protocol : Protocol) → All (λ e. ReplaysOverCaches protocol test e.1 e.0) entries)
     → All (IsEntryOf test.head) entries → HasList (Of_x86 test) → IsListOf (Of_x86 test) entries
-x86_list test entries sorted exactly replays of within = record {
+x86_list caches test entries ok sorted exactly replays of within = record {
   within = within;
   program = test;
   of_test = record {
     runs = refl;
-    outcomes = λ protocol o. (
-      (λ reached. (exactly Mesi o).0 ((exactly protocol o).1 reached)),
-      (λ reached. (exactly protocol o).0 ((exactly Mesi o).1 reached)),
-    );
+    outcomes = λ o. ((λ outcome. outcome), (λ outcome. outcome));
   };
   sorted = sorted;
-  exactly = exactly Mesi;
+  exactly = λ o.
+      let listed = exactly Mesi o in
+      let over = caches Mesi test o ok in
+      ((λ there. over.0 (listed.0 there)), (λ outcome. listed.1 (over.1 outcome)));
   entries_are = of;
   lead = λ k d lt protocol. replays protocol k d lt;
 }
 
-pub x86_listed : (test : ProgramTest) (r : Result OutcomeEntries ListFault) → IfOk r IsStrictlySorted
+pub x86_listed : CachesAreFlat → (test : ProgramTest) (r : Result OutcomeEntries ListFault) → IsWellFormedProgram test → IfOk r IsStrictlySorted
     → IfOk r (λ l. (protocol : Protocol) (o : Final) → Contains (outcomes_of l) o ↔ OutcomeOverCaches protocol test o)
     → IfOk r (λ l. (protocol : Protocol) → All (λ e. ReplaysOverCaches protocol test e.1 e.0) l) → IfOk r (λ l. All (IsEntryOf test.head) l)
     → OnOk r (HasList (Of_x86 test)) → IfOk r (IsListOf (Of_x86 test))
-x86_listed test (Ok l) sorted exactly replays of within = x86_list test l sorted exactly replays of within
-x86_listed test (Err e) sorted exactly replays of within = tt
+x86_listed caches test (Ok l) ok sorted exactly replays of within = x86_list caches test l ok sorted exactly replays of within
+x86_listed caches test (Err e) ok sorted exactly replays of within = tt
 
 module _ (test : LitmusTest) (entries : OutcomeEntries) (list : IsListOf test entries) (head : TestHead) (same : head ≡ head_of_test test) where
   pub report_of_list : (states : List ListedState) (text : List ℕ) → AreListedStates head (outcomes_of entries) states

@@ -2,12 +2,13 @@
 -- which the laws meet by a call.
 use Rattle.lw_bench.proofs.Common.{◌≡◌, ◌↔◌, ℕ, List, Bool, refl, sym, subst, Final, Bytes, SourceOutcome}
 use Rattle.lw_bench.proofs.Common.{SourceTest, ProgramTest, IsWellFormedSource, IsWellFormedProgram, flat}
-use Rattle.lw_bench.proofs.Common.{Protocol, Mesi, MachineOutcome, OutcomeOverCaches, IsCompiled}
-use Rattle.lw_bench.proofs.Common.{IsCompiledWith, is_program, is_program_with, some_program, same_outcomes}
-use Rattle.lw_bench.proofs.Common.{has_outcomes, has_outcome, one_report, frame_well_formed, frame_columns}
+use Rattle.lw_bench.proofs.Common.{Protocol, MachineOutcome, OutcomeOverCaches, IsCompiled, IsCompiledWith}
+use Rattle.lw_bench.proofs.Common.{is_program, is_program_with, some_program, same_outcomes, has_outcomes}
+use Rattle.lw_bench.proofs.Common.{has_outcome, one_report, frame_well_formed, frame_columns}
 use Rattle.lw_bench.proofs.Common.{well_formed_source, well_formed_program, LitmusTest, Of_source, Of_x86}
 use Rattle.lw_bench.proofs.Common.{IsWellFormedTest, IsStatesReport, OutcomeOf, IsRunFor, IsProgramOf, Makes}
-use Rattle.lw_bench.proofs.Common.{HasTest, Exact}
+use Rattle.lw_bench.proofs.Common.{HasTest, Exact, X86, ap, HasOverCaches, IsCompilation, canonical_text}
+use Rattle.lw_bench.proofs.Common.{IsTextOf}
 
 -- Outcomes over caches are those over flat memory.
 abbrev pub CachesAreFlat : Type 0
@@ -47,28 +48,29 @@ outcomes_with_fences caches fences s p starts ok compiled protocol o outcome =
 
 -- ---- the program that runs for a test
 
-pub program_runs : CachesAreFlat → (test : LitmusTest) (program : ProgramTest) → IsWellFormedTest test
-    → IsRunFor test program → IsProgramOf test program
-program_runs caches (Of_source test) program ok runs = record {
+pub program_runs : (test : LitmusTest) (program : ProgramTest) → IsWellFormedTest test → IsRunFor test program → IsProgramOf test program
+program_runs (Of_source test) program ok runs = record {
   runs = runs;
-  outcomes = outcomes_over_caches caches test program runs.0 ok runs.1;
+  outcomes = λ o. same_outcomes test program runs.0 o ok runs.1;
 }
-program_runs caches (Of_x86 test) program ok runs = record {
+program_runs (Of_x86 test) program ok runs = record {
   runs = runs;
-  outcomes = λ protocol o. subst (λ (p : ProgramTest). OutcomeOverCaches protocol p o ↔ OutcomeOverCaches Mesi test o) (sym runs) (alike protocol o);
+  outcomes = λ o.
+      let same = ap (λ (p : ProgramTest). MachineOutcome flat p p.head.init_words o) runs in
+      ((λ outcome. subst (λ X. X) same outcome), (λ outcome. subst (λ X. X) (sym same) outcome));
 }
-  where
-    alike : (protocol : Protocol) (o : Final) → OutcomeOverCaches protocol test o ↔ OutcomeOverCaches Mesi test o
-    alike protocol o =
-        let here = caches protocol test o ok in
-        let there = caches Mesi test o ok in
-        ((λ outcome. there.1 (here.0 outcome)), (λ outcome. here.1 (there.0 outcome)))
 
-pub has_program : CachesAreFlat → (test : LitmusTest) → IsWellFormedTest test → (program : ProgramTest) × IsProgramOf test program
-has_program caches (Of_source test) ok =
+pub has_program : (test : LitmusTest) → IsWellFormedTest test → (program : ProgramTest) × IsProgramOf test program
+has_program (Of_source test) ok =
     let some = some_program test ok in
-    (some.0, program_runs caches (Of_source test) some.0 ok (some.1, some.2))
-has_program caches (Of_x86 test) ok = (test, program_runs caches (Of_x86 test) test ok refl)
+    (some.0, program_runs (Of_source test) some.0 ok (some.1, some.2))
+has_program (Of_x86 test) ok = (test, program_runs (Of_x86 test) test ok refl)
+
+pub runs_over_caches : CachesAreFlat → (test : LitmusTest) (program : ProgramTest) → IsWellFormedTest test
+    → IsRunFor test program → HasOverCaches test program
+runs_over_caches caches (Of_source test) program ok runs = outcomes_over_caches caches test program runs.0 ok runs.1
+runs_over_caches caches (Of_x86 test) program ok runs =
+    subst (HasOverCaches (Of_x86 test)) (sym runs) (λ protocol o. caches protocol test o ok)
 
 -- ---- outcomes
 
@@ -82,3 +84,26 @@ pub cached_outcome : CachesAreFlat → (protocol : Protocol) (p : ProgramTest) �
 cached_outcome caches protocol p ok =
     let o = has_outcome p ok in
     (o.0, (caches protocol p o.0 ok).1 o.1)
+
+-- ---- texts of compiled programs
+
+abbrev HasOneTest : Type 0
+HasOneTest = (text : Bytes) (s t : LitmusTest) → HasTest text s → HasTest text t → s ≡ t
+
+abbrev ReadsBack : Type 0
+ReadsBack = (p : ProgramTest) → IsWellFormedProgram p → IsTextOf (canonical_text p) p
+
+pub compiled_text_read : HasOneTest → ReadsBack → (text made : Bytes) (source : SourceTest)
+    → HasTest text (Of_source source) → Makes IsCompilation text made
+    → (program : ProgramTest) × HasTest made (Of_x86 program)
+    × (program.head ≡ record source.head { arch = X86 })
+    × ((o : Final) → OutcomeOf (Of_x86 program) o ↔ OutcomeOf (Of_source source) o)
+compiled_text_read one back text made source has makes =
+    let is = subst (λ (t : LitmusTest). IsCompilation t made) (one text makes.test (Of_source source) makes.has_test has) makes.is in
+    let read = back is.program (is_program source is.program is.starts (well_formed text (Of_source source) has) is.compiled) in (
+      is.program,
+      subst (λ (t : Bytes). HasTest t (Of_x86 is.program)) (sym is.is)
+          (record { frame = read.frame; has_frame = read.framed; says = read.says }),
+      is.compiled.head,
+      λ o. same_outcomes source is.program is.starts o (well_formed text (Of_source source) has) is.compiled,
+    )

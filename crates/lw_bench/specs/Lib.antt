@@ -4,6 +4,7 @@ pub mod Devices
 pub mod LitmusTests
 pub mod WellFormedTests
 pub mod Classics
+pub mod Examples
 pub mod TestTexts
 pub mod Compilations
 pub mod Outcomes
@@ -14,4 +15,5 @@ pub mod Replays
 pub mod Told
 pub mod Commands
 pub mod Tasks
+pub mod Runs
 pub mod inner

@@ -7,7 +7,7 @@ use Rattle.lw_report.specs.Reports.{IsReport, IsScheduleList}
 use Rattle.lw_report.specs.declared.judgement.Claim.TheVariants.{Exact}
 use Rattle.lw_litmus.specs.Tests.{ProgramTest}
 use Rattle.lw_bench.specs.LitmusTests.{LitmusTest, Of_source, Of_x86, head_of_test}
-use Rattle.lw_bench.specs.Outcomes.{OutcomeOf, IsProgramOf, LeadsTo}
+use Rattle.lw_bench.specs.Outcomes.{OutcomeOf, IsRunFor, IsProgramOf, HasOverCaches, LeadsTo}
 use Rattle.lw_bench.specs.TestTexts.{HasTest}
 
 -- No choice of its flow paths has more items, and all together have no more orders, than a list takes.
@@ -20,9 +20,14 @@ pub record IsStatesReport (test : LitmusTest) (text : Bytes) : Type 0 where
   pub within : HasList test
   pub is : IsReport (head_of_test test) (OutcomeOf test) Exact text
 
--- Of every test that the text says, those outcomes are what the program that runs for it reaches on the whole machine.
+-- Of every test that the text says, those outcomes are what the program that runs for it reaches on the machine.
 abbrev pub IsReachedOnMachine : Bytes → Type 0
 IsReachedOnMachine text = (test : LitmusTest) → HasTest text test → (program : ProgramTest) × IsProgramOf test program
+
+-- And they are what it reaches over caches.
+abbrev pub IsReachedOverCaches : Bytes → Type 0
+IsReachedOverCaches text =
+    (test : LitmusTest) (program : ProgramTest) → HasTest text test → IsRunFor test program → HasOverCaches test program
 
 -- The list of their states, each with a schedule of the program that leads to the smallest outcome that shows it, within the
 -- same limits.

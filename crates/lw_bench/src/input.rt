@@ -14,8 +14,10 @@ const MAX_READ_BYTES: usize = MAX_TEXT_BYTES + 1;
 /// How many bytes are asked for at once.
 const CHUNK: usize = 1024;
 
-/// The bytes of the reader, to its end or up to 65,537.
-pub(crate) fn read_input<R: ByteReader, A: Allocator>(
+/// The bytes of the reader, to its end or up to 65,537, one more than a text may have.
+///
+/// The reader may not have failed before, and is not called again after it failed.
+pub fn read_input<R: ByteReader, A: Allocator>(
     alloc: A,
     reader: &mut R,
 ) -> Result<Vec<u8, A>, BenchFault>

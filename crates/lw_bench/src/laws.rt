@@ -1,12 +1,15 @@
 //! Theorems about tests as values, which a reader can hold in the hand: of three classic tests, and of all tests.
-//! A law is a function without a result, whose contract is the law; of the workbench's calls `states` and `carry_out` alone cite one.
+//! A law is a function without a result, whose contract is the law; of the workbench's calls `answer` and the runs cite one.
 ghost use Rattle.std.specs.Prelude.{◌≡◌, ◌↔◌, ℕ, List, Bool, true, false, Option};
 ghost use Rattle.std.specs.Option.{IfSome};
 ghost use Rattle.lw_base.specs.Outcomes.{Final};
 ghost use Rattle.lw_base.specs.Types.{Bytes};
 ghost use Rattle.lw_bench.specs.Classics.{store_buffering, store_buffering_in_x86, message_passing_in_x86};
-ghost use Rattle.lw_bench.specs.LitmusTests.{LitmusTest};
-ghost use Rattle.lw_bench.specs.Lists.{IsStatesReport, IsReachedOnMachine};
+ghost use Rattle.lw_base.specs.declared.head.Arch.TheVariants.{X86};
+ghost use Rattle.lw_bench.specs.Compilations.{IsCompilation};
+ghost use Rattle.lw_bench.specs.Examples.{store_buffering_text, store_buffering_report};
+ghost use Rattle.lw_bench.specs.LitmusTests.{LitmusTest, Of_source, Of_x86};
+ghost use Rattle.lw_bench.specs.Lists.{IsStatesReport, IsReachedOnMachine, IsReachedOverCaches};
 ghost use Rattle.lw_bench.specs.Outcomes.{OutcomeOf, IsRunFor, IsProgramOf};
 ghost use Rattle.lw_bench.specs.Outputs.{Makes};
 ghost use Rattle.lw_bench.specs.TestTexts.{HasTest};
@@ -29,6 +32,7 @@ use crate::litmus_test::a_text_has_one_test;
 use lw_memory::MemorySystem;
 use lw_tso::outcomes_are_flat;
 use lw_whole::outcomes_over_caches_are_flat;
+use lw_x86::a_canonical_text_reads_back;
 
 /// Store buffering: by interleaving no outcome has both loads 0.
 pub fn store_buffering_is_forbidden_by_interleaving()
@@ -118,10 +122,11 @@ pub fn interleaving_outcomes_need_no_fences()
     outcomes_over_caches_are_flat();
 }
 
-/// Of every test that a text says, the program that runs for it is there, and reaches on the whole machine exactly the test's
-/// outcomes: the compiled program of a source test, an x86 test itself.
+/// Of every test that a text says, the program that runs for it is there, and reaches on the machine exactly the test's outcomes,
+/// over one memory and over caches of each protocol: the compiled program of a source test, an x86 test itself.
 pub fn every_test_has_its_program()
     ensures there { (text : Bytes) → IsReachedOnMachine text }
+    ensures caches { (text : Bytes) → IsReachedOverCaches text }
     ensures each { (text : Bytes) (test : LitmusTest) (program : ProgramTest) → HasTest text test → IsRunFor test program
         → IsProgramOf test program }
 {
@@ -130,7 +135,8 @@ pub fn every_test_has_its_program()
 
 /// The same, wherever a reader's bytes are known.
 pub(crate) fn what_is_known_is_reached_on_the_machine()
-    ensures { (known : Option Bytes) → IfSome known IsReachedOnMachine }
+    ensures machine { (known : Option Bytes) → IfSome known IsReachedOnMachine }
+    ensures caches { (known : Option Bytes) → IfSome known IsReachedOverCaches }
 {
     every_test_has_its_program();
 }
@@ -143,4 +149,22 @@ pub fn protocols_cannot_be_told_apart()
         → OutcomeOverCaches protocol program o ↔ OutcomeOverCaches other program o }
 {
     outcomes_over_caches_are_flat();
+}
+
+/// The report of an example, byte by byte: the text of examples/SB-x86.litmus is a test, and what `lw states` prints of it is the
+/// report of exactly its outcomes. Nothing but the definitions says so: no reader, no list and no printer is called.
+pub fn the_text_of_store_buffering_has_this_report()
+    ensures { Makes IsStatesReport store_buffering_text store_buffering_report }
+{}
+
+/// The canonical text of a compiled program, which `lw compile` writes, is a test itself, and has as that the outcomes of its source,
+/// under the source's head in x86: the states are the source's but for the names of registers.
+pub fn compiled_texts_have_their_sources_outcomes()
+    ensures { (text made : Bytes) (source : SourceTest) → HasTest text (Of_source source) → Makes IsCompilation text made
+        → (program : ProgramTest) × HasTest made (Of_x86 program)
+        × (program.head ≡ record source.head { arch = X86 })
+        × ((o : Final) → OutcomeOf (Of_x86 program) o ↔ OutcomeOf (Of_source source) o) }
+{
+    a_text_has_one_test();
+    a_canonical_text_reads_back();
 }

@@ -1,4 +1,5 @@
-//! The runs of the workbench: from the bytes of a test to the bytes of what is told of it.
+//! The workbench: from the bytes of a test to the bytes of what is told of it. `answer` does that in memory; the runs do it
+//! between devices.
 //!
 //! It stands on both wings. Of the crates that read it names lw_text for frames and their faults, lw_cells for what the fault of
 //! a cell tells, lw_source and lw_x86 for the reading of tests and for the canonical text. Of those that say what is meant it
@@ -9,10 +10,12 @@
 //! workbench's, stand in lw_run_tests.
 #![tactic(auto)]
 
+mod answers;
 mod command;
 mod compile;
 mod device;
 mod fault;
+mod fence_laws;
 mod input;
 mod laws;
 mod lists;
@@ -21,27 +24,31 @@ mod output;
 mod page;
 mod replay;
 mod run;
-mod task;
 
+pub use answers::answer;
 pub use command::{Task, command_of};
-pub use compile::compile_text;
 pub use device::{ByteReader, ByteWriter, Failed, FromRead, ToWrite};
 pub use fault::{
     BenchFault, done_status, end_status, fault_line, memory_line, status_of, usage_line,
     usage_status,
 };
+pub use fence_laws::{
+    more_fences_have_no_more_outcomes, no_fence_is_needed_where_no_store_waits,
+    store_buffering_is_forbidden_with_fences,
+};
+pub use input::read_input;
 pub use laws::{
     a_source_has_one_compiled_program, a_text_has_one_report,
     compiled_programs_have_their_sources_outcomes,
-    compiled_programs_have_their_sources_outcomes_over_every_memory, every_test_has_an_outcome,
+    compiled_programs_have_their_sources_outcomes_over_every_memory,
+    compiled_texts_have_their_sources_outcomes, every_test_has_an_outcome,
     every_test_has_its_program, interleaving_outcomes_need_no_fences,
     message_passing_is_forbidden_on_x86, protocols_cannot_be_told_apart,
     store_buffering_is_allowed_on_x86, store_buffering_is_forbidden_by_interleaving,
-    what_a_text_says_is_well_formed,
+    the_text_of_store_buffering_has_this_report, what_a_text_says_is_well_formed,
 };
-pub use lists::{schedules_text, states};
 pub use litmus_test::a_text_has_one_test;
 pub use lw_base::End;
 pub use lw_mesi::Protocol;
-pub use replay::replay_text;
-pub use task::carry_out;
+pub use output::write_output;
+pub use run::{carry_out, compile_text, replay_text, schedules_text, states};

@@ -1,20 +1,16 @@
-//! The replay of a test by a schedule, from the bytes that come in to the bytes that go out.
+//! The replay of a test by a schedule, and the page that tells of it.
 //! Frames, tests and runs are dropped by calls of `drop`, which is proved once for each type: what goes at
 //! the end of a scope is proved there anew.
-ghost use Rattle.std.specs.Prelude.{◌≡◌, ◌≢◌, ◌⊎◌, ◌≤◌, ◌↔◌, true, false, length, Err, IfOk, IfErr, OnOk};
+ghost use Rattle.std.specs.Prelude.{◌≡◌, ◌⊎◌, ◌≤◌, length, IfOk, IfErr};
 ghost use Rattle.lw_memory.specs.Memory.{memory_of};
 ghost use Rattle.lw_litmus.specs.Views.{source_of, program_of};
-ghost use Rattle.lw_bench.specs.Devices.{TakesInput};
 ghost use Rattle.lw_bench.specs.LitmusTests.{litmus_test_of};
-ghost use Rattle.lw_bench.specs.Outputs.{Writes};
 ghost use Rattle.lw_bench.specs.Replays.{SourcePage, MachinePage, CachesPage, IsPageOf, IsReplayPage};
-ghost use Rattle.lw_bench.specs.Told.{TellsReplay, TellsInput, TakesAt, IsNoDevice};
+ghost use Rattle.lw_bench.specs.Told.{TellsReplay, IsNoDevice};
 
-use crate::device::{ByteReader, ByteWriter};
 use crate::fault::BenchFault;
 use crate::litmus_test::LitmusTest;
 use crate::page::{machine_page, source_page};
-use crate::run::{Output, run_text};
 use lw_base::{End, Event, Text, read_schedule};
 use lw_interleaving::SourceRun;
 use lw_litmus::{Program, Source};
@@ -113,55 +109,4 @@ pub(crate) fn page_of<A: Allocator + Copy>(
     let page = page_of_events(alloc, test, events.as_slice(), protocol);
     drop(events);
     page
-}
-
-/// The replay of a test by a schedule.
-#[derive(Clone, Copy)]
-struct Replaying<'a> {
-    schedule: &'a str,
-    protocol: Protocol,
-}
-
-impl<'a, A: Allocator + Copy> Output<A> for Replaying<'a> {
-    type Answer = End;
-
-    ghost is_made = { λ r test page end. IsReplayPage r.protocol test r.schedule.now page end };
-
-    ghost tells = { λ r. TellsReplay r.schedule.now };
-
-    fn make(&self, alloc: A, test: &LitmusTest<A>) -> Result<(Text<A>, End), BenchFault> {
-        page_of(alloc, test, self.schedule, self.protocol)
-    }
-}
-
-/// Replays the test that the reader gives by a schedule, and writes the page that tells of it. An x86 test runs on
-/// store buffers over caches that keep the protocol; a source test has neither, and the protocol changes nothing.
-///
-/// The test is read whole first: its text, then its cells, then the schedule against its names. The
-/// page is made whole before the first byte of it is written, so any fault but `Write` leaves the
-/// writer as it was; after `Write` nothing is said of how much went out. The devices may not have
-/// failed before, and after a failure they are not called again.
-pub fn replay_text<R: ByteReader, W: ByteWriter, A: Allocator + Copy>(
-    alloc: A,
-    reader: &mut R,
-    schedule: &str,
-    protocol: Protocol,
-    writer: &mut W,
-) -> Result<End, BenchFault>
-    requires reader { R.failed reader.old ≡ false }
-    requires writer { W.failed writer.old ≡ false }
-    // Where it answers, the page of the replay has been written, and nothing else.
-    ensures written { IfOk result (λ end. Writes (λ test page. IsReplayPage protocol test schedule.now page end)
-        (R.remaining reader.old) (W.contents writer.old) (W.contents writer.new)) }
-    // What a fault tells is so: of the text, of a cell, of the schedule. Nothing else is told of them.
-    ensures told { IfErr result (TellsInput (TellsReplay schedule.now) (R.remaining reader.old)) }
-    // It takes the whole input, or its first 65,537 bytes; some of these where the reader failed or memory ran out.
-    ensures taken { OnOk result (TakesInput (R.remaining reader.old) (R.remaining reader.new)) }
-    ensures left { IfErr result (λ f. TakesAt f (R.remaining reader.old) (R.remaining reader.new)) }
-    // The devices' faults are told exactly where they failed, and else the writer is left alone.
-    ensures read { result ≡ Err BenchFault.Read ↔ R.failed reader.new ≡ true }
-    ensures write { result ≡ Err BenchFault.Write ↔ W.failed writer.new ≡ true }
-    ensures untouched { IfErr result (λ f. f ≢ BenchFault.Write → writer.new ≡ writer.old) }
-{
-    run_text(alloc, &Replaying { schedule, protocol }, reader, writer)
 }

@@ -1,61 +1,25 @@
-//! The frame of all runs: a test is read, whatever is made of it is made whole, and only then written.
-ghost use Rattle.std.specs.Prelude.{◌≡◌, ◌≢◌, ◌⊎◌, ◌↔◌, true, false, Err, IfOk, IfErr, OnOk};
-ghost use Rattle.lw_base.specs.Types.{Bytes};
-ghost use Rattle.lw_bench.specs.LitmusTests as specs;
-ghost use Rattle.lw_bench.specs.LitmusTests.{litmus_test_of};
-ghost use Rattle.lw_bench.specs.Outputs.{Makes, Writes};
-ghost use Rattle.lw_bench.specs.Devices.{TakesInput};
-ghost use Rattle.lw_bench.specs.Told.{TellsRun, TellsInput, TakesAt, IsNoDevice};
-ghost use Rattle.lw_bench.specs.declared.fault.BenchFault.{BenchFault as Fault};
+//! The runs over devices: a text is read, what is made of it is made whole, and only then written.
+ghost use Rattle.std.specs.Prelude.{◌≡◌, false};
+ghost use Rattle.lw_bench.specs.Compilations.{IsCompilation};
+ghost use Rattle.lw_bench.specs.Lists.{IsStatesReport, IsScheduleReport};
+ghost use Rattle.lw_bench.specs.Replays.{IsReplayPage};
+ghost use Rattle.lw_bench.specs.Runs.{devices, IsRun};
+ghost use Rattle.lw_bench.specs.Tasks.{IsDone, TellsTask};
+ghost use Rattle.lw_bench.specs.Told.{TellsNoList, TellsNothing, TellsReplay};
 
-use crate::device::{ByteReader, ByteWriter, Failed};
+use crate::answers::{Output, Replaying, make_of_text};
+use crate::command::Task;
+use crate::device::{ByteReader, ByteWriter};
 use crate::fault::BenchFault;
 use crate::input::read_input;
-use crate::litmus_test::{LitmusTest, read_test};
+use crate::laws::what_is_known_is_reached_on_the_machine;
 use crate::output::write_output;
-use lw_base::Text;
+use lw_base::End;
+use lw_mesi::Protocol;
 use std::alloc::Allocator;
 
-/// What a run makes of a test: bytes, and an answer.
-pub(crate) trait Output<A: Allocator + Copy> {
-    /// What is answered beside the bytes.
-    type Answer: Copy;
-
-    /// The bytes are what is made of a test, with this answer.
-    ghost is_made: { Self → specs.LitmusTest → Bytes → Self.Answer → Type 0 };
-
-    /// What a fault tells of a test.
-    ghost tells: { Self → specs.LitmusTest → Fault → Type 0 };
-
-    /// What is made of a test.
-    fn make(&self, alloc: A, test: &LitmusTest<A>) -> Result<(Text<A>, Self::Answer), BenchFault>
-        ensures found { IfOk result (λ x. is_made self.now (litmus_test_of test.now) x.0 x.1) }
-        ensures told { IfErr result (λ f. (f ≡ Fault.Memory) ⊎ tells self.now (litmus_test_of test.now) f) }
-        ensures device { IfErr result IsNoDevice };
-}
-
-/// What is made of the test that the bytes are.
-fn make_of_text<O: Output<A>, A: Allocator + Copy>(
-    alloc: A,
-    output: &O,
-    text: &[u8],
-) -> Result<(Text<A>, O::Answer), BenchFault>
-    ensures found { IfOk result (λ x. Makes (λ test made. O.is_made output.now test made x.1) text.now x.0) }
-    ensures told { IfErr result (TellsRun (O.tells output.now) text.now) }
-    ensures device { IfErr result IsNoDevice }
-{
-    let test = read_test(alloc, text)?;
-    let made = output.make(alloc, &test);
-    drop(test);
-    made
-}
-
 /// Reads a test, and writes what is made of it.
-///
-/// The test is read whole first: its text, then its cells. What is written is made whole before the first byte of it is
-/// written, so any fault but `Write` leaves the writer as it was; after `Write` nothing is said of how much went out. The
-/// devices may not have failed before, and after a failure they are not called again.
-pub(crate) fn run_text<O: Output<A>, R: ByteReader, W: ByteWriter, A: Allocator + Copy>(
+fn run_text<O: Output<A>, R: ByteReader, W: ByteWriter, A: Allocator + Copy>(
     alloc: A,
     output: &O,
     reader: &mut R,
@@ -63,19 +27,108 @@ pub(crate) fn run_text<O: Output<A>, R: ByteReader, W: ByteWriter, A: Allocator 
 ) -> Result<O::Answer, BenchFault>
     requires reader { R.failed reader.old ≡ false }
     requires writer { W.failed writer.old ≡ false }
-    ensures written { IfOk result (λ answer. Writes (λ test made. O.is_made output.now test made answer)
-        (R.remaining reader.old) (W.contents writer.old) (W.contents writer.new)) }
-    ensures told { IfErr result (TellsInput (O.tells output.now) (R.remaining reader.old)) }
-    ensures taken { OnOk result (TakesInput (R.remaining reader.old) (R.remaining reader.new)) }
-    ensures left { IfErr result (λ f. TakesAt f (R.remaining reader.old) (R.remaining reader.new)) }
-    ensures read { result ≡ Err Fault.Read ↔ R.failed reader.new ≡ true }
-    ensures write { result ≡ Err Fault.Write ↔ W.failed writer.new ≡ true }
-    ensures untouched { IfErr result (λ f. f ≢ Fault.Write → writer.new ≡ writer.old) }
+    ensures { IsRun (devices R.remaining R.failed) (devices W.contents W.failed) (O.is_made output.now) (O.tells output.now)
+        reader.old reader.new writer.old writer.new result }
 {
+    what_is_known_is_reached_on_the_machine();
     let text = read_input(alloc, reader)?;
     let (made, answer) = make_of_text(alloc, output, text.as_slice())?;
-    match write_output(writer, made.as_str().as_bytes()) {
-        Ok(()) => Ok(answer),
-        Err(Failed) => Err(BenchFault::Write),
-    }
+    write_output(writer, made.as_str().as_bytes())?;
+    Ok(answer)
+}
+
+/// Carries a task out on the test that the reader gives, writes what that makes, and answers the exit
+/// status: of a replay whether it ended in a final state, else that it is done.
+///
+/// The test is read whole first: its text, then its cells. What is written is made whole before the first byte of it is
+/// written, so any fault but `Write` leaves the writer as it was; after `Write` nothing is said of how much went out. The
+/// devices may not have failed before, and after a failure they are not called again. What is said of bytes is said of
+/// devices that tell theirs; of bytes in memory `answer` says the same of all.
+pub fn carry_out<R: ByteReader, W: ByteWriter, A: Allocator + Copy>(
+    alloc: A,
+    task: Task<'_>,
+    reader: &mut R,
+    writer: &mut W,
+) -> Result<u8, BenchFault>
+    requires reader { R.failed reader.old ≡ false }
+    requires writer { W.failed writer.old ≡ false }
+    ensures { IsRun (devices R.remaining R.failed) (devices W.contents W.failed)
+        (λ status test made. IsDone task.entry test made status) (TellsTask task.entry)
+        reader.old reader.new writer.old writer.new result }
+{
+    run_text(alloc, &task, reader, writer)
+}
+
+/// Writes the report of the test that the reader gives: its final states, and the verdict on its condition.
+///
+/// The test is read, and the report written, as by `carry_out`.
+pub fn states<R: ByteReader, W: ByteWriter, A: Allocator + Copy>(
+    alloc: A,
+    reader: &mut R,
+    writer: &mut W,
+) -> Result<(), BenchFault>
+    requires reader { R.failed reader.old ≡ false }
+    requires writer { W.failed writer.old ≡ false }
+    ensures { IsRun (devices R.remaining R.failed) (devices W.contents W.failed) (λ _. IsStatesReport) TellsNoList
+        reader.old reader.new writer.old writer.new result }
+{
+    carry_out(alloc, Task::States, reader, writer)?;
+    Ok(())
+}
+
+/// Writes for each final state of the test that the reader gives a schedule that leads to it: of a source test, a schedule
+/// of its compiled program.
+///
+/// The test is read, and the list written, as by `carry_out`.
+pub fn schedules_text<R: ByteReader, W: ByteWriter, A: Allocator + Copy>(
+    alloc: A,
+    reader: &mut R,
+    writer: &mut W,
+) -> Result<(), BenchFault>
+    requires reader { R.failed reader.old ≡ false }
+    requires writer { W.failed writer.old ≡ false }
+    ensures { IsRun (devices R.remaining R.failed) (devices W.contents W.failed) (λ _. IsScheduleReport) TellsNoList
+        reader.old reader.new writer.old writer.new result }
+{
+    carry_out(alloc, Task::Schedules, reader, writer)?;
+    Ok(())
+}
+
+/// Compiles the test that the reader gives, and writes the text of its compilation: of a source test the canonical text
+/// of an x86 test that reaches the same outcomes, with fences where they are needed; of an x86 test its own canonical
+/// text.
+///
+/// The test is read, and the text written, as by `carry_out`.
+pub fn compile_text<R: ByteReader, W: ByteWriter, A: Allocator + Copy>(
+    alloc: A,
+    reader: &mut R,
+    writer: &mut W,
+) -> Result<(), BenchFault>
+    requires reader { R.failed reader.old ≡ false }
+    requires writer { W.failed writer.old ≡ false }
+    ensures { IsRun (devices R.remaining R.failed) (devices W.contents W.failed) (λ _. IsCompilation) TellsNothing
+        reader.old reader.new writer.old writer.new result }
+{
+    carry_out(alloc, Task::Compile, reader, writer)?;
+    Ok(())
+}
+
+/// Replays the test that the reader gives by a schedule, and writes the page that tells of it. An x86 test runs on
+/// store buffers over caches that keep the protocol; a source test has neither, and the protocol changes nothing.
+///
+/// The test is read, and the page written, as by `carry_out`; the schedule is read against the test's names.
+pub fn replay_text<R: ByteReader, W: ByteWriter, A: Allocator + Copy>(
+    alloc: A,
+    reader: &mut R,
+    schedule: &str,
+    protocol: Protocol,
+    writer: &mut W,
+) -> Result<End, BenchFault>
+    requires reader { R.failed reader.old ≡ false }
+    requires writer { W.failed writer.old ≡ false }
+    ensures { IsRun (devices R.remaining R.failed) (devices W.contents W.failed)
+        (λ end test page. IsReplayPage protocol test schedule.now page end) (TellsReplay schedule.now)
+        reader.old reader.new writer.old writer.new result }
+{
+    run_text(alloc, &Replaying { schedule, protocol }, reader, writer)
 }

@@ -1,6 +1,6 @@
 use Rattle.lw_bench.proofs.Common.{inl, IfOk-weaker, IfErr-weaker, passed_on, litmus_test_of}
 use Rattle.lw_bench.proofs.Told.{told_of_test}
-use Rattle.lw_bench.proofs.run.make_of_text.Goals as goal
+use Rattle.lw_bench.proofs.answers.make_of_text.Goals as goal
 
 pub returns-in_err-test-clause-told : goal.returns-in_err-test-clause-told
 returns-in_err-test-clause-told g c = passed_on _ _ c.from_residual.ensures.1 (inl c.in_err-test.ensures.told)

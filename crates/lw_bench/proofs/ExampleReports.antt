@@ -1,0 +1,182 @@
+-- The report of store buffering in x86 instructions, byte by byte: its outcomes show four states, and each of these is one of an outcome.
+use Rattle.lw_bench.proofs.Common.{◌≡◌, ℕ, zero, suc, ◌<◌, ◌≤◌, ◌&&◌, ◌==◌, true, false, Bool, Option, Some}
+use Rattle.lw_bench.proofs.Common.{None, List, [], ◌∷◌, refl, sym, subst, arith, slice_get, slice_set}
+use Rattle.lw_bench.proofs.Common.{slice_index_or, length, Contains, and_parts, nat_lt, option_map, none-some}
+use Rattle.lw_bench.proofs.Common.{same_Some, Ok, Final, Event, Step, Drain, IsTrue, All, AllByRecursion}
+use Rattle.lw_bench.proofs.Common.{All-weaker, x86, Instr, flat, Act, Goes, Loads, Stores, Swaps, Adds}
+use Rattle.lw_bench.proofs.Common.{Processor, EventDone, MachineState, MachineOutcome, MachineRan}
+use Rattle.lw_bench.proofs.Common.{machine_start, machine_outcome, state, event_act, cpu_of, IsThread}
+use Rattle.lw_bench.proofs.Common.{store_buffering_in_x86, Shown, AreStatesOf, Of_x86, IsStatesReport}
+use Rattle.lw_bench.proofs.Common.{OutcomeOf, AllPairs, slice_cmp, nat_cmp, Less, ltb-true, AllPairs-cons}
+use Rattle.lw_bench.proofs.Common.{All-from_recursion, Register, shown, final_word, choices_are_all}
+use Rattle.lw_bench.proofs.Common.{IsForward, choices_of, HasTooManyItems, HasFewOrders, items_at_choice}
+use Rattle.lw_bench.proofs.Common.{total_of, total_is, Does, leads_from, store_buffering_report}
+use Rattle.std.specs.Fmt.{digits}
+use Rattle.lw_bench.proofs.Classics.{store_buffering_formed}
+use Rattle.lw_bench.proofs.Searches.{act_after, done_after, event_after, machine_ends_so, machine_searched}
+use Rattle.lw_tso.specs.Runs as machine
+
+-- ---- runs by events that are carried out
+
+act_does : (act : Act) (m : List ℕ) (r : Processor × List ℕ) → act_after act m ≡ Some r → Does m act r.0 r.1
+act_does (Goes p) m r h = let e = same_Some _ r h in rw (sym e) (refl, refl)
+act_does (Loads x next) m r h = let e = same_Some _ r h in rw (sym e) (refl, refl)
+act_does (Stores x w p) m r h = let e = same_Some _ r h in rw (sym e) (refl, refl)
+act_does (Swaps x v next) m r h = let e = same_Some _ r h in rw (sym e) (refl, refl)
+act_does (Adds x v next) m r h = let e = same_Some _ r h in rw (sym e) (refl, refl)
+act_does _ m r h = absurd (none-some r h)
+
+module _ (program : List (List Instr)) where
+  event_leads : (e : Event) (s after : MachineState (List ℕ)) → event_after program e s ≡ Some after → EventDone flat program e s (Ok tt) after
+  event_leads e s after = go (slice_get s.processors (cpu_of e)) refl
+    where
+      done : (p : Processor) → slice_get s.processors (cpu_of e) ≡ Some p → (o : Option (Processor × List ℕ))
+          → act_after (event_act program (length s.memory) e p) s.memory ≡ o
+          → option_map (λ (r : Processor × List ℕ). state (slice_set s.processors (cpu_of e) r.0) r.1) o ≡ Some after
+          → EventDone flat program e s (Ok tt) after
+      done p was None is h = absurd (none-some after h)
+      done p was (Some r) is h =
+          rw (sym (same_Some _ after h)) (leads_from program e s.processors p r.0 s.memory r.1 was (act_does _ s.memory r is))
+
+      go : (o : Option Processor) → slice_get s.processors (cpu_of e) ≡ o → done_after program o e s ≡ Some after → EventDone flat program e s (Ok tt) after
+      go None was h = absurd (none-some after h)
+      go (Some p) was h = done p was _ refl h
+
+  abbrev and_on : (MachineState (List ℕ) → Option (MachineState (List ℕ))) → Option (MachineState (List ℕ)) → Option (MachineState (List ℕ))
+  and_on more None = None
+  and_on more (Some s) = more s
+
+  -- the state behind events, where each is possible in turn
+  unfoldable pub state_after : List Event → MachineState (List ℕ) → Option (MachineState (List ℕ))
+  state_after [] s = Some s
+  state_after (e ∷ es) s = and_on (state_after es) (event_after program e s)
+
+  pub state_ran : (events : List Event) (s end : MachineState (List ℕ)) → state_after events s ≡ Some end → MachineRan flat program events s end
+  unfolding state_after
+  state_ran [] s end h = sym (same_Some s end h)
+  state_ran (e ∷ es) s end h = go (event_after program e s) refl h (λ mid on. state_ran es mid end on)
+    where
+      go : (o : Option (MachineState (List ℕ))) → event_after program e s ≡ o → and_on (state_after es) o ≡ Some end
+          → ((mid : MachineState (List ℕ)) → state_after es mid ≡ Some end → MachineRan flat program es mid end)
+          → MachineRan flat program (e ∷ es) s end
+      go None is h on = absurd (none-some end h)
+      go (Some mid) is h on = (mid, event_leads e s mid is, on mid h)
+
+-- ---- the states of store buffering
+
+abbrev sb : List (List Instr)
+sb = store_buffering_in_x86.threads
+
+abbrev start : MachineState (List ℕ)
+start = machine_start store_buffering_in_x86 store_buffering_in_x86.head.init_words
+
+abbrev two : ℕ → ℕ → Bool → Shown
+two a b holds = record { words = a ∷ b ∷ []; holds = holds }
+
+abbrev states : List Shown
+states = two 0 0 true ∷ two 0 1 false ∷ two 1 0 false ∷ two 1 1 false ∷ []
+
+abbrev Shows : Shown → Type 0
+Shows s = (o : Final) × MachineOutcome flat store_buffering_in_x86 store_buffering_in_x86.head.init_words o × (shown store_buffering_in_x86.head o ≡ s)
+
+shows : (events : List Event) (end : MachineState (List ℕ)) (s : Shown) → state_after sb events start ≡ Some end
+    → IsTrue (machine.is_final sb end) → shown store_buffering_in_x86.head (machine_outcome flat end) ≡ s → Shows s
+shows events end s ran final is =
+    (machine_outcome flat end, (events, record { end = end; ran = state_ran sb events start end ran; final = final; is = refl }), is)
+
+-- the end of both threads, each with the word that it has read
+abbrev end_with : ℕ → ℕ → MachineState (List ℕ)
+end_with a b = state (ended a ∷ ended b ∷ []) (1 ∷ 1 ∷ [])
+  where
+    ended : ℕ → Processor
+    ended w = record { position = 2; regs = w ∷ 0 ∷ 0 ∷ 0 ∷ 0 ∷ 0 ∷ []; zero_flag = false; buffer = [] }
+
+both_early : Shows (two 0 0 true)
+unfolding state_after
+both_early = shows (Step 0 ∷ Step 1 ∷ Step 0 ∷ Step 1 ∷ Drain 0 ∷ Drain 1 ∷ []) (end_with 0 0) _ refl refl refl
+
+first_early : Shows (two 0 1 false)
+unfolding state_after
+first_early = shows (Step 0 ∷ Drain 0 ∷ Step 0 ∷ Step 1 ∷ Drain 1 ∷ Step 1 ∷ []) (end_with 0 1) _ refl refl refl
+
+second_early : Shows (two 1 0 false)
+unfolding state_after
+second_early = shows (Step 1 ∷ Drain 1 ∷ Step 1 ∷ Step 0 ∷ Drain 0 ∷ Step 0 ∷ []) (end_with 1 0) _ refl refl refl
+
+none_early : Shows (two 1 1 false)
+unfolding state_after
+none_early = shows (Step 0 ∷ Drain 0 ∷ Step 1 ∷ Drain 1 ∷ Step 0 ∷ Step 1 ∷ []) (end_with 1 1) _ refl refl refl
+
+each_shown : (s : Shown) → Contains states s → Shows s
+each_shown s (k, there, is) = go k there is
+  where
+    go : (k : ℕ) → k < 4 → slice_index_or states k s ≡ s → Shows s
+    go zero l e = subst Shows e both_early
+    go (suc zero) l e = subst Shows e first_early
+    go (suc (suc zero)) l e = subst Shows e second_early
+    go (suc (suc (suc zero))) l e = subst Shows e none_early
+    go (suc (suc (suc (suc k)))) l e = absurd (omega (arith, l))
+
+-- no outcome has another word in these registers
+abbrev read_of : ℕ → Final → ℕ
+read_of t o = final_word o (Register t 0)
+
+abbrev is_small : Final → Bool
+is_small o = nat_lt (read_of 0 o) 2 && nat_lt (read_of 1 o) 2
+
+search : machine_ends_so sb is_small 7 start ≡ true
+unfolding machine_ends_so
+search = refl
+
+two_shown : (a b : ℕ) → a < 2 → b < 2 → Contains states (two a b ((a == 0) && (b == 0)))
+two_shown zero zero l m = (0, omega arith, refl)
+two_shown zero (suc zero) l m = (1, omega arith, refl)
+two_shown (suc zero) zero l m = (2, omega arith, refl)
+two_shown (suc zero) (suc zero) l m = (3, omega arith, refl)
+two_shown (suc (suc a)) b l m = absurd (omega (arith, l))
+two_shown a (suc (suc b)) l m = absurd (omega (arith, m))
+
+all_shown : (s : Shown) → Shows s → Contains states s
+all_shown s (o, outcome, is) =
+    let small = subst (λ e. is_small e ≡ true) (sym outcome.1.is)
+    (machine_searched sb is_small 7 outcome.0 start outcome.1.end search outcome.1.ran outcome.1.final) in
+    let both = and_parts (nat_lt (read_of 0 o) 2) _ small in
+    subst (Contains states) is (two_shown (read_of 0 o) (read_of 1 o) (ltb-true _ 2 both.0) (ltb-true _ 2 both.1))
+
+abbrev IsFirst : Shown → Shown → Type 0
+IsFirst a b = slice_cmp nat_cmp a.words b.words ≡ Less
+
+abbrev Ascend : List Shown → Type 0
+Ascend [] = Unit {0}
+Ascend (s ∷ ss) = AllByRecursion (IsFirst s) ss × Ascend ss
+
+ascending : (ss : List Shown) → Ascend ss → AllPairs IsFirst ss
+ascending [] up = λ i j d l m. absurd (omega (arith, m))
+ascending (s ∷ ss) up = AllPairs-cons IsFirst s ss (All-from_recursion (IsFirst s) ss up.0) (ascending ss up.1)
+
+states_ascend : AllPairs IsFirst states
+states_ascend = ascending states ((refl, (refl, (refl, tt))), ((refl, (refl, tt)), ((refl, tt), (tt, tt))))
+
+-- ---- the limits
+
+forward : All (IsForward x86) sb
+forward = All-weaker _ _ (λ (code : List Instr) (is : IsThread x86 2 code). is.forward) sb store_buffering_formed.code
+
+few_items : HasTooManyItems x86 sb → ⊥
+few_items (paths, choice, many) = go ((choices_are_all x86 sb paths forward).1 choice)
+  where
+    go : Contains (choices_of x86 sb) paths → ⊥
+    go (zero, l, e) = omega (arith, subst (λ p. 128 < items_at_choice x86 sb p) (sym e) many)
+    go (suc k, l, e) = omega (arith, l)
+
+few_orders : HasFewOrders x86 sb
+few_orders = (total_of x86 sb, total_is x86 sb forward, omega arith)
+
+-- ---- the report
+
+are : AreStatesOf store_buffering_in_x86.head (OutcomeOf (Of_x86 store_buffering_in_x86)) states
+are = record { sorted = states_ascend; exactly = λ s. (each_shown s, all_shown s) }
+
+pub store_buffering_reported : IsStatesReport (Of_x86 store_buffering_in_x86) store_buffering_report
+unfolding digits
+store_buffering_reported = record { within = (few_items, few_orders); is = record { states = states; are = are; is = refl } }

@@ -1,0 +1,226 @@
+-- The text of examples/SB-x86.litmus says store buffering in x86 instructions: token by token, by the grammar.
+use Rattle.lw_bench.proofs.Common.{◌≡◌, ℕ, zero, suc, inl, inr, true, Some, List, [], ◌∷◌, ◌++◌, codes, refl}
+use Rattle.lw_bench.proofs.Common.{arith, slice_get, same_Some, none-some, sym, ap, ◌∙◌, Bytes, Number, X86}
+use Rattle.lw_bench.proofs.Common.{Exists, TestFrame, HasProgram, HasTest, Of_x86, store_buffering_in_x86}
+use Rattle.lw_bench.proofs.Common.{both_loads_are_early, and_parts, not, false, None, AllByRecursion, Formula}
+use Rattle.lw_bench.proofs.Common.{list_all, not-true, Reg_is, IsUtf8-from_ascii, TokenList, IsLocation}
+use Rattle.lw_bench.proofs.Common.{IsRegister, store_buffering_notes, store_buffering_body}
+use Rattle.lw_bench.proofs.Common.{store_buffering_text, CellSyntax, CellSays, Column, LeadsForward}
+use Rattle.lw_bench.proofs.Common.{statements, Said, IsNumber, Tokens, none, blank, comment, Heading}
+use Rattle.lw_bench.proofs.Common.{InThread, Terminal, Open, Close, Conjunction, Atom, Derives}
+use Rattle.lw_bench.proofs.Common.{DisjunctionLevel, atom, parens, part, and, conjunction, Holds, Condition}
+use Rattle.lw_bench.proofs.Common.{ends_cell, TestSyntax, Parts, HasFrame, made_of, x86_grammar, x86_spelling}
+use Rattle.lw_bench.proofs.Common.{printed_as}
+use Rattle.lw_text.specs.Headings.{none as no_notes}
+use Rattle.lw_bench.proofs.Classics.{one_letter}
+use Rattle.lw_bench.proofs.Rows.{is_row, row_of_tokens, token_of, plain_comment, ascii_by_test}
+use Rattle.lw_litmus.specs.declared.instr.Instr.TheVariants as instr
+
+-- ---- the tokens
+
+-- `MOV [x],$1`, and `MOV EAX,[x]`
+abbrev store_tokens : Bytes → TokenList
+store_tokens x = codes "MOV" ∷ codes "[" ∷ x ∷ codes "]" ∷ codes "," ∷ codes "$" ∷ codes "1" ∷ []
+
+abbrev load_tokens : Bytes → TokenList
+load_tokens x = codes "MOV" ∷ codes "EAX" ∷ codes "," ∷ codes "[" ∷ x ∷ codes "]" ∷ []
+
+abbrev condition_tokens : TokenList
+condition_tokens =
+    codes "exists" ∷ codes "(" ∷ codes "0" ∷ codes ":" ∷ codes "EAX" ∷ codes "=" ∷ codes "0" ∷ codes "/\\"
+    ∷ codes "1" ∷ codes ":" ∷ codes "EAX" ∷ codes "=" ∷ codes "0" ∷ codes ")" ∷ []
+
+abbrev row_tokens : TokenList → TokenList → TokenList → TokenList
+row_tokens a b rest = a ++ codes "|" ∷ (b ++ codes ";" ∷ rest)
+
+abbrev behind_stores : TokenList
+behind_stores = row_tokens (load_tokens (codes "y")) (load_tokens (codes "x")) condition_tokens
+
+abbrev behind_header : TokenList
+behind_header = row_tokens (store_tokens (codes "x")) (store_tokens (codes "y")) behind_stores
+
+abbrev behind_block : TokenList
+behind_block = codes "P0" ∷ codes "|" ∷ codes "P1" ∷ codes ";" ∷ behind_header
+
+abbrev all_tokens : TokenList
+all_tokens = codes "{" ∷ codes "}" ∷ behind_block
+
+row : Tokens store_buffering_body all_tokens
+unfolding is_row
+row = row_of_tokens 120 store_buffering_body all_tokens refl
+
+heading : Heading store_buffering_text X86 (codes "SB-x86") store_buffering_body
+heading = (
+  codes " SB-x86\n(*" ++ (store_buffering_notes ++ (codes "*)\n" ++ store_buffering_body)),
+  codes "\n(*" ++ (store_buffering_notes ++ (codes "*)\n" ++ store_buffering_body)),
+  (none, token_of (codes "X86") (codes " SB-x86\n(*" ++ (store_buffering_notes ++ (codes "*)\n" ++ store_buffering_body))) refl),
+  record {
+    blanks = codes " ";
+    parts = refl;
+    apart = omega arith;
+    blank = (refl, tt);
+    is_name = record { some = omega arith; short = omega arith; all = (refl, (refl, (refl, (refl, (refl, (refl, tt)))))) };
+    longest = refl;
+  },
+  no_notes (blank refl (comment (plain_comment store_buffering_notes (codes "\n" ++ store_buffering_body) refl) (blank refl none))) refl,
+)
+
+-- ---- the frame
+
+abbrev syntax : TestSyntax
+syntax = record {
+  entries = [];
+  threads = 2;
+  rows =
+      (store_tokens (codes "x") ∷ store_tokens (codes "y") ∷ [])
+      ∷ (load_tokens (codes "y") ∷ load_tokens (codes "x") ∷ []) ∷ [];
+  listed = [];
+  quant = Exists;
+  terminals = Open ∷ Atom (Holds (InThread 0 0) 0) ∷ Conjunction ∷ Atom (Holds (InThread 1 0) 0) ∷ Close ∷ [];
+}
+
+abbrev frame : TestFrame
+frame = made_of X86 (codes "SB-x86") syntax both_loads_are_early
+
+zero_number : IsNumber (codes "0") 0
+zero_number = (omega arith, inl (omega arith, (omega arith, refl)))
+
+one_number : IsNumber (codes "1") 1
+one_number = (omega arith, inl (omega arith, (omega arith, refl)))
+
+eax : IsRegister X86 (codes "EAX") 0
+eax = (omega arith, refl)
+
+condition : Condition X86 2 condition_tokens [] Exists syntax.terminals
+condition = record {
+  behind_list = condition_tokens;
+  behind_quant = _;
+  lists = inr (refl, refl, refl);
+  there = tt;
+  quantifies = refl;
+  says = (
+    _,
+    refl,
+    (
+      _,
+      (_, (codes "0", codes "EAX", refl, zero_number, eax), omega arith, (codes "0", refl, zero_number)),
+      (_, refl, (_, (_, (codes "1", codes "EAX", refl, one_number, eax), omega arith, (codes "0", refl, zero_number)), (_, refl, refl))),
+    ),
+  );
+}
+
+plain : (cell : TokenList) → list_all (λ t. not (ends_cell t)) cell ≡ true → AllByRecursion (λ t. ends_cell t ≡ false) cell
+plain [] h = tt
+plain (t ∷ cell) h = let parts = and_parts (not (ends_cell t)) _ h in (not-true _ parts.0, plain cell parts.1)
+
+parts : Parts X86 all_tokens syntax
+parts = record {
+  behind_block = behind_block;
+  behind_header = behind_header;
+  behind_rows = condition_tokens;
+  block = (codes "}" ∷ behind_block, refl, refl);
+  header = ((codes "P1" ∷ codes ";" ∷ behind_header, refl, refl), omega arith);
+  there = tt;
+  rows = (
+    (
+      refl,
+      (
+        behind_stores,
+        ((store_tokens (codes "y") ++ codes ";" ∷ behind_stores, (refl, plain (store_tokens (codes "x")) refl), (refl, plain (store_tokens (codes "y")) refl)), refl),
+        (
+          refl,
+          (
+            condition_tokens,
+            ((load_tokens (codes "x") ++ codes ";" ∷ condition_tokens, (refl, plain (load_tokens (codes "y")) refl), (refl, plain (load_tokens (codes "x")) refl)), refl),
+            (refl, refl),
+          ),
+        ),
+      ),
+    ),
+    omega arith,
+  );
+  condition = condition;
+  few_names = omega arith;
+  few_nodes = omega arith;
+}
+
+abbrev equals_zero : ℕ → List (Terminal Formula)
+equals_zero t = Atom (Reg_is t 0 0) ∷ []
+
+both : Derives DisjunctionLevel (Open ∷ ((equals_zero 0 ++ Conjunction ∷ equals_zero 1) ++ Close ∷ [])) both_loads_are_early
+both = conjunction (part (parens (conjunction (and (part atom) atom))))
+
+framed : HasFrame store_buffering_text frame
+framed = record {
+  short = omega arith;
+  utf8 = IsUtf8-from_ascii store_buffering_text (ascii_by_test store_buffering_text refl);
+  arch = X86;
+  name = codes "SB-x86";
+  rest = store_buffering_body;
+  tokens = all_tokens;
+  syntax = syntax;
+  condition = both_loads_are_early;
+  heading = heading;
+  row = row;
+  parts = parts;
+  proposition = both;
+  made = refl;
+}
+
+-- ---- the cells
+
+abbrev says_store : Bytes → CellSyntax (Said x86_spelling)
+says_store x = record { labels = []; stmt = Some (printed_as (x ∷ []) (instr.Store 0 (Number 1))) }
+
+abbrev says_load : Bytes → CellSyntax (Said x86_spelling)
+says_load x = record { labels = []; stmt = Some (printed_as (x ∷ []) (instr.Load 0 0)) }
+
+store_said : (x : Bytes) → IsLocation x → CellSays x86_grammar (store_tokens x) (says_store x)
+store_said x place = (
+  store_tokens x,
+  refl,
+  ((1, omega arith, refl), (refl, (refl, ((refl, place), (refl, (refl, (refl, (one_number, tt)))))))),
+)
+
+load_said : (x : Bytes) → IsLocation x → CellSays x86_grammar (load_tokens x) (says_load x)
+load_said x place = (
+  load_tokens x,
+  refl,
+  ((2, omega arith, refl), (refl, (eax, (refl, (refl, ((refl, place), (refl, tt))))))),
+)
+
+x_place : IsLocation (codes "x")
+x_place = one_letter (codes "x") 120 refl refl refl refl
+
+y_place : IsLocation (codes "y")
+y_place = one_letter (codes "y") 121 refl refl refl refl
+
+column : (x y : Bytes) → IsLocation x → IsLocation y
+    → Column x86_grammar (store_tokens x ∷ load_tokens y ∷ []) (says_store x ∷ says_load y ∷ [])
+column x y x_is y_is = record {
+  says = (store_said x x_is, (load_said y y_is, tt));
+  few = omega arith;
+  once = tt;
+  forward = forward;
+}
+  where
+    no_label : (s : Said x86_spelling) (k : ℕ) → x86_grammar.label_of s ≡ None → LeadsForward x86_grammar (says_store x ∷ says_load y ∷ []) k s
+    no_label s k lacks l is = absurd (none-some l (sym lacks ∙ is))
+
+    forward : (k : ℕ) (s : Said x86_spelling) → slice_get (statements (says_store x ∷ says_load y ∷ [])) k ≡ Some s
+        → LeadsForward x86_grammar (says_store x ∷ says_load y ∷ []) k s
+    forward zero s e = no_label s 0 (ap x86_grammar.label_of (sym (same_Some _ s e)))
+    forward (suc zero) s e = no_label s 1 (ap x86_grammar.label_of (sym (same_Some _ s e)))
+    forward (suc (suc k)) s e = cc
+
+says : HasProgram frame store_buffering_in_x86
+says = record {
+  arch = refl;
+  threads = (says_store (codes "x") ∷ says_load (codes "y") ∷ []) ∷ (says_store (codes "y") ∷ says_load (codes "x") ∷ []) ∷ [];
+  says = (column (codes "x") (codes "y") x_place y_place, (column (codes "y") (codes "x") y_place x_place, tt));
+  few = omega arith;
+  made = refl;
+}
+
+pub store_buffering_read : HasTest store_buffering_text (Of_x86 store_buffering_in_x86)
+store_buffering_read = record { frame = frame; has_frame = framed; says = says }

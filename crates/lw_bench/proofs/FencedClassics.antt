@@ -1,0 +1,48 @@
+-- Store buffering with a fence between the store and the load of each thread, by a search through its runs.
+use Rattle.lw_bench.proofs.Common.{◌≡◌, ℕ, zero, suc, ◌<◌, not, Bool, true, false, List, [], ◌∷◌, length}
+use Rattle.lw_bench.proofs.Common.{refl, sym, subst, arith, false≢true, Number, Instr, ProgramTest, Final}
+use Rattle.lw_bench.proofs.Common.{flat, is_true, MachineOutcome, machine_start, store_buffering_in_x86}
+use Rattle.lw_bench.proofs.Common.{code_of, IsFencedCode, IsFencedTest, left_out}
+use Rattle.lw_bench.proofs.Searches.{machine_ends_so, machine_searched}
+use Rattle.lw_litmus.specs.declared.instr.Instr.TheVariants as instr
+
+-- `MOV [x],1; MFENCE; MOV EAX,[y]` beside `MOV [y],1; MFENCE; MOV EAX,[x]`
+abbrev fenced : ProgramTest
+fenced = record {
+  head = store_buffering_in_x86.head;
+  threads =
+      (instr.Store 0 (Number 1) ∷ instr.Mfence ∷ instr.Load 0 1 ∷ [])
+      ∷ (instr.Store 1 (Number 1) ∷ instr.Mfence ∷ instr.Load 0 0 ∷ []) ∷ [];
+}
+
+-- the second of three instructions
+abbrev second : List Bool
+second = false ∷ true ∷ false ∷ []
+
+fences_inserted : IsFencedTest store_buffering_in_x86 fenced
+fences_inserted = record { head = refl; as_many = refl; threads = threads }
+  where
+    threads : (t : ℕ) → t < 2 → IsFencedCode (code_of store_buffering_in_x86.threads t) (code_of fenced.threads t)
+    threads zero within = left_out second (code_of fenced.threads 0) (refl, tt)
+    threads (suc zero) within = left_out second (code_of fenced.threads 1) (refl, tt)
+    threads (suc (suc t)) within = absurd (omega (arith, within))
+
+abbrev is_late : Final → Bool
+is_late o = not (is_true fenced.head.condition o)
+
+search : machine_ends_so fenced.threads is_late 9 (machine_start fenced fenced.head.init_words) ≡ true
+unfolding machine_ends_so
+search = refl
+
+is_false : (b : Bool) → not b ≡ true → b ≡ false
+is_false true e = absurd (false≢true e)
+is_false false e = refl
+
+forbidden : (o : Final) → MachineOutcome flat fenced fenced.head.init_words o → is_true fenced.head.condition o ≡ false
+forbidden o run =
+    is_false _ (subst (λ e. is_late e ≡ true) (sym run.1.is) (machine_searched fenced.threads is_late 9 run.0
+    (machine_start fenced fenced.head.init_words) run.1.end search run.1.ran run.1.final))
+
+pub fenced_store_buffering : (test : ProgramTest) × IsFencedTest store_buffering_in_x86 test
+    × ((o : Final) → MachineOutcome flat test test.head.init_words o → is_true test.head.condition o ≡ false)
+fenced_store_buffering = (fenced, fences_inserted, forbidden)

@@ -1,0 +1,122 @@
+-- What a run over devices promises, at each of its ends: from what reading, making and writing promise.
+use Rattle.lw_bench.proofs.Common.{◌≡◌, ◌↔◌, Bool, true, false, if◌then◌else◌, Result, Ok, Err, refl, inl, ap}
+use Rattle.lw_bench.proofs.Common.{Bytes, Option, Some, None, IfSome, Appends, BenchFault, Memory, Read}
+use Rattle.lw_bench.proofs.Common.{Write, LitmusTest, IsInput, TakesInput, TakesSome, IsReachedOnMachine}
+use Rattle.lw_bench.proofs.Common.{Makes, Writes, TellsRun, IsNoDevice, IsReachedOverCaches, Devices, IsRun}
+use Rattle.lw_bench.proofs.DeviceFaults.{input_told, input_apart, write_apart, fault_apart, answer_apart}
+use Rattle.lw_bench.proofs.DeviceFaults.{err_is, ok_apart}
+use Rattle.lw_bench.proofs.Outputs.{output_written}
+use Rattle.lw_bench.proofs.Taken.{taken_at, some_taken_at}
+use Rattle.lw_bench.proofs.Told.{device_told, some_told, told_of_input}
+
+module _ {R W : Type 0} (readers : Devices R) (writers : Devices W) (Tells : LitmusTest → BenchFault → Type 0) (r s : R) (w : W) where
+  module _ {T : Type 0} (IsMade : T → LitmusTest → Bytes → Type 0)
+      (machine : IfSome (readers.bytes r) IsReachedOnMachine) (caches : IfSome (readers.bytes r) IsReachedOverCaches) where
+    -- the reader failed, or memory ran out before all was read
+    pub unread : (f : BenchFault) → f ≡ (if readers.failed s then Read else Memory)
+        → TakesSome (readers.bytes r) (readers.bytes s) → writers.failed w ≡ false
+        → IsRun readers writers IsMade Tells r s w w (Err f)
+    unread f is some writing = record {
+      written = tt;
+      machine = machine;
+      caches = caches;
+      told = device_told (TellsRun Tells) (readers.bytes r) f (readers.failed s) (λ bytes. inl tt) (λ bytes. inl tt) is;
+      taken = tt;
+      left = some_taken_at _ _ f (readers.failed s) is some;
+      read = input_told (Err f) f f (readers.failed s) refl refl is;
+      write = fault_apart (Err f) f f Write _ refl refl (input_apart f _ is) writing;
+      untouched = λ other. refl;
+    }
+
+    module _ (bytes : Bytes) (input : IsInput (readers.bytes r) bytes)
+        (taken : TakesInput (readers.bytes r) (readers.bytes s)) (reading : readers.failed s ≡ false) where
+      -- nothing is made of the text
+      pub unmade : (f : BenchFault) → TellsRun Tells bytes f → IsNoDevice f → writers.failed w ≡ false
+          → IsRun readers writers IsMade Tells r s w w (Err f)
+      unmade f told device writing = record {
+        written = tt;
+        machine = machine;
+        caches = caches;
+        told = told_of_input Tells _ bytes f input told;
+        taken = tt;
+        left = taken_at _ _ f taken;
+        read = fault_apart (Err f) f f Read _ refl refl device.0 reading;
+        write = fault_apart (Err f) f f Write _ refl refl device.1 writing;
+        untouched = λ other. refl;
+      }
+
+      -- the writer failed
+      pub unwritten : (v : W) → writers.failed v ≡ true → IsRun readers writers IsMade Tells r s w v (Err Write)
+      unwritten v failed = record {
+        written = tt;
+        machine = machine;
+        caches = caches;
+        told = some_told (TellsRun Tells) _ Write (λ bytes. inl tt);
+        taken = tt;
+        left = taken_at _ _ Write taken;
+        read = write_apart _ reading;
+        write = (λ same. failed, λ yes. refl);
+        untouched = λ other. absurd (other refl);
+      }
+
+      -- what is made was written
+      pub done : (v : W) (answer : T) (made : Bytes) → Makes (IsMade answer) bytes made
+          → Appends (writers.bytes w) (writers.bytes v) made → writers.failed v ≡ false
+          → IsRun readers writers IsMade Tells r s w v (Ok answer)
+      done v answer made makes appended writing = record {
+        written = output_written (IsMade answer) _ _ _ bytes made input makes appended;
+        machine = machine;
+        caches = caches;
+        told = tt;
+        taken = taken;
+        left = tt;
+        read = answer_apart answer Read _ reading;
+        write = answer_apart answer Write _ writing;
+        untouched = tt;
+      }
+
+-- what is written is made by a weaker rule too
+writes_weaker : (P Q : LitmusTest → Bytes → Type 0) → ((test : LitmusTest) (made : Bytes) → P test made → Q test made)
+    → (known before after : Option Bytes) → Writes P known before after → Writes Q known before after
+writes_weaker P Q weaker None before after writes = tt
+writes_weaker P Q weaker (Some text) before after (made, makes, appended) =
+    (made, record { test = makes.test; has_test = makes.has_test; is = weaker makes.test made makes.is }, appended)
+
+-- A run that answers otherwise than the one that it consists of.
+module _ {R W T U : Type 0} (readers : Devices R) (writers : Devices W) (P : T → LitmusTest → Bytes → Type 0)
+    (Q : U → LitmusTest → Bytes → Type 0) (Tells : LitmusTest → BenchFault → Type 0) (r s : R) (w v : W) where
+  same_fault : (f other : BenchFault) (failed : Bool) → ((let a : Result T BenchFault = Err f in a) ≡ Err other ↔ failed ≡ true)
+      → (let b : Result U BenchFault = Err f in b) ≡ Err other ↔ failed ≡ true
+  same_fault f other failed told = (λ same. told.0 (ap (λ e. Err e) (err_is same)), λ yes. ap (λ e. Err e) (err_is (told.1 yes)))
+
+  pub refused : (f : BenchFault) → IsRun readers writers P Tells r s w v (Err f) → IsRun readers writers Q Tells r s w v (Err f)
+  refused f run = record {
+    written = tt;
+    machine = run.machine;
+    caches = run.caches;
+    told = run.told;
+    taken = tt;
+    left = run.left;
+    read = same_fault f Read _ run.read;
+    write = same_fault f Write _ run.write;
+    untouched = run.untouched;
+  }
+
+  no_fault : (answer : T) (other_answer : U) (other : BenchFault) (failed : Bool)
+      → ((let a : Result T BenchFault = Ok answer in a) ≡ Err other ↔ failed ≡ true)
+      → (let b : Result U BenchFault = Ok other_answer in b) ≡ Err other ↔ failed ≡ true
+  no_fault answer other_answer other failed told = (λ same. absurd (ok_apart same), λ yes. absurd (ok_apart (told.1 yes)))
+
+  pub answered : (answer : T) (other : U) → ((test : LitmusTest) (made : Bytes) → P answer test made → Q other test made)
+      → IsRun readers writers P Tells r s w v (Ok answer) → IsRun readers writers Q Tells r s w v (Ok other)
+  answered answer other weaker run = record {
+    written = writes_weaker (P answer) (Q other) weaker _ _ _ run.written;
+    machine = run.machine;
+    caches = run.caches;
+    told = tt;
+    taken = run.taken;
+    left = tt;
+    read = no_fault answer other Read _ run.read;
+    write = no_fault answer other Write _ run.write;
+    untouched = tt;
+  }

@@ -1,0 +1,13 @@
+use Rattle.lw_bench.proofs.Common.{without_needless_fences}
+use Rattle.lw_bench.proofs.fence_laws.no_fence_is_needed_where_no_store_waits.Goals as goal
+
+pub returns : goal.returns
+returns c =
+    let compiled = c.compiled_programs_have_their_sources_outcomes.ensures in
+    record {
+      same_program = without_needless_fences;
+      flat_memory = λ source program starts o ok needless without.
+          compiled.flat_memory source program starts o ok ((without_needless_fences source program starts needless).1 without);
+      caches = λ source program starts protocol o ok needless without.
+          compiled.caches source program starts protocol o ok ((without_needless_fences source program starts needless).1 without);
+    }

@@ -1,0 +1,5 @@
+use Rattle.lw_bench.proofs.FencedClassics.{fenced_store_buffering}
+use Rattle.lw_bench.proofs.fence_laws.store_buffering_is_forbidden_with_fences.Goals as goal
+
+pub returns : goal.returns
+returns c = fenced_store_buffering

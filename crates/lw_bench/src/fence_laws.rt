@@ -1,0 +1,64 @@
+//! Theorems about fences, in tests as values: what they take away, and where none is needed.
+//! A law is a function without a result, whose contract is the law.
+ghost use Rattle.std.specs.Prelude.{◌≡◌, ◌↔◌, ℕ, Bool, false, List};
+ghost use Rattle.lw_base.specs.Outcomes.{Final};
+ghost use Rattle.lw_bench.specs.Classics.{store_buffering_in_x86};
+ghost use Rattle.lw_fence.specs.Compiling.{IsCompiled};
+ghost use Rattle.lw_fence.specs.Unfenced.{AreAmong, IsCompiledWith, IsCompiledWithoutFences, NeedsNoFence};
+ghost use Rattle.lw_interleaving.specs.Runs.{SourceOutcome};
+ghost use Rattle.lw_litmus.specs.Tests.{SourceTest, ProgramTest};
+ghost use Rattle.lw_litmus.specs.WellFormedTests.{IsWellFormedSource};
+ghost use Rattle.lw_memory.specs.Flat.{flat};
+ghost use Rattle.lw_mesi.specs.declared.protocol.Protocol.{Protocol};
+ghost use Rattle.lw_report.specs.Truth.{is_true};
+ghost use Rattle.lw_tso.specs.Fencing.{IsFencedTest};
+ghost use Rattle.lw_tso.specs.Runs.{MachineOutcome};
+ghost use Rattle.lw_whole.specs.OverCaches.{OutcomeOverCaches};
+
+use crate::laws::compiled_programs_have_their_sources_outcomes;
+use lw_tso::fences_only_take_outcomes_away;
+use lw_whole::fences_only_take_outcomes_away_over_caches;
+
+/// Fences do take outcomes away: with an MFENCE inserted in each thread of store buffering no outcome is left that has both loads 0.
+pub fn store_buffering_is_forbidden_with_fences()
+    ensures { (fenced : ProgramTest) × IsFencedTest store_buffering_in_x86 fenced
+        × ((o : Final) → MachineOutcome flat fenced fenced.head.init_words o → is_true fenced.head.condition o ≡ false) }
+{}
+
+/// A source with more fences is the one with fewer, with MFENCEs inserted, and has no outcome that it lacks with fewer. So whatever
+/// fences it has, it has no outcome that it lacks without any.
+pub fn more_fences_have_no_more_outcomes()
+    ensures are_inserted { (fences others : List (List Bool)) (source : SourceTest) (program other : ProgramTest)
+        (starts begins : List (List ℕ)) → AreAmong fences others → IsCompiledWith fences source program starts
+        → IsCompiledWith others source other begins → IsFencedTest program other }
+    ensures flat_memory { (fences others : List (List Bool)) (source : SourceTest) (program other : ProgramTest)
+        (starts begins : List (List ℕ)) (o : Final) → AreAmong fences others → IsCompiledWith fences source program starts
+        → IsCompiledWith others source other begins
+        → MachineOutcome flat other other.head.init_words o → MachineOutcome flat program program.head.init_words o }
+    ensures caches { (fences others : List (List Bool)) (source : SourceTest) (program other : ProgramTest)
+        (starts begins : List (List ℕ)) (protocol : Protocol) (o : Final) → IsWellFormedSource source → AreAmong fences others
+        → IsCompiledWith fences source program starts → IsCompiledWith others source other begins
+        → OutcomeOverCaches protocol other o → OutcomeOverCaches protocol program o }
+    ensures without { (fences : List (List Bool)) (source : SourceTest) (program other : ProgramTest)
+        (starts begins : List (List ℕ)) (protocol : Protocol) (o : Final) → IsWellFormedSource source
+        → IsCompiledWithoutFences source program starts → IsCompiledWith fences source other begins
+        → OutcomeOverCaches protocol other o → OutcomeOverCaches protocol program o }
+{
+    fences_only_take_outcomes_away();
+    fences_only_take_outcomes_away_over_caches();
+}
+
+/// Where no statement of a source needs a fence by the compiler's rule, since no load comes behind a store with nothing between that
+/// waits for an empty store buffer, the compiled program is the one without fences, and that has exactly the source's outcomes.
+pub fn no_fence_is_needed_where_no_store_waits()
+    ensures same_program { (source : SourceTest) (program : ProgramTest) (starts : List (List ℕ)) → NeedsNoFence source
+        → IsCompiled source program starts ↔ IsCompiledWithoutFences source program starts }
+    ensures flat_memory { (source : SourceTest) (program : ProgramTest) (starts : List (List ℕ)) (o : Final)
+        → IsWellFormedSource source → NeedsNoFence source → IsCompiledWithoutFences source program starts
+        → MachineOutcome flat program program.head.init_words o ↔ SourceOutcome source o }
+    ensures caches { (source : SourceTest) (program : ProgramTest) (starts : List (List ℕ)) (protocol : Protocol) (o : Final)
+        → IsWellFormedSource source → NeedsNoFence source → IsCompiledWithoutFences source program starts
+        → OutcomeOverCaches protocol program o ↔ SourceOutcome source o }
+{
+    compiled_programs_have_their_sources_outcomes();
+}
