@@ -22,3 +22,9 @@ pub outcomes_of_test : (head : TestHead) (entries : OutcomeEntries) → All (IsE
 outcomes_of_test head entries are =
     All-map (IsOutcomeOf head.threads (length head.locs)) (λ (e : Final × List Event). e.0) entries
     (All-weaker (IsEntryOf head) (λ (e : Final × List Event). IsOutcomeOf head.threads (length head.locs) e.0) (λ e is. is.outcome) entries are)
+
+-- there is none in an empty list
+pub outcomes_of_none : (head : TestHead) (entries : OutcomeEntries) → length entries ≡ 0
+    → All (IsOutcomeOf head.threads (length head.locs)) (outcomes_of entries)
+outcomes_of_none head [] none = λ k o within. absurd (omega (arith, within))
+outcomes_of_none head (e ∷ entries) none = absurd (omega (arith, none))

@@ -1,10 +1,18 @@
 //! Verdicts, observations and the words of observed names, as values. Where the states are claimed to be all, the reports in the
 //! folder `tables` show them too; where they are only some, these alone.
-use lw_base::Word;
-use lw_finals::list_source;
-use lw_litmus::Source;
+ghost use Rattle.std.specs.Prelude.{◌≤◌, length, All};
+ghost use Rattle.lw_base.specs.Limits.{most_threads};
+ghost use Rattle.lw_base.specs.Outcomes.{IsOutcomeOf};
+ghost use Rattle.lw_base.specs.Propositions.{formula_of};
+ghost use Rattle.lw_base.specs.WellFormed.{HasLocations, SpeaksOf};
+ghost use Rattle.lw_listing.specs.Listings.{outcomes_of};
+
+use lw_base::{Head, Word};
+use lw_finals::{list_raw, list_source};
+use lw_listing::{Findings, Listing};
+use lw_litmus::{Program, Source};
 use lw_report::{Claim, States, Verdict, project, states_of, verdict, write_report};
-use lw_test_reader::source_of;
+use lw_test_reader::{program_of, source_of};
 use std::alloc::Global;
 
 /// The word of a report for a verdict.
@@ -32,10 +40,33 @@ SRC A {} P0|P1; x := 1 | x := 2; ~exists (~x=0) => No; Positive: 2 Negative: 0; 
 SRC A {} P0|P1; x := 1 | x := 2; forall (~x=0) => Unknown; Positive: 2 Negative: 0; Condition forall (~x=0); Observation A Unknown 2 0; Listed, not claimed complete
 ";
 
+/// X86 tests whose states are claimed to be some: store buffering, message passing, independent reads of independent writes, two stores
+/// each to two locations, store buffering with loads of the threads' own stores first and with fences that are jumped over, and a test of
+/// no statement.
+const LISTED_OF_X86: &str = "
+X86 SB {} P0|P1; MOV [x],$1 | MOV [y],$1; MOV EAX,[y] | MOV EAX,[x]; exists (0:EAX=0 /\\ 1:EAX=0) => Ok; Positive: 1 Negative: 3; Condition exists (0:EAX=0 /\\ 1:EAX=0); Observation SB Sometimes 1 3; Listed, not claimed complete
+X86 MP {} P0|P1; MOV [x],$1 | MOV EAX,[y]; MOV [y],$1 | MOV EBX,[x]; ~exists (1:EAX=1 /\\ 1:EBX=0) => Unknown; Positive: 0 Negative: 3; Condition ~exists (1:EAX=1 /\\ 1:EBX=0); Observation MP Unknown 0 3; Listed, not claimed complete
+X86 IRIW {} P0|P1|P2|P3; MOV [x],$1 | MOV [y],$1 | MOV EAX,[x] | MOV EAX,[y]; | | MOV EBX,[y] | MOV EBX,[x]; exists (2:EAX=1 /\\ 2:EBX=0 /\\ 3:EAX=1 /\\ 3:EBX=0) => Unknown; Positive: 0 Negative: 15; Condition exists (2:EAX=1 /\\ 2:EBX=0 /\\ 3:EAX=1 /\\ 3:EBX=0); Observation IRIW Unknown 0 15; Listed, not claimed complete
+X86 2+2W {} P0|P1; MOV [x],$1 | MOV [y],$1; MOV [y],$2 | MOV [x],$2; exists (x=1 /\\ y=1) => Unknown; Positive: 0 Negative: 3; Condition exists (x=1 /\\ y=1); Observation 2+2W Unknown 0 3; Listed, not claimed complete
+X86 OWN {} P0|P1; MOV [x],$1 | MOV [y],$1; MOV EAX,[x] | MOV EAX,[y]; MOV EBX,[y] | MOV EBX,[x]; locations [0:EAX; 1:EAX] exists (0:EBX=0 /\\ 1:EBX=0) => Ok; Positive: 1 Negative: 3; Condition exists (0:EBX=0 /\\ 1:EBX=0); Observation OWN Sometimes 1 3; Listed, not claimed complete
+X86 JUMPED {} P0|P1; MOV [x],$1 | MOV [y],$1; CMP EAX,$0 | CMP EAX,$0; JE L | JE L; MFENCE | MFENCE; L: MOV EBX,[y] | L: MOV EBX,[x]; exists (0:EBX=0 /\\ 1:EBX=0) => Ok; Positive: 1 Negative: 3; Condition exists (0:EBX=0 /\\ 1:EBX=0); Observation JUMPED Sometimes 1 3; Listed, not claimed complete
+X86 EMPTY {} P0; exists (true) => Ok; Positive: 1 Negative: 0; Condition exists (true); Observation EMPTY Unknown 1 0; Listed, not claimed complete
+";
+
+/// Tests of which nothing is listed.
+const LISTED_NOTHING: &str = "
+SRC A {} P0; exists (true) => Unknown; Positive: 0 Negative: 0; Condition exists (true); Observation A Unknown 0 0; Listed, not claimed complete
+SRC A {} P0; ~exists (true) => Unknown; Positive: 0 Negative: 0; Condition ~exists (true); Observation A Unknown 0 0; Listed, not claimed complete
+SRC A {} P0; forall (false) => Unknown; Positive: 0 Negative: 0; Condition forall (false); Observation A Unknown 0 0; Listed, not claimed complete
+";
+
 /// Whether states that are claimed to be some have this verdict, and a report that ends with these lines.
-fn are_judged(alloc: Global, source: &Source, states: &States, told: &str) -> bool {
-    let word = word_of(verdict(&source.head, states, Claim::Listed));
-    match write_report(alloc, &source.head, states, Claim::Listed) {
+fn are_judged(alloc: Global, head: &Head, states: &States, told: &str) -> bool
+    requires threads { head.now.threads ≤ most_threads }
+    requires locations { HasLocations (length head.now.locs) (formula_of head.now.prop) }
+{
+    let word = word_of(verdict(head, states, Claim::Listed));
+    match write_report(alloc, head, states, Claim::Listed) {
         Ok(report) => {
             told.starts_with(word)
                 && report
@@ -48,22 +79,65 @@ fn are_judged(alloc: Global, source: &Source, states: &States, told: &str) -> bo
     }
 }
 
-/// Whether the states of a test, claimed to be some, are judged so.
-fn is_judged(alloc: Global, source: &Source, told: &str) -> bool {
-    let Ok(listing) = list_source(alloc, source) else {
-        return false;
-    };
-    match states_of(alloc, &source.head, &listing) {
-        Ok(states) => are_judged(alloc, source, &states, told),
+/// Whether the states of a listing, claimed to be some, are judged so.
+fn is_judged(alloc: Global, head: &Head, listing: &Listing, told: &str) -> bool
+    requires threads { head.now.threads ≤ most_threads }
+    requires condition { SpeaksOf head.now.threads (length head.now.locs) (formula_of head.now.prop) }
+    requires outcomes { All (IsOutcomeOf head.now.threads (length head.now.locs)) (outcomes_of listing.now) }
+{
+    match states_of(alloc, head, listing) {
+        Ok(states) => are_judged(alloc, head, &states, told),
         Err(_) => false,
     }
 }
 
-/// Whether the line's test is judged so.
+/// Whether those of a source test are.
+fn is_source_judged(alloc: Global, source: &Source, told: &str) -> bool {
+    match list_source(alloc, source) {
+        Ok(listing) => is_judged(alloc, &source.head, &listing, told),
+        Err(_) => false,
+    }
+}
+
+/// Whether those of an x86 test are.
+fn is_x86_judged(alloc: Global, program: &Program, told: &str) -> bool {
+    match list_raw(alloc, program) {
+        Ok(listing) => is_judged(alloc, &program.head, &listing, told),
+        Err(_) => false,
+    }
+}
+
+/// Whether those of a listing without entries are.
+fn is_none_judged(alloc: Global, source: &Source, told: &str) -> bool {
+    let Ok(listing) = Findings::new(alloc).into_listing() else {
+        return false;
+    };
+    listing.is_empty() && is_judged(alloc, &source.head, &listing, told)
+}
+
+/// Whether the line's source test is judged so.
 fn holds(alloc: Global, line: &str) -> bool {
     let (text, told) = line.split_once(" => ").unwrap_or((line, ""));
     match source_of(alloc, text) {
-        Some(source) => is_judged(alloc, &source, told),
+        Some(source) => is_source_judged(alloc, &source, told),
+        None => false,
+    }
+}
+
+/// Whether its x86 test is.
+fn holds_of_x86(alloc: Global, line: &str) -> bool {
+    let (text, told) = line.split_once(" => ").unwrap_or((line, ""));
+    match program_of(alloc, text) {
+        Some(program) => is_x86_judged(alloc, &program, told),
+        None => false,
+    }
+}
+
+/// Whether its source test is, of which nothing is listed.
+fn holds_of_none(alloc: Global, line: &str) -> bool {
+    let (text, told) = line.split_once(" => ").unwrap_or((line, ""));
+    match source_of(alloc, text) {
+        Some(source) => is_none_judged(alloc, &source, told),
         None => false,
     }
 }
@@ -72,6 +146,15 @@ fn holds(alloc: Global, line: &str) -> bool {
 fn verdicts_and_observations(rt: HostRuntime) {
     for line in LISTED.split('\n') {
         assert!(rt; line.is_empty() || holds(rt.alloc(), line), "{line}");
+    }
+    for line in LISTED_OF_X86.split('\n') {
+        assert!(rt; line.is_empty() || holds_of_x86(rt.alloc(), line), "{line}");
+    }
+    for line in LISTED_NOTHING.split('\n') {
+        assert!(rt;
+            line.is_empty() || holds_of_none(rt.alloc(), line),
+            "{line}"
+        );
     }
 }
 

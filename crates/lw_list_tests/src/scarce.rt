@@ -1,9 +1,9 @@
-//! Lists that are made where memory is scarce.
-use linked_list_allocator::LocalHeap;
+//! Lists that are made where memory is refused, each growth in turn.
 use lw_choices::ListFault;
 use lw_finals::{list_raw, list_source};
 use lw_listing::Listing;
-use lw_test_reader::{Made, MadeInRoom, program_of, refusals, source_of};
+use lw_test_reader::{Made, MadeByAllocator, Refusing, program_of, refusals, source_of};
+use std::alloc::Allocator;
 
 /// Store buffering.
 const STORE_BUFFERING: &str =
@@ -13,25 +13,30 @@ const STORE_BUFFERING: &str =
 const X86_STORE_BUFFERING: &str =
     "X86 SB {} P0|P1; MOV [x],$1 | MOV [y],$1; MOV EAX,[y] | MOV EAX,[x]; exists (0:EAX=0 /\\ 1:EAX=0)";
 
-/// Whether there are so many entries, and each has so many events.
-fn is_whole(listing: &Listing<&LocalHeap>, entries: usize, events: usize) -> bool {
+/// Whether two lists have the same entries.
+fn are_same<A: Allocator>(listing: &Listing<A>, other: &Listing<A>) -> bool {
+    if listing.len() != other.len() {
+        return false;
+    }
     for place in 0..listing.len() {
-        if listing.schedule(place).len() != events {
+        if *listing.outcome(place) != *other.outcome(place) {
+            return false;
+        }
+        if listing.schedule(place) != other.schedule(place) {
             return false;
         }
     }
-    listing.len() == entries
+    true
 }
 
-/// What becomes of a list, which is to have so many entries, each of so many events.
-fn listed(
-    listing: Result<Listing<&LocalHeap>, ListFault>,
-    entries: usize,
-    events: usize,
+/// What becomes of a list, which where it is whole is the one that is made of the same afterwards.
+fn listed<A: Allocator>(
+    listing: Result<Listing<A>, ListFault>,
+    whole: Result<Listing<A>, ListFault>,
 ) -> Option<Made> {
-    match listing {
-        Ok(listing) if is_whole(&listing, entries, events) => Some(Made::Whole),
-        Err(ListFault::Memory) => Some(Made::Refused),
+    match (listing, whole) {
+        (Ok(listing), Ok(whole)) => are_same(&listing, &whole).then_some(Made::Whole),
+        (Err(ListFault::Memory), Ok(_)) => Some(Made::Refused),
         _ => None,
     }
 }
@@ -39,31 +44,30 @@ fn listed(
 /// The list of store buffering.
 struct SourceList;
 
-impl MadeInRoom for SourceList {
-    fn make_in<'a>(roomy: &'a LocalHeap, heap: &'a LocalHeap) -> Option<Made> {
-        let source = source_of(roomy, STORE_BUFFERING)?;
-        listed(list_source(heap, &source), 3, 8)
+impl MadeByAllocator for SourceList {
+    fn make<'a>(&self, ample: &'a Refusing, scarce: &'a Refusing) -> Option<Made> {
+        let source = source_of(ample, STORE_BUFFERING)?;
+        listed(list_source(scarce, &source), list_source(ample, &source))
     }
 }
 
 /// The same in x86 instructions.
 struct X86List;
 
-impl MadeInRoom for X86List {
-    fn make_in<'a>(roomy: &'a LocalHeap, heap: &'a LocalHeap) -> Option<Made> {
-        let program = program_of(roomy, X86_STORE_BUFFERING)?;
-        listed(list_raw(heap, &program), 4, 6)
+impl MadeByAllocator for X86List {
+    fn make<'a>(&self, ample: &'a Refusing, scarce: &'a Refusing) -> Option<Made> {
+        let program = program_of(ample, X86_STORE_BUFFERING)?;
+        listed(list_raw(scarce, &program), list_raw(ample, &program))
     }
 }
 
-/// Memory is refused at each growth in turn, up to the first heap that is enough.
 #[test]
-fn lists_where_memory_is_scarce(rt: HostRuntime) {
-    let lists = refusals::<SourceList>(rt.alloc());
-    assert!(rt; matches!(lists, Some(number) if number > 3), "{lists:?}");
-    let x86_lists = refusals::<X86List>(rt.alloc());
+fn lists_where_memory_is_refused(rt: HostRuntime) {
+    let lists = refusals(rt.alloc(), &SourceList);
+    assert!(rt; matches!(lists, Some(number) if number > 0), "{lists:?}");
+    let x86_lists = refusals(rt.alloc(), &X86List);
     assert!(rt;
-        matches!(x86_lists, Some(number) if number > 3),
+        matches!(x86_lists, Some(number) if number > 0),
         "{x86_lists:?}"
     );
 }

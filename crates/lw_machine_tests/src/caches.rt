@@ -6,7 +6,7 @@ use lw_mesi::{ByMesi, ByMoesi, KeptProtocol, SnoopingCaches};
 use std::alloc::Global;
 
 /// Requests by up to four processors for one location that begins with 0, and then what is held: the state of each processor's
-/// copy, the word in memory and the word at the end. `1L=0` is a load by the second processor that answers 0, `0S1` a store of 1 by
+/// copy, the word in memory, and the word at the end, which each copy has. `1L=0` is a load by the second processor that answers 0, `0S1` a store of 1 by
 /// the first, `0X9=5` its swap that stores 9 and answers 5, `0A9=5` its fetch-and-add that adds 9 and answers 5, `0E` its eviction,
 /// and `0E!` one that is refused.
 const MESI_ROWS: &str = "
@@ -141,14 +141,39 @@ fn are_held<P: KeptProtocol>(memory: &SnoopingCaches<P>, loc: Loc, states: &str)
     memory.cpu_count() == states.len()
 }
 
-/// Whether these digits are the word in memory and the word at the end of a location.
-fn are_words<P: KeptProtocol>(memory: &SnoopingCaches<P>, loc: Loc, digits: &str) -> bool {
+/// Whether each processor that holds a location has this word in its copy, and the others have no copy.
+fn are_copied<P: KeptProtocol>(
+    memory: &SnoopingCaches<P>,
+    loc: Loc,
+    states: &str,
+    word: Word,
+) -> bool {
+    for (cpu, letter) in Cpu::all().iter().zip(states.as_bytes()) {
+        let copied = if *letter == b'I' { None } else { Some(word) };
+        if cpu.index() >= memory.cpu_count()
+            || loc.index() >= memory.location_count()
+            || memory.copy(*cpu, loc) != copied
+        {
+            return false;
+        }
+    }
+    true
+}
+
+/// Whether these digits are the word in memory and the word at the end of a location, which is that of all copies.
+fn are_words<P: KeptProtocol>(
+    memory: &SnoopingCaches<P>,
+    loc: Loc,
+    states: &str,
+    digits: &str,
+) -> bool {
     let [in_memory, b' ', at_end] = digits.as_bytes() else {
         return false;
     };
     loc.index() < memory.location_count()
         && memory.word_in_memory(loc) == word_of(*in_memory)
         && memory.word_at_end(loc) == word_of(*at_end)
+        && are_copied(memory, loc, states, word_of(*at_end))
 }
 
 /// Whether the row holds by a protocol.
@@ -163,7 +188,7 @@ fn holds<P: KeptProtocol>(alloc: Global, row: &str) -> Option<bool> {
     Some(
         are_answered(&mut memory, loc, requests)
             && are_held(&memory, loc, states)
-            && are_words(&memory, loc, digits),
+            && are_words(&memory, loc, states, digits),
     )
 }
 

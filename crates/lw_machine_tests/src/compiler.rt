@@ -5,12 +5,11 @@ ghost use Rattle.lw_fence.specs.Compiling.{IsCompiled};
 ghost use Rattle.lw_interleaving.specs.Runs.{State, SourceRan, start_of};
 ghost use Rattle.lw_litmus.specs.Views.{source_of as test_of_source, program_of};
 
-use linked_list_allocator::LocalHeap;
 use lw_base::{Cpu, End, Event, read_schedule};
 use lw_fence::{Compiled, compile, schedule_of};
 use lw_interleaving::SourceRun;
 use lw_litmus::Source;
-use lw_test_reader::{Made, MadeInRoom, refusals, source_of};
+use lw_test_reader::{Made, MadeByAllocator, Refusing, refusals, source_of};
 use std::alloc::{AllocError, Allocator, Global};
 
 /// A step of each of these threads, in turn.
@@ -135,18 +134,20 @@ const STORE_BUFFERING: &str = "SRC SB {} P0|P1; x := 1 | y := 1; r0 := y | r0 :=
 /// What it is compiled to.
 struct Compilation;
 
-/// Whether there is memory for what a source test is compiled to.
-fn is_compiled_in<A: Allocator + Copy>(heap: A, source: &Source<A>) -> Option<Made> {
-    match compile(heap, source) {
-        Ok(compiled) => (compiled.starts.len() == 2).then_some(Made::Whole),
-        Err(AllocError) => Some(Made::Refused),
+/// What becomes of what a source test is compiled to, which afterwards is compiled as ever.
+fn compiled_by<A: Allocator + Copy>(ample: A, scarce: A, source: &Source<A>) -> Option<Made> {
+    match (compile(scarce, source), compile(ample, source)) {
+        (Ok(compiled), Ok(whole)) => (compiled.starts == whole.starts
+            && compiled.program.threads == whole.program.threads).then_some(Made::Whole),
+        (Err(AllocError), Ok(_)) => Some(Made::Refused),
+        (_, Err(_)) => None,
     }
 }
 
-impl MadeInRoom for Compilation {
-    fn make_in<'a>(roomy: &'a LocalHeap, heap: &'a LocalHeap) -> Option<Made> {
-        match source_of(roomy, STORE_BUFFERING) {
-            Some(source) => is_compiled_in(heap, &source),
+impl MadeByAllocator for Compilation {
+    fn make<'a>(&self, ample: &'a Refusing, scarce: &'a Refusing) -> Option<Made> {
+        match source_of(ample, STORE_BUFFERING) {
+            Some(source) => compiled_by(ample, scarce, &source),
             None => None,
         }
     }
@@ -155,9 +156,10 @@ impl MadeInRoom for Compilation {
 /// The schedule that a run of it stands for.
 struct Schedule;
 
-/// Whether there is memory for the schedule that a run by these threads stands for.
-fn is_scheduled_in<A: Allocator + Copy>(
-    heap: A,
+/// What becomes of the schedule that a run by these threads stands for, which afterwards stands for it as ever.
+fn scheduled_by<A: Allocator + Copy>(
+    ample: A,
+    scarce: A,
     source: &Source<A>,
     compiled: &Compiled<A>,
     order: &[Cpu],
@@ -165,48 +167,48 @@ fn is_scheduled_in<A: Allocator + Copy>(
     requires compiled { IsCompiled (test_of_source source.now) (program_of compiled.now.program) compiled.now.starts }
     requires ends { (end : State) × SourceRan source.now.threads (map Step order.now) (start_of (test_of_source source.now)) end }
 {
-    match schedule_of(heap, source, compiled, order) {
-        Ok(events) if events.len() == 8 => Some(Made::Whole),
-        Ok(_) => None,
-        Err(AllocError) => Some(Made::Refused),
+    let schedule = schedule_of(scarce, source, compiled, order);
+    match (schedule, schedule_of(ample, source, compiled, order)) {
+        (Ok(events), Ok(whole)) => (events.as_slice() == whole.as_slice()).then_some(Made::Whole),
+        (Err(AllocError), Ok(_)) => Some(Made::Refused),
+        (_, Err(_)) => None,
     }
 }
 
-/// The same of a source test that is compiled where memory is ample.
-fn is_source_scheduled_in<A: Allocator + Copy>(
-    roomy: A,
-    heap: A,
+/// The same of a source test that is compiled where no memory is refused.
+fn source_scheduled_by<A: Allocator + Copy>(
+    ample: A,
+    scarce: A,
     source: &Source<A>,
     order: &[Cpu],
 ) -> Option<Made> {
-    if !ends_by(roomy, source, order) {
+    if !ends_by(ample, source, order) {
         return None;
     }
-    match compile(roomy, source) {
-        Ok(compiled) => is_scheduled_in(heap, source, &compiled, order),
+    match compile(ample, source) {
+        Ok(compiled) => scheduled_by(ample, scarce, source, &compiled, order),
         Err(_) => None,
     }
 }
 
-impl MadeInRoom for Schedule {
-    fn make_in<'a>(roomy: &'a LocalHeap, heap: &'a LocalHeap) -> Option<Made> {
+impl MadeByAllocator for Schedule {
+    fn make<'a>(&self, ample: &'a Refusing, scarce: &'a Refusing) -> Option<Made> {
         let [p0, p1, ..] = Cpu::all();
-        match source_of(roomy, STORE_BUFFERING) {
-            Some(source) => is_source_scheduled_in(roomy, heap, &source, &[p0, p1, p0, p1]),
+        match source_of(ample, STORE_BUFFERING) {
+            Some(source) => source_scheduled_by(ample, scarce, &source, &[p0, p1, p0, p1]),
             None => None,
         }
     }
 }
 
-/// Memory is refused at each growth in turn, up to the first heap that is enough.
 #[test]
-fn compiling_where_memory_is_scarce(rt: HostRuntime) {
-    let compiled = refusals::<Compilation>(rt.alloc());
+fn compiling_where_memory_is_refused(rt: HostRuntime) {
+    let compiled = refusals(rt.alloc(), &Compilation);
     assert!(rt;
-        matches!(compiled, Some(number) if number > 3),
+        matches!(compiled, Some(number) if number > 0),
         "{compiled:?}"
     );
-    let schedules = refusals::<Schedule>(rt.alloc());
+    let schedules = refusals(rt.alloc(), &Schedule);
     assert!(rt;
         matches!(schedules, Some(number) if number > 0),
         "{schedules:?}"

@@ -3,8 +3,8 @@ ghost use Rattle.std.specs.Prelude.{◌≡◌, IfOk};
 ghost use Rattle.lw_orders.specs.Order.{IsWellFormed};
 
 use crate::plain::plain_orders;
-use linked_list_allocator::LocalHeap;
 use lw_orders::{Items, Orders, count};
+use lw_test_reader::{Made, MadeByAllocator, Refusing, refusals};
 use std::alloc::{AllocError, Global};
 use std::test::Fail;
 
@@ -324,38 +324,41 @@ fn the_most_orders_take_few_tries(rt: HostRuntime) -> Result<(), Fail> {
     Ok(())
 }
 
-/// How many orders of these items are given where there are so many bytes of memory. None where there is none for the iterator.
-fn given_in(alloc: Global, items: &Items, bytes: usize) -> Result<Option<u32>, AllocError> {
-    if count(alloc, items)?.is_none() {
-        return Ok(None);
-    }
-    let heap = LocalHeap::new(alloc, bytes)?;
-    match Orders::new(&heap, items) {
-        Ok(mut orders) => {
-            let mut given = 0u32;
-            for _ in 0..4u32 {
-                if orders.next().is_some() {
-                    given = given.saturating_add(1);
-                }
-            }
-            Ok(Some(given))
+/// The iterator over the orders of these items.
+#[derive(Clone, Copy)]
+struct OrdersOf<'i> {
+    items: &'i Items,
+}
+
+/// Whether the iterator gives the orders of store buffering as sources, and none after them.
+fn gives_all(orders: &mut Orders<&Refusing>) -> bool {
+    for wanted in [[0, 1, 2, 3], [0, 2, 1, 3], [2, 3, 0, 1]] {
+        match orders.next() {
+            Some(order) if order.as_slice() == wanted.as_slice() => {}
+            _ => return false,
         }
-        Err(AllocError) => Ok(None),
+    }
+    orders.next().is_none()
+}
+
+impl MadeByAllocator for OrdersOf<'_> {
+    fn make<'a>(&self, ample: &'a Refusing, scarce: &'a Refusing) -> Option<Made> {
+        count(ample, self.items).ok()??;
+        match Orders::new(scarce, self.items) {
+            Ok(mut orders) => gives_all(&mut orders).then_some(Made::Whole),
+            Err(AllocError) => Some(Made::Refused),
+        }
     }
 }
 
-/// Memory for the iterator is refused at each growth in turn, up to the first room that is enough: there it gives its three orders, and
-/// takes no more.
+/// Memory for the iterator is refused, each growth in turn. To give its orders it takes no more.
 #[test]
-fn orders_where_memory_is_scarce(rt: HostRuntime) -> Result<(), Fail> {
+fn orders_where_memory_is_refused(rt: HostRuntime) -> Result<(), Fail> {
     let items = items_of(rt.alloc(), 4, &[(0, 1), (2, 3)], &[(0, 3), (1, 2)])?;
-    let mut refused = 0u32;
-    for units in 4..4096usize {
-        if let Some(given) = given_in(rt.alloc(), &items, 16 * units)? {
-            assert!(rt; given == 3 && refused > 3, "{given} {refused}");
-            return Ok(());
-        }
-        refused = refused.saturating_add(1);
-    }
-    Err(Fail::from("no orders"))
+    let refused = refusals(rt.alloc(), &OrdersOf { items: &items });
+    assert!(rt;
+        matches!(refused, Some(number) if number > 0),
+        "{refused:?}"
+    );
+    Ok(())
 }

@@ -1,4 +1,4 @@
-//! Readers and writers that give and take little at a time and fail where they are told to.
+//! Readers and writers that give and take little at a time, and fail where they are told to or never end.
 use std::io::{self, ErrorKind, Read, Write};
 
 /// A reader of a text: one byte a call, and one of its calls fails.
@@ -42,6 +42,25 @@ impl Read for Tape<'_> {
                 Ok(1)
             }
             _ => Ok(0),
+        }
+    }
+}
+
+/// A reader that never ends: a byte 255 in each call, for ever.
+#[derive(Drop)]
+pub(crate) struct Endless {
+    pub(crate) calls: usize,
+}
+
+impl Read for Endless {
+    fn read(&mut self, buf: &mut [u8]) -> io::Result<usize> {
+        self.calls = self.calls.saturating_add(1);
+        match buf.first_mut() {
+            Some(room) => {
+                *room = 0xff;
+                Ok(1)
+            }
+            None => Ok(0),
         }
     }
 }

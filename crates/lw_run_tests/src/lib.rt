@@ -1,8 +1,8 @@
 //! Tests of the runs of the workbench: worked examples of each run, runs between devices that give and take little and fail, where
-//! memory is scarce, and faults, words and statuses as values.
+//! memory is refused, and faults, words and statuses as values.
 //!
-//! It names lw_bench and the types that its calls take and answer. What else the program writes of texts and schedules stands in the
-//! folder `tables`.
+//! It names lw_bench, the types that its calls take and answer, and lw_test_reader. What else the program writes of texts and
+//! schedules stands in the folder `tables`.
 #![tactic(auto)]
 
 #[cfg(test)]

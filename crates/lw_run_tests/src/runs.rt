@@ -1,11 +1,14 @@
 //! The runs of the workbench on store buffering, between devices.
-use crate::devices::{Sheet, Tape};
+ghost use Rattle.std.specs.Prelude.{◌≡◌, false};
+
+use crate::devices::{Endless, Sheet, Tape};
 use lw_base::End;
 use lw_bench::{
-    BenchFault, FromRead, Protocol, Task, ToWrite, carry_out, compile_text, replay_text,
-    schedules_text, states,
+    BenchFault, ByteReader, ByteWriter, FromRead, Protocol, Task, ToWrite, answer, carry_out,
+    compile_text, replay_text, schedules_text, states,
 };
-use std::alloc::Global;
+use lw_text::{TextCause, TextFault};
+use std::alloc::{Allocator, Global};
 use std::io::ErrorKind;
 
 /// Store buffering: each thread stores to its own location and loads the other's.
@@ -45,7 +48,7 @@ const X86_STORE_BUFFERING_PAGE: &str =
     "Test SB\nSteps 6\nEnd Final\nP0 at 2 EAX=0 EBX=0 ECX=0 EDX=0 ESI=0 EDI=0\nP0 buffer\nP0 lines x=M y=I\nP1 at 2 EAX=0 EBX=0 ECX=0 EDX=0 ESI=0 EDI=0\nP1 buffer\nP1 lines x=I y=M\nMemory x=0 y=0\nContent x=1 y=1\n";
 
 /// Each task of store buffering, its text, and what is written.
-pub(crate) const RUNS: [(Task<'static>, &str, &str); 8] = [
+pub(crate) const RUNS: [(Task<'static>, &'static str, &'static str); 8] = [
     (Task::States, STORE_BUFFERING, STORE_BUFFERING_REPORT),
     (Task::Compile, STORE_BUFFERING, STORE_BUFFERING_COMPILED),
     (Task::Schedules, STORE_BUFFERING, STORE_BUFFERING_SCHEDULES),
@@ -106,22 +109,49 @@ fn byte_by_byte(rt: HostRuntime) {
     }
 }
 
+/// Carries out a task by the call of its own. A replay is to end in a final state.
+pub(crate) fn run_by_name<R: ByteReader, W: ByteWriter, A: Allocator + Copy>(
+    alloc: A,
+    task: Task<'_>,
+    reader: &mut R,
+    writer: &mut W,
+) -> Result<(), BenchFault>
+    requires reader { R.failed reader.old ≡ false }
+    requires writer { W.failed writer.old ≡ false }
+{
+    match task {
+        Task::States => states(alloc, reader, writer),
+        Task::Compile => compile_text(alloc, reader, writer),
+        Task::Schedules => schedules_text(alloc, reader, writer),
+        Task::Replay(schedule, protocol) => {
+            match replay_text(alloc, reader, schedule, protocol, writer)? {
+                End::Final => Ok(()),
+                End::NotFinal | End::Stopped(_) => Err(BenchFault::Read),
+            }
+        }
+    }
+}
+
 /// Each run by its own call writes what its task does.
 #[test]
 fn runs_by_their_names(rt: HostRuntime) {
     for (task, text, written) in RUNS {
         let mut reader = FromRead::new(Tape::new(text.as_bytes()));
         let mut writer = ToWrite::new(Sheet::new());
-        let is_done = match task {
-            Task::States => states(rt.alloc(), &mut reader, &mut writer).is_ok(),
-            Task::Compile => compile_text(rt.alloc(), &mut reader, &mut writer).is_ok(),
-            Task::Schedules => schedules_text(rt.alloc(), &mut reader, &mut writer).is_ok(),
-            Task::Replay(schedule, protocol) => {
-                replay_text(rt.alloc(), &mut reader, schedule, protocol, &mut writer)
-                    == Ok(End::Final)
-            }
-        };
+        let is_done = run_by_name(rt.alloc(), task, &mut reader, &mut writer).is_ok();
         assert!(rt; is_done && writer.writer.is(written));
+    }
+}
+
+/// Of bytes in memory each task makes what its run writes.
+#[test]
+fn answers_in_memory(rt: HostRuntime) {
+    for (task, text, written) in RUNS {
+        let is_answered = match answer(rt.alloc(), task, text.as_bytes()) {
+            Ok((made, status)) => status == 0 && made.as_str() == written,
+            Err(_) => false,
+        };
+        assert!(rt; is_answered);
     }
 }
 
@@ -163,13 +193,27 @@ fn each_write_fails(rt: HostRuntime) {
     }
 }
 
-/// Of an endless input each run reads 65,537 bytes, and no more, and writes nothing.
+/// What a task answers to an input that never ends, how often it has read, and how often it has written.
+fn run_endlessly(alloc: Global, task: Task<'_>) -> (Result<u8, BenchFault>, usize, usize) {
+    let mut reader = FromRead::new(Endless { calls: 0 });
+    let mut writer = ToWrite::new(Sheet::new());
+    let result = carry_out(alloc, task, &mut reader, &mut writer);
+    (result, reader.reader.calls, writer.writer.calls)
+}
+
+/// Of an input that never ends, though its bytes are no UTF-8, each run reads 65,537 bytes, and no more, and writes nothing.
 #[test]
 fn endless_input(rt: HostRuntime) {
     for (task, _, _) in RUNS {
-        let ran = run_between(rt.alloc(), task, Tape::new(&[0xff; 70000]), Sheet::new());
-        assert!(rt; matches!(ran.result, Err(BenchFault::Text(fault)) if fault.at == 65536));
-        assert!(rt; ran.reads == 65537 && ran.sheet.calls == 0);
+        let (result, reads, writes) = run_endlessly(rt.alloc(), task);
+        let is_too_long = matches!(
+            result,
+            Err(BenchFault::Text(TextFault {
+                at: 65536,
+                cause: TextCause::TooLong
+            }))
+        );
+        assert!(rt; is_too_long && reads == 65537 && writes == 0);
     }
 }
 

@@ -1,42 +1,95 @@
-//! Runs where memory is scarce.
+//! Runs where memory is refused, each growth in turn: then memory is told of, and nothing is written.
 use crate::devices::{Sheet, Tape};
-use crate::runs::RUNS;
-use linked_list_allocator::LocalHeap;
-use lw_bench::{BenchFault, FromRead, Task, ToWrite, carry_out};
-use std::alloc::Global;
-use std::test::Fail;
+use crate::runs::{RUNS, run_by_name};
+use lw_bench::{BenchFault, FromRead, Task, ToWrite, answer, carry_out};
+use lw_test_reader::{Made, MadeByAllocator, Refusing, refusals};
 
-/// Whether all of a text is written where there are so many bytes of memory. None where something else is written, or another
-/// fault is told than want of memory.
-fn is_written_in(
-    alloc: Global,
-    bytes: usize,
-    task: Task<'_>,
-    text: &str,
-    wanted: &str,
-) -> Option<bool> {
-    let heap = LocalHeap::new(alloc, bytes).ok()?;
-    let mut reader = FromRead::new(Tape::new(text.as_bytes()));
-    let mut writer = ToWrite::new(Sheet::new());
-    match carry_out(&heap, task, &mut reader, &mut writer) {
-        Ok(0) if writer.writer.is(wanted) => Some(true),
-        Err(BenchFault::Memory) if writer.writer.calls == 0 => Some(false),
+/// A task, its text, and what is written.
+#[derive(Clone, Copy)]
+struct Run {
+    task: Task<'static>,
+    text: &'static str,
+    written: &'static str,
+}
+
+/// What becomes of a run.
+fn ran(outcome: Result<(), BenchFault>, sheet: &Sheet, written: &str) -> Option<Made> {
+    match outcome {
+        Ok(()) if sheet.is(written) => Some(Made::Whole),
+        Err(BenchFault::Memory) if sheet.calls == 0 => Some(Made::Refused),
         _ => None,
     }
 }
 
-/// Memory is refused at each growth in turn, up to the first room that is enough.
-#[test]
-fn runs_where_memory_is_scarce(rt: HostRuntime) -> Result<(), Fail> {
-    for (task, text, wanted) in RUNS {
-        let mut refused = 0u32;
-        for units in 4..2048usize {
-            if is_written_in(rt.alloc(), 16 * units, task, text, wanted).ok_or("a run")? {
-                break;
-            }
-            refused = refused.saturating_add(1);
-        }
-        assert!(rt; refused > 3 && refused < 2044, "{refused}");
+/// The run by the call that carries out each task.
+#[derive(Clone, Copy)]
+struct CarriedOut(Run);
+
+impl MadeByAllocator for CarriedOut {
+    fn make<'a>(&self, _ample: &'a Refusing, scarce: &'a Refusing) -> Option<Made> {
+        let Run {
+            task,
+            text,
+            written,
+        } = self.0;
+        let mut reader = FromRead::new(Tape::new(text.as_bytes()));
+        let mut writer = ToWrite::new(Sheet::new());
+        let result = carry_out(scarce, task, &mut reader, &mut writer);
+        ran(result.map(|_| ()), &writer.writer, written)
     }
-    Ok(())
+}
+
+/// The run by its own call.
+#[derive(Clone, Copy)]
+struct ByName(Run);
+
+impl MadeByAllocator for ByName {
+    fn make<'a>(&self, _ample: &'a Refusing, scarce: &'a Refusing) -> Option<Made> {
+        let Run {
+            task,
+            text,
+            written,
+        } = self.0;
+        let mut reader = FromRead::new(Tape::new(text.as_bytes()));
+        let mut writer = ToWrite::new(Sheet::new());
+        let result = run_by_name(scarce, task, &mut reader, &mut writer);
+        ran(result, &writer.writer, written)
+    }
+}
+
+/// What is written, as a value.
+#[derive(Clone, Copy)]
+struct Answered(Run);
+
+impl MadeByAllocator for Answered {
+    fn make<'a>(&self, _ample: &'a Refusing, scarce: &'a Refusing) -> Option<Made> {
+        let Run {
+            task,
+            text,
+            written,
+        } = self.0;
+        match answer(scarce, task, text.as_bytes()) {
+            Ok((made, 0)) if made.as_str() == written => Some(Made::Whole),
+            Err(BenchFault::Memory) => Some(Made::Refused),
+            _ => None,
+        }
+    }
+}
+
+#[test]
+fn runs_where_memory_is_refused(rt: HostRuntime) {
+    for (task, text, written) in RUNS {
+        let run = Run {
+            task,
+            text,
+            written,
+        };
+        let carried_out = refusals(rt.alloc(), &CarriedOut(run));
+        let by_name = refusals(rt.alloc(), &ByName(run));
+        let answered = refusals(rt.alloc(), &Answered(run));
+        assert!(rt;
+            matches!((carried_out, by_name, answered), (Some(a), Some(b), Some(c)) if a > 0 && b > 0 && c > 0),
+            "{carried_out:?} {by_name:?} {answered:?}"
+        );
+    }
 }

@@ -1,15 +1,17 @@
-//! What the tests crates share: the test that a text is, and what is made where memory is scarce.
+//! What the tests crates share: the test that a text is, an allocator that refuses growths of a choice, and what is made by it.
 //!
-//! It names the readers of both languages, and linked_list_allocator for a heap of few bytes. No library and no program stands on it.
+//! It names the readers of both languages. No library and no program stands on it.
 #![tactic(auto)]
 
+mod refusing;
 mod scarce;
 
 use lw_base::Arch;
 use lw_source::{Source, read_source};
 use lw_text::read_frame;
 use lw_x86::{Program, read_program};
-pub use scarce::{Made, MadeInRoom, refusals};
+pub use refusing::{Refusal, Refusing};
+pub use scarce::{Made, MadeByAllocator, refusals};
 use std::alloc::Allocator;
 
 /// The source test that the text is, if it is one and there is memory for it.

@@ -1,9 +1,9 @@
-//! What is made where memory is scarce: in one heap after another, each of a few bytes more, up to the first that is enough.
-use linked_list_allocator::LocalHeap;
+//! What is made where memory is refused, each growth in turn, alone and with all later ones.
+use crate::refusing::{Refusal, Refusing};
 use std::alloc::Global;
 
-/// What becomes of it in a heap.
-#[derive(Clone, Copy, Debug, PartialEq, Eq)]
+/// What becomes of it.
+#[derive(Clone, Copy)]
 pub enum Made {
     /// It is refused, for want of memory.
     Refused,
@@ -11,25 +11,35 @@ pub enum Made {
     Whole,
 }
 
-/// Something that is made in a heap of few bytes.
-pub trait MadeInRoom {
-    /// What becomes of it in a heap, where what it is made of lies in a roomy one. None where it is refused for anything but memory,
-    /// or is another than it must be.
-    fn make_in<'a>(roomy: &'a LocalHeap, heap: &'a LocalHeap) -> Option<Made>;
+/// Something that is made by an allocator, which may refuse.
+pub trait MadeByAllocator {
+    /// What becomes of it where it is made by `scarce`, and what it is made of by `ample`, which refuses nothing. None where it
+    /// is refused for anything but memory, or is another than it must be.
+    fn make<'a>(&self, ample: &'a Refusing, scarce: &'a Refusing) -> Option<Made>;
 }
 
-/// The bytes of the roomy heap.
-const ROOMY: usize = 1 << 20;
+/// What becomes of it where these growths are refused, and how many are asked for.
+fn made_by<T: MadeByAllocator>(alloc: Global, made: &T, refusal: Refusal) -> Option<(Made, u64)> {
+    let ample = Refusing::new(alloc, Refusal::Never);
+    let scarce = Refusing::new(alloc, refusal);
+    let made = made.make(&ample, &scarce)?;
+    Some((made, scarce.asked()))
+}
 
-/// How often it is refused, up to the first heap that is enough. None where something is not as it must be, or no heap is enough.
-pub fn refusals<T: MadeInRoom>(alloc: Global) -> Option<u32> {
-    let roomy = LocalHeap::new(alloc, ROOMY).ok()?;
-    let mut refused = 0u32;
-    for units in 1..4096usize {
-        let heap = LocalHeap::new(alloc, 16 * units).ok()?;
-        match T::make_in(&roomy, &heap)? {
-            Made::Refused => refused = refused.saturating_add(1),
-            Made::Whole => return Some(refused),
+/// The number of its growths, where it is refused for each of them: for the first, the second, and so on, alone and with all later
+/// ones, up to the number that none has. There it is whole, and has asked for as many growths as were refused, so that none was
+/// passed over. None where something is not so.
+pub fn refusals<T: MadeByAllocator>(alloc: Global, made: &T) -> Option<u64> {
+    let mut refused = 0u64;
+    for growth in 1..4096u64 {
+        let alone = made_by(alloc, made, Refusal::Alone(growth))?;
+        let onwards = made_by(alloc, made, Refusal::Onwards(growth))?;
+        match (alone, onwards) {
+            ((Made::Refused, _), (Made::Refused, _)) => refused = refused.saturating_add(1),
+            ((Made::Whole, growths), (Made::Whole, _)) if growths == refused => {
+                return Some(refused);
+            }
+            _ => return None,
         }
     }
     None

@@ -1,5 +1,7 @@
-//! The state that a run leaves, as an outcome.
-use lw_base::{Cpu, End, Event};
+//! The state that a run leaves: as an outcome, and word by word.
+ghost use Rattle.std.specs.Prelude.{◌≡◌, length};
+
+use lw_base::{Cpu, End, Event, Loc, Reg};
 use lw_source::{Source, SourceRun};
 use lw_test_reader::source_of;
 use std::alloc::Global;
@@ -19,12 +21,28 @@ fn has_left(run: &SourceRun<'_>) -> bool {
     }
 }
 
+/// Whether the run of two threads on two locations has a 1 in each location, and in the first register of the first thread, but not in
+/// its second register, nor in the first one of the second thread.
+fn has_words(run: &SourceRun<'_>) -> bool
+    requires threads { length run.now.state.threads ≡ 2 }
+    requires words { length run.now.state.words ≡ 2 }
+{
+    let ([p0, p1, ..], [r0, r1, ..], [x, y, ..]) = (Cpu::all(), Reg::all(), Loc::all());
+    let registers = [run.reg(p0, r0), run.reg(p0, r1), run.reg(p1, r0)];
+    registers == [1, 0, 0] && [run.word(x), run.word(y)] == [1, 1]
+}
+
 /// Whether these steps are all carried out, don't end the run, and leave that.
 fn leave(alloc: Global, source: &Source, steps: [Cpu; 3]) -> bool {
     match SourceRun::new(alloc, source) {
         Ok(mut run) => {
             let replay = run.run(&steps.map(Event::Step));
-            replay.done == 3 && replay.end == End::NotFinal && has_left(&run)
+            replay.done == 3
+                && replay.end == End::NotFinal
+                && has_left(&run)
+                && source.head.threads == 2
+                && source.head.locs.len() == 2
+                && has_words(&run)
         }
         Err(_) => false,
     }

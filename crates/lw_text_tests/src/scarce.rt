@@ -1,8 +1,7 @@
-//! Frames and tests that are read where memory is scarce.
-use linked_list_allocator::LocalHeap;
+//! Frames and tests that are read where memory is refused, each growth in turn.
 use lw_base::{Arch, CellCause, CellFault};
 use lw_source::read_source;
-use lw_test_reader::{Made, MadeInRoom, refusals};
+use lw_test_reader::{Made, MadeByAllocator, Refusing, refusals};
 use lw_text::{Frame, TextCause, TextFault, read_frame};
 use lw_x86::read_program;
 use std::alloc::Allocator;
@@ -31,9 +30,9 @@ fn refused_text(fault: TextFault) -> Option<Made> {
     None
 }
 
-impl MadeInRoom for ReadFrame {
-    fn make_in<'a>(_roomy: &'a LocalHeap, heap: &'a LocalHeap) -> Option<Made> {
-        match read_frame(heap, STORE_BUFFERING.as_bytes()) {
+impl MadeByAllocator for ReadFrame {
+    fn make<'a>(&self, _ample: &'a Refusing, scarce: &'a Refusing) -> Option<Made> {
+        match read_frame(scarce, STORE_BUFFERING.as_bytes()) {
             Ok(frame) => is_whole(&frame).then_some(Made::Whole),
             Err(fault) => refused_text(fault),
         }
@@ -48,12 +47,13 @@ fn refused(fault: CellFault) -> Option<Made> {
     None
 }
 
-/// What becomes of the source test of a frame.
-fn source_in<A: Allocator + Copy>(heap: A, frame: &Frame<A>) -> Option<Made> {
+/// What becomes of the source test of a frame, which afterwards reads as ever.
+fn source_by<A: Allocator + Copy>(ample: A, scarce: A, frame: &Frame<A>) -> Option<Made> {
     match frame.head.arch {
-        Arch::Source => match read_source(heap, frame) {
-            Ok(source) => (source.threads.len() == 2).then_some(Made::Whole),
-            Err(fault) => refused(fault),
+        Arch::Source => match (read_source(scarce, frame), read_source(ample, frame)) {
+            (Ok(source), Ok(whole)) => (source.threads == whole.threads).then_some(Made::Whole),
+            (Err(fault), Ok(_)) => refused(fault),
+            (_, Err(_)) => None,
         },
         Arch::X86 => None,
     }
@@ -62,22 +62,23 @@ fn source_in<A: Allocator + Copy>(heap: A, frame: &Frame<A>) -> Option<Made> {
 /// The test that its cells are.
 struct ReadSource;
 
-impl MadeInRoom for ReadSource {
-    fn make_in<'a>(roomy: &'a LocalHeap, heap: &'a LocalHeap) -> Option<Made> {
-        match read_frame(roomy, STORE_BUFFERING.as_bytes()) {
-            Ok(frame) => source_in(heap, &frame),
+impl MadeByAllocator for ReadSource {
+    fn make<'a>(&self, ample: &'a Refusing, scarce: &'a Refusing) -> Option<Made> {
+        match read_frame(ample, STORE_BUFFERING.as_bytes()) {
+            Ok(frame) => source_by(ample, scarce, &frame),
             Err(_) => None,
         }
     }
 }
 
-/// What becomes of the x86 test of a frame.
-fn program_in<A: Allocator + Copy>(heap: A, frame: &Frame<A>) -> Option<Made> {
+/// The same of an x86 test.
+fn program_by<A: Allocator + Copy>(ample: A, scarce: A, frame: &Frame<A>) -> Option<Made> {
     match frame.head.arch {
         Arch::Source => None,
-        Arch::X86 => match read_program(heap, frame) {
-            Ok(program) => (program.threads.len() == 2).then_some(Made::Whole),
-            Err(fault) => refused(fault),
+        Arch::X86 => match (read_program(scarce, frame), read_program(ample, frame)) {
+            (Ok(program), Ok(whole)) => (program.threads == whole.threads).then_some(Made::Whole),
+            (Err(fault), Ok(_)) => refused(fault),
+            (_, Err(_)) => None,
         },
     }
 }
@@ -85,28 +86,27 @@ fn program_in<A: Allocator + Copy>(heap: A, frame: &Frame<A>) -> Option<Made> {
 /// The test that the cells of the second are.
 struct ReadProgram;
 
-impl MadeInRoom for ReadProgram {
-    fn make_in<'a>(roomy: &'a LocalHeap, heap: &'a LocalHeap) -> Option<Made> {
-        match read_frame(roomy, X86_STORE_BUFFERING.as_bytes()) {
-            Ok(frame) => program_in(heap, &frame),
+impl MadeByAllocator for ReadProgram {
+    fn make<'a>(&self, ample: &'a Refusing, scarce: &'a Refusing) -> Option<Made> {
+        match read_frame(ample, X86_STORE_BUFFERING.as_bytes()) {
+            Ok(frame) => program_by(ample, scarce, &frame),
             Err(_) => None,
         }
     }
 }
 
-/// Memory is refused at each growth in turn, up to the first heap that is enough.
 #[test]
-fn readers_where_memory_is_scarce(rt: HostRuntime) {
-    let frames = refusals::<ReadFrame>(rt.alloc());
-    assert!(rt; matches!(frames, Some(number) if number > 3), "{frames:?}");
-    let sources = refusals::<ReadSource>(rt.alloc());
+fn readers_where_memory_is_refused(rt: HostRuntime) {
+    let frames = refusals(rt.alloc(), &ReadFrame);
+    assert!(rt; matches!(frames, Some(number) if number > 0), "{frames:?}");
+    let sources = refusals(rt.alloc(), &ReadSource);
     assert!(rt;
-        matches!(sources, Some(number) if number > 3),
+        matches!(sources, Some(number) if number > 0),
         "{sources:?}"
     );
-    let programs = refusals::<ReadProgram>(rt.alloc());
+    let programs = refusals(rt.alloc(), &ReadProgram);
     assert!(rt;
-        matches!(programs, Some(number) if number > 3),
+        matches!(programs, Some(number) if number > 0),
         "{programs:?}"
     );
 }
