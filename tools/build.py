@@ -85,12 +85,18 @@ class Crate:
             return os.path.getmtime(f"{self.folder}/out/rlib/stamp") > self.newest()
         return False
 
-    def share_done(self):
-        """The share of its functions that the log tells as checked."""
+    def functions(self):
+        """How many of its functions the log tells as checked, and how many it has."""
         with contextlib.suppress(OSError), open(self.log, errors="replace", encoding="utf-8") as it:
             told = re.findall(r"(\d+) of (\d+) functions", it.read())
-            return int(told[-1][0]) / max(int(told[-1][1]), 1) if told else 0
-        return 0
+            if told:
+                return int(told[-1][0]), int(told[-1][1])
+        return 0, 0
+
+    def share_done(self):
+        """The share of its functions that are checked."""
+        done, number = self.functions()
+        return done / max(number, 1)
 
 
 def crates_of_program():
@@ -157,15 +163,25 @@ class Build:
                 self.proved.append(crate)
                 tell(f"{crate.name} is proved ({len(self.proved)} of {len(self.crates)})")
 
+    def minutes_left(self, done, spent):
+        """Minutes to go, where a share of the work is done in so many minutes: by docs/TIMES.md, and the more is done the more by the
+        speed that this machine has shown so far."""
+        planned = self.estimate()
+        pace = spent / (planned * done) if planned * done else 1
+        trust = min(1, 10 * done)
+        return planned * (1 - done) * (1 + trust * (pace - 1))
+
     def show(self):
-        """Shows on a terminal how far the build is."""
+        """Shows on a terminal how far the build is, and how long it has taken."""
         whole = sum(self.weight.values()) or 1
         running = sum(self.weight[it] * it.share_done() for it in self.running)
         done = (sum(self.weight[it] for it in self.proved) + running) / whole
-        spent = (time.monotonic() - self.began) / 60
-        left = spent / done - spent if done > 0.1 else self.estimate() * (1 - done)
+        functions = sum(it.functions()[1] for it in self.proved if self.weight[it]) + sum(it.functions()[0] for it in self.running)
+        seconds = int(time.monotonic() - self.began)
+        left = self.minutes_left(done, seconds / 60)
         names = ", ".join(it.name for it in self.running)
-        print(f"{clear()}lw: {done:.0%} proved, about {left:.0f} minutes to go: {names}", end="", file=sys.stderr, flush=True)
+        told = f"{functions} functions proved, {done:.0%}; {seconds // 60}:{seconds % 60:02} gone, about {left:.0f} minutes to go: {names}"
+        print(f"{clear()}lw: {told}", end="", file=sys.stderr, flush=True)
 
     def run(self, at_each_turn):
         try:

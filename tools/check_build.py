@@ -132,9 +132,26 @@ def check_builds(place):
     place.change(CHANGED)
     out, _, record = place.run()
     yield "a changed crate has those above it built", (ANSWER, above(CHANGED)), (out, begun(record))
+
+
+def check_copies(place, room):
+    """A tree with the same content answers at once: at other times, with other modes, elsewhere, without rt, for who may only read."""
     os.utime(f"{place.home}/crates/{CHANGED}/src/lib.rt")
-    out, _, record = place.run()
-    yield "a file of another time has the program alone built", (ANSWER, ["lw"]), (out, begun(record))
+    yield "a file of another time with the same content has nothing built", (ANSWER, "", []), place.run()
+    subprocess.run(["chmod", "-R", "go-rwx", place.home], check=True)
+    yield "other modes have nothing built", (ANSWER, "", []), place.run()
+    without_rt = {**place.environment, "PATH": os.environ["PATH"].replace(os.path.dirname(shutil.which("rt") or "/none/rt"), "/none")}
+    for how in ("-a", "-r"):
+        copy = f"{room}/copy{how}"
+        subprocess.run(["cp", how, place.home, copy], check=True)
+        subprocess.run(["chmod", "-R", "a+rX", room], check=True)
+        for who in [{}] + [{"user": 65534, "group": 65534, "extra_groups": []}] * (os.geteuid() == 0):
+            ran = subprocess.run([f"{copy}/lw", "states"], input=b"text\n", capture_output=True, env=without_rt, check=False, **who)
+            told = ran.stdout, ran.stderr, ran.returncode
+            yield f"a copy by cp {how} answers without rt{', read only' if who else ''}", (ANSWER, b"", 3), told
+    place.change(CHANGED)
+    os.utime(f"{place.home}/crates/{CHANGED}/src/lib.rt", (0, 0))
+    yield "a changed file of an old time has those above it built", above(CHANGED), begun(place.run()[2])
 
 
 def check_failures(place):
@@ -199,7 +216,7 @@ def comparisons():
     """All comparisons: what is compared, what is wanted, and what is told."""
     with tempfile.TemporaryDirectory() as room:
         place = Place(room)
-        for check in (check_builds(place), check_failures(place), check_first_answer(place, room)):
+        for check in (check_builds(place), check_copies(place, room), check_failures(place), check_first_answer(place, room)):
             for what, wanted, told in check:
                 yield f"./lw with a stand-in for rt: {what}", wanted, told
 

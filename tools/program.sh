@@ -1,25 +1,55 @@
 # Shell functions for the program of the repository in $home: whether there is one for the sources as they are. Read by ./lw,
 # by test.sh and by tools/build.py, which builds it.
 #
-# $made_of says what the program was made of: the files and folders, the toolchain's folder and its version, and of each
-# file its size and the time of its last change. It is made before the build begins, so a file that changes during the
-# build is seen to have changed.
+# $made_of says what the program was made of: the files and folders, the toolchain's folder and its version, a checksum of all
+# files, and of each file its size and the time when its content changed last. It is made before the build begins, so a file that
+# changes during the build is seen to have changed. A copy of the repository, or one whose modes have changed, has the same content:
+# where times differ, the checksum decides.
 unset CDPATH
 program=$home/crates/lw/out/lw
 made_of=$home/crates/lw/out/made-of
 
-# Prints what a program of the sources $paths by the toolchain in $kit is made of, as they are now.
-list_sources() {
-    read -r version <"$kit/KIT-ID"
-    printf '%s\n%s\n%s\n' "$paths" "$kit" "$version"
-    (cd "$home" && find $paths \( -name out -o -name must-fail \) -prune -o -type f -printf '%p %s %C@\n')
+# Finds the files of the sources $paths, and does with them what the words say.
+find_sources() {
+    (cd "$home" && find $paths \( -name out -o -name must-fail \) -prune -o -type f "$@")
 }
 
-# Whether the program is there, and what it was made of is as it was.
+# Prints of each file of the sources its size and the time when its content changed.
+list_files() {
+    find_sources -printf '%p %s %T@\n' | LC_ALL=C sort
+}
+
+# Prints a checksum of the names and the contents of all files of the sources.
+sum_files() {
+    find_sources -print | LC_ALL=C sort | (cd "$home" && xargs sha256sum) | sha256sum | cut -c 1-64
+}
+
+# Prints what a program of the sources $paths with the checksum $sum by the toolchain in $kit is made of, as they are now.
+list_sources() {
+    printf '%s\n%s\n%s\n%s\n' "$paths" "$kit" "$version" "$sum"
+    list_files
+}
+
+# Whether the toolchain that is there, if one is, is the one that the program was made by.
+is_same_toolchain() {
+    rt=$(command -v rt) || return 0
+    [ "$rt" -ef "$kit/bin/rt" ] || kit=$(readlink -f "$rt") && kit=${kit%/bin/rt}
+    [ ! -r "$kit/KIT-ID" ] || { read -r now <"$kit/KIT-ID" && [ "$now" = "$version" ]; }
+}
+
+# Whether the program is there, and what it was made of is as it was. Where there are no sources, it is what was handed on.
 is_current() {
-    [ -x "$program" ] && [ -r "$made_of" ] || return 1
-    { read -r paths && read -r kit; } <"$made_of"
-    [ "$(command -v rt)" -ef "$kit/bin/rt" ] && list_sources 2>/dev/null | cmp -s - "$made_of"
+    [ -x "$program" ] || return 1
+    [ -e "$home/crates.txt" ] || return 0
+    [ -r "$made_of" ] || return 1
+    { read -r paths && read -r kit && read -r version && read -r sum; } <"$made_of"
+    made_by=$kit
+    is_same_toolchain || return 1
+    kit=$made_by
+    list_sources 2>/dev/null | cmp -s - "$made_of" && return
+    [ "$(sum_files 2>/dev/null)" = "$sum" ] || return 1
+    # The same content at other times, which are kept where that is possible.
+    [ ! -w "${made_of%/*}" ] || { list_sources >"$made_of.$$" && mv -f "$made_of.$$" "$made_of"; } 2>/dev/null || :
 }
 
 # The crates of the repository on which the crate $1 stands.
@@ -37,7 +67,7 @@ crates_from() {
     echo "$1"
 }
 
-# Sets $paths and $kit to what a program is made of now: its crates, lowest first.
+# Sets $paths, $kit, $version and $sum to what a program is made of now: its crates, lowest first.
 look_at_sources() {
     kit=$(rt doc 2>/dev/null) || {
         echo "lw: the toolchain's command rt does not run" >&2
@@ -48,4 +78,5 @@ look_at_sources() {
     for crate in $(crates_from lw | awk '!seen[$0]++'); do
         paths="$paths crates/$crate"
     done
+    read -r version <"$kit/KIT-ID" && sum=$(sum_files)
 }
