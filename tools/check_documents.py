@@ -19,13 +19,15 @@
 - Some random tests of each language: what the program says of them beside what tools/plain.py says (tools/random_tests.py).
 - The program where memory is refused: for each n, a run whose nth call for memory is refused (tools/refuse_memory.c).
 - The program where its streams fail or never end: standard output that is closed, or that nobody reads; standard input that is a
-  folder, closed or endless; words that are no UTF-8; each protocol by name.
+  folder, closed or endless; words that are no command, which leave standard input unread; words that are no UTF-8; each protocol by
+  name.
 - HANDLES is its one line. Beside what is counted in folders and documents stand the least numbers that there must be of it, so that
   a heading that is renamed can't leave its rows unread.
 - No crate that says what tests mean names one that reads texts (tools/check_wings.py); the definitions on which the meaning of a
   test stands are few, and docs/MAP.md tells how many (tools/semantic_core.py); docs/BELIEVE.md has each definition that the contract
-  of `states` reaches, with its lines (tools/believe.py). The examples that theorems speak of are the texts that a test of
-  lw_text_tests reads as their values.
+  of `answer` reaches, with its lines (tools/believe.py). The examples that theorems speak of are the texts that a test of
+  lw_text_tests reads as their values, and the text and the report of the law on bytes are those of the files. What documents name in
+  the repository is there (tools/check_names.py).
 - What `./lw` builds, and when, with a stand-in for `rt` (tools/check_build.py); docs/TIMES.md has the minutes of each of its crates.
 - The numbers of states of the tests in bench/.
 - The web page, by a plain client, and where there is a browser in that too (tools/check_page.py).
@@ -46,6 +48,7 @@ import believe
 import build
 import check_build
 import check_edits
+import check_names
 import check_page
 import check_tables
 import check_wings
@@ -380,8 +383,30 @@ def check_input_stream(command):
         yield f"lw {command[0]}, nothing is written", 0, output.tell()
 
 
+def left_unread(command, given):
+    """What a command leaves in the pipe of its standard input, what it prints on both streams, and its exit status."""
+    reading, writing = os.pipe()
+    with open(writing, "wb") as pipe:
+        pipe.write(given)
+    with open(reading, "rb") as pipe:
+        ran = subprocess.run(command, stdin=pipe, capture_output=True, cwd=HOME, timeout=60, check=False)
+        return pipe.read(), ran.stdout, ran.stderr, ran.returncode
+
+
+def check_usage():
+    """Words that are no command, which leave their input unread, and a command, which reads it."""
+    given = read("examples/SB.litmus").encode()
+    usage = b"", b"usage: lw states | lw compile | lw schedules | lw replay SCHEDULE\n", 2
+    for words in ([], ["state"], ["states", "P0"], ["replay"], ["replay", "P0", "P1"], ["replay", "P0", "--protocol=mesi"]):
+        yield f"lw {' '.join(words)} leaves its input unread", (given, *usage), left_unread([PROGRAM, *words], given)
+    yield "lw states reads its input", b"", left_unread([PROGRAM, "states"], given)[0]
+
+
 def check_words():
-    """Words that are no UTF-8, whatever the others are, and the protocols by name."""
+    """Words that are no UTF-8, the program's own name among them, whatever the others are, and the protocols by name."""
+    for words in ([], ["states"], ["state"]):
+        told = run([b"lw\xff", *words], executable=PROGRAM)
+        yield f"lw by a name that is no UTF-8 {' '.join(words)}", (b"", b"lw: read failed\n", 4), told
     for words in ([b"replay", b"\xff"], [b"\xff"], [b"states", b"P0\xc3"], [b"replay", b"P0", b"--protocol", b"me\xffsi"]):
         yield f"lw {words}", (b"", b"lw: read failed\n", 4), run([PROGRAM, *words])
     given = read("examples/SB-x86.litmus").encode()
@@ -476,7 +501,7 @@ def check_semantic_core():
 
 
 def check_believe():
-    yield "the definitions that the contract of `states` reaches, and docs/BELIEVE.md on them (tools/believe.py)", [], believe.told_faults()
+    yield "the definitions that the contract of `answer` reaches, and docs/BELIEVE.md on them (tools/believe.py)", [], believe.told_faults()
 
 
 def check_classics():
@@ -488,6 +513,28 @@ def check_classics():
         yield f"examples/{name}.litmus is what lw_text_tests reads", read(f"examples/{name}.litmus"), text.replace("\\\\", "\\")
 
 
+def text_of_spec(source, name):
+    """The bytes of a text that a file of definitions writes out, by the names of its parts."""
+    block = re.search(rf"^{name} =\s*((?:.+\n?)*)", source, re.M)[1]
+    parts = re.findall(r'codes "((?:[^"\\]|\\.)*)"|\b([a-z]\w*_\w+)\b', block)
+    written = {"\\n": "\n", "\\\\": "\\", '\\"': '"'}
+    return "".join(text_of_spec(source, part) if part else re.sub(r"\\.", lambda it: written[it[0]], text) for text, part in parts)
+
+
+def check_theorem_on_bytes():
+    """The text and the report of the law on bytes are those of the files."""
+    source = read("crates/lw_bench/specs/Examples.antt")
+    text, report = (text_of_spec(source, f"store_buffering_{it}") for it in ("text", "report"))
+    yield "examples/SB-x86.litmus is the text of the law on bytes", read("examples/SB-x86.litmus"), text
+    yield "its report is that of the law on bytes", (report.encode(), b"", 0), run([PROGRAM, "states"], text.encode())
+    shown = ["".join(f"{line}\n" for line in block[1:]) for block in blocks(read("README.md")) if block[0] == "$ ./lw states < examples/SB-x86.litmus"]
+    yield "README.md shows the report of the law on bytes", [report], shown
+
+
+def check_names_there():
+    yield "what docs/THEOREMS.md, BELIEVE.md, DECISIONS.md and MAP.md name is there (tools/check_names.py)", [], check_names.faults()
+
+
 def checks():
     """All checks: functions with their arguments, each of which is one thing to do."""
     yield (check_build.comparisons,)
@@ -496,6 +543,8 @@ def checks():
     yield (check_semantic_core,)
     yield (check_believe,)
     yield (check_classics,)
+    yield (check_theorem_on_bytes,)
+    yield (check_names_there,)
     for name in ["README.md", *sorted(glob.glob("docs/*.md"))]:
         for block in blocks(read(name)):
             yield check_transcript, name, block
@@ -516,6 +565,7 @@ def checks():
         yield check_measured, *it
     yield (check_handles,)
     yield (check_least,)
+    yield (check_usage,)
     yield (check_words,)
     for command in COMMANDS:
         yield check_output_stream, command
