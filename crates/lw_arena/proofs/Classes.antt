@@ -1,0 +1,24 @@
+-- A block of its class holds what it is for, and is of one of the classes.
+use Rattle.std.proofs.Common.{◌≡◌, ℕ, ◌-◌, ◌*◌, ◌/◌, ◌^◌, ◌<◌, ◌≤◌, max, ap, subst, sym, arith, pow_mono, ⊎_elim}
+use Rattle.std.proofs.lemmas.Bool.{cases_lt}
+use Rattle.std.proofs.lemmas.Nat.{leading_length}
+use Rattle.lw_arena.specs.Sizes.{block_class, block_units}
+
+pub record FitsClass (n : ℕ) : Type 0 where
+  pub bounded : block_class n < 60
+  pub holds : n ≤ block_units n * 16
+
+pub fits_class : (n : ℕ) → n < 2 ^ 63 → FitsClass n
+fits_class n small =
+    let x : ℕ = (max n 1 - 1) / 16 in
+    let length = leading_length 64 x (omega arith) in
+    let is : block_class n ≡ length.0 = omega (arith, length.1) in
+    let units : block_units n ≡ 2 ^ length.0 = ap (λ (m : ℕ). 2 ^ m) is in
+    record {
+      bounded = subst (λ (m : ℕ). m < 60) (sym is)
+          (⊎_elim (λ below. below) (λ above. absurd (omega (arith, pow_mono above, length.3))) (cases_lt length.0 60));
+      holds = omega (arith, units, length.2);
+    }
+
+pub some_units : (n : ℕ) → 1 ≤ block_units n
+some_units n = omega (arith, pow_mono {i = 0} {j = block_class n} (omega arith))

@@ -1,0 +1,4 @@
+mod Classes
+mod Rooms
+mod Taken
+mod Walks

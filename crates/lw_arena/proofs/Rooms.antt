@@ -1,0 +1,83 @@
+-- Units of memory are cut in two, and are room for a type that they hold. Assumes `Logic`.
+use Rattle.std.proofs.Common.{◌≡◌, ℕ, zero, suc, ◌+◌, ◌-◌, ◌*◌, ◌%◌, ◌≤◌, max, List, [], ◌∷◌, sym, ap, subst, ◌∙◌, arith}
+use seplogic.Ra.Ura.{Ura}
+use mir.Syntax.{Ty, Tys, w8, w128, tnil, tcons, ty_int, ty_array, ty_struct}
+use native.Mathlib.Nat.{mod_self, sub-zero}
+use base.Logic.{ent, sep, wand, id⊢, apply∗, never}
+use base.Fml.{froom}
+use prog.Memory.{size, align, pad, up, end_of}
+use prog.Model.{rooms_at}
+use prog.Align.{Dv, dv→, dv_zero, dv_one, dv_mul, align_pos}
+use types.Logic.{Logic, sem}
+use types.Kit.{Item, Goal, Seq, ‵, raw, ◌⊛◌, ◌$◌, ◌∵◌, !, qed, by, drop, use1, use2, split, join, frame, assume, done}
+use denote.RawPtr.{Ptr, block_ptr, in_a_block}
+use denote.RawPtr.Room.{room_cut, past}
+use denote.Steps.{nothing}
+use Rattle.lw_arena.specs.Ownership.{units, memory}
+
+past_units : (k o : ℕ) → past (ty_int w128) k o ≡ o + k * 16
+past_units zero o = omega arith
+past_units (suc k) o = past_units k (o + 16) ∙ omega arith
+
+-- no gap stands before what begins at a multiple of its alignment
+no_gap : (a n : ℕ) → Dv a n → up a n ≡ n
+no_gap a n divides =
+    let gap : pad a n ≡ 0 = ap (λ (r : ℕ). (a - r) % a) (dv→ a n divides) ∙ ap (λ (r : ℕ). r % a) (sub-zero a) ∙ mod_self a in
+    ap (λ (r : ℕ). n + r) gap ∙ omega arith
+
+-- a τ with the bytes behind it, up to k units
+abbrev filling : Ty → ℕ → Tys
+filling τ k = tcons (ty_array (ty_int w8) (k * 16 - size τ)) tnil
+
+abbrev filled : Ty → ℕ → Ty
+filled τ k = ty_struct [] (tcons τ (filling τ k))
+
+first_place : (τ : Ty) → up (align τ) 0 ≡ 0
+first_place τ = no_gap (align τ) 0 (dv_zero (align τ))
+
+alignment : (τ : Ty) → max (align τ) 1 ≡ align τ
+alignment τ = omega (arith, align_pos τ)
+
+filled_size : (τ : Ty) (k : ℕ) → size τ ≤ k * 16 → Dv (align τ) 16 → size (filled τ k) ≡ k * 16
+filled_size τ k fits divides =
+    let behind : ℕ = up (align τ) 0 + size τ in
+    let ends : end_of zero (tcons τ (filling τ k)) ≡ k * 16
+    = ap (λ (n : ℕ). n + (k * 16 - size τ) * 1) (no_gap 1 behind (dv_one behind) ∙ ap (λ (n : ℕ). n + size τ) (first_place τ)) ∙ omega arith in
+    (λ i. up (alignment τ i) (ends i)) ∙ no_gap (align τ) (k * 16) (dv_mul (align τ) 16 k divides)
+
+module _ {M : Type 1} {𝓤 : Ura M} (𝓛 : Logic 𝓤) where
+  open 𝓛 use {H}
+
+  pub cuts : (m n b o : ℕ) → ent 𝓤 (H.room (units (m + n)) b o) (sep 𝓤 (H.room (units m) b o) (H.room (units n) b (o + m * 16)))
+  cuts m n b o =
+      subst (λ (d : ℕ). ent 𝓤 (H.room (units (m + n)) b o) (sep 𝓤 (H.room (units m) b o) (H.room (units n) b d)))
+      (past_units m o) (room_cut 𝓛 (ty_int w128) m n b o)
+
+  -- a type that k units hold: they are room for it, and with that room they are whole again
+  pub holds : (τ : Ty) (k b o : ℕ) → size τ ≤ k * 16 → Dv (align τ) 16
+      → ent 𝓤 (H.room (units k) b o) (sep 𝓤 (H.room τ b o) (wand 𝓤 (H.room τ b o) (H.room (units k) b o)))
+  holds τ k b o fits divides =
+      let place : ℕ = o + up (align τ) 0 in
+      let Whole = H.room (units k) b o in
+      let Struct = H.room (filled τ k) b o in
+      let First = H.room τ b place in
+      let Others = rooms_at 𝓤 H (filling τ k) (up (align τ) 0 + size τ) b o in
+      subst (λ (d : ℕ). ent 𝓤 Whole (sep 𝓤 (H.room τ b d) (wand 𝓤 (H.room τ b d) Whole)))
+      (ap (λ (n : ℕ). o + n) (first_place τ) ∙ omega arith)
+      (qed 𝓛 (raw Whole ∷ []) ∵
+      use1 𝓛 (raw Struct ⊛ raw (wand 𝓤 Struct Whole))
+      (𝓛.laws.room_as (units k) (filled τ k) b o (filled_size τ k fits divides) (subst (λ (a : ℕ). Dv a 16) (sym (alignment τ)) divides)) $ split ! $
+      use1 𝓛 ((raw First ⊛ raw Others) ⊛ raw (wand 𝓤 (sep 𝓤 First Others) Struct)) (𝓛.laws.room_fields [] (tcons τ (filling τ k)) b o) $
+      split ! $ split ! $ frame ! $ assume ! (raw First) $ join ! $
+      use2 𝓛 (raw Struct) (apply∗ 𝓤 (sep 𝓤 First Others) Struct) $ by ! (apply∗ 𝓤 Struct Whole))
+
+  pub is_memory : (k b o : ℕ) → ent 𝓤 (H.room (units k) b o) (sem 𝓛 (memory k (block_ptr b o)))
+  is_memory zero b o = qed 𝓛 (raw (H.room (units zero) b o) ∷ []) ∵ drop ! $ nothing ! $ done !
+  is_memory (suc k) b o = id⊢ 𝓤 _
+
+module _ {M : Type 1} {𝓤 : Ura M} {𝓛 : Logic 𝓤} {K : Type 0} {Γ : List (Item 𝓤)} {G : Goal 𝓤 𝓛.H} where
+  -- some memory is in a block
+  pub in_memory : K → (k : ℕ) (p : Ptr) → 1 ≤ k → ((b o : ℕ) → p ≡ block_ptr b o → Seq K 𝓛 (‵ (froom (units k) b o) ∷ Γ) G)
+      → Seq K 𝓛 (‵ (memory k p) ∷ Γ) G
+  in_memory t zero p some next = absurd (omega arith)
+  in_memory t (suc k) p some next = in_a_block t p (memory (suc k)) (id⊢ 𝓤 (never 𝓤)) next

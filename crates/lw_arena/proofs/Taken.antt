@@ -1,0 +1,73 @@
+-- The two cases of what `take` gave, and a block as room for a type with the right to give it back. Assumes `Logic`.
+use Rattle.std.proofs.Common.{◌≡◌, ℕ, ◌^◌, ◌<◌, ◌≤◌, List, [], ◌∷◌, ◌++◌, IfSome, None, Some, refl, sym, ap, subst, ◌∙◌, arith}
+use seplogic.Ra.Ura.{Ura}
+use mir.Syntax.{Ty, Width, w8, w16, w32, w64, w128}
+use mir.Val.{Val, vcons, vnil, of_list, bytes}
+use base.Logic.{ent, sep, wand, apply∗}
+use base.Fml.{fwand, froom}
+use prog.Memory.{size, capped}
+use prog.Align.{Dv, align_w, align-bytes}
+use prog.Capped.{capped_is, capped_small}
+use types.Logic.{Logic, sem}
+use types.Kit.{Item, Goal, Seq, ‵, raw, ◌⊛◌, ◌$◌, ◌∵◌, !, qed, by, move, drop, use1, use2, split, frame, assume, rewrite, fsplit, fpick, fpack, feq_l, done}
+use types.Match.{live}
+use denote.RattleType.{RattleType}
+use denote.RawPtr.{block_ptr}
+use denote.Shadow.{pure_l}
+use denote.Steps.{only}
+use Rattle.std.specs.contracts.option.Option as option
+use Rattle.lw_arena.specs.Sizes.{block_units}
+use Rattle.lw_arena.specs.Ownership.{units, memory, block_token}
+use Rattle.lw_arena.specs.contracts.block.Block as block
+use Rattle.lw_arena.proofs.Classes.{fits_class, some_units}
+use Rattle.lw_arena.proofs.Rooms.{holds, is_memory, in_memory}
+use Rattle.lw_arena.proofs.Walks.{point_val, point_own, point_told}
+
+abbrev pub Taken : RattleType
+Taken = option.the_row block.the_row
+
+-- what `take` ensures
+abbrev pub Said : ℕ → ℕ → Taken.Denot → Type 0
+Said n a x = IfSome x (λ b. (b.units ≡ block_units n) × (n < 2 ^ 63) × (a ≤ 16))
+
+divides_16 : (w : Width) → Dv (bytes w) 16
+divides_16 w8 = tt
+divides_16 w16 = tt
+divides_16 w32 = tt
+divides_16 w64 = tt
+divides_16 w128 = tt
+
+gives_memory : {M : Type 1} {𝓤 : Ura M} (𝓛 : Logic 𝓤) (τ : Ty) (k b o : ℕ)
+    → ent 𝓤 (wand 𝓤 (𝓛.H.room τ b o) (𝓛.H.room (units k) b o)) (sem 𝓛 (fwand (froom τ b o) (memory k (block_ptr b o))))
+gives_memory {𝓤 = 𝓤} 𝓛 τ k b o =
+    let Room = 𝓛.H.room τ b o in
+    let Whole = 𝓛.H.room (units k) b o in
+    qed 𝓛 (raw (wand 𝓤 Room Whole) ∷ []) ∵ assume ! (raw Room) $ use2 𝓛 (raw Whole) (apply∗ 𝓤 Room Whole) $ by ! (is_memory 𝓛 k b o)
+
+pub hands_out : {M : Type 1} {𝓤 : Ura M} (𝓛 : Logic 𝓤) (τ : Ty) (b o n : ℕ) → capped (size τ) ≡ n → n < 2 ^ 63
+    → ent 𝓤 (𝓛.H.room (units (block_units n)) b o) (sep 𝓤 (𝓛.H.room τ b o) (sem 𝓛 (block_token τ (block_ptr b o))))
+hands_out {𝓤 = 𝓤} 𝓛 τ b o n sized small =
+    let short : size τ < 2 ^ 63 = capped_small (size τ) (omega arith) in
+    let same : n ≡ size τ = sym sized ∙ capped_is (size τ) (omega arith) in
+    let k = block_units (size τ) in
+    let Whole = 𝓛.H.room (units k) b o in
+    let Room = 𝓛.H.room τ b o in
+    qed 𝓛 (‵ (froom (units (block_units n)) b o) ∷ []) ∵ rewrite ! 0 (λ (m : ℕ). ‵ (froom (units (block_units m)) b o)) same refl $
+    use1 𝓛 (raw Room ⊛ raw (wand 𝓤 Room Whole))
+    (holds 𝓛 τ k b o (fits_class (size τ) short).holds (subst (λ (m : ℕ). Dv m 16) (sym (align-bytes τ)) (divides_16 (align_w τ)))) $
+    split ! $ frame ! $ use1 𝓛 (‵ (fwand (froom τ b o) (memory k (block_ptr b o)))) (gives_memory 𝓛 τ k b o) $
+    fpack ! (size τ < 2 ^ 63) (λ _. fwand (froom τ b o) (memory k (block_ptr b o))) short $ done !
+
+module _ {M : Type 1} {𝓤 : Ura M} {𝓛 : Logic 𝓤} {K : Type 0} {Γ : List (Item 𝓤)} {G : Goal 𝓤 𝓛.H} where
+  pub taken : K → (n a : ℕ) (x : Taken.Denot) (v : Val) → Said n a x
+      → ((b o : ℕ) → n < 2 ^ 63 → v ≡ live 1 (vcons (point_val (block_ptr b o)) vnil) → Seq K 𝓛 (‵ (froom (units (block_units n)) b o) ∷ Γ) G)
+      → (v ≡ live 0 vnil → Seq K 𝓛 Γ G) → Seq K 𝓛 (‵ (Taken.own_val x (v ∷ [])) ∷ Γ) G
+  taken t n a None v said some none =
+      fpick t (λ us. fsplit t $ feq_l t (λ is. fpick t (λ vss. fsplit t $ feq_l t (λ are. drop t $
+      none (ap only is ∙ ap (λ (ws : List Val). live 0 (of_list ws)) are)))))
+  taken t n a (Some x) v said some none =
+      fpick t (λ us. fsplit t $ feq_l t (λ is. fpick t (λ vss. fsplit t $ feq_l t (λ are. fsplit t $ move t (1 ∷ []) $ drop t $ fsplit t $
+      pure_l t (point_own x.at vss.0) (λ s.
+      rewrite t 0 (λ (k : ℕ). ‵ (memory k x.at)) said.0 refl $ in_memory t (block_units n) x.at (some_units n) (λ b o lies.
+      some b o said.1 (ap only is ∙ ap (λ (ws : List Val). live 1 (of_list ws)) (are ∙ ap (λ (ws : List Val). ws ++ []) (point_told x.at vss.0 s))
+      ∙ (λ i. live 1 (vcons (point_val (lies i)) vnil)))))))))

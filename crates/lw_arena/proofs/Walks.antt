@@ -1,0 +1,62 @@
+-- What the walks share: slots, what follows an arm, the machine values of a struct of one pointer, and a pair of two values. Assumes `Logic`.
+use Rattle.std.proofs.Common.{◌≡◌, ℕ, zero, suc, List, [], ◌∷◌, ◌++◌, refl, ◌∙◌, lit<}
+use seplogic.Ra.Ura.{Ura}
+use mir.Syntax.{Body, ty_ptr, ty_struct, tcons, tnil}
+use mir.Val.{Val, vstruct, vcons, vnil, of_list}
+use base.Logic.{ent, emp, sep}
+use base.Fml.{Fml}
+use prog.Wp.{Env, Calls, Loops, Wp, after_seq}
+use types.Logic.{Logic, sem}
+use types.Kit.{Post, any_q, post, ‵, ◌$◌, ◌∵◌, !, qed, move, fjoin, fpack, feq_i, done}
+use denote.RattleType.{RattleType, Valss}
+use denote.Builtin.{unit}
+use denote.RawPtr.{Ptr, RawPtr, block_ptr, null_ptr, ptr_val}
+use denote.Shadow.{shadow, makes_shadow}
+use denote.Signature.{Slot, plain}
+use denote.Steps.{nothing}
+use denote.Struct.Struct.{Struct, within}
+use denote.Struct.Declared.{shape}
+use denote.Struct.Tuple.{Tuple, tuple_type}
+use Rattle.std.proofs.cell.Inside.{Good}
+
+abbrev pub slot_at : {n : ℕ} → ℕ → List (Slot n) → Slot n
+slot_at k [] = plain (λ _. unit)
+slot_at zero (s ∷ ss) = s
+slot_at (suc k) (s ∷ ss) = slot_at k ss
+
+-- after an arm of a match the body b runs
+abbrev pub then_runs : {M : Type 1} {𝓤 : Ura M} (𝓛 : Logic 𝓤) → Calls 𝓤 𝓛.H → Loops 𝓤 𝓛.H → Env 𝓤 𝓛.H → Body → Post 𝓤 𝓛.H → Post 𝓤 𝓛.H
+then_runs {𝓤 = 𝓤} 𝓛 C Λ E b q = any_q (after_seq 𝓤 𝓛.H (Wp 𝓤 𝓛.H C Λ E b (post 𝓤 𝓛.H q)) (post 𝓤 𝓛.H q))
+
+abbrev pub point_val : Ptr → Val
+point_val p = vstruct (vcons (ptr_val p) vnil)
+
+-- what such a struct owns by its field alone, whatever its name
+abbrev pub point_own : Ptr → List Val → Fml
+point_own p = (Struct (record { name = []; args = []; types = []; fields = RawPtr ∷ [] })).own_val (p, tt)
+
+pub point_told : (p : Ptr) (vs : List Val) → shadow (point_own p vs) → vs ≡ point_val p ∷ []
+point_told p vs s = s.1.0 ∙ (λ i. vstruct (of_list (s.1.1.0 i ++ [])) ∷ [])
+
+pub point_made : {M : Type 1} {𝓤 : Ura M} (𝓛 : Logic 𝓤) (p : Ptr) → ent 𝓤 (emp 𝓤) (sem 𝓛 (point_own p (point_val p ∷ [])))
+point_made 𝓛 p = makes_shadow 𝓛 (point_own p (point_val p ∷ [])) (λ _. (tt, (tt, tt))) ((ptr_val p ∷ [], tt), (refl, (refl, tt)))
+
+pub ptr_typed : (p : Ptr) → Good ty_ptr (ptr_val p)
+ptr_typed (block_ptr b o) = (tt, tt)
+ptr_typed null_ptr = (tt, record { fits = lit< tt })
+
+pub point_typed : (p : Ptr) → Good (ty_struct [] (tcons ty_ptr tnil)) (point_val p)
+point_typed (block_ptr b o) = (tt, (tt, tt))
+point_typed null_ptr = (tt, (record { fits = lit< tt }, tt))
+
+abbrev pub pair_val : Val → Val → Val
+pair_val u v = vstruct (vcons u (vcons v vnil))
+
+pub pair_of : {M : Type 1} {𝓤 : Ura M} (𝓛 : Logic 𝓤) (R S : RattleType) (x : R.Denot) (y : S.Denot) (u v : Val)
+    → ent 𝓤 (sep 𝓤 (sem 𝓛 (R.own_val x (u ∷ []))) (sem 𝓛 (S.own_val y (v ∷ []))))
+    (sem 𝓛 ((Tuple (R ∷ S ∷ [])).own_val (x, y) (pair_val u v ∷ [])))
+pair_of 𝓛 R S x y u v =
+    let both : List Val = pair_val u v ∷ [] in
+    qed 𝓛 (‵ (R.own_val x (u ∷ [])) ∷ ‵ (S.own_val y (v ∷ [])) ∷ []) ∵
+    nothing ! $ move ! (2 ∷ 0 ∷ []) $ fjoin ! $ move ! (1 ∷ 0 ∷ []) $ fjoin ! $ feq_i ! (List Val) both both refl $ fjoin ! $
+    fpack ! (Valss (R ∷ S ∷ [])) (within (shape (tuple_type (R ∷ S ∷ []))) (x, (y, tt)) both) (u ∷ [], (v ∷ [], tt)) $ done !

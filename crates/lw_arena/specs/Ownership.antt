@@ -1,0 +1,41 @@
+-- What blocks of memory own, what a list of spare blocks owns, and the right to give a block back.
+use Rattle.std.specs.Prelude.{ℕ, zero, suc, ◌^◌, ◌<◌, []}
+use mir.Syntax.{Ty, w128, ty_int, ty_ptr, ty_array, ty_struct, tcons, tnil}
+use mir.Val.{Val, vstruct, vcons, vnil}
+use prog.Memory.{size}
+use base.Fraction.{full_share}
+use base.Fml.{Fml, ffalse, ftrue, fsep, fex, fwand, fat, froom}
+use denote.RawPtr.{Ptr, block_ptr, null_ptr, ptr_val, room_for}
+use Rattle.lw_arena.specs.Sizes.{block_units}
+
+-- k units of 16 bytes, aligned to 16
+abbrev pub units : ℕ → Ty
+units k = ty_array (ty_int w128) k
+
+-- k units of memory at p, whatever they hold: where there are none, p may be any pointer
+abbrev pub memory : ℕ → Ptr → Fml
+memory zero p = ftrue
+memory (suc k) p = room_for (units (suc k)) p
+
+-- `Node`, as it lies in memory
+abbrev pub node_type : Ty
+node_type = ty_struct [] (tcons ty_ptr tnil)
+
+-- its machine value
+abbrev pub node_val : Ptr → Val
+node_val next = vstruct (vcons (ptr_val next) vnil)
+
+-- a spare block of k units at p: a node that points to next, and what makes the block whole with the room of the node
+abbrev pub link : ℕ → Ptr → Ptr → Fml
+link k null_ptr next = ffalse
+link k (block_ptr b o) next =
+    fsep (fat full_share node_type b o (node_val next)) (fwand (froom node_type b o) (froom (units k) b o))
+
+-- n spare blocks of k units, from the one at p on
+abbrev pub chain : ℕ → ℕ → Ptr → Fml
+chain k zero p = ftrue
+chain k (suc n) p = fex Ptr (λ next. fsep (link k p next) (chain k n next))
+
+-- The right to give the block for a τ at p back: with the room for the τ it is the whole block again. It names no arena, so any takes it.
+abbrev pub block_token : Ty → Ptr → Fml
+block_token τ p = fex (size τ < 2 ^ 63) (λ _. fwand (room_for τ p) (memory (block_units (size τ)) p))

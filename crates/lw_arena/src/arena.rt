@@ -1,0 +1,108 @@
+//! The allocator: lent memory that is not cut yet, and a shelf of spare blocks for each size.
+ghost use Rattle.std.specs.Prelude.{◌≡◌, ◌^◌, ◌<◌, ◌≤◌, IfSome};
+ghost use Rattle.lw_arena.specs.Sizes.{block_units};
+ghost use Rattle.lw_arena.specs.Ownership.{block_token};
+
+use crate::block::{Block, Memory};
+use crate::shelf::Shelf;
+use crate::sizes::{CLASSES, UNIT, class_of, units_of};
+use std::alloc::{AllocError, Allocator};
+use std::array;
+use std::cell::Cell;
+
+/// An allocator over the memory that it was lent. A collection holds a `&` to it.
+#[derive(Drop)]
+pub struct Arena {
+    rest: Cell<Option<Memory>>,
+    shelves: [Cell<Option<Shelf>>; CLASSES],
+}
+
+impl Arena {
+    /// An allocator over this memory, of which nothing is cut yet.
+    pub fn new(memory: Memory) -> Arena {
+        Arena {
+            rest: Cell::new(Some(memory)),
+            shelves: array::from_fn(|_| Cell::new(None)),
+        }
+    }
+
+    /// A block for so many bytes: a spare one, or else one that is cut off the front. None where there is no such block, or where
+    /// more is asked than a block can have.
+    fn take(&self, size: usize, align: usize) -> Option<Block>
+        ensures { IfSome result (λ b. (b.units ≡ block_units size) × (size < 2 ^ 63) × (align ≤ 16)) }
+    {
+        if UNIT < align || (isize::MAX as usize) < size {
+            return None;
+        }
+        let class = class_of(size);
+        let units = units_of(class);
+        match self.take_spare(class, units) {
+            Some(block) => Some(block),
+            None => self.take_new(units),
+        }
+    }
+
+    /// A spare block of this class, which has so many units.
+    fn take_spare(&self, class: usize, units: usize) -> Option<Block>
+        ensures { IfSome result (λ b. b.units ≡ units) }
+    {
+        let place = self.shelves.get(class)?;
+        let shelf = place.replace(None)?;
+        if !shelf.holds(units) {
+            place.set(Some(shelf));
+            return None;
+        }
+        let (block, shelf) = shelf.take();
+        place.set(Some(shelf));
+        block
+    }
+
+    /// A block of so many units off the front of what is not cut yet.
+    fn take_new(&self, units: usize) -> Option<Block>
+        requires { (1 ≤ units) × (units < 2 ^ 60) }
+        ensures { IfSome result (λ b. b.units ≡ units) }
+    {
+        match self.rest.replace(None)?.take(units) {
+            Ok((block, rest)) => {
+                self.rest.set(Some(rest));
+                Some(block)
+            }
+            Err(rest) => {
+                self.rest.set(Some(rest));
+                None
+            }
+        }
+    }
+
+    /// Takes back the block that was given for so many bytes.
+    fn give(&self, block: Block, size: usize)
+        requires { (block.units ≡ block_units size) × (size < 2 ^ 63) }
+    {
+        let class = class_of(size);
+        let units = units_of(class);
+        if let Some(place) = self.shelves.get(class) {
+            let shelf = match place.replace(None) {
+                Some(shelf) => shelf,
+                None => Shelf::new(units),
+            };
+            if shelf.holds(units) {
+                place.set(Some(shelf.put(block)));
+            }
+        }
+    }
+}
+
+unsafe impl Allocator for Arena {
+    ghost dealloc_token = { λ _. block_token };
+
+    fn allocate(&self, size: usize, align: usize) -> Result<*mut u8, AllocError> {
+        match self.take(size, align) {
+            Some(Block { at }) => Ok(at),
+            None => Err(AllocError),
+        }
+    }
+
+    unsafe fn deallocate(&self, ptr: *mut u8, size: usize, _align: usize) {
+        self.give(Block { at: ptr }, size);
+    }
+}

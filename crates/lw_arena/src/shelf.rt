@@ -1,0 +1,127 @@
+//! The spare blocks of one size, as a list that is kept in those blocks: each begins with a pointer to the next.
+ghost use Rattle.std.specs.Prelude.{◌≡◌, ℕ, ◌+◌, ◌≤◌, true, IfSome};
+ghost use Rattle.lw_arena.specs.Ownership.{chain};
+
+use crate::block::Block;
+use std::marker::Model;
+use std::ptr::null_mut;
+
+/// What is written at the front of a spare block.
+#[repr(C)]
+struct Node {
+    next: *mut Node,
+}
+
+/// A list of spare blocks, each of so many units.
+#[derive(Drop)]
+struct SpareList {
+    first: *mut Node,
+    ghost units: { ℕ },
+    ghost count: { ℕ },
+}
+
+impl Model for SpareList {
+    ghost also_owns = { λ l. chain l.units l.count l.first };
+}
+
+impl SpareList {
+    /// A list of no blocks, which are to be of so many units.
+    fn new(_units: usize) -> SpareList
+        ensures { (result.units ≡ _units) × (result.count ≡ 0) }
+    {
+        SpareList { first: null_mut() }
+    }
+
+    /// The list with one block more, at its front.
+    fn push(self, block: Block) -> SpareList
+        requires { (block.units ≡ self.units) × (1 ≤ self.units) }
+        ensures { (result.units ≡ self.units) × (result.count ≡ self.count + 1) }
+    {
+        let SpareList { first } = self;
+        let Block { at } = block;
+        let node = at as *mut Node;
+        unsafe { node.write(Node { next: first }) };
+        SpareList { first: node }
+    }
+
+    /// The block at the front, and the others.
+    fn pop(self) -> (Block, SpareList)
+        requires { 1 ≤ self.count }
+        ensures { (result.0.units ≡ self.units) × (result.1.units ≡ self.units) × (result.1.count + 1 ≡ self.count) }
+    {
+        let SpareList { first } = self;
+        let next = unsafe { (*first).next };
+        (
+            Block {
+                at: first as *mut u8,
+            },
+            SpareList { first: next },
+        )
+    }
+}
+
+/// A list of spare blocks, with how many there are and how many units each has.
+#[derive(Drop)]
+pub(crate) struct Shelf {
+    units: usize,
+    count: usize,
+    list: SpareList,
+    ghost some: { 1 ≤ units },
+    ghost told: { (list.units ≡ units) × (list.count ≡ count) },
+}
+
+impl Shelf {
+    /// A shelf for blocks of so many units, with none.
+    pub(crate) fn new(units: usize) -> Shelf
+        requires { 1 ≤ units }
+        ensures { result.units ≡ units }
+    {
+        Shelf {
+            units,
+            count: 0,
+            list: SpareList::new(units),
+        }
+    }
+
+    /// Whether its blocks have so many units.
+    pub(crate) fn holds(&self, units: usize) -> bool
+        ensures { result ≡ true → self.now.units ≡ units }
+    {
+        self.units == units
+    }
+
+    /// The shelf with one block more. No memory holds so many blocks that they cannot be counted; one more would be lost.
+    pub(crate) fn put(self, block: Block) -> Shelf
+        requires { block.units ≡ self.units }
+        ensures { result.units ≡ self.units }
+    {
+        if self.count == usize::MAX {
+            return self;
+        }
+        let Shelf { units, count, list } = self;
+        Shelf {
+            units,
+            count: count + 1,
+            list: list.push(block),
+        }
+    }
+
+    /// One of its blocks, where it has any, and the shelf without it.
+    pub(crate) fn take(self) -> (Option<Block>, Shelf)
+        ensures { IfSome result.0 (λ b. b.units ≡ self.units) × (result.1.units ≡ self.units) }
+    {
+        if self.count == 0 {
+            return (None, self);
+        }
+        let Shelf { units, count, list } = self;
+        let (block, list) = list.pop();
+        (
+            Some(block),
+            Shelf {
+                units,
+                count: count - 1,
+                list,
+            },
+        )
+    }
+}

@@ -1,0 +1,7 @@
+//! Tests of the allocator over lent memory: that a block that is given back is used again, what is refused, and collections over it.
+//!
+//! It names lw_arena alone.
+#![tactic(auto)]
+
+#[cfg(test)]
+mod arenas;

@@ -1,0 +1,88 @@
+//! The four commands, as C calls them.
+ghost use Rattle.std.specs.Prelude.{◌≡◌, ◌⊎◌};
+ghost use Rattle.std.specs.Str.{IsUtf8};
+ghost use Rattle.lw_bench.specs.declared.command.Task.TheVariants as task;
+ghost use Rattle.lw_bench.specs.declared.fault.BenchFault.TheVariants as fault;
+ghost use Rattle.lw_bench.specs.Lists.{IsReachedOnMachine, IsReachedOverCaches};
+ghost use Rattle.lw_bench.specs.Tasks.{IsDone, TellsTask};
+ghost use Rattle.lw_bench.specs.Told.{TellsReplay};
+ghost use Rattle.lw_library.specs.Told.{replay_protocol, IsReplayed, IsTold, TellsLine};
+
+use crate::told::{ANSWER, Told, refuse, tell};
+use lw_arena::{Arena, Memory};
+use lw_bench::{BenchFault, Protocol, Task, answer};
+
+/// `lw states`: the report of the test that the text is.
+#[unsafe(no_mangle)]
+pub extern "C" fn lw_states(memory: Memory, text: &[u8], room: &mut [u8], told: &mut Told)
+    ensures told { IsTold (IsDone task.States) (TellsTask task.States) text.now told.new room.old room.new }
+    ensures machine { IsReachedOnMachine text.now }
+    ensures caches { IsReachedOverCaches text.now }
+{
+    *told = run(memory, Task::States, text, room);
+}
+
+/// `lw schedules`: the list of the test's final states, each with a schedule.
+#[unsafe(no_mangle)]
+pub extern "C" fn lw_schedules(memory: Memory, text: &[u8], room: &mut [u8], told: &mut Told)
+    ensures told { IsTold (IsDone task.Schedules) (TellsTask task.Schedules) text.now told.new room.old room.new }
+    ensures machine { IsReachedOnMachine text.now }
+    ensures caches { IsReachedOverCaches text.now }
+{
+    *told = run(memory, Task::Schedules, text, room);
+}
+
+/// `lw compile`: the canonical text of the test, a source test compiled to x86.
+#[unsafe(no_mangle)]
+pub extern "C" fn lw_compile(memory: Memory, text: &[u8], room: &mut [u8], told: &mut Told)
+    ensures told { IsTold (IsDone task.Compile) (TellsTask task.Compile) text.now told.new room.old room.new }
+{
+    *told = run(memory, Task::Compile, text, room);
+}
+
+/// `lw replay SCHEDULE`: the page of the test's replay by the schedule, an x86 test over caches that keep MESI where `protocol` is 0,
+/// and else over such as keep MOESI. A schedule that is no UTF-8 is told as the program tells it, which cannot read such a word.
+#[unsafe(no_mangle)]
+pub extern "C" fn lw_replay(
+    memory: Memory,
+    text: &[u8],
+    schedule: &[u8],
+    protocol: u32,
+    room: &mut [u8],
+    told: &mut Told,
+)
+    ensures told { IsUtf8 schedule.now
+        → IsTold (IsReplayed schedule.now (replay_protocol protocol)) (TellsReplay schedule.now) text.now told.new room.old room.new }
+    ensures no_utf8 { ¬ IsUtf8 schedule.now
+        → TellsLine fault.Read told.new room.old room.new ⊎ TellsLine fault.Memory told.new room.old room.new }
+{
+    let protocol = protocol_of(protocol);
+    *told = match std::str::from_utf8(schedule) {
+        Ok(schedule) => run(memory, Task::Replay(schedule, protocol), text, room),
+        Err(_) => refuse(&Arena::new(memory), &BenchFault::Read, room),
+    };
+}
+
+/// The protocol of this number.
+fn protocol_of(number: u32) -> Protocol
+    ensures { result ≡ replay_protocol number }
+{
+    if number == 0 {
+        Protocol::Mesi
+    } else {
+        Protocol::Moesi
+    }
+}
+
+/// Carries a task out over the memory that is lent.
+fn run(memory: Memory, task: Task<'_>, text: &[u8], room: &mut [u8]) -> Told
+    ensures told { IsTold (IsDone task.entry) (TellsTask task.entry) text.now result room.old room.new }
+    ensures machine { IsReachedOnMachine text.now }
+    ensures caches { IsReachedOverCaches text.now }
+{
+    let arena = Arena::new(memory);
+    match answer(&arena, task, text) {
+        Ok((made, status)) => tell(ANSWER, status, made.as_str().as_bytes(), room),
+        Err(fault) => refuse(&arena, &fault, room),
+    }
+}

@@ -1,0 +1,31 @@
+#!/usr/bin/env python3
+"""What the module of python/ answers of a test: its states, each with a schedule of its program, and the fault of a text that is
+none.
+
+    python3 examples/python/use.py LIBRARY FILE
+"""
+import os
+import sys
+
+sys.path.insert(0, os.path.join(os.path.dirname(os.path.abspath(__file__)), "..", "..", "python"))
+import lw
+
+
+def main():
+    bench = lw.Workbench(sys.argv[1])
+    with open(sys.argv[2], "rb") as it:
+        text = it.read()
+    report = bench.states(text)
+    print(f"{report.name}: {report.condition} {report.observation}, {report.verdict}")
+    program = bench.compile(text)
+    for state, words in bench.schedules(text):
+        page, is_final = bench.replay(program, words)
+        print(f"{state}  by {words}{'' if is_final else ', which is not final'}, as {len(page)} bytes tell")
+    try:
+        bench.states(text.replace(b"exists", b"exits", 1))
+    except lw.Fault as fault:
+        print(f"without its condition: {fault} (line {fault.line}, column {fault.column})")
+
+
+if __name__ == "__main__":
+    main()
