@@ -1,5 +1,5 @@
 pub mod Common
-pub mod Waiting
+pub mod api
 pub mod Taken
 pub mod Ordered
 pub mod Alike
@@ -9,8 +9,6 @@ pub mod CompleteLists
 pub mod SourceList
 pub mod OrderSteps
 pub mod SourceRunners
-pub mod X86Waiting
-pub mod X86Prefix
 pub mod X86Swap
 pub mod X86Alike
 pub mod X86Outcomes

@@ -14,7 +14,7 @@ use Rattle.lw_interleaving.specs.Steps.{position_of}
 use Rattle.lw_finals.specs.SourceRuns.{ChoiceOutcome, CarriedOut}
 use Rattle.lw_finals.proofs.Ordered.{run_of_choice}
 use Rattle.lw_finals.proofs.Taken.{One, Runs, starts, at_start}
-use Rattle.lw_finals.proofs.Waiting.{Climbs, own_waits, stored, waits_after}
+use Rattle.lw_finals.proofs.api.Waiting.{Climbs, own_waits, stored, waits_after}
 use Rattle.lw_finals.proofs.Alike.{Neighbours, orders_end_alike}
 use Rattle.lw_base.specs.Replays as replays
 use Rattle.lw_litmus.specs.Conflicts as conflicts

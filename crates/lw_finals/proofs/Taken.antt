@@ -10,8 +10,8 @@ use Rattle.lw_finals.proofs.Common.{Language, Follows, IsPathFrom, IsForward, It
 use Rattle.lw_finals.proofs.Common.{follows_within, Contains-here, Contains-there, AreOrdered, In, Pairwise}
 use Rattle.lw_finals.proofs.Common.{IsStoring, item, slot, slot_less, store_slot, GoesUp, goes_up_in, path_up}
 use Rattle.lw_finals.proofs.Common.{System, ItemsRan}
-use Rattle.lw_finals.proofs.Waiting.{Climbs, climbs_in, stored, waits_after, from_after, in_after}
-use Rattle.lw_finals.proofs.Waiting.{store_after}
+use Rattle.lw_finals.proofs.api.Waiting.{Climbs, climbs_in, stored, waits_after, from_after, in_after}
+use Rattle.lw_finals.proofs.api.Waiting.{store_after}
 
 -- positions at the start
 module _ {X Y : Type 0} (starting : X → Y) (position : Y → ℕ) (at_first : (x : X) → position (starting x) ≡ 0) (xs : List X) where

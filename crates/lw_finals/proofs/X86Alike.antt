@@ -8,9 +8,9 @@ use Rattle.lw_finals.proofs.Common.{slot, slot_less, store_slot, number_less, Ar
 use Rattle.lw_finals.proofs.Common.{event_of, CarriedOut}
 use Rattle.lw_finals.specs.X86Runs.{system_of, StaysAndEnds}
 use Rattle.lw_finals.proofs.Alike.{Neighbours, orders_end_alike}
-use Rattle.lw_finals.proofs.Waiting.{waits_after}
-use Rattle.lw_finals.proofs.X86Waiting.{AllHold, all_hold, hold_first, CarriedItem, carried}
-use Rattle.lw_finals.proofs.X86Prefix.{Waiting, waiting_first, oldest, waiting_next}
+use Rattle.lw_finals.proofs.api.Waiting.{waits_after}
+use Rattle.lw_finals.proofs.api.X86Waiting.{AllHold, all_hold, hold_first, CarriedItem, carried}
+use Rattle.lw_finals.proofs.api.X86Prefix.{Waiting, waiting_first, oldest, waiting_next}
 use Rattle.lw_finals.proofs.X86Swap.{Unfixed, independent}
 
 module _ (program : List (List Instr)) (forward : (u : ℕ) → IsForward x86 (code_of program u))

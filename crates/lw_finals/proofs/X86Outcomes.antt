@@ -13,9 +13,9 @@ use Rattle.lw_finals.proofs.Common.{OrderRan, events_of, CarriedOut}
 use Rattle.lw_finals.specs.X86Runs.{system_of, StaysAndEnds, ChoiceOutcome}
 use Rattle.lw_finals.proofs.Ordered.{run_of_choice}
 use Rattle.lw_finals.proofs.Taken.{One, Runs, starts, at_start}
-use Rattle.lw_finals.proofs.Waiting.{stored}
-use Rattle.lw_finals.proofs.X86Waiting.{Carried, carried, went, DrainShape, drain_shape, Waits, no_waits}
-use Rattle.lw_finals.proofs.X86Waiting.{Holds, AllHold, all_hold, hold_first}
+use Rattle.lw_finals.proofs.api.Waiting.{stored}
+use Rattle.lw_finals.proofs.api.X86Waiting.{Carried, carried, went, DrainShape, drain_shape, Waits, no_waits}
+use Rattle.lw_finals.proofs.api.X86Waiting.{Holds, AllHold, all_hold, hold_first}
 
 -- the oldest entry is of the store that has waited longest
 oldest : (code : List Instr) (ws : List ℕ) (e : ℕ × ℕ) (newer : List (ℕ × ℕ)) → Waits code ws (e ∷ newer)

@@ -9,9 +9,9 @@ use Rattle.lw_finals.proofs.Common.{MachineState, Processor, Went, operation_acc
 use Rattle.lw_finals.proofs.Common.{Store, Load, is_one, is_store, location_of, writes, waits, x86_operation}
 use Rattle.lw_finals.proofs.Common.{x86, Item, drains, statement_of, location_by, writes_by, conflict_by}
 use Rattle.lw_finals.proofs.Common.{items_conflict, event_by, event_of}
-use Rattle.lw_finals.proofs.Waiting.{Climbs, climbs_in, own_waits, stored, waits_after, waits_same}
-use Rattle.lw_finals.proofs.X86Waiting.{act_by, Carried, CarriedItem, went, DrainShape, drain_shape, Waits}
-use Rattle.lw_finals.proofs.X86Waiting.{AllHold}
+use Rattle.lw_finals.proofs.api.Waiting.{Climbs, climbs_in, own_waits, stored, waits_after, waits_same}
+use Rattle.lw_finals.proofs.api.X86Waiting.{act_by, Carried, CarriedItem, went, DrainShape, drain_shape}
+use Rattle.lw_finals.proofs.api.X86Waiting.{Waits, AllHold}
 use Rattle.lw_tso.specs.Exchange as machine
 
 -- ---- what an item that is carried out accesses

@@ -5,8 +5,8 @@ use Rattle.lw_finals.proofs.Common.{cases_lt, code_of, place, Before, IsLinearEx
 use Rattle.lw_finals.proofs.Common.{x86, IsForward, IsChoice, Item, item_at, items_of, statement_of}
 use Rattle.lw_finals.proofs.Common.{constraints_of, AreOrdered, kept, In, Has, item, slot, slot_less}
 use Rattle.lw_finals.proofs.Common.{store_slot, real, number_less, same_number, beside}
-use Rattle.lw_finals.proofs.Waiting.{Climbs, climbs_in, stored, waits_after, from_after, in_after}
-use Rattle.lw_finals.proofs.Waiting.{store_after}
+use Rattle.lw_finals.proofs.api.Waiting.{Climbs, climbs_in, stored, waits_after, from_after, in_after}
+use Rattle.lw_finals.proofs.api.Waiting.{store_after}
 
 module _ (program : List (List Instr)) (forward : (t : ℕ) → IsForward x86 (code_of program t))
     (paths : List (List ℕ)) (choice : IsChoice x86 program paths) where

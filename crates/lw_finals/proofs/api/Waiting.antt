@@ -28,6 +28,7 @@ climbs_up : (low high : ℕ) (ws : List ℕ) → Climbs low ws high → low ≤ 
 climbs_up low high [] c = c
 climbs_up low high (w ∷ ws) c = omega (arith, c.0, climbs_up (suc w) high ws c.1)
 
+-- each number that climbs is within its bounds
 pub climbs_in : (low high x : ℕ) (ws : List ℕ) → Climbs low ws high → In x ws → (low ≤ x) × (x < high)
 climbs_in low high x [] c h = absurd h
 climbs_in low high x (w ∷ ws) c (inl e) = let u : suc w ≤ high = climbs_up (suc w) high ws c.1 in (omega (arith, c.0), omega arith)
@@ -95,6 +96,7 @@ module _ {S : Type 0} (language : Language S) where
   abbrev pub waits_after : List (List S) → Item → (ℕ → List ℕ) → ℕ → List ℕ
   waits_after program a W u = if a.thread == u then own_waits a.is_drain (stored (statement_of language program a)) a.position (W u) else W u
 
+  -- of the item's own thread, and of another
   pub waits_same : (program : List (List S)) (a : Item) (W : ℕ → List ℕ) (u : ℕ) → a.thread ≡ u
       → waits_after program a W u ≡ own_waits a.is_drain (stored (statement_of language program a)) a.position (W u)
   waits_same program a W u e = cond-true (a.thread == u) _ (W u) (eq-eqb a.thread u e)
@@ -126,11 +128,13 @@ module _ {S : Type 0} (language : Language S) where
       | inr ne ↦ inl (subst (In k) (waits_other program a W u ne) h, λ same. absurd (ne same))
     ]
 
+    -- what waited waits then too, but for what is drained
     pub in_after : (u k : ℕ) → In k (W u) → (a.thread ≡ u → a.is_drain ≡ true → k ≢ a.position) → In k (after u)
     in_after u k h ne = elim (cases_eq a.thread u) [
       | inl same ↦ subst (In k) (sym (waits_same program a W u same)) (own_keeps a.is_drain entry a.position k (W u) (oldest_at u same) (ne same) h)
       | inr other ↦ subst (In k) (sym (waits_other program a W u other)) h
     ]
 
+    -- and a store waits behind its own item
     pub store_after : (u x : ℕ) → a.thread ≡ u → a.is_drain ≡ false → entry ≡ Some x → In a.position (after u)
     store_after u x same f e = subst (In a.position) (sym (waits_same _ a W u same)) (own_store _ _ _ x _ f e)

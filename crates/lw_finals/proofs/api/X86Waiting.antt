@@ -8,11 +8,12 @@ use Rattle.lw_finals.proofs.Common.{x86, ProgramTest, Act, step_act, drain_act, 
 use Rattle.lw_finals.proofs.Common.{Processor, starting, machine_start, state, Does, Did, leads_to, Buffers}
 use Rattle.lw_finals.proofs.Common.{Went, operation_does, IsForward, Item, drains, statement_of}
 use Rattle.lw_finals.proofs.Common.{follows_within, In, event_by}
-use Rattle.lw_finals.proofs.Waiting.{Climbs, own_waits, own_climbs, stored, waits_after, waits_same}
-use Rattle.lw_finals.proofs.Waiting.{waits_other}
+use Rattle.lw_finals.proofs.api.Waiting.{Climbs, own_waits, own_climbs, stored, waits_after, waits_same}
+use Rattle.lw_finals.proofs.api.Waiting.{waits_other}
 
 -- ---- what an item did
 
+-- the act of a thread's drain, or of its step
 abbrev pub act_by : List (List Instr) → ℕ → Bool → Processor → Act
 act_by program t true p = drain_act p.buffer p
 act_by program t false p = step_act (slice_get (code_of program t) p.position) p
@@ -27,6 +28,7 @@ pub record Carried (program : List (List Instr)) (t j : ℕ) (b : Bool) (s mid :
   pub does : Does s.memory (act_by program t b old) new words
   pub is : mid ≡ state (slice_set s.processors t new) words
 
+-- each item that is carried out does so
 pub carried : (program : List (List Instr)) (t j : ℕ) (b : Bool) (s mid : MachineState (List ℕ))
     → DoneAt flat program (event_by b t) j s mid → Carried program t j b s mid
 carried program t j true s mid d =
@@ -47,11 +49,13 @@ carried program t j false s mid d =
     at : (p : Processor) → slice_get s.processors t ≡ Some p → slice_get (map (λ (q : Processor). q.position) s.processors) t ≡ Some p.position
     at p was = slice_get-map _ s.processors t ∙ ap (option_map (λ (q : Processor). q.position)) was
 
+-- the same of an item
 abbrev pub CarriedItem : List (List Instr) → Item → MachineState (List ℕ) → MachineState (List ℕ) → Type 0
 CarriedItem program a s mid = Carried program a.thread a.position a.is_drain s mid
 
 -- ---- what a drain does to the position and the buffer
 
+-- a drain takes the oldest entry, and leaves the newer ones
 pub record DrainShape (p q : Processor) : Type 0 where
   pub entry : ℕ × ℕ
   pub newer : List (ℕ × ℕ)
@@ -62,6 +66,7 @@ drain_cases : (b : List (ℕ × ℕ)) (p q : Processor) (m n : List ℕ) → p.b
 drain_cases [] p q m n e d = absurd d
 drain_cases (f ∷ b) p q m n e d = record { entry = f; newer = b; full = e; is = d.0 }
 
+-- so does what a drain's act does
 pub drain_shape : (p q : Processor) (m n : List ℕ) → Does m (drain_act p.buffer p) q n → DrainShape p q
 drain_shape p q m n d = drain_cases p.buffer p q m n refl d
 
@@ -73,6 +78,7 @@ Waits code [] [] = Unit {0}
 Waits code (w ∷ ws) (e ∷ b) = (stored x86 (slice_get code w) ≡ Some e.0) × Waits code ws b
 Waits code _ _ = ⊥
 
+-- in an empty buffer nothing waits
 pub no_waits : (code : List Instr) (ws : List ℕ) → Waits code ws [] → (j : ℕ) → In j ws → ⊥
 no_waits code [] h j g = g
 no_waits code (w ∷ ws) h j g = h
@@ -107,6 +113,7 @@ pub record Holds (code : List Instr) (ws : List ℕ) (p : Processor) : Type 0 wh
   pub waits : Waits code ws p.buffer
   pub climbs : Climbs 0 ws p.position
 
+-- the same of each processor
 abbrev pub AllHold : List (List Instr) → (ℕ → List ℕ) → MachineState (List ℕ) → Type 0
 AllHold program W s = (t : ℕ) (p : Processor) → slice_get s.processors t ≡ Some p → Holds (code_of program t) (W t) p
 

@@ -1,0 +1,191 @@
+-- Numbers for the events of an execution that keeps the axioms: each stands behind the accesses before it in its thread. All
+-- that is in sequence goes up by them but from-reads of a load to another thread's write.
+use Rattle.lw_axiomatic.proofs.Common.{Co, ◌≡◌, ℕ, suc, ◌+◌, ◌*◌, ◌<◌, ◌≤◌, ◌⊎◌, ◌||◌, inl, inr, Bool, true}
+use Rattle.lw_axiomatic.proofs.Common.{false, Option, Some, None, refl, sym, ap, ap₂, subst, arith}
+use Rattle.lw_axiomatic.proofs.Common.{if◌then◌else◌, true≢false, option_map_or, cases_Bool, cases_eq}
+use Rattle.lw_axiomatic.proofs.Common.{cases_order, cond-true, cond-false, or_left, or_right, code_of}
+use Rattle.lw_axiomatic.proofs.Common.{Contains, Operation, Swap, FetchAdd, Fence, waits, writes, x86}
+use Rattle.lw_axiomatic.proofs.Common.{ProgramTest, IsWellFormedProgram, KeepsAxioms, MemoryEvent, Execution}
+use Rattle.lw_axiomatic.proofs.Common.{reads, does, IsEvent, Writes, Po, Rf, Fr, Ppo, IsSequential}
+use Rattle.lw_axiomatic.proofs.EventKinds.{there, low}
+use Rattle.lw_axiomatic.proofs.Timing.{anchor, anchor_above, anchor_least}
+use Rattle.lw_litmus.specs.Operations as operations
+
+-- what waits for an empty store buffer is a fence, or reads and writes
+waits_kind : (q : Option Operation) → option_map_or waits q false ≡ true
+    → (option_map_or operations.is_fence q false ≡ true) ⊎
+    ((option_map_or reads q false ≡ true) × (option_map_or writes q false ≡ true))
+waits_kind None w = absurd (true≢false (sym w))
+waits_kind (Some (Swap d x a)) w = inr (refl, refl)
+waits_kind (Some (FetchAdd d x v)) w = inr (refl, refl)
+waits_kind (Some Fence) w = inl refl
+waits_kind (Some _) w = absurd (true≢false (sym w))
+
+module _ {test : ProgramTest} {x : Execution} (ok : IsWellFormedProgram test) (axioms : KeepsAxioms test x) where
+  abbrev is : (Operation → Bool) → MemoryEvent → Bool
+  is = does x86 test
+
+  abbrev pub g : MemoryEvent → ℕ
+  g = axioms.happens_before.0
+
+  abbrev pub at : ℕ → ℕ → MemoryEvent
+  at t j = record { thread = t; position = j }
+
+  kept : (a b : MemoryEvent) → Ppo x86 test x a b → g a < g b
+  kept a b p = axioms.happens_before.1 a b (inl p)
+
+  pub kept_reading : (a b : MemoryEvent) → Po x a b → is reads a ≡ true → g a < g b
+  kept_reading a b po r = kept a b (po, or_left (is reads a) _ r)
+
+  kept_writing : (a b : MemoryEvent) → Po x a b → is writes b ≡ true → g a < g b
+  kept_writing a b po w = kept a b (po, or_right (is reads a) _ (or_left (is writes b) _ w))
+
+  kept_fence : (a b : MemoryEvent) → Po x a b → (is operations.is_fence a || is operations.is_fence b) ≡ true → g a < g b
+  kept_fence a b po f = kept a b (po, or_right (is reads a) _ (or_right (is writes b) _ f))
+
+  pub behind_fence : (a f : MemoryEvent) → Po x a f → is waits f ≡ true → g a < g f
+  behind_fence a f po w = elim (waits_kind _ w) [
+    | inl fence ↦ kept_fence a f po (or_right (is operations.is_fence a) _ fence)
+    | inr locked ↦ kept_writing a f po locked.1
+  ]
+
+  pub before_fence : (f b : MemoryEvent) → Po x f b → is waits f ≡ true → g f < g b
+  before_fence f b po w = elim (waits_kind _ w) [
+    | inl fence ↦ kept_fence f b po (or_left (is operations.is_fence f) _ fence)
+    | inr locked ↦ kept_reading f b po locked.0
+  ]
+
+  -- ---- the numbers: each event stands behind the accesses before it in its thread
+
+  abbrev pub accesses : MemoryEvent → Bool
+  accesses e = is reads e || is writes e
+
+  abbrev pub top : ℕ → ℕ → ℕ
+  top t j = if accesses (at t j) then suc (g (at t j)) else 0
+
+  pub top_access : (e : MemoryEvent) → accesses e ≡ true → top e.thread e.position ≡ suc (g e)
+  top_access e a = cond-true (accesses e) (suc (g e)) 0 a
+
+  pub top_other : (e : MemoryEvent) → accesses e ≡ false → top e.thread e.position ≡ 0
+  top_other e a = cond-false (accesses e) (suc (g e)) 0 a
+
+  abbrev pub anchored : MemoryEvent → ℕ
+  anchored e = anchor (top e.thread) (code_of x.paths e.thread) e.position
+
+  abbrev pub number : MemoryEvent → ℕ
+  number e = 64 * anchored e + e.position
+
+  pub po_up : (a b : MemoryEvent) → Po x a b → number a < number b
+  po_up a b po =
+      let le : anchored a ≤ anchored b = anchor_least (top a.thread) (code_of x.paths a.thread) a.position (anchored b)
+      (λ k c le.
+      subst (λ t. Contains (code_of x.paths t) k → top t k ≤ anchored b) (sym po.2)
+      (λ d. anchor_above (top b.thread) (code_of x.paths b.thread) b.position k d (omega (arith, le, po.3))) c) in
+      omega (arith, le, po.3)
+
+  pub above : (e : MemoryEvent) → IsEvent x e → accesses e ≡ true → suc (g e) ≤ anchored e
+  above e there a = omega (
+    arith,
+    top_access e a,
+    anchor_above (top e.thread) (code_of x.paths e.thread) e.position e.position there (omega arith),
+  )
+
+  -- an access that all accesses before it in its thread come before stands at its own number
+  pub own : (e : MemoryEvent) → IsEvent x e → accesses e ≡ true → ((k : MemoryEvent) → Po x k e → accesses k ≡ true → g k < g e)
+      → anchored e ≤ suc (g e)
+  own e there a each =
+      anchor_least (top e.thread) (code_of x.paths e.thread) e.position (suc (g e))
+      (λ k c le. elim (cases_Bool (accesses (at e.thread k))) [
+        | inl h ↦ elim (cases_eq k e.position) [
+          | inl same ↦ (let this : at e.thread k ≡ e = ap (at e.thread) same in
+              omega (arith, top_access (at e.thread k) h, ap g this))
+          | inr ne ↦ omega (arith, top_access (at e.thread k) h, each (at e.thread k) (c, there, refl, omega (arith, le, ne)) h)
+        ]
+        | inr h ↦ omega (arith, top_other (at e.thread k) h)
+      ])
+
+  pub own_write : (w : MemoryEvent) → IsEvent x w → is writes w ≡ true → anchored w ≤ suc (g w)
+  own_write w there writing = own w there (or_right (is reads w) _ writing) (λ k po a. kept_writing k w po writing)
+
+  pub reading_accesses : (e : MemoryEvent) → is reads e ≡ true → accesses e ≡ true
+  reading_accesses e r = or_left (is reads e) _ r
+
+  pub writing_accesses : (e : MemoryEvent) → is writes e ≡ true → accesses e ≡ true
+  writing_accesses e w = or_right (is reads e) _ w
+
+  -- from a write that stands at its own number to an access with a greater one
+  from_write : (w e : MemoryEvent) (l : ℕ) → Writes x86 test x w l → IsEvent x e → accesses e ≡ true → g w < g e
+      → number w < number e
+  from_write w e l writing there a less =
+      omega (arith, own_write w writing.0 writing.2, above e there a, less, low test ok w l writing.1)
+
+  pub rf_up : (w r : MemoryEvent) → Rf x86 test x w r → number w < number r
+  rf_up w r (l, writing, reading, from) =
+      let rf : Rf x86 test x w r = (l, writing, reading, from) in
+      elim (cases_eq w.thread r.thread) [
+        | inr far ↦ from_write w r l writing reading.0 (reading_accesses r reading.2)
+            (axioms.happens_before.1 w r (inr (inl (rf, far))))
+        | inl one ↦ elim (cases_order w.position r.position) [
+          | inl place ↦ absurd (let same : w ≡ r = ap₂ at one place in
+              omega (arith, axioms.coherence.1 w r (inr (inl rf)), ap axioms.coherence.0 same))
+          | inr (inl less) ↦ po_up w r (writing.0, reading.0, one, less)
+          | inr (inr more) ↦ absurd (omega (
+            arith,
+            axioms.coherence.1 w r (inr (inl rf)),
+            axioms.coherence.1 r w (inl ((reading.0, writing.0, sym one, more), l, reading.1, writing.1)),
+          ))
+        ]
+      ]
+
+  -- a read from the own thread reads what is before it
+  pub rf_own : (w r : MemoryEvent) → Rf x86 test x w r → w.thread ≡ r.thread → Po x w r
+  rf_own w r (l, writing, reading, from) one =
+      let rf : Rf x86 test x w r = (l, writing, reading, from) in
+      elim (cases_order w.position r.position) [
+        | inl place ↦ absurd (let same : w ≡ r = ap₂ at one place in
+            omega (arith, axioms.coherence.1 w r (inr (inl rf)), ap axioms.coherence.0 same))
+        | inr (inl less) ↦ (writing.0, reading.0, one, less)
+        | inr (inr more) ↦ absurd (omega (
+          arith,
+          axioms.coherence.1 w r (inr (inl rf)),
+          axioms.coherence.1 r w (inl ((reading.0, writing.0, sym one, more), l, reading.1, writing.1)),
+        ))
+      ]
+
+  -- and so do from-reads in a thread, and those of a read that stands at its own number
+  pub fr_own : (r w : MemoryEvent) → Fr x86 test x r w → r.thread ≡ w.thread → number r < number w
+  fr_own r w (l, reading, writing, differ, before) one =
+      let fr : Fr x86 test x r w = (l, reading, writing, differ, before) in
+      elim (cases_order r.position w.position) [
+        | inl place ↦ absurd (differ (ap₂ at one place))
+        | inr (inl less) ↦ po_up r w (reading.0, writing.0, one, less)
+        | inr (inr more) ↦ absurd (omega (
+          arith,
+          axioms.coherence.1 r w (inr (inr (inr fr))),
+          axioms.coherence.1 w r (inl ((writing.0, reading.0, sym one, more), l, writing.1, reading.1)),
+        ))
+      ]
+
+  pub fr_when : (r w : MemoryEvent) → Fr x86 test x r w → anchored r ≤ suc (g r) → number r < number w
+  fr_when r w fr stands = omega (
+    arith,
+    stands,
+    above w fr.2.0 (writing_accesses w fr.2.2),
+    axioms.happens_before.1 r w (inr (inr (inr fr))),
+    low test ok r fr.0 fr.1.1,
+  )
+
+  pub co_up : (w v : MemoryEvent) → Co x86 test x w v → number w < number v
+  co_up w v co = from_write w v co.0 co.1 co.2.0 (writing_accesses v co.2.2) (axioms.happens_before.1 w v (inr (inr (inl co))))
+
+  -- so where all from-reads go up, it is sequentially consistent
+  pub sequential_if : ((r w : MemoryEvent) → Fr x86 test x r w → number r < number w) → IsSequential x86 test x
+  sequential_if fr_up = (
+    number,
+    λ a b. elim [
+      | inl po ↦ po_up a b po
+      | inr (inl rf) ↦ rf_up a b rf
+      | inr (inr (inl co)) ↦ co_up a b co
+      | inr (inr (inr fr)) ↦ fr_up a b fr
+    ],
+  )

@@ -1,0 +1,48 @@
+-- The axioms by numbers are the axioms by cycles.
+use Rattle.lw_axiomatic.proofs.Common.{◌↔◌, inl, inr, Language, Test, ProgramTest, x86, Coherence}
+use Rattle.lw_axiomatic.proofs.Common.{GlobalHappensBefore, OnOneLocation, HappensBefore, HasNoCycle}
+use Rattle.lw_axiomatic.proofs.Common.{Execution, IsSequential, InSequence}
+use Rattle.lw_axiomatic.proofs.Decisions.{decided_or, decided_po, decided_rf, decided_co, decided_fr}
+use Rattle.lw_axiomatic.proofs.Decisions.{decided_po_loc, decided_ppo, decided_rfe}
+use Rattle.lw_axiomatic.proofs.Numberings.{no_cycle, numbering}
+
+pub coherence_by_cycles : (test : ProgramTest) (x : Execution) → Coherence test x ↔ HasNoCycle (OnOneLocation test x)
+coherence_by_cycles test x = (
+  no_cycle (OnOneLocation test x),
+  numbering x (OnOneLocation test x) (λ a b. decided_or (decided_po_loc x86 test x a b)
+      (decided_or (decided_rf x86 test x a b) (decided_or (decided_co x86 test x a b) (decided_fr x86 test x a b))))
+      (λ a b. elim [
+        | inl po ↦ (po.0.0, po.0.1)
+        | inr (inl rf) ↦ (rf.1.0, rf.2.0)
+        | inr (inr (inl co)) ↦ (co.1.0, co.2.0)
+        | inr (inr (inr fr)) ↦ (fr.1.0, fr.2.0)
+      ]),
+)
+
+pub happens_before_by_cycles : (test : ProgramTest) (x : Execution) → GlobalHappensBefore test x ↔ HasNoCycle
+    (HappensBefore test x)
+happens_before_by_cycles test x = (
+  no_cycle (HappensBefore test x),
+  numbering x (HappensBefore test x) (λ a b. decided_or (decided_ppo x86 test x a b)
+      (decided_or (decided_rfe x86 test x a b) (decided_or (decided_co x86 test x a b) (decided_fr x86 test x a b))))
+      (λ a b. elim [
+        | inl ppo ↦ (ppo.0.0, ppo.0.1)
+        | inr (inl rfe) ↦ (rfe.0.1.0, rfe.0.2.0)
+        | inr (inr (inl co)) ↦ (co.1.0, co.2.0)
+        | inr (inr (inr fr)) ↦ (fr.1.0, fr.2.0)
+      ]),
+)
+
+pub sequence_by_cycles : {S : Type 0} (language : Language S) (test : Test S) (x : Execution)
+    → IsSequential language test x ↔ HasNoCycle (InSequence language test x)
+sequence_by_cycles language test x = (
+  no_cycle (InSequence language test x),
+  numbering x (InSequence language test x) (λ a b. decided_or (decided_po x a b)
+      (decided_or (decided_rf language test x a b) (decided_or (decided_co language test x a b)
+      (decided_fr language test x a b)))) (λ a b. elim [
+        | inl po ↦ (po.0, po.1)
+        | inr (inl rf) ↦ (rf.1.0, rf.2.0)
+        | inr (inr (inl co)) ↦ (co.1.0, co.2.0)
+        | inr (inr (inr fr)) ↦ (fr.1.0, fr.2.0)
+      ]),
+)

@@ -1,0 +1,138 @@
+-- The relations of an execution's events can be decided.
+use Rattle.lw_axiomatic.proofs.Common.{◌≡◌, ℕ, ◌<◌, ◌⊎◌, inl, inr, Bool, true, Option, Some, None, refl, sym}
+use Rattle.lw_axiomatic.proofs.Common.{ap, ap₂, ◌∙◌, subst, arith, List, [], ◌∷◌, Contains, true≢false}
+use Rattle.lw_axiomatic.proofs.Common.{ForSome, cases_Bool, cases_lt, cases_eq, none-some, same_Some, code_of}
+use Rattle.lw_axiomatic.proofs.Common.{none_in, Contains-here, Contains-there, Contains-cons, Language, Test}
+use Rattle.lw_axiomatic.proofs.Common.{MemoryEvent, Execution, IsEvent, Po, reads, does, location, Reads}
+use Rattle.lw_axiomatic.proofs.Common.{Writes, Rf, Co, Fr, PoLoc, Ppo, Rfe}
+use Rattle.lw_litmus.specs.Operations as operations
+
+abbrev pub Decided : Type 0 → Type 0
+Decided P = P ⊎ (P → ⊥)
+
+pub decided_or : {P Q : Type 0} → Decided P → Decided Q → Decided (P ⊎ Q)
+decided_or (inl p) d = inl (inl p)
+decided_or (inr not) (inl q) = inl (inr q)
+decided_or (inr not) (inr never) = inr (λ h. elim h [ inl p ↦ not p | inr q ↦ never q ])
+
+pub decided_and : {P Q : Type 0} → Decided P → Decided Q → Decided (P × Q)
+decided_and (inl p) (inl q) = inl (p, q)
+decided_and (inl p) (inr not) = inr (λ h. not h.1)
+decided_and (inr not) d = inr (λ h. not h.0)
+
+pub decided_three : {P Q R : Type 0} → Decided P → Decided Q → Decided R → Decided (P × Q × R)
+decided_three (inl p) (inl q) (inl r) = inl (p, q, r)
+decided_three (inl p) (inl q) (inr not) = inr (λ h. not h.2)
+decided_three (inl p) (inr not) d = inr (λ h. not h.1)
+decided_three (inr not) d e = inr (λ h. not h.0)
+
+decided_not : {P : Type 0} → Decided P → Decided (P → ⊥)
+decided_not (inl p) = inr (λ not. not p)
+decided_not (inr not) = inl not
+
+pub decided_as : {P Q : Type 0} → (P → Q) → (Q → P) → Decided P → Decided Q
+decided_as to from (inl p) = inl (to p)
+decided_as to from (inr not) = inr (λ q. not (from q))
+
+pub decided_less : (a b : ℕ) → Decided (a < b)
+decided_less a b = elim (cases_lt a b) [ inl l ↦ inl l | inr ge ↦ inr (λ l. omega (arith, l, ge)) ]
+
+pub decided_true : (b : Bool) → Decided (b ≡ true)
+decided_true b = elim (cases_Bool b) [ inl t ↦ inl t | inr f ↦ inr (λ t. true≢false (sym t ∙ f)) ]
+
+pub decided_number : (o : Option ℕ) (l : ℕ) → Decided (o ≡ Some l)
+decided_number None l = inr (λ e. none-some l e)
+decided_number (Some m) l = elim (cases_eq m l) [ inl e ↦ inl (ap Some e) | inr ne ↦ inr (λ e. ne (same_Some m l e)) ]
+
+pub same_event : (a b : MemoryEvent) → Decided (a ≡ b)
+same_event a b = elim (cases_eq a.thread b.thread) [
+  | inl threads ↦ elim (cases_eq a.position b.position) [
+    | inl positions ↦ inl (ap₂ (λ t j. record { thread = t; position = j }) threads positions)
+    | inr ne ↦ inr (λ e. ne (ap (λ (z : MemoryEvent). z.position) e))
+  ]
+  | inr ne ↦ inr (λ e. ne (ap (λ (z : MemoryEvent). z.thread) e))
+]
+
+decided_event : (o : Option MemoryEvent) (e : MemoryEvent) → Decided (o ≡ Some e)
+decided_event None e = inr (λ same. none-some e same)
+decided_event (Some v) e = elim (same_event v e) [ inl is ↦ inl (ap Some is) | inr ne ↦ inr (λ same. ne (same_Some v e same)) ]
+
+pub decided_in : (path : List ℕ) (j : ℕ) → Decided (Contains path j)
+decided_in [] j = inr (λ c. none_in j c)
+decided_in (k ∷ path) j = elim (cases_eq k j) [
+  | inl e ↦ inl (Contains-here k j path e)
+  | inr ne ↦ elim (decided_in path j) [
+    | inl c ↦ inl (Contains-there k j path c)
+    | inr not ↦ inr (λ c. elim (Contains-cons k j path c) [ inl e ↦ ne e | inr r ↦ not r ])
+  ]
+]
+
+-- there is a location of which it holds, if it holds of none but this
+pub decided_located : (o : Option ℕ) (P : ℕ → Type 0) → ((l : ℕ) → P l → o ≡ Some l) → ((l : ℕ) → Decided (P l)) → Decided
+    ((l : ℕ) × P l)
+decided_located None P each decide = inr (λ h. none-some h.0 (each h.0 h.1))
+decided_located (Some l) P each decide = elim (decide l) [
+  | inl p ↦ inl (l, p)
+  | inr not ↦ inr (λ h. not (subst P (sym (same_Some l h.0 (each h.0 h.1))) h.1))
+]
+
+module _ (x : Execution) where
+  decided_of_it : (e : MemoryEvent) → Decided (IsEvent x e)
+  decided_of_it e = decided_in (code_of x.paths e.thread) e.position
+
+  pub decided_po : (a b : MemoryEvent) → Decided (Po x a b)
+  decided_po a b = decided_as (λ h. (h.0, h.1, h.2.0, h.2.1)) (λ h. (h.0, h.1, (h.2, h.3)))
+      (decided_three (decided_of_it a) (decided_of_it b) (decided_and (cases_eq a.thread b.thread)
+      (decided_less a.position b.position)))
+
+  -- what v reads from is before w
+  decided_before : (o : Option MemoryEvent) (w : MemoryEvent) → Decided (ForSome o (λ v. x.co v < x.co w))
+  decided_before None w = inl (λ v is. absurd (none-some v is))
+  decided_before (Some u) w = elim (decided_less (x.co u) (x.co w)) [
+    | inl l ↦ inl (λ v is. subst (λ (z : MemoryEvent). x.co z < x.co w) (same_Some u v is) l)
+    | inr not ↦ inr (λ each. not (each u refl))
+  ]
+
+module _ {S : Type 0} (language : Language S) (test : Test S) (x : Execution) where
+  decided_reads : (e : MemoryEvent) (l : ℕ) → Decided (Reads language test x e l)
+  decided_reads e l =
+      decided_three (decided_of_it x e) (decided_number (location language test e) l)
+      (decided_true (does language test reads e))
+
+  pub decided_writes : (e : MemoryEvent) (l : ℕ) → Decided (Writes language test x e l)
+  decided_writes e l =
+      decided_three (decided_of_it x e) (decided_number (location language test e) l)
+      (decided_true (does language test operations.writes e))
+
+  pub decided_rf : (w r : MemoryEvent) → Decided (Rf language test x w r)
+  decided_rf w r =
+      decided_as (λ h. (h.0, h.1.0, h.1.1, h.1.2)) (λ h. (h.0, (h.1, h.2, h.3))) (decided_located (location language test w)
+      (λ l. Writes language test x w l × Reads language test x r l × (x.rf r ≡ Some w)) (λ l h. h.0.1)
+      (λ l. decided_three (decided_writes w l) (decided_reads r l) (decided_event (x.rf r) w)))
+
+  pub decided_co : (w v : MemoryEvent) → Decided (Co language test x w v)
+  decided_co w v =
+      decided_as (λ h. (h.0, h.1.0, h.1.1, h.1.2)) (λ h. (h.0, (h.1, h.2, h.3))) (decided_located (location language test w)
+      (λ l. Writes language test x w l × Writes language test x v l × (x.co w < x.co v)) (λ l h. h.0.1)
+      (λ l. decided_three (decided_writes w l) (decided_writes v l) (decided_less (x.co w) (x.co v))))
+
+  pub decided_fr : (r w : MemoryEvent) → Decided (Fr language test x r w)
+  decided_fr r w = decided_as (λ h. (h.0, h.1.0, h.1.1, h.1.2.0, h.1.2.1)) (λ h. (h.0, (h.1, h.2, (h.3, h.4))))
+      (decided_located (location language test r)
+      (λ l. Reads language test x r l × Writes language test x w l × ((r ≡ w → ⊥) × ForSome (x.rf r) (λ v. x.co v < x.co w)))
+      (λ l h. h.0.1)
+      (λ l. decided_three (decided_reads r l) (decided_writes w l) (decided_and (decided_not (same_event r w))
+      (decided_before x (x.rf r) w))))
+
+  pub decided_po_loc : (a b : MemoryEvent) → Decided (PoLoc language test x a b)
+  decided_po_loc a b =
+      decided_as (λ h. (h.1.0, h.0, h.1.1, h.1.2)) (λ h. (h.1, (h.0, h.2, h.3))) (decided_located (location language test a)
+      (λ l. Po x a b × (location language test a ≡ Some l) × (location language test b ≡ Some l)) (λ l h. h.1)
+      (λ l. decided_three (decided_po x a b) (decided_number (location language test a) l)
+      (decided_number (location language test b) l)))
+
+  pub decided_ppo : (a b : MemoryEvent) → Decided (Ppo language test x a b)
+  decided_ppo a b = decided_and (decided_po x a b) (decided_true _)
+
+  pub decided_rfe : (w r : MemoryEvent) → Decided (Rfe language test x w r)
+  decided_rfe w r = decided_and (decided_rf w r) (decided_not (cases_eq w.thread r.thread))

@@ -1,0 +1,44 @@
+-- The machine's outcomes over flat memory are those that the axioms allow.
+use Rattle.lw_axiomatic.proofs.Common.{ℕ, List, length, sym, subst, Final, IsOutcomeOf, x86, ProgramTest}
+use Rattle.lw_axiomatic.proofs.Common.{IsWellFormedProgram, flat, IsChoice, ChoiceOutcome, Execution}
+use Rattle.lw_axiomatic.proofs.Common.{IsCandidate, IsAllowed, IsTimed, HasTimes}
+use Rattle.lw_axiomatic.proofs.Timed.{keeps_axioms}
+use Rattle.lw_axiomatic.proofs.Timing.{has_times}
+use Rattle.lw_axiomatic.proofs.ToMachine.{stays_and_ends}
+use Rattle.lw_axiomatic.proofs.Places.{KeptOrder, done, reached}
+use Rattle.lw_axiomatic.proofs.TimeOrder as by
+use Rattle.lw_axiomatic.proofs.FromMachine as from
+
+-- an outcome of a choice of paths, as lw_finals has them
+abbrev pub OfChoice : ProgramTest → Final → Type 0
+OfChoice test o =
+    (paths : List (List ℕ)) × IsChoice x86 test.threads paths × ChoiceOutcome flat test test.head.init_words paths o
+
+module _ {test : ProgramTest} (ok : IsWellFormedProgram test) {o : Final} where
+  pub allowed : IsOutcomeOf test.head.threads (length test.head.locs) o → OfChoice test o → IsAllowed test o
+  allowed of_test (paths, choice, c) =
+      let given : KeptOrder test paths = record { ok = ok; choice = choice; order = c.order; keeps = c.keeps } in
+      let x : Execution = from.x given c.run.end c.run.ran in
+      let timed : IsTimed test x (done given) (reached given) = from.timed given c.run.end c.run.ran in
+      record {
+        execution = x;
+        candidate = subst (IsCandidate x86 test x) (sym c.run.is) (from.candidate given c.run.end c.run.ran c.run.final
+            (subst (IsOutcomeOf test.head.threads (length test.head.locs)) c.run.is of_test));
+        axioms = keeps_axioms ok timed;
+      }
+
+  pub reached_by_machine : IsAllowed test o → OfChoice test o
+  reached_by_machine a =
+      let t : HasTimes test a.execution = has_times ok a.candidate a.axioms in
+      let given : KeptOrder test a.execution.paths = by.given ok a.candidate t.timed in (
+        a.execution.paths,
+        given.choice,
+        record {
+          order = given.order;
+          keeps = given.keeps;
+          run = stays_and_ends a.candidate given
+              (λ r l reading. by.newest_placed ok a.candidate t.timed r l reading (a.execution.rf r)
+              (t.timed.newest r l reading))
+              (λ w v co. by.sooner_writes ok a.candidate t.timed w v co.1.0 co.2.0 (t.timed.co w v co));
+        },
+      )

@@ -1,0 +1,130 @@
+-- What an event is by the kinds of its operation, and that it stands low in its code.
+use Rattle.lw_axiomatic.proofs.Common.{◌≡◌, ℕ, ◌<◌, ◌≤◌, ◌⊎◌, inl, inr, Bool, true, false, Option, Some, None}
+use Rattle.lw_axiomatic.proofs.Common.{refl, sym, subst, arith, [], List, slice_get, length, true≢false}
+use Rattle.lw_axiomatic.proofs.Common.{option_and_then, option_map, option_map_or, cases_lt, get_or_past}
+use Rattle.lw_axiomatic.proofs.Common.{All-get_or, none-some, slice_get_past, code_of, Instr, Operation, Load}
+use Rattle.lw_axiomatic.proofs.Common.{Store, Swap, FetchAdd, Set, Sum, Compare, Fence, Branch, location_of}
+use Rattle.lw_axiomatic.proofs.Common.{is_store, is_load, waits, writes, x86, x86_operation, ProgramTest}
+use Rattle.lw_axiomatic.proofs.Common.{IsThread, IsWellFormedProgram, MemoryEvent, reads, does, location}
+use Rattle.lw_litmus.specs.Operations as operations
+
+kind_of : (P Q : Operation → Bool) (b : Bool) → ((o : Operation) → P o ≡ true → Q o ≡ b) → (q : Option Operation)
+    → option_map_or P q false ≡ true → option_map_or Q q false ≡ b
+kind_of P Q b each None e = absurd (true≢false (sym e))
+kind_of P Q b each (Some o) e = each o e
+
+reads_no_store : (o : Operation) → reads o ≡ true → is_store o ≡ false
+reads_no_store (Store x v) e = absurd (true≢false (sym e))
+reads_no_store o e = refl
+
+fence_no_store : (o : Operation) → operations.is_fence o ≡ true → is_store o ≡ false
+fence_no_store (Store x v) e = absurd (true≢false (sym e))
+fence_no_store o e = refl
+
+store_no_reads : (o : Operation) → is_store o ≡ true → reads o ≡ false
+store_no_reads (Store x v) e = refl
+store_no_reads _ e = absurd (true≢false (sym e))
+
+store_no_fence : (o : Operation) → is_store o ≡ true → operations.is_fence o ≡ false
+store_no_fence (Store x v) e = refl
+store_no_fence _ e = absurd (true≢false (sym e))
+
+-- what writes is a store, or reads too
+store_or_reads : (q : Option Operation) → option_map_or writes q false ≡ true → (option_map_or is_store q false ≡ true) ⊎
+    (option_map_or reads q false ≡ true)
+store_or_reads None e = absurd (true≢false (sym e))
+store_or_reads (Some (Store x v)) e = inl refl
+store_or_reads (Some (Swap d x a)) e = inr refl
+store_or_reads (Some (FetchAdd d x v)) e = inr refl
+store_or_reads (Some _) e = absurd (true≢false (sym e))
+
+store_or_waits : (q : Option Operation) → option_map_or writes q false ≡ true → (option_map_or is_store q false ≡ true) ⊎
+    (option_map_or waits q false ≡ true)
+store_or_waits None e = absurd (true≢false (sym e))
+store_or_waits (Some (Store x v)) e = inl refl
+store_or_waits (Some (Swap d x a)) e = inr refl
+store_or_waits (Some (FetchAdd d x v)) e = inr refl
+store_or_waits (Some _) e = absurd (true≢false (sym e))
+
+store_waits_none : (o : Operation) → is_store o ≡ true → waits o ≡ false
+store_waits_none (Store x v) e = refl
+store_waits_none _ e = absurd (true≢false (sym e))
+
+fence_waits : (o : Operation) → operations.is_fence o ≡ true → waits o ≡ true
+fence_waits Fence e = refl
+fence_waits _ e = absurd (true≢false (sym e))
+
+load_reads : (o : Operation) → is_load o ≡ true → reads o ≡ true
+load_reads (Load d x) e = refl
+load_reads _ e = absurd (true≢false (sym e))
+
+load_no_writes : (o : Operation) → is_load o ≡ true → writes o ≡ false
+load_no_writes (Load d x) e = refl
+load_no_writes _ e = absurd (true≢false (sym e))
+
+writes_or_loads : (q : Option Operation) (l : ℕ) → option_and_then location_of q ≡ Some l
+    → (option_map_or writes q false ≡ true) ⊎ (option_map_or is_load q false ≡ true)
+writes_or_loads None l e = absurd (none-some l e)
+writes_or_loads (Some (Store x v)) l e = inl refl
+writes_or_loads (Some (Load d x)) l e = inr refl
+writes_or_loads (Some (Swap d x a)) l e = inl refl
+writes_or_loads (Some (FetchAdd d x v)) l e = inl refl
+writes_or_loads (Some (Set d v)) l e = absurd (none-some l e)
+writes_or_loads (Some (Sum d a v)) l e = absurd (none-some l e)
+writes_or_loads (Some (Compare a v)) l e = absurd (none-some l e)
+writes_or_loads (Some Fence) l e = absurd (none-some l e)
+writes_or_loads (Some (Branch c to)) l e = absurd (none-some l e)
+
+module _ (test : ProgramTest) where
+  abbrev is : (Operation → Bool) → MemoryEvent → Bool
+  is = does x86 test
+
+  pub read_is_no_store : (e : MemoryEvent) → is reads e ≡ true → is is_store e ≡ false
+  read_is_no_store e = kind_of reads is_store false reads_no_store _
+
+  pub fence_is_no_store : (e : MemoryEvent) → is operations.is_fence e ≡ true → is is_store e ≡ false
+  fence_is_no_store e = kind_of operations.is_fence is_store false fence_no_store _
+
+  pub store_reads_nothing : (e : MemoryEvent) → is is_store e ≡ true → is reads e ≡ false
+  store_reads_nothing e = kind_of is_store reads false store_no_reads _
+
+  pub store_is_no_fence : (e : MemoryEvent) → is is_store e ≡ true → is operations.is_fence e ≡ false
+  store_is_no_fence e = kind_of is_store operations.is_fence false store_no_fence _
+
+  pub write_stores_or_reads : (e : MemoryEvent) → is writes e ≡ true → (is is_store e ≡ true) ⊎ (is reads e ≡ true)
+  write_stores_or_reads e = store_or_reads _
+
+  pub write_stores_or_waits : (e : MemoryEvent) → is writes e ≡ true → (is is_store e ≡ true) ⊎ (is waits e ≡ true)
+  write_stores_or_waits e = store_or_waits _
+
+  pub store_waits_not : (e : MemoryEvent) → is is_store e ≡ true → is waits e ≡ false
+  store_waits_not e = kind_of is_store waits false store_waits_none _
+
+  pub fence_waits_there : (e : MemoryEvent) → is operations.is_fence e ≡ true → is waits e ≡ true
+  fence_waits_there e = kind_of operations.is_fence waits true fence_waits _
+
+  pub load_reads_there : (e : MemoryEvent) → is is_load e ≡ true → is reads e ≡ true
+  load_reads_there e = kind_of is_load reads true load_reads _
+
+  pub load_writes_nothing : (e : MemoryEvent) → is is_load e ≡ true → is writes e ≡ false
+  load_writes_nothing e = kind_of is_load writes false load_no_writes _
+
+  pub there : (e : MemoryEvent) (l : ℕ) → location x86 test e ≡ Some l → (is writes e ≡ true) ⊎ (is is_load e ≡ true)
+  there e l at = writes_or_loads _ l at
+
+  pub short_code : IsWellFormedProgram test → (t : ℕ) → length (code_of test.threads t) ≤ 32
+  short_code ok t = elim (cases_lt t (length test.threads)) [
+    | inl h ↦ (let thread : IsThread x86 (length test.head.locs) (code_of test.threads t) = All-get_or
+        (IsThread x86 (length test.head.locs)) test.threads t [] h ok.code in thread.short)
+    | inr h ↦ (let none : code_of test.threads t ≡ [] = get_or_past test.threads t [] h in
+        subst (λ (code : List Instr). length code ≤ 32) (sym none) (omega arith))
+  ]
+
+  pub low : IsWellFormedProgram test → (e : MemoryEvent) (l : ℕ) → location x86 test e ≡ Some l → e.position < 32
+  low ok e l at = elim (cases_lt e.position (length (code_of test.threads e.thread))) [
+    | inl h ↦ (let short : length (code_of test.threads e.thread) ≤ 32 = short_code ok e.thread in omega (arith, h, short))
+    | inr h ↦ absurd (nothing (slice_get (code_of test.threads e.thread) e.position) (slice_get_past _ e.position h) at)
+  ]
+    where
+      nothing : (o : Option Instr) → o ≡ None → option_and_then location_of (option_map x86_operation o) ≡ Some l → ⊥
+      nothing o none found = none-some l (rw none at found)

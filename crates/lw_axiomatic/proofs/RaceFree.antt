@@ -1,0 +1,397 @@
+-- An execution that keeps the axioms is sequentially consistent, or its test has a triangular race. Of the from-reads that do
+-- not go up by the anchored numbers take one with the first read, and of that the first write: up to the write all others, and
+-- the reading thread up to its read, are a run by interleaving; there both are next, behind a store that no fence followed.
+use Rattle.lw_axiomatic.proofs.Common.{IsAllowed, InterleavingOutcome, IsSequentialOutcome, ◌↔◌, ◌≡◌, ◌≢◌, ℕ}
+use Rattle.lw_axiomatic.proofs.Common.{suc, ◌*◌, ◌<◌, ◌≤◌, ◌⊎◌, ◌||◌, ◌==◌, inl, inr, Bool, true, false}
+use Rattle.lw_axiomatic.proofs.Common.{Option, Some, None, List, [], ◌∷◌, ◌++◌, map, refl, sym, ap, ap₂, ◌∙◌}
+use Rattle.lw_axiomatic.proofs.Common.{subst, arith, true≢false, eq-eqb, eqb-true, Contains, slice_get}
+use Rattle.lw_axiomatic.proofs.Common.{lt-ltb, ltb-true, ◌&&◌, nat_lt, option_map, option_and_then}
+use Rattle.lw_axiomatic.proofs.Common.{option_map_or, cases_Bool, cases_eq, cases_lt, cases_order, or_left}
+use Rattle.lw_axiomatic.proofs.Common.{or_right, or_cases, and_from, and_parts, false_from_ne_true, get_some}
+use Rattle.lw_axiomatic.proofs.Common.{Final, code_of, Contains-here, GoesUp, path_up, forward_of, Operation}
+use Rattle.lw_axiomatic.proofs.Common.{Store, location_of, is_store, is_load, waits, writes, x86}
+use Rattle.lw_axiomatic.proofs.Common.{x86_operation, ProgramTest, IsWellFormedProgram, KeepsAxioms, Goes}
+use Rattle.lw_axiomatic.proofs.Common.{IsCandidate, MemoryEvent, Execution, IsEvent, Po, reads, does}
+use Rattle.lw_axiomatic.proofs.Common.{location, Writes, Rf, Fr, start, IsNext, HasTriangularRace}
+use Rattle.lw_axiomatic.proofs.Common.{IsSequential}
+use Rattle.lw_axiomatic.proofs.Decisions.{Decided, decided_and, decided_fr}
+use Rattle.lw_axiomatic.proofs.EventKinds.{there, low, write_stores_or_reads, store_waits_not}
+use Rattle.lw_axiomatic.proofs.EventLists.{least_event}
+use Rattle.lw_axiomatic.proofs.FencedTests.{thread_there, path_of}
+use Rattle.lw_axiomatic.proofs.Fronts.{fronts, tails, as_many_fronts, parted_at, from_fronts, to_fronts}
+use Rattle.lw_axiomatic.proofs.Fronts.{tail_from}
+use Rattle.lw_axiomatic.proofs.RaceRuns.{Split, split, quietly}
+use Rattle.lw_axiomatic.proofs.Timing.{anchor_reached}
+use Rattle.lw_axiomatic.proofs.Walks.{AreFronts, Ends, walked}
+use Rattle.lw_axiomatic.proofs.Anchored as anchored_by
+
+module _ {test : ProgramTest} (ok : IsWellFormedProgram test) {x : Execution} {o : Final} (candidate : IsCandidate x86 test x o)
+    (axioms : KeepsAxioms test x) where
+  abbrev n : MemoryEvent → ℕ
+  n = anchored_by.number ok axioms
+
+  abbrev g : MemoryEvent → ℕ
+  g = axioms.happens_before.0
+
+  abbrev at : ℕ → ℕ → MemoryEvent
+  at t j = record { thread = t; position = j }
+
+  po_up : (a b : MemoryEvent) → Po x a b → n a < n b
+  po_up = anchored_by.po_up ok axioms
+
+  -- from-reads that do not go up
+  abbrev IsLate : MemoryEvent → MemoryEvent → Type 0
+  IsLate b c = Fr x86 test x b c × (n c ≤ n b)
+
+  late : (b c : MemoryEvent) → Decided (IsLate b c)
+  late b c = decided_and (decided_fr x86 test x b c) (elim (cases_lt (n b) (n c)) [
+    | inl less ↦ inr (λ le. omega (arith, less, le))
+    | inr le ↦ inl le
+  ])
+
+  -- the first write of a read that is late
+  record FirstWrite (b : MemoryEvent) : Type 0 where
+    c : MemoryEvent
+    is_late : IsLate b c
+    least : (w : MemoryEvent) → IsLate b w → n c ≤ n w
+
+  first_write : (b : MemoryEvent) → Decided (FirstWrite b)
+  first_write b = elim (least_event n (IsLate b) (late b) x.paths) [
+    | inl none ↦ inr (λ f. none f.c f.is_late.0.2.0 f.is_late)
+    | inr (c, is, least) ↦ inl (record { c = c; is_late = is; least = λ w l. least w l.0.2.0 l })
+  ]
+
+  -- ---- the first read that is late, and its first write
+
+  module _ (b : MemoryEvent) (f : FirstWrite b) (least : (r : MemoryEvent) → IsEvent x r → FirstWrite r → n b ≤ n r) where
+    abbrev c : MemoryEvent
+    c = f.c
+
+    abbrev fr : Fr x86 test x b c
+    fr = f.is_late.0
+
+    abbrev l : ℕ
+    l = fr.0
+
+    first_read : (r w : MemoryEvent) → IsLate r w → n b ≤ n r
+    first_read r w is = elim (first_write r) [
+      | inl some ↦ least r is.0.1.0 some
+      | inr none ↦ absurd (elim (least_event n (IsLate r) (late r) x.paths) [
+        | inl never ↦ never w is.0.2.0 is
+        | inr (v, late_v, first) ↦ none (record { c = v; is_late = late_v; least = λ u lu. first u lu.0.2.0 lu })
+      ])
+    ]
+
+    two : b.thread ≢ c.thread
+    two one = let up : n b < n c = anchored_by.fr_own ok axioms b c fr one in omega (arith, up, f.is_late.1)
+
+    g_up : g b < g c
+    g_up = axioms.happens_before.1 b c (inr (inr (inr fr)))
+
+    low_b : b.position < 32
+    low_b = low test ok b l fr.1.1
+
+    c_above : 64 * suc (g c) ≤ n c
+    c_above =
+        let up = anchored_by.above ok axioms c fr.2.0 (anchored_by.writing_accesses ok axioms c fr.2.2) in omega (arith, up)
+
+    load : does x86 test is_load b ≡ true
+    load = elim (there test b l fr.1.1) [
+      | inl writing ↦ absurd (let up : n b < n c = anchored_by.fr_when ok axioms b c fr
+          (anchored_by.own_write ok axioms b fr.1.0 writing) in
+          omega (arith, up, f.is_late.1))
+      | inr is ↦ is
+    ]
+
+    -- ---- the store
+
+    record Stored : Type 0 where
+      k : ℕ
+      po : Po x (at b.thread k) b
+      store : does x86 test is_store (at b.thread k) ≡ true
+      high : g c ≤ g (at b.thread k)
+
+    stored : Stored
+    stored = elim (anchor_reached (anchored_by.top ok axioms b.thread) (code_of x.paths b.thread) b.position) [
+      | inr none ↦ absurd (omega (arith, none, c_above, f.is_late.1, low_b))
+      | inl (k, on, le, is) ↦ by_access k on le is (cases_Bool (anchored_by.accesses ok axioms (at b.thread k)))
+    ]
+      where
+        by_access : (k : ℕ) → Contains (code_of x.paths b.thread) k → k ≤ b.position
+            → anchored_by.top ok axioms b.thread k ≡ anchored_by.anchored ok axioms b
+            → (anchored_by.accesses ok axioms (at b.thread k) ≡ true) ⊎ (anchored_by.accesses ok axioms (at b.thread k) ≡ false)
+            → Stored
+        by_access k on le is (inr none) =
+            absurd (omega (arith, is, anchored_by.top_other ok axioms (at b.thread k) none, c_above, f.is_late.1, low_b))
+        by_access k on le is (inl a) =
+            let own : anchored_by.top ok axioms b.thread k ≡ suc (g (at b.thread k)) = anchored_by.top_access ok axioms
+            (at b.thread k) a in
+            let high : g c ≤ g (at b.thread k) = omega (arith, is, own, c_above, f.is_late.1, low_b) in
+            elim (cases_eq k b.position) [
+              | inl same ↦ absurd (let this : at b.thread k ≡ b = ap (at b.thread) same in omega (arith, ap g this, high, g_up))
+              | inr ne ↦ (let po : Po x (at b.thread k) b = (on, fr.1.0, refl, omega (arith, le, ne)) in
+                  record {
+                    k = k;
+                    po = po;
+                    store = elim (or_cases (does x86 test reads (at b.thread k)) _ a) [
+                      | inl r ↦ absurd (omega (arith, anchored_by.kept_reading ok axioms (at b.thread k) b po r, high, g_up))
+                      | inr w ↦ elim (write_stores_or_reads test (at b.thread k) w) [
+                        | inl s ↦ s
+                        | inr r ↦ absurd (omega (arith, anchored_by.kept_reading ok axioms (at b.thread k) b po r, high, g_up))
+                      ]
+                    ];
+                    high = high;
+                  })
+            ]
+
+    abbrev k : MemoryEvent
+    k = at b.thread stored.k
+
+    -- nothing between them waits
+    none_waits : (h : MemoryEvent) → Po x k h → Po x h b → does x86 test waits h ≡ true → ⊥
+    none_waits h first second w = omega (
+      arith,
+      anchored_by.behind_fence ok axioms k h first w,
+      anchored_by.before_fence ok axioms h b second w,
+      stored.high,
+      g_up,
+    )
+
+    -- and the store is to another location
+    apart : location x86 test k ≡ Some l → ⊥
+    apart same =
+        let writing : Writes x86 test x k l = (stored.po.0, same, store_kind k stored.store) in
+        let up : axioms.coherence.0 k < axioms.coherence.0 b = axioms.coherence.1 k b (inl (stored.po, l, same, fr.1.1)) in
+        let more : axioms.coherence.0 b < axioms.coherence.0 c = axioms.coherence.1 b c (inr (inr (inr fr))) in
+        elim (cases_order (x.co k) (x.co c)) [
+          | inl is ↦ (let one : k ≡ c = candidate.co k c l writing fr.2 is in two (ap (λ (z : MemoryEvent). z.thread) one))
+          | inr (inl less) ↦ omega (arith, axioms.happens_before.1 k c (inr (inr (inl (l, writing, fr.2, less)))), stored.high)
+          | inr (inr back) ↦ omega (arith, axioms.coherence.1 c k (inr (inr (inl (l, fr.2, writing, back)))), up, more)
+        ]
+      where
+        store_writes : (q : Option Operation) → option_map_or is_store q false ≡ true → option_map_or writes q false ≡ true
+        store_writes None e = absurd (true≢false (sym e))
+        store_writes (Some (Store y v)) e = refl
+        store_writes (Some _) e = absurd (true≢false (sym e))
+
+        store_kind : (e : MemoryEvent) → does x86 test is_store e ≡ true → does x86 test writes e ≡ true
+        store_kind e s = store_writes _ s
+
+    -- ---- the fronts: what comes before the write, and the reading thread up to its read
+
+    abbrev passes : ℕ → ℕ → Bool
+    passes t j = nat_lt (n (at t j)) (n c) || ((t == b.thread) && nat_lt j b.position)
+
+    by_number : (t j : ℕ) → n (at t j) < n c → passes t j ≡ true
+    by_number t j less = or_left (nat_lt (n (at t j)) (n c)) _ (lt-ltb (n (at t j)) (n c) less)
+
+    by_thread : (t j : ℕ) → t ≡ b.thread → j < b.position → passes t j ≡ true
+    by_thread t j one less = or_right (nat_lt (n (at t j)) (n c)) _
+        (and_from (t == b.thread) _ (eq-eqb t b.thread one) (lt-ltb j b.position less))
+
+    passing : (t j : ℕ) → passes t j ≡ true → (n (at t j) < n c) ⊎ ((t ≡ b.thread) × (j < b.position))
+    passing t j p = elim (or_cases (nat_lt (n (at t j)) (n c)) _ p) [
+      | inl less ↦ inl (ltb-true (n (at t j)) (n c) less)
+      | inr own ↦ (let both = and_parts (t == b.thread) (nat_lt j b.position) own in
+          inr (eqb-true t b.thread both.0, ltb-true j b.position both.1))
+    ]
+
+    down : (t h j : ℕ) → Contains (code_of x.paths t) h → Contains (code_of x.paths t) j → h < j → passes t j ≡ true
+        → passes t h ≡ true
+    down t h j ch cj less p = elim (passing t j p) [
+      | inl early ↦ by_number t h (omega (arith, po_up (at t h) (at t j) (ch, cj, refl, less), early))
+      | inr (one, before) ↦ by_thread t h one (omega (arith, less, before))
+    ]
+
+    goes_up : (t j : ℕ) → Contains (code_of x.paths t) j → GoesUp 0 (code_of x.paths t)
+    goes_up t j c = path_up x86 (code_of test.threads t) 0 (code_of x.paths t) (forward_of x86 test ok t)
+        (path_of candidate t (thread_there candidate (at t j) c))
+
+    abbrev IsIn : MemoryEvent → Type 0
+    IsIn e = Contains (code_of (fronts passes 0 x.paths) e.thread) e.position
+
+    to_in : (e : MemoryEvent) → IsEvent x e → passes e.thread e.position ≡ true → IsIn e
+    to_in e there p = to_fronts passes e.thread e.position x.paths (goes_up e.thread e.position there) (down e.thread) there p
+
+    from_in : (e : MemoryEvent) → IsIn e → IsEvent x e × (passes e.thread e.position ≡ true)
+    from_in e c = from_fronts passes e.thread e.position x.paths c
+
+    fr_goes_up : (r w : MemoryEvent) → IsIn r → Fr x86 test x r w → n r < n w
+    fr_goes_up r w ir from = elim (cases_lt (n r) (n w)) [
+      | inl less ↦ less
+      | inr le ↦ absurd (let first : n b ≤ n r = first_read r w (from, le) in
+          let is = from_in r ir in
+          elim (passing r.thread r.position is.1) [
+            | inl early ↦ omega (arith, early, first, f.is_late.1)
+            | inr (one, before) ↦ omega (arith, po_up r b (is.0, fr.1.0, one, before), first)
+          ])
+    ]
+
+    closed : (w r : MemoryEvent) → IsIn r → Rf x86 test x w r → IsIn w
+    closed w r ir rf =
+        let is = from_in r ir in
+        to_in w rf.1.0 (elim (passing r.thread r.position is.1) [
+          | inl early ↦ by_number w.thread w.position (omega (arith, anchored_by.rf_up ok axioms w r rf, early))
+          | inr (one, before) ↦ elim (cases_eq w.thread r.thread) [
+            | inl own ↦ (let po : Po x w r = anchored_by.rf_own ok axioms w r rf own in
+                by_thread w.thread w.position (own ∙ one) (omega (arith, po.3, before)))
+            | inr far ↦ by_number w.thread w.position (omega (
+              arith,
+              axioms.happens_before.1 w r (inr (inl (rf, far))),
+              anchored_by.kept_reading ok axioms r b (is.0, fr.1.0, one, before) rf.2.2,
+              g_up,
+              c_above,
+              anchored_by.own_write ok axioms w rf.1.0 rf.1.2,
+              low test ok w rf.0 rf.1.1,
+            ))
+          ]
+        ])
+
+    are : AreFronts x86 test x n (fronts passes 0 x.paths) (tails passes 0 x.paths)
+    are = record {
+      many = as_many_fronts passes 0 x.paths ∙ candidate.as_many;
+      parted = λ t. parted_at passes t x.paths;
+      up = λ r w ir iw. elim [
+        | inl po ↦ po_up r w po
+        | inr (inl rf) ↦ anchored_by.rf_up ok axioms r w rf
+        | inr (inr (inl co)) ↦ anchored_by.co_up ok axioms r w co
+        | inr (inr (inr from)) ↦ fr_goes_up r w ir from
+      ];
+      closed = closed;
+    }
+
+    abbrev run : Ends ok candidate are (fronts passes 0 x.paths) (start x86 test)
+    run = walked ok candidate are
+
+    -- ---- behind the fronts both are next
+
+    next_at : (kind : Operation → Bool) (e : MemoryEvent) → IsEvent x e → does x86 test kind e ≡ true
+        → location x86 test e ≡ Some l
+        → passes e.thread e.position ≡ false → ((h : ℕ) → Contains (code_of x.paths e.thread) h → h < e.position
+        → passes e.thread h ≡ true)
+        → IsNext test kind l e.thread run.end
+    next_at kind e on is place not before =
+        let th = get_some run.end.threads e.thread (omega (arith, thread_there candidate e on, run.at.good.many)) in
+        let now = run.at.threads e.thread th.0 th.1 in
+        let tail = tail_from passes e.thread e.position x.paths (goes_up e.thread e.position on) on not before in
+        let none : code_of run.left e.thread ≡ [] = nothing (code_of run.left e.thread) refl in
+        let goes : Goes x86 x e.thread (code_of test.threads e.thread) (e.position ∷ tail.0) th.0 now.0 =
+        subst (λ (path : List ℕ). Goes x86 x e.thread (code_of test.threads e.thread) path th.0 now.0)
+        (ap₂ (λ (p q : List ℕ). p ++ q) none tail.1) now.1 in
+        record {
+          thread = th.0;
+          instruction = goes.1;
+          was = th.1;
+          at = ap (slice_get (code_of test.threads e.thread)) goes.0 ∙ goes.2;
+          is = sym (ap (λ o. option_map_or kind (option_map x86_operation o) false) goes.2) ∙ is;
+          on = sym (ap (λ o. option_and_then location_of (option_map x86_operation o)) goes.2) ∙ place;
+        }
+      where
+        nothing : (path : List ℕ) → code_of run.left e.thread ≡ path → path ≡ []
+        nothing [] same = refl
+        nothing (h ∷ more) same = absurd (run.none (at e.thread h)
+            (subst (λ (path : List ℕ). Contains path h) (sym same) (Contains-here h h more refl)))
+
+    not_passing : (e : MemoryEvent) → ((n e < n c) → ⊥) → ((e.thread ≡ b.thread) × (e.position < b.position) → ⊥)
+        → passes e.thread e.position ≡ false
+    not_passing e late_e other = false_from_ne_true (passes e.thread e.position) (λ p. elim (passing e.thread e.position p) [
+      | inl early ↦ late_e early
+      | inr own ↦ other own
+    ])
+
+    loads : IsNext test is_load l b.thread run.end
+    loads = next_at is_load b fr.1.0 load fr.1.1 (not_passing b (λ early. omega (arith, early, f.is_late.1))
+        (λ own. omega (arith, own.1)))
+        (λ h on less. by_thread b.thread h refl less)
+
+    written : IsNext test writes l c.thread run.end
+    written = next_at writes c fr.2.0 fr.2.2 fr.2.1 (not_passing c (λ early. omega (arith, early)) (λ own. two (sym own.0)))
+        (λ h on less. by_number c.thread h (po_up (at c.thread h) c (on, fr.2.0, refl, less)))
+
+    -- ---- the run from the store on
+
+    k_in : IsIn k
+    k_in = to_in k stored.po.0 (by_thread b.thread stored.k refl stored.po.3)
+
+    parts : Split ok candidate are run.events (start x86 test) run.end k
+    parts = split ok candidate are run.events (start x86 test) run.end k run.ran (run.has k k_in)
+
+    quiet_since : (h : MemoryEvent) → Contains parts.since h → h.thread ≡ b.thread → does x86 test waits h ≡ false
+    quiet_since h c_h own =
+        let is = from_in h (run.all h (parts.among h c_h)) in
+        let later : n k ≤ n h = parts.later h c_h in
+        let before : h.position < b.position = elim (passing h.thread h.position is.1) [
+          | inr own_h ↦ own_h.1
+          | inl early ↦ elim (cases_order h.position b.position) [
+            | inl same ↦ absurd (let one : h ≡ b = ap₂ at own same in omega (arith, ap n one, early, f.is_late.1))
+            | inr (inl less) ↦ less
+            | inr (inr more) ↦ absurd (omega (arith, po_up b h (fr.1.0, is.0, sym own, more), early, f.is_late.1))
+          ]
+        ] in
+        elim (cases_order h.position stored.k) [
+          | inl same ↦ (let one : h ≡ k = ap₂ at own same in
+              ap (does x86 test waits) one ∙ store_waits_not test k stored.store)
+          | inr (inl less) ↦ absurd (omega (arith, po_up h k (is.0, stored.po.0, own, less), later))
+          | inr (inr more) ↦ false_from_ne_true (does x86 test waits h)
+              (none_waits h (stored.po.0, is.0, sym own, more) (is.0, fr.1.0, own, before))
+        ]
+
+    there_is : slice_get (code_of test.threads b.thread) stored.k ≡ Some parts.step.statement
+    there_is = ap (slice_get (code_of test.threads b.thread)) (sym parts.stands) ∙ parts.step.at
+
+    race : HasTriangularRace test
+    race = record {
+      q = b.thread;
+      p = c.thread;
+      two = λ one. two (sym one);
+      before = parts.before;
+      first = parts.first;
+      reached = parts.reached;
+      stored = parts.mid;
+      store = parts.step;
+      stores = sym (ap (λ o. option_map_or is_store (option_map x86_operation o) false) there_is) ∙ stored.store;
+      since = map (λ (e : MemoryEvent). e.thread) parts.since;
+      now = run.end;
+      quiet = quietly ok candidate are b.thread parts.since parts.mid run.end parts.ran quiet_since;
+      l = l;
+      apart = λ same. apart (ap (λ o. option_and_then location_of (option_map x86_operation o)) there_is ∙ same);
+      loads = loads;
+      written = written;
+    }
+
+  -- ---- one or the other
+
+  pub sequential_or_race : IsSequential x86 test x ⊎ HasTriangularRace test
+  sequential_or_race = elim (least_event n FirstWrite first_write x.paths) [
+    | inl none ↦ inl (anchored_by.sequential_if ok axioms (λ r w from. elim (cases_lt (n r) (n w)) [
+      | inl less ↦ less
+      | inr le ↦ absurd (elim (first_write r) [
+        | inl some ↦ none r from.1.0 some
+        | inr never ↦ elim (least_event n (IsLate r) (late r) x.paths) [
+          | inl nothing ↦ nothing w from.2.0 (from, le)
+          | inr (v, late_v, first) ↦ never (record { c = v; is_late = late_v; least = λ u lu. first u lu.0.2.0 lu })
+        ]
+      ])
+    ]))
+    | inr (b, f, least) ↦ inr (race b f least)
+  ]
+
+-- ---- of tests
+
+module _ (same : (test : ProgramTest) (o : Final) → IsWellFormedProgram test → InterleavingOutcome x86 test o
+    ↔ IsSequentialOutcome x86 test o) where
+  pub interleaving_or_race : (test : ProgramTest) (o : Final) → IsWellFormedProgram test → IsAllowed test o
+      → InterleavingOutcome x86 test o ⊎ HasTriangularRace test
+  interleaving_or_race test o ok a = elim (sequential_or_race ok a.candidate a.axioms) [
+    | inl sequential ↦ inl
+        ((same test o ok).1 (record { execution = a.execution; candidate = a.candidate; sequential = sequential }))
+    | inr race ↦ inr race
+  ]
+
+  pub race_free : ((test : ProgramTest) (o : Final) → IsSequentialOutcome x86 test o → IsAllowed test o)
+      → (test : ProgramTest) (o : Final) → IsWellFormedProgram test → (HasTriangularRace test → ⊥) → IsAllowed test o
+      ↔ InterleavingOutcome x86 test o
+  race_free allowed test o ok raceless = (
+    λ a. elim (interleaving_or_race test o ok a) [ inl run ↦ run | inr race ↦ absurd (raceless race) ],
+    λ run. allowed test o ((same test o ok).0 run),
+  )

@@ -1,0 +1,67 @@
+-- A run that is walked along an execution, seen from one of its events: what was done before it, and what since.
+use Rattle.lw_axiomatic.proofs.Common.{◌≡◌, ℕ, ◌≤◌, inl, inr, false, List, [], ◌∷◌, map, refl, sym, ap, ◌∙◌}
+use Rattle.lw_axiomatic.proofs.Common.{subst, Contains, slice_get, option_map, option_map_or, Final, code_of}
+use Rattle.lw_axiomatic.proofs.Common.{none_in, Contains-here, Contains-there, Contains-cons, waits, x86}
+use Rattle.lw_axiomatic.proofs.Common.{x86_operation, ProgramTest, IsWellFormedProgram, IsCandidate}
+use Rattle.lw_axiomatic.proofs.Common.{MemoryEvent, Execution, does, Interleaved, IsStep, Ran, RanQuietly}
+use Rattle.lw_axiomatic.proofs.Walks.{AreFronts, RanBy}
+
+module _ {test : ProgramTest} (ok : IsWellFormedProgram test) {x : Execution} {o : Final} (candidate : IsCandidate x86 test x o)
+    {number : MemoryEvent → ℕ} {fronts tails : List (List ℕ)} (are : AreFronts x86 test x number fronts tails) where
+  abbrev Runs : List MemoryEvent → Interleaved → Interleaved → Type 0
+  Runs = RanBy ok candidate are
+
+  pub record Split (events : List MemoryEvent) (s end : Interleaved) (e : MemoryEvent) : Type 0 where
+    pub before : List ℕ
+    pub first : Interleaved
+    pub reached : Ran x86 test.threads before s first
+    pub mid : Interleaved
+    pub step : IsStep x86 test.threads e.thread first mid
+    pub stands : step.thread.position ≡ e.position
+    pub since : List MemoryEvent
+    pub ran : Runs since mid end
+    pub later : (f : MemoryEvent) → Contains since f → number e ≤ number f
+    pub among : (f : MemoryEvent) → Contains since f → Contains events f
+
+  pub split : (events : List MemoryEvent) (s end : Interleaved) (e : MemoryEvent) → Runs events s end → Contains events e
+      → Split events s end e
+  split [] s end e ran c = absurd (none_in e c)
+  split (f ∷ events) s last e (next, step, at, least, ran) c = elim (Contains-cons f e events c) [
+    | inl same ↦ subst (Split (f ∷ events) s last) same (record {
+      before = [];
+      first = s;
+      reached = refl;
+      mid = next;
+      step = step;
+      stands = at;
+      since = events;
+      ran = ran;
+      later = least;
+      among = λ g there. Contains-there f g events there;
+    })
+    | inr rest ↦ (let more : Split events next last e = split events next last e ran rest in
+        record {
+          before = f.thread ∷ more.before;
+          first = more.first;
+          reached = (next, step, more.reached);
+          mid = more.mid;
+          step = more.step;
+          stands = more.stands;
+          since = more.since;
+          ran = more.ran;
+          later = more.later;
+          among = λ g there. Contains-there f g events (more.among g there);
+        })
+  ]
+
+  pub quietly : (q : ℕ) (events : List MemoryEvent) (s end : Interleaved) → Runs events s end
+      → ((f : MemoryEvent) → Contains events f → f.thread ≡ q → does x86 test waits f ≡ false)
+      → RanQuietly test q (map (λ (e : MemoryEvent). e.thread) events) s end
+  quietly q [] s end ran each = ran
+  quietly q (f ∷ events) s last (next, step, at, least, ran) each = (
+    next,
+    step,
+    λ own. sym (ap (λ o. option_map_or waits (option_map x86_operation o) false)
+        (ap (slice_get (code_of test.threads f.thread)) (sym at) ∙ step.at)) ∙ each f (Contains-here f f events refl) own,
+    quietly q events next last ran (λ g there. each g (Contains-there f g events there)),
+  )

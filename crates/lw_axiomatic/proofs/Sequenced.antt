@@ -1,0 +1,82 @@
+-- Which executions that keep the axioms are sequentially consistent: those without a triangular race. And each sequentially
+-- consistent execution keeps the axioms.
+use Rattle.lw_axiomatic.proofs.Common.{◌≢◌, suc, ◌≤◌, inl, inr, sym, arith, cases_eq, or_cases, Final, x86}
+use Rattle.lw_axiomatic.proofs.Common.{ProgramTest, IsWellFormedProgram, KeepsAxioms, IsAllowed, IsCandidate}
+use Rattle.lw_axiomatic.proofs.Common.{MemoryEvent, Execution, reads, does, Fr, HasFenceBetween, IsFenced}
+use Rattle.lw_axiomatic.proofs.Common.{IsFencedWhereShared, HasNoTriangularRace, IsSequential}
+use Rattle.lw_axiomatic.proofs.Common.{IsSequentialOutcome}
+use Rattle.lw_axiomatic.proofs.EventKinds.{there, write_stores_or_reads}
+use Rattle.lw_axiomatic.proofs.Anchored.{g, anchored, own, own_write, reading_accesses, kept_reading}
+use Rattle.lw_axiomatic.proofs.Anchored.{behind_fence, before_fence, sequential_if, fr_own, fr_when}
+
+-- ---- every sequentially consistent execution keeps the axioms
+
+pub sequential_keeps : (test : ProgramTest) (x : Execution) → IsSequential x86 test x → KeepsAxioms test x
+sequential_keeps test x (number, up) = record {
+  coherence = (
+    number,
+    λ a b. elim [
+      | inl po ↦ up a b (inl po.0)
+      | inr rest ↦ up a b (inr rest)
+    ],
+  );
+  happens_before = (
+    number,
+    λ a b. elim [
+      | inl ppo ↦ up a b (inl ppo.0)
+      | inr (inl rfe) ↦ up a b (inr (inl rfe.0))
+      | inr (inr rest) ↦ up a b (inr (inr rest))
+    ],
+  );
+}
+
+pub sequential_is_allowed : (test : ProgramTest) (o : Final) → IsSequentialOutcome x86 test o → IsAllowed test o
+sequential_is_allowed test o s =
+    record { execution = s.execution; candidate = s.candidate; axioms = sequential_keeps test s.execution s.sequential }
+
+-- ---- without a triangular race
+
+module _ {test : ProgramTest} {x : Execution} (ok : IsWellFormedProgram test) (axioms : KeepsAxioms test x)
+    (raceless : HasNoTriangularRace test x) where
+  -- a load that reads what was there before another thread's write has a fence behind each store before it
+  own_read : (r w : MemoryEvent) → Fr x86 test x r w → r.thread ≢ w.thread → anchored ok axioms r ≤ suc (g ok axioms r)
+  own_read r w fr two = elim (there test r fr.0 fr.1.1) [
+    | inl writing ↦ own_write ok axioms r fr.1.0 writing
+    | inr load ↦ own ok axioms r fr.1.0 (reading_accesses ok axioms r fr.1.2)
+        (λ k po a. elim (or_cases (does x86 test reads k) _ a) [
+          | inl reading ↦ kept_reading ok axioms k r po reading
+          | inr writing ↦ elim (write_stores_or_reads test k writing) [
+            | inr reading ↦ kept_reading ok axioms k r po reading
+            | inl store ↦ (let f : HasFenceBetween test x k r = raceless k r w
+                (record { po = po; store = store; load = load }) fr two in
+                omega (arith, behind_fence ok axioms k f.0 f.1 f.3, before_fence ok axioms f.0 r f.2 f.3))
+          ]
+        ])
+  ]
+
+  pub sequential : IsSequential x86 test x
+  sequential = sequential_if ok axioms (λ r w fr. elim (cases_eq r.thread w.thread) [
+    | inr two ↦ fr_when ok axioms r w fr (own_read r w fr two)
+    | inl one ↦ fr_own ok axioms r w fr one
+  ])
+
+-- ---- so are those with fences
+
+pub fenced_is_raceless : (test : ProgramTest) (x : Execution) → IsFenced test x → HasNoTriangularRace test x
+fenced_is_raceless test x fenced a b c pair fr two = fenced a b pair
+
+pub fenced_where_shared_is_raceless : (test : ProgramTest) (x : Execution) → IsFencedWhereShared test x
+    → HasNoTriangularRace test x
+fenced_where_shared_is_raceless test x fenced a b c pair fr two = elim (fenced a b pair) [
+  | inl between ↦ between
+  | inr own ↦ absurd (two (sym (own c fr.0 fr.1.1 fr.2)))
+]
+
+pub same_outcomes : (test : ProgramTest) (o : Final) → IsWellFormedProgram test
+    → ((x : Execution) → IsCandidate x86 test x o → KeepsAxioms test x → HasNoTriangularRace test x)
+    → IsAllowed test o → IsSequentialOutcome x86 test o
+same_outcomes test o ok each a = record {
+  execution = a.execution;
+  candidate = a.candidate;
+  sequential = sequential ok a.axioms (each a.execution a.candidate a.axioms);
+}

@@ -1,0 +1,42 @@
+-- The axioms of x86-TSO, and the outcomes that they allow.
+-- The source is herd's x86tso.cat (https://github.com/herd/herdtools7), which is the model of Owens, Sarkar and Sewell ('A
+-- better x86 memory model: x86-TSO', TPHOLs 2009) in the form of 'Herding Cats' (Alglave, Maranget and Tautschnig, TOPLAS
+-- 2014).
+use Rattle.std.specs.Prelude.{ℕ, ◌<◌, ◌⊎◌}
+use Rattle.lw_base.specs.Outcomes.{Final}
+use Rattle.lw_litmus.specs.Programs.{x86}
+use Rattle.lw_litmus.specs.Tests.{ProgramTest}
+use Rattle.lw_axiomatic.specs.Executions.{MemoryEvent, Execution, Rf, Co, Fr, PoLoc, Ppo, Rfe}
+use Rattle.lw_axiomatic.specs.Candidates.{IsCandidate}
+
+-- No cycle: the events can be numbered so that every pair goes up.
+module _ {E : Type 0} (R : E → E → Type 0) where
+  abbrev pub Acyclic : Type 0
+  Acyclic = (number : E → ℕ) × ((a b : E) → R a b → number a < number b)
+
+module _ (test : ProgramTest) (x : Execution) where
+  -- program order on one location, and what threads see of each other
+  abbrev pub OnOneLocation : MemoryEvent → MemoryEvent → Type 0
+  OnOneLocation a b = PoLoc x86 test x a b ⊎ (Rf x86 test x a b ⊎ (Co x86 test x a b ⊎ Fr x86 test x a b))
+
+  -- preserved program order, and what other threads see
+  abbrev pub HappensBefore : MemoryEvent → MemoryEvent → Type 0
+  HappensBefore a b = Ppo x86 test x a b ⊎ (Rfe x86 test x a b ⊎ (Co x86 test x a b ⊎ Fr x86 test x a b))
+
+  -- Coherence: on each location the events go as if it were the only one.
+  abbrev pub Coherence : Type 0
+  Coherence = Acyclic OnOneLocation
+
+  -- Global happens-before: what all threads see alike goes round in no cycle.
+  abbrev pub GlobalHappensBefore : Type 0
+  GlobalHappensBefore = Acyclic HappensBefore
+
+  pub record KeepsAxioms : Type 0 where
+    pub coherence : Coherence
+    pub happens_before : GlobalHappensBefore
+
+-- Some execution of the test with this outcome keeps the axioms.
+pub record IsAllowed (test : ProgramTest) (o : Final) : Type 0 where
+  pub execution : Execution
+  pub candidate : IsCandidate x86 test execution o
+  pub axioms : KeepsAxioms test execution

@@ -1,0 +1,51 @@
+-- Candidate executions of a test, of either language, and their outcomes: each thread by itself goes along its path, where it
+-- reads the words that the execution says; each read has the word of the write that it reads from. No axiom of a memory model
+-- is asked here.
+-- The source is 'Herding Cats' (Alglave, Maranget and Tautschnig, TOPLAS 2014): control flow semantics, then data
+-- flow.
+use Rattle.std.specs.Prelude.{◌≡◌, ℕ, ◌<◌, ◌≤◌, ◌⊎◌, true, Option, Some, None, List, [], ◌∷◌, length, slice_get, slice_index}
+use Rattle.std.specs.Prelude.{slice_index_or}
+use Rattle.lw_base.specs.Outcomes.{Final, IsOutcomeOf}
+use Rattle.lw_base.specs.Threads.{code_of}
+use Rattle.lw_litmus.specs.Languages.{Language}
+use Rattle.lw_litmus.specs.Operations.{writes}
+use Rattle.lw_litmus.specs.Tests.{Test}
+use Rattle.lw_axiomatic.specs.ThreadStates.{ThreadState, first_state, state_after, word_written}
+use Rattle.lw_axiomatic.specs.Executions.{MemoryEvent, Execution, Reads, Writes}
+
+module _ {S : Type 0} (language : Language S) where
+  -- Thread t goes along a path to the end of its code, where its events read and write the words that the execution says.
+  abbrev pub Goes : Execution → ℕ → List S → List ℕ → ThreadState → ThreadState → Type 0
+  Goes x t code [] s end = (s.position ≡ length code) × (end ≡ s)
+  Goes x t code (j ∷ path) s end =
+      let e : MemoryEvent = record { thread = t; position = j } in
+      (s.position ≡ j)
+      × (i : S) × (slice_get code j ≡ Some i)
+      × (writes (language.operation_of i) ≡ true → x.written e ≡ word_written (language.operation_of i) s.regs (x.read e))
+      × Goes x t code path (state_after (language.operation_of i) s (x.read e)) end
+
+  module _ (test : Test S) (x : Execution) where
+    -- what r reads of the location l is the initial word, or what this event wrote there
+    abbrev pub IsReadFrom : MemoryEvent → ℕ → Option MemoryEvent → Type 0
+    IsReadFrom r l None = x.read r ≡ slice_index test.head.init_words l
+    IsReadFrom r l (Some w) = Writes language test x w l × (x.read r ≡ x.written w)
+
+    -- the location l ends with the word w: with the initial one if nothing writes it, or that of its last write in coherence
+    -- order
+    abbrev pub IsLast : ℕ → ℕ → Type 0
+    IsLast l w =
+        (((e : MemoryEvent) → Writes language test x e l → ⊥) × (w ≡ slice_index test.head.init_words l))
+        ⊎ ((e : MemoryEvent) × Writes language test x e l
+        × ((f : MemoryEvent) → Writes language test x f l → x.co f ≤ x.co e) × (w ≡ x.written e))
+
+    -- A candidate execution with this outcome: the threads go to their ends, each read has its write, and two writes to a
+    -- location never stand at one place in coherence order.
+    pub record IsCandidate (o : Final) : Type 0 where
+      pub as_many : length x.paths ≡ length test.threads
+      pub threads : (t : ℕ) → t < length test.threads → (end : ThreadState)
+          × Goes x t (code_of test.threads t) (code_of x.paths t) (first_state (slice_index_or test.head.init_regs t [])) end
+          × (slice_index_or o.regs t [] ≡ end.regs)
+      pub rf : (r : MemoryEvent) (l : ℕ) → Reads language test x r l → IsReadFrom r l (x.rf r)
+      pub co : (w v : MemoryEvent) (l : ℕ) → Writes language test x w l → Writes language test x v l → x.co w ≡ x.co v → w ≡ v
+      pub words : (l : ℕ) → l < length test.head.locs → IsLast l (slice_index o.words l)
+      pub of_test : IsOutcomeOf (length test.threads) (length test.head.locs) o

@@ -1,0 +1,87 @@
+-- Fences between stores and loads, in an execution and in a code.
+use Rattle.std.specs.Prelude.{◌≡◌, ◌≢◌, ℕ, ◌<◌, ◌⊎◌, true, Some, List, Contains, slice_get}
+use Rattle.lw_base.specs.Threads.{code_of}
+use Rattle.lw_litmus.specs.declared.instr.Instr.{Instr}
+use Rattle.lw_litmus.specs.Flow.{IsPathFrom}
+use Rattle.lw_litmus.specs.Operations.{location_of, is_store, is_load, is_locked, waits, writes}
+use Rattle.lw_litmus.specs.Programs.{x86, x86_operation}
+use Rattle.lw_litmus.specs.Tests.{ProgramTest}
+use Rattle.lw_axiomatic.specs.Executions.{MemoryEvent, Execution, does, location, Writes, Po, Rf, Co, Fr}
+
+module _ (test : ProgramTest) (x : Execution) where
+  -- a store and a load behind it in its thread
+  pub record AreStoreAndLoad (a b : MemoryEvent) : Type 0 where
+    pub po : Po x a b
+    pub store : does x86 test is_store a ≡ true
+    pub load : does x86 test is_load b ≡ true
+
+  -- between two events of a thread stands what waits for an empty store buffer: a fence or a locked instruction
+  abbrev pub HasFenceBetween : MemoryEvent → MemoryEvent → Type 0
+  HasFenceBetween a b = (f : MemoryEvent) × Po x a f × Po x f b × (does x86 test waits f ≡ true)
+
+  -- between every store and every load behind it
+  abbrev pub IsFenced : Type 0
+  IsFenced = (a b : MemoryEvent) → AreStoreAndLoad a b → HasFenceBetween a b
+
+  -- no other thread writes what a load reads
+  abbrev pub IsOfOneThread : MemoryEvent → Type 0
+  IsOfOneThread b = (c : MemoryEvent) (l : ℕ) → location x86 test b ≡ Some l → Writes x86 test x c l → c.thread ≡ b.thread
+
+  -- where another thread writes what the load reads
+  abbrev pub IsFencedWhereShared : Type 0
+  IsFencedWhereShared = (a b : MemoryEvent) → AreStoreAndLoad a b → HasFenceBetween a b ⊎ IsOfOneThread b
+
+  -- No triangular race: where a load reads what was there before another thread's write, a fence stands between it and each
+  -- store before it. The term is Owens's ('Reasoning about the implementation of concurrency abstractions on x86-TSO', ECOOP
+  -- 2010).
+  abbrev pub HasNoTriangularRace : Type 0
+  HasNoTriangularRace =
+      (a b c : MemoryEvent) → AreStoreAndLoad a b → Fr x86 test x b c → b.thread ≢ c.thread → HasFenceBetween a b
+
+  -- nothing comes in coherence order between what a locked instruction reads and what it writes
+  abbrev pub IsAtomic : Type 0
+  IsAtomic =
+      (r w v : MemoryEvent) → does x86 test is_locked r ≡ true → Rf x86 test x w r → Co x86 test x w v → Co x86 test x v r → ⊥
+
+-- ---- on the paths of a code
+
+module _ (code : List Instr) (path : List ℕ) (i j : ℕ) where
+  -- on this path there is a store at i, and behind it at j this load
+  pub record AreOnPath (load : Instr) : Type 0 where
+    pub path_is : IsPathFrom x86 code 0 path
+    pub on_path : Contains path i
+    pub also_on : Contains path j
+    pub less : i < j
+    pub store : Instr
+    pub store_at : slice_get code i ≡ Some store
+    pub load_at : slice_get code j ≡ Some load
+    pub stores : is_store (x86_operation store) ≡ true
+    pub loads : is_load (x86_operation load) ≡ true
+
+  -- and between them what waits for an empty store buffer
+  pub record HasFenceOnPath : Type 0 where
+    pub place : ℕ
+    pub on_path : Contains path place
+    pub behind : i < place
+    pub before : place < j
+    pub fence : Instr
+    pub at : slice_get code place ≡ Some fence
+    pub is : waits (x86_operation fence) ≡ true
+
+-- no thread but t has an instruction that writes what this one, of t, loads
+abbrev pub IsOwn : ProgramTest → ℕ → Instr → Type 0
+IsOwn test t load =
+    (u k l : ℕ) (c : Instr) → slice_get (code_of test.threads u) k ≡ Some c → writes (x86_operation c) ≡ true
+    → location_of (x86_operation c) ≡ Some l → location_of (x86_operation load) ≡ Some l → u ≡ t
+
+-- On each path of each thread what waits stands between each store and each load behind it.
+abbrev pub IsFencedInAllThreads : ProgramTest → Type 0
+IsFencedInAllThreads test =
+    (t : ℕ) (path : List ℕ) (i j : ℕ) (load : Instr) → AreOnPath (code_of test.threads t) path i j load
+    → HasFenceOnPath (code_of test.threads t) path i j
+
+-- The same but before loads of what no other thread writes.
+abbrev pub IsFencedWhereOthersWrite : ProgramTest → Type 0
+IsFencedWhereOthersWrite test =
+    (t : ℕ) (path : List ℕ) (i j : ℕ) (load : Instr) → AreOnPath (code_of test.threads t) path i j load
+    → HasFenceOnPath (code_of test.threads t) path i j ⊎ IsOwn test t load

@@ -1,0 +1,66 @@
+-- Runs of a test by interleaving, of either language: some thread's next statement at a time, on one memory, without store
+-- buffers.
+-- The source is Lamport ('How to make a multiprocessor computer that correctly executes multiprocess programs', 1979).
+use Rattle.std.specs.Prelude.{◌≡◌, ℕ, ◌≤◌, if◌then◌else◌, Option, Some, None, List, [], ◌∷◌, length, map, slice_get}
+use Rattle.std.specs.Prelude.{slice_index, slice_set}
+use Rattle.lw_base.specs.Outcomes.{Final}
+use Rattle.lw_base.specs.Threads.{code_of}
+use Rattle.lw_litmus.specs.declared.operation.Operation.{Operation}
+use Rattle.lw_litmus.specs.Languages.{Language}
+use Rattle.lw_litmus.specs.Operations.{location_of, writes}
+use Rattle.lw_litmus.specs.Tests.{Test}
+use Rattle.lw_axiomatic.specs.ThreadStates.{ThreadState, first_state, state_after, word_written}
+
+pub record Interleaved : Type 0 where  -- the threads, and one map from locations to words
+  pub threads : List ThreadState
+  pub words : List ℕ
+
+abbrev pub word_at : Option ℕ → List ℕ → ℕ  -- the word of a location, if one is named
+word_at None words = 0
+word_at (Some l) words = slice_index words l
+
+abbrev pub word_put : Option ℕ → ℕ → List ℕ → List ℕ  -- with this word there, if one is named
+word_put None w words = words
+word_put (Some l) w words = slice_set words l w
+
+abbrev pub word_found : Operation → List ℕ → ℕ  -- the word that an operation finds at its location
+word_found o words = word_at (location_of o) words
+
+abbrev pub words_after : Operation → List ℕ → List ℕ → List ℕ  -- the memory after an operation of a thread with these registers
+words_after o regs words = if writes o then word_put (location_of o) (word_written o regs (word_found o words)) words else words
+
+abbrev pub after : ℕ → ThreadState → Operation → Interleaved → Interleaved  -- after an operation of thread t
+after t th o s = record {
+  threads = slice_set s.threads t (state_after o th (word_found o s.words));
+  words = words_after o th.regs s.words;
+}
+
+module _ {S : Type 0} (language : Language S) where
+  -- Thread t does its next statement.
+  pub record IsStep (program : List (List S)) (t : ℕ) (s next : Interleaved) : Type 0 where
+    pub thread : ThreadState
+    pub statement : S
+    pub was : slice_get s.threads t ≡ Some thread
+    pub at : slice_get (code_of program t) thread.position ≡ Some statement
+    pub is : next ≡ after t thread (language.operation_of statement) s
+
+  -- The threads of the order do, each in its turn.
+  abbrev pub Ran : List (List S) → List ℕ → Interleaved → Interleaved → Type 0
+  Ran program [] s end = end ≡ s
+  Ran program (t ∷ order) s end = (mid : Interleaved) × IsStep program t s mid × Ran program order mid end
+
+  abbrev pub IsEnd : List (List S) → Interleaved → Type 0  -- all threads are at their ends
+  IsEnd program s = (t : ℕ) (th : ThreadState) → slice_get s.threads t ≡ Some th → length (code_of program t) ≤ th.position
+
+  module _ (test : Test S) where
+    abbrev pub start : Interleaved
+    start = record { threads = map first_state test.head.init_regs; words = test.head.init_words }
+
+    pub record EndsWith (order : List ℕ) (o : Final) : Type 0 where
+      pub end : Interleaved
+      pub ran : Ran test.threads order start end
+      pub final : IsEnd test.threads end
+      pub is : o ≡ record { regs = map (λ (th : ThreadState). th.regs) end.threads; words = end.words }
+
+    abbrev pub InterleavingOutcome : Final → Type 0  -- Some list of threads leads there.
+    InterleavingOutcome o = (order : List ℕ) × EndsWith order o

@@ -1,0 +1,14 @@
+pub mod ThreadStates
+pub mod Executions
+pub mod Candidates
+pub mod Axioms
+pub mod Interleavings
+pub mod Sequential
+pub mod Cycles
+pub mod Halves
+pub mod CoherenceOrders
+pub mod CoherenceLaws
+pub mod Fenced
+pub mod Races
+pub mod Times
+pub mod Examples

@@ -1,0 +1,135 @@
+//! What follows from the axioms for those who program.
+//! A law is a function without a result, whose contract is the law.
+ghost use Rattle.std.specs.Prelude.{◌↔◌, ◌⊎◌};
+ghost use Rattle.lw_axiomatic.specs.Axioms.{Acyclic, KeepsAxioms, IsAllowed};
+ghost use Rattle.lw_axiomatic.specs.Candidates.{IsCandidate};
+ghost use Rattle.lw_axiomatic.specs.CoherenceLaws.{CoWW, CoWR, CoRW, CoRR};
+ghost use Rattle.lw_axiomatic.specs.Executions.{MemoryEvent, Execution, Po, Rf};
+ghost use Rattle.lw_axiomatic.specs.Fenced.{IsFenced, IsFencedWhereShared, HasNoTriangularRace};
+ghost use Rattle.lw_axiomatic.specs.Fenced.{IsAtomic, IsFencedInAllThreads, IsFencedWhereOthersWrite};
+ghost use Rattle.lw_axiomatic.specs.Interleavings.{InterleavingOutcome};
+ghost use Rattle.lw_axiomatic.specs.Races.{HasTriangularRace};
+ghost use Rattle.lw_axiomatic.specs.Sequential.{IsSequential, IsSequentialOutcome};
+ghost use Rattle.lw_base.specs.Outcomes.{Final};
+ghost use Rattle.lw_litmus.specs.Programs.{x86};
+ghost use Rattle.lw_litmus.specs.Tests.{ProgramTest};
+ghost use Rattle.lw_litmus.specs.WellFormedTests.{IsWellFormedProgram};
+ghost use Rattle.lw_memory.specs.Flat.{flat};
+ghost use Rattle.lw_mesi.specs.declared.protocol.Protocol.{Protocol};
+ghost use Rattle.lw_tso.specs.Runs.{MachineOutcome};
+ghost use Rattle.lw_whole.specs.OverCaches.{OutcomeOverCaches};
+
+use crate::laws::{interleaving_outcomes_are_sequential, the_machine_is_what_the_axioms_allow};
+use crate::times::executions_have_times;
+
+/// Two accesses of a thread to one location, in program order: two writes are so in coherence order; a read reads from the
+/// write before it, or from one behind that; what a read reads from comes before a write behind it; and of two reads the second
+/// reads from nothing older.
+pub fn accesses_of_one_location_are_coherent()
+    ensures co_ww { (test : ProgramTest) (x : Execution) (o : Final) → IsCandidate x86 test x o → KeepsAxioms test x
+        → CoWW test x }
+    ensures co_wr { (test : ProgramTest) (x : Execution) (o : Final) → IsCandidate x86 test x o → KeepsAxioms test x
+        → CoWR test x }
+    ensures co_rw { (test : ProgramTest) (x : Execution) (o : Final) → IsCandidate x86 test x o → KeepsAxioms test x
+        → CoRW test x }
+    ensures co_rr { (test : ProgramTest) (x : Execution) (o : Final) → IsCandidate x86 test x o → KeepsAxioms test x
+        → CoRR test x }
+{}
+
+/// A locked instruction is atomic: nothing comes in coherence order between what it reads and what it writes.
+pub fn locked_instructions_are_atomic()
+    ensures { (test : ProgramTest) (x : Execution) → KeepsAxioms test x → IsAtomic test x }
+{}
+
+/// No word comes out of thin air: program order and reads-from make no cycle.
+pub fn no_word_comes_out_of_thin_air()
+    ensures { (test : ProgramTest) (x : Execution) (o : Final) → IsWellFormedProgram test → IsCandidate x86 test x o
+        → KeepsAxioms test x → Acyclic (λ a b. Po x a b ⊎ Rf x86 test x a b) }
+{
+    executions_have_times();
+}
+
+/// Every sequentially consistent execution keeps the axioms: what interleaving can do, x86-TSO can.
+pub fn sequential_outcomes_are_allowed()
+    ensures executions { (test : ProgramTest) (x : Execution) → IsSequential x86 test x → KeepsAxioms test x }
+    ensures outcomes { (test : ProgramTest) (o : Final) → IsSequentialOutcome x86 test o → IsAllowed test o }
+{}
+
+/// An execution that keeps the axioms and has no triangular race is sequentially consistent. So where no execution with an
+/// outcome has one, the outcome is one of interleaving.
+pub fn executions_without_triangular_races_are_sequential()
+    ensures executions { (test : ProgramTest) (x : Execution) → IsWellFormedProgram test → KeepsAxioms test x
+        → HasNoTriangularRace test x → IsSequential x86 test x }
+    ensures outcomes { (test : ProgramTest) (o : Final) → IsWellFormedProgram test
+        → ((x : Execution) → IsCandidate x86 test x o → KeepsAxioms test x → HasNoTriangularRace test x)
+        → IsAllowed test o → IsSequentialOutcome x86 test o }
+{}
+
+/// An execution in which a fence or a locked instruction stands between each store and each load behind it is sequentially
+/// consistent.
+pub fn well_fenced_executions_are_sequential()
+    ensures { (test : ProgramTest) (x : Execution) → IsWellFormedProgram test → KeepsAxioms test x → IsFenced test x
+        → IsSequential x86 test x }
+{
+    executions_without_triangular_races_are_sequential();
+}
+
+/// No fence is needed before a load of a location that no other thread writes in the execution.
+pub fn no_fence_is_needed_where_no_other_thread_writes()
+    ensures { (test : ProgramTest) (x : Execution) → IsWellFormedProgram test → KeepsAxioms test x → IsFencedWhereShared test x
+        → IsSequential x86 test x }
+{
+    executions_without_triangular_races_are_sequential();
+}
+
+/// A test in which on each path a fence or a locked instruction stands between each store and each load behind it has exactly
+/// the outcomes of its sequentially consistent executions; so the machine has exactly those of interleaving.
+pub fn fenced_tests_have_sequential_outcomes()
+    ensures axioms { (test : ProgramTest) (o : Final) → IsWellFormedProgram test → IsFencedInAllThreads test
+        → IsAllowed test o ↔ IsSequentialOutcome x86 test o }
+    ensures flat_memory { (test : ProgramTest) (o : Final) → IsWellFormedProgram test → IsFencedInAllThreads test
+        → MachineOutcome flat test test.head.init_words o ↔ InterleavingOutcome x86 test o }
+{
+    sequential_outcomes_are_allowed();
+    executions_without_triangular_races_are_sequential();
+    the_machine_is_what_the_axioms_allow();
+    interleaving_outcomes_are_sequential();
+}
+
+/// A test in which this is so but before loads of what no other thread has an instruction to write has on the machine exactly
+/// the outcomes of interleaving: before those loads no fence is needed.
+pub fn tests_fenced_where_others_write_are_interleaving()
+    ensures axioms { (test : ProgramTest) (o : Final) → IsWellFormedProgram test → IsFencedWhereOthersWrite test
+        → IsAllowed test o ↔ IsSequentialOutcome x86 test o }
+    ensures flat_memory { (test : ProgramTest) (o : Final) → IsWellFormedProgram test → IsFencedWhereOthersWrite test
+        → MachineOutcome flat test test.head.init_words o ↔ InterleavingOutcome x86 test o }
+{
+    sequential_outcomes_are_allowed();
+    executions_without_triangular_races_are_sequential();
+    the_machine_is_what_the_axioms_allow();
+    interleaving_outcomes_are_sequential();
+}
+
+/// A test without a triangular race in any of its runs by interleaving has exactly the outcomes of interleaving: those that the
+/// axioms allow, and the machine's, over flat memory and over caches of each protocol. So who programs without triangular races
+/// may think of one memory.
+pub fn tests_without_triangular_races_are_interleaving()
+    ensures axioms { (test : ProgramTest) (o : Final) → IsWellFormedProgram test → (HasTriangularRace test → ⊥)
+        → IsAllowed test o ↔ InterleavingOutcome x86 test o }
+    ensures flat_memory { (test : ProgramTest) (o : Final) → IsWellFormedProgram test → (HasTriangularRace test → ⊥)
+        → MachineOutcome flat test test.head.init_words o ↔ InterleavingOutcome x86 test o }
+    ensures caches { (protocol : Protocol) (test : ProgramTest) (o : Final) → IsWellFormedProgram test
+        → (HasTriangularRace test → ⊥) → OutcomeOverCaches protocol test o ↔ InterleavingOutcome x86 test o }
+{
+    the_machine_is_what_the_axioms_allow();
+    interleaving_outcomes_are_sequential();
+    sequential_outcomes_are_allowed();
+}
+
+/// Where an outcome is one of x86-TSO and none of interleaving, the test has a triangular race.
+pub fn relaxed_outcomes_come_of_triangular_races()
+    ensures { (test : ProgramTest) (o : Final) → IsWellFormedProgram test → IsAllowed test o
+        → InterleavingOutcome x86 test o ⊎ HasTriangularRace test }
+{
+    interleaving_outcomes_are_sequential();
+}
